@@ -49,17 +49,17 @@ reflected_twice true false p = refl
 reflected_twice false true p = refl
 reflected_twice false false p = refl
 
-turned_shifted : (t : Turn) (d p : Point) → turned t (shifted d p) ≡ shifted (turned t d) (turned t p)
+pub turned_shifted : (t : Turn) (d p : Point) → turned t (shifted d p) ≡ shifted (turned t d) (turned t p)
 turned_shifted R0 d p = refl
 turned_shifted R90 d p = same_point _ _ (neg_plus p.y d.y) refl
 turned_shifted R180 d p = same_point _ _ (neg_plus p.x d.x) (neg_plus p.y d.y)
 turned_shifted R270 d p = same_point _ _ refl (neg_plus p.x d.x)
 
-reflected_shifted : (f : Bool) (d p : Point) → reflected f (shifted d p) ≡ shifted (reflected f d) (reflected f p)
+pub reflected_shifted : (f : Bool) (d p : Point) → reflected f (shifted d p) ≡ shifted (reflected f d) (reflected f p)
 reflected_shifted false d p = refl
 reflected_shifted true d p = same_point _ _ refl (neg_plus p.y d.y)
 
-shifted_twice : (a b p : Point) → shifted a (shifted b p) ≡ shifted (shifted a b) p
+pub shifted_twice : (a b p : Point) → shifted a (shifted b p) ≡ shifted (shifted a b) p
 shifted_twice a b p = same_point _ _ (plus_plus p.x b.x a.x) (plus_plus p.y b.y a.y)
 
 -- the map that applies the second, then the first
