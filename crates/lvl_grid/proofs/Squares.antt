@@ -78,7 +78,7 @@ image_square-composed m n w each s =
     middle_tells _ _ (left ∙ (sym (shifted_twice m.at (turned_only m n.at) (image m (image n p))) ∙ sym right))
 
 -- the square whose image is t
-abbrev unplaced : Map → Square → Square
+abbrev pub unplaced : Map → Square → Square
 unplaced m t = reflect_square m.flip (turn_square (mirrored true m.turn) (moved_square (record { x = neg_ℤ m.at.x; y = neg_ℤ m.at.y }) t))
 
 turn_back : (t : Turn) (s : Square) → turn_square t (turn_square (mirrored true t) s) ≡ s

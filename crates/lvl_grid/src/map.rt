@@ -3,6 +3,7 @@ ghost use Rattle.std.specs.Prelude.{◌≡◌, ◌≤◌, ◌↔◌, IsSome, IfS
 ghost use Rattle.std.specs.Int.{w64};
 ghost use Rattle.lvl_grid.specs.declared.point.Point.{Point as GridPoint};
 ghost use Rattle.lvl_grid.specs.Turn.{image, turned, reflected, shifted, turn_after, mirrored, FitsPoint};
+ghost use Rattle.lvl_grid.specs.Placed.{placed_point};
 ghost use Rattle.lvl_grid.specs.Wide.{as_point, IsSmall};
 
 use crate::point::Point;
@@ -50,7 +51,7 @@ impl Map {
     /// The image of a point that was moved by `shift` before, or None where a coordinate of the
     /// image is outside 64 bits. The moved point itself may be outside.
     pub(crate) fn place_moved(&self, shift: Point, point: Point) -> Option<Point>
-        ensures { SomeIff result (FitsPoint (image self.now (shifted shift point))) (image self.now (shifted shift point)) }
+        ensures { SomeIff result (FitsPoint (placed_point self.now shift point)) (placed_point self.now shift point) }
     {
         Wide::from_point(point).moved(shift).place(self)
     }
