@@ -72,4 +72,4 @@ image-composed m n p =
     let inner : Point = turned n.turn q in
     rw (reflected_shifted m.flip n.at inner, turned_shifted m.turn (reflected m.flip n.at) (reflected m.flip inner), reflected_turned m.flip n.turn q)
     (rw (turned_after m.turn (mirrored m.flip n.turn) (reflected (not (beq m.flip n.flip)) p), reflected_twice m.flip n.flip p)
-      (sym (shifted_twice m.at (turned m.turn (reflected m.flip n.at)) _)))
+    (sym (shifted_twice m.at (turned m.turn (reflected m.flip n.at)) _)))

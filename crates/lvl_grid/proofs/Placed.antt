@@ -54,8 +54,7 @@ covers_place m d ps h s =
 pub covers_placed : (m : Map) (d : Point) (ps : List Point) → All IsStraight (edges ps) → (t : Square) → Covers (map (placed_point m d) ps) t ↔ IsPlaceOfCovered m d ps t
 covers_placed m d ps h t =
     let from : Square = moved_square (record { x = neg_ℤ d.x; y = neg_ℤ d.y }) (unplaced m t) in
-    let there : image_square m (moved_square d from) ≡ t = ap (image_square m) (put_back d (unplaced m t)) ∙ image-unplaced m t in
-    (
+    let there : image_square m (moved_square d from) ≡ t = ap (image_square m) (put_back d (unplaced m t)) ∙ image-unplaced m t in (
       λ c. record { from = from; place = there; covered = (covers_place m d ps h from).0 (subst (Covers (map (placed_point m d) ps)) (sym there) c) },
       λ p. subst (Covers (map (placed_point m d) ps)) p.place ((covers_place m d ps h p.from).1 p.covered),
     )

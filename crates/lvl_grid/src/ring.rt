@@ -75,12 +75,12 @@ fn all_straight(points: &[Point]) -> bool
     requires { 0 < length points.now }
     ensures { IsTrue result ↔ All IsStraight (edges points.now) }
 {
-    let mut previous = points[points.len() - 1];
+    let mut before = points[points.len() - 1];
     for point in points {
-        if !is_straight(previous, *point) {
+        if !is_straight(before, *point) {
             return false;
         }
-        previous = *point;
+        before = *point;
     }
     true
 }
@@ -125,7 +125,7 @@ impl Ring {
         ensures all { result.now ≡ self.now }
         ensures ring { IsRing self.now }
     {
-        &self.points
+        self.points.as_slice()
     }
 
     /// Whether it covers the square.

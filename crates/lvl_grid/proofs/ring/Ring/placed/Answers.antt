@@ -20,7 +20,7 @@ loop-point-preserved c =
       count = grind arith;
       images = c.push_reserved.ensures.items ∙ (rw (image, c.loop-point.invariant.images) (sym (map_more (placed_point c.args.by.now c.args.shift) xs i origin c.loop-point-test.true)));
       in_range = λ k d. below_more (λ n. FitsPoint (placed_point c.args.by.now c.args.shift (get_or xs n d))) i (λ n. c.loop-point.invariant.in_range n d)
-      (subst (λ (p : Point). FitsPoint (placed_point c.args.by.now c.args.shift p)) (get_or_default xs i _ d c.loop-point-test.true) here.0) k;
+          (subst (λ (p : Point). FitsPoint (placed_point c.args.by.now c.args.shift p)) (get_or_default xs i _ d c.loop-point-test.true) here.0) k;
     }
 
 -- the loop goes over the ring's own points
