@@ -67,9 +67,10 @@ runs_at_no_corner ps k h c = ap (path_edges 0) (no_corner_added ps k h c)
 
 grown : (P : ℕ × ℕ → Type 0) (ps : List Point) (k : ℕ) → 0 < k → Any P (runs_to ps k) → Any P (runs_to ps (k + 1))
 grown P ps k h a =
-    elim (is_corner ps k) as (λ t. is_corner ps k ≡ t → Any P (runs_to ps (k + 1)))
-    [ true ↦ λ c. subst (Any P) (sym (ap (path_edges 0) (corner_added ps k h c) ∙ path_edges-push 0 k (corners_to ps k))) ((Any-push P (runs_to ps k) (last_or 0 (corners_to ps k), k)).1 (inl a))
-    | false ↦ λ c. subst (Any P) (sym (runs_at_no_corner ps k h c)) a ] refl
+    elim (is_corner ps k) as (λ t. is_corner ps k ≡ t → Any P (runs_to ps (k + 1))) [
+      | true ↦ λ c. subst (Any P) (sym (ap (path_edges 0) (corner_added ps k h c) ∙ path_edges-push 0 k (corners_to ps k))) ((Any-push P (runs_to ps k) (last_or 0 (corners_to ps k), k)).1 (inl a))
+      | false ↦ λ c. subst (Any P) (sym (runs_at_no_corner ps k h c)) a
+    ] refl
 
 -- a run that ended stays a run of the path
 pub Any-grown : (P : ℕ × ℕ → Type 0) (ps : List Point) (k n : ℕ) → 0 < k → Any P (runs_to ps k) → Any P (runs_to ps (k + n))

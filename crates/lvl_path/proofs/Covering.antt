@@ -76,22 +76,25 @@ IsUpright b = (b.x0 ≤ℤ b.x1) × (b.y0 ≤ℤ b.y1)
 is_upright : (p q : Point) (half before after : ℕ) → IsUpright (band_between p q half before after)
 is_upright p q half before after =
     let Says : Way → Type 0 = λ w. IsUpright (band_towards w p q half before after) in
-    elim (int_lt p.x q.x) as (λ t. int_lt p.x q.x ≡ t → Says (cond t East (cond (int_lt q.x p.x) West (cond (int_lt p.y q.y) North South))))
-    [ true ↦ λ e. let lt = said_lt p.x q.x e in (omega (arith, ints), omega (arith, ints))
-    | false ↦ λ e.
-        elim (int_lt q.x p.x) as (λ t. int_lt q.x p.x ≡ t → Says (cond t West (cond (int_lt p.y q.y) North South)))
-        [ true ↦ λ f. let lt = said_lt q.x p.x f in (omega (arith, ints), omega (arith, ints))
-        | false ↦ λ f.
-            elim (int_lt p.y q.y) as (λ t. int_lt p.y q.y ≡ t → Says (cond t North South))
-            [ true ↦ λ g. let lt = said_lt p.y q.y g in (omega (arith, ints), omega (arith, ints))
-            | false ↦ λ g. let le = said_not_lt p.y q.y g in (omega (arith, ints), omega (arith, ints)) ] refl ] refl ] refl
+    elim (int_lt p.x q.x) as (λ t. int_lt p.x q.x ≡ t → Says (cond t East (cond (int_lt q.x p.x) West (cond (int_lt p.y q.y) North South)))) [
+      | true ↦ λ e. let lt = said_lt p.x q.x e in (omega (arith, ints), omega (arith, ints))
+      | false ↦ λ e.
+          elim (int_lt q.x p.x) as (λ t. int_lt q.x p.x ≡ t → Says (cond t West (cond (int_lt p.y q.y) North South))) [
+            | true ↦ λ f. let lt = said_lt q.x p.x f in (omega (arith, ints), omega (arith, ints))
+            | false ↦ λ f.
+                elim (int_lt p.y q.y) as (λ t. int_lt p.y q.y ≡ t → Says (cond t North South)) [
+                  | true ↦ λ g. let lt = said_lt p.y q.y g in (omega (arith, ints), omega (arith, ints))
+                  | false ↦ λ g. let le = said_not_lt p.y q.y g in (omega (arith, ints), omega (arith, ints))
+                ] refl
+          ] refl
+    ] refl
 
 -- the rings of a path cover what the path covers
 pub rings_cover : (ps : List Point) (w : Reach) (s : Square) → Any (λ ring. Covers ring s) (path_rings ps w) ↔ PathCovers ps w s
 rings_cover ps w s =
     let each : (run : ℕ × ℕ) → Covers (band_ring (run_band ps w run)) s ↔ Holds (run_band ps w run) s = λ run.
-        let up = is_upright (point ps run.0) (point ps run.1) w.half (if run.0 == 0 then w.start else w.half) (if run.1 + 1 == length ps then w.end else w.half) in
-        ring_covers (run_band ps w run) up.0 up.1 s in
+    let up = is_upright (point ps run.0) (point ps run.1) w.half (if run.0 == 0 then w.start else w.half) (if run.1 + 1 == length ps then w.end else w.half) in
+    ring_covers (run_band ps w run) up.0 up.1 s in
     let map = Any-map (λ ring. Covers ring s) (λ run. band_ring (run_band ps w run)) (runs ps) in
     let same = Any-same (λ run. Covers (band_ring (run_band ps w run)) s) (λ run. Holds (run_band ps w run) s) (runs ps) each in
     (λ a. same.0 (map.0 a), λ a. map.1 (same.1 a))

@@ -30,9 +30,10 @@ none_found c =
     let repeated : ¬ HasFault c.args.points.now (reach c) RepeatedPoint = λ e. untrue (subst IsTrue c.if-has_repeated_point.false (c.has_repeated_point.ensures.1 e)) in
     let back : ¬ HasFault c.args.points.now (reach c) TurnsBack = λ e. untrue (subst IsTrue c.if-turns_back.false (c.turns_back.ensures.1 e)) in
     let short : ¬ HasFault c.args.points.now (reach c) ShortRun = λ e.
-        elim c.else-runs-gt1.branch
-        [ else-runs-gt1-via-then-runs-gt1+else-runs w ↦ untrue (subst IsTrue w.if-runs.false (c.measure_runs-runs.ensures.short.1 e.1))
-        | else-runs-gt1-via-else-runs-gt1 w ↦ omega (arith, e.0, c.measure_runs-runs.ensures.count, w.if-runs-gt1.false) ] in
+    elim c.else-runs-gt1.branch [
+      | else-runs-gt1-via-then-runs-gt1+else-runs w ↦ untrue (subst IsTrue w.if-runs.false (c.measure_runs-runs.ensures.short.1 e.1))
+      | else-runs-gt1-via-else-runs-gt1 w ↦ omega (arith, e.0, c.measure_runs-runs.ensures.count, w.if-runs-gt1.false)
+    ] in
     (width, (points, (oblique, (repeated, (back, (short, tt))))))
 
 pub returns-clause-ok : goal.returns-clause-ok

@@ -29,12 +29,12 @@ loop-to-preserved c =
     record {
       at = at_corner c.args.points.now c.loop-to.to c.loop-to.from after here kept.at;
       bands =
-      c.in-Ok-push.ensures.items
-      ∙ (ap (λ rings. rings ++ c.in_ok-ring.ring ∷ []) kept.bands
-        ∙ (ap (λ ring. map (λ run. band_ring (run_band c.args.points.now c.args.reach.now run)) (runs_to c.args.points.now c.loop-to.to) ++ ring ∷ []) (c.in_ok-ring.ensures.ok ∙ ap band_ring c.band.ensures)
+          c.in-Ok-push.ensures.items
+          ∙ (ap (λ rings. rings ++ c.in_ok-ring.ring ∷ []) kept.bands
+          ∙ (ap (λ ring. map (λ run. band_ring (run_band c.args.points.now c.args.reach.now run)) (runs_to c.args.points.now c.loop-to.to) ++ ring ∷ []) (c.in_ok-ring.ensures.ok ∙ ap band_ring c.band.ensures)
           ∙ sym
           (ap (map (λ run. band_ring (run_band c.args.points.now c.args.reach.now run))) more
-            ∙ map-append (λ run. band_ring (run_band c.args.points.now c.args.reach.now run)) (runs_to c.args.points.now c.loop-to.to) ((c.loop-to.from, c.loop-to.to) ∷ []))));
+          ∙ map-append (λ run. band_ring (run_band c.args.points.now c.args.reach.now run)) (runs_to c.args.points.now c.loop-to.to) ((c.loop-to.from, c.loop-to.to) ∷ []))));
       fits = subst (All (λ run. FitsBand (run_band c.args.points.now c.args.reach.now run))) (sym more) (All-push (λ run. FitsBand (run_band c.args.points.now c.args.reach.now run)) (runs_to c.args.points.now c.loop-to.to) (c.loop-to.from, c.loop-to.to) kept.fits (subst FitsBand c.band.ensures c.in_ok-ring.ensures.fits));
     }
 
