@@ -1,5 +1,5 @@
 -- Every place of a lattice fits where its far corner does.
-use Rattle.std.proofs.Common.{◌≡◌, ℕ, suc, ◌+◌, ◌-◌, ◌*◌, ◌/◌, ◌%◌, ◌<◌, ◌≤◌, List, length, get_or, ℤ, pos, negsuc, ◌+ℤ◌, ◌*ℤ◌, ◌≤ℤ◌, ◌⊎◌, inl, inr, Option, Some, None, is_some, IsTrue, SomeIff, ◌↔◌, refl, sym, ap, ◌∙◌, subst, ⊎_elim, arith, rules}
+use Rattle.std.proofs.Common.{◌≡◌, ℕ, suc, ◌+◌, ◌-◌, ◌*◌, ◌/◌, ◌%◌, ◌<◌, ◌≤◌, List, length, get_or, ℤ, pos, negsuc, ◌+ℤ◌, ◌*ℤ◌, ◌≤ℤ◌, ◌⊎◌, inl, inr, Option, Some, None, is_some, IsTrue, SomeIff, ◌↔◌, All, refl, sym, ap, ◌∙◌, subst, ⊎_elim, arith, rules}
 use Rattle.std.specs.List.{slice_get}
 use Rattle.std.specs.Int.{w64}
 use mir.Val.{SFits, to_z, of_z}
@@ -10,7 +10,7 @@ use Rattle.std.proofs.lemmas.Option.{slice_get-get_or, slice_get_past}
 use Rattle.std.proofs.lemmas.List.FromFn.{get_or-map-range_with_len, length-map-range_with_len}
 use Rattle.std.proofs.lemmas.List.Elements.{All-get_or}
 use Rattle.lvl_grid.specs.declared.point.Point.{Point}
-use Rattle.lvl_grid.specs.Turn.{FitsPoint}
+use Rattle.lvl_grid.specs.Turn.{FitsPoint, shifted}
 use Rattle.lvl_cells.specs.Shifts.{steps, lattice, IsLattice, most_places, StartsAtZero}
 use Rattle.lvl_cells.specs.Keeping.{StaysWithin, HasFarCorner, AreFew, IsKept, kept_shifts}
 use Rattle.lvl_cells.specs.declared.offsets.Kept.{Kept}
@@ -80,15 +80,28 @@ place_stays a m b n k hm hk s = let w = place_in k m n hm hk in stays_below a (k
 pub place_fits : (a : Point) (m : ℕ) (b : Point) (n k : ℕ) → HasFarCorner a m b n → k < m * n → StaysWithin a.x (k % m) b.x (k / m) × StaysWithin a.y (k % m) b.y (k / m)
 place_fits a m b n k c h = (place_stays a.x m b.x n k c.counts.columns h c.xs, place_stays a.y m b.y n k c.counts.columns h c.ys)
 
--- the point in a column and a row fits, where all do
-fits_in : (a : Point) (m : ℕ) (b : Point) (n i j : ℕ) → IsLattice a m b n → i < m → j < n → FitsPoint (steps a i b j)
-fits_in a m b n i j l hi hj =
+-- what holds of all places holds of the one in a column and a row
+in_lattice : (P : Point → Type 0) (a : Point) (m : ℕ) (b : Point) (n i j : ℕ) → All P (lattice a m b n) → i < m → j < n → P (steps a i b j)
+in_lattice P a m b n i j all hi hj =
     let f : ℕ → Point = λ q. steps a (q % m) b (q / m) in
     let above : suc j ≤ n = omega arith in
     let k : j * m + i < m * n = omega (arith, mul-le-mul_left m above) in
-    let at : FitsPoint (get_or (lattice a m b n) (j * m + i) a) = All-get_or FitsPoint (lattice a m b n) (j * m + i) a (omega (arith, k, length-map-range_with_len f 0 (m * n))) l.fit in
+    let at : P (get_or (lattice a m b n) (j * m + i) a) = All-get_or P (lattice a m b n) (j * m + i) a (omega (arith, k, length-map-range_with_len f 0 (m * n))) all in
     let e : get_or (lattice a m b n) (j * m + i) a ≡ steps a i b j = get_or-map-range_with_len f 0 (m * n) (j * m + i) (j * m + i) a k (omega arith) ∙ rw (mod-mul-add j m i hi, div-mul-add j m i hi) refl in
-    subst FitsPoint e at
+    subst P e at
+
+-- what holds in each column and row holds of all places
+over_lattice : (P : Point → Type 0) (a : Point) (m : ℕ) (b : Point) (n : ℕ) → 0 < m → ((i j : ℕ) → i < m → j < n → P (steps a i b j)) → All P (lattice a m b n)
+over_lattice P a m b n hm each =
+    λ k d h.
+    let f : ℕ → Point = λ q. steps a (q % m) b (q / m) in
+    let lt : k < m * n = omega (arith, lattice_long a m b n) in
+    let at = place_in k m n hm lt in
+    let e : get_or (lattice a m b n) k d ≡ steps a (k % m) b (k / m) = get_or-map-range_with_len f 0 (m * n) k k d lt (omega arith) in
+    subst P (sym e) (each (k % m) (k / m) at.0 at.1)
+
+fits_in : (a : Point) (m : ℕ) (b : Point) (n i j : ℕ) → IsLattice a m b n → i < m → j < n → FitsPoint (steps a i b j)
+fits_in a m b n i j l hi hj = in_lattice FitsPoint a m b n i j l.fit hi hj
 
 no_step_up : (w z : ℤ) → SFits w64 (w +ℤ (pos 0 *ℤ z)) → SFits w64 w
 no_step_up w (pos u) h = omega (arith, ints, h)
@@ -104,14 +117,7 @@ far_corner a m b n = (
     columns = c.counts.columns;
     rows = c.counts.rows;
     few = c.counts.few;
-    fit =
-        λ k d h.
-        let f : ℕ → Point = λ q. steps a (q % m) b (q / m) in
-        let lt : k < m * n = omega (arith, lattice_long a m b n) in
-        let w = place_fits a m b n k c lt in
-        let e : get_or (lattice a m b n) k d ≡ steps a (k % m) b (k / m) = get_or-map-range_with_len f 0 (m * n) k k d lt (omega arith) in
-        let it : FitsPoint (steps a (k % m) b (k / m)) = record { x_fits = w.0.both; y_fits = w.1.both } in
-        subst FitsPoint (sym e) it;
+    fit = over_lattice FitsPoint a m b n c.counts.columns (λ i j hi hj. record { x_fits = (stays_below a.x i (m - 1) b.x j (n - 1) (omega arith) (omega arith) c.xs).both; y_fits = (stays_below a.y i (m - 1) b.y j (n - 1) (omega arith) (omega arith) c.ys).both });
   },
   λ l.
       let columns : m - 1 < m = omega (arith, l.columns) in
@@ -153,3 +159,37 @@ few_by_quotient m n hm hn = (
 
 pub few_are_small : (m n : ℕ) → AreFew m n → (m ≤ most_places) × (n ≤ most_places)
 few_are_small m n f = (omega (arith, f.few, mul-le-mul_left m f.rows), omega (arith, f.few, mul-le-mul_left n f.columns))
+
+-- a sum of two numbers that fit, tested
+pub moved_where : (x by : ℤ) (o : Option ℤ) → SFits w64 x → SFits w64 by → SomeIff o (SFits w64 (to_z w64 (of_z w64 x) +ℤ to_z w64 (of_z w64 by))) (to_z w64 (of_z w64 x) +ℤ to_z w64 (of_z w64 by)) → IsTrue (is_some o) ↔ SFits w64 (x +ℤ by)
+moved_where x by o fx fb h =
+    let plain : SomeIff o (SFits w64 (x +ℤ by)) (x +ℤ by) = rw (to_z-of_z w64 x fx, to_z-of_z w64 by fb) at h in
+    some_where o _ _ plain
+
+moved_sum : (t v w y z : ℤ) → IsBetween v y → IsBetween w z → SFits w64 t → SFits w64 (y +ℤ t) → SFits w64 (z +ℤ t) → SFits w64 ((y +ℤ z) +ℤ t) → SFits w64 ((v +ℤ w) +ℤ t)
+moved_sum t v w y z hv hw ft fy fz f =
+    ⊎_elim (λ k. ⊎_elim (λ l. omega (arith, ints, k.0, k.1, l.0, l.1)) (λ l. omega (arith, ints, k.0, k.1, l.0, l.1)) hw.way)
+    (λ k. ⊎_elim (λ l. omega (arith, ints, k.0, k.1, l.0, l.1)) (λ l. omega (arith, ints, k.0, k.1, l.0, l.1)) hw.way) hv.way
+
+-- along one axis: a place fits once it is moved, where the corners do
+moved_axis : (t a : ℤ) (i p : ℕ) (b : ℤ) (j q : ℕ) → i ≤ p → j ≤ q → SFits w64 t → SFits w64 (((pos p *ℤ a) +ℤ (pos 0 *ℤ b)) +ℤ t) → SFits w64 (((pos 0 *ℤ a) +ℤ (pos q *ℤ b)) +ℤ t) → SFits w64 (((pos p *ℤ a) +ℤ (pos q *ℤ b)) +ℤ t)
+    → SFits w64 (((pos i *ℤ a) +ℤ (pos j *ℤ b)) +ℤ t)
+moved_axis t a i p b j q hi hj ft across up far =
+    let y : SFits w64 (((pos p *ℤ a) +ℤ pos 0) +ℤ t) = rw (zero_times b) at across in
+    let z : SFits w64 ((pos 0 +ℤ (pos q *ℤ b)) +ℤ t) = rw (zero_times a) at up in
+    moved_sum t _ _ _ _ (fewer_steps i p a hi) (fewer_steps j q b hj) ft (omega (arith, ints, y)) (omega (arith, ints, z)) far
+
+-- all places fit once they are moved, exactly where the corners do
+pub corners_moved : (by a : Point) (m : ℕ) (b : Point) (n : ℕ) → FitsPoint by → HasFarCorner a m b n
+    → (FitsPoint (shifted by (steps a (m - 1) b 0)) × FitsPoint (shifted by (steps a 0 b (n - 1))) × FitsPoint (shifted by (steps a (m - 1) b (n - 1)))) ↔ All (λ e. FitsPoint (shifted by e)) (lattice a m b n)
+corners_moved by a m b n fits c =
+    let P : Point → Type 0 = λ e. FitsPoint (shifted by e) in
+    let last_column : m - 1 < m = omega (arith, c.counts.columns) in
+    let last_row : n - 1 < n = omega (arith, c.counts.rows) in (
+      λ f.
+          over_lattice P a m b n c.counts.columns (λ i j hi hj. record {
+            x_fits = moved_axis by.x a.x i (m - 1) b.x j (n - 1) (omega arith) (omega arith) fits.x_fits f.0.x_fits f.1.x_fits f.2.x_fits;
+            y_fits = moved_axis by.y a.y i (m - 1) b.y j (n - 1) (omega arith) (omega arith) fits.y_fits f.0.y_fits f.1.y_fits f.2.y_fits;
+          }),
+      λ all. (in_lattice P a m b n (m - 1) 0 all last_column c.counts.rows, in_lattice P a m b n 0 (n - 1) all c.counts.columns last_row, in_lattice P a m b n (m - 1) (n - 1) all last_column last_row),
+    )

@@ -31,6 +31,10 @@ pub record PlainCell (F : Type 0) : Type 0 where
 abbrev pub Rings : Type 0
 Rings = List (List Point)
 
+-- rings are drawn as they stand
+abbrev pub each_ring : Rings → Rings
+each_ring rings = rings
+
 abbrev pub names : {F : Type 0} → List (PlainCell F) → List (List ℕ)
 names cells = map (λ c. c.name) cells
 

@@ -1,6 +1,7 @@
 //! Shifts: the displacements at which a shape or a cell stands, kept as a list or as a lattice.
-ghost use Rattle.std.specs.Prelude.{◌≡◌, ◌<◌, ◌↔◌, ◌^◌, length, slice_get, pos, ◌+ℤ◌, ◌*ℤ◌, FitsSigned, IsTrue, IsSome, IfSome, SomeIff};
+ghost use Rattle.std.specs.Prelude.{◌≡◌, ◌<◌, ◌↔◌, ◌^◌, length, slice_get, pos, ◌+ℤ◌, ◌*ℤ◌, FitsSigned, IsTrue, IsSome, IfSome, SomeIff, All};
 ghost use Rattle.std.specs.Int.{w64};
+ghost use Rattle.lvl_grid.specs.Turn.{shifted, FitsPoint};
 ghost use Rattle.lvl_cells.specs.Keeping.{StaysWithin, HasFarCorner, AreFew};
 ghost use Rattle.lvl_cells.specs.Shifts.{steps, lattice, IsLattice, StartsAtZero};
 
@@ -26,6 +27,7 @@ pub struct Offsets {
 impl Model for Offsets {
     ghost use Rattle.std.specs.Prelude.{List};
     ghost use Rattle.lvl_grid.specs.declared.point.Point.{Point};
+    ghost use Rattle.lvl_grid.specs.Turn.{shifted, FitsPoint};
     ghost use Rattle.lvl_cells.specs.Keeping.{kept_shifts, IsKept};
 
     ghost Value = { List Point };
@@ -103,6 +105,30 @@ fn has_far_corner(a: Point, m: u64, b: Point, n: u64) -> bool
     stays(a.x, m - 1, b.x, n - 1) && stays(a.y, m - 1, b.y, n - 1)
 }
 
+/// Whether the point fits 64 bits once it is moved.
+fn fits_moved(by: Point, point: Point) -> bool
+    ensures { IsTrue result ↔ FitsPoint (shifted by point) }
+{
+    point.x.checked_add(by.x).is_some() && point.y.checked_add(by.y).is_some()
+}
+
+/// Whether each shift of the lattice fits 64 bits once it is moved, by the corners.
+fn lattice_fits_moved(by: Point, a: Point, m: u64, b: Point, n: u64) -> bool
+    requires { HasFarCorner a m b n }
+    ensures { IsTrue result ↔ All (λ e. FitsPoint (shifted by e)) (lattice a m b n) }
+{
+    let across = point_at(a, m - 1, b, 0);
+    let up = point_at(a, 0, b, n - 1);
+    let far = point_at(a, m - 1, b, n - 1);
+    if !fits_moved(by, across) {
+        return false;
+    }
+    if !fits_moved(by, up) {
+        return false;
+    }
+    fits_moved(by, far)
+}
+
 impl Offsets {
     /// These shifts, if the first is there and zero.
     pub fn new(shifts: Vec<Point>) -> Option<Offsets>
@@ -138,6 +164,16 @@ impl Offsets {
         match &self.kept {
             Kept::List(shifts) => shifts.len() as u64,
             Kept::Lattice(_, m, _, n) => m * n,
+        }
+    }
+
+    /// Whether each shift fits 64 bits once it is moved.
+    pub(crate) fn all_fit_at(&self, at: Point) -> bool
+        ensures { IsTrue result ↔ All (λ e. FitsPoint (shifted at e)) self.now }
+    {
+        match &self.kept {
+            Kept::List(shifts) => shifts.iter().all(|shift| fits_moved(at, *shift)),
+            Kept::Lattice(a, m, b, n) => lattice_fits_moved(at, *a, *m, *b, *n),
         }
     }
 
