@@ -5,3 +5,4 @@ pub mod Missing
 pub mod Counting
 pub mod Examining
 pub mod Walks
+pub mod Nearing

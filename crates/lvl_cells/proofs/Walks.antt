@@ -17,7 +17,7 @@ use Rattle.lvl_cells.specs.declared.walk.Mark.TheVariants.{New, Open, Done}
 use Rattle.lvl_cells.specs.Walking.{IsArc, IsWalk, EachTargetWithin}
 use Rattle.lvl_cells.proofs.Indexes.{push_front, push_last, push_cases, contains_at, at_contains}
 
-same_or_not : (a b : ℕ) → (a ≡ b) ⊎ (a ≢ b)
+pub same_or_not : (a b : ℕ) → (a ≡ b) ⊎ (a ≢ b)
 same_or_not zero zero = inl refl
 same_or_not zero (suc b) = inr (λ e. cc)
 same_or_not (suc a) zero = inr (λ e. cc)
@@ -204,3 +204,35 @@ arc_within targets n a j b all arc =
 
 pub marked : (marks : List Mark) (b : ℕ) (d m : Mark) → b < length marks → get_or marks b d ≡ m → slice_get marks b ≡ Some m
 marked marks b d m h e = slice_get-get_or marks b d h ∙ ap Some e
+
+-- the last cell on the path is open
+pub last_open : (targets : List (Vec ℕ Global)) (marks : List Mark) (front : List Visit) (v : Visit) (finished : List ℕ) → IsWalk targets marks (front ++ v ∷ []) finished → slice_get marks v.cell ≡ Some Open
+last_open targets marks front v finished w =
+    let cell_of : Visit → ℕ = λ q. q.cell in
+    let cells : map cell_of (front ++ v ∷ []) ≡ map cell_of front ++ v.cell ∷ [] = map-append cell_of front (v ∷ []) in
+    (w.open_ones v.cell).1 (subst (λ (l : List ℕ). Contains l v.cell) (sym cells) (contains_last (map cell_of front) v.cell))
+
+one_apart : (b : ℕ) → IsDistinct nat_eq (b ∷ [])
+one_apart b = IsDistinct-from_apart nat_eq (b ∷ []) (λ i j d lt le. absurd (omega arith))
+
+-- the walk begins at a new root
+pub walk_begin : (targets : List (Vec ℕ Global)) (marks : List Mark) (root : ℕ) (finished : List ℕ) → IsWalk targets marks [] finished → slice_get marks root ≡ Some New → IsWalk targets (set marks root Open) ((record { cell = root; done = 0 }) ∷ []) finished
+walk_begin targets marks root finished w new =
+    let first : Visit = record { cell = root; done = 0 } in
+    record {
+      long = length-set marks root Open ∙ w.long;
+      open_ones = marked_more marks [] root New Open new w.open_ones;
+      done_ones = marked_same marks finished root New Done Open new (λ e. cc) (λ e. cc) w.done_ones;
+      apart = one_apart root;
+      once = w.once;
+      arcs = λ k p q hp hq. absurd (omega (arith, slice_get_within (first ∷ []) (k + 1) q hq));
+      behind =
+          λ k v j b at lt arc.
+          let none : v.done ≡ 0 = ⊎_elim (λ x. absurd (omega (arith, slice_get_within [] k v x))) (λ x. ap (λ (q : Visit). q.done) (sym x.1)) (push_cases [] first k v at) in
+          absurd (omega (arith, lt, none));
+      falls = w.falls;
+    }
+
+-- at rest no cell is open
+pub none_open : (targets : List (Vec ℕ Global)) (marks : List Mark) (finished : List ℕ) (k : ℕ) → IsWalk targets marks [] finished → slice_get marks k ≡ Some Open → ⊥
+none_open targets marks finished k w h = let c = (w.open_ones k).0 h in absurd (omega (arith, c.1))

@@ -1,5 +1,6 @@
 -- A walk over cells along their references: what is marked, on the way, and finished.
-use Rattle.std.specs.Prelude.{◌≡◌, ℕ, ◌+◌, ◌*◌, ◌^◌, ◌-◌, ◌<◌, ◌≤◌, List, map, length, ◌↔◌, ◌==◌, Bool, true, false, count_by, All, Contains, slice_get, Some}
+use Rattle.std.specs.Prelude.{◌≡◌, ℕ, suc, ◌+◌, ◌*◌, ◌-◌, ◌<◌, ◌≤◌, List, [], ◌∷◌, map, length, ◌↔◌, sum_by, All, Contains, slice_get, Option, Some, None}
+use Rattle.std.specs.Option.{option_map_or}
 use Rattle.std.specs.List.{IsDistinct}
 use Rattle.std.specs.Bool.{nat_eq}
 use Rattle.std.specs.declared.alloc.Global.{Global}
@@ -25,14 +26,29 @@ pub record IsWalk (targets : List (Vec ℕ Global)) (marks : List Mark) (path : 
   pub behind : (k : ℕ) (v : Visit) (j b : ℕ) → slice_get path k ≡ Some v → j < v.done → IsArc targets v.cell j b → Contains finished b
   pub falls : (i k j b : ℕ) → slice_get finished i ≡ Some k → IsArc targets k j b → (l : ℕ) × (l < i) × (slice_get finished l ≡ Some b)
 
-abbrev pub is_new : Mark → Bool
-is_new New = true
-is_new Open = false
-is_new Done = false
+-- how many cells are new
+abbrev pub new_count : List Mark → ℕ
+new_count [] = 0
+new_count (New ∷ ms) = suc (new_count ms)
+new_count (Open ∷ ms) = new_count ms
+new_count (Done ∷ ms) = new_count ms
+
+-- the references that a visit has left
+abbrev pub left_at : List (Vec ℕ Global) → Option Visit → ℕ
+left_at targets None = 0
+left_at targets (Some v) = option_map_or (λ ts. length ts.items - v.done) (slice_get targets v.cell) 0
 
 -- the work that is left: first what is to be opened and closed, then the references of the last cell on the path
-abbrev pub work_left : List Mark → ℕ → ℕ → ℕ
-work_left marks steps left = (2 * count_by is_new marks + steps) * 2 ^ 64 + left
+abbrev pub work_left : List (Vec ℕ Global) → List Mark → List Visit → ℕ
+work_left targets marks path = (2 * new_count marks + length path) * (1 + sum_by (λ ts. length ts.items) targets) + left_at targets (slice_get path (length path - 1))
+
+-- no cell is new again
+abbrev pub GoesOn : List Mark → List Mark → Type 0
+GoesOn old new = (k : ℕ) → slice_get new k ≡ Some New → slice_get old k ≡ Some New
+
+-- the next reference of the last cell on the path is to the cell start, which is on the path too
+abbrev pub LeadsBack : List (Vec ℕ Global) → List Visit → ℕ → Type 0
+LeadsBack targets path start = (v : Visit) × (slice_get path (length path - 1) ≡ Some v) × IsArc targets v.cell v.done start × Contains (map (λ w. w.cell) path) start
 
 abbrev pub EachTargetWithin : List (Vec ℕ Global) → ℕ → Type 0
 EachTargetWithin targets n = All (λ ts. All (λ b. b < n) ts.items) targets
@@ -41,5 +57,5 @@ EachTargetWithin targets n = All (λ ts. All (λ b. b < n) ts.items) targets
 abbrev pub IsStepFrom : List (Vec ℕ Global) → List Mark → Visit → Move → Type 0
 IsStepFrom targets marks v (Into b) = IsArc targets v.cell v.done b × (slice_get marks b ≡ Some New)
 IsStepFrom targets marks v (Round b) = IsArc targets v.cell v.done b × (slice_get marks b ≡ Some Open)
-IsStepFrom targets marks v Past = (b : ℕ) × IsArc targets v.cell v.done b × (slice_get marks b ≡ Some Done)
+IsStepFrom targets marks v (Past done) = (b : ℕ) × (done ≡ v.done + 1) × IsArc targets v.cell v.done b × (slice_get marks b ≡ Some Done)
 IsStepFrom targets marks v Out = (ts : Vec ℕ Global) × (slice_get targets v.cell ≡ Some ts) × (length ts.items ≤ v.done)

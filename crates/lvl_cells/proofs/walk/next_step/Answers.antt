@@ -35,4 +35,4 @@ returns-in-Done c =
     let next = c.index-next.result.now in
     let in_row : c.args.visit.done < length row.items = search rules in
     let arc : IsArc c.args.targets.now c.args.visit.cell c.args.visit.done next = arc_to c.args.targets.now c.args.visit.cell c.args.visit.done row next c.requires.cell c.index-targets-visit.is in_row c.index-next.ensures in
-    (next, arc, marked c.args.marks.now next New Done (arc_within c.args.targets.now (length c.args.marks.now) c.args.visit.cell c.args.visit.done next c.requires.targets arc) c.in-Done.is)
+    (next, refl, arc, marked c.args.marks.now next New Done (arc_within c.args.targets.now (length c.args.marks.now) c.args.visit.cell c.args.visit.done next c.requires.targets arc) c.in-Done.is)
