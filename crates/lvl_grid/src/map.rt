@@ -1,11 +1,14 @@
-//! The eight maps of the grid onto itself, with a shift.
-ghost use Rattle.std.specs.Prelude.{◌≡◌, ◌≤◌, SomeIff, if◌then◌else◌, neg_ℤ, ◌+ℤ◌, ◌^◌, unsigned_abs, FitsSigned};
+//! The eight maps of the grid onto itself, each with a shift.
+ghost use Rattle.std.specs.Prelude.{◌≡◌, ◌≤◌, ◌↔◌, IsSome, IfSome, SomeIff, if◌then◌else◌, neg_ℤ, ◌+ℤ◌, ◌^◌, unsigned_abs, FitsSigned};
 ghost use Rattle.std.specs.Int.{w64};
-ghost use Rattle.lvl_grid.specs.Turn.{image, turned, FitsPoint};
+ghost use Rattle.lvl_grid.specs.declared.point.Point.{Point as GridPoint};
+ghost use Rattle.lvl_grid.specs.Turn.{image, turned, reflected, shifted, turn_after, mirrored, FitsPoint};
+ghost use Rattle.lvl_grid.specs.Placed.{placed_point};
+ghost use Rattle.lvl_grid.specs.Wide.{as_point, IsSmall};
 
 use crate::point::Point;
 
-/// A counterclockwise turn.
+/// A counterclockwise turn about the origin.
 #[derive(Clone, Copy, Debug, PartialEq, Eq)]
 pub enum Turn {
     R0,
@@ -14,41 +17,158 @@ pub enum Turn {
     R270,
 }
 
-/// Reflects about the X axis where `flip` is set, then turns, then shifts.
+/// Reflects about the X axis where `flip` is set, then turns, then shifts by `at`.
 #[derive(Clone, Copy, Debug, PartialEq, Eq)]
 pub struct Map {
     pub flip: bool,
     pub turn: Turn,
     pub at: Point,
 }
-/// The ordinate, reflected where the flag is set.
-fn reflect_wide(flip: bool, y: i64) -> i128
-    ensures value { result ≡ (if flip then neg_ℤ y else y) }
-    ensures small { unsigned_abs result ≤ 2 ^ 63 }
-{
-    if flip { -i128::from(y) } else { i128::from(y) }
+
+impl Map {
+    /// The image of a point, or None where a coordinate of it is outside 64 bits. Nothing on the
+    /// way is tested (own rule).
+    pub fn place(&self, point: Point) -> Option<Point>
+        ensures { SomeIff result (FitsPoint (image self.now point)) (image self.now point) }
+    {
+        Wide::from_point(point).place(self)
+    }
+
+    /// The map that applies `inner`, then `self`, or None where its shift is outside 64 bits.
+    pub fn then(&self, inner: &Map) -> Option<Map>
+        ensures fits { IsSome result ↔ FitsPoint (image self.now inner.now.at) }
+        // In whole numbers without limit, for every point of the grid.
+        ensures composed { IfSome result (λ m. (p : GridPoint) → image m p ≡ image self.now (image inner.now p)) }
+    {
+        let at = self.place(inner.at)?;
+        Some(Map {
+            flip: self.flip != inner.flip,
+            turn: self.turn.after(inner.turn.mirrored(self.flip)),
+            at,
+        })
+    }
+
+    /// The image of a point that was moved by `shift` before, or None where a coordinate of the
+    /// image is outside 64 bits. The moved point itself may be outside.
+    pub(crate) fn place_moved(&self, shift: Point, point: Point) -> Option<Point>
+        ensures { SomeIff result (FitsPoint (placed_point self.now shift point)) (placed_point self.now shift point) }
+    {
+        Wide::from_point(point).moved(shift).place(self)
+    }
 }
 
-/// The coordinates, turned.
-fn turn_wide(turn: Turn, x: i128, y: i128) -> (i128, i128)
-    requires x_small { unsigned_abs x ≤ 2 ^ 63 }
-    requires y_small { unsigned_abs y ≤ 2 ^ 63 }
-    ensures x_value { result.0 ≡ (turned turn (record { x = x; y = y })).x }
-    ensures y_value { result.1 ≡ (turned turn (record { x = x; y = y })).y }
-    ensures x_stays { unsigned_abs result.0 ≤ 2 ^ 63 }
-    ensures y_stays { unsigned_abs result.1 ≤ 2 ^ 63 }
-{
-    match turn {
-        Turn::R0 => (x, y),
-        Turn::R90 => (-y, x),
-        Turn::R180 => (-x, -y),
-        Turn::R270 => (y, -x),
+impl Turn {
+    /// The turn that makes `first`, then `self`.
+    fn after(self, first: Turn) -> Turn
+        ensures { result ≡ turn_after self first }
+    {
+        match self {
+            Turn::R0 => first,
+            Turn::R90 => first.quarter_more(),
+            Turn::R180 => first.quarter_more().quarter_more(),
+            Turn::R270 => first.quarter_more().quarter_more().quarter_more(),
+        }
+    }
+
+    /// The turn by a right angle more.
+    fn quarter_more(self) -> Turn
+        ensures { result ≡ turn_after Turn.R90 self }
+    {
+        match self {
+            Turn::R0 => Turn::R90,
+            Turn::R90 => Turn::R180,
+            Turn::R180 => Turn::R270,
+            Turn::R270 => Turn::R0,
+        }
+    }
+
+    /// The turn as it is seen through a reflection, where the flag is set.
+    fn mirrored(self, flip: bool) -> Turn
+        ensures { result ≡ mirrored flip self }
+    {
+        match (flip, self) {
+            (true, Turn::R90) => Turn::R270,
+            (true, Turn::R270) => Turn::R90,
+            (_, turn) => turn,
+        }
+    }
+}
+
+/// A point in 128 bits, in which no map of a point of 65 bits overflows.
+#[derive(Clone, Copy)]
+struct Wide {
+    x: i128,
+    y: i128,
+}
+
+impl Wide {
+    fn from_point(point: Point) -> Wide
+        ensures same { as_point result ≡ point }
+        ensures small { IsSmall 63 result }
+    {
+        Wide {
+            x: i128::from(point.x),
+            y: i128::from(point.y),
+        }
+    }
+
+    fn moved(self, shift: Point) -> Wide
+        requires { IsSmall 63 self }
+        ensures moved { as_point result ≡ shifted shift (as_point self) }
+        ensures small { IsSmall 64 result }
+    {
+        Wide {
+            x: self.x + i128::from(shift.x),
+            y: self.y + i128::from(shift.y),
+        }
+    }
+
+    fn place(self, map: &Map) -> Option<Point>
+        requires { IsSmall 64 self }
+        ensures { SomeIff result (FitsPoint (image map.now (as_point self))) (image map.now (as_point self)) }
+    {
+        self.reflected(map.flip).turned(map.turn).narrowed(map.at)
+    }
+
+    fn reflected(self, flip: bool) -> Wide
+        requires { IsSmall 64 self }
+        ensures reflected { as_point result ≡ reflected flip (as_point self) }
+        ensures small { IsSmall 64 result }
+    {
+        Wide {
+            x: self.x,
+            y: if flip { -self.y } else { self.y },
+        }
+    }
+
+    fn turned(self, turn: Turn) -> Wide
+        requires { IsSmall 64 self }
+        ensures turned { as_point result ≡ turned turn (as_point self) }
+        ensures small { IsSmall 64 result }
+    {
+        let Wide { x, y } = self;
+        match turn {
+            Turn::R0 => Wide { x, y },
+            Turn::R90 => Wide { x: -y, y: x },
+            Turn::R180 => Wide { x: -x, y: -y },
+            Turn::R270 => Wide { x: y, y: -x },
+        }
+    }
+
+    /// The point moved by `shift`, or None where it is outside 64 bits.
+    fn narrowed(self, shift: Point) -> Option<Point>
+        requires { IsSmall 64 self }
+        ensures { SomeIff result (FitsPoint (shifted shift (as_point self))) (shifted shift (as_point self)) }
+    {
+        let x = add_narrow(self.x, shift.x)?;
+        let y = add_narrow(self.y, shift.y)?;
+        Some(Point { x, y })
     }
 }
 
 /// The sum, or None where it is outside 64 bits.
 fn add_narrow(a: i128, b: i64) -> Option<i64>
-    requires { unsigned_abs a ≤ 2 ^ 63 }
+    requires { unsigned_abs a ≤ 2 ^ 64 }
     ensures { SomeIff result (FitsSigned w64 (a +ℤ b)) (a +ℤ b) }
 {
     i64::try_from(a + i128::from(b)).ok()

@@ -1,16 +1,37 @@
 //! Rings: closed outlines of edges along the grid, and the squares that they cover.
-ghost use Rattle.std.specs.Prelude.{◌≡◌, ◌<◌, ◌↔◌, length, IsTrue, IfOk, IfErr, All};
+ghost use Rattle.std.specs.Prelude.{◌≡◌, ◌<◌, ◌↔◌, length, map, IsTrue, IfOk, IfErr, All, Any};
+ghost use Rattle.lvl_grid.specs.declared.point.Square.{Square as GridSquare};
+ghost use Rattle.lvl_grid.specs.Turn.{FitsPoint};
+ghost use Rattle.lvl_grid.specs.Placed.{placed_point, IsPlaceOfCovered};
 ghost use Rattle.lvl_grid.specs.Faults.{IsFaultOf};
 ghost use Rattle.lvl_grid.specs.Winding.{IsRing, Covers, edges, IsStraight, goes_up, goes_down};
 
+use crate::map::Map;
 use crate::point::{Point, Square};
+use std::alloc::Global;
 use std::marker::Model;
+use thiserror::Error;
 
-/// Why points are no ring.
-#[derive(Clone, Copy, Debug, Drop, PartialEq, Eq)]
+/// Why points are no ring (own rule).
+#[derive(Clone, Copy, Debug, Drop, PartialEq, Eq, Error)]
 pub enum RingFault {
+    /// There are fewer than three points.
+    #[error("a ring has at least three points")]
     TooFew = 1,
+    /// Some edge, the closing one included, changes both coordinates.
+    #[error("an edge of a ring is parallel to an axis")]
     Oblique = 2,
+}
+
+/// Why a ring could not be placed.
+#[derive(Clone, Copy, Debug, Drop, PartialEq, Eq, Error)]
+pub enum PlaceFault {
+    /// A coordinate of some placed vertex is outside 64 signed bits.
+    #[error("a placed vertex is outside 64 bits")]
+    OutOfRange = 1,
+    /// A growth was refused.
+    #[error("out of memory")]
+    OutOfMemory = 2,
 }
 
 /// A closed ring of points, each edge parallel to an axis.
@@ -54,12 +75,12 @@ fn all_straight(points: &[Point]) -> bool
     requires { 0 < length points.now }
     ensures { IsTrue result ↔ All IsStraight (edges points.now) }
 {
-    let mut previous = points[points.len() - 1];
+    let mut before = points[points.len() - 1];
     for point in points {
-        if !is_straight(previous, *point) {
+        if !is_straight(before, *point) {
             return false;
         }
-        previous = *point;
+        before = *point;
     }
     true
 }
@@ -104,7 +125,7 @@ impl Ring {
         ensures all { result.now ≡ self.now }
         ensures ring { IsRing self.now }
     {
-        &self.points
+        self.points.as_slice()
     }
 
     /// Whether it covers the square.
@@ -112,5 +133,25 @@ impl Ring {
         ensures { IsTrue result ↔ Covers self.now square }
     {
         winds_round(&self.points, square)
+    }
+
+    /// The ring of the images of its points, each moved by `shift` before. Only the images are
+    /// tested for 64 bits, so a moved point may be outside (own rule).
+    pub fn placed(&self, alloc: Global, shift: Point, by: &Map) -> Result<Ring, PlaceFault>
+        ensures points { IfOk result (λ ring. ring ≡ map (placed_point by.now shift) self.now) }
+        ensures covers { IfOk result (λ ring. (t : GridSquare) → Covers ring t ↔ IsPlaceOfCovered by.now shift self.now t) }
+        ensures in_range { IfOk result (λ _. All (λ v. FitsPoint (placed_point by.now shift v)) self.now) }
+        ensures out_of_range { result ≡ Err PlaceFault.OutOfRange → Any (λ v. ¬ FitsPoint (placed_point by.now shift v)) self.now }
+    {
+        let Ok(mut points) = Vec::with_capacity(alloc, self.points.len()) else {
+            return Err(PlaceFault::OutOfMemory);
+        };
+        for point in &self.points {
+            let Some(image) = by.place_moved(shift, *point) else {
+                return Err(PlaceFault::OutOfRange);
+            };
+            points.push_reserved(image);
+        }
+        Ok(Ring { points })
     }
 }

@@ -1,0 +1,122 @@
+//! Readers and writers for tests: they hand out pieces, and fail where they are told to.
+ghost use Rattle.std.specs.Prelude.{Some, None};
+
+use crate::{Failure, Read, Write};
+use std::alloc::Global;
+use std::io;
+
+/// Gives at most `most` bytes of the rest at a read, and at the end of the rest fails as often as
+/// `failures` says before it tells the end.
+#[derive(Drop)]
+pub struct Pieces<'a> {
+    pub rest: &'a [u8],
+    pub most: usize,
+    pub failures: u32,
+    pub errors: u64,
+}
+
+impl<'a> Pieces<'a> {
+    /// All of these bytes, at most `most` at a read.
+    pub fn new(bytes: &'a [u8], most: usize) -> Pieces<'a> {
+        Pieces {
+            rest: bytes,
+            most,
+            failures: 0,
+            errors: 0,
+        }
+    }
+
+    /// All of these bytes, at most `most` at a read, and then one failure.
+    pub fn failing(bytes: &'a [u8], most: usize) -> Pieces<'a> {
+        Pieces {
+            rest: bytes,
+            most,
+            failures: 1,
+            errors: 0,
+        }
+    }
+}
+
+impl Read for Pieces<'_> {
+    ghost remaining = { λ r. Some r.rest.now };
+
+    ghost read_errors = { λ r. r.errors };
+
+    ghost lent = { λ _. None };
+
+    fn read(&mut self, buf: &mut [u8]) -> Result<usize, Failure> {
+        if self.rest.is_empty() && self.failures > 0 {
+            self.failures -= 1;
+            self.errors = self.errors.saturating_add(1);
+            return Err(Failure);
+        }
+        let most = buf.len().min(self.most.max(1));
+        match io::Read::read(&mut self.rest, &mut buf[..most]) {
+            Ok(n) => Ok(n),
+            Err(_) => {
+                self.errors = self.errors.saturating_add(1);
+                Err(Failure)
+            }
+        }
+    }
+}
+
+/// Takes at most `most` bytes at a write, up to `room` in all, and then answers an error, or
+/// takes nothing where `takes_nothing` is set.
+#[derive(Drop)]
+pub struct Sink {
+    pub taken: Vec<u8>,
+    pub most: usize,
+    pub room: usize,
+    pub takes_nothing: bool,
+    pub flush_fails: bool,
+    pub errors: u64,
+}
+
+impl Sink {
+    /// Takes at most `most` bytes at a write, and any number in all.
+    pub fn new(alloc: Global, most: usize) -> Sink {
+        Sink {
+            taken: Vec::new(alloc),
+            most,
+            room: usize::MAX,
+            takes_nothing: false,
+            flush_fails: false,
+            errors: 0,
+        }
+    }
+}
+
+impl Write for Sink {
+    ghost contents = { λ w. Some w.taken.items };
+
+    ghost write_errors = { λ w. w.errors };
+
+    ghost lent = { λ _. None };
+
+    fn write(&mut self, buf: &[u8]) -> Result<usize, Failure> {
+        let n = buf.len().min(self.most).min(self.room);
+        if n == 0 && !buf.is_empty() {
+            self.errors = self.errors.saturating_add(1);
+            return if self.takes_nothing {
+                Ok(0)
+            } else {
+                Err(Failure)
+            };
+        }
+        if self.taken.extend_from_slice(&buf[..n]).is_err() {
+            self.errors = self.errors.saturating_add(1);
+            return Err(Failure);
+        }
+        self.room -= n;
+        Ok(n)
+    }
+
+    fn flush(&mut self) -> Result<(), Failure> {
+        if self.flush_fails {
+            self.errors = self.errors.saturating_add(1);
+            return Err(Failure);
+        }
+        Ok(())
+    }
+}
