@@ -19,6 +19,7 @@ use Rattle.lvl_cells.specs.Checks.{IsSettled, Settled}
 use Rattle.lvl_cells.specs.declared.fault.CellFault.{CellFault}
 use Rattle.lvl_cells.specs.declared.fault.CellFault.TheVariants.{NoCell, DuplicateCell, MissingCell, Cycle, TopMissing, ManyTops, TooManyPlacements, TooManyRings, OutOfMemory}
 use Rattle.lvl_cells.proofs.Missing.{named_links}
+use Rattle.lvl_cells.proofs.Sequences.{item_there}
 
 pub linked_by : (cells : List (PlainCell Rings)) (tss : List (Vec ℕ Global)) → IsDistinct bytes_eq (names cells) → AreAllTargets cells tss → AreLinked cells
 linked_by cells tss d t = record { distinct = d; named = named_links (names cells) cells tss t }
@@ -129,22 +130,17 @@ top_fault cells given TooManyRings n l r h = absurd h
 pub sum_at : (cells : List (PlainCell Rings)) (k : ℕ) (c : PlainCell Rings) (w : PlainCell Rings → ℕ) (sum : ℕ) → slice_get cells k ≡ Some c → IfSome (slice_get cells k) (λ d. sum ≡ min (most_placed + 1) (over_chains w cells (length cells) d)) → sum ≡ min (most_placed + 1) (over_chains w cells (length cells) c)
 sum_at cells k c w sum e h = rw e at h
 
-pub cell_there : (cells : List (PlainCell Rings)) (k : ℕ) → k < length cells → (c : PlainCell Rings) × (slice_get cells k ≡ Some c)
-cell_there [] k h = absurd (omega arith)
-cell_there (c ∷ cs) zero h = (c, refl)
-cell_there (c ∷ cs) (suc k) h = cell_there cs k (omega arith)
-
 pub too_many_chains : (cells : List (PlainCell Rings)) (given : Option (List ℕ)) (k : ℕ) (sum : ℕ) → AreLinked cells → IsRanked cells → IsTop cells given k → k < length cells → IfSome (slice_get cells k) (λ d. sum ≡ min (most_placed + 1) (over_chains (λ _. 1) cells (length cells) d)) → most_placed < sum
     → IsFaultOf cells given TooManyPlacements
 too_many_chains cells given k sum l r t h s m =
-    let at = cell_there cells k h in
+    let at = item_there cells k h in
     let e = sum_at cells k at.0 (λ _. 1) sum at.1 s in
     record { index = k; cell = at.0; sound = record { linked = l; ranked = r; is_top = t }; is = at.1; counts = omega (arith, e, m) }
 
 pub too_many_rings : (cells : List (PlainCell Rings)) (given : Option (List ℕ)) (k : ℕ) (few sum : ℕ) → AreLinked cells → IsRanked cells → IsTop cells given k → k < length cells → IfSome (slice_get cells k) (λ d. few ≡ min (most_placed + 1) (over_chains (λ _. 1) cells (length cells) d)) → few ≤ most_placed
     → IfSome (slice_get cells k) (λ d. sum ≡ min (most_placed + 1) (over_chains (own_rings each_ring) cells (length cells) d)) → most_placed < sum → IsFaultOf cells given TooManyRings
 too_many_rings cells given k few sum l r t h s m s2 m2 =
-    let at = cell_there cells k h in
+    let at = item_there cells k h in
     let e = sum_at cells k at.0 (λ _. 1) few at.1 s in
     let e2 = sum_at cells k at.0 (own_rings each_ring) sum at.1 s2 in
     record { index = k; cell = at.0; sound = record { linked = l; ranked = r; is_top = t }; is = at.1; counts = (omega (arith, e, m), omega (arith, e2, m2)) }
@@ -152,7 +148,7 @@ too_many_rings cells given k few sum l r t h s m s2 m2 =
 pub settled_by : (cells : List (PlainCell Rings)) (given : Option (List ℕ)) (order : List ℕ) (k : ℕ) (few sum : ℕ) → AreLinked cells → IsOrder cells order → IsTop cells given k → k < length cells → IfSome (slice_get cells k) (λ d. few ≡ min (most_placed + 1) (over_chains (λ _. 1) cells (length cells) d)) → few ≤ most_placed
     → IfSome (slice_get cells k) (λ d. sum ≡ min (most_placed + 1) (over_chains (own_rings each_ring) cells (length cells) d)) → sum ≤ most_placed → IsSettled given (record { cells = cells; top = k; order = order })
 settled_by cells given order k few sum l o t h s m s2 m2 =
-    let at = cell_there cells k h in
+    let at = item_there cells k h in
     let e = sum_at cells k at.0 (λ _. 1) few at.1 s in
     let e2 = sum_at cells k at.0 (own_rings each_ring) sum at.1 s2 in
     record {

@@ -6,3 +6,6 @@ pub mod Counting
 pub mod Examining
 pub mod Walks
 pub mod Nearing
+pub mod Arcs
+pub mod Rounds
+pub mod Sequences

@@ -16,6 +16,7 @@ mod library;
 mod names;
 mod offsets;
 mod order;
+mod round;
 mod targets;
 mod top;
 mod walk;

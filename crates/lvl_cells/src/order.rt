@@ -5,6 +5,8 @@ ghost use Rattle.lvl_cells.specs.Steps.{AreAllTargets, IsCycleFault};
 
 use crate::fault::CellFault;
 use crate::library::Cell;
+use crate::round::{cycle_of, round_from};
+use crate::walk::{Mark, walk_from};
 use std::alloc::Global;
 
 /// The cells, each before those that it refers to, or a round of references.
@@ -18,5 +20,19 @@ pub(crate) fn order_of(
     ensures ok { IfOk result (λ order. IsOrder cells.now order.items) }
     ensures err { IfErr result (λ fault. IsCycleFault cells.now fault) }
 {
-    Err(CellFault::OutOfMemory)
+    let count = targets.len();
+    let mut marks = vec![in alloc; Mark::New; count]?;
+    let mut path = Vec::new(alloc);
+    let mut finished = Vec::with_capacity(alloc, count)?;
+    for root in 0..count {
+        if marks[root] != Mark::New {
+            continue;
+        }
+        if let Some(start) = walk_from(targets, root, &mut marks, &mut path, &mut finished)? {
+            let round = round_from(&path, start);
+            return Err(CellFault::Cycle(cycle_of(alloc, cells, round)?));
+        }
+    }
+    finished.reverse();
+    Ok(finished)
 }
