@@ -9,3 +9,4 @@ pub mod Nearing
 pub mod Arcs
 pub mod Rounds
 pub mod Sequences
+pub mod Orders

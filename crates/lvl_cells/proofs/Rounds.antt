@@ -18,12 +18,12 @@ use Rattle.lvl_cells.specs.Faults.{IsCycle}
 use Rattle.lvl_cells.specs.Rounding.{visited_name, IsRoundOf, IsFirstIn}
 use Rattle.lvl_cells.proofs.Indexes.{contains_at, at_contains, bytes_eq_laws}
 use Rattle.lvl_cells.proofs.Arcs.{once_named, once_numbered, distinct_once}
-use Rattle.lvl_cells.proofs.Sequences.{round_edges, edges_round, slice_get-drop, slice_get-front}
+use Rattle.lvl_cells.proofs.Sequences.{round_edges, edges_round, slice_get-drop, slice_get-front, item_there}
 
 abbrev pub IsLink : List (PlainCell Rings) → (List ℕ × List ℕ) → Type 0
 IsLink cells e = Contains (links cells) e
 
-name_there : (cells : List (PlainCell Rings)) (v : Visit) → v.cell < length cells → slice_get (names cells) v.cell ≡ Some (visited_name cells v)
+pub name_there : (cells : List (PlainCell Rings)) (v : Visit) → v.cell < length cells → slice_get (names cells) v.cell ≡ Some (visited_name cells v)
 name_there cells v h = let name_of : PlainCell Rings → List ℕ = λ c. c.name in slice_get-get_or (names cells) v.cell [] (omega (arith, h, length-map cells name_of))
 
 read_name : (cells : List (PlainCell Rings)) (round : List Visit) (k : ℕ) (x : List ℕ) → slice_get (map (visited_name cells) round) k ≡ Some x → (v : Visit) × (slice_get round k ≡ Some v) × (visited_name cells v ≡ x)
@@ -33,6 +33,16 @@ read_name cells round k x h =
       | None ↦ λ e g. cc
       | Some v ↦ λ e g. let same : visited_name cells v ≡ x = cc in (v, e, same)
     ] refl read
+
+-- a cell on the path, by its visit
+pub visit_there : (path : List Visit) (start : ℕ) → Contains (map (λ v. v.cell) path) start → (k : ℕ) × (v : Visit) × (k < length path) × (slice_get path k ≡ Some v) × (v.cell ≡ start)
+visit_there path start h =
+    let cell_of : Visit → ℕ = λ v. v.cell in
+    let at = at_contains (map cell_of path) start h in
+    let low : at.0 < length path = omega (arith, slice_get_within (map cell_of path) at.0 start at.1, length-map path cell_of) in
+    let v = item_there path at.0 low in
+    let same : Some v.0.cell ≡ Some start = sym (slice_get-map cell_of path at.0 ∙ ap (option_map cell_of) v.1) ∙ at.1 in
+    (at.0, v.0, low, v.1, cc)
 
 -- a name on the round, by the place of its cell
 place_of_name : (cells : List (PlainCell Rings)) (round : List Visit) (i j : ℕ) (v : Visit) (x : List ℕ) → IsDistinct bytes_eq (names cells) → All (λ w. w.cell < length cells) round → slice_get round i ≡ Some v → visited_name cells v ≡ x → slice_get (names cells) j ≡ Some x → j ≡ v.cell

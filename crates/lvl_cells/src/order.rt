@@ -25,9 +25,9 @@ pub(crate) fn order_of(
     let mut path = Vec::new(alloc);
     let mut finished = Vec::with_capacity(alloc, count)?;
     for root in 0..count {
-        if marks[root] != Mark::New {
+        let Mark::New = marks[root] else {
             continue;
-        }
+        };
         if let Some(start) = walk_from(targets, root, &mut marks, &mut path, &mut finished)? {
             let round = round_from(&path, start);
             return Err(CellFault::Cycle(cycle_of(alloc, cells, round)?));
