@@ -18,7 +18,7 @@ use Rattle.lvl_cells.specs.Steps.{AreAllTargets}
 use Rattle.lvl_cells.specs.Walking.{IsArc}
 use Rattle.lvl_cells.proofs.Indexes.{contains_at, at_contains}
 
-order_of_two : (i j : ℕ) → (i ≡ j) ⊎ ((i < j) ⊎ (j < i))
+pub order_of_two : (i j : ℕ) → (i ≡ j) ⊎ ((i < j) ⊎ (j < i))
 order_of_two zero zero = inl refl
 order_of_two zero (suc j) = inr (inl (omega arith))
 order_of_two (suc i) zero = inr (inr (omega arith))

@@ -10,3 +10,4 @@ pub mod Arcs
 pub mod Rounds
 pub mod Sequences
 pub mod Orders
+pub mod Roots

@@ -31,7 +31,7 @@ rows_long cells targets t =
     let asked : PlainCell Rings → List (Option (List ℕ)) = λ q. map (λ r. Some r.cell) q.references in
     sym (length-map targets reach) ∙ (ap length t ∙ length-map cells asked)
 
-names_long : (cells : List (PlainCell Rings)) → length (names cells) ≡ length cells
+pub names_long : (cells : List (PlainCell Rings)) → length (names cells) ≡ length cells
 names_long cells = let name_of : PlainCell Rings → List ℕ = λ c. c.name in length-map cells name_of
 
 -- each target is the place of a cell
