@@ -40,7 +40,7 @@ once_named xs i j x d hi hj = once_in bytes_eq (λ y. (bytes_eq-Decides y y).1 r
 pub once_numbered : (xs : List ℕ) (i j x : ℕ) → IsDistinct nat_eq xs → slice_get xs i ≡ Some x → slice_get xs j ≡ Some x → i ≡ j
 once_numbered xs i j x d hi hj = once_in nat_eq (λ y. (Decides-eqb y y).1 refl) xs i j x d hi hj
 
-not_true : (b : Bool) → (b ≡ true → ⊥) → b ≡ false
+pub not_true : (b : Bool) → (b ≡ true → ⊥) → b ≡ false
 not_true true h = absurd (h refl)
 not_true false h = refl
 

@@ -29,11 +29,11 @@ zero_or_more zero = inl refl
 zero_or_more (suc n) = inr (omega arith)
 
 -- how far from the end of the order the first cell of that name stands
-height : List (List ℕ) → List ℕ → List ℕ → ℕ
+pub height : List (List ℕ) → List ℕ → List ℕ → ℕ
 height all [] name = 0
 height all (k ∷ ks) name = cond (bytes_eq (get_or all k []) name) (suc (length ks)) (height all ks name)
 
-height_most : (all : List (List ℕ)) (order : List ℕ) (name : List ℕ) → height all order name ≤ length order
+pub height_most : (all : List (List ℕ)) (order : List ℕ) (name : List ℕ) → height all order name ≤ length order
 unfolding height
 height_most all [] name = omega arith
 height_most all (k ∷ ks) name = elim (bytes_eq (get_or all k []) name) as (λ b. cond b (suc (length ks)) (height all ks name) ≤ suc (length ks)) [ true ↦ omega arith | false ↦ omega (arith, height_most all ks name) ]
@@ -76,7 +76,7 @@ named_themselves cells =
 from_is_name : (cells : List (PlainCell Rings)) (a b : List ℕ) → Contains (links cells) (a, b) → Contains (names cells) a
 from_is_name cells a b h = All-contains (IsFromOne (names cells)) (links cells) (a, b) (all_from (names cells) cells (named_themselves cells)) h
 
-falls_by : (cells : List (PlainCell Rings)) (order : List ℕ) → AreLinked cells → IsOrder cells order → (a b : List ℕ) → Contains (links cells) (a, b) → height (names cells) order b < height (names cells) order a
+pub falls_by : (cells : List (PlainCell Rings)) (order : List ℕ) → AreLinked cells → IsOrder cells order → (a b : List ℕ) → Contains (links cells) (a, b) → height (names cells) order b < height (names cells) order a
 falls_by cells order l o a b h =
     let all : List (List ℕ) = names cells in
     let from = from_is_name cells a b h in

@@ -11,3 +11,5 @@ pub mod Rounds
 pub mod Sequences
 pub mod Orders
 pub mod Roots
+pub mod Summing
+pub mod Refusing

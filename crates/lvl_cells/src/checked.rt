@@ -1,7 +1,7 @@
 //! The check that a library is sound for its top, and that few are placed from it.
-ghost use Rattle.std.specs.Prelude.{◌≡◌, ◌<◌, length, IfOk, IfErr, option_copied};
-ghost use Rattle.lvl_cells.specs.Checks.{IsSettled};
-ghost use Rattle.lvl_cells.specs.Faults.{IsFaultOf};
+ghost use Rattle.std.specs.Prelude.{◌≡◌, ◌≢◌, ◌<◌, length, IfOk, IfErr, IfSome, IfNone, option_copied};
+ghost use Rattle.lvl_cells.specs.Checks.{IsSettled, IsChecked, PlacesFew, IsTargetOf, HasReference};
+ghost use Rattle.lvl_cells.specs.Faults.{IsFaultOf, IsSoundWith};
 ghost use Rattle.lvl_cells.specs.Soundness.{IsOrder};
 ghost use Rattle.lvl_cells.specs.Steps.{AreAllTargets};
 
@@ -66,10 +66,17 @@ fn examine(
 }
 
 /// The library, if it is sound for the top and few are placed from it.
+///
+/// A library is sound where it has a cell, the cells' names are distinct, each reference names a
+/// cell, no cell is placed in itself through any number of references, and there is a top: the
+/// cell of the given name or, with none given, the only one to which none refers. At most
+/// 16,777,216 cells, the top counted once, and as many rings may be placed from the top. Of the
+/// faults the first in the order of [`CellFault`] is answered.
 pub fn check(alloc: Global, library: Library, top: Option<&[u8]>) -> Result<Checked, CellFault>
-    ensures ok { IfOk result (λ checked. checked.cells ≡ library) }
+    ensures same { IfOk result (λ checked. checked.cells ≡ library) }
     ensures sound { IfOk result (λ checked. IsSettled (option_copied top.entry) checked) }
-    ensures err { IfErr result (λ fault. IsFaultOf library (option_copied top.entry) fault) }
+    ensures fault { IfErr result (λ fault. IsFaultOf library (option_copied top.entry) fault) }
+    ensures refused { IfErr result (λ fault. fault ≢ CellFault.OutOfMemory → ¬ IsSoundWith library (option_copied top.entry) (PlacesFew library)) }
 {
     let Library { cells } = library;
     if cells.is_empty() {
@@ -87,23 +94,35 @@ pub fn check(alloc: Global, library: Library, top: Option<&[u8]>) -> Result<Chec
 impl Checked {
     /// The place of the top among the cells.
     pub fn top(&self) -> usize
-        ensures { result ≡ self.now.top }
+        ensures value { result ≡ self.now.top }
+        ensures checked { IsChecked self.now }
     {
         self.top
     }
 
     /// The cells, in file order.
     pub fn cells(&self) -> &[Cell]
-        ensures { result.now ≡ self.now.cells }
+        ensures value { result.now ≡ self.now.cells }
+        ensures checked { IsChecked self.now }
     {
         &self.cells
     }
 
-    /// The places of the cells, each before those that it refers to.
+    /// The places of the cells, each once and before those that it refers to.
     pub fn order(&self) -> &[usize]
-        ensures all { result.now ≡ self.now.order }
+        ensures value { result.now ≡ self.now.order }
         ensures sorted { IsOrder self.now.cells self.now.order }
     {
         &self.order
+    }
+
+    /// The place of the cell that a reference of a cell names, both by their places; None past
+    /// either list.
+    pub fn target(&self, cell: usize, reference: usize) -> Option<usize>
+        ensures target { IfSome result (IsTargetOf self.now.cells cell reference) }
+        ensures past { IfNone result (¬ HasReference self.now.cells cell reference) }
+    {
+        let row = self.targets.get(cell)?;
+        row.get(reference).copied()
     }
 }

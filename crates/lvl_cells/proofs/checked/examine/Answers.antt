@@ -6,6 +6,9 @@ use Rattle.lvl_cells.proofs.checked.examine.Goals as goal
 pub order_of-requires-clause-linked : goal.order_of-requires-clause-linked
 order_of-requires-clause-linked c = linked_by c.args.cells.now c.in_ok-targets.targets.items c.in_ok-index.ensures.distinct c.in_ok-targets.ensures.ok
 
+pub top_of-requires-clause-linked : goal.top_of-requires-clause-linked
+top_of-requires-clause-linked c = linked_by c.args.cells.now c.in_ok-targets.targets.items c.in_ok-index.ensures.distinct c.in_ok-targets.ensures.ok
+
 pub count_from-requires-clause-linked : goal.count_from-requires-clause-linked
 count_from-requires-clause-linked c = linked_by c.args.cells.now c.in_ok-targets.targets.items c.in_ok-index.ensures.distinct c.in_ok-targets.ensures.ok
 
@@ -29,15 +32,15 @@ pub returns-then-chains-gt-MOST_PLACED-clause-err : goal.returns-then-chains-gt-
 returns-then-chains-gt-MOST_PLACED-clause-err c =
     let linked = linked_by c.args.cells.now c.in_ok-targets.targets.items c.in_ok-index.ensures.distinct c.in_ok-targets.ensures.ok in
     let ranked = ranked_by c.args.cells.now c.in_ok-order.order.items linked c.in_ok-order.ensures.ok in
-    too_many_chains c.args.cells.now (option_copied c.args.given) c.in_ok-top.top c.in_ok-chains.chains linked ranked c.in_ok-top.ensures.ok.0 c.in_ok-top.ensures.ok.1 c.in_ok-chains.ensures.ok c.if-chains-gt-MOST_PLACED.true
+    too_many_chains c.args.cells.now (option_copied c.args.given) c.in_ok-top.top c.in_ok-chains.chains linked ranked c.in_ok-top.ensures.ok.0 c.in_ok-top.ensures.ok.1 c.in_ok-chains.ensures c.if-chains-gt-MOST_PLACED.true
 
 pub returns-then-rings-gt-MOST_PLACED-clause-err : goal.returns-then-rings-gt-MOST_PLACED-clause-err
 returns-then-rings-gt-MOST_PLACED-clause-err c =
     let linked = linked_by c.args.cells.now c.in_ok-targets.targets.items c.in_ok-index.ensures.distinct c.in_ok-targets.ensures.ok in
     let ranked = ranked_by c.args.cells.now c.in_ok-order.order.items linked c.in_ok-order.ensures.ok in
-    too_many_rings c.args.cells.now (option_copied c.args.given) c.in_ok-top.top c.in_ok-chains.chains c.in_ok-rings.rings linked ranked c.in_ok-top.ensures.ok.0 c.in_ok-top.ensures.ok.1 c.in_ok-chains.ensures.ok c.if-chains-gt-MOST_PLACED.false c.in_ok-rings.ensures.ok c.if-rings-gt-MOST_PLACED.true
+    too_many_rings c.args.cells.now (option_copied c.args.given) c.in_ok-top.top c.in_ok-chains.chains c.in_ok-rings.rings linked ranked c.in_ok-top.ensures.ok.0 c.in_ok-top.ensures.ok.1 c.in_ok-chains.ensures c.if-chains-gt-MOST_PLACED.false c.in_ok-rings.ensures c.if-rings-gt-MOST_PLACED.true
 
 pub returns-clause-ok : goal.returns-clause-ok
 returns-clause-ok c =
     let linked = linked_by c.args.cells.now c.in_ok-targets.targets.items c.in_ok-index.ensures.distinct c.in_ok-targets.ensures.ok in
-    settled_by c.args.cells.now (option_copied c.args.given) c.in_ok-order.order.items c.in_ok-top.top c.in_ok-chains.chains c.in_ok-rings.rings linked c.in_ok-order.ensures.ok c.in_ok-top.ensures.ok.0 c.in_ok-top.ensures.ok.1 c.in_ok-chains.ensures.ok c.if-chains-gt-MOST_PLACED.false c.in_ok-rings.ensures.ok c.if-rings-gt-MOST_PLACED.false
+    settled_by c.args.cells.now (option_copied c.args.given) c.in_ok-order.order.items c.in_ok-top.top c.in_ok-chains.chains c.in_ok-rings.rings linked c.in_ok-order.ensures.ok c.in_ok-top.ensures.ok.0 c.in_ok-top.ensures.ok.1 c.in_ok-chains.ensures c.if-chains-gt-MOST_PLACED.false c.in_ok-rings.ensures c.if-rings-gt-MOST_PLACED.false
