@@ -1,0 +1,15 @@
+pub mod Lattices
+pub mod Indexes
+pub mod NamedTargets
+pub mod Missing
+pub mod Counting
+pub mod Examining
+pub mod Walks
+pub mod Nearing
+pub mod Arcs
+pub mod Rounds
+pub mod Sequences
+pub mod Orders
+pub mod Roots
+pub mod Summing
+pub mod Refusing

@@ -1,0 +1,34 @@
+-- What a cell covers, asked for one square at a time.
+use Rattle.std.specs.Prelude.{◌≡◌, ℕ, zero, suc, List, ◌⊎◌, Any, ◌-ℤ◌, IsSomeAnd}
+use Rattle.lvl_grid.specs.declared.point.Point.{Point}
+use Rattle.lvl_grid.specs.declared.point.Square.{Square}
+use Rattle.lvl_grid.specs.Turn.{image_square}
+use Rattle.lvl_grid.specs.Winding.{Covers}
+use Rattle.lvl_cells.specs.declared.layer.Layer.{Layer}
+use Rattle.lvl_cells.specs.Cells.{PlainShape, PlainReference, PlainCell, Rings, placing, cell_named}
+
+-- the square that the shift moves to s
+abbrev pub moved_back : Point → Square → Square
+moved_back e s = record { x = s.x -ℤ e.x; y = s.y -ℤ e.y }
+
+-- some ring covers the square
+abbrev pub RingsCover : Rings → Square → Type 0
+RingsCover rings s = Any (λ ring. Covers ring s) rings
+
+-- at one of the shape's shifts its figure covers the square; holds says which squares a figure covers
+abbrev pub ShapeCovers : {F : Type 0} → (F → Square → Type 0) → Layer → Square → PlainShape F → Type 0
+ShapeCovers holds layer s h = (h.layer ≡ layer) × Any (λ e. holds h.figure (moved_back e s)) h.shifts
+
+-- a square whose image is s is in the set
+abbrev pub PullsBack : (Square → Type 0) → PlainReference → Square → Point → Type 0
+PullsBack P r s e = (t : Square) × (image_square (placing r e) t ≡ s) × P t
+
+-- the cell covers the square on the Layer, through at most n references one after another
+abbrev pub CoversWithin : {F : Type 0} → (F → Square → Type 0) → List (PlainCell F) → Layer → ℕ → PlainCell F → Square → Type 0
+CoversWithin holds cells layer zero c s = Any (ShapeCovers holds layer s) c.shapes
+CoversWithin holds cells layer (suc n) c s = Any (ShapeCovers holds layer s) c.shapes
+    ⊎ Any (λ r. IsSomeAnd (cell_named cells r.cell) (λ d. Any (PullsBack (CoversWithin holds cells layer n d) r s) r.shifts)) c.references
+
+-- through however many
+abbrev pub CellCovers : {F : Type 0} → (F → Square → Type 0) → List (PlainCell F) → Layer → PlainCell F → Square → Type 0
+CellCovers holds cells layer c s = (n : ℕ) × CoversWithin holds cells layer n c s

@@ -1,0 +1,33 @@
+-- How a list of shifts is kept.
+use Rattle.std.specs.Prelude.{ℕ, ◌<◌, ◌≤◌, ◌*◌, ◌-◌, List, pos, ℤ, ◌+ℤ◌, ◌*ℤ◌, FitsSigned}
+use Rattle.std.specs.Int.{w64}
+use Rattle.lvl_grid.specs.declared.point.Point.{Point}
+use Rattle.lvl_cells.specs.declared.offsets.Kept.{Kept}
+use Rattle.lvl_cells.specs.declared.offsets.Kept.TheVariants.{List as ByList, Lattice as ByLattice}
+use Rattle.lvl_cells.specs.Shifts.{lattice, most_places, StartsAtZero}
+
+-- i steps by a and j steps by b fit along one axis, apart and together
+pub record StaysWithin (a : ℤ) (i : ℕ) (b : ℤ) (j : ℕ) : Type 0 where
+  pub across : FitsSigned w64 (pos i *ℤ a)
+  pub up : FitsSigned w64 (pos j *ℤ b)
+  pub both : FitsSigned w64 ((pos i *ℤ a) +ℤ (pos j *ℤ b))
+
+-- at least one column and row, and few places
+pub record AreFew (m n : ℕ) : Type 0 where
+  pub columns : 0 < m
+  pub rows : 0 < n
+  pub few : m * n ≤ most_places
+
+-- the lattice has places, few of them, and its far corners fit
+pub record HasFarCorner (a : Point) (m : ℕ) (b : Point) (n : ℕ) : Type 0 where
+  pub counts : AreFew m n
+  pub xs : StaysWithin a.x (m - 1) b.x (n - 1)
+  pub ys : StaysWithin a.y (m - 1) b.y (n - 1)
+
+abbrev pub kept_shifts : Kept → List Point
+kept_shifts (ByList shifts) = shifts.items
+kept_shifts (ByLattice a m b n) = lattice a m b n
+
+abbrev pub IsKept : Kept → Type 0
+IsKept (ByList shifts) = StartsAtZero shifts.items
+IsKept (ByLattice a m b n) = HasFarCorner a m b n

@@ -1,0 +1,16 @@
+-- Cells to which none refers.
+use Rattle.std.specs.Prelude.{◌≡◌, ◌≢◌, ℕ, ◌<◌, List, length}
+use Rattle.std.specs.declared.alloc.Global.{Global}
+use Rattle.std.specs.declared.vec.Vec.{Vec}
+use Rattle.lvl_cells.specs.Walking.{IsArc}
+
+-- some reference is to cell k
+abbrev pub IsTarget : List (Vec ℕ Global) → ℕ → Type 0
+IsTarget targets k = (a : ℕ) × (j : ℕ) × IsArc targets a j k
+
+-- another cell than the root, to which none refers
+pub record HasOtherRoot (targets : List (Vec ℕ Global)) (root : ℕ) : Type 0 where
+  pub other : ℕ
+  pub low : other < length targets
+  pub apart : other ≢ root
+  pub free : ¬ IsTarget targets other

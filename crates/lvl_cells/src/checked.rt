@@ -1,0 +1,128 @@
+//! The check that a library is sound for its top, and that few are placed from it.
+ghost use Rattle.std.specs.Prelude.{◌≡◌, ◌≢◌, ◌<◌, length, IfOk, IfErr, IfSome, IfNone, option_copied};
+ghost use Rattle.lvl_cells.specs.Checks.{IsSettled, IsChecked, PlacesFew, IsTargetOf, HasReference};
+ghost use Rattle.lvl_cells.specs.Faults.{IsFaultOf, IsSoundWith};
+ghost use Rattle.lvl_cells.specs.Soundness.{IsOrder};
+ghost use Rattle.lvl_cells.specs.Steps.{AreAllTargets};
+
+use crate::counts::{Weight, count_from};
+use crate::fault::CellFault;
+use crate::library::{Cell, Library};
+use crate::names::index_of;
+use crate::order::order_of;
+use crate::targets::all_targets;
+use crate::top::top_of;
+use std::alloc::Global;
+use std::marker::Model;
+
+/// The most chains, and the most placed rings.
+const MOST_PLACED: u64 = 16_777_216;
+
+/// A library that is sound for its top, and few are placed from it.
+#[derive(Debug, Drop)]
+pub struct Checked {
+    cells: Vec<Cell>,
+    top: usize,
+    order: Vec<usize>,
+    targets: Vec<Vec<usize>>,
+}
+
+impl Model for Checked {
+    ghost use Rattle.lvl_cells.specs.Checks.{Settled};
+
+    ghost Value = { Settled };
+
+    ghost use Rattle.lvl_cells.specs.Settling.{settled, IsKeptSettled};
+
+    ghost view = { settled };
+
+    ghost invariant = { IsKeptSettled };
+}
+
+/// The top, the order and the targets of the cells, if they are sound and few are placed.
+fn examine(
+    alloc: Global,
+    cells: &[Cell],
+    given: Option<&[u8]>,
+) -> Result<(usize, Vec<usize>, Vec<Vec<usize>>), CellFault>
+    requires { 0 < length cells.now }
+    ensures ok { IfOk result (λ found. IsSettled (option_copied given.entry) (record { cells = cells.now; top = found.0; order = found.1.items })) }
+    ensures targets { IfOk result (λ found. AreAllTargets cells.now found.2.items) }
+    ensures err { IfErr result (λ fault. IsFaultOf cells.now (option_copied given.entry) fault) }
+{
+    let index = index_of(alloc, cells)?;
+    let targets = all_targets(alloc, cells, &index)?;
+    let order = order_of(alloc, cells, &targets)?;
+    let top = top_of(alloc, cells, &index, &targets, &order, given)?;
+    let chains = count_from(alloc, Weight::One, cells, &targets, &order, top)?;
+    if chains > MOST_PLACED {
+        return Err(CellFault::TooManyPlacements);
+    }
+    let rings = count_from(alloc, Weight::OwnRings, cells, &targets, &order, top)?;
+    if rings > MOST_PLACED {
+        return Err(CellFault::TooManyRings);
+    }
+    Ok((top, order, targets))
+}
+
+/// The library, if it is sound for the top and few are placed from it.
+///
+/// A library is sound where it has a cell, the cells' names are distinct, each reference names a
+/// cell, no cell is placed in itself through any number of references, and there is a top: the
+/// cell of the given name or, with none given, the only one to which none refers. At most
+/// 16,777,216 cells, the top counted once, and as many rings may be placed from the top. Of the
+/// faults the first in the order of [`CellFault`] is answered.
+pub fn check(alloc: Global, library: Library, top: Option<&[u8]>) -> Result<Checked, CellFault>
+    ensures same { IfOk result (λ checked. checked.cells ≡ library) }
+    ensures sound { IfOk result (λ checked. IsSettled (option_copied top.entry) checked) }
+    ensures fault { IfErr result (λ fault. IsFaultOf library (option_copied top.entry) fault) }
+    ensures refused { IfErr result (λ fault. fault ≢ CellFault.OutOfMemory → ¬ IsSoundWith library (option_copied top.entry) (PlacesFew library)) }
+{
+    let Library { cells } = library;
+    if cells.is_empty() {
+        return Err(CellFault::NoCell);
+    }
+    let (place, order, targets) = examine(alloc, &cells, top)?;
+    Ok(Checked {
+        cells,
+        top: place,
+        order,
+        targets,
+    })
+}
+
+impl Checked {
+    /// The place of the top among the cells.
+    pub fn top(&self) -> usize
+        ensures value { result ≡ self.now.top }
+        ensures checked { IsChecked self.now }
+    {
+        self.top
+    }
+
+    /// The cells, in file order.
+    pub fn cells(&self) -> &[Cell]
+        ensures value { result.now ≡ self.now.cells }
+        ensures checked { IsChecked self.now }
+    {
+        &self.cells
+    }
+
+    /// The places of the cells, each once and before those that it refers to.
+    pub fn order(&self) -> &[usize]
+        ensures value { result.now ≡ self.now.order }
+        ensures sorted { IsOrder self.now.cells self.now.order }
+    {
+        &self.order
+    }
+
+    /// The place of the cell that a reference of a cell names, both by their places; None past
+    /// either list.
+    pub fn target(&self, cell: usize, reference: usize) -> Option<usize>
+        ensures target { IfSome result (IsTargetOf self.now.cells cell reference) }
+        ensures past { IfNone result (¬ HasReference self.now.cells cell reference) }
+    {
+        let row = self.targets.get(cell)?;
+        row.get(reference).copied()
+    }
+}

@@ -1,0 +1,95 @@
+//! How many cells and rings a top places. Counts stop growing once they pass the limit.
+ghost use Rattle.std.specs.Prelude.{◌≡◌, ◌<◌, ◌≤◌, ◌+◌, ◌*◌, length, min, slice_get, All, IfOk, IfSome, OnErr};
+ghost use Rattle.lvl_cells.specs.Cells.{each_ring};
+ghost use Rattle.lvl_cells.specs.Chains.{over_chains, own_rings, most_placed};
+ghost use Rattle.lvl_cells.specs.Soundness.{AreLinked, IsOrder};
+ghost use Rattle.lvl_cells.specs.Steps.{AreAllTargets, weigh, placed_sum};
+
+use crate::library::Cell;
+use std::alloc::{AllocError, Global};
+
+/// One past the most chains, and the most placed rings.
+const PAST_MOST: u64 = 16_777_217;
+
+/// What is added up over the chains of a cell.
+#[derive(Clone, Copy, Debug, PartialEq, Eq)]
+pub(crate) enum Weight {
+    One,
+    OwnRings,
+}
+
+/// The product; past the limit it is one more than that.
+fn capped_product(a: u64, b: u64) -> u64
+    ensures { result ≡ min (most_placed + 1) (a * b) }
+{
+    (a.min(PAST_MOST) * b.min(PAST_MOST)).min(PAST_MOST)
+}
+
+/// The sum; past the limit it is one more than that.
+fn capped_sum(a: u64, b: u64) -> u64
+    requires left { a ≤ most_placed + 1 }
+    requires right { b ≤ most_placed + 1 }
+    ensures { result ≡ min (most_placed + 1) (a + b) }
+{
+    (a + b).min(PAST_MOST)
+}
+
+/// The rings of the cell, each counted at each of its shape's shifts.
+fn rings_of(cell: &Cell) -> u64
+    ensures { result ≡ min (most_placed + 1) (own_rings each_ring cell.now) }
+{
+    let mut sum = 0;
+    for shape in &cell.shapes {
+        let placed = capped_product(shape.rings.len() as u64, shape.shifts.len());
+        sum = capped_sum(sum, placed);
+    }
+    sum
+}
+
+/// What one chain that ends in the cell adds.
+fn weight_of(weight: Weight, cell: &Cell) -> u64
+    ensures { result ≡ min (most_placed + 1) (weigh weight cell.now) }
+{
+    match weight {
+        Weight::One => 1,
+        Weight::OwnRings => rings_of(cell),
+    }
+}
+
+/// The weight, added up over the chains from the cell, by the sums of the cells that it refers to.
+fn sum_of(weight: Weight, cell: &Cell, targets: &[usize], sums: &[u64]) -> u64
+    requires row { length targets.now ≡ length cell.now.references }
+    requires within { All (λ t. t < length sums.now) targets.now }
+    ensures { result ≡ min (most_placed + 1) (weigh weight cell.now + placed_sum cell.now.references targets.now sums.now) }
+{
+    let mut sum = weight_of(weight, cell);
+    for (j, reference) in cell.references.iter().enumerate() {
+        let placed = capped_product(reference.shifts().len(), sums[targets[j]]);
+        sum = capped_sum(sum, placed);
+    }
+    sum
+}
+
+/// The weight, added up over the chains from the cell at `top`; past the limit it is one more than
+/// that.
+pub(crate) fn count_from(
+    alloc: Global,
+    weight: Weight,
+    cells: &[Cell],
+    targets: &[Vec<usize>],
+    order: &[usize],
+    top: usize,
+) -> Result<u64, AllocError>
+    requires linked { AreLinked cells.now }
+    requires targets { AreAllTargets cells.now targets.now }
+    requires order { IsOrder cells.now order.now }
+    requires top { top < length cells.now }
+    ensures { IfOk result (λ sum. IfSome (slice_get cells.now top) (λ c. sum ≡ min (most_placed + 1) (over_chains (weigh weight) cells.now (length cells.now) c))) }
+{
+    let mut sums = vec![in alloc; 0; cells.len()]?;
+    for i in (0..order.len()).rev() {
+        let place = order[i];
+        sums[place] = sum_of(weight, &cells[place], &targets[place], &sums);
+    }
+    Ok(sums[top])
+}

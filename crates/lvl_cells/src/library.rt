@@ -1,0 +1,140 @@
+//! A library as it was drawn: cells, with the shapes and the references to cells that each has.
+ghost use Rattle.std.specs.Prelude.{◌≡◌, ◌↔◌, All, IsSome, IfSome};
+ghost use Rattle.lvl_grid.specs.Turn.{shifted, FitsPoint};
+
+use crate::layer::Layer;
+use crate::offsets::Offsets;
+use lvl_grid::{Point, Ring, Turn};
+use std::marker::Model;
+
+/// Rings on a Layer, at each of the shifts.
+#[derive(Debug, Drop)]
+pub struct Shape {
+    pub layer: Layer,
+    pub rings: Vec<Ring>,
+    pub shifts: Offsets,
+}
+
+impl Model for Shape {
+    ghost use Rattle.lvl_cells.specs.Cells.{PlainShape, Rings};
+
+    ghost Value = { PlainShape Rings };
+
+    ghost view = { λ s. record { layer = s.layer; figure = s.rings.items; shifts = s.shifts } };
+}
+
+/// A cell by its name, reflected, turned, and placed at each of its places.
+#[derive(Debug, Drop)]
+pub struct Reference {
+    cell: Vec<u8>,
+    flip: bool,
+    turn: Turn,
+    at: Point,
+    shifts: Offsets,
+}
+
+impl Model for Reference {
+    ghost use Rattle.std.specs.Prelude.{All};
+    ghost use Rattle.lvl_grid.specs.Turn.{FitsPoint, shifted};
+    ghost use Rattle.lvl_cells.specs.Cells.{PlainReference};
+
+    ghost Value = { PlainReference };
+
+    ghost view = { λ r. record { cell = r.cell.items; flip = r.flip; turn = r.turn; at = r.at; shifts = r.shifts } };
+
+    ghost invariant = { λ r. All (λ e. FitsPoint (shifted r.at e)) r.shifts };
+}
+
+impl Reference {
+    /// A reference to the cell of that name, or None where one of its places, each `at` moved by
+    /// one of the shifts, is outside 64 signed bits.
+    pub fn new(
+        cell: Vec<u8>,
+        flip: bool,
+        turn: Turn,
+        at: Point,
+        shifts: Offsets,
+    ) -> Option<Reference>
+        ensures some { IsSome result ↔ All (λ e. FitsPoint (shifted at e)) shifts }
+        ensures same { IfSome result (λ r. r ≡ record { cell = cell.items; flip = flip; turn = turn; at = at; shifts = shifts }) }
+    {
+        if !shifts.all_fit_at(at) {
+            return None;
+        }
+        Some(Reference {
+            cell,
+            flip,
+            turn,
+            at,
+            shifts,
+        })
+    }
+
+    /// The name of the cell that it places.
+    pub fn cell(&self) -> &[u8]
+        ensures { result.now ≡ self.now.cell }
+    {
+        &self.cell
+    }
+
+    /// Whether the cell is reflected about the X axis, before it is turned.
+    pub fn flip(&self) -> bool
+        ensures { result ≡ self.now.flip }
+    {
+        self.flip
+    }
+
+    /// How the cell is turned, before it is moved to a place.
+    pub fn turn(&self) -> Turn
+        ensures { result ≡ self.now.turn }
+    {
+        self.turn
+    }
+
+    /// The first of its places, in grid steps.
+    pub fn at(&self) -> Point
+        ensures { result ≡ self.now.at }
+    {
+        self.at
+    }
+
+    /// How far each of its places is from the first; `at` moved by any of them is within 64
+    /// signed bits.
+    pub fn shifts(&self) -> &Offsets
+        ensures all { result.now ≡ self.now.shifts }
+        ensures in_range { All (λ e. FitsPoint (shifted self.now.at e)) self.now.shifts }
+    {
+        &self.shifts
+    }
+}
+
+/// A named cell.
+#[derive(Debug, Drop)]
+pub struct Cell {
+    pub name: Vec<u8>,
+    pub shapes: Vec<Shape>,
+    pub references: Vec<Reference>,
+}
+
+impl Model for Cell {
+    ghost use Rattle.lvl_cells.specs.Cells.{PlainCell, Rings};
+
+    ghost Value = { PlainCell Rings };
+
+    ghost view = { λ c. record { name = c.name.items; shapes = c.shapes.items; references = c.references.items } };
+}
+
+/// Cells in file order.
+#[derive(Debug, Drop)]
+pub struct Library {
+    pub cells: Vec<Cell>,
+}
+
+impl Model for Library {
+    ghost use Rattle.std.specs.Prelude.{List};
+    ghost use Rattle.lvl_cells.specs.Cells.{PlainCell, Rings};
+
+    ghost Value = { List (PlainCell Rings) };
+
+    ghost view = { λ l. l.cells.items };
+}

@@ -1,0 +1,194 @@
+//! Shifts: the displacements at which a shape or a cell stands, kept as a list or as a lattice.
+ghost use Rattle.std.specs.Prelude.{◌≡◌, ◌<◌, ◌↔◌, ◌^◌, length, slice_get, pos, ◌+ℤ◌, ◌*ℤ◌, FitsSigned, IsTrue, IsSome, IfSome, SomeIff, All};
+ghost use Rattle.std.specs.Int.{w64};
+ghost use Rattle.lvl_grid.specs.Turn.{shifted, FitsPoint};
+ghost use Rattle.lvl_cells.specs.Keeping.{StaysWithin, HasFarCorner, AreFew};
+ghost use Rattle.lvl_cells.specs.Shifts.{steps, lattice, IsLattice, StartsAtZero};
+
+use lvl_grid::Point;
+use std::marker::Model;
+
+/// The most places of a lattice.
+const MOST_PLACES: u64 = 16_777_216;
+
+/// How shifts are kept.
+#[derive(Debug, Drop)]
+enum Kept {
+    List(Vec<Point>),
+    Lattice(Point, u64, Point, u64),
+}
+
+/// A list of shifts, of which the first is zero.
+#[derive(Debug, Drop)]
+pub struct Offsets {
+    kept: Kept,
+}
+
+impl Model for Offsets {
+    ghost use Rattle.std.specs.Prelude.{List};
+    ghost use Rattle.lvl_grid.specs.declared.point.Point.{Point};
+    ghost use Rattle.lvl_grid.specs.Turn.{shifted, FitsPoint};
+    ghost use Rattle.lvl_cells.specs.Keeping.{kept_shifts, IsKept};
+
+    ghost Value = { List Point };
+
+    ghost view = { λ o. kept_shifts o.kept };
+
+    ghost invariant = { λ o. IsKept o.kept };
+}
+
+/// `i` steps by `a` and `j` steps by `b`, along one axis.
+fn step(a: i64, i: u64, b: i64, j: u64) -> i64
+    requires stays { StaysWithin a i b j }
+    requires i_small { i < 2 ^ 63 }
+    requires j_small { j < 2 ^ 63 }
+    ensures { result ≡ (pos i *ℤ a) +ℤ (pos j *ℤ b) }
+{
+    i as i64 * a + j as i64 * b
+}
+
+/// `i` steps by `a` and `j` steps by `b`.
+fn point_at(a: Point, i: u64, b: Point, j: u64) -> Point
+    requires xs { StaysWithin a.x i b.x j }
+    requires ys { StaysWithin a.y i b.y j }
+    requires i_small { i < 2 ^ 63 }
+    requires j_small { j < 2 ^ 63 }
+    ensures { result ≡ steps a i b j }
+{
+    Point {
+        x: step(a.x, i, b.x, j),
+        y: step(a.y, i, b.y, j),
+    }
+}
+
+/// The product, or None where it is outside 64 bits.
+fn times(i: u64, a: i64) -> Option<i64>
+    requires { i < 2 ^ 63 }
+    ensures { SomeIff result (FitsSigned w64 (pos i *ℤ a)) (pos i *ℤ a) }
+{
+    (i as i64).checked_mul(a)
+}
+
+/// Whether `i` steps by `a` and `j` steps by `b` fit 64 bits, apart and together.
+fn stays(a: i64, i: u64, b: i64, j: u64) -> bool
+    requires i_small { i < 2 ^ 63 }
+    requires j_small { j < 2 ^ 63 }
+    ensures { IsTrue result ↔ StaysWithin a i b j }
+{
+    let Some(across) = times(i, a) else {
+        return false;
+    };
+    let Some(up) = times(j, b) else {
+        return false;
+    };
+    across.checked_add(up).is_some()
+}
+
+/// Whether both counts are at least one, and the product is within the limit.
+fn are_few(m: u64, n: u64) -> bool
+    ensures few { IsTrue result ↔ AreFew m n }
+    ensures small { IsTrue result → (m < 2 ^ 63) × (n < 2 ^ 63) }
+{
+    if m == 0 || n == 0 {
+        return false;
+    }
+    n <= MOST_PLACES / m
+}
+
+/// Whether these give a lattice of few shifts that all fit.
+fn has_far_corner(a: Point, m: u64, b: Point, n: u64) -> bool
+    ensures { IsTrue result ↔ HasFarCorner a m b n }
+{
+    if !are_few(m, n) {
+        return false;
+    }
+    stays(a.x, m - 1, b.x, n - 1) && stays(a.y, m - 1, b.y, n - 1)
+}
+
+/// Whether the point fits 64 bits once it is moved.
+fn fits_moved(by: Point, point: Point) -> bool
+    ensures { IsTrue result ↔ FitsPoint (shifted by point) }
+{
+    point.x.checked_add(by.x).is_some() && point.y.checked_add(by.y).is_some()
+}
+
+/// Whether each shift of the lattice fits 64 bits once it is moved, by the corners.
+fn lattice_fits_moved(by: Point, a: Point, m: u64, b: Point, n: u64) -> bool
+    requires { HasFarCorner a m b n }
+    ensures { IsTrue result ↔ All (λ e. FitsPoint (shifted by e)) (lattice a m b n) }
+{
+    let across = point_at(a, m - 1, b, 0);
+    let up = point_at(a, 0, b, n - 1);
+    let far = point_at(a, m - 1, b, n - 1);
+    if !fits_moved(by, across) {
+        return false;
+    }
+    if !fits_moved(by, up) {
+        return false;
+    }
+    fits_moved(by, far)
+}
+
+impl Offsets {
+    /// These shifts, if the first is there and zero.
+    pub fn new(shifts: Vec<Point>) -> Option<Offsets>
+        ensures some { IsSome result ↔ StartsAtZero shifts.items }
+        ensures same { IfSome result (λ offsets. offsets ≡ shifts.items) }
+    {
+        if shifts.first() != Some(&Point { x: 0, y: 0 }) {
+            return None;
+        }
+        Some(Offsets {
+            kept: Kept::List(shifts),
+        })
+    }
+
+    /// The shifts `i * a + j * b`, `i` below `m` and running fastest, `j` below `n`.
+    pub fn lattice(a: Point, m: u64, b: Point, n: u64) -> Option<Offsets>
+        ensures some { IsSome result ↔ IsLattice a m b n }
+        ensures same { IfSome result (λ offsets. offsets ≡ lattice a m b n) }
+    {
+        if !has_far_corner(a, m, b, n) {
+            return None;
+        }
+        Some(Offsets {
+            kept: Kept::Lattice(a, m, b, n),
+        })
+    }
+
+    /// How many there are.
+    pub fn len(&self) -> u64
+        ensures count { result ≡ length self.now }
+        ensures zero_first { StartsAtZero self.now }
+    {
+        match &self.kept {
+            Kept::List(shifts) => shifts.len() as u64,
+            Kept::Lattice(_, m, _, n) => m * n,
+        }
+    }
+
+    /// Whether each shift fits 64 bits once it is moved.
+    pub(crate) fn all_fit_at(&self, at: Point) -> bool
+        ensures { IsTrue result ↔ All (λ e. FitsPoint (shifted at e)) self.now }
+    {
+        match &self.kept {
+            Kept::List(shifts) => shifts.iter().all(|shift| fits_moved(at, *shift)),
+            Kept::Lattice(a, m, b, n) => lattice_fits_moved(at, *a, *m, *b, *n),
+        }
+    }
+
+    /// The shift at the place `k`.
+    pub fn at(&self, k: u64) -> Option<Point>
+        ensures { result ≡ slice_get self.now k }
+    {
+        match &self.kept {
+            Kept::List(shifts) => shifts.get(k as usize).copied(),
+            Kept::Lattice(a, m, b, n) => {
+                if k >= m * n {
+                    return None;
+                }
+                Some(point_at(*a, k % m, *b, k / m))
+            }
+        }
+    }
+}

@@ -1,0 +1,57 @@
+//! The cells that references name.
+ghost use Rattle.std.specs.Prelude.{IfOk, IfErr};
+ghost use Rattle.lvl_cells.specs.Cells.{names};
+ghost use Rattle.lvl_cells.specs.Resolving.{IsIndexOf, AreTargets, IsMissingFault};
+ghost use Rattle.lvl_cells.specs.Steps.{AreAllTargets, IsFirstMissingFault};
+
+use crate::fault::CellFault;
+use crate::library::Cell;
+use crate::names::copy_of;
+use std::alloc::Global;
+use std::collections::BTreeMap;
+
+/// The places of the cells that the cell refers to, or its first reference whose cell is not there.
+pub(crate) fn targets_of(
+    alloc: Global,
+    cells: &[Cell],
+    index: &BTreeMap<&[u8], usize>,
+    cell: &Cell,
+) -> Result<Vec<usize>, CellFault>
+    requires { IsIndexOf (names cells.now) index.now }
+    ensures ok { IfOk result (λ targets. AreTargets (names cells.now) cell.now.references targets.items) }
+    ensures err { IfErr result (λ fault. IsMissingFault (names cells.now) cell.now fault) }
+{
+    let mut targets = Vec::new(alloc);
+    for reference in &cell.references {
+        let name = reference.cell();
+        let Some(target) = index.get(name) else {
+            let from = copy_of(alloc, &cell.name)?;
+            let missing = copy_of(alloc, name)?;
+            return Err(CellFault::MissingCell(from, missing));
+        };
+        let Ok(()) = targets.push(*target) else {
+            return Err(CellFault::OutOfMemory);
+        };
+    }
+    Ok(targets)
+}
+
+/// The places of the cells that each cell refers to, or the first reference whose cell is not there.
+pub(crate) fn all_targets(
+    alloc: Global,
+    cells: &[Cell],
+    index: &BTreeMap<&[u8], usize>,
+) -> Result<Vec<Vec<usize>>, CellFault>
+    requires { IsIndexOf (names cells.now) index.now }
+    ensures ok { IfOk result (λ targets. AreAllTargets cells.now targets.items) }
+    ensures err { IfErr result (λ fault. IsFirstMissingFault cells.now fault) }
+{
+    let mut targets = Vec::new(alloc);
+    for cell in cells {
+        let here = targets_of(alloc, cells, index, cell)?;
+        let Ok(()) = targets.push(here) else {
+            return Err(CellFault::OutOfMemory);
+        };
+    }
+    Ok(targets)
+}

@@ -1,0 +1,80 @@
+//! The top of a library.
+ghost use Rattle.std.specs.Prelude.{◌≡◌, ◌≢◌, ℕ, ◌<◌, ◌↔◌, ◌⊎◌, true, length, slice_get, vec_len, All, Contains, Some, IsTrue, IfOk, IfErr, option_copied};
+ghost use Rattle.lvl_cells.specs.Cells.{names};
+ghost use Rattle.lvl_cells.specs.Resolving.{IsIndexOf};
+ghost use Rattle.lvl_cells.specs.Soundness.{AreLinked, IsOrder, IsTop};
+ghost use Rattle.lvl_cells.specs.Steps.{AreAllTargets, IsTopFault};
+ghost use Rattle.lvl_cells.specs.Walking.{EachTargetWithin};
+ghost use Rattle.lvl_cells.specs.Topping.{IsTarget, HasOtherRoot};
+
+use crate::fault::CellFault;
+use crate::library::Cell;
+use std::alloc::{AllocError, Global};
+use std::collections::BTreeMap;
+
+/// Marks these places.
+fn mark_all(marks: &mut [bool], places: &[usize])
+    requires { All (λ k. k < length marks.old) places.now }
+    ensures { (k : ℕ) → (slice_get marks.new k ≡ Some true) ↔ ((slice_get marks.old k ≡ Some true) ⊎ Contains places.now k) }
+{
+    for place in places {
+        marks[*place] = true;
+    }
+}
+
+/// For each cell whether some cell refers to it.
+fn referred_cells(alloc: Global, targets: &[Vec<usize>]) -> Result<Vec<bool>, AllocError>
+    requires { EachTargetWithin targets.now (length targets.now) }
+    ensures long { IfOk result (λ marks. vec_len marks ≡ length targets.now) }
+    ensures marked { IfOk result (λ marks. (k : ℕ) → (slice_get marks.items k ≡ Some true) ↔ IsTarget targets.now k) }
+{
+    let mut referred = vec![in alloc; false; targets.len()]?;
+    for here in targets {
+        mark_all(&mut referred, here);
+    }
+    Ok(referred)
+}
+
+/// Whether none refers to some cell beside the root.
+fn has_other_root(alloc: Global, targets: &[Vec<usize>], root: usize) -> Result<bool, AllocError>
+    requires { EachTargetWithin targets.now (length targets.now) }
+    ensures { IfOk result (λ other. IsTrue other ↔ HasOtherRoot targets.now root) }
+{
+    let referred = referred_cells(alloc, targets)?;
+    for (k, is_referred) in referred.iter().enumerate() {
+        if !*is_referred && k != root {
+            return Ok(true);
+        }
+    }
+    Ok(false)
+}
+
+/// The cell of the given name, or the only one to which none refers.
+pub(crate) fn top_of(
+    alloc: Global,
+    cells: &[Cell],
+    index: &BTreeMap<&[u8], usize>,
+    targets: &[Vec<usize>],
+    order: &[usize],
+    given: Option<&[u8]>,
+) -> Result<usize, CellFault>
+    requires linked { AreLinked cells.now }
+    requires index { IsIndexOf (names cells.now) index.now }
+    requires targets { AreAllTargets cells.now targets.now }
+    requires order { IsOrder cells.now order.now }
+    requires some { 0 < length cells.now }
+    ensures ok { IfOk result (λ top. IsTop cells.now (option_copied given.entry) top × (top < length cells.now)) }
+    ensures err { IfErr result (λ fault. IsTopFault cells.now (option_copied given.entry) fault) }
+{
+    let Some(name) = given else {
+        let root = order[0];
+        if has_other_root(alloc, targets, root)? {
+            return Err(CellFault::ManyTops);
+        }
+        return Ok(root);
+    };
+    match index.get(name) {
+        Some(place) => Ok(*place),
+        None => Err(CellFault::TopMissing),
+    }
+}
