@@ -1,13 +1,13 @@
 -- Where the bytes end in a record: `Truncated` is answered there, and only there.
-use Rattle.std.proofs.Common.{◌≡◌, ◌≢◌, ◌==◌, ℕ, ◌+◌, ◌*◌, ◌-◌, ◌<◌, ◌≤◌, ◌⊎◌, inl, inr, Bool, true, false, cond, nat_le, nat_lt, ◌&&◌, ◌||◌, ◌%◌, List, ◌∷◌, ◌++◌, length, drop, slice_index, get_or, Result, Ok, Err, None, Some, refl, sym, ap, ◌∙◌, arith, length-append, length-drop}
+use Rattle.std.proofs.Common.{◌≡◌, ◌≢◌, ◌==◌, ℕ, ◌+◌, ◌*◌, ◌-◌, ◌<◌, ◌≤◌, ◌⊎◌, inl, inr, Bool, true, false, cond, nat_le, nat_lt, ◌&&◌, ◌||◌, ◌%◌, List, ◌++◌, length, drop, slice_index, Result, Ok, Err, None, Some, refl, sym, ap, ◌∙◌, arith, length-append, length-drop}
 use Rattle.std.proofs.lemmas.List.{length-replicate}
 use Rattle.std.specs.Prelude.{Option, replicate}
 use Rattle.std.proofs.lemmas.Bool.Decides.{nat_tests}
 use Rattle.gds_records.specs.Table.{table, form_among, form_fault, allows}
-use Rattle.gds_records.specs.Step.{want, header, step, ◌>>=◌, first_fault, header_fault, unless, OfHeader, HasByteLength}
+use Rattle.gds_records.specs.Step.{want, header, step, ◌>>=◌, header_fault, unless, OfHeader, HasByteLength}
 use Rattle.gds_records.specs.Spelled.{IsBegun, IsCut}
 use Rattle.gds_records.proofs.Steps.{header-append, step_end, step_goes, step_no_header, step_wants, want_had, want_short}
-use Rattle.gds_records.proofs.Laws.{HeaderSays, header_ok, header_spelled, length_spelled, record_said, four, by_test, want_ok}
+use Rattle.gds_records.proofs.Laws.{header_ok, header_spelled, length_spelled, record_said, four, by_test, want_ok}
 use Rattle.gds_records.specs.declared.form.Form.{Form}
 use Rattle.gds_records.specs.declared.fault.RecordFault.{RecordFault}
 use Rattle.gds_records.specs.declared.fault.RecordFault.TheVariants.{Truncated, BadLength, BadDataType, UnknownRecord, TooLong, Read}
