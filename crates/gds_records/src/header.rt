@@ -21,7 +21,7 @@ const REALS: u8 = 5;
 /// Text.
 const ASCII: u8 = 6;
 
-/// The least record type that the manual doesn't have.
+/// Record types stand below this (own rule).
 const TYPES: u8 = 60;
 
 // The form of a record type, if it is a known one.

@@ -4,12 +4,10 @@ ghost use Rattle.std.specs.Prelude.{Some, None};
 
 use crate::{RecordFault, Records, record_type};
 use lvl_io::Read;
-use pieces::Pieces;
+use lvl_io::fake::Pieces;
 use std::alloc::{AllocError, Global};
 use std::process::Abort;
 use std::test::Fail;
-
-mod pieces;
 
 /// A library with one structure TOP, in it the boundary of a square. Each line is a record.
 fn square(alloc: Global) -> Result<Vec<u8>, AllocError> {
