@@ -1,6 +1,6 @@
 -- The arcs of a walk are the links of the library.
-use Rattle.std.proofs.Common.{◌≡◌, ◌≢◌, ℕ, zero, suc, ◌+◌, ◌<◌, ◌≤◌, Bool, true, false, List, [], ◌∷◌, ◌++◌, map, length, get_or, ◌⊎◌, inl, inr, ⊎_elim, Option, Some, None, Contains, refl, sym, ap, ◌∙◌, subst, arith, rules}
-use Rattle.std.specs.List.{slice_get, IsDistinct, flat_map}
+use Rattle.std.proofs.Common.{◌≡◌, ℕ, zero, suc, ◌<◌, Bool, true, false, List, [], ◌∷◌, ◌++◌, map, get_or, ◌⊎◌, inl, inr, ⊎_elim, Option, Some, None, Contains, refl, sym, ap, ◌∙◌, subst, arith}
+use Rattle.std.specs.List.{slice_get, IsDistinct}
 use Rattle.std.specs.Str.{bytes_eq}
 use Rattle.std.specs.Bool.{nat_eq}
 use Rattle.std.proofs.lemmas.Bool.Decides.{Decides-eqb}
@@ -13,7 +13,7 @@ use Rattle.std.proofs.lemmas.Bool.{false≢true}
 use Rattle.std.proofs.lemmas.List.Elements.{Contains-append_cases, Contains-append_left, Contains-append_right}
 use Rattle.std.proofs.lemmas.Option.{slice_get-map, slice_get_within, slice_get-get_or, get_or_from_slice_get}
 use Rattle.lvl_cells.specs.Cells.{PlainCell, PlainReference, Rings, names}
-use Rattle.lvl_cells.specs.Soundness.{links, AreLinked}
+use Rattle.lvl_cells.specs.Soundness.{links}
 use Rattle.lvl_cells.specs.Steps.{AreAllTargets}
 use Rattle.lvl_cells.specs.Walking.{IsArc}
 use Rattle.lvl_cells.proofs.Indexes.{contains_at, at_contains}

@@ -1,5 +1,5 @@
 -- How the faults of the steps are faults of the library.
-use Rattle.std.proofs.Common.{◌≡◌, ◌≢◌, ℕ, zero, suc, ◌+◌, ◌<◌, ◌≤◌, min, ◌-◌, Bool, true, false, cond, get_or, ◌⊎◌, inl, inr, ⊎_elim, List, [], ◌∷◌, map, length, Option, Some, None, IfSome, All, Contains, refl, sym, ap, ◌∙◌, subst, arith, rules}
+use Rattle.std.proofs.Common.{◌≡◌, ℕ, zero, suc, ◌+◌, ◌<◌, ◌≤◌, min, ◌-◌, true, false, cond, get_or, ◌⊎◌, inl, inr, ⊎_elim, List, [], ◌∷◌, map, length, Option, Some, IfSome, All, Contains, refl, ap, ◌∙◌, subst, arith}
 use Rattle.std.specs.List.{slice_get, IsDistinct}
 use Rattle.std.specs.Str.{bytes_eq}
 use Rattle.std.specs.declared.alloc.Global.{Global}
@@ -11,11 +11,11 @@ use Rattle.lvl_cells.proofs.Indexes.{contains_at}
 use Rattle.std.proofs.lemmas.Slice.Eq.{bytes_eq-Decides}
 use Rattle.std.proofs.Math.ListN.{length-map}
 use Rattle.lvl_cells.specs.Cells.{PlainCell, PlainReference, Rings, each_ring, names}
-use Rattle.lvl_cells.specs.Chains.{chains, placed_rings, over_chains, own_rings, most_placed}
-use Rattle.lvl_cells.specs.Soundness.{links, AreLinked, IsRanked, IsSound, IsTop, IsOrder}
-use Rattle.lvl_cells.specs.Faults.{IsFaultOf, IsSoundWith}
+use Rattle.lvl_cells.specs.Chains.{over_chains, own_rings, most_placed}
+use Rattle.lvl_cells.specs.Soundness.{links, AreLinked, IsRanked, IsTop, IsOrder}
+use Rattle.lvl_cells.specs.Faults.{IsFaultOf}
 use Rattle.lvl_cells.specs.Steps.{AreAllTargets, IsCycleFault, IsTopFault}
-use Rattle.lvl_cells.specs.Checks.{IsSettled, Settled}
+use Rattle.lvl_cells.specs.Checks.{IsSettled}
 use Rattle.lvl_cells.specs.declared.fault.CellFault.{CellFault}
 use Rattle.lvl_cells.specs.declared.fault.CellFault.TheVariants.{NoCell, DuplicateCell, MissingCell, Cycle, TopMissing, ManyTops, TooManyPlacements, TooManyRings, OutOfMemory}
 use Rattle.lvl_cells.proofs.Missing.{named_links}

@@ -1,5 +1,5 @@
 -- What one more name does to an index, and what a name that is there twice says.
-use Rattle.std.proofs.Common.{◌≡◌, ◌≢◌, ℕ, zero, suc, ◌+◌, ◌<◌, ◌≤◌, Bool, true, false, ◌||◌, cond, List, [], ◌∷◌, ◌++◌, map, take, drop, length, get_or, ◌⊎◌, inl, inr, ⊎_elim, Option, Some, None, is_some, append_assoc, All, Contains, refl, sym, ap, ◌∙◌, subst, arith, rules, ◌↔◌}
+use Rattle.std.proofs.Common.{◌≡◌, ℕ, zero, suc, ◌+◌, ◌<◌, Bool, true, false, ◌||◌, cond, List, [], ◌∷◌, ◌++◌, take, drop, length, get_or, ◌⊎◌, inl, inr, ⊎_elim, Option, Some, None, is_some, append_assoc, Contains, refl, sym, ap, ◌∙◌, subst, arith, ◌↔◌}
 use Rattle.std.specs.List.{slice_get, list_any, IsDistinct}
 use Rattle.std.specs.Str.{bytes_eq}
 use Rattle.std.specs.Map.{update, lookup}

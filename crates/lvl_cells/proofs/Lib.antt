@@ -13,3 +13,4 @@ pub mod Orders
 pub mod Roots
 pub mod Summing
 pub mod Refusing
+pub mod Looking

@@ -1,13 +1,13 @@
 -- What the targets of all cells say, and where the first reference without a cell stands.
-use Rattle.std.proofs.Common.{◌≡◌, ℕ, zero, suc, ◌+◌, ◌<◌, ◌≤◌, List, [], ◌∷◌, ◌++◌, map, take, drop, length, get_or, Option, Some, None, append_assoc, All, Contains, refl, sym, ap, ◌∙◌, subst, arith, rules}
-use Rattle.std.specs.List.{slice_get, flat_map}
+use Rattle.std.proofs.Common.{◌≡◌, ℕ, ◌+◌, ◌<◌, List, [], ◌∷◌, ◌++◌, map, take, drop, length, get_or, Option, Some, append_assoc, All, Contains, refl, sym, ap, ◌∙◌}
+use Rattle.std.specs.List.{slice_get}
 use Rattle.std.specs.declared.alloc.Global.{Global}
 use Rattle.std.specs.declared.vec.Vec.{Vec}
 use Rattle.std.proofs.lemmas.List.{map-append, take_more}
 use Rattle.std.proofs.lemmas.List.Concat.{flat_map-append}
 use Rattle.std.proofs.lemmas.List.Elements.{All-nil, All-cons, All-head, All-tail, All-append}
 use Rattle.lvl_cells.specs.Cells.{PlainCell, PlainReference, names, Rings}
-use Rattle.lvl_cells.specs.Soundness.{links, AreNamed}
+use Rattle.lvl_cells.specs.Soundness.{links}
 use Rattle.lvl_cells.specs.Faults.{IsFirstMissing}
 use Rattle.lvl_cells.specs.Resolving.{AreTargets, IsFirstUnknown, IsMissingFault}
 use Rattle.lvl_cells.specs.Steps.{IsFirstMissingFault}

@@ -1,5 +1,5 @@
 -- What a walk over all cells leads to: a round of references, or an order of the cells.
-use Rattle.std.proofs.Common.{◌≡◌, ◌≢◌, ℕ, zero, suc, ◌+◌, ◌-◌, ◌<◌, ◌≤◌, List, [], ◌∷◌, ◌++◌, map, drop, reverse, replicate, length, get_or, ◌⊎◌, inl, inr, ⊎_elim, ◌↔◌, Option, Some, None, All, Contains, length-drop, refl, sym, ap, ◌∙◌, subst, arith, rules}
+use Rattle.std.proofs.Common.{◌≡◌, ℕ, zero, suc, ◌+◌, ◌-◌, ◌<◌, List, [], ◌∷◌, map, drop, reverse, replicate, length, get_or, Option, Some, Contains, length-drop, sym, ap, ◌∙◌, subst, arith}
 use Rattle.std.specs.List.{slice_get, IsDistinct}
 use Rattle.std.specs.Bool.{nat_eq}
 use Rattle.std.specs.Option.{option_map}
@@ -7,18 +7,17 @@ use Rattle.std.specs.declared.alloc.Global.{Global}
 use Rattle.std.specs.declared.vec.Vec.{Vec}
 use Rattle.std.proofs.lemmas.Map.Keys.{IsDistinct-tail}
 use Rattle.std.proofs.lemmas.List.{drop-map, get_or-reverse, length-replicate, get_or-replicate}
-use Rattle.std.proofs.lemmas.List.Elements.{All-contains}
 use Rattle.std.proofs.lemmas.Option.{slice_get-map, slice_get_within, slice_get-get_or, get_or_from_slice_get}
 use Rattle.std.proofs.Math.ListN.{length-map, length-reverse}
 use Rattle.lvl_cells.specs.declared.walk.Visit.{Visit}
 use Rattle.lvl_cells.specs.declared.walk.Mark.{Mark}
 use Rattle.lvl_cells.specs.declared.walk.Mark.TheVariants.{New, Open, Done}
-use Rattle.lvl_cells.specs.Cells.{PlainCell, PlainReference, Rings, names}
+use Rattle.lvl_cells.specs.Cells.{PlainCell, Rings, names}
 use Rattle.lvl_cells.specs.Soundness.{links, AreLinked, IsOrder}
 use Rattle.lvl_cells.specs.Steps.{AreAllTargets}
 use Rattle.lvl_cells.specs.Walking.{IsArc, IsWalk, EachTargetWithin, LeadsBack}
 use Rattle.lvl_cells.specs.Rounding.{visited_name, IsFrom, IsRoundOf}
-use Rattle.lvl_cells.proofs.Indexes.{contains_at, at_contains}
+use Rattle.lvl_cells.proofs.Indexes.{contains_at}
 use Rattle.lvl_cells.proofs.Arcs.{once_numbered, row_of, reference_in_row, arc_from_link, link_from_arc}
 use Rattle.lvl_cells.proofs.Rounds.{name_there}
 use Rattle.lvl_cells.proofs.Walks.{none_open}

@@ -1,15 +1,14 @@
 -- A fault other than want of memory is of a library that is not sound with few placed.
-use Rattle.std.proofs.Common.{◌≡◌, ◌≢◌, ℕ, zero, suc, ◌+◌, ◌<◌, ◌≤◌, List, [], ◌∷◌, ◌++◌, map, length, get_or, ◌⊎◌, inl, inr, ⊎_elim, ◌↔◌, Option, Some, None, All, Contains, refl, sym, ap, ◌∙◌, subst, arith, rules}
+use Rattle.std.proofs.Common.{◌≡◌, ◌≢◌, ℕ, ◌<◌, ◌≤◌, List, [], ◌∷◌, ◌++◌, map, length, Option, Some, None, All, Contains, refl, sym, ap, ◌∙◌, subst, arith}
 use Rattle.std.specs.List.{slice_get, IsDistinct}
 use Rattle.std.specs.Str.{bytes_eq}
 use Rattle.std.proofs.lemmas.List.Elements.{All-head, All-tail, All-weaker, All-contains}
 use Rattle.std.proofs.lemmas.Option.{slice_get_within}
-use Rattle.std.proofs.Math.ListN.{length-map}
 use Rattle.lvl_grid.specs.Winding.{last_or, path_edges, edges}
 use Rattle.lvl_cells.specs.Cells.{PlainCell, Rings, each_ring, names}
 use Rattle.lvl_cells.specs.Chains.{chains, placed_rings, most_placed}
-use Rattle.lvl_cells.specs.Soundness.{links, AreLinked, IsRanked, IsReferred, IsTop, IsSound}
-use Rattle.lvl_cells.specs.Faults.{IsFaultOf, IsFirstRepeat, IsFirstMissing, IsCycle, HasTwoTops, IsSoundWith}
+use Rattle.lvl_cells.specs.Soundness.{links, AreLinked, IsRanked, IsTop}
+use Rattle.lvl_cells.specs.Faults.{IsFaultOf, IsFirstRepeat, IsFirstMissing, IsCycle, IsSoundWith}
 use Rattle.lvl_cells.specs.Checks.{PlacesFew}
 use Rattle.lvl_cells.specs.declared.fault.CellFault.{CellFault}
 use Rattle.lvl_cells.specs.declared.fault.CellFault.TheVariants.{NoCell, DuplicateCell, MissingCell, Cycle, TopMissing, ManyTops, TooManyPlacements, TooManyRings, OutOfMemory}

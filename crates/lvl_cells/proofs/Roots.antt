@@ -1,5 +1,5 @@
 -- Which cells none refers to.
-use Rattle.std.proofs.Common.{◌≡◌, ◌≢◌, ℕ, zero, suc, ◌+◌, ◌-◌, ◌<◌, ◌≤◌, Bool, true, false, List, [], ◌∷◌, ◌++◌, map, take, drop, length, get_or, set, ◌⊎◌, inl, inr, ⊎_elim, ◌↔◌, Option, Some, None, All, Contains, refl, sym, ap, ◌∙◌, subst, arith, rules}
+use Rattle.std.proofs.Common.{◌≡◌, ℕ, zero, suc, ◌+◌, ◌<◌, ◌≤◌, Bool, true, false, List, [], ◌∷◌, ◌++◌, map, take, drop, length, set, ◌⊎◌, inl, inr, ⊎_elim, ◌↔◌, Some, None, Contains, refl, sym, ap, ◌∙◌, subst, arith}
 use Rattle.std.specs.List.{slice_get}
 use Rattle.std.specs.Option.{option_map}
 use Rattle.std.specs.declared.alloc.Global.{Global}
@@ -7,7 +7,7 @@ use Rattle.std.specs.declared.vec.Vec.{Vec}
 use Rattle.std.proofs.lemmas.List.{append-nil}
 use Rattle.lvl_cells.proofs.NamedTargets.{take_past}
 use Rattle.std.proofs.lemmas.List.Elements.{All-contains}
-use Rattle.std.proofs.lemmas.Option.{slice_get-map, slice_get_within, slice_get-get_or}
+use Rattle.std.proofs.lemmas.Option.{slice_get-map, slice_get_within}
 use Rattle.lvl_cells.specs.Cells.{PlainCell, Rings, names}
 use Rattle.lvl_cells.specs.Soundness.{links, AreLinked, IsReferred, IsOrder, IsTop}
 use Rattle.lvl_cells.specs.Faults.{HasTwoTops}
@@ -15,7 +15,7 @@ use Rattle.lvl_cells.specs.Steps.{AreAllTargets}
 use Rattle.lvl_cells.specs.Walking.{IsArc}
 use Rattle.lvl_cells.specs.Topping.{IsTarget, HasOtherRoot}
 use Rattle.lvl_cells.proofs.Indexes.{contains_at, at_contains}
-use Rattle.lvl_cells.proofs.Arcs.{once_named, order_of_two, link_of, arc_from_link, link_from_arc}
+use Rattle.lvl_cells.proofs.Arcs.{order_of_two, link_of, arc_from_link, link_from_arc}
 use Rattle.lvl_cells.proofs.Orders.{rows_long, names_long}
 use Rattle.lvl_cells.proofs.Sequences.{item_there}
 use Rattle.lvl_cells.proofs.Walks.{set_there, set_elsewhere, same_or_not}

@@ -1,5 +1,5 @@
 -- Sums over chains, cell after cell, against the order of the cells.
-use Rattle.std.proofs.Common.{◌≡◌, ◌≢◌, ℕ, zero, suc, ◌+◌, ◌-◌, ◌*◌, ◌<◌, ◌≤◌, min, Bool, true, false, cond, List, [], ◌∷◌, ◌++◌, map, take, length, get_or, set, ◌⊎◌, inl, inr, ⊎_elim, Option, Some, None, IfSome, All, Contains, sum_by, refl, sym, ap, ◌∙◌, subst, arith, rules}
+use Rattle.std.proofs.Common.{◌≡◌, ◌≢◌, ℕ, zero, suc, ◌+◌, ◌*◌, ◌<◌, ◌≤◌, min, true, false, cond, List, [], ◌∷◌, map, take, length, get_or, set, ⊎_elim, Option, Some, None, IfSome, All, sum_by, refl, sym, ap, ◌∙◌, subst, arith}
 use Rattle.std.specs.List.{slice_get, IsDistinct}
 use Rattle.std.specs.Str.{bytes_eq}
 use Rattle.std.specs.Bool.{nat_eq}
@@ -16,7 +16,7 @@ use Rattle.std.proofs.lemmas.List.Elements.{All-contains}
 use Rattle.std.proofs.lemmas.Option.{slice_get-map, slice_get_within, slice_get-get_or, get_or_from_slice_get}
 use Rattle.lvl_cells.specs.Cells.{PlainCell, PlainReference, Rings, names, cell_named}
 use Rattle.lvl_cells.specs.Chains.{over_chains, most_placed}
-use Rattle.lvl_cells.specs.Soundness.{links, AreLinked, IsOrder}
+use Rattle.lvl_cells.specs.Soundness.{AreLinked, IsOrder}
 use Rattle.lvl_cells.specs.Steps.{AreAllTargets, placed_sum}
 use Rattle.lvl_cells.proofs.Indexes.{contains_at}
 use Rattle.lvl_cells.proofs.Arcs.{once_named, not_true, is_link, row_of, reference_in_row}
@@ -65,7 +65,7 @@ named_at (c ∷ cs) (suc t) d u h =
 capped_swap : (most u v x p : ℕ) → min most u ≡ min most v → min most (x + (u + p)) ≡ min most (x + v + p)
 capped_swap most u v x p h = omega (arith, h)
 
-cell_at : (cells : List (PlainCell Rings)) (t : ℕ) (name : List ℕ) → slice_get (names cells) t ≡ Some name → (d : PlainCell Rings) × (slice_get cells t ≡ Some d) × (d.name ≡ name)
+pub cell_at : (cells : List (PlainCell Rings)) (t : ℕ) (name : List ℕ) → slice_get (names cells) t ≡ Some name → (d : PlainCell Rings) × (slice_get cells t ≡ Some d) × (d.name ≡ name)
 cell_at cells t name h =
     let name_of : PlainCell Rings → List ℕ = λ q. q.name in
     let read : option_map name_of (slice_get cells t) ≡ Some name = sym (slice_get-map name_of cells t) ∙ h in

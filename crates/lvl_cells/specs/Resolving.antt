@@ -1,5 +1,5 @@
 -- An index of names, and the targets of references.
-use Rattle.std.specs.Prelude.{◌≡◌, ℕ, List, [], ◌∷◌, ◌++◌, map, ◌↔◌, All, Contains, slice_get, Option, Some, None}
+use Rattle.std.specs.Prelude.{◌≡◌, ℕ, List, ◌∷◌, ◌++◌, map, ◌↔◌, All, Contains, slice_get, Option, Some}
 use Rattle.std.specs.BTreeMap.{BTreeMap, get_by}
 use Rattle.std.specs.Cmp.Lexicographic.{slice_cmp}
 use Rattle.std.specs.Ordering.{nat_cmp}
@@ -7,7 +7,7 @@ use denote.Ref.{Bor}
 use Rattle.lvl_cells.specs.Cells.{PlainCell, PlainReference, Rings}
 use Rattle.lvl_cells.specs.Faults.{IsFirstRepeat}
 use Rattle.lvl_cells.specs.declared.fault.CellFault.{CellFault}
-use Rattle.lvl_cells.specs.declared.fault.CellFault.TheVariants.{NoCell, DuplicateCell, MissingCell, Cycle, TopMissing, ManyTops, TooManyPlacements, TooManyRings, OutOfMemory}
+use Rattle.lvl_cells.specs.declared.fault.CellFault.TheVariants.{DuplicateCell, MissingCell, OutOfMemory}
 
 -- g finds a name's place exactly where the name stands there
 abbrev pub Finds : (List ℕ → Option ℕ) → List (List ℕ) → Type 0

@@ -1,5 +1,5 @@
 -- What the steps of the check say.
-use Rattle.std.specs.Prelude.{◌≡◌, ◌≢◌, ℕ, ◌+◌, ◌*◌, List, [], ◌∷◌, length, slice_index, map, Option, Some, None, Contains, slice_get}
+use Rattle.std.specs.Prelude.{◌≡◌, ℕ, ◌+◌, ◌*◌, List, [], ◌∷◌, length, slice_index, map, Option, Some, None, Contains, slice_get}
 use Rattle.std.specs.declared.alloc.Global.{Global}
 use Rattle.std.specs.declared.vec.Vec.{Vec}
 use Rattle.lvl_cells.specs.Cells.{PlainCell, PlainReference, Rings, each_ring, names}
@@ -8,7 +8,7 @@ use Rattle.lvl_cells.specs.Faults.{IsFirstMissing, IsCycle, HasTwoTops}
 use Rattle.lvl_cells.specs.declared.counts.Weight.{Weight}
 use Rattle.lvl_cells.specs.declared.counts.Weight.TheVariants.{One, OwnRings}
 use Rattle.lvl_cells.specs.declared.fault.CellFault.{CellFault}
-use Rattle.lvl_cells.specs.declared.fault.CellFault.TheVariants.{NoCell, DuplicateCell, MissingCell, Cycle, TopMissing, ManyTops, TooManyPlacements, TooManyRings, OutOfMemory}
+use Rattle.lvl_cells.specs.declared.fault.CellFault.TheVariants.{MissingCell, Cycle, TopMissing, ManyTops, OutOfMemory}
 
 -- each cell's targets are the places of the names that its references give
 abbrev pub AreAllTargets : List (PlainCell Rings) → List (Vec ℕ Global) → Type 0

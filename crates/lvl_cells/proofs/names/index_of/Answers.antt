@@ -1,4 +1,4 @@
-use Rattle.std.proofs.Common.{◌≡◌, ℕ, List, sym, ap, ◌∙◌, subst}
+use Rattle.std.proofs.Common.{◌≡◌, sym, ap, ◌∙◌, subst}
 use Rattle.lvl_cells.specs.Cells.{PlainCell, names, Rings}
 use Rattle.lvl_cells.specs.Faults.{IsFirstRepeat}
 use Rattle.lvl_cells.specs.Resolving.{place_in_index}

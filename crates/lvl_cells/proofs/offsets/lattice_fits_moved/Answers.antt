@@ -1,6 +1,4 @@
-use Rattle.std.proofs.Common.{◌≤◌, ◌-◌, ◌↔◌, All, sym, subst, refl, arith, rules}
-use Rattle.std.specs.Int.{w64}
-use mir.Val.{SFits}
+use Rattle.std.proofs.Common.{◌-◌, sym, subst, refl, arith, rules}
 use Rattle.lvl_grid.specs.declared.point.Point.{Point}
 use Rattle.lvl_grid.specs.Turn.{shifted, FitsPoint}
 use Rattle.lvl_cells.specs.Shifts.{steps}

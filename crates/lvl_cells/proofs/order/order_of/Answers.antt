@@ -1,4 +1,4 @@
-use Rattle.std.proofs.Common.{◌≡◌, ℕ, ◌<◌, List, [], Some, length, replicate, refl, sym, ap, ◌∙◌, subst, arith}
+use Rattle.std.proofs.Common.{◌≡◌, ◌<◌, List, [], Some, length, replicate, refl, sym, ap, ◌∙◌, subst, arith}
 use Rattle.std.specs.List.{slice_get}
 use Rattle.lvl_cells.specs.declared.walk.Visit.{Visit}
 use Rattle.lvl_cells.specs.declared.walk.Mark.{Mark}
@@ -6,7 +6,7 @@ use Rattle.lvl_cells.specs.declared.walk.Mark.TheVariants.{New}
 use Rattle.lvl_cells.specs.Soundness.{IsOrder}
 use Rattle.lvl_cells.specs.Walking.{IsWalk}
 use Rattle.std.proofs.lemmas.Option.{slice_get_read}
-use Rattle.lvl_cells.proofs.Orders.{targets_within, rows_long, walk_none, all_new, round_by, order_by}
+use Rattle.lvl_cells.proofs.Orders.{targets_within, walk_none, all_new, round_by, order_by}
 use Rattle.lvl_cells.proofs.order.order_of.Goals as goal
 
 pub loop-root-init : goal.loop-root-init

@@ -1,8 +1,4 @@
-use Rattle.std.proofs.Common.{◌<◌, ◌≡◌, length, map, get_or, Some, sym, ◌∙◌, arith}
-use Rattle.std.proofs.Math.ListN.{get_or-map, length-map}
-use Rattle.lvl_cells.specs.declared.walk.Visit.{Visit}
-use Rattle.lvl_cells.proofs.Sequences.{item_there}
-use Rattle.std.proofs.lemmas.Option.{get_or_from_slice_get}
+use Rattle.std.proofs.Common.{arith}
 use Rattle.lvl_cells.proofs.Rounds.{visit_there}
 use Rattle.lvl_cells.proofs.round.round_from.Goals as goal
 

@@ -1,4 +1,4 @@
-use Rattle.std.proofs.Common.{◌≡◌, ◌≤◌, ◌+◌, ℕ, List, [], None, Some, map, take, length, refl, sym, ap, ◌∙◌, subst}
+use Rattle.std.proofs.Common.{◌≡◌, ◌+◌, ℕ, List, [], None, Some, map, take, refl, sym, ap, ◌∙◌, subst}
 use Rattle.std.specs.List.{slice_get}
 use Rattle.lvl_cells.specs.Cells.{PlainCell, PlainReference, names, Rings}
 use Rattle.lvl_cells.specs.Resolving.{place_in_index, AreTargets, IsFirstUnknown}

@@ -1,4 +1,4 @@
-use Rattle.std.proofs.Common.{◌≡◌, ◌<◌, ◌↔◌, ℕ, Bool, true, List, Some, length, sym, ap, ◌∙◌, subst}
+use Rattle.std.proofs.Common.{◌≡◌, ◌↔◌, ℕ, Bool, true, List, Some, length, sym, ◌∙◌, subst}
 use Rattle.std.specs.List.{slice_get}
 use Rattle.lvl_cells.specs.Topping.{IsTarget}
 use Rattle.lvl_cells.proofs.Roots.{no_other}

@@ -1,7 +1,6 @@
-use Rattle.std.proofs.Common.{◌≡◌, ◌<◌, ◌≤◌, ◌+◌, ◌⊎◌, ◌↔◌, ℕ, Bool, true, List, [], ◌++◌, Some, length, take, drop, Contains, refl, sym, ap, ◌∙◌, subst, arith}
+use Rattle.std.proofs.Common.{◌≡◌, ◌+◌, ◌⊎◌, ◌↔◌, ℕ, Bool, true, List, Some, length, Contains, refl, sym, ap, ◌∙◌, subst, arith}
 use Rattle.std.specs.List.{slice_get}
 use Rattle.std.proofs.lemmas.Option.{slice_get_read, slice_get_within}
-use Rattle.lvl_cells.specs.Topping.{IsTarget}
 use Rattle.lvl_cells.proofs.Roots.{AreMarkedBefore, referred_more, written_whole}
 use Rattle.lvl_cells.proofs.top.referred_cells.Goals as goal
 

@@ -1,11 +1,10 @@
-use Rattle.std.proofs.Common.{◌≡◌, ◌<◌, ℕ, List, Option, Some, None, true, false, length, get_or, Contains, refl, sym, ap, ◌∙◌, subst, arith}
+use Rattle.std.proofs.Common.{◌≡◌, ℕ, List, Option, Some, None, true, get_or, sym, ap, ◌∙◌, subst, arith}
 use Rattle.std.specs.List.{slice_get}
 use Rattle.std.specs.Option.{option_copied}
 use Rattle.std.proofs.lemmas.Bool.{false≢true}
 use Rattle.std.proofs.lemmas.Option.{slice_get_within, slice_get-get_or}
 use Rattle.lvl_cells.specs.Cells.{names}
 use Rattle.lvl_cells.specs.Soundness.{IsTop}
-use Rattle.lvl_cells.specs.Steps.{IsTopFault}
 use Rattle.lvl_cells.specs.Resolving.{place_in_index}
 use Rattle.lvl_cells.specs.Topping.{HasOtherRoot}
 use Rattle.lvl_cells.proofs.Indexes.{at_contains}

@@ -1,8 +1,8 @@
-use Rattle.std.proofs.Common.{◌≡◌, ◌<◌, ◌+◌, ◌-◌, ◌∷◌, [], ◌++◌, List, Some, length, map, set, Contains, refl, sym, ap, ◌∙◌, subst, arith}
+use Rattle.std.proofs.Common.{◌≡◌, ◌<◌, ◌+◌, ◌∷◌, [], ◌++◌, List, Some, map, set, Contains, refl, sym, ap, ◌∙◌, subst, arith}
 use Rattle.std.specs.List.{slice_get}
 use Rattle.lvl_cells.specs.declared.walk.Visit.{Visit}
 use Rattle.lvl_cells.specs.declared.walk.Mark.TheVariants.{New, Open, Done}
-use Rattle.lvl_cells.specs.Walking.{IsWalk, LeadsBack, GoesOn, work_left}
+use Rattle.lvl_cells.specs.Walking.{IsWalk, LeadsBack, work_left}
 use Rattle.lvl_cells.proofs.Walks.{walk_into, walk_past, walk_out, last_open}
 use Rattle.lvl_cells.proofs.Nearing.{nearer_into, nearer_past, nearer_out, goes_on, last_at}
 use Rattle.std.proofs.lemmas.Option.{slice_get_within}

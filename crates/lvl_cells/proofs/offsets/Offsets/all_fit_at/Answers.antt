@@ -1,4 +1,4 @@
-use Rattle.std.proofs.Common.{◌↔◌, List, IsTrue, All, sym, subst}
+use Rattle.std.proofs.Common.{◌↔◌, List, IsTrue, All, subst}
 use Rattle.lvl_grid.specs.declared.point.Point.{Point}
 use Rattle.lvl_grid.specs.Turn.{shifted, FitsPoint}
 use Rattle.lvl_cells.proofs.Lattices.{seen_lattice}

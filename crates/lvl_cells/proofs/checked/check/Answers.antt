@@ -1,0 +1,15 @@
+use Rattle.std.proofs.Common.{◌≡◌, List, sym, ◌∙◌, subst}
+use Rattle.std.specs.Option.{option_copied}
+use Rattle.std.proofs.lemmas.Result.{err_from_is_err_and}
+use Rattle.lvl_cells.specs.Cells.{PlainCell, Rings}
+use Rattle.lvl_cells.specs.Checks.{PlacesFew}
+use Rattle.lvl_cells.specs.Faults.{IsSoundWith}
+use Rattle.lvl_cells.proofs.Refusing.{refused}
+use Rattle.lvl_cells.proofs.checked.check.Goals as goal
+
+pub returns-in_err-place-clause-refused : goal.returns-in_err-place-clause-refused
+returns-in_err-place-clause-refused c =
+    let given = option_copied c.args.top in
+    let p = err_from_is_err_and c.from_residual.result c.from_residual.ensures.1 in
+    let same : c.deref.result.now ≡ c.args.library = c.deref.ensures.value ∙ c.library.view_is in
+    rw (p.1, p.2) (λ n w. refused c.deref.result.now given _ c.in_err-place.ensures.err n (subst (λ (l : List (PlainCell Rings)). IsSoundWith l given (PlacesFew l)) (sym same) w))
