@@ -1,3 +1,4 @@
 pub mod Sheet
 pub mod Sheets
+pub mod Drawn
 pub mod Flattened

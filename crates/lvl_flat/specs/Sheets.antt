@@ -1,7 +1,7 @@
 -- Lists of sheets: which rings are on a Layer, and the order of the Layers.
-use Rattle.std.specs.Prelude.{◌≡◌, ◌≢◌, ◌<◌, ◌==◌, ◌&&◌, ◌⊎◌, ℕ, List, [], ◌∷◌, All, AllPairs, Bool, if◌then◌else◌}
+use Rattle.std.specs.Prelude.{◌≡◌, ◌≢◌, ◌<◌, ◌==◌, ◌&&◌, ◌⊎◌, ℕ, List, [], ◌∷◌, All, AllPairs, Bool, slice_get, Some, map, Contains, if◌then◌else◌}
 use Rattle.lvl_cells.specs.declared.layer.Layer.{Layer}
-use Rattle.lvl_cells.specs.Cells.{Rings}
+use Rattle.lvl_cells.specs.Cells.{PlainShape, Rings}
 use Rattle.lvl_flat.specs.Sheet.{PlainSheet}
 
 -- the Layers are one
@@ -17,6 +17,21 @@ rings_on layer (sheet ∷ sheets) = if same_layer sheet.layer layer then sheet.r
 abbrev pub ComesBefore : Layer → Layer → Type 0
 ComesBefore a b = (a.layer < b.layer) ⊎ ((a.layer ≡ b.layer) × (a.datatype < b.datatype))
 
+-- each sheet comes before those behind it
+abbrev pub AreSorted : List PlainSheet → Type 0
+AreSorted sheets = AllPairs (λ s t. ComesBefore s.layer t.layer) sheets
+
 -- each sheet has rings, and comes before those behind it
-abbrev pub IsInOrder : List PlainSheet → Type 0
-IsInOrder sheets = All (λ s. s.rings ≢ []) sheets × AllPairs (λ s t. ComesBefore s.layer t.layer) sheets
+pub record IsInOrder (sheets : List PlainSheet) : Type 0 where
+  pub filled : All (λ s. s.rings ≢ []) sheets
+  pub sorted : AreSorted sheets
+
+-- the sheet at the place is the Layer's
+pub record SheetAt (sheets : List PlainSheet) (i : ℕ) (layer : Layer) : Type 0 where
+  pub sheet : PlainSheet
+  pub there : slice_get sheets i ≡ Some sheet
+  pub layer_is : sheet.layer ≡ layer
+
+-- each shape's Layer has a sheet
+abbrev pub HaveSheets : List PlainSheet → List (PlainShape Rings) → Type 0
+HaveSheets sheets shapes = All (λ h. Contains (map (λ s. s.layer) sheets) h.layer) shapes

@@ -1,7 +1,6 @@
 //! The rings of each Layer, in the order of the Layers.
-ghost use Rattle.std.specs.Prelude.{◌≡◌, ◌↔◌, map, slice_get, All};
-ghost use Rattle.lvl_cells.specs.declared.layer.Layer.{Layer as PlainLayer};
-ghost use Rattle.lvl_flat.specs.Sheets.{rings_on, IsInOrder};
+ghost use Rattle.std.specs.Prelude.{◌≡◌, ◌≢◌, ◌↔◌, map, slice_get, All, IsTrue, IfSome, IfNone};
+ghost use Rattle.lvl_flat.specs.Sheets.{rings_on, IsInOrder, ComesBefore, AreSorted, SheetAt};
 
 use lvl_cells::Layer;
 use lvl_grid::Ring;
@@ -53,9 +52,44 @@ impl Flat {
     pub fn rings(&self, layer: Layer) -> &[Ring]
         ensures { result.now ≡ rings_on layer self.now }
     {
-        match self.sheets.binary_search_by_key(&layer, |sheet| sheet.layer) {
-            Ok(place) => &self.sheets[place].rings,
-            Err(_) => &[],
+        match place_of(&self.sheets, layer) {
+            Some(place) => {
+                let sheet = &self.sheets[place];
+                &sheet.rings
+            }
+            None => &[],
         }
     }
+}
+
+/// Whether the first Layer comes before the second.
+fn comes_before(first: Layer, second: Layer) -> bool
+    ensures { IsTrue result ↔ ComesBefore first second }
+{
+    first.layer < second.layer
+        || (first.layer == second.layer && first.datatype < second.datatype)
+}
+
+/// The place of the Layer's sheet.
+pub(crate) fn place_of(sheets: &[Sheet], layer: Layer) -> Option<usize>
+    requires { AreSorted sheets.now }
+    ensures found { IfSome result (λ i. SheetAt sheets.now i layer) }
+    ensures absent { IfNone result (All (λ s. s.layer ≢ layer) sheets.now) }
+{
+    let mut low = 0;
+    let mut high = sheets.len();
+    while low < high {
+        let middle = low + (high - low) / 2;
+        let sheet = &sheets[middle];
+        if comes_before(sheet.layer, layer) {
+            low = middle + 1;
+        } else {
+            high = middle;
+        }
+    }
+    let sheet = sheets.get(low)?;
+    if sheet.layer != layer {
+        return None;
+    }
+    Some(low)
 }
