@@ -29,33 +29,18 @@ fn form_of(kind: u8) -> Option<Form>
     ensures { result ≡ form_among table kind }
 {
     let (data_type, lengths) = match kind {
-        HEADER => (SHORTS, Lengths::Exactly(2)),
-        BGNLIB => (SHORTS, Lengths::Exactly(24)),
-        LIBNAME => (ASCII, Lengths::Even),
-        UNITS => (REALS, Lengths::Exactly(16)),
-        ENDLIB => (NO_DATA, Lengths::Exactly(0)),
-        BGNSTR => (SHORTS, Lengths::Exactly(24)),
-        STRNAME => (ASCII, Lengths::Even),
-        ENDSTR => (NO_DATA, Lengths::Exactly(0)),
-        BOUNDARY => (NO_DATA, Lengths::Exactly(0)),
-        PATH => (NO_DATA, Lengths::Exactly(0)),
-        SREF => (NO_DATA, Lengths::Exactly(0)),
-        AREF => (NO_DATA, Lengths::Exactly(0)),
-        TEXT => (NO_DATA, Lengths::Exactly(0)),
-        LAYER => (SHORTS, Lengths::Exactly(2)),
-        DATATYPE => (SHORTS, Lengths::Exactly(2)),
+        ENDLIB | ENDSTR | BOUNDARY | PATH | SREF | AREF | TEXT | ENDEL => {
+            (NO_DATA, Lengths::Exactly(0))
+        }
+        PRESENTATION | STRANS => (BIT_ARRAY, Lengths::Exactly(2)),
+        HEADER | LAYER | DATATYPE | TEXTTYPE | PATHTYPE => (SHORTS, Lengths::Exactly(2)),
+        COLROW => (SHORTS, Lengths::Exactly(4)),
+        BGNLIB | BGNSTR => (SHORTS, Lengths::Exactly(24)),
         WIDTH => (LONGS, Lengths::Exactly(4)),
         XY => (LONGS, Lengths::Points),
-        ENDEL => (NO_DATA, Lengths::Exactly(0)),
-        SNAME => (ASCII, Lengths::Even),
-        COLROW => (SHORTS, Lengths::Exactly(4)),
-        TEXTTYPE => (SHORTS, Lengths::Exactly(2)),
-        PRESENTATION => (BIT_ARRAY, Lengths::Exactly(2)),
-        STRING => (ASCII, Lengths::Even),
-        STRANS => (BIT_ARRAY, Lengths::Exactly(2)),
-        MAG => (REALS, Lengths::Exactly(8)),
-        ANGLE => (REALS, Lengths::Exactly(8)),
-        PATHTYPE => (SHORTS, Lengths::Exactly(2)),
+        MAG | ANGLE => (REALS, Lengths::Exactly(8)),
+        UNITS => (REALS, Lengths::Exactly(16)),
+        LIBNAME | STRNAME | SNAME | STRING => (ASCII, Lengths::Even),
         _ => return None,
     };
     Some(Form { data_type, lengths })
