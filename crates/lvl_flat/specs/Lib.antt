@@ -2,3 +2,4 @@ pub mod Sheet
 pub mod Sheets
 pub mod Drawn
 pub mod Flattened
+pub mod Visits

@@ -12,4 +12,5 @@ pub use walk::flatten;
 mod draw;
 mod fault;
 mod flat;
+mod visit;
 mod walk;
