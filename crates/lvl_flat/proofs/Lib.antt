@@ -2,3 +2,5 @@ pub mod Orders
 pub mod Drawing
 pub mod Picks
 pub mod Ranging
+pub mod Covering
+pub mod Stepping

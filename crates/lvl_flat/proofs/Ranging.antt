@@ -94,6 +94,10 @@ zero_plus a = omega (arith, ints)
 image_of_origin : (m : Map) → image m origin ≡ m.at
 image_of_origin m = ap (shifted m.at) (origin_stays m.turn m.flip) ∙ same_point _ _ (zero_plus m.at.x) (zero_plus m.at.y)
 
+-- where the origin comes to lie under two maps
+pub composed_at : (m n w : Map) → IsComposed m n w → w.at ≡ image m n.at
+composed_at m n w whole = sym (image_of_origin w) ∙ (whole origin ∙ ap (image m) (image_of_origin n))
+
 -- ranges are told by the images alone
 in_range_alike : (m v : Map) (d : PlainCell Rings) → ((p : Point) → image m p ≡ image v p) → IsInRange each_ring m d → IsInRange each_ring v d
 in_range_alike m v d same h = record {

@@ -3,3 +3,5 @@ pub mod Sheets
 pub mod Drawn
 pub mod Flattened
 pub mod Visits
+pub mod Walking
+pub mod Steps

@@ -7,7 +7,7 @@
 
 pub use fault::FlatFault;
 pub use flat::Flat;
-pub use walk::flatten;
+
 
 mod draw;
 mod fault;

@@ -1,21 +1,71 @@
-//! The walk over the chains of references from the top.
-ghost use Rattle.std.specs.Prelude.{IfOk, IfErr};
-ghost use Rattle.lvl_flat.specs.Flattened.{IsFlattened, IsFlatFault};
+//! The walk over the chains of references from the top, one step at a time.
+ghost use Rattle.std.specs.Prelude.{◌≡◌, ◌<◌, length, None, IfSome, IfNone, slice_get};
+ghost use Rattle.lvl_flat.specs.Steps.{IsPlacing, IsStep};
 
-use crate::fault::FlatFault;
-use crate::flat::Flat;
-use lvl_cells::Checked;
-use std::alloc::Global;
+use crate::visit::Visit;
+use lvl_cells::{Checked, Reference};
+use lvl_grid::{Map, Point};
 
-/// All rings that the top places, Layer by Layer.
-///
-/// On each Layer the rings together cover exactly the squares that the top covers there through
-/// all references, and are as many as it places there. Only the shifts of whole chains and the
-/// placed vertices are tested for 64 signed bits: a coordinate on the way that is outside and
-/// comes back is not refused (own rule).
-pub fn flatten(alloc: Global, checked: &Checked) -> Result<Flat, FlatFault>
-    ensures ok { IfOk result (IsFlattened checked.now) }
-    ensures err { IfErr result (IsFlatFault checked.now) }
+/// What a visit goes on to.
+pub(crate) enum Step {
+    /// It has nothing left to do.
+    Done,
+    /// It is past the places of a reference, and goes on with the one behind.
+    Past(Visit),
+    /// The cell at the place is placed by the map, and the visit has the rest still to do.
+    Into(usize, Map, Visit),
+    /// The cell at the place would be placed outside 64 bits.
+    Out(usize),
+}
+
+/// The map of a reference at the place of one of its shifts, where it has that one.
+fn placing_at(reference: &Reference, place: u64) -> Option<Map>
+    ensures some { IfSome result (λ m. IsPlacing reference.now place m) }
+    ensures none { IfNone result (slice_get reference.now.shifts place ≡ None) }
 {
-    Err(FlatFault::OutOfMemory)
+    let shift = reference.shifts().at(place)?;
+    let at = reference.at();
+    Some(Map {
+        flip: reference.flip(),
+        turn: reference.turn(),
+        at: Point {
+            x: at.x + shift.x,
+            y: at.y + shift.y,
+        },
+    })
+}
+
+/// The step of a visit.
+pub(crate) fn next_step(checked: &Checked, visit: &Visit) -> Step
+    requires { visit.now.cell < length checked.now.cells }
+    ensures { IsStep checked.now.cells visit.now result }
+{
+    let cell = &checked.cells()[visit.cell];
+    let Some(reference) = cell.references.get(visit.reference) else {
+        return Step::Done;
+    };
+    if visit.place >= reference.shifts().len() {
+        return Step::Past(Visit {
+            reference: visit.reference + 1,
+            place: 0,
+            ..*visit
+        });
+    }
+    let Some(inner) = placing_at(reference, visit.place) else {
+        unreachable!()
+    };
+    let Some(target) = checked.target(visit.cell, visit.reference) else {
+        unreachable!()
+    };
+    match visit.map.then(&inner) {
+        None => Step::Out(target),
+        Some(map) => Step::Into(
+            target,
+            map,
+            Visit {
+                place: visit.place + 1,
+                ..*visit
+            },
+        ),
+    }
 }

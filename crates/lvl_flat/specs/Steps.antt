@@ -1,0 +1,53 @@
+-- The steps of the walk.
+use Rattle.std.specs.Prelude.{◌≡◌, ◌<◌, ◌+◌, ℕ, List, ◌∷◌, [], Contains, slice_get, Some}
+use Rattle.lvl_grid.specs.declared.point.Point.{Point}
+use Rattle.lvl_grid.specs.declared.map.Map.{Map}
+use Rattle.lvl_grid.specs.Turn.{image, FitsPoint}
+use Rattle.lvl_cells.specs.Cells.{PlainCell, PlainReference, Rings, placing, cell_named}
+use Rattle.lvl_cells.specs.Chains.{IsComposed}
+use Rattle.lvl_flat.specs.declared.visit.Visit.{Visit}
+use Rattle.lvl_flat.specs.declared.walk.Step.{Step}
+use Rattle.lvl_flat.specs.declared.walk.Step.TheVariants.{Done, Past, Into, Out}
+use Rattle.lvl_flat.specs.Visits.{Pick, pending}
+use Rattle.lvl_flat.specs.Walking.{references_left}
+
+-- the map places the reference at that one of its shifts
+pub record IsPlacing (r : PlainReference) (place : ℕ) (m : Map) : Type 0 where
+  pub shift : Point
+  pub there : slice_get r.shifts place ≡ Some shift
+  pub map_is : m ≡ placing r shift
+
+-- the visit goes on with the reference behind, and has the same still to do
+pub record IsPast (cells : List (PlainCell Rings)) (v rest : Visit) : Type 0 where
+  pub pending_is : pending cells v ≡ pending cells rest
+  pub map_is : rest.map ≡ v.map
+  pub cell_is : rest.cell ≡ v.cell
+  pub fewer : references_left cells rest < references_left cells v
+
+-- the visit's next pick is of the cell at the place i, and the rest is what is behind it
+pub record IsInto (cells : List (PlainCell Rings)) (v : Visit) (i : ℕ) (m : Map) (rest : Visit) : Type 0 where
+  pub pick : Pick
+  pub next : PlainCell Rings
+  pub pending_is : pending cells v ≡ pick ∷ pending cells rest
+  pub named : cell_named cells pick.0.cell ≡ Some next
+  pub there : slice_get cells i ≡ Some next
+  pub placed : IsComposed v.map (placing pick.0 pick.1) m
+  pub in_range : FitsPoint m.at
+  pub map_is : rest.map ≡ v.map
+  pub cell_is : rest.cell ≡ v.cell
+  pub reference_is : rest.reference ≡ v.reference
+
+-- the visit's next pick would be placed out of range
+pub record IsOut (cells : List (PlainCell Rings)) (v : Visit) (i : ℕ) : Type 0 where
+  pub pick : Pick
+  pub next : PlainCell Rings
+  pub has : Contains (pending cells v) pick
+  pub named : cell_named cells pick.0.cell ≡ Some next
+  pub there : slice_get cells i ≡ Some next
+  pub out : ¬ FitsPoint (image v.map (placing pick.0 pick.1).at)
+
+abbrev pub IsStep : List (PlainCell Rings) → Visit → Step → Type 0
+IsStep cells v Done = pending cells v ≡ []
+IsStep cells v (Past rest) = IsPast cells v rest
+IsStep cells v (Into i m rest) = IsInto cells v i m rest
+IsStep cells v (Out i) = IsOut cells v i

@@ -1,0 +1,41 @@
+-- The state of the walk: what is drawn, and the visits that are still to be gone on with.
+use Rattle.std.specs.Prelude.{◌≡◌, ◌+◌, ◌-◌, ◌↔◌, ◌⊎◌, ℕ, List, [], length, sum_by, slice_get, Some, Any, All, Contains}
+use Rattle.std.specs.Option.{option_map_or}
+use Rattle.lvl_grid.specs.declared.point.Square.{Square}
+use Rattle.lvl_cells.specs.declared.layer.Layer.{Layer}
+use Rattle.lvl_cells.specs.Cells.{PlainCell, Rings, each_ring}
+use Rattle.lvl_cells.specs.Chains.{own_rings_on, placed_rings_on}
+use Rattle.lvl_cells.specs.Coverage.{RingsCover, CellCovers}
+use Rattle.lvl_cells.specs.Checks.{Settled}
+use Rattle.lvl_flat.specs.declared.visit.Visit.{Visit}
+use Rattle.lvl_flat.specs.Flattened.{AllInRange}
+use Rattle.lvl_flat.specs.Sheet.{PlainSheet}
+use Rattle.lvl_flat.specs.Sheets.{AreSorted, HaveSheets, rings_on}
+use Rattle.lvl_flat.specs.Visits.{pending, visit_weight, VisitCovers, PicksFit, IsVisit}
+
+-- every cell's Layers have sheets
+abbrev pub AllHaveSheets : List PlainSheet → List (PlainCell Rings) → Type 0
+AllHaveSheets sheets cells = (k : ℕ) (c : PlainCell Rings) → slice_get cells k ≡ Some c → HaveSheets sheets c.shapes
+
+-- what the top covers is drawn or is covered by a visit, and what it counts alike; once all visits fit, all does
+pub record IsWalking (s : Settled) (sheets : List PlainSheet) (stack : List Visit) : Type 0 where
+  pub top : PlainCell Rings
+  pub is_top : slice_get s.cells s.top ≡ Some top
+  pub sorted : AreSorted sheets
+  pub layers : AllHaveSheets sheets s.cells
+  pub covers : (layer : Layer) (q : Square) → CellCovers RingsCover s.cells layer top q ↔ (RingsCover (rings_on layer sheets) q ⊎ Any (VisitCovers s.cells layer q) stack)
+  pub counts : (layer : Layer) → length (rings_on layer sheets) + sum_by (visit_weight (own_rings_on each_ring layer) s.cells) stack ≡ placed_rings_on each_ring layer s.cells top
+  pub fits : ((v : Visit) → Contains stack v → PicksFit s.cells v.map (pending s.cells v)) → AllInRange s.cells top
+  pub visits : (v : Visit) → Contains stack v → IsVisit s.cells top v
+
+-- the references of its cell that the visit has not begun
+abbrev pub references_left : List (PlainCell Rings) → Visit → ℕ
+references_left cells v = option_map_or (λ c. length c.references - v.reference) (slice_get cells v.cell) 0
+
+-- two for each chain that is to come, and one for each reference
+abbrev pub toil : PlainCell Rings → ℕ
+toil c = 2 + length c.references
+
+-- how many steps the walk has at most
+abbrev pub work : List (PlainCell Rings) → List Visit → ℕ
+work cells stack = sum_by (visit_weight toil cells) stack + sum_by (λ v. 1 + references_left cells v) stack
