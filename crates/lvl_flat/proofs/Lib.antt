@@ -4,3 +4,4 @@ pub mod Picks
 pub mod Ranging
 pub mod Covering
 pub mod Stepping
+pub mod Walking

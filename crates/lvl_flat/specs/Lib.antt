@@ -5,3 +5,4 @@ pub mod Flattened
 pub mod Visits
 pub mod Walking
 pub mod Steps
+pub mod Entering

@@ -1,0 +1,96 @@
+-- What a step of the walk keeps.
+use Rattle.std.proofs.Common.{◌≡◌, ◌<◌, ◌≤◌, ◌++◌, ◌+◌, ◌-◌, ◌*◌, ℕ, zero, suc, Bool, true, false, cond, List, [], ◌∷◌, length, map, sum_by, slice_get, Option, Some, Any, All, Contains, ◌⊎◌, ◌↔◌, inl, inr, refl, sym, ap, subst, ◌∙◌, arith, length-append}
+use Rattle.std.specs.List.{flat_map}
+use Rattle.std.specs.Option.{option_map_or}
+use Rattle.std.proofs.Math.Nat.{mul-suc, mul-zero}
+use Rattle.std.proofs.lemmas.List.{length-map}
+use Rattle.std.proofs.lemmas.List.Sums.{sum_by-cons, sum_by-append}
+use Rattle.std.proofs.lemmas.List.Elements.{Contains-append_left, Contains-push_cases}
+use Rattle.lvl_grid.specs.declared.point.Point.{Point}
+use Rattle.lvl_grid.specs.declared.point.Square.{Square}
+use Rattle.lvl_grid.specs.declared.map.Map.{Map}
+use Rattle.lvl_grid.specs.Turn.{FitsPoint}
+use Rattle.lvl_grid.specs.Winding.{Covers}
+use Rattle.lvl_cells.specs.declared.layer.Layer.{Layer}
+use Rattle.lvl_cells.specs.Cells.{PlainCell, PlainReference, PlainShape, Rings, each_ring, cell_named}
+use Rattle.lvl_cells.specs.Chains.{Chain, IsComposed, IsInRange, over_chains, own_rings_on, placed_rings_on}
+use Rattle.lvl_cells.specs.Checks.{Settled}
+use Rattle.lvl_cells.specs.Coverage.{RingsCover, ShapeCovers, CellCovers}
+use Rattle.lvl_cells.specs.Soundness.{AreLinked, IsOrder}
+use Rattle.lvl_cells.proofs.Summing.{count_step}
+use Rattle.lvl_flat.specs.declared.visit.Visit.{Visit}
+use Rattle.lvl_flat.specs.Drawn.{placed_figure, placed_shape, drawn_on, IsPlaced, AreFiguresPlaced}
+use Rattle.lvl_flat.specs.Sheet.{PlainSheet}
+use Rattle.lvl_flat.specs.Sheets.{AreSorted, HaveSheets, same_layer, rings_on}
+use Rattle.lvl_flat.specs.Visits.{Pick, picks, picks_from, pending, pick_weight, visit_weight, PickCovers, VisitCovers, FitsUnder, PicksFit, IsVisit}
+use Rattle.lvl_flat.specs.Walking.{AllHaveSheets, IsWalking, references_left, toil, work}
+use Rattle.lvl_flat.specs.Steps.{IsPast, IsInto}
+use Rattle.lvl_flat.specs.Entering.{begun, IsDrawn}
+use Rattle.lvl_flat.proofs.Picks.{contained, Any-none, Any-first, Any-later, Any-cases, Any-left, Any-right, Any-sides, picks_from_start, picks_sum}
+use Rattle.lvl_flat.proofs.Ranging.{chain_more, fits_alike, fits_under}
+use Rattle.lvl_flat.proofs.Covering.{Under, under_either, under_same, drawn_covers, cell_covers, pick_covers}
+use Rattle.lvl_flat.proofs.Drawing.{sorted_alike}
+use Rattle.lvl_flat.proofs.Stepping.{pending_at}
+
+-- so many rings are drawn as the cell has of its own
+figure_length : (m : Map) (rings : Rings) (shifts : List Point) → length (flat_map (placed_figure m rings) shifts) ≡ length rings * length shifts
+figure_length m rings [] = sym (mul-zero (length rings))
+figure_length m rings (e ∷ shifts) =
+    length-append (placed_figure m rings e) (flat_map (placed_figure m rings) shifts)
+    ∙ (ap (λ n. length (placed_figure m rings e) + n) (figure_length m rings shifts)
+      ∙ (ap (λ n. n + length rings * length shifts) (length-map rings (λ ring. map (λ p. Rattle.lvl_grid.specs.Placed.placed_point m e p) ring)) ∙ ?))
+
+drawn_length : (layer : Layer) (m : Map) (shapes : List (PlainShape Rings)) → length (drawn_on layer m shapes) ≡ sum_by (λ h. cond (same_layer h.layer layer) (length h.figure * length h.shifts) 0) shapes
+drawn_length layer m [] = refl
+drawn_length layer m (h ∷ shapes) =
+    let f : PlainShape Rings → ℕ = λ g. cond (same_layer g.layer layer) (length g.figure * length g.shifts) 0 in
+    let mine : length (cond (same_layer h.layer layer) (placed_shape m h) []) ≡ f h =
+    elim (same_layer h.layer layer) as (λ b. length (cond b (placed_shape m h) []) ≡ cond b (length h.figure * length h.shifts) 0) [ true ↦ figure_length m h.figure h.shifts | false ↦ refl ] in
+    length-append (cond (same_layer h.layer layer) (placed_shape m h) []) (drawn_on layer m shapes) ∙ (ap (λ n. n + length (drawn_on layer m shapes)) mine ∙ (ap (λ n. f h + n) (drawn_length layer m shapes) ∙ sym (sum_by-cons f h shapes)))
+
+-- a weight over the chains from a cell: its own, and that of a visit that has all still to do
+weight_begun : (w : PlainCell Rings → ℕ) (cells : List (PlainCell Rings)) (order : List ℕ) (i : ℕ) (m : Map) (c : PlainCell Rings) → AreLinked cells → IsOrder cells order → slice_get cells i ≡ Some c
+    → over_chains w cells (length cells) c ≡ w c + visit_weight w cells (begun i m)
+weight_begun w cells order i m c linked ordered at =
+    let f : PlainReference → ℕ = λ r. option_map_or (over_chains w cells (length cells)) (cell_named cells r.cell) 0 in
+    count_step w cells order i c linked ordered at ∙ ap (λ n. w c + n) (picks_sum f c.references ∙ ap (sum_by (pick_weight w cells)) (sym (pending_at cells (begun i m) c at ∙ picks_from_start c.references)))
+
+-- a weight of a visit: that of its pick, and that of the rest
+weight_into : (w : PlainCell Rings → ℕ) (cells : List (PlainCell Rings)) (v : Visit) (i : ℕ) (m : Map) (rest : Visit) → (into : IsInto cells v i m rest) → visit_weight w cells v ≡ over_chains w cells (length cells) into.next + visit_weight w cells rest
+weight_into w cells v i m rest into =
+    let o : Option (PlainCell Rings) → ℕ = λ q. option_map_or (over_chains w cells (length cells)) q 0 in
+    ap (sum_by (pick_weight w cells)) into.pending_is ∙ (sum_by-cons (pick_weight w cells) into.pick (pending cells rest) ∙ ap (λ n. n + visit_weight w cells rest) (ap o into.named))
+
+sum_last : {X : Type 0} (f : X → ℕ) (xs : List X) (x : X) → sum_by f (xs ++ x ∷ []) ≡ sum_by f xs + f x
+sum_last f xs x = ?
+
+-- a visit that is entered covers what the cell does beyond its own shapes
+visit_begun : (cells : List (PlainCell Rings)) (layer : Layer) (i : ℕ) (m : Map) (q : Square) (c : PlainCell Rings) → slice_get cells i ≡ Some c
+    → Under m q (CellCovers RingsCover cells layer c) ↔ (Under m q (λ t. Any (ShapeCovers RingsCover layer t) c.shapes) ⊎ VisitCovers cells layer q (begun i m))
+visit_begun cells layer i m q c at =
+    let all : pending cells (begun i m) ≡ picks c.references = pending_at cells (begun i m) c at ∙ picks_from_start c.references in
+    let step = under_same m q (CellCovers RingsCover cells layer c) (λ t. Any (ShapeCovers RingsCover layer t) c.shapes ⊎ Any (PickCovers cells layer t) (picks c.references)) (cell_covers cells layer c) in
+    let split = under_either m q (λ t. Any (ShapeCovers RingsCover layer t) c.shapes) (λ t. Any (PickCovers cells layer t) (picks c.references)) in
+    (
+      λ u. elim (split.0 (step.0 u)) [ inl a ↦ inl a | inr b ↦ inr (b.0, b.1, subst (Any (PickCovers cells layer b.0)) (sym all) b.2) ],
+      λ e. step.1 (split.1 (elim e [ inl a ↦ inl a | inr b ↦ inr (b.0, b.1, subst (Any (PickCovers cells layer b.0)) all b.2) ])),
+    )
+
+-- a visit covers what its pick does, and what the rest does
+visit_into : (cells : List (PlainCell Rings)) (layer : Layer) (v : Visit) (i : ℕ) (m : Map) (rest : Visit) (q : Square) → (into : IsInto cells v i m rest)
+    → VisitCovers cells layer q v ↔ (Under m q (CellCovers RingsCover cells layer into.next) ⊎ VisitCovers cells layer q rest)
+visit_into cells layer v i m rest q into =
+    let P : Square → Pick → Type 0 = λ t p. PickCovers cells layer t p in
+    let pick = pick_covers cells layer v.map m q into.pick into.next into.named into.placed in (
+      λ u.
+          elim (Any-cases (P u.0) into.pick (pending cells rest) (subst (Any (P u.0)) into.pending_is u.2)) [
+            | inl a ↦ inl (pick.0 (u.0, u.1, a))
+            | inr b ↦ inr (u.0, ap (λ n. Rattle.lvl_grid.specs.Turn.image_square n u.0) into.map_is ∙ u.1, b)
+          ],
+      λ e.
+          elim e [
+            | inl a ↦ let u = pick.1 a in (u.0, u.1, subst (Any (P u.0)) (sym into.pending_is) (Any-first (P u.0) into.pick (pending cells rest) u.2))
+            | inr b ↦
+                (b.0, sym (ap (λ n. Rattle.lvl_grid.specs.Turn.image_square n b.0) into.map_is) ∙ b.1, subst (Any (P b.0)) (sym into.pending_is) (Any-later (P b.0) into.pick (pending cells rest) b.2))
+          ],
+    )

@@ -1,0 +1,34 @@
+-- A cell that is entered: its shapes are drawn, and a visit is put on the stack.
+use Rattle.std.specs.Prelude.{◌≡◌, ◌++◌, ◌∷◌, [], ⊤, ℕ, List, map, slice_get, Some}
+use Rattle.lvl_grid.specs.declared.map.Map.{Map}
+use Rattle.lvl_cells.specs.declared.layer.Layer.{Layer}
+use Rattle.lvl_cells.specs.Cells.{PlainCell, Rings}
+use Rattle.lvl_flat.specs.declared.fault.FlatFault.{FlatFault}
+use Rattle.lvl_flat.specs.declared.fault.FlatFault.TheVariants.{OutOfRange, OutOfMemory}
+use Rattle.lvl_flat.specs.declared.visit.Visit.{Visit}
+use Rattle.lvl_flat.specs.Drawn.{drawn_on, AreFiguresPlaced, FitShapes}
+use Rattle.lvl_flat.specs.Sheet.{PlainSheet}
+use Rattle.lvl_flat.specs.Sheets.{rings_on}
+
+-- a visit that has all still to do
+abbrev pub begun : ℕ → Map → Visit
+begun i m = record { cell = i; map = m; reference = 0; place = 0 }
+
+-- the shapes of cell i are drawn under the map, for the same Layers
+pub record IsDrawn (cells : List (PlainCell Rings)) (i : ℕ) (m : Map) (old new : List PlainSheet) : Type 0 where
+  pub cell : PlainCell Rings
+  pub there : slice_get cells i ≡ Some cell
+  pub drawn : (layer : Layer) → rings_on layer new ≡ rings_on layer old ++ drawn_on layer m cell.shapes
+  pub placed : AreFiguresPlaced m cell.shapes
+  pub layers : map (λ s. s.layer) new ≡ map (λ s. s.layer) old
+
+-- the shapes of cell i, whose name it tells, are out of range under the map
+pub record IsCellOut (cells : List (PlainCell Rings)) (i : ℕ) (m : Map) (name : List ℕ) : Type 0 where
+  pub cell : PlainCell Rings
+  pub there : slice_get cells i ≡ Some cell
+  pub named : cell.name ≡ name
+  pub out : ¬ FitShapes m cell.shapes
+
+abbrev pub IsEnterFault : List (PlainCell Rings) → ℕ → Map → FlatFault → Type 0
+IsEnterFault cells i m (OutOfRange name) = IsCellOut cells i m name.items
+IsEnterFault cells i m OutOfMemory = ⊤
