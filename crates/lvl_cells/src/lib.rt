@@ -18,5 +18,7 @@ mod offsets;
 mod order;
 mod round;
 mod targets;
+#[cfg(test)]
+mod tests;
 mod top;
 mod walk;
