@@ -1,0 +1,28 @@
+# lvl: a layout versus layout comparator that can be believed.
+PREFIX ?= /usr/local
+PROGRAM := crates/lvl_cli
+NEEDS_RT = command -v rt >/dev/null 2>&1 || { echo "make: rt (the Rattle toolchain) is not on the PATH" >&2; exit 2; }
+
+.PHONY: all check growths install clean
+
+# Proves and builds the program, and leaves it as bin/lvl.
+all:
+	@$(NEEDS_RT)
+	@.ci/build
+
+# The gate: every proof from nothing, the edits that must be refused, the tests and the program.
+check:
+	@$(NEEDS_RT)
+	@rt ci
+
+# Each allocation of each crate's tests refused in turn.
+growths:
+	@$(NEEDS_RT)
+	@.ci/growths
+
+install:
+	@test -x bin/lvl || { echo "make install: bin/lvl is missing: run make first" >&2; exit 2; }
+	install -D -m 755 bin/lvl $(DESTDIR)$(PREFIX)/bin/lvl
+
+clean:
+	rm -rf bin crates/*/out

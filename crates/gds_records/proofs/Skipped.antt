@@ -1,0 +1,104 @@
+-- Zero bytes at the front: how far they go, and that they add up while more bytes are read.
+use Rattle.std.proofs.Common.{◌≡◌, ◌≢◌, ◌==◌, ℕ, zero, suc, ◌+◌, ◌<◌, ◌≤◌, inl, inr, Bool, true, false, cond, nat_le, List, [], ◌∷◌, ◌++◌, length, drop, Result, Ok, Err, Some, refl, sym, ap, ◌∙◌, subst, arith, append_assoc, one-add, length-append}
+use Rattle.std.specs.Prelude.{Option, replicate}
+use Rattle.std.specs.List.{prefix_len}
+use Rattle.std.specs.Io.KnownBytes.{prepend_known}
+use Rattle.std.proofs.lemmas.List.{replicate-append-replicate, length-replicate}
+use Rattle.std.proofs.lemmas.Bool.Decides.{nat_tests}
+use Rattle.lvl_io.specs.Known.{Stays}
+use Rattle.gds_records.specs.Tail.{IsNoZeroFirst, TakesZeros, Stops, PassesLimit}
+use Rattle.gds_records.proofs.Known.{known_parts}
+use Rattle.gds_records.proofs.Laws.{by_test}
+use Rattle.gds_records.specs.declared.fault.RecordFault.{RecordFault}
+use Rattle.gds_records.specs.declared.fault.RecordFault.TheVariants.{TooLong}
+use Rattle.gds_records.specs.declared.zeros.Behind.{Behind}
+use Rattle.gds_records.specs.declared.zeros.Behind.TheVariants.{Nothing, Another}
+
+-- as many as there are at the front, or fewer, are split off
+pub zeros_front : (n : ℕ) (xs : List ℕ) → n ≤ prefix_len (λ b. b == 0) xs → xs ≡ replicate n 0 ++ drop n xs
+zeros_front zero xs h = refl
+zeros_front (suc n) [] h = absurd (omega arith)
+zeros_front (suc n) (x ∷ xs) h = elim (by_test (x == 0)) [
+  | inl same ↦
+      let is : x ≡ 0 = grind (arith, nat_tests) in
+      let less : n ≤ prefix_len (λ b. b == 0) xs = (let h2 : suc n ≤ 1 + prefix_len (λ b. b == 0) xs = (rw same at h) in omega arith) in
+      let rest = zeros_front n xs less in
+      ap (λ i. i ∷ xs) is ∙ ap (λ l. 0 ∷ l) rest
+  | inr other ↦ absurd (let h2 : suc n ≤ 0 = (rw other at h) in omega arith)
+]
+
+-- behind all of them no zero byte is first
+pub zeros_stop : (xs : List ℕ) → IsNoZeroFirst (drop (prefix_len (λ b. b == 0) xs) xs)
+zeros_stop [] = tt
+zeros_stop (x ∷ xs) = stop_at (x == 0) x xs refl (zeros_stop xs)
+  where
+    stop_at : (b : Bool) (x : ℕ) (xs : List ℕ) → b ≡ (x == 0) → IsNoZeroFirst (drop (prefix_len (λ b. b == 0) xs) xs)
+        → IsNoZeroFirst (drop (cond b (1 + prefix_len (λ b. b == 0) xs) 0) (x ∷ xs))
+    stop_at true x xs e h = rw (one-add (prefix_len (λ b. b == 0) xs)) h
+    stop_at false x xs e h = λ is. (let k : (x == 0) ≡ true = grind (arith, nat_tests) in let z : true ≡ false = sym k ∙ sym e in cc)
+
+-- n zero bytes were taken
+abbrev pub Takes : ℕ → Option (List ℕ) → Option (List ℕ) → Type 0
+Takes n old new = (xs : List ℕ) → old ≡ Some xs → (left : List ℕ) × (new ≡ Some left) × (xs ≡ replicate n 0 ++ left)
+
+pub takes_read : (n : ℕ) (a b c : Option (List ℕ)) → Takes n a b → Stays b c → Takes n a c
+takes_read n a b c t s = λ xs k. let p = t xs k in (p.0, s p.0 p.1, p.2)
+
+-- m more that were ahead
+pub takes_more : (n m : ℕ) (a rest : Option (List ℕ)) (old new : List ℕ) → Takes n a (prepend_known old rest) → old ≡ replicate m 0 ++ new
+    → Takes (n + m) a (prepend_known new rest)
+takes_more n m a rest old new t e = λ xs k.
+    let p = t xs k in
+    let q = known_parts old rest p.0 p.1 in
+    let ys = q.0 in
+    let left : prepend_known new rest ≡ Some (new ++ ys) = ap (prepend_known new) q.1 in
+    let whole : p.0 ≡ replicate m 0 ++ (new ++ ys) = sym q.2 ∙ ap (λ l. l ++ ys) e ∙ append_assoc (replicate m 0) new ys in
+    (new ++ ys, left, p.2 ∙ ap (λ l. replicate n 0 ++ l) whole ∙ sym (append_assoc (replicate n 0) (replicate m 0) (new ++ ys)) ∙ ap (λ l. l ++ (new ++ ys)) (replicate-append-replicate n m 0))
+
+no_bytes : (xs : List ℕ) → false ≡ nat_le 1 (length xs) → xs ≡ []
+no_bytes [] h = refl
+no_bytes (x ∷ xs) h = absurd (let k : length (x ∷ xs) < 1 = grind (arith, nat_tests) in omega arith)
+
+-- the input ends
+pub takes_end : (n room : ℕ) (a b c : Option (List ℕ)) → Takes n a b → Stays b c → ((left : List ℕ) → b ≡ Some left → false ≡ nat_le 1 (length left))
+    → TakesZeros (Ok Nothing) n room a c
+takes_end n room a b c t s e = λ xs k. let p = t xs k in (p.0, s p.0 p.1, p.2, no_bytes p.0 (e p.0 p.1))
+
+no_zero_append : (xs ys : List ℕ) → 0 < length xs → IsNoZeroFirst xs → IsNoZeroFirst (xs ++ ys)
+no_zero_append [] ys h p = absurd (omega arith)
+no_zero_append (x ∷ xs) ys h p = p
+
+pub takes_another : (n room : ℕ) (a rest : Option (List ℕ)) (ahead : List ℕ) → Takes n a (prepend_known ahead rest) → 0 < length ahead → n < room → IsNoZeroFirst ahead
+    → TakesZeros (Ok Another) n room a (prepend_known ahead rest)
+takes_another n room a rest ahead t some less first = λ xs k.
+    let p = t xs k in
+    let q = known_parts ahead rest p.0 p.1 in
+    (p.0, p.1, p.2, (less, omega (arith, ap length q.2, length-append ahead q.0), subst IsNoZeroFirst q.2 (no_zero_append ahead q.0 some first)))
+
+pub takes_too_long : (n room : ℕ) (a rest : Option (List ℕ)) (ahead : List ℕ) → Takes n a (prepend_known ahead rest) → 0 < length ahead → n ≡ room
+    → TakesZeros (Err TooLong) n room a (prepend_known ahead rest)
+takes_too_long n room a rest ahead t some is = λ xs k.
+    let p = t xs k in
+    let q = known_parts ahead rest p.0 p.1 in
+    (p.0, p.1, p.2, (is, omega (arith, ap length q.2, length-append ahead q.0)))
+
+-- zero bytes up to the limit and beyond leave one answer
+
+other_within : (n room b : ℕ) (rest more : List ℕ) → n < room → b ≢ 0 → replicate n 0 ++ (b ∷ rest) ≡ replicate room 0 ++ more → ⊥
+other_within n zero b rest more less ne e = omega arith
+other_within zero (suc room) b rest more less ne e = ne (let k : b ∷ rest ≡ 0 ∷ (replicate room 0 ++ more) = e in cc)
+other_within (suc n) (suc room) b rest more less ne e =
+    other_within n room b rest more (omega arith) ne (let k : 0 ∷ (replicate n 0 ++ (b ∷ rest)) ≡ 0 ∷ (replicate room 0 ++ more) = e in cc)
+
+stops_passes : (b : Behind) (n room : ℕ) (xs left : List ℕ) → xs ≡ replicate n 0 ++ left → Stops (Ok b) n room left → n ≤ room → PassesLimit room xs → ⊥
+stops_passes Nothing n room xs left e s fits p =
+    omega (arith, p.1, ap length (sym p.2 ∙ e), ap length s, length-append (replicate room 0) p.0, length-append (replicate n 0) left, length-replicate {A = ℕ})
+stops_passes Another n room xs [] e s fits p = omega (arith, s.1)
+stops_passes Another n room xs (b ∷ rest) e s fits p = other_within n room b rest p.0 s.0 s.2 (sym e ∙ p.2)
+
+-- where the bytes pass the limit and those within it are zero, zero bytes don't stop before it
+pub takes_passes : (r : Result Behind RecordFault) (b : Behind) (n room : ℕ) (old new : Option (List ℕ)) (xs : List ℕ) → r ≡ Ok b → TakesZeros r n room old new
+    → old ≡ Some xs → n ≤ room → PassesLimit room xs → ⊥
+takes_passes r b n room old new xs e t k fits p =
+    let told = t xs k in
+    stops_passes b n room xs told.0 told.2 (subst (λ s. Stops s n room told.0) e told.3) fits p

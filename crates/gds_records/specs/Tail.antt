@@ -1,0 +1,53 @@
+-- What `tail` answers: zero bytes alone are taken, up to the end, another byte, or the limit of a file.
+use Rattle.std.specs.Prelude.{◌≡◌, ◌≢◌, ℕ, ◌+◌, ◌-◌, ◌<◌, ◌≤◌, List, [], ◌∷◌, ◌++◌, length, replicate, Option, Some, None, Result, Ok, Err}
+use Rattle.gds_records.specs.declared.fault.RecordFault.{RecordFault}
+use Rattle.gds_records.specs.declared.fault.RecordFault.TheVariants.{Truncated, BadLength, BadDataType, UnknownRecord, TooLong, Read, Failed}
+use Rattle.gds_records.specs.declared.zeros.Behind.{Behind}
+use Rattle.gds_records.specs.declared.zeros.Behind.TheVariants.{Nothing, Another}
+
+-- all bytes are zero
+abbrev pub AreZeros : List ℕ → Type 0
+AreZeros xs = xs ≡ replicate (length xs) 0
+
+-- behind n zero bytes stands another byte
+abbrev pub IsFirstOther : ℕ → List ℕ → Type 0
+IsFirstOther n xs = (b : ℕ) × (rest : List ℕ) × (b ≢ 0) × (xs ≡ replicate n 0 ++ (b ∷ rest))
+
+-- the bytes pass the limit, and those within it are zero
+abbrev pub PassesLimit : ℕ → List ℕ → Type 0
+PassesLimit room xs = (rest : List ℕ) × (0 < length rest) × (xs ≡ replicate room 0 ++ rest)
+
+-- what is answered of the bytes xs, of which only room may be taken: old bytes were taken before the call,
+-- and new are now
+abbrev pub AnswersTail : Result (Option ℕ) RecordFault → ℕ → ℕ → ℕ → List ℕ → Type 0
+AnswersTail (Ok None) old new room xs = AreZeros xs × (length xs ≤ room) × (new ≡ old + length xs)
+AnswersTail (Ok (Some at)) old new room xs = (n : ℕ) × (n < room) × IsFirstOther n xs × (at ≡ old + n) × (new ≡ at)
+AnswersTail (Err TooLong) old new room xs = PassesLimit room xs × (new ≡ old + room)
+AnswersTail (Err Read) old new room xs = (rest : List ℕ) × (xs ≡ replicate (new - old) 0 ++ rest)
+AnswersTail (Err Truncated) old new room xs = ⊥
+AnswersTail (Err BadLength) old new room xs = ⊥
+AnswersTail (Err BadDataType) old new room xs = ⊥
+AnswersTail (Err UnknownRecord) old new room xs = ⊥
+AnswersTail (Err Failed) old new room xs = ⊥
+
+-- the first byte, if there is one, isn't zero
+abbrev pub IsNoZeroFirst : List ℕ → Type 0
+IsNoZeroFirst [] = Unit {0}
+IsNoZeroFirst (b ∷ rest) = b ≢ 0
+
+-- why no more zero bytes were taken than n, where left is behind them
+abbrev pub Stops : Result Behind RecordFault → ℕ → ℕ → List ℕ → Type 0
+Stops (Ok Nothing) n room left = left ≡ []
+Stops (Ok Another) n room left = (n < room) × (0 < length left) × IsNoZeroFirst left
+Stops (Err TooLong) n room left = (n ≡ room) × (0 < length left)
+Stops (Err Read) n room left = Unit {0}
+Stops (Err Truncated) n room left = ⊥
+Stops (Err BadLength) n room left = ⊥
+Stops (Err BadDataType) n room left = ⊥
+Stops (Err UnknownRecord) n room left = ⊥
+Stops (Err Failed) n room left = ⊥
+
+-- of the bytes old, where they are known, n zero bytes were taken, and new is left
+abbrev pub TakesZeros : Result Behind RecordFault → ℕ → ℕ → Option (List ℕ) → Option (List ℕ) → Type 0
+TakesZeros r n room old new = (xs : List ℕ) → old ≡ Some xs
+    → (left : List ℕ) × (new ≡ Some left) × (xs ≡ replicate n 0 ++ left) × Stops r n room left

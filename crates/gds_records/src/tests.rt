@@ -1,0 +1,268 @@
+//! Streams by the byte: what each record is, where each fault comes, and that it matters neither how a
+//! reader cuts the bytes nor where it fails.
+ghost use Rattle.std.specs.Prelude.{Some, None};
+
+use crate::{RecordFault, Records, record_type};
+use lvl_io::Read;
+use lvl_io::fake::Pieces;
+use std::alloc::{AllocError, Global};
+use std::process::Abort;
+use std::test::Fail;
+
+/// A library with one structure TOP, in it the boundary of a square. Each line is a record.
+fn square(alloc: Global) -> Result<Vec<u8>, AllocError> {
+    let mut bytes = Vec::with_capacity(alloc, 168)?;
+    bytes.extend_from_slice(b"\x00\x06\x00\x02\x02\x58")?;
+    bytes.extend_from_slice(b"\x00\x1C\x01\x02")?;
+    bytes.extend_from_slice(&[0; 24])?;
+    bytes.extend_from_slice(b"\x00\x06\x02\x06LB")?;
+    bytes.extend_from_slice(b"\x00\x14\x03\x05A\x10\0\0\0\0\0\0A\x10\0\0\0\0\0\0")?;
+    bytes.extend_from_slice(b"\x00\x1C\x05\x02")?;
+    bytes.extend_from_slice(&[0; 24])?;
+    bytes.extend_from_slice(b"\x00\x08\x06\x06TOP\0")?;
+    bytes.extend_from_slice(b"\x00\x04\x08\x00\x00\x06\x0D\x02\x00\x01\x00\x06\x0E\x02\x00\x00")?;
+    bytes.extend_from_slice(b"\x00\x2C\x10\x03\0\0\0\0\0\0\0\0\0\0\0\x0A\0\0\0\0")?;
+    bytes.extend_from_slice(b"\0\0\0\x0A\0\0\0\x0A\0\0\0\0\0\0\0\x0A\0\0\0\0\0\0\0\0")?;
+    bytes.extend_from_slice(b"\x00\x04\x11\x00\x00\x04\x07\x00\x00\x04\x04\x00")?;
+    Ok(bytes)
+}
+
+/// Where each record of `square` begins, its type, and how long its payload is.
+const SQUARE: [(u64, u8, u64); 13] = [
+    (0, record_type::HEADER, 2),
+    (6, record_type::BGNLIB, 24),
+    (34, record_type::LIBNAME, 2),
+    (40, record_type::UNITS, 16),
+    (60, record_type::BGNSTR, 24),
+    (88, record_type::STRNAME, 4),
+    (96, record_type::BOUNDARY, 0),
+    (100, record_type::LAYER, 2),
+    (106, record_type::DATATYPE, 2),
+    (112, record_type::XY, 40),
+    (156, record_type::ENDEL, 0),
+    (160, record_type::ENDSTR, 0),
+    (164, record_type::ENDLIB, 0),
+];
+
+/// The start of the record of `square` that isn't whole in its first `k` bytes, or `k` between records.
+fn begun(k: u64) -> u64 {
+    let mut start = k;
+    for (at, _, len) in SQUARE {
+        if at < k && k - at < len.saturating_add(4) {
+            start = at;
+        }
+    }
+    start
+}
+
+/// How it went to read records up to the end or to a fault.
+#[derive(Clone, Copy, Debug, PartialEq, Eq)]
+struct Walk {
+    records: u32,
+    /// Of the types and payloads.
+    checksum: u64,
+    fault: Option<RecordFault>,
+    offset: u64,
+}
+
+/// Reads records up to the end or to a fault, behind which every call has to answer `Failed`.
+fn read_on<R: Read>(rt: &impl Abort, records: &mut Records<R>) -> Walk {
+    let mut count = 0u32;
+    let mut checksum = 0u64;
+    let mut found = None;
+    for _ in 0..1_000_000u32 {
+        match records.next() {
+            Ok(Some(record)) => {
+                count = count.wrapping_add(1);
+                checksum = checksum.wrapping_mul(31).wrapping_add(record.kind as u64);
+                for byte in record.payload {
+                    checksum = checksum.wrapping_mul(31).wrapping_add(*byte as u64);
+                }
+            }
+            Ok(None) => break,
+            Err(fault) => {
+                found = Some(fault);
+                break;
+            }
+        }
+    }
+    let offset = records.offset();
+    if found.is_some() {
+        assert!(rt; matches!(records.next(), Err(RecordFault::Failed)));
+        assert!(rt; matches!(records.tail(), Err(RecordFault::Failed)));
+        assert_eq!(rt; records.offset(), offset);
+    }
+    Walk {
+        records: count,
+        checksum,
+        fault: found,
+        offset,
+    }
+}
+
+#[test]
+fn reads_a_square(rt: HostRuntime) -> Result<(), Fail> {
+    let bytes = square(rt.alloc())?;
+    assert_eq!(rt; bytes.len(), 168);
+    let mut records = Records::new(rt.alloc(), Pieces::new(&bytes, 168))?;
+    for (offset, kind, len) in SQUARE {
+        assert_eq!(rt; records.offset(), offset);
+        let record = records.next()?.ok_or("a record stands here")?;
+        assert_eq!(rt; record.offset, offset);
+        assert_eq!(rt; record.kind, kind);
+        assert_eq!(rt; record.payload.len() as u64, len);
+    }
+    assert!(rt; matches!(records.next(), Ok(None)));
+    assert_eq!(rt; records.offset(), 168);
+    Ok(())
+}
+
+#[test]
+fn tests_a_header_in_order(rt: HostRuntime) -> Result<(), Fail> {
+    let rows: [(&[u8], Option<RecordFault>); 14] = [
+        (b"\x00\x05\x00\x02\x02", Some(RecordFault::BadLength)),
+        (b"\x00\x02\x00\x02", Some(RecordFault::BadLength)),
+        (
+            b"\x00\x06\x3C\x02\x02\x58",
+            Some(RecordFault::UnknownRecord),
+        ),
+        (b"\x00\x06\x00\x03\x02\x58", Some(RecordFault::BadDataType)),
+        (
+            b"\x00\x08\x00\x02\x02\x58\x00\x00",
+            Some(RecordFault::BadLength),
+        ),
+        // An odd length comes before an unknown type, that before a data type, and this before a length.
+        (b"\x00\x05\x3C\x07", Some(RecordFault::BadLength)),
+        (b"\x00\x06\x3C\x07", Some(RecordFault::UnknownRecord)),
+        (b"\x00\x08\x00\x03", Some(RecordFault::BadDataType)),
+        // A type outside the table takes any data type up to 6 and any payload.
+        (b"\x00\x08\x3B\x04\x01\x02\x03\x04", None),
+        (b"\x00\x04\x2D\x00", None),
+        (b"\x00\x04\x2D\x07", Some(RecordFault::BadDataType)),
+        // Points are eight bytes each, one or more.
+        (b"\x00\x04\x10\x03", Some(RecordFault::BadLength)),
+        (b"\x00\x08\x10\x03\0\0\0\0", Some(RecordFault::BadLength)),
+        (b"\x00\x0C\x10\x03\0\0\0\0\0\0\0\0", None),
+    ];
+    for (bytes, fault) in rows {
+        let mut records = Records::new(rt.alloc(), Pieces::new(bytes, 100))?;
+        let walk = read_on(&rt, &mut records);
+        assert_eq!(rt; walk.fault, fault);
+        assert_eq!(rt;
+            walk.offset,
+            if fault.is_some() {
+                0
+            } else {
+                bytes.len() as u64
+            }
+        );
+    }
+    Ok(())
+}
+
+#[test]
+fn tells_each_cut(rt: HostRuntime) -> Result<(), Fail> {
+    let bytes = square(rt.alloc())?;
+    for k in 0..bytes.len() {
+        let mut records = Records::new(rt.alloc(), Pieces::new(&bytes[..k], 100))?;
+        let walk = read_on(&rt, &mut records);
+        let start = begun(k as u64);
+        let fault = if start < k as u64 {
+            Some(RecordFault::Truncated)
+        } else {
+            None
+        };
+        assert_eq!(rt; walk.fault, fault, "cut to {k}");
+        assert_eq!(rt; walk.offset, start, "cut to {k}");
+    }
+    Ok(())
+}
+
+#[test]
+fn takes_zero_bytes_alone_behind_the_end(rt: HostRuntime) -> Result<(), Fail> {
+    let rows: [(usize, &[u8], Option<u64>); 5] = [
+        (0, b"", None),
+        (1880, b"", None),
+        (0, b"\x01", Some(168)),
+        (70_000, b"", None),
+        (70_000, b"\x01\x00", Some(70_168)),
+    ];
+    for (zeros, rest, other) in rows {
+        for most in [1, 3, 65_536] {
+            let mut bytes = square(rt.alloc())?;
+            for _ in 0..zeros {
+                bytes.push(0)?;
+            }
+            bytes.extend_from_slice(rest)?;
+            let mut records = Records::new(rt.alloc(), Pieces::new(&bytes, most))?;
+            for _ in SQUARE {
+                assert!(rt; matches!(records.next(), Ok(Some(_))));
+            }
+            assert_eq!(rt; records.tail(), Ok(other));
+            assert_eq!(rt; records.offset(), 168 + zeros as u64);
+        }
+    }
+    Ok(())
+}
+
+#[test]
+fn gives_each_byte_a_record_or_a_fault(rt: HostRuntime) -> Result<(), Fail> {
+    let bytes = square(rt.alloc())?;
+    let mut changed = square(rt.alloc())?;
+    for k in 0..bytes.len().min(changed.len()) {
+        for value in 0..=255u8 {
+            changed[k] = value;
+            let mut records = Records::new(rt.alloc(), Pieces::new(&changed, 1000))?;
+            let walk = read_on(&rt, &mut records);
+            assert!(rt; walk.fault != Some(RecordFault::Read));
+            assert!(rt; walk.fault != Some(RecordFault::TooLong));
+            assert!(rt; walk.fault.is_some() || walk.offset == 168);
+        }
+        changed[k] = bytes[k];
+    }
+    Ok(())
+}
+
+#[test]
+fn reads_pieces_of_any_size_alike(rt: HostRuntime) -> Result<(), Fail> {
+    let mut bytes = Vec::new(rt.alloc());
+    for n in 0..3u8 {
+        bytes.extend_from_slice(b"\xFF\xFE\x19\x06")?;
+        for _ in 0..65_530 {
+            bytes.push(n)?;
+        }
+        bytes.extend_from_slice(square(rt.alloc())?.as_slice())?;
+    }
+    let mut whole = Records::new(rt.alloc(), Pieces::new(&bytes, 1_000_000))?;
+    let want = read_on(&rt, &mut whole);
+    assert_eq!(rt;
+        (want.records, want.fault, want.offset),
+        (42, None, 3 * 65_702)
+    );
+    for most in [1, 2, 3, 65_535, 65_536] {
+        let mut records = Records::new(rt.alloc(), Pieces::new(&bytes, most))?;
+        assert_eq!(rt; read_on(&rt, &mut records), want, "pieces of {most}");
+    }
+    Ok(())
+}
+
+#[test]
+fn tells_a_failed_read_once(rt: HostRuntime) -> Result<(), Fail> {
+    let bytes = square(rt.alloc())?;
+    for k in 0..=bytes.len() {
+        let mut records = Records::new(rt.alloc(), Pieces::failing(&bytes[..k], 100))?;
+        let walk = read_on(&rt, &mut records);
+        assert_eq!(rt; walk.fault, Some(RecordFault::Read), "after {k}");
+        assert_eq!(rt; walk.offset, begun(k as u64), "after {k}");
+        assert_eq!(rt; records.into_reader().errors, 1);
+    }
+    for k in 0..100usize {
+        let zeros = [0; 100];
+        let mut records = Records::new(rt.alloc(), Pieces::failing(&zeros[..k], 7))?;
+        assert_eq!(rt; records.tail(), Err(RecordFault::Read));
+        assert_eq!(rt; records.offset(), k as u64);
+        assert_eq!(rt; records.tail(), Err(RecordFault::Failed));
+        assert_eq!(rt; records.into_reader().errors, 1);
+    }
+    Ok(())
+}

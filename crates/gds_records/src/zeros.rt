@@ -1,0 +1,75 @@
+//! The zero bytes at the front.
+ghost use Rattle.std.specs.Prelude.{◌≡◌, ◌≢◌, ◌==◌, ◌^◌, ◌<◌, ◌≤◌, ◌++◌, [], Err, replicate};
+ghost use Rattle.std.specs.List.{prefix_len};
+ghost use Rattle.std.specs.Io.KnownBytes.{prepend_known};
+ghost use Rattle.lvl_io.specs.Bytes.{CountsFailure};
+ghost use Rattle.gds_records.specs.Step.{is_read};
+ghost use Rattle.gds_records.specs.Tail.{IsNoZeroFirst, TakesZeros};
+
+use crate::buffer::Buffer;
+use crate::fault::RecordFault;
+use lvl_io::Read;
+
+/// What stands behind zero bytes.
+#[derive(Clone, Copy, Debug, PartialEq, Eq)]
+pub enum Behind {
+    /// Nothing: the input ends.
+    Nothing,
+    /// A byte that isn't zero.
+    Another,
+}
+
+// How many bytes at the front are zero.
+fn leading_zeros(bytes: &[u8]) -> usize
+    ensures { result ≡ prefix_len (λ b. b == 0) bytes.now }
+{
+    bytes.iter().take_while(|b| **b == 0).count()
+}
+
+// Skips the zero bytes that are ahead, `most` at most, and counts them.
+fn skip_ahead(ahead: &mut Buffer, most: u64) -> u64
+    requires { most < 2 ^ 32 }
+    ensures zeros { ahead.old ≡ replicate result 0 ++ ahead.new }
+    ensures most { result ≤ most }
+    ensures all { result < most → IsNoZeroFirst ahead.new }
+{
+    let n = leading_zeros(ahead.ahead()).min(most as usize);
+    ahead.skip(n);
+    n as u64
+}
+
+// Skips zero bytes, `room` at most, counts them, and says what stands behind them.
+pub(crate) fn skip_zeros<R: Read>(
+    reader: &mut R,
+    ahead: &mut Buffer,
+    room: u64,
+) -> (u64, Result<Behind, RecordFault>)
+    requires { room < 2 ^ 32 }
+    ensures zeros { TakesZeros result.1 result.0 room (prepend_known ahead.old (R.remaining reader.old))
+        (prepend_known ahead.new (R.remaining reader.new)) }
+    ensures within { result.0 ≤ room }
+    ensures limit { result.1 ≡ Err RecordFault.TooLong → result.0 ≡ room }
+    ensures starved { result.1 ≡ Err RecordFault.Read → ahead.new ≡ [] }
+    ensures errors { CountsFailure (R.read_errors reader.old) (R.read_errors reader.new)
+        (is_read result.1) }
+    ensures same { R.lent reader.new ≡ R.lent reader.old }
+    ensures fresh { result.1 ≢ Err RecordFault.Failed }
+{
+    let mut taken = 0;
+    'zeros: loop {
+        match ahead.fill(reader, 1) {
+            Ok(true) => {}
+            Ok(false) => return (taken, Ok(Behind::Nothing)),
+            Err(_) => return (taken, Err(RecordFault::Read)),
+        }
+        taken += skip_ahead(ahead, room - taken);
+        if ahead.len() > 0 {
+            let behind = if taken < room {
+                Ok(Behind::Another)
+            } else {
+                Err(RecordFault::TooLong)
+            };
+            return (taken, behind);
+        }
+    }
+}

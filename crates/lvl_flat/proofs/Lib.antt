@@ -1,0 +1,4 @@
+pub mod Orders
+pub mod Drawing
+pub mod Picks
+pub mod Ranging

@@ -1,0 +1,108 @@
+-- The order of the Layers, and of sheets.
+use Rattle.std.proofs.Common.{◌≡◌, ◌<◌, ◌≤◌, ◌⊎◌, ℕ, List, length, get_or, Some, inl, inr, refl, subst, sym, ap, arith, slice_get, AllPairs, All, ◌∙◌, ◌≢◌, ◌==◌, ◌&&◌, not, true, false, [], ◌∷◌, zero, suc, Bool, cond}
+use Rattle.std.proofs.lemmas.Option.{slice_get_within, get_or_from_slice_get, slice_get-get_or}
+use Rattle.std.proofs.lemmas.Bool.{cases_lt}
+use Rattle.std.proofs.lemmas.List.Elements.{All-head, All-tail}
+use Rattle.lvl_cells.specs.declared.layer.Layer.{Layer}
+use Rattle.lvl_flat.specs.Sheet.{PlainSheet}
+use Rattle.lvl_flat.specs.Sheets.{ComesBefore, AreSorted, same_layer, rings_on}
+
+pub before_trans : (a b c : Layer) → ComesBefore a b → ComesBefore b c → ComesBefore a c
+before_trans a b c (inl h) (inl k) = inl (omega arith)
+before_trans a b c (inl h) (inr k) = inl (omega (arith, k.0))
+before_trans a b c (inr h) (inl k) = inl (omega (arith, h.0))
+before_trans a b c (inr h) (inr k) = inr (omega (arith, h.0, k.0), omega (arith, h.1, k.1))
+
+pub before_itself : (a : Layer) → ComesBefore a a → ⊥
+before_itself a (inl h) = omega arith
+before_itself a (inr h) = omega (arith, h.1)
+
+-- a sheet comes before those behind it
+pub sorted_at : (sheets : List PlainSheet) (i j : ℕ) (s t : PlainSheet) → AreSorted sheets → slice_get sheets i ≡ Some s → slice_get sheets j ≡ Some t → i < j → ComesBefore s.layer t.layer
+sorted_at sheets i j s t sorted at_i at_j lt =
+    let P : PlainSheet → PlainSheet → Type 0 = λ u v. ComesBefore u.layer v.layer in
+    let left : get_or sheets i s ≡ s = get_or_from_slice_get sheets i s s at_i in
+    let right : get_or sheets j s ≡ t = get_or_from_slice_get sheets j t s at_j in
+    subst (λ u. P u t) left (subst (λ v. P (get_or sheets i s) v) right (sorted i j s lt (slice_get_within sheets j t at_j)))
+
+-- a sheet up to one that comes before the Layer does so too
+pub up_to : (sheets : List PlainSheet) (layer : Layer) (m k : ℕ) (t s : PlainSheet) → AreSorted sheets → slice_get sheets m ≡ Some t → ComesBefore t.layer layer → k ≤ m → slice_get sheets k ≡ Some s → ComesBefore s.layer layer
+up_to sheets layer m k t s sorted there before low at =
+    elim (cases_lt k m) [
+      | inl lt ↦ before_trans s.layer t.layer layer (sorted_at sheets k m s t sorted at there lt) before
+      | inr le ↦
+          let same : k ≡ m = omega (arith, le, low) in
+          let one : Some s ≡ Some t = sym at ∙ (ap (slice_get sheets) same ∙ there) in
+          let here : t ≡ s = cc in
+          subst (λ (u : PlainSheet). ComesBefore u.layer layer) here before
+    ]
+
+-- a sheet from one on that does not come before the Layer does not either
+pub from_on : (sheets : List PlainSheet) (layer : Layer) (m k : ℕ) (t s : PlainSheet) → AreSorted sheets → slice_get sheets m ≡ Some t → (ComesBefore t.layer layer → ⊥) → m ≤ k → slice_get sheets k ≡ Some s → ComesBefore s.layer layer → ⊥
+from_on sheets layer m k t s sorted there late high at before = late (up_to sheets layer k m s t sorted at before high there)
+
+-- a Layer that is none of those that come before it, of its own place's, nor of those behind
+pub nowhere : (sheets : List PlainSheet) (layer : Layer) (low : ℕ) → AreSorted sheets
+    → ((k : ℕ) (s : PlainSheet) → k < low → slice_get sheets k ≡ Some s → ComesBefore s.layer layer)
+    → ((k : ℕ) (s : PlainSheet) → low ≤ k → slice_get sheets k ≡ Some s → ComesBefore s.layer layer → ⊥)
+    → ((s : PlainSheet) → slice_get sheets low ≡ Some s → s.layer ≡ layer → ⊥)
+    → (k : ℕ) (d : PlainSheet) → k < length sheets → (get_or sheets k d).layer ≡ layer → ⊥
+nowhere sheets layer low sorted below above other k d in' same =
+    let s : PlainSheet = get_or sheets k d in
+    let at : slice_get sheets k ≡ Some s = slice_get-get_or sheets k d in' in
+    elim (cases_lt k low) [
+      | inl lt ↦ before_itself layer (subst (λ (x : Layer). ComesBefore x layer) same (below k s lt at))
+      | inr le ↦
+          elim (cases_lt low k) [
+            | inl gt ↦
+                let first : PlainSheet = get_or sheets low d in
+                let there : slice_get sheets low ≡ Some first = slice_get-get_or sheets low d (omega (arith, gt, in')) in
+                above low first (omega arith) there (subst (λ (x : Layer). ComesBefore first.layer x) same (sorted_at sheets low k first s sorted there at gt))
+            | inr eq ↦
+                let here : k ≡ low = omega (arith, le, eq) in
+                other s (subst (λ (j : ℕ). slice_get sheets j ≡ Some s) here at) same
+          ]
+    ]
+
+pub layers_equal : (a b : Layer) → a.layer ≡ b.layer → a.datatype ≡ b.datatype → a ≡ b
+layers_equal a b e f = let of : (x y : ℕ) → Layer = λ x y. record { layer = x; datatype = y } in ap (λ x. of x a.datatype) e ∙ ap (of b.layer) f
+
+-- what the two tests of a Layer say
+pub tested_layer : (a b : Layer) → not (a.layer == b.layer && (a.datatype == b.datatype)) ≡ false → a ≡ b
+tested_layer a b e = layers_equal a b (grind arith) (grind arith)
+
+pub other_layer : (a b : Layer) → not (a.layer == b.layer && (a.datatype == b.datatype)) ≡ true → a ≡ b → ⊥
+other_layer a b e same =
+    let one : a.layer ≡ b.layer = ap (λ (x : Layer). x.layer) same in
+    let two : a.datatype ≡ b.datatype = ap (λ (x : Layer). x.datatype) same in grind arith
+
+pub same_is : (a b : Layer) → a ≡ b → same_layer a b ≡ true
+same_is a b same =
+    let one : a.layer ≡ b.layer = ap (λ (x : Layer). x.layer) same in
+    let two : a.datatype ≡ b.datatype = ap (λ (x : Layer). x.datatype) same in grind arith
+
+pub differs_is : (a b : Layer) → (a ≡ b → ⊥) → same_layer a b ≡ false
+differs_is a b other =
+    elim (same_layer a b) as (λ t. same_layer a b ≡ t → same_layer a b ≡ false) [
+      | true ↦ λ e. absurd (other (tested_layer a b (ap not e)))
+      | false ↦ λ e. e
+    ] refl
+
+pub sorted_tail : (s : PlainSheet) (sheets : List PlainSheet) → AreSorted (s ∷ sheets) → AreSorted sheets
+sorted_tail s sheets sorted = λ i j d lt in'. sorted (suc i) (suc j) d (omega (arith, lt)) (omega (arith, in'))
+
+-- the rings on a Layer, where its sheet stands and where none does
+pub rings_where : (sheets : List PlainSheet) (layer : Layer) (i : ℕ) (s : PlainSheet) → AreSorted sheets → slice_get sheets i ≡ Some s → s.layer ≡ layer → rings_on layer sheets ≡ s.rings
+rings_where [] layer i s sorted at is = cc
+rings_where (t ∷ sheets) layer zero s sorted at is =
+    let one : t ≡ s = cc in
+    ap (λ b. cond b t.rings (rings_on layer sheets)) (same_is t.layer layer (ap (λ (x : PlainSheet). x.layer) one ∙ is)) ∙ ap (λ (x : PlainSheet). x.rings) one
+rings_where (t ∷ sheets) layer (suc i) s sorted at is =
+    let before : ComesBefore t.layer s.layer = sorted_at (t ∷ sheets) 0 (suc i) t s sorted refl at (omega arith) in
+    let other : t.layer ≡ layer → ⊥ = λ e. before_itself layer (subst (λ (x : Layer). ComesBefore x layer) e (subst (λ (x : Layer). ComesBefore t.layer x) is before)) in
+    ap (λ b. cond b t.rings (rings_on layer sheets)) (differs_is t.layer layer other) ∙ rings_where sheets layer i s (sorted_tail t sheets sorted) at is
+
+pub rings_nowhere : (sheets : List PlainSheet) (layer : Layer) → All (λ s. s.layer ≢ layer) sheets → rings_on layer sheets ≡ []
+rings_nowhere [] layer none = refl
+rings_nowhere (t ∷ sheets) layer none =
+    ap (λ b. cond b t.rings (rings_on layer sheets)) (differs_is t.layer layer (All-head (λ s. s.layer ≢ layer) t sheets none)) ∙ rings_nowhere sheets layer (All-tail (λ s. s.layer ≢ layer) t sheets none)

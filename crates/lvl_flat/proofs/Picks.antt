@@ -1,0 +1,98 @@
+-- Picks, one after another.
+use Rattle.std.proofs.Common.{◌≡◌, ◌<◌, ◌≤◌, ◌++◌, ◌+◌, ◌*◌, ℕ, zero, suc, List, [], ◌∷◌, length, get_or, drop, map, sum_by, slice_get, Some, Any, Contains, ◌⊎◌, ◌↔◌, inl, inr, refl, sym, ap, subst, ◌∙◌, arith, add_comm}
+use Rattle.std.specs.List.{flat_map}
+use Rattle.std.specs.Option.{option_map_or}
+use Rattle.std.proofs.Math.Nat.{zero-mul, suc-mul}
+use Rattle.std.proofs.lemmas.List.{drop_all}
+use Rattle.std.proofs.lemmas.List.Sums.{sum_by-cons, sum_by-append}
+use Rattle.std.proofs.lemmas.List.Elements.{Contains-append_left, Contains-append_right, Contains-append_cases}
+use Rattle.lvl_grid.specs.declared.point.Point.{Point}
+use Rattle.lvl_cells.specs.Cells.{PlainCell, PlainReference, Rings}
+use Rattle.lvl_flat.specs.Visits.{Pick, picks, picks_from}
+
+pub contained : {X : Type 0} (P : X → Type 0) (xs : List X) (x : X) → Contains xs x → P x → Any P xs
+contained P xs x h p = (h.0, x, h.1, h.2, p)
+
+pub Any-none : {X : Type 0} (P : X → Type 0) → Any P [] → ⊥
+Any-none P a = let below : a.0 < 0 = a.2 in absurd (omega arith)
+
+pub Any-first : {X : Type 0} (P : X → Type 0) (x : X) (xs : List X) → P x → Any P (x ∷ xs)
+Any-first P x xs p = (0, x, omega arith, refl, p)
+
+pub Any-later : {X : Type 0} (P : X → Type 0) (x : X) (xs : List X) → Any P xs → Any P (x ∷ xs)
+Any-later P x xs (k, y, below, e, p) = (suc k, y, omega arith, e, p)
+
+pub Any-cases : {X : Type 0} (P : X → Type 0) (x : X) (xs : List X) → Any P (x ∷ xs) → P x ⊎ Any P xs
+Any-cases P x xs (zero, y, below, e, p) = inl (subst P (sym e) p)
+Any-cases P x xs (suc k, y, below, e, p) = inr (k, y, omega arith, e, p)
+
+pub Any-left : {X : Type 0} (P : X → Type 0) (xs ys : List X) → Any P xs → Any P (xs ++ ys)
+Any-left P xs ys a = contained P (xs ++ ys) a.1 (Contains-append_left xs ys a.1 (a.0, a.2, a.3)) a.4
+
+pub Any-right : {X : Type 0} (P : X → Type 0) (xs ys : List X) → Any P ys → Any P (xs ++ ys)
+Any-right P xs ys a = contained P (xs ++ ys) a.1 (Contains-append_right xs ys a.1 (a.0, a.2, a.3)) a.4
+
+pub Any-sides : {X : Type 0} (P : X → Type 0) (xs ys : List X) → Any P (xs ++ ys) → Any P xs ⊎ Any P ys
+Any-sides P xs ys a = elim (Contains-append_cases xs ys a.1 (a.0, a.2, a.3)) [ inl c ↦ inl (contained P xs a.1 c a.4) | inr c ↦ inr (contained P ys a.1 c a.4) ]
+
+pub Any-mapped : {X Y : Type 0} (P : Y → Type 0) (f : X → Y) (xs : List X) → Any P (map f xs) ↔ Any (λ x. P (f x)) xs
+Any-mapped P f [] = (λ a. absurd (Any-none P a), λ a. absurd (Any-none (λ x. P (f x)) a))
+Any-mapped P f (x ∷ xs) = (
+  λ a. elim (Any-cases P (f x) (map f xs) a) [ inl p ↦ Any-first (λ y. P (f y)) x xs p | inr r ↦ Any-later (λ y. P (f y)) x xs ((Any-mapped P f xs).0 r) ],
+  λ a. elim (Any-cases (λ y. P (f y)) x xs a) [ inl p ↦ Any-first P (f x) (map f xs) p | inr r ↦ Any-later P (f x) (map f xs) ((Any-mapped P f xs).1 r) ],
+)
+
+drop_at : {X : Type 0} (xs : List X) (i : ℕ) (x : X) → slice_get xs i ≡ Some x → drop i xs ≡ x ∷ drop (i + 1) xs
+drop_at [] i x at = cc
+drop_at {X} (y ∷ ys) zero x at = let one : y ≡ x = cc in ap (λ (z : X). z ∷ ys) one
+drop_at (y ∷ ys) (suc i) x at = let one : suc (i + 1) ≡ suc i + 1 = omega arith in drop_at ys i x at ∙ ap (λ n. x ∷ drop n (y ∷ ys)) one
+
+-- the picks of all references
+pub picks_from_start : (rs : List PlainReference) → picks_from rs 0 ≡ picks rs
+picks_from_start [] = refl
+picks_from_start (r ∷ rs) = refl
+
+-- the pick at a place, where more of the reference are behind it, and where it is the last
+pub pick_next : (rs : List PlainReference) (j place : ℕ) (r : PlainReference) (e : Point) → slice_get rs j ≡ Some r → slice_get r.shifts place ≡ Some e → picks_from (drop j rs) place ≡ (r, e) ∷ picks_from (drop j rs) (place + 1)
+pick_next rs j place r e at shift =
+    let pair : Point → Pick = λ d. (r, d) in
+    ap (λ refs. picks_from refs place) (drop_at rs j r at)
+    ∙ (ap (λ es. map pair es ++ picks (drop (j + 1) rs)) (drop_at r.shifts place e shift) ∙ ap (λ refs. (r, e) ∷ picks_from refs (place + 1)) (sym (drop_at rs j r at)))
+
+pub pick_last : (rs : List PlainReference) (j place : ℕ) (r : PlainReference) → slice_get rs j ≡ Some r → length r.shifts ≤ place → picks_from (drop j rs) place ≡ picks_from (drop (j + 1) rs) 0
+pick_last rs j place r at past =
+    let pair : Point → Pick = λ d. (r, d) in
+    ap (λ refs. picks_from refs place) (drop_at rs j r at) ∙ (ap (λ es. map pair es ++ picks (drop (j + 1) rs)) (drop_all place r.shifts past) ∙ sym (picks_from_start (drop (j + 1) rs)))
+
+pub picks_past : (rs : List PlainReference) (j place : ℕ) → length rs ≤ j → picks_from (drop j rs) place ≡ []
+picks_past rs j place past = ap (λ refs. picks_from refs place) (drop_all j rs past)
+
+sum_alike : (f : PlainReference → ℕ) (r : PlainReference) (es : List Point) → sum_by (λ (p : Pick). f p.0) (map (λ e. (r, e)) es) ≡ length es * f r
+sum_alike f r [] = sym (zero-mul (f r))
+sum_alike f r (e ∷ es) = sum_by-cons (λ (p : Pick). f p.0) (r, e) (map (λ d. (r, d)) es) ∙ (ap (λ n. f r + n) (sum_alike f r es) ∙ (add_comm (f r) (length es * f r) ∙ sym (suc-mul (length es) (f r))))
+
+-- a weight of the references is that of their picks
+pub picks_sum : (f : PlainReference → ℕ) (rs : List PlainReference) → sum_by (λ r. length r.shifts * f r) rs ≡ sum_by (λ (p : Pick). f p.0) (picks rs)
+picks_sum f [] = refl
+picks_sum f (r ∷ rs) =
+    sum_by-cons (λ (q : PlainReference). length q.shifts * f q) r rs
+    ∙ (ap (λ n. length r.shifts * f r + n) (picks_sum f rs) ∙ (ap (λ n. n + sum_by (λ (p : Pick). f p.0) (picks rs)) (sym (sum_alike f r r.shifts)) ∙ sym (sum_by-append (λ (p : Pick). f p.0) (map (λ e. (r, e)) r.shifts) (picks rs))))
+
+-- and some place of some reference is some pick
+pub picks_any : (P : PlainReference → Point → Type 0) (rs : List PlainReference) → Any (λ r. Any (P r) r.shifts) rs ↔ Any (λ p. P p.0 p.1) (picks rs)
+picks_any P [] = (λ a. absurd (Any-none (λ (r : PlainReference). Any (P r) r.shifts) a), λ a. absurd (Any-none (λ (p : Pick). P p.0 p.1) a))
+picks_any P (r ∷ rs) =
+    let Q : Pick → Type 0 = λ p. P p.0 p.1 in
+    let R : PlainReference → Type 0 = λ q. Any (P q) q.shifts in
+    let mine : List Pick = map (λ e. (r, e)) r.shifts in (
+      λ a.
+          elim (Any-cases R r rs a) [
+            | inl here ↦ Any-left Q mine (picks rs) ((Any-mapped Q (λ e. (r, e)) r.shifts).1 here)
+            | inr later ↦ Any-right Q mine (picks rs) ((picks_any P rs).0 later)
+          ],
+      λ a.
+          elim (Any-sides Q mine (picks rs) a) [
+            | inl here ↦ Any-first R r rs ((Any-mapped Q (λ e. (r, e)) r.shifts).0 here)
+            | inr later ↦ Any-later R r rs ((picks_any P rs).1 later)
+          ],
+    )

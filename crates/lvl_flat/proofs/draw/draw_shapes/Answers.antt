@@ -1,0 +1,52 @@
+use Rattle.std.proofs.Common.{◌≡◌, ◌≢◌, ◌<◌, ◌≤◌, ◌++◌, ◌+◌, ℕ, List, All, Contains, take, length, get_or, map, refl, sym, ap, subst, ◌∙◌, arith, slice_get, Some}
+use Rattle.std.proofs.lemmas.List.{take_all}
+use Rattle.std.proofs.lemmas.List.Elements.{All-more}
+use Rattle.std.proofs.lemmas.Option.{slice_get_within, get_or_from_slice_get}
+use Rattle.lvl_cells.specs.declared.layer.Layer.{Layer}
+use Rattle.lvl_cells.specs.Cells.{PlainShape, Rings}
+use Rattle.lvl_flat.specs.Drawn.{placed_shape, drawn_on, IsPlaced, AreFiguresPlaced}
+use Rattle.lvl_flat.specs.Sheet.{PlainSheet}
+use Rattle.lvl_flat.specs.Sheets.{AreSorted, rings_on}
+use Rattle.lvl_flat.proofs.Drawing.{layer_of, sorted_alike, not_theirs, layers-set, drawn_next}
+use Rattle.lvl_flat.proofs.draw.draw_shapes.Goals as goal
+
+pub place_of-requires : goal.place_of-requires
+place_of-requires c = subst AreSorted (sym c.deref.ensures.value) (sorted_alike c.loop-shape.sheets.items c.args.sheets.now.items c.loop-shape.invariant.layers c.requires.sorted)
+
+pub unreachable-requires : goal.unreachable-requires
+unreachable-requires c =
+    let h : PlainShape Rings = c.shape-item.result in
+    let layer : c.shape.inside.layer ≡ h.layer = ap (λ (g : PlainShape Rings). g.layer) c.shape.view_is in
+    let has : Contains (map layer_of c.args.sheets.now.items) h.layer = subst (λ (g : PlainShape Rings). Contains (map layer_of c.args.sheets.now.items) g.layer) (sym c.shape-item.is) (c.requires.layers c.loop-shape.shape-index h c.loop-shape-test.true) in
+    let now : Contains (map layer_of c.loop-shape.sheets.items) h.layer = subst (λ ls. Contains ls h.layer) (sym c.loop-shape.invariant.layers) has in
+    let none : All (λ s. s.layer ≢ h.layer) c.loop-shape.sheets.items = subst (λ (x : Layer). All (λ s. s.layer ≢ x) c.loop-shape.sheets.items) layer (subst (λ ss. All (λ s. s.layer ≢ c.shape.inside.layer) ss) c.deref.ensures.value c.in_default.ensures.absent) in
+    not_theirs c.loop-shape.sheets.items h.layer none now
+
+pub index_mut-sheet-requires : goal.index_mut-sheet-requires
+index_mut-sheet-requires c = let inside = slice_get_within c.deref.result.now c.in-Some.place c.in-Some.ensures.found.sheet c.in-Some.ensures.found.there in omega (arith, inside, c.deref.ensures.len)
+
+pub loop-shape-preserved : goal.loop-shape-preserved
+loop-shape-preserved c =
+    let kept = c.loop-shape.invariant in
+    let found = c.in-Some.ensures.found in
+    let items : List PlainSheet = c.loop-shape.sheets.items in
+    let h : PlainShape Rings = c.shape-item.result in
+    let s : PlainSheet = found.sheet in
+    let added : Rings = placed_shape c.args.map.now h in
+    let there : slice_get items c.in-Some.place ≡ Some s = subst (λ ss. slice_get ss c.in-Some.place ≡ Some s) c.deref.ensures.value found.there in
+    let lent : c.index_mut-sheet.result.now ≡ s = c.index_mut-sheet.ensures.value ∙ get_or_from_slice_get items c.in-Some.place s c.index_mut-sheet.result.now there in
+    let layer : c.sheet.inside.layer ≡ s.layer = ap layer_of (c.sheet.view_is ∙ lent) in
+    let rings : c.draw_shape.new.rings.items ≡ s.rings ++ added = c.in_ok-draw_shape.ensures.drawn ∙ ap (λ (u : PlainSheet). u.rings ++ added) (c.sheet.view_is ∙ lent) in
+    let of : Layer → Rings → PlainSheet = λ x r. record { layer = x; rings = r } in
+    let new : of c.sheet.inside.layer c.draw_shape.new.rings.items ≡ of s.layer (s.rings ++ added) = ap (λ x. of x c.draw_shape.new.rings.items) layer ∙ ap (of s.layer) rings in
+    let same : s.layer ≡ h.layer = found.layer_is ∙ ap (λ (g : PlainShape Rings). g.layer) c.shape.view_is in
+    let sorted : AreSorted items = sorted_alike items c.args.sheets.now.items kept.layers c.requires.sorted in
+    record {
+      drawn = drawn_next c.args.sheets.now.items items c.args.map.now c.args.shapes.now c.loop-shape.shape-index h c.in-Some.place s (of c.sheet.inside.layer c.draw_shape.new.rings.items) sorted there same new c.loop-shape-test.true c.shape-item.is kept.drawn;
+      placed = All-more (λ (g : PlainShape Rings). All (λ e. All (IsPlaced c.args.map.now e) g.figure) g.shifts) c.args.shapes.now c.loop-shape.shape-index h c.loop-shape-test.true kept.placed
+      (subst (λ (g : PlainShape Rings). All (λ e. All (IsPlaced c.args.map.now e) g.figure) g.shifts) c.shape-item.is c.in_ok-draw_shape.ensures.placed);
+      layers = layers-set items c.in-Some.place s (of c.sheet.inside.layer c.draw_shape.new.rings.items) there layer ∙ kept.layers;
+    }
+
+pub returns-clause-placed : goal.returns-clause-placed
+returns-clause-placed c = subst (AreFiguresPlaced c.args.map.now) (take_all c.loop-shape.shape-index c.args.shapes.now c.loop-shape-test.false) c.loop-shape.invariant.placed

@@ -1,0 +1,48 @@
+-- What flattening gives, and when it is refused.
+use Rattle.std.specs.Prelude.{◌≡◌, ◌↔◌, ⊤, ℕ, List, length, slice_get, Some}
+use Rattle.lvl_grid.specs.declared.map.Map.{Map}
+use Rattle.lvl_grid.specs.declared.point.Square.{Square}
+use Rattle.lvl_cells.specs.declared.layer.Layer.{Layer}
+use Rattle.lvl_cells.specs.Cells.{PlainCell, Rings, each_ring}
+use Rattle.lvl_cells.specs.Coverage.{RingsCover, CellCovers}
+use Rattle.lvl_cells.specs.Chains.{Chain, IsInRange, placed_rings_on}
+use Rattle.lvl_cells.specs.Checks.{Settled}
+use Rattle.lvl_flat.specs.declared.fault.FlatFault.{FlatFault}
+use Rattle.lvl_flat.specs.declared.fault.FlatFault.TheVariants.{OutOfRange, OutOfMemory}
+use Rattle.lvl_flat.specs.Sheet.{PlainSheet}
+use Rattle.lvl_flat.specs.Sheets.{rings_on}
+
+-- on each Layer the rings together cover what the cell covers
+abbrev pub CoverAlike : List (PlainCell Rings) → PlainCell Rings → List PlainSheet → Type 0
+CoverAlike cells c sheets = (layer : Layer) (s : Square) → RingsCover (rings_on layer sheets) s ↔ CellCovers RingsCover cells layer c s
+
+-- and they are as many as the placed rings there
+abbrev pub AreAsMany : List (PlainCell Rings) → PlainCell Rings → List PlainSheet → Type 0
+AreAsMany cells c sheets = (layer : Layer) → length (rings_on layer sheets) ≡ placed_rings_on each_ring layer cells c
+
+-- every chain's shift and every placed vertex is within 64 signed bits
+abbrev pub AllInRange : List (PlainCell Rings) → PlainCell Rings → Type 0
+AllInRange cells c = (n : ℕ) (m : Map) (d : PlainCell Rings) → Chain cells c n m d → IsInRange each_ring m d
+
+-- the rings cover, and count, what the top places, and all of it is in range
+pub record IsFlattened (s : Settled) (sheets : List PlainSheet) : Type 0 where
+  pub top : PlainCell Rings
+  pub is_top : slice_get s.cells s.top ≡ Some top
+  pub covers : CoverAlike s.cells top sheets
+  pub count : AreAsMany s.cells top sheets
+  pub in_range : AllInRange s.cells top
+
+-- a cell of that name stands at the end of a chain from the top, and is out of range there
+pub record IsOutOfRange (s : Settled) (name : List ℕ) : Type 0 where
+  pub top : PlainCell Rings
+  pub is_top : slice_get s.cells s.top ≡ Some top
+  pub steps : ℕ
+  pub map : Map
+  pub cell : PlainCell Rings
+  pub chain : Chain s.cells top steps map cell
+  pub named : cell.name ≡ name
+  pub out : ¬ IsInRange each_ring map cell
+
+abbrev pub IsFlatFault : Settled → FlatFault → Type 0
+IsFlatFault s (OutOfRange name) = IsOutOfRange s name.items
+IsFlatFault s OutOfMemory = ⊤

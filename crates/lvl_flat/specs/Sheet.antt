@@ -1,0 +1,8 @@
+-- The rings of one Layer.
+use Rattle.std.specs.Prelude.{List}
+use Rattle.lvl_cells.specs.declared.layer.Layer.{Layer}
+use Rattle.lvl_cells.specs.Cells.{Rings}
+
+pub record PlainSheet : Type 0 where
+  pub layer : Layer
+  pub rings : Rings

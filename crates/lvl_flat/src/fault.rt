@@ -1,0 +1,14 @@
+//! Why a library could not be flattened.
+use thiserror::Error;
+
+/// Why a library could not be flattened (own rule).
+#[derive(Debug, Drop, Error)]
+pub enum FlatFault {
+    /// The cell of that name stands at the end of a chain of references whose shift, or one of
+    /// whose placed vertices, is outside 64 signed bits. Which of several is open.
+    #[error("a placed coordinate is outside 64 bits")]
+    OutOfRange(Vec<u8>),
+    /// A growth was refused.
+    #[error("out of memory")]
+    OutOfMemory,
+}

@@ -1,0 +1,95 @@
+//! The rings of each Layer, in the order of the Layers.
+ghost use Rattle.std.specs.Prelude.{◌≡◌, ◌≢◌, ◌↔◌, map, slice_get, All, IsTrue, IfSome, IfNone};
+ghost use Rattle.lvl_flat.specs.Sheets.{rings_on, IsInOrder, ComesBefore, AreSorted, SheetAt};
+
+use lvl_cells::Layer;
+use lvl_grid::Ring;
+use std::marker::Model;
+
+/// The rings of one Layer.
+#[derive(Debug, Drop)]
+pub(crate) struct Sheet {
+    pub layer: Layer,
+    pub rings: Vec<Ring>,
+}
+
+impl Model for Sheet {
+    ghost use Rattle.lvl_flat.specs.Sheet.{PlainSheet};
+
+    ghost Value = { PlainSheet };
+
+    ghost view = { λ s. record { layer = s.layer; rings = s.rings.items } };
+}
+
+/// The placed rings of each Layer that has any, in the order of the Layers.
+#[derive(Debug, Drop)]
+pub struct Flat {
+    sheets: Vec<Sheet>,
+}
+
+impl Model for Flat {
+    ghost use Rattle.std.specs.Prelude.{List};
+    ghost use Rattle.lvl_flat.specs.Sheet.{PlainSheet};
+    ghost use Rattle.lvl_flat.specs.Sheets.{IsInOrder};
+
+    ghost Value = { List PlainSheet };
+
+    ghost view = { λ f. f.sheets.items };
+
+    ghost invariant = { λ f. IsInOrder f.sheets.items };
+}
+
+impl Flat {
+    /// The Layer at the place, in their order; each has a ring at least.
+    pub fn layer(&self, place: usize) -> Option<Layer>
+        ensures layer { result ≡ slice_get (map (λ s. s.layer) self.now) place }
+        ensures in_order { IsInOrder self.now }
+    {
+        self.sheets.get(place).map(|sheet| sheet.layer)
+    }
+
+    /// The rings of the Layer; none where it is absent.
+    pub fn rings(&self, layer: Layer) -> &[Ring]
+        ensures { result.now ≡ rings_on layer self.now }
+    {
+        match place_of(&self.sheets, layer) {
+            Some(place) => {
+                let sheet = &self.sheets[place];
+                &sheet.rings
+            }
+            None => &[],
+        }
+    }
+}
+
+/// Whether the first Layer comes before the second.
+fn comes_before(first: Layer, second: Layer) -> bool
+    ensures { IsTrue result ↔ ComesBefore first second }
+{
+    first.layer < second.layer
+        || (first.layer == second.layer && first.datatype < second.datatype)
+}
+
+/// The place of the Layer's sheet.
+pub(crate) fn place_of(sheets: &[Sheet], layer: Layer) -> Option<usize>
+    requires { AreSorted sheets.now }
+    ensures found { IfSome result (λ i. SheetAt sheets.now i layer) }
+    ensures absent { IfNone result (All (λ s. s.layer ≢ layer) sheets.now) }
+{
+    let mut low = 0;
+    let mut high = sheets.len();
+    while low < high {
+        let middle = low + (high - low) / 2;
+        let sheet = &sheets[middle];
+        if comes_before(sheet.layer, layer) {
+            low = middle + 1;
+        } else {
+            high = middle;
+        }
+    }
+    let sheet = sheets.get(low)?;
+    if sheet.layer != layer {
+        return None;
+    }
+    Some(low)
+}

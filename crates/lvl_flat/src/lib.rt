@@ -1,0 +1,16 @@
+//! Flattening: all rings that a library's top places, Layer by Layer.
+//!
+//! [`flatten`] walks the chains of references from the top and places each ring that it meets.
+//! What it gives, a [`Flat`], has for each Layer a list of rings that together cover exactly what
+//! the top covers there.
+#![tactic(auto)]
+
+pub use fault::FlatFault;
+pub use flat::Flat;
+pub use walk::flatten;
+
+mod draw;
+mod fault;
+mod flat;
+mod visit;
+mod walk;

@@ -1,0 +1,98 @@
+-- The straight runs of a path, and the squares that it covers.
+use Rattle.std.specs.Prelude.{◌≡◌, ◌<◌, ◌≤◌, ◌+◌, ◌-◌, ◌==◌, ◌||◌, not, Bool, ⊤, ℕ, pos, List, [], ◌∷◌, length, map, filter, slice_index_or, Any, if◌then◌else◌, unsigned_abs, ◌-ℤ◌}
+use Rattle.std.specs.List.{range_with_len}
+use Rattle.lvl_grid.specs.declared.point.Point.{Point}
+use Rattle.lvl_grid.specs.declared.point.Square.{Square}
+use Rattle.lvl_grid.specs.Winding.{IsStraight, path_edges}
+use Rattle.lvl_path.specs.declared.band.Band.{Band}
+use Rattle.lvl_path.specs.declared.band.Reach.{Reach}
+use Rattle.lvl_path.specs.declared.fault.PathFault.{PathFault}
+use Rattle.lvl_path.specs.declared.fault.PathFault.TheVariants.{NoWidth, FewPoints, Oblique, RepeatedPoint, TurnsBack, ShortRun, OutOfRange, OutOfMemory}
+use Rattle.lvl_path.specs.declared.way.Way.{Way}
+use Rattle.lvl_path.specs.Ways.{way_between, opposite, same_way}
+use Rattle.lvl_path.specs.Bands.{band_between, band_ring, Holds, FitsBand}
+
+-- the point at a place of the path
+abbrev pub point : List Point → ℕ → Point
+point ps k = slice_index_or ps k (record { x = pos 0; y = pos 0 })
+
+-- the step that ends at the place k, and its way
+abbrev pub way_into : List Point → ℕ → Way
+way_into ps k = way_between (point ps (k - 1)) (point ps k)
+
+-- the path ends at the place, or does not go straight on there
+abbrev pub is_corner : List Point → ℕ → Bool
+is_corner ps k = (k + 1 == length ps) || not (same_way (way_into ps k) (way_into ps (k + 1)))
+
+-- the places after the first at which the path ends or does not go straight on
+abbrev pub corners : List Point → List ℕ
+corners ps = filter (is_corner ps) (range_with_len 1 (length ps - 1))
+
+-- the runs: from the first point to the first corner, and from each corner to the next
+abbrev pub runs : List Point → List (ℕ × ℕ)
+runs ps = path_edges 0 (corners ps)
+
+-- the band of a run: half beyond a corner, the end's reach beyond an end of the path
+abbrev pub run_band : List Point → Reach → ℕ × ℕ → Band
+run_band ps w run = band_between (point ps run.0) (point ps run.1) w.half (if run.0 == 0 then w.start else w.half) (if run.1 + 1 == length ps then w.end else w.half)
+
+-- the path covers the squares that some run holds
+abbrev pub PathCovers : List Point → Reach → Square → Type 0
+PathCovers ps w s = Any (λ run. Holds (run_band ps w run) s) (runs ps)
+
+-- the bands as rings, in the order of the runs
+abbrev pub path_rings : List Point → Reach → List (List Point)
+path_rings ps w = map (λ run. band_ring (run_band ps w run)) (runs ps)
+
+-- how far a run goes
+abbrev pub run_length : List Point → ℕ × ℕ → ℕ
+run_length ps run = unsigned_abs ((point ps run.1).x -ℤ (point ps run.0).x) + unsigned_abs ((point ps run.1).y -ℤ (point ps run.0).y)
+
+-- some step of the path does so
+abbrev pub SomeStep : (Point → Point → Type 0) → List Point → Type 0
+SomeStep P ps = (k : ℕ) × (0 < k) × (k < length ps) × P (point ps (k - 1)) (point ps k)
+
+-- some step goes against the step before it
+abbrev pub TurnsBackSomewhere : List Point → Type 0
+TurnsBackSomewhere ps = (k : ℕ) × (0 < k) × (k + 1 < length ps) × (way_into ps (k + 1) ≡ opposite (way_into ps k))
+
+-- what is wrong with a path, by the number of the fault
+abbrev pub HasFault : List Point → Reach → PathFault → Type 0
+HasFault ps w NoWidth = w.half ≡ 0
+HasFault ps w FewPoints = length ps < 2
+HasFault ps w Oblique = SomeStep (λ p q. ¬ IsStraight (p, q)) ps
+HasFault ps w RepeatedPoint = SomeStep (λ p q. p ≡ q) ps
+HasFault ps w TurnsBack = TurnsBackSomewhere ps
+HasFault ps w ShortRun = (2 ≤ length (runs ps)) × Any (λ run. run_length ps run < w.half) (runs ps)
+HasFault ps w OutOfRange = Any (λ run. ¬ FitsBand (run_band ps w run)) (runs ps)
+HasFault ps w OutOfMemory = ⊤
+
+-- none of these is wrong with it
+abbrev pub HasNone : List Point → Reach → List PathFault → Type 0
+HasNone ps w [] = ⊤
+HasNone ps w (fault ∷ faults) = (¬ HasFault ps w fault) × HasNone ps w faults
+
+-- the faults of lower numbers
+abbrev pub lower : PathFault → List PathFault
+lower NoWidth = []
+lower FewPoints = NoWidth ∷ []
+lower Oblique = NoWidth ∷ FewPoints ∷ []
+lower RepeatedPoint = NoWidth ∷ FewPoints ∷ Oblique ∷ []
+lower TurnsBack = NoWidth ∷ FewPoints ∷ Oblique ∷ RepeatedPoint ∷ []
+lower ShortRun = NoWidth ∷ FewPoints ∷ Oblique ∷ RepeatedPoint ∷ TurnsBack ∷ []
+lower OutOfRange = NoWidth ∷ FewPoints ∷ Oblique ∷ RepeatedPoint ∷ TurnsBack ∷ ShortRun ∷ []
+lower OutOfMemory = []
+
+-- the lowest fault that the path has; want of memory says nothing of it
+abbrev pub IsLowestFault : List Point → Reach → PathFault → Type 0
+IsLowestFault ps w fault = HasFault ps w fault × HasNone ps w (lower fault)
+
+-- it has none at all
+abbrev pub IsPath : List Point → Reach → Type 0
+IsPath ps w = HasNone ps w (NoWidth ∷ FewPoints ∷ Oblique ∷ RepeatedPoint ∷ TurnsBack ∷ ShortRun ∷ OutOfRange ∷ [])
+
+-- a band is out of range, or there is no memory
+abbrev pub IsBandsFault : List Point → Reach → PathFault → Type 0
+IsBandsFault ps w OutOfRange = HasFault ps w OutOfRange
+IsBandsFault ps w OutOfMemory = ⊤
+IsBandsFault ps w _ = ⊥

@@ -1,0 +1,17 @@
+//! Paths: the bands of squares that the straight runs of a path cover.
+//!
+//! A path is a list of points, each step along an axis. Where it goes straight on, a point tells
+//! nothing and is left out; what is left has straight runs that meet at right angles. Each run
+//! covers a band, and [`bands`] gives these as rings.
+#![tactic(auto)]
+
+pub use fault::PathFault;
+pub use runs::bands;
+
+mod band;
+mod fault;
+mod runs;
+mod steps;
+#[cfg(test)]
+mod tests;
+mod way;
