@@ -138,7 +138,7 @@ fn text_of(alloc: Global, answer: Result<Checked, CellFault>) -> Result<String, 
 
 #[test]
 fn soundness(rt: HostRuntime) -> Result<(), Fail> {
-    let rows: [(&str, &[(&str, &[&str])], Option<&[u8]>, &str); 16] = [
+    let rows: [(&str, &[(&str, &[&str])], Option<&[u8]>, &str); 15] = [
         ("no cell", &[], None, "NoCell"),
         (
             "cell-fault-order",
@@ -184,12 +184,6 @@ fn soundness(rt: HostRuntime) -> Result<(), Fail> {
         ),
         ("top missing", &[("A", &[])], Some(b"X"), "TopMissing"),
         ("many tops", &[("A", &[]), ("B", &[])], None, "ManyTops"),
-        (
-            "a top of two",
-            &[("A", &[]), ("B", &[])],
-            Some(b"B"),
-            "top B",
-        ),
         (
             "a top below",
             &[("A", &["B"]), ("B", &[])],
