@@ -17,6 +17,7 @@ use Rattle.lvl_cells.specs.Soundness.{links}
 use Rattle.lvl_cells.specs.Steps.{AreAllTargets}
 use Rattle.lvl_cells.specs.Walking.{IsArc}
 use Rattle.lvl_cells.proofs.Indexes.{contains_at, at_contains}
+use Rattle.lvl_cells.proofs.Sequences.{one_answer}
 
 pub order_of_two : (i j : ℕ) → (i ≡ j) ⊎ ((i < j) ⊎ (j < i))
 order_of_two zero zero = inl refl
@@ -56,6 +57,16 @@ distinct_once xs once =
     let at_j : slice_get xs j ≡ Some x = slice_get-get_or xs j d le ∙ ap Some (sym same) in
     let one : i ≡ j = once i j x at_i at_j in
     absurd (omega (arith, one, lt))))
+
+-- the cell of the name at a place
+pub cell_at : (cells : List (PlainCell Rings)) (t : ℕ) (name : List ℕ) → slice_get (names cells) t ≡ Some name → (d : PlainCell Rings) × (slice_get cells t ≡ Some d) × (d.name ≡ name)
+cell_at cells t name h =
+    let name_of : PlainCell Rings → List ℕ = λ q. q.name in
+    let read : option_map name_of (slice_get cells t) ≡ Some name = sym (slice_get-map name_of cells t) ∙ h in
+    elim (slice_get cells t) as (λ o. slice_get cells t ≡ o → option_map name_of o ≡ Some name → (d : PlainCell Rings) × (slice_get cells t ≡ Some d) × (d.name ≡ name)) [
+      | None ↦ λ e g. cc
+      | Some d ↦ λ e g. let same : d.name ≡ name = cc in (d, e, same)
+    ] refl read
 
 -- a link, by the cell and the reference that it comes from
 pub record IsLinkOf (cells : List (PlainCell Rings)) (a b : List ℕ) : Type 0 where
@@ -141,16 +152,10 @@ arc_from_link cells targets k l a b d t hk hl h =
 -- an arc between the places of two cells is a link
 pub link_from_arc : (cells : List (PlainCell Rings)) (targets : List (Vec ℕ Global)) (k j l : ℕ) (a b : List ℕ) → AreAllTargets cells targets → slice_get (names cells) k ≡ Some a → slice_get (names cells) l ≡ Some b → IsArc targets k j l → Contains (links cells) (a, b)
 link_from_arc cells targets k j l a b t hk hl arc =
-    let name_of : PlainCell Rings → List ℕ = λ c. c.name in
-    let read : option_map name_of (slice_get cells k) ≡ Some a = sym (slice_get-map name_of cells k) ∙ hk in
-    elim (slice_get cells k) as (λ o. slice_get cells k ≡ o → option_map name_of o ≡ Some a → Contains (links cells) (a, b)) [
-      | None ↦ λ e g. cc
-      | Some c ↦ λ e g.
-          let row = row_of cells targets k c t e in
-          let same : row.0 ≡ arc.0 = (let s : Some row.0 ≡ Some arc.0 = sym row.1 ∙ arc.1 in cc) in
-          let at : slice_get row.0.items j ≡ Some l = subst (λ (u : Vec ℕ Global). slice_get u.items j ≡ Some l) (sym same) arc.2 in
-          let from = reference_in_row (names cells) row.0.items c.references j l row.2 at in
-          let to : from.0.cell ≡ b = (let s : Some from.0.cell ≡ Some b = sym from.2 ∙ hl in cc) in
-          let name : c.name ≡ a = cc in
-          subst (λ (n : List ℕ). Contains (links cells) (n, b)) name (subst (λ (n : List ℕ). Contains (links cells) (c.name, n)) to (is_link cells k c j from.0 e from.1))
-    ] refl read
+    let c = cell_at cells k a hk in
+    let row = row_of cells targets k c.0 t c.1 in
+    let same : row.0 ≡ arc.0 = one_answer row.1 arc.1 in
+    let at : slice_get row.0.items j ≡ Some l = subst (λ (u : Vec ℕ Global). slice_get u.items j ≡ Some l) (sym same) arc.2 in
+    let from = reference_in_row (names cells) row.0.items c.0.references j l row.2 at in
+    let to : from.0.cell ≡ b = one_answer from.2 hl in
+    subst (λ (n : List ℕ). Contains (links cells) (n, b)) c.2 (subst (λ (n : List ℕ). Contains (links cells) (c.0.name, n)) to (is_link cells k c.0 j from.0 c.1 from.1))

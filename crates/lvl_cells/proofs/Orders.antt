@@ -21,7 +21,7 @@ use Rattle.lvl_cells.proofs.Indexes.{contains_at}
 use Rattle.lvl_cells.proofs.Arcs.{once_numbered, row_of, reference_in_row, arc_from_link, link_from_arc}
 use Rattle.lvl_cells.proofs.Rounds.{name_there}
 use Rattle.lvl_cells.proofs.Walks.{none_open}
-use Rattle.lvl_cells.proofs.Sequences.{item_there, slice_get-drop}
+use Rattle.lvl_cells.proofs.Sequences.{one_answer, item_there, slice_get-drop}
 
 -- there are as many rows of targets as cells
 pub rows_long : (cells : List (PlainCell Rings)) (targets : List (Vec ℕ Global)) → AreAllTargets cells targets → length targets ≡ length cells
@@ -40,7 +40,7 @@ targets_within cells targets t =
     let row : slice_get targets k ≡ Some (get_or targets k ts) = slice_get-get_or targets k ts hk in
     let c = item_there cells k (omega (arith, hk, rows_long cells targets t)) in
     let here = row_of cells targets k c.0 t c.1 in
-    let same : get_or targets k ts ≡ here.0 = (let s : Some (get_or targets k ts) ≡ Some here.0 = sym row ∙ here.1 in cc) in
+    let same : get_or targets k ts ≡ here.0 = one_answer row here.1 in
     let items : List ℕ = (get_or targets k ts).items in
     let at : slice_get items j ≡ Some (get_or items j b) = slice_get-get_or items j b hj in
     let from = reference_in_row (names cells) here.0.items c.0.references j (get_or items j b) here.2 (subst (λ (u : Vec ℕ Global). slice_get u.items j ≡ Some (get_or items j b)) same at) in
@@ -82,9 +82,9 @@ round_by cells targets marks path finished start round t w back f =
           λ a b ha hb.
           let far : p + (length round - 1) ≡ length path - 1 = omega (arith, long, some) in
           let last : slice_get path (length path - 1) ≡ Some b = subst (λ n. slice_get path n ≡ Some b) far (on (length round - 1) b hb) in
-          let same : back.0 ≡ b = (let s : Some back.0 ≡ Some b = sym back.1 ∙ last in cc) in
+          let same : back.0 ≡ b = one_answer back.1 last in
           let first : slice_get path p ≡ Some a = subst (λ n. slice_get path n ≡ Some a) (omega arith) (on 0 a ha) in
-          let begin : f.visit ≡ a = (let s : Some f.visit ≡ Some a = sym f.there ∙ first in cc) in
+          let begin : f.visit ≡ a = one_answer f.there first in
           let to : start ≡ a.cell = sym f.cell_is ∙ ap cell_of begin in
           let arc : IsArc targets b.cell b.done a.cell = subst (λ (q : Visit). IsArc targets q.cell q.done a.cell) same (subst (λ n. IsArc targets back.0.cell back.0.done n) to back.2) in
           visit_link cells targets b a t (low (length round - 1) b hb) (low 0 a ha) arc;

@@ -15,7 +15,7 @@ use Rattle.lvl_cells.specs.declared.fault.CellFault.TheVariants.{NoCell, Duplica
 use Rattle.lvl_cells.proofs.Indexes.{at_contains, contains_at}
 use Rattle.lvl_cells.proofs.Arcs.{once_named}
 use Rattle.lvl_cells.proofs.Orders.{names_long}
-use Rattle.lvl_cells.proofs.Sequences.{item_there, slice_get-front}
+use Rattle.lvl_cells.proofs.Sequences.{one_answer, item_there, slice_get-front}
 
 slice_get-behind : {X : Type 0} (xs : List X) (y : X) (ys : List X) → slice_get (xs ++ y ∷ ys) (length xs) ≡ Some y
 slice_get-behind [] y ys = refl
@@ -65,8 +65,7 @@ top_once cells None i j l h g =
 same_cell : (cells : List (PlainCell Rings)) (given : Option (List ℕ)) (P Q : PlainCell Rings → Type 0) (v : IsSoundWith cells given P) (w : IsSoundWith cells given Q) → v.cell ≡ w.cell
 same_cell cells given P Q v w =
     let place : v.index ≡ w.index = top_once cells given v.index w.index v.sound.linked v.sound.is_top w.sound.is_top in
-    let s : Some v.cell ≡ Some w.cell = sym v.is ∙ subst (λ n. slice_get cells n ≡ Some w.cell) (sym place) w.is in
-    cc
+    one_answer v.is (subst (λ n. slice_get cells n ≡ Some w.cell) (sym place) w.is)
 
 -- a library with the fault is not sound with few placed
 pub refused : (cells : List (PlainCell Rings)) (given : Option (List ℕ)) (f : CellFault) → IsFaultOf cells given f → f ≢ OutOfMemory → IsSoundWith cells given (PlacesFew cells) → ⊥

@@ -17,7 +17,7 @@ use Rattle.lvl_cells.specs.Topping.{IsTarget, HasOtherRoot}
 use Rattle.lvl_cells.proofs.Indexes.{contains_at, at_contains}
 use Rattle.lvl_cells.proofs.Arcs.{order_of_two, link_of, arc_from_link, link_from_arc}
 use Rattle.lvl_cells.proofs.Orders.{rows_long, names_long}
-use Rattle.lvl_cells.proofs.Sequences.{item_there}
+use Rattle.lvl_cells.proofs.Sequences.{one_answer, item_there}
 use Rattle.lvl_cells.proofs.Walks.{set_there, set_elsewhere, same_or_not}
 
 -- the places before i are marked, beside those that were
@@ -62,7 +62,7 @@ referred_more old new targets i ts at inv more k = (
       (more k).1 (⊎_elim
       (λ e.
       let arc : IsArc targets i w.1 k = subst (λ q. IsArc targets q w.1 k) e w.3 in
-      let same : arc.0 ≡ ts = (let s : Some arc.0 ≡ Some ts = sym arc.1 ∙ at in cc) in
+      let same : arc.0 ≡ ts = one_answer arc.1 at in
       inr (contains_at ts.items w.1 k (subst (λ (u : Vec ℕ Global). slice_get u.items w.1 ≡ Some k) same arc.2)))
       (λ n. inl ((inv k).1 (w.0, w.1, omega (arith, w.2, n), w.3))) (same_or_not w.0 i)),
 )

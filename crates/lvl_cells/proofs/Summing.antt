@@ -1,5 +1,5 @@
 -- Sums over chains, cell after cell, against the order of the cells.
-use Rattle.std.proofs.Common.{◌≡◌, ◌≢◌, ℕ, zero, suc, ◌+◌, ◌*◌, ◌<◌, ◌≤◌, min, true, false, cond, List, [], ◌∷◌, map, take, length, get_or, set, ⊎_elim, Option, Some, None, IfSome, All, sum_by, refl, sym, ap, ◌∙◌, subst, arith}
+use Rattle.std.proofs.Common.{◌≡◌, ◌≢◌, ℕ, zero, suc, ◌+◌, ◌*◌, ◌<◌, ◌≤◌, min, true, false, cond, List, [], ◌∷◌, map, take, length, get_or, set, ⊎_elim, Option, Some, IfSome, All, sum_by, refl, sym, ap, ◌∙◌, subst, arith}
 use Rattle.std.specs.List.{slice_get, IsDistinct}
 use Rattle.std.specs.Str.{bytes_eq}
 use Rattle.std.specs.Bool.{nat_eq}
@@ -19,12 +19,12 @@ use Rattle.lvl_cells.specs.Chains.{over_chains, most_placed}
 use Rattle.lvl_cells.specs.Soundness.{AreLinked, IsOrder}
 use Rattle.lvl_cells.specs.Steps.{AreAllTargets, placed_sum}
 use Rattle.lvl_cells.proofs.Indexes.{contains_at}
-use Rattle.lvl_cells.proofs.Arcs.{once_named, not_true, is_link, row_of, reference_in_row}
+use Rattle.lvl_cells.proofs.Arcs.{cell_at, once_named, not_true, is_link, row_of, reference_in_row}
 use Rattle.lvl_cells.proofs.Counting.{FallsFrom, over_chains_is, capped_times}
 use Rattle.lvl_cells.proofs.Examining.{height, height_most, falls_by}
 use Rattle.std.proofs.Math.ListN.{length-map}
 use Rattle.lvl_cells.proofs.Orders.{names_long}
-use Rattle.lvl_cells.proofs.Sequences.{item_there}
+use Rattle.lvl_cells.proofs.Sequences.{one_answer, item_there}
 use Rattle.lvl_cells.proofs.Walks.{set_there, set_elsewhere, same_or_not}
 
 placed_more : (refs : List PlainReference) (ts sums : List ℕ) (j : ℕ) (r : PlainReference) (t : ℕ) → slice_get refs j ≡ Some r → slice_get ts j ≡ Some t → placed_sum (take (suc j) refs) (take (suc j) ts) sums ≡ placed_sum (take j refs) (take j ts) sums + length r.shifts * get_or sums t 0
@@ -64,15 +64,6 @@ named_at (c ∷ cs) (suc t) d u h =
 
 capped_swap : (most u v x p : ℕ) → min most u ≡ min most v → min most (x + (u + p)) ≡ min most (x + v + p)
 capped_swap most u v x p h = omega (arith, h)
-
-pub cell_at : (cells : List (PlainCell Rings)) (t : ℕ) (name : List ℕ) → slice_get (names cells) t ≡ Some name → (d : PlainCell Rings) × (slice_get cells t ≡ Some d) × (d.name ≡ name)
-cell_at cells t name h =
-    let name_of : PlainCell Rings → List ℕ = λ q. q.name in
-    let read : option_map name_of (slice_get cells t) ≡ Some name = sym (slice_get-map name_of cells t) ∙ h in
-    elim (slice_get cells t) as (λ o. slice_get cells t ≡ o → option_map name_of o ≡ Some name → (d : PlainCell Rings) × (slice_get cells t ≡ Some d) × (d.name ≡ name)) [
-      | None ↦ λ e g. cc
-      | Some d ↦ λ e g. let same : d.name ≡ name = cc in (d, e, same)
-    ] refl read
 
 -- where the sums of the targets stand, the references add what the chains through them do
 pub placed_is : (w : PlainCell Rings → ℕ) (cells : List (PlainCell Rings)) (n : ℕ) (sums : List ℕ) (refs : List PlainReference) (ts : List ℕ) (x : ℕ) → IsDistinct bytes_eq (names cells) → map (slice_get (names cells)) ts ≡ map (λ r. Some r.cell) refs
@@ -140,7 +131,7 @@ pub summed_more : (w : PlainCell Rings → ℕ) (cells : List (PlainCell Rings))
 summed_more w cells targets order sums i k c ts new l t o hi hk ht low inv e =
     let most : ℕ = most_placed + 1 in
     let row = row_of cells targets k c t hk in
-    let same : row.0 ≡ ts = (let s : Some row.0 ≡ Some ts = sym row.1 ∙ ht in cc) in
+    let same : row.0 ≡ ts = one_answer row.1 ht in
     let names_row : map (slice_get (names cells)) ts.items ≡ map (λ (r : PlainReference). Some r.cell) c.references = subst (λ (u : Vec ℕ Global). map (slice_get (names cells)) u.items ≡ map (λ (r : PlainReference). Some r.cell) c.references) same row.2 in
     let later : (j q : ℕ) (d : PlainCell Rings) → slice_get ts.items j ≡ Some q → slice_get cells q ≡ Some d → slice_get sums q ≡ Some (min most (over_chains w cells (length cells) d)) =
     λ j q d hj hq.
@@ -155,7 +146,7 @@ summed_more w cells targets order sums i k c ts new l t o hi hk ht low inv e =
     λ q p d hq hp hd.
     ⊎_elim
     (λ same_place.
-    let one : c ≡ d = (let s : Some c ≡ Some d = sym hk ∙ subst (λ n. slice_get cells n ≡ Some d) same_place hd in cc) in
+    let one : c ≡ d = one_answer hk (subst (λ n. slice_get cells n ≡ Some d) same_place hd) in
     let old = item_there sums k low in
     let now : slice_get (set sums k new) k ≡ Some new = set_there sums k old.0 new old.1 in
     subst (λ n. slice_get (set sums k new) n ≡ Some (min most (over_chains w cells (length cells) d))) (sym same_place) (now ∙ ap Some (is ∙ ap (λ (x : PlainCell Rings). min most (over_chains w cells (length cells) x)) one)))
@@ -170,7 +161,7 @@ place_within cells order i k o h = All-contains (λ n. n < length cells) order k
 pub row_fits : (cells : List (PlainCell Rings)) (targets : List (Vec ℕ Global)) (k : ℕ) (c : PlainCell Rings) (ts : Vec ℕ Global) → AreAllTargets cells targets → slice_get cells k ≡ Some c → slice_get targets k ≡ Some ts → (length ts.items ≡ length c.references) × All (λ b. b < length cells) ts.items
 row_fits cells targets k c ts t hk ht =
     let row = row_of cells targets k c t hk in
-    let same : row.0 ≡ ts = (let s : Some row.0 ≡ Some ts = sym row.1 ∙ ht in cc) in
+    let same : row.0 ≡ ts = one_answer row.1 ht in
     let reach : List ℕ → List (Option (List ℕ)) = λ u. map (slice_get (names cells)) u in
     let asked : PlainReference → Option (List ℕ) = λ r. Some r.cell in
     let here : reach ts.items ≡ map asked c.references = subst (λ (u : Vec ℕ Global). reach u.items ≡ map asked c.references) same row.2 in (
@@ -188,5 +179,5 @@ summed_at w cells order sums i top x o inv none low at =
     let place = o.there top low in
     let stands : slice_get order place.0 ≡ Some top = slice_get-get_or order place.0 top place.1 ∙ ap Some place.2 in
     let sum : slice_get sums top ≡ Some (min (most_placed + 1) (over_chains w cells (length cells) c.0)) = inv place.0 top c.0 (omega (arith, none)) stands c.1 in
-    let same : x ≡ min (most_placed + 1) (over_chains w cells (length cells) c.0) = (let s : Some x ≡ Some (min (most_placed + 1) (over_chains w cells (length cells) c.0)) = sym at ∙ sum in cc) in
+    let same : x ≡ min (most_placed + 1) (over_chains w cells (length cells) c.0) = one_answer at sum in
     rw c.1 same

@@ -16,6 +16,7 @@ use Rattle.lvl_cells.specs.declared.walk.Mark.{Mark}
 use Rattle.lvl_cells.specs.declared.walk.Mark.TheVariants.{New, Open, Done}
 use Rattle.lvl_cells.specs.Walking.{IsArc, IsWalk, EachTargetWithin}
 use Rattle.lvl_cells.proofs.Indexes.{push_front, push_last, push_cases, contains_at, at_contains}
+use Rattle.lvl_cells.proofs.Sequences.{one_answer}
 
 pub same_or_not : (a b : ℕ) → (a ≡ b) ⊎ (a ≢ b)
 same_or_not zero zero = inl refl
@@ -186,7 +187,7 @@ walk_out targets marks front v finished ts w at all =
           ⊎_elim (λ x. let r = w.falls i k j b x arc in (r.0, r.1, push_front finished v.cell r.0 b r.2))
           (λ x.
           let here : IsArc targets v.cell j b = subst (λ a. IsArc targets a j b) (sym x.1) arc in
-          let row : ts ≡ here.0 = (let s : Some ts ≡ Some here.0 = sym at ∙ here.1 in cc) in
+          let row : ts ≡ here.0 = one_answer at here.1 in
           let in_row : j < length here.0.items = slice_get_within here.0.items j b here.2 in
           let in_ts : j < length ts.items = subst (λ (u : Vec ℕ Global). j < length u.items) (sym row) in_row in
           let c = w.behind (length front) v j b (push_last front v) (omega (arith, in_ts, all)) here in

@@ -18,7 +18,7 @@ use std::marker::Model;
 /// The most chains, and the most placed rings.
 const MOST_PLACED: u64 = 16_777_216;
 
-/// A library that is sound for its top, and few are placed from it.
+/// A library that is sound for its top, and few are placed from it; [`check`] alone makes one.
 #[derive(Debug, Drop)]
 pub struct Checked {
     cells: Vec<Cell>,

@@ -6,7 +6,7 @@ use std::alloc::{AllocError, AllocFailed};
 use thiserror::Error;
 
 /// Why a library is not sound for its top, or too large. Names are those of cells, as bytes.
-#[derive(Debug, Drop, Error)]
+#[derive(Debug, Drop, PartialEq, Eq, Error)]
 pub enum CellFault {
     /// The library has no cell.
     #[error("the library has no cell")]

@@ -1,5 +1,11 @@
 //! Layout libraries: cells that draw shapes and place one another, and the check that a library
 //! is sound.
+//!
+//! A [`Library`] is what a file draws: named cells in file order. A [`Cell`] has [`Shape`]s, each
+//! rings on a [`Layer`] at a list of shifts, and [`Reference`]s, each of which places another cell
+//! by its name, reflected, turned and at a list of places. A list of shifts or places is an
+//! [`Offsets`], which keeps a lattice as such. [`check`] finds the top, resolves the names and
+//! refuses what is not sound or places too much; what it lets through is a [`Checked`].
 #![tactic(auto)]
 
 pub use checked::{Checked, check};
@@ -18,5 +24,7 @@ mod offsets;
 mod order;
 mod round;
 mod targets;
+#[cfg(test)]
+mod tests;
 mod top;
 mod walk;

@@ -8,6 +8,8 @@ use lvl_grid::{Point, Ring, Turn};
 use std::marker::Model;
 
 /// Rings on a Layer, at each of the shifts.
+///
+/// A boundary, a polygon or a rectangle is one ring, a path the rings of its bands.
 #[derive(Debug, Drop)]
 pub struct Shape {
     pub layer: Layer,
@@ -23,7 +25,8 @@ impl Model for Shape {
     ghost view = { λ s. record { layer = s.layer; figure = s.rings.items; shifts = s.shifts } };
 }
 
-/// A cell by its name, reflected, turned, and placed at each of its places.
+/// A cell by its name, reflected, turned, and placed at each of its places: `at`, moved by each
+/// of the shifts.
 #[derive(Debug, Drop)]
 pub struct Reference {
     cell: Vec<u8>,
@@ -108,7 +111,7 @@ impl Reference {
     }
 }
 
-/// A named cell.
+/// A named cell, with its shapes and references in file order.
 #[derive(Debug, Drop)]
 pub struct Cell {
     pub name: Vec<u8>,
@@ -124,7 +127,7 @@ impl Model for Cell {
     ghost view = { λ c. record { name = c.name.items; shapes = c.shapes.items; references = c.references.items } };
 }
 
-/// Cells in file order.
+/// The cells of a file, in file order. [`crate::check`] says whether they are sound.
 #[derive(Debug, Drop)]
 pub struct Library {
     pub cells: Vec<Cell>,

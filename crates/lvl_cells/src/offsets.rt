@@ -18,7 +18,10 @@ enum Kept {
     Lattice(Point, u64, Point, u64),
 }
 
-/// A list of shifts, of which the first is zero.
+/// A list of shifts in grid steps, of which the first is zero.
+///
+/// A lattice is kept by its two steps and counts, and never written out; it is the same list of
+/// shifts to those who look at it.
 #[derive(Debug, Drop)]
 pub struct Offsets {
     kept: Kept,
@@ -130,7 +133,7 @@ fn lattice_fits_moved(by: Point, a: Point, m: u64, b: Point, n: u64) -> bool
 }
 
 impl Offsets {
-    /// These shifts, if the first is there and zero.
+    /// These shifts; None where there is none, or the first is not zero.
     pub fn new(shifts: Vec<Point>) -> Option<Offsets>
         ensures some { IsSome result ↔ StartsAtZero shifts.items }
         ensures same { IfSome result (λ offsets. offsets ≡ shifts.items) }
@@ -143,7 +146,9 @@ impl Offsets {
         })
     }
 
-    /// The shifts `i * a + j * b`, `i` below `m` and running fastest, `j` below `n`.
+    /// The shifts `i * a + j * b`, `i` below `m` and running fastest, `j` below `n`; None where
+    /// `m` or `n` is zero, there are more than 16,777,216 of them (own rule), or one is outside 64
+    /// signed bits, which the far corners decide.
     pub fn lattice(a: Point, m: u64, b: Point, n: u64) -> Option<Offsets>
         ensures some { IsSome result ↔ IsLattice a m b n }
         ensures same { IfSome result (λ offsets. offsets ≡ lattice a m b n) }
@@ -177,7 +182,7 @@ impl Offsets {
         }
     }
 
-    /// The shift at the place `k`.
+    /// The shift at the place `k`, counted from zero; None past the last.
     pub fn at(&self, k: u64) -> Option<Point>
         ensures { result ≡ slice_get self.now k }
     {

@@ -6,7 +6,6 @@ ghost use Rattle.lvl_cells.specs.Rounding.{IsFirstIn, IsFrom, IsRoundOf, visited
 
 use crate::fault::CellFault;
 use crate::library::Cell;
-use crate::names::copy_of;
 use crate::walk::Visit;
 use std::alloc::Global;
 
@@ -50,7 +49,7 @@ fn add_names(
 {
     for visit in visits {
         let cell = &cells[visit.cell];
-        names.push(copy_of(alloc, &cell.name)?)?;
+        names.push(Vec::from_slice(alloc, &cell.name)?)?;
     }
     Ok(())
 }
@@ -67,7 +66,7 @@ pub(crate) fn cycle_of(
     ensures err { OnErr result (result ≡ Err CellFault.OutOfMemory) }
 {
     let first = first_of(round);
-    let mut names = Vec::new(alloc);
+    let mut names = Vec::with_capacity(alloc, round.len())?;
     add_names(alloc, cells, &round[first..], &mut names)?;
     add_names(alloc, cells, &round[..first], &mut names)?;
     Ok(names)

@@ -6,7 +6,6 @@ ghost use Rattle.lvl_cells.specs.Steps.{AreAllTargets, IsFirstMissingFault};
 
 use crate::fault::CellFault;
 use crate::library::Cell;
-use crate::names::copy_of;
 use std::alloc::Global;
 use std::collections::BTreeMap;
 
@@ -21,17 +20,15 @@ pub(crate) fn targets_of(
     ensures ok { IfOk result (λ targets. AreTargets (names cells.now) cell.now.references targets.items) }
     ensures err { IfErr result (λ fault. IsMissingFault (names cells.now) cell.now fault) }
 {
-    let mut targets = Vec::new(alloc);
+    let mut targets = Vec::with_capacity(alloc, cell.references.len())?;
     for reference in &cell.references {
         let name = reference.cell();
         let Some(target) = index.get(name) else {
-            let from = copy_of(alloc, &cell.name)?;
-            let missing = copy_of(alloc, name)?;
+            let from = Vec::from_slice(alloc, &cell.name)?;
+            let missing = Vec::from_slice(alloc, name)?;
             return Err(CellFault::MissingCell(from, missing));
         };
-        let Ok(()) = targets.push(*target) else {
-            return Err(CellFault::OutOfMemory);
-        };
+        targets.push(*target)?;
     }
     Ok(targets)
 }
@@ -46,12 +43,10 @@ pub(crate) fn all_targets(
     ensures ok { IfOk result (λ targets. AreAllTargets cells.now targets.items) }
     ensures err { IfErr result (λ fault. IsFirstMissingFault cells.now fault) }
 {
-    let mut targets = Vec::new(alloc);
+    let mut targets = Vec::with_capacity(alloc, cells.len())?;
     for cell in cells {
         let here = targets_of(alloc, cells, index, cell)?;
-        let Ok(()) = targets.push(here) else {
-            return Err(CellFault::OutOfMemory);
-        };
+        targets.push(here)?;
     }
     Ok(targets)
 }

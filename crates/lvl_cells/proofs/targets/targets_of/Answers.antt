@@ -6,7 +6,7 @@ use Rattle.lvl_cells.proofs.NamedTargets.{targets_more, first_unknown, take_past
 use Rattle.lvl_cells.proofs.targets.targets_of.Goals as goal
 
 pub loop-reference-init : goal.loop-reference-init
-loop-reference-init c = subst (AreTargets (names c.args.cells.now) []) (sym c.new-targets.ensures.items) refl
+loop-reference-init c = subst (AreTargets (names c.args.cells.now) []) (sym c.in_ok-targets.ensures.items) refl
 
 pub returns-in_default-clause-err : goal.returns-in_default-clause-err
 returns-in_default-clause-err c =
@@ -17,8 +17,8 @@ returns-in_default-clause-err c =
     let none : None ≡ place_in_index c.args.index.now r.cell = c.in_default.ensures.value ∙ ap (place_in_index c.args.index.now) named in
     let refs : c.deref-reference-items.result.now ≡ c.args.cell.now.references = c.deref-reference-items.ensures.value ∙ ap (λ (x : PlainCell Rings). x.references) c.cell.view_is in
     let it = first_unknown (place_in_index c.args.index.now) all c.deref-reference-items.result.now c.loop-reference.reference-index r c.loop-reference.targets.items c.requires c.loop-reference-test.true c.reference-item.is none c.loop-reference.invariant in (
-      c.in_ok-from.ensures.ok ∙ (c.deref.ensures.value ∙ ap (λ (x : PlainCell Rings). x.name) c.cell.view_is),
-      subst (IsFirstUnknown all (map asked c.args.cell.now.references)) (sym (c.in_ok-missing.ensures.ok ∙ named)) (subst (λ (l : List PlainReference). IsFirstUnknown all (map asked l) r.cell) refs it),
+      c.in_ok-from.ensures.items ∙ (c.deref.ensures.value ∙ ap (λ (x : PlainCell Rings). x.name) c.cell.view_is),
+      subst (IsFirstUnknown all (map asked c.args.cell.now.references)) (sym (c.in_ok-missing.ensures.items ∙ named)) (subst (λ (l : List PlainReference). IsFirstUnknown all (map asked l) r.cell) refs it),
     )
 
 pub loop-reference-preserved : goal.loop-reference-preserved
@@ -29,7 +29,7 @@ loop-reference-preserved c =
     let i = c.loop-reference.reference-index in
     let named : c.cell-name.result.now ≡ r.cell = c.cell-name.ensures in
     let at : slice_get all c.in-Some.target.now ≡ Some r.cell = (c.requires r.cell c.in-Some.target.now).0 (sym (c.in-Some.ensures.value ∙ ap (place_in_index c.args.index.now) named)) in
-    subst (AreTargets all (take (i + 1) items)) (sym c.in-Ok.ensures.items) (targets_more all items i r c.loop-reference.targets.items c.in-Some.target.now c.loop-reference-test.true c.reference-item.is at c.loop-reference.invariant)
+    subst (AreTargets all (take (i + 1) items)) (sym c.in_ok-push.ensures.items) (targets_more all items i r c.loop-reference.targets.items c.in-Some.target.now c.loop-reference-test.true c.reference-item.is at c.loop-reference.invariant)
 
 pub returns-clause-ok : goal.returns-clause-ok
 returns-clause-ok c =
