@@ -134,7 +134,7 @@ each_there (s ∷ ss) a =
     All-cons (λ t. value_of (s ∷ ss) t.from ≡ Some t.value) s ss (at_head s ss s.from (omega (arith, ints)) a.0) later
 
 -- what a row's value has at x
-abbrev in_value : ℤ → Option (List (ℤ × ℤ)) → Bool
+abbrev pub in_value : ℤ → Option (List (ℤ × ℤ)) → Bool
 in_value x None = false
 in_value x (Some r) = list_any (spans x) r
 

@@ -17,3 +17,6 @@ pub mod Loads
 pub mod Tops
 pub mod Starts
 pub mod Settles
+pub mod Firsts
+pub mod Aheads
+pub mod Lockstep

@@ -5,3 +5,4 @@ pub mod Rows
 pub mod Walks
 pub mod Strips
 pub mod Sweeps
+pub mod Ahead

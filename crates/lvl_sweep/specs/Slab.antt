@@ -46,6 +46,9 @@ pub record IsSlabList (slabs : List Slab) : Type 0 where
   pub steps : AreSteps slabs
   pub rows : All (λ b. (b.value ≢ []) × AreIntervals b.value) slabs
 
--- a band has the square's row, and there an interval has the square
+-- the band has the square's row, and there an interval has the square
+abbrev pub slab_covers : Square → Slab → Bool
+slab_covers s b = holds b s.y && list_any (spans s.x) b.value
+
 abbrev pub slabs_cover : List Slab → Square → Bool
-slabs_cover slabs s = list_any (λ b. holds b s.y && list_any (spans s.x) b.value) slabs
+slabs_cover slabs s = list_any (slab_covers s) slabs
