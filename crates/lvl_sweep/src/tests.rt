@@ -203,9 +203,10 @@ fn the_last_rectangle_missing(rt: HostRuntime) -> Result<(), Fail> {
     let mut all = Vec::new(alloc);
     let mut most = Vec::new(alloc);
     for k in 0..1000i64 {
-        all.push(rectangle(alloc, (0, 1), (2 * k, 2 * k + 1))?)?;
+        let y = k.wrapping_mul(2);
+        all.push(rectangle(alloc, (0, 1), (y, y.wrapping_add(1)))?)?;
         if k < 999 {
-            most.push(rectangle(alloc, (0, 1), (2 * k, 2 * k + 1))?)?;
+            most.push(rectangle(alloc, (0, 1), (y, y.wrapping_add(1)))?)?;
         }
     }
     assert!(rt; differ_at(alloc, &all, &most, at(0, 1998, Side::First))?);
