@@ -1,0 +1,4 @@
+pub mod Region
+pub mod Grid
+pub mod Joined
+pub mod Agree

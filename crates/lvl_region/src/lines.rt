@@ -1,0 +1,84 @@
+//! The lines of a grid: the places of all vertices along an axis, rising, each once.
+ghost use Rattle.std.specs.Prelude.{◌≡◌, ◌+◌, ◌<◌, ◌≤◌, ◌⊎◌, ◌++◌, map, length, slice_index, IfOk, IfNone, IfSome};
+ghost use Rattle.lvl_region.specs.Grid.{passed, along, AreLinesOf};
+ghost use Rattle.lvl_region.specs.Joined.{IsNext};
+
+use lvl_grid::{Point, Ring};
+use std::alloc::{AllocError, Global};
+
+/// One of the two axes.
+#[derive(Clone, Copy, Debug, PartialEq, Eq)]
+pub(crate) enum Axis {
+    X,
+    Y,
+}
+
+/// Where the point lies along the axis.
+fn place_along(axis: Axis, point: Point) -> i64
+    ensures { result ≡ along axis point }
+{
+    match axis {
+        Axis::X => point.x,
+        Axis::Y => point.y,
+    }
+}
+
+/// Puts the points' places along the axis behind the lines.
+fn push_places(lines: &mut Vec<i64>, axis: Axis, points: &[Point]) -> Result<(), AllocError>
+    ensures { IfOk result (λ _. lines.new.items ≡ lines.old.items ++ map (along axis) points.now) }
+{
+    for point in points {
+        lines.push(place_along(axis, *point))?;
+    }
+    Ok(())
+}
+
+/// The places of all vertices along the axis, each once, rising.
+pub(crate) fn lines_of(alloc: Global, rings: &[Ring], axis: Axis) -> Result<Vec<i64>, AllocError>
+    ensures { IfOk result (λ lines. AreLinesOf rings.now axis lines.items) }
+{
+    let mut lines = Vec::new(alloc);
+    for ring in rings {
+        push_places(&mut lines, axis, ring.points())?;
+    }
+    lines.sort_unstable();
+    lines.dedup();
+    Ok(lines)
+}
+
+/// How many of the lines are at most `v`.
+pub(crate) fn count_passed(lines: &[i64], v: i64) -> usize
+    ensures { result ≡ passed lines.now v }
+{
+    lines.iter().filter(|line| **line <= v).count()
+}
+
+/// The lesser of the two lines that come next, line `i` of the first list and `j` of the second,
+/// or None past both lists.
+pub(crate) fn next_line(first: &[i64], i: usize, second: &[i64], j: usize) -> Option<i64>
+    ensures some { IfSome result (λ line. IsNext first.now i line ⊎ IsNext second.now j line) }
+    ensures past_first { IfNone result (length first.now ≤ i) }
+    ensures past_second { IfNone result (length second.now ≤ j) }
+{
+    if i >= first.len() {
+        return second.get(j).copied();
+    }
+    if j < second.len() && second[j] < first[i] {
+        return Some(second[j]);
+    }
+    Some(first[i])
+}
+
+/// The place behind `line` if line `i` of the list is that one, else `i`.
+pub(crate) fn step_past(lines: &[i64], i: usize, line: i64) -> usize
+    ensures one { result ≤ i + 1 }
+    ensures stays { i ≤ result }
+    ensures steps { IsNext lines.now i line → result ≡ i + 1 }
+    ensures only { i < result → IsNext lines.now i line }
+{
+    if i < lines.len() && lines[i] == line {
+        i + 1
+    } else {
+        i
+    }
+}

@@ -1,0 +1,6 @@
+use Rattle.std.proofs.Common.{take}
+use Rattle.lvl_sweep.specs.Alive.{AreEdgesOf}
+use Rattle.lvl_sweep.proofs.edge.edges_of.Given as goal
+
+abbrev pub invariant-loop-number : goal.invariant-loop-number
+invariant-loop-number l = AreEdgesOf (take l.number l.rings) l.edges.items

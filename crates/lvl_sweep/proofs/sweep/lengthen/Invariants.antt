@@ -1,0 +1,17 @@
+use Rattle.std.proofs.Common.{◌≡◌}
+use Rattle.lvl_sweep.specs.Strips.{IsAt, left}
+use Rattle.lvl_sweep.specs.Sweeps.{IsHeld}
+use Rattle.lvl_sweep.proofs.sweep.lengthen.Given as goal
+
+-- the strips passed have the band's intervals
+abbrev pub invariant-loop-strips : goal.invariant-loop-strips
+invariant-loop-strips l = record {
+  at : IsAt l.strips;
+  edges : l.strips.edges.items ≡ l.fn.strips.edges.items;
+  held : IsHeld l.fn.strips.edges.items l.band l.strips.y;
+  low : l.band.y0 ≡ l.fn.band.y0;
+  intervals : l.band.intervals ≡ l.fn.band.intervals;
+}
+
+abbrev pub decreases-loop-strips : goal.decreases-loop-strips
+decreases-loop-strips l = left l.strips.edges.items l.strips.y

@@ -1,0 +1,9 @@
+use Rattle.std.proofs.Common.{length, ◌-◌}
+use Rattle.lvl_sweep.proofs.Collects.{Collected}
+use Rattle.lvl_sweep.proofs.walk.collect_row.Given as goal
+
+abbrev pub invariant-loop-interval : goal.invariant-loop-interval
+invariant-loop-interval l = Collected l.active l.fn.windings l.windings l.fn.intervals l.intervals l.place
+
+abbrev pub decreases-loop-interval : goal.decreases-loop-interval
+decreases-loop-interval l = length l.active - l.place.at

@@ -1,0 +1,55 @@
+-- Vertical edges, and how the rings wind left of an abscissa.
+use Rattle.std.specs.Prelude.{◌≡◌, ◌≢◌, ℕ, Bool, true, false, ◌&&◌, ◌==◌, not, cond, List, ℤ, pos, negsuc, ◌-ℤ◌, int_le, count_by, All, ◌<◌, ◌≤◌, length, slice_index_or, ◌≤ℤ◌, int_lt, Option, None, Some, ◌⊎◌, Any, []}
+use Rattle.std.specs.Ordering.{int_eq}
+use Rattle.lvl_sweep.specs.declared.edge.Edge.{Edge}
+use Rattle.lvl_sweep.specs.declared.windings.Windings.{Windings}
+
+-- what an edge adds to its ring's count
+abbrev pub turn : Bool → ℤ
+turn true = pos 1
+turn false = negsuc 0
+
+-- 1 where the count isn't 0
+abbrev pub weight : ℤ → ℕ
+weight c = cond (int_eq c (pos 0)) 0 1
+
+abbrev pub how_many_turn : List ℤ → ℕ
+how_many_turn counts = count_by (λ c. not (int_eq c (pos 0))) counts
+
+-- the ring's edges that go up, less those that go down
+abbrev pub net : ℕ → List Edge → ℤ
+net r es = pos (count_by (λ e. (e.ring == r) && e.up) es) -ℤ pos (count_by (λ e. (e.ring == r) && not e.up) es)
+
+-- the same for the edges that aren't right of z
+abbrev pub net_left : ℕ → ℤ → List Edge → ℤ
+net_left r z es = pos (count_by (λ e. int_le e.x z && ((e.ring == r) && e.up)) es) -ℤ pos (count_by (λ e. int_le e.x z && ((e.ring == r) && not e.up)) es)
+
+-- some ring winds round the squares at z
+abbrev pub IsInside : List Edge → ℤ → Type 0
+IsInside es z = (r : ℕ) × (net_left r z es ≢ pos 0)
+
+-- all counts are 0
+pub record AreAtRest (w : Windings) : Type 0 where
+  pub counts : All (λ c. c ≡ pos 0) w.counts.items
+  pub turning : w.turning ≡ 0
+
+abbrev pub IsLower : ℤ → Option ℤ → ℤ → Type 0
+IsLower a None y = y ≡ a
+IsLower a (Some b) y = (y ≤ℤ a) × (y ≤ℤ b) × ((y ≡ a) ⊎ (y ≡ b))
+
+-- y is at most each end of an edge and where the next begins, and is one of them
+abbrev pub IsReach : List Edge → Option ℤ → Option ℤ → Type 0
+IsReach es next None = (es ≡ []) × (next ≡ None)
+IsReach es next (Some y) = All (λ e. y ≤ℤ e.high) es × ((b : ℤ) → next ≡ Some b → y ≤ℤ b) × (Any (λ e. e.high ≡ y) es ⊎ (next ≡ Some y))
+
+-- the edge at i is no further right than that of the other list at j
+abbrev pub IsNext : List Edge → ℕ → List Edge → ℕ → Type 0
+IsNext es i fs j = (i < length es) × (j < length fs → (d : Edge) → (slice_index_or es i d).x ≤ℤ (slice_index_or fs j d).x)
+
+abbrev pub reaches_above : ℤ → Edge → Bool
+reaches_above y e = int_lt y e.high
+
+-- where the edge at i begins, if there is one
+abbrev pub IsBeginOf : List Edge → ℕ → Option ℤ → Type 0
+IsBeginOf es i None = length es ≤ i
+IsBeginOf es i (Some y) = (i < length es) × ((d : Edge) → (slice_index_or es i d).low ≡ y)

@@ -1,0 +1,37 @@
+-- A sweep's bands: the one held, and those still to come.
+use Rattle.std.specs.Prelude.{◌≡◌, ◌≢◌, ◌+◌, ◌*◌, ◌≤◌, Bool, List, [], ◌∷◌, length, ℤ, ◌<ℤ◌, ◌≤ℤ◌, Some, cond, IsTrue, ◌↔◌}
+use Rattle.std.specs.Vec.{vec_len, vec_capacity}
+use Rattle.lvl_grid.specs.declared.point.Point.{Point}
+use Rattle.lvl_grid.specs.declared.point.Square.{Square}
+use Rattle.lvl_region.specs.Region.{SomeCovers}
+use Rattle.lvl_sweep.specs.declared.edge.Edge.{Edge}
+use Rattle.lvl_sweep.specs.declared.band.Band.{Band}
+use Rattle.lvl_sweep.specs.declared.strips.Strips.{Strips}
+use Rattle.lvl_sweep.specs.Slab.{Slab, IsSlabList, slabs_cover}
+use Rattle.lvl_sweep.specs.Rows.{row_at, bands_from}
+use Rattle.lvl_sweep.specs.Strips.{IsAt}
+
+abbrev pub slab_of : Band → Slab
+slab_of b = record { from = b.y0; to = b.y1; value = b.intervals.items }
+
+-- the rows of the band, up to y, have its intervals
+pub record IsHeld (es : List Edge) (b : Band) (y : ℤ) : Type 0 where
+  pub full : b.y0 <ℤ b.y1
+  pub top : b.y1 ≡ y
+  pub some : b.intervals.items ≢ []
+  pub rows : (v : ℤ) → b.y0 ≤ℤ v → v <ℤ b.y1 → row_at es v ≡ b.intervals.items
+
+-- the band held, if one is, and the bands above the strips walked
+abbrev pub bands_of : Strips → Band → Bool → List Slab
+bands_of strips band held = cond held (slab_of band ∷ bands_from strips.edges.items (Some strips.y)) []
+
+-- one band at most, with half as many intervals as edges, and room for no more
+pub record IsSweep (strips : Strips) (band : Band) : Type 0 where
+  pub at : IsAt strips
+  pub few : 2 * vec_len band.intervals ≤ length strips.edges.items
+  pub room : length strips.edges.items ≤ 2 * vec_capacity band.intervals + 1
+
+-- the slab list of what some ring covers
+pub record AreBandsOf (rings : List (List Point)) (slabs : List Slab) : Type 0 where
+  pub list : IsSlabList slabs
+  pub covers : (s : Square) → IsTrue (slabs_cover slabs s) ↔ SomeCovers rings s

@@ -1,0 +1,120 @@
+//! Two lists of bands walked in step, up to the least square that one of them alone covers.
+ghost use Rattle.std.specs.Prelude.{◌≡◌, ◌↔◌, ◌∷◌, [], List, true, false, drop, Option, None, ℤ, IfOk, IfSome, IfNone};
+ghost use Rattle.lvl_grid.specs.declared.point.Square.{Square as GridSquare};
+ghost use Rattle.lvl_region.specs.Region.{SomeCovers, IsAlone};
+ghost use Rattle.lvl_sweep.specs.Slab.{Slab, IsSlabList, slabs_cover};
+ghost use Rattle.lvl_sweep.specs.Sweeps.{slab_of};
+ghost use Rattle.lvl_sweep.specs.Ahead.{IsLeastAlone, IsMet, FirstIs, IsTold, IsBefore, ended_by};
+
+use crate::band::Band;
+use crate::rows::{Ahead, both, least_square};
+use crate::sweep::Sweep;
+use lvl_grid::{Ring, Square};
+use lvl_region::Side;
+use std::alloc::{AllocError, Global};
+
+/// Bands that come one at a time, from the lowest on.
+pub trait Bands {
+    /// The bands still to come.
+    ghost left: { Self → List Slab };
+
+    /// The first of the bands still to come.
+    fn band(&self) -> Option<&Band>
+        ensures first { IfSome result (λ band. left self.now ≡ slab_of band.now ∷ drop 1 (left self.now)) }
+        ensures none { IfNone result (left self.now ≡ []) };
+
+    /// Drops the first of the bands still to come.
+    fn advance(&mut self)
+        ensures { left self.new ≡ drop 1 (left self.old) };
+}
+
+impl Bands for Sweep {
+    ghost left = { λ s. s };
+
+    fn band(&self) -> Option<&Band> {
+        Sweep::band(self)
+    }
+
+    fn advance(&mut self) {
+        Sweep::advance(self)
+    }
+}
+
+/// What the first bands on both sides tell of the rows from `from` on.
+fn look_ahead<B: Bands>(first: &B, second: &B, from: Option<i64>) -> Ahead
+    requires ours { IsSlabList (B.left first.now) }
+    requires theirs { IsSlabList (B.left second.now) }
+    requires our_band { FirstIs (IsMet from) (Unit {0}) (B.left first.now) }
+    requires their_band { FirstIs (IsMet from) (Unit {0}) (B.left second.now) }
+    ensures { IsTold from (B.left first.now) (B.left second.now) result }
+{
+    match (first.band(), second.band()) {
+        (Some(p), Some(q)) => both(p, q, from),
+        (Some(p), None) => Ahead::Differ(least_square(p, from), Side::First),
+        (None, Some(q)) => Ahead::Differ(least_square(q, from), Side::Second),
+        (None, None) => Ahead::Nothing,
+    }
+}
+
+/// Whether there is a first band, and it ends by row `y`.
+fn ends_by<B: Bands>(bands: &B, y: i64) -> bool
+    ensures yes { result ≡ true → ended_by y (B.left bands.now) ≡ drop 1 (B.left bands.now) }
+    ensures no { result ≡ false → ended_by y (B.left bands.now) ≡ B.left bands.now }
+{
+    match bands.band() {
+        Some(band) => band.y1 <= y,
+        None => false,
+    }
+}
+
+/// Drops the first band if it ends by row `y`.
+fn drop_below<B: Bands>(bands: &mut B, y: i64)
+    ensures { B.left bands.new ≡ ended_by y (B.left bands.old) }
+{
+    if ends_by(bands, y) {
+        bands.advance();
+    }
+}
+
+/// The least square that one of two sides alone covers.
+pub(crate) fn walk_in_step<B: Bands>(first: &mut B, second: &mut B) -> Option<(Square, Side)>
+    requires ours { IsSlabList (B.left first.old) }
+    requires theirs { IsSlabList (B.left second.old) }
+    ensures same { IfNone result
+        ((s : GridSquare) → slabs_cover (B.left first.old) s ≡ slabs_cover (B.left second.old) s) }
+    ensures differ { IfSome result
+        (λ found. IsLeastAlone None (B.left first.old) (B.left second.old) found.0 found.1) }
+{
+    let mut from = None;
+    loop {
+        match look_ahead(first, second, from) {
+            Ahead::Differ(square, side) => return Some((square, side)),
+            Ahead::Nothing => return None,
+            Ahead::Alike(y) => {
+                from = Some(y);
+                drop_below(first, y);
+                drop_below(second, y);
+            }
+        }
+    }
+}
+
+/// The least square, by y and then x, that the rings of one list alone cover, with its side, or
+/// None where both lists cover the same squares. Refused only for want of memory.
+pub fn first_difference_of(
+    alloc: Global,
+    first: &[Ring],
+    second: &[Ring],
+) -> Result<Option<(Square, Side)>, AllocError>
+    ensures same { IfOk result
+        (λ found. IfNone found ((s : GridSquare) → SomeCovers first.now s ↔ SomeCovers second.now s)) }
+    ensures differ { IfOk result
+        (λ found. IfSome found (λ at. IsAlone (SomeCovers first.now) (SomeCovers second.now) at.0 at.1)) }
+    ensures least { IfOk result
+        (λ found. IfSome found
+        (λ at. (s : GridSquare) → IsBefore s at.0 → SomeCovers first.now s ↔ SomeCovers second.now s)) }
+{
+    let mut a = Sweep::new(alloc, first)?;
+    let mut b = Sweep::new(alloc, second)?;
+    Ok(walk_in_step(&mut a, &mut b))
+}

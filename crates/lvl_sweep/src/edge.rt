@@ -1,0 +1,87 @@
+//! The vertical edges of rings, in the order in which a sweep meets them.
+ghost use Rattle.std.specs.Prelude.{◌≡◌, ◌<◌, ◌+◌, ◌&&◌, ◌==◌, ℕ, ◌<ℤ◌, All, length, count_by, IfOk, IfSome, if◌then◌else◌};
+ghost use Rattle.lvl_grid.specs.declared.point.Square.{Square as GridSquare};
+ghost use Rattle.lvl_grid.specs.Winding.{goes_up, goes_down, edges as steps_round};
+ghost use Rattle.lvl_sweep.specs.Alive.{edge_is, rises, falls, AreEdgesOf, AreInOrder};
+
+use lvl_grid::{Point, Ring};
+use std::alloc::{AllocError, Global};
+
+/// A vertical edge of a ring: the rows that it crosses, its abscissa, and whether it goes up.
+#[derive(Clone, Copy, Debug, PartialEq, Eq)]
+pub struct Edge {
+    pub low: i64,
+    pub x: i64,
+    pub ring: usize,
+    pub high: i64,
+    pub up: bool,
+}
+
+/// The vertical edge from one point to the next, or None where it is flat.
+fn edge_between(ring: usize, from: Point, to: Point) -> Option<Edge>
+    ensures rising { (r : ℕ) (s : GridSquare) → edge_is (rises r s) result ≡ ((ring == r) && goes_up s (from, to)) }
+    ensures falling { (r : ℕ) (s : GridSquare) → edge_is (falls r s) result ≡ ((ring == r) && goes_down s (from, to)) }
+    ensures number { IfSome result (λ e. (e.ring ≡ ring) × (e.low <ℤ e.high)) }
+{
+    if from.y < to.y {
+        return Some(Edge {
+            low: from.y,
+            x: from.x,
+            ring,
+            high: to.y,
+            up: true,
+        });
+    }
+    if to.y < from.y {
+        return Some(Edge {
+            low: to.y,
+            x: from.x,
+            ring,
+            high: from.y,
+            up: false,
+        });
+    }
+    None
+}
+
+/// Puts the vertical edge from one point to the next behind the edges, unless it is flat.
+fn push_edge(edges: &mut Vec<Edge>, ring: usize, from: Point, to: Point) -> Result<(), AllocError>
+    ensures rising { IfOk result (λ _. (r : ℕ) (s : GridSquare) → count_by (rises r s) edges.new.items ≡ count_by (rises r s) edges.old.items + (if (ring == r) && goes_up s (from, to) then 1 else 0)) }
+    ensures falling { IfOk result (λ _. (r : ℕ) (s : GridSquare) → count_by (falls r s) edges.new.items ≡ count_by (falls r s) edges.old.items + (if (ring == r) && goes_down s (from, to) then 1 else 0)) }
+    ensures numbers { IfOk result (λ _. (n : ℕ) → ring < n → All (λ e. e.ring < n) edges.old.items → All (λ e. e.ring < n) edges.new.items) }
+    ensures full { IfOk result (λ _. All (λ e. e.low <ℤ e.high) edges.old.items → All (λ e. e.low <ℤ e.high) edges.new.items) }
+{
+    if let Some(edge) = edge_between(ring, from, to) {
+        edges.push(edge)?;
+    }
+    Ok(())
+}
+
+/// Puts the vertical edges of a ring behind the edges.
+fn push_edges(edges: &mut Vec<Edge>, ring: usize, points: &[Point]) -> Result<(), AllocError>
+    requires { 0 < length points.now }
+    ensures rising { IfOk result (λ _. (r : ℕ) (s : GridSquare) → count_by (rises r s) edges.new.items ≡ count_by (rises r s) edges.old.items + (if ring == r then count_by (goes_up s) (steps_round points.now) else 0)) }
+    ensures falling { IfOk result (λ _. (r : ℕ) (s : GridSquare) → count_by (falls r s) edges.new.items ≡ count_by (falls r s) edges.old.items + (if ring == r then count_by (goes_down s) (steps_round points.now) else 0)) }
+    ensures numbers { IfOk result (λ _. (n : ℕ) → ring < n → All (λ e. e.ring < n) edges.old.items → All (λ e. e.ring < n) edges.new.items) }
+    ensures full { IfOk result (λ _. All (λ e. e.low <ℤ e.high) edges.old.items → All (λ e. e.low <ℤ e.high) edges.new.items) }
+{
+    let mut previous = points[points.len() - 1];
+    for point in points {
+        push_edge(edges, ring, previous, *point)?;
+        previous = *point;
+    }
+    Ok(())
+}
+
+/// The vertical edges of all rings, by the ordinate at which they begin, then by abscissa.
+pub(crate) fn edges_of(alloc: Global, rings: &[Ring]) -> Result<Vec<Edge>, AllocError>
+    ensures edges { IfOk result (λ edges. AreEdgesOf rings.now edges.items) }
+    ensures order { IfOk result (λ edges. AreInOrder edges.items) }
+{
+    let mut edges = Vec::new(alloc);
+    for (number, ring) in rings.iter().enumerate() {
+        push_edges(&mut edges, number, ring.points())?;
+    }
+    edges.sort_unstable_by_key(|edge| (edge.low, edge.x));
+    Ok(edges)
+}

@@ -1,0 +1,24 @@
+//! The sweep: the bands of what some ring covers, one at a time, from the lowest on.
+//!
+//! A [`Sweep`] gives the slab list of its rings band by band, with all its memory taken at the
+//! start. [`first_difference_of`] walks two sweeps in step. [`SlabRegion`] is the bands
+//! collected.
+#![tactic(auto)]
+
+pub use band::Band;
+pub use differ::first_difference_of;
+pub use slab_region::SlabRegion;
+pub use sweep::Sweep;
+
+mod band;
+mod differ;
+mod edge;
+mod merge;
+mod rows;
+mod slab_region;
+mod strips;
+mod sweep;
+#[cfg(test)]
+mod tests;
+mod walk;
+mod windings;

@@ -1,0 +1,100 @@
+//! Where two rows of intervals, or two bands, differ first.
+ghost use Rattle.std.specs.Prelude.{◌≡◌, ◌≢◌, ℤ, ◌<ℤ◌, IfNone, IfSome};
+ghost use Rattle.std.specs.List.{list_any};
+ghost use Rattle.lvl_sweep.specs.Slab.{spans, AreIntervals};
+ghost use Rattle.lvl_sweep.specs.Sweeps.{slab_of};
+ghost use Rattle.lvl_sweep.specs.Ahead.{IsLeastIn, IsMet, IsToldByTwo, higher_of, left_end, end_difference};
+
+use crate::band::Band;
+use lvl_grid::Square;
+use lvl_region::Side;
+
+/// The least abscissa that one of two intervals alone covers, where they differ.
+fn interval_difference(first: (i64, i64), second: (i64, i64)) -> (i64, Side)
+    ensures { result ≡ end_difference first second }
+{
+    if first.0 < second.0 {
+        (first.0, Side::First)
+    } else if second.0 < first.0 {
+        (second.0, Side::Second)
+    } else if first.1 < second.1 {
+        (first.1, Side::Second)
+    } else {
+        (second.1, Side::First)
+    }
+}
+
+/// The least abscissa that one of two rows alone covers.
+pub(crate) fn row_difference(first: &[(i64, i64)], second: &[(i64, i64)]) -> Option<(i64, Side)>
+    requires first { AreIntervals first.now }
+    requires second { AreIntervals second.now }
+    ensures same { IfNone result ((z : ℤ) → list_any (spans z) first.now ≡ list_any (spans z) second.now) }
+    ensures differ { IfSome result (λ found. IsLeastIn first.now second.now found.0 found.1) }
+{
+    let common = first.len().min(second.len());
+    for i in 0..common {
+        if first[i] != second[i] {
+            return Some(interval_difference(first[i], second[i]));
+        }
+    }
+    if common < first.len() {
+        return Some((first[common].0, Side::First));
+    }
+    if common < second.len() {
+        return Some((second[common].0, Side::Second));
+    }
+    None
+}
+
+/// What the first bands on two sides, from a row on, tell of the rows there.
+#[derive(Clone, Copy, Debug, PartialEq, Eq)]
+pub enum Ahead {
+    /// The least square that one side alone covers.
+    Differ(Square, Side),
+    /// Both sides cover the same in the rows up to this one.
+    Alike(i64),
+    /// No band is left on either side.
+    Nothing,
+}
+
+/// The higher of an ordinate and one that may be missing.
+fn higher(a: i64, from: Option<i64>) -> i64
+    ensures { result ≡ higher_of a from }
+{
+    match from {
+        Some(b) if a < b => b,
+        _ => a,
+    }
+}
+
+/// The least square of a band in the rows from `from` on.
+pub(crate) fn least_square(band: &Band, from: Option<i64>) -> Square
+    requires { IsMet from (slab_of band.now) }
+    ensures x { result.x ≡ left_end band.now.intervals.items }
+    ensures y { result.y ≡ higher_of band.now.y0 from }
+{
+    Square {
+        x: band.intervals[0].0,
+        y: higher(band.y0, from),
+    }
+}
+
+/// What a band on each side tells.
+pub(crate) fn both(first: &Band, second: &Band, from: Option<i64>) -> Ahead
+    requires first { IsMet from (slab_of first.now) }
+    requires second { IsMet from (slab_of second.now) }
+    ensures { IsToldByTwo from (slab_of first.now) (slab_of second.now) result }
+{
+    let ours = least_square(first, from);
+    let theirs = least_square(second, from);
+    if ours.y < theirs.y {
+        return Ahead::Differ(ours, Side::First);
+    }
+    if theirs.y < ours.y {
+        return Ahead::Differ(theirs, Side::Second);
+    }
+    match row_difference(&first.intervals, &second.intervals) {
+        Some((x, side)) => Ahead::Differ(Square { x, y: ours.y }, side),
+        None => Ahead::Alike(first.y1.min(second.y1)),
+    }
+}

@@ -1,0 +1,155 @@
+//! The strips of rows between the ordinates at which edges begin or end, from the lowest on.
+ghost use Rattle.std.specs.Prelude.{◌≡◌, ◌<◌, ◌≤◌, ℕ, length, ◌<ℤ◌, ◌≤ℤ◌, slice_index_or};
+ghost use Rattle.std.specs.List.{AllWithin};
+ghost use Rattle.lvl_sweep.specs.Edges.{IsLower, IsReach, IsBeginOf};
+ghost use Rattle.std.specs.Prelude.{◌+◌, ◌*◌, ℤ, [], IsTrue, ◌↔◌, IfOk, IfSome, IfNone};
+ghost use Rattle.std.specs.Vec.{vec_len, vec_capacity};
+ghost use Rattle.lvl_sweep.specs.Alive.{AreEdgesOf};
+ghost use Rattle.lvl_sweep.specs.Rows.{row_at};
+ghost use Rattle.lvl_sweep.specs.declared.edge.Edge.{Edge as EdgeValue};
+
+use crate::edge::{Edge, edges_of};
+use crate::merge::merge;
+use crate::walk::{collect_row, is_row};
+use crate::windings::Windings;
+use lvl_grid::Ring;
+use std::alloc::{AllocError, Global};
+use std::mem;
+
+/// The lower of an ordinate and one that may be missing.
+fn lower(a: i64, b: Option<i64>) -> i64
+    ensures { IsLower a b result }
+{
+    match b {
+        Some(y) if y <= a => y,
+        _ => a,
+    }
+}
+
+/// The least ordinate at which an edge ends or the next begins, or None where there is neither.
+fn reach(active: &[Edge], begins: Option<i64>) -> Option<i64>
+    ensures { IsReach active.now begins result }
+{
+    let mut least = begins;
+    for edge in active {
+        least = Some(lower(edge.high, least));
+    }
+    least
+}
+
+/// The index behind the edges that begin by `y`.
+fn end_of_start(edges: &[Edge], from: usize, y: i64) -> usize
+    requires within { from ≤ length edges.now }
+    ensures within { result ≤ length edges.now }
+    ensures after { from ≤ result }
+    ensures begun { AllWithin (λ e. e.low ≤ℤ y) edges.now from result }
+    ensures coming { result < length edges.now → (d : EdgeValue) → y <ℤ (slice_index_or edges.now result d).low }
+{
+    for i in from..edges.len() {
+        if y < edges[i].low {
+            return i;
+        }
+    }
+    edges.len()
+}
+
+/// The lower end of the edge at the index.
+fn begins_at(edges: &[Edge], i: usize) -> Option<i64>
+    ensures { IsBeginOf edges.now i result }
+{
+    if i < edges.len() {
+        Some(edges[i].low)
+    } else {
+        None
+    }
+}
+
+/// All vertical edges, of which the first `next` begin by row `y`, and those alive in it.
+#[derive(Debug, Drop)]
+pub struct Strips {
+    pub edges: Vec<Edge>,
+    pub next: usize,
+    pub active: Vec<Edge>,
+    pub spare: Vec<Edge>,
+    pub windings: Windings,
+    pub y: i64,
+}
+
+impl Strips {
+    ghost use Rattle.lvl_sweep.specs.Strips.{IsAt, CanLoad, IsTop, IsOver};
+
+    /// The lowest strip.
+    pub(crate) fn new(alloc: Global, rings: &[Ring]) -> Result<Strips, AllocError>
+        ensures at { IfOk result (λ s. IsAt s) }
+        ensures edges { IfOk result (λ s. AreEdgesOf rings.now s.edges.items) }
+        ensures lowest { IfOk result (λ s. (v : ℤ) → v <ℤ s.y → row_at s.edges.items v ≡ []) }
+    {
+        let edges = edges_of(alloc, rings)?;
+        let count = edges.len();
+        let mut strips = Strips {
+            next: 0,
+            active: Vec::with_capacity(alloc, count)?,
+            spare: Vec::with_capacity(alloc, count)?,
+            windings: Windings::new(alloc, rings.len())?,
+            y: 0,
+            edges,
+        };
+        if let Some(y) = begins_at(&strips.edges, 0) {
+            strips.load(y);
+        }
+        Ok(strips)
+    }
+
+    /// Where the strip ends, or None where no edge is alive or to come.
+    pub(crate) fn top(&self) -> Option<i64>
+        requires { IsAt self.now }
+        ensures top { IfSome result (λ t. IsTop self.now t) }
+        ensures over { IfNone result (IsOver self.now) }
+    {
+        reach(&self.active, begins_at(&self.edges, self.next))
+    }
+
+    /// Goes on to the strip that begins at `y`.
+    pub(crate) fn load(&mut self, y: i64)
+        requires { CanLoad self.old y }
+        ensures at { IsAt self.new }
+        ensures here { self.new.y ≡ y }
+        ensures edges { self.new.edges.items ≡ self.old.edges.items }
+    {
+        let end = end_of_start(&self.edges, self.next, y);
+        merge(
+            &self.active,
+            &self.edges[self.next..end],
+            y,
+            &mut self.spare,
+        );
+        mem::swap(&mut self.active, &mut self.spare);
+        self.next = end;
+        self.y = y;
+    }
+
+    /// Takes the strip's intervals.
+    pub(crate) fn collect(&mut self, intervals: &mut Vec<(i64, i64)>)
+        requires at { IsAt self.old }
+        requires room { length self.old.edges.items ≤ 2 * vec_capacity intervals.old + 1 }
+        ensures at { IsAt self.new }
+        ensures here { self.new.y ≡ self.old.y }
+        ensures edges { self.new.edges.items ≡ self.old.edges.items }
+        ensures row { intervals.new.items ≡ row_at self.old.edges.items self.old.y }
+        ensures few { 2 * vec_len intervals.new ≤ length self.old.edges.items }
+        ensures capacity { vec_capacity intervals.old ≤ vec_capacity intervals.new }
+    {
+        collect_row(&self.active, &mut self.windings, intervals);
+    }
+
+    /// Whether the strip's intervals are these.
+    pub(crate) fn matches(&mut self, intervals: &[(i64, i64)]) -> bool
+        requires { IsAt self.old }
+        ensures at { IsAt self.new }
+        ensures here { self.new.y ≡ self.old.y }
+        ensures edges { self.new.edges.items ≡ self.old.edges.items }
+        ensures same { IsTrue result ↔ (row_at self.old.edges.items self.old.y ≡ intervals.now) }
+    {
+        is_row(&self.active, &mut self.windings, intervals)
+    }
+}

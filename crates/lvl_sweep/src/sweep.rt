@@ -1,0 +1,141 @@
+//! The sweep itself: strips joined to bands.
+ghost use Rattle.std.specs.Prelude.{◌≡◌, ◌≢◌, ◌≤◌, ◌+◌, ◌*◌, ◌∷◌, [], length, drop, IsTrue, false, Some, IfOk, IfSome, IfNone};
+ghost use Rattle.std.specs.Vec.{vec_len, vec_capacity};
+ghost use Rattle.lvl_sweep.specs.Rows.{row_at, bands_from};
+ghost use Rattle.lvl_sweep.specs.Strips.{IsAt, IsTop, IsOver};
+ghost use Rattle.lvl_sweep.specs.Sweeps.{slab_of, IsHeld, AreBandsOf};
+
+use crate::band::Band;
+use crate::strips::Strips;
+use lvl_grid::Ring;
+use std::alloc::{AllocError, Global};
+use std::marker::Model;
+
+/// The bands of what some ring covers, one at a time, from the lowest on.
+///
+/// It holds the vertical edges of the rings, two lists of those alive in the present row, one count
+/// for each ring and one band, and takes no memory once it is made.
+#[derive(Debug, Drop)]
+pub struct Sweep {
+    strips: Strips,
+    band: Band,
+    is_held: bool,
+}
+
+impl Model for Sweep {
+    ghost use Rattle.std.specs.Prelude.{List};
+    ghost use Rattle.lvl_sweep.specs.Slab.{Slab};
+    ghost use Rattle.lvl_sweep.specs.Sweeps.{bands_of, IsSweep};
+
+    ghost Value = { List Slab };
+
+    ghost view = { λ s. bands_of s.strips s.band s.is_held };
+
+    ghost invariant = { λ s. IsSweep s.strips s.band };
+}
+
+/// Goes on to the first strip that covers something, and gives where it ends.
+fn find_row(strips: &mut Strips, intervals: &mut Vec<(i64, i64)>) -> Option<i64>
+    requires at { IsAt strips.old }
+    requires room { length strips.old.edges.items ≤ 2 * vec_capacity intervals.old + 1 }
+    ensures at { IsAt strips.new }
+    ensures edges { strips.new.edges.items ≡ strips.old.edges.items }
+    ensures skipped { bands_from strips.old.edges.items (Some strips.old.y) ≡ bands_from strips.old.edges.items (Some strips.new.y) }
+    ensures top { IfSome result (λ t. IsTop strips.new t) }
+    ensures some { IfSome result (λ _. intervals.new.items ≢ []) }
+    ensures over { IfNone result (IsOver strips.new) }
+    ensures row { intervals.new.items ≡ row_at strips.old.edges.items strips.new.y }
+    ensures few { 2 * vec_len intervals.new ≤ length strips.old.edges.items }
+    ensures capacity { vec_capacity intervals.old ≤ vec_capacity intervals.new }
+{
+    loop {
+        strips.collect(intervals);
+        let top = strips.top()?;
+        if !intervals.is_empty() {
+            return Some(top);
+        }
+        strips.load(top);
+    }
+}
+
+/// Lengthens the band by the strips above it that cover the same intervals.
+fn lengthen(strips: &mut Strips, band: &mut Band)
+    requires at { IsAt strips.old }
+    requires held { IsHeld strips.old.edges.items band.old strips.old.y }
+    ensures at { IsAt strips.new }
+    ensures edges { strips.new.edges.items ≡ strips.old.edges.items }
+    ensures held { IsHeld strips.old.edges.items band.new strips.new.y }
+    ensures stops { row_at strips.old.edges.items strips.new.y ≢ band.new.intervals.items }
+    ensures low { band.new.y0 ≡ band.old.y0 }
+    ensures intervals { band.new.intervals ≡ band.old.intervals }
+{
+    while strips.matches(&band.intervals) {
+        let Some(top) = strips.top() else {
+            return;
+        };
+        band.y1 = top;
+        strips.load(top);
+    }
+}
+
+/// Makes `band` the next band, and stops at its upper end. False where none is to come.
+fn settle(strips: &mut Strips, band: &mut Band) -> bool
+    requires at { IsAt strips.old }
+    requires room { length strips.old.edges.items ≤ 2 * vec_capacity band.old.intervals + 1 }
+    ensures at { IsAt strips.new }
+    ensures edges { strips.new.edges.items ≡ strips.old.edges.items }
+    ensures next { IsTrue result
+        → bands_from strips.old.edges.items (Some strips.old.y)
+        ≡ slab_of band.new ∷ bands_from strips.old.edges.items (Some strips.new.y) }
+    ensures none { result ≡ false → bands_from strips.old.edges.items (Some strips.old.y) ≡ [] }
+    ensures few { 2 * vec_len band.new.intervals ≤ length strips.old.edges.items }
+    ensures capacity { vec_capacity band.old.intervals ≤ vec_capacity band.new.intervals }
+{
+    let Some(top) = find_row(strips, &mut band.intervals) else {
+        return false;
+    };
+    band.y0 = strips.y;
+    band.y1 = top;
+    strips.load(top);
+    lengthen(strips, band);
+    true
+}
+
+impl Sweep {
+    /// The bands of what some ring covers: the one slab list of it. Refused only for want of memory,
+    /// all of which it takes here.
+    pub fn new(alloc: Global, rings: &[Ring]) -> Result<Sweep, AllocError>
+        ensures { IfOk result (λ sweep. AreBandsOf rings.now sweep) }
+    {
+        let mut strips = Strips::new(alloc, rings)?;
+        let intervals = Vec::with_capacity(alloc, strips.edges.len() / 2)?;
+        let mut band = Band {
+            y0: 0,
+            y1: 0,
+            intervals,
+        };
+        let is_held = settle(&mut strips, &mut band);
+        Ok(Sweep {
+            strips,
+            band,
+            is_held,
+        })
+    }
+
+    /// The first of the bands still to come.
+    pub fn band(&self) -> Option<&Band>
+        ensures first { IfSome result (λ band. self.now ≡ slab_of band.now ∷ drop 1 self.now) }
+        ensures none { IfNone result (self.now ≡ []) }
+    {
+        if self.is_held { Some(&self.band) } else { None }
+    }
+
+    /// Drops the first of the bands still to come; does nothing where there is none.
+    pub fn advance(&mut self)
+        ensures { self.new ≡ drop 1 self.old }
+    {
+        if self.is_held {
+            self.is_held = settle(&mut self.strips, &mut self.band);
+        }
+    }
+}

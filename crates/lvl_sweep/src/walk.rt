@@ -1,0 +1,155 @@
+//! The walk over the edges of one row, from left to right, which gives the intervals covered there.
+ghost use Rattle.std.specs.Prelude.{◌≡◌, ◌≢◌, ◌<◌, ◌≤◌, ◌+◌, ◌*◌, ◌++◌, ◌∷◌, [], ℕ, length, not, false, IsTrue, ◌↔◌, IfSome, IfNone, slice_index_or};
+ghost use Rattle.std.specs.Vec.{vec_len, vec_capacity};
+ghost use Rattle.lvl_sweep.specs.declared.edge.Edge.{Edge as EdgeValue};
+ghost use Rattle.lvl_sweep.specs.Edges.{AreAtRest};
+ghost use Rattle.lvl_sweep.specs.Rows.{row, row_from};
+ghost use Rattle.lvl_sweep.specs.Walks.{IsRowOf, HasPassed, IsPartedAt, IsParted, is_inside, HasTurned, NeverTurns};
+
+use crate::edge::Edge;
+use crate::windings::Windings;
+
+/// How far a walk has come: behind `at` edges, the last of them at abscissa `x`.
+#[derive(Clone, Copy, Debug, PartialEq, Eq)]
+pub struct Place {
+    pub at: usize,
+    pub x: Option<i64>,
+}
+
+/// Whether an edge stands there, at this abscissa.
+fn stands_at(active: &[Edge], i: usize, x: i64) -> bool
+    ensures within { IsTrue result → i < length active.now }
+    ensures here { IsTrue result → (d : EdgeValue) → (slice_index_or active.now i d).x ≡ x }
+    ensures elsewhere { result ≡ false → i < length active.now → (d : EdgeValue) → (slice_index_or active.now i d).x ≢ x }
+{
+    i < active.len() && active[i].x == x
+}
+
+/// Passes the edge at `at` and all behind it that stand at one abscissa with it.
+fn pass_abscissa(active: &[Edge], at: usize, windings: &mut Windings) -> usize
+    requires left { at < length active.now }
+    requires row { IsRowOf active.now (length windings.old.counts.items) }
+    requires passed { HasPassed active.now at windings.old }
+    ensures passed { HasPassed active.now result windings.new }
+    ensures parted { (d : EdgeValue) → IsPartedAt active.now result (slice_index_or active.now at d).x }
+    ensures on { at < result }
+    ensures rings { length windings.new.counts.items ≡ length windings.old.counts.items }
+{
+    let x = active[at].x;
+    let mut next = at;
+    while stands_at(active, next, x) {
+        windings.pass(active[next].ring, active[next].up);
+        next += 1;
+    }
+    next
+}
+
+/// Passes edges until the squares behind them are inside, or outside, and gives their abscissa.
+fn pass_until(
+    active: &[Edge],
+    place: &mut Place,
+    windings: &mut Windings,
+    wanted: bool,
+) -> Option<i64>
+    requires row { IsRowOf active.now (length windings.old.counts.items) }
+    requires passed { HasPassed active.now place.old.at windings.old }
+    requires parted { IsParted active.now place.old.at place.old.x }
+    requires side { is_inside windings.old ≡ not wanted }
+    ensures passed { HasPassed active.now place.new.at windings.new }
+    ensures parted { IsParted active.now place.new.at place.new.x }
+    ensures rings { length windings.new.counts.items ≡ length windings.old.counts.items }
+    ensures turned { IfSome result (λ x. HasTurned active.now wanted place.old place.new windings.new x) }
+    ensures never { IfNone result (NeverTurns active.now wanted place.old place.new) }
+{
+    while place.at < active.len() {
+        let x = active[place.at].x;
+        let at = pass_abscissa(active, place.at, windings);
+        *place = Place { at, x: Some(x) };
+        if (windings.turning != 0) == wanted {
+            return Some(x);
+        }
+    }
+    None
+}
+
+/// The next interval that is covered, or None where the row has no more.
+fn next_interval(active: &[Edge], place: &mut Place, windings: &mut Windings) -> Option<(i64, i64)>
+    requires row { IsRowOf active.now (length windings.old.counts.items) }
+    requires passed { HasPassed active.now place.old.at windings.old }
+    requires parted { IsParted active.now place.old.at place.old.x }
+    requires outside { is_inside windings.old ≡ false }
+    ensures passed { HasPassed active.now place.new.at windings.new }
+    ensures parted { IsParted active.now place.new.at place.new.x }
+    ensures rings { length windings.new.counts.items ≡ length windings.old.counts.items }
+    ensures first { IfSome result (λ i. row_from active.now place.old.x ≡ i ∷ row_from active.now place.new.x) }
+    ensures outside { IfSome result (λ _. is_inside windings.new ≡ false) }
+    ensures on { IfSome result (λ _. place.old.at + 2 ≤ place.new.at) }
+    ensures none { IfNone result (row_from active.now place.old.x ≡ []) }
+    ensures all { IfNone result (place.new.at ≡ length active.now) }
+{
+    let start = pass_until(active, place, windings, true)?;
+    let end = pass_until(active, place, windings, false)?;
+    Some((start, end))
+}
+
+/// Passes the edges that are left.
+fn pass_rest(active: &[Edge], at: usize, windings: &mut Windings)
+    requires row { IsRowOf active.now (length windings.old.counts.items) }
+    requires passed { HasPassed active.now at windings.old }
+    ensures passed { HasPassed active.now (length active.now) windings.new }
+    ensures rings { length windings.new.counts.items ≡ length windings.old.counts.items }
+{
+    for i in at..active.len() {
+        windings.pass(active[i].ring, active[i].up);
+    }
+}
+
+/// Puts the interval behind the others, which have room for it.
+fn put_interval(intervals: &mut Vec<(i64, i64)>, interval: (i64, i64))
+    requires { vec_len intervals.old < vec_capacity intervals.old }
+    ensures items { intervals.new.items ≡ intervals.old.items ++ interval ∷ [] }
+    ensures len { vec_len intervals.new ≡ vec_len intervals.old + 1 }
+    ensures capacity { vec_capacity intervals.old ≤ vec_capacity intervals.new }
+{
+    if intervals.push(interval).is_err() {
+        unreachable!()
+    }
+}
+
+/// The intervals that the edges of a row cover.
+pub(crate) fn collect_row(active: &[Edge], windings: &mut Windings, intervals: &mut Vec<(i64, i64)>)
+    requires row { IsRowOf active.now (length windings.old.counts.items) }
+    requires rest { AreAtRest windings.old }
+    requires room { length active.now ≤ 2 * vec_capacity intervals.old + 1 }
+    ensures row { intervals.new.items ≡ row active.now }
+    ensures few { 2 * vec_len intervals.new ≤ length active.now }
+    ensures rest { AreAtRest windings.new }
+    ensures rings { length windings.new.counts.items ≡ length windings.old.counts.items }
+    ensures capacity { vec_capacity intervals.old ≤ vec_capacity intervals.new }
+{
+    intervals.clear();
+    let mut place = Place { at: 0, x: None };
+    while let Some(interval) = next_interval(active, &mut place, windings) {
+        put_interval(intervals, interval);
+    }
+}
+
+/// Whether the edges of a row cover exactly these intervals.
+pub(crate) fn is_row(active: &[Edge], windings: &mut Windings, intervals: &[(i64, i64)]) -> bool
+    requires row { IsRowOf active.now (length windings.old.counts.items) }
+    requires rest { AreAtRest windings.old }
+    ensures same { IsTrue result ↔ (row active.now ≡ intervals.now) }
+    ensures rest { AreAtRest windings.new }
+    ensures rings { length windings.new.counts.items ≡ length windings.old.counts.items }
+{
+    let mut place = Place { at: 0, x: None };
+    let mut seen = 0;
+    while let Some(interval) = next_interval(active, &mut place, windings) {
+        if seen == intervals.len() || intervals[seen] != interval {
+            pass_rest(active, place.at, windings);
+            return false;
+        }
+        seen += 1;
+    }
+    seen == intervals.len()
+}
