@@ -5,3 +5,4 @@ pub mod Ranging
 pub mod Covering
 pub mod Stepping
 pub mod Walking
+pub mod Going

@@ -96,3 +96,29 @@ picks_any P (r ∷ rs) =
             | inr later ↦ Any-later R r rs ((picks_any P rs).1 later)
           ],
     )
+
+any_drop : {X : Type 0} (P : X → Type 0) (k : ℕ) (xs : List X) → Any P (drop k xs) → Any P xs
+any_drop P zero xs a = a
+any_drop P (suc k) [] a = a
+any_drop P (suc k) (x ∷ xs) a = Any-later P x xs (any_drop P k xs a)
+
+any_from : (Q : Pick → Type 0) (rs : List PlainReference) (k : ℕ) → Any Q (picks_from rs k) → Any Q (picks rs)
+any_from Q [] k a = a
+any_from Q (r ∷ rs) k a =
+    let pair : Point → Pick = λ e. (r, e) in
+    elim (Any-sides Q (map pair (drop k r.shifts)) (picks rs) a) [
+      | inl here ↦ Any-left Q (map pair r.shifts) (picks rs) ((Any-mapped Q pair r.shifts).1 (any_drop (λ e. Q (pair e)) k r.shifts ((Any-mapped Q pair (drop k r.shifts)).0 here)))
+      | inr later ↦ Any-right Q (map pair r.shifts) (picks rs) later
+    ]
+
+any_skip : (Q : Pick → Type 0) (j : ℕ) (rs : List PlainReference) → Any Q (picks (drop j rs)) → Any Q (picks rs)
+any_skip Q zero rs a = a
+any_skip Q (suc j) [] a = a
+any_skip Q (suc j) (r ∷ rs) a = Any-right Q (map (λ e. (r, e)) r.shifts) (picks rs) (any_skip Q j rs a)
+
+-- what is still to do is among the picks of the cell
+pub picks_within : (rs : List PlainReference) (j place : ℕ) (p : Pick) → Contains (picks_from (drop j rs) place) p → Contains (picks rs) p
+picks_within rs j place p has =
+    let same : Pick → Type 0 = λ x. x ≡ p in
+    let a = any_skip same j rs (any_from same (drop j rs) place (contained same (picks_from (drop j rs) place) p has refl)) in
+    (a.0, a.2, subst (λ (y : Pick). get_or (picks rs) a.0 y ≡ y) a.4 a.3)

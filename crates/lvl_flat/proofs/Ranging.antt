@@ -16,7 +16,7 @@ plus_zero : (a : ℤ) → a +ℤ pos 0 ≡ a
 plus_zero a = omega (arith, ints)
 
 -- the map of no choice moves nothing
-image-unmoved : (p : Point) → image unmoved p ≡ p
+pub image-unmoved : (p : Point) → image unmoved p ≡ p
 image-unmoved p = same_point _ _ (plus_zero p.x) (plus_zero p.y)
 
 -- the last choice of a chain is a pick of the cell before
@@ -75,7 +75,7 @@ first_choice cells c (suc n) m d chain =
       whole = λ q. a.4.1 q ∙ (first.whole (image place q) ∙ ap (image begin) (sym (image-composed first.rest place q)));
     }
 
-abbrev origin : Point
+abbrev pub origin : Point
 origin = record { x = pos 0; y = pos 0 }
 
 origin_stays : (t : Turn) (f : Bool) → turned t (reflected f origin) ≡ origin
@@ -91,7 +91,7 @@ origin_stays R270 false = refl
 zero_plus : (a : ℤ) → pos 0 +ℤ a ≡ a
 zero_plus a = omega (arith, ints)
 
-image_of_origin : (m : Map) → image m origin ≡ m.at
+pub image_of_origin : (m : Map) → image m origin ≡ m.at
 image_of_origin m = ap (shifted m.at) (origin_stays m.turn m.flip) ∙ same_point _ _ (zero_plus m.at.x) (zero_plus m.at.y)
 
 -- where the origin comes to lie under two maps
