@@ -32,11 +32,11 @@ use Rattle.lvl_flat.proofs.Stepping.{pending_at}
 use Rattle.lvl_flat.proofs.Walking.{drawn_length, weight_begun, weight_into, sum_last, visit_begun, visit_into, Any-last, in_front, in_last}
 
 -- a cell whose shapes are placed and whose shift fits is in range
-in_range_of : (m : Map) (c : PlainCell Rings) → FitsPoint m.at → AreFiguresPlaced m c.shapes → IsInRange each_ring m c
+pub in_range_of : (m : Map) (c : PlainCell Rings) → FitsPoint m.at → AreFiguresPlaced m c.shapes → IsInRange each_ring m c
 in_range_of m c at placed = record { shift = at; vertices = λ i h li j e lj k ring lk. (placed i h li j e lj k ring lk).fits }
 
 -- the sheets stay sorted, and for the same Layers
-layers_kept : (cells : List (PlainCell Rings)) (old new : List PlainSheet) → map layer_of new ≡ map layer_of old → AllHaveSheets old cells → AllHaveSheets new cells
+pub layers_kept : (cells : List (PlainCell Rings)) (old new : List PlainSheet) → map layer_of new ≡ map layer_of old → AllHaveSheets old cells → AllHaveSheets new cells
 layers_kept cells old new same have = λ k c at i h inside. subst (λ ls. Contains ls (get_or c.shapes i h).layer) (sym same) (have k c at i h inside)
 
 -- picks fit where the first and the rest do

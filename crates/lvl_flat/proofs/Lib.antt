@@ -6,3 +6,4 @@ pub mod Covering
 pub mod Stepping
 pub mod Walking
 pub mod Going
+pub mod Ending

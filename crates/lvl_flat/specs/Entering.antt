@@ -32,3 +32,8 @@ pub record IsCellOut (cells : List (PlainCell Rings)) (i : ℕ) (m : Map) (name 
 abbrev pub IsEnterFault : List (PlainCell Rings) → ℕ → Map → FlatFault → Type 0
 IsEnterFault cells i m (OutOfRange name) = IsCellOut cells i m name.items
 IsEnterFault cells i m OutOfMemory = ⊤
+
+-- the fault names the cell, or there is no memory
+abbrev pub TellsName : List ℕ → FlatFault → Type 0
+TellsName name (OutOfRange told) = told.items ≡ name
+TellsName name OutOfMemory = ⊤

@@ -10,6 +10,7 @@ pub use flat::Flat;
 
 
 mod draw;
+mod enter;
 mod fault;
 mod flat;
 mod visit;

@@ -1,0 +1,168 @@
+-- The walk begins at the top, and ends with all rings drawn.
+use Rattle.std.proofs.Common.{◌≡◌, ◌≢◌, ◌<◌, ◌++◌, ◌+◌, ℕ, zero, suc, Bool, true, false, cond, List, [], ◌∷◌, length, map, filter, not, sum_by, slice_get, Some, Any, All, AllPairs, Contains, ◌⊎◌, ◌↔◌, ℤ, pos, ◌+ℤ◌, inl, inr, refl, sym, ap, subst, ◌∙◌, arith, rules}
+use Rattle.std.proofs.lemmas.Int.{ints, clamps}
+use Rattle.std.proofs.lemmas.List.Elements.{All-filter, All-weaker, filter_passes}
+use Rattle.std.proofs.lemmas.Option.{slice_get-get_or}
+use Rattle.lvl_grid.specs.declared.point.Point.{Point}
+use Rattle.lvl_grid.specs.declared.point.Square.{Square}
+use Rattle.lvl_grid.specs.declared.map.Map.{Map}
+use Rattle.lvl_grid.specs.Turn.{image, image_square, FitsPoint}
+use Rattle.lvl_grid.specs.Winding.{Covers}
+use Rattle.lvl_grid.proofs.Squares.{same_square}
+use Rattle.lvl_cells.specs.declared.layer.Layer.{Layer}
+use Rattle.lvl_cells.specs.Cells.{PlainCell, PlainShape, Rings, each_ring}
+use Rattle.lvl_cells.specs.Chains.{Chain, IsComposed, IsInRange, unmoved, over_chains, own_rings_on}
+use Rattle.lvl_cells.specs.Checks.{Settled}
+use Rattle.lvl_cells.specs.Coverage.{RingsCover, ShapeCovers, CellCovers}
+use Rattle.lvl_cells.specs.Soundness.{AreLinked, IsOrder}
+use Rattle.lvl_flat.specs.declared.visit.Visit.{Visit}
+use Rattle.lvl_flat.specs.Drawn.{drawn_on, AreFiguresPlaced}
+use Rattle.lvl_flat.specs.Flattened.{AllInRange, IsFlattened, IsOutOfRange}
+use Rattle.lvl_flat.specs.Sheet.{PlainSheet}
+use Rattle.lvl_flat.specs.Sheets.{ComesBefore, AreSorted, IsInOrder, HaveSheets, same_layer, rings_on}
+use Rattle.lvl_flat.specs.Visits.{Pick, picks, pending, visit_weight, VisitCovers, FitsUnder, PicksFit, IsVisit}
+use Rattle.lvl_flat.specs.Walking.{AllHaveSheets, IsWalking}
+use Rattle.lvl_flat.specs.Entering.{begun, IsDrawn, IsCellOut}
+use Rattle.lvl_flat.proofs.Orders.{sorted_at, sorted_tail, before_itself, rings_nowhere, differs_is, tested_layer}
+use Rattle.lvl_flat.proofs.Picks.{Any-none, Any-first, Any-cases, picks_from_start}
+use Rattle.lvl_flat.proofs.Ranging.{fits_under, image-unmoved}
+use Rattle.lvl_flat.proofs.Covering.{Under, drawn_covers}
+use Rattle.lvl_flat.proofs.Drawing.{layer_of, sorted_alike}
+use Rattle.lvl_flat.proofs.Stepping.{pending_at}
+use Rattle.lvl_flat.proofs.Walking.{drawn_length, weight_begun, visit_begun}
+use Rattle.lvl_flat.proofs.Going.{in_range_of, layers_kept}
+
+square_stays : (s : Square) → image_square unmoved s ≡ s
+square_stays s = same_square _ _ (omega (arith, ints, clamps)) (omega (arith, ints, clamps))
+
+fits_unmoved : FitsPoint unmoved.at
+fits_unmoved = record { x_fits = search rules; y_fits = search rules }
+
+only : (v u : Visit) → Contains (v ∷ []) u → (P : Visit → Type 0) → P v → P u
+only v u (zero, below, same) P p = subst P same p
+only v u (suc k, below, same) P p = absurd (omega arith)
+
+-- sheets without a ring, and the top drawn on them
+pub walk_begins : (s : Settled) (c : PlainCell Rings) (empty new : List PlainSheet) → AreLinked s.cells → IsOrder s.cells s.order → slice_get s.cells s.top ≡ Some c → AreSorted empty → AllHaveSheets empty s.cells
+    → ((layer : Layer) → rings_on layer empty ≡ []) → IsDrawn s.cells s.top unmoved empty new → IsWalking s new (begun s.top unmoved ∷ [])
+walk_begins s c empty new linked ordered at sorted have none d =
+    let cells : List (PlainCell Rings) = s.cells in
+    let both : Some d.cell ≡ Some c = sym d.there ∙ at in
+    let one : d.cell ≡ c = cc in
+    let child : Visit = begun s.top unmoved in
+    let placed : AreFiguresPlaced unmoved c.shapes = subst (λ (b : PlainCell Rings). AreFiguresPlaced unmoved b.shapes) one d.placed in
+    let drawn : (layer : Layer) → rings_on layer new ≡ drawn_on layer unmoved c.shapes = λ layer.
+        d.drawn layer ∙ (ap (λ rs. rs ++ drawn_on layer unmoved d.cell.shapes) (none layer) ∙ ap (λ (b : PlainCell Rings). drawn_on layer unmoved b.shapes) one) in
+    record {
+      top = c;
+      is_top = at;
+      sorted = sorted_alike new empty d.layers sorted;
+      layers = layers_kept cells empty new d.layers have;
+      covers = λ layer q.
+          let begin = visit_begun cells layer s.top unmoved q c at in
+          let mine = drawn_covers layer unmoved q c.shapes placed in
+          let V : Visit → Type 0 = VisitCovers cells layer q in
+          (
+            λ h.
+                elim (begin.0 (q, square_stays q, h)) [
+                  | inl own ↦ inl (subst (λ rs. RingsCover rs q) (sym (drawn layer)) (mine.1 own))
+                  | inr far ↦ inr (Any-first V child [] far)
+                ],
+            λ e.
+                let u : Under unmoved q (CellCovers RingsCover cells layer c) =
+                elim e [
+                  | inl a ↦ begin.1 (inl (mine.0 (subst (λ rs. RingsCover rs q) (drawn layer) a)))
+                  | inr b ↦ elim (Any-cases V child [] b) [ inl far ↦ begin.1 (inr far) | inr nothing ↦ absurd (Any-none V nothing) ]
+                ] in
+                subst (CellCovers RingsCover cells layer c) (sym (square_stays u.0) ∙ u.1) u.2,
+          );
+      counts = λ layer.
+          let own : PlainCell Rings → ℕ = own_rings_on each_ring layer in
+          let long : length (rings_on layer new) ≡ own c = ap length (drawn layer) ∙ drawn_length layer unmoved c.shapes in
+          let single : sum_by (visit_weight own cells) (child ∷ []) ≡ visit_weight own cells child = omega arith in
+          omega (arith, long, single, weight_begun own cells s.order s.top unmoved c linked ordered at);
+      fits = λ each.
+          let begun_fits : PicksFit cells unmoved (picks c.references) = subst (PicksFit cells unmoved) (pending_at cells child c at ∙ picks_from_start c.references) (each child (0, omega arith, refl)) in
+          let under : FitsUnder cells unmoved c = fits_under cells unmoved c (in_range_of unmoved c fits_unmoved placed) begun_fits in
+          λ n m e chain. under n m e chain m (λ p. sym (image-unmoved (image m p)));
+      visits = λ u has. only child u has (λ v. IsVisit cells c v) (record { cell = c; there = at; steps = 0; chain = (refl, refl) });
+    }
+
+-- a top whose own vertices are out of range
+pub top_out : (s : Settled) (c : PlainCell Rings) (name : List ℕ) → slice_get s.cells s.top ≡ Some c → IsCellOut s.cells s.top unmoved name → IsOutOfRange s name
+top_out s c name at o =
+    let both : Some o.cell ≡ Some c = sym o.there ∙ at in
+    let one : o.cell ≡ c = cc in
+    record { top = c; is_top = at; steps = 0; map = unmoved; cell = o.cell; chain = (refl, one); named = o.named; out = λ fits. o.out fits.vertices }
+
+-- rings there are
+abbrev pub has_rings : Rings → Bool
+has_rings [] = false
+has_rings (ring ∷ rings) = true
+
+abbrev pub is_filled : PlainSheet → Bool
+is_filled s = has_rings s.rings
+
+none_there : (rings : Rings) → has_rings rings ≡ false → rings ≡ []
+none_there [] e = refl
+none_there (ring ∷ rings) e = cc
+
+some_there : (rings : Rings) → has_rings rings ≡ true → rings ≢ []
+some_there [] e same = cc
+some_there (ring ∷ rings) e same = cc
+
+sorted_cons : (t : PlainSheet) (ss : List PlainSheet) → All (λ s. ComesBefore t.layer s.layer) ss → AreSorted ss → AreSorted (t ∷ ss)
+sorted_cons t ss before sorted zero zero d lt in' = absurd (omega arith)
+sorted_cons t ss before sorted zero (suc j) d lt in' = before j d (omega arith)
+sorted_cons t ss before sorted (suc i) zero d lt in' = absurd (omega arith)
+sorted_cons t ss before sorted (suc i) (suc j) d lt in' = sorted i j d (omega arith) (omega arith)
+
+comes_before_rest : (t : PlainSheet) (ss : List PlainSheet) → AreSorted (t ∷ ss) → All (λ s. ComesBefore t.layer s.layer) ss
+comes_before_rest t ss sorted = λ k d inside. sorted 0 (suc k) d (omega arith) (omega arith)
+
+sorted_filter : (p : PlainSheet → Bool) (ss : List PlainSheet) → AreSorted ss → AreSorted (filter p ss)
+sorted_filter p [] sorted = sorted
+sorted_filter p (t ∷ ss) sorted =
+    let rest = sorted_filter p ss (sorted_tail t ss sorted) in
+    elim (p t) as (λ b. AreSorted (cond b (t ∷ filter p ss) (filter p ss))) [
+      | true ↦ sorted_cons t (filter p ss) (All-filter p (λ s. ComesBefore t.layer s.layer) ss (comes_before_rest t ss sorted)) rest
+      | false ↦ rest
+    ]
+
+-- no ring is lost with the sheets that have none
+pub rings_on-filled : (ss : List PlainSheet) → AreSorted ss → (layer : Layer) → rings_on layer (filter is_filled ss) ≡ rings_on layer ss
+rings_on-filled [] sorted layer = refl
+rings_on-filled (t ∷ ss) sorted layer =
+    let rest = rings_on-filled ss (sorted_tail t ss sorted) layer in
+    elim (is_filled t) as (λ b. is_filled t ≡ b → rings_on layer (cond b (t ∷ filter is_filled ss) (filter is_filled ss)) ≡ cond (same_layer t.layer layer) t.rings (rings_on layer ss)) [
+      | true ↦ λ e. ap (cond (same_layer t.layer layer) t.rings) rest
+      | false ↦ λ e.
+          rest
+          ∙ elim (same_layer t.layer layer) as (λ b. same_layer t.layer layer ≡ b → rings_on layer ss ≡ cond b t.rings (rings_on layer ss)) [
+            | true ↦ λ f.
+                let here : t.layer ≡ layer = tested_layer t.layer layer (ap not f) in
+                let others : All (λ s. s.layer ≢ layer) ss = All-weaker (λ s. ComesBefore t.layer s.layer) (λ s. s.layer ≢ layer) (λ s before same. before_itself layer (subst (λ (x : Layer). ComesBefore x layer) here (subst (λ (x : Layer). ComesBefore t.layer x) same before))) ss (comes_before_rest t ss sorted) in
+                rings_nowhere ss layer others ∙ sym (none_there t.rings e)
+            | false ↦ λ f. refl
+          ] refl
+    ] refl
+
+pub filled_in_order : (ss : List PlainSheet) → AreSorted ss → IsInOrder (filter is_filled ss)
+filled_in_order ss sorted = record {
+  filled = All-weaker (λ s. is_filled s ≡ true) (λ s. s.rings ≢ []) (λ s. some_there s.rings) (filter is_filled ss) (filter_passes is_filled ss);
+  sorted = sorted_filter is_filled ss sorted;
+}
+
+pub walk_ends : (s : Settled) (sheets : List PlainSheet) → IsWalking s sheets [] → IsFlattened s (filter is_filled sheets)
+walk_ends s sheets w = record {
+  top = w.top;
+  is_top = w.is_top;
+  covers = λ layer q.
+      let same = rings_on-filled sheets w.sorted layer in
+      let both = w.covers layer q in (
+        λ a. both.1 (inl (subst (λ rs. RingsCover rs q) same a)),
+        λ h. elim (both.0 h) [ inl a ↦ subst (λ rs. RingsCover rs q) (sym same) a | inr b ↦ absurd (Any-none (VisitCovers s.cells layer q) b) ],
+      );
+  count = λ layer. ap length (rings_on-filled sheets w.sorted layer) ∙ omega (arith, w.counts layer);
+  in_range = w.fits (λ v has. let below : has.0 < 0 = has.1 in absurd (omega arith));
+}
