@@ -9,6 +9,7 @@ pub use fault::FlatFault;
 pub use flat::Flat;
 
 
+mod advance;
 mod draw;
 mod enter;
 mod fault;

@@ -1,4 +1,7 @@
 //! Visits: placed cells on the way from the top.
+ghost use Rattle.std.specs.Prelude.{◌≡◌};
+ghost use Rattle.lvl_flat.specs.Entering.{begun};
+
 use lvl_grid::Map;
 
 /// A placed cell, of whose references those before `reference`, and of that one's places those
@@ -9,4 +12,18 @@ pub(crate) struct Visit {
     pub map: Map,
     pub reference: usize,
     pub place: u64,
+}
+
+impl Visit {
+    /// A visit that has all still to do.
+    pub(crate) fn begun(cell: usize, map: Map) -> Visit
+        ensures { result ≡ begun cell map }
+    {
+        Visit {
+            cell,
+            map,
+            reference: 0,
+            place: 0,
+        }
+    }
 }
