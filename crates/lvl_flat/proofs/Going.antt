@@ -1,5 +1,5 @@
 -- The walk begins, goes into a cell, and ends.
-use Rattle.std.proofs.Common.{◌≡◌, ◌<◌, ◌≤◌, ◌++◌, ◌+◌, ◌-◌, ℕ, zero, suc, List, [], ◌∷◌, length, map, sum_by, slice_get, Option, Some, Any, All, Contains, ◌⊎◌, ◌↔◌, inl, inr, refl, sym, ap, subst, ◌∙◌, arith, length-append, get_or}
+use Rattle.std.proofs.Common.{◌≡◌, ◌<◌, ◌≤◌, ◌++◌, ◌+◌, ◌-◌, ℕ, zero, suc, List, [], ◌∷◌, length, map, sum_by, slice_get, Option, Some, Any, All, Contains, ◌⊎◌, ◌↔◌, inl, inr, refl, sym, ap, subst, ◌∙◌, arith, length-append, get_or, Result, Ok, Err, OnOk}
 use Rattle.std.specs.Option.{option_map_or}
 use Rattle.std.proofs.lemmas.List.Sums.{sum_by-cons}
 use Rattle.std.proofs.lemmas.List.Elements.{Contains-push_cases}
@@ -17,13 +17,15 @@ use Rattle.lvl_cells.specs.Coverage.{RingsCover, ShapeCovers, CellCovers}
 use Rattle.lvl_cells.specs.Soundness.{AreLinked, IsOrder}
 use Rattle.lvl_flat.specs.declared.visit.Visit.{Visit}
 use Rattle.lvl_flat.specs.Drawn.{drawn_on, AreFiguresPlaced}
-use Rattle.lvl_flat.specs.Flattened.{AllInRange, IsOutOfRange}
+use Rattle.lvl_flat.specs.Flattened.{IsOutOfRange, IsFlatFault}
+use Rattle.lvl_flat.specs.declared.fault.FlatFault.{FlatFault}
+use Rattle.lvl_flat.specs.declared.fault.FlatFault.TheVariants.{OutOfRange, OutOfMemory}
 use Rattle.lvl_flat.specs.Sheet.{PlainSheet}
 use Rattle.lvl_flat.specs.Sheets.{AreSorted, HaveSheets, rings_on}
 use Rattle.lvl_flat.specs.Visits.{Pick, picks, picks_from, pending, pick_weight, visit_weight, VisitCovers, FitsUnder, PicksFit, IsVisit}
 use Rattle.lvl_flat.specs.Walking.{AllHaveSheets, IsWalking, references_left, toil, work}
 use Rattle.lvl_flat.specs.Steps.{IsPast, IsInto, IsOut}
-use Rattle.lvl_flat.specs.Entering.{begun, IsDrawn, IsCellOut}
+use Rattle.lvl_flat.specs.Entering.{begun, IsDrawn, IsCellOut, IsEnterFault, TellsName}
 use Rattle.lvl_flat.proofs.Picks.{Any-left, Any-right, Any-sides, picks_from_start, picks_within}
 use Rattle.lvl_flat.proofs.Ranging.{chain_more, fits_alike, fits_under, image-unmoved, composed_at}
 use Rattle.lvl_flat.proofs.Covering.{Under, drawn_covers}
@@ -229,3 +231,16 @@ out_by_vertex s sheets front v i m rest name w into o =
       named = o.named;
       out = λ fits. o.out fits.vertices;
     }
+
+-- the name of a cell that is out of range, or want of memory
+pub names_out : (s : Settled) (name : List ℕ) (fault : FlatFault) → TellsName name fault → IsOutOfRange s name → IsFlatFault s fault
+names_out s name (OutOfRange told) tells out = subst (IsOutOfRange s) (sym tells) out
+names_out s name OutOfMemory tells out = tells
+
+pub entered_out : (s : Settled) (i : ℕ) (m : Map) → ((name : List ℕ) → IsCellOut s.cells i m name → IsOutOfRange s name) → (fault : FlatFault) → IsEnterFault s.cells i m fault → IsFlatFault s fault
+entered_out s i m out (OutOfRange name) h = out name.items h
+entered_out s i m out OutOfMemory h = h
+
+pub OnOk-carried : {A E : Type 0} (r : Result A E) (P Q : Type 0) → (P → Q) → OnOk r P → OnOk r Q
+OnOk-carried (Ok x) P Q f h = f h
+OnOk-carried (Err e) P Q f h = h

@@ -1,0 +1,94 @@
+use Rattle.std.proofs.Common.{◌≡◌, ◌<◌, ◌*◌, ◌^◌, ◌++◌, ◌∷◌, [], ℕ, List, length, slice_get, Some, OnOk, IfErr, sym, ap, subst, ◌∙◌, arith, refl}
+use Rattle.std.proofs.lemmas.Option.{slice_get_within, slice_get_read}
+use Rattle.std.proofs.lemmas.Result.{err_from_is_err_and}
+use Rattle.lvl_cells.specs.Cells.{PlainCell, Rings}
+use Rattle.lvl_cells.specs.Checks.{Settled}
+use Rattle.lvl_cells.specs.Soundness.{AreLinked, IsOrder}
+use Rattle.lvl_flat.specs.declared.visit.Visit.{Visit}
+use Rattle.lvl_flat.specs.Entering.{begun, IsDrawn, TellsName, IsEnterFault}
+use Rattle.lvl_flat.specs.Flattened.{IsFlatFault, IsOutOfRange}
+use Rattle.lvl_flat.specs.Sheet.{PlainSheet}
+use Rattle.lvl_flat.specs.Steps.{IsInto, IsOut}
+use Rattle.lvl_flat.specs.Walking.{AllHaveSheets, IsWalking, work}
+use Rattle.lvl_flat.proofs.Walking.{walk_done, walk_past, in_last}
+use Rattle.lvl_flat.proofs.Going.{walk_into, less_into, out_by_shift, out_by_vertex, names_out, entered_out, OnOk-carried}
+use Rattle.lvl_flat.proofs.advance.advance.Goals as goal
+
+pub next_step-requires : goal.next_step-requires
+next_step-requires c =
+    let old = c.requires.visits c.args.visit (in_last c.args.stack.now.items c.args.visit) in
+    slice_get_within c.args.checked.now.cells c.args.visit.cell old.cell old.there
+
+pub draw_cell-requires-clause-there : goal.draw_cell-requires-clause-there
+draw_cell-requires-clause-there c =
+    let into : IsInto c.args.checked.now.cells c.args.visit c.in-Into.place c.in-Into.map c.in-Into.rest = c.in-Into.ensures in
+    let inside = slice_get_within c.args.checked.now.cells c.in-Into.place into.next into.there in
+    omega (arith, inside, ap length c.cells-cells.ensures.value)
+
+pub draw_cell-requires-clause-layers : goal.draw_cell-requires-clause-layers
+draw_cell-requires-clause-layers c = subst (AllHaveSheets c.args.sheets.now.items) (sym c.cells-cells.ensures.value) c.requires.layers
+
+pub bounds-cells-place : goal.bounds-cells-place
+bounds-cells-place c =
+    let out : IsOut c.args.checked.now.cells c.args.visit c.in-Out.place = c.in-Out.ensures in
+    let inside = slice_get_within c.args.checked.now.cells c.in-Out.place out.next out.there in
+    omega (arith, inside, ap length c.cells-cells.ensures.value)
+
+pub offset_bounds-cells-place : goal.offset_bounds-cells-place
+offset_bounds-cells-place c =
+    let out : IsOut c.args.checked.now.cells c.args.visit c.in-Out.place = c.in-Out.ensures in
+    let inside = slice_get_within c.args.checked.now.cells c.in-Out.place out.next out.there in
+    let long = c.cells-cells.type_inv in
+    ?
+
+pub returns-in-Done-clause-walking : goal.returns-in-Done-clause-walking
+returns-in-Done-clause-walking c = walk_done c.args.checked.now c.args.sheets.now.items c.args.stack.now.items c.args.visit c.requires c.in-Done.ensures
+
+pub returns-in-Past-clause-walking : goal.returns-in-Past-clause-walking
+returns-in-Past-clause-walking c =
+    let next = walk_past c.args.checked.now c.args.sheets.now.items c.args.stack.now.items c.args.visit c.in-Past.rest c.requires c.in-Past.ensures in
+    OnOk-carried c.push_visit.result _ _ (λ pushed. subst (IsWalking c.args.checked.now c.args.sheets.now.items) (sym pushed) next) c.push_visit.ensures.pushed
+
+pub returns-in_err-draw_cell-in-Into-clause-err : goal.returns-in_err-draw_cell-in-Into-clause-err
+returns-in_err-draw_cell-in-Into-clause-err c =
+    let s : Settled = c.args.checked.now in
+    let into : IsInto s.cells c.args.visit c.in-Into.place c.in-Into.map c.in-Into.rest = c.in-Into.ensures in
+    let told : IsEnterFault s.cells c.in-Into.place c.in-Into.map c.in_err-draw_cell-in-Into.field-0.0 = subst (λ cs. IsEnterFault cs c.in-Into.place c.in-Into.map c.in_err-draw_cell-in-Into.field-0.0) c.cells-cells.ensures.value c.in_err-draw_cell-in-Into.ensures.err in
+    let p = err_from_is_err_and c.from_residual-in_err-draw_cell-in-Into.result c.from_residual-in_err-draw_cell-in-Into.ensures.1 in
+    rw (p.1, p.2) (entered_out s c.in-Into.place c.in-Into.map (λ name out. out_by_vertex s c.args.sheets.now.items c.args.stack.now.items c.args.visit c.in-Into.place c.in-Into.map c.in-Into.rest name c.requires into out) c.in_err-draw_cell-in-Into.field-0.0 told)
+
+pub returns-in_ok-draw_cell-in-Into-clause-walking : goal.returns-in_ok-draw_cell-in-Into-clause-walking
+returns-in_ok-draw_cell-in-Into-clause-walking c =
+    let s : Settled = c.args.checked.now in
+    let front : List Visit = c.args.stack.now.items in
+    let into : IsInto s.cells c.args.visit c.in-Into.place c.in-Into.map c.in-Into.rest = c.in-Into.ensures in
+    let drawn : IsDrawn s.cells c.in-Into.place c.in-Into.map c.args.sheets.now.items c.draw_cell.new.sheets.items = subst (λ cs. IsDrawn cs c.in-Into.place c.in-Into.map c.args.sheets.now.items c.draw_cell.new.sheets.items) c.cells-cells.ensures.value c.in_ok-draw_cell-in-Into.ensures.drawn in
+    let sound = c.cells-cells.ensures.checked.1 in
+    let next = walk_into s c.args.sheets.now.items c.draw_cell.new.sheets.items front c.args.visit c.in-Into.place c.in-Into.map c.in-Into.rest sound.sound.linked sound.sorted c.requires into drawn in
+    let first : c.push_visit-in-Into.new.stack.items ≡ front ++ c.in-Into.rest ∷ [] = c.in_ok-push_visit-in-Into.ensures.pushed in
+    OnOk-carried c.push_visit-in-Into-2.result _ _
+    (λ pushed. subst (IsWalking s c.draw_cell.new.sheets.items) (sym (pushed ∙ (ap (λ xs. xs ++ c.begun.result ∷ []) first ∙ ap (λ v. (front ++ c.in-Into.rest ∷ []) ++ v ∷ []) c.begun.ensures))) next) c.push_visit-in-Into-2.ensures.pushed
+
+pub returns-in_ok-draw_cell-in-Into-clause-nearer : goal.returns-in_ok-draw_cell-in-Into-clause-nearer
+returns-in_ok-draw_cell-in-Into-clause-nearer c =
+    let s : Settled = c.args.checked.now in
+    let front : List Visit = c.args.stack.now.items in
+    let into : IsInto s.cells c.args.visit c.in-Into.place c.in-Into.map c.in-Into.rest = c.in-Into.ensures in
+    let sound = c.cells-cells.ensures.checked.1 in
+    let less = less_into s front c.args.visit c.in-Into.place c.in-Into.map c.in-Into.rest sound.sound.linked sound.sorted into in
+    let first : c.push_visit-in-Into.new.stack.items ≡ front ++ c.in-Into.rest ∷ [] = c.in_ok-push_visit-in-Into.ensures.pushed in
+    OnOk-carried c.push_visit-in-Into-2.result _ _
+    (λ pushed.
+    subst (λ xs. work s.cells xs < work s.cells (front ++ c.args.visit ∷ [])) (sym (pushed ∙ (ap (λ xs. xs ++ c.begun.result ∷ []) first ∙ ap (λ v. (front ++ c.in-Into.rest ∷ []) ++ v ∷ []) c.begun.ensures))) less) c.push_visit-in-Into-2.ensures.pushed
+
+pub returns-in-Out-clause-err : goal.returns-in-Out-clause-err
+returns-in-Out-clause-err c =
+    let s : Settled = c.args.checked.now in
+    let out : IsOut s.cells c.args.visit c.in-Out.place = c.in-Out.ensures in
+    let cell : PlainCell Rings = c.index-cells-place.result in
+    let inside : c.in-Out.place < length c.cells-cells.result.now = omega (arith, slice_get_within s.cells c.in-Out.place out.next out.there, ap length c.cells-cells.ensures.value) in
+    let listed : slice_get c.cells-cells.result.now c.in-Out.place ≡ Some cell = slice_get_read c.cells-cells.result.now (length c.cells-cells.result.now) c.in-Out.place cell refl inside c.index-cells-place.is in
+    let both : Some cell ≡ Some out.next = sym (subst (λ cs. slice_get cs c.in-Out.place ≡ Some cell) c.cells-cells.ensures.value listed) ∙ out.there in
+    let one : cell ≡ out.next = cc in
+    let name : c.deref.result.now ≡ out.next.name = c.deref.ensures.value ∙ ap (λ (b : PlainCell Rings). b.name) (c.cell.view_is ∙ one) in
+    names_out s out.next.name c.out_of_range.result (subst (λ n. TellsName n c.out_of_range.result) name c.out_of_range.ensures) (out_by_shift s c.args.sheets.now.items c.args.stack.now.items c.args.visit c.in-Out.place c.requires out)
