@@ -19,7 +19,7 @@ use Rattle.lvl_flat.specs.declared.visit.Visit.{Visit}
 use Rattle.lvl_flat.specs.Drawn.{drawn_on, AreFiguresPlaced}
 use Rattle.lvl_flat.specs.Flattened.{AllInRange, IsFlattened, IsOutOfRange}
 use Rattle.lvl_flat.specs.Sheet.{PlainSheet}
-use Rattle.lvl_flat.specs.Sheets.{ComesBefore, AreSorted, IsInOrder, HaveSheets, same_layer, rings_on}
+use Rattle.lvl_flat.specs.Sheets.{ComesBefore, AreSorted, IsInOrder, HaveSheets, same_layer, rings_on, has_rings, is_filled}
 use Rattle.lvl_flat.specs.Visits.{Pick, picks, pending, visit_weight, VisitCovers, FitsUnder, PicksFit, IsVisit}
 use Rattle.lvl_flat.specs.Walking.{AllHaveSheets, IsWalking}
 use Rattle.lvl_flat.specs.Entering.{begun, IsDrawn, IsCellOut}
@@ -94,14 +94,6 @@ top_out s c name at o =
     let both : Some o.cell ≡ Some c = sym o.there ∙ at in
     let one : o.cell ≡ c = cc in
     record { top = c; is_top = at; steps = 0; map = unmoved; cell = o.cell; chain = (refl, one); named = o.named; out = λ fits. o.out fits.vertices }
-
--- rings there are
-abbrev pub has_rings : Rings → Bool
-has_rings [] = false
-has_rings (ring ∷ rings) = true
-
-abbrev pub is_filled : PlainSheet → Bool
-is_filled s = has_rings s.rings
 
 none_there : (rings : Rings) → has_rings rings ≡ false → rings ≡ []
 none_there [] e = refl

@@ -1,5 +1,5 @@
 -- Lists of sheets: which rings are on a Layer, and the order of the Layers.
-use Rattle.std.specs.Prelude.{◌≡◌, ◌≢◌, ◌<◌, ◌==◌, ◌&&◌, ◌⊎◌, ℕ, List, [], ◌∷◌, All, AllPairs, Bool, slice_get, Some, map, Contains, if◌then◌else◌}
+use Rattle.std.specs.Prelude.{◌≡◌, ◌≢◌, ◌<◌, ◌==◌, ◌&&◌, ◌⊎◌, ℕ, List, [], ◌∷◌, All, AllPairs, Bool, true, false, slice_get, Some, map, Contains, if◌then◌else◌}
 use Rattle.lvl_cells.specs.declared.layer.Layer.{Layer}
 use Rattle.lvl_cells.specs.Cells.{PlainShape, Rings}
 use Rattle.lvl_flat.specs.Sheet.{PlainSheet}
@@ -12,6 +12,14 @@ same_layer a b = (a.layer == b.layer) && (a.datatype == b.datatype)
 abbrev pub rings_on : Layer → List PlainSheet → Rings
 rings_on layer [] = []
 rings_on layer (sheet ∷ sheets) = if same_layer sheet.layer layer then sheet.rings else rings_on layer sheets
+
+-- the sheet has rings
+abbrev pub has_rings : Rings → Bool
+has_rings [] = false
+has_rings (ring ∷ rings) = true
+
+abbrev pub is_filled : PlainSheet → Bool
+is_filled s = has_rings s.rings
 
 -- Layers are ordered by the layer, then by the datatype
 abbrev pub ComesBefore : Layer → Layer → Type 0

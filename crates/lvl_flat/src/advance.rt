@@ -1,15 +1,24 @@
 //! One step of the walk, and the walk.
-ghost use Rattle.std.specs.Prelude.{◌≡◌, ◌<◌, ◌++◌, ◌∷◌, [], IfOk, IfErr, OnOk};
+ghost use Rattle.std.specs.Prelude.{◌<◌, ◌++◌, ◌∷◌, [], IfOk, IfErr, OnOk};
 ghost use Rattle.lvl_flat.specs.Flattened.{IsFlattened, IsFlatFault};
 ghost use Rattle.lvl_flat.specs.Walking.{IsWalking, work};
 
 use crate::enter::{draw_cell, out_of_range, push_visit};
 use crate::fault::FlatFault;
-use crate::flat::Sheet;
+use crate::flat::{Flat, Sheet};
+use crate::layers::sheets_of;
 use crate::visit::Visit;
 use crate::walk::{Step, next_step};
 use lvl_cells::Checked;
+use lvl_grid::{Map, Point, Turn};
 use std::alloc::Global;
+
+/// The map that leaves all as it is.
+const UNMOVED: Map = Map {
+    flip: false,
+    turn: Turn::R0,
+    at: Point { x: 0, y: 0 },
+};
 
 /// Goes one step on with the visit that was taken off the stack.
 pub(crate) fn advance(
@@ -38,4 +47,27 @@ pub(crate) fn advance(
             Err(out_of_range(alloc, &cell.name))
         }
     }
+}
+
+/// All rings that the top places, Layer by Layer.
+///
+/// On each Layer the rings together cover exactly the squares that the top covers there through
+/// all references, and are as many as it places there. Only the shifts of whole chains and the
+/// placed vertices are tested for 64 signed bits: a coordinate on the way that is outside and
+/// comes back is not refused (own rule).
+pub fn flatten(alloc: Global, checked: &Checked) -> Result<Flat, FlatFault>
+    ensures ok { IfOk result (IsFlattened checked.now) }
+    ensures err { IfErr result (IsFlatFault checked.now) }
+{
+    let Ok(mut sheets) = sheets_of(alloc, checked.cells()) else {
+        return Err(FlatFault::OutOfMemory);
+    };
+    let top = checked.top();
+    draw_cell(alloc, checked.cells(), &mut sheets, top, &UNMOVED)?;
+    let mut stack = Vec::new(alloc);
+    push_visit(&mut stack, Visit::begun(top, UNMOVED))?;
+    while let Some(visit) = stack.pop() {
+        advance(alloc, checked, &mut sheets, &mut stack, visit)?;
+    }
+    Ok(Flat::filled(sheets))
 }

@@ -1,6 +1,6 @@
 //! The rings of each Layer, in the order of the Layers.
-ghost use Rattle.std.specs.Prelude.{◌≡◌, ◌≢◌, ◌↔◌, map, slice_get, All, IsTrue, IfSome, IfNone};
-ghost use Rattle.lvl_flat.specs.Sheets.{rings_on, IsInOrder, ComesBefore, AreSorted, SheetAt};
+ghost use Rattle.std.specs.Prelude.{◌≡◌, ◌≢◌, ◌↔◌, filter, map, slice_get, All, IsTrue, IfSome, IfNone};
+ghost use Rattle.lvl_flat.specs.Sheets.{rings_on, is_filled, IsInOrder, ComesBefore, AreSorted, SheetAt};
 
 use lvl_cells::Layer;
 use lvl_grid::Ring;
@@ -40,6 +40,15 @@ impl Model for Flat {
 }
 
 impl Flat {
+    /// The sheets that have rings.
+    pub(crate) fn filled(mut sheets: Vec<Sheet>) -> Flat
+        requires { AreSorted sheets.items }
+        ensures { result ≡ filter is_filled sheets.items }
+    {
+        sheets.retain(|sheet| !sheet.rings.is_empty());
+        Flat { sheets }
+    }
+
     /// The Layer at the place, in their order; each has a ring at least.
     pub fn layer(&self, place: usize) -> Option<Layer>
         ensures layer { result ≡ slice_get (map (λ s. s.layer) self.now) place }

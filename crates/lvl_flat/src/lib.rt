@@ -5,6 +5,7 @@
 //! the top covers there.
 #![tactic(auto)]
 
+pub use advance::flatten;
 pub use fault::FlatFault;
 pub use flat::Flat;
 
@@ -14,5 +15,6 @@ mod draw;
 mod enter;
 mod fault;
 mod flat;
+mod layers;
 mod visit;
 mod walk;

@@ -38,8 +38,9 @@ pub offset_bounds-cells-place : goal.offset_bounds-cells-place
 offset_bounds-cells-place c =
     let out : IsOut c.args.checked.now.cells c.args.visit c.in-Out.place = c.in-Out.ensures in
     let inside = slice_get_within c.args.checked.now.cells c.in-Out.place out.next out.there in
-    let long = c.cells-cells.type_inv in
-    ?
+    let long : (length c.cells-cells.result.now < 2 ^ 64) × (length c.cells-cells.result.now * 72 < 2 ^ 63) = c.cells-cells.type_inv in
+    let within : c.in-Out.place < length c.cells-cells.result.now = omega (arith, inside, ap length c.cells-cells.ensures.value) in
+    omega (arith, long.1, within)
 
 pub returns-in-Done-clause-walking : goal.returns-in-Done-clause-walking
 returns-in-Done-clause-walking c = walk_done c.args.checked.now c.args.sheets.now.items c.args.stack.now.items c.args.visit c.requires c.in-Done.ensures

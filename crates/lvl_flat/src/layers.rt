@@ -1,0 +1,57 @@
+//! The Layers of a library, each with an empty sheet.
+ghost use Rattle.std.specs.Prelude.{◌≡◌, ◌++◌, [], All, OnOk, IfOk, map};
+ghost use Rattle.std.specs.List.{flat_map};
+ghost use Rattle.lvl_flat.specs.Sheets.{AreSorted};
+ghost use Rattle.lvl_flat.specs.Walking.{AllHaveSheets};
+
+use crate::flat::Sheet;
+use lvl_cells::{Cell, Layer, Shape};
+use std::alloc::{AllocError, Global};
+
+/// Adds the Layers of the shapes, in their order.
+fn push_layers(layers: &mut Vec<Layer>, shapes: &[Shape]) -> Result<(), AllocError>
+    ensures { OnOk result (layers.new.items ≡ layers.old.items ++ map (λ h. h.layer) shapes.now) }
+{
+    for shape in shapes {
+        layers.push(shape.layer)?;
+    }
+    Ok(())
+}
+
+/// The Layers of all shapes, cell by cell.
+fn layers_of(alloc: Global, cells: &[Cell]) -> Result<Vec<Layer>, AllocError>
+    ensures { IfOk result (λ layers. layers.items ≡ flat_map (λ c. map (λ h. h.layer) c.shapes) cells.now) }
+{
+    let mut layers = Vec::new(alloc);
+    for cell in cells {
+        push_layers(&mut layers, &cell.shapes)?;
+    }
+    Ok(layers)
+}
+
+/// An empty sheet for each Layer that some shape is on, in the order of the Layers.
+pub(crate) fn sheets_of(alloc: Global, cells: &[Cell]) -> Result<Vec<Sheet>, AllocError>
+    ensures sorted { IfOk result (λ sheets. AreSorted sheets.items) }
+    ensures layers { IfOk result (λ sheets. AllHaveSheets sheets.items cells.now) }
+    ensures empty { IfOk result (λ sheets. All (λ s. s.rings ≡ []) sheets.items) }
+{
+    let mut layers = layers_of(alloc, cells)?;
+    layers.sort()?;
+    layers.dedup();
+    empty_sheets(alloc, &layers)
+}
+
+/// An empty sheet for each Layer.
+fn empty_sheets(alloc: Global, layers: &[Layer]) -> Result<Vec<Sheet>, AllocError>
+    ensures layers { IfOk result (λ sheets. map (λ s. s.layer) sheets.items ≡ layers.now) }
+    ensures empty { IfOk result (λ sheets. All (λ s. s.rings ≡ []) sheets.items) }
+{
+    let mut sheets = Vec::with_capacity(alloc, layers.len())?;
+    for layer in layers {
+        sheets.push(Sheet {
+            layer: *layer,
+            rings: Vec::new(alloc),
+        })?;
+    }
+    Ok(sheets)
+}
