@@ -1,7 +1,7 @@
 -- The walk begins at the top, and ends with all rings drawn.
 use Rattle.std.proofs.Common.{◌≡◌, ◌≢◌, ◌<◌, ◌++◌, ◌+◌, ℕ, zero, suc, Bool, true, false, cond, List, [], ◌∷◌, length, map, filter, not, sum_by, slice_get, Some, Any, All, AllPairs, Contains, ◌⊎◌, ◌↔◌, ℤ, pos, ◌+ℤ◌, inl, inr, refl, sym, ap, subst, ◌∙◌, arith, rules}
 use Rattle.std.proofs.lemmas.Int.{ints, clamps}
-use Rattle.std.proofs.lemmas.List.Elements.{All-filter, All-weaker, filter_passes}
+use Rattle.std.proofs.lemmas.List.Elements.{All-head, All-tail, All-filter, All-weaker, filter_passes}
 use Rattle.std.proofs.lemmas.Option.{slice_get-get_or}
 use Rattle.lvl_grid.specs.declared.point.Point.{Point}
 use Rattle.lvl_grid.specs.declared.point.Square.{Square}
@@ -158,3 +158,9 @@ walk_ends s sheets w = record {
   count = λ layer. ap length (rings_on-filled sheets w.sorted layer) ∙ omega (arith, w.counts layer);
   in_range = w.fits (λ v has. let below : has.0 < 0 = has.1 in absurd (omega arith));
 }
+
+-- sheets that have no rings have none on any Layer
+pub rings_on_empty : (ss : List PlainSheet) → All (λ s. s.rings ≡ []) ss → (layer : Layer) → rings_on layer ss ≡ []
+rings_on_empty [] empty layer = refl
+rings_on_empty (t ∷ ss) empty layer =
+    elim (same_layer t.layer layer) as (λ b. cond b t.rings (rings_on layer ss) ≡ []) [ true ↦ All-head (λ s. s.rings ≡ []) t ss empty | false ↦ rings_on_empty ss (All-tail (λ s. s.rings ≡ []) t ss empty) layer ]
