@@ -20,3 +20,5 @@ pub mod Settles
 pub mod Firsts
 pub mod Aheads
 pub mod Lockstep
+pub mod OneList
+pub mod Counts
