@@ -15,7 +15,7 @@ use Rattle.lvl_grid.specs.Winding.{winding, edges, goes_up, goes_down}
 use Rattle.lvl_grid.proofs.Sides.{winding_same, SameSide}
 use Rattle.lvl_region.specs.Region.{SomeCovers}
 use Rattle.lvl_sweep.specs.Slab.{Step, Slab, value_of, AreSteps, spans, AreIntervals, slabs_cover}
-use Rattle.lvl_sweep.specs.Sweeps.{AreBandsOf, HaveOrdinates, AreFewerThanLines, is_vertical, all_edges, HaveFewIntervals}
+use Rattle.lvl_sweep.specs.Bands.{AreBandsOf, HaveOrdinates, AreFewerThanLines, is_vertical, all_edges, HaveFewIntervals}
 use Rattle.lvl_sweep.proofs.Winds.{count_same}
 use Rattle.lvl_sweep.proofs.Insides.{none_of}
 use Rattle.lvl_sweep.proofs.Steps.{at_head, past_head, early_rest, left_of}

@@ -22,3 +22,4 @@ pub mod Aheads
 pub mod Lockstep
 pub mod OneList
 pub mod Counts
+pub mod Vectors

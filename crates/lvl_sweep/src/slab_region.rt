@@ -4,7 +4,7 @@ ghost use Rattle.std.specs.List.{list_any};
 ghost use Rattle.lvl_grid.specs.declared.point.Square.{Square as GridSquare};
 ghost use Rattle.lvl_region.specs.Region.{SomeCovers, IsAlone};
 ghost use Rattle.lvl_sweep.specs.Slab.{IsSlabList, slab_covers, slabs_cover, spans};
-ghost use Rattle.lvl_sweep.specs.Sweeps.{slab_of, AreBandsOf, AreFewerThanLines, HaveFewIntervals};
+ghost use Rattle.lvl_sweep.specs.Bands.{slab_of, AreBandsOf, AreFewerThanLines, HaveFewIntervals};
 ghost use Rattle.lvl_sweep.specs.Ahead.{IsLeastAlone};
 
 use crate::band::Band;
@@ -24,7 +24,7 @@ pub struct SlabRegion {
 impl Model for SlabRegion {
     ghost use Rattle.std.specs.Prelude.{List, map};
     ghost use Rattle.lvl_sweep.specs.Slab.{Slab, IsSlabList};
-    ghost use Rattle.lvl_sweep.specs.Sweeps.{slab_of};
+    ghost use Rattle.lvl_sweep.specs.Bands.{slab_of};
 
     ghost Value = { List Slab };
 

@@ -3,7 +3,8 @@ ghost use Rattle.std.specs.Prelude.{◌≡◌, ◌≢◌, ◌≤◌, ◌+◌, �
 ghost use Rattle.std.specs.Vec.{vec_len, vec_capacity};
 ghost use Rattle.lvl_sweep.specs.Rows.{row_at, bands_from};
 ghost use Rattle.lvl_sweep.specs.Strips.{IsAt, IsTop, IsOver};
-ghost use Rattle.lvl_sweep.specs.Sweeps.{slab_of, IsHeld, AreBandsOf, AreFewerThanLines, HaveFewIntervals};
+ghost use Rattle.lvl_sweep.specs.Bands.{slab_of, AreBandsOf, AreFewerThanLines, HaveFewIntervals};
+ghost use Rattle.lvl_sweep.specs.Sweeps.{IsHeld};
 
 use crate::band::Band;
 use crate::strips::Strips;
