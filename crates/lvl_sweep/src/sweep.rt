@@ -15,7 +15,8 @@ use std::marker::Model;
 /// The bands of what some ring covers, one at a time, from the lowest on.
 ///
 /// It holds the vertical edges of the rings, two lists of those alive in the present row, one count
-/// for each ring and one band, and takes no memory once it is made.
+/// for each ring and one band, and takes no memory once it is made. With one list of those alive,
+/// each new row would cost a pass over all edges, or moves within the list for each that begins.
 #[derive(Debug, Drop)]
 pub struct Sweep {
     strips: Strips,
