@@ -64,7 +64,7 @@ high_of (Some a) b h =
 pub high_is : (from : Option ℤ) (b : Slab) (h : ℤ) → IsMet from b → h ≡ higher_of b.from from → IsHigh from b h
 high_is from b h met e = subst (λ (v : ℤ). IsHigh from b v) (sym e) (high_of from b met)
 
-left_has : (is : List (ℤ × ℤ)) → is ≢ [] → AreIntervals is → list_any (spans (left_end is)) is ≡ true
+pub left_has : (is : List (ℤ × ℤ)) → is ≢ [] → AreIntervals is → list_any (spans (left_end is)) is ≡ true
 left_has [] some row = absurd (some refl)
 left_has (i ∷ is) some row = let s : Stands [] i is = stands [] i is row in here i.0 [] i is s (omega (arith, ints)) s.full
 

@@ -126,7 +126,7 @@ all_later s (t ∷ ts) f a =
     All-cons (λ u. s.to ≤ℤ u.from) t ts f.0 (All-weaker (λ u. t.to ≤ℤ u.from) (λ u. s.to ≤ℤ u.from) (λ u k. omega (arith, ints, f.0, a.0, k)) ts rest)
 
 -- where each step starts, its value holds
-each_there : {V : Type 0} (ss : List (Step V)) → AreSteps ss → All (λ t. value_of ss t.from ≡ Some t.value) ss
+pub each_there : {V : Type 0} (ss : List (Step V)) → AreSteps ss → All (λ t. value_of ss t.from ≡ Some t.value) ss
 each_there [] a = All-nil (λ t. value_of [] t.from ≡ Some t.value)
 each_there (s ∷ ss) a =
     let later : (k : ℕ) (d : Step _) → k < length ss → value_of (s ∷ ss) (get_or ss k d).from ≡ Some (get_or ss k d).value = λ k d lt.

@@ -64,7 +64,7 @@ early z fr a rest s lt = row_at_split z fr a rest (list_any (spans z) fr) false 
 pub here : (z : ℤ) (fr : List (ℤ × ℤ)) (a : ℤ × ℤ) (rest : List (ℤ × ℤ)) → Stands fr a rest → a.0 ≤ℤ z → z <ℤ a.1 → list_any (spans z) (fr ++ a ∷ rest) ≡ true
 here z fr a rest s le lt = row_at_split z fr a rest (list_any (spans z) fr) true (list_any (spans z) rest) refl (inside_of z a le lt) refl ∙ or_true (list_any (spans z) fr)
 
-at_end : (fr : List (ℤ × ℤ)) (a : ℤ × ℤ) (rest : List (ℤ × ℤ)) → Stands fr a rest → list_any (spans a.1) (fr ++ a ∷ rest) ≡ false
+pub at_end : (fr : List (ℤ × ℤ)) (a : ℤ × ℤ) (rest : List (ℤ × ℤ)) → Stands fr a rest → list_any (spans a.1) (fr ++ a ∷ rest) ≡ false
 at_end fr a rest s = row_at_split a.1 fr a rest false false false (none_before a.1 a fr s.before (omega (arith, ints, s.full))) (right_of a.1 a (omega (arith, ints))) (none_behind a.1 a rest s.behind (omega (arith, ints)))
 
 abbrev pub other_side : Side → Side

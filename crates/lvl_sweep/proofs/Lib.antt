@@ -20,3 +20,6 @@ pub mod Settles
 pub mod Firsts
 pub mod Aheads
 pub mod Lockstep
+pub mod OneList
+pub mod Counts
+pub mod Vectors

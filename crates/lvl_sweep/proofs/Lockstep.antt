@@ -10,7 +10,7 @@ use Rattle.lvl_region.specs.declared.region.Side.TheVariants.{First, Second}
 use Rattle.lvl_region.specs.Region.{SomeCovers, IsAlone}
 use Rattle.lvl_sweep.specs.Slab.{Slab, AreIntervals, IsSlabList, slabs_cover}
 use Rattle.lvl_sweep.specs.Rows.{is_from}
-use Rattle.lvl_sweep.specs.Sweeps.{AreBandsOf}
+use Rattle.lvl_sweep.specs.Bands.{AreBandsOf}
 use Rattle.lvl_sweep.specs.Ahead.{IsOn, IsBefore, IsLeastAlone, IsMet, FirstIs, IsAlike, ended_by}
 use Rattle.lvl_sweep.proofs.Aheads.{cover_past}
 

@@ -43,11 +43,11 @@ row_same es fs b c agree = ap (map ends) (same_from (λ u v. true) one_value (fa
 spans_first : (z : ℤ) (s : Step (Unit {0})) (ss : List (Step (Unit {0}))) (t : Bool) → value_of ss z ≡ cond t (Some tt) None → value_of (s ∷ ss) z ≡ cond (spans z (ends s) || t) (Some tt) None
 spans_first z s ss t h = elim (holds s z) as (λ b. cond b (Some tt) (value_of ss z) ≡ cond (b || t) (Some tt) None) [ true ↦ refl | false ↦ h ]
 
-spans_value : (z : ℤ) (ss : List (Step (Unit {0}))) → value_of ss z ≡ cond (list_any (spans z) (map ends ss)) (Some tt) None
+pub spans_value : (z : ℤ) (ss : List (Step (Unit {0}))) → value_of ss z ≡ cond (list_any (spans z) (map ends ss)) (Some tt) None
 spans_value z [] = refl
 spans_value z (s ∷ ss) = spans_first z s ss (list_any (spans z) (map ends ss)) (spans_value z ss)
 
-abbrev token : Bool → Option (Unit {0})
+abbrev pub token : Bool → Option (Unit {0})
 token t = cond t (Some tt) None
 
 same_mark : (a b : Bool) → token a ≡ token b → a ≡ b

@@ -10,7 +10,8 @@ use Rattle.lvl_sweep.specs.Slab.{Slab}
 use Rattle.lvl_sweep.specs.Alive.{alive, AreEdgesOf}
 use Rattle.lvl_sweep.specs.Rows.{Balanced, alive_at, row_at, bands_from}
 use Rattle.lvl_sweep.specs.Strips.{IsAt, IsTop, IsOver, left}
-use Rattle.lvl_sweep.specs.Sweeps.{slab_of, IsHeld, AreBandsOf}
+use Rattle.lvl_sweep.specs.Bands.{slab_of, AreBandsOf}
+use Rattle.lvl_sweep.specs.Sweeps.{IsHeld}
 use Rattle.lvl_sweep.proofs.Alive.{inside_is_covered}
 use Rattle.lvl_sweep.proofs.Insides.{inside_is}
 use Rattle.lvl_sweep.proofs.BandLists.{bands_none, bands_skip, bands_first, bands_are, AreSlabsOf}

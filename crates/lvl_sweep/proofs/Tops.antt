@@ -88,14 +88,14 @@ bit_le true b h = rw (h refl) (omega arith)
 bit_le false b h = omega arith
 
 -- a test that fewer pass
-fewer_by : (p q : Edge → Bool) (es : List Edge) → ((e : Edge) → q e ≡ true → p e ≡ true) → count_by q es ≤ count_by p es
+pub fewer_by : {A : Type 0} (p q : A → Bool) (es : List A) → ((e : A) → q e ≡ true → p e ≡ true) → count_by q es ≤ count_by p es
 fewer_by p q [] h = omega arith
 fewer_by p q (e ∷ es) h =
     let step : bit (q e) ≤ bit (p e) = bit_le (q e) (p e) (h e) in
     omega (arith, count_cons q e es, count_cons p e es, step, fewer_by p q es h)
 
 -- and one edge no longer does
-fewer_at : (p q : Edge → Bool) (es : List Edge) (k : ℕ) (d : Edge) → ((e : Edge) → q e ≡ true → p e ≡ true) → k < length es → p (get_or es k d) ≡ true → q (get_or es k d) ≡ false → count_by q es < count_by p es
+pub fewer_at : {A : Type 0} (p q : A → Bool) (es : List A) (k : ℕ) (d : A) → ((e : A) → q e ≡ true → p e ≡ true) → k < length es → p (get_or es k d) ≡ true → q (get_or es k d) ≡ false → count_by q es < count_by p es
 fewer_at p q [] k d h lt a b = absurd (omega (arith, lt))
 fewer_at p q (e ∷ es) zero d h lt a b =
     let one : bit (p e) ≡ bit true = ap bit a in

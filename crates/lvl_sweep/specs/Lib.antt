@@ -4,5 +4,6 @@ pub mod Alive
 pub mod Rows
 pub mod Walks
 pub mod Strips
+pub mod Bands
 pub mod Sweeps
 pub mod Ahead

@@ -1,18 +1,13 @@
 -- A sweep's bands: the one held, and those still to come.
-use Rattle.std.specs.Prelude.{◌≡◌, ◌≢◌, ◌+◌, ◌*◌, ◌≤◌, Bool, List, [], ◌∷◌, length, ℤ, ◌<ℤ◌, ◌≤ℤ◌, Some, cond, IsTrue, ◌↔◌}
+use Rattle.std.specs.Prelude.{◌≡◌, ◌≢◌, ◌+◌, ◌*◌, ◌≤◌, Bool, List, [], ◌∷◌, length, ℤ, ◌<ℤ◌, ◌≤ℤ◌, Some, cond}
 use Rattle.std.specs.Vec.{vec_len, vec_capacity}
-use Rattle.lvl_grid.specs.declared.point.Point.{Point}
-use Rattle.lvl_grid.specs.declared.point.Square.{Square}
-use Rattle.lvl_region.specs.Region.{SomeCovers}
 use Rattle.lvl_sweep.specs.declared.edge.Edge.{Edge}
 use Rattle.lvl_sweep.specs.declared.band.Band.{Band}
 use Rattle.lvl_sweep.specs.declared.strips.Strips.{Strips}
-use Rattle.lvl_sweep.specs.Slab.{Slab, IsSlabList, slabs_cover}
+use Rattle.lvl_sweep.specs.Slab.{Slab}
+use Rattle.lvl_sweep.specs.Bands.{slab_of}
 use Rattle.lvl_sweep.specs.Rows.{row_at, bands_from}
 use Rattle.lvl_sweep.specs.Strips.{IsAt}
-
-abbrev pub slab_of : Band → Slab
-slab_of b = record { from = b.y0; to = b.y1; value = b.intervals.items }
 
 -- the rows of the band, up to y, have its intervals
 pub record IsHeld (es : List Edge) (b : Band) (y : ℤ) : Type 0 where
@@ -30,8 +25,3 @@ pub record IsSweep (strips : Strips) (band : Band) : Type 0 where
   pub at : IsAt strips
   pub few : 2 * vec_len band.intervals ≤ length strips.edges.items
   pub room : length strips.edges.items ≤ 2 * vec_capacity band.intervals + 1
-
--- the slab list of what some ring covers
-pub record AreBandsOf (rings : List (List Point)) (slabs : List Slab) : Type 0 where
-  pub list : IsSlabList slabs
-  pub covers : (s : Square) → IsTrue (slabs_cover slabs s) ↔ SomeCovers rings s

@@ -3,7 +3,7 @@ ghost use Rattle.std.specs.Prelude.{◌≡◌, ◌↔◌, ◌∷◌, [], List, t
 ghost use Rattle.lvl_grid.specs.declared.point.Square.{Square as GridSquare};
 ghost use Rattle.lvl_region.specs.Region.{SomeCovers, IsAlone};
 ghost use Rattle.lvl_sweep.specs.Slab.{Slab, IsSlabList, slabs_cover};
-ghost use Rattle.lvl_sweep.specs.Sweeps.{slab_of};
+ghost use Rattle.lvl_sweep.specs.Bands.{slab_of};
 ghost use Rattle.lvl_sweep.specs.Ahead.{IsLeastAlone, IsMet, FirstIs, IsTold, IsBefore, ended_by};
 
 use crate::band::Band;

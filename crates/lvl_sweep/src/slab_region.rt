@@ -4,7 +4,7 @@ ghost use Rattle.std.specs.List.{list_any};
 ghost use Rattle.lvl_grid.specs.declared.point.Square.{Square as GridSquare};
 ghost use Rattle.lvl_region.specs.Region.{SomeCovers, IsAlone};
 ghost use Rattle.lvl_sweep.specs.Slab.{IsSlabList, slab_covers, slabs_cover, spans};
-ghost use Rattle.lvl_sweep.specs.Sweeps.{slab_of, AreBandsOf};
+ghost use Rattle.lvl_sweep.specs.Bands.{slab_of, AreBandsOf, AreFewerThanLines, HaveFewIntervals};
 ghost use Rattle.lvl_sweep.specs.Ahead.{IsLeastAlone};
 
 use crate::band::Band;
@@ -24,7 +24,7 @@ pub struct SlabRegion {
 impl Model for SlabRegion {
     ghost use Rattle.std.specs.Prelude.{List, map};
     ghost use Rattle.lvl_sweep.specs.Slab.{Slab, IsSlabList};
-    ghost use Rattle.lvl_sweep.specs.Sweeps.{slab_of};
+    ghost use Rattle.lvl_sweep.specs.Bands.{slab_of};
 
     ghost Value = { List Slab };
 
@@ -128,6 +128,8 @@ impl Region for SlabRegion {
     fn build(alloc: Global, rings: &[Ring]) -> Result<Self, AllocError>
         ensures covers { IfOk result (λ region. (s : GridSquare) → IsTrue (slabs_cover region s) ↔ SomeCovers rings.now s) }
         ensures list { IfOk result (λ region. AreBandsOf rings.now region) }
+        ensures few_bands { IfOk result (λ region. AreFewerThanLines rings.now region) }
+        ensures few_intervals { IfOk result (λ region. HaveFewIntervals rings.now region) }
     {
         let bands = collected(alloc, Sweep::new(alloc, rings)?)?;
         Ok(SlabRegion { bands })
@@ -137,7 +139,19 @@ impl Region for SlabRegion {
         cover(&self.bands, square)
     }
 
-    fn first_difference(&self, other: &Self) -> Option<(Square, Side)> {
+    /// The least square, by y and then x, that one of the two alone holds, with its side, or None
+    /// where both have the same bands, which is where they hold the same squares.
+    fn first_difference(&self, other: &Self) -> Option<(Square, Side)>
+        ensures same { IfNone result
+            ((s : GridSquare) → IsTrue (slabs_cover self.now s) ↔ IsTrue (slabs_cover other.now s)) }
+        ensures equal { IfNone result (self.now ≡ other.now) }
+        ensures differ { IfSome result (λ found. IsAlone
+            (λ s. IsTrue (slabs_cover self.now s))
+            (λ s. IsTrue (slabs_cover other.now s))
+            found.0
+            found.1) }
+        ensures least { IfSome result (λ found. IsLeastAlone None self.now other.now found.0 found.1) }
+    {
         let mut ours = Listed { bands: &self.bands };
         let mut theirs = Listed {
             bands: &other.bands,

@@ -1,10 +1,9 @@
 //! The strips of rows between the ordinates at which edges begin or end, from the lowest on.
-ghost use Rattle.std.specs.Prelude.{◌≡◌, ◌<◌, ◌≤◌, ℕ, length, ◌<ℤ◌, ◌≤ℤ◌, slice_index_or};
+ghost use Rattle.std.specs.Prelude.{◌≡◌, ◌<◌, ◌≤◌, ◌+◌, ◌*◌, length, [], ℤ, ◌<ℤ◌, ◌≤ℤ◌, slice_index_or, IsTrue, ◌↔◌, IfOk, IfSome, IfNone};
 ghost use Rattle.std.specs.List.{AllWithin};
-ghost use Rattle.lvl_sweep.specs.Edges.{IsLower, IsReach, IsBeginOf};
-ghost use Rattle.std.specs.Prelude.{◌+◌, ◌*◌, ℤ, [], IsTrue, ◌↔◌, IfOk, IfSome, IfNone};
 ghost use Rattle.std.specs.Vec.{vec_len, vec_capacity};
 ghost use Rattle.lvl_sweep.specs.Alive.{AreEdgesOf};
+ghost use Rattle.lvl_sweep.specs.Edges.{IsLower, IsReach, IsBeginOf};
 ghost use Rattle.lvl_sweep.specs.Rows.{row_at};
 ghost use Rattle.lvl_sweep.specs.declared.edge.Edge.{Edge as EdgeValue};
 

@@ -3,7 +3,8 @@ ghost use Rattle.std.specs.Prelude.{◌≡◌, ◌≢◌, ◌≤◌, ◌+◌, �
 ghost use Rattle.std.specs.Vec.{vec_len, vec_capacity};
 ghost use Rattle.lvl_sweep.specs.Rows.{row_at, bands_from};
 ghost use Rattle.lvl_sweep.specs.Strips.{IsAt, IsTop, IsOver};
-ghost use Rattle.lvl_sweep.specs.Sweeps.{slab_of, IsHeld, AreBandsOf};
+ghost use Rattle.lvl_sweep.specs.Bands.{slab_of, AreBandsOf, AreFewerThanLines, HaveFewIntervals};
+ghost use Rattle.lvl_sweep.specs.Sweeps.{IsHeld};
 
 use crate::band::Band;
 use crate::strips::Strips;
@@ -14,7 +15,8 @@ use std::marker::Model;
 /// The bands of what some ring covers, one at a time, from the lowest on.
 ///
 /// It holds the vertical edges of the rings, two lists of those alive in the present row, one count
-/// for each ring and one band, and takes no memory once it is made.
+/// for each ring and one band, and takes no memory once it is made. With one list of those alive,
+/// each new row would cost a pass over all edges, or moves within the list for each that begins.
 #[derive(Debug, Drop)]
 pub struct Sweep {
     strips: Strips,
@@ -105,7 +107,9 @@ impl Sweep {
     /// The bands of what some ring covers: the one slab list of it. Refused only for want of memory,
     /// all of which it takes here.
     pub fn new(alloc: Global, rings: &[Ring]) -> Result<Sweep, AllocError>
-        ensures { IfOk result (λ sweep. AreBandsOf rings.now sweep) }
+        ensures bands { IfOk result (λ sweep. AreBandsOf rings.now sweep) }
+        ensures few_bands { IfOk result (λ sweep. AreFewerThanLines rings.now sweep) }
+        ensures few_intervals { IfOk result (λ sweep. HaveFewIntervals rings.now sweep) }
     {
         let mut strips = Strips::new(alloc, rings)?;
         let intervals = Vec::with_capacity(alloc, strips.edges.len() / 2)?;

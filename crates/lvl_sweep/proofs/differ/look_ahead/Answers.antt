@@ -1,4 +1,4 @@
-use Rattle.lvl_sweep.specs.Sweeps.{slab_of}
+use Rattle.lvl_sweep.specs.Bands.{slab_of}
 use Rattle.lvl_sweep.proofs.Aheads.{told_both, told_first, told_second, met_first}
 use Rattle.lvl_sweep.proofs.differ.look_ahead.Goals as goal
 

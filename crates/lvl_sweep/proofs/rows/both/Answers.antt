@@ -1,6 +1,6 @@
 use Rattle.std.proofs.Common.{◌≡◌, ◌<ℤ◌, w64, FitsSigned, rules, arith, ◌∙◌}
 use Rattle.std.proofs.lemmas.Int.{to_z-of_z, ints}
-use Rattle.lvl_sweep.specs.Sweeps.{slab_of}
+use Rattle.lvl_sweep.specs.Bands.{slab_of}
 use Rattle.lvl_sweep.proofs.Aheads.{high_is, told_lower, told_upper, told_row, told_alike, min_ends}
 use Rattle.lvl_sweep.proofs.rows.both.Goals as goal
 

@@ -1,5 +1,5 @@
 use Rattle.std.proofs.Common.{◌≡◌, ◌++◌, map, length}
-use Rattle.lvl_sweep.specs.Sweeps.{slab_of}
+use Rattle.lvl_sweep.specs.Bands.{slab_of}
 use Rattle.lvl_sweep.proofs.slab_region.collected.Given as goal
 
 -- the bands taken and those still to come are all
