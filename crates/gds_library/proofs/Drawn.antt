@@ -23,7 +23,7 @@ find_more false r o = refl
 pub field-snoc : (k : ℕ) (rs : List Rec) (r : Rec) → field k (rs ++ r ∷ []) ≡ (if r.kind == k then r.payload else field k rs)
 field-snoc k rs r = ap (λ l. payload_of (find (is_type k) l)) (reverse-snoc rs r) ∙ find_more (r.kind == k) r (find (is_type k) (reverse rs))
 
-if_ap : {A B : Type 0} (f : A → B) (b : Bool) (x y : A) → f (if b then x else y) ≡ (if b then f x else f y)
+pub if_ap : {A B : Type 0} (f : A → B) (b : Bool) (x y : A) → f (if b then x else y) ≡ (if b then f x else f y)
 if_ap f true x y = refl
 if_ap f false x y = refl
 

@@ -1,27 +1,31 @@
 -- How reading goes on.
-use Rattle.std.proofs.Common.{append_assoc, ◌≡◌, ◌≢◌, ◌==◌, ℕ, ◌+◌, ◌-◌, ◌<◌, ◌≤◌, List, [], ◌∷◌, ◌++◌, length, take, drop, Some, None, refl, sym, ap, ◌∙◌, subst, arith, inl, length-append, length-take, length-drop}
+use Rattle.std.proofs.Common.{append_assoc, ◌≡◌, ◌≢◌, ◌==◌, ℕ, ◌+◌, ◌-◌, ◌<◌, ◌≤◌, List, [], ◌∷◌, ◌++◌, length, take, drop, Some, None, refl, sym, ap, ◌∙◌, subst, arith, inl, inr, ℤ, pos, zero, suc, true, false, length-append, length-take, length-drop}
 use Rattle.std.proofs.Math.Seq.{take-append_seam, drop-append_seam}
 use Rattle.std.proofs.lemmas.List.{take-append-drop, append-nil}
-use Rattle.std.specs.Prelude.{Option}
+use Rattle.std.specs.Prelude.{Option, replicate}
 use Rattle.gds_records.specs.Records.{file_limit}
 use Rattle.gds_records.specs.Spelled.{IsRecord, IsSpelling, IsSpelledAt}
-use Rattle.gds_library.specs.Types.{fill}
+use Rattle.gds_library.specs.Types.{fill, header}
 use Rattle.gds_library.specs.Order.{Begins, IsWord, a_library}
-use Rattle.gds_library.specs.Place.{after, LeadsTo}
-use Rattle.gds_library.specs.Rec.{Rec, kinds}
-use Rattle.gds_library.specs.Front.{Breaches, IsFront, IsStuck, IsBreached}
-use Rattle.gds_library.specs.Values.{drawings}
+use Rattle.gds_library.specs.Place.{after, LeadsTo, has_units}
+use Rattle.gds_library.specs.Rec.{Rec, kinds, field}
+use Rattle.gds_library.specs.Front.{Breaches, IsFront, IsStuck, IsBreached, IsAfterEnd, SpellsLibrary}
+use Rattle.gds_library.specs.declared.head.GdsHead.{GdsHead}
+use Rattle.lvl_io.specs.Known.{Agree}
+use Rattle.std.proofs.lemmas.Bool.Decides.{nat_tests}
+use Rattle.gds_library.specs.Values.{drawings, short}
 use Rattle.gds_library.specs.Faults.{IsFault, IsAllowed}
 use Rattle.gds_library.specs.Reading.{grown, shown, shown_at, done}
 use Rattle.gds_library.specs.Holds.{Holds}
-use Rattle.gds_library.specs.ReadTo.{ReadTo, ReadWhole}
+use Rattle.gds_library.specs.ReadTo.{ReadTo}
 use Rattle.gds_library.specs.declared.place.Place.{Place}
 use Rattle.gds_library.specs.declared.place.Place.TheVariants.{Header, BgnLib, LibName, Units, Structures, StrName, Elements, Layer, Datatype, Points, EndEl, Fill}
 use Rattle.gds_library.specs.declared.builder.Builder.{Builder}
 use Rattle.gds_library.specs.declared.fault.GdsKind.{GdsKind}
 use Rattle.gds_library.proofs.Places.{leads_nowhere, leads_begin, leads_begins}
-use Rattle.gds_library.proofs.Steps.{law_fault, law_allowed, law_holds, law_front, map-append, no_tail}
-use Rattle.gds_library.proofs.Stuck.{a_fill, law_stuck}
+use Rattle.gds_library.proofs.Steps.{KeepsHead, law_fault, law_allowed, law_fill, law_holds, law_front, map-append, no_tail}
+use Rattle.gds_library.proofs.Grown.{plain}
+use Rattle.gds_library.proofs.Stuck.{a_fill, law_stuck, stuck_by, agree_behind}
 
 no_zero : (p : Place) → p ≢ Fill → after p fill ≡ None
 no_zero Header h = refl
@@ -61,24 +65,24 @@ reads_stuck xs at b left room k payload ys f to go e s fault =
     )
 
 -- the beginning
-pub reads_begin : (xs : List ℕ) (b : Builder) (left : Option (List ℕ)) → left ≡ Some xs → b.place ≡ Header → shown b ≡ [] → ReadTo xs 0 b left
-reads_begin xs b left e p s = record {
+pub reads_begin : (xs : List ℕ) (b : Builder) (left : Option (List ℕ)) → left ≡ Some xs → b.place ≡ Header → shown b ≡ [] → b.version ≡ pos 0 → ReadTo xs 0 b left
+reads_begin xs b left e p s v = record {
   records = [];
   front = record { spelled = refl; order = leads_begins [] Header leads_begin; rules = λ before after r k z x. no_tail before r after z; limit = omega arith };
-  holds = record { leads = subst (LeadsTo []) (sym p) leads_begin; shown = s };
+  holds = record { leads = subst (LeadsTo []) (sym p) leads_begin; shown = s; version = v; units = λ z. (let y : has_units Header ≡ true = subst (λ i. has_units i ≡ true) p z in cc) };
   left_is = e;
   within = omega arith;
 }
 
 -- one record more
 pub reads_on : (xs : List ℕ) (at : ℕ) (b b' : Builder) (left left' : Option (List ℕ)) (room k : ℕ) (payload ys : List ℕ) → ReadTo xs at b left → left ≡ Some ys → IsSpelledAt room ys k payload
-    → after b.place k ≡ Some b'.place → IsAllowed (length b.cells.items) k payload → shown b' ≡ grown k payload (shown b)
+    → after b.place k ≡ Some b'.place → IsAllowed (length b.cells.items) k payload → shown b' ≡ grown k payload (shown b) → KeepsHead b b' k payload
     → at + room ≤ file_limit → left' ≡ Some (drop (4 + length payload) ys) → ReadTo xs (at + (4 + length payload)) b' left'
-reads_on xs at b b' left left' room k payload ys to e s a ok sh limit e' =
+reads_on xs at b b' left left' room k payload ys to e s a ok sh head limit e' =
     let r : Rec = record { kind = k; data_type = s.0; payload = payload } in
     let here : drop at xs ≡ s.1 ++ s.2 = same_left (drop at xs) ys left to.left_is e ∙ s.6 in
     let long = length_spelled s.1 payload k s.0 s.4 in
-    let holds : Holds b' (to.records ++ r ∷ []) = law_holds b b' to.records r to.holds a sh in
+    let holds : Holds b' (to.records ++ r ∷ []) = law_holds b b' to.records r to.holds a sh head in
     let n : length (take at xs) ≡ at = omega (arith, length-take at xs, to.within) in
     let all : xs ≡ (take at xs ++ s.1) ++ s.2 = sym (take-append-drop at xs) ∙ ap (λ l. take at xs ++ l) here ∙ sym (append_assoc (take at xs) s.1 s.2) in
     let m : at + (4 + length payload) ≡ length (take at xs ++ s.1) = omega (arith, length-append (take at xs) s.1, n, long) in
@@ -94,11 +98,78 @@ reads_on xs at b b' left left' room k payload ys to e s a ok sh limit e' =
       within = omega (arith, ap length all, length-append (take at xs ++ s.1) s.2, m);
     }
 
--- the end
-pub reads_whole : (xs : List ℕ) (at : ℕ) (b : Builder) (left : Option (List ℕ)) → ReadTo xs at b left → b.place ≡ Fill → ReadWhole xs at b
-reads_whole xs at b left to e = record {
-  records = to.records;
-  front = to.front;
-  whole = subst (IsWord a_library) (append-nil (kinds to.records)) ((subst (LeadsTo (kinds to.records)) e to.holds.leads []).1 ([], tt, refl));
-  cells = sym (ap (λ p. shown_at p b) e) ∙ to.holds.shown;
-}
+-- one zero byte more behind the end
+reads_zero : (xs : List ℕ) (at : ℕ) (b : Builder) (left : Option (List ℕ)) (rest : List ℕ) → ReadTo xs at b left → b.place ≡ Fill → drop at xs ≡ 0 ∷ rest → at + 1 ≤ file_limit
+    → ReadTo xs (at + 1) b (Some (drop (at + 1) xs)) × (drop (at + 1) xs ≡ rest)
+reads_zero xs at b left rest to e here limit =
+    let stays : after b.place fill ≡ Some b.place = ap (λ p. after p fill) e ∙ ap (λ (p : Place). Some p) (sym e) in
+    let holds : Holds b (to.records ++ a_fill ∷ []) = law_holds b b to.records a_fill to.holds stays (sym (plain fill [] (shown b) refl refl refl refl refl refl)) (record { version = refl; units = refl }) in
+    let n : length (take at xs) ≡ at = omega (arith, length-take at xs, to.within) in
+    let all : xs ≡ (take at xs ++ 0 ∷ []) ++ rest = sym (take-append-drop at xs) ∙ ap (λ l. take at xs ++ l) here ∙ sym (append_assoc (take at xs) (0 ∷ []) rest) in
+    let m : at + 1 ≡ length (take at xs ++ 0 ∷ []) = omega (arith, length-append (take at xs) (0 ∷ []), n) in
+    let cut = parts_at xs (take at xs ++ 0 ∷ []) rest (at + 1) all m in
+    let front : IsFront (take at xs ++ 0 ∷ []) (to.records ++ a_fill ∷ []) = law_front (take at xs) (0 ∷ []) to.records a_fill b to.front (inr (refl, refl)) holds (omega (arith, m, limit))
+    (law_fill to.records (leads_begins (kinds (to.records ++ a_fill ∷ [])) b.place holds.leads)) in (
+      record {
+        records = to.records ++ a_fill ∷ [];
+        front = subst (λ l. IsFront l (to.records ++ a_fill ∷ [])) (sym cut.0) front;
+        holds = holds;
+        left_is = refl;
+        within = omega (arith, ap length all, length-append (take at xs ++ 0 ∷ []) rest, m);
+      },
+      cut.1,
+    )
+
+-- zero bytes behind the end
+pub reads_zeros : (n : ℕ) (xs : List ℕ) (at : ℕ) (b : Builder) (left : Option (List ℕ)) (rest : List ℕ) → ReadTo xs at b left → b.place ≡ Fill → drop at xs ≡ replicate n 0 ++ rest → at + n ≤ file_limit
+    → (left' : Option (List ℕ)) × ReadTo xs (at + n) b left' × (drop (at + n) xs ≡ rest)
+reads_zeros zero xs at b left rest to e here limit =
+    let z : at ≡ at + 0 = omega arith in
+    (left, subst (λ i. ReadTo xs i b left) z to, subst (λ i. drop i xs ≡ rest) z here)
+reads_zeros (suc n) xs at b left rest to e here limit =
+    let one = reads_zero xs at b left (replicate n 0 ++ rest) to e here (omega (arith, limit)) in
+    let more = reads_zeros n xs (at + 1) b (Some (drop (at + 1) xs)) rest one.0 e one.1 (omega (arith, limit)) in
+    let z : at + 1 + n ≡ at + suc n = omega arith in
+    (more.0, subst (λ i. ReadTo xs i b more.0) z more.1, subst (λ i. drop i xs ≡ rest) z more.2)
+
+-- the end of the input
+pub reads_all : (xs : List ℕ) (at : ℕ) (b : Builder) (left : Option (List ℕ)) → ReadTo xs at b left → b.place ≡ Fill → drop at xs ≡ replicate (length (drop at xs)) 0 → at + length (drop at xs) ≤ file_limit
+    → SpellsLibrary xs (done b) (record { version = b.version; units = b.units })
+reads_all xs at b left to e zeros limit =
+    let more = reads_zeros (length (drop at xs)) xs at b left [] to e (zeros ∙ sym (append-nil (replicate (length (drop at xs)) 0))) limit in
+    let end = more.1 in
+    let n : at + length (drop at xs) ≡ length xs = omega (arith, length-drop at xs, to.within) in
+    let whole : take (at + length (drop at xs)) xs ≡ xs = (parts_at xs xs [] (at + length (drop at xs)) (sym (append-nil xs)) n).0 in
+    record {
+      records = end.records;
+      front = subst (λ l. IsFront l end.records) whole end.front;
+      whole = subst (IsWord a_library) (append-nil (kinds end.records)) ((subst (LeadsTo (kinds end.records)) e end.holds.leads []).1 ([], tt, refl));
+      cells_are = sym (ap (λ p. shown_at p b) e) ∙ end.holds.shown;
+      head_is = ap (λ (i : ℤ). let h : GdsHead = record { version = i; units = b.units } in h) end.holds.version
+          ∙ ap (λ (i : List (List ℕ)). let h : GdsHead = record { version = short (field header end.records); units = i } in h) (end.holds.units (ap has_units e));
+    }
+
+other_fill : (k : ℕ) → k < 60 → k == fill ≡ false
+other_fill k h = grind (arith, nat_tests)
+
+no_more : (k : ℕ) → k < 60 → after Fill k ≡ None
+no_more k h = rw (other_fill k h) refl
+
+-- another byte behind the end
+pub reads_other : (xs : List ℕ) (at n : ℕ) (b : Builder) (left : Option (List ℕ)) (c : ℕ) (rest : List ℕ) → ReadTo xs at b left → b.place ≡ Fill → drop at xs ≡ replicate n 0 ++ (c ∷ rest) → c ≢ 0 → at + n ≤ file_limit
+    → IsStuck xs (at + n) × IsAfterEnd xs (at + n)
+reads_other xs at n b left c rest to e here other limit =
+    let more = reads_zeros n xs at b left (c ∷ rest) to e here limit in
+    let end = more.1 in
+    let ended : IsWord a_library (kinds end.records) = subst (IsWord a_library) (append-nil (kinds end.records)) ((subst (LeadsTo (kinds end.records)) e end.holds.leads []).1 ([], tt, refl)) in
+    let long = length-drop (at + n) xs in
+    let stands : at + n < length xs = omega (arith, ap length more.2, long, end.within) in (
+      stuck_by xs (at + n) end.records stands end.front (λ r text spells begins rules agree l. elim spells [
+        | inl x ↦ leads_nowhere (kinds end.records) b.place r.kind end.holds.leads (ap (λ p. after p r.kind) e ∙ no_more r.kind x.0.known) (subst (Begins a_library) (map-append end.records (r ∷ [])) begins)
+        | inr y ↦
+            let q = agree_behind [] text (c ∷ rest) (subst (Agree text) more.2 agree) in
+            let z : (0 ∷ []) ++ q.0 ≡ (c ∷ rest) ++ q.1 = ap (λ l. l ++ q.0) (sym y.1) ∙ q.2 in
+            other (let w : c ≡ 0 = cc in w)
+      ]),
+      record { records = end.records; front = end.front; ended = ended; byte = c; rest = rest; stands = more.2; other = other },
+    )

@@ -212,6 +212,23 @@ shown_header Points q b b' payload e c = cc
 shown_header EndEl q b b' payload e c = cc
 shown_header Fill q b b' payload e c = cc
 
+pub shown_units : (p q : Place) (b b' : Builder) (payload : List ℕ) → after p units ≡ Some q → b'.cells.items ≡ b.cells.items
+    → shown_at q b' ≡ grown units payload (shown_at p b)
+shown_units Header q b b' payload e c = cc
+shown_units BgnLib q b b' payload e c = cc
+shown_units LibName q b b' payload e c = cc
+shown_units Units q b b' payload e c =
+    let z : q ≡ Structures = cc in
+    rw (z, c) (sym (plain units payload (done b) refl refl refl refl refl refl))
+shown_units Structures q b b' payload e c = cc
+shown_units StrName q b b' payload e c = cc
+shown_units Elements q b b' payload e c = cc
+shown_units Layer q b b' payload e c = cc
+shown_units Datatype q b b' payload e c = cc
+shown_units Points q b b' payload e c = cc
+shown_units EndEl q b b' payload e c = cc
+shown_units Fill q b b' payload e c = cc
+
 -- where a type is none of those that have an arm, the builder stays
 pub record IsOther (k : ℕ) : Type 0 where
   pub header : k == 0x00 ≡ false
@@ -227,11 +244,11 @@ other_plain : (k : ℕ) (p q : Place) (b : Builder) (payload : List ℕ) → IsO
 other_plain k p q b payload o n e =
     e ∙ sym (plain k payload (shown_at p b) o.bgnstr o.strname n o.layer o.datatype o.xy)
 
-none_some : (b : Bool) (r q : Place) (x : Option Place) → b ≡ false → (if b then Some r else x) ≡ Some q → x ≡ Some q
+pub none_some : (b : Bool) (r q : Place) (x : Option Place) → b ≡ false → (if b then Some r else x) ≡ Some q → x ≡ Some q
 none_some true r q x n e = cc
 none_some false r q x n e = e
 
-same_place : (b : Bool) (r q : Place) → (if b then Some r else None) ≡ Some q → q ≡ r
+pub same_place : (b : Bool) (r q : Place) → (if b then Some r else None) ≡ Some q → q ≡ r
 same_place true r q e = cc
 same_place false r q e = cc
 

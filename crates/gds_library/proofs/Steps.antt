@@ -1,5 +1,5 @@
 -- One record more behind a front.
-use Rattle.std.proofs.Common.{◌≡◌, ◌≢◌, ◌==◌, ℕ, ◌+◌, ◌<◌, ◌≤◌, ◌<ℤ◌, ◌≤ℤ◌, ◌⊎◌, pos, Bool, true, false, if◌then◌else◌, List, [], ◌∷◌, ◌++◌, length, take, drop, Some, None, map, refl, sym, ap, ◌∙◌, subst, append_assoc, inl, inr, arith, length-append}
+use Rattle.std.proofs.Common.{◌≡◌, ◌≢◌, ◌==◌, ℕ, ◌+◌, ◌<◌, ◌≤◌, ◌<ℤ◌, ◌≤ℤ◌, ◌⊎◌, pos, ℤ, Bool, true, false, if◌then◌else◌, List, [], ◌∷◌, ◌++◌, length, take, drop, Some, None, map, refl, sym, ap, ◌∙◌, subst, append_assoc, inl, inr, arith, length-append}
 use Rattle.std.proofs.lemmas.List.{append-nil, take-append-drop}
 use Rattle.std.specs.Prelude.{Option}
 use Rattle.std.proofs.lemmas.Int.{ints}
@@ -9,9 +9,9 @@ use Rattle.gds_records.specs.Spelled.{IsRecord, IsSpelling}
 use Rattle.gds_library.specs.Drawn.{Figure, Drawing}
 use Rattle.gds_library.specs.Types.{header, bgnlib, libname, units, endlib, bgnstr, strname, endstr, boundary, layer, datatype, xy, endel, fill}
 use Rattle.gds_library.specs.Order.{Begins, a_library}
-use Rattle.gds_library.specs.Place.{after, left, LeadsTo}
-use Rattle.gds_library.specs.Rec.{Rec, kinds, Spells, SpellsAll, pieces, is_type}
-use Rattle.gds_library.specs.Values.{drawing, drawings}
+use Rattle.gds_library.specs.Place.{after, left, LeadsTo, has_units}
+use Rattle.gds_library.specs.Rec.{Rec, kinds, Spells, SpellsAll, pieces, is_type, field}
+use Rattle.gds_library.specs.Values.{drawing, drawings, short, two_reals}
 use Rattle.gds_library.specs.Front.{Breaches, BreachesNone, IsFront, IsKnown, cell_limit}
 use Rattle.gds_library.specs.Faults.{IsFault, IsAllowed}
 use Rattle.gds_library.specs.Reading.{grown, shown, shown_at, done}
@@ -22,8 +22,9 @@ use Rattle.gds_library.specs.declared.builder.Builder.{Builder}
 use Rattle.gds_library.specs.declared.fault.GdsKind.{GdsKind}
 use Rattle.gds_library.specs.declared.fault.GdsKind.TheVariants.{Record, Unexpected, Unsupported, Layer, Points, NotClosed, Name, AfterEnd, Oblique, TooManyCells}
 use Rattle.gds_library.proofs.Places.{leads_on, leads_nowhere, leads_begins, leads_begin}
-use Rattle.gds_library.proofs.Drawn.{drawings-snoc}
-use Rattle.gds_library.proofs.Stuck.{spells_join}
+use Rattle.gds_library.proofs.Drawn.{drawings-snoc, field-snoc, if_ap}
+use Rattle.gds_library.proofs.Grown.{same_place, none_some}
+use Rattle.gds_library.proofs.Stuck.{a_fill, spells_join}
 
 pub map-append : (xs ys : List Rec) → kinds (xs ++ ys) ≡ kinds xs ++ kinds ys
 map-append [] ys = refl
@@ -86,12 +87,51 @@ breaches_none rs r h n before after s k e x = elim (one_of rs before after r s e
   | inr p ↦ h before p.0 s k p.1 x
 ]
 
+-- what is known of the units at a place is known before, unless they stand there
+units_before : (p q : Place) (k : ℕ) → after p k ≡ Some q → k == units ≡ false → has_units q ≡ true → has_units p ≡ true
+units_before Header q k e n h = (let z : has_units BgnLib ≡ true = subst (λ i. has_units i ≡ true) (same_place (k == header) BgnLib q e) h in cc)
+units_before BgnLib q k e n h = (let z : has_units LibName ≡ true = subst (λ i. has_units i ≡ true) (same_place (k == bgnlib) LibName q e) h in cc)
+units_before LibName q k e n h = (let z : has_units Units ≡ true = subst (λ i. has_units i ≡ true) (same_place (k == libname) Units q e) h in cc)
+units_before Units q k e n h = (let z : None ≡ Some q = none_some (k == units) Structures q None n e in cc)
+units_before Structures q k e n h = refl
+units_before StrName q k e n h = refl
+units_before Elements q k e n h = refl
+units_before AtLayer q k e n h = refl
+units_before AtDatatype q k e n h = refl
+units_before AtPoints q k e n h = refl
+units_before EndEl q k e n h = refl
+units_before Fill q k e n h = refl
+
+units_kept : (t : Bool) (p x y : List ℕ) (old new : List (List ℕ)) → new ≡ (if t then two_reals p else old) → (t ≡ false → old ≡ two_reals x) → y ≡ (if t then p else x) → new ≡ two_reals y
+units_kept true p x y old new e h f = e ∙ ap two_reals (sym f)
+units_kept false p x y old new e h f = e ∙ h refl ∙ ap two_reals (sym f)
+
+-- what a record leaves in the head of a builder
+pub record KeepsHead (b b' : Builder) (k : ℕ) (payload : List ℕ) : Type 0 where
+  pub version : b'.version ≡ (if k == header then short payload else b.version)
+  pub units : b'.units ≡ (if k == units then two_reals payload else b.units)
+
 -- a record that may stand leads on
-pub law_holds : (b b' : Builder) (rs : List Rec) (r : Rec) → Holds b rs → after b.place r.kind ≡ Some b'.place → shown b' ≡ grown r.kind r.payload (shown b) → Holds b' (rs ++ r ∷ [])
-law_holds b b' rs r h e s = record {
+pub law_holds : (b b' : Builder) (rs : List Rec) (r : Rec) → Holds b rs → after b.place r.kind ≡ Some b'.place → shown b' ≡ grown r.kind r.payload (shown b) → KeepsHead b b' r.kind r.payload → Holds b' (rs ++ r ∷ [])
+law_holds b b' rs r h e s k = record {
   leads = subst (λ l. LeadsTo l b'.place) (sym (map-append rs (r ∷ []))) (leads_on (kinds rs) b.place b'.place r.kind h.leads e);
   shown = s ∙ ap (grown r.kind r.payload) h.shown ∙ sym (drawings-snoc rs r);
+  version = k.version ∙ ap (λ (i : ℤ). if r.kind == header then short r.payload else i) h.version ∙ sym (ap short (field-snoc header rs r) ∙ if_ap short (r.kind == header) r.payload (field header rs));
+  units = λ z. units_kept (r.kind == units) r.payload (field units rs) (field units (rs ++ r ∷ [])) b.units b'.units k.units (λ n. h.units (units_before b.place b'.place r.kind e n z)) (field-snoc units rs r);
 }
+
+-- a zero byte behind the end breaches no rule
+pub law_fill : (rs : List Rec) → Begins a_library (kinds (rs ++ a_fill ∷ [])) → (k : GdsKind) → Breaches rs a_fill k → ⊥
+law_fill rs g (Record f) x = x
+law_fill rs g (Unexpected j) x = x.2 g
+law_fill rs g (Unsupported j) x = omega (arith, x.0, x.1)
+law_fill rs g Layer x = elim x.0 [ inl y ↦ omega (arith, y) | inr y ↦ omega (arith, y) ]
+law_fill rs g Points x = omega (arith, x.0)
+law_fill rs g NotClosed x = omega (arith, x.0)
+law_fill rs g Name x = omega (arith, x.0)
+law_fill rs g AfterEnd x = x
+law_fill rs g Oblique x = omega (arith, x.0)
+law_fill rs g TooManyCells x = omega (arith, x.0)
 
 -- a front with one record more
 pub law_front : (bytes text : List ℕ) (rs : List Rec) (r : Rec) (b' : Builder) → IsFront bytes rs → Spells text r → Holds b' (rs ++ r ∷ []) → length (bytes ++ text) ≤ file_limit

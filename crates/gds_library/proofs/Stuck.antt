@@ -1,7 +1,8 @@
 -- An input is stuck where a record breaches a rule.
-use Rattle.std.proofs.Common.{◌≡◌, ◌≢◌, ℕ, ◌+◌, ◌*◌, ◌<◌, ◌≤◌, ◌⊎◌, List, [], ◌∷◌, ◌++◌, length, take, drop, map, refl, sym, ap, ◌∙◌, subst, append_assoc, inl, inr, arith, length-append}
+use Rattle.std.proofs.Common.{◌≡◌, ◌≢◌, ℕ, ◌+◌, ◌*◌, ◌<◌, ◌≤◌, ◌⊎◌, List, [], ◌∷◌, ◌++◌, length, take, drop, map, refl, sym, ap, ◌∙◌, subst, append_assoc, inl, inr, arith, length-append, length-take}
 use Rattle.std.proofs.Math.Seq.{take-append_seam}
 use Rattle.std.proofs.lemmas.List.{append-nil, take-append-drop}
+use Rattle.gds_records.specs.Records.{file_limit}
 use Rattle.gds_records.specs.Spelled.{IsRecord, IsSpelling}
 use Rattle.lvl_io.specs.Known.{Agree}
 use Rattle.gds_library.specs.Types.{fill}
@@ -74,18 +75,24 @@ cancel : (a x y : List ℕ) → a ++ x ≡ a ++ y → x ≡ y
 cancel [] x y e = e
 cancel (i ∷ a) x y e = (let f : a ++ x ≡ a ++ y = cc in cancel a x y f)
 
+agree_rest : (a b c : List ℕ) → Agree (a ++ b) (a ++ c) → Agree b c
+agree_rest a b c h = elim h.1 [
+  | inl e ↦ (h.0, inl (cancel a b (c ++ h.0) (e ∙ append_assoc a c h.0)))
+  | inr e ↦ (h.0, inr (cancel a c (b ++ h.0) (e ∙ append_assoc a b h.0)))
+]
+
 -- what agrees with the input agrees behind a common front
-agree_behind : (a b c : List ℕ) → Agree (a ++ b) (a ++ c) → (x y : List ℕ) × (b ++ x ≡ c ++ y)
+pub agree_behind : (a b c : List ℕ) → Agree (a ++ b) (a ++ c) → (x y : List ℕ) × (b ++ x ≡ c ++ y)
 agree_behind a b c h = elim h.1 [
   | inl e ↦ ([], h.0, append-nil b ∙ cancel a b (c ++ h.0) (e ∙ append_assoc a c h.0))
   | inr e ↦ (h.0, [], cancel a (b ++ h.0) c (sym (append_assoc a b h.0) ∙ sym e) ∙ sym (append-nil c))
 ]
 
--- where a record breaches a rule and no zero byte may stand, no front goes on
-pub law_stuck : (xs : List ℕ) (at : ℕ) (rs : List Rec) (r : Rec) (bytes rest : List ℕ) (k : GdsKind) → at < length xs → IsFront (take at xs) rs
-    → IsRecord r.kind r.data_type r.payload → IsSpelling bytes r.kind r.data_type r.payload → drop at xs ≡ bytes ++ rest
-    → (Begins a_library (kinds (rs ++ a_fill ∷ [])) → ⊥) → Breaches rs r k → IsStuck xs at
-law_stuck xs at rs r bytes rest k stands front rec spelled here no_zero breach =
+-- no front goes on where no record may stand behind this one
+pub stuck_by : (xs : List ℕ) (at : ℕ) (rs : List Rec) → at < length xs → IsFront (take at xs) rs
+    → ((r : Rec) (text : List ℕ) → Spells text r → Begins a_library (kinds (rs ++ r ∷ [])) → BreachesNone (rs ++ r ∷ []) → Agree text (drop at xs) → at + length text ≤ file_limit → ⊥)
+    → IsStuck xs at
+stuck_by xs at rs stands front none =
     record {
       stands = stands;
       records = rs;
@@ -93,13 +100,21 @@ law_stuck xs at rs r bytes rest k stands front rec spelled here no_zero breach =
       none = λ s text next agree.
           let p = spells_split text rs s next.spelled in
           let a : p.0 ≡ take at xs = spells_all_once p.0 (take at xs) rs p.2 front.spelled in
-          let whole : xs ≡ p.0 ++ (bytes ++ rest) = sym (take-append-drop at xs) ∙ ap (λ l. l ++ drop at xs) (sym a) ∙ ap (λ l. p.0 ++ l) here in
-          let g : Agree (p.0 ++ p.1) (p.0 ++ (bytes ++ rest)) = subst (λ l. Agree l (p.0 ++ (bytes ++ rest))) p.4 (subst (Agree text) whole agree) in
-          let q = agree_behind p.0 p.1 (bytes ++ rest) g in
-          elim p.3 [
-            | inl x ↦
-                let same : s ≡ r = one_record p.1 bytes q.0 (rest ++ q.1) s r x.1 spelled (q.2 ∙ append_assoc bytes rest q.1) in
-                next.rules rs [] s k refl (subst (λ (i : Rec). Breaches rs i k) (sym same) breach)
-            | inr x ↦ no_zero (subst (λ (i : Rec). Begins a_library (kinds (rs ++ i ∷ []))) x.0 next.order)
-          ];
+          let whole : xs ≡ p.0 ++ drop at xs = sym (take-append-drop at xs) ∙ ap (λ l. l ++ drop at xs) (sym a) in
+          let g : Agree (p.0 ++ p.1) (p.0 ++ drop at xs) = subst (λ l. Agree l (p.0 ++ drop at xs)) p.4 (subst (Agree text) whole agree) in
+          let long : at + length p.1 ≤ file_limit = omega (arith, next.limit, ap length p.4, length-append p.0 p.1, ap length a, length-take at xs, stands) in
+          none s p.1 p.3 next.order next.rules (agree_rest p.0 p.1 (drop at xs) g) long;
     }
+
+-- where a record breaches a rule and no zero byte may stand, no front goes on
+pub law_stuck : (xs : List ℕ) (at : ℕ) (rs : List Rec) (r : Rec) (bytes rest : List ℕ) (k : GdsKind) → at < length xs → IsFront (take at xs) rs
+    → IsRecord r.kind r.data_type r.payload → IsSpelling bytes r.kind r.data_type r.payload → drop at xs ≡ bytes ++ rest
+    → (Begins a_library (kinds (rs ++ a_fill ∷ [])) → ⊥) → Breaches rs r k → IsStuck xs at
+law_stuck xs at rs r bytes rest k stands front rec spelled here no_zero breach =
+    stuck_by xs at rs stands front (λ s text spells begins rules agree l. elim spells [
+      | inl x ↦
+          let q = agree_behind [] text (bytes ++ rest) (subst (Agree text) here agree) in
+          let same : s ≡ r = one_record text bytes q.0 (rest ++ q.1) s r x.1 spelled (q.2 ∙ append_assoc bytes rest q.1) in
+          rules rs [] s k refl (subst (λ (i : Rec). Breaches rs i k) (sym same) breach)
+      | inr x ↦ no_zero (subst (λ (i : Rec). Begins a_library (kinds (rs ++ i ∷ []))) x.0 begins)
+    ])

@@ -21,6 +21,7 @@ use Rattle.gds_library.specs.declared.builder.Refusal.TheVariants.{Breach, OutOf
 pub record IsFormed (k : ℕ) (payload : List ℕ) : Type 0 where
   pub known : k < 60
   pub header : k ≡ 0x00 → length payload ≡ 2
+  pub units : k ≡ 0x03 → length payload ≡ 16
   pub layer : k ≡ 0x0D → length payload ≡ 2
   pub datatype : k ≡ 0x0E → length payload ≡ 2
 

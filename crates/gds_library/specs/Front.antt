@@ -85,3 +85,13 @@ pub record IsBreached (xs : List ℕ) (at : ℕ) (k : GdsKind) : Type 0 where
   pub spelled : Spells bytes r
   pub stands : drop at xs ≡ bytes ++ rest
   pub breached : Breaches records r k
+
+-- behind the end of a library and zero bytes stands a byte that isn't zero
+pub record IsAfterEnd (xs : List ℕ) (at : ℕ) : Type 0 where
+  pub records : List Rec
+  pub front : IsFront (take at xs) records
+  pub ended : IsWord a_library (kinds records)
+  pub byte : ℕ
+  pub rest : List ℕ
+  pub stands : drop at xs ≡ byte ∷ rest
+  pub other : byte ≢ 0

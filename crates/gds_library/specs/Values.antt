@@ -55,6 +55,10 @@ drawing rs = record { name = name (field strname rs); shapes = map figure (piece
 abbrev pub drawings : List Rec → List Drawing
 drawings rs = map drawing (pieces (is_type bgnstr) rs)
 
+-- the two reals of the units, of eight bytes each
+abbrev pub two_reals : List ℕ → List (List ℕ)
+two_reals p = take 8 p ∷ drop 8 p ∷ []
+
 -- the head is the header's number, and the two reals of the units
 abbrev pub head : List Rec → GdsHead
-head rs = record { version = short (field header rs); units = take 8 (field units rs) ∷ drop 8 (field units rs) ∷ [] }
+head rs = record { version = short (field header rs); units = two_reals (field units rs) }

@@ -1,17 +1,19 @@
 //! A library that is being read, record by record.
-ghost use Rattle.std.specs.Prelude.{◌≡◌, ◌<◌, ◌≤◌, ◌<ℤ◌, ◌≤ℤ◌, ◌∷◌, [], pos, Some, None, IsTrue, ◌↔◌, OnOk, IfOk, IfErr, length, All};
+ghost use Rattle.std.specs.Prelude.{◌≡◌, ◌==◌, if◌then◌else◌, ◌<◌, ◌≤◌, ◌<ℤ◌, ◌≤ℤ◌, ◌∷◌, [], pos, Some, None, IsTrue, ◌↔◌, OnOk, IfOk, IfErr, length, All};
 ghost use Rattle.gds_library.specs.Place.{after};
-ghost use Rattle.gds_library.specs.Values.{short, points, name, magnitude, but_last};
+ghost use Rattle.gds_library.specs.Types.{header, units};
+ghost use Rattle.gds_library.specs.Values.{short, two_reals, points, name, magnitude, but_last};
 ghost use Rattle.gds_library.specs.Front.{IsName, IsClosed, steps};
 ghost use Rattle.lvl_grid.specs.Winding.{IsStraight};
 ghost use Rattle.gds_library.specs.Drawn.{one_place};
 ghost use Rattle.gds_library.specs.Faults.{IsFormed, IsFault, IsAllowed, IsMisplaced, IsRingFault, Says};
 
 use crate::fault::GdsKind;
+use crate::head::GdsHead;
 use crate::place::Place;
-use crate::values::{is_name, name, points, short};
+use crate::values::{is_name, name, points, short, two_reals};
 use gds_records::record_type;
-use lvl_cells::{Cell, Layer, Offsets, Shape};
+use lvl_cells::{Cell, Layer, Library, Offsets, Shape};
 use lvl_grid::{Point, Ring};
 use std::alloc::{AllocError, AllocFailed, Global};
 use std::mem;
@@ -60,11 +62,12 @@ pub(crate) struct Builder {
 }
 
 impl Builder {
-    ghost use Rattle.gds_library.specs.Reading.{shown, grown};
+    ghost use Rattle.gds_library.specs.Reading.{shown, grown, done};
 
     pub(crate) fn new(alloc: Global) -> Builder
         ensures place { result.place ≡ Place.Header }
         ensures shown { shown result ≡ [] }
+        ensures version { result.version ≡ pos 0 }
     {
         Builder {
             place: Place::Header,
@@ -88,12 +91,32 @@ impl Builder {
         self.place == Place::Fill
     }
 
+    /// The cells that were read whole, and the head.
+    pub(crate) fn finish(self) -> (Library, GdsHead)
+        ensures cells { result.0 ≡ done self }
+        ensures head { result.1 ≡ record { version = self.version; units = self.units } }
+    {
+        let Builder {
+            place: _,
+            version,
+            units,
+            cells,
+            name: _name,
+            shapes: _shapes,
+            layer: _,
+            rings: _rings,
+        } = self;
+        (Library { cells }, GdsHead { version, units })
+    }
+
     /// Takes the next record, if it breaches no rule.
     pub(crate) fn take(&mut self, alloc: Global, kind: u8, payload: &[u8]) -> Result<(), Refusal>
         requires { IsFormed kind payload.now }
         ensures refused { IfErr result (λ e. Says e (IsFault self.old.place (length self.old.cells.items) kind payload.now)) }
         ensures place { OnOk result (after self.old.place kind ≡ Some self.new.place) }
         ensures allowed { OnOk result (IsAllowed (length self.old.cells.items) kind payload.now) }
+        ensures version { OnOk result (self.new.version ≡ (if kind == header then short payload.now else self.old.version)) }
+        ensures units { OnOk result (self.new.units ≡ (if kind == units then two_reals payload.now else self.old.units)) }
         ensures shown { OnOk result (shown self.new ≡ grown kind payload.now (shown self.old)) }
     {
         let Some(next) = self.place.after(kind) else {
@@ -101,6 +124,7 @@ impl Builder {
         };
         match kind {
             record_type::HEADER => self.version = short(payload),
+            record_type::UNITS => self.units = two_reals(payload),
             record_type::BGNSTR => {
                 if self.cells.len() >= MOST_CELLS {
                     return Err(Refusal::Breach(GdsKind::TooManyCells));

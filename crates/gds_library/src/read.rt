@@ -1,11 +1,12 @@
 //! A library read from records.
-ghost use Rattle.std.specs.Prelude.{◌≡◌, ◌≢◌, ◌≤◌, List, ℕ, Some, IfErr, IfOk, false, length};
+ghost use Rattle.std.specs.Prelude.{◌≡◌, ◌≢◌, ◌≤◌, List, ℕ, OnOk, Some, IfErr, IfOk, false, length};
 ghost use Rattle.gds_records.specs.Records.{has_failed, bytes_left, records_offset, records_reader};
 ghost use Rattle.gds_library.specs.Ends.{TellsStuck};
-ghost use Rattle.gds_library.specs.ReadTo.{ReadWhole};
+ghost use Rattle.gds_library.specs.ReadTo.{ReadTo};
 
 use crate::builder::{Builder, Refusal};
 use crate::fault::{GdsFault, GdsKind};
+use crate::place::Place;
 use gds_records::{RecordFault, Records};
 use lvl_io::Read;
 use std::alloc::Global;
@@ -19,8 +20,10 @@ pub(crate) fn read_all<R: Read>(
     requires start { records_offset records.old ≡ 0 }
     ensures stuck { (xs : List ℕ) → bytes_left R.remaining records.old ≡ Some xs
         → IfErr result (λ e. TellsStuck xs e) }
-    ensures whole { (xs : List ℕ) → bytes_left R.remaining records.old ≡ Some xs
-        → IfOk result (λ b. ReadWhole xs (records_offset records.new) b) }
+    ensures whole { IfOk result (λ b. (b.place ≡ Place.Fill)
+        × ((xs : List ℕ) → bytes_left R.remaining records.old ≡ Some xs
+        → ReadTo xs (records_offset records.new) b (bytes_left R.remaining records.new))) }
+    ensures fresh { OnOk result (has_failed records.new ≡ false) }
 {
     let mut builder = Builder::new(alloc);
     for _ in 0..u64::MAX {

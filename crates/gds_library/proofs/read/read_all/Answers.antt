@@ -6,14 +6,14 @@ use Rattle.gds_library.specs.Front.{IsStuck, IsBreached}
 use Rattle.gds_library.specs.declared.place.Place.TheVariants.{Header, Fill}
 use Rattle.gds_library.specs.ReadTo.{ReadTo}
 use Rattle.gds_library.proofs.Answered.{next_took, next_said}
-use Rattle.gds_library.proofs.GoingOn.{reads_whole, reads_begin, reads_on, reads_stuck}
+use Rattle.gds_library.proofs.GoingOn.{reads_begin, reads_on, reads_stuck}
 use Rattle.gds_library.proofs.read.read_all.Goals as goal
 
 pub loop-init : goal.loop-init
 loop-init g c = (
   c.requires.fresh,
   λ z. (let y : Header ≡ Fill = sym c.new-builder.ensures.place ∙ z in cc),
-  λ xs k. subst (λ i. ReadTo xs i c.new-builder.result (bytes_left g.R.Read.remaining c.args.records.now)) (sym c.requires.start) (reads_begin xs c.new-builder.result _ k c.new-builder.ensures.place c.new-builder.ensures.shown),
+  λ xs k. subst (λ i. ReadTo xs i c.new-builder.result (bytes_left g.R.Read.remaining c.args.records.now)) (sym c.requires.start) (reads_begin xs c.new-builder.result _ k c.new-builder.ensures.place c.new-builder.ensures.shown c.new-builder.ensures.version),
 )
 
 pub returns-in-Err-Breach-clause-stuck : goal.returns-in-Err-Breach-clause-stuck
@@ -37,18 +37,21 @@ loop-preserved g c =
           let sp = next_said (λ (r : Record). IsSpelledAt (room_left c.loop.records) (drop at xs) r.kind r.payload.now) c.next.result c.in-Ok-Some.record is (c.next.ensures.spelled c.loop.invariant.0 (drop at xs) to.left_is) in
           subst (λ i. ReadTo xs i c.take.new.self (bytes_left g.R.Read.remaining new)) (sym p.offset)
           (reads_on xs at c.loop.builder c.take.new.self (bytes_left g.R.Read.remaining c.loop.records) (bytes_left g.R.Read.remaining new) (room_left c.loop.records) c.in-Ok-Some.record.kind c.in-Ok-Some.record.payload.now (drop at xs) to to.left_is sp
-          c.in-Ok.ensures.place c.in-Ok.ensures.allowed c.in-Ok.ensures.shown (omega (arith, to.front.limit, length-take at xs, to.within)) (p.left (drop at xs) to.left_is)),
+          c.in-Ok.ensures.place c.in-Ok.ensures.allowed c.in-Ok.ensures.shown (record { version = c.in-Ok.ensures.version; units = c.in-Ok.ensures.units }) (omega (arith, to.front.limit, length-take at xs, to.within)) (p.left (drop at xs) to.left_is)),
     )
 
 pub returns-then-is_whole-clause-whole : goal.returns-then-is_whole-clause-whole
-returns-then-is_whole-clause-whole g c = λ xs k.
-    let at = records_offset c.loop.records in
-    let new = c.next.follows.lender-at-none in
-    let is : c.next.result ≡ Ok (Some c.in-Ok-Some.record) = c.in-Ok-Some.is ∙ ap Ok c.in-Ok-Some.field-0-is in
-    let p = next_took g.R.Read.remaining g.R.Read.read_errors g.R.Read.lent c.loop.records new c.next.result c.in-Ok-Some.record is c.next.follows.holds-at-none in
-    let to = c.loop.invariant.2 xs k in
-    let sp = next_said (λ (r : Record). IsSpelledAt (room_left c.loop.records) (drop at xs) r.kind r.payload.now) c.next.result c.in-Ok-Some.record is (c.next.ensures.spelled c.loop.invariant.0 (drop at xs) to.left_is) in
-    let on : ReadTo xs (records_offset new) c.take.new.self (bytes_left g.R.Read.remaining new) = subst (λ i. ReadTo xs i c.take.new.self (bytes_left g.R.Read.remaining new)) (sym p.offset)
-    (reads_on xs at c.loop.builder c.take.new.self (bytes_left g.R.Read.remaining c.loop.records) (bytes_left g.R.Read.remaining new) (room_left c.loop.records) c.in-Ok-Some.record.kind c.in-Ok-Some.record.payload.now (drop at xs) to to.left_is sp
-    c.in-Ok.ensures.place c.in-Ok.ensures.allowed c.in-Ok.ensures.shown (omega (arith, to.front.limit, length-take at xs, to.within)) (p.left (drop at xs) to.left_is)) in
-    reads_whole xs (records_offset new) c.take.new.self (bytes_left g.R.Read.remaining new) on (c.is_whole.ensures.0 c.if-is_whole.true)
+returns-then-is_whole-clause-whole g c = (
+  c.is_whole.ensures.0 c.if-is_whole.true,
+  λ xs k.
+      let at = records_offset c.loop.records in
+      let new = c.next.follows.lender-at-none in
+      let is : c.next.result ≡ Ok (Some c.in-Ok-Some.record) = c.in-Ok-Some.is ∙ ap Ok c.in-Ok-Some.field-0-is in
+      let p = next_took g.R.Read.remaining g.R.Read.read_errors g.R.Read.lent c.loop.records new c.next.result c.in-Ok-Some.record is c.next.follows.holds-at-none in
+      let to = c.loop.invariant.2 xs k in
+      let sp = next_said (λ (r : Record). IsSpelledAt (room_left c.loop.records) (drop at xs) r.kind r.payload.now) c.next.result c.in-Ok-Some.record is (c.next.ensures.spelled c.loop.invariant.0 (drop at xs) to.left_is) in
+      let on : ReadTo xs (records_offset new) c.take.new.self (bytes_left g.R.Read.remaining new) = subst (λ i. ReadTo xs i c.take.new.self (bytes_left g.R.Read.remaining new)) (sym p.offset)
+      (reads_on xs at c.loop.builder c.take.new.self (bytes_left g.R.Read.remaining c.loop.records) (bytes_left g.R.Read.remaining new) (room_left c.loop.records) c.in-Ok-Some.record.kind c.in-Ok-Some.record.payload.now (drop at xs) to to.left_is sp
+      c.in-Ok.ensures.place c.in-Ok.ensures.allowed c.in-Ok.ensures.shown (record { version = c.in-Ok.ensures.version; units = c.in-Ok.ensures.units }) (omega (arith, to.front.limit, length-take at xs, to.within)) (p.left (drop at xs) to.left_is)) in
+      on,
+)

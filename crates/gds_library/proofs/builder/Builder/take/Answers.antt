@@ -1,12 +1,12 @@
 use Rattle.std.proofs.Common.{◌≡◌, ℕ, List, map, sym, ap, ◌∙◌, refl, rules, arith, ◌==◌, false, true, Bool}
 use Rattle.std.proofs.lemmas.Bool.Decides.{nat_tests}
 use Rattle.gds_library.proofs.builder.Builder.take.Goals as goal
-use Rattle.gds_library.proofs.builder.Builder.take.Goals.{in-0, in-5+else-len-ge-MOST_CELLS, in-6+in_ok-self-in-6, in-7+in_ok-push-in-7, in-13+in_ok-self-in-13, in-14+in_ok-self-in-14, in-16+in_ok-self-in-16, in-17+in_ok-push-in-17, in_default-kind}
-use Rattle.gds_library.proofs.Grown.{map-snoc, shown_endstr, shown_endel, shown_other, shown_place, IsOther, SameCells, by_kind, shown_layer, shown_datatype, shown_xy, shown_header, shown_bgnstr, shown_strname}
+use Rattle.gds_library.proofs.builder.Builder.take.Goals.{in-0, in-3, in-5+else-len-ge-MOST_CELLS, in-6+in_ok-self-in-6, in-7+in_ok-push-in-7, in-13+in_ok-self-in-13, in-14+in_ok-self-in-14, in-16+in_ok-self-in-16, in-17+in_ok-push-in-17, in_default-kind}
+use Rattle.gds_library.proofs.Grown.{map-snoc, shown_endstr, shown_endel, shown_other, shown_place, IsOther, SameCells, by_kind, shown_layer, shown_datatype, shown_xy, shown_header, shown_units, shown_bgnstr, shown_strname}
 use Rattle.gds_library.specs.Reading.{shown, shown_at, grown}
 use Rattle.gds_library.specs.declared.builder.Builder.{Builder}
 use Rattle.gds_library.specs.declared.place.Place.{Place}
-use Rattle.gds_library.specs.Types.{endstr, endel, header, bgnstr, strname, layer, datatype, xy}
+use Rattle.gds_library.specs.Types.{units, endstr, endel, header, bgnstr, strname, layer, datatype, xy}
 
 other : (k j : ℕ) → (k ≡ j → ⊥) → k == j ≡ false
 other k j h = grind (arith, nat_tests)
@@ -22,6 +22,7 @@ returns-clause-shown c =
     let payload = c.args.payload.now in
     elim c.match-kind.branch [
       | in-0 w ↦ by_kind _ header p q b b' payload w.in-0.is (λ e. shown_header p q b b' payload e (ap (λ (x : Builder). x.cells.items) w.self-is)) a
+      | in-3 w ↦ by_kind _ units p q b b' payload w.in-3.is (λ e. shown_units p q b b' payload e (ap (λ (x : Builder). x.cells.items) w.self-is)) a
       | in-5+else-len-ge-MOST_CELLS w ↦ by_kind _ bgnstr p q b b' payload w.in-5.is (λ e. shown_bgnstr p q b b' payload e (ap (λ (x : Builder). x.cells.items) w.self-is)) a
       | in-6+in_ok-self-in-6 w ↦ by_kind _ strname p q b b' payload w.in-6.is (λ e. shown_strname p q b b' payload e (ap (λ (x : Builder). x.cells.items) w.self-is) (ap (λ (x : Builder). x.name.items) w.self-is ∙ w.in_ok-self-in-6.ensures.value.0) (ap (λ (x : Builder). x.shapes.items) w.self-is ∙ w.new.ensures.items)) a
       | in-7+in_ok-push-in-7 w ↦ by_kind _ endstr p q b b' payload w.in-7.is (λ e. shown_endstr p q b b' payload e (ap (λ (x : Builder). x.cells.items) w.self-is ∙ w.in_ok-push-in-7.ensures.items ∙ rw (w.replace.ensures.value, w.replace-in-7.ensures.value, w.new-in-7-3.ensures.items) refl)) a
