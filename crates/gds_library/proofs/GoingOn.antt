@@ -1,15 +1,15 @@
 -- How reading goes on.
-use Rattle.std.proofs.Common.{append_assoc, ◌≡◌, ◌≢◌, ◌==◌, ℕ, ◌+◌, ◌-◌, ◌<◌, ◌≤◌, List, [], ◌∷◌, ◌++◌, length, take, drop, Some, None, refl, sym, ap, ◌∙◌, subst, arith, inl, inr, ℤ, pos, zero, suc, true, false, length-append, length-take, length-drop}
+use Rattle.std.proofs.Common.{append_assoc, ◌≡◌, ◌≢◌, ◌⊎◌, ◌==◌, ℕ, ◌+◌, ◌-◌, ◌<◌, ◌≤◌, List, [], ◌∷◌, ◌++◌, length, take, drop, Some, None, refl, sym, ap, ◌∙◌, subst, arith, inl, inr, ℤ, pos, zero, suc, true, false, length-append, length-take, length-drop}
 use Rattle.std.proofs.Math.Seq.{take-append_seam, drop-append_seam}
 use Rattle.std.proofs.lemmas.List.{take-append-drop, append-nil}
-use Rattle.std.specs.Prelude.{Option, replicate}
+use Rattle.std.specs.Prelude.{Option, replicate, Ok, Err}
 use Rattle.gds_records.specs.Records.{file_limit}
-use Rattle.gds_records.specs.Spelled.{IsRecord, IsSpelling, IsSpelledAt}
+use Rattle.gds_records.specs.Spelled.{IsRecord, IsSpelling, IsSpelledAt, IsBegun, IsCut, NoRecord}
 use Rattle.gds_library.specs.Types.{fill, header}
 use Rattle.gds_library.specs.Order.{Begins, IsWord, a_library}
-use Rattle.gds_library.specs.Place.{after, LeadsTo, has_units}
+use Rattle.gds_library.specs.Place.{after, left, LeadsTo, has_units}
 use Rattle.gds_library.specs.Rec.{Rec, kinds, field}
-use Rattle.gds_library.specs.Front.{Breaches, IsFront, IsStuck, IsBreached, IsAfterEnd, SpellsLibrary}
+use Rattle.gds_library.specs.Front.{Breaches, IsFront, IsStuck, IsBreached, IsAfterEnd, IsTruncated, SpellsLibrary}
 use Rattle.gds_library.specs.declared.head.GdsHead.{GdsHead}
 use Rattle.lvl_io.specs.Known.{Agree}
 use Rattle.std.proofs.lemmas.Bool.Decides.{nat_tests}
@@ -22,6 +22,14 @@ use Rattle.gds_library.specs.declared.place.Place.{Place}
 use Rattle.gds_library.specs.declared.place.Place.TheVariants.{Header, BgnLib, LibName, Units, Structures, StrName, Elements, Layer, Datatype, Points, EndEl, Fill}
 use Rattle.gds_library.specs.declared.builder.Builder.{Builder}
 use Rattle.gds_library.specs.declared.fault.GdsKind.{GdsKind}
+use Rattle.gds_library.specs.declared.fault.GdsKind.TheVariants.{Record, Unexpected, Unsupported, Layer as LayerKind, Points as PointsKind, NotClosed, Name, AfterEnd, Oblique, TooManyCells}
+use Rattle.gds_library.specs.declared.fault.GdsFault.TheVariants.{At}
+use Rattle.gds_library.specs.Ends.{Tells, IsMalformed}
+use Rattle.gds_library.proofs.Orders.{empty_word}
+use Rattle.gds_records.specs.Step.{step, want}
+use Rattle.gds_records.specs.Tail.{AnswersTail, PassesLimit}
+use Rattle.gds_records.specs.declared.fault.RecordFault.{RecordFault}
+use Rattle.gds_records.specs.declared.fault.RecordFault.TheVariants.{Truncated, BadLength, BadDataType, UnknownRecord, TooLong, Read, Failed}
 use Rattle.gds_library.proofs.Places.{leads_nowhere, leads_begin, leads_begins}
 use Rattle.gds_library.proofs.Steps.{KeepsHead, law_fault, law_allowed, law_fill, law_holds, law_front, map-append, no_tail}
 use Rattle.gds_library.proofs.Grown.{plain}
@@ -173,3 +181,99 @@ reads_other xs at n b left c rest to e here other limit =
       ]),
       record { records = end.records; front = end.front; ended = ended; byte = c; rest = rest; stands = more.2; other = other },
     )
+
+not_ended : (p : Place) → p ≢ Fill → IsWord (left p) [] → ⊥
+not_ended Header h w = (let z = empty_word (left Header) w in cc)
+not_ended BgnLib h w = (let z = empty_word (left BgnLib) w in cc)
+not_ended LibName h w = (let z = empty_word (left LibName) w in cc)
+not_ended Units h w = (let z = empty_word (left Units) w in cc)
+not_ended Structures h w = (let z = empty_word (left Structures) w in cc)
+not_ended StrName h w = (let z = empty_word (left StrName) w in cc)
+not_ended Elements h w = (let z = empty_word (left Elements) w in cc)
+not_ended Layer h w = (let z = empty_word (left Layer) w in cc)
+not_ended Datatype h w = (let z = empty_word (left Datatype) w in cc)
+not_ended Points h w = (let z = empty_word (left Points) w in cc)
+not_ended EndEl h w = (let z = empty_word (left EndEl) w in cc)
+not_ended Fill h w = h refl
+
+-- where the input ends before the library does
+pub reads_cut : (xs : List ℕ) (at : ℕ) (b : Builder) (left : Option (List ℕ)) → ReadTo xs at b left → b.place ≢ Fill → (length (drop at xs) < 4) ⊎ IsBegun (drop at xs) → IsTruncated xs at
+reads_cut xs at b left to go cut = record {
+  within = to.within;
+  records = to.records;
+  front = to.front;
+  unended = λ w. not_ended b.place go ((to.holds.leads []).0 (subst (IsWord a_library) (sym (append-nil (kinds to.records))) w));
+  cut = cut;
+}
+
+some_bytes : (room : ℕ) (xs : List ℕ) (f : RecordFault) → step room xs ≡ Err f → 0 < length xs
+unfolding step
+some_bytes room [] f e = (let z : Ok 0 ≡ Err f = e in cc)
+some_bytes room (x ∷ xs) f e = omega arith
+
+-- where no record stands
+pub reads_malformed : (xs : List ℕ) (at : ℕ) (b : Builder) (left : Option (List ℕ)) (f : RecordFault) → ReadTo xs at b left → b.place ≢ Fill → step (file_limit - at) (drop at xs) ≡ Err f → NoRecord (file_limit - at) (drop at xs)
+    → IsMalformed f xs at
+reads_malformed xs at b left f to go said none =
+    let stands : at < length xs = omega (arith, some_bytes (file_limit - at) (drop at xs) f said, length-drop at xs) in (
+      stuck_by xs at to.records stands to.front (λ r text spells begins rules agree l. elim spells [
+        | inl x ↦ none r.kind r.data_type r.payload text x.0 x.1 (omega (arith, l, length_spelled text r.payload r.kind r.data_type x.1)) agree
+        | inr y ↦ leads_nowhere (kinds to.records) b.place fill to.holds.leads (no_zero b.place go) (subst (Begins a_library) (map-append to.records (a_fill ∷ [])) (subst (λ (i : Rec). Begins a_library (kinds (to.records ++ i ∷ []))) y.0 begins))
+      ]),
+      said,
+    )
+
+-- what a fault of the records says
+pub reads_fault : (xs : List ℕ) (at : ℕ) (b : Builder) (left : Option (List ℕ)) (f : RecordFault) → ReadTo xs at b left → b.place ≢ Fill → f ≢ Failed → (f ≢ Read → step (file_limit - at) (drop at xs) ≡ Err f)
+    → (f ≡ Truncated → IsCut (drop at xs)) → (f ≢ Read → f ≢ Truncated → NoRecord (file_limit - at) (drop at xs)) → Tells xs (At at (Record f))
+reads_fault xs at b left Truncated to go n said cut none = reads_cut xs at b left to go (cut refl).1
+reads_fault xs at b left BadLength to go n said cut none = reads_malformed xs at b left BadLength to go (said (λ e. cc)) (none (λ e. cc) (λ e. cc))
+reads_fault xs at b left BadDataType to go n said cut none = reads_malformed xs at b left BadDataType to go (said (λ e. cc)) (none (λ e. cc) (λ e. cc))
+reads_fault xs at b left UnknownRecord to go n said cut none = reads_malformed xs at b left UnknownRecord to go (said (λ e. cc)) (none (λ e. cc) (λ e. cc))
+reads_fault xs at b left TooLong to go n said cut none = reads_malformed xs at b left TooLong to go (said (λ e. cc)) (none (λ e. cc) (λ e. cc))
+reads_fault xs at b left Read to go n said cut none = tt
+reads_fault xs at b left Failed to go n said cut none = n refl
+
+-- what a rule on a record says
+pub tells_rule : (xs : List ℕ) (at : ℕ) (p : Place) (n k : ℕ) (payload : List ℕ) (f : GdsKind) → IsFault p n k payload f → IsStuck xs at × IsBreached xs at f → Tells xs (At at f)
+tells_rule xs at p n k payload (Record e) h x = absurd h
+tells_rule xs at p n k payload (Unexpected j) h x = x
+tells_rule xs at p n k payload (Unsupported j) h x = x
+tells_rule xs at p n k payload LayerKind h x = x
+tells_rule xs at p n k payload PointsKind h x = x
+tells_rule xs at p n k payload NotClosed h x = x
+tells_rule xs at p n k payload Name h x = x
+tells_rule xs at p n k payload AfterEnd h x = absurd h
+tells_rule xs at p n k payload Oblique h x = x
+tells_rule xs at p n k payload TooManyCells h x = x
+
+no_room : (rest : List ℕ) → 0 < length rest → step 0 rest ≡ Err TooLong
+unfolding step want
+no_room [] h = absurd (omega (arith, h))
+no_room (c ∷ rest) h = grind (arith, nat_tests)
+
+too_long_at : (at : ℕ) (rest : List ℕ) → file_limit - at ≡ 0 → 0 < length rest → step (file_limit - at) rest ≡ Err TooLong
+too_long_at at rest e h = subst (λ i. step i rest ≡ Err TooLong) (sym e) (no_room rest h)
+
+-- where the input passes the limit behind the end
+pub reads_too_long : (xs : List ℕ) (at : ℕ) (b : Builder) (left : Option (List ℕ)) → ReadTo xs at b left → b.place ≡ Fill → at ≤ file_limit → PassesLimit (file_limit - at) (drop at xs) → IsMalformed TooLong xs (at + (file_limit - at))
+reads_too_long xs at b left to e limit over =
+    let more = reads_zeros (file_limit - at) xs at b left over.0 to e over.2 (omega (arith, limit)) in
+    let end = more.1 in
+    let stands : at + (file_limit - at) < length xs = omega (arith, ap length more.2, length-drop (at + (file_limit - at)) xs, over.1, end.within) in (
+      stuck_by xs (at + (file_limit - at)) end.records stands end.front (λ r text spells begins rules agree l. elim spells [
+        | inl x ↦ omega (arith, l, limit, length_spelled text r.payload r.kind r.data_type x.1)
+        | inr y ↦ omega (arith, l, limit, ap length y.1)
+      ]),
+      subst (λ i. step (file_limit - (at + (file_limit - at))) i ≡ Err TooLong) (sym more.2) (too_long_at (at + (file_limit - at)) over.0 (omega (arith, limit)) over.1),
+    )
+
+-- what a fault of the bytes behind the end says
+pub reads_tail_fault : (xs : List ℕ) (at new : ℕ) (b : Builder) (left : Option (List ℕ)) (f : RecordFault) → ReadTo xs at b left → b.place ≡ Fill → at ≤ file_limit → AnswersTail (Err f) at new (file_limit - at) (drop at xs) → Tells xs (At new (Record f))
+reads_tail_fault xs at new b left Truncated to e l x = absurd x
+reads_tail_fault xs at new b left BadLength to e l x = absurd x
+reads_tail_fault xs at new b left BadDataType to e l x = absurd x
+reads_tail_fault xs at new b left UnknownRecord to e l x = absurd x
+reads_tail_fault xs at new b left TooLong to e l x = subst (IsMalformed TooLong xs) (sym x.1) (reads_too_long xs at b left to e l x.0)
+reads_tail_fault xs at new b left Read to e l x = tt
+reads_tail_fault xs at new b left Failed to e l x = absurd x

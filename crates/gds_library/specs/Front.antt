@@ -1,6 +1,7 @@
 -- Fronts of streams, breaches of rules, and what is spelled.
 use Rattle.std.specs.Prelude.{true, ◌≡◌, ◌≢◌, ℕ, ◌+◌, ◌<◌, ◌≤◌, ◌<ℤ◌, pos, ◌⊎◌, List, [], ◌∷◌, ◌++◌, length, take, drop, Option, Some, None, Contains, All, slice_index}
 use Rattle.gds_records.specs.Records.{file_limit}
+use Rattle.gds_records.specs.Spelled.{IsBegun}
 use Rattle.lvl_io.specs.Known.{Agree}
 use Rattle.lvl_grid.specs.Winding.{IsStraight, path_edges, last_or}
 use Rattle.lvl_grid.specs.declared.point.Point.{Point}
@@ -95,3 +96,12 @@ pub record IsAfterEnd (xs : List ℕ) (at : ℕ) : Type 0 where
   pub rest : List ℕ
   pub stands : drop at xs ≡ byte ∷ rest
   pub other : byte ≢ 0
+
+-- the bytes before the offset are a front without its end, and those left are an unfinished beginning of a record, or
+-- fewer than the four of its header
+pub record IsTruncated (xs : List ℕ) (at : ℕ) : Type 0 where
+  pub within : at ≤ length xs
+  pub records : List Rec
+  pub front : IsFront (take at xs) records
+  pub unended : ¬ IsWord a_library (kinds records)
+  pub cut : (length (drop at xs) < 4) ⊎ IsBegun (drop at xs)
