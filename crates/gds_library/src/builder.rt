@@ -226,7 +226,7 @@ fn rings_of(alloc: Global, payload: &[u8]) -> Result<Vec<Ring>, Refusal>
     if last != points[0] {
         return Err(Refusal::Breach(GdsKind::NotClosed));
     }
-    let mut rings = Vec::new(alloc);
+    let mut rings = Vec::with_capacity(alloc, 1)?;
     match Ring::new(points) {
         Ok(ring) => rings.push(ring)?,
         Err(_) => return Err(Refusal::Breach(GdsKind::Oblique)),

@@ -100,5 +100,5 @@ fn read_all<R: Read>(alloc: Global, records: &mut Records<R>) -> Result<Builder,
             return Ok(builder);
         }
     }
-    Err(GdsFault::OutOfMemory)
+    unreachable!()
 }
