@@ -1,0 +1,95 @@
+-- The definitions at small examples.
+use Rattle.std.proofs.Common.{◌≡◌, ◌==◌, ℕ, ◌⊎◌, inl, inr, Bool, true, false, ◌||◌, if◌then◌else◌, List, [], ◌∷◌, ◌++◌, map, refl, sym, ap, ◌∙◌, subst}
+use Rattle.std.specs.Prelude.{pos}
+use Rattle.std.specs.List.{flat_map}
+use Rattle.gds_library.specs.Drawn.{Figure, Drawing}
+use Rattle.gds_library.specs.Order.{Order, nothing, one, next, either, many, IsWord, Begins, ◌then◌, ◌or◌, maybe, a_library, a_boundary}
+use Rattle.gds_library.specs.Rec.{Rec, kinds}
+use Rattle.gds_library.specs.Values.{drawings, head}
+use Rattle.gds_library.proofs.Orders.{after_first, can_be_empty, IsWordOfOne, first_put, empty_back, of_one-append}
+
+-- whether what is left of some orders is a word of one of them
+abbrev accepts : List Order → List ℕ → Bool
+accepts [] [] = false
+accepts (a ∷ rs) [] = can_be_empty a || accepts rs []
+accepts rs (k ∷ w) = accepts (flat_map (λ a. after_first a k) rs) w
+
+empty_at : (a : Order) (rs : List Order) (b : Bool) → can_be_empty a ≡ b → can_be_empty a || accepts rs [] ≡ true → (accepts rs [] ≡ true → IsWordOfOne rs []) → IsWord a [] ⊎ IsWordOfOne rs []
+empty_at a rs true t e h = inl (empty_back a t)
+empty_at a rs false t e h = inr (h (rw t at e))
+
+one_empty : (rs : List Order) → accepts rs [] ≡ true → IsWordOfOne rs []
+one_empty [] e = cc
+one_empty (a ∷ rs) e = empty_at a rs (can_be_empty a) refl e (one_empty rs)
+
+put_back : (rs : List Order) (k : ℕ) (w : List ℕ) → IsWordOfOne (flat_map (λ a. after_first a k) rs) w → IsWordOfOne rs (k ∷ w)
+put_back [] k w h = absurd h
+put_back (a ∷ rs) k w h = elim (of_one-append (after_first a k) (flat_map (λ a. after_first a k) rs) w h) [
+  | inl x ↦ inl (first_put a k w x)
+  | inr y ↦ inr (put_back rs k w y)
+]
+
+accepted : (rs : List Order) (w : List ℕ) → accepts rs w ≡ true → IsWordOfOne rs w
+accepted rs [] e = one_empty rs e
+accepted rs (k ∷ w) e = put_back rs k w (accepted (flat_map (λ a. after_first a k) rs) w e)
+
+-- the elements that are to come
+abbrev turned_by : Order
+turned_by = maybe (one 0x1A then maybe (one 0x1B) then maybe (one 0x1C))
+
+abbrev a_path : Order
+a_path = one 0x09 then one 0x0D then one 0x0E then maybe (one 0x21) then maybe (one 0x0F) then one 0x10 then one 0x11
+
+abbrev a_reference : Order
+a_reference = one 0x0A then one 0x12 then turned_by then one 0x10 then one 0x11
+
+abbrev an_array : Order
+an_array = one 0x0B then one 0x12 then turned_by then one 0x13 then one 0x10 then one 0x11
+
+abbrev a_text : Order
+a_text = one 0x0C then one 0x0D then one 0x16 then maybe (one 0x17) then maybe (one 0x21) then maybe (one 0x0F) then turned_by then one 0x10 then one 0x19 then one 0x11
+
+abbrev every_element : Order
+every_element = a_boundary or a_path or a_reference or an_array or a_text
+
+text_with_angle : IsWordOfOne (every_element ∷ []) (0x0C ∷ 0x0D ∷ 0x16 ∷ 0x0F ∷ 0x1A ∷ 0x1C ∷ 0x10 ∷ 0x19 ∷ 0x11 ∷ [])
+text_with_angle = accepted (every_element ∷ []) (0x0C ∷ 0x0D ∷ 0x16 ∷ 0x0F ∷ 0x1A ∷ 0x1C ∷ 0x10 ∷ 0x19 ∷ 0x11 ∷ []) refl
+
+array_with_magnification : IsWordOfOne (every_element ∷ []) (0x0B ∷ 0x12 ∷ 0x1A ∷ 0x1B ∷ 0x13 ∷ 0x10 ∷ 0x11 ∷ [])
+array_with_magnification = accepted (every_element ∷ []) (0x0B ∷ 0x12 ∷ 0x1A ∷ 0x1B ∷ 0x13 ∷ 0x10 ∷ 0x11 ∷ []) refl
+
+no_angle_alone : accepts (every_element ∷ []) (0x0A ∷ 0x12 ∷ 0x1C ∷ []) ≡ false
+no_angle_alone = refl
+
+-- what may come in a path behind its datatype: its path type, its width or its points
+path_ways : (k : ℕ) → after_first (maybe (one 0x21) then maybe (one 0x0F) then one 0x10 then one 0x11) 0x10 ≡ one 0x11 ∷ []
+path_ways k = refl
+
+-- the records of the square
+abbrev rec : ℕ → ℕ → List ℕ → Rec
+rec k d p = record { kind = k; data_type = d; payload = p }
+
+abbrev square : List Rec
+square =
+    rec 0x00 2 (2 ∷ 0x58 ∷ []) ∷ rec 0x01 2 [] ∷ rec 0x02 6 (0x4C ∷ 0x42 ∷ [])
+    ∷ rec 0x03 5 (0x41 ∷ 0x10 ∷ 0 ∷ 0 ∷ 0 ∷ 0 ∷ 0 ∷ 0 ∷ 0x41 ∷ 0x10 ∷ 0 ∷ 0 ∷ 0 ∷ 0 ∷ 0 ∷ 0 ∷ [])
+    ∷ rec 0x05 2 [] ∷ rec 0x06 6 (0x54 ∷ 0x4F ∷ 0x50 ∷ 0 ∷ []) ∷ rec 0x08 0 [] ∷ rec 0x0D 2 (0 ∷ 1 ∷ []) ∷ rec 0x0E 2 (0 ∷ 0 ∷ [])
+    ∷ rec 0x10 3 (0 ∷ 0 ∷ 0 ∷ 0 ∷ 0 ∷ 0 ∷ 0 ∷ 0 ∷ 0 ∷ 0 ∷ 0 ∷ 10 ∷ 0 ∷ 0 ∷ 0 ∷ 0 ∷ 0 ∷ 0 ∷ 0 ∷ 10 ∷ 0 ∷ 0 ∷ 0 ∷ 10 ∷ 0 ∷ 0 ∷ 0 ∷ 0 ∷ 0 ∷ 0 ∷ 0 ∷ 10 ∷ 0 ∷ 0 ∷ 0 ∷ 0 ∷ 0 ∷ 0 ∷ 0 ∷ 0 ∷ [])
+    ∷ rec 0x11 0 [] ∷ rec 0x07 0 [] ∷ rec 0x04 0 [] ∷ []
+
+square_order : IsWordOfOne (a_library ∷ []) (kinds square)
+square_order = accepted (a_library ∷ []) (kinds square) refl
+
+square_drawn : drawings square ≡ record {
+  name = 0x54 ∷ 0x4F ∷ 0x50 ∷ [];
+  references = [];
+  shapes = record {
+    layer = record { layer = 1; datatype = 0 };
+    shifts = record { x = pos 0; y = pos 0 } ∷ [];
+    figure = (record { x = pos 0; y = pos 0 } ∷ record { x = pos 10; y = pos 0 } ∷ record { x = pos 10; y = pos 10 } ∷ record { x = pos 0; y = pos 10 } ∷ []) ∷ [];
+  } ∷ [];
+} ∷ []
+square_drawn = refl
+
+square_version : (head square).version ≡ pos 600
+square_version = refl

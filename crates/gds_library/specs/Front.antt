@@ -1,0 +1,107 @@
+-- Fronts of streams, breaches of rules, and what is spelled.
+use Rattle.std.specs.Prelude.{true, ◌≡◌, ◌≢◌, ℕ, ◌+◌, ◌<◌, ◌≤◌, ◌<ℤ◌, pos, ◌⊎◌, List, [], ◌∷◌, ◌++◌, length, take, drop, Option, Some, None, Contains, All, slice_index}
+use Rattle.gds_records.specs.Records.{file_limit}
+use Rattle.gds_records.specs.Spelled.{IsBegun}
+use Rattle.lvl_io.specs.Known.{Agree}
+use Rattle.lvl_grid.specs.Winding.{IsStraight, path_edges, last_or}
+use Rattle.lvl_grid.specs.declared.point.Point.{Point}
+use Rattle.gds_library.specs.Drawn.{Figure, Drawing}
+use Rattle.lvl_cells.specs.declared.library.Library.{Library}
+use Rattle.gds_library.specs.Types.{endlib, bgnstr, strname, boundary, layer, datatype, xy, fill}
+use Rattle.gds_library.specs.Order.{a_library, has, IsWord, Begins}
+use Rattle.gds_library.specs.Rec.{Rec, kinds, Spells, SpellsAll, pieces, is_type, field}
+use Rattle.gds_library.specs.Values.{short, points, name, drawings, head}
+use Rattle.gds_library.specs.declared.head.GdsHead.{GdsHead}
+use Rattle.gds_library.specs.declared.fault.GdsKind.{GdsKind}
+use Rattle.gds_library.specs.declared.fault.GdsKind.TheVariants.{Record, Unexpected, Unsupported, Layer, Points, NotClosed, Name, AfterEnd, Oblique, TooManyCells}
+
+-- the greatest number of cells
+abbrev pub cell_limit : ℕ
+cell_limit = 1048576
+
+-- the type stands somewhere in the order of records; a zero byte is no record there
+abbrev pub IsKnown : ℕ → Type 0
+IsKnown k = has a_library k ≡ true
+
+-- a name has 1 to 255 bytes, each of them printed and no space
+abbrev pub IsName : List ℕ → Type 0
+IsName bytes = (0 < length bytes) × (length bytes ≤ 255) × All (λ b. (0x21 ≤ b) × (b ≤ 0x7E)) bytes
+
+-- the steps from each point to the next
+abbrev pub steps : List Point → List (Point × Point)
+steps [] = []
+steps (p ∷ ps) = path_edges p ps
+
+-- the points end where they begin
+abbrev pub IsClosed : List Point → Type 0
+IsClosed [] = Unit {0}
+IsClosed (p ∷ ps) = last_or p ps ≡ p
+
+-- a record, behind some records, breaches the rule
+abbrev pub Breaches : List Rec → Rec → GdsKind → Type 0
+Breaches before r (Record f) = ⊥
+Breaches before r (Unexpected k) = (r.kind ≡ k) × IsKnown k × ¬ Begins a_library (kinds (before ++ r ∷ []))
+Breaches before r (Unsupported k) = (r.kind ≡ k) × (k < 60) × ¬ IsKnown k
+Breaches before r Layer = ((r.kind ≡ layer) ⊎ (r.kind ≡ datatype)) × (short r.payload <ℤ pos 0)
+Breaches before r Points = (r.kind ≡ xy) × (length (points r.payload) < 4)
+Breaches before r NotClosed = (r.kind ≡ xy) × ¬ IsClosed (points r.payload)
+Breaches before r Name = (r.kind ≡ strname) × ¬ IsName (name r.payload)
+Breaches before r AfterEnd = ⊥
+Breaches before r Oblique = (r.kind ≡ xy) × ¬ All IsStraight (steps (points r.payload))
+Breaches before r TooManyCells = (r.kind ≡ bgnstr) × (cell_limit ≤ length (pieces (is_type bgnstr) before))
+
+-- no record breaches a rule
+abbrev pub BreachesNone : List Rec → Type 0
+BreachesNone rs = (before after : List Rec) (r : Rec) (k : GdsKind) → rs ≡ before ++ r ∷ after → Breaches before r k → ⊥
+
+-- the bytes are a front: the spellings of records that begin a word of the order and breach no rule
+pub record IsFront (bytes : List ℕ) (rs : List Rec) : Type 0 where
+  pub spelled : SpellsAll bytes rs
+  pub order : Begins a_library (kinds rs)
+  pub rules : BreachesNone rs
+  pub limit : length bytes ≤ file_limit
+
+-- the bytes spell a library and a head: they are a front with its end
+pub record SpellsLibrary (bytes : List ℕ) (cells : List Drawing) (h : GdsHead) : Type 0 where
+  pub records : List Rec
+  pub front : IsFront bytes records
+  pub whole : IsWord a_library (kinds records)
+  pub cells_are : cells ≡ drawings records
+  pub head_is : h ≡ head records
+
+-- a byte stands at the offset, the bytes before it are a front, and no front with one record more agrees with the input
+pub record IsStuck (xs : List ℕ) (at : ℕ) : Type 0 where
+  pub stands : at < length xs
+  pub records : List Rec
+  pub front : IsFront (take at xs) records
+  pub none : (r : Rec) (bytes : List ℕ) → IsFront bytes (records ++ r ∷ []) → Agree bytes xs → ⊥
+
+-- the record at the offset breaches the rule
+pub record IsBreached (xs : List ℕ) (at : ℕ) (k : GdsKind) : Type 0 where
+  pub records : List Rec
+  pub front : IsFront (take at xs) records
+  pub r : Rec
+  pub bytes : List ℕ
+  pub rest : List ℕ
+  pub spelled : Spells bytes r
+  pub stands : drop at xs ≡ bytes ++ rest
+  pub breached : Breaches records r k
+
+-- behind the end of a library and zero bytes stands a byte that isn't zero
+pub record IsAfterEnd (xs : List ℕ) (at : ℕ) : Type 0 where
+  pub records : List Rec
+  pub front : IsFront (take at xs) records
+  pub ended : IsWord a_library (kinds records)
+  pub byte : ℕ
+  pub rest : List ℕ
+  pub stands : drop at xs ≡ byte ∷ rest
+  pub other : byte ≢ 0
+
+-- the bytes before the offset are a front without its end, and those left are an unfinished beginning of a record, or
+-- fewer than the four of its header
+pub record IsTruncated (xs : List ℕ) (at : ℕ) : Type 0 where
+  pub within : at ≤ length xs
+  pub records : List Rec
+  pub front : IsFront (take at xs) records
+  pub unended : ¬ IsWord a_library (kinds records)
+  pub cut : (length (drop at xs) < 4) ⊎ IsBegun (drop at xs)

@@ -1,0 +1,12 @@
+pub mod Types
+pub mod Order
+pub mod Place
+pub mod Rec
+pub mod Drawn
+pub mod Values
+pub mod Front
+pub mod Faults
+pub mod Reading
+pub mod Holds
+pub mod Ends
+pub mod ReadTo

@@ -1,0 +1,58 @@
+//! Where a reader stands in the order of records.
+ghost use Rattle.std.specs.Prelude.{◌≡◌, ◌==◌, if◌then◌else◌};
+ghost use Rattle.gds_library.specs.Place.{after};
+
+use gds_records::record_type;
+
+/// What the next record may be, named by it.
+#[derive(Clone, Copy, Debug, PartialEq, Eq)]
+pub enum Place {
+    Header,
+    BgnLib,
+    LibName,
+    Units,
+    Structures,
+    StrName,
+    Elements,
+    Layer,
+    Datatype,
+    Points,
+    EndEl,
+    Fill,
+}
+
+impl Place {
+    /// The place behind a record of this type, if one may stand here.
+    pub fn after(self, kind: u8) -> Option<Place>
+        ensures { result ≡ after self kind }
+    {
+        match self {
+            Place::Header => only(kind, record_type::HEADER, Place::BgnLib),
+            Place::BgnLib => only(kind, record_type::BGNLIB, Place::LibName),
+            Place::LibName => only(kind, record_type::LIBNAME, Place::Units),
+            Place::Units => only(kind, record_type::UNITS, Place::Structures),
+            Place::Structures => match kind {
+                record_type::ENDLIB => Some(Place::Fill),
+                record_type::BGNSTR => Some(Place::StrName),
+                _ => None,
+            },
+            Place::StrName => only(kind, record_type::STRNAME, Place::Elements),
+            Place::Elements => match kind {
+                record_type::ENDSTR => Some(Place::Structures),
+                record_type::BOUNDARY => Some(Place::Layer),
+                _ => None,
+            },
+            Place::Layer => only(kind, record_type::LAYER, Place::Datatype),
+            Place::Datatype => only(kind, record_type::DATATYPE, Place::Points),
+            Place::Points => only(kind, record_type::XY, Place::EndEl),
+            Place::EndEl => only(kind, record_type::ENDEL, Place::Elements),
+            Place::Fill => None,
+        }
+    }
+}
+
+fn only(kind: u8, wanted: u8, next: Place) -> Option<Place>
+    ensures { result ≡ (if kind == wanted then Some next else None) }
+{
+    if kind == wanted { Some(next) } else { None }
+}

@@ -1,0 +1,104 @@
+//! A library read from records.
+ghost use Rattle.std.specs.Prelude.{◌≡◌, ◌≢◌, ◌≤◌, List, ℕ, OnOk, Some, IfErr, IfOk, false, length};
+ghost use Rattle.gds_records.specs.Records.{has_failed, bytes_left, records_offset, records_reader};
+ghost use Rattle.gds_library.specs.Ends.{Tells};
+ghost use Rattle.gds_library.specs.Front.{SpellsLibrary};
+ghost use Rattle.gds_library.specs.ReadTo.{ReadTo};
+
+use crate::builder::{Builder, Refusal};
+use crate::fault::{GdsFault, GdsKind};
+use crate::head::GdsHead;
+use crate::place::Place;
+use gds_records::{RecordFault, Records};
+use lvl_cells::Library;
+use lvl_io::Read;
+use std::alloc::Global;
+
+/// The library that a GDSII stream spells, and what the stream says of itself.
+///
+/// The order of records is HEADER BGNLIB LIBNAME UNITS, the structures, ENDLIB, then zero bytes alone
+/// up to the end (GDSII Stream Format Manual, Release 6; own: the optional records of a library are
+/// refused). A boundary is the ring of its points but the last, and a name loses one zero byte where
+/// it ends with one. The first record that is missing, malformed or breaches a rule is answered with
+/// its offset in bytes.
+pub fn read_gds<R: Read>(alloc: Global, reader: &mut R) -> Result<(Library, GdsHead), GdsFault>
+    ensures spelled { (xs : List ℕ) → R.remaining reader.old ≡ Some xs
+        → IfOk result (λ read. SpellsLibrary xs read.0 read.1) }
+    ensures refused { (xs : List ℕ) → R.remaining reader.old ≡ Some xs
+        → IfErr result (λ fault. Tells xs fault) }
+{
+    let Ok(mut records) = Records::new(alloc, reader) else {
+        return Err(GdsFault::OutOfMemory);
+    };
+    let read = read_library(alloc, &mut records);
+    let _reader = records.into_reader();
+    read
+}
+
+// Reads the records of a library, and the zero bytes behind it.
+fn read_library<R: Read>(
+    alloc: Global,
+    records: &mut Records<R>,
+) -> Result<(Library, GdsHead), GdsFault>
+    requires fresh { has_failed records.old ≡ false }
+    requires start { records_offset records.old ≡ 0 }
+    ensures spelled { (xs : List ℕ) → bytes_left R.remaining records.old ≡ Some xs
+        → IfOk result (λ read. SpellsLibrary xs read.0 read.1) }
+    ensures refused { (xs : List ℕ) → bytes_left R.remaining records.old ≡ Some xs
+        → IfErr result (λ fault. Tells xs fault) }
+{
+    let builder = read_all(alloc, records)?;
+    match records.tail() {
+        Ok(None) => Ok(builder.finish()),
+        Ok(Some(offset)) => Err(GdsFault::At {
+            offset,
+            kind: GdsKind::AfterEnd,
+        }),
+        Err(fault) => Err(GdsFault::At {
+            offset: records.offset(),
+            kind: GdsKind::Record(fault),
+        }),
+    }
+}
+
+// Reads records up to the one that ends the library.
+fn read_all<R: Read>(alloc: Global, records: &mut Records<R>) -> Result<Builder, GdsFault>
+    requires fresh { has_failed records.old ≡ false }
+    requires start { records_offset records.old ≡ 0 }
+    ensures stuck { (xs : List ℕ) → bytes_left R.remaining records.old ≡ Some xs
+        → IfErr result (λ e. Tells xs e) }
+    ensures whole { IfOk result (λ b. (b.place ≡ Place.Fill)
+        × ((xs : List ℕ) → bytes_left R.remaining records.old ≡ Some xs
+        → ReadTo xs (records_offset records.new) b (bytes_left R.remaining records.new))) }
+    ensures fresh { OnOk result (has_failed records.new ≡ false) }
+{
+    let mut builder = Builder::new(alloc);
+    for _ in 0..u64::MAX {
+        let offset = records.offset();
+        match records.next() {
+            Ok(Some(record)) => {
+                match builder.take(alloc, record.kind, record.payload) {
+                    Ok(()) => {}
+                    Err(Refusal::Breach(kind)) => return Err(GdsFault::At { offset, kind }),
+                    Err(Refusal::OutOfMemory) => return Err(GdsFault::OutOfMemory),
+                }
+            }
+            Ok(None) => {
+                return Err(GdsFault::At {
+                    offset,
+                    kind: GdsKind::Record(RecordFault::Truncated),
+                });
+            }
+            Err(fault) => {
+                return Err(GdsFault::At {
+                    offset,
+                    kind: GdsKind::Record(fault),
+                });
+            }
+        }
+        if builder.is_whole() {
+            return Ok(builder);
+        }
+    }
+    unreachable!()
+}

@@ -1,0 +1,343 @@
+//! Streams record by record: what each spells, which fault comes first, and that it matters neither
+//! how a reader cuts the bytes nor where it fails.
+ghost use Rattle.std.specs.Prelude.{Some, None};
+
+use crate::{GdsFault, GdsHead, GdsKind, read_gds};
+use gds_records::{RecordFault, record_type};
+use lvl_cells::{Layer, Library};
+use lvl_grid::Point;
+use lvl_io::fake::Pieces;
+use std::alloc::{AllocError, Global};
+use std::test::Fail;
+
+const ONE: [u8; 8] = [0x41, 0x10, 0, 0, 0, 0, 0, 0];
+
+const SIDE: [(i32, i32); 5] = [(0, 0), (10, 0), (10, 10), (0, 10), (0, 0)];
+
+/// A stream to which records are appended.
+struct Stream {
+    bytes: Vec<u8>,
+}
+
+impl Stream {
+    /// A library's beginning.
+    fn new(alloc: Global) -> Result<Stream, AllocError> {
+        let mut stream = Stream {
+            bytes: Vec::new(alloc),
+        };
+        stream.record(record_type::HEADER, 2, &[0x02, 0x58])?;
+        stream.record(record_type::BGNLIB, 2, &[0; 24])?;
+        stream.record(record_type::LIBNAME, 6, b"LB")?;
+        let mut units = Vec::new(alloc);
+        units.extend_from_slice(&ONE)?;
+        units.extend_from_slice(&ONE)?;
+        stream.record(record_type::UNITS, 5, &units)?;
+        Ok(stream)
+    }
+
+    fn record(&mut self, kind: u8, data_type: u8, payload: &[u8]) -> Result<(), AllocError> {
+        let len = payload.len().wrapping_add(4);
+        self.bytes.push((len >> 8) as u8)?;
+        self.bytes.push(len as u8)?;
+        self.bytes.push(kind)?;
+        self.bytes.push(data_type)?;
+        self.bytes.extend_from_slice(payload)?;
+        Ok(())
+    }
+
+    fn structure(&mut self, name: &[u8]) -> Result<(), AllocError> {
+        self.record(record_type::BGNSTR, 2, &[0; 24])?;
+        self.record(record_type::STRNAME, 6, name)
+    }
+
+    fn boundary(
+        &mut self,
+        alloc: Global,
+        layer: i16,
+        datatype: i16,
+        points: &[(i32, i32)],
+    ) -> Result<(), AllocError> {
+        self.record(record_type::BOUNDARY, 0, b"")?;
+        self.record(record_type::LAYER, 2, &layer.to_be_bytes())?;
+        self.record(record_type::DATATYPE, 2, &datatype.to_be_bytes())?;
+        let mut xy = Vec::new(alloc);
+        for (x, y) in points {
+            xy.extend_from_slice(&x.to_be_bytes())?;
+            xy.extend_from_slice(&y.to_be_bytes())?;
+        }
+        self.record(record_type::XY, 3, &xy)?;
+        self.record(record_type::ENDEL, 0, b"")
+    }
+
+    fn end_structure(&mut self) -> Result<(), AllocError> {
+        self.record(record_type::ENDSTR, 0, b"")
+    }
+
+    fn end(&mut self) -> Result<(), AllocError> {
+        self.record(record_type::ENDLIB, 0, b"")
+    }
+}
+
+/// A library with one structure TOP, in it the boundary of a square.
+fn square(alloc: Global) -> Result<Vec<u8>, AllocError> {
+    with_boundary(alloc, b"TOP\0", &SIDE)
+}
+
+/// A library with one structure, in it one boundary.
+fn with_boundary(alloc: Global, name: &[u8], points: &[(i32, i32)]) -> Result<Vec<u8>, AllocError> {
+    let mut stream = Stream::new(alloc)?;
+    stream.structure(name)?;
+    stream.boundary(alloc, 1, 0, points)?;
+    stream.end_structure()?;
+    stream.end()?;
+    Ok(stream.bytes)
+}
+
+/// Where the records of `square` begin, and where it ends.
+const STARTS: [usize; 14] = [0, 6, 34, 40, 60, 88, 96, 100, 106, 112, 156, 160, 164, 168];
+
+/// The start of the record of `square` that isn't whole in its first `k` bytes.
+fn begun(k: usize) -> u64 {
+    let mut start = 0;
+    for at in STARTS {
+        if at <= k {
+            start = at;
+        }
+    }
+    start as u64
+}
+
+/// What is read of these bytes, at most `most` at a read.
+fn read(alloc: Global, bytes: &[u8], most: usize) -> Result<(Library, GdsHead), GdsFault> {
+    let mut reader = Pieces::new(bytes, most);
+    read_gds(alloc, &mut reader)
+}
+
+fn at(offset: u64, kind: GdsKind) -> Option<GdsFault> {
+    Some(GdsFault::At { offset, kind })
+}
+
+#[test]
+fn reads_a_square(rt: HostRuntime) -> Result<(), Fail> {
+    let bytes = square(rt.alloc())?;
+    assert_eq!(rt; bytes.len(), 168);
+    let (library, head) = read(rt.alloc(), &bytes, 1000)?;
+    assert_eq!(rt;
+        head,
+        GdsHead {
+            version: 600,
+            units: [ONE, ONE]
+        }
+    );
+    assert_eq!(rt; library.cells.len(), 1);
+    let cell = library.cells.first().ok_or("a cell")?;
+    assert_eq!(rt; cell.name.as_slice(), b"TOP");
+    assert_eq!(rt; cell.shapes.len(), 1);
+    assert_eq!(rt; cell.references.len(), 0);
+    let shape = cell.shapes.first().ok_or("a shape")?;
+    assert_eq!(rt;
+        shape.layer,
+        Layer {
+            layer: 1,
+            datatype: 0
+        }
+    );
+    assert_eq!(rt; shape.shifts.len(), 1);
+    assert_eq!(rt; shape.rings.len(), 1);
+    let ring = shape.rings.first().ok_or("a ring")?;
+    assert_eq!(rt; ring.points().len(), 4);
+    assert_eq!(rt; ring.points().get(3), Some(&Point { x: 0, y: 10 }));
+    Ok(())
+}
+
+#[test]
+fn reads_structures_in_file_order(rt: HostRuntime) -> Result<(), Fail> {
+    let mut stream = Stream::new(rt.alloc())?;
+    let names: [&[u8]; 4] = [b"B\0", b"AB", b"C\0", b"B\0"];
+    for (n, name) in names.iter().enumerate() {
+        stream.structure(name)?;
+        for _ in 0..n {
+            stream.boundary(rt.alloc(), 2, 32_767, &SIDE)?;
+        }
+        stream.end_structure()?;
+    }
+    stream.end()?;
+    let (library, _) = read(rt.alloc(), &stream.bytes, 7)?;
+    assert_eq!(rt; library.cells.len(), 4);
+    for (n, cell) in library.cells.iter().enumerate() {
+        assert_eq!(rt; cell.shapes.len(), n);
+    }
+    let second = library.cells.get(1).ok_or("a cell")?;
+    assert_eq!(rt; second.name.as_slice(), b"AB");
+    Ok(())
+}
+
+#[test]
+fn names_the_first_fault(rt: HostRuntime) -> Result<(), Fail> {
+    let rows: [(usize, u8, u64, GdsKind); 16] = [
+        (1, 0x05, 0, GdsKind::Record(RecordFault::BadLength)),
+        (2, 0x3C, 0, GdsKind::Record(RecordFault::UnknownRecord)),
+        (3, 0x03, 0, GdsKind::Record(RecordFault::BadDataType)),
+        (2, 0x3B, 0, GdsKind::Unsupported(0x3B)),
+        (92, 0x20, 88, GdsKind::Name),
+        (92, 0x7F, 88, GdsKind::Name),
+        (94, 0x00, 88, GdsKind::Name),
+        (98, 0x09, 96, GdsKind::Unsupported(0x09)),
+        (98, 0x2D, 96, GdsKind::Unsupported(0x2D)),
+        (98, 0x04, 96, GdsKind::Unexpected(0x04)),
+        (98, 0x07, 100, GdsKind::Unexpected(0x0D)),
+        (104, 0x80, 100, GdsKind::Layer),
+        (110, 0xFF, 106, GdsKind::Layer),
+        (155, 0x01, 112, GdsKind::NotClosed),
+        (139, 0x09, 112, GdsKind::Oblique),
+        (166, 0x07, 164, GdsKind::Unexpected(0x07)),
+    ];
+    for (k, value, offset, kind) in rows {
+        let mut bytes = square(rt.alloc())?;
+        if let Some(byte) = bytes.get_mut(k) {
+            *byte = value;
+        }
+        assert_eq!(rt;
+            read(rt.alloc(), &bytes, 1000).err(),
+            at(offset, kind),
+            "byte {k}"
+        );
+    }
+    Ok(())
+}
+
+#[test]
+fn tests_points_in_order(rt: HostRuntime) -> Result<(), Fail> {
+    let three: [(i32, i32); 3] = [(0, 0), (1, 1), (2, 0)];
+    let unclosed: [(i32, i32); 4] = [(0, 0), (1, 1), (2, 0), (0, 1)];
+    let oblique: [(i32, i32); 4] = [(0, 0), (1, 1), (1, 0), (0, 0)];
+    let least: [(i32, i32); 4] = [(0, 0), (1, 0), (0, 0), (0, 0)];
+    let lowest = i32::MIN;
+    let far: [(i32, i32); 4] = [(lowest, 0), (0, 0), (lowest, 0), (lowest, 0)];
+    let rows: [(&[(i32, i32)], Option<GdsFault>); 5] = [
+        (&three, at(112, GdsKind::Points)),
+        (&unclosed, at(112, GdsKind::NotClosed)),
+        (&oblique, at(112, GdsKind::Oblique)),
+        (&least, None),
+        (&far, None),
+    ];
+    for (points, fault) in rows {
+        let bytes = with_boundary(rt.alloc(), b"TOP\0", points)?;
+        assert_eq!(rt; read(rt.alloc(), &bytes, 1000).err(), fault);
+    }
+    Ok(())
+}
+
+#[test]
+fn names_have_up_to_255_bytes(rt: HostRuntime) -> Result<(), Fail> {
+    let rows: [(usize, usize, bool); 6] = [
+        (255, 1, true),
+        (254, 0, true),
+        (256, 0, false),
+        (254, 2, false),
+        (1, 1, true),
+        (0, 0, false),
+    ];
+    for (letters, zeros, accepted) in rows {
+        let mut name = Vec::new(rt.alloc());
+        for _ in 0..letters {
+            name.push(b'~')?;
+        }
+        for _ in 0..zeros {
+            name.push(0)?;
+        }
+        let bytes = with_boundary(rt.alloc(), &name, &SIDE)?;
+        let fault = if accepted {
+            None
+        } else {
+            at(88, GdsKind::Name)
+        };
+        assert_eq!(rt;
+            read(rt.alloc(), &bytes, 1000).err(),
+            fault,
+            "{letters} {zeros}"
+        );
+    }
+    Ok(())
+}
+
+#[test]
+fn tells_each_cut(rt: HostRuntime) -> Result<(), Fail> {
+    let bytes = square(rt.alloc())?;
+    for k in 0..bytes.len() {
+        let fault = at(begun(k), GdsKind::Record(RecordFault::Truncated));
+        for most in [1, 1000] {
+            assert_eq!(rt;
+                read(rt.alloc(), &bytes[..k], most).err(),
+                fault,
+                "cut to {k}"
+            );
+        }
+    }
+    Ok(())
+}
+
+#[test]
+fn takes_zero_bytes_alone_behind_the_end(rt: HostRuntime) -> Result<(), Fail> {
+    let rows: [(usize, &[u8], Option<GdsFault>); 4] = [
+        (1880, b"", None),
+        (0, b"\x01", at(168, GdsKind::AfterEnd)),
+        (70_000, b"\x01\0", at(70_168, GdsKind::AfterEnd)),
+        (0, b"\0\x04\x04\0", at(169, GdsKind::AfterEnd)),
+    ];
+    for (zeros, rest, fault) in rows {
+        let mut bytes = square(rt.alloc())?;
+        for _ in 0..zeros {
+            bytes.push(0)?;
+        }
+        bytes.extend_from_slice(rest)?;
+        for most in [1, 65_536] {
+            assert_eq!(rt; read(rt.alloc(), &bytes, most).err(), fault);
+        }
+    }
+    Ok(())
+}
+
+#[test]
+fn reads_pieces_of_any_size_alike(rt: HostRuntime) -> Result<(), Fail> {
+    let mut bytes = square(rt.alloc())?;
+    for k in 0..bytes.len() {
+        let kept = bytes.get(k).copied().unwrap_or(0);
+        for value in 0..=255u8 {
+            if let Some(byte) = bytes.get_mut(k) {
+                *byte = value;
+            }
+            let fault = read(rt.alloc(), &bytes, 1000).err();
+            assert_eq!(rt;
+                read(rt.alloc(), &bytes, 5).err(),
+                fault,
+                "byte {k} is {value}"
+            );
+            assert!(rt; fault != at(k as u64, GdsKind::Record(RecordFault::Read)));
+        }
+        if let Some(byte) = bytes.get_mut(k) {
+            *byte = kept;
+        }
+    }
+    Ok(())
+}
+
+#[test]
+fn tells_a_failed_read(rt: HostRuntime) -> Result<(), Fail> {
+    let bytes = square(rt.alloc())?;
+    for k in 0..=bytes.len() {
+        let mut reader = Pieces::failing(&bytes[..k], 100);
+        let fault = at(begun(k), GdsKind::Record(RecordFault::Read));
+        assert_eq!(rt; read_gds(rt.alloc(), &mut reader).err(), fault, "after {k}");
+        assert_eq!(rt; reader.errors, 1);
+    }
+    Ok(())
+}
+
+#[test]
+fn growths(rt: HostRuntime) -> Result<(), Fail> {
+    let bytes = square(rt.alloc())?;
+    let (library, _) = read(rt.alloc(), &bytes, 1000)?;
+    assert_eq!(rt; library.cells.len(), 1);
+    Ok(())
+}
