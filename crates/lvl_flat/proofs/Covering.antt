@@ -1,5 +1,5 @@
 -- What placed shapes cover, and what cells cover by their picks.
-use Rattle.std.proofs.Common.{◌≡◌, ℕ, zero, suc, ◌++◌, ◌+ℤ◌, ◌-ℤ◌, ℤ, Bool, true, false, cond, not, List, [], ◌∷◌, Option, Some, None, map, Any, All, Contains, IsSomeAnd, ◌↔◌, ◌⊎◌, inl, inr, refl, sym, ap, subst, ◌∙◌, arith}
+use Rattle.std.proofs.Common.{◌≡◌, ℕ, zero, suc, true, false, cond, not, List, [], ◌∷◌, Option, Some, None, Any, All, IsSomeAnd, ◌↔◌, ◌⊎◌, inl, inr, refl, sym, ap, subst, ◌∙◌, arith}
 use Rattle.std.specs.List.{flat_map}
 use Rattle.std.proofs.lemmas.Int.{ints}
 use Rattle.std.proofs.lemmas.List.Elements.{All-head, All-tail}
@@ -7,18 +7,18 @@ use Rattle.lvl_grid.specs.declared.point.Point.{Point}
 use Rattle.lvl_grid.specs.declared.point.Square.{Square}
 use Rattle.lvl_grid.specs.declared.map.Map.{Map}
 use Rattle.lvl_grid.specs.Turn.{image_square}
-use Rattle.lvl_grid.specs.Placed.{moved_square, IsPlaceOfCovered}
+use Rattle.lvl_grid.specs.Placed.{moved_square}
 use Rattle.lvl_grid.specs.Winding.{Covers}
 use Rattle.lvl_grid.proofs.Squares.{same_square, image_square-composed}
 use Rattle.lvl_cells.specs.declared.layer.Layer.{Layer}
-use Rattle.lvl_cells.specs.Cells.{PlainCell, PlainReference, PlainShape, Rings, placing, cell_named}
+use Rattle.lvl_cells.specs.Cells.{PlainCell, PlainShape, Rings, placing, cell_named}
 use Rattle.lvl_cells.specs.Chains.{IsComposed}
 use Rattle.lvl_cells.specs.Coverage.{moved_back, RingsCover, ShapeCovers, PullsBack, CoversWithin, CellCovers}
 use Rattle.lvl_flat.specs.Drawn.{placed_ring, placed_figure, placed_shape, drawn_on, IsPlaced, AreFiguresPlaced}
 use Rattle.lvl_flat.specs.Sheets.{same_layer}
 use Rattle.lvl_flat.specs.Visits.{Pick, picks, PickCovers}
 use Rattle.lvl_flat.proofs.Orders.{tested_layer, same_is}
-use Rattle.lvl_flat.proofs.Picks.{Any-none, Any-first, Any-later, Any-cases, Any-left, Any-right, Any-sides, Any-mapped, picks_any}
+use Rattle.lvl_flat.proofs.Picks.{Any-none, Any-first, Any-later, Any-cases, Any-left, Any-right, Any-sides, picks_any}
 
 -- a square whose image is s is in the set
 abbrev pub Under : Map → Square → (Square → Type 0) → Type 0
@@ -132,11 +132,10 @@ cell_covers cells layer c s = (
             let q = (picks_any (λ r d. PickCovers cells layer s (r, d)) c.references).1 a in
             let some = q.4 in
             let found = some_is (λ d. PullsBack (CellCovers RingsCover cells layer d) q.1 s some.1) (cell_named cells q.1.cell) some.4 in
-            let back = found.2 in
-            (
+            let back = found.2 in (
               suc back.2.0,
               inr
-              (q.0, q.1, q.2, q.3, is_some (λ d. Any (PullsBack (CoversWithin RingsCover cells layer back.2.0 d) q.1 s) q.1.shifts) (cell_named cells q.1.cell) found.0 found.1 (some.0, some.1, some.2, some.3, (back.0, back.1, back.2.1))),
+                  (q.0, q.1, q.2, q.3, is_some (λ d. Any (PullsBack (CoversWithin RingsCover cells layer back.2.0 d) q.1 s) q.1.shifts) (cell_named cells q.1.cell) found.0 found.1 (some.0, some.1, some.2, some.3, (back.0, back.1, back.2.1))),
             )
       ],
 )
@@ -150,10 +149,9 @@ pick_covers cells layer m w s p d named whole = (
       let one : Some a.0 ≡ Some d = sym a.1 ∙ named in
       let same : a.0 ≡ d = cc in
       (a.2.0, image_square-composed m (placing p.0 p.1) w whole a.2.0 ∙ (ap (image_square m) a.2.1 ∙ u.1), subst (λ b. CellCovers RingsCover cells layer b a.2.0) same a.2.2),
-  λ u.
-      (
-        image_square (placing p.0 p.1) u.0,
-        sym (image_square-composed m (placing p.0 p.1) w whole u.0) ∙ u.1,
-        is_some (λ b. PullsBack (CellCovers RingsCover cells layer b) p.0 (image_square (placing p.0 p.1) u.0) p.1) (cell_named cells p.0.cell) d named (u.0, refl, u.2),
-      ),
+  λ u. (
+    image_square (placing p.0 p.1) u.0,
+    sym (image_square-composed m (placing p.0 p.1) w whole u.0) ∙ u.1,
+    is_some (λ b. PullsBack (CellCovers RingsCover cells layer b) p.0 (image_square (placing p.0 p.1) u.0) p.1) (cell_named cells p.0.cell) d named (u.0, refl, u.2),
+  ),
 )

@@ -10,7 +10,7 @@ use Rattle.lvl_cells.specs.Cells.{PlainShape, Rings}
 use Rattle.lvl_flat.specs.Drawn.{placed_shape, drawn_on}
 use Rattle.lvl_flat.specs.Sheet.{PlainSheet}
 use Rattle.lvl_flat.specs.Sheets.{ComesBefore, AreSorted, same_layer, rings_on}
-use Rattle.lvl_flat.proofs.Orders.{before_itself, sorted_at, sorted_tail, differs_is, tested_layer, same_is}
+use Rattle.lvl_flat.proofs.Orders.{before_itself, sorted_at, sorted_tail, differs_is, tested_layer}
 
 abbrev pub layer_of : PlainSheet → Layer
 layer_of s = s.layer
@@ -52,8 +52,8 @@ sorted_alike xs ys same sorted = λ i j d lt in'.
     let long : length xs ≡ length ys = sym (length-map xs layer_of) ∙ (ap length same ∙ length-map ys layer_of) in
     let inside : j < length ys = omega (arith, long, in') in
     let at : (k : ℕ) → k < length xs → (get_or xs k d).layer ≡ (get_or ys k d).layer = λ k below.
-        let below' : k < length ys = omega (arith, long, below) in
-        sym (get_or-map layer_of xs k d d.layer below) ∙ (ap (λ ls. get_or ls k d.layer) same ∙ get_or-map layer_of ys k d d.layer below') in
+    let below' : k < length ys = omega (arith, long, below) in
+    sym (get_or-map layer_of xs k d d.layer below) ∙ (ap (λ ls. get_or ls k d.layer) same ∙ get_or-map layer_of ys k d d.layer below') in
     subst (λ (a : Layer). ComesBefore a (get_or xs j d).layer) (sym (at i (omega (arith, lt, in')))) (subst (λ (b : Layer). ComesBefore (get_or ys i d).layer b) (sym (at j in')) (sorted i j d lt inside))
 
 -- a Layer that is no sheet's is none of their Layers
@@ -75,6 +75,6 @@ drawn_next old sheets m shapes i h place s new sorted at same is lt item so_far 
     let added : Rings = placed_shape m h in
     ap (λ n. rings_on layer (set sheets place n)) is
     ∙ (rings_on-set sheets place s added sorted at layer
-      ∙ (ap (λ xs. xs ++ cond (same_layer s.layer layer) added []) (so_far layer)
-        ∙ (append_assoc (rings_on layer old) (drawn_on layer m (take i shapes)) (cond (same_layer s.layer layer) added [])
-          ∙ ap (λ xs. rings_on layer old ++ xs) (ap (λ (x : Layer). drawn_on layer m (take i shapes) ++ cond (same_layer x layer) added []) same ∙ sym (drawn_more layer m shapes i h lt item)))))
+    ∙ (ap (λ xs. xs ++ cond (same_layer s.layer layer) added []) (so_far layer)
+    ∙ (append_assoc (rings_on layer old) (drawn_on layer m (take i shapes)) (cond (same_layer s.layer layer) added [])
+    ∙ ap (λ xs. rings_on layer old ++ xs) (ap (λ (x : Layer). drawn_on layer m (take i shapes) ++ cond (same_layer x layer) added []) same ∙ sym (drawn_more layer m shapes i h lt item)))))

@@ -1,33 +1,30 @@
 -- The walk begins at the top, and ends with all rings drawn.
-use Rattle.std.proofs.Common.{◌≡◌, ◌≢◌, ◌<◌, ◌++◌, ◌+◌, ℕ, zero, suc, Bool, true, false, cond, List, [], ◌∷◌, length, map, filter, not, sum_by, slice_get, Some, Any, All, AllPairs, Contains, ◌⊎◌, ◌↔◌, ℤ, pos, ◌+ℤ◌, inl, inr, refl, sym, ap, subst, ◌∙◌, arith, rules}
+use Rattle.std.proofs.Common.{◌≡◌, ◌≢◌, ◌<◌, ◌==◌, ◌++◌, ℕ, zero, suc, Bool, true, false, cond, append_assoc, List, [], ◌∷◌, length, filter, not, sum_by, slice_get, Some, All, Contains, inl, inr, refl, sym, ap, subst, ◌∙◌, arith, rules}
 use Rattle.std.proofs.lemmas.Int.{ints, clamps}
-use Rattle.std.proofs.lemmas.List.Elements.{All-head, All-tail, All-filter, All-weaker, filter_passes}
-use Rattle.std.proofs.lemmas.Option.{slice_get-get_or}
-use Rattle.lvl_grid.specs.declared.point.Point.{Point}
+use Rattle.std.proofs.lemmas.List.Elements.{All-head, All-tail, All-filter, filter-append, All-weaker, filter_passes}
+use Rattle.std.proofs.lemmas.Bool.{eqb-true}
 use Rattle.lvl_grid.specs.declared.point.Square.{Square}
-use Rattle.lvl_grid.specs.declared.map.Map.{Map}
 use Rattle.lvl_grid.specs.Turn.{image, image_square, FitsPoint}
-use Rattle.lvl_grid.specs.Winding.{Covers}
 use Rattle.lvl_grid.proofs.Squares.{same_square}
 use Rattle.lvl_cells.specs.declared.layer.Layer.{Layer}
-use Rattle.lvl_cells.specs.Cells.{PlainCell, PlainShape, Rings, each_ring}
-use Rattle.lvl_cells.specs.Chains.{Chain, IsComposed, IsInRange, unmoved, over_chains, own_rings_on}
+use Rattle.lvl_cells.specs.Cells.{PlainCell, Rings, each_ring}
+use Rattle.lvl_cells.specs.Chains.{unmoved, own_rings_on}
 use Rattle.lvl_cells.specs.Checks.{Settled}
-use Rattle.lvl_cells.specs.Coverage.{RingsCover, ShapeCovers, CellCovers}
+use Rattle.lvl_cells.specs.Coverage.{RingsCover, CellCovers}
 use Rattle.lvl_cells.specs.Soundness.{AreLinked, IsOrder}
 use Rattle.lvl_flat.specs.declared.visit.Visit.{Visit}
 use Rattle.lvl_flat.specs.Drawn.{drawn_on, AreFiguresPlaced}
-use Rattle.lvl_flat.specs.Flattened.{AllInRange, IsFlattened, IsOutOfRange}
+use Rattle.lvl_flat.specs.Flattened.{IsFlattened, IsOutOfRange}
 use Rattle.lvl_flat.specs.Sheet.{PlainSheet}
-use Rattle.lvl_flat.specs.Sheets.{ComesBefore, AreSorted, IsInOrder, HaveSheets, same_layer, rings_on, has_rings, is_filled}
-use Rattle.lvl_flat.specs.Visits.{Pick, picks, pending, visit_weight, VisitCovers, FitsUnder, PicksFit, IsVisit}
+use Rattle.lvl_flat.specs.Sheets.{ComesBefore, AreSorted, IsInOrder, same_layer, rings_on, has_rings, is_filled}
+use Rattle.lvl_flat.specs.Visits.{picks, visit_weight, VisitCovers, FitsUnder, PicksFit, IsVisit}
 use Rattle.lvl_flat.specs.Walking.{AllHaveSheets, IsWalking}
 use Rattle.lvl_flat.specs.Entering.{begun, IsDrawn, IsCellOut}
-use Rattle.lvl_flat.proofs.Orders.{sorted_at, sorted_tail, before_itself, rings_nowhere, differs_is, tested_layer}
+use Rattle.lvl_flat.proofs.Orders.{sorted_tail, before_itself, rings_nowhere, tested_layer}
 use Rattle.lvl_flat.proofs.Picks.{Any-none, Any-first, Any-cases, picks_from_start}
 use Rattle.lvl_flat.proofs.Ranging.{fits_under, image-unmoved}
 use Rattle.lvl_flat.proofs.Covering.{Under, drawn_covers}
-use Rattle.lvl_flat.proofs.Drawing.{layer_of, sorted_alike}
+use Rattle.lvl_flat.proofs.Drawing.{sorted_alike}
 use Rattle.lvl_flat.proofs.Stepping.{pending_at}
 use Rattle.lvl_flat.proofs.Walking.{drawn_length, weight_begun, visit_begun}
 use Rattle.lvl_flat.proofs.Going.{in_range_of, layers_kept}
@@ -52,7 +49,7 @@ walk_begins s c empty new linked ordered at sorted have none d =
     let child : Visit = begun s.top unmoved in
     let placed : AreFiguresPlaced unmoved c.shapes = subst (λ (b : PlainCell Rings). AreFiguresPlaced unmoved b.shapes) one d.placed in
     let drawn : (layer : Layer) → rings_on layer new ≡ drawn_on layer unmoved c.shapes = λ layer.
-        d.drawn layer ∙ (ap (λ rs. rs ++ drawn_on layer unmoved d.cell.shapes) (none layer) ∙ ap (λ (b : PlainCell Rings). drawn_on layer unmoved b.shapes) one) in
+    d.drawn layer ∙ (ap (λ rs. rs ++ drawn_on layer unmoved d.cell.shapes) (none layer) ∙ ap (λ (b : PlainCell Rings). drawn_on layer unmoved b.shapes) one) in
     record {
       top = c;
       is_top = at;
@@ -61,8 +58,7 @@ walk_begins s c empty new linked ordered at sorted have none d =
       covers = λ layer q.
           let begin = visit_begun cells layer s.top unmoved q c at in
           let mine = drawn_covers layer unmoved q c.shapes placed in
-          let V : Visit → Type 0 = VisitCovers cells layer q in
-          (
+          let V : Visit → Type 0 = VisitCovers cells layer q in (
             λ h.
                 elim (begin.0 (q, square_stays q, h)) [
                   | inl own ↦ inl (subst (λ rs. RingsCover rs q) (sym (drawn layer)) (mine.1 own))
@@ -144,6 +140,22 @@ filled_in_order ss sorted = record {
   filled = All-weaker (λ s. is_filled s ≡ true) (λ s. s.rings ≢ []) (λ s. some_there s.rings) (filter is_filled ss) (filter_passes is_filled ss);
   sorted = sorted_filter is_filled ss sorted;
 }
+
+filled_if : (rings : Rings) (b : Bool) → (length rings == 0) ≡ not b → has_rings rings ≡ b
+filled_if [] true e = cc
+filled_if [] false e = refl
+filled_if (ring ∷ rings) true e = refl
+filled_if (ring ∷ rings) false e =
+    let none : length (ring ∷ rings) ≡ 0 = eqb-true _ 0 e in
+    absurd (omega arith)
+
+-- one sheet more, kept for its rings or left out for want of them
+pub filled_step : (ss filled all rest rest' : List PlainSheet) (s : PlainSheet) (b : Bool) → (length s.rings == 0) ≡ not b → (filled ≡ filter is_filled ss) × (ss ++ rest ≡ all) → rest ≡ s ∷ rest'
+    → (filled ++ cond b (s ∷ []) [] ≡ filter is_filled (ss ++ s ∷ [])) × ((ss ++ s ∷ []) ++ rest' ≡ all)
+filled_step ss filled all rest rest' s b e so next = (
+  ap (λ fs. fs ++ cond b (s ∷ []) []) so.0 ∙ sym (filter-append is_filled ss (s ∷ []) ∙ ap (λ t. filter is_filled ss ++ cond t (s ∷ []) []) (filled_if s.rings b e)),
+  append_assoc ss (s ∷ []) rest' ∙ (ap (λ r. ss ++ r) (sym next) ∙ so.1),
+)
 
 pub walk_ends : (s : Settled) (sheets : List PlainSheet) → IsWalking s sheets [] → IsFlattened s (filter is_filled sheets)
 walk_ends s sheets w = record {

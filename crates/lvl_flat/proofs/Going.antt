@@ -1,19 +1,17 @@
 -- The walk begins, goes into a cell, and ends.
-use Rattle.std.proofs.Common.{◌≡◌, ◌<◌, ◌≤◌, ◌++◌, ◌+◌, ◌-◌, ℕ, zero, suc, List, [], ◌∷◌, length, map, sum_by, slice_get, Option, Some, Any, All, Contains, ◌⊎◌, ◌↔◌, inl, inr, refl, sym, ap, subst, ◌∙◌, arith, length-append, get_or, Result, Ok, Err, OnOk}
+use Rattle.std.proofs.Common.{◌≡◌, ◌<◌, ◌++◌, ◌+◌, ◌-◌, ℕ, zero, suc, List, [], ◌∷◌, length, map, sum_by, slice_get, Option, Some, Contains, inl, inr, refl, sym, ap, subst, ◌∙◌, arith, length-append, get_or, Result, Ok, Err, OnOk}
 use Rattle.std.specs.Option.{option_map_or}
-use Rattle.std.proofs.lemmas.List.Sums.{sum_by-cons}
 use Rattle.std.proofs.lemmas.List.Elements.{Contains-push_cases}
 use Rattle.lvl_grid.specs.declared.point.Point.{Point}
-use Rattle.lvl_grid.specs.declared.point.Square.{Square}
 use Rattle.lvl_grid.specs.declared.map.Map.{Map}
-use Rattle.lvl_grid.specs.Turn.{image, image_square, FitsPoint}
+use Rattle.lvl_grid.specs.Turn.{FitsPoint}
 use Rattle.lvl_grid.specs.Winding.{Covers}
 use Rattle.lvl_grid.proofs.Composing.{composed, image-composed}
 use Rattle.lvl_cells.specs.declared.layer.Layer.{Layer}
-use Rattle.lvl_cells.specs.Cells.{PlainCell, PlainReference, PlainShape, Rings, each_ring, placing, cell_named}
-use Rattle.lvl_cells.specs.Chains.{Chain, IsComposed, IsInRange, unmoved, over_chains, own_rings_on, placed_rings_on}
+use Rattle.lvl_cells.specs.Cells.{PlainCell, Rings, each_ring, placing, cell_named}
+use Rattle.lvl_cells.specs.Chains.{Chain, IsComposed, IsInRange, own_rings_on}
 use Rattle.lvl_cells.specs.Checks.{Settled}
-use Rattle.lvl_cells.specs.Coverage.{RingsCover, ShapeCovers, CellCovers}
+use Rattle.lvl_cells.specs.Coverage.{RingsCover}
 use Rattle.lvl_cells.specs.Soundness.{AreLinked, IsOrder}
 use Rattle.lvl_flat.specs.declared.visit.Visit.{Visit}
 use Rattle.lvl_flat.specs.Drawn.{drawn_on, AreFiguresPlaced}
@@ -21,14 +19,14 @@ use Rattle.lvl_flat.specs.Flattened.{IsOutOfRange, IsFlatFault}
 use Rattle.lvl_flat.specs.declared.fault.FlatFault.{FlatFault}
 use Rattle.lvl_flat.specs.declared.fault.FlatFault.TheVariants.{OutOfRange, OutOfMemory}
 use Rattle.lvl_flat.specs.Sheet.{PlainSheet}
-use Rattle.lvl_flat.specs.Sheets.{AreSorted, HaveSheets, rings_on}
-use Rattle.lvl_flat.specs.Visits.{Pick, picks, picks_from, pending, pick_weight, visit_weight, VisitCovers, FitsUnder, PicksFit, IsVisit}
+use Rattle.lvl_flat.specs.Sheets.{rings_on}
+use Rattle.lvl_flat.specs.Visits.{Pick, picks, pending, pick_weight, visit_weight, VisitCovers, FitsUnder, PicksFit, IsVisit}
 use Rattle.lvl_flat.specs.Walking.{AllHaveSheets, IsWalking, references_left, toil, work}
 use Rattle.lvl_flat.specs.Steps.{IsPast, IsInto, IsOut}
 use Rattle.lvl_flat.specs.Entering.{begun, IsDrawn, IsCellOut, IsEnterFault, TellsName}
 use Rattle.lvl_flat.proofs.Picks.{Any-left, Any-right, Any-sides, picks_from_start, picks_within}
-use Rattle.lvl_flat.proofs.Ranging.{chain_more, fits_alike, fits_under, image-unmoved, composed_at}
-use Rattle.lvl_flat.proofs.Covering.{Under, drawn_covers}
+use Rattle.lvl_flat.proofs.Ranging.{chain_more, fits_alike, fits_under}
+use Rattle.lvl_flat.proofs.Covering.{drawn_covers}
 use Rattle.lvl_flat.proofs.Drawing.{layer_of, sorted_alike}
 use Rattle.lvl_flat.proofs.Stepping.{pending_at}
 use Rattle.lvl_flat.proofs.Walking.{drawn_length, weight_begun, weight_into, sum_last, visit_begun, visit_into, Any-last, in_front, in_last}
@@ -84,8 +82,7 @@ walk_into s sheets new front v i m rest linked ordered w into d =
           let go = visit_into cells layer v i m rest q into in
           let begin = visit_begun cells layer i m q c into.there in
           let mine = drawn_covers layer m q c.shapes placed in
-          let rings : RingsCover (rings_on layer sheets ++ drawn_on layer m c.shapes) q → RingsCover (rings_on layer new) q = subst (λ rs. RingsCover rs q) (sym (drawn layer)) in
-          (
+          let rings : RingsCover (rings_on layer sheets ++ drawn_on layer m c.shapes) q → RingsCover (rings_on layer new) q = subst (λ rs. RingsCover rs q) (sym (drawn layer)) in (
             λ h.
                 elim (was.0 h) [
                   | inl a ↦ inl (rings (Any-left C (rings_on layer sheets) (drawn_on layer m c.shapes) a))
@@ -137,9 +134,9 @@ walk_into s sheets new front v i m rest linked ordered w into d =
           let under : FitsUnder cells m c = fits_under cells m c (in_range_of m c into.in_range placed) begun_fits in
           let rest_fits : PicksFit cells v.map (pending cells rest) = subst (λ (n : Map). PicksFit cells n (pending cells rest)) into.map_is (each rest (in_front lower child rest (in_last front rest))) in
           let first_fits : (b : PlainCell Rings) (x : Map) → cell_named cells into.pick.0.cell ≡ Some b → IsComposed v.map (placing into.pick.0 into.pick.1) x → FitsUnder cells x b = λ b x named whole.
-              let two : Some c ≡ Some b = sym into.named ∙ named in
-              let same : c ≡ b = cc in
-              subst (FitsUnder cells x) same (fits_alike cells m x c (λ p. whole p ∙ sym (into.placed p)) under) in
+          let two : Some c ≡ Some b = sym into.named ∙ named in
+          let same : c ≡ b = cc in
+          subst (FitsUnder cells x) same (fits_alike cells m x c (λ p. whole p ∙ sym (into.placed p)) under) in
           let v_fits : PicksFit cells v.map (into.pick ∷ pending cells rest) = picks_fit_cons cells v.map into.pick (pending cells rest) first_fits rest_fits in
           w.fits
           (λ u has.

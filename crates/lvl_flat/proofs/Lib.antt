@@ -7,3 +7,4 @@ pub mod Stepping
 pub mod Walking
 pub mod Going
 pub mod Ending
+mod Listing

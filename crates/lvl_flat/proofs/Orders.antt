@@ -1,5 +1,5 @@
 -- The order of the Layers, and of sheets.
-use Rattle.std.proofs.Common.{◌≡◌, ◌<◌, ◌≤◌, ◌⊎◌, ℕ, List, length, get_or, Some, inl, inr, refl, subst, sym, ap, arith, slice_get, AllPairs, All, ◌∙◌, ◌≢◌, ◌==◌, ◌&&◌, not, true, false, [], ◌∷◌, zero, suc, Bool, cond}
+use Rattle.std.proofs.Common.{◌≡◌, ◌<◌, ◌≤◌, ℕ, List, length, get_or, Some, inl, inr, refl, subst, sym, ap, arith, slice_get, All, ◌∙◌, ◌≢◌, ◌==◌, ◌&&◌, not, true, false, [], ◌∷◌, zero, suc, cond}
 use Rattle.std.proofs.lemmas.Option.{slice_get_within, get_or_from_slice_get, slice_get-get_or}
 use Rattle.std.proofs.lemmas.Bool.{cases_lt}
 use Rattle.std.proofs.lemmas.List.Elements.{All-head, All-tail}

@@ -1,5 +1,5 @@
 -- Chains by their first choice, and what of them is in range.
-use Rattle.std.proofs.Common.{◌≡◌, ℕ, zero, suc, List, [], ◌∷◌, Some, Any, All, Contains, ℤ, pos, ◌+ℤ◌, Bool, true, false, refl, sym, ap, subst, ◌∙◌, arith}
+use Rattle.std.proofs.Common.{◌≡◌, ℕ, zero, suc, List, Some, Any, Contains, ℤ, pos, ◌+ℤ◌, Bool, true, false, refl, sym, ap, subst, ◌∙◌, arith}
 use Rattle.std.proofs.lemmas.Int.{ints}
 use Rattle.lvl_grid.specs.declared.map.Turn.{Turn}
 use Rattle.lvl_grid.specs.declared.map.Turn.TheVariants.{R0, R90, R180, R270}

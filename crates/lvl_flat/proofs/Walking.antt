@@ -1,5 +1,5 @@
 -- What a step of the walk keeps.
-use Rattle.std.proofs.Common.{◌≡◌, ◌<◌, ◌≤◌, ◌++◌, ◌+◌, ◌-◌, ◌*◌, ℕ, zero, suc, Bool, true, false, cond, List, [], ◌∷◌, length, map, sum_by, slice_get, Option, Some, Any, All, Contains, ◌⊎◌, ◌↔◌, inl, inr, refl, sym, ap, subst, ◌∙◌, arith, length-append, add_comm, add-zero}
+use Rattle.std.proofs.Common.{◌≡◌, ◌<◌, ◌++◌, ◌+◌, ◌*◌, ℕ, true, false, cond, List, [], ◌∷◌, length, sum_by, slice_get, Option, Some, Any, Contains, ◌⊎◌, ◌↔◌, inl, inr, refl, sym, ap, subst, ◌∙◌, arith, length-append, add_comm, add-zero}
 use Rattle.std.specs.List.{flat_map}
 use Rattle.std.specs.Option.{option_map_or}
 use Rattle.std.proofs.Math.Nat.{mul-suc, mul-zero}
@@ -9,27 +9,24 @@ use Rattle.std.proofs.lemmas.List.Elements.{Contains-append_left, Contains-push,
 use Rattle.lvl_grid.specs.declared.point.Point.{Point}
 use Rattle.lvl_grid.specs.declared.point.Square.{Square}
 use Rattle.lvl_grid.specs.declared.map.Map.{Map}
-use Rattle.lvl_grid.specs.Turn.{image_square, FitsPoint}
-use Rattle.lvl_grid.specs.Winding.{Covers}
+use Rattle.lvl_grid.specs.Turn.{image_square}
 use Rattle.lvl_cells.specs.declared.layer.Layer.{Layer}
 use Rattle.lvl_cells.specs.Cells.{PlainCell, PlainReference, PlainShape, Rings, each_ring, cell_named}
-use Rattle.lvl_cells.specs.Chains.{Chain, IsComposed, IsInRange, over_chains, own_rings_on, placed_rings_on}
+use Rattle.lvl_cells.specs.Chains.{Chain, over_chains, own_rings_on}
 use Rattle.lvl_cells.specs.Checks.{Settled}
 use Rattle.lvl_cells.specs.Coverage.{RingsCover, ShapeCovers, CellCovers}
 use Rattle.lvl_cells.specs.Soundness.{AreLinked, IsOrder}
 use Rattle.lvl_cells.proofs.Summing.{count_step}
 use Rattle.lvl_flat.specs.declared.visit.Visit.{Visit}
-use Rattle.lvl_flat.specs.Drawn.{placed_ring, placed_figure, placed_shape, drawn_on, IsPlaced, AreFiguresPlaced}
+use Rattle.lvl_flat.specs.Drawn.{placed_ring, placed_figure, placed_shape, drawn_on}
 use Rattle.lvl_flat.specs.Sheet.{PlainSheet}
-use Rattle.lvl_flat.specs.Sheets.{AreSorted, HaveSheets, same_layer, rings_on}
-use Rattle.lvl_flat.specs.Visits.{Pick, picks, picks_from, pending, pick_weight, visit_weight, PickCovers, VisitCovers, FitsUnder, PicksFit, IsVisit}
-use Rattle.lvl_flat.specs.Walking.{AllHaveSheets, IsWalking, references_left, toil, work}
+use Rattle.lvl_flat.specs.Sheets.{same_layer}
+use Rattle.lvl_flat.specs.Visits.{Pick, picks, pending, pick_weight, visit_weight, PickCovers, VisitCovers, PicksFit, IsVisit}
+use Rattle.lvl_flat.specs.Walking.{IsWalking}
 use Rattle.lvl_flat.specs.Steps.{IsPast, IsInto}
-use Rattle.lvl_flat.specs.Entering.{begun, IsDrawn}
-use Rattle.lvl_flat.proofs.Picks.{contained, Any-none, Any-first, Any-later, Any-cases, Any-left, Any-right, Any-sides, picks_from_start, picks_sum}
-use Rattle.lvl_flat.proofs.Ranging.{chain_more, fits_alike, fits_under}
-use Rattle.lvl_flat.proofs.Covering.{Under, under_either, under_same, drawn_covers, cell_covers, pick_covers}
-use Rattle.lvl_flat.proofs.Drawing.{sorted_alike}
+use Rattle.lvl_flat.specs.Entering.{begun}
+use Rattle.lvl_flat.proofs.Picks.{Any-none, Any-first, Any-later, Any-cases, Any-left, Any-right, Any-sides, picks_from_start, picks_sum}
+use Rattle.lvl_flat.proofs.Covering.{Under, under_either, under_same, cell_covers, pick_covers}
 use Rattle.lvl_flat.proofs.Stepping.{pending_at}
 
 -- so many rings are drawn as the cell has of its own
@@ -38,7 +35,7 @@ figure_length m rings [] = sym (mul-zero (length rings))
 figure_length m rings (e ∷ shifts) =
     length-append (placed_figure m rings e) (flat_map (placed_figure m rings) shifts)
     ∙ (ap (λ n. length (placed_figure m rings e) + n) (figure_length m rings shifts)
-      ∙ (ap (λ n. n + length rings * length shifts) (length-map rings (placed_ring m e)) ∙ (add_comm (length rings) (length rings * length shifts) ∙ sym (mul-suc (length rings) (length shifts)))))
+    ∙ (ap (λ n. n + length rings * length shifts) (length-map rings (placed_ring m e)) ∙ (add_comm (length rings) (length rings * length shifts) ∙ sym (mul-suc (length rings) (length shifts)))))
 
 pub drawn_length : (layer : Layer) (m : Map) (shapes : List (PlainShape Rings)) → length (drawn_on layer m shapes) ≡ sum_by (λ h. cond (same_layer h.layer layer) (length h.figure * length h.shifts) 0) shapes
 drawn_length layer m [] = refl
@@ -70,8 +67,7 @@ pub visit_begun : (cells : List (PlainCell Rings)) (layer : Layer) (i : ℕ) (m 
 visit_begun cells layer i m q c at =
     let all : pending cells (begun i m) ≡ picks c.references = pending_at cells (begun i m) c at ∙ picks_from_start c.references in
     let step = under_same m q (CellCovers RingsCover cells layer c) (λ t. Any (ShapeCovers RingsCover layer t) c.shapes ⊎ Any (PickCovers cells layer t) (picks c.references)) (cell_covers cells layer c) in
-    let split = under_either m q (λ t. Any (ShapeCovers RingsCover layer t) c.shapes) (λ t. Any (PickCovers cells layer t) (picks c.references)) in
-    (
+    let split = under_either m q (λ t. Any (ShapeCovers RingsCover layer t) c.shapes) (λ t. Any (PickCovers cells layer t) (picks c.references)) in (
       λ u. elim (split.0 (step.0 u)) [ inl a ↦ inl a | inr b ↦ inr (b.0, b.1, subst (Any (PickCovers cells layer b.0)) (sym all) b.2) ],
       λ e. step.1 (split.1 (elim e [ inl a ↦ inl a | inr b ↦ inr (b.0, b.1, subst (Any (PickCovers cells layer b.0)) all b.2) ])),
     )

@@ -1,5 +1,5 @@
 -- A cell that is entered: its shapes are drawn, and a visit is put on the stack.
-use Rattle.std.specs.Prelude.{◌≡◌, ◌++◌, ◌∷◌, [], ⊤, ℕ, List, map, slice_get, Some}
+use Rattle.std.specs.Prelude.{◌≡◌, ◌++◌, ⊤, ℕ, List, map, slice_get, Some}
 use Rattle.lvl_grid.specs.declared.map.Map.{Map}
 use Rattle.lvl_cells.specs.declared.layer.Layer.{Layer}
 use Rattle.lvl_cells.specs.Cells.{PlainCell, Rings}

@@ -1,5 +1,4 @@
 -- The rings of one Layer.
-use Rattle.std.specs.Prelude.{List}
 use Rattle.lvl_cells.specs.declared.layer.Layer.{Layer}
 use Rattle.lvl_cells.specs.Cells.{Rings}
 

@@ -1,5 +1,5 @@
 -- The steps of the walk.
-use Rattle.std.specs.Prelude.{◌≡◌, ◌<◌, ◌+◌, ℕ, List, ◌∷◌, [], Contains, slice_get, Some}
+use Rattle.std.specs.Prelude.{◌≡◌, ◌<◌, ℕ, List, ◌∷◌, [], Contains, slice_get, Some}
 use Rattle.lvl_grid.specs.declared.point.Point.{Point}
 use Rattle.lvl_grid.specs.declared.map.Map.{Map}
 use Rattle.lvl_grid.specs.Turn.{image, FitsPoint}

@@ -1,10 +1,10 @@
 -- Visits: placed cells, with the references and places that are still to come.
-use Rattle.std.specs.Prelude.{◌≡◌, ℕ, List, [], ◌∷◌, ◌++◌, map, flat_map, drop, length, sum_by, slice_get, Some, Any, All, Contains, IsSomeAnd}
+use Rattle.std.specs.Prelude.{◌≡◌, ℕ, List, [], ◌∷◌, ◌++◌, map, flat_map, drop, length, sum_by, slice_get, Some, Any, Contains, IsSomeAnd}
 use Rattle.std.specs.Option.{option_map_or}
 use Rattle.lvl_grid.specs.declared.point.Point.{Point}
 use Rattle.lvl_grid.specs.declared.point.Square.{Square}
 use Rattle.lvl_grid.specs.declared.map.Map.{Map}
-use Rattle.lvl_grid.specs.Turn.{image, image_square, shifted, FitsPoint}
+use Rattle.lvl_grid.specs.Turn.{image_square}
 use Rattle.lvl_cells.specs.declared.layer.Layer.{Layer}
 use Rattle.lvl_cells.specs.Cells.{PlainCell, PlainReference, Rings, each_ring, placing, cell_named}
 use Rattle.lvl_cells.specs.Chains.{Chain, IsComposed, IsInRange, over_chains}

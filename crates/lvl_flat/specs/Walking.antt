@@ -1,5 +1,5 @@
 -- The state of the walk: what is drawn, and the visits that are still to be gone on with.
-use Rattle.std.specs.Prelude.{◌≡◌, ◌+◌, ◌-◌, ◌↔◌, ◌⊎◌, ℕ, List, [], length, sum_by, slice_get, Some, Any, All, Contains}
+use Rattle.std.specs.Prelude.{◌≡◌, ◌+◌, ◌-◌, ◌↔◌, ◌⊎◌, ℕ, List, length, sum_by, slice_get, Some, Any, Contains}
 use Rattle.std.specs.Option.{option_map_or}
 use Rattle.lvl_grid.specs.declared.point.Square.{Square}
 use Rattle.lvl_cells.specs.declared.layer.Layer.{Layer}

@@ -69,5 +69,8 @@ pub fn flatten(alloc: Global, checked: &Checked) -> Result<Flat, FlatFault>
     while let Some(visit) = stack.pop() {
         advance(alloc, checked, &mut sheets, &mut stack, visit)?;
     }
-    Ok(Flat::filled(sheets))
+    let Ok(flat) = Flat::filled(alloc, sheets) else {
+        return Err(FlatFault::OutOfMemory);
+    };
+    Ok(flat)
 }

@@ -1,9 +1,10 @@
 //! The rings of each Layer, in the order of the Layers.
-ghost use Rattle.std.specs.Prelude.{◌≡◌, ◌≢◌, ◌↔◌, filter, map, slice_get, All, IsTrue, IfSome, IfNone};
+ghost use Rattle.std.specs.Prelude.{◌≡◌, ◌≢◌, ◌↔◌, filter, map, slice_get, All, IsTrue, IfOk, IfSome, IfNone};
 ghost use Rattle.lvl_flat.specs.Sheets.{rings_on, is_filled, IsInOrder, ComesBefore, AreSorted, SheetAt};
 
 use lvl_cells::Layer;
 use lvl_grid::Ring;
+use std::alloc::{AllocError, Global};
 use std::marker::Model;
 
 /// The rings of one Layer.
@@ -41,12 +42,17 @@ impl Model for Flat {
 
 impl Flat {
     /// The sheets that have rings.
-    pub(crate) fn filled(mut sheets: Vec<Sheet>) -> Flat
+    pub(crate) fn filled(alloc: Global, sheets: Vec<Sheet>) -> Result<Flat, AllocError>
         requires { AreSorted sheets.items }
-        ensures { result ≡ filter is_filled sheets.items }
+        ensures { IfOk result (λ flat. flat ≡ filter is_filled sheets.items) }
     {
-        sheets.retain(|sheet| !sheet.rings.is_empty());
-        Flat { sheets }
+        let mut filled = Vec::new(alloc);
+        for sheet in sheets {
+            if !sheet.rings.is_empty() {
+                filled.push(sheet)?;
+            }
+        }
+        Ok(Flat { sheets: filled })
     }
 
     /// The Layer at the place, in their order; each has a ring at least.
@@ -75,8 +81,7 @@ impl Flat {
 fn comes_before(first: Layer, second: Layer) -> bool
     ensures { IsTrue result ↔ ComesBefore first second }
 {
-    first.layer < second.layer
-        || (first.layer == second.layer && first.datatype < second.datatype)
+    first.layer < second.layer || (first.layer == second.layer && first.datatype < second.datatype)
 }
 
 /// The place of the Layer's sheet.

@@ -9,7 +9,6 @@ pub use advance::flatten;
 pub use fault::FlatFault;
 pub use flat::Flat;
 
-
 mod advance;
 mod draw;
 mod enter;

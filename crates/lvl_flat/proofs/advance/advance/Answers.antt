@@ -1,13 +1,10 @@
-use Rattle.std.proofs.Common.{◌≡◌, ◌<◌, ◌*◌, ◌^◌, ◌++◌, ◌∷◌, [], ℕ, List, length, slice_get, Some, OnOk, IfErr, sym, ap, subst, ◌∙◌, arith, refl}
+use Rattle.std.proofs.Common.{◌≡◌, ◌<◌, ◌*◌, ◌^◌, ◌++◌, ◌∷◌, [], List, length, slice_get, Some, sym, ap, subst, ◌∙◌, arith, refl}
 use Rattle.std.proofs.lemmas.Option.{slice_get_within, slice_get_read}
 use Rattle.std.proofs.lemmas.Result.{err_from_is_err_and}
 use Rattle.lvl_cells.specs.Cells.{PlainCell, Rings}
 use Rattle.lvl_cells.specs.Checks.{Settled}
-use Rattle.lvl_cells.specs.Soundness.{AreLinked, IsOrder}
 use Rattle.lvl_flat.specs.declared.visit.Visit.{Visit}
-use Rattle.lvl_flat.specs.Entering.{begun, IsDrawn, TellsName, IsEnterFault}
-use Rattle.lvl_flat.specs.Flattened.{IsFlatFault, IsOutOfRange}
-use Rattle.lvl_flat.specs.Sheet.{PlainSheet}
+use Rattle.lvl_flat.specs.Entering.{IsDrawn, TellsName, IsEnterFault}
 use Rattle.lvl_flat.specs.Steps.{IsInto, IsOut}
 use Rattle.lvl_flat.specs.Walking.{AllHaveSheets, IsWalking, work}
 use Rattle.lvl_flat.proofs.Walking.{walk_done, walk_past, in_last}

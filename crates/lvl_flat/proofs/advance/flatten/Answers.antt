@@ -1,12 +1,10 @@
-use Rattle.std.proofs.Common.{◌≡◌, ◌++◌, ◌∷◌, [], List, slice_get, Some, IfErr, filter, sym, ap, subst, ◌∙◌, arith, refl}
+use Rattle.std.proofs.Common.{◌≡◌, ◌++◌, ◌∷◌, [], List, sym, ap, subst, ◌∙◌, arith}
 use Rattle.std.proofs.lemmas.Grind.{common_steps}
 use Rattle.std.proofs.lemmas.Result.{err_from_is_err_and}
-use Rattle.lvl_cells.specs.Cells.{PlainCell, Rings}
 use Rattle.lvl_cells.specs.Chains.{unmoved}
 use Rattle.lvl_cells.specs.Checks.{Settled}
-use Rattle.lvl_flat.specs.declared.visit.Visit.{Visit}
 use Rattle.lvl_flat.specs.Entering.{begun, IsDrawn, IsEnterFault}
-use Rattle.lvl_flat.specs.Flattened.{IsFlattened, IsFlatFault}
+use Rattle.lvl_flat.specs.Flattened.{IsFlattened}
 use Rattle.lvl_flat.specs.Sheet.{PlainSheet}
 use Rattle.lvl_flat.specs.Walking.{AllHaveSheets, IsWalking}
 use Rattle.lvl_flat.proofs.Going.{entered_out}
@@ -44,4 +42,4 @@ pub returns-clause-ok : goal.returns-clause-ok
 returns-clause-ok c =
     let s : Settled = c.args.checked.now in
     let none : c.loop-visit.stack.items ≡ [] = grind (arith, common_steps, c.in_default-pop.ensures) in
-    subst (IsFlattened s) (sym c.filled.ensures) (walk_ends s c.loop-visit.sheets.items (subst (IsWalking s c.loop-visit.sheets.items) none c.loop-visit.invariant))
+    subst (IsFlattened s) (sym c.in-Ok-filled.ensures) (walk_ends s c.loop-visit.sheets.items (subst (IsWalking s c.loop-visit.sheets.items) none c.loop-visit.invariant))

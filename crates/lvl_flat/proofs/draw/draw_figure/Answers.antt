@@ -1,10 +1,10 @@
-use Rattle.std.proofs.Common.{◌≡◌, ◌<◌, ◌≤◌, ◌++◌, ◌∷◌, [], ℕ, List, All, take, length, get_or, map, refl, sym, ap, subst, ◌∙◌, arith, append_assoc, ◌↔◌}
+use Rattle.std.proofs.Common.{◌≡◌, ◌<◌, ◌++◌, ◌∷◌, [], ℕ, List, All, take, length, get_or, map, sym, ap, subst, ◌∙◌, append_assoc, ◌↔◌}
 use Rattle.std.proofs.lemmas.List.{map_more, take_all}
 use Rattle.std.proofs.lemmas.List.Elements.{All-more}
 use Rattle.lvl_grid.specs.declared.point.Point.{Point}
 use Rattle.lvl_grid.specs.Winding.{Covers}
 use Rattle.lvl_grid.specs.Placed.{IsPlaceOfCovered}
-use Rattle.lvl_flat.specs.Drawn.{placed_figure, placed_ring, IsPlaced}
+use Rattle.lvl_flat.specs.Drawn.{placed_ring, IsPlaced}
 use Rattle.lvl_flat.proofs.draw.draw_figure.Goals as goal
 
 pub loop-ring-preserved : goal.loop-ring-preserved
@@ -17,12 +17,12 @@ loop-ring-preserved c =
     let one : c.in_ok-placed.placed ≡ f (get_or xs i ring) = c.in_ok-placed.ensures.points ∙ ap f c.ring-item.is in
     record {
       drawn =
-      c.in-Ok.ensures.items
-      ∙ (ap (λ rings. rings ++ c.in_ok-placed.placed ∷ []) c.loop-ring.invariant.drawn
-        ∙ (append_assoc c.args.rings.now.items (map f (take i xs)) (c.in_ok-placed.placed ∷ [])
+          c.in-Ok.ensures.items
+          ∙ (ap (λ rings. rings ++ c.in_ok-placed.placed ∷ []) c.loop-ring.invariant.drawn
+          ∙ (append_assoc c.args.rings.now.items (map f (take i xs)) (c.in_ok-placed.placed ∷ [])
           ∙ ap (λ rings. c.args.rings.now.items ++ rings) (ap (λ p. map f (take i xs) ++ p ∷ []) one ∙ sym (map_more f xs i ring there))));
       placed = All-more (IsPlaced c.args.map.now c.args.shift) xs i ring there c.loop-ring.invariant.placed
-      (subst (IsPlaced c.args.map.now c.args.shift) c.ring-item.is (record { fits = c.in_ok-placed.ensures.in_range; covers = λ t. subst (λ (ps : List Point). Covers ps t ↔ IsPlaceOfCovered c.args.map.now c.args.shift ring t) c.in_ok-placed.ensures.points (c.in_ok-placed.ensures.covers t) }));
+          (subst (IsPlaced c.args.map.now c.args.shift) c.ring-item.is (record { fits = c.in_ok-placed.ensures.in_range; covers = λ t. subst (λ (ps : List Point). Covers ps t ↔ IsPlaceOfCovered c.args.map.now c.args.shift ring t) c.in_ok-placed.ensures.points (c.in_ok-placed.ensures.covers t) }));
     }
 
 pub returns-clause-placed : goal.returns-clause-placed

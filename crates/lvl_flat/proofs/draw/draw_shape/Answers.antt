@@ -1,11 +1,11 @@
-use Rattle.std.proofs.Common.{◌≡◌, ◌<◌, ◌≤◌, ◌++◌, ◌∷◌, [], ℕ, List, All, take, length, get_or, refl, sym, ap, subst, ◌∙◌, arith, slice_get, Some, ◌+◌}
+use Rattle.std.proofs.Common.{◌≡◌, ◌<◌, ◌≤◌, ◌++◌, ◌∷◌, [], ℕ, List, All, take, length, get_or, sym, ap, subst, ◌∙◌, arith, slice_get, Some, ◌+◌}
 use Rattle.std.specs.List.{flat_map}
 use Rattle.std.proofs.lemmas.List.{flat_map_more, take_more, take_all}
 use Rattle.std.proofs.lemmas.List.Elements.{All-more}
 use Rattle.std.proofs.lemmas.Option.{slice_get_within, get_or_from_slice_get}
 use Rattle.lvl_grid.specs.declared.point.Point.{Point}
 use Rattle.lvl_cells.specs.Cells.{PlainShape, Rings}
-use Rattle.lvl_flat.specs.Drawn.{placed_figure, placed_shape, IsPlaced}
+use Rattle.lvl_flat.specs.Drawn.{placed_figure, IsPlaced}
 use Rattle.lvl_flat.proofs.draw.draw_shape.Goals as goal
 
 pub loop-k-preserved : goal.loop-k-preserved
@@ -23,11 +23,11 @@ loop-k-preserved c =
     let rings : c.deref.result.now ≡ figure = c.deref.ensures.value ∙ ap (λ (h : PlainShape Rings). h.figure) c.shape.view_is in
     record {
       drawn =
-      c.in_ok-draw_figure.ensures.drawn
-      ∙ (ap (λ xs. c.loop-k.rings.items ++ placed_figure c.args.map.now xs e) rings
-        ∙ (ap (λ xs. xs ++ f e) c.loop-k.invariant.drawn ∙ (flat_map_more f old (take k shifts) e ∙ ap (λ es. old ++ flat_map f es) (sym more))));
+          c.in_ok-draw_figure.ensures.drawn
+          ∙ (ap (λ xs. c.loop-k.rings.items ++ placed_figure c.args.map.now xs e) rings
+          ∙ (ap (λ xs. xs ++ f e) c.loop-k.invariant.drawn ∙ (flat_map_more f old (take k shifts) e ∙ ap (λ es. old ++ flat_map f es) (sym more))));
       placed = All-more (λ p. All (IsPlaced c.args.map.now p) figure) shifts k e there c.loop-k.invariant.placed
-      (subst (λ (p : Point). All (IsPlaced c.args.map.now p) figure) (sym is) (subst (All (IsPlaced c.args.map.now e)) rings c.in_ok-draw_figure.ensures.placed));
+          (subst (λ (p : Point). All (IsPlaced c.args.map.now p) figure) (sym is) (subst (All (IsPlaced c.args.map.now e)) rings c.in_ok-draw_figure.ensures.placed));
     }
 
 pub returns-clause-placed : goal.returns-clause-placed

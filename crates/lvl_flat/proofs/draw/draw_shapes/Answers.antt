@@ -1,12 +1,12 @@
-use Rattle.std.proofs.Common.{◌≡◌, ◌≢◌, ◌<◌, ◌≤◌, ◌++◌, ◌+◌, ℕ, List, All, Contains, take, length, get_or, map, refl, sym, ap, subst, ◌∙◌, arith, slice_get, Some}
+use Rattle.std.proofs.Common.{◌≡◌, ◌≢◌, ◌++◌, List, All, Contains, map, sym, ap, subst, ◌∙◌, arith, slice_get, Some}
 use Rattle.std.proofs.lemmas.List.{take_all}
 use Rattle.std.proofs.lemmas.List.Elements.{All-more}
 use Rattle.std.proofs.lemmas.Option.{slice_get_within, get_or_from_slice_get}
 use Rattle.lvl_cells.specs.declared.layer.Layer.{Layer}
 use Rattle.lvl_cells.specs.Cells.{PlainShape, Rings}
-use Rattle.lvl_flat.specs.Drawn.{placed_shape, drawn_on, IsPlaced, AreFiguresPlaced}
+use Rattle.lvl_flat.specs.Drawn.{placed_shape, IsPlaced, AreFiguresPlaced}
 use Rattle.lvl_flat.specs.Sheet.{PlainSheet}
-use Rattle.lvl_flat.specs.Sheets.{AreSorted, rings_on}
+use Rattle.lvl_flat.specs.Sheets.{AreSorted}
 use Rattle.lvl_flat.proofs.Drawing.{layer_of, sorted_alike, not_theirs, layers-set, drawn_next}
 use Rattle.lvl_flat.proofs.draw.draw_shapes.Goals as goal
 
@@ -44,7 +44,7 @@ loop-shape-preserved c =
     record {
       drawn = drawn_next c.args.sheets.now.items items c.args.map.now c.args.shapes.now c.loop-shape.shape-index h c.in-Some.place s (of c.sheet.inside.layer c.draw_shape.new.rings.items) sorted there same new c.loop-shape-test.true c.shape-item.is kept.drawn;
       placed = All-more (λ (g : PlainShape Rings). All (λ e. All (IsPlaced c.args.map.now e) g.figure) g.shifts) c.args.shapes.now c.loop-shape.shape-index h c.loop-shape-test.true kept.placed
-      (subst (λ (g : PlainShape Rings). All (λ e. All (IsPlaced c.args.map.now e) g.figure) g.shifts) c.shape-item.is c.in_ok-draw_shape.ensures.placed);
+          (subst (λ (g : PlainShape Rings). All (λ e. All (IsPlaced c.args.map.now e) g.figure) g.shifts) c.shape-item.is c.in_ok-draw_shape.ensures.placed);
       layers = layers-set items c.in-Some.place s (of c.sheet.inside.layer c.draw_shape.new.rings.items) there layer ∙ kept.layers;
     }
 

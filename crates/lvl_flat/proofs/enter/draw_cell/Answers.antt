@@ -1,12 +1,12 @@
-use Rattle.std.proofs.Common.{◌≡◌, ◌<◌, List, length, slice_get, Some, Err, sym, ap, subst, ◌∙◌, refl}
+use Rattle.std.proofs.Common.{◌≡◌, List, length, slice_get, Some, Err, sym, ap, subst, ◌∙◌, refl}
 use Rattle.std.proofs.lemmas.Option.{slice_get_read}
 use Rattle.lvl_cells.specs.declared.layer.Layer.{Layer}
-use Rattle.lvl_cells.specs.Cells.{PlainCell, PlainShape, Rings}
+use Rattle.lvl_cells.specs.Cells.{PlainCell, Rings}
 use Rattle.lvl_flat.specs.declared.fault.FlatFault.{FlatFault}
 use Rattle.lvl_flat.specs.declared.fault.FlatFault.TheVariants.{OutOfRange, OutOfMemory}
 use Rattle.lvl_flat.specs.Drawn.{drawn_on, AreFiguresPlaced, FitShapes}
 use Rattle.lvl_flat.specs.Sheets.{HaveSheets, rings_on}
-use Rattle.lvl_flat.specs.Entering.{TellsName, IsEnterFault, IsCellOut}
+use Rattle.lvl_flat.specs.Entering.{TellsName, IsEnterFault}
 use Rattle.lvl_grid.specs.declared.map.Map.{Map}
 use Rattle.std.specs.Prelude.{ℕ, ◌++◌}
 use Rattle.lvl_flat.proofs.enter.draw_cell.Goals as goal

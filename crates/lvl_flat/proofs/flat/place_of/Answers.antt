@@ -1,8 +1,8 @@
-use Rattle.std.proofs.Common.{◌≡◌, ◌<◌, ◌≤◌, ◌+◌, ◌-◌, ◌/◌, ℕ, List, length, slice_get, Some, refl, sym, ap, subst, ◌∙◌, arith, false, true, IsTrue}
+use Rattle.std.proofs.Common.{◌≡◌, ◌<◌, ◌≤◌, ◌+◌, ◌-◌, ◌/◌, ℕ, length, slice_get, Some, refl, sym, ap, subst, ◌∙◌, arith, false, IsTrue}
 use Rattle.std.proofs.lemmas.Option.{slice_get_read, slice_get_past}
 use Rattle.lvl_cells.specs.declared.layer.Layer.{Layer}
 use Rattle.lvl_flat.specs.Sheet.{PlainSheet}
-use Rattle.lvl_flat.specs.Sheets.{ComesBefore, SheetAt}
+use Rattle.lvl_flat.specs.Sheets.{ComesBefore}
 use Rattle.lvl_flat.proofs.Orders.{up_to, from_on, nowhere, other_layer, tested_layer}
 use Rattle.lvl_flat.proofs.flat.place_of.Goals as goal
 
@@ -31,7 +31,7 @@ loop-low-preserved c =
     let at : slice_get c.args.sheets.now m ≡ Some sheet = slice_get_read c.args.sheets.now (length c.args.sheets.now) m sheet refl (omega (arith, inside, kept.within)) c.index-sheets-middle.is in
     let layer : c.sheet.inside.layer ≡ sheet.layer = ap (λ (s : PlainSheet). s.layer) c.sheet.view_is in
     let late : ComesBefore sheet.layer c.args.layer → ⊥ = λ b.
-        let told : IsTrue false = subst IsTrue c.if-comes_before.false (c.comes_before.ensures.1 (subst (λ (x : Layer). ComesBefore x c.args.layer) (sym layer) b)) in cc in
+    let told : IsTrue false = subst IsTrue c.if-comes_before.false (c.comes_before.ensures.1 (subst (λ (x : Layer). ComesBefore x c.args.layer) (sym layer) b)) in cc in
     record {
       order = omega arith;
       within = omega (arith, inside, kept.within);
@@ -54,9 +54,9 @@ returns-then-ne-clause-absent c =
     let at : slice_get c.args.sheets.now c.loop-low.low ≡ Some sheet = slice_get_read c.args.sheets.now (length c.args.sheets.now) c.loop-low.low sheet refl c.in_ok-sheet.ensures.lookup.3.0 c.in_ok-sheet.ensures.lookup.1 in
     let layer : c.sheet-2.inside.layer ≡ sheet.layer = ap (λ (s : PlainSheet). s.layer) c.sheet-2.view_is in
     let other : (s : PlainSheet) → slice_get c.args.sheets.now c.loop-low.low ≡ Some s → s.layer ≡ c.args.layer → ⊥ = λ s there e.
-        let one : Some s ≡ Some sheet = sym there ∙ at in
-        let here : s ≡ sheet = cc in
-        other_layer c.sheet-2.inside.layer c.args.layer (sym c.ne.ensures ∙ c.if-ne.true) (layer ∙ (ap (λ (u : PlainSheet). u.layer) (sym here) ∙ e)) in
+    let one : Some s ≡ Some sheet = sym there ∙ at in
+    let here : s ≡ sheet = cc in
+    other_layer c.sheet-2.inside.layer c.args.layer (sym c.ne.ensures ∙ c.if-ne.true) (layer ∙ (ap (λ (u : PlainSheet). u.layer) (sym here) ∙ e)) in
     nowhere c.args.sheets.now c.args.layer c.loop-low.low c.requires kept.below (λ k s le. kept.above k s (omega (arith, le, c.loop-low-test.false))) other
 
 pub returns-clause-found : goal.returns-clause-found

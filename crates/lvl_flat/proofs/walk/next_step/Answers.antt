@@ -1,7 +1,7 @@
-use Rattle.std.proofs.Common.{◌≡◌, ◌<◌, ◌≤◌, ℕ, List, length, slice_get, Some, None, true, sym, ap, subst, ◌∙◌, arith, refl}
+use Rattle.std.proofs.Common.{◌≡◌, List, length, slice_get, Some, sym, ap, subst, ◌∙◌, arith, refl}
 use Rattle.std.proofs.lemmas.Option.{slice_get_read}
 use Rattle.lvl_grid.specs.declared.map.Map.{Map}
-use Rattle.lvl_grid.specs.Turn.{image, FitsPoint}
+use Rattle.lvl_grid.specs.Turn.{FitsPoint}
 use Rattle.lvl_cells.specs.Cells.{PlainCell, PlainReference, Rings}
 use Rattle.lvl_flat.proofs.Ranging.{composed_at}
 use Rattle.lvl_flat.proofs.Stepping.{step_done, step_past, step_into, step_out}

@@ -1,11 +1,10 @@
-use Rattle.std.proofs.Common.{◌≡◌, ◌+ℤ◌, List, All, slice_get, Some, get_or, sym, ap, subst, ◌∙◌, arith, Bool, to_z, of_z, w64, rules, FitsSigned}
+use Rattle.std.proofs.Common.{◌≡◌, ◌+ℤ◌, slice_get, Some, get_or, sym, ap, subst, ◌∙◌, arith, Bool, to_z, of_z, w64, rules, FitsSigned}
 use Rattle.std.proofs.lemmas.Int.{ints}
 use Rattle.std.proofs.lemmas.Option.{slice_get_within, get_or_from_slice_get}
 use Rattle.lvl_grid.specs.declared.point.Point.{Point}
 use Rattle.lvl_grid.specs.declared.map.Map.{Map}
 use Rattle.lvl_grid.specs.declared.map.Turn.{Turn}
 use Rattle.lvl_grid.specs.Turn.{shifted, FitsPoint}
-use Rattle.lvl_cells.specs.Cells.{placing}
 use Rattle.lvl_grid.proofs.Composing.{same_point}
 use Rattle.lvl_flat.proofs.walk.placing_at.Goals as goal
 
@@ -27,7 +26,7 @@ returns-clause-some c =
       shift = e;
       there = there;
       map_is =
-      ap (λ f. of f c.turn.result here) c.flip.ensures
-      ∙ (ap (λ t. of c.args.reference.now.flip t here) c.turn.ensures
-        ∙ ap (of c.args.reference.now.flip c.args.reference.now.turn) (same_point here (shifted c.at-at.result e) (omega (arith, ints, ax, ex, near.x_fits)) (omega (arith, ints, ay, ey, near.y_fits)) ∙ ap (λ d. shifted d e) c.at-at.ensures));
+          ap (λ f. of f c.turn.result here) c.flip.ensures
+          ∙ (ap (λ t. of c.args.reference.now.flip t here) c.turn.ensures
+          ∙ ap (of c.args.reference.now.flip c.args.reference.now.turn) (same_point here (shifted c.at-at.result e) (omega (arith, ints, ax, ex, near.x_fits)) (omega (arith, ints, ay, ey, near.y_fits)) ∙ ap (λ d. shifted d e) c.at-at.ensures));
     }

@@ -1,0 +1,88 @@
+-- The sheets of all Layers: sorted Layers with no Layer twice.
+use Rattle.std.proofs.Common.{◌≡◌, ◌<◌, ◌⊎◌, ◌==◌, ℕ, zero, suc, Bool, true, false, cond, Ordering, Less, Equal, Greater, List, [], ◌∷◌, length, get_or, map, AllPairs, Contains, IsPermutation, nat_cmp, nat_lt, not, inl, inr, refl, sym, ap, subst, arith}
+use Rattle.std.specs.Ordering.{ordering_then, eq_by_cmp, on, then_cmp}
+use Rattle.std.specs.Cmp.{IsTotalOrder, IsEquivalence, then_total, on_total, nat_cmp_total, unsigned_ties, both_tied, and_equiv, on_equiv, nat_eq_equiv}
+use Rattle.std.specs.List.{dedup, flat_map}
+use Rattle.std.specs.List.Sorted.{IsSorted, IsStrictlySortedBy}
+use Rattle.std.proofs.lemmas.Bool.{ltb-true, eqb-true}
+use Rattle.std.proofs.lemmas.List.{get_or-map}
+use Rattle.std.proofs.Math.ListN.{length-map}
+use Rattle.std.proofs.lemmas.List.Elements.{All-weaker, All-from_recursion, Contains-append_left, Contains-append_right}
+use Rattle.std.proofs.lemmas.List.Sorted.{Contains-permutation}
+use Rattle.std.proofs.lemmas.List.Kept.{AllPairs-cons, Contains-dedup, IsStrictlySortedBy-dedup}
+use Rattle.std.proofs.lemmas.Option.{slice_get_within, get_or_from_slice_get}
+use Rattle.lvl_cells.specs.declared.layer.Layer.{Layer}
+use Rattle.lvl_cells.specs.Cells.{PlainCell, PlainShape, Rings}
+use Rattle.lvl_flat.specs.Sheet.{PlainSheet}
+use Rattle.lvl_flat.specs.Sheets.{ComesBefore, AreSorted, same_layer}
+use Rattle.lvl_flat.proofs.Orders.{tested_layer}
+use Rattle.lvl_flat.specs.Walking.{AllHaveSheets}
+
+-- Layers are compared by the layer, then by the datatype
+abbrev pub layer_cmp : Layer → Layer → Ordering
+layer_cmp = then_cmp (on (λ (l : Layer). l.layer) nat_cmp) (on (λ (l : Layer). l.datatype) nat_cmp)
+
+layer_total : IsTotalOrder layer_cmp
+layer_total = then_total (on_total (λ (l : Layer). l.layer) nat_cmp_total) (on_total (λ (l : Layer). l.datatype) nat_cmp_total)
+
+layer_ties : (a b : Layer) → same_layer a b ≡ eq_by_cmp layer_cmp a b
+layer_ties a b = both_tied _ _ _ _ (unsigned_ties a.layer b.layer) (unsigned_ties a.datatype b.datatype)
+
+first_less : (x y : ℕ) (a b : Bool) (o : Ordering) → nat_lt x y ≡ a → (x == y) ≡ b → ordering_then (cond a Less (cond b Equal Greater)) o ≡ Less → (x < y) ⊎ ((x ≡ y) × (o ≡ Less))
+first_less x y true b o p q h = inl (ltb-true x y p)
+first_less x y false true o p q h = inr (eqb-true x y q, h)
+first_less x y false false o p q h = cc
+
+is_less : (x y : ℕ) (a b : Bool) → nat_lt x y ≡ a → cond a Less (cond b Equal Greater) ≡ Less → x < y
+is_less x y true b p h = ltb-true x y p
+is_less x y false true p h = cc
+is_less x y false false p h = cc
+
+less_before : (a b : Layer) → layer_cmp a b ≡ Less → ComesBefore a b
+less_before a b h =
+    elim (first_less a.layer b.layer _ _ _ refl refl h) [
+      | inl lt ↦ inl lt
+      | inr e ↦ inr (e.0, is_less a.datatype b.datatype _ _ refl e.1)
+    ]
+
+pairs_from : (xs : List Layer) → IsStrictlySortedBy layer_cmp xs → AllPairs ComesBefore xs
+unfolding IsStrictlySortedBy
+pairs_from [] h = λ i j d lt in'. absurd (omega arith)
+pairs_from (x ∷ xs) h = AllPairs-cons ComesBefore x xs (All-weaker (λ y. layer_cmp x y ≡ Less) (ComesBefore x) (less_before x) xs (All-from_recursion (λ y. layer_cmp x y ≡ Less) xs h.0)) (pairs_from xs h.1)
+
+sheets_sorted : (ss : List PlainSheet) → AllPairs ComesBefore (map (λ s. s.layer) ss) → AreSorted ss
+sheets_sorted ss pairs i j d lt in' =
+    let at : (k : ℕ) → k < length ss → get_or (map (λ s. s.layer) ss) k d.layer ≡ (get_or ss k d).layer = λ k inside. get_or-map (λ (s : PlainSheet). s.layer) ss k d d.layer inside in
+    let both = pairs i j d.layer lt (rw length-map in') in
+    subst (λ (l : Layer). ComesBefore l (get_or ss j d).layer) (at i (omega arith)) (subst (λ (l : Layer). ComesBefore (get_or (map (λ s. s.layer) ss) i d.layer) l) (at j in') both)
+
+-- an empty sheet for each of the Layers stands in their order
+pub sheets_rise : (xs : List Layer) (ss : List PlainSheet) → IsSorted layer_cmp xs → map (λ s. s.layer) ss ≡ dedup same_layer xs → AreSorted ss
+sheets_rise xs ss h e =
+    let rising : IsStrictlySortedBy layer_cmp (dedup same_layer xs) = IsStrictlySortedBy-dedup layer_total {E = same_layer} layer_ties xs h in
+    sheets_sorted ss (subst (AllPairs ComesBefore) (sym e) (pairs_from (dedup same_layer xs) rising))
+
+contains_flat : {A B : Type 0} (f : A → List B) (xs : List A) (k : ℕ) (d : A) (b : B) → k < length xs → Contains (f (get_or xs k d)) b → Contains (flat_map f xs) b
+contains_flat f [] k d b lt h = absurd (omega arith)
+contains_flat f (x ∷ xs) zero d b lt h = Contains-append_left (f x) (flat_map f xs) b h
+contains_flat f (x ∷ xs) (suc k) d b lt h = Contains-append_right (f x) (flat_map f xs) b (contains_flat f xs k d b (omega arith) h)
+
+contains_map : {A B : Type 0} (f : A → B) (as' : List A) (k : ℕ) (d : A) → k < length as' → Contains (map f as') (f (get_or as' k d))
+contains_map f as' k d lt = (k, rw length-map lt, get_or-map f as' k d (f (get_or as' k d)) lt)
+
+same_is : (a b : Layer) → same_layer a b ≡ true → a ≡ b
+same_is a b h = tested_layer a b (ap not h)
+
+layer_equiv : IsEquivalence same_layer
+layer_equiv = and_equiv (on_equiv (λ (l : Layer). l.layer) nat_eq_equiv) (on_equiv (λ (l : Layer). l.datatype) nat_eq_equiv)
+
+-- each shape's Layer has its sheet
+pub sheets_there : (cells : List (PlainCell Rings)) (layers sorted : List Layer) (ss : List PlainSheet) → layers ≡ flat_map (λ (c : PlainCell Rings). map (λ h. h.layer) c.shapes) cells → IsPermutation layers sorted
+    → map (λ s. s.layer) ss ≡ dedup same_layer sorted → AllHaveSheets ss cells
+sheets_there cells layers sorted ss all moved e k c at i d lt =
+    let f : PlainCell Rings → List Layer = λ c. map (λ h. h.layer) c.shapes in
+    let layer : Layer = (get_or c.shapes i d).layer in
+    let here : get_or cells k c ≡ c = get_or_from_slice_get cells k c c at in
+    let own : Contains (f (get_or cells k c)) layer = subst (λ (z : PlainCell Rings). Contains (f z) layer) (sym here) (contains_map (λ (h : PlainShape Rings). h.layer) c.shapes i d lt) in
+    let found : Contains layers layer = subst (λ ls. Contains ls layer) (sym all) (contains_flat f cells k c layer (slice_get_within cells k c at) own) in
+    subst (λ ls. Contains ls layer) (sym e) (Contains-dedup layer_equiv same_is sorted layer (Contains-permutation layers sorted layer moved found))
