@@ -15,5 +15,7 @@ mod enter;
 mod fault;
 mod flat;
 mod layers;
+#[cfg(test)]
+mod tests;
 mod visit;
 mod walk;
