@@ -37,7 +37,7 @@ impl Stream {
     }
 
     fn record(&mut self, kind: u8, data_type: u8, payload: &[u8]) -> Result<(), AllocError> {
-        let len = payload.len().wrapping_add(4) as u16;
+        let len = (payload.len() % 65_532 + 4) as u16;
         self.bytes.extend_from_slice(&len.to_be_bytes())?;
         self.bytes.push(kind)?;
         self.bytes.push(data_type)?;
