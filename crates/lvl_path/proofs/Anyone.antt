@@ -1,5 +1,5 @@
 -- Some element of a list does so: of a list with one more, of a mapped one, and where two facts agree.
-use Rattle.std.proofs.Common.{◌≡◌, ◌<◌, ℕ, List, [], ◌∷◌, ◌++◌, length, map, get_or, refl, ap, sym, subst, ◌∙◌, arith, Any, Contains, ◌↔◌, ◌⊎◌, inl, inr, zero, suc, Bool, true, false, ◌||◌, IsTrue, All}
+use Rattle.std.proofs.Common.{◌<◌, List, [], ◌∷◌, ◌++◌, map, refl, sym, subst, arith, Any, Contains, ◌↔◌, ◌⊎◌, inl, inr, zero, suc, Bool, true, false, ◌||◌, IsTrue, All}
 use Rattle.std.proofs.lemmas.List.Elements.{Contains-append_left, Contains-push, Contains-push_cases}
 
 pub some_contained : {X : Type 0} (P : X → Type 0) (xs : List X) (x : X) → Contains xs x → P x → Any P xs

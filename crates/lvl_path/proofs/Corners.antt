@@ -1,5 +1,5 @@
 -- The runs of a path up to a place, one corner after another.
-use Rattle.std.proofs.Common.{◌≡◌, ◌<◌, ◌≤◌, ◌+◌, ◌-◌, ℕ, Bool, true, false, cond, List, [], ◌∷◌, ◌++◌, length, map, filter, refl, ap, sym, subst, ◌∙◌, arith, zero, suc, add-one, Any, inl, inr}
+use Rattle.std.proofs.Common.{◌≡◌, ◌<◌, ◌+◌, ◌-◌, ℕ, true, false, cond, List, [], ◌∷◌, ◌++◌, length, filter, refl, ap, sym, subst, ◌∙◌, arith, zero, suc, add-one, Any, inl, inr}
 use Rattle.lvl_path.proofs.Anyone.{Any-push}
 use Rattle.std.proofs.lemmas.List.Elements.{filter-append}
 use Rattle.std.specs.List.{range_with_len}
@@ -10,7 +10,7 @@ use Rattle.lvl_path.specs.declared.band.Reach.{Reach}
 use Rattle.lvl_path.specs.declared.fault.PathFault.{PathFault}
 use Rattle.lvl_path.specs.declared.fault.PathFault.TheVariants.{NoWidth, FewPoints, Oblique, RepeatedPoint, TurnsBack, ShortRun, OutOfRange, OutOfMemory}
 use Rattle.lvl_path.specs.Bands.{FitsBand, IsBandFault}
-use Rattle.lvl_path.specs.Runs.{is_corner, run_band, runs, IsBandsFault}
+use Rattle.lvl_path.specs.Runs.{is_corner, run_band, IsBandsFault}
 
 -- the corners before the place k, and the runs that end there
 abbrev pub corners_to : List Point → ℕ → List ℕ

@@ -1,9 +1,9 @@
 -- The ring of a band covers the squares that the band holds.
-use Rattle.std.proofs.Common.{◌≡◌, ◌≢◌, ◌≤ℤ◌, ◌<ℤ◌, ◌+ℤ◌, ◌-ℤ◌, ◌&&◌, not, ℕ, ℤ, pos, Bool, true, false, cond, List, [], ◌∷◌, refl, ap, sym, subst, ◌∙◌, arith, ◌↔◌, IsTrue, int_lt, int_le, Any, if◌then◌else◌, ◌==◌, ◌+◌, length}
+use Rattle.std.proofs.Common.{◌≡◌, ◌≤ℤ◌, ◌<ℤ◌, not, ℕ, ℤ, Bool, true, false, cond, List, refl, arith, ◌↔◌, int_lt, int_le, Any, if◌then◌else◌, ◌==◌, ◌+◌, length}
 use Rattle.std.proofs.lemmas.Int.{ints}
 use Rattle.lvl_grid.specs.declared.point.Point.{Point}
 use Rattle.lvl_grid.specs.declared.point.Square.{Square}
-use Rattle.lvl_grid.specs.Winding.{Covers, winding}
+use Rattle.lvl_grid.specs.Winding.{Covers}
 use Rattle.lvl_path.specs.declared.band.Band.{Band}
 use Rattle.lvl_path.specs.declared.band.Reach.{Reach}
 use Rattle.lvl_path.specs.declared.way.Way.{Way}

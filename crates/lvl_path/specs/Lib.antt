@@ -1,3 +1,4 @@
 pub mod Ways
 pub mod Bands
 pub mod Runs
+pub mod Figure

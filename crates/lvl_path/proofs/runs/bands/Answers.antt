@@ -1,11 +1,10 @@
-use Rattle.std.proofs.Common.{◌≡◌, ◌≤◌, ◌<◌, false, ◌↔◌, List, Any, IsTrue, length, sym, subst, ap, ◌∙◌, arith}
+use Rattle.std.proofs.Common.{false, ◌↔◌, List, Any, IsTrue, sym, subst, arith}
 use Rattle.lvl_grid.specs.declared.point.Point.{Point}
-use Rattle.lvl_grid.specs.declared.point.Square.{Square}
-use Rattle.lvl_grid.specs.Winding.{Covers, IsStraight}
+use Rattle.lvl_grid.specs.Winding.{Covers}
 use Rattle.lvl_path.specs.declared.band.Reach.{Reach}
 use Rattle.lvl_path.specs.declared.fault.PathFault.{PathFault}
 use Rattle.lvl_path.specs.declared.fault.PathFault.TheVariants.{NoWidth, FewPoints, Oblique, RepeatedPoint, TurnsBack, ShortRun, OutOfRange, OutOfMemory}
-use Rattle.lvl_path.specs.Runs.{PathCovers, path_rings, runs, run_length, HasFault, HasNone, IsPath, IsBandsFault, IsLowestFault, SomeStep, TurnsBackSomewhere, lower}
+use Rattle.lvl_path.specs.Runs.{PathCovers, HasFault, HasNone, IsBandsFault, IsLowestFault, lower}
 use Rattle.lvl_path.proofs.Covering.{rings_cover}
 use Rattle.lvl_path.proofs.Outcomes.{IfOk-carried, IfErr-carried}
 use Rattle.lvl_path.proofs.runs.bands.Goals as goal

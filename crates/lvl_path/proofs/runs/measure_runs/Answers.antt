@@ -1,4 +1,4 @@
-use Rattle.std.proofs.Common.{◌≡◌, ◌<◌, ◌+◌, ◌++◌, ◌∷◌, [], length, true, false, IsTrue, ◌↔◌, sym, subst, ap, ◌∙◌, arith, length-append, List, ℕ, Any, ◌||◌}
+use Rattle.std.proofs.Common.{◌≡◌, ◌<◌, ◌+◌, length, true, false, sym, ap, ◌∙◌, arith, length-append}
 use Rattle.lvl_path.specs.Runs.{is_corner, run_length}
 use Rattle.lvl_path.proofs.Corners.{runs_to, at_corner, runs_at_corner, at_no_corner, runs_at_no_corner}
 use Rattle.lvl_path.proofs.Anyone.{either_any}

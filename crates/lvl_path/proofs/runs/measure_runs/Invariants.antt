@@ -1,4 +1,4 @@
-use Rattle.std.proofs.Common.{◌≡◌, ◌<◌, ◌+◌, ◌-◌, ◌≤◌, ◌↔◌, length, IsTrue, Any}
+use Rattle.std.proofs.Common.{◌≡◌, ◌<◌, ◌↔◌, length, IsTrue, Any}
 use Rattle.lvl_path.specs.Runs.{run_length}
 use Rattle.lvl_path.proofs.Corners.{IsAtCorner, runs_to}
 use Rattle.lvl_path.proofs.runs.measure_runs.Given as goal
