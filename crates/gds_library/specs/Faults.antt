@@ -5,7 +5,6 @@ use Rattle.gds_records.specs.Spelled.{IsOfForm}
 use Rattle.lvl_grid.specs.declared.point.Point.{Point}
 use Rattle.lvl_grid.specs.Winding.{IsStraight}
 use Rattle.lvl_cells.specs.declared.layer.Layer.{Layer as LayerOf}
-use Rattle.gds_library.specs.Drawn.{Figure, Drawing}
 use Rattle.gds_library.specs.Types.{bgnstr, strname, boundary, layer, datatype, xy}
 use Rattle.gds_library.specs.Values.{short, points, name, magnitude, but_last}
 use Rattle.gds_library.specs.Front.{cell_limit, IsKnown, IsName, IsClosed, steps}

@@ -5,7 +5,9 @@ use Rattle.gds_records.specs.Spelled.{IsBegun}
 use Rattle.lvl_io.specs.Known.{Agree}
 use Rattle.lvl_grid.specs.Winding.{IsStraight, path_edges, last_or}
 use Rattle.lvl_grid.specs.declared.point.Point.{Point}
-use Rattle.gds_library.specs.Drawn.{Figure, Drawing}
+use Rattle.lvl_path.specs.Figure.{figure_rings}
+use Rattle.lvl_cells.specs.Cells.{kept}
+use Rattle.gds_library.specs.Drawn.{Drawing, KeptCell}
 use Rattle.lvl_cells.specs.declared.library.Library.{Library}
 use Rattle.gds_library.specs.Types.{endlib, bgnstr, strname, boundary, layer, datatype, xy, fill}
 use Rattle.gds_library.specs.Order.{a_library, has, IsWord, Begins}
@@ -69,12 +71,26 @@ pub record SpellsLibrary (bytes : List ℕ) (cells : List Drawing) (h : GdsHead)
   pub cells_are : cells ≡ drawings records
   pub head_is : h ≡ head records
 
--- a byte stands at the offset, the bytes before it are a front, and no front with one record more agrees with the input
+-- what was read is a library that the bytes spell, as it is kept, and its head
+pub record IsRead (xs : List ℕ) (found : List KeptCell) (h : GdsHead) : Type 0 where
+  pub cells : List Drawing
+  pub spelled : SpellsLibrary xs cells h
+  pub kept_as : found ≡ kept figure_rings cells
+
+-- the bytes spell no other library, and no other head
+abbrev pub IsOnly : List ℕ → List KeptCell → GdsHead → Type 0
+IsOnly xs found h = (cells : List Drawing) (g : GdsHead) → SpellsLibrary xs cells g → (found ≡ kept figure_rings cells) × (h ≡ g)
+
+-- the bytes spell no library
+abbrev pub SpellsNone : List ℕ → Type 0
+SpellsNone xs = (cells : List Drawing) (g : GdsHead) → SpellsLibrary xs cells g → ⊥
+
+-- a byte stands at the offset, the bytes before it are a front, and no longer front agrees with the input
 pub record IsStuck (xs : List ℕ) (at : ℕ) : Type 0 where
   pub stands : at < length xs
   pub records : List Rec
   pub front : IsFront (take at xs) records
-  pub none : (r : Rec) (bytes : List ℕ) → IsFront bytes (records ++ r ∷ []) → Agree bytes xs → ⊥
+  pub none : (rs : List Rec) (bytes : List ℕ) → IsFront bytes rs → at < length bytes → Agree bytes xs → ⊥
 
 -- the record at the offset breaches the rule
 pub record IsBreached (xs : List ℕ) (at : ℕ) (k : GdsKind) : Type 0 where
