@@ -1,15 +1,13 @@
 -- What one record more does to the library that is spelled.
-use Rattle.std.proofs.Common.{◌≡◌, ◌≢◌, ◌==◌, ℕ, Bool, true, false, if◌then◌else◌, List, [], ◌∷◌, ◌++◌, reverse, Some, None, map, refl, sym, ap, ◌∙◌, subst, append_assoc, inl, inr, arith}
+use Rattle.std.proofs.Common.{◌≡◌, ◌==◌, ℕ, Bool, true, false, if◌then◌else◌, List, [], ◌∷◌, ◌++◌, reverse, Some, map, refl, sym, ap, ◌∙◌}
 use Rattle.std.specs.Prelude.{Option, find}
 use Rattle.std.proofs.lemmas.List.{reverse-append}
 use Rattle.gds_library.proofs.Grown.{map-snoc}
-use Rattle.lvl_grid.specs.declared.point.Point.{Point}
-use Rattle.lvl_cells.specs.declared.layer.Layer.{Layer as LayerOf}
-use Rattle.lvl_path.specs.Figure.{Figure, figure_rings}
+use Rattle.lvl_path.specs.Figure.{figure_rings}
 use Rattle.lvl_cells.specs.Cells.{drawn, kept}
-use Rattle.gds_library.specs.Drawn.{Drawing, KeptShape, KeptCell, one_place}
+use Rattle.gds_library.specs.Drawn.{KeptShape, KeptCell, one_place}
 use Rattle.gds_library.specs.Types.{bgnstr, strname, boundary, layer, datatype, xy}
-use Rattle.gds_library.specs.Rec.{Rec, pieces, until, is_type, field, last_of, payload_of}
+use Rattle.gds_library.specs.Rec.{Rec, pieces, until, is_type, field, payload_of}
 use Rattle.gds_library.specs.Values.{short, points, name, magnitude, but_last, shape, drawing, drawings}
 use Rattle.gds_library.specs.Reading.{on_last, grown, grown_drawing, grown_figure, no_drawing, no_figure}
 use Rattle.gds_library.proofs.Orders.{type_same}

@@ -4,14 +4,12 @@ use Rattle.std.proofs.Math.Seq.{take-append_seam, drop-append_seam}
 use Rattle.std.proofs.lemmas.List.{take-append-drop, append-nil}
 use Rattle.std.specs.Prelude.{Option, replicate, Ok, Err}
 use Rattle.gds_records.specs.Records.{file_limit}
-use Rattle.gds_records.specs.Spelled.{IsRecord, IsSpelling, IsSpelledAt, IsBegun, IsCut, NoRecord}
+use Rattle.gds_records.specs.Spelled.{IsSpelledAt, IsBegun, IsCut, NoRecord}
 use Rattle.gds_library.specs.Types.{fill, header}
 use Rattle.gds_library.specs.Order.{Begins, IsWord, a_library}
 use Rattle.gds_library.specs.Place.{after, left, LeadsTo, has_units}
 use Rattle.gds_library.specs.Rec.{Rec, kinds, field}
-use Rattle.lvl_cells.specs.Cells.{kept}
-use Rattle.lvl_path.specs.Figure.{figure_rings}
-use Rattle.gds_library.specs.Front.{Breaches, IsFront, IsStuck, IsBreached, IsAfterEnd, IsTruncated, SpellsLibrary, IsRead, IsOnly, SpellsNone}
+use Rattle.gds_library.specs.Front.{Breaches, IsFront, IsStuck, IsBreached, IsAfterEnd, IsTruncated, SpellsLibrary, IsRead}
 use Rattle.gds_library.specs.declared.head.GdsHead.{GdsHead}
 use Rattle.lvl_io.specs.Known.{Agree}
 use Rattle.std.proofs.lemmas.Bool.Decides.{nat_tests}
@@ -36,7 +34,7 @@ use Rattle.gds_library.proofs.Places.{leads_nowhere, leads_begin, leads_begins}
 use Rattle.gds_library.proofs.Steps.{KeepsHead, law_fault, law_allowed, law_fill, law_holds, law_front, no_tail}
 use Rattle.gds_library.proofs.Grown.{plain}
 use Rattle.gds_library.proofs.Spellings.{a_fill, agree_ends, map-append, length_spelled}
-use Rattle.gds_library.proofs.Stuck.{law_stuck, stuck_by, stuck_none, truncated_none}
+use Rattle.gds_library.proofs.Stuck.{law_stuck, stuck_by}
 
 no_zero : (p : Place) → p ≢ Fill → after p fill ≡ None
 no_zero Header h = refl

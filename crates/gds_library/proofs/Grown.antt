@@ -1,14 +1,13 @@
 -- What one record more does to what a builder shows.
-use Rattle.std.proofs.Common.{◌≡◌, ◌≢◌, ◌==◌, ℕ, Bool, true, false, if◌then◌else◌, List, [], ◌∷◌, ◌++◌, Some, None, map, refl, sym, ap, ◌∙◌, subst, append_assoc, inl, inr, arith}
+use Rattle.std.proofs.Common.{◌≡◌, ◌==◌, ℕ, Bool, true, false, if◌then◌else◌, List, [], ◌∷◌, ◌++◌, Some, None, map, refl, sym, ap, ◌∙◌, subst}
 use Rattle.std.specs.Prelude.{Option}
 use Rattle.std.proofs.lemmas.List.{append-nil}
 use Rattle.lvl_grid.specs.declared.point.Point.{Point}
-use Rattle.lvl_cells.specs.declared.layer.Layer.{Layer as LayerOf}
 use Rattle.gds_library.specs.Drawn.{KeptShape, KeptCell}
 use Rattle.gds_library.specs.Types.{header, bgnlib, libname, units, endlib, bgnstr, strname, endstr, boundary, layer, datatype, xy, endel, fill}
 use Rattle.gds_library.specs.Values.{short, points, name, magnitude, but_last}
 use Rattle.gds_library.specs.Place.{after}
-use Rattle.gds_library.specs.Reading.{on_last, grown, grown_drawing, grown_figure, no_drawing, no_figure, shown_at, shown, done, open_cell, open_figure}
+use Rattle.gds_library.specs.Reading.{on_last, grown, grown_drawing, grown_figure, no_drawing, shown_at, done, open_cell, open_figure}
 use Rattle.gds_library.specs.declared.place.Place.{Place}
 use Rattle.gds_library.specs.declared.place.Place.TheVariants.{Header, BgnLib, LibName, Units, Structures, StrName, Elements, Layer, Datatype, Points, EndEl, Fill}
 use Rattle.gds_library.specs.declared.builder.Builder.{Builder}

@@ -1,5 +1,5 @@
 -- What a whole reading and a refusal say of every reading.
-use Rattle.std.proofs.Common.{◌≡◌, ◌≢◌, ℕ, List, sym, ap, ◌∙◌, Result, Ok, Err, IfOk, IfErr, false, true, subst, refl}
+use Rattle.std.proofs.Common.{ℕ, List, ap, ◌∙◌}
 use Rattle.lvl_cells.specs.Cells.{kept}
 use Rattle.lvl_path.specs.Figure.{figure_rings}
 use Rattle.gds_records.specs.declared.fault.RecordFault.TheVariants.{Truncated, BadLength, BadDataType, UnknownRecord, TooLong, Read, Failed}
@@ -7,7 +7,6 @@ use Rattle.gds_library.specs.Drawn.{KeptCell}
 use Rattle.gds_library.specs.Front.{IsRead, IsOnly, SpellsNone}
 use Rattle.gds_library.specs.Ends.{Tells, IsExcused}
 use Rattle.gds_library.specs.declared.head.GdsHead.{GdsHead}
-use Rattle.gds_library.specs.declared.fault.GdsKind.{GdsKind}
 use Rattle.gds_library.specs.declared.fault.GdsKind.TheVariants.{Record, Unexpected, Unsupported, Layer as LayerKind, Points as PointsKind, NotClosed, Name, AfterEnd, Oblique, TooManyCells}
 use Rattle.gds_library.specs.declared.fault.GdsFault.{GdsFault}
 use Rattle.gds_library.specs.declared.fault.GdsFault.TheVariants.{At, OutOfMemory}

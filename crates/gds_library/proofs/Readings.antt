@@ -1,18 +1,15 @@
 -- Bytes have one reading: two fronts that agree are one the beginning of the other.
-use Rattle.std.proofs.Common.{◌≡◌, ◌≢◌, ℕ, ◌+◌, ◌<◌, ◌≤◌, ◌⊎◌, List, [], ◌∷◌, ◌++◌, length, take, drop, map, refl, sym, ap, ◌∙◌, subst, append_assoc, inl, inr, arith, length-append, length-take}
-use Rattle.std.proofs.lemmas.List.{append-nil, append_cancel_left, take-append-drop}
-use Rattle.gds_records.specs.Spelled.{IsRecord, IsSpelling}
-use Rattle.lvl_io.specs.Known.{Agree}
+use Rattle.std.proofs.Common.{◌≡◌, ◌≢◌, ℕ, ◌<◌, ◌≤◌, ◌⊎◌, List, [], ◌∷◌, ◌++◌, length, refl, sym, ap, ◌∙◌, subst, append_assoc, inl, inr, arith, length-append}
+use Rattle.std.proofs.lemmas.List.{append-nil, append_cancel_left}
 use Rattle.gds_library.specs.Types.{header, bgnlib, libname, units, endlib, fill}
 use Rattle.gds_library.specs.Order.{Order, one, many, ◌then◌, IsWord, Begins, a_library, a_structure}
 use Rattle.gds_library.specs.Rec.{Rec, kinds, Spells, SpellsAll}
-use Rattle.gds_library.specs.Front.{BreachesNone, Breaches, IsFront, SpellsLibrary}
+use Rattle.gds_library.specs.Front.{IsFront, SpellsLibrary}
 use Rattle.gds_library.specs.Values.{drawings, head}
 use Rattle.gds_library.specs.Drawn.{Drawing}
 use Rattle.gds_library.specs.declared.head.GdsHead.{GdsHead}
-use Rattle.gds_library.specs.declared.fault.GdsKind.{GdsKind}
 use Rattle.gds_library.proofs.Words.{begins_less, fill_alone, fill_ends}
-use Rattle.gds_library.proofs.Spellings.{a_fill, one_record, spells_once, spells_all_once, spells_parts, spells_join, spells_some, spells_empty, map-append}
+use Rattle.gds_library.proofs.Spellings.{one_record, spells_once, spells_all_once, spells_parts, spells_join, spells_empty, map-append}
 
 -- a library up to its end
 abbrev a_body : Order

@@ -1,29 +1,26 @@
 -- One record more behind a front.
-use Rattle.std.proofs.Common.{◌≡◌, ◌≢◌, ◌==◌, ℕ, ◌+◌, ◌<◌, ◌≤◌, ◌<ℤ◌, ◌≤ℤ◌, ◌⊎◌, pos, ℤ, Bool, true, false, if◌then◌else◌, List, [], ◌∷◌, ◌++◌, length, take, drop, Some, None, map, refl, sym, ap, ◌∙◌, subst, append_assoc, inl, inr, arith, length-append}
-use Rattle.std.proofs.lemmas.List.{append-nil, take-append-drop}
-use Rattle.std.specs.Prelude.{Option}
+use Rattle.std.proofs.Common.{◌≡◌, ◌==◌, ℕ, ◌<◌, ◌≤◌, ◌⊎◌, ℤ, Bool, true, false, if◌then◌else◌, List, [], ◌∷◌, ◌++◌, length, Some, None, map, refl, sym, ap, ◌∙◌, subst, inl, inr, arith, length-append}
 use Rattle.std.proofs.lemmas.Int.{ints}
 use Rattle.gds_library.proofs.Orders.{by_test}
 use Rattle.gds_records.specs.Records.{file_limit}
-use Rattle.gds_records.specs.Spelled.{IsRecord, IsSpelling}
 use Rattle.lvl_path.specs.Figure.{figure_rings}
 use Rattle.lvl_cells.specs.Cells.{drawn, kept}
 use Rattle.gds_library.specs.Drawn.{KeptCell}
 use Rattle.gds_library.specs.Types.{header, bgnlib, libname, units, endlib, bgnstr, strname, endstr, boundary, layer, datatype, xy, endel, fill}
 use Rattle.gds_library.specs.Order.{Begins, a_library}
-use Rattle.gds_library.specs.Place.{after, left, LeadsTo, has_units}
-use Rattle.gds_library.specs.Rec.{Rec, kinds, Spells, SpellsAll, pieces, is_type, field}
+use Rattle.gds_library.specs.Place.{after, LeadsTo, has_units}
+use Rattle.gds_library.specs.Rec.{Rec, kinds, Spells, pieces, is_type, field}
 use Rattle.gds_library.specs.Values.{drawing, drawings, short, two_reals}
-use Rattle.gds_library.specs.Front.{Breaches, BreachesNone, IsFront, IsKnown, cell_limit}
+use Rattle.gds_library.specs.Front.{Breaches, BreachesNone, IsFront, IsKnown}
 use Rattle.gds_library.specs.Faults.{IsFault, IsAllowed}
-use Rattle.gds_library.specs.Reading.{grown, shown, shown_at, done}
+use Rattle.gds_library.specs.Reading.{grown, shown, shown_at}
 use Rattle.gds_library.specs.Holds.{Holds}
 use Rattle.gds_library.specs.declared.place.Place.{Place}
 use Rattle.gds_library.specs.declared.place.Place.TheVariants.{Header, BgnLib, LibName, Units, Structures, StrName, Elements, Layer as AtLayer, Datatype as AtDatatype, Points as AtPoints, EndEl, Fill}
 use Rattle.gds_library.specs.declared.builder.Builder.{Builder}
 use Rattle.gds_library.specs.declared.fault.GdsKind.{GdsKind}
 use Rattle.gds_library.specs.declared.fault.GdsKind.TheVariants.{Record, Unexpected, Unsupported, Layer, Points, NotClosed, Name, AfterEnd, Oblique, TooManyCells}
-use Rattle.gds_library.proofs.Places.{leads_on, leads_nowhere, leads_begins, leads_begin}
+use Rattle.gds_library.proofs.Places.{leads_on, leads_nowhere, leads_begins}
 use Rattle.gds_library.proofs.Drawn.{drawings-snoc, field-snoc, if_ap}
 use Rattle.gds_library.proofs.Grown.{same_place, none_some}
 use Rattle.gds_library.proofs.Spellings.{a_fill, spells_join, map-append}

@@ -1,13 +1,12 @@
 -- An input is stuck where a record breaches a rule; and bytes where a fault is told spell no library.
-use Rattle.std.proofs.Common.{◌≡◌, ◌≢◌, ℕ, ◌+◌, ◌*◌, ◌<◌, ◌≤◌, ◌⊎◌, List, [], ◌∷◌, ◌++◌, length, take, drop, map, refl, sym, ap, ◌∙◌, subst, append_assoc, inl, inr, arith, length-append, length-take}
+use Rattle.std.proofs.Common.{◌≡◌, ℕ, ◌+◌, ◌<◌, ◌≤◌, ◌⊎◌, List, [], ◌∷◌, ◌++◌, length, take, drop, refl, sym, ap, ◌∙◌, subst, append_assoc, inl, inr, arith, length-append, length-take}
 use Rattle.std.proofs.lemmas.List.{append-nil, append_cancel_left, take-append-drop}
 use Rattle.gds_records.specs.Records.{file_limit}
 use Rattle.gds_records.specs.Spelled.{IsRecord, IsSpelling, IsBegun}
 use Rattle.lvl_io.specs.Known.{Agree}
-use Rattle.gds_library.specs.Types.{fill}
 use Rattle.gds_library.specs.Order.{Begins, IsWord, a_library}
 use Rattle.gds_library.specs.Rec.{Rec, kinds, Spells, SpellsAll}
-use Rattle.gds_library.specs.Front.{Breaches, BreachesNone, IsFront, IsStuck, IsTruncated, SpellsLibrary, SpellsNone}
+use Rattle.gds_library.specs.Front.{Breaches, BreachesNone, IsFront, IsStuck, IsTruncated, SpellsNone}
 use Rattle.gds_library.specs.declared.fault.GdsKind.{GdsKind}
 use Rattle.gds_library.proofs.Words.{begins_less}
 use Rattle.gds_library.proofs.Spellings.{a_fill, one_record, spells_all_once, spells_parts, agree_ends, ends_agree, map-append, length_spelled}

@@ -1,5 +1,5 @@
 -- Fronts of streams, breaches of rules, and what is spelled.
-use Rattle.std.specs.Prelude.{true, ◌≡◌, ◌≢◌, ℕ, ◌+◌, ◌<◌, ◌≤◌, ◌<ℤ◌, pos, ◌⊎◌, List, [], ◌∷◌, ◌++◌, length, take, drop, Option, Some, None, Contains, All, slice_index}
+use Rattle.std.specs.Prelude.{true, ◌≡◌, ◌≢◌, ℕ, ◌<◌, ◌≤◌, ◌<ℤ◌, pos, ◌⊎◌, List, [], ◌∷◌, ◌++◌, length, take, drop, All}
 use Rattle.gds_records.specs.Records.{file_limit}
 use Rattle.gds_records.specs.Spelled.{IsBegun}
 use Rattle.lvl_io.specs.Known.{Agree}
@@ -8,10 +8,9 @@ use Rattle.lvl_grid.specs.declared.point.Point.{Point}
 use Rattle.lvl_path.specs.Figure.{figure_rings}
 use Rattle.lvl_cells.specs.Cells.{kept}
 use Rattle.gds_library.specs.Drawn.{Drawing, KeptCell}
-use Rattle.lvl_cells.specs.declared.library.Library.{Library}
-use Rattle.gds_library.specs.Types.{endlib, bgnstr, strname, boundary, layer, datatype, xy, fill}
+use Rattle.gds_library.specs.Types.{bgnstr, strname, layer, datatype, xy}
 use Rattle.gds_library.specs.Order.{a_library, has, IsWord, Begins}
-use Rattle.gds_library.specs.Rec.{Rec, kinds, Spells, SpellsAll, pieces, is_type, field}
+use Rattle.gds_library.specs.Rec.{Rec, kinds, Spells, SpellsAll, pieces, is_type}
 use Rattle.gds_library.specs.Values.{short, points, name, drawings, head}
 use Rattle.gds_library.specs.declared.head.GdsHead.{GdsHead}
 use Rattle.gds_library.specs.declared.fault.GdsKind.{GdsKind}

@@ -1,8 +1,7 @@
 -- The values that payloads spell, and the library of a list of records.
-use Rattle.std.specs.Prelude.{◌≡◌, ℕ, zero, suc, ◌+◌, ◌-◌, ◌*◌, ◌/◌, ◌==◌, ◌&&◌, nat_lt, ℤ, pos, if◌then◌else◌, List, [], ◌∷◌, ◌++◌, length, map, take, drop, slice_index}
+use Rattle.std.specs.Prelude.{ℕ, zero, suc, ◌-◌, ◌/◌, ◌==◌, ◌&&◌, nat_lt, ℤ, pos, if◌then◌else◌, List, [], ◌∷◌, length, map, take, drop, slice_index}
 use Rattle.std.specs.Int.{w16, w32, from_be_bytes, cast_signed}
 use Rattle.lvl_grid.specs.declared.point.Point.{Point}
-use Rattle.lvl_cells.specs.declared.layer.Layer.{Layer}
 use Rattle.lvl_path.specs.Figure.{Figure, rings}
 use Rattle.lvl_cells.specs.Cells.{PlainShape}
 use Rattle.gds_library.specs.Drawn.{Drawing, one_place}

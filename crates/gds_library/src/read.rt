@@ -38,6 +38,7 @@ pub fn read_gds<R: Read>(alloc: Global, reader: &mut R) -> Result<(Library, GdsH
     // The reader failed once where `Read` is told, and else never.
     ensures reads { result ≢ Err GdsFault.OutOfMemory
         → CountsFailure (R.read_errors reader.old) (R.read_errors reader.new) (is_read result) }
+    ensures same { result ≢ Err GdsFault.OutOfMemory → R.lent reader.new ≡ R.lent reader.old }
 {
     let Ok(mut records) = Records::new(alloc, reader) else {
         return Err(GdsFault::OutOfMemory);

@@ -1,4 +1,4 @@
-use Rattle.std.proofs.Common.{◌≢◌, [], None, Err, inl, ◌≡◌, ◌∙◌, ◌-◌, ◌+◌, ◌≤◌, ℕ, List, length, drop, Ok, Some, refl, sym, ap, subst, arith, length-take, true}
+use Rattle.std.proofs.Common.{◌≢◌, [], None, Err, inl, ◌≡◌, ◌∙◌, ◌-◌, length, drop, Ok, Some, refl, sym, ap, subst, arith, length-take, true}
 use Rattle.gds_records.specs.Records.{room_left, records_offset, file_limit, bytes_left}
 use Rattle.gds_records.specs.Spelled.{IsSpelledAt, NoRecord}
 use Rattle.gds_records.specs.declared.records.Record.{Record as Answered}

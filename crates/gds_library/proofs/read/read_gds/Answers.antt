@@ -1,10 +1,7 @@
-use Rattle.std.proofs.Common.{◌∙◌, List, ℕ}
+use Rattle.std.proofs.Common.{◌∙◌}
 use Rattle.std.proofs.lemmas.Result.{IfOk-weaker, IfErr-weaker}
 use Rattle.gds_library.specs.Ends.{Tells, IsExcused}
 use Rattle.gds_library.specs.Front.{IsRead, IsOnly, SpellsNone}
-use Rattle.gds_library.specs.Drawn.{KeptCell}
-use Rattle.gds_library.specs.declared.head.GdsHead.{GdsHead}
-use Rattle.gds_library.specs.declared.fault.GdsFault.{GdsFault}
 use Rattle.gds_library.proofs.Readable.{read_alone, tells_none}
 use Rattle.gds_library.proofs.read.read_gds.Goals as goal
 
