@@ -1,0 +1,11 @@
+//! Two layouts compared: whether they draw the same mask.
+//!
+//! Two files are read, their cells are checked and flattened, and what they cover is compared Layer
+//! by Layer. What comes of it is a [`Verdict`] or a [`Refusal`].
+#![tactic(auto)]
+
+pub use layout::{FileFault, Head, Layout, read_layout};
+pub use verdict::{Comparison, Refusal, Tops, Verdict};
+
+mod layout;
+mod verdict;
