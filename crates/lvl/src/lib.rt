@@ -5,7 +5,13 @@
 #![tactic(auto)]
 
 pub use layout::{FileFault, Head, Layout, read_layout};
+pub use status::{RunFault, Status};
 pub use verdict::{Comparison, Refusal, Tops, Verdict};
 
+mod faults;
 mod layout;
+mod output;
+mod run;
+mod status;
+mod text;
 mod verdict;
