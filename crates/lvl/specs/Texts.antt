@@ -1,4 +1,4 @@
--- The text of an answer, as a list of bytes: two heads and a verdict, or a refusal.
+-- The text of an answer, as a list of bytes: two heads and a verdict, what a layout holds, or a refusal.
 use Rattle.std.specs.Prelude.{ℕ, ◌/◌, ◌%◌, List, [], ◌∷◌, ◌++◌, flat_map, false, codes, decimal, Result, Ok, Err}
 use Rattle.std.specs.Fmt.{signed_decimal, digit_glyph}
 use Rattle.gds_library.specs.declared.fault.GdsFault.TheVariants.{At, OutOfMemory as GdsOutOfMemory}
@@ -15,6 +15,8 @@ use Rattle.lvl.specs.declared.verdict.Verdict.TheVariants.{Same, Differ}
 use Rattle.lvl.specs.declared.verdict.Comparison.{Comparison}
 use Rattle.lvl.specs.declared.verdict.Refusal.{Refusal}
 use Rattle.lvl.specs.declared.verdict.Refusal.TheVariants.{File, Cells, Flat, OutOfMemory}
+use Rattle.lvl.specs.declared.shown.Shown.{Shown}
+use Rattle.lvl.specs.declared.shown.ShownLayer.{ShownLayer}
 use Rattle.lvl.specs.Faults.{spaced, gds_fault, cell_fault, flat_fault}
 
 -- a line ends with one line feed
@@ -64,3 +66,15 @@ refusal_text OutOfMemory = out_of_memory
 abbrev pub text_of : Result Comparison Refusal → List ℕ
 text_of (Ok c) = line (codes "first: " ++ head_text c.first) ++ line (codes "second: " ++ head_text c.second) ++ line (verdict_text c.verdict)
 text_of (Err refusal) = line (refusal_text refusal)
+
+-- what is printed of a Layer that is shown
+abbrev pub layer_line : ShownLayer → List ℕ
+layer_line shown = line (codes "layer " ++ decimal shown.layer.layer ++ codes " datatype " ++ decimal shown.layer.datatype ++ codes " rings " ++ decimal shown.rings)
+
+abbrev pub shown_text : Shown → List ℕ
+shown_text shown = line (codes "file: " ++ head_text shown.head) ++ line (codes "top:" ++ spaced shown.top.items) ++ line (codes "cells: " ++ decimal shown.cells) ++ flat_map layer_line shown.layers.items
+
+-- what is printed of a layout, whole
+abbrev pub text_of_shown : Result Shown Refusal → List ℕ
+text_of_shown (Ok shown) = shown_text shown
+text_of_shown (Err refusal) = line (refusal_text refusal)

@@ -5,13 +5,16 @@
 #![tactic(auto)]
 
 pub use layout::{FileFault, Head, Layout, read_layout};
+pub use shown::{Shown, ShownLayer};
 pub use status::{RunFault, Status};
 pub use verdict::{Comparison, Refusal, Tops, Verdict};
 
 mod faults;
+mod heads;
 mod layout;
 mod output;
 mod run;
+mod shown;
 mod status;
 mod text;
 mod verdict;

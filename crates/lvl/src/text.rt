@@ -1,12 +1,13 @@
-//! The text of an answer: two heads and a verdict, or a refusal.
+//! The text of an answer: two heads and a verdict, what a layout holds, or a refusal.
 ghost use Rattle.std.specs.Prelude.{◌≡◌, ◌++◌, flat_map, OnOk, IfOk};
-ghost use Rattle.lvl.specs.Faults.{spaced};
-ghost use Rattle.lvl.specs.Texts.{hex, hex_byte, gds_head_text, head_text, side_text, verdict_text, refusal_text, text_of};
+ghost use Rattle.lvl.specs.Texts.{layer_line, side_text, verdict_text, refusal_text, shown_text, text_of, text_of_shown};
 
-use crate::faults::{push_cell_fault, push_flat_fault, push_gds_fault};
-use crate::layout::{FileFault, Head};
+use crate::faults::{push_cell_fault, push_flat_fault, push_gds_fault, push_name};
+use crate::heads::push_head;
+use crate::layout::FileFault;
+use crate::shown::{Shown, ShownLayer};
 use crate::verdict::{Comparison, Refusal, Verdict};
-use gds_library::{GdsFault, GdsHead};
+use gds_library::GdsFault;
 use lvl_cells::{CellFault, Layer};
 use lvl_flat::FlatFault;
 use lvl_grid::Square;
@@ -14,52 +15,6 @@ use lvl_region::Side;
 use std::alloc::{AllocError, Global};
 use std::io;
 use std::io::Write;
-
-/// Appends a byte as two hexadecimal digits.
-fn push_hex_byte(text: &mut Vec<u8>, byte: u8) -> io::Result<()>
-    ensures { OnOk result (text.new.items ≡ text.old.items ++ hex_byte byte) }
-{
-    write!(text, "{byte:02x}")
-}
-
-/// Appends each byte as two hexadecimal digits.
-fn push_hex(text: &mut Vec<u8>, bytes: &[u8]) -> io::Result<()>
-    ensures { OnOk result (text.new.items ≡ text.old.items ++ hex bytes.now) }
-{
-    for byte in bytes {
-        push_hex_byte(text, *byte)?;
-    }
-    Ok(())
-}
-
-/// Appends the units, each after a space.
-fn push_units(text: &mut Vec<u8>, units: &[[u8; 8]]) -> io::Result<()>
-    ensures { OnOk result (text.new.items ≡ text.old.items ++ flat_map (λ unit. spaced (hex unit)) units.now) }
-{
-    for unit in units {
-        write!(text, " ")?;
-        push_hex(text, unit)?;
-    }
-    Ok(())
-}
-
-/// Appends what a GDSII file says of itself.
-fn push_gds_head(text: &mut Vec<u8>, head: &GdsHead) -> io::Result<()>
-    ensures { OnOk result (text.new.items ≡ text.old.items ++ gds_head_text head.now) }
-{
-    let version = head.version;
-    write!(text, "GDSII version {version} units")?;
-    push_units(text, &head.units)
-}
-
-/// Appends what a file says of itself.
-pub(crate) fn push_head(text: &mut Vec<u8>, head: &Head) -> io::Result<()>
-    ensures { OnOk result (text.new.items ≡ text.old.items ++ head_text head.now) }
-{
-    match head {
-        Head::Gds(head) => push_gds_head(text, head),
-    }
-}
 
 fn side_name(side: Side) -> &'static str
     ensures { result.now ≡ side_text side }
@@ -130,6 +85,31 @@ fn push_comparison(text: &mut Vec<u8>, comparison: &Comparison) -> io::Result<()
     writeln!(text)
 }
 
+/// Appends a line for each Layer.
+fn push_layers(text: &mut Vec<u8>, layers: &[ShownLayer]) -> io::Result<()>
+    ensures { OnOk result (text.new.items ≡ text.old.items ++ flat_map layer_line layers.now) }
+{
+    for shown in layers {
+        let Layer { layer, datatype } = shown.layer;
+        let rings = shown.rings;
+        writeln!(text, "layer {layer} datatype {datatype} rings {rings}")?;
+    }
+    Ok(())
+}
+
+/// Appends what a layout holds.
+fn push_shown(text: &mut Vec<u8>, shown: &Shown) -> io::Result<()>
+    ensures { OnOk result (text.new.items ≡ text.old.items ++ shown_text shown.now) }
+{
+    write!(text, "file: ")?;
+    push_head(text, &shown.head)?;
+    write!(text, "\ntop:")?;
+    push_name(text, &shown.top)?;
+    let cells = shown.cells;
+    writeln!(text, "\ncells: {cells}")?;
+    push_layers(text, &shown.layers)
+}
+
 /// Appends an answer.
 fn push_answer(text: &mut Vec<u8>, answer: &Result<Comparison, Refusal>) -> io::Result<()>
     ensures { OnOk result (text.new.items ≡ text.old.items ++ text_of answer.now) }
@@ -156,6 +136,34 @@ pub(crate) fn form(
 {
     let mut text = Vec::new(alloc);
     match push_answer(&mut text, answer) {
+        Ok(()) => Ok(text),
+        Err(_) => Err(AllocError),
+    }
+}
+
+/// Appends what is shown, or a refusal.
+fn push_shown_answer(text: &mut Vec<u8>, answer: &Result<Shown, Refusal>) -> io::Result<()>
+    ensures { OnOk result (text.new.items ≡ text.old.items ++ text_of_shown answer.now) }
+{
+    match answer {
+        Ok(shown) => push_shown(text, shown),
+        Err(refusal) => {
+            push_refusal(text, refusal)?;
+            writeln!(text)
+        }
+    }
+}
+
+/// What is printed of a layout, whole: what its file says of itself, its top, how many cells it
+/// has, and a line for each Layer. A refusal is one line.
+pub(crate) fn form_shown(
+    alloc: Global,
+    answer: &Result<Shown, Refusal>,
+) -> Result<Vec<u8>, AllocError>
+    ensures { IfOk result (λ text. text.items ≡ text_of_shown answer.now) }
+{
+    let mut text = Vec::new(alloc);
+    match push_shown_answer(&mut text, answer) {
         Ok(()) => Ok(text),
         Err(_) => Err(AllocError),
     }

@@ -1,6 +1,6 @@
 use Rattle.std.proofs.Common.{◌<◌, false, arith}
 use Rattle.std.proofs.lemmas.Fmt.{hex_byte}
-use Rattle.lvl.proofs.text.push_hex_byte.Goals as goal
+use Rattle.lvl.proofs.heads.push_hex_byte.Goals as goal
 
 pub returns : goal.returns
 returns c =

@@ -1,7 +1,7 @@
 use Rattle.std.proofs.Common.{◌≡◌, ◌++◌, flat_map, take}
 use Rattle.lvl.specs.Faults.{spaced}
 use Rattle.lvl.specs.Texts.{hex}
-use Rattle.lvl.proofs.text.push_units.Given as goal
+use Rattle.lvl.proofs.heads.push_units.Given as goal
 
 abbrev pub invariant-loop-unit : goal.invariant-loop-unit
 invariant-loop-unit l =
