@@ -1,1 +1,6 @@
-pub mod Layers
+pub mod Behind
+pub mod Spelling
+pub mod Keeping
+pub mod Lifting
+pub mod Refused
+pub mod ShownLayers

@@ -3,7 +3,7 @@ use Rattle.std.specs.List.{slice_get}
 use Rattle.std.proofs.lemmas.List.{take_all, length_push}
 use Rattle.lvl_flat.specs.Sheet.{PlainSheet}
 use Rattle.lvl.specs.Shown.{shown_layer}
-use Rattle.lvl.proofs.Layers.{none_left, one_more}
+use Rattle.lvl.proofs.ShownLayers.{none_left, one_more}
 use Rattle.lvl.proofs.shown.layers_of.Goals as goal
 
 pub loop-layer-preserved : goal.loop-layer-preserved

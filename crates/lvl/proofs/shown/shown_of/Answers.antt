@@ -3,7 +3,7 @@ use Rattle.std.proofs.lemmas.Option.{get_or_from_slice_get}
 use Rattle.lvl_cells.specs.Cells.{PlainCell, Rings}
 use Rattle.lvl_flat.specs.Flattened.{AreAsMany}
 use Rattle.lvl.specs.Shown.{AreShownLayers}
-use Rattle.lvl.proofs.Layers.{all_shown}
+use Rattle.lvl.proofs.ShownLayers.{all_shown}
 use Rattle.lvl.proofs.shown.shown_of.Goals as goal
 
 pub returns : goal.returns
