@@ -4,3 +4,5 @@ pub mod Keeping
 pub mod Lifting
 pub mod Refused
 pub mod ShownLayers
+pub mod Running
+pub mod Showing

@@ -70,7 +70,7 @@ has_some (r ∷ rings) some = omega arith
 
 -- all Layers of a flat layout are shown
 pub all_shown : (cells : List (PlainCell Rings)) (top : PlainCell Rings) (flat : List PlainSheet) → IsInOrder flat → AreAsMany cells top flat
-    → AreShownLayers cells top (map shown_layer flat)
+    → AreShownLayers each_ring cells top (map shown_layer flat)
 all_shown cells top flat order count =
     let nothing : PlainSheet = record { layer = record { layer = 0; datatype = 0 }; rings = [] } in
     record {

@@ -8,3 +8,4 @@ pub mod Faults
 pub mod Shown
 pub mod Texts
 pub mod Writing
+pub mod Runs

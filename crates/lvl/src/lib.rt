@@ -6,6 +6,8 @@
 
 pub use compare::{compare_files, compare_layouts};
 pub use layout::{FileFault, Head, Layout, read_layout};
+pub use runs::{run, run_show};
+pub use show::show_file;
 pub use shown::{Shown, ShownLayer};
 pub use status::{RunFault, Status};
 pub use verdict::{Comparison, Refusal, Tops, Verdict};
@@ -16,9 +18,11 @@ mod heads;
 mod layers;
 mod layout;
 mod output;
-mod run;
+mod runs;
+mod show;
 mod shown;
 mod side;
 mod status;
+mod tell;
 mod text;
 mod verdict;

@@ -1,9 +1,8 @@
 //! What a layout holds.
 ghost use Rattle.std.specs.Prelude.{◌≡◌, map, slice_get, Some, IfOk, OnOk};
 ghost use Rattle.lvl_cells.specs.Cells.{PlainCell, Rings};
-ghost use Rattle.lvl_flat.specs.Flattened.{IsFlattened};
 ghost use Rattle.lvl_flat.specs.Sheets.{IsInOrder};
-ghost use Rattle.lvl.specs.Shown.{shown_layer, IsShownOf};
+ghost use Rattle.lvl.specs.Shown.{shown_layer};
 
 use crate::layout::Head;
 use lvl_cells::{Checked, Layer};
@@ -31,7 +30,7 @@ pub struct Shown {
 }
 
 /// The Layers of a flat layout, each with the number of its rings.
-fn layers_of(alloc: Global, flat: &Flat) -> Result<Vec<ShownLayer>, AllocError>
+pub(crate) fn layers_of(alloc: Global, flat: &Flat) -> Result<Vec<ShownLayer>, AllocError>
     ensures layers { IfOk result (λ layers. layers.items ≡ map shown_layer flat.now) }
     ensures in_order { OnOk result (IsInOrder flat.now) }
 {
@@ -43,25 +42,11 @@ fn layers_of(alloc: Global, flat: &Flat) -> Result<Vec<ShownLayer>, AllocError>
     Ok(layers)
 }
 
-/// What is shown of a checked library that was flattened.
-pub(crate) fn shown_of(
-    alloc: Global,
-    head: Head,
-    checked: &Checked,
-    flat: &Flat,
-) -> Result<Shown, AllocError>
-    requires { IsFlattened checked.now flat.now }
-    ensures { IfOk result (λ shown. (top : PlainCell Rings) → slice_get checked.now.cells checked.now.top ≡ Some top
-        → IsShownOf head checked.now.cells top shown) }
+/// The name of the top.
+pub(crate) fn top_name(alloc: Global, checked: &Checked) -> Result<Vec<u8>, AllocError>
+    ensures { IfOk result (λ name. (top : PlainCell Rings) → slice_get checked.now.cells checked.now.top ≡ Some top
+        → name.items ≡ top.name) }
 {
-    let cells = checked.cells();
-    let top = &cells[checked.top()];
-    let top = Vec::from_slice(alloc, &top.name)?;
-    let layers = layers_of(alloc, flat)?;
-    Ok(Shown {
-        head,
-        top,
-        cells: cells.len(),
-        layers,
-    })
+    let top = &checked.cells()[checked.top()];
+    Vec::from_slice(alloc, &top.name)
 }
