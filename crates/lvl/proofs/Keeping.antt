@@ -27,7 +27,7 @@ links_kept : {F : Type 0} (rings : F → Rings) (cells : List (PlainCell F)) →
 links_kept rings [] = refl
 links_kept rings (c ∷ cells) = ap (λ l. map (λ r. (c.name, r.cell)) c.references ++ l) (links_kept rings cells)
 
-length_kept : {F : Type 0} (rings : F → Rings) (cells : List (PlainCell F)) → length (kept rings cells) ≡ length cells
+pub length_kept : {F : Type 0} (rings : F → Rings) (cells : List (PlainCell F)) → length (kept rings cells) ≡ length cells
 length_kept rings cells = length-map cells (drawn rings)
 
 named_by : {F : Type 0} (rings : F → Rings) (b : Bool) (c : PlainCell F) (x : Option (PlainCell Rings)) (y : Option (PlainCell F)) → x ≡ option_map (drawn rings) y → (if b then Some (drawn rings c) else x) ≡ option_map (drawn rings) (if b then Some c else y)
@@ -125,7 +125,7 @@ counted_drawn : {F : Type 0} (rings : F → Rings) (o : Option (PlainCell F)) (f
 counted_drawn rings None f g h = refl
 counted_drawn rings (Some d) f g h = h d
 
-over_kept : {F : Type 0} (rings : F → Rings) (weight : PlainCell F → ℕ) (other : PlainCell Rings → ℕ) → ((c : PlainCell F) → weight c ≡ other (drawn rings c)) → (cells : List (PlainCell F)) (n : ℕ) (c : PlainCell F)
+pub over_kept : {F : Type 0} (rings : F → Rings) (weight : PlainCell F → ℕ) (other : PlainCell Rings → ℕ) → ((c : PlainCell F) → weight c ≡ other (drawn rings c)) → (cells : List (PlainCell F)) (n : ℕ) (c : PlainCell F)
     → over_chains weight cells n c ≡ over_chains other (kept rings cells) n (drawn rings c)
 over_kept rings weight other h cells zero c = h c
 over_kept rings weight other h cells (suc n) c =

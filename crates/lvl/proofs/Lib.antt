@@ -3,3 +3,6 @@ pub mod Spelling
 pub mod Keeping
 pub mod Lifting
 pub mod Refused
+pub mod ShownLayers
+pub mod Running
+pub mod Showing

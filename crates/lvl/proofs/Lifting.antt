@@ -63,7 +63,7 @@ cell_unaccepted file cells head read fault told others top accepted =
 
 -- a library has one top
 
-one_top : (cells : List (PlainCell Rings)) (given : Option (List ℕ)) (i j : ℕ) → IsSound cells given i → IsSound cells given j → i ≡ j
+pub one_top : (cells : List (PlainCell Rings)) (given : Option (List ℕ)) (i j : ℕ) → IsSound cells given i → IsSound cells given j → i ≡ j
 one_top cells (Some name) i j a b = once_named (names cells) i j name a.linked.distinct a.is_top b.is_top
 one_top cells None i j a b =
     let some : i < length (names cells) = rw (length-map cells (λ (c : PlainCell Rings). c.name)) a.is_top.0 in
@@ -72,7 +72,7 @@ one_top cells None i j a b =
 
 -- flattening
 
-one_cell : (cells : List (PlainCell Rings)) (i j : ℕ) (c d : PlainCell Rings) → slice_get cells i ≡ Some c → slice_get cells j ≡ Some d → i ≡ j → c ≡ d
+pub one_cell : (cells : List (PlainCell Rings)) (i j : ℕ) (c d : PlainCell Rings) → slice_get cells i ≡ Some c → slice_get cells j ≡ Some d → i ≡ j → c ≡ d
 one_cell cells i j c d p q e = let f : Some c ≡ Some d = sym p ∙ (ap (slice_get cells) e ∙ q) in cc
 
 fits_settled : (file : File) (s : Settled) (sheets : List PlainSheet) → IsSettled file.top s → (flat : IsFlattened s sheets) → Fits each_ring s.cells flat.top

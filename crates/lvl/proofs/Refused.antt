@@ -77,7 +77,7 @@ second_refused b k cells head read (FlatRefusal First f) h = record { unaccepted
 second_refused b k cells head read (FlatRefusal Second f) h = record { unaccepted = λ e. range_unaccepted b cells head read f h.1; told = λ e. range_told b cells head read f h.1 }
 second_refused b k cells head read OutOfMemory h = record { unaccepted = λ b. absurd b; told = tt }
 
-passes : (file : File) (cells : List (PlainCell Rings)) (head : Head) → IsLayoutOf file.bytes cells head → Passes (record { cells = cells; top = file.top }) → PassesCheck file
+pub passes : (file : File) (cells : List (PlainCell Rings)) (head : Head) → IsLayoutOf file.bytes cells head → Passes (record { cells = cells; top = file.top }) → PassesCheck file
 passes file cells head read p = (read.cells, head, read.spelled, subst (λ c. Passes (record { cells = c; top = file.top })) read.kept_as p)
 
 spells : (file : File) (cells : List (PlainCell Rings)) (head : Head) → IsLayoutOf file.bytes cells head → SpellsSome file.bytes

@@ -68,3 +68,11 @@ file bytes top = record { bytes = bytes; top = given_name top }
 -- a library with the name that was given for its top
 abbrev pub library_of : List (PlainCell Rings) → Option (Vec ℕ Global) → Kept
 library_of cells top = record { cells = cells; top = given_name top }
+
+-- the bytes of a file, with the name of its top
+abbrev pub file_named : List ℕ → Option (List ℕ) → File
+file_named bytes top = record { bytes = bytes; top = top }
+
+-- a library with the name of its top
+abbrev pub kept_named : List (PlainCell Rings) → Option (List ℕ) → Kept
+kept_named cells top = record { cells = cells; top = top }

@@ -5,7 +5,7 @@ ghost use Rattle.lvl_flat.specs.Flattened.{IsFlattened};
 ghost use Rattle.lvl.specs.Layouts.{IsLayoutOf};
 ghost use Rattle.lvl.specs.Kept.{IsCheckedAs};
 ghost use Rattle.lvl.specs.Answers.{is_read_of};
-ghost use Rattle.lvl.specs.Sides.{IsOfFile, IsReadRefusal, IsCheckRefusal, IsFlattenRefusal, given_name, library_of};
+ghost use Rattle.lvl.specs.Sides.{IsOfFile, IsReadRefusal, IsCheckRefusal, IsFlattenRefusal, given_name, library_of, kept_named};
 ghost use Rattle.lvl.specs.declared.verdict.Refusal.TheVariants.{OutOfMemory};
 
 use crate::layout::{FileFault, Head, read_layout};
@@ -48,6 +48,23 @@ fn name_of(top: &Option<Vec<u8>>) -> Option<&[u8]>
     }
 }
 
+/// The library, if it is sound for the top that was named and places few.
+pub(crate) fn check_named(
+    alloc: Global,
+    side: Side,
+    library: Library,
+    top: Option<&[u8]>,
+) -> Result<Checked, Refusal>
+    ensures checked { IfOk result (IsCheckedAs (kept_named library (option_copied top.entry))) }
+    ensures refused { IfErr result (IsCheckRefusal side (kept_named library (option_copied top.entry))) }
+{
+    match check(alloc, library, top) {
+        Ok(checked) => Ok(checked),
+        Err(CellFault::OutOfMemory) => Err(Refusal::OutOfMemory),
+        Err(fault) => Err(Refusal::Cells(side, fault)),
+    }
+}
+
 /// The library, if it is sound for the top that was given and places few.
 pub(crate) fn check_side(
     alloc: Global,
@@ -58,11 +75,7 @@ pub(crate) fn check_side(
     ensures checked { IfOk result (IsCheckedAs (library_of library top.now)) }
     ensures refused { IfErr result (IsCheckRefusal side (library_of library top.now)) }
 {
-    match check(alloc, library, name_of(top)) {
-        Ok(checked) => Ok(checked),
-        Err(CellFault::OutOfMemory) => Err(Refusal::OutOfMemory),
-        Err(fault) => Err(Refusal::Cells(side, fault)),
-    }
+    check_named(alloc, side, library, name_of(top))
 }
 
 /// The rings of the library, Layer by Layer. The library is let go with it.
