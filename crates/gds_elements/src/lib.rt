@@ -1,0 +1,6 @@
+//! Elements of GDSII structures, read record by record.
+#![tactic(auto)]
+
+pub use fault::{GdsKind, Refusal};
+
+mod fault;
