@@ -1,0 +1,5 @@
+pub mod Behind
+pub mod Spelling
+pub mod Keeping
+pub mod Lifting
+pub mod Refused
