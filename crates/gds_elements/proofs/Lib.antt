@@ -1,0 +1,16 @@
+pub mod Orders
+pub mod Points
+pub mod Closing
+pub mod Fields
+pub mod Leads
+pub mod Words
+pub mod Allowed
+pub mod Taking
+pub mod Shapes
+pub mod Boundaries
+pub mod Paths
+pub mod Placings
+pub mod Srefs
+pub mod Arefs
+pub mod Texts
+pub mod Arrays
