@@ -14,3 +14,5 @@ pub mod Srefs
 pub mod Arefs
 pub mod Texts
 pub mod Arrays
+pub mod Elements
+pub mod Forms
