@@ -1,5 +1,5 @@
 -- What the length of a payload is by its record's type.
-use Rattle.std.specs.Prelude.{◌≡◌, ℕ, ◌<◌, List, length}
+use Rattle.std.specs.Prelude.{◌≡◌, ℕ, ◌<◌, ◌⊎◌, List, length}
 use Rattle.gds_elements.specs.Types.{layer, datatype, width, colrow, strans, mag, angle, pathtype}
 
 -- a type below 60, and the payload of a number has that number's length
@@ -13,3 +13,6 @@ pub record IsFormed (k : ℕ) (payload : List ℕ) : Type 0 where
   pub mag : k ≡ mag → length payload ≡ 8
   pub angle : k ≡ angle → length payload ≡ 8
   pub pathtype : k ≡ pathtype → length payload ≡ 2
+
+abbrev pub IsLayerNumber : ℕ → Type 0
+IsLayerNumber k = (k ≡ layer) ⊎ (k ≡ datatype)

@@ -5,3 +5,13 @@ pub mod Values
 pub mod Meaning
 pub mod Rules
 pub mod Formed
+pub mod Misplaced
+pub mod Leading
+pub mod Boundary
+pub mod Path
+pub mod Placing
+pub mod Counts
+pub mod Sref
+pub mod Aref
+pub mod Text
+pub mod Reading

@@ -1,5 +1,5 @@
 -- What the records of an element mean: the last record of each type tells, wherever it stands.
-use Rattle.std.specs.Prelude.{◌≡◌, ℕ, ◌/◌, ◌==◌, ◌-ℤ◌, pos, if◌then◌else◌, List, [], ◌∷◌, Option, Some, None}
+use Rattle.std.specs.Prelude.{ℕ, ◌/◌, ◌==◌, ◌-ℤ◌, pos, if◌then◌else◌, List, [], ◌∷◌, Option, Some, None}
 use Rattle.std.specs.Int.RustNames.{int_div}
 use Rattle.std.specs.Ordering.{int_eq}
 use Rattle.lvl_grid.specs.declared.point.Point.{Point}
@@ -8,7 +8,7 @@ use Rattle.lvl_cells.specs.declared.layer.Layer.{Layer}
 use Rattle.lvl_cells.specs.Cells.{PlainShape, PlainReference, Rings}
 use Rattle.lvl_cells.specs.Shifts.{lattice}
 use Rattle.gds_elements.specs.Types.{boundary, path, sref, aref, layer, datatype, width, xy, sname, colrow, strans, angle, pathtype}
-use Rattle.gds_elements.specs.Rec.{Rec, opener, field}
+use Rattle.gds_elements.specs.Rec.{Rec, opener, field, last_of}
 use Rattle.gds_elements.specs.Values.{short, long, points, nth, name, magnitude, but_last, flips, turn, columns, rows}
 
 -- the zero shift alone
@@ -57,8 +57,17 @@ step p q n = record { x = int_div (q.x -ℤ p.x) (pos n); y = int_div (q.y -ℤ 
 abbrev pub array_shifts : List Point → ℕ → ℕ → List Point
 array_shifts ps m n = lattice (step (nth ps 0) (nth ps 1) m) m (step (nth ps 0) (nth ps 2) n) n
 
+-- the columns and the rows of an array, one where no record tells
+abbrev pub columns_in : Option Rec → ℕ
+columns_in None = 1
+columns_in (Some r) = magnitude (columns r.payload)
+
+abbrev pub rows_in : Option Rec → ℕ
+rows_in None = 1
+rows_in (Some r) = magnitude (rows r.payload)
+
 abbrev pub shifts_of : List Rec → List Point
-shifts_of piece = array_shifts (points (field xy piece)) (magnitude (columns (field colrow piece))) (magnitude (rows (field colrow piece)))
+shifts_of piece = array_shifts (points (field xy piece)) (columns_in (last_of colrow piece)) (rows_in (last_of colrow piece))
 
 abbrev pub shapes_by : Option ℕ → List Rec → List (PlainShape Figure)
 shapes_by None piece = []

@@ -1,5 +1,5 @@
 -- The rules that a record of an element may breach.
-use Rattle.std.specs.Prelude.{true, ◌≡◌, ◌≢◌, ℕ, ◌*◌, ◌<◌, ◌≤◌, ◌<ℤ◌, ◌≤ℤ◌, ◌-ℤ◌, ◌⊎◌, ℤ, pos, List, [], ◌∷◌, ◌++◌, length, Option, Some, None, All, is_some}
+use Rattle.std.specs.Prelude.{true, ◌≡◌, ◌≢◌, ℕ, ◌*◌, ◌<◌, ◌≤◌, ◌<ℤ◌, ◌≤ℤ◌, ◌-ℤ◌, ◌⊎◌, ℤ, pos, List, [], ◌∷◌, ◌++◌, length, Some, None, All, is_some}
 use Rattle.std.specs.Int.RustNames.{int_rem}
 use Rattle.gds_records.specs.Table.{table, form_among}
 use Rattle.lvl_grid.specs.Winding.{IsStraight, path_edges, last_or}
@@ -9,9 +9,9 @@ use Rattle.lvl_path.specs.declared.fault.PathFault.TheVariants.{OutOfMemory}
 use Rattle.lvl_path.specs.Runs.{IsLowestFault}
 use Rattle.gds_elements.specs.Types.{boundary, path, sref, aref, text, layer, datatype, width, xy, sname, colrow, strans, mag, angle, pathtype}
 use Rattle.gds_elements.specs.Order.{an_element, Begins}
-use Rattle.gds_elements.specs.Rec.{Rec, kinds, opener, last_of, field}
+use Rattle.gds_elements.specs.Rec.{Rec, kinds, opener, last_of}
 use Rattle.gds_elements.specs.Values.{short, long, bits, points, nth, name, magnitude, one_real, degrees, columns, rows}
-use Rattle.gds_elements.specs.Meaning.{half_of, end_of}
+use Rattle.gds_elements.specs.Meaning.{half_of, end_of, columns_in, rows_in}
 use Rattle.gds_elements.specs.declared.fault.GdsKind.{GdsKind}
 use Rattle.gds_elements.specs.declared.fault.GdsKind.TheVariants.{Record, Unexpected, Unsupported, Layer, Points, NotClosed, Strans, Magnification, Angle, ColRow, ArrayStep, Name, Path, Width, PathType, AfterEnd, Oblique, Repetition, TooManyCells}
 
@@ -75,7 +75,7 @@ ElementBreaches piece r Angle = (r.kind ≡ angle) × RefersToCell piece × ((t 
 ElementBreaches piece r ColRow = (r.kind ≡ colrow) × (opener piece ≡ Some aref) × ((columns r.payload <ℤ pos 1) ⊎ (rows r.payload <ℤ pos 1))
 ElementBreaches piece r ArrayStep =
     (r.kind ≡ xy) × (opener piece ≡ Some aref) × (length (points r.payload) ≡ 3)
-    × ¬ HasSteps (points r.payload) (magnitude (columns (field colrow piece))) (magnitude (rows (field colrow piece)))
+    × ¬ HasSteps (points r.payload) (columns_in (last_of colrow piece)) (rows_in (last_of colrow piece))
 ElementBreaches piece r Name = (r.kind ≡ sname) × RefersToCell piece × ¬ IsName (name r.payload)
 ElementBreaches piece r (Path f) =
     (r.kind ≡ xy) × (opener piece ≡ Some path) × (2 ≤ length (points r.payload)) × (last_of width piece ≢ None)

@@ -1,5 +1,5 @@
 -- The values that payloads spell.
-use Rattle.std.specs.Prelude.{◌≡◌, ℕ, zero, suc, ◌+◌, ◌-◌, ◌/◌, ◌==◌, ◌&&◌, nat_lt, Bool, ℤ, pos, if◌then◌else◌, List, [], ◌∷◌, length, take, drop, slice_index, slice_index_or}
+use Rattle.std.specs.Prelude.{ℕ, zero, suc, ◌-◌, ◌/◌, ◌==◌, ◌&&◌, nat_lt, Bool, ℤ, pos, if◌then◌else◌, List, [], ◌∷◌, length, take, drop, slice_index, slice_index_or, FitsSigned}
 use Rattle.std.specs.Int.{w16, w32, from_be_bytes, cast_signed}
 use Rattle.std.specs.Str.{bytes_eq}
 use Rattle.lvl_grid.specs.declared.point.Point.{Point}
@@ -70,3 +70,8 @@ columns p = short (take 2 p)
 
 abbrev pub rows : List ℕ → ℤ
 rows p = short (drop 2 p)
+
+-- both coordinates fit 32 signed bits
+pub record IsNarrow (p : Point) : Type 0 where
+  pub x_fits : FitsSigned w32 p.x
+  pub y_fits : FitsSigned w32 p.y
