@@ -1,0 +1,220 @@
+-- Where elements begin and end among other records.
+use Rattle.std.proofs.Common.{◌≡◌, ◌==◌, ◌&&◌, ◌||◌, ℕ, ◌⊎◌, inl, inr, Bool, true, false, not, List, [], ◌∷◌, ◌++◌, refl, sym, ap, ◌∙◌, subst, append_assoc}
+use Rattle.std.proofs.lemmas.List.{append-nil}
+use Rattle.gds_elements.specs.Types.{boundary, path, sref, aref, text, layer, datatype, texttype, presentation, pathtype, width, sname, colrow, xy, string, endel}
+use Rattle.gds_elements.specs.Order.{Order, nothing, one, next, either, many, maybe, ◌then◌, ◌or◌, IsWord, Begins, has, opens, a_transform, an_element}
+use Rattle.gds_elements.specs.Rec.{Rec, kinds}
+use Rattle.gds_elements.specs.Leading.{LeadsTo}
+use Rattle.gds_elements.specs.Reading.{HasRead, IsReading}
+use Rattle.gds_elements.specs.declared.element.Element.{Element}
+use Rattle.gds_elements.specs.declared.element.State.{State}
+use Rattle.gds_elements.specs.declared.element.State.TheVariants.{Boundary, Path, Sref, Aref, Text, Drawn as AtEnd}
+use Rattle.gds_elements.specs.declared.boundary.Place.{Place as BoundaryPlace}
+use Rattle.gds_elements.specs.declared.boundary.Place.TheVariants.{Layer, Datatype, Points}
+use Rattle.gds_elements.specs.declared.path.Place.{Place as PathPlace}
+use Rattle.gds_elements.specs.declared.path.Place.TheVariants.{Layer as PathLayer, Datatype as PathDatatype, PathType, Width as PathWidth, Points as PathPoints}
+use Rattle.gds_elements.specs.declared.sref.Place.{Place as SrefPlace}
+use Rattle.gds_elements.specs.declared.sref.Place.TheVariants.{Name as SrefName, Strans as SrefStrans, Magnification as SrefMagnification, Angle as SrefAngle, Points as SrefPoints}
+use Rattle.gds_elements.specs.declared.aref.Place.{Place as ArefPlace}
+use Rattle.gds_elements.specs.declared.aref.Place.TheVariants.{Name as ArefName, Strans as ArefStrans, Magnification as ArefMagnification, Angle as ArefAngle, Columns as ArefColumns, Points as ArefPoints}
+use Rattle.gds_elements.specs.declared.text.Place.{Place as TextPlace}
+use Rattle.gds_elements.specs.declared.text.Place.TheVariants.{Layer as TextLayer, TextType as TextTextType, Presentation as TextPresentation, PathType as TextPathType, Width as TextWidth, Strans as TextStrans, Magnification as TextMagnification, Angle as TextAngle, Points as TextPoints, Letters as TextLetters}
+use Rattle.gds_elements.specs.Boundary.{left as boundary_left}
+use Rattle.gds_elements.specs.Path.{left as path_left}
+use Rattle.gds_elements.specs.Sref.{left as sref_left}
+use Rattle.gds_elements.specs.Aref.{left as aref_left}
+use Rattle.gds_elements.specs.Text.{left as text_left}
+use Rattle.gds_elements.proofs.Orders.{at_type, type_same, empty_word, can_be_empty}
+use Rattle.gds_elements.proofs.Leads.{leads_begins}
+use Rattle.gds_elements.proofs.Words.{Stands, stands_append, stands_left, has_all}
+
+-- an order whose words end with a type, which stands nowhere before
+ends_with : ℕ → Order → Bool
+ends_with k nothing = false
+ends_with k (one j) = j == k
+ends_with k (next a b) = not (has a k) && ends_with k b
+ends_with k (either a b) = ends_with k a && ends_with k b
+ends_with k (many a) = false
+
+-- a word with the type at its end alone
+record EndsOnce (k : ℕ) (w : List ℕ) : Type 0 where
+  before : List ℕ
+  is : w ≡ before ++ k ∷ []
+  nowhere : Stands k before → ⊥
+
+and_both : (a b : Bool) → a && b ≡ true → (a ≡ true) × (b ≡ true)
+and_both true b e = (refl, e)
+and_both false b e = cc
+
+not_so : (a : Bool) → not a ≡ true → a ≡ true → ⊥
+not_so true e f = cc
+not_so false e f = cc
+
+ends_once : (k : ℕ) (a : Order) (w : List ℕ) → ends_with k a ≡ true → IsWord a w → EndsOnce k w
+unfolding ends_with
+ends_once k nothing w e h = cc
+ends_once k (one j) w e h = record { before = []; is = h ∙ ap (λ i. i ∷ []) (type_same j k e); nowhere = λ s. s }
+ends_once k (next a b) w e h =
+    let p = and_both (not (has a k)) (ends_with k b) e in
+    let r = ends_once k b h.1 p.1 h.3 in
+    record {
+      before = h.0 ++ r.before;
+      is = h.4 ∙ ap (λ l. h.0 ++ l) r.is ∙ sym (append_assoc h.0 r.before (k ∷ []));
+      nowhere = λ s. elim (stands_append k h.0 r.before s) [ inl x ↦ not_so (has a k) p.0 (has_all a k h.0 h.2 x) | inr y ↦ r.nowhere y ];
+    }
+ends_once k (either a b) w e h =
+    let p = and_both (ends_with k a) (ends_with k b) e in
+    elim h [ inl x ↦ ends_once k a w p.0 x | inr y ↦ ends_once k b w p.1 y ]
+ends_once k (many a) w e h = cc
+
+no_end : (k : ℕ) (u x : List ℕ) → (u ++ k ∷ []) ++ x ≡ [] → ⊥
+no_end k [] x e = cc
+no_end k (a ∷ u) x e = cc
+
+one_end : (k : ℕ) (u v x : List ℕ) → (Stands k v → ⊥) → (u ++ k ∷ []) ++ x ≡ v ++ k ∷ [] → x ≡ []
+one_end k [] [] x n e = cc
+one_end k [] (y ∷ v) x n e = (let h : k ≡ y = cc in absurd (n (inl h)))
+one_end k (a ∷ u) [] x n e = (let t : (u ++ k ∷ []) ++ x ≡ [] = cc in absurd (no_end k u x t))
+one_end k (a ∷ u) (y ∷ v) x n e = (let t : (u ++ k ∷ []) ++ x ≡ v ++ k ∷ [] = cc in one_end k u v x (λ s. n (inr s)) t)
+
+-- nothing follows in a whole element
+pub nothing_follows : (w u : List ℕ) → IsWord an_element w → IsWord an_element (w ++ u) → u ≡ []
+unfolding ends_with
+nothing_follows w u h g =
+    let p = ends_once endel an_element w refl h in
+    let q = ends_once endel an_element (w ++ u) refl g in
+    one_end endel p.before q.before u q.nowhere (ap (λ l. l ++ u) (sym p.is) ∙ q.is)
+
+more_left : (w : List ℕ) (a : Order) → can_be_empty a ≡ false → LeadsTo w a → IsWord an_element w → ⊥
+more_left w a n h x =
+    let y : IsWord a [] = (h []).0 (subst (IsWord an_element) (sym (append-nil w)) x) in
+    let z : false ≡ true = sym n ∙ empty_word a y in
+    cc
+
+-- at each place something is left
+boundary_more : (p : BoundaryPlace) → can_be_empty (boundary_left p) ≡ false
+boundary_more Layer = refl
+boundary_more Datatype = refl
+boundary_more Points = refl
+
+path_more : (p : PathPlace) → can_be_empty (path_left p) ≡ false
+path_more PathLayer = refl
+path_more PathDatatype = refl
+path_more PathType = refl
+path_more PathWidth = refl
+path_more PathPoints = refl
+
+sref_more : (p : SrefPlace) → can_be_empty (sref_left p) ≡ false
+sref_more SrefName = refl
+sref_more SrefStrans = refl
+sref_more SrefMagnification = refl
+sref_more SrefAngle = refl
+sref_more SrefPoints = refl
+
+aref_more : (p : ArefPlace) → can_be_empty (aref_left p) ≡ false
+aref_more ArefName = refl
+aref_more ArefStrans = refl
+aref_more ArefMagnification = refl
+aref_more ArefAngle = refl
+aref_more ArefColumns = refl
+aref_more ArefPoints = refl
+
+text_more : (p : TextPlace) → can_be_empty (text_left p) ≡ false
+text_more TextLayer = refl
+text_more TextTextType = refl
+text_more TextPresentation = refl
+text_more TextPathType = refl
+text_more TextWidth = refl
+text_more TextStrans = refl
+text_more TextMagnification = refl
+text_more TextAngle = refl
+text_more TextPoints = refl
+text_more TextLetters = refl
+
+state_begins : (s : State) (piece : List Rec) → HasRead s piece → Begins an_element (kinds piece)
+state_begins (Boundary b) piece h = leads_begins (kinds piece) (boundary_left b.place) h.leads
+state_begins (Path p) piece h = leads_begins (kinds piece) (path_left p.place) h.leads
+state_begins (Sref s) piece h = leads_begins (kinds piece) (sref_left s.place) h.leads
+state_begins (Aref a) piece h = leads_begins (kinds piece) (aref_left a.place) h.leads
+state_begins (Text t) piece h = leads_begins (kinds piece) (text_left t.place) h.leads
+state_begins (AtEnd d) piece h = leads_begins (kinds piece) (one endel) h.leads
+
+state_unfinished : (s : State) (piece : List Rec) → HasRead s piece → IsWord an_element (kinds piece) → ⊥
+state_unfinished (Boundary b) piece h = more_left (kinds piece) (boundary_left b.place) (boundary_more b.place) h.leads
+state_unfinished (Path p) piece h = more_left (kinds piece) (path_left p.place) (path_more p.place) h.leads
+state_unfinished (Sref s) piece h = more_left (kinds piece) (sref_left s.place) (sref_more s.place) h.leads
+state_unfinished (Aref a) piece h = more_left (kinds piece) (aref_left a.place) (aref_more a.place) h.leads
+state_unfinished (Text t) piece h = more_left (kinds piece) (text_left t.place) (text_more t.place) h.leads
+state_unfinished (AtEnd d) piece h = more_left (kinds piece) (one endel) refl h.leads
+
+-- what an element has read begins an element
+pub reading_begins : (e : Element) (piece : List Rec) → IsReading e piece → Begins an_element (kinds piece)
+reading_begins e piece h = state_begins e.state piece h
+
+-- and isn't a whole one
+pub reading_unfinished : (e : Element) (piece : List Rec) → IsReading e piece → IsWord an_element (kinds piece) → ⊥
+reading_unfinished e piece h = state_unfinished e.state piece h
+
+-- what stands behind the first record, in an order that begins with one type or another
+abbrev pub behind_first : Order → Order
+behind_first (next a b) = b
+behind_first (either a b) = either (behind_first a) (behind_first b)
+behind_first a = nothing
+
+begins_with_one : Order → Bool
+begins_with_one (next (one j) b) = true
+begins_with_one (either a b) = begins_with_one a && begins_with_one b
+begins_with_one a = false
+
+or_left : (a b : Bool) → a ≡ true → a || b ≡ true
+or_left true b e = refl
+or_left false b e = cc
+
+or_right : (a b : Bool) → b ≡ true → a || b ≡ true
+or_right true b e = refl
+or_right false b e = e
+
+stands_in_word : (a : Order) (o k : ℕ) (w : List ℕ) → begins_with_one a ≡ true → IsWord a (o ∷ w) → Stands k w → has (behind_first a) k ≡ true
+unfolding begins_with_one
+stands_in_word nothing o k w e h s = cc
+stands_in_word (one j) o k w e h s = cc
+stands_in_word (next nothing b) o k w e h s = cc
+stands_in_word (next (one j) b) o k w e h s =
+    let f : o ∷ w ≡ j ∷ h.1 = h.4 ∙ ap (λ l. l ++ h.1) h.2 in
+    let t : w ≡ h.1 = cc in
+    has_all b k h.1 h.3 (subst (Stands k) t s)
+stands_in_word (next (next c d) b) o k w e h s = cc
+stands_in_word (next (either c d) b) o k w e h s = cc
+stands_in_word (next (many c) b) o k w e h s = cc
+stands_in_word (either a b) o k w e h s =
+    let p = and_both (begins_with_one a) (begins_with_one b) e in
+    elim h [
+      | inl x ↦ or_left (has (behind_first a) k) (has (behind_first b) k) (stands_in_word a o k w p.0 x s)
+      | inr y ↦ or_right (has (behind_first a) k) (has (behind_first b) k) (stands_in_word b o k w p.1 y s)
+    ]
+stands_in_word (many a) o k w e h s = cc
+
+-- the types behind the opener of an element
+abbrev pub behind_opener : Order
+behind_opener = behind_first an_element
+
+pub stands_behind : (o k : ℕ) (w : List ℕ) → Begins an_element (o ∷ w) → Stands k w → has behind_opener k ≡ true
+unfolding begins_with_one
+stands_behind o k w (more, h) s = stands_in_word an_element o k (w ++ more) refl h (stands_left k w more s)
+
+no_opener : ℕ → Type 0
+no_opener k = has behind_opener k ≡ true → opens k ≡ false
+
+opener_apart : (k j : ℕ) → no_opener j → (k == j ≡ false → no_opener k) → no_opener k
+opener_apart k j = at_type no_opener k j
+
+-- no opener stands in an element behind its first record
+pub opens_first : (o k : ℕ) (w : List ℕ) → Begins an_element (o ∷ w) → Stands k w → opens k ≡ false
+unfolding no_opener
+opens_first o k w b s =
+    opener_apart k boundary (λ e. cc) (λ a. opener_apart k path (λ e. cc) (λ c. opener_apart k sref (λ e. cc) (λ d. opener_apart k aref (λ e. cc) (λ f. opener_apart k text (λ e. cc)
+    (λ g e. rw (a, c, d, f, g) refl))))) (stands_behind o k w b s)
+
+-- nor does a type that stands in no element
+pub stands_not : (o k : ℕ) (w : List ℕ) → has behind_opener k ≡ false → Begins an_element (o ∷ w) → Stands k w → ⊥
+stands_not o k w n b s = (let z : false ≡ true = sym n ∙ stands_behind o k w b s in cc)

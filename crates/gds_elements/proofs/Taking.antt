@@ -1,0 +1,71 @@
+-- What is answered of a record.
+use Rattle.std.proofs.Common.{◌≡◌, ◌==◌, ℕ, false, List, [], ◌∷◌, ◌++◌, map, Some, refl, sym, ap, ◌∙◌, subst, Result, Ok, Err, IfOk, IfErr}
+use Rattle.std.specs.Prelude.{OnOk}
+use Rattle.std.specs.Result.{IsErr, IsErrAnd}
+use Rattle.std.proofs.lemmas.List.{append-nil}
+use Rattle.gds_elements.specs.Types.{layer, datatype, width, xy, endel, sname, colrow, strans, angle, pathtype}
+use Rattle.gds_elements.specs.Order.{IsWord, Begins, an_element}
+use Rattle.gds_elements.specs.Rec.{Rec, kinds, opener, last_of}
+use Rattle.gds_elements.specs.Meaning.{shapes_by, references_by, in_rings}
+use Rattle.gds_elements.specs.Rules.{ElementBreaches, BreachesNone}
+use Rattle.gds_elements.specs.Misplaced.{Says}
+use Rattle.gds_elements.specs.Reading.{Takes, Steps, IsStep, IsAtEnd, record_of}
+use Rattle.gds_elements.specs.declared.fault.Refusal.{Refusal}
+use Rattle.gds_elements.specs.declared.element.Drawn.{Drawn}
+use Rattle.gds_elements.specs.declared.element.State.{State}
+use Rattle.gds_elements.specs.declared.element.Step.{Step}
+use Rattle.gds_elements.specs.declared.element.Step.TheVariants.{Whole}
+use Rattle.gds_elements.proofs.Fields.{last_there, opener-snoc, kinds-snoc}
+use Rattle.gds_elements.proofs.Allowed.{law_endel}
+
+-- a refusal that is passed on
+pub takes_refused : (piece : List Rec) (r : Rec) (res : Result State Refusal) (e : Refusal) → IsErr res × IsErrAnd res (λ x. x ≡ e) → Says e (ElementBreaches piece r) → Takes piece r res
+takes_refused piece r (Ok s) e h b = absurd h.1
+takes_refused piece r (Err x) e h b = subst (λ (i : Refusal). Says i (ElementBreaches piece r)) (sym h.1) b
+
+-- the end leaves what was drawn
+same_kinds : (piece : List Rec) (r : Rec) (j : ℕ) → r.kind ≡ endel → endel == j ≡ false → last_of j (piece ++ r ∷ []) ≡ last_of j piece
+same_kinds piece r j e n = last_there j piece r (subst (λ k. k == j ≡ false) (sym e) n)
+
+endel_shapes : (k : ℕ) (piece : List Rec) (r : Rec) → r.kind ≡ endel → shapes_by (Some k) (piece ++ r ∷ []) ≡ shapes_by (Some k) piece
+endel_shapes k piece r e =
+    rw (same_kinds piece r layer e refl, same_kinds piece r datatype e refl, same_kinds piece r xy e refl, same_kinds piece r width e refl, same_kinds piece r pathtype e refl) refl
+
+endel_references : (k : ℕ) (piece : List Rec) (r : Rec) → r.kind ≡ endel → references_by (Some k) (piece ++ r ∷ []) ≡ references_by (Some k) piece
+endel_references k piece r e =
+    rw (same_kinds piece r sname e refl, same_kinds piece r strans e refl, same_kinds piece r angle e refl, same_kinds piece r xy e refl, same_kinds piece r colrow e refl) refl
+
+pub law_end : (piece : List Rec) (r : Rec) (d : Drawn) → IsAtEnd d piece → r.kind ≡ endel → IsStep (Whole d) (piece ++ r ∷ []) × BreachesNone piece r
+law_end piece r d h e =
+    let new = piece ++ r ∷ [] in
+    let k = h.opened.0 in
+    let o : opener new ≡ Some k = opener-snoc piece r k h.opened.1 in
+    let whole : IsWord an_element (kinds new) = subst (IsWord an_element) (sym (kinds-snoc piece r ∙ ap (λ i. kinds piece ++ i ∷ []) e)) ((h.leads (endel ∷ [])).1 refl) in
+    let begun : Begins an_element (kinds new) = ([], subst (IsWord an_element) (sym (append-nil (kinds new))) whole) in (
+      (
+        whole,
+        record {
+          shapes = h.drawn.shapes ∙ ap (λ q. map in_rings (shapes_by q piece)) h.opened.1 ∙ ap (map in_rings) (sym (endel_shapes k piece r e)) ∙ sym (ap (λ q. map in_rings (shapes_by q new)) o);
+          references = h.drawn.references ∙ ap (λ q. references_by q piece) h.opened.1 ∙ sym (endel_references k piece r e) ∙ sym (ap (λ q. references_by q new) o);
+        },
+      ),
+      law_endel piece r begun e,
+    )
+
+-- a step of a state is one of the element
+pub takes_steps : (piece : List Rec) (r : Rec) (k : ℕ) (p : List ℕ) (res : Result Step Refusal) → r.kind ≡ k → r.payload ≡ p → ((d : ℕ) → Steps piece (record_of k d p) res) → Steps piece r res
+takes_steps piece r k p res e f h =
+    let g : record_of k r.data_type p ≡ r = ap (λ i. record_of i r.data_type p) (sym e) ∙ ap (λ q. record_of r.kind r.data_type q) (sym f) in
+    subst (λ (i : Rec). Steps piece i res) g (h r.data_type)
+
+pub steps_going : (piece : List Rec) (r : Rec) (res : Result Step Refusal) → Steps piece r res → IfOk res (λ s. IsStep s (piece ++ r ∷ []))
+steps_going piece r (Ok s) h = h.0
+steps_going piece r (Err e) h = tt
+
+pub steps_allowed : (piece : List Rec) (r : Rec) (res : Result Step Refusal) → Steps piece r res → OnOk res (BreachesNone piece r)
+steps_allowed piece r (Ok s) h = h.1
+steps_allowed piece r (Err e) h = tt
+
+pub steps_refused : (piece : List Rec) (r : Rec) (res : Result Step Refusal) → Steps piece r res → IfErr res (λ e. Says e (ElementBreaches piece r))
+steps_refused piece r (Ok s) h = tt
+steps_refused piece r (Err e) h = h

@@ -1,0 +1,30 @@
+use Rattle.std.proofs.Common.{◌∙◌, sym, ap}
+use Rattle.gds_elements.specs.Types.{endel}
+use Rattle.gds_elements.specs.Order.{one}
+use Rattle.gds_elements.specs.Reading.{record_of}
+use Rattle.gds_elements.specs.Text.{left}
+use Rattle.gds_elements.specs.declared.text.Text.{Text}
+use Rattle.gds_elements.proofs.Leads.{law_misplaced, leads_begins, left_behind}
+use Rattle.gds_elements.proofs.Allowed.{law_text}
+use Rattle.gds_elements.proofs.Texts.{text_goes, text_ends, by_table, ends_not}
+use Rattle.gds_elements.proofs.text.Text.take.Goals as goal
+
+pub returns-in_ok-check_points-in-Goes : goal.returns-in_ok-check_points-in-Goes
+returns-in_ok-check_points-in-Goes c = λ piece d h.
+    let r = record_of c.args.kind d c.args.payload.now in
+    let t' : Text = record { place = c.in-Goes.place } in
+    let b = text_goes c.args.self t' piece r h (sym c.after.ensures ∙ c.in-Goes.is) in
+    (b, law_text piece r h.opened (leads_begins _ (left c.in-Goes.place) b.leads) c.in_ok-check_points-in-Goes.ensures.allowed)
+
+pub returns-in-Ends : goal.returns-in-Ends
+returns-in-Ends c = λ piece d h.
+    let r = record_of c.args.kind d c.args.payload.now in
+    let a = sym c.after.ensures ∙ c.in-Ends.is in
+    let b = text_ends c.args.self piece r h a in
+    (b, law_text piece r h.opened (leads_begins _ (one endel) b.leads) (λ x. absurd (ends_not c.args.self.place c.args.kind a x)))
+
+pub returns-in-Nowhere : goal.returns-in-Nowhere
+returns-in-Nowhere c = λ piece d h.
+    let r = record_of c.args.kind d c.args.payload.now in
+    law_misplaced piece r (left c.args.self.place) c.misplaced.result h.leads
+    (by_table c.args.self.place c.args.kind ∙ ap (left_behind left) (sym c.after.ensures ∙ c.in-Nowhere.is)) c.requires.known c.misplaced.ensures

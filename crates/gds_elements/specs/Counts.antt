@@ -1,0 +1,19 @@
+-- What may be said of columns and rows.
+use Rattle.std.specs.Prelude.{◌<◌, ◌≤◌, ◌*◌, ◌⊎◌, ◌<ℤ◌, ◌≤ℤ◌, pos, ℕ, List}
+use Rattle.gds_elements.specs.Values.{magnitude, columns, rows}
+use Rattle.gds_elements.specs.Rules.{place_limit}
+use Rattle.gds_elements.specs.declared.fault.GdsKind.{GdsKind}
+use Rattle.gds_elements.specs.declared.fault.GdsKind.TheVariants.{ColRow, Repetition}
+
+-- columns and rows that an array may have
+pub record IsCounted (payload : List ℕ) : Type 0 where
+  pub some_columns : pos 1 ≤ℤ columns payload
+  pub some_rows : pos 1 ≤ℤ rows payload
+  pub few : magnitude (columns payload) * magnitude (rows payload) ≤ place_limit
+
+-- why it may not
+abbrev pub IsCountFault : List ℕ → GdsKind → Type 0
+IsCountFault payload ColRow = (columns payload <ℤ pos 1) ⊎ (rows payload <ℤ pos 1)
+IsCountFault payload Repetition =
+    (pos 1 ≤ℤ columns payload) × (pos 1 ≤ℤ rows payload) × (place_limit < magnitude (columns payload) * magnitude (rows payload))
+IsCountFault payload f = ⊥

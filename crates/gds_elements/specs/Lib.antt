@@ -1,0 +1,17 @@
+pub mod Types
+pub mod Order
+pub mod Rec
+pub mod Values
+pub mod Meaning
+pub mod Rules
+pub mod Formed
+pub mod Misplaced
+pub mod Leading
+pub mod Boundary
+pub mod Path
+pub mod Placing
+pub mod Counts
+pub mod Sref
+pub mod Aref
+pub mod Text
+pub mod Reading

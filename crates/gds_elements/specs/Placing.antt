@@ -1,0 +1,31 @@
+-- How a cell is placed: its name, and how it is reflected and turned.
+use Rattle.std.specs.Prelude.{◌≡◌, ◌≢◌, ℕ, List}
+use Rattle.lvl_grid.specs.declared.map.Turn.{Turn}
+use Rattle.gds_elements.specs.Types.{sname, strans, mag, angle}
+use Rattle.gds_elements.specs.Rec.{Rec, field}
+use Rattle.gds_elements.specs.Values.{bits, name, flips, turn, one_real, degrees}
+use Rattle.gds_elements.specs.Rules.{IsName}
+use Rattle.gds_elements.specs.declared.fault.GdsKind.{GdsKind}
+use Rattle.gds_elements.specs.declared.fault.GdsKind.TheVariants.{Strans, Magnification, Angle, Name}
+use Rattle.gds_elements.specs.declared.placing.Placing.{Placing}
+
+-- it has the values of the records
+pub record IsPlaced (p : Placing) (piece : List Rec) : Type 0 where
+  pub name : p.name.items ≡ name (field sname piece)
+  pub flip : p.flip ≡ flips (field strans piece)
+  pub turn : p.turn ≡ turn (field angle piece)
+
+-- a record that keeps the rules
+pub record IsPlacingAllowed (k : ℕ) (payload : List ℕ) : Type 0 where
+  pub strans : k ≡ strans → bits payload ≢ 0 → bits payload ≡ 0x8000
+  pub mag : k ≡ mag → payload ≡ one_real
+  pub angle : k ≡ angle → payload ≡ degrees (turn payload)
+  pub name : k ≡ sname → IsName (name payload)
+
+-- the rule that a record breaches
+abbrev pub IsPlacingFault : ℕ → List ℕ → GdsKind → Type 0
+IsPlacingFault k payload Strans = (k ≡ strans) × (bits payload ≢ 0) × (bits payload ≢ 0x8000)
+IsPlacingFault k payload Magnification = (k ≡ mag) × (payload ≢ one_real)
+IsPlacingFault k payload Angle = (k ≡ angle) × ((t : Turn) → payload ≢ degrees t)
+IsPlacingFault k payload Name = (k ≡ sname) × ¬ IsName (name payload)
+IsPlacingFault k payload f = ⊥

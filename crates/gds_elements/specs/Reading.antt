@@ -1,0 +1,74 @@
+-- What an element has of the records that were read.
+use Rattle.std.specs.Prelude.{◌≡◌, ℕ, List, [], ◌∷◌, ◌++◌, map, Some, Result, Ok, Err}
+use Rattle.lvl_cells.specs.Cells.{PlainShape, PlainReference, Rings}
+use Rattle.gds_elements.specs.Types.{endel}
+use Rattle.gds_elements.specs.Order.{one, IsWord, an_element}
+use Rattle.gds_elements.specs.Rec.{Rec, kinds, opener}
+use Rattle.gds_elements.specs.Meaning.{shapes_of, references_of, in_rings}
+use Rattle.gds_elements.specs.Rules.{ElementBreaches, BreachesNone}
+use Rattle.gds_elements.specs.Misplaced.{Says}
+use Rattle.gds_elements.specs.Leading.{LeadsTo}
+use Rattle.gds_elements.specs.Boundary.{IsBoundary}
+use Rattle.gds_elements.specs.Path.{IsPathRead}
+use Rattle.gds_elements.specs.Sref.{IsSrefRead}
+use Rattle.gds_elements.specs.Aref.{IsArefRead}
+use Rattle.gds_elements.specs.Text.{IsTextRead}
+use Rattle.gds_elements.specs.declared.fault.Refusal.{Refusal}
+use Rattle.gds_elements.specs.declared.element.Drawn.{Drawn}
+use Rattle.gds_elements.specs.declared.element.Drawn.TheVariants.{Shape, Reference, Nothing}
+use Rattle.gds_elements.specs.declared.element.State.{State}
+use Rattle.gds_elements.specs.declared.element.State.TheVariants.{Boundary, Path, Sref, Aref, Text, Drawn as AtEnd}
+use Rattle.gds_elements.specs.declared.element.Element.{Element}
+use Rattle.gds_elements.specs.declared.element.Step.{Step}
+use Rattle.gds_elements.specs.declared.element.Step.TheVariants.{Open, Whole}
+
+abbrev pub record_of : ℕ → ℕ → List ℕ → Rec
+record_of k d p = record { kind = k; data_type = d; payload = p }
+
+-- the shapes and the references that are drawn
+abbrev pub shapes_in : Drawn → List (PlainShape Rings)
+shapes_in (Shape s) = s ∷ []
+shapes_in (Reference r) = []
+shapes_in Nothing = []
+
+abbrev pub references_in : Drawn → List PlainReference
+references_in (Shape s) = []
+references_in (Reference r) = r ∷ []
+references_in Nothing = []
+
+-- what is drawn is what the records mean, with rings for each figure
+pub record IsDrawn (d : Drawn) (piece : List Rec) : Type 0 where
+  pub shapes : shapes_in d ≡ map in_rings (shapes_of piece)
+  pub references : references_in d ≡ references_of piece
+
+-- only the end is missing
+pub record IsAtEnd (d : Drawn) (piece : List Rec) : Type 0 where
+  pub opened : (k : ℕ) × (opener piece ≡ Some k)
+  pub leads : LeadsTo (kinds piece) (one endel)
+  pub drawn : IsDrawn d piece
+
+abbrev pub HasRead : State → List Rec → Type 0
+HasRead (Boundary b) piece = IsBoundary b piece
+HasRead (Path p) piece = IsPathRead p piece
+HasRead (Sref s) piece = IsSrefRead s piece
+HasRead (Aref a) piece = IsArefRead a piece
+HasRead (Text t) piece = IsTextRead t piece
+HasRead (AtEnd d) piece = IsAtEnd d piece
+
+-- the element has read these records, and no other
+abbrev pub IsReading : Element → List Rec → Type 0
+IsReading e piece = HasRead e.state piece
+
+-- an open element has read the records; a whole one is what they mean
+abbrev pub IsStep : Step → List Rec → Type 0
+IsStep (Open e) piece = IsReading e piece
+IsStep (Whole d) piece = IsWord an_element (kinds piece) × IsDrawn d piece
+
+-- the record is read behind the others and breaches no rule, or is refused by one that it breaches
+abbrev pub Takes : List Rec → Rec → Result State Refusal → Type 0
+Takes piece r (Ok s) = HasRead s (piece ++ r ∷ []) × BreachesNone piece r
+Takes piece r (Err e) = Says e (ElementBreaches piece r)
+
+abbrev pub Steps : List Rec → Rec → Result Step Refusal → Type 0
+Steps piece r (Ok s) = IsStep s (piece ++ r ∷ []) × BreachesNone piece r
+Steps piece r (Err e) = Says e (ElementBreaches piece r)

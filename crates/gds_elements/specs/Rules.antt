@@ -1,0 +1,98 @@
+-- The rules that a record of an element may breach.
+use Rattle.std.specs.Prelude.{true, ◌≡◌, ◌≢◌, ℕ, ◌*◌, ◌<◌, ◌≤◌, ◌<ℤ◌, ◌≤ℤ◌, ◌-ℤ◌, ◌⊎◌, ℤ, pos, List, [], ◌∷◌, ◌++◌, length, Some, None, All, is_some}
+use Rattle.std.specs.Int.RustNames.{int_rem}
+use Rattle.gds_records.specs.Table.{table, form_among}
+use Rattle.lvl_grid.specs.Winding.{IsStraight, path_edges, last_or}
+use Rattle.lvl_grid.specs.declared.point.Point.{Point}
+use Rattle.lvl_grid.specs.declared.map.Turn.{Turn}
+use Rattle.lvl_path.specs.declared.fault.PathFault.TheVariants.{OutOfMemory}
+use Rattle.lvl_path.specs.Runs.{IsLowestFault}
+use Rattle.gds_elements.specs.Types.{boundary, path, sref, aref, text, layer, datatype, width, xy, sname, colrow, strans, mag, angle, pathtype}
+use Rattle.gds_elements.specs.Order.{an_element, Begins}
+use Rattle.gds_elements.specs.Rec.{Rec, kinds, opener, last_of}
+use Rattle.gds_elements.specs.Values.{short, long, bits, points, nth, name, magnitude, one_real, degrees, columns, rows}
+use Rattle.gds_elements.specs.Meaning.{half_of, end_of, columns_in, rows_in}
+use Rattle.gds_elements.specs.declared.fault.GdsKind.{GdsKind}
+use Rattle.gds_elements.specs.declared.fault.GdsKind.TheVariants.{Record, Unexpected, Unsupported, Layer, Points, NotClosed, Strans, Magnification, Angle, ColRow, ArrayStep, Name, Path, Width, PathType, AfterEnd, Oblique, Repetition, TooManyCells}
+
+-- the most places of an array
+abbrev pub place_limit : ℕ
+place_limit = 1048576
+
+-- the type is one of the table of record types
+abbrev pub IsKnown : ℕ → Type 0
+IsKnown k = is_some (form_among table k) ≡ true
+
+-- a name has 1 to 255 bytes, each of them printed and no space
+abbrev pub IsName : List ℕ → Type 0
+IsName bytes = (0 < length bytes) × (length bytes ≤ 255) × All (λ b. (0x21 ≤ b) × (b ≤ 0x7E)) bytes
+
+-- the steps from each point to the next
+abbrev pub steps : List Point → List (Point × Point)
+steps [] = []
+steps (p ∷ ps) = path_edges p ps
+
+-- the points end where they begin
+abbrev pub IsClosed : List Point → Type 0
+IsClosed [] = Unit {0}
+IsClosed (p ∷ ps) = last_or p ps ≡ p
+
+-- a width is positive and even
+abbrev pub IsWidth : ℤ → Type 0
+IsWidth z = (h : ℕ) × (0 < h) × (z ≡ pos (2 * h))
+
+-- n steps in whole numbers lead from p to q
+abbrev pub IsDivided : Point → Point → ℕ → Type 0
+IsDivided p q n = (int_rem (q.x -ℤ p.x) (pos n) ≡ pos 0) × (int_rem (q.y -ℤ p.y) (pos n) ≡ pos 0)
+
+abbrev pub HasSteps : List Point → ℕ → ℕ → Type 0
+HasSteps ps m n = IsDivided (nth ps 0) (nth ps 1) m × IsDivided (nth ps 0) (nth ps 2) n
+
+-- the element draws a shape, or refers to a cell
+abbrev pub DrawsShape : List Rec → Type 0
+DrawsShape piece = (opener piece ≡ Some boundary) ⊎ (opener piece ≡ Some path)
+
+abbrev pub RefersToCell : List Rec → Type 0
+RefersToCell piece = (opener piece ≡ Some sref) ⊎ (opener piece ≡ Some aref)
+
+-- a boundary has at least four points, a path at least two, an array three, the others one
+abbrev pub IsMiscounted : List Rec → ℕ → Type 0
+IsMiscounted piece n =
+    ((opener piece ≡ Some boundary) × (n < 4)) ⊎ ((opener piece ≡ Some path) × (n < 2)) ⊎ ((opener piece ≡ Some aref) × (n ≢ 3))
+    ⊎ (((opener piece ≡ Some sref) ⊎ (opener piece ≡ Some text)) × (n ≢ 1))
+
+-- a record, behind the records of its element so far, breaches the rule
+abbrev pub ElementBreaches : List Rec → Rec → GdsKind → Type 0
+ElementBreaches piece r (Record f) = ⊥
+ElementBreaches piece r (Unexpected k) = (r.kind ≡ k) × IsKnown k × ¬ Begins an_element (kinds (piece ++ r ∷ []))
+ElementBreaches piece r (Unsupported k) = (r.kind ≡ k) × (k < 60) × ¬ IsKnown k
+ElementBreaches piece r Layer = ((r.kind ≡ layer) ⊎ (r.kind ≡ datatype)) × DrawsShape piece × (short r.payload <ℤ pos 0)
+ElementBreaches piece r Points = (r.kind ≡ xy) × IsMiscounted piece (length (points r.payload))
+ElementBreaches piece r NotClosed = (r.kind ≡ xy) × (opener piece ≡ Some boundary) × (4 ≤ length (points r.payload)) × ¬ IsClosed (points r.payload)
+ElementBreaches piece r Strans = (r.kind ≡ strans) × RefersToCell piece × (bits r.payload ≢ 0) × (bits r.payload ≢ 0x8000)
+ElementBreaches piece r Magnification = (r.kind ≡ mag) × RefersToCell piece × (r.payload ≢ one_real)
+ElementBreaches piece r Angle = (r.kind ≡ angle) × RefersToCell piece × ((t : Turn) → r.payload ≢ degrees t)
+ElementBreaches piece r ColRow = (r.kind ≡ colrow) × (opener piece ≡ Some aref) × ((columns r.payload <ℤ pos 1) ⊎ (rows r.payload <ℤ pos 1))
+ElementBreaches piece r ArrayStep =
+    (r.kind ≡ xy) × (opener piece ≡ Some aref) × (length (points r.payload) ≡ 3)
+    × ¬ HasSteps (points r.payload) (columns_in (last_of colrow piece)) (rows_in (last_of colrow piece))
+ElementBreaches piece r Name = (r.kind ≡ sname) × RefersToCell piece × ¬ IsName (name r.payload)
+ElementBreaches piece r (Path f) =
+    (r.kind ≡ xy) × (opener piece ≡ Some path) × (2 ≤ length (points r.payload)) × (last_of width piece ≢ None)
+    × (f ≢ OutOfMemory) × IsLowestFault (points r.payload) (record { half = half_of piece; start = end_of piece; end = end_of piece }) f
+ElementBreaches piece r Width =
+    (opener piece ≡ Some path)
+    × (((r.kind ≡ width) × ¬ IsWidth (long r.payload)) ⊎ ((r.kind ≡ xy) × (2 ≤ length (points r.payload)) × (last_of width piece ≡ None)))
+ElementBreaches piece r PathType = (r.kind ≡ pathtype) × (opener piece ≡ Some path) × (short r.payload ≢ pos 0) × (short r.payload ≢ pos 2)
+ElementBreaches piece r AfterEnd = ⊥
+ElementBreaches piece r Oblique =
+    (r.kind ≡ xy) × (opener piece ≡ Some boundary) × (4 ≤ length (points r.payload)) × IsClosed (points r.payload)
+    × ¬ All IsStraight (steps (points r.payload))
+ElementBreaches piece r Repetition =
+    (r.kind ≡ colrow) × (opener piece ≡ Some aref) × (pos 1 ≤ℤ columns r.payload) × (pos 1 ≤ℤ rows r.payload)
+    × (place_limit < magnitude (columns r.payload) * magnitude (rows r.payload))
+ElementBreaches piece r TooManyCells = ⊥
+
+-- it breaches no rule
+abbrev pub BreachesNone : List Rec → Rec → Type 0
+BreachesNone piece r = (k : GdsKind) → ElementBreaches piece r k → ⊥

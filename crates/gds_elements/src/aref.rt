@@ -1,0 +1,169 @@
+//! AREF SNAME [STRANS [MAG] [ANGLE]] COLROW XY ENDEL: a reference to a cell at columns and rows of
+//! places.
+ghost use Rattle.std.specs.Prelude.{◌≡◌, ◌∷◌, ◌≢◌, [], false, ◌≤◌, ◌<◌, ◌<ℤ◌, ◌-ℤ◌, pos, List, ℕ, Some, None, IfOk, IfErr, IfSome, IfNone, OnOk, length, FitsSigned};
+ghost use Rattle.std.specs.Int.{w32};
+ghost use Rattle.std.specs.Int.RustNames.{int_div, int_rem};
+ghost use Rattle.gds_elements.specs.Types.{aref, colrow};
+ghost use Rattle.gds_elements.specs.Values.{points, nth, IsNarrow};
+ghost use Rattle.gds_elements.specs.Rec.{Rec};
+ghost use Rattle.gds_elements.specs.Meaning.{array_shifts, step};
+ghost use Rattle.gds_elements.specs.Rules.{HasSteps, IsDivided};
+ghost use Rattle.gds_elements.specs.Formed.{IsFormed};
+ghost use Rattle.gds_elements.specs.Misplaced.{Says};
+ghost use Rattle.gds_elements.specs.Aref.{after, IsArefRead, IsArrayFault};
+ghost use Rattle.gds_elements.specs.Reading.{Takes, record_of};
+
+use crate::counts::{Counts, read_counts};
+use crate::element::{Drawn, State};
+use crate::fault::{GdsKind, Refusal};
+use crate::order::{Next, misplaced, only};
+use crate::placing::Placing;
+use crate::values::{point_at, point_count};
+use gds_records::record_type;
+use lvl_cells::{Offsets, Reference};
+use lvl_grid::Point;
+use std::alloc::Global;
+
+/// What the next record may be, named by the first of them.
+#[derive(Clone, Copy)]
+pub(crate) enum Place {
+    Name,
+    Strans,
+    Magnification,
+    Angle,
+    Columns,
+    Points,
+}
+
+impl Place {
+    /// What a record of this type is here.
+    fn after(self, kind: u8) -> Next<Place>
+        ensures { result ≡ after self kind }
+    {
+        match self {
+            Place::Name => only(kind, record_type::SNAME, Next::Goes(Place::Strans)),
+            Place::Strans => match kind {
+                record_type::STRANS => Next::Goes(Place::Magnification),
+                _ => only(kind, record_type::COLROW, Next::Goes(Place::Points)),
+            },
+            Place::Magnification => match kind {
+                record_type::MAG => Next::Goes(Place::Angle),
+                record_type::ANGLE => Next::Goes(Place::Columns),
+                _ => only(kind, record_type::COLROW, Next::Goes(Place::Points)),
+            },
+            Place::Angle => match kind {
+                record_type::ANGLE => Next::Goes(Place::Columns),
+                _ => only(kind, record_type::COLROW, Next::Goes(Place::Points)),
+            },
+            Place::Columns => only(kind, record_type::COLROW, Next::Goes(Place::Points)),
+            Place::Points => only(kind, record_type::XY, Next::Ends),
+        }
+    }
+}
+
+/// An array that is being read.
+#[derive(Drop)]
+pub(crate) struct Aref {
+    place: Place,
+    placing: Placing,
+    counts: Counts,
+}
+
+impl Aref {
+    /// An array of which the opener was read.
+    pub(crate) fn open(alloc: Global) -> Aref
+        ensures { (r : Rec) → r.kind ≡ aref → IsArefRead result (r ∷ []) }
+    {
+        Aref {
+            place: Place::Name,
+            placing: Placing::new(alloc),
+            counts: Counts {
+                columns: 1,
+                rows: 1,
+            },
+        }
+    }
+
+    /// Takes the next record, if it breaches no rule.
+    pub(crate) fn take(self, alloc: Global, kind: u8, payload: &[u8]) -> Result<State, Refusal>
+        requires { IsFormed kind payload.now }
+        ensures { (piece : List Rec) (d : ℕ) → IsArefRead self piece → Takes piece (record_of kind d payload.now) result }
+    {
+        let Aref {
+            place,
+            placing,
+            counts,
+        } = self;
+        match place.after(kind) {
+            Next::Goes(place) => {
+                let placing = placing.read(alloc, kind, payload)?;
+                let counts = read_counts(counts, kind, payload)?;
+                Ok(State::Aref(Aref {
+                    place,
+                    placing,
+                    counts,
+                }))
+            }
+            Next::Ends => {
+                let reference = place_all(placing, counts, payload)?;
+                Ok(State::Drawn(Drawn::Reference(reference)))
+            }
+            Next::Nowhere => Err(misplaced(kind)),
+        }
+    }
+}
+
+/// The reference to the cell at all places of the array.
+fn place_all(placing: Placing, counts: Counts, payload: &[u8]) -> Result<Reference, Refusal>
+    ensures value { IfOk result (λ r. r ≡ record { cell = placing.name.items; flip = placing.flip; turn = placing.turn; at = nth (points payload.now) 0; shifts = array_shifts (points payload.now) counts.columns counts.rows }) }
+    ensures allowed { OnOk result ((length (points payload.now) ≡ 3) × HasSteps (points payload.now) counts.columns counts.rows) }
+    ensures refused { IfErr result (λ e. Says e (IsArrayFault (points payload.now) counts.columns counts.rows)) }
+{
+    if point_count(payload) != 3 {
+        return Err(Refusal::Breach(GdsKind::Points));
+    }
+    let origin = point_at(payload, 0);
+    let across = step(origin, point_at(payload, 1), counts.columns)?;
+    let up = step(origin, point_at(payload, 2), counts.rows)?;
+    let shifts = Offsets::lattice(across, counts.columns, up, counts.rows).unwrap();
+    let Placing { name, flip, turn } = placing;
+    Ok(Reference::new(name, flip, turn, origin, shifts).unwrap())
+}
+
+/// One of so many equal steps from a point to another.
+fn step(from: Point, to: Point, count: u64) -> Result<Point, Refusal>
+    requires from { IsNarrow from }
+    requires to { IsNarrow to }
+    requires count { 0 < count }
+    requires few { count ≤ 1048576 }
+    ensures value { IfOk result (λ p. (p ≡ step from to count) × IsDivided from to count) }
+    ensures refused { IfErr result (λ e. (e ≡ Refusal.Breach GdsKind.ArrayStep) × ¬ IsDivided from to count) }
+{
+    let x = step_along(from.x, to.x, count)?;
+    let y = step_along(from.y, to.y, count)?;
+    Ok(Point { x, y })
+}
+
+/// One of so many equal steps, along one axis.
+fn step_along(from: i64, to: i64, count: u64) -> Result<i64, Refusal>
+    requires from { FitsSigned w32 from }
+    requires to { FitsSigned w32 to }
+    requires count { 0 < count }
+    requires few { count ≤ 1048576 }
+    ensures value { IfOk result (λ n. (n ≡ int_div (to -ℤ from) (pos count)) × (int_rem (to -ℤ from) (pos count) ≡ pos 0)) }
+    ensures refused { IfErr result (λ e. (e ≡ Refusal.Breach GdsKind.ArrayStep) × (int_rem (to -ℤ from) (pos count) ≢ pos 0)) }
+{
+    divided(to - from, count as i64)
+}
+
+/// The exact quotient.
+fn divided(distance: i64, count: i64) -> Result<i64, Refusal>
+    requires { pos 0 <ℤ count }
+    ensures value { IfOk result (λ n. (n ≡ int_div distance count) × (int_rem distance count ≡ pos 0)) }
+    ensures refused { IfErr result (λ e. (e ≡ Refusal.Breach GdsKind.ArrayStep) × (int_rem distance count ≢ pos 0)) }
+{
+    if distance % count != 0 {
+        return Err(Refusal::Breach(GdsKind::ArrayStep));
+    }
+    Ok(distance / count)
+}

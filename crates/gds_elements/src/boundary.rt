@@ -1,0 +1,109 @@
+//! BOUNDARY LAYER DATATYPE XY ENDEL: the ring of its points but the last.
+ghost use Rattle.std.specs.Prelude.{◌≡◌, ◌∷◌, [], ◌≤◌, List, ℕ, IfOk, IfErr, OnOk, length, All};
+ghost use Rattle.lvl_grid.specs.Winding.{IsStraight};
+ghost use Rattle.gds_elements.specs.Types.{boundary};
+ghost use Rattle.gds_elements.specs.Values.{points, but_last};
+ghost use Rattle.gds_elements.specs.Rec.{Rec};
+ghost use Rattle.gds_elements.specs.Rules.{IsClosed, steps};
+ghost use Rattle.gds_elements.specs.Formed.{IsFormed};
+ghost use Rattle.gds_elements.specs.Misplaced.{Says};
+ghost use Rattle.gds_elements.specs.Boundary.{after, IsBoundary, IsRingFault};
+ghost use Rattle.gds_elements.specs.Reading.{Takes, record_of};
+
+use crate::element::{Drawn, State, zero_shift};
+use crate::fault::{GdsKind, Refusal};
+use crate::layer::read_layer;
+use crate::order::{Next, misplaced, only};
+use crate::values::points;
+use gds_records::record_type;
+use lvl_cells::{Layer, Shape};
+use lvl_grid::Ring;
+use std::alloc::Global;
+
+/// What the next record may be, named by it.
+#[derive(Clone, Copy)]
+pub(crate) enum Place {
+    Layer,
+    Datatype,
+    Points,
+}
+
+impl Place {
+    /// What a record of this type is here.
+    fn after(self, kind: u8) -> Next<Place>
+        ensures { result ≡ after self kind }
+    {
+        match self {
+            Place::Layer => only(kind, record_type::LAYER, Next::Goes(Place::Datatype)),
+            Place::Datatype => only(kind, record_type::DATATYPE, Next::Goes(Place::Points)),
+            Place::Points => only(kind, record_type::XY, Next::Ends),
+        }
+    }
+}
+
+/// A boundary that is being read.
+#[derive(Drop)]
+pub(crate) struct Boundary {
+    place: Place,
+    layer: Layer,
+}
+
+impl Boundary {
+    /// A boundary of which the opener was read.
+    pub(crate) fn open() -> Boundary
+        ensures { (r : Rec) → r.kind ≡ boundary → IsBoundary result (r ∷ []) }
+    {
+        Boundary {
+            place: Place::Layer,
+            layer: Layer {
+                layer: 0,
+                datatype: 0,
+            },
+        }
+    }
+
+    /// Takes the next record, if it breaches no rule.
+    pub(crate) fn take(self, alloc: Global, kind: u8, payload: &[u8]) -> Result<State, Refusal>
+        requires { IsFormed kind payload.now }
+        ensures { (piece : List Rec) (d : ℕ) → IsBoundary self piece → Takes piece (record_of kind d payload.now) result }
+    {
+        match self.place.after(kind) {
+            Next::Goes(place) => {
+                let layer = read_layer(self.layer, kind, payload)?;
+                Ok(State::Boundary(Boundary { place, layer }))
+            }
+            Next::Ends => {
+                let rings = rings_of(alloc, payload)?;
+                Ok(State::Drawn(Drawn::Shape(Shape {
+                    layer: self.layer,
+                    rings,
+                    shifts: zero_shift(),
+                })))
+            }
+            Next::Nowhere => Err(misplaced(kind)),
+        }
+    }
+}
+
+/// The ring of a boundary's points but the last, alone.
+fn rings_of(alloc: Global, payload: &[u8]) -> Result<Vec<Ring>, Refusal>
+    ensures value { IfOk result (λ v. v.items ≡ but_last (points payload.now) ∷ []) }
+    ensures allowed { OnOk result ((4 ≤ length (points payload.now)) × IsClosed (points payload.now)
+        × All IsStraight (steps (points payload.now))) }
+    ensures refused { IfErr result (λ e. Says e (IsRingFault (points payload.now))) }
+{
+    let mut points = points(alloc, payload)?;
+    if points.len() < 4 {
+        return Err(Refusal::Breach(GdsKind::Points));
+    }
+    let last = points.pop().unwrap();
+    if last != points[0] {
+        return Err(Refusal::Breach(GdsKind::NotClosed));
+    }
+    let mut rings = Vec::with_capacity(alloc, 1)?;
+    match Ring::new(points) {
+        Ok(ring) => rings.push(ring)?,
+        Err(_) => return Err(Refusal::Breach(GdsKind::Oblique)),
+    }
+    Ok(rings)
+}

@@ -1,0 +1,148 @@
+//! One element, record by record.
+ghost use Rattle.std.specs.Prelude.{◌≡◌, ◌<◌, ◌∷◌, [], ◌++◌, ℕ, List, IfSome, IfNone, IfOk, IfErr, OnOk, false};
+ghost use Rattle.gds_elements.specs.Order.{opens};
+ghost use Rattle.gds_elements.specs.Rec.{Rec};
+ghost use Rattle.gds_elements.specs.Meaning.{one_place};
+ghost use Rattle.gds_elements.specs.Rules.{ElementBreaches, BreachesNone};
+ghost use Rattle.gds_elements.specs.Formed.{IsFormed};
+ghost use Rattle.gds_elements.specs.Misplaced.{Says};
+ghost use Rattle.gds_elements.specs.Reading.{IsReading, IsStep, HasRead, IsAtEnd, Takes, Steps, record_of};
+
+use crate::aref::Aref;
+use crate::boundary::Boundary;
+use crate::fault::Refusal;
+use crate::order::misplaced;
+use crate::path::Path;
+use crate::sref::Sref;
+use crate::text::Text;
+use gds_records::record_type;
+use lvl_cells::{Offsets, Reference, Shape};
+use lvl_grid::Point;
+use std::alloc::Global;
+
+/// What a whole element draws.
+#[derive(Debug, Drop)]
+pub enum Drawn {
+    /// A boundary or a path.
+    Shape(Shape),
+    /// An SREF or an AREF.
+    Reference(Reference),
+    /// A text.
+    Nothing,
+}
+
+/// Which element is read, and how far.
+#[derive(Drop)]
+pub(crate) enum State {
+    Boundary(Boundary),
+    Path(Path),
+    Sref(Sref),
+    Aref(Aref),
+    Text(Text),
+    /// Only ENDEL is missing.
+    Drawn(Drawn),
+}
+
+/// An element that is being read.
+#[derive(Drop)]
+pub struct Element {
+    state: State,
+}
+
+/// What an element is behind one record more.
+#[derive(Drop)]
+pub enum Step {
+    /// It isn't whole yet.
+    Open(Element),
+    /// The record was its ENDEL.
+    Whole(Drawn),
+}
+
+impl Element {
+    /// The element that a record of this type opens; None where it opens none.
+    pub fn open(alloc: Global, kind: u8) -> Option<Element>
+        ensures opened { IfSome result (λ e. (r : Rec) → r.kind ≡ kind → IsReading e (r ∷ [])) }
+        ensures none { IfNone result (opens kind ≡ false) }
+    {
+        match kind {
+            record_type::BOUNDARY => Some(Element {
+                state: State::Boundary(Boundary::open()),
+            }),
+            record_type::PATH => Some(Element {
+                state: State::Path(Path::open()),
+            }),
+            record_type::SREF => Some(Element {
+                state: State::Sref(Sref::open(alloc)),
+            }),
+            record_type::AREF => Some(Element {
+                state: State::Aref(Aref::open(alloc)),
+            }),
+            record_type::TEXT => Some(Element {
+                state: State::Text(Text::open()),
+            }),
+            _ => None,
+        }
+    }
+
+    /// Takes the next record, if it breaches no rule. The order of an element's records, their
+    /// values and the rules are those of the GDSII Stream Format Manual, Release 6, and of this
+    /// project where a rule is marked own. Of several rules that one record breaches, the first in
+    /// the order of [`crate::GdsKind`] is told, but `Oblique` behind `NotClosed` and `Width` before
+    /// `Path`.
+    pub fn take(self, alloc: Global, kind: u8, payload: &[u8]) -> Result<Step, Refusal>
+        requires formed { IsFormed kind payload.now }
+        ensures going { (piece : List Rec) (r : Rec) → IsReading self piece → r.kind ≡ kind → r.payload ≡ payload.now
+            → IfOk result (λ step. IsStep step (piece ++ r ∷ [])) }
+        ensures allowed { (piece : List Rec) (r : Rec) → IsReading self piece → r.kind ≡ kind → r.payload ≡ payload.now
+            → OnOk result (BreachesNone piece r) }
+        ensures refused { (piece : List Rec) (r : Rec) → IsReading self piece → r.kind ≡ kind → r.payload ≡ payload.now
+            → IfErr result (λ e. Says e (ElementBreaches piece r)) }
+    {
+        self.state.take(alloc, kind, payload)
+    }
+}
+
+impl State {
+    fn take(self, alloc: Global, kind: u8, payload: &[u8]) -> Result<Step, Refusal>
+        requires { IsFormed kind payload.now }
+        ensures { (piece : List Rec) (d : ℕ) → HasRead self piece → Steps piece (record_of kind d payload.now) result }
+    {
+        match self {
+            State::Boundary(boundary) => going(boundary.take(alloc, kind, payload)),
+            State::Path(path) => going(path.take(alloc, kind, payload)),
+            State::Sref(reference) => going(reference.take(alloc, kind, payload)),
+            State::Aref(array) => going(array.take(alloc, kind, payload)),
+            State::Text(text) => going(text.take(kind, payload)),
+            State::Drawn(drawn) => end(drawn, kind),
+        }
+    }
+}
+
+/// The step to an element that isn't whole yet.
+fn going(read: Result<State, Refusal>) -> Result<Step, Refusal>
+    ensures { (piece : List Rec) (r : Rec) → Takes piece r read → Steps piece r result }
+{
+    match read {
+        Ok(state) => Ok(Step::Open(Element { state })),
+        Err(refusal) => Err(refusal),
+    }
+}
+
+/// The step by the last record, of which only ENDEL is left.
+fn end(drawn: Drawn, kind: u8) -> Result<Step, Refusal>
+    requires { kind < 60 }
+    ensures { (piece : List Rec) (d : ℕ) (payload : List ℕ) → IsAtEnd drawn piece → Steps piece (record_of kind d payload) result }
+{
+    if kind != record_type::ENDEL {
+        return Err(misplaced(kind));
+    }
+    Ok(Step::Whole(drawn))
+}
+
+/// The zero shift alone. It takes no memory.
+pub(crate) fn zero_shift() -> Offsets
+    ensures { result ≡ one_place }
+{
+    let zero = Point { x: 0, y: 0 };
+    Offsets::lattice(zero, 1, zero, 1).unwrap()
+}

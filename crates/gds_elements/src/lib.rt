@@ -1,0 +1,28 @@
+//! Elements of GDSII structures, read record by record.
+//!
+//! An element begins with its opener, BOUNDARY, PATH, SREF, AREF or TEXT, and ends with ENDEL
+//! (GDSII Stream Format Manual, Release 6). [`Element::open`] takes the opener, and
+//! [`Element::take`] one record more, until the element is whole: then it is what it draws, a shape
+//! or a reference to a cell, or nothing.
+//!
+//! A sixth element takes a file of its own beside `boundary.rt`: its places, with what a record is
+//! at each of them, the values that it keeps, and what it draws. Its opener is added to `Opener` and
+//! its reading to `State`, in `element.rt`; its order to `an_element` and what it means to
+//! `shapes_of` or `references_of`, in `specs/`.
+#![tactic(auto)]
+
+pub use element::{Drawn, Element, Step};
+pub use fault::{GdsKind, Refusal};
+
+mod aref;
+mod boundary;
+mod counts;
+mod element;
+mod fault;
+mod layer;
+mod order;
+mod path;
+mod placing;
+mod sref;
+mod text;
+mod values;

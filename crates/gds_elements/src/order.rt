@@ -1,0 +1,63 @@
+//! What a record is at a place of an element.
+ghost use Rattle.std.specs.Prelude.{◌≡◌, ◌==◌, ◌<◌, if◌then◌else◌};
+ghost use Rattle.gds_elements.specs.Misplaced.{IsMisplaced};
+
+use crate::fault::{GdsKind, Refusal};
+use gds_records::record_type;
+
+/// What a record of some type is at a place.
+#[derive(Clone, Copy)]
+pub(crate) enum Next<P> {
+    /// It may stand there and leads to this place.
+    Goes(P),
+    /// It may stand there, and only ENDEL behind it.
+    Ends,
+    /// It may not stand there.
+    Nowhere,
+}
+
+/// The one type that may stand at a place.
+pub(crate) fn only<P>(kind: u8, wanted: u8, next: Next<P>) -> Next<P>
+where
+    P: Copy,
+    ensures { result ≡ (if kind == wanted then next else Next.Nowhere) }
+{
+    if kind == wanted { next } else { Next::Nowhere }
+}
+
+/// The refusal of a record that may not stand where it stands.
+pub(crate) fn misplaced(kind: u8) -> Refusal
+    requires { kind < 60 }
+    ensures { IsMisplaced kind result }
+{
+    match kind {
+        record_type::HEADER
+        | record_type::BGNLIB
+        | record_type::LIBNAME
+        | record_type::UNITS
+        | record_type::ENDLIB
+        | record_type::BGNSTR
+        | record_type::STRNAME
+        | record_type::ENDSTR
+        | record_type::BOUNDARY
+        | record_type::PATH
+        | record_type::SREF
+        | record_type::AREF
+        | record_type::TEXT
+        | record_type::LAYER
+        | record_type::DATATYPE
+        | record_type::WIDTH
+        | record_type::XY
+        | record_type::ENDEL
+        | record_type::SNAME
+        | record_type::COLROW
+        | record_type::TEXTTYPE
+        | record_type::PRESENTATION
+        | record_type::STRING
+        | record_type::STRANS
+        | record_type::MAG
+        | record_type::ANGLE
+        | record_type::PATHTYPE => Refusal::Breach(GdsKind::Unexpected(kind)),
+        _ => Refusal::Breach(GdsKind::Unsupported(kind)),
+    }
+}

@@ -1,0 +1,194 @@
+//! PATH LAYER DATATYPE [PATHTYPE] [WIDTH] XY ENDEL: the bands of its runs.
+ghost use Rattle.std.specs.Prelude.{◌≡◌, [], ◌∷◌, ◌≢◌, ◌==◌, ◌≤◌, ◌<◌, List, ℕ, Some, None, false, pos, IfOk, IfErr, OnOk, length, if◌then◌else◌};
+ghost use Rattle.std.specs.Ordering.{int_eq};
+ghost use Rattle.lvl_path.specs.Runs.{path_rings, IsPath};
+ghost use Rattle.gds_elements.specs.Types.{path, width, pathtype};
+ghost use Rattle.gds_elements.specs.Values.{short, long, points};
+ghost use Rattle.gds_elements.specs.Rec.{Rec};
+ghost use Rattle.gds_elements.specs.Meaning.{half};
+ghost use Rattle.gds_elements.specs.Rules.{IsWidth};
+ghost use Rattle.gds_elements.specs.Formed.{IsFormed};
+ghost use Rattle.gds_elements.specs.Misplaced.{Says};
+ghost use Rattle.gds_elements.specs.Path.{after, IsPathRead, IsBandsFault, reach_at};
+ghost use Rattle.gds_elements.specs.Reading.{Takes, record_of};
+
+use crate::element::{Drawn, State, zero_shift};
+use crate::fault::{GdsKind, Refusal};
+use crate::layer::read_layer;
+use crate::order::{Next, misplaced, only};
+use crate::values::{long, points, short};
+use gds_records::record_type;
+use lvl_cells::{Layer, Shape};
+use lvl_grid::Ring;
+use lvl_path::{PathFault, bands};
+use std::alloc::Global;
+
+/// What the next record may be, named by the first of them.
+#[derive(Clone, Copy)]
+pub(crate) enum Place {
+    Layer,
+    Datatype,
+    PathType,
+    Width,
+    Points,
+}
+
+impl Place {
+    /// What a record of this type is here.
+    fn after(self, kind: u8) -> Next<Place>
+        ensures { result ≡ after self kind }
+    {
+        match self {
+            Place::Layer => only(kind, record_type::LAYER, Next::Goes(Place::Datatype)),
+            Place::Datatype => only(kind, record_type::DATATYPE, Next::Goes(Place::PathType)),
+            Place::PathType => match kind {
+                record_type::PATHTYPE => Next::Goes(Place::Width),
+                record_type::WIDTH => Next::Goes(Place::Points),
+                _ => only(kind, record_type::XY, Next::Ends),
+            },
+            Place::Width => match kind {
+                record_type::WIDTH => Next::Goes(Place::Points),
+                _ => only(kind, record_type::XY, Next::Ends),
+            },
+            Place::Points => only(kind, record_type::XY, Next::Ends),
+        }
+    }
+}
+
+/// A path that is being read.
+#[derive(Drop)]
+pub(crate) struct Path {
+    place: Place,
+    layer: Layer,
+    /// Whether it reaches half its width beyond its ends.
+    square: bool,
+    /// Half its width, where its WIDTH was read.
+    half: Option<u64>,
+}
+
+impl Path {
+    /// A path of which the opener was read.
+    pub(crate) fn open() -> Path
+        ensures { (r : Rec) → r.kind ≡ path → IsPathRead result (r ∷ []) }
+    {
+        Path {
+            place: Place::Layer,
+            layer: Layer {
+                layer: 0,
+                datatype: 0,
+            },
+            square: false,
+            half: None,
+        }
+    }
+
+    /// Takes the next record, if it breaches no rule.
+    pub(crate) fn take(self, alloc: Global, kind: u8, payload: &[u8]) -> Result<State, Refusal>
+        requires { IsFormed kind payload.now }
+        ensures { (piece : List Rec) (d : ℕ) → IsPathRead self piece → Takes piece (record_of kind d payload.now) result }
+    {
+        match self.place.after(kind) {
+            Next::Goes(place) => {
+                let layer = read_layer(self.layer, kind, payload)?;
+                let square = read_ends(self.square, kind, payload)?;
+                let half = read_half(self.half, kind, payload)?;
+                Ok(State::Path(Path {
+                    place,
+                    layer,
+                    square,
+                    half,
+                }))
+            }
+            Next::Ends => {
+                let rings = bands_of(alloc, self.half, self.square, payload)?;
+                Ok(State::Drawn(Drawn::Shape(Shape {
+                    layer: self.layer,
+                    rings,
+                    shifts: zero_shift(),
+                })))
+            }
+            Next::Nowhere => Err(misplaced(kind)),
+        }
+    }
+}
+
+/// Whether a path reaches half its width beyond its ends, behind one record more.
+fn read_ends(old: bool, kind: u8, payload: &[u8]) -> Result<bool, Refusal>
+    requires { IsFormed kind payload.now }
+    ensures value { IfOk result (λ square. square ≡ (if kind == pathtype then int_eq (short payload.now) (pos 2) else old)) }
+    ensures allowed { OnOk result (kind ≡ pathtype → (short payload.now ≢ pos 0) → short payload.now ≡ pos 2) }
+    ensures refused { IfErr result (λ e. (e ≡ Refusal.Breach GdsKind.PathType) × (kind ≡ pathtype)
+        × (short payload.now ≢ pos 0) × (short payload.now ≢ pos 2)) }
+{
+    if kind != record_type::PATHTYPE {
+        return Ok(old);
+    }
+    match short(payload) {
+        0 => Ok(false),
+        2 => Ok(true),
+        _ => Err(Refusal::Breach(GdsKind::PathType)),
+    }
+}
+
+/// Half the width of a path, behind one record more.
+fn read_half(old: Option<u64>, kind: u8, payload: &[u8]) -> Result<Option<u64>, Refusal>
+    requires { IsFormed kind payload.now }
+    ensures value { IfOk result (λ h. h ≡ (if kind == width then Some (half payload.now) else old)) }
+    ensures allowed { OnOk result (kind ≡ width → IsWidth (long payload.now)) }
+    ensures refused { IfErr result (λ e. (e ≡ Refusal.Breach GdsKind.Width) × (kind ≡ width) × ¬ IsWidth (long payload.now)) }
+{
+    if kind != record_type::WIDTH {
+        return Ok(old);
+    }
+    let Ok(width) = u32::try_from(long(payload)) else {
+        return Err(Refusal::Breach(GdsKind::Width));
+    };
+    if width == 0 || width % 2 != 0 {
+        return Err(Refusal::Breach(GdsKind::Width));
+    }
+    Ok(Some(u64::from(width / 2)))
+}
+
+/// The rings of the bands of a path with these points.
+fn bands_of(
+    alloc: Global,
+    half: Option<u64>,
+    square: bool,
+    payload: &[u8],
+) -> Result<Vec<Ring>, Refusal>
+    ensures value { (h : ℕ) → half ≡ Some h → IfOk result (λ v. v.items ≡ path_rings (points payload.now) (record { half = h; start = reach_at square h; end = reach_at square h })) }
+    ensures allowed { (h : ℕ) → half ≡ Some h → OnOk result (IsPath (points payload.now) (record { half = h; start = reach_at square h; end = reach_at square h })) }
+    ensures enough { OnOk result (2 ≤ length (points payload.now)) }
+    ensures width { OnOk result (half ≢ None) }
+    ensures refused { IfErr result (λ e. Says e (IsBandsFault (points payload.now) half square)) }
+{
+    let points = points(alloc, payload)?;
+    if points.len() < 2 {
+        return Err(Refusal::Breach(GdsKind::Points));
+    }
+    let Some(half) = half else {
+        return Err(Refusal::Breach(GdsKind::Width));
+    };
+    let reach = end_reach(square, half);
+    match bands(alloc, &points, half, reach, reach) {
+        Ok(rings) => Ok(rings),
+        Err(fault) => Err(refusal(fault)),
+    }
+}
+
+/// How far a path reaches beyond its ends.
+fn end_reach(square: bool, half: u64) -> u64
+    ensures { result ≡ reach_at square half }
+{
+    if square { half } else { 0 }
+}
+
+/// The refusal of points of which no bands are made.
+fn refusal(fault: PathFault) -> Refusal
+    ensures { Says result (λ k. (k ≡ GdsKind.Path fault) × (fault ≢ PathFault.OutOfMemory)) }
+{
+    match fault {
+        PathFault::OutOfMemory => Refusal::OutOfMemory,
+        _ => Refusal::Breach(GdsKind::Path(fault)),
+    }
+}

@@ -1,0 +1,142 @@
+//! How a cell is placed: SNAME [STRANS [MAG] [ANGLE]], in an SREF and an AREF.
+ghost use Rattle.std.specs.Prelude.{◌≡◌, ◌≢◌, ◌==◌, [], false, IfOk, IfErr, OnOk, IfSome, IfNone, if◌then◌else◌};
+ghost use Rattle.lvl_grid.specs.declared.map.Turn.{Turn as GridTurn};
+ghost use Rattle.gds_elements.specs.Types.{sname, strans, mag, angle};
+ghost use Rattle.gds_elements.specs.Values.{bits, name, flips, turn, one_real, degrees};
+ghost use Rattle.gds_elements.specs.Rules.{IsName};
+ghost use Rattle.gds_elements.specs.Formed.{IsFormed};
+ghost use Rattle.gds_elements.specs.Misplaced.{Says};
+ghost use Rattle.gds_elements.specs.Placing.{IsPlacingFault, IsPlacingAllowed};
+
+use crate::fault::{GdsKind, Refusal};
+use crate::values::{bits, is_name, name};
+use gds_records::record_type;
+use lvl_grid::Turn;
+use std::alloc::Global;
+
+/// The real 1, as it is spelled.
+const ONE: [u8; 8] = [0x41, 0x10, 0, 0, 0, 0, 0, 0];
+
+/// The degrees of the four turns, as they are spelled.
+const DEGREES_0: [u8; 8] = [0, 0, 0, 0, 0, 0, 0, 0];
+
+const DEGREES_90: [u8; 8] = [0x42, 0x5A, 0, 0, 0, 0, 0, 0];
+
+const DEGREES_180: [u8; 8] = [0x42, 0xB4, 0, 0, 0, 0, 0, 0];
+
+const DEGREES_270: [u8; 8] = [0x43, 0x10, 0xE0, 0, 0, 0, 0, 0];
+
+/// The name of a cell, and how it is reflected and turned.
+#[derive(Drop)]
+pub(crate) struct Placing {
+    pub name: Vec<u8>,
+    pub flip: bool,
+    pub turn: Turn,
+}
+
+impl Placing {
+    pub(crate) fn new(alloc: Global) -> Placing
+        ensures name { result.name.items ≡ [] }
+        ensures flip { result.flip ≡ false }
+        ensures turn { result.turn ≡ Turn.R0 }
+    {
+        Placing {
+            name: Vec::new(alloc),
+            flip: false,
+            turn: Turn::R0,
+        }
+    }
+
+    /// What is known behind one record more.
+    pub(crate) fn read(self, alloc: Global, kind: u8, payload: &[u8]) -> Result<Placing, Refusal>
+        requires { IsFormed kind payload.now }
+        ensures name { IfOk result (λ p. p.name.items ≡ (if kind == sname then name payload.now else self.name.items)) }
+        ensures flip { IfOk result (λ p. p.flip ≡ (if kind == strans then flips payload.now else self.flip)) }
+        ensures turn { IfOk result (λ p. p.turn ≡ (if kind == angle then turn payload.now else self.turn)) }
+        ensures allowed { OnOk result (IsPlacingAllowed kind payload.now) }
+        ensures refused { IfErr result (λ e. Says e (IsPlacingFault kind payload.now)) }
+    {
+        let Placing { name, flip, turn } = self;
+        let flip = read_flip(flip, kind, payload)?;
+        check_magnification(kind, payload)?;
+        let turn = read_turn(turn, kind, payload)?;
+        let name = read_name(alloc, name, kind, payload)?;
+        Ok(Placing { name, flip, turn })
+    }
+}
+
+fn read_name(alloc: Global, old: Vec<u8>, kind: u8, payload: &[u8]) -> Result<Vec<u8>, Refusal>
+    ensures value { IfOk result (λ v. v.items ≡ (if kind == sname then name payload.now else old.items)) }
+    ensures allowed { OnOk result (kind ≡ sname → IsName (name payload.now)) }
+    ensures refused { IfErr result (λ e. Says e (λ k. (k ≡ GdsKind.Name) × (kind ≡ sname) × ¬ IsName (name payload.now))) }
+{
+    if kind != record_type::SNAME {
+        return Ok(old);
+    }
+    let name = name(payload);
+    if !is_name(name) {
+        return Err(Refusal::Breach(GdsKind::Name));
+    }
+    Ok(Vec::from_slice(alloc, name)?)
+}
+
+fn read_flip(old: bool, kind: u8, payload: &[u8]) -> Result<bool, Refusal>
+    requires { IsFormed kind payload.now }
+    ensures value { IfOk result (λ flip. flip ≡ (if kind == strans then flips payload.now else old)) }
+    ensures allowed { OnOk result (kind ≡ strans → (bits payload.now ≢ 0) → bits payload.now ≡ 0x8000) }
+    ensures refused { IfErr result (λ e. (e ≡ Refusal.Breach GdsKind.Strans) × (kind ≡ strans)
+        × (bits payload.now ≢ 0) × (bits payload.now ≢ 0x8000)) }
+{
+    if kind != record_type::STRANS {
+        return Ok(old);
+    }
+    match bits(payload) {
+        0 => Ok(false),
+        0x8000 => Ok(true),
+        _ => Err(Refusal::Breach(GdsKind::Strans)),
+    }
+}
+
+fn check_magnification(kind: u8, payload: &[u8]) -> Result<(), Refusal>
+    ensures allowed { OnOk result (kind ≡ mag → payload.now ≡ one_real) }
+    ensures refused { IfErr result (λ e. (e ≡ Refusal.Breach GdsKind.Magnification) × (kind ≡ mag) × (payload.now ≢ one_real)) }
+{
+    if kind == record_type::MAG && payload != ONE.as_slice() {
+        return Err(Refusal::Breach(GdsKind::Magnification));
+    }
+    Ok(())
+}
+
+fn read_turn(old: Turn, kind: u8, payload: &[u8]) -> Result<Turn, Refusal>
+    ensures value { IfOk result (λ t. t ≡ (if kind == angle then turn payload.now else old)) }
+    ensures allowed { OnOk result (kind ≡ angle → payload.now ≡ degrees (turn payload.now)) }
+    ensures refused { IfErr result (λ e. (e ≡ Refusal.Breach GdsKind.Angle) × (kind ≡ angle) × ((t : GridTurn) → payload.now ≢ degrees t)) }
+{
+    if kind != record_type::ANGLE {
+        return Ok(old);
+    }
+    match turn(payload) {
+        Some(turn) => Ok(turn),
+        None => Err(Refusal::Breach(GdsKind::Angle)),
+    }
+}
+
+/// The turn by so many degrees.
+fn turn(payload: &[u8]) -> Option<Turn>
+    ensures some { IfSome result (λ t. (payload.now ≡ degrees t) × (t ≡ turn payload.now)) }
+    ensures none { IfNone result ((t : GridTurn) → payload.now ≢ degrees t) }
+{
+    if payload == DEGREES_90.as_slice() {
+        return Some(Turn::R90);
+    }
+    if payload == DEGREES_180.as_slice() {
+        return Some(Turn::R180);
+    }
+    if payload == DEGREES_270.as_slice() {
+        return Some(Turn::R270);
+    }
+    if payload == DEGREES_0.as_slice() {
+        return Some(Turn::R0);
+    }
+    None
+}

@@ -1,0 +1,106 @@
+//! SREF SNAME [STRANS [MAG] [ANGLE]] XY ENDEL: a reference to a cell at one place.
+ghost use Rattle.std.specs.Prelude.{◌≡◌, ◌∷◌, ◌≢◌, [], false, List, ℕ, IfOk, IfErr, OnOk, length};
+ghost use Rattle.lvl_cells.specs.Cells.{PlainReference};
+ghost use Rattle.gds_elements.specs.Types.{sref};
+ghost use Rattle.gds_elements.specs.Values.{points, nth};
+ghost use Rattle.gds_elements.specs.Rec.{Rec};
+ghost use Rattle.gds_elements.specs.Meaning.{one_place};
+ghost use Rattle.gds_elements.specs.Formed.{IsFormed};
+ghost use Rattle.gds_elements.specs.Sref.{after, IsSrefRead};
+ghost use Rattle.gds_elements.specs.Reading.{Takes, record_of};
+
+use crate::element::{Drawn, State, zero_shift};
+use crate::fault::{GdsKind, Refusal};
+use crate::order::{Next, misplaced, only};
+use crate::placing::Placing;
+use crate::values::{point_at, point_count};
+use gds_records::record_type;
+use lvl_cells::Reference;
+use std::alloc::Global;
+
+/// What the next record may be, named by the first of them.
+#[derive(Clone, Copy)]
+pub(crate) enum Place {
+    Name,
+    Strans,
+    Magnification,
+    Angle,
+    Points,
+}
+
+impl Place {
+    /// What a record of this type is here.
+    fn after(self, kind: u8) -> Next<Place>
+        ensures { result ≡ after self kind }
+    {
+        match self {
+            Place::Name => only(kind, record_type::SNAME, Next::Goes(Place::Strans)),
+            Place::Strans => match kind {
+                record_type::STRANS => Next::Goes(Place::Magnification),
+                _ => only(kind, record_type::XY, Next::Ends),
+            },
+            Place::Magnification => match kind {
+                record_type::MAG => Next::Goes(Place::Angle),
+                record_type::ANGLE => Next::Goes(Place::Points),
+                _ => only(kind, record_type::XY, Next::Ends),
+            },
+            Place::Angle => match kind {
+                record_type::ANGLE => Next::Goes(Place::Points),
+                _ => only(kind, record_type::XY, Next::Ends),
+            },
+            Place::Points => only(kind, record_type::XY, Next::Ends),
+        }
+    }
+}
+
+/// A reference that is being read.
+#[derive(Drop)]
+pub(crate) struct Sref {
+    place: Place,
+    placing: Placing,
+}
+
+impl Sref {
+    /// A reference of which the opener was read.
+    pub(crate) fn open(alloc: Global) -> Sref
+        ensures { (r : Rec) → r.kind ≡ sref → IsSrefRead result (r ∷ []) }
+    {
+        Sref {
+            place: Place::Name,
+            placing: Placing::new(alloc),
+        }
+    }
+
+    /// Takes the next record, if it breaches no rule.
+    pub(crate) fn take(self, alloc: Global, kind: u8, payload: &[u8]) -> Result<State, Refusal>
+        requires { IsFormed kind payload.now }
+        ensures { (piece : List Rec) (d : ℕ) → IsSrefRead self piece → Takes piece (record_of kind d payload.now) result }
+    {
+        let Sref { place, placing } = self;
+        match place.after(kind) {
+            Next::Goes(place) => {
+                let placing = placing.read(alloc, kind, payload)?;
+                Ok(State::Sref(Sref { place, placing }))
+            }
+            Next::Ends => {
+                let reference = place_once(placing, payload)?;
+                Ok(State::Drawn(Drawn::Reference(reference)))
+            }
+            Next::Nowhere => Err(misplaced(kind)),
+        }
+    }
+}
+
+/// The reference to the cell at the one point.
+fn place_once(placing: Placing, payload: &[u8]) -> Result<Reference, Refusal>
+    ensures value { IfOk result (λ r. r ≡ record { cell = placing.name.items; flip = placing.flip; turn = placing.turn; at = nth (points payload.now) 0; shifts = one_place }) }
+    ensures allowed { OnOk result (length (points payload.now) ≡ 1) }
+    ensures refused { IfErr result (λ e. (e ≡ Refusal.Breach GdsKind.Points) × (length (points payload.now) ≢ 1)) }
+{
+    if point_count(payload) != 1 {
+        return Err(Refusal::Breach(GdsKind::Points));
+    }
+    let Placing { name, flip, turn } = placing;
+    let at = point_at(payload, 0);
+    Ok(Reference::new(name, flip, turn, at, zero_shift()).unwrap())
+}

@@ -1,0 +1,134 @@
+//! TEXT LAYER TEXTTYPE [PRESENTATION] [PATHTYPE] [WIDTH] [STRANS [MAG] [ANGLE]] XY STRING ENDEL: it
+//! covers nothing, and its values are free but for the one point.
+ghost use Rattle.std.specs.Prelude.{◌≡◌, [], ◌∷◌, ◌≢◌, List, ℕ, OnOk, IfErr, length};
+ghost use Rattle.gds_elements.specs.Types.{text, xy};
+ghost use Rattle.gds_elements.specs.Values.{points};
+ghost use Rattle.gds_elements.specs.Rec.{Rec};
+ghost use Rattle.gds_elements.specs.Formed.{IsFormed};
+ghost use Rattle.gds_elements.specs.Text.{after, IsTextRead};
+ghost use Rattle.gds_elements.specs.Reading.{Takes, record_of};
+
+use crate::element::{Drawn, State};
+use crate::fault::{GdsKind, Refusal};
+use crate::order::{Next, misplaced, only};
+use crate::values::point_count;
+use gds_records::record_type;
+
+/// What the next record may be, named by the first of them.
+#[derive(Clone, Copy)]
+pub(crate) enum Place {
+    Layer,
+    TextType,
+    Presentation,
+    PathType,
+    Width,
+    Strans,
+    Magnification,
+    Angle,
+    Points,
+    Letters,
+}
+
+impl Place {
+    /// What a record of this type is here.
+    fn after(self, kind: u8) -> Next<Place>
+        ensures { result ≡ after self kind }
+    {
+        match self {
+            Place::Layer => only(kind, record_type::LAYER, Next::Goes(Place::TextType)),
+            Place::TextType => only(kind, record_type::TEXTTYPE, Next::Goes(Place::Presentation)),
+            Place::Presentation => match kind {
+                record_type::PRESENTATION => Next::Goes(Place::PathType),
+                _ => after_presentation(kind),
+            },
+            Place::PathType => after_presentation(kind),
+            Place::Width => after_path_type(kind),
+            Place::Strans => after_width(kind),
+            Place::Magnification => match kind {
+                record_type::MAG => Next::Goes(Place::Angle),
+                _ => after_magnification(kind),
+            },
+            Place::Angle => after_magnification(kind),
+            Place::Points => only(kind, record_type::XY, Next::Goes(Place::Letters)),
+            Place::Letters => only(kind, record_type::STRING, Next::Ends),
+        }
+    }
+}
+
+fn after_presentation(kind: u8) -> Next<Place>
+    ensures { result ≡ after Place.PathType kind }
+{
+    match kind {
+        record_type::PATHTYPE => Next::Goes(Place::Width),
+        _ => after_path_type(kind),
+    }
+}
+
+fn after_path_type(kind: u8) -> Next<Place>
+    ensures { result ≡ after Place.Width kind }
+{
+    match kind {
+        record_type::WIDTH => Next::Goes(Place::Strans),
+        _ => after_width(kind),
+    }
+}
+
+fn after_width(kind: u8) -> Next<Place>
+    ensures { result ≡ after Place.Strans kind }
+{
+    match kind {
+        record_type::STRANS => Next::Goes(Place::Magnification),
+        _ => only(kind, record_type::XY, Next::Goes(Place::Letters)),
+    }
+}
+
+fn after_magnification(kind: u8) -> Next<Place>
+    ensures { result ≡ after Place.Angle kind }
+{
+    match kind {
+        record_type::ANGLE => Next::Goes(Place::Points),
+        _ => only(kind, record_type::XY, Next::Goes(Place::Letters)),
+    }
+}
+
+/// A text that is being read.
+#[derive(Drop)]
+pub(crate) struct Text {
+    place: Place,
+}
+
+impl Text {
+    /// A text of which the opener was read.
+    pub(crate) fn open() -> Text
+        ensures { (r : Rec) → r.kind ≡ text → IsTextRead result (r ∷ []) }
+    {
+        Text {
+            place: Place::Layer,
+        }
+    }
+
+    /// Takes the next record, if it breaches no rule.
+    pub(crate) fn take(self, kind: u8, payload: &[u8]) -> Result<State, Refusal>
+        requires { IsFormed kind payload.now }
+        ensures { (piece : List Rec) (d : ℕ) → IsTextRead self piece → Takes piece (record_of kind d payload.now) result }
+    {
+        match self.place.after(kind) {
+            Next::Goes(place) => {
+                check_points(kind, payload)?;
+                Ok(State::Text(Text { place }))
+            }
+            Next::Ends => Ok(State::Drawn(Drawn::Nothing)),
+            Next::Nowhere => Err(misplaced(kind)),
+        }
+    }
+}
+
+fn check_points(kind: u8, payload: &[u8]) -> Result<(), Refusal>
+    ensures allowed { OnOk result (kind ≡ xy → length (points payload.now) ≡ 1) }
+    ensures refused { IfErr result (λ e. (e ≡ Refusal.Breach GdsKind.Points) × (kind ≡ xy) × (length (points payload.now) ≢ 1)) }
+{
+    if kind == record_type::XY && point_count(payload) != 1 {
+        return Err(Refusal::Breach(GdsKind::Points));
+    }
+    Ok(())
+}

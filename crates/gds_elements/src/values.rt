@@ -1,0 +1,94 @@
+//! The values that payloads spell.
+ghost use Rattle.std.specs.Prelude.{◌≡◌, ◌<◌, ◌≤◌, ◌+◌, ◌*◌, ◌↔◌, IsTrue, IfOk, length, take, drop};
+ghost use Rattle.gds_elements.specs.Values.{short, long, bits, point, points, nth, name, IsNarrow};
+ghost use Rattle.gds_elements.specs.Rules.{IsName};
+
+use lvl_grid::Point;
+use std::alloc::{AllocError, Global};
+
+/// A number of two bytes.
+pub(crate) fn short(payload: &[u8]) -> i16
+    requires { length payload.now ≡ 2 }
+    ensures { result ≡ short payload.now }
+{
+    i16::from_be_bytes([payload[0], payload[1]])
+}
+
+/// Two bytes as bits.
+pub(crate) fn bits(payload: &[u8]) -> u16
+    requires { length payload.now ≡ 2 }
+    ensures { result ≡ bits payload.now }
+{
+    u16::from_be_bytes([payload[0], payload[1]])
+}
+
+/// A number of four bytes.
+pub(crate) fn long(bytes: &[u8]) -> i32
+    requires { length bytes.now ≡ 4 }
+    ensures { result ≡ long bytes.now }
+{
+    i32::from_be_bytes([bytes[0], bytes[1], bytes[2], bytes[3]])
+}
+
+/// A point of eight bytes.
+pub(crate) fn point(bytes: &[u8]) -> Point
+    requires { length bytes.now ≡ 8 }
+    ensures value { result ≡ point bytes.now }
+    ensures narrow { IsNarrow result }
+{
+    let (x, y) = bytes.split_at(4);
+    Point {
+        x: i64::from(long(x)),
+        y: i64::from(long(y)),
+    }
+}
+
+/// The points of a payload, of eight bytes each.
+pub(crate) fn points(alloc: Global, payload: &[u8]) -> Result<Vec<Point>, AllocError>
+    ensures { IfOk result (λ ps. ps.items ≡ points payload.now) }
+{
+    let mut points = Vec::with_capacity(alloc, payload.len() / 8)?;
+    let mut rest = payload;
+    for _ in 0..payload.len() / 8 {
+        let (first, others) = rest.split_at(8);
+        points.push(point(first))?;
+        rest = others;
+    }
+    Ok(points)
+}
+
+/// The name, without the zero byte that fills it.
+pub(crate) fn name(payload: &[u8]) -> &[u8]
+    ensures { result.now ≡ name payload.now }
+{
+    match payload {
+        [name @ .., 0] => name,
+        _ => payload,
+    }
+}
+
+/// Whether these bytes are a cell's name.
+pub(crate) fn is_name(bytes: &[u8]) -> bool
+    ensures { IsTrue result ↔ IsName bytes.now }
+{
+    !bytes.is_empty() && bytes.len() <= 255 && bytes.iter().all(|b| 0x21 <= *b && *b <= 0x7E)
+}
+
+/// How many points a payload has.
+pub(crate) fn point_count(payload: &[u8]) -> usize
+    ensures count { result ≡ length (points payload.now) }
+    ensures bytes { 8 * result ≤ length payload.now }
+{
+    payload.len() / 8
+}
+
+/// The point at a place of a payload.
+pub(crate) fn point_at(payload: &[u8], k: usize) -> Point
+    requires { 8 * k + 8 ≤ length payload.now }
+    ensures value { result ≡ nth (points payload.now) k }
+    ensures narrow { IsNarrow result }
+{
+    let (_, rest) = payload.split_at(8 * k);
+    let (first, _) = rest.split_at(8);
+    point(first)
+}
