@@ -24,5 +24,7 @@ mod order;
 mod path;
 mod placing;
 mod sref;
+#[cfg(test)]
+mod tests;
 mod text;
 mod values;
