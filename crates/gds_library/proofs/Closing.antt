@@ -1,10 +1,10 @@
 -- A list of points that ends where it begins, and the ring of the others.
-use Rattle.std.proofs.Common.{◌≡◌, ◌≢◌, ◌&&◌, ℕ, ◌<◌, ◌≤◌, Bool, true, false, not, List, [], ◌∷◌, ◌++◌, All, length, get_or, refl, sym, ◌∙◌, subst, arith}
+use Rattle.std.proofs.Common.{◌≡◌, ◌&&◌, ◌<◌, ◌≤◌, Bool, true, false, not, List, [], ◌∷◌, ◌++◌, All, length, get_or, refl, sym, ◌∙◌, subst, arith}
 use Rattle.std.proofs.Common.{int_eq, Some, ap, ℤ}
 use Rattle.std.proofs.lemmas.Bool.Decides.{Decides-int_eq, Decides-and}
 use Rattle.std.proofs.lemmas.List.Elements.{All-push, All-head, All-tail, All-pop, All-cons}
 use Rattle.lvl_grid.specs.declared.point.Point.{Point}
-use Rattle.lvl_grid.specs.Winding.{IsStraight, path_edges, last_or, edges, Edge}
+use Rattle.lvl_grid.specs.Winding.{IsStraight, path_edges, last_or, edges}
 use Rattle.lvl_grid.specs.Faults.{IsFaultOf}
 use Rattle.lvl_grid.specs.declared.ring.RingFault.{RingFault}
 use Rattle.lvl_grid.specs.declared.ring.RingFault.TheVariants.{TooFew, Oblique}

@@ -1,14 +1,14 @@
 -- What one record more does to the library that is spelled.
-use Rattle.std.proofs.Common.{◌≡◌, ◌≢◌, ◌==◌, ℕ, Bool, true, false, if◌then◌else◌, List, [], ◌∷◌, ◌++◌, reverse, Some, None, map, refl, sym, ap, ◌∙◌, subst, append_assoc, inl, inr, arith}
+use Rattle.std.proofs.Common.{◌≡◌, ◌==◌, ℕ, Bool, true, false, if◌then◌else◌, List, [], ◌∷◌, ◌++◌, reverse, Some, map, refl, sym, ap, ◌∙◌}
 use Rattle.std.specs.Prelude.{Option, find}
 use Rattle.std.proofs.lemmas.List.{reverse-append}
 use Rattle.gds_library.proofs.Grown.{map-snoc}
-use Rattle.lvl_grid.specs.declared.point.Point.{Point}
-use Rattle.lvl_cells.specs.declared.layer.Layer.{Layer as LayerOf}
-use Rattle.gds_library.specs.Drawn.{Figure, Drawing, one_place}
+use Rattle.lvl_path.specs.Figure.{figure_rings}
+use Rattle.lvl_cells.specs.Cells.{drawn, kept}
+use Rattle.gds_library.specs.Drawn.{KeptShape, KeptCell, one_place}
 use Rattle.gds_library.specs.Types.{bgnstr, strname, boundary, layer, datatype, xy}
-use Rattle.gds_library.specs.Rec.{Rec, pieces, until, is_type, field, last_of, payload_of}
-use Rattle.gds_library.specs.Values.{short, points, name, magnitude, but_last, figure, drawing, drawings}
+use Rattle.gds_library.specs.Rec.{Rec, pieces, until, is_type, field, payload_of}
+use Rattle.gds_library.specs.Values.{short, points, name, magnitude, but_last, shape, drawing, drawings}
 use Rattle.gds_library.specs.Reading.{on_last, grown, grown_drawing, grown_figure, no_drawing, no_figure}
 use Rattle.gds_library.proofs.Orders.{type_same}
 
@@ -95,7 +95,26 @@ map_on_last f g h e [] = refl
 map_on_last f g h e (x ∷ []) = ap (λ l. l ∷ []) (e x)
 map_on_last f g h e (x ∷ y ∷ ys) = ap (λ l. f x ∷ l) (map_on_last f g h e (y ∷ ys))
 
-figure_from : List ℕ → List ℕ → List ℕ → Figure
+-- a boundary, a cell and a library as they are kept
+abbrev kept_shape : List Rec → KeptShape
+kept_shape rs = record {
+  layer = record { layer = magnitude (short (field layer rs)); datatype = magnitude (short (field datatype rs)) };
+  figure = but_last (points (field xy rs)) ∷ [];
+  shifts = one_place;
+}
+
+abbrev kept_cell : List Rec → KeptCell
+kept_cell rs = record { name = name (field strname rs); shapes = map kept_shape (pieces (is_type boundary) rs); references = [] }
+
+kept_shapes : (ps : List (List Rec)) (n : List ℕ) → drawn figure_rings (record { name = n; shapes = map shape ps; references = [] }) ≡ record { name = n; shapes = map kept_shape ps; references = [] }
+kept_shapes [] n = refl
+kept_shapes (p ∷ ps) n = ap (λ (c : KeptCell). let d : KeptCell = record { name = c.name; shapes = kept_shape p ∷ c.shapes; references = [] } in d) (kept_shapes ps n)
+
+kept_cells : (ps : List (List Rec)) → kept figure_rings (map drawing ps) ≡ map kept_cell ps
+kept_cells [] = refl
+kept_cells (p ∷ ps) = ap (λ (c : KeptCell). c ∷ kept figure_rings (map drawing ps)) (kept_shapes (pieces (is_type boundary) p) (name (field strname p))) ∙ ap (λ cs. kept_cell p ∷ cs) (kept_cells ps)
+
+figure_from : List ℕ → List ℕ → List ℕ → KeptShape
 figure_from a b c = record {
   layer = record { layer = magnitude (short a); datatype = magnitude (short b) };
   figure = but_last (points c) ∷ [];
@@ -109,7 +128,7 @@ figure_with k p a b c l d x e f g =
     rw (← e, ← f, ← g, if_ap (λ (y : List ℕ). magnitude (short y)) l p a, if_ap (λ (y : List ℕ). magnitude (short y)) d p b, if_ap (λ (y : List ℕ). but_last (points y) ∷ []) x p c) refl
 
 -- a figure with one record more
-pub figure-snoc : (rs : List Rec) (r : Rec) → figure (rs ++ r ∷ []) ≡ grown_figure r.kind r.payload (figure rs)
+pub figure-snoc : (rs : List Rec) (r : Rec) → kept_shape (rs ++ r ∷ []) ≡ grown_figure r.kind r.payload (kept_shape rs)
 unfolding figure_from
 figure-snoc rs r =
     ap (λ y. figure_from y (field datatype (rs ++ r ∷ [])) (field xy (rs ++ r ∷ []))) (field-snoc layer rs r)
@@ -117,38 +136,41 @@ figure-snoc rs r =
     ∙ ap (λ y. figure_from (if r.kind == layer then r.payload else field layer rs) (if r.kind == datatype then r.payload else field datatype rs) y) (field-snoc xy rs r)
     ∙ figure_with r.kind r.payload (field layer rs) (field datatype rs) (field xy rs) (r.kind == layer) (r.kind == datatype) (r.kind == xy) refl refl refl
 
-figure_one : (r : Rec) → r.kind == boundary ≡ true → figure (r ∷ []) ≡ no_figure
+figure_one : (r : Rec) → r.kind == boundary ≡ true → kept_shape (r ∷ []) ≡ no_figure
 figure_one r e =
-    ap (λ (k : ℕ). let x : Rec = record { kind = k; data_type = r.data_type; payload = r.payload } in figure (x ∷ [])) (type_same r.kind boundary e)
+    ap (λ (k : ℕ). let x : Rec = record { kind = k; data_type = r.data_type; payload = r.payload } in kept_shape (x ∷ [])) (type_same r.kind boundary e)
 
 figures_at : (rs : List Rec) (r : Rec) (b : Bool) → r.kind == boundary ≡ b
-    → map figure (if b then pieces (is_type boundary) rs ++ (r ∷ []) ∷ [] else on_last (λ p. p ++ r ∷ []) (pieces (is_type boundary) rs))
-    ≡ (if b then map figure (pieces (is_type boundary) rs) ++ no_figure ∷ [] else on_last (grown_figure r.kind r.payload) (map figure (pieces (is_type boundary) rs)))
-figures_at rs r true e = map-snoc figure (pieces (is_type boundary) rs) (r ∷ []) ∙ ap (λ f. map figure (pieces (is_type boundary) rs) ++ f ∷ []) (figure_one r e)
-figures_at rs r false e = map_on_last figure (λ p. p ++ r ∷ []) (grown_figure r.kind r.payload) (λ p. figure-snoc p r) (pieces (is_type boundary) rs)
+    → map kept_shape (if b then pieces (is_type boundary) rs ++ (r ∷ []) ∷ [] else on_last (λ p. p ++ r ∷ []) (pieces (is_type boundary) rs))
+    ≡ (if b then map kept_shape (pieces (is_type boundary) rs) ++ no_figure ∷ [] else on_last (grown_figure r.kind r.payload) (map kept_shape (pieces (is_type boundary) rs)))
+figures_at rs r true e = map-snoc kept_shape (pieces (is_type boundary) rs) (r ∷ []) ∙ ap (λ f. map kept_shape (pieces (is_type boundary) rs) ++ f ∷ []) (figure_one r e)
+figures_at rs r false e = map_on_last kept_shape (λ p. p ++ r ∷ []) (grown_figure r.kind r.payload) (λ p. figure-snoc p r) (pieces (is_type boundary) rs)
 
-drawing_from : List ℕ → List Figure → Drawing
+drawing_from : List ℕ → List KeptShape → KeptCell
 drawing_from n fs = record { name = n; shapes = fs; references = [] }
 
 -- a cell with one record more
-pub drawing-snoc : (rs : List Rec) (r : Rec) → drawing (rs ++ r ∷ []) ≡ grown_drawing r.kind r.payload (drawing rs)
+pub drawing-snoc : (rs : List Rec) (r : Rec) → kept_cell (rs ++ r ∷ []) ≡ grown_drawing r.kind r.payload (kept_cell rs)
 unfolding drawing_from
 drawing-snoc rs r =
-    ap (λ y. drawing_from (name y) (map figure (pieces (is_type boundary) (rs ++ r ∷ [])))) (field-snoc strname rs r)
-    ∙ ap (λ y. drawing_from y (map figure (pieces (is_type boundary) (rs ++ r ∷ [])))) (if_ap name (r.kind == strname) r.payload (field strname rs))
-    ∙ ap (λ y. drawing_from (if r.kind == strname then name r.payload else name (field strname rs)) (map figure y)) (pieces-snoc (is_type boundary) rs r)
+    ap (λ y. drawing_from (name y) (map kept_shape (pieces (is_type boundary) (rs ++ r ∷ [])))) (field-snoc strname rs r)
+    ∙ ap (λ y. drawing_from y (map kept_shape (pieces (is_type boundary) (rs ++ r ∷ [])))) (if_ap name (r.kind == strname) r.payload (field strname rs))
+    ∙ ap (λ y. drawing_from (if r.kind == strname then name r.payload else name (field strname rs)) (map kept_shape y)) (pieces-snoc (is_type boundary) rs r)
     ∙ ap (λ y. drawing_from (if r.kind == strname then name r.payload else name (field strname rs)) y) (figures_at rs r (r.kind == boundary) refl)
 
-drawing_one : (r : Rec) → r.kind == bgnstr ≡ true → drawing (r ∷ []) ≡ no_drawing
+drawing_one : (r : Rec) → r.kind == bgnstr ≡ true → kept_cell (r ∷ []) ≡ no_drawing
 drawing_one r e =
-    ap (λ (k : ℕ). let x : Rec = record { kind = k; data_type = r.data_type; payload = r.payload } in drawing (x ∷ [])) (type_same r.kind bgnstr e)
+    ap (λ (k : ℕ). let x : Rec = record { kind = k; data_type = r.data_type; payload = r.payload } in kept_cell (x ∷ [])) (type_same r.kind bgnstr e)
 
 drawings_at : (rs : List Rec) (r : Rec) (b : Bool) → r.kind == bgnstr ≡ b
-    → map drawing (if b then pieces (is_type bgnstr) rs ++ (r ∷ []) ∷ [] else on_last (λ p. p ++ r ∷ []) (pieces (is_type bgnstr) rs))
-    ≡ (if b then drawings rs ++ no_drawing ∷ [] else on_last (grown_drawing r.kind r.payload) (drawings rs))
-drawings_at rs r true e = map-snoc drawing (pieces (is_type bgnstr) rs) (r ∷ []) ∙ ap (λ f. drawings rs ++ f ∷ []) (drawing_one r e)
-drawings_at rs r false e = map_on_last drawing (λ p. p ++ r ∷ []) (grown_drawing r.kind r.payload) (λ p. drawing-snoc p r) (pieces (is_type bgnstr) rs)
+    → map kept_cell (if b then pieces (is_type bgnstr) rs ++ (r ∷ []) ∷ [] else on_last (λ p. p ++ r ∷ []) (pieces (is_type bgnstr) rs))
+    ≡ (if b then map kept_cell (pieces (is_type bgnstr) rs) ++ no_drawing ∷ [] else on_last (grown_drawing r.kind r.payload) (map kept_cell (pieces (is_type bgnstr) rs)))
+drawings_at rs r true e = map-snoc kept_cell (pieces (is_type bgnstr) rs) (r ∷ []) ∙ ap (λ f. map kept_cell (pieces (is_type bgnstr) rs) ++ f ∷ []) (drawing_one r e)
+drawings_at rs r false e = map_on_last kept_cell (λ p. p ++ r ∷ []) (grown_drawing r.kind r.payload) (λ p. drawing-snoc p r) (pieces (is_type bgnstr) rs)
 
 -- a library with one record more
-pub drawings-snoc : (rs : List Rec) (r : Rec) → drawings (rs ++ r ∷ []) ≡ grown r.kind r.payload (drawings rs)
-drawings-snoc rs r = ap (map drawing) (pieces-snoc (is_type bgnstr) rs r) ∙ drawings_at rs r (r.kind == bgnstr) refl
+pub drawings-snoc : (rs : List Rec) (r : Rec) → kept figure_rings (drawings (rs ++ r ∷ [])) ≡ grown r.kind r.payload (kept figure_rings (drawings rs))
+drawings-snoc rs r =
+    kept_cells (pieces (is_type bgnstr) (rs ++ r ∷ []))
+    ∙ ap (map kept_cell) (pieces-snoc (is_type bgnstr) rs r) ∙ drawings_at rs r (r.kind == bgnstr) refl
+    ∙ ap (grown r.kind r.payload) (sym (kept_cells (pieces (is_type bgnstr) rs)))

@@ -4,12 +4,12 @@ use Rattle.std.proofs.Math.Seq.{take-append_seam, drop-append_seam}
 use Rattle.std.proofs.lemmas.List.{take-append-drop, append-nil}
 use Rattle.std.specs.Prelude.{Option, replicate, Ok, Err}
 use Rattle.gds_records.specs.Records.{file_limit}
-use Rattle.gds_records.specs.Spelled.{IsRecord, IsSpelling, IsSpelledAt, IsBegun, IsCut, NoRecord}
+use Rattle.gds_records.specs.Spelled.{IsSpelledAt, IsBegun, IsCut, NoRecord}
 use Rattle.gds_library.specs.Types.{fill, header}
 use Rattle.gds_library.specs.Order.{Begins, IsWord, a_library}
 use Rattle.gds_library.specs.Place.{after, left, LeadsTo, has_units}
 use Rattle.gds_library.specs.Rec.{Rec, kinds, field}
-use Rattle.gds_library.specs.Front.{Breaches, IsFront, IsStuck, IsBreached, IsAfterEnd, IsTruncated, SpellsLibrary}
+use Rattle.gds_library.specs.Front.{Breaches, IsFront, IsStuck, IsBreached, IsAfterEnd, IsTruncated, SpellsLibrary, IsRead}
 use Rattle.gds_library.specs.declared.head.GdsHead.{GdsHead}
 use Rattle.lvl_io.specs.Known.{Agree}
 use Rattle.std.proofs.lemmas.Bool.Decides.{nat_tests}
@@ -31,9 +31,10 @@ use Rattle.gds_records.specs.Tail.{AnswersTail, PassesLimit}
 use Rattle.gds_records.specs.declared.fault.RecordFault.{RecordFault}
 use Rattle.gds_records.specs.declared.fault.RecordFault.TheVariants.{Truncated, BadLength, BadDataType, UnknownRecord, TooLong, Read, Failed}
 use Rattle.gds_library.proofs.Places.{leads_nowhere, leads_begin, leads_begins}
-use Rattle.gds_library.proofs.Steps.{KeepsHead, law_fault, law_allowed, law_fill, law_holds, law_front, map-append, no_tail}
+use Rattle.gds_library.proofs.Steps.{KeepsHead, law_fault, law_allowed, law_fill, law_holds, law_front, no_tail}
 use Rattle.gds_library.proofs.Grown.{plain}
-use Rattle.gds_library.proofs.Stuck.{a_fill, law_stuck, stuck_by, agree_behind}
+use Rattle.gds_library.proofs.Spellings.{a_fill, agree_ends, map-append, length_spelled}
+use Rattle.gds_library.proofs.Stuck.{law_stuck, stuck_by}
 
 no_zero : (p : Place) → p ≢ Fill → after p fill ≡ None
 no_zero Header h = refl
@@ -48,9 +49,6 @@ no_zero Datatype h = refl
 no_zero Points h = refl
 no_zero EndEl h = refl
 no_zero Fill h = absurd (h refl)
-
-length_spelled : (bytes p : List ℕ) (k d : ℕ) → IsSpelling bytes k d p → length bytes ≡ 4 + length p
-length_spelled bytes p k d s = ap length s.bytes_are ∙ grind arith
 
 same_left : (a b : List ℕ) (left : Option (List ℕ)) → left ≡ Some a → left ≡ Some b → a ≡ b
 same_left a b left e f = (let g : Some a ≡ Some b = sym e ∙ f in cc)
@@ -142,20 +140,21 @@ reads_zeros (suc n) xs at b left rest to e here limit =
 
 -- the end of the input
 pub reads_all : (xs : List ℕ) (at : ℕ) (b : Builder) (left : Option (List ℕ)) → ReadTo xs at b left → b.place ≡ Fill → drop at xs ≡ replicate (length (drop at xs)) 0 → at + length (drop at xs) ≤ file_limit
-    → SpellsLibrary xs (done b) (record { version = b.version; units = b.units })
+    → IsRead xs (done b) (record { version = b.version; units = b.units })
 reads_all xs at b left to e zeros limit =
     let more = reads_zeros (length (drop at xs)) xs at b left [] to e (zeros ∙ sym (append-nil (replicate (length (drop at xs)) 0))) limit in
     let end = more.1 in
     let n : at + length (drop at xs) ≡ length xs = omega (arith, length-drop at xs, to.within) in
     let whole : take (at + length (drop at xs)) xs ≡ xs = (parts_at xs xs [] (at + length (drop at xs)) (sym (append-nil xs)) n).0 in
-    record {
+    let spelled : SpellsLibrary xs (drawings end.records) (record { version = b.version; units = b.units }) = record {
       records = end.records;
       front = subst (λ l. IsFront l end.records) whole end.front;
       whole = subst (IsWord a_library) (append-nil (kinds end.records)) ((subst (LeadsTo (kinds end.records)) e end.holds.leads []).1 ([], tt, refl));
-      cells_are = sym (ap (λ p. shown_at p b) e) ∙ end.holds.shown;
+      cells_are = refl;
       head_is = ap (λ (i : ℤ). let h : GdsHead = record { version = i; units = b.units } in h) end.holds.version
           ∙ ap (λ (i : List (List ℕ)). let h : GdsHead = record { version = short (field header end.records); units = i } in h) (end.holds.units (ap has_units e));
-    }
+    } in
+    record { cells = drawings end.records; spelled = spelled; kept_as = sym (ap (λ p. shown_at p b) e) ∙ end.holds.shown }
 
 other_fill : (k : ℕ) → k < 60 → k == fill ≡ false
 other_fill k h = grind (arith, nat_tests)
@@ -175,7 +174,7 @@ reads_other xs at n b left c rest to e here other limit =
       stuck_by xs (at + n) end.records stands end.front (λ r text spells begins rules agree l. elim spells [
         | inl x ↦ leads_nowhere (kinds end.records) b.place r.kind end.holds.leads (ap (λ p. after p r.kind) e ∙ no_more r.kind x.0.known) (subst (Begins a_library) (map-append end.records (r ∷ [])) begins)
         | inr y ↦
-            let q = agree_behind [] text (c ∷ rest) (subst (Agree text) more.2 agree) in
+            let q = agree_ends text (c ∷ rest) (subst (Agree text) more.2 agree) in
             let z : (0 ∷ []) ++ q.0 ≡ (c ∷ rest) ++ q.1 = ap (λ l. l ++ q.0) (sym y.1) ∙ q.2 in
             other (let w : c ≡ 0 = cc in w)
       ]),

@@ -1,14 +1,13 @@
 -- What one record more does to what a builder shows.
-use Rattle.std.proofs.Common.{◌≡◌, ◌≢◌, ◌==◌, ℕ, Bool, true, false, if◌then◌else◌, List, [], ◌∷◌, ◌++◌, Some, None, map, refl, sym, ap, ◌∙◌, subst, append_assoc, inl, inr, arith}
+use Rattle.std.proofs.Common.{◌≡◌, ◌==◌, ℕ, Bool, true, false, if◌then◌else◌, List, [], ◌∷◌, ◌++◌, Some, None, map, refl, sym, ap, ◌∙◌, subst}
 use Rattle.std.specs.Prelude.{Option}
 use Rattle.std.proofs.lemmas.List.{append-nil}
 use Rattle.lvl_grid.specs.declared.point.Point.{Point}
-use Rattle.lvl_cells.specs.declared.layer.Layer.{Layer as LayerOf}
-use Rattle.gds_library.specs.Drawn.{Figure, Drawing}
+use Rattle.gds_library.specs.Drawn.{KeptShape, KeptCell}
 use Rattle.gds_library.specs.Types.{header, bgnlib, libname, units, endlib, bgnstr, strname, endstr, boundary, layer, datatype, xy, endel, fill}
 use Rattle.gds_library.specs.Values.{short, points, name, magnitude, but_last}
 use Rattle.gds_library.specs.Place.{after}
-use Rattle.gds_library.specs.Reading.{on_last, grown, grown_drawing, grown_figure, no_drawing, no_figure, shown_at, shown, done, open_cell, open_figure}
+use Rattle.gds_library.specs.Reading.{on_last, grown, grown_drawing, grown_figure, no_drawing, shown_at, done, open_cell, open_figure}
 use Rattle.gds_library.specs.declared.place.Place.{Place}
 use Rattle.gds_library.specs.declared.place.Place.TheVariants.{Header, BgnLib, LibName, Units, Structures, StrName, Elements, Layer, Datatype, Points, EndEl, Fill}
 use Rattle.gds_library.specs.declared.builder.Builder.{Builder}
@@ -28,18 +27,18 @@ on_last-id f (y ∷ z ∷ zs) h = ap (λ l. y ∷ l) (on_last-id f (z ∷ zs) h)
 pub IsPlain : ℕ → Type 0
 IsPlain k = (k == bgnstr ≡ false) × (k == strname ≡ false) × (k == boundary ≡ false) × (k == layer ≡ false) × (k == datatype ≡ false) × (k == xy ≡ false)
 
-plain_figure : (k : ℕ) (p : List ℕ) (f : Figure) → k == layer ≡ false → k == datatype ≡ false → k == xy ≡ false → grown_figure k p f ≡ f
+plain_figure : (k : ℕ) (p : List ℕ) (f : KeptShape) → k == layer ≡ false → k == datatype ≡ false → k == xy ≡ false → grown_figure k p f ≡ f
 plain_figure k p f a b c = rw (a, b, c) refl
 
-plain_drawing : (k : ℕ) (p : List ℕ) (d : Drawing) → k == strname ≡ false → k == boundary ≡ false → k == layer ≡ false → k == datatype ≡ false → k == xy ≡ false → grown_drawing k p d ≡ d
+plain_drawing : (k : ℕ) (p : List ℕ) (d : KeptCell) → k == strname ≡ false → k == boundary ≡ false → k == layer ≡ false → k == datatype ≡ false → k == xy ≡ false → grown_drawing k p d ≡ d
 plain_drawing k p d s b l t x =
     rw (s, b, on_last-id (grown_figure k p) d.shapes (λ f. plain_figure k p f l t x)) refl
 
-pub plain : (k : ℕ) (p : List ℕ) (ds : List Drawing) → k == bgnstr ≡ false → k == strname ≡ false → k == boundary ≡ false → k == layer ≡ false → k == datatype ≡ false → k == xy ≡ false → grown k p ds ≡ ds
+pub plain : (k : ℕ) (p : List ℕ) (ds : List KeptCell) → k == bgnstr ≡ false → k == strname ≡ false → k == boundary ≡ false → k == layer ≡ false → k == datatype ≡ false → k == xy ≡ false → grown k p ds ≡ ds
 plain k p ds n s b l t x = rw n (on_last-id (grown_drawing k p) ds (λ d. plain_drawing k p d s b l t x))
 
 -- the last figure of the last cell, changed
-figure_changed : (k : ℕ) (p : List ℕ) (ds : List Drawing) (n : List ℕ) (fs : List Figure) (f : Figure) → k == bgnstr ≡ false → k == strname ≡ false → k == boundary ≡ false
+figure_changed : (k : ℕ) (p : List ℕ) (ds : List KeptCell) (n : List ℕ) (fs : List KeptShape) (f : KeptShape) → k == bgnstr ≡ false → k == strname ≡ false → k == boundary ≡ false
     → grown k p (ds ++ record { name = n; shapes = fs ++ f ∷ []; references = [] } ∷ []) ≡ ds ++ record { name = n; shapes = fs ++ grown_figure k p f ∷ []; references = [] } ∷ []
 figure_changed k p ds n fs f a b c =
     rw (a, on_last-append (grown_drawing k p) ds (record { name = n; shapes = fs ++ f ∷ []; references = [] }), b, c, on_last-append (grown_figure k p) fs f) refl

@@ -1,38 +1,36 @@
 -- One record more behind a front.
-use Rattle.std.proofs.Common.{◌≡◌, ◌≢◌, ◌==◌, ℕ, ◌+◌, ◌<◌, ◌≤◌, ◌<ℤ◌, ◌≤ℤ◌, ◌⊎◌, pos, ℤ, Bool, true, false, if◌then◌else◌, List, [], ◌∷◌, ◌++◌, length, take, drop, Some, None, map, refl, sym, ap, ◌∙◌, subst, append_assoc, inl, inr, arith, length-append}
-use Rattle.std.proofs.lemmas.List.{append-nil, take-append-drop}
-use Rattle.std.specs.Prelude.{Option}
+use Rattle.std.proofs.Common.{◌≡◌, ◌==◌, ℕ, ◌<◌, ◌≤◌, ◌⊎◌, ℤ, Bool, true, false, if◌then◌else◌, List, [], ◌∷◌, ◌++◌, length, Some, None, map, refl, sym, ap, ◌∙◌, subst, inl, inr, arith, length-append}
 use Rattle.std.proofs.lemmas.Int.{ints}
 use Rattle.gds_library.proofs.Orders.{by_test}
 use Rattle.gds_records.specs.Records.{file_limit}
-use Rattle.gds_records.specs.Spelled.{IsRecord, IsSpelling}
-use Rattle.gds_library.specs.Drawn.{Figure, Drawing}
+use Rattle.lvl_path.specs.Figure.{figure_rings}
+use Rattle.lvl_cells.specs.Cells.{drawn, kept}
+use Rattle.gds_library.specs.Drawn.{KeptCell}
 use Rattle.gds_library.specs.Types.{header, bgnlib, libname, units, endlib, bgnstr, strname, endstr, boundary, layer, datatype, xy, endel, fill}
 use Rattle.gds_library.specs.Order.{Begins, a_library}
-use Rattle.gds_library.specs.Place.{after, left, LeadsTo, has_units}
-use Rattle.gds_library.specs.Rec.{Rec, kinds, Spells, SpellsAll, pieces, is_type, field}
+use Rattle.gds_library.specs.Place.{after, LeadsTo, has_units}
+use Rattle.gds_library.specs.Rec.{Rec, kinds, Spells, pieces, is_type, field}
 use Rattle.gds_library.specs.Values.{drawing, drawings, short, two_reals}
-use Rattle.gds_library.specs.Front.{Breaches, BreachesNone, IsFront, IsKnown, cell_limit}
+use Rattle.gds_library.specs.Front.{Breaches, BreachesNone, IsFront, IsKnown}
 use Rattle.gds_library.specs.Faults.{IsFault, IsAllowed}
-use Rattle.gds_library.specs.Reading.{grown, shown, shown_at, done}
+use Rattle.gds_library.specs.Reading.{grown, shown, shown_at}
 use Rattle.gds_library.specs.Holds.{Holds}
 use Rattle.gds_library.specs.declared.place.Place.{Place}
 use Rattle.gds_library.specs.declared.place.Place.TheVariants.{Header, BgnLib, LibName, Units, Structures, StrName, Elements, Layer as AtLayer, Datatype as AtDatatype, Points as AtPoints, EndEl, Fill}
 use Rattle.gds_library.specs.declared.builder.Builder.{Builder}
 use Rattle.gds_library.specs.declared.fault.GdsKind.{GdsKind}
 use Rattle.gds_library.specs.declared.fault.GdsKind.TheVariants.{Record, Unexpected, Unsupported, Layer, Points, NotClosed, Name, AfterEnd, Oblique, TooManyCells}
-use Rattle.gds_library.proofs.Places.{leads_on, leads_nowhere, leads_begins, leads_begin}
+use Rattle.gds_library.proofs.Places.{leads_on, leads_nowhere, leads_begins}
 use Rattle.gds_library.proofs.Drawn.{drawings-snoc, field-snoc, if_ap}
 use Rattle.gds_library.proofs.Grown.{same_place, none_some}
-use Rattle.gds_library.proofs.Stuck.{a_fill, spells_join}
-
-pub map-append : (xs ys : List Rec) → kinds (xs ++ ys) ≡ kinds xs ++ kinds ys
-map-append [] ys = refl
-map-append (x ∷ xs) ys = ap (λ l. x.kind ∷ l) (map-append xs ys)
+use Rattle.gds_library.proofs.Spellings.{a_fill, spells_join, map-append}
 
 length-map : {A B : Type 0} (f : A → B) (xs : List A) → length (map f xs) ≡ length xs
 length-map f [] = refl
 length-map f (x ∷ xs) = omega (arith, length-map f xs)
+
+kept_many : (rs : List Rec) → length (kept figure_rings (drawings rs)) ≡ length (pieces (is_type bgnstr) rs)
+kept_many rs = length-map (drawn figure_rings) (drawings rs) ∙ length-map drawing (pieces (is_type bgnstr) rs)
 
 -- as many cells are shown as were read, and one more where one is open
 shown_many : (p : Place) (b : Builder) → length b.cells.items ≤ length (shown_at p b)
@@ -42,12 +40,12 @@ shown_many LibName b = omega arith
 shown_many Units b = omega arith
 shown_many Structures b = omega arith
 shown_many Fill b = omega arith
-shown_many StrName b = omega (arith, length-append {A = Drawing})
-shown_many Elements b = omega (arith, length-append {A = Drawing})
-shown_many AtLayer b = omega (arith, length-append {A = Drawing})
-shown_many AtDatatype b = omega (arith, length-append {A = Drawing})
-shown_many AtPoints b = omega (arith, length-append {A = Drawing})
-shown_many EndEl b = omega (arith, length-append {A = Drawing})
+shown_many StrName b = omega (arith, length-append {A = KeptCell})
+shown_many Elements b = omega (arith, length-append {A = KeptCell})
+shown_many AtLayer b = omega (arith, length-append {A = KeptCell})
+shown_many AtDatatype b = omega (arith, length-append {A = KeptCell})
+shown_many AtPoints b = omega (arith, length-append {A = KeptCell})
+shown_many EndEl b = omega (arith, length-append {A = KeptCell})
 
 -- what is a fault at a place breaches a rule behind the records that lead there
 pub law_fault : (b : Builder) (rs : List Rec) (r : Rec) (f : GdsKind) → Holds b rs → r.kind < 60 → IsFault b.place (length b.cells.items) r.kind r.payload f → Breaches rs r f
@@ -61,7 +59,7 @@ law_fault b rs r Name h l x = x
 law_fault b rs r AfterEnd h l x = absurd x
 law_fault b rs r Oblique h l x = (x.0, x.3)
 law_fault b rs r TooManyCells h l x =
-    (x.0, omega (arith, x.1, shown_many b.place b, ap (λ ds. length ds) h.shown, length-map drawing (pieces (is_type bgnstr) rs)))
+    (x.0, omega (arith, x.1, shown_many b.place b, ap (λ ds. length ds) h.shown, kept_many rs))
 
 pub no_tail : (before : List Rec) (s : Rec) (after : List Rec) → [] ≡ before ++ s ∷ after → ⊥
 no_tail [] s after e = cc
@@ -193,4 +191,4 @@ law_allowed b rs r q h l e a Oblique x = x.1 (a.straight x.0)
 law_allowed b rs r q h l e a TooManyCells x =
     (let z = a.cells x.0 in
     let n = cells_shown b.place q b (subst (λ k. after b.place k ≡ Some q) x.0 e) in
-    omega (arith, z, x.1, n, ap (λ ds. length ds) h.shown, length-map drawing (pieces (is_type bgnstr) rs)))
+    omega (arith, z, x.1, n, ap (λ ds. length ds) h.shown, kept_many rs))

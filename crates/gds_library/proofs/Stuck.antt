@@ -1,94 +1,18 @@
--- An input is stuck where a record breaches a rule.
-use Rattle.std.proofs.Common.{◌≡◌, ◌≢◌, ℕ, ◌+◌, ◌*◌, ◌<◌, ◌≤◌, ◌⊎◌, List, [], ◌∷◌, ◌++◌, length, take, drop, map, refl, sym, ap, ◌∙◌, subst, append_assoc, inl, inr, arith, length-append, length-take}
-use Rattle.std.proofs.Math.Seq.{take-append_seam}
-use Rattle.std.proofs.lemmas.List.{append-nil, take-append-drop}
+-- An input is stuck where a record breaches a rule; and bytes where a fault is told spell no library.
+use Rattle.std.proofs.Common.{◌≡◌, ℕ, ◌+◌, ◌<◌, ◌≤◌, ◌⊎◌, List, [], ◌∷◌, ◌++◌, length, take, drop, refl, sym, ap, ◌∙◌, subst, append_assoc, inl, inr, arith, length-append, length-take}
+use Rattle.std.proofs.lemmas.List.{append-nil, append_cancel_left, take-append-drop}
 use Rattle.gds_records.specs.Records.{file_limit}
-use Rattle.gds_records.specs.Spelled.{IsRecord, IsSpelling}
+use Rattle.gds_records.specs.Spelled.{IsRecord, IsSpelling, IsBegun}
 use Rattle.lvl_io.specs.Known.{Agree}
-use Rattle.gds_library.specs.Types.{fill}
-use Rattle.gds_library.specs.Order.{Begins, a_library}
+use Rattle.gds_library.specs.Order.{Begins, IsWord, a_library}
 use Rattle.gds_library.specs.Rec.{Rec, kinds, Spells, SpellsAll}
-use Rattle.gds_library.specs.Front.{Breaches, BreachesNone, IsFront, IsStuck}
+use Rattle.gds_library.specs.Front.{Breaches, BreachesNone, IsFront, IsStuck, IsTruncated, SpellsNone}
 use Rattle.gds_library.specs.declared.fault.GdsKind.{GdsKind}
+use Rattle.gds_library.proofs.Words.{begins_less}
+use Rattle.gds_library.proofs.Spellings.{a_fill, one_record, spells_all_once, spells_parts, agree_ends, ends_agree, map-append, length_spelled}
+use Rattle.gds_library.proofs.Readings.{zero_ends, one_reading, part_whole, goes_on}
 
-abbrev pub a_fill : Rec
-a_fill = record { kind = fill; data_type = 0; payload = [] }
-
-same_front : (p q x y : List ℕ) → length p ≡ length q → p ++ x ≡ q ++ y → p ≡ q
-same_front p q x y h e = sym (take-append_seam p x) ∙ ap (take (length p)) e ∙ ap (λ n. take n (q ++ y)) h ∙ take-append_seam q y
-
-same_record : (r s : Rec) → r.kind ≡ s.kind → r.data_type ≡ s.data_type → r.payload ≡ s.payload → r ≡ s
-same_record r s a b c =
-    ap (λ (k : ℕ). let x : Rec = record { kind = k; data_type = r.data_type; payload = r.payload } in x) a
-    ∙ ap (λ (d : ℕ). let x : Rec = record { kind = s.kind; data_type = d; payload = r.payload } in x) b
-    ∙ ap (λ (p : List ℕ). let x : Rec = record { kind = s.kind; data_type = s.data_type; payload = p } in x) c
-
--- two records that are spelled by bytes with a common beginning are the same
-one_record : (a b x y : List ℕ) (r s : Rec) → IsSpelling a r.kind r.data_type r.payload → IsSpelling b s.kind s.data_type s.payload → a ++ x ≡ b ++ y → r ≡ s
-one_record a b x y r s p q e =
-    let f : (p.high ∷ p.low ∷ r.kind ∷ r.data_type ∷ r.payload) ++ x ≡ (q.high ∷ q.low ∷ s.kind ∷ s.data_type ∷ s.payload) ++ y =
-    ap (λ l. l ++ x) (sym p.bytes_are) ∙ e ∙ ap (λ l. l ++ y) q.bytes_are in
-    let h : p.high ≡ q.high = cc in
-    let l : p.low ≡ q.low = cc in
-    let k : r.kind ≡ s.kind = cc in
-    let d : r.data_type ≡ s.data_type = cc in
-    let t : r.payload ++ x ≡ s.payload ++ y = cc in
-    let n : length r.payload ≡ length s.payload = omega (arith, p.len, q.len, h, l) in
-    same_record r s k d (same_front r.payload s.payload x y n t)
-
--- a record has one spelling
-one_spelling : (a b : List ℕ) (k d : ℕ) (p : List ℕ) → IsSpelling a k d p → IsSpelling b k d p → a ≡ b
-one_spelling a b k d p s t =
-    let h : s.high ≡ t.high = omega (arith, s.len, t.len, s.byte, t.byte) in
-    let l : s.low ≡ t.low = omega (arith, s.len, t.len, s.byte, t.byte) in
-    s.bytes_are ∙ ap (λ i. i ∷ s.low ∷ k ∷ d ∷ p) h ∙ ap (λ i. t.high ∷ i ∷ k ∷ d ∷ p) l ∙ sym t.bytes_are
-
-no_fill : (r : Rec) → IsRecord r.kind r.data_type r.payload → r ≡ a_fill → ⊥
-no_fill r p e = let k : r.kind ≡ 256 = ap (λ (x : Rec). x.kind) e in omega (arith, p.known, k)
-
-pub spells_once : (a b : List ℕ) (r : Rec) → Spells a r → Spells b r → a ≡ b
-spells_once a b r p q = elim p [
-  | inl x ↦ elim q [ inl y ↦ one_spelling a b r.kind r.data_type r.payload x.1 y.1 | inr y ↦ absurd (no_fill r x.0 y.0) ]
-  | inr x ↦ elim q [ inl y ↦ absurd (no_fill r y.0 x.0) | inr y ↦ x.1 ∙ sym y.1 ]
-]
-
-pub spells_all_once : (a b : List ℕ) (rs : List Rec) → SpellsAll a rs → SpellsAll b rs → a ≡ b
-spells_all_once a b [] p q = p ∙ sym q
-spells_all_once a b (r ∷ rs) p q =
-    let f : p.0 ≡ q.0 = spells_once p.0 q.0 r p.2 q.2 in
-    let t : p.1 ≡ q.1 = spells_all_once p.1 q.1 rs p.3 q.3 in
-    p.4 ∙ ap (λ l. l ++ p.1) f ∙ ap (λ l. q.0 ++ l) t ∙ sym q.4
-
--- the spelling of some records and one more
-pub spells_split : (bytes : List ℕ) (rs : List Rec) (r : Rec) → SpellsAll bytes (rs ++ r ∷ []) → (a b : List ℕ) × SpellsAll a rs × Spells b r × (bytes ≡ a ++ b)
-spells_split bytes [] r p = ([], p.0, refl, p.2, p.4 ∙ ap (λ l. p.0 ++ l) p.3 ∙ append-nil p.0)
-spells_split bytes (x ∷ xs) r p =
-    let q = spells_split p.1 xs r p.3 in
-    (p.0 ++ q.0, q.1, (p.0, q.0, p.2, q.2, refl), q.3, p.4 ∙ ap (λ l. p.0 ++ l) q.4 ∙ sym (append_assoc p.0 q.0 q.1))
-
-pub spells_join : (a b : List ℕ) (rs : List Rec) (r : Rec) → SpellsAll a rs → Spells b r → SpellsAll (a ++ b) (rs ++ r ∷ [])
-spells_join a b [] r p q = (b, [], q, refl, ap (λ l. l ++ b) p ∙ sym (append-nil b))
-spells_join a b (x ∷ xs) r p q =
-    (p.0, p.1 ++ b, p.2, spells_join p.1 b xs r p.3 q, ap (λ l. l ++ b) p.4 ∙ append_assoc p.0 p.1 b)
-
-cancel : (a x y : List ℕ) → a ++ x ≡ a ++ y → x ≡ y
-cancel [] x y e = e
-cancel (i ∷ a) x y e = (let f : a ++ x ≡ a ++ y = cc in cancel a x y f)
-
-agree_rest : (a b c : List ℕ) → Agree (a ++ b) (a ++ c) → Agree b c
-agree_rest a b c h = elim h.1 [
-  | inl e ↦ (h.0, inl (cancel a b (c ++ h.0) (e ∙ append_assoc a c h.0)))
-  | inr e ↦ (h.0, inr (cancel a c (b ++ h.0) (e ∙ append_assoc a b h.0)))
-]
-
--- what agrees with the input agrees behind a common front
-pub agree_behind : (a b c : List ℕ) → Agree (a ++ b) (a ++ c) → (x y : List ℕ) × (b ++ x ≡ c ++ y)
-agree_behind a b c h = elim h.1 [
-  | inl e ↦ ([], h.0, append-nil b ∙ cancel a b (c ++ h.0) (e ∙ append_assoc a c h.0))
-  | inr e ↦ (h.0, [], cancel a (b ++ h.0) c (sym (append_assoc a b h.0) ∙ sym e) ∙ sym (append-nil c))
-]
-
--- no front goes on where no record may stand behind this one
+-- no longer front agrees where no record may stand behind this one
 pub stuck_by : (xs : List ℕ) (at : ℕ) (rs : List Rec) → at < length xs → IsFront (take at xs) rs
     → ((r : Rec) (text : List ℕ) → Spells text r → Begins a_library (kinds (rs ++ r ∷ [])) → BreachesNone (rs ++ r ∷ []) → Agree text (drop at xs) → at + length text ≤ file_limit → ⊥)
     → IsStuck xs at
@@ -97,14 +21,51 @@ stuck_by xs at rs stands front none =
       stands = stands;
       records = rs;
       front = front;
-      none = λ s text next agree.
-          let p = spells_split text rs s next.spelled in
-          let a : p.0 ≡ take at xs = spells_all_once p.0 (take at xs) rs p.2 front.spelled in
-          let whole : xs ≡ p.0 ++ drop at xs = sym (take-append-drop at xs) ∙ ap (λ l. l ++ drop at xs) (sym a) in
-          let g : Agree (p.0 ++ p.1) (p.0 ++ drop at xs) = subst (λ l. Agree l (p.0 ++ drop at xs)) p.4 (subst (Agree text) whole agree) in
-          let long : at + length p.1 ≤ file_limit = omega (arith, next.limit, ap length p.4, length-append p.0 p.1, ap length a, length-take at xs, stands) in
-          none s p.1 p.3 next.order next.rules (agree_rest p.0 p.1 (drop at xs) g) long;
+      none = λ ss text next long agree.
+          let q = agree_ends text xs agree in
+          let n : length (take at xs) ≡ at = omega (arith, length-take at xs, stands) in
+          let whole : take at xs ++ (drop at xs ++ q.1) ≡ text ++ q.0 = sym (append_assoc (take at xs) (drop at xs) q.1) ∙ ap (λ l. l ++ q.1) (take-append-drop at xs) ∙ sym q.2 in
+          let z = goes_on (take at xs) (drop at xs) text q.1 q.0 rs ss front next (omega (arith, n, long)) whole in
+          none z.0 z.1 z.3 z.4.order z.4.rules (ends_agree z.1 (drop at xs) z.2 q.1 z.5) (omega (arith, z.4.limit, length-append (take at xs) z.1, n));
     }
+
+-- a stuck input spells no library
+pub stuck_none : (xs : List ℕ) (at : ℕ) → IsStuck xs at → SpellsNone xs
+stuck_none xs at s cells g p = s.none p.records xs p.front s.stands ([], inl (sym (append-nil xs)))
+
+-- no record stands where bytes are cut
+cut_none : (ys text rest : List ℕ) (r : Rec) → IsSpelling text r.kind r.data_type r.payload → ys ≡ text ++ rest → (length ys < 4) ⊎ IsBegun ys → ⊥
+cut_none ys text rest r s e cut = elim cut [
+  | inl l ↦ omega (arith, l, ap length e, length-append text rest, length_spelled text r.payload r.kind r.data_type s)
+  | inr b ↦
+      let t : Rec = record { kind = b.kind; data_type = b.data_type; payload = b.payload } in
+      let same : r ≡ t = one_record text (ys ++ b.more) (rest ++ b.more) [] r t s b.spelled (sym (append_assoc text rest b.more) ∙ ap (λ l. l ++ b.more) (sym e) ∙ sym (append-nil (ys ++ b.more))) in
+      omega (arith, ap (λ (i : Rec). length i.payload) same, length_spelled text r.payload r.kind r.data_type s, length_spelled (ys ++ b.more) b.payload b.kind b.data_type b.spelled, length-append ys b.more, b.short, ap length e, length-append text rest)
+]
+
+-- a library goes on behind a front without its end, and can't where bytes are cut
+cut_by : (xs front ys : List ℕ) (rs ss more : List Rec) → front ++ ys ≡ xs → SpellsAll front rs → IsFront xs ss → IsWord a_library (kinds ss) → ss ≡ rs ++ more
+    → (IsWord a_library (kinds rs) → ⊥) → (length ys < 4) ⊎ IsBegun ys → ⊥
+cut_by xs front ys rs ss [] w p f whole e unended cut = unended (subst (λ (l : List Rec). IsWord a_library (kinds l)) (e ∙ append-nil rs) whole)
+cut_by xs front ys rs ss (r ∷ more) w p f whole e unended cut =
+    let z = spells_parts xs rs (r ∷ more) (subst (SpellsAll xs) e f.spelled) in
+    let k = spells_all_once z.0 front rs z.2 p in
+    let here : ys ≡ z.3.0 ++ z.3.1 = append_cancel_left front ys (z.3.0 ++ z.3.1) (w ∙ z.4 ∙ ap (λ l. l ++ z.1) k ∙ ap (λ l. front ++ l) z.3.4) in
+    elim z.3.2 [
+      | inl x ↦ cut_none ys z.3.0 z.3.1 r x.1 here cut
+      | inr y ↦
+          let g : Begins a_library ((kinds rs ++ r.kind ∷ []) ++ kinds more) = subst (Begins a_library) (ap kinds e ∙ map-append rs (r ∷ more) ∙ sym (append_assoc (kinds rs) (r.kind ∷ []) (kinds more))) f.order in
+          unended (zero_ends (kinds rs) (subst (λ (i : Rec). Begins a_library (kinds rs ++ i.kind ∷ [])) y.0 (begins_less a_library (kinds rs ++ r.kind ∷ []) (kinds more) g)))
+    ]
+
+-- a truncated input spells no library
+pub truncated_none : (xs : List ℕ) (at : ℕ) → IsTruncated xs at → SpellsNone xs
+truncated_none xs at t cells g p =
+    let whole : take at xs ++ drop at xs ≡ xs = take-append-drop at xs in
+    elim (one_reading [] t.records p.records (take at xs) xs (drop at xs) [] t.front.spelled p.front.spelled (whole ∙ sym (append-nil xs)) t.front.order p.front.order) [
+      | inl m ↦ cut_by xs (take at xs) (drop at xs) t.records p.records m.0 whole t.front.spelled p.front p.whole m.1 t.unended t.cut
+      | inr m ↦ t.unended (subst (λ (l : List Rec). IsWord a_library (kinds l)) (sym (part_whole p.records t.records xs (take at xs) p.front.spelled t.front.spelled (omega (arith, length-take at xs, t.within)) m)) p.whole)
+    ]
 
 -- where a record breaches a rule and no zero byte may stand, no front goes on
 pub law_stuck : (xs : List ℕ) (at : ℕ) (rs : List Rec) (r : Rec) (bytes rest : List ℕ) (k : GdsKind) → at < length xs → IsFront (take at xs) rs
@@ -113,7 +74,7 @@ pub law_stuck : (xs : List ℕ) (at : ℕ) (rs : List Rec) (r : Rec) (bytes rest
 law_stuck xs at rs r bytes rest k stands front rec spelled here no_zero breach =
     stuck_by xs at rs stands front (λ s text spells begins rules agree l. elim spells [
       | inl x ↦
-          let q = agree_behind [] text (bytes ++ rest) (subst (Agree text) here agree) in
+          let q = agree_ends text (bytes ++ rest) (subst (Agree text) here agree) in
           let same : s ≡ r = one_record text bytes q.0 (rest ++ q.1) s r x.1 spelled (q.2 ∙ append_assoc bytes rest q.1) in
           rules rs [] s k refl (subst (λ (i : Rec). Breaches rs i k) (sym same) breach)
       | inr x ↦ no_zero (subst (λ (i : Rec). Begins a_library (kinds (rs ++ i ∷ []))) x.0 begins)

@@ -1,9 +1,9 @@
 -- The definitions at small examples.
-use Rattle.std.proofs.Common.{◌≡◌, ◌==◌, ℕ, ◌⊎◌, inl, inr, Bool, true, false, ◌||◌, if◌then◌else◌, List, [], ◌∷◌, ◌++◌, map, refl, sym, ap, ◌∙◌, subst}
+use Rattle.std.proofs.Common.{◌≡◌, ℕ, ◌⊎◌, inl, inr, Bool, true, false, ◌||◌, if◌then◌else◌, List, [], ◌∷◌, refl}
 use Rattle.std.specs.Prelude.{pos}
 use Rattle.std.specs.List.{flat_map}
-use Rattle.gds_library.specs.Drawn.{Figure, Drawing}
-use Rattle.gds_library.specs.Order.{Order, nothing, one, next, either, many, IsWord, Begins, ◌then◌, ◌or◌, maybe, a_library, a_boundary}
+use Rattle.lvl_path.specs.Figure.{rings}
+use Rattle.gds_library.specs.Order.{Order, one, IsWord, ◌then◌, ◌or◌, maybe, a_library, a_boundary}
 use Rattle.gds_library.specs.Rec.{Rec, kinds}
 use Rattle.gds_library.specs.Values.{drawings, head}
 use Rattle.gds_library.proofs.Orders.{after_first, can_be_empty, IsWordOfOne, first_put, empty_back, of_one-append}
@@ -86,7 +86,7 @@ square_drawn : drawings square ≡ record {
   shapes = record {
     layer = record { layer = 1; datatype = 0 };
     shifts = record { x = pos 0; y = pos 0 } ∷ [];
-    figure = (record { x = pos 0; y = pos 0 } ∷ record { x = pos 10; y = pos 0 } ∷ record { x = pos 10; y = pos 10 } ∷ record { x = pos 0; y = pos 10 } ∷ []) ∷ [];
+    figure = rings ((record { x = pos 0; y = pos 0 } ∷ record { x = pos 10; y = pos 0 } ∷ record { x = pos 10; y = pos 10 } ∷ record { x = pos 0; y = pos 10 } ∷ []) ∷ []);
   } ∷ [];
 } ∷ []
 square_drawn = refl

@@ -1,17 +1,12 @@
 -- Why a record is refused behind others.
-use Rattle.std.specs.Prelude.{◌≡◌, ◌≢◌, ℕ, ◌==◌, ◌<◌, ◌≤◌, ◌<ℤ◌, ◌≤ℤ◌, ◌⊎◌, pos, if◌then◌else◌, List, [], ◌∷◌, ◌++◌, length, map, Option, Some, None, Result, Ok, Err, All}
-use Rattle.gds_records.specs.Table.{table, form_among}
-use Rattle.gds_records.specs.Spelled.{IsOfForm}
+use Rattle.std.specs.Prelude.{◌≡◌, ℕ, ◌<◌, ◌≤◌, ◌<ℤ◌, ◌≤ℤ◌, ◌⊎◌, pos, List, length, None, All}
 use Rattle.lvl_grid.specs.declared.point.Point.{Point}
 use Rattle.lvl_grid.specs.Winding.{IsStraight}
-use Rattle.lvl_cells.specs.declared.layer.Layer.{Layer as LayerOf}
-use Rattle.gds_library.specs.Drawn.{Figure, Drawing}
-use Rattle.gds_library.specs.Types.{bgnstr, strname, boundary, layer, datatype, xy}
-use Rattle.gds_library.specs.Values.{short, points, name, magnitude, but_last}
+use Rattle.gds_library.specs.Types.{bgnstr, strname, layer, datatype, xy}
+use Rattle.gds_library.specs.Values.{short, points, name}
 use Rattle.gds_library.specs.Front.{cell_limit, IsKnown, IsName, IsClosed, steps}
 use Rattle.gds_library.specs.Place.{after}
 use Rattle.gds_library.specs.declared.place.Place.{Place}
-use Rattle.gds_library.specs.declared.place.Place.TheVariants.{Header, BgnLib, LibName, Units, Structures, StrName, Elements, Layer as AtLayer, Datatype as AtDatatype, Points as AtPoints, EndEl, Fill}
 use Rattle.gds_library.specs.declared.fault.GdsKind.{GdsKind}
 use Rattle.gds_library.specs.declared.fault.GdsKind.TheVariants.{Record, Unexpected, Unsupported, Layer, Points, NotClosed, Name, AfterEnd, Oblique, TooManyCells}
 use Rattle.gds_library.specs.declared.builder.Refusal.{Refusal}

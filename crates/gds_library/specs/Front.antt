@@ -1,15 +1,16 @@
 -- Fronts of streams, breaches of rules, and what is spelled.
-use Rattle.std.specs.Prelude.{true, ◌≡◌, ◌≢◌, ℕ, ◌+◌, ◌<◌, ◌≤◌, ◌<ℤ◌, pos, ◌⊎◌, List, [], ◌∷◌, ◌++◌, length, take, drop, Option, Some, None, Contains, All, slice_index}
+use Rattle.std.specs.Prelude.{true, ◌≡◌, ◌≢◌, ℕ, ◌<◌, ◌≤◌, ◌<ℤ◌, pos, ◌⊎◌, List, [], ◌∷◌, ◌++◌, length, take, drop, All}
 use Rattle.gds_records.specs.Records.{file_limit}
 use Rattle.gds_records.specs.Spelled.{IsBegun}
 use Rattle.lvl_io.specs.Known.{Agree}
 use Rattle.lvl_grid.specs.Winding.{IsStraight, path_edges, last_or}
 use Rattle.lvl_grid.specs.declared.point.Point.{Point}
-use Rattle.gds_library.specs.Drawn.{Figure, Drawing}
-use Rattle.lvl_cells.specs.declared.library.Library.{Library}
-use Rattle.gds_library.specs.Types.{endlib, bgnstr, strname, boundary, layer, datatype, xy, fill}
+use Rattle.lvl_path.specs.Figure.{figure_rings}
+use Rattle.lvl_cells.specs.Cells.{kept}
+use Rattle.gds_library.specs.Drawn.{Drawing, KeptCell}
+use Rattle.gds_library.specs.Types.{bgnstr, strname, layer, datatype, xy}
 use Rattle.gds_library.specs.Order.{a_library, has, IsWord, Begins}
-use Rattle.gds_library.specs.Rec.{Rec, kinds, Spells, SpellsAll, pieces, is_type, field}
+use Rattle.gds_library.specs.Rec.{Rec, kinds, Spells, SpellsAll, pieces, is_type}
 use Rattle.gds_library.specs.Values.{short, points, name, drawings, head}
 use Rattle.gds_library.specs.declared.head.GdsHead.{GdsHead}
 use Rattle.gds_library.specs.declared.fault.GdsKind.{GdsKind}
@@ -69,12 +70,26 @@ pub record SpellsLibrary (bytes : List ℕ) (cells : List Drawing) (h : GdsHead)
   pub cells_are : cells ≡ drawings records
   pub head_is : h ≡ head records
 
--- a byte stands at the offset, the bytes before it are a front, and no front with one record more agrees with the input
+-- what was read is a library that the bytes spell, as it is kept, and its head
+pub record IsRead (xs : List ℕ) (found : List KeptCell) (h : GdsHead) : Type 0 where
+  pub cells : List Drawing
+  pub spelled : SpellsLibrary xs cells h
+  pub kept_as : found ≡ kept figure_rings cells
+
+-- the bytes spell no other library, and no other head
+abbrev pub IsOnly : List ℕ → List KeptCell → GdsHead → Type 0
+IsOnly xs found h = (cells : List Drawing) (g : GdsHead) → SpellsLibrary xs cells g → (found ≡ kept figure_rings cells) × (h ≡ g)
+
+-- the bytes spell no library
+abbrev pub SpellsNone : List ℕ → Type 0
+SpellsNone xs = (cells : List Drawing) (g : GdsHead) → SpellsLibrary xs cells g → ⊥
+
+-- a byte stands at the offset, the bytes before it are a front, and no longer front agrees with the input
 pub record IsStuck (xs : List ℕ) (at : ℕ) : Type 0 where
   pub stands : at < length xs
   pub records : List Rec
   pub front : IsFront (take at xs) records
-  pub none : (r : Rec) (bytes : List ℕ) → IsFront bytes (records ++ r ∷ []) → Agree bytes xs → ⊥
+  pub none : (rs : List Rec) (bytes : List ℕ) → IsFront bytes rs → at < length bytes → Agree bytes xs → ⊥
 
 -- the record at the offset breaches the rule
 pub record IsBreached (xs : List ℕ) (at : ℕ) (k : GdsKind) : Type 0 where

@@ -1,9 +1,10 @@
 -- The values that payloads spell, and the library of a list of records.
-use Rattle.std.specs.Prelude.{◌≡◌, ℕ, zero, suc, ◌+◌, ◌-◌, ◌*◌, ◌/◌, ◌==◌, ◌&&◌, nat_lt, ℤ, pos, if◌then◌else◌, List, [], ◌∷◌, ◌++◌, length, map, take, drop, slice_index}
+use Rattle.std.specs.Prelude.{ℕ, zero, suc, ◌-◌, ◌/◌, ◌==◌, ◌&&◌, nat_lt, ℤ, pos, if◌then◌else◌, List, [], ◌∷◌, length, map, take, drop, slice_index}
 use Rattle.std.specs.Int.{w16, w32, from_be_bytes, cast_signed}
 use Rattle.lvl_grid.specs.declared.point.Point.{Point}
-use Rattle.lvl_cells.specs.declared.layer.Layer.{Layer}
-use Rattle.gds_library.specs.Drawn.{Figure, Drawing, one_place}
+use Rattle.lvl_path.specs.Figure.{Figure, rings}
+use Rattle.lvl_cells.specs.Cells.{PlainShape}
+use Rattle.gds_library.specs.Drawn.{Drawing, one_place}
 use Rattle.gds_library.specs.Types.{header, units, bgnstr, strname, boundary, layer, datatype, xy}
 use Rattle.gds_library.specs.Rec.{Rec, pieces, is_type, field}
 use Rattle.gds_library.specs.declared.head.GdsHead.{GdsHead}
@@ -40,16 +41,16 @@ abbrev pub but_last : {A : Type 0} → List A → List A
 but_last xs = take (length xs - 1) xs
 
 -- a boundary is the ring of its points but the last
-abbrev pub figure : List Rec → Figure
-figure rs = record {
+abbrev pub shape : List Rec → PlainShape Figure
+shape rs = record {
   layer = record { layer = magnitude (short (field layer rs)); datatype = magnitude (short (field datatype rs)) };
-  figure = but_last (points (field xy rs)) ∷ [];
+  figure = rings (but_last (points (field xy rs)) ∷ []);
   shifts = one_place;
 }
 
--- a cell has its structure's name, and a figure for each of its boundaries
+-- a cell has its structure's name, and a shape for each of its boundaries
 abbrev pub drawing : List Rec → Drawing
-drawing rs = record { name = name (field strname rs); shapes = map figure (pieces (is_type boundary) rs); references = [] }
+drawing rs = record { name = name (field strname rs); shapes = map shape (pieces (is_type boundary) rs); references = [] }
 
 -- a library has a cell for each structure
 abbrev pub drawings : List Rec → List Drawing

@@ -1,8 +1,9 @@
 //! A library read from records.
-ghost use Rattle.std.specs.Prelude.{◌≡◌, ◌≢◌, ◌≤◌, List, ℕ, OnOk, Some, IfErr, IfOk, false, length};
+ghost use Rattle.std.specs.Prelude.{◌≡◌, ◌≢◌, ◌≤◌, List, ℕ, OnOk, Some, Err, IfErr, IfOk, false, length};
+ghost use Rattle.lvl_io.specs.Bytes.{CountsFailure};
 ghost use Rattle.gds_records.specs.Records.{has_failed, bytes_left, records_offset, records_reader};
-ghost use Rattle.gds_library.specs.Ends.{Tells};
-ghost use Rattle.gds_library.specs.Front.{SpellsLibrary};
+ghost use Rattle.gds_library.specs.Ends.{Tells, IsExcused, is_read};
+ghost use Rattle.gds_library.specs.Front.{IsRead, IsOnly, SpellsNone};
 ghost use Rattle.gds_library.specs.ReadTo.{ReadTo};
 
 use crate::builder::{Builder, Refusal};
@@ -22,10 +23,22 @@ use std::alloc::Global;
 /// it ends with one. The first record that is missing, malformed or breaches a rule is answered with
 /// its offset in bytes.
 pub fn read_gds<R: Read>(alloc: Global, reader: &mut R) -> Result<(Library, GdsHead), GdsFault>
+    // What is read is spelled, and nothing else is.
     ensures spelled { (xs : List ℕ) → R.remaining reader.old ≡ Some xs
-        → IfOk result (λ read. SpellsLibrary xs read.0 read.1) }
+        → IfOk result (λ read. IsRead xs read.0 read.1) }
+    ensures alone { (xs : List ℕ) → R.remaining reader.old ≡ Some xs
+        → IfOk result (λ read. IsOnly xs read.0 read.1) }
+
+    // A refusal names what is wrong, and nothing is spelled, unless memory or the reader failed.
     ensures refused { (xs : List ℕ) → R.remaining reader.old ≡ Some xs
         → IfErr result (λ fault. Tells xs fault) }
+    ensures none { (xs : List ℕ) → R.remaining reader.old ≡ Some xs
+        → IfErr result (λ fault. (¬ IsExcused fault) → SpellsNone xs) }
+
+    // The reader failed once where `Read` is told, and else never.
+    ensures reads { result ≢ Err GdsFault.OutOfMemory
+        → CountsFailure (R.read_errors reader.old) (R.read_errors reader.new) (is_read result) }
+    ensures same { result ≢ Err GdsFault.OutOfMemory → R.lent reader.new ≡ R.lent reader.old }
 {
     let Ok(mut records) = Records::new(alloc, reader) else {
         return Err(GdsFault::OutOfMemory);
@@ -43,9 +56,12 @@ fn read_library<R: Read>(
     requires fresh { has_failed records.old ≡ false }
     requires start { records_offset records.old ≡ 0 }
     ensures spelled { (xs : List ℕ) → bytes_left R.remaining records.old ≡ Some xs
-        → IfOk result (λ read. SpellsLibrary xs read.0 read.1) }
+        → IfOk result (λ read. IsRead xs read.0 read.1) }
     ensures refused { (xs : List ℕ) → bytes_left R.remaining records.old ≡ Some xs
         → IfErr result (λ fault. Tells xs fault) }
+    ensures reads { CountsFailure (R.read_errors (records_reader records.old))
+        (R.read_errors (records_reader records.new)) (is_read result) }
+    ensures same { R.lent (records_reader records.new) ≡ R.lent (records_reader records.old) }
 {
     let builder = read_all(alloc, records)?;
     match records.tail() {
@@ -71,6 +87,9 @@ fn read_all<R: Read>(alloc: Global, records: &mut Records<R>) -> Result<Builder,
         × ((xs : List ℕ) → bytes_left R.remaining records.old ≡ Some xs
         → ReadTo xs (records_offset records.new) b (bytes_left R.remaining records.new))) }
     ensures fresh { OnOk result (has_failed records.new ≡ false) }
+    ensures reads { CountsFailure (R.read_errors (records_reader records.old))
+        (R.read_errors (records_reader records.new)) (is_read result) }
+    ensures same { R.lent (records_reader records.new) ≡ R.lent (records_reader records.old) }
 {
     let mut builder = Builder::new(alloc);
     for _ in 0..u64::MAX {

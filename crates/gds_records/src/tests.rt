@@ -266,3 +266,12 @@ fn tells_a_failed_read_once(rt: HostRuntime) -> Result<(), Fail> {
     }
     Ok(())
 }
+
+#[test]
+fn growths(rt: HostRuntime) -> Result<(), Fail> {
+    let bytes = square(rt.alloc())?;
+    let mut records = Records::new(rt.alloc(), Pieces::new(&bytes, usize::MAX))?;
+    let found = records.next()?.map(|record| record.kind);
+    assert_eq!(rt; found, Some(record_type::HEADER));
+    Ok(())
+}

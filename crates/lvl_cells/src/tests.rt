@@ -377,7 +377,8 @@ fn references(rt: HostRuntime) -> Result<(), Fail> {
     Ok(())
 }
 
-/// Run with each allocation refused in turn: an answer is the library's own, or want of memory.
+/// Run with each allocation refused in turn: it ends with want of memory, or each answer is the
+/// library's own.
 #[test]
 fn growths(rt: HostRuntime) -> Result<(), Fail> {
     let rows: [(&[(&str, &[&str])], &str); 4] = [
@@ -389,9 +390,10 @@ fn growths(rt: HostRuntime) -> Result<(), Fail> {
     for (cells, want) in rows {
         let library = library_of(rt.alloc(), cells)?;
         let text = text_of(rt.alloc(), check(rt.alloc(), library, None))?;
-        if text.as_str() != "OutOfMemory" {
-            assert_eq!(rt; text.as_str(), want);
+        if text.as_str() == "OutOfMemory" {
+            return Err("out of memory".into());
         }
+        assert_eq!(rt; text.as_str(), want);
     }
     Ok(())
 }

@@ -1,5 +1,5 @@
 //! The rings of each Layer, in the order of the Layers.
-ghost use Rattle.std.specs.Prelude.{◌≡◌, ◌≢◌, ◌↔◌, filter, map, slice_get, All, IsTrue, IfOk, IfSome, IfNone};
+ghost use Rattle.std.specs.Prelude.{◌≡◌, ◌≢◌, ◌↔◌, filter, length, map, slice_get, All, IsTrue, IfOk, IfSome, IfNone};
 ghost use Rattle.lvl_flat.specs.Sheets.{rings_on, is_filled, IsInOrder, ComesBefore, AreSorted, SheetAt};
 
 use lvl_cells::Layer;
@@ -55,6 +55,13 @@ impl Flat {
         Ok(Flat { sheets: filled })
     }
 
+    /// The number of Layers that have a ring.
+    pub fn len(&self) -> usize
+        ensures { result ≡ length self.now }
+    {
+        self.sheets.len()
+    }
+
     /// The Layer at the place, in their order; each has a ring at least.
     pub fn layer(&self, place: usize) -> Option<Layer>
         ensures layer { result ≡ slice_get (map (λ s. s.layer) self.now) place }
@@ -77,8 +84,8 @@ impl Flat {
     }
 }
 
-/// Whether the first Layer comes before the second.
-fn comes_before(first: Layer, second: Layer) -> bool
+/// Whether the first Layer comes before the second: by the layer, then by the datatype.
+pub fn comes_before(first: Layer, second: Layer) -> bool
     ensures { IsTrue result ↔ ComesBefore first second }
 {
     first.layer < second.layer || (first.layer == second.layer && first.datatype < second.datatype)

@@ -7,7 +7,7 @@
 
 pub use advance::flatten;
 pub use fault::FlatFault;
-pub use flat::Flat;
+pub use flat::{Flat, comes_before};
 
 mod advance;
 mod draw;

@@ -1,7 +1,7 @@
 //! What small libraries flatten to.
-use crate::{FlatFault, flatten};
+use crate::{Flat, FlatFault, flatten};
 use lvl_cells::{Cell, Layer, Library, Offsets, Reference, Shape, check};
-use lvl_grid::{Map, Point, Ring, Turn};
+use lvl_grid::{Map, Point, Ring, Square, Turn};
 use std::alloc::Global;
 use std::test::Fail;
 
@@ -207,5 +207,95 @@ fn layers_in_order(rt: HostRuntime) -> Result<(), Fail> {
     }
     assert_eq!(rt; flat.rings(METAL).len(), 2);
     assert_eq!(rt; flat.rings(far).len(), 0);
+    Ok(())
+}
+
+/// An L: three squares along x, and one above the first.
+const L: [(i64, i64); 6] = [(0, 0), (3, 0), (3, 1), (1, 1), (1, 2), (0, 2)];
+
+const L_SQUARES: [(i64, i64); 4] = [(0, 0), (1, 0), (2, 0), (0, 1)];
+
+const TURNS: [Turn; 4] = [Turn::R0, Turn::R90, Turn::R180, Turn::R270];
+
+/// Where a map sends a point, as it is defined: reflected, turned, then moved.
+fn sent(map: Map, x: i64, y: i64) -> (i64, i64) {
+    let y = if map.flip { y.wrapping_neg() } else { y };
+    let (x, y) = match map.turn {
+        Turn::R0 => (x, y),
+        Turn::R90 => (y.wrapping_neg(), x),
+        Turn::R180 => (x.wrapping_neg(), y.wrapping_neg()),
+        Turn::R270 => (y, x.wrapping_neg()),
+    };
+    (x.wrapping_add(map.at.x), y.wrapping_add(map.at.y))
+}
+
+/// The square that the images of a square's corners make.
+fn square_sent(map: Map, x: i64, y: i64) -> (i64, i64) {
+    let (a, b) = sent(map, x, y);
+    let (c, d) = sent(map, x.wrapping_add(1), y.wrapping_add(1));
+    (a.min(c), b.min(d))
+}
+
+/// Whether some square of the L is sent to this one, by one map and then another.
+fn is_drawn(inner: Map, outer: Map, x: i64, y: i64) -> bool {
+    L_SQUARES.iter().any(|(a, b)| {
+        let (c, d) = square_sent(inner, *a, *b);
+        square_sent(outer, c, d) == (x, y)
+    })
+}
+
+/// The L in a cell A, as two maps one above the other place it.
+fn l_placed_twice(alloc: Global, outer: Map, inner: Map) -> Result<Flat, Fail> {
+    let mut points = Vec::new(alloc);
+    for (x, y) in L {
+        points.push(Point { x, y })?;
+    }
+    let mut a = drawing(alloc, "A", METAL, ORIGIN, ORIGIN)?;
+    let mut rings = Vec::new(alloc);
+    rings.push(Ring::new(points)?)?;
+    a.shapes.clear();
+    a.shapes.push(Shape {
+        layer: METAL,
+        rings,
+        shifts: once(alloc)?,
+    })?;
+    let mut cells = Vec::new(alloc);
+    cells.push(a)?;
+    cells.push(placing(alloc, "M", "A", inner)?)?;
+    cells.push(placing(alloc, "TOP", "M", outer)?)?;
+    let checked = check(alloc, Library { cells }, None)?;
+    Ok(flatten(alloc, &checked)?)
+}
+
+#[test]
+fn all_maps_of_an_l(rt: HostRuntime) -> Result<(), Fail> {
+    for inner_flip in [false, true] {
+        for outer_flip in [false, true] {
+            for inner_turn in TURNS {
+                for outer_turn in TURNS {
+                    let inner = turned(inner_flip, inner_turn, 2, -1);
+                    let outer = turned(outer_flip, outer_turn, -3, 1);
+                    let flat = l_placed_twice(rt.alloc(), outer, inner)?;
+                    let ring = flat.rings(METAL).first().ok_or("no ring")?;
+                    for y in -9..9 {
+                        for x in -9..9 {
+                            let covered = ring.covers(Square { x, y });
+                            let want = is_drawn(inner, outer, x, y);
+                            assert_eq!(rt; covered, want, "{inner:?} {outer:?} {x} {y}");
+                        }
+                    }
+                }
+            }
+        }
+    }
+    Ok(())
+}
+
+#[test]
+fn growths(rt: HostRuntime) -> Result<(), Fail> {
+    let plain = turned(false, Turn::R0, 0, 0);
+    let flat = l_placed_twice(rt.alloc(), plain, plain)?;
+    assert_eq!(rt; flat.len(), 1);
+    assert_eq!(rt; flat.rings(METAL).len(), 1);
     Ok(())
 }

@@ -1,5 +1,5 @@
 //! Readers and writers for tests: they hand out pieces, and fail where they are told to.
-ghost use Rattle.std.specs.Prelude.{Some, None};
+ghost use Rattle.std.specs.Prelude.{Some, []};
 
 use crate::{Failure, Read, Write};
 use std::alloc::Global;
@@ -42,7 +42,7 @@ impl Read for Pieces<'_> {
 
     ghost read_errors = { λ r. r.errors };
 
-    ghost lent = { λ _. None };
+    ghost lent = { λ _. [] };
 
     fn read(&mut self, buf: &mut [u8]) -> Result<usize, Failure> {
         if self.rest.is_empty() && self.failures > 0 {
@@ -92,7 +92,7 @@ impl Write for Sink {
 
     ghost write_errors = { λ w. w.errors };
 
-    ghost lent = { λ _. None };
+    ghost lent = { λ _. [] };
 
     fn write(&mut self, buf: &[u8]) -> Result<usize, Failure> {
         let n = buf.len().min(self.most).min(self.room);

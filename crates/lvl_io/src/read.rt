@@ -1,5 +1,5 @@
 //! A reader that tells its bytes and counts its errors.
-ghost use Rattle.std.specs.Prelude.{◌≡◌, ℕ, List, Option, Some};
+ghost use Rattle.std.specs.Prelude.{◌≡◌, ℕ, List, ◌∷◌, Option, Some};
 ghost use Rattle.std.specs.Io.{ReadsAtMost};
 ghost use Rattle.std.specs.Io.KnownBytes.{ReadConsumes};
 ghost use Rattle.std.specs.Borrow.{GName};
@@ -15,8 +15,8 @@ pub trait Read {
     /// How many errors the reader answered.
     ghost read_errors: { Self → ℕ };
 
-    /// The reference through which it reads, if it is one. A read keeps it.
-    ghost lent: { Self → Option GName };
+    /// The references through which it reads, the outermost first. A read keeps them.
+    ghost lent: { Self → List GName };
 
     /// Reads some bytes into the front of `buf` and gives their number, which is 0 only at the
     /// end of the input or where `buf` is empty.
@@ -32,7 +32,7 @@ impl<R: Read> Read for &mut R {
 
     ghost read_errors = { λ r. R.read_errors r.now };
 
-    ghost lent = { λ r. Some r.ghost_name };
+    ghost lent = { λ r. r.ghost_name ∷ R.lent r.now };
 
     fn read(&mut self, buf: &mut [u8]) -> Result<usize, Failure> {
         Read::read(&mut **self, buf)

@@ -1,5 +1,5 @@
 //! A writer that tells its bytes and counts its errors.
-ghost use Rattle.std.specs.Prelude.{◌≡◌, ℕ, List, Option, Some};
+ghost use Rattle.std.specs.Prelude.{◌≡◌, ℕ, List, ◌∷◌, Option, Some};
 ghost use Rattle.std.specs.Io.{WritesAtMost};
 ghost use Rattle.std.specs.Io.KnownBytes.{Keeps, WriteAppends};
 ghost use Rattle.std.specs.Borrow.{GName};
@@ -16,8 +16,8 @@ pub trait Write {
     /// How many errors the writer answered.
     ghost write_errors: { Self → ℕ };
 
-    /// The reference through which it writes, if it is one. A write and a flush keep it.
-    ghost lent: { Self → Option GName };
+    /// The references through which it writes, the outermost first. A write and a flush keep them.
+    ghost lent: { Self → List GName };
 
     /// Takes some bytes from the front of `buf` and gives their number.
     fn write(&mut self, buf: &[u8]) -> Result<usize, Failure>
@@ -39,7 +39,7 @@ impl<W: Write> Write for &mut W {
 
     ghost write_errors = { λ w. W.write_errors w.now };
 
-    ghost lent = { λ w. Some w.ghost_name };
+    ghost lent = { λ w. w.ghost_name ∷ W.lent w.now };
 
     fn write(&mut self, buf: &[u8]) -> Result<usize, Failure> {
         Write::write(&mut **self, buf)

@@ -157,3 +157,14 @@ fn no_rings_cover_nothing(rt: HostRuntime) -> Result<(), Fail> {
     );
     Ok(())
 }
+
+#[test]
+fn growths(rt: HostRuntime) -> Result<(), Fail> {
+    let row = Row {
+        first: &[&CORNERED],
+        second: &[&LARGE],
+        found: Some((Square { x: 10, y: 10 }, Side::Second)),
+    };
+    assert!(rt; finds::<GridRegion>(rt.alloc(), &row)?);
+    Ok(())
+}

@@ -318,3 +318,12 @@ fn a_thousand_lists(rt: HostRuntime) -> Result<(), Fail> {
     }
     Ok(())
 }
+
+#[test]
+fn growths(rt: HostRuntime) -> Result<(), Fail> {
+    let alloc = rt.alloc();
+    let cornered = rings(alloc, &[&CORNERED])?;
+    let large = vec![in alloc; rectangle(alloc, (0, 20), (0, 20))?]?;
+    assert!(rt; differ_at(alloc, &cornered, &large, at(10, 10, Side::Second))?);
+    Ok(())
+}

@@ -1,5 +1,4 @@
-use Rattle.std.proofs.Common.{◌≡◌, ◌++◌, ◌∷◌, [], ◌∙◌, List, sym, ap, length, arith, refl, length-append, ◌<◌, ◌≤◌, get_or}
-use Rattle.lvl_grid.specs.declared.point.Point.{Point}
+use Rattle.std.proofs.Common.{◌≡◌, ◌++◌, ◌∷◌, [], ◌∙◌, sym, ap, length, arith, length-append, ◌<◌, ◌≤◌, get_or}
 use Rattle.gds_library.specs.Values.{points}
 use Rattle.gds_library.proofs.Closing.{closed_last, last_closed, straight_steps, straight_edges, point_eq, point_ne, no_fault}
 use Rattle.gds_library.proofs.builder.rings_of.Goals as goal

@@ -1,4 +1,4 @@
-use Rattle.std.proofs.Common.{◌≢◌, [], None, Err, inl, ◌≡◌, ◌∙◌, ◌-◌, ◌+◌, ◌≤◌, ℕ, List, length, drop, Ok, Some, refl, sym, ap, subst, arith, length-take, true}
+use Rattle.std.proofs.Common.{◌≢◌, [], None, Err, inl, ◌≡◌, ◌∙◌, ◌-◌, length, drop, Ok, Some, refl, sym, ap, subst, arith, length-take, true}
 use Rattle.gds_records.specs.Records.{room_left, records_offset, file_limit, bytes_left}
 use Rattle.gds_records.specs.Spelled.{IsSpelledAt, NoRecord}
 use Rattle.gds_records.specs.declared.records.Record.{Record as Answered}
@@ -21,6 +21,8 @@ loop-init g c = (
   λ z. (let y : Header ≡ Fill = sym c.new-builder.ensures.place ∙ z in cc),
   λ xs k. subst (λ i. ReadTo xs i c.new-builder.result (bytes_left g.R.Read.remaining c.args.records.now)) (sym c.requires.start) (reads_begin xs c.new-builder.result _ k c.new-builder.ensures.place c.new-builder.ensures.shown c.new-builder.ensures.version),
   omega arith,
+  refl,
+  refl,
 )
 
 pub returns-in-Err-Breach-clause-stuck : goal.returns-in-Err-Breach-clause-stuck
@@ -69,6 +71,8 @@ loop-preserved g c =
           (reads_on xs at c.loop.builder c.take.new.self (bytes_left g.R.Read.remaining c.loop.records) (bytes_left g.R.Read.remaining new) (room_left c.loop.records) c.in-Ok-Some.record.kind c.in-Ok-Some.record.payload.now (drop at xs) to to.left_is sp
           c.in-Ok.ensures.place c.in-Ok.ensures.allowed c.in-Ok.ensures.shown (record { version = c.in-Ok.ensures.version; units = c.in-Ok.ensures.units }) (omega (arith, to.front.limit, length-take at xs, to.within)) (p.left (drop at xs) to.left_is)),
       omega (arith, p.offset, c.loop.invariant.3),
+      p.counted ∙ c.loop.invariant.4,
+      p.same ∙ c.loop.invariant.5,
     )
 
 pub returns-then-is_whole-clause-whole : goal.returns-then-is_whole-clause-whole

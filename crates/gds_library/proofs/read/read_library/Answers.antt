@@ -1,6 +1,6 @@
-use Rattle.std.proofs.Common.{◌≡◌, ◌∙◌, ◌-◌, ◌+◌, ◌≤◌, ℕ, List, length, drop, Ok, Err, Some, None, refl, sym, ap, subst, arith, length-take}
+use Rattle.std.proofs.Common.{◌≡◌, ◌∙◌, ◌-◌, ℕ, List, drop, Ok, Err, Some, None, sym, ap, subst, arith, length-take}
 use Rattle.std.specs.Prelude.{Option, Result}
-use Rattle.gds_records.specs.Records.{room_left, records_offset, file_limit}
+use Rattle.gds_records.specs.Records.{records_offset, file_limit}
 use Rattle.gds_records.specs.Tail.{AnswersTail}
 use Rattle.gds_records.specs.declared.fault.RecordFault.{RecordFault}
 use Rattle.gds_library.specs.Front.{IsStuck, IsAfterEnd}

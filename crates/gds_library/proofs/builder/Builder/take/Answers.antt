@@ -1,11 +1,10 @@
-use Rattle.std.proofs.Common.{◌≡◌, ℕ, List, map, sym, ap, ◌∙◌, refl, rules, arith, ◌==◌, false, true, Bool}
+use Rattle.std.proofs.Common.{◌≡◌, ℕ, sym, ap, ◌∙◌, refl, rules, arith, ◌==◌, false}
 use Rattle.std.proofs.lemmas.Bool.Decides.{nat_tests}
 use Rattle.gds_library.proofs.builder.Builder.take.Goals as goal
 use Rattle.gds_library.proofs.builder.Builder.take.Goals.{in-0, in-3, in-5+else-len-ge-MOST_CELLS, in-6+in_ok-self-in-6, in-7+in_ok-push-in-7, in-13+in_ok-self-in-13, in-14+in_ok-self-in-14, in-16+in_ok-self-in-16, in-17+in_ok-push-in-17, in_default-kind}
-use Rattle.gds_library.proofs.Grown.{map-snoc, shown_endstr, shown_endel, shown_other, shown_place, IsOther, SameCells, by_kind, shown_layer, shown_datatype, shown_xy, shown_header, shown_units, shown_bgnstr, shown_strname}
-use Rattle.gds_library.specs.Reading.{shown, shown_at, grown}
+use Rattle.gds_library.proofs.Grown.{shown_endstr, shown_endel, shown_other, shown_place, IsOther, SameCells, by_kind, shown_layer, shown_datatype, shown_xy, shown_header, shown_units, shown_bgnstr, shown_strname}
+use Rattle.gds_library.specs.Reading.{shown_at}
 use Rattle.gds_library.specs.declared.builder.Builder.{Builder}
-use Rattle.gds_library.specs.declared.place.Place.{Place}
 use Rattle.gds_library.specs.Types.{units, endstr, endel, header, bgnstr, strname, layer, datatype, xy}
 
 other : (k j : ℕ) → (k ≡ j → ⊥) → k == j ≡ false

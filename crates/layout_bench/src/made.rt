@@ -1,0 +1,151 @@
+//! Streams and libraries that are made to be timed.
+
+use anyhow::{Context, Result};
+use gds_records::record_type;
+use lvl_cells::{Cell, Layer, Library, Offsets, Reference, Shape};
+use lvl_grid::{Point, Ring, Turn};
+use std::alloc::Global;
+
+fn record(bytes: &mut Vec<u8>, kind: u8, data_type: u8, payload: &[u8]) -> Result<()> {
+    let len = (payload.len() % 65_532 + 4) as u16;
+    bytes.extend_from_slice(&len.to_be_bytes())?;
+    bytes.push(kind)?;
+    bytes.push(data_type)?;
+    bytes.extend_from_slice(payload)?;
+    Ok(())
+}
+
+fn point(bytes: &mut Vec<u8>, x: i32, y: i32) -> Result<()> {
+    bytes.extend_from_slice(&x.to_be_bytes())?;
+    bytes.extend_from_slice(&y.to_be_bytes())?;
+    Ok(())
+}
+
+/// A square of ten steps with its lower left corner there.
+fn boundary(bytes: &mut Vec<u8>, xy: &mut Vec<u8>, x: i32, y: i32) -> Result<()> {
+    let (right, top) = (x.saturating_add(10), y.saturating_add(10));
+    xy.clear();
+    point(xy, x, y)?;
+    point(xy, right, y)?;
+    point(xy, right, top)?;
+    point(xy, x, top)?;
+    point(xy, x, y)?;
+    record(bytes, record_type::BOUNDARY, 0, b"")?;
+    record(bytes, record_type::LAYER, 2, &[0, 1])?;
+    record(bytes, record_type::DATATYPE, 2, &[0, 0])?;
+    record(bytes, record_type::XY, 3, xy)?;
+    record(bytes, record_type::ENDEL, 0, b"")
+}
+
+/// A stream of one structure with so many boundaries.
+pub fn stream(alloc: Global, count: i32) -> Result<Vec<u8>> {
+    let mut bytes = Vec::new(alloc);
+    let mut xy = Vec::new(alloc);
+    record(&mut bytes, record_type::HEADER, 2, &[0x02, 0x58])?;
+    record(&mut bytes, record_type::BGNLIB, 2, &[0; 24])?;
+    record(&mut bytes, record_type::LIBNAME, 6, b"LB")?;
+    record(&mut bytes, record_type::UNITS, 5, &[0; 16])?;
+    record(&mut bytes, record_type::BGNSTR, 2, &[0; 24])?;
+    record(&mut bytes, record_type::STRNAME, 6, b"TOP\0")?;
+    for number in 0..count {
+        boundary(&mut bytes, &mut xy, number % 1000, number / 1000)?;
+    }
+    record(&mut bytes, record_type::ENDSTR, 0, b"")?;
+    record(&mut bytes, record_type::ENDLIB, 0, b"")?;
+    Ok(bytes)
+}
+
+fn name(alloc: Global, number: u64) -> Result<Vec<u8>> {
+    let text = format!(in alloc; "C{number:08}")?;
+    Ok(Vec::from_slice(alloc, text.as_bytes())?)
+}
+
+fn unit_square(alloc: Global) -> Result<Shape> {
+    let points = vec![in alloc;
+        Point { x: 0, y: 0 },
+        Point { x: 1, y: 0 },
+        Point { x: 1, y: 1 },
+        Point { x: 0, y: 1 },
+    ]?;
+    let ring = Ring::new(points).ok().context("no ring")?;
+    let zero = Point { x: 0, y: 0 };
+    Ok(Shape {
+        layer: Layer {
+            layer: 1,
+            datatype: 0,
+        },
+        rings: vec![in alloc; ring]?,
+        shifts: Offsets::lattice(zero, 1, zero, 1).context("no shift")?,
+    })
+}
+
+/// A reference to the cell of that number by a lattice of steps.
+fn placed(alloc: Global, cell: u64, a: (Point, u64), b: (Point, u64)) -> Result<Reference> {
+    let shifts = Offsets::lattice(a.0, a.1, b.0, b.1).context("no lattice")?;
+    let at = Point { x: 0, y: 0 };
+    Reference::new(name(alloc, cell)?, false, Turn::R0, at, shifts).context("no reference")
+}
+
+/// So many cells, the first of which places each of the others once.
+pub fn flat_library(alloc: Global, count: u64) -> Result<Library> {
+    let mut cells = Vec::new(alloc);
+    let mut references = Vec::new(alloc);
+    let one = (Point { x: 0, y: 0 }, 1);
+    for number in 1..count {
+        references.push(placed(alloc, number, one, one)?)?;
+    }
+    cells.push(Cell {
+        name: name(alloc, 0)?,
+        shapes: Vec::new(alloc),
+        references,
+    })?;
+    for number in 1..count {
+        cells.push(Cell {
+            name: name(alloc, number)?,
+            shapes: Vec::new(alloc),
+            references: Vec::new(alloc),
+        })?;
+    }
+    Ok(Library { cells })
+}
+
+/// So many cells, each of which places the next.
+pub fn chain_library(alloc: Global, count: u64) -> Result<Library> {
+    let mut cells = Vec::new(alloc);
+    let one = (Point { x: 0, y: 0 }, 1);
+    for number in 0..count {
+        let mut references = Vec::new(alloc);
+        if number + 1 < count {
+            references.push(placed(alloc, number + 1, one, one)?)?;
+        }
+        cells.push(Cell {
+            name: name(alloc, number)?,
+            shapes: Vec::new(alloc),
+            references,
+        })?;
+    }
+    Ok(Library { cells })
+}
+
+/// `outer` times an array of `inner` unit squares: an array of arrays, each of square lattices.
+pub fn array_library(alloc: Global, outer: u64, inner: u64) -> Result<Library> {
+    let mut cells = Vec::new(alloc);
+    let right = |steps: i64| Point { x: steps, y: 0 };
+    let up = Point { x: 0, y: 2 };
+    cells.push(Cell {
+        name: name(alloc, 0)?,
+        shapes: Vec::new(alloc),
+        references: vec![in alloc; placed(alloc, 1, (right(2), 1), (up, outer))?]?,
+    })?;
+    cells.push(Cell {
+        name: name(alloc, 1)?,
+        shapes: Vec::new(alloc),
+        references: vec![in alloc; placed(alloc, 2, (right(2), inner), (up, 1))?]?,
+    })?;
+    cells.push(Cell {
+        name: name(alloc, 2)?,
+        shapes: vec![in alloc; unit_square(alloc)?]?,
+        references: Vec::new(alloc),
+    })?;
+    Ok(Library { cells })
+}

@@ -1,0 +1,8 @@
+pub mod Behind
+pub mod Spelling
+pub mod Keeping
+pub mod Lifting
+pub mod Refused
+pub mod ShownLayers
+pub mod Running
+pub mod Showing

@@ -1,0 +1,160 @@
+-- From what was found of the libraries that are kept to what the bytes of the files spell.
+use Rattle.std.proofs.Common.{◌≡◌, ◌≢◌, ◌↔◌, ◌<◌, ◌≤◌, ℕ, List, [], get_or, Option, Some, None, length, slice_get, refl, sym, ap, ◌∙◌, subst}
+use Rattle.lvl_grid.specs.declared.point.Square.{Square}
+use Rattle.lvl_path.specs.Figure.{figure_rings, FigureCovers}
+use Rattle.lvl_path.proofs.Figures.{figure_drawn}
+use Rattle.lvl_cells.specs.declared.layer.Layer.{Layer}
+use Rattle.lvl_cells.specs.Cells.{PlainCell, Rings, each_ring, names, drawn, kept}
+use Rattle.lvl_cells.specs.Coverage.{RingsCover, CellCovers}
+use Rattle.lvl_cells.specs.Soundness.{IsSound}
+use Rattle.lvl_cells.specs.Chains.{Chain, Fits, chains, placed_rings, most_placed}
+use Rattle.lvl_cells.proofs.Arcs.{once_named}
+use Rattle.std.proofs.lemmas.List.{length-map}
+use Rattle.std.proofs.lemmas.Option.{slice_get-get_or}
+use Rattle.lvl_cells.specs.Checks.{Settled, IsSettled}
+use Rattle.lvl_cells.specs.declared.fault.CellFault.{CellFault}
+use Rattle.lvl_flat.specs.Sheet.{PlainSheet}
+use Rattle.lvl_flat.specs.Sheets.{rings_on}
+use Rattle.lvl_flat.specs.Flattened.{IsFlattened, IsFlatFault, IsOutOfRange}
+use Rattle.lvl_flat.specs.declared.fault.FlatFault.{FlatFault}
+use Rattle.lvl_flat.specs.declared.fault.FlatFault.TheVariants.{OutOfRange, OutOfMemory as NoMemoryForFlat}
+use Rattle.lvl_region.specs.Region.{IsAlone}
+use Rattle.lvl_region.specs.declared.region.Side.{Side}
+use Rattle.lvl_region.specs.declared.region.Side.TheVariants.{First, Second}
+use Rattle.gds_library.specs.Drawn.{Drawing}
+use Rattle.lvl.specs.declared.layout.Head.{Head}
+use Rattle.lvl.specs.declared.verdict.Verdict.{Verdict}
+use Rattle.lvl.specs.declared.verdict.Verdict.TheVariants.{Same, Differ}
+use Rattle.lvl.specs.Layouts.{File, Spells, IsLayoutOf}
+use Rattle.lvl.specs.Accepted.{IsAccepted, IsUnaccepted, Draws, IsVerdict}
+use Rattle.lvl.specs.Sheets.{IsFlatVerdict}
+use Rattle.lvl.specs.Kept.{IsCheckedAs, IsFlattenedAs, IsCellFault, IsRangeFault}
+use Rattle.lvl.specs.Answers.{kept_of}
+use Rattle.lvl.proofs.Keeping.{sound_kept, cell_covers_kept, fits_kept, cell_back, cell_kept}
+
+-- what a cell of figures draws is what its rings do
+pub draws_kept : (cells : List Drawing) (layer : Layer) (top : Drawing) (s : Square) → Draws cells top layer s ↔ CellCovers RingsCover (kept figure_rings cells) layer (drawn figure_rings top) s
+draws_kept cells layer top s = cell_covers_kept figure_rings FigureCovers figure_drawn cells layer top s
+
+-- the library that was found is the one kept, whichever the bytes spell
+found_as : (file : File) (found : List (PlainCell Rings)) (head : Head) → IsLayoutOf file.bytes found head → (cells : List Drawing) (h : Head) → Spells file.bytes cells h → found ≡ kept figure_rings cells
+found_as file found head read cells h s = (read.alone cells h s).0
+
+by_found : (P : List (PlainCell Rings) → Type 0) (file : File) (cells : List (PlainCell Rings)) (head : Head) → IsLayoutOf file.bytes cells head → P cells → (others : List Drawing) (h : Head) → Spells file.bytes others h → P (kept figure_rings others)
+by_found P file cells head read p others h s = subst P (found_as file cells head read others h s) p
+
+-- the check of cells
+
+pub cell_told : (file : File) (cells : List (PlainCell Rings)) (head : Head) → IsLayoutOf file.bytes cells head → (fault : CellFault) → IsCellFault (record { cells = cells; top = file.top }) fault
+    → (others : List Drawing) (h : Head) → Spells file.bytes others h → IsCellFault (kept_of file others) fault
+cell_told file cells head read fault told = by_found (λ c. IsCellFault (record { cells = c; top = file.top }) fault) file cells head read told
+
+pub cell_unaccepted : (file : File) (cells : List (PlainCell Rings)) (head : Head) → IsLayoutOf file.bytes cells head → (fault : CellFault) → IsCellFault (record { cells = cells; top = file.top }) fault → IsUnaccepted file
+cell_unaccepted file cells head read fault told others top accepted =
+    let here = cell_told file cells head read fault told others accepted.head accepted.spelled in
+    let fits = (fits_kept figure_rings others top).0 accepted.fits in
+    here.unsound (record {
+      index = accepted.index;
+      cell = drawn figure_rings top;
+      sound = (sound_kept figure_rings others file.top accepted.index).0 accepted.sound;
+      is = cell_kept figure_rings others accepted.index top accepted.top_is;
+      counts = record { few_chains = fits.few_chains; few_rings = fits.few_rings };
+    })
+
+-- a library has one top
+
+pub one_top : (cells : List (PlainCell Rings)) (given : Option (List ℕ)) (i j : ℕ) → IsSound cells given i → IsSound cells given j → i ≡ j
+one_top cells (Some name) i j a b = once_named (names cells) i j name a.linked.distinct a.is_top b.is_top
+one_top cells None i j a b =
+    let some : i < length (names cells) = rw (length-map cells (λ (c : PlainCell Rings). c.name)) a.is_top.0 in
+    let at : slice_get (names cells) i ≡ Some (get_or (names cells) i []) = slice_get-get_or (names cells) i [] some in
+    (b.is_top.1 i (get_or (names cells) i []) at).0 ((a.is_top.1 i (get_or (names cells) i []) at).1 refl)
+
+-- flattening
+
+pub one_cell : (cells : List (PlainCell Rings)) (i j : ℕ) (c d : PlainCell Rings) → slice_get cells i ≡ Some c → slice_get cells j ≡ Some d → i ≡ j → c ≡ d
+one_cell cells i j c d p q e = let f : Some c ≡ Some d = sym p ∙ (ap (slice_get cells) e ∙ q) in cc
+
+fits_settled : (file : File) (s : Settled) (sheets : List PlainSheet) → IsSettled file.top s → (flat : IsFlattened s sheets) → Fits each_ring s.cells flat.top
+fits_settled file s sheets settled flat =
+    let same : settled.cell ≡ flat.top = one_cell s.cells s.top s.top settled.cell flat.top settled.is flat.is_top refl in
+    record {
+      few_chains = subst (λ (c : PlainCell Rings). chains s.cells c ≤ most_placed) same settled.few_chains;
+      few_rings = subst (λ (c : PlainCell Rings). placed_rings each_ring s.cells c ≤ most_placed) same settled.few_rings;
+      in_range = flat.in_range;
+    }
+
+-- what was flattened is accepted, and draws what the rings cover
+pub record IsLifted (file : File) (others : List Drawing) (sheets : List PlainSheet) : Type 0 where
+  pub top : Drawing
+  pub accepted : IsAccepted file others top
+  pub draws : (layer : Layer) (s : Square) → RingsCover (rings_on layer sheets) s ↔ Draws others top layer s
+
+pub lifted : (file : File) (cells : List (PlainCell Rings)) (head : Head) (read : IsLayoutOf file.bytes cells head) (sheets : List PlainSheet) → IsFlattenedAs (record { cells = cells; top = file.top }) sheets → IsLifted file read.cells sheets
+lifted file cells head read sheets f =
+    let others : List Drawing = read.cells in
+    let s : Settled = f.settled in
+    let e : s.cells ≡ kept figure_rings others = f.checked.cells ∙ read.kept_as in
+    let b = cell_back figure_rings others s.top f.flat.top (subst (λ (c : List (PlainCell Rings)). slice_get c s.top ≡ Some f.flat.top) e f.flat.is_top) in
+    let fits = subst (λ (c : PlainCell Rings). Fits each_ring (kept figure_rings others) c) (sym b.2) (subst (λ (c : List (PlainCell Rings)). Fits each_ring c f.flat.top) e (fits_settled file s sheets f.checked.sound f.flat)) in
+    record {
+      top = b.0;
+      accepted = record {
+        head = head;
+        spelled = read.spelled;
+        index = s.top;
+        sound = (sound_kept figure_rings others file.top s.top).1 (subst (λ (c : List (PlainCell Rings)). IsSound c file.top s.top) e f.checked.sound.sound);
+        top_is = b.1;
+        fits = (fits_kept figure_rings others b.0).1 fits;
+      };
+      draws = λ layer t.
+          let p = subst (λ (c : PlainCell Rings). RingsCover (rings_on layer sheets) t ↔ CellCovers RingsCover (kept figure_rings others) layer c t) (sym b.2)
+              (subst (λ (c : List (PlainCell Rings)). RingsCover (rings_on layer sheets) t ↔ CellCovers RingsCover c layer f.flat.top t) e (f.flat.covers layer t)) in
+          let q = draws_kept others layer b.0 t in
+          (λ h. q.1 (p.0 h), λ h. p.1 (q.0 h));
+    }
+
+pub range_told : (file : File) (cells : List (PlainCell Rings)) (head : Head) → IsLayoutOf file.bytes cells head → (fault : FlatFault) → IsRangeFault (record { cells = cells; top = file.top }) fault
+    → (others : List Drawing) (h : Head) → Spells file.bytes others h → IsRangeFault (kept_of file others) fault
+range_told file cells head read fault told = by_found (λ c. IsRangeFault (record { cells = c; top = file.top }) fault) file cells head read told
+
+out_of_range : (file : File) (others : List Drawing) (top : Drawing) (s : Settled) (name : List ℕ) → IsAccepted file others top → IsCheckedAs (kept_of file others) s → IsOutOfRange s name → ⊥
+out_of_range file others top s name accepted checked told =
+    let e : s.cells ≡ kept figure_rings others = checked.cells in
+    let same : accepted.index ≡ s.top = one_top (kept figure_rings others) file.top accepted.index s.top ((sound_kept figure_rings others file.top accepted.index).0 accepted.sound) (subst (λ (c : List (PlainCell Rings)). IsSound c file.top s.top) e checked.sound.sound) in
+    let at : slice_get (kept figure_rings others) s.top ≡ Some told.top = subst (λ (c : List (PlainCell Rings)). slice_get c s.top ≡ Some told.top) e told.is_top in
+    let cell : drawn figure_rings top ≡ told.top = one_cell (kept figure_rings others) accepted.index s.top (drawn figure_rings top) told.top (cell_kept figure_rings others accepted.index top accepted.top_is) at same in
+    let fits = (fits_kept figure_rings others top).0 accepted.fits in
+    let chain : Chain (kept figure_rings others) (drawn figure_rings top) told.steps told.map told.cell =
+        subst (λ (c : PlainCell Rings). Chain (kept figure_rings others) c told.steps told.map told.cell) (sym cell) (subst (λ (c : List (PlainCell Rings)). Chain c told.top told.steps told.map told.cell) e told.chain) in
+    told.out (fits.in_range told.steps told.map told.cell chain)
+
+fault_in_range : (file : File) (others : List Drawing) (top : Drawing) (s : Settled) (fault : FlatFault) → IsAccepted file others top → IsCheckedAs (kept_of file others) s → IsFlatFault s fault → fault ≢ NoMemoryForFlat → ⊥
+fault_in_range file others top s (OutOfRange name) accepted checked told proper = out_of_range file others top s name.items accepted checked told
+fault_in_range file others top s NoMemoryForFlat accepted checked told proper = proper refl
+
+pub range_unaccepted : (file : File) (cells : List (PlainCell Rings)) (head : Head) → IsLayoutOf file.bytes cells head → (fault : FlatFault) → IsRangeFault (record { cells = cells; top = file.top }) fault → IsUnaccepted file
+range_unaccepted file cells head read fault told others top accepted =
+    let here = range_told file cells head read fault told others accepted.head accepted.spelled in
+    fault_in_range file others top here.settled fault accepted here.checked here.told here.proper
+
+-- the verdict
+
+alike_lifted : (A A' B B' : Type 0) → A ↔ A' → B ↔ B' → A ↔ B → A' ↔ B'
+alike_lifted A A' B B' p q h = (λ a. q.0 (h.0 (p.1 a)), λ b. p.0 (h.1 (q.1 b)))
+
+alone_lifted : (P P' Q Q' : Square → Type 0) (s : Square) (side : Side) → P s ↔ P' s → Q s ↔ Q' s → IsAlone P Q s side → IsAlone P' Q' s side
+alone_lifted P P' Q Q' s First p q h = (p.0 h.0, λ x. h.1 (q.1 x))
+alone_lifted P P' Q Q' s Second p q h = (q.0 h.0, λ x. h.1 (p.1 x))
+
+pub verdict_lifted : (a b : File) (ours theirs : List Drawing) (us vs : List PlainSheet) → IsLifted a ours us → IsLifted b theirs vs → (v : Verdict) → IsFlatVerdict us vs v → IsVerdict a b v
+verdict_lifted a b ours theirs us vs p q Same h = record {
+  both = record { ours = ours; our_top = p.top; theirs = theirs; their_top = q.top; first = p.accepted; second = q.accepted };
+  alike = λ layer s. alike_lifted _ _ _ _ (p.draws layer s) (q.draws layer s) (h layer s);
+}
+verdict_lifted a b ours theirs us vs p q (Differ layer square side) h = record {
+  both = record { ours = ours; our_top = p.top; theirs = theirs; their_top = q.top; first = p.accepted; second = q.accepted };
+  alone = alone_lifted (RingsCover (rings_on layer us)) (Draws ours p.top layer) (RingsCover (rings_on layer vs)) (Draws theirs q.top layer) square side (p.draws layer square) (q.draws layer square) h.alone;
+  least_layer = λ l before s. alike_lifted _ _ _ _ (p.draws l s) (q.draws l s) (h.least_layer l before s);
+  least_square = λ s before. alike_lifted _ _ _ _ (p.draws layer s) (q.draws layer s) (h.least_square s before);
+}

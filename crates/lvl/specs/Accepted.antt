@@ -1,0 +1,60 @@
+-- Which files are accepted, which draw the same, and where two differ.
+use Rattle.std.specs.Prelude.{◌≡◌, ◌↔◌, ℕ, List, Some, slice_get}
+use Rattle.lvl_grid.specs.declared.point.Square.{Square}
+use Rattle.lvl_path.specs.Figure.{figure_rings, FigureCovers}
+use Rattle.lvl_cells.specs.declared.layer.Layer.{Layer}
+use Rattle.lvl_cells.specs.Coverage.{CellCovers}
+use Rattle.lvl_cells.specs.Soundness.{IsSound}
+use Rattle.lvl_cells.specs.Chains.{Fits}
+use Rattle.lvl_flat.specs.Sheets.{ComesBefore}
+use Rattle.lvl_region.specs.Region.{IsAlone}
+use Rattle.lvl_region.specs.declared.region.Side.{Side}
+use Rattle.lvl_sweep.specs.Ahead.{IsBefore}
+use Rattle.gds_library.specs.Drawn.{Drawing}
+use Rattle.lvl.specs.declared.layout.Head.{Head}
+use Rattle.lvl.specs.declared.verdict.Verdict.{Verdict}
+use Rattle.lvl.specs.declared.verdict.Verdict.TheVariants.{Same, Differ}
+use Rattle.lvl.specs.Layouts.{File, Spells}
+
+-- the bytes of the file spell the cells, which are sound for its top, the cell named, and fit
+pub record IsAccepted (file : File) (cells : List Drawing) (top : Drawing) : Type 0 where
+  pub head : Head
+  pub spelled : Spells file.bytes cells head
+  pub index : ℕ
+  pub sound : IsSound cells file.top index
+  pub top_is : slice_get cells index ≡ Some top
+  pub fits : Fits figure_rings cells top
+
+-- it is accepted with no cells and no top
+abbrev pub IsUnaccepted : File → Type 0
+IsUnaccepted file = (cells : List Drawing) (top : Drawing) → IsAccepted file cells top → ⊥
+
+-- the top covers the square on the Layer, through all references
+abbrev pub Draws : List Drawing → Drawing → Layer → Square → Type 0
+Draws cells top layer s = CellCovers FigureCovers cells layer top s
+
+-- both files are accepted
+pub record AreAccepted (a b : File) : Type 0 where
+  pub ours : List Drawing
+  pub our_top : Drawing
+  pub theirs : List Drawing
+  pub their_top : Drawing
+  pub first : IsAccepted a ours our_top
+  pub second : IsAccepted b theirs their_top
+
+-- and on every Layer their tops cover the same squares
+pub record AreSame (a b : File) : Type 0 where
+  pub both : AreAccepted a b
+  pub alike : (layer : Layer) (s : Square) → Draws both.ours both.our_top layer s ↔ Draws both.theirs both.their_top layer s
+
+-- and the square on the Layer is covered by the top of that side alone; before it they draw the same: on lesser Layers, and on the Layer at lesser squares, by y and then x
+pub record AreDifferent (a b : File) (layer : Layer) (square : Square) (side : Side) : Type 0 where
+  pub both : AreAccepted a b
+  pub alone : IsAlone (Draws both.ours both.our_top layer) (Draws both.theirs both.their_top layer) square side
+  pub least_layer : (l : Layer) → ComesBefore l layer → (s : Square) → Draws both.ours both.our_top l s ↔ Draws both.theirs both.their_top l s
+  pub least_square : (s : Square) → IsBefore s square → Draws both.ours both.our_top layer s ↔ Draws both.theirs both.their_top layer s
+
+-- what a verdict says
+abbrev pub IsVerdict : File → File → Verdict → Type 0
+IsVerdict a b Same = AreSame a b
+IsVerdict a b (Differ layer square side) = AreDifferent a b layer square side

@@ -1,0 +1,102 @@
+-- What an answer says of two files: a verdict, or why one of them is refused.
+use Rattle.std.specs.Prelude.{◌≡◌, ◌≢◌, ⊤, ℕ, Bool, true, false, List, Result, Ok, Err, IfOk, IfErr}
+use Rattle.gds_records.specs.declared.fault.RecordFault.TheVariants.{Read}
+use Rattle.lvl_path.specs.Figure.{figure_rings}
+use Rattle.lvl_cells.specs.Cells.{kept}
+use Rattle.lvl_cells.specs.declared.fault.CellFault.TheVariants.{OutOfMemory as NoMemoryForCells}
+use Rattle.lvl_flat.specs.declared.fault.FlatFault.TheVariants.{OutOfMemory as NoMemoryForFlat}
+use Rattle.lvl_region.specs.declared.region.Side.{Side}
+use Rattle.lvl_region.specs.declared.region.Side.TheVariants.{First, Second}
+use Rattle.gds_library.specs.Drawn.{Drawing}
+use Rattle.gds_library.specs.Ends.{Tells, IsExcused}
+use Rattle.gds_library.specs.declared.fault.GdsFault.TheVariants.{At, OutOfMemory as NoMemoryForGds}
+use Rattle.gds_library.specs.declared.fault.GdsKind.TheVariants.{Record}
+use Rattle.lvl.specs.declared.layout.Head.{Head}
+use Rattle.lvl.specs.declared.layout.FileFault.{FileFault}
+use Rattle.lvl.specs.declared.layout.FileFault.TheVariants.{Gds}
+use Rattle.lvl.specs.declared.verdict.Comparison.{Comparison}
+use Rattle.lvl.specs.declared.verdict.Refusal.{Refusal}
+use Rattle.lvl.specs.declared.verdict.Refusal.TheVariants.{File as FileRefusal, Cells as CellsRefusal, Flat as FlatRefusal, OutOfMemory}
+use Rattle.lvl.specs.Layouts.{File, Spells, SpellsSome, HasHead}
+use Rattle.lvl.specs.Accepted.{IsAccepted, IsUnaccepted, IsVerdict}
+use Rattle.lvl.specs.Kept.{Kept, Passes, IsCellFault, IsRangeFault}
+
+-- memory, or a read that failed: it says nothing of the file
+abbrev pub IsExcusedFile : FileFault → Type 0
+IsExcusedFile (Gds f) = IsExcused f
+
+-- what the reader of the format says of the bytes
+abbrev pub TellsOfFile : List ℕ → FileFault → Type 0
+TellsOfFile bytes (Gds f) = Tells bytes f
+
+-- the refusal is of that side's file, for another cause than memory or a failed read
+abbrev pub Blames : Side → Refusal → Type 0
+Blames side (FileRefusal s f) = (s ≡ side) × (¬ IsExcusedFile f)
+Blames side (CellsRefusal s f) = s ≡ side
+Blames side (FlatRefusal s f) = s ≡ side
+Blames side OutOfMemory = ⊥
+
+-- the library as it is kept, with the file's top
+abbrev pub kept_of : File → List Drawing → Kept
+kept_of file cells = record { cells = kept figure_rings cells; top = file.top }
+
+-- what the fault says holds of the bytes, or of every library that they spell
+abbrev pub IsTold : Side → File → Refusal → Type 0
+IsTold side file (FileRefusal s fault) = s ≡ side → TellsOfFile file.bytes fault
+IsTold side file (CellsRefusal s fault) = s ≡ side → (cells : List Drawing) (head : Head) → Spells file.bytes cells head → IsCellFault (kept_of file cells) fault
+IsTold side file (FlatRefusal s fault) = s ≡ side → (cells : List Drawing) (head : Head) → Spells file.bytes cells head → IsRangeFault (kept_of file cells) fault
+IsTold side file OutOfMemory = ⊤
+
+-- a refusal means that the file of the side that it names is not accepted, and what its fault says is so
+pub record IsRefusalOf (side : Side) (file : File) (r : Refusal) : Type 0 where
+  pub unaccepted : Blames side r → IsUnaccepted file
+  pub told : IsTold side file r
+
+-- the file's library passes the check of its cells
+abbrev pub PassesCheck : File → Type 0
+PassesCheck file = (cells : List Drawing) × (head : Head) × Spells file.bytes cells head × Passes (kept_of file cells)
+
+-- the steps before the one that refused passed: both files are read, then both are checked, then both are flattened, the first before the second
+abbrev pub IsReached : File → File → Refusal → Type 0
+IsReached a b (FileRefusal First f) = ⊤
+IsReached a b (FileRefusal Second f) = SpellsSome a.bytes
+IsReached a b (CellsRefusal First f) = SpellsSome a.bytes × SpellsSome b.bytes
+IsReached a b (CellsRefusal Second f) = PassesCheck a × SpellsSome b.bytes
+IsReached a b (FlatRefusal First f) = PassesCheck a × PassesCheck b
+IsReached a b (FlatRefusal Second f) = ((cells : List Drawing) × (top : Drawing) × IsAccepted a cells top) × PassesCheck b
+IsReached a b OutOfMemory = ⊤
+
+-- want of memory is told as such, whichever step it met
+abbrev pub IsProper : Refusal → Type 0
+IsProper (FileRefusal s f) = f ≢ Gds NoMemoryForGds
+IsProper (CellsRefusal s f) = f ≢ NoMemoryForCells
+IsProper (FlatRefusal s f) = f ≢ NoMemoryForFlat
+IsProper OutOfMemory = ⊤
+
+-- the heads are those that the bytes spell, and the verdict holds
+pub record IsCompared (a b : File) (c : Comparison) : Type 0 where
+  pub first : HasHead a.bytes c.first
+  pub second : HasHead b.bytes c.second
+  pub verdict : IsVerdict a b c.verdict
+
+-- all that an answer says
+pub record IsAnswer (a b : File) (answer : Result Comparison Refusal) : Type 0 where
+  pub compared : IfOk answer (IsCompared a b)
+  pub first : IfErr answer (IsRefusalOf First a)
+  pub second : IfErr answer (IsRefusalOf Second b)
+  pub order : IfErr answer (IsReached a b)
+
+-- the fault is a read that failed
+abbrev pub read_failed : FileFault → Bool
+read_failed (Gds (At at (Record Read))) = true
+read_failed f = false
+
+abbrev pub is_failed_read : {A : Type 0} → Result A FileFault → Bool
+is_failed_read (Ok x) = false
+is_failed_read (Err f) = read_failed f
+
+-- the answer is that a read of that side failed
+abbrev pub is_read_of : {A : Type 0} → Side → Result A Refusal → Bool
+is_read_of First (Err (FileRefusal First f)) = read_failed f
+is_read_of Second (Err (FileRefusal Second f)) = read_failed f
+is_read_of side answer = false

@@ -1,0 +1,32 @@
+-- What files spell, by their format.
+use Rattle.std.specs.Prelude.{◌≡◌, ℕ, List, Option}
+use Rattle.lvl_path.specs.Figure.{figure_rings}
+use Rattle.lvl_cells.specs.Cells.{PlainCell, Rings, kept}
+use Rattle.gds_library.specs.Drawn.{Drawing}
+use Rattle.gds_library.specs.Front.{SpellsLibrary}
+use Rattle.lvl.specs.declared.layout.Head.{Head}
+use Rattle.lvl.specs.declared.layout.Head.TheVariants.{Gds}
+
+-- the bytes of a file, and the name of its top, if one was given
+pub record File : Type 0 where
+  pub bytes : List ℕ
+  pub top : Option (List ℕ)
+
+-- the bytes spell the cells and the head, in the head's format
+abbrev pub Spells : List ℕ → List Drawing → Head → Type 0
+Spells bytes cells (Gds h) = SpellsLibrary bytes cells h
+
+-- the bytes spell some library
+abbrev pub SpellsSome : List ℕ → Type 0
+SpellsSome bytes = (cells : List Drawing) × (head : Head) × Spells bytes cells head
+
+-- the bytes spell a library with that head
+abbrev pub HasHead : List ℕ → Head → Type 0
+HasHead bytes head = (cells : List Drawing) × Spells bytes cells head
+
+-- the library with rings alone, and the head, are those of the one library that the bytes spell
+pub record IsLayoutOf (bytes : List ℕ) (found : List (PlainCell Rings)) (head : Head) : Type 0 where
+  pub cells : List Drawing
+  pub spelled : Spells bytes cells head
+  pub kept_as : found ≡ kept figure_rings cells
+  pub alone : (others : List Drawing) (h : Head) → Spells bytes others h → (found ≡ kept figure_rings others) × (head ≡ h)

@@ -1,0 +1,11 @@
+pub mod Layouts
+pub mod Accepted
+pub mod Sheets
+pub mod Kept
+pub mod Answers
+pub mod Sides
+pub mod Faults
+pub mod Shown
+pub mod Texts
+pub mod Writing
+pub mod Runs

@@ -1,0 +1,78 @@
+-- What the steps for one side answer.
+use Rattle.std.specs.Prelude.{◌≡◌, ◌≢◌, ⊤, ℕ, List, Option, option_map, Vec}
+use Rattle.std.specs.Global.{Global}
+use Rattle.lvl_cells.specs.Cells.{PlainCell, Rings}
+use Rattle.lvl_cells.specs.Checks.{Settled}
+use Rattle.lvl_flat.specs.Flattened.{IsFlatFault}
+use Rattle.lvl_flat.specs.declared.fault.FlatFault.TheVariants.{OutOfMemory as NoMemoryForFlat}
+use Rattle.gds_library.specs.Drawn.{Drawing}
+use Rattle.gds_library.specs.declared.fault.GdsFault.TheVariants.{OutOfMemory as NoMemoryForGds}
+use Rattle.lvl_region.specs.declared.region.Side.{Side}
+use Rattle.lvl.specs.declared.layout.Head.{Head}
+use Rattle.lvl.specs.declared.layout.Head.TheVariants.{Gds as GdsHeadOf}
+use Rattle.lvl.specs.declared.layout.Layout.{Layout}
+use Rattle.lvl.specs.declared.layout.Layout.TheVariants.{Gds as GdsLayout}
+use Rattle.lvl.specs.declared.layout.FileFault.{FileFault}
+use Rattle.lvl.specs.declared.layout.FileFault.TheVariants.{Gds}
+use Rattle.lvl.specs.declared.verdict.Refusal.{Refusal}
+use Rattle.lvl.specs.declared.verdict.Refusal.TheVariants.{File as FileRefusal, Cells as CellsRefusal, Flat as FlatRefusal, OutOfMemory}
+use Rattle.lvl.specs.Layouts.{File, Spells}
+use Rattle.lvl.specs.Kept.{Kept, IsCellFault}
+use Rattle.lvl.specs.Answers.{TellsOfFile, IsExcusedFile}
+
+abbrev pub layout_parts : Layout → List (PlainCell Rings) × Head
+layout_parts (GdsLayout library h) = (library, GdsHeadOf h)
+
+-- the bytes spell no library
+abbrev pub SpellsNothing : List ℕ → Type 0
+SpellsNothing xs = (cells : List Drawing) (head : Head) → Spells xs cells head → ⊥
+
+-- why the bytes were not read
+pub record IsFileFault (xs : List ℕ) (fault : FileFault) : Type 0 where
+  pub told : TellsOfFile xs fault
+  pub nothing : (¬ IsExcusedFile fault) → SpellsNothing xs
+
+-- the refusal is of that side's file, or for want of memory
+abbrev pub IsOfFile : Side → Refusal → Type 0
+IsOfFile side (FileRefusal s f) = (s ≡ side) × (f ≢ Gds NoMemoryForGds)
+IsOfFile side (CellsRefusal s f) = ⊥
+IsOfFile side (FlatRefusal s f) = ⊥
+IsOfFile side OutOfMemory = ⊤
+
+abbrev pub IsReadRefusal : Side → List ℕ → Refusal → Type 0
+IsReadRefusal side xs (FileRefusal s f) = (s ≡ side) × IsFileFault xs f
+IsReadRefusal side xs (CellsRefusal s f) = ⊥
+IsReadRefusal side xs (FlatRefusal s f) = ⊥
+IsReadRefusal side xs OutOfMemory = ⊤
+
+abbrev pub IsCheckRefusal : Side → Kept → Refusal → Type 0
+IsCheckRefusal side k (FileRefusal s f) = ⊥
+IsCheckRefusal side k (CellsRefusal s f) = (s ≡ side) × IsCellFault k f
+IsCheckRefusal side k (FlatRefusal s f) = ⊥
+IsCheckRefusal side k OutOfMemory = ⊤
+
+abbrev pub IsFlattenRefusal : Side → Settled → Refusal → Type 0
+IsFlattenRefusal side s (FileRefusal t f) = ⊥
+IsFlattenRefusal side s (CellsRefusal t f) = ⊥
+IsFlattenRefusal side s (FlatRefusal t f) = (t ≡ side) × IsFlatFault s f × (f ≢ NoMemoryForFlat)
+IsFlattenRefusal side s OutOfMemory = ⊤
+
+-- the name that was given, as bytes
+abbrev pub given_name : Option (Vec ℕ Global) → Option (List ℕ)
+given_name top = option_map (λ v. v.items) top
+
+-- the bytes of a file with the name that was given for its top
+abbrev pub file : List ℕ → Option (Vec ℕ Global) → File
+file bytes top = record { bytes = bytes; top = given_name top }
+
+-- a library with the name that was given for its top
+abbrev pub library_of : List (PlainCell Rings) → Option (Vec ℕ Global) → Kept
+library_of cells top = record { cells = cells; top = given_name top }
+
+-- the bytes of a file, with the name of its top
+abbrev pub file_named : List ℕ → Option (List ℕ) → File
+file_named bytes top = record { bytes = bytes; top = top }
+
+-- a library with the name of its top
+abbrev pub kept_named : List (PlainCell Rings) → Option (List ℕ) → Kept
+kept_named cells top = record { cells = cells; top = top }

@@ -1,0 +1,68 @@
+//! One layout shown: read, checked, flattened, and what it holds.
+ghost use Rattle.std.specs.Prelude.{◌≡◌, ◌≢◌, List, ℕ, Some, Err, IfOk, IfErr, option_copied};
+ghost use Rattle.lvl_io.specs.Bytes.{CountsFailure};
+ghost use Rattle.lvl_region.specs.declared.region.Side.TheVariants.{First};
+ghost use Rattle.lvl.specs.Answers.{IsRefusalOf, IsProper, is_read_of};
+ghost use Rattle.lvl.specs.Shown.{IsShownFile, IsShownKept, IsOfFirst, IsShowRefusal, IsShowReached};
+ghost use Rattle.lvl.specs.Sides.{file_named, kept_named};
+ghost use Rattle.lvl.specs.declared.verdict.Refusal.TheVariants.{OutOfMemory};
+
+use crate::layout::Head;
+use crate::shown::{Shown, layers_of, top_name};
+use crate::side::{check_named, flatten_side, read_side};
+use crate::verdict::Refusal;
+use lvl_cells::Library;
+use lvl_io::Read;
+use lvl_region::Side;
+use std::alloc::Global;
+
+/// What a library holds that was read with this head.
+fn show_library(
+    alloc: Global,
+    head: Head,
+    library: Library,
+    top: Option<&[u8]>,
+) -> Result<Shown, Refusal>
+    ensures head { IfOk result (λ shown. shown.head ≡ head) }
+    ensures shown { IfOk result (IsShownKept (kept_named library (option_copied top.entry))) }
+    ensures refused { IfErr result (IsShowRefusal (kept_named library (option_copied top.entry))) }
+{
+    let checked = check_named(alloc, Side::First, library, top)?;
+    let Ok(top) = top_name(alloc, &checked) else {
+        return Err(Refusal::OutOfMemory);
+    };
+    let cells = checked.cells().len();
+    let flat = flatten_side(alloc, Side::First, checked)?;
+    let Ok(layers) = layers_of(alloc, &flat) else {
+        return Err(Refusal::OutOfMemory);
+    };
+    Ok(Shown {
+        head,
+        top,
+        cells,
+        layers,
+    })
+}
+
+/// What a file's layout holds: what the file says of itself, its top, how many cells it has, and
+/// how many rings the top places on each Layer. It is shown where the file is accepted; a refusal
+/// is told of the first side, and another than for memory or a failed read only where it isn't.
+pub fn show_file<R: Read>(
+    alloc: Global,
+    reader: &mut R,
+    top: Option<&[u8]>,
+) -> Result<Shown, Refusal>
+    ensures shown { (xs : List ℕ) → R.remaining reader.old ≡ Some xs
+        → IfOk result (IsShownFile (file_named xs (option_copied top.entry))) }
+    ensures refused { (xs : List ℕ) → R.remaining reader.old ≡ Some xs
+        → IfErr result (IsRefusalOf First (file_named xs (option_copied top.entry))) }
+    ensures order { (xs : List ℕ) → R.remaining reader.old ≡ Some xs
+        → IfErr result (IsShowReached (file_named xs (option_copied top.entry))) }
+    ensures side { IfErr result IsOfFirst }
+    ensures proper { IfErr result IsProper }
+    ensures reads { result ≢ Err OutOfMemory
+        → CountsFailure (R.read_errors reader.old) (R.read_errors reader.new) (is_read_of First result) }
+{
+    let (library, head) = read_side(alloc, Side::First, reader)?;
+    show_library(alloc, head, library, top)
+}

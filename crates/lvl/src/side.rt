@@ -1,0 +1,91 @@
+//! The steps for one of two files: read, check its cells, flatten.
+ghost use Rattle.std.specs.Prelude.{◌≡◌, ◌≢◌, List, ℕ, Some, Err, IfOk, IfErr, option_copied};
+ghost use Rattle.lvl_io.specs.Bytes.{CountsFailure};
+ghost use Rattle.lvl_flat.specs.Flattened.{IsFlattened};
+ghost use Rattle.lvl.specs.Layouts.{IsLayoutOf};
+ghost use Rattle.lvl.specs.Kept.{IsCheckedAs};
+ghost use Rattle.lvl.specs.Answers.{is_read_of};
+ghost use Rattle.lvl.specs.Sides.{IsOfFile, IsReadRefusal, IsCheckRefusal, IsFlattenRefusal, given_name, library_of, kept_named};
+ghost use Rattle.lvl.specs.declared.verdict.Refusal.TheVariants.{OutOfMemory};
+
+use crate::layout::{FileFault, Head, read_layout};
+use crate::verdict::Refusal;
+use gds_library::GdsFault;
+use lvl_cells::{CellFault, Checked, Library, check};
+use lvl_flat::{Flat, FlatFault, flatten};
+use lvl_io::Read;
+use lvl_region::Side;
+use std::alloc::Global;
+
+/// The library that a file spells, and what the file says of itself.
+pub(crate) fn read_side<R: Read>(
+    alloc: Global,
+    side: Side,
+    reader: &mut R,
+) -> Result<(Library, Head), Refusal>
+    ensures read { (xs : List ℕ) → R.remaining reader.old ≡ Some xs
+        → IfOk result (λ found. IsLayoutOf xs found.0 found.1) }
+    ensures refused { (xs : List ℕ) → R.remaining reader.old ≡ Some xs
+        → IfErr result (IsReadRefusal side xs) }
+    ensures proper { IfErr result (IsOfFile side) }
+    ensures reads { result ≢ Err OutOfMemory
+        → CountsFailure (R.read_errors reader.old) (R.read_errors reader.new) (is_read_of side result) }
+{
+    match read_layout(alloc, reader) {
+        Ok(layout) => Ok(layout.into_parts()),
+        Err(FileFault::Gds(GdsFault::OutOfMemory)) => Err(Refusal::OutOfMemory),
+        Err(fault) => Err(Refusal::File(side, fault)),
+    }
+}
+
+/// The name that was given, as bytes.
+fn name_of(top: &Option<Vec<u8>>) -> Option<&[u8]>
+    ensures { option_copied result ≡ given_name top.now }
+{
+    match top {
+        Some(name) => Some(name),
+        None => None,
+    }
+}
+
+/// The library, if it is sound for the top that was named and places few.
+pub(crate) fn check_named(
+    alloc: Global,
+    side: Side,
+    library: Library,
+    top: Option<&[u8]>,
+) -> Result<Checked, Refusal>
+    ensures checked { IfOk result (IsCheckedAs (kept_named library (option_copied top.entry))) }
+    ensures refused { IfErr result (IsCheckRefusal side (kept_named library (option_copied top.entry))) }
+{
+    match check(alloc, library, top) {
+        Ok(checked) => Ok(checked),
+        Err(CellFault::OutOfMemory) => Err(Refusal::OutOfMemory),
+        Err(fault) => Err(Refusal::Cells(side, fault)),
+    }
+}
+
+/// The library, if it is sound for the top that was given and places few.
+pub(crate) fn check_side(
+    alloc: Global,
+    side: Side,
+    library: Library,
+    top: &Option<Vec<u8>>,
+) -> Result<Checked, Refusal>
+    ensures checked { IfOk result (IsCheckedAs (library_of library top.now)) }
+    ensures refused { IfErr result (IsCheckRefusal side (library_of library top.now)) }
+{
+    check_named(alloc, side, library, name_of(top))
+}
+
+/// The rings of the library, Layer by Layer. The library is let go with it.
+pub(crate) fn flatten_side(alloc: Global, side: Side, checked: Checked) -> Result<Flat, Refusal>
+    ensures flat { IfOk result (IsFlattened checked) }
+    ensures refused { IfErr result (IsFlattenRefusal side checked) }
+{
+    match flatten(alloc, &checked) {
+        Ok(flat) => Ok(flat),
+        Err(FlatFault::OutOfMemory) => Err(Refusal::OutOfMemory),
+        Err(fault) => Err(Refusal::Flat(side, fault)),
+    }
+}
