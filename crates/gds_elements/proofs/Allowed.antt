@@ -22,7 +22,7 @@ use Rattle.gds_elements.proofs.Fields.{kinds-snoc}
 use Rattle.gds_elements.proofs.Words.{begun_known}
 
 -- a list has one opener
-one_opener : (piece : List Rec) (k j : ℕ) → opener piece ≡ Some k → opener piece ≡ Some j → k ≡ j
+pub one_opener : (piece : List Rec) (k j : ℕ) → opener piece ≡ Some k → opener piece ≡ Some j → k ≡ j
 one_opener piece k j e f = (let g : Some k ≡ Some j = sym e ∙ f in cc)
 
 draws : (piece : List Rec) (k : ℕ) → opener piece ≡ Some k → DrawsShape piece → (k ≡ boundary) ⊎ (k ≡ path)
@@ -55,7 +55,7 @@ miscounted piece k n e h = elim h [
 abbrev pub CountOk : ℕ → ℕ → Type 0
 CountOk k n = (k ≡ boundary → 4 ≤ n) × (k ≡ path → 2 ≤ n) × (k ≡ aref → n ≡ 3) × (k ≡ sref → n ≡ 1) × (k ≡ text → n ≡ 1)
 
-counted : (piece : List Rec) (k n : ℕ) → opener piece ≡ Some k → CountOk k n → IsMiscounted piece n → ⊥
+pub counted : (piece : List Rec) (k n : ℕ) → opener piece ≡ Some k → CountOk k n → IsMiscounted piece n → ⊥
 counted piece k n e ok h = elim (miscounted piece k n e h) [
   | inl b ↦ omega (arith, ok.0 b.0, b.1)
   | inr h1 ↦ elim h1 [

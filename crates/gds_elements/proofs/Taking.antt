@@ -7,7 +7,7 @@ use Rattle.gds_elements.specs.Types.{layer, datatype, width, xy, endel, sname, c
 use Rattle.gds_elements.specs.Order.{IsWord, Begins, an_element}
 use Rattle.gds_elements.specs.Rec.{Rec, kinds, opener, last_of}
 use Rattle.gds_elements.specs.Meaning.{shapes_by, references_by, in_rings}
-use Rattle.gds_elements.specs.Rules.{InOrder, ValueBreaches, ElementBreaches, BreachesNone}
+use Rattle.gds_elements.specs.Rules.{InOrder, ValueBreaches, ElementBreaches, BreachesNone, BreachesOnly}
 use Rattle.gds_elements.specs.Misplaced.{Says}
 use Rattle.gds_elements.specs.Reading.{Takes, Steps, IsStep, IsAtEnd, record_of}
 use Rattle.gds_elements.specs.declared.fault.Refusal.{Refusal}
@@ -19,6 +19,7 @@ use Rattle.gds_elements.specs.declared.element.Step.{Step}
 use Rattle.gds_elements.specs.declared.element.Step.TheVariants.{Whole}
 use Rattle.gds_elements.proofs.Fields.{last_there, opener-snoc, kinds-snoc}
 use Rattle.gds_elements.proofs.Leads.{says_carried}
+use Rattle.gds_elements.proofs.OneRule.{one_rule}
 use Rattle.gds_elements.proofs.Allowed.{law_endel, allowed, refused}
 
 -- a refusal that is passed on
@@ -81,3 +82,7 @@ steps_allowed piece r (Err e) h = tt
 pub steps_refused : (piece : List Rec) (r : Rec) (res : Result Step Refusal) → Steps piece r res → IfErr res (λ e. Says e (ElementBreaches piece r))
 steps_refused piece r (Ok s) h = tt
 steps_refused piece r (Err e) h = h
+
+pub steps_alone : (piece : List Rec) (r : Rec) (res : Result Step Refusal) → Steps piece r res → IfErr res (λ e. Says e (BreachesOnly piece r))
+steps_alone piece r (Ok s) h = tt
+steps_alone piece r (Err e) h = says_carried e (ElementBreaches piece r) (BreachesOnly piece r) (λ k x j y. one_rule piece r j k y x) h

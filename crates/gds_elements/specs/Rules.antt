@@ -99,6 +99,10 @@ ElementBreaches piece r (Unexpected k) = (r.kind ≡ k) × IsKnown k × ¬ InOrd
 ElementBreaches piece r (Unsupported k) = (r.kind ≡ k) × (k < 60) × ¬ IsKnown k
 ElementBreaches piece r f = InOrder piece r × ValueBreaches piece r f
 
+-- it breaches no other rule
+abbrev pub BreachesOnly : List Rec → Rec → GdsKind → Type 0
+BreachesOnly piece r k = (j : GdsKind) → ElementBreaches piece r j → j ≡ k
+
 -- it breaches no rule
 abbrev pub BreachesNone : List Rec → Rec → Type 0
 BreachesNone piece r = (k : GdsKind) → ElementBreaches piece r k → ⊥
