@@ -1,11 +1,11 @@
 -- A record breaches one rule at most.
-use Rattle.std.proofs.Common.{◌≡◌, ◌≢◌, ℕ, ◌<◌, ◌≤◌, ◌<ℤ◌, ◌≤ℤ◌, ◌⊎◌, inl, inr, pos, List, ◌∷◌, [], ◌++◌, length, Some, None, refl, sym, ap, ◌∙◌, subst, arith}
+use Rattle.std.proofs.Common.{◌≡◌, ◌≢◌, ℕ, ◌≤◌, inl, inr, List, length, Some, refl, sym, ap, ◌∙◌, subst, arith}
 use Rattle.std.proofs.lemmas.Int.{ints}
 use Rattle.lvl_grid.specs.declared.point.Point.{Point}
-use Rattle.lvl_path.specs.Runs.{HasFault, HasNone, IsLowestFault, lower}
+use Rattle.lvl_path.specs.Runs.{IsLowestFault}
 use Rattle.lvl_path.specs.declared.fault.PathFault.{PathFault}
 use Rattle.lvl_path.specs.declared.fault.PathFault.TheVariants.{NoWidth, FewPoints, Oblique as ObliqueStep, RepeatedPoint, TurnsBack, ShortRun, OutOfRange, OutOfMemory}
-use Rattle.gds_elements.specs.Types.{boundary, path, sref, aref, text}
+use Rattle.gds_elements.specs.Types.{boundary, path, aref}
 use Rattle.gds_elements.specs.Order.{Begins, an_element}
 use Rattle.gds_elements.specs.Rec.{Rec, kinds, opener}
 use Rattle.gds_elements.specs.Values.{points}
@@ -15,7 +15,7 @@ use Rattle.gds_elements.specs.declared.fault.GdsKind.{GdsKind}
 use Rattle.gds_elements.specs.declared.fault.GdsKind.TheVariants.{Record, Unexpected, Unsupported, Layer, Points, NotClosed, Strans, Magnification, Angle, ColRow, ArrayStep, Name, Path, Width, PathType, AfterEnd, Oblique, Repetition, TooManyCells}
 use Rattle.gds_elements.proofs.Fields.{kinds-snoc}
 use Rattle.gds_elements.proofs.Words.{begun_known}
-use Rattle.gds_elements.proofs.Allowed.{one_opener, counted, CountOk}
+use Rattle.gds_elements.proofs.Allowed.{one_opener, counted}
 
 -- two faults of a path are not both the lowest
 lowest_apart : (ps : List Point) (h s e : ℕ) (f g : PathFault) → f ≢ OutOfMemory → g ≢ OutOfMemory
