@@ -1,8 +1,8 @@
 -- Where elements begin and end among other records.
-use Rattle.std.proofs.Common.{◌≡◌, ◌==◌, ◌&&◌, ◌||◌, ℕ, ◌⊎◌, inl, inr, Bool, true, false, not, List, [], ◌∷◌, ◌++◌, refl, sym, ap, ◌∙◌, subst, append_assoc}
+use Rattle.std.proofs.Common.{◌≡◌, ◌==◌, ◌&&◌, ◌||◌, ℕ, inl, inr, Bool, true, false, not, List, [], ◌∷◌, ◌++◌, refl, sym, ap, ◌∙◌, subst, append_assoc}
 use Rattle.std.proofs.lemmas.List.{append-nil}
-use Rattle.gds_elements.specs.Types.{boundary, path, sref, aref, text, layer, datatype, texttype, presentation, pathtype, width, sname, colrow, xy, string, endel}
-use Rattle.gds_elements.specs.Order.{Order, nothing, one, next, either, many, maybe, ◌then◌, ◌or◌, IsWord, Begins, has, opens, a_transform, an_element}
+use Rattle.gds_elements.specs.Types.{boundary, path, sref, aref, text, endel}
+use Rattle.gds_elements.specs.Order.{Order, nothing, one, next, either, many, IsWord, Begins, has, opens, an_element}
 use Rattle.gds_elements.specs.Rec.{Rec, kinds}
 use Rattle.gds_elements.specs.Leading.{LeadsTo}
 use Rattle.gds_elements.specs.Reading.{HasRead, IsReading}

@@ -1,7 +1,7 @@
 -- Records as they are allowed have the lengths that elements ask for.
 use Rattle.std.proofs.Common.{◌≡◌, ℕ, List, length, subst}
 use Rattle.gds_records.specs.Table.{table, form_among}
-use Rattle.gds_records.specs.Spelled.{IsRecord, IsOfForm, IsAllowedRecord}
+use Rattle.gds_records.specs.Spelled.{IsOfForm, IsAllowedRecord}
 use Rattle.gds_elements.specs.Types.{layer, datatype, width, colrow, strans, mag, angle, pathtype}
 use Rattle.gds_elements.specs.Formed.{IsFormed}
 

@@ -3,13 +3,13 @@ use Rattle.std.proofs.Common.{◌≡◌, ◌==◌, ℕ, ◌<◌, inl, inr, Bool,
 use Rattle.gds_elements.specs.Types.{endel}
 use Rattle.gds_elements.specs.Order.{Order, one, IsWord, Begins, an_element}
 use Rattle.gds_elements.specs.Rec.{Rec, kinds}
-use Rattle.gds_elements.specs.Rules.{IsKnown, ElementBreaches}
+use Rattle.gds_elements.specs.Rules.{IsKnown, InOrder, ElementBreaches}
 use Rattle.gds_elements.specs.Leading.{LeadsTo}
 use Rattle.gds_elements.specs.Misplaced.{IsMisplaced, Says}
 use Rattle.gds_elements.specs.declared.fault.Refusal.{Refusal}
 use Rattle.gds_elements.specs.declared.fault.Refusal.TheVariants.{Breach, OutOfMemory}
 use Rattle.gds_elements.specs.declared.fault.GdsKind.{GdsKind}
-use Rattle.gds_elements.specs.declared.fault.GdsKind.TheVariants.{Record, Unexpected, Unsupported, Layer, Points, NotClosed, Strans, Magnification, Angle, ColRow, ArrayStep, Name, Path, Width, PathType, AfterEnd, Oblique, Repetition, TooManyCells}
+use Rattle.gds_elements.specs.declared.fault.GdsKind.TheVariants.{Unexpected, Unsupported}
 use Rattle.gds_elements.specs.declared.order.Next.{Next}
 use Rattle.gds_elements.specs.declared.order.Next.TheVariants.{Goes, Ends, Nowhere}
 use Rattle.gds_elements.proofs.Orders.{type_same, after_first, IsWordOfOne, first_taken, first_put, some_word, some_word-is}
@@ -44,6 +44,10 @@ leads_begins w a h = (some_word a, (h (some_word a)).1 (some_word-is a))
 pub leads_more : (piece : List Rec) (r : Rec) (a b : Order) → LeadsTo (kinds piece) a → after_first a r.kind ≡ b ∷ [] → LeadsTo (kinds (piece ++ r ∷ [])) b
 leads_more piece r a b h t = subst (λ w. LeadsTo w b) (sym (kinds-snoc piece r)) (leads_on (kinds piece) a b r.kind h t)
 
+-- the record stands in order
+pub in_order : (piece : List Rec) (r : Rec) (a b : Order) → LeadsTo (kinds piece) a → after_first a r.kind ≡ b ∷ [] → InOrder piece r
+in_order piece r a b h t = leads_begins (kinds (piece ++ r ∷ [])) b (leads_more piece r a b h t)
+
 -- the opener alone
 pub leads_first : (k : ℕ) (a : Order) → after_first an_element k ≡ a ∷ [] → LeadsTo (k ∷ []) a
 leads_first k a t = leads_on [] an_element a k (λ v. (λ x. x, λ x. x)) t
@@ -53,23 +57,7 @@ pub law_misplaced : (piece : List Rec) (r : Rec) (a : Order) (e : Refusal) → L
 law_misplaced piece r a (Breach (Unexpected j)) h t l m =
     (sym m.0, subst IsKnown (sym m.0) m.1, λ g. leads_nowhere (kinds piece) a r.kind h t (subst (Begins an_element) (kinds-snoc piece r) g))
 law_misplaced piece r a (Breach (Unsupported j)) h t l m = (sym m.0, omega (arith, m.0), λ g. m.1 (subst IsKnown m.0 g))
-law_misplaced piece r a (Breach (Record f)) h t l m = absurd m
-law_misplaced piece r a (Breach Layer) h t l m = absurd m
-law_misplaced piece r a (Breach Points) h t l m = absurd m
-law_misplaced piece r a (Breach NotClosed) h t l m = absurd m
-law_misplaced piece r a (Breach Strans) h t l m = absurd m
-law_misplaced piece r a (Breach Magnification) h t l m = absurd m
-law_misplaced piece r a (Breach Angle) h t l m = absurd m
-law_misplaced piece r a (Breach ColRow) h t l m = absurd m
-law_misplaced piece r a (Breach ArrayStep) h t l m = absurd m
-law_misplaced piece r a (Breach Name) h t l m = absurd m
-law_misplaced piece r a (Breach (Path f)) h t l m = absurd m
-law_misplaced piece r a (Breach Width) h t l m = absurd m
-law_misplaced piece r a (Breach PathType) h t l m = absurd m
-law_misplaced piece r a (Breach AfterEnd) h t l m = absurd m
-law_misplaced piece r a (Breach Oblique) h t l m = absurd m
-law_misplaced piece r a (Breach Repetition) h t l m = absurd m
-law_misplaced piece r a (Breach TooManyCells) h t l m = absurd m
+law_misplaced piece r a (Breach other) h t l m = absurd m
 law_misplaced piece r a OutOfMemory h t l m = absurd m
 
 -- what is said of a breach, carried on

@@ -6,6 +6,7 @@ pub mod Leads
 pub mod Words
 pub mod Allowed
 pub mod Taking
+pub mod OneRule
 pub mod Shapes
 pub mod Boundaries
 pub mod Paths

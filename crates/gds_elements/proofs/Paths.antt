@@ -11,9 +11,9 @@ use Rattle.gds_elements.specs.Rec.{Rec, opener, field, last_of, payload_of}
 use Rattle.gds_elements.specs.Values.{short, magnitude, points}
 use Rattle.gds_elements.specs.Meaning.{layer_of, half, half_of, end_of, end_reach, shapes_by, references_by, in_rings, one_place}
 use Rattle.gds_elements.specs.Path.{after, left, half_in, IsPathRead, reach_at, IsBandsFault}
-use Rattle.gds_elements.specs.Rules.{ElementBreaches}
+use Rattle.gds_elements.specs.Rules.{ValueBreaches}
 use Rattle.gds_elements.specs.declared.fault.GdsKind.{GdsKind}
-use Rattle.gds_elements.specs.declared.fault.GdsKind.TheVariants.{Record, Unexpected, Unsupported, Layer as LayerFault, Points as PointsFault, NotClosed, Strans, Magnification, Angle, ColRow, ArrayStep, Name, Path as PathFault, Width as WidthFault, PathType as PathTypeFault, AfterEnd, Oblique, Repetition, TooManyCells}
+use Rattle.gds_elements.specs.declared.fault.GdsKind.TheVariants.{Points as PointsFault, Path as PathFault, Width as WidthFault}
 use Rattle.gds_elements.specs.Reading.{IsAtEnd}
 use Rattle.gds_elements.specs.declared.order.Next.TheVariants.{Goes, Ends, Nowhere}
 use Rattle.gds_elements.specs.declared.path.Place.{Place}
@@ -141,7 +141,7 @@ path_ends p piece r h rings shifts i a w e f =
     }
 
 -- why the points give no bands is a rule that they breach
-pub bands_fault : (p : Path) (piece : List Rec) (r : Rec) → IsPathRead p piece → r.kind ≡ xy → (k : GdsKind) → IsBandsFault (points r.payload) p.half p.square k → ElementBreaches piece r k
+pub bands_fault : (p : Path) (piece : List Rec) (r : Rec) → IsPathRead p piece → r.kind ≡ xy → (k : GdsKind) → IsBandsFault (points r.payload) p.half p.square k → ValueBreaches piece r k
 bands_fault p piece r h x PointsFault b = (x, inr (inl (h.opened, b)))
 bands_fault p piece r h x WidthFault b = (h.opened, inr (x, b.0, none_half (last_of width piece) (sym h.half ∙ b.1)))
 bands_fault p piece r h x (PathFault f) (n, m, half, e, low) =
@@ -149,19 +149,4 @@ bands_fault p piece r h x (PathFault f) (n, m, half, e, low) =
     let low' = subst (λ (i : ℕ). IsLowestFault ps (record { half = half; start = i; end = i }) f) (reach_is p piece half h e) low in
     let low'' = subst (λ (i : ℕ). IsLowestFault ps (record { half = i; start = end_of piece; end = end_of piece }) f) (half_is p piece half h e) low' in
     (x, h.opened, n, width_read p piece h (λ z. (let y : Some half ≡ None = sym e ∙ z in cc)), m, low'')
-bands_fault p piece r h x (Record f) b = absurd b
-bands_fault p piece r h x (Unexpected j) b = absurd b
-bands_fault p piece r h x (Unsupported j) b = absurd b
-bands_fault p piece r h x LayerFault b = absurd b
-bands_fault p piece r h x NotClosed b = absurd b
-bands_fault p piece r h x Strans b = absurd b
-bands_fault p piece r h x Magnification b = absurd b
-bands_fault p piece r h x Angle b = absurd b
-bands_fault p piece r h x ColRow b = absurd b
-bands_fault p piece r h x ArrayStep b = absurd b
-bands_fault p piece r h x Name b = absurd b
-bands_fault p piece r h x PathTypeFault b = absurd b
-bands_fault p piece r h x AfterEnd b = absurd b
-bands_fault p piece r h x Oblique b = absurd b
-bands_fault p piece r h x Repetition b = absurd b
-bands_fault p piece r h x TooManyCells b = absurd b
+bands_fault p piece r h x other b = absurd b

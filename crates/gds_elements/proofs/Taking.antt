@@ -7,21 +7,34 @@ use Rattle.gds_elements.specs.Types.{layer, datatype, width, xy, endel, sname, c
 use Rattle.gds_elements.specs.Order.{IsWord, Begins, an_element}
 use Rattle.gds_elements.specs.Rec.{Rec, kinds, opener, last_of}
 use Rattle.gds_elements.specs.Meaning.{shapes_by, references_by, in_rings}
-use Rattle.gds_elements.specs.Rules.{ElementBreaches, BreachesNone}
+use Rattle.gds_elements.specs.Rules.{InOrder, ValueBreaches, ElementBreaches, BreachesNone, BreachesOnly}
 use Rattle.gds_elements.specs.Misplaced.{Says}
 use Rattle.gds_elements.specs.Reading.{Takes, Steps, IsStep, IsAtEnd, record_of}
 use Rattle.gds_elements.specs.declared.fault.Refusal.{Refusal}
+use Rattle.gds_elements.specs.declared.fault.Refusal.TheVariants.{Breach}
+use Rattle.gds_elements.specs.declared.fault.GdsKind.{GdsKind}
 use Rattle.gds_elements.specs.declared.element.Drawn.{Drawn}
 use Rattle.gds_elements.specs.declared.element.State.{State}
 use Rattle.gds_elements.specs.declared.element.Step.{Step}
 use Rattle.gds_elements.specs.declared.element.Step.TheVariants.{Whole}
 use Rattle.gds_elements.proofs.Fields.{last_there, opener-snoc, kinds-snoc}
-use Rattle.gds_elements.proofs.Allowed.{law_endel}
+use Rattle.gds_elements.proofs.Leads.{says_carried}
+use Rattle.gds_elements.proofs.OneRule.{one_rule}
+use Rattle.gds_elements.proofs.Allowed.{law_endel, allowed, refused}
 
 -- a refusal that is passed on
 pub takes_refused : (piece : List Rec) (r : Rec) (res : Result State Refusal) (e : Refusal) → IsErr res × IsErrAnd res (λ x. x ≡ e) → Says e (ElementBreaches piece r) → Takes piece r res
 takes_refused piece r (Ok s) e h b = absurd h.1
 takes_refused piece r (Err x) e h b = subst (λ (i : Refusal). Says i (ElementBreaches piece r)) (sym h.1) b
+
+-- by a value that breaches a rule
+pub takes_broken : (piece : List Rec) (r : Rec) (res : Result State Refusal) (e : Refusal) (P : GdsKind → Type 0) → IsErr res × IsErrAnd res (λ x. x ≡ e) → InOrder piece r
+    → ((k : GdsKind) → P k → ValueBreaches piece r k) → Says e P → Takes piece r res
+takes_broken piece r res e P h g f s = takes_refused piece r res e h (says_carried e P (ElementBreaches piece r) (λ k x. refused piece r k g (f k x)) s)
+
+pub takes_one : (piece : List Rec) (r : Rec) (res : Result State Refusal) (e : Refusal) (k : GdsKind) → IsErr res × IsErrAnd res (λ x. x ≡ e) → InOrder piece r
+    → e ≡ Breach k → ValueBreaches piece r k → Takes piece r res
+takes_one piece r res e k h g f b = takes_refused piece r res e h (subst (λ (i : Refusal). Says i (ElementBreaches piece r)) (sym f) (refused piece r k g b))
 
 -- the end leaves what was drawn
 same_kinds : (piece : List Rec) (r : Rec) (j : ℕ) → r.kind ≡ endel → endel == j ≡ false → last_of j (piece ++ r ∷ []) ≡ last_of j piece
@@ -49,7 +62,7 @@ law_end piece r d h e =
           references = h.drawn.references ∙ ap (λ q. references_by q piece) h.opened.1 ∙ sym (endel_references k piece r e) ∙ sym (ap (λ q. references_by q new) o);
         },
       ),
-      law_endel piece r begun e,
+      allowed piece r begun (law_endel piece r e),
     )
 
 -- a step of a state is one of the element
@@ -69,3 +82,7 @@ steps_allowed piece r (Err e) h = tt
 pub steps_refused : (piece : List Rec) (r : Rec) (res : Result Step Refusal) → Steps piece r res → IfErr res (λ e. Says e (ElementBreaches piece r))
 steps_refused piece r (Ok s) h = tt
 steps_refused piece r (Err e) h = h
+
+pub steps_alone : (piece : List Rec) (r : Rec) (res : Result Step Refusal) → Steps piece r res → IfErr res (λ e. Says e (BreachesOnly piece r))
+steps_alone piece r (Ok s) h = tt
+steps_alone piece r (Err e) h = says_carried e (ElementBreaches piece r) (BreachesOnly piece r) (λ k x j y. one_rule piece r j k y x) h

@@ -13,7 +13,7 @@ use Rattle.gds_elements.specs.Rec.{Rec, kinds, opener, last_of}
 use Rattle.gds_elements.specs.Values.{short, long, bits, points, nth, name, magnitude, one_real, degrees, columns, rows}
 use Rattle.gds_elements.specs.Meaning.{half_of, end_of, columns_in, rows_in}
 use Rattle.gds_elements.specs.declared.fault.GdsKind.{GdsKind}
-use Rattle.gds_elements.specs.declared.fault.GdsKind.TheVariants.{Record, Unexpected, Unsupported, Layer, Points, NotClosed, Strans, Magnification, Angle, ColRow, ArrayStep, Name, Path, Width, PathType, AfterEnd, Oblique, Repetition, TooManyCells}
+use Rattle.gds_elements.specs.declared.fault.GdsKind.TheVariants.{Unexpected, Unsupported, Layer, Points, NotClosed, Strans, Magnification, Angle, ColRow, ArrayStep, Name, Path, Width, PathType, Oblique, Repetition}
 
 -- the most places of an array
 abbrev pub place_limit : ℕ
@@ -61,37 +61,47 @@ IsMiscounted piece n =
     ((opener piece ≡ Some boundary) × (n < 4)) ⊎ ((opener piece ≡ Some path) × (n < 2)) ⊎ ((opener piece ≡ Some aref) × (n ≢ 3))
     ⊎ (((opener piece ≡ Some sref) ⊎ (opener piece ≡ Some text)) × (n ≢ 1))
 
--- a record, behind the records of its element so far, breaches the rule
-abbrev pub ElementBreaches : List Rec → Rec → GdsKind → Type 0
-ElementBreaches piece r (Record f) = ⊥
-ElementBreaches piece r (Unexpected k) = (r.kind ≡ k) × IsKnown k × ¬ Begins an_element (kinds (piece ++ r ∷ []))
-ElementBreaches piece r (Unsupported k) = (r.kind ≡ k) × (k < 60) × ¬ IsKnown k
-ElementBreaches piece r Layer = ((r.kind ≡ layer) ⊎ (r.kind ≡ datatype)) × DrawsShape piece × (short r.payload <ℤ pos 0)
-ElementBreaches piece r Points = (r.kind ≡ xy) × IsMiscounted piece (length (points r.payload))
-ElementBreaches piece r NotClosed = (r.kind ≡ xy) × (opener piece ≡ Some boundary) × (4 ≤ length (points r.payload)) × ¬ IsClosed (points r.payload)
-ElementBreaches piece r Strans = (r.kind ≡ strans) × RefersToCell piece × (bits r.payload ≢ 0) × (bits r.payload ≢ 0x8000)
-ElementBreaches piece r Magnification = (r.kind ≡ mag) × RefersToCell piece × (r.payload ≢ one_real)
-ElementBreaches piece r Angle = (r.kind ≡ angle) × RefersToCell piece × ((t : Turn) → r.payload ≢ degrees t)
-ElementBreaches piece r ColRow = (r.kind ≡ colrow) × (opener piece ≡ Some aref) × ((columns r.payload <ℤ pos 1) ⊎ (rows r.payload <ℤ pos 1))
-ElementBreaches piece r ArrayStep =
+-- what a record says, behind the records of its element so far, breaches the rule
+abbrev pub ValueBreaches : List Rec → Rec → GdsKind → Type 0
+ValueBreaches piece r Layer = ((r.kind ≡ layer) ⊎ (r.kind ≡ datatype)) × DrawsShape piece × (short r.payload <ℤ pos 0)
+ValueBreaches piece r Points = (r.kind ≡ xy) × IsMiscounted piece (length (points r.payload))
+ValueBreaches piece r NotClosed = (r.kind ≡ xy) × (opener piece ≡ Some boundary) × (4 ≤ length (points r.payload)) × ¬ IsClosed (points r.payload)
+ValueBreaches piece r Strans = (r.kind ≡ strans) × RefersToCell piece × (bits r.payload ≢ 0) × (bits r.payload ≢ 0x8000)
+ValueBreaches piece r Magnification = (r.kind ≡ mag) × RefersToCell piece × (r.payload ≢ one_real)
+ValueBreaches piece r Angle = (r.kind ≡ angle) × RefersToCell piece × ((t : Turn) → r.payload ≢ degrees t)
+ValueBreaches piece r ColRow = (r.kind ≡ colrow) × (opener piece ≡ Some aref) × ((columns r.payload <ℤ pos 1) ⊎ (rows r.payload <ℤ pos 1))
+ValueBreaches piece r ArrayStep =
     (r.kind ≡ xy) × (opener piece ≡ Some aref) × (length (points r.payload) ≡ 3)
     × ¬ HasSteps (points r.payload) (columns_in (last_of colrow piece)) (rows_in (last_of colrow piece))
-ElementBreaches piece r Name = (r.kind ≡ sname) × RefersToCell piece × ¬ IsName (name r.payload)
-ElementBreaches piece r (Path f) =
+ValueBreaches piece r Name = (r.kind ≡ sname) × RefersToCell piece × ¬ IsName (name r.payload)
+ValueBreaches piece r (Path f) =
     (r.kind ≡ xy) × (opener piece ≡ Some path) × (2 ≤ length (points r.payload)) × (last_of width piece ≢ None)
     × (f ≢ OutOfMemory) × IsLowestFault (points r.payload) (record { half = half_of piece; start = end_of piece; end = end_of piece }) f
-ElementBreaches piece r Width =
+ValueBreaches piece r Width =
     (opener piece ≡ Some path)
     × (((r.kind ≡ width) × ¬ IsWidth (long r.payload)) ⊎ ((r.kind ≡ xy) × (2 ≤ length (points r.payload)) × (last_of width piece ≡ None)))
-ElementBreaches piece r PathType = (r.kind ≡ pathtype) × (opener piece ≡ Some path) × (short r.payload ≢ pos 0) × (short r.payload ≢ pos 2)
-ElementBreaches piece r AfterEnd = ⊥
-ElementBreaches piece r Oblique =
+ValueBreaches piece r PathType = (r.kind ≡ pathtype) × (opener piece ≡ Some path) × (short r.payload ≢ pos 0) × (short r.payload ≢ pos 2)
+ValueBreaches piece r Oblique =
     (r.kind ≡ xy) × (opener piece ≡ Some boundary) × (4 ≤ length (points r.payload)) × IsClosed (points r.payload)
     × ¬ All IsStraight (steps (points r.payload))
-ElementBreaches piece r Repetition =
+ValueBreaches piece r Repetition =
     (r.kind ≡ colrow) × (opener piece ≡ Some aref) × (pos 1 ≤ℤ columns r.payload) × (pos 1 ≤ℤ rows r.payload)
     × (place_limit < magnitude (columns r.payload) * magnitude (rows r.payload))
-ElementBreaches piece r TooManyCells = ⊥
+ValueBreaches piece r f = ⊥
+
+-- the record may stand behind the others
+abbrev pub InOrder : List Rec → Rec → Type 0
+InOrder piece r = Begins an_element (kinds (piece ++ r ∷ []))
+
+-- the record breaches the rule: it may not stand there, or what it says may not
+abbrev pub ElementBreaches : List Rec → Rec → GdsKind → Type 0
+ElementBreaches piece r (Unexpected k) = (r.kind ≡ k) × IsKnown k × ¬ InOrder piece r
+ElementBreaches piece r (Unsupported k) = (r.kind ≡ k) × (k < 60) × ¬ IsKnown k
+ElementBreaches piece r f = InOrder piece r × ValueBreaches piece r f
+
+-- it breaches no other rule
+abbrev pub BreachesOnly : List Rec → Rec → GdsKind → Type 0
+BreachesOnly piece r k = (j : GdsKind) → ElementBreaches piece r j → j ≡ k
 
 -- it breaches no rule
 abbrev pub BreachesNone : List Rec → Rec → Type 0

@@ -3,7 +3,7 @@ ghost use Rattle.std.specs.Prelude.{◌≡◌, ◌<◌, ◌∷◌, [], ◌++◌,
 ghost use Rattle.gds_elements.specs.Order.{opens};
 ghost use Rattle.gds_elements.specs.Rec.{Rec};
 ghost use Rattle.gds_elements.specs.Meaning.{one_place};
-ghost use Rattle.gds_elements.specs.Rules.{ElementBreaches, BreachesNone};
+ghost use Rattle.gds_elements.specs.Rules.{ElementBreaches, BreachesOnly, BreachesNone};
 ghost use Rattle.gds_elements.specs.Formed.{IsFormed};
 ghost use Rattle.gds_elements.specs.Misplaced.{Says};
 ghost use Rattle.gds_elements.specs.Reading.{IsReading, IsStep, HasRead, IsAtEnd, Takes, Steps, record_of};
@@ -84,11 +84,13 @@ impl Element {
         }
     }
 
-    /// Takes the next record, if it breaches no rule. The order of an element's records, their
-    /// values and the rules are those of the GDSII Stream Format Manual, Release 6, and of this
-    /// project where a rule is marked own. Of several rules that one record breaches, the first in
-    /// the order of [`crate::GdsKind`] is told, but `Oblique` behind `NotClosed` and `Width` before
-    /// `Path`.
+    /// Takes the next record, if it breaches no rule.
+    ///
+    /// The order of an element's records and their values are those of the GDSII Stream Format
+    /// Manual, Release 6; a rule that [`crate::GdsKind`] marks own is this project's. A record that
+    /// may not stand there is refused before what it says is looked at. Then its tests run in the
+    /// order of the rules, but `Oblique` behind `NotClosed` and `Width` before `Path`, and the first
+    /// that fails is told.
     pub fn take(self, alloc: Global, kind: u8, payload: &[u8]) -> Result<Step, Refusal>
         requires formed { IsFormed kind payload.now }
         ensures going { (piece : List Rec) (r : Rec) → IsReading self piece → r.kind ≡ kind → r.payload ≡ payload.now
@@ -97,6 +99,8 @@ impl Element {
             → OnOk result (BreachesNone piece r) }
         ensures refused { (piece : List Rec) (r : Rec) → IsReading self piece → r.kind ≡ kind → r.payload ≡ payload.now
             → IfErr result (λ e. Says e (ElementBreaches piece r)) }
+        ensures alone { (piece : List Rec) (r : Rec) → IsReading self piece → r.kind ≡ kind → r.payload ≡ payload.now
+            → IfErr result (λ e. Says e (BreachesOnly piece r)) }
     {
         self.state.take(alloc, kind, payload)
     }

@@ -6,9 +6,9 @@
 //! or a reference to a cell, or nothing.
 //!
 //! A sixth element takes a file of its own beside `boundary.rt`: its places, with what a record is
-//! at each of them, the values that it keeps, and what it draws. Its opener is added to `Opener` and
-//! its reading to `State`, in `element.rt`; its order to `an_element` and what it means to
-//! `shapes_of` or `references_of`, in `specs/`.
+//! at each of them, the values that it keeps, and what it draws. `element.rt` opens it and has a
+//! `State` for it; in `specs/` its order joins `an_element` and its type `opens`, and what it means
+//! joins `shapes_of` or `references_of`.
 #![tactic(auto)]
 
 pub use element::{Drawn, Element, Step};
@@ -24,5 +24,7 @@ mod order;
 mod path;
 mod placing;
 mod sref;
+#[cfg(test)]
+mod tests;
 mod text;
 mod values;

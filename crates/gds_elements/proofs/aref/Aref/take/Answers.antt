@@ -1,13 +1,16 @@
-use Rattle.std.proofs.Common.{◌≡◌, ◌∙◌, sym, ap, arith}
-use Rattle.gds_elements.specs.Types.{xy, endel}
+use Rattle.std.proofs.Common.{◌≡◌, ◌∙◌, sym, ap, inr, arith}
+use Rattle.gds_elements.specs.Types.{xy, colrow, endel}
 use Rattle.gds_elements.specs.Order.{one}
 use Rattle.gds_elements.specs.Values.{points}
 use Rattle.gds_elements.specs.Reading.{record_of}
-use Rattle.gds_elements.specs.Aref.{left}
+use Rattle.gds_elements.specs.Aref.{left, IsArrayFault}
 use Rattle.gds_elements.specs.declared.aref.Aref.{Aref}
-use Rattle.gds_elements.proofs.Leads.{law_misplaced, leads_begins, left_behind}
-use Rattle.gds_elements.proofs.Allowed.{law_aref, placing_at_points}
-use Rattle.gds_elements.proofs.Arefs.{aref_goes, aref_ends, by_table, goes_on, ends_by, steps_of}
+use Rattle.gds_elements.proofs.Taking.{takes_broken}
+use Rattle.gds_elements.specs.Placing.{IsPlacingFault}
+use Rattle.gds_elements.specs.Counts.{IsCountFault}
+use Rattle.gds_elements.proofs.Leads.{law_misplaced, leads_begins, left_behind, in_order}
+use Rattle.gds_elements.proofs.Allowed.{allowed, placing_fault, count_fault, law_aref, placing_at_points}
+use Rattle.gds_elements.proofs.Arefs.{aref_goes, aref_ends, by_table, goes_on, ends_by, steps_of, array_fault}
 use Rattle.gds_elements.proofs.aref.Aref.take.Goals as goal
 
 pub returns-in_ok-counts-in-Goes : goal.returns-in_ok-counts-in-Goes
@@ -17,7 +20,7 @@ returns-in_ok-counts-in-Goes c = λ piece d h.
     let e = c.in_ok-placing-in-Goes.ensures in
     let s' : Aref = record { place = c.in-Goes.place; placing = c.in_ok-placing-in-Goes.placing; counts = c.in_ok-counts-in-Goes.counts } in
     let b = aref_goes c.args.self s' piece r h a e.name e.flip e.turn c.in_ok-counts-in-Goes.ensures.columns c.in_ok-counts-in-Goes.ensures.rows in
-    (b, law_aref piece r h.opened (leads_begins _ (left c.in-Goes.place) b.leads) e.allowed c.in_ok-counts-in-Goes.ensures.allowed (λ x. absurd (goes_on c.args.self.place c.in-Goes.place c.args.kind a x)))
+    (b, allowed piece r (leads_begins _ (left c.in-Goes.place) b.leads) (law_aref piece r h.opened e.allowed c.in_ok-counts-in-Goes.ensures.allowed (λ x. absurd (goes_on c.args.self.place c.in-Goes.place c.args.kind a x))))
 
 pub returns-in_ok-reference-in-Ends : goal.returns-in_ok-reference-in-Ends
 returns-in_ok-reference-in-Ends c = λ piece d h.
@@ -27,8 +30,8 @@ returns-in_ok-reference-in-Ends c = λ piece d h.
     let x : c.args.kind ≡ xy = ends_by c.args.self.place c.args.kind a in
     let b = aref_ends c.args.self piece r c.in_ok-reference-in-Ends.reference h a e.value in (
       b,
-      law_aref piece r h.opened (leads_begins _ (one endel) b.leads) (placing_at_points c.args.kind c.args.payload.now x) (λ y. absurd (omega (arith, x, y)))
-          (λ _. steps_of c.args.self piece (points c.args.payload.now) h e.allowed),
+      allowed piece r (leads_begins _ (one endel) b.leads) (law_aref piece r h.opened (placing_at_points c.args.kind c.args.payload.now x) (λ y. absurd (omega (arith, x, y)))
+          (λ _. steps_of c.args.self piece (points c.args.payload.now) h e.allowed)),
     )
 
 pub returns-in-Nowhere : goal.returns-in-Nowhere
@@ -36,3 +39,27 @@ returns-in-Nowhere c = λ piece d h.
     let r = record_of c.args.kind d c.args.payload.now in
     law_misplaced piece r (left c.args.self.place) c.misplaced.result h.leads
     (by_table c.args.self.place c.args.kind ∙ ap (left_behind left) (sym c.after.ensures ∙ c.in-Nowhere.is)) c.requires.known c.misplaced.ensures
+
+pub returns-in_err-placing-in-Goes : goal.returns-in_err-placing-in-Goes
+returns-in_err-placing-in-Goes c = λ piece d h.
+    let r = record_of c.args.kind d c.args.payload.now in
+    let a = sym c.after.ensures ∙ c.in-Goes.is in
+    let g = in_order piece r (left c.args.self.place) (left c.in-Goes.place) h.leads (by_table c.args.self.place c.args.kind ∙ ap (left_behind left) a) in
+    takes_broken piece r c.from_residual.result c.in_err-placing-in-Goes.field-0.0 (IsPlacingFault c.args.kind c.args.payload.now) c.from_residual.ensures g
+    (placing_fault piece r (inr h.opened)) c.in_err-placing-in-Goes.ensures.refused
+
+pub returns-in_err-counts-in-Goes : goal.returns-in_err-counts-in-Goes
+returns-in_err-counts-in-Goes c = λ piece d h.
+    let r = record_of c.args.kind d c.args.payload.now in
+    let a = sym c.after.ensures ∙ c.in-Goes.is in
+    let g = in_order piece r (left c.args.self.place) (left c.in-Goes.place) h.leads (by_table c.args.self.place c.args.kind ∙ ap (left_behind left) a) in
+    takes_broken piece r c.from_residual-in_err-counts-in-Goes.result c.in_err-counts-in-Goes.field-0.0 (λ k. (c.args.kind ≡ colrow) × IsCountFault c.args.payload.now k) c.from_residual-in_err-counts-in-Goes.ensures g
+    (count_fault piece r h.opened) c.in_err-counts-in-Goes.ensures.refused
+
+pub returns-in_err-reference-in-Ends : goal.returns-in_err-reference-in-Ends
+returns-in_err-reference-in-Ends c = λ piece d h.
+    let r = record_of c.args.kind d c.args.payload.now in
+    let a = sym c.after.ensures ∙ c.in-Ends.is in
+    let g = in_order piece r (left c.args.self.place) (one endel) h.leads (by_table c.args.self.place c.args.kind ∙ ap (left_behind left) a) in
+    takes_broken piece r c.from_residual-in_err-reference-in-Ends.result c.in_err-reference-in-Ends.field-0.0 (IsArrayFault (points c.args.payload.now) c.args.self.counts.columns c.args.self.counts.rows) c.from_residual-in_err-reference-in-Ends.ensures g
+    (array_fault c.args.self piece r h (ends_by c.args.self.place c.args.kind a)) c.in_err-reference-in-Ends.ensures.refused

@@ -1,4 +1,4 @@
-use Rattle.gds_elements.proofs.Taking.{takes_steps, steps_going, steps_allowed, steps_refused}
+use Rattle.gds_elements.proofs.Taking.{takes_steps, steps_going, steps_allowed, steps_refused, steps_alone}
 use Rattle.gds_elements.proofs.element.Element.take.Goals as goal
 
 pub returns-clause-going : goal.returns-clause-going
@@ -12,3 +12,7 @@ returns-clause-allowed c = λ piece r h e f.
 pub returns-clause-refused : goal.returns-clause-refused
 returns-clause-refused c = λ piece r h e f.
     steps_refused piece r c.take.result (takes_steps piece r c.args.kind c.args.payload.now c.take.result e f (λ d. c.take.ensures piece d h))
+
+pub returns-clause-alone : goal.returns-clause-alone
+returns-clause-alone c = λ piece r h e f.
+    steps_alone piece r c.take.result (takes_steps piece r c.args.kind c.args.payload.now c.take.result e f (λ d. c.take.ensures piece d h))

@@ -1,11 +1,14 @@
-use Rattle.std.proofs.Common.{◌≡◌, ◌∙◌, sym, ap}
+use Rattle.std.proofs.Common.{◌≡◌, ◌∙◌, sym, ap, inl, inr}
 use Rattle.gds_elements.specs.Types.{xy, endel}
 use Rattle.gds_elements.specs.Order.{one}
 use Rattle.gds_elements.specs.Reading.{record_of}
 use Rattle.gds_elements.specs.Sref.{left}
 use Rattle.gds_elements.specs.declared.sref.Sref.{Sref}
-use Rattle.gds_elements.proofs.Leads.{law_misplaced, leads_begins, left_behind}
-use Rattle.gds_elements.proofs.Allowed.{law_sref, placing_at_points}
+use Rattle.gds_elements.specs.declared.fault.GdsKind.TheVariants.{Points}
+use Rattle.gds_elements.proofs.Taking.{takes_broken, takes_one}
+use Rattle.gds_elements.specs.Placing.{IsPlacingFault}
+use Rattle.gds_elements.proofs.Leads.{law_misplaced, leads_begins, left_behind, in_order}
+use Rattle.gds_elements.proofs.Allowed.{allowed, placing_fault, law_sref, placing_at_points}
 use Rattle.gds_elements.proofs.Srefs.{sref_goes, sref_ends, by_table, goes_on, ends_by}
 use Rattle.gds_elements.proofs.sref.Sref.take.Goals as goal
 
@@ -16,7 +19,7 @@ returns-in_ok-placing-in-Goes c = λ piece d h.
     let e = c.in_ok-placing-in-Goes.ensures in
     let s' : Sref = record { place = c.in-Goes.place; placing = c.in_ok-placing-in-Goes.placing } in
     let b = sref_goes c.args.self s' piece r h a e.name e.flip e.turn in
-    (b, law_sref piece r h.opened (leads_begins _ (left c.in-Goes.place) b.leads) e.allowed (λ x. absurd (goes_on c.args.self.place c.in-Goes.place c.args.kind a x)))
+    (b, allowed piece r (leads_begins _ (left c.in-Goes.place) b.leads) (law_sref piece r h.opened e.allowed (λ x. absurd (goes_on c.args.self.place c.in-Goes.place c.args.kind a x))))
 
 pub returns-in_ok-reference-in-Ends : goal.returns-in_ok-reference-in-Ends
 returns-in_ok-reference-in-Ends c = λ piece d h.
@@ -25,10 +28,26 @@ returns-in_ok-reference-in-Ends c = λ piece d h.
     let e = c.in_ok-reference-in-Ends.ensures in
     let x : c.args.kind ≡ xy = ends_by c.args.self.place c.args.kind a in
     let b = sref_ends c.args.self piece r c.in_ok-reference-in-Ends.reference h a e.value in
-    (b, law_sref piece r h.opened (leads_begins _ (one endel) b.leads) (placing_at_points c.args.kind c.args.payload.now x) (λ _. e.allowed))
+    (b, allowed piece r (leads_begins _ (one endel) b.leads) (law_sref piece r h.opened (placing_at_points c.args.kind c.args.payload.now x) (λ _. e.allowed)))
 
 pub returns-in-Nowhere : goal.returns-in-Nowhere
 returns-in-Nowhere c = λ piece d h.
     let r = record_of c.args.kind d c.args.payload.now in
     law_misplaced piece r (left c.args.self.place) c.misplaced.result h.leads
     (by_table c.args.self.place c.args.kind ∙ ap (left_behind left) (sym c.after.ensures ∙ c.in-Nowhere.is)) c.requires.known c.misplaced.ensures
+
+pub returns-in_err-placing-in-Goes : goal.returns-in_err-placing-in-Goes
+returns-in_err-placing-in-Goes c = λ piece d h.
+    let r = record_of c.args.kind d c.args.payload.now in
+    let a = sym c.after.ensures ∙ c.in-Goes.is in
+    let g = in_order piece r (left c.args.self.place) (left c.in-Goes.place) h.leads (by_table c.args.self.place c.args.kind ∙ ap (left_behind left) a) in
+    takes_broken piece r c.from_residual.result c.in_err-placing-in-Goes.field-0.0 (IsPlacingFault c.args.kind c.args.payload.now) c.from_residual.ensures g
+    (placing_fault piece r (inl h.opened)) c.in_err-placing-in-Goes.ensures.refused
+
+pub returns-in_err-reference-in-Ends : goal.returns-in_err-reference-in-Ends
+returns-in_err-reference-in-Ends c = λ piece d h.
+    let r = record_of c.args.kind d c.args.payload.now in
+    let a = sym c.after.ensures ∙ c.in-Ends.is in
+    let g = in_order piece r (left c.args.self.place) (one endel) h.leads (by_table c.args.self.place c.args.kind ∙ ap (left_behind left) a) in
+    let e = c.in_err-reference-in-Ends.ensures.refused in
+    takes_one piece r c.from_residual-in_err-reference-in-Ends.result c.in_err-reference-in-Ends.field-0.0 Points c.from_residual-in_err-reference-in-Ends.ensures g e.0 ((ends_by c.args.self.place c.args.kind a), inr (inr (inr (inl h.opened, e.1))))

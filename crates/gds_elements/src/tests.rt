@@ -1,0 +1,471 @@
+//! Elements by their records: what each draws, and which rule comes first.
+ghost use Rattle.std.specs.Prelude.{IsTrue};
+ghost use Rattle.gds_elements.specs.Formed.{IsFormed};
+
+use crate::{Drawn, Element, GdsKind, Refusal, Step};
+use gds_records::record_type as ty;
+use lvl_cells::{Layer, Reference, Shape};
+use lvl_grid::{Point, Ring, Turn};
+use lvl_path::PathFault;
+use std::alloc::{AllocError, Global};
+use std::process::Abort;
+use std::test::Fail;
+
+/// What a record says.
+#[derive(Clone, Copy)]
+enum Says<'a> {
+    Nothing,
+    Short(i16),
+    Long(i32),
+    Two(i16, i16),
+    Bytes(&'a [u8]),
+    Points(&'a [(i32, i32)]),
+}
+
+impl Says<'_> {
+    fn payload(&self, alloc: Global) -> Result<Vec<u8>, AllocError> {
+        let mut payload = Vec::new(alloc);
+        match *self {
+            Says::Nothing => {}
+            Says::Short(n) => payload.extend_from_slice(&n.to_be_bytes())?,
+            Says::Long(n) => payload.extend_from_slice(&n.to_be_bytes())?,
+            Says::Two(m, n) => {
+                payload.extend_from_slice(&m.to_be_bytes())?;
+                payload.extend_from_slice(&n.to_be_bytes())?;
+            }
+            Says::Bytes(bytes) => payload.extend_from_slice(bytes)?,
+            Says::Points(points) => payload.append(&mut spell(alloc, points)?)?,
+        }
+        Ok(payload)
+    }
+}
+
+fn spell(alloc: Global, points: &[(i32, i32)]) -> Result<Vec<u8>, AllocError> {
+    let mut bytes = Vec::new(alloc);
+    for (x, y) in points {
+        bytes.extend_from_slice(&x.to_be_bytes())?;
+        bytes.extend_from_slice(&y.to_be_bytes())?;
+    }
+    Ok(bytes)
+}
+
+/// A record type, and what the record says.
+type Line<'a> = (u8, Says<'a>);
+
+/// Why no element was read.
+#[derive(Clone, Copy, Debug, PartialEq, Eq)]
+enum Stop {
+    /// The record at this place is refused.
+    At(usize, GdsKind),
+    /// The records end before ENDEL, or the first opens no element.
+    Incomplete,
+    OutOfMemory,
+}
+
+/// Whether a payload has the length that its type asks for.
+fn is_formed(kind: u8, payload: &[u8]) -> bool
+    ensures { IsTrue result → IsFormed kind payload.now }
+{
+    match kind {
+        ty::LAYER | ty::DATATYPE | ty::STRANS | ty::PATHTYPE => payload.len() == 2,
+        ty::WIDTH | ty::COLROW => payload.len() == 4,
+        ty::MAG | ty::ANGLE => payload.len() == 8,
+        _ => kind < 60,
+    }
+}
+
+/// What the element of these records draws.
+fn read(alloc: Global, lines: &[Line]) -> Result<Drawn, Stop> {
+    let Some((first, _)) = lines.first() else {
+        return Err(Stop::Incomplete);
+    };
+    let Some(mut element) = Element::open(alloc, *first) else {
+        return Err(Stop::Incomplete);
+    };
+    for (n, (kind, says)) in lines.iter().enumerate().skip(1) {
+        let Ok(payload) = says.payload(alloc) else {
+            return Err(Stop::OutOfMemory);
+        };
+        if !is_formed(*kind, &payload) {
+            return Err(Stop::Incomplete);
+        }
+        match element.take(alloc, *kind, &payload) {
+            Ok(Step::Open(next)) => element = next,
+            Ok(Step::Whole(drawn)) => return Ok(drawn),
+            Err(Refusal::Breach(kind)) => return Err(Stop::At(n, kind)),
+            Err(Refusal::OutOfMemory) => return Err(Stop::OutOfMemory),
+        }
+    }
+    Err(Stop::Incomplete)
+}
+
+fn shape(drawn: Result<Drawn, Stop>) -> Result<Shape, Fail> {
+    match drawn? {
+        Drawn::Shape(shape) => Ok(shape),
+        _ => Err(Fail::from("a shape")),
+    }
+}
+
+fn reference(drawn: Result<Drawn, Stop>) -> Result<Reference, Fail> {
+    match drawn? {
+        Drawn::Reference(reference) => Ok(reference),
+        _ => Err(Fail::from("a reference")),
+    }
+}
+
+/// Whether the ring has these points.
+fn goes_along(ring: &Ring, want: &[(i64, i64)]) -> bool {
+    let points = ring.points();
+    points.len() == want.len()
+        && points
+            .iter()
+            .zip(want)
+            .all(|(p, (x, y))| p.x == *x && p.y == *y)
+}
+
+const SQUARE: [(i32, i32); 5] = [(0, 0), (10, 0), (10, 10), (0, 10), (0, 0)];
+
+const CORNER: [(i32, i32); 3] = [(0, 0), (10, 0), (10, 10)];
+
+const END: Line<'static> = (ty::ENDEL, Says::Nothing);
+
+/// The degrees 90 and 45, and the magnifications 1 and 2, as they are spelled.
+const DEGREES_90: [u8; 8] = [0x42, 0x5A, 0, 0, 0, 0, 0, 0];
+
+const DEGREES_45: [u8; 8] = [0x42, 0x2D, 0, 0, 0, 0, 0, 0];
+
+const ONCE: [u8; 8] = [0x41, 0x10, 0, 0, 0, 0, 0, 0];
+
+const TWICE: [u8; 8] = [0x41, 0x20, 0, 0, 0, 0, 0, 0];
+
+#[test]
+fn a_boundary_is_its_ring(rt: HostRuntime) -> Result<(), Fail> {
+    let lines = [
+        (ty::BOUNDARY, Says::Nothing),
+        (ty::LAYER, Says::Short(32_767)),
+        (ty::DATATYPE, Says::Short(3)),
+        (ty::XY, Says::Points(&SQUARE)),
+        END,
+    ];
+    let shape = shape(read(rt.alloc(), &lines))?;
+    let layer = Layer {
+        layer: 32_767,
+        datatype: 3,
+    };
+    assert_eq!(rt; shape.layer, layer);
+    assert_eq!(rt; shape.shifts.len(), 1);
+    assert_eq!(rt; shape.rings.len(), 1);
+    let ring = shape.rings.first().ok_or("a ring")?;
+    assert!(rt; goes_along(ring, &[(0, 0), (10, 0), (10, 10), (0, 10)]));
+    Ok(())
+}
+
+#[test]
+fn square_ends(rt: HostRuntime) -> Result<(), Fail> {
+    for (ends, left, top) in [(0, 0, 10), (2, -2, 12)] {
+        let lines = [
+            (ty::PATH, Says::Nothing),
+            (ty::LAYER, Says::Short(1)),
+            (ty::DATATYPE, Says::Short(0)),
+            (ty::PATHTYPE, Says::Short(ends)),
+            (ty::WIDTH, Says::Long(4)),
+            (ty::XY, Says::Points(&CORNER)),
+            END,
+        ];
+        let shape = shape(read(rt.alloc(), &lines))?;
+        assert_eq!(rt; shape.rings.len(), 2);
+        let first = shape.rings.first().ok_or("a ring")?;
+        assert!(rt; goes_along(first, &[(left, -2), (12, -2), (12, 2), (left, 2)]));
+        let second = shape.rings.get(1).ok_or("a ring")?;
+        assert!(rt; goes_along(second, &[(8, -2), (12, -2), (12, top), (8, top)]));
+    }
+    Ok(())
+}
+
+#[test]
+fn short_run(rt: HostRuntime) -> Result<(), Fail> {
+    let short: [(i32, i32); 3] = [(0, 0), (10, 0), (10, 1)];
+    let rows: [(&str, Says, Says, Stop); 6] = [
+        (
+            "short-run",
+            Says::Long(4),
+            Says::Points(&short),
+            Stop::At(4, GdsKind::Path(PathFault::ShortRun)),
+        ),
+        (
+            "odd",
+            Says::Long(3),
+            Says::Points(&short),
+            Stop::At(3, GdsKind::Width),
+        ),
+        (
+            "none",
+            Says::Long(0),
+            Says::Points(&short),
+            Stop::At(3, GdsKind::Width),
+        ),
+        (
+            "negative",
+            Says::Long(-4),
+            Says::Points(&short),
+            Stop::At(3, GdsKind::Width),
+        ),
+        (
+            "one point",
+            Says::Long(4),
+            Says::Points(&[(0, 0)]),
+            Stop::At(4, GdsKind::Points),
+        ),
+        (
+            "oblique",
+            Says::Long(4),
+            Says::Points(&[(0, 0), (1, 1)]),
+            Stop::At(4, GdsKind::Path(PathFault::Oblique)),
+        ),
+    ];
+    for (name, width, points, stop) in rows {
+        let lines = [
+            (ty::PATH, Says::Nothing),
+            (ty::LAYER, Says::Short(1)),
+            (ty::DATATYPE, Says::Short(0)),
+            (ty::WIDTH, width),
+            (ty::XY, points),
+            END,
+        ];
+        assert_eq!(rt; read(rt.alloc(), &lines).err(), Some(stop), "{name}");
+    }
+    Ok(())
+}
+
+#[test]
+fn flip_then_turn(rt: HostRuntime) -> Result<(), Fail> {
+    let lines = [
+        (ty::SREF, Says::Nothing),
+        (ty::SNAME, Says::Bytes(b"A\0")),
+        (ty::STRANS, Says::Short(i16::MIN)),
+        (ty::MAG, Says::Bytes(&ONCE)),
+        (ty::ANGLE, Says::Bytes(&DEGREES_90)),
+        (ty::XY, Says::Points(&[(-7, 5)])),
+        END,
+    ];
+    let reference = reference(read(rt.alloc(), &lines))?;
+    assert_eq!(rt; reference.cell(), b"A".as_slice());
+    assert!(rt; reference.flip());
+    assert_eq!(rt; reference.turn(), Turn::R90);
+    assert_eq!(rt; reference.at(), Point { x: -7, y: 5 });
+    assert_eq!(rt; reference.shifts().len(), 1);
+    Ok(())
+}
+
+/// An array of so many columns and rows, with these points.
+fn array(alloc: Global, columns: i16, rows: i16, points: &[(i32, i32)]) -> Result<Drawn, Stop> {
+    let lines = [
+        (ty::AREF, Says::Nothing),
+        (ty::SNAME, Says::Bytes(b"AB")),
+        (ty::COLROW, Says::Two(columns, rows)),
+        (ty::XY, Says::Points(points)),
+        END,
+    ];
+    read(alloc, &lines)
+}
+
+#[test]
+fn array_tiles(rt: HostRuntime) -> Result<(), Fail> {
+    let tiles = reference(array(rt.alloc(), 3, 2, &[(0, 0), (30, 0), (0, 20)]))?;
+    let shifts = [(0, 0), (10, 0), (20, 0), (0, 10), (10, 10), (20, 10)];
+    assert_eq!(rt; tiles.shifts().len(), 6);
+    for (k, (x, y)) in shifts.iter().enumerate() {
+        assert_eq!(rt; tiles.shifts().at(k as u64), Some(Point { x: *x, y: *y }));
+    }
+    let back = reference(array(rt.alloc(), 3, 2, &[(5, 5), (-25, 5), (5, -15)]))?;
+    assert_eq!(rt; back.at(), Point { x: 5, y: 5 });
+    assert_eq!(rt; back.shifts().at(5), Some(Point { x: -20, y: -10 }));
+    Ok(())
+}
+
+#[test]
+fn array_limits(rt: HostRuntime) -> Result<(), Fail> {
+    let far: [(i32, i32); 3] = [
+        (i32::MIN, i32::MIN),
+        (i32::MAX, i32::MIN),
+        (i32::MIN, i32::MAX),
+    ];
+    let rows: [(i16, i16, &[(i32, i32)], Option<Stop>); 12] = [
+        (1024, 1024, &[(0, 0), (1024, 0), (0, 1024)], None),
+        (
+            1025,
+            1024,
+            &[(0, 0), (0, 0), (0, 0)],
+            Some(Stop::At(2, GdsKind::Repetition)),
+        ),
+        (
+            32_767,
+            33,
+            &[(0, 0), (0, 0), (0, 0)],
+            Some(Stop::At(2, GdsKind::Repetition)),
+        ),
+        (32_767, 32, &[(0, 0), (0, 0), (0, 0)], None),
+        (
+            2,
+            1,
+            &[(0, 0), (-7, 0), (0, 2)],
+            Some(Stop::At(3, GdsKind::ArrayStep)),
+        ),
+        (
+            3,
+            2,
+            &[(0, 0), (31, 0), (0, 20)],
+            Some(Stop::At(3, GdsKind::ArrayStep)),
+        ),
+        (
+            3,
+            2,
+            &[(0, 0), (30, 0), (0, 21)],
+            Some(Stop::At(3, GdsKind::ArrayStep)),
+        ),
+        (
+            0,
+            1,
+            &[(0, 0), (0, 0), (0, 0)],
+            Some(Stop::At(2, GdsKind::ColRow)),
+        ),
+        (
+            1,
+            0,
+            &[(0, 0), (0, 0), (0, 0)],
+            Some(Stop::At(2, GdsKind::ColRow)),
+        ),
+        (
+            -1,
+            1,
+            &[(0, 0), (0, 0), (0, 0)],
+            Some(Stop::At(2, GdsKind::ColRow)),
+        ),
+        (1, 1, &[(0, 0), (0, 0)], Some(Stop::At(3, GdsKind::Points))),
+        (1, 1, &far, None),
+    ];
+    for (columns, rows, points, stop) in rows {
+        let drawn = array(rt.alloc(), columns, rows, points);
+        assert_eq!(rt; drawn.err(), stop, "{columns} {rows}");
+    }
+    Ok(())
+}
+
+#[test]
+fn text_covers_nothing(rt: HostRuntime) -> Result<(), Fail> {
+    let lines = [
+        (ty::TEXT, Says::Nothing),
+        (ty::LAYER, Says::Short(-1)),
+        (ty::TEXTTYPE, Says::Short(0)),
+        (ty::WIDTH, Says::Long(-3)),
+        (ty::STRANS, Says::Short(7)),
+        (ty::ANGLE, Says::Bytes(&DEGREES_45)),
+        (ty::XY, Says::Points(&[(0, 0)])),
+        (ty::STRING, Says::Bytes(b"HI")),
+        END,
+    ];
+    assert!(rt; matches!(read(rt.alloc(), &lines), Ok(Drawn::Nothing)));
+    Ok(())
+}
+
+#[test]
+fn the_first_rule_is_told(rt: HostRuntime) -> Result<(), Fail> {
+    let boundary: Line = (ty::BOUNDARY, Says::Nothing);
+    let path: Line = (ty::PATH, Says::Nothing);
+    let sref: Line = (ty::SREF, Says::Nothing);
+    let text: Line = (ty::TEXT, Says::Nothing);
+    let layer: Line = (ty::LAYER, Says::Short(1));
+    let datatype: Line = (ty::DATATYPE, Says::Short(0));
+    let name: Line = (ty::SNAME, Says::Bytes(b"A\0"));
+    let two: Line = (ty::XY, Says::Points(&[(0, 0), (4, 0)]));
+    let open: Line = (ty::XY, Says::Points(&[(0, 0), (1, 1), (2, 0), (0, 1)]));
+    let oblique: Line = (ty::XY, Says::Points(&[(0, 0), (1, 1), (1, 0), (0, 0)]));
+    let rows: [(&[Line], Stop); 18] = [
+        (
+            &[boundary, datatype],
+            Stop::At(1, GdsKind::Unexpected(ty::DATATYPE)),
+        ),
+        (
+            &[boundary, (0x2D, Says::Nothing)],
+            Stop::At(1, GdsKind::Unsupported(0x2D)),
+        ),
+        (
+            &[boundary, layer, datatype, two],
+            Stop::At(3, GdsKind::Points),
+        ),
+        (
+            &[boundary, layer, datatype, open],
+            Stop::At(3, GdsKind::NotClosed),
+        ),
+        (
+            &[boundary, layer, datatype, oblique],
+            Stop::At(3, GdsKind::Oblique),
+        ),
+        (
+            &[boundary, (ty::LAYER, Says::Short(-1))],
+            Stop::At(1, GdsKind::Layer),
+        ),
+        (
+            &[path, layer, (ty::DATATYPE, Says::Short(-1))],
+            Stop::At(2, GdsKind::Layer),
+        ),
+        (&[path, layer, datatype, two], Stop::At(3, GdsKind::Width)),
+        (
+            &[path, layer, datatype, (ty::PATHTYPE, Says::Short(1))],
+            Stop::At(3, GdsKind::PathType),
+        ),
+        (
+            &[
+                path,
+                layer,
+                datatype,
+                (ty::WIDTH, Says::Long(2)),
+                (ty::PATHTYPE, Says::Short(0)),
+            ],
+            Stop::At(4, GdsKind::Unexpected(ty::PATHTYPE)),
+        ),
+        (
+            &[sref, (ty::SNAME, Says::Bytes(b"\0"))],
+            Stop::At(1, GdsKind::Name),
+        ),
+        (
+            &[sref, name, (ty::STRANS, Says::Short(0x0004))],
+            Stop::At(2, GdsKind::Strans),
+        ),
+        (
+            &[
+                sref,
+                name,
+                (ty::STRANS, Says::Short(0)),
+                (ty::MAG, Says::Bytes(&TWICE)),
+            ],
+            Stop::At(3, GdsKind::Magnification),
+        ),
+        (
+            &[
+                sref,
+                name,
+                (ty::STRANS, Says::Short(0)),
+                (ty::ANGLE, Says::Bytes(&DEGREES_45)),
+            ],
+            Stop::At(3, GdsKind::Angle),
+        ),
+        (
+            &[sref, name, (ty::ANGLE, Says::Bytes(&DEGREES_90))],
+            Stop::At(2, GdsKind::Unexpected(ty::ANGLE)),
+        ),
+        (&[sref, name, two], Stop::At(2, GdsKind::Points)),
+        (
+            &[text, layer, (ty::TEXTTYPE, Says::Short(-1)), two],
+            Stop::At(3, GdsKind::Points),
+        ),
+        (
+            &[text, layer, boundary],
+            Stop::At(2, GdsKind::Unexpected(ty::BOUNDARY)),
+        ),
+    ];
+    for (lines, stop) in rows {
+        assert_eq!(rt; read(rt.alloc(), lines).err(), Some(stop));
+    }
+    Ok(())
+}
