@@ -5,7 +5,7 @@ use crate::{Status, Tops, run, run_show};
 use lvl_io::fake::{Pieces, Sink};
 use std::alloc::{AllocError, Global};
 use std::test::Fail;
-use stream::{SQUARE, Stream, drawing, square_with};
+use stream::{SQUARE, Stream, VECTOR, drawing, square_with};
 
 mod failing;
 mod refusals;
@@ -92,6 +92,7 @@ fn ends_with_line(text: &[u8], line: &str) -> bool {
 #[test]
 fn boundary_height(rt: HostRuntime) -> Result<(), Fail> {
     let square = square_with(rt.alloc(), &[])?;
+    assert_eq!(rt; square.as_slice(), VECTOR.as_slice());
     let lower = square_with(rt.alloc(), &[(139, 9), (147, 9)])?;
     let (text, status) = written(rt.alloc(), &square, &square, &no_tops(), 1000)?;
     assert_eq!(rt; text.as_slice(), SAME.as_bytes());
