@@ -1,24 +1,23 @@
 -- What one record more, or one element more, does to the library that is spelled.
-use Rattle.std.proofs.Common.{◌≡◌, ◌==◌, ℕ, Bool, true, false, if◌then◌else◌, List, [], ◌∷◌, ◌++◌, map, Some, refl, sym, ap, ◌∙◌}
+use Rattle.std.proofs.Common.{◌≡◌, ◌==◌, ℕ, Bool, true, false, if◌then◌else◌, List, [], ◌∷◌, ◌++◌, map, refl, sym, ap, ◌∙◌}
 use Rattle.std.proofs.lemmas.List.{append-nil}
 use Rattle.std.proofs.lemmas.Grind.{flat_map-append}
 use Rattle.std.specs.List.{flat_map}
 use Rattle.lvl_path.specs.Figure.{Figure, figure_rings}
 use Rattle.lvl_cells.specs.Cells.{PlainShape, PlainReference, drawn, kept}
-use Rattle.gds_elements.specs.Types.{bgnstr, strname, boundary, path, sref, aref, layer, datatype, width, xy, sname, colrow, strans, angle, pathtype}
-use Rattle.gds_elements.specs.Order.{IsWord, an_element}
-use Rattle.gds_elements.specs.Rec.{Rec, kinds, is_type, is_opener, opener, field, last_of}
+use Rattle.gds_elements.specs.Types.{bgnstr, strname, layer, datatype, width, xy, sname, colrow, strans, angle, pathtype}
+use Rattle.gds_elements.specs.Rec.{Rec, is_type, is_opener, field}
 use Rattle.gds_elements.specs.Values.{name}
-use Rattle.gds_elements.specs.Meaning.{shapes_of, references_of, shapes_by, references_by, in_rings}
+use Rattle.gds_elements.specs.Meaning.{shapes_of, references_of, in_rings}
 use Rattle.gds_elements.proofs.Orders.{type_same}
-use Rattle.gds_elements.proofs.Fields.{last_there, field_there, field-snoc}
-use Rattle.gds_library.specs.Drawn.{Drawing, KeptShape, KeptCell}
+use Rattle.gds_elements.proofs.Fields.{last_there, field-snoc}
+use Rattle.gds_library.specs.Drawn.{KeptShape, KeptCell}
 use Rattle.gds_library.specs.Rec.{pieces}
 use Rattle.gds_library.specs.Values.{drawing, drawings}
 use Rattle.gds_library.specs.Shown.{on_last, grown, grown_cell, no_cell, with_drawn}
 use Rattle.gds_library.proofs.Outside.{IsOutside}
 use Rattle.gds_library.proofs.Elements.{opens_none}
-use Rattle.gds_library.proofs.Pieces.{IsPiece, if_ap, map-snoc, map_on_last, pieces-snoc, opener_piece, structure_piece, field_past, piece_lacks, if_not}
+use Rattle.gds_library.proofs.Pieces.{IsPiece, map-snoc, map_on_last, pieces-snoc, opener_piece, structure_piece, field_past, piece_lacks, if_not}
 
 -- what records mean, with one more that stands outside of elements
 shapes_same : (piece : List Rec) (r : Rec) → IsOutside r.kind → shapes_of (piece ++ r ∷ []) ≡ shapes_of piece

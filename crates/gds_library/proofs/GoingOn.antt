@@ -3,7 +3,7 @@ use Rattle.std.proofs.Common.{append_assoc, ◌≡◌, ◌≢◌, ◌⊎◌, ◌
 use Rattle.std.proofs.Math.Seq.{take-append_seam, drop-append_seam}
 use Rattle.std.proofs.lemmas.List.{take-append-drop, append-nil}
 use Rattle.std.proofs.lemmas.Bool.Decides.{nat_tests}
-use Rattle.std.specs.Prelude.{Option, replicate, Ok, Err}
+use Rattle.std.specs.Prelude.{Option, replicate, Err}
 use Rattle.lvl_io.specs.Known.{Agree}
 use Rattle.gds_records.specs.Records.{file_limit}
 use Rattle.gds_records.specs.Spelled.{IsSpelledAt, IsBegun, IsCut, NoRecord}
@@ -27,7 +27,7 @@ use Rattle.gds_library.specs.Front.{Breaches, BreachesOnly, IsFront, IsStuck, Is
 use Rattle.gds_library.specs.Values.{drawings}
 use Rattle.gds_library.specs.Ends.{Tells, IsMalformed, is_read_kind}
 use Rattle.gds_library.specs.Shown.{shown, shown_at, done}
-use Rattle.gds_library.specs.Holds.{Holds, IsInside, HoldsWith, HasRead, MayFollow}
+use Rattle.gds_library.specs.Holds.{Holds, HoldsWith, HasRead, MayFollow}
 use Rattle.gds_library.specs.ReadTo.{ReadTo}
 use Rattle.gds_library.specs.declared.head.GdsHead.{GdsHead}
 use Rattle.gds_library.specs.declared.place.Place.{Place}
@@ -37,7 +37,7 @@ use Rattle.gds_library.specs.declared.reading.Reading.{Reading}
 use Rattle.gds_library.specs.declared.fault.GdsFault.TheVariants.{At}
 use Rattle.gds_library.proofs.Places.{leads_nowhere, leads_begin, leads_begins}
 use Rattle.gds_library.proofs.Elements.{reading_open, open_unwhole}
-use Rattle.gds_library.proofs.Steps.{KeepsHead, law_fill, law_holds, law_front, no_tail, inside_begins}
+use Rattle.gds_library.proofs.Steps.{law_fill, law_holds, law_front, no_tail, inside_begins}
 use Rattle.gds_library.proofs.Grown.{plain}
 use Rattle.gds_library.proofs.Spellings.{a_fill, agree_ends, map-append, length_spelled}
 use Rattle.gds_library.proofs.Readings.{zero_ends}

@@ -1,12 +1,10 @@
 -- What one record more does to what a builder shows.
-use Rattle.std.proofs.Common.{◌≡◌, ◌==◌, ℕ, Bool, true, false, if◌then◌else◌, List, [], ◌∷◌, ◌++◌, Some, None, refl, sym, ap, ◌∙◌, subst}
+use Rattle.std.proofs.Common.{◌≡◌, ◌==◌, ℕ, Bool, true, false, if◌then◌else◌, List, [], ◌∷◌, ◌++◌, Some, None, refl, sym, ◌∙◌, subst}
 use Rattle.std.specs.Prelude.{Option}
-use Rattle.std.proofs.lemmas.List.{append-nil}
 use Rattle.gds_elements.specs.Types.{header, bgnlib, libname, units, endlib, bgnstr, strname, endstr}
 use Rattle.gds_elements.specs.Values.{name}
 use Rattle.gds_elements.specs.Reading.{shapes_in, references_in}
 use Rattle.gds_elements.specs.declared.element.Drawn.{Drawn}
-use Rattle.gds_elements.specs.declared.element.Drawn.TheVariants.{Shape, Reference, Nothing}
 use Rattle.gds_library.specs.Types.{fill}
 use Rattle.gds_library.specs.Drawn.{KeptCell}
 use Rattle.gds_library.specs.Place.{after}

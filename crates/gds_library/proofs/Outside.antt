@@ -1,5 +1,5 @@
 -- Types that stand outside of elements, and types that carry no value of an element.
-use Rattle.std.proofs.Common.{◌≡◌, ◌==◌, ◌||◌, ◌<◌, ℕ, Bool, true, false, Some, None, refl, sym, ap, ◌∙◌, arith}
+use Rattle.std.proofs.Common.{◌≡◌, ◌==◌, ◌||◌, ◌<◌, ℕ, Bool, true, false, Some, None, refl, arith}
 use Rattle.gds_elements.specs.Types.{header, bgnlib, libname, units, endlib, bgnstr, strname, endstr, boundary, path, sref, aref, text, layer, datatype, width, xy, sname, colrow, strans, mag, angle, pathtype}
 use Rattle.gds_elements.specs.Order.{opens}
 use Rattle.gds_elements.specs.Rules.{IsKnown}

@@ -12,7 +12,7 @@ use Rattle.gds_elements.specs.Rec.{Rec, kinds, is_type, is_opener, field}
 use Rattle.gds_elements.specs.Values.{short, name}
 use Rattle.gds_elements.specs.Rules.{IsKnown, IsName, ElementBreaches, ValueBreaches as BreachesInElement, InOrder as InOrderInElement, BreachesNone as KeepsElement, BreachesOnly as OnlyInElement}
 use Rattle.gds_elements.specs.Misplaced.{Says}
-use Rattle.gds_elements.specs.Meaning.{in_rings, shapes_of, references_of}
+use Rattle.gds_elements.specs.Meaning.{in_rings, shapes_of}
 use Rattle.gds_elements.specs.Reading.{IsReading, IsDrawn, shapes_in, references_in}
 use Rattle.gds_elements.specs.declared.element.Element.{Element}
 use Rattle.gds_elements.specs.declared.element.Drawn.{Drawn}
@@ -26,22 +26,21 @@ use Rattle.gds_elements.proofs.Orders.{same_type}
 use Rattle.gds_library.specs.Types.{fill}
 use Rattle.gds_library.specs.Order.{a_library}
 use Rattle.gds_library.specs.Drawn.{KeptCell}
-use Rattle.gds_library.specs.Place.{after, left, LeadsTo, has_units}
+use Rattle.gds_library.specs.Place.{after, LeadsTo, has_units}
 use Rattle.gds_library.specs.Rec.{Spells, pieces, last_piece}
 use Rattle.gds_library.specs.Values.{drawing, drawings, two_reals}
 use Rattle.gds_library.specs.Front.{InOrder, Breaches, BreachesOnly, BreachesNone, IsFront, cell_limit}
 use Rattle.gds_library.specs.Faults.{IsFault, IsAllowed}
 use Rattle.gds_library.specs.Shown.{grown, shown, shown_at, on_last, with_drawn}
-use Rattle.gds_library.specs.Holds.{Holds, IsInside, HoldsWith, HasRead, MayFollow, Takes}
+use Rattle.gds_library.specs.Holds.{Holds, IsInside, MayFollow, Takes}
 use Rattle.gds_library.specs.declared.place.Place.{Place}
 use Rattle.gds_library.specs.declared.place.Place.TheVariants.{Header, BgnLib, LibName, Units, Structures, StrName, Elements, Fill}
 use Rattle.gds_library.specs.declared.builder.Builder.{Builder}
 use Rattle.gds_library.specs.declared.reading.Reading.{Reading}
-use Rattle.gds_library.proofs.Words.{all_right}
 use Rattle.gds_library.proofs.Places.{OpensNothing, leads_on, leads_nowhere, leads_begins}
 use Rattle.gds_library.proofs.Elements.{IsOpen, begins_open, reading_open, leads_element, begins_inside, open_goes}
 use Rattle.gds_library.proofs.Pieces.{IsPiece, if_ap, reading_piece, word_piece, last_opened, piece_lacks, field_past}
-use Rattle.gds_library.proofs.Outside.{IsNoValue, IsOutside, outside_after, known_after, opener_is}
+use Rattle.gds_library.proofs.Outside.{IsNoValue, outside_after, known_after, opener_is}
 use Rattle.gds_library.proofs.Drawn.{drawings-snoc, drawings_element}
 use Rattle.gds_library.proofs.Grown.{same_place, none_some}
 use Rattle.gds_library.proofs.Spellings.{a_fill, spells_join, map-append}

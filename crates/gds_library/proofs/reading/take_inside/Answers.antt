@@ -1,4 +1,4 @@
-use Rattle.std.proofs.Common.{refl, subst, sym, ap, ◌∙◌, ◌++◌, ◌∷◌, []}
+use Rattle.std.proofs.Common.{refl, subst, ◌++◌, ◌∷◌, []}
 use Rattle.gds_elements.specs.Reading.{record_of, IsStep}
 use Rattle.gds_elements.specs.declared.element.Step.{Step}
 use Rattle.gds_library.proofs.Steps.{says_inside, takes_refused, law_inside, law_whole}

@@ -1,4 +1,4 @@
-use Rattle.std.proofs.Common.{◌≡◌, refl, subst, sym, ap, ◌∙◌, ◌++◌, ◌∷◌, [], true, false}
+use Rattle.std.proofs.Common.{◌≡◌, refl, sym, ◌∙◌, true, false}
 use Rattle.gds_elements.specs.Reading.{record_of}
 use Rattle.gds_library.proofs.Places.{OpensNothing}
 use Rattle.gds_library.proofs.Steps.{says_fault, takes_refused, law_opens, law_holds, law_allowed, KeepsHead}

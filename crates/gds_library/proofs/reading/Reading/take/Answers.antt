@@ -1,4 +1,4 @@
-use Rattle.std.proofs.Common.{subst, ◌≡◌, Some, None}
+use Rattle.std.proofs.Common.{subst}
 use Rattle.std.specs.Prelude.{Option}
 use Rattle.gds_elements.specs.declared.element.Element.{Element}
 use Rattle.gds_library.specs.Holds.{HoldsWith}
