@@ -23,7 +23,7 @@ use Rattle.gds_elements.proofs.Orders.{empty_word}
 use Rattle.gds_library.specs.Types.{fill}
 use Rattle.gds_library.specs.Order.{a_library}
 use Rattle.gds_library.specs.Place.{after, left, LeadsTo, has_units}
-use Rattle.gds_library.specs.Front.{Breaches, IsFront, IsStuck, IsBreached, IsAfterEnd, IsTruncated, SpellsLibrary, IsRead}
+use Rattle.gds_library.specs.Front.{Breaches, BreachesOnly, IsFront, IsStuck, IsBreached, IsAfterEnd, IsTruncated, SpellsLibrary, IsRead}
 use Rattle.gds_library.specs.Values.{drawings}
 use Rattle.gds_library.specs.Ends.{Tells, IsMalformed, is_read_kind}
 use Rattle.gds_library.specs.Shown.{shown, shown_at, done}
@@ -134,15 +134,15 @@ breach_no_read rs r TooManyCells h = refl
 
 -- where a record is refused, the input is stuck
 pub reads_stuck : (xs : List ℕ) (at : ℕ) (x : Reading) (left : Option (List ℕ)) (room k : ℕ) (payload ys : List ℕ) (f : GdsKind) (to : ReadTo xs at (HasRead x) left) → x.builder.place ≢ Fill → left ≡ Some ys → IsSpelledAt room ys k payload
-    → ((d : ℕ) → Breaches to.records (record_of k d payload) f) → Tells xs (At at f)
+    → ((d : ℕ) → Breaches to.records (record_of k d payload) f × BreachesOnly to.records (record_of k d payload) f) → Tells xs (At at f)
 reads_stuck xs at x left room k payload ys f to go e s breaches =
     let r : Rec = record_of k s.0 payload in
     let here : drop at xs ≡ s.1 ++ s.2 = same_left (drop at xs) ys left to.left_is e ∙ s.6 in
     let long = length_spelled s.1 payload k s.0 s.4 in
     let stands : at < length xs = omega (arith, long, ap length here, length-append s.1 s.2, length-drop at xs, to.within) in
-    tells_rule xs at to.records r f (breaches s.0) (
-      law_stuck xs at to.records r s.1 s.2 f stands to.front s.3 s.4 here (no_zero x to.records to.holds go) (breaches s.0),
-      record { records = to.records; front = to.front; r = r; bytes = s.1; rest = s.2; spelled = inl (s.3, s.4); stands = here; breached = breaches s.0 },
+    tells_rule xs at to.records r f (breaches s.0).0 (
+      law_stuck xs at to.records r s.1 s.2 f stands to.front s.3 s.4 here (no_zero x to.records to.holds go) (breaches s.0).0,
+      record { records = to.records; front = to.front; r = r; bytes = s.1; rest = s.2; spelled = inl (s.3, s.4); stands = here; breached = (breaches s.0).0; only = (breaches s.0).1 },
     )
 
 -- the beginning
@@ -270,7 +270,7 @@ reads_cut xs at x left to go cut = record {
 
 some_bytes : (room : ℕ) (xs : List ℕ) (f : RecordFault) → step room xs ≡ Err f → 0 < length xs
 unfolding step
-some_bytes room [] f e = (let z : Ok 0 ≡ Err f = e in cc)
+some_bytes room [] f e = cc
 some_bytes room (x ∷ xs) f e = omega arith
 
 -- where no record stands

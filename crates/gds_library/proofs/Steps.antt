@@ -10,7 +10,7 @@ use Rattle.gds_elements.specs.Types.{header, bgnlib, libname, units, bgnstr, str
 use Rattle.gds_elements.specs.Order.{IsWord, Begins, an_element, opens, has}
 use Rattle.gds_elements.specs.Rec.{Rec, kinds, is_type, is_opener, field}
 use Rattle.gds_elements.specs.Values.{short, name}
-use Rattle.gds_elements.specs.Rules.{IsKnown, IsName, ElementBreaches, ValueBreaches as BreachesInElement, InOrder as InOrderInElement, BreachesNone as KeepsElement}
+use Rattle.gds_elements.specs.Rules.{IsKnown, IsName, ElementBreaches, ValueBreaches as BreachesInElement, InOrder as InOrderInElement, BreachesNone as KeepsElement, BreachesOnly as OnlyInElement}
 use Rattle.gds_elements.specs.Misplaced.{Says}
 use Rattle.gds_elements.specs.Meaning.{in_rings, shapes_of, references_of}
 use Rattle.gds_elements.specs.Reading.{IsReading, IsDrawn, shapes_in, references_in}
@@ -29,7 +29,7 @@ use Rattle.gds_library.specs.Drawn.{KeptCell}
 use Rattle.gds_library.specs.Place.{after, left, LeadsTo, has_units}
 use Rattle.gds_library.specs.Rec.{Spells, pieces, last_piece}
 use Rattle.gds_library.specs.Values.{drawing, drawings, two_reals}
-use Rattle.gds_library.specs.Front.{InOrder, Breaches, BreachesNone, IsFront, cell_limit}
+use Rattle.gds_library.specs.Front.{InOrder, Breaches, BreachesOnly, BreachesNone, IsFront, cell_limit}
 use Rattle.gds_library.specs.Faults.{IsFault, IsAllowed}
 use Rattle.gds_library.specs.Shown.{grown, shown, shown_at, on_last, with_drawn}
 use Rattle.gds_library.specs.Holds.{Holds, IsInside, HoldsWith, HasRead, MayFollow, Takes}
@@ -106,12 +106,97 @@ law_fault b rs r Oblique h o l x = absurd x
 law_fault b rs r Repetition h o l x = absurd x
 law_fault b rs r TooManyCells h o l x = (stands b rs r h x.1, (x.0, omega (arith, x.2, shown_many b.place b, ap (λ ds. length ds) h.shown, kept_many rs)))
 
-pub says_fault : (b : Builder) (rs : List Rec) (r : Rec) (e : Refusal) → Holds b rs → OpensNothing b.place r.kind → r.kind < 60 → Says e (IsFault b.place (length b.cells.items) r.kind r.payload) → Says e (Breaches rs r)
-says_fault b rs r (Breach f) h o l x = law_fault b rs r f h o l x
-says_fault b rs r OutOfMemory h o l x = tt
-
 is_not : (k j : ℕ) → k == j ≡ false → k ≡ j → ⊥
 is_not k j n e = (let z : true ≡ false = sym (same_type k j e) ∙ n in cc)
+
+known_at : (b : Builder) (rs : List Rec) (r : Rec) (t : Option Place) → Holds b rs → OpensNothing b.place r.kind → r.kind < 60 → InOrder rs r → after b.place r.kind ≡ t → IsKnown r.kind
+known_at b rs r None h o l g e = absurd (leads_nowhere (kinds rs) b.place r.kind h.leads o e (subst (Begins a_library) (kinds-snoc rs r) g))
+known_at b rs r (Some q) h o l g e = known_after b.place q r.kind l e
+
+-- what may stand is known
+order_known : (b : Builder) (rs : List Rec) (r : Rec) → Holds b rs → OpensNothing b.place r.kind → r.kind < 60 → InOrder rs r → IsKnown r.kind
+order_known b rs r h o l g = known_at b rs r (after b.place r.kind) h o l g refl
+
+-- a record that may not stand breaches a rule of the order alone
+misplaced_only : (rs : List Rec) (r : Rec) → (InOrder rs r → ⊥) → (k : GdsKind) → Breaches rs r k → ((k ≡ Unexpected r.kind) × IsKnown r.kind) ⊎ ((k ≡ Unsupported r.kind) × (IsKnown r.kind → ⊥))
+misplaced_only rs r n (Record f) x = absurd (n x.0)
+misplaced_only rs r n (Unexpected j) x = inl (sym (ap (λ (i : ℕ). Unexpected i) x.0), subst IsKnown (sym x.0) x.1)
+misplaced_only rs r n (Unsupported j) x = inr (sym (ap (λ (i : ℕ). Unsupported i) x.0), λ z. x.2 (subst IsKnown x.0 z))
+misplaced_only rs r n Layer x = absurd (n x.0)
+misplaced_only rs r n Points x = absurd (n x.0)
+misplaced_only rs r n NotClosed x = absurd (n x.0)
+misplaced_only rs r n Strans x = absurd (n x.0)
+misplaced_only rs r n Magnification x = absurd (n x.0)
+misplaced_only rs r n Angle x = absurd (n x.0)
+misplaced_only rs r n ColRow x = absurd (n x.0)
+misplaced_only rs r n ArrayStep x = absurd (n x.0)
+misplaced_only rs r n Name x = absurd (n x.0)
+misplaced_only rs r n (Path f) x = absurd (n x.0)
+misplaced_only rs r n Width x = absurd (n x.0)
+misplaced_only rs r n PathType x = absurd (n x.0)
+misplaced_only rs r n AfterEnd x = absurd (n x.0)
+misplaced_only rs r n Oblique x = absurd (n x.0)
+misplaced_only rs r n Repetition x = absurd (n x.0)
+misplaced_only rs r n TooManyCells x = absurd (n x.0)
+
+-- one that may stand, and carries no value of an element, breaches the rule of names or that of their number
+one_value : (rs : List Rec) (r : Rec) → IsNoValue r.kind → InOrder rs r → IsKnown r.kind → (k : GdsKind) → Breaches rs r k → ((k ≡ Name) × (r.kind ≡ strname)) ⊎ ((k ≡ TooManyCells) × (r.kind ≡ bgnstr))
+one_value rs r v g i (Record f) x = absurd x.1
+one_value rs r v g i (Unexpected j) x = absurd (x.2 g)
+one_value rs r v g i (Unsupported j) x = absurd (x.2 (subst IsKnown x.0 i))
+one_value rs r v g i Layer x = absurd (elim x.1.0 [ inl y ↦ is_not r.kind layer v.layer y | inr y ↦ is_not r.kind datatype v.datatype y ])
+one_value rs r v g i Points x = absurd (is_not r.kind xy v.xy x.1.0)
+one_value rs r v g i NotClosed x = absurd (is_not r.kind xy v.xy x.1.0)
+one_value rs r v g i Strans x = absurd (is_not r.kind strans v.strans x.1.0)
+one_value rs r v g i Magnification x = absurd (is_not r.kind mag v.mag x.1.0)
+one_value rs r v g i Angle x = absurd (is_not r.kind angle v.angle x.1.0)
+one_value rs r v g i ColRow x = absurd (is_not r.kind colrow v.colrow x.1.0)
+one_value rs r v g i ArrayStep x = absurd (is_not r.kind xy v.xy x.1.0)
+one_value rs r v g i Name x = elim x.1 [ inl y ↦ inl (refl, y.0) | inr y ↦ absurd (is_not r.kind sname v.sname y.0) ]
+one_value rs r v g i (Path f) x = absurd (is_not r.kind xy v.xy x.1.0)
+one_value rs r v g i Width x = absurd (elim x.1.1 [ inl y ↦ is_not r.kind width v.width y.0 | inr y ↦ is_not r.kind xy v.xy y.0 ])
+one_value rs r v g i PathType x = absurd (is_not r.kind pathtype v.pathtype x.1.0)
+one_value rs r v g i AfterEnd x = absurd x.1
+one_value rs r v g i Oblique x = absurd (is_not r.kind xy v.xy x.1.0)
+one_value rs r v g i Repetition x = absurd (is_not r.kind colrow v.colrow x.1.0)
+one_value rs r v g i TooManyCells x = inr (refl, x.1.0)
+
+value_at : (b : Builder) (rs : List Rec) (r : Rec) (t : Option Place) → Holds b rs → OpensNothing b.place r.kind → r.kind < 60 → after b.place r.kind ≡ t → t ≢ None
+    → (k : GdsKind) → Breaches rs r k → ((k ≡ Name) × (r.kind ≡ strname)) ⊎ ((k ≡ TooManyCells) × (r.kind ≡ bgnstr))
+value_at b rs r None h o l e n = absurd (n refl)
+value_at b rs r (Some q) h o l e n =
+    let g = stands_at b rs r (Some q) h e n in
+    one_value rs r (outside_after b.place q r.kind e).no_value g (order_known b rs r h o l g)
+
+value_only : (b : Builder) (rs : List Rec) (r : Rec) → Holds b rs → OpensNothing b.place r.kind → r.kind < 60 → after b.place r.kind ≢ None
+    → (k : GdsKind) → Breaches rs r k → ((k ≡ Name) × (r.kind ≡ strname)) ⊎ ((k ≡ TooManyCells) × (r.kind ≡ bgnstr))
+value_only b rs r h o l n = value_at b rs r (after b.place r.kind) h o l refl n
+
+-- what is a fault at a place is the only one
+law_only : (b : Builder) (rs : List Rec) (r : Rec) (f : GdsKind) → Holds b rs → OpensNothing b.place r.kind → r.kind < 60 → IsFault b.place (length b.cells.items) r.kind r.payload f → BreachesOnly rs r f
+law_only b rs r (Record f) h o l x = absurd x
+law_only b rs r (Unexpected j) h o l x = λ i y. elim (misplaced_only rs r (λ g. leads_nowhere (kinds rs) b.place r.kind h.leads o x.2 (subst (Begins a_library) (kinds-snoc rs r) g)) i y) [ inl z ↦ z.0 ∙ ap (λ (i : ℕ). Unexpected i) (sym x.0) | inr z ↦ absurd (z.1 x.1) ]
+law_only b rs r (Unsupported j) h o l x = λ i y. elim (misplaced_only rs r (λ g. x.1 (order_known b rs r h o l g)) i y) [ inl z ↦ absurd (x.1 z.1) | inr z ↦ z.0 ∙ ap (λ (i : ℕ). Unsupported i) (sym x.0) ]
+law_only b rs r Layer h o l x = absurd x
+law_only b rs r Points h o l x = absurd x
+law_only b rs r NotClosed h o l x = absurd x
+law_only b rs r Strans h o l x = absurd x
+law_only b rs r Magnification h o l x = absurd x
+law_only b rs r Angle h o l x = absurd x
+law_only b rs r ColRow h o l x = absurd x
+law_only b rs r ArrayStep h o l x = absurd x
+law_only b rs r Name h o l x = λ i y. elim (value_only b rs r h o l x.1 i y) [ inl z ↦ z.0 | inr z ↦ absurd (omega (arith, x.0, z.1)) ]
+law_only b rs r (Path f) h o l x = absurd x
+law_only b rs r Width h o l x = absurd x
+law_only b rs r PathType h o l x = absurd x
+law_only b rs r AfterEnd h o l x = absurd x
+law_only b rs r Oblique h o l x = absurd x
+law_only b rs r Repetition h o l x = absurd x
+law_only b rs r TooManyCells h o l x = λ i y. elim (value_only b rs r h o l x.1 i y) [ inl z ↦ absurd (omega (arith, x.0, z.1)) | inr z ↦ z.0 ]
+
+pub says_fault : (b : Builder) (rs : List Rec) (r : Rec) (e : Refusal) → Holds b rs → OpensNothing b.place r.kind → r.kind < 60 → Says e (IsFault b.place (length b.cells.items) r.kind r.payload) → Says e (λ k. Breaches rs r k × BreachesOnly rs r k)
+says_fault b rs r (Breach f) h o l x = (law_fault b rs r f h o l x, law_only b rs r f h o l x)
+says_fault b rs r OutOfMemory h o l x = tt
 
 -- a record that carries no value of an element may follow where the order, its name and the number of cells allow it
 pub may_follow : (rs : List Rec) (r : Rec) → IsNoValue r.kind → InOrder rs r → (r.kind < 60 → IsKnown r.kind) → (r.kind ≡ strname → IsName (name r.payload))
@@ -190,15 +275,63 @@ breach_inside before piece r Oblique h o p x = (order_inside before piece r h x.
 breach_inside before piece r Repetition h o p x = (order_inside before piece r h x.0, subst (λ p. BreachesInElement p r Repetition) (sym (last_opened before piece p)) x.1)
 breach_inside before piece r TooManyCells h o p x = absurd x.1
 
-pub says_inside : (b : Builder) (e : Element) (rs : List Rec) (r : Rec) (f : Refusal) (i : IsInside b e rs) → Says f (ElementBreaches i.piece r) → Says f (Breaches rs r)
-says_inside b e rs r (Breach k) i x =
-    subst (λ l. Breaches l r k) (sym i.parts) (breach_inside i.before i.piece r k (subst (LeadsTo (kinds i.before)) i.at i.holds.leads) (reading_open e i.piece i.reading) (reading_piece e i.piece i.reading) x)
-says_inside b e rs r OutOfMemory i x = tt
+last_one : (P : Rec → Type 0) (xs : List Rec) (r : Rec) → AllByRecursion P (xs ++ r ∷ []) → P r
+last_one P [] r h = h.0
+last_one P (x ∷ xs) r h = last_one P xs r h.1
+
+last_lacks : (piece : List Rec) (r : Rec) (j : ℕ) → IsPiece (piece ++ r ∷ []) → opens j ≡ false → has behind_opener j ≡ false → r.kind == j ≡ false
+last_lacks piece r j p o n = last_one (λ i. i.kind == j ≡ false) piece r (piece_lacks (piece ++ r ∷ []) j p o n)
+
+-- a type that stands in no element may not stand in an open one
+never_inside : (before piece : List Rec) (r : Rec) (j : ℕ) → LeadsTo (kinds before) Elements → IsOpen (kinds piece) → IsPiece piece → InOrder (before ++ piece) r → opens j ≡ false → has behind_opener j ≡ false → r.kind ≡ j → ⊥
+never_inside before piece r j h o p g a b e =
+    let more : IsPiece (piece ++ r ∷ []) = record {
+      first = p.first;
+      rest = p.rest ++ r ∷ [];
+      parts = ap (λ l. l ++ r ∷ []) p.parts;
+      begun = subst (λ l. Begins an_element (kinds (l ++ r ∷ []))) p.parts (order_element before piece r h o g);
+    } in
+    is_not r.kind j (last_lacks piece r j more a b) e
+
+-- and only where it breaches one
+breach_back : (before piece : List Rec) (r : Rec) (k : GdsKind) → LeadsTo (kinds before) Elements → IsOpen (kinds piece) → IsPiece piece → Breaches (before ++ piece) r k → ElementBreaches piece r k
+breach_back before piece r (Record f) h o p x = absurd x.1
+breach_back before piece r (Unexpected j) h o p x = (x.0, x.1, λ g. x.2 (order_inside before piece r h g))
+breach_back before piece r (Unsupported j) h o p x = x
+breach_back before piece r Layer h o p x = (order_element before piece r h o x.0, subst (λ l. BreachesInElement l r Layer) (last_opened before piece p) x.1)
+breach_back before piece r Points h o p x = (order_element before piece r h o x.0, subst (λ l. BreachesInElement l r Points) (last_opened before piece p) x.1)
+breach_back before piece r NotClosed h o p x = (order_element before piece r h o x.0, subst (λ l. BreachesInElement l r NotClosed) (last_opened before piece p) x.1)
+breach_back before piece r Strans h o p x = (order_element before piece r h o x.0, subst (λ l. BreachesInElement l r Strans) (last_opened before piece p) x.1)
+breach_back before piece r Magnification h o p x = (order_element before piece r h o x.0, subst (λ l. BreachesInElement l r Magnification) (last_opened before piece p) x.1)
+breach_back before piece r Angle h o p x = (order_element before piece r h o x.0, subst (λ l. BreachesInElement l r Angle) (last_opened before piece p) x.1)
+breach_back before piece r ColRow h o p x = (order_element before piece r h o x.0, subst (λ l. BreachesInElement l r ColRow) (last_opened before piece p) x.1)
+breach_back before piece r ArrayStep h o p x = (order_element before piece r h o x.0, subst (λ l. BreachesInElement l r ArrayStep) (last_opened before piece p) x.1)
+breach_back before piece r Name h o p x = elim x.1 [ inl y ↦ absurd (never_inside before piece r strname h o p x.0 refl refl y.0) | inr y ↦ (order_element before piece r h o x.0, subst (λ l. BreachesInElement l r Name) (last_opened before piece p) y) ]
+breach_back before piece r (Path f) h o p x = (order_element before piece r h o x.0, subst (λ l. BreachesInElement l r (Path f)) (last_opened before piece p) x.1)
+breach_back before piece r Width h o p x = (order_element before piece r h o x.0, subst (λ l. BreachesInElement l r Width) (last_opened before piece p) x.1)
+breach_back before piece r PathType h o p x = (order_element before piece r h o x.0, subst (λ l. BreachesInElement l r PathType) (last_opened before piece p) x.1)
+breach_back before piece r AfterEnd h o p x = absurd x.1
+breach_back before piece r Oblique h o p x = (order_element before piece r h o x.0, subst (λ l. BreachesInElement l r Oblique) (last_opened before piece p) x.1)
+breach_back before piece r Repetition h o p x = (order_element before piece r h o x.0, subst (λ l. BreachesInElement l r Repetition) (last_opened before piece p) x.1)
+breach_back before piece r TooManyCells h o p x = absurd (never_inside before piece r bgnstr h o p x.0 refl refl x.1.0)
+
+breaches_both : (b : Builder) (e : Element) (rs : List Rec) (r : Rec) (k : GdsKind) (i : IsInside b e rs) → ElementBreaches i.piece r k → OnlyInElement i.piece r k → Breaches rs r k × BreachesOnly rs r k
+breaches_both b e rs r k i x only =
+    let h = subst (LeadsTo (kinds i.before)) i.at i.holds.leads in
+    let o = reading_open e i.piece i.reading in
+    let p = reading_piece e i.piece i.reading in (
+      subst (λ l. Breaches l r k) (sym i.parts) (breach_inside i.before i.piece r k h o p x),
+      λ j y. only j (breach_back i.before i.piece r j h o p (subst (λ l. Breaches l r j) i.parts y)),
+    )
+
+pub says_inside : (b : Builder) (e : Element) (rs : List Rec) (r : Rec) (f : Refusal) (i : IsInside b e rs) → Says f (ElementBreaches i.piece r) → Says f (OnlyInElement i.piece r) → Says f (λ k. Breaches rs r k × BreachesOnly rs r k)
+says_inside b e rs r (Breach k) i x only = breaches_both b e rs r k i x only
+says_inside b e rs r OutOfMemory i x only = tt
 
 -- what is refused with the same refusal
-pub takes_refused : (rs : List Rec) (r : Rec) (res : Result Reading Refusal) (e : Refusal) → IsErr res × IsErrAnd res (λ x. x ≡ e) → Says e (Breaches rs r) → Takes rs r res
+pub takes_refused : (rs : List Rec) (r : Rec) (res : Result Reading Refusal) (e : Refusal) → IsErr res × IsErrAnd res (λ x. x ≡ e) → Says e (λ k. Breaches rs r k × BreachesOnly rs r k) → Takes rs r res
 takes_refused rs r (Ok x) e h b = absurd h.1
-takes_refused rs r (Err x) e h b = subst (λ (i : Refusal). Says i (Breaches rs r)) (sym h.1) b
+takes_refused rs r (Err x) e h b = subst (λ (i : Refusal). Says i (λ k. Breaches rs r k × BreachesOnly rs r k)) (sym h.1) b
 
 pub no_tail : (before : List Rec) (s : Rec) (after : List Rec) → [] ≡ before ++ s ∷ after → ⊥
 no_tail [] s after e = cc
@@ -280,13 +413,6 @@ law_element b b' before piece d h at w dr p v u s =
       version = v ∙ h.version ∙ sym (ap short (field_past header before piece (piece_lacks piece header pc refl refl)));
       units = λ z. u ∙ h.units (ap has_units at) ∙ sym (ap two_reals (field_past units before piece (piece_lacks piece units pc refl refl)));
     }
-
-last_one : (P : Rec → Type 0) (xs : List Rec) (r : Rec) → AllByRecursion P (xs ++ r ∷ []) → P r
-last_one P [] r h = h.0
-last_one P (x ∷ xs) r h = last_one P xs r h.1
-
-last_lacks : (piece : List Rec) (r : Rec) (j : ℕ) → IsPiece (piece ++ r ∷ []) → opens j ≡ false → has behind_opener j ≡ false → r.kind == j ≡ false
-last_lacks piece r j p o n = last_one (λ i. i.kind == j ≡ false) piece r (piece_lacks (piece ++ r ∷ []) j p o n)
 
 -- what begins with the records of an open element begins a library
 pub inside_begins : (b : Builder) (e : Element) (rs : List Rec) → IsInside b e rs → Begins a_library (kinds rs)

@@ -38,6 +38,10 @@ Breaches before r (Unexpected k) = (r.kind ≡ k) × IsKnown k × ¬ InOrder bef
 Breaches before r (Unsupported k) = (r.kind ≡ k) × (k < 60) × ¬ IsKnown k
 Breaches before r k = InOrder before r × ValueBreaches before r k
 
+-- it breaches no other rule
+abbrev pub BreachesOnly : List Rec → Rec → GdsKind → Type 0
+BreachesOnly before r k = (j : GdsKind) → Breaches before r j → j ≡ k
+
 -- no record breaches a rule
 abbrev pub BreachesNone : List Rec → Type 0
 BreachesNone rs = (before after : List Rec) (r : Rec) (k : GdsKind) → rs ≡ before ++ r ∷ after → Breaches before r k → ⊥
@@ -78,7 +82,7 @@ pub record IsStuck (xs : List ℕ) (at : ℕ) : Type 0 where
   pub front : IsFront (take at xs) records
   pub none : (rs : List Rec) (bytes : List ℕ) → IsFront bytes rs → at < length bytes → Agree bytes xs → ⊥
 
--- the record at the offset breaches the rule
+-- the record at the offset breaches the rule, and no other
 pub record IsBreached (xs : List ℕ) (at : ℕ) (k : GdsKind) : Type 0 where
   pub records : List Rec
   pub front : IsFront (take at xs) records
@@ -88,6 +92,7 @@ pub record IsBreached (xs : List ℕ) (at : ℕ) (k : GdsKind) : Type 0 where
   pub spelled : Spells bytes r
   pub stands : drop at xs ≡ bytes ++ rest
   pub breached : Breaches records r k
+  pub only : BreachesOnly records r k
 
 -- behind the end of a library and zero bytes stands a byte that isn't zero
 pub record IsAfterEnd (xs : List ℕ) (at : ℕ) : Type 0 where

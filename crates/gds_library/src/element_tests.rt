@@ -254,3 +254,14 @@ fn names_each_fault_where_it_stands(rt: HostRuntime) -> Result<(), Fail> {
     }
     Ok(())
 }
+
+#[test]
+fn growths(rt: HostRuntime) -> Result<(), Fail> {
+    let stream = with_path(rt.alloc(), Some(2), 4, &CORNER)?;
+    let library = read(rt.alloc(), &stream)?;
+    assert_eq!(rt; library.cells.len(), 1);
+    let stream = with_array(rt.alloc(), 3, 2, &[(0, 0), (30, 0), (0, 20)])?;
+    let library = read(rt.alloc(), &stream)?;
+    assert_eq!(rt; library.cells.len(), 2);
+    Ok(())
+}

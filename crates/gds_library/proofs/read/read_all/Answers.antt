@@ -98,7 +98,7 @@ returns-then-is_whole-clause-whole g c = (
 
 pub returns-in-Err-Breach-clause-reads : goal.returns-in-Err-Breach-clause-reads
 returns-in-Err-Breach-clause-reads g c =
-    let breach : Breaches c.loop.invariant.6 (record_of c.in-Ok-Some.record.kind 0 c.in-Ok-Some.record.payload.now) c.in-Err-Breach.kind = rw c.in-Err-Breach.field-0-is at (c.in-Err-Breach.ensures c.loop.invariant.6 0 c.loop.invariant.7) in
+    let breach : Breaches c.loop.invariant.6 (record_of c.in-Ok-Some.record.kind 0 c.in-Ok-Some.record.payload.now) c.in-Err-Breach.kind = (rw c.in-Err-Breach.field-0-is at (c.in-Err-Breach.ensures c.loop.invariant.6 0 c.loop.invariant.7)).0 in
     let is : c.next.result ≡ Ok (Some c.in-Ok-Some.record) = c.in-Ok-Some.is ∙ ap Ok c.in-Ok-Some.field-0-is in
     let p = next_took g.R.Read.remaining g.R.Read.read_errors g.R.Read.lent c.loop.records c.next.follows.lender-at-none c.next.result c.in-Ok-Some.record is c.next.follows.holds-at-none in
     rw (c.in-Err-Breach.field-0-is, breach_no_read c.loop.invariant.6 _ c.in-Err-Breach.kind breach) (p.counted ∙ c.loop.invariant.4)

@@ -8,7 +8,7 @@ pub returns-in_err-element : goal.returns-in_err-element
 returns-in_err-element c = λ rs d i.
     let r = record_of c.args.kind d c.args.payload.now in
     let e = c.in_err-element.field-0.0 in
-    takes_refused rs r c.from_residual.result e c.from_residual.ensures (says_inside c.args.builder c.args.element rs r e i (c.in_err-element.ensures.refused i.piece r i.reading refl refl))
+    takes_refused rs r c.from_residual.result e c.from_residual.ensures (says_inside c.args.builder c.args.element rs r e i (c.in_err-element.ensures.refused i.piece r i.reading refl refl) (c.in_err-element.ensures.alone i.piece r i.reading refl refl))
 
 pub returns-in-Open : goal.returns-in-Open
 returns-in-Open c = λ rs d i.
