@@ -1,176 +1,114 @@
--- What one record more does to the library that is spelled.
-use Rattle.std.proofs.Common.{◌≡◌, ◌==◌, ℕ, Bool, true, false, if◌then◌else◌, List, [], ◌∷◌, ◌++◌, reverse, Some, map, refl, sym, ap, ◌∙◌}
-use Rattle.std.specs.Prelude.{Option, find}
-use Rattle.std.proofs.lemmas.List.{reverse-append}
-use Rattle.gds_library.proofs.Grown.{map-snoc}
-use Rattle.lvl_path.specs.Figure.{figure_rings}
-use Rattle.lvl_cells.specs.Cells.{drawn, kept}
-use Rattle.gds_library.specs.Drawn.{KeptShape, KeptCell, one_place}
-use Rattle.gds_library.specs.Types.{bgnstr, strname, boundary, layer, datatype, xy}
-use Rattle.gds_library.specs.Rec.{Rec, pieces, until, is_type, field, payload_of}
-use Rattle.gds_library.specs.Values.{short, points, name, magnitude, but_last, shape, drawing, drawings}
-use Rattle.gds_library.specs.Reading.{on_last, grown, grown_drawing, grown_figure, no_drawing, no_figure}
-use Rattle.gds_library.proofs.Orders.{type_same}
+-- What one record more, or one element more, does to the library that is spelled.
+use Rattle.std.proofs.Common.{◌≡◌, ◌==◌, ℕ, Bool, true, false, if◌then◌else◌, List, [], ◌∷◌, ◌++◌, map, Some, refl, sym, ap, ◌∙◌}
+use Rattle.std.proofs.lemmas.List.{append-nil}
+use Rattle.std.proofs.lemmas.Grind.{flat_map-append}
+use Rattle.std.specs.List.{flat_map}
+use Rattle.lvl_path.specs.Figure.{Figure, figure_rings}
+use Rattle.lvl_cells.specs.Cells.{PlainShape, PlainReference, drawn, kept}
+use Rattle.gds_elements.specs.Types.{bgnstr, strname, boundary, path, sref, aref, layer, datatype, width, xy, sname, colrow, strans, angle, pathtype}
+use Rattle.gds_elements.specs.Order.{IsWord, an_element}
+use Rattle.gds_elements.specs.Rec.{Rec, kinds, is_type, is_opener, opener, field, last_of}
+use Rattle.gds_elements.specs.Values.{name}
+use Rattle.gds_elements.specs.Meaning.{shapes_of, references_of, shapes_by, references_by, in_rings}
+use Rattle.gds_elements.proofs.Orders.{type_same}
+use Rattle.gds_elements.proofs.Fields.{last_there, field_there, field-snoc}
+use Rattle.gds_library.specs.Drawn.{Drawing, KeptShape, KeptCell}
+use Rattle.gds_library.specs.Rec.{pieces}
+use Rattle.gds_library.specs.Values.{drawing, drawings}
+use Rattle.gds_library.specs.Shown.{on_last, grown, grown_cell, no_cell, with_drawn}
+use Rattle.gds_library.proofs.Outside.{IsOutside}
+use Rattle.gds_library.proofs.Elements.{opens_none}
+use Rattle.gds_library.proofs.Pieces.{IsPiece, if_ap, map-snoc, map_on_last, pieces-snoc, opener_piece, structure_piece, field_past, piece_lacks, if_not}
 
-reverse-snoc : {A : Type 0} (xs : List A) (x : A) → reverse (xs ++ x ∷ []) ≡ x ∷ reverse xs
-reverse-snoc xs x = reverse-append xs (x ∷ [])
+-- what records mean, with one more that stands outside of elements
+shapes_same : (piece : List Rec) (r : Rec) → IsOutside r.kind → shapes_of (piece ++ r ∷ []) ≡ shapes_of piece
+shapes_same [] r o = rw ((opens_none r.kind o.opens).boundary, (opens_none r.kind o.opens).path) refl
+shapes_same (x ∷ xs) r o =
+    rw (last_there layer (x ∷ xs) r o.no_value.layer, last_there datatype (x ∷ xs) r o.no_value.datatype, last_there xy (x ∷ xs) r o.no_value.xy, last_there width (x ∷ xs) r o.no_value.width, last_there pathtype (x ∷ xs) r o.no_value.pathtype) refl
 
-find_more : (b : Bool) (r : Rec) (o : Option Rec) → payload_of (if b then Some r else o) ≡ (if b then r.payload else payload_of o)
-find_more true r o = refl
-find_more false r o = refl
+references_same : (piece : List Rec) (r : Rec) → IsOutside r.kind → references_of (piece ++ r ∷ []) ≡ references_of piece
+references_same [] r o = rw ((opens_none r.kind o.opens).sref, (opens_none r.kind o.opens).aref) refl
+references_same (x ∷ xs) r o =
+    rw (last_there sname (x ∷ xs) r o.no_value.sname, last_there strans (x ∷ xs) r o.no_value.strans, last_there angle (x ∷ xs) r o.no_value.angle, last_there xy (x ∷ xs) r o.no_value.xy, last_there colrow (x ∷ xs) r o.no_value.colrow) refl
 
--- the last record of a type, with one record more
-pub field-snoc : (k : ℕ) (rs : List Rec) (r : Rec) → field k (rs ++ r ∷ []) ≡ (if r.kind == k then r.payload else field k rs)
-field-snoc k rs r = ap (λ l. payload_of (find (is_type k) l)) (reverse-snoc rs r) ∙ find_more (r.kind == k) r (find (is_type k) (reverse rs))
+flat_same : {A : Type 0} (f : List Rec → List A) (g : List Rec → List Rec) → ((p : List Rec) → f (g p) ≡ f p) → (ps : List (List Rec)) → flat_map f (on_last g ps) ≡ flat_map f ps
+flat_same f g h [] = refl
+flat_same f g h (p ∷ []) = ap (λ l. l ++ []) (h p)
+flat_same f g h (p ∷ q ∷ ps) = ap (λ l. f p ++ l) (flat_same f g h (q ∷ ps))
 
-pub if_ap : {A B : Type 0} (f : A → B) (b : Bool) (x y : A) → f (if b then x else y) ≡ (if b then f x else f y)
-if_ap f true x y = refl
-if_ap f false x y = refl
+flat_more : {A : Type 0} (f : List Rec → List A) (ps : List (List Rec)) (p : List Rec) → flat_map f (ps ++ p ∷ []) ≡ flat_map f ps ++ f p
+flat_more f ps p = flat_map-append f ps (p ∷ []) ∙ ap (λ l. flat_map f ps ++ l) (append-nil (f p))
 
-if_not : {A : Type 0} (b : Bool) (x y : A) → b ≡ false → (if b then x else y) ≡ y
-if_not b x y e = rw e refl
+rings_append : (xs ys : List (PlainShape Figure)) → map in_rings (xs ++ ys) ≡ map in_rings xs ++ map in_rings ys
+rings_append [] ys = refl
+rings_append (x ∷ xs) ys = ap (λ l. in_rings x ∷ l) (rings_append xs ys)
 
-if_so : {A : Type 0} (b : Bool) (x y : A) → b ≡ true → (if b then x else y) ≡ x
-if_so b x y e = rw e refl
+-- a structure's cell as it is kept
+cell_from : List ℕ → List (PlainShape Figure) → List PlainReference → KeptCell
+cell_from n shapes references = record { name = name n; shapes = map in_rings shapes; references = references }
 
-until_stop_at : {A : Type 0} (test : A → Bool) (x : A) (xs : List A) (y : A) (p : List A) (ps : List (List A)) → (pieces test xs ≡ p ∷ ps → until test (xs ++ y ∷ []) ≡ until test xs)
-    → (b : Bool) → test x ≡ b → (if test x then (x ∷ until test xs) ∷ pieces test xs else pieces test xs) ≡ p ∷ ps
-    → until test ((x ∷ xs) ++ y ∷ []) ≡ until test (x ∷ xs)
-until_stop_at test x xs y p ps h true t e = rw t refl
-until_stop_at test x xs y p ps h false t e = rw t (ap (λ l. x ∷ l) (h (rw t at e)))
-
-until_all_at : {A : Type 0} (test : A → Bool) (x : A) (xs : List A) (y : A) → (pieces test xs ≡ [] → until test (xs ++ y ∷ []) ≡ (if test y then xs else xs ++ y ∷ []))
-    → (b : Bool) → test x ≡ b → (if test x then (x ∷ until test xs) ∷ pieces test xs else pieces test xs) ≡ []
-    → until test ((x ∷ xs) ++ y ∷ []) ≡ (if test y then x ∷ xs else (x ∷ xs) ++ y ∷ [])
-until_all_at test x xs y h true t e = (let z : (x ∷ until test xs) ∷ pieces test xs ≡ [] = rw t at e in cc)
-until_all_at test x xs y h false t e = rw t (ap (λ l. x ∷ l) (h (rw t at e)) ∙ if_ap (λ l. x ∷ l) (test y) xs (xs ++ y ∷ []))
-
--- up to the first that passes the test, with one item more
-until_stop : {A : Type 0} (test : A → Bool) (xs : List A) (y : A) (p : List A) (ps : List (List A)) → pieces test xs ≡ p ∷ ps → until test (xs ++ y ∷ []) ≡ until test xs
-until_stop test [] y p ps e = cc
-until_stop test (x ∷ xs) y p ps e = until_stop_at test x xs y p ps (until_stop test xs y p ps) (test x) refl e
-
-until_all : {A : Type 0} (test : A → Bool) (xs : List A) (y : A) → pieces test xs ≡ [] → until test (xs ++ y ∷ []) ≡ (if test y then xs else xs ++ y ∷ [])
-until_all test [] y e = refl
-until_all test (x ∷ xs) y e = until_all_at test x xs y (until_all test xs y) (test x) refl e
-
-until_none_at : {A : Type 0} (test : A → Bool) (x : A) (xs : List A) → (pieces test xs ≡ [] → until test xs ≡ xs) → (b : Bool) → test x ≡ b
-    → (if test x then (x ∷ until test xs) ∷ pieces test xs else pieces test xs) ≡ [] → until test (x ∷ xs) ≡ x ∷ xs
-until_none_at test x xs h true t e = (let z : (x ∷ until test xs) ∷ pieces test xs ≡ [] = rw t at e in cc)
-until_none_at test x xs h false t e = rw t (ap (λ l. x ∷ l) (h (rw t at e)))
-
--- where no item passes the test, none stops
-until_none : {A : Type 0} (test : A → Bool) (xs : List A) → pieces test xs ≡ [] → until test xs ≡ xs
-until_none test [] e = refl
-until_none test (x ∷ xs) e = until_none_at test x xs (until_none test xs) (test x) refl e
-
-by_last : {A : Type 0} (b : Bool) (test : A → Bool) (x : A) (xs : List A) (y : A) → until test (xs ++ y ∷ []) ≡ (if b then xs else xs ++ y ∷ []) → until test xs ≡ xs
-    → pieces test (xs ++ y ∷ []) ≡ (if b then [] ++ (y ∷ []) ∷ [] else [])
-    → (x ∷ until test (xs ++ y ∷ [])) ∷ pieces test (xs ++ y ∷ []) ≡ (if b then ((x ∷ until test xs) ∷ []) ++ (y ∷ []) ∷ [] else (x ∷ until test xs ++ y ∷ []) ∷ [])
-by_last true test x xs y u n h = rw (u, n, h) refl
-by_last false test x xs y u n h = rw (u, n, h) refl
-
--- the piece that begins at x takes the item where no other piece begins behind it
-last_grown : {A : Type 0} (test : A → Bool) (x : A) (xs : List A) (y : A) (ps : List (List A)) → pieces test xs ≡ ps
-    → pieces test (xs ++ y ∷ []) ≡ (if test y then ps ++ (y ∷ []) ∷ [] else on_last (λ p. p ++ y ∷ []) ps)
-    → (x ∷ until test (xs ++ y ∷ [])) ∷ pieces test (xs ++ y ∷ []) ≡ (if test y then ((x ∷ until test xs) ∷ ps) ++ (y ∷ []) ∷ [] else on_last (λ p. p ++ y ∷ []) ((x ∷ until test xs) ∷ ps))
-last_grown test x xs y [] n h = by_last (test y) test x xs y (until_all test xs y n) (until_none test xs n) h
-last_grown test x xs y (p ∷ ps) n h =
-    ap (λ l. (x ∷ l) ∷ pieces test (xs ++ y ∷ [])) (until_stop test xs y p ps n) ∙ ap (λ l. (x ∷ until test xs) ∷ l) h
-    ∙ if_ap (λ l. (x ∷ until test xs) ∷ l) (test y) ((p ∷ ps) ++ (y ∷ []) ∷ []) (on_last (λ p. p ++ y ∷ []) (p ∷ ps))
-
-pieces_at : {A : Type 0} (test : A → Bool) (x : A) (xs : List A) (y : A) (b : Bool) → test x ≡ b
-    → pieces test (xs ++ y ∷ []) ≡ (if test y then pieces test xs ++ (y ∷ []) ∷ [] else on_last (λ p. p ++ y ∷ []) (pieces test xs))
-    → pieces test ((x ∷ xs) ++ y ∷ []) ≡ (if test y then pieces test (x ∷ xs) ++ (y ∷ []) ∷ [] else on_last (λ p. p ++ y ∷ []) (pieces test (x ∷ xs)))
-pieces_at test x xs y true t h = rw t (last_grown test x xs y (pieces test xs) refl h)
-pieces_at test x xs y false t h = rw t h
-
-pub pieces-snoc : {A : Type 0} (test : A → Bool) (xs : List A) (y : A)
-    → pieces test (xs ++ y ∷ []) ≡ (if test y then pieces test xs ++ (y ∷ []) ∷ [] else on_last (λ p. p ++ y ∷ []) (pieces test xs))
-pieces-snoc test [] y = refl
-pieces-snoc test (x ∷ xs) y = pieces_at test x xs y (test x) refl (pieces-snoc test xs y)
-
-map_on_last : {A B : Type 0} (f : A → B) (g : A → A) (h : B → B) → ((x : A) → f (g x) ≡ h (f x)) → (xs : List A) → map f (on_last g xs) ≡ on_last h (map f xs)
-map_on_last f g h e [] = refl
-map_on_last f g h e (x ∷ []) = ap (λ l. l ∷ []) (e x)
-map_on_last f g h e (x ∷ y ∷ ys) = ap (λ l. f x ∷ l) (map_on_last f g h e (y ∷ ys))
-
--- a boundary, a cell and a library as they are kept
-abbrev kept_shape : List Rec → KeptShape
-kept_shape rs = record {
-  layer = record { layer = magnitude (short (field layer rs)); datatype = magnitude (short (field datatype rs)) };
-  figure = but_last (points (field xy rs)) ∷ [];
-  shifts = one_place;
-}
-
-abbrev kept_cell : List Rec → KeptCell
-kept_cell rs = record { name = name (field strname rs); shapes = map kept_shape (pieces (is_type boundary) rs); references = [] }
-
-kept_shapes : (ps : List (List Rec)) (n : List ℕ) → drawn figure_rings (record { name = n; shapes = map shape ps; references = [] }) ≡ record { name = n; shapes = map kept_shape ps; references = [] }
-kept_shapes [] n = refl
-kept_shapes (p ∷ ps) n = ap (λ (c : KeptCell). let d : KeptCell = record { name = c.name; shapes = kept_shape p ∷ c.shapes; references = [] } in d) (kept_shapes ps n)
+kept_cell : List Rec → KeptCell
+kept_cell rs = cell_from (field strname rs) (flat_map shapes_of (pieces is_opener rs)) (flat_map references_of (pieces is_opener rs))
 
 kept_cells : (ps : List (List Rec)) → kept figure_rings (map drawing ps) ≡ map kept_cell ps
+unfolding kept_cell cell_from
 kept_cells [] = refl
-kept_cells (p ∷ ps) = ap (λ (c : KeptCell). c ∷ kept figure_rings (map drawing ps)) (kept_shapes (pieces (is_type boundary) p) (name (field strname p))) ∙ ap (λ cs. kept_cell p ∷ cs) (kept_cells ps)
+kept_cells (p ∷ ps) = ap (λ l. drawn figure_rings (drawing p) ∷ l) (kept_cells ps)
 
-figure_from : List ℕ → List ℕ → List ℕ → KeptShape
-figure_from a b c = record {
-  layer = record { layer = magnitude (short a); datatype = magnitude (short b) };
-  figure = but_last (points c) ∷ [];
-  shifts = one_place;
-}
+name_grown : (b : Bool) (k : ℕ) (payload n : List ℕ) (shapes : List (PlainShape Figure)) (references : List PlainReference) → k == strname ≡ b
+    → cell_from (if k == strname then payload else n) shapes references ≡ grown_cell k payload (cell_from n shapes references)
+unfolding cell_from
+name_grown true k payload n shapes references e = rw e refl
+name_grown false k payload n shapes references e = rw e refl
 
-figure_with : (k : ℕ) (p a b c : List ℕ) (l d x : Bool) → l ≡ k == layer → d ≡ k == datatype → x ≡ k == xy
-    → figure_from (if l then p else a) (if d then p else b) (if x then p else c) ≡ grown_figure k p (figure_from a b c)
-unfolding figure_from
-figure_with k p a b c l d x e f g =
-    rw (← e, ← f, ← g, if_ap (λ (y : List ℕ). magnitude (short y)) l p a, if_ap (λ (y : List ℕ). magnitude (short y)) d p b, if_ap (λ (y : List ℕ). but_last (points y) ∷ []) x p c) refl
+-- a cell with one record more that stands outside of elements
+cell-snoc : (rs : List Rec) (r : Rec) → IsOutside r.kind → kept_cell (rs ++ r ∷ []) ≡ grown_cell r.kind r.payload (kept_cell rs)
+unfolding kept_cell
+cell-snoc rs r o =
+    let ps : pieces is_opener (rs ++ r ∷ []) ≡ on_last (λ p. p ++ r ∷ []) (pieces is_opener rs) = pieces-snoc is_opener rs r ∙ if_not (is_opener r) _ _ o.opens in
+    ap (λ n. cell_from n (flat_map shapes_of (pieces is_opener (rs ++ r ∷ []))) (flat_map references_of (pieces is_opener (rs ++ r ∷ [])))) (field-snoc strname rs r)
+    ∙ ap (λ l. cell_from (if r.kind == strname then r.payload else field strname rs) l (flat_map references_of (pieces is_opener (rs ++ r ∷ [])))) (ap (flat_map shapes_of) ps ∙ flat_same shapes_of (λ p. p ++ r ∷ []) (λ p. shapes_same p r o) (pieces is_opener rs))
+    ∙ ap (λ l. cell_from (if r.kind == strname then r.payload else field strname rs) (flat_map shapes_of (pieces is_opener rs)) l) (ap (flat_map references_of) ps ∙ flat_same references_of (λ p. p ++ r ∷ []) (λ p. references_same p r o) (pieces is_opener rs))
+    ∙ name_grown (r.kind == strname) r.kind r.payload (field strname rs) (flat_map shapes_of (pieces is_opener rs)) (flat_map references_of (pieces is_opener rs)) refl
 
--- a figure with one record more
-pub figure-snoc : (rs : List Rec) (r : Rec) → kept_shape (rs ++ r ∷ []) ≡ grown_figure r.kind r.payload (kept_shape rs)
-unfolding figure_from
-figure-snoc rs r =
-    ap (λ y. figure_from y (field datatype (rs ++ r ∷ [])) (field xy (rs ++ r ∷ []))) (field-snoc layer rs r)
-    ∙ ap (λ y. figure_from (if r.kind == layer then r.payload else field layer rs) y (field xy (rs ++ r ∷ []))) (field-snoc datatype rs r)
-    ∙ ap (λ y. figure_from (if r.kind == layer then r.payload else field layer rs) (if r.kind == datatype then r.payload else field datatype rs) y) (field-snoc xy rs r)
-    ∙ figure_with r.kind r.payload (field layer rs) (field datatype rs) (field xy rs) (r.kind == layer) (r.kind == datatype) (r.kind == xy) refl refl refl
-
-figure_one : (r : Rec) → r.kind == boundary ≡ true → kept_shape (r ∷ []) ≡ no_figure
-figure_one r e =
-    ap (λ (k : ℕ). let x : Rec = record { kind = k; data_type = r.data_type; payload = r.payload } in kept_shape (x ∷ [])) (type_same r.kind boundary e)
-
-figures_at : (rs : List Rec) (r : Rec) (b : Bool) → r.kind == boundary ≡ b
-    → map kept_shape (if b then pieces (is_type boundary) rs ++ (r ∷ []) ∷ [] else on_last (λ p. p ++ r ∷ []) (pieces (is_type boundary) rs))
-    ≡ (if b then map kept_shape (pieces (is_type boundary) rs) ++ no_figure ∷ [] else on_last (grown_figure r.kind r.payload) (map kept_shape (pieces (is_type boundary) rs)))
-figures_at rs r true e = map-snoc kept_shape (pieces (is_type boundary) rs) (r ∷ []) ∙ ap (λ f. map kept_shape (pieces (is_type boundary) rs) ++ f ∷ []) (figure_one r e)
-figures_at rs r false e = map_on_last kept_shape (λ p. p ++ r ∷ []) (grown_figure r.kind r.payload) (λ p. figure-snoc p r) (pieces (is_type boundary) rs)
-
-drawing_from : List ℕ → List KeptShape → KeptCell
-drawing_from n fs = record { name = n; shapes = fs; references = [] }
-
--- a cell with one record more
-pub drawing-snoc : (rs : List Rec) (r : Rec) → kept_cell (rs ++ r ∷ []) ≡ grown_drawing r.kind r.payload (kept_cell rs)
-unfolding drawing_from
-drawing-snoc rs r =
-    ap (λ y. drawing_from (name y) (map kept_shape (pieces (is_type boundary) (rs ++ r ∷ [])))) (field-snoc strname rs r)
-    ∙ ap (λ y. drawing_from y (map kept_shape (pieces (is_type boundary) (rs ++ r ∷ [])))) (if_ap name (r.kind == strname) r.payload (field strname rs))
-    ∙ ap (λ y. drawing_from (if r.kind == strname then name r.payload else name (field strname rs)) (map kept_shape y)) (pieces-snoc (is_type boundary) rs r)
-    ∙ ap (λ y. drawing_from (if r.kind == strname then name r.payload else name (field strname rs)) y) (figures_at rs r (r.kind == boundary) refl)
-
-drawing_one : (r : Rec) → r.kind == bgnstr ≡ true → kept_cell (r ∷ []) ≡ no_drawing
-drawing_one r e =
+cell_one : (r : Rec) → r.kind == bgnstr ≡ true → kept_cell (r ∷ []) ≡ no_cell
+unfolding kept_cell cell_from
+cell_one r e =
     ap (λ (k : ℕ). let x : Rec = record { kind = k; data_type = r.data_type; payload = r.payload } in kept_cell (x ∷ [])) (type_same r.kind bgnstr e)
 
-drawings_at : (rs : List Rec) (r : Rec) (b : Bool) → r.kind == bgnstr ≡ b
+cells_at : (rs : List Rec) (r : Rec) (b : Bool) → IsOutside r.kind → r.kind == bgnstr ≡ b
     → map kept_cell (if b then pieces (is_type bgnstr) rs ++ (r ∷ []) ∷ [] else on_last (λ p. p ++ r ∷ []) (pieces (is_type bgnstr) rs))
-    ≡ (if b then map kept_cell (pieces (is_type bgnstr) rs) ++ no_drawing ∷ [] else on_last (grown_drawing r.kind r.payload) (map kept_cell (pieces (is_type bgnstr) rs)))
-drawings_at rs r true e = map-snoc kept_cell (pieces (is_type bgnstr) rs) (r ∷ []) ∙ ap (λ f. map kept_cell (pieces (is_type bgnstr) rs) ++ f ∷ []) (drawing_one r e)
-drawings_at rs r false e = map_on_last kept_cell (λ p. p ++ r ∷ []) (grown_drawing r.kind r.payload) (λ p. drawing-snoc p r) (pieces (is_type bgnstr) rs)
+    ≡ (if b then map kept_cell (pieces (is_type bgnstr) rs) ++ no_cell ∷ [] else on_last (grown_cell r.kind r.payload) (map kept_cell (pieces (is_type bgnstr) rs)))
+cells_at rs r true o e = map-snoc kept_cell (pieces (is_type bgnstr) rs) (r ∷ []) ∙ ap (λ f. map kept_cell (pieces (is_type bgnstr) rs) ++ f ∷ []) (cell_one r e)
+cells_at rs r false o e = map_on_last kept_cell (λ p. p ++ r ∷ []) (grown_cell r.kind r.payload) (λ p. cell-snoc p r o) (pieces (is_type bgnstr) rs)
 
--- a library with one record more
-pub drawings-snoc : (rs : List Rec) (r : Rec) → kept figure_rings (drawings (rs ++ r ∷ [])) ≡ grown r.kind r.payload (kept figure_rings (drawings rs))
-drawings-snoc rs r =
+-- a library with one record more that stands outside of elements
+pub drawings-snoc : (rs : List Rec) (r : Rec) → IsOutside r.kind → kept figure_rings (drawings (rs ++ r ∷ [])) ≡ grown r.kind r.payload (kept figure_rings (drawings rs))
+drawings-snoc rs r o =
     kept_cells (pieces (is_type bgnstr) (rs ++ r ∷ []))
-    ∙ ap (map kept_cell) (pieces-snoc (is_type bgnstr) rs r) ∙ drawings_at rs r (r.kind == bgnstr) refl
+    ∙ ap (map kept_cell) (pieces-snoc (is_type bgnstr) rs r) ∙ cells_at rs r (r.kind == bgnstr) o refl
     ∙ ap (grown r.kind r.payload) (sym (kept_cells (pieces (is_type bgnstr) rs)))
+
+with_more : (n : List ℕ) (shapes more : List (PlainShape Figure)) (references others : List PlainReference)
+    → cell_from n (shapes ++ more) (references ++ others) ≡ with_drawn (map in_rings more) others (cell_from n shapes references)
+unfolding cell_from
+with_more n shapes more references others =
+    ap (λ (l : List KeptShape). let c : KeptCell = record { name = name n; shapes = l; references = references ++ others } in c) (rings_append shapes more)
+
+-- a cell with one element more
+cell_element : (rs piece : List Rec) → IsPiece piece → kept_cell (rs ++ piece) ≡ with_drawn (map in_rings (shapes_of piece)) (references_of piece) (kept_cell rs)
+unfolding kept_cell
+cell_element rs piece p =
+    let ps = opener_piece rs piece p in
+    ap (λ n. cell_from n (flat_map shapes_of (pieces is_opener (rs ++ piece))) (flat_map references_of (pieces is_opener (rs ++ piece)))) (field_past strname rs piece (piece_lacks piece strname p refl refl))
+    ∙ ap (λ l. cell_from (field strname rs) l (flat_map references_of (pieces is_opener (rs ++ piece)))) (ap (flat_map shapes_of) ps ∙ flat_more shapes_of (pieces is_opener rs) piece)
+    ∙ ap (λ l. cell_from (field strname rs) (flat_map shapes_of (pieces is_opener rs) ++ shapes_of piece) l) (ap (flat_map references_of) ps ∙ flat_more references_of (pieces is_opener rs) piece)
+    ∙ with_more (field strname rs) (flat_map shapes_of (pieces is_opener rs)) (shapes_of piece) (flat_map references_of (pieces is_opener rs)) (references_of piece)
+
+-- a library with one element more
+pub drawings_element : (rs piece : List Rec) → IsPiece piece → kept figure_rings (drawings (rs ++ piece)) ≡ on_last (with_drawn (map in_rings (shapes_of piece)) (references_of piece)) (kept figure_rings (drawings rs))
+drawings_element rs piece p =
+    kept_cells (pieces (is_type bgnstr) (rs ++ piece))
+    ∙ ap (map kept_cell) (structure_piece rs piece p)
+    ∙ map_on_last kept_cell (λ s. s ++ piece) (with_drawn (map in_rings (shapes_of piece)) (references_of piece)) (λ s. cell_element s piece p) (pieces (is_type bgnstr) rs)
+    ∙ ap (on_last (with_drawn (map in_rings (shapes_of piece)) (references_of piece))) (sym (kept_cells (pieces (is_type bgnstr) rs)))

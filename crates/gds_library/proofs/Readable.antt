@@ -7,7 +7,7 @@ use Rattle.gds_library.specs.Drawn.{KeptCell}
 use Rattle.gds_library.specs.Front.{IsRead, IsOnly, SpellsNone}
 use Rattle.gds_library.specs.Ends.{Tells, IsExcused}
 use Rattle.gds_library.specs.declared.head.GdsHead.{GdsHead}
-use Rattle.gds_library.specs.declared.fault.GdsKind.TheVariants.{Record, Unexpected, Unsupported, Layer as LayerKind, Points as PointsKind, NotClosed, Name, AfterEnd, Oblique, TooManyCells}
+use Rattle.gds_elements.specs.declared.fault.GdsKind.TheVariants.{Record, Unexpected, Unsupported, Layer, Points, NotClosed, Strans, Magnification, Angle, ColRow, ArrayStep, Name, Path, Width, PathType, AfterEnd, Oblique, Repetition, TooManyCells}
 use Rattle.gds_library.specs.declared.fault.GdsFault.{GdsFault}
 use Rattle.gds_library.specs.declared.fault.GdsFault.TheVariants.{At, OutOfMemory}
 use Rattle.gds_library.proofs.Readings.{law_only}
@@ -28,13 +28,22 @@ tells_none xs (At at (Record UnknownRecord)) t n = stuck_none xs at t.0
 tells_none xs (At at (Record TooLong)) t n = stuck_none xs at t.0
 tells_none xs (At at (Record Read)) t n = absurd (n tt)
 tells_none xs (At at (Record Failed)) t n = absurd t
-tells_none xs (At at (Unexpected k)) t n = stuck_none xs at t.0
-tells_none xs (At at (Unsupported k)) t n = stuck_none xs at t.0
-tells_none xs (At at LayerKind) t n = stuck_none xs at t.0
-tells_none xs (At at PointsKind) t n = stuck_none xs at t.0
+tells_none xs (At at (Unexpected j)) t n = stuck_none xs at t.0
+tells_none xs (At at (Unsupported j)) t n = stuck_none xs at t.0
+tells_none xs (At at Layer) t n = stuck_none xs at t.0
+tells_none xs (At at Points) t n = stuck_none xs at t.0
 tells_none xs (At at NotClosed) t n = stuck_none xs at t.0
+tells_none xs (At at Strans) t n = stuck_none xs at t.0
+tells_none xs (At at Magnification) t n = stuck_none xs at t.0
+tells_none xs (At at Angle) t n = stuck_none xs at t.0
+tells_none xs (At at ColRow) t n = stuck_none xs at t.0
+tells_none xs (At at ArrayStep) t n = stuck_none xs at t.0
 tells_none xs (At at Name) t n = stuck_none xs at t.0
+tells_none xs (At at (Path f)) t n = stuck_none xs at t.0
+tells_none xs (At at Width) t n = stuck_none xs at t.0
+tells_none xs (At at PathType) t n = stuck_none xs at t.0
 tells_none xs (At at AfterEnd) t n = stuck_none xs at t.0
 tells_none xs (At at Oblique) t n = stuck_none xs at t.0
+tells_none xs (At at Repetition) t n = stuck_none xs at t.0
 tells_none xs (At at TooManyCells) t n = stuck_none xs at t.0
 tells_none xs OutOfMemory t n = absurd (n tt)

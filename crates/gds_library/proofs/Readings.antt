@@ -1,9 +1,12 @@
 -- Bytes have one reading: two fronts that agree are one the beginning of the other.
 use Rattle.std.proofs.Common.{◌≡◌, ◌≢◌, ℕ, ◌<◌, ◌≤◌, ◌⊎◌, List, [], ◌∷◌, ◌++◌, length, refl, sym, ap, ◌∙◌, subst, append_assoc, inl, inr, arith, length-append}
 use Rattle.std.proofs.lemmas.List.{append-nil, append_cancel_left}
-use Rattle.gds_library.specs.Types.{header, bgnlib, libname, units, endlib, fill}
-use Rattle.gds_library.specs.Order.{Order, one, many, ◌then◌, IsWord, Begins, a_library, a_structure}
-use Rattle.gds_library.specs.Rec.{Rec, kinds, Spells, SpellsAll}
+use Rattle.gds_elements.specs.Types.{header, bgnlib, libname, units, endlib}
+use Rattle.gds_library.specs.Types.{fill}
+use Rattle.gds_elements.specs.Order.{Order, one, many, ◌then◌, IsWord, Begins}
+use Rattle.gds_library.specs.Order.{a_library, a_structure}
+use Rattle.gds_elements.specs.Rec.{Rec, kinds}
+use Rattle.gds_library.specs.Rec.{Spells, SpellsAll}
 use Rattle.gds_library.specs.Front.{IsFront, SpellsLibrary}
 use Rattle.gds_library.specs.Values.{drawings, head}
 use Rattle.gds_library.specs.Drawn.{Drawing}

@@ -5,7 +5,8 @@ use Rattle.std.proofs.lemmas.List.{append-nil}
 use Rattle.gds_records.specs.Spelled.{IsRecord, IsSpelling}
 use Rattle.lvl_io.specs.Known.{Agree}
 use Rattle.gds_library.specs.Types.{fill}
-use Rattle.gds_library.specs.Rec.{Rec, kinds, Spells, SpellsAll}
+use Rattle.gds_elements.specs.Rec.{Rec, kinds}
+use Rattle.gds_library.specs.Rec.{Spells, SpellsAll}
 
 abbrev pub a_fill : Rec
 a_fill = record { kind = fill; data_type = 0; payload = [] }

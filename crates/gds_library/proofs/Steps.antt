@@ -1,27 +1,47 @@
--- One record more behind a front.
-use Rattle.std.proofs.Common.{◌≡◌, ◌==◌, ℕ, ◌<◌, ◌≤◌, ◌⊎◌, ℤ, Bool, true, false, if◌then◌else◌, List, [], ◌∷◌, ◌++◌, length, Some, None, map, refl, sym, ap, ◌∙◌, subst, inl, inr, arith, length-append}
-use Rattle.std.proofs.lemmas.Int.{ints}
-use Rattle.gds_library.proofs.Orders.{by_test}
+-- One record more, or one element more, behind a front.
+use Rattle.std.proofs.Common.{◌≡◌, ◌==◌, ℕ, ◌<◌, ◌≤◌, ◌⊎◌, ℤ, Bool, true, false, if◌then◌else◌, List, [], ◌∷◌, ◌++◌, length, Some, None, map, refl, sym, ap, ◌∙◌, subst, inl, inr, arith, append_assoc, length-append}
+use Rattle.std.specs.List.{AllByRecursion}
+use Rattle.std.specs.Prelude.{Result, Ok, Err, IsErr, IsErrAnd}
 use Rattle.gds_records.specs.Records.{file_limit}
 use Rattle.lvl_path.specs.Figure.{figure_rings}
 use Rattle.lvl_cells.specs.Cells.{drawn, kept}
+use Rattle.gds_elements.specs.Types.{header, bgnlib, libname, units, bgnstr, strname, layer, datatype, width, xy, sname, colrow, strans, mag, angle, pathtype}
+use Rattle.gds_elements.specs.Order.{IsWord, Begins, an_element, opens, has}
+use Rattle.gds_elements.specs.Rec.{Rec, kinds, is_type, is_opener, field}
+use Rattle.gds_elements.specs.Values.{short, name}
+use Rattle.gds_elements.specs.Rules.{IsKnown, IsName, ElementBreaches, BreachesNone as KeepsElement}
+use Rattle.gds_elements.specs.Misplaced.{Says}
+use Rattle.gds_elements.specs.Meaning.{in_rings, shapes_of, references_of}
+use Rattle.gds_elements.specs.Reading.{IsReading, IsDrawn, shapes_in, references_in}
+use Rattle.gds_elements.specs.declared.element.Element.{Element}
+use Rattle.gds_elements.specs.declared.element.Drawn.{Drawn}
+use Rattle.gds_elements.specs.declared.fault.Refusal.{Refusal}
+use Rattle.gds_elements.specs.declared.fault.Refusal.TheVariants.{Breach, OutOfMemory}
+use Rattle.gds_elements.specs.declared.fault.GdsKind.{GdsKind}
+use Rattle.gds_elements.specs.declared.fault.GdsKind.TheVariants.{Record, Unexpected, Unsupported, Layer, Points, NotClosed, Strans, Magnification, Angle, ColRow, ArrayStep, Name, Path, Width, PathType, AfterEnd, Oblique, Repetition, TooManyCells}
+use Rattle.gds_elements.proofs.Fields.{field-snoc, kinds-snoc}
+use Rattle.gds_elements.proofs.Elements.{reading_begins, behind_opener}
+use Rattle.gds_elements.proofs.Orders.{same_type}
+use Rattle.gds_library.specs.Types.{fill}
+use Rattle.gds_library.specs.Order.{a_library}
 use Rattle.gds_library.specs.Drawn.{KeptCell}
-use Rattle.gds_library.specs.Types.{header, bgnlib, libname, units, endlib, bgnstr, strname, endstr, boundary, layer, datatype, xy, endel, fill}
-use Rattle.gds_library.specs.Order.{Begins, a_library}
-use Rattle.gds_library.specs.Place.{after, LeadsTo, has_units}
-use Rattle.gds_library.specs.Rec.{Rec, kinds, Spells, pieces, is_type, field}
-use Rattle.gds_library.specs.Values.{drawing, drawings, short, two_reals}
-use Rattle.gds_library.specs.Front.{Breaches, BreachesNone, IsFront, IsKnown}
+use Rattle.gds_library.specs.Place.{after, left, LeadsTo, has_units}
+use Rattle.gds_library.specs.Rec.{Spells, pieces, last_piece}
+use Rattle.gds_library.specs.Values.{drawing, drawings, two_reals}
+use Rattle.gds_library.specs.Front.{Breaches, BreachesNone, IsFront, cell_limit}
 use Rattle.gds_library.specs.Faults.{IsFault, IsAllowed}
-use Rattle.gds_library.specs.Reading.{grown, shown, shown_at}
-use Rattle.gds_library.specs.Holds.{Holds}
+use Rattle.gds_library.specs.Shown.{grown, shown, shown_at, on_last, with_drawn}
+use Rattle.gds_library.specs.Holds.{Holds, IsInside, HoldsWith, HasRead, MayFollow, Takes}
 use Rattle.gds_library.specs.declared.place.Place.{Place}
-use Rattle.gds_library.specs.declared.place.Place.TheVariants.{Header, BgnLib, LibName, Units, Structures, StrName, Elements, Layer as AtLayer, Datatype as AtDatatype, Points as AtPoints, EndEl, Fill}
+use Rattle.gds_library.specs.declared.place.Place.TheVariants.{Header, BgnLib, LibName, Units, Structures, StrName, Elements, Fill}
 use Rattle.gds_library.specs.declared.builder.Builder.{Builder}
-use Rattle.gds_library.specs.declared.fault.GdsKind.{GdsKind}
-use Rattle.gds_library.specs.declared.fault.GdsKind.TheVariants.{Record, Unexpected, Unsupported, Layer, Points, NotClosed, Name, AfterEnd, Oblique, TooManyCells}
-use Rattle.gds_library.proofs.Places.{leads_on, leads_nowhere, leads_begins}
-use Rattle.gds_library.proofs.Drawn.{drawings-snoc, field-snoc, if_ap}
+use Rattle.gds_library.specs.declared.reading.Reading.{Reading}
+use Rattle.gds_library.proofs.Words.{all_right}
+use Rattle.gds_library.proofs.Places.{OpensNothing, leads_on, leads_nowhere, leads_begins}
+use Rattle.gds_library.proofs.Elements.{IsOpen, begins_open, reading_open, leads_element, open_begins, open_goes}
+use Rattle.gds_library.proofs.Pieces.{IsPiece, if_ap, reading_piece, word_piece, last_opened, piece_lacks, field_past}
+use Rattle.gds_library.proofs.Outside.{IsNoValue, IsOutside, outside_after, known_after, opener_is}
+use Rattle.gds_library.proofs.Drawn.{drawings-snoc, drawings_element}
 use Rattle.gds_library.proofs.Grown.{same_place, none_some}
 use Rattle.gds_library.proofs.Spellings.{a_fill, spells_join, map-append}
 
@@ -39,27 +59,127 @@ shown_many BgnLib b = omega arith
 shown_many LibName b = omega arith
 shown_many Units b = omega arith
 shown_many Structures b = omega arith
-shown_many Fill b = omega arith
 shown_many StrName b = omega (arith, length-append {A = KeptCell})
 shown_many Elements b = omega (arith, length-append {A = KeptCell})
-shown_many AtLayer b = omega (arith, length-append {A = KeptCell})
-shown_many AtDatatype b = omega (arith, length-append {A = KeptCell})
-shown_many AtPoints b = omega (arith, length-append {A = KeptCell})
-shown_many EndEl b = omega (arith, length-append {A = KeptCell})
+shown_many Fill b = omega arith
+
+-- where a cell may begin, as many are shown as were read
+cells_shown : (p q : Place) (b : Builder) → after p bgnstr ≡ Some q → length (shown_at p b) ≡ length b.cells.items
+cells_shown Header q b e = cc
+cells_shown BgnLib q b e = cc
+cells_shown LibName q b e = cc
+cells_shown Units q b e = cc
+cells_shown Structures q b e = refl
+cells_shown StrName q b e = cc
+cells_shown Elements q b e = cc
+cells_shown Fill q b e = cc
 
 -- what is a fault at a place breaches a rule behind the records that lead there
-pub law_fault : (b : Builder) (rs : List Rec) (r : Rec) (f : GdsKind) → Holds b rs → r.kind < 60 → IsFault b.place (length b.cells.items) r.kind r.payload f → Breaches rs r f
-law_fault b rs r (Record e) h l x = absurd x
-law_fault b rs r (Unexpected j) h l x = (sym x.0, subst IsKnown (sym x.0) x.1, λ g. leads_nowhere (kinds rs) b.place r.kind h.leads x.2 (subst (Begins a_library) (map-append rs (r ∷ [])) g))
-law_fault b rs r (Unsupported j) h l x = (sym x.0, omega (arith, x.0), λ g. x.1 (subst IsKnown x.0 g))
-law_fault b rs r Layer h l x = x
-law_fault b rs r Points h l x = x
-law_fault b rs r NotClosed h l x = (x.0, x.2)
-law_fault b rs r Name h l x = x
-law_fault b rs r AfterEnd h l x = absurd x
-law_fault b rs r Oblique h l x = (x.0, x.3)
-law_fault b rs r TooManyCells h l x =
-    (x.0, omega (arith, x.1, shown_many b.place b, ap (λ ds. length ds) h.shown, kept_many rs))
+pub law_fault : (b : Builder) (rs : List Rec) (r : Rec) (f : GdsKind) → Holds b rs → OpensNothing b.place r.kind → r.kind < 60 → IsFault b.place (length b.cells.items) r.kind r.payload f → Breaches rs r f
+law_fault b rs r (Record f) h o l x = absurd x
+law_fault b rs r (Unexpected j) h o l x = (sym x.0, subst IsKnown (sym x.0) x.1, λ g. leads_nowhere (kinds rs) b.place r.kind h.leads o x.2 (subst (Begins a_library) (kinds-snoc rs r) g))
+law_fault b rs r (Unsupported j) h o l x = (sym x.0, omega (arith, x.0), λ g. x.1 (subst IsKnown x.0 g))
+law_fault b rs r Layer h o l x = absurd x
+law_fault b rs r Points h o l x = absurd x
+law_fault b rs r NotClosed h o l x = absurd x
+law_fault b rs r Strans h o l x = absurd x
+law_fault b rs r Magnification h o l x = absurd x
+law_fault b rs r Angle h o l x = absurd x
+law_fault b rs r ColRow h o l x = absurd x
+law_fault b rs r ArrayStep h o l x = absurd x
+law_fault b rs r Name h o l x = inl x
+law_fault b rs r (Path f) h o l x = absurd x
+law_fault b rs r Width h o l x = absurd x
+law_fault b rs r PathType h o l x = absurd x
+law_fault b rs r AfterEnd h o l x = absurd x
+law_fault b rs r Oblique h o l x = absurd x
+law_fault b rs r Repetition h o l x = absurd x
+law_fault b rs r TooManyCells h o l x = (x.0, omega (arith, x.1, shown_many b.place b, ap (λ ds. length ds) h.shown, kept_many rs))
+
+pub says_fault : (b : Builder) (rs : List Rec) (r : Rec) (e : Refusal) → Holds b rs → OpensNothing b.place r.kind → r.kind < 60 → Says e (IsFault b.place (length b.cells.items) r.kind r.payload) → Says e (Breaches rs r)
+says_fault b rs r (Breach f) h o l x = law_fault b rs r f h o l x
+says_fault b rs r OutOfMemory h o l x = tt
+
+is_not : (k j : ℕ) → k == j ≡ false → k ≡ j → ⊥
+is_not k j n e = (let z : true ≡ false = sym (same_type k j e) ∙ n in cc)
+
+-- a record that carries no value of an element may follow where the order, its name and the number of cells allow it
+pub may_follow : (rs : List Rec) (r : Rec) → IsNoValue r.kind → Begins a_library (kinds (rs ++ r ∷ [])) → (r.kind < 60 → IsKnown r.kind) → (r.kind ≡ strname → IsName (name r.payload))
+    → (r.kind ≡ bgnstr → length (pieces (is_type bgnstr) rs) < cell_limit) → MayFollow rs r
+may_follow rs r v g i m c (Record f) x = x
+may_follow rs r v g i m c (Unexpected j) x = x.2 g
+may_follow rs r v g i m c (Unsupported j) x = x.2 (subst IsKnown x.0 (i (omega (arith, x.0, x.1))))
+may_follow rs r v g i m c Layer x = elim x.0 [ inl y ↦ is_not r.kind layer v.layer y | inr y ↦ is_not r.kind datatype v.datatype y ]
+may_follow rs r v g i m c Points x = is_not r.kind xy v.xy x.0
+may_follow rs r v g i m c NotClosed x = is_not r.kind xy v.xy x.0
+may_follow rs r v g i m c Strans x = is_not r.kind strans v.strans x.0
+may_follow rs r v g i m c Magnification x = is_not r.kind mag v.mag x.0
+may_follow rs r v g i m c Angle x = is_not r.kind angle v.angle x.0
+may_follow rs r v g i m c ColRow x = is_not r.kind colrow v.colrow x.0
+may_follow rs r v g i m c ArrayStep x = is_not r.kind xy v.xy x.0
+may_follow rs r v g i m c Name x = elim x [ inl y ↦ y.1 (m y.0) | inr y ↦ is_not r.kind sname v.sname y.0 ]
+may_follow rs r v g i m c (Path f) x = is_not r.kind xy v.xy x.0
+may_follow rs r v g i m c Width x = elim x.1 [ inl y ↦ is_not r.kind width v.width y.0 | inr y ↦ is_not r.kind xy v.xy y.0 ]
+may_follow rs r v g i m c PathType x = is_not r.kind pathtype v.pathtype x.0
+may_follow rs r v g i m c AfterEnd x = x
+may_follow rs r v g i m c Oblique x = is_not r.kind xy v.xy x.0
+may_follow rs r v g i m c Repetition x = is_not r.kind colrow v.colrow x.0
+may_follow rs r v g i m c TooManyCells x = omega (arith, x.1, c x.0)
+
+-- a record of an element may follow where it breaches none of the element's rules
+pub may_follow_inside : (rs piece : List Rec) (r : Rec) → last_piece is_opener rs ≡ piece → KeepsElement piece r → Begins a_library (kinds (rs ++ r ∷ [])) → r.kind == strname ≡ false → r.kind == bgnstr ≡ false → MayFollow rs r
+may_follow_inside rs piece r e n g s b (Record f) x = x
+may_follow_inside rs piece r e n g s b (Unexpected j) x = x.2 g
+may_follow_inside rs piece r e n g s b (Unsupported j) x = n (Unsupported j) x
+may_follow_inside rs piece r e n g s b Layer x = n Layer (subst (λ p. ElementBreaches p r Layer) e x)
+may_follow_inside rs piece r e n g s b Points x = n Points (subst (λ p. ElementBreaches p r Points) e x)
+may_follow_inside rs piece r e n g s b NotClosed x = n NotClosed (subst (λ p. ElementBreaches p r NotClosed) e x)
+may_follow_inside rs piece r e n g s b Strans x = n Strans (subst (λ p. ElementBreaches p r Strans) e x)
+may_follow_inside rs piece r e n g s b Magnification x = n Magnification (subst (λ p. ElementBreaches p r Magnification) e x)
+may_follow_inside rs piece r e n g s b Angle x = n Angle (subst (λ p. ElementBreaches p r Angle) e x)
+may_follow_inside rs piece r e n g s b ColRow x = n ColRow (subst (λ p. ElementBreaches p r ColRow) e x)
+may_follow_inside rs piece r e n g s b ArrayStep x = n ArrayStep (subst (λ p. ElementBreaches p r ArrayStep) e x)
+may_follow_inside rs piece r e n g s b Name x = elim x [ inl y ↦ is_not r.kind strname s y.0 | inr y ↦ n Name (subst (λ p. ElementBreaches p r Name) e y) ]
+may_follow_inside rs piece r e n g s b (Path f) x = n (Path f) (subst (λ p. ElementBreaches p r (Path f)) e x)
+may_follow_inside rs piece r e n g s b Width x = n Width (subst (λ p. ElementBreaches p r Width) e x)
+may_follow_inside rs piece r e n g s b PathType x = n PathType (subst (λ p. ElementBreaches p r PathType) e x)
+may_follow_inside rs piece r e n g s b AfterEnd x = x
+may_follow_inside rs piece r e n g s b Oblique x = n Oblique (subst (λ p. ElementBreaches p r Oblique) e x)
+may_follow_inside rs piece r e n g s b Repetition x = n Repetition (subst (λ p. ElementBreaches p r Repetition) e x)
+may_follow_inside rs piece r e n g s b TooManyCells x = is_not r.kind bgnstr b x.0
+
+-- a record that breaches a rule of the open element breaches a rule
+breach_inside : (before piece : List Rec) (r : Rec) (k : GdsKind) → LeadsTo (kinds before) Elements → IsOpen (kinds piece) → IsPiece piece → ElementBreaches piece r k → Breaches (before ++ piece) r k
+breach_inside before piece r (Record f) h o p x = x
+breach_inside before piece r (Unexpected j) h o p x = (x.0, x.1, λ g. x.2 (subst (Begins an_element) (sym (kinds-snoc piece r)) (open_goes (kinds before) (kinds piece) r.kind h o
+    (subst (Begins a_library) (kinds-snoc (before ++ piece) r ∙ ap (λ l. l ++ r.kind ∷ []) (map-append before piece)) g))))
+breach_inside before piece r (Unsupported j) h o p x = x
+breach_inside before piece r Layer h o p x = subst (λ p. ElementBreaches p r Layer) (sym (last_opened before piece p)) x
+breach_inside before piece r Points h o p x = subst (λ p. ElementBreaches p r Points) (sym (last_opened before piece p)) x
+breach_inside before piece r NotClosed h o p x = subst (λ p. ElementBreaches p r NotClosed) (sym (last_opened before piece p)) x
+breach_inside before piece r Strans h o p x = subst (λ p. ElementBreaches p r Strans) (sym (last_opened before piece p)) x
+breach_inside before piece r Magnification h o p x = subst (λ p. ElementBreaches p r Magnification) (sym (last_opened before piece p)) x
+breach_inside before piece r Angle h o p x = subst (λ p. ElementBreaches p r Angle) (sym (last_opened before piece p)) x
+breach_inside before piece r ColRow h o p x = subst (λ p. ElementBreaches p r ColRow) (sym (last_opened before piece p)) x
+breach_inside before piece r ArrayStep h o p x = subst (λ p. ElementBreaches p r ArrayStep) (sym (last_opened before piece p)) x
+breach_inside before piece r Name h o p x = inr (subst (λ p. ElementBreaches p r Name) (sym (last_opened before piece p)) x)
+breach_inside before piece r (Path f) h o p x = subst (λ p. ElementBreaches p r (Path f)) (sym (last_opened before piece p)) x
+breach_inside before piece r Width h o p x = subst (λ p. ElementBreaches p r Width) (sym (last_opened before piece p)) x
+breach_inside before piece r PathType h o p x = subst (λ p. ElementBreaches p r PathType) (sym (last_opened before piece p)) x
+breach_inside before piece r AfterEnd h o p x = x
+breach_inside before piece r Oblique h o p x = subst (λ p. ElementBreaches p r Oblique) (sym (last_opened before piece p)) x
+breach_inside before piece r Repetition h o p x = subst (λ p. ElementBreaches p r Repetition) (sym (last_opened before piece p)) x
+breach_inside before piece r TooManyCells h o p x = absurd x
+
+pub says_inside : (b : Builder) (e : Element) (rs : List Rec) (r : Rec) (f : Refusal) (i : IsInside b e rs) → Says f (ElementBreaches i.piece r) → Says f (Breaches rs r)
+says_inside b e rs r (Breach k) i x =
+    subst (λ l. Breaches l r k) (sym i.parts) (breach_inside i.before i.piece r k (subst (LeadsTo (kinds i.before)) i.at i.holds.leads) (reading_open e i.piece i.reading) (reading_piece e i.piece i.reading) x)
+says_inside b e rs r OutOfMemory i x = tt
+
+-- what is refused with the same refusal
+pub takes_refused : (rs : List Rec) (r : Rec) (res : Result Reading Refusal) (e : Refusal) → IsErr res × IsErrAnd res (λ x. x ≡ e) → Says e (Breaches rs r) → Takes rs r res
+takes_refused rs r (Ok x) e h b = absurd h.1
+takes_refused rs r (Err x) e h b = subst (λ (i : Refusal). Says i (Breaches rs r)) (sym h.1) b
 
 pub no_tail : (before : List Rec) (s : Rec) (after : List Rec) → [] ≡ before ++ s ∷ after → ⊥
 no_tail [] s after e = cc
@@ -79,7 +199,7 @@ one_of (x ∷ rs) (y ∷ before) after r s e =
       | inr p ↦ inr (p.0, ap (λ (i : Rec). i ∷ rs) h ∙ ap (λ l. y ∷ l) p.1)
     ]
 
-pub breaches_none : (rs : List Rec) (r : Rec) → BreachesNone rs → ((k : GdsKind) → Breaches rs r k → ⊥) → BreachesNone (rs ++ r ∷ [])
+pub breaches_none : (rs : List Rec) (r : Rec) → BreachesNone rs → MayFollow rs r → BreachesNone (rs ++ r ∷ [])
 breaches_none rs r h n before after s k e x = elim (one_of rs before after r s e) [
   | inl p ↦ n k (subst (λ (i : Rec). Breaches rs i k) p.1 (subst (λ l. Breaches l s k) p.0 x))
   | inr p ↦ h before p.0 s k p.1 x
@@ -94,10 +214,6 @@ units_before Units q k e n h = (let z : None ≡ Some q = none_some (k == units)
 units_before Structures q k e n h = refl
 units_before StrName q k e n h = refl
 units_before Elements q k e n h = refl
-units_before AtLayer q k e n h = refl
-units_before AtDatatype q k e n h = refl
-units_before AtPoints q k e n h = refl
-units_before EndEl q k e n h = refl
 units_before Fill q k e n h = refl
 
 units_kept : (t : Bool) (p x y : List ℕ) (old new : List (List ℕ)) → new ≡ (if t then two_reals p else old) → (t ≡ false → old ≡ two_reals x) → y ≡ (if t then p else x) → new ≡ two_reals y
@@ -109,86 +225,92 @@ pub record KeepsHead (b b' : Builder) (k : ℕ) (payload : List ℕ) : Type 0 wh
   pub version : b'.version ≡ (if k == header then short payload else b.version)
   pub units : b'.units ≡ (if k == units then two_reals payload else b.units)
 
--- a record that may stand leads on
+-- a record outside of elements that may stand leads on
 pub law_holds : (b b' : Builder) (rs : List Rec) (r : Rec) → Holds b rs → after b.place r.kind ≡ Some b'.place → shown b' ≡ grown r.kind r.payload (shown b) → KeepsHead b b' r.kind r.payload → Holds b' (rs ++ r ∷ [])
-law_holds b b' rs r h e s k = record {
-  leads = subst (λ l. LeadsTo l b'.place) (sym (map-append rs (r ∷ []))) (leads_on (kinds rs) b.place b'.place r.kind h.leads e);
-  shown = s ∙ ap (grown r.kind r.payload) h.shown ∙ sym (drawings-snoc rs r);
-  version = k.version ∙ ap (λ (i : ℤ). if r.kind == header then short r.payload else i) h.version ∙ sym (ap short (field-snoc header rs r) ∙ if_ap short (r.kind == header) r.payload (field header rs));
-  units = λ z. units_kept (r.kind == units) r.payload (field units rs) (field units (rs ++ r ∷ [])) b.units b'.units k.units (λ n. h.units (units_before b.place b'.place r.kind e n z)) (field-snoc units rs r);
-}
+law_holds b b' rs r h e s k =
+    let o = outside_after b.place b'.place r.kind e in
+    record {
+      leads = subst (λ l. LeadsTo l b'.place) (sym (kinds-snoc rs r)) (leads_on (kinds rs) b.place b'.place r.kind h.leads (λ _. o.opens) e);
+      shown = s ∙ ap (grown r.kind r.payload) h.shown ∙ sym (drawings-snoc rs r o);
+      version = k.version ∙ ap (λ (i : ℤ). if r.kind == header then short r.payload else i) h.version ∙ sym (ap short (field-snoc header rs r) ∙ if_ap short (r.kind == header) r.payload (field header rs));
+      units = λ z. units_kept (r.kind == units) r.payload (field units rs) (field units (rs ++ r ∷ [])) b.units b'.units k.units (λ n. h.units (units_before b.place b'.place r.kind e n z)) (field-snoc units rs r);
+    }
+
+-- and breaches no rule
+pub law_allowed : (b b' : Builder) (rs : List Rec) (r : Rec) → Holds b rs → Holds b' (rs ++ r ∷ []) → r.kind < 60 → after b.place r.kind ≡ Some b'.place → IsAllowed (length b.cells.items) r.kind r.payload → MayFollow rs r
+law_allowed b b' rs r h h' l e a =
+    may_follow rs r (outside_after b.place b'.place r.kind e).no_value (leads_begins (kinds (rs ++ r ∷ [])) b'.place h'.leads) (λ l. known_after b.place b'.place r.kind l e) a.name
+    (λ k. (let n = cells_shown b.place b'.place b (subst (λ i. after b.place i ≡ Some b'.place) k e) in omega (arith, a.cells k, n, ap (λ ds. length ds) h.shown, kept_many rs)))
 
 -- a zero byte behind the end breaches no rule
-pub law_fill : (rs : List Rec) → Begins a_library (kinds (rs ++ a_fill ∷ [])) → (k : GdsKind) → Breaches rs a_fill k → ⊥
-law_fill rs g (Record f) x = x
-law_fill rs g (Unexpected j) x = x.2 g
-law_fill rs g (Unsupported j) x = omega (arith, x.0, x.1)
-law_fill rs g Layer x = elim x.0 [ inl y ↦ omega (arith, y) | inr y ↦ omega (arith, y) ]
-law_fill rs g Points x = omega (arith, x.0)
-law_fill rs g NotClosed x = omega (arith, x.0)
-law_fill rs g Name x = omega (arith, x.0)
-law_fill rs g AfterEnd x = x
-law_fill rs g Oblique x = omega (arith, x.0)
-law_fill rs g TooManyCells x = omega (arith, x.0)
+pub law_fill : (rs : List Rec) → Begins a_library (kinds (rs ++ a_fill ∷ [])) → MayFollow rs a_fill
+law_fill rs g = may_follow rs a_fill (outside_after Fill Fill fill refl).no_value g (λ l. absurd (omega (arith, l))) (λ e. absurd (omega (arith, e))) (λ e. absurd (omega (arith, e)))
+
+-- a builder that has read the records of whole elements alone, and those behind them
+law_element : (b b' : Builder) (before piece : List Rec) (d : Drawn) → Holds b before → b.place ≡ Elements → IsWord an_element (kinds piece) → IsDrawn d piece → b'.place ≡ b.place → b'.version ≡ b.version → b'.units ≡ b.units
+    → shown b' ≡ on_last (with_drawn (shapes_in d) (references_in d)) (shown b) → Holds b' (before ++ piece)
+law_element b b' before piece d h at w dr p v u s =
+    let pc = word_piece piece w in
+    let to : LeadsTo (kinds before ++ kinds piece) Elements = leads_element (kinds before) (kinds piece) (subst (LeadsTo (kinds before)) at h.leads) w in
+    record {
+      leads = subst (λ l. LeadsTo l b'.place) (sym (map-append before piece)) (subst (LeadsTo (kinds before ++ kinds piece)) (sym (p ∙ at)) to);
+      shown = s ∙ ap (on_last (with_drawn (shapes_in d) (references_in d))) h.shown
+          ∙ ap (λ l. on_last (with_drawn l (references_in d)) (kept figure_rings (drawings before))) dr.shapes
+          ∙ ap (λ l. on_last (with_drawn (map in_rings (shapes_of piece)) l) (kept figure_rings (drawings before))) dr.references
+          ∙ sym (drawings_element before piece pc);
+      version = v ∙ h.version ∙ sym (ap short (field_past header before piece (piece_lacks piece header pc refl refl)));
+      units = λ z. u ∙ h.units (ap has_units at) ∙ sym (ap two_reals (field_past units before piece (piece_lacks piece units pc refl refl)));
+    }
+
+last_one : (P : Rec → Type 0) (xs : List Rec) (r : Rec) → AllByRecursion P (xs ++ r ∷ []) → P r
+last_one P [] r h = h.0
+last_one P (x ∷ xs) r h = last_one P xs r h.1
+
+last_lacks : (piece : List Rec) (r : Rec) (j : ℕ) → IsPiece (piece ++ r ∷ []) → opens j ≡ false → has behind_opener j ≡ false → r.kind == j ≡ false
+last_lacks piece r j p o n = last_one (λ i. i.kind == j ≡ false) piece r (piece_lacks (piece ++ r ∷ []) j p o n)
+
+-- what begins with the records of an open element begins a library
+pub inside_begins : (b : Builder) (e : Element) (rs : List Rec) → IsInside b e rs → Begins a_library (kinds rs)
+inside_begins b e rs i =
+    subst (Begins a_library) (sym (ap kinds i.parts ∙ map-append i.before i.piece)) (open_begins (kinds i.before) (kinds i.piece) (subst (LeadsTo (kinds i.before)) i.at i.holds.leads) (reading_open e i.piece i.reading))
+
+-- one record more of an open element, which stays open
+pub law_inside : (b : Builder) (e e' : Element) (rs : List Rec) (r : Rec) (i : IsInside b e rs) → IsReading e' (i.piece ++ r ∷ []) → KeepsElement i.piece r → IsInside b e' (rs ++ r ∷ []) × MayFollow rs r
+law_inside b e e' rs r i re n =
+    let next : IsInside b e' (rs ++ r ∷ []) = record {
+      before = i.before;
+      piece = i.piece ++ r ∷ [];
+      parts = ap (λ l. l ++ r ∷ []) i.parts ∙ append_assoc i.before i.piece (r ∷ []);
+      holds = i.holds;
+      at = i.at;
+      reading = re;
+    } in
+    let pc = reading_piece e' (i.piece ++ r ∷ []) re in
+    let last : last_piece is_opener rs ≡ i.piece = ap (last_piece is_opener) i.parts ∙ last_opened i.before i.piece (reading_piece e i.piece i.reading) in
+    (next, may_follow_inside rs i.piece r last n (inside_begins b e' (rs ++ r ∷ []) next) (last_lacks i.piece r strname pc refl refl) (last_lacks i.piece r bgnstr pc refl refl))
+
+-- the record that ends an open element
+pub law_whole : (b b' : Builder) (e : Element) (rs : List Rec) (r : Rec) (d : Drawn) (i : IsInside b e rs) → IsWord an_element (kinds (i.piece ++ r ∷ [])) × IsDrawn d (i.piece ++ r ∷ []) → KeepsElement i.piece r
+    → b'.place ≡ b.place → b'.version ≡ b.version → b'.units ≡ b.units → shown b' ≡ on_last (with_drawn (shapes_in d) (references_in d)) (shown b) → Holds b' (rs ++ r ∷ []) × MayFollow rs r
+law_whole b b' e rs r d i w n p v u s =
+    let parts : rs ++ r ∷ [] ≡ i.before ++ (i.piece ++ r ∷ []) = ap (λ l. l ++ r ∷ []) i.parts ∙ append_assoc i.before i.piece (r ∷ []) in
+    let next : Holds b' (rs ++ r ∷ []) = subst (Holds b') (sym parts) (law_element b b' i.before (i.piece ++ r ∷ []) d i.holds i.at w.0 w.1 p v u s) in
+    let pc = word_piece (i.piece ++ r ∷ []) w.0 in
+    let last : last_piece is_opener rs ≡ i.piece = ap (last_piece is_opener) i.parts ∙ last_opened i.before i.piece (reading_piece e i.piece i.reading) in
+    (next, may_follow_inside rs i.piece r last n (leads_begins (kinds (rs ++ r ∷ [])) b'.place next.leads) (last_lacks i.piece r strname pc refl refl) (last_lacks i.piece r bgnstr pc refl refl))
+
+-- the record that opens an element
+pub law_opens : (b : Builder) (e : Element) (rs : List Rec) (r : Rec) → Holds b rs → b.place ≡ Elements → IsReading e (r ∷ []) → IsInside b e (rs ++ r ∷ []) × MayFollow rs r
+law_opens b e rs r h at re =
+    let next : IsInside b e (rs ++ r ∷ []) = record { before = rs; piece = r ∷ []; parts = refl; holds = h; at = at; reading = re } in
+    let o = opener_is r.kind (begins_open r.kind [] (reading_begins e (r ∷ []) re)) in
+    (next, may_follow rs r o.no_value (inside_begins b e (rs ++ r ∷ []) next) (λ _. o.known) (λ z. absurd (is_not r.kind strname o.strname z)) (λ z. absurd (is_not r.kind bgnstr o.bgnstr z)))
 
 -- a front with one record more
-pub law_front : (bytes text : List ℕ) (rs : List Rec) (r : Rec) (b' : Builder) → IsFront bytes rs → Spells text r → Holds b' (rs ++ r ∷ []) → length (bytes ++ text) ≤ file_limit
-    → ((k : GdsKind) → Breaches rs r k → ⊥) → IsFront (bytes ++ text) (rs ++ r ∷ [])
-law_front bytes text rs r b' f s h l n = record {
+pub law_front : (bytes text : List ℕ) (rs : List Rec) (r : Rec) → IsFront bytes rs → Spells text r → Begins a_library (kinds (rs ++ r ∷ [])) → length (bytes ++ text) ≤ file_limit → MayFollow rs r → IsFront (bytes ++ text) (rs ++ r ∷ [])
+law_front bytes text rs r f s g l n = record {
   spelled = spells_join bytes text rs r f.spelled s;
-  order = leads_begins (kinds (rs ++ r ∷ [])) b'.place h.leads;
+  order = g;
   rules = breaches_none rs r f.rules n;
   limit = l;
 }
-
--- a type that may stand is known
-known_one : (p q : Place) (k j : ℕ) → (j < 60 → IsKnown j) → (k == j ≡ false → k < 60 → after p k ≡ Some q → IsKnown k) → k < 60 → after p k ≡ Some q → IsKnown k
-known_one p q k j here there =
-    by_test (λ i. i < 60 → after p i ≡ Some q → IsKnown i) k j (k == j) refl (λ l e. here l) there
-
-known_after : (p q : Place) (k : ℕ) → k < 60 → after p k ≡ Some q → IsKnown k
-known_after Header q k = known_one Header q k header (λ _. refl) (λ a l e. (let z : None ≡ Some q = rw a at e in cc))
-known_after BgnLib q k = known_one BgnLib q k bgnlib (λ _. refl) (λ a l e. (let z : None ≡ Some q = rw a at e in cc))
-known_after LibName q k = known_one LibName q k libname (λ _. refl) (λ a l e. (let z : None ≡ Some q = rw a at e in cc))
-known_after Units q k = known_one Units q k units (λ _. refl) (λ a l e. (let z : None ≡ Some q = rw a at e in cc))
-known_after Structures q k = known_one Structures q k endlib (λ _. refl) (λ a l e. known_one Structures q k bgnstr (λ _. refl) (λ b l' e'. (let z : None ≡ Some q = rw (a, b) at e' in cc)) l e)
-known_after StrName q k = known_one StrName q k strname (λ _. refl) (λ a l e. (let z : None ≡ Some q = rw a at e in cc))
-known_after Elements q k = known_one Elements q k endstr (λ _. refl) (λ a l e. known_one Elements q k boundary (λ _. refl) (λ b l' e'. (let z : None ≡ Some q = rw (a, b) at e' in cc)) l e)
-known_after AtLayer q k = known_one AtLayer q k layer (λ _. refl) (λ a l e. (let z : None ≡ Some q = rw a at e in cc))
-known_after AtDatatype q k = known_one AtDatatype q k datatype (λ _. refl) (λ a l e. (let z : None ≡ Some q = rw a at e in cc))
-known_after AtPoints q k = known_one AtPoints q k xy (λ _. refl) (λ a l e. (let z : None ≡ Some q = rw a at e in cc))
-known_after EndEl q k = known_one EndEl q k endel (λ _. refl) (λ a l e. (let z : None ≡ Some q = rw a at e in cc))
-known_after Fill q k = known_one Fill q k fill (λ l. absurd (omega arith)) (λ a l e. (let z : None ≡ Some q = rw a at e in cc))
-
--- where a cell may begin, as many are shown as were read
-cells_shown : (p q : Place) (b : Builder) → after p bgnstr ≡ Some q → length (shown_at p b) ≡ length b.cells.items
-cells_shown Header q b e = cc
-cells_shown BgnLib q b e = cc
-cells_shown LibName q b e = cc
-cells_shown Units q b e = cc
-cells_shown Structures q b e = refl
-cells_shown StrName q b e = cc
-cells_shown Elements q b e = cc
-cells_shown AtLayer q b e = cc
-cells_shown AtDatatype q b e = cc
-cells_shown AtPoints q b e = cc
-cells_shown EndEl q b e = cc
-cells_shown Fill q b e = cc
-
--- a record that may stand breaches no rule
-pub law_allowed : (b : Builder) (rs : List Rec) (r : Rec) (q : Place) → Holds b rs → r.kind < 60 → after b.place r.kind ≡ Some q → IsAllowed (length b.cells.items) r.kind r.payload
-    → (k : GdsKind) → Breaches rs r k → ⊥
-law_allowed b rs r q h l e a (Record f) x = x
-law_allowed b rs r q h l e a (Unexpected j) x =
-    x.2 (subst (Begins a_library) (sym (map-append rs (r ∷ []))) (leads_begins (kinds rs ++ r.kind ∷ []) q (leads_on (kinds rs) b.place q r.kind h.leads e)))
-law_allowed b rs r q h l e a (Unsupported j) x = x.2 (subst IsKnown x.0 (known_after b.place q r.kind l e))
-law_allowed b rs r q h l e a Layer x = (let z = a.layer x.0 in omega (arith, ints, z, x.1))
-law_allowed b rs r q h l e a Points x = (let z = a.enough x.0 in omega (arith, z, x.1))
-law_allowed b rs r q h l e a NotClosed x = x.1 (a.closed x.0)
-law_allowed b rs r q h l e a Name x = x.1 (a.name x.0)
-law_allowed b rs r q h l e a AfterEnd x = x
-law_allowed b rs r q h l e a Oblique x = x.1 (a.straight x.0)
-law_allowed b rs r q h l e a TooManyCells x =
-    (let z = a.cells x.0 in
-    let n = cells_shown b.place q b (subst (λ k. after b.place k ≡ Some q) x.0 e) in
-    omega (arith, z, x.1, n, ap (λ ds. length ds) h.shown, kept_many rs))

@@ -4,10 +4,12 @@ use Rattle.std.proofs.lemmas.List.{append-nil, append_cancel_left, take-append-d
 use Rattle.gds_records.specs.Records.{file_limit}
 use Rattle.gds_records.specs.Spelled.{IsRecord, IsSpelling, IsBegun}
 use Rattle.lvl_io.specs.Known.{Agree}
-use Rattle.gds_library.specs.Order.{Begins, IsWord, a_library}
-use Rattle.gds_library.specs.Rec.{Rec, kinds, Spells, SpellsAll}
+use Rattle.gds_elements.specs.Order.{Begins, IsWord}
+use Rattle.gds_library.specs.Order.{a_library}
+use Rattle.gds_elements.specs.Rec.{Rec, kinds}
+use Rattle.gds_library.specs.Rec.{Spells, SpellsAll}
 use Rattle.gds_library.specs.Front.{Breaches, BreachesNone, IsFront, IsStuck, IsTruncated, SpellsNone}
-use Rattle.gds_library.specs.declared.fault.GdsKind.{GdsKind}
+use Rattle.gds_elements.specs.declared.fault.GdsKind.{GdsKind}
 use Rattle.gds_library.proofs.Words.{begins_less}
 use Rattle.gds_library.proofs.Spellings.{a_fill, one_record, spells_all_once, spells_parts, agree_ends, ends_agree, map-append, length_spelled}
 use Rattle.gds_library.proofs.Readings.{zero_ends, one_reading, part_whole, goes_on}

@@ -1,12 +1,14 @@
 -- The definitions at small examples.
 use Rattle.std.proofs.Common.{◌≡◌, ℕ, ◌⊎◌, inl, inr, Bool, true, false, ◌||◌, if◌then◌else◌, List, [], ◌∷◌, refl}
-use Rattle.std.specs.Prelude.{pos}
+use Rattle.std.specs.Prelude.{pos, negsuc}
 use Rattle.std.specs.List.{flat_map}
-use Rattle.lvl_path.specs.Figure.{rings}
-use Rattle.gds_library.specs.Order.{Order, one, IsWord, ◌then◌, ◌or◌, maybe, a_library, a_boundary}
-use Rattle.gds_library.specs.Rec.{Rec, kinds}
+use Rattle.lvl_grid.specs.declared.map.Turn.TheVariants.{R90}
+use Rattle.lvl_path.specs.Figure.{rings, path}
+use Rattle.gds_elements.specs.Order.{Order, IsWord, an_element}
+use Rattle.gds_elements.specs.Rec.{Rec, kinds}
+use Rattle.gds_elements.proofs.Orders.{after_first, can_be_empty, IsWordOfOne, first_put, empty_back, of_one-append}
+use Rattle.gds_library.specs.Order.{a_library}
 use Rattle.gds_library.specs.Values.{drawings, head}
-use Rattle.gds_library.proofs.Orders.{after_first, can_be_empty, IsWordOfOne, first_put, empty_back, of_one-append}
 
 -- whether what is left of some orders is a word of one of them
 abbrev accepts : List Order → List ℕ → Bool
@@ -33,37 +35,14 @@ accepted : (rs : List Order) (w : List ℕ) → accepts rs w ≡ true → IsWord
 accepted rs [] e = one_empty rs e
 accepted rs (k ∷ w) e = put_back rs k w (accepted (flat_map (λ a. after_first a k) rs) w e)
 
--- the elements that are to come
-abbrev turned_by : Order
-turned_by = maybe (one 0x1A then maybe (one 0x1B) then maybe (one 0x1C))
+text_with_angle : IsWordOfOne (an_element ∷ []) (0x0C ∷ 0x0D ∷ 0x16 ∷ 0x0F ∷ 0x1A ∷ 0x1C ∷ 0x10 ∷ 0x19 ∷ 0x11 ∷ [])
+text_with_angle = accepted (an_element ∷ []) (0x0C ∷ 0x0D ∷ 0x16 ∷ 0x0F ∷ 0x1A ∷ 0x1C ∷ 0x10 ∷ 0x19 ∷ 0x11 ∷ []) refl
 
-abbrev a_path : Order
-a_path = one 0x09 then one 0x0D then one 0x0E then maybe (one 0x21) then maybe (one 0x0F) then one 0x10 then one 0x11
+array_with_magnification : IsWordOfOne (an_element ∷ []) (0x0B ∷ 0x12 ∷ 0x1A ∷ 0x1B ∷ 0x13 ∷ 0x10 ∷ 0x11 ∷ [])
+array_with_magnification = accepted (an_element ∷ []) (0x0B ∷ 0x12 ∷ 0x1A ∷ 0x1B ∷ 0x13 ∷ 0x10 ∷ 0x11 ∷ []) refl
 
-abbrev a_reference : Order
-a_reference = one 0x0A then one 0x12 then turned_by then one 0x10 then one 0x11
-
-abbrev an_array : Order
-an_array = one 0x0B then one 0x12 then turned_by then one 0x13 then one 0x10 then one 0x11
-
-abbrev a_text : Order
-a_text = one 0x0C then one 0x0D then one 0x16 then maybe (one 0x17) then maybe (one 0x21) then maybe (one 0x0F) then turned_by then one 0x10 then one 0x19 then one 0x11
-
-abbrev every_element : Order
-every_element = a_boundary or a_path or a_reference or an_array or a_text
-
-text_with_angle : IsWordOfOne (every_element ∷ []) (0x0C ∷ 0x0D ∷ 0x16 ∷ 0x0F ∷ 0x1A ∷ 0x1C ∷ 0x10 ∷ 0x19 ∷ 0x11 ∷ [])
-text_with_angle = accepted (every_element ∷ []) (0x0C ∷ 0x0D ∷ 0x16 ∷ 0x0F ∷ 0x1A ∷ 0x1C ∷ 0x10 ∷ 0x19 ∷ 0x11 ∷ []) refl
-
-array_with_magnification : IsWordOfOne (every_element ∷ []) (0x0B ∷ 0x12 ∷ 0x1A ∷ 0x1B ∷ 0x13 ∷ 0x10 ∷ 0x11 ∷ [])
-array_with_magnification = accepted (every_element ∷ []) (0x0B ∷ 0x12 ∷ 0x1A ∷ 0x1B ∷ 0x13 ∷ 0x10 ∷ 0x11 ∷ []) refl
-
-no_angle_alone : accepts (every_element ∷ []) (0x0A ∷ 0x12 ∷ 0x1C ∷ []) ≡ false
+no_angle_alone : accepts (an_element ∷ []) (0x0A ∷ 0x12 ∷ 0x1C ∷ []) ≡ false
 no_angle_alone = refl
-
--- what may come in a path behind its datatype: its path type, its width or its points
-path_ways : (k : ℕ) → after_first (maybe (one 0x21) then maybe (one 0x0F) then one 0x10 then one 0x11) 0x10 ≡ one 0x11 ∷ []
-path_ways k = refl
 
 -- the records of the square
 abbrev rec : ℕ → ℕ → List ℕ → Rec
@@ -93,3 +72,22 @@ square_drawn = refl
 
 square_version : (head square).version ≡ pos 600
 square_version = refl
+
+-- a structure with a path with ends that reach out, a reference reflected and turned, and a text
+abbrev elements : List Rec
+elements =
+    rec 0x05 2 [] ∷ rec 0x06 6 (0x41 ∷ 0x42 ∷ []) ∷ rec 0x09 0 [] ∷ rec 0x0D 2 (0 ∷ 3 ∷ []) ∷ rec 0x0E 2 (0 ∷ 4 ∷ []) ∷ rec 0x21 2 (0 ∷ 2 ∷ []) ∷ rec 0x0F 3 (0 ∷ 0 ∷ 0 ∷ 6 ∷ [])
+    ∷ rec 0x10 3 (0 ∷ 0 ∷ 0 ∷ 0 ∷ 0 ∷ 0 ∷ 0 ∷ 0 ∷ 0 ∷ 0 ∷ 0 ∷ 10 ∷ 0 ∷ 0 ∷ 0 ∷ 0 ∷ []) ∷ rec 0x11 0 []
+    ∷ rec 0x0A 0 [] ∷ rec 0x12 6 (0x43 ∷ 0 ∷ []) ∷ rec 0x1A 1 (0x80 ∷ 0 ∷ []) ∷ rec 0x1C 5 (0x42 ∷ 0x5A ∷ 0 ∷ 0 ∷ 0 ∷ 0 ∷ 0 ∷ 0 ∷ []) ∷ rec 0x10 3 (0xFF ∷ 0xFF ∷ 0xFF ∷ 0xFF ∷ 0 ∷ 0 ∷ 0 ∷ 7 ∷ []) ∷ rec 0x11 0 []
+    ∷ rec 0x0C 0 [] ∷ rec 0x0D 2 (0 ∷ 1 ∷ []) ∷ rec 0x16 2 (0 ∷ 0 ∷ []) ∷ rec 0x10 3 (0 ∷ 0 ∷ 0 ∷ 0 ∷ 0 ∷ 0 ∷ 0 ∷ 0 ∷ []) ∷ rec 0x19 6 [] ∷ rec 0x11 0 [] ∷ rec 0x07 0 [] ∷ []
+
+elements_drawn : drawings elements ≡ record {
+  name = 0x41 ∷ 0x42 ∷ [];
+  shapes = record {
+    layer = record { layer = 3; datatype = 4 };
+    figure = path (record { x = pos 0; y = pos 0 } ∷ record { x = pos 10; y = pos 0 } ∷ []) (record { half = 3; start = 3; end = 3 });
+    shifts = record { x = pos 0; y = pos 0 } ∷ [];
+  } ∷ [];
+  references = record { cell = 0x43 ∷ []; flip = true; turn = R90; at = record { x = negsuc 0; y = pos 7 }; shifts = record { x = pos 0; y = pos 0 } ∷ [] } ∷ [];
+} ∷ []
+elements_drawn = refl

@@ -1,8 +1,8 @@
 -- What stands in words, and orders that end in fills.
 use Rattle.std.proofs.Common.{◌≡◌, ◌≢◌, ◌==◌, ◌||◌, ℕ, Bool, true, false, List, [], ◌∷◌, ◌++◌, refl, sym, ap, ◌∙◌, subst, append_assoc, inl, inr}
 use Rattle.std.specs.List.{AllByRecursion, flat_map}
-use Rattle.gds_library.specs.Order.{Order, nothing, one, next, either, many, IsWord, Begins, has}
-use Rattle.gds_library.proofs.Orders.{seq, seq_back, seq_word, same_type}
+use Rattle.gds_elements.specs.Order.{Order, nothing, one, next, either, many, IsWord, Begins, has}
+use Rattle.gds_elements.proofs.Orders.{seq, seq_back, seq_word, same_type}
 
 -- a word with less behind it
 pub begins_less : (a : Order) (w v : List ℕ) → Begins a (w ++ v) → Begins a w
@@ -16,15 +16,15 @@ Lacks k w = AllByRecursion (λ x. x ≢ k) w
 abbrev pub Repeats : ℕ → List ℕ → Type 0
 Repeats k w = AllByRecursion (λ x. x ≡ k) w
 
-all_append : (P : ℕ → Type 0) (u v : List ℕ) → AllByRecursion P u → AllByRecursion P v → AllByRecursion P (u ++ v)
+pub all_append : (P : ℕ → Type 0) (u v : List ℕ) → AllByRecursion P u → AllByRecursion P v → AllByRecursion P (u ++ v)
 all_append P [] v p q = q
 all_append P (x ∷ u) v p q = (p.0, all_append P u v p.1 q)
 
-all_left : (P : ℕ → Type 0) (u v : List ℕ) → AllByRecursion P (u ++ v) → AllByRecursion P u
+pub all_left : (P : ℕ → Type 0) (u v : List ℕ) → AllByRecursion P (u ++ v) → AllByRecursion P u
 all_left P [] v p = tt
 all_left P (x ∷ u) v p = (p.0, all_left P u v p.1)
 
-all_right : (P : ℕ → Type 0) (u v : List ℕ) → AllByRecursion P (u ++ v) → AllByRecursion P v
+pub all_right : (P : ℕ → Type 0) (u v : List ℕ) → AllByRecursion P (u ++ v) → AllByRecursion P v
 all_right P [] v p = p
 all_right P (x ∷ u) v p = all_right P u v p.1
 
@@ -50,6 +50,26 @@ word_lacks (either a b) k w n h =
     let p = neither (has a k) (has b k) n in
     elim h [ inl x ↦ word_lacks a k w p.0 x | inr y ↦ word_lacks b k w p.1 y ]
 word_lacks (many a) k w n h = subst (Lacks k) (sym h.2) (all_flat (λ x. x ≢ k) (IsWord a) (λ u. word_lacks a k u n) h.0 h.1)
+
+-- whether a type of an order passes a test
+abbrev pub has_some : (ℕ → Bool) → Order → Bool
+has_some t nothing = false
+has_some t (one j) = t j
+has_some t (next a b) = has_some t a || has_some t b
+has_some t (either a b) = has_some t a || has_some t b
+has_some t (many a) = has_some t a
+
+-- where no type of an order passes a test, none of its words does
+pub word_none : (t : ℕ → Bool) (a : Order) (w : List ℕ) → has_some t a ≡ false → IsWord a w → AllByRecursion (λ k. t k ≡ false) w
+word_none t nothing w n h = subst (AllByRecursion (λ k. t k ≡ false)) (sym h) tt
+word_none t (one j) w n h = subst (AllByRecursion (λ k. t k ≡ false)) (sym h) (n, tt)
+word_none t (next a b) w n h =
+    let p = neither (has_some t a) (has_some t b) n in
+    subst (AllByRecursion (λ k. t k ≡ false)) (sym h.4) (all_append (λ k. t k ≡ false) h.0 h.1 (word_none t a h.0 p.0 h.2) (word_none t b h.1 p.1 h.3))
+word_none t (either a b) w n h =
+    let p = neither (has_some t a) (has_some t b) n in
+    elim h [ inl x ↦ word_none t a w p.0 x | inr y ↦ word_none t b w p.1 y ]
+word_none t (many a) w n h = subst (AllByRecursion (λ k. t k ≡ false)) (sym h.2) (all_flat (λ k. t k ≡ false) (IsWord a) (λ u. word_none t a u n) h.0 h.1)
 
 repeats_one : (f : ℕ) (u : List ℕ) → IsWord (one f) u → Repeats f u
 repeats_one f u h = subst (Repeats f) (sym h) (refl, tt)

@@ -1,6 +1,4 @@
--- What is drawn: shapes of figures, and cells of them; and what of it is kept, shapes of rings.
-use Rattle.std.specs.Prelude.{List, [], ◌∷◌, pos}
-use Rattle.lvl_grid.specs.declared.point.Point.{Point}
+-- Cells as a stream spells them, cells of figures, and as they are kept, cells of rings.
 use Rattle.lvl_path.specs.Figure.{Figure}
 use Rattle.lvl_cells.specs.Cells.{PlainShape, PlainCell, Rings}
 
@@ -14,7 +12,3 @@ KeptShape = PlainShape Rings
 
 abbrev pub KeptCell : Type 0
 KeptCell = PlainCell Rings
-
--- the zero shift alone
-abbrev pub one_place : List Point
-one_place = record { x = pos 0; y = pos 0 } ∷ []

@@ -1,55 +1,36 @@
 -- Fronts of streams, breaches of rules, and what is spelled.
-use Rattle.std.specs.Prelude.{true, ◌≡◌, ◌≢◌, ℕ, ◌<◌, ◌≤◌, ◌<ℤ◌, pos, ◌⊎◌, List, [], ◌∷◌, ◌++◌, length, take, drop, All}
+use Rattle.std.specs.Prelude.{◌≡◌, ◌≢◌, ℕ, ◌<◌, ◌≤◌, ◌⊎◌, List, [], ◌∷◌, ◌++◌, length, take, drop}
 use Rattle.gds_records.specs.Records.{file_limit}
 use Rattle.gds_records.specs.Spelled.{IsBegun}
 use Rattle.lvl_io.specs.Known.{Agree}
-use Rattle.lvl_grid.specs.Winding.{IsStraight, path_edges, last_or}
-use Rattle.lvl_grid.specs.declared.point.Point.{Point}
 use Rattle.lvl_path.specs.Figure.{figure_rings}
 use Rattle.lvl_cells.specs.Cells.{kept}
+use Rattle.gds_elements.specs.Types.{bgnstr, strname}
+use Rattle.gds_elements.specs.Order.{IsWord, Begins}
+use Rattle.gds_elements.specs.Rec.{Rec, kinds, is_type, is_opener}
+use Rattle.gds_elements.specs.Values.{name}
+use Rattle.gds_elements.specs.Rules.{IsKnown, IsName, ElementBreaches}
+use Rattle.gds_elements.specs.declared.fault.GdsKind.{GdsKind}
+use Rattle.gds_elements.specs.declared.fault.GdsKind.TheVariants.{Record, Unexpected, Unsupported, Name, AfterEnd, TooManyCells}
 use Rattle.gds_library.specs.Drawn.{Drawing, KeptCell}
-use Rattle.gds_library.specs.Types.{bgnstr, strname, layer, datatype, xy}
-use Rattle.gds_library.specs.Order.{a_library, has, IsWord, Begins}
-use Rattle.gds_library.specs.Rec.{Rec, kinds, Spells, SpellsAll, pieces, is_type}
-use Rattle.gds_library.specs.Values.{short, points, name, drawings, head}
+use Rattle.gds_library.specs.Order.{a_library}
+use Rattle.gds_library.specs.Rec.{Spells, SpellsAll, pieces, last_piece}
+use Rattle.gds_library.specs.Values.{drawings, head}
 use Rattle.gds_library.specs.declared.head.GdsHead.{GdsHead}
-use Rattle.gds_library.specs.declared.fault.GdsKind.{GdsKind}
-use Rattle.gds_library.specs.declared.fault.GdsKind.TheVariants.{Record, Unexpected, Unsupported, Layer, Points, NotClosed, Name, AfterEnd, Oblique, TooManyCells}
 
 -- the greatest number of cells
 abbrev pub cell_limit : ℕ
 cell_limit = 1048576
 
--- the type stands somewhere in the order of records; a zero byte is no record there
-abbrev pub IsKnown : ℕ → Type 0
-IsKnown k = has a_library k ≡ true
-
--- a name has 1 to 255 bytes, each of them printed and no space
-abbrev pub IsName : List ℕ → Type 0
-IsName bytes = (0 < length bytes) × (length bytes ≤ 255) × All (λ b. (0x21 ≤ b) × (b ≤ 0x7E)) bytes
-
--- the steps from each point to the next
-abbrev pub steps : List Point → List (Point × Point)
-steps [] = []
-steps (p ∷ ps) = path_edges p ps
-
--- the points end where they begin
-abbrev pub IsClosed : List Point → Type 0
-IsClosed [] = Unit {0}
-IsClosed (p ∷ ps) = last_or p ps ≡ p
-
--- a record, behind some records, breaches the rule
+-- a record, behind some records, breaches the rule: one of the library, or one of the element whose opener came last
 abbrev pub Breaches : List Rec → Rec → GdsKind → Type 0
 Breaches before r (Record f) = ⊥
 Breaches before r (Unexpected k) = (r.kind ≡ k) × IsKnown k × ¬ Begins a_library (kinds (before ++ r ∷ []))
 Breaches before r (Unsupported k) = (r.kind ≡ k) × (k < 60) × ¬ IsKnown k
-Breaches before r Layer = ((r.kind ≡ layer) ⊎ (r.kind ≡ datatype)) × (short r.payload <ℤ pos 0)
-Breaches before r Points = (r.kind ≡ xy) × (length (points r.payload) < 4)
-Breaches before r NotClosed = (r.kind ≡ xy) × ¬ IsClosed (points r.payload)
-Breaches before r Name = (r.kind ≡ strname) × ¬ IsName (name r.payload)
+Breaches before r Name = ((r.kind ≡ strname) × ¬ IsName (name r.payload)) ⊎ ElementBreaches (last_piece is_opener before) r Name
 Breaches before r AfterEnd = ⊥
-Breaches before r Oblique = (r.kind ≡ xy) × ¬ All IsStraight (steps (points r.payload))
 Breaches before r TooManyCells = (r.kind ≡ bgnstr) × (cell_limit ≤ length (pieces (is_type bgnstr) before))
+Breaches before r k = ElementBreaches (last_piece is_opener before) r k
 
 -- no record breaches a rule
 abbrev pub BreachesNone : List Rec → Type 0

@@ -6,7 +6,7 @@ pub mod Drawn
 pub mod Values
 pub mod Front
 pub mod Faults
-pub mod Reading
+pub mod Shown
 pub mod Holds
 pub mod Ends
 pub mod ReadTo

@@ -1,54 +1,27 @@
-//! A library that is being read, record by record.
-ghost use Rattle.std.specs.Prelude.{◌≡◌, ◌==◌, if◌then◌else◌, ◌<◌, ◌≤◌, ◌<ℤ◌, ◌≤ℤ◌, ◌∷◌, [], pos, Some, None, IsTrue, ◌↔◌, OnOk, IfOk, IfErr, length, All};
+//! The library of the records that stand outside of elements, and of what elements draw.
+ghost use Rattle.std.specs.Prelude.{◌≡◌, ◌==◌, if◌then◌else◌, ◌<◌, [], pos, Some, None, IsTrue, ◌↔◌, OnOk, IfOk, IfErr, length};
+ghost use Rattle.gds_elements.specs.Types.{header, units};
+ghost use Rattle.gds_elements.specs.Values.{short, name};
+ghost use Rattle.gds_elements.specs.Rules.{IsName};
+ghost use Rattle.gds_elements.specs.Misplaced.{Says};
+ghost use Rattle.gds_elements.specs.Reading.{shapes_in, references_in};
+ghost use Rattle.gds_library.specs.Values.{two_reals};
 ghost use Rattle.gds_library.specs.Place.{after};
-ghost use Rattle.gds_library.specs.Types.{header, units};
-ghost use Rattle.gds_library.specs.Values.{short, two_reals, points, name, magnitude, but_last};
-ghost use Rattle.gds_library.specs.Front.{IsName, IsClosed, steps};
-ghost use Rattle.lvl_grid.specs.Winding.{IsStraight};
-ghost use Rattle.gds_library.specs.Drawn.{one_place};
-ghost use Rattle.gds_library.specs.Faults.{IsFormed, IsFault, IsAllowed, IsMisplaced, IsRingFault, Says};
+ghost use Rattle.gds_library.specs.Faults.{IsFormed, IsFault, IsAllowed, IsMisplaced};
 
-use crate::fault::GdsKind;
 use crate::head::GdsHead;
 use crate::place::Place;
-use crate::values::{is_name, name, points, short, two_reals};
+use crate::values::{is_name, name, short, two_reals};
+use gds_elements::{Drawn, GdsKind, Refusal};
 use gds_records::record_type;
-use lvl_cells::{Cell, Layer, Library, Offsets, Shape};
-use lvl_grid::{Point, Ring};
-use std::alloc::{AllocError, AllocFailed, Global};
+use lvl_cells::{Cell, Library, Reference, Shape};
+use std::alloc::Global;
 use std::mem;
-
-/// Why a record was refused.
-#[derive(Debug, Drop)]
-pub(crate) enum Refusal {
-    Breach(GdsKind),
-    OutOfMemory,
-}
-
-impl From<AllocError> for Refusal {
-    ghost use Rattle.gds_library.specs.declared.builder.Refusal.TheVariants.{OutOfMemory};
-
-    ghost from_gives = { λ _ e. e ≡ OutOfMemory };
-
-    fn from(_e: AllocError) -> Refusal {
-        Refusal::OutOfMemory
-    }
-}
-
-impl<T: Drop> From<AllocFailed<T>> for Refusal {
-    ghost use Rattle.gds_library.specs.declared.builder.Refusal.TheVariants.{OutOfMemory};
-
-    ghost from_gives = { λ _ e. e ≡ OutOfMemory };
-
-    fn from(_e: AllocFailed<T>) -> Refusal {
-        Refusal::OutOfMemory
-    }
-}
 
 /// The greatest number of cells.
 const MOST_CELLS: usize = 1_048_576;
 
-/// What was read so far.
+/// The library so far.
 #[derive(Drop)]
 pub(crate) struct Builder {
     place: Place,
@@ -57,12 +30,11 @@ pub(crate) struct Builder {
     cells: Vec<Cell>,
     name: Vec<u8>,
     shapes: Vec<Shape>,
-    layer: Layer,
-    rings: Vec<Ring>,
+    references: Vec<Reference>,
 }
 
 impl Builder {
-    ghost use Rattle.gds_library.specs.Reading.{shown, grown, done};
+    ghost use Rattle.gds_library.specs.Shown.{shown, grown, with_drawn, on_last, done};
 
     pub(crate) fn new(alloc: Global) -> Builder
         ensures place { result.place ≡ Place.Header }
@@ -76,12 +48,15 @@ impl Builder {
             cells: Vec::new(alloc),
             name: Vec::new(alloc),
             shapes: Vec::new(alloc),
-            layer: Layer {
-                layer: 0,
-                datatype: 0,
-            },
-            rings: Vec::new(alloc),
+            references: Vec::new(alloc),
         }
+    }
+
+    /// Whether an element may begin.
+    pub(crate) fn may_open(&self) -> bool
+        ensures { IsTrue result ↔ (self.now.place ≡ Place.Elements) }
+    {
+        self.place == Place::Elements
     }
 
     /// Whether the library's end was read.
@@ -103,13 +78,12 @@ impl Builder {
             cells,
             name: _name,
             shapes: _shapes,
-            layer: _,
-            rings: _rings,
+            references: _references,
         } = self;
         (Library { cells }, GdsHead { version, units })
     }
 
-    /// Takes the next record, if it breaches no rule.
+    /// Takes the next record, if it opens no element and breaches no rule.
     pub(crate) fn take(&mut self, alloc: Global, kind: u8, payload: &[u8]) -> Result<(), Refusal>
         requires { IsFormed kind payload.now }
         ensures refused { IfErr result (λ e. Says e (IsFault self.old.place (length self.old.cells.items) kind payload.now)) }
@@ -133,39 +107,38 @@ impl Builder {
             record_type::STRNAME => {
                 self.name = cell_name(alloc, payload)?;
                 self.shapes = Vec::new(alloc);
+                self.references = Vec::new(alloc);
             }
             record_type::ENDSTR => {
                 let cell = Cell {
                     name: mem::replace(&mut self.name, Vec::new(alloc)),
                     shapes: mem::replace(&mut self.shapes, Vec::new(alloc)),
-                    references: Vec::new(alloc),
+                    references: mem::replace(&mut self.references, Vec::new(alloc)),
                 };
                 self.cells.push(cell)?;
-            }
-            record_type::LAYER => self.layer.layer = layer_number(payload)?,
-            record_type::DATATYPE => self.layer.datatype = layer_number(payload)?,
-            record_type::XY => self.rings = rings_of(alloc, payload)?,
-            record_type::ENDEL => {
-                let rings = mem::replace(&mut self.rings, Vec::new(alloc));
-                self.shapes.push(Shape {
-                    layer: self.layer,
-                    rings,
-                    shifts: zero_shift(),
-                })?;
             }
             _ => {}
         }
         self.place = next;
         Ok(())
     }
-}
 
-/// The zero shift alone. It takes no memory.
-fn zero_shift() -> Offsets
-    ensures { result ≡ one_place }
-{
-    let zero = Point { x: 0, y: 0 };
-    Offsets::lattice(zero, 1, zero, 1).unwrap()
+    /// Adds what an element draws to the open cell.
+    pub(crate) fn add(&mut self, drawn: Drawn) -> Result<(), Refusal>
+        ensures refused { IfErr result (λ e. e ≡ Refusal.OutOfMemory) }
+        ensures place { OnOk result (self.new.place ≡ self.old.place) }
+        ensures version { OnOk result (self.new.version ≡ self.old.version) }
+        ensures units { OnOk result (self.new.units ≡ self.old.units) }
+        ensures shown { OnOk result (self.old.place ≡ Place.Elements
+            → shown self.new ≡ on_last (with_drawn (shapes_in drawn) (references_in drawn)) (shown self.old)) }
+    {
+        match drawn {
+            Drawn::Shape(shape) => self.shapes.push(shape)?,
+            Drawn::Reference(reference) => self.references.push(reference)?,
+            Drawn::Nothing => {}
+        }
+        Ok(())
+    }
 }
 
 fn misplaced(kind: u8) -> GdsKind
@@ -182,22 +155,25 @@ fn misplaced(kind: u8) -> GdsKind
         | record_type::STRNAME
         | record_type::ENDSTR
         | record_type::BOUNDARY
+        | record_type::PATH
+        | record_type::SREF
+        | record_type::AREF
+        | record_type::TEXT
         | record_type::LAYER
         | record_type::DATATYPE
+        | record_type::WIDTH
         | record_type::XY
-        | record_type::ENDEL => GdsKind::Unexpected(kind),
+        | record_type::ENDEL
+        | record_type::SNAME
+        | record_type::COLROW
+        | record_type::TEXTTYPE
+        | record_type::PRESENTATION
+        | record_type::STRING
+        | record_type::STRANS
+        | record_type::MAG
+        | record_type::ANGLE
+        | record_type::PATHTYPE => GdsKind::Unexpected(kind),
         _ => GdsKind::Unsupported(kind),
-    }
-}
-
-fn layer_number(payload: &[u8]) -> Result<u32, Refusal>
-    requires { length payload.now ≡ 2 }
-    ensures value { IfOk result (λ n. (n ≡ magnitude (short payload.now)) × (pos 0 ≤ℤ short payload.now)) }
-    ensures negative { IfErr result (λ e. (e ≡ Refusal.Breach GdsKind.Layer) × (short payload.now <ℤ pos 0)) }
-{
-    match u32::try_from(short(payload)) {
-        Ok(number) => Ok(number),
-        Err(_) => Err(Refusal::Breach(GdsKind::Layer)),
     }
 }
 
@@ -210,26 +186,4 @@ fn cell_name(alloc: Global, payload: &[u8]) -> Result<Vec<u8>, Refusal>
         return Err(Refusal::Breach(GdsKind::Name));
     }
     Ok(Vec::from_slice(alloc, name)?)
-}
-
-fn rings_of(alloc: Global, payload: &[u8]) -> Result<Vec<Ring>, Refusal>
-    ensures value { IfOk result (λ v. v.items ≡ but_last (points payload.now) ∷ []) }
-    ensures allowed { OnOk result ((4 ≤ length (points payload.now)) × IsClosed (points payload.now)
-        × All IsStraight (steps (points payload.now))) }
-    ensures refused { IfErr result (λ e. Says e (IsRingFault (points payload.now))) }
-{
-    let mut points = points(alloc, payload)?;
-    if points.len() < 4 {
-        return Err(Refusal::Breach(GdsKind::Points));
-    }
-    let last = points.pop().unwrap();
-    if last != points[0] {
-        return Err(Refusal::Breach(GdsKind::NotClosed));
-    }
-    let mut rings = Vec::with_capacity(alloc, 1)?;
-    match Ring::new(points) {
-        Ok(ring) => rings.push(ring)?,
-        Err(_) => return Err(Refusal::Breach(GdsKind::Oblique)),
-    }
-    Ok(rings)
 }

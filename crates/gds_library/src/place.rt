@@ -1,4 +1,4 @@
-//! Where a reader stands in the order of records.
+//! Where a reader stands in the order of records, outside of elements.
 ghost use Rattle.std.specs.Prelude.{◌≡◌, ◌==◌, if◌then◌else◌};
 ghost use Rattle.gds_library.specs.Place.{after};
 
@@ -6,7 +6,7 @@ use gds_records::record_type;
 
 /// What the next record may be, named by it.
 #[derive(Clone, Copy, Debug, PartialEq, Eq)]
-pub enum Place {
+pub(crate) enum Place {
     Header,
     BgnLib,
     LibName,
@@ -14,16 +14,12 @@ pub enum Place {
     Structures,
     StrName,
     Elements,
-    Layer,
-    Datatype,
-    Points,
-    EndEl,
     Fill,
 }
 
 impl Place {
-    /// The place behind a record of this type, if one may stand here.
-    pub fn after(self, kind: u8) -> Option<Place>
+    /// The place behind a record of this type, if one may stand here and opens no element.
+    pub(crate) fn after(self, kind: u8) -> Option<Place>
         ensures { result ≡ after self kind }
     {
         match self {
@@ -37,15 +33,7 @@ impl Place {
                 _ => None,
             },
             Place::StrName => only(kind, record_type::STRNAME, Place::Elements),
-            Place::Elements => match kind {
-                record_type::ENDSTR => Some(Place::Structures),
-                record_type::BOUNDARY => Some(Place::Layer),
-                _ => None,
-            },
-            Place::Layer => only(kind, record_type::LAYER, Place::Datatype),
-            Place::Datatype => only(kind, record_type::DATATYPE, Place::Points),
-            Place::Points => only(kind, record_type::XY, Place::EndEl),
-            Place::EndEl => only(kind, record_type::ENDEL, Place::Elements),
+            Place::Elements => only(kind, record_type::ENDSTR, Place::Structures),
             Place::Fill => None,
         }
     }

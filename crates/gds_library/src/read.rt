@@ -4,12 +4,14 @@ ghost use Rattle.lvl_io.specs.Bytes.{CountsFailure};
 ghost use Rattle.gds_records.specs.Records.{has_failed, bytes_left, records_offset, records_reader};
 ghost use Rattle.gds_library.specs.Ends.{Tells, IsExcused, is_read};
 ghost use Rattle.gds_library.specs.Front.{IsRead, IsOnly, SpellsNone};
+ghost use Rattle.gds_library.specs.Holds.{HasRead};
 ghost use Rattle.gds_library.specs.ReadTo.{ReadTo};
+ghost use Rattle.gds_library.specs.declared.place.Place.TheVariants.{Fill};
 
-use crate::builder::{Builder, Refusal};
-use crate::fault::{GdsFault, GdsKind};
+use crate::fault::GdsFault;
 use crate::head::GdsHead;
-use crate::place::Place;
+use crate::reading::Reading;
+use gds_elements::{GdsKind, Refusal};
 use gds_records::{RecordFault, Records};
 use lvl_cells::Library;
 use lvl_io::Read;
@@ -63,9 +65,9 @@ fn read_library<R: Read>(
         (R.read_errors (records_reader records.new)) (is_read result) }
     ensures same { R.lent (records_reader records.new) ≡ R.lent (records_reader records.old) }
 {
-    let builder = read_all(alloc, records)?;
+    let reading = read_all(alloc, records)?;
     match records.tail() {
-        Ok(None) => Ok(builder.finish()),
+        Ok(None) => Ok(reading.finish()),
         Ok(Some(offset)) => Err(GdsFault::At {
             offset,
             kind: GdsKind::AfterEnd,
@@ -78,26 +80,26 @@ fn read_library<R: Read>(
 }
 
 // Reads records up to the one that ends the library.
-fn read_all<R: Read>(alloc: Global, records: &mut Records<R>) -> Result<Builder, GdsFault>
+fn read_all<R: Read>(alloc: Global, records: &mut Records<R>) -> Result<Reading, GdsFault>
     requires fresh { has_failed records.old ≡ false }
     requires start { records_offset records.old ≡ 0 }
     ensures stuck { (xs : List ℕ) → bytes_left R.remaining records.old ≡ Some xs
         → IfErr result (λ e. Tells xs e) }
-    ensures whole { IfOk result (λ b. (b.place ≡ Place.Fill)
+    ensures whole { IfOk result (λ x. (x.builder.place ≡ Fill)
         × ((xs : List ℕ) → bytes_left R.remaining records.old ≡ Some xs
-        → ReadTo xs (records_offset records.new) b (bytes_left R.remaining records.new))) }
+        → ReadTo xs (records_offset records.new) (HasRead x) (bytes_left R.remaining records.new))) }
     ensures fresh { OnOk result (has_failed records.new ≡ false) }
     ensures reads { CountsFailure (R.read_errors (records_reader records.old))
         (R.read_errors (records_reader records.new)) (is_read result) }
     ensures same { R.lent (records_reader records.new) ≡ R.lent (records_reader records.old) }
 {
-    let mut builder = Builder::new(alloc);
+    let mut reading = Reading::new(alloc);
     for _ in 0..u64::MAX {
         let offset = records.offset();
         match records.next() {
             Ok(Some(record)) => {
-                match builder.take(alloc, record.kind, record.payload) {
-                    Ok(()) => {}
+                match reading.take(alloc, record.kind, record.payload) {
+                    Ok(next) => reading = next,
                     Err(Refusal::Breach(kind)) => return Err(GdsFault::At { offset, kind }),
                     Err(Refusal::OutOfMemory) => return Err(GdsFault::OutOfMemory),
                 }
@@ -115,8 +117,8 @@ fn read_all<R: Read>(alloc: Global, records: &mut Records<R>) -> Result<Builder,
                 });
             }
         }
-        if builder.is_whole() {
-            return Ok(builder);
+        if reading.is_whole() {
+            return Ok(reading);
         }
     }
     unreachable!()

@@ -2,85 +2,18 @@
 //! how a reader cuts the bytes nor where it fails.
 ghost use Rattle.std.specs.Prelude.{Some, None};
 
+use crate::stream::{ONE, SQUARE, Stream};
 use crate::{GdsFault, GdsHead, GdsKind, read_gds};
-use gds_records::{RecordFault, record_type};
+use gds_records::RecordFault;
 use lvl_cells::{Layer, Library};
 use lvl_grid::Point;
 use lvl_io::fake::Pieces;
 use std::alloc::{AllocError, Global};
 use std::test::Fail;
 
-const ONE: [u8; 8] = [0x41, 0x10, 0, 0, 0, 0, 0, 0];
-
-const SIDE: [(i32, i32); 5] = [(0, 0), (10, 0), (10, 10), (0, 10), (0, 0)];
-
-/// A stream to which records are appended.
-#[derive(Drop)]
-struct Stream {
-    bytes: Vec<u8>,
-}
-
-impl Stream {
-    /// A library's beginning.
-    fn new(alloc: Global) -> Result<Stream, AllocError> {
-        let mut stream = Stream {
-            bytes: Vec::new(alloc),
-        };
-        stream.record(record_type::HEADER, 2, &[0x02, 0x58])?;
-        stream.record(record_type::BGNLIB, 2, &[0; 24])?;
-        stream.record(record_type::LIBNAME, 6, b"LB")?;
-        let mut units = Vec::new(alloc);
-        units.extend_from_slice(&ONE)?;
-        units.extend_from_slice(&ONE)?;
-        stream.record(record_type::UNITS, 5, &units)?;
-        Ok(stream)
-    }
-
-    fn record(&mut self, kind: u8, data_type: u8, payload: &[u8]) -> Result<(), AllocError> {
-        let len = (payload.len() % 65_532 + 4) as u16;
-        self.bytes.extend_from_slice(&len.to_be_bytes())?;
-        self.bytes.push(kind)?;
-        self.bytes.push(data_type)?;
-        self.bytes.extend_from_slice(payload)?;
-        Ok(())
-    }
-
-    fn structure(&mut self, name: &[u8]) -> Result<(), AllocError> {
-        self.record(record_type::BGNSTR, 2, &[0; 24])?;
-        self.record(record_type::STRNAME, 6, name)
-    }
-
-    fn boundary(
-        &mut self,
-        alloc: Global,
-        layer: i16,
-        datatype: i16,
-        points: &[(i32, i32)],
-    ) -> Result<(), AllocError> {
-        self.record(record_type::BOUNDARY, 0, b"")?;
-        self.record(record_type::LAYER, 2, &layer.to_be_bytes())?;
-        self.record(record_type::DATATYPE, 2, &datatype.to_be_bytes())?;
-        let mut xy = Vec::new(alloc);
-        for (x, y) in points {
-            xy.extend_from_slice(&x.to_be_bytes())?;
-            xy.extend_from_slice(&y.to_be_bytes())?;
-        }
-        self.record(record_type::XY, 3, &xy)?;
-        self.record(record_type::ENDEL, 0, b"")
-    }
-
-    fn end_structure(&mut self) -> Result<(), AllocError> {
-        self.record(record_type::ENDSTR, 0, b"")
-    }
-
-    fn end(&mut self) -> Result<(), AllocError> {
-        self.record(record_type::ENDLIB, 0, b"")
-    }
-}
-
 /// A library with one structure TOP, in it the boundary of a square.
 fn square(alloc: Global) -> Result<Vec<u8>, AllocError> {
-    with_boundary(alloc, b"TOP\0", &SIDE)
+    with_boundary(alloc, b"TOP\0", &SQUARE)
 }
 
 /// A library with one structure, in it one boundary.
@@ -157,7 +90,7 @@ fn reads_structures_in_file_order(rt: HostRuntime) -> Result<(), Fail> {
     for (n, name) in names.iter().enumerate() {
         stream.structure(name)?;
         for _ in 0..n {
-            stream.boundary(rt.alloc(), 2, 32_767, &SIDE)?;
+            stream.boundary(rt.alloc(), 2, 32_767, &SQUARE)?;
         }
         stream.end_structure()?;
     }
@@ -182,7 +115,7 @@ fn names_the_first_fault(rt: HostRuntime) -> Result<(), Fail> {
         (92, 0x20, 88, GdsKind::Name),
         (92, 0x7F, 88, GdsKind::Name),
         (94, 0x00, 88, GdsKind::Name),
-        (98, 0x09, 96, GdsKind::Unsupported(0x09)),
+        (98, 0x09, 112, GdsKind::Width),
         (98, 0x2D, 96, GdsKind::Unsupported(0x2D)),
         (98, 0x04, 96, GdsKind::Unexpected(0x04)),
         (98, 0x07, 100, GdsKind::Unexpected(0x0D)),
@@ -246,7 +179,7 @@ fn names_have_up_to_255_bytes(rt: HostRuntime) -> Result<(), Fail> {
         for _ in 0..zeros {
             name.push(0)?;
         }
-        let bytes = with_boundary(rt.alloc(), &name, &SIDE)?;
+        let bytes = with_boundary(rt.alloc(), &name, &SQUARE)?;
         let fault = if accepted {
             None
         } else {
@@ -298,21 +231,24 @@ fn takes_zero_bytes_alone_behind_the_end(rt: HostRuntime) -> Result<(), Fail> {
     Ok(())
 }
 
+/// Row each-byte: whatever a byte is, there is an answer, and it matters not how a reader cuts the bytes.
 #[test]
 fn reads_pieces_of_any_size_alike(rt: HostRuntime) -> Result<(), Fail> {
     let mut bytes = square(rt.alloc())?;
     for k in 0..bytes.len() {
         let kept = bytes.get(k).copied().unwrap_or(0);
-        for value in [kept.wrapping_add(1)] {
+        for value in 0..=u8::MAX {
             if let Some(byte) = bytes.get_mut(k) {
                 *byte = value;
             }
             let fault = read(rt.alloc(), &bytes, 1000).err();
-            assert_eq!(rt;
-                read(rt.alloc(), &bytes, 5).err(),
-                fault,
-                "byte {k} is {value}"
-            );
+            for most in [1, 2, 3] {
+                assert_eq!(rt;
+                    read(rt.alloc(), &bytes, most).err(),
+                    fault,
+                    "byte {k} is {value}"
+                );
+            }
             assert!(rt; fault != at(k as u64, GdsKind::Record(RecordFault::Read)));
         }
         if let Some(byte) = bytes.get_mut(k) {

@@ -92,9 +92,9 @@ pub walked_none : (a b : List PlainSheet) → IsWalked a b a b
 walked_none a b l = elim (among_or_none l a) [
   | inl x ↦ inr (inl x)
   | inr x ↦ elim (among_or_none l b) [
-      | inl y ↦ inr (inr y)
-      | inr y ↦ inl (λ s. rw (x, y) (λ h. h, λ h. h))
-    ]
+    | inl y ↦ inr (inr y)
+    | inr y ↦ inl (λ s. rw (x, y) (λ h. h, λ h. h))
+  ]
 ]
 
 pub sorted_drop : (n : ℕ) (us : List PlainSheet) → AreSorted us → AreSorted (drop n us)
@@ -109,9 +109,9 @@ walked_more a b us vs m w alike l =
     elim (w l) [
       | inl x ↦ inl x
       | inr x ↦ elim x [
-          | inl y ↦ elim (among_behind l m us y) [ inl z ↦ inr (inl z) | inr z ↦ inl (here z) ]
-          | inr y ↦ elim (among_behind l m vs y) [ inl z ↦ inr (inr z) | inr z ↦ inl (here z) ]
-        ]
+        | inl y ↦ elim (among_behind l m us y) [ inl z ↦ inr (inl z) | inr z ↦ inl (here z) ]
+        | inr y ↦ elim (among_behind l m vs y) [ inl z ↦ inr (inr z) | inr z ↦ inl (here z) ]
+      ]
     ]
 
 -- nothing is left: both are alike on all Layers
@@ -125,17 +125,17 @@ before_or : (a b : Layer) → (ComesBefore b a → ⊥) → (a ≡ b) ⊎ ComesB
 before_or a b late = elim (cases_lt a.layer b.layer) [
   | inl lt ↦ inr (inl lt)
   | inr ge ↦ elim (cases_lt b.layer a.layer) [
-      | inl gt ↦ absurd (late (inl gt))
-      | inr le ↦
-          let same : a.layer ≡ b.layer = omega (arith, ge, le) in
-          elim (cases_lt a.datatype b.datatype) [
-            | inl lt ↦ inr (inr (same, lt))
-            | inr ge2 ↦ elim (cases_lt b.datatype a.datatype) [
-                | inl gt ↦ absurd (late (inr (sym same, gt)))
-                | inr le2 ↦ inl (layers_equal a b same (omega (arith, ge2, le2)))
-              ]
+    | inl gt ↦ absurd (late (inl gt))
+    | inr le ↦
+        let same : a.layer ≡ b.layer = omega (arith, ge, le) in
+        elim (cases_lt a.datatype b.datatype) [
+          | inl lt ↦ inr (inr (same, lt))
+          | inr ge2 ↦ elim (cases_lt b.datatype a.datatype) [
+            | inl gt ↦ absurd (late (inr (sym same, gt)))
+            | inr le2 ↦ inl (layers_equal a b same (omega (arith, ge2, le2)))
           ]
-    ]
+        ]
+  ]
 ]
 
 -- the lesser head comes before no other head
@@ -164,9 +164,9 @@ walked_before a b (s ∷ us) (t ∷ vs) m l ours theirs w e before =
     elim (w l) [
       | inl x ↦ x
       | inr x ↦ elim x [
-          | inl y ↦ absurd (not_among l m s.layer (s ∷ us) ours refl (before_head l m s.layer before (lesser_ours s.layer t.layer m e)) y)
-          | inr y ↦ absurd (not_among l m t.layer (t ∷ vs) theirs refl (before_head l m t.layer before (lesser_theirs s.layer t.layer m e)) y)
-        ]
+        | inl y ↦ absurd (not_among l m s.layer (s ∷ us) ours refl (before_head l m s.layer before (lesser_ours s.layer t.layer m e)) y)
+        | inr y ↦ absurd (not_among l m t.layer (t ∷ vs) theirs refl (before_head l m t.layer before (lesser_theirs s.layer t.layer m e)) y)
+      ]
     ]
 
 behind_shorter : (m : Layer) (us : List PlainSheet) → length (behind m us) ≤ length us

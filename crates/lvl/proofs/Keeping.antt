@@ -85,8 +85,8 @@ shapes_kept {F = F} rings holds law layer s c =
     let f : PlainShape F → PlainShape Rings = λ h. record { layer = h.layer; figure = rings h.figure; shifts = h.shifts } in
     both_ways _ _ _
     (Any-same (ShapeCovers holds layer s) (λ h. ShapeCovers RingsCover layer s (f h)) c.shapes (λ h.
-        let same = Any-same (λ e. holds h.figure (moved_back e s)) (λ e. RingsCover (rings h.figure) (moved_back e s)) h.shifts (λ e. let l = law h.figure (moved_back e s) in (l.1, l.0)) in
-        (λ x. (x.0, same.0 x.1), λ x. (x.0, same.1 x.1))))
+    let same = Any-same (λ e. holds h.figure (moved_back e s)) (λ e. RingsCover (rings h.figure) (moved_back e s)) h.shifts (λ e. let l = law h.figure (moved_back e s) in (l.1, l.0)) in
+    (λ x. (x.0, same.0 x.1), λ x. (x.0, same.1 x.1))))
     (let m = Any-map (ShapeCovers RingsCover layer s) f c.shapes in (m.1, m.0))
 
 pub covers_kept : {F : Type 0} (rings : F → Rings) (holds : F → Square → Type 0) → ((f : F) (s : Square) → RingsCover (rings f) s ↔ holds f s) → (cells : List (PlainCell F)) (layer : Layer) (n : ℕ) (c : PlainCell F) (s : Square)
@@ -95,10 +95,10 @@ covers_kept rings holds law cells layer zero c s = shapes_kept rings holds law l
 covers_kept rings holds law cells layer (suc n) c s =
     either_same _ _ _ _ (shapes_kept rings holds law layer s c)
     (Any-same (λ r. IsSomeAnd (cell_named cells r.cell) (λ d. Any (PullsBack (CoversWithin holds cells layer n d) r s) r.shifts))
-        (λ r. IsSomeAnd (cell_named (kept rings cells) r.cell) (λ d. Any (PullsBack (CoversWithin RingsCover (kept rings cells) layer n d) r s) r.shifts)) c.references
-        (λ r. rw (named_kept rings cells r.cell) (some_drawn rings (cell_named cells r.cell) _ _ (λ d.
-            Any-same (PullsBack (CoversWithin holds cells layer n d) r s) (PullsBack (CoversWithin RingsCover (kept rings cells) layer n (drawn rings d)) r s) r.shifts (λ e.
-                (λ x. (x.0, x.1, (covers_kept rings holds law cells layer n d x.0).0 x.2), λ x. (x.0, x.1, (covers_kept rings holds law cells layer n d x.0).1 x.2)))))))
+    (λ r. IsSomeAnd (cell_named (kept rings cells) r.cell) (λ d. Any (PullsBack (CoversWithin RingsCover (kept rings cells) layer n d) r s) r.shifts)) c.references
+    (λ r. rw (named_kept rings cells r.cell) (some_drawn rings (cell_named cells r.cell) _ _ (λ d.
+    Any-same (PullsBack (CoversWithin holds cells layer n d) r s) (PullsBack (CoversWithin RingsCover (kept rings cells) layer n (drawn rings d)) r s) r.shifts (λ e.
+    (λ x. (x.0, x.1, (covers_kept rings holds law cells layer n d x.0).0 x.2), λ x. (x.0, x.1, (covers_kept rings holds law cells layer n d x.0).1 x.2)))))))
 
 pub cell_covers_kept : {F : Type 0} (rings : F → Rings) (holds : F → Square → Type 0) → ((f : F) (s : Square) → RingsCover (rings f) s ↔ holds f s) → (cells : List (PlainCell F)) (layer : Layer) (c : PlainCell F) (s : Square)
     → CellCovers holds cells layer c s ↔ CellCovers RingsCover (kept rings cells) layer (drawn rings c) s
@@ -131,7 +131,7 @@ over_kept rings weight other h cells zero c = h c
 over_kept rings weight other h cells (suc n) c =
     ap (λ k. k + sum_by (λ r. length r.shifts * option_map_or (over_chains weight cells n) (cell_named cells r.cell) 0) c.references) (h c)
     ∙ ap (λ k. other (drawn rings c) + k) (sum_same _ _ c.references (λ r. ap (λ k. length r.shifts * k)
-        (counted_drawn rings (cell_named cells r.cell) _ _ (over_kept rings weight other h cells n) ∙ ap (λ o. option_map_or (over_chains other (kept rings cells) n) o 0) (sym (named_kept rings cells r.cell)))))
+    (counted_drawn rings (cell_named cells r.cell) _ _ (over_kept rings weight other h cells n) ∙ ap (λ o. option_map_or (over_chains other (kept rings cells) n) o 0) (sym (named_kept rings cells r.cell)))))
 
 pub chains_kept : {F : Type 0} (rings : F → Rings) (cells : List (PlainCell F)) (c : PlainCell F) → chains cells c ≡ chains (kept rings cells) (drawn rings c)
 chains_kept rings cells c = over_kept rings (λ _. 1) (λ _. 1) (λ c. refl) cells (length cells) c ∙ ap (λ n. over_chains (λ _. 1) (kept rings cells) n (drawn rings c)) (sym (length_kept rings cells))

@@ -109,7 +109,7 @@ lifted file cells head read sheets f =
       };
       draws = λ layer t.
           let p = subst (λ (c : PlainCell Rings). RingsCover (rings_on layer sheets) t ↔ CellCovers RingsCover (kept figure_rings others) layer c t) (sym b.2)
-              (subst (λ (c : List (PlainCell Rings)). RingsCover (rings_on layer sheets) t ↔ CellCovers RingsCover c layer f.flat.top t) e (f.flat.covers layer t)) in
+          (subst (λ (c : List (PlainCell Rings)). RingsCover (rings_on layer sheets) t ↔ CellCovers RingsCover c layer f.flat.top t) e (f.flat.covers layer t)) in
           let q = draws_kept others layer b.0 t in
           (λ h. q.1 (p.0 h), λ h. p.1 (q.0 h));
     }
@@ -126,7 +126,7 @@ out_of_range file others top s name accepted checked told =
     let cell : drawn figure_rings top ≡ told.top = one_cell (kept figure_rings others) accepted.index s.top (drawn figure_rings top) told.top (cell_kept figure_rings others accepted.index top accepted.top_is) at same in
     let fits = (fits_kept figure_rings others top).0 accepted.fits in
     let chain : Chain (kept figure_rings others) (drawn figure_rings top) told.steps told.map told.cell =
-        subst (λ (c : PlainCell Rings). Chain (kept figure_rings others) c told.steps told.map told.cell) (sym cell) (subst (λ (c : List (PlainCell Rings)). Chain c told.top told.steps told.map told.cell) e told.chain) in
+    subst (λ (c : PlainCell Rings). Chain (kept figure_rings others) c told.steps told.map told.cell) (sym cell) (subst (λ (c : List (PlainCell Rings)). Chain c told.top told.steps told.map told.cell) e told.chain) in
     told.out (fits.in_range told.steps told.map told.cell chain)
 
 fault_in_range : (file : File) (others : List Drawing) (top : Drawing) (s : Settled) (fault : FlatFault) → IsAccepted file others top → IsCheckedAs (kept_of file others) s → IsFlatFault s fault → fault ≢ NoMemoryForFlat → ⊥

@@ -24,5 +24,7 @@ mod shown;
 mod side;
 mod status;
 mod tell;
+#[cfg(test)]
+mod tests;
 mod text;
 mod verdict;

@@ -36,6 +36,7 @@ pub fn run<A: Read, B: Read, W: Write>(
         text_of (W.contents out.old) (W.contents out.new)) }
     ensures nothing { result ≡ Err RunFault.OutOfMemory → Keeps (W.contents out.old) (W.contents out.new) }
     ensures errors { CountsFailure (W.write_errors out.old) (W.write_errors out.new) (is_output result) }
+    ensures same { W.lent out.new ≡ W.lent out.old }
 {
     let answer = compare_files(alloc, first, second, tops);
     tell(alloc, &answer, out)
@@ -59,6 +60,7 @@ pub fn run_show<R: Read, W: Write>(
         text_of_shown (W.contents out.old) (W.contents out.new)) }
     ensures nothing { result ≡ Err RunFault.OutOfMemory → Keeps (W.contents out.old) (W.contents out.new) }
     ensures errors { CountsFailure (W.write_errors out.old) (W.write_errors out.new) (is_output result) }
+    ensures same { W.lent out.new ≡ W.lent out.old }
 {
     let answer = show_file(alloc, reader, top);
     tell_shown(alloc, &answer, out)

@@ -14,9 +14,9 @@ returns-in_err-theirs-clause-answer g c xs ys known_first known_second =
     let r : Refusal = c.in_err-theirs.field-0.0 in
     let p = err_from_is_err_and c.from_residual-in_err-theirs.result c.from_residual-in_err-theirs.ensures.1 in
     rw (p.1, p.2) (answered_refused a b r
-        (first_of_second a r c.in_err-theirs.ensures.proper)
-        (file_refused Second b r (c.in_err-theirs.ensures.refused ys known_second))
-        (second_reached a b _ _ r read c.in_err-theirs.ensures.proper))
+    (first_of_second a r c.in_err-theirs.ensures.proper)
+    (file_refused Second b r (c.in_err-theirs.ensures.refused ys known_second))
+    (second_reached a b _ _ r read c.in_err-theirs.ensures.proper))
 
 pub returns-in_err-verdict-clause-answer : goal.returns-in_err-verdict-clause-answer
 returns-in_err-verdict-clause-answer g c xs ys known_first known_second =
@@ -27,9 +27,9 @@ returns-in_err-verdict-clause-answer g c xs ys known_first known_second =
     let r : Refusal = c.in_err-verdict.field-0.0 in
     let p = err_from_is_err_and c.from_residual-in_err-verdict.result c.from_residual-in_err-verdict.ensures.1 in
     rw (p.1, p.2) (answered_refused a b r
-        (first_refused a _ _ _ ours r c.in_err-verdict.ensures.refused)
-        (second_refused b _ _ _ theirs r c.in_err-verdict.ensures.refused)
-        (libraries_reached a b _ _ _ _ ours theirs r c.in_err-verdict.ensures.refused))
+    (first_refused a _ _ _ ours r c.in_err-verdict.ensures.refused)
+    (second_refused b _ _ _ theirs r c.in_err-verdict.ensures.refused)
+    (libraries_reached a b _ _ _ _ ours theirs r c.in_err-verdict.ensures.refused))
 
 pub returns-in_err-verdict-clause-first_refused : goal.returns-in_err-verdict-clause-first_refused
 returns-in_err-verdict-clause-first_refused g c xs known =

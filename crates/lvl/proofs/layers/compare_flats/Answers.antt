@@ -18,7 +18,7 @@ returns-in-Some-2 c =
     let us = drop c.loop-layer.ours c.args.first.now in
     let vs = drop c.loop-layer.theirs c.args.second.now in
     let lesser : IsLesser (head_layer us) (head_layer vs) (Some c.in-Some.layer) =
-        lesser_heads c.args.first.now c.args.second.now c.loop-layer.ours c.loop-layer.theirs _ _ _ _ c.layer.ensures.layer c.layer-in-loop-layer.ensures.layer c.lesser.ensures c.in-Some.is in
+    lesser_heads c.args.first.now c.args.second.now c.loop-layer.ours c.loop-layer.theirs _ _ _ _ c.layer.ensures.layer c.layer-in-loop-layer.ensures.layer c.lesser.ensures c.in-Some.is in
     let alone = subst (λ (o : Option (Square × Side)). IfSome o (λ at. IsAlone (SomeCovers c.rings-a.result.now) (SomeCovers c.rings-b.result.now) at.0 at.1)) c.in-Some-2.is c.in_ok-square.ensures.differ in
     let least = subst (λ (o : Option (Square × Side)). IfSome o (λ at. (s : Square) → IsBefore s at.0 → SomeCovers c.rings-a.result.now s ↔ SomeCovers c.rings-b.result.now s)) c.in-Some-2.is c.in_ok-square.ensures.least in
     record {
@@ -35,14 +35,14 @@ returns-in-Some-2 c =
 pub loop-layer-smaller : goal.loop-layer-smaller
 loop-layer-smaller c =
     let lesser : IsLesser (head_layer (drop c.loop-layer.ours c.args.first.now)) (head_layer (drop c.loop-layer.theirs c.args.second.now)) (Some c.in-Some.layer) =
-        lesser_heads c.args.first.now c.args.second.now c.loop-layer.ours c.loop-layer.theirs _ _ _ _ c.layer.ensures.layer c.layer-in-loop-layer.ensures.layer c.lesser.ensures c.in-Some.is in
+    lesser_heads c.args.first.now c.args.second.now c.loop-layer.ours c.loop-layer.theirs _ _ _ _ c.layer.ensures.layer c.layer-in-loop-layer.ensures.layer c.lesser.ensures c.in-Some.is in
     rw (c.past-ours.ensures, c.past-theirs.ensures) (walked_less _ _ c.in-Some.layer lesser)
 
 pub loop-layer-preserved : goal.loop-layer-preserved
 loop-layer-preserved c =
     let same = subst (λ (o : Option (Square × Side)). IfNone o ((s : Square) → SomeCovers c.rings-a.result.now s ↔ SomeCovers c.rings-b.result.now s)) c.in_default-2.is c.in_ok-square.ensures.same in
     let alike : AlikeOn c.args.first.now c.args.second.now c.in-Some.layer = λ s. subst (λ (x : Rings). SomeCovers x s ↔ SomeCovers (rings_on c.in-Some.layer c.args.second.now) s) c.rings-a.ensures
-        (subst (λ (y : Rings). SomeCovers c.rings-a.result.now s ↔ SomeCovers y s) c.rings-b.ensures (same s)) in
+    (subst (λ (y : Rings). SomeCovers c.rings-a.result.now s ↔ SomeCovers y s) c.rings-b.ensures (same s)) in
     rw (c.past-ours.ensures, c.past-theirs.ensures) (walked_more c.args.first.now c.args.second.now _ _ c.in-Some.layer c.loop-layer.invariant alike)
 
 pub returns : goal.returns

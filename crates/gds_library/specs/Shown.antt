@@ -1,0 +1,49 @@
+-- What a builder shows: the library so far, as it would be if the input ended there.
+use Rattle.std.specs.Prelude.{ℕ, ◌==◌, if◌then◌else◌, List, [], ◌∷◌, ◌++◌}
+use Rattle.lvl_cells.specs.Cells.{PlainReference}
+use Rattle.gds_elements.specs.Types.{bgnstr, strname}
+use Rattle.gds_elements.specs.Values.{name}
+use Rattle.gds_library.specs.Drawn.{KeptShape, KeptCell}
+use Rattle.gds_library.specs.declared.place.Place.{Place}
+use Rattle.gds_library.specs.declared.place.Place.TheVariants.{Header, BgnLib, LibName, Units, Structures, StrName, Elements, Fill}
+use Rattle.gds_library.specs.declared.builder.Builder.{Builder}
+
+-- the last item, changed
+abbrev pub on_last : {A : Type 0} → (A → A) → List A → List A
+on_last f [] = []
+on_last f (x ∷ []) = f x ∷ []
+on_last f (x ∷ y ∷ ys) = x ∷ on_last f (y ∷ ys)
+
+-- a cell and a library with one record more, outside of elements
+abbrev pub grown_cell : ℕ → List ℕ → KeptCell → KeptCell
+grown_cell k payload c = record { name = if k == strname then name payload else c.name; shapes = c.shapes; references = c.references }
+
+abbrev pub no_cell : KeptCell
+no_cell = record { name = []; shapes = []; references = [] }
+
+abbrev pub grown : ℕ → List ℕ → List KeptCell → List KeptCell
+grown k payload cells = if k == bgnstr then cells ++ no_cell ∷ [] else on_last (grown_cell k payload) cells
+
+-- a cell with shapes and references more
+abbrev pub with_drawn : List KeptShape → List PlainReference → KeptCell → KeptCell
+with_drawn shapes references c = record { name = c.name; shapes = c.shapes ++ shapes; references = c.references ++ references }
+
+-- the cells that were read whole
+abbrev pub done : Builder → List KeptCell
+done b = b.cells.items
+
+abbrev pub open_cell : Builder → KeptCell
+open_cell b = record { name = b.name.items; shapes = b.shapes.items; references = b.references.items }
+
+abbrev pub shown_at : Place → Builder → List KeptCell
+shown_at Header b = done b
+shown_at BgnLib b = done b
+shown_at LibName b = done b
+shown_at Units b = done b
+shown_at Structures b = done b
+shown_at StrName b = done b ++ no_cell ∷ []
+shown_at Elements b = done b ++ open_cell b ∷ []
+shown_at Fill b = done b
+
+abbrev pub shown : Builder → List KeptCell
+shown b = shown_at b.place b

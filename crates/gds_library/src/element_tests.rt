@@ -1,0 +1,256 @@
+//! Elements in streams: what is read of each, and the offset of the record that is refused.
+
+use crate::stream::{SQUARE, Stream};
+use crate::{GdsFault, GdsKind, read_gds};
+use gds_records::record_type;
+use lvl_cells::{CellFault, Library, Reference, check};
+use lvl_grid::{Point, Ring, Turn};
+use lvl_io::fake::Pieces;
+use lvl_path::PathFault;
+use std::alloc::{AllocError, Global};
+use std::test::Fail;
+
+const CORNER: [(i32, i32); 3] = [(0, 0), (10, 0), (10, 10)];
+
+const ANGLE_90: [u8; 8] = [0x42, 0x5A, 0, 0, 0, 0, 0, 0];
+
+/// The cells of a stream, which is cut into pieces of seven bytes.
+fn read(alloc: Global, stream: &Stream) -> Result<Library, GdsFault> {
+    let mut reader = Pieces::new(&stream.bytes, 7);
+    let (library, _) = read_gds(alloc, &mut reader)?;
+    Ok(library)
+}
+
+fn at(offset: u64, kind: GdsKind) -> Option<GdsFault> {
+    Some(GdsFault::At { offset, kind })
+}
+
+/// A library whose structure TOP is open: its first element begins at 96.
+fn top(alloc: Global) -> Result<Stream, AllocError> {
+    let mut stream = Stream::new(alloc)?;
+    stream.structure(b"TOP\0")?;
+    Ok(stream)
+}
+
+/// The library of a structure TOP with one path. Its PATHTYPE or its WIDTH begins at 112.
+fn with_path(
+    alloc: Global,
+    ends: Option<i16>,
+    width: i32,
+    points: &[(i32, i32)],
+) -> Result<Stream, AllocError> {
+    let mut stream = top(alloc)?;
+    stream.path(alloc, ends, width, points)?;
+    stream.end_structure()?;
+    stream.end()?;
+    Ok(stream)
+}
+
+/// A structure A with a square, and a structure TOP with an array of it.
+fn with_array(
+    alloc: Global,
+    columns: i16,
+    rows: i16,
+    points: &[(i32, i32)],
+) -> Result<Stream, AllocError> {
+    let mut stream = Stream::new(alloc)?;
+    stream.structure(b"A\0")?;
+    stream.boundary(alloc, 1, 0, &SQUARE)?;
+    stream.end_structure()?;
+    stream.structure(b"TOP\0")?;
+    stream.array(alloc, b"A\0", columns, rows, points)?;
+    stream.end_structure()?;
+    stream.end()?;
+    Ok(stream)
+}
+
+/// Where COLROW begins in `with_array`, and where XY does.
+const COLROW_AT: u64 = 208;
+const XY_AT: u64 = 216;
+
+/// Whether the ring has these points.
+fn goes_along(ring: Option<&Ring>, want: &[(i64, i64)]) -> bool {
+    let Some(ring) = ring else {
+        return false;
+    };
+    let points = ring.points();
+    points.len() == want.len()
+        && points
+            .iter()
+            .zip(want)
+            .all(|(p, (x, y))| p.x == *x && p.y == *y)
+}
+
+/// Whether these are the shifts of the reference.
+fn shifts_by(reference: &Reference, want: &[(i64, i64)]) -> bool {
+    if reference.shifts().len() != want.len() as u64 {
+        return false;
+    }
+    for (k, (x, y)) in want.iter().enumerate() {
+        if reference.shifts().at(k as u64) != Some(Point { x: *x, y: *y }) {
+            return false;
+        }
+    }
+    true
+}
+
+/// Row array-tiles: three columns by two rows of a square that touch, columns first.
+#[test]
+fn array_tiles(rt: HostRuntime) -> Result<(), Fail> {
+    let stream = with_array(rt.alloc(), 3, 2, &[(0, 0), (30, 0), (0, 20)])?;
+    let library = read(rt.alloc(), &stream)?;
+    let cell = library.cells.get(1).ok_or("a cell")?;
+    assert_eq!(rt; cell.shapes.len(), 0);
+    assert_eq!(rt; cell.references.len(), 1);
+    let reference = cell.references.first().ok_or("a reference")?;
+    assert_eq!(rt; reference.cell(), b"A".as_slice());
+    assert_eq!(rt; reference.at(), Point { x: 0, y: 0 });
+    assert_eq!(rt; reference.flip(), false);
+    assert_eq!(rt; reference.turn(), Turn::R0);
+    let shifts: [(i64, i64); 6] = [(0, 0), (10, 0), (20, 0), (0, 10), (10, 10), (20, 10)];
+    assert!(rt; shifts_by(reference, &shifts));
+    Ok(())
+}
+
+/// Rows array-tiles and array-limits: which arrays are refused, and where.
+#[test]
+fn array_limits(rt: HostRuntime) -> Result<(), Fail> {
+    let rows: [(i16, i16, [(i32, i32); 3], Option<GdsFault>); 5] = [
+        (3, 2, [(0, 0), (31, 0), (0, 20)], at(XY_AT, GdsKind::ArrayStep)),
+        (1024, 1024, [(0, 0), (1024, 0), (0, 1024)], None),
+        (1025, 1024, [(0, 0), (1025, 0), (0, 1024)], at(COLROW_AT, GdsKind::Repetition)),
+        (2, 1, [(0, 0), (-7, 0), (0, 2)], at(XY_AT, GdsKind::ArrayStep)),
+        (2, 1, [(0, 0), (-8, 0), (0, 2)], None),
+    ];
+    for (columns, rows, points, fault) in rows {
+        let stream = with_array(rt.alloc(), columns, rows, &points)?;
+        assert_eq!(rt; read(rt.alloc(), &stream).err(), fault, "{columns} {rows}");
+    }
+    Ok(())
+}
+
+/// Row flip-then-turn: a reference that is reflected and turned.
+#[test]
+fn flip_then_turn(rt: HostRuntime) -> Result<(), Fail> {
+    let mut stream = top(rt.alloc())?;
+    stream.record(record_type::SREF, 0, b"")?;
+    stream.record(record_type::SNAME, 6, b"AB")?;
+    stream.record(record_type::STRANS, 1, &[0x80, 0])?;
+    stream.record(record_type::ANGLE, 5, &ANGLE_90)?;
+    stream.points(rt.alloc(), &[(0, 0)])?;
+    stream.end_element()?;
+    stream.end_structure()?;
+    stream.end()?;
+    let library = read(rt.alloc(), &stream)?;
+    let cell = library.cells.first().ok_or("a cell")?;
+    let reference = cell.references.first().ok_or("a reference")?;
+    assert_eq!(rt; reference.cell(), b"AB".as_slice());
+    assert_eq!(rt; reference.flip(), true);
+    assert_eq!(rt; reference.turn(), Turn::R90);
+    assert!(rt; shifts_by(reference, &[(0, 0)]));
+    Ok(())
+}
+
+/// Row short-run: a run of a path that is shorter than half its width, and odd widths.
+#[test]
+fn short_run(rt: HostRuntime) -> Result<(), Fail> {
+    let short: [(i32, i32); 3] = [(0, 0), (10, 0), (10, 1)];
+    let rows: [(i32, Option<GdsFault>); 4] = [
+        (4, at(120, GdsKind::Path(PathFault::ShortRun))),
+        (3, at(112, GdsKind::Width)),
+        (0, at(112, GdsKind::Width)),
+        (2, None),
+    ];
+    for (width, fault) in rows {
+        let stream = with_path(rt.alloc(), None, width, &short)?;
+        assert_eq!(rt; read(rt.alloc(), &stream).err(), fault, "width {width}");
+    }
+    let stream = with_path(rt.alloc(), Some(1), 4, &short)?;
+    assert_eq!(rt; read(rt.alloc(), &stream).err(), at(112, GdsKind::PathType));
+    Ok(())
+}
+
+/// Row square-ends: a path that reaches out by half its width at both ends.
+#[test]
+fn square_ends(rt: HostRuntime) -> Result<(), Fail> {
+    let stream = with_path(rt.alloc(), Some(2), 4, &CORNER)?;
+    let library = read(rt.alloc(), &stream)?;
+    let cell = library.cells.first().ok_or("a cell")?;
+    let shape = cell.shapes.first().ok_or("a shape")?;
+    assert_eq!(rt; shape.rings.len(), 2);
+    let first: [(i64, i64); 4] = [(-2, -2), (12, -2), (12, 2), (-2, 2)];
+    let second: [(i64, i64); 4] = [(8, -2), (12, -2), (12, 12), (8, 12)];
+    assert!(rt; goes_along(shape.rings.first(), &first));
+    assert!(rt; goes_along(shape.rings.get(1), &second));
+    Ok(())
+}
+
+/// Row text-covers-nothing: a text between other elements leaves no trace.
+#[test]
+fn text_covers_nothing(rt: HostRuntime) -> Result<(), Fail> {
+    let mut stream = top(rt.alloc())?;
+    stream.boundary(rt.alloc(), 1, 0, &SQUARE)?;
+    stream.record(record_type::TEXT, 0, b"")?;
+    stream.record(record_type::LAYER, 2, &[0xFF, 0xFF])?;
+    stream.record(record_type::TEXTTYPE, 2, &[0, 0])?;
+    stream.points(rt.alloc(), &[(0, 0)])?;
+    stream.record(record_type::STRING, 6, b"HI")?;
+    stream.end_element()?;
+    stream.boundary(rt.alloc(), 2, 0, &SQUARE)?;
+    stream.end_structure()?;
+    stream.end()?;
+    let library = read(rt.alloc(), &stream)?;
+    let cell = library.cells.first().ok_or("a cell")?;
+    assert_eq!(rt; cell.shapes.len(), 2);
+    assert_eq!(rt; cell.references.len(), 0);
+    Ok(())
+}
+
+/// Row cycle: cells that place one another are read, and refused as a library.
+#[test]
+fn cycle(rt: HostRuntime) -> Result<(), Fail> {
+    let mut stream = Stream::new(rt.alloc())?;
+    let cells: [(&[u8], &[u8]); 2] = [(b"A\0", b"B\0"), (b"B\0", b"A\0")];
+    for (name, placed) in cells {
+        stream.structure(name)?;
+        stream.reference(rt.alloc(), placed, (0, 0))?;
+        stream.end_structure()?;
+    }
+    stream.structure(b"C\0")?;
+    stream.end_structure()?;
+    stream.end()?;
+    let library = read(rt.alloc(), &stream)?;
+    assert_eq!(rt; library.cells.len(), 3);
+    match check(rt.alloc(), library, None) {
+        Err(CellFault::Cycle(names)) => {
+            assert_eq!(rt; names.len(), 2);
+            let first = names.first().ok_or("a name")?;
+            assert_eq!(rt; first.as_slice(), b"A".as_slice());
+        }
+        _ => return Err(Fail::from("a cycle")),
+    }
+    Ok(())
+}
+
+/// A rule is named at the record that breaches it, whichever element it stands in.
+#[test]
+fn names_each_fault_where_it_stands(rt: HostRuntime) -> Result<(), Fail> {
+    let rows: [(u8, u8, &[u8], GdsKind); 7] = [
+        (record_type::STRANS, 1, &[0, 4], GdsKind::Strans),
+        (record_type::ENDSTR, 0, b"", GdsKind::Unexpected(record_type::ENDSTR)),
+        (record_type::SREF, 0, b"", GdsKind::Unexpected(record_type::SREF)),
+        (record_type::BGNSTR, 2, &[0; 24], GdsKind::Unexpected(record_type::BGNSTR)),
+        (record_type::ENDLIB, 0, b"", GdsKind::Unexpected(record_type::ENDLIB)),
+        (0x15, 0, b"", GdsKind::Unsupported(0x15)),
+        (record_type::XY, 3, &[0; 16], GdsKind::Points),
+    ];
+    for (kind, data_type, payload, fault) in rows {
+        let mut stream = top(rt.alloc())?;
+        stream.record(record_type::SREF, 0, b"")?;
+        stream.record(record_type::SNAME, 6, b"AB")?;
+        let offset = stream.bytes.len() as u64;
+        stream.record(kind, data_type, payload)?;
+        assert_eq!(rt; read(rt.alloc(), &stream).err(), at(offset, fault), "type {kind}");
+    }
+    Ok(())
+}

@@ -1,0 +1,116 @@
+//! A library that is being read, record by record.
+ghost use Rattle.std.specs.Prelude.{◌≡◌, List, ℕ, [], IsTrue, ◌↔◌};
+ghost use Rattle.gds_elements.specs.Rec.{Rec};
+ghost use Rattle.gds_elements.specs.Reading.{record_of};
+ghost use Rattle.gds_elements.specs.Formed.{IsFormed as IsFormedInElement};
+ghost use Rattle.gds_library.specs.Faults.{IsFormed};
+ghost use Rattle.gds_library.specs.Holds.{Holds, IsInside, HasRead, Takes};
+
+use crate::builder::Builder;
+use crate::head::GdsHead;
+use gds_elements::{Element, Refusal, Step};
+use lvl_cells::Library;
+use std::alloc::Global;
+
+/// What was read so far: a library, and the element that is open in its last cell.
+#[derive(Drop)]
+pub(crate) struct Reading {
+    builder: Builder,
+    element: Option<Element>,
+}
+
+impl Reading {
+    ghost use Rattle.gds_library.specs.Shown.{done};
+    ghost use Rattle.gds_library.specs.declared.place.Place.TheVariants.{Header, Fill};
+
+    pub(crate) fn new(alloc: Global) -> Reading
+        ensures none { HasRead result [] }
+        ensures place { result.builder.place ≡ Header }
+    {
+        Reading {
+            builder: Builder::new(alloc),
+            element: None,
+        }
+    }
+
+    /// Whether the library's end was read.
+    pub(crate) fn is_whole(&self) -> bool
+        ensures { IsTrue result ↔ (self.now.builder.place ≡ Fill) }
+    {
+        self.builder.is_whole()
+    }
+
+    /// The cells that were read whole, and the head.
+    pub(crate) fn finish(self) -> (Library, GdsHead)
+        ensures cells { result.0 ≡ done self.builder }
+        ensures head { result.1 ≡ record { version = self.builder.version; units = self.builder.units } }
+    {
+        self.builder.finish()
+    }
+
+    /// Takes the next record, if it breaches no rule.
+    pub(crate) fn take(self, alloc: Global, kind: u8, payload: &[u8]) -> Result<Reading, Refusal>
+        requires formed { IsFormed kind payload.now }
+        requires in_element { IsFormedInElement kind payload.now }
+        ensures { (rs : List Rec) (d : ℕ) → HasRead self rs → Takes rs (record_of kind d payload.now) result }
+    {
+        let Reading { builder, element } = self;
+        match element {
+            Some(element) => take_inside(builder, element, alloc, kind, payload),
+            None => take_outside(builder, alloc, kind, payload),
+        }
+    }
+}
+
+// Takes a record of the element that is open.
+fn take_inside(
+    builder: Builder,
+    element: Element,
+    alloc: Global,
+    kind: u8,
+    payload: &[u8],
+) -> Result<Reading, Refusal>
+    requires in_element { IsFormedInElement kind payload.now }
+    ensures { (rs : List Rec) (d : ℕ) → IsInside builder element rs → Takes rs (record_of kind d payload.now) result }
+{
+    let mut builder = builder;
+    match element.take(alloc, kind, payload)? {
+        Step::Open(element) => Ok(Reading {
+            builder,
+            element: Some(element),
+        }),
+        Step::Whole(drawn) => {
+            builder.add(drawn)?;
+            Ok(Reading {
+                builder,
+                element: None,
+            })
+        }
+    }
+}
+
+// Takes a record where no element is open.
+fn take_outside(
+    builder: Builder,
+    alloc: Global,
+    kind: u8,
+    payload: &[u8],
+) -> Result<Reading, Refusal>
+    requires formed { IsFormed kind payload.now }
+    ensures { (rs : List Rec) (d : ℕ) → Holds builder rs → Takes rs (record_of kind d payload.now) result }
+{
+    let mut builder = builder;
+    if builder.may_open() {
+        if let Some(element) = Element::open(alloc, kind) {
+            return Ok(Reading {
+                builder,
+                element: Some(element),
+            });
+        }
+    }
+    builder.take(alloc, kind, payload)?;
+    Ok(Reading {
+        builder,
+        element: None,
+    })
+}

@@ -1,0 +1,100 @@
+//! The text of each refusal.
+
+use crate::text::form;
+use crate::{Comparison, FileFault, Refusal};
+use gds_library::{GdsFault, GdsKind};
+use gds_records::RecordFault;
+use lvl_cells::CellFault;
+use lvl_flat::FlatFault;
+use lvl_region::Side;
+use std::alloc::{AllocError, Global};
+use std::test::Fail;
+
+fn told(alloc: Global, refusal: Refusal) -> Result<Vec<u8>, AllocError> {
+    let answer: Result<Comparison, Refusal> = Err(refusal);
+    form(alloc, &answer)
+}
+
+#[test]
+fn faults_of_a_file(rt: HostRuntime) -> Result<(), Fail> {
+    let rows: [(GdsKind, &str); 16] = [
+        (GdsKind::Record(RecordFault::Truncated), "1 Truncated"),
+        (GdsKind::Record(RecordFault::BadLength), "2 BadLength"),
+        (GdsKind::Record(RecordFault::BadDataType), "3 BadDataType"),
+        (
+            GdsKind::Record(RecordFault::UnknownRecord),
+            "4 UnknownRecord",
+        ),
+        (GdsKind::Record(RecordFault::TooLong), "5 TooLong"),
+        (GdsKind::Record(RecordFault::Read), "6 Read"),
+        (GdsKind::Record(RecordFault::Failed), "7 Failed"),
+        (GdsKind::Unexpected(16), "10 Unexpected 16"),
+        (GdsKind::Unsupported(45), "11 Unsupported 45"),
+        (GdsKind::Layer, "12 Layer"),
+        (GdsKind::Points, "13 Points"),
+        (GdsKind::NotClosed, "14 NotClosed"),
+        (GdsKind::Name, "20 Name"),
+        (GdsKind::AfterEnd, "24 AfterEnd"),
+        (GdsKind::Oblique, "25 Oblique"),
+        (GdsKind::TooManyCells, "27 TooManyCells"),
+    ];
+    for (kind, fault) in rows {
+        let offset = 4_294_967_295;
+        let at = FileFault::Gds(GdsFault::At { offset, kind });
+        let text = told(rt.alloc(), Refusal::File(Side::Second, at))?;
+        let line = format!(in rt.alloc(); "refused: second: gds {fault} at 4294967295\n")?;
+        assert_eq!(rt; text.as_slice(), line.as_bytes());
+    }
+    Ok(())
+}
+
+#[test]
+fn faults_of_cells(rt: HostRuntime) -> Result<(), Fail> {
+    let a = Vec::from_slice(rt.alloc(), b"A")?;
+    let b = Vec::from_slice(rt.alloc(), b"B")?;
+    let x = Vec::from_slice(rt.alloc(), b"X\xFF")?;
+    let mut round = Vec::new(rt.alloc());
+    for name in [b"A", b"B", b"C"] {
+        round.push(Vec::from_slice(rt.alloc(), name)?)?;
+    }
+    let rows: [(CellFault, &[u8]); 8] = [
+        (CellFault::NoCell, b"1 NoCell"),
+        (CellFault::DuplicateCell(a), b"2 DuplicateCell A"),
+        (CellFault::MissingCell(b, x), b"3 MissingCell B X\xFF"),
+        (CellFault::Cycle(round), b"4 Cycle A B C"),
+        (CellFault::TopMissing, b"5 TopMissing"),
+        (CellFault::ManyTops, b"6 ManyTops"),
+        (CellFault::TooManyPlacements, b"7 TooManyPlacements"),
+        (CellFault::TooManyRings, b"8 TooManyRings"),
+    ];
+    for (fault, told_as) in rows {
+        let text = told(rt.alloc(), Refusal::Cells(Side::First, fault))?;
+        let mut line = Vec::from_slice(rt.alloc(), b"refused: first: cells ")?;
+        line.extend_from_slice(told_as)?;
+        line.push(b'\n')?;
+        assert_eq!(rt; text.as_slice(), line.as_slice());
+    }
+    Ok(())
+}
+
+#[test]
+fn faults_of_flattening_and_memory(rt: HostRuntime) -> Result<(), Fail> {
+    let a = Vec::from_slice(rt.alloc(), b"A")?;
+    let out_of_range = Refusal::Flat(Side::First, FlatFault::OutOfRange(a));
+    let text = told(rt.alloc(), out_of_range)?;
+    assert_eq!(rt;
+        text.as_slice(),
+        b"refused: first: flat 1 OutOfRange A\n".as_slice()
+    );
+    let rows: [Refusal; 4] = [
+        Refusal::File(Side::First, FileFault::Gds(GdsFault::OutOfMemory)),
+        Refusal::Cells(Side::Second, CellFault::OutOfMemory),
+        Refusal::Flat(Side::First, FlatFault::OutOfMemory),
+        Refusal::OutOfMemory,
+    ];
+    for refusal in rows {
+        let text = told(rt.alloc(), refusal)?;
+        assert_eq!(rt; text.as_slice(), b"refused: out of memory\n".as_slice());
+    }
+    Ok(())
+}
