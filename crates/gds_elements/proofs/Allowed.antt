@@ -71,18 +71,12 @@ counted piece k n e ok h = elim (miscounted piece k n e h) [
 pub allowed : (piece : List Rec) (r : Rec) → InOrder piece r → ((k : GdsKind) → ValueBreaches piece r k → ⊥) → BreachesNone piece r
 allowed piece r g n (Unexpected j) x = x.2 g
 allowed piece r g n (Unsupported j) x = x.2 (subst IsKnown x.0 (begun_known (kinds piece) r.kind (subst (Begins an_element) (kinds-snoc piece r) g)))
-allowed piece r g n (Record f) x = x
-allowed piece r g n AfterEnd x = x
-allowed piece r g n TooManyCells x = x
 allowed piece r g n other x = n other x.1
 
 -- a value that breaches a rule, in order
 pub refused : (piece : List Rec) (r : Rec) (k : GdsKind) → InOrder piece r → ValueBreaches piece r k → ElementBreaches piece r k
 refused piece r (Unexpected j) g b = absurd b
 refused piece r (Unsupported j) g b = absurd b
-refused piece r (Record f) g b = absurd b
-refused piece r AfterEnd g b = absurd b
-refused piece r TooManyCells g b = absurd b
 refused piece r other g b = (g, b)
 
 pub law_boundary : (piece : List Rec) (r : Rec) → opener piece ≡ Some boundary

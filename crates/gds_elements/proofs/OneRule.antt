@@ -156,12 +156,6 @@ known_there piece r g = begun_known (kinds piece) r.kind (subst (Begins an_eleme
 
 -- a record breaches one rule at most
 pub one_rule : (piece : List Rec) (r : Rec) (j k : GdsKind) → ElementBreaches piece r j → ElementBreaches piece r k → j ≡ k
-one_rule piece r (Record f) k x y = absurd x
-one_rule piece r AfterEnd k x y = absurd x
-one_rule piece r TooManyCells k x y = absurd x
-one_rule piece r j (Record f) x y = absurd y
-one_rule piece r j AfterEnd x y = absurd y
-one_rule piece r j TooManyCells x y = absurd y
 one_rule piece r (Unexpected i) (Unexpected j) x y = ap (λ (n : ℕ). Unexpected n) (sym x.0 ∙ y.0)
 one_rule piece r (Unsupported i) (Unsupported j) x y = ap (λ (n : ℕ). Unsupported n) (sym x.0 ∙ y.0)
 one_rule piece r (Unexpected i) (Unsupported j) x y = absurd (y.2 (subst IsKnown (sym x.0 ∙ y.0) x.1))

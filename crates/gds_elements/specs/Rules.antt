@@ -13,7 +13,7 @@ use Rattle.gds_elements.specs.Rec.{Rec, kinds, opener, last_of}
 use Rattle.gds_elements.specs.Values.{short, long, bits, points, nth, name, magnitude, one_real, degrees, columns, rows}
 use Rattle.gds_elements.specs.Meaning.{half_of, end_of, columns_in, rows_in}
 use Rattle.gds_elements.specs.declared.fault.GdsKind.{GdsKind}
-use Rattle.gds_elements.specs.declared.fault.GdsKind.TheVariants.{Record, Unexpected, Unsupported, Layer, Points, NotClosed, Strans, Magnification, Angle, ColRow, ArrayStep, Name, Path, Width, PathType, AfterEnd, Oblique, Repetition, TooManyCells}
+use Rattle.gds_elements.specs.declared.fault.GdsKind.TheVariants.{Unexpected, Unsupported, Layer, Points, NotClosed, Strans, Magnification, Angle, ColRow, ArrayStep, Name, Path, Width, PathType, Oblique, Repetition}
 
 -- the most places of an array
 abbrev pub place_limit : ℕ
@@ -97,9 +97,6 @@ InOrder piece r = Begins an_element (kinds (piece ++ r ∷ []))
 abbrev pub ElementBreaches : List Rec → Rec → GdsKind → Type 0
 ElementBreaches piece r (Unexpected k) = (r.kind ≡ k) × IsKnown k × ¬ InOrder piece r
 ElementBreaches piece r (Unsupported k) = (r.kind ≡ k) × (k < 60) × ¬ IsKnown k
-ElementBreaches piece r (Record f) = ⊥
-ElementBreaches piece r AfterEnd = ⊥
-ElementBreaches piece r TooManyCells = ⊥
 ElementBreaches piece r f = InOrder piece r × ValueBreaches piece r f
 
 -- it breaches no other rule

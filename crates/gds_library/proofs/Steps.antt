@@ -109,21 +109,21 @@ pub may_follow : (rs : List Rec) (r : Rec) → IsNoValue r.kind → Begins a_lib
 may_follow rs r v g i m c (Record f) x = x
 may_follow rs r v g i m c (Unexpected j) x = x.2 g
 may_follow rs r v g i m c (Unsupported j) x = x.2 (subst IsKnown x.0 (i (omega (arith, x.0, x.1))))
-may_follow rs r v g i m c Layer x = elim x.1.0 [ inl y ↦ is_not r.kind layer v.layer y | inr y ↦ is_not r.kind datatype v.datatype y ]
-may_follow rs r v g i m c Points x = is_not r.kind xy v.xy x.1.0
-may_follow rs r v g i m c NotClosed x = is_not r.kind xy v.xy x.1.0
-may_follow rs r v g i m c Strans x = is_not r.kind strans v.strans x.1.0
-may_follow rs r v g i m c Magnification x = is_not r.kind mag v.mag x.1.0
-may_follow rs r v g i m c Angle x = is_not r.kind angle v.angle x.1.0
-may_follow rs r v g i m c ColRow x = is_not r.kind colrow v.colrow x.1.0
-may_follow rs r v g i m c ArrayStep x = is_not r.kind xy v.xy x.1.0
-may_follow rs r v g i m c Name x = elim x [ inl y ↦ y.1 (m y.0) | inr y ↦ is_not r.kind sname v.sname y.1.0 ]
-may_follow rs r v g i m c (Path f) x = is_not r.kind xy v.xy x.1.0
-may_follow rs r v g i m c Width x = elim x.1.1 [ inl y ↦ is_not r.kind width v.width y.0 | inr y ↦ is_not r.kind xy v.xy y.0 ]
-may_follow rs r v g i m c PathType x = is_not r.kind pathtype v.pathtype x.1.0
+may_follow rs r v g i m c Layer x = elim x.0 [ inl y ↦ is_not r.kind layer v.layer y | inr y ↦ is_not r.kind datatype v.datatype y ]
+may_follow rs r v g i m c Points x = is_not r.kind xy v.xy x.0
+may_follow rs r v g i m c NotClosed x = is_not r.kind xy v.xy x.0
+may_follow rs r v g i m c Strans x = is_not r.kind strans v.strans x.0
+may_follow rs r v g i m c Magnification x = is_not r.kind mag v.mag x.0
+may_follow rs r v g i m c Angle x = is_not r.kind angle v.angle x.0
+may_follow rs r v g i m c ColRow x = is_not r.kind colrow v.colrow x.0
+may_follow rs r v g i m c ArrayStep x = is_not r.kind xy v.xy x.0
+may_follow rs r v g i m c Name x = elim x [ inl y ↦ y.1 (m y.0) | inr y ↦ is_not r.kind sname v.sname y.0 ]
+may_follow rs r v g i m c (Path f) x = is_not r.kind xy v.xy x.0
+may_follow rs r v g i m c Width x = elim x.1 [ inl y ↦ is_not r.kind width v.width y.0 | inr y ↦ is_not r.kind xy v.xy y.0 ]
+may_follow rs r v g i m c PathType x = is_not r.kind pathtype v.pathtype x.0
 may_follow rs r v g i m c AfterEnd x = x
-may_follow rs r v g i m c Oblique x = is_not r.kind xy v.xy x.1.0
-may_follow rs r v g i m c Repetition x = is_not r.kind colrow v.colrow x.1.0
+may_follow rs r v g i m c Oblique x = is_not r.kind xy v.xy x.0
+may_follow rs r v g i m c Repetition x = is_not r.kind colrow v.colrow x.0
 may_follow rs r v g i m c TooManyCells x = omega (arith, x.1, c x.0)
 
 -- a record of an element may follow where it breaches none of the element's rules
