@@ -90,7 +90,7 @@ parts_at xs a b n e h = (ap (take n) e ∙ ap (λ i. take i (a ++ b)) h ∙ take
 
 -- what a breached rule says
 tells_rule : (xs : List ℕ) (at : ℕ) (rs : List Rec) (r : Rec) (f : GdsKind) → Breaches rs r f → IsStuck xs at × IsBreached xs at f → Tells xs (At at f)
-tells_rule xs at rs r (Record f) h x = absurd h
+tells_rule xs at rs r (Record f) h x = absurd h.1
 tells_rule xs at rs r (Unexpected j) h x = x
 tells_rule xs at rs r (Unsupported j) h x = x
 tells_rule xs at rs r Layer h x = x
@@ -105,14 +105,14 @@ tells_rule xs at rs r Name h x = x
 tells_rule xs at rs r (Path f) h x = x
 tells_rule xs at rs r Width h x = x
 tells_rule xs at rs r PathType h x = x
-tells_rule xs at rs r AfterEnd h x = absurd h
+tells_rule xs at rs r AfterEnd h x = absurd h.1
 tells_rule xs at rs r Oblique h x = x
 tells_rule xs at rs r Repetition h x = x
 tells_rule xs at rs r TooManyCells h x = x
 
 -- and that it is no failed read
 pub breach_no_read : (rs : List Rec) (r : Rec) (f : GdsKind) → Breaches rs r f → is_read_kind f ≡ false
-breach_no_read rs r (Record f) h = absurd h
+breach_no_read rs r (Record f) h = absurd h.1
 breach_no_read rs r (Unexpected j) h = refl
 breach_no_read rs r (Unsupported j) h = refl
 breach_no_read rs r Layer h = refl

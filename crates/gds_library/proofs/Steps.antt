@@ -1,7 +1,8 @@
 -- One record more, or one element more, behind a front.
 use Rattle.std.proofs.Common.{◌≡◌, ◌==◌, ℕ, ◌<◌, ◌≤◌, ◌⊎◌, ℤ, Bool, true, false, if◌then◌else◌, List, [], ◌∷◌, ◌++◌, length, Some, None, map, refl, sym, ap, ◌∙◌, subst, inl, inr, arith, append_assoc, length-append}
 use Rattle.std.specs.List.{AllByRecursion}
-use Rattle.std.specs.Prelude.{Result, Ok, Err, IsErr, IsErrAnd}
+use Rattle.std.specs.Prelude.{◌≢◌, Option, Result, Ok, Err, IsErr, IsErrAnd}
+use Rattle.std.proofs.lemmas.List.{append-nil}
 use Rattle.gds_records.specs.Records.{file_limit}
 use Rattle.lvl_path.specs.Figure.{figure_rings}
 use Rattle.lvl_cells.specs.Cells.{drawn, kept}
@@ -9,7 +10,7 @@ use Rattle.gds_elements.specs.Types.{header, bgnlib, libname, units, bgnstr, str
 use Rattle.gds_elements.specs.Order.{IsWord, Begins, an_element, opens, has}
 use Rattle.gds_elements.specs.Rec.{Rec, kinds, is_type, is_opener, field}
 use Rattle.gds_elements.specs.Values.{short, name}
-use Rattle.gds_elements.specs.Rules.{IsKnown, IsName, ElementBreaches, BreachesNone as KeepsElement}
+use Rattle.gds_elements.specs.Rules.{IsKnown, IsName, ElementBreaches, ValueBreaches as BreachesInElement, InOrder as InOrderInElement, BreachesNone as KeepsElement}
 use Rattle.gds_elements.specs.Misplaced.{Says}
 use Rattle.gds_elements.specs.Meaning.{in_rings, shapes_of, references_of}
 use Rattle.gds_elements.specs.Reading.{IsReading, IsDrawn, shapes_in, references_in}
@@ -28,7 +29,7 @@ use Rattle.gds_library.specs.Drawn.{KeptCell}
 use Rattle.gds_library.specs.Place.{after, left, LeadsTo, has_units}
 use Rattle.gds_library.specs.Rec.{Spells, pieces, last_piece}
 use Rattle.gds_library.specs.Values.{drawing, drawings, two_reals}
-use Rattle.gds_library.specs.Front.{Breaches, BreachesNone, IsFront, cell_limit}
+use Rattle.gds_library.specs.Front.{InOrder, Breaches, BreachesNone, IsFront, cell_limit}
 use Rattle.gds_library.specs.Faults.{IsFault, IsAllowed}
 use Rattle.gds_library.specs.Shown.{grown, shown, shown_at, on_last, with_drawn}
 use Rattle.gds_library.specs.Holds.{Holds, IsInside, HoldsWith, HasRead, MayFollow, Takes}
@@ -38,7 +39,7 @@ use Rattle.gds_library.specs.declared.builder.Builder.{Builder}
 use Rattle.gds_library.specs.declared.reading.Reading.{Reading}
 use Rattle.gds_library.proofs.Words.{all_right}
 use Rattle.gds_library.proofs.Places.{OpensNothing, leads_on, leads_nowhere, leads_begins}
-use Rattle.gds_library.proofs.Elements.{IsOpen, begins_open, reading_open, leads_element, open_begins, open_goes}
+use Rattle.gds_library.proofs.Elements.{IsOpen, begins_open, reading_open, leads_element, begins_inside, open_goes}
 use Rattle.gds_library.proofs.Pieces.{IsPiece, if_ap, reading_piece, word_piece, last_opened, piece_lacks, field_past}
 use Rattle.gds_library.proofs.Outside.{IsNoValue, IsOutside, outside_after, known_after, opener_is}
 use Rattle.gds_library.proofs.Drawn.{drawings-snoc, drawings_element}
@@ -74,6 +75,15 @@ cells_shown StrName q b e = cc
 cells_shown Elements q b e = cc
 cells_shown Fill q b e = cc
 
+stands_at : (b : Builder) (rs : List Rec) (r : Rec) (o : Option Place) → Holds b rs → after b.place r.kind ≡ o → o ≢ None → InOrder rs r
+stands_at b rs r None h e n = absurd (n refl)
+stands_at b rs r (Some q) h e n =
+    subst (Begins a_library) (sym (kinds-snoc rs r)) (leads_begins (kinds rs ++ r.kind ∷ []) q (leads_on (kinds rs) b.place q r.kind h.leads (λ _. (outside_after b.place q r.kind e).opens) e))
+
+-- where the place has a place behind the record, it may stand there
+stands : (b : Builder) (rs : List Rec) (r : Rec) → Holds b rs → after b.place r.kind ≢ None → InOrder rs r
+stands b rs r h n = stands_at b rs r (after b.place r.kind) h refl n
+
 -- what is a fault at a place breaches a rule behind the records that lead there
 pub law_fault : (b : Builder) (rs : List Rec) (r : Rec) (f : GdsKind) → Holds b rs → OpensNothing b.place r.kind → r.kind < 60 → IsFault b.place (length b.cells.items) r.kind r.payload f → Breaches rs r f
 law_fault b rs r (Record f) h o l x = absurd x
@@ -87,14 +97,14 @@ law_fault b rs r Magnification h o l x = absurd x
 law_fault b rs r Angle h o l x = absurd x
 law_fault b rs r ColRow h o l x = absurd x
 law_fault b rs r ArrayStep h o l x = absurd x
-law_fault b rs r Name h o l x = inl x
+law_fault b rs r Name h o l x = (stands b rs r h x.1, inl (x.0, x.2))
 law_fault b rs r (Path f) h o l x = absurd x
 law_fault b rs r Width h o l x = absurd x
 law_fault b rs r PathType h o l x = absurd x
 law_fault b rs r AfterEnd h o l x = absurd x
 law_fault b rs r Oblique h o l x = absurd x
 law_fault b rs r Repetition h o l x = absurd x
-law_fault b rs r TooManyCells h o l x = (x.0, omega (arith, x.1, shown_many b.place b, ap (λ ds. length ds) h.shown, kept_many rs))
+law_fault b rs r TooManyCells h o l x = (stands b rs r h x.1, (x.0, omega (arith, x.2, shown_many b.place b, ap (λ ds. length ds) h.shown, kept_many rs)))
 
 pub says_fault : (b : Builder) (rs : List Rec) (r : Rec) (e : Refusal) → Holds b rs → OpensNothing b.place r.kind → r.kind < 60 → Says e (IsFault b.place (length b.cells.items) r.kind r.payload) → Says e (Breaches rs r)
 says_fault b rs r (Breach f) h o l x = law_fault b rs r f h o l x
@@ -104,72 +114,81 @@ is_not : (k j : ℕ) → k == j ≡ false → k ≡ j → ⊥
 is_not k j n e = (let z : true ≡ false = sym (same_type k j e) ∙ n in cc)
 
 -- a record that carries no value of an element may follow where the order, its name and the number of cells allow it
-pub may_follow : (rs : List Rec) (r : Rec) → IsNoValue r.kind → Begins a_library (kinds (rs ++ r ∷ [])) → (r.kind < 60 → IsKnown r.kind) → (r.kind ≡ strname → IsName (name r.payload))
+pub may_follow : (rs : List Rec) (r : Rec) → IsNoValue r.kind → InOrder rs r → (r.kind < 60 → IsKnown r.kind) → (r.kind ≡ strname → IsName (name r.payload))
     → (r.kind ≡ bgnstr → length (pieces (is_type bgnstr) rs) < cell_limit) → MayFollow rs r
-may_follow rs r v g i m c (Record f) x = x
+may_follow rs r v g i m c (Record f) x = x.1
 may_follow rs r v g i m c (Unexpected j) x = x.2 g
 may_follow rs r v g i m c (Unsupported j) x = x.2 (subst IsKnown x.0 (i (omega (arith, x.0, x.1))))
-may_follow rs r v g i m c Layer x = elim x.0 [ inl y ↦ is_not r.kind layer v.layer y | inr y ↦ is_not r.kind datatype v.datatype y ]
-may_follow rs r v g i m c Points x = is_not r.kind xy v.xy x.0
-may_follow rs r v g i m c NotClosed x = is_not r.kind xy v.xy x.0
-may_follow rs r v g i m c Strans x = is_not r.kind strans v.strans x.0
-may_follow rs r v g i m c Magnification x = is_not r.kind mag v.mag x.0
-may_follow rs r v g i m c Angle x = is_not r.kind angle v.angle x.0
-may_follow rs r v g i m c ColRow x = is_not r.kind colrow v.colrow x.0
-may_follow rs r v g i m c ArrayStep x = is_not r.kind xy v.xy x.0
-may_follow rs r v g i m c Name x = elim x [ inl y ↦ y.1 (m y.0) | inr y ↦ is_not r.kind sname v.sname y.0 ]
-may_follow rs r v g i m c (Path f) x = is_not r.kind xy v.xy x.0
-may_follow rs r v g i m c Width x = elim x.1 [ inl y ↦ is_not r.kind width v.width y.0 | inr y ↦ is_not r.kind xy v.xy y.0 ]
-may_follow rs r v g i m c PathType x = is_not r.kind pathtype v.pathtype x.0
-may_follow rs r v g i m c AfterEnd x = x
-may_follow rs r v g i m c Oblique x = is_not r.kind xy v.xy x.0
-may_follow rs r v g i m c Repetition x = is_not r.kind colrow v.colrow x.0
-may_follow rs r v g i m c TooManyCells x = omega (arith, x.1, c x.0)
+may_follow rs r v g i m c Layer x = elim x.1.0 [ inl y ↦ is_not r.kind layer v.layer y | inr y ↦ is_not r.kind datatype v.datatype y ]
+may_follow rs r v g i m c Points x = is_not r.kind xy v.xy x.1.0
+may_follow rs r v g i m c NotClosed x = is_not r.kind xy v.xy x.1.0
+may_follow rs r v g i m c Strans x = is_not r.kind strans v.strans x.1.0
+may_follow rs r v g i m c Magnification x = is_not r.kind mag v.mag x.1.0
+may_follow rs r v g i m c Angle x = is_not r.kind angle v.angle x.1.0
+may_follow rs r v g i m c ColRow x = is_not r.kind colrow v.colrow x.1.0
+may_follow rs r v g i m c ArrayStep x = is_not r.kind xy v.xy x.1.0
+may_follow rs r v g i m c Name x = elim x.1 [ inl y ↦ y.1 (m y.0) | inr y ↦ is_not r.kind sname v.sname y.0 ]
+may_follow rs r v g i m c (Path f) x = is_not r.kind xy v.xy x.1.0
+may_follow rs r v g i m c Width x = elim x.1.1 [ inl y ↦ is_not r.kind width v.width y.0 | inr y ↦ is_not r.kind xy v.xy y.0 ]
+may_follow rs r v g i m c PathType x = is_not r.kind pathtype v.pathtype x.1.0
+may_follow rs r v g i m c AfterEnd x = x.1
+may_follow rs r v g i m c Oblique x = is_not r.kind xy v.xy x.1.0
+may_follow rs r v g i m c Repetition x = is_not r.kind colrow v.colrow x.1.0
+may_follow rs r v g i m c TooManyCells x = omega (arith, x.1.1, c x.1.0)
 
 -- a record of an element may follow where it breaches none of the element's rules
-pub may_follow_inside : (rs piece : List Rec) (r : Rec) → last_piece is_opener rs ≡ piece → KeepsElement piece r → Begins a_library (kinds (rs ++ r ∷ [])) → r.kind == strname ≡ false → r.kind == bgnstr ≡ false → MayFollow rs r
-may_follow_inside rs piece r e n g s b (Record f) x = x
-may_follow_inside rs piece r e n g s b (Unexpected j) x = x.2 g
-may_follow_inside rs piece r e n g s b (Unsupported j) x = n (Unsupported j) x
-may_follow_inside rs piece r e n g s b Layer x = n Layer (subst (λ p. ElementBreaches p r Layer) e x)
-may_follow_inside rs piece r e n g s b Points x = n Points (subst (λ p. ElementBreaches p r Points) e x)
-may_follow_inside rs piece r e n g s b NotClosed x = n NotClosed (subst (λ p. ElementBreaches p r NotClosed) e x)
-may_follow_inside rs piece r e n g s b Strans x = n Strans (subst (λ p. ElementBreaches p r Strans) e x)
-may_follow_inside rs piece r e n g s b Magnification x = n Magnification (subst (λ p. ElementBreaches p r Magnification) e x)
-may_follow_inside rs piece r e n g s b Angle x = n Angle (subst (λ p. ElementBreaches p r Angle) e x)
-may_follow_inside rs piece r e n g s b ColRow x = n ColRow (subst (λ p. ElementBreaches p r ColRow) e x)
-may_follow_inside rs piece r e n g s b ArrayStep x = n ArrayStep (subst (λ p. ElementBreaches p r ArrayStep) e x)
-may_follow_inside rs piece r e n g s b Name x = elim x [ inl y ↦ is_not r.kind strname s y.0 | inr y ↦ n Name (subst (λ p. ElementBreaches p r Name) e y) ]
-may_follow_inside rs piece r e n g s b (Path f) x = n (Path f) (subst (λ p. ElementBreaches p r (Path f)) e x)
-may_follow_inside rs piece r e n g s b Width x = n Width (subst (λ p. ElementBreaches p r Width) e x)
-may_follow_inside rs piece r e n g s b PathType x = n PathType (subst (λ p. ElementBreaches p r PathType) e x)
-may_follow_inside rs piece r e n g s b AfterEnd x = x
-may_follow_inside rs piece r e n g s b Oblique x = n Oblique (subst (λ p. ElementBreaches p r Oblique) e x)
-may_follow_inside rs piece r e n g s b Repetition x = n Repetition (subst (λ p. ElementBreaches p r Repetition) e x)
-may_follow_inside rs piece r e n g s b TooManyCells x = is_not r.kind bgnstr b x.0
+pub may_follow_inside : (rs piece : List Rec) (r : Rec) → last_piece is_opener rs ≡ piece → KeepsElement piece r → InOrderInElement piece r → InOrder rs r → r.kind == strname ≡ false → r.kind == bgnstr ≡ false → MayFollow rs r
+may_follow_inside rs piece r e n o g s b (Record f) x = x.1
+may_follow_inside rs piece r e n o g s b (Unexpected j) x = x.2 g
+may_follow_inside rs piece r e n o g s b (Unsupported j) x = n (Unsupported j) x
+may_follow_inside rs piece r e n o g s b Layer x = n Layer (o, subst (λ p. BreachesInElement p r Layer) e x.1)
+may_follow_inside rs piece r e n o g s b Points x = n Points (o, subst (λ p. BreachesInElement p r Points) e x.1)
+may_follow_inside rs piece r e n o g s b NotClosed x = n NotClosed (o, subst (λ p. BreachesInElement p r NotClosed) e x.1)
+may_follow_inside rs piece r e n o g s b Strans x = n Strans (o, subst (λ p. BreachesInElement p r Strans) e x.1)
+may_follow_inside rs piece r e n o g s b Magnification x = n Magnification (o, subst (λ p. BreachesInElement p r Magnification) e x.1)
+may_follow_inside rs piece r e n o g s b Angle x = n Angle (o, subst (λ p. BreachesInElement p r Angle) e x.1)
+may_follow_inside rs piece r e n o g s b ColRow x = n ColRow (o, subst (λ p. BreachesInElement p r ColRow) e x.1)
+may_follow_inside rs piece r e n o g s b ArrayStep x = n ArrayStep (o, subst (λ p. BreachesInElement p r ArrayStep) e x.1)
+may_follow_inside rs piece r e n o g s b Name x = elim x.1 [ inl y ↦ is_not r.kind strname s y.0 | inr y ↦ n Name (o, subst (λ p. BreachesInElement p r Name) e y) ]
+may_follow_inside rs piece r e n o g s b (Path f) x = n (Path f) (o, subst (λ p. BreachesInElement p r (Path f)) e x.1)
+may_follow_inside rs piece r e n o g s b Width x = n Width (o, subst (λ p. BreachesInElement p r Width) e x.1)
+may_follow_inside rs piece r e n o g s b PathType x = n PathType (o, subst (λ p. BreachesInElement p r PathType) e x.1)
+may_follow_inside rs piece r e n o g s b AfterEnd x = x.1
+may_follow_inside rs piece r e n o g s b Oblique x = n Oblique (o, subst (λ p. BreachesInElement p r Oblique) e x.1)
+may_follow_inside rs piece r e n o g s b Repetition x = n Repetition (o, subst (λ p. BreachesInElement p r Repetition) e x.1)
+may_follow_inside rs piece r e n o g s b TooManyCells x = is_not r.kind bgnstr b x.1.0
+
+-- a record may stand in an open element just where it may stand among the records
+order_inside : (before piece : List Rec) (r : Rec) → LeadsTo (kinds before) Elements → InOrderInElement piece r → InOrder (before ++ piece) r
+order_inside before piece r h g =
+    subst (Begins a_library) (sym (ap kinds (append_assoc before piece (r ∷ [])) ∙ map-append before (piece ++ r ∷ []))) (begins_inside (kinds before) (kinds (piece ++ r ∷ [])) h g)
+
+order_element : (before piece : List Rec) (r : Rec) → LeadsTo (kinds before) Elements → IsOpen (kinds piece) → InOrder (before ++ piece) r → InOrderInElement piece r
+order_element before piece r h o g =
+    subst (Begins an_element) (sym (kinds-snoc piece r)) (open_goes (kinds before) (kinds piece) r.kind h o
+    (subst (Begins a_library) (kinds-snoc (before ++ piece) r ∙ ap (λ l. l ++ r.kind ∷ []) (map-append before piece)) g))
 
 -- a record that breaches a rule of the open element breaches a rule
 breach_inside : (before piece : List Rec) (r : Rec) (k : GdsKind) → LeadsTo (kinds before) Elements → IsOpen (kinds piece) → IsPiece piece → ElementBreaches piece r k → Breaches (before ++ piece) r k
-breach_inside before piece r (Record f) h o p x = x
-breach_inside before piece r (Unexpected j) h o p x = (x.0, x.1, λ g. x.2 (subst (Begins an_element) (sym (kinds-snoc piece r)) (open_goes (kinds before) (kinds piece) r.kind h o
-    (subst (Begins a_library) (kinds-snoc (before ++ piece) r ∙ ap (λ l. l ++ r.kind ∷ []) (map-append before piece)) g))))
+breach_inside before piece r (Record f) h o p x = absurd x.1
+breach_inside before piece r (Unexpected j) h o p x = (x.0, x.1, λ g. x.2 (order_element before piece r h o g))
 breach_inside before piece r (Unsupported j) h o p x = x
-breach_inside before piece r Layer h o p x = subst (λ p. ElementBreaches p r Layer) (sym (last_opened before piece p)) x
-breach_inside before piece r Points h o p x = subst (λ p. ElementBreaches p r Points) (sym (last_opened before piece p)) x
-breach_inside before piece r NotClosed h o p x = subst (λ p. ElementBreaches p r NotClosed) (sym (last_opened before piece p)) x
-breach_inside before piece r Strans h o p x = subst (λ p. ElementBreaches p r Strans) (sym (last_opened before piece p)) x
-breach_inside before piece r Magnification h o p x = subst (λ p. ElementBreaches p r Magnification) (sym (last_opened before piece p)) x
-breach_inside before piece r Angle h o p x = subst (λ p. ElementBreaches p r Angle) (sym (last_opened before piece p)) x
-breach_inside before piece r ColRow h o p x = subst (λ p. ElementBreaches p r ColRow) (sym (last_opened before piece p)) x
-breach_inside before piece r ArrayStep h o p x = subst (λ p. ElementBreaches p r ArrayStep) (sym (last_opened before piece p)) x
-breach_inside before piece r Name h o p x = inr (subst (λ p. ElementBreaches p r Name) (sym (last_opened before piece p)) x)
-breach_inside before piece r (Path f) h o p x = subst (λ p. ElementBreaches p r (Path f)) (sym (last_opened before piece p)) x
-breach_inside before piece r Width h o p x = subst (λ p. ElementBreaches p r Width) (sym (last_opened before piece p)) x
-breach_inside before piece r PathType h o p x = subst (λ p. ElementBreaches p r PathType) (sym (last_opened before piece p)) x
-breach_inside before piece r AfterEnd h o p x = x
-breach_inside before piece r Oblique h o p x = subst (λ p. ElementBreaches p r Oblique) (sym (last_opened before piece p)) x
-breach_inside before piece r Repetition h o p x = subst (λ p. ElementBreaches p r Repetition) (sym (last_opened before piece p)) x
-breach_inside before piece r TooManyCells h o p x = absurd x
+breach_inside before piece r Layer h o p x = (order_inside before piece r h x.0, subst (λ p. BreachesInElement p r Layer) (sym (last_opened before piece p)) x.1)
+breach_inside before piece r Points h o p x = (order_inside before piece r h x.0, subst (λ p. BreachesInElement p r Points) (sym (last_opened before piece p)) x.1)
+breach_inside before piece r NotClosed h o p x = (order_inside before piece r h x.0, subst (λ p. BreachesInElement p r NotClosed) (sym (last_opened before piece p)) x.1)
+breach_inside before piece r Strans h o p x = (order_inside before piece r h x.0, subst (λ p. BreachesInElement p r Strans) (sym (last_opened before piece p)) x.1)
+breach_inside before piece r Magnification h o p x = (order_inside before piece r h x.0, subst (λ p. BreachesInElement p r Magnification) (sym (last_opened before piece p)) x.1)
+breach_inside before piece r Angle h o p x = (order_inside before piece r h x.0, subst (λ p. BreachesInElement p r Angle) (sym (last_opened before piece p)) x.1)
+breach_inside before piece r ColRow h o p x = (order_inside before piece r h x.0, subst (λ p. BreachesInElement p r ColRow) (sym (last_opened before piece p)) x.1)
+breach_inside before piece r ArrayStep h o p x = (order_inside before piece r h x.0, subst (λ p. BreachesInElement p r ArrayStep) (sym (last_opened before piece p)) x.1)
+breach_inside before piece r Name h o p x = (order_inside before piece r h x.0, inr (subst (λ p. BreachesInElement p r Name) (sym (last_opened before piece p)) x.1))
+breach_inside before piece r (Path f) h o p x = (order_inside before piece r h x.0, subst (λ p. BreachesInElement p r (Path f)) (sym (last_opened before piece p)) x.1)
+breach_inside before piece r Width h o p x = (order_inside before piece r h x.0, subst (λ p. BreachesInElement p r Width) (sym (last_opened before piece p)) x.1)
+breach_inside before piece r PathType h o p x = (order_inside before piece r h x.0, subst (λ p. BreachesInElement p r PathType) (sym (last_opened before piece p)) x.1)
+breach_inside before piece r AfterEnd h o p x = absurd x.1
+breach_inside before piece r Oblique h o p x = (order_inside before piece r h x.0, subst (λ p. BreachesInElement p r Oblique) (sym (last_opened before piece p)) x.1)
+breach_inside before piece r Repetition h o p x = (order_inside before piece r h x.0, subst (λ p. BreachesInElement p r Repetition) (sym (last_opened before piece p)) x.1)
+breach_inside before piece r TooManyCells h o p x = absurd x.1
 
 pub says_inside : (b : Builder) (e : Element) (rs : List Rec) (r : Rec) (f : Refusal) (i : IsInside b e rs) → Says f (ElementBreaches i.piece r) → Says f (Breaches rs r)
 says_inside b e rs r (Breach k) i x =
@@ -272,7 +291,7 @@ last_lacks piece r j p o n = last_one (λ i. i.kind == j ≡ false) piece r (pie
 -- what begins with the records of an open element begins a library
 pub inside_begins : (b : Builder) (e : Element) (rs : List Rec) → IsInside b e rs → Begins a_library (kinds rs)
 inside_begins b e rs i =
-    subst (Begins a_library) (sym (ap kinds i.parts ∙ map-append i.before i.piece)) (open_begins (kinds i.before) (kinds i.piece) (subst (LeadsTo (kinds i.before)) i.at i.holds.leads) (reading_open e i.piece i.reading))
+    subst (Begins a_library) (sym (ap kinds i.parts ∙ map-append i.before i.piece)) (begins_inside (kinds i.before) (kinds i.piece) (subst (LeadsTo (kinds i.before)) i.at i.holds.leads) (reading_begins e i.piece i.reading))
 
 -- one record more of an open element, which stays open
 pub law_inside : (b : Builder) (e e' : Element) (rs : List Rec) (r : Rec) (i : IsInside b e rs) → IsReading e' (i.piece ++ r ∷ []) → KeepsElement i.piece r → IsInside b e' (rs ++ r ∷ []) × MayFollow rs r
@@ -287,7 +306,7 @@ law_inside b e e' rs r i re n =
     } in
     let pc = reading_piece e' (i.piece ++ r ∷ []) re in
     let last : last_piece is_opener rs ≡ i.piece = ap (last_piece is_opener) i.parts ∙ last_opened i.before i.piece (reading_piece e i.piece i.reading) in
-    (next, may_follow_inside rs i.piece r last n (inside_begins b e' (rs ++ r ∷ []) next) (last_lacks i.piece r strname pc refl refl) (last_lacks i.piece r bgnstr pc refl refl))
+    (next, may_follow_inside rs i.piece r last n (reading_begins e' (i.piece ++ r ∷ []) re) (inside_begins b e' (rs ++ r ∷ []) next) (last_lacks i.piece r strname pc refl refl) (last_lacks i.piece r bgnstr pc refl refl))
 
 -- the record that ends an open element
 pub law_whole : (b b' : Builder) (e : Element) (rs : List Rec) (r : Rec) (d : Drawn) (i : IsInside b e rs) → IsWord an_element (kinds (i.piece ++ r ∷ [])) × IsDrawn d (i.piece ++ r ∷ []) → KeepsElement i.piece r
@@ -297,7 +316,7 @@ law_whole b b' e rs r d i w n p v u s =
     let next : Holds b' (rs ++ r ∷ []) = subst (Holds b') (sym parts) (law_element b b' i.before (i.piece ++ r ∷ []) d i.holds i.at w.0 w.1 p v u s) in
     let pc = word_piece (i.piece ++ r ∷ []) w.0 in
     let last : last_piece is_opener rs ≡ i.piece = ap (last_piece is_opener) i.parts ∙ last_opened i.before i.piece (reading_piece e i.piece i.reading) in
-    (next, may_follow_inside rs i.piece r last n (leads_begins (kinds (rs ++ r ∷ [])) b'.place next.leads) (last_lacks i.piece r strname pc refl refl) (last_lacks i.piece r bgnstr pc refl refl))
+    (next, may_follow_inside rs i.piece r last n ([], subst (IsWord an_element) (sym (append-nil (kinds (i.piece ++ r ∷ [])))) w.0) (leads_begins (kinds (rs ++ r ∷ [])) b'.place next.leads) (last_lacks i.piece r strname pc refl refl) (last_lacks i.piece r bgnstr pc refl refl))
 
 -- the record that opens an element
 pub law_opens : (b : Builder) (e : Element) (rs : List Rec) (r : Rec) → Holds b rs → b.place ≡ Elements → IsReading e (r ∷ []) → IsInside b e (rs ++ r ∷ []) × MayFollow rs r

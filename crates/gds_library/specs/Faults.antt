@@ -1,5 +1,5 @@
 -- Why a record is refused outside of elements.
-use Rattle.std.specs.Prelude.{◌≡◌, ℕ, ◌<◌, ◌≤◌, List, length, None}
+use Rattle.std.specs.Prelude.{◌≡◌, ◌≢◌, ℕ, ◌<◌, ◌≤◌, List, length, None}
 use Rattle.gds_elements.specs.Types.{header, units, bgnstr, strname}
 use Rattle.gds_elements.specs.Values.{name}
 use Rattle.gds_elements.specs.Rules.{IsKnown, IsName}
@@ -19,8 +19,8 @@ pub record IsFormed (k : ℕ) (payload : List ℕ) : Type 0 where
 abbrev pub IsFault : Place → ℕ → ℕ → List ℕ → GdsKind → Type 0
 IsFault p n k payload (Unexpected j) = (j ≡ k) × IsKnown k × (after p k ≡ None)
 IsFault p n k payload (Unsupported j) = (j ≡ k) × ¬ IsKnown k
-IsFault p n k payload Name = (k ≡ strname) × ¬ IsName (name payload)
-IsFault p n k payload TooManyCells = (k ≡ bgnstr) × (cell_limit ≤ n)
+IsFault p n k payload Name = (k ≡ strname) × (after p k ≢ None) × ¬ IsName (name payload)
+IsFault p n k payload TooManyCells = (k ≡ bgnstr) × (after p k ≢ None) × (cell_limit ≤ n)
 IsFault p n k payload f = ⊥
 
 -- a record may stand there

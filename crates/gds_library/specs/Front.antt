@@ -9,9 +9,9 @@ use Rattle.gds_elements.specs.Types.{bgnstr, strname}
 use Rattle.gds_elements.specs.Order.{IsWord, Begins}
 use Rattle.gds_elements.specs.Rec.{Rec, kinds, is_type, is_opener}
 use Rattle.gds_elements.specs.Values.{name}
-use Rattle.gds_elements.specs.Rules.{IsKnown, IsName, ElementBreaches}
+use Rattle.gds_elements.specs.Rules.{IsKnown, IsName, ValueBreaches as BreachesInElement}
 use Rattle.gds_elements.specs.declared.fault.GdsKind.{GdsKind}
-use Rattle.gds_elements.specs.declared.fault.GdsKind.TheVariants.{Record, Unexpected, Unsupported, Name, AfterEnd, TooManyCells}
+use Rattle.gds_elements.specs.declared.fault.GdsKind.TheVariants.{Unexpected, Unsupported, Name, TooManyCells}
 use Rattle.gds_library.specs.Drawn.{Drawing, KeptCell}
 use Rattle.gds_library.specs.Order.{a_library}
 use Rattle.gds_library.specs.Rec.{Spells, SpellsAll, pieces, last_piece}
@@ -22,15 +22,21 @@ use Rattle.gds_library.specs.declared.head.GdsHead.{GdsHead}
 abbrev pub cell_limit : ℕ
 cell_limit = 1048576
 
--- a record, behind some records, breaches the rule: one of the library, or one of the element whose opener came last
+-- the record may stand behind the others
+abbrev pub InOrder : List Rec → Rec → Type 0
+InOrder before r = Begins a_library (kinds (before ++ r ∷ []))
+
+-- what a record says, behind some records, breaches the rule: one of the library, or one of the element whose opener came last
+abbrev pub ValueBreaches : List Rec → Rec → GdsKind → Type 0
+ValueBreaches before r Name = ((r.kind ≡ strname) × ¬ IsName (name r.payload)) ⊎ BreachesInElement (last_piece is_opener before) r Name
+ValueBreaches before r TooManyCells = (r.kind ≡ bgnstr) × (cell_limit ≤ length (pieces (is_type bgnstr) before))
+ValueBreaches before r k = BreachesInElement (last_piece is_opener before) r k
+
+-- the record breaches the rule: it may not stand there, or what it says may not
 abbrev pub Breaches : List Rec → Rec → GdsKind → Type 0
-Breaches before r (Record f) = ⊥
-Breaches before r (Unexpected k) = (r.kind ≡ k) × IsKnown k × ¬ Begins a_library (kinds (before ++ r ∷ []))
+Breaches before r (Unexpected k) = (r.kind ≡ k) × IsKnown k × ¬ InOrder before r
 Breaches before r (Unsupported k) = (r.kind ≡ k) × (k < 60) × ¬ IsKnown k
-Breaches before r Name = ((r.kind ≡ strname) × ¬ IsName (name r.payload)) ⊎ ElementBreaches (last_piece is_opener before) r Name
-Breaches before r AfterEnd = ⊥
-Breaches before r TooManyCells = (r.kind ≡ bgnstr) × (cell_limit ≤ length (pieces (is_type bgnstr) before))
-Breaches before r k = ElementBreaches (last_piece is_opener before) r k
+Breaches before r k = InOrder before r × ValueBreaches before r k
 
 -- no record breaches a rule
 abbrev pub BreachesNone : List Rec → Type 0
