@@ -134,16 +134,18 @@ leads_past b (k ∷ a) v w h = split_whole k a v w h
 
 pub leads_element : (b a : List ℕ) → LeadsTo b Elements → IsWord an_element a → LeadsTo (b ++ a) Elements
 leads_element b a h w v = (
-    λ x. leads_past b a v w ((h (a ++ v)).0 (subst (IsWord a_library) (append_assoc b a v) x)),
-    λ y. subst (IsWord a_library) (sym (append_assoc b a v)) ((h (a ++ v)).1 (join_element a v w y)),
-  )
+  λ x. leads_past b a v w ((h (a ++ v)).0 (subst (IsWord a_library) (append_assoc b a v) x)),
+  λ y. subst (IsWord a_library) (sym (append_assoc b a v)) ((h (a ++ v)).1 (join_element a v w y)),
+)
 
 -- what begins an element begins a library, behind what leads to one
 pub begins_inside : (b p : List ℕ) → LeadsTo b Elements → Begins an_element p → Begins a_library (b ++ p)
 begins_inside b p h g =
-    let more = g.0 ++ some_word to_end_of_structure in
-    (more, subst (IsWord a_library) (sym (append_assoc b p more)) ((h (p ++ more)).1
-    (subst (IsWord to_end_of_structure) (append_assoc p g.0 (some_word to_end_of_structure)) (join_element (p ++ g.0) (some_word to_end_of_structure) g.1 (some_word-is to_end_of_structure)))))
+    let more = g.0 ++ some_word to_end_of_structure in (
+      more,
+      subst (IsWord a_library) (sym (append_assoc b p more)) ((h (p ++ more)).1
+          (subst (IsWord to_end_of_structure) (append_assoc p g.0 (some_word to_end_of_structure)) (join_element (p ++ g.0) (some_word to_end_of_structure) g.1 (some_word-is to_end_of_structure)))),
+    )
 
 first_goes : (p u w more : List ℕ) (k : ℕ) → (IsWord an_element p → ⊥) → k ∷ more ≡ u ++ w → IsWord an_element (p ++ u) → Begins an_element (p ++ k ∷ [])
 first_goes p [] w more k n e h = absurd (n (subst (IsWord an_element) (append-nil p) h))

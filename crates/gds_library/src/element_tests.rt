@@ -66,6 +66,7 @@ fn with_array(
 
 /// Where COLROW begins in `with_array`, and where XY does.
 const COLROW_AT: u64 = 208;
+
 const XY_AT: u64 = 216;
 
 /// Whether the ring has these points.
@@ -116,10 +117,25 @@ fn array_tiles(rt: HostRuntime) -> Result<(), Fail> {
 #[test]
 fn array_limits(rt: HostRuntime) -> Result<(), Fail> {
     let rows: [(i16, i16, [(i32, i32); 3], Option<GdsFault>); 5] = [
-        (3, 2, [(0, 0), (31, 0), (0, 20)], at(XY_AT, GdsKind::ArrayStep)),
+        (
+            3,
+            2,
+            [(0, 0), (31, 0), (0, 20)],
+            at(XY_AT, GdsKind::ArrayStep),
+        ),
         (1024, 1024, [(0, 0), (1024, 0), (0, 1024)], None),
-        (1025, 1024, [(0, 0), (1025, 0), (0, 1024)], at(COLROW_AT, GdsKind::Repetition)),
-        (2, 1, [(0, 0), (-7, 0), (0, 2)], at(XY_AT, GdsKind::ArrayStep)),
+        (
+            1025,
+            1024,
+            [(0, 0), (1025, 0), (0, 1024)],
+            at(COLROW_AT, GdsKind::Repetition),
+        ),
+        (
+            2,
+            1,
+            [(0, 0), (-7, 0), (0, 2)],
+            at(XY_AT, GdsKind::ArrayStep),
+        ),
         (2, 1, [(0, 0), (-8, 0), (0, 2)], None),
     ];
     for (columns, rows, points, fault) in rows {
@@ -237,10 +253,30 @@ fn cycle(rt: HostRuntime) -> Result<(), Fail> {
 fn names_each_fault_where_it_stands(rt: HostRuntime) -> Result<(), Fail> {
     let rows: [(u8, u8, &[u8], GdsKind); 7] = [
         (record_type::STRANS, 1, &[0, 4], GdsKind::Strans),
-        (record_type::ENDSTR, 0, b"", GdsKind::Unexpected(record_type::ENDSTR)),
-        (record_type::SREF, 0, b"", GdsKind::Unexpected(record_type::SREF)),
-        (record_type::BGNSTR, 2, &[0; 24], GdsKind::Unexpected(record_type::BGNSTR)),
-        (record_type::ENDLIB, 0, b"", GdsKind::Unexpected(record_type::ENDLIB)),
+        (
+            record_type::ENDSTR,
+            0,
+            b"",
+            GdsKind::Unexpected(record_type::ENDSTR),
+        ),
+        (
+            record_type::SREF,
+            0,
+            b"",
+            GdsKind::Unexpected(record_type::SREF),
+        ),
+        (
+            record_type::BGNSTR,
+            2,
+            &[0; 24],
+            GdsKind::Unexpected(record_type::BGNSTR),
+        ),
+        (
+            record_type::ENDLIB,
+            0,
+            b"",
+            GdsKind::Unexpected(record_type::ENDLIB),
+        ),
         (0x15, 0, b"", GdsKind::Unsupported(0x15)),
         (record_type::XY, 3, &[0; 16], GdsKind::Points),
     ];
@@ -250,7 +286,11 @@ fn names_each_fault_where_it_stands(rt: HostRuntime) -> Result<(), Fail> {
         stream.record(record_type::SNAME, 6, b"AB")?;
         let offset = stream.bytes.len() as u64;
         stream.record(kind, data_type, payload)?;
-        assert_eq!(rt; read(rt.alloc(), &stream).err(), at(offset, fault), "type {kind}");
+        assert_eq!(rt;
+            read(rt.alloc(), &stream).err(),
+            at(offset, fault),
+            "type {kind}"
+        );
     }
     Ok(())
 }

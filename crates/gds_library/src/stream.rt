@@ -29,7 +29,12 @@ impl Stream {
         Ok(stream)
     }
 
-    pub(crate) fn record(&mut self, kind: u8, data_type: u8, payload: &[u8]) -> Result<(), AllocError> {
+    pub(crate) fn record(
+        &mut self,
+        kind: u8,
+        data_type: u8,
+        payload: &[u8],
+    ) -> Result<(), AllocError> {
         let len = (payload.len() % 65_532 + 4) as u16;
         self.bytes.extend_from_slice(&len.to_be_bytes())?;
         self.bytes.push(kind)?;
@@ -58,7 +63,11 @@ impl Stream {
     }
 
     /// XY
-    pub(crate) fn points(&mut self, alloc: Global, points: &[(i32, i32)]) -> Result<(), AllocError> {
+    pub(crate) fn points(
+        &mut self,
+        alloc: Global,
+        points: &[(i32, i32)],
+    ) -> Result<(), AllocError> {
         let mut xy = Vec::new(alloc);
         for (x, y) in points {
             xy.extend_from_slice(&x.to_be_bytes())?;
