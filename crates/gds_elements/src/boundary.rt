@@ -20,6 +20,9 @@ use lvl_cells::{Layer, Shape};
 use lvl_grid::Ring;
 use std::alloc::Global;
 
+/// The fewest points of a boundary, the closing one included.
+const FEWEST_POINTS: usize = 4;
+
 /// What the next record may be, named by it.
 #[derive(Clone, Copy)]
 pub(crate) enum Place {
@@ -93,7 +96,7 @@ fn rings_of(alloc: Global, payload: &[u8]) -> Result<Vec<Ring>, Refusal>
     ensures refused { IfErr result (λ e. Says e (IsRingFault (points payload.now))) }
 {
     let mut points = points(alloc, payload)?;
-    if points.len() < 4 {
+    if points.len() < FEWEST_POINTS {
         return Err(Refusal::Breach(GdsKind::Points));
     }
     let last = points.pop().unwrap();

@@ -23,6 +23,9 @@ use lvl_grid::Ring;
 use lvl_path::{PathFault, bands};
 use std::alloc::Global;
 
+/// The fewest points of a path.
+const FEWEST_POINTS: usize = 2;
+
 /// What the next record may be, named by the first of them.
 #[derive(Clone, Copy)]
 pub(crate) enum Place {
@@ -163,7 +166,7 @@ fn bands_of(
     ensures refused { IfErr result (λ e. Says e (IsBandsFault (points payload.now) half square)) }
 {
     let points = points(alloc, payload)?;
-    if points.len() < 2 {
+    if points.len() < FEWEST_POINTS {
         return Err(Refusal::Breach(GdsKind::Points));
     }
     let Some(half) = half else {

@@ -10,7 +10,7 @@ use Rattle.lvl_region.specs.declared.region.Side.TheVariants.{First, Second}
 use Rattle.gds_library.specs.Drawn.{Drawing}
 use Rattle.gds_library.specs.Ends.{Tells, IsExcused}
 use Rattle.gds_library.specs.declared.fault.GdsFault.TheVariants.{At, OutOfMemory as NoMemoryForGds}
-use Rattle.gds_library.specs.declared.fault.GdsKind.TheVariants.{Record}
+use Rattle.gds_elements.specs.declared.fault.GdsKind.TheVariants.{Record}
 use Rattle.lvl.specs.declared.layout.Head.{Head}
 use Rattle.lvl.specs.declared.layout.FileFault.{FileFault}
 use Rattle.lvl.specs.declared.layout.FileFault.TheVariants.{Gds}

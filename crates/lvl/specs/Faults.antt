@@ -2,8 +2,10 @@
 use Rattle.std.specs.Prelude.{ℕ, List, ◌∷◌, ◌++◌, flat_map, codes, decimal}
 use Rattle.gds_records.specs.declared.fault.RecordFault.{RecordFault}
 use Rattle.gds_records.specs.declared.fault.RecordFault.TheVariants.{Truncated, BadLength, BadDataType, UnknownRecord, TooLong, Read, Failed}
-use Rattle.gds_library.specs.declared.fault.GdsKind.{GdsKind}
-use Rattle.gds_library.specs.declared.fault.GdsKind.TheVariants.{Record, Unexpected, Unsupported, Layer, Points, NotClosed, Name, AfterEnd, Oblique, TooManyCells}
+use Rattle.gds_elements.specs.declared.fault.GdsKind.{GdsKind}
+use Rattle.gds_elements.specs.declared.fault.GdsKind.TheVariants.{Record, Unexpected, Unsupported, Layer, Points, NotClosed, Strans, Magnification, Angle, ColRow, ArrayStep, Name, Path, Width, PathType, AfterEnd, Oblique, Repetition, TooManyCells}
+use Rattle.lvl_path.specs.declared.fault.PathFault.{PathFault}
+use Rattle.lvl_path.specs.declared.fault.PathFault.TheVariants.{NoWidth, FewPoints, Oblique as ObliqueStep, RepeatedPoint, TurnsBack, ShortRun, OutOfRange as BandOutOfRange, OutOfMemory as PathOutOfMemory}
 use Rattle.lvl_cells.specs.declared.fault.CellFault.{CellFault}
 use Rattle.lvl_cells.specs.declared.fault.CellFault.TheVariants.{NoCell, DuplicateCell, MissingCell, Cycle, TopMissing, ManyTops, TooManyPlacements, TooManyRings, OutOfMemory}
 use Rattle.lvl_flat.specs.declared.fault.FlatFault.{FlatFault}
@@ -23,6 +25,17 @@ record_fault TooLong = codes "5 TooLong"
 record_fault Read = codes "6 Read"
 record_fault Failed = codes "7 Failed"
 
+-- why points are no path
+abbrev pub path_fault : PathFault → List ℕ
+path_fault NoWidth = codes "1 NoWidth"
+path_fault FewPoints = codes "2 FewPoints"
+path_fault ObliqueStep = codes "3 Oblique"
+path_fault RepeatedPoint = codes "4 RepeatedPoint"
+path_fault TurnsBack = codes "5 TurnsBack"
+path_fault ShortRun = codes "6 ShortRun"
+path_fault BandOutOfRange = codes "7 OutOfRange"
+path_fault PathOutOfMemory = codes "8 OutOfMemory"
+
 -- a fault of a GDSII stream; a record out of place is told by its type, in decimal
 abbrev pub gds_fault : GdsKind → List ℕ
 gds_fault (Record fault) = record_fault fault
@@ -31,9 +44,18 @@ gds_fault (Unsupported kind) = codes "11 Unsupported " ++ decimal kind
 gds_fault Layer = codes "12 Layer"
 gds_fault Points = codes "13 Points"
 gds_fault NotClosed = codes "14 NotClosed"
+gds_fault Strans = codes "15 Strans"
+gds_fault Magnification = codes "16 Magnification"
+gds_fault Angle = codes "17 Angle"
+gds_fault ColRow = codes "18 ColRow"
+gds_fault ArrayStep = codes "19 ArrayStep"
 gds_fault Name = codes "20 Name"
+gds_fault (Path fault) = codes "21 Path" ++ spaced (path_fault fault)
+gds_fault Width = codes "22 Width"
+gds_fault PathType = codes "23 PathType"
 gds_fault AfterEnd = codes "24 AfterEnd"
 gds_fault Oblique = codes "25 Oblique"
+gds_fault Repetition = codes "26 Repetition"
 gds_fault TooManyCells = codes "27 TooManyCells"
 
 -- a fault of a library's cells; cells are told by their names

@@ -1,11 +1,12 @@
 //! The number and the name of each fault, and what it carries, as they are printed.
 ghost use Rattle.std.specs.Prelude.{◌≡◌, ◌++◌, flat_map, OnOk};
-ghost use Rattle.lvl.specs.Faults.{spaced, record_fault, gds_fault, cell_fault, flat_fault};
+ghost use Rattle.lvl.specs.Faults.{spaced, record_fault, path_fault, gds_fault, cell_fault, flat_fault};
 
 use gds_library::GdsKind;
 use gds_records::RecordFault;
 use lvl_cells::CellFault;
 use lvl_flat::FlatFault;
+use lvl_path::PathFault;
 use std::io;
 use std::io::Write;
 
@@ -24,6 +25,22 @@ fn record_fault(fault: RecordFault) -> &'static str
     }
 }
 
+/// Why points are no path.
+fn path_fault(fault: PathFault) -> &'static str
+    ensures { result.now ≡ path_fault fault }
+{
+    match fault {
+        PathFault::NoWidth => "1 NoWidth",
+        PathFault::FewPoints => "2 FewPoints",
+        PathFault::Oblique => "3 Oblique",
+        PathFault::RepeatedPoint => "4 RepeatedPoint",
+        PathFault::TurnsBack => "5 TurnsBack",
+        PathFault::ShortRun => "6 ShortRun",
+        PathFault::OutOfRange => "7 OutOfRange",
+        PathFault::OutOfMemory => "8 OutOfMemory",
+    }
+}
+
 /// Appends a fault of a GDSII stream.
 pub(crate) fn push_gds_fault(text: &mut Vec<u8>, kind: GdsKind) -> io::Result<()>
     ensures { OnOk result (text.new.items ≡ text.old.items ++ gds_fault kind) }
@@ -35,9 +52,21 @@ pub(crate) fn push_gds_fault(text: &mut Vec<u8>, kind: GdsKind) -> io::Result<()
         GdsKind::Layer => write!(text, "12 Layer"),
         GdsKind::Points => write!(text, "13 Points"),
         GdsKind::NotClosed => write!(text, "14 NotClosed"),
+        GdsKind::Strans => write!(text, "15 Strans"),
+        GdsKind::Magnification => write!(text, "16 Magnification"),
+        GdsKind::Angle => write!(text, "17 Angle"),
+        GdsKind::ColRow => write!(text, "18 ColRow"),
+        GdsKind::ArrayStep => write!(text, "19 ArrayStep"),
         GdsKind::Name => write!(text, "20 Name"),
+        GdsKind::Path(fault) => {
+            write!(text, "21 Path ")?;
+            text.write_all(path_fault(fault).as_bytes())
+        }
+        GdsKind::Width => write!(text, "22 Width"),
+        GdsKind::PathType => write!(text, "23 PathType"),
         GdsKind::AfterEnd => write!(text, "24 AfterEnd"),
         GdsKind::Oblique => write!(text, "25 Oblique"),
+        GdsKind::Repetition => write!(text, "26 Repetition"),
         GdsKind::TooManyCells => write!(text, "27 TooManyCells"),
     }
 }

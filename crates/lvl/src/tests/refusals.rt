@@ -6,6 +6,7 @@ use gds_library::{GdsFault, GdsKind};
 use gds_records::RecordFault;
 use lvl_cells::CellFault;
 use lvl_flat::FlatFault;
+use lvl_path::PathFault;
 use lvl_region::Side;
 use std::alloc::{AllocError, Global};
 use std::test::Fail;
@@ -17,7 +18,7 @@ fn told(alloc: Global, refusal: Refusal) -> Result<Vec<u8>, AllocError> {
 
 #[test]
 fn faults_of_a_file(rt: HostRuntime) -> Result<(), Fail> {
-    let rows: [(GdsKind, &str); 16] = [
+    let rows: [(GdsKind, &str); 31] = [
         (GdsKind::Record(RecordFault::Truncated), "1 Truncated"),
         (GdsKind::Record(RecordFault::BadLength), "2 BadLength"),
         (GdsKind::Record(RecordFault::BadDataType), "3 BadDataType"),
@@ -33,7 +34,25 @@ fn faults_of_a_file(rt: HostRuntime) -> Result<(), Fail> {
         (GdsKind::Layer, "12 Layer"),
         (GdsKind::Points, "13 Points"),
         (GdsKind::NotClosed, "14 NotClosed"),
+        (GdsKind::Strans, "15 Strans"),
+        (GdsKind::Magnification, "16 Magnification"),
+        (GdsKind::Angle, "17 Angle"),
+        (GdsKind::ColRow, "18 ColRow"),
+        (GdsKind::ArrayStep, "19 ArrayStep"),
         (GdsKind::Name, "20 Name"),
+        (GdsKind::Path(PathFault::NoWidth), "21 Path 1 NoWidth"),
+        (GdsKind::Path(PathFault::FewPoints), "21 Path 2 FewPoints"),
+        (GdsKind::Path(PathFault::Oblique), "21 Path 3 Oblique"),
+        (
+            GdsKind::Path(PathFault::RepeatedPoint),
+            "21 Path 4 RepeatedPoint",
+        ),
+        (GdsKind::Path(PathFault::TurnsBack), "21 Path 5 TurnsBack"),
+        (GdsKind::Path(PathFault::ShortRun), "21 Path 6 ShortRun"),
+        (GdsKind::Path(PathFault::OutOfRange), "21 Path 7 OutOfRange"),
+        (GdsKind::Width, "22 Width"),
+        (GdsKind::PathType, "23 PathType"),
+        (GdsKind::Repetition, "26 Repetition"),
         (GdsKind::AfterEnd, "24 AfterEnd"),
         (GdsKind::Oblique, "25 Oblique"),
         (GdsKind::TooManyCells, "27 TooManyCells"),

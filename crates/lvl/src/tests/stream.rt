@@ -60,17 +60,81 @@ impl Stream {
         self.record(0x06, 6, name)
     }
 
+    /// The points, as an XY record.
+    fn points(&mut self, points: &[(i32, i32)]) -> Result<(), AllocError> {
+        let mut xy = Vec::new(self.alloc);
+        for (x, y) in points {
+            xy.extend_from_slice(&x.to_be_bytes())?;
+            xy.extend_from_slice(&y.to_be_bytes())?;
+        }
+        self.record(0x10, 3, &xy)
+    }
+
     /// A boundary on 1/0 with these points, the first of them again at its end.
     pub fn boundary(&mut self, points: &[(i32, i32)]) -> Result<(), AllocError> {
         self.record(0x08, 0, b"")?;
         self.record(0x0D, 2, &[0, 1])?;
         self.record(0x0E, 2, &[0, 0])?;
-        let mut xy = Vec::new(self.alloc);
-        for (x, y) in points.iter().chain(points.iter().take(1)) {
-            xy.extend_from_slice(&x.to_be_bytes())?;
-            xy.extend_from_slice(&y.to_be_bytes())?;
+        let mut closed = Vec::from_slice(self.alloc, points)?;
+        closed.extend_from_slice(points.get(..1).unwrap_or(&[]))?;
+        self.points(&closed)?;
+        self.record(0x11, 0, b"")
+    }
+
+    /// A path on 1/0; `ends` is its path type, if it has one.
+    pub fn path(
+        &mut self,
+        ends: Option<i16>,
+        width: i32,
+        points: &[(i32, i32)],
+    ) -> Result<(), AllocError> {
+        self.record(0x09, 0, b"")?;
+        self.record(0x0D, 2, &[0, 1])?;
+        self.record(0x0E, 2, &[0, 0])?;
+        if let Some(ends) = ends {
+            self.record(0x21, 2, &ends.to_be_bytes())?;
         }
-        self.record(0x10, 3, &xy)?;
+        self.record(0x0F, 3, &width.to_be_bytes())?;
+        self.points(points)?;
+        self.record(0x11, 0, b"")
+    }
+
+    /// A cell placed at (0, 0), reflected and turned by the angle, if there is one.
+    pub fn place(&mut self, name: &[u8], reflected: Option<&[u8]>) -> Result<(), AllocError> {
+        self.record(0x0A, 0, b"")?;
+        self.record(0x12, 6, name)?;
+        if let Some(angle) = reflected {
+            self.record(0x1A, 1, &[0x80, 0])?;
+            self.record(0x1C, 5, angle)?;
+        }
+        self.points(&[(0, 0)])?;
+        self.record(0x11, 0, b"")
+    }
+
+    /// A cell placed in columns and rows.
+    pub fn array(
+        &mut self,
+        name: &[u8],
+        columns: i16,
+        rows: i16,
+        points: &[(i32, i32)],
+    ) -> Result<(), AllocError> {
+        self.record(0x0B, 0, b"")?;
+        self.record(0x12, 6, name)?;
+        let mut counts = Vec::from_slice(self.alloc, &columns.to_be_bytes())?;
+        counts.extend_from_slice(&rows.to_be_bytes())?;
+        self.record(0x13, 2, &counts)?;
+        self.points(points)?;
+        self.record(0x11, 0, b"")
+    }
+
+    /// A text at (0, 0), whose layer is negative.
+    pub fn text(&mut self) -> Result<(), AllocError> {
+        self.record(0x0C, 0, b"")?;
+        self.record(0x0D, 2, &[0xFF, 0xFF])?;
+        self.record(0x16, 2, &[0, 0])?;
+        self.points(&[(0, 0)])?;
+        self.record(0x19, 6, b"HI")?;
         self.record(0x11, 0, b"")
     }
 

@@ -10,7 +10,7 @@ returns-then-ne-clause-refused c =
     let z = c.unwrap-last.result in
     let first = c.index.result.now in
     let e : ps ≡ qs ++ z ∷ [] = sym c.in_ok-points.ensures ∙ rw c.unwrap-last.ensures at c.pop.ensures.items in
-    let n : 4 ≤ length ps = omega (arith, c.if-len-lt4.false, c.len.ensures, ap length c.in_ok-points.ensures) in
+    let n : 4 ≤ length ps = omega (arith, c.if-len-lt-FEWEST_POINTS.false, c.len.ensures, ap length c.in_ok-points.ensures) in
     let m : 0 < length qs = omega (arith, n, ap length e, length-append qs (z ∷ [])) in
     (n, λ h. point_ne z first (sym c.ne.ensures ∙ c.if-ne.true) (closed_last ps qs z first e m h ∙ sym c.index.ensures))
 
@@ -21,7 +21,7 @@ returns-in-Err-clause-refused c =
     let z = c.unwrap-last.result in
     let first = c.index.result.now in
     let e : ps ≡ qs ++ z ∷ [] = sym c.in_ok-points.ensures ∙ rw c.unwrap-last.ensures at c.pop.ensures.items in
-    let n : 4 ≤ length ps = omega (arith, c.if-len-lt4.false, c.len.ensures, ap length c.in_ok-points.ensures) in
+    let n : 4 ≤ length ps = omega (arith, c.if-len-lt-FEWEST_POINTS.false, c.len.ensures, ap length c.in_ok-points.ensures) in
     let m : 0 < length qs = omega (arith, n, ap length e, length-append qs (z ∷ [])) in
     let same : z ≡ get_or qs 0 first = point_eq z first (sym c.ne.ensures ∙ c.if-ne.false) ∙ c.index.ensures in
     let h = c.in-Err.ensures.err in
@@ -34,7 +34,7 @@ returns-clause-allowed c =
     let z = c.unwrap-last.result in
     let first = c.index.result.now in
     let e : ps ≡ qs ++ z ∷ [] = sym c.in_ok-points.ensures ∙ rw c.unwrap-last.ensures at c.pop.ensures.items in
-    let n : 4 ≤ length ps = omega (arith, c.if-len-lt4.false, c.len.ensures, ap length c.in_ok-points.ensures) in
+    let n : 4 ≤ length ps = omega (arith, c.if-len-lt-FEWEST_POINTS.false, c.len.ensures, ap length c.in_ok-points.ensures) in
     let m : 0 < length qs = omega (arith, n, ap length e, length-append qs (z ∷ [])) in
     let same : z ≡ get_or qs 0 first = point_eq z first (sym c.ne.ensures ∙ c.if-ne.false) ∙ c.index.ensures in
     let h = c.in-Ok.ensures.ok in

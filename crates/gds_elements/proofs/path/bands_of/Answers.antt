@@ -21,7 +21,7 @@ returns c =
     let at : c.deref.result.now ≡ ps = c.deref.ensures.value ∙ c.in_ok-points.ensures in
     let o = subst (λ (qs : List Point). IsLowestFault qs (record { half = c.in-Some.half; start = c.end_reach-reach.result; end = c.end_reach-reach.result }) c.in-Err.fault) at c.in-Err.ensures.err in
     let q = subst (λ (n : ℕ). IsLowestFault ps (record { half = c.in-Some.half; start = n; end = n }) c.in-Err.fault) c.end_reach-reach.ensures o in
-    let n : 2 ≤ length ps = omega (arith, c.if-len-lt2.false, c.len.ensures, ap length c.in_ok-points.ensures) in
+    let n : 2 ≤ length ps = omega (arith, c.if-len-lt-FEWEST_POINTS.false, c.len.ensures, ap length c.in_ok-points.ensures) in
     record {
       value = λ h e. tt;
       allowed = λ h e. tt;

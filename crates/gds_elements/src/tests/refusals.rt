@@ -1,0 +1,231 @@
+//! Which rule is told, and of which record.
+use super::{DEGREES_45, DEGREES_90, END, Line, Says, Stop, TWICE, array, read};
+use crate::GdsKind;
+use gds_records::record_type as ty;
+use lvl_path::PathFault;
+use std::test::Fail;
+
+#[test]
+fn short_run(rt: HostRuntime) -> Result<(), Fail> {
+    let short: [(i32, i32); 3] = [(0, 0), (10, 0), (10, 1)];
+    let rows: [(&str, Says, Says, Stop); 6] = [
+        (
+            "short-run",
+            Says::Long(4),
+            Says::Points(&short),
+            Stop::At(4, GdsKind::Path(PathFault::ShortRun)),
+        ),
+        (
+            "odd",
+            Says::Long(3),
+            Says::Points(&short),
+            Stop::At(3, GdsKind::Width),
+        ),
+        (
+            "none",
+            Says::Long(0),
+            Says::Points(&short),
+            Stop::At(3, GdsKind::Width),
+        ),
+        (
+            "negative",
+            Says::Long(-4),
+            Says::Points(&short),
+            Stop::At(3, GdsKind::Width),
+        ),
+        (
+            "one point",
+            Says::Long(4),
+            Says::Points(&[(0, 0)]),
+            Stop::At(4, GdsKind::Points),
+        ),
+        (
+            "oblique",
+            Says::Long(4),
+            Says::Points(&[(0, 0), (1, 1)]),
+            Stop::At(4, GdsKind::Path(PathFault::Oblique)),
+        ),
+    ];
+    for (name, width, points, stop) in rows {
+        let lines = [
+            (ty::PATH, Says::Nothing),
+            (ty::LAYER, Says::Short(1)),
+            (ty::DATATYPE, Says::Short(0)),
+            (ty::WIDTH, width),
+            (ty::XY, points),
+            END,
+        ];
+        assert_eq!(rt; read(rt.alloc(), &lines).err(), Some(stop), "{name}");
+    }
+    Ok(())
+}
+
+#[test]
+fn array_limits(rt: HostRuntime) -> Result<(), Fail> {
+    let far: [(i32, i32); 3] = [
+        (i32::MIN, i32::MIN),
+        (i32::MAX, i32::MIN),
+        (i32::MIN, i32::MAX),
+    ];
+    let rows: [(i16, i16, &[(i32, i32)], Option<Stop>); 12] = [
+        (1024, 1024, &[(0, 0), (1024, 0), (0, 1024)], None),
+        (
+            1025,
+            1024,
+            &[(0, 0), (0, 0), (0, 0)],
+            Some(Stop::At(2, GdsKind::Repetition)),
+        ),
+        (
+            32_767,
+            33,
+            &[(0, 0), (0, 0), (0, 0)],
+            Some(Stop::At(2, GdsKind::Repetition)),
+        ),
+        (32_767, 32, &[(0, 0), (0, 0), (0, 0)], None),
+        (
+            2,
+            1,
+            &[(0, 0), (-7, 0), (0, 2)],
+            Some(Stop::At(3, GdsKind::ArrayStep)),
+        ),
+        (
+            3,
+            2,
+            &[(0, 0), (31, 0), (0, 20)],
+            Some(Stop::At(3, GdsKind::ArrayStep)),
+        ),
+        (
+            3,
+            2,
+            &[(0, 0), (30, 0), (0, 21)],
+            Some(Stop::At(3, GdsKind::ArrayStep)),
+        ),
+        (
+            0,
+            1,
+            &[(0, 0), (0, 0), (0, 0)],
+            Some(Stop::At(2, GdsKind::ColRow)),
+        ),
+        (
+            1,
+            0,
+            &[(0, 0), (0, 0), (0, 0)],
+            Some(Stop::At(2, GdsKind::ColRow)),
+        ),
+        (
+            -1,
+            1,
+            &[(0, 0), (0, 0), (0, 0)],
+            Some(Stop::At(2, GdsKind::ColRow)),
+        ),
+        (1, 1, &[(0, 0), (0, 0)], Some(Stop::At(3, GdsKind::Points))),
+        (1, 1, &far, None),
+    ];
+    for (columns, rows, points, stop) in rows {
+        let drawn = array(rt.alloc(), columns, rows, points);
+        assert_eq!(rt; drawn.err(), stop, "{columns} {rows}");
+    }
+    Ok(())
+}
+
+#[test]
+fn the_first_rule_is_told(rt: HostRuntime) -> Result<(), Fail> {
+    let boundary: Line = (ty::BOUNDARY, Says::Nothing);
+    let path: Line = (ty::PATH, Says::Nothing);
+    let sref: Line = (ty::SREF, Says::Nothing);
+    let text: Line = (ty::TEXT, Says::Nothing);
+    let layer: Line = (ty::LAYER, Says::Short(1));
+    let datatype: Line = (ty::DATATYPE, Says::Short(0));
+    let name: Line = (ty::SNAME, Says::Bytes(b"A\0"));
+    let two: Line = (ty::XY, Says::Points(&[(0, 0), (4, 0)]));
+    let open: Line = (ty::XY, Says::Points(&[(0, 0), (1, 1), (2, 0), (0, 1)]));
+    let oblique: Line = (ty::XY, Says::Points(&[(0, 0), (1, 1), (1, 0), (0, 0)]));
+    let rows: [(&[Line], Stop); 18] = [
+        (
+            &[boundary, datatype],
+            Stop::At(1, GdsKind::Unexpected(ty::DATATYPE)),
+        ),
+        (
+            &[boundary, (0x2D, Says::Nothing)],
+            Stop::At(1, GdsKind::Unsupported(0x2D)),
+        ),
+        (
+            &[boundary, layer, datatype, two],
+            Stop::At(3, GdsKind::Points),
+        ),
+        (
+            &[boundary, layer, datatype, open],
+            Stop::At(3, GdsKind::NotClosed),
+        ),
+        (
+            &[boundary, layer, datatype, oblique],
+            Stop::At(3, GdsKind::Oblique),
+        ),
+        (
+            &[boundary, (ty::LAYER, Says::Short(-1))],
+            Stop::At(1, GdsKind::Layer),
+        ),
+        (
+            &[path, layer, (ty::DATATYPE, Says::Short(-1))],
+            Stop::At(2, GdsKind::Layer),
+        ),
+        (&[path, layer, datatype, two], Stop::At(3, GdsKind::Width)),
+        (
+            &[path, layer, datatype, (ty::PATHTYPE, Says::Short(1))],
+            Stop::At(3, GdsKind::PathType),
+        ),
+        (
+            &[
+                path,
+                layer,
+                datatype,
+                (ty::WIDTH, Says::Long(2)),
+                (ty::PATHTYPE, Says::Short(0)),
+            ],
+            Stop::At(4, GdsKind::Unexpected(ty::PATHTYPE)),
+        ),
+        (
+            &[sref, (ty::SNAME, Says::Bytes(b"\0"))],
+            Stop::At(1, GdsKind::Name),
+        ),
+        (
+            &[sref, name, (ty::STRANS, Says::Short(0x0004))],
+            Stop::At(2, GdsKind::Strans),
+        ),
+        (
+            &[
+                sref,
+                name,
+                (ty::STRANS, Says::Short(0)),
+                (ty::MAG, Says::Bytes(&TWICE)),
+            ],
+            Stop::At(3, GdsKind::Magnification),
+        ),
+        (
+            &[
+                sref,
+                name,
+                (ty::STRANS, Says::Short(0)),
+                (ty::ANGLE, Says::Bytes(&DEGREES_45)),
+            ],
+            Stop::At(3, GdsKind::Angle),
+        ),
+        (
+            &[sref, name, (ty::ANGLE, Says::Bytes(&DEGREES_90))],
+            Stop::At(2, GdsKind::Unexpected(ty::ANGLE)),
+        ),
+        (&[sref, name, two], Stop::At(2, GdsKind::Points)),
+        (
+            &[text, layer, (ty::TEXTTYPE, Says::Short(-1)), two],
+            Stop::At(3, GdsKind::Points),
+        ),
+        (
+            &[text, layer, boundary],
+            Stop::At(2, GdsKind::Unexpected(ty::BOUNDARY)),
+        ),
+    ];
+    for (lines, stop) in rows {
+        assert_eq!(rt; read(rt.alloc(), lines).err(), Some(stop));
+    }
+    Ok(())
+}
