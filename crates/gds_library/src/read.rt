@@ -20,10 +20,11 @@ use std::alloc::Global;
 /// The library that a GDSII stream spells, and what the stream says of itself.
 ///
 /// The order of records is HEADER BGNLIB LIBNAME UNITS, the structures, ENDLIB, then zero bytes alone
-/// up to the end (GDSII Stream Format Manual, Release 6; own: the optional records of a library are
-/// refused). A boundary is the ring of its points but the last, and a name loses one zero byte where
-/// it ends with one. The first record that is missing, malformed or breaches a rule is answered with
-/// its offset in bytes.
+/// up to the end; a structure is BGNSTR STRNAME, its elements, ENDSTR (GDSII Stream Format Manual,
+/// Release 6; own: the optional records of a library are refused). A cell has what its elements draw
+/// ([`gds_elements::Element`]), in their order, and a name loses one zero byte where it ends with one.
+/// The first record that is missing, malformed or breaches a rule is answered with its offset in
+/// bytes.
 pub fn read_gds<R: Read>(alloc: Global, reader: &mut R) -> Result<(Library, GdsHead), GdsFault>
     // What is read is spelled, and nothing else is.
     ensures spelled { (xs : List ℕ) → R.remaining reader.old ≡ Some xs

@@ -83,6 +83,26 @@ fn reads_a_square(rt: HostRuntime) -> Result<(), Fail> {
     Ok(())
 }
 
+/// Row boundary-height: two bytes are heights.
+#[test]
+fn boundary_height(rt: HostRuntime) -> Result<(), Fail> {
+    let mut bytes = square(rt.alloc())?;
+    for k in [139, 147] {
+        if let Some(byte) = bytes.get_mut(k) {
+            *byte = 9;
+        }
+    }
+    let (library, _) = read(rt.alloc(), &bytes, 1000)?;
+    let cell = library.cells.first().ok_or("a cell")?;
+    let shape = cell.shapes.first().ok_or("a shape")?;
+    let ring = shape.rings.first().ok_or("a ring")?;
+    let points: [(i64, i64); 4] = [(0, 0), (10, 0), (10, 9), (0, 9)];
+    for (k, (x, y)) in points.iter().enumerate() {
+        assert_eq!(rt; ring.points().get(k), Some(&Point { x: *x, y: *y }));
+    }
+    Ok(())
+}
+
 #[test]
 fn reads_structures_in_file_order(rt: HostRuntime) -> Result<(), Fail> {
     let mut stream = Stream::new(rt.alloc())?;
