@@ -7,6 +7,7 @@ use std::alloc::{AllocError, Global};
 use std::test::Fail;
 use stream::{SQUARE, Stream, VECTOR, drawing, square_with};
 
+mod chains;
 mod elements;
 mod failing;
 mod refusals;

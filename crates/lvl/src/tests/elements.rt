@@ -1,5 +1,6 @@
 //! Paths, references, arrays and texts, row by row.
 
+use super::failing::NO_MEMORY;
 use super::stream::{SQUARE, Stream, drawing, square_with};
 use super::{SAME, ends_with_line, no_tops, written};
 use std::alloc::{AllocError, Global};
@@ -125,10 +126,9 @@ fn flip_then_turn(rt: HostRuntime) -> Result<(), Fail> {
     Ok(())
 }
 
-#[test]
-fn cycle(rt: HostRuntime) -> Result<(), Fail> {
-    let square = square_with(rt.alloc(), &[])?;
-    let mut stream = Stream::new(rt.alloc())?;
+/// Structures A and B, each of which places the other, and C, which places none.
+fn in_a_cycle(alloc: Global) -> Result<Vec<u8>, AllocError> {
+    let mut stream = Stream::new(alloc)?;
     stream.structure(b"A\0")?;
     stream.place(b"B\0", None)?;
     stream.end_structure()?;
@@ -137,7 +137,14 @@ fn cycle(rt: HostRuntime) -> Result<(), Fail> {
     stream.end_structure()?;
     stream.structure(b"C\0")?;
     stream.end_structure()?;
-    let (text, _) = written(rt.alloc(), &stream.end()?, &square, &no_tops(), 1000)?;
+    stream.end()
+}
+
+#[test]
+fn cycle(rt: HostRuntime) -> Result<(), Fail> {
+    let square = square_with(rt.alloc(), &[])?;
+    let round = in_a_cycle(rt.alloc())?;
+    let (text, _) = written(rt.alloc(), &round, &square, &no_tops(), 1000)?;
     assert!(rt; ends_with_line(&text, "refused: first: cells 4 Cycle A B"));
     let mut stream = Stream::new(rt.alloc())?;
     stream.structure(b"A\0")?;
@@ -164,5 +171,43 @@ fn text_covers_nothing(rt: HostRuntime) -> Result<(), Fail> {
     stream.end_structure()?;
     let (text, _) = written(rt.alloc(), &stream.end()?, &square, &no_tops(), 1000)?;
     assert_eq!(rt; text.as_slice(), SAME.as_bytes());
+    Ok(())
+}
+
+#[test]
+fn growths_of_elements(rt: HostRuntime) -> Result<(), Fail> {
+    let alloc = rt.alloc();
+    let corner: [(i32, i32); 3] = [(0, 0), (10, 0), (10, 10)];
+    let along: [(i32, i32); 4] = [(-2, -2), (12, -2), (12, 2), (-2, 2)];
+    let up: [(i32, i32); 4] = [(8, -2), (12, -2), (12, 12), (8, 12)];
+    let wide: [(i32, i32); 4] = [(0, 0), (30, 0), (30, 20), (0, 20)];
+    let rows: [(Vec<u8>, Vec<u8>, &str); 3] = [
+        (
+            with_path(alloc, Some(2), 4, &corner)?,
+            drawing(alloc, &[&along, &up])?,
+            "same",
+        ),
+        (
+            with_array(alloc, 3, 2, &[(0, 0), (30, 0), (0, 20)])?,
+            drawing(alloc, &[&wide])?,
+            "same",
+        ),
+        (
+            in_a_cycle(alloc)?,
+            drawing(alloc, &[&wide])?,
+            "refused: first: cells 4 Cycle A B",
+        ),
+    ];
+    for (first, second, line) in rows {
+        let (text, ended) = written(alloc, &first, &second, &no_tops(), 1000)?;
+        if ended.is_none() {
+            assert_eq!(rt; text.len(), 0);
+            return Err(AllocError.into());
+        }
+        if text.as_slice() == NO_MEMORY.as_bytes() {
+            return Err(AllocError.into());
+        }
+        assert!(rt; ends_with_line(&text, line), "{line}");
+    }
     Ok(())
 }

@@ -86,7 +86,7 @@ fn failing_flush(rt: HostRuntime) -> Result<(), Fail> {
 }
 
 /// What a growth that was refused leaves: want of memory told, or nothing written.
-const NO_MEMORY: &str = "refused: out of memory\n";
+pub const NO_MEMORY: &str = "refused: out of memory\n";
 
 #[test]
 fn growths_of_a_comparison(rt: HostRuntime) -> Result<(), Fail> {

@@ -99,6 +99,14 @@ impl Stream {
         self.record(0x11, 0, b"")
     }
 
+    /// A cell placed there.
+    pub fn place_at(&mut self, name: &[u8], x: i32, y: i32) -> Result<(), AllocError> {
+        self.record(0x0A, 0, b"")?;
+        self.record(0x12, 6, name)?;
+        self.points(&[(x, y)])?;
+        self.record(0x11, 0, b"")
+    }
+
     /// A cell placed at (0, 0), reflected and turned by the angle, if there is one.
     pub fn place(&mut self, name: &[u8], reflected: Option<&[u8]>) -> Result<(), AllocError> {
         self.record(0x0A, 0, b"")?;
