@@ -1,7 +1,8 @@
 use Rattle.std.proofs.Common.{◌≡◌, refl, sym, ◌∙◌, true, false}
 use Rattle.gds_elements.specs.Reading.{record_of}
 use Rattle.gds_library.proofs.Places.{OpensNothing}
-use Rattle.gds_library.proofs.Steps.{says_fault, takes_refused, law_opens, law_holds, law_allowed, KeepsHead}
+use Rattle.gds_library.proofs.Refusing.{says_fault}
+use Rattle.gds_library.proofs.Steps.{takes_refused, law_opens, law_holds, law_allowed, KeepsHead}
 use Rattle.gds_library.proofs.reading.take_outside.Goals as goal
 use Rattle.gds_library.proofs.reading.take_outside.Goals.{then-may_open+in_default, else-may_open}
 
