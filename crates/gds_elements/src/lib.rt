@@ -13,6 +13,8 @@
 
 pub use element::{Drawn, Element, Step};
 pub use fault::{GdsKind, Refusal};
+pub use order::misplaced;
+pub use values::{cell_name, short};
 
 mod aref;
 mod boundary;

@@ -9,7 +9,7 @@ ghost use Rattle.gds_elements.specs.Misplaced.{Says};
 ghost use Rattle.gds_elements.specs.Placing.{IsPlacingFault, IsPlacingAllowed};
 
 use crate::fault::{GdsKind, Refusal};
-use crate::values::{bits, is_name, name};
+use crate::values::{bits, cell_name};
 use gds_records::record_type;
 use lvl_grid::Turn;
 use std::alloc::Global;
@@ -73,11 +73,7 @@ fn read_name(alloc: Global, old: Vec<u8>, kind: u8, payload: &[u8]) -> Result<Ve
     if kind != record_type::SNAME {
         return Ok(old);
     }
-    let name = name(payload);
-    if !is_name(name) {
-        return Err(Refusal::Breach(GdsKind::Name));
-    }
-    Ok(Vec::from_slice(alloc, name)?)
+    cell_name(alloc, payload)
 }
 
 fn read_flip(old: bool, kind: u8, payload: &[u8]) -> Result<bool, Refusal>

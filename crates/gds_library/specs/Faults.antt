@@ -27,9 +27,3 @@ IsFault p n k payload f = ⊥
 pub record IsAllowed (n k : ℕ) (payload : List ℕ) : Type 0 where
   pub name : k ≡ strname → IsName (name payload)
   pub cells : k ≡ bgnstr → n < cell_limit
-
--- which fault a type is that may not stand there
-abbrev pub IsMisplaced : ℕ → GdsKind → Type 0
-IsMisplaced k (Unexpected j) = (j ≡ k) × IsKnown k
-IsMisplaced k (Unsupported j) = (j ≡ k) × ¬ IsKnown k
-IsMisplaced k f = ⊥

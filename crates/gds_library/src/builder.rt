@@ -1,18 +1,16 @@
 //! The library of the records that stand outside of elements, and of what elements draw.
 ghost use Rattle.std.specs.Prelude.{◌≡◌, ◌==◌, if◌then◌else◌, ◌<◌, [], pos, Some, None, IsTrue, ◌↔◌, OnOk, IfOk, IfErr, length};
 ghost use Rattle.gds_elements.specs.Types.{header, units};
-ghost use Rattle.gds_elements.specs.Values.{short, name};
-ghost use Rattle.gds_elements.specs.Rules.{IsName};
+ghost use Rattle.gds_elements.specs.Values.{short};
 ghost use Rattle.gds_elements.specs.Misplaced.{Says};
 ghost use Rattle.gds_elements.specs.Reading.{shapes_in, references_in};
 ghost use Rattle.gds_library.specs.Values.{two_reals};
 ghost use Rattle.gds_library.specs.Place.{after};
-ghost use Rattle.gds_library.specs.Faults.{IsFormed, IsFault, IsAllowed, IsMisplaced};
+ghost use Rattle.gds_library.specs.Faults.{IsFormed, IsFault, IsAllowed};
 
-use crate::head::GdsHead;
+use crate::head::{GdsHead, two_reals};
 use crate::place::Place;
-use crate::values::{is_name, name, short, two_reals};
-use gds_elements::{Drawn, GdsKind, Refusal};
+use gds_elements::{Drawn, GdsKind, Refusal, cell_name, misplaced, short};
 use gds_records::record_type;
 use lvl_cells::{Cell, Library, Reference, Shape};
 use std::alloc::Global;
@@ -94,7 +92,7 @@ impl Builder {
         ensures shown { OnOk result (shown self.new ≡ grown kind payload.now (shown self.old)) }
     {
         let Some(next) = self.place.after(kind) else {
-            return Err(Refusal::Breach(misplaced(kind)));
+            return Err(misplaced(kind));
         };
         match kind {
             record_type::HEADER => self.version = short(payload),
@@ -139,51 +137,4 @@ impl Builder {
         }
         Ok(())
     }
-}
-
-fn misplaced(kind: u8) -> GdsKind
-    requires { kind < 60 }
-    ensures { IsMisplaced kind result }
-{
-    match kind {
-        record_type::HEADER
-        | record_type::BGNLIB
-        | record_type::LIBNAME
-        | record_type::UNITS
-        | record_type::ENDLIB
-        | record_type::BGNSTR
-        | record_type::STRNAME
-        | record_type::ENDSTR
-        | record_type::BOUNDARY
-        | record_type::PATH
-        | record_type::SREF
-        | record_type::AREF
-        | record_type::TEXT
-        | record_type::LAYER
-        | record_type::DATATYPE
-        | record_type::WIDTH
-        | record_type::XY
-        | record_type::ENDEL
-        | record_type::SNAME
-        | record_type::COLROW
-        | record_type::TEXTTYPE
-        | record_type::PRESENTATION
-        | record_type::STRING
-        | record_type::STRANS
-        | record_type::MAG
-        | record_type::ANGLE
-        | record_type::PATHTYPE => GdsKind::Unexpected(kind),
-        _ => GdsKind::Unsupported(kind),
-    }
-}
-
-fn cell_name(alloc: Global, payload: &[u8]) -> Result<Vec<u8>, Refusal>
-    ensures value { IfOk result (λ v. (v.items ≡ name payload.now) × IsName (name payload.now)) }
-    ensures refused { IfErr result (λ e. Says e (λ k. (k ≡ GdsKind.Name) × ¬ IsName (name payload.now))) }
-{
-    let name = name(payload);
-    if !is_name(name) {
-        return Err(Refusal::Breach(GdsKind::Name));
-    }
-    Ok(Vec::from_slice(alloc, name)?)
 }

@@ -23,7 +23,7 @@ returns-clause-shown c =
       | in-0 w ↦ by_kind _ header p q b b' payload w.in-0.is (λ e. shown_header p q b b' payload e (ap (λ (x : Builder). x.cells.items) w.self-is)) a
       | in-3 w ↦ by_kind _ units p q b b' payload w.in-3.is (λ e. shown_units p q b b' payload e (ap (λ (x : Builder). x.cells.items) w.self-is)) a
       | in-5+else-len-ge-MOST_CELLS w ↦ by_kind _ bgnstr p q b b' payload w.in-5.is (λ e. shown_bgnstr p q b b' payload e (ap (λ (x : Builder). x.cells.items) w.self-is)) a
-      | in-6+in_ok-self-in-6 w ↦ by_kind _ strname p q b b' payload w.in-6.is (λ e. shown_strname p q b b' payload e (ap (λ (x : Builder). x.cells.items) w.self-is) (ap (λ (x : Builder). x.name.items) w.self-is ∙ w.in_ok-self-in-6.ensures.value.0) (ap (λ (x : Builder). x.shapes.items) w.self-is ∙ w.new.ensures.items) (ap (λ (x : Builder). x.references.items) w.self-is ∙ w.new-in-6.ensures.items)) a
+      | in-6+in_ok-self-in-6 w ↦ by_kind _ strname p q b b' payload w.in-6.is (λ e. shown_strname p q b b' payload e (ap (λ (x : Builder). x.cells.items) w.self-is) (ap (λ (x : Builder). x.name.items) w.self-is ∙ w.in_ok-self-in-6.ensures.value) (ap (λ (x : Builder). x.shapes.items) w.self-is ∙ w.new.ensures.items) (ap (λ (x : Builder). x.references.items) w.self-is ∙ w.new-in-6.ensures.items)) a
       | in-7+in_ok-push-in-7 w ↦ by_kind _ endstr p q b b' payload w.in-7.is (λ e. shown_endstr p q b b' payload e (ap (λ (x : Builder). x.cells.items) w.self-is ∙ w.in_ok-push-in-7.ensures.items ∙ rw (w.replace.ensures.value, w.replace-in-7.ensures.value, w.replace-in-7-2.ensures.value) refl)) a
       | in_default-kind w ↦ (
           let z : IsOther c.args.kind = record { header = other _ _ (λ e. absurd (search rules)); bgnstr = other _ _ (λ e. absurd (search rules)); strname = other _ _ (λ e. absurd (search rules)); endstr = other _ _ (λ e. absurd (search rules)) } in
