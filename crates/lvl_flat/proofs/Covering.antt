@@ -18,7 +18,8 @@ use Rattle.lvl_flat.specs.Drawn.{placed_ring, placed_figure, placed_shape, drawn
 use Rattle.lvl_flat.specs.Sheets.{same_layer}
 use Rattle.lvl_flat.specs.Visits.{Pick, picks, PickCovers}
 use Rattle.lvl_flat.proofs.Orders.{tested_layer, same_is}
-use Rattle.lvl_flat.proofs.Picks.{Any-none, Any-first, Any-later, Any-cases, Any-left, Any-right, Any-sides, picks_any}
+use Rattle.lvl_grid.proofs.Anyone.{Any-nil, Any-head, Any-tail, Any-uncons, Any-left, Any-right, Any-sides}
+use Rattle.lvl_flat.proofs.Picks.{picks_any}
 
 -- a square whose image is s is in the set
 abbrev pub Under : Map → Square → (Square → Type 0) → Type 0
@@ -41,40 +42,40 @@ back_and_there e s = same_square _ _ (omega (arith, ints)) (omega (arith, ints))
 
 -- the rings of a figure at a shift
 figure_covers : (m : Map) (e : Point) (s : Square) (rings : Rings) → All (IsPlaced m e) rings → RingsCover (placed_figure m rings e) s ↔ Under m s (λ t. RingsCover rings (moved_back e t))
-figure_covers m e s [] all = (λ a. absurd (Any-none (λ ring. Covers ring s) a), λ u. absurd (Any-none (λ ring. Covers ring (moved_back e u.0)) u.2))
+figure_covers m e s [] all = (λ a. absurd (Any-nil (λ ring. Covers ring s) a), λ u. absurd (Any-nil (λ ring. Covers ring (moved_back e u.0)) u.2))
 figure_covers m e s (ring ∷ rings) all =
     let here = All-head (IsPlaced m e) ring rings all in
     let rest = figure_covers m e s rings (All-tail (IsPlaced m e) ring rings all) in (
       λ a.
-          elim (Any-cases (λ r. Covers r s) (placed_ring m e ring) (placed_figure m rings e) a) [
+          elim (Any-uncons (λ r. Covers r s) (placed_ring m e ring) (placed_figure m rings e) a) [
             | inl c ↦
                 let from = (here.covers s).0 c in
-                (moved_square e from.from, from.place, Any-first (λ r. Covers r (moved_back e (moved_square e from.from))) ring rings (subst (Covers ring) (sym (there_and_back e from.from)) from.covered))
-            | inr b ↦ let u = rest.0 b in (u.0, u.1, Any-later (λ r. Covers r (moved_back e u.0)) ring rings u.2)
+                (moved_square e from.from, from.place, Any-head (λ r. Covers r (moved_back e (moved_square e from.from))) ring rings (subst (Covers ring) (sym (there_and_back e from.from)) from.covered))
+            | inr b ↦ let u = rest.0 b in (u.0, u.1, Any-tail (λ r. Covers r (moved_back e u.0)) ring rings u.2)
           ],
       λ u.
-          elim (Any-cases (λ r. Covers r (moved_back e u.0)) ring rings u.2) [
+          elim (Any-uncons (λ r. Covers r (moved_back e u.0)) ring rings u.2) [
             | inl c ↦
-                Any-first (λ r. Covers r s) (placed_ring m e ring) (placed_figure m rings e)
+                Any-head (λ r. Covers r s) (placed_ring m e ring) (placed_figure m rings e)
                 ((here.covers s).1 (record { from = moved_back e u.0; place = ap (image_square m) (back_and_there e u.0) ∙ u.1; covered = c }))
-            | inr b ↦ Any-later (λ r. Covers r s) (placed_ring m e ring) (placed_figure m rings e) (rest.1 (u.0, u.1, b))
+            | inr b ↦ Any-tail (λ r. Covers r s) (placed_ring m e ring) (placed_figure m rings e) (rest.1 (u.0, u.1, b))
           ],
     )
 
 -- the rings of a shape at all of its shifts
 shape_covers : (m : Map) (s : Square) (rings : Rings) (shifts : List Point) → All (λ e. All (IsPlaced m e) rings) shifts → RingsCover (flat_map (placed_figure m rings) shifts) s ↔ Under m s (λ t. Any (λ e. RingsCover rings (moved_back e t)) shifts)
-shape_covers m s rings [] all = (λ a. absurd (Any-none (λ ring. Covers ring s) a), λ u. absurd (Any-none (λ e. RingsCover rings (moved_back e u.0)) u.2))
+shape_covers m s rings [] all = (λ a. absurd (Any-nil (λ ring. Covers ring s) a), λ u. absurd (Any-nil (λ e. RingsCover rings (moved_back e u.0)) u.2))
 shape_covers m s rings (e ∷ shifts) all =
     let P : Point → Type 0 = λ d. All (IsPlaced m d) rings in
     let here = figure_covers m e s rings (All-head P e shifts all) in
     let rest = shape_covers m s rings shifts (All-tail P e shifts all) in (
       λ a.
           elim (Any-sides (λ r. Covers r s) (placed_figure m rings e) (flat_map (placed_figure m rings) shifts) a) [
-            | inl b ↦ let u = here.0 b in (u.0, u.1, Any-first (λ d. RingsCover rings (moved_back d u.0)) e shifts u.2)
-            | inr b ↦ let u = rest.0 b in (u.0, u.1, Any-later (λ d. RingsCover rings (moved_back d u.0)) e shifts u.2)
+            | inl b ↦ let u = here.0 b in (u.0, u.1, Any-head (λ d. RingsCover rings (moved_back d u.0)) e shifts u.2)
+            | inr b ↦ let u = rest.0 b in (u.0, u.1, Any-tail (λ d. RingsCover rings (moved_back d u.0)) e shifts u.2)
           ],
       λ u.
-          elim (Any-cases (λ d. RingsCover rings (moved_back d u.0)) e shifts u.2) [
+          elim (Any-uncons (λ d. RingsCover rings (moved_back d u.0)) e shifts u.2) [
             | inl c ↦ Any-left (λ r. Covers r s) (placed_figure m rings e) (flat_map (placed_figure m rings) shifts) (here.1 (u.0, u.1, c))
             | inr b ↦ Any-right (λ r. Covers r s) (placed_figure m rings e) (flat_map (placed_figure m rings) shifts) (rest.1 (u.0, u.1, b))
           ],
@@ -82,7 +83,7 @@ shape_covers m s rings (e ∷ shifts) all =
 
 -- the shapes on a Layer
 pub drawn_covers : (layer : Layer) (m : Map) (s : Square) (shapes : List (PlainShape Rings)) → AreFiguresPlaced m shapes → RingsCover (drawn_on layer m shapes) s ↔ Under m s (λ t. Any (ShapeCovers RingsCover layer t) shapes)
-drawn_covers layer m s [] all = (λ a. absurd (Any-none (λ ring. Covers ring s) a), λ u. absurd (Any-none (ShapeCovers RingsCover layer u.0) u.2))
+drawn_covers layer m s [] all = (λ a. absurd (Any-nil (λ ring. Covers ring s) a), λ u. absurd (Any-nil (ShapeCovers RingsCover layer u.0) u.2))
 drawn_covers layer m s (h ∷ shapes) all =
     let P : PlainShape Rings → Type 0 = λ g. All (λ e. All (IsPlaced m e) g.figure) g.shifts in
     let shape = shape_covers m s h.figure h.shifts (All-head P h shapes all) in
@@ -90,15 +91,15 @@ drawn_covers layer m s (h ∷ shapes) all =
     let mine : RingsCover (cond (same_layer h.layer layer) (placed_shape m h) []) s ↔ Under m s (λ t. ShapeCovers RingsCover layer t h) =
     elim (same_layer h.layer layer) as (λ b. same_layer h.layer layer ≡ b → RingsCover (cond b (placed_shape m h) []) s ↔ Under m s (λ t. ShapeCovers RingsCover layer t h)) [
       | true ↦ λ e. (λ a. let u = shape.0 a in (u.0, u.1, (tested_layer h.layer layer (ap not e), u.2)), λ u. shape.1 (u.0, u.1, u.2.1))
-      | false ↦ λ e. (λ a. absurd (Any-none (λ ring. Covers ring s) a), λ u. let no : true ≡ false = sym (same_is h.layer layer u.2.0) ∙ e in cc)
+      | false ↦ λ e. (λ a. absurd (Any-nil (λ ring. Covers ring s) a), λ u. let no : true ≡ false = sym (same_is h.layer layer u.2.0) ∙ e in cc)
     ] refl in (
       λ a.
           elim (Any-sides (λ r. Covers r s) (cond (same_layer h.layer layer) (placed_shape m h) []) (drawn_on layer m shapes) a) [
-            | inl b ↦ let u = mine.0 b in (u.0, u.1, Any-first (ShapeCovers RingsCover layer u.0) h shapes u.2)
-            | inr b ↦ let u = rest.0 b in (u.0, u.1, Any-later (ShapeCovers RingsCover layer u.0) h shapes u.2)
+            | inl b ↦ let u = mine.0 b in (u.0, u.1, Any-head (ShapeCovers RingsCover layer u.0) h shapes u.2)
+            | inr b ↦ let u = rest.0 b in (u.0, u.1, Any-tail (ShapeCovers RingsCover layer u.0) h shapes u.2)
           ],
       λ u.
-          elim (Any-cases (ShapeCovers RingsCover layer u.0) h shapes u.2) [
+          elim (Any-uncons (ShapeCovers RingsCover layer u.0) h shapes u.2) [
             | inl c ↦ Any-left (λ r. Covers r s) (cond (same_layer h.layer layer) (placed_shape m h) []) (drawn_on layer m shapes) (mine.1 (u.0, u.1, c))
             | inr b ↦ Any-right (λ r. Covers r s) (cond (same_layer h.layer layer) (placed_shape m h) []) (drawn_on layer m shapes) (rest.1 (u.0, u.1, b))
           ],

@@ -21,7 +21,8 @@ use Rattle.lvl_flat.specs.Visits.{picks, visit_weight, VisitCovers, FitsUnder, P
 use Rattle.lvl_flat.specs.Walking.{AllHaveSheets, IsWalking}
 use Rattle.lvl_flat.specs.Entering.{begun, IsDrawn, IsCellOut}
 use Rattle.lvl_flat.proofs.Orders.{sorted_tail, before_itself, rings_nowhere, tested_layer}
-use Rattle.lvl_flat.proofs.Picks.{Any-none, Any-first, Any-cases, picks_from_start}
+use Rattle.lvl_grid.proofs.Anyone.{Any-nil, Any-head, Any-uncons}
+use Rattle.lvl_flat.proofs.Picks.{picks_from_start}
 use Rattle.lvl_flat.proofs.Ranging.{fits_under, image-unmoved}
 use Rattle.lvl_flat.proofs.Covering.{Under, drawn_covers}
 use Rattle.lvl_flat.proofs.Drawing.{sorted_alike}
@@ -62,13 +63,13 @@ walk_begins s c empty new linked ordered at sorted have none d =
             λ h.
                 elim (begin.0 (q, square_stays q, h)) [
                   | inl own ↦ inl (subst (λ rs. RingsCover rs q) (sym (drawn layer)) (mine.1 own))
-                  | inr far ↦ inr (Any-first V child [] far)
+                  | inr far ↦ inr (Any-head V child [] far)
                 ],
             λ e.
                 let u : Under unmoved q (CellCovers RingsCover cells layer c) =
                 elim e [
                   | inl a ↦ begin.1 (inl (mine.0 (subst (λ rs. RingsCover rs q) (drawn layer) a)))
-                  | inr b ↦ elim (Any-cases V child [] b) [ inl far ↦ begin.1 (inr far) | inr nothing ↦ absurd (Any-none V nothing) ]
+                  | inr b ↦ elim (Any-uncons V child [] b) [ inl far ↦ begin.1 (inr far) | inr nothing ↦ absurd (Any-nil V nothing) ]
                 ] in
                 subst (CellCovers RingsCover cells layer c) (sym (square_stays u.0) ∙ u.1) u.2,
           );
@@ -165,7 +166,7 @@ walk_ends s sheets w = record {
       let same = rings_on-filled sheets w.sorted layer in
       let both = w.covers layer q in (
         λ a. both.1 (inl (subst (λ rs. RingsCover rs q) same a)),
-        λ h. elim (both.0 h) [ inl a ↦ subst (λ rs. RingsCover rs q) (sym same) a | inr b ↦ absurd (Any-none (VisitCovers s.cells layer q) b) ],
+        λ h. elim (both.0 h) [ inl a ↦ subst (λ rs. RingsCover rs q) (sym same) a | inr b ↦ absurd (Any-nil (VisitCovers s.cells layer q) b) ],
       );
   count = λ layer. ap length (rings_on-filled sheets w.sorted layer) ∙ omega (arith, w.counts layer);
   in_range = w.fits (λ v has. let below : has.0 < 0 = has.1 in absurd (omega arith));

@@ -24,7 +24,8 @@ use Rattle.lvl_flat.specs.Visits.{Pick, picks, pending, pick_weight, visit_weigh
 use Rattle.lvl_flat.specs.Walking.{AllHaveSheets, IsWalking, references_left, toil, work}
 use Rattle.lvl_flat.specs.Steps.{IsPast, IsInto, IsOut}
 use Rattle.lvl_flat.specs.Entering.{begun, IsDrawn, IsCellOut, IsEnterFault, TellsName}
-use Rattle.lvl_flat.proofs.Picks.{Any-left, Any-right, Any-sides, picks_from_start, picks_within}
+use Rattle.lvl_grid.proofs.Anyone.{Any-left, Any-right, Any-sides}
+use Rattle.lvl_flat.proofs.Picks.{picks_from_start, picks_within}
 use Rattle.lvl_flat.proofs.Ranging.{chain_more, fits_alike, fits_under}
 use Rattle.lvl_flat.proofs.Covering.{drawn_covers}
 use Rattle.lvl_flat.proofs.Drawing.{layer_of, sorted_alike}

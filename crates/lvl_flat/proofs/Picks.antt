@@ -3,42 +3,10 @@ use Rattle.std.proofs.Common.{◌≡◌, ◌<◌, ◌≤◌, ◌++◌, ◌+◌, 
 use Rattle.std.proofs.Math.Nat.{zero-mul, suc-mul}
 use Rattle.std.proofs.lemmas.List.{drop_all}
 use Rattle.std.proofs.lemmas.List.Sums.{sum_by-cons, sum_by-append}
-use Rattle.std.proofs.lemmas.List.Elements.{Contains-append_left, Contains-append_right, Contains-append_cases}
 use Rattle.lvl_grid.specs.declared.point.Point.{Point}
+use Rattle.lvl_grid.proofs.Anyone.{some_contained, Any-nil, Any-head, Any-tail, Any-uncons, Any-left, Any-right, Any-sides, Any-map}
 use Rattle.lvl_cells.specs.Cells.{PlainReference}
 use Rattle.lvl_flat.specs.Visits.{Pick, picks, picks_from}
-
-pub contained : {X : Type 0} (P : X → Type 0) (xs : List X) (x : X) → Contains xs x → P x → Any P xs
-contained P xs x h p = (h.0, x, h.1, h.2, p)
-
-pub Any-none : {X : Type 0} (P : X → Type 0) → Any P [] → ⊥
-Any-none P a = let below : a.0 < 0 = a.2 in absurd (omega arith)
-
-pub Any-first : {X : Type 0} (P : X → Type 0) (x : X) (xs : List X) → P x → Any P (x ∷ xs)
-Any-first P x xs p = (0, x, omega arith, refl, p)
-
-pub Any-later : {X : Type 0} (P : X → Type 0) (x : X) (xs : List X) → Any P xs → Any P (x ∷ xs)
-Any-later P x xs (k, y, below, e, p) = (suc k, y, omega arith, e, p)
-
-pub Any-cases : {X : Type 0} (P : X → Type 0) (x : X) (xs : List X) → Any P (x ∷ xs) → P x ⊎ Any P xs
-Any-cases P x xs (zero, y, below, e, p) = inl (subst P (sym e) p)
-Any-cases P x xs (suc k, y, below, e, p) = inr (k, y, omega arith, e, p)
-
-pub Any-left : {X : Type 0} (P : X → Type 0) (xs ys : List X) → Any P xs → Any P (xs ++ ys)
-Any-left P xs ys a = contained P (xs ++ ys) a.1 (Contains-append_left xs ys a.1 (a.0, a.2, a.3)) a.4
-
-pub Any-right : {X : Type 0} (P : X → Type 0) (xs ys : List X) → Any P ys → Any P (xs ++ ys)
-Any-right P xs ys a = contained P (xs ++ ys) a.1 (Contains-append_right xs ys a.1 (a.0, a.2, a.3)) a.4
-
-pub Any-sides : {X : Type 0} (P : X → Type 0) (xs ys : List X) → Any P (xs ++ ys) → Any P xs ⊎ Any P ys
-Any-sides P xs ys a = elim (Contains-append_cases xs ys a.1 (a.0, a.2, a.3)) [ inl c ↦ inl (contained P xs a.1 c a.4) | inr c ↦ inr (contained P ys a.1 c a.4) ]
-
-pub Any-mapped : {X Y : Type 0} (P : Y → Type 0) (f : X → Y) (xs : List X) → Any P (map f xs) ↔ Any (λ x. P (f x)) xs
-Any-mapped P f [] = (λ a. absurd (Any-none P a), λ a. absurd (Any-none (λ x. P (f x)) a))
-Any-mapped P f (x ∷ xs) = (
-  λ a. elim (Any-cases P (f x) (map f xs) a) [ inl p ↦ Any-first (λ y. P (f y)) x xs p | inr r ↦ Any-later (λ y. P (f y)) x xs ((Any-mapped P f xs).0 r) ],
-  λ a. elim (Any-cases (λ y. P (f y)) x xs a) [ inl p ↦ Any-first P (f x) (map f xs) p | inr r ↦ Any-later P (f x) (map f xs) ((Any-mapped P f xs).1 r) ],
-)
 
 drop_at : {X : Type 0} (xs : List X) (i : ℕ) (x : X) → slice_get xs i ≡ Some x → drop i xs ≡ x ∷ drop (i + 1) xs
 drop_at [] i x at = cc
@@ -78,34 +46,34 @@ picks_sum f (r ∷ rs) =
 
 -- and some place of some reference is some pick
 pub picks_any : (P : PlainReference → Point → Type 0) (rs : List PlainReference) → Any (λ r. Any (P r) r.shifts) rs ↔ Any (λ p. P p.0 p.1) (picks rs)
-picks_any P [] = (λ a. absurd (Any-none (λ (r : PlainReference). Any (P r) r.shifts) a), λ a. absurd (Any-none (λ (p : Pick). P p.0 p.1) a))
+picks_any P [] = (λ a. absurd (Any-nil (λ (r : PlainReference). Any (P r) r.shifts) a), λ a. absurd (Any-nil (λ (p : Pick). P p.0 p.1) a))
 picks_any P (r ∷ rs) =
     let Q : Pick → Type 0 = λ p. P p.0 p.1 in
     let R : PlainReference → Type 0 = λ q. Any (P q) q.shifts in
     let mine : List Pick = map (λ e. (r, e)) r.shifts in (
       λ a.
-          elim (Any-cases R r rs a) [
-            | inl here ↦ Any-left Q mine (picks rs) ((Any-mapped Q (λ e. (r, e)) r.shifts).1 here)
+          elim (Any-uncons R r rs a) [
+            | inl here ↦ Any-left Q mine (picks rs) ((Any-map Q (λ e. (r, e)) r.shifts).1 here)
             | inr later ↦ Any-right Q mine (picks rs) ((picks_any P rs).0 later)
           ],
       λ a.
           elim (Any-sides Q mine (picks rs) a) [
-            | inl here ↦ Any-first R r rs ((Any-mapped Q (λ e. (r, e)) r.shifts).0 here)
-            | inr later ↦ Any-later R r rs ((picks_any P rs).1 later)
+            | inl here ↦ Any-head R r rs ((Any-map Q (λ e. (r, e)) r.shifts).0 here)
+            | inr later ↦ Any-tail R r rs ((picks_any P rs).1 later)
           ],
     )
 
 any_drop : {X : Type 0} (P : X → Type 0) (k : ℕ) (xs : List X) → Any P (drop k xs) → Any P xs
 any_drop P zero xs a = a
 any_drop P (suc k) [] a = a
-any_drop P (suc k) (x ∷ xs) a = Any-later P x xs (any_drop P k xs a)
+any_drop P (suc k) (x ∷ xs) a = Any-tail P x xs (any_drop P k xs a)
 
 any_from : (Q : Pick → Type 0) (rs : List PlainReference) (k : ℕ) → Any Q (picks_from rs k) → Any Q (picks rs)
 any_from Q [] k a = a
 any_from Q (r ∷ rs) k a =
     let pair : Point → Pick = λ e. (r, e) in
     elim (Any-sides Q (map pair (drop k r.shifts)) (picks rs) a) [
-      | inl here ↦ Any-left Q (map pair r.shifts) (picks rs) ((Any-mapped Q pair r.shifts).1 (any_drop (λ e. Q (pair e)) k r.shifts ((Any-mapped Q pair (drop k r.shifts)).0 here)))
+      | inl here ↦ Any-left Q (map pair r.shifts) (picks rs) ((Any-map Q pair r.shifts).1 (any_drop (λ e. Q (pair e)) k r.shifts ((Any-map Q pair (drop k r.shifts)).0 here)))
       | inr later ↦ Any-right Q (map pair r.shifts) (picks rs) later
     ]
 
@@ -118,5 +86,5 @@ any_skip Q (suc j) (r ∷ rs) a = Any-right Q (map (λ e. (r, e)) r.shifts) (pic
 pub picks_within : (rs : List PlainReference) (j place : ℕ) (p : Pick) → Contains (picks_from (drop j rs) place) p → Contains (picks rs) p
 picks_within rs j place p has =
     let same : Pick → Type 0 = λ x. x ≡ p in
-    let a = any_skip same j rs (any_from same (drop j rs) place (contained same (picks_from (drop j rs) place) p has refl)) in
+    let a = any_skip same j rs (any_from same (drop j rs) place (some_contained same (picks_from (drop j rs) place) p has refl)) in
     (a.0, a.2, subst (λ (y : Pick). get_or (picks rs) a.0 y ≡ y) a.4 a.3)

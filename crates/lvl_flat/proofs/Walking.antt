@@ -25,7 +25,8 @@ use Rattle.lvl_flat.specs.Visits.{Pick, picks, pending, pick_weight, visit_weigh
 use Rattle.lvl_flat.specs.Walking.{IsWalking}
 use Rattle.lvl_flat.specs.Steps.{IsPast, IsInto}
 use Rattle.lvl_flat.specs.Entering.{begun}
-use Rattle.lvl_flat.proofs.Picks.{Any-none, Any-first, Any-later, Any-cases, Any-left, Any-right, Any-sides, picks_from_start, picks_sum}
+use Rattle.lvl_grid.proofs.Anyone.{Any-nil, Any-head, Any-tail, Any-uncons, Any-left, Any-right, Any-sides}
+use Rattle.lvl_flat.proofs.Picks.{picks_from_start, picks_sum}
 use Rattle.lvl_flat.proofs.Covering.{Under, under_either, under_same, cell_covers, pick_covers}
 use Rattle.lvl_flat.proofs.Stepping.{pending_at}
 
@@ -79,22 +80,22 @@ visit_into cells layer v i m rest q into =
     let P : Square → Pick → Type 0 = λ t p. PickCovers cells layer t p in
     let pick = pick_covers cells layer v.map m q into.pick into.next into.named into.placed in (
       λ u.
-          elim (Any-cases (P u.0) into.pick (pending cells rest) (subst (Any (P u.0)) into.pending_is u.2)) [
+          elim (Any-uncons (P u.0) into.pick (pending cells rest) (subst (Any (P u.0)) into.pending_is u.2)) [
             | inl a ↦ inl (pick.0 (u.0, u.1, a))
             | inr b ↦ inr (u.0, ap (λ n. image_square n u.0) into.map_is ∙ u.1, b)
           ],
       λ e.
           elim e [
-            | inl a ↦ let u = pick.1 a in (u.0, u.1, subst (Any (P u.0)) (sym into.pending_is) (Any-first (P u.0) into.pick (pending cells rest) u.2))
+            | inl a ↦ let u = pick.1 a in (u.0, u.1, subst (Any (P u.0)) (sym into.pending_is) (Any-head (P u.0) into.pick (pending cells rest) u.2))
             | inr b ↦
-                (b.0, sym (ap (λ n. image_square n b.0) into.map_is) ∙ b.1, subst (Any (P b.0)) (sym into.pending_is) (Any-later (P b.0) into.pick (pending cells rest) b.2))
+                (b.0, sym (ap (λ n. image_square n b.0) into.map_is) ∙ b.1, subst (Any (P b.0)) (sym into.pending_is) (Any-tail (P b.0) into.pick (pending cells rest) b.2))
           ],
     )
 
 pub Any-last : {X : Type 0} (P : X → Type 0) (xs : List X) (x : X) → Any P (xs ++ x ∷ []) ↔ (Any P xs ⊎ P x)
 Any-last P xs x = (
-  λ a. elim (Any-sides P xs (x ∷ []) a) [ inl b ↦ inl b | inr b ↦ elim (Any-cases P x [] b) [ inl p ↦ inr p | inr c ↦ absurd (Any-none P c) ] ],
-  λ e. elim e [ inl b ↦ Any-left P xs (x ∷ []) b | inr p ↦ Any-right P xs (x ∷ []) (Any-first P x [] p) ],
+  λ a. elim (Any-sides P xs (x ∷ []) a) [ inl b ↦ inl b | inr b ↦ elim (Any-uncons P x [] b) [ inl p ↦ inr p | inr c ↦ absurd (Any-nil P c) ] ],
+  λ e. elim e [ inl b ↦ Any-left P xs (x ∷ []) b | inr p ↦ Any-right P xs (x ∷ []) (Any-head P x [] p) ],
 )
 
 pub in_front : (front : List Visit) (v u : Visit) → Contains front u → Contains (front ++ v ∷ []) u
@@ -116,7 +117,7 @@ walk_done s sheets front v w none = record {
         λ h.
             elim (both.0 h) [
               | inl a ↦ inl a
-              | inr b ↦ elim (last.0 b) [ inl c ↦ inr c | inr u ↦ absurd (Any-none (PickCovers s.cells layer u.0) (subst (Any (PickCovers s.cells layer u.0)) none u.2)) ]
+              | inr b ↦ elim (last.0 b) [ inl c ↦ inr c | inr u ↦ absurd (Any-nil (PickCovers s.cells layer u.0) (subst (Any (PickCovers s.cells layer u.0)) none u.2)) ]
             ],
         λ e. both.1 (elim e [ inl a ↦ inl a | inr b ↦ inr (last.1 (inl b)) ]),
       );

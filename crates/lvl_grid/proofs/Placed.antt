@@ -1,5 +1,5 @@
 -- A ring that was moved and placed is a ring, and covers the places of what it covered.
-use Rattle.std.proofs.Common.{◌≡◌, ◌≢◌, ◌≤◌, Bool, true, false, List, [], ◌∷◌, map, ℤ, pos, ◌+ℤ◌, neg_ℤ, refl, subst, arith, sym, ap, ◌∙◌, inl, inr, length, All, ◌↔◌}
+use Rattle.std.proofs.Common.{◌≡◌, Bool, true, false, List, map, ◌+ℤ◌, neg_ℤ, refl, subst, arith, sym, ap, ◌∙◌, inl, inr, All, ◌↔◌}
 use Rattle.std.proofs.lemmas.Int.{ints}
 use Rattle.lvl_grid.specs.declared.point.Point.{Point}
 use Rattle.lvl_grid.specs.declared.point.Square.{Square}

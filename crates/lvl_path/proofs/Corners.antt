@@ -1,6 +1,6 @@
 -- The runs of a path up to a place, one corner after another.
 use Rattle.std.proofs.Common.{◌≡◌, ◌<◌, ◌+◌, ◌-◌, ℕ, true, false, cond, List, [], ◌∷◌, ◌++◌, length, filter, refl, ap, sym, subst, ◌∙◌, arith, zero, suc, add-one, Any, inl, inr}
-use Rattle.lvl_path.proofs.Anyone.{Any-push}
+use Rattle.lvl_grid.proofs.Anyone.{Any-push}
 use Rattle.std.proofs.lemmas.List.Elements.{filter-append}
 use Rattle.std.specs.List.{range_with_len}
 use Rattle.std.proofs.lemmas.List.{append-nil}

@@ -10,7 +10,7 @@ use Rattle.lvl_path.specs.declared.way.Way.{Way}
 use Rattle.lvl_path.specs.declared.way.Way.TheVariants.{East, North, West, South}
 use Rattle.lvl_path.specs.Bands.{band_towards, band_between, band_ring, Holds}
 use Rattle.lvl_path.specs.Runs.{point, run_band, runs, path_rings, PathCovers}
-use Rattle.lvl_path.proofs.Anyone.{Any-map, Any-same}
+use Rattle.lvl_grid.proofs.Anyone.{Any-map, Any-same}
 
 lt_says : (a b : ℤ) → a <ℤ b → int_lt a b ≡ true
 lt_says a b h = grind (arith, ints)

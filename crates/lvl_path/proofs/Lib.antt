@@ -1,6 +1,5 @@
 pub mod BandOf
 pub mod Corners
-pub mod Anyone
 pub mod Covering
 pub mod Outcomes
 pub mod Figures

@@ -4,11 +4,9 @@ use Rattle.std.proofs.lemmas.Int.{ints}
 use Rattle.std.proofs.lemmas.List.{take_more, length-append, get_or_append_left}
 use Rattle.std.proofs.lemmas.List.Elements.{All-weaker, All-push, All-nil}
 use Rattle.std.proofs.lemmas.List.Quantifiers.{Any-push}
+use Rattle.lvl_grid.proofs.Anyone.{Any-left}
 use Rattle.lvl_sweep.specs.declared.edge.Edge.{Edge}
 use Rattle.lvl_sweep.specs.Edges.{IsReach, IsLower}
-
-any_left : {A : Type 0} (P : A → Type 0) (xs ys : List A) → Any P xs → Any P (xs ++ ys)
-any_left P xs ys f = (f.0, f.1, (rw length-append (omega (arith, f.2))), (get_or_append_left xs ys f.1 f.0 f.2 ∙ f.3), f.4)
 
 pub reach_step : (es : List Edge) (i : ℕ) (d : Edge) (begins least : Option ℤ) (y : ℤ) → i < length es → IsReach (take i es) begins least → IsLower (get_or es i d).high least y → IsReach (take (i + 1) es) begins (Some y)
 reach_step es i d begins None y lt h low =
@@ -28,7 +26,7 @@ reach_step es i d begins (Some l) y lt h low =
       elim low.2 [
         | inl here ↦ inl (Any-push (λ e. e.high ≡ y) (take i es) (get_or es i d) (sym here))
         | inr same ↦ elim h.2 [
-          | inl some ↦ inl (any_left (λ e. e.high ≡ y) (take i es) (get_or es i d ∷ []) (rw same some))
+          | inl some ↦ inl (Any-left (λ e. e.high ≡ y) (take i es) (get_or es i d ∷ []) (rw same some))
           | inr begin ↦ inr (begin ∙ ap Some (sym same))
         ]
       ],

@@ -1,7 +1,7 @@
 use Rattle.std.proofs.Common.{◌≡◌, ◌<◌, ◌+◌, length, true, false, sym, ap, ◌∙◌, arith, length-append}
 use Rattle.lvl_path.specs.Runs.{is_corner, run_length}
 use Rattle.lvl_path.proofs.Corners.{runs_to, at_corner, runs_at_corner, at_no_corner, runs_at_no_corner}
-use Rattle.lvl_path.proofs.Anyone.{either_any}
+use Rattle.lvl_grid.proofs.Anyone.{either_any}
 use Rattle.lvl_path.proofs.runs.measure_runs.Goals as goal
 
 pub loop-to-preserved-then-not-is_corner : goal.loop-to-preserved-then-not-is_corner

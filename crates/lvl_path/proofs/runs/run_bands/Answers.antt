@@ -5,7 +5,7 @@ use Rattle.std.proofs.lemmas.List.Elements.{All-push}
 use Rattle.lvl_path.specs.Bands.{band_ring, FitsBand, IsBandFault}
 use Rattle.lvl_path.specs.Runs.{is_corner, run_band}
 use Rattle.lvl_path.proofs.Corners.{runs_to, at_corner, runs_at_corner, at_no_corner, runs_at_no_corner, fault_of_run}
-use Rattle.lvl_path.proofs.Anyone.{none_where_all}
+use Rattle.lvl_grid.proofs.Anyone.{none_where_all}
 use Rattle.lvl_path.proofs.runs.run_bands.Goals as goal
 
 pub loop-to-preserved-then-not-is_corner : goal.loop-to-preserved-then-not-is_corner

@@ -1,4 +1,3 @@
-use Rattle.std.proofs.Common.{◌≡◌}
 use Rattle.lvl_grid.proofs.Composing.{image-composed}
 use Rattle.lvl_grid.proofs.map.Map.then.Goals as goal
 

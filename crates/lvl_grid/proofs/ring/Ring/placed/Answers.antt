@@ -1,9 +1,9 @@
-use Rattle.std.proofs.Common.{◌≡◌, ◌≤◌, ◌<◌, ℕ, ◌+◌, List, length, map, take, get_or, refl, sym, subst, ◌∙◌, arith, ap, below_more}
+use Rattle.std.proofs.Common.{◌≡◌, ℕ, List, map, get_or, sym, subst, ◌∙◌, arith, ap, below_more}
 use Rattle.std.proofs.lemmas.List.{map_more, get_or_default, take_all}
 use Rattle.lvl_grid.specs.declared.point.Point.{Point}
 use Rattle.lvl_grid.specs.Turn.{FitsPoint}
-use Rattle.lvl_grid.specs.Placed.{placed_point, IsPlaceOfCovered}
-use Rattle.lvl_grid.specs.Winding.{IsRing, Covers}
+use Rattle.lvl_grid.specs.Placed.{placed_point}
+use Rattle.lvl_grid.specs.Winding.{IsRing}
 use Rattle.lvl_grid.proofs.Paths.{origin}
 use Rattle.lvl_grid.proofs.Placed.{IsRing-placed, covers_placed}
 use Rattle.lvl_grid.proofs.ring.Ring.placed.Goals as goal

@@ -1,6 +1,6 @@
--- Some element of a list does so: of a list with one more, of a mapped one, and where two facts agree.
+-- Some element of a list does so: of a longer list, of two lists, of a mapped one, and where two facts agree.
 use Rattle.std.proofs.Common.{◌<◌, List, [], ◌∷◌, ◌++◌, map, refl, sym, subst, arith, Any, Contains, ◌↔◌, ◌⊎◌, inl, inr, zero, suc, Bool, true, false, ◌||◌, IsTrue, All}
-use Rattle.std.proofs.lemmas.List.Elements.{Contains-append_left, Contains-push, Contains-push_cases}
+use Rattle.std.proofs.lemmas.List.Elements.{Contains-append_left, Contains-append_right, Contains-append_cases, Contains-push, Contains-push_cases}
 
 pub some_contained : {X : Type 0} (P : X → Type 0) (xs : List X) (x : X) → Contains xs x → P x → Any P xs
 some_contained P xs x h p = (h.0, x, h.1, h.2, p)
@@ -14,17 +14,26 @@ Any-push P xs x = (
   λ s. elim s [ inl a ↦ some_contained P _ a.1 (Contains-append_left xs (x ∷ []) a.1 (a.0, a.2, a.3)) a.4 | inr p ↦ some_contained P _ x (Contains-push xs x) p ],
 )
 
+pub Any-left : {X : Type 0} (P : X → Type 0) (xs ys : List X) → Any P xs → Any P (xs ++ ys)
+Any-left P xs ys a = some_contained P (xs ++ ys) a.1 (Contains-append_left xs ys a.1 (a.0, a.2, a.3)) a.4
+
+pub Any-right : {X : Type 0} (P : X → Type 0) (xs ys : List X) → Any P ys → Any P (xs ++ ys)
+Any-right P xs ys a = some_contained P (xs ++ ys) a.1 (Contains-append_right xs ys a.1 (a.0, a.2, a.3)) a.4
+
+pub Any-sides : {X : Type 0} (P : X → Type 0) (xs ys : List X) → Any P (xs ++ ys) → Any P xs ⊎ Any P ys
+Any-sides P xs ys a = elim (Contains-append_cases xs ys a.1 (a.0, a.2, a.3)) [ inl c ↦ inl (some_contained P xs a.1 c a.4) | inr c ↦ inr (some_contained P ys a.1 c a.4) ]
+
 pub Any-same : {X : Type 0} (P Q : X → Type 0) (xs : List X) → ((x : X) → P x ↔ Q x) → Any P xs ↔ Any Q xs
 Any-same P Q xs same = (λ a. (a.0, a.1, a.2, a.3, (same a.1).0 a.4), λ a. (a.0, a.1, a.2, a.3, (same a.1).1 a.4))
 
-Any-uncons : {X : Type 0} (P : X → Type 0) (x : X) (xs : List X) → Any P (x ∷ xs) → P x ⊎ Any P xs
+pub Any-uncons : {X : Type 0} (P : X → Type 0) (x : X) (xs : List X) → Any P (x ∷ xs) → P x ⊎ Any P xs
 Any-uncons P x xs (zero, y, below, e, p) = inl (subst P (sym e) p)
 Any-uncons P x xs (suc k, y, below, e, p) = inr (k, y, omega arith, e, p)
 
-Any-head : {X : Type 0} (P : X → Type 0) (x : X) (xs : List X) → P x → Any P (x ∷ xs)
+pub Any-head : {X : Type 0} (P : X → Type 0) (x : X) (xs : List X) → P x → Any P (x ∷ xs)
 Any-head P x xs p = (0, x, omega arith, refl, p)
 
-Any-tail : {X : Type 0} (P : X → Type 0) (x : X) (xs : List X) → Any P xs → Any P (x ∷ xs)
+pub Any-tail : {X : Type 0} (P : X → Type 0) (x : X) (xs : List X) → Any P xs → Any P (x ∷ xs)
 Any-tail P x xs (k, y, below, e, p) = (suc k, y, omega arith, e, p)
 
 pub Any-map : {X Y : Type 0} (P : Y → Type 0) (f : X → Y) (xs : List X) → Any P (map f xs) ↔ Any (λ x. P (f x)) xs
