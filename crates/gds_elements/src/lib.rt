@@ -14,7 +14,7 @@
 pub use element::{Drawn, Element, Step};
 pub use fault::{GdsKind, Refusal};
 pub use order::misplaced;
-pub use values::{cell_name, short};
+pub use values::cell_name;
 
 mod aref;
 mod boundary;

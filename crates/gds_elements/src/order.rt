@@ -28,7 +28,6 @@ where
 /// The refusal of a record that may not stand where it stands: `Unexpected` where its type is one
 /// of those that are read, else `Unsupported`.
 pub fn misplaced(kind: u8) -> Refusal
-    requires { kind < 60 }
     ensures { IsMisplaced kind result }
 {
     match kind {

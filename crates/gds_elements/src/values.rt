@@ -9,7 +9,7 @@ use lvl_grid::Point;
 use std::alloc::{AllocError, Global};
 
 /// A number of two bytes, in two's complement (GDSII Stream Format Manual, Release 6).
-pub fn short(payload: &[u8]) -> i16
+pub(crate) fn short(payload: &[u8]) -> i16
     requires { length payload.now ≡ 2 }
     ensures { result ≡ short payload.now }
 {

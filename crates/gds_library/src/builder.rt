@@ -10,7 +10,7 @@ ghost use Rattle.gds_library.specs.Faults.{IsFormed, IsFault, IsAllowed};
 
 use crate::head::{GdsHead, two_reals};
 use crate::place::Place;
-use gds_elements::{Drawn, GdsKind, Refusal, cell_name, misplaced, short};
+use gds_elements::{Drawn, GdsKind, Refusal, cell_name, misplaced};
 use gds_records::record_type;
 use lvl_cells::{Cell, Library, Reference, Shape};
 use std::alloc::Global;
@@ -95,7 +95,7 @@ impl Builder {
             return Err(misplaced(kind));
         };
         match kind {
-            record_type::HEADER => self.version = short(payload),
+            record_type::HEADER => self.version = i16::from_be_bytes([payload[0], payload[1]]),
             record_type::UNITS => self.units = two_reals(payload),
             record_type::BGNSTR => {
                 if self.cells.len() >= MOST_CELLS {

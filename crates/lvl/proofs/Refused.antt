@@ -3,7 +3,7 @@ use Rattle.std.proofs.Common.{◌≡◌, List, Ok, Err, sym, ◌∙◌, subst}
 use Rattle.lvl_cells.specs.Cells.{PlainCell, Rings}
 use Rattle.lvl_region.specs.declared.region.Side.{Side}
 use Rattle.lvl_region.specs.declared.region.Side.TheVariants.{First, Second}
-use Rattle.gds_library.specs.Drawn.{Drawing}
+use Rattle.lvl.specs.Drawing.{Drawing}
 use Rattle.lvl.specs.declared.layout.Head.{Head}
 use Rattle.lvl.specs.declared.verdict.Verdict.{Verdict}
 use Rattle.lvl.specs.declared.verdict.Refusal.{Refusal}

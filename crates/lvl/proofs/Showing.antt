@@ -7,7 +7,7 @@ use Rattle.lvl_cells.specs.declared.layer.Layer.{Layer}
 use Rattle.lvl_cells.specs.Cells.{PlainCell, PlainShape, Rings, each_ring, drawn, kept}
 use Rattle.lvl_cells.specs.Chains.{own_rings_on, over_chains, placed_rings_on}
 use Rattle.lvl_cells.specs.Soundness.{IsSound}
-use Rattle.gds_library.specs.Drawn.{Drawing}
+use Rattle.lvl.specs.Drawing.{Drawing}
 use Rattle.lvl_region.specs.declared.region.Side.TheVariants.{First}
 use Rattle.lvl.specs.declared.layout.Head.{Head}
 use Rattle.lvl.specs.declared.shown.Shown.{Shown}

@@ -7,7 +7,7 @@ use Rattle.lvl_cells.specs.declared.fault.CellFault.TheVariants.{OutOfMemory as 
 use Rattle.lvl_flat.specs.declared.fault.FlatFault.TheVariants.{OutOfMemory as NoMemoryForFlat}
 use Rattle.lvl_region.specs.declared.region.Side.{Side}
 use Rattle.lvl_region.specs.declared.region.Side.TheVariants.{First, Second}
-use Rattle.gds_library.specs.Drawn.{Drawing}
+use Rattle.lvl.specs.Drawing.{Drawing}
 use Rattle.gds_library.specs.Ends.{Tells, IsExcused}
 use Rattle.gds_library.specs.declared.fault.GdsFault.TheVariants.{At, OutOfMemory as NoMemoryForGds}
 use Rattle.gds_elements.specs.declared.fault.GdsKind.TheVariants.{Record}

@@ -2,7 +2,7 @@
 use Rattle.std.specs.Prelude.{◌≡◌, ℕ, List, Option}
 use Rattle.lvl_path.specs.Figure.{figure_rings}
 use Rattle.lvl_cells.specs.Cells.{PlainCell, Rings, kept}
-use Rattle.gds_library.specs.Drawn.{Drawing}
+use Rattle.lvl.specs.Drawing.{Drawing}
 use Rattle.gds_library.specs.Front.{SpellsLibrary}
 use Rattle.lvl.specs.declared.layout.Head.{Head}
 use Rattle.lvl.specs.declared.layout.Head.TheVariants.{Gds}

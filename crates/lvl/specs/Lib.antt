@@ -1,3 +1,4 @@
+pub mod Drawing
 pub mod Layouts
 pub mod Accepted
 pub mod Sheets

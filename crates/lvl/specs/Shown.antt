@@ -9,7 +9,7 @@ use Rattle.lvl_flat.specs.Flattened.{IsFlattened}
 use Rattle.lvl_flat.specs.Sheet.{PlainSheet}
 use Rattle.lvl_flat.specs.Sheets.{ComesBefore}
 use Rattle.lvl_region.specs.declared.region.Side.TheVariants.{First}
-use Rattle.gds_library.specs.Drawn.{Drawing}
+use Rattle.lvl.specs.Drawing.{Drawing}
 use Rattle.lvl.specs.declared.shown.Shown.{Shown}
 use Rattle.lvl.specs.declared.shown.ShownLayer.{ShownLayer}
 use Rattle.lvl.specs.declared.verdict.Refusal.{Refusal}

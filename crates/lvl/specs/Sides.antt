@@ -5,7 +5,7 @@ use Rattle.lvl_cells.specs.Cells.{PlainCell, Rings}
 use Rattle.lvl_cells.specs.Checks.{Settled}
 use Rattle.lvl_flat.specs.Flattened.{IsFlatFault}
 use Rattle.lvl_flat.specs.declared.fault.FlatFault.TheVariants.{OutOfMemory as NoMemoryForFlat}
-use Rattle.gds_library.specs.Drawn.{Drawing}
+use Rattle.lvl.specs.Drawing.{Drawing}
 use Rattle.gds_library.specs.declared.fault.GdsFault.TheVariants.{OutOfMemory as NoMemoryForGds}
 use Rattle.lvl_region.specs.declared.region.Side.{Side}
 use Rattle.lvl.specs.declared.layout.Head.{Head}

@@ -1,7 +1,7 @@
 -- How far a strip reaches.
-use Rattle.std.proofs.Common.{◌≡◌, ℕ, ◌+◌, ◌<◌, List, [], ◌∷◌, ◌++◌, length, get_or, take, ℤ, ◌≤ℤ◌, Option, None, Some, All, Any, sym, ◌∙◌, ap, arith, inl, inr}
+use Rattle.std.proofs.Common.{◌≡◌, ℕ, ◌+◌, ◌<◌, List, [], ◌∷◌, length, get_or, take, ℤ, ◌≤ℤ◌, Option, None, Some, All, sym, ◌∙◌, ap, arith, inl, inr}
 use Rattle.std.proofs.lemmas.Int.{ints}
-use Rattle.std.proofs.lemmas.List.{take_more, length-append, get_or_append_left}
+use Rattle.std.proofs.lemmas.List.{take_more}
 use Rattle.std.proofs.lemmas.List.Elements.{All-weaker, All-push, All-nil}
 use Rattle.std.proofs.lemmas.List.Quantifiers.{Any-push}
 use Rattle.lvl_grid.proofs.Anyone.{Any-left}
