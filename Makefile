@@ -15,7 +15,7 @@ check:
 	@$(NEEDS_RT)
 	@rt ci
 
-# Each allocation refused in turn, to the tests that the gate has built.
+# Each allocation refused in turn, to the tests and the program that the gate has built.
 growths:
 	@$(NEEDS_RT)
 	@.ci/growths
