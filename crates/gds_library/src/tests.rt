@@ -251,7 +251,7 @@ fn takes_zero_bytes_alone_behind_the_end(rt: HostRuntime) -> Result<(), Fail> {
     Ok(())
 }
 
-/// Whichever bit is another, there is an answer, and it matters not how a reader cuts the bytes.
+/// Whichever bit is another, it matters not how a reader cuts the bytes.
 #[test]
 fn reads_pieces_of_any_size_alike(rt: HostRuntime) -> Result<(), Fail> {
     let mut bytes = square(rt.alloc())?;
@@ -273,6 +273,61 @@ fn reads_pieces_of_any_size_alike(rt: HostRuntime) -> Result<(), Fail> {
         }
         if let Some(byte) = bytes.get_mut(k) {
             *byte = kept;
+        }
+    }
+    Ok(())
+}
+
+/// Whether this is what is told of `square` with the byte at a place set to another value: the fault
+/// that its payload's rule names, and of a header some fault no earlier than its record.
+fn is_told(place: usize, value: u8, fault: Option<GdsFault>) -> bool {
+    match place {
+        // a version, times, the library's name and units, a number's lowest byte: they are free
+        4..=5 | 10..=33 | 38..=39 | 44..=59 | 64..=87 | 105 | 111 => fault.is_none(),
+        // a name: its last byte may be the zero that fills it
+        92..=95 => {
+            let is_name = 0x21 <= value && value <= 0x7E;
+            fault == if is_name { None } else { at(88, GdsKind::Name) }
+        }
+        // the sign of a layer and of a datatype
+        104 => fault
+            == if value < 0x80 {
+                None
+            } else {
+                at(100, GdsKind::Layer)
+            },
+        110 => fault
+            == if value < 0x80 {
+                None
+            } else {
+                at(106, GdsKind::Layer)
+            },
+        116..=155 => fault == at(112, GdsKind::NotClosed) || fault == at(112, GdsKind::Oblique),
+        _ => match fault {
+            Some(GdsFault::At { offset, kind: _ }) => begun(place) <= offset && offset <= 168,
+            _ => false,
+        },
+    }
+}
+
+#[test]
+fn tells_each_byte_that_is_set(rt: HostRuntime) -> Result<(), Fail> {
+    let square = square(rt.alloc())?;
+    for (place, kept) in square.iter().enumerate() {
+        let mut bytes = Vec::from_slice(rt.alloc(), &square)?;
+        for value in 0..=255u8 {
+            if let Some(byte) = bytes.get_mut(place) {
+                *byte = value;
+            }
+            let fault = read(rt.alloc(), &bytes, 1000).err();
+            if value == *kept {
+                assert_eq!(rt; fault, None);
+            } else {
+                assert!(rt;
+                    is_told(place, value, fault),
+                    "byte {place} is {value}: {fault:?}"
+                );
+            }
         }
     }
     Ok(())
