@@ -3,7 +3,8 @@
 //! An element begins with its opener, BOUNDARY, PATH, SREF, AREF or TEXT, and ends with ENDEL
 //! (GDSII Stream Format Manual, Release 6). [`Element::open`] takes the opener, and
 //! [`Element::take`] one record more, until the element is whole: then it is what it draws, a shape
-//! or a reference to a cell, or nothing.
+//! or a reference to a cell, or nothing. [`cell_name`] and [`misplaced`] serve the records outside
+//! of elements too.
 //!
 //! A sixth element takes a file of its own beside `boundary.rt`: its places, with what a record is
 //! at each of them, the values that it keeps, and what it draws. `element.rt` opens it and has a
