@@ -1,0 +1,39 @@
+//! Why something was refused, where memory may be refused too.
+//!
+//! A call that takes memory can fail in two ways: what it was given breaches a rule, or an
+//! allocation failed. [`Refusal`] tells the two apart once for all crates, so that the enum of
+//! rules of each layer names rules alone, and `?` serves both.
+#![tactic(auto)]
+
+ghost use Rattle.std.specs.Prelude.{◌≡◌};
+
+use std::alloc::{AllocError, AllocFailed};
+
+/// Why something was refused.
+#[derive(Clone, Copy, Debug, Drop, PartialEq, Eq)]
+pub enum Refusal<F> {
+    /// This rule is breached.
+    Breach(F),
+    /// An allocation failed. It says nothing of what was given.
+    OutOfMemory,
+}
+
+impl<F> From<AllocError> for Refusal<F> {
+    ghost use Rattle.lvl_refusal.specs.declared.Refusal.TheVariants.{OutOfMemory};
+
+    ghost from_gives = { λ _ e. e ≡ OutOfMemory };
+
+    fn from(_e: AllocError) -> Refusal<F> {
+        Refusal::OutOfMemory
+    }
+}
+
+impl<F, T: Drop> From<AllocFailed<T>> for Refusal<F> {
+    ghost use Rattle.lvl_refusal.specs.declared.Refusal.TheVariants.{OutOfMemory};
+
+    ghost from_gives = { λ _ e. e ≡ OutOfMemory };
+
+    fn from(_e: AllocFailed<T>) -> Refusal<F> {
+        Refusal::OutOfMemory
+    }
+}
