@@ -2,6 +2,7 @@
 use crate::{Flat, FlatFault, flatten};
 use lvl_cells::{Cell, Layer, Library, Offsets, Reference, Shape, check};
 use lvl_grid::{Map, Point, Ring, Square, Turn};
+use lvl_refusal::Refusal;
 use std::alloc::Global;
 use std::test::Fail;
 
@@ -71,7 +72,7 @@ fn placed_twice(
     high: Point,
     outer: Map,
     inner: Map,
-) -> Result<Result<Vec<Point>, FlatFault>, Fail> {
+) -> Result<Result<Vec<Point>, Refusal<FlatFault>>, Fail> {
     let mut cells = Vec::new(alloc);
     cells.push(drawing(alloc, "A", METAL, low, high)?)?;
     cells.push(placing(alloc, "M", "A", inner)?)?;
@@ -163,7 +164,10 @@ fn placed_at_range_edge(rt: HostRuntime) -> Result<(), Fail> {
     assert_eq!(rt; corners(&points), Some((i64::MAX - 1, -1, i64::MAX, 0)));
     let half = turned(false, Turn::R180, 0, 0);
     match placed_twice(rt.alloc(), low, high, half, plain)? {
-        Err(FlatFault::OutOfRange(name)) => assert_eq!(rt; name.as_slice(), b"A".as_slice()),
+        Err(Refusal::Breach(FlatFault::OutOfRange(name))) => assert_eq!(rt;
+            name.as_slice(),
+            b"A".as_slice()
+        ),
         _ => return Err("not out of range".into()),
     }
     Ok(())
