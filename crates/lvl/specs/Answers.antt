@@ -3,8 +3,6 @@ use Rattle.std.specs.Prelude.{◌≡◌, ◌≢◌, ⊤, ℕ, Bool, true, false,
 use Rattle.gds_records.specs.declared.fault.RecordFault.TheVariants.{Read}
 use Rattle.lvl_path.specs.Figure.{figure_rings}
 use Rattle.lvl_cells.specs.Cells.{kept}
-use Rattle.lvl_cells.specs.declared.fault.CellFault.TheVariants.{OutOfMemory as NoMemoryForCells}
-use Rattle.lvl_flat.specs.declared.fault.FlatFault.TheVariants.{OutOfMemory as NoMemoryForFlat}
 use Rattle.lvl_region.specs.declared.region.Side.{Side}
 use Rattle.lvl_region.specs.declared.region.Side.TheVariants.{First, Second}
 use Rattle.lvl.specs.Drawing.{Drawing}
@@ -65,13 +63,6 @@ IsReached a b (CellsRefusal Second f) = PassesCheck a × SpellsSome b.bytes
 IsReached a b (FlatRefusal First f) = PassesCheck a × PassesCheck b
 IsReached a b (FlatRefusal Second f) = ((cells : List Drawing) × (top : Drawing) × IsAccepted a cells top) × PassesCheck b
 IsReached a b OutOfMemory = ⊤
-
--- want of memory is told as such, whichever step it met
-abbrev pub IsProper : Refusal → Type 0
-IsProper (FileRefusal s f) = f ≢ Gds NoMemoryForGds
-IsProper (CellsRefusal s f) = f ≢ NoMemoryForCells
-IsProper (FlatRefusal s f) = f ≢ NoMemoryForFlat
-IsProper OutOfMemory = ⊤
 
 -- the heads are those that the bytes spell, and the verdict holds
 pub record IsCompared (a b : File) (c : Comparison) : Type 0 where
