@@ -82,8 +82,8 @@ fn placed_twice(
         Ok(flat) => flat,
         Err(fault) => return Ok(Err(fault)),
     };
-    let ring = flat.rings(METAL).first().ok_or("no ring")?;
-    Ok(Ok(Vec::from_slice(alloc, ring.points())?))
+    let ring = flat.rings(METAL).get(0).ok_or("no ring")?;
+    Ok(Ok(Vec::from_slice(alloc, ring)?))
 }
 
 /// The least and the greatest corner of the points.
@@ -280,10 +280,10 @@ fn all_maps_of_an_l(rt: HostRuntime) -> Result<(), Fail> {
                     let inner = turned(inner_flip, inner_turn, 2, -1);
                     let outer = turned(outer_flip, outer_turn, -3, 1);
                     let flat = l_placed_twice(rt.alloc(), outer, inner)?;
-                    let ring = flat.rings(METAL).first().ok_or("no ring")?;
+                    let rings = flat.rings(METAL);
                     for y in -9..9 {
                         for x in -9..9 {
-                            let covered = ring.covers(Square { x, y });
+                            let covered = rings.covers(Square { x, y });
                             let want = is_drawn(inner, outer, x, y);
                             assert_eq!(rt; covered, want, "{inner:?} {outer:?} {x} {y}");
                         }
