@@ -1,14 +1,13 @@
 -- What an answer says of two files: a verdict, or why one of them is refused.
 use Rattle.std.specs.Prelude.{◌≡◌, ◌≢◌, ⊤, ℕ, Bool, true, false, List, Result, Ok, Err, IfOk, IfErr}
-use Rattle.gds_records.specs.declared.fault.RecordFault.TheVariants.{Read}
 use Rattle.lvl_path.specs.Figure.{figure_rings}
 use Rattle.lvl_cells.specs.Cells.{kept}
 use Rattle.lvl_region.specs.declared.region.Side.{Side}
 use Rattle.lvl_region.specs.declared.region.Side.TheVariants.{First, Second}
 use Rattle.lvl.specs.Drawing.{Drawing}
-use Rattle.gds_library.specs.Ends.{Tells, IsExcused}
-use Rattle.gds_library.specs.declared.fault.GdsFault.TheVariants.{At, OutOfMemory as NoMemoryForGds}
-use Rattle.gds_elements.specs.declared.fault.GdsKind.TheVariants.{Record}
+use Rattle.lvl_refusal.specs.declared.Refusal.{Refusal as Cause}
+use Rattle.lvl_refusal.specs.declared.Refusal.TheVariants.{Breach, OutOfMemory as NoMemory}
+use Rattle.gds_library.specs.Ends.{Tells, IsExcused, is_read_kind}
 use Rattle.lvl.specs.declared.layout.Head.{Head}
 use Rattle.lvl.specs.declared.layout.FileFault.{FileFault}
 use Rattle.lvl.specs.declared.layout.FileFault.TheVariants.{Gds}
@@ -19,7 +18,7 @@ use Rattle.lvl.specs.Layouts.{File, Spells, SpellsSome, HasHead}
 use Rattle.lvl.specs.Accepted.{IsAccepted, IsUnaccepted, IsVerdict}
 use Rattle.lvl.specs.Kept.{Kept, Passes, IsCellFault, IsRangeFault}
 
--- memory, or a read that failed: it says nothing of the file
+-- a read that failed: it says nothing of the file
 abbrev pub IsExcusedFile : FileFault → Type 0
 IsExcusedFile (Gds f) = IsExcused f
 
@@ -79,12 +78,12 @@ pub record IsAnswer (a b : File) (answer : Result Comparison Refusal) : Type 0 w
 
 -- the fault is a read that failed
 abbrev pub read_failed : FileFault → Bool
-read_failed (Gds (At at (Record Read))) = true
-read_failed f = false
+read_failed (Gds f) = is_read_kind f.kind
 
-abbrev pub is_failed_read : {A : Type 0} → Result A FileFault → Bool
+abbrev pub is_failed_read : {A : Type 0} → Result A (Cause FileFault) → Bool
 is_failed_read (Ok x) = false
-is_failed_read (Err f) = read_failed f
+is_failed_read (Err (Breach f)) = read_failed f
+is_failed_read (Err NoMemory) = false
 
 -- the answer is that a read of that side failed
 abbrev pub is_read_of : {A : Type 0} → Side → Result A Refusal → Bool

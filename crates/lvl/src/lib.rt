@@ -20,4 +20,6 @@ mod shown;
 mod side;
 #[cfg(test)]
 mod tests;
+#[cfg(test)]
+mod tests;
 mod verdict;

@@ -1,0 +1,85 @@
+//! Each public call once, on the file of one square, with ample memory.
+
+use crate::{Layout, Tops, Verdict, compare_files, compare_layouts, read_layout, show_file};
+use lvl_cells::Layer;
+use lvl_grid::Square;
+use lvl_io::fake::Pieces;
+use lvl_region::Side;
+use std::test::Fail;
+
+/// 0..10 by 0..10 on 1/0 in the cell TOP, as GDSII.
+const VECTOR: [u8; 168] = [
+    0x00, 0x06, 0x00, 0x02, 0x02, 0x58, 0x00, 0x1C, 0x01, 0x02, 0x00, 0x00, 0x00, 0x00, 0x00, 0x00,
+    0x00, 0x00, 0x00, 0x00, 0x00, 0x00, 0x00, 0x00, 0x00, 0x00, 0x00, 0x00, 0x00, 0x00, 0x00, 0x00,
+    0x00, 0x00, 0x00, 0x06, 0x02, 0x06, 0x4C, 0x42, 0x00, 0x14, 0x03, 0x05, 0x41, 0x10, 0x00, 0x00,
+    0x00, 0x00, 0x00, 0x00, 0x41, 0x10, 0x00, 0x00, 0x00, 0x00, 0x00, 0x00, 0x00, 0x1C, 0x05, 0x02,
+    0x00, 0x00, 0x00, 0x00, 0x00, 0x00, 0x00, 0x00, 0x00, 0x00, 0x00, 0x00, 0x00, 0x00, 0x00, 0x00,
+    0x00, 0x00, 0x00, 0x00, 0x00, 0x00, 0x00, 0x00, 0x00, 0x08, 0x06, 0x06, 0x54, 0x4F, 0x50, 0x00,
+    0x00, 0x04, 0x08, 0x00, 0x00, 0x06, 0x0D, 0x02, 0x00, 0x01, 0x00, 0x06, 0x0E, 0x02, 0x00, 0x00,
+    0x00, 0x2C, 0x10, 0x03, 0x00, 0x00, 0x00, 0x00, 0x00, 0x00, 0x00, 0x00, 0x00, 0x00, 0x00, 0x0A,
+    0x00, 0x00, 0x00, 0x00, 0x00, 0x00, 0x00, 0x0A, 0x00, 0x00, 0x00, 0x0A, 0x00, 0x00, 0x00, 0x00,
+    0x00, 0x00, 0x00, 0x0A, 0x00, 0x00, 0x00, 0x00, 0x00, 0x00, 0x00, 0x00, 0x00, 0x04, 0x11, 0x00,
+    0x00, 0x04, 0x07, 0x00, 0x00, 0x04, 0x04, 0x00,
+];
+
+/// No top named.
+const NO_TOPS: Tops = Tops {
+    first: None,
+    second: None,
+};
+
+/// The square with its height set.
+fn square(height: u8) -> [u8; 168] {
+    let mut bytes = VECTOR;
+    for offset in [139, 147] {
+        bytes[offset] = height;
+    }
+    bytes
+}
+
+#[test]
+fn verdicts(rt: HostRuntime) -> Result<(), Fail> {
+    let layer = Layer {
+        layer: 1,
+        datatype: 0,
+    };
+    let rows: [(u8, u8, Option<(i64, Side)>); 3] = [
+        (10, 10, None),
+        (9, 10, Some((9, Side::Second))),
+        (11, 10, Some((10, Side::First))),
+    ];
+    for (ours, theirs, want) in rows {
+        let want = match want {
+            None => Verdict::Same,
+            Some((y, side)) => Verdict::Differ {
+                layer,
+                square: Square { x: 0, y },
+                side,
+            },
+        };
+        let (ours, theirs) = (square(ours), square(theirs));
+        let (mut first, mut second) = (Pieces::new(&ours, 50), Pieces::new(&theirs, 7));
+        let verdict = compare_layouts(rt.alloc(), &mut first, &mut second, &NO_TOPS).ok();
+        assert_eq!(rt; verdict, Some(want));
+        let (mut first, mut second) = (Pieces::new(&ours, 168), Pieces::new(&theirs, 1));
+        let compared = compare_files(rt.alloc(), &mut first, &mut second, &NO_TOPS);
+        assert_eq!(rt; compared.ok().map(|compared| compared.verdict), Some(want));
+    }
+    Ok(())
+}
+
+#[test]
+fn one_file(rt: HostRuntime) -> Result<(), Fail> {
+    let bytes = square(10);
+    let Ok(Layout::Gds(library, head)) = read_layout(rt.alloc(), &mut Pieces::new(&bytes, 50)) else {
+        return Err("not read".into());
+    };
+    assert_eq!(rt; library.cells.len(), 1);
+    assert_eq!(rt; head.version, 600);
+    let shown = show_file(rt.alloc(), &mut Pieces::new(&bytes, 50), None);
+    let shown = shown.ok().ok_or("not shown")?;
+    assert_eq!(rt; shown.top.as_slice(), b"TOP".as_slice());
+    assert_eq!(rt; shown.cells, 1);
+    assert_eq!(rt; shown.layers.len(), 1);
+    Ok(())
+}
