@@ -2,11 +2,13 @@
 //!
 //! [`run`] compares two files and [`run_show`] shows one; each forms the text of the answer whole,
 //! writes it, and gives its [`Status`], by which the program exits. Each format has a module of its
-//! own for what its files say of themselves and why they are refused.
+//! own for what its files say of themselves and why they are refused. [`form`] and [`form_shown`] give
+//! the text alone.
 #![tactic(auto)]
 
 pub use runs::{run, run_show};
 pub use status::{RunFault, Status};
+pub use text::{form, form_shown};
 
 mod faults;
 mod gds;
@@ -14,6 +16,4 @@ mod output;
 mod runs;
 mod status;
 mod tell;
-#[cfg(test)]
-mod tests;
 mod text;

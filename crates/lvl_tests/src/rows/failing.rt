@@ -2,8 +2,8 @@
 
 use super::stream::{VECTOR, square_with};
 use super::{SAME, SHOWN, begun, no_tops, shown, sink, written};
-use crate::{RunFault, Status, run, run_show};
 use lvl_io::fake::Pieces;
+use lvl_report::{RunFault, Status, run, run_show};
 use std::alloc::AllocError;
 use std::test::Fail;
 

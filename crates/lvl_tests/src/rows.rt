@@ -1,9 +1,9 @@
 //! What is printed of two files and of one, row by row, and that it doesn't matter how readers and
 //! writers cut the bytes.
 
-use crate::{Status, run, run_show};
 use lvl::Tops;
 use lvl_io::fake::{Pieces, Sink};
+use lvl_report::{Status, run, run_show};
 use std::alloc::{AllocError, Global};
 use std::test::Fail;
 use stream::{SQUARE, Stream, VECTOR, drawing, square_with};

@@ -1,12 +1,12 @@
 //! The text of each refusal.
 
-use crate::text::form;
 use gds_library::{ElementRule, GdsFault, GdsKind, Misplaced, RecordFault};
 use lvl::{Comparison, FileFault, Refusal};
 use lvl_cells::CellFault;
 use lvl_flat::FlatFault;
 use lvl_path::PathFault;
 use lvl_region::Side;
+use lvl_report::form;
 use std::alloc::{AllocError, Global};
 use std::test::Fail;
 
