@@ -15,7 +15,5 @@ mod enter;
 mod fault;
 mod flat;
 mod layers;
-#[cfg(test)]
-mod tests;
 mod visit;
 mod walk;

@@ -1,6 +1,6 @@
 //! What small libraries flatten to.
-use crate::{Flat, FlatFault, flatten};
 use lvl_cells::{Cell, Layer, Library, Offsets, Reference, Shape, check};
+use lvl_flat::{Flat, FlatFault, flatten};
 use lvl_grid::{Map, Point, Ring, Square, Turn};
 use lvl_refusal::Refusal;
 use std::alloc::Global;

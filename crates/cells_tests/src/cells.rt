@@ -1,0 +1,416 @@
+//! Libraries in a few words, and what the check says of them.
+use lvl_cells::{Cell, CellFault, Checked, Layer, Library, Offsets, Reference, Shape, check};
+use lvl_grid::{Point, Ring, Turn};
+use lvl_refusal::Refusal;
+use std::alloc::{AllocError, Global};
+use std::test::Fail;
+
+const ORIGIN: Point = Point { x: 0, y: 0 };
+
+const RIGHT: Point = Point { x: 1, y: 0 };
+
+const UP: Point = Point { x: 0, y: 1 };
+
+/// The zero shift alone.
+fn once(alloc: Global) -> Result<Offsets, Fail> {
+    let shifts = [ORIGIN].to_vec(alloc)?;
+    Ok(Offsets::new(shifts).ok_or("shifts")?)
+}
+
+/// 1,024 columns and rows.
+fn many() -> Result<Offsets, Fail> {
+    Ok(Offsets::lattice(RIGHT, 1024, UP, 1024).ok_or("shifts")?)
+}
+
+/// The cell of that name, placed once for each shift.
+fn placing(alloc: Global, name: &[u8], shifts: Offsets) -> Result<Reference, Fail> {
+    let name = Vec::from_slice(alloc, name)?;
+    Ok(Reference::new(name, false, Turn::R0, ORIGIN, shifts).ok_or("places")?)
+}
+
+/// One unit square at each of the shifts.
+fn square(alloc: Global, shifts: Offsets) -> Result<Shape, Fail> {
+    let corners = [ORIGIN, RIGHT, Point { x: 1, y: 1 }, UP];
+    let ring = Ring::new(corners.to_vec(alloc)?)?;
+    let mut rings = Vec::new(alloc);
+    rings.push(ring)?;
+    Ok(Shape {
+        layer: Layer {
+            layer: 1,
+            datatype: 0,
+        },
+        rings,
+        shifts,
+    })
+}
+
+/// A cell without shapes and references.
+fn empty(alloc: Global, name: &[u8]) -> Result<Cell, AllocError> {
+    Ok(Cell {
+        name: Vec::from_slice(alloc, name)?,
+        shapes: Vec::new(alloc),
+        references: Vec::new(alloc),
+    })
+}
+
+/// The library of these cells, each with the names of those that it places.
+fn library_of(alloc: Global, cells: &[(&str, &[&str])]) -> Result<Library, Fail> {
+    let mut library = Library {
+        cells: Vec::new(alloc),
+    };
+    for (name, placed) in cells {
+        let mut cell = empty(alloc, name.as_bytes())?;
+        for other in *placed {
+            let reference = placing(alloc, other.as_bytes(), once(alloc)?)?;
+            cell.references.push(reference)?;
+        }
+        library.cells.push(cell)?;
+    }
+    Ok(library)
+}
+
+/// The name of the cell of that number: in the order of names the first is the last.
+fn name_of(number: u32) -> [u8; 4] {
+    (u32::MAX - number).to_be_bytes()
+}
+
+/// A chain of so many cells, each placing the next so often and the last with one square.
+fn chain_of(alloc: Global, length: u32, times: u32) -> Result<Library, Fail> {
+    let mut cells = Vec::new(alloc);
+    for number in 0..length {
+        let mut cell = empty(alloc, &name_of(number))?;
+        if number + 1 < length {
+            for _ in 0..times {
+                let reference = placing(alloc, &name_of(number + 1), once(alloc)?)?;
+                cell.references.push(reference)?;
+            }
+        } else {
+            cell.shapes.push(square(alloc, once(alloc)?)?)?;
+        }
+        cells.push(cell)?;
+    }
+    Ok(Library { cells })
+}
+
+/// The names, each after a space.
+fn add_names(text: &mut String, names: &[Vec<u8>]) -> Result<(), Fail> {
+    for name in names {
+        text.push_str(" ")?;
+        for byte in name {
+            text.push(char::from(*byte))?;
+        }
+    }
+    Ok(())
+}
+
+/// The top's name, or the fault and the names that it carries.
+fn text_of(alloc: Global, answer: Result<Checked, Refusal<CellFault>>) -> Result<String, Fail> {
+    let mut text = String::new(alloc);
+    match answer {
+        Ok(checked) => {
+            text.push_str("top ")?;
+            for cell in checked.cells().iter().skip(checked.top()).take(1) {
+                for byte in &cell.name {
+                    text.push(char::from(*byte))?;
+                }
+            }
+        }
+        Err(Refusal::Breach(CellFault::NoCell)) => text.push_str("NoCell")?,
+        Err(Refusal::Breach(CellFault::DuplicateCell(name))) => {
+            text.push_str("DuplicateCell")?;
+            add_names(&mut text, &[name])?;
+        }
+        Err(Refusal::Breach(CellFault::MissingCell(from, name))) => {
+            text.push_str("MissingCell")?;
+            add_names(&mut text, &[from, name])?;
+        }
+        Err(Refusal::Breach(CellFault::Cycle(names))) => {
+            text.push_str("Cycle")?;
+            add_names(&mut text, &names)?;
+        }
+        Err(Refusal::Breach(CellFault::TopMissing)) => text.push_str("TopMissing")?,
+        Err(Refusal::Breach(CellFault::ManyTops)) => text.push_str("ManyTops")?,
+        Err(Refusal::Breach(CellFault::TooManyPlacements)) => text.push_str("TooManyPlacements")?,
+        Err(Refusal::Breach(CellFault::TooManyRings)) => text.push_str("TooManyRings")?,
+        Err(Refusal::OutOfMemory) => text.push_str("OutOfMemory")?,
+    }
+    Ok(text)
+}
+
+#[test]
+fn soundness(rt: HostRuntime) -> Result<(), Fail> {
+    let rows: [(&str, &[(&str, &[&str])], Option<&[u8]>, &str); 15] = [
+        ("no cell", &[], None, "NoCell"),
+        (
+            "cell-fault-order",
+            &[("A", &[]), ("A", &[]), ("B", &["X"])],
+            None,
+            "DuplicateCell A",
+        ),
+        (
+            "cell-fault-order",
+            &[("A", &[]), ("B", &["X"])],
+            None,
+            "MissingCell B X",
+        ),
+        (
+            "cycle",
+            &[("A", &["B"]), ("B", &["A"]), ("C", &[])],
+            None,
+            "Cycle A B",
+        ),
+        ("itself", &[("A", &["A"])], None, "Cycle A"),
+        (
+            "aside",
+            &[("TOP", &[]), ("A", &["B"]), ("B", &["C"]), ("C", &["A"])],
+            None,
+            "Cycle A B C",
+        ),
+        (
+            "entered late",
+            &[("T", &["C"]), ("A", &["B"]), ("B", &["C"]), ("C", &["A"])],
+            None,
+            "Cycle A B C",
+        ),
+        (
+            "behind others",
+            &[
+                ("T", &["U", "B"]),
+                ("U", &[]),
+                ("B", &["U", "C"]),
+                ("C", &["U", "B"]),
+            ],
+            None,
+            "Cycle B C",
+        ),
+        ("top missing", &[("A", &[])], Some(b"X"), "TopMissing"),
+        ("many tops", &[("A", &[]), ("B", &[])], None, "ManyTops"),
+        (
+            "a top below",
+            &[("A", &["B"]), ("B", &[])],
+            Some(b"B"),
+            "top B",
+        ),
+        ("the only top", &[("B", &[]), ("A", &["B"])], None, "top A"),
+        (
+            "a diamond",
+            &[
+                ("D", &[]),
+                ("B", &["D"]),
+                ("C", &["D", "B"]),
+                ("A", &["B", "C"]),
+            ],
+            None,
+            "top A",
+        ),
+        (
+            "a cycle before the top",
+            &[("A", &["A"]), ("B", &[])],
+            Some(b"X"),
+            "Cycle A",
+        ),
+        (
+            "a missing cell before a cycle",
+            &[("A", &["A"]), ("B", &["X"])],
+            None,
+            "MissingCell B X",
+        ),
+    ];
+    for (name, cells, top, want) in rows {
+        let library = library_of(rt.alloc(), cells)?;
+        let text = text_of(rt.alloc(), check(rt.alloc(), library, top))?;
+        assert_eq!(rt; text.as_str(), want, "{name}");
+    }
+    Ok(())
+}
+
+#[test]
+fn order_and_targets(rt: HostRuntime) -> Result<(), Fail> {
+    let library = library_of(rt.alloc(), &[("D", &[]), ("A", &["B", "D"]), ("B", &["D"])])?;
+    let checked = check(rt.alloc(), library, None)?;
+    assert_eq!(rt; checked.top(), 1);
+    assert_eq!(rt; checked.cells().len(), 3);
+    assert_eq!(rt; checked.order(), [1, 2, 0].as_slice());
+    for (cell, reference, want) in [
+        (1, 0, Some(2)),
+        (1, 1, Some(0)),
+        (1, 2, None),
+        (2, 0, Some(0)),
+        (0, 0, None),
+        (3, 0, None),
+    ] {
+        assert_eq!(rt; checked.target(cell, reference), want, "{cell} {reference}");
+    }
+    Ok(())
+}
+
+#[test]
+fn placements(rt: HostRuntime) -> Result<(), Fail> {
+    for (name, length, times, want) in [
+        ("doubling-chain", 24, 2, None),
+        (
+            "doubling-chain",
+            25,
+            2,
+            Some(Refusal::Breach(CellFault::TooManyPlacements)),
+        ),
+        (
+            "doubling-deep",
+            200,
+            2,
+            Some(Refusal::Breach(CellFault::TooManyPlacements)),
+        ),
+        ("deep-chain", 65_536, 1, None),
+    ] {
+        let library = chain_of(rt.alloc(), length, times)?;
+        assert_eq!(rt;
+            check(rt.alloc(), library, None).err(),
+            want,
+            "{name} {length}"
+        );
+    }
+    for (last, want) in [
+        (1023, None),
+        (1024, Some(Refusal::Breach(CellFault::TooManyPlacements))),
+    ] {
+        let mut top = empty(rt.alloc(), b"TOP")?;
+        for _ in 0..15 {
+            top.references.push(placing(rt.alloc(), b"A", many()?)?)?;
+        }
+        // 1,048,575 places are 1,025 by 1,023.
+        let columns = if last == 1023 { 1025 } else { 1024 };
+        let shifts = Offsets::lattice(RIGHT, columns, UP, last).ok_or("shifts")?;
+        top.references.push(placing(rt.alloc(), b"A", shifts)?)?;
+        let mut cells = Vec::new(rt.alloc());
+        cells.push(top)?;
+        cells.push(empty(rt.alloc(), b"A")?)?;
+        let answer = check(rt.alloc(), Library { cells }, None);
+        assert_eq!(rt; answer.err(), want, "placements-limit {last}");
+    }
+    Ok(())
+}
+
+#[test]
+fn rings_limit(rt: HostRuntime) -> Result<(), Fail> {
+    for (more, want) in [
+        (false, None),
+        (true, Some(Refusal::Breach(CellFault::TooManyRings))),
+    ] {
+        let sixteen = Offsets::lattice(RIGHT, 16, UP, 1).ok_or("shifts")?;
+        let mut top = empty(rt.alloc(), b"TOP")?;
+        top.references.push(placing(rt.alloc(), b"A", sixteen)?)?;
+        if more {
+            top.shapes.push(square(rt.alloc(), once(rt.alloc())?)?)?;
+        }
+        let mut tile = empty(rt.alloc(), b"A")?;
+        tile.shapes.push(square(rt.alloc(), many()?)?)?;
+        let mut cells = Vec::new(rt.alloc());
+        cells.push(top)?;
+        cells.push(tile)?;
+        assert_eq!(rt; check(rt.alloc(), Library { cells }, None).err(), want);
+    }
+    Ok(())
+}
+
+#[test]
+fn a_million_cells(rt: HostRuntime) -> Result<(), Fail> {
+    let mut cells = Vec::new(rt.alloc());
+    for number in 0..1_048_576 {
+        cells.push(empty(rt.alloc(), &name_of(number))?)?;
+    }
+    let checked = check(rt.alloc(), Library { cells }, Some(&name_of(7)))?;
+    assert_eq!(rt; checked.top(), 7);
+    Ok(())
+}
+
+const FAR: i64 = 1 << 62;
+
+#[test]
+fn lattices(rt: HostRuntime) -> Result<(), Fail> {
+    let far = Point { x: FAR, y: 0 };
+    let shifts = Offsets::lattice(far, 2, UP, 3).ok_or("shifts")?;
+    let want = [(0, 0), (FAR, 0), (0, 1), (FAR, 1), (0, 2), (FAR, 2)];
+    assert_eq!(rt; shifts.len(), 6);
+    let mut place = 0;
+    for (x, y) in want {
+        assert_eq!(rt; shifts.at(place), Some(Point { x, y }));
+        place = shifts.len().min(place.saturating_add(1));
+    }
+    assert_eq!(rt; shifts.at(6), None);
+    let left = Point { x: i64::MIN, y: 0 };
+    for (a, m, b, n, want) in [
+        (far, 3, UP, 1, false),
+        (far, 2, far, 2, false),
+        (left, 2, far, 3, false),
+        (left, 2, far, 2, true),
+        (RIGHT, 0, UP, 1, false),
+        (RIGHT, 1, UP, 0, false),
+        (RIGHT, 16_777_216, UP, 1, true),
+        (RIGHT, 16_777_217, UP, 1, false),
+        (ORIGIN, u64::MAX, ORIGIN, u64::MAX, false),
+    ] {
+        let made = Offsets::lattice(a, m, b, n);
+        assert_eq!(rt; made.is_some(), want, "{a:?} {m} {b:?} {n}");
+    }
+    Ok(())
+}
+
+#[test]
+fn lists_of_shifts(rt: HostRuntime) -> Result<(), Fail> {
+    assert!(rt; Offsets::new(Vec::new(rt.alloc())).is_none());
+    let moved = [RIGHT, ORIGIN].to_vec(rt.alloc())?;
+    assert!(rt; Offsets::new(moved).is_none());
+    let shifts = Offsets::new([ORIGIN, RIGHT].to_vec(rt.alloc())?).ok_or("shifts")?;
+    assert_eq!(rt; shifts.len(), 2);
+    assert_eq!(rt; shifts.at(1), Some(RIGHT));
+    assert_eq!(rt; shifts.at(2), None);
+    Ok(())
+}
+
+#[test]
+fn references(rt: HostRuntime) -> Result<(), Fail> {
+    let at = Point {
+        x: i64::MAX - 3,
+        y: i64::MIN + 2,
+    };
+    let down = Point { x: 0, y: -1 };
+    for (m, n, want) in [(4, 3, true), (5, 3, false), (4, 4, false), (5, 4, false)] {
+        let name = Vec::from_slice(rt.alloc(), b"A")?;
+        let shifts = Offsets::lattice(RIGHT, m, down, n).ok_or("shifts")?;
+        let made = Reference::new(name, true, Turn::R90, at, shifts);
+        assert_eq!(rt; made.is_some(), want, "{m} {n}");
+        if let Some(reference) = made {
+            assert_eq!(rt; reference.cell(), b"A".as_slice());
+            assert!(rt; reference.flip());
+            assert_eq!(rt; reference.turn(), Turn::R90);
+            assert_eq!(rt; reference.at(), at);
+            assert_eq!(rt; reference.shifts().len(), 12);
+        }
+    }
+    let listed = [ORIGIN, Point { x: 4, y: 0 }].to_vec(rt.alloc())?;
+    let shifts = Offsets::new(listed).ok_or("shifts")?;
+    let name = Vec::new(rt.alloc());
+    assert!(rt; Reference::new(name, false, Turn::R0, at, shifts).is_none());
+    Ok(())
+}
+
+/// Run with each allocation refused in turn: it ends with want of memory, or each answer is the
+/// library's own.
+#[test]
+fn growths(rt: HostRuntime) -> Result<(), Fail> {
+    let rows: [(&[(&str, &[&str])], &str); 4] = [
+        (&[("A", &["B", "B"]), ("B", &[])], "top A"),
+        (&[("A", &["B"]), ("B", &["C"]), ("C", &["B"])], "Cycle B C"),
+        (&[("A", &["B"]), ("B", &[]), ("A", &[])], "DuplicateCell A"),
+        (&[("A", &["B"])], "MissingCell A B"),
+    ];
+    for (cells, want) in rows {
+        let library = library_of(rt.alloc(), cells)?;
+        let text = text_of(rt.alloc(), check(rt.alloc(), library, None))?;
+        if text.as_str() == "OutOfMemory" {
+            return Err("out of memory".into());
+        }
+        assert_eq!(rt; text.as_str(), want);
+    }
+    Ok(())
+}
