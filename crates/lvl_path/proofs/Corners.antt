@@ -8,9 +8,12 @@ use Rattle.lvl_grid.specs.declared.point.Point.{Point}
 use Rattle.lvl_grid.specs.Winding.{last_or, path_edges}
 use Rattle.lvl_path.specs.declared.band.Reach.{Reach}
 use Rattle.lvl_path.specs.declared.fault.PathFault.{PathFault}
-use Rattle.lvl_path.specs.declared.fault.PathFault.TheVariants.{NoWidth, FewPoints, Oblique, RepeatedPoint, TurnsBack, ShortRun, OutOfRange, OutOfMemory}
-use Rattle.lvl_path.specs.Bands.{FitsBand, IsBandFault}
-use Rattle.lvl_path.specs.Runs.{is_corner, run_band, IsBandsFault}
+use Rattle.lvl_path.specs.declared.fault.PathFault.TheVariants.{OutOfRange}
+use Rattle.lvl_refusal.specs.declared.Refusal.{Refusal}
+use Rattle.lvl_refusal.specs.declared.Refusal.TheVariants.{Breach, OutOfMemory}
+use Rattle.lvl_refusal.specs.Refused.{Says}
+use Rattle.lvl_path.specs.Bands.{FitsBand}
+use Rattle.lvl_path.specs.Runs.{is_corner, run_band, HasFault}
 
 -- the corners before the place k, and the runs that end there
 abbrev pub corners_to : List Point → ℕ → List ℕ
@@ -78,16 +81,17 @@ Any-grown P ps k zero h a = subst (λ (m : ℕ). Any P (runs_to ps m)) (omega ar
 Any-grown P ps k (suc n) h a =
     subst (λ (m : ℕ). Any P (runs_to ps m)) (omega arith) (grown P ps (k + n) (omega arith) (Any-grown P ps k n h a))
 
--- a run whose band is refused is one of the path's
-pub fault_of_run : (ps : List Point) (w : Reach) (k from : ℕ) → 0 < k → k < length ps → runs_to ps (k + 1) ≡ runs_to ps k ++ (from, k) ∷ [] → (fault : PathFault) → IsBandFault (run_band ps w (from, k)) fault → IsBandsFault ps w fault
-fault_of_run ps w k from h there more OutOfRange out =
+-- a run whose band is out of range is one of the path's
+pub far_run : (ps : List Point) (w : Reach) (k from : ℕ) → 0 < k → k < length ps → runs_to ps (k + 1) ≡ runs_to ps k ++ (from, k) ∷ []
+    → ¬ FitsBand (run_band ps w (from, k)) → HasFault ps w OutOfRange
+far_run ps w k from h there more out =
     let P : ℕ × ℕ → Type 0 = λ run. ¬ FitsBand (run_band ps w run) in
     let here : Any P (runs_to ps (k + 1)) = subst (Any P) (sym more) ((Any-push P (runs_to ps k) (from, k)).1 (inr out)) in
     subst (λ (n : ℕ). Any P (runs_to ps n)) (omega arith) (Any-grown P ps (k + 1) (length ps - (k + 1)) (omega arith) here)
-fault_of_run ps w k from h there more OutOfMemory out = tt
-fault_of_run ps w k from h there more NoWidth out = out
-fault_of_run ps w k from h there more FewPoints out = out
-fault_of_run ps w k from h there more Oblique out = out
-fault_of_run ps w k from h there more RepeatedPoint out = out
-fault_of_run ps w k from h there more TurnsBack out = out
-fault_of_run ps w k from h there more ShortRun out = out
+
+-- a refusal of such a run's band is a refusal of the path
+pub far_refusal : (ps : List Point) (w : Reach) (k from : ℕ) → 0 < k → k < length ps → runs_to ps (k + 1) ≡ runs_to ps k ++ (from, k) ∷ []
+    → (refusal : Refusal PathFault) → Says refusal (λ fault. (fault ≡ OutOfRange) × ¬ FitsBand (run_band ps w (from, k)))
+    → Says refusal (λ fault. (fault ≡ OutOfRange) × HasFault ps w fault)
+far_refusal ps w k from h there more (Breach fault) (is, out) = (is, subst (HasFault ps w) (sym is) (far_run ps w k from h there more out))
+far_refusal ps w k from h there more OutOfMemory out = tt

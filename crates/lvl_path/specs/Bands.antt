@@ -1,11 +1,9 @@
 -- Bands: the squares about a straight run.
-use Rattle.std.specs.Prelude.{◌≤ℤ◌, ◌<ℤ◌, ◌+ℤ◌, ◌-ℤ◌, ⊤, ℕ, pos, List, [], ◌∷◌, FitsSigned}
+use Rattle.std.specs.Prelude.{◌≤ℤ◌, ◌<ℤ◌, ◌+ℤ◌, ◌-ℤ◌, ℕ, pos, List, [], ◌∷◌, FitsSigned}
 use Rattle.std.specs.Int.{w64}
 use Rattle.lvl_grid.specs.declared.point.Point.{Point}
 use Rattle.lvl_grid.specs.declared.point.Square.{Square}
 use Rattle.lvl_path.specs.declared.band.Band.{Band}
-use Rattle.lvl_path.specs.declared.fault.PathFault.{PathFault}
-use Rattle.lvl_path.specs.declared.fault.PathFault.TheVariants.{OutOfRange, OutOfMemory}
 use Rattle.lvl_path.specs.declared.way.Way.{Way}
 use Rattle.lvl_path.specs.declared.way.Way.TheVariants.{East, North, West, South}
 use Rattle.lvl_path.specs.Ways.{way_between}
@@ -40,9 +38,3 @@ pub record FitsBand (b : Band) : Type 0 where
   pub low : FitsSigned w64 b.y0
   pub right : FitsSigned w64 b.x1
   pub high : FitsSigned w64 b.y1
-
--- a corner is out of range, or there is no memory
-abbrev pub IsBandFault : Band → PathFault → Type 0
-IsBandFault b OutOfRange = ¬ FitsBand b
-IsBandFault b OutOfMemory = ⊤
-IsBandFault b _ = ⊥

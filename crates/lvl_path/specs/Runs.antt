@@ -1,5 +1,5 @@
 -- The straight runs of a path, and the squares that it covers.
-use Rattle.std.specs.Prelude.{◌≡◌, ◌<◌, ◌≤◌, ◌+◌, ◌-◌, ◌==◌, ◌||◌, not, Bool, ⊤, ℕ, pos, List, [], ◌∷◌, length, map, filter, slice_index_or, Any, if◌then◌else◌, unsigned_abs, ◌-ℤ◌}
+use Rattle.std.specs.Prelude.{◌≡◌, ◌<◌, ◌≤◌, ◌+◌, ◌-◌, ◌==◌, ◌||◌, not, Bool, ℕ, pos, List, [], ◌∷◌, length, map, filter, slice_index_or, Any, if◌then◌else◌, unsigned_abs, ◌-ℤ◌}
 use Rattle.std.specs.List.{range_with_len}
 use Rattle.lvl_grid.specs.declared.point.Point.{Point}
 use Rattle.lvl_grid.specs.declared.point.Square.{Square}
@@ -7,7 +7,7 @@ use Rattle.lvl_grid.specs.Winding.{IsStraight, path_edges}
 use Rattle.lvl_path.specs.declared.band.Band.{Band}
 use Rattle.lvl_path.specs.declared.band.Reach.{Reach}
 use Rattle.lvl_path.specs.declared.fault.PathFault.{PathFault}
-use Rattle.lvl_path.specs.declared.fault.PathFault.TheVariants.{NoWidth, FewPoints, Oblique, RepeatedPoint, TurnsBack, ShortRun, OutOfRange, OutOfMemory}
+use Rattle.lvl_path.specs.declared.fault.PathFault.TheVariants.{NoWidth, FewPoints, Oblique, RepeatedPoint, TurnsBack, ShortRun, OutOfRange}
 use Rattle.lvl_path.specs.declared.way.Way.{Way}
 use Rattle.lvl_path.specs.Ways.{way_between, opposite, same_way}
 use Rattle.lvl_path.specs.Bands.{band_between, band_ring, Holds, FitsBand}
@@ -56,7 +56,7 @@ SomeStep P ps = (k : ℕ) × (0 < k) × (k < length ps) × P (point ps (k - 1)) 
 abbrev pub TurnsBackSomewhere : List Point → Type 0
 TurnsBackSomewhere ps = (k : ℕ) × (0 < k) × (k + 1 < length ps) × (way_into ps (k + 1) ≡ opposite (way_into ps k))
 
--- what is wrong with a path, by the number of the fault
+-- the rules that a path may breach
 abbrev pub HasFault : List Point → Reach → PathFault → Type 0
 HasFault ps w NoWidth = w.half ≡ 0
 HasFault ps w FewPoints = length ps < 2
@@ -65,34 +65,22 @@ HasFault ps w RepeatedPoint = SomeStep (λ p q. p ≡ q) ps
 HasFault ps w TurnsBack = TurnsBackSomewhere ps
 HasFault ps w ShortRun = (2 ≤ length (runs ps)) × Any (λ run. run_length ps run < w.half) (runs ps)
 HasFault ps w OutOfRange = Any (λ run. ¬ FitsBand (run_band ps w run)) (runs ps)
-HasFault ps w OutOfMemory = ⊤
 
--- none of these is wrong with it
-abbrev pub HasNone : List Point → Reach → List PathFault → Type 0
-HasNone ps w [] = ⊤
-HasNone ps w (fault ∷ faults) = (¬ HasFault ps w fault) × HasNone ps w faults
+-- the number of a rule
+abbrev pub number : PathFault → ℕ
+number NoWidth = 1
+number FewPoints = 2
+number Oblique = 3
+number RepeatedPoint = 4
+number TurnsBack = 5
+number ShortRun = 6
+number OutOfRange = 7
 
--- the faults of lower numbers
-abbrev pub lower : PathFault → List PathFault
-lower NoWidth = []
-lower FewPoints = NoWidth ∷ []
-lower Oblique = NoWidth ∷ FewPoints ∷ []
-lower RepeatedPoint = NoWidth ∷ FewPoints ∷ Oblique ∷ []
-lower TurnsBack = NoWidth ∷ FewPoints ∷ Oblique ∷ RepeatedPoint ∷ []
-lower ShortRun = NoWidth ∷ FewPoints ∷ Oblique ∷ RepeatedPoint ∷ TurnsBack ∷ []
-lower OutOfRange = NoWidth ∷ FewPoints ∷ Oblique ∷ RepeatedPoint ∷ TurnsBack ∷ ShortRun ∷ []
-lower OutOfMemory = []
+-- the rule of the lowest number that the path breaches
+pub record IsLowestFault (ps : List Point) (w : Reach) (fault : PathFault) : Type 0 where
+  pub breached : HasFault ps w fault
+  pub lowest : (lower : PathFault) → number lower < number fault → ¬ HasFault ps w lower
 
--- the lowest fault that the path has; want of memory says nothing of it
-abbrev pub IsLowestFault : List Point → Reach → PathFault → Type 0
-IsLowestFault ps w fault = HasFault ps w fault × HasNone ps w (lower fault)
-
--- it has none at all
+-- it breaches none
 abbrev pub IsPath : List Point → Reach → Type 0
-IsPath ps w = HasNone ps w (NoWidth ∷ FewPoints ∷ Oblique ∷ RepeatedPoint ∷ TurnsBack ∷ ShortRun ∷ OutOfRange ∷ [])
-
--- a band is out of range, or there is no memory
-abbrev pub IsBandsFault : List Point → Reach → PathFault → Type 0
-IsBandsFault ps w OutOfRange = HasFault ps w OutOfRange
-IsBandsFault ps w OutOfMemory = ⊤
-IsBandsFault ps w _ = ⊥
+IsPath ps w = (fault : PathFault) → ¬ HasFault ps w fault

@@ -1,12 +1,14 @@
 //! The band of a straight run.
 ghost use Rattle.std.specs.Prelude.{◌≡◌, ◌<◌, length, IfOk, IfErr};
 ghost use Rattle.lvl_path.specs.Runs.{run_band};
-ghost use Rattle.lvl_path.specs.Bands.{band_between, band_ring, corner_ring, FitsBand, IsBandFault};
+ghost use Rattle.lvl_path.specs.Bands.{band_between, band_ring, corner_ring, FitsBand};
+ghost use Rattle.lvl_refusal.specs.Refused.{Says};
 
 use crate::PathFault;
 use crate::way::Way;
 use lvl_grid::{Point, Ring};
-use std::alloc::Global;
+use lvl_refusal::Refusal;
+use std::alloc::{AllocError, Global};
 
 /// Half the width of a path, and how far it reaches beyond its start and its end.
 #[derive(Clone, Copy)]
@@ -64,18 +66,18 @@ impl Band {
 
     /// The band as a ring, from its lower left corner over lower right and upper right to upper
     /// left.
-    pub(crate) fn ring(self, alloc: Global) -> Result<Ring, PathFault>
+    pub(crate) fn ring(self, alloc: Global) -> Result<Ring, Refusal<PathFault>>
         ensures ok { IfOk result (λ ring. ring ≡ band_ring self) }
         ensures fits { IfOk result (λ _. FitsBand self) }
-        ensures err { IfErr result (λ fault. IsBandFault self fault) }
+        ensures err { IfErr result (λ refusal. Says refusal (λ fault. (fault ≡ PathFault.OutOfRange) × ¬ FitsBand self)) }
     {
         let (Ok(x0), Ok(y0)) = (i64::try_from(self.x0), i64::try_from(self.y0)) else {
-            return Err(PathFault::OutOfRange);
+            return Err(Refusal::Breach(PathFault::OutOfRange));
         };
         let (Ok(x1), Ok(y1)) = (i64::try_from(self.x1), i64::try_from(self.y1)) else {
-            return Err(PathFault::OutOfRange);
+            return Err(Refusal::Breach(PathFault::OutOfRange));
         };
-        ring_between(alloc, Point { x: x0, y: y0 }, Point { x: x1, y: y1 })
+        Ok(ring_between(alloc, Point { x: x0, y: y0 }, Point { x: x1, y: y1 })?)
     }
 }
 
@@ -98,9 +100,8 @@ impl Reach {
 }
 
 /// The ring from the lower left corner over lower right and upper right to upper left.
-fn ring_between(alloc: Global, low: Point, high: Point) -> Result<Ring, PathFault>
-    ensures ok { IfOk result (λ ring. ring ≡ corner_ring low high) }
-    ensures err { IfErr result (λ fault. fault ≡ PathFault.OutOfMemory) }
+fn ring_between(alloc: Global, low: Point, high: Point) -> Result<Ring, AllocError>
+    ensures { IfOk result (λ ring. ring ≡ corner_ring low high) }
 {
     let corners = [
         low,
@@ -114,10 +115,7 @@ fn ring_between(alloc: Global, low: Point, high: Point) -> Result<Ring, PathFaul
             y: high.y,
         },
     ];
-    let Ok(points) = Vec::from_array(alloc, corners) else {
-        return Err(PathFault::OutOfMemory);
-    };
-    match Ring::new(points) {
+    match Ring::new(Vec::from_array(alloc, corners)?) {
         Ok(ring) => Ok(ring),
         Err(_) => unreachable!(),
     }

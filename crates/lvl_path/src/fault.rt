@@ -25,7 +25,4 @@ pub enum PathFault {
     /// A corner of a band is outside 64 signed bits.
     #[error("a corner of a band is outside 64 bits")]
     OutOfRange = 7,
-    /// A growth was refused.
-    #[error("out of memory")]
-    OutOfMemory = 8,
 }

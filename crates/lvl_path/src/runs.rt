@@ -2,12 +2,14 @@
 ghost use Rattle.std.specs.Prelude.{◌≡◌, ◌<◌, ◌+◌, ◌≤◌, ◌↔◌, ◌-ℤ◌, unsigned_abs, length, IsTrue, IfOk, IfErr, Any};
 ghost use Rattle.lvl_grid.specs.declared.point.Square.{Square as GridSquare};
 ghost use Rattle.lvl_grid.specs.Winding.{Covers};
-ghost use Rattle.lvl_path.specs.Runs.{HasFault, PathCovers, path_rings, run_length, runs, IsPath, IsLowestFault, IsBandsFault};
+ghost use Rattle.lvl_path.specs.Runs.{HasFault, PathCovers, path_rings, run_length, runs, IsPath, IsLowestFault};
+ghost use Rattle.lvl_refusal.specs.Refused.{Says};
 
 use crate::PathFault;
 use crate::band::Reach;
 use crate::steps::{has_oblique_step, has_repeated_point, is_corner, turns_back};
 use lvl_grid::{Point, Ring};
+use lvl_refusal::Refusal;
 use std::alloc::Global;
 
 /// The bands of a path's runs, in the order of the runs, each a ring from its lower left corner
@@ -20,30 +22,30 @@ pub fn bands(
     half: u64,
     start: u64,
     end: u64,
-) -> Result<Vec<Ring>, PathFault>
+) -> Result<Vec<Ring>, Refusal<PathFault>>
     ensures rings { IfOk result (λ rings. rings.items ≡ path_rings points.now (record { half = half; start = start; end = end })) }
     ensures covers { IfOk result (λ rings. (s : GridSquare) → Any (λ ring. Covers ring s) rings.items ↔ PathCovers points.now (record { half = half; start = start; end = end }) s) }
     ensures ok { IfOk result (λ _. IsPath points.now (record { half = half; start = start; end = end })) }
-    ensures err { IfErr result (λ fault. IsLowestFault points.now (record { half = half; start = start; end = end }) fault) }
+    ensures err { IfErr result (λ refusal. Says refusal (IsLowestFault points.now (record { half = half; start = start; end = end }))) }
 {
     if half == 0 {
-        return Err(PathFault::NoWidth);
+        return Err(Refusal::Breach(PathFault::NoWidth));
     }
     if points.len() < 2 {
-        return Err(PathFault::FewPoints);
+        return Err(Refusal::Breach(PathFault::FewPoints));
     }
     if has_oblique_step(points) {
-        return Err(PathFault::Oblique);
+        return Err(Refusal::Breach(PathFault::Oblique));
     }
     if has_repeated_point(points) {
-        return Err(PathFault::RepeatedPoint);
+        return Err(Refusal::Breach(PathFault::RepeatedPoint));
     }
     if turns_back(points) {
-        return Err(PathFault::TurnsBack);
+        return Err(Refusal::Breach(PathFault::TurnsBack));
     }
     let runs = measure_runs(points, half);
     if runs.count > 1 && runs.some_short {
-        return Err(PathFault::ShortRun);
+        return Err(Refusal::Breach(PathFault::ShortRun));
     }
     run_bands(alloc, points, &Reach { half, start, end }, runs.count)
 }
@@ -91,24 +93,20 @@ fn run_bands(
     points: &[Point],
     reach: &Reach,
     count: usize,
-) -> Result<Vec<Ring>, PathFault>
+) -> Result<Vec<Ring>, Refusal<PathFault>>
     requires { 2 ≤ length points.now }
     ensures ok { IfOk result (λ rings. rings.items ≡ path_rings points.now reach.now) }
     ensures fits { IfOk result (λ _. ¬ HasFault points.now reach.now PathFault.OutOfRange) }
-    ensures err { IfErr result (λ fault. IsBandsFault points.now reach.now fault) }
+    ensures err { IfErr result (λ refusal. Says refusal (λ fault. (fault ≡ PathFault.OutOfRange) × HasFault points.now reach.now fault)) }
 {
-    let Ok(mut rings) = Vec::with_capacity(alloc, count) else {
-        return Err(PathFault::OutOfMemory);
-    };
+    let mut rings = Vec::with_capacity(alloc, count)?;
     let mut from = 0;
     for to in 1..points.len() {
         if !is_corner(points, to) {
             continue;
         }
         let ring = reach.band(points, from, to).ring(alloc)?;
-        let Ok(()) = rings.push(ring) else {
-            return Err(PathFault::OutOfMemory);
-        };
+        rings.push(ring)?;
         from = to;
     }
     Ok(rings)

@@ -1,6 +1,7 @@
 //! Worked paths, and each growth refused in turn.
 use crate::{PathFault, bands};
 use lvl_grid::{Point, Ring};
+use lvl_refusal::Refusal;
 use std::alloc::{AllocError, Global};
 use std::test::Fail;
 
@@ -82,7 +83,9 @@ fn bands_by_their_corners(rt: HostRuntime) -> Result<(), Fail> {
     ];
     for (name, points, start, end, want) in rows {
         let points = path(rt.alloc(), points)?;
-        let rings = bands(rt.alloc(), &points, 2, start, end)?;
+        let Ok(rings) = bands(rt.alloc(), &points, 2, start, end) else {
+            return Err(AllocError.into());
+        };
         assert_eq!(rt; rings.len(), want.len(), "{name}");
         for (ring, corners) in rings.iter().zip(want) {
             assert!(rt; is_rectangle(ring, *corners), "{name}");
@@ -155,7 +158,7 @@ fn faults_by_their_number(rt: HostRuntime) -> Result<(), Fail> {
         let points = path(rt.alloc(), points)?;
         assert_eq!(rt;
             bands(rt.alloc(), &points, half, 0, 0).err(),
-            Some(want),
+            Some(Refusal::Breach(want)),
             "{name}"
         );
     }
@@ -167,6 +170,9 @@ fn growths(rt: HostRuntime) -> Result<(), Fail> {
     let points = path(rt.alloc(), &[(0, 0), (10, 0), (10, 10)])?;
     let rings = bands(rt.alloc(), &points, 2, 2, 2);
     assert_eq!(rt; points.len(), 3);
-    assert_eq!(rt; rings?.len(), 2);
+    let Ok(rings) = rings else {
+        return Err(AllocError.into());
+    };
+    assert_eq!(rt; rings.len(), 2);
     Ok(())
 }

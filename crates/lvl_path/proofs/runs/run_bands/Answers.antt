@@ -2,9 +2,11 @@ use Rattle.std.proofs.lemmas.Result.{err_from_is_err_and}
 use Rattle.std.proofs.Common.{◌≡◌, ◌<◌, ◌++◌, ◌∷◌, [], length, true, false, sym, subst, ap, ◌∙◌, arith, ℕ, map, All}
 use Rattle.std.proofs.lemmas.List.{map-append}
 use Rattle.std.proofs.lemmas.List.Elements.{All-push}
-use Rattle.lvl_path.specs.Bands.{band_ring, FitsBand, IsBandFault}
+use Rattle.lvl_path.specs.Bands.{band_ring, FitsBand}
 use Rattle.lvl_path.specs.Runs.{is_corner, run_band}
-use Rattle.lvl_path.proofs.Corners.{runs_to, at_corner, runs_at_corner, at_no_corner, runs_at_no_corner, fault_of_run}
+use Rattle.lvl_path.proofs.Corners.{runs_to, at_corner, runs_at_corner, at_no_corner, runs_at_no_corner, far_refusal}
+use Rattle.lvl_refusal.specs.Refused.{Says}
+use Rattle.lvl_path.specs.declared.fault.PathFault.TheVariants.{OutOfRange}
 use Rattle.lvl_grid.proofs.Anyone.{none_where_all}
 use Rattle.lvl_path.proofs.runs.run_bands.Goals as goal
 
@@ -29,7 +31,7 @@ loop-to-preserved c =
     record {
       at = at_corner c.args.points.now c.loop-to.to c.loop-to.from after here kept.at;
       bands =
-          c.in-Ok-push.ensures.items
+          c.in_ok-push.ensures.items
           ∙ (ap (λ rings. rings ++ c.in_ok-ring.ring ∷ []) kept.bands
           ∙ (ap (λ ring. map (λ run. band_ring (run_band c.args.points.now c.args.reach.now run)) (runs_to c.args.points.now c.loop-to.to) ++ ring ∷ []) (c.in_ok-ring.ensures.ok ∙ ap band_ring c.band.ensures)
           ∙ sym
@@ -44,9 +46,9 @@ returns-in_err-ring-clause-err c =
     let after : 0 < c.loop-to.to = omega (arith, kept.at.before) in
     let here : is_corner c.args.points.now c.loop-to.to ≡ true = sym c.is_corner.ensures ∙ c.if-not-is_corner.false in
     let more = runs_at_corner c.args.points.now c.loop-to.to c.loop-to.from after here kept.at in
-    let says = subst (λ b. IsBandFault b c.in_err-ring.field-0.0) c.band.ensures c.in_err-ring.ensures.err in
-    let p = err_from_is_err_and c.from_residual.result c.from_residual.ensures.1 in
-    rw (p.1, p.2) (fault_of_run c.args.points.now c.args.reach.now c.loop-to.to c.loop-to.from after c.loop-to-test.true more c.in_err-ring.field-0.0 says)
+    let says = subst (λ b. Says c.in_err-ring.field-0.0 (λ fault. (fault ≡ OutOfRange) × ¬ FitsBand b)) c.band.ensures c.in_err-ring.ensures.err in
+    let p = err_from_is_err_and c.from_residual-in_err-ring.result c.from_residual-in_err-ring.ensures.1 in
+    rw (p.1, p.2) (far_refusal c.args.points.now c.args.reach.now c.loop-to.to c.loop-to.from after c.loop-to-test.true more c.in_err-ring.field-0.0 says)
 
 pub returns-clause-fits : goal.returns-clause-fits
 returns-clause-fits c =
