@@ -1,5 +1,5 @@
 -- What `tail` answers: zero bytes alone are taken, up to the end, another byte, or the limit of a file.
-use Rattle.std.specs.Prelude.{◌≡◌, ◌≢◌, Bool, true, false, ℕ, ◌+◌, ◌-◌, ◌<◌, ◌≤◌, List, [], ◌∷◌, ◌++◌, length, replicate, Option, Some, None, Result, Ok, Err}
+use Rattle.std.specs.Prelude.{◌≡◌, ◌≢◌, Bool, true, false, ℕ, ◌+◌, ◌<◌, ◌≤◌, List, [], ◌∷◌, ◌++◌, length, replicate, Option, Some, None, Result, Ok, Err}
 use Rattle.gds_records.specs.declared.fault.RecordFault.TheVariants.{TooLong, Read}
 use Rattle.gds_records.specs.declared.fault.Stopped.{Stopped}
 use Rattle.gds_records.specs.declared.fault.Stopped.TheVariants.{Fault}
@@ -24,7 +24,7 @@ abbrev pub AnswersTail : Result (Option ℕ) Stopped → ℕ → ℕ → ℕ →
 AnswersTail (Ok None) old new room xs = AreZeros xs × (length xs ≤ room) × (new ≡ old + length xs)
 AnswersTail (Ok (Some at)) old new room xs = (n : ℕ) × (n < room) × IsFirstOther n xs × (at ≡ old + n) × (new ≡ at)
 AnswersTail (Err (Fault TooLong)) old new room xs = PassesLimit room xs × (new ≡ old + room)
-AnswersTail (Err (Fault Read)) old new room xs = (rest : List ℕ) × (xs ≡ replicate (new - old) 0 ++ rest)
+AnswersTail (Err (Fault Read)) old new room xs = (n : ℕ) × (rest : List ℕ) × (n ≤ room) × (xs ≡ replicate n 0 ++ rest) × (new ≡ old + n)
 AnswersTail (Err e) old new room xs = ⊥
 
 -- the first byte, if there is one, isn't zero
