@@ -1,5 +1,6 @@
--- What stands in words, and orders that end in fills.
+-- Orders that end in a type and then in another alone, as zero bytes after the end of a file.
 use Rattle.std.proofs.Common.{◌≡◌, ◌≢◌, ◌==◌, ◌||◌, ℕ, Bool, true, false, List, [], ◌∷◌, ◌++◌, refl, sym, ap, ◌∙◌, subst, append_assoc, inl, inr}
+use Rattle.std.proofs.lemmas.List.{append-nil}
 use Rattle.std.specs.List.{AllByRecursion, flat_map}
 use Rattle.lvl_grammar.specs.Order.{Order, nothing, one, next, either, many, IsWord, Begins, has}
 use Rattle.lvl_grammar.specs.inside.After.{seq}
@@ -9,7 +10,7 @@ use Rattle.lvl_grammar.proofs.Orders.{seq_back, seq_word, same_type}
 pub begins_less : (a : Order) (w v : List ℕ) → Begins a (w ++ v) → Begins a w
 begins_less a w v g = (v ++ g.0, subst (IsWord a) (append_assoc w v g.0) g.1)
 
--- a type stands nowhere in a list
+-- a type is nowhere in a list
 abbrev pub Lacks : ℕ → List ℕ → Type 0
 Lacks k w = AllByRecursion (λ x. x ≢ k) w
 
@@ -51,26 +52,6 @@ word_lacks (either a b) k w n h =
     let p = neither (has a k) (has b k) n in
     elim h [ inl x ↦ word_lacks a k w p.0 x | inr y ↦ word_lacks b k w p.1 y ]
 word_lacks (many a) k w n h = subst (Lacks k) (sym h.2) (all_flat (λ x. x ≢ k) (IsWord a) (λ u. word_lacks a k u n) h.0 h.1)
-
--- whether a type of an order passes a test
-abbrev pub has_some : (ℕ → Bool) → Order → Bool
-has_some t nothing = false
-has_some t (one j) = t j
-has_some t (next a b) = has_some t a || has_some t b
-has_some t (either a b) = has_some t a || has_some t b
-has_some t (many a) = has_some t a
-
--- where no type of an order passes a test, none of its words does
-pub word_none : (t : ℕ → Bool) (a : Order) (w : List ℕ) → has_some t a ≡ false → IsWord a w → AllByRecursion (λ k. t k ≡ false) w
-word_none t nothing w n h = subst (AllByRecursion (λ k. t k ≡ false)) (sym h) tt
-word_none t (one j) w n h = subst (AllByRecursion (λ k. t k ≡ false)) (sym h) (n, tt)
-word_none t (next a b) w n h =
-    let p = neither (has_some t a) (has_some t b) n in
-    subst (AllByRecursion (λ k. t k ≡ false)) (sym h.4) (all_append (λ k. t k ≡ false) h.0 h.1 (word_none t a h.0 p.0 h.2) (word_none t b h.1 p.1 h.3))
-word_none t (either a b) w n h =
-    let p = neither (has_some t a) (has_some t b) n in
-    elim h [ inl x ↦ word_none t a w p.0 x | inr y ↦ word_none t b w p.1 y ]
-word_none t (many a) w n h = subst (AllByRecursion (λ k. t k ≡ false)) (sym h.2) (all_flat (λ k. t k ≡ false) (IsWord a) (λ u. word_none t a u n) h.0 h.1)
 
 repeats_one : (f : ℕ) (u : List ℕ) → IsWord (one f) u → Repeats f u
 repeats_one f u h = subst (Repeats f) (sym h) (refl, tt)
@@ -143,3 +124,11 @@ pub fill_ends : (a : Order) (e f : ℕ) (w : List ℕ) → has a f ≡ false →
 fill_ends a e f w nf n g =
     let p = before_fill a e f w nf n g in
     subst (IsWord (ends a e f)) (sym p.4) (put_parts a e f p.0 p.1 p.2 p.3)
+
+-- after a whole word f may come
+pub fill_more : (a : Order) (e f : ℕ) (w : List ℕ) → IsWord (ends a e f) w → Begins (ends a e f) (w ++ f ∷ [])
+fill_more a e f w h =
+    let p = parts_of a e f w h in
+    let more : Repeats f (p.1 ++ f ∷ []) = all_append (λ x. x ≡ f) p.1 (f ∷ []) p.3 (refl, tt) in
+    let whole : w ++ f ∷ [] ≡ p.0 ++ (e ∷ (p.1 ++ f ∷ [])) = ap (λ l. l ++ f ∷ []) p.4 ∙ append_assoc p.0 (e ∷ p.1) (f ∷ []) in
+    ([], subst (IsWord (ends a e f)) (sym (append-nil (w ++ f ∷ []) ∙ whole)) (put_parts a e f p.0 (p.1 ++ f ∷ []) p.2 more))
