@@ -4,5 +4,4 @@ pub mod Keeping
 pub mod Lifting
 pub mod Refused
 pub mod ShownLayers
-pub mod Running
 pub mod Showing

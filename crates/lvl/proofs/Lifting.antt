@@ -17,7 +17,7 @@ use Rattle.lvl_flat.specs.Sheet.{PlainSheet}
 use Rattle.lvl_flat.specs.Sheets.{rings_on}
 use Rattle.lvl_flat.specs.Flattened.{IsFlattened, IsFlatFault, IsOutOfRange}
 use Rattle.lvl_flat.specs.declared.fault.FlatFault.{FlatFault}
-use Rattle.lvl_flat.specs.declared.fault.FlatFault.TheVariants.{OutOfRange, OutOfMemory as NoMemoryForFlat}
+use Rattle.lvl_flat.specs.declared.fault.FlatFault.TheVariants.{OutOfRange}
 use Rattle.lvl_region.specs.Region.{IsAlone}
 use Rattle.lvl_region.specs.declared.region.Side.{Side}
 use Rattle.lvl_region.specs.declared.region.Side.TheVariants.{First, Second}
@@ -129,14 +129,13 @@ out_of_range file others top s name accepted checked told =
     subst (λ (c : PlainCell Rings). Chain (kept figure_rings others) c told.steps told.map told.cell) (sym cell) (subst (λ (c : List (PlainCell Rings)). Chain c told.top told.steps told.map told.cell) e told.chain) in
     told.out (fits.in_range told.steps told.map told.cell chain)
 
-fault_in_range : (file : File) (others : List Drawing) (top : Drawing) (s : Settled) (fault : FlatFault) → IsAccepted file others top → IsCheckedAs (kept_of file others) s → IsFlatFault s fault → fault ≢ NoMemoryForFlat → ⊥
-fault_in_range file others top s (OutOfRange name) accepted checked told proper = out_of_range file others top s name.items accepted checked told
-fault_in_range file others top s NoMemoryForFlat accepted checked told proper = proper refl
+fault_in_range : (file : File) (others : List Drawing) (top : Drawing) (s : Settled) (fault : FlatFault) → IsAccepted file others top → IsCheckedAs (kept_of file others) s → IsFlatFault s fault → ⊥
+fault_in_range file others top s (OutOfRange name) accepted checked told = out_of_range file others top s name.items accepted checked told
 
 pub range_unaccepted : (file : File) (cells : List (PlainCell Rings)) (head : Head) → IsLayoutOf file.bytes cells head → (fault : FlatFault) → IsRangeFault (record { cells = cells; top = file.top }) fault → IsUnaccepted file
 range_unaccepted file cells head read fault told others top accepted =
     let here = range_told file cells head read fault told others accepted.head accepted.spelled in
-    fault_in_range file others top here.settled fault accepted here.checked here.told here.proper
+    fault_in_range file others top here.settled fault accepted here.checked here.told
 
 -- the verdict
 

@@ -32,8 +32,8 @@ file_refused side file OutOfMemory h = record { unaccepted = λ b. absurd b; tol
 -- it says nothing of the other file
 pub other_refused : (side other : Side) (file : File) (r : Refusal) → (side ≡ other → ⊥) → IsOfFile side r → IsRefusalOf other file r
 other_refused side other file (FileRefusal s f) apart h = record {
-  unaccepted = λ b. absurd (apart (sym h.0 ∙ b.0));
-  told = λ e. absurd (apart (sym h.0 ∙ e));
+  unaccepted = λ b. absurd (apart (sym h ∙ b.0));
+  told = λ e. absurd (apart (sym h ∙ e));
 }
 other_refused side other file (CellsRefusal s f) apart h = absurd h
 other_refused side other file (FlatRefusal s f) apart h = absurd h
@@ -47,7 +47,7 @@ first_of_second file r h = other_refused Second First file r (λ e. first_second
 
 pub first_reached : (a b : File) (r : Refusal) → IsOfFile First r → IsReached a b r
 first_reached a b (FileRefusal First f) h = tt
-first_reached a b (FileRefusal Second f) h = absurd (first_second (sym h.0))
+first_reached a b (FileRefusal Second f) h = absurd (first_second (sym h))
 first_reached a b (CellsRefusal s f) h = absurd h
 first_reached a b (FlatRefusal s f) h = absurd h
 first_reached a b OutOfMemory h = tt

@@ -9,7 +9,7 @@ use Rattle.lvl_cells.specs.Chains.{Fits}
 use Rattle.lvl_flat.specs.Sheets.{ComesBefore}
 use Rattle.lvl_region.specs.Region.{IsAlone}
 use Rattle.lvl_region.specs.declared.region.Side.{Side}
-use Rattle.lvl_sweep.specs.Ahead.{IsBefore}
+use Rattle.lvl_grid.specs.Squares.{IsBefore}
 use Rattle.lvl.specs.Drawing.{Drawing}
 use Rattle.lvl.specs.declared.layout.Head.{Head}
 use Rattle.lvl.specs.declared.verdict.Verdict.{Verdict}

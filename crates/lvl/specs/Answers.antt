@@ -1,16 +1,13 @@
 -- What an answer says of two files: a verdict, or why one of them is refused.
 use Rattle.std.specs.Prelude.{◌≡◌, ◌≢◌, ⊤, ℕ, Bool, true, false, List, Result, Ok, Err, IfOk, IfErr}
-use Rattle.gds_records.specs.declared.fault.RecordFault.TheVariants.{Read}
 use Rattle.lvl_path.specs.Figure.{figure_rings}
 use Rattle.lvl_cells.specs.Cells.{kept}
-use Rattle.lvl_cells.specs.declared.fault.CellFault.TheVariants.{OutOfMemory as NoMemoryForCells}
-use Rattle.lvl_flat.specs.declared.fault.FlatFault.TheVariants.{OutOfMemory as NoMemoryForFlat}
 use Rattle.lvl_region.specs.declared.region.Side.{Side}
 use Rattle.lvl_region.specs.declared.region.Side.TheVariants.{First, Second}
 use Rattle.lvl.specs.Drawing.{Drawing}
-use Rattle.gds_library.specs.Ends.{Tells, IsExcused}
-use Rattle.gds_library.specs.declared.fault.GdsFault.TheVariants.{At, OutOfMemory as NoMemoryForGds}
-use Rattle.gds_elements.specs.declared.fault.GdsKind.TheVariants.{Record}
+use Rattle.lvl_refusal.specs.declared.Refusal.{Refusal as Cause}
+use Rattle.lvl_refusal.specs.declared.Refusal.TheVariants.{Breach, OutOfMemory as NoMemory}
+use Rattle.gds_library.specs.Ends.{Tells, IsExcused, is_read_kind}
 use Rattle.lvl.specs.declared.layout.Head.{Head}
 use Rattle.lvl.specs.declared.layout.FileFault.{FileFault}
 use Rattle.lvl.specs.declared.layout.FileFault.TheVariants.{Gds}
@@ -21,7 +18,7 @@ use Rattle.lvl.specs.Layouts.{File, Spells, SpellsSome, HasHead}
 use Rattle.lvl.specs.Accepted.{IsAccepted, IsUnaccepted, IsVerdict}
 use Rattle.lvl.specs.Kept.{Kept, Passes, IsCellFault, IsRangeFault}
 
--- memory, or a read that failed: it says nothing of the file
+-- a read that failed: it says nothing of the file
 abbrev pub IsExcusedFile : FileFault → Type 0
 IsExcusedFile (Gds f) = IsExcused f
 
@@ -66,13 +63,6 @@ IsReached a b (FlatRefusal First f) = PassesCheck a × PassesCheck b
 IsReached a b (FlatRefusal Second f) = ((cells : List Drawing) × (top : Drawing) × IsAccepted a cells top) × PassesCheck b
 IsReached a b OutOfMemory = ⊤
 
--- want of memory is told as such, whichever step it met
-abbrev pub IsProper : Refusal → Type 0
-IsProper (FileRefusal s f) = f ≢ Gds NoMemoryForGds
-IsProper (CellsRefusal s f) = f ≢ NoMemoryForCells
-IsProper (FlatRefusal s f) = f ≢ NoMemoryForFlat
-IsProper OutOfMemory = ⊤
-
 -- the heads are those that the bytes spell, and the verdict holds
 pub record IsCompared (a b : File) (c : Comparison) : Type 0 where
   pub first : HasHead a.bytes c.first
@@ -88,12 +78,12 @@ pub record IsAnswer (a b : File) (answer : Result Comparison Refusal) : Type 0 w
 
 -- the fault is a read that failed
 abbrev pub read_failed : FileFault → Bool
-read_failed (Gds (At at (Record Read))) = true
-read_failed f = false
+read_failed (Gds f) = is_read_kind f.kind
 
-abbrev pub is_failed_read : {A : Type 0} → Result A FileFault → Bool
+abbrev pub is_failed_read : {A : Type 0} → Result A (Cause FileFault) → Bool
 is_failed_read (Ok x) = false
-is_failed_read (Err f) = read_failed f
+is_failed_read (Err (Breach f)) = read_failed f
+is_failed_read (Err NoMemory) = false
 
 -- the answer is that a read of that side failed
 abbrev pub is_read_of : {A : Type 0} → Side → Result A Refusal → Bool

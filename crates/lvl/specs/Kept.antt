@@ -4,11 +4,9 @@ use Rattle.lvl_cells.specs.Cells.{PlainCell, Rings}
 use Rattle.lvl_cells.specs.Checks.{Settled, IsSettled, PlacesFew}
 use Rattle.lvl_cells.specs.Faults.{IsFaultOf, IsSoundWith}
 use Rattle.lvl_cells.specs.declared.fault.CellFault.{CellFault}
-use Rattle.lvl_cells.specs.declared.fault.CellFault.TheVariants.{OutOfMemory as NoMemoryForCells}
 use Rattle.lvl_flat.specs.Flattened.{IsFlattened, IsFlatFault}
 use Rattle.lvl_flat.specs.Sheet.{PlainSheet}
 use Rattle.lvl_flat.specs.declared.fault.FlatFault.{FlatFault}
-use Rattle.lvl_flat.specs.declared.fault.FlatFault.TheVariants.{OutOfMemory as NoMemoryForFlat}
 use Rattle.lvl_region.specs.declared.region.Side.TheVariants.{First, Second}
 use Rattle.lvl.specs.Sheets.{IsFlatVerdict}
 use Rattle.lvl.specs.declared.verdict.Verdict.{Verdict}
@@ -41,14 +39,12 @@ IsFlat k = (sheets : List PlainSheet) × IsFlattenedAs k sheets
 pub record IsCellFault (k : Kept) (fault : CellFault) : Type 0 where
   pub told : IsFaultOf k.cells k.top fault
   pub unsound : ¬ IsSoundWith k.cells k.top (PlacesFew k.cells)
-  pub proper : fault ≢ NoMemoryForCells
 
 -- the fault is why it was not flattened
 pub record IsRangeFault (k : Kept) (fault : FlatFault) : Type 0 where
   pub settled : Settled
   pub checked : IsCheckedAs k settled
   pub told : IsFlatFault settled fault
-  pub proper : fault ≢ NoMemoryForFlat
 
 -- both were flattened, and the verdict is that on what they gave
 pub record IsKeptVerdict (a b : Kept) (v : Verdict) : Type 0 where

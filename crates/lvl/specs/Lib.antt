@@ -5,8 +5,4 @@ pub mod Sheets
 pub mod Kept
 pub mod Answers
 pub mod Sides
-pub mod Faults
 pub mod Shown
-pub mod Texts
-pub mod Writing
-pub mod Runs

@@ -7,7 +7,7 @@ use Rattle.lvl_flat.specs.Sheet.{PlainSheet}
 use Rattle.lvl_flat.specs.Sheets.{rings_on, same_layer, ComesBefore}
 use Rattle.lvl_region.specs.Region.{IsAlone}
 use Rattle.lvl_region.specs.declared.region.Side.{Side}
-use Rattle.lvl_sweep.specs.Ahead.{IsBefore}
+use Rattle.lvl_grid.specs.Squares.{IsBefore}
 use Rattle.lvl.specs.declared.verdict.Verdict.{Verdict}
 use Rattle.lvl.specs.declared.verdict.Verdict.TheVariants.{Same, Differ}
 

@@ -4,9 +4,7 @@ use Rattle.std.specs.Global.{Global}
 use Rattle.lvl_cells.specs.Cells.{PlainCell, Rings}
 use Rattle.lvl_cells.specs.Checks.{Settled}
 use Rattle.lvl_flat.specs.Flattened.{IsFlatFault}
-use Rattle.lvl_flat.specs.declared.fault.FlatFault.TheVariants.{OutOfMemory as NoMemoryForFlat}
 use Rattle.lvl.specs.Drawing.{Drawing}
-use Rattle.gds_library.specs.declared.fault.GdsFault.TheVariants.{OutOfMemory as NoMemoryForGds}
 use Rattle.lvl_region.specs.declared.region.Side.{Side}
 use Rattle.lvl.specs.declared.layout.Head.{Head}
 use Rattle.lvl.specs.declared.layout.Head.TheVariants.{Gds as GdsHeadOf}
@@ -32,9 +30,9 @@ pub record IsFileFault (xs : List ℕ) (fault : FileFault) : Type 0 where
   pub told : TellsOfFile xs fault
   pub nothing : (¬ IsExcusedFile fault) → SpellsNothing xs
 
--- the refusal is of that side's file, or for want of memory
+-- the refusal is of that side's file, or out of memory
 abbrev pub IsOfFile : Side → Refusal → Type 0
-IsOfFile side (FileRefusal s f) = (s ≡ side) × (f ≢ Gds NoMemoryForGds)
+IsOfFile side (FileRefusal s f) = s ≡ side
 IsOfFile side (CellsRefusal s f) = ⊥
 IsOfFile side (FlatRefusal s f) = ⊥
 IsOfFile side OutOfMemory = ⊤
@@ -54,7 +52,7 @@ IsCheckRefusal side k OutOfMemory = ⊤
 abbrev pub IsFlattenRefusal : Side → Settled → Refusal → Type 0
 IsFlattenRefusal side s (FileRefusal t f) = ⊥
 IsFlattenRefusal side s (CellsRefusal t f) = ⊥
-IsFlattenRefusal side s (FlatRefusal t f) = (t ≡ side) × IsFlatFault s f × (f ≢ NoMemoryForFlat)
+IsFlattenRefusal side s (FlatRefusal t f) = (t ≡ side) × IsFlatFault s f
 IsFlattenRefusal side s OutOfMemory = ⊤
 
 -- the name that was given, as bytes

@@ -8,7 +8,7 @@ ghost use Rattle.lvl_region.specs.declared.region.Side.{Side as WhichSide};
 ghost use Rattle.lvl.specs.declared.verdict.Verdict.TheVariants.{Same, Differ};
 ghost use Rattle.lvl.specs.Accepted.{AreSame, AreDifferent, IsUnaccepted};
 ghost use Rattle.lvl.specs.Kept.{IsKeptVerdict, IsKeptRefusal};
-ghost use Rattle.lvl.specs.Answers.{IsAnswer, IsRefusalOf, IsReached, IsProper, IsTold, Blames, is_read_of};
+ghost use Rattle.lvl.specs.Answers.{IsAnswer, IsRefusalOf, IsReached, IsTold, Blames, is_read_of};
 ghost use Rattle.lvl.specs.Sides.{file, library_of};
 ghost use Rattle.lvl.specs.declared.verdict.Refusal.TheVariants.{OutOfMemory};
 
@@ -70,7 +70,6 @@ pub fn compare_layouts<A: Read, B: Read>(
         → IfErr result (IsTold Second (file ys tops.now.second)) }
     ensures order { (xs ys : List ℕ) → A.remaining first.old ≡ Some xs → B.remaining second.old ≡ Some ys
         → IfErr result (IsReached (file xs tops.now.first) (file ys tops.now.second)) }
-    ensures proper { IfErr result IsProper }
     ensures first_reads { result ≢ Err OutOfMemory
         → CountsFailure (A.read_errors first.old) (A.read_errors first.new) (is_read_of First result) }
     ensures second_reads { result ≢ Err OutOfMemory
@@ -96,7 +95,6 @@ pub fn compare_files<A: Read, B: Read>(
         → IfErr result (IsRefusalOf First (file xs tops.now.first)) }
     ensures second_refused { (ys : List ℕ) → B.remaining second.old ≡ Some ys
         → IfErr result (IsRefusalOf Second (file ys tops.now.second)) }
-    ensures proper { IfErr result IsProper }
     ensures first_reads { result ≢ Err OutOfMemory
         → CountsFailure (A.read_errors first.old) (A.read_errors first.new) (is_read_of First result) }
     ensures second_reads { result ≢ Err OutOfMemory

@@ -5,7 +5,7 @@ ghost use Rattle.lvl.specs.Sheets.{IsFlatVerdict, IsLesser, behind, head_layer};
 use crate::verdict::Verdict;
 use lvl_cells::Layer;
 use lvl_flat::{Flat, comes_before};
-use lvl_sweep::first_difference_of;
+use lvl_columns::difference_by_columns;
 use std::alloc::{AllocError, Global};
 
 /// The first Layer, and on it the first square, that one of the two alone covers. A Layer that one
@@ -21,7 +21,7 @@ pub(crate) fn compare_flats(
     let mut theirs = 0;
     while let Some(layer) = lesser(first.layer(ours), second.layer(theirs)) {
         let (a, b) = (first.rings(layer), second.rings(layer));
-        if let Some((square, side)) = first_difference_of(alloc, a, b)? {
+        if let Some((square, side)) = difference_by_columns(alloc, a, b)? {
             return Ok(Verdict::Differ {
                 layer,
                 square,

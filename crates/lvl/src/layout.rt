@@ -1,15 +1,16 @@
 //! A file read by its format.
 ghost use Rattle.std.specs.Prelude.{◌≡◌, ◌≢◌, List, ℕ, Some, Err, IfOk, IfErr};
 ghost use Rattle.lvl_io.specs.Bytes.{CountsFailure};
-ghost use Rattle.gds_library.specs.declared.fault.GdsFault.TheVariants.{OutOfMemory};
+ghost use Rattle.lvl_refusal.specs.Refused.{Says};
+ghost use Rattle.lvl_refusal.specs.declared.Refusal.TheVariants.{OutOfMemory};
 ghost use Rattle.lvl.specs.Layouts.{IsLayoutOf};
 ghost use Rattle.lvl.specs.Answers.{is_failed_read};
 ghost use Rattle.lvl.specs.Sides.{layout_parts, IsFileFault};
-ghost use Rattle.lvl.specs.declared.layout.FileFault.TheVariants.{Gds};
 
 use gds_library::{GdsFault, GdsHead, read_gds};
 use lvl_cells::Library;
 use lvl_io::Read;
+use lvl_refusal::Refusal;
 use std::alloc::Global;
 use thiserror::Error;
 
@@ -47,16 +48,17 @@ impl Layout {
 }
 
 /// The layout that a file spells. Every file is read as GDSII.
-pub fn read_layout<R: Read>(alloc: Global, reader: &mut R) -> Result<Layout, FileFault>
+pub fn read_layout<R: Read>(alloc: Global, reader: &mut R) -> Result<Layout, Refusal<FileFault>>
     ensures spelled { (xs : List ℕ) → R.remaining reader.old ≡ Some xs
         → IfOk result (λ layout. IsLayoutOf xs (layout_parts layout).0 (layout_parts layout).1) }
     ensures refused { (xs : List ℕ) → R.remaining reader.old ≡ Some xs
-        → IfErr result (IsFileFault xs) }
-    ensures reads { result ≢ Err (Gds OutOfMemory)
+        → IfErr result (λ refusal. Says refusal (IsFileFault xs)) }
+    ensures reads { result ≢ Err OutOfMemory
         → CountsFailure (R.read_errors reader.old) (R.read_errors reader.new) (is_failed_read result) }
 {
     match read_gds(alloc, reader) {
         Ok((library, head)) => Ok(Layout::Gds(library, head)),
-        Err(fault) => Err(FileFault::Gds(fault)),
+        Err(Refusal::Breach(fault)) => Err(Refusal::Breach(FileFault::Gds(fault))),
+        Err(Refusal::OutOfMemory) => Err(Refusal::OutOfMemory),
     }
 }

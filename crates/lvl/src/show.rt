@@ -2,7 +2,7 @@
 ghost use Rattle.std.specs.Prelude.{◌≡◌, ◌≢◌, List, ℕ, Some, Err, IfOk, IfErr, option_copied};
 ghost use Rattle.lvl_io.specs.Bytes.{CountsFailure};
 ghost use Rattle.lvl_region.specs.declared.region.Side.TheVariants.{First};
-ghost use Rattle.lvl.specs.Answers.{IsRefusalOf, IsProper, is_read_of};
+ghost use Rattle.lvl.specs.Answers.{IsRefusalOf, is_read_of};
 ghost use Rattle.lvl.specs.Shown.{IsShownFile, IsShownKept, IsOfFirst, IsShowRefusal, IsShowReached};
 ghost use Rattle.lvl.specs.Sides.{file_named, kept_named};
 ghost use Rattle.lvl.specs.declared.verdict.Refusal.TheVariants.{OutOfMemory};
@@ -59,7 +59,6 @@ pub fn show_file<R: Read>(
     ensures order { (xs : List ℕ) → R.remaining reader.old ≡ Some xs
         → IfErr result (IsShowReached (file_named xs (option_copied top.entry))) }
     ensures side { IfErr result IsOfFirst }
-    ensures proper { IfErr result IsProper }
     ensures reads { result ≢ Err OutOfMemory
         → CountsFailure (R.read_errors reader.old) (R.read_errors reader.new) (is_read_of First result) }
 {

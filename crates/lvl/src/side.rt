@@ -8,12 +8,12 @@ ghost use Rattle.lvl.specs.Answers.{is_read_of};
 ghost use Rattle.lvl.specs.Sides.{IsOfFile, IsReadRefusal, IsCheckRefusal, IsFlattenRefusal, given_name, library_of, kept_named};
 ghost use Rattle.lvl.specs.declared.verdict.Refusal.TheVariants.{OutOfMemory};
 
-use crate::layout::{FileFault, Head, read_layout};
+use crate::layout::{Head, read_layout};
 use crate::verdict::Refusal;
-use gds_library::GdsFault;
-use lvl_cells::{CellFault, Checked, Library, check};
-use lvl_flat::{Flat, FlatFault, flatten};
+use lvl_cells::{Checked, Library, check};
+use lvl_flat::{Flat, flatten};
 use lvl_io::Read;
+use lvl_refusal::Refusal as Cause;
 use lvl_region::Side;
 use std::alloc::Global;
 
@@ -27,14 +27,14 @@ pub(crate) fn read_side<R: Read>(
         → IfOk result (λ found. IsLayoutOf xs found.0 found.1) }
     ensures refused { (xs : List ℕ) → R.remaining reader.old ≡ Some xs
         → IfErr result (IsReadRefusal side xs) }
-    ensures proper { IfErr result (IsOfFile side) }
+    ensures own { IfErr result (IsOfFile side) }
     ensures reads { result ≢ Err OutOfMemory
         → CountsFailure (R.read_errors reader.old) (R.read_errors reader.new) (is_read_of side result) }
 {
     match read_layout(alloc, reader) {
         Ok(layout) => Ok(layout.into_parts()),
-        Err(FileFault::Gds(GdsFault::OutOfMemory)) => Err(Refusal::OutOfMemory),
-        Err(fault) => Err(Refusal::File(side, fault)),
+        Err(Cause::Breach(fault)) => Err(Refusal::File(side, fault)),
+        Err(Cause::OutOfMemory) => Err(Refusal::OutOfMemory),
     }
 }
 
@@ -60,8 +60,8 @@ pub(crate) fn check_named(
 {
     match check(alloc, library, top) {
         Ok(checked) => Ok(checked),
-        Err(CellFault::OutOfMemory) => Err(Refusal::OutOfMemory),
-        Err(fault) => Err(Refusal::Cells(side, fault)),
+        Err(Cause::Breach(fault)) => Err(Refusal::Cells(side, fault)),
+        Err(Cause::OutOfMemory) => Err(Refusal::OutOfMemory),
     }
 }
 
@@ -85,7 +85,7 @@ pub(crate) fn flatten_side(alloc: Global, side: Side, checked: Checked) -> Resul
 {
     match flatten(alloc, &checked) {
         Ok(flat) => Ok(flat),
-        Err(FlatFault::OutOfMemory) => Err(Refusal::OutOfMemory),
-        Err(fault) => Err(Refusal::Flat(side, fault)),
+        Err(Cause::Breach(fault)) => Err(Refusal::Flat(side, fault)),
+        Err(Cause::OutOfMemory) => Err(Refusal::OutOfMemory),
     }
 }

@@ -17,7 +17,7 @@ use Rattle.lvl_cells.specs.Faults.{IsFaultOf}
 use Rattle.lvl_cells.specs.Steps.{AreAllTargets, IsCycleFault, IsTopFault}
 use Rattle.lvl_cells.specs.Checks.{IsSettled}
 use Rattle.lvl_cells.specs.declared.fault.CellFault.{CellFault}
-use Rattle.lvl_cells.specs.declared.fault.CellFault.TheVariants.{NoCell, DuplicateCell, MissingCell, Cycle, TopMissing, ManyTops, TooManyPlacements, TooManyRings, OutOfMemory}
+use Rattle.lvl_cells.specs.declared.fault.CellFault.TheVariants.{NoCell, DuplicateCell, MissingCell, Cycle, TopMissing, ManyTops, TooManyPlacements, TooManyRings}
 use Rattle.lvl_cells.proofs.Missing.{named_links}
 use Rattle.lvl_cells.proofs.Sequences.{item_there}
 
@@ -106,7 +106,6 @@ ranked_by cells order l o =
 
 pub cycle_fault : (cells : List (PlainCell Rings)) (given : Option (List ℕ)) (f : CellFault) → AreLinked cells → IsCycleFault cells f → IsFaultOf cells given f
 cycle_fault cells given (Cycle round) l h = (l, h)
-cycle_fault cells given OutOfMemory l h = tt
 cycle_fault cells given NoCell l h = absurd h
 cycle_fault cells given (DuplicateCell name) l h = absurd h
 cycle_fault cells given (MissingCell from name) l h = absurd h
@@ -118,7 +117,6 @@ cycle_fault cells given TooManyRings l h = absurd h
 pub top_fault : (cells : List (PlainCell Rings)) (given : Option (List ℕ)) (f : CellFault) → 0 < length cells → AreLinked cells → IsRanked cells → IsTopFault cells given f → IsFaultOf cells given f
 top_fault cells given TopMissing n l r h = (l, r, (λ e. let none : length cells ≡ 0 = ap length e in absurd (omega (arith, n))), h)
 top_fault cells given ManyTops n l r h = (l, r, h.0, h.1)
-top_fault cells given OutOfMemory n l r h = tt
 top_fault cells given NoCell n l r h = absurd h
 top_fault cells given (DuplicateCell name) n l r h = absurd h
 top_fault cells given (MissingCell from name) n l r h = absurd h

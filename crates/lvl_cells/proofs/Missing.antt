@@ -12,7 +12,7 @@ use Rattle.lvl_cells.specs.Faults.{IsFirstMissing}
 use Rattle.lvl_cells.specs.Resolving.{AreTargets, IsFirstUnknown, IsMissingFault}
 use Rattle.lvl_cells.specs.Steps.{IsFirstMissingFault}
 use Rattle.lvl_cells.specs.declared.fault.CellFault.{CellFault}
-use Rattle.lvl_cells.specs.declared.fault.CellFault.TheVariants.{NoCell, DuplicateCell, MissingCell, Cycle, TopMissing, ManyTops, TooManyPlacements, TooManyRings, OutOfMemory}
+use Rattle.lvl_cells.specs.declared.fault.CellFault.TheVariants.{NoCell, DuplicateCell, MissingCell, Cycle, TopMissing, ManyTops, TooManyPlacements, TooManyRings}
 use Rattle.lvl_cells.proofs.Indexes.{contains_at}
 use Rattle.lvl_cells.proofs.NamedTargets.{split_here}
 
@@ -80,7 +80,6 @@ first_missing cells i c tss from name h e inv f =
 
 pub missing_fault : (cells : List (PlainCell Rings)) (i : ℕ) (c : PlainCell Rings) (tss : List (Vec ℕ Global)) (f : CellFault) → i < length cells → c ≡ get_or cells i c → AreTargetsOf (names cells) (take i cells) tss → IsMissingFault (names cells) c f → IsFirstMissingFault cells f
 missing_fault cells i c tss (MissingCell from name) h e inv m = first_missing cells i c tss from.items name.items h e inv m
-missing_fault cells i c tss OutOfMemory h e inv m = tt
 missing_fault cells i c tss NoCell h e inv m = absurd m
 missing_fault cells i c tss (DuplicateCell name) h e inv m = absurd m
 missing_fault cells i c tss (Cycle round) h e inv m = absurd m

@@ -7,7 +7,7 @@ use Rattle.lvl_cells.specs.Cells.{PlainCell, Rings, each_ring, names}
 use Rattle.lvl_cells.specs.Chains.{chains, placed_rings, most_placed}
 use Rattle.lvl_cells.specs.Soundness.{links, AreNamed, AreLinked, IsRanked, IsReferred, IsSound}
 use Rattle.lvl_cells.specs.declared.fault.CellFault.{CellFault}
-use Rattle.lvl_cells.specs.declared.fault.CellFault.TheVariants.{NoCell, DuplicateCell, MissingCell, Cycle, TopMissing, ManyTops, TooManyPlacements, TooManyRings, OutOfMemory}
+use Rattle.lvl_cells.specs.declared.fault.CellFault.TheVariants.{NoCell, DuplicateCell, MissingCell, Cycle, TopMissing, ManyTops, TooManyPlacements, TooManyRings}
 
 -- the first name that an earlier one equals
 pub record IsFirstRepeat (all : List (List ℕ)) (name : List ℕ) : Type 0 where
@@ -62,4 +62,3 @@ IsFaultOf cells given TopMissing = AreLinked cells × IsRanked cells × (cells �
 IsFaultOf cells given ManyTops = AreLinked cells × IsRanked cells × (given ≡ None) × HasTwoTops cells
 IsFaultOf cells given TooManyPlacements = IsSoundWith cells given (λ c. most_placed < chains cells c)
 IsFaultOf cells given TooManyRings = IsSoundWith cells given (λ c. (chains cells c ≤ most_placed) × (most_placed < placed_rings each_ring cells c))
-IsFaultOf cells given OutOfMemory = Unit {0}

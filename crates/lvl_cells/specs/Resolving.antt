@@ -7,7 +7,7 @@ use denote.Ref.{Bor}
 use Rattle.lvl_cells.specs.Cells.{PlainCell, PlainReference, Rings}
 use Rattle.lvl_cells.specs.Faults.{IsFirstRepeat}
 use Rattle.lvl_cells.specs.declared.fault.CellFault.{CellFault}
-use Rattle.lvl_cells.specs.declared.fault.CellFault.TheVariants.{DuplicateCell, MissingCell, OutOfMemory}
+use Rattle.lvl_cells.specs.declared.fault.CellFault.TheVariants.{DuplicateCell, MissingCell}
 
 -- g finds a name's place exactly where the name stands there
 abbrev pub Finds : (List ℕ → Option ℕ) → List (List ℕ) → Type 0
@@ -20,10 +20,9 @@ place_in_index index name = get_by (λ k. slice_cmp nat_cmp name k.now) index
 abbrev pub IsIndexOf : List (List ℕ) → BTreeMap (Bor (List ℕ)) ℕ → Type 0
 IsIndexOf names index = Finds (place_in_index index) names
 
--- the fault is the first repeated name, or want of memory
+-- the fault is the first repeated name
 abbrev pub IsRepeatFault : List (List ℕ) → CellFault → Type 0
 IsRepeatFault names (DuplicateCell name) = IsFirstRepeat names name.items
-IsRepeatFault names OutOfMemory = Unit {0}
 IsRepeatFault names _ = ⊥
 
 -- the targets are the places of the names that the references give
@@ -38,8 +37,7 @@ pub record IsFirstUnknown (names asked : List (List ℕ)) (name : List ℕ) : Ty
   pub known : All (Contains names) before
   pub unknown : ¬ Contains names name
 
--- the fault is the cell's first reference that has no cell, or want of memory
+-- the fault is the cell's first reference that has no cell
 abbrev pub IsMissingFault : List (List ℕ) → PlainCell Rings → CellFault → Type 0
 IsMissingFault names c (MissingCell from name) = (from.items ≡ c.name) × IsFirstUnknown names (map (λ r. r.cell) c.references) name.items
-IsMissingFault names c OutOfMemory = Unit {0}
 IsMissingFault names c _ = ⊥

@@ -8,7 +8,7 @@ use Rattle.lvl_cells.specs.Faults.{IsFirstMissing, IsCycle, HasTwoTops}
 use Rattle.lvl_cells.specs.declared.counts.Weight.{Weight}
 use Rattle.lvl_cells.specs.declared.counts.Weight.TheVariants.{One, OwnRings}
 use Rattle.lvl_cells.specs.declared.fault.CellFault.{CellFault}
-use Rattle.lvl_cells.specs.declared.fault.CellFault.TheVariants.{MissingCell, Cycle, TopMissing, ManyTops, OutOfMemory}
+use Rattle.lvl_cells.specs.declared.fault.CellFault.TheVariants.{MissingCell, Cycle, TopMissing, ManyTops}
 
 -- each cell's targets are the places of the names that its references give
 abbrev pub AreAllTargets : List (PlainCell Rings) → List (Vec ℕ Global) → Type 0
@@ -16,18 +16,15 @@ AreAllTargets cells targets = map (λ ts. map (slice_get (names cells)) ts.items
 
 abbrev pub IsFirstMissingFault : List (PlainCell Rings) → CellFault → Type 0
 IsFirstMissingFault cells (MissingCell from name) = IsFirstMissing cells from.items name.items
-IsFirstMissingFault cells OutOfMemory = Unit {0}
 IsFirstMissingFault cells _ = ⊥
 
 abbrev pub IsCycleFault : List (PlainCell Rings) → CellFault → Type 0
 IsCycleFault cells (Cycle round) = IsCycle cells (map (λ name. name.items) round.items)
-IsCycleFault cells OutOfMemory = Unit {0}
 IsCycleFault cells _ = ⊥
 
 abbrev pub IsTopFault : List (PlainCell Rings) → Option (List ℕ) → CellFault → Type 0
 IsTopFault cells given TopMissing = (name : List ℕ) × (given ≡ Some name) × (¬ Contains (names cells) name)
 IsTopFault cells given ManyTops = (given ≡ None) × HasTwoTops cells
-IsTopFault cells given OutOfMemory = Unit {0}
 IsTopFault cells given _ = ⊥
 
 -- a chain counts one, or the rings of its last cell

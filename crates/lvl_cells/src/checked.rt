@@ -4,6 +4,7 @@ ghost use Rattle.lvl_cells.specs.Checks.{IsSettled, IsChecked, PlacesFew, IsTarg
 ghost use Rattle.lvl_cells.specs.Faults.{IsFaultOf, IsSoundWith};
 ghost use Rattle.lvl_cells.specs.Soundness.{IsOrder};
 ghost use Rattle.lvl_cells.specs.Steps.{AreAllTargets};
+ghost use Rattle.lvl_refusal.specs.Refused.{Says};
 
 use crate::counts::{Weight, count_from};
 use crate::fault::CellFault;
@@ -12,6 +13,7 @@ use crate::names::index_of;
 use crate::order::order_of;
 use crate::targets::all_targets;
 use crate::top::top_of;
+use lvl_refusal::Refusal;
 use std::alloc::Global;
 use std::marker::Model;
 
@@ -44,11 +46,11 @@ fn examine(
     alloc: Global,
     cells: &[Cell],
     given: Option<&[u8]>,
-) -> Result<(usize, Vec<usize>, Vec<Vec<usize>>), CellFault>
+) -> Result<(usize, Vec<usize>, Vec<Vec<usize>>), Refusal<CellFault>>
     requires { 0 < length cells.now }
     ensures ok { IfOk result (λ found. IsSettled (option_copied given.entry) (record { cells = cells.now; top = found.0; order = found.1.items })) }
     ensures targets { IfOk result (λ found. AreAllTargets cells.now found.2.items) }
-    ensures err { IfErr result (λ fault. IsFaultOf cells.now (option_copied given.entry) fault) }
+    ensures err { IfErr result (λ refusal. Says refusal (IsFaultOf cells.now (option_copied given.entry))) }
 {
     let index = index_of(alloc, cells)?;
     let targets = all_targets(alloc, cells, &index)?;
@@ -56,11 +58,11 @@ fn examine(
     let top = top_of(alloc, cells, &index, &targets, &order, given)?;
     let chains = count_from(alloc, Weight::One, cells, &targets, &order, top)?;
     if chains > MOST_PLACED {
-        return Err(CellFault::TooManyPlacements);
+        return Err(Refusal::Breach(CellFault::TooManyPlacements));
     }
     let rings = count_from(alloc, Weight::OwnRings, cells, &targets, &order, top)?;
     if rings > MOST_PLACED {
-        return Err(CellFault::TooManyRings);
+        return Err(Refusal::Breach(CellFault::TooManyRings));
     }
     Ok((top, order, targets))
 }
@@ -72,15 +74,19 @@ fn examine(
 /// cell of the given name or, with none given, the only one to which none refers. At most
 /// 16,777,216 cells, the top counted once, and as many rings may be placed from the top. Of the
 /// faults the first in the order of [`CellFault`] is answered.
-pub fn check(alloc: Global, library: Library, top: Option<&[u8]>) -> Result<Checked, CellFault>
+pub fn check(
+    alloc: Global,
+    library: Library,
+    top: Option<&[u8]>,
+) -> Result<Checked, Refusal<CellFault>>
     ensures same { IfOk result (λ checked. checked.cells ≡ library) }
     ensures sound { IfOk result (λ checked. IsSettled (option_copied top.entry) checked) }
-    ensures fault { IfErr result (λ fault. IsFaultOf library (option_copied top.entry) fault) }
-    ensures refused { IfErr result (λ fault. fault ≢ CellFault.OutOfMemory → ¬ IsSoundWith library (option_copied top.entry) (PlacesFew library)) }
+    ensures fault { IfErr result (λ refusal. Says refusal (IsFaultOf library (option_copied top.entry))) }
+    ensures refused { IfErr result (λ refusal. Says refusal (λ _. ¬ IsSoundWith library (option_copied top.entry) (PlacesFew library))) }
 {
     let Library { cells } = library;
     if cells.is_empty() {
-        return Err(CellFault::NoCell);
+        return Err(Refusal::Breach(CellFault::NoCell));
     }
     let (place, order, targets) = examine(alloc, &cells, top)?;
     Ok(Checked {

@@ -1,8 +1,4 @@
 //! Why a library is refused.
-ghost use Rattle.std.specs.Prelude.{◌≡◌};
-ghost use Rattle.lvl_cells.specs.declared.fault.CellFault.TheVariants.{OutOfMemory};
-
-use std::alloc::{AllocError, AllocFailed};
 use thiserror::Error;
 
 /// Why a library is not sound for its top, or too large. Names are those of cells, as bytes.
@@ -34,23 +30,4 @@ pub enum CellFault {
     /// More than 16,777,216 rings are placed from the top.
     #[error("too many rings are placed")]
     TooManyRings,
-    /// Memory was refused.
-    #[error("out of memory")]
-    OutOfMemory,
-}
-
-impl From<AllocError> for CellFault {
-    ghost from_gives = { λ _ e. e ≡ OutOfMemory };
-
-    fn from(_e: AllocError) -> CellFault {
-        CellFault::OutOfMemory
-    }
-}
-
-impl<T: Drop> From<AllocFailed<T>> for CellFault {
-    ghost from_gives = { λ _ e. e ≡ OutOfMemory };
-
-    fn from(_e: AllocFailed<T>) -> CellFault {
-        CellFault::OutOfMemory
-    }
 }

@@ -8,12 +8,14 @@
 //! refuses what is not sound or places too much; what it lets through is a [`Checked`].
 #![tactic(auto)]
 
+pub use builder::Builder;
 pub use checked::{Checked, check};
 pub use fault::CellFault;
 pub use layer::Layer;
 pub use library::{Cell, Library, Reference, Shape};
 pub use offsets::Offsets;
 
+mod builder;
 mod checked;
 mod counts;
 mod fault;

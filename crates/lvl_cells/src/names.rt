@@ -4,9 +4,11 @@ ghost use Rattle.std.specs.List.{IsDistinct};
 ghost use Rattle.std.specs.Str.{bytes_eq};
 ghost use Rattle.lvl_cells.specs.Cells.{names};
 ghost use Rattle.lvl_cells.specs.Resolving.{IsIndexOf, IsRepeatFault};
+ghost use Rattle.lvl_refusal.specs.Refused.{Says};
 
 use crate::fault::CellFault;
 use crate::library::Cell;
+use lvl_refusal::Refusal;
 use std::alloc::Global;
 use std::collections::BTreeMap;
 
@@ -14,17 +16,17 @@ use std::collections::BTreeMap;
 pub(crate) fn index_of<'a>(
     alloc: Global,
     cells: &'a [Cell],
-) -> Result<BTreeMap<&'a [u8], usize>, CellFault>
+) -> Result<BTreeMap<&'a [u8], usize>, Refusal<CellFault>>
     ensures distinct { IfOk result (λ index. IsDistinct bytes_eq (names cells.now)) }
     ensures index { IfOk result (λ index. IsIndexOf (names cells.now) index) }
-    ensures err { IfErr result (λ fault. IsRepeatFault (names cells.now) fault) }
+    ensures err { IfErr result (λ refusal. Says refusal (IsRepeatFault (names cells.now))) }
 {
     let mut index = BTreeMap::new(alloc);
     for (i, cell) in cells.iter().enumerate() {
         let name = cell.name.as_slice();
         let earlier = index.insert(name, i)?;
         if earlier.is_some() {
-            return Err(CellFault::DuplicateCell(Vec::from_slice(alloc, name)?));
+            return Err(Refusal::Breach(CellFault::DuplicateCell(Vec::from_slice(alloc, name)?)));
         }
     }
     Ok(index)

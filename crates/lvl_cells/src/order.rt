@@ -2,11 +2,13 @@
 ghost use Rattle.std.specs.Prelude.{IfOk, IfErr};
 ghost use Rattle.lvl_cells.specs.Soundness.{AreLinked, IsOrder};
 ghost use Rattle.lvl_cells.specs.Steps.{AreAllTargets, IsCycleFault};
+ghost use Rattle.lvl_refusal.specs.Refused.{Says};
 
 use crate::fault::CellFault;
 use crate::library::Cell;
 use crate::round::{cycle_of, round_from};
 use crate::walk::{Mark, walk_from};
+use lvl_refusal::Refusal;
 use std::alloc::Global;
 
 /// The cells, each before those that it refers to, or a round of references.
@@ -14,11 +16,11 @@ pub(crate) fn order_of(
     alloc: Global,
     cells: &[Cell],
     targets: &[Vec<usize>],
-) -> Result<Vec<usize>, CellFault>
+) -> Result<Vec<usize>, Refusal<CellFault>>
     requires linked { AreLinked cells.now }
     requires targets { AreAllTargets cells.now targets.now }
     ensures ok { IfOk result (λ order. IsOrder cells.now order.items) }
-    ensures err { IfErr result (λ fault. IsCycleFault cells.now fault) }
+    ensures err { IfErr result (λ refusal. Says refusal (IsCycleFault cells.now)) }
 {
     let count = targets.len();
     let mut marks = vec![in alloc; Mark::New; count]?;
@@ -30,7 +32,7 @@ pub(crate) fn order_of(
         };
         if let Some(start) = walk_from(targets, root, &mut marks, &mut path, &mut finished)? {
             let round = round_from(&path, start);
-            return Err(CellFault::Cycle(cycle_of(alloc, cells, round)?));
+            return Err(Refusal::Breach(CellFault::Cycle(cycle_of(alloc, cells, round)?)));
         }
     }
     finished.reverse();

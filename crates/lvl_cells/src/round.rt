@@ -4,10 +4,9 @@ ghost use Rattle.lvl_cells.specs.Faults.{IsCycle};
 ghost use Rattle.lvl_cells.specs.Soundness.{AreLinked};
 ghost use Rattle.lvl_cells.specs.Rounding.{IsFirstIn, IsFrom, IsRoundOf, visited_name};
 
-use crate::fault::CellFault;
 use crate::library::Cell;
 use crate::walk::Visit;
-use std::alloc::Global;
+use std::alloc::{AllocError, Global};
 
 /// The path from the cell `start` on.
 pub(crate) fn round_from(path: &[Visit], start: usize) -> &[Visit]
@@ -42,10 +41,9 @@ fn add_names(
     cells: &[Cell],
     visits: &[Visit],
     names: &mut Vec<Vec<u8>>,
-) -> Result<(), CellFault>
+) -> Result<(), AllocError>
     requires { All (λ v. v.cell < length cells.now) visits.now }
-    ensures ok { OnOk result (map (λ n. n.items) names.new.items ≡ map (λ n. n.items) names.old.items ++ map (visited_name cells.now) visits.now) }
-    ensures err { OnErr result (result ≡ Err CellFault.OutOfMemory) }
+    ensures { OnOk result (map (λ n. n.items) names.new.items ≡ map (λ n. n.items) names.old.items ++ map (visited_name cells.now) visits.now) }
 {
     for visit in visits {
         let cell = &cells[visit.cell];
@@ -59,11 +57,10 @@ pub(crate) fn cycle_of(
     alloc: Global,
     cells: &[Cell],
     round: &[Visit],
-) -> Result<Vec<Vec<u8>>, CellFault>
+) -> Result<Vec<Vec<u8>>, AllocError>
     requires linked { AreLinked cells.now }
     requires round { IsRoundOf cells.now round.now }
-    ensures ok { IfOk result (λ cycle. IsCycle cells.now (map (λ n. n.items) cycle.items)) }
-    ensures err { OnErr result (result ≡ Err CellFault.OutOfMemory) }
+    ensures { IfOk result (λ cycle. IsCycle cells.now (map (λ n. n.items) cycle.items)) }
 {
     let first = first_of(round);
     let mut names = Vec::with_capacity(alloc, round.len())?;

@@ -3,9 +3,11 @@ ghost use Rattle.std.specs.Prelude.{IfOk, IfErr};
 ghost use Rattle.lvl_cells.specs.Cells.{names};
 ghost use Rattle.lvl_cells.specs.Resolving.{IsIndexOf, AreTargets, IsMissingFault};
 ghost use Rattle.lvl_cells.specs.Steps.{AreAllTargets, IsFirstMissingFault};
+ghost use Rattle.lvl_refusal.specs.Refused.{Says};
 
 use crate::fault::CellFault;
 use crate::library::Cell;
+use lvl_refusal::Refusal;
 use std::alloc::Global;
 use std::collections::BTreeMap;
 
@@ -15,10 +17,10 @@ pub(crate) fn targets_of(
     cells: &[Cell],
     index: &BTreeMap<&[u8], usize>,
     cell: &Cell,
-) -> Result<Vec<usize>, CellFault>
+) -> Result<Vec<usize>, Refusal<CellFault>>
     requires { IsIndexOf (names cells.now) index.now }
     ensures ok { IfOk result (λ targets. AreTargets (names cells.now) cell.now.references targets.items) }
-    ensures err { IfErr result (λ fault. IsMissingFault (names cells.now) cell.now fault) }
+    ensures err { IfErr result (λ refusal. Says refusal (IsMissingFault (names cells.now) cell.now)) }
 {
     let mut targets = Vec::with_capacity(alloc, cell.references.len())?;
     for reference in &cell.references {
@@ -26,7 +28,7 @@ pub(crate) fn targets_of(
         let Some(target) = index.get(name) else {
             let from = Vec::from_slice(alloc, &cell.name)?;
             let missing = Vec::from_slice(alloc, name)?;
-            return Err(CellFault::MissingCell(from, missing));
+            return Err(Refusal::Breach(CellFault::MissingCell(from, missing)));
         };
         targets.push(*target)?;
     }
@@ -38,10 +40,10 @@ pub(crate) fn all_targets(
     alloc: Global,
     cells: &[Cell],
     index: &BTreeMap<&[u8], usize>,
-) -> Result<Vec<Vec<usize>>, CellFault>
+) -> Result<Vec<Vec<usize>>, Refusal<CellFault>>
     requires { IsIndexOf (names cells.now) index.now }
     ensures ok { IfOk result (λ targets. AreAllTargets cells.now targets.items) }
-    ensures err { IfErr result (λ fault. IsFirstMissingFault cells.now fault) }
+    ensures err { IfErr result (λ refusal. Says refusal (IsFirstMissingFault cells.now)) }
 {
     let mut targets = Vec::with_capacity(alloc, cells.len())?;
     for cell in cells {

@@ -1,6 +1,7 @@
 //! Libraries in a few words, and what the check says of them.
 use crate::{Cell, CellFault, Checked, Layer, Library, Offsets, Reference, Shape, check};
 use lvl_grid::{Point, Ring, Turn};
+use lvl_refusal::Refusal;
 use std::alloc::{AllocError, Global};
 use std::test::Fail;
 
@@ -103,7 +104,7 @@ fn add_names(text: &mut String, names: &[Vec<u8>]) -> Result<(), Fail> {
 }
 
 /// The top's name, or the fault and the names that it carries.
-fn text_of(alloc: Global, answer: Result<Checked, CellFault>) -> Result<String, Fail> {
+fn text_of(alloc: Global, answer: Result<Checked, Refusal<CellFault>>) -> Result<String, Fail> {
     let mut text = String::new(alloc);
     match answer {
         Ok(checked) => {
@@ -114,24 +115,24 @@ fn text_of(alloc: Global, answer: Result<Checked, CellFault>) -> Result<String, 
                 }
             }
         }
-        Err(CellFault::NoCell) => text.push_str("NoCell")?,
-        Err(CellFault::DuplicateCell(name)) => {
+        Err(Refusal::Breach(CellFault::NoCell)) => text.push_str("NoCell")?,
+        Err(Refusal::Breach(CellFault::DuplicateCell(name))) => {
             text.push_str("DuplicateCell")?;
             add_names(&mut text, &[name])?;
         }
-        Err(CellFault::MissingCell(from, name)) => {
+        Err(Refusal::Breach(CellFault::MissingCell(from, name))) => {
             text.push_str("MissingCell")?;
             add_names(&mut text, &[from, name])?;
         }
-        Err(CellFault::Cycle(names)) => {
+        Err(Refusal::Breach(CellFault::Cycle(names))) => {
             text.push_str("Cycle")?;
             add_names(&mut text, &names)?;
         }
-        Err(CellFault::TopMissing) => text.push_str("TopMissing")?,
-        Err(CellFault::ManyTops) => text.push_str("ManyTops")?,
-        Err(CellFault::TooManyPlacements) => text.push_str("TooManyPlacements")?,
-        Err(CellFault::TooManyRings) => text.push_str("TooManyRings")?,
-        Err(CellFault::OutOfMemory) => text.push_str("OutOfMemory")?,
+        Err(Refusal::Breach(CellFault::TopMissing)) => text.push_str("TopMissing")?,
+        Err(Refusal::Breach(CellFault::ManyTops)) => text.push_str("ManyTops")?,
+        Err(Refusal::Breach(CellFault::TooManyPlacements)) => text.push_str("TooManyPlacements")?,
+        Err(Refusal::Breach(CellFault::TooManyRings)) => text.push_str("TooManyRings")?,
+        Err(Refusal::OutOfMemory) => text.push_str("OutOfMemory")?,
     }
     Ok(text)
 }
@@ -247,8 +248,18 @@ fn order_and_targets(rt: HostRuntime) -> Result<(), Fail> {
 fn placements(rt: HostRuntime) -> Result<(), Fail> {
     for (name, length, times, want) in [
         ("doubling-chain", 24, 2, None),
-        ("doubling-chain", 25, 2, Some(CellFault::TooManyPlacements)),
-        ("doubling-deep", 200, 2, Some(CellFault::TooManyPlacements)),
+        (
+            "doubling-chain",
+            25,
+            2,
+            Some(Refusal::Breach(CellFault::TooManyPlacements)),
+        ),
+        (
+            "doubling-deep",
+            200,
+            2,
+            Some(Refusal::Breach(CellFault::TooManyPlacements)),
+        ),
         ("deep-chain", 65_536, 1, None),
     ] {
         let library = chain_of(rt.alloc(), length, times)?;
@@ -258,7 +269,10 @@ fn placements(rt: HostRuntime) -> Result<(), Fail> {
             "{name} {length}"
         );
     }
-    for (last, want) in [(1023, None), (1024, Some(CellFault::TooManyPlacements))] {
+    for (last, want) in [
+        (1023, None),
+        (1024, Some(Refusal::Breach(CellFault::TooManyPlacements))),
+    ] {
         let mut top = empty(rt.alloc(), b"TOP")?;
         for _ in 0..15 {
             top.references.push(placing(rt.alloc(), b"A", many()?)?)?;
@@ -278,7 +292,10 @@ fn placements(rt: HostRuntime) -> Result<(), Fail> {
 
 #[test]
 fn rings_limit(rt: HostRuntime) -> Result<(), Fail> {
-    for (more, want) in [(false, None), (true, Some(CellFault::TooManyRings))] {
+    for (more, want) in [
+        (false, None),
+        (true, Some(Refusal::Breach(CellFault::TooManyRings))),
+    ] {
         let sixteen = Offsets::lattice(RIGHT, 16, UP, 1).ok_or("shifts")?;
         let mut top = empty(rt.alloc(), b"TOP")?;
         top.references.push(placing(rt.alloc(), b"A", sixteen)?)?;

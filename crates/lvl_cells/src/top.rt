@@ -6,9 +6,11 @@ ghost use Rattle.lvl_cells.specs.Soundness.{AreLinked, IsOrder, IsTop};
 ghost use Rattle.lvl_cells.specs.Steps.{AreAllTargets, IsTopFault};
 ghost use Rattle.lvl_cells.specs.Walking.{EachTargetWithin};
 ghost use Rattle.lvl_cells.specs.Topping.{IsTarget, HasOtherRoot};
+ghost use Rattle.lvl_refusal.specs.Refused.{Says};
 
 use crate::fault::CellFault;
 use crate::library::Cell;
+use lvl_refusal::Refusal;
 use std::alloc::{AllocError, Global};
 use std::collections::BTreeMap;
 
@@ -57,24 +59,24 @@ pub(crate) fn top_of(
     targets: &[Vec<usize>],
     order: &[usize],
     given: Option<&[u8]>,
-) -> Result<usize, CellFault>
+) -> Result<usize, Refusal<CellFault>>
     requires linked { AreLinked cells.now }
     requires index { IsIndexOf (names cells.now) index.now }
     requires targets { AreAllTargets cells.now targets.now }
     requires order { IsOrder cells.now order.now }
     requires some { 0 < length cells.now }
     ensures ok { IfOk result (λ top. IsTop cells.now (option_copied given.entry) top × (top < length cells.now)) }
-    ensures err { IfErr result (λ fault. IsTopFault cells.now (option_copied given.entry) fault) }
+    ensures err { IfErr result (λ refusal. Says refusal (IsTopFault cells.now (option_copied given.entry))) }
 {
     let Some(name) = given else {
         let root = order[0];
         if has_other_root(alloc, targets, root)? {
-            return Err(CellFault::ManyTops);
+            return Err(Refusal::Breach(CellFault::ManyTops));
         }
         return Ok(root);
     };
     match index.get(name) {
         Some(place) => Ok(*place),
-        None => Err(CellFault::TopMissing),
+        None => Err(Refusal::Breach(CellFault::TopMissing)),
     }
 }

@@ -9,8 +9,9 @@
 #![tactic(auto)]
 
 use line::{Job, job_of};
-use lvl::{RunFault, Status, Tops, run, run_show};
+use lvl::Tops;
 use lvl_io::Counted;
+use lvl_report::{RunFault, Status, run, run_show};
 use std::fs::File;
 use std::io::BufWriter;
 use std::process::ExitCode;

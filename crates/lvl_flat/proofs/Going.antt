@@ -1,5 +1,5 @@
 -- The walk begins, goes into a cell, and ends.
-use Rattle.std.proofs.Common.{◌≡◌, ◌<◌, ◌++◌, ◌+◌, ◌-◌, ℕ, zero, suc, List, [], ◌∷◌, length, map, sum_by, slice_get, Option, Some, Contains, inl, inr, refl, sym, ap, subst, ◌∙◌, arith, length-append, get_or, Result, Ok, Err, OnOk}
+use Rattle.std.proofs.Common.{◌≡◌, ◌<◌, ◌++◌, ◌+◌, ◌-◌, ℕ, zero, suc, List, [], ◌∷◌, length, map, sum_by, slice_get, Option, Some, Contains, inl, inr, refl, sym, ap, subst, ◌∙◌, arith, length-append, get_or}
 use Rattle.std.specs.Option.{option_map_or}
 use Rattle.std.proofs.lemmas.List.Elements.{Contains-push_cases}
 use Rattle.lvl_grid.specs.declared.point.Point.{Point}
@@ -17,7 +17,7 @@ use Rattle.lvl_flat.specs.declared.visit.Visit.{Visit}
 use Rattle.lvl_flat.specs.Drawn.{drawn_on, AreFiguresPlaced}
 use Rattle.lvl_flat.specs.Flattened.{IsOutOfRange, IsFlatFault}
 use Rattle.lvl_flat.specs.declared.fault.FlatFault.{FlatFault}
-use Rattle.lvl_flat.specs.declared.fault.FlatFault.TheVariants.{OutOfRange, OutOfMemory}
+use Rattle.lvl_flat.specs.declared.fault.FlatFault.TheVariants.{OutOfRange}
 use Rattle.lvl_flat.specs.Sheet.{PlainSheet}
 use Rattle.lvl_flat.specs.Sheets.{rings_on}
 use Rattle.lvl_flat.specs.Visits.{Pick, picks, pending, pick_weight, visit_weight, VisitCovers, FitsUnder, PicksFit, IsVisit}
@@ -230,15 +230,9 @@ out_by_vertex s sheets front v i m rest name w into o =
       out = λ fits. o.out fits.vertices;
     }
 
--- the name of a cell that is out of range, or want of memory
+-- the name of a cell that is out of range
 pub names_out : (s : Settled) (name : List ℕ) (fault : FlatFault) → TellsName name fault → IsOutOfRange s name → IsFlatFault s fault
 names_out s name (OutOfRange told) tells out = subst (IsOutOfRange s) (sym tells) out
-names_out s name OutOfMemory tells out = tells
 
 pub entered_out : (s : Settled) (i : ℕ) (m : Map) → ((name : List ℕ) → IsCellOut s.cells i m name → IsOutOfRange s name) → (fault : FlatFault) → IsEnterFault s.cells i m fault → IsFlatFault s fault
 entered_out s i m out (OutOfRange name) h = out name.items h
-entered_out s i m out OutOfMemory h = h
-
-pub OnOk-carried : {A E : Type 0} (r : Result A E) (P Q : Type 0) → (P → Q) → OnOk r P → OnOk r Q
-OnOk-carried (Ok x) P Q f h = f h
-OnOk-carried (Err e) P Q f h = h

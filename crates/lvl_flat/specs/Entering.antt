@@ -1,10 +1,10 @@
 -- A cell that is entered: its shapes are drawn, and a visit is put on the stack.
-use Rattle.std.specs.Prelude.{◌≡◌, ◌++◌, ⊤, ℕ, List, map, slice_get, Some}
+use Rattle.std.specs.Prelude.{◌≡◌, ◌++◌, ℕ, List, map, slice_get, Some}
 use Rattle.lvl_grid.specs.declared.map.Map.{Map}
 use Rattle.lvl_cells.specs.declared.layer.Layer.{Layer}
 use Rattle.lvl_cells.specs.Cells.{PlainCell, Rings}
 use Rattle.lvl_flat.specs.declared.fault.FlatFault.{FlatFault}
-use Rattle.lvl_flat.specs.declared.fault.FlatFault.TheVariants.{OutOfRange, OutOfMemory}
+use Rattle.lvl_flat.specs.declared.fault.FlatFault.TheVariants.{OutOfRange}
 use Rattle.lvl_flat.specs.declared.visit.Visit.{Visit}
 use Rattle.lvl_flat.specs.Drawn.{drawn_on, AreFiguresPlaced, FitShapes}
 use Rattle.lvl_flat.specs.Sheet.{PlainSheet}
@@ -31,9 +31,7 @@ pub record IsCellOut (cells : List (PlainCell Rings)) (i : ℕ) (m : Map) (name 
 
 abbrev pub IsEnterFault : List (PlainCell Rings) → ℕ → Map → FlatFault → Type 0
 IsEnterFault cells i m (OutOfRange name) = IsCellOut cells i m name.items
-IsEnterFault cells i m OutOfMemory = ⊤
 
--- the fault names the cell, or there is no memory
+-- the fault names the cell
 abbrev pub TellsName : List ℕ → FlatFault → Type 0
 TellsName name (OutOfRange told) = told.items ≡ name
-TellsName name OutOfMemory = ⊤

@@ -1,5 +1,5 @@
 -- What flattening gives, and when it is refused.
-use Rattle.std.specs.Prelude.{◌≡◌, ◌↔◌, ⊤, ℕ, List, length, slice_get, Some}
+use Rattle.std.specs.Prelude.{◌≡◌, ◌↔◌, ℕ, List, length, slice_get, Some}
 use Rattle.lvl_grid.specs.declared.map.Map.{Map}
 use Rattle.lvl_grid.specs.declared.point.Square.{Square}
 use Rattle.lvl_cells.specs.declared.layer.Layer.{Layer}
@@ -8,7 +8,7 @@ use Rattle.lvl_cells.specs.Coverage.{RingsCover, CellCovers}
 use Rattle.lvl_cells.specs.Chains.{Chain, IsInRange, placed_rings_on}
 use Rattle.lvl_cells.specs.Checks.{Settled}
 use Rattle.lvl_flat.specs.declared.fault.FlatFault.{FlatFault}
-use Rattle.lvl_flat.specs.declared.fault.FlatFault.TheVariants.{OutOfRange, OutOfMemory}
+use Rattle.lvl_flat.specs.declared.fault.FlatFault.TheVariants.{OutOfRange}
 use Rattle.lvl_flat.specs.Sheet.{PlainSheet}
 use Rattle.lvl_flat.specs.Sheets.{rings_on}
 
@@ -45,4 +45,3 @@ pub record IsOutOfRange (s : Settled) (name : List ℕ) : Type 0 where
 
 abbrev pub IsFlatFault : Settled → FlatFault → Type 0
 IsFlatFault s (OutOfRange name) = IsOutOfRange s name.items
-IsFlatFault s OutOfMemory = ⊤

@@ -2,6 +2,7 @@
 ghost use Rattle.std.specs.Prelude.{◌<◌, ◌++◌, ◌∷◌, [], IfOk, IfErr, OnOk};
 ghost use Rattle.lvl_flat.specs.Flattened.{IsFlattened, IsFlatFault};
 ghost use Rattle.lvl_flat.specs.Walking.{IsWalking, work};
+ghost use Rattle.lvl_refusal.specs.Refused.{Says};
 
 use crate::enter::{draw_cell, out_of_range, push_visit};
 use crate::fault::FlatFault;
@@ -11,6 +12,7 @@ use crate::visit::Visit;
 use crate::walk::{Step, next_step};
 use lvl_cells::Checked;
 use lvl_grid::{Map, Point, Turn};
+use lvl_refusal::Refusal;
 use std::alloc::Global;
 
 /// The map that leaves all as it is.
@@ -27,20 +29,20 @@ pub(crate) fn advance(
     sheets: &mut Vec<Sheet>,
     stack: &mut Vec<Visit>,
     visit: Visit,
-) -> Result<(), FlatFault>
+) -> Result<(), Refusal<FlatFault>>
     requires { IsWalking checked.now sheets.old.items (stack.old.items ++ visit ∷ []) }
     ensures walking { OnOk result (IsWalking checked.now sheets.new.items stack.new.items) }
     ensures nearer { OnOk result (work checked.now.cells stack.new.items < work checked.now.cells (stack.old.items ++ visit ∷ [])) }
-    ensures err { IfErr result (IsFlatFault checked.now) }
+    ensures err { IfErr result (λ refusal. Says refusal (IsFlatFault checked.now)) }
 {
     let cells = checked.cells();
     match next_step(checked, &visit) {
         Step::Done => Ok(()),
-        Step::Past(rest) => push_visit(stack, rest),
+        Step::Past(rest) => Ok(push_visit(stack, rest)?),
         Step::Into(place, map, rest) => {
             push_visit(stack, rest)?;
             draw_cell(alloc, cells, sheets, place, &map)?;
-            push_visit(stack, Visit::begun(place, map))
+            Ok(push_visit(stack, Visit::begun(place, map))?)
         }
         Step::Out(place) => {
             let cell = &cells[place];
@@ -55,13 +57,11 @@ pub(crate) fn advance(
 /// all references, and are as many as it places there. Only the shifts of whole chains and the
 /// placed vertices are tested for 64 signed bits: a coordinate on the way that is outside and
 /// comes back is not refused (own rule).
-pub fn flatten(alloc: Global, checked: &Checked) -> Result<Flat, FlatFault>
+pub fn flatten(alloc: Global, checked: &Checked) -> Result<Flat, Refusal<FlatFault>>
     ensures ok { IfOk result (IsFlattened checked.now) }
-    ensures err { IfErr result (IsFlatFault checked.now) }
+    ensures err { IfErr result (λ refusal. Says refusal (IsFlatFault checked.now)) }
 {
-    let Ok(mut sheets) = sheets_of(alloc, checked.cells()) else {
-        return Err(FlatFault::OutOfMemory);
-    };
+    let mut sheets = sheets_of(alloc, checked.cells())?;
     let top = checked.top();
     draw_cell(alloc, checked.cells(), &mut sheets, top, &UNMOVED)?;
     let mut stack = Vec::new(alloc);
@@ -69,8 +69,5 @@ pub fn flatten(alloc: Global, checked: &Checked) -> Result<Flat, FlatFault>
     while let Some(visit) = stack.pop() {
         advance(alloc, checked, &mut sheets, &mut stack, visit)?;
     }
-    let Ok(flat) = Flat::filled(alloc, sheets) else {
-        return Err(FlatFault::OutOfMemory);
-    };
-    Ok(flat)
+    Ok(Flat::filled(alloc, sheets)?)
 }

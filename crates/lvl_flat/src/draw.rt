@@ -6,38 +6,32 @@ ghost use Rattle.lvl_flat.specs.Sheets.{rings_on, AreSorted, HaveSheets};
 
 use crate::flat::{Sheet, place_of};
 use lvl_cells::Shape;
-use lvl_grid::{Map, PlaceFault, Point, Ring};
-use std::alloc::Global;
+use lvl_grid::{Map, PlaceFault, Point, Ring, Rings};
 
 /// Adds the rings of a figure, each moved by the shift and placed by the map.
 fn draw_figure(
-    alloc: Global,
-    rings: &mut Vec<Ring>,
+    rings: &mut Rings,
     figure: &[Ring],
     shift: Point,
     map: &Map,
 ) -> Result<(), PlaceFault>
-    ensures drawn { OnOk result (rings.new.items ≡ rings.old.items ++ placed_figure map.now figure.now shift) }
+    ensures drawn { OnOk result (rings.new ≡ rings.old ++ placed_figure map.now figure.now shift) }
     ensures placed { OnOk result (All (IsPlaced map.now shift) figure.now) }
     ensures out { result ≡ Err PlaceFault.OutOfRange → ¬ All (FitsRing map.now shift) figure.now }
 {
     for ring in figure {
-        let placed = ring.placed(alloc, shift, map)?;
-        let Ok(()) = rings.push(placed) else {
-            return Err(PlaceFault::OutOfMemory);
-        };
+        rings.push_placed(ring.points(), shift, map)?;
     }
     Ok(())
 }
 
 /// Adds the rings of a shape at each of its shifts, placed by the map.
 pub(crate) fn draw_shape(
-    alloc: Global,
-    rings: &mut Vec<Ring>,
+    rings: &mut Rings,
     shape: &Shape,
     map: &Map,
 ) -> Result<(), PlaceFault>
-    ensures drawn { OnOk result (rings.new.items ≡ rings.old.items ++ placed_shape map.now shape.now) }
+    ensures drawn { OnOk result (rings.new ≡ rings.old ++ placed_shape map.now shape.now) }
     ensures placed { OnOk result (All (λ e. All (IsPlaced map.now e) shape.now.figure) shape.now.shifts) }
     ensures out { result ≡ Err PlaceFault.OutOfRange → ¬ All (λ e. All (FitsRing map.now e) shape.now.figure) shape.now.shifts }
 {
@@ -45,14 +39,13 @@ pub(crate) fn draw_shape(
         let Some(shift) = shape.shifts.at(k) else {
             unreachable!()
         };
-        draw_figure(alloc, rings, &shape.rings, shift, map)?;
+        draw_figure(rings, &shape.rings, shift, map)?;
     }
     Ok(())
 }
 
 /// Adds the shapes of a cell, placed by the map, each to the sheet of its Layer.
 pub(crate) fn draw_shapes(
-    alloc: Global,
     sheets: &mut Vec<Sheet>,
     shapes: &[Shape],
     map: &Map,
@@ -69,7 +62,7 @@ pub(crate) fn draw_shapes(
             unreachable!()
         };
         let sheet = &mut sheets[place];
-        draw_shape(alloc, &mut sheet.rings, shape, map)?;
+        draw_shape(&mut sheet.rings, shape, map)?;
     }
     Ok(())
 }

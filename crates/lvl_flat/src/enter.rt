@@ -3,6 +3,7 @@ ghost use Rattle.std.specs.Prelude.{◌≡◌, ◌++◌, ◌∷◌, ◌<◌, [],
 ghost use Rattle.lvl_flat.specs.Entering.{begun, IsDrawn, IsEnterFault, TellsName};
 ghost use Rattle.lvl_flat.specs.Sheets.{AreSorted};
 ghost use Rattle.lvl_flat.specs.Walking.{AllHaveSheets};
+ghost use Rattle.lvl_refusal.specs.Refused.{Says};
 
 use crate::draw::draw_shapes;
 use crate::fault::FlatFault;
@@ -10,27 +11,25 @@ use crate::flat::Sheet;
 use crate::visit::Visit;
 use lvl_cells::Cell;
 use lvl_grid::{Map, PlaceFault};
-use std::alloc::Global;
+use lvl_refusal::Refusal;
+use std::alloc::{AllocError, Global};
 
 /// That a cell of this name is out of range.
-pub(crate) fn out_of_range(alloc: Global, name: &[u8]) -> FlatFault
-    ensures { TellsName name.now result }
+pub(crate) fn out_of_range(alloc: Global, name: &[u8]) -> Refusal<FlatFault>
+    ensures { Says result (TellsName name.now) }
 {
     match Vec::from_slice(alloc, name) {
-        Ok(name) => FlatFault::OutOfRange(name),
-        Err(_) => FlatFault::OutOfMemory,
+        Ok(name) => Refusal::Breach(FlatFault::OutOfRange(name)),
+        Err(_) => Refusal::OutOfMemory,
     }
 }
 
 /// Puts a visit on the stack.
-pub(crate) fn push_visit(stack: &mut Vec<Visit>, visit: Visit) -> Result<(), FlatFault>
-    ensures pushed { OnOk result (stack.new.items ≡ stack.old.items ++ visit ∷ []) }
-    ensures err { IfErr result (λ fault. fault ≡ FlatFault.OutOfMemory) }
+pub(crate) fn push_visit(stack: &mut Vec<Visit>, visit: Visit) -> Result<(), AllocError>
+    ensures { OnOk result (stack.new.items ≡ stack.old.items ++ visit ∷ []) }
 {
-    match stack.push(visit) {
-        Ok(()) => Ok(()),
-        Err(_) => Err(FlatFault::OutOfMemory),
-    }
+    stack.push(visit)?;
+    Ok(())
 }
 
 /// Draws the shapes of the cell at the place.
@@ -40,17 +39,17 @@ pub(crate) fn draw_cell(
     sheets: &mut Vec<Sheet>,
     place: usize,
     map: &Map,
-) -> Result<(), FlatFault>
+) -> Result<(), Refusal<FlatFault>>
     requires there { place < length cells.now }
     requires sorted { AreSorted sheets.old.items }
     requires layers { AllHaveSheets sheets.old.items cells.now }
     ensures drawn { OnOk result (IsDrawn cells.now place map.now sheets.old.items sheets.new.items) }
-    ensures err { IfErr result (IsEnterFault cells.now place map.now) }
+    ensures err { IfErr result (λ refusal. Says refusal (IsEnterFault cells.now place map.now)) }
 {
     let cell = &cells[place];
-    match draw_shapes(alloc, sheets, &cell.shapes, map) {
+    match draw_shapes(sheets, &cell.shapes, map) {
         Ok(()) => Ok(()),
         Err(PlaceFault::OutOfRange) => Err(out_of_range(alloc, &cell.name)),
-        Err(PlaceFault::OutOfMemory) => Err(FlatFault::OutOfMemory),
+        Err(PlaceFault::OutOfMemory) => Err(Refusal::OutOfMemory),
     }
 }

@@ -8,7 +8,4 @@ pub enum FlatFault {
     /// whose placed vertices, is outside 64 signed bits. Which of several is open.
     #[error("a placed coordinate is outside 64 bits")]
     OutOfRange(Vec<u8>),
-    /// A growth was refused.
-    #[error("out of memory")]
-    OutOfMemory,
 }

@@ -3,7 +3,7 @@ ghost use Rattle.std.specs.Prelude.{◌≡◌, ◌≢◌, ◌↔◌, filter, len
 ghost use Rattle.lvl_flat.specs.Sheets.{rings_on, is_filled, IsInOrder, ComesBefore, AreSorted, SheetAt};
 
 use lvl_cells::Layer;
-use lvl_grid::Ring;
+use lvl_grid::Rings;
 use std::alloc::{AllocError, Global};
 use std::marker::Model;
 
@@ -11,7 +11,7 @@ use std::marker::Model;
 #[derive(Debug, Drop)]
 pub(crate) struct Sheet {
     pub layer: Layer,
-    pub rings: Vec<Ring>,
+    pub rings: Rings,
 }
 
 impl Model for Sheet {
@@ -19,25 +19,28 @@ impl Model for Sheet {
 
     ghost Value = { PlainSheet };
 
-    ghost view = { λ s. record { layer = s.layer; rings = s.rings.items } };
+    ghost view = { λ s. record { layer = s.layer; rings = s.rings } };
 }
 
 /// The placed rings of each Layer that has any, in the order of the Layers.
 #[derive(Debug, Drop)]
 pub struct Flat {
     sheets: Vec<Sheet>,
+    /// What an absent Layer has.
+    none: Rings,
 }
 
 impl Model for Flat {
     ghost use Rattle.std.specs.Prelude.{List};
     ghost use Rattle.lvl_flat.specs.Sheet.{PlainSheet};
     ghost use Rattle.lvl_flat.specs.Sheets.{IsInOrder};
+    ghost use Rattle.std.specs.Prelude.{◌≡◌, []};
 
     ghost Value = { List PlainSheet };
 
     ghost view = { λ f. f.sheets.items };
 
-    ghost invariant = { λ f. IsInOrder f.sheets.items };
+    ghost invariant = { λ f. IsInOrder f.sheets.items × (f.none ≡ []) };
 }
 
 impl Flat {
@@ -52,7 +55,10 @@ impl Flat {
                 filled.push(sheet)?;
             }
         }
-        Ok(Flat { sheets: filled })
+        Ok(Flat {
+            sheets: filled,
+            none: Rings::new(alloc),
+        })
     }
 
     /// The number of Layers that have a ring.
@@ -71,7 +77,7 @@ impl Flat {
     }
 
     /// The rings of the Layer; none where it is absent.
-    pub fn rings(&self, layer: Layer) -> &[Ring]
+    pub fn rings(&self, layer: Layer) -> &Rings
         ensures { result.now ≡ rings_on layer self.now }
     {
         match place_of(&self.sheets, layer) {
@@ -79,7 +85,7 @@ impl Flat {
                 let sheet = &self.sheets[place];
                 &sheet.rings
             }
-            None => &[],
+            None => &self.none,
         }
     }
 }

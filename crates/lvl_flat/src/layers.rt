@@ -6,6 +6,7 @@ ghost use Rattle.lvl_flat.specs.Walking.{AllHaveSheets};
 
 use crate::flat::Sheet;
 use lvl_cells::{Cell, Layer, Shape};
+use lvl_grid::Rings;
 use std::alloc::{AllocError, Global};
 
 /// Adds the Layers of the shapes, in their order.
@@ -50,7 +51,7 @@ fn empty_sheets(alloc: Global, layers: &[Layer]) -> Result<Vec<Sheet>, AllocErro
     for layer in layers {
         sheets.push(Sheet {
             layer: *layer,
-            rings: Vec::new(alloc),
+            rings: Rings::new(alloc),
         })?;
     }
     Ok(sheets)

@@ -2,6 +2,7 @@
 use crate::{Flat, FlatFault, flatten};
 use lvl_cells::{Cell, Layer, Library, Offsets, Reference, Shape, check};
 use lvl_grid::{Map, Point, Ring, Square, Turn};
+use lvl_refusal::Refusal;
 use std::alloc::Global;
 use std::test::Fail;
 
@@ -71,7 +72,7 @@ fn placed_twice(
     high: Point,
     outer: Map,
     inner: Map,
-) -> Result<Result<Vec<Point>, FlatFault>, Fail> {
+) -> Result<Result<Vec<Point>, Refusal<FlatFault>>, Fail> {
     let mut cells = Vec::new(alloc);
     cells.push(drawing(alloc, "A", METAL, low, high)?)?;
     cells.push(placing(alloc, "M", "A", inner)?)?;
@@ -81,8 +82,8 @@ fn placed_twice(
         Ok(flat) => flat,
         Err(fault) => return Ok(Err(fault)),
     };
-    let ring = flat.rings(METAL).first().ok_or("no ring")?;
-    Ok(Ok(Vec::from_slice(alloc, ring.points())?))
+    let ring = flat.rings(METAL).get(0).ok_or("no ring")?;
+    Ok(Ok(Vec::from_slice(alloc, ring)?))
 }
 
 /// The least and the greatest corner of the points.
@@ -163,7 +164,10 @@ fn placed_at_range_edge(rt: HostRuntime) -> Result<(), Fail> {
     assert_eq!(rt; corners(&points), Some((i64::MAX - 1, -1, i64::MAX, 0)));
     let half = turned(false, Turn::R180, 0, 0);
     match placed_twice(rt.alloc(), low, high, half, plain)? {
-        Err(FlatFault::OutOfRange(name)) => assert_eq!(rt; name.as_slice(), b"A".as_slice()),
+        Err(Refusal::Breach(FlatFault::OutOfRange(name))) => assert_eq!(rt;
+            name.as_slice(),
+            b"A".as_slice()
+        ),
         _ => return Err("not out of range".into()),
     }
     Ok(())
@@ -276,10 +280,10 @@ fn all_maps_of_an_l(rt: HostRuntime) -> Result<(), Fail> {
                     let inner = turned(inner_flip, inner_turn, 2, -1);
                     let outer = turned(outer_flip, outer_turn, -3, 1);
                     let flat = l_placed_twice(rt.alloc(), outer, inner)?;
-                    let ring = flat.rings(METAL).first().ok_or("no ring")?;
+                    let rings = flat.rings(METAL);
                     for y in -9..9 {
                         for x in -9..9 {
-                            let covered = ring.covers(Square { x, y });
+                            let covered = rings.covers(Square { x, y });
                             let want = is_drawn(inner, outer, x, y);
                             assert_eq!(rt; covered, want, "{inner:?} {outer:?} {x} {y}");
                         }

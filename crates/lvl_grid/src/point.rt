@@ -1,4 +1,8 @@
 //! Points, unit squares and windows.
+ghost use Rattle.std.specs.Prelude.{◌↔◌, IsTrue, SomeIff, FitsSigned, ◌+ℤ◌, pos};
+ghost use Rattle.std.specs.Int.{w64};
+ghost use Rattle.lvl_grid.specs.Squares.{IsBefore};
+ghost use Rattle.lvl_grid.specs.Turn.{FitsPoint, shifted};
 
 /// A point of the grid, in grid steps.
 #[derive(Clone, Copy, Debug, PartialEq, Eq)]
@@ -7,11 +11,39 @@ pub struct Point {
     pub y: i64,
 }
 
+impl Point {
+    /// The point that lies this far to the right and this far up, or None where a coordinate of
+    /// it is outside 64 bits.
+    pub fn offset(self, right: u64, up: u64) -> Option<Point>
+        ensures { let far = shifted (record { x = pos right; y = pos up }) self in SomeIff result (FitsPoint far) far }
+    {
+        let x = offset_by(self.x, right)?;
+        let y = offset_by(self.y, up)?;
+        Some(Point { x, y })
+    }
+}
+
+/// The sum, or None where it is outside 64 bits.
+fn offset_by(a: i64, by: u64) -> Option<i64>
+    ensures { SomeIff result (FitsSigned w64 (a +ℤ pos by)) (a +ℤ pos by) }
+{
+    i64::try_from(i128::from(a) + i128::from(by)).ok()
+}
+
 /// The unit square `x..x + 1` by `y..y + 1`, named by its lower left corner.
 #[derive(Clone, Copy, Debug, PartialEq, Eq)]
 pub struct Square {
     pub x: i64,
     pub y: i64,
+}
+
+impl Square {
+    /// Whether it comes before the other, by `y` and then by `x`.
+    pub fn is_before(self, other: Square) -> bool
+        ensures { IsTrue result ↔ IsBefore self other }
+    {
+        self.y < other.y || self.y == other.y && self.x < other.x
+    }
 }
 
 /// The squares with `x0 <= x < x1` and `y0 <= y < y1`.

@@ -4,11 +4,11 @@ ghost use Rattle.lvl_grid.specs.declared.point.Square.{Square as GridSquare};
 ghost use Rattle.lvl_grid.specs.Turn.{FitsPoint};
 ghost use Rattle.lvl_grid.specs.Placed.{placed_point, IsPlaceOfCovered};
 ghost use Rattle.lvl_grid.specs.Faults.{IsFaultOf};
-ghost use Rattle.lvl_grid.specs.Winding.{IsRing, Covers, edges, IsStraight, goes_up, goes_down};
+ghost use Rattle.lvl_grid.specs.Winding.{IsRing, Covers, edges, IsStraight, goes_up, goes_down, rectangle_between};
 
 use crate::map::Map;
 use crate::point::{Point, Square};
-use std::alloc::Global;
+use std::alloc::{AllocError, Global};
 use std::marker::Model;
 use thiserror::Error;
 
@@ -86,7 +86,7 @@ fn all_straight(points: &[Point]) -> bool
 }
 
 /// Whether the ring of these points covers the square.
-fn winds_round(points: &[Point], square: Square) -> bool
+pub(crate) fn winds_round(points: &[Point], square: Square) -> bool
     requires { 0 < length points.now }
     ensures { IsTrue result ↔ Covers points.now square }
 {
@@ -117,6 +117,22 @@ impl Ring {
         if !all_straight(&points) {
             return Err(RingFault::Oblique);
         }
+        Ok(Ring { points })
+    }
+
+    /// The rectangle between two corners: lower left, lower right, upper right, upper left.
+    pub fn rectangle(alloc: Global, low: Point, high: Point) -> Result<Ring, AllocError>
+        ensures { IfOk result (λ ring. ring ≡ rectangle_between low high) }
+    {
+        let lower_right = Point {
+            x: high.x,
+            y: low.y,
+        };
+        let upper_left = Point {
+            x: low.x,
+            y: high.y,
+        };
+        let points = vec![in alloc; low, lower_right, high, upper_left]?;
         Ok(Ring { points })
     }
 

@@ -3,6 +3,8 @@ use crate::{Map, PlaceFault, Point, Ring, RingFault, Square, Turn};
 use std::alloc::{AllocError, Global};
 use std::test::Fail;
 
+mod rings;
+
 const ORIGIN: Point = Point { x: 0, y: 0 };
 
 /// The ring of these vertices; no ring at all where they are none.

@@ -8,6 +8,8 @@
 ghost use Rattle.std.specs.Prelude.{◌≡◌};
 
 use std::alloc::{AllocError, AllocFailed};
+use std::error::Error;
+use std::fmt;
 
 /// Why something was refused.
 #[derive(Clone, Copy, Debug, Drop, PartialEq, Eq)]
@@ -37,3 +39,14 @@ impl<F, T: Drop> From<AllocFailed<T>> for Refusal<F> {
         Refusal::OutOfMemory
     }
 }
+
+impl<F: fmt::Display> fmt::Display for Refusal<F> {
+    fn fmt<W: fmt::Write>(&self, f: &mut fmt::Formatter<W>) -> fmt::Result {
+        match self {
+            Refusal::Breach(rule) => rule.fmt(f),
+            Refusal::OutOfMemory => f.write_str("out of memory"),
+        }
+    }
+}
+
+impl<F: Error> Error for Refusal<F> {}

@@ -11,7 +11,7 @@ use Rattle.lvl_region.specs.Region.{SomeCovers, IsAlone}
 use Rattle.lvl_sweep.specs.Slab.{Slab, AreIntervals, IsSlabList, slabs_cover}
 use Rattle.lvl_sweep.specs.Rows.{is_from}
 use Rattle.lvl_sweep.specs.Bands.{AreBandsOf}
-use Rattle.lvl_sweep.specs.Ahead.{IsOn, IsBefore, IsLeastAlone, IsMet, FirstIs, IsAlike, ended_by}
+use Rattle.lvl_sweep.specs.Ahead.{IsOn, IsBefore, IsLeastAlone, IsUpTo, IsMet, FirstIs, IsAlike, ended_by}
 use Rattle.lvl_sweep.proofs.Aheads.{cover_past}
 
 -- below the row the lists that were are the same, and from it on those that are left tell
@@ -86,6 +86,13 @@ sooner : (from : Option ℤ) (y z : ℤ) → is_from from y ≡ true → y ≤�
 sooner None y z h le = refl
 sooner (Some a) y z h le = grind (arith, ints)
 
+-- what both cover below the row up to which they are alike
+pub same_below : (from : Option ℤ) (us vs us' vs' : List Slab) (y : ℤ) → InStep from us vs us' vs' → IsAlike from us' vs' y → (t : Square) → t.y <ℤ y → slabs_cover us t ≡ slabs_cover vs t
+same_below from us vs us' vs' y h alike t lt = elim (cases_Bool (is_from from t.y)) [
+  | inl there ↦ h.our_rest t there ∙ (alike.same t there lt ∙ sym (h.their_rest t there))
+  | inr below ↦ h.seen t below
+]
+
 -- both go on behind the rows in which they are alike
 pub in_step_more : (from : Option ℤ) (us vs us' vs' us2 vs2 : List Slab) (y : ℤ) → us2 ≡ ended_by y us' → vs2 ≡ ended_by y vs' → InStep from us vs us' vs' → IsAlike from us' vs' y → InStep (Some y) us vs us2 vs2
 in_step_more from us vs us' vs' us2 vs2 y e f h alike = rw (e, f) (record {
@@ -93,12 +100,7 @@ in_step_more from us vs us' vs' us2 vs2 y e f h alike = rw (e, f) (record {
   theirs = list_on y vs' h.theirs;
   our_band = met_on from y us' h.ours h.our_band alike.ours;
   their_band = met_on from y vs' h.theirs h.their_band alike.theirs;
-  seen = λ t under.
-      let lt : t.y <ℤ y = grind (arith, ints) in
-      elim (cases_Bool (is_from from t.y)) [
-        | inl there ↦ h.our_rest t there ∙ (alike.same t there lt ∙ sym (h.their_rest t there))
-        | inr below ↦ h.seen t below
-      ];
+  seen = λ t under. same_below from us vs us' vs' y h alike t (grind (arith, ints));
   our_rest = λ t over.
       let le : y ≤ℤ t.y = grind (arith, ints) in
       h.our_rest t (sooner from y t.y alike.there le) ∙ rest_on y us' t le;
@@ -141,9 +143,11 @@ nothing_left from us vs us' vs' h none t = elim (cases_Bool (is_from from t.y)) 
 covers_alike : (as' bs : List (List Point)) (us vs : List Slab) → AreBandsOf as' us → AreBandsOf bs vs → (t : Square) → slabs_cover us t ≡ slabs_cover vs t → SomeCovers as' t ↔ SomeCovers bs t
 covers_alike as' bs us vs a b t e = (λ h. (b.covers t).0 (sym e ∙ (a.covers t).1 h), λ h. (a.covers t).0 (e ∙ (b.covers t).1 h))
 
-pub same_rings : {A : Type 0} (r : Option A) (as' bs : List (List Point)) (us vs : List Slab) → AreBandsOf as' us → AreBandsOf bs vs → IfNone r ((t : Square) → slabs_cover us t ≡ slabs_cover vs t) → IfNone r ((t : Square) → SomeCovers as' t ↔ SomeCovers bs t)
-same_rings None as' bs us vs a b h = λ t. covers_alike as' bs us vs a b t (h t)
-same_rings (Some x) as' bs us vs a b h = tt
+pub same_rings : {A : Type 0} (r : Option A) (last : Option ℤ) (as' bs : List (List Point)) (us vs : List Slab) → AreBandsOf as' us → AreBandsOf bs vs
+    → IfNone r ((t : Square) → IsUpTo last t.y → slabs_cover us t ≡ slabs_cover vs t)
+    → IfNone r ((t : Square) → IsUpTo last t.y → SomeCovers as' t ↔ SomeCovers bs t)
+same_rings None last as' bs us vs a b h = λ t up. covers_alike as' bs us vs a b t (h t up)
+same_rings (Some x) last as' bs us vs a b h = tt
 
 alone_by : (as' bs : List (List Point)) (us vs : List Slab) (s : Square) (side : Side) → AreBandsOf as' us → AreBandsOf bs vs → IsOn (slabs_cover us s) (slabs_cover vs s) side → IsAlone (SomeCovers as') (SomeCovers bs) s side
 alone_by as' bs us vs s First a b on = ((a.covers s).0 on.0, λ c. both_ways (slabs_cover vs s) on.1 ((b.covers s).1 c))
@@ -156,3 +160,8 @@ alone_rings (Some f) as' bs us vs a b h = alone_by as' bs us vs f.0 f.1 a b h.on
 pub least_rings : (r : Option (Square × Side)) (as' bs : List (List Point)) (us vs : List Slab) → AreBandsOf as' us → AreBandsOf bs vs → IfSome r (λ f. IsLeastAlone None us vs f.0 f.1) → IfSome r (λ f. (t : Square) → IsBefore t f.0 → SomeCovers as' t ↔ SomeCovers bs t)
 least_rings None as' bs us vs a b h = tt
 least_rings (Some f) as' bs us vs a b h = λ t before. covers_alike as' bs us vs a b t (h.least t refl before)
+
+-- where no row is the last, all rows are meant
+pub in_all_rows : {A : Type 0} (r : Option A) (P : Square → Type 0) → IfNone r ((t : Square) → IsUpTo None t.y → P t) → IfNone r ((t : Square) → P t)
+in_all_rows None P h = λ t. h t tt
+in_all_rows (Some x) P h = tt

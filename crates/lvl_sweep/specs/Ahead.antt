@@ -2,6 +2,7 @@
 use Rattle.std.specs.Prelude.{◌≡◌, ◌≢◌, Bool, true, false, List, [], ◌∷◌, ℤ, ◌<ℤ◌, ◌≤ℤ◌, int_le, int_lt, Option, None, Some, cond, ◌⊎◌, pos}
 use Rattle.std.specs.List.{list_any}
 use Rattle.lvl_grid.specs.declared.point.Square.{Square}
+pub use Rattle.lvl_grid.specs.Squares.{IsBefore}
 use Rattle.lvl_region.specs.declared.region.Side.{Side}
 use Rattle.lvl_region.specs.declared.region.Side.TheVariants.{First, Second}
 use Rattle.lvl_sweep.specs.declared.rows.Ahead.{Ahead}
@@ -19,9 +20,10 @@ pub record IsLeastIn (is js : List (ℤ × ℤ)) (x : ℤ) (side : Side) : Type 
   pub on : IsOn (list_any (spans x) is) (list_any (spans x) js) side
   pub least : (z : ℤ) → z <ℤ x → list_any (spans z) is ≡ list_any (spans z) js
 
--- by y, then by x
-abbrev pub IsBefore : Square → Square → Type 0
-IsBefore t s = (t.y <ℤ s.y) ⊎ ((t.y ≡ s.y) × (t.x <ℤ s.x))
+-- the row is not above the last one, if there is one
+abbrev pub IsUpTo : Option ℤ → ℤ → Type 0
+IsUpTo None y = Unit {0}
+IsUpTo (Some last) y = y ≤ℤ last
 
 -- the square is the least, of those from a row on, that one of the two lists alone covers
 pub record IsLeastAlone (from : Option ℤ) (us vs : List Slab) (s : Square) (side : Side) : Type 0 where

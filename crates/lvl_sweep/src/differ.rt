@@ -1,15 +1,17 @@
 //! Two lists of bands walked in step, up to the least square that one of them alone covers.
-ghost use Rattle.std.specs.Prelude.{◌≡◌, ◌↔◌, ◌∷◌, [], List, true, false, drop, Option, None, ℤ, IfOk, IfSome, IfNone};
+ghost use Rattle.std.specs.Prelude.{◌≡◌, ◌↔◌, ◌∷◌, [], List, true, false, drop, Option, None, ℤ, ◌<ℤ◌, IsTrue, IfOk, IfSome, IfNone};
 ghost use Rattle.lvl_grid.specs.declared.point.Square.{Square as GridSquare};
-ghost use Rattle.lvl_region.specs.Region.{SomeCovers, IsAlone};
+ghost use Rattle.lvl_grid.specs.Squares.{IsBefore};
+ghost use Rattle.lvl_grid.specs.Winding.{SomeCovers};
+ghost use Rattle.lvl_region.specs.Region.{IsAlone};
 ghost use Rattle.lvl_sweep.specs.Slab.{Slab, IsSlabList, slabs_cover};
 ghost use Rattle.lvl_sweep.specs.Bands.{slab_of};
-ghost use Rattle.lvl_sweep.specs.Ahead.{IsLeastAlone, IsMet, FirstIs, IsTold, IsBefore, ended_by};
+ghost use Rattle.lvl_sweep.specs.Ahead.{IsLeastAlone, IsMet, FirstIs, IsTold, IsUpTo, ended_by};
 
 use crate::band::Band;
 use crate::rows::{Ahead, both, least_square};
 use crate::sweep::Sweep;
-use lvl_grid::{Ring, Square};
+use lvl_grid::{Ring, RingList, Square};
 use lvl_region::Side;
 use std::alloc::{AllocError, Global};
 
@@ -76,12 +78,27 @@ fn drop_below<B: Bands>(bands: &mut B, y: i64)
     }
 }
 
-/// The least square that one of two sides alone covers.
-pub(crate) fn walk_in_step<B: Bands>(first: &mut B, second: &mut B) -> Option<(Square, Side)>
+/// Whether the rows up to the last one, if there is one, are all below row `y`.
+fn is_past(last: Option<i64>, y: i64) -> bool
+    ensures { IsTrue result → (z : ℤ) → IsUpTo last z → z <ℤ y }
+{
+    match last {
+        Some(row) => row < y,
+        None => false,
+    }
+}
+
+/// The least square that one of two sides alone covers, or None where they cover the same in the
+/// rows up to `last`.
+pub(crate) fn walk_in_step<B: Bands>(
+    first: &mut B,
+    second: &mut B,
+    last: Option<i64>,
+) -> Option<(Square, Side)>
     requires ours { IsSlabList (B.left first.old) }
     requires theirs { IsSlabList (B.left second.old) }
     ensures same { IfNone result
-        ((s : GridSquare) → slabs_cover (B.left first.old) s ≡ slabs_cover (B.left second.old) s) }
+        ((s : GridSquare) → IsUpTo last s.y → slabs_cover (B.left first.old) s ≡ slabs_cover (B.left second.old) s) }
     ensures differ { IfSome result
         (λ found. IsLeastAlone None (B.left first.old) (B.left second.old) found.0 found.1) }
 {
@@ -91,6 +108,9 @@ pub(crate) fn walk_in_step<B: Bands>(first: &mut B, second: &mut B) -> Option<(S
             Ahead::Differ(square, side) => return Some((square, side)),
             Ahead::Nothing => return None,
             Ahead::Alike(y) => {
+                if is_past(last, y) {
+                    return None;
+                }
                 from = Some(y);
                 drop_below(first, y);
                 drop_below(second, y);
@@ -100,7 +120,7 @@ pub(crate) fn walk_in_step<B: Bands>(first: &mut B, second: &mut B) -> Option<(S
 }
 
 /// The least square, by y and then x, that the rings of one list alone cover, with its side, or
-/// None where both lists cover the same squares. Refused only for want of memory.
+/// None where both lists cover the same squares. Fails only when out of memory.
 pub fn first_difference_of(
     alloc: Global,
     first: &[Ring],
@@ -114,7 +134,33 @@ pub fn first_difference_of(
         (λ found. IfSome found
         (λ at. (s : GridSquare) → IsBefore s at.0 → SomeCovers first.now s ↔ SomeCovers second.now s)) }
 {
+    first_difference_up_to(alloc, &first, &second, None)
+}
+
+/// The least square, by y and then x, that the rings of one list alone cover, with its side, or
+/// None where both lists cover the same squares in the rows up to `last`, in all rows where there
+/// is no last one. Fails only when out of memory.
+pub fn first_difference_up_to<R: RingList>(
+    alloc: Global,
+    first: &R,
+    second: &R,
+    last: Option<i64>,
+) -> Result<Option<(Square, Side)>, AllocError>
+    ensures same { IfOk result
+        (λ found. IfNone found
+        ((s : GridSquare)
+        → IsUpTo last s.y
+        → SomeCovers (R.rings first.now) s ↔ SomeCovers (R.rings second.now) s)) }
+    ensures differ { IfOk result
+        (λ found. IfSome found
+        (λ at. IsAlone (SomeCovers (R.rings first.now)) (SomeCovers (R.rings second.now)) at.0 at.1)) }
+    ensures least { IfOk result
+        (λ found. IfSome found
+        (λ at. (s : GridSquare)
+        → IsBefore s at.0
+        → SomeCovers (R.rings first.now) s ↔ SomeCovers (R.rings second.now) s)) }
+{
     let mut a = Sweep::new(alloc, first)?;
     let mut b = Sweep::new(alloc, second)?;
-    Ok(walk_in_step(&mut a, &mut b))
+    Ok(walk_in_step(&mut a, &mut b, last))
 }

@@ -4,7 +4,7 @@ ghost use Rattle.lvl_grid.specs.declared.point.Square.{Square as GridSquare};
 ghost use Rattle.lvl_grid.specs.Winding.{goes_up, goes_down, edges as steps_round};
 ghost use Rattle.lvl_sweep.specs.Alive.{edge_is, rises, falls, AreEdgesOf, AreInOrder};
 
-use lvl_grid::{Point, Ring};
+use lvl_grid::{Point, RingList};
 use std::alloc::{AllocError, Global};
 
 /// A vertical edge of a ring: the rows that it crosses, its abscissa, and whether it goes up.
@@ -74,13 +74,13 @@ fn push_edges(edges: &mut Vec<Edge>, ring: usize, points: &[Point]) -> Result<()
 }
 
 /// The vertical edges of all rings, by the ordinate at which they begin, then by abscissa.
-pub(crate) fn edges_of(alloc: Global, rings: &[Ring]) -> Result<Vec<Edge>, AllocError>
-    ensures edges { IfOk result (λ edges. AreEdgesOf rings.now edges.items) }
+pub(crate) fn edges_of<R: RingList>(alloc: Global, rings: &R) -> Result<Vec<Edge>, AllocError>
+    ensures edges { IfOk result (λ edges. AreEdgesOf (R.rings rings.now) edges.items) }
     ensures order { IfOk result (λ edges. AreInOrder edges.items) }
 {
     let mut edges = Vec::new(alloc);
-    for (number, ring) in rings.iter().enumerate() {
-        push_edges(&mut edges, number, ring.points())?;
+    for number in 0..rings.len() {
+        push_edges(&mut edges, number, rings.ring(number))?;
     }
     edges.sort_unstable_by_key(|edge| (edge.low, edge.x));
     Ok(edges)

@@ -6,7 +6,7 @@
 #![tactic(auto)]
 
 pub use band::Band;
-pub use differ::first_difference_of;
+pub use differ::{first_difference_of, first_difference_up_to};
 pub use slab_region::SlabRegion;
 pub use sweep::Sweep;
 

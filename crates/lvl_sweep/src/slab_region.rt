@@ -131,7 +131,7 @@ impl Region for SlabRegion {
         ensures few_bands { IfOk result (λ region. AreFewerThanLines rings.now region) }
         ensures few_intervals { IfOk result (λ region. HaveFewIntervals rings.now region) }
     {
-        let bands = collected(alloc, Sweep::new(alloc, rings)?)?;
+        let bands = collected(alloc, Sweep::new(alloc, &rings)?)?;
         Ok(SlabRegion { bands })
     }
 
@@ -156,6 +156,6 @@ impl Region for SlabRegion {
         let mut theirs = Listed {
             bands: &other.bands,
         };
-        walk_in_step(&mut ours, &mut theirs)
+        walk_in_step(&mut ours, &mut theirs, None)
     }
 }

@@ -11,7 +11,7 @@ use crate::edge::{Edge, edges_of};
 use crate::merge::merge;
 use crate::walk::{collect_row, is_row};
 use crate::windings::Windings;
-use lvl_grid::Ring;
+use lvl_grid::RingList;
 use std::alloc::{AllocError, Global};
 use std::mem;
 
@@ -78,9 +78,9 @@ impl Strips {
     ghost use Rattle.lvl_sweep.specs.Strips.{IsAt, CanLoad, IsTop, IsOver};
 
     /// The lowest strip.
-    pub(crate) fn new(alloc: Global, rings: &[Ring]) -> Result<Strips, AllocError>
+    pub(crate) fn new<R: RingList>(alloc: Global, rings: &R) -> Result<Strips, AllocError>
         ensures at { IfOk result (λ s. IsAt s) }
-        ensures edges { IfOk result (λ s. AreEdgesOf rings.now s.edges.items) }
+        ensures edges { IfOk result (λ s. AreEdgesOf (R.rings rings.now) s.edges.items) }
         ensures lowest { IfOk result (λ s. (v : ℤ) → v <ℤ s.y → row_at s.edges.items v ≡ []) }
     {
         let edges = edges_of(alloc, rings)?;

@@ -8,7 +8,7 @@ ghost use Rattle.lvl_sweep.specs.Sweeps.{IsHeld};
 
 use crate::band::Band;
 use crate::strips::Strips;
-use lvl_grid::Ring;
+use lvl_grid::RingList;
 use std::alloc::{AllocError, Global};
 use std::marker::Model;
 
@@ -106,10 +106,10 @@ fn settle(strips: &mut Strips, band: &mut Band) -> bool
 impl Sweep {
     /// The bands of what some ring covers: the one slab list of it. Refused only for want of memory,
     /// all of which it takes here.
-    pub fn new(alloc: Global, rings: &[Ring]) -> Result<Sweep, AllocError>
-        ensures bands { IfOk result (λ sweep. AreBandsOf rings.now sweep) }
-        ensures few_bands { IfOk result (λ sweep. AreFewerThanLines rings.now sweep) }
-        ensures few_intervals { IfOk result (λ sweep. HaveFewIntervals rings.now sweep) }
+    pub fn new<R: RingList>(alloc: Global, rings: &R) -> Result<Sweep, AllocError>
+        ensures bands { IfOk result (λ sweep. AreBandsOf (R.rings rings.now) sweep) }
+        ensures few_bands { IfOk result (λ sweep. AreFewerThanLines (R.rings rings.now) sweep) }
+        ensures few_intervals { IfOk result (λ sweep. HaveFewIntervals (R.rings rings.now) sweep) }
     {
         let mut strips = Strips::new(alloc, rings)?;
         let intervals = Vec::with_capacity(alloc, strips.edges.len() / 2)?;

@@ -2,7 +2,7 @@
 ghost use Rattle.std.specs.Prelude.{◌<◌, ◌^◌, pos, ◌<ℤ◌, ◌≤ℤ◌};
 
 use super::*;
-use lvl_grid::{Point, Ring, Square};
+use lvl_grid::{Point, Ring, Rings, Square};
 use lvl_region::{GridRegion, Region, Side, difference};
 use std::alloc::Global;
 use std::test::Fail;
@@ -51,7 +51,7 @@ fn is_written(band: &Band, written: &Written) -> bool {
 
 /// Whether a sweep of the rings gives these bands one at a time, and then none.
 fn sweeps(alloc: Global, outlines: &[Outline], bands: &[Written]) -> Result<bool, Fail> {
-    let mut sweep = Sweep::new(alloc, &rings(alloc, outlines)?)?;
+    let mut sweep = Sweep::new(alloc, &Rings::from_slice(alloc, &rings(alloc, outlines)?)?)?;
     for written in bands {
         match sweep.band() {
             Some(band) if is_written(band, written) => {}

@@ -14,9 +14,9 @@ returns-in_err-theirs-clause-answer g c xs ys known_first known_second =
     let r : Refusal = c.in_err-theirs.field-0.0 in
     let p = err_from_is_err_and c.from_residual-in_err-theirs.result c.from_residual-in_err-theirs.ensures.1 in
     rw (p.1, p.2) (answered_refused a b r
-    (first_of_second a r c.in_err-theirs.ensures.proper)
+    (first_of_second a r c.in_err-theirs.ensures.own)
     (file_refused Second b r (c.in_err-theirs.ensures.refused ys known_second))
-    (second_reached a b _ _ r read c.in_err-theirs.ensures.proper))
+    (second_reached a b _ _ r read c.in_err-theirs.ensures.own))
 
 pub returns-in_err-verdict-clause-answer : goal.returns-in_err-verdict-clause-answer
 returns-in_err-verdict-clause-answer g c xs ys known_first known_second =

@@ -4,7 +4,7 @@ use Rattle.lvl_grid.specs.declared.point.Square.{Square}
 use Rattle.lvl_cells.specs.Cells.{Rings}
 use Rattle.lvl_region.specs.declared.region.Side.{Side}
 use Rattle.lvl_region.specs.Region.{SomeCovers, IsAlone}
-use Rattle.lvl_sweep.specs.Ahead.{IsBefore}
+use Rattle.lvl_grid.specs.Squares.{IsBefore}
 use Rattle.lvl_flat.specs.Sheets.{rings_on}
 use Rattle.lvl.specs.Sheets.{AlikeOn, IsLesser, head_layer}
 use Rattle.lvl.proofs.Behind.{sorted_drop, walked_none, walked_more, walked_all, walked_before, walked_less, lesser_heads}

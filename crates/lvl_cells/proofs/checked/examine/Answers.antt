@@ -1,5 +1,7 @@
 use Rattle.std.specs.Option.{option_copied}
 use Rattle.std.proofs.lemmas.Result.{err_from_is_err_and}
+use Rattle.lvl_refusal.proofs.Saying.{Says-map}
+use Rattle.lvl_cells.specs.Steps.{IsCycleFault, IsTopFault}
 use Rattle.lvl_cells.proofs.Examining.{linked_by, ranked_by, cycle_fault, top_fault, too_many_chains, too_many_rings, settled_by}
 use Rattle.lvl_cells.proofs.checked.examine.Goals as goal
 
@@ -19,14 +21,14 @@ pub returns-in_err-order-clause-err : goal.returns-in_err-order-clause-err
 returns-in_err-order-clause-err c =
     let linked = linked_by c.args.cells.now c.in_ok-targets.targets.items c.in_ok-index.ensures.distinct c.in_ok-targets.ensures.ok in
     let p = err_from_is_err_and c.from_residual-in_err-order.result c.from_residual-in_err-order.ensures.1 in
-    rw (p.1, p.2) (cycle_fault c.args.cells.now (option_copied c.args.given) _ linked c.in_err-order.ensures.err)
+    rw (p.1, p.2) (Says-map (IsCycleFault c.args.cells.now) _ _ (λ f h. cycle_fault c.args.cells.now (option_copied c.args.given) f linked h) c.in_err-order.ensures.err)
 
 pub returns-in_err-top-clause-err : goal.returns-in_err-top-clause-err
 returns-in_err-top-clause-err c =
     let linked = linked_by c.args.cells.now c.in_ok-targets.targets.items c.in_ok-index.ensures.distinct c.in_ok-targets.ensures.ok in
     let ranked = ranked_by c.args.cells.now c.in_ok-order.order.items linked c.in_ok-order.ensures.ok in
     let p = err_from_is_err_and c.from_residual-in_err-top.result c.from_residual-in_err-top.ensures.1 in
-    rw (p.1, p.2) (top_fault c.args.cells.now (option_copied c.args.given) _ c.requires linked ranked c.in_err-top.ensures.err)
+    rw (p.1, p.2) (Says-map (IsTopFault c.args.cells.now (option_copied c.args.given)) _ _ (λ f h. top_fault c.args.cells.now (option_copied c.args.given) f c.requires linked ranked h) c.in_err-top.ensures.err)
 
 pub returns-then-chains-gt-MOST_PLACED-clause-err : goal.returns-then-chains-gt-MOST_PLACED-clause-err
 returns-then-chains-gt-MOST_PLACED-clause-err c =

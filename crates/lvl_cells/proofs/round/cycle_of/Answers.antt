@@ -7,8 +7,8 @@ use Rattle.lvl_cells.proofs.NamedTargets.{take_past}
 use Rattle.lvl_cells.proofs.Rounds.{cycle_by}
 use Rattle.lvl_cells.proofs.round.cycle_of.Goals as goal
 
-pub returns-clause-ok : goal.returns-clause-ok
-returns-clause-ok c =
+pub returns : goal.returns
+returns c =
     let cells = c.args.cells.now in
     let round : List Visit = c.args.round.now in
     let first = c.first_of-first.result in
@@ -16,5 +16,5 @@ returns-clause-ok c =
     let front : List (List ℕ) = map (visited_name cells) (drop first round) in
     let back : List (List ℕ) = map (visited_name cells) (take first round) in
     let rest : take (length round - first) (drop first round) ≡ drop first round = take_past (drop first round) (length round - first) (omega (arith, length-drop first round)) in
-    let some : map bytes c.add_names.new.names.items ≡ map bytes [] ++ front = c.in_ok-add_names.ensures.ok ∙ rw (rest, c.in_ok-names.ensures.items) refl in
-    cycle_by cells round first (map bytes c.add_names-2.new.names.items) c.requires.linked c.requires.round c.first_of-first.ensures (c.in_ok-add_names-2.ensures.ok ∙ ap (λ (l : List (List ℕ)). l ++ back) some)
+    let some : map bytes c.add_names.new.names.items ≡ map bytes [] ++ front = c.in_ok-add_names.ensures ∙ rw (rest, c.in_ok-names.ensures.items) refl in
+    cycle_by cells round first (map bytes c.add_names-2.new.names.items) c.requires.linked c.requires.round c.first_of-first.ensures (c.in_ok-add_names-2.ensures ∙ ap (λ (l : List (List ℕ)). l ++ back) some)

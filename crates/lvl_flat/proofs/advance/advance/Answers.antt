@@ -8,7 +8,9 @@ use Rattle.lvl_flat.specs.Entering.{IsDrawn, TellsName, IsEnterFault}
 use Rattle.lvl_flat.specs.Steps.{IsInto, IsOut}
 use Rattle.lvl_flat.specs.Walking.{AllHaveSheets, IsWalking, work}
 use Rattle.lvl_flat.proofs.Walking.{walk_done, walk_past, in_last}
-use Rattle.lvl_flat.proofs.Going.{walk_into, less_into, out_by_shift, out_by_vertex, names_out, entered_out, OnOk-carried}
+use Rattle.lvl_flat.proofs.Going.{walk_into, less_into, out_by_shift, out_by_vertex, names_out, entered_out}
+use Rattle.lvl_refusal.specs.Refused.{Says}
+use Rattle.lvl_refusal.proofs.Saying.{Says-map}
 use Rattle.lvl_flat.proofs.advance.advance.Goals as goal
 
 pub next_step-requires : goal.next_step-requires
@@ -42,42 +44,39 @@ offset_bounds-cells-place c =
 pub returns-in-Done-clause-walking : goal.returns-in-Done-clause-walking
 returns-in-Done-clause-walking c = walk_done c.args.checked.now c.args.sheets.now.items c.args.stack.now.items c.args.visit c.requires c.in-Done.ensures
 
-pub returns-in-Past-clause-walking : goal.returns-in-Past-clause-walking
-returns-in-Past-clause-walking c =
+pub returns-in_ok-push_visit-in-Past-clause-walking : goal.returns-in_ok-push_visit-in-Past-clause-walking
+returns-in_ok-push_visit-in-Past-clause-walking c =
     let next = walk_past c.args.checked.now c.args.sheets.now.items c.args.stack.now.items c.args.visit c.in-Past.rest c.requires c.in-Past.ensures in
-    OnOk-carried c.push_visit.result _ _ (λ pushed. subst (IsWalking c.args.checked.now c.args.sheets.now.items) (sym pushed) next) c.push_visit.ensures.pushed
+    subst (IsWalking c.args.checked.now c.args.sheets.now.items) (sym c.in_ok-push_visit-in-Past.ensures) next
 
 pub returns-in_err-draw_cell-in-Into-clause-err : goal.returns-in_err-draw_cell-in-Into-clause-err
 returns-in_err-draw_cell-in-Into-clause-err c =
     let s : Settled = c.args.checked.now in
     let into : IsInto s.cells c.args.visit c.in-Into.place c.in-Into.map c.in-Into.rest = c.in-Into.ensures in
-    let told : IsEnterFault s.cells c.in-Into.place c.in-Into.map c.in_err-draw_cell-in-Into.field-0.0 = subst (λ cs. IsEnterFault cs c.in-Into.place c.in-Into.map c.in_err-draw_cell-in-Into.field-0.0) c.cells-cells.ensures.value c.in_err-draw_cell-in-Into.ensures.err in
+    let told : Says c.in_err-draw_cell-in-Into.field-0.0 (IsEnterFault s.cells c.in-Into.place c.in-Into.map) = subst (λ cs. Says c.in_err-draw_cell-in-Into.field-0.0 (IsEnterFault cs c.in-Into.place c.in-Into.map)) c.cells-cells.ensures.value c.in_err-draw_cell-in-Into.ensures.err in
     let p = err_from_is_err_and c.from_residual-in_err-draw_cell-in-Into.result c.from_residual-in_err-draw_cell-in-Into.ensures.1 in
-    rw (p.1, p.2) (entered_out s c.in-Into.place c.in-Into.map (λ name out. out_by_vertex s c.args.sheets.now.items c.args.stack.now.items c.args.visit c.in-Into.place c.in-Into.map c.in-Into.rest name c.requires into out) c.in_err-draw_cell-in-Into.field-0.0 told)
+    rw (p.1, p.2) (Says-map (IsEnterFault s.cells c.in-Into.place c.in-Into.map) _ c.in_err-draw_cell-in-Into.field-0.0 (entered_out s c.in-Into.place c.in-Into.map (λ name out. out_by_vertex s c.args.sheets.now.items c.args.stack.now.items c.args.visit c.in-Into.place c.in-Into.map c.in-Into.rest name c.requires into out)) told)
 
-pub returns-in_ok-draw_cell-in-Into-clause-walking : goal.returns-in_ok-draw_cell-in-Into-clause-walking
-returns-in_ok-draw_cell-in-Into-clause-walking c =
+pub returns-in_ok-push_visit-in-Into-2-clause-walking : goal.returns-in_ok-push_visit-in-Into-2-clause-walking
+returns-in_ok-push_visit-in-Into-2-clause-walking c =
     let s : Settled = c.args.checked.now in
     let front : List Visit = c.args.stack.now.items in
     let into : IsInto s.cells c.args.visit c.in-Into.place c.in-Into.map c.in-Into.rest = c.in-Into.ensures in
     let drawn : IsDrawn s.cells c.in-Into.place c.in-Into.map c.args.sheets.now.items c.draw_cell.new.sheets.items = subst (λ cs. IsDrawn cs c.in-Into.place c.in-Into.map c.args.sheets.now.items c.draw_cell.new.sheets.items) c.cells-cells.ensures.value c.in_ok-draw_cell-in-Into.ensures.drawn in
     let sound = c.cells-cells.ensures.checked.1 in
     let next = walk_into s c.args.sheets.now.items c.draw_cell.new.sheets.items front c.args.visit c.in-Into.place c.in-Into.map c.in-Into.rest sound.sound.linked sound.sorted c.requires into drawn in
-    let first : c.push_visit-in-Into.new.stack.items ≡ front ++ c.in-Into.rest ∷ [] = c.in_ok-push_visit-in-Into.ensures.pushed in
-    OnOk-carried c.push_visit-in-Into-2.result _ _
-    (λ pushed. subst (IsWalking s c.draw_cell.new.sheets.items) (sym (pushed ∙ (ap (λ xs. xs ++ c.begun.result ∷ []) first ∙ ap (λ v. (front ++ c.in-Into.rest ∷ []) ++ v ∷ []) c.begun.ensures))) next) c.push_visit-in-Into-2.ensures.pushed
+    let first : c.push_visit-in-Into.new.stack.items ≡ front ++ c.in-Into.rest ∷ [] = c.in_ok-push_visit-in-Into.ensures in
+    subst (IsWalking s c.draw_cell.new.sheets.items) (sym (c.in_ok-push_visit-in-Into-2.ensures ∙ (ap (λ xs. xs ++ c.begun.result ∷ []) first ∙ ap (λ v. (front ++ c.in-Into.rest ∷ []) ++ v ∷ []) c.begun.ensures))) next
 
-pub returns-in_ok-draw_cell-in-Into-clause-nearer : goal.returns-in_ok-draw_cell-in-Into-clause-nearer
-returns-in_ok-draw_cell-in-Into-clause-nearer c =
+pub returns-in_ok-push_visit-in-Into-2-clause-nearer : goal.returns-in_ok-push_visit-in-Into-2-clause-nearer
+returns-in_ok-push_visit-in-Into-2-clause-nearer c =
     let s : Settled = c.args.checked.now in
     let front : List Visit = c.args.stack.now.items in
     let into : IsInto s.cells c.args.visit c.in-Into.place c.in-Into.map c.in-Into.rest = c.in-Into.ensures in
     let sound = c.cells-cells.ensures.checked.1 in
     let less = less_into s front c.args.visit c.in-Into.place c.in-Into.map c.in-Into.rest sound.sound.linked sound.sorted into in
-    let first : c.push_visit-in-Into.new.stack.items ≡ front ++ c.in-Into.rest ∷ [] = c.in_ok-push_visit-in-Into.ensures.pushed in
-    OnOk-carried c.push_visit-in-Into-2.result _ _
-    (λ pushed.
-    subst (λ xs. work s.cells xs < work s.cells (front ++ c.args.visit ∷ [])) (sym (pushed ∙ (ap (λ xs. xs ++ c.begun.result ∷ []) first ∙ ap (λ v. (front ++ c.in-Into.rest ∷ []) ++ v ∷ []) c.begun.ensures))) less) c.push_visit-in-Into-2.ensures.pushed
+    let first : c.push_visit-in-Into.new.stack.items ≡ front ++ c.in-Into.rest ∷ [] = c.in_ok-push_visit-in-Into.ensures in
+    subst (λ xs. work s.cells xs < work s.cells (front ++ c.args.visit ∷ [])) (sym (c.in_ok-push_visit-in-Into-2.ensures ∙ (ap (λ xs. xs ++ c.begun.result ∷ []) first ∙ ap (λ v. (front ++ c.in-Into.rest ∷ []) ++ v ∷ []) c.begun.ensures))) less
 
 pub returns-in-Out-clause-err : goal.returns-in-Out-clause-err
 returns-in-Out-clause-err c =
@@ -89,4 +88,4 @@ returns-in-Out-clause-err c =
     let both : Some cell ≡ Some out.next = sym (subst (λ cs. slice_get cs c.in-Out.place ≡ Some cell) c.cells-cells.ensures.value listed) ∙ out.there in
     let one : cell ≡ out.next = cc in
     let name : c.deref.result.now ≡ out.next.name = c.deref.ensures.value ∙ ap (λ (b : PlainCell Rings). b.name) (c.cell.view_is ∙ one) in
-    names_out s out.next.name c.out_of_range.result (subst (λ n. TellsName n c.out_of_range.result) name c.out_of_range.ensures) (out_by_shift s c.args.sheets.now.items c.args.stack.now.items c.args.visit c.in-Out.place c.requires out)
+    Says-map (TellsName out.next.name) _ c.out_of_range.result (λ f tells. names_out s out.next.name f tells (out_by_shift s c.args.sheets.now.items c.args.stack.now.items c.args.visit c.in-Out.place c.requires out)) (subst (λ n. Says c.out_of_range.result (TellsName n)) name c.out_of_range.ensures)

@@ -14,15 +14,16 @@ loop-ring-preserved c =
     let i : ℕ = c.loop-ring.ring-index in
     let ring : List Point = c.ring-item.result in
     let there : i < length xs = c.loop-ring-test.true in
-    let one : c.in_ok-placed.placed ≡ f (get_or xs i ring) = c.in_ok-placed.ensures.points ∙ ap f c.ring-item.is in
+    let points : c.points.result.now ≡ ring = c.points.ensures.all in
+    let one : f c.points.result.now ≡ f (get_or xs i ring) = ap f (points ∙ c.ring-item.is) in
     record {
       drawn =
-          c.in-Ok.ensures.items
-          ∙ (ap (λ rings. rings ++ c.in_ok-placed.placed ∷ []) c.loop-ring.invariant.drawn
-          ∙ (append_assoc c.args.rings.now.items (map f (take i xs)) (c.in_ok-placed.placed ∷ [])
-          ∙ ap (λ rings. c.args.rings.now.items ++ rings) (ap (λ p. map f (take i xs) ++ p ∷ []) one ∙ sym (map_more f xs i ring there))));
+          c.in_ok-push_placed.ensures.ok
+          ∙ (ap (λ rings. rings ++ f c.points.result.now ∷ []) c.loop-ring.invariant.drawn
+          ∙ (append_assoc c.args.rings.now (map f (take i xs)) (f c.points.result.now ∷ [])
+          ∙ ap (λ rings. c.args.rings.now ++ rings) (ap (λ p. map f (take i xs) ++ p ∷ []) one ∙ sym (map_more f xs i ring there))));
       placed = All-more (IsPlaced c.args.map.now c.args.shift) xs i ring there c.loop-ring.invariant.placed
-          (subst (IsPlaced c.args.map.now c.args.shift) c.ring-item.is (record { fits = c.in_ok-placed.ensures.in_range; covers = λ t. subst (λ (ps : List Point). Covers ps t ↔ IsPlaceOfCovered c.args.map.now c.args.shift ring t) c.in_ok-placed.ensures.points (c.in_ok-placed.ensures.covers t) }));
+          (subst (IsPlaced c.args.map.now c.args.shift) (points ∙ c.ring-item.is) (record { fits = c.in_ok-push_placed.ensures.in_range; covers = c.in_ok-push_placed.ensures.covers }));
     }
 
 pub returns-clause-placed : goal.returns-clause-placed

@@ -12,7 +12,7 @@ pub loop-k-preserved : goal.loop-k-preserved
 loop-k-preserved c =
     let shifts : List Point = c.args.shape.now.shifts in
     let figure : List (List Point) = c.args.shape.now.figure in
-    let old : List (List Point) = c.args.rings.now.items in
+    let old : List (List Point) = c.args.rings.now in
     let f = placed_figure c.args.map.now figure in
     let k : ℕ = c.loop-k.k in
     let e : Point = c.in-Some.shift in
@@ -24,7 +24,7 @@ loop-k-preserved c =
     record {
       drawn =
           c.in_ok-draw_figure.ensures.drawn
-          ∙ (ap (λ xs. c.loop-k.rings.items ++ placed_figure c.args.map.now xs e) rings
+          ∙ (ap (λ xs. c.loop-k.rings ++ placed_figure c.args.map.now xs e) rings
           ∙ (ap (λ xs. xs ++ f e) c.loop-k.invariant.drawn ∙ (flat_map_more f old (take k shifts) e ∙ ap (λ es. old ++ flat_map f es) (sym more))));
       placed = All-more (λ p. All (IsPlaced c.args.map.now p) figure) shifts k e there c.loop-k.invariant.placed
           (subst (λ (p : Point). All (IsPlaced c.args.map.now p) figure) (sym is) (subst (All (IsPlaced c.args.map.now e)) rings c.in_ok-draw_figure.ensures.placed));

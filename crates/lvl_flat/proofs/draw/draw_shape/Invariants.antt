@@ -6,6 +6,6 @@ use Rattle.lvl_flat.proofs.draw.draw_shape.Given as goal
 -- the figure is placed at the shifts so far, in order
 abbrev pub invariant-loop-k : goal.invariant-loop-k
 invariant-loop-k l = record {
-  drawn : l.rings.items ≡ l.initial.rings.items ++ flat_map (placed_figure l.map l.shape.figure) (take l.k l.shape.shifts);
+  drawn : l.rings ≡ l.initial.rings ++ flat_map (placed_figure l.map l.shape.figure) (take l.k l.shape.shifts);
   placed : All (λ e. All (IsPlaced l.map e) l.shape.figure) (take l.k l.shape.shifts);
 }

@@ -36,16 +36,16 @@ loop-shape-preserved c =
     let there : slice_get items c.in-Some.place ≡ Some s = subst (λ ss. slice_get ss c.in-Some.place ≡ Some s) c.deref.ensures.value found.there in
     let lent : c.index_mut-sheet.result.now ≡ s = c.index_mut-sheet.ensures.value ∙ get_or_from_slice_get items c.in-Some.place s c.index_mut-sheet.result.now there in
     let layer : c.sheet.inside.layer ≡ s.layer = ap layer_of (c.sheet.view_is ∙ lent) in
-    let rings : c.draw_shape.new.rings.items ≡ s.rings ++ added = c.in_ok-draw_shape.ensures.drawn ∙ ap (λ (u : PlainSheet). u.rings ++ added) (c.sheet.view_is ∙ lent) in
+    let rings : c.draw_shape.new.rings ≡ s.rings ++ added = c.in_ok-draw_shape.ensures.drawn ∙ ap (λ (u : PlainSheet). u.rings ++ added) (c.sheet.view_is ∙ lent) in
     let of : Layer → Rings → PlainSheet = λ x r. record { layer = x; rings = r } in
-    let new : of c.sheet.inside.layer c.draw_shape.new.rings.items ≡ of s.layer (s.rings ++ added) = ap (λ x. of x c.draw_shape.new.rings.items) layer ∙ ap (of s.layer) rings in
+    let new : of c.sheet.inside.layer c.draw_shape.new.rings ≡ of s.layer (s.rings ++ added) = ap (λ x. of x c.draw_shape.new.rings) layer ∙ ap (of s.layer) rings in
     let same : s.layer ≡ h.layer = found.layer_is ∙ ap (λ (g : PlainShape Rings). g.layer) c.shape.view_is in
     let sorted : AreSorted items = sorted_alike items c.args.sheets.now.items kept.layers c.requires.sorted in
     record {
-      drawn = drawn_next c.args.sheets.now.items items c.args.map.now c.args.shapes.now c.loop-shape.shape-index h c.in-Some.place s (of c.sheet.inside.layer c.draw_shape.new.rings.items) sorted there same new c.loop-shape-test.true c.shape-item.is kept.drawn;
+      drawn = drawn_next c.args.sheets.now.items items c.args.map.now c.args.shapes.now c.loop-shape.shape-index h c.in-Some.place s (of c.sheet.inside.layer c.draw_shape.new.rings) sorted there same new c.loop-shape-test.true c.shape-item.is kept.drawn;
       placed = All-more (λ (g : PlainShape Rings). All (λ e. All (IsPlaced c.args.map.now e) g.figure) g.shifts) c.args.shapes.now c.loop-shape.shape-index h c.loop-shape-test.true kept.placed
           (subst (λ (g : PlainShape Rings). All (λ e. All (IsPlaced c.args.map.now e) g.figure) g.shifts) c.shape-item.is c.in_ok-draw_shape.ensures.placed);
-      layers = layers-set items c.in-Some.place s (of c.sheet.inside.layer c.draw_shape.new.rings.items) there layer ∙ kept.layers;
+      layers = layers-set items c.in-Some.place s (of c.sheet.inside.layer c.draw_shape.new.rings) there layer ∙ kept.layers;
     }
 
 pub returns-clause-placed : goal.returns-clause-placed

@@ -3,17 +3,18 @@ use Rattle.std.proofs.lemmas.Option.{slice_get_read}
 use Rattle.lvl_cells.specs.declared.layer.Layer.{Layer}
 use Rattle.lvl_cells.specs.Cells.{PlainCell, Rings}
 use Rattle.lvl_flat.specs.declared.fault.FlatFault.{FlatFault}
-use Rattle.lvl_flat.specs.declared.fault.FlatFault.TheVariants.{OutOfRange, OutOfMemory}
+use Rattle.lvl_flat.specs.declared.fault.FlatFault.TheVariants.{OutOfRange}
 use Rattle.lvl_flat.specs.Drawn.{drawn_on, AreFiguresPlaced, FitShapes}
 use Rattle.lvl_flat.specs.Sheets.{HaveSheets, rings_on}
 use Rattle.lvl_flat.specs.Entering.{TellsName, IsEnterFault}
 use Rattle.lvl_grid.specs.declared.map.Map.{Map}
 use Rattle.std.specs.Prelude.{ℕ, ◌++◌}
+use Rattle.lvl_refusal.specs.Refused.{Says}
+use Rattle.lvl_refusal.proofs.Saying.{Says-map}
 use Rattle.lvl_flat.proofs.enter.draw_cell.Goals as goal
 
 told : (cells : List (PlainCell Rings)) (i : ℕ) (m : Map) (c : PlainCell Rings) → slice_get cells i ≡ Some c → (FitShapes m c.shapes → ⊥) → (fault : FlatFault) → TellsName c.name fault → IsEnterFault cells i m fault
 told cells i m c at out (OutOfRange name) tells = record { cell = c; there = at; named = sym tells; out = out }
-told cells i m c at out OutOfMemory tells = tells
 
 pub draw_shapes-requires-clause-layers : goal.draw_shapes-requires-clause-layers
 draw_shapes-requires-clause-layers c =
@@ -41,6 +42,6 @@ returns-in-Err-OutOfRange-clause-err c =
     let at : slice_get c.args.cells.now c.args.place ≡ Some cell = slice_get_read c.args.cells.now (length c.args.cells.now) c.args.place cell refl c.requires.there c.index-cells-place.is in
     let shapes : c.deref.result.now ≡ cell.shapes = c.deref.ensures.value ∙ ap (λ (b : PlainCell Rings). b.shapes) c.cell.view_is in
     let name : c.deref-in-Err-OutOfRange.result.now ≡ cell.name = c.deref-in-Err-OutOfRange.ensures.value ∙ ap (λ (b : PlainCell Rings). b.name) c.cell.view_is in
-    let tells : TellsName cell.name c.out_of_range.result = subst (λ n. TellsName n c.out_of_range.result) name c.out_of_range.ensures in
+    let tells : Says c.out_of_range.result (TellsName cell.name) = subst (λ n. Says c.out_of_range.result (TellsName n)) name c.out_of_range.ensures in
     let out : FitShapes c.args.map.now cell.shapes → ⊥ = subst (λ hs. FitShapes c.args.map.now hs → ⊥) shapes (c.in-Err-OutOfRange.ensures.out (ap Err c.in-Err-OutOfRange.field-0-is)) in
-    told c.args.cells.now c.args.place c.args.map.now cell at out c.out_of_range.result tells
+    Says-map (TellsName cell.name) _ c.out_of_range.result (told c.args.cells.now c.args.place c.args.map.now cell at out) tells

@@ -1,11 +1,13 @@
-use Rattle.lvl_sweep.proofs.Lockstep.{same_rings, alone_rings, least_rings}
+use Rattle.std.proofs.Common.{◌↔◌, ℤ, Option, IfNone}
+use Rattle.std.proofs.lemmas.Result.{IfOk-weaker}
+use Rattle.lvl_grid.specs.declared.point.Square.{Square}
+use Rattle.lvl_grid.specs.Winding.{SomeCovers}
+use Rattle.lvl_region.specs.declared.region.Side.{Side}
+use Rattle.lvl_sweep.specs.Ahead.{IsUpTo}
+use Rattle.lvl_sweep.proofs.Lockstep.{in_all_rows}
 use Rattle.lvl_sweep.proofs.differ.first_difference_of.Goals as goal
 
 pub returns-clause-same : goal.returns-clause-same
-returns-clause-same c = same_rings c.walk_in_step.result c.args.first.now c.args.second.now _ _ c.in_ok-a.ensures.bands c.in_ok-b.ensures.bands c.walk_in_step.ensures.same
-
-pub returns-clause-differ : goal.returns-clause-differ
-returns-clause-differ c = alone_rings c.walk_in_step.result c.args.first.now c.args.second.now _ _ c.in_ok-a.ensures.bands c.in_ok-b.ensures.bands c.walk_in_step.ensures.differ
-
-pub returns-clause-least : goal.returns-clause-least
-returns-clause-least c = least_rings c.walk_in_step.result c.args.first.now c.args.second.now _ _ c.in_ok-a.ensures.bands c.in_ok-b.ensures.bands c.walk_in_step.ensures.differ
+returns-clause-same c =
+    let Same : Square → Type 0 = λ s. SomeCovers c.args.first.now s ↔ SomeCovers c.args.second.now s in
+    IfOk-weaker c.first_difference_up_to.result _ (λ found. IfNone found ((s : Square) → Same s)) (λ found h. in_all_rows found Same h) c.first_difference_up_to.ensures.same

@@ -3,4 +3,4 @@ use Rattle.lvl_sweep.specs.Alive.{AreEdgesOf}
 use Rattle.lvl_sweep.proofs.edge.edges_of.Given as goal
 
 abbrev pub invariant-loop-number : goal.invariant-loop-number
-invariant-loop-number l = AreEdgesOf (take l.number l.rings) l.edges.items
+invariant-loop-number g l = AreEdgesOf (take l.number (g.R.RingList.rings l.rings)) l.edges.items

@@ -1,0 +1,271 @@
+//! Many rings in one piece: all points in one list, and where each ring ends.
+ghost use Rattle.std.specs.Prelude.{◌≡◌, ◌<◌, ◌≤◌, ◌-◌, ◌<ℤ◌, ◌≤ℤ◌, List, take, drop, map, Any, All, ◌⊎◌, ◌↔◌, ◌++◌, ◌∷◌, [], length, get_or, IsTrue, IsSome, IfSome, IfOk, OnOk, OnErr};
+ghost use Rattle.lvl_grid.specs.declared.point.Square.{Square as GridSquare};
+ghost use Rattle.lvl_grid.specs.Winding.{IsRing, Covers, SomeCovers};
+ghost use Rattle.lvl_grid.specs.Pieces.{begin_of};
+ghost use Rattle.lvl_grid.specs.Clip.{IsIn};
+ghost use Rattle.lvl_grid.specs.Turn.{FitsPoint};
+ghost use Rattle.lvl_grid.specs.Placed.{placed_point, IsPlaceOfCovered};
+
+use crate::list::RingList;
+use crate::map::Map;
+use crate::part::Part;
+use crate::point::{Point, Square};
+use crate::ring::{PlaceFault, Ring, winds_round};
+use crate::tidy::extend_clipped;
+use std::alloc::{AllocError, Global};
+use std::marker::Model;
+
+/// A list of rings in one piece: no ring has a list of its own, so a pass over many rings reads
+/// memory in order, and a ring more takes no allocation of its own.
+#[derive(Debug, Drop)]
+pub struct Rings {
+    points: Vec<Point>,
+    ends: Vec<usize>,
+}
+
+impl Model for Rings {
+    ghost use Rattle.std.specs.Prelude.{List};
+    ghost use Rattle.lvl_grid.specs.declared.point.Point.{Point};
+    ghost use Rattle.lvl_grid.specs.Pieces.{cut_from, AreRings};
+
+    ghost Value = { List (List Point) };
+
+    ghost view = { λ r. cut_from 0 r.ends.items r.points.items };
+
+    ghost invariant = { λ r. AreRings r.ends.items r.points.items };
+}
+
+/// Where the piece at this index begins.
+fn begin(ends: &[usize], i: usize) -> usize
+    requires { i < length ends.now }
+    ensures { result ≡ begin_of 0 ends.now i }
+{
+    if i == 0 {
+        return 0;
+    }
+    ends[i - 1]
+}
+
+/// The points from one index up to another.
+fn stretch(points: &[Point], start: usize, end: usize) -> &[Point]
+    requires rising { start ≤ end }
+    requires inside { end ≤ length points.now }
+    ensures { result.now ≡ take (end - start) (drop start points.now) }
+{
+    &points[start..end]
+}
+
+/// Appends the images of a ring's points, each moved by `shift` before it is mapped.
+fn extend_placed(
+    points: &mut Vec<Point>,
+    ring: &[Point],
+    shift: Point,
+    by: &Map,
+) -> Result<(), PlaceFault>
+    ensures ok { OnOk result (points.new.items ≡ points.old.items ++ map (placed_point by.now shift) ring.now) }
+    ensures in_range { OnOk result (All (λ v. FitsPoint (placed_point by.now shift v)) ring.now) }
+    ensures err { OnErr result (points.new.items ≡ points.old.items) }
+    ensures out_of_range { result ≡ Err PlaceFault.OutOfRange
+        → Any (λ v. ¬ FitsPoint (placed_point by.now shift v)) ring.now }
+{
+    let Ok(()) = points.reserve(ring.len()) else {
+        return Err(PlaceFault::OutOfMemory);
+    };
+    let start = points.len();
+    for point in ring {
+        let Some(image) = by.place_moved(shift, *point) else {
+            points.truncate(start);
+            return Err(PlaceFault::OutOfRange);
+        };
+        points.push_reserved(image);
+    }
+    Ok(())
+}
+
+impl Rings {
+    /// No rings.
+    pub fn new(alloc: Global) -> Rings
+        ensures { result ≡ [] }
+    {
+        Rings {
+            points: Vec::new(alloc),
+            ends: Vec::new(alloc),
+        }
+    }
+
+    /// The rings of a slice, in the same order.
+    pub fn from_slice(alloc: Global, slice: &[Ring]) -> Result<Rings, AllocError>
+        ensures { IfOk result (λ rings. rings ≡ slice.now) }
+    {
+        let mut rings = Rings::new(alloc);
+        for ring in slice {
+            rings.push_ring(ring)?;
+        }
+        Ok(rings)
+    }
+
+    /// How many rings there are.
+    pub fn len(&self) -> usize
+        ensures { result ≡ length self.now }
+    {
+        self.ends.len()
+    }
+
+    /// Whether there is no ring.
+    pub fn is_empty(&self) -> bool
+        ensures { IsTrue result ↔ (self.now ≡ []) }
+    {
+        self.len() == 0
+    }
+
+    /// The points of the ring at this index, in order.
+    pub fn ring(&self, i: usize) -> &[Point]
+        requires { i < length self.now }
+        ensures value { result.now ≡ get_or self.now i [] }
+        ensures ring { IsRing result.now }
+    {
+        let start = begin(&self.ends, i);
+        let end = self.ends[i];
+        stretch(&self.points, start, end)
+    }
+
+    /// The points of the ring at this index, if there is one.
+    pub fn get(&self, i: usize) -> Option<&[Point]>
+        ensures inside { IsSome result ↔ (i < length self.now) }
+        ensures value { IfSome result (λ ring. ring.now ≡ get_or self.now i []) }
+        ensures ring { IfSome result (λ ring. IsRing ring.now) }
+    {
+        if i >= self.len() {
+            return None;
+        }
+        Some(self.ring(i))
+    }
+
+    /// The points of all rings together, ring by ring.
+    pub fn points(&self) -> &[Point] {
+        &self.points
+    }
+
+    /// Whether both are the same rings, point by point and in one order.
+    pub fn is_same(&self, other: &Rings) -> bool
+        ensures { IsTrue result → self.now ≡ other.now }
+    {
+        self.ends.as_slice() == other.ends.as_slice()
+            && self.points.as_slice() == other.points.as_slice()
+    }
+
+    /// Whether some ring covers the square.
+    pub fn covers(&self, square: Square) -> bool
+        ensures { IsTrue result ↔ SomeCovers self.now square }
+    {
+        for i in 0..self.len() {
+            if winds_round(self.ring(i), square) {
+                return true;
+            }
+        }
+        false
+    }
+
+    /// Appends a ring.
+    pub fn push(&mut self, ring: &[Point]) -> Result<(), AllocError>
+        requires { IsRing ring.now }
+        ensures ok { OnOk result (self.new ≡ self.old ++ ring.now ∷ []) }
+        ensures err { OnErr result (self.new ≡ self.old) }
+    {
+        self.ends.reserve(1)?;
+        self.points.extend_from_slice(ring)?;
+        self.ends.push_reserved(self.points.len());
+        Ok(())
+    }
+
+    /// Appends a ring that was kept by itself.
+    pub fn push_ring(&mut self, ring: &Ring) -> Result<(), AllocError>
+        ensures ok { OnOk result (self.new ≡ self.old ++ ring.now ∷ []) }
+        ensures err { OnErr result (self.new ≡ self.old) }
+    {
+        self.push(ring.points())
+    }
+
+    /// Appends the image of a ring, each of its points moved by `shift` before it is mapped. Only
+    /// the images are tested for 64 bits, so a moved point may be outside (own rule).
+    pub fn push_placed(&mut self, ring: &[Point], shift: Point, by: &Map) -> Result<(), PlaceFault>
+        requires { IsRing ring.now }
+        ensures ok { OnOk result (self.new ≡ self.old ++ map (placed_point by.now shift) ring.now ∷ []) }
+        ensures covers { OnOk result ((t : GridSquare)
+            → Covers (map (placed_point by.now shift) ring.now) t ↔ IsPlaceOfCovered by.now shift ring.now t) }
+        ensures in_range { OnOk result (All (λ v. FitsPoint (placed_point by.now shift v)) ring.now) }
+        ensures err { OnErr result (self.new ≡ self.old) }
+        ensures out_of_range { result ≡ Err PlaceFault.OutOfRange
+            → Any (λ v. ¬ FitsPoint (placed_point by.now shift v)) ring.now }
+    {
+        let Ok(()) = self.ends.reserve(1) else {
+            return Err(PlaceFault::OutOfMemory);
+        };
+        extend_placed(&mut self.points, ring, shift, by)?;
+        self.ends.push_reserved(self.points.len());
+        Ok(())
+    }
+
+    /// Appends what is left of a ring in the part, if anything is.
+    pub fn push_clipped(&mut self, part: &Part, ring: &[Point]) -> Result<(), AllocError>
+        requires { IsRing ring.now }
+        ensures covers { OnOk result ((s : GridSquare)
+            → SomeCovers self.new s ↔ (SomeCovers self.old s ⊎ (IsIn part.now s × Covers ring.now s))) }
+        ensures err { OnErr result (self.new ≡ self.old) }
+    {
+        if part.misses(ring) {
+            return Ok(());
+        }
+        if part.keeps(ring) {
+            return self.push(ring);
+        }
+        self.ends.reserve(1)?;
+        let start = self.points.len();
+        extend_clipped(&mut self.points, part, ring)?;
+        if self.points.len() == start {
+            return Ok(());
+        }
+        self.ends.push_reserved(self.points.len());
+        Ok(())
+    }
+
+    /// Appends to `into` what is left of the rings in the part.
+    pub fn clip_into(&self, part: &Part, into: &mut Rings) -> Result<(), AllocError>
+        ensures { OnOk result ((s : GridSquare)
+            → SomeCovers into.new s ↔ (SomeCovers into.old s ⊎ (IsIn part.now s × SomeCovers self.now s))) }
+    {
+        for i in 0..self.len() {
+            into.push_clipped(part, self.ring(i))?;
+        }
+        Ok(())
+    }
+
+    /// Appends to `left` what is left of the rings in the squares with `x < at`, and to `right`
+    /// what is left of them in the others, in one pass.
+    pub fn split_into(&self, at: i64, left: &mut Rings, right: &mut Rings) -> Result<(), AllocError>
+        ensures left { OnOk result ((s : GridSquare)
+            → SomeCovers left.new s ↔ (SomeCovers left.old s ⊎ ((s.x <ℤ at) × SomeCovers self.now s))) }
+        ensures right { OnOk result ((s : GridSquare)
+            → SomeCovers right.new s ↔ (SomeCovers right.old s ⊎ ((at ≤ℤ s.x) × SomeCovers self.now s))) }
+    {
+        for i in 0..self.len() {
+            let ring = self.ring(i);
+            left.push_clipped(&Part::Left(at), ring)?;
+            right.push_clipped(&Part::Right(at), ring)?;
+        }
+        Ok(())
+    }
+}
+
+impl RingList for Rings {
+    ghost rings = { λ r. r };
+
+    fn len(&self) -> usize {
+        Rings::len(self)
+    }
+
+    fn ring(&self, i: usize) -> &[Point] {
+        Rings::ring(self, i)
+    }
+}

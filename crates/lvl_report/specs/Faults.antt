@@ -1,0 +1,37 @@
+-- The number and the name of each fault that no format has alone, and what it carries, as they are printed.
+use Rattle.std.specs.Prelude.{ℕ, List, ◌∷◌, ◌++◌, flat_map, codes}
+use Rattle.lvl_path.specs.declared.fault.PathFault.{PathFault}
+use Rattle.lvl_path.specs.declared.fault.PathFault.TheVariants.{NoWidth, FewPoints, Oblique, RepeatedPoint, TurnsBack, ShortRun, OutOfRange as BandOutOfRange}
+use Rattle.lvl_cells.specs.declared.fault.CellFault.{CellFault}
+use Rattle.lvl_cells.specs.declared.fault.CellFault.TheVariants.{NoCell, DuplicateCell, MissingCell, Cycle, TopMissing, ManyTops, TooManyPlacements, TooManyRings}
+use Rattle.lvl_flat.specs.declared.fault.FlatFault.{FlatFault}
+use Rattle.lvl_flat.specs.declared.fault.FlatFault.TheVariants.{OutOfRange}
+
+-- the text after a space
+abbrev pub spaced : List ℕ → List ℕ
+spaced text = 32 ∷ text
+
+-- why points are no path
+abbrev pub path_fault : PathFault → List ℕ
+path_fault NoWidth = codes "1 NoWidth"
+path_fault FewPoints = codes "2 FewPoints"
+path_fault Oblique = codes "3 Oblique"
+path_fault RepeatedPoint = codes "4 RepeatedPoint"
+path_fault TurnsBack = codes "5 TurnsBack"
+path_fault ShortRun = codes "6 ShortRun"
+path_fault BandOutOfRange = codes "7 OutOfRange"
+
+-- a fault of a library's cells; cells are named by their names
+abbrev pub cell_fault : CellFault → List ℕ
+cell_fault NoCell = codes "1 NoCell"
+cell_fault (DuplicateCell name) = codes "2 DuplicateCell" ++ spaced name.items
+cell_fault (MissingCell from name) = codes "3 MissingCell" ++ spaced from.items ++ spaced name.items
+cell_fault (Cycle names) = codes "4 Cycle" ++ flat_map (λ name. spaced name.items) names.items
+cell_fault TopMissing = codes "5 TopMissing"
+cell_fault ManyTops = codes "6 ManyTops"
+cell_fault TooManyPlacements = codes "7 TooManyPlacements"
+cell_fault TooManyRings = codes "8 TooManyRings"
+
+-- a fault of flattening; the cell is named by its name
+abbrev pub flat_fault : FlatFault → List ℕ
+flat_fault (OutOfRange name) = codes "1 OutOfRange" ++ spaced name.items

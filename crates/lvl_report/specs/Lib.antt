@@ -1,0 +1,5 @@
+pub mod Faults
+pub mod Gds
+pub mod Texts
+pub mod Writing
+pub mod Runs

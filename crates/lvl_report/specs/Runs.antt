@@ -1,0 +1,53 @@
+-- What a run may write: the text of an answer, whole or its beginning.
+use Rattle.std.specs.Prelude.{◌≡◌, ◌≢◌, ℕ, List, Option, Some, Result, Err, IfOk, IfErr}
+use Rattle.std.specs.Io.KnownBytes.{Appends}
+use Rattle.lvl_io.specs.Bytes.{CountsFailure}
+use Rattle.lvl_region.specs.declared.region.Side.TheVariants.{First, Second}
+use Rattle.lvl.specs.declared.shown.Shown.{Shown}
+use Rattle.lvl_report.specs.declared.status.Status.{Status}
+use Rattle.lvl.specs.declared.verdict.Comparison.{Comparison}
+use Rattle.lvl.specs.declared.verdict.Refusal.{Refusal}
+use Rattle.lvl.specs.declared.verdict.Refusal.TheVariants.{OutOfMemory}
+use Rattle.lvl.specs.Sides.{file_named}
+use Rattle.lvl.specs.Answers.{IsAnswer, IsRefusalOf, is_read_of}
+use Rattle.lvl.specs.Shown.{IsShownFile, IsShowReached, IsOfFirst}
+use Rattle.lvl_report.specs.Writing.{AppendsBeginning}
+
+-- a reader in a run: the bytes that it had, where they are known, its errors before and after, and the name of the top
+pub record Input : Type 0 where
+  pub bytes : Option (List ℕ)
+  pub before : ℕ
+  pub after : ℕ
+  pub top : Option (List ℕ)
+
+abbrev pub input : Option (List ℕ) → ℕ → ℕ → Option (List ℕ) → Input
+input bytes before after top = record { bytes = bytes; before = before; after = after; top = top }
+
+-- the answer is one that the comparison of two files may give
+pub record IsComparedBy (a b : Input) (answer : Result Comparison Refusal) : Type 0 where
+  pub answered : (xs ys : List ℕ) → a.bytes ≡ Some xs → b.bytes ≡ Some ys → IsAnswer (file_named xs a.top) (file_named ys b.top) answer
+  pub first_refused : (xs : List ℕ) → a.bytes ≡ Some xs → IfErr answer (IsRefusalOf First (file_named xs a.top))
+  pub second_refused : (ys : List ℕ) → b.bytes ≡ Some ys → IfErr answer (IsRefusalOf Second (file_named ys b.top))
+  pub first_reads : answer ≢ Err OutOfMemory → CountsFailure a.before a.after (is_read_of First answer)
+  pub second_reads : answer ≢ Err OutOfMemory → CountsFailure b.before b.after (is_read_of Second answer)
+
+-- the answer is one that showing a file may give
+pub record IsShownBy (a : Input) (answer : Result Shown Refusal) : Type 0 where
+  pub shown : (xs : List ℕ) → a.bytes ≡ Some xs → IfOk answer (IsShownFile (file_named xs a.top))
+  pub refused : (xs : List ℕ) → a.bytes ≡ Some xs → IfErr answer (IsRefusalOf First (file_named xs a.top))
+  pub order : (xs : List ℕ) → a.bytes ≡ Some xs → IfErr answer (IsShowReached (file_named xs a.top))
+  pub side : IfErr answer IsOfFirst
+  pub reads : answer ≢ Err OutOfMemory → CountsFailure a.before a.after (is_read_of First answer)
+
+-- the text of such an answer was written, and nothing else; the status is that of the answer
+pub record IsWritten {X : Type 0} (Allowed : X → Type 0) (text : X → List ℕ) (status : X → Status) (old new : Option (List ℕ)) (told : Status) : Type 0 where
+  pub answer : X
+  pub allowed : Allowed answer
+  pub whole : Appends old new (text answer)
+  pub status_is : told ≡ status answer
+
+-- a beginning of the text of such an answer was written, perhaps nothing or all of it
+pub record IsBegun {X : Type 0} (Allowed : X → Type 0) (text : X → List ℕ) (old new : Option (List ℕ)) : Type 0 where
+  pub answer : X
+  pub allowed : Allowed answer
+  pub begun : AppendsBeginning old new (text answer)

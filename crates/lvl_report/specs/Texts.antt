@@ -1,0 +1,65 @@
+-- The text of an answer, as a list of bytes: two heads and a verdict, what a layout holds, or a refusal.
+use Rattle.std.specs.Prelude.{ℕ, List, [], ◌∷◌, ◌++◌, flat_map, codes, decimal, Result, Ok, Err}
+use Rattle.std.specs.Fmt.{signed_decimal}
+use Rattle.lvl_region.specs.declared.region.Side.{Side}
+use Rattle.lvl_region.specs.declared.region.Side.TheVariants.{First, Second}
+use Rattle.lvl.specs.declared.layout.Head.{Head}
+use Rattle.lvl.specs.declared.layout.Head.TheVariants.{Gds}
+use Rattle.lvl.specs.declared.layout.FileFault.{FileFault}
+use Rattle.lvl.specs.declared.layout.FileFault.TheVariants.{Gds as GdsFile}
+use Rattle.lvl.specs.declared.verdict.Verdict.{Verdict}
+use Rattle.lvl.specs.declared.verdict.Verdict.TheVariants.{Same, Differ}
+use Rattle.lvl.specs.declared.verdict.Comparison.{Comparison}
+use Rattle.lvl.specs.declared.verdict.Refusal.{Refusal}
+use Rattle.lvl.specs.declared.verdict.Refusal.TheVariants.{File, Cells, Flat, OutOfMemory}
+use Rattle.lvl.specs.declared.shown.Shown.{Shown}
+use Rattle.lvl.specs.declared.shown.ShownLayer.{ShownLayer}
+use Rattle.lvl_report.specs.Faults.{spaced, cell_fault, flat_fault}
+use Rattle.lvl_report.specs.Gds.{gds_fault, gds_head_text}
+
+-- a line ends with one line feed
+abbrev pub line : List ℕ → List ℕ
+line text = text ++ 10 ∷ []
+
+-- what a file says of itself
+abbrev pub head_text : Head → List ℕ
+head_text (Gds head) = gds_head_text head
+
+abbrev pub side_text : Side → List ℕ
+side_text First = codes "first"
+side_text Second = codes "second"
+
+abbrev pub verdict_text : Verdict → List ℕ
+verdict_text Same = codes "same"
+verdict_text (Differ layer square side) =
+    codes "differ: layer " ++ decimal layer.layer ++ codes " datatype " ++ decimal layer.datatype
+    ++ codes " square " ++ signed_decimal square.x ++ codes " " ++ signed_decimal square.y
+    ++ codes " only in " ++ side_text side
+
+-- why a file was not read: the format, the fault, and the offset
+abbrev pub file_fault : FileFault → List ℕ
+file_fault (GdsFile fault) = codes "gds " ++ gds_fault fault.kind ++ codes " at " ++ decimal fault.offset
+
+-- the side, the step and the fault; out of memory stands alone, whichever step it was
+abbrev pub refusal_text : Refusal → List ℕ
+refusal_text (File side fault) = codes "refused: " ++ side_text side ++ codes ": " ++ file_fault fault
+refusal_text (Cells side fault) = codes "refused: " ++ side_text side ++ codes ": cells " ++ cell_fault fault
+refusal_text (Flat side fault) = codes "refused: " ++ side_text side ++ codes ": flat " ++ flat_fault fault
+refusal_text OutOfMemory = codes "refused: out of memory"
+
+-- what is printed of an answer, whole
+abbrev pub text_of : Result Comparison Refusal → List ℕ
+text_of (Ok c) = line (codes "first: " ++ head_text c.first) ++ line (codes "second: " ++ head_text c.second) ++ line (verdict_text c.verdict)
+text_of (Err refusal) = line (refusal_text refusal)
+
+-- what is printed of a Layer that is shown
+abbrev pub layer_line : ShownLayer → List ℕ
+layer_line shown = line (codes "layer " ++ decimal shown.layer.layer ++ codes " datatype " ++ decimal shown.layer.datatype ++ codes " rings " ++ decimal shown.rings)
+
+abbrev pub shown_text : Shown → List ℕ
+shown_text shown = line (codes "file: " ++ head_text shown.head) ++ line (codes "top:" ++ spaced shown.top.items) ++ line (codes "cells: " ++ decimal shown.cells) ++ flat_map layer_line shown.layers.items
+
+-- what is printed of a layout, whole
+abbrev pub text_of_shown : Result Shown Refusal → List ℕ
+text_of_shown (Ok shown) = shown_text shown
+text_of_shown (Err refusal) = line (refusal_text refusal)

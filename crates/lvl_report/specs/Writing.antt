@@ -1,0 +1,50 @@
+-- What writing a text does to a writer, and the statuses that a run ends with.
+use Rattle.std.specs.Prelude.{ℕ, List, ◌++◌, ◌≡◌, Option, Bool, true, false, Result, Ok, Err}
+use Rattle.std.specs.Io.KnownBytes.{Appends}
+use Rattle.lvl_report.specs.declared.status.Status.{Status}
+use Rattle.lvl_report.specs.declared.status.Status.TheVariants.{Same, Differ, Shown as ShownStatus, Refused}
+use Rattle.lvl_report.specs.declared.status.RunFault.{RunFault}
+use Rattle.lvl_report.specs.declared.status.RunFault.TheVariants.{Output, OutOfMemory}
+use Rattle.lvl.specs.declared.verdict.Verdict.{Verdict}
+use Rattle.lvl.specs.declared.verdict.Verdict.TheVariants.{Same as SameVerdict, Differ as DifferVerdict}
+use Rattle.lvl.specs.declared.verdict.Comparison.{Comparison}
+use Rattle.lvl.specs.declared.verdict.Refusal.{Refusal}
+use Rattle.lvl.specs.declared.shown.Shown.{Shown}
+
+-- known bytes grew by a beginning of the text, perhaps by none of it or by all
+pub record AppendsBeginning (old new : Option (List ℕ)) (text : List ℕ) : Type 0 where
+  pub front : List ℕ
+  pub rest : List ℕ
+  pub split : text ≡ front ++ rest
+  pub appended : Appends old new front
+
+-- the exit status of a program that ended with an answer
+abbrev pub status_code : Status → ℕ
+status_code Same = 0
+status_code Differ = 1
+status_code ShownStatus = 0
+status_code Refused = 2
+
+-- the exit status of a program whose text wasn't written
+abbrev pub fault_code : RunFault → ℕ
+fault_code Output = 4
+fault_code OutOfMemory = 2
+
+-- the status of an answer
+abbrev pub verdict_status : Verdict → Status
+verdict_status SameVerdict = Same
+verdict_status (DifferVerdict layer square side) = Differ
+
+abbrev pub status_of : Result Comparison Refusal → Status
+status_of (Ok comparison) = verdict_status comparison.verdict
+status_of (Err refusal) = Refused
+
+abbrev pub shown_status : Result Shown Refusal → Status
+shown_status (Ok shown) = ShownStatus
+shown_status (Err refusal) = Refused
+
+-- whether the output failed
+abbrev pub is_output : {A : Type 0} → Result A RunFault → Bool
+is_output (Ok a) = false
+is_output (Err Output) = true
+is_output (Err OutOfMemory) = false

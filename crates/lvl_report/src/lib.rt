@@ -1,0 +1,19 @@
+//! The answers of lvl as text: two heads and a verdict, what a layout holds, or a refusal.
+//!
+//! [`run`] compares two files and [`run_show`] shows one; each forms the text of the answer whole,
+//! writes it, and gives its [`Status`], by which the program exits. Each format has a module of its
+//! own for what its files say of themselves and why they are refused. [`form`] and [`form_shown`] give
+//! the text alone.
+#![tactic(auto)]
+
+pub use runs::{run, run_show};
+pub use status::{RunFault, Status};
+pub use text::{form, form_shown};
+
+mod faults;
+mod gds;
+mod output;
+mod runs;
+mod status;
+mod tell;
+mod text;

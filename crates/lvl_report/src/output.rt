@@ -1,0 +1,30 @@
+//! A text written whole.
+ghost use Rattle.std.specs.Prelude.{◌≡◌, OnOk, OnErr, IfErr};
+ghost use Rattle.std.specs.Io.KnownBytes.{Appends};
+ghost use Rattle.lvl_io.specs.Bytes.{CountsFailure, failed};
+ghost use Rattle.lvl_report.specs.Writing.{AppendsBeginning};
+
+use crate::status::RunFault;
+use lvl_io::{Failure, Write};
+
+/// Writes all of the text, and flushes. An error of any kind, or a write that took nothing of some
+/// bytes, ends the work: it is not tried again, and what went out is a beginning of the text.
+pub(crate) fn put<W: Write>(out: &mut W, text: &[u8]) -> Result<(), RunFault>
+    ensures whole { OnOk result (Appends (W.contents out.old) (W.contents out.new) text.now) }
+    ensures begun { OnErr result (AppendsBeginning (W.contents out.old) (W.contents out.new) text.now) }
+    ensures output { IfErr result (λ fault. fault ≡ RunFault.Output) }
+    ensures errors { CountsFailure (W.write_errors out.old) (W.write_errors out.new) (failed result) }
+    ensures same { W.lent out.new ≡ W.lent out.old }
+{
+    let mut rest = text;
+    while !rest.is_empty() {
+        match out.write(rest) {
+            Ok(0) | Err(Failure) => return Err(RunFault::Output),
+            Ok(taken) => rest = &rest[taken..],
+        }
+    }
+    match out.flush() {
+        Ok(()) => Ok(()),
+        Err(Failure) => Err(RunFault::Output),
+    }
+}

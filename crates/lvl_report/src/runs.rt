@@ -1,0 +1,67 @@
+//! The runs of the program: an answer found, and its text written.
+ghost use Rattle.std.specs.Prelude.{◌≡◌, OnErr, IfOk, Err, option_copied};
+ghost use Rattle.std.specs.Io.KnownBytes.{Keeps};
+ghost use Rattle.lvl_io.specs.Bytes.{CountsFailure};
+ghost use Rattle.lvl_report.specs.Runs.{IsComparedBy, IsShownBy, IsWritten, IsBegun, input};
+ghost use Rattle.lvl.specs.Sides.{given_name};
+ghost use Rattle.lvl_report.specs.Texts.{text_of, text_of_shown};
+ghost use Rattle.lvl_report.specs.Writing.{status_of, shown_status, is_output};
+
+use lvl::compare_files;
+use lvl::show_file;
+use crate::status::{RunFault, Status};
+use crate::tell::{tell, tell_shown};
+use lvl::Tops;
+use lvl_io::{Read, Write};
+use std::alloc::Global;
+
+/// Compares two files and writes the answer: what each says of itself and the verdict, on a line
+/// each, or the refusal, on one line. Its text is formed whole before any of it is written.
+///
+/// What it writes is what [`compare_files`](lvl::compare_files) may answer of these files.
+pub fn run<A: Read, B: Read, W: Write>(
+    alloc: Global,
+    first: &mut A,
+    second: &mut B,
+    tops: &Tops,
+    out: &mut W,
+) -> Result<Status, RunFault>
+    ensures written { IfOk result (IsWritten
+        (IsComparedBy (input (A.remaining first.old) (A.read_errors first.old) (A.read_errors first.new) (given_name tops.now.first))
+        (input (B.remaining second.old) (B.read_errors second.old) (B.read_errors second.new) (given_name tops.now.second)))
+        text_of status_of (W.contents out.old) (W.contents out.new)) }
+    ensures begun { OnErr result (IsBegun
+        (IsComparedBy (input (A.remaining first.old) (A.read_errors first.old) (A.read_errors first.new) (given_name tops.now.first))
+        (input (B.remaining second.old) (B.read_errors second.old) (B.read_errors second.new) (given_name tops.now.second)))
+        text_of (W.contents out.old) (W.contents out.new)) }
+    ensures nothing { result ≡ Err RunFault.OutOfMemory → Keeps (W.contents out.old) (W.contents out.new) }
+    ensures errors { CountsFailure (W.write_errors out.old) (W.write_errors out.new) (is_output result) }
+    ensures same { W.lent out.new ≡ W.lent out.old }
+{
+    let answer = compare_files(alloc, first, second, tops);
+    tell(alloc, &answer, out)
+}
+
+/// Shows a file: writes what it says of itself, its top, how many cells it has, and for each Layer,
+/// in their order, how many rings the top places there; or the refusal, on one line.
+///
+/// What it writes is what [`show_file`](lvl::show_file) may answer of this file.
+pub fn run_show<R: Read, W: Write>(
+    alloc: Global,
+    reader: &mut R,
+    top: Option<&[u8]>,
+    out: &mut W,
+) -> Result<Status, RunFault>
+    ensures written { IfOk result (IsWritten
+        (IsShownBy (input (R.remaining reader.old) (R.read_errors reader.old) (R.read_errors reader.new) (option_copied top.entry)))
+        text_of_shown shown_status (W.contents out.old) (W.contents out.new)) }
+    ensures begun { OnErr result (IsBegun
+        (IsShownBy (input (R.remaining reader.old) (R.read_errors reader.old) (R.read_errors reader.new) (option_copied top.entry)))
+        text_of_shown (W.contents out.old) (W.contents out.new)) }
+    ensures nothing { result ≡ Err RunFault.OutOfMemory → Keeps (W.contents out.old) (W.contents out.new) }
+    ensures errors { CountsFailure (W.write_errors out.old) (W.write_errors out.new) (is_output result) }
+    ensures same { W.lent out.new ≡ W.lent out.old }
+{
+    let answer = show_file(alloc, reader, top);
+    tell_shown(alloc, &answer, out)
+}

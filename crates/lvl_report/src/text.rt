@@ -1,0 +1,185 @@
+//! The text of an answer: two heads and a verdict, what a layout holds, or a refusal.
+ghost use Rattle.std.specs.Prelude.{◌≡◌, ◌++◌, flat_map, OnOk, IfOk};
+ghost use Rattle.lvl_report.specs.Texts.{layer_line, side_text, verdict_text, head_text, file_fault, refusal_text, shown_text, text_of, text_of_shown};
+
+use crate::faults::{push_cell_fault, push_flat_fault, push_name};
+use crate::gds::{push_gds_fault, push_gds_head};
+use lvl::{Comparison, FileFault, Head, Refusal, Shown, ShownLayer, Verdict};
+use lvl_cells::Layer;
+use lvl_grid::Square;
+use lvl_region::Side;
+use std::alloc::{AllocError, Global};
+use std::io;
+use std::io::Write;
+
+fn side_name(side: Side) -> &'static str
+    ensures { result.now ≡ side_text side }
+{
+    match side {
+        Side::First => "first",
+        Side::Second => "second",
+    }
+}
+
+/// Appends a verdict.
+fn push_verdict(text: &mut Vec<u8>, verdict: &Verdict) -> io::Result<()>
+    ensures { OnOk result (text.new.items ≡ text.old.items ++ verdict_text verdict.now) }
+{
+    match verdict {
+        Verdict::Same => write!(text, "same"),
+        Verdict::Differ {
+            layer,
+            square,
+            side,
+        } => {
+            let Layer { layer, datatype } = *layer;
+            let Square { x, y } = *square;
+            let side = side_name(*side);
+            write!(
+                text,
+                "differ: layer {layer} datatype {datatype} square {x} {y} only in {side}"
+            )
+        }
+    }
+}
+
+/// Appends why a file was not read: the format, the fault, and the offset in bytes.
+fn push_file_fault(text: &mut Vec<u8>, fault: &FileFault) -> io::Result<()>
+    ensures { OnOk result (text.new.items ≡ text.old.items ++ file_fault fault.now) }
+{
+    match fault {
+        FileFault::Gds(fault) => {
+            write!(text, "gds ")?;
+            push_gds_fault(text, fault.kind)?;
+            let offset = fault.offset;
+            write!(text, " at {offset}")
+        }
+    }
+}
+
+/// Appends what a file says of itself.
+fn push_head(text: &mut Vec<u8>, head: &Head) -> io::Result<()>
+    ensures { OnOk result (text.new.items ≡ text.old.items ++ head_text head.now) }
+{
+    match head {
+        Head::Gds(head) => push_gds_head(text, head),
+    }
+}
+
+/// Appends a refusal.
+fn push_refusal(text: &mut Vec<u8>, refusal: &Refusal) -> io::Result<()>
+    ensures { OnOk result (text.new.items ≡ text.old.items ++ refusal_text refusal.now) }
+{
+    match refusal {
+        Refusal::File(side, fault) => {
+            write!(text, "refused: {}: ", side_name(*side))?;
+            push_file_fault(text, fault)
+        }
+        Refusal::Cells(side, fault) => {
+            write!(text, "refused: {}: cells ", side_name(*side))?;
+            push_cell_fault(text, fault)
+        }
+        Refusal::Flat(side, fault) => {
+            write!(text, "refused: {}: flat ", side_name(*side))?;
+            push_flat_fault(text, fault)
+        }
+        Refusal::OutOfMemory => write!(text, "refused: out of memory"),
+    }
+}
+
+/// Appends both heads and the verdict, a line each.
+fn push_comparison(text: &mut Vec<u8>, comparison: &Comparison) -> io::Result<()>
+    ensures { OnOk result (text.new.items ≡ text.old.items ++ text_of (Ok comparison.now)) }
+{
+    write!(text, "first: ")?;
+    push_head(text, &comparison.first)?;
+    write!(text, "\nsecond: ")?;
+    push_head(text, &comparison.second)?;
+    writeln!(text)?;
+    push_verdict(text, &comparison.verdict)?;
+    writeln!(text)
+}
+
+/// Appends a line for each Layer.
+fn push_layers(text: &mut Vec<u8>, layers: &[ShownLayer]) -> io::Result<()>
+    ensures { OnOk result (text.new.items ≡ text.old.items ++ flat_map layer_line layers.now) }
+{
+    for shown in layers {
+        let Layer { layer, datatype } = shown.layer;
+        let rings = shown.rings;
+        writeln!(text, "layer {layer} datatype {datatype} rings {rings}")?;
+    }
+    Ok(())
+}
+
+/// Appends what a layout holds.
+fn push_shown(text: &mut Vec<u8>, shown: &Shown) -> io::Result<()>
+    ensures { OnOk result (text.new.items ≡ text.old.items ++ shown_text shown.now) }
+{
+    write!(text, "file: ")?;
+    push_head(text, &shown.head)?;
+    write!(text, "\ntop:")?;
+    push_name(text, &shown.top)?;
+    let cells = shown.cells;
+    writeln!(text, "\ncells: {cells}")?;
+    push_layers(text, &shown.layers)
+}
+
+/// Appends an answer.
+fn push_answer(text: &mut Vec<u8>, answer: &Result<Comparison, Refusal>) -> io::Result<()>
+    ensures { OnOk result (text.new.items ≡ text.old.items ++ text_of answer.now) }
+{
+    match answer {
+        Ok(comparison) => push_comparison(text, comparison),
+        Err(refusal) => {
+            push_refusal(text, refusal)?;
+            writeln!(text)
+        }
+    }
+}
+
+/// What is printed of an answer, whole: each line ends with one line feed.
+///
+/// Of two layouts that were compared it has three lines: what each says of itself, and the
+/// verdict. A refusal is one line: the side, the step, the number and the name of the fault, what
+/// the fault carries, and the offset where there is one. A refusal for memory names neither side nor step.
+pub fn form(
+    alloc: Global,
+    answer: &Result<Comparison, Refusal>,
+) -> Result<Vec<u8>, AllocError>
+    ensures { IfOk result (λ text. text.items ≡ text_of answer.now) }
+{
+    let mut text = Vec::new(alloc);
+    match push_answer(&mut text, answer) {
+        Ok(()) => Ok(text),
+        Err(_) => Err(AllocError),
+    }
+}
+
+/// Appends what is shown, or a refusal.
+fn push_shown_answer(text: &mut Vec<u8>, answer: &Result<Shown, Refusal>) -> io::Result<()>
+    ensures { OnOk result (text.new.items ≡ text.old.items ++ text_of_shown answer.now) }
+{
+    match answer {
+        Ok(shown) => push_shown(text, shown),
+        Err(refusal) => {
+            push_refusal(text, refusal)?;
+            writeln!(text)
+        }
+    }
+}
+
+/// What is printed of a layout, whole: what its file says of itself, its top, how many cells it
+/// has, and a line for each Layer. A refusal is one line.
+pub fn form_shown(
+    alloc: Global,
+    answer: &Result<Shown, Refusal>,
+) -> Result<Vec<u8>, AllocError>
+    ensures { IfOk result (λ text. text.items ≡ text_of_shown answer.now) }
+{
+    let mut text = Vec::new(alloc);
+    match push_shown_answer(&mut text, answer) {
+        Ok(()) => Ok(text),
+        Err(_) => Err(AllocError),
+    }
+}
