@@ -1,23 +1,23 @@
 -- A record that keeps the rules of its element breaches none.
-use Rattle.std.proofs.Common.{◌≡◌, ◌≢◌, ℕ, ◌<◌, ◌≤◌, ◌≤ℤ◌, ◌⊎◌, inl, inr, pos, List, length, All, Some, None, refl, sym, ◌∙◌, subst, arith}
+use Rattle.std.proofs.Common.{◌≡◌, ◌≢◌, ℕ, ◌<◌, ◌≤◌, ◌≤ℤ◌, ◌⊎◌, inl, inr, pos, List, length, All, Some, None, sym, ◌∙◌, subst, arith}
 use Rattle.std.proofs.lemmas.Int.{ints}
 use Rattle.lvl_grid.specs.Winding.{IsStraight}
-use Rattle.lvl_path.specs.Runs.{IsPath, HasFault}
-use Rattle.lvl_path.specs.declared.fault.PathFault.{PathFault}
-use Rattle.lvl_path.specs.declared.fault.PathFault.TheVariants.{NoWidth, FewPoints, Oblique as ObliqueStep, RepeatedPoint, TurnsBack, ShortRun, OutOfRange, OutOfMemory}
-use Rattle.lvl_grid.specs.declared.point.Point.{Point}
+use Rattle.lvl_path.specs.Runs.{IsPath}
 use Rattle.gds_elements.specs.Types.{boundary, path, sref, aref, text, width, xy, endel, colrow, pathtype}
-use Rattle.gds_elements.specs.Order.{Begins, an_element}
+use Rattle.lvl_grammar.specs.Order.{Begins}
+use Rattle.gds_elements.specs.Order.{an_element}
 use Rattle.gds_elements.specs.Rec.{Rec, kinds, opener, last_of}
 use Rattle.gds_elements.specs.Values.{short, long, points, turn}
 use Rattle.gds_elements.specs.Meaning.{half_of, end_of, columns_in, rows_in}
-use Rattle.gds_elements.specs.Rules.{IsKnown, IsClosed, steps, IsWidth, HasSteps, DrawsShape, RefersToCell, IsMiscounted, InOrder, ValueBreaches, ElementBreaches, BreachesNone}
+use Rattle.gds_elements.specs.Rules.{IsKnown, IsClosed, steps, IsWidth, HasSteps, DrawsShape, RefersToCell, IsMiscounted, InOrder, ValueBreaches, BreachesNone}
 use Rattle.gds_elements.specs.Formed.{IsLayerNumber}
 use Rattle.gds_elements.specs.Placing.{IsPlacingAllowed, IsPlacingFault}
 use Rattle.gds_elements.specs.Counts.{IsCounted, IsCountFault}
 use Rattle.gds_elements.specs.Boundary.{IsRingFault}
-use Rattle.gds_elements.specs.declared.fault.GdsKind.{GdsKind}
-use Rattle.gds_elements.specs.declared.fault.GdsKind.TheVariants.{Record, Unexpected, Unsupported, Layer, Points, NotClosed, Strans, Magnification, Angle, ColRow, ArrayStep, Name, Path, Width, PathType, AfterEnd, Oblique, Repetition, TooManyCells}
+use Rattle.gds_elements.specs.declared.fault.Misplaced.TheVariants.{Unexpected, Unsupported}
+use Rattle.gds_elements.specs.declared.fault.ElementFault.TheVariants.{Misplaced as MisplacedRecord, Rule}
+use Rattle.gds_elements.specs.declared.fault.ElementRule.{ElementRule}
+use Rattle.gds_elements.specs.declared.fault.ElementRule.TheVariants.{Layer, Points, NotClosed, Strans, Magnification, Angle, ColRow, ArrayStep, Name, Path, Width, PathType, Oblique, Repetition}
 use Rattle.gds_elements.proofs.Fields.{kinds-snoc}
 use Rattle.gds_elements.proofs.Words.{begun_known}
 
@@ -68,21 +68,15 @@ counted piece k n e ok h = elim (miscounted piece k n e h) [
 ]
 
 -- a record in order whose values breach no rule breaches none
-pub allowed : (piece : List Rec) (r : Rec) → InOrder piece r → ((k : GdsKind) → ValueBreaches piece r k → ⊥) → BreachesNone piece r
-allowed piece r g n (Unexpected j) x = x.2 g
-allowed piece r g n (Unsupported j) x = x.2 (subst IsKnown x.0 (begun_known (kinds piece) r.kind (subst (Begins an_element) (kinds-snoc piece r) g)))
-allowed piece r g n other x = n other x.1
-
--- a value that breaches a rule, in order
-pub refused : (piece : List Rec) (r : Rec) (k : GdsKind) → InOrder piece r → ValueBreaches piece r k → ElementBreaches piece r k
-refused piece r (Unexpected j) g b = absurd b
-refused piece r (Unsupported j) g b = absurd b
-refused piece r other g b = (g, b)
+pub allowed : (piece : List Rec) (r : Rec) → InOrder piece r → ((k : ElementRule) → ValueBreaches piece r k → ⊥) → BreachesNone piece r
+allowed piece r g n (MisplacedRecord (Unexpected j)) x = x.2 g
+allowed piece r g n (MisplacedRecord (Unsupported j)) x = x.2 (subst IsKnown x.0 (begun_known (kinds piece) r.kind (subst (Begins an_element) (kinds-snoc piece r) g)))
+allowed piece r g n (Rule k) x = n k x.1
 
 pub law_boundary : (piece : List Rec) (r : Rec) → opener piece ≡ Some boundary
     → (IsLayerNumber r.kind → pos 0 ≤ℤ short r.payload)
     → (r.kind ≡ xy → (4 ≤ length (points r.payload)) × IsClosed (points r.payload) × All IsStraight (steps (points r.payload)))
-    → (k : GdsKind) → ValueBreaches piece r k → ⊥
+    → (k : ElementRule) → ValueBreaches piece r k → ⊥
 law_boundary piece r o l p Layer x = (let z = l x.0 in omega (arith, ints, z, x.2))
 law_boundary piece r o l p Points x =
     counted piece boundary (length (points r.payload)) o (λ _. (p x.0).0, λ e. absurd (omega arith), λ e. absurd (omega arith), λ e. absurd (omega arith), λ e. absurd (omega arith)) x.1
@@ -98,24 +92,13 @@ law_boundary piece r o l p Width x = (let z = one_opener piece boundary path o x
 law_boundary piece r o l p PathType x = (let z = one_opener piece boundary path o x.1 in omega (arith, z))
 law_boundary piece r o l p Oblique x = x.4 (p x.0).2
 law_boundary piece r o l p Repetition x = (let z = one_opener piece boundary aref o x.1 in omega (arith, z))
-law_boundary piece r o l p other x = x
-
-no_path_fault : (ps : List Point) (h s e : ℕ) (f : PathFault) → f ≢ OutOfMemory → IsPath ps (record { half = h; start = s; end = e }) → HasFault ps (record { half = h; start = s; end = e }) f → ⊥
-no_path_fault ps h s e NoWidth n p x = p.0 x
-no_path_fault ps h s e FewPoints n p x = p.1.0 x
-no_path_fault ps h s e ObliqueStep n p x = p.1.1.0 x
-no_path_fault ps h s e RepeatedPoint n p x = p.1.1.1.0 x
-no_path_fault ps h s e TurnsBack n p x = p.1.1.1.1.0 x
-no_path_fault ps h s e ShortRun n p x = p.1.1.1.1.1.0 x
-no_path_fault ps h s e OutOfRange n p x = p.1.1.1.1.1.1.0 x
-no_path_fault ps h s e OutOfMemory n p x = n refl
 
 pub law_path : (piece : List Rec) (r : Rec) → opener piece ≡ Some path
     → (IsLayerNumber r.kind → pos 0 ≤ℤ short r.payload)
     → (r.kind ≡ pathtype → short r.payload ≢ pos 0 → short r.payload ≡ pos 2)
     → (r.kind ≡ width → IsWidth (long r.payload))
     → (r.kind ≡ xy → (2 ≤ length (points r.payload)) × (last_of width piece ≢ None) × IsPath (points r.payload) (record { half = half_of piece; start = end_of piece; end = end_of piece }))
-    → (k : GdsKind) → ValueBreaches piece r k → ⊥
+    → (k : ElementRule) → ValueBreaches piece r k → ⊥
 law_path piece r o l t w p Layer x = (let z = l x.0 in omega (arith, ints, z, x.2))
 law_path piece r o l t w p Points x =
     counted piece path (length (points r.payload)) o (λ e. absurd (omega arith), λ _. (p x.0).0, λ e. absurd (omega arith), λ e. absurd (omega arith), λ e. absurd (omega arith)) x.1
@@ -126,15 +109,14 @@ law_path piece r o l t w p Angle x = shape_refers piece path o (λ e. omega arit
 law_path piece r o l t w p ColRow x = (let z = one_opener piece path aref o x.1 in omega (arith, z))
 law_path piece r o l t w p ArrayStep x = (let z = one_opener piece path aref o x.1 in omega (arith, z))
 law_path piece r o l t w p Name x = shape_refers piece path o (λ e. omega arith) (λ e. omega arith) x.1
-law_path piece r o l t w p (Path f) x = no_path_fault (points r.payload) (half_of piece) (end_of piece) (end_of piece) f x.4 (p x.0).2 x.5.0
+law_path piece r o l t w p (Path f) x = (p x.0).2 f x.4.breached
 law_path piece r o l t w p Width x = elim x.1 [ inl y ↦ y.1 (w y.0) | inr y ↦ (p y.0).1 y.2 ]
 law_path piece r o l t w p PathType x = x.3 (t x.0 x.2)
 law_path piece r o l t w p Oblique x = (let z = one_opener piece path boundary o x.1 in omega (arith, z))
 law_path piece r o l t w p Repetition x = (let z = one_opener piece path aref o x.1 in omega (arith, z))
-law_path piece r o l t w p other x = x
 
 pub law_sref : (piece : List Rec) (r : Rec) → opener piece ≡ Some sref
-    → IsPlacingAllowed r.kind r.payload → (r.kind ≡ xy → length (points r.payload) ≡ 1) → (k : GdsKind) → ValueBreaches piece r k → ⊥
+    → IsPlacingAllowed r.kind r.payload → (r.kind ≡ xy → length (points r.payload) ≡ 1) → (k : ElementRule) → ValueBreaches piece r k → ⊥
 law_sref piece r o a p Layer x = reference_draws piece sref o (λ e. omega arith) (λ e. omega arith) x.1
 law_sref piece r o a p Points x =
     counted piece sref (length (points r.payload)) o (λ e. absurd (omega arith), λ e. absurd (omega arith), λ e. absurd (omega arith), λ _. p x.0, λ e. absurd (omega arith)) x.1
@@ -150,12 +132,11 @@ law_sref piece r o a p Width x = (let z = one_opener piece sref path o x.0 in om
 law_sref piece r o a p PathType x = (let z = one_opener piece sref path o x.1 in omega (arith, z))
 law_sref piece r o a p Oblique x = (let z = one_opener piece sref boundary o x.1 in omega (arith, z))
 law_sref piece r o a p Repetition x = (let z = one_opener piece sref aref o x.1 in omega (arith, z))
-law_sref piece r o a p other x = x
 
 pub law_aref : (piece : List Rec) (r : Rec) → opener piece ≡ Some aref
     → IsPlacingAllowed r.kind r.payload → (r.kind ≡ colrow → IsCounted r.payload)
     → (r.kind ≡ xy → (length (points r.payload) ≡ 3) × HasSteps (points r.payload) (columns_in (last_of colrow piece)) (rows_in (last_of colrow piece)))
-    → (k : GdsKind) → ValueBreaches piece r k → ⊥
+    → (k : ElementRule) → ValueBreaches piece r k → ⊥
 law_aref piece r o a c p Layer x = reference_draws piece aref o (λ e. omega arith) (λ e. omega arith) x.1
 law_aref piece r o a c p Points x =
     counted piece aref (length (points r.payload)) o (λ e. absurd (omega arith), λ e. absurd (omega arith), λ _. (p x.0).0, λ e. absurd (omega arith), λ e. absurd (omega arith)) x.1
@@ -171,10 +152,9 @@ law_aref piece r o a c p Width x = (let z = one_opener piece aref path o x.0 in 
 law_aref piece r o a c p PathType x = (let z = one_opener piece aref path o x.1 in omega (arith, z))
 law_aref piece r o a c p Oblique x = (let z = one_opener piece aref boundary o x.1 in omega (arith, z))
 law_aref piece r o a c p Repetition x = (let z = c x.0 in omega (arith, z.few, x.4))
-law_aref piece r o a c p other x = x
 
 pub law_text : (piece : List Rec) (r : Rec) → opener piece ≡ Some text
-    → (r.kind ≡ xy → length (points r.payload) ≡ 1) → (k : GdsKind) → ValueBreaches piece r k → ⊥
+    → (r.kind ≡ xy → length (points r.payload) ≡ 1) → (k : ElementRule) → ValueBreaches piece r k → ⊥
 law_text piece r o p Layer x = reference_draws piece text o (λ e. omega arith) (λ e. omega arith) x.1
 law_text piece r o p Points x =
     counted piece text (length (points r.payload)) o (λ e. absurd (omega arith), λ e. absurd (omega arith), λ e. absurd (omega arith), λ e. absurd (omega arith), λ _. p x.0) x.1
@@ -190,7 +170,6 @@ law_text piece r o p Width x = (let z = one_opener piece text path o x.0 in omeg
 law_text piece r o p PathType x = (let z = one_opener piece text path o x.1 in omega (arith, z))
 law_text piece r o p Oblique x = (let z = one_opener piece text boundary o x.1 in omega (arith, z))
 law_text piece r o p Repetition x = (let z = one_opener piece text aref o x.1 in omega (arith, z))
-law_text piece r o p other x = x
 
 -- points say nothing of how a cell is placed
 pub placing_at_points : (k : ℕ) (p : List ℕ) → k ≡ xy → IsPlacingAllowed k p
@@ -202,25 +181,20 @@ placing_at_points k p x = record {
 }
 
 -- the end breaches no rule
-pub law_endel : (piece : List Rec) (r : Rec) → r.kind ≡ endel → (k : GdsKind) → ValueBreaches piece r k → ⊥
-law_endel piece r e (Record f) x = x
-law_endel piece r e (Unexpected j) x = x
-law_endel piece r e (Unsupported j) x = x
-law_endel piece r e AfterEnd x = x
-law_endel piece r e TooManyCells x = x
+pub law_endel : (piece : List Rec) (r : Rec) → r.kind ≡ endel → (k : ElementRule) → ValueBreaches piece r k → ⊥
 law_endel piece r e Layer x = elim x.0 [ inl y ↦ omega (arith, y, e) | inr y ↦ omega (arith, y, e) ]
 law_endel piece r e Width x = elim x.1 [ inl y ↦ omega (arith, y.0, e) | inr y ↦ omega (arith, y.0, e) ]
 law_endel piece r e other x = omega (arith, x.0, e)
 
 -- what is wrong with the points of a boundary breaches a rule
-pub ring_fault : (piece : List Rec) (r : Rec) → opener piece ≡ Some boundary → r.kind ≡ xy → (k : GdsKind) → IsRingFault (points r.payload) k → ValueBreaches piece r k
+pub ring_fault : (piece : List Rec) (r : Rec) → opener piece ≡ Some boundary → r.kind ≡ xy → (k : ElementRule) → IsRingFault (points r.payload) k → ValueBreaches piece r k
 ring_fault piece r o x Points b = (x, inl (o, b))
 ring_fault piece r o x NotClosed b = (x, o, b.0, b.1)
 ring_fault piece r o x Oblique b = (x, o, b.0, b.1, b.2)
 ring_fault piece r o x other b = absurd b
 
 -- so does what is wrong with how a cell is placed
-pub placing_fault : (piece : List Rec) (r : Rec) → RefersToCell piece → (k : GdsKind) → IsPlacingFault r.kind r.payload k → ValueBreaches piece r k
+pub placing_fault : (piece : List Rec) (r : Rec) → RefersToCell piece → (k : ElementRule) → IsPlacingFault r.kind r.payload k → ValueBreaches piece r k
 placing_fault piece r o Strans b = (b.0, o, b.1, b.2)
 placing_fault piece r o Magnification b = (b.0, o, b.1)
 placing_fault piece r o Angle b = (b.0, o, b.1)
@@ -228,7 +202,7 @@ placing_fault piece r o Name b = (b.0, o, b.1)
 placing_fault piece r o other b = absurd b
 
 -- and what is wrong with columns and rows
-pub count_fault : (piece : List Rec) (r : Rec) → opener piece ≡ Some aref → (k : GdsKind) → (r.kind ≡ colrow) × IsCountFault r.payload k → ValueBreaches piece r k
+pub count_fault : (piece : List Rec) (r : Rec) → opener piece ≡ Some aref → (k : ElementRule) → (r.kind ≡ colrow) × IsCountFault r.payload k → ValueBreaches piece r k
 count_fault piece r o ColRow b = (b.0, o, b.1)
 count_fault piece r o Repetition b = (b.0, o, b.1.0, b.1.1, b.1.2)
 count_fault piece r o other b = absurd b.1

@@ -3,21 +3,22 @@ use Rattle.std.proofs.Common.{◌≡◌, ◌==◌, ℕ, false, if◌then◌else�
 use Rattle.lvl_grid.specs.declared.point.Point.{Point}
 use Rattle.lvl_cells.specs.Cells.{PlainReference}
 use Rattle.gds_elements.specs.Types.{aref, sname, strans, mag, angle, colrow, xy, endel}
-use Rattle.gds_elements.specs.Order.{one}
+use Rattle.lvl_grammar.specs.Order.{one}
 use Rattle.gds_elements.specs.Rec.{Rec, opener, field, last_of}
 use Rattle.gds_elements.specs.Values.{magnitude, columns, rows, name, flips, turn, points, nth}
 use Rattle.gds_elements.specs.Meaning.{shapes_by, references_by, in_rings, columns_in, rows_in, array_shifts, shifts_of}
 use Rattle.gds_elements.specs.Aref.{after, left, IsArefRead, IsArrayFault}
 use Rattle.gds_elements.specs.Rules.{HasSteps, ValueBreaches}
-use Rattle.gds_elements.specs.declared.fault.GdsKind.{GdsKind}
-use Rattle.gds_elements.specs.declared.fault.GdsKind.TheVariants.{Points as PointsFault, ArrayStep}
+use Rattle.gds_elements.specs.declared.fault.ElementRule.{ElementRule}
+use Rattle.gds_elements.specs.declared.fault.ElementRule.TheVariants.{Points as PointsFault, ArrayStep}
 use Rattle.gds_elements.specs.Reading.{IsAtEnd}
 use Rattle.gds_elements.specs.declared.order.Next.TheVariants.{Goes, Ends, Nowhere}
 use Rattle.gds_elements.specs.declared.aref.Place.{Place}
 use Rattle.gds_elements.specs.declared.aref.Place.TheVariants.{Name, Strans, Magnification, Angle, Columns, Points}
 use Rattle.gds_elements.specs.declared.aref.Aref.{Aref}
 use Rattle.gds_elements.specs.declared.element.Drawn.TheVariants.{Reference}
-use Rattle.gds_elements.proofs.Orders.{at_type, after_first}
+use Rattle.lvl_grammar.specs.inside.After.{after_first}
+use Rattle.lvl_grammar.proofs.Orders.{at_type}
 use Rattle.gds_elements.proofs.Fields.{opener-snoc, last_read, last_there, field_here}
 use Rattle.gds_elements.proofs.Leads.{left_behind, leads_more}
 use Rattle.gds_elements.proofs.Shapes.{kind_test}
@@ -112,7 +113,7 @@ pub steps_of : (s : Aref) (piece : List Rec) (ps : List Point) → IsArefRead s 
 steps_of s piece ps h k = (k.0, subst (λ n. HasSteps ps (columns_in (last_of colrow piece)) n) h.rows (subst (λ m. HasSteps ps m s.counts.rows) h.columns k.1))
 
 -- what is wrong with the points of an array breaches a rule
-pub array_fault : (s : Aref) (piece : List Rec) (r : Rec) → IsArefRead s piece → r.kind ≡ xy → (k : GdsKind) → IsArrayFault (points r.payload) s.counts.columns s.counts.rows k → ValueBreaches piece r k
+pub array_fault : (s : Aref) (piece : List Rec) (r : Rec) → IsArefRead s piece → r.kind ≡ xy → (k : ElementRule) → IsArrayFault (points r.payload) s.counts.columns s.counts.rows k → ValueBreaches piece r k
 array_fault s piece r h x PointsFault b = (x, inr (inr (inl (h.opened, b))))
 array_fault s piece r h x ArrayStep b =
     (x, h.opened, b.0, λ z. b.1 (subst (λ m. HasSteps (points r.payload) m s.counts.rows) (sym h.columns) (subst (λ n. HasSteps (points r.payload) (columns_in (last_of colrow piece)) n) (sym h.rows) z)))

@@ -3,7 +3,7 @@ use Rattle.std.proofs.Common.{◌≡◌, ◌==◌, ℕ, false, if◌then◌else�
 use Rattle.lvl_grid.specs.declared.point.Point.{Point}
 use Rattle.lvl_cells.specs.Cells.{Rings}
 use Rattle.gds_elements.specs.Types.{boundary, layer, datatype, xy, endel}
-use Rattle.gds_elements.specs.Order.{one}
+use Rattle.lvl_grammar.specs.Order.{one}
 use Rattle.gds_elements.specs.Rec.{Rec, opener, field}
 use Rattle.gds_elements.specs.Values.{short, magnitude, points, but_last}
 use Rattle.gds_elements.specs.Meaning.{layer_of, shapes_by, references_by, in_rings, one_place}
@@ -14,7 +14,8 @@ use Rattle.gds_elements.specs.declared.boundary.Place.{Place}
 use Rattle.gds_elements.specs.declared.boundary.Place.TheVariants.{Layer, Datatype, Points}
 use Rattle.gds_elements.specs.declared.boundary.Boundary.{Boundary}
 use Rattle.gds_elements.specs.declared.element.Drawn.TheVariants.{Shape}
-use Rattle.gds_elements.proofs.Orders.{at_type, after_first}
+use Rattle.lvl_grammar.specs.inside.After.{after_first}
+use Rattle.lvl_grammar.proofs.Orders.{at_type}
 use Rattle.gds_elements.proofs.Fields.{field_here, opener-snoc}
 use Rattle.gds_elements.proofs.Leads.{left_behind, leads_more}
 use Rattle.gds_elements.proofs.Shapes.{layer_more, layer_kept, shape_same, kind_test}

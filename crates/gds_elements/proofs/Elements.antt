@@ -2,9 +2,10 @@
 use Rattle.std.proofs.Common.{◌≡◌, ◌==◌, ◌&&◌, ◌||◌, ℕ, inl, inr, Bool, true, false, not, List, [], ◌∷◌, ◌++◌, refl, sym, ap, ◌∙◌, subst, append_assoc}
 use Rattle.std.proofs.lemmas.List.{append-nil}
 use Rattle.gds_elements.specs.Types.{boundary, path, sref, aref, text, endel}
-use Rattle.gds_elements.specs.Order.{Order, nothing, one, next, either, many, IsWord, Begins, has, opens, an_element}
+use Rattle.lvl_grammar.specs.Order.{Order, nothing, one, next, either, many, IsWord, Begins, has}
+use Rattle.gds_elements.specs.Order.{opens, an_element}
 use Rattle.gds_elements.specs.Rec.{Rec, kinds}
-use Rattle.gds_elements.specs.Leading.{LeadsTo}
+use Rattle.lvl_grammar.specs.inside.After.{LeadsTo}
 use Rattle.gds_elements.specs.Reading.{HasRead, IsReading}
 use Rattle.gds_elements.specs.declared.element.Element.{Element}
 use Rattle.gds_elements.specs.declared.element.State.{State}
@@ -24,7 +25,8 @@ use Rattle.gds_elements.specs.Path.{left as path_left}
 use Rattle.gds_elements.specs.Sref.{left as sref_left}
 use Rattle.gds_elements.specs.Aref.{left as aref_left}
 use Rattle.gds_elements.specs.Text.{left as text_left}
-use Rattle.gds_elements.proofs.Orders.{at_type, type_same, empty_word, can_be_empty}
+use Rattle.lvl_grammar.specs.inside.After.{can_be_empty}
+use Rattle.lvl_grammar.proofs.Orders.{at_type, type_same, empty_word}
 use Rattle.gds_elements.proofs.Leads.{leads_begins}
 use Rattle.gds_elements.proofs.Words.{Stands, stands_append, stands_left, has_all}
 
@@ -85,7 +87,7 @@ nothing_follows w u h g =
     let q = ends_once endel an_element (w ++ u) refl g in
     one_end endel p.before q.before u q.nowhere (ap (λ l. l ++ u) (sym p.is) ∙ q.is)
 
-more_left : (w : List ℕ) (a : Order) → can_be_empty a ≡ false → LeadsTo w a → IsWord an_element w → ⊥
+more_left : (w : List ℕ) (a : Order) → can_be_empty a ≡ false → LeadsTo an_element w a → IsWord an_element w → ⊥
 more_left w a n h x =
     let y : IsWord a [] = (h []).0 (subst (IsWord an_element) (sym (append-nil w)) x) in
     let z : false ≡ true = sym n ∙ empty_word a y in

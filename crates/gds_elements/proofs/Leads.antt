@@ -1,18 +1,24 @@
 -- What may still come in an element, with one record more.
-use Rattle.std.proofs.Common.{◌≡◌, ◌==◌, ℕ, ◌<◌, inl, inr, Bool, true, false, List, [], ◌∷◌, ◌++◌, refl, sym, subst, append_assoc, arith}
+use Rattle.std.proofs.Common.{◌≡◌, ◌==◌, ℕ, ◌<◌, Bool, true, false, List, [], ◌∷◌, ◌++◌, refl, sym, subst, arith}
 use Rattle.gds_elements.specs.Types.{endel}
-use Rattle.gds_elements.specs.Order.{Order, one, IsWord, Begins, an_element}
+use Rattle.lvl_grammar.specs.Order.{Order, one, Begins}
+use Rattle.gds_elements.specs.Order.{an_element}
 use Rattle.gds_elements.specs.Rec.{Rec, kinds}
-use Rattle.gds_elements.specs.Rules.{IsKnown, InOrder, ElementBreaches}
-use Rattle.gds_elements.specs.Leading.{LeadsTo}
-use Rattle.gds_elements.specs.Misplaced.{IsMisplaced, Says}
-use Rattle.gds_elements.specs.declared.fault.Refusal.{Refusal}
-use Rattle.gds_elements.specs.declared.fault.Refusal.TheVariants.{Breach, OutOfMemory}
-use Rattle.gds_elements.specs.declared.fault.GdsKind.{GdsKind}
-use Rattle.gds_elements.specs.declared.fault.GdsKind.TheVariants.{Unexpected, Unsupported}
+use Rattle.gds_elements.specs.Rules.{IsKnown, InOrder, IsMisplacedAs, ElementBreaches}
+use Rattle.lvl_grammar.specs.inside.After.{LeadsTo}
+use Rattle.lvl_refusal.specs.Refused.{Says}
+use Rattle.gds_elements.specs.Misplaced.{IsMisplacement, IsMisplaced}
+use Rattle.lvl_refusal.specs.declared.Refusal.{Refusal}
+use Rattle.gds_elements.specs.declared.fault.ElementFault.{ElementFault}
+use Rattle.gds_elements.specs.declared.fault.ElementFault.TheVariants.{Misplaced as MisplacedRecord, Rule}
+use Rattle.gds_elements.specs.declared.fault.Misplaced.{Misplaced}
+use Rattle.gds_elements.specs.declared.fault.Misplaced.TheVariants.{Unexpected, Unsupported}
+use Rattle.lvl_refusal.specs.declared.Refusal.TheVariants.{Breach, OutOfMemory}
 use Rattle.gds_elements.specs.declared.order.Next.{Next}
 use Rattle.gds_elements.specs.declared.order.Next.TheVariants.{Goes, Ends, Nowhere}
-use Rattle.gds_elements.proofs.Orders.{type_same, after_first, IsWordOfOne, first_taken, first_put, some_word, some_word-is}
+use Rattle.lvl_grammar.specs.inside.After.{after_first}
+use Rattle.lvl_grammar.proofs.Orders.{type_same}
+use Rattle.lvl_grammar.proofs.Leads.{leads_begin, leads_on, leads_nowhere, leads_begins as begins_by}
 use Rattle.gds_elements.proofs.Fields.{kinds-snoc}
 
 -- what is left behind a record
@@ -21,47 +27,40 @@ left_behind left (Goes p) = left p ∷ []
 left_behind left Ends = one endel ∷ []
 left_behind left Nowhere = []
 
-only_one : (a : Order) (v : List ℕ) → IsWordOfOne (a ∷ []) v → IsWord a v
-only_one a v h = elim h [ inl x ↦ x | inr y ↦ absurd y ]
+-- what leads to what is left begins an element
+pub leads_begins : (w : List ℕ) (a : Order) → LeadsTo an_element w a → Begins an_element w
+leads_begins = begins_by an_element
 
--- a record that may stand leads to what is left behind it
-pub leads_on : (w : List ℕ) (a b : Order) (k : ℕ) → LeadsTo w a → after_first a k ≡ b ∷ [] → LeadsTo (w ++ k ∷ []) b
-leads_on w a b k h t v =
-    let g : (w ++ k ∷ []) ++ v ≡ w ++ (k ∷ v) = append_assoc w (k ∷ []) v in (
-      λ x. only_one b v (subst (λ rs. IsWordOfOne rs v) t (first_taken a k v ((h (k ∷ v)).0 (subst (IsWord an_element) g x)))),
-      λ y. subst (IsWord an_element) (sym g) ((h (k ∷ v)).1 (first_put a k v (subst (λ rs. IsWordOfOne rs v) (sym t) (inl y)))),
-    )
-
-leads_nowhere : (w : List ℕ) (a : Order) (k : ℕ) → LeadsTo w a → after_first a k ≡ [] → Begins an_element (w ++ k ∷ []) → ⊥
-leads_nowhere w a k h t (v, x) =
-    let g : (w ++ k ∷ []) ++ v ≡ w ++ (k ∷ v) = append_assoc w (k ∷ []) v in
-    subst (λ rs. IsWordOfOne rs v) t (first_taken a k v ((h (k ∷ v)).0 (subst (IsWord an_element) g x)))
-
-pub leads_begins : (w : List ℕ) (a : Order) → LeadsTo w a → Begins an_element w
-leads_begins w a h = (some_word a, (h (some_word a)).1 (some_word-is a))
-
--- one record more behind a piece
-pub leads_more : (piece : List Rec) (r : Rec) (a b : Order) → LeadsTo (kinds piece) a → after_first a r.kind ≡ b ∷ [] → LeadsTo (kinds (piece ++ r ∷ [])) b
-leads_more piece r a b h t = subst (λ w. LeadsTo w b) (sym (kinds-snoc piece r)) (leads_on (kinds piece) a b r.kind h t)
+-- a piece with one record more
+pub leads_more : (piece : List Rec) (r : Rec) (a b : Order) → LeadsTo an_element (kinds piece) a → after_first a r.kind ≡ b ∷ [] → LeadsTo an_element (kinds (piece ++ r ∷ [])) b
+leads_more piece r a b h t = subst (λ w. LeadsTo an_element w b) (sym (kinds-snoc piece r)) (leads_on an_element (kinds piece) a b r.kind h t)
 
 -- the record stands in order
-pub in_order : (piece : List Rec) (r : Rec) (a b : Order) → LeadsTo (kinds piece) a → after_first a r.kind ≡ b ∷ [] → InOrder piece r
-in_order piece r a b h t = leads_begins (kinds (piece ++ r ∷ [])) b (leads_more piece r a b h t)
+pub in_order : (piece : List Rec) (r : Rec) (a b : Order) → LeadsTo an_element (kinds piece) a → after_first a r.kind ≡ b ∷ [] → InOrder piece r
+in_order piece r a b h t = begins_by an_element (kinds (piece ++ r ∷ [])) b (leads_more piece r a b h t)
 
 -- the opener alone
-pub leads_first : (k : ℕ) (a : Order) → after_first an_element k ≡ a ∷ [] → LeadsTo (k ∷ []) a
-leads_first k a t = leads_on [] an_element a k (λ v. (λ x. x, λ x. x)) t
+pub leads_first : (k : ℕ) (a : Order) → after_first an_element k ≡ a ∷ [] → LeadsTo an_element (k ∷ []) a
+leads_first k a t = leads_on an_element [] an_element a k (leads_begin an_element) t
 
--- a misplaced record breaches a rule
-pub law_misplaced : (piece : List Rec) (r : Rec) (a : Order) (e : Refusal) → LeadsTo (kinds piece) a → after_first a r.kind ≡ [] → r.kind < 60 → IsMisplaced r.kind e → Says e (ElementBreaches piece r)
-law_misplaced piece r a (Breach (Unexpected j)) h t l m =
-    (sym m.0, subst IsKnown (sym m.0) m.1, λ g. leads_nowhere (kinds piece) a r.kind h t (subst (Begins an_element) (kinds-snoc piece r) g))
-law_misplaced piece r a (Breach (Unsupported j)) h t l m = (sym m.0, omega (arith, m.0), λ g. m.1 (subst IsKnown m.0 g))
-law_misplaced piece r a (Breach other) h t l m = absurd m
-law_misplaced piece r a OutOfMemory h t l m = absurd m
+-- a record that may not come breaches a rule
+pub misplaced_as : (ordered : Type 0) (r : Rec) (m : Misplaced) → (ordered → ⊥) → r.kind < 60 → IsMisplacement r.kind m → IsMisplacedAs ordered r m
+misplaced_as ordered r (Unexpected j) n l m = (sym m.0, subst IsKnown (sym m.0) m.1, n)
+misplaced_as ordered r (Unsupported j) n l m = (sym m.0, omega (arith, m.0), λ g. m.1 (subst IsKnown m.0 g))
+
+-- and where another order has it no more
+pub misplaced_carried : (a b : Type 0) (r : Rec) (m : Misplaced) → (b → a) → IsMisplacedAs a r m → IsMisplacedAs b r m
+misplaced_carried a b r (Unexpected j) f x = (x.0, x.1, λ g. x.2 (f g))
+misplaced_carried a b r (Unsupported j) f x = x
+
+pub law_misplaced : (piece : List Rec) (r : Rec) (a : Order) (e : Refusal ElementFault) → LeadsTo an_element (kinds piece) a → after_first a r.kind ≡ [] → r.kind < 60 → IsMisplaced r.kind e → Says e (ElementBreaches piece r)
+law_misplaced piece r a (Breach (MisplacedRecord m)) h t l x =
+    misplaced_as (InOrder piece r) r m (λ g. leads_nowhere an_element (kinds piece) a r.kind h t (subst (Begins an_element) (kinds-snoc piece r) g)) l x
+law_misplaced piece r a (Breach (Rule k)) h t l x = absurd x
+law_misplaced piece r a OutOfMemory h t l x = absurd x
 
 -- what is said of a breach, carried on
-pub says_carried : (e : Refusal) (P Q : GdsKind → Type 0) → ((k : GdsKind) → P k → Q k) → Says e P → Says e Q
+pub says_carried : {F : Type 0} (e : Refusal F) (P : F → Type 0) (Q : F → Type 0) → ((k : F) → P k → Q k) → Says e P → Says e Q
 says_carried (Breach k) P Q f h = f k h
 says_carried OutOfMemory P Q f h = tt
 

@@ -1,4 +1,3 @@
-pub mod Orders
 pub mod Points
 pub mod Closing
 pub mod Fields

@@ -1,76 +1,50 @@
 -- A record breaches one rule at most.
-use Rattle.std.proofs.Common.{◌≡◌, ◌≢◌, ℕ, ◌≤◌, inl, inr, List, length, Some, refl, sym, ap, ◌∙◌, subst, arith}
+use Rattle.std.proofs.Common.{Bool, true, ◌||◌, ◌≡◌, ◌≢◌, ◌==◌, if◌then◌else◌, ℕ, ◌<◌, ◌≤◌, inl, inr, List, length, Some, refl, sym, ap, ◌∙◌, subst, arith}
 use Rattle.std.proofs.lemmas.Int.{ints}
 use Rattle.lvl_grid.specs.declared.point.Point.{Point}
-use Rattle.lvl_path.specs.Runs.{IsLowestFault}
+use Rattle.lvl_path.specs.Runs.{IsLowestFault, number}
 use Rattle.lvl_path.specs.declared.fault.PathFault.{PathFault}
-use Rattle.lvl_path.specs.declared.fault.PathFault.TheVariants.{NoWidth, FewPoints, Oblique as ObliqueStep, RepeatedPoint, TurnsBack, ShortRun, OutOfRange, OutOfMemory}
-use Rattle.gds_elements.specs.Types.{boundary, path, aref}
-use Rattle.gds_elements.specs.Order.{Begins, an_element}
+use Rattle.lvl_path.specs.declared.fault.PathFault.TheVariants.{NoWidth, FewPoints, Oblique as ObliqueStep, RepeatedPoint, TurnsBack, ShortRun, OutOfRange}
+use Rattle.gds_elements.specs.Types.{boundary, path, aref, layer, datatype, width, xy, sname, colrow, strans, mag, angle, pathtype}
+use Rattle.lvl_grammar.specs.Order.{Begins}
+use Rattle.gds_elements.specs.Order.{an_element}
 use Rattle.gds_elements.specs.Rec.{Rec, kinds, opener}
 use Rattle.gds_elements.specs.Values.{points}
 use Rattle.gds_elements.specs.Meaning.{half_of, end_of}
-use Rattle.gds_elements.specs.Rules.{IsKnown, IsMiscounted, InOrder, ValueBreaches, ElementBreaches}
-use Rattle.gds_elements.specs.declared.fault.GdsKind.{GdsKind}
-use Rattle.gds_elements.specs.declared.fault.GdsKind.TheVariants.{Record, Unexpected, Unsupported, Layer, Points, NotClosed, Strans, Magnification, Angle, ColRow, ArrayStep, Name, Path, Width, PathType, AfterEnd, Oblique, Repetition, TooManyCells}
+use Rattle.gds_elements.specs.Rules.{IsKnown, IsMiscounted, InOrder, ValueBreaches, IsMisplacedAs, ElementBreaches}
+use Rattle.gds_elements.specs.declared.fault.Misplaced.{Misplaced}
+use Rattle.gds_elements.specs.declared.fault.Misplaced.TheVariants.{Unexpected, Unsupported}
+use Rattle.gds_elements.specs.declared.fault.ElementFault.{ElementFault}
+use Rattle.gds_elements.specs.declared.fault.ElementFault.TheVariants.{Misplaced as MisplacedRecord, Rule}
+use Rattle.gds_elements.specs.declared.fault.ElementRule.{ElementRule}
+use Rattle.gds_elements.specs.declared.fault.ElementRule.TheVariants.{Layer, Points, NotClosed, Strans, Magnification, Angle, ColRow, ArrayStep, Name, Path, Width, PathType, Oblique, Repetition}
 use Rattle.gds_elements.proofs.Fields.{kinds-snoc}
 use Rattle.gds_elements.proofs.Words.{begun_known}
 use Rattle.gds_elements.proofs.Allowed.{one_opener, counted}
 
+-- the rule of a number
+rule_at : ℕ → PathFault
+rule_at n =
+    if n == 1 then NoWidth else (if n == 2 then FewPoints else (if n == 3 then ObliqueStep else (if n == 4 then RepeatedPoint
+    else (if n == 5 then TurnsBack else (if n == 6 then ShortRun else OutOfRange)))))
+
+rule_back : (f : PathFault) → rule_at (number f) ≡ f
+unfolding rule_at
+rule_back NoWidth = refl
+rule_back FewPoints = refl
+rule_back ObliqueStep = refl
+rule_back RepeatedPoint = refl
+rule_back TurnsBack = refl
+rule_back ShortRun = refl
+rule_back OutOfRange = refl
+
 -- two faults of a path are not both the lowest
-lowest_apart : (ps : List Point) (h s e : ℕ) (f g : PathFault) → f ≢ OutOfMemory → g ≢ OutOfMemory
-    → IsLowestFault ps (record { half = h; start = s; end = e }) f → IsLowestFault ps (record { half = h; start = s; end = e }) g → f ≡ g
-lowest_apart ps h s e OutOfMemory g m n x y = absurd (m refl)
-lowest_apart ps h s e f OutOfMemory m n x y = absurd (n refl)
-lowest_apart ps h s e NoWidth NoWidth m n x y = refl
-lowest_apart ps h s e FewPoints FewPoints m n x y = refl
-lowest_apart ps h s e ObliqueStep ObliqueStep m n x y = refl
-lowest_apart ps h s e RepeatedPoint RepeatedPoint m n x y = refl
-lowest_apart ps h s e TurnsBack TurnsBack m n x y = refl
-lowest_apart ps h s e ShortRun ShortRun m n x y = refl
-lowest_apart ps h s e OutOfRange OutOfRange m n x y = refl
-lowest_apart ps h s e NoWidth FewPoints m n x y = absurd (y.1.0 x.0)
-lowest_apart ps h s e NoWidth ObliqueStep m n x y = absurd (y.1.0 x.0)
-lowest_apart ps h s e NoWidth RepeatedPoint m n x y = absurd (y.1.0 x.0)
-lowest_apart ps h s e NoWidth TurnsBack m n x y = absurd (y.1.0 x.0)
-lowest_apart ps h s e NoWidth ShortRun m n x y = absurd (y.1.0 x.0)
-lowest_apart ps h s e NoWidth OutOfRange m n x y = absurd (y.1.0 x.0)
-lowest_apart ps h s e FewPoints NoWidth m n x y = absurd (x.1.0 y.0)
-lowest_apart ps h s e FewPoints ObliqueStep m n x y = absurd (y.1.1.0 x.0)
-lowest_apart ps h s e FewPoints RepeatedPoint m n x y = absurd (y.1.1.0 x.0)
-lowest_apart ps h s e FewPoints TurnsBack m n x y = absurd (y.1.1.0 x.0)
-lowest_apart ps h s e FewPoints ShortRun m n x y = absurd (y.1.1.0 x.0)
-lowest_apart ps h s e FewPoints OutOfRange m n x y = absurd (y.1.1.0 x.0)
-lowest_apart ps h s e ObliqueStep NoWidth m n x y = absurd (x.1.0 y.0)
-lowest_apart ps h s e ObliqueStep FewPoints m n x y = absurd (x.1.1.0 y.0)
-lowest_apart ps h s e ObliqueStep RepeatedPoint m n x y = absurd (y.1.1.1.0 x.0)
-lowest_apart ps h s e ObliqueStep TurnsBack m n x y = absurd (y.1.1.1.0 x.0)
-lowest_apart ps h s e ObliqueStep ShortRun m n x y = absurd (y.1.1.1.0 x.0)
-lowest_apart ps h s e ObliqueStep OutOfRange m n x y = absurd (y.1.1.1.0 x.0)
-lowest_apart ps h s e RepeatedPoint NoWidth m n x y = absurd (x.1.0 y.0)
-lowest_apart ps h s e RepeatedPoint FewPoints m n x y = absurd (x.1.1.0 y.0)
-lowest_apart ps h s e RepeatedPoint ObliqueStep m n x y = absurd (x.1.1.1.0 y.0)
-lowest_apart ps h s e RepeatedPoint TurnsBack m n x y = absurd (y.1.1.1.1.0 x.0)
-lowest_apart ps h s e RepeatedPoint ShortRun m n x y = absurd (y.1.1.1.1.0 x.0)
-lowest_apart ps h s e RepeatedPoint OutOfRange m n x y = absurd (y.1.1.1.1.0 x.0)
-lowest_apart ps h s e TurnsBack NoWidth m n x y = absurd (x.1.0 y.0)
-lowest_apart ps h s e TurnsBack FewPoints m n x y = absurd (x.1.1.0 y.0)
-lowest_apart ps h s e TurnsBack ObliqueStep m n x y = absurd (x.1.1.1.0 y.0)
-lowest_apart ps h s e TurnsBack RepeatedPoint m n x y = absurd (x.1.1.1.1.0 y.0)
-lowest_apart ps h s e TurnsBack ShortRun m n x y = absurd (y.1.1.1.1.1.0 x.0)
-lowest_apart ps h s e TurnsBack OutOfRange m n x y = absurd (y.1.1.1.1.1.0 x.0)
-lowest_apart ps h s e ShortRun NoWidth m n x y = absurd (x.1.0 y.0)
-lowest_apart ps h s e ShortRun FewPoints m n x y = absurd (x.1.1.0 y.0)
-lowest_apart ps h s e ShortRun ObliqueStep m n x y = absurd (x.1.1.1.0 y.0)
-lowest_apart ps h s e ShortRun RepeatedPoint m n x y = absurd (x.1.1.1.1.0 y.0)
-lowest_apart ps h s e ShortRun TurnsBack m n x y = absurd (x.1.1.1.1.1.0 y.0)
-lowest_apart ps h s e ShortRun OutOfRange m n x y = absurd (y.1.1.1.1.1.1.0 x.0)
-lowest_apart ps h s e OutOfRange NoWidth m n x y = absurd (x.1.0 y.0)
-lowest_apart ps h s e OutOfRange FewPoints m n x y = absurd (x.1.1.0 y.0)
-lowest_apart ps h s e OutOfRange ObliqueStep m n x y = absurd (x.1.1.1.0 y.0)
-lowest_apart ps h s e OutOfRange RepeatedPoint m n x y = absurd (x.1.1.1.1.0 y.0)
-lowest_apart ps h s e OutOfRange TurnsBack m n x y = absurd (x.1.1.1.1.1.0 y.0)
-lowest_apart ps h s e OutOfRange ShortRun m n x y = absurd (x.1.1.1.1.1.1.0 y.0)
+lowest_apart : (ps : List Point) (h s e : ℕ) (f g : PathFault) → IsLowestFault ps (record { half = h; start = s; end = e }) f → IsLowestFault ps (record { half = h; start = s; end = e }) g → f ≡ g
+lowest_apart ps h s e f g x y =
+    let below : number f < number g → ⊥ = λ l. y.lowest f l x.breached in
+    let above : number g < number f → ⊥ = λ l. x.lowest g l y.breached in
+    let same : number f ≡ number g = grind arith in
+    sym (rule_back f) ∙ ap rule_at same ∙ rule_back g
 
 -- the number of points is as it has to be, where a rule speaks of what they are
 boundary_counted : (piece : List Rec) (n : ℕ) → opener piece ≡ Some boundary → 4 ≤ n → IsMiscounted piece n → ⊥
@@ -86,17 +60,7 @@ two_openers : (piece : List Rec) (k j : ℕ) → opener piece ≡ Some k → ope
 two_openers piece k j o p n = n (one_opener piece k j o p)
 
 -- the values of a record breach one rule at most
-pub one_value : (piece : List Rec) (r : Rec) (j k : GdsKind) → ValueBreaches piece r j → ValueBreaches piece r k → j ≡ k
-one_value piece r (Record f) k x y = absurd x
-one_value piece r (Unexpected i) k x y = absurd x
-one_value piece r (Unsupported i) k x y = absurd x
-one_value piece r AfterEnd k x y = absurd x
-one_value piece r TooManyCells k x y = absurd x
-one_value piece r j (Record f) x y = absurd y
-one_value piece r j (Unexpected i) x y = absurd y
-one_value piece r j (Unsupported i) x y = absurd y
-one_value piece r j AfterEnd x y = absurd y
-one_value piece r j TooManyCells x y = absurd y
+pub one_value : (piece : List Rec) (r : Rec) (j k : ElementRule) → ValueBreaches piece r j → ValueBreaches piece r k → j ≡ k
 one_value piece r Layer Layer x y = refl
 one_value piece r Points Points x y = refl
 one_value piece r NotClosed NotClosed x y = refl
@@ -110,7 +74,7 @@ one_value piece r Width Width x y = refl
 one_value piece r PathType PathType x y = refl
 one_value piece r Oblique Oblique x y = refl
 one_value piece r Repetition Repetition x y = refl
-one_value piece r (Path f) (Path g) x y = ap (λ (i : PathFault). Path i) (lowest_apart (points r.payload) (half_of piece) (end_of piece) (end_of piece) f g x.4 y.4 x.5 y.5)
+one_value piece r (Path f) (Path g) x y = ap (λ (i : PathFault). Path i) (lowest_apart (points r.payload) (half_of piece) (end_of piece) (end_of piece) f g x.4 y.4)
 one_value piece r Points NotClosed x y = absurd (boundary_counted piece (length (points r.payload)) y.1 y.2 x.1)
 one_value piece r NotClosed Points x y = absurd (boundary_counted piece (length (points r.payload)) x.1 x.2 y.1)
 one_value piece r Points Oblique x y = absurd (boundary_counted piece (length (points r.payload)) y.1 y.2 x.1)
@@ -154,14 +118,45 @@ one_value piece r j k x y = absurd (omega (arith, x.0, y.0))
 known_there : (piece : List Rec) (r : Rec) → InOrder piece r → IsKnown r.kind
 known_there piece r g = begun_known (kinds piece) r.kind (subst (Begins an_element) (kinds-snoc piece r) g)
 
+pub one_misplaced : (ordered : Type 0) (r : Rec) (m n : Misplaced) → IsMisplacedAs ordered r m → IsMisplacedAs ordered r n → m ≡ n
+one_misplaced ordered r (Unexpected i) (Unexpected j) x y = ap (λ (n : ℕ). Unexpected n) (sym x.0 ∙ y.0)
+one_misplaced ordered r (Unsupported i) (Unsupported j) x y = ap (λ (n : ℕ). Unsupported n) (sym x.0 ∙ y.0)
+one_misplaced ordered r (Unexpected i) (Unsupported j) x y = absurd (y.2 (subst IsKnown (sym x.0 ∙ y.0) x.1))
+one_misplaced ordered r (Unsupported i) (Unexpected j) x y = absurd (x.2 (subst IsKnown (sym y.0 ∙ x.0) y.1))
+
+-- a known record in order isn't misplaced
+pub not_misplaced : (ordered : Type 0) (r : Rec) (m : Misplaced) → ordered → IsKnown r.kind → IsMisplacedAs ordered r m → ⊥
+not_misplaced ordered r (Unexpected j) g i x = x.2 g
+not_misplaced ordered r (Unsupported j) g i x = x.2 (subst IsKnown x.0 i)
+
 -- a record breaches one rule at most
-pub one_rule : (piece : List Rec) (r : Rec) (j k : GdsKind) → ElementBreaches piece r j → ElementBreaches piece r k → j ≡ k
-one_rule piece r (Unexpected i) (Unexpected j) x y = ap (λ (n : ℕ). Unexpected n) (sym x.0 ∙ y.0)
-one_rule piece r (Unsupported i) (Unsupported j) x y = ap (λ (n : ℕ). Unsupported n) (sym x.0 ∙ y.0)
-one_rule piece r (Unexpected i) (Unsupported j) x y = absurd (y.2 (subst IsKnown (sym x.0 ∙ y.0) x.1))
-one_rule piece r (Unsupported i) (Unexpected j) x y = absurd (x.2 (subst IsKnown (sym y.0 ∙ x.0) y.1))
-one_rule piece r (Unexpected i) k x y = absurd (x.2 y.0)
-one_rule piece r j (Unexpected i) x y = absurd (y.2 x.0)
-one_rule piece r (Unsupported i) k x y = absurd (x.2 (subst IsKnown x.0 (known_there piece r y.0)))
-one_rule piece r j (Unsupported i) x y = absurd (y.2 (subst IsKnown y.0 (known_there piece r x.0)))
-one_rule piece r j k x y = one_value piece r j k x.1 y.1
+pub one_rule : (piece : List Rec) (r : Rec) (f g : ElementFault) → ElementBreaches piece r f → ElementBreaches piece r g → f ≡ g
+one_rule piece r (MisplacedRecord m) (MisplacedRecord n) x y = ap (λ (i : Misplaced). MisplacedRecord i) (one_misplaced (InOrder piece r) r m n x y)
+one_rule piece r (MisplacedRecord m) (Rule k) x y = absurd (not_misplaced (InOrder piece r) r m y.0 (known_there piece r y.0) x)
+one_rule piece r (Rule j) (MisplacedRecord n) x y = absurd (not_misplaced (InOrder piece r) r n x.0 (known_there piece r x.0) y)
+one_rule piece r (Rule j) (Rule k) x y = ap (λ (i : ElementRule). Rule i) (one_value piece r j k x.1 y.1)
+
+-- a type whose value may breach a rule
+abbrev pub is_value : ℕ → Bool
+is_value k =
+    (k == layer) || (k == datatype) || (k == width) || (k == xy) || (k == sname) || (k == colrow) || (k == strans) || (k == mag) || (k == angle) || (k == pathtype)
+
+at_value : (k j : ℕ) → is_value j ≡ true → k ≡ j → is_value k ≡ true
+at_value k j h e = subst (λ i. is_value i ≡ true) (sym e) h
+
+-- a rule is breached by such a type alone
+pub value_breaches : (piece : List Rec) (r : Rec) (k : ElementRule) → ValueBreaches piece r k → is_value r.kind ≡ true
+value_breaches piece r Layer x = elim x.0 [ inl e ↦ at_value r.kind layer refl e | inr e ↦ at_value r.kind datatype refl e ]
+value_breaches piece r Points x = at_value r.kind xy refl x.0
+value_breaches piece r NotClosed x = at_value r.kind xy refl x.0
+value_breaches piece r Strans x = at_value r.kind strans refl x.0
+value_breaches piece r Magnification x = at_value r.kind mag refl x.0
+value_breaches piece r Angle x = at_value r.kind angle refl x.0
+value_breaches piece r ColRow x = at_value r.kind colrow refl x.0
+value_breaches piece r ArrayStep x = at_value r.kind xy refl x.0
+value_breaches piece r Name x = at_value r.kind sname refl x.0
+value_breaches piece r (Path f) x = at_value r.kind xy refl x.0
+value_breaches piece r Width x = elim x.1 [ inl e ↦ at_value r.kind width refl e.0 | inr e ↦ at_value r.kind xy refl e.0 ]
+value_breaches piece r PathType x = at_value r.kind pathtype refl x.0
+value_breaches piece r Oblique x = at_value r.kind xy refl x.0
+value_breaches piece r Repetition x = at_value r.kind colrow refl x.0

@@ -6,21 +6,22 @@ use Rattle.lvl_grid.specs.declared.point.Point.{Point}
 use Rattle.lvl_path.specs.Runs.{path_rings, IsLowestFault}
 use Rattle.lvl_cells.specs.Cells.{Rings}
 use Rattle.gds_elements.specs.Types.{path, layer, datatype, pathtype, width, xy, endel}
-use Rattle.gds_elements.specs.Order.{one}
+use Rattle.lvl_grammar.specs.Order.{one}
 use Rattle.gds_elements.specs.Rec.{Rec, opener, field, last_of, payload_of}
 use Rattle.gds_elements.specs.Values.{short, magnitude, points}
 use Rattle.gds_elements.specs.Meaning.{layer_of, half, half_of, end_of, end_reach, shapes_by, references_by, in_rings, one_place}
 use Rattle.gds_elements.specs.Path.{after, left, half_in, IsPathRead, reach_at, IsBandsFault}
 use Rattle.gds_elements.specs.Rules.{ValueBreaches}
-use Rattle.gds_elements.specs.declared.fault.GdsKind.{GdsKind}
-use Rattle.gds_elements.specs.declared.fault.GdsKind.TheVariants.{Points as PointsFault, Path as PathFault, Width as WidthFault}
+use Rattle.gds_elements.specs.declared.fault.ElementRule.{ElementRule}
+use Rattle.gds_elements.specs.declared.fault.ElementRule.TheVariants.{Points as PointsFault, Path as PathFault, Width as WidthFault}
 use Rattle.gds_elements.specs.Reading.{IsAtEnd}
 use Rattle.gds_elements.specs.declared.order.Next.TheVariants.{Goes, Ends, Nowhere}
 use Rattle.gds_elements.specs.declared.path.Place.{Place}
 use Rattle.gds_elements.specs.declared.path.Place.TheVariants.{Layer, Datatype, PathType, Width, Points}
 use Rattle.gds_elements.specs.declared.path.Path.{Path}
 use Rattle.gds_elements.specs.declared.element.Drawn.TheVariants.{Shape}
-use Rattle.gds_elements.proofs.Orders.{at_type, after_first}
+use Rattle.lvl_grammar.specs.inside.After.{after_first}
+use Rattle.lvl_grammar.proofs.Orders.{at_type}
 use Rattle.gds_elements.proofs.Fields.{field_read, field_here, field_there, last_read, opener-snoc}
 use Rattle.gds_elements.proofs.Leads.{left_behind, leads_more}
 use Rattle.gds_elements.proofs.Shapes.{layer_more, layer_kept, shape_same, kind_test}
@@ -141,12 +142,12 @@ path_ends p piece r h rings shifts i a w e f =
     }
 
 -- why the points give no bands is a rule that they breach
-pub bands_fault : (p : Path) (piece : List Rec) (r : Rec) → IsPathRead p piece → r.kind ≡ xy → (k : GdsKind) → IsBandsFault (points r.payload) p.half p.square k → ValueBreaches piece r k
+pub bands_fault : (p : Path) (piece : List Rec) (r : Rec) → IsPathRead p piece → r.kind ≡ xy → (k : ElementRule) → IsBandsFault (points r.payload) p.half p.square k → ValueBreaches piece r k
 bands_fault p piece r h x PointsFault b = (x, inr (inl (h.opened, b)))
 bands_fault p piece r h x WidthFault b = (h.opened, inr (x, b.0, none_half (last_of width piece) (sym h.half ∙ b.1)))
-bands_fault p piece r h x (PathFault f) (n, m, half, e, low) =
+bands_fault p piece r h x (PathFault f) (n, half, e, low) =
     let ps = points r.payload in
     let low' = subst (λ (i : ℕ). IsLowestFault ps (record { half = half; start = i; end = i }) f) (reach_is p piece half h e) low in
     let low'' = subst (λ (i : ℕ). IsLowestFault ps (record { half = i; start = end_of piece; end = end_of piece }) f) (half_is p piece half h e) low' in
-    (x, h.opened, n, width_read p piece h (λ z. (let y : Some half ≡ None = sym e ∙ z in cc)), m, low'')
+    (x, h.opened, n, width_read p piece h (λ z. (let y : Some half ≡ None = sym e ∙ z in cc)), low'')
 bands_fault p piece r h x other b = absurd b

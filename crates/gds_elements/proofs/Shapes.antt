@@ -7,7 +7,7 @@ use Rattle.gds_elements.specs.Types.{layer, datatype, xy}
 use Rattle.gds_elements.specs.Rec.{Rec}
 use Rattle.gds_elements.specs.Values.{short, magnitude}
 use Rattle.gds_elements.specs.Meaning.{layer_of}
-use Rattle.gds_elements.proofs.Orders.{same_type}
+use Rattle.lvl_grammar.proofs.Orders.{same_type}
 use Rattle.gds_elements.proofs.Fields.{field_read, field_there}
 
 layer_from : (a b : ℕ) (l : LayerOf) → l.layer ≡ a → l.datatype ≡ b → l ≡ record { layer = a; datatype = b }

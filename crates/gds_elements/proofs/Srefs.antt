@@ -2,7 +2,7 @@
 use Rattle.std.proofs.Common.{◌≡◌, ◌==◌, ℕ, false, if◌then◌else◌, List, [], ◌∷◌, ◌++◌, map, Some, refl, sym, ap, ◌∙◌, subst}
 use Rattle.lvl_cells.specs.Cells.{PlainReference}
 use Rattle.gds_elements.specs.Types.{sref, sname, strans, mag, angle, xy, endel}
-use Rattle.gds_elements.specs.Order.{one}
+use Rattle.lvl_grammar.specs.Order.{one}
 use Rattle.gds_elements.specs.Rec.{Rec, opener}
 use Rattle.gds_elements.specs.Values.{name, flips, turn, points, nth}
 use Rattle.gds_elements.specs.Meaning.{shapes_by, references_by, in_rings, one_place}
@@ -13,7 +13,8 @@ use Rattle.gds_elements.specs.declared.sref.Place.{Place}
 use Rattle.gds_elements.specs.declared.sref.Place.TheVariants.{Name, Strans, Magnification, Angle, Points}
 use Rattle.gds_elements.specs.declared.sref.Sref.{Sref}
 use Rattle.gds_elements.specs.declared.element.Drawn.TheVariants.{Reference}
-use Rattle.gds_elements.proofs.Orders.{at_type, after_first}
+use Rattle.lvl_grammar.specs.inside.After.{after_first}
+use Rattle.lvl_grammar.proofs.Orders.{at_type}
 use Rattle.gds_elements.proofs.Fields.{opener-snoc}
 use Rattle.gds_elements.proofs.Leads.{left_behind, leads_more}
 use Rattle.gds_elements.proofs.Placings.{placed_more, reference_is}

@@ -1,18 +1,20 @@
 -- A text with one record more.
 use Rattle.std.proofs.Common.{◌≡◌, ◌==◌, ℕ, false, List, [], ◌∷◌, ◌++◌, map, Some, refl, sym, ap, ◌∙◌, subst}
 use Rattle.gds_elements.specs.Types.{text, layer, texttype, presentation, pathtype, width, strans, mag, angle, xy, string, endel}
-use Rattle.gds_elements.specs.Order.{one}
+use Rattle.gds_elements.specs.Order.{an_element}
+use Rattle.lvl_grammar.specs.Order.{one}
 use Rattle.gds_elements.specs.Rec.{Rec, opener}
 use Rattle.gds_elements.specs.Meaning.{shapes_by, references_by, in_rings}
 use Rattle.gds_elements.specs.Text.{after, left, IsTextRead}
-use Rattle.gds_elements.specs.Leading.{LeadsTo}
+use Rattle.lvl_grammar.specs.inside.After.{LeadsTo}
 use Rattle.gds_elements.specs.Reading.{IsAtEnd}
 use Rattle.gds_elements.specs.declared.order.Next.TheVariants.{Goes, Ends}
 use Rattle.gds_elements.specs.declared.text.Place.{Place}
 use Rattle.gds_elements.specs.declared.text.Place.TheVariants.{Layer, TextType, Presentation, PathType, Width, Strans, Magnification, Angle, Points, Letters}
 use Rattle.gds_elements.specs.declared.text.Text.{Text}
 use Rattle.gds_elements.specs.declared.element.Drawn.TheVariants.{Nothing}
-use Rattle.gds_elements.proofs.Orders.{at_type, after_first}
+use Rattle.lvl_grammar.specs.inside.After.{after_first}
+use Rattle.lvl_grammar.proofs.Orders.{at_type}
 use Rattle.gds_elements.proofs.Fields.{opener-snoc}
 use Rattle.gds_elements.proofs.Leads.{left_behind, leads_more, leads_first}
 
@@ -77,5 +79,5 @@ text_ends t piece r h a =
 pub text_opens : (t : Text) (r : Rec) → t.place ≡ Layer → r.kind ≡ text → IsTextRead t (r ∷ [])
 text_opens t r p e = record {
   opened = ap Some e;
-  leads = subst (λ (k : ℕ). LeadsTo (k ∷ []) (left t.place)) (sym e) (subst (λ (i : Place). LeadsTo (text ∷ []) (left i)) (sym p) (leads_first text (left Layer) refl));
+  leads = subst (λ (k : ℕ). LeadsTo an_element (k ∷ []) (left t.place)) (sym e) (subst (λ (i : Place). LeadsTo an_element (text ∷ []) (left i)) (sym p) (leads_first text (left Layer) refl));
 }

@@ -2,9 +2,10 @@
 use Rattle.std.proofs.Common.{◌≡◌, ◌==◌, ℕ, ◌⊎◌, inl, inr, Bool, true, false, ◌||◌, List, [], ◌∷◌, ◌++◌, refl, subst}
 use Rattle.std.specs.List.{AllByRecursion, flat_map}
 use Rattle.gds_elements.specs.Types.{boundary, path, sref, aref, text, layer, datatype, width, xy, endel, sname, colrow, texttype, presentation, string, strans, mag, angle, pathtype}
-use Rattle.gds_elements.specs.Order.{Order, nothing, one, next, either, many, IsWord, Begins, an_element, has}
+use Rattle.lvl_grammar.specs.Order.{Order, nothing, one, next, either, many, IsWord, Begins, has}
+use Rattle.gds_elements.specs.Order.{an_element}
 use Rattle.gds_elements.specs.Rules.{IsKnown}
-use Rattle.gds_elements.proofs.Orders.{at_type, same_type}
+use Rattle.lvl_grammar.proofs.Orders.{at_type, same_type}
 
 -- a type stands in a list
 abbrev pub Stands : ℕ → List ℕ → Type 0

@@ -2,14 +2,15 @@
 use Rattle.std.specs.Prelude.{◌≡◌, ◌≢◌, ℕ, ◌==◌, if◌then◌else◌, List, length, Some}
 use Rattle.lvl_grid.specs.declared.point.Point.{Point}
 use Rattle.gds_elements.specs.Types.{aref, sname, strans, mag, angle, colrow, xy, endel}
-use Rattle.gds_elements.specs.Order.{Order, ◌then◌, one, maybe, a_transform}
+use Rattle.lvl_grammar.specs.Order.{Order, ◌then◌, one, maybe}
+use Rattle.gds_elements.specs.Order.{a_transform, an_element}
 use Rattle.gds_elements.specs.Rec.{Rec, kinds, opener, last_of}
 use Rattle.gds_elements.specs.Meaning.{columns_in, rows_in}
 use Rattle.gds_elements.specs.Rules.{HasSteps}
-use Rattle.gds_elements.specs.Leading.{LeadsTo}
+use Rattle.lvl_grammar.specs.inside.After.{LeadsTo}
 use Rattle.gds_elements.specs.Placing.{IsPlaced}
-use Rattle.gds_elements.specs.declared.fault.GdsKind.{GdsKind}
-use Rattle.gds_elements.specs.declared.fault.GdsKind.TheVariants.{Points as PointsFault, ArrayStep}
+use Rattle.gds_elements.specs.declared.fault.ElementRule.{ElementRule}
+use Rattle.gds_elements.specs.declared.fault.ElementRule.TheVariants.{Points as PointsFault, ArrayStep}
 use Rattle.gds_elements.specs.declared.order.Next.{Next}
 use Rattle.gds_elements.specs.declared.order.Next.TheVariants.{Goes, Ends, Nowhere}
 use Rattle.gds_elements.specs.declared.aref.Place.{Place}
@@ -37,13 +38,13 @@ left Points = one xy then one endel
 -- the array stands where its records lead, and has their values
 pub record IsArefRead (a : Aref) (piece : List Rec) : Type 0 where
   pub opened : opener piece ≡ Some aref
-  pub leads : LeadsTo (kinds piece) (left a.place)
+  pub leads : LeadsTo an_element (kinds piece) (left a.place)
   pub placed : IsPlaced a.placing piece
   pub columns : a.counts.columns ≡ columns_in (last_of colrow piece)
   pub rows : a.counts.rows ≡ rows_in (last_of colrow piece)
 
 -- why points give no array of so many columns and rows
-abbrev pub IsArrayFault : List Point → ℕ → ℕ → GdsKind → Type 0
+abbrev pub IsArrayFault : List Point → ℕ → ℕ → ElementRule → Type 0
 IsArrayFault ps m n PointsFault = length ps ≢ 3
 IsArrayFault ps m n ArrayStep = (length ps ≡ 3) × ¬ HasSteps ps m n
 IsArrayFault ps m n f = ⊥

@@ -3,13 +3,14 @@ use Rattle.std.specs.Prelude.{◌≡◌, ℕ, ◌==◌, ◌<◌, ◌≤◌, if�
 use Rattle.lvl_grid.specs.declared.point.Point.{Point}
 use Rattle.lvl_grid.specs.Winding.{IsStraight}
 use Rattle.gds_elements.specs.Types.{boundary, layer, datatype, xy, endel}
-use Rattle.gds_elements.specs.Order.{Order, ◌then◌, one}
+use Rattle.gds_elements.specs.Order.{an_element}
+use Rattle.lvl_grammar.specs.Order.{Order, ◌then◌, one}
 use Rattle.gds_elements.specs.Rec.{Rec, kinds, opener}
 use Rattle.gds_elements.specs.Meaning.{layer_of}
 use Rattle.gds_elements.specs.Rules.{IsClosed, steps}
-use Rattle.gds_elements.specs.declared.fault.GdsKind.{GdsKind}
-use Rattle.gds_elements.specs.declared.fault.GdsKind.TheVariants.{Points as PointsFault, NotClosed, Oblique}
-use Rattle.gds_elements.specs.Leading.{LeadsTo}
+use Rattle.gds_elements.specs.declared.fault.ElementRule.{ElementRule}
+use Rattle.gds_elements.specs.declared.fault.ElementRule.TheVariants.{Points as PointsFault, NotClosed, Oblique}
+use Rattle.lvl_grammar.specs.inside.After.{LeadsTo}
 use Rattle.gds_elements.specs.declared.order.Next.{Next}
 use Rattle.gds_elements.specs.declared.order.Next.TheVariants.{Goes, Ends, Nowhere}
 use Rattle.gds_elements.specs.declared.boundary.Place.{Place}
@@ -31,11 +32,11 @@ left Points = one xy then one endel
 -- the boundary stands where its records lead, and has their values
 pub record IsBoundary (b : Boundary) (piece : List Rec) : Type 0 where
   pub opened : opener piece ≡ Some boundary
-  pub leads : LeadsTo (kinds piece) (left b.place)
+  pub leads : LeadsTo an_element (kinds piece) (left b.place)
   pub layer : b.layer ≡ layer_of piece
 
 -- why some points are no ring
-abbrev pub IsRingFault : List Point → GdsKind → Type 0
+abbrev pub IsRingFault : List Point → ElementRule → Type 0
 IsRingFault ps PointsFault = length ps < 4
 IsRingFault ps NotClosed = (4 ≤ length ps) × ¬ IsClosed ps
 IsRingFault ps Oblique = (4 ≤ length ps) × IsClosed ps × ¬ All IsStraight (steps ps)

@@ -2,8 +2,8 @@
 use Rattle.std.specs.Prelude.{◌<◌, ◌≤◌, ◌*◌, ◌⊎◌, ◌<ℤ◌, ◌≤ℤ◌, pos, ℕ, List}
 use Rattle.gds_elements.specs.Values.{magnitude, columns, rows}
 use Rattle.gds_elements.specs.Rules.{place_limit}
-use Rattle.gds_elements.specs.declared.fault.GdsKind.{GdsKind}
-use Rattle.gds_elements.specs.declared.fault.GdsKind.TheVariants.{ColRow, Repetition}
+use Rattle.gds_elements.specs.declared.fault.ElementRule.{ElementRule}
+use Rattle.gds_elements.specs.declared.fault.ElementRule.TheVariants.{ColRow, Repetition}
 
 -- columns and rows that an array may have
 pub record IsCounted (payload : List ℕ) : Type 0 where
@@ -12,7 +12,7 @@ pub record IsCounted (payload : List ℕ) : Type 0 where
   pub few : magnitude (columns payload) * magnitude (rows payload) ≤ place_limit
 
 -- why it may not
-abbrev pub IsCountFault : List ℕ → GdsKind → Type 0
+abbrev pub IsCountFault : List ℕ → ElementRule → Type 0
 IsCountFault payload ColRow = (columns payload <ℤ pos 1) ⊎ (rows payload <ℤ pos 1)
 IsCountFault payload Repetition =
     (pos 1 ≤ℤ columns payload) × (pos 1 ≤ℤ rows payload) × (place_limit < magnitude (columns payload) * magnitude (rows payload))

@@ -6,7 +6,6 @@ pub mod Meaning
 pub mod Rules
 pub mod Formed
 pub mod Misplaced
-pub mod Leading
 pub mod Boundary
 pub mod Path
 pub mod Placing

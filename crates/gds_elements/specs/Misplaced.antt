@@ -1,22 +1,29 @@
--- What is said of a record that may not stand where it stands.
+-- What is said of a record that may not come where it is, and of one that breaches a rule.
 use Rattle.std.specs.Prelude.{◌≡◌, ℕ}
+use Rattle.lvl_refusal.specs.declared.Refusal.{Refusal}
+use Rattle.lvl_refusal.specs.declared.Refusal.TheVariants.{Breach, OutOfMemory}
 use Rattle.gds_elements.specs.Rules.{IsKnown}
-use Rattle.gds_elements.specs.declared.fault.Refusal.{Refusal}
-use Rattle.gds_elements.specs.declared.fault.Refusal.TheVariants.{Breach, OutOfMemory}
-use Rattle.gds_elements.specs.declared.fault.GdsKind.{GdsKind}
-use Rattle.gds_elements.specs.declared.fault.GdsKind.TheVariants.{Unexpected, Unsupported}
-
--- what a refusal says
-abbrev pub Says : Refusal → (GdsKind → Type 0) → Type 0
-Says (Breach k) P = P k
-Says OutOfMemory P = Unit {0}
+use Rattle.gds_elements.specs.declared.fault.Misplaced.{Misplaced}
+use Rattle.gds_elements.specs.declared.fault.Misplaced.TheVariants.{Unexpected, Unsupported}
+use Rattle.gds_elements.specs.declared.fault.ElementRule.{ElementRule}
+use Rattle.gds_elements.specs.declared.fault.ElementFault.{ElementFault}
+use Rattle.gds_elements.specs.declared.fault.ElementFault.TheVariants.{Misplaced as MisplacedRecord, Rule}
 
 -- a known type is unexpected, another unsupported
-abbrev pub IsMisplacement : ℕ → GdsKind → Type 0
+abbrev pub IsMisplacement : ℕ → Misplaced → Type 0
 IsMisplacement k (Unexpected j) = (j ≡ k) × IsKnown k
 IsMisplacement k (Unsupported j) = (j ≡ k) × ¬ IsKnown k
-IsMisplacement k f = ⊥
 
-abbrev pub IsMisplaced : ℕ → Refusal → Type 0
-IsMisplaced k (Breach f) = IsMisplacement k f
+abbrev pub IsMisplaced : ℕ → Refusal ElementFault → Type 0
+IsMisplaced k (Breach (MisplacedRecord m)) = IsMisplacement k m
+IsMisplaced k (Breach (Rule r)) = ⊥
 IsMisplaced k OutOfMemory = ⊥
+
+-- the fault is a rule, which is such a one
+abbrev pub Broken : (ElementRule → Type 0) → ElementFault → Type 0
+Broken P (MisplacedRecord m) = ⊥
+Broken P (Rule k) = P k
+
+-- the refusal by a rule
+abbrev pub breach : ElementRule → Refusal ElementFault
+breach k = Breach (Rule k)

@@ -1,17 +1,17 @@
 -- What a path has that is being read.
-use Rattle.std.specs.Prelude.{◌≡◌, ◌≢◌, ℕ, ◌==◌, ◌<◌, ◌≤◌, Bool, pos, if◌then◌else◌, List, length, Option, Some, None}
+use Rattle.std.specs.Prelude.{◌≡◌, ℕ, ◌==◌, ◌<◌, ◌≤◌, Bool, pos, if◌then◌else◌, List, length, Option, Some, None}
 use Rattle.std.specs.Ordering.{int_eq}
 use Rattle.lvl_grid.specs.declared.point.Point.{Point}
-use Rattle.lvl_path.specs.declared.fault.PathFault.TheVariants.{OutOfMemory}
 use Rattle.lvl_path.specs.Runs.{IsLowestFault}
 use Rattle.gds_elements.specs.Types.{path, layer, datatype, pathtype, width, xy, endel}
-use Rattle.gds_elements.specs.Order.{Order, ◌then◌, one, maybe}
+use Rattle.gds_elements.specs.Order.{an_element}
+use Rattle.lvl_grammar.specs.Order.{Order, ◌then◌, one, maybe}
 use Rattle.gds_elements.specs.Rec.{Rec, kinds, opener, field, last_of}
 use Rattle.gds_elements.specs.Values.{short}
 use Rattle.gds_elements.specs.Meaning.{layer_of, half}
-use Rattle.gds_elements.specs.Leading.{LeadsTo}
-use Rattle.gds_elements.specs.declared.fault.GdsKind.{GdsKind}
-use Rattle.gds_elements.specs.declared.fault.GdsKind.TheVariants.{Points as PointsFault, Width as WidthFault, Path as PathFault}
+use Rattle.lvl_grammar.specs.inside.After.{LeadsTo}
+use Rattle.gds_elements.specs.declared.fault.ElementRule.{ElementRule}
+use Rattle.gds_elements.specs.declared.fault.ElementRule.TheVariants.{Points as PointsFault, Width as WidthFault, Path as PathFault}
 use Rattle.gds_elements.specs.declared.order.Next.{Next}
 use Rattle.gds_elements.specs.declared.order.Next.TheVariants.{Goes, Ends, Nowhere}
 use Rattle.gds_elements.specs.declared.path.Place.{Place}
@@ -42,7 +42,7 @@ half_in (Some r) = Some (half r.payload)
 -- the path stands where its records lead, and has their values
 pub record IsPathRead (p : Path) (piece : List Rec) : Type 0 where
   pub opened : opener piece ≡ Some path
-  pub leads : LeadsTo (kinds piece) (left p.place)
+  pub leads : LeadsTo an_element (kinds piece) (left p.place)
   pub layer : p.layer ≡ layer_of piece
   pub square : p.square ≡ int_eq (short (field pathtype piece)) (pos 2)
   pub half : p.half ≡ half_in (last_of width piece)
@@ -52,10 +52,9 @@ abbrev pub reach_at : Bool → ℕ → ℕ
 reach_at square h = if square then h else 0
 
 -- why points, half a width and the kind of the ends give no bands
-abbrev pub IsBandsFault : List Point → Option ℕ → Bool → GdsKind → Type 0
+abbrev pub IsBandsFault : List Point → Option ℕ → Bool → ElementRule → Type 0
 IsBandsFault ps half square PointsFault = length ps < 2
 IsBandsFault ps half square WidthFault = (2 ≤ length ps) × (half ≡ None)
 IsBandsFault ps half square (PathFault f) =
-    (2 ≤ length ps) × (f ≢ OutOfMemory)
-    × (h : ℕ) × (half ≡ Some h) × IsLowestFault ps (record { half = h; start = reach_at square h; end = reach_at square h }) f
+    (2 ≤ length ps) × (h : ℕ) × (half ≡ Some h) × IsLowestFault ps (record { half = h; start = reach_at square h; end = reach_at square h }) f
 IsBandsFault ps half square f = ⊥

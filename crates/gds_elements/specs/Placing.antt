@@ -5,8 +5,8 @@ use Rattle.gds_elements.specs.Types.{sname, strans, mag, angle}
 use Rattle.gds_elements.specs.Rec.{Rec, field}
 use Rattle.gds_elements.specs.Values.{bits, name, flips, turn, one_real, degrees}
 use Rattle.gds_elements.specs.Rules.{IsName}
-use Rattle.gds_elements.specs.declared.fault.GdsKind.{GdsKind}
-use Rattle.gds_elements.specs.declared.fault.GdsKind.TheVariants.{Strans, Magnification, Angle, Name}
+use Rattle.gds_elements.specs.declared.fault.ElementRule.{ElementRule}
+use Rattle.gds_elements.specs.declared.fault.ElementRule.TheVariants.{Strans, Magnification, Angle, Name}
 use Rattle.gds_elements.specs.declared.placing.Placing.{Placing}
 
 -- it has the values of the records
@@ -23,7 +23,7 @@ pub record IsPlacingAllowed (k : ℕ) (payload : List ℕ) : Type 0 where
   pub name : k ≡ sname → IsName (name payload)
 
 -- the rule that a record breaches
-abbrev pub IsPlacingFault : ℕ → List ℕ → GdsKind → Type 0
+abbrev pub IsPlacingFault : ℕ → List ℕ → ElementRule → Type 0
 IsPlacingFault k payload Strans = (k ≡ strans) × (bits payload ≢ 0) × (bits payload ≢ 0x8000)
 IsPlacingFault k payload Magnification = (k ≡ mag) × (payload ≢ one_real)
 IsPlacingFault k payload Angle = (k ≡ angle) × ((t : Turn) → payload ≢ degrees t)

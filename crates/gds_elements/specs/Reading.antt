@@ -2,18 +2,20 @@
 use Rattle.std.specs.Prelude.{◌≡◌, ℕ, List, [], ◌∷◌, ◌++◌, map, Some, Result, Ok, Err}
 use Rattle.lvl_cells.specs.Cells.{PlainShape, PlainReference, Rings}
 use Rattle.gds_elements.specs.Types.{endel}
-use Rattle.gds_elements.specs.Order.{one, IsWord, an_element}
+use Rattle.lvl_grammar.specs.Order.{one, IsWord}
+use Rattle.gds_elements.specs.Order.{an_element}
 use Rattle.gds_elements.specs.Rec.{Rec, kinds, opener}
 use Rattle.gds_elements.specs.Meaning.{shapes_of, references_of, in_rings}
 use Rattle.gds_elements.specs.Rules.{ElementBreaches, BreachesNone}
-use Rattle.gds_elements.specs.Misplaced.{Says}
-use Rattle.gds_elements.specs.Leading.{LeadsTo}
+use Rattle.lvl_refusal.specs.Refused.{Says}
+use Rattle.lvl_grammar.specs.inside.After.{LeadsTo}
 use Rattle.gds_elements.specs.Boundary.{IsBoundary}
 use Rattle.gds_elements.specs.Path.{IsPathRead}
 use Rattle.gds_elements.specs.Sref.{IsSrefRead}
 use Rattle.gds_elements.specs.Aref.{IsArefRead}
 use Rattle.gds_elements.specs.Text.{IsTextRead}
-use Rattle.gds_elements.specs.declared.fault.Refusal.{Refusal}
+use Rattle.lvl_refusal.specs.declared.Refusal.{Refusal}
+use Rattle.gds_elements.specs.declared.fault.ElementFault.{ElementFault}
 use Rattle.gds_elements.specs.declared.element.Drawn.{Drawn}
 use Rattle.gds_elements.specs.declared.element.Drawn.TheVariants.{Shape, Reference, Nothing}
 use Rattle.gds_elements.specs.declared.element.State.{State}
@@ -44,7 +46,7 @@ pub record IsDrawn (d : Drawn) (piece : List Rec) : Type 0 where
 -- only the end is missing
 pub record IsAtEnd (d : Drawn) (piece : List Rec) : Type 0 where
   pub opened : (k : ℕ) × (opener piece ≡ Some k)
-  pub leads : LeadsTo (kinds piece) (one endel)
+  pub leads : LeadsTo an_element (kinds piece) (one endel)
   pub drawn : IsDrawn d piece
 
 abbrev pub HasRead : State → List Rec → Type 0
@@ -65,10 +67,10 @@ IsStep (Open e) piece = IsReading e piece
 IsStep (Whole d) piece = IsWord an_element (kinds piece) × IsDrawn d piece
 
 -- the record is read behind the others and breaches no rule, or is refused by one that it breaches
-abbrev pub Takes : List Rec → Rec → Result State Refusal → Type 0
+abbrev pub Takes : List Rec → Rec → Result State (Refusal ElementFault) → Type 0
 Takes piece r (Ok s) = HasRead s (piece ++ r ∷ []) × BreachesNone piece r
 Takes piece r (Err e) = Says e (ElementBreaches piece r)
 
-abbrev pub Steps : List Rec → Rec → Result Step Refusal → Type 0
+abbrev pub Steps : List Rec → Rec → Result Step (Refusal ElementFault) → Type 0
 Steps piece r (Ok s) = IsStep s (piece ++ r ∷ []) × BreachesNone piece r
 Steps piece r (Err e) = Says e (ElementBreaches piece r)

@@ -5,15 +5,19 @@ use Rattle.gds_records.specs.Table.{table, form_among}
 use Rattle.lvl_grid.specs.Winding.{IsStraight, path_edges, last_or}
 use Rattle.lvl_grid.specs.declared.point.Point.{Point}
 use Rattle.lvl_grid.specs.declared.map.Turn.{Turn}
-use Rattle.lvl_path.specs.declared.fault.PathFault.TheVariants.{OutOfMemory}
 use Rattle.lvl_path.specs.Runs.{IsLowestFault}
 use Rattle.gds_elements.specs.Types.{boundary, path, sref, aref, text, layer, datatype, width, xy, sname, colrow, strans, mag, angle, pathtype}
-use Rattle.gds_elements.specs.Order.{an_element, Begins}
+use Rattle.lvl_grammar.specs.Order.{Begins}
+use Rattle.gds_elements.specs.Order.{an_element}
 use Rattle.gds_elements.specs.Rec.{Rec, kinds, opener, last_of}
 use Rattle.gds_elements.specs.Values.{short, long, bits, points, nth, name, magnitude, one_real, degrees, columns, rows}
 use Rattle.gds_elements.specs.Meaning.{half_of, end_of, columns_in, rows_in}
-use Rattle.gds_elements.specs.declared.fault.GdsKind.{GdsKind}
-use Rattle.gds_elements.specs.declared.fault.GdsKind.TheVariants.{Unexpected, Unsupported, Layer, Points, NotClosed, Strans, Magnification, Angle, ColRow, ArrayStep, Name, Path, Width, PathType, Oblique, Repetition}
+use Rattle.gds_elements.specs.declared.fault.Misplaced.{Misplaced}
+use Rattle.gds_elements.specs.declared.fault.Misplaced.TheVariants.{Unexpected, Unsupported}
+use Rattle.gds_elements.specs.declared.fault.ElementFault.{ElementFault}
+use Rattle.gds_elements.specs.declared.fault.ElementFault.TheVariants.{Misplaced as MisplacedRecord, Rule}
+use Rattle.gds_elements.specs.declared.fault.ElementRule.{ElementRule}
+use Rattle.gds_elements.specs.declared.fault.ElementRule.TheVariants.{Layer, Points, NotClosed, Strans, Magnification, Angle, ColRow, ArrayStep, Name, Path, Width, PathType, Oblique, Repetition}
 
 -- the most places of an array
 abbrev pub place_limit : ℕ
@@ -61,8 +65,8 @@ IsMiscounted piece n =
     ((opener piece ≡ Some boundary) × (n < 4)) ⊎ ((opener piece ≡ Some path) × (n < 2)) ⊎ ((opener piece ≡ Some aref) × (n ≢ 3))
     ⊎ (((opener piece ≡ Some sref) ⊎ (opener piece ≡ Some text)) × (n ≢ 1))
 
--- what a record says, behind the records of its element so far, breaches the rule
-abbrev pub ValueBreaches : List Rec → Rec → GdsKind → Type 0
+-- what a record says, after the records of its element so far, breaches the rule
+abbrev pub ValueBreaches : List Rec → Rec → ElementRule → Type 0
 ValueBreaches piece r Layer = ((r.kind ≡ layer) ⊎ (r.kind ≡ datatype)) × DrawsShape piece × (short r.payload <ℤ pos 0)
 ValueBreaches piece r Points = (r.kind ≡ xy) × IsMiscounted piece (length (points r.payload))
 ValueBreaches piece r NotClosed = (r.kind ≡ xy) × (opener piece ≡ Some boundary) × (4 ≤ length (points r.payload)) × ¬ IsClosed (points r.payload)
@@ -76,7 +80,7 @@ ValueBreaches piece r ArrayStep =
 ValueBreaches piece r Name = (r.kind ≡ sname) × RefersToCell piece × ¬ IsName (name r.payload)
 ValueBreaches piece r (Path f) =
     (r.kind ≡ xy) × (opener piece ≡ Some path) × (2 ≤ length (points r.payload)) × (last_of width piece ≢ None)
-    × (f ≢ OutOfMemory) × IsLowestFault (points r.payload) (record { half = half_of piece; start = end_of piece; end = end_of piece }) f
+    × IsLowestFault (points r.payload) (record { half = half_of piece; start = end_of piece; end = end_of piece }) f
 ValueBreaches piece r Width =
     (opener piece ≡ Some path)
     × (((r.kind ≡ width) × ¬ IsWidth (long r.payload)) ⊎ ((r.kind ≡ xy) × (2 ≤ length (points r.payload)) × (last_of width piece ≡ None)))
@@ -87,22 +91,25 @@ ValueBreaches piece r Oblique =
 ValueBreaches piece r Repetition =
     (r.kind ≡ colrow) × (opener piece ≡ Some aref) × (pos 1 ≤ℤ columns r.payload) × (pos 1 ≤ℤ rows r.payload)
     × (place_limit < magnitude (columns r.payload) * magnitude (rows r.payload))
-ValueBreaches piece r f = ⊥
 
--- the record may stand behind the others
+-- the record may come after the others
 abbrev pub InOrder : List Rec → Rec → Type 0
 InOrder piece r = Begins an_element (kinds (piece ++ r ∷ []))
 
--- the record breaches the rule: it may not stand there, or what it says may not
-abbrev pub ElementBreaches : List Rec → Rec → GdsKind → Type 0
-ElementBreaches piece r (Unexpected k) = (r.kind ≡ k) × IsKnown k × ¬ InOrder piece r
-ElementBreaches piece r (Unsupported k) = (r.kind ≡ k) × (k < 60) × ¬ IsKnown k
-ElementBreaches piece r f = InOrder piece r × ValueBreaches piece r f
+-- a record that may not come where it is: its type is one of those that are read, or not
+abbrev pub IsMisplacedAs : Type 0 → Rec → Misplaced → Type 0
+IsMisplacedAs ordered r (Unexpected k) = (r.kind ≡ k) × IsKnown k × ¬ ordered
+IsMisplacedAs ordered r (Unsupported k) = (r.kind ≡ k) × (k < 60) × ¬ IsKnown k
+
+-- the record may not come where it is, or what it says breaches a rule
+abbrev pub ElementBreaches : List Rec → Rec → ElementFault → Type 0
+ElementBreaches piece r (MisplacedRecord m) = IsMisplacedAs (InOrder piece r) r m
+ElementBreaches piece r (Rule k) = InOrder piece r × ValueBreaches piece r k
 
 -- it breaches no other rule
-abbrev pub BreachesOnly : List Rec → Rec → GdsKind → Type 0
-BreachesOnly piece r k = (j : GdsKind) → ElementBreaches piece r j → j ≡ k
+abbrev pub BreachesOnly : List Rec → Rec → ElementFault → Type 0
+BreachesOnly piece r f = (g : ElementFault) → ElementBreaches piece r g → g ≡ f
 
 -- it breaches no rule
 abbrev pub BreachesNone : List Rec → Rec → Type 0
-BreachesNone piece r = (k : GdsKind) → ElementBreaches piece r k → ⊥
+BreachesNone piece r = (f : ElementFault) → ElementBreaches piece r f → ⊥

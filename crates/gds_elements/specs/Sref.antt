@@ -1,9 +1,10 @@
 -- What a reference has that is being read.
 use Rattle.std.specs.Prelude.{◌≡◌, ℕ, ◌==◌, if◌then◌else◌, List, Some}
 use Rattle.gds_elements.specs.Types.{sref, sname, strans, mag, angle, xy, endel}
-use Rattle.gds_elements.specs.Order.{Order, ◌then◌, one, maybe, a_transform}
+use Rattle.lvl_grammar.specs.Order.{Order, ◌then◌, one, maybe}
+use Rattle.gds_elements.specs.Order.{a_transform, an_element}
 use Rattle.gds_elements.specs.Rec.{Rec, kinds, opener}
-use Rattle.gds_elements.specs.Leading.{LeadsTo}
+use Rattle.lvl_grammar.specs.inside.After.{LeadsTo}
 use Rattle.gds_elements.specs.Placing.{IsPlaced}
 use Rattle.gds_elements.specs.declared.order.Next.{Next}
 use Rattle.gds_elements.specs.declared.order.Next.TheVariants.{Goes, Ends, Nowhere}
@@ -30,5 +31,5 @@ left Points = one xy then one endel
 -- the reference stands where its records lead, and has their values
 pub record IsSrefRead (s : Sref) (piece : List Rec) : Type 0 where
   pub opened : opener piece ≡ Some sref
-  pub leads : LeadsTo (kinds piece) (left s.place)
+  pub leads : LeadsTo an_element (kinds piece) (left s.place)
   pub placed : IsPlaced s.placing piece

@@ -1,9 +1,10 @@
 -- What a text has that is being read.
 use Rattle.std.specs.Prelude.{◌≡◌, ℕ, ◌==◌, if◌then◌else◌, List, Some}
 use Rattle.gds_elements.specs.Types.{text, layer, texttype, presentation, pathtype, width, strans, mag, angle, xy, string, endel}
-use Rattle.gds_elements.specs.Order.{Order, ◌then◌, one, maybe, a_transform}
+use Rattle.lvl_grammar.specs.Order.{Order, ◌then◌, one, maybe}
+use Rattle.gds_elements.specs.Order.{a_transform, an_element}
 use Rattle.gds_elements.specs.Rec.{Rec, kinds, opener}
-use Rattle.gds_elements.specs.Leading.{LeadsTo}
+use Rattle.lvl_grammar.specs.inside.After.{LeadsTo}
 use Rattle.gds_elements.specs.declared.order.Next.{Next}
 use Rattle.gds_elements.specs.declared.order.Next.TheVariants.{Goes, Ends, Nowhere}
 use Rattle.gds_elements.specs.declared.text.Place.{Place}
@@ -43,4 +44,4 @@ left Letters = one string then one endel
 -- the text stands where its records lead
 pub record IsTextRead (t : Text) (piece : List Rec) : Type 0 where
   pub opened : opener piece ≡ Some text
-  pub leads : LeadsTo (kinds piece) (left t.place)
+  pub leads : LeadsTo an_element (kinds piece) (left t.place)

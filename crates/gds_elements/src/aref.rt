@@ -9,19 +9,21 @@ ghost use Rattle.gds_elements.specs.Rec.{Rec};
 ghost use Rattle.gds_elements.specs.Meaning.{array_shifts, step};
 ghost use Rattle.gds_elements.specs.Rules.{HasSteps, IsDivided};
 ghost use Rattle.gds_elements.specs.Formed.{IsFormed};
-ghost use Rattle.gds_elements.specs.Misplaced.{Says};
 ghost use Rattle.gds_elements.specs.Aref.{after, IsArefRead, IsArrayFault};
 ghost use Rattle.gds_elements.specs.Reading.{Takes, record_of};
+ghost use Rattle.lvl_refusal.specs.Refused.{Says};
+ghost use Rattle.gds_elements.specs.Misplaced.{Broken, breach};
 
 use crate::counts::{Counts, read_counts};
 use crate::element::{Drawn, State};
-use crate::fault::{GdsKind, Refusal};
-use crate::order::{Next, misplaced, only};
+use crate::fault::{ElementFault, ElementRule, breach};
+use crate::order::{Next, only, out_of_order};
 use crate::placing::Placing;
 use crate::values::{point_at, point_count};
 use gds_records::record_type;
 use lvl_cells::{Offsets, Reference};
 use lvl_grid::Point;
+use lvl_refusal::Refusal;
 use std::alloc::Global;
 
 /// What the next record may be, named by the first of them.
@@ -85,7 +87,12 @@ impl Aref {
     }
 
     /// Takes the next record, if it breaches no rule.
-    pub(crate) fn take(self, alloc: Global, kind: u8, payload: &[u8]) -> Result<State, Refusal>
+    pub(crate) fn take(
+        self,
+        alloc: Global,
+        kind: u8,
+        payload: &[u8],
+    ) -> Result<State, Refusal<ElementFault>>
         requires { IsFormed kind payload.now }
         ensures { (piece : List Rec) (d : ℕ) → IsArefRead self piece → Takes piece (record_of kind d payload.now) result }
     {
@@ -108,19 +115,23 @@ impl Aref {
                 let reference = place_all(placing, counts, payload)?;
                 Ok(State::Drawn(Drawn::Reference(reference)))
             }
-            Next::Nowhere => Err(misplaced(kind)),
+            Next::Nowhere => Err(out_of_order(kind)),
         }
     }
 }
 
 /// The reference to the cell at all places of the array.
-fn place_all(placing: Placing, counts: Counts, payload: &[u8]) -> Result<Reference, Refusal>
+fn place_all(
+    placing: Placing,
+    counts: Counts,
+    payload: &[u8],
+) -> Result<Reference, Refusal<ElementFault>>
     ensures value { IfOk result (λ r. r ≡ record { cell = placing.name.items; flip = placing.flip; turn = placing.turn; at = nth (points payload.now) 0; shifts = array_shifts (points payload.now) counts.columns counts.rows }) }
     ensures allowed { OnOk result ((length (points payload.now) ≡ 3) × HasSteps (points payload.now) counts.columns counts.rows) }
-    ensures refused { IfErr result (λ e. Says e (IsArrayFault (points payload.now) counts.columns counts.rows)) }
+    ensures refused { IfErr result (λ e. Says e (Broken (IsArrayFault (points payload.now) counts.columns counts.rows))) }
 {
     if point_count(payload) != 3 {
-        return Err(Refusal::Breach(GdsKind::Points));
+        return Err(breach(ElementRule::Points));
     }
     let origin = point_at(payload, 0);
     let across = step(origin, point_at(payload, 1), counts.columns)?;
@@ -131,13 +142,13 @@ fn place_all(placing: Placing, counts: Counts, payload: &[u8]) -> Result<Referen
 }
 
 /// One of so many equal steps from a point to another.
-fn step(from: Point, to: Point, count: u64) -> Result<Point, Refusal>
+fn step(from: Point, to: Point, count: u64) -> Result<Point, Refusal<ElementFault>>
     requires from { IsNarrow from }
     requires to { IsNarrow to }
     requires count { 0 < count }
     requires few { count ≤ 1048576 }
     ensures value { IfOk result (λ p. (p ≡ step from to count) × IsDivided from to count) }
-    ensures refused { IfErr result (λ e. (e ≡ Refusal.Breach GdsKind.ArrayStep) × ¬ IsDivided from to count) }
+    ensures refused { IfErr result (λ e. (e ≡ breach ElementRule.ArrayStep) × ¬ IsDivided from to count) }
 {
     let x = step_along(from.x, to.x, count)?;
     let y = step_along(from.y, to.y, count)?;
@@ -145,25 +156,25 @@ fn step(from: Point, to: Point, count: u64) -> Result<Point, Refusal>
 }
 
 /// One of so many equal steps, along one axis.
-fn step_along(from: i64, to: i64, count: u64) -> Result<i64, Refusal>
+fn step_along(from: i64, to: i64, count: u64) -> Result<i64, Refusal<ElementFault>>
     requires from { FitsSigned w32 from }
     requires to { FitsSigned w32 to }
     requires count { 0 < count }
     requires few { count ≤ 1048576 }
     ensures value { IfOk result (λ n. (n ≡ int_div (to -ℤ from) (pos count)) × (int_rem (to -ℤ from) (pos count) ≡ pos 0)) }
-    ensures refused { IfErr result (λ e. (e ≡ Refusal.Breach GdsKind.ArrayStep) × (int_rem (to -ℤ from) (pos count) ≢ pos 0)) }
+    ensures refused { IfErr result (λ e. (e ≡ breach ElementRule.ArrayStep) × (int_rem (to -ℤ from) (pos count) ≢ pos 0)) }
 {
     divided(to - from, count as i64)
 }
 
 /// The exact quotient.
-fn divided(distance: i64, count: i64) -> Result<i64, Refusal>
+fn divided(distance: i64, count: i64) -> Result<i64, Refusal<ElementFault>>
     requires { pos 0 <ℤ count }
     ensures value { IfOk result (λ n. (n ≡ int_div distance count) × (int_rem distance count ≡ pos 0)) }
-    ensures refused { IfErr result (λ e. (e ≡ Refusal.Breach GdsKind.ArrayStep) × (int_rem distance count ≢ pos 0)) }
+    ensures refused { IfErr result (λ e. (e ≡ breach ElementRule.ArrayStep) × (int_rem distance count ≢ pos 0)) }
 {
     if distance % count != 0 {
-        return Err(Refusal::Breach(GdsKind::ArrayStep));
+        return Err(breach(ElementRule::ArrayStep));
     }
     Ok(distance / count)
 }

@@ -6,18 +6,20 @@ ghost use Rattle.gds_elements.specs.Values.{points, but_last};
 ghost use Rattle.gds_elements.specs.Rec.{Rec};
 ghost use Rattle.gds_elements.specs.Rules.{IsClosed, steps};
 ghost use Rattle.gds_elements.specs.Formed.{IsFormed};
-ghost use Rattle.gds_elements.specs.Misplaced.{Says};
 ghost use Rattle.gds_elements.specs.Boundary.{after, IsBoundary, IsRingFault};
 ghost use Rattle.gds_elements.specs.Reading.{Takes, record_of};
+ghost use Rattle.lvl_refusal.specs.Refused.{Says};
+ghost use Rattle.gds_elements.specs.Misplaced.{Broken};
 
 use crate::element::{Drawn, State, zero_shift};
-use crate::fault::{GdsKind, Refusal};
+use crate::fault::{ElementFault, ElementRule, breach};
 use crate::layer::read_layer;
-use crate::order::{Next, misplaced, only};
+use crate::order::{Next, only, out_of_order};
 use crate::values::points;
 use gds_records::record_type;
 use lvl_cells::{Layer, Shape};
 use lvl_grid::Ring;
+use lvl_refusal::Refusal;
 use std::alloc::Global;
 
 /// The fewest points of a boundary, the closing one included.
@@ -66,7 +68,12 @@ impl Boundary {
     }
 
     /// Takes the next record, if it breaches no rule.
-    pub(crate) fn take(self, alloc: Global, kind: u8, payload: &[u8]) -> Result<State, Refusal>
+    pub(crate) fn take(
+        self,
+        alloc: Global,
+        kind: u8,
+        payload: &[u8],
+    ) -> Result<State, Refusal<ElementFault>>
         requires { IsFormed kind payload.now }
         ensures { (piece : List Rec) (d : ℕ) → IsBoundary self piece → Takes piece (record_of kind d payload.now) result }
     {
@@ -83,30 +90,30 @@ impl Boundary {
                     shifts: zero_shift(),
                 })))
             }
-            Next::Nowhere => Err(misplaced(kind)),
+            Next::Nowhere => Err(out_of_order(kind)),
         }
     }
 }
 
 /// The ring of a boundary's points but the last, alone.
-fn rings_of(alloc: Global, payload: &[u8]) -> Result<Vec<Ring>, Refusal>
+fn rings_of(alloc: Global, payload: &[u8]) -> Result<Vec<Ring>, Refusal<ElementFault>>
     ensures value { IfOk result (λ v. v.items ≡ but_last (points payload.now) ∷ []) }
     ensures allowed { OnOk result ((4 ≤ length (points payload.now)) × IsClosed (points payload.now)
         × All IsStraight (steps (points payload.now))) }
-    ensures refused { IfErr result (λ e. Says e (IsRingFault (points payload.now))) }
+    ensures refused { IfErr result (λ e. Says e (Broken (IsRingFault (points payload.now)))) }
 {
     let mut points = points(alloc, payload)?;
     if points.len() < FEWEST_POINTS {
-        return Err(Refusal::Breach(GdsKind::Points));
+        return Err(breach(ElementRule::Points));
     }
     let last = points.pop().unwrap();
     if last != points[0] {
-        return Err(Refusal::Breach(GdsKind::NotClosed));
+        return Err(breach(ElementRule::NotClosed));
     }
     let mut rings = Vec::with_capacity(alloc, 1)?;
     match Ring::new(points) {
         Ok(ring) => rings.push(ring)?,
-        Err(_) => return Err(Refusal::Breach(GdsKind::Oblique)),
+        Err(_) => return Err(breach(ElementRule::Oblique)),
     }
     Ok(rings)
 }

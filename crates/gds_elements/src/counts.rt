@@ -3,12 +3,14 @@ ghost use Rattle.std.specs.Prelude.{◌≡◌, ◌==◌, ◌≤◌, ◌<◌, ◌
 ghost use Rattle.gds_elements.specs.Types.{colrow};
 ghost use Rattle.gds_elements.specs.Values.{short, magnitude, columns, rows};
 ghost use Rattle.gds_elements.specs.Formed.{IsFormed};
-ghost use Rattle.gds_elements.specs.Misplaced.{Says};
 ghost use Rattle.gds_elements.specs.Counts.{IsCounted, IsCountFault};
+ghost use Rattle.lvl_refusal.specs.Refused.{Says};
+ghost use Rattle.gds_elements.specs.Misplaced.{Broken, breach};
 
-use crate::fault::{GdsKind, Refusal};
+use crate::fault::{ElementFault, ElementRule, breach};
 use crate::values::short;
 use gds_records::record_type;
+use lvl_refusal::Refusal;
 
 /// The most places of an array (own rule).
 const MOST_PLACES: u64 = 1_048_576;
@@ -24,12 +26,16 @@ pub(crate) struct Counts {
 }
 
 /// How many columns and rows, behind one record more.
-pub(crate) fn read_counts(old: Counts, kind: u8, payload: &[u8]) -> Result<Counts, Refusal>
+pub(crate) fn read_counts(
+    old: Counts,
+    kind: u8,
+    payload: &[u8],
+) -> Result<Counts, Refusal<ElementFault>>
     requires { IsFormed kind payload.now }
     ensures columns { IfOk result (λ n. n.columns ≡ (if kind == colrow then magnitude (columns payload.now) else old.columns)) }
     ensures rows { IfOk result (λ n. n.rows ≡ (if kind == colrow then magnitude (rows payload.now) else old.rows)) }
     ensures allowed { OnOk result (kind ≡ colrow → IsCounted payload.now) }
-    ensures refused { IfErr result (λ e. Says e (λ k. (kind ≡ colrow) × IsCountFault payload.now k)) }
+    ensures refused { IfErr result (λ e. Says e (Broken (λ k. (kind ≡ colrow) × IsCountFault payload.now k))) }
 {
     if kind != record_type::COLROW {
         return Ok(old);
@@ -38,19 +44,19 @@ pub(crate) fn read_counts(old: Counts, kind: u8, payload: &[u8]) -> Result<Count
     let columns = count(columns)?;
     let rows = count(rows)?;
     if columns * rows > MOST_PLACES {
-        return Err(Refusal::Breach(GdsKind::Repetition));
+        return Err(breach(ElementRule::Repetition));
     }
     Ok(Counts { columns, rows })
 }
 
 /// A number of columns or rows, at least one.
-fn count(bytes: &[u8]) -> Result<u64, Refusal>
+fn count(bytes: &[u8]) -> Result<u64, Refusal<ElementFault>>
     requires { length bytes.now ≡ 2 }
     ensures value { IfOk result (λ n. (n ≡ magnitude (short bytes.now)) × (0 < n) × (n < 32768)) }
-    ensures refused { IfErr result (λ e. (e ≡ Refusal.Breach GdsKind.ColRow) × (short bytes.now <ℤ pos 1)) }
+    ensures refused { IfErr result (λ e. (e ≡ breach ElementRule.ColRow) × (short bytes.now <ℤ pos 1)) }
 {
     match u64::try_from(short(bytes)) {
-        Ok(0) | Err(_) => Err(Refusal::Breach(GdsKind::ColRow)),
+        Ok(0) | Err(_) => Err(breach(ElementRule::ColRow)),
         Ok(number) => Ok(number),
     }
 }

@@ -5,19 +5,20 @@ ghost use Rattle.gds_elements.specs.Rec.{Rec};
 ghost use Rattle.gds_elements.specs.Meaning.{one_place};
 ghost use Rattle.gds_elements.specs.Rules.{ElementBreaches, BreachesOnly, BreachesNone};
 ghost use Rattle.gds_elements.specs.Formed.{IsFormed};
-ghost use Rattle.gds_elements.specs.Misplaced.{Says};
 ghost use Rattle.gds_elements.specs.Reading.{IsReading, IsStep, HasRead, IsAtEnd, Takes, Steps, record_of};
+ghost use Rattle.lvl_refusal.specs.Refused.{Says};
 
 use crate::aref::Aref;
 use crate::boundary::Boundary;
-use crate::fault::Refusal;
-use crate::order::misplaced;
+use crate::fault::ElementFault;
+use crate::order::out_of_order;
 use crate::path::Path;
 use crate::sref::Sref;
 use crate::text::Text;
 use gds_records::record_type;
 use lvl_cells::{Offsets, Reference, Shape};
 use lvl_grid::Point;
+use lvl_refusal::Refusal;
 use std::alloc::Global;
 
 /// What a whole element draws.
@@ -91,7 +92,12 @@ impl Element {
     /// may not stand there is refused before what it says is looked at. Then its tests run in the
     /// order of the rules, but `Oblique` behind `NotClosed` and `Width` before `Path`, and the first
     /// that fails is told.
-    pub fn take(self, alloc: Global, kind: u8, payload: &[u8]) -> Result<Step, Refusal>
+    pub fn take(
+        self,
+        alloc: Global,
+        kind: u8,
+        payload: &[u8],
+    ) -> Result<Step, Refusal<ElementFault>>
         requires formed { IsFormed kind payload.now }
         ensures going { (piece : List Rec) (r : Rec) → IsReading self piece → r.kind ≡ kind → r.payload ≡ payload.now
             → IfOk result (λ step. IsStep step (piece ++ r ∷ [])) }
@@ -107,7 +113,7 @@ impl Element {
 }
 
 impl State {
-    fn take(self, alloc: Global, kind: u8, payload: &[u8]) -> Result<Step, Refusal>
+    fn take(self, alloc: Global, kind: u8, payload: &[u8]) -> Result<Step, Refusal<ElementFault>>
         requires { IsFormed kind payload.now }
         ensures { (piece : List Rec) (d : ℕ) → HasRead self piece → Steps piece (record_of kind d payload.now) result }
     {
@@ -123,7 +129,7 @@ impl State {
 }
 
 /// The step to an element that isn't whole yet.
-fn going(read: Result<State, Refusal>) -> Result<Step, Refusal>
+fn going(read: Result<State, Refusal<ElementFault>>) -> Result<Step, Refusal<ElementFault>>
     ensures { (piece : List Rec) (r : Rec) → Takes piece r read → Steps piece r result }
 {
     match read {
@@ -133,12 +139,12 @@ fn going(read: Result<State, Refusal>) -> Result<Step, Refusal>
 }
 
 /// The step by the last record, of which only ENDEL is left.
-fn end(drawn: Drawn, kind: u8) -> Result<Step, Refusal>
+fn end(drawn: Drawn, kind: u8) -> Result<Step, Refusal<ElementFault>>
     requires { kind < 60 }
     ensures { (piece : List Rec) (d : ℕ) (payload : List ℕ) → IsAtEnd drawn piece → Steps piece (record_of kind d payload) result }
 {
     if kind != record_type::ENDEL {
-        return Err(misplaced(kind));
+        return Err(out_of_order(kind));
     }
     Ok(Step::Whole(drawn))
 }

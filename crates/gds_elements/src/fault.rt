@@ -1,24 +1,25 @@
-//! Why a record is refused.
+//! Why a record of an element is refused.
 ghost use Rattle.std.specs.Prelude.{◌≡◌};
+ghost use Rattle.gds_elements.specs.Misplaced.{breach};
 
-use gds_records::RecordFault;
 use lvl_path::PathFault;
-use std::alloc::{AllocError, AllocFailed};
+use lvl_refusal::Refusal;
 use thiserror::Error;
 
-/// Which rule is breached. A rule that is marked own is this project's.
+/// A record that may not come where it is.
 #[derive(Clone, Copy, Debug, Drop, PartialEq, Eq, Error)]
-pub enum GdsKind {
-    /// No record stands there, or the reader failed. `Truncated` also where the input ends before
-    /// ENDLIB; `Failed` never comes.
-    #[error("a record is missing or malformed")]
-    Record(RecordFault),
-    /// A record of this type may not stand there.
+pub enum Misplaced {
+    /// A record of this type may not come here.
     #[error("a record is out of order")]
     Unexpected(u8),
     /// A record of this type isn't read.
     #[error("a record of this type isn't read")]
     Unsupported(u8),
+}
+
+/// The rules of elements. A rule that is marked own is this project's.
+#[derive(Clone, Copy, Debug, Drop, PartialEq, Eq, Error)]
+pub enum ElementRule {
     /// The LAYER or DATATYPE of a shape is negative (own).
     #[error("a layer or datatype is negative")]
     Layer,
@@ -44,59 +45,41 @@ pub enum GdsKind {
     /// A step of an array isn't a whole number.
     #[error("a step of an array isn't whole")]
     ArrayStep,
-    /// A STRNAME or SNAME is empty, longer than 255 bytes, or has a byte outside 0x21 to 0x7E (own).
-    #[error("a name isn't one")]
+    /// An SNAME is no cell's name: it is empty, longer than 255 bytes, or has a byte outside 0x21 to
+    /// 0x7E (own).
+    #[error("invalid cell name")]
     Name,
     /// The points of a path are none of a path of its width.
-    #[error("a path is no path")]
+    #[error("invalid path")]
     Path(PathFault),
-    /// The WIDTH of a path is zero, negative or odd (own), or is missing.
-    #[error("a path has no width in whole halves")]
+    /// The WIDTH of a path is missing, odd or not positive (own).
+    #[error("missing, odd or non-positive width")]
     Width,
     /// The PATHTYPE of a path is neither 0 nor 2 (own).
-    #[error("the ends of a path aren't read")]
+    #[error("unsupported path type")]
     PathType,
-    /// Behind ENDLIB stands a byte that isn't zero; the offset is that byte's (own).
-    #[error("a byte stands behind the end")]
-    AfterEnd,
     /// An edge of a boundary changes both coordinates (own).
     #[error("an edge of a boundary is oblique")]
     Oblique,
     /// An array has more than 1,048,576 places (own).
     #[error("an array has too many places")]
     Repetition,
-    /// A BGNSTR stands behind 1,048,576 structures (own).
-    #[error("there are too many cells")]
-    TooManyCells,
 }
 
-/// Why an element isn't read on.
+/// Why a record of an element is refused.
 #[derive(Clone, Copy, Debug, Drop, PartialEq, Eq, Error)]
-pub enum Refusal {
-    /// The record breaches this rule.
-    #[error("a record is refused")]
-    Breach(GdsKind),
-    /// Memory was refused.
-    #[error("out of memory")]
-    OutOfMemory,
+pub enum ElementFault {
+    /// It may not come where it is.
+    #[error("a record is out of order or isn't read")]
+    Misplaced(Misplaced),
+    /// It breaches this rule.
+    #[error("a record breaches a rule of its element")]
+    Rule(ElementRule),
 }
 
-impl From<AllocError> for Refusal {
-    ghost use Rattle.gds_elements.specs.declared.fault.Refusal.TheVariants.{OutOfMemory};
-
-    ghost from_gives = { λ _ e. e ≡ OutOfMemory };
-
-    fn from(_e: AllocError) -> Refusal {
-        Refusal::OutOfMemory
-    }
-}
-
-impl<T: Drop> From<AllocFailed<T>> for Refusal {
-    ghost use Rattle.gds_elements.specs.declared.fault.Refusal.TheVariants.{OutOfMemory};
-
-    ghost from_gives = { λ _ e. e ≡ OutOfMemory };
-
-    fn from(_e: AllocFailed<T>) -> Refusal {
-        Refusal::OutOfMemory
-    }
+/// The refusal of a record that breaches this rule.
+pub(crate) fn breach(rule: ElementRule) -> Refusal<ElementFault>
+    ensures { result ≡ breach rule }
+{
+    Refusal::Breach(ElementFault::Rule(rule))
 }

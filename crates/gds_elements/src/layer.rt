@@ -3,19 +3,25 @@ ghost use Rattle.std.specs.Prelude.{◌≡◌, ◌==◌, ◌≤ℤ◌, ◌<ℤ�
 ghost use Rattle.gds_elements.specs.Types.{layer, datatype};
 ghost use Rattle.gds_elements.specs.Values.{short, magnitude};
 ghost use Rattle.gds_elements.specs.Formed.{IsFormed, IsLayerNumber};
+ghost use Rattle.gds_elements.specs.Misplaced.{breach};
 
-use crate::fault::{GdsKind, Refusal};
+use crate::fault::{ElementFault, ElementRule, breach};
 use crate::values::short;
 use gds_records::record_type;
 use lvl_cells::Layer;
+use lvl_refusal::Refusal;
 
 /// The layer and datatype of a shape behind one record more.
-pub(crate) fn read_layer(old: Layer, kind: u8, payload: &[u8]) -> Result<Layer, Refusal>
+pub(crate) fn read_layer(
+    old: Layer,
+    kind: u8,
+    payload: &[u8],
+) -> Result<Layer, Refusal<ElementFault>>
     requires { IsFormed kind payload.now }
     ensures layer { IfOk result (λ l. l.layer ≡ (if kind == layer then magnitude (short payload.now) else old.layer)) }
     ensures datatype { IfOk result (λ l. l.datatype ≡ (if kind == datatype then magnitude (short payload.now) else old.datatype)) }
     ensures allowed { OnOk result (IsLayerNumber kind → pos 0 ≤ℤ short payload.now) }
-    ensures refused { IfErr result (λ e. (e ≡ Refusal.Breach GdsKind.Layer) × IsLayerNumber kind × (short payload.now <ℤ pos 0)) }
+    ensures refused { IfErr result (λ e. (e ≡ breach ElementRule.Layer) × IsLayerNumber kind × (short payload.now <ℤ pos 0)) }
 {
     match kind {
         record_type::LAYER => Ok(Layer {
@@ -30,13 +36,13 @@ pub(crate) fn read_layer(old: Layer, kind: u8, payload: &[u8]) -> Result<Layer, 
     }
 }
 
-fn layer_number(payload: &[u8]) -> Result<u32, Refusal>
+fn layer_number(payload: &[u8]) -> Result<u32, Refusal<ElementFault>>
     requires { length payload.now ≡ 2 }
     ensures value { IfOk result (λ n. (n ≡ magnitude (short payload.now)) × (pos 0 ≤ℤ short payload.now)) }
-    ensures negative { IfErr result (λ e. (e ≡ Refusal.Breach GdsKind.Layer) × (short payload.now <ℤ pos 0)) }
+    ensures negative { IfErr result (λ e. (e ≡ breach ElementRule.Layer) × (short payload.now <ℤ pos 0)) }
 {
     match u32::try_from(short(payload)) {
         Ok(number) => Ok(number),
-        Err(_) => Err(Refusal::Breach(GdsKind::Layer)),
+        Err(_) => Err(breach(ElementRule::Layer)),
     }
 }

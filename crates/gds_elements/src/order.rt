@@ -1,9 +1,10 @@
 //! What a record is at a place of an element.
 ghost use Rattle.std.specs.Prelude.{◌≡◌, ◌==◌, ◌<◌, if◌then◌else◌};
-ghost use Rattle.gds_elements.specs.Misplaced.{IsMisplaced};
+ghost use Rattle.gds_elements.specs.Misplaced.{IsMisplacement, IsMisplaced};
 
-use crate::fault::{GdsKind, Refusal};
+use crate::fault::{ElementFault, Misplaced};
 use gds_records::record_type;
+use lvl_refusal::Refusal;
 
 /// What a record of some type is at a place.
 #[derive(Clone, Copy)]
@@ -25,10 +26,10 @@ where
     if kind == wanted { next } else { Next::Nowhere }
 }
 
-/// The refusal of a record that may not stand where it stands: `Unexpected` where its type is one
-/// of those that are read, else `Unsupported`.
-pub fn misplaced(kind: u8) -> Refusal
-    ensures { IsMisplaced kind result }
+/// Why a record may not come where it is: `Unexpected` where its type is one of those that are
+/// read, else `Unsupported`.
+pub fn misplaced(kind: u8) -> Misplaced
+    ensures { IsMisplacement kind result }
 {
     match kind {
         record_type::HEADER
@@ -57,7 +58,14 @@ pub fn misplaced(kind: u8) -> Refusal
         | record_type::STRANS
         | record_type::MAG
         | record_type::ANGLE
-        | record_type::PATHTYPE => Refusal::Breach(GdsKind::Unexpected(kind)),
-        _ => Refusal::Breach(GdsKind::Unsupported(kind)),
+        | record_type::PATHTYPE => Misplaced::Unexpected(kind),
+        _ => Misplaced::Unsupported(kind),
     }
+}
+
+/// The refusal of a record that may not come where it is.
+pub(crate) fn out_of_order(kind: u8) -> Refusal<ElementFault>
+    ensures { IsMisplaced kind result }
+{
+    Refusal::Breach(ElementFault::Misplaced(misplaced(kind)))
 }

@@ -8,19 +8,21 @@ ghost use Rattle.gds_elements.specs.Rec.{Rec};
 ghost use Rattle.gds_elements.specs.Meaning.{half};
 ghost use Rattle.gds_elements.specs.Rules.{IsWidth};
 ghost use Rattle.gds_elements.specs.Formed.{IsFormed};
-ghost use Rattle.gds_elements.specs.Misplaced.{Says};
 ghost use Rattle.gds_elements.specs.Path.{after, IsPathRead, IsBandsFault, reach_at};
 ghost use Rattle.gds_elements.specs.Reading.{Takes, record_of};
+ghost use Rattle.lvl_refusal.specs.Refused.{Says};
+ghost use Rattle.gds_elements.specs.Misplaced.{Broken, breach};
 
 use crate::element::{Drawn, State, zero_shift};
-use crate::fault::{GdsKind, Refusal};
+use crate::fault::{ElementFault, ElementRule, breach};
 use crate::layer::read_layer;
-use crate::order::{Next, misplaced, only};
+use crate::order::{Next, only, out_of_order};
 use crate::values::{long, points, short};
 use gds_records::record_type;
 use lvl_cells::{Layer, Shape};
 use lvl_grid::Ring;
-use lvl_path::{PathFault, bands};
+use lvl_path::bands;
+use lvl_refusal::Refusal;
 use std::alloc::Global;
 
 /// The fewest points of a path.
@@ -86,7 +88,12 @@ impl Path {
     }
 
     /// Takes the next record, if it breaches no rule.
-    pub(crate) fn take(self, alloc: Global, kind: u8, payload: &[u8]) -> Result<State, Refusal>
+    pub(crate) fn take(
+        self,
+        alloc: Global,
+        kind: u8,
+        payload: &[u8],
+    ) -> Result<State, Refusal<ElementFault>>
         requires { IsFormed kind payload.now }
         ensures { (piece : List Rec) (d : ℕ) → IsPathRead self piece → Takes piece (record_of kind d payload.now) result }
     {
@@ -110,17 +117,17 @@ impl Path {
                     shifts: zero_shift(),
                 })))
             }
-            Next::Nowhere => Err(misplaced(kind)),
+            Next::Nowhere => Err(out_of_order(kind)),
         }
     }
 }
 
 /// Whether a path reaches half its width beyond its ends, behind one record more.
-fn read_ends(old: bool, kind: u8, payload: &[u8]) -> Result<bool, Refusal>
+fn read_ends(old: bool, kind: u8, payload: &[u8]) -> Result<bool, Refusal<ElementFault>>
     requires { IsFormed kind payload.now }
     ensures value { IfOk result (λ square. square ≡ (if kind == pathtype then int_eq (short payload.now) (pos 2) else old)) }
     ensures allowed { OnOk result (kind ≡ pathtype → (short payload.now ≢ pos 0) → short payload.now ≡ pos 2) }
-    ensures refused { IfErr result (λ e. (e ≡ Refusal.Breach GdsKind.PathType) × (kind ≡ pathtype)
+    ensures refused { IfErr result (λ e. (e ≡ breach ElementRule.PathType) × (kind ≡ pathtype)
         × (short payload.now ≢ pos 0) × (short payload.now ≢ pos 2)) }
 {
     if kind != record_type::PATHTYPE {
@@ -129,25 +136,29 @@ fn read_ends(old: bool, kind: u8, payload: &[u8]) -> Result<bool, Refusal>
     match short(payload) {
         0 => Ok(false),
         2 => Ok(true),
-        _ => Err(Refusal::Breach(GdsKind::PathType)),
+        _ => Err(breach(ElementRule::PathType)),
     }
 }
 
 /// Half the width of a path, behind one record more.
-fn read_half(old: Option<u64>, kind: u8, payload: &[u8]) -> Result<Option<u64>, Refusal>
+fn read_half(
+    old: Option<u64>,
+    kind: u8,
+    payload: &[u8],
+) -> Result<Option<u64>, Refusal<ElementFault>>
     requires { IsFormed kind payload.now }
     ensures value { IfOk result (λ h. h ≡ (if kind == width then Some (half payload.now) else old)) }
     ensures allowed { OnOk result (kind ≡ width → IsWidth (long payload.now)) }
-    ensures refused { IfErr result (λ e. (e ≡ Refusal.Breach GdsKind.Width) × (kind ≡ width) × ¬ IsWidth (long payload.now)) }
+    ensures refused { IfErr result (λ e. (e ≡ breach ElementRule.Width) × (kind ≡ width) × ¬ IsWidth (long payload.now)) }
 {
     if kind != record_type::WIDTH {
         return Ok(old);
     }
     let Ok(width) = u32::try_from(long(payload)) else {
-        return Err(Refusal::Breach(GdsKind::Width));
+        return Err(breach(ElementRule::Width));
     };
     if width == 0 || width % 2 != 0 {
-        return Err(Refusal::Breach(GdsKind::Width));
+        return Err(breach(ElementRule::Width));
     }
     Ok(Some(u64::from(width / 2)))
 }
@@ -158,24 +169,25 @@ fn bands_of(
     half: Option<u64>,
     square: bool,
     payload: &[u8],
-) -> Result<Vec<Ring>, Refusal>
+) -> Result<Vec<Ring>, Refusal<ElementFault>>
     ensures value { (h : ℕ) → half ≡ Some h → IfOk result (λ v. v.items ≡ path_rings (points payload.now) (record { half = h; start = reach_at square h; end = reach_at square h })) }
     ensures allowed { (h : ℕ) → half ≡ Some h → OnOk result (IsPath (points payload.now) (record { half = h; start = reach_at square h; end = reach_at square h })) }
     ensures enough { OnOk result (2 ≤ length (points payload.now)) }
     ensures width { OnOk result (half ≢ None) }
-    ensures refused { IfErr result (λ e. Says e (IsBandsFault (points payload.now) half square)) }
+    ensures refused { IfErr result (λ e. Says e (Broken (IsBandsFault (points payload.now) half square))) }
 {
     let points = points(alloc, payload)?;
     if points.len() < FEWEST_POINTS {
-        return Err(Refusal::Breach(GdsKind::Points));
+        return Err(breach(ElementRule::Points));
     }
     let Some(half) = half else {
-        return Err(Refusal::Breach(GdsKind::Width));
+        return Err(breach(ElementRule::Width));
     };
     let reach = end_reach(square, half);
     match bands(alloc, &points, half, reach, reach) {
         Ok(rings) => Ok(rings),
-        Err(fault) => Err(refusal(fault)),
+        Err(Refusal::Breach(fault)) => Err(breach(ElementRule::Path(fault))),
+        Err(Refusal::OutOfMemory) => Err(Refusal::OutOfMemory),
     }
 }
 
@@ -184,14 +196,4 @@ fn end_reach(square: bool, half: u64) -> u64
     ensures { result ≡ reach_at square half }
 {
     if square { half } else { 0 }
-}
-
-/// The refusal of points of which no bands are made.
-fn refusal(fault: PathFault) -> Refusal
-    ensures { Says result (λ k. (k ≡ GdsKind.Path fault) × (fault ≢ PathFault.OutOfMemory)) }
-{
-    match fault {
-        PathFault::OutOfMemory => Refusal::OutOfMemory,
-        _ => Refusal::Breach(GdsKind::Path(fault)),
-    }
 }

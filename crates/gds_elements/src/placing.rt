@@ -5,13 +5,15 @@ ghost use Rattle.gds_elements.specs.Types.{sname, strans, mag, angle};
 ghost use Rattle.gds_elements.specs.Values.{bits, name, flips, turn, one_real, degrees};
 ghost use Rattle.gds_elements.specs.Rules.{IsName};
 ghost use Rattle.gds_elements.specs.Formed.{IsFormed};
-ghost use Rattle.gds_elements.specs.Misplaced.{Says};
 ghost use Rattle.gds_elements.specs.Placing.{IsPlacingFault, IsPlacingAllowed};
+ghost use Rattle.lvl_refusal.specs.Refused.{Says};
+ghost use Rattle.gds_elements.specs.Misplaced.{Broken, breach};
 
-use crate::fault::{GdsKind, Refusal};
-use crate::values::{bits, cell_name};
+use crate::fault::{ElementFault, ElementRule, breach};
+use crate::values::{bits, is_name, name};
 use gds_records::record_type;
 use lvl_grid::Turn;
+use lvl_refusal::Refusal;
 use std::alloc::Global;
 
 /// The real 1, as it is spelled.
@@ -48,13 +50,18 @@ impl Placing {
     }
 
     /// What is known behind one record more.
-    pub(crate) fn read(self, alloc: Global, kind: u8, payload: &[u8]) -> Result<Placing, Refusal>
+    pub(crate) fn read(
+        self,
+        alloc: Global,
+        kind: u8,
+        payload: &[u8],
+    ) -> Result<Placing, Refusal<ElementFault>>
         requires { IsFormed kind payload.now }
         ensures name { IfOk result (λ p. p.name.items ≡ (if kind == sname then name payload.now else self.name.items)) }
         ensures flip { IfOk result (λ p. p.flip ≡ (if kind == strans then flips payload.now else self.flip)) }
         ensures turn { IfOk result (λ p. p.turn ≡ (if kind == angle then turn payload.now else self.turn)) }
         ensures allowed { OnOk result (IsPlacingAllowed kind payload.now) }
-        ensures refused { IfErr result (λ e. Says e (IsPlacingFault kind payload.now)) }
+        ensures refused { IfErr result (λ e. Says e (Broken (IsPlacingFault kind payload.now))) }
     {
         let Placing { name, flip, turn } = self;
         let flip = read_flip(flip, kind, payload)?;
@@ -65,22 +72,31 @@ impl Placing {
     }
 }
 
-fn read_name(alloc: Global, old: Vec<u8>, kind: u8, payload: &[u8]) -> Result<Vec<u8>, Refusal>
+fn read_name(
+    alloc: Global,
+    old: Vec<u8>,
+    kind: u8,
+    payload: &[u8],
+) -> Result<Vec<u8>, Refusal<ElementFault>>
     ensures value { IfOk result (λ v. v.items ≡ (if kind == sname then name payload.now else old.items)) }
     ensures allowed { OnOk result (kind ≡ sname → IsName (name payload.now)) }
-    ensures refused { IfErr result (λ e. Says e (λ k. (k ≡ GdsKind.Name) × (kind ≡ sname) × ¬ IsName (name payload.now))) }
+    ensures refused { IfErr result (λ e. Says e (Broken (λ k. (k ≡ ElementRule.Name) × (kind ≡ sname) × ¬ IsName (name payload.now)))) }
 {
     if kind != record_type::SNAME {
         return Ok(old);
     }
-    cell_name(alloc, payload)
+    let name = name(payload);
+    if !is_name(name) {
+        return Err(breach(ElementRule::Name));
+    }
+    Ok(Vec::from_slice(alloc, name)?)
 }
 
-fn read_flip(old: bool, kind: u8, payload: &[u8]) -> Result<bool, Refusal>
+fn read_flip(old: bool, kind: u8, payload: &[u8]) -> Result<bool, Refusal<ElementFault>>
     requires { IsFormed kind payload.now }
     ensures value { IfOk result (λ flip. flip ≡ (if kind == strans then flips payload.now else old)) }
     ensures allowed { OnOk result (kind ≡ strans → (bits payload.now ≢ 0) → bits payload.now ≡ 0x8000) }
-    ensures refused { IfErr result (λ e. (e ≡ Refusal.Breach GdsKind.Strans) × (kind ≡ strans)
+    ensures refused { IfErr result (λ e. (e ≡ breach ElementRule.Strans) × (kind ≡ strans)
         × (bits payload.now ≢ 0) × (bits payload.now ≢ 0x8000)) }
 {
     if kind != record_type::STRANS {
@@ -89,31 +105,31 @@ fn read_flip(old: bool, kind: u8, payload: &[u8]) -> Result<bool, Refusal>
     match bits(payload) {
         0 => Ok(false),
         0x8000 => Ok(true),
-        _ => Err(Refusal::Breach(GdsKind::Strans)),
+        _ => Err(breach(ElementRule::Strans)),
     }
 }
 
-fn check_magnification(kind: u8, payload: &[u8]) -> Result<(), Refusal>
+fn check_magnification(kind: u8, payload: &[u8]) -> Result<(), Refusal<ElementFault>>
     ensures allowed { OnOk result (kind ≡ mag → payload.now ≡ one_real) }
-    ensures refused { IfErr result (λ e. (e ≡ Refusal.Breach GdsKind.Magnification) × (kind ≡ mag) × (payload.now ≢ one_real)) }
+    ensures refused { IfErr result (λ e. (e ≡ breach ElementRule.Magnification) × (kind ≡ mag) × (payload.now ≢ one_real)) }
 {
     if kind == record_type::MAG && payload != ONE.as_slice() {
-        return Err(Refusal::Breach(GdsKind::Magnification));
+        return Err(breach(ElementRule::Magnification));
     }
     Ok(())
 }
 
-fn read_turn(old: Turn, kind: u8, payload: &[u8]) -> Result<Turn, Refusal>
+fn read_turn(old: Turn, kind: u8, payload: &[u8]) -> Result<Turn, Refusal<ElementFault>>
     ensures value { IfOk result (λ t. t ≡ (if kind == angle then turn payload.now else old)) }
     ensures allowed { OnOk result (kind ≡ angle → payload.now ≡ degrees (turn payload.now)) }
-    ensures refused { IfErr result (λ e. (e ≡ Refusal.Breach GdsKind.Angle) × (kind ≡ angle) × ((t : GridTurn) → payload.now ≢ degrees t)) }
+    ensures refused { IfErr result (λ e. (e ≡ breach ElementRule.Angle) × (kind ≡ angle) × ((t : GridTurn) → payload.now ≢ degrees t)) }
 {
     if kind != record_type::ANGLE {
         return Ok(old);
     }
     match turn(payload) {
         Some(turn) => Ok(turn),
-        None => Err(Refusal::Breach(GdsKind::Angle)),
+        None => Err(breach(ElementRule::Angle)),
     }
 }
 

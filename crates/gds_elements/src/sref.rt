@@ -8,14 +8,16 @@ ghost use Rattle.gds_elements.specs.Meaning.{one_place};
 ghost use Rattle.gds_elements.specs.Formed.{IsFormed};
 ghost use Rattle.gds_elements.specs.Sref.{after, IsSrefRead};
 ghost use Rattle.gds_elements.specs.Reading.{Takes, record_of};
+ghost use Rattle.gds_elements.specs.Misplaced.{breach};
 
 use crate::element::{Drawn, State, zero_shift};
-use crate::fault::{GdsKind, Refusal};
-use crate::order::{Next, misplaced, only};
+use crate::fault::{ElementFault, ElementRule, breach};
+use crate::order::{Next, only, out_of_order};
 use crate::placing::Placing;
 use crate::values::{point_at, point_count};
 use gds_records::record_type;
 use lvl_cells::Reference;
+use lvl_refusal::Refusal;
 use std::alloc::Global;
 
 /// What the next record may be, named by the first of them.
@@ -72,7 +74,12 @@ impl Sref {
     }
 
     /// Takes the next record, if it breaches no rule.
-    pub(crate) fn take(self, alloc: Global, kind: u8, payload: &[u8]) -> Result<State, Refusal>
+    pub(crate) fn take(
+        self,
+        alloc: Global,
+        kind: u8,
+        payload: &[u8],
+    ) -> Result<State, Refusal<ElementFault>>
         requires { IsFormed kind payload.now }
         ensures { (piece : List Rec) (d : ℕ) → IsSrefRead self piece → Takes piece (record_of kind d payload.now) result }
     {
@@ -86,19 +93,19 @@ impl Sref {
                 let reference = place_once(placing, payload)?;
                 Ok(State::Drawn(Drawn::Reference(reference)))
             }
-            Next::Nowhere => Err(misplaced(kind)),
+            Next::Nowhere => Err(out_of_order(kind)),
         }
     }
 }
 
 /// The reference to the cell at the one point.
-fn place_once(placing: Placing, payload: &[u8]) -> Result<Reference, Refusal>
+fn place_once(placing: Placing, payload: &[u8]) -> Result<Reference, Refusal<ElementFault>>
     ensures value { IfOk result (λ r. r ≡ record { cell = placing.name.items; flip = placing.flip; turn = placing.turn; at = nth (points payload.now) 0; shifts = one_place }) }
     ensures allowed { OnOk result (length (points payload.now) ≡ 1) }
-    ensures refused { IfErr result (λ e. (e ≡ Refusal.Breach GdsKind.Points) × (length (points payload.now) ≢ 1)) }
+    ensures refused { IfErr result (λ e. (e ≡ breach ElementRule.Points) × (length (points payload.now) ≢ 1)) }
 {
     if point_count(payload) != 1 {
-        return Err(Refusal::Breach(GdsKind::Points));
+        return Err(breach(ElementRule::Points));
     }
     let Placing { name, flip, turn } = placing;
     let at = point_at(payload, 0);

@@ -2,11 +2,12 @@
 ghost use Rattle.std.specs.Prelude.{IsTrue};
 ghost use Rattle.gds_elements.specs.Formed.{IsFormed};
 
-use crate::{Drawn, Element, GdsKind, Refusal, Step};
+use crate::{Drawn, Element, ElementFault, ElementRule, Misplaced, Step};
 use gds_records::record_type as ty;
 use lvl_cells::{Layer, Reference, Shape};
 use lvl_grid::{Point, Ring, Turn};
 use lvl_path::PathFault;
+use lvl_refusal::Refusal;
 use std::alloc::{AllocError, Global};
 use std::process::Abort;
 use std::test::Fail;
@@ -58,7 +59,7 @@ type Line<'a> = (u8, Says<'a>);
 #[derive(Clone, Copy, Debug, PartialEq, Eq)]
 enum Stop {
     /// The record at this place is refused.
-    At(usize, GdsKind),
+    At(usize, ElementFault),
     /// The records end before ENDEL, or the first opens no element.
     Incomplete,
     OutOfMemory,

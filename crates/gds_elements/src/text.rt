@@ -7,12 +7,14 @@ ghost use Rattle.gds_elements.specs.Rec.{Rec};
 ghost use Rattle.gds_elements.specs.Formed.{IsFormed};
 ghost use Rattle.gds_elements.specs.Text.{after, IsTextRead};
 ghost use Rattle.gds_elements.specs.Reading.{Takes, record_of};
+ghost use Rattle.gds_elements.specs.Misplaced.{breach};
 
 use crate::element::{Drawn, State};
-use crate::fault::{GdsKind, Refusal};
-use crate::order::{Next, misplaced, only};
+use crate::fault::{ElementFault, ElementRule, breach};
+use crate::order::{Next, only, out_of_order};
 use crate::values::point_count;
 use gds_records::record_type;
+use lvl_refusal::Refusal;
 
 /// What the next record may be, named by the first of them.
 #[derive(Clone, Copy)]
@@ -108,7 +110,7 @@ impl Text {
     }
 
     /// Takes the next record, if it breaches no rule.
-    pub(crate) fn take(self, kind: u8, payload: &[u8]) -> Result<State, Refusal>
+    pub(crate) fn take(self, kind: u8, payload: &[u8]) -> Result<State, Refusal<ElementFault>>
         requires { IsFormed kind payload.now }
         ensures { (piece : List Rec) (d : ℕ) → IsTextRead self piece → Takes piece (record_of kind d payload.now) result }
     {
@@ -118,17 +120,17 @@ impl Text {
                 Ok(State::Text(Text { place }))
             }
             Next::Ends => Ok(State::Drawn(Drawn::Nothing)),
-            Next::Nowhere => Err(misplaced(kind)),
+            Next::Nowhere => Err(out_of_order(kind)),
         }
     }
 }
 
-fn check_points(kind: u8, payload: &[u8]) -> Result<(), Refusal>
+fn check_points(kind: u8, payload: &[u8]) -> Result<(), Refusal<ElementFault>>
     ensures allowed { OnOk result (kind ≡ xy → length (points payload.now) ≡ 1) }
-    ensures refused { IfErr result (λ e. (e ≡ Refusal.Breach GdsKind.Points) × (kind ≡ xy) × (length (points payload.now) ≢ 1)) }
+    ensures refused { IfErr result (λ e. (e ≡ breach ElementRule.Points) × (kind ≡ xy) × (length (points payload.now) ≢ 1)) }
 {
     if kind == record_type::XY && point_count(payload) != 1 {
-        return Err(Refusal::Breach(GdsKind::Points));
+        return Err(breach(ElementRule::Points));
     }
     Ok(())
 }

@@ -1,10 +1,8 @@
 //! The values that payloads spell.
-ghost use Rattle.std.specs.Prelude.{◌≡◌, ◌<◌, ◌≤◌, ◌+◌, ◌*◌, ◌↔◌, IsTrue, IfOk, IfErr, OnOk, length, take, drop};
+ghost use Rattle.std.specs.Prelude.{◌≡◌, ◌<◌, ◌≤◌, ◌+◌, ◌*◌, ◌↔◌, IsTrue, IfOk, length, take, drop};
 ghost use Rattle.gds_elements.specs.Values.{short, long, bits, point, points, nth, name, IsNarrow};
 ghost use Rattle.gds_elements.specs.Rules.{IsName};
-ghost use Rattle.gds_elements.specs.Misplaced.{Says};
 
-use crate::fault::{GdsKind, Refusal};
 use lvl_grid::Point;
 use std::alloc::{AllocError, Global};
 
@@ -59,8 +57,9 @@ pub(crate) fn points(alloc: Global, payload: &[u8]) -> Result<Vec<Point>, AllocE
     Ok(points)
 }
 
-// The name, without the zero byte that fills it.
-fn name(payload: &[u8]) -> &[u8]
+/// The name that a STRNAME or an SNAME spells: without the zero byte that fills it, where it ends
+/// with one.
+pub fn name(payload: &[u8]) -> &[u8]
     ensures { result.now ≡ name payload.now }
 {
     match payload {
@@ -69,27 +68,11 @@ fn name(payload: &[u8]) -> &[u8]
     }
 }
 
-// Whether these bytes are a cell's name.
-fn is_name(bytes: &[u8]) -> bool
+/// Whether these bytes are a cell's name: 1 to 255 bytes, each of 0x21 to 0x7E (own rule).
+pub fn is_name(bytes: &[u8]) -> bool
     ensures { IsTrue result ↔ IsName bytes.now }
 {
     !bytes.is_empty() && bytes.len() <= 255 && bytes.iter().all(|b| 0x21 <= *b && *b <= 0x7E)
-}
-
-/// The cell's name that a STRNAME or an SNAME spells, without the zero byte that fills it.
-///
-/// Refused as `Name` where it is empty, longer than 255 bytes, or has a byte outside 0x21 to 0x7E
-/// (own rule).
-pub fn cell_name(alloc: Global, payload: &[u8]) -> Result<Vec<u8>, Refusal>
-    ensures value { IfOk result (λ v. v.items ≡ name payload.now) }
-    ensures allowed { OnOk result (IsName (name payload.now)) }
-    ensures refused { IfErr result (λ e. Says e (λ k. (k ≡ GdsKind.Name) × ¬ IsName (name payload.now))) }
-{
-    let name = name(payload);
-    if !is_name(name) {
-        return Err(Refusal::Breach(GdsKind::Name));
-    }
-    Ok(Vec::from_slice(alloc, name)?)
 }
 
 /// How many points a payload has.

@@ -3,16 +3,19 @@ use Rattle.std.proofs.Common.{◌≡◌, ◌==◌, ◌||◌, ◌⊎◌, ℕ, Boo
 use Rattle.std.proofs.lemmas.List.{append-nil}
 use Rattle.std.specs.List.{flat_map}
 use Rattle.gds_elements.specs.Types.{boundary, path, sref, aref, text, endstr}
-use Rattle.gds_elements.specs.Order.{IsWord, Begins, an_element, opens}
+use Rattle.lvl_grammar.specs.Order.{IsWord, Begins}
+use Rattle.gds_elements.specs.Order.{an_element, opens}
 use Rattle.gds_elements.specs.Rec.{Rec, kinds, opener}
 use Rattle.gds_elements.specs.Reading.{HasRead, IsReading}
 use Rattle.gds_elements.specs.declared.element.Element.{Element}
 use Rattle.gds_elements.specs.declared.element.State.{State}
 use Rattle.gds_elements.specs.declared.element.State.TheVariants.{Boundary, Path, Sref, Aref, Text, Drawn as AtEnd}
-use Rattle.gds_elements.proofs.Orders.{after_first, IsWordOfOne, first_taken, some_word, some_word-is, empty_word}
+use Rattle.lvl_grammar.specs.inside.After.{after_first, IsWordOfOne}
+use Rattle.lvl_grammar.proofs.Orders.{first_taken, some_word, some_word-is, empty_word}
 use Rattle.gds_elements.proofs.Elements.{reading_begins, reading_unfinished, nothing_follows}
 use Rattle.gds_library.specs.Order.{a_library}
-use Rattle.gds_library.specs.Place.{LeadsTo, to_end_of_structure}
+use Rattle.gds_library.specs.inside.Place.{left, to_end_of_structure}
+use Rattle.lvl_grammar.specs.inside.After.{LeadsTo}
 use Rattle.gds_library.specs.declared.place.Place.TheVariants.{Elements}
 
 either_false : (a b : Bool) → a || b ≡ false → (a ≡ false) × (b ≡ false)
@@ -132,14 +135,14 @@ leads_past : (b a : List ℕ) (v : List ℕ) → IsWord an_element a → IsWord 
 leads_past b [] v w h = h
 leads_past b (k ∷ a) v w h = split_whole k a v w h
 
-pub leads_element : (b a : List ℕ) → LeadsTo b Elements → IsWord an_element a → LeadsTo (b ++ a) Elements
+pub leads_element : (b a : List ℕ) → LeadsTo a_library b (left Elements) → IsWord an_element a → LeadsTo a_library (b ++ a) (left Elements)
 leads_element b a h w v = (
   λ x. leads_past b a v w ((h (a ++ v)).0 (subst (IsWord a_library) (append_assoc b a v) x)),
   λ y. subst (IsWord a_library) (sym (append_assoc b a v)) ((h (a ++ v)).1 (join_element a v w y)),
 )
 
 -- what begins an element begins a library, behind what leads to one
-pub begins_inside : (b p : List ℕ) → LeadsTo b Elements → Begins an_element p → Begins a_library (b ++ p)
+pub begins_inside : (b p : List ℕ) → LeadsTo a_library b (left Elements) → Begins an_element p → Begins a_library (b ++ p)
 begins_inside b p h g =
     let more = g.0 ++ some_word to_end_of_structure in (
       more,
@@ -154,7 +157,7 @@ first_goes p (i ∷ u) w more k n e h =
     (u, subst (IsWord an_element) (ap (λ j. p ++ (j ∷ u)) g ∙ sym (append_assoc p (k ∷ []) u)) h)
 
 -- what goes on to a library behind an open element goes on to an element
-pub open_goes : (b p : List ℕ) (k : ℕ) → LeadsTo b Elements → IsOpen p → Begins a_library ((b ++ p) ++ k ∷ []) → Begins an_element (p ++ k ∷ [])
+pub open_goes : (b p : List ℕ) (k : ℕ) → LeadsTo a_library b (left Elements) → IsOpen p → Begins a_library ((b ++ p) ++ k ∷ []) → Begins an_element (p ++ k ∷ [])
 open_goes b p k h o (more, x) =
     let e : ((b ++ p) ++ k ∷ []) ++ more ≡ b ++ (p ++ (k ∷ more)) = append_assoc (b ++ p) (k ∷ []) more ∙ append_assoc b p (k ∷ more) in
     let z = split_open p (k ∷ more) o ((h (p ++ (k ∷ more))).0 (subst (IsWord a_library) e x)) in
@@ -165,7 +168,7 @@ some_left [] w e h = (let z : false ≡ true = empty_word to_end_of_structure (s
 some_left (i ∷ u) w e h = cc
 
 -- where an element is open, the library isn't whole
-pub open_unwhole : (b p : List ℕ) → LeadsTo b Elements → IsOpen p → IsWord a_library (b ++ p) → ⊥
+pub open_unwhole : (b p : List ℕ) → LeadsTo a_library b (left Elements) → IsOpen p → IsWord a_library (b ++ p) → ⊥
 open_unwhole b p h o x =
     let z = split_open p [] o ((h (p ++ [])).0 (subst (λ i. IsWord a_library (b ++ i)) (sym (append-nil p)) x)) in
     some_left z.0 z.1 z.2 z.4

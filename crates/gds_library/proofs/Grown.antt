@@ -7,8 +7,8 @@ use Rattle.gds_elements.specs.Reading.{shapes_in, references_in}
 use Rattle.gds_elements.specs.declared.element.Drawn.{Drawn}
 use Rattle.gds_library.specs.Types.{fill}
 use Rattle.gds_library.specs.Drawn.{KeptCell}
-use Rattle.gds_library.specs.Place.{after}
-use Rattle.gds_library.specs.Shown.{on_last, grown, grown_cell, no_cell, with_drawn, shown_at, done, open_cell}
+use Rattle.gds_library.specs.inside.Place.{after}
+use Rattle.gds_library.specs.inside.Shown.{on_last, grown, grown_cell, no_cell, with_drawn, shown_at, done, open_cell}
 use Rattle.gds_library.specs.declared.place.Place.{Place}
 use Rattle.gds_library.specs.declared.place.Place.TheVariants.{Header, BgnLib, LibName, Units, Structures, StrName, Elements, Fill}
 use Rattle.gds_library.specs.declared.builder.Builder.{Builder}

@@ -3,15 +3,12 @@ use Rattle.std.proofs.Common.{◌≡◌, ◌==◌, ◌||◌, ◌<◌, ℕ, Bool,
 use Rattle.gds_elements.specs.Types.{header, bgnlib, libname, units, endlib, bgnstr, strname, endstr, boundary, path, sref, aref, text, layer, datatype, width, xy, sname, colrow, strans, mag, angle, pathtype}
 use Rattle.gds_elements.specs.Order.{opens}
 use Rattle.gds_elements.specs.Rules.{IsKnown}
-use Rattle.gds_elements.proofs.Orders.{at_type, by_test}
+use Rattle.gds_elements.proofs.OneRule.{is_value}
+use Rattle.lvl_grammar.proofs.Orders.{at_type, by_test}
 use Rattle.gds_library.specs.Types.{fill}
-use Rattle.gds_library.specs.Place.{after}
+use Rattle.gds_library.specs.inside.Place.{after}
 use Rattle.gds_library.specs.declared.place.Place.{Place}
 use Rattle.gds_library.specs.declared.place.Place.TheVariants.{Header, BgnLib, LibName, Units, Structures, StrName, Elements, Fill}
-
--- the values of elements that are tested or kept
-abbrev is_value : ℕ → Bool
-is_value k = ((((((((((k == layer) || (k == datatype)) || (k == width)) || (k == xy)) || (k == sname)) || (k == colrow)) || (k == strans)) || (k == mag)) || (k == angle)) || (k == pathtype))
 
 pub record IsNoValue (k : ℕ) : Type 0 where
   pub layer : k == layer ≡ false
@@ -45,10 +42,11 @@ no_value k e =
 -- a type that opens no element and carries no value of one
 pub record IsOutside (k : ℕ) : Type 0 where
   pub opens : opens k ≡ false
+  pub value : is_value k ≡ false
   pub no_value : IsNoValue k
 
 outside_by : (k : ℕ) → opens k ≡ false → is_value k ≡ false → IsOutside k
-outside_by k o v = record { opens = o; no_value = no_value k v }
+outside_by k o v = record { opens = o; value = v; no_value = no_value k v }
 
 -- what holds of a type where it may stand
 outside_one : (p q : Place) (k j : ℕ) → IsOutside j → (k == j ≡ false → after p k ≡ Some q → IsOutside k) → after p k ≡ Some q → IsOutside k
@@ -82,12 +80,12 @@ known_after Fill q k = known_one Fill q k fill (λ l. absurd (omega arith)) (λ 
 -- an opener carries no value, and is known
 pub record IsOpener (k : ℕ) : Type 0 where
   pub known : IsKnown k
-  pub no_value : IsNoValue k
+  pub value : is_value k ≡ false
   pub strname : k == strname ≡ false
   pub bgnstr : k == bgnstr ≡ false
 
 opener_by : (k : ℕ) → IsKnown k → is_value k ≡ false → k == strname ≡ false → k == bgnstr ≡ false → IsOpener k
-opener_by k i v s b = record { known = i; no_value = no_value k v; strname = s; bgnstr = b }
+opener_by k i v s b = record { known = i; value = v; strname = s; bgnstr = b }
 
 opener_one : (k j : ℕ) → (opens j ≡ true → IsOpener j) → (k == j ≡ false → opens k ≡ true → IsOpener k) → opens k ≡ true → IsOpener k
 opener_one k j = at_type (λ i. opens i ≡ true → IsOpener i) k j

@@ -2,17 +2,18 @@
 use Rattle.std.proofs.Common.{◌≡◌, ◌==◌, ℕ, Bool, true, false, if◌then◌else◌, List, [], ◌∷◌, ◌++◌, map, inl, inr, refl, sym, ap, ◌∙◌, subst, append_assoc}
 use Rattle.std.proofs.lemmas.List.{append-nil}
 use Rattle.std.specs.List.{AllByRecursion}
-use Rattle.gds_elements.specs.Order.{IsWord, Begins, an_element, opens, has}
+use Rattle.lvl_grammar.specs.Order.{IsWord, Begins, has}
+use Rattle.gds_elements.specs.Order.{an_element, opens}
 use Rattle.gds_elements.specs.Types.{bgnstr}
 use Rattle.gds_elements.specs.Rec.{Rec, kinds, is_type, is_opener, field}
 use Rattle.gds_elements.specs.Reading.{IsReading}
 use Rattle.gds_elements.specs.declared.element.Element.{Element}
 use Rattle.gds_elements.proofs.Fields.{field_there}
-use Rattle.gds_elements.proofs.Orders.{type_same, empty_word}
+use Rattle.lvl_grammar.proofs.Orders.{type_same, empty_word}
 use Rattle.gds_elements.proofs.Words.{Stands}
 use Rattle.gds_elements.proofs.Elements.{opens_first, stands_not, behind_opener}
 use Rattle.gds_library.specs.Rec.{until, pieces, last_list, last_piece}
-use Rattle.gds_library.specs.Shown.{on_last}
+use Rattle.gds_library.specs.inside.Shown.{on_last}
 use Rattle.gds_library.proofs.Elements.{begins_open, IsOpen, reading_open}
 
 pub on_last-append : {A : Type 0} (f : A → A) (xs : List A) (x : A) → on_last f (xs ++ x ∷ []) ≡ xs ++ f x ∷ []

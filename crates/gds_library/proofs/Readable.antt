@@ -1,49 +1,66 @@
 -- What a whole reading and a refusal say of every reading.
-use Rattle.std.proofs.Common.{ℕ, List, ap, ◌∙◌}
-use Rattle.lvl_cells.specs.Cells.{kept}
-use Rattle.lvl_path.specs.Figure.{figure_rings}
-use Rattle.gds_records.specs.declared.fault.RecordFault.TheVariants.{Truncated, BadLength, BadDataType, UnknownRecord, TooLong, Read, Failed}
-use Rattle.gds_library.specs.Drawn.{KeptCell}
-use Rattle.gds_library.specs.Front.{IsRead, IsOnly, SpellsNone}
-use Rattle.gds_library.specs.Ends.{Tells, IsExcused}
+use Rattle.std.proofs.Common.{◌≡◌, ℕ, List, sym, ap, ◌∙◌, subst, Result, Ok, Err, IfErr}
+use Rattle.std.specs.Prelude.{Option}
+use Rattle.lvl_refusal.specs.Refused.{Says}
+use Rattle.lvl_refusal.specs.declared.Refusal.{Refusal}
+use Rattle.lvl_refusal.specs.declared.Refusal.TheVariants.{Breach, OutOfMemory}
+use Rattle.lvl_grammar.specs.Front.{SpellsNothing}
+use Rattle.lvl_grammar.specs.Refused.{IsHopeless}
+use Rattle.lvl_grammar.proofs.Laws.{one_whole}
+use Rattle.lvl_grammar.proofs.Stuck.{seen_stuck, seen_hopeless, stuck_none, truncated_none}
+use Rattle.gds_records.specs.declared.fault.RecordFault.TheVariants.{Truncated, Read}
+use Rattle.gds_library.specs.Drawn.{Drawing}
+use Rattle.gds_library.specs.Front.{gds, SpellsLibrary, SpellsNone}
+use Rattle.gds_library.specs.Ends.{Tells, TellsAt, IsExcused, IsExcusedKind, IsEarly, IsEarlyKind}
+use Rattle.gds_library.specs.inside.Refuses.{Refuses, RefusesAt}
+use Rattle.gds_library.specs.Values.{drawings, head}
 use Rattle.gds_library.specs.declared.head.GdsHead.{GdsHead}
-use Rattle.gds_elements.specs.declared.fault.GdsKind.TheVariants.{Record, Unexpected, Unsupported, Layer, Points, NotClosed, Strans, Magnification, Angle, ColRow, ArrayStep, Name, Path, Width, PathType, AfterEnd, Oblique, Repetition, TooManyCells}
 use Rattle.gds_library.specs.declared.fault.GdsFault.{GdsFault}
-use Rattle.gds_library.specs.declared.fault.GdsFault.TheVariants.{At, OutOfMemory}
-use Rattle.gds_library.proofs.Readings.{law_only}
-use Rattle.gds_library.proofs.Stuck.{stuck_none, truncated_none}
+use Rattle.gds_library.specs.declared.fault.GdsKind.{GdsKind}
+use Rattle.gds_library.specs.declared.fault.GdsKind.TheVariants.{Record}
+use Rattle.gds_library.proofs.Instance.{is_grammar}
 
--- what was read is all that the bytes spell
-pub read_alone : (xs : List ℕ) (found : List KeptCell) (h : GdsHead) → IsRead xs found h → IsOnly xs found h
-read_alone xs found h r cells g p =
-    let q = law_only xs r.cells cells h g r.spelled p in
-    (r.kept_as ∙ ap (kept figure_rings) q.0, q.1)
+-- bytes spell one library at most
+pub law_only : (xs : List ℕ) (cells ds : List Drawing) (h g : GdsHead) → SpellsLibrary xs cells h → SpellsLibrary xs ds g → (ds ≡ cells) × (g ≡ h)
+law_only xs cells ds h g p q =
+    let e = one_whole gds is_grammar xs q.records p.records q.whole p.whole in
+    (q.cells_are ∙ ap drawings e ∙ sym p.cells_are, q.head_is ∙ ap head e ∙ sym p.head_is)
 
--- where a fault is told, no library is spelled
-pub tells_none : (xs : List ℕ) (f : GdsFault) → Tells xs f → (IsExcused f → ⊥) → SpellsNone xs
-tells_none xs (At at (Record Truncated)) t n = truncated_none xs at t
-tells_none xs (At at (Record BadLength)) t n = stuck_none xs at t.0
-tells_none xs (At at (Record BadDataType)) t n = stuck_none xs at t.0
-tells_none xs (At at (Record UnknownRecord)) t n = stuck_none xs at t.0
-tells_none xs (At at (Record TooLong)) t n = stuck_none xs at t.0
-tells_none xs (At at (Record Read)) t n = absurd (n tt)
-tells_none xs (At at (Record Failed)) t n = absurd t
-tells_none xs (At at (Unexpected j)) t n = stuck_none xs at t.0
-tells_none xs (At at (Unsupported j)) t n = stuck_none xs at t.0
-tells_none xs (At at Layer) t n = stuck_none xs at t.0
-tells_none xs (At at Points) t n = stuck_none xs at t.0
-tells_none xs (At at NotClosed) t n = stuck_none xs at t.0
-tells_none xs (At at Strans) t n = stuck_none xs at t.0
-tells_none xs (At at Magnification) t n = stuck_none xs at t.0
-tells_none xs (At at Angle) t n = stuck_none xs at t.0
-tells_none xs (At at ColRow) t n = stuck_none xs at t.0
-tells_none xs (At at ArrayStep) t n = stuck_none xs at t.0
-tells_none xs (At at Name) t n = stuck_none xs at t.0
-tells_none xs (At at (Path f)) t n = stuck_none xs at t.0
-tells_none xs (At at Width) t n = stuck_none xs at t.0
-tells_none xs (At at PathType) t n = stuck_none xs at t.0
-tells_none xs (At at AfterEnd) t n = stuck_none xs at t.0
-tells_none xs (At at Oblique) t n = stuck_none xs at t.0
-tells_none xs (At at Repetition) t n = stuck_none xs at t.0
-tells_none xs (At at TooManyCells) t n = stuck_none xs at t.0
-tells_none xs OutOfMemory t n = absurd (n tt)
+-- where there is no whole file no library is spelled
+none_spelled : (xs : List ℕ) → SpellsNothing gds xs → SpellsNone xs
+none_spelled xs n cells h p = n p.records p.whole
+
+-- what a refusal says
+tells_at : (xs : List ℕ) (left : Option (List ℕ)) (at : ℕ) (k : GdsKind) → RefusesAt xs left at k → TellsAt xs at k
+tells_at xs left at (Record Truncated) x = x
+tells_at xs left at (Record Read) x = x
+tells_at xs left at other x = seen_stuck gds is_grammar xs at left other x
+
+none_at : (xs : List ℕ) (left : Option (List ℕ)) (at : ℕ) (k : GdsKind) → RefusesAt xs left at k → (IsExcusedKind k → ⊥) → SpellsNone xs
+none_at xs left at (Record Truncated) x n = none_spelled xs (truncated_none gds is_grammar xs at x)
+none_at xs left at (Record Read) x n = absurd (n tt)
+none_at xs left at other x n = none_spelled xs (stuck_none gds xs at (seen_stuck gds is_grammar xs at left other x).0)
+
+early_at : (xs : List ℕ) (left : Option (List ℕ)) (at : ℕ) (k : GdsKind) → RefusesAt xs left at k → IsEarlyKind k → IsHopeless gds xs left
+early_at xs left at (Record Truncated) x i = absurd i
+early_at xs left at (Record Read) x i = absurd i
+early_at xs left at other x i = seen_hopeless gds is_grammar xs at left other x
+
+-- of an answer
+refused : {A : Type 0} (xs : List ℕ) (left : Option (List ℕ)) (P : GdsFault → Type 0) → ((f : GdsFault) → Refuses xs left f → P f) → (r : Result A (Refusal GdsFault)) → IfErr r (λ e. Says e (Refuses xs left)) → IfErr r (λ e. Says e P)
+refused xs left P h (Ok x) s = tt
+refused xs left P h (Err (Breach f)) s = h f s
+refused xs left P h (Err OutOfMemory) s = tt
+
+pub refused_tells : {A : Type 0} (xs : List ℕ) (left : Option (List ℕ)) (r : Result A (Refusal GdsFault)) → IfErr r (λ e. Says e (Refuses xs left)) → IfErr r (λ e. Says e (Tells xs))
+refused_tells xs left = refused xs left (Tells xs) (λ f x. tells_at xs left f.offset f.kind x)
+
+pub refused_none : {A : Type 0} (xs : List ℕ) (left : Option (List ℕ)) (r : Result A (Refusal GdsFault)) → IfErr r (λ e. Says e (Refuses xs left)) → IfErr r (λ e. Says e (λ f. (IsExcused f → ⊥) → SpellsNone xs))
+refused_none xs left = refused xs left (λ f. (IsExcused f → ⊥) → SpellsNone xs) (λ f x. none_at xs left f.offset f.kind x)
+
+pub refused_early : {A : Type 0} (xs : List ℕ) (left : Option (List ℕ)) (r : Result A (Refusal GdsFault)) → IfErr r (λ e. Says e (Refuses xs left)) → IfErr r (λ e. Says e (λ f. IsEarly f → IsHopeless gds xs left))
+refused_early xs left = refused xs left (λ f. IsEarly f → IsHopeless gds xs left) (λ f x. early_at xs left f.offset f.kind x)
+
+-- of the bytes that are left in the end
+pub early_left : {A : Type 0} (xs : List ℕ) (left left' : Option (List ℕ)) (r : Result A (Refusal GdsFault)) → IfErr r (λ e. Says e (Refuses xs left)) → left ≡ left' → IfErr r (λ e. Says e (λ f. IsEarly f → IsHopeless gds xs left'))
+early_left xs left left' r h e = subst (λ l. IfErr r (λ e. Says e (λ f. IsEarly f → IsHopeless gds xs l))) e (refused_early xs left r h)

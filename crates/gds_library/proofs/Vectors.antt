@@ -4,9 +4,11 @@ use Rattle.std.specs.Prelude.{pos, negsuc}
 use Rattle.std.specs.List.{flat_map}
 use Rattle.lvl_grid.specs.declared.map.Turn.TheVariants.{R90}
 use Rattle.lvl_path.specs.Figure.{rings, path}
-use Rattle.gds_elements.specs.Order.{Order, IsWord, an_element}
+use Rattle.lvl_grammar.specs.Order.{Order, IsWord}
+use Rattle.gds_elements.specs.Order.{an_element}
 use Rattle.gds_elements.specs.Rec.{Rec, kinds}
-use Rattle.gds_elements.proofs.Orders.{after_first, can_be_empty, IsWordOfOne, first_put, empty_back, of_one-append}
+use Rattle.lvl_grammar.specs.inside.After.{after_first, can_be_empty, IsWordOfOne}
+use Rattle.lvl_grammar.proofs.Orders.{first_put, empty_back, of_one-append}
 use Rattle.gds_library.specs.Order.{a_library}
 use Rattle.gds_library.specs.Values.{drawings, head}
 

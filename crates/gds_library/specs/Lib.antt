@@ -1,12 +1,9 @@
 pub mod Types
 pub mod Order
-pub mod Place
 pub mod Rec
 pub mod Drawn
 pub mod Values
+pub mod Rules
 pub mod Front
-pub mod Faults
-pub mod Shown
-pub mod Holds
 pub mod Ends
-pub mod ReadTo
+pub mod inside

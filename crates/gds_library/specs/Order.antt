@@ -1,6 +1,7 @@
 -- The order of records in a library.
 use Rattle.gds_elements.specs.Types.{header, bgnlib, libname, units, endlib, bgnstr, strname, endstr}
-use Rattle.gds_elements.specs.Order.{Order, ◌then◌, one, many, an_element}
+use Rattle.lvl_grammar.specs.Order.{Order, ◌then◌, one, many}
+use Rattle.gds_elements.specs.Order.{an_element}
 use Rattle.gds_library.specs.Types.{fill}
 
 abbrev pub a_structure : Order

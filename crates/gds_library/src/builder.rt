@@ -2,17 +2,19 @@
 ghost use Rattle.std.specs.Prelude.{◌≡◌, ◌==◌, if◌then◌else◌, ◌<◌, [], pos, Some, None, IsTrue, ◌↔◌, OnOk, IfOk, IfErr, length};
 ghost use Rattle.gds_elements.specs.Types.{header, units};
 ghost use Rattle.gds_elements.specs.Values.{short};
-ghost use Rattle.gds_elements.specs.Misplaced.{Says};
+ghost use Rattle.lvl_refusal.specs.Refused.{Says};
 ghost use Rattle.gds_elements.specs.Reading.{shapes_in, references_in};
 ghost use Rattle.gds_library.specs.Values.{two_reals};
-ghost use Rattle.gds_library.specs.Place.{after};
-ghost use Rattle.gds_library.specs.Faults.{IsFormed, IsFault, IsAllowed};
+ghost use Rattle.gds_library.specs.inside.Place.{after};
+ghost use Rattle.gds_library.specs.inside.Faults.{IsFormed, IsFault, IsAllowed};
 
+use crate::fault::GdsKind;
 use crate::head::{GdsHead, two_reals};
 use crate::place::Place;
-use gds_elements::{Drawn, GdsKind, Refusal, cell_name, misplaced};
+use gds_elements::{Drawn, is_name, misplaced, name};
 use gds_records::record_type;
 use lvl_cells::{Cell, Library, Reference, Shape};
+use lvl_refusal::Refusal;
 use std::alloc::Global;
 use std::mem;
 
@@ -32,7 +34,7 @@ pub(crate) struct Builder {
 }
 
 impl Builder {
-    ghost use Rattle.gds_library.specs.Shown.{shown, grown, with_drawn, on_last, done};
+    ghost use Rattle.gds_library.specs.inside.Shown.{shown, grown, with_drawn, on_last, done};
 
     pub(crate) fn new(alloc: Global) -> Builder
         ensures place { result.place ≡ Place.Header }
@@ -82,7 +84,12 @@ impl Builder {
     }
 
     /// Takes the next record, if it opens no element and breaches no rule.
-    pub(crate) fn take(&mut self, alloc: Global, kind: u8, payload: &[u8]) -> Result<(), Refusal>
+    pub(crate) fn take(
+        &mut self,
+        alloc: Global,
+        kind: u8,
+        payload: &[u8],
+    ) -> Result<(), Refusal<GdsKind>>
         requires { IsFormed kind payload.now }
         ensures refused { IfErr result (λ e. Says e (IsFault self.old.place (length self.old.cells.items) kind payload.now)) }
         ensures place { OnOk result (after self.old.place kind ≡ Some self.new.place) }
@@ -92,7 +99,7 @@ impl Builder {
         ensures shown { OnOk result (shown self.new ≡ grown kind payload.now (shown self.old)) }
     {
         let Some(next) = self.place.after(kind) else {
-            return Err(misplaced(kind));
+            return Err(Refusal::Breach(GdsKind::Misplaced(misplaced(kind))));
         };
         match kind {
             record_type::HEADER => self.version = i16::from_be_bytes([payload[0], payload[1]]),
@@ -103,7 +110,11 @@ impl Builder {
                 }
             }
             record_type::STRNAME => {
-                self.name = cell_name(alloc, payload)?;
+                let name = name(payload);
+                if !is_name(name) {
+                    return Err(Refusal::Breach(GdsKind::Name));
+                }
+                self.name = Vec::from_slice(alloc, name)?;
                 self.shapes = Vec::new(alloc);
                 self.references = Vec::new(alloc);
             }
@@ -122,7 +133,7 @@ impl Builder {
     }
 
     /// Adds what an element draws to the open cell.
-    pub(crate) fn add(&mut self, drawn: Drawn) -> Result<(), Refusal>
+    pub(crate) fn add(&mut self, drawn: Drawn) -> Result<(), Refusal<GdsKind>>
         ensures refused { IfErr result (λ e. e ≡ Refusal.OutOfMemory) }
         ensures place { OnOk result (self.new.place ≡ self.old.place) }
         ensures version { OnOk result (self.new.version ≡ self.old.version) }

@@ -1,12 +1,13 @@
 //! Elements in streams: what is read of each, and the offset of the record that is refused.
 
 use crate::stream::{SQUARE, Stream};
-use crate::{GdsFault, GdsKind, read_gds};
+use crate::{ElementRule, GdsFault, GdsKind, Misplaced, read_gds};
 use gds_records::record_type;
 use lvl_cells::{CellFault, Library, Reference, check};
 use lvl_grid::{Point, Ring, Turn};
 use lvl_io::fake::Pieces;
 use lvl_path::PathFault;
+use lvl_refusal::Refusal;
 use std::alloc::{AllocError, Global};
 use std::test::Fail;
 
@@ -15,14 +16,14 @@ const CORNER: [(i32, i32); 3] = [(0, 0), (10, 0), (10, 10)];
 const ANGLE_90: [u8; 8] = [0x42, 0x5A, 0, 0, 0, 0, 0, 0];
 
 /// The cells of a stream, which is cut into pieces of seven bytes.
-fn read(alloc: Global, stream: &Stream) -> Result<Library, GdsFault> {
+fn read(alloc: Global, stream: &Stream) -> Result<Library, Refusal<GdsFault>> {
     let mut reader = Pieces::new(&stream.bytes, 7);
     let (library, _) = read_gds(alloc, &mut reader)?;
     Ok(library)
 }
 
-fn at(offset: u64, kind: GdsKind) -> Option<GdsFault> {
-    Some(GdsFault::At { offset, kind })
+fn at(offset: u64, kind: GdsKind) -> Option<Refusal<GdsFault>> {
+    Some(Refusal::Breach(GdsFault { offset, kind }))
 }
 
 /// A library whose structure TOP is open: its first element begins at 96.
@@ -116,25 +117,25 @@ fn array_tiles(rt: HostRuntime) -> Result<(), Fail> {
 /// Rows array-tiles and array-limits: which arrays are refused, and where.
 #[test]
 fn array_limits(rt: HostRuntime) -> Result<(), Fail> {
-    let rows: [(i16, i16, [(i32, i32); 3], Option<GdsFault>); 5] = [
+    let rows: [(i16, i16, [(i32, i32); 3], Option<Refusal<GdsFault>>); 5] = [
         (
             3,
             2,
             [(0, 0), (31, 0), (0, 20)],
-            at(XY_AT, GdsKind::ArrayStep),
+            at(XY_AT, GdsKind::Element(ElementRule::ArrayStep)),
         ),
         (1024, 1024, [(0, 0), (1024, 0), (0, 1024)], None),
         (
             1025,
             1024,
             [(0, 0), (1025, 0), (0, 1024)],
-            at(COLROW_AT, GdsKind::Repetition),
+            at(COLROW_AT, GdsKind::Element(ElementRule::Repetition)),
         ),
         (
             2,
             1,
             [(0, 0), (-7, 0), (0, 2)],
-            at(XY_AT, GdsKind::ArrayStep),
+            at(XY_AT, GdsKind::Element(ElementRule::ArrayStep)),
         ),
         (2, 1, [(0, 0), (-8, 0), (0, 2)], None),
     ];
@@ -171,10 +172,16 @@ fn flip_then_turn(rt: HostRuntime) -> Result<(), Fail> {
 #[test]
 fn short_run(rt: HostRuntime) -> Result<(), Fail> {
     let short: [(i32, i32); 3] = [(0, 0), (10, 0), (10, 1)];
-    let rows: [(i32, Option<GdsFault>); 4] = [
-        (4, at(120, GdsKind::Path(PathFault::ShortRun))),
-        (3, at(112, GdsKind::Width)),
-        (0, at(112, GdsKind::Width)),
+    let rows: [(i32, Option<Refusal<GdsFault>>); 4] = [
+        (
+            4,
+            at(
+                120,
+                GdsKind::Element(ElementRule::Path(PathFault::ShortRun)),
+            ),
+        ),
+        (3, at(112, GdsKind::Element(ElementRule::Width))),
+        (0, at(112, GdsKind::Element(ElementRule::Width))),
         (2, None),
     ];
     for (width, fault) in rows {
@@ -182,7 +189,10 @@ fn short_run(rt: HostRuntime) -> Result<(), Fail> {
         assert_eq!(rt; read(rt.alloc(), &stream).err(), fault, "width {width}");
     }
     let stream = with_path(rt.alloc(), Some(1), 4, &short)?;
-    assert_eq!(rt; read(rt.alloc(), &stream).err(), at(112, GdsKind::PathType));
+    assert_eq!(rt;
+        read(rt.alloc(), &stream).err(),
+        at(112, GdsKind::Element(ElementRule::PathType))
+    );
     Ok(())
 }
 
@@ -252,33 +262,48 @@ fn cycle(rt: HostRuntime) -> Result<(), Fail> {
 #[test]
 fn names_each_fault_where_it_stands(rt: HostRuntime) -> Result<(), Fail> {
     let rows: [(u8, u8, &[u8], GdsKind); 7] = [
-        (record_type::STRANS, 1, &[0, 4], GdsKind::Strans),
+        (
+            record_type::STRANS,
+            1,
+            &[0, 4],
+            GdsKind::Element(ElementRule::Strans),
+        ),
         (
             record_type::ENDSTR,
             0,
             b"",
-            GdsKind::Unexpected(record_type::ENDSTR),
+            GdsKind::Misplaced(Misplaced::Unexpected(record_type::ENDSTR)),
         ),
         (
             record_type::SREF,
             0,
             b"",
-            GdsKind::Unexpected(record_type::SREF),
+            GdsKind::Misplaced(Misplaced::Unexpected(record_type::SREF)),
         ),
         (
             record_type::BGNSTR,
             2,
             &[0; 24],
-            GdsKind::Unexpected(record_type::BGNSTR),
+            GdsKind::Misplaced(Misplaced::Unexpected(record_type::BGNSTR)),
         ),
         (
             record_type::ENDLIB,
             0,
             b"",
-            GdsKind::Unexpected(record_type::ENDLIB),
+            GdsKind::Misplaced(Misplaced::Unexpected(record_type::ENDLIB)),
         ),
-        (0x15, 0, b"", GdsKind::Unsupported(0x15)),
-        (record_type::XY, 3, &[0; 16], GdsKind::Points),
+        (
+            0x15,
+            0,
+            b"",
+            GdsKind::Misplaced(Misplaced::Unsupported(0x15)),
+        ),
+        (
+            record_type::XY,
+            3,
+            &[0; 16],
+            GdsKind::Element(ElementRule::Points),
+        ),
     ];
     for (kind, data_type, payload, fault) in rows {
         let mut stream = top(rt.alloc())?;

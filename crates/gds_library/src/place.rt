@@ -1,6 +1,6 @@
 //! Where a reader stands in the order of records, outside of elements.
 ghost use Rattle.std.specs.Prelude.{◌≡◌, ◌==◌, if◌then◌else◌};
-ghost use Rattle.gds_library.specs.Place.{after};
+ghost use Rattle.gds_library.specs.inside.Place.{after};
 
 use gds_records::record_type;
 

@@ -1,20 +1,23 @@
 //! A library read from records.
-ghost use Rattle.std.specs.Prelude.{◌≡◌, ◌≢◌, ◌≤◌, List, ℕ, OnOk, Some, Err, IfErr, IfOk, false, length};
+ghost use Rattle.std.specs.Prelude.{◌≡◌, ◌≢◌, List, ℕ, OnOk, Some, Err, IfErr, IfOk, false};
 ghost use Rattle.lvl_io.specs.Bytes.{CountsFailure};
+ghost use Rattle.lvl_refusal.specs.Refused.{Says};
+ghost use Rattle.lvl_grammar.specs.Refused.{IsHopeless};
+ghost use Rattle.lvl_grammar.specs.inside.ReadTo.{ReadTo};
 ghost use Rattle.gds_records.specs.Records.{has_failed, bytes_left, records_offset, records_reader};
-ghost use Rattle.gds_library.specs.Ends.{Tells, IsExcused, is_read};
-ghost use Rattle.gds_library.specs.Front.{IsRead, IsOnly, SpellsNone};
-ghost use Rattle.gds_library.specs.Holds.{HasRead};
-ghost use Rattle.gds_library.specs.ReadTo.{ReadTo};
+ghost use Rattle.gds_library.specs.Front.{gds, IsRead, SpellsNone};
+ghost use Rattle.gds_library.specs.Ends.{Tells, IsExcused, IsEarly, is_read};
+ghost use Rattle.gds_library.specs.inside.Holds.{HasRead};
+ghost use Rattle.gds_library.specs.inside.Refuses.{Refuses};
 ghost use Rattle.gds_library.specs.declared.place.Place.TheVariants.{Fill};
 
-use crate::fault::GdsFault;
+use crate::fault::{GdsFault, GdsKind};
 use crate::head::GdsHead;
 use crate::reading::Reading;
-use gds_elements::{GdsKind, Refusal};
-use gds_records::{RecordFault, Records};
+use gds_records::{RecordFault, Records, Stopped};
 use lvl_cells::Library;
 use lvl_io::Read;
+use lvl_refusal::Refusal;
 use std::alloc::Global;
 
 /// The library that a GDSII stream spells, and what the stream says of itself.
@@ -25,43 +28,47 @@ use std::alloc::Global;
 /// ([`gds_elements::Element`]), in their order, and a name loses one zero byte where it ends with one.
 /// The first record that is missing, malformed or breaches a rule is answered with its offset in
 /// bytes.
-pub fn read_gds<R: Read>(alloc: Global, reader: &mut R) -> Result<(Library, GdsHead), GdsFault>
+pub fn read_gds<R: Read>(
+    alloc: Global,
+    reader: &mut R,
+) -> Result<(Library, GdsHead), Refusal<GdsFault>>
     // What is read is spelled, and nothing else is.
     ensures spelled { (xs : List ℕ) → R.remaining reader.old ≡ Some xs
         → IfOk result (λ read. IsRead xs read.0 read.1) }
-    ensures alone { (xs : List ℕ) → R.remaining reader.old ≡ Some xs
-        → IfOk result (λ read. IsOnly xs read.0 read.1) }
 
-    // A refusal names what is wrong, and nothing is spelled, unless memory or the reader failed.
+    // A refusal names what is wrong, and nothing is spelled, unless an allocation or the reader failed.
     ensures refused { (xs : List ℕ) → R.remaining reader.old ≡ Some xs
-        → IfErr result (λ fault. Tells xs fault) }
+        → IfErr result (λ refusal. Says refusal (Tells xs)) }
     ensures none { (xs : List ℕ) → R.remaining reader.old ≡ Some xs
-        → IfErr result (λ fault. (¬ IsExcused fault) → SpellsNone xs) }
+        → IfErr result (λ refusal. Says refusal (λ fault. (¬ IsExcused fault) → SpellsNone xs)) }
 
-    // The reader failed once where `Read` is told, and else never.
-    ensures reads { result ≢ Err GdsFault.OutOfMemory
+    // Unless the input ended too early, nothing is spelled whatever comes after the bytes taken.
+    ensures early { (xs : List ℕ) → R.remaining reader.old ≡ Some xs
+        → IfErr result (λ refusal. Says refusal (λ fault. IsEarly fault
+        → IsHopeless gds xs (R.remaining reader.new))) }
+
+    // The reader failed once where `Read` is reported, and else never.
+    ensures reads { result ≢ Err Refusal.OutOfMemory
         → CountsFailure (R.read_errors reader.old) (R.read_errors reader.new) (is_read result) }
-    ensures same { result ≢ Err GdsFault.OutOfMemory → R.lent reader.new ≡ R.lent reader.old }
+    ensures same { result ≢ Err Refusal.OutOfMemory → R.lent reader.new ≡ R.lent reader.old }
 {
-    let Ok(mut records) = Records::new(alloc, reader) else {
-        return Err(GdsFault::OutOfMemory);
-    };
+    let mut records = Records::new(alloc, reader)?;
     let read = read_library(alloc, &mut records);
     let _reader = records.into_reader();
     read
 }
 
-// Reads the records of a library, and the zero bytes behind it.
+// Reads the records of a library, and the zero bytes after it.
 fn read_library<R: Read>(
     alloc: Global,
     records: &mut Records<R>,
-) -> Result<(Library, GdsHead), GdsFault>
+) -> Result<(Library, GdsHead), Refusal<GdsFault>>
     requires fresh { has_failed records.old ≡ false }
     requires start { records_offset records.old ≡ 0 }
     ensures spelled { (xs : List ℕ) → bytes_left R.remaining records.old ≡ Some xs
         → IfOk result (λ read. IsRead xs read.0 read.1) }
     ensures refused { (xs : List ℕ) → bytes_left R.remaining records.old ≡ Some xs
-        → IfErr result (λ fault. Tells xs fault) }
+        → IfErr result (λ refusal. Says refusal (Refuses xs (R.remaining (records_reader records.new)))) }
     ensures reads { CountsFailure (R.read_errors (records_reader records.old))
         (R.read_errors (records_reader records.new)) (is_read result) }
     ensures same { R.lent (records_reader records.new) ≡ R.lent (records_reader records.old) }
@@ -69,26 +76,27 @@ fn read_library<R: Read>(
     let reading = read_all(alloc, records)?;
     match records.tail() {
         Ok(None) => Ok(reading.finish()),
-        Ok(Some(offset)) => Err(GdsFault::At {
-            offset,
-            kind: GdsKind::AfterEnd,
-        }),
-        Err(fault) => Err(GdsFault::At {
-            offset: records.offset(),
-            kind: GdsKind::Record(fault),
-        }),
+        Ok(Some(offset)) => Err(refuse(offset, GdsKind::AfterEnd)),
+        Err(Stopped::Fault(fault)) => Err(refuse(records.offset(), GdsKind::Record(fault))),
+        Err(Stopped::Failed) => unreachable!(),
     }
 }
 
+fn refuse(offset: u64, kind: GdsKind) -> Refusal<GdsFault>
+    ensures { result ≡ Refusal.Breach (record { offset = offset; kind = kind }) }
+{
+    Refusal::Breach(GdsFault { offset, kind })
+}
+
 // Reads records up to the one that ends the library.
-fn read_all<R: Read>(alloc: Global, records: &mut Records<R>) -> Result<Reading, GdsFault>
+fn read_all<R: Read>(alloc: Global, records: &mut Records<R>) -> Result<Reading, Refusal<GdsFault>>
     requires fresh { has_failed records.old ≡ false }
     requires start { records_offset records.old ≡ 0 }
-    ensures stuck { (xs : List ℕ) → bytes_left R.remaining records.old ≡ Some xs
-        → IfErr result (λ e. Tells xs e) }
+    ensures refused { (xs : List ℕ) → bytes_left R.remaining records.old ≡ Some xs
+        → IfErr result (λ refusal. Says refusal (Refuses xs (R.remaining (records_reader records.new)))) }
     ensures whole { IfOk result (λ x. (x.builder.place ≡ Fill)
         × ((xs : List ℕ) → bytes_left R.remaining records.old ≡ Some xs
-        → ReadTo xs (records_offset records.new) (HasRead x) (bytes_left R.remaining records.new))) }
+        → ReadTo gds xs (records_offset records.new) (HasRead x) (bytes_left R.remaining records.new))) }
     ensures fresh { OnOk result (has_failed records.new ≡ false) }
     ensures reads { CountsFailure (R.read_errors (records_reader records.old))
         (R.read_errors (records_reader records.new)) (is_read result) }
@@ -98,25 +106,14 @@ fn read_all<R: Read>(alloc: Global, records: &mut Records<R>) -> Result<Reading,
     for _ in 0..u64::MAX {
         let offset = records.offset();
         match records.next() {
-            Ok(Some(record)) => {
-                match reading.take(alloc, record.kind, record.payload) {
-                    Ok(next) => reading = next,
-                    Err(Refusal::Breach(kind)) => return Err(GdsFault::At { offset, kind }),
-                    Err(Refusal::OutOfMemory) => return Err(GdsFault::OutOfMemory),
-                }
-            }
-            Ok(None) => {
-                return Err(GdsFault::At {
-                    offset,
-                    kind: GdsKind::Record(RecordFault::Truncated),
-                });
-            }
-            Err(fault) => {
-                return Err(GdsFault::At {
-                    offset,
-                    kind: GdsKind::Record(fault),
-                });
-            }
+            Ok(Some(record)) => match reading.take(alloc, record.kind, record.payload) {
+                Ok(next) => reading = next,
+                Err(Refusal::Breach(kind)) => return Err(refuse(offset, kind)),
+                Err(Refusal::OutOfMemory) => return Err(Refusal::OutOfMemory),
+            },
+            Ok(None) => return Err(refuse(offset, GdsKind::Record(RecordFault::Truncated))),
+            Err(Stopped::Fault(fault)) => return Err(refuse(offset, GdsKind::Record(fault))),
+            Err(Stopped::Failed) => unreachable!(),
         }
         if reading.is_whole() {
             return Ok(reading);

@@ -3,13 +3,15 @@ ghost use Rattle.std.specs.Prelude.{◌≡◌, List, ℕ, [], IsTrue, ◌↔◌}
 ghost use Rattle.gds_elements.specs.Rec.{Rec};
 ghost use Rattle.gds_elements.specs.Reading.{record_of};
 ghost use Rattle.gds_elements.specs.Formed.{IsFormed as IsFormedInElement};
-ghost use Rattle.gds_library.specs.Faults.{IsFormed};
-ghost use Rattle.gds_library.specs.Holds.{Holds, IsInside, HasRead, Takes};
+ghost use Rattle.gds_library.specs.inside.Faults.{IsFormed, lifted_refusal};
+ghost use Rattle.gds_library.specs.inside.Holds.{Holds, IsInside, HasRead, Takes};
 
 use crate::builder::Builder;
+use crate::fault::GdsKind;
 use crate::head::GdsHead;
-use gds_elements::{Element, Refusal, Step};
+use gds_elements::{Element, ElementFault, Step};
 use lvl_cells::Library;
+use lvl_refusal::Refusal;
 use std::alloc::Global;
 
 /// What was read so far: a library, and the element that is open in its last cell.
@@ -20,7 +22,7 @@ pub(crate) struct Reading {
 }
 
 impl Reading {
-    ghost use Rattle.gds_library.specs.Shown.{done};
+    ghost use Rattle.gds_library.specs.inside.Shown.{done};
     ghost use Rattle.gds_library.specs.declared.place.Place.TheVariants.{Header, Fill};
 
     pub(crate) fn new(alloc: Global) -> Reading
@@ -49,7 +51,12 @@ impl Reading {
     }
 
     /// Takes the next record, if it breaches no rule.
-    pub(crate) fn take(self, alloc: Global, kind: u8, payload: &[u8]) -> Result<Reading, Refusal>
+    pub(crate) fn take(
+        self,
+        alloc: Global,
+        kind: u8,
+        payload: &[u8],
+    ) -> Result<Reading, Refusal<GdsKind>>
         requires formed { IsFormed kind payload.now }
         requires in_element { IsFormedInElement kind payload.now }
         ensures { (rs : List Rec) (d : ℕ) → HasRead self rs → Takes rs (record_of kind d payload.now) result }
@@ -69,23 +76,37 @@ fn take_inside(
     alloc: Global,
     kind: u8,
     payload: &[u8],
-) -> Result<Reading, Refusal>
+) -> Result<Reading, Refusal<GdsKind>>
     requires in_element { IsFormedInElement kind payload.now }
     ensures { (rs : List Rec) (d : ℕ) → IsInside builder element rs → Takes rs (record_of kind d payload.now) result }
 {
     let mut builder = builder;
-    match element.take(alloc, kind, payload)? {
-        Step::Open(element) => Ok(Reading {
+    match element.take(alloc, kind, payload) {
+        Ok(Step::Open(element)) => Ok(Reading {
             builder,
             element: Some(element),
         }),
-        Step::Whole(drawn) => {
+        Ok(Step::Whole(drawn)) => {
             builder.add(drawn)?;
             Ok(Reading {
                 builder,
                 element: None,
             })
         }
+        Err(refusal) => Err(lifted(refusal)),
+    }
+}
+
+// A refusal of an element's record, as one of the library's.
+fn lifted(refusal: Refusal<ElementFault>) -> Refusal<GdsKind>
+    ensures { result ≡ lifted_refusal refusal }
+{
+    match refusal {
+        Refusal::Breach(ElementFault::Misplaced(misplaced)) => {
+            Refusal::Breach(GdsKind::Misplaced(misplaced))
+        }
+        Refusal::Breach(ElementFault::Rule(rule)) => Refusal::Breach(GdsKind::Element(rule)),
+        Refusal::OutOfMemory => Refusal::OutOfMemory,
     }
 }
 
@@ -95,7 +116,7 @@ fn take_outside(
     alloc: Global,
     kind: u8,
     payload: &[u8],
-) -> Result<Reading, Refusal>
+) -> Result<Reading, Refusal<GdsKind>>
     requires formed { IsFormed kind payload.now }
     ensures { (rs : List Rec) (d : ℕ) → Holds builder rs → Takes rs (record_of kind d payload.now) result }
 {

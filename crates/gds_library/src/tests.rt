@@ -3,11 +3,11 @@
 ghost use Rattle.std.specs.Prelude.{Some, None};
 
 use crate::stream::{ONE, SQUARE, Stream};
-use crate::{GdsFault, GdsHead, GdsKind, read_gds};
-use gds_records::RecordFault;
+use crate::{ElementRule, GdsFault, GdsHead, GdsKind, Misplaced, RecordFault, read_gds};
 use lvl_cells::{Layer, Library};
 use lvl_grid::Point;
 use lvl_io::fake::Pieces;
+use lvl_refusal::Refusal;
 use std::alloc::{AllocError, Global};
 use std::test::Fail;
 
@@ -41,13 +41,13 @@ fn begun(k: usize) -> u64 {
 }
 
 /// What is read of these bytes, at most `most` at a read.
-fn read(alloc: Global, bytes: &[u8], most: usize) -> Result<(Library, GdsHead), GdsFault> {
+fn read(alloc: Global, bytes: &[u8], most: usize) -> Result<(Library, GdsHead), Refusal<GdsFault>> {
     let mut reader = Pieces::new(bytes, most);
     read_gds(alloc, &mut reader)
 }
 
-fn at(offset: u64, kind: GdsKind) -> Option<GdsFault> {
-    Some(GdsFault::At { offset, kind })
+fn at(offset: u64, kind: GdsKind) -> Option<Refusal<GdsFault>> {
+    Some(Refusal::Breach(GdsFault { offset, kind }))
 }
 
 #[test]
@@ -131,19 +131,39 @@ fn names_the_first_fault(rt: HostRuntime) -> Result<(), Fail> {
         (1, 0x05, 0, GdsKind::Record(RecordFault::BadLength)),
         (2, 0x3C, 0, GdsKind::Record(RecordFault::UnknownRecord)),
         (3, 0x03, 0, GdsKind::Record(RecordFault::BadDataType)),
-        (2, 0x3B, 0, GdsKind::Unsupported(0x3B)),
+        (2, 0x3B, 0, GdsKind::Misplaced(Misplaced::Unsupported(0x3B))),
         (92, 0x20, 88, GdsKind::Name),
         (92, 0x7F, 88, GdsKind::Name),
         (94, 0x00, 88, GdsKind::Name),
-        (98, 0x09, 112, GdsKind::Width),
-        (98, 0x2D, 96, GdsKind::Unsupported(0x2D)),
-        (98, 0x04, 96, GdsKind::Unexpected(0x04)),
-        (98, 0x07, 100, GdsKind::Unexpected(0x0D)),
-        (104, 0x80, 100, GdsKind::Layer),
-        (110, 0xFF, 106, GdsKind::Layer),
-        (155, 0x01, 112, GdsKind::NotClosed),
-        (139, 0x09, 112, GdsKind::Oblique),
-        (166, 0x07, 164, GdsKind::Unexpected(0x07)),
+        (98, 0x09, 112, GdsKind::Element(ElementRule::Width)),
+        (
+            98,
+            0x2D,
+            96,
+            GdsKind::Misplaced(Misplaced::Unsupported(0x2D)),
+        ),
+        (
+            98,
+            0x04,
+            96,
+            GdsKind::Misplaced(Misplaced::Unexpected(0x04)),
+        ),
+        (
+            98,
+            0x07,
+            100,
+            GdsKind::Misplaced(Misplaced::Unexpected(0x0D)),
+        ),
+        (104, 0x80, 100, GdsKind::Element(ElementRule::Layer)),
+        (110, 0xFF, 106, GdsKind::Element(ElementRule::Layer)),
+        (155, 0x01, 112, GdsKind::Element(ElementRule::NotClosed)),
+        (139, 0x09, 112, GdsKind::Element(ElementRule::Oblique)),
+        (
+            166,
+            0x07,
+            164,
+            GdsKind::Misplaced(Misplaced::Unexpected(0x07)),
+        ),
     ];
     for (k, value, offset, kind) in rows {
         let mut bytes = square(rt.alloc())?;
@@ -167,10 +187,10 @@ fn tests_points_in_order(rt: HostRuntime) -> Result<(), Fail> {
     let least: [(i32, i32); 4] = [(0, 0), (1, 0), (0, 0), (0, 0)];
     let lowest = i32::MIN;
     let far: [(i32, i32); 4] = [(lowest, 0), (0, 0), (lowest, 0), (lowest, 0)];
-    let rows: [(&[(i32, i32)], Option<GdsFault>); 5] = [
-        (&three, at(112, GdsKind::Points)),
-        (&unclosed, at(112, GdsKind::NotClosed)),
-        (&oblique, at(112, GdsKind::Oblique)),
+    let rows: [(&[(i32, i32)], Option<Refusal<GdsFault>>); 5] = [
+        (&three, at(112, GdsKind::Element(ElementRule::Points))),
+        (&unclosed, at(112, GdsKind::Element(ElementRule::NotClosed))),
+        (&oblique, at(112, GdsKind::Element(ElementRule::Oblique))),
         (&least, None),
         (&far, None),
     ];
@@ -232,7 +252,7 @@ fn tells_each_cut(rt: HostRuntime) -> Result<(), Fail> {
 
 #[test]
 fn takes_zero_bytes_alone_behind_the_end(rt: HostRuntime) -> Result<(), Fail> {
-    let rows: [(usize, &[u8], Option<GdsFault>); 4] = [
+    let rows: [(usize, &[u8], Option<Refusal<GdsFault>>); 4] = [
         (1880, b"", None),
         (0, b"\x01", at(168, GdsKind::AfterEnd)),
         (70_000, b"\x01\0", at(70_168, GdsKind::AfterEnd)),
@@ -280,7 +300,7 @@ fn reads_pieces_of_any_size_alike(rt: HostRuntime) -> Result<(), Fail> {
 
 /// Whether this is what is told of `square` with the byte at a place set to another value: the fault
 /// that its payload's rule names, and of a header some fault no earlier than its record.
-fn is_told(place: usize, value: u8, fault: Option<GdsFault>) -> bool {
+fn is_told(place: usize, value: u8, fault: Option<Refusal<GdsFault>>) -> bool {
     match place {
         // a version, times, the library's name and units, a number's lowest byte: they are free
         4..=5 | 10..=33 | 38..=39 | 44..=59 | 64..=87 | 105 | 111 => fault.is_none(),
@@ -294,17 +314,19 @@ fn is_told(place: usize, value: u8, fault: Option<GdsFault>) -> bool {
             == if value < 0x80 {
                 None
             } else {
-                at(100, GdsKind::Layer)
+                at(100, GdsKind::Element(ElementRule::Layer))
             },
         110 => fault
             == if value < 0x80 {
                 None
             } else {
-                at(106, GdsKind::Layer)
+                at(106, GdsKind::Element(ElementRule::Layer))
             },
-        116..=155 => fault == at(112, GdsKind::NotClosed) || fault == at(112, GdsKind::Oblique),
+        116..=155 => fault == at(112, GdsKind::Element(ElementRule::NotClosed))
+            || fault == at(112, GdsKind::Element(ElementRule::Oblique)),
         _ => match fault {
-            Some(GdsFault::At { offset, kind: _ }) => begun(place) <= offset && offset <= 168,
+            Some(Refusal::Breach(GdsFault { offset, kind: _ })) => begun(place) <= offset
+                && offset <= 168,
             _ => false,
         },
     }

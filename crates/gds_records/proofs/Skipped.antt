@@ -1,18 +1,16 @@
 -- Zero bytes at the front: how far they go, and that they add up while more bytes are read.
-use Rattle.std.proofs.Common.{◌≡◌, ◌≢◌, ◌==◌, ℕ, zero, suc, ◌+◌, ◌<◌, ◌≤◌, inl, inr, Bool, true, false, cond, nat_le, List, [], ◌∷◌, ◌++◌, length, drop, Result, Ok, Err, Some, refl, sym, ap, ◌∙◌, subst, arith, append_assoc, one-add, length-append}
+use Rattle.std.proofs.Common.{◌≡◌, ◌≢◌, ◌==◌, ℕ, zero, suc, ◌+◌, ◌<◌, ◌≤◌, inl, inr, Bool, true, false, cond, nat_le, List, [], ◌∷◌, ◌++◌, length, drop, Some, refl, sym, ap, ◌∙◌, subst, arith, append_assoc, one-add, length-append}
 use Rattle.std.specs.Prelude.{Option, replicate}
 use Rattle.std.specs.List.{prefix_len}
 use Rattle.std.specs.Io.KnownBytes.{prepend_known}
 use Rattle.std.proofs.lemmas.List.{replicate-append-replicate, length-replicate}
 use Rattle.std.proofs.lemmas.Bool.Decides.{nat_tests}
 use Rattle.lvl_io.specs.Known.{Stays}
-use Rattle.gds_records.specs.Tail.{IsNoZeroFirst, TakesZeros, Stops, PassesLimit}
+use Rattle.gds_records.specs.Tail.{IsNoZeroFirst, TakesZeros, PassesLimit}
 use Rattle.gds_records.proofs.Known.{known_parts}
 use Rattle.gds_records.proofs.Laws.{by_test}
-use Rattle.gds_records.specs.declared.fault.RecordFault.{RecordFault}
-use Rattle.gds_records.specs.declared.fault.RecordFault.TheVariants.{TooLong}
-use Rattle.gds_records.specs.declared.zeros.Behind.{Behind}
-use Rattle.gds_records.specs.declared.zeros.Behind.TheVariants.{Nothing, Another}
+use Rattle.gds_records.specs.declared.zeros.After.{After}
+use Rattle.gds_records.specs.declared.zeros.After.TheVariants.{Nothing, Another, Limit}
 
 -- as many as there are at the front, or fewer, are split off
 pub zeros_front : (n : ℕ) (xs : List ℕ) → n ≤ prefix_len (λ b. b == 0) xs → xs ≡ replicate n 0 ++ drop n xs
@@ -61,7 +59,7 @@ no_bytes (x ∷ xs) h = absurd (let k : length (x ∷ xs) < 1 = grind (arith, na
 
 -- the input ends
 pub takes_end : (n room : ℕ) (a b c : Option (List ℕ)) → Takes n a b → Stays b c → ((left : List ℕ) → b ≡ Some left → false ≡ nat_le 1 (length left))
-    → TakesZeros (Ok Nothing) n room a c
+    → TakesZeros Nothing n room a c
 takes_end n room a b c t s e = λ xs k. let p = t xs k in (p.0, s p.0 p.1, p.2, no_bytes p.0 (e p.0 p.1))
 
 no_zero_append : (xs ys : List ℕ) → 0 < length xs → IsNoZeroFirst xs → IsNoZeroFirst (xs ++ ys)
@@ -69,14 +67,14 @@ no_zero_append [] ys h p = absurd (omega arith)
 no_zero_append (x ∷ xs) ys h p = p
 
 pub takes_another : (n room : ℕ) (a rest : Option (List ℕ)) (ahead : List ℕ) → Takes n a (prepend_known ahead rest) → 0 < length ahead → n < room → IsNoZeroFirst ahead
-    → TakesZeros (Ok Another) n room a (prepend_known ahead rest)
+    → TakesZeros Another n room a (prepend_known ahead rest)
 takes_another n room a rest ahead t some less first = λ xs k.
     let p = t xs k in
     let q = known_parts ahead rest p.0 p.1 in
     (p.0, p.1, p.2, (less, omega (arith, ap length q.2, length-append ahead q.0), subst IsNoZeroFirst q.2 (no_zero_append ahead q.0 some first)))
 
 pub takes_too_long : (n room : ℕ) (a rest : Option (List ℕ)) (ahead : List ℕ) → Takes n a (prepend_known ahead rest) → 0 < length ahead → n ≡ room
-    → TakesZeros (Err TooLong) n room a (prepend_known ahead rest)
+    → TakesZeros Limit n room a (prepend_known ahead rest)
 takes_too_long n room a rest ahead t some is = λ xs k.
     let p = t xs k in
     let q = known_parts ahead rest p.0 p.1 in
@@ -90,15 +88,17 @@ other_within zero (suc room) b rest more less ne e = ne (let k : b ∷ rest ≡ 
 other_within (suc n) (suc room) b rest more less ne e =
     other_within n room b rest more (omega arith) ne (let k : 0 ∷ (replicate n 0 ++ (b ∷ rest)) ≡ 0 ∷ (replicate room 0 ++ more) = e in cc)
 
-stops_passes : (b : Behind) (n room : ℕ) (xs left : List ℕ) → xs ≡ replicate n 0 ++ left → Stops (Ok b) n room left → n ≤ room → PassesLimit room xs → ⊥
-stops_passes Nothing n room xs left e s fits p =
-    omega (arith, p.1, ap length (sym p.2 ∙ e), ap length s, length-append (replicate room 0) p.0, length-append (replicate n 0) left, length-replicate {A = ℕ})
-stops_passes Another n room xs [] e s fits p = omega (arith, s.1)
-stops_passes Another n room xs (b ∷ rest) e s fits p = other_within n room b rest p.0 s.0 s.2 (sym e ∙ p.2)
-
 -- where the bytes pass the limit and those within it are zero, zero bytes don't stop before it
-pub takes_passes : (r : Result Behind RecordFault) (b : Behind) (n room : ℕ) (old new : Option (List ℕ)) (xs : List ℕ) → r ≡ Ok b → TakesZeros r n room old new
-    → old ≡ Some xs → n ≤ room → PassesLimit room xs → ⊥
-takes_passes r b n room old new xs e t k fits p =
-    let told = t xs k in
-    stops_passes b n room xs told.0 told.2 (subst (λ s. Stops s n room told.0) e told.3) fits p
+pub nothing_passes : (a : After) (n room : ℕ) (old new : Option (List ℕ)) (xs : List ℕ) → a ≡ Nothing → TakesZeros a n room old new → old ≡ Some xs → n ≤ room → PassesLimit room xs → ⊥
+nothing_passes a n room old new xs e t k fits p =
+    let left = subst (λ i. TakesZeros i n room old new) e t xs k in
+    omega (arith, p.1, ap length (sym p.2 ∙ left.2), ap length left.3, length-append (replicate room 0) p.0, length-append (replicate n 0) left.0, length-replicate {A = ℕ})
+
+another_stops : (n room : ℕ) (xs left more : List ℕ) → xs ≡ replicate n 0 ++ left → n < room → 0 < length left → IsNoZeroFirst left → xs ≡ replicate room 0 ++ more → ⊥
+another_stops n room xs [] more e less some ne p = omega (arith, some)
+another_stops n room xs (b ∷ rest) more e less some ne p = other_within n room b rest more less ne (sym e ∙ p)
+
+pub another_passes : (a : After) (n room : ℕ) (old new : Option (List ℕ)) (xs : List ℕ) → a ≡ Another → TakesZeros a n room old new → old ≡ Some xs → PassesLimit room xs → ⊥
+another_passes a n room old new xs e t k p =
+    let left = subst (λ i. TakesZeros i n room old new) e t xs k in
+    another_stops n room xs left.0 p.0 left.2 left.3.0 left.3.1 left.3.2 p.2

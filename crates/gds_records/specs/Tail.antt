@@ -1,9 +1,10 @@
 -- What `tail` answers: zero bytes alone are taken, up to the end, another byte, or the limit of a file.
-use Rattle.std.specs.Prelude.{◌≡◌, ◌≢◌, ℕ, ◌+◌, ◌-◌, ◌<◌, ◌≤◌, List, [], ◌∷◌, ◌++◌, length, replicate, Option, Some, None, Result, Ok, Err}
-use Rattle.gds_records.specs.declared.fault.RecordFault.{RecordFault}
-use Rattle.gds_records.specs.declared.fault.RecordFault.TheVariants.{Truncated, BadLength, BadDataType, UnknownRecord, TooLong, Read, Failed}
-use Rattle.gds_records.specs.declared.zeros.Behind.{Behind}
-use Rattle.gds_records.specs.declared.zeros.Behind.TheVariants.{Nothing, Another}
+use Rattle.std.specs.Prelude.{◌≡◌, ◌≢◌, Bool, true, false, ℕ, ◌+◌, ◌<◌, ◌≤◌, List, [], ◌∷◌, ◌++◌, length, replicate, Option, Some, None, Result, Ok, Err}
+use Rattle.gds_records.specs.declared.fault.RecordFault.TheVariants.{TooLong, Read}
+use Rattle.gds_records.specs.declared.fault.Stopped.{Stopped}
+use Rattle.gds_records.specs.declared.fault.Stopped.TheVariants.{Fault}
+use Rattle.gds_records.specs.declared.zeros.After.{After}
+use Rattle.gds_records.specs.declared.zeros.After.TheVariants.{Nothing, Another, Limit, Failure}
 
 -- all bytes are zero
 abbrev pub AreZeros : List ℕ → Type 0
@@ -19,35 +20,31 @@ PassesLimit room xs = (rest : List ℕ) × (0 < length rest) × (xs ≡ replicat
 
 -- what is answered of the bytes xs, of which only room may be taken: old bytes were taken before the call,
 -- and new are now
-abbrev pub AnswersTail : Result (Option ℕ) RecordFault → ℕ → ℕ → ℕ → List ℕ → Type 0
+abbrev pub AnswersTail : Result (Option ℕ) Stopped → ℕ → ℕ → ℕ → List ℕ → Type 0
 AnswersTail (Ok None) old new room xs = AreZeros xs × (length xs ≤ room) × (new ≡ old + length xs)
 AnswersTail (Ok (Some at)) old new room xs = (n : ℕ) × (n < room) × IsFirstOther n xs × (at ≡ old + n) × (new ≡ at)
-AnswersTail (Err TooLong) old new room xs = PassesLimit room xs × (new ≡ old + room)
-AnswersTail (Err Read) old new room xs = (rest : List ℕ) × (xs ≡ replicate (new - old) 0 ++ rest)
-AnswersTail (Err Truncated) old new room xs = ⊥
-AnswersTail (Err BadLength) old new room xs = ⊥
-AnswersTail (Err BadDataType) old new room xs = ⊥
-AnswersTail (Err UnknownRecord) old new room xs = ⊥
-AnswersTail (Err Failed) old new room xs = ⊥
+AnswersTail (Err (Fault TooLong)) old new room xs = PassesLimit room xs × (new ≡ old + room)
+AnswersTail (Err (Fault Read)) old new room xs = (n : ℕ) × (rest : List ℕ) × (n ≤ room) × (xs ≡ replicate n 0 ++ rest) × (new ≡ old + n)
+AnswersTail (Err e) old new room xs = ⊥
 
 -- the first byte, if there is one, isn't zero
 abbrev pub IsNoZeroFirst : List ℕ → Type 0
 IsNoZeroFirst [] = Unit {0}
 IsNoZeroFirst (b ∷ rest) = b ≢ 0
 
--- why no more zero bytes were taken than n, where left is behind them
-abbrev pub Stops : Result Behind RecordFault → ℕ → ℕ → List ℕ → Type 0
-Stops (Ok Nothing) n room left = left ≡ []
-Stops (Ok Another) n room left = (n < room) × (0 < length left) × IsNoZeroFirst left
-Stops (Err TooLong) n room left = (n ≡ room) × (0 < length left)
-Stops (Err Read) n room left = Unit {0}
-Stops (Err Truncated) n room left = ⊥
-Stops (Err BadLength) n room left = ⊥
-Stops (Err BadDataType) n room left = ⊥
-Stops (Err UnknownRecord) n room left = ⊥
-Stops (Err Failed) n room left = ⊥
+-- why no more zero bytes were taken than n, where left is what comes after them
+abbrev pub Stops : After → ℕ → ℕ → List ℕ → Type 0
+Stops Nothing n room left = left ≡ []
+Stops Another n room left = (n < room) × (0 < length left) × IsNoZeroFirst left
+Stops Limit n room left = (n ≡ room) × (0 < length left)
+Stops Failure n room left = Unit {0}
 
 -- of the bytes old, where they are known, n zero bytes were taken, and new is left
-abbrev pub TakesZeros : Result Behind RecordFault → ℕ → ℕ → Option (List ℕ) → Option (List ℕ) → Type 0
-TakesZeros r n room old new = (xs : List ℕ) → old ≡ Some xs
-    → (left : List ℕ) × (new ≡ Some left) × (xs ≡ replicate n 0 ++ left) × Stops r n room left
+abbrev pub TakesZeros : After → ℕ → ℕ → Option (List ℕ) → Option (List ℕ) → Type 0
+TakesZeros a n room old new = (xs : List ℕ) → old ≡ Some xs
+    → (left : List ℕ) × (new ≡ Some left) × (xs ≡ replicate n 0 ++ left) × Stops a n room left
+
+-- whether the reader answered an error
+abbrev pub is_failure : After → Bool
+is_failure Failure = true
+is_failure a = false

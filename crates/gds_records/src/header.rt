@@ -1,5 +1,5 @@
 //! What the four bytes of a header say: a length, a record type and a data type.
-ghost use Rattle.std.specs.Prelude.{◌≡◌, ◌≢◌, Err, ◌<◌, ◌≤◌, IfOk, length, false};
+ghost use Rattle.std.specs.Prelude.{◌≡◌, ◌<◌, ◌≤◌, IfOk, length, false};
 ghost use Rattle.gds_records.specs.Table.{table, form_among, allows, form_fault};
 ghost use Rattle.gds_records.specs.Step.{header_fault, header, Gives, is_read, OfHeader, HasByteLength};
 
@@ -95,7 +95,6 @@ pub(crate) fn record_len(bytes: &[u8]) -> Result<usize, RecordFault>
     ensures exact { Gives result (header bytes.now) }
     ensures bound { IfOk result (λ n. (4 ≤ n) × (n < 65536)) }
     ensures read { is_read result ≡ false }
-    ensures fresh { result ≢ Err RecordFault.Failed }
     ensures low { HasByteLength bytes.now }
 {
     let len = BigEndian::read_u16(bytes);

@@ -2,7 +2,7 @@
 //! reader cuts the bytes nor where it fails.
 ghost use Rattle.std.specs.Prelude.{Some, None};
 
-use crate::{RecordFault, Records, record_type};
+use crate::{RecordFault, Records, Stopped, record_type};
 use lvl_io::Read;
 use lvl_io::fake::Pieces;
 use std::alloc::{AllocError, Global};
@@ -80,16 +80,17 @@ fn read_on<R: Read>(rt: &impl Abort, records: &mut Records<R>) -> Walk {
                 }
             }
             Ok(None) => break,
-            Err(fault) => {
+            Err(Stopped::Fault(fault)) => {
                 found = Some(fault);
                 break;
             }
+            Err(Stopped::Failed) => panic!(rt; "no call met a fault"),
         }
     }
     let offset = records.offset();
     if found.is_some() {
-        assert!(rt; matches!(records.next(), Err(RecordFault::Failed)));
-        assert!(rt; matches!(records.tail(), Err(RecordFault::Failed)));
+        assert!(rt; matches!(records.next(), Err(Stopped::Failed)));
+        assert!(rt; matches!(records.tail(), Err(Stopped::Failed)));
         assert_eq!(rt; records.offset(), offset);
     }
     Walk {
@@ -259,9 +260,9 @@ fn tells_a_failed_read_once(rt: HostRuntime) -> Result<(), Fail> {
     for k in 0..100usize {
         let zeros = [0; 100];
         let mut records = Records::new(rt.alloc(), Pieces::failing(&zeros[..k], 7))?;
-        assert_eq!(rt; records.tail(), Err(RecordFault::Read));
+        assert_eq!(rt; records.tail(), Err(Stopped::Fault(RecordFault::Read)));
         assert_eq!(rt; records.offset(), k as u64);
-        assert_eq!(rt; records.tail(), Err(RecordFault::Failed));
+        assert_eq!(rt; records.tail(), Err(Stopped::Failed));
         assert_eq!(rt; records.into_reader().errors, 1);
     }
     Ok(())

@@ -1,22 +1,24 @@
 //! The zero bytes at the front.
-ghost use Rattle.std.specs.Prelude.{◌≡◌, ◌≢◌, ◌==◌, ◌^◌, ◌<◌, ◌≤◌, ◌++◌, [], Err, replicate};
+ghost use Rattle.std.specs.Prelude.{◌≡◌, ◌==◌, ◌^◌, ◌<◌, ◌≤◌, ◌++◌, [], length, replicate};
 ghost use Rattle.std.specs.List.{prefix_len};
 ghost use Rattle.std.specs.Io.KnownBytes.{prepend_known};
 ghost use Rattle.lvl_io.specs.Bytes.{CountsFailure};
-ghost use Rattle.gds_records.specs.Step.{is_read};
-ghost use Rattle.gds_records.specs.Tail.{IsNoZeroFirst, TakesZeros};
+ghost use Rattle.gds_records.specs.Tail.{IsNoZeroFirst, TakesZeros, is_failure};
 
 use crate::buffer::Buffer;
-use crate::fault::RecordFault;
 use lvl_io::Read;
 
-/// What stands behind zero bytes.
+/// What comes after zero bytes.
 #[derive(Clone, Copy, Debug, PartialEq, Eq)]
-pub enum Behind {
+pub enum After {
     /// Nothing: the input ends.
     Nothing,
     /// A byte that isn't zero.
     Another,
+    /// A byte beyond the limit.
+    Limit,
+    /// The reader answered an error.
+    Failure,
 }
 
 // How many bytes at the front are zero.
@@ -38,38 +40,34 @@ fn skip_ahead(ahead: &mut Buffer, most: u64) -> u64
     n as u64
 }
 
-// Skips zero bytes, `room` at most, counts them, and says what stands behind them.
-pub(crate) fn skip_zeros<R: Read>(
-    reader: &mut R,
-    ahead: &mut Buffer,
-    room: u64,
-) -> (u64, Result<Behind, RecordFault>)
+// Skips zero bytes, `room` at most, counts them, and says what comes after them.
+pub(crate) fn skip_zeros<R: Read>(reader: &mut R, ahead: &mut Buffer, room: u64) -> (u64, After)
     requires { room < 2 ^ 32 }
     ensures zeros { TakesZeros result.1 result.0 room (prepend_known ahead.old (R.remaining reader.old))
         (prepend_known ahead.new (R.remaining reader.new)) }
     ensures within { result.0 ≤ room }
-    ensures limit { result.1 ≡ Err RecordFault.TooLong → result.0 ≡ room }
-    ensures starved { result.1 ≡ Err RecordFault.Read → ahead.new ≡ [] }
+    ensures another { result.1 ≡ After.Another → 0 < length ahead.new }
+    ensures limit { result.1 ≡ After.Limit → (result.0 ≡ room) × (0 < length ahead.new) }
+    ensures starved { result.1 ≡ After.Failure → ahead.new ≡ [] }
     ensures errors { CountsFailure (R.read_errors reader.old) (R.read_errors reader.new)
-        (is_read result.1) }
+        (is_failure result.1) }
     ensures same { R.lent reader.new ≡ R.lent reader.old }
-    ensures fresh { result.1 ≢ Err RecordFault.Failed }
 {
     let mut taken = 0;
     'zeros: loop {
         match ahead.fill(reader, 1) {
             Ok(true) => {}
-            Ok(false) => return (taken, Ok(Behind::Nothing)),
-            Err(_) => return (taken, Err(RecordFault::Read)),
+            Ok(false) => return (taken, After::Nothing),
+            Err(_) => return (taken, After::Failure),
         }
         taken += skip_ahead(ahead, room - taken);
         if ahead.len() > 0 {
-            let behind = if taken < room {
-                Ok(Behind::Another)
+            let after = if taken < room {
+                After::Another
             } else {
-                Err(RecordFault::TooLong)
+                After::Limit
             };
-            return (taken, behind);
+            return (taken, after);
         }
     }
 }

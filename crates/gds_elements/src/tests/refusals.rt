@@ -1,6 +1,6 @@
 //! Which rule is told, and of which record.
 use super::{DEGREES_45, DEGREES_90, END, Line, Says, Stop, TWICE, array, read};
-use crate::GdsKind;
+use crate::{ElementFault, ElementRule, Misplaced};
 use gds_records::record_type as ty;
 use lvl_path::PathFault;
 use std::test::Fail;
@@ -13,37 +13,40 @@ fn short_run(rt: HostRuntime) -> Result<(), Fail> {
             "short-run",
             Says::Long(4),
             Says::Points(&short),
-            Stop::At(4, GdsKind::Path(PathFault::ShortRun)),
+            Stop::At(
+                4,
+                ElementFault::Rule(ElementRule::Path(PathFault::ShortRun)),
+            ),
         ),
         (
             "odd",
             Says::Long(3),
             Says::Points(&short),
-            Stop::At(3, GdsKind::Width),
+            Stop::At(3, ElementFault::Rule(ElementRule::Width)),
         ),
         (
             "none",
             Says::Long(0),
             Says::Points(&short),
-            Stop::At(3, GdsKind::Width),
+            Stop::At(3, ElementFault::Rule(ElementRule::Width)),
         ),
         (
             "negative",
             Says::Long(-4),
             Says::Points(&short),
-            Stop::At(3, GdsKind::Width),
+            Stop::At(3, ElementFault::Rule(ElementRule::Width)),
         ),
         (
             "one point",
             Says::Long(4),
             Says::Points(&[(0, 0)]),
-            Stop::At(4, GdsKind::Points),
+            Stop::At(4, ElementFault::Rule(ElementRule::Points)),
         ),
         (
             "oblique",
             Says::Long(4),
             Says::Points(&[(0, 0), (1, 1)]),
-            Stop::At(4, GdsKind::Path(PathFault::Oblique)),
+            Stop::At(4, ElementFault::Rule(ElementRule::Path(PathFault::Oblique))),
         ),
     ];
     for (name, width, points, stop) in rows {
@@ -73,52 +76,57 @@ fn array_limits(rt: HostRuntime) -> Result<(), Fail> {
             1025,
             1024,
             &[(0, 0), (0, 0), (0, 0)],
-            Some(Stop::At(2, GdsKind::Repetition)),
+            Some(Stop::At(2, ElementFault::Rule(ElementRule::Repetition))),
         ),
         (
             32_767,
             33,
             &[(0, 0), (0, 0), (0, 0)],
-            Some(Stop::At(2, GdsKind::Repetition)),
+            Some(Stop::At(2, ElementFault::Rule(ElementRule::Repetition))),
         ),
         (32_767, 32, &[(0, 0), (0, 0), (0, 0)], None),
         (
             2,
             1,
             &[(0, 0), (-7, 0), (0, 2)],
-            Some(Stop::At(3, GdsKind::ArrayStep)),
+            Some(Stop::At(3, ElementFault::Rule(ElementRule::ArrayStep))),
         ),
         (
             3,
             2,
             &[(0, 0), (31, 0), (0, 20)],
-            Some(Stop::At(3, GdsKind::ArrayStep)),
+            Some(Stop::At(3, ElementFault::Rule(ElementRule::ArrayStep))),
         ),
         (
             3,
             2,
             &[(0, 0), (30, 0), (0, 21)],
-            Some(Stop::At(3, GdsKind::ArrayStep)),
+            Some(Stop::At(3, ElementFault::Rule(ElementRule::ArrayStep))),
         ),
         (
             0,
             1,
             &[(0, 0), (0, 0), (0, 0)],
-            Some(Stop::At(2, GdsKind::ColRow)),
+            Some(Stop::At(2, ElementFault::Rule(ElementRule::ColRow))),
         ),
         (
             1,
             0,
             &[(0, 0), (0, 0), (0, 0)],
-            Some(Stop::At(2, GdsKind::ColRow)),
+            Some(Stop::At(2, ElementFault::Rule(ElementRule::ColRow))),
         ),
         (
             -1,
             1,
             &[(0, 0), (0, 0), (0, 0)],
-            Some(Stop::At(2, GdsKind::ColRow)),
+            Some(Stop::At(2, ElementFault::Rule(ElementRule::ColRow))),
         ),
-        (1, 1, &[(0, 0), (0, 0)], Some(Stop::At(3, GdsKind::Points))),
+        (
+            1,
+            1,
+            &[(0, 0), (0, 0)],
+            Some(Stop::At(3, ElementFault::Rule(ElementRule::Points))),
+        ),
         (1, 1, &far, None),
     ];
     for (columns, rows, points, stop) in rows {
@@ -143,36 +151,42 @@ fn the_first_rule_is_told(rt: HostRuntime) -> Result<(), Fail> {
     let rows: [(&[Line], Stop); 18] = [
         (
             &[boundary, datatype],
-            Stop::At(1, GdsKind::Unexpected(ty::DATATYPE)),
+            Stop::At(
+                1,
+                ElementFault::Misplaced(Misplaced::Unexpected(ty::DATATYPE)),
+            ),
         ),
         (
             &[boundary, (0x2D, Says::Nothing)],
-            Stop::At(1, GdsKind::Unsupported(0x2D)),
+            Stop::At(1, ElementFault::Misplaced(Misplaced::Unsupported(0x2D))),
         ),
         (
             &[boundary, layer, datatype, two],
-            Stop::At(3, GdsKind::Points),
+            Stop::At(3, ElementFault::Rule(ElementRule::Points)),
         ),
         (
             &[boundary, layer, datatype, open],
-            Stop::At(3, GdsKind::NotClosed),
+            Stop::At(3, ElementFault::Rule(ElementRule::NotClosed)),
         ),
         (
             &[boundary, layer, datatype, oblique],
-            Stop::At(3, GdsKind::Oblique),
+            Stop::At(3, ElementFault::Rule(ElementRule::Oblique)),
         ),
         (
             &[boundary, (ty::LAYER, Says::Short(-1))],
-            Stop::At(1, GdsKind::Layer),
+            Stop::At(1, ElementFault::Rule(ElementRule::Layer)),
         ),
         (
             &[path, layer, (ty::DATATYPE, Says::Short(-1))],
-            Stop::At(2, GdsKind::Layer),
+            Stop::At(2, ElementFault::Rule(ElementRule::Layer)),
         ),
-        (&[path, layer, datatype, two], Stop::At(3, GdsKind::Width)),
+        (
+            &[path, layer, datatype, two],
+            Stop::At(3, ElementFault::Rule(ElementRule::Width)),
+        ),
         (
             &[path, layer, datatype, (ty::PATHTYPE, Says::Short(1))],
-            Stop::At(3, GdsKind::PathType),
+            Stop::At(3, ElementFault::Rule(ElementRule::PathType)),
         ),
         (
             &[
@@ -182,15 +196,18 @@ fn the_first_rule_is_told(rt: HostRuntime) -> Result<(), Fail> {
                 (ty::WIDTH, Says::Long(2)),
                 (ty::PATHTYPE, Says::Short(0)),
             ],
-            Stop::At(4, GdsKind::Unexpected(ty::PATHTYPE)),
+            Stop::At(
+                4,
+                ElementFault::Misplaced(Misplaced::Unexpected(ty::PATHTYPE)),
+            ),
         ),
         (
             &[sref, (ty::SNAME, Says::Bytes(b"\0"))],
-            Stop::At(1, GdsKind::Name),
+            Stop::At(1, ElementFault::Rule(ElementRule::Name)),
         ),
         (
             &[sref, name, (ty::STRANS, Says::Short(0x0004))],
-            Stop::At(2, GdsKind::Strans),
+            Stop::At(2, ElementFault::Rule(ElementRule::Strans)),
         ),
         (
             &[
@@ -199,7 +216,7 @@ fn the_first_rule_is_told(rt: HostRuntime) -> Result<(), Fail> {
                 (ty::STRANS, Says::Short(0)),
                 (ty::MAG, Says::Bytes(&TWICE)),
             ],
-            Stop::At(3, GdsKind::Magnification),
+            Stop::At(3, ElementFault::Rule(ElementRule::Magnification)),
         ),
         (
             &[
@@ -208,20 +225,26 @@ fn the_first_rule_is_told(rt: HostRuntime) -> Result<(), Fail> {
                 (ty::STRANS, Says::Short(0)),
                 (ty::ANGLE, Says::Bytes(&DEGREES_45)),
             ],
-            Stop::At(3, GdsKind::Angle),
+            Stop::At(3, ElementFault::Rule(ElementRule::Angle)),
         ),
         (
             &[sref, name, (ty::ANGLE, Says::Bytes(&DEGREES_90))],
-            Stop::At(2, GdsKind::Unexpected(ty::ANGLE)),
+            Stop::At(2, ElementFault::Misplaced(Misplaced::Unexpected(ty::ANGLE))),
         ),
-        (&[sref, name, two], Stop::At(2, GdsKind::Points)),
+        (
+            &[sref, name, two],
+            Stop::At(2, ElementFault::Rule(ElementRule::Points)),
+        ),
         (
             &[text, layer, (ty::TEXTTYPE, Says::Short(-1)), two],
-            Stop::At(3, GdsKind::Points),
+            Stop::At(3, ElementFault::Rule(ElementRule::Points)),
         ),
         (
             &[text, layer, boundary],
-            Stop::At(2, GdsKind::Unexpected(ty::BOUNDARY)),
+            Stop::At(
+                2,
+                ElementFault::Misplaced(Misplaced::Unexpected(ty::BOUNDARY)),
+            ),
         ),
     ];
     for (lines, stop) in rows {

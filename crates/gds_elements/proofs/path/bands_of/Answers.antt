@@ -2,8 +2,7 @@ use Rattle.std.proofs.Common.{◌≡◌, ◌∙◌, ◌≤◌, ℕ, Some, List, 
 use Rattle.lvl_grid.specs.declared.point.Point.{Point}
 use Rattle.lvl_path.specs.Runs.{IsPath, IsLowestFault}
 use Rattle.gds_elements.specs.Values.{points}
-use Rattle.gds_elements.specs.Path.{IsBandsFault, reach_at}
-use Rattle.gds_elements.proofs.Leads.{says_carried}
+use Rattle.gds_elements.specs.Path.{reach_at}
 use Rattle.gds_elements.proofs.path.bands_of.Goals as goal
 
 pub returns-in-Ok-clause-allowed : goal.returns-in-Ok-clause-allowed
@@ -15,18 +14,12 @@ returns-in-Ok-clause-allowed c = λ h e.
     let q = subst (λ (n : ℕ). IsPath ps (record { half = c.in-Some.half; start = n; end = n })) c.end_reach-reach.ensures o in
     subst (λ (n : ℕ). IsPath ps (record { half = n; start = reach_at c.args.square n; end = reach_at c.args.square n })) known q
 
-pub returns : goal.returns
-returns c =
+pub returns-in-Err-Breach-clause-refused : goal.returns-in-Err-Breach-clause-refused
+returns-in-Err-Breach-clause-refused c =
     let ps = points c.args.payload.now in
     let at : c.deref.result.now ≡ ps = c.deref.ensures.value ∙ c.in_ok-points.ensures in
-    let o = subst (λ (qs : List Point). IsLowestFault qs (record { half = c.in-Some.half; start = c.end_reach-reach.result; end = c.end_reach-reach.result }) c.in-Err.fault) at c.in-Err.ensures.err in
-    let q = subst (λ (n : ℕ). IsLowestFault ps (record { half = c.in-Some.half; start = n; end = n }) c.in-Err.fault) c.end_reach-reach.ensures o in
+    let low = rw c.in-Err-Breach.field-0-is at c.in-Err-Breach.ensures.err in
+    let o = subst (λ (qs : List Point). IsLowestFault qs (record { half = c.in-Some.half; start = c.end_reach-reach.result; end = c.end_reach-reach.result }) c.in-Err-Breach.fault) at low in
+    let q = subst (λ (n : ℕ). IsLowestFault ps (record { half = c.in-Some.half; start = n; end = n }) c.in-Err-Breach.fault) c.end_reach-reach.ensures o in
     let n : 2 ≤ length ps = omega (arith, c.if-len-lt-FEWEST_POINTS.false, c.len.ensures, ap length c.in_ok-points.ensures) in
-    record {
-      value = λ h e. tt;
-      allowed = λ h e. tt;
-      enough = tt;
-      width = tt;
-      refused = says_carried c.refusal.result _ (IsBandsFault ps c.args.half c.args.square)
-          (λ k x. subst (IsBandsFault ps c.args.half c.args.square) (sym x.0) (n, x.1, c.in-Some.half, c.in-Some.is, q)) c.refusal.ensures;
-    }
+    rw c.breach-in-Err-Breach.ensures (n, c.in-Some.half, c.in-Some.is, q)

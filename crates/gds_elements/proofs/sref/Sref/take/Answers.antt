@@ -1,10 +1,10 @@
 use Rattle.std.proofs.Common.{◌≡◌, ◌∙◌, sym, ap, inl, inr}
 use Rattle.gds_elements.specs.Types.{xy, endel}
-use Rattle.gds_elements.specs.Order.{one}
+use Rattle.lvl_grammar.specs.Order.{one}
 use Rattle.gds_elements.specs.Reading.{record_of}
 use Rattle.gds_elements.specs.Sref.{left}
 use Rattle.gds_elements.specs.declared.sref.Sref.{Sref}
-use Rattle.gds_elements.specs.declared.fault.GdsKind.TheVariants.{Points}
+use Rattle.gds_elements.specs.declared.fault.ElementRule.TheVariants.{Points}
 use Rattle.gds_elements.proofs.Taking.{takes_broken, takes_one}
 use Rattle.gds_elements.specs.Placing.{IsPlacingFault}
 use Rattle.gds_elements.proofs.Leads.{law_misplaced, leads_begins, left_behind, in_order}
@@ -33,8 +33,8 @@ returns-in_ok-reference-in-Ends c = λ piece d h.
 pub returns-in-Nowhere : goal.returns-in-Nowhere
 returns-in-Nowhere c = λ piece d h.
     let r = record_of c.args.kind d c.args.payload.now in
-    law_misplaced piece r (left c.args.self.place) c.misplaced.result h.leads
-    (by_table c.args.self.place c.args.kind ∙ ap (left_behind left) (sym c.after.ensures ∙ c.in-Nowhere.is)) c.requires.known c.misplaced.ensures
+    law_misplaced piece r (left c.args.self.place) c.out_of_order.result h.leads
+    (by_table c.args.self.place c.args.kind ∙ ap (left_behind left) (sym c.after.ensures ∙ c.in-Nowhere.is)) c.requires.known c.out_of_order.ensures
 
 pub returns-in_err-placing-in-Goes : goal.returns-in_err-placing-in-Goes
 returns-in_err-placing-in-Goes c = λ piece d h.

@@ -1,7 +1,7 @@
 use Rattle.std.proofs.Common.{subst}
 use Rattle.std.specs.Prelude.{Option}
 use Rattle.gds_elements.specs.declared.element.Element.{Element}
-use Rattle.gds_library.specs.Holds.{HoldsWith}
+use Rattle.gds_library.specs.inside.Holds.{HoldsWith}
 use Rattle.gds_library.proofs.reading.Reading.take.Goals as goal
 
 pub returns-in-Some : goal.returns-in-Some

@@ -1,14 +1,20 @@
-use Rattle.std.proofs.Common.{ap, ◌∙◌}
+use Rattle.std.proofs.Common.{ap, ◌∙◌, arith}
 use Rattle.std.specs.Io.KnownBytes.{prepend_known}
-use Rattle.gds_records.proofs.Skipped.{takes_passes}
+use Rattle.gds_records.proofs.Skipped.{nothing_passes, another_passes}
+use Rattle.gds_records.proofs.Seen.{seen_limit}
 use Rattle.gds_records.proofs.records.Records.tail.Goals as goal
 
 pub returns-in-Nothing-clause-too_long : goal.returns-in-Nothing-clause-too_long
 returns-in-Nothing-clause-too_long g c = λ f xs k p _.
     let known = ap (λ l. prepend_known l (g.R.Read.remaining c.args.self.now.reader)) c.skip.ensures ∙ k in
-    absurd (takes_passes _ c.in_ok-behind.field-0 _ _ _ _ xs c.in_ok-behind.was c.skip_zeros-zeros.ensures.zeros known c.skip_zeros-zeros.ensures.within p)
+    absurd (nothing_passes _ _ _ _ _ xs c.in-Nothing.is c.skip_zeros-zeros.ensures.zeros known c.skip_zeros-zeros.ensures.within p)
 
 pub returns-in-Another-clause-too_long : goal.returns-in-Another-clause-too_long
 returns-in-Another-clause-too_long g c = λ f xs k p _.
     let known = ap (λ l. prepend_known l (g.R.Read.remaining c.args.self.now.reader)) c.skip.ensures ∙ k in
-    absurd (takes_passes _ c.in_ok-behind.field-0 _ _ _ _ xs c.in_ok-behind.was c.skip_zeros-zeros.ensures.zeros known c.skip_zeros-zeros.ensures.within p)
+    absurd (another_passes _ _ _ _ _ xs c.in-Another.is c.skip_zeros-zeros.ensures.zeros known p)
+
+pub returns-in-Limit-after-clause-decided : goal.returns-in-Limit-after-clause-decided
+returns-in-Limit-after-clause-decided g c =
+    let e = c.skip_zeros-zeros.ensures.limit c.in-Limit-after.is in
+    seen_limit _ _ (omega (arith, e.0)) e.1

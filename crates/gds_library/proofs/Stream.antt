@@ -1,0 +1,362 @@
+-- How a stream is read: record by record, then the zero bytes after the end, or up to what is wrong.
+use Rattle.std.proofs.Common.{append_assoc, ◌≡◌, ◌≢◌, ◌⊎◌, ℕ, ◌+◌, ◌-◌, ◌<◌, ◌≤◌, List, [], ◌∷◌, ◌++◌, length, take, drop, Some, None, refl, sym, ap, ◌∙◌, subst, arith, inl, inr, ℤ, pos, zero, suc, true, false, length-drop}
+use Rattle.std.proofs.lemmas.List.{append-nil}
+use Rattle.std.specs.Prelude.{Option, replicate, Err, Result}
+use Rattle.std.specs.Io.KnownBytes.{prepend_known}
+use Rattle.lvl_grammar.specs.Order.{IsWord}
+use Rattle.lvl_grammar.specs.inside.After.{LeadsTo, can_be_empty}
+use Rattle.lvl_grammar.specs.Front.{IsFront}
+use Rattle.lvl_grammar.specs.Refused.{IsFrontAt, IsTruncated}
+use Rattle.lvl_grammar.specs.inside.ReadTo.{ReadTo, IsSeenWrong}
+use Rattle.lvl_grammar.proofs.Leads.{leads_begin, leads_unwhole, leads_whole}
+use Rattle.lvl_grammar.proofs.Reading.{reads_front, reads_on}
+use Rattle.lvl_grammar.proofs.Stuck.{parts_at}
+use Rattle.gds_records.specs.Records.{file_limit}
+use Rattle.gds_records.specs.Spelled.{IsSpelledAt, IsBegun}
+use Rattle.gds_records.specs.Step.{step, Decides}
+use Rattle.gds_records.specs.Tail.{AnswersTail}
+use Rattle.gds_records.specs.declared.fault.Stopped.TheVariants.{Fault}
+use Rattle.gds_records.specs.declared.fault.RecordFault.{RecordFault}
+use Rattle.gds_records.specs.declared.fault.RecordFault.TheVariants.{Truncated, BadLength, BadDataType, UnknownRecord, TooLong, Read}
+use Rattle.gds_records.proofs.Laws.{law_malformed}
+use Rattle.gds_records.proofs.Known.{known_parts}
+use Rattle.gds_elements.specs.Types.{header}
+use Rattle.gds_elements.specs.Rec.{Rec, kinds, field}
+use Rattle.gds_elements.specs.Values.{short}
+use Rattle.gds_elements.specs.Reading.{record_of}
+use Rattle.gds_elements.specs.declared.element.Element.{Element as OpenElement}
+use Rattle.gds_library.specs.Types.{fill}
+use Rattle.gds_library.specs.Order.{a_library}
+use Rattle.gds_library.specs.Rules.{IsWhole, Breaches, BreachesOnly, MayFollow}
+use Rattle.gds_library.specs.Front.{gds, StartsWith, IsWrong, SpellsLibrary, IsRead}
+use Rattle.gds_library.specs.Values.{drawings}
+use Rattle.gds_library.specs.inside.Place.{after, left, has_units}
+use Rattle.gds_library.specs.inside.Shown.{shown, shown_at, done}
+use Rattle.gds_library.specs.inside.Holds.{Holds, HoldsWith, HasRead}
+use Rattle.gds_library.specs.inside.Refuses.{Refuses, RefusesAt}
+use Rattle.gds_library.specs.Ends.{is_read_kind}
+use Rattle.gds_library.specs.declared.fault.GdsFault.{GdsFault}
+use Rattle.lvl_refusal.specs.Refused.{Says}
+use Rattle.lvl_refusal.specs.declared.Refusal.{Refusal}
+use Rattle.lvl_refusal.specs.declared.Refusal.TheVariants.{Breach}
+use Rattle.gds_library.specs.declared.fault.GdsKind.{GdsKind}
+use Rattle.gds_library.specs.declared.fault.GdsKind.TheVariants.{Record, Misplaced, Element, Name, AfterEnd, TooManyCells}
+use Rattle.gds_library.specs.declared.head.GdsHead.{GdsHead}
+use Rattle.gds_library.specs.declared.place.Place.{Place}
+use Rattle.gds_library.specs.declared.place.Place.TheVariants.{Header, BgnLib, LibName, Units, Structures, StrName, Elements, Fill}
+use Rattle.gds_library.specs.declared.builder.Builder.{Builder}
+use Rattle.gds_library.specs.declared.reading.Reading.{Reading}
+use Rattle.gds_library.proofs.Places.{leads_begins}
+use Rattle.gds_library.proofs.Elements.{reading_open, open_unwhole}
+use Rattle.gds_library.proofs.Steps.{law_fill, law_holds}
+use Rattle.gds_library.proofs.Grown.{plain}
+use Rattle.gds_library.proofs.Spellings.{a_fill, map-append, length_spelled}
+use Rattle.gds_library.proofs.Instance.{starts_same}
+use Rattle.gds_library.proofs.Readable.{law_only}
+
+-- before the place after the end something has to come
+not_ended : (p : Place) → p ≢ Fill → can_be_empty (left p) ≡ false
+not_ended Header h = refl
+not_ended BgnLib h = refl
+not_ended LibName h = refl
+not_ended Units h = refl
+not_ended Structures h = refl
+not_ended StrName h = refl
+not_ended Elements h = refl
+not_ended Fill h = absurd (h refl)
+
+with_unwhole : (o : Option OpenElement) (b : Builder) (rs : List Rec) → HoldsWith o b rs → b.place ≢ Fill → IsWhole rs → ⊥
+with_unwhole None b rs h go w = leads_unwhole a_library (kinds rs) (left b.place) (not_ended b.place go) h.leads w
+with_unwhole (Some e) b rs h go w =
+    open_unwhole (kinds h.before) (kinds h.piece) (subst (λ p. LeadsTo a_library (kinds h.before) (left p)) h.at h.holds.leads) (reading_open e h.piece h.reading)
+    (subst (IsWord a_library) (ap kinds h.parts ∙ map-append h.before h.piece) w)
+
+-- what was read is no whole library before the place after its end
+has_unwhole : (x : Reading) (rs : List Rec) → HasRead x rs → x.builder.place ≢ Fill → IsWhole rs → ⊥
+has_unwhole x rs h go w = with_unwhole x.element x.builder rs h go w
+
+holds_whole : (b : Builder) (rs : List Rec) → Holds b rs → b.place ≡ Fill → IsWhole rs
+holds_whole b rs h e = leads_whole a_library (kinds rs) (left Fill) (subst (λ p. LeadsTo a_library (kinds rs) (left p)) e h.leads) ([], tt, refl)
+
+with_ended : (o : Option OpenElement) (b : Builder) (rs : List Rec) → HoldsWith o b rs → b.place ≡ Fill → Holds b rs
+with_ended None b rs h e = h
+with_ended (Some i) b rs h e = (let z : Elements ≡ Fill = sym h.at ∙ e in cc)
+
+-- no element is open after the end
+pub reads_end : (xs : List ℕ) (at : ℕ) (x : Reading) (was : Option (List ℕ)) → ReadTo gds xs at (HasRead x) was → x.builder.place ≡ Fill → ReadTo gds xs at (Holds x.builder) was
+reads_end xs at x was to e = record { records = to.records; front = to.front; holds = with_ended x.element x.builder to.records to.holds e; left_is = to.left_is; within = to.within }
+
+same_left : (a b : List ℕ) (was : Option (List ℕ)) → was ≡ Some a → was ≡ Some b → a ≡ b
+same_left a b was e f = (let g : Some a ≡ Some b = sym e ∙ f in cc)
+
+-- nothing was read yet
+pub holds_begin : (b : Builder) → b.place ≡ Header → shown b ≡ [] → b.version ≡ pos 0 → Holds b []
+holds_begin b p s v = record { leads = subst (λ q. LeadsTo a_library [] (left q)) (sym p) (leads_begin a_library); shown = s; version = v; units = λ z. (let y : has_units Header ≡ true = subst (λ i. has_units i ≡ true) p z in cc) }
+
+-- the record that is read begins the bytes
+abbrev starts : (room : ℕ) (ys : List ℕ) (k : ℕ) (payload : List ℕ) (s : IsSpelledAt room ys k payload) → StartsWith room ys (record_of k s.0 payload)
+starts room ys k payload s = (s.1, s.2, s.3, s.4, omega (arith, s.5, length_spelled s.1 payload k s.0 s.4), s.6)
+
+-- one record more
+pub reads_record : (xs : List ℕ) (at : ℕ) (x x' : Reading) (was left' : Option (List ℕ)) (k : ℕ) (payload : List ℕ) (to : ReadTo gds xs at (HasRead x) was) → IsSpelledAt (file_limit - at) (drop at xs) k payload
+    → ((d : ℕ) → HasRead x' (to.records ++ record_of k d payload ∷ []) × MayFollow to.records (record_of k d payload))
+    → left' ≡ Some (drop (4 + length payload) (drop at xs)) → ReadTo gds xs (at + (4 + length payload)) (HasRead x') left'
+reads_record xs at x x' was left' k payload to s takes e =
+    let long = length_spelled s.1 payload k s.0 s.4 in
+    let rest = (parts_at (drop at xs) s.1 s.2 (4 + length payload) s.6 (sym long)).1 in
+    let next = reads_on gds xs at (HasRead x) (HasRead x') was to (record_of k s.0 payload) s.1 s.2 s.6 (inl (s.3, s.4)) (takes s.0).1 (omega (arith, long, s.5)) (takes s.0).0 in
+    subst (λ i. ReadTo gds xs (at + i) (HasRead x') left') long (subst (ReadTo gds xs (at + length s.1) (HasRead x')) (ap (λ (l : List ℕ). Some l) (sym rest) ∙ sym e) next)
+
+-- the bytes that are left, in hand and in the reader
+record IsLeft (bytes : List ℕ) (hand : List ℕ) (remaining : Option (List ℕ)) : Type 0 where
+  rest : List ℕ
+  parts : bytes ≡ hand ++ rest
+  is : remaining ≡ Some rest
+
+left_parts : (bytes hand : List ℕ) (remaining : Option (List ℕ)) → prepend_known hand remaining ≡ Some bytes → IsLeft bytes hand remaining
+left_parts bytes hand remaining e = (let p = known_parts hand remaining bytes e in record { rest = p.0; parts = sym p.2; is = p.1 })
+
+same_start : (room : ℕ) (ys : List ℕ) (r s : Rec) → StartsWith room ys r → StartsWith room ys s → s ≡ r
+same_start room ys r s p q = starts_same room ys q.0 r s p q.3 (q.1, inr q.5)
+
+-- a record that begins the bytes, and breaches one rule, is all that is wrong with them
+only_record : (before : List Rec) (room : ℕ) (ys : List ℕ) (r : Rec) (k : GdsKind) → (IsWhole before → ⊥) → StartsWith room ys r → BreachesOnly before r k → (j : GdsKind) → IsWrong before room ys j → j ≡ k
+only_record before room ys r k n s only (Record f) w =
+    absurd (law_malformed room ys f w.2 w.0 r.kind r.data_type r.payload s.0 s.2 s.3 (omega (arith, s.4, length_spelled s.0 r.payload r.kind r.data_type s.3)) (s.1, inr s.5))
+only_record before room ys r k n s only AfterEnd w = absurd (n w.0)
+only_record before room ys r k n s only (Misplaced m) w = only (Misplaced m) (subst (λ (x : Rec). Breaches before x (Misplaced m)) (same_start room ys r w.1 s w.2) w.3)
+only_record before room ys r k n s only (Element m) w = only (Element m) (subst (λ (x : Rec). Breaches before x (Element m)) (same_start room ys r w.1 s w.2) w.3)
+only_record before room ys r k n s only Name w = only Name (subst (λ (x : Rec). Breaches before x Name) (same_start room ys r w.1 s w.2) w.3)
+only_record before room ys r k n s only TooManyCells w = only TooManyCells (subst (λ (x : Rec). Breaches before x TooManyCells) (same_start room ys r w.1 s w.2) w.3)
+
+-- a rule that a record breaches
+abbrev OfRecord : GdsKind → Type 0
+OfRecord (Record f) = ⊥
+OfRecord AfterEnd = ⊥
+OfRecord k = Unit {0}
+
+of_record : (before : List Rec) (r : Rec) (k : GdsKind) → Breaches before r k → OfRecord k
+of_record before r (Record f) b = b
+of_record before r AfterEnd b = b
+of_record before r (Misplaced m) b = tt
+of_record before r (Element m) b = tt
+of_record before r Name b = tt
+of_record before r TooManyCells b = tt
+
+wrong_record : (before : List Rec) (room : ℕ) (ys : List ℕ) (r : Rec) (k : GdsKind) → OfRecord k → (IsWhole before → ⊥) → StartsWith room ys r → Breaches before r k → IsWrong before room ys k
+wrong_record before room ys r (Record f) o n s b = absurd o
+wrong_record before room ys r AfterEnd o n s b = absurd o
+wrong_record before room ys r (Misplaced m) o n s b = (n, r, s, b)
+wrong_record before room ys r (Element m) o n s b = (n, r, s, b)
+wrong_record before room ys r Name o n s b = (n, r, s, b)
+wrong_record before room ys r TooManyCells o n s b = (n, r, s, b)
+
+seen_refuses : (xs : List ℕ) (at : ℕ) (rest : Option (List ℕ)) (k : GdsKind) → OfRecord k → IsSeenWrong gds xs at rest k → RefusesAt xs rest at k
+seen_refuses xs at rest (Record f) o s = absurd o
+seen_refuses xs at rest AfterEnd o s = absurd o
+seen_refuses xs at rest (Misplaced m) o s = s
+seen_refuses xs at rest (Element m) o s = s
+seen_refuses xs at rest Name o s = s
+seen_refuses xs at rest TooManyCells o s = s
+
+-- where a record is refused
+pub reads_refused : (xs : List ℕ) (at : ℕ) (x : Reading) (was remaining : Option (List ℕ)) (k : ℕ) (payload hand : List ℕ) (f : GdsKind) (to : ReadTo gds xs at (HasRead x) was) → x.builder.place ≢ Fill
+    → IsSpelledAt (file_limit - at) (drop at xs) k payload → ((d : ℕ) → Breaches to.records (record_of k d payload) f × BreachesOnly to.records (record_of k d payload) f)
+    → prepend_known hand remaining ≡ Some (drop (4 + length payload) (drop at xs)) → RefusesAt xs remaining at f
+reads_refused xs at x was remaining k payload hand f to go s breaches e =
+    let room = file_limit - at in
+    let r : Rec = record_of k s.0 payload in
+    let b = breaches s.0 in
+    let o = of_record to.records r f b.0 in
+    let n = has_unwhole x to.records to.holds go in
+    let long = length_spelled s.1 payload k s.0 s.4 in
+    let rest = (parts_at (drop at xs) s.1 s.2 (4 + length payload) s.6 (sym long)).1 in
+    let l = left_parts s.2 hand remaining (e ∙ ap (λ (i : List ℕ). Some i) rest) in
+    let begins : StartsWith room (drop at xs) r = starts room (drop at xs) k payload s in
+    seen_refuses xs at remaining f o (record {
+      within = to.within;
+      records = to.records;
+      front = to.front;
+      seen = s.1 ++ hand;
+      rest = l.rest;
+      parts = s.6 ∙ ap (λ i. s.1 ++ i) l.parts ∙ sym (append_assoc s.1 hand l.rest);
+      left_is = l.is;
+      wrong = λ more. wrong_record to.records room ((s.1 ++ hand) ++ more) r f o n (s.1, hand ++ more, s.3, s.4, begins.4, append_assoc s.1 hand more) b.0;
+      only = only_record to.records room (drop at xs) r f n begins b.1;
+    })
+
+same_fault : (f g : RecordFault) (s : Result ℕ RecordFault) → s ≡ Err f → s ≡ Err g → g ≡ f
+same_fault f g s a b = (let h : Err f ≡ Err g = sym a ∙ b in cc)
+
+no_start : (before : List Rec) (room : ℕ) (ys : List ℕ) (f : RecordFault) → step room ys ≡ Err f → f ≢ Truncated → (r : Rec) → StartsWith room ys r → ⊥
+no_start before room ys f e t r s = law_malformed room ys f e t r.kind r.data_type r.payload s.0 s.2 s.3 (omega (arith, s.4, length_spelled s.0 r.payload r.kind r.data_type s.3)) (s.1, inr s.5)
+
+-- where no record begins the bytes, that is all that is wrong with them
+only_fault : (before : List Rec) (room : ℕ) (ys : List ℕ) (f : RecordFault) → step room ys ≡ Err f → f ≢ Truncated → (IsWhole before → room ≡ 0) → (j : GdsKind) → IsWrong before room ys j → j ≡ Record f
+only_fault before room ys f e t z (Record g) w = ap (λ (i : RecordFault). Record i) (same_fault f g (step room ys) e w.2)
+only_fault before room ys f e t z AfterEnd w = absurd (omega (arith, z w.0, w.1))
+only_fault before room ys f e t z (Misplaced m) w = absurd (no_start before room ys f e t w.1 w.2)
+only_fault before room ys f e t z (Element m) w = absurd (no_start before room ys f e t w.1 w.2)
+only_fault before room ys f e t z Name w = absurd (no_start before room ys f e t w.1 w.2)
+only_fault before room ys f e t z TooManyCells w = absurd (no_start before room ys f e t w.1 w.2)
+
+-- a fault of the bytes in hand
+seen_fault : (xs : List ℕ) (at : ℕ) (Has : List Rec → Type 0) (was remaining : Option (List ℕ)) (hand : List ℕ) (f : RecordFault) (to : ReadTo gds xs at Has was) → f ≢ Truncated → f ≢ Read
+    → (IsWhole to.records → file_limit - at ≡ 0) → ((more : List ℕ) → step (file_limit - at) (hand ++ more) ≡ Err f) → prepend_known hand remaining ≡ Some (drop at xs) → IsSeenWrong gds xs at remaining (Record f)
+seen_fault xs at Has was remaining hand f to t r z said e =
+    let l = left_parts (drop at xs) hand remaining e in
+    let all : step (file_limit - at) (drop at xs) ≡ Err f = subst (λ i. step (file_limit - at) i ≡ Err f) (sym l.parts) (said l.rest) in
+    record {
+      within = to.within;
+      records = to.records;
+      front = to.front;
+      seen = hand;
+      rest = l.rest;
+      parts = l.parts;
+      left_is = l.is;
+      wrong = λ more. (t, r, said more, z);
+      only = only_fault to.records (file_limit - at) (drop at xs) f all t z;
+    }
+
+-- where the input ends before the library does
+pub reads_cut : (xs : List ℕ) (at : ℕ) (x : Reading) (was : Option (List ℕ)) → ReadTo gds xs at (HasRead x) was → x.builder.place ≢ Fill → (length (drop at xs) < 4) ⊎ IsBegun (drop at xs) → IsTruncated gds xs at
+reads_cut xs at x was to go cut = record {
+  within = to.within;
+  records = to.records;
+  front = to.front;
+  unended = has_unwhole x to.records to.holds go;
+  cut = cut;
+}
+
+-- what a fault of the records says
+pub reads_fault : (xs : List ℕ) (at : ℕ) (x : Reading) (was remaining : Option (List ℕ)) (hand : List ℕ) (f : RecordFault) → ReadTo gds xs at (HasRead x) was → x.builder.place ≢ Fill
+    → (f ≢ Truncated → f ≢ Read → (more : List ℕ) → step (file_limit - at) (hand ++ more) ≡ Err f) → (f ≡ Truncated → (length (drop at xs) < 4) ⊎ IsBegun (drop at xs))
+    → prepend_known hand remaining ≡ Some (drop at xs) → RefusesAt xs remaining at (Record f)
+reads_fault xs at x was remaining hand f to go said cut e = by f refl
+  where
+    known : f ≢ Truncated → f ≢ Read → IsSeenWrong gds xs at remaining (Record f)
+    known t r = seen_fault xs at (HasRead x) was remaining hand f to t r (λ w. absurd (has_unwhole x to.records to.holds go w)) (said t r) e
+
+    by : (g : RecordFault) → g ≡ f → RefusesAt xs remaining at (Record g)
+    by Truncated i = reads_cut xs at x was to go (cut (sym i))
+    by Read i = reads_front gds xs at (HasRead x) was to
+    by BadLength i = subst (λ (h : RecordFault). IsSeenWrong gds xs at remaining (Record h)) (sym i) (known (λ z. (let y : BadLength ≡ Truncated = i ∙ z in cc)) (λ z. (let y : BadLength ≡ Read = i ∙ z in cc)))
+    by BadDataType i = subst (λ (h : RecordFault). IsSeenWrong gds xs at remaining (Record h)) (sym i) (known (λ z. (let y : BadDataType ≡ Truncated = i ∙ z in cc)) (λ z. (let y : BadDataType ≡ Read = i ∙ z in cc)))
+    by UnknownRecord i = subst (λ (h : RecordFault). IsSeenWrong gds xs at remaining (Record h)) (sym i) (known (λ z. (let y : UnknownRecord ≡ Truncated = i ∙ z in cc)) (λ z. (let y : UnknownRecord ≡ Read = i ∙ z in cc)))
+    by TooLong i = subst (λ (h : RecordFault). IsSeenWrong gds xs at remaining (Record h)) (sym i) (known (λ z. (let y : TooLong ≡ Truncated = i ∙ z in cc)) (λ z. (let y : TooLong ≡ Read = i ∙ z in cc)))
+
+-- one zero byte more after the end
+reads_zero : (xs : List ℕ) (at : ℕ) (b : Builder) (was : Option (List ℕ)) (rest : List ℕ) → ReadTo gds xs at (Holds b) was → b.place ≡ Fill → drop at xs ≡ 0 ∷ rest → at + 1 ≤ file_limit → ReadTo gds xs (at + 1) (Holds b) (Some rest)
+reads_zero xs at b was rest to e here limit =
+    let stays : after b.place fill ≡ Some b.place = ap (λ p. after p fill) e ∙ ap (λ (p : Place). Some p) (sym e) in
+    let holds : Holds b (to.records ++ a_fill ∷ []) = law_holds b b to.records a_fill to.holds stays (sym (plain fill [] (shown b) refl refl)) (record { version = refl; units = refl }) in
+    reads_on gds xs at (Holds b) (Holds b) was to a_fill (0 ∷ []) rest here (inr (refl, refl)) (law_fill to.records (leads_begins (kinds (to.records ++ a_fill ∷ [])) b.place holds.leads)) (omega (arith, limit)) holds
+
+-- zero bytes after the end
+reads_zeros : (n : ℕ) (xs : List ℕ) (at : ℕ) (b : Builder) (was : Option (List ℕ)) (rest : List ℕ) → ReadTo gds xs at (Holds b) was → b.place ≡ Fill → drop at xs ≡ replicate n 0 ++ rest → at + n ≤ file_limit
+    → (left' : Option (List ℕ)) × ReadTo gds xs (at + n) (Holds b) left' × (drop (at + n) xs ≡ rest)
+reads_zeros zero xs at b was rest to e here limit =
+    let z : at ≡ at + 0 = omega arith in
+    (was, subst (λ i. ReadTo gds xs i (Holds b) was) z to, subst (λ i. drop i xs ≡ rest) z here)
+reads_zeros (suc n) xs at b was rest to e here limit =
+    let one = reads_zero xs at b was (replicate n 0 ++ rest) to e here (omega (arith, limit)) in
+    let more = reads_zeros n xs (at + 1) b (Some (replicate n 0 ++ rest)) rest one e (same_left (drop (at + 1) xs) (replicate n 0 ++ rest) (Some (replicate n 0 ++ rest)) one.left_is refl) (omega (arith, limit)) in
+    let z : at + 1 + n ≡ at + suc n = omega arith in
+    (more.0, subst (λ i. ReadTo gds xs i (Holds b) more.0) z more.1, subst (λ i. drop i xs ≡ rest) z more.2)
+
+-- the end of the input
+pub reads_all : (xs : List ℕ) (at : ℕ) (b : Builder) (was : Option (List ℕ)) → ReadTo gds xs at (Holds b) was → b.place ≡ Fill → drop at xs ≡ replicate (length (drop at xs)) 0 → at + length (drop at xs) ≤ file_limit
+    → IsRead xs (done b) (record { version = b.version; units = b.units })
+reads_all xs at b was to e zeros limit =
+    let more = reads_zeros (length (drop at xs)) xs at b was [] to e (zeros ∙ sym (append-nil (replicate (length (drop at xs)) 0))) limit in
+    let end = more.1 in
+    let n : at + length (drop at xs) ≡ length xs = omega (arith, length-drop at xs, to.within) in
+    let all : take (at + length (drop at xs)) xs ≡ xs = (parts_at xs xs [] (at + length (drop at xs)) (sym (append-nil xs)) n).0 in
+    let h : GdsHead = record { version = b.version; units = b.units } in
+    let spelled : SpellsLibrary xs (drawings end.records) h = record {
+      records = end.records;
+      whole = record { front = subst (λ l. IsFront gds l end.records) all end.front; whole = holds_whole b end.records end.holds e };
+      cells_are = refl;
+      head_is = ap (λ (i : ℤ). let g : GdsHead = record { version = i; units = b.units } in g) end.holds.version
+          ∙ ap (λ (i : List (List ℕ)). let g : GdsHead = record { version = short (field header end.records); units = i } in g) (end.holds.units (ap has_units e));
+    } in
+    record { cells = drawings end.records; spelled = spelled; only = λ ds g p. law_only xs (drawings end.records) ds h g spelled p; kept_as = sym (ap (λ p. shown_at p b) e) ∙ end.holds.shown }
+
+drop_zeros : (n : ℕ) (ys : List ℕ) → drop n (replicate n 0 ++ ys) ≡ ys
+drop_zeros zero ys = refl
+drop_zeros (suc n) ys = drop_zeros n ys
+
+some_hand : (hand rest ys : List ℕ) (c : ℕ) → 0 < length hand → c ∷ rest ≡ hand ++ ys → (more : List ℕ) → (tail : List ℕ) × (hand ++ more ≡ c ∷ tail)
+some_hand [] rest ys c h e more = absurd (omega (arith, h))
+some_hand (i ∷ hand) rest ys c h e more = (let same : c ≡ i = cc in (hand ++ more, ap (λ j. j ∷ (hand ++ more)) (sym same)))
+
+only_other : (before : List Rec) (room : ℕ) (ys : List ℕ) → IsWhole before → 0 < room → (j : GdsKind) → IsWrong before room ys j → j ≡ AfterEnd
+only_other before room ys w l (Record f) x = absurd (omega (arith, l, x.3 w))
+only_other before room ys w l AfterEnd x = refl
+only_other before room ys w l (Misplaced m) x = absurd (x.0 w)
+only_other before room ys w l (Element m) x = absurd (x.0 w)
+only_other before room ys w l Name x = absurd (x.0 w)
+only_other before room ys w l TooManyCells x = absurd (x.0 w)
+
+-- another byte after the end
+pub reads_other : (xs : List ℕ) (at n : ℕ) (b : Builder) (was remaining : Option (List ℕ)) (c : ℕ) (rest hand : List ℕ) → ReadTo gds xs at (Holds b) was → b.place ≡ Fill → drop at xs ≡ replicate n 0 ++ (c ∷ rest) → c ≢ 0 → n < file_limit - at
+    → 0 < length hand → prepend_known hand remaining ≡ Some (drop n (drop at xs)) → RefusesAt xs remaining (at + n) AfterEnd
+reads_other xs at n b was remaining c rest hand to e here other room some known =
+    let more = reads_zeros n xs at b was (c ∷ rest) to e here (omega (arith, room)) in
+    let end = more.1 in
+    let w = holds_whole b end.records end.holds e in
+    let after : drop n (drop at xs) ≡ c ∷ rest = ap (drop n) here ∙ drop_zeros n (c ∷ rest) in
+    let l = left_parts (c ∷ rest) hand remaining (known ∙ ap (λ (i : List ℕ). Some i) after) in
+    let space : 0 < file_limit - (at + n) = omega (arith, room) in
+    record {
+      within = end.within;
+      records = end.records;
+      front = end.front;
+      seen = hand;
+      rest = l.rest;
+      parts = more.2 ∙ l.parts;
+      left_is = l.is;
+      wrong = λ z. (let t = some_hand hand rest l.rest c some l.parts z in (w, space, c, t.0, other, t.1));
+      only = only_other end.records (file_limit - (at + n)) (drop (at + n) xs) w space;
+    }
+
+-- where the input passes the limit after the end
+pub reads_too_long : (xs : List ℕ) (at : ℕ) (b : Builder) (was remaining : Option (List ℕ)) (rest hand : List ℕ) → ReadTo gds xs at (Holds b) was → b.place ≡ Fill → at ≤ file_limit → drop at xs ≡ replicate (file_limit - at) 0 ++ rest
+    → ((more : List ℕ) → step (file_limit - (at + (file_limit - at))) (hand ++ more) ≡ Err TooLong) → prepend_known hand remaining ≡ Some (drop (file_limit - at) (drop at xs)) → RefusesAt xs remaining (at + (file_limit - at)) (Record TooLong)
+reads_too_long xs at b was remaining rest hand to e limit here said known =
+    let n = file_limit - at in
+    let more = reads_zeros n xs at b was rest to e here (omega (arith, limit)) in
+    let after : drop n (drop at xs) ≡ drop (at + n) xs = ap (drop n) here ∙ drop_zeros n rest ∙ sym more.2 in
+    seen_fault xs (at + n) (Holds b) more.0 remaining hand TooLong more.1 (λ z. cc) (λ z. cc) (λ w. omega (arith, limit)) said (known ∙ ap (λ (i : List ℕ). Some i) after)
+
+-- where the reader failed after the end
+pub reads_failed : (xs : List ℕ) (at n : ℕ) (b : Builder) (was : Option (List ℕ)) (rest : List ℕ) → ReadTo gds xs at (Holds b) was → b.place ≡ Fill → drop at xs ≡ replicate n 0 ++ rest → n ≤ file_limit - at → at ≤ file_limit → IsFrontAt gds xs (at + n)
+reads_failed xs at n b was rest to e here room limit =
+    let more = reads_zeros n xs at b was rest to e here (omega (arith, room, limit)) in
+    reads_front gds xs (at + n) (Holds b) more.0 more.1
+
+-- a rule that a record breaches is no failed read
+pub breach_no_read : (before : List Rec) (r : Rec) (k : GdsKind) → Breaches before r k → is_read_kind k ≡ false
+breach_no_read before r (Record f) b = absurd b
+breach_no_read before r other b = refl
+
+-- a refusal by a fault and its offset
+pub refuses_by : (xs : List ℕ) (rest : Option (List ℕ)) (e : Refusal GdsFault) (offset at : ℕ) (k : GdsKind) → e ≡ Breach (record { offset = offset; kind = k }) → offset ≡ at → RefusesAt xs rest at k → Says e (Refuses xs rest)
+refuses_by xs rest e offset at k h o x = subst (λ (i : Refusal GdsFault). Says i (Refuses xs rest)) (sym h) (subst (λ i. RefusesAt xs rest i k) (sym o) x)
+
+-- what a byte after the end says, once `tail` has answered it
+pub reads_after : (xs : List ℕ) (at n : ℕ) (b : Builder) (was remaining : Option (List ℕ)) (c : ℕ) (rest hand : List ℕ) → ReadTo gds xs at (Holds b) was → b.place ≡ Fill → drop at xs ≡ replicate n 0 ++ (c ∷ rest) → c ≢ 0 → n < file_limit - at
+    → 0 < length hand → ((ys : List ℕ) → was ≡ Some ys → prepend_known hand remaining ≡ Some (drop n ys)) → RefusesAt xs remaining (at + n) AfterEnd
+reads_after xs at n b was remaining c rest hand to e here other room some left = reads_other xs at n b was remaining c rest hand to e here other room some (left (drop at xs) to.left_is)
+
+-- what a fault after the end says
+pub reads_tail : (xs : List ℕ) (at new : ℕ) (b : Builder) (was remaining : Option (List ℕ)) (hand : List ℕ) (f : RecordFault) → ReadTo gds xs at (Holds b) was → b.place ≡ Fill → at ≤ file_limit
+    → AnswersTail (Err (Fault f)) at new (file_limit - at) (drop at xs) → Decides f (file_limit - new) hand → ((ys : List ℕ) → was ≡ Some ys → prepend_known hand remaining ≡ Some (drop (new - at) ys)) → RefusesAt xs remaining new (Record f)
+reads_tail xs at new b was remaining hand TooLong to e limit x said left =
+    let n : new - at ≡ file_limit - at = omega (arith, x.1) in
+    subst (λ i. RefusesAt xs remaining i (Record TooLong)) (sym x.1)
+    (reads_too_long xs at b was remaining x.0.0 hand to e limit x.0.2 (subst (λ i. (more : List ℕ) → step (file_limit - i) (hand ++ more) ≡ Err TooLong) x.1 (said (λ z. cc) (λ z. cc)))
+    (left (drop at xs) to.left_is ∙ ap (λ i. Some (drop i (drop at xs))) n))
+reads_tail xs at new b was remaining hand Read to e limit x said left =
+    subst (IsFrontAt gds xs) (sym x.4) (reads_failed xs at x.0 b was x.1 to e x.3 x.2 limit)
+reads_tail xs at new b was remaining hand other to e limit x said left = absurd x

@@ -1,0 +1,40 @@
+-- The rules that a record may breach.
+use Rattle.std.specs.Prelude.{◌≡◌, ℕ, ◌≤◌, List, [], ◌∷◌, ◌++◌, length}
+use Rattle.lvl_grammar.specs.Order.{IsWord, Begins}
+use Rattle.gds_elements.specs.Types.{bgnstr, strname}
+use Rattle.gds_elements.specs.Rec.{Rec, kinds, is_type, is_opener}
+use Rattle.gds_elements.specs.Values.{name}
+use Rattle.gds_elements.specs.Rules.{IsName, IsMisplacedAs, ValueBreaches}
+use Rattle.gds_library.specs.Order.{a_library}
+use Rattle.gds_library.specs.Rec.{pieces, last_piece}
+use Rattle.gds_library.specs.declared.fault.GdsKind.{GdsKind}
+use Rattle.gds_library.specs.declared.fault.GdsKind.TheVariants.{Record, Misplaced, Element, Name, AfterEnd, TooManyCells}
+
+-- the greatest number of cells
+abbrev pub cell_limit : ℕ
+cell_limit = 1048576
+
+-- the records are a whole library
+abbrev pub IsWhole : List Rec → Type 0
+IsWhole rs = IsWord a_library (kinds rs)
+
+-- the record may come after the others
+abbrev pub InOrder : List Rec → Rec → Type 0
+InOrder before r = Begins a_library (kinds (before ++ r ∷ []))
+
+-- the record breaches the rule: it may not come there, or what it says, after the records of its element, or of the library, may not
+abbrev pub Breaches : List Rec → Rec → GdsKind → Type 0
+Breaches before r (Record f) = ⊥
+Breaches before r (Misplaced m) = IsMisplacedAs (InOrder before r) r m
+Breaches before r (Element k) = InOrder before r × ValueBreaches (last_piece is_opener before) r k
+Breaches before r Name = InOrder before r × (r.kind ≡ strname) × ¬ IsName (name r.payload)
+Breaches before r AfterEnd = ⊥
+Breaches before r TooManyCells = InOrder before r × (r.kind ≡ bgnstr) × (cell_limit ≤ length (pieces (is_type bgnstr) before))
+
+-- it breaches no other rule
+abbrev pub BreachesOnly : List Rec → Rec → GdsKind → Type 0
+BreachesOnly before r k = (j : GdsKind) → Breaches before r j → j ≡ k
+
+-- the record may follow the others: it is in order, and breaches no rule
+abbrev pub MayFollow : List Rec → Rec → Type 0
+MayFollow before r = InOrder before r × ((k : GdsKind) → Breaches before r k → ⊥)

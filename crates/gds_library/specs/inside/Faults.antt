@@ -1,0 +1,42 @@
+-- Why a record is refused outside of elements.
+use Rattle.std.specs.Prelude.{◌≡◌, ◌≢◌, ℕ, ◌<◌, ◌≤◌, List, length, None}
+use Rattle.gds_elements.specs.Types.{header, units, bgnstr, strname}
+use Rattle.gds_elements.specs.Values.{name}
+use Rattle.gds_elements.specs.Rules.{IsName}
+use Rattle.gds_elements.specs.Misplaced.{IsMisplacement}
+use Rattle.gds_elements.specs.declared.fault.ElementFault.{ElementFault}
+use Rattle.gds_elements.specs.declared.fault.ElementFault.TheVariants.{Misplaced as MisplacedInElement, Rule}
+use Rattle.lvl_refusal.specs.declared.Refusal.{Refusal}
+use Rattle.lvl_refusal.specs.declared.Refusal.TheVariants.{Breach, OutOfMemory}
+use Rattle.gds_library.specs.Rules.{cell_limit}
+use Rattle.gds_library.specs.inside.Place.{after}
+use Rattle.gds_library.specs.declared.fault.GdsKind.{GdsKind}
+use Rattle.gds_library.specs.declared.fault.GdsKind.TheVariants.{Misplaced, Element, Name, TooManyCells}
+use Rattle.gds_library.specs.declared.place.Place.{Place}
+
+-- a type below 60, and the payload of a number has that number's length
+pub record IsFormed (k : ℕ) (payload : List ℕ) : Type 0 where
+  pub known : k < 60
+  pub header : k ≡ header → length payload ≡ 2
+  pub units : k ≡ units → length payload ≡ 16
+
+-- a fault of an element, as one of a library
+abbrev pub lifted : ElementFault → GdsKind
+lifted (MisplacedInElement m) = Misplaced m
+lifted (Rule k) = Element k
+
+abbrev pub lifted_refusal : Refusal ElementFault → Refusal GdsKind
+lifted_refusal (Breach f) = Breach (lifted f)
+lifted_refusal OutOfMemory = OutOfMemory
+
+-- at a place, after so many cells, the first rule that a record breaches
+abbrev pub IsFault : Place → ℕ → ℕ → List ℕ → GdsKind → Type 0
+IsFault p n k payload (Misplaced m) = IsMisplacement k m × (after p k ≡ None)
+IsFault p n k payload Name = (k ≡ strname) × (after p k ≢ None) × ¬ IsName (name payload)
+IsFault p n k payload TooManyCells = (k ≡ bgnstr) × (after p k ≢ None) × (cell_limit ≤ n)
+IsFault p n k payload f = ⊥
+
+-- a record may come there
+pub record IsAllowed (n k : ℕ) (payload : List ℕ) : Type 0 where
+  pub name : k ≡ strname → IsName (name payload)
+  pub cells : k ≡ bgnstr → n < cell_limit

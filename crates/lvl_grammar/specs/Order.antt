@@ -1,0 +1,43 @@
+-- The order of records: an expression over record types, and the words that it has.
+use Rattle.std.specs.Prelude.{◌≡◌, ◌==◌, ◌||◌, Bool, false, ℕ, ◌⊎◌, List, [], ◌∷◌, ◌++◌}
+use Rattle.std.specs.List.{AllByRecursion, flat_map}
+
+-- record types are numbers
+pub data Order : Type 0 where
+  nothing : Order
+  one : ℕ → Order
+  next : Order → Order → Order
+  either : Order → Order → Order
+  many : Order → Order
+
+infixr 10 ◌then◌
+abbrev pub ◌then◌ : Order → Order → Order
+a then b = next a b
+
+infixr 9 ◌or◌
+abbrev pub ◌or◌ : Order → Order → Order
+a or b = either a b
+
+-- it may be there or not
+abbrev pub maybe : Order → Order
+maybe a = either a nothing
+
+-- a list of types is a word of an order
+abbrev pub IsWord : Order → List ℕ → Type 0
+IsWord nothing w = w ≡ []
+IsWord (one k) w = w ≡ k ∷ []
+IsWord (next a b) w = (u v : List ℕ) × IsWord a u × IsWord b v × (w ≡ u ++ v)
+IsWord (either a b) w = IsWord a w ⊎ IsWord b w
+IsWord (many a) w = (ws : List (List ℕ)) × AllByRecursion (IsWord a) ws × (w ≡ flat_map (λ u. u) ws)
+
+-- a list of types begins a word of an order
+abbrev pub Begins : Order → List ℕ → Type 0
+Begins a w = (more : List ℕ) × IsWord a (w ++ more)
+
+-- a type is somewhere in an order
+abbrev pub has : Order → ℕ → Bool
+has nothing k = false
+has (one j) k = k == j
+has (next a b) k = has a k || has b k
+has (either a b) k = has a k || has b k
+has (many a) k = has a k

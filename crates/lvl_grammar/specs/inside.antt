@@ -1,0 +1,2 @@
+pub mod ReadTo
+pub mod After
