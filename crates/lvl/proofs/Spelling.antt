@@ -1,13 +1,20 @@
 -- What a reader's answer says of what the bytes spell, in any format.
-use Rattle.std.proofs.Common.{◌≡◌, ◌∙◌, List, ℕ, ap, sym}
+use Rattle.std.proofs.Common.{◌≡◌, ◌∙◌, List, ℕ, ap, sym, subst}
 use Rattle.lvl_path.specs.Figure.{figure_rings}
 use Rattle.lvl_cells.specs.Cells.{PlainCell, Rings, kept}
-use Rattle.gds_library.specs.Front.{IsRead}
+use Rattle.lvl_refusal.specs.declared.Refusal.{Refusal}
+use Rattle.lvl_refusal.specs.declared.Refusal.TheVariants.{Breach}
+use Rattle.lvl_refusal.specs.Refused.{Says}
+use Rattle.gds_library.specs.Front.{IsRead, SpellsNone}
+use Rattle.gds_library.specs.Ends.{Tells, IsExcused}
+use Rattle.gds_library.specs.declared.fault.GdsFault.{GdsFault}
 use Rattle.gds_library.specs.declared.head.GdsHead.{GdsHead}
 use Rattle.lvl.specs.Drawing.{Drawing}
 use Rattle.lvl.specs.declared.layout.Head.{Head}
 use Rattle.lvl.specs.declared.layout.Head.TheVariants.{Gds}
+use Rattle.lvl.specs.declared.layout.FileFault.TheVariants.{Gds as GdsFile}
 use Rattle.lvl.specs.Layouts.{Spells, IsLayoutOf}
+use Rattle.lvl.specs.Sides.{IsFileFault, SpellsNothing}
 
 alone : (xs : List ℕ) (found : List (PlainCell Rings)) (h : GdsHead) → IsRead xs found h → (others : List Drawing) (head : Head) → Spells xs others head → (found ≡ kept figure_rings others) × (Gds h ≡ head)
 alone xs found h read others (Gds g) s = let p = read.only others g s in (read.kept_as ∙ ap (kept figure_rings) (sym p.0), ap Gds (sym p.1))
@@ -18,4 +25,18 @@ layout_read xs found h read = record {
   spelled = read.spelled;
   kept_as = read.kept_as;
   alone = alone xs found h read;
+}
+
+nothing_spelled : (xs : List ℕ) → SpellsNone xs → SpellsNothing xs
+nothing_spelled xs none cells (Gds h) s = none cells h s
+
+kept_in_breach : (xs : List ℕ) (r : Refusal GdsFault) (fault : GdsFault) → r ≡ Breach fault → Says r (λ f. (¬ IsExcused f) → SpellsNone xs) → (¬ IsExcused fault) → SpellsNone xs
+kept_in_breach xs r fault is none = subst (λ (x : Refusal GdsFault). Says x (λ f. (¬ IsExcused f) → SpellsNone xs)) is none
+
+-- what a refusal of a GDSII stream says of the file
+pub file_fault : (xs : List ℕ) (r : Refusal GdsFault) (fault : GdsFault) → r ≡ Breach fault → Says r (Tells xs) → Says r (λ f. (¬ IsExcused f) → SpellsNone xs)
+    → IsFileFault xs (GdsFile fault)
+file_fault xs r fault is told none = record {
+  told = subst (λ (x : Refusal GdsFault). Says x (Tells xs)) is told;
+  nothing = λ n. nothing_spelled xs (kept_in_breach xs r fault is none n);
 }

@@ -20,6 +20,4 @@ mod shown;
 mod side;
 #[cfg(test)]
 mod tests;
-#[cfg(test)]
-mod tests;
 mod verdict;

@@ -1,5 +1,10 @@
-use Rattle.lvl.proofs.Spelling.{layout_read}
+use Rattle.lvl.proofs.Spelling.{layout_read, file_fault}
 use Rattle.lvl.proofs.layout.read_layout.Goals as goal
 
 pub returns-in-Ok-clause-spelled : goal.returns-in-Ok-clause-spelled
 returns-in-Ok-clause-spelled g c xs known = layout_read xs c.in-Ok.library c.in-Ok.head (c.in-Ok.ensures.spelled xs known)
+
+pub returns-in-Err-Breach-clause-refused : goal.returns-in-Err-Breach-clause-refused
+returns-in-Err-Breach-clause-refused g c xs known =
+    let e = c.in-Err-Breach in
+    file_fault xs e.field-0 e.fault e.field-0-is (e.ensures.refused xs known) (e.ensures.none xs known)

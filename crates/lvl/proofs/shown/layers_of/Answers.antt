@@ -14,7 +14,7 @@ loop-layer-preserved c =
     let place : c.len.result ≡ length layers = c.len.ensures ∙ c.loop-layer.layers.ok.0 in
     let at : slice_get (map (λ (s : PlainSheet). s.layer) flat) (length layers) ≡ Some c.in-Some.layer =
     ap (slice_get _) (sym place) ∙ sym c.in-Some.ensures.layer in
-    let more = one_more flat layers (length layers) c.in-Some.layer _ c.in-Some.ensures.in_order.sorted so_far.1 at refl (ap length c.rings-rings.ensures) in
+    let more = one_more flat layers (length layers) c.in-Some.layer _ c.in-Some.ensures.in_order.sorted so_far.1 at refl (c.len-rings.ensures ∙ ap length c.rings.ensures) in
     let items = c.in_ok-push.ensures.items in
     let longer : length c.push.new.self.items ≡ length layers + 1 = ap length items ∙ length_push layers _ in
     (omega (arith, longer, more.0), items ∙ more.1 ∙ ap (λ n. map shown_layer (take n flat)) (sym longer))
