@@ -14,7 +14,8 @@ use Rattle.gds_elements.proofs.Fields.{last_there, field-snoc}
 use Rattle.gds_library.specs.Drawn.{KeptShape, KeptCell}
 use Rattle.gds_library.specs.Rec.{pieces}
 use Rattle.gds_library.specs.Values.{drawing, drawings}
-use Rattle.gds_library.specs.inside.Shown.{on_last, grown, grown_cell, no_cell, with_drawn}
+use Rattle.gds_library.specs.inside.Shown.{on_last, grown, grown_cell, with_drawn}
+use Rattle.lvl_cells.specs.Building.{no_cell}
 use Rattle.gds_library.proofs.Outside.{IsOutside}
 use Rattle.gds_library.proofs.Elements.{opens_none}
 use Rattle.gds_library.proofs.Pieces.{IsPiece, map-snoc, map_on_last, pieces-snoc, opener_piece, structure_piece, field_past, piece_lacks, if_not}

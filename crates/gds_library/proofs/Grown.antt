@@ -1,14 +1,15 @@
 -- What one record more does to what a builder shows.
-use Rattle.std.proofs.Common.{◌≡◌, ◌==◌, ℕ, Bool, true, false, if◌then◌else◌, List, [], ◌∷◌, ◌++◌, Some, None, refl, sym, ◌∙◌, subst}
+use Rattle.std.proofs.Common.{◌≡◌, ◌==◌, ℕ, Bool, true, false, if◌then◌else◌, List, [], ◌∷◌, ◌++◌, Some, None, refl, sym, ap, ◌∙◌, subst}
 use Rattle.std.specs.Prelude.{Option}
 use Rattle.gds_elements.specs.Types.{header, bgnlib, libname, units, endlib, bgnstr, strname, endstr}
 use Rattle.gds_elements.specs.Values.{name}
-use Rattle.gds_elements.specs.Reading.{shapes_in, references_in}
-use Rattle.gds_elements.specs.declared.element.Drawn.{Drawn}
 use Rattle.gds_library.specs.Types.{fill}
-use Rattle.gds_library.specs.Drawn.{KeptCell}
+use Rattle.gds_library.specs.Drawn.{KeptShape, KeptCell}
+use Rattle.lvl_cells.specs.Cells.{PlainReference}
+use Rattle.lvl_cells.specs.Building.{no_cell, with_shape, with_reference}
+use Rattle.std.proofs.lemmas.List.{append-nil}
 use Rattle.gds_library.specs.inside.Place.{after}
-use Rattle.gds_library.specs.inside.Shown.{on_last, grown, grown_cell, no_cell, with_drawn, shown_at, done, open_cell}
+use Rattle.gds_library.specs.inside.Shown.{on_last, grown, grown_cell, with_drawn, shown_at, done, open_cell}
 use Rattle.gds_library.specs.declared.place.Place.{Place}
 use Rattle.gds_library.specs.declared.place.Place.TheVariants.{Header, BgnLib, LibName, Units, Structures, StrName, Elements, Fill}
 use Rattle.gds_library.specs.declared.builder.Builder.{Builder}
@@ -21,7 +22,7 @@ plain_cell k p c s = rw s refl
 pub plain : (k : ℕ) (p : List ℕ) (cs : List KeptCell) → k == bgnstr ≡ false → k == strname ≡ false → grown k p cs ≡ cs
 plain k p cs n s = rw n (on_last-id (grown_cell k p) cs (λ c. plain_cell k p c s))
 
-pub shown_header : (p q : Place) (b b' : Builder) (payload : List ℕ) → after p header ≡ Some q → b'.cells.items ≡ b.cells.items → shown_at q b' ≡ grown header payload (shown_at p b)
+pub shown_header : (p q : Place) (b b' : Builder) (payload : List ℕ) → after p header ≡ Some q → b'.cells ≡ b.cells → shown_at q b' ≡ grown header payload (shown_at p b)
 shown_header Header q b b' payload e c = (let z : q ≡ BgnLib = cc in rw (z, c) (sym (plain header payload (done b) refl refl)))
 shown_header BgnLib q b b' payload e c = cc
 shown_header LibName q b b' payload e c = cc
@@ -31,7 +32,7 @@ shown_header StrName q b b' payload e c = cc
 shown_header Elements q b b' payload e c = cc
 shown_header Fill q b b' payload e c = cc
 
-pub shown_units : (p q : Place) (b b' : Builder) (payload : List ℕ) → after p units ≡ Some q → b'.cells.items ≡ b.cells.items → shown_at q b' ≡ grown units payload (shown_at p b)
+pub shown_units : (p q : Place) (b b' : Builder) (payload : List ℕ) → after p units ≡ Some q → b'.cells ≡ b.cells → shown_at q b' ≡ grown units payload (shown_at p b)
 shown_units Header q b b' payload e c = cc
 shown_units BgnLib q b b' payload e c = cc
 shown_units LibName q b b' payload e c = cc
@@ -41,7 +42,7 @@ shown_units StrName q b b' payload e c = cc
 shown_units Elements q b b' payload e c = cc
 shown_units Fill q b b' payload e c = cc
 
-pub shown_bgnstr : (p q : Place) (b b' : Builder) (payload : List ℕ) → after p bgnstr ≡ Some q → b'.cells.items ≡ b.cells.items → shown_at q b' ≡ grown bgnstr payload (shown_at p b)
+pub shown_bgnstr : (p q : Place) (b b' : Builder) (payload : List ℕ) → after p bgnstr ≡ Some q → b'.cells ≡ b.cells → shown_at q b' ≡ grown bgnstr payload (shown_at p b)
 shown_bgnstr Header q b b' payload e c = cc
 shown_bgnstr BgnLib q b b' payload e c = cc
 shown_bgnstr LibName q b b' payload e c = cc
@@ -51,17 +52,17 @@ shown_bgnstr StrName q b b' payload e c = cc
 shown_bgnstr Elements q b b' payload e c = cc
 shown_bgnstr Fill q b b' payload e c = cc
 
-pub shown_strname : (p q : Place) (b b' : Builder) (payload : List ℕ) → after p strname ≡ Some q → b'.cells.items ≡ b.cells.items → b'.name.items ≡ name payload → b'.shapes.items ≡ [] → b'.references.items ≡ [] → shown_at q b' ≡ grown strname payload (shown_at p b)
-shown_strname Header q b b' payload e c n h r = cc
-shown_strname BgnLib q b b' payload e c n h r = cc
-shown_strname LibName q b b' payload e c n h r = cc
-shown_strname Units q b b' payload e c n h r = cc
-shown_strname Structures q b b' payload e c n h r = cc
-shown_strname StrName q b b' payload e c n h r = (let z : q ≡ Elements = cc in rw (z, c, n, h, r) (sym (on_last-append (grown_cell strname payload) (done b) no_cell)))
-shown_strname Elements q b b' payload e c n h r = cc
-shown_strname Fill q b b' payload e c n h r = cc
+pub shown_strname : (p q : Place) (b b' : Builder) (payload : List ℕ) → after p strname ≡ Some q → b'.cells ≡ record { cells = b.cells.cells; current = record { name = name payload; shapes = []; references = [] } } → shown_at q b' ≡ grown strname payload (shown_at p b)
+shown_strname Header q b b' payload e c = cc
+shown_strname BgnLib q b b' payload e c = cc
+shown_strname LibName q b b' payload e c = cc
+shown_strname Units q b b' payload e c = cc
+shown_strname Structures q b b' payload e c = cc
+shown_strname StrName q b b' payload e c = (let z : q ≡ Elements = cc in rw (z, c) (sym (on_last-append (grown_cell strname payload) (done b) no_cell)))
+shown_strname Elements q b b' payload e c = cc
+shown_strname Fill q b b' payload e c = cc
 
-pub shown_endstr : (p q : Place) (b b' : Builder) (payload : List ℕ) → after p endstr ≡ Some q → b'.cells.items ≡ done b ++ open_cell b ∷ [] → shown_at q b' ≡ grown endstr payload (shown_at p b)
+pub shown_endstr : (p q : Place) (b b' : Builder) (payload : List ℕ) → after p endstr ≡ Some q → b'.cells.cells ≡ done b ++ open_cell b ∷ [] → shown_at q b' ≡ grown endstr payload (shown_at p b)
 shown_endstr Header q b b' payload e c = cc
 shown_endstr BgnLib q b b' payload e c = cc
 shown_endstr LibName q b b' payload e c = cc
@@ -120,9 +121,23 @@ shown_place StrName r b = refl
 shown_place Elements r b = refl
 shown_place Fill r b = refl
 
--- what an element draws stands last in the open cell
-pub shown_drawn : (p : Place) (b b' : Builder) (d : Drawn) → p ≡ Elements → b'.cells.items ≡ b.cells.items → b'.name.items ≡ b.name.items
-    → b'.shapes.items ≡ b.shapes.items ++ shapes_in d → b'.references.items ≡ b.references.items ++ references_in d
-    → shown_at p b' ≡ on_last (with_drawn (shapes_in d) (references_in d)) (shown_at p b)
-shown_drawn p b b' d e c n s r =
-    rw (e, c, n, s, r) (sym (on_last-append (with_drawn (shapes_in d) (references_in d)) (done b) (open_cell b)))
+-- what an element draws is last in the open cell
+pub shown_drawn : (p : Place) (b b' : Builder) (shapes : List KeptShape) (references : List PlainReference) → p ≡ Elements → b'.cells ≡ record { cells = b.cells.cells; current = with_drawn shapes references b.cells.current }
+    → shown_at p b' ≡ on_last (with_drawn shapes references) (shown_at p b)
+shown_drawn p b b' shapes references e c = rw (e, c) (sym (on_last-append (with_drawn shapes references) (done b) (open_cell b)))
+
+cell_of : List ℕ → List KeptShape → List PlainReference → KeptCell
+cell_of n s r = record { name = n; shapes = s; references = r }
+
+-- one shape more, one reference more, and nothing
+pub one_shape : (c : KeptCell) (s : KeptShape) → with_shape c s ≡ with_drawn (s ∷ []) [] c
+unfolding cell_of
+one_shape c s = ap (λ r. cell_of c.name (c.shapes ++ s ∷ []) r) (sym (append-nil c.references))
+
+pub one_reference : (c : KeptCell) (r : PlainReference) → with_reference c r ≡ with_drawn [] (r ∷ []) c
+unfolding cell_of
+one_reference c r = ap (λ s. cell_of c.name s (c.references ++ r ∷ [])) (sym (append-nil c.shapes))
+
+pub no_drawing : (c : KeptCell) → c ≡ with_drawn [] [] c
+unfolding cell_of
+no_drawing c = ap (λ s. cell_of c.name s c.references) (sym (append-nil c.shapes)) ∙ ap (λ r. cell_of c.name (c.shapes ++ []) r) (sym (append-nil c.references))

@@ -40,7 +40,7 @@ pub kept_many : (rs : List Rec) → length (kept figure_rings (drawings rs)) ≡
 kept_many rs = length-map (drawn figure_rings) (drawings rs) ∙ length-map drawing (pieces (is_type bgnstr) rs)
 
 -- as many cells are shown as were read, and one more where one is open
-shown_many : (p : Place) (b : Builder) → length b.cells.items ≤ length (shown_at p b)
+shown_many : (p : Place) (b : Builder) → length b.cells.cells ≤ length (shown_at p b)
 shown_many Header b = omega arith
 shown_many BgnLib b = omega arith
 shown_many LibName b = omega arith
@@ -51,7 +51,7 @@ shown_many Elements b = omega (arith, length-append {A = KeptCell})
 shown_many Fill b = omega arith
 
 -- where a cell may begin, as many are shown as were read
-pub cells_shown : (p q : Place) (b : Builder) → after p bgnstr ≡ Some q → length (shown_at p b) ≡ length b.cells.items
+pub cells_shown : (p q : Place) (b : Builder) → after p bgnstr ≡ Some q → length (shown_at p b) ≡ length b.cells.cells
 cells_shown Header q b e = cc
 cells_shown BgnLib q b e = cc
 cells_shown LibName q b e = cc
@@ -75,7 +75,7 @@ nowhere : (b : Builder) (rs : List Rec) (r : Rec) → Holds b rs → OpensNothin
 nowhere b rs r h o e g = leads_nowhere (kinds rs) b.place r.kind h.leads o e (subst (Begins a_library) (kinds-snoc rs r) g)
 
 -- what is a fault at a place breaches a rule after the records that lead there
-pub law_fault : (b : Builder) (rs : List Rec) (r : Rec) (f : GdsKind) → Holds b rs → OpensNothing b.place r.kind → r.kind < 60 → IsFault b.place (length b.cells.items) r.kind r.payload f → Breaches rs r f
+pub law_fault : (b : Builder) (rs : List Rec) (r : Rec) (f : GdsKind) → Holds b rs → OpensNothing b.place r.kind → r.kind < 60 → IsFault b.place (length b.cells.cells) r.kind r.payload f → Breaches rs r f
 law_fault b rs r (Record f) h o l x = absurd x
 law_fault b rs r (Misplaced m) h o l x = misplaced_as (InOrder rs r) r m (nowhere b rs r h o x.1) l x.0
 law_fault b rs r (Element k) h o l x = absurd x
@@ -128,7 +128,7 @@ value_only : (b : Builder) (rs : List Rec) (r : Rec) → Holds b rs → OpensNot
 value_only b rs r h o l n = value_at b rs r (after b.place r.kind) h o l refl n
 
 -- what is a fault at a place is the only one
-law_only : (b : Builder) (rs : List Rec) (r : Rec) (f : GdsKind) → Holds b rs → OpensNothing b.place r.kind → r.kind < 60 → IsFault b.place (length b.cells.items) r.kind r.payload f → BreachesOnly rs r f
+law_only : (b : Builder) (rs : List Rec) (r : Rec) (f : GdsKind) → Holds b rs → OpensNothing b.place r.kind → r.kind < 60 → IsFault b.place (length b.cells.cells) r.kind r.payload f → BreachesOnly rs r f
 law_only b rs r (Record f) h o l x = absurd x
 law_only b rs r (Misplaced m) h o l x = (let n = nowhere b rs r h o x.1 in misplaced_only rs r m n (misplaced_as (InOrder rs r) r m n l x.0))
 law_only b rs r (Element k) h o l x = absurd x
@@ -136,5 +136,5 @@ law_only b rs r Name h o l x = λ i y. elim (value_only b rs r h o l x.1 i y) [ 
 law_only b rs r AfterEnd h o l x = absurd x
 law_only b rs r TooManyCells h o l x = λ i y. elim (value_only b rs r h o l x.1 i y) [ inl z ↦ absurd (omega (arith, x.0, z.1)) | inr z ↦ z.0 ]
 
-pub says_fault : (b : Builder) (rs : List Rec) (r : Rec) (e : Refusal GdsKind) → Holds b rs → OpensNothing b.place r.kind → r.kind < 60 → Says e (IsFault b.place (length b.cells.items) r.kind r.payload) → Says e (λ k. Breaches rs r k × BreachesOnly rs r k)
-says_fault b rs r e h o l x = says_carried e (IsFault b.place (length b.cells.items) r.kind r.payload) (λ k. Breaches rs r k × BreachesOnly rs r k) (λ f y. (law_fault b rs r f h o l y, law_only b rs r f h o l y)) x
+pub says_fault : (b : Builder) (rs : List Rec) (r : Rec) (e : Refusal GdsKind) → Holds b rs → OpensNothing b.place r.kind → r.kind < 60 → Says e (IsFault b.place (length b.cells.cells) r.kind r.payload) → Says e (λ k. Breaches rs r k × BreachesOnly rs r k)
+says_fault b rs r e h o l x = says_carried e (IsFault b.place (length b.cells.cells) r.kind r.payload) (λ k. Breaches rs r k × BreachesOnly rs r k) (λ f y. (law_fault b rs r f h o l y, law_only b rs r f h o l y)) x

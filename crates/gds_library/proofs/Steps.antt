@@ -174,7 +174,7 @@ law_holds b b' rs r h e s k =
     }
 
 -- and breaches no rule
-pub law_allowed : (b b' : Builder) (rs : List Rec) (r : Rec) → Holds b rs → Holds b' (rs ++ r ∷ []) → r.kind < 60 → after b.place r.kind ≡ Some b'.place → IsAllowed (length b.cells.items) r.kind r.payload → MayFollow rs r
+pub law_allowed : (b b' : Builder) (rs : List Rec) (r : Rec) → Holds b rs → Holds b' (rs ++ r ∷ []) → r.kind < 60 → after b.place r.kind ≡ Some b'.place → IsAllowed (length b.cells.cells) r.kind r.payload → MayFollow rs r
 law_allowed b b' rs r h h' l e a =
     may_follow rs r (outside_after b.place b'.place r.kind e).value (leads_begins (kinds (rs ++ r ∷ [])) b'.place h'.leads) (λ l. known_after b.place b'.place r.kind l e) a.name
     (λ k. (let n = cells_shown b.place b'.place b (subst (λ i. after b.place i ≡ Some b'.place) k e) in omega (arith, a.cells k, n, ap (λ ds. length ds) h.shown, kept_many rs)))

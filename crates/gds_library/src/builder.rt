@@ -13,24 +13,20 @@ use crate::head::{GdsHead, two_reals};
 use crate::place::Place;
 use gds_elements::{Drawn, is_name, misplaced, name};
 use gds_records::record_type;
-use lvl_cells::{Cell, Library, Reference, Shape};
+use lvl_cells::{Builder as Cells, Library};
 use lvl_refusal::Refusal;
 use std::alloc::Global;
-use std::mem;
 
 /// The greatest number of cells.
 const MOST_CELLS: usize = 1_048_576;
 
-/// The library so far.
+/// The library so far: where the reader is in the order of records, the head, and the cells.
 #[derive(Drop)]
 pub(crate) struct Builder {
     place: Place,
     version: i16,
     units: [[u8; 8]; 2],
-    cells: Vec<Cell>,
-    name: Vec<u8>,
-    shapes: Vec<Shape>,
-    references: Vec<Reference>,
+    cells: Cells,
 }
 
 impl Builder {
@@ -45,10 +41,7 @@ impl Builder {
             place: Place::Header,
             version: 0,
             units: [[0; 8]; 2],
-            cells: Vec::new(alloc),
-            name: Vec::new(alloc),
-            shapes: Vec::new(alloc),
-            references: Vec::new(alloc),
+            cells: Cells::new(alloc),
         }
     }
 
@@ -76,11 +69,8 @@ impl Builder {
             version,
             units,
             cells,
-            name: _name,
-            shapes: _shapes,
-            references: _references,
         } = self;
-        (Library { cells }, GdsHead { version, units })
+        (cells.finish(), GdsHead { version, units })
     }
 
     /// Takes the next record, if it opens no element and breaches no rule.
@@ -91,9 +81,9 @@ impl Builder {
         payload: &[u8],
     ) -> Result<(), Refusal<GdsKind>>
         requires { IsFormed kind payload.now }
-        ensures refused { IfErr result (λ e. Says e (IsFault self.old.place (length self.old.cells.items) kind payload.now)) }
+        ensures refused { IfErr result (λ e. Says e (IsFault self.old.place (length self.old.cells.cells) kind payload.now)) }
         ensures place { OnOk result (after self.old.place kind ≡ Some self.new.place) }
-        ensures allowed { OnOk result (IsAllowed (length self.old.cells.items) kind payload.now) }
+        ensures allowed { OnOk result (IsAllowed (length self.old.cells.cells) kind payload.now) }
         ensures version { OnOk result (self.new.version ≡ (if kind == header then short payload.now else self.old.version)) }
         ensures units { OnOk result (self.new.units ≡ (if kind == units then two_reals payload.now else self.old.units)) }
         ensures shown { OnOk result (shown self.new ≡ grown kind payload.now (shown self.old)) }
@@ -114,18 +104,9 @@ impl Builder {
                 if !is_name(name) {
                     return Err(Refusal::Breach(GdsKind::Name));
                 }
-                self.name = Vec::from_slice(alloc, name)?;
-                self.shapes = Vec::new(alloc);
-                self.references = Vec::new(alloc);
+                self.cells.open(alloc, Vec::from_slice(alloc, name)?);
             }
-            record_type::ENDSTR => {
-                let cell = Cell {
-                    name: mem::replace(&mut self.name, Vec::new(alloc)),
-                    shapes: mem::replace(&mut self.shapes, Vec::new(alloc)),
-                    references: mem::replace(&mut self.references, Vec::new(alloc)),
-                };
-                self.cells.push(cell)?;
-            }
+            record_type::ENDSTR => self.cells.close(alloc)?,
             _ => {}
         }
         self.place = next;
@@ -142,8 +123,8 @@ impl Builder {
             → shown self.new ≡ on_last (with_drawn (shapes_in drawn) (references_in drawn)) (shown self.old)) }
     {
         match drawn {
-            Drawn::Shape(shape) => self.shapes.push(shape)?,
-            Drawn::Reference(reference) => self.references.push(reference)?,
+            Drawn::Shape(shape) => self.cells.add_shape(shape)?,
+            Drawn::Reference(reference) => self.cells.add_reference(reference)?,
             Drawn::Nothing => {}
         }
         Ok(())

@@ -248,7 +248,7 @@ fn cycle(rt: HostRuntime) -> Result<(), Fail> {
     let library = read(rt.alloc(), &stream)?;
     assert_eq!(rt; library.cells.len(), 3);
     match check(rt.alloc(), library, None) {
-        Err(CellFault::Cycle(names)) => {
+        Err(Refusal::Breach(CellFault::Cycle(names))) => {
             assert_eq!(rt; names.len(), 2);
             let first = names.first().ok_or("a name")?;
             assert_eq!(rt; first.as_slice(), b"A".as_slice());

@@ -1,6 +1,7 @@
 -- What a builder shows: the library so far, as it would be if the input ended there.
 use Rattle.std.specs.Prelude.{ℕ, ◌==◌, if◌then◌else◌, List, [], ◌∷◌, ◌++◌}
 use Rattle.lvl_cells.specs.Cells.{PlainReference}
+use Rattle.lvl_cells.specs.Building.{no_cell}
 use Rattle.gds_elements.specs.Types.{bgnstr, strname}
 use Rattle.gds_elements.specs.Values.{name}
 use Rattle.gds_library.specs.Drawn.{KeptShape, KeptCell}
@@ -18,9 +19,6 @@ on_last f (x ∷ y ∷ ys) = x ∷ on_last f (y ∷ ys)
 abbrev pub grown_cell : ℕ → List ℕ → KeptCell → KeptCell
 grown_cell k payload c = record { name = if k == strname then name payload else c.name; shapes = c.shapes; references = c.references }
 
-abbrev pub no_cell : KeptCell
-no_cell = record { name = []; shapes = []; references = [] }
-
 abbrev pub grown : ℕ → List ℕ → List KeptCell → List KeptCell
 grown k payload cells = if k == bgnstr then cells ++ no_cell ∷ [] else on_last (grown_cell k payload) cells
 
@@ -30,10 +28,10 @@ with_drawn shapes references c = record { name = c.name; shapes = c.shapes ++ sh
 
 -- the cells that were read whole
 abbrev pub done : Builder → List KeptCell
-done b = b.cells.items
+done b = b.cells.cells
 
 abbrev pub open_cell : Builder → KeptCell
-open_cell b = record { name = b.name.items; shapes = b.shapes.items; references = b.references.items }
+open_cell b = b.cells.current
 
 abbrev pub shown_at : Place → Builder → List KeptCell
 shown_at Header b = done b

@@ -1,8 +1,9 @@
-use Rattle.std.proofs.Common.{◌≡◌, ℕ, sym, ap, ◌∙◌, refl, rules, arith, ◌==◌, false}
+use Rattle.std.proofs.Common.{◌≡◌, ℕ, List, [], sym, ap, ◌∙◌, rules, arith, ◌==◌, false}
 use Rattle.std.proofs.lemmas.Bool.Decides.{nat_tests}
 use Rattle.gds_library.proofs.builder.Builder.take.Goals as goal
-use Rattle.gds_library.proofs.builder.Builder.take.Goals.{in-0, in-3, in-5+else-len-ge-MOST_CELLS, in-6+else-not-is_name+in_ok-self-in-6, in-7+in_ok-push-in-7, in_default-kind}
+use Rattle.gds_library.proofs.builder.Builder.take.Goals.{in-0, in-3, in-5+else-len-ge-MOST_CELLS, in-6+else-not-is_name+in_ok-from_slice-in-6, in-7+in_ok-close-in-7, in_default-kind}
 use Rattle.gds_library.proofs.Grown.{shown_endstr, shown_other, shown_place, IsOther, by_kind, shown_header, shown_units, shown_bgnstr, shown_strname}
+use Rattle.lvl_cells.specs.Building.{Built}
 use Rattle.gds_library.specs.inside.Shown.{shown_at}
 use Rattle.gds_library.specs.declared.builder.Builder.{Builder}
 use Rattle.gds_elements.specs.Types.{units, endstr, header, bgnstr, strname}
@@ -20,11 +21,12 @@ returns-clause-shown c =
     let a = sym c.after.ensures ∙ c.in-Some.is in
     let payload = c.args.payload.now in
     elim c.match-kind.branch [
-      | in-0 w ↦ by_kind _ header p q b b' payload w.in-0.is (λ e. shown_header p q b b' payload e (ap (λ (x : Builder). x.cells.items) w.self-is)) a
-      | in-3 w ↦ by_kind _ units p q b b' payload w.in-3.is (λ e. shown_units p q b b' payload e (ap (λ (x : Builder). x.cells.items) w.self-is)) a
-      | in-5+else-len-ge-MOST_CELLS w ↦ by_kind _ bgnstr p q b b' payload w.in-5.is (λ e. shown_bgnstr p q b b' payload e (ap (λ (x : Builder). x.cells.items) w.self-is)) a
-      | in-6+else-not-is_name+in_ok-self-in-6 w ↦ by_kind _ strname p q b b' payload w.in-6.is (λ e. shown_strname p q b b' payload e (ap (λ (x : Builder). x.cells.items) w.self-is) (ap (λ (x : Builder). x.name.items) w.self-is ∙ w.in_ok-self-in-6.ensures.items ∙ w.name-name.ensures) (ap (λ (x : Builder). x.shapes.items) w.self-is ∙ w.new.ensures.items) (ap (λ (x : Builder). x.references.items) w.self-is ∙ w.new-in-6.ensures.items)) a
-      | in-7+in_ok-push-in-7 w ↦ by_kind _ endstr p q b b' payload w.in-7.is (λ e. shown_endstr p q b b' payload e (ap (λ (x : Builder). x.cells.items) w.self-is ∙ w.in_ok-push-in-7.ensures.items ∙ rw (w.replace.ensures.value, w.replace-in-7.ensures.value, w.replace-in-7-2.ensures.value) refl)) a
+      | in-0 w ↦ by_kind _ header p q b b' payload w.in-0.is (λ e. shown_header p q b b' payload e (ap (λ (x : Builder). x.cells) w.self-is)) a
+      | in-3 w ↦ by_kind _ units p q b b' payload w.in-3.is (λ e. shown_units p q b b' payload e (ap (λ (x : Builder). x.cells) w.self-is)) a
+      | in-5+else-len-ge-MOST_CELLS w ↦ by_kind _ bgnstr p q b b' payload w.in-5.is (λ e. shown_bgnstr p q b b' payload e (ap (λ (x : Builder). x.cells) w.self-is)) a
+      | in-6+else-not-is_name+in_ok-from_slice-in-6 w ↦ by_kind _ strname p q b b' payload w.in-6.is (λ e. shown_strname p q b b' payload e (ap (λ (x : Builder). x.cells) w.self-is ∙ w.open.ensures
+          ∙ ap (λ (n : List ℕ). let x : Built = record { cells = b.cells.cells; current = record { name = n; shapes = []; references = [] } } in x) (w.in_ok-from_slice-in-6.ensures.items ∙ w.name-name.ensures))) a
+      | in-7+in_ok-close-in-7 w ↦ by_kind _ endstr p q b b' payload w.in-7.is (λ e. shown_endstr p q b b' payload e (ap (λ (x : Builder). x.cells.cells) w.self-is ∙ ap (λ (x : Built). x.cells) w.in_ok-close-in-7.ensures)) a
       | in_default-kind w ↦ (
           let z : IsOther c.args.kind = record { header = other _ _ (λ e. absurd (search rules)); bgnstr = other _ _ (λ e. absurd (search rules)); strname = other _ _ (λ e. absurd (search rules)); endstr = other _ _ (λ e. absurd (search rules)) } in
           let same : shown_at q b' ≡ shown_at q b = ap (λ (x : Builder). shown_at q (record x { place = q })) w.self-is ∙ shown_place q q b in
