@@ -9,7 +9,7 @@
 pub use columns::difference_by_columns;
 
 mod columns;
+mod estimate;
 mod halves;
 #[cfg(test)]
 mod tests;
-mod work;
