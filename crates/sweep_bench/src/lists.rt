@@ -17,8 +17,10 @@ pub enum Kind {
     /// Stairs of 10 steps anywhere in the field, each one polygon, against their rectangles.
     Stairs,
     /// 50,000 by 100, anywhere in the field.
+    Bars,
+    /// Wires along x, in tracks of 100.
     AlongX,
-    /// 100 by 50,000, anywhere in the field.
+    /// Wires along y, in tracks of 100.
     AlongY,
     /// So many wires along x, crossed by as many along y.
     Crossing,
@@ -90,6 +92,10 @@ fn nth_shape(kind: Kind, count: i64, number: i64, seed: u64) -> Shape {
     let y = made(seed, number, 2, 100_000);
     let row = number / 1000;
     let column = number % 1000;
+    let along = (number % 100)
+        .wrapping_mul(2200)
+        .wrapping_add(made(seed, number, 5, 200));
+    let across = (number / 100).wrapping_mul(200);
     match kind {
         Kind::Tiles => Shape {
             x: column.wrapping_mul(10),
@@ -103,17 +109,23 @@ fn nth_shape(kind: Kind, count: i64, number: i64, seed: u64) -> Shape {
             width: 7,
             height: 7,
         },
-        Kind::AlongX => Shape {
+        Kind::Bars => Shape {
             x,
             y,
             width: 50_000,
             height: 100,
         },
+        Kind::AlongX => Shape {
+            x: along,
+            y: across,
+            width: 1900,
+            height: 100,
+        },
         Kind::AlongY => Shape {
-            x,
-            y,
+            x: across,
+            y: along,
             width: 100,
-            height: 50_000,
+            height: 1900,
         },
         Kind::Crossing if number < count / 2 => Shape {
             x: 0,
@@ -258,12 +270,13 @@ fn push_polygon(
 
 impl Kind {
     /// Each of them once.
-    pub const ALL: [Kind; 10] = [
+    pub const ALL: [Kind; 11] = [
         Kind::Random,
         Kind::Tiles,
         Kind::Vias,
         Kind::Combs,
         Kind::Stairs,
+        Kind::Bars,
         Kind::AlongX,
         Kind::AlongY,
         Kind::Crossing,
@@ -279,6 +292,7 @@ impl Kind {
             "vias" => Some(Kind::Vias),
             "combs" => Some(Kind::Combs),
             "stairs" => Some(Kind::Stairs),
+            "bars" => Some(Kind::Bars),
             "along-x" => Some(Kind::AlongX),
             "along-y" => Some(Kind::AlongY),
             "crossing" => Some(Kind::Crossing),

@@ -1,8 +1,9 @@
 //! Times the comparison of two lists of rings that cover the same squares and are made up otherwise.
 //!
 //! `sweep_bench WAY KIND COUNT`, with the way `columns` or `sweep`, prints how long it took to make
-//! the lists, to compare them, and to sort their vertical edges once. Without words it compares a few
-//! small lists of each kind both ways, and prints nothing.
+//! the lists, to compare them, and to sort their vertical edges once; with a number of layers after that,
+//! for so many such pairs. Without words it compares a few small lists of each kind both ways, and
+//! prints nothing.
 #![tactic(auto)]
 
 use crate::lists::{Kind, Pair};
@@ -71,21 +72,74 @@ fn is_expected(pair: &Pair, found: Difference) -> bool {
     found.is_some() == pair.differs
 }
 
-fn time(rt: &(impl Clock + Print), alloc: Global, way: Way, kind: Kind, count: i64) -> Result<()> {
+/// What some comparisons took, in milliseconds.
+#[derive(Clone, Copy, Debug)]
+struct Times {
+    made: u128,
+    compared: u128,
+    sorted: u128,
+}
+
+impl Times {
+    const NONE: Times = Times {
+        made: 0,
+        compared: 0,
+        sorted: 0,
+    };
+
+    fn add(&mut self, other: Times) {
+        self.made = self.made.wrapping_add(other.made);
+        self.compared = self.compared.wrapping_add(other.compared);
+        self.sorted = self.sorted.wrapping_add(other.sorted);
+    }
+}
+
+/// Makes a pair of lists, compares them, and sorts their edges.
+fn time_pair(
+    rt: &impl Clock,
+    alloc: Global,
+    way: Way,
+    kind: Kind,
+    count: i64,
+    seed: u64,
+) -> Result<Times> {
     let start = Instant::now(rt)?;
-    let pair = Pair::new(alloc, kind, count, 12_345)?;
+    let pair = Pair::new(alloc, kind, count, seed)?;
     let made = start.elapsed(rt)?.as_millis();
-    let begin = Instant::now(rt)?;
+    let start = Instant::now(rt)?;
     let found = compare(alloc, way, &pair.first, &pair.second)?;
-    let compared = begin.elapsed(rt)?.as_millis();
+    let compared = start.elapsed(rt)?.as_millis();
     ensure!(is_expected(&pair, found), "the lists are not as made");
-    let begin = Instant::now(rt)?;
-    let first = sort_uprights(alloc, &pair.first)?;
-    let second = sort_uprights(alloc, &pair.second)?;
-    let sorted = begin.elapsed(rt)?.as_millis();
-    println!(rt;
-        "made in {made} ms, compared in {compared} ms, {first} and {second} edges sorted in {sorted} ms"
-    )?;
+    let start = Instant::now(rt)?;
+    sort_uprights(alloc, &pair.first)?;
+    sort_uprights(alloc, &pair.second)?;
+    let sorted = start.elapsed(rt)?.as_millis();
+    Ok(Times {
+        made,
+        compared,
+        sorted,
+    })
+}
+
+/// Times so many pairs of lists, one after another.
+fn time(
+    rt: &(impl Clock + Print),
+    alloc: Global,
+    way: Way,
+    kind: Kind,
+    count: i64,
+    layers: u64,
+) -> Result<()> {
+    let mut all = Times::NONE;
+    for layer in 0..layers {
+        all.add(time_pair(rt, alloc, way, kind, count, layer.wrapping_add(12_345))?);
+    }
+    let Times {
+        made,
+        compared,
+        sorted,
+    } = all;
+    println!(rt; "made in {made} ms, compared in {compared} ms, edges sorted in {sorted} ms")?;
     Ok(())
 }
 
@@ -117,7 +171,14 @@ fn main(rt: HostRuntime) -> Result<()> {
             let way = way_of(way.as_str()).context("columns or sweep")?;
             let kind = Kind::named(kind.as_str()).context("a kind of lists")?;
             let count = count.as_str().parse::<i64>().context("a number")?;
-            time(&rt, alloc, way, kind, count)
+            let layers = match words.next() {
+                Some(layers) => layers
+                    .as_str()
+                    .parse::<u64>()
+                    .context("a number of layers")?,
+                None => 1,
+            };
+            time(&rt, alloc, way, kind, count, layers)
         }
         _ => compare_small(alloc),
     }
