@@ -119,14 +119,13 @@ impl Sample {
         Ok(())
     }
 
+    /// Takes a ring, with the abscissa and the ordinate of one of its points: two of one ring would
+    /// often lie on one line.
     fn push(&mut self, ring: &[Point], seed: u64) -> Result<(), AllocError> {
         self.outlines.push(Outline::of(ring))?;
-        for salt in 0..2u64 {
-            let at = made_below(next_made(seed ^ salt), ring.len());
-            if let Some(point) = ring.get(at) {
-                self.abscissas.push(point.x)?;
-                self.ordinates.push(point.y)?;
-            }
+        if let Some(point) = ring.get(made_below(next_made(seed), ring.len())) {
+            self.abscissas.push(point.x)?;
+            self.ordinates.push(point.y)?;
         }
         Ok(())
     }
