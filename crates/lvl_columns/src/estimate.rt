@@ -65,7 +65,7 @@ impl Work {
 
     /// Clipping, sorting and sweeping together.
     pub(crate) fn cost(&self) -> u128 {
-        self.passes.wrapping_add(self.edges.wrapping_mul(4))
+        self.passes.wrapping_add(self.edges.wrapping_mul(2))
     }
 }
 

@@ -8,7 +8,7 @@ use lvl_grid::Rings;
 use std::alloc::{AllocError, Global};
 
 /// How many edges a column has where cutting ends, about.
-const COLUMN_EDGES: u128 = 2000;
+const COLUMN_EDGES: u128 = 500;
 
 /// Appends the abscissas strictly between the least and the greatest of all, which rise.
 fn inner(alloc: Global, first: &[i64], second: &[i64]) -> Result<Vec<i64>, AllocError> {
@@ -38,39 +38,50 @@ fn quantiles(alloc: Global, abscissas: &[i64], parts: usize) -> Result<Vec<i64>,
     Ok(cuts)
 }
 
-/// In how many columns the edges are cut in the end, about.
-fn columns_of(edges: u128) -> usize {
-    let parts = (edges / COLUMN_EDGES).clamp(2, 1024);
-    usize::try_from(parts).unwrap_or(2)
-}
-
-/// The abscissa of the middle one, if a cut there is worth while: if it makes less work, or the
-/// cuts that may follow do.
+/// The abscissa of the middle one, if a cut there is worth while.
 fn cut_at(alloc: Global, first: &Rings, second: &Rings) -> Result<Option<i64>, AllocError> {
     let first = Sample::of(alloc, first)?;
     let second = Sample::of(alloc, second)?;
     let whole = first.work(&[]).with(second.work(&[]));
-    if whole.passes < whole.edges.wrapping_mul(8) {
+    if whole.passes < whole.edges.wrapping_mul(4) {
         return Ok(None);
     }
     let abscissas = inner(alloc, first.abscissas(), second.abscissas())?;
-    let middle = quantiles(alloc, &abscissas, 2)?;
-    let two = first.work(&middle).with(second.work(&middle));
-    let cuts = quantiles(alloc, &abscissas, columns_of(whole.edges))?;
-    let many = first.work(&cuts).with(second.work(&cuts));
-    if is_less(two, whole) || is_less(many, whole) {
-        return Ok(middle.first().copied());
+    if !is_worth_while(alloc, &first, &second, whole, &abscissas)? {
+        return Ok(None);
     }
-    Ok(None)
+    Ok(abscissas.get(abscissas.len() / 2).copied())
 }
 
-/// Whether the work is less by a fifth.
+/// Whether some number of columns makes less work: often the first cut gains nothing, and those
+/// that follow do.
+fn is_worth_while(
+    alloc: Global,
+    first: &Sample,
+    second: &Sample,
+    whole: Work,
+    abscissas: &[i64],
+) -> Result<bool, AllocError> {
+    for power in 1..=10u32 {
+        let columns = 1 << power;
+        if power > 1 && whole.edges / columns < COLUMN_EDGES {
+            return Ok(false);
+        }
+        let cuts = quantiles(alloc, abscissas, 1 << power)?;
+        if is_less(first.work(&cuts).with(second.work(&cuts)), whole) {
+            return Ok(true);
+        }
+    }
+    Ok(false)
+}
+
+/// Whether the work is less by a tenth.
 fn is_less(parts: Work, whole: Work) -> bool {
-    parts.cost().wrapping_mul(5) < whole.cost().wrapping_mul(4)
+    parts.cost().wrapping_mul(10) < whole.cost().wrapping_mul(9)
 }
 
 /// Both halves of a column that is cut at an abscissa.
-fn halves_at(
+pub(crate) fn halves_at(
     alloc: Global,
     first: &Rings,
     second: &Rings,

@@ -12,11 +12,7 @@ use lvl_region::Side;
 use std::alloc::{AllocError, Global};
 
 /// What the rings cover in the window, in all the plane where there is no window.
-fn shown(
-    alloc: Global,
-    rings: &[Ring],
-    window: Option<&Window>,
-) -> Result<Rings, AllocError>
+fn shown(alloc: Global, rings: &[Ring], window: Option<&Window>) -> Result<Rings, AllocError>
     ensures { IfOk result
         (λ shown. (s : GridSquare) → SomeCovers shown s ↔ (IsShown window.entry s × SomeCovers rings.now s)) }
 {
