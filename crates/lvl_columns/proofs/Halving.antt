@@ -67,8 +67,8 @@ open_by_halves whole xs f g left right at found halves told =
             ]
           ];
       faithful = All-push (IsTrueTo whole) (xs ++ r ∷ []) l
-      (All-push (IsTrueTo whole) xs r (all_but_last (IsTrueTo whole) xs c told.faithful) (true_part (λ s. at ≤ℤ s.x) whole c r hr t))
-      (true_part (λ s. s.x <ℤ at) whole c l hl t);
+          (All-push (IsTrueTo whole) xs r (all_but_last (IsTrueTo whole) xs c told.faithful) (true_part (λ s. at ≤ℤ s.x) whole c r hr t))
+          (true_part (λ s. s.x <ℤ at) whole c l hl t);
     }
 
 -- what a sweep up to a row tells of a column, once what was found before it is known

@@ -7,32 +7,16 @@ ghost use Rattle.lvl_region.specs.Region.{IsAlone};
 ghost use Rattle.lvl_columns.specs.Columns.{NotBefore, last_row, GoesOn, work_left};
 
 use crate::halves::halves;
-use crate::work::Work;
 use lvl_grid::{Rings, Square};
 use lvl_region::Side;
 use lvl_sweep::first_difference_up_to;
 use std::alloc::{AllocError, Global};
 
-/// What is left of two lists of rings in a column of the grid, with the work that a sweep of it is.
+/// What is left of two lists of rings in a column of the grid.
 #[derive(Debug, Drop)]
 pub struct Column {
     pub first: Rings,
     pub second: Rings,
-    pub work: Work,
-}
-
-impl Column {
-    pub(crate) fn new(first: Rings, second: Rings) -> Column
-        ensures first { result.first ≡ first }
-        ensures second { result.second ≡ second }
-    {
-        let work = Work::of(&first, &second);
-        Column {
-            first,
-            second,
-            work,
-        }
-    }
 }
 
 /// How far a comparison has come: the columns still to be compared, the least difference in the
@@ -48,10 +32,7 @@ pub struct Progress {
 const CUTS: u64 = 1 << 48;
 
 /// The lesser of two squares with their sides.
-fn lesser(
-    best: Option<(Square, Side)>,
-    found: Option<(Square, Side)>,
-) -> Option<(Square, Side)>
+fn lesser(best: Option<(Square, Side)>, found: Option<(Square, Side)>) -> Option<(Square, Side)>
     ensures one { (result ≡ best) ⊎ (result ≡ found) }
     ensures bound { (s : GridSquare) → (NotBefore s best ⊎ NotBefore s found) → NotBefore s result }
 {
@@ -99,13 +80,7 @@ impl Progress {
     }
 
     /// Compares a column, or cuts it in two.
-    fn step(
-        &mut self,
-        alloc: Global,
-        first: &Rings,
-        second: &Rings,
-        work: &Work,
-    ) -> Result<(), AllocError>
+    fn step(&mut self, alloc: Global, first: &Rings, second: &Rings) -> Result<(), AllocError>
         ensures told { OnOk result (GoesOn first.now second.now self.old self.new) }
         ensures work { OnOk result (work_left self.new ≤ work_left self.old) }
     {
@@ -113,7 +88,7 @@ impl Progress {
             return Ok(());
         }
         if self.cuts > 0 {
-            if let Some((left, right)) = halves(alloc, first, second, work)? {
+            if let Some((left, right)) = halves(alloc, first, second)? {
                 self.cut(left, right)?;
                 return Ok(());
             }
@@ -142,9 +117,9 @@ pub fn difference_by_columns(
         best: None,
         cuts: CUTS,
     };
-    progress.step(alloc, first, second, &Work::of(first, second))?;
+    progress.step(alloc, first, second)?;
     while let Some(column) = progress.pending.pop() {
-        progress.step(alloc, &column.first, &column.second, &column.work)?;
+        progress.step(alloc, &column.first, &column.second)?;
     }
     Ok(progress.best)
 }

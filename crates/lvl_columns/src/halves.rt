@@ -1,54 +1,87 @@
 //! Where a column is cut, if it is, and its two halves.
-ghost use Rattle.std.specs.Prelude.{IfOk, IfSome, ℤ};
+ghost use Rattle.std.specs.Prelude.{IfOk, IfSome};
 ghost use Rattle.lvl_columns.specs.Columns.{AreHalves, AreHalvesAt};
 
 use crate::columns::Column;
-use crate::work::Work;
-use lvl_grid::{Point, Rings};
+use crate::estimate::{Sample, Work};
+use lvl_grid::Rings;
 use std::alloc::{AllocError, Global};
 
-/// How many abscissas are sampled from each list.
-const SAMPLES: usize = 100;
+/// How many edges a column has where cutting ends, about.
+const COLUMN_EDGES: u128 = 500;
 
-/// Appends a sample of the abscissas strictly between two.
-fn sample(
-    abscissas: &mut Vec<i64>,
-    points: &[Point],
-    left: i64,
-    right: i64,
-) -> Result<(), AllocError> {
-    let step = points.len() / SAMPLES;
-    let mut skipped = 0;
-    for point in points {
-        if skipped < step {
-            skipped += 1;
-            continue;
-        }
-        skipped = 0;
-        if left < point.x && point.x < right {
-            abscissas.push(point.x)?;
-        }
-    }
-    Ok(())
+/// Appends the abscissas strictly between the least and the greatest of all, which rise.
+fn inner(alloc: Global, first: &[i64], second: &[i64]) -> Result<Vec<i64>, AllocError> {
+    let mut all = Vec::from_slice(alloc, first)?;
+    all.extend_from_slice(second)?;
+    all.sort_unstable();
+    let (Some(left), Some(right)) = (all.first().copied(), all.last().copied()) else {
+        return Ok(all);
+    };
+    all.retain(|x| left < *x && *x < right);
+    Ok(all)
 }
 
-/// The median of the abscissas that are sampled inside the column, if there are enough.
-fn cut_at(
+/// Some of the abscissas, which cut them into so many parts.
+fn quantiles(alloc: Global, abscissas: &[i64], parts: usize) -> Result<Vec<i64>, AllocError> {
+    let mut cuts = Vec::new(alloc);
+    for part in 1..parts {
+        let at = part
+            .wrapping_mul(abscissas.len())
+            .checked_div(parts)
+            .unwrap_or(0);
+        if let Some(x) = abscissas.get(at) {
+            cuts.push(*x)?;
+        }
+    }
+    cuts.dedup();
+    Ok(cuts)
+}
+
+/// The abscissa of the middle one, if a cut there is worth while.
+fn cut_at(alloc: Global, first: &Rings, second: &Rings) -> Result<Option<i64>, AllocError> {
+    let first = Sample::of(alloc, first)?;
+    let second = Sample::of(alloc, second)?;
+    let whole = first.work(&[]).with(second.work(&[]));
+    if whole.passes < whole.edges.wrapping_mul(4) {
+        return Ok(None);
+    }
+    let abscissas = inner(alloc, first.abscissas(), second.abscissas())?;
+    if !is_worth_while(alloc, &first, &second, whole, &abscissas)? {
+        return Ok(None);
+    }
+    Ok(abscissas.get(abscissas.len() / 2).copied())
+}
+
+/// Whether some number of columns makes less work: often the first cut gains nothing, and those
+/// that follow do.
+fn is_worth_while(
     alloc: Global,
-    first: &Rings,
-    second: &Rings,
-    work: &Work,
-) -> Result<Option<i64>, AllocError> {
-    let mut abscissas = Vec::new(alloc);
-    sample(&mut abscissas, first.points(), work.left, work.right)?;
-    sample(&mut abscissas, second.points(), work.left, work.right)?;
-    abscissas.sort_unstable();
-    let middle = abscissas.len() / 2;
-    Ok(abscissas.get(middle).copied())
+    first: &Sample,
+    second: &Sample,
+    whole: Work,
+    abscissas: &[i64],
+) -> Result<bool, AllocError> {
+    for power in 1..=10u32 {
+        let columns = 1 << power;
+        if power > 1 && whole.edges / columns < COLUMN_EDGES {
+            return Ok(false);
+        }
+        let cuts = quantiles(alloc, abscissas, 1 << power)?;
+        if is_less(first.work(&cuts).with(second.work(&cuts)), whole) {
+            return Ok(true);
+        }
+    }
+    Ok(false)
+}
+
+/// Whether the work is less by a tenth.
+fn is_less(parts: Work, whole: Work) -> bool {
+    parts.cost().wrapping_mul(10) < whole.cost().wrapping_mul(9)
 }
 
 /// Both halves of a column that is cut at an abscissa.
-fn halves_at(
+pub(crate) fn halves_at(
     alloc: Global,
     first: &Rings,
     second: &Rings,
@@ -63,8 +96,14 @@ fn halves_at(
     let mut right_second = Rings::new(alloc);
     second.split_into(at, &mut left_second, &mut right_second)?;
     Ok((
-        Column::new(left_first, left_second),
-        Column::new(right_first, right_second),
+        Column {
+            first: left_first,
+            second: left_second,
+        },
+        Column {
+            first: right_first,
+            second: right_second,
+        },
     ))
 }
 
@@ -73,19 +112,11 @@ pub(crate) fn halves(
     alloc: Global,
     first: &Rings,
     second: &Rings,
-    work: &Work,
 ) -> Result<Option<(Column, Column)>, AllocError>
     ensures { IfOk result (λ halves. IfSome halves (λ h. AreHalves first.now second.now h.0 h.1)) }
 {
-    if !work.is_large() {
-        return Ok(None);
-    }
-    let Some(at) = cut_at(alloc, first, second, work)? else {
+    let Some(at) = cut_at(alloc, first, second)? else {
         return Ok(None);
     };
-    let (left, right) = halves_at(alloc, first, second, at)?;
-    if !work.is_halved_by(&left.work, &right.work) {
-        return Ok(None);
-    }
-    Ok(Some((left, right)))
+    Ok(Some(halves_at(alloc, first, second, at)?))
 }

@@ -7,9 +7,11 @@
 #![tactic(auto)]
 
 pub use columns::difference_by_columns;
+pub use window::first_difference_in;
 
 mod columns;
+mod estimate;
 mod halves;
 #[cfg(test)]
 mod tests;
-mod work;
+mod window;

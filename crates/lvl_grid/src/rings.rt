@@ -83,6 +83,31 @@ fn extend_placed(
     Ok(())
 }
 
+/// Appends to `left` and `right` what is left of a ring on both sides of an abscissa. Most rings are
+/// on one side.
+fn push_split(
+    ring: &[Point],
+    at: i64,
+    left: &mut Rings,
+    right: &mut Rings,
+) -> Result<(), AllocError>
+    requires { IsRing ring.now }
+    ensures left { OnOk result ((s : GridSquare)
+        → SomeCovers left.new s ↔ (SomeCovers left.old s ⊎ ((s.x <ℤ at) × Covers ring.now s))) }
+    ensures right { OnOk result ((s : GridSquare)
+        → SomeCovers right.new s ↔ (SomeCovers right.old s ⊎ ((at ≤ℤ s.x) × Covers ring.now s))) }
+{
+    if Part::Right(at).misses(ring) {
+        return left.push(ring);
+    }
+    if Part::Left(at).misses(ring) {
+        return right.push(ring);
+    }
+    left.push_clipped(&Part::Left(at), ring)?;
+    right.push_clipped(&Part::Right(at), ring)?;
+    Ok(())
+}
+
 impl Rings {
     /// No rings.
     pub fn new(alloc: Global) -> Rings
@@ -230,15 +255,21 @@ impl Rings {
         Ok(())
     }
 
-    /// Appends to `into` what is left of the rings in the part.
-    pub fn clip_into(&self, part: &Part, into: &mut Rings) -> Result<(), AllocError>
-        ensures { OnOk result ((s : GridSquare)
-            → SomeCovers into.new s ↔ (SomeCovers into.old s ⊎ (IsIn part.now s × SomeCovers self.now s))) }
+    /// What is left of the rings of a list in the part.
+    pub fn clipped<R: RingList>(
+        alloc: Global,
+        rings: &R,
+        part: &Part,
+    ) -> Result<Rings, AllocError>
+        ensures { IfOk result
+            (λ clipped. (s : GridSquare)
+            → SomeCovers clipped s ↔ (IsIn part.now s × SomeCovers (R.rings rings.now) s)) }
     {
-        for i in 0..self.len() {
-            into.push_clipped(part, self.ring(i))?;
+        let mut clipped = Rings::new(alloc);
+        for i in 0..rings.len() {
+            clipped.push_clipped(part, rings.ring(i))?;
         }
-        Ok(())
+        Ok(clipped)
     }
 
     /// Appends to `left` what is left of the rings in the squares with `x < at`, and to `right`
@@ -250,9 +281,7 @@ impl Rings {
             → SomeCovers right.new s ↔ (SomeCovers right.old s ⊎ ((at ≤ℤ s.x) × SomeCovers self.now s))) }
     {
         for i in 0..self.len() {
-            let ring = self.ring(i);
-            left.push_clipped(&Part::Left(at), ring)?;
-            right.push_clipped(&Part::Right(at), ring)?;
+            push_split(self.ring(i), at, left, right)?;
         }
         Ok(())
     }

@@ -1,132 +1,185 @@
-//! Times the comparison of two equal lists of rectangles.
+//! Times the comparison of two lists of rings that cover the same squares and are made up otherwise.
 //!
-//! `sweep_bench KIND COUNT`, with `grid`, `random` or `bars`, prints how long it took to make the
-//! lists and to compare them. Without words it compares a few small lists and prints nothing.
+//! `sweep_bench WAY KIND COUNT`, with the way `columns` or `sweep`, prints how long it took to make
+//! the lists, to compare them, and to sort their vertical edges once; with a number of layers after that,
+//! for so many such pairs. Without words it compares a few small lists of each kind both ways, and
+//! prints nothing.
 #![tactic(auto)]
 
+use crate::lists::{Kind, Pair};
 use anyhow::{Context, Result, ensure};
-use lvl_grid::{Point, Ring};
-use lvl_sweep::first_difference_of;
-use std::alloc::Global;
+use lvl_columns::difference_by_columns;
+use lvl_grid::{Point, Rings, Square};
+use lvl_region::Side;
+use lvl_sweep::first_difference_up_to;
+use std::alloc::{AllocError, Global};
 use std::env;
 use std::rt::{Clock, Env};
 use std::time::Instant;
 
-/// How the rectangles lie.
+mod lists;
+
+/// How two lists are compared.
 #[derive(Clone, Copy, Debug, PartialEq, Eq)]
-enum Kind {
-    /// 7 by 7, side by side in rows of 1,000.
-    Grid,
-    /// 100 by 100, anywhere in a field of 100,000 by 100,000.
-    Random,
-    /// 100,000 by 100, anywhere in that field.
-    Bars,
+enum Way {
+    Columns,
+    Sweep,
 }
 
-/// The next of a row of made numbers.
-fn next_made(seed: u64) -> u64 {
-    seed.wrapping_mul(6_364_136_223_846_793_005)
-        .wrapping_add(1_442_695_040_888_963_407)
-}
+type Difference = Option<(Square, Side)>;
 
-/// A made place in the field.
-fn made_place(seed: u64) -> i64 {
-    i64::try_from((seed >> 33) % 100_000).unwrap_or(0)
-}
-
-fn rectangle(alloc: Global, low: Point, width: i64, height: i64) -> Result<Ring> {
-    let high = Point {
-        x: low.x.saturating_add(width),
-        y: low.y.saturating_add(height),
-    };
-    let points = vec![in alloc;
-        low,
-        Point {
-            x: high.x,
-            y: low.y
-        },
-        high,
-        Point {
-            x: low.x,
-            y: high.y
-        },
-    ]?;
-    Ring::new(points).ok().context("no ring")
-}
-
-/// The lower left corner of the rectangle of this number.
-fn corner(kind: Kind, number: i64, seed: u64) -> Point {
-    match kind {
-        Kind::Grid => Point {
-            x: (number % 1000).wrapping_mul(10),
-            y: (number / 1000).wrapping_mul(10),
-        },
-        Kind::Random | Kind::Bars => Point {
-            x: made_place(seed),
-            y: made_place(next_made(seed)),
-        },
+fn compare(
+    alloc: Global,
+    way: Way,
+    first: &Rings,
+    second: &Rings,
+) -> Result<Difference, AllocError> {
+    match way {
+        Way::Columns => difference_by_columns(alloc, first, second),
+        Way::Sweep => first_difference_up_to(alloc, first, second, None),
     }
 }
 
-fn rectangles(alloc: Global, kind: Kind, count: i64) -> Result<Vec<Ring>> {
-    let (width, height) = match kind {
-        Kind::Grid => (7, 7),
-        Kind::Random => (100, 100),
-        Kind::Bars => (100_000, 100),
-    };
-    let mut rings = Vec::new(alloc);
-    let mut seed = 12_345;
-    for number in 0..count {
-        seed = next_made(next_made(seed));
-        rings.push(rectangle(alloc, corner(kind, number, seed), width, height)?)?;
-    }
-    Ok(rings)
-}
+/// A vertical edge, by its lower end, and its upper end.
+type Upright = (i64, i64, i64);
 
-fn compare_equal(alloc: Global, kind: Kind, count: i64) -> Result<()> {
-    let first = rectangles(alloc, kind, count)?;
-    let second = rectangles(alloc, kind, count)?;
-    let found = first_difference_of(alloc, &first, &second)?;
-    ensure!(found.is_none(), "equal lists differ");
+fn push_uprights(uprights: &mut Vec<Upright>, ring: &[Point]) -> Result<(), AllocError> {
+    let Some(last) = ring.last() else {
+        return Ok(());
+    };
+    let mut y = last.y;
+    for point in ring {
+        if point.y != y {
+            uprights.push((point.y.min(y), point.x, point.y.max(y)))?;
+        }
+        y = point.y;
+    }
     Ok(())
 }
 
-fn time(rt: &(impl Clock + Print), alloc: Global, kind: Kind, count: i64) -> Result<()> {
+/// Sorts the vertical edges of the rings, as every sweep does first, and gives their number.
+fn sort_uprights(alloc: Global, rings: &Rings) -> Result<usize, AllocError> {
+    let mut uprights = Vec::new(alloc);
+    for i in 0..rings.len() {
+        push_uprights(&mut uprights, rings.ring(i))?;
+    }
+    uprights.sort_unstable_by_key(|upright| (upright.0, upright.1));
+    Ok(uprights.len())
+}
+
+/// What is expected of a pair: the same squares, or one that differs.
+fn is_expected(pair: &Pair, found: Difference) -> bool {
+    found.is_some() == pair.differs
+}
+
+/// What some comparisons took, in milliseconds.
+#[derive(Clone, Copy, Debug)]
+struct Times {
+    made: u128,
+    compared: u128,
+    sorted: u128,
+}
+
+impl Times {
+    const NONE: Times = Times {
+        made: 0,
+        compared: 0,
+        sorted: 0,
+    };
+
+    fn add(&mut self, other: Times) {
+        self.made = self.made.wrapping_add(other.made);
+        self.compared = self.compared.wrapping_add(other.compared);
+        self.sorted = self.sorted.wrapping_add(other.sorted);
+    }
+}
+
+/// Makes a pair of lists, compares them, and sorts their edges.
+fn time_pair(
+    rt: &impl Clock,
+    alloc: Global,
+    way: Way,
+    kind: Kind,
+    count: i64,
+    seed: u64,
+) -> Result<Times> {
     let start = Instant::now(rt)?;
-    let first = rectangles(alloc, kind, count)?;
-    let second = rectangles(alloc, kind, count)?;
+    let pair = Pair::new(alloc, kind, count, seed)?;
     let made = start.elapsed(rt)?.as_millis();
-    let begin = Instant::now(rt)?;
-    let found = first_difference_of(alloc, &first, &second)?;
-    let compared = begin.elapsed(rt)?.as_millis();
-    ensure!(found.is_none(), "equal lists differ");
-    println!(rt; "{count} rectangles: made in {made} ms, compared in {compared} ms")?;
+    let start = Instant::now(rt)?;
+    let found = compare(alloc, way, &pair.first, &pair.second)?;
+    let compared = start.elapsed(rt)?.as_millis();
+    ensure!(is_expected(&pair, found), "the lists are not as made");
+    let start = Instant::now(rt)?;
+    sort_uprights(alloc, &pair.first)?;
+    sort_uprights(alloc, &pair.second)?;
+    let sorted = start.elapsed(rt)?.as_millis();
+    Ok(Times {
+        made,
+        compared,
+        sorted,
+    })
+}
+
+/// Times so many pairs of lists, one after another.
+fn time(
+    rt: &(impl Clock + Print),
+    alloc: Global,
+    way: Way,
+    kind: Kind,
+    count: i64,
+    layers: u64,
+) -> Result<()> {
+    let mut all = Times::NONE;
+    for layer in 0..layers {
+        all.add(time_pair(rt, alloc, way, kind, count, layer.wrapping_add(12_345))?);
+    }
+    let Times {
+        made,
+        compared,
+        sorted,
+    } = all;
+    println!(rt; "made in {made} ms, compared in {compared} ms, edges sorted in {sorted} ms")?;
     Ok(())
 }
 
-fn kind_of(word: &str) -> Option<Kind> {
+fn way_of(word: &str) -> Option<Way> {
     match word {
-        "grid" => Some(Kind::Grid),
-        "random" => Some(Kind::Random),
-        "bars" => Some(Kind::Bars),
+        "columns" => Some(Way::Columns),
+        "sweep" => Some(Way::Sweep),
         _ => None,
     }
+}
+
+fn compare_small(alloc: Global) -> Result<()> {
+    for kind in Kind::ALL {
+        let pair = Pair::new(alloc, kind, 60, 12_345)?;
+        let found = compare(alloc, Way::Columns, &pair.first, &pair.second)?;
+        ensure!(is_expected(&pair, found), "the lists are not as made");
+        let again = compare(alloc, Way::Sweep, &pair.first, &pair.second)?;
+        ensure!(again == found, "the two ways differ");
+    }
+    Ok(())
 }
 
 fn main(rt: HostRuntime) -> Result<()> {
     let alloc = rt.alloc();
     let mut words = env::args(&rt)?;
     let _ = words.next();
-    match (words.next(), words.next()) {
-        (Some(kind), Some(count)) => {
-            let kind = kind_of(kind.as_str()).context("grid, random or bars")?;
+    match (words.next(), words.next(), words.next()) {
+        (Some(way), Some(kind), Some(count)) => {
+            let way = way_of(way.as_str()).context("columns or sweep")?;
+            let kind = Kind::named(kind.as_str()).context("a kind of lists")?;
             let count = count.as_str().parse::<i64>().context("a number")?;
-            time(&rt, alloc, kind, count)
+            let layers = match words.next() {
+                Some(layers) => layers
+                    .as_str()
+                    .parse::<u64>()
+                    .context("a number of layers")?,
+                None => 1,
+            };
+            time(&rt, alloc, way, kind, count, layers)
         }
-        _ => {
-            compare_equal(alloc, Kind::Grid, 100)?;
-            compare_equal(alloc, Kind::Random, 100)?;
-            compare_equal(alloc, Kind::Bars, 100)
-        }
+        _ => compare_small(alloc),
     }
 }

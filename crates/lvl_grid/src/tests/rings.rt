@@ -46,8 +46,7 @@ fn is_in(part: &Part, at: Square) -> bool {
 
 /// Whether what is left of the rings in the part covers what it is to cover.
 fn clips(alloc: Global, rings: &Rings, part: Part, left: &[usize]) -> Result<bool, AllocError> {
-    let mut clipped = Rings::new(alloc);
-    rings.clip_into(&part, &mut clipped)?;
+    let clipped = Rings::clipped(alloc, rings, &part)?;
     let mut lengths = Vec::new(alloc);
     for i in 0..clipped.len() {
         if let Some(ring) = clipped.get(i) {

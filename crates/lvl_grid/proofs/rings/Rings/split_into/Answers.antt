@@ -11,17 +11,17 @@ pub loop-i-preserved : goal.loop-i-preserved
 loop-i-preserved c =
     let i = c.loop-i.i in
     let all : List (List Point) = c.args.self.now in
-    let ring : List Point = c.ring-ring.result.now in
+    let ring : List Point = c.ring.result.now in
     let at : ℤ = to_z w64 (of_z w64 c.args.at) in
     let below : i < length all = omega (arith, c.loop-i-test.true, c.len-i-end.ensures) in
-    let done : take (i + 1) all ≡ take i all ++ ring ∷ [] = take_more all i [] below ∙ ap (λ (r : List Point). take i all ++ r ∷ []) (sym c.ring-ring.ensures.value) in
+    let done : take (i + 1) all ≡ take i all ++ ring ∷ [] = take_more all i [] below ∙ ap (λ (r : List Point). take i all ++ r ∷ []) (sym c.ring.ensures.value) in
     record {
       left = λ s.
-          subst (λ (rs : List (List Point)). SomeCovers c.push_clipped.new.self s ↔ WithOthers (Left at) c.args.left.now rs s) (sym done)
-          (clip_more (Left at) c.args.left.now (take i all) c.loop-i.left c.push_clipped.new.self ring s (c.loop-i.invariant.left s) (c.in_ok-push_clipped.ensures.covers s));
+          subst (λ (rs : List (List Point)). SomeCovers c.push_split.new.left s ↔ WithOthers (Left at) c.args.left.now rs s) (sym done)
+          (clip_more (Left at) c.args.left.now (take i all) c.loop-i.left c.push_split.new.left ring s (c.loop-i.invariant.left s) (c.in_ok-push_split.ensures.left s));
       right = λ s.
-          subst (λ (rs : List (List Point)). SomeCovers c.push_clipped-in-loop-i.new.self s ↔ WithOthers (Right at) c.args.right.now rs s) (sym done)
-          (clip_more (Right at) c.args.right.now (take i all) c.loop-i.right c.push_clipped-in-loop-i.new.self ring s (c.loop-i.invariant.right s) (c.in_ok-push_clipped-2.ensures.covers s));
+          subst (λ (rs : List (List Point)). SomeCovers c.push_split.new.right s ↔ WithOthers (Right at) c.args.right.now rs s) (sym done)
+          (clip_more (Right at) c.args.right.now (take i all) c.loop-i.right c.push_split.new.right ring s (c.loop-i.invariant.right s) (c.in_ok-push_split.ensures.right s));
     }
 
 all_seen : (c : goal.After-loop-i) → take c.loop-i.i c.args.self.now ≡ c.args.self.now

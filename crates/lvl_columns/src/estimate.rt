@@ -1,0 +1,189 @@
+//! Estimates, from samples, of the work that sweeps of a list of rings are, before and after cuts.
+//! No contract speaks of them.
+
+use lvl_grid::{Point, Rings};
+use std::alloc::{AllocError, Global};
+
+/// What a sampled ring tells.
+#[derive(Clone, Copy, Debug)]
+struct Outline {
+    left: i64,
+    right: i64,
+    edges: u128,
+    heights: u128,
+}
+
+impl Outline {
+    fn of(ring: &[Point]) -> Outline {
+        let mut outline = Outline {
+            left: i64::MAX,
+            right: i64::MIN,
+            edges: 0,
+            heights: 0,
+        };
+        let mut y = ring.last().map_or(0, |last| last.y);
+        for point in ring {
+            outline.left = outline.left.min(point.x);
+            outline.right = outline.right.max(point.x);
+            if point.y != y {
+                outline.edges = outline.edges.wrapping_add(1);
+                outline.heights = outline
+                    .heights
+                    .wrapping_add(u128::from(point.y.abs_diff(y)));
+            }
+            y = point.y;
+        }
+        outline
+    }
+}
+
+/// Some rings of a list, taken at random; all of them where there are few.
+#[derive(Debug, Drop)]
+pub struct Sample {
+    outlines: Vec<Outline>,
+    abscissas: Vec<i64>,
+    ordinates: Vec<i64>,
+    rings: u128,
+}
+
+/// The work of a sweep, counted in edges that are passed in a row.
+#[derive(Clone, Copy, Debug)]
+pub struct Work {
+    /// How many edges there are.
+    pub edges: u128,
+    /// How many are alive, summed up over the ordinates at which the sweep stops.
+    pub passes: u128,
+}
+
+impl Work {
+    pub(crate) fn with(self, other: Work) -> Work {
+        Work {
+            edges: self.edges.wrapping_add(other.edges),
+            passes: self.passes.wrapping_add(other.passes),
+        }
+    }
+
+    /// Clipping, sorting and sweeping together.
+    pub(crate) fn cost(&self) -> u128 {
+        self.passes.wrapping_add(self.edges.wrapping_mul(2))
+    }
+}
+
+/// The quotient, or the greatest number where the divisor is 0.
+fn over(a: u128, b: u128) -> u128 {
+    a.checked_div(b).unwrap_or(u128::MAX)
+}
+
+/// The next of a row of made numbers.
+fn next_made(seed: u64) -> u64 {
+    seed.wrapping_mul(6_364_136_223_846_793_005)
+        .wrapping_add(1_442_695_040_888_963_407)
+}
+
+/// A made number below `most`.
+fn made_below(seed: u64, most: usize) -> usize {
+    let most = most as u64;
+    usize::try_from((seed >> 20).checked_rem(most).unwrap_or(0)).unwrap_or(0)
+}
+
+impl Sample {
+    pub(crate) fn of(alloc: Global, rings: &Rings) -> Result<Sample, AllocError> {
+        let mut sample = Sample {
+            outlines: Vec::new(alloc),
+            abscissas: Vec::new(alloc),
+            ordinates: Vec::new(alloc),
+            rings: rings.len() as u128,
+        };
+        let many = (rings.len() / 64).clamp(256, 4096);
+        if rings.len() <= many {
+            for i in 0..rings.len() {
+                sample.push(rings.ring(i), i as u64)?;
+            }
+        } else {
+            sample.push_some(rings, many)?;
+        }
+        sample.abscissas.sort_unstable();
+        sample.ordinates.sort_unstable();
+        Ok(sample)
+    }
+
+    /// Takes so many rings at random.
+    fn push_some(&mut self, rings: &Rings, many: usize) -> Result<(), AllocError> {
+        let mut seed = 12_345;
+        for _ in 0..many {
+            seed = next_made(seed);
+            if let Some(ring) = rings.get(made_below(seed, rings.len())) {
+                self.push(ring, seed)?;
+            }
+        }
+        Ok(())
+    }
+
+    /// Takes a ring, with the abscissa and the ordinate of one of its points: two of one ring would
+    /// often lie on one line.
+    fn push(&mut self, ring: &[Point], seed: u64) -> Result<(), AllocError> {
+        self.outlines.push(Outline::of(ring))?;
+        if let Some(point) = ring.get(made_below(next_made(seed), ring.len())) {
+            self.abscissas.push(point.x)?;
+            self.ordinates.push(point.y)?;
+        }
+        Ok(())
+    }
+
+    pub(crate) fn abscissas(&self) -> &[i64] {
+        &self.abscissas
+    }
+
+    /// At how many ordinates points lie, judged by how often two that are sampled lie at one.
+    fn lines(&self) -> u128 {
+        let many = self.ordinates.len() as u128;
+        let mut meetings: u128 = 0;
+        let mut before = None;
+        for y in &self.ordinates {
+            if before == Some(*y) {
+                meetings = meetings.wrapping_add(1);
+            }
+            before = Some(*y);
+        }
+        over(many.wrapping_mul(many), meetings.wrapping_mul(2))
+    }
+
+    /// From the least to the greatest sampled ordinate.
+    fn height(&self) -> u128 {
+        match (self.ordinates.first(), self.ordinates.last()) {
+            (Some(low), Some(high)) => u128::from(high.abs_diff(*low)),
+            _ => 0,
+        }
+    }
+
+    /// The work of all sweeps where the plane is cut at these abscissas, which rise.
+    pub(crate) fn work(&self, cuts: &[i64]) -> Work {
+        let mut edges: u128 = 0;
+        let mut heights: u128 = 0;
+        for outline in &self.outlines {
+            let further = cuts_through(cuts, outline).wrapping_mul(2);
+            edges = edges.wrapping_add(outline.edges.wrapping_add(further));
+            let each = outline.heights.checked_div(outline.edges).unwrap_or(0);
+            heights = heights.wrapping_add(
+                outline.heights.wrapping_add(further.wrapping_mul(each)),
+            );
+        }
+        let sampled = (self.outlines.len() as u128).max(1);
+        let edges = edges.wrapping_mul(self.rings) / sampled;
+        let heights = heights.wrapping_mul(self.rings) / sampled;
+        let columns = (cuts.len() as u128).wrapping_add(1);
+        let height = self.height();
+        let stops = over(edges, columns).min(height).min(self.lines());
+        Work {
+            edges,
+            passes: stops.wrapping_mul(heights).checked_div(height).unwrap_or(0),
+        }
+    }
+}
+
+/// How many of the cuts go through the ring.
+fn cuts_through(cuts: &[i64], outline: &Outline) -> u128 {
+    let before = cuts.partition_point(|cut| *cut <= outline.left);
+    let after = cuts.partition_point(|cut| *cut < outline.right);
+    (after.saturating_sub(before)) as u128
+}
