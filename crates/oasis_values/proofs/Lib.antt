@@ -1,0 +1,5 @@
+pub mod Reading
+pub mod Integers
+pub mod Found
+pub mod Loops
+pub mod Values
