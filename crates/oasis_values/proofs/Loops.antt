@@ -89,3 +89,10 @@ pub going_from : {R A B : Type 0} {remaining : R → Option (List ℕ)} {errors 
     → n ≡ left → has_failed first ≡ false → Going remaining errors lent S show n a first first left a []
 going_from {remaining = remaining} {errors = errors} {lent = lent} S show n a first e live =
     subst (λ i. Going remaining errors lent S show n a first first i a []) e (going_start S show n a first live)
+
+-- what was said, in other words
+pub going_as : {R A B : Type 0} {remaining : R → Option (List ℕ)} {errors : R → ℕ} {lent : R → List GName}
+    {S : A → List ℕ → Result A ValueFault → Type 0} {show : A → B} {n : ℕ} {a : A} {first now : Input R} {left : ℕ} {b : A} {said : List B} {words : List B}
+    → said ≡ words → Going remaining errors lent S show n a first now left b said → Going remaining errors lent S show n a first now left b words
+going_as {remaining = remaining} {errors = errors} {lent = lent} {S = S} {show = show} {n = n} {a = a} {first = first} {now = now} {left = left} {b = b} e g =
+    subst (λ l. Going remaining errors lent S show n a first now left b l) e g

@@ -1,5 +1,6 @@
 -- The faults of values, and what each says of the call that answered it.
-use Rattle.std.specs.Prelude.{Bool, true, false, Result, Ok, Err}
+use Rattle.std.specs.Prelude.{Bool, true, false, List, Result, Ok, Err}
+use Rattle.std.specs.Global.{Vec}
 use Rattle.lvl_refusal.specs.declared.Refusal.{Refusal}
 use Rattle.lvl_refusal.specs.declared.Refusal.TheVariants.{Breach, OutOfMemory}
 use Rattle.oasis_values.specs.declared.fault.ValueFault.{ValueFault}
@@ -27,3 +28,8 @@ abbrev pub reader_failed : {A : Type 0} → Result A (Refusal ValueFault) → Bo
 reader_failed (Ok x) = false
 reader_failed (Err OutOfMemory) = false
 reader_failed (Err (Breach f)) = is_read_fault f
+
+-- what a list that was read holds
+abbrev pub items : {A : Type 0} → Result (Vec A) (Refusal ValueFault) → Result (List A) (Refusal ValueFault)
+items (Ok v) = Ok v.items
+items (Err e) = Err e

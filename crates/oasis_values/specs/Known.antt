@@ -16,3 +16,8 @@ Known None f = Gives (Err f)
 -- what the bytes say, seen as g of it
 abbrev pub Seen : {A B : Type 0} → (A → B) → (List ℕ → Result A ValueFault → Type 0) → List ℕ → Result B ValueFault → Type 0
 Seen g S = Then S (λ x. Gives (Ok (g x)))
+
+-- the same, where the numbers not listed all stand for d
+abbrev pub one_of : {A : Type 0} → ℕ → List A → A → ℕ → A
+one_of n [] d k = d
+one_of n (x ∷ xs) d k = if k == n then x else one_of (n + 1) xs d k

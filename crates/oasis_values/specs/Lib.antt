@@ -3,5 +3,7 @@ pub mod Input
 pub mod Known
 pub mod Numbers
 pub mod Reals
+pub mod Deltas
+pub mod Texts
 pub mod Reads
 pub mod inside

@@ -1,5 +1,7 @@
 //! Why no value was given.
+ghost use Rattle.std.specs.Prelude.{◌≡◌};
 
+use lvl_refusal::Refusal;
 use thiserror::Error;
 
 /// Why no value was given. After any of these every call but `offset` answers `Failed`.
@@ -47,4 +49,14 @@ pub enum ValueFault {
     /// A repetition of type 0 comes where there is no modal repetition.
     #[error("there is no repetition to use again")]
     NoModal,
+}
+
+impl From<ValueFault> for Refusal<ValueFault> {
+    ghost use Rattle.lvl_refusal.specs.declared.Refusal.TheVariants.{Breach};
+
+    ghost from_gives = { λ f e. e ≡ Breach f };
+
+    fn from(fault: ValueFault) -> Refusal<ValueFault> {
+        Refusal::Breach(fault)
+    }
 }

@@ -26,6 +26,7 @@ impl<R: Read> Input<R> {
     ghost use Rattle.oasis_values.specs.Faults.{as_breach, is_rule};
     ghost use Rattle.oasis_values.specs.Numbers.{IsByte, IsUnsigned};
     ghost use Rattle.oasis_values.specs.Known.{Known};
+    ghost use Rattle.oasis_values.specs.inside.Stopped.{HasStopped};
 
     /// The values of a reader's bytes, from its next byte on. It takes no memory.
     pub fn new(reader: R) -> Input<R>
@@ -123,5 +124,12 @@ impl<R: Read> Input<R> {
                 Err(rule)
             }
         }
+    }
+
+    /// An allocation failed, and so has the input.
+    pub(crate) fn stop(&mut self)
+        ensures { HasStopped self.old self.new }
+    {
+        self.failed = true;
     }
 }

@@ -8,10 +8,13 @@
 pub use fault::ValueFault;
 pub use input::Input;
 pub use number::Real;
+pub use text::Text;
 
 mod buffer;
+mod delta;
 mod fault;
 mod find;
 mod input;
 mod integer;
 mod number;
+mod text;
