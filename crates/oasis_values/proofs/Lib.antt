@@ -3,3 +3,5 @@ pub mod Integers
 pub mod Found
 pub mod Loops
 pub mod Values
+pub mod Ranges
+pub mod Lists

@@ -96,3 +96,10 @@ pub going_as : {R A B : Type 0} {remaining : R → Option (List ℕ)} {errors : 
     → said ≡ words → Going remaining errors lent S show n a first now left b said → Going remaining errors lent S show n a first now left b words
 going_as {remaining = remaining} {errors = errors} {lent = lent} {S = S} {show = show} {n = n} {a = a} {first = first} {now = now} {left = left} {b = b} e g =
     subst (λ l. Going remaining errors lent S show n a first now left b l) e g
+
+-- where the next one is read from, in other words
+pub going_at : {R A B : Type 0} {remaining : R → Option (List ℕ)} {errors : R → ℕ} {lent : R → List GName}
+    {S : A → List ℕ → Result A ValueFault → Type 0} {show : A → B} {n : ℕ} {a : A} {first now : Input R} {left : ℕ} {b c : A} {said : List B}
+    → c ≡ b → Going remaining errors lent S show n a first now left b said → Going remaining errors lent S show n a first now left c said
+going_at {remaining = remaining} {errors = errors} {lent = lent} {S = S} {show = show} {n = n} {a = a} {first = first} {now = now} {left = left} {said = said} e g =
+    subst (λ x. Going remaining errors lent S show n a first now left x said) (sym e) g

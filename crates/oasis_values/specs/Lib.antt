@@ -5,5 +5,7 @@ pub mod Numbers
 pub mod Reals
 pub mod Deltas
 pub mod Texts
+pub mod Ranges
+pub mod PointLists
 pub mod Reads
 pub mod inside

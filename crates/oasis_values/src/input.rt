@@ -1,5 +1,5 @@
 //! The input: single bytes and unsigned integers, of which all other values are made.
-ghost use Rattle.std.specs.Prelude.{◌≡◌, ◌-◌, ◌≤◌, false, true};
+ghost use Rattle.std.specs.Prelude.{◌≡◌, ◌-◌, ◌≤◌, false, true, Some, IfOk};
 
 use crate::buffer::Buffer;
 use crate::fault::ValueFault;
@@ -113,6 +113,7 @@ impl<R: Read> Input<R> {
     ) -> Result<T, ValueFault>
         requires { is_rule rule ≡ true }
         ensures reads { Reads R.remaining R.read_errors R.lent (Known found rule) self.old self.new (as_breach result) }
+        ensures found { IfOk result (λ x. found ≡ Some x) }
     {
         if self.failed {
             return Err(ValueFault::Failed);

@@ -8,6 +8,7 @@
 pub use fault::ValueFault;
 pub use input::Input;
 pub use number::Real;
+pub use point_list::Use;
 pub use text::Text;
 
 mod buffer;
@@ -17,4 +18,5 @@ mod find;
 mod input;
 mod integer;
 mod number;
+mod point_list;
 mod text;
