@@ -5,3 +5,4 @@ pub mod Loops
 pub mod Values
 pub mod Ranges
 pub mod Lists
+pub mod Places

@@ -7,5 +7,6 @@ pub mod Deltas
 pub mod Texts
 pub mod Ranges
 pub mod PointLists
+pub mod Repetitions
 pub mod Reads
 pub mod inside

@@ -9,6 +9,7 @@ pub use fault::ValueFault;
 pub use input::Input;
 pub use number::Real;
 pub use point_list::Use;
+pub use repetition::Repetition;
 pub use text::Text;
 
 mod buffer;
@@ -19,4 +20,5 @@ mod input;
 mod integer;
 mod number;
 mod point_list;
+mod repetition;
 mod text;
