@@ -59,7 +59,7 @@ by_test false = inr refl
 
 pub lattice_is : (a : Point) (m : ℕ) (b : Point) (n : ℕ) (o : Option (List Point)) → IsFew m n → (IsSome o ↔ IsLattice a m b n) → IfSome o (λ l. l ≡ lattice a m b n) → o ≡ lattice_in_range a m b n
 lattice_is a m b n (Some l) few is same =
-    let fit = all_true (lattice a m b n) (is.0 tt).fit in
+    let fit = all_true (lattice a m b n) (is.0 refl).fit in
     ap Some same ∙ rw fit refl
 lattice_is a m b n None few is same = elim (by_test (list_all is_point_in_range (lattice a m b n))) [
   | inl e ↦ absurd (let k : false ≡ true = is.1 (record { columns = few.columns; rows = few.rows; few = few.few; fit = all_fit (lattice a m b n) e }) in cc)

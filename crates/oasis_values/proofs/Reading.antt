@@ -5,8 +5,8 @@ use Rattle.std.specs.Prelude.{Option}
 use Rattle.std.specs.Result.{is_err}
 use Rattle.std.specs.Borrow.{GName}
 use Rattle.lvl_io.specs.Bytes.{CountsFailure}
-use Rattle.lvl_io.specs.Spelling.{IsFront, IsBegun, CanSay, Gives, Then}
-use Rattle.lvl_io.proofs.Spelling.{gives_said, then_begun, then_goes_on, then_both, then_breached}
+use Rattle.lvl_io.specs.Spelling.{IsPrefixFree, IsFront, IsBegun, CanSay, Gives, Then}
+use Rattle.lvl_io.proofs.Spelling.{gives_said, then_begun, then_goes_on, then_both, then_breached, breached_none}
 use Rattle.lvl_refusal.specs.declared.Refusal.{Refusal}
 use Rattle.lvl_refusal.specs.declared.Refusal.TheVariants.{Breach, OutOfMemory}
 use Rattle.oasis_values.specs.Faults.{is_rule, is_read_fault, reader_failed}
@@ -14,7 +14,7 @@ use Rattle.oasis_values.specs.Input.{bytes_left, input_offset, has_failed, input
 use Rattle.std.specs.Io.KnownBytes.{prepend_known}
 use Rattle.oasis_values.specs.Known.{Seen}
 use Rattle.oasis_values.specs.inside.Stopped.{HasStopped}
-use Rattle.oasis_values.specs.Reads.{Breaks, Fails, Answers, Reads}
+use Rattle.oasis_values.specs.Reads.{Breaks, Fails, Answers, Reads, Refutes}
 use Rattle.oasis_values.specs.declared.fault.ValueFault.{ValueFault}
 use Rattle.oasis_values.specs.declared.fault.ValueFault.TheVariants.{Truncated, TooLong, Read, Failed}
 use Rattle.oasis_values.specs.declared.input.Input.{Input}
@@ -231,3 +231,11 @@ reads_out_of_memory {remaining = remaining} {errors = errors} {lent = lent} {old
 pub reads_case : {R A K : Type 0} {remaining : R → Option (List ℕ)} {errors : R → ℕ} {lent : R → List GName} {old new : Input R} {r : Result A (Refusal ValueFault)}
     (T : K → List ℕ → Result A ValueFault → Type 0) (k j : K) → k ≡ j → Reads remaining errors lent (T j) old new r → Reads remaining errors lent (T k) old new r
 reads_case {remaining = remaining} {errors = errors} {lent = lent} {old = old} {new = new} {r = r} T k j e p = subst (λ i. Reads remaining errors lent (T i) old new r) (sym e) p
+
+-- where a rule is breached, nothing is spelled by bytes that agree
+pub reads_refutes : {R A : Type 0} {remaining : R → Option (List ℕ)} {errors : R → ℕ} {lent : R → List GName} {S : List ℕ → Result A ValueFault → Type 0} {old new : Input R} {r : Result A (Refusal ValueFault)}
+    → IsPrefixFree S → Reads remaining errors lent S old new r → Refutes remaining S old r
+reads_refutes {r = Ok y} free p = record { none = λ live xs k. tt }
+reads_refutes {r = Err OutOfMemory} free p = record { none = λ live xs k. tt }
+reads_refutes {S = S} {r = Err (Breach f)} free p =
+    record { none = λ live xs k rule x. let q = (p.answers live xs k).breached rule in breached_none S xs q.count f x free q.front }

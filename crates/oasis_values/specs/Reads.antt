@@ -4,7 +4,7 @@ use Rattle.std.specs.Prelude.{◌≡◌, ◌≢◌, ℕ, ◌-◌, ◌<◌, ◌�
 use Rattle.std.specs.Result.{is_err}
 use Rattle.std.specs.Borrow.{GName}
 use Rattle.lvl_io.specs.Bytes.{CountsFailure}
-use Rattle.lvl_io.specs.Spelling.{IsFront, IsBegun}
+use Rattle.lvl_io.specs.Spelling.{IsFront, IsBegun, NoneAgrees}
 use Rattle.lvl_refusal.specs.declared.Refusal.{Refusal}
 use Rattle.lvl_refusal.specs.declared.Refusal.TheVariants.{Breach, OutOfMemory}
 use Rattle.oasis_values.specs.Faults.{is_rule, reader_failed}
@@ -52,3 +52,13 @@ pub record Reads {R A : Type 0} (remaining : R → Option (List ℕ)) (errors : 
   pub counted : CountsFailure (errors (input_reader old)) (errors (input_reader new)) (reader_failed r)
   -- the reader is the one that was handed in
   pub same : lent (input_reader new) ≡ lent (input_reader old)
+
+-- what an answer says of the values that other bytes could spell: where a rule is breached, none agrees with these
+abbrev pub IsRefuted : {A : Type 0} → (List ℕ → Result A ValueFault → Type 0) → List ℕ → Result A (Refusal ValueFault) → Type 0
+IsRefuted S xs (Ok x) = Unit {0}
+IsRefuted S xs (Err OutOfMemory) = Unit {0}
+IsRefuted {A = A} S xs (Err (Breach f)) = is_rule f ≡ true → (x : A) → NoneAgrees S xs (Ok x)
+
+-- the same of a call
+pub record Refutes {R A : Type 0} (remaining : R → Option (List ℕ)) (S : List ℕ → Result A ValueFault → Type 0) (old : Input R) (r : Result A (Refusal ValueFault)) : Type 0 where
+  pub none : has_failed old ≡ false → (xs : List ℕ) → bytes_left remaining old ≡ Some xs → IsRefuted S xs r

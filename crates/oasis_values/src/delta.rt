@@ -66,7 +66,7 @@ fn free(across: u64, up: u64) -> Point
 }
 
 impl<R: Read> Input<R> {
-    ghost use Rattle.oasis_values.specs.Reads.{Reads};
+    ghost use Rattle.oasis_values.specs.Reads.{Reads, Refutes};
     ghost use Rattle.oasis_values.specs.Faults.{as_breach};
     ghost use Rattle.oasis_values.specs.Reals.{IsSigned};
     ghost use Rattle.oasis_values.specs.Deltas.{IsTwoDelta, IsThreeDelta, IsGDelta};
@@ -74,6 +74,7 @@ impl<R: Read> Input<R> {
     /// A 1-delta, which is a signed integer.
     pub fn one_delta(&mut self) -> Result<i64, ValueFault>
         ensures reads { Reads R.remaining R.read_errors R.lent IsSigned self.old self.new (as_breach result) }
+        ensures none { Refutes R.remaining IsSigned self.old (as_breach result) }
     {
         self.signed()
     }
@@ -81,6 +82,7 @@ impl<R: Read> Input<R> {
     /// A 2-delta: the low two bits are a direction along an axis, and the rest is the magnitude.
     pub fn two_delta(&mut self) -> Result<Point, ValueFault>
         ensures reads { Reads R.remaining R.read_errors R.lent IsTwoDelta self.old self.new (as_breach result) }
+        ensures none { Refutes R.remaining IsTwoDelta self.old (as_breach result) }
     {
         let number = self.unsigned()?;
         Ok(toward(direction_of(number % 4), number / 4))
@@ -89,6 +91,7 @@ impl<R: Read> Input<R> {
     /// A 3-delta: the low three bits are a direction, and the rest is the magnitude.
     pub fn three_delta(&mut self) -> Result<Point, ValueFault>
         ensures reads { Reads R.remaining R.read_errors R.lent IsThreeDelta self.old self.new (as_breach result) }
+        ensures none { Refutes R.remaining IsThreeDelta self.old (as_breach result) }
     {
         let number = self.unsigned()?;
         Ok(toward(direction_of(number % 8), number / 8))
@@ -98,6 +101,7 @@ impl<R: Read> Input<R> {
     /// is the displacement to the east with its sign, and a second integer that to the north.
     pub fn g_delta(&mut self) -> Result<Point, ValueFault>
         ensures reads { Reads R.remaining R.read_errors R.lent IsGDelta self.old self.new (as_breach result) }
+        ensures none { Refutes R.remaining IsGDelta self.old (as_breach result) }
     {
         let number = self.unsigned()?;
         if number % 2 == 0 {

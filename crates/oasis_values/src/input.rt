@@ -22,7 +22,7 @@ pub struct Input<R> {
 
 impl<R: Read> Input<R> {
     ghost use Rattle.oasis_values.specs.Input.{bytes_left, input_offset, has_failed, input_reader};
-    ghost use Rattle.oasis_values.specs.Reads.{Reads};
+    ghost use Rattle.oasis_values.specs.Reads.{Reads, Refutes};
     ghost use Rattle.oasis_values.specs.Faults.{as_breach, is_rule};
     ghost use Rattle.oasis_values.specs.Numbers.{IsByte, IsUnsigned};
     ghost use Rattle.oasis_values.specs.Known.{Known};
@@ -67,6 +67,7 @@ impl<R: Read> Input<R> {
     /// A single byte.
     pub fn byte(&mut self) -> Result<u8, ValueFault>
         ensures reads { Reads R.remaining R.read_errors R.lent IsByte self.old self.new (as_breach result) }
+        ensures none { Refutes R.remaining IsByte self.old (as_breach result) }
     {
         if self.failed {
             return Err(ValueFault::Failed);
@@ -88,6 +89,7 @@ impl<R: Read> Input<R> {
     /// above 1 (own rule).
     pub fn unsigned(&mut self) -> Result<u64, ValueFault>
         ensures reads { Reads R.remaining R.read_errors R.lent IsUnsigned self.old self.new (as_breach result) }
+        ensures none { Refutes R.remaining IsUnsigned self.old (as_breach result) }
     {
         if self.failed {
             return Err(ValueFault::Failed);

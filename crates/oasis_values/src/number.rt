@@ -82,7 +82,7 @@ pub(crate) fn with_sign(number: u64) -> i64
 
 impl<R: Read> Input<R> {
     ghost use Rattle.oasis_values.specs.Input.{has_failed};
-    ghost use Rattle.oasis_values.specs.Reads.{Reads};
+    ghost use Rattle.oasis_values.specs.Reads.{Reads, Refutes};
     ghost use Rattle.oasis_values.specs.Faults.{as_breach};
     ghost use Rattle.oasis_values.specs.Reals.{IsSigned, IsReal, IsRealOf, IsDenominator, IsBytes};
 
@@ -90,6 +90,7 @@ impl<R: Read> Input<R> {
     /// that minus zero is 0.
     pub fn signed(&mut self) -> Result<i64, ValueFault>
         ensures reads { Reads R.remaining R.read_errors R.lent IsSigned self.old self.new (as_breach result) }
+        ensures none { Refutes R.remaining IsSigned self.old (as_breach result) }
     {
         let number = self.unsigned()?;
         Ok(with_sign(number))
@@ -106,6 +107,7 @@ impl<R: Read> Input<R> {
     /// A real: its type from 0 to 7, and what the type says.
     pub fn real(&mut self) -> Result<Real, ValueFault>
         ensures reads { Reads R.remaining R.read_errors R.lent IsReal self.old self.new (as_breach result) }
+        ensures none { Refutes R.remaining IsReal self.old (as_breach result) }
     {
         let number = self.unsigned()?;
         let kind = self.known(real_type(number), ValueFault::RealType)?;

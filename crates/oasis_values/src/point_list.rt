@@ -162,7 +162,7 @@ fn close(points: &mut Vec<Point>, corner: Option<Point>)
 
 impl<R: Read> Input<R> {
     ghost use Rattle.oasis_values.specs.Input.{has_failed};
-    ghost use Rattle.oasis_values.specs.Reads.{Reads};
+    ghost use Rattle.oasis_values.specs.Reads.{Reads, Refutes};
     ghost use Rattle.oasis_values.specs.Faults.{as_breach, items};
     ghost use Rattle.oasis_values.specs.PointLists.{IsAlong, IsMore, IsStep, IsNext, AreVertices, IsListOf, IsPointList};
 
@@ -176,6 +176,7 @@ impl<R: Read> Input<R> {
         purpose: Use,
     ) -> Result<Vec<Point>, Refusal<ValueFault>>
         ensures reads { Reads R.remaining R.read_errors R.lent (IsPointList purpose) self.old self.new (items result) }
+        ensures none { Refutes R.remaining (IsPointList purpose) self.old (items result) }
     {
         let number = self.unsigned()?;
         let kind = self.known(list_type(number), ValueFault::PointListType)?;

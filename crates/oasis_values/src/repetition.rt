@@ -191,7 +191,7 @@ fn listed(shifts: Vec<Point>) -> Offsets
 
 impl<R: Read> Input<R> {
     ghost use Rattle.oasis_values.specs.Input.{has_failed};
-    ghost use Rattle.oasis_values.specs.Reads.{Reads};
+    ghost use Rattle.oasis_values.specs.Reads.{Reads, Refutes};
     ghost use Rattle.oasis_values.specs.Faults.{as_breach};
     ghost use Rattle.oasis_values.specs.Repetitions.{IsSpaceAlong, IsSpaceFree, IsSpace, IsShift, IsModal, IsLineOf, IsLine, IsColumns, IsMatrixOf, IsMatrix, IsGrid, AreShifts, IsSpreadOf, IsSpread, IsRepetition};
 
@@ -206,6 +206,7 @@ impl<R: Read> Input<R> {
         has_modal: bool,
     ) -> Result<Repetition, Refusal<ValueFault>>
         ensures reads { Reads R.remaining R.read_errors R.lent (IsRepetition has_modal) self.old self.new result }
+        ensures none { Refutes R.remaining (IsRepetition has_modal) self.old result }
     {
         let number = self.unsigned()?;
         let kind = self.known(kind_of(number), ValueFault::RepetitionType)?;

@@ -52,7 +52,7 @@ fn character(kind: Text, byte: u8) -> Option<u8>
 
 impl<R: Read> Input<R> {
     ghost use Rattle.oasis_values.specs.Input.{has_failed};
-    ghost use Rattle.oasis_values.specs.Reads.{Reads};
+    ghost use Rattle.oasis_values.specs.Reads.{Reads, Refutes};
     ghost use Rattle.oasis_values.specs.Faults.{as_breach, items};
     ghost use Rattle.oasis_values.specs.Texts.{IsCharacter, IsString, AreCharacters};
 
@@ -65,6 +65,7 @@ impl<R: Read> Input<R> {
         most: usize,
     ) -> Result<Vec<u8>, Refusal<ValueFault>>
         ensures reads { Reads R.remaining R.read_errors R.lent (IsString kind most) self.old self.new (items result) }
+        ensures none { Refutes R.remaining (IsString kind most) self.old (items result) }
     {
         let number = self.unsigned()?;
         let len = self.known(text_length(kind, most, number), ValueFault::StringByte)?;
