@@ -21,4 +21,6 @@ mod integer;
 mod number;
 mod point_list;
 mod repetition;
+#[cfg(test)]
+mod tests;
 mod text;

@@ -2,7 +2,8 @@
 ghost use Rattle.std.specs.Prelude.{◌≡◌, ◌<◌, ◌≤◌, ◌++◌, false, IfSome, vec_len, vec_capacity};
 ghost use Rattle.oasis_values.specs.Known.{among};
 ghost use Rattle.oasis_values.specs.Ranges.{sum};
-ghost use Rattle.oasis_values.specs.PointLists.{list_types, point_count, along, start_of, walked, implied, comes_in_pairs, if_any};
+ghost use Rattle.oasis_values.specs.PointLists.{list_types, comes_in_pairs, point_count};
+ghost use Rattle.oasis_values.specs.PointLists.{along, start_of, walked, implied, if_any};
 
 use crate::fault::ValueFault;
 use crate::input::Input;
@@ -190,7 +191,8 @@ impl<R: Read> Input<R> {
         purpose: Use,
         kind: ListType,
     ) -> Result<Vec<Point>, Refusal<ValueFault>>
-        ensures reads { Reads R.remaining R.read_errors R.lent (IsListOf purpose kind) self.old self.new (items result) }
+        ensures reads { Reads R.remaining R.read_errors R.lent
+            (IsListOf purpose kind) self.old self.new (items result) }
     {
         let number = self.unsigned()?;
         let count = self.known(point_count(purpose, kind, number), ValueFault::PointCount)?;
@@ -207,7 +209,8 @@ impl<R: Read> Input<R> {
     ) -> Result<Vec<Point>, Refusal<ValueFault>>
         requires live { has_failed self.old ≡ false }
         requires few { count ≤ 65536 }
-        ensures reads { Reads R.remaining R.read_errors R.lent (AreVertices purpose kind count) self.old self.new (items result) }
+        ensures reads { Reads R.remaining R.read_errors R.lent
+            (AreVertices purpose kind count) self.old self.new (items result) }
     {
         let Ok(mut points) = Vec::with_capacity(alloc, count + 2) else {
             self.stop();

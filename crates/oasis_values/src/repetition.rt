@@ -1,7 +1,8 @@
 //! Repetitions: the shifts at which a shape or a placement stands, as a lattice or as a list.
 ghost use Rattle.std.specs.Prelude.{◌≡◌, ◌<◌, ◌≤◌, ◌^◌, false, IfSome, vec_len, vec_capacity};
 ghost use Rattle.oasis_values.specs.Known.{among};
-ghost use Rattle.oasis_values.specs.Repetitions.{kinds, line_size, matrix_size, list_size, stepped, moved, space, widened, modal, lattice_in_range};
+ghost use Rattle.oasis_values.specs.Repetitions.{kinds, line_size, matrix_size, list_size, modal};
+ghost use Rattle.oasis_values.specs.Repetitions.{stepped, moved, space, widened, lattice_in_range};
 ghost use Rattle.lvl_cells.specs.Shifts.{StartsAtZero};
 ghost use Rattle.oasis_values.specs.inside.Sizes.{IsFew, IsSmall};
 
@@ -193,7 +194,9 @@ impl<R: Read> Input<R> {
     ghost use Rattle.oasis_values.specs.Input.{has_failed};
     ghost use Rattle.oasis_values.specs.Reads.{Reads, Refutes};
     ghost use Rattle.oasis_values.specs.Faults.{as_breach};
-    ghost use Rattle.oasis_values.specs.Repetitions.{IsSpaceAlong, IsSpaceFree, IsSpace, IsShift, IsModal, IsLineOf, IsLine, IsColumns, IsMatrixOf, IsMatrix, IsGrid, AreShifts, IsSpreadOf, IsSpread, IsRepetition};
+    ghost use Rattle.oasis_values.specs.Repetitions.{IsSpaceAlong, IsSpaceFree, IsSpace, IsShift, IsModal};
+    ghost use Rattle.oasis_values.specs.Repetitions.{IsLineOf, IsLine, IsColumns, IsMatrixOf, IsMatrix};
+    ghost use Rattle.oasis_values.specs.Repetitions.{IsGrid, AreShifts, IsSpreadOf, IsSpread, IsRepetition};
 
     /// A repetition. Type 0 takes the modal one, which has to be there.
     ///
@@ -277,7 +280,8 @@ impl<R: Read> Input<R> {
     fn columns(&mut self, spacing: Spacing, count: u64) -> Result<Point, ValueFault>
         requires some { 0 < count }
         requires few { count ≤ 16777216 }
-        ensures reads { Reads R.remaining R.read_errors R.lent (IsColumns spacing count) self.old self.new (as_breach result) }
+        ensures reads { Reads R.remaining R.read_errors R.lent
+            (IsColumns spacing count) self.old self.new (as_breach result) }
     {
         let step = self.shift(spacing, 1, ORIGIN)?;
         let row = self.known(lattice(step, count, ORIGIN, 1), ValueFault::OutOfRange)?;
@@ -309,7 +313,8 @@ impl<R: Read> Input<R> {
     ) -> Result<Repetition, Refusal<ValueFault>>
         requires live { has_failed self.old ≡ false }
         requires few { count ≤ 1048576 }
-        ensures reads { Reads R.remaining R.read_errors R.lent (IsSpreadOf spacing gridded count) self.old self.new result }
+        ensures reads { Reads R.remaining R.read_errors R.lent
+            (IsSpreadOf spacing gridded count) self.old self.new result }
     {
         let grid = self.grid(gridded)?;
         self.shifts(alloc, spacing, grid, count)
@@ -364,7 +369,8 @@ impl<R: Read> Input<R> {
 
     // An unsigned space along an axis.
     fn space_along(&mut self, along_x: bool) -> Result<Far, ValueFault>
-        ensures reads { Reads R.remaining R.read_errors R.lent (IsSpaceAlong along_x) self.old self.new (as_breach result) }
+        ensures reads { Reads R.remaining R.read_errors R.lent
+            (IsSpaceAlong along_x) self.old self.new (as_breach result) }
     {
         let far = self.unsigned()?;
         Ok(space(along_x, far))
@@ -380,7 +386,8 @@ impl<R: Read> Input<R> {
 
     // The shift after a space, taken as many times as the grid says.
     fn shift(&mut self, spacing: Spacing, grid: u64, before: Point) -> Result<Point, ValueFault>
-        ensures reads { Reads R.remaining R.read_errors R.lent (IsShift spacing grid before) self.old self.new (as_breach result) }
+        ensures reads { Reads R.remaining R.read_errors R.lent
+            (IsShift spacing grid before) self.old self.new (as_breach result) }
     {
         let by = self.space(spacing)?;
         self.known(moved(before, by, grid), ValueFault::OutOfRange)

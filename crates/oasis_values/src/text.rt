@@ -80,7 +80,8 @@ impl<R: Read> Input<R> {
         len: usize,
     ) -> Result<Vec<u8>, Refusal<ValueFault>>
         requires { has_failed self.old ≡ false }
-        ensures reads { Reads R.remaining R.read_errors R.lent (AreCharacters kind len) self.old self.new (items result) }
+        ensures reads { Reads R.remaining R.read_errors R.lent
+            (AreCharacters kind len) self.old self.new (items result) }
     {
         let Ok(mut text) = Vec::with_capacity(alloc, len) else {
             self.stop();
