@@ -1,0 +1,30 @@
+use Rattle.std.proofs.lemmas.Result.{err_from_is_err_and}
+use Rattle.lvl_io.specs.Spelling.{Then}
+use Rattle.oasis_values.specs.Known.{Known}
+use Rattle.oasis_values.specs.Numbers.{IsUnsigned}
+use Rattle.oasis_values.specs.Repetitions.{matrix_size, IsMatrixOf}
+use Rattle.oasis_values.proofs.Reading.{reads_err, reads_then}
+use Rattle.oasis_values.proofs.Places.{after_columns_said, after_rows_said, matrix_of_said}
+use Rattle.oasis_values.specs.declared.fault.ValueFault.TheVariants.{RepetitionSize}
+use Rattle.oasis_values.proofs.input.Input.matrix.Goals as goal
+
+pub returns-in_err-columns : goal.returns-in_err-columns
+returns-in_err-columns g c =
+    let p = err_from_is_err_and c.from_residual.result c.from_residual.ensures.1 in
+    rw (p.1, p.2) (record { reads = reads_err (λ d. Then IsUnsigned (λ e. Then (Known (matrix_size d e) RepetitionSize) (IsMatrixOf c.args.first c.args.second))) (after_columns_said c.args.first c.args.second) c.in_err-columns.ensures.reads })
+
+pub returns-in_err-rows : goal.returns-in_err-rows
+returns-in_err-rows g c =
+    let p = err_from_is_err_and c.from_residual-in_err-rows.result c.from_residual-in_err-rows.ensures.1 in
+    rw (p.1, p.2) (record { reads = reads_then (λ d. Then IsUnsigned (λ e. Then (Known (matrix_size d e) RepetitionSize) (IsMatrixOf c.args.first c.args.second))) c.in_ok-columns.ensures.reads (reads_err (λ e. Then (Known (matrix_size c.in_ok-columns.columns e) RepetitionSize) (IsMatrixOf c.args.first c.args.second)) (after_rows_said c.args.first c.args.second c.in_ok-columns.columns) c.in_err-rows.ensures.reads) })
+
+pub returns-in_err-size : goal.returns-in_err-size
+returns-in_err-size g c =
+    let p = err_from_is_err_and c.from_residual-in_err-size.result c.from_residual-in_err-size.ensures.1 in
+    let q = rw c.matrix_size.ensures at c.in_err-size.ensures.reads in
+    rw (p.1, p.2) (record { reads = reads_then (λ d. Then IsUnsigned (λ e. Then (Known (matrix_size d e) RepetitionSize) (IsMatrixOf c.args.first c.args.second))) c.in_ok-columns.ensures.reads (reads_then (λ e. Then (Known (matrix_size c.in_ok-columns.columns e) RepetitionSize) (IsMatrixOf c.args.first c.args.second)) c.in_ok-rows.ensures.reads (reads_err (IsMatrixOf c.args.first c.args.second) (matrix_of_said c.args.first c.args.second) q)) })
+
+pub returns : goal.returns
+returns g c =
+    let q = rw c.matrix_size.ensures at c.in_ok-size.ensures.reads in
+    record { reads = reads_then (λ d. Then IsUnsigned (λ e. Then (Known (matrix_size d e) RepetitionSize) (IsMatrixOf c.args.first c.args.second))) c.in_ok-columns.ensures.reads (reads_then (λ e. Then (Known (matrix_size c.in_ok-columns.columns e) RepetitionSize) (IsMatrixOf c.args.first c.args.second)) c.in_ok-rows.ensures.reads (reads_then (IsMatrixOf c.args.first c.args.second) q c.matrix_of.ensures.reads)) }

@@ -1,0 +1,52 @@
+-- Deltas (SEMI P39 OASIS 1.0, "Deltas"). A 1-delta is a signed integer.
+use Rattle.std.specs.Prelude.{◌≡◌, ℕ, ◌/◌, ◌%◌, ◌==◌, Bool, true, false, List, [], ◌∷◌, Result, Ok, Err, pos, neg_ℤ, ℤ}
+use Rattle.lvl_io.specs.Spelling.{Gives, Then}
+use Rattle.lvl_grid.specs.declared.point.Point.{Point}
+use Rattle.oasis_values.specs.Known.{one_of, Seen}
+use Rattle.oasis_values.specs.Numbers.{IsUnsigned}
+use Rattle.oasis_values.specs.Reals.{with_sign}
+use Rattle.oasis_values.specs.declared.fault.ValueFault.{ValueFault}
+use Rattle.oasis_values.specs.declared.delta.Direction.{Direction}
+use Rattle.oasis_values.specs.declared.delta.Direction.TheVariants.{East, North, West, South, Northeast, Northwest, Southwest, Southeast}
+
+-- the directions, numbered from 0
+abbrev pub direction_of : ℕ → Direction
+direction_of = one_of 0 (East ∷ North ∷ West ∷ South ∷ Northeast ∷ Northwest ∷ Southwest ∷ []) Southeast
+
+abbrev pub to : ℤ → ℤ → Point
+to x y = record { x = x; y = y }
+
+-- so far in a direction, along both axes in one between them
+abbrev pub toward : Direction → ℕ → Point
+toward East m = to (pos m) (pos 0)
+toward North m = to (pos 0) (pos m)
+toward West m = to (neg_ℤ (pos m)) (pos 0)
+toward South m = to (pos 0) (neg_ℤ (pos m))
+toward Northeast m = to (pos m) (pos m)
+toward Northwest m = to (neg_ℤ (pos m)) (pos m)
+toward Southwest m = to (neg_ℤ (pos m)) (neg_ℤ (pos m))
+toward Southeast m = to (pos m) (neg_ℤ (pos m))
+
+-- east and north by two numbers, the lowest bit of each of which says west or south
+abbrev pub free : ℕ → ℕ → Point
+free across up = to (with_sign across) (with_sign up)
+
+abbrev pub two_delta : ℕ → Point
+two_delta n = toward (direction_of (n % 4)) (n / 4)
+
+abbrev pub three_delta : ℕ → Point
+three_delta n = toward (direction_of (n % 8)) (n / 8)
+
+abbrev pub IsTwoDelta : List ℕ → Result Point ValueFault → Type 0
+IsTwoDelta = Seen two_delta IsUnsigned
+
+abbrev pub IsThreeDelta : List ℕ → Result Point ValueFault → Type 0
+IsThreeDelta = Seen three_delta IsUnsigned
+
+-- what follows the first integer, by whether its lowest bit is 0
+abbrev pub IsRestOfGDelta : Bool → ℕ → List ℕ → Result Point ValueFault → Type 0
+IsRestOfGDelta true n = Gives (Ok (toward (direction_of (n / 2 % 8)) (n / 16)))
+IsRestOfGDelta false n = Seen (free (n / 2)) IsUnsigned
+
+abbrev pub IsGDelta : List ℕ → Result Point ValueFault → Type 0
+IsGDelta = Then IsUnsigned (λ n. IsRestOfGDelta (n % 2 == 0) n)

@@ -1,0 +1,35 @@
+-- The faults of values, and what each says of the call that answered it.
+use Rattle.std.specs.Prelude.{Bool, true, false, List, Result, Ok, Err}
+use Rattle.std.specs.Global.{Vec}
+use Rattle.lvl_refusal.specs.declared.Refusal.{Refusal}
+use Rattle.lvl_refusal.specs.declared.Refusal.TheVariants.{Breach, OutOfMemory}
+use Rattle.oasis_values.specs.declared.fault.ValueFault.{ValueFault}
+use Rattle.oasis_values.specs.declared.fault.ValueFault.TheVariants.{Truncated, TooLong, Read, Failed}
+
+-- an answer of a call that takes no memory
+abbrev pub as_breach : {A : Type 0} → Result A ValueFault → Result A (Refusal ValueFault)
+as_breach (Ok x) = Ok x
+as_breach (Err f) = Err (Breach f)
+
+-- whether a fault is a rule of values that the bytes breach: all but these four, which are of the input and the reader
+abbrev pub is_rule : ValueFault → Bool
+is_rule Truncated = false
+is_rule TooLong = false
+is_rule Read = false
+is_rule Failed = false
+is_rule f = true
+
+abbrev pub is_read_fault : ValueFault → Bool
+is_read_fault Read = true
+is_read_fault f = false
+
+-- whether a call answered that the reader failed
+abbrev pub reader_failed : {A : Type 0} → Result A (Refusal ValueFault) → Bool
+reader_failed (Ok x) = false
+reader_failed (Err OutOfMemory) = false
+reader_failed (Err (Breach f)) = is_read_fault f
+
+-- what a list that was read holds
+abbrev pub items : {A : Type 0} → Result (Vec A) (Refusal ValueFault) → Result (List A) (Refusal ValueFault)
+items (Ok v) = Ok v.items
+items (Err e) = Err e

@@ -1,0 +1,28 @@
+-- What a clause reads of an `Input`.
+use Rattle.std.specs.Prelude.{ℕ, ◌-◌, Bool, List, Option}
+use Rattle.std.specs.Io.KnownBytes.{prepend_known}
+use Rattle.oasis_values.specs.declared.input.Input.{Input}
+
+-- how long a file may be, in bytes (own rule)
+abbrev pub file_limit : ℕ
+file_limit = 4294967295
+
+-- the bytes still to come, where they are known, for a reader that has `remaining`
+abbrev pub bytes_left : {R : Type 0} → (R → Option (List ℕ)) → Input R → Option (List ℕ)
+bytes_left remaining i = prepend_known i.ahead (remaining i.reader)
+
+-- how many bytes were taken
+abbrev pub input_offset : {R : Type 0} → Input R → ℕ
+input_offset i = i.offset
+
+-- whether a call met a fault
+abbrev pub has_failed : {R : Type 0} → Input R → Bool
+has_failed i = i.failed
+
+-- the reader
+abbrev pub input_reader : {R : Type 0} → Input R → R
+input_reader i = i.reader
+
+-- how many bytes may still be taken
+abbrev pub room_left : {R : Type 0} → Input R → ℕ
+room_left i = file_limit - i.offset

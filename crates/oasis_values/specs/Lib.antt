@@ -1,0 +1,12 @@
+pub mod Faults
+pub mod Input
+pub mod Known
+pub mod Numbers
+pub mod Reals
+pub mod Deltas
+pub mod Texts
+pub mod Ranges
+pub mod PointLists
+pub mod Repetitions
+pub mod Reads
+pub mod inside

@@ -1,0 +1,122 @@
+-- Point lists (SEMI P39 OASIS 1.0, "Point-list"). Own rules: the limits of the count, and that each vertex, and each step of
+-- a list of double deltas, is within 64 signed bits.
+use Rattle.std.specs.Prelude.{◌≡◌, ℕ, ◌%◌, ◌==◌, ◌&&◌, ◌||◌, not, nat_le, Bool, true, false, if◌then◌else◌, List, [], ◌∷◌, ◌++◌, Option, Some, None, option_map, Result, pos, ℤ}
+use Rattle.lvl_io.specs.Spelling.{Then, Chain}
+use Rattle.lvl_grid.specs.declared.point.Point.{Point}
+use Rattle.oasis_values.specs.Deltas.{to, IsTwoDelta, IsThreeDelta, IsGDelta}
+use Rattle.oasis_values.specs.Known.{among, Known, Seen}
+use Rattle.oasis_values.specs.Numbers.{IsUnsigned}
+use Rattle.oasis_values.specs.Ranges.{sum}
+use Rattle.oasis_values.specs.Reals.{IsSigned}
+use Rattle.oasis_values.specs.declared.fault.ValueFault.{ValueFault}
+use Rattle.oasis_values.specs.declared.fault.ValueFault.TheVariants.{PointListType, PointCount, OutOfRange}
+use Rattle.oasis_values.specs.declared.point_list.ListType.{ListType}
+use Rattle.oasis_values.specs.declared.point_list.ListType.TheVariants.{HorizontalFirst, VerticalFirst, Manhattan, Octangular, AllAngle, DoubleDelta}
+use Rattle.oasis_values.specs.declared.point_list.Use.{Use}
+use Rattle.oasis_values.specs.declared.point_list.Use.TheVariants.{Polygon, Path}
+use Rattle.oasis_values.specs.declared.point_list.Walk.{Walk}
+
+-- the types of lists, numbered from 0
+abbrev pub list_types : List ListType
+list_types = HorizontalFirst ∷ VerticalFirst ∷ Manhattan ∷ Octangular ∷ AllAngle ∷ DoubleDelta ∷ []
+
+-- in a polygon the first two types imply a last vertex, so that their deltas come in pairs
+abbrev pub comes_in_pairs : Use → ListType → Bool
+comes_in_pairs Polygon HorizontalFirst = true
+comes_in_pairs Polygon VerticalFirst = true
+comes_in_pairs Polygon Manhattan = false
+comes_in_pairs Polygon Octangular = false
+comes_in_pairs Polygon AllAngle = false
+comes_in_pairs Polygon DoubleDelta = false
+comes_in_pairs Path kind = false
+
+abbrev pub least_points : Use → ℕ
+least_points Polygon = 2
+least_points Path = 1
+
+-- the most points that a list may have
+abbrev pub most_points : ℕ
+most_points = 65536
+
+abbrev pub may_have : Use → ListType → ℕ → Bool
+may_have for kind n = nat_le (least_points for) n && nat_le n most_points && (not (comes_in_pairs for kind) || (n % 2 == 0))
+
+abbrev pub point_count : Use → ListType → ℕ → Option ℕ
+point_count for kind n = if may_have for kind n then Some n else None
+
+abbrev pub origin : Point
+origin = to (pos 0) (pos 0)
+
+-- a step along x or along y
+abbrev pub along : Bool → ℤ → Point
+along true far = to far (pos 0)
+along false far = to (pos 0) far
+
+abbrev pub IsAlong : Bool → List ℕ → Result Point ValueFault → Type 0
+IsAlong along_x = Seen (along along_x) IsSigned
+
+-- the step before and a g-delta
+abbrev pub IsMore : Point → List ℕ → Result Point ValueFault → Type 0
+IsMore before = Then IsGDelta (λ d. Known (sum before d) OutOfRange)
+
+-- the step from a vertex to the next
+abbrev pub IsStep : ListType → Walk → List ℕ → Result Point ValueFault → Type 0
+IsStep HorizontalFirst w = IsAlong w.along_x
+IsStep VerticalFirst w = IsAlong w.along_x
+IsStep Manhattan w = IsTwoDelta
+IsStep Octangular w = IsThreeDelta
+IsStep AllAngle w = IsGDelta
+IsStep DoubleDelta w = IsMore w.by
+
+abbrev pub is_horizontal : ListType → Bool
+is_horizontal HorizontalFirst = true
+is_horizontal VerticalFirst = false
+is_horizontal Manhattan = false
+is_horizontal Octangular = false
+is_horizontal AllAngle = false
+is_horizontal DoubleDelta = false
+
+-- at the start, with no step before it; 1-deltas go along x and y in turn
+abbrev pub start_of : ListType → Walk
+start_of kind = record { at = origin; by = origin; along_x = is_horizontal kind }
+
+abbrev pub walked : Walk → Point → Option Walk
+walked w by = option_map (λ p. record { at = p; by = by; along_x = not w.along_x }) (sum w.at by)
+
+-- a vertex is the one before it, moved by a step
+abbrev pub IsNext : ListType → Walk → List ℕ → Result Walk ValueFault → Type 0
+IsNext kind w = Then (IsStep kind w) (λ by. Known (walked w by) OutOfRange)
+
+-- the vertex that closes a polygon with both of its edges along the axes: the list goes on along the other axis than its
+-- last delta, back to where its start is
+abbrev pub implied : Use → ListType → Point → Option Point
+implied Polygon HorizontalFirst last = Some (to (pos 0) last.y)
+implied Polygon VerticalFirst last = Some (to last.x (pos 0))
+implied Polygon Manhattan last = None
+implied Polygon Octangular last = None
+implied Polygon AllAngle last = None
+implied Polygon DoubleDelta last = None
+implied Path kind last = None
+
+abbrev pub last_of : Point → List Point → Point
+last_of d [] = d
+last_of d (p ∷ ps) = last_of p ps
+
+abbrev pub if_any : Option Point → List Point
+if_any None = []
+if_any (Some p) = p ∷ []
+
+-- the start, the vertices, and the implied one
+abbrev pub closed : Use → ListType → List Point → List Point
+closed for kind ps = (origin ∷ ps) ++ if_any (implied for kind (last_of origin ps))
+
+abbrev pub AreVertices : Use → ListType → ℕ → List ℕ → Result (List Point) ValueFault → Type 0
+AreVertices for kind n = Seen (closed for kind) (Chain (IsNext kind) (λ w. w.at) n (start_of kind))
+
+-- a count, and so many vertices
+abbrev pub IsListOf : Use → ListType → List ℕ → Result (List Point) ValueFault → Type 0
+IsListOf for kind = Then IsUnsigned (λ n. Then (Known (point_count for kind n) PointCount) (AreVertices for kind))
+
+-- a type, and what it says
+abbrev pub IsPointList : Use → List ℕ → Result (List Point) ValueFault → Type 0
+IsPointList for = Then IsUnsigned (λ n. Then (Known (among 0 list_types n) PointListType) (IsListOf for))

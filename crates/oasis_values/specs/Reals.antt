@@ -1,0 +1,48 @@
+-- Signed integers and reals (SEMI P39 OASIS 1.0, "Signed-integer", "Real").
+use Rattle.std.specs.Prelude.{◌≡◌, ℕ, ◌/◌, ◌%◌, ◌==◌, if◌then◌else◌, List, [], ◌∷◌, length, Option, Some, None, Result, Ok, Err, pos, neg_ℤ, ℤ}
+use Rattle.lvl_io.specs.Spelling.{Then, Chain}
+use Rattle.oasis_values.specs.Known.{among, Known, Seen}
+use Rattle.oasis_values.specs.Numbers.{IsByte, IsUnsigned}
+use Rattle.oasis_values.specs.declared.fault.ValueFault.{ValueFault}
+use Rattle.oasis_values.specs.declared.fault.ValueFault.TheVariants.{RealType as unknown_type, ZeroDenominator}
+use Rattle.oasis_values.specs.declared.number.Real.{Real}
+use Rattle.oasis_values.specs.declared.number.Real.TheVariants.{Whole, NegWhole, Reciprocal, NegReciprocal, Ratio, NegRatio, Four, Eight}
+use Rattle.oasis_values.specs.declared.number.RealType.{RealType}
+use Rattle.oasis_values.specs.declared.number.RealType.TheVariants.{Whole as OfWhole, NegWhole as OfNegWhole, Reciprocal as OfReciprocal, NegReciprocal as OfNegReciprocal, Ratio as OfRatio, NegRatio as OfNegRatio, Four as OfFour, Eight as OfEight}
+
+-- the lowest bit is the sign, and the rest the magnitude
+abbrev pub with_sign : ℕ → ℤ
+with_sign n = if n % 2 == 0 then pos (n / 2) else neg_ℤ (pos (n / 2))
+
+abbrev pub IsSigned : List ℕ → Result ℤ ValueFault → Type 0
+IsSigned = Seen with_sign IsUnsigned
+
+-- own rule: a denominator isn't zero
+abbrev pub not_zero : ℕ → Option ℕ
+not_zero n = if n == 0 then None else Some n
+
+abbrev pub IsDenominator : List ℕ → Result ℕ ValueFault → Type 0
+IsDenominator = Then IsUnsigned (λ n. Known (not_zero n) ZeroDenominator)
+
+-- n bytes, of any value
+abbrev pub IsBytes : ℕ → List ℕ → Result (List ℕ) ValueFault → Type 0
+IsBytes n = Chain (λ _. IsByte) (λ x. x) n 0
+
+-- the types of reals, numbered from 0
+abbrev pub real_types : List RealType
+real_types = OfWhole ∷ OfNegWhole ∷ OfReciprocal ∷ OfNegReciprocal ∷ OfRatio ∷ OfNegRatio ∷ OfFour ∷ OfEight ∷ []
+
+-- what follows the type
+abbrev pub IsRealOf : RealType → List ℕ → Result Real ValueFault → Type 0
+IsRealOf OfWhole = Seen Whole IsUnsigned
+IsRealOf OfNegWhole = Seen NegWhole IsUnsigned
+IsRealOf OfReciprocal = Seen Reciprocal IsDenominator
+IsRealOf OfNegReciprocal = Seen NegReciprocal IsDenominator
+IsRealOf OfRatio = Then IsUnsigned (λ n. Seen (Ratio n) IsDenominator)
+IsRealOf OfNegRatio = Then IsUnsigned (λ n. Seen (NegRatio n) IsDenominator)
+IsRealOf OfFour = Seen Four (IsBytes 4)
+IsRealOf OfEight = Seen Eight (IsBytes 8)
+
+-- a type, and what it says
+abbrev pub IsReal : List ℕ → Result Real ValueFault → Type 0
+IsReal = Then IsUnsigned (λ n. Then (Known (among 0 real_types n) unknown_type) IsRealOf)

@@ -1,0 +1,141 @@
+-- Repetitions (SEMI P39 OASIS 1.0, "Repetition"). Own rules: the most places of a lattice and of a list, and that each shift is
+-- within 64 signed bits.
+use Rattle.std.specs.Prelude.{◌≡◌, ℕ, ◌+◌, ◌*◌, ◌-◌, nat_le, Bool, true, false, if◌then◌else◌, List, [], ◌∷◌, Option, Some, None, Result, Ok, pos, ℤ, ◌+ℤ◌, ◌*ℤ◌}
+use Rattle.std.specs.List.{list_all}
+use Rattle.lvl_io.specs.Spelling.{Gives, Then, Chain}
+use Rattle.lvl_grid.specs.declared.point.Point.{Point}
+use Rattle.lvl_cells.specs.Shifts.{lattice, most_places}
+use Rattle.oasis_values.specs.Deltas.{to, IsGDelta}
+use Rattle.oasis_values.specs.Known.{among, Known, Seen}
+use Rattle.oasis_values.specs.Numbers.{IsUnsigned}
+use Rattle.oasis_values.specs.PointLists.{origin}
+use Rattle.oasis_values.specs.Ranges.{in_range, is_in_range, is_point_in_range}
+use Rattle.oasis_values.specs.declared.fault.ValueFault.{ValueFault}
+use Rattle.oasis_values.specs.declared.fault.ValueFault.TheVariants.{RepetitionType, RepetitionSize, OutOfRange, NoModal}
+use Rattle.oasis_values.specs.declared.repetition.Far.{Far}
+use Rattle.oasis_values.specs.declared.repetition.Kind.{Kind}
+use Rattle.oasis_values.specs.declared.repetition.Kind.TheVariants.{Modal, Matrix, Line, List as Listed}
+use Rattle.oasis_values.specs.declared.repetition.Repetition.{Repetition}
+use Rattle.oasis_values.specs.declared.repetition.Repetition.TheVariants.{Modal as TheModal, New}
+use Rattle.oasis_values.specs.declared.repetition.Size.{Size}
+use Rattle.oasis_values.specs.declared.repetition.Spacing.{Spacing}
+use Rattle.oasis_values.specs.declared.repetition.Spacing.TheVariants.{AlongX, AlongY, Free}
+
+-- the types of repetitions, numbered from 0: what each is made of, and whether its spaces are multiplied by a grid
+abbrev pub kinds : List Kind
+kinds =
+    Modal
+    ∷ Matrix AlongX AlongY
+    ∷ Line AlongX
+    ∷ Line AlongY
+    ∷ Listed AlongX false
+    ∷ Listed AlongX true
+    ∷ Listed AlongY false
+    ∷ Listed AlongY true
+    ∷ Matrix Free Free
+    ∷ Line Free
+    ∷ Listed Free false
+    ∷ Listed Free true
+    ∷ []
+
+-- a repetition has two places more than a dimension says
+abbrev pub line_size : ℕ → Option ℕ
+line_size n = if nat_le (n + 2) most_places then Some (n + 2) else None
+
+abbrev pub matrix_size : ℕ → ℕ → Option Size
+matrix_size n m = if nat_le ((n + 2) * (m + 2)) most_places then Some (record { columns = n + 2; rows = m + 2 }) else None
+
+-- the most places of a list
+abbrev pub most_listed : ℕ
+most_listed = 1048576
+
+-- and one space more
+abbrev pub list_size : ℕ → Option ℕ
+list_size n = if nat_le (n + 2) most_listed then Some (n + 1) else None
+
+-- so many times a space after a coordinate
+abbrev pub stepped : ℤ → ℤ → ℕ → Option ℤ
+stepped before by times = let z = before +ℤ (pos times *ℤ by) in if is_in_range z then Some z else None
+
+abbrev pub moved : Point → Far → ℕ → Option Point
+moved p by times = in_range (to (p.x +ℤ (pos times *ℤ by.x)) (p.y +ℤ (pos times *ℤ by.y)))
+
+-- a space along x or along y
+abbrev pub space : Bool → ℕ → Far
+space true far = record { x = pos far; y = pos 0 }
+space false far = record { x = pos 0; y = pos far }
+
+abbrev pub widened : Point → Far
+widened d = record { x = d.x; y = d.y }
+
+abbrev pub IsSpaceAlong : Bool → List ℕ → Result Far ValueFault → Type 0
+IsSpaceAlong along_x = Seen (space along_x) IsUnsigned
+
+abbrev pub IsSpaceFree : List ℕ → Result Far ValueFault → Type 0
+IsSpaceFree = Seen widened IsGDelta
+
+abbrev pub IsSpace : Spacing → List ℕ → Result Far ValueFault → Type 0
+IsSpace AlongX = IsSpaceAlong true
+IsSpace AlongY = IsSpaceAlong false
+IsSpace Free = IsSpaceFree
+
+-- a shift is the one before it, moved by a space as many times as the grid says
+abbrev pub IsShift : Spacing → ℕ → Point → List ℕ → Result Point ValueFault → Type 0
+IsShift spacing grid before = Then (IsSpace spacing) (λ by. Known (moved before by grid) OutOfRange)
+
+-- the lattice of two steps, where all its shifts are in range
+abbrev pub lattice_in_range : Point → ℕ → Point → ℕ → Option (List Point)
+lattice_in_range a m b n = if list_all is_point_in_range (lattice a m b n) then Some (lattice a m b n) else None
+
+-- type 0: there is a modal repetition
+abbrev pub modal : Bool → Option Repetition
+modal true = Some TheModal
+modal false = None
+
+abbrev pub IsModal : Bool → List ℕ → Result Repetition ValueFault → Type 0
+IsModal has_modal = Known (modal has_modal) NoModal
+
+-- n places along a step
+abbrev pub IsLineOf : Spacing → ℕ → List ℕ → Result Repetition ValueFault → Type 0
+IsLineOf spacing n = Then (IsShift spacing 1 origin) (λ a. Seen New (Known (lattice_in_range a n origin 1) OutOfRange))
+
+abbrev pub IsLine : Spacing → List ℕ → Result Repetition ValueFault → Type 0
+IsLine spacing = Then IsUnsigned (λ d. Then (Known (line_size d) RepetitionSize) (IsLineOf spacing))
+
+-- the first of two steps, with its places in range
+abbrev pub IsColumns : Spacing → ℕ → List ℕ → Result Point ValueFault → Type 0
+IsColumns spacing n = Then (IsShift spacing 1 origin) (λ a. Seen (λ _. a) (Known (lattice_in_range a n origin 1) OutOfRange))
+
+-- places along two steps
+abbrev pub IsMatrixOf : Spacing → Spacing → Size → List ℕ → Result Repetition ValueFault → Type 0
+IsMatrixOf first second s =
+    Then (IsColumns first s.columns) (λ a. Then (IsShift second 1 origin) (λ b. Seen New (Known (lattice_in_range a s.columns b s.rows) OutOfRange)))
+
+abbrev pub IsMatrix : Spacing → Spacing → List ℕ → Result Repetition ValueFault → Type 0
+IsMatrix first second = Then IsUnsigned (λ d. Then IsUnsigned (λ e. Then (Known (matrix_size d e) RepetitionSize) (IsMatrixOf first second)))
+
+-- the grid that spaces are multiplied by, if there is one
+abbrev pub IsGrid : Bool → List ℕ → Result ℕ ValueFault → Type 0
+IsGrid true = IsUnsigned
+IsGrid false = Gives (Ok 1)
+
+-- n shifts after the zero shift
+abbrev pub AreShifts : Spacing → ℕ → ℕ → List ℕ → Result Repetition ValueFault → Type 0
+AreShifts spacing n grid = Seen (λ ps. New (origin ∷ ps)) (Chain (IsShift spacing grid) (λ p. p) n origin)
+
+abbrev pub IsSpreadOf : Spacing → Bool → ℕ → List ℕ → Result Repetition ValueFault → Type 0
+IsSpreadOf spacing gridded n = Then (IsGrid gridded) (AreShifts spacing n)
+
+abbrev pub IsSpread : Spacing → Bool → List ℕ → Result Repetition ValueFault → Type 0
+IsSpread spacing gridded = Then IsUnsigned (λ d. Then (Known (list_size d) RepetitionSize) (IsSpreadOf spacing gridded))
+
+-- what follows the type
+abbrev pub IsKind : Bool → Kind → List ℕ → Result Repetition ValueFault → Type 0
+IsKind has_modal Modal = IsModal has_modal
+IsKind has_modal (Matrix first second) = IsMatrix first second
+IsKind has_modal (Line spacing) = IsLine spacing
+IsKind has_modal (Listed spacing gridded) = IsSpread spacing gridded
+
+-- a type, and what it says
+abbrev pub IsRepetition : Bool → List ℕ → Result Repetition ValueFault → Type 0
+IsRepetition has_modal = Then IsUnsigned (λ n. Then (Known (among 0 kinds n) RepetitionType) (IsKind has_modal))

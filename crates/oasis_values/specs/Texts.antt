@@ -1,0 +1,37 @@
+-- Strings (SEMI P39 OASIS 1.0, "Strings"): a length and that many bytes, each of the string's kind. The most bytes that a
+-- string may have is own rule.
+use Rattle.std.specs.Prelude.{ℕ, ◌&&◌, nat_le, Bool, true, if◌then◌else◌, List, Option, Some, None, Result}
+use Rattle.lvl_io.specs.Spelling.{Then, Chain}
+use Rattle.oasis_values.specs.Known.{Known}
+use Rattle.oasis_values.specs.Numbers.{IsByte, IsUnsigned}
+use Rattle.oasis_values.specs.declared.fault.ValueFault.{ValueFault}
+use Rattle.oasis_values.specs.declared.fault.ValueFault.TheVariants.{StringByte}
+use Rattle.oasis_values.specs.declared.text.Text.{Text}
+use Rattle.oasis_values.specs.declared.text.Text.TheVariants.{A, B, N}
+
+-- the fewest bytes: an n-string isn't empty
+abbrev pub least_length : Text → ℕ
+least_length A = 0
+least_length B = 0
+least_length N = 1
+
+abbrev pub text_length : Text → ℕ → ℕ → Option ℕ
+text_length kind most n = if nat_le (least_length kind) n && nat_le n most then Some n else None
+
+-- printable characters, of which the space is only an a-string's; in a b-string any byte
+abbrev pub has_character : Text → ℕ → Bool
+has_character A c = nat_le 0x20 c && nat_le c 0x7E
+has_character B c = true
+has_character N c = nat_le 0x21 c && nat_le c 0x7E
+
+abbrev pub character : Text → ℕ → Option ℕ
+character kind c = if has_character kind c then Some c else None
+
+abbrev pub IsCharacter : Text → List ℕ → Result ℕ ValueFault → Type 0
+IsCharacter kind = Then IsByte (λ c. Known (character kind c) StringByte)
+
+abbrev pub AreCharacters : Text → ℕ → List ℕ → Result (List ℕ) ValueFault → Type 0
+AreCharacters kind n = Chain (λ _. IsCharacter kind) (λ c. c) n 0
+
+abbrev pub IsString : Text → ℕ → List ℕ → Result (List ℕ) ValueFault → Type 0
+IsString kind most = Then IsUnsigned (λ n. Then (Known (text_length kind most n) StringByte) (AreCharacters kind))

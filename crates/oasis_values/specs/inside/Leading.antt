@@ -1,0 +1,34 @@
+-- How integers and bytes are found in the bytes in hand.
+use Rattle.std.specs.Prelude.{◌≡◌, ◌≢◌, ℕ, ◌<◌, List, length, Option, Some, Result, Ok, Err}
+use Rattle.lvl_io.specs.Spelling.{IsFront}
+use Rattle.oasis_values.specs.Numbers.{Continues, IsUnsigned}
+use Rattle.oasis_values.specs.Reads.{Fails}
+use Rattle.oasis_values.specs.declared.fault.ValueFault.{ValueFault}
+use Rattle.oasis_values.specs.declared.fault.ValueFault.TheVariants.{Truncated, IntegerTooLarge, TooLong, Read, Failed}
+use Rattle.oasis_values.specs.declared.find.Found.{Found}
+use Rattle.oasis_values.specs.declared.integer.Leading.{Leading}
+use Rattle.oasis_values.specs.declared.integer.Leading.TheVariants.{Whole, TooLarge, Unfinished}
+
+-- what bytes begin with
+abbrev pub Leads : Leading → List ℕ → Type 0
+Leads (Whole value len) xs = IsFront IsUnsigned xs len (Ok value)
+Leads TooLarge xs = IsFront IsUnsigned xs 10 (Err IntegerTooLarge)
+Leads Unfinished xs = Continues xs × (length xs < 10)
+
+-- the faults that can come where another byte is wanted
+abbrev pub IsStop : ValueFault → Type 0
+IsStop Truncated = Unit {0}
+IsStop TooLong = Unit {0}
+IsStop Read = Unit {0}
+IsStop f = ⊥
+
+-- where n bytes were had and one more was wanted: there is none, or it may not be taken
+abbrev pub Stops : ValueFault → ℕ → ℕ → List ℕ → Type 0
+Stops Truncated n room xs = length xs ≡ n
+Stops TooLong n room xs = (room ≡ n) × (n < length xs)
+Stops f n room xs = Unit {0}
+
+-- what was found at the front of known bytes
+abbrev pub Finds : {A : Type 0} → (List ℕ → Result A ValueFault → Type 0) → ℕ → Option (List ℕ) → Result (Found A) ValueFault → Type 0
+Finds S room known (Ok found) = (xs : List ℕ) → known ≡ Some xs → IsFront S xs found.len (Ok found.value)
+Finds S room known (Err f) = (f ≢ Failed) × ((xs : List ℕ) → known ≡ Some xs → Fails S room xs f)

@@ -1,0 +1,9 @@
+-- An input in which an allocation failed: nothing else changed.
+use Rattle.std.specs.Prelude.{◌≡◌, true}
+use Rattle.oasis_values.specs.declared.input.Input.{Input}
+
+pub record HasStopped {R : Type 0} (old new : Input R) : Type 0 where
+  pub failed : new.failed ≡ true
+  pub ahead : new.ahead ≡ old.ahead
+  pub offset : new.offset ≡ old.offset
+  pub reader : new.reader ≡ old.reader

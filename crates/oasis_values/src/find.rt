@@ -1,0 +1,101 @@
+//! A byte and an unsigned integer at the front of an input: the only values that are read from the
+//! reader's bytes themselves.
+ghost use Rattle.std.specs.Prelude.{◌≡◌, ◌^◌, ◌<◌, ◌≤◌, ◌+◌, List, ℕ, Some, Ok, Err, IfOk, IfErr, length, take};
+ghost use Rattle.std.specs.Io.KnownBytes.{prepend_known};
+ghost use Rattle.lvl_io.specs.Known.{Stays};
+ghost use Rattle.lvl_io.specs.Bytes.{CountsFailure};
+ghost use Rattle.oasis_values.specs.Faults.{reader_failed, as_breach};
+ghost use Rattle.oasis_values.specs.Numbers.{IsByte, IsUnsigned};
+ghost use Rattle.oasis_values.specs.inside.Leading.{IsStop, Stops, Finds};
+
+use crate::buffer::Buffer;
+use crate::fault::ValueFault;
+use crate::integer::{Leading, scan_integer};
+use lvl_io::Read;
+
+/// What was found, and how many bytes it has.
+#[derive(Clone, Copy)]
+pub struct Found<T> {
+    pub value: T,
+    pub len: usize,
+}
+
+// Reads until one byte more than `n` is ahead, of which only `room` may be taken.
+fn want_more<R: Read>(
+    reader: &mut R,
+    ahead: &mut Buffer,
+    room: u64,
+    n: usize,
+) -> Result<(), ValueFault>
+    requires few { n < 4096 }
+    requires had { n ≤ length ahead.old }
+    requires within { n ≤ room }
+    ensures bytes { Stays (prepend_known ahead.old (R.remaining reader.old))
+        (prepend_known ahead.new (R.remaining reader.new)) }
+    ensures front { take (length ahead.old) ahead.new ≡ ahead.old }
+    ensures had { IfOk result (λ _. (n < length ahead.new) × (n < room)) }
+    ensures stops { IfErr result (λ f. IsStop f × ((xs : List ℕ)
+        → prepend_known ahead.old (R.remaining reader.old) ≡ Some xs → Stops f n room xs)) }
+    ensures errors { CountsFailure (R.read_errors reader.old) (R.read_errors reader.new)
+        (reader_failed (as_breach result)) }
+    ensures same { R.lent reader.new ≡ R.lent reader.old }
+{
+    if ahead.ahead().len() <= n {
+        match ahead.pull(reader) {
+            Ok(0) => return Err(ValueFault::Truncated),
+            Ok(_) => {}
+            Err(_) => return Err(ValueFault::Read),
+        }
+    }
+    if n as u64 == room {
+        return Err(ValueFault::TooLong);
+    }
+    Ok(())
+}
+
+// Finds the byte at the front.
+pub(crate) fn find_byte<R: Read>(
+    reader: &mut R,
+    ahead: &mut Buffer,
+    room: u64,
+) -> Result<Found<u8>, ValueFault>
+    ensures bytes { Stays (prepend_known ahead.old (R.remaining reader.old))
+        (prepend_known ahead.new (R.remaining reader.new)) }
+    ensures had { IfOk result (λ found. (found.len ≤ length ahead.new) × (found.len ≤ room)) }
+    ensures finds { Finds IsByte room (prepend_known ahead.old (R.remaining reader.old)) result }
+    ensures errors { CountsFailure (R.read_errors reader.old) (R.read_errors reader.new)
+        (reader_failed (as_breach result)) }
+    ensures same { R.lent reader.new ≡ R.lent reader.old }
+{
+    want_more(reader, ahead, room, 0)?;
+    Ok(Found {
+        value: ahead.ahead()[0],
+        len: 1,
+    })
+}
+
+// Finds the unsigned integer at the front.
+pub(crate) fn find_integer<R: Read>(
+    reader: &mut R,
+    ahead: &mut Buffer,
+    room: u64,
+) -> Result<Found<u64>, ValueFault>
+    requires { room < 2 ^ 32 }
+    ensures bytes { Stays (prepend_known ahead.old (R.remaining reader.old))
+        (prepend_known ahead.new (R.remaining reader.new)) }
+    ensures had { IfOk result (λ found. (found.len ≤ length ahead.new) × (found.len ≤ room)) }
+    ensures finds { Finds IsUnsigned room (prepend_known ahead.old (R.remaining reader.old)) result }
+    ensures errors { CountsFailure (R.read_errors reader.old) (R.read_errors reader.new)
+        (reader_failed (as_breach result)) }
+    ensures same { R.lent reader.new ≡ R.lent reader.old }
+{
+    'integer: loop {
+        let hand = ahead.ahead();
+        let most = hand.len().min(room as usize);
+        match scan_integer(&hand[..most]) {
+            Leading::Whole(value, len) => return Ok(Found { value, len }),
+            Leading::TooLarge => return Err(ValueFault::IntegerTooLarge),
+            Leading::Unfinished => want_more(reader, ahead, room, most)?,
+        }
+    }
+}

@@ -1,0 +1,395 @@
+//! Repetitions: the shifts at which a shape or a placement stands, as a lattice or as a list.
+ghost use Rattle.std.specs.Prelude.{◌≡◌, ◌<◌, ◌≤◌, ◌^◌, false, IfSome, vec_len, vec_capacity};
+ghost use Rattle.oasis_values.specs.Known.{among};
+ghost use Rattle.oasis_values.specs.Repetitions.{kinds, line_size, matrix_size, list_size, modal};
+ghost use Rattle.oasis_values.specs.Repetitions.{stepped, moved, space, widened, lattice_in_range};
+ghost use Rattle.lvl_cells.specs.Shifts.{StartsAtZero};
+ghost use Rattle.oasis_values.specs.inside.Sizes.{IsFew, IsSmall};
+
+use crate::fault::ValueFault;
+use crate::input::Input;
+use lvl_cells::Offsets;
+use lvl_grid::Point;
+use lvl_io::Read;
+use lvl_refusal::Refusal;
+use std::alloc::Global;
+
+/// A repetition, as a record has it.
+#[derive(Debug, Drop)]
+pub enum Repetition {
+    /// That of the record before. Nothing of it is copied.
+    Modal,
+    /// These shifts.
+    New(Offsets),
+}
+
+/// Along what the spaces of a repetition go.
+#[derive(Clone, Copy, Debug, Drop, PartialEq, Eq)]
+pub enum Spacing {
+    /// Unsigned spaces along x.
+    AlongX,
+    /// Unsigned spaces along y.
+    AlongY,
+    /// g-deltas.
+    Free,
+}
+
+/// What repetitions of a type are made of.
+#[derive(Clone, Copy, Debug, Drop, PartialEq, Eq)]
+pub enum Kind {
+    /// Nothing: the modal repetition.
+    Modal,
+    /// Places along two steps.
+    Matrix(Spacing, Spacing),
+    /// Places along one step.
+    Line(Spacing),
+    /// A list of spaces, each taken as many times as a grid says, if there is one.
+    List(Spacing, bool),
+}
+
+/// A space, which may be greater than any coordinate.
+#[derive(Clone, Copy, Debug, Drop, PartialEq, Eq)]
+pub struct Far {
+    x: i128,
+    y: i128,
+}
+
+/// How many places a repetition along two steps has.
+#[derive(Clone, Copy, Debug, Drop, PartialEq, Eq)]
+pub struct Size {
+    columns: u64,
+    rows: u64,
+}
+
+const ORIGIN: Point = Point { x: 0, y: 0 };
+
+/// The most places of a lattice (own rule).
+const MOST_PLACES: u64 = 16_777_216;
+
+/// The most places of a list (own rule).
+const MOST_LISTED: u64 = 1_048_576;
+
+// What repetitions of that number are made of.
+fn kind_of(number: u64) -> Option<Kind>
+    ensures { result ≡ among 0 kinds number }
+{
+    match number {
+        0 => Some(Kind::Modal),
+        1 => Some(Kind::Matrix(Spacing::AlongX, Spacing::AlongY)),
+        2 => Some(Kind::Line(Spacing::AlongX)),
+        3 => Some(Kind::Line(Spacing::AlongY)),
+        4 => Some(Kind::List(Spacing::AlongX, false)),
+        5 => Some(Kind::List(Spacing::AlongX, true)),
+        6 => Some(Kind::List(Spacing::AlongY, false)),
+        7 => Some(Kind::List(Spacing::AlongY, true)),
+        8 => Some(Kind::Matrix(Spacing::Free, Spacing::Free)),
+        9 => Some(Kind::Line(Spacing::Free)),
+        10 => Some(Kind::List(Spacing::Free, false)),
+        11 => Some(Kind::List(Spacing::Free, true)),
+        _ => None,
+    }
+}
+
+// Two places more than a dimension says, if they are few enough.
+fn line_size(dimension: u64) -> Option<u64>
+    ensures { result ≡ line_size dimension }
+{
+    if dimension > MOST_PLACES - 2 {
+        return None;
+    }
+    Some(dimension + 2)
+}
+
+// The same along two steps.
+fn matrix_size(columns: u64, rows: u64) -> Option<Size>
+    ensures { result ≡ matrix_size columns rows }
+{
+    let columns = line_size(columns)?;
+    let rows = line_size(rows)?;
+    if columns * rows > MOST_PLACES {
+        return None;
+    }
+    Some(Size { columns, rows })
+}
+
+// How many spaces a list has, if its places are few enough.
+fn list_size(dimension: u64) -> Option<usize>
+    ensures value { result ≡ list_size dimension }
+    ensures few { IfSome result (λ n. n ≤ 1048576) }
+{
+    if dimension > MOST_LISTED - 2 {
+        return None;
+    }
+    Some(dimension as usize + 1)
+}
+
+// So many spaces of `by` on, or None where that is outside 64 bits.
+fn stepped(before: i64, by: i128, times: u64) -> Option<i64>
+    ensures { result ≡ stepped before by times }
+{
+    let far = i128::from(times).checked_mul(by)?;
+    let at = far.checked_add(i128::from(before))?;
+    i64::try_from(at).ok()
+}
+
+// So many spaces of `by` on from a shift, or None where that is outside 64 bits.
+fn moved(before: Point, by: Far, times: u64) -> Option<Point>
+    ensures { result ≡ moved before by times }
+{
+    let x = stepped(before.x, by.x, times)?;
+    let y = stepped(before.y, by.y, times)?;
+    Some(Point { x, y })
+}
+
+// A space along an axis.
+fn space(along_x: bool, far: u64) -> Far
+    ensures { result ≡ space along_x far }
+{
+    let far = i128::from(far);
+    if along_x {
+        Far { x: far, y: 0 }
+    } else {
+        Far { x: 0, y: far }
+    }
+}
+
+// A g-delta as a space.
+fn widened(delta: Point) -> Far
+    ensures { result ≡ widened delta }
+{
+    Far {
+        x: i128::from(delta.x),
+        y: i128::from(delta.y),
+    }
+}
+
+// The modal repetition, if there is one.
+fn modal(has_modal: bool) -> Option<Repetition>
+    ensures { result ≡ modal has_modal }
+{
+    if has_modal {
+        Some(Repetition::Modal)
+    } else {
+        None
+    }
+}
+
+// The lattice of two steps, or None where a shift is outside 64 bits.
+fn lattice(a: Point, m: u64, b: Point, n: u64) -> Option<Offsets>
+    requires { IsFew m n }
+    ensures { result ≡ lattice_in_range a m b n }
+{
+    Offsets::lattice(a, m, b, n)
+}
+
+// The shifts, of which the first is zero.
+fn listed(shifts: Vec<Point>) -> Offsets
+    requires { StartsAtZero shifts.items }
+    ensures { result ≡ shifts.items }
+{
+    Offsets::new(shifts).unwrap()
+}
+
+impl<R: Read> Input<R> {
+    ghost use Rattle.oasis_values.specs.Input.{has_failed};
+    ghost use Rattle.oasis_values.specs.Reads.{Reads, Refutes};
+    ghost use Rattle.oasis_values.specs.Faults.{as_breach};
+    ghost use Rattle.oasis_values.specs.Repetitions.{IsSpaceAlong, IsSpaceFree, IsSpace, IsShift, IsModal};
+    ghost use Rattle.oasis_values.specs.Repetitions.{IsLineOf, IsLine, IsColumns, IsMatrixOf, IsMatrix};
+    ghost use Rattle.oasis_values.specs.Repetitions.{IsGrid, AreShifts, IsSpreadOf, IsSpread, IsRepetition};
+
+    /// A repetition. Type 0 takes the modal one, which has to be there.
+    ///
+    /// Sizes are tested once all dimensions are read, before two of them are multiplied and before
+    /// memory is taken, and the shifts of a step or a space as it is read. Types 1, 2, 3, 8 and 9 are
+    /// lattices, which are never written out.
+    pub fn repetition(
+        &mut self,
+        alloc: Global,
+        has_modal: bool,
+    ) -> Result<Repetition, Refusal<ValueFault>>
+        ensures reads { Reads R.remaining R.read_errors R.lent (IsRepetition has_modal) self.old self.new result }
+        ensures none { Refutes R.remaining (IsRepetition has_modal) self.old result }
+    {
+        let number = self.unsigned()?;
+        let kind = self.known(kind_of(number), ValueFault::RepetitionType)?;
+        match kind {
+            Kind::Modal => self.modal(has_modal),
+            Kind::Matrix(first, second) => self.matrix(first, second),
+            Kind::Line(spacing) => self.line(spacing),
+            Kind::List(spacing, gridded) => self.spread(alloc, spacing, gridded),
+        }
+    }
+
+    // The modal repetition, if there is one.
+    fn modal(&mut self, has_modal: bool) -> Result<Repetition, Refusal<ValueFault>>
+        ensures reads { Reads R.remaining R.read_errors R.lent (IsModal has_modal) self.old self.new result }
+    {
+        let again = self.known(modal(has_modal), ValueFault::NoModal)?;
+        Ok(again)
+    }
+
+    // Places along one step.
+    fn line(&mut self, spacing: Spacing) -> Result<Repetition, Refusal<ValueFault>>
+        ensures reads { Reads R.remaining R.read_errors R.lent (IsLine spacing) self.old self.new result }
+    {
+        let number = self.unsigned()?;
+        let count = self.known(line_size(number), ValueFault::RepetitionSize)?;
+        self.line_of(spacing, count)
+    }
+
+    // So many places along one step.
+    fn line_of(&mut self, spacing: Spacing, count: u64) -> Result<Repetition, Refusal<ValueFault>>
+        requires some { 0 < count }
+        requires few { count ≤ 16777216 }
+        ensures reads { Reads R.remaining R.read_errors R.lent (IsLineOf spacing count) self.old self.new result }
+    {
+        let step = self.shift(spacing, 1, ORIGIN)?;
+        let places = self.known(lattice(step, count, ORIGIN, 1), ValueFault::OutOfRange)?;
+        Ok(Repetition::New(places))
+    }
+
+    // Places along two steps.
+    fn matrix(&mut self, first: Spacing, second: Spacing) -> Result<Repetition, Refusal<ValueFault>>
+        ensures reads { Reads R.remaining R.read_errors R.lent (IsMatrix first second) self.old self.new result }
+    {
+        let columns = self.unsigned()?;
+        let rows = self.unsigned()?;
+        let size = self.known(matrix_size(columns, rows), ValueFault::RepetitionSize)?;
+        self.matrix_of(first, second, size)
+    }
+
+    // So many places along two steps.
+    fn matrix_of(
+        &mut self,
+        first: Spacing,
+        second: Spacing,
+        size: Size,
+    ) -> Result<Repetition, Refusal<ValueFault>>
+        requires { IsSmall size }
+        ensures reads { Reads R.remaining R.read_errors R.lent (IsMatrixOf first second size) self.old self.new result }
+    {
+        let across = self.columns(first, size.columns)?;
+        let up = self.shift(second, 1, ORIGIN)?;
+        let places = lattice(across, size.columns, up, size.rows);
+        let places = self.known(places, ValueFault::OutOfRange)?;
+        Ok(Repetition::New(places))
+    }
+
+    // The first of two steps.
+    fn columns(&mut self, spacing: Spacing, count: u64) -> Result<Point, ValueFault>
+        requires some { 0 < count }
+        requires few { count ≤ 16777216 }
+        ensures reads { Reads R.remaining R.read_errors R.lent
+            (IsColumns spacing count) self.old self.new (as_breach result) }
+    {
+        let step = self.shift(spacing, 1, ORIGIN)?;
+        let row = self.known(lattice(step, count, ORIGIN, 1), ValueFault::OutOfRange)?;
+        drop(row);
+        Ok(step)
+    }
+
+    // A list of places.
+    fn spread(
+        &mut self,
+        alloc: Global,
+        spacing: Spacing,
+        gridded: bool,
+    ) -> Result<Repetition, Refusal<ValueFault>>
+        ensures reads { Reads R.remaining R.read_errors R.lent (IsSpread spacing gridded) self.old self.new result }
+    {
+        let number = self.unsigned()?;
+        let count = self.known(list_size(number), ValueFault::RepetitionSize)?;
+        self.spread_of(alloc, spacing, gridded, count)
+    }
+
+    // A list of so many places after the first.
+    fn spread_of(
+        &mut self,
+        alloc: Global,
+        spacing: Spacing,
+        gridded: bool,
+        count: usize,
+    ) -> Result<Repetition, Refusal<ValueFault>>
+        requires live { has_failed self.old ≡ false }
+        requires few { count ≤ 1048576 }
+        ensures reads { Reads R.remaining R.read_errors R.lent
+            (IsSpreadOf spacing gridded count) self.old self.new result }
+    {
+        let grid = self.grid(gridded)?;
+        self.shifts(alloc, spacing, grid, count)
+    }
+
+    // The grid, if there is one.
+    fn grid(&mut self, gridded: bool) -> Result<u64, ValueFault>
+        requires { has_failed self.old ≡ false }
+        ensures reads { Reads R.remaining R.read_errors R.lent (IsGrid gridded) self.old self.new (as_breach result) }
+    {
+        if gridded {
+            return self.unsigned();
+        }
+        Ok(1)
+    }
+
+    // So many shifts after the zero shift.
+    fn shifts(
+        &mut self,
+        alloc: Global,
+        spacing: Spacing,
+        grid: u64,
+        count: usize,
+    ) -> Result<Repetition, Refusal<ValueFault>>
+        requires live { has_failed self.old ≡ false }
+        requires few { count ≤ 1048576 }
+        ensures reads { Reads R.remaining R.read_errors R.lent (AreShifts spacing count grid) self.old self.new result }
+    {
+        let Ok(mut shifts) = Vec::with_capacity(alloc, count + 1) else {
+            self.stop();
+            return Err(Refusal::OutOfMemory);
+        };
+        shifts.push_reserved(ORIGIN);
+        let mut at = ORIGIN;
+        for n in 0..count {
+            at = self.shift(spacing, grid, at)?;
+            shifts.push_reserved(at);
+        }
+        Ok(Repetition::New(listed(shifts)))
+    }
+
+    // A space.
+    fn space(&mut self, spacing: Spacing) -> Result<Far, ValueFault>
+        ensures reads { Reads R.remaining R.read_errors R.lent (IsSpace spacing) self.old self.new (as_breach result) }
+    {
+        match spacing {
+            Spacing::AlongX => self.space_along(true),
+            Spacing::AlongY => self.space_along(false),
+            Spacing::Free => self.space_free(),
+        }
+    }
+
+    // An unsigned space along an axis.
+    fn space_along(&mut self, along_x: bool) -> Result<Far, ValueFault>
+        ensures reads { Reads R.remaining R.read_errors R.lent
+            (IsSpaceAlong along_x) self.old self.new (as_breach result) }
+    {
+        let far = self.unsigned()?;
+        Ok(space(along_x, far))
+    }
+
+    // A g-delta as a space.
+    fn space_free(&mut self) -> Result<Far, ValueFault>
+        ensures reads { Reads R.remaining R.read_errors R.lent IsSpaceFree self.old self.new (as_breach result) }
+    {
+        let delta = self.g_delta()?;
+        Ok(widened(delta))
+    }
+
+    // The shift after a space, taken as many times as the grid says.
+    fn shift(&mut self, spacing: Spacing, grid: u64, before: Point) -> Result<Point, ValueFault>
+        ensures reads { Reads R.remaining R.read_errors R.lent
+            (IsShift spacing grid before) self.old self.new (as_breach result) }
+    {
+        let by = self.space(spacing)?;
+        self.known(moved(before, by, grid), ValueFault::OutOfRange)
+    }
+}

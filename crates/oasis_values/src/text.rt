@@ -1,0 +1,104 @@
+//! Strings: a length and that many bytes.
+ghost use Rattle.std.specs.Prelude.{◌≡◌, false};
+ghost use Rattle.oasis_values.specs.Texts.{character, text_length};
+
+use crate::fault::ValueFault;
+use crate::input::Input;
+use lvl_io::Read;
+use lvl_refusal::Refusal;
+use std::alloc::Global;
+
+/// The kinds of strings.
+#[derive(Clone, Copy, Debug, Drop, PartialEq, Eq)]
+pub enum Text {
+    /// Printable characters and spaces, 0x20 to 0x7E.
+    A,
+    /// Any bytes.
+    B,
+    /// Printable characters, 0x21 to 0x7E, at least one.
+    N,
+}
+
+// The length, if a string of this kind may have it.
+fn text_length(kind: Text, most: usize, len: u64) -> Option<usize>
+    ensures { result ≡ text_length kind most len }
+{
+    let least = match kind {
+        Text::A | Text::B => 0,
+        Text::N => 1,
+    };
+    if least <= len && len <= most as u64 {
+        Some(len as usize)
+    } else {
+        None
+    }
+}
+
+// The byte, if a string of this kind may have it.
+fn character(kind: Text, byte: u8) -> Option<u8>
+    ensures { result ≡ character kind byte }
+{
+    let least = match kind {
+        Text::A => 0x20,
+        Text::B => return Some(byte),
+        Text::N => 0x21,
+    };
+    if least <= byte && byte <= 0x7E {
+        Some(byte)
+    } else {
+        None
+    }
+}
+
+impl<R: Read> Input<R> {
+    ghost use Rattle.oasis_values.specs.Input.{has_failed};
+    ghost use Rattle.oasis_values.specs.Reads.{Reads, Refutes};
+    ghost use Rattle.oasis_values.specs.Faults.{as_breach, items};
+    ghost use Rattle.oasis_values.specs.Texts.{IsCharacter, IsString, AreCharacters};
+
+    /// A string of `most` bytes at most. Its length is tested before memory is taken for it, and each
+    /// byte as it is read.
+    pub fn string(
+        &mut self,
+        alloc: Global,
+        kind: Text,
+        most: usize,
+    ) -> Result<Vec<u8>, Refusal<ValueFault>>
+        ensures reads { Reads R.remaining R.read_errors R.lent (IsString kind most) self.old self.new (items result) }
+        ensures none { Refutes R.remaining (IsString kind most) self.old (items result) }
+    {
+        let number = self.unsigned()?;
+        let len = self.known(text_length(kind, most, number), ValueFault::StringByte)?;
+        self.characters(alloc, kind, len)
+    }
+
+    // So many characters of that kind.
+    fn characters(
+        &mut self,
+        alloc: Global,
+        kind: Text,
+        len: usize,
+    ) -> Result<Vec<u8>, Refusal<ValueFault>>
+        requires { has_failed self.old ≡ false }
+        ensures reads { Reads R.remaining R.read_errors R.lent
+            (AreCharacters kind len) self.old self.new (items result) }
+    {
+        let Ok(mut text) = Vec::with_capacity(alloc, len) else {
+            self.stop();
+            return Err(Refusal::OutOfMemory);
+        };
+        for n in 0..len {
+            let byte = self.character(kind)?;
+            text.push_reserved(byte);
+        }
+        Ok(text)
+    }
+
+    // A character of that kind.
+    fn character(&mut self, kind: Text) -> Result<u8, ValueFault>
+        ensures reads { Reads R.remaining R.read_errors R.lent (IsCharacter kind) self.old self.new (as_breach result) }
+    {
+        let byte = self.byte()?;
+        self.known(character(kind, byte), ValueFault::StringByte)
+    }
+}
