@@ -71,7 +71,8 @@ fn verdicts(rt: HostRuntime) -> Result<(), Fail> {
 #[test]
 fn one_file(rt: HostRuntime) -> Result<(), Fail> {
     let bytes = square(10);
-    let Ok(Layout::Gds(library, head)) = read_layout(rt.alloc(), &mut Pieces::new(&bytes, 50)) else {
+    let Ok(Layout::Gds(library, head)) = read_layout(rt.alloc(), &mut Pieces::new(&bytes, 50))
+    else {
         return Err("not read".into());
     };
     assert_eq!(rt; library.cells.len(), 1);

@@ -26,11 +26,7 @@ fn draw_figure(
 }
 
 /// Adds the rings of a shape at each of its shifts, placed by the map.
-pub(crate) fn draw_shape(
-    rings: &mut Rings,
-    shape: &Shape,
-    map: &Map,
-) -> Result<(), PlaceFault>
+pub(crate) fn draw_shape(rings: &mut Rings, shape: &Shape, map: &Map) -> Result<(), PlaceFault>
     ensures drawn { OnOk result (rings.new ≡ rings.old ++ placed_shape map.now shape.now) }
     ensures placed { OnOk result (All (λ e. All (IsPlaced map.now e) shape.now.figure) shape.now.shifts) }
     ensures out { result ≡ Err PlaceFault.OutOfRange → ¬ All (λ e. All (FitsRing map.now e) shape.now.figure) shape.now.shifts }

@@ -256,11 +256,7 @@ impl Rings {
     }
 
     /// What is left of the rings of a list in the part.
-    pub fn clipped<R: RingList>(
-        alloc: Global,
-        rings: &R,
-        part: &Part,
-    ) -> Result<Rings, AllocError>
+    pub fn clipped<R: RingList>(alloc: Global, rings: &R, part: &Part) -> Result<Rings, AllocError>
         ensures { IfOk result
             (λ clipped. (s : GridSquare)
             → SomeCovers clipped s ↔ (IsIn part.now s × SomeCovers (R.rings rings.now) s)) }

@@ -7,11 +7,9 @@ ghost use Rattle.lvl.specs.Sides.{given_name};
 ghost use Rattle.lvl_report.specs.Texts.{text_of, text_of_shown};
 ghost use Rattle.lvl_report.specs.Writing.{status_of, shown_status, is_output};
 
-use lvl::compare_files;
-use lvl::show_file;
 use crate::status::{RunFault, Status};
 use crate::tell::{tell, tell_shown};
-use lvl::Tops;
+use lvl::{Tops, compare_files, show_file};
 use lvl_io::{Read, Write};
 use std::alloc::Global;
 

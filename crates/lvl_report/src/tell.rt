@@ -6,10 +6,9 @@ ghost use Rattle.lvl_report.specs.Texts.{text_of, text_of_shown};
 ghost use Rattle.lvl_report.specs.Writing.{AppendsBeginning, status_of, shown_status, is_output};
 
 use crate::output::put;
-use lvl::Shown;
 use crate::status::{RunFault, Status};
 use crate::text::{form, form_shown};
-use lvl::{Comparison, Refusal, Verdict};
+use lvl::{Comparison, Refusal, Shown, Verdict};
 use lvl_io::Write;
 use std::alloc::Global;
 

@@ -143,10 +143,7 @@ fn push_answer(text: &mut Vec<u8>, answer: &Result<Comparison, Refusal>) -> io::
 /// Of two layouts that were compared it has three lines: what each says of itself, and the
 /// verdict. A refusal is one line: the side, the step, the number and the name of the fault, what
 /// the fault carries, and the offset where there is one. A refusal for memory names neither side nor step.
-pub fn form(
-    alloc: Global,
-    answer: &Result<Comparison, Refusal>,
-) -> Result<Vec<u8>, AllocError>
+pub fn form(alloc: Global, answer: &Result<Comparison, Refusal>) -> Result<Vec<u8>, AllocError>
     ensures { IfOk result (λ text. text.items ≡ text_of answer.now) }
 {
     let mut text = Vec::new(alloc);
@@ -171,10 +168,7 @@ fn push_shown_answer(text: &mut Vec<u8>, answer: &Result<Shown, Refusal>) -> io:
 
 /// What is printed of a layout, whole: what its file says of itself, its top, how many cells it
 /// has, and a line for each Layer. A refusal is one line.
-pub fn form_shown(
-    alloc: Global,
-    answer: &Result<Shown, Refusal>,
-) -> Result<Vec<u8>, AllocError>
+pub fn form_shown(alloc: Global, answer: &Result<Shown, Refusal>) -> Result<Vec<u8>, AllocError>
     ensures { IfOk result (λ text. text.items ≡ text_of_shown answer.now) }
 {
     let mut text = Vec::new(alloc);

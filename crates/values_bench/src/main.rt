@@ -106,7 +106,10 @@ fn time(rt: &(impl Clock + Print), alloc: Global, count: u32) -> Result<()> {
 
 fn run_each(alloc: Global) -> Result<()> {
     let bytes = integers(alloc, 9, 10)?;
-    ensure!(read_values(&bytes, 9)? == read_plainly(&bytes), "another sum");
+    ensure!(
+        read_values(&bytes, 9)? == read_plainly(&bytes),
+        "another sum"
+    );
     let bytes = repetition(alloc, 300)?;
     ensure!(read_repetition(alloc, &bytes)? == 300, "places lost");
     Ok(())
