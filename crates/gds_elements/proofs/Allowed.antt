@@ -1,5 +1,6 @@
 -- A record that keeps the rules of its element breaches none.
-use Rattle.std.proofs.Common.{◌≡◌, ◌≢◌, ℕ, ◌<◌, ◌≤◌, ◌≤ℤ◌, ◌⊎◌, inl, inr, pos, List, length, All, Some, None, sym, ◌∙◌, subst, arith}
+use Rattle.std.proofs.Common.{◌≡◌, ◌≢◌, ℕ, ◌<◌, ◌≤◌, ◌≤ℤ◌, ◌⊎◌, inl, inr, pos, List, length, All, Some, None, sym, ◌∙◌}
+use Rattle.std.proofs.Common.{subst, arith}
 use Rattle.std.proofs.lemmas.Int.{ints}
 use Rattle.lvl_grid.specs.Winding.{IsStraight}
 use Rattle.lvl_path.specs.Runs.{IsPath}
@@ -9,15 +10,18 @@ use Rattle.gds_elements.specs.Order.{an_element}
 use Rattle.gds_elements.specs.Rec.{Rec, kinds, opener, last_of}
 use Rattle.gds_elements.specs.Values.{short, long, points, turn}
 use Rattle.gds_elements.specs.Meaning.{half_of, end_of, columns_in, rows_in}
-use Rattle.gds_elements.specs.Rules.{IsKnown, IsClosed, steps, IsWidth, HasSteps, DrawsShape, RefersToCell, IsMiscounted, InOrder, ValueBreaches, BreachesNone}
-use Rattle.gds_elements.specs.Formed.{IsLayerNumber}
-use Rattle.gds_elements.specs.Placing.{IsPlacingAllowed, IsPlacingFault}
-use Rattle.gds_elements.specs.Counts.{IsCounted, IsCountFault}
-use Rattle.gds_elements.specs.Boundary.{IsRingFault}
+use Rattle.gds_elements.specs.Rules.{IsKnown, IsClosed, steps, IsWidth, HasSteps, DrawsShape, RefersToCell}
+use Rattle.gds_elements.specs.Rules.{IsMiscounted, InOrder, ValueBreaches, BreachesNone}
+use Rattle.gds_elements.specs.inside.Formed.{IsLayerNumber}
+use Rattle.gds_elements.specs.inside.Placing.{IsPlacingAllowed, IsPlacingFault}
+use Rattle.gds_elements.specs.inside.Counts.{IsCounted, IsCountFault}
+use Rattle.gds_elements.specs.inside.Boundary.{IsRingFault}
 use Rattle.gds_elements.specs.declared.fault.Misplaced.TheVariants.{Unexpected, Unsupported}
 use Rattle.gds_elements.specs.declared.fault.ElementFault.TheVariants.{Misplaced as MisplacedRecord, Rule}
 use Rattle.gds_elements.specs.declared.fault.ElementRule.{ElementRule}
-use Rattle.gds_elements.specs.declared.fault.ElementRule.TheVariants.{Layer, Points, NotClosed, Strans, Magnification, Angle, ColRow, ArrayStep, Name, Path, Width, PathType, Oblique, Repetition}
+use Rattle.gds_elements.specs.declared.fault.ElementRule.TheVariants.{Layer, Points, NotClosed, Strans, Magnification}
+use Rattle.gds_elements.specs.declared.fault.ElementRule.TheVariants.{Angle, ColRow, ArrayStep, Name, Path, Width}
+use Rattle.gds_elements.specs.declared.fault.ElementRule.TheVariants.{PathType, Oblique, Repetition}
 use Rattle.gds_elements.proofs.Fields.{kinds-snoc}
 use Rattle.gds_elements.proofs.Words.{begun_known}
 
@@ -68,9 +72,11 @@ counted piece k n e ok h = elim (miscounted piece k n e h) [
 ]
 
 -- a record in order whose values breach no rule breaches none
-pub allowed : (piece : List Rec) (r : Rec) → InOrder piece r → ((k : ElementRule) → ValueBreaches piece r k → ⊥) → BreachesNone piece r
+pub allowed : (piece : List Rec) (r : Rec) → InOrder piece r → ((k : ElementRule) → ValueBreaches piece r k → ⊥)
+    → BreachesNone piece r
 allowed piece r g n (MisplacedRecord (Unexpected j)) x = x.2 g
-allowed piece r g n (MisplacedRecord (Unsupported j)) x = x.2 (subst IsKnown x.0 (begun_known (kinds piece) r.kind (subst (Begins an_element) (kinds-snoc piece r) g)))
+allowed piece r g n (MisplacedRecord (Unsupported j)) x =
+    x.2 (subst IsKnown x.0 (begun_known (kinds piece) r.kind (subst (Begins an_element) (kinds-snoc piece r) g)))
 allowed piece r g n (Rule k) x = n k x.1
 
 pub law_boundary : (piece : List Rec) (r : Rec) → opener piece ≡ Some boundary
@@ -187,14 +193,16 @@ law_endel piece r e Width x = elim x.1 [ inl y ↦ omega (arith, y.0, e) | inr y
 law_endel piece r e other x = omega (arith, x.0, e)
 
 -- what is wrong with the points of a boundary breaches a rule
-pub ring_fault : (piece : List Rec) (r : Rec) → opener piece ≡ Some boundary → r.kind ≡ xy → (k : ElementRule) → IsRingFault (points r.payload) k → ValueBreaches piece r k
+pub ring_fault : (piece : List Rec) (r : Rec) → opener piece ≡ Some boundary → r.kind ≡ xy → (k : ElementRule)
+    → IsRingFault (points r.payload) k → ValueBreaches piece r k
 ring_fault piece r o x Points b = (x, inl (o, b))
 ring_fault piece r o x NotClosed b = (x, o, b.0, b.1)
 ring_fault piece r o x Oblique b = (x, o, b.0, b.1, b.2)
 ring_fault piece r o x other b = absurd b
 
 -- so does what is wrong with how a cell is placed
-pub placing_fault : (piece : List Rec) (r : Rec) → RefersToCell piece → (k : ElementRule) → IsPlacingFault r.kind r.payload k → ValueBreaches piece r k
+pub placing_fault : (piece : List Rec) (r : Rec) → RefersToCell piece → (k : ElementRule)
+    → IsPlacingFault r.kind r.payload k → ValueBreaches piece r k
 placing_fault piece r o Strans b = (b.0, o, b.1, b.2)
 placing_fault piece r o Magnification b = (b.0, o, b.1)
 placing_fault piece r o Angle b = (b.0, o, b.1)
@@ -202,7 +210,8 @@ placing_fault piece r o Name b = (b.0, o, b.1)
 placing_fault piece r o other b = absurd b
 
 -- and what is wrong with columns and rows
-pub count_fault : (piece : List Rec) (r : Rec) → opener piece ≡ Some aref → (k : ElementRule) → (r.kind ≡ colrow) × IsCountFault r.payload k → ValueBreaches piece r k
+pub count_fault : (piece : List Rec) (r : Rec) → opener piece ≡ Some aref → (k : ElementRule)
+    → (r.kind ≡ colrow) × IsCountFault r.payload k → ValueBreaches piece r k
 count_fault piece r o ColRow b = (b.0, o, b.1)
 count_fault piece r o Repetition b = (b.0, o, b.1.0, b.1.1, b.1.2)
 count_fault piece r o other b = absurd b.1

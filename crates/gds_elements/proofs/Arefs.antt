@@ -1,5 +1,6 @@
--- An array with one record more.
-use Rattle.std.proofs.Common.{◌≡◌, ◌==◌, ℕ, false, if◌then◌else◌, List, length, [], ◌∷◌, ◌++◌, map, Some, inl, inr, refl, sym, ap, ◌∙◌, subst}
+-- An array with one more record.
+use Rattle.std.proofs.Common.{◌≡◌, ◌==◌, ℕ, false, if◌then◌else◌, List, length, [], ◌∷◌, ◌++◌, map, Some, inl, inr}
+use Rattle.std.proofs.Common.{refl, sym, ap, ◌∙◌, subst}
 use Rattle.lvl_grid.specs.declared.point.Point.{Point}
 use Rattle.lvl_cells.specs.Cells.{PlainReference}
 use Rattle.gds_elements.specs.Types.{aref, sname, strans, mag, angle, colrow, xy, endel}
@@ -7,11 +8,11 @@ use Rattle.lvl_grammar.specs.Order.{one}
 use Rattle.gds_elements.specs.Rec.{Rec, opener, field, last_of}
 use Rattle.gds_elements.specs.Values.{magnitude, columns, rows, name, flips, turn, points, nth}
 use Rattle.gds_elements.specs.Meaning.{shapes_by, references_by, in_rings, columns_in, rows_in, array_shifts, shifts_of}
-use Rattle.gds_elements.specs.Aref.{after, left, IsArefRead, IsArrayFault}
+use Rattle.gds_elements.specs.inside.Aref.{after, left, IsArefRead, IsArrayFault}
 use Rattle.gds_elements.specs.Rules.{HasSteps, ValueBreaches}
 use Rattle.gds_elements.specs.declared.fault.ElementRule.{ElementRule}
 use Rattle.gds_elements.specs.declared.fault.ElementRule.TheVariants.{Points as PointsFault, ArrayStep}
-use Rattle.gds_elements.specs.Reading.{IsAtEnd}
+use Rattle.gds_elements.specs.inside.Reading.{IsAtEnd}
 use Rattle.gds_elements.specs.declared.order.Next.TheVariants.{Goes, Ends, Nowhere}
 use Rattle.gds_elements.specs.declared.aref.Place.{Place}
 use Rattle.gds_elements.specs.declared.aref.Place.TheVariants.{Name, Strans, Magnification, Angle, Columns, Points}
@@ -34,7 +35,8 @@ one_way p k j = at_type (AsTable p) k j
 pub by_table : (p : Place) (k : ℕ) → AsTable p k
 by_table Name k = one_way Name k sname refl (λ a. rw a refl)
 by_table Strans k = one_way Strans k strans refl (λ a. one_way Strans k colrow refl (λ b. rw (a, b) refl))
-by_table Magnification k = one_way Magnification k mag refl (λ a. one_way Magnification k angle refl (λ b. one_way Magnification k colrow refl (λ c. rw (a, b, c) refl)))
+by_table Magnification k =
+    one_way Magnification k mag refl (λ a. one_way Magnification k angle refl (λ b. one_way Magnification k colrow refl (λ c. rw (a, b, c) refl)))
 by_table Angle k = one_way Angle k angle refl (λ a. one_way Angle k colrow refl (λ b. rw (a, b) refl))
 by_table Columns k = one_way Columns k colrow refl (λ a. rw a refl)
 by_table Points k = one_way Points k xy refl (λ a. rw a refl)
@@ -57,11 +59,13 @@ EndsHere p k = after p k ≡ Ends → k ≡ xy
 pub ends_by : (p : Place) (k : ℕ) → after p k ≡ Ends → k ≡ xy
 unfolding EndsHere
 ends_by Name k = at_type (EndsHere Name) k sname (λ e. cc) (λ a e. (let z : Nowhere ≡ Ends = rw a at e in cc))
-ends_by Strans k = at_type (EndsHere Strans) k strans (λ e. cc) (λ a. at_type (EndsHere Strans) k colrow (λ e. cc) (λ b e. (let z : Nowhere ≡ Ends = rw (a, b) at e in cc)))
+ends_by Strans k =
+    at_type (EndsHere Strans) k strans (λ e. cc) (λ a. at_type (EndsHere Strans) k colrow (λ e. cc) (λ b e. (let z : Nowhere ≡ Ends = rw (a, b) at e in cc)))
 ends_by Magnification k =
     at_type (EndsHere Magnification) k mag (λ e. cc) (λ a. at_type (EndsHere Magnification) k angle (λ e. cc) (λ b. at_type (EndsHere Magnification) k colrow (λ e. cc)
     (λ c e. (let z : Nowhere ≡ Ends = rw (a, b, c) at e in cc))))
-ends_by Angle k = at_type (EndsHere Angle) k angle (λ e. cc) (λ a. at_type (EndsHere Angle) k colrow (λ e. cc) (λ b e. (let z : Nowhere ≡ Ends = rw (a, b) at e in cc)))
+ends_by Angle k =
+    at_type (EndsHere Angle) k angle (λ e. cc) (λ a. at_type (EndsHere Angle) k colrow (λ e. cc) (λ b e. (let z : Nowhere ≡ Ends = rw (a, b) at e in cc)))
 ends_by Columns k = at_type (EndsHere Columns) k colrow (λ e. cc) (λ a e. (let z : Nowhere ≡ Ends = rw a at e in cc))
 ends_by Points k = at_type (EndsHere Points) k xy (λ e. refl) (λ a e. (let z : Nowhere ≡ Ends = rw a at e in cc))
 
@@ -80,8 +84,9 @@ aref_goes s s' piece r h a n f t m w = record {
   rows = last_read rows_in colrow piece r s.counts.rows s'.counts.rows h.rows w;
 }
 
--- the shifts behind the points are those of the records
-shifts_is : (s : Aref) (piece : List Rec) (r : Rec) → IsArefRead s piece → r.kind ≡ xy → array_shifts (points r.payload) s.counts.columns s.counts.rows ≡ shifts_of (piece ++ r ∷ [])
+-- the shifts after the points are those of the records
+shifts_is : (s : Aref) (piece : List Rec) (r : Rec) → IsArefRead s piece → r.kind ≡ xy
+    → array_shifts (points r.payload) s.counts.columns s.counts.rows ≡ shifts_of (piece ++ r ∷ [])
 shifts_is s piece r h x =
     let new = piece ++ r ∷ [] in
     let there : last_of colrow new ≡ last_of colrow piece = last_there colrow piece r (subst (λ k. k == colrow ≡ false) (sym x) refl) in
@@ -89,7 +94,8 @@ shifts_is s piece r h x =
     ∙ ap (λ m. array_shifts (points (field xy new)) m s.counts.rows) (h.columns ∙ sym (ap columns_in there))
     ∙ ap (λ n. array_shifts (points (field xy new)) (columns_in (last_of colrow new)) n) (h.rows ∙ sym (ap rows_in there))
 
-pub aref_ends : (s : Aref) (piece : List Rec) (r : Rec) (p : PlainReference) → IsArefRead s piece → after s.place r.kind ≡ Ends
+pub aref_ends : (s : Aref) (piece : List Rec) (r : Rec) (p : PlainReference) → IsArefRead s piece
+    → after s.place r.kind ≡ Ends
     → p ≡ record { cell = s.placing.name.items; flip = s.placing.flip; turn = s.placing.turn; at = nth (points r.payload) 0; shifts = array_shifts (points r.payload) s.counts.columns s.counts.rows }
     → IsAtEnd (Reference p) (piece ++ r ∷ [])
 aref_ends s piece r p h a e =
@@ -108,12 +114,15 @@ aref_ends s piece r p h a e =
     }
 
 -- the steps that were tested are those of the records
-pub steps_of : (s : Aref) (piece : List Rec) (ps : List Point) → IsArefRead s piece → (length ps ≡ 3) × HasSteps ps s.counts.columns s.counts.rows
+pub steps_of : (s : Aref) (piece : List Rec) (ps : List Point) → IsArefRead s piece
+    → (length ps ≡ 3) × HasSteps ps s.counts.columns s.counts.rows
     → (length ps ≡ 3) × HasSteps ps (columns_in (last_of colrow piece)) (rows_in (last_of colrow piece))
-steps_of s piece ps h k = (k.0, subst (λ n. HasSteps ps (columns_in (last_of colrow piece)) n) h.rows (subst (λ m. HasSteps ps m s.counts.rows) h.columns k.1))
+steps_of s piece ps h k =
+    (k.0, subst (λ n. HasSteps ps (columns_in (last_of colrow piece)) n) h.rows (subst (λ m. HasSteps ps m s.counts.rows) h.columns k.1))
 
 -- what is wrong with the points of an array breaches a rule
-pub array_fault : (s : Aref) (piece : List Rec) (r : Rec) → IsArefRead s piece → r.kind ≡ xy → (k : ElementRule) → IsArrayFault (points r.payload) s.counts.columns s.counts.rows k → ValueBreaches piece r k
+pub array_fault : (s : Aref) (piece : List Rec) (r : Rec) → IsArefRead s piece → r.kind ≡ xy → (k : ElementRule)
+    → IsArrayFault (points r.payload) s.counts.columns s.counts.rows k → ValueBreaches piece r k
 array_fault s piece r h x PointsFault b = (x, inr (inr (inl (h.opened, b))))
 array_fault s piece r h x ArrayStep b =
     (x, h.opened, b.0, λ z. b.1 (subst (λ m. HasSteps (points r.payload) m s.counts.rows) (sym h.columns) (subst (λ n. HasSteps (points r.payload) (columns_in (last_of colrow piece)) n) (sym h.rows) z)))

@@ -1,5 +1,6 @@
 -- The places of an array of points in 32 bits fit 64 bits.
-use Rattle.std.proofs.Common.{◌≡◌, ℕ, ◌-◌, ◌*◌, ◌^◌, ◌<◌, ◌≤◌, ℤ, pos, negsuc, ◌+ℤ◌, ◌-ℤ◌, ◌*ℤ◌, All, refl, sym, ap, ◌∙◌, arith}
+use Rattle.std.proofs.Common.{◌≡◌, ℕ, ◌-◌, ◌*◌, ◌^◌, ◌<◌, ◌≤◌, ℤ, pos, negsuc, ◌+ℤ◌, ◌-ℤ◌, ◌*ℤ◌, All, refl, sym, ap}
+use Rattle.std.proofs.Common.{◌∙◌, arith}
 use Rattle.std.specs.Prelude.{unsigned_abs, FitsSigned}
 use Rattle.std.specs.Int.{w32, w64}
 use Rattle.std.specs.Int.RustNames.{int_div, int_rem}
@@ -57,7 +58,8 @@ fits_three (negsuc x) (negsuc y) t s u f = omega (arith, ints, s.small, u.small,
 wider : (z : ℤ) → FitsSigned w32 z → FitsSigned w64 z
 wider z f = omega (arith, ints, f)
 
-stays : (a y b z : ℤ) (i m j n : ℕ) → i ≤ m → j ≤ n → unsigned_abs a * m ≡ unsigned_abs y → unsigned_abs b * n ≡ unsigned_abs z → IsSmall y → IsSmall z → StaysWithin a i b j
+stays : (a y b z : ℤ) (i m j n : ℕ) → i ≤ m → j ≤ n → unsigned_abs a * m ≡ unsigned_abs y
+    → unsigned_abs b * n ≡ unsigned_abs z → IsSmall y → IsSmall z → StaysWithin a i b j
 stays a y b z i m j n hi hj e f s t =
     let x = small_steps i m a y hi e s in
     let u = small_steps j n b z hj f t in

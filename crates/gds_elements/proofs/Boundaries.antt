@@ -1,5 +1,6 @@
--- A boundary with one record more.
-use Rattle.std.proofs.Common.{◌≡◌, ◌==◌, ℕ, false, if◌then◌else◌, List, [], ◌∷◌, ◌++◌, map, Some, refl, sym, ap, ◌∙◌, subst}
+-- A boundary with one more record.
+use Rattle.std.proofs.Common.{◌≡◌, ◌==◌, ℕ, false, if◌then◌else◌, List, [], ◌∷◌, ◌++◌, map, Some, refl, sym, ap, ◌∙◌}
+use Rattle.std.proofs.Common.{subst}
 use Rattle.lvl_grid.specs.declared.point.Point.{Point}
 use Rattle.lvl_cells.specs.Cells.{Rings}
 use Rattle.gds_elements.specs.Types.{boundary, layer, datatype, xy, endel}
@@ -7,8 +8,8 @@ use Rattle.lvl_grammar.specs.Order.{one}
 use Rattle.gds_elements.specs.Rec.{Rec, opener, field}
 use Rattle.gds_elements.specs.Values.{short, magnitude, points, but_last}
 use Rattle.gds_elements.specs.Meaning.{layer_of, shapes_by, references_by, in_rings, one_place}
-use Rattle.gds_elements.specs.Boundary.{after, left, IsBoundary}
-use Rattle.gds_elements.specs.Reading.{IsAtEnd}
+use Rattle.gds_elements.specs.inside.Boundary.{after, left, IsBoundary}
+use Rattle.gds_elements.specs.inside.Reading.{IsAtEnd}
 use Rattle.gds_elements.specs.declared.order.Next.TheVariants.{Goes, Ends, Nowhere}
 use Rattle.gds_elements.specs.declared.boundary.Place.{Place}
 use Rattle.gds_elements.specs.declared.boundary.Place.TheVariants.{Layer, Datatype, Points}
@@ -47,10 +48,12 @@ EndsHere p k = after p k ≡ Ends → k ≡ xy
 pub ends_by : (p : Place) (k : ℕ) → after p k ≡ Ends → k ≡ xy
 unfolding EndsHere
 ends_by Layer k = at_type (EndsHere Layer) k layer (λ e. cc) (λ a e. (let z : Nowhere ≡ Ends = rw a at e in cc))
-ends_by Datatype k = at_type (EndsHere Datatype) k datatype (λ e. cc) (λ a e. (let z : Nowhere ≡ Ends = rw a at e in cc))
+ends_by Datatype k =
+    at_type (EndsHere Datatype) k datatype (λ e. cc) (λ a e. (let z : Nowhere ≡ Ends = rw a at e in cc))
 ends_by Points k = at_type (EndsHere Points) k xy (λ e. refl) (λ a e. (let z : Nowhere ≡ Ends = rw a at e in cc))
 
-pub boundary_goes : (b b' : Boundary) (piece : List Rec) (r : Rec) → IsBoundary b piece → after b.place r.kind ≡ Goes b'.place
+pub boundary_goes : (b b' : Boundary) (piece : List Rec) (r : Rec) → IsBoundary b piece
+    → after b.place r.kind ≡ Goes b'.place
     → b'.layer.layer ≡ (if r.kind == layer then magnitude (short r.payload) else b.layer.layer)
     → b'.layer.datatype ≡ (if r.kind == datatype then magnitude (short r.payload) else b.layer.datatype)
     → IsBoundary b' (piece ++ r ∷ [])
@@ -60,7 +63,8 @@ boundary_goes b b' piece r h a l d = record {
   layer = layer_more piece r b.layer b'.layer h.layer l d;
 }
 
-pub boundary_ends : (b : Boundary) (piece : List Rec) (r : Rec) (rings : Rings) (shifts : List Point) → IsBoundary b piece → after b.place r.kind ≡ Ends
+pub boundary_ends : (b : Boundary) (piece : List Rec) (r : Rec) (rings : Rings) (shifts : List Point)
+    → IsBoundary b piece → after b.place r.kind ≡ Ends
     → rings ≡ but_last (points r.payload) ∷ [] → shifts ≡ one_place → IsAtEnd (Shape (record { layer = b.layer; figure = rings; shifts = shifts })) (piece ++ r ∷ [])
 boundary_ends b piece r rings shifts h a e f =
     let new = piece ++ r ∷ [] in

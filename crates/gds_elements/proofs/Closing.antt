@@ -1,5 +1,6 @@
 -- A list of points that ends where it begins, and the ring of the others.
-use Rattle.std.proofs.Common.{◌≡◌, ◌&&◌, ◌<◌, ◌≤◌, Bool, true, false, not, List, [], ◌∷◌, ◌++◌, All, length, get_or, refl, sym, ◌∙◌, subst, arith}
+use Rattle.std.proofs.Common.{◌≡◌, ◌&&◌, ◌<◌, ◌≤◌, Bool, true, false, not, List, [], ◌∷◌, ◌++◌, All, length, get_or}
+use Rattle.std.proofs.Common.{refl, sym, ◌∙◌, subst, arith}
 use Rattle.std.proofs.Common.{int_eq, Some, ap, ℤ}
 use Rattle.std.proofs.lemmas.Bool.Decides.{Decides-int_eq, Decides-and}
 use Rattle.std.proofs.lemmas.List.Elements.{All-push, All-head, All-tail, All-pop, All-cons}
@@ -14,27 +15,32 @@ last_or-snoc : (p : Point) (qs : List Point) (z : Point) → last_or p (qs ++ z 
 last_or-snoc p [] z = refl
 last_or-snoc p (q ∷ qs) z = last_or-snoc q qs z
 
-path_edges-snoc : (p : Point) (qs : List Point) (z : Point) → path_edges p (qs ++ z ∷ []) ≡ path_edges p qs ++ (last_or p qs, z) ∷ []
+path_edges-snoc : (p : Point) (qs : List Point) (z : Point)
+    → path_edges p (qs ++ z ∷ []) ≡ path_edges p qs ++ (last_or p qs, z) ∷ []
 path_edges-snoc p [] z = refl
 path_edges-snoc p (q ∷ qs) z = ap (λ l. (p, q) ∷ l) (path_edges-snoc q qs z)
 
 -- the last point is the first where the list is closed
-pub closed_last : (ps qs : List Point) (z d : Point) → ps ≡ qs ++ z ∷ [] → 0 < length qs → IsClosed ps → z ≡ get_or qs 0 d
+pub closed_last : (ps qs : List Point) (z d : Point) → ps ≡ qs ++ z ∷ [] → 0 < length qs → IsClosed ps
+    → z ≡ get_or qs 0 d
 closed_last ps [] z d e h c = absurd (omega arith)
 closed_last ps (q ∷ qs) z d e h c = sym (last_or-snoc q qs z) ∙ subst IsClosed e c
 
-pub last_closed : (ps qs : List Point) (z d : Point) → ps ≡ qs ++ z ∷ [] → 0 < length qs → z ≡ get_or qs 0 d → IsClosed ps
+pub last_closed : (ps qs : List Point) (z d : Point) → ps ≡ qs ++ z ∷ [] → 0 < length qs → z ≡ get_or qs 0 d
+    → IsClosed ps
 last_closed ps [] z d e h c = absurd (omega arith)
 last_closed ps (q ∷ qs) z d e h c = subst IsClosed (sym e) (last_or-snoc q qs z ∙ c)
 
-pub straight_steps : (ps qs : List Point) (z d : Point) → ps ≡ qs ++ z ∷ [] → 0 < length qs → z ≡ get_or qs 0 d → All IsStraight (edges qs) → All IsStraight (steps ps)
+pub straight_steps : (ps qs : List Point) (z d : Point) → ps ≡ qs ++ z ∷ [] → 0 < length qs → z ≡ get_or qs 0 d
+    → All IsStraight (edges qs) → All IsStraight (steps ps)
 straight_steps ps [] z d e h c s = absurd (omega arith)
 straight_steps ps (q ∷ qs) z d e h c s =
     let all : All IsStraight (path_edges q qs ++ (last_or q qs, q) ∷ []) = All-push IsStraight (path_edges q qs) (last_or q qs, q) (All-tail IsStraight (last_or q qs, q) (path_edges q qs) s) (All-head IsStraight (last_or q qs, q) (path_edges q qs) s) in
     let to : path_edges q (qs ++ z ∷ []) ≡ path_edges q qs ++ (last_or q qs, q) ∷ [] = path_edges-snoc q qs z ∙ ap (λ (i : Point). path_edges q qs ++ (last_or q qs, i) ∷ []) c in
     subst (λ l. All IsStraight (steps l)) (sym e) (subst (All IsStraight) (sym to) all)
 
-pub straight_edges : (ps qs : List Point) (z d : Point) → ps ≡ qs ++ z ∷ [] → 0 < length qs → z ≡ get_or qs 0 d → All IsStraight (steps ps) → All IsStraight (edges qs)
+pub straight_edges : (ps qs : List Point) (z d : Point) → ps ≡ qs ++ z ∷ [] → 0 < length qs → z ≡ get_or qs 0 d
+    → All IsStraight (steps ps) → All IsStraight (edges qs)
 straight_edges ps [] z d e h c s = absurd (omega arith)
 straight_edges ps (q ∷ qs) z d e h c s =
     let to : path_edges q (qs ++ z ∷ []) ≡ path_edges q qs ++ (last_or q qs, q) ∷ [] = path_edges-snoc q qs z ∙ ap (λ (i : Point). path_edges q qs ++ (last_or q qs, i) ∷ []) c in

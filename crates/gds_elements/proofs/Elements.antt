@@ -1,36 +1,47 @@
 -- Where elements begin and end among other records.
-use Rattle.std.proofs.Common.{◌≡◌, ◌==◌, ◌&&◌, ◌||◌, ℕ, inl, inr, Bool, true, false, not, List, [], ◌∷◌, ◌++◌, refl, sym, ap, ◌∙◌, subst, append_assoc}
+use Rattle.std.proofs.Common.{◌≡◌, ◌==◌, ◌&&◌, ◌||◌, ℕ, inl, inr, Bool, true, false, not, List, [], ◌∷◌, ◌++◌, refl}
+use Rattle.std.proofs.Common.{sym, ap, ◌∙◌, subst, append_assoc}
 use Rattle.std.proofs.lemmas.List.{append-nil}
 use Rattle.gds_elements.specs.Types.{boundary, path, sref, aref, text, endel}
 use Rattle.lvl_grammar.specs.Order.{Order, nothing, one, next, either, many, IsWord, Begins, has}
 use Rattle.gds_elements.specs.Order.{opens, an_element}
 use Rattle.gds_elements.specs.Rec.{Rec, kinds}
 use Rattle.lvl_grammar.specs.inside.After.{LeadsTo}
-use Rattle.gds_elements.specs.Reading.{HasRead, IsReading}
+use Rattle.gds_elements.specs.inside.Reading.{HasRead, IsReading}
 use Rattle.gds_elements.specs.declared.element.Element.{Element}
 use Rattle.gds_elements.specs.declared.element.State.{State}
 use Rattle.gds_elements.specs.declared.element.State.TheVariants.{Boundary, Path, Sref, Aref, Text, Drawn as AtEnd}
 use Rattle.gds_elements.specs.declared.boundary.Place.{Place as BoundaryPlace}
 use Rattle.gds_elements.specs.declared.boundary.Place.TheVariants.{Layer, Datatype, Points}
 use Rattle.gds_elements.specs.declared.path.Place.{Place as PathPlace}
-use Rattle.gds_elements.specs.declared.path.Place.TheVariants.{Layer as PathLayer, Datatype as PathDatatype, PathType, Width as PathWidth, Points as PathPoints}
+use Rattle.gds_elements.specs.declared.path.Place.TheVariants.{Layer as PathLayer, Datatype as PathDatatype, PathType}
+use Rattle.gds_elements.specs.declared.path.Place.TheVariants.{Width as PathWidth, Points as PathPoints}
 use Rattle.gds_elements.specs.declared.sref.Place.{Place as SrefPlace}
-use Rattle.gds_elements.specs.declared.sref.Place.TheVariants.{Name as SrefName, Strans as SrefStrans, Magnification as SrefMagnification, Angle as SrefAngle, Points as SrefPoints}
+use Rattle.gds_elements.specs.declared.sref.Place.TheVariants.{Name as SrefName, Strans as SrefStrans}
+use Rattle.gds_elements.specs.declared.sref.Place.TheVariants.{Magnification as SrefMagnification, Angle as SrefAngle}
+use Rattle.gds_elements.specs.declared.sref.Place.TheVariants.{Points as SrefPoints}
 use Rattle.gds_elements.specs.declared.aref.Place.{Place as ArefPlace}
-use Rattle.gds_elements.specs.declared.aref.Place.TheVariants.{Name as ArefName, Strans as ArefStrans, Magnification as ArefMagnification, Angle as ArefAngle, Columns as ArefColumns, Points as ArefPoints}
+use Rattle.gds_elements.specs.declared.aref.Place.TheVariants.{Name as ArefName, Strans as ArefStrans}
+use Rattle.gds_elements.specs.declared.aref.Place.TheVariants.{Magnification as ArefMagnification, Angle as ArefAngle}
+use Rattle.gds_elements.specs.declared.aref.Place.TheVariants.{Columns as ArefColumns, Points as ArefPoints}
 use Rattle.gds_elements.specs.declared.text.Place.{Place as TextPlace}
-use Rattle.gds_elements.specs.declared.text.Place.TheVariants.{Layer as TextLayer, TextType as TextTextType, Presentation as TextPresentation, PathType as TextPathType, Width as TextWidth, Strans as TextStrans, Magnification as TextMagnification, Angle as TextAngle, Points as TextPoints, Letters as TextLetters}
-use Rattle.gds_elements.specs.Boundary.{left as boundary_left}
-use Rattle.gds_elements.specs.Path.{left as path_left}
-use Rattle.gds_elements.specs.Sref.{left as sref_left}
-use Rattle.gds_elements.specs.Aref.{left as aref_left}
-use Rattle.gds_elements.specs.Text.{left as text_left}
+use Rattle.gds_elements.specs.declared.text.Place.TheVariants.{Layer as TextLayer, TextType as TextTextType}
+use Rattle.gds_elements.specs.declared.text.Place.TheVariants.{Presentation as TextPresentation}
+use Rattle.gds_elements.specs.declared.text.Place.TheVariants.{PathType as TextPathType, Width as TextWidth}
+use Rattle.gds_elements.specs.declared.text.Place.TheVariants.{Strans as TextStrans, Magnification as TextMagnification}
+use Rattle.gds_elements.specs.declared.text.Place.TheVariants.{Angle as TextAngle, Points as TextPoints}
+use Rattle.gds_elements.specs.declared.text.Place.TheVariants.{Letters as TextLetters}
+use Rattle.gds_elements.specs.inside.Boundary.{left as boundary_left}
+use Rattle.gds_elements.specs.inside.Path.{left as path_left}
+use Rattle.gds_elements.specs.inside.Sref.{left as sref_left}
+use Rattle.gds_elements.specs.inside.Aref.{left as aref_left}
+use Rattle.gds_elements.specs.inside.Text.{left as text_left}
 use Rattle.lvl_grammar.specs.inside.After.{can_be_empty}
 use Rattle.lvl_grammar.proofs.Orders.{at_type, type_same, empty_word}
 use Rattle.gds_elements.proofs.Leads.{leads_begins}
 use Rattle.gds_elements.proofs.Words.{Stands, stands_append, stands_left, has_all}
 
--- an order whose words end with a type, which stands nowhere before
+-- an order whose words end with a type, which is nowhere before
 ends_with : ℕ → Order → Bool
 ends_with k nothing = false
 ends_with k (one j) = j == k
@@ -157,7 +168,7 @@ reading_begins e piece h = state_begins e.state piece h
 pub reading_unfinished : (e : Element) (piece : List Rec) → IsReading e piece → IsWord an_element (kinds piece) → ⊥
 reading_unfinished e piece h = state_unfinished e.state piece h
 
--- what stands behind the first record, in an order that begins with one type or another
+-- what comes after the first record, in an order that begins with one type or another
 abbrev pub behind_first : Order → Order
 behind_first (next a b) = b
 behind_first (either a b) = either (behind_first a) (behind_first b)
@@ -176,7 +187,8 @@ or_right : (a b : Bool) → b ≡ true → a || b ≡ true
 or_right true b e = refl
 or_right false b e = e
 
-stands_in_word : (a : Order) (o k : ℕ) (w : List ℕ) → begins_with_one a ≡ true → IsWord a (o ∷ w) → Stands k w → has (behind_first a) k ≡ true
+stands_in_word : (a : Order) (o k : ℕ) (w : List ℕ) → begins_with_one a ≡ true → IsWord a (o ∷ w) → Stands k w
+    → has (behind_first a) k ≡ true
 unfolding begins_with_one
 stands_in_word nothing o k w e h s = cc
 stands_in_word (one j) o k w e h s = cc
@@ -196,7 +208,7 @@ stands_in_word (either a b) o k w e h s =
     ]
 stands_in_word (many a) o k w e h s = cc
 
--- the types behind the opener of an element
+-- the types after the opener of an element
 abbrev pub behind_opener : Order
 behind_opener = behind_first an_element
 
@@ -210,13 +222,13 @@ no_opener k = has behind_opener k ≡ true → opens k ≡ false
 opener_apart : (k j : ℕ) → no_opener j → (k == j ≡ false → no_opener k) → no_opener k
 opener_apart k j = at_type no_opener k j
 
--- no opener stands in an element behind its first record
+-- no opener is in an element after its first record
 pub opens_first : (o k : ℕ) (w : List ℕ) → Begins an_element (o ∷ w) → Stands k w → opens k ≡ false
 unfolding no_opener
 opens_first o k w b s =
     opener_apart k boundary (λ e. cc) (λ a. opener_apart k path (λ e. cc) (λ c. opener_apart k sref (λ e. cc) (λ d. opener_apart k aref (λ e. cc) (λ f. opener_apart k text (λ e. cc)
     (λ g e. rw (a, c, d, f, g) refl))))) (stands_behind o k w b s)
 
--- nor does a type that stands in no element
+-- nor does a type that is in no element
 pub stands_not : (o k : ℕ) (w : List ℕ) → has behind_opener k ≡ false → Begins an_element (o ∷ w) → Stands k w → ⊥
 stands_not o k w n b s = (let z : false ≡ true = sym n ∙ stands_behind o k w b s in cc)

@@ -3,7 +3,7 @@ use Rattle.std.proofs.Common.{◌≡◌, ℕ, List, length, subst}
 use Rattle.gds_records.specs.Table.{table, form_among}
 use Rattle.gds_records.specs.Spelled.{IsOfForm, IsAllowedRecord}
 use Rattle.gds_elements.specs.Types.{layer, datatype, width, colrow, strans, mag, angle, pathtype}
-use Rattle.gds_elements.specs.Formed.{IsFormed}
+use Rattle.gds_elements.specs.inside.Formed.{IsFormed}
 
 pub allowed_formed : (k : ℕ) (p : List ℕ) → IsAllowedRecord k p → IsFormed k p
 allowed_formed k p (d, r) =

@@ -1,11 +1,14 @@
 -- A record breaches one rule at most.
-use Rattle.std.proofs.Common.{Bool, true, ◌||◌, ◌≡◌, ◌≢◌, ◌==◌, if◌then◌else◌, ℕ, ◌<◌, ◌≤◌, inl, inr, List, length, Some, refl, sym, ap, ◌∙◌, subst, arith}
+use Rattle.std.proofs.Common.{Bool, true, ◌||◌, ◌≡◌, ◌≢◌, ◌==◌, if◌then◌else◌, ℕ, ◌<◌, ◌≤◌, inl, inr, List, length}
+use Rattle.std.proofs.Common.{Some, refl, sym, ap, ◌∙◌, subst, arith}
 use Rattle.std.proofs.lemmas.Int.{ints}
 use Rattle.lvl_grid.specs.declared.point.Point.{Point}
 use Rattle.lvl_path.specs.Runs.{IsLowestFault, number}
 use Rattle.lvl_path.specs.declared.fault.PathFault.{PathFault}
-use Rattle.lvl_path.specs.declared.fault.PathFault.TheVariants.{NoWidth, FewPoints, Oblique as ObliqueStep, RepeatedPoint, TurnsBack, ShortRun, OutOfRange}
-use Rattle.gds_elements.specs.Types.{boundary, path, aref, layer, datatype, width, xy, sname, colrow, strans, mag, angle, pathtype}
+use Rattle.lvl_path.specs.declared.fault.PathFault.TheVariants.{NoWidth, FewPoints, Oblique as ObliqueStep}
+use Rattle.lvl_path.specs.declared.fault.PathFault.TheVariants.{RepeatedPoint, TurnsBack, ShortRun, OutOfRange}
+use Rattle.gds_elements.specs.Types.{boundary, path, aref, layer, datatype, width, xy, sname, colrow, strans, mag}
+use Rattle.gds_elements.specs.Types.{angle, pathtype}
 use Rattle.lvl_grammar.specs.Order.{Begins}
 use Rattle.gds_elements.specs.Order.{an_element}
 use Rattle.gds_elements.specs.Rec.{Rec, kinds, opener}
@@ -17,7 +20,9 @@ use Rattle.gds_elements.specs.declared.fault.Misplaced.TheVariants.{Unexpected, 
 use Rattle.gds_elements.specs.declared.fault.ElementFault.{ElementFault}
 use Rattle.gds_elements.specs.declared.fault.ElementFault.TheVariants.{Misplaced as MisplacedRecord, Rule}
 use Rattle.gds_elements.specs.declared.fault.ElementRule.{ElementRule}
-use Rattle.gds_elements.specs.declared.fault.ElementRule.TheVariants.{Layer, Points, NotClosed, Strans, Magnification, Angle, ColRow, ArrayStep, Name, Path, Width, PathType, Oblique, Repetition}
+use Rattle.gds_elements.specs.declared.fault.ElementRule.TheVariants.{Layer, Points, NotClosed, Strans, Magnification}
+use Rattle.gds_elements.specs.declared.fault.ElementRule.TheVariants.{Angle, ColRow, ArrayStep, Name, Path, Width}
+use Rattle.gds_elements.specs.declared.fault.ElementRule.TheVariants.{PathType, Oblique, Repetition}
 use Rattle.gds_elements.proofs.Fields.{kinds-snoc}
 use Rattle.gds_elements.proofs.Words.{begun_known}
 use Rattle.gds_elements.proofs.Allowed.{one_opener, counted}
@@ -39,7 +44,9 @@ rule_back ShortRun = refl
 rule_back OutOfRange = refl
 
 -- two faults of a path are not both the lowest
-lowest_apart : (ps : List Point) (h s e : ℕ) (f g : PathFault) → IsLowestFault ps (record { half = h; start = s; end = e }) f → IsLowestFault ps (record { half = h; start = s; end = e }) g → f ≡ g
+lowest_apart : (ps : List Point) (h s e : ℕ) (f g : PathFault)
+    → IsLowestFault ps (record { half = h; start = s; end = e }) f
+    → IsLowestFault ps (record { half = h; start = s; end = e }) g → f ≡ g
 lowest_apart ps h s e f g x y =
     let below : number f < number g → ⊥ = λ l. y.lowest f l x.breached in
     let above : number g < number f → ⊥ = λ l. x.lowest g l y.breached in
@@ -48,19 +55,23 @@ lowest_apart ps h s e f g x y =
 
 -- the number of points is as it has to be, where a rule speaks of what they are
 boundary_counted : (piece : List Rec) (n : ℕ) → opener piece ≡ Some boundary → 4 ≤ n → IsMiscounted piece n → ⊥
-boundary_counted piece n o h = counted piece boundary n o (λ _. h, λ e. absurd (omega arith), λ e. absurd (omega arith), λ e. absurd (omega arith), λ e. absurd (omega arith))
+boundary_counted piece n o h =
+    counted piece boundary n o (λ _. h, λ e. absurd (omega arith), λ e. absurd (omega arith), λ e. absurd (omega arith), λ e. absurd (omega arith))
 
 path_counted : (piece : List Rec) (n : ℕ) → opener piece ≡ Some path → 2 ≤ n → IsMiscounted piece n → ⊥
-path_counted piece n o h = counted piece path n o (λ e. absurd (omega arith), λ _. h, λ e. absurd (omega arith), λ e. absurd (omega arith), λ e. absurd (omega arith))
+path_counted piece n o h =
+    counted piece path n o (λ e. absurd (omega arith), λ _. h, λ e. absurd (omega arith), λ e. absurd (omega arith), λ e. absurd (omega arith))
 
 aref_counted : (piece : List Rec) (n : ℕ) → opener piece ≡ Some aref → n ≡ 3 → IsMiscounted piece n → ⊥
-aref_counted piece n o h = counted piece aref n o (λ e. absurd (omega arith), λ e. absurd (omega arith), λ _. h, λ e. absurd (omega arith), λ e. absurd (omega arith))
+aref_counted piece n o h =
+    counted piece aref n o (λ e. absurd (omega arith), λ e. absurd (omega arith), λ _. h, λ e. absurd (omega arith), λ e. absurd (omega arith))
 
 two_openers : (piece : List Rec) (k j : ℕ) → opener piece ≡ Some k → opener piece ≡ Some j → k ≢ j → ⊥
 two_openers piece k j o p n = n (one_opener piece k j o p)
 
 -- the values of a record breach one rule at most
-pub one_value : (piece : List Rec) (r : Rec) (j k : ElementRule) → ValueBreaches piece r j → ValueBreaches piece r k → j ≡ k
+pub one_value : (piece : List Rec) (r : Rec) (j k : ElementRule) → ValueBreaches piece r j → ValueBreaches piece r k
+    → j ≡ k
 one_value piece r Layer Layer x y = refl
 one_value piece r Points Points x y = refl
 one_value piece r NotClosed NotClosed x y = refl
@@ -74,7 +85,8 @@ one_value piece r Width Width x y = refl
 one_value piece r PathType PathType x y = refl
 one_value piece r Oblique Oblique x y = refl
 one_value piece r Repetition Repetition x y = refl
-one_value piece r (Path f) (Path g) x y = ap (λ (i : PathFault). Path i) (lowest_apart (points r.payload) (half_of piece) (end_of piece) (end_of piece) f g x.4 y.4)
+one_value piece r (Path f) (Path g) x y =
+    ap (λ (i : PathFault). Path i) (lowest_apart (points r.payload) (half_of piece) (end_of piece) (end_of piece) f g x.4 y.4)
 one_value piece r Points NotClosed x y = absurd (boundary_counted piece (length (points r.payload)) y.1 y.2 x.1)
 one_value piece r NotClosed Points x y = absurd (boundary_counted piece (length (points r.payload)) x.1 x.2 y.1)
 one_value piece r Points Oblique x y = absurd (boundary_counted piece (length (points r.payload)) y.1 y.2 x.1)
@@ -83,8 +95,10 @@ one_value piece r Points ArrayStep x y = absurd (aref_counted piece (length (poi
 one_value piece r ArrayStep Points x y = absurd (aref_counted piece (length (points r.payload)) x.1 x.2 y.1)
 one_value piece r Points (Path f) x y = absurd (path_counted piece (length (points r.payload)) y.1 y.2 x.1)
 one_value piece r (Path f) Points x y = absurd (path_counted piece (length (points r.payload)) x.1 x.2 y.1)
-one_value piece r Points Width x y = absurd (elim y.1 [ inl z ↦ omega (arith, x.0, z.0) | inr z ↦ path_counted piece (length (points r.payload)) y.0 z.1 x.1 ])
-one_value piece r Width Points x y = absurd (elim x.1 [ inl z ↦ omega (arith, y.0, z.0) | inr z ↦ path_counted piece (length (points r.payload)) x.0 z.1 y.1 ])
+one_value piece r Points Width x y =
+    absurd (elim y.1 [ inl z ↦ omega (arith, x.0, z.0) | inr z ↦ path_counted piece (length (points r.payload)) y.0 z.1 x.1 ])
+one_value piece r Width Points x y =
+    absurd (elim x.1 [ inl z ↦ omega (arith, y.0, z.0) | inr z ↦ path_counted piece (length (points r.payload)) x.0 z.1 y.1 ])
 one_value piece r NotClosed Oblique x y = absurd (x.3 y.3)
 one_value piece r Oblique NotClosed x y = absurd (y.3 x.3)
 one_value piece r NotClosed ArrayStep x y = absurd (two_openers piece boundary aref x.1 y.1 (λ e. omega arith))
@@ -105,10 +119,14 @@ one_value piece r ArrayStep Width x y = absurd (two_openers piece aref path x.1 
 one_value piece r Width ArrayStep x y = absurd (two_openers piece aref path y.1 x.0 (λ e. omega arith))
 one_value piece r (Path f) Width x y = absurd (elim y.1 [ inl z ↦ omega (arith, x.0, z.0) | inr z ↦ x.3 z.2 ])
 one_value piece r Width (Path f) x y = absurd (elim x.1 [ inl z ↦ omega (arith, y.0, z.0) | inr z ↦ y.3 z.2 ])
-one_value piece r ColRow Repetition x y = absurd (elim x.2 [ inl z ↦ omega (arith, ints, z, y.2) | inr z ↦ omega (arith, ints, z, y.3) ])
-one_value piece r Repetition ColRow x y = absurd (elim y.2 [ inl z ↦ omega (arith, ints, z, x.2) | inr z ↦ omega (arith, ints, z, x.3) ])
-one_value piece r Layer Width x y = absurd (elim y.1 [ inl z ↦ elim x.0 [ inl e ↦ omega (arith, e, z.0) | inr e ↦ omega (arith, e, z.0) ] | inr z ↦ elim x.0 [ inl e ↦ omega (arith, e, z.0) | inr e ↦ omega (arith, e, z.0) ] ])
-one_value piece r Width Layer x y = absurd (elim x.1 [ inl z ↦ elim y.0 [ inl e ↦ omega (arith, e, z.0) | inr e ↦ omega (arith, e, z.0) ] | inr z ↦ elim y.0 [ inl e ↦ omega (arith, e, z.0) | inr e ↦ omega (arith, e, z.0) ] ])
+one_value piece r ColRow Repetition x y =
+    absurd (elim x.2 [ inl z ↦ omega (arith, ints, z, y.2) | inr z ↦ omega (arith, ints, z, y.3) ])
+one_value piece r Repetition ColRow x y =
+    absurd (elim y.2 [ inl z ↦ omega (arith, ints, z, x.2) | inr z ↦ omega (arith, ints, z, x.3) ])
+one_value piece r Layer Width x y =
+    absurd (elim y.1 [ inl z ↦ elim x.0 [ inl e ↦ omega (arith, e, z.0) | inr e ↦ omega (arith, e, z.0) ] | inr z ↦ elim x.0 [ inl e ↦ omega (arith, e, z.0) | inr e ↦ omega (arith, e, z.0) ] ])
+one_value piece r Width Layer x y =
+    absurd (elim x.1 [ inl z ↦ elim y.0 [ inl e ↦ omega (arith, e, z.0) | inr e ↦ omega (arith, e, z.0) ] | inr z ↦ elim y.0 [ inl e ↦ omega (arith, e, z.0) | inr e ↦ omega (arith, e, z.0) ] ])
 one_value piece r Layer k x y = absurd (elim x.0 [ inl e ↦ omega (arith, e, y.0) | inr e ↦ omega (arith, e, y.0) ])
 one_value piece r j Layer x y = absurd (elim y.0 [ inl e ↦ omega (arith, e, x.0) | inr e ↦ omega (arith, e, x.0) ])
 one_value piece r Width k x y = absurd (elim x.1 [ inl z ↦ omega (arith, z.0, y.0) | inr z ↦ omega (arith, z.0, y.0) ])
@@ -118,22 +136,28 @@ one_value piece r j k x y = absurd (omega (arith, x.0, y.0))
 known_there : (piece : List Rec) (r : Rec) → InOrder piece r → IsKnown r.kind
 known_there piece r g = begun_known (kinds piece) r.kind (subst (Begins an_element) (kinds-snoc piece r) g)
 
-pub one_misplaced : (ordered : Type 0) (r : Rec) (m n : Misplaced) → IsMisplacedAs ordered r m → IsMisplacedAs ordered r n → m ≡ n
+pub one_misplaced : (ordered : Type 0) (r : Rec) (m n : Misplaced) → IsMisplacedAs ordered r m
+    → IsMisplacedAs ordered r n → m ≡ n
 one_misplaced ordered r (Unexpected i) (Unexpected j) x y = ap (λ (n : ℕ). Unexpected n) (sym x.0 ∙ y.0)
 one_misplaced ordered r (Unsupported i) (Unsupported j) x y = ap (λ (n : ℕ). Unsupported n) (sym x.0 ∙ y.0)
 one_misplaced ordered r (Unexpected i) (Unsupported j) x y = absurd (y.2 (subst IsKnown (sym x.0 ∙ y.0) x.1))
 one_misplaced ordered r (Unsupported i) (Unexpected j) x y = absurd (x.2 (subst IsKnown (sym y.0 ∙ x.0) y.1))
 
 -- a known record in order isn't misplaced
-pub not_misplaced : (ordered : Type 0) (r : Rec) (m : Misplaced) → ordered → IsKnown r.kind → IsMisplacedAs ordered r m → ⊥
+pub not_misplaced : (ordered : Type 0) (r : Rec) (m : Misplaced) → ordered → IsKnown r.kind → IsMisplacedAs ordered r m
+    → ⊥
 not_misplaced ordered r (Unexpected j) g i x = x.2 g
 not_misplaced ordered r (Unsupported j) g i x = x.2 (subst IsKnown x.0 i)
 
 -- a record breaches one rule at most
-pub one_rule : (piece : List Rec) (r : Rec) (f g : ElementFault) → ElementBreaches piece r f → ElementBreaches piece r g → f ≡ g
-one_rule piece r (MisplacedRecord m) (MisplacedRecord n) x y = ap (λ (i : Misplaced). MisplacedRecord i) (one_misplaced (InOrder piece r) r m n x y)
-one_rule piece r (MisplacedRecord m) (Rule k) x y = absurd (not_misplaced (InOrder piece r) r m y.0 (known_there piece r y.0) x)
-one_rule piece r (Rule j) (MisplacedRecord n) x y = absurd (not_misplaced (InOrder piece r) r n x.0 (known_there piece r x.0) y)
+pub one_rule : (piece : List Rec) (r : Rec) (f g : ElementFault) → ElementBreaches piece r f → ElementBreaches piece r g
+    → f ≡ g
+one_rule piece r (MisplacedRecord m) (MisplacedRecord n) x y =
+    ap (λ (i : Misplaced). MisplacedRecord i) (one_misplaced (InOrder piece r) r m n x y)
+one_rule piece r (MisplacedRecord m) (Rule k) x y =
+    absurd (not_misplaced (InOrder piece r) r m y.0 (known_there piece r y.0) x)
+one_rule piece r (Rule j) (MisplacedRecord n) x y =
+    absurd (not_misplaced (InOrder piece r) r n x.0 (known_there piece r x.0) y)
 one_rule piece r (Rule j) (Rule k) x y = ap (λ (i : ElementRule). Rule i) (one_value piece r j k x.1 y.1)
 
 -- a type whose value may breach a rule

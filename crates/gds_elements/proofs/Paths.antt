@@ -1,5 +1,6 @@
--- A path with one record more.
-use Rattle.std.proofs.Common.{◌≡◌, ◌≢◌, ◌==◌, ℕ, pos, false, if◌then◌else◌, List, [], ◌∷◌, ◌++◌, map, Some, None, refl, sym, ap, ◌∙◌, subst, inl, inr}
+-- A path with one more record.
+use Rattle.std.proofs.Common.{◌≡◌, ◌≢◌, ◌==◌, ℕ, pos, false, if◌then◌else◌, List, [], ◌∷◌, ◌++◌, map, Some, None, refl}
+use Rattle.std.proofs.Common.{sym, ap, ◌∙◌, subst, inl, inr}
 use Rattle.std.specs.Prelude.{Option}
 use Rattle.std.specs.Ordering.{int_eq}
 use Rattle.lvl_grid.specs.declared.point.Point.{Point}
@@ -9,12 +10,14 @@ use Rattle.gds_elements.specs.Types.{path, layer, datatype, pathtype, width, xy,
 use Rattle.lvl_grammar.specs.Order.{one}
 use Rattle.gds_elements.specs.Rec.{Rec, opener, field, last_of, payload_of}
 use Rattle.gds_elements.specs.Values.{short, magnitude, points}
-use Rattle.gds_elements.specs.Meaning.{layer_of, half, half_of, end_of, end_reach, shapes_by, references_by, in_rings, one_place}
-use Rattle.gds_elements.specs.Path.{after, left, half_in, IsPathRead, reach_at, IsBandsFault}
+use Rattle.gds_elements.specs.Meaning.{layer_of, half, half_of, end_of, end_reach, shapes_by, references_by, in_rings}
+use Rattle.gds_elements.specs.Meaning.{one_place}
+use Rattle.gds_elements.specs.inside.Path.{after, left, half_in, IsPathRead, reach_at, IsBandsFault}
 use Rattle.gds_elements.specs.Rules.{ValueBreaches}
 use Rattle.gds_elements.specs.declared.fault.ElementRule.{ElementRule}
-use Rattle.gds_elements.specs.declared.fault.ElementRule.TheVariants.{Points as PointsFault, Path as PathFault, Width as WidthFault}
-use Rattle.gds_elements.specs.Reading.{IsAtEnd}
+use Rattle.gds_elements.specs.declared.fault.ElementRule.TheVariants.{Points as PointsFault, Path as PathFault}
+use Rattle.gds_elements.specs.declared.fault.ElementRule.TheVariants.{Width as WidthFault}
+use Rattle.gds_elements.specs.inside.Reading.{IsAtEnd}
 use Rattle.gds_elements.specs.declared.order.Next.TheVariants.{Goes, Ends, Nowhere}
 use Rattle.gds_elements.specs.declared.path.Place.{Place}
 use Rattle.gds_elements.specs.declared.path.Place.TheVariants.{Layer, Datatype, PathType, Width, Points}
@@ -36,7 +39,8 @@ one_way p k j = at_type (AsTable p) k j
 pub by_table : (p : Place) (k : ℕ) → AsTable p k
 by_table Layer k = one_way Layer k layer refl (λ a. rw a refl)
 by_table Datatype k = one_way Datatype k datatype refl (λ a. rw a refl)
-by_table PathType k = one_way PathType k pathtype refl (λ a. one_way PathType k width refl (λ b. one_way PathType k xy refl (λ c. rw (a, b, c) refl)))
+by_table PathType k =
+    one_way PathType k pathtype refl (λ a. one_way PathType k width refl (λ b. one_way PathType k xy refl (λ c. rw (a, b, c) refl)))
 by_table Width k = one_way Width k width refl (λ a. one_way Width k xy refl (λ b. rw (a, b) refl))
 by_table Points k = one_way Points k xy refl (λ a. rw a refl)
 
@@ -57,11 +61,13 @@ EndsHere p k = after p k ≡ Ends → k ≡ xy
 pub ends_by : (p : Place) (k : ℕ) → after p k ≡ Ends → k ≡ xy
 unfolding EndsHere
 ends_by Layer k = at_type (EndsHere Layer) k layer (λ e. cc) (λ a e. (let z : Nowhere ≡ Ends = rw a at e in cc))
-ends_by Datatype k = at_type (EndsHere Datatype) k datatype (λ e. cc) (λ a e. (let z : Nowhere ≡ Ends = rw a at e in cc))
+ends_by Datatype k =
+    at_type (EndsHere Datatype) k datatype (λ e. cc) (λ a e. (let z : Nowhere ≡ Ends = rw a at e in cc))
 ends_by PathType k =
     at_type (EndsHere PathType) k pathtype (λ e. cc) (λ a. at_type (EndsHere PathType) k width (λ e. cc) (λ b. at_type (EndsHere PathType) k xy (λ e. refl)
     (λ c e. (let z : Nowhere ≡ Ends = rw (a, b, c) at e in cc))))
-ends_by Width k = at_type (EndsHere Width) k width (λ e. cc) (λ a. at_type (EndsHere Width) k xy (λ e. refl) (λ b e. (let z : Nowhere ≡ Ends = rw (a, b) at e in cc)))
+ends_by Width k =
+    at_type (EndsHere Width) k width (λ e. cc) (λ a. at_type (EndsHere Width) k xy (λ e. refl) (λ b e. (let z : Nowhere ≡ Ends = rw (a, b) at e in cc)))
 ends_by Points k = at_type (EndsHere Points) k xy (λ e. refl) (λ a e. (let z : Nowhere ≡ Ends = rw a at e in cc))
 
 pub path_goes : (p p' : Path) (piece : List Rec) (r : Rec) → IsPathRead p piece → after p.place r.kind ≡ Goes p'.place
@@ -86,7 +92,8 @@ half_known (Some r) h e = cc
 pub half_is : (p : Path) (piece : List Rec) (h : ℕ) → IsPathRead p piece → p.half ≡ Some h → h ≡ half_of piece
 half_is p piece h r e = sym (half_known (last_of width piece) h (sym r.half ∙ e))
 
-pub reach_is : (p : Path) (piece : List Rec) (h : ℕ) → IsPathRead p piece → p.half ≡ Some h → reach_at p.square h ≡ end_of piece
+pub reach_is : (p : Path) (piece : List Rec) (h : ℕ) → IsPathRead p piece → p.half ≡ Some h
+    → reach_at p.square h ≡ end_of piece
 reach_is p piece h r e =
     ap (λ b. reach_at b h) r.square ∙ ap (λ n. reach_at (int_eq (short (field pathtype piece)) (pos 2)) n) (half_is p piece h r e)
 
@@ -106,7 +113,7 @@ pub some_of : {A : Type 0} (o : Option A) → o ≢ None → (x : A) × (o ≡ S
 some_of None n = absurd (n refl)
 some_of (Some x) n = (x, refl)
 
--- the width and the ends of a path behind its points
+-- the width and the ends of a path after its points
 half_kept : (piece : List Rec) (r : Rec) → r.kind ≡ xy → half_of (piece ++ r ∷ []) ≡ half_of piece
 half_kept piece r x = ap half (field_there width piece r (subst (λ k. k == width ≡ false) (sym x) refl))
 
@@ -118,7 +125,8 @@ end_kept piece r x =
 abbrev rings_at : List Point → ℕ → ℕ → Rings
 rings_at ps h e = path_rings ps (record { half = h; start = e; end = e })
 
-pub path_ends : (p : Path) (piece : List Rec) (r : Rec) (h : ℕ) (rings : Rings) (shifts : List Point) → IsPathRead p piece → after p.place r.kind ≡ Ends → p.half ≡ Some h
+pub path_ends : (p : Path) (piece : List Rec) (r : Rec) (h : ℕ) (rings : Rings) (shifts : List Point)
+    → IsPathRead p piece → after p.place r.kind ≡ Ends → p.half ≡ Some h
     → rings ≡ rings_at (points r.payload) h (reach_at p.square h) → shifts ≡ one_place
     → IsAtEnd (Shape (record { layer = p.layer; figure = rings; shifts = shifts })) (piece ++ r ∷ [])
 path_ends p piece r h rings shifts i a w e f =
@@ -142,7 +150,8 @@ path_ends p piece r h rings shifts i a w e f =
     }
 
 -- why the points give no bands is a rule that they breach
-pub bands_fault : (p : Path) (piece : List Rec) (r : Rec) → IsPathRead p piece → r.kind ≡ xy → (k : ElementRule) → IsBandsFault (points r.payload) p.half p.square k → ValueBreaches piece r k
+pub bands_fault : (p : Path) (piece : List Rec) (r : Rec) → IsPathRead p piece → r.kind ≡ xy → (k : ElementRule)
+    → IsBandsFault (points r.payload) p.half p.square k → ValueBreaches piece r k
 bands_fault p piece r h x PointsFault b = (x, inr (inl (h.opened, b)))
 bands_fault p piece r h x WidthFault b = (h.opened, inr (x, b.0, none_half (last_of width piece) (sym h.half ∙ b.1)))
 bands_fault p piece r h x (PathFault f) (n, half, e, low) =

@@ -1,4 +1,4 @@
--- How a cell is placed, with one record more, and references by their parts.
+-- How a cell is placed, with one more record, and references by their parts.
 use Rattle.std.proofs.Common.{◌≡◌, ◌==◌, ℕ, Bool, false, if◌then◌else◌, List, [], ◌∷◌, ◌++◌, refl, sym, ap, ◌∙◌, subst}
 use Rattle.lvl_grid.specs.declared.point.Point.{Point}
 use Rattle.lvl_grid.specs.declared.map.Turn.{Turn}
@@ -7,7 +7,7 @@ use Rattle.gds_elements.specs.Types.{sname, strans, angle, xy}
 use Rattle.gds_elements.specs.Rec.{Rec, field}
 use Rattle.gds_elements.specs.Values.{name, flips, turn, points, nth}
 use Rattle.gds_elements.specs.Meaning.{reference}
-use Rattle.gds_elements.specs.Placing.{IsPlaced}
+use Rattle.gds_elements.specs.inside.Placing.{IsPlaced}
 use Rattle.gds_elements.specs.declared.placing.Placing.{Placing}
 use Rattle.gds_elements.proofs.Fields.{field_read, field_here, field_there}
 use Rattle.gds_elements.proofs.Shapes.{kind_test}
@@ -34,8 +34,9 @@ placed_kept p piece r h x = record {
 reference_from : List ℕ → Bool → Turn → Point → List Point → PlainReference
 reference_from n f t a s = record { cell = n; flip = f; turn = t; at = a; shifts = s }
 
--- the reference behind the points is that of the records
-pub reference_is : (p : Placing) (piece : List Rec) (r : Rec) (shifts shifts' : List Point) → IsPlaced p piece → r.kind ≡ xy → shifts ≡ shifts'
+-- the reference after the points is that of the records
+pub reference_is : (p : Placing) (piece : List Rec) (r : Rec) (shifts shifts' : List Point) → IsPlaced p piece
+    → r.kind ≡ xy → shifts ≡ shifts'
     → record { cell = p.name.items; flip = p.flip; turn = p.turn; at = nth (points r.payload) 0; shifts = shifts } ≡ reference (piece ++ r ∷ []) shifts'
 unfolding reference_from
 reference_is p piece r shifts shifts' h x e =

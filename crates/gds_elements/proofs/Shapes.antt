@@ -1,4 +1,4 @@
--- The layer and datatype of a shape with one record more, and shapes by their parts.
+-- The layer and datatype of a shape with one more record, and shapes by their parts.
 use Rattle.std.proofs.Common.{◌≡◌, ◌==◌, ℕ, true, false, if◌then◌else◌, List, [], ◌∷◌, ◌++◌, refl, sym, ap, ◌∙◌, subst}
 use Rattle.lvl_grid.specs.declared.point.Point.{Point}
 use Rattle.lvl_cells.specs.declared.layer.Layer.{Layer as LayerOf}
@@ -14,7 +14,7 @@ layer_from : (a b : ℕ) (l : LayerOf) → l.layer ≡ a → l.datatype ≡ b �
 layer_from a b l e f =
     ap (λ (i : ℕ). let x : LayerOf = record { layer = i; datatype = l.datatype } in x) e ∙ ap (λ (i : ℕ). let x : LayerOf = record { layer = a; datatype = i } in x) f
 
--- the layer and datatype behind one record more
+-- the layer and datatype after one more record
 pub layer_more : (piece : List Rec) (r : Rec) (old new : LayerOf) → old ≡ layer_of piece
     → new.layer ≡ (if r.kind == layer then magnitude (short r.payload) else old.layer)
     → new.datatype ≡ (if r.kind == datatype then magnitude (short r.payload) else old.datatype)
@@ -24,7 +24,7 @@ layer_more piece r old new h e f =
     (field_read (λ p. magnitude (short p)) layer piece r old.layer new.layer (ap (λ (l : LayerOf). l.layer) h) e)
     (field_read (λ p. magnitude (short p)) datatype piece r old.datatype new.datatype (ap (λ (l : LayerOf). l.datatype) h) f)
 
--- the layer and datatype behind the points
+-- the layer and datatype after the points
 pub layer_kept : (piece : List Rec) (r : Rec) → r.kind ≡ xy → layer_of (piece ++ r ∷ []) ≡ layer_of piece
 layer_kept piece r x =
     layer_from _ _ (layer_of (piece ++ r ∷ []))
@@ -35,7 +35,8 @@ abbrev shape_from : LayerOf → Rings → List Point → List (PlainShape Rings)
 shape_from l f s = record { layer = l; figure = f; shifts = s } ∷ []
 
 -- the parts of a shape
-pub shape_same : (l m : LayerOf) (f g : Rings) (s t : List Point) → l ≡ m → f ≡ g → s ≡ t → shape_from l f s ≡ shape_from m g t
+pub shape_same : (l m : LayerOf) (f g : Rings) (s t : List Point) → l ≡ m → f ≡ g → s ≡ t
+    → shape_from l f s ≡ shape_from m g t
 shape_same l m f g s t a b c =
     ap (λ (i : LayerOf). shape_from i f s) a ∙ ap (λ (i : Rings). shape_from m i s) b ∙ ap (λ (i : List Point). shape_from m g i) c
 

@@ -1,13 +1,14 @@
--- A reference with one record more.
-use Rattle.std.proofs.Common.{◌≡◌, ◌==◌, ℕ, false, if◌then◌else◌, List, [], ◌∷◌, ◌++◌, map, Some, refl, sym, ap, ◌∙◌, subst}
+-- A reference with one more record.
+use Rattle.std.proofs.Common.{◌≡◌, ◌==◌, ℕ, false, if◌then◌else◌, List, [], ◌∷◌, ◌++◌, map, Some, refl, sym, ap, ◌∙◌}
+use Rattle.std.proofs.Common.{subst}
 use Rattle.lvl_cells.specs.Cells.{PlainReference}
 use Rattle.gds_elements.specs.Types.{sref, sname, strans, mag, angle, xy, endel}
 use Rattle.lvl_grammar.specs.Order.{one}
 use Rattle.gds_elements.specs.Rec.{Rec, opener}
 use Rattle.gds_elements.specs.Values.{name, flips, turn, points, nth}
 use Rattle.gds_elements.specs.Meaning.{shapes_by, references_by, in_rings, one_place}
-use Rattle.gds_elements.specs.Sref.{after, left, IsSrefRead}
-use Rattle.gds_elements.specs.Reading.{IsAtEnd}
+use Rattle.gds_elements.specs.inside.Sref.{after, left, IsSrefRead}
+use Rattle.gds_elements.specs.inside.Reading.{IsAtEnd}
 use Rattle.gds_elements.specs.declared.order.Next.TheVariants.{Goes, Ends, Nowhere}
 use Rattle.gds_elements.specs.declared.sref.Place.{Place}
 use Rattle.gds_elements.specs.declared.sref.Place.TheVariants.{Name, Strans, Magnification, Angle, Points}
@@ -29,7 +30,8 @@ one_way p k j = at_type (AsTable p) k j
 pub by_table : (p : Place) (k : ℕ) → AsTable p k
 by_table Name k = one_way Name k sname refl (λ a. rw a refl)
 by_table Strans k = one_way Strans k strans refl (λ a. one_way Strans k xy refl (λ b. rw (a, b) refl))
-by_table Magnification k = one_way Magnification k mag refl (λ a. one_way Magnification k angle refl (λ b. one_way Magnification k xy refl (λ c. rw (a, b, c) refl)))
+by_table Magnification k =
+    one_way Magnification k mag refl (λ a. one_way Magnification k angle refl (λ b. one_way Magnification k xy refl (λ c. rw (a, b, c) refl)))
 by_table Angle k = one_way Angle k angle refl (λ a. one_way Angle k xy refl (λ b. rw (a, b) refl))
 by_table Points k = one_way Points k xy refl (λ a. rw a refl)
 
@@ -50,11 +52,13 @@ EndsHere p k = after p k ≡ Ends → k ≡ xy
 pub ends_by : (p : Place) (k : ℕ) → after p k ≡ Ends → k ≡ xy
 unfolding EndsHere
 ends_by Name k = at_type (EndsHere Name) k sname (λ e. cc) (λ a e. (let z : Nowhere ≡ Ends = rw a at e in cc))
-ends_by Strans k = at_type (EndsHere Strans) k strans (λ e. cc) (λ a. at_type (EndsHere Strans) k xy (λ e. refl) (λ b e. (let z : Nowhere ≡ Ends = rw (a, b) at e in cc)))
+ends_by Strans k =
+    at_type (EndsHere Strans) k strans (λ e. cc) (λ a. at_type (EndsHere Strans) k xy (λ e. refl) (λ b e. (let z : Nowhere ≡ Ends = rw (a, b) at e in cc)))
 ends_by Magnification k =
     at_type (EndsHere Magnification) k mag (λ e. cc) (λ a. at_type (EndsHere Magnification) k angle (λ e. cc) (λ b. at_type (EndsHere Magnification) k xy (λ e. refl)
     (λ c e. (let z : Nowhere ≡ Ends = rw (a, b, c) at e in cc))))
-ends_by Angle k = at_type (EndsHere Angle) k angle (λ e. cc) (λ a. at_type (EndsHere Angle) k xy (λ e. refl) (λ b e. (let z : Nowhere ≡ Ends = rw (a, b) at e in cc)))
+ends_by Angle k =
+    at_type (EndsHere Angle) k angle (λ e. cc) (λ a. at_type (EndsHere Angle) k xy (λ e. refl) (λ b e. (let z : Nowhere ≡ Ends = rw (a, b) at e in cc)))
 ends_by Points k = at_type (EndsHere Points) k xy (λ e. refl) (λ a e. (let z : Nowhere ≡ Ends = rw a at e in cc))
 
 pub sref_goes : (s s' : Sref) (piece : List Rec) (r : Rec) → IsSrefRead s piece → after s.place r.kind ≡ Goes s'.place
@@ -68,7 +72,8 @@ sref_goes s s' piece r h a n f t = record {
   placed = placed_more s.placing s'.placing piece r h.placed n f t;
 }
 
-pub sref_ends : (s : Sref) (piece : List Rec) (r : Rec) (p : PlainReference) → IsSrefRead s piece → after s.place r.kind ≡ Ends
+pub sref_ends : (s : Sref) (piece : List Rec) (r : Rec) (p : PlainReference) → IsSrefRead s piece
+    → after s.place r.kind ≡ Ends
     → p ≡ record { cell = s.placing.name.items; flip = s.placing.flip; turn = s.placing.turn; at = nth (points r.payload) 0; shifts = one_place }
     → IsAtEnd (Reference p) (piece ++ r ∷ [])
 sref_ends s piece r p h a e =

@@ -1,5 +1,6 @@
 -- What is answered of a record.
-use Rattle.std.proofs.Common.{◌≡◌, ◌==◌, ℕ, false, List, [], ◌∷◌, ◌++◌, map, Some, refl, sym, ap, ◌∙◌, subst, Result, Ok, Err, IfOk, IfErr}
+use Rattle.std.proofs.Common.{◌≡◌, ◌==◌, ℕ, false, List, [], ◌∷◌, ◌++◌, map, Some, refl, sym, ap, ◌∙◌, subst, Result}
+use Rattle.std.proofs.Common.{Ok, Err, IfOk, IfErr}
 use Rattle.std.specs.Prelude.{OnOk}
 use Rattle.std.specs.Result.{IsErr, IsErrAnd}
 use Rattle.std.proofs.lemmas.List.{append-nil}
@@ -10,9 +11,9 @@ use Rattle.gds_elements.specs.Rec.{Rec, kinds, opener, last_of}
 use Rattle.gds_elements.specs.Meaning.{shapes_by, references_by, in_rings}
 use Rattle.gds_elements.specs.Rules.{InOrder, ValueBreaches, ElementBreaches, BreachesNone, BreachesOnly}
 use Rattle.lvl_refusal.specs.Refused.{Says}
-use Rattle.gds_elements.specs.Misplaced.{Broken, breach}
+use Rattle.gds_elements.specs.inside.Misplaced.{Broken, breach}
 use Rattle.gds_elements.specs.declared.fault.ElementFault.TheVariants.{Misplaced as MisplacedRecord, Rule}
-use Rattle.gds_elements.specs.Reading.{Takes, Steps, IsStep, IsAtEnd, record_of}
+use Rattle.gds_elements.specs.inside.Reading.{Takes, Steps, IsStep, IsAtEnd, record_of}
 use Rattle.lvl_refusal.specs.declared.Refusal.{Refusal}
 use Rattle.gds_elements.specs.declared.fault.ElementFault.{ElementFault}
 use Rattle.gds_elements.specs.declared.fault.ElementRule.{ElementRule}
@@ -26,36 +27,46 @@ use Rattle.gds_elements.proofs.OneRule.{one_rule}
 use Rattle.gds_elements.proofs.Allowed.{law_endel, allowed}
 
 -- a refusal that is passed on
-pub takes_refused : (piece : List Rec) (r : Rec) (res : Result State (Refusal ElementFault)) (e : Refusal ElementFault) → IsErr res × IsErrAnd res (λ x. x ≡ e) → Says e (ElementBreaches piece r) → Takes piece r res
+pub takes_refused : (piece : List Rec) (r : Rec) (res : Result State (Refusal ElementFault)) (e : Refusal ElementFault)
+    → IsErr res × IsErrAnd res (λ x. x ≡ e) → Says e (ElementBreaches piece r) → Takes piece r res
 takes_refused piece r (Ok s) e h b = absurd h.1
 takes_refused piece r (Err x) e h b = subst (λ (i : Refusal ElementFault). Says i (ElementBreaches piece r)) (sym h.1) b
 
-broken_breaches : (piece : List Rec) (r : Rec) (P : ElementRule → Type 0) → InOrder piece r → ((k : ElementRule) → P k → ValueBreaches piece r k) → (f : ElementFault) → Broken P f → ElementBreaches piece r f
+broken_breaches : (piece : List Rec) (r : Rec) (P : ElementRule → Type 0) → InOrder piece r
+    → ((k : ElementRule) → P k → ValueBreaches piece r k) → (f : ElementFault) → Broken P f → ElementBreaches piece r f
 broken_breaches piece r P g h (MisplacedRecord m) x = absurd x
 broken_breaches piece r P g h (Rule k) x = (g, h k x)
 
 -- by a value that breaches a rule
-pub takes_broken : (piece : List Rec) (r : Rec) (res : Result State (Refusal ElementFault)) (e : Refusal ElementFault) (P : ElementRule → Type 0) → IsErr res × IsErrAnd res (λ x. x ≡ e) → InOrder piece r
+pub takes_broken : (piece : List Rec) (r : Rec) (res : Result State (Refusal ElementFault)) (e : Refusal ElementFault) (P : ElementRule → Type 0)
+    → IsErr res × IsErrAnd res (λ x. x ≡ e) → InOrder piece r
     → ((k : ElementRule) → P k → ValueBreaches piece r k) → Says e (Broken P) → Takes piece r res
-takes_broken piece r res e P h g f s = takes_refused piece r res e h (says_carried e (Broken P) (ElementBreaches piece r) (broken_breaches piece r P g f) s)
+takes_broken piece r res e P h g f s =
+    takes_refused piece r res e h (says_carried e (Broken P) (ElementBreaches piece r) (broken_breaches piece r P g f) s)
 
-pub takes_one : (piece : List Rec) (r : Rec) (res : Result State (Refusal ElementFault)) (e : Refusal ElementFault) (k : ElementRule) → IsErr res × IsErrAnd res (λ x. x ≡ e) → InOrder piece r
+pub takes_one : (piece : List Rec) (r : Rec) (res : Result State (Refusal ElementFault)) (e : Refusal ElementFault) (k : ElementRule)
+    → IsErr res × IsErrAnd res (λ x. x ≡ e) → InOrder piece r
     → e ≡ breach k → ValueBreaches piece r k → Takes piece r res
-takes_one piece r res e k h g f b = takes_refused piece r res e h (subst (λ (i : Refusal ElementFault). Says i (ElementBreaches piece r)) (sym f) (g, b))
+takes_one piece r res e k h g f b =
+    takes_refused piece r res e h (subst (λ (i : Refusal ElementFault). Says i (ElementBreaches piece r)) (sym f) (g, b))
 
 -- the end leaves what was drawn
-same_kinds : (piece : List Rec) (r : Rec) (j : ℕ) → r.kind ≡ endel → endel == j ≡ false → last_of j (piece ++ r ∷ []) ≡ last_of j piece
+same_kinds : (piece : List Rec) (r : Rec) (j : ℕ) → r.kind ≡ endel → endel == j ≡ false
+    → last_of j (piece ++ r ∷ []) ≡ last_of j piece
 same_kinds piece r j e n = last_there j piece r (subst (λ k. k == j ≡ false) (sym e) n)
 
-endel_shapes : (k : ℕ) (piece : List Rec) (r : Rec) → r.kind ≡ endel → shapes_by (Some k) (piece ++ r ∷ []) ≡ shapes_by (Some k) piece
+endel_shapes : (k : ℕ) (piece : List Rec) (r : Rec) → r.kind ≡ endel
+    → shapes_by (Some k) (piece ++ r ∷ []) ≡ shapes_by (Some k) piece
 endel_shapes k piece r e =
     rw (same_kinds piece r layer e refl, same_kinds piece r datatype e refl, same_kinds piece r xy e refl, same_kinds piece r width e refl, same_kinds piece r pathtype e refl) refl
 
-endel_references : (k : ℕ) (piece : List Rec) (r : Rec) → r.kind ≡ endel → references_by (Some k) (piece ++ r ∷ []) ≡ references_by (Some k) piece
+endel_references : (k : ℕ) (piece : List Rec) (r : Rec) → r.kind ≡ endel
+    → references_by (Some k) (piece ++ r ∷ []) ≡ references_by (Some k) piece
 endel_references k piece r e =
     rw (same_kinds piece r sname e refl, same_kinds piece r strans e refl, same_kinds piece r angle e refl, same_kinds piece r xy e refl, same_kinds piece r colrow e refl) refl
 
-pub law_end : (piece : List Rec) (r : Rec) (d : Drawn) → IsAtEnd d piece → r.kind ≡ endel → IsStep (Whole d) (piece ++ r ∷ []) × BreachesNone piece r
+pub law_end : (piece : List Rec) (r : Rec) (d : Drawn) → IsAtEnd d piece → r.kind ≡ endel
+    → IsStep (Whole d) (piece ++ r ∷ []) × BreachesNone piece r
 law_end piece r d h e =
     let new = piece ++ r ∷ [] in
     let k = h.opened.0 in
@@ -73,23 +84,29 @@ law_end piece r d h e =
     )
 
 -- a step of a state is one of the element
-pub takes_steps : (piece : List Rec) (r : Rec) (k : ℕ) (p : List ℕ) (res : Result Step (Refusal ElementFault)) → r.kind ≡ k → r.payload ≡ p → ((d : ℕ) → Steps piece (record_of k d p) res) → Steps piece r res
+pub takes_steps : (piece : List Rec) (r : Rec) (k : ℕ) (p : List ℕ) (res : Result Step (Refusal ElementFault))
+    → r.kind ≡ k → r.payload ≡ p → ((d : ℕ) → Steps piece (record_of k d p) res) → Steps piece r res
 takes_steps piece r k p res e f h =
     let g : record_of k r.data_type p ≡ r = ap (λ i. record_of i r.data_type p) (sym e) ∙ ap (λ q. record_of r.kind r.data_type q) (sym f) in
     subst (λ (i : Rec). Steps piece i res) g (h r.data_type)
 
-pub steps_going : (piece : List Rec) (r : Rec) (res : Result Step (Refusal ElementFault)) → Steps piece r res → IfOk res (λ s. IsStep s (piece ++ r ∷ []))
+pub steps_going : (piece : List Rec) (r : Rec) (res : Result Step (Refusal ElementFault)) → Steps piece r res
+    → IfOk res (λ s. IsStep s (piece ++ r ∷ []))
 steps_going piece r (Ok s) h = h.0
 steps_going piece r (Err e) h = tt
 
-pub steps_allowed : (piece : List Rec) (r : Rec) (res : Result Step (Refusal ElementFault)) → Steps piece r res → OnOk res (BreachesNone piece r)
+pub steps_allowed : (piece : List Rec) (r : Rec) (res : Result Step (Refusal ElementFault)) → Steps piece r res
+    → OnOk res (BreachesNone piece r)
 steps_allowed piece r (Ok s) h = h.1
 steps_allowed piece r (Err e) h = tt
 
-pub steps_refused : (piece : List Rec) (r : Rec) (res : Result Step (Refusal ElementFault)) → Steps piece r res → IfErr res (λ e. Says e (ElementBreaches piece r))
+pub steps_refused : (piece : List Rec) (r : Rec) (res : Result Step (Refusal ElementFault)) → Steps piece r res
+    → IfErr res (λ e. Says e (ElementBreaches piece r))
 steps_refused piece r (Ok s) h = tt
 steps_refused piece r (Err e) h = h
 
-pub steps_alone : (piece : List Rec) (r : Rec) (res : Result Step (Refusal ElementFault)) → Steps piece r res → IfErr res (λ e. Says e (BreachesOnly piece r))
+pub steps_alone : (piece : List Rec) (r : Rec) (res : Result Step (Refusal ElementFault)) → Steps piece r res
+    → IfErr res (λ e. Says e (BreachesOnly piece r))
 steps_alone piece r (Ok s) h = tt
-steps_alone piece r (Err e) h = says_carried e (ElementBreaches piece r) (BreachesOnly piece r) (λ k x j y. one_rule piece r j k y x) h
+steps_alone piece r (Err e) h =
+    says_carried e (ElementBreaches piece r) (BreachesOnly piece r) (λ k x j y. one_rule piece r j k y x) h

@@ -1,16 +1,18 @@
--- A text with one record more.
+-- A text with one more record.
 use Rattle.std.proofs.Common.{◌≡◌, ◌==◌, ℕ, false, List, [], ◌∷◌, ◌++◌, map, Some, refl, sym, ap, ◌∙◌, subst}
-use Rattle.gds_elements.specs.Types.{text, layer, texttype, presentation, pathtype, width, strans, mag, angle, xy, string, endel}
+use Rattle.gds_elements.specs.Types.{text, layer, texttype, presentation, pathtype, width, strans, mag, angle, xy}
+use Rattle.gds_elements.specs.Types.{string, endel}
 use Rattle.gds_elements.specs.Order.{an_element}
 use Rattle.lvl_grammar.specs.Order.{one}
 use Rattle.gds_elements.specs.Rec.{Rec, opener}
 use Rattle.gds_elements.specs.Meaning.{shapes_by, references_by, in_rings}
-use Rattle.gds_elements.specs.Text.{after, left, IsTextRead}
+use Rattle.gds_elements.specs.inside.Text.{after, left, IsTextRead}
 use Rattle.lvl_grammar.specs.inside.After.{LeadsTo}
-use Rattle.gds_elements.specs.Reading.{IsAtEnd}
+use Rattle.gds_elements.specs.inside.Reading.{IsAtEnd}
 use Rattle.gds_elements.specs.declared.order.Next.TheVariants.{Goes, Ends}
 use Rattle.gds_elements.specs.declared.text.Place.{Place}
-use Rattle.gds_elements.specs.declared.text.Place.TheVariants.{Layer, TextType, Presentation, PathType, Width, Strans, Magnification, Angle, Points, Letters}
+use Rattle.gds_elements.specs.declared.text.Place.TheVariants.{Layer, TextType, Presentation, PathType, Width, Strans}
+use Rattle.gds_elements.specs.declared.text.Place.TheVariants.{Magnification, Angle, Points, Letters}
 use Rattle.gds_elements.specs.declared.text.Text.{Text}
 use Rattle.gds_elements.specs.declared.element.Drawn.TheVariants.{Nothing}
 use Rattle.lvl_grammar.specs.inside.After.{after_first}
@@ -33,9 +35,11 @@ by_table Presentation k =
     one_way Presentation k strans refl (λ d. one_way Presentation k xy refl (λ e. rw (a, b, c, d, e) refl)))))
 by_table PathType k =
     one_way PathType k pathtype refl (λ b. one_way PathType k width refl (λ c. one_way PathType k strans refl (λ d. one_way PathType k xy refl (λ e. rw (b, c, d, e) refl))))
-by_table Width k = one_way Width k width refl (λ c. one_way Width k strans refl (λ d. one_way Width k xy refl (λ e. rw (c, d, e) refl)))
+by_table Width k =
+    one_way Width k width refl (λ c. one_way Width k strans refl (λ d. one_way Width k xy refl (λ e. rw (c, d, e) refl)))
 by_table Strans k = one_way Strans k strans refl (λ a. one_way Strans k xy refl (λ b. rw (a, b) refl))
-by_table Magnification k = one_way Magnification k mag refl (λ a. one_way Magnification k angle refl (λ b. one_way Magnification k xy refl (λ c. rw (a, b, c) refl)))
+by_table Magnification k =
+    one_way Magnification k mag refl (λ a. one_way Magnification k angle refl (λ b. one_way Magnification k xy refl (λ c. rw (a, b, c) refl)))
 by_table Angle k = one_way Angle k angle refl (λ a. one_way Angle k xy refl (λ b. rw (a, b) refl))
 by_table Points k = one_way Points k xy refl (λ a. rw a refl)
 by_table Letters k = one_way Letters k string refl (λ a. rw a refl)
@@ -56,13 +60,15 @@ ends_at Letters e = cc
 pub ends_not : (p : Place) (k : ℕ) → after p k ≡ Ends → k ≡ xy → ⊥
 ends_not p k e x = ends_at p (subst (λ i. after p i ≡ Ends) x e)
 
-pub text_goes : (t t' : Text) (piece : List Rec) (r : Rec) → IsTextRead t piece → after t.place r.kind ≡ Goes t'.place → IsTextRead t' (piece ++ r ∷ [])
+pub text_goes : (t t' : Text) (piece : List Rec) (r : Rec) → IsTextRead t piece → after t.place r.kind ≡ Goes t'.place
+    → IsTextRead t' (piece ++ r ∷ [])
 text_goes t t' piece r h a = record {
   opened = opener-snoc piece r text h.opened;
   leads = leads_more piece r (left t.place) (left t'.place) h.leads (by_table t.place r.kind ∙ ap (left_behind left) a);
 }
 
-pub text_ends : (t : Text) (piece : List Rec) (r : Rec) → IsTextRead t piece → after t.place r.kind ≡ Ends → IsAtEnd Nothing (piece ++ r ∷ [])
+pub text_ends : (t : Text) (piece : List Rec) (r : Rec) → IsTextRead t piece → after t.place r.kind ≡ Ends
+    → IsAtEnd Nothing (piece ++ r ∷ [])
 text_ends t piece r h a =
     let new = piece ++ r ∷ [] in
     let o : opener new ≡ Some text = opener-snoc piece r text h.opened in

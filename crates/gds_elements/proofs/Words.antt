@@ -1,13 +1,14 @@
 -- The types that a word of an order has.
 use Rattle.std.proofs.Common.{◌≡◌, ◌==◌, ℕ, ◌⊎◌, inl, inr, Bool, true, false, ◌||◌, List, [], ◌∷◌, ◌++◌, refl, subst}
 use Rattle.std.specs.List.{AllByRecursion, flat_map}
-use Rattle.gds_elements.specs.Types.{boundary, path, sref, aref, text, layer, datatype, width, xy, endel, sname, colrow, texttype, presentation, string, strans, mag, angle, pathtype}
+use Rattle.gds_elements.specs.Types.{boundary, path, sref, aref, text, layer, datatype, width, xy, endel, sname, colrow}
+use Rattle.gds_elements.specs.Types.{texttype, presentation, string, strans, mag, angle, pathtype}
 use Rattle.lvl_grammar.specs.Order.{Order, nothing, one, next, either, many, IsWord, Begins, has}
 use Rattle.gds_elements.specs.Order.{an_element}
 use Rattle.gds_elements.specs.Rules.{IsKnown}
 use Rattle.lvl_grammar.proofs.Orders.{at_type, same_type}
 
--- a type stands in a list
+-- a type is in a list
 abbrev pub Stands : ℕ → List ℕ → Type 0
 Stands k [] = ⊥
 Stands k (x ∷ xs) = (k ≡ x) ⊎ Stands k xs
@@ -40,7 +41,7 @@ has_many : (a : Order) (k : ℕ) → ((w : List ℕ) → IsWord a w → Stands k
 has_many a k ha [] p s = absurd s
 has_many a k ha (w ∷ ws) p s = elim (stands_append k w (flat_map (λ u. u) ws) s) [ inl x ↦ ha w p.0 x | inr y ↦ has_many a k ha ws p.1 y ]
 
--- a word of an order has only types that stand in the order
+-- a word of an order has only types that are in the order
 pub has_all : (a : Order) (k : ℕ) (w : List ℕ) → IsWord a w → Stands k w → has a k ≡ true
 has_all nothing k w h s = absurd (subst (Stands k) h s)
 has_all (one j) k w h s = elim (subst (Stands k) h s) [ inl e ↦ same_type k j e | inr t ↦ absurd t ]
@@ -73,4 +74,5 @@ element_known k =
 
 -- a record that goes on to an element is of a known type
 pub begun_known : (w : List ℕ) (k : ℕ) → Begins an_element (w ++ k ∷ []) → IsKnown k
-begun_known w k (v, x) = element_known k (has_all an_element k ((w ++ k ∷ []) ++ v) x (stands_left k (w ++ k ∷ []) v (stands_right k w (k ∷ []) (inl refl))))
+begun_known w k (v, x) =
+    element_known k (has_all an_element k ((w ++ k ∷ []) ++ v) x (stands_left k (w ++ k ∷ []) v (stands_right k w (k ∷ []) (inl refl))))

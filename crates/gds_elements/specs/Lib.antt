@@ -4,13 +4,4 @@ pub mod Rec
 pub mod Values
 pub mod Meaning
 pub mod Rules
-pub mod Formed
-pub mod Misplaced
-pub mod Boundary
-pub mod Path
-pub mod Placing
-pub mod Counts
-pub mod Sref
-pub mod Aref
-pub mod Text
-pub mod Reading
+pub mod inside

@@ -1,4 +1,4 @@
--- What the records of an element mean: the last record of each type tells, wherever it stands.
+-- What the records of an element mean: the last record of each type tells, wherever it is.
 use Rattle.std.specs.Prelude.{ℕ, ◌/◌, ◌==◌, ◌-ℤ◌, pos, if◌then◌else◌, List, [], ◌∷◌, Option, Some, None}
 use Rattle.std.specs.Int.RustNames.{int_div}
 use Rattle.std.specs.Ordering.{int_eq}
@@ -7,7 +7,8 @@ use Rattle.lvl_path.specs.Figure.{Figure, rings, path as path_along, figure_ring
 use Rattle.lvl_cells.specs.declared.layer.Layer.{Layer}
 use Rattle.lvl_cells.specs.Cells.{PlainShape, PlainReference, Rings}
 use Rattle.lvl_cells.specs.Shifts.{lattice}
-use Rattle.gds_elements.specs.Types.{boundary, path, sref, aref, layer, datatype, width, xy, sname, colrow, strans, angle, pathtype}
+use Rattle.gds_elements.specs.Types.{boundary, path, sref, aref, layer, datatype, width, xy, sname, colrow, strans}
+use Rattle.gds_elements.specs.Types.{angle, pathtype}
 use Rattle.gds_elements.specs.Rec.{Rec, opener, field, last_of}
 use Rattle.gds_elements.specs.Values.{short, long, points, nth, name, magnitude, but_last, flips, turn, columns, rows}
 
@@ -67,15 +68,18 @@ rows_in None = 1
 rows_in (Some r) = magnitude (rows r.payload)
 
 abbrev pub shifts_of : List Rec → List Point
-shifts_of piece = array_shifts (points (field xy piece)) (columns_in (last_of colrow piece)) (rows_in (last_of colrow piece))
+shifts_of piece =
+    array_shifts (points (field xy piece)) (columns_in (last_of colrow piece)) (rows_in (last_of colrow piece))
 
 abbrev pub shapes_by : Option ℕ → List Rec → List (PlainShape Figure)
 shapes_by None piece = []
-shapes_by (Some k) piece = if k == boundary then boundary_shape piece ∷ [] else (if k == path then path_shape piece ∷ [] else [])
+shapes_by (Some k) piece =
+    if k == boundary then boundary_shape piece ∷ [] else (if k == path then path_shape piece ∷ [] else [])
 
 abbrev pub references_by : Option ℕ → List Rec → List PlainReference
 references_by None piece = []
-references_by (Some k) piece = if k == sref then reference piece one_place ∷ [] else (if k == aref then reference piece (shifts_of piece) ∷ [] else [])
+references_by (Some k) piece =
+    if k == sref then reference piece one_place ∷ [] else (if k == aref then reference piece (shifts_of piece) ∷ [] else [])
 
 -- the shapes and the references of an element, by the type that opens it: one shape of a boundary or a path, one reference
 -- of a reference or an array, nothing of a text

@@ -1,7 +1,8 @@
 -- The order of the records of the five elements.
 use Rattle.std.specs.Prelude.{◌==◌, ◌||◌, Bool, ℕ}
 use Rattle.lvl_grammar.specs.Order.{Order, ◌then◌, ◌or◌, one, maybe}
-use Rattle.gds_elements.specs.Types.{boundary, path, sref, aref, text, layer, datatype, width, xy, endel, sname, colrow, texttype, presentation, string, strans, mag, angle, pathtype}
+use Rattle.gds_elements.specs.Types.{boundary, path, sref, aref, text, layer, datatype, width, xy, endel, sname, colrow}
+use Rattle.gds_elements.specs.Types.{texttype, presentation, string, strans, mag, angle, pathtype}
 
 -- how a cell or a text is reflected, scaled and turned
 abbrev pub a_transform : Order
@@ -11,7 +12,8 @@ abbrev pub a_boundary : Order
 a_boundary = one boundary then one layer then one datatype then one xy then one endel
 
 abbrev pub a_path : Order
-a_path = one path then one layer then one datatype then maybe (one pathtype) then maybe (one width) then one xy then one endel
+a_path =
+    one path then one layer then one datatype then maybe (one pathtype) then maybe (one width) then one xy then one endel
 
 abbrev pub a_reference : Order
 a_reference = one sref then one sname then maybe a_transform then one xy then one endel

@@ -1,12 +1,14 @@
 -- The rules that a record of an element may breach.
-use Rattle.std.specs.Prelude.{true, ◌≡◌, ◌≢◌, ℕ, ◌*◌, ◌<◌, ◌≤◌, ◌<ℤ◌, ◌≤ℤ◌, ◌-ℤ◌, ◌⊎◌, ℤ, pos, List, [], ◌∷◌, ◌++◌, length, Some, None, All, is_some}
+use Rattle.std.specs.Prelude.{true, ◌≡◌, ◌≢◌, ℕ, ◌*◌, ◌<◌, ◌≤◌, ◌<ℤ◌, ◌≤ℤ◌, ◌-ℤ◌, ◌⊎◌, ℤ, pos, List, [], ◌∷◌, ◌++◌}
+use Rattle.std.specs.Prelude.{length, Some, None, All, is_some}
 use Rattle.std.specs.Int.RustNames.{int_rem}
 use Rattle.gds_records.specs.Table.{table, form_among}
 use Rattle.lvl_grid.specs.Winding.{IsStraight, path_edges, last_or}
 use Rattle.lvl_grid.specs.declared.point.Point.{Point}
 use Rattle.lvl_grid.specs.declared.map.Turn.{Turn}
 use Rattle.lvl_path.specs.Runs.{IsLowestFault}
-use Rattle.gds_elements.specs.Types.{boundary, path, sref, aref, text, layer, datatype, width, xy, sname, colrow, strans, mag, angle, pathtype}
+use Rattle.gds_elements.specs.Types.{boundary, path, sref, aref, text, layer, datatype, width, xy, sname, colrow}
+use Rattle.gds_elements.specs.Types.{strans, mag, angle, pathtype}
 use Rattle.lvl_grammar.specs.Order.{Begins}
 use Rattle.gds_elements.specs.Order.{an_element}
 use Rattle.gds_elements.specs.Rec.{Rec, kinds, opener, last_of}
@@ -17,7 +19,9 @@ use Rattle.gds_elements.specs.declared.fault.Misplaced.TheVariants.{Unexpected, 
 use Rattle.gds_elements.specs.declared.fault.ElementFault.{ElementFault}
 use Rattle.gds_elements.specs.declared.fault.ElementFault.TheVariants.{Misplaced as MisplacedRecord, Rule}
 use Rattle.gds_elements.specs.declared.fault.ElementRule.{ElementRule}
-use Rattle.gds_elements.specs.declared.fault.ElementRule.TheVariants.{Layer, Points, NotClosed, Strans, Magnification, Angle, ColRow, ArrayStep, Name, Path, Width, PathType, Oblique, Repetition}
+use Rattle.gds_elements.specs.declared.fault.ElementRule.TheVariants.{Layer, Points, NotClosed, Strans, Magnification}
+use Rattle.gds_elements.specs.declared.fault.ElementRule.TheVariants.{Angle, ColRow, ArrayStep, Name, Path, Width}
+use Rattle.gds_elements.specs.declared.fault.ElementRule.TheVariants.{PathType, Oblique, Repetition}
 
 -- the most places of an array
 abbrev pub place_limit : ℕ
@@ -69,11 +73,13 @@ IsMiscounted piece n =
 abbrev pub ValueBreaches : List Rec → Rec → ElementRule → Type 0
 ValueBreaches piece r Layer = ((r.kind ≡ layer) ⊎ (r.kind ≡ datatype)) × DrawsShape piece × (short r.payload <ℤ pos 0)
 ValueBreaches piece r Points = (r.kind ≡ xy) × IsMiscounted piece (length (points r.payload))
-ValueBreaches piece r NotClosed = (r.kind ≡ xy) × (opener piece ≡ Some boundary) × (4 ≤ length (points r.payload)) × ¬ IsClosed (points r.payload)
+ValueBreaches piece r NotClosed =
+    (r.kind ≡ xy) × (opener piece ≡ Some boundary) × (4 ≤ length (points r.payload)) × ¬ IsClosed (points r.payload)
 ValueBreaches piece r Strans = (r.kind ≡ strans) × RefersToCell piece × (bits r.payload ≢ 0) × (bits r.payload ≢ 0x8000)
 ValueBreaches piece r Magnification = (r.kind ≡ mag) × RefersToCell piece × (r.payload ≢ one_real)
 ValueBreaches piece r Angle = (r.kind ≡ angle) × RefersToCell piece × ((t : Turn) → r.payload ≢ degrees t)
-ValueBreaches piece r ColRow = (r.kind ≡ colrow) × (opener piece ≡ Some aref) × ((columns r.payload <ℤ pos 1) ⊎ (rows r.payload <ℤ pos 1))
+ValueBreaches piece r ColRow =
+    (r.kind ≡ colrow) × (opener piece ≡ Some aref) × ((columns r.payload <ℤ pos 1) ⊎ (rows r.payload <ℤ pos 1))
 ValueBreaches piece r ArrayStep =
     (r.kind ≡ xy) × (opener piece ≡ Some aref) × (length (points r.payload) ≡ 3)
     × ¬ HasSteps (points r.payload) (columns_in (last_of colrow piece)) (rows_in (last_of colrow piece))
@@ -84,7 +90,8 @@ ValueBreaches piece r (Path f) =
 ValueBreaches piece r Width =
     (opener piece ≡ Some path)
     × (((r.kind ≡ width) × ¬ IsWidth (long r.payload)) ⊎ ((r.kind ≡ xy) × (2 ≤ length (points r.payload)) × (last_of width piece ≡ None)))
-ValueBreaches piece r PathType = (r.kind ≡ pathtype) × (opener piece ≡ Some path) × (short r.payload ≢ pos 0) × (short r.payload ≢ pos 2)
+ValueBreaches piece r PathType =
+    (r.kind ≡ pathtype) × (opener piece ≡ Some path) × (short r.payload ≢ pos 0) × (short r.payload ≢ pos 2)
 ValueBreaches piece r Oblique =
     (r.kind ≡ xy) × (opener piece ≡ Some boundary) × (4 ≤ length (points r.payload)) × IsClosed (points r.payload)
     × ¬ All IsStraight (steps (points r.payload))

@@ -1,5 +1,6 @@
 -- The values that payloads spell.
-use Rattle.std.specs.Prelude.{ℕ, zero, suc, ◌-◌, ◌/◌, ◌==◌, ◌&&◌, nat_lt, Bool, ℤ, pos, if◌then◌else◌, List, [], ◌∷◌, length, take, drop, slice_index, slice_index_or, FitsSigned}
+use Rattle.std.specs.Prelude.{ℕ, zero, suc, ◌-◌, ◌/◌, ◌==◌, ◌&&◌, nat_lt, Bool, ℤ, pos, if◌then◌else◌, List, [], ◌∷◌}
+use Rattle.std.specs.Prelude.{length, take, drop, slice_index, slice_index_or, FitsSigned}
 use Rattle.std.specs.Int.{w16, w32, from_be_bytes, cast_signed}
 use Rattle.std.specs.Str.{bytes_eq}
 use Rattle.lvl_grid.specs.declared.point.Point.{Point}
@@ -62,7 +63,8 @@ degrees R270 = 0x43 ∷ 0x10 ∷ 0xE0 ∷ 0 ∷ 0 ∷ 0 ∷ 0 ∷ 0 ∷ []
 
 -- the turn by so many degrees, none where there is no angle
 abbrev pub turn : List ℕ → Turn
-turn p = if bytes_eq p (degrees R90) then R90 else (if bytes_eq p (degrees R180) then R180 else (if bytes_eq p (degrees R270) then R270 else R0))
+turn p =
+    if bytes_eq p (degrees R90) then R90 else (if bytes_eq p (degrees R180) then R180 else (if bytes_eq p (degrees R270) then R270 else R0))
 
 -- the columns and the rows of an array, of two bytes each
 abbrev pub columns : List ℕ → ℤ

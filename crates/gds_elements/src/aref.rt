@@ -8,11 +8,11 @@ ghost use Rattle.gds_elements.specs.Values.{points, nth, IsNarrow};
 ghost use Rattle.gds_elements.specs.Rec.{Rec};
 ghost use Rattle.gds_elements.specs.Meaning.{array_shifts, step};
 ghost use Rattle.gds_elements.specs.Rules.{HasSteps, IsDivided};
-ghost use Rattle.gds_elements.specs.Formed.{IsFormed};
-ghost use Rattle.gds_elements.specs.Aref.{after, IsArefRead, IsArrayFault};
-ghost use Rattle.gds_elements.specs.Reading.{Takes, record_of};
+ghost use Rattle.gds_elements.specs.inside.Formed.{IsFormed};
+ghost use Rattle.gds_elements.specs.inside.Aref.{after, IsArefRead, IsArrayFault};
+ghost use Rattle.gds_elements.specs.inside.Reading.{Takes, record_of};
 ghost use Rattle.lvl_refusal.specs.Refused.{Says};
-ghost use Rattle.gds_elements.specs.Misplaced.{Broken, breach};
+ghost use Rattle.gds_elements.specs.inside.Misplaced.{Broken, breach};
 
 use crate::counts::{Counts, read_counts};
 use crate::element::{Drawn, State};

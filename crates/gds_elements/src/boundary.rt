@@ -5,11 +5,11 @@ ghost use Rattle.gds_elements.specs.Types.{boundary};
 ghost use Rattle.gds_elements.specs.Values.{points, but_last};
 ghost use Rattle.gds_elements.specs.Rec.{Rec};
 ghost use Rattle.gds_elements.specs.Rules.{IsClosed, steps};
-ghost use Rattle.gds_elements.specs.Formed.{IsFormed};
-ghost use Rattle.gds_elements.specs.Boundary.{after, IsBoundary, IsRingFault};
-ghost use Rattle.gds_elements.specs.Reading.{Takes, record_of};
+ghost use Rattle.gds_elements.specs.inside.Formed.{IsFormed};
+ghost use Rattle.gds_elements.specs.inside.Boundary.{after, IsBoundary, IsRingFault};
+ghost use Rattle.gds_elements.specs.inside.Reading.{Takes, record_of};
 ghost use Rattle.lvl_refusal.specs.Refused.{Says};
-ghost use Rattle.gds_elements.specs.Misplaced.{Broken};
+ghost use Rattle.gds_elements.specs.inside.Misplaced.{Broken};
 
 use crate::element::{Drawn, State, zero_shift};
 use crate::fault::{ElementFault, ElementRule, breach};

@@ -2,10 +2,10 @@
 ghost use Rattle.std.specs.Prelude.{◌≡◌, ◌==◌, ◌≤◌, ◌<◌, ◌*◌, ◌<ℤ◌, pos, IfOk, IfErr, OnOk, length, if◌then◌else◌};
 ghost use Rattle.gds_elements.specs.Types.{colrow};
 ghost use Rattle.gds_elements.specs.Values.{short, magnitude, columns, rows};
-ghost use Rattle.gds_elements.specs.Formed.{IsFormed};
-ghost use Rattle.gds_elements.specs.Counts.{IsCounted, IsCountFault};
+ghost use Rattle.gds_elements.specs.inside.Formed.{IsFormed};
+ghost use Rattle.gds_elements.specs.inside.Counts.{IsCounted, IsCountFault};
 ghost use Rattle.lvl_refusal.specs.Refused.{Says};
-ghost use Rattle.gds_elements.specs.Misplaced.{Broken, breach};
+ghost use Rattle.gds_elements.specs.inside.Misplaced.{Broken, breach};
 
 use crate::fault::{ElementFault, ElementRule, breach};
 use crate::values::short;
@@ -25,7 +25,7 @@ pub(crate) struct Counts {
     ghost few: { columns * rows ≤ 1048576 },
 }
 
-/// How many columns and rows, behind one record more.
+/// How many columns and rows, after one more record.
 pub(crate) fn read_counts(
     old: Counts,
     kind: u8,

@@ -4,8 +4,8 @@ ghost use Rattle.gds_elements.specs.Order.{opens};
 ghost use Rattle.gds_elements.specs.Rec.{Rec};
 ghost use Rattle.gds_elements.specs.Meaning.{one_place};
 ghost use Rattle.gds_elements.specs.Rules.{ElementBreaches, BreachesOnly, BreachesNone};
-ghost use Rattle.gds_elements.specs.Formed.{IsFormed};
-ghost use Rattle.gds_elements.specs.Reading.{IsReading, IsStep, HasRead, IsAtEnd, Takes, Steps, record_of};
+ghost use Rattle.gds_elements.specs.inside.Formed.{IsFormed};
+ghost use Rattle.gds_elements.specs.inside.Reading.{IsReading, IsStep, HasRead, IsAtEnd, Takes, Steps, record_of};
 ghost use Rattle.lvl_refusal.specs.Refused.{Says};
 
 use crate::aref::Aref;
@@ -50,7 +50,7 @@ pub struct Element {
     state: State,
 }
 
-/// What an element is behind one record more.
+/// What an element is after one more record.
 #[derive(Drop)]
 pub enum Step {
     /// It isn't whole yet.
@@ -89,9 +89,9 @@ impl Element {
     ///
     /// The order of an element's records and their values are those of the GDSII Stream Format
     /// Manual, Release 6; a rule that [`crate::GdsKind`] marks own is this project's. A record that
-    /// may not stand there is refused before what it says is looked at. Then its tests run in the
+    /// may not come there is refused before what it says is looked at. Then its tests run in the
     /// order of the rules, but `Oblique` behind `NotClosed` and `Width` before `Path`, and the first
-    /// that fails is told.
+    /// that fails is reported.
     pub fn take(
         self,
         alloc: Global,

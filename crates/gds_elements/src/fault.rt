@@ -1,6 +1,6 @@
 //! Why a record of an element is refused.
 ghost use Rattle.std.specs.Prelude.{◌≡◌};
-ghost use Rattle.gds_elements.specs.Misplaced.{breach};
+ghost use Rattle.gds_elements.specs.inside.Misplaced.{breach};
 
 use lvl_path::PathFault;
 use lvl_refusal::Refusal;

@@ -2,8 +2,8 @@
 ghost use Rattle.std.specs.Prelude.{◌≡◌, ◌==◌, ◌≤ℤ◌, ◌<ℤ◌, pos, IfOk, IfErr, OnOk, length, if◌then◌else◌};
 ghost use Rattle.gds_elements.specs.Types.{layer, datatype};
 ghost use Rattle.gds_elements.specs.Values.{short, magnitude};
-ghost use Rattle.gds_elements.specs.Formed.{IsFormed, IsLayerNumber};
-ghost use Rattle.gds_elements.specs.Misplaced.{breach};
+ghost use Rattle.gds_elements.specs.inside.Formed.{IsFormed, IsLayerNumber};
+ghost use Rattle.gds_elements.specs.inside.Misplaced.{breach};
 
 use crate::fault::{ElementFault, ElementRule, breach};
 use crate::values::short;
@@ -11,7 +11,7 @@ use gds_records::record_type;
 use lvl_cells::Layer;
 use lvl_refusal::Refusal;
 
-/// The layer and datatype of a shape behind one record more.
+/// The layer and datatype of a shape after one more record.
 pub(crate) fn read_layer(
     old: Layer,
     kind: u8,

@@ -1,6 +1,6 @@
 //! What a record is at a place of an element.
 ghost use Rattle.std.specs.Prelude.{◌≡◌, ◌==◌, ◌<◌, if◌then◌else◌};
-ghost use Rattle.gds_elements.specs.Misplaced.{IsMisplacement, IsMisplaced};
+ghost use Rattle.gds_elements.specs.inside.Misplaced.{IsMisplacement, IsMisplaced};
 
 use crate::fault::{ElementFault, Misplaced};
 use gds_records::record_type;
@@ -9,15 +9,15 @@ use lvl_refusal::Refusal;
 /// What a record of some type is at a place.
 #[derive(Clone, Copy)]
 pub(crate) enum Next<P> {
-    /// It may stand there and leads to this place.
+    /// It may come there and leads to this place.
     Goes(P),
-    /// It may stand there, and only ENDEL behind it.
+    /// It may come there, and only ENDEL after it.
     Ends,
-    /// It may not stand there.
+    /// It may not come there.
     Nowhere,
 }
 
-/// The one type that may stand at a place.
+/// The one type that may come at a place.
 pub(crate) fn only<P>(kind: u8, wanted: u8, next: Next<P>) -> Next<P>
 where
     P: Copy,

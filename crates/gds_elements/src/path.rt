@@ -7,11 +7,11 @@ ghost use Rattle.gds_elements.specs.Values.{short, long, points};
 ghost use Rattle.gds_elements.specs.Rec.{Rec};
 ghost use Rattle.gds_elements.specs.Meaning.{half};
 ghost use Rattle.gds_elements.specs.Rules.{IsWidth};
-ghost use Rattle.gds_elements.specs.Formed.{IsFormed};
-ghost use Rattle.gds_elements.specs.Path.{after, IsPathRead, IsBandsFault, reach_at};
-ghost use Rattle.gds_elements.specs.Reading.{Takes, record_of};
+ghost use Rattle.gds_elements.specs.inside.Formed.{IsFormed};
+ghost use Rattle.gds_elements.specs.inside.Path.{after, IsPathRead, IsBandsFault, reach_at};
+ghost use Rattle.gds_elements.specs.inside.Reading.{Takes, record_of};
 ghost use Rattle.lvl_refusal.specs.Refused.{Says};
-ghost use Rattle.gds_elements.specs.Misplaced.{Broken, breach};
+ghost use Rattle.gds_elements.specs.inside.Misplaced.{Broken, breach};
 
 use crate::element::{Drawn, State, zero_shift};
 use crate::fault::{ElementFault, ElementRule, breach};
@@ -122,7 +122,7 @@ impl Path {
     }
 }
 
-/// Whether a path reaches half its width beyond its ends, behind one record more.
+/// Whether a path reaches half its width beyond its ends, after one more record.
 fn read_ends(old: bool, kind: u8, payload: &[u8]) -> Result<bool, Refusal<ElementFault>>
     requires { IsFormed kind payload.now }
     ensures value { IfOk result (λ square. square ≡ (if kind == pathtype then int_eq (short payload.now) (pos 2) else old)) }
@@ -140,7 +140,7 @@ fn read_ends(old: bool, kind: u8, payload: &[u8]) -> Result<bool, Refusal<Elemen
     }
 }
 
-/// Half the width of a path, behind one record more.
+/// Half the width of a path, after one more record.
 fn read_half(
     old: Option<u64>,
     kind: u8,

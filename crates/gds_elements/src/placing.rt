@@ -4,10 +4,10 @@ ghost use Rattle.lvl_grid.specs.declared.map.Turn.{Turn as GridTurn};
 ghost use Rattle.gds_elements.specs.Types.{sname, strans, mag, angle};
 ghost use Rattle.gds_elements.specs.Values.{bits, name, flips, turn, one_real, degrees};
 ghost use Rattle.gds_elements.specs.Rules.{IsName};
-ghost use Rattle.gds_elements.specs.Formed.{IsFormed};
-ghost use Rattle.gds_elements.specs.Placing.{IsPlacingFault, IsPlacingAllowed};
+ghost use Rattle.gds_elements.specs.inside.Formed.{IsFormed};
+ghost use Rattle.gds_elements.specs.inside.Placing.{IsPlacingFault, IsPlacingAllowed};
 ghost use Rattle.lvl_refusal.specs.Refused.{Says};
-ghost use Rattle.gds_elements.specs.Misplaced.{Broken, breach};
+ghost use Rattle.gds_elements.specs.inside.Misplaced.{Broken, breach};
 
 use crate::fault::{ElementFault, ElementRule, breach};
 use crate::values::{bits, is_name, name};
@@ -49,7 +49,7 @@ impl Placing {
         }
     }
 
-    /// What is known behind one record more.
+    /// What is known after one more record.
     pub(crate) fn read(
         self,
         alloc: Global,

@@ -5,10 +5,10 @@ ghost use Rattle.gds_elements.specs.Types.{sref};
 ghost use Rattle.gds_elements.specs.Values.{points, nth};
 ghost use Rattle.gds_elements.specs.Rec.{Rec};
 ghost use Rattle.gds_elements.specs.Meaning.{one_place};
-ghost use Rattle.gds_elements.specs.Formed.{IsFormed};
-ghost use Rattle.gds_elements.specs.Sref.{after, IsSrefRead};
-ghost use Rattle.gds_elements.specs.Reading.{Takes, record_of};
-ghost use Rattle.gds_elements.specs.Misplaced.{breach};
+ghost use Rattle.gds_elements.specs.inside.Formed.{IsFormed};
+ghost use Rattle.gds_elements.specs.inside.Sref.{after, IsSrefRead};
+ghost use Rattle.gds_elements.specs.inside.Reading.{Takes, record_of};
+ghost use Rattle.gds_elements.specs.inside.Misplaced.{breach};
 
 use crate::element::{Drawn, State, zero_shift};
 use crate::fault::{ElementFault, ElementRule, breach};

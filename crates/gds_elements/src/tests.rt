@@ -1,6 +1,6 @@
 //! Elements by their records: what each draws.
 ghost use Rattle.std.specs.Prelude.{IsTrue};
-ghost use Rattle.gds_elements.specs.Formed.{IsFormed};
+ghost use Rattle.gds_elements.specs.inside.Formed.{IsFormed};
 
 use crate::{Drawn, Element, ElementFault, ElementRule, Misplaced, Step};
 use gds_records::record_type as ty;

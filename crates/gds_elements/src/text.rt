@@ -4,10 +4,10 @@ ghost use Rattle.std.specs.Prelude.{◌≡◌, [], ◌∷◌, ◌≢◌, List, �
 ghost use Rattle.gds_elements.specs.Types.{text, xy};
 ghost use Rattle.gds_elements.specs.Values.{points};
 ghost use Rattle.gds_elements.specs.Rec.{Rec};
-ghost use Rattle.gds_elements.specs.Formed.{IsFormed};
-ghost use Rattle.gds_elements.specs.Text.{after, IsTextRead};
-ghost use Rattle.gds_elements.specs.Reading.{Takes, record_of};
-ghost use Rattle.gds_elements.specs.Misplaced.{breach};
+ghost use Rattle.gds_elements.specs.inside.Formed.{IsFormed};
+ghost use Rattle.gds_elements.specs.inside.Text.{after, IsTextRead};
+ghost use Rattle.gds_elements.specs.inside.Reading.{Takes, record_of};
+ghost use Rattle.gds_elements.specs.inside.Misplaced.{breach};
 
 use crate::element::{Drawn, State};
 use crate::fault::{ElementFault, ElementRule, breach};

@@ -1,12 +1,13 @@
--- How an element stands among the records of a structure: where it begins, and where it ends.
-use Rattle.std.proofs.Common.{◌≡◌, ◌==◌, ◌||◌, ◌⊎◌, ℕ, Bool, true, false, List, [], ◌∷◌, ◌++◌, Some, refl, sym, ap, ◌∙◌, subst, append_assoc, inl, inr}
+-- How an element is among the records of a structure: where it begins, and where it ends.
+use Rattle.std.proofs.Common.{◌≡◌, ◌==◌, ◌||◌, ◌⊎◌, ℕ, Bool, true, false, List, [], ◌∷◌, ◌++◌, Some, refl, sym, ap, ◌∙◌}
+use Rattle.std.proofs.Common.{subst, append_assoc, inl, inr}
 use Rattle.std.proofs.lemmas.List.{append-nil}
 use Rattle.std.specs.List.{flat_map}
 use Rattle.gds_elements.specs.Types.{boundary, path, sref, aref, text, endstr}
 use Rattle.lvl_grammar.specs.Order.{IsWord, Begins}
 use Rattle.gds_elements.specs.Order.{an_element, opens}
 use Rattle.gds_elements.specs.Rec.{Rec, kinds, opener}
-use Rattle.gds_elements.specs.Reading.{HasRead, IsReading}
+use Rattle.gds_elements.specs.inside.Reading.{HasRead, IsReading}
 use Rattle.gds_elements.specs.declared.element.Element.{Element}
 use Rattle.gds_elements.specs.declared.element.State.{State}
 use Rattle.gds_elements.specs.declared.element.State.TheVariants.{Boundary, Path, Sref, Aref, Text, Drawn as AtEnd}
@@ -65,7 +66,8 @@ state_opened (Aref a) piece h = (aref, h.opened)
 state_opened (Text t) piece h = (text, h.opened)
 state_opened (AtEnd d) piece h = h.opened
 
-open_by : (k : ℕ) (piece : List Rec) → opener piece ≡ Some k → Begins an_element (kinds piece) → (IsWord an_element (kinds piece) → ⊥) → IsOpen (kinds piece)
+open_by : (k : ℕ) (piece : List Rec) → opener piece ≡ Some k → Begins an_element (kinds piece)
+    → (IsWord an_element (kinds piece) → ⊥) → IsOpen (kinds piece)
 open_by k [] e b n = cc
 open_by k (r ∷ rs) e b n = record { first = r.kind; rest = kinds rs; parts = refl; begun = b; unended = n }
 
@@ -76,7 +78,8 @@ reading_open e piece h =
     open_by o.0 piece o.1 (reading_begins e piece h) (reading_unfinished e piece h)
 
 -- of two beginnings of a list one is the beginning of the other
-comparable : (a b x y : List ℕ) → a ++ x ≡ b ++ y → ((t : List ℕ) × (b ≡ a ++ t) × (x ≡ t ++ y)) ⊎ ((t : List ℕ) × (a ≡ b ++ t) × (y ≡ t ++ x))
+comparable : (a b x y : List ℕ) → a ++ x ≡ b ++ y
+    → ((t : List ℕ) × (b ≡ a ++ t) × (x ≡ t ++ y)) ⊎ ((t : List ℕ) × (a ≡ b ++ t) × (y ≡ t ++ x))
 comparable [] b x y e = inl (b, refl, e)
 comparable (i ∷ a) [] x y e = inr (i ∷ a, refl, sym e)
 comparable (i ∷ a) (j ∷ b) x y e =
@@ -91,8 +94,9 @@ left_nil : (t m : List ℕ) → t ++ m ≡ [] → t ≡ []
 left_nil [] m e = refl
 left_nil (i ∷ t) m e = cc
 
--- one element more before the end of a structure
-pub join_element : (a w : List ℕ) → IsWord an_element a → IsWord to_end_of_structure w → IsWord to_end_of_structure (a ++ w)
+-- one more element before the end of a structure
+pub join_element : (a w : List ℕ) → IsWord an_element a → IsWord to_end_of_structure w
+    → IsWord to_end_of_structure (a ++ w)
 join_element a w x h =
     (a ++ h.0, h.1, (a ∷ h.2.0, (x, h.2.1), ap (λ i. a ++ i) h.2.2), h.3, ap (λ i. a ++ i) h.4 ∙ sym (append_assoc a h.0 h.1))
 
@@ -121,8 +125,9 @@ split_open p v o h =
           absurd (o.unended (subst (IsWord an_element) (sym (t.1 ∙ ap (λ l. z.0 ++ l) (left_nil t.0 more none) ∙ append-nil z.0)) z.2))
     ]
 
--- behind a whole element comes the end of the structure
-pub split_whole : (k : ℕ) (a v : List ℕ) → IsWord an_element (k ∷ a) → IsWord to_end_of_structure ((k ∷ a) ++ v) → IsWord to_end_of_structure v
+-- after a whole element comes the end of the structure
+pub split_whole : (k : ℕ) (a v : List ℕ) → IsWord an_element (k ∷ a) → IsWord to_end_of_structure ((k ∷ a) ++ v)
+    → IsWord to_end_of_structure v
 split_whole k a v w h =
     let z = first_element k (a ++ v) (begins_open k a ([], subst (IsWord an_element) (sym (append-nil (k ∷ a))) w)) h in
     elim (comparable (k ∷ a) z.0 v z.1 z.4) [
@@ -131,18 +136,21 @@ split_whole k a v w h =
     ]
 
 -- a whole element leads on to the next
-leads_past : (b a : List ℕ) (v : List ℕ) → IsWord an_element a → IsWord to_end_of_structure (a ++ v) → IsWord to_end_of_structure v
+leads_past : (b a : List ℕ) (v : List ℕ) → IsWord an_element a → IsWord to_end_of_structure (a ++ v)
+    → IsWord to_end_of_structure v
 leads_past b [] v w h = h
 leads_past b (k ∷ a) v w h = split_whole k a v w h
 
-pub leads_element : (b a : List ℕ) → LeadsTo a_library b (left Elements) → IsWord an_element a → LeadsTo a_library (b ++ a) (left Elements)
+pub leads_element : (b a : List ℕ) → LeadsTo a_library b (left Elements) → IsWord an_element a
+    → LeadsTo a_library (b ++ a) (left Elements)
 leads_element b a h w v = (
   λ x. leads_past b a v w ((h (a ++ v)).0 (subst (IsWord a_library) (append_assoc b a v) x)),
   λ y. subst (IsWord a_library) (sym (append_assoc b a v)) ((h (a ++ v)).1 (join_element a v w y)),
 )
 
--- what begins an element begins a library, behind what leads to one
-pub begins_inside : (b p : List ℕ) → LeadsTo a_library b (left Elements) → Begins an_element p → Begins a_library (b ++ p)
+-- what begins an element begins a library, after what leads to one
+pub begins_inside : (b p : List ℕ) → LeadsTo a_library b (left Elements) → Begins an_element p
+    → Begins a_library (b ++ p)
 begins_inside b p h g =
     let more = g.0 ++ some_word to_end_of_structure in (
       more,
@@ -150,14 +158,16 @@ begins_inside b p h g =
           (subst (IsWord to_end_of_structure) (append_assoc p g.0 (some_word to_end_of_structure)) (join_element (p ++ g.0) (some_word to_end_of_structure) g.1 (some_word-is to_end_of_structure)))),
     )
 
-first_goes : (p u w more : List ℕ) (k : ℕ) → (IsWord an_element p → ⊥) → k ∷ more ≡ u ++ w → IsWord an_element (p ++ u) → Begins an_element (p ++ k ∷ [])
+first_goes : (p u w more : List ℕ) (k : ℕ) → (IsWord an_element p → ⊥) → k ∷ more ≡ u ++ w → IsWord an_element (p ++ u)
+    → Begins an_element (p ++ k ∷ [])
 first_goes p [] w more k n e h = absurd (n (subst (IsWord an_element) (append-nil p) h))
 first_goes p (i ∷ u) w more k n e h =
     let g : i ≡ k = cc in
     (u, subst (IsWord an_element) (ap (λ j. p ++ (j ∷ u)) g ∙ sym (append_assoc p (k ∷ []) u)) h)
 
--- what goes on to a library behind an open element goes on to an element
-pub open_goes : (b p : List ℕ) (k : ℕ) → LeadsTo a_library b (left Elements) → IsOpen p → Begins a_library ((b ++ p) ++ k ∷ []) → Begins an_element (p ++ k ∷ [])
+-- what goes on to a library after an open element goes on to an element
+pub open_goes : (b p : List ℕ) (k : ℕ) → LeadsTo a_library b (left Elements) → IsOpen p
+    → Begins a_library ((b ++ p) ++ k ∷ []) → Begins an_element (p ++ k ∷ [])
 open_goes b p k h o (more, x) =
     let e : ((b ++ p) ++ k ∷ []) ++ more ≡ b ++ (p ++ (k ∷ more)) = append_assoc (b ++ p) (k ∷ []) more ∙ append_assoc b p (k ∷ more) in
     let z = split_open p (k ∷ more) o ((h (p ++ (k ∷ more))).0 (subst (IsWord a_library) e x)) in

@@ -1,5 +1,6 @@
--- What one record more does to what a builder shows.
-use Rattle.std.proofs.Common.{◌≡◌, ◌==◌, ℕ, Bool, true, false, if◌then◌else◌, List, [], ◌∷◌, ◌++◌, Some, None, refl, sym, ap, ◌∙◌, subst}
+-- What one more record does to what a builder shows.
+use Rattle.std.proofs.Common.{◌≡◌, ◌==◌, ℕ, Bool, true, false, if◌then◌else◌, List, [], ◌∷◌, ◌++◌, Some, None, refl}
+use Rattle.std.proofs.Common.{sym, ap, ◌∙◌, subst}
 use Rattle.std.specs.Prelude.{Option}
 use Rattle.gds_elements.specs.Types.{header, bgnlib, libname, units, endlib, bgnstr, strname, endstr}
 use Rattle.gds_elements.specs.Values.{name}
@@ -11,7 +12,8 @@ use Rattle.std.proofs.lemmas.List.{append-nil}
 use Rattle.gds_library.specs.inside.Place.{after}
 use Rattle.gds_library.specs.inside.Shown.{on_last, grown, grown_cell, with_drawn, shown_at, done, open_cell}
 use Rattle.gds_library.specs.declared.place.Place.{Place}
-use Rattle.gds_library.specs.declared.place.Place.TheVariants.{Header, BgnLib, LibName, Units, Structures, StrName, Elements, Fill}
+use Rattle.gds_library.specs.declared.place.Place.TheVariants.{Header, BgnLib, LibName, Units, Structures, StrName}
+use Rattle.gds_library.specs.declared.place.Place.TheVariants.{Elements, Fill}
 use Rattle.gds_library.specs.declared.builder.Builder.{Builder}
 use Rattle.gds_library.proofs.Pieces.{on_last-append, on_last-id}
 
@@ -22,7 +24,8 @@ plain_cell k p c s = rw s refl
 pub plain : (k : ℕ) (p : List ℕ) (cs : List KeptCell) → k == bgnstr ≡ false → k == strname ≡ false → grown k p cs ≡ cs
 plain k p cs n s = rw n (on_last-id (grown_cell k p) cs (λ c. plain_cell k p c s))
 
-pub shown_header : (p q : Place) (b b' : Builder) (payload : List ℕ) → after p header ≡ Some q → b'.cells ≡ b.cells → shown_at q b' ≡ grown header payload (shown_at p b)
+pub shown_header : (p q : Place) (b b' : Builder) (payload : List ℕ) → after p header ≡ Some q → b'.cells ≡ b.cells
+    → shown_at q b' ≡ grown header payload (shown_at p b)
 shown_header Header q b b' payload e c = (let z : q ≡ BgnLib = cc in rw (z, c) (sym (plain header payload (done b) refl refl)))
 shown_header BgnLib q b b' payload e c = cc
 shown_header LibName q b b' payload e c = cc
@@ -32,7 +35,8 @@ shown_header StrName q b b' payload e c = cc
 shown_header Elements q b b' payload e c = cc
 shown_header Fill q b b' payload e c = cc
 
-pub shown_units : (p q : Place) (b b' : Builder) (payload : List ℕ) → after p units ≡ Some q → b'.cells ≡ b.cells → shown_at q b' ≡ grown units payload (shown_at p b)
+pub shown_units : (p q : Place) (b b' : Builder) (payload : List ℕ) → after p units ≡ Some q → b'.cells ≡ b.cells
+    → shown_at q b' ≡ grown units payload (shown_at p b)
 shown_units Header q b b' payload e c = cc
 shown_units BgnLib q b b' payload e c = cc
 shown_units LibName q b b' payload e c = cc
@@ -42,7 +46,8 @@ shown_units StrName q b b' payload e c = cc
 shown_units Elements q b b' payload e c = cc
 shown_units Fill q b b' payload e c = cc
 
-pub shown_bgnstr : (p q : Place) (b b' : Builder) (payload : List ℕ) → after p bgnstr ≡ Some q → b'.cells ≡ b.cells → shown_at q b' ≡ grown bgnstr payload (shown_at p b)
+pub shown_bgnstr : (p q : Place) (b b' : Builder) (payload : List ℕ) → after p bgnstr ≡ Some q → b'.cells ≡ b.cells
+    → shown_at q b' ≡ grown bgnstr payload (shown_at p b)
 shown_bgnstr Header q b b' payload e c = cc
 shown_bgnstr BgnLib q b b' payload e c = cc
 shown_bgnstr LibName q b b' payload e c = cc
@@ -52,7 +57,9 @@ shown_bgnstr StrName q b b' payload e c = cc
 shown_bgnstr Elements q b b' payload e c = cc
 shown_bgnstr Fill q b b' payload e c = cc
 
-pub shown_strname : (p q : Place) (b b' : Builder) (payload : List ℕ) → after p strname ≡ Some q → b'.cells ≡ record { cells = b.cells.cells; current = record { name = name payload; shapes = []; references = [] } } → shown_at q b' ≡ grown strname payload (shown_at p b)
+pub shown_strname : (p q : Place) (b b' : Builder) (payload : List ℕ) → after p strname ≡ Some q
+    → b'.cells ≡ record { cells = b.cells.cells; current = record { name = name payload; shapes = []; references = [] } }
+    → shown_at q b' ≡ grown strname payload (shown_at p b)
 shown_strname Header q b b' payload e c = cc
 shown_strname BgnLib q b b' payload e c = cc
 shown_strname LibName q b b' payload e c = cc
@@ -62,7 +69,8 @@ shown_strname StrName q b b' payload e c = (let z : q ≡ Elements = cc in rw (z
 shown_strname Elements q b b' payload e c = cc
 shown_strname Fill q b b' payload e c = cc
 
-pub shown_endstr : (p q : Place) (b b' : Builder) (payload : List ℕ) → after p endstr ≡ Some q → b'.cells.cells ≡ done b ++ open_cell b ∷ [] → shown_at q b' ≡ grown endstr payload (shown_at p b)
+pub shown_endstr : (p q : Place) (b b' : Builder) (payload : List ℕ) → after p endstr ≡ Some q
+    → b'.cells.cells ≡ done b ++ open_cell b ∷ [] → shown_at q b' ≡ grown endstr payload (shown_at p b)
 shown_endstr Header q b b' payload e c = cc
 shown_endstr BgnLib q b b' payload e c = cc
 shown_endstr LibName q b b' payload e c = cc
@@ -72,7 +80,8 @@ shown_endstr StrName q b b' payload e c = cc
 shown_endstr Elements q b b' payload e c = (let z : q ≡ Structures = cc in rw (z, c) (sym (plain endstr payload (done b ++ open_cell b ∷ []) refl refl)))
 shown_endstr Fill q b b' payload e c = cc
 
-pub by_kind : (k j : ℕ) (p q : Place) (b b' : Builder) (payload : List ℕ) → k ≡ j → (after p j ≡ Some q → shown_at q b' ≡ grown j payload (shown_at p b)) → after p k ≡ Some q
+pub by_kind : (k j : ℕ) (p q : Place) (b b' : Builder) (payload : List ℕ) → k ≡ j
+    → (after p j ≡ Some q → shown_at q b' ≡ grown j payload (shown_at p b)) → after p k ≡ Some q
     → shown_at q b' ≡ grown k payload (shown_at p b)
 by_kind k j p q b b' payload e h a =
     subst (λ i. shown_at q b' ≡ grown i payload (shown_at p b)) (sym e) (h (subst (λ i. after p i ≡ Some q) e a))
@@ -84,10 +93,12 @@ pub record IsOther (k : ℕ) : Type 0 where
   pub strname : k == 0x06 ≡ false
   pub endstr : k == 0x07 ≡ false
 
-other_plain : (k : ℕ) (p q : Place) (b : Builder) (payload : List ℕ) → IsOther k → shown_at q b ≡ shown_at p b → shown_at q b ≡ grown k payload (shown_at p b)
+other_plain : (k : ℕ) (p q : Place) (b : Builder) (payload : List ℕ) → IsOther k → shown_at q b ≡ shown_at p b
+    → shown_at q b ≡ grown k payload (shown_at p b)
 other_plain k p q b payload o e = e ∙ sym (plain k payload (shown_at p b) o.bgnstr o.strname)
 
-pub none_some : (b : Bool) (r q : Place) (x : Option Place) → b ≡ false → (if b then Some r else x) ≡ Some q → x ≡ Some q
+pub none_some : (b : Bool) (r q : Place) (x : Option Place) → b ≡ false → (if b then Some r else x) ≡ Some q
+    → x ≡ Some q
 none_some true r q x n e = cc
 none_some false r q x n e = e
 
@@ -100,7 +111,8 @@ structures_rest : (k : ℕ) (q : Place) (b : Builder) (payload : List ℕ) → I
 structures_rest k q b payload o true e = (let z : q ≡ Fill = cc in rw z (other_plain k Structures Fill b payload o refl))
 structures_rest k q b payload o false e = (let z : None ≡ Some q = none_some (k == bgnstr) StrName q None o.bgnstr e in cc)
 
-pub shown_other : (k : ℕ) (p q : Place) (b : Builder) (payload : List ℕ) → IsOther k → after p k ≡ Some q → shown_at q b ≡ grown k payload (shown_at p b)
+pub shown_other : (k : ℕ) (p q : Place) (b : Builder) (payload : List ℕ) → IsOther k → after p k ≡ Some q
+    → shown_at q b ≡ grown k payload (shown_at p b)
 shown_other k Header q b payload o e = (let z : None ≡ Some q = none_some (k == header) BgnLib q None o.header e in cc)
 shown_other k BgnLib q b payload o e = (let z = same_place (k == bgnlib) LibName q e in rw z (other_plain k BgnLib LibName b payload o refl))
 shown_other k LibName q b payload o e = (let z = same_place (k == libname) Units q e in rw z (other_plain k LibName Units b payload o refl))
@@ -122,9 +134,11 @@ shown_place Elements r b = refl
 shown_place Fill r b = refl
 
 -- what an element draws is last in the open cell
-pub shown_drawn : (p : Place) (b b' : Builder) (shapes : List KeptShape) (references : List PlainReference) → p ≡ Elements → b'.cells ≡ record { cells = b.cells.cells; current = with_drawn shapes references b.cells.current }
+pub shown_drawn : (p : Place) (b b' : Builder) (shapes : List KeptShape) (references : List PlainReference)
+    → p ≡ Elements → b'.cells ≡ record { cells = b.cells.cells; current = with_drawn shapes references b.cells.current }
     → shown_at p b' ≡ on_last (with_drawn shapes references) (shown_at p b)
-shown_drawn p b b' shapes references e c = rw (e, c) (sym (on_last-append (with_drawn shapes references) (done b) (open_cell b)))
+shown_drawn p b b' shapes references e c =
+    rw (e, c) (sym (on_last-append (with_drawn shapes references) (done b) (open_cell b)))
 
 cell_of : List ℕ → List KeptShape → List PlainReference → KeptCell
 cell_of n s r = record { name = n; shapes = s; references = r }
@@ -140,4 +154,6 @@ one_reference c r = ap (λ s. cell_of c.name s (c.references ++ r ∷ [])) (sym 
 
 pub no_drawing : (c : KeptCell) → c ≡ with_drawn [] [] c
 unfolding cell_of
-no_drawing c = ap (λ s. cell_of c.name s c.references) (sym (append-nil c.shapes)) ∙ ap (λ r. cell_of c.name (c.shapes ++ []) r) (sym (append-nil c.references))
+no_drawing c =
+    ap (λ s. cell_of c.name s c.references) (sym (append-nil c.shapes))
+    ∙ ap (λ r. cell_of c.name (c.shapes ++ []) r) (sym (append-nil c.references))

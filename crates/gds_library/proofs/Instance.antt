@@ -1,5 +1,6 @@
 -- GDSII is a grammar: what the laws of streams ask of a format.
-use Rattle.std.proofs.Common.{◌≡◌, ◌≢◌, ℕ, ◌<◌, ◌≤◌, ◌⊎◌, List, [], ◌∷◌, ◌++◌, length, Err, refl, sym, ap, ◌∙◌, subst, append_assoc, inl, inr, arith, length-append}
+use Rattle.std.proofs.Common.{◌≡◌, ◌≢◌, ℕ, ◌<◌, ◌≤◌, ◌⊎◌, List, [], ◌∷◌, ◌++◌, length, Err, refl, sym, ap, ◌∙◌, subst}
+use Rattle.std.proofs.Common.{append_assoc, inl, inr, arith, length-append}
 use Rattle.std.proofs.lemmas.List.{append-nil}
 use Rattle.lvl_io.specs.Known.{Agree}
 use Rattle.lvl_grammar.specs.Order.{Order, one, many, ◌then◌, Begins}
@@ -19,7 +20,8 @@ use Rattle.gds_library.specs.Rec.{Spells}
 use Rattle.gds_library.specs.Rules.{IsWhole, InOrder, Breaches, MayFollow}
 use Rattle.gds_library.specs.Front.{gds, StartsWith, IsWrong}
 use Rattle.gds_library.specs.declared.fault.GdsKind.{GdsKind}
-use Rattle.gds_library.specs.declared.fault.GdsKind.TheVariants.{Record, Misplaced, Element, Name, AfterEnd, TooManyCells}
+use Rattle.gds_library.specs.declared.fault.GdsKind.TheVariants.{Record, Misplaced, Element, Name, AfterEnd}
+use Rattle.gds_library.specs.declared.fault.GdsKind.TheVariants.{TooManyCells}
 use Rattle.gds_library.proofs.Spellings.{one_record, spells_once, spells_some, length_spelled, a_fill}
 
 -- a library up to its end
@@ -42,7 +44,8 @@ whole_alone before r w g =
     fill_alone a_body endlib fill r.kind (kinds before) refl refl no_end (fill_more a_body endlib fill (kinds before) w) (in_order before r g)
 
 -- after the same records, bytes that begin alike spell the same record
-same_next : (before : List Rec) (r s : Rec) (a b x y : List ℕ) → Spells a r → Spells b s → MayFollow before r → MayFollow before s → a ++ x ≡ b ++ y → r ≡ s
+same_next : (before : List Rec) (r s : Rec) (a b x y : List ℕ) → Spells a r → Spells b s → MayFollow before r
+    → MayFollow before s → a ++ x ≡ b ++ y → r ≡ s
 same_next before r s a b x y p q f g e = elim p [
   | inl i ↦ elim q [
     | inl j ↦ one_record a b x y r s i.1 j.1 e
@@ -61,7 +64,8 @@ some_bytes room [] f e = cc
 some_bytes room (y ∷ ys) f e = omega arith
 
 starts_some : (room : ℕ) (ys : List ℕ) (r : Rec) → StartsWith room ys r → 0 < length ys
-starts_some room ys r s = omega (arith, length_spelled s.0 r.payload r.kind r.data_type s.3, ap length s.5, length-append s.0 s.1)
+starts_some room ys r s =
+    omega (arith, length_spelled s.0 r.payload r.kind r.data_type s.3, ap length s.5, length-append s.0 s.1)
 
 wrong_here : (before : List Rec) (room : ℕ) (ys : List ℕ) (k : GdsKind) → IsWrong before room ys k → 0 < length ys
 wrong_here before room ys (Record f) w = some_bytes room ys f w.2
@@ -69,12 +73,14 @@ wrong_here before room ys AfterEnd w = omega (arith, ap length w.5)
 wrong_here before room ys other w = starts_some room ys w.1 w.2
 
 -- what begins alike is the same record
-pub starts_same : (room : ℕ) (ys text : List ℕ) (r s : Rec) → StartsWith room ys r → IsSpelling text s.kind s.data_type s.payload → Agree text ys → s ≡ r
+pub starts_same : (room : ℕ) (ys text : List ℕ) (r s : Rec) → StartsWith room ys r
+    → IsSpelling text s.kind s.data_type s.payload → Agree text ys → s ≡ r
 starts_same room ys text r s h p agree =
     let q = agree_ends text ys agree in
     one_record text h.0 q.0 (h.1 ++ q.1) s r p h.3 (q.2 ∙ ap (λ l. l ++ q.1) h.5 ∙ append_assoc h.0 h.1 q.1)
 
-stops_record : (before : List Rec) (room : ℕ) (ys text : List ℕ) (s : Rec) (k : GdsKind) → (IsWhole before → ⊥) → (r : Rec) × StartsWith room ys r × Breaches before r k
+stops_record : (before : List Rec) (room : ℕ) (ys text : List ℕ) (s : Rec) (k : GdsKind) → (IsWhole before → ⊥)
+    → (r : Rec) × StartsWith room ys r × Breaches before r k
     → Spells text s → MayFollow before s → Agree text ys → ⊥
 stops_record before room ys text s k n w p f agree = elim p [
   | inl i ↦ f.1 k (subst (λ (x : Rec). Breaches before x k) (sym (starts_same room ys text w.0 s w.1 i.1 agree)) w.2)
@@ -82,7 +88,8 @@ stops_record before room ys text s k n w p f agree = elim p [
 ]
 
 -- where a rule is breached no record may follow
-wrong_stops : (before : List Rec) (room : ℕ) (ys text : List ℕ) (s : Rec) (k : GdsKind) → IsWrong before room ys k → Spells text s → MayFollow before s → Agree text ys → length text ≤ room → ⊥
+wrong_stops : (before : List Rec) (room : ℕ) (ys text : List ℕ) (s : Rec) (k : GdsKind) → IsWrong before room ys k
+    → Spells text s → MayFollow before s → Agree text ys → length text ≤ room → ⊥
 wrong_stops before room ys text s (Record f) w p g agree fits = elim p [
   | inl i ↦ law_malformed room ys f w.2 w.0 s.kind s.data_type s.payload text i.0 i.1 (omega (arith, fits, length_spelled text s.payload s.kind s.data_type i.1)) agree
   | inr i ↦ (let z = w.3 (fill_whole before (subst (InOrder before) i.0 g.0)) in omega (arith, z, fits, ap length i.1))
@@ -94,13 +101,18 @@ wrong_stops before room ys text s AfterEnd w p g agree fits = elim p [
       let z : (0 ∷ []) ++ q.0 ≡ (w.2 ∷ w.3) ++ q.1 = ap (λ l. l ++ q.0) (sym i.1) ∙ q.2 ∙ ap (λ l. l ++ q.1) w.5 in
       w.4 (let h : w.2 ≡ 0 = cc in h)
 ]
-wrong_stops before room ys text s (Misplaced m) w p g agree fits = stops_record before room ys text s (Misplaced m) w.0 (w.1, w.2, w.3) p g agree
-wrong_stops before room ys text s (Element k) w p g agree fits = stops_record before room ys text s (Element k) w.0 (w.1, w.2, w.3) p g agree
-wrong_stops before room ys text s Name w p g agree fits = stops_record before room ys text s Name w.0 (w.1, w.2, w.3) p g agree
-wrong_stops before room ys text s TooManyCells w p g agree fits = stops_record before room ys text s TooManyCells w.0 (w.1, w.2, w.3) p g agree
+wrong_stops before room ys text s (Misplaced m) w p g agree fits =
+    stops_record before room ys text s (Misplaced m) w.0 (w.1, w.2, w.3) p g agree
+wrong_stops before room ys text s (Element k) w p g agree fits =
+    stops_record before room ys text s (Element k) w.0 (w.1, w.2, w.3) p g agree
+wrong_stops before room ys text s Name w p g agree fits =
+    stops_record before room ys text s Name w.0 (w.1, w.2, w.3) p g agree
+wrong_stops before room ys text s TooManyCells w p g agree fits =
+    stops_record before room ys text s TooManyCells w.0 (w.1, w.2, w.3) p g agree
 
 -- no record is where bytes are cut
-cut_none : (ys text rest : List ℕ) (r : Rec) → IsSpelling text r.kind r.data_type r.payload → ys ≡ text ++ rest → (length ys < 4) ⊎ IsBegun ys → ⊥
+cut_none : (ys text rest : List ℕ) (r : Rec) → IsSpelling text r.kind r.data_type r.payload → ys ≡ text ++ rest
+    → (length ys < 4) ⊎ IsBegun ys → ⊥
 cut_none ys text rest r s e cut = elim cut [
   | inl l ↦ omega (arith, l, ap length e, length-append text rest, length_spelled text r.payload r.kind r.data_type s)
   | inr b ↦

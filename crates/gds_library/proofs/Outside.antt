@@ -1,6 +1,8 @@
--- Types that stand outside of elements, and types that carry no value of an element.
+-- Types that are outside of elements, and types that carry no value of an element.
 use Rattle.std.proofs.Common.{◌≡◌, ◌==◌, ◌||◌, ◌<◌, ℕ, Bool, true, false, Some, None, refl, arith}
-use Rattle.gds_elements.specs.Types.{header, bgnlib, libname, units, endlib, bgnstr, strname, endstr, boundary, path, sref, aref, text, layer, datatype, width, xy, sname, colrow, strans, mag, angle, pathtype}
+use Rattle.gds_elements.specs.Types.{header, bgnlib, libname, units, endlib, bgnstr, strname, endstr, boundary, path}
+use Rattle.gds_elements.specs.Types.{sref, aref, text, layer, datatype, width, xy, sname, colrow, strans, mag, angle}
+use Rattle.gds_elements.specs.Types.{pathtype}
 use Rattle.gds_elements.specs.Order.{opens}
 use Rattle.gds_elements.specs.Rules.{IsKnown}
 use Rattle.gds_elements.proofs.OneRule.{is_value}
@@ -8,7 +10,8 @@ use Rattle.lvl_grammar.proofs.Orders.{at_type, by_test}
 use Rattle.gds_library.specs.Types.{fill}
 use Rattle.gds_library.specs.inside.Place.{after}
 use Rattle.gds_library.specs.declared.place.Place.{Place}
-use Rattle.gds_library.specs.declared.place.Place.TheVariants.{Header, BgnLib, LibName, Units, Structures, StrName, Elements, Fill}
+use Rattle.gds_library.specs.declared.place.Place.TheVariants.{Header, BgnLib, LibName, Units, Structures, StrName}
+use Rattle.gds_library.specs.declared.place.Place.TheVariants.{Elements, Fill}
 
 pub record IsNoValue (k : ℕ) : Type 0 where
   pub layer : k == layer ≡ false
@@ -48,22 +51,32 @@ pub record IsOutside (k : ℕ) : Type 0 where
 outside_by : (k : ℕ) → opens k ≡ false → is_value k ≡ false → IsOutside k
 outside_by k o v = record { opens = o; value = v; no_value = no_value k v }
 
--- what holds of a type where it may stand
-outside_one : (p q : Place) (k j : ℕ) → IsOutside j → (k == j ≡ false → after p k ≡ Some q → IsOutside k) → after p k ≡ Some q → IsOutside k
+-- what holds of a type where it may come
+outside_one : (p q : Place) (k j : ℕ) → IsOutside j → (k == j ≡ false → after p k ≡ Some q → IsOutside k)
+    → after p k ≡ Some q → IsOutside k
 outside_one p q k j here there = by_test (λ i. after p i ≡ Some q → IsOutside i) k j (k == j) refl (λ e. here) there
 
 pub outside_after : (p q : Place) (k : ℕ) → after p k ≡ Some q → IsOutside k
-outside_after Header q k = outside_one Header q k header (outside_by header refl refl) (λ a e. (let z : None ≡ Some q = rw a at e in cc))
-outside_after BgnLib q k = outside_one BgnLib q k bgnlib (outside_by bgnlib refl refl) (λ a e. (let z : None ≡ Some q = rw a at e in cc))
-outside_after LibName q k = outside_one LibName q k libname (outside_by libname refl refl) (λ a e. (let z : None ≡ Some q = rw a at e in cc))
-outside_after Units q k = outside_one Units q k units (outside_by units refl refl) (λ a e. (let z : None ≡ Some q = rw a at e in cc))
-outside_after Structures q k = outside_one Structures q k endlib (outside_by endlib refl refl) (λ a e. outside_one Structures q k bgnstr (outside_by bgnstr refl refl) (λ b e'. (let z : None ≡ Some q = rw (a, b) at e' in cc)) e)
-outside_after StrName q k = outside_one StrName q k strname (outside_by strname refl refl) (λ a e. (let z : None ≡ Some q = rw a at e in cc))
-outside_after Elements q k = outside_one Elements q k endstr (outside_by endstr refl refl) (λ a e. (let z : None ≡ Some q = rw a at e in cc))
-outside_after Fill q k = outside_one Fill q k fill (outside_by fill refl refl) (λ a e. (let z : None ≡ Some q = rw a at e in cc))
+outside_after Header q k =
+    outside_one Header q k header (outside_by header refl refl) (λ a e. (let z : None ≡ Some q = rw a at e in cc))
+outside_after BgnLib q k =
+    outside_one BgnLib q k bgnlib (outside_by bgnlib refl refl) (λ a e. (let z : None ≡ Some q = rw a at e in cc))
+outside_after LibName q k =
+    outside_one LibName q k libname (outside_by libname refl refl) (λ a e. (let z : None ≡ Some q = rw a at e in cc))
+outside_after Units q k =
+    outside_one Units q k units (outside_by units refl refl) (λ a e. (let z : None ≡ Some q = rw a at e in cc))
+outside_after Structures q k =
+    outside_one Structures q k endlib (outside_by endlib refl refl) (λ a e. outside_one Structures q k bgnstr (outside_by bgnstr refl refl) (λ b e'. (let z : None ≡ Some q = rw (a, b) at e' in cc)) e)
+outside_after StrName q k =
+    outside_one StrName q k strname (outside_by strname refl refl) (λ a e. (let z : None ≡ Some q = rw a at e in cc))
+outside_after Elements q k =
+    outside_one Elements q k endstr (outside_by endstr refl refl) (λ a e. (let z : None ≡ Some q = rw a at e in cc))
+outside_after Fill q k =
+    outside_one Fill q k fill (outside_by fill refl refl) (λ a e. (let z : None ≡ Some q = rw a at e in cc))
 
--- a type that may stand is known
-known_one : (p q : Place) (k j : ℕ) → (j < 60 → IsKnown j) → (k == j ≡ false → k < 60 → after p k ≡ Some q → IsKnown k) → k < 60 → after p k ≡ Some q → IsKnown k
+-- a type that may come is known
+known_one : (p q : Place) (k j : ℕ) → (j < 60 → IsKnown j) → (k == j ≡ false → k < 60 → after p k ≡ Some q → IsKnown k)
+    → k < 60 → after p k ≡ Some q → IsKnown k
 known_one p q k j here there =
     by_test (λ i. i < 60 → after p i ≡ Some q → IsKnown i) k j (k == j) refl (λ l e. here l) there
 
@@ -72,10 +85,13 @@ known_after Header q k = known_one Header q k header (λ _. refl) (λ a l e. (le
 known_after BgnLib q k = known_one BgnLib q k bgnlib (λ _. refl) (λ a l e. (let z : None ≡ Some q = rw a at e in cc))
 known_after LibName q k = known_one LibName q k libname (λ _. refl) (λ a l e. (let z : None ≡ Some q = rw a at e in cc))
 known_after Units q k = known_one Units q k units (λ _. refl) (λ a l e. (let z : None ≡ Some q = rw a at e in cc))
-known_after Structures q k = known_one Structures q k endlib (λ _. refl) (λ a l e. known_one Structures q k bgnstr (λ _. refl) (λ b l' e'. (let z : None ≡ Some q = rw (a, b) at e' in cc)) l e)
+known_after Structures q k =
+    known_one Structures q k endlib (λ _. refl) (λ a l e. known_one Structures q k bgnstr (λ _. refl) (λ b l' e'. (let z : None ≡ Some q = rw (a, b) at e' in cc)) l e)
 known_after StrName q k = known_one StrName q k strname (λ _. refl) (λ a l e. (let z : None ≡ Some q = rw a at e in cc))
-known_after Elements q k = known_one Elements q k endstr (λ _. refl) (λ a l e. (let z : None ≡ Some q = rw a at e in cc))
-known_after Fill q k = known_one Fill q k fill (λ l. absurd (omega arith)) (λ a l e. (let z : None ≡ Some q = rw a at e in cc))
+known_after Elements q k =
+    known_one Elements q k endstr (λ _. refl) (λ a l e. (let z : None ≡ Some q = rw a at e in cc))
+known_after Fill q k =
+    known_one Fill q k fill (λ l. absurd (omega arith)) (λ a l e. (let z : None ≡ Some q = rw a at e in cc))
 
 -- an opener carries no value, and is known
 pub record IsOpener (k : ℕ) : Type 0 where
@@ -87,7 +103,8 @@ pub record IsOpener (k : ℕ) : Type 0 where
 opener_by : (k : ℕ) → IsKnown k → is_value k ≡ false → k == strname ≡ false → k == bgnstr ≡ false → IsOpener k
 opener_by k i v s b = record { known = i; value = v; strname = s; bgnstr = b }
 
-opener_one : (k j : ℕ) → (opens j ≡ true → IsOpener j) → (k == j ≡ false → opens k ≡ true → IsOpener k) → opens k ≡ true → IsOpener k
+opener_one : (k j : ℕ) → (opens j ≡ true → IsOpener j) → (k == j ≡ false → opens k ≡ true → IsOpener k) → opens k ≡ true
+    → IsOpener k
 opener_one k j = at_type (λ i. opens i ≡ true → IsOpener i) k j
 
 pub opener_is : (k : ℕ) → opens k ≡ true → IsOpener k

@@ -1,5 +1,6 @@
 -- Why a record is refused outside of elements: the one rule that it breaches.
-use Rattle.std.proofs.Common.{◌≡◌, ◌==◌, ℕ, ◌<◌, ◌≤◌, ◌⊎◌, true, false, List, [], ◌∷◌, ◌++◌, length, Some, None, map, refl, sym, ap, ◌∙◌, subst, inl, inr, arith, length-append}
+use Rattle.std.proofs.Common.{◌≡◌, ◌==◌, ℕ, ◌<◌, ◌≤◌, ◌⊎◌, true, false, List, [], ◌∷◌, ◌++◌, length, Some, None, map}
+use Rattle.std.proofs.Common.{refl, sym, ap, ◌∙◌, subst, inl, inr, arith, length-append}
 use Rattle.std.specs.Prelude.{◌≢◌, Option}
 use Rattle.lvl_path.specs.Figure.{figure_rings}
 use Rattle.lvl_cells.specs.Cells.{drawn, kept}
@@ -14,7 +15,8 @@ use Rattle.gds_elements.proofs.OneRule.{one_misplaced, not_misplaced, is_value, 
 use Rattle.lvl_refusal.specs.Refused.{Says}
 use Rattle.lvl_refusal.specs.declared.Refusal.{Refusal}
 use Rattle.gds_library.specs.declared.fault.GdsKind.{GdsKind}
-use Rattle.gds_library.specs.declared.fault.GdsKind.TheVariants.{Record, Misplaced, Element, Name, AfterEnd, TooManyCells}
+use Rattle.gds_library.specs.declared.fault.GdsKind.TheVariants.{Record, Misplaced, Element, Name, AfterEnd}
+use Rattle.gds_library.specs.declared.fault.GdsKind.TheVariants.{TooManyCells}
 use Rattle.gds_elements.proofs.Fields.{kinds-snoc}
 use Rattle.lvl_grammar.proofs.Orders.{same_type}
 use Rattle.gds_library.specs.Order.{a_library}
@@ -27,7 +29,8 @@ use Rattle.gds_library.specs.inside.Faults.{IsFault}
 use Rattle.gds_library.specs.inside.Shown.{shown_at}
 use Rattle.gds_library.specs.inside.Holds.{Holds}
 use Rattle.gds_library.specs.declared.place.Place.{Place}
-use Rattle.gds_library.specs.declared.place.Place.TheVariants.{Header, BgnLib, LibName, Units, Structures, StrName, Elements, Fill}
+use Rattle.gds_library.specs.declared.place.Place.TheVariants.{Header, BgnLib, LibName, Units, Structures, StrName}
+use Rattle.gds_library.specs.declared.place.Place.TheVariants.{Elements, Fill}
 use Rattle.gds_library.specs.declared.builder.Builder.{Builder}
 use Rattle.gds_library.proofs.Places.{OpensNothing, leads_on, leads_nowhere, leads_begins}
 use Rattle.gds_library.proofs.Outside.{outside_after, known_after}
@@ -61,37 +64,44 @@ cells_shown StrName q b e = cc
 cells_shown Elements q b e = cc
 cells_shown Fill q b e = cc
 
-stands_at : (b : Builder) (rs : List Rec) (r : Rec) (o : Option Place) → Holds b rs → after b.place r.kind ≡ o → o ≢ None → InOrder rs r
+stands_at : (b : Builder) (rs : List Rec) (r : Rec) (o : Option Place) → Holds b rs → after b.place r.kind ≡ o
+    → o ≢ None → InOrder rs r
 stands_at b rs r None h e n = absurd (n refl)
 stands_at b rs r (Some q) h e n =
     subst (Begins a_library) (sym (kinds-snoc rs r)) (leads_begins (kinds rs ++ r.kind ∷ []) q (leads_on (kinds rs) b.place q r.kind h.leads (λ _. (outside_after b.place q r.kind e).opens) e))
 
--- where the place has a place behind the record, it may stand there
+-- where the place has a place after the record, it may come there
 stands : (b : Builder) (rs : List Rec) (r : Rec) → Holds b rs → after b.place r.kind ≢ None → InOrder rs r
 stands b rs r h n = stands_at b rs r (after b.place r.kind) h refl n
 
 -- where it has none, it may not
-nowhere : (b : Builder) (rs : List Rec) (r : Rec) → Holds b rs → OpensNothing b.place r.kind → after b.place r.kind ≡ None → InOrder rs r → ⊥
-nowhere b rs r h o e g = leads_nowhere (kinds rs) b.place r.kind h.leads o e (subst (Begins a_library) (kinds-snoc rs r) g)
+nowhere : (b : Builder) (rs : List Rec) (r : Rec) → Holds b rs → OpensNothing b.place r.kind
+    → after b.place r.kind ≡ None → InOrder rs r → ⊥
+nowhere b rs r h o e g =
+    leads_nowhere (kinds rs) b.place r.kind h.leads o e (subst (Begins a_library) (kinds-snoc rs r) g)
 
 -- what is a fault at a place breaches a rule after the records that lead there
-pub law_fault : (b : Builder) (rs : List Rec) (r : Rec) (f : GdsKind) → Holds b rs → OpensNothing b.place r.kind → r.kind < 60 → IsFault b.place (length b.cells.cells) r.kind r.payload f → Breaches rs r f
+pub law_fault : (b : Builder) (rs : List Rec) (r : Rec) (f : GdsKind) → Holds b rs → OpensNothing b.place r.kind
+    → r.kind < 60 → IsFault b.place (length b.cells.cells) r.kind r.payload f → Breaches rs r f
 law_fault b rs r (Record f) h o l x = absurd x
 law_fault b rs r (Misplaced m) h o l x = misplaced_as (InOrder rs r) r m (nowhere b rs r h o x.1) l x.0
 law_fault b rs r (Element k) h o l x = absurd x
 law_fault b rs r Name h o l x = (stands b rs r h x.1, x.0, x.2)
 law_fault b rs r AfterEnd h o l x = absurd x
-law_fault b rs r TooManyCells h o l x = (stands b rs r h x.1, x.0, omega (arith, x.2, shown_many b.place b, ap (λ ds. length ds) h.shown, kept_many rs))
+law_fault b rs r TooManyCells h o l x =
+    (stands b rs r h x.1, x.0, omega (arith, x.2, shown_many b.place b, ap (λ ds. length ds) h.shown, kept_many rs))
 
 pub is_not : (k j : ℕ) → k == j ≡ false → k ≡ j → ⊥
 is_not k j n e = (let z : true ≡ false = sym (same_type k j e) ∙ n in cc)
 
-known_at : (b : Builder) (rs : List Rec) (r : Rec) (t : Option Place) → Holds b rs → OpensNothing b.place r.kind → r.kind < 60 → InOrder rs r → after b.place r.kind ≡ t → IsKnown r.kind
+known_at : (b : Builder) (rs : List Rec) (r : Rec) (t : Option Place) → Holds b rs → OpensNothing b.place r.kind
+    → r.kind < 60 → InOrder rs r → after b.place r.kind ≡ t → IsKnown r.kind
 known_at b rs r None h o l g e = absurd (nowhere b rs r h o e g)
 known_at b rs r (Some q) h o l g e = known_after b.place q r.kind l e
 
 -- what may come is known
-order_known : (b : Builder) (rs : List Rec) (r : Rec) → Holds b rs → OpensNothing b.place r.kind → r.kind < 60 → InOrder rs r → IsKnown r.kind
+order_known : (b : Builder) (rs : List Rec) (r : Rec) → Holds b rs → OpensNothing b.place r.kind → r.kind < 60
+    → InOrder rs r → IsKnown r.kind
 order_known b rs r h o l g = known_at b rs r (after b.place r.kind) h o l g refl
 
 -- a type that carries no value of an element breaches no rule of one
@@ -99,16 +109,19 @@ pub no_rule : (piece : List Rec) (r : Rec) (k : ElementRule) → is_value r.kind
 no_rule piece r k v x = (let z : true ≡ false = sym (value_breaches piece r k x) ∙ v in cc)
 
 -- a record that may not come breaches no other rule
-misplaced_only : (rs : List Rec) (r : Rec) (m : Misplacement) → (InOrder rs r → ⊥) → IsMisplacedAs (InOrder rs r) r m → BreachesOnly rs r (Misplaced m)
+misplaced_only : (rs : List Rec) (r : Rec) (m : Misplacement) → (InOrder rs r → ⊥) → IsMisplacedAs (InOrder rs r) r m
+    → BreachesOnly rs r (Misplaced m)
 misplaced_only rs r m n x (Record f) y = absurd y
-misplaced_only rs r m n x (Misplaced j) y = ap (λ (i : Misplacement). Misplaced i) (one_misplaced (InOrder rs r) r j m y x)
+misplaced_only rs r m n x (Misplaced j) y =
+    ap (λ (i : Misplacement). Misplaced i) (one_misplaced (InOrder rs r) r j m y x)
 misplaced_only rs r m n x (Element k) y = absurd (n y.0)
 misplaced_only rs r m n x Name y = absurd (n y.0)
 misplaced_only rs r m n x AfterEnd y = absurd y
 misplaced_only rs r m n x TooManyCells y = absurd (n y.0)
 
 -- one that may come, and carries no value of an element, breaches the rule of names or that of their number
-one_value : (rs : List Rec) (r : Rec) → is_value r.kind ≡ false → InOrder rs r → IsKnown r.kind → (k : GdsKind) → Breaches rs r k → ((k ≡ Name) × (r.kind ≡ strname)) ⊎ ((k ≡ TooManyCells) × (r.kind ≡ bgnstr))
+one_value : (rs : List Rec) (r : Rec) → is_value r.kind ≡ false → InOrder rs r → IsKnown r.kind → (k : GdsKind)
+    → Breaches rs r k → ((k ≡ Name) × (r.kind ≡ strname)) ⊎ ((k ≡ TooManyCells) × (r.kind ≡ bgnstr))
 one_value rs r v g i (Record f) x = absurd x
 one_value rs r v g i (Misplaced m) x = absurd (not_misplaced (InOrder rs r) r m g i x)
 one_value rs r v g i (Element k) x = absurd (no_rule _ r k v x.1)
@@ -116,25 +129,33 @@ one_value rs r v g i Name x = inl (refl, x.1)
 one_value rs r v g i AfterEnd x = absurd x
 one_value rs r v g i TooManyCells x = inr (refl, x.1)
 
-value_at : (b : Builder) (rs : List Rec) (r : Rec) (t : Option Place) → Holds b rs → OpensNothing b.place r.kind → r.kind < 60 → after b.place r.kind ≡ t → t ≢ None
+value_at : (b : Builder) (rs : List Rec) (r : Rec) (t : Option Place) → Holds b rs → OpensNothing b.place r.kind
+    → r.kind < 60 → after b.place r.kind ≡ t → t ≢ None
     → (k : GdsKind) → Breaches rs r k → ((k ≡ Name) × (r.kind ≡ strname)) ⊎ ((k ≡ TooManyCells) × (r.kind ≡ bgnstr))
 value_at b rs r None h o l e n = absurd (n refl)
 value_at b rs r (Some q) h o l e n =
     let g = stands_at b rs r (Some q) h e n in
     one_value rs r (outside_after b.place q r.kind e).value g (order_known b rs r h o l g)
 
-value_only : (b : Builder) (rs : List Rec) (r : Rec) → Holds b rs → OpensNothing b.place r.kind → r.kind < 60 → after b.place r.kind ≢ None
+value_only : (b : Builder) (rs : List Rec) (r : Rec) → Holds b rs → OpensNothing b.place r.kind → r.kind < 60
+    → after b.place r.kind ≢ None
     → (k : GdsKind) → Breaches rs r k → ((k ≡ Name) × (r.kind ≡ strname)) ⊎ ((k ≡ TooManyCells) × (r.kind ≡ bgnstr))
 value_only b rs r h o l n = value_at b rs r (after b.place r.kind) h o l refl n
 
 -- what is a fault at a place is the only one
-law_only : (b : Builder) (rs : List Rec) (r : Rec) (f : GdsKind) → Holds b rs → OpensNothing b.place r.kind → r.kind < 60 → IsFault b.place (length b.cells.cells) r.kind r.payload f → BreachesOnly rs r f
+law_only : (b : Builder) (rs : List Rec) (r : Rec) (f : GdsKind) → Holds b rs → OpensNothing b.place r.kind
+    → r.kind < 60 → IsFault b.place (length b.cells.cells) r.kind r.payload f → BreachesOnly rs r f
 law_only b rs r (Record f) h o l x = absurd x
 law_only b rs r (Misplaced m) h o l x = (let n = nowhere b rs r h o x.1 in misplaced_only rs r m n (misplaced_as (InOrder rs r) r m n l x.0))
 law_only b rs r (Element k) h o l x = absurd x
-law_only b rs r Name h o l x = λ i y. elim (value_only b rs r h o l x.1 i y) [ inl z ↦ z.0 | inr z ↦ absurd (omega (arith, x.0, z.1)) ]
+law_only b rs r Name h o l x =
+    λ i y. elim (value_only b rs r h o l x.1 i y) [ inl z ↦ z.0 | inr z ↦ absurd (omega (arith, x.0, z.1)) ]
 law_only b rs r AfterEnd h o l x = absurd x
-law_only b rs r TooManyCells h o l x = λ i y. elim (value_only b rs r h o l x.1 i y) [ inl z ↦ absurd (omega (arith, x.0, z.1)) | inr z ↦ z.0 ]
+law_only b rs r TooManyCells h o l x =
+    λ i y. elim (value_only b rs r h o l x.1 i y) [ inl z ↦ absurd (omega (arith, x.0, z.1)) | inr z ↦ z.0 ]
 
-pub says_fault : (b : Builder) (rs : List Rec) (r : Rec) (e : Refusal GdsKind) → Holds b rs → OpensNothing b.place r.kind → r.kind < 60 → Says e (IsFault b.place (length b.cells.cells) r.kind r.payload) → Says e (λ k. Breaches rs r k × BreachesOnly rs r k)
-says_fault b rs r e h o l x = says_carried e (IsFault b.place (length b.cells.cells) r.kind r.payload) (λ k. Breaches rs r k × BreachesOnly rs r k) (λ f y. (law_fault b rs r f h o l y, law_only b rs r f h o l y)) x
+pub says_fault : (b : Builder) (rs : List Rec) (r : Rec) (e : Refusal GdsKind) → Holds b rs
+    → OpensNothing b.place r.kind → r.kind < 60 → Says e (IsFault b.place (length b.cells.cells) r.kind r.payload)
+    → Says e (λ k. Breaches rs r k × BreachesOnly rs r k)
+says_fault b rs r e h o l x =
+    says_carried e (IsFault b.place (length b.cells.cells) r.kind r.payload) (λ k. Breaches rs r k × BreachesOnly rs r k) (λ f y. (law_fault b rs r f h o l y, law_only b rs r f h o l y)) x

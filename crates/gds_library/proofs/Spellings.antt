@@ -10,7 +10,8 @@ abbrev pub a_fill : Rec
 a_fill = record { kind = fill; data_type = 0; payload = [] }
 
 same_front : (p q x y : List ℕ) → length p ≡ length q → p ++ x ≡ q ++ y → p ≡ q
-same_front p q x y h e = sym (take-append_seam p x) ∙ ap (take (length p)) e ∙ ap (λ n. take n (q ++ y)) h ∙ take-append_seam q y
+same_front p q x y h e =
+    sym (take-append_seam p x) ∙ ap (take (length p)) e ∙ ap (λ n. take n (q ++ y)) h ∙ take-append_seam q y
 
 same_record : (r s : Rec) → r.kind ≡ s.kind → r.data_type ≡ s.data_type → r.payload ≡ s.payload → r ≡ s
 same_record r s a b c =
@@ -19,7 +20,8 @@ same_record r s a b c =
     ∙ ap (λ (p : List ℕ). let x : Rec = record { kind = s.kind; data_type = s.data_type; payload = p } in x) c
 
 -- two records that are spelled by bytes with a common beginning are the same
-pub one_record : (a b x y : List ℕ) (r s : Rec) → IsSpelling a r.kind r.data_type r.payload → IsSpelling b s.kind s.data_type s.payload → a ++ x ≡ b ++ y → r ≡ s
+pub one_record : (a b x y : List ℕ) (r s : Rec) → IsSpelling a r.kind r.data_type r.payload
+    → IsSpelling b s.kind s.data_type s.payload → a ++ x ≡ b ++ y → r ≡ s
 one_record a b x y r s p q e =
     let f : (p.high ∷ p.low ∷ r.kind ∷ r.data_type ∷ r.payload) ++ x ≡ (q.high ∷ q.low ∷ s.kind ∷ s.data_type ∷ s.payload) ++ y =
     ap (λ l. l ++ x) (sym p.bytes_are) ∙ e ∙ ap (λ l. l ++ y) q.bytes_are in

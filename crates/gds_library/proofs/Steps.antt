@@ -1,5 +1,6 @@
--- One record more, or one element more, behind a front.
-use Rattle.std.proofs.Common.{◌≡◌, ◌==◌, ℕ, ◌<◌, ℤ, Bool, true, false, if◌then◌else◌, List, [], ◌∷◌, ◌++◌, length, Some, None, map, refl, sym, ap, ◌∙◌, subst, arith, append_assoc}
+-- One record more, or one more element, after a front.
+use Rattle.std.proofs.Common.{◌≡◌, ◌==◌, ℕ, ◌<◌, ℤ, Bool, true, false, if◌then◌else◌, List, [], ◌∷◌, ◌++◌, length, Some}
+use Rattle.std.proofs.Common.{None, map, refl, sym, ap, ◌∙◌, subst, arith, append_assoc}
 use Rattle.std.specs.List.{AllByRecursion}
 use Rattle.std.specs.Prelude.{Result, Ok, Err, IsErr, IsErrAnd}
 use Rattle.std.proofs.lemmas.List.{append-nil}
@@ -10,9 +11,11 @@ use Rattle.lvl_grammar.specs.Order.{IsWord, Begins, has}
 use Rattle.gds_elements.specs.Order.{an_element, opens}
 use Rattle.gds_elements.specs.Rec.{Rec, kinds, is_type, is_opener, field}
 use Rattle.gds_elements.specs.Values.{short, name}
-use Rattle.gds_elements.specs.Rules.{IsKnown, IsName, ElementBreaches, ValueBreaches as BreachesInElement, InOrder as InOrderInElement, BreachesNone as KeepsElement, BreachesOnly as OnlyInElement}
+use Rattle.gds_elements.specs.Rules.{IsKnown, IsName, ElementBreaches, ValueBreaches as BreachesInElement}
+use Rattle.gds_elements.specs.Rules.{InOrder as InOrderInElement, BreachesNone as KeepsElement}
+use Rattle.gds_elements.specs.Rules.{BreachesOnly as OnlyInElement}
 use Rattle.gds_elements.specs.Meaning.{in_rings, shapes_of}
-use Rattle.gds_elements.specs.Reading.{IsReading, IsDrawn, shapes_in, references_in}
+use Rattle.gds_elements.specs.inside.Reading.{IsReading, IsDrawn, shapes_in, references_in}
 use Rattle.gds_elements.specs.declared.element.Element.{Element as OpenElement}
 use Rattle.gds_elements.specs.declared.element.Drawn.{Drawn}
 use Rattle.gds_elements.proofs.Fields.{field-snoc, kinds-snoc}
@@ -34,11 +37,13 @@ use Rattle.gds_elements.specs.declared.fault.ElementFault.TheVariants.{Misplaced
 use Rattle.gds_elements.proofs.Leads.{misplaced_carried}
 use Rattle.gds_elements.proofs.OneRule.{is_value}
 use Rattle.gds_library.specs.declared.fault.GdsKind.{GdsKind}
-use Rattle.gds_library.specs.declared.fault.GdsKind.TheVariants.{Record, Misplaced, Element, Name, AfterEnd, TooManyCells}
+use Rattle.gds_library.specs.declared.fault.GdsKind.TheVariants.{Record, Misplaced, Element, Name, AfterEnd}
+use Rattle.gds_library.specs.declared.fault.GdsKind.TheVariants.{TooManyCells}
 use Rattle.gds_library.specs.inside.Shown.{grown, shown, on_last, with_drawn}
 use Rattle.gds_library.specs.inside.Holds.{Holds, IsInside, Takes}
 use Rattle.gds_library.specs.declared.place.Place.{Place}
-use Rattle.gds_library.specs.declared.place.Place.TheVariants.{Header, BgnLib, LibName, Units, Structures, StrName, Elements, Fill}
+use Rattle.gds_library.specs.declared.place.Place.TheVariants.{Header, BgnLib, LibName, Units, Structures, StrName}
+use Rattle.gds_library.specs.declared.place.Place.TheVariants.{Elements, Fill}
 use Rattle.gds_library.specs.declared.builder.Builder.{Builder}
 use Rattle.gds_library.specs.declared.reading.Reading.{Reading}
 use Rattle.gds_library.proofs.Places.{leads_on, leads_begins}
@@ -51,7 +56,8 @@ use Rattle.gds_library.proofs.Spellings.{a_fill, map-append}
 use Rattle.gds_library.proofs.Refusing.{kept_many, cells_shown, is_not, no_rule}
 
 -- a record that carries no value of an element may follow where the order, its name and the number of cells allow it
-pub may_follow : (rs : List Rec) (r : Rec) → is_value r.kind ≡ false → InOrder rs r → (r.kind < 60 → IsKnown r.kind) → (r.kind ≡ strname → IsName (name r.payload))
+pub may_follow : (rs : List Rec) (r : Rec) → is_value r.kind ≡ false → InOrder rs r → (r.kind < 60 → IsKnown r.kind)
+    → (r.kind ≡ strname → IsName (name r.payload))
     → (r.kind ≡ bgnstr → length (pieces (is_type bgnstr) rs) < cell_limit) → MayFollow rs r
 may_follow rs r v g i m c = (g, none)
   where
@@ -65,7 +71,8 @@ may_follow rs r v g i m c = (g, none)
     none TooManyCells x = omega (arith, x.2, c x.1)
 
 -- a record of an element may follow where it breaches none of the element's rules
-pub may_follow_inside : (rs piece : List Rec) (r : Rec) → last_piece is_opener rs ≡ piece → KeepsElement piece r → InOrderInElement piece r → InOrder rs r → r.kind == strname ≡ false → r.kind == bgnstr ≡ false → MayFollow rs r
+pub may_follow_inside : (rs piece : List Rec) (r : Rec) → last_piece is_opener rs ≡ piece → KeepsElement piece r
+    → InOrderInElement piece r → InOrder rs r → r.kind == strname ≡ false → r.kind == bgnstr ≡ false → MayFollow rs r
 may_follow_inside rs piece r e n o g s b = (g, none)
   where
     none : (k : GdsKind) → Breaches rs r k → ⊥
@@ -76,30 +83,39 @@ may_follow_inside rs piece r e n o g s b = (g, none)
     none AfterEnd x = x
     none TooManyCells x = is_not r.kind bgnstr b x.1
 
--- a record may stand in an open element just where it may stand among the records
-order_inside : (before piece : List Rec) (r : Rec) → LeadsTo a_library (kinds before) (left Elements) → InOrderInElement piece r → InOrder (before ++ piece) r
+-- a record may come in an open element just where it may come among the records
+order_inside : (before piece : List Rec) (r : Rec) → LeadsTo a_library (kinds before) (left Elements)
+    → InOrderInElement piece r → InOrder (before ++ piece) r
 order_inside before piece r h g =
     subst (Begins a_library) (sym (ap kinds (append_assoc before piece (r ∷ [])) ∙ map-append before (piece ++ r ∷ []))) (begins_inside (kinds before) (kinds (piece ++ r ∷ [])) h g)
 
-order_element : (before piece : List Rec) (r : Rec) → LeadsTo a_library (kinds before) (left Elements) → IsOpen (kinds piece) → InOrder (before ++ piece) r → InOrderInElement piece r
+order_element : (before piece : List Rec) (r : Rec) → LeadsTo a_library (kinds before) (left Elements)
+    → IsOpen (kinds piece) → InOrder (before ++ piece) r → InOrderInElement piece r
 order_element before piece r h o g =
     subst (Begins an_element) (sym (kinds-snoc piece r)) (open_goes (kinds before) (kinds piece) r.kind h o
     (subst (Begins a_library) (kinds-snoc (before ++ piece) r ∙ ap (λ l. l ++ r.kind ∷ []) (map-append before piece)) g))
 
 -- a record that breaches a rule of the open element breaches a rule
-breach_inside : (before piece : List Rec) (r : Rec) (f : ElementFault) → LeadsTo a_library (kinds before) (left Elements) → IsOpen (kinds piece) → IsPiece piece → ElementBreaches piece r f → Breaches (before ++ piece) r (lifted f)
-breach_inside before piece r (MisplacedInElement m) h o p x = misplaced_carried (InOrderInElement piece r) (InOrder (before ++ piece) r) r m (order_element before piece r h o) x
-breach_inside before piece r (Rule k) h o p x = (order_inside before piece r h x.0, subst (λ l. BreachesInElement l r k) (sym (last_opened before piece p)) x.1)
+breach_inside : (before piece : List Rec) (r : Rec) (f : ElementFault)
+    → LeadsTo a_library (kinds before) (left Elements) → IsOpen (kinds piece) → IsPiece piece
+    → ElementBreaches piece r f → Breaches (before ++ piece) r (lifted f)
+breach_inside before piece r (MisplacedInElement m) h o p x =
+    misplaced_carried (InOrderInElement piece r) (InOrder (before ++ piece) r) r m (order_element before piece r h o) x
+breach_inside before piece r (Rule k) h o p x =
+    (order_inside before piece r h x.0, subst (λ l. BreachesInElement l r k) (sym (last_opened before piece p)) x.1)
 
 last_one : (P : Rec → Type 0) (xs : List Rec) (r : Rec) → AllByRecursion P (xs ++ r ∷ []) → P r
 last_one P [] r h = h.0
 last_one P (x ∷ xs) r h = last_one P xs r h.1
 
-last_lacks : (piece : List Rec) (r : Rec) (j : ℕ) → IsPiece (piece ++ r ∷ []) → opens j ≡ false → has behind_opener j ≡ false → r.kind == j ≡ false
+last_lacks : (piece : List Rec) (r : Rec) (j : ℕ) → IsPiece (piece ++ r ∷ []) → opens j ≡ false
+    → has behind_opener j ≡ false → r.kind == j ≡ false
 last_lacks piece r j p o n = last_one (λ i. i.kind == j ≡ false) piece r (piece_lacks (piece ++ r ∷ []) j p o n)
 
--- a type that stands in no element may not stand in an open one
-never_inside : (before piece : List Rec) (r : Rec) (j : ℕ) → LeadsTo a_library (kinds before) (left Elements) → IsOpen (kinds piece) → IsPiece piece → InOrder (before ++ piece) r → opens j ≡ false → has behind_opener j ≡ false → r.kind ≡ j → ⊥
+-- a type that is in no element may not come in an open one
+never_inside : (before piece : List Rec) (r : Rec) (j : ℕ) → LeadsTo a_library (kinds before) (left Elements)
+    → IsOpen (kinds piece) → IsPiece piece → InOrder (before ++ piece) r → opens j ≡ false → has behind_opener j ≡ false
+    → r.kind ≡ j → ⊥
 never_inside before piece r j h o p g a b e =
     let more : IsPiece (piece ++ r ∷ []) = record {
       first = p.first;
@@ -110,15 +126,20 @@ never_inside before piece r j h o p g a b e =
     is_not r.kind j (last_lacks piece r j more a b) e
 
 -- and only where it breaches one
-breach_back : (before piece : List Rec) (r : Rec) (k : GdsKind) → LeadsTo a_library (kinds before) (left Elements) → IsOpen (kinds piece) → IsPiece piece → Breaches (before ++ piece) r k → (f : ElementFault) × (k ≡ lifted f) × ElementBreaches piece r f
+breach_back : (before piece : List Rec) (r : Rec) (k : GdsKind) → LeadsTo a_library (kinds before) (left Elements)
+    → IsOpen (kinds piece) → IsPiece piece → Breaches (before ++ piece) r k
+    → (f : ElementFault) × (k ≡ lifted f) × ElementBreaches piece r f
 breach_back before piece r (Record f) h o p x = absurd x
-breach_back before piece r (Misplaced m) h o p x = (MisplacedInElement m, refl, misplaced_carried (InOrder (before ++ piece) r) (InOrderInElement piece r) r m (order_inside before piece r h) x)
-breach_back before piece r (Element k) h o p x = (Rule k, refl, (order_element before piece r h o x.0, subst (λ l. BreachesInElement l r k) (last_opened before piece p) x.1))
+breach_back before piece r (Misplaced m) h o p x =
+    (MisplacedInElement m, refl, misplaced_carried (InOrder (before ++ piece) r) (InOrderInElement piece r) r m (order_inside before piece r h) x)
+breach_back before piece r (Element k) h o p x =
+    (Rule k, refl, (order_element before piece r h o x.0, subst (λ l. BreachesInElement l r k) (last_opened before piece p) x.1))
 breach_back before piece r Name h o p x = absurd (never_inside before piece r strname h o p x.0 refl refl x.1)
 breach_back before piece r AfterEnd h o p x = absurd x
 breach_back before piece r TooManyCells h o p x = absurd (never_inside before piece r bgnstr h o p x.0 refl refl x.1)
 
-breaches_both : (b : Builder) (e : OpenElement) (rs : List Rec) (r : Rec) (f : ElementFault) (i : IsInside b e rs) → ElementBreaches i.piece r f → OnlyInElement i.piece r f → Breaches rs r (lifted f) × BreachesOnly rs r (lifted f)
+breaches_both : (b : Builder) (e : OpenElement) (rs : List Rec) (r : Rec) (f : ElementFault) (i : IsInside b e rs)
+    → ElementBreaches i.piece r f → OnlyInElement i.piece r f → Breaches rs r (lifted f) × BreachesOnly rs r (lifted f)
 breaches_both b e rs r f i x only =
     let h = subst (λ p. LeadsTo a_library (kinds i.before) (left p)) i.at i.holds.leads in
     let o = reading_open e i.piece i.reading in
@@ -129,20 +150,26 @@ breaches_both b e rs r f i x only =
           z.1 ∙ ap lifted (only z.0 z.2),
     )
 
-says_lifted : (b : Builder) (e : OpenElement) (rs : List Rec) (r : Rec) (f : Refusal ElementFault) (i : IsInside b e rs) → Says f (ElementBreaches i.piece r) → Says f (OnlyInElement i.piece r) → Says (lifted_refusal f) (λ k. Breaches rs r k × BreachesOnly rs r k)
+says_lifted : (b : Builder) (e : OpenElement) (rs : List Rec) (r : Rec) (f : Refusal ElementFault) (i : IsInside b e rs)
+    → Says f (ElementBreaches i.piece r) → Says f (OnlyInElement i.piece r)
+    → Says (lifted_refusal f) (λ k. Breaches rs r k × BreachesOnly rs r k)
 says_lifted b e rs r (Breach k) i x only = breaches_both b e rs r k i x only
 says_lifted b e rs r OutOfMemory i x only = tt
 
 -- a record that its element refuses is refused
-pub says_inside : (b : Builder) (e : OpenElement) (rs : List Rec) (r : Rec) (f : Refusal ElementFault) (g : Refusal GdsKind) (i : IsInside b e rs) → g ≡ lifted_refusal f → Says f (ElementBreaches i.piece r) → Says f (OnlyInElement i.piece r) → Takes rs r (Err g)
-says_inside b e rs r f g i h x only = subst (λ (j : Refusal GdsKind). Says j (λ k. Breaches rs r k × BreachesOnly rs r k)) (sym h) (says_lifted b e rs r f i x only)
+pub says_inside : (b : Builder) (e : OpenElement) (rs : List Rec) (r : Rec) (f : Refusal ElementFault) (g : Refusal GdsKind) (i : IsInside b e rs)
+    → g ≡ lifted_refusal f → Says f (ElementBreaches i.piece r) → Says f (OnlyInElement i.piece r) → Takes rs r (Err g)
+says_inside b e rs r f g i h x only =
+    subst (λ (j : Refusal GdsKind). Says j (λ k. Breaches rs r k × BreachesOnly rs r k)) (sym h) (says_lifted b e rs r f i x only)
 
 -- what is refused with the same refusal
-pub takes_refused : (rs : List Rec) (r : Rec) (res : Result Reading (Refusal GdsKind)) (e : Refusal GdsKind) → IsErr res × IsErrAnd res (λ x. x ≡ e) → Says e (λ k. Breaches rs r k × BreachesOnly rs r k) → Takes rs r res
+pub takes_refused : (rs : List Rec) (r : Rec) (res : Result Reading (Refusal GdsKind)) (e : Refusal GdsKind)
+    → IsErr res × IsErrAnd res (λ x. x ≡ e) → Says e (λ k. Breaches rs r k × BreachesOnly rs r k) → Takes rs r res
 takes_refused rs r (Ok x) e h b = absurd h.1
-takes_refused rs r (Err x) e h b = subst (λ (i : Refusal GdsKind). Says i (λ k. Breaches rs r k × BreachesOnly rs r k)) (sym h.1) b
+takes_refused rs r (Err x) e h b =
+    subst (λ (i : Refusal GdsKind). Says i (λ k. Breaches rs r k × BreachesOnly rs r k)) (sym h.1) b
 
--- what is known of the units at a place is known before, unless they stand there
+-- what is known of the units at a place is known before, unless they are there
 units_before : (p q : Place) (k : ℕ) → after p k ≡ Some q → k == units ≡ false → has_units q ≡ true → has_units p ≡ true
 units_before Header q k e n h = (let z : has_units BgnLib ≡ true = subst (λ i. has_units i ≡ true) (same_place (k == header) BgnLib q e) h in cc)
 units_before BgnLib q k e n h = (let z : has_units LibName ≡ true = subst (λ i. has_units i ≡ true) (same_place (k == bgnlib) LibName q e) h in cc)
@@ -153,7 +180,8 @@ units_before StrName q k e n h = refl
 units_before Elements q k e n h = refl
 units_before Fill q k e n h = refl
 
-units_kept : (t : Bool) (p x y : List ℕ) (old new : List (List ℕ)) → new ≡ (if t then two_reals p else old) → (t ≡ false → old ≡ two_reals x) → y ≡ (if t then p else x) → new ≡ two_reals y
+units_kept : (t : Bool) (p x y : List ℕ) (old new : List (List ℕ)) → new ≡ (if t then two_reals p else old)
+    → (t ≡ false → old ≡ two_reals x) → y ≡ (if t then p else x) → new ≡ two_reals y
 units_kept true p x y old new e h f = e ∙ ap two_reals (sym f)
 units_kept false p x y old new e h f = e ∙ h refl ∙ ap two_reals (sym f)
 
@@ -162,8 +190,9 @@ pub record KeepsHead (b b' : Builder) (k : ℕ) (payload : List ℕ) : Type 0 wh
   pub version : b'.version ≡ (if k == header then short payload else b.version)
   pub units : b'.units ≡ (if k == units then two_reals payload else b.units)
 
--- a record outside of elements that may stand leads on
-pub law_holds : (b b' : Builder) (rs : List Rec) (r : Rec) → Holds b rs → after b.place r.kind ≡ Some b'.place → shown b' ≡ grown r.kind r.payload (shown b) → KeepsHead b b' r.kind r.payload → Holds b' (rs ++ r ∷ [])
+-- a record outside of elements that may come leads on
+pub law_holds : (b b' : Builder) (rs : List Rec) (r : Rec) → Holds b rs → after b.place r.kind ≡ Some b'.place
+    → shown b' ≡ grown r.kind r.payload (shown b) → KeepsHead b b' r.kind r.payload → Holds b' (rs ++ r ∷ [])
 law_holds b b' rs r h e s k =
     let o = outside_after b.place b'.place r.kind e in
     record {
@@ -174,17 +203,21 @@ law_holds b b' rs r h e s k =
     }
 
 -- and breaches no rule
-pub law_allowed : (b b' : Builder) (rs : List Rec) (r : Rec) → Holds b rs → Holds b' (rs ++ r ∷ []) → r.kind < 60 → after b.place r.kind ≡ Some b'.place → IsAllowed (length b.cells.cells) r.kind r.payload → MayFollow rs r
+pub law_allowed : (b b' : Builder) (rs : List Rec) (r : Rec) → Holds b rs → Holds b' (rs ++ r ∷ []) → r.kind < 60
+    → after b.place r.kind ≡ Some b'.place → IsAllowed (length b.cells.cells) r.kind r.payload → MayFollow rs r
 law_allowed b b' rs r h h' l e a =
     may_follow rs r (outside_after b.place b'.place r.kind e).value (leads_begins (kinds (rs ++ r ∷ [])) b'.place h'.leads) (λ l. known_after b.place b'.place r.kind l e) a.name
     (λ k. (let n = cells_shown b.place b'.place b (subst (λ i. after b.place i ≡ Some b'.place) k e) in omega (arith, a.cells k, n, ap (λ ds. length ds) h.shown, kept_many rs)))
 
--- a zero byte behind the end breaches no rule
+-- a zero byte after the end breaches no rule
 pub law_fill : (rs : List Rec) → Begins a_library (kinds (rs ++ a_fill ∷ [])) → MayFollow rs a_fill
-law_fill rs g = may_follow rs a_fill (outside_after Fill Fill fill refl).value g (λ l. absurd (omega (arith, l))) (λ e. absurd (omega (arith, e))) (λ e. absurd (omega (arith, e)))
+law_fill rs g =
+    may_follow rs a_fill (outside_after Fill Fill fill refl).value g (λ l. absurd (omega (arith, l))) (λ e. absurd (omega (arith, e))) (λ e. absurd (omega (arith, e)))
 
--- a builder that has read the records of whole elements alone, and those behind them
-law_element : (b b' : Builder) (before piece : List Rec) (d : Drawn) → Holds b before → b.place ≡ Elements → IsWord an_element (kinds piece) → IsDrawn d piece → b'.place ≡ b.place → b'.version ≡ b.version → b'.units ≡ b.units
+-- a builder that has read the records of whole elements alone, and those after them
+law_element : (b b' : Builder) (before piece : List Rec) (d : Drawn) → Holds b before → b.place ≡ Elements
+    → IsWord an_element (kinds piece) → IsDrawn d piece → b'.place ≡ b.place → b'.version ≡ b.version
+    → b'.units ≡ b.units
     → shown b' ≡ on_last (with_drawn (shapes_in d) (references_in d)) (shown b) → Holds b' (before ++ piece)
 law_element b b' before piece d h at w dr p v u s =
     let pc = word_piece piece w in
@@ -204,8 +237,9 @@ pub inside_begins : (b : Builder) (e : OpenElement) (rs : List Rec) → IsInside
 inside_begins b e rs i =
     subst (Begins a_library) (sym (ap kinds i.parts ∙ map-append i.before i.piece)) (begins_inside (kinds i.before) (kinds i.piece) (subst (λ p. LeadsTo a_library (kinds i.before) (left p)) i.at i.holds.leads) (reading_begins e i.piece i.reading))
 
--- one record more of an open element, which stays open
-pub law_inside : (b : Builder) (e e' : OpenElement) (rs : List Rec) (r : Rec) (i : IsInside b e rs) → IsReading e' (i.piece ++ r ∷ []) → KeepsElement i.piece r → IsInside b e' (rs ++ r ∷ []) × MayFollow rs r
+-- one more record of an open element, which stays open
+pub law_inside : (b : Builder) (e e' : OpenElement) (rs : List Rec) (r : Rec) (i : IsInside b e rs)
+    → IsReading e' (i.piece ++ r ∷ []) → KeepsElement i.piece r → IsInside b e' (rs ++ r ∷ []) × MayFollow rs r
 law_inside b e e' rs r i re n =
     let next : IsInside b e' (rs ++ r ∷ []) = record {
       before = i.before;
@@ -220,7 +254,8 @@ law_inside b e e' rs r i re n =
     (next, may_follow_inside rs i.piece r last n (reading_begins e' (i.piece ++ r ∷ []) re) (inside_begins b e' (rs ++ r ∷ []) next) (last_lacks i.piece r strname pc refl refl) (last_lacks i.piece r bgnstr pc refl refl))
 
 -- the record that ends an open element
-pub law_whole : (b b' : Builder) (e : OpenElement) (rs : List Rec) (r : Rec) (d : Drawn) (i : IsInside b e rs) → IsWord an_element (kinds (i.piece ++ r ∷ [])) × IsDrawn d (i.piece ++ r ∷ []) → KeepsElement i.piece r
+pub law_whole : (b b' : Builder) (e : OpenElement) (rs : List Rec) (r : Rec) (d : Drawn) (i : IsInside b e rs)
+    → IsWord an_element (kinds (i.piece ++ r ∷ [])) × IsDrawn d (i.piece ++ r ∷ []) → KeepsElement i.piece r
     → b'.place ≡ b.place → b'.version ≡ b.version → b'.units ≡ b.units → shown b' ≡ on_last (with_drawn (shapes_in d) (references_in d)) (shown b) → Holds b' (rs ++ r ∷ []) × MayFollow rs r
 law_whole b b' e rs r d i w n p v u s =
     let parts : rs ++ r ∷ [] ≡ i.before ++ (i.piece ++ r ∷ []) = ap (λ l. l ++ r ∷ []) i.parts ∙ append_assoc i.before i.piece (r ∷ []) in
@@ -230,7 +265,8 @@ law_whole b b' e rs r d i w n p v u s =
     (next, may_follow_inside rs i.piece r last n ([], subst (IsWord an_element) (sym (append-nil (kinds (i.piece ++ r ∷ [])))) w.0) (leads_begins (kinds (rs ++ r ∷ [])) b'.place next.leads) (last_lacks i.piece r strname pc refl refl) (last_lacks i.piece r bgnstr pc refl refl))
 
 -- the record that opens an element
-pub law_opens : (b : Builder) (e : OpenElement) (rs : List Rec) (r : Rec) → Holds b rs → b.place ≡ Elements → IsReading e (r ∷ []) → IsInside b e (rs ++ r ∷ []) × MayFollow rs r
+pub law_opens : (b : Builder) (e : OpenElement) (rs : List Rec) (r : Rec) → Holds b rs → b.place ≡ Elements
+    → IsReading e (r ∷ []) → IsInside b e (rs ++ r ∷ []) × MayFollow rs r
 law_opens b e rs r h at re =
     let next : IsInside b e (rs ++ r ∷ []) = record { before = rs; piece = r ∷ []; parts = refl; holds = h; at = at; reading = re } in
     let o = opener_is r.kind (begins_open r.kind [] (reading_begins e (r ∷ []) re)) in

@@ -1,5 +1,7 @@
 -- How a stream is read: record by record, then the zero bytes after the end, or up to what is wrong.
-use Rattle.std.proofs.Common.{append_assoc, ◌≡◌, ◌≢◌, ◌⊎◌, ℕ, ◌+◌, ◌-◌, ◌<◌, ◌≤◌, List, [], ◌∷◌, ◌++◌, length, take, drop, Some, None, refl, sym, ap, ◌∙◌, subst, arith, inl, inr, ℤ, pos, zero, suc, true, false, length-drop}
+use Rattle.std.proofs.Common.{append_assoc, ◌≡◌, ◌≢◌, ◌⊎◌, ℕ, ◌+◌, ◌-◌, ◌<◌, ◌≤◌, List, [], ◌∷◌, ◌++◌, length, take}
+use Rattle.std.proofs.Common.{drop, Some, None, refl, sym, ap, ◌∙◌, subst, arith, inl, inr, ℤ, pos, zero, suc, true}
+use Rattle.std.proofs.Common.{false, length-drop}
 use Rattle.std.proofs.lemmas.List.{append-nil}
 use Rattle.std.specs.Prelude.{Option, replicate, Err, Result}
 use Rattle.std.specs.Io.KnownBytes.{prepend_known}
@@ -17,13 +19,14 @@ use Rattle.gds_records.specs.Step.{step, Decides}
 use Rattle.gds_records.specs.Tail.{AnswersTail}
 use Rattle.gds_records.specs.declared.fault.Stopped.TheVariants.{Fault}
 use Rattle.gds_records.specs.declared.fault.RecordFault.{RecordFault}
-use Rattle.gds_records.specs.declared.fault.RecordFault.TheVariants.{Truncated, BadLength, BadDataType, UnknownRecord, TooLong, Read}
+use Rattle.gds_records.specs.declared.fault.RecordFault.TheVariants.{Truncated, BadLength, BadDataType, UnknownRecord}
+use Rattle.gds_records.specs.declared.fault.RecordFault.TheVariants.{TooLong, Read}
 use Rattle.gds_records.proofs.Laws.{law_malformed}
 use Rattle.gds_records.proofs.Known.{known_parts}
 use Rattle.gds_elements.specs.Types.{header}
 use Rattle.gds_elements.specs.Rec.{Rec, kinds, field}
 use Rattle.gds_elements.specs.Values.{short}
-use Rattle.gds_elements.specs.Reading.{record_of}
+use Rattle.gds_elements.specs.inside.Reading.{record_of}
 use Rattle.gds_elements.specs.declared.element.Element.{Element as OpenElement}
 use Rattle.gds_library.specs.Types.{fill}
 use Rattle.gds_library.specs.Order.{a_library}
@@ -40,10 +43,12 @@ use Rattle.lvl_refusal.specs.Refused.{Says}
 use Rattle.lvl_refusal.specs.declared.Refusal.{Refusal}
 use Rattle.lvl_refusal.specs.declared.Refusal.TheVariants.{Breach}
 use Rattle.gds_library.specs.declared.fault.GdsKind.{GdsKind}
-use Rattle.gds_library.specs.declared.fault.GdsKind.TheVariants.{Record, Misplaced, Element, Name, AfterEnd, TooManyCells}
+use Rattle.gds_library.specs.declared.fault.GdsKind.TheVariants.{Record, Misplaced, Element, Name, AfterEnd}
+use Rattle.gds_library.specs.declared.fault.GdsKind.TheVariants.{TooManyCells}
 use Rattle.gds_library.specs.declared.head.GdsHead.{GdsHead}
 use Rattle.gds_library.specs.declared.place.Place.{Place}
-use Rattle.gds_library.specs.declared.place.Place.TheVariants.{Header, BgnLib, LibName, Units, Structures, StrName, Elements, Fill}
+use Rattle.gds_library.specs.declared.place.Place.TheVariants.{Header, BgnLib, LibName, Units, Structures, StrName}
+use Rattle.gds_library.specs.declared.place.Place.TheVariants.{Elements, Fill}
 use Rattle.gds_library.specs.declared.builder.Builder.{Builder}
 use Rattle.gds_library.specs.declared.reading.Reading.{Reading}
 use Rattle.gds_library.proofs.Places.{leads_begins}
@@ -65,7 +70,8 @@ not_ended StrName h = refl
 not_ended Elements h = refl
 not_ended Fill h = absurd (h refl)
 
-with_unwhole : (o : Option OpenElement) (b : Builder) (rs : List Rec) → HoldsWith o b rs → b.place ≢ Fill → IsWhole rs → ⊥
+with_unwhole : (o : Option OpenElement) (b : Builder) (rs : List Rec) → HoldsWith o b rs → b.place ≢ Fill → IsWhole rs
+    → ⊥
 with_unwhole None b rs h go w = leads_unwhole a_library (kinds rs) (left b.place) (not_ended b.place go) h.leads w
 with_unwhole (Some e) b rs h go w =
     open_unwhole (kinds h.before) (kinds h.piece) (subst (λ p. LeadsTo a_library (kinds h.before) (left p)) h.at h.holds.leads) (reading_open e h.piece h.reading)
@@ -76,14 +82,16 @@ has_unwhole : (x : Reading) (rs : List Rec) → HasRead x rs → x.builder.place
 has_unwhole x rs h go w = with_unwhole x.element x.builder rs h go w
 
 holds_whole : (b : Builder) (rs : List Rec) → Holds b rs → b.place ≡ Fill → IsWhole rs
-holds_whole b rs h e = leads_whole a_library (kinds rs) (left Fill) (subst (λ p. LeadsTo a_library (kinds rs) (left p)) e h.leads) ([], tt, refl)
+holds_whole b rs h e =
+    leads_whole a_library (kinds rs) (left Fill) (subst (λ p. LeadsTo a_library (kinds rs) (left p)) e h.leads) ([], tt, refl)
 
 with_ended : (o : Option OpenElement) (b : Builder) (rs : List Rec) → HoldsWith o b rs → b.place ≡ Fill → Holds b rs
 with_ended None b rs h e = h
 with_ended (Some i) b rs h e = (let z : Elements ≡ Fill = sym h.at ∙ e in cc)
 
 -- no element is open after the end
-pub reads_end : (xs : List ℕ) (at : ℕ) (x : Reading) (was : Option (List ℕ)) → ReadTo gds xs at (HasRead x) was → x.builder.place ≡ Fill → ReadTo gds xs at (Holds x.builder) was
+pub reads_end : (xs : List ℕ) (at : ℕ) (x : Reading) (was : Option (List ℕ)) → ReadTo gds xs at (HasRead x) was
+    → x.builder.place ≡ Fill → ReadTo gds xs at (Holds x.builder) was
 reads_end xs at x was to e = record { records = to.records; front = to.front; holds = with_ended x.element x.builder to.records to.holds e; left_is = to.left_is; within = to.within }
 
 same_left : (a b : List ℕ) (was : Option (List ℕ)) → was ≡ Some a → was ≡ Some b → a ≡ b
@@ -94,11 +102,13 @@ pub holds_begin : (b : Builder) → b.place ≡ Header → shown b ≡ [] → b.
 holds_begin b p s v = record { leads = subst (λ q. LeadsTo a_library [] (left q)) (sym p) (leads_begin a_library); shown = s; version = v; units = λ z. (let y : has_units Header ≡ true = subst (λ i. has_units i ≡ true) p z in cc) }
 
 -- the record that is read begins the bytes
-abbrev starts : (room : ℕ) (ys : List ℕ) (k : ℕ) (payload : List ℕ) (s : IsSpelledAt room ys k payload) → StartsWith room ys (record_of k s.0 payload)
+abbrev starts : (room : ℕ) (ys : List ℕ) (k : ℕ) (payload : List ℕ) (s : IsSpelledAt room ys k payload)
+    → StartsWith room ys (record_of k s.0 payload)
 starts room ys k payload s = (s.1, s.2, s.3, s.4, omega (arith, s.5, length_spelled s.1 payload k s.0 s.4), s.6)
 
--- one record more
-pub reads_record : (xs : List ℕ) (at : ℕ) (x x' : Reading) (was left' : Option (List ℕ)) (k : ℕ) (payload : List ℕ) (to : ReadTo gds xs at (HasRead x) was) → IsSpelledAt (file_limit - at) (drop at xs) k payload
+-- one more record
+pub reads_record : (xs : List ℕ) (at : ℕ) (x x' : Reading) (was left' : Option (List ℕ)) (k : ℕ) (payload : List ℕ) (to : ReadTo gds xs at (HasRead x) was)
+    → IsSpelledAt (file_limit - at) (drop at xs) k payload
     → ((d : ℕ) → HasRead x' (to.records ++ record_of k d payload ∷ []) × MayFollow to.records (record_of k d payload))
     → left' ≡ Some (drop (4 + length payload) (drop at xs)) → ReadTo gds xs (at + (4 + length payload)) (HasRead x') left'
 reads_record xs at x x' was left' k payload to s takes e =
@@ -113,21 +123,27 @@ record IsLeft (bytes : List ℕ) (hand : List ℕ) (remaining : Option (List ℕ
   parts : bytes ≡ hand ++ rest
   is : remaining ≡ Some rest
 
-left_parts : (bytes hand : List ℕ) (remaining : Option (List ℕ)) → prepend_known hand remaining ≡ Some bytes → IsLeft bytes hand remaining
+left_parts : (bytes hand : List ℕ) (remaining : Option (List ℕ)) → prepend_known hand remaining ≡ Some bytes
+    → IsLeft bytes hand remaining
 left_parts bytes hand remaining e = (let p = known_parts hand remaining bytes e in record { rest = p.0; parts = sym p.2; is = p.1 })
 
 same_start : (room : ℕ) (ys : List ℕ) (r s : Rec) → StartsWith room ys r → StartsWith room ys s → s ≡ r
 same_start room ys r s p q = starts_same room ys q.0 r s p q.3 (q.1, inr q.5)
 
 -- a record that begins the bytes, and breaches one rule, is all that is wrong with them
-only_record : (before : List Rec) (room : ℕ) (ys : List ℕ) (r : Rec) (k : GdsKind) → (IsWhole before → ⊥) → StartsWith room ys r → BreachesOnly before r k → (j : GdsKind) → IsWrong before room ys j → j ≡ k
+only_record : (before : List Rec) (room : ℕ) (ys : List ℕ) (r : Rec) (k : GdsKind) → (IsWhole before → ⊥)
+    → StartsWith room ys r → BreachesOnly before r k → (j : GdsKind) → IsWrong before room ys j → j ≡ k
 only_record before room ys r k n s only (Record f) w =
     absurd (law_malformed room ys f w.2 w.0 r.kind r.data_type r.payload s.0 s.2 s.3 (omega (arith, s.4, length_spelled s.0 r.payload r.kind r.data_type s.3)) (s.1, inr s.5))
 only_record before room ys r k n s only AfterEnd w = absurd (n w.0)
-only_record before room ys r k n s only (Misplaced m) w = only (Misplaced m) (subst (λ (x : Rec). Breaches before x (Misplaced m)) (same_start room ys r w.1 s w.2) w.3)
-only_record before room ys r k n s only (Element m) w = only (Element m) (subst (λ (x : Rec). Breaches before x (Element m)) (same_start room ys r w.1 s w.2) w.3)
-only_record before room ys r k n s only Name w = only Name (subst (λ (x : Rec). Breaches before x Name) (same_start room ys r w.1 s w.2) w.3)
-only_record before room ys r k n s only TooManyCells w = only TooManyCells (subst (λ (x : Rec). Breaches before x TooManyCells) (same_start room ys r w.1 s w.2) w.3)
+only_record before room ys r k n s only (Misplaced m) w =
+    only (Misplaced m) (subst (λ (x : Rec). Breaches before x (Misplaced m)) (same_start room ys r w.1 s w.2) w.3)
+only_record before room ys r k n s only (Element m) w =
+    only (Element m) (subst (λ (x : Rec). Breaches before x (Element m)) (same_start room ys r w.1 s w.2) w.3)
+only_record before room ys r k n s only Name w =
+    only Name (subst (λ (x : Rec). Breaches before x Name) (same_start room ys r w.1 s w.2) w.3)
+only_record before room ys r k n s only TooManyCells w =
+    only TooManyCells (subst (λ (x : Rec). Breaches before x TooManyCells) (same_start room ys r w.1 s w.2) w.3)
 
 -- a rule that a record breaches
 abbrev OfRecord : GdsKind → Type 0
@@ -143,7 +159,8 @@ of_record before r (Element m) b = tt
 of_record before r Name b = tt
 of_record before r TooManyCells b = tt
 
-wrong_record : (before : List Rec) (room : ℕ) (ys : List ℕ) (r : Rec) (k : GdsKind) → OfRecord k → (IsWhole before → ⊥) → StartsWith room ys r → Breaches before r k → IsWrong before room ys k
+wrong_record : (before : List Rec) (room : ℕ) (ys : List ℕ) (r : Rec) (k : GdsKind) → OfRecord k → (IsWhole before → ⊥)
+    → StartsWith room ys r → Breaches before r k → IsWrong before room ys k
 wrong_record before room ys r (Record f) o n s b = absurd o
 wrong_record before room ys r AfterEnd o n s b = absurd o
 wrong_record before room ys r (Misplaced m) o n s b = (n, r, s, b)
@@ -151,7 +168,8 @@ wrong_record before room ys r (Element m) o n s b = (n, r, s, b)
 wrong_record before room ys r Name o n s b = (n, r, s, b)
 wrong_record before room ys r TooManyCells o n s b = (n, r, s, b)
 
-seen_refuses : (xs : List ℕ) (at : ℕ) (rest : Option (List ℕ)) (k : GdsKind) → OfRecord k → IsSeenWrong gds xs at rest k → RefusesAt xs rest at k
+seen_refuses : (xs : List ℕ) (at : ℕ) (rest : Option (List ℕ)) (k : GdsKind) → OfRecord k → IsSeenWrong gds xs at rest k
+    → RefusesAt xs rest at k
 seen_refuses xs at rest (Record f) o s = absurd o
 seen_refuses xs at rest AfterEnd o s = absurd o
 seen_refuses xs at rest (Misplaced m) o s = s
@@ -160,7 +178,8 @@ seen_refuses xs at rest Name o s = s
 seen_refuses xs at rest TooManyCells o s = s
 
 -- where a record is refused
-pub reads_refused : (xs : List ℕ) (at : ℕ) (x : Reading) (was remaining : Option (List ℕ)) (k : ℕ) (payload hand : List ℕ) (f : GdsKind) (to : ReadTo gds xs at (HasRead x) was) → x.builder.place ≢ Fill
+pub reads_refused : (xs : List ℕ) (at : ℕ) (x : Reading) (was remaining : Option (List ℕ)) (k : ℕ) (payload hand : List ℕ) (f : GdsKind) (to : ReadTo gds xs at (HasRead x) was)
+    → x.builder.place ≢ Fill
     → IsSpelledAt (file_limit - at) (drop at xs) k payload → ((d : ℕ) → Breaches to.records (record_of k d payload) f × BreachesOnly to.records (record_of k d payload) f)
     → prepend_known hand remaining ≡ Some (drop (4 + length payload) (drop at xs)) → RefusesAt xs remaining at f
 reads_refused xs at x was remaining k payload hand f to go s breaches e =
@@ -188,12 +207,16 @@ reads_refused xs at x was remaining k payload hand f to go s breaches e =
 same_fault : (f g : RecordFault) (s : Result ℕ RecordFault) → s ≡ Err f → s ≡ Err g → g ≡ f
 same_fault f g s a b = (let h : Err f ≡ Err g = sym a ∙ b in cc)
 
-no_start : (before : List Rec) (room : ℕ) (ys : List ℕ) (f : RecordFault) → step room ys ≡ Err f → f ≢ Truncated → (r : Rec) → StartsWith room ys r → ⊥
-no_start before room ys f e t r s = law_malformed room ys f e t r.kind r.data_type r.payload s.0 s.2 s.3 (omega (arith, s.4, length_spelled s.0 r.payload r.kind r.data_type s.3)) (s.1, inr s.5)
+no_start : (before : List Rec) (room : ℕ) (ys : List ℕ) (f : RecordFault) → step room ys ≡ Err f → f ≢ Truncated
+    → (r : Rec) → StartsWith room ys r → ⊥
+no_start before room ys f e t r s =
+    law_malformed room ys f e t r.kind r.data_type r.payload s.0 s.2 s.3 (omega (arith, s.4, length_spelled s.0 r.payload r.kind r.data_type s.3)) (s.1, inr s.5)
 
 -- where no record begins the bytes, that is all that is wrong with them
-only_fault : (before : List Rec) (room : ℕ) (ys : List ℕ) (f : RecordFault) → step room ys ≡ Err f → f ≢ Truncated → (IsWhole before → room ≡ 0) → (j : GdsKind) → IsWrong before room ys j → j ≡ Record f
-only_fault before room ys f e t z (Record g) w = ap (λ (i : RecordFault). Record i) (same_fault f g (step room ys) e w.2)
+only_fault : (before : List Rec) (room : ℕ) (ys : List ℕ) (f : RecordFault) → step room ys ≡ Err f → f ≢ Truncated
+    → (IsWhole before → room ≡ 0) → (j : GdsKind) → IsWrong before room ys j → j ≡ Record f
+only_fault before room ys f e t z (Record g) w =
+    ap (λ (i : RecordFault). Record i) (same_fault f g (step room ys) e w.2)
 only_fault before room ys f e t z AfterEnd w = absurd (omega (arith, z w.0, w.1))
 only_fault before room ys f e t z (Misplaced m) w = absurd (no_start before room ys f e t w.1 w.2)
 only_fault before room ys f e t z (Element m) w = absurd (no_start before room ys f e t w.1 w.2)
@@ -201,7 +224,8 @@ only_fault before room ys f e t z Name w = absurd (no_start before room ys f e t
 only_fault before room ys f e t z TooManyCells w = absurd (no_start before room ys f e t w.1 w.2)
 
 -- a fault of the bytes in hand
-seen_fault : (xs : List ℕ) (at : ℕ) (Has : List Rec → Type 0) (was remaining : Option (List ℕ)) (hand : List ℕ) (f : RecordFault) (to : ReadTo gds xs at Has was) → f ≢ Truncated → f ≢ Read
+seen_fault : (xs : List ℕ) (at : ℕ) (Has : List Rec → Type 0) (was remaining : Option (List ℕ)) (hand : List ℕ) (f : RecordFault) (to : ReadTo gds xs at Has was)
+    → f ≢ Truncated → f ≢ Read
     → (IsWhole to.records → file_limit - at ≡ 0) → ((more : List ℕ) → step (file_limit - at) (hand ++ more) ≡ Err f) → prepend_known hand remaining ≡ Some (drop at xs) → IsSeenWrong gds xs at remaining (Record f)
 seen_fault xs at Has was remaining hand f to t r z said e =
     let l = left_parts (drop at xs) hand remaining e in
@@ -219,7 +243,8 @@ seen_fault xs at Has was remaining hand f to t r z said e =
     }
 
 -- where the input ends before the library does
-pub reads_cut : (xs : List ℕ) (at : ℕ) (x : Reading) (was : Option (List ℕ)) → ReadTo gds xs at (HasRead x) was → x.builder.place ≢ Fill → (length (drop at xs) < 4) ⊎ IsBegun (drop at xs) → IsTruncated gds xs at
+pub reads_cut : (xs : List ℕ) (at : ℕ) (x : Reading) (was : Option (List ℕ)) → ReadTo gds xs at (HasRead x) was
+    → x.builder.place ≢ Fill → (length (drop at xs) < 4) ⊎ IsBegun (drop at xs) → IsTruncated gds xs at
 reads_cut xs at x was to go cut = record {
   within = to.within;
   records = to.records;
@@ -229,7 +254,8 @@ reads_cut xs at x was to go cut = record {
 }
 
 -- what a fault of the records says
-pub reads_fault : (xs : List ℕ) (at : ℕ) (x : Reading) (was remaining : Option (List ℕ)) (hand : List ℕ) (f : RecordFault) → ReadTo gds xs at (HasRead x) was → x.builder.place ≢ Fill
+pub reads_fault : (xs : List ℕ) (at : ℕ) (x : Reading) (was remaining : Option (List ℕ)) (hand : List ℕ) (f : RecordFault)
+    → ReadTo gds xs at (HasRead x) was → x.builder.place ≢ Fill
     → (f ≢ Truncated → f ≢ Read → (more : List ℕ) → step (file_limit - at) (hand ++ more) ≡ Err f) → (f ≡ Truncated → (length (drop at xs) < 4) ⊎ IsBegun (drop at xs))
     → prepend_known hand remaining ≡ Some (drop at xs) → RefusesAt xs remaining at (Record f)
 reads_fault xs at x was remaining hand f to go said cut e = by f refl
@@ -246,14 +272,17 @@ reads_fault xs at x was remaining hand f to go said cut e = by f refl
     by TooLong i = subst (λ (h : RecordFault). IsSeenWrong gds xs at remaining (Record h)) (sym i) (known (λ z. (let y : TooLong ≡ Truncated = i ∙ z in cc)) (λ z. (let y : TooLong ≡ Read = i ∙ z in cc)))
 
 -- one zero byte more after the end
-reads_zero : (xs : List ℕ) (at : ℕ) (b : Builder) (was : Option (List ℕ)) (rest : List ℕ) → ReadTo gds xs at (Holds b) was → b.place ≡ Fill → drop at xs ≡ 0 ∷ rest → at + 1 ≤ file_limit → ReadTo gds xs (at + 1) (Holds b) (Some rest)
+reads_zero : (xs : List ℕ) (at : ℕ) (b : Builder) (was : Option (List ℕ)) (rest : List ℕ)
+    → ReadTo gds xs at (Holds b) was → b.place ≡ Fill → drop at xs ≡ 0 ∷ rest → at + 1 ≤ file_limit
+    → ReadTo gds xs (at + 1) (Holds b) (Some rest)
 reads_zero xs at b was rest to e here limit =
     let stays : after b.place fill ≡ Some b.place = ap (λ p. after p fill) e ∙ ap (λ (p : Place). Some p) (sym e) in
     let holds : Holds b (to.records ++ a_fill ∷ []) = law_holds b b to.records a_fill to.holds stays (sym (plain fill [] (shown b) refl refl)) (record { version = refl; units = refl }) in
     reads_on gds xs at (Holds b) (Holds b) was to a_fill (0 ∷ []) rest here (inr (refl, refl)) (law_fill to.records (leads_begins (kinds (to.records ++ a_fill ∷ [])) b.place holds.leads)) (omega (arith, limit)) holds
 
 -- zero bytes after the end
-reads_zeros : (n : ℕ) (xs : List ℕ) (at : ℕ) (b : Builder) (was : Option (List ℕ)) (rest : List ℕ) → ReadTo gds xs at (Holds b) was → b.place ≡ Fill → drop at xs ≡ replicate n 0 ++ rest → at + n ≤ file_limit
+reads_zeros : (n : ℕ) (xs : List ℕ) (at : ℕ) (b : Builder) (was : Option (List ℕ)) (rest : List ℕ)
+    → ReadTo gds xs at (Holds b) was → b.place ≡ Fill → drop at xs ≡ replicate n 0 ++ rest → at + n ≤ file_limit
     → (left' : Option (List ℕ)) × ReadTo gds xs (at + n) (Holds b) left' × (drop (at + n) xs ≡ rest)
 reads_zeros zero xs at b was rest to e here limit =
     let z : at ≡ at + 0 = omega arith in
@@ -265,7 +294,8 @@ reads_zeros (suc n) xs at b was rest to e here limit =
     (more.0, subst (λ i. ReadTo gds xs i (Holds b) more.0) z more.1, subst (λ i. drop i xs ≡ rest) z more.2)
 
 -- the end of the input
-pub reads_all : (xs : List ℕ) (at : ℕ) (b : Builder) (was : Option (List ℕ)) → ReadTo gds xs at (Holds b) was → b.place ≡ Fill → drop at xs ≡ replicate (length (drop at xs)) 0 → at + length (drop at xs) ≤ file_limit
+pub reads_all : (xs : List ℕ) (at : ℕ) (b : Builder) (was : Option (List ℕ)) → ReadTo gds xs at (Holds b) was
+    → b.place ≡ Fill → drop at xs ≡ replicate (length (drop at xs)) 0 → at + length (drop at xs) ≤ file_limit
     → IsRead xs (done b) (record { version = b.version; units = b.units })
 reads_all xs at b was to e zeros limit =
     let more = reads_zeros (length (drop at xs)) xs at b was [] to e (zeros ∙ sym (append-nil (replicate (length (drop at xs)) 0))) limit in
@@ -286,11 +316,13 @@ drop_zeros : (n : ℕ) (ys : List ℕ) → drop n (replicate n 0 ++ ys) ≡ ys
 drop_zeros zero ys = refl
 drop_zeros (suc n) ys = drop_zeros n ys
 
-some_hand : (hand rest ys : List ℕ) (c : ℕ) → 0 < length hand → c ∷ rest ≡ hand ++ ys → (more : List ℕ) → (tail : List ℕ) × (hand ++ more ≡ c ∷ tail)
+some_hand : (hand rest ys : List ℕ) (c : ℕ) → 0 < length hand → c ∷ rest ≡ hand ++ ys → (more : List ℕ)
+    → (tail : List ℕ) × (hand ++ more ≡ c ∷ tail)
 some_hand [] rest ys c h e more = absurd (omega (arith, h))
 some_hand (i ∷ hand) rest ys c h e more = (let same : c ≡ i = cc in (hand ++ more, ap (λ j. j ∷ (hand ++ more)) (sym same)))
 
-only_other : (before : List Rec) (room : ℕ) (ys : List ℕ) → IsWhole before → 0 < room → (j : GdsKind) → IsWrong before room ys j → j ≡ AfterEnd
+only_other : (before : List Rec) (room : ℕ) (ys : List ℕ) → IsWhole before → 0 < room → (j : GdsKind)
+    → IsWrong before room ys j → j ≡ AfterEnd
 only_other before room ys w l (Record f) x = absurd (omega (arith, l, x.3 w))
 only_other before room ys w l AfterEnd x = refl
 only_other before room ys w l (Misplaced m) x = absurd (x.0 w)
@@ -299,7 +331,9 @@ only_other before room ys w l Name x = absurd (x.0 w)
 only_other before room ys w l TooManyCells x = absurd (x.0 w)
 
 -- another byte after the end
-pub reads_other : (xs : List ℕ) (at n : ℕ) (b : Builder) (was remaining : Option (List ℕ)) (c : ℕ) (rest hand : List ℕ) → ReadTo gds xs at (Holds b) was → b.place ≡ Fill → drop at xs ≡ replicate n 0 ++ (c ∷ rest) → c ≢ 0 → n < file_limit - at
+pub reads_other : (xs : List ℕ) (at n : ℕ) (b : Builder) (was remaining : Option (List ℕ)) (c : ℕ) (rest hand : List ℕ)
+    → ReadTo gds xs at (Holds b) was → b.place ≡ Fill → drop at xs ≡ replicate n 0 ++ (c ∷ rest) → c ≢ 0
+    → n < file_limit - at
     → 0 < length hand → prepend_known hand remaining ≡ Some (drop n (drop at xs)) → RefusesAt xs remaining (at + n) AfterEnd
 reads_other xs at n b was remaining c rest hand to e here other room some known =
     let more = reads_zeros n xs at b was (c ∷ rest) to e here (omega (arith, room)) in
@@ -321,7 +355,9 @@ reads_other xs at n b was remaining c rest hand to e here other room some known 
     }
 
 -- where the input passes the limit after the end
-pub reads_too_long : (xs : List ℕ) (at : ℕ) (b : Builder) (was remaining : Option (List ℕ)) (rest hand : List ℕ) → ReadTo gds xs at (Holds b) was → b.place ≡ Fill → at ≤ file_limit → drop at xs ≡ replicate (file_limit - at) 0 ++ rest
+pub reads_too_long : (xs : List ℕ) (at : ℕ) (b : Builder) (was remaining : Option (List ℕ)) (rest hand : List ℕ)
+    → ReadTo gds xs at (Holds b) was → b.place ≡ Fill → at ≤ file_limit
+    → drop at xs ≡ replicate (file_limit - at) 0 ++ rest
     → ((more : List ℕ) → step (file_limit - (at + (file_limit - at))) (hand ++ more) ≡ Err TooLong) → prepend_known hand remaining ≡ Some (drop (file_limit - at) (drop at xs)) → RefusesAt xs remaining (at + (file_limit - at)) (Record TooLong)
 reads_too_long xs at b was remaining rest hand to e limit here said known =
     let n = file_limit - at in
@@ -330,7 +366,9 @@ reads_too_long xs at b was remaining rest hand to e limit here said known =
     seen_fault xs (at + n) (Holds b) more.0 remaining hand TooLong more.1 (λ z. cc) (λ z. cc) (λ w. omega (arith, limit)) said (known ∙ ap (λ (i : List ℕ). Some i) after)
 
 -- where the reader failed after the end
-pub reads_failed : (xs : List ℕ) (at n : ℕ) (b : Builder) (was : Option (List ℕ)) (rest : List ℕ) → ReadTo gds xs at (Holds b) was → b.place ≡ Fill → drop at xs ≡ replicate n 0 ++ rest → n ≤ file_limit - at → at ≤ file_limit → IsFrontAt gds xs (at + n)
+pub reads_failed : (xs : List ℕ) (at n : ℕ) (b : Builder) (was : Option (List ℕ)) (rest : List ℕ)
+    → ReadTo gds xs at (Holds b) was → b.place ≡ Fill → drop at xs ≡ replicate n 0 ++ rest → n ≤ file_limit - at
+    → at ≤ file_limit → IsFrontAt gds xs (at + n)
 reads_failed xs at n b was rest to e here room limit =
     let more = reads_zeros n xs at b was rest to e here (omega (arith, room, limit)) in
     reads_front gds xs (at + n) (Holds b) more.0 more.1
@@ -341,16 +379,23 @@ breach_no_read before r (Record f) b = absurd b
 breach_no_read before r other b = refl
 
 -- a refusal by a fault and its offset
-pub refuses_by : (xs : List ℕ) (rest : Option (List ℕ)) (e : Refusal GdsFault) (offset at : ℕ) (k : GdsKind) → e ≡ Breach (record { offset = offset; kind = k }) → offset ≡ at → RefusesAt xs rest at k → Says e (Refuses xs rest)
-refuses_by xs rest e offset at k h o x = subst (λ (i : Refusal GdsFault). Says i (Refuses xs rest)) (sym h) (subst (λ i. RefusesAt xs rest i k) (sym o) x)
+pub refuses_by : (xs : List ℕ) (rest : Option (List ℕ)) (e : Refusal GdsFault) (offset at : ℕ) (k : GdsKind)
+    → e ≡ Breach (record { offset = offset; kind = k }) → offset ≡ at → RefusesAt xs rest at k
+    → Says e (Refuses xs rest)
+refuses_by xs rest e offset at k h o x =
+    subst (λ (i : Refusal GdsFault). Says i (Refuses xs rest)) (sym h) (subst (λ i. RefusesAt xs rest i k) (sym o) x)
 
 -- what a byte after the end says, once `tail` has answered it
-pub reads_after : (xs : List ℕ) (at n : ℕ) (b : Builder) (was remaining : Option (List ℕ)) (c : ℕ) (rest hand : List ℕ) → ReadTo gds xs at (Holds b) was → b.place ≡ Fill → drop at xs ≡ replicate n 0 ++ (c ∷ rest) → c ≢ 0 → n < file_limit - at
+pub reads_after : (xs : List ℕ) (at n : ℕ) (b : Builder) (was remaining : Option (List ℕ)) (c : ℕ) (rest hand : List ℕ)
+    → ReadTo gds xs at (Holds b) was → b.place ≡ Fill → drop at xs ≡ replicate n 0 ++ (c ∷ rest) → c ≢ 0
+    → n < file_limit - at
     → 0 < length hand → ((ys : List ℕ) → was ≡ Some ys → prepend_known hand remaining ≡ Some (drop n ys)) → RefusesAt xs remaining (at + n) AfterEnd
-reads_after xs at n b was remaining c rest hand to e here other room some left = reads_other xs at n b was remaining c rest hand to e here other room some (left (drop at xs) to.left_is)
+reads_after xs at n b was remaining c rest hand to e here other room some left =
+    reads_other xs at n b was remaining c rest hand to e here other room some (left (drop at xs) to.left_is)
 
 -- what a fault after the end says
-pub reads_tail : (xs : List ℕ) (at new : ℕ) (b : Builder) (was remaining : Option (List ℕ)) (hand : List ℕ) (f : RecordFault) → ReadTo gds xs at (Holds b) was → b.place ≡ Fill → at ≤ file_limit
+pub reads_tail : (xs : List ℕ) (at new : ℕ) (b : Builder) (was remaining : Option (List ℕ)) (hand : List ℕ) (f : RecordFault)
+    → ReadTo gds xs at (Holds b) was → b.place ≡ Fill → at ≤ file_limit
     → AnswersTail (Err (Fault f)) at new (file_limit - at) (drop at xs) → Decides f (file_limit - new) hand → ((ys : List ℕ) → was ≡ Some ys → prepend_known hand remaining ≡ Some (drop (new - at) ys)) → RefusesAt xs remaining new (Record f)
 reads_tail xs at new b was remaining hand TooLong to e limit x said left =
     let n : new - at ≡ file_limit - at = omega (arith, x.1) in

@@ -18,7 +18,8 @@ accepts [] [] = false
 accepts (a ∷ rs) [] = can_be_empty a || accepts rs []
 accepts rs (k ∷ w) = accepts (flat_map (λ a. after_first a k) rs) w
 
-empty_at : (a : Order) (rs : List Order) (b : Bool) → can_be_empty a ≡ b → can_be_empty a || accepts rs [] ≡ true → (accepts rs [] ≡ true → IsWordOfOne rs []) → IsWord a [] ⊎ IsWordOfOne rs []
+empty_at : (a : Order) (rs : List Order) (b : Bool) → can_be_empty a ≡ b → can_be_empty a || accepts rs [] ≡ true
+    → (accepts rs [] ≡ true → IsWordOfOne rs []) → IsWord a [] ⊎ IsWordOfOne rs []
 empty_at a rs true t e h = inl (empty_back a t)
 empty_at a rs false t e h = inr (h (rw t at e))
 
@@ -26,7 +27,8 @@ one_empty : (rs : List Order) → accepts rs [] ≡ true → IsWordOfOne rs []
 one_empty [] e = cc
 one_empty (a ∷ rs) e = empty_at a rs (can_be_empty a) refl e (one_empty rs)
 
-put_back : (rs : List Order) (k : ℕ) (w : List ℕ) → IsWordOfOne (flat_map (λ a. after_first a k) rs) w → IsWordOfOne rs (k ∷ w)
+put_back : (rs : List Order) (k : ℕ) (w : List ℕ) → IsWordOfOne (flat_map (λ a. after_first a k) rs) w
+    → IsWordOfOne rs (k ∷ w)
 put_back [] k w h = absurd h
 put_back (a ∷ rs) k w h = elim (of_one-append (after_first a k) (flat_map (λ a. after_first a k) rs) w h) [
   | inl x ↦ inl (first_put a k w x)

@@ -8,7 +8,8 @@ use Rattle.gds_elements.specs.Rules.{IsName, IsMisplacedAs, ValueBreaches}
 use Rattle.gds_library.specs.Order.{a_library}
 use Rattle.gds_library.specs.Rec.{pieces, last_piece}
 use Rattle.gds_library.specs.declared.fault.GdsKind.{GdsKind}
-use Rattle.gds_library.specs.declared.fault.GdsKind.TheVariants.{Record, Misplaced, Element, Name, AfterEnd, TooManyCells}
+use Rattle.gds_library.specs.declared.fault.GdsKind.TheVariants.{Record, Misplaced, Element, Name, AfterEnd}
+use Rattle.gds_library.specs.declared.fault.GdsKind.TheVariants.{TooManyCells}
 
 -- the greatest number of cells
 abbrev pub cell_limit : ℕ
@@ -29,7 +30,8 @@ Breaches before r (Misplaced m) = IsMisplacedAs (InOrder before r) r m
 Breaches before r (Element k) = InOrder before r × ValueBreaches (last_piece is_opener before) r k
 Breaches before r Name = InOrder before r × (r.kind ≡ strname) × ¬ IsName (name r.payload)
 Breaches before r AfterEnd = ⊥
-Breaches before r TooManyCells = InOrder before r × (r.kind ≡ bgnstr) × (cell_limit ≤ length (pieces (is_type bgnstr) before))
+Breaches before r TooManyCells =
+    InOrder before r × (r.kind ≡ bgnstr) × (cell_limit ≤ length (pieces (is_type bgnstr) before))
 
 -- it breaches no other rule
 abbrev pub BreachesOnly : List Rec → Rec → GdsKind → Type 0

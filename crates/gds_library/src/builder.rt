@@ -1,9 +1,9 @@
-//! The library of the records that stand outside of elements, and of what elements draw.
+//! The library of the records that are outside of elements, and of what elements draw.
 ghost use Rattle.std.specs.Prelude.{◌≡◌, ◌==◌, if◌then◌else◌, ◌<◌, [], pos, Some, None, IsTrue, ◌↔◌, OnOk, IfOk, IfErr, length};
 ghost use Rattle.gds_elements.specs.Types.{header, units};
 ghost use Rattle.gds_elements.specs.Values.{short};
 ghost use Rattle.lvl_refusal.specs.Refused.{Says};
-ghost use Rattle.gds_elements.specs.Reading.{shapes_in, references_in};
+ghost use Rattle.gds_elements.specs.inside.Reading.{shapes_in, references_in};
 ghost use Rattle.gds_library.specs.Values.{two_reals};
 ghost use Rattle.gds_library.specs.inside.Place.{after};
 ghost use Rattle.gds_library.specs.inside.Faults.{IsFormed, IsFault, IsAllowed};

@@ -258,7 +258,7 @@ fn cycle(rt: HostRuntime) -> Result<(), Fail> {
     Ok(())
 }
 
-/// A rule is named at the record that breaches it, whichever element it stands in.
+/// A rule is named at the record that breaches it, whichever element it is in.
 #[test]
 fn names_each_fault_where_it_stands(rt: HostRuntime) -> Result<(), Fail> {
     let rows: [(u8, u8, &[u8], GdsKind); 7] = [

@@ -1,4 +1,4 @@
-//! Where a reader stands in the order of records, outside of elements.
+//! Where a reader is in the order of records, outside of elements.
 ghost use Rattle.std.specs.Prelude.{◌≡◌, ◌==◌, if◌then◌else◌};
 ghost use Rattle.gds_library.specs.inside.Place.{after};
 
@@ -18,7 +18,7 @@ pub(crate) enum Place {
 }
 
 impl Place {
-    /// The place behind a record of this type, if one may stand here and opens no element.
+    /// The place after a record of this type, if one may come here and opens no element.
     pub(crate) fn after(self, kind: u8) -> Option<Place>
         ensures { result ≡ after self kind }
     {

@@ -1,8 +1,8 @@
 //! A library that is being read, record by record.
 ghost use Rattle.std.specs.Prelude.{◌≡◌, List, ℕ, [], IsTrue, ◌↔◌};
 ghost use Rattle.gds_elements.specs.Rec.{Rec};
-ghost use Rattle.gds_elements.specs.Reading.{record_of};
-ghost use Rattle.gds_elements.specs.Formed.{IsFormed as IsFormedInElement};
+ghost use Rattle.gds_elements.specs.inside.Reading.{record_of};
+ghost use Rattle.gds_elements.specs.inside.Formed.{IsFormed as IsFormedInElement};
 ghost use Rattle.gds_library.specs.inside.Faults.{IsFormed, lifted_refusal};
 ghost use Rattle.gds_library.specs.inside.Holds.{Holds, IsInside, HasRead, Takes};
 

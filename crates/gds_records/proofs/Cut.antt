@@ -1,30 +1,37 @@
 -- Where the bytes end in a record: `Truncated` is answered there, and only there.
-use Rattle.std.proofs.Common.{◌≡◌, ◌≢◌, ◌==◌, ℕ, ◌+◌, ◌*◌, ◌-◌, ◌<◌, ◌≤◌, ◌⊎◌, inl, inr, Bool, true, false, cond, nat_le, nat_lt, ◌&&◌, ◌||◌, ◌%◌, List, ◌++◌, length, drop, slice_index, Result, Ok, Err, None, Some, refl, sym, ap, ◌∙◌, arith, length-append, length-drop}
+use Rattle.std.proofs.Common.{◌≡◌, ◌≢◌, ◌==◌, ℕ, ◌+◌, ◌*◌, ◌-◌, ◌<◌, ◌≤◌, ◌⊎◌, inl, inr, Bool, true, false, cond}
+use Rattle.std.proofs.Common.{nat_le, nat_lt, ◌&&◌, ◌||◌, ◌%◌, List, ◌++◌, length, drop, slice_index, Result, Ok, Err}
+use Rattle.std.proofs.Common.{None, Some, refl, sym, ap, ◌∙◌, arith, length-append, length-drop}
 use Rattle.std.proofs.lemmas.List.{length-replicate}
 use Rattle.std.specs.Prelude.{Option, replicate}
 use Rattle.std.proofs.lemmas.Bool.Decides.{nat_tests}
 use Rattle.gds_records.specs.Table.{table, form_among, form_fault, allows}
 use Rattle.gds_records.specs.Step.{want, header, step, ◌>>=◌, header_fault, unless, OfHeader, HasByteLength}
 use Rattle.gds_records.specs.Spelled.{IsBegun, IsCut}
-use Rattle.gds_records.proofs.Steps.{header-append, step_end, step_goes, step_no_header, step_wants, want_had, want_short}
+use Rattle.gds_records.proofs.Steps.{header-append, step_end, step_goes, step_no_header, step_wants, want_had}
+use Rattle.gds_records.proofs.Steps.{want_short}
 use Rattle.gds_records.proofs.Laws.{header_ok, header_spelled, length_spelled, record_said, four, by_test, want_ok}
 use Rattle.gds_records.specs.declared.form.Form.{Form}
 use Rattle.gds_records.specs.declared.fault.RecordFault.{RecordFault}
-use Rattle.gds_records.specs.declared.fault.RecordFault.TheVariants.{Truncated, BadLength, BadDataType, UnknownRecord, TooLong, Read}
+use Rattle.gds_records.specs.declared.fault.RecordFault.TheVariants.{Truncated, BadLength, BadDataType, UnknownRecord}
+use Rattle.gds_records.specs.declared.fault.RecordFault.TheVariants.{TooLong, Read}
 
 -- no fault of a header is `Truncated`
 
-of_header_cond : (b : Bool) (f : RecordFault) (o : Option RecordFault) → OfHeader (Some f) → OfHeader o → OfHeader (cond b (Some f) o)
+of_header_cond : (b : Bool) (f : RecordFault) (o : Option RecordFault) → OfHeader (Some f) → OfHeader o
+    → OfHeader (cond b (Some f) o)
 of_header_cond true f o p q = p
 of_header_cond false f o p q = q
 
-of_header_else : (b : Bool) (f : RecordFault) (o : Option RecordFault) → OfHeader o → OfHeader (Some f) → OfHeader (cond b o (Some f))
+of_header_else : (b : Bool) (f : RecordFault) (o : Option RecordFault) → OfHeader o → OfHeader (Some f)
+    → OfHeader (cond b o (Some f))
 of_header_else true f o p q = p
 of_header_else false f o p q = q
 
 of_form : (o : Option Form) (d n : ℕ) → OfHeader (form_fault o d n)
 of_form None d n = tt
-of_form (Some f) d n = of_header_else (f.data_type == d) BadDataType _ (of_header_else (allows f.lengths n) BadLength None tt tt) tt
+of_form (Some f) d n =
+    of_header_else (f.data_type == d) BadDataType _ (of_header_else (allows f.lengths n) BadLength None tt tt) tt
 
 of_header : (len kind d : ℕ) → OfHeader (header_fault len kind d)
 of_header len kind d =
@@ -44,12 +51,14 @@ header_whole xs e =
 
 -- where `Truncated` came from
 
-bind_err : {A B : Type 0} (r : Result A RecordFault) (f : A → Result B RecordFault) (g : RecordFault) → (r >>= f) ≡ Err g
+bind_err : {A B : Type 0} (r : Result A RecordFault) (f : A → Result B RecordFault) (g : RecordFault)
+    → (r >>= f) ≡ Err g
     → (r ≡ Err g) ⊎ ((x : A) × (r ≡ Ok x) × (f x ≡ Err g))
 bind_err (Ok x) f g e = inr (x, refl, e)
 bind_err (Err h) f g e = inl (let k : Err h ≡ Err g = e in cc)
 
-chosen_truncated : (a b : Bool) (n : ℕ) → cond a (Ok n) (cond b (Err Truncated) (Err TooLong)) ≡ Err Truncated → (a ≡ false) × (b ≡ true)
+chosen_truncated : (a b : Bool) (n : ℕ) → cond a (Ok n) (cond b (Err Truncated) (Err TooLong)) ≡ Err Truncated
+    → (a ≡ false) × (b ≡ true)
 chosen_truncated true b n e = absurd (let h : Ok n ≡ Err Truncated = e in cc)
 chosen_truncated false true n e = (refl, refl)
 chosen_truncated false false n e = absurd (let h : Err TooLong ≡ Err Truncated = e in cc)
@@ -62,7 +71,8 @@ want_truncated n room xs e =
     (grind (arith, nat_tests, p.0, fits), fits)
 
 -- a whole header isn't cut
-pub header_stands : (room : ℕ) (xs : List ℕ) (e : RecordFault) → e ≡ Truncated → (e ≢ Read → want 4 room xs ≡ Err e) → 4 ≤ length xs → ⊥
+pub header_stands : (room : ℕ) (xs : List ℕ) (e : RecordFault) → e ≡ Truncated → (e ≢ Read → want 4 room xs ≡ Err e)
+    → 4 ≤ length xs → ⊥
 header_stands room xs e is h long =
     let w = want_truncated 4 room xs (h (λ r. let k : Truncated ≡ Read = sym is ∙ r in cc) ∙ ap Err is) in
     omega arith
@@ -85,7 +95,8 @@ begun n xs e bytes long short =
     }
 
 -- `Truncated` comes only where all bytes left are the beginning of a record
-pub law_truncated : (room : ℕ) (xs : List ℕ) → step room xs ≡ Err Truncated → (4 ≤ length xs → HasByteLength xs) → (length xs ≤ room) × IsCut xs
+pub law_truncated : (room : ℕ) (xs : List ℕ) → step room xs ≡ Err Truncated → (4 ≤ length xs → HasByteLength xs)
+    → (length xs ≤ room) × IsCut xs
 law_truncated room xs e bytes = elim (by_test (nat_le 1 (length xs))) [
   | inr none ↦ absurd (let h : Ok 0 ≡ Err Truncated = sym (step_end room xs (sym none)) ∙ e in cc)
   | inl some ↦

@@ -1,5 +1,6 @@
 -- Faults that hold whatever comes after the bytes that were seen.
-use Rattle.std.proofs.Common.{◌≡◌, ℕ, ◌+◌, ◌<◌, ◌≤◌, true, nat_le, List, ◌++◌, length, take, Result, Ok, Err, IfErr, refl, ap, ◌∙◌, arith, length-append, length-take}
+use Rattle.std.proofs.Common.{◌≡◌, ℕ, ◌+◌, ◌<◌, ◌≤◌, true, nat_le, List, ◌++◌, length, take, Result, Ok, Err, IfErr}
+use Rattle.std.proofs.Common.{refl, ap, ◌∙◌, arith, length-append, length-take}
 use Rattle.std.proofs.lemmas.Bool.Decides.{nat_tests}
 use Rattle.gds_records.specs.Step.{header, Decides, IsUnhad}
 use Rattle.gds_records.specs.declared.fault.RecordFault.{RecordFault}
@@ -12,7 +13,8 @@ at_least n xs ys h =
     grind (arith, nat_tests)
 
 -- no room for a header
-pub seen_header : (f : RecordFault) (room : ℕ) (ahead : List ℕ) → IsUnhad f → (f ≡ TooLong → (room < 4) × (room < length ahead)) → Decides f room ahead
+pub seen_header : (f : RecordFault) (room : ℕ) (ahead : List ℕ) → IsUnhad f
+    → (f ≡ TooLong → (room < 4) × (room < length ahead)) → Decides f room ahead
 seen_header Truncated room ahead u h = λ t r more. absurd (t refl)
 seen_header Read room ahead u h = λ t r more. absurd (r refl)
 seen_header TooLong room ahead u h = λ t r more.
@@ -22,13 +24,15 @@ seen_header TooLong room ahead u h = λ t r more.
 seen_header f room ahead u h = absurd u
 
 -- a header with a fault
-pub seen_bad : (f : RecordFault) (room : ℕ) (ahead : List ℕ) → 4 ≤ length ahead → 4 ≤ room → header ahead ≡ Err f → Decides f room ahead
+pub seen_bad : (f : RecordFault) (room : ℕ) (ahead : List ℕ) → 4 ≤ length ahead → 4 ≤ room → header ahead ≡ Err f
+    → Decides f room ahead
 seen_bad f room ahead long fits h = λ t r more.
     step_bad_header room (ahead ++ more) 4 f (at_least 1 ahead more (omega (arith, long))) (want_had 4 4 room (ahead ++ more) (at_least 4 ahead more long) (omega arith) fits)
     (header-append ahead more long ∙ h)
 
 -- no room for a payload
-seen_payload : (f : RecordFault) (room n : ℕ) (ahead : List ℕ) → 4 ≤ length ahead → 4 ≤ room → header ahead ≡ Ok n → IsUnhad f → (f ≡ TooLong → (room < n) × (room < length ahead)) → Decides f room ahead
+seen_payload : (f : RecordFault) (room n : ℕ) (ahead : List ℕ) → 4 ≤ length ahead → 4 ≤ room → header ahead ≡ Ok n
+    → IsUnhad f → (f ≡ TooLong → (room < n) × (room < length ahead)) → Decides f room ahead
 seen_payload Truncated room n ahead long fits e u h = λ t r more. absurd (t refl)
 seen_payload Read room n ahead long fits e u h = λ t r more. absurd (r refl)
 seen_payload TooLong room n ahead long fits e u h = λ t r more.
@@ -37,7 +41,8 @@ seen_payload TooLong room n ahead long fits e u h = λ t r more.
     ∙ want_long n (room + 1) room (ahead ++ more) (at_least (room + 1) ahead more (omega (arith, b.1))) (omega arith) (omega (arith, b.0))
 seen_payload f room n ahead long fits e u h = absurd u
 
-pub seen_last : (res : Result ℕ RecordFault) (room n : ℕ) (old ahead : List ℕ) → take (length old) ahead ≡ old → 4 ≤ length old → 4 ≤ room → header ahead ≡ Ok n
+pub seen_last : (res : Result ℕ RecordFault) (room n : ℕ) (old ahead : List ℕ) → take (length old) ahead ≡ old
+    → 4 ≤ length old → 4 ≤ room → header ahead ≡ Ok n
     → IfErr res IsUnhad → (res ≡ Err TooLong → (room < n) × (room < length ahead)) → IfErr res (λ f. Decides f room ahead)
 seen_last (Ok m) room n old ahead front long fits e u h = tt
 seen_last (Err f) room n old ahead front long fits e u h =

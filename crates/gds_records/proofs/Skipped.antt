@@ -1,5 +1,7 @@
 -- Zero bytes at the front: how far they go, and that they add up while more bytes are read.
-use Rattle.std.proofs.Common.{◌≡◌, ◌≢◌, ◌==◌, ℕ, zero, suc, ◌+◌, ◌<◌, ◌≤◌, inl, inr, Bool, true, false, cond, nat_le, List, [], ◌∷◌, ◌++◌, length, drop, Some, refl, sym, ap, ◌∙◌, subst, arith, append_assoc, one-add, length-append}
+use Rattle.std.proofs.Common.{◌≡◌, ◌≢◌, ◌==◌, ℕ, zero, suc, ◌+◌, ◌<◌, ◌≤◌, inl, inr, Bool, true, false, cond, nat_le}
+use Rattle.std.proofs.Common.{List, [], ◌∷◌, ◌++◌, length, drop, Some, refl, sym, ap, ◌∙◌, subst, arith, append_assoc}
+use Rattle.std.proofs.Common.{one-add, length-append}
 use Rattle.std.specs.Prelude.{Option, replicate}
 use Rattle.std.specs.List.{prefix_len}
 use Rattle.std.specs.Io.KnownBytes.{prepend_known}
@@ -25,7 +27,7 @@ zeros_front (suc n) (x ∷ xs) h = elim (by_test (x == 0)) [
   | inr other ↦ absurd (let h2 : suc n ≤ 0 = (rw other at h) in omega arith)
 ]
 
--- behind all of them no zero byte is first
+-- after all of them no zero byte is first
 pub zeros_stop : (xs : List ℕ) → IsNoZeroFirst (drop (prefix_len (λ b. b == 0) xs) xs)
 zeros_stop [] = tt
 zeros_stop (x ∷ xs) = stop_at (x == 0) x xs refl (zeros_stop xs)
@@ -43,7 +45,8 @@ pub takes_read : (n : ℕ) (a b c : Option (List ℕ)) → Takes n a b → Stays
 takes_read n a b c t s = λ xs k. let p = t xs k in (p.0, s p.0 p.1, p.2)
 
 -- m more that were ahead
-pub takes_more : (n m : ℕ) (a rest : Option (List ℕ)) (old new : List ℕ) → Takes n a (prepend_known old rest) → old ≡ replicate m 0 ++ new
+pub takes_more : (n m : ℕ) (a rest : Option (List ℕ)) (old new : List ℕ) → Takes n a (prepend_known old rest)
+    → old ≡ replicate m 0 ++ new
     → Takes (n + m) a (prepend_known new rest)
 takes_more n m a rest old new t e = λ xs k.
     let p = t xs k in
@@ -58,7 +61,8 @@ no_bytes [] h = refl
 no_bytes (x ∷ xs) h = absurd (let k : length (x ∷ xs) < 1 = grind (arith, nat_tests) in omega arith)
 
 -- the input ends
-pub takes_end : (n room : ℕ) (a b c : Option (List ℕ)) → Takes n a b → Stays b c → ((left : List ℕ) → b ≡ Some left → false ≡ nat_le 1 (length left))
+pub takes_end : (n room : ℕ) (a b c : Option (List ℕ)) → Takes n a b → Stays b c
+    → ((left : List ℕ) → b ≡ Some left → false ≡ nat_le 1 (length left))
     → TakesZeros Nothing n room a c
 takes_end n room a b c t s e = λ xs k. let p = t xs k in (p.0, s p.0 p.1, p.2, no_bytes p.0 (e p.0 p.1))
 
@@ -66,14 +70,16 @@ no_zero_append : (xs ys : List ℕ) → 0 < length xs → IsNoZeroFirst xs → I
 no_zero_append [] ys h p = absurd (omega arith)
 no_zero_append (x ∷ xs) ys h p = p
 
-pub takes_another : (n room : ℕ) (a rest : Option (List ℕ)) (ahead : List ℕ) → Takes n a (prepend_known ahead rest) → 0 < length ahead → n < room → IsNoZeroFirst ahead
+pub takes_another : (n room : ℕ) (a rest : Option (List ℕ)) (ahead : List ℕ) → Takes n a (prepend_known ahead rest)
+    → 0 < length ahead → n < room → IsNoZeroFirst ahead
     → TakesZeros Another n room a (prepend_known ahead rest)
 takes_another n room a rest ahead t some less first = λ xs k.
     let p = t xs k in
     let q = known_parts ahead rest p.0 p.1 in
     (p.0, p.1, p.2, (less, omega (arith, ap length q.2, length-append ahead q.0), subst IsNoZeroFirst q.2 (no_zero_append ahead q.0 some first)))
 
-pub takes_too_long : (n room : ℕ) (a rest : Option (List ℕ)) (ahead : List ℕ) → Takes n a (prepend_known ahead rest) → 0 < length ahead → n ≡ room
+pub takes_too_long : (n room : ℕ) (a rest : Option (List ℕ)) (ahead : List ℕ) → Takes n a (prepend_known ahead rest)
+    → 0 < length ahead → n ≡ room
     → TakesZeros Limit n room a (prepend_known ahead rest)
 takes_too_long n room a rest ahead t some is = λ xs k.
     let p = t xs k in
@@ -82,23 +88,27 @@ takes_too_long n room a rest ahead t some is = λ xs k.
 
 -- zero bytes up to the limit and beyond leave one answer
 
-other_within : (n room b : ℕ) (rest more : List ℕ) → n < room → b ≢ 0 → replicate n 0 ++ (b ∷ rest) ≡ replicate room 0 ++ more → ⊥
+other_within : (n room b : ℕ) (rest more : List ℕ) → n < room → b ≢ 0
+    → replicate n 0 ++ (b ∷ rest) ≡ replicate room 0 ++ more → ⊥
 other_within n zero b rest more less ne e = omega arith
 other_within zero (suc room) b rest more less ne e = ne (let k : b ∷ rest ≡ 0 ∷ (replicate room 0 ++ more) = e in cc)
 other_within (suc n) (suc room) b rest more less ne e =
     other_within n room b rest more (omega arith) ne (let k : 0 ∷ (replicate n 0 ++ (b ∷ rest)) ≡ 0 ∷ (replicate room 0 ++ more) = e in cc)
 
 -- where the bytes pass the limit and those within it are zero, zero bytes don't stop before it
-pub nothing_passes : (a : After) (n room : ℕ) (old new : Option (List ℕ)) (xs : List ℕ) → a ≡ Nothing → TakesZeros a n room old new → old ≡ Some xs → n ≤ room → PassesLimit room xs → ⊥
+pub nothing_passes : (a : After) (n room : ℕ) (old new : Option (List ℕ)) (xs : List ℕ) → a ≡ Nothing
+    → TakesZeros a n room old new → old ≡ Some xs → n ≤ room → PassesLimit room xs → ⊥
 nothing_passes a n room old new xs e t k fits p =
     let left = subst (λ i. TakesZeros i n room old new) e t xs k in
     omega (arith, p.1, ap length (sym p.2 ∙ left.2), ap length left.3, length-append (replicate room 0) p.0, length-append (replicate n 0) left.0, length-replicate {A = ℕ})
 
-another_stops : (n room : ℕ) (xs left more : List ℕ) → xs ≡ replicate n 0 ++ left → n < room → 0 < length left → IsNoZeroFirst left → xs ≡ replicate room 0 ++ more → ⊥
+another_stops : (n room : ℕ) (xs left more : List ℕ) → xs ≡ replicate n 0 ++ left → n < room → 0 < length left
+    → IsNoZeroFirst left → xs ≡ replicate room 0 ++ more → ⊥
 another_stops n room xs [] more e less some ne p = omega (arith, some)
 another_stops n room xs (b ∷ rest) more e less some ne p = other_within n room b rest more less ne (sym e ∙ p)
 
-pub another_passes : (a : After) (n room : ℕ) (old new : Option (List ℕ)) (xs : List ℕ) → a ≡ Another → TakesZeros a n room old new → old ≡ Some xs → PassesLimit room xs → ⊥
+pub another_passes : (a : After) (n room : ℕ) (old new : Option (List ℕ)) (xs : List ℕ) → a ≡ Another
+    → TakesZeros a n room old new → old ≡ Some xs → PassesLimit room xs → ⊥
 another_passes a n room old new xs e t k p =
     let left = subst (λ i. TakesZeros i n room old new) e t xs k in
     another_stops n room xs left.0 p.0 left.2 left.3.0 left.3.1 left.3.2 p.2

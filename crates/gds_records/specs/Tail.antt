@@ -1,5 +1,6 @@
 -- What `tail` answers: zero bytes alone are taken, up to the end, another byte, or the limit of a file.
-use Rattle.std.specs.Prelude.{◌≡◌, ◌≢◌, Bool, true, false, ℕ, ◌+◌, ◌<◌, ◌≤◌, List, [], ◌∷◌, ◌++◌, length, replicate, Option, Some, None, Result, Ok, Err}
+use Rattle.std.specs.Prelude.{◌≡◌, ◌≢◌, Bool, true, false, ℕ, ◌+◌, ◌<◌, ◌≤◌, List, [], ◌∷◌, ◌++◌, length, replicate}
+use Rattle.std.specs.Prelude.{Option, Some, None, Result, Ok, Err}
 use Rattle.gds_records.specs.declared.fault.RecordFault.TheVariants.{TooLong, Read}
 use Rattle.gds_records.specs.declared.fault.Stopped.{Stopped}
 use Rattle.gds_records.specs.declared.fault.Stopped.TheVariants.{Fault}
@@ -10,7 +11,7 @@ use Rattle.gds_records.specs.declared.zeros.After.TheVariants.{Nothing, Another,
 abbrev pub AreZeros : List ℕ → Type 0
 AreZeros xs = xs ≡ replicate (length xs) 0
 
--- behind n zero bytes stands another byte
+-- after n zero bytes is another byte
 abbrev pub IsFirstOther : ℕ → List ℕ → Type 0
 IsFirstOther n xs = (b : ℕ) × (rest : List ℕ) × (b ≢ 0) × (xs ≡ replicate n 0 ++ (b ∷ rest))
 
@@ -24,7 +25,8 @@ abbrev pub AnswersTail : Result (Option ℕ) Stopped → ℕ → ℕ → ℕ →
 AnswersTail (Ok None) old new room xs = AreZeros xs × (length xs ≤ room) × (new ≡ old + length xs)
 AnswersTail (Ok (Some at)) old new room xs = (n : ℕ) × (n < room) × IsFirstOther n xs × (at ≡ old + n) × (new ≡ at)
 AnswersTail (Err (Fault TooLong)) old new room xs = PassesLimit room xs × (new ≡ old + room)
-AnswersTail (Err (Fault Read)) old new room xs = (n : ℕ) × (rest : List ℕ) × (n ≤ room) × (xs ≡ replicate n 0 ++ rest) × (new ≡ old + n)
+AnswersTail (Err (Fault Read)) old new room xs =
+    (n : ℕ) × (rest : List ℕ) × (n ≤ room) × (xs ≡ replicate n 0 ++ rest) × (new ≡ old + n)
 AnswersTail (Err e) old new room xs = ⊥
 
 -- the first byte, if there is one, isn't zero

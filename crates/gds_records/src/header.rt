@@ -21,7 +21,7 @@ const REALS: u8 = 5;
 /// Text.
 const ASCII: u8 = 6;
 
-/// Record types stand below this (own rule).
+/// Record types are below this (own rule).
 const TYPES: u8 = 60;
 
 // The form of a record type, if it is a known one.
@@ -89,7 +89,7 @@ fn header_fault(len: u16, kind: u8, data_type: u8) -> Option<RecordFault>
     form_fault(form_of(kind), data_type, len - 4)
 }
 
-// The length of the record whose header stands at the front.
+// The length of the record whose header is at the front.
 pub(crate) fn record_len(bytes: &[u8]) -> Result<usize, RecordFault>
     requires { 4 ≤ length bytes.now }
     ensures exact { Gives result (header bytes.now) }

@@ -1,14 +1,11 @@
 -- Orders that end in a type and then in another alone, as zero bytes after the end of a file.
-use Rattle.std.proofs.Common.{◌≡◌, ◌≢◌, ◌==◌, ◌||◌, ℕ, Bool, true, false, List, [], ◌∷◌, ◌++◌, refl, sym, ap, ◌∙◌, subst, append_assoc, inl, inr}
+use Rattle.std.proofs.Common.{◌≡◌, ◌≢◌, ◌==◌, ◌||◌, ℕ, Bool, true, false, List, [], ◌∷◌, ◌++◌, refl, sym, ap, ◌∙◌}
+use Rattle.std.proofs.Common.{subst, append_assoc, inl, inr}
 use Rattle.std.proofs.lemmas.List.{append-nil}
 use Rattle.std.specs.List.{AllByRecursion, flat_map}
 use Rattle.lvl_grammar.specs.Order.{Order, nothing, one, next, either, many, IsWord, Begins, has}
 use Rattle.lvl_grammar.specs.inside.After.{seq}
 use Rattle.lvl_grammar.proofs.Orders.{seq_back, seq_word, same_type}
-
--- a word with less behind it
-pub begins_less : (a : Order) (w v : List ℕ) → Begins a (w ++ v) → Begins a w
-begins_less a w v g = (v ++ g.0, subst (IsWord a) (append_assoc w v g.0) g.1)
 
 -- a type is nowhere in a list
 abbrev pub Lacks : ℕ → List ℕ → Type 0
@@ -30,7 +27,8 @@ pub all_right : (P : ℕ → Type 0) (u v : List ℕ) → AllByRecursion P (u ++
 all_right P [] v p = p
 all_right P (x ∷ u) v p = all_right P u v p.1
 
-all_flat : (P : ℕ → Type 0) (Q : List ℕ → Type 0) → ((u : List ℕ) → Q u → AllByRecursion P u) → (ws : List (List ℕ)) → AllByRecursion Q ws → AllByRecursion P (flat_map (λ u. u) ws)
+all_flat : (P : ℕ → Type 0) (Q : List ℕ → Type 0) → ((u : List ℕ) → Q u → AllByRecursion P u) → (ws : List (List ℕ))
+    → AllByRecursion Q ws → AllByRecursion P (flat_map (λ u. u) ws)
 all_flat P Q h [] p = tt
 all_flat P Q h (w ∷ ws) p = all_append P w (flat_map (λ u. u) ws) (h w p.0) (all_flat P Q h ws p.1)
 
@@ -51,7 +49,8 @@ word_lacks (next a b) k w n h =
 word_lacks (either a b) k w n h =
     let p = neither (has a k) (has b k) n in
     elim h [ inl x ↦ word_lacks a k w p.0 x | inr y ↦ word_lacks b k w p.1 y ]
-word_lacks (many a) k w n h = subst (Lacks k) (sym h.2) (all_flat (λ x. x ≢ k) (IsWord a) (λ u. word_lacks a k u n) h.0 h.1)
+word_lacks (many a) k w n h =
+    subst (Lacks k) (sym h.2) (all_flat (λ x. x ≢ k) (IsWord a) (λ u. word_lacks a k u n) h.0 h.1)
 
 repeats_one : (f : ℕ) (u : List ℕ) → IsWord (one f) u → Repeats f u
 repeats_one f u h = subst (Repeats f) (sym h) (refl, tt)
@@ -80,7 +79,8 @@ parts_of a e f w h =
     (p.0, q.1, p.2, word_repeats f q.1 q.3, p.4 ∙ ap (λ l. p.0 ++ l) (q.4 ∙ ap (λ l. l ++ q.1) q.2))
 
 put_parts : (a : Order) (e f : ℕ) (u v : List ℕ) → IsWord a u → Repeats f v → IsWord (ends a e f) (u ++ (e ∷ v))
-put_parts a e f u v p q = seq_word a (next (one e) (many (one f))) u (e ∷ v) p (e ∷ [], v, refl, repeats_word f v q, refl)
+put_parts a e f u v p q =
+    seq_word a (next (one e) (many (one f))) u (e ∷ v) p (e ∷ [], v, refl, repeats_word f v q, refl)
 
 -- the first e of a list stands in one place
 first_once : (e : ℕ) (x x' y y' : List ℕ) → Lacks e x → Lacks e x' → x ++ (e ∷ y) ≡ x' ++ (e ∷ y') → y ≡ y'
@@ -90,7 +90,8 @@ first_once e (i ∷ x) [] y y' p q h = absurd (p.0 (let g : i ≡ e = cc in g))
 first_once e (i ∷ x) (j ∷ x') y y' p q h = (let g : x ++ (e ∷ y) ≡ x' ++ (e ∷ y') = cc in first_once e x x' y y' p.1 q.1 g)
 
 -- an f stands behind the e that ends the list before
-behind : (e f : ℕ) (w more u v : List ℕ) → f ≢ e → Lacks f u → w ++ (f ∷ more) ≡ u ++ (e ∷ v) → (z : List ℕ) × (w ≡ u ++ (e ∷ z)) × (v ≡ z ++ (f ∷ more))
+behind : (e f : ℕ) (w more u v : List ℕ) → f ≢ e → Lacks f u → w ++ (f ∷ more) ≡ u ++ (e ∷ v)
+    → (z : List ℕ) × (w ≡ u ++ (e ∷ z)) × (v ≡ z ++ (f ∷ more))
 behind e f [] more [] v n p h = absurd (n (let g : f ≡ e = cc in g))
 behind e f (i ∷ w) more [] v n p h =
     let g : i ≡ e = cc in
@@ -104,14 +105,16 @@ behind e f (i ∷ w) more (j ∷ u) v n p h =
     (q.0, ap (λ k. k ∷ w) g ∙ ap (λ l. j ∷ l) q.1, q.2)
 
 -- where f may come, what stands before is a word, in parts
-before_fill : (a : Order) (e f : ℕ) (w : List ℕ) → has a f ≡ false → f ≢ e → Begins (ends a e f) (w ++ f ∷ []) → Parts a e f w
+before_fill : (a : Order) (e f : ℕ) (w : List ℕ) → has a f ≡ false → f ≢ e → Begins (ends a e f) (w ++ f ∷ [])
+    → Parts a e f w
 before_fill a e f w nf n g =
     let p = parts_of a e f (w ++ (f ∷ g.0)) (subst (IsWord (ends a e f)) (append_assoc w (f ∷ []) g.0) g.1) in
     let q = behind e f w g.0 p.0 p.1 n (word_lacks a f p.0 nf p.2) p.4 in
     (p.0, q.0, p.2, all_left (λ x. x ≡ f) q.0 (f ∷ g.0) (subst (Repeats f) q.2 p.3), q.1)
 
 -- where f may come, no other type may
-pub fill_alone : (a : Order) (e f k : ℕ) (w : List ℕ) → has a e ≡ false → has a f ≡ false → f ≢ e → Begins (ends a e f) (w ++ f ∷ []) → Begins (ends a e f) (w ++ k ∷ []) → k ≡ f
+pub fill_alone : (a : Order) (e f k : ℕ) (w : List ℕ) → has a e ≡ false → has a f ≡ false → f ≢ e
+    → Begins (ends a e f) (w ++ f ∷ []) → Begins (ends a e f) (w ++ k ∷ []) → k ≡ f
 fill_alone a e f k w ne nf n g h =
     let p = before_fill a e f w nf n g in
     let q = parts_of a e f (w ++ (k ∷ h.0)) (subst (IsWord (ends a e f)) (append_assoc w (k ∷ []) h.0) h.1) in
@@ -120,7 +123,8 @@ fill_alone a e f k w ne nf n g h =
     (all_right (λ x. x ≡ f) p.1 (k ∷ h.0) (subst (Repeats f) (sym rest) q.3)).0
 
 -- where f may come, the word is whole
-pub fill_ends : (a : Order) (e f : ℕ) (w : List ℕ) → has a f ≡ false → f ≢ e → Begins (ends a e f) (w ++ f ∷ []) → IsWord (ends a e f) w
+pub fill_ends : (a : Order) (e f : ℕ) (w : List ℕ) → has a f ≡ false → f ≢ e → Begins (ends a e f) (w ++ f ∷ [])
+    → IsWord (ends a e f) w
 fill_ends a e f w nf n g =
     let p = before_fill a e f w nf n g in
     subst (IsWord (ends a e f)) (sym p.4) (put_parts a e f p.0 p.1 p.2 p.3)

@@ -1,5 +1,6 @@
 -- What a format has to prove, and one reading: of two fronts that agree one is the other's beginning.
-use Rattle.std.proofs.Common.{◌≡◌, ℕ, ◌<◌, ◌≤◌, ◌⊎◌, List, [], ◌∷◌, ◌++◌, length, refl, sym, ap, ◌∙◌, subst, append_assoc, inl, inr, arith, length-append}
+use Rattle.std.proofs.Common.{◌≡◌, ℕ, ◌<◌, ◌≤◌, ◌⊎◌, List, [], ◌∷◌, ◌++◌, length, refl, sym, ap, ◌∙◌, subst}
+use Rattle.std.proofs.Common.{append_assoc, inl, inr, arith, length-append}
 use Rattle.std.proofs.lemmas.List.{append-nil, append_cancel_left}
 use Rattle.lvl_io.specs.Known.{Agree}
 use Rattle.lvl_grammar.specs.Grammar.{Grammar}
@@ -8,15 +9,18 @@ use Rattle.lvl_grammar.specs.Front.{SpellsAll, FollowAll, IsFront, SpellsWhole}
 -- what a format has to prove
 pub record IsGrammar {R K : Type 0} (G : Grammar R K) : Type 0 where
   -- after the same records, bytes that begin alike spell the same record by the same bytes
-  pub decided : (before : List R) (r s : R) (a b x y : List ℕ) → G.spells before a r → G.spells before b s → G.follows before r → G.follows before s → a ++ x ≡ b ++ y → (a ≡ b) × (r ≡ s)
+  pub decided : (before : List R) (r s : R) (a b x y : List ℕ) → G.spells before a r → G.spells before b s
+      → G.follows before r → G.follows before s → a ++ x ≡ b ++ y → (a ≡ b) × (r ≡ s)
   -- a record has some bytes
   pub some : (before : List R) (a : List ℕ) (r : R) → G.spells before a r → 0 < length a
   -- a rule is breached by some bytes
   pub here : (before : List R) (room : ℕ) (ys : List ℕ) (k : K) → G.wrong before room ys k → 0 < length ys
   -- where a rule is breached there is no record that may follow
-  pub stops : (before : List R) (room : ℕ) (ys text : List ℕ) (r : R) (k : K) → G.wrong before room ys k → G.spells before text r → G.follows before r → Agree text ys → length text ≤ room → ⊥
+  pub stops : (before : List R) (room : ℕ) (ys text : List ℕ) (r : R) (k : K) → G.wrong before room ys k
+      → G.spells before text r → G.follows before r → Agree text ys → length text ≤ room → ⊥
   -- nor where a file that isn't whole ends in the beginning of a record
-  pub cut : (before : List R) (ys text rest : List ℕ) (r : R) → G.begun before ys → ¬ G.ends before → G.spells before text r → G.follows before r → ys ≡ text ++ rest → ⊥
+  pub cut : (before : List R) (ys text rest : List ℕ) (r : R) → G.begun before ys → ¬ G.ends before
+      → G.spells before text r → G.follows before r → ys ≡ text ++ rest → ⊥
 
 -- the second front goes on from the first
 pub record GoesOn {R K : Type 0} (G : Grammar R K) (before : List R) (a b : List ℕ) (rs ss : List R) : Type 0 where
@@ -27,7 +31,8 @@ pub record GoesOn {R K : Type 0} (G : Grammar R K) (before : List R) (a b : List
   pub spelled : SpellsAll G (before ++ rs) tail more
   pub followed : FollowAll G (before ++ rs) more
 
-from_nothing : {R K : Type 0} (G : Grammar R K) (before : List R) (a b : List ℕ) (ss : List R) → a ≡ [] → SpellsAll G before b ss → FollowAll G before ss → GoesOn G before a b [] ss
+from_nothing : {R K : Type 0} (G : Grammar R K) (before : List R) (a b : List ℕ) (ss : List R) → a ≡ []
+    → SpellsAll G before b ss → FollowAll G before ss → GoesOn G before a b [] ss
 from_nothing G before a b ss e p f = record {
   more = ss;
   tail = b;
@@ -37,7 +42,9 @@ from_nothing G before a b ss e p f = record {
   followed = subst (λ l. FollowAll G l ss) (sym (append-nil before)) f;
 }
 
-one_more : {R K : Type 0} (G : Grammar R K) (before : List R) (r : R) (first a b a' b' : List ℕ) (rs ss : List R) → a' ≡ first ++ a → b' ≡ first ++ b → GoesOn G (before ++ r ∷ []) a b rs ss → GoesOn G before a' b' (r ∷ rs) (r ∷ ss)
+one_more : {R K : Type 0} (G : Grammar R K) (before : List R) (r : R) (first a b a' b' : List ℕ) (rs ss : List R)
+    → a' ≡ first ++ a → b' ≡ first ++ b → GoesOn G (before ++ r ∷ []) a b rs ss
+    → GoesOn G before a' b' (r ∷ rs) (r ∷ ss)
 one_more G before r first a b a' b' rs ss e f h = record {
   more = h.more;
   tail = h.tail;
@@ -66,23 +73,28 @@ one_reading G is before (r ∷ rs) (s ∷ ss) a b x y p f q g e =
     ])
 
 -- no bytes spell no record
-pub spells_empty : {R K : Type 0} (G : Grammar R K) → IsGrammar G → (before : List R) (bytes : List ℕ) (rs : List R) → length bytes ≡ 0 → SpellsAll G before bytes rs → rs ≡ []
+pub spells_empty : {R K : Type 0} (G : Grammar R K) → IsGrammar G → (before : List R) (bytes : List ℕ) (rs : List R)
+    → length bytes ≡ 0 → SpellsAll G before bytes rs → rs ≡ []
 spells_empty G is before bytes [] n p = refl
-spells_empty G is before bytes (r ∷ rs) n p = absurd (omega (arith, n, is.some before p.0 r p.2, ap length p.4, length-append p.0 p.1))
+spells_empty G is before bytes (r ∷ rs) n p =
+    absurd (omega (arith, n, is.some before p.0 r p.2, ap length p.4, length-append p.0 p.1))
 
 -- a front that goes on from another that is no shorter has the same records
-pub goes_same : {R K : Type 0} (G : Grammar R K) → IsGrammar G → (a b : List ℕ) (rs ss : List R) → length b ≤ length a → GoesOn G [] a b rs ss → ss ≡ rs
+pub goes_same : {R K : Type 0} (G : Grammar R K) → IsGrammar G → (a b : List ℕ) (rs ss : List R) → length b ≤ length a
+    → GoesOn G [] a b rs ss → ss ≡ rs
 goes_same G is a b rs ss l h =
     let n : length h.tail ≡ 0 = omega (arith, ap length h.bytes_are, length-append a h.tail, l) in
     h.records_are ∙ ap (λ m. rs ++ m) (spells_empty G is ([] ++ rs) h.tail h.more n h.spelled) ∙ append-nil rs
 
 -- the records of a front are known by its bytes
-pub same_records : {R K : Type 0} (G : Grammar R K) → IsGrammar G → (xs : List ℕ) (rs ss : List R) → IsFront G xs rs → IsFront G xs ss → rs ≡ ss
+pub same_records : {R K : Type 0} (G : Grammar R K) → IsGrammar G → (xs : List ℕ) (rs ss : List R) → IsFront G xs rs
+    → IsFront G xs ss → rs ≡ ss
 same_records G is xs rs ss p q = elim (one_reading G is [] rs ss xs xs [] [] p.spelled p.followed q.spelled q.followed refl) [
   | inl m ↦ sym (goes_same G is xs xs rs ss (omega arith) m)
   | inr m ↦ goes_same G is xs xs ss rs (omega arith) m
 ]
 
 -- a file has one reading
-pub one_whole : {R K : Type 0} (G : Grammar R K) → IsGrammar G → (xs : List ℕ) (rs ss : List R) → SpellsWhole G xs rs → SpellsWhole G xs ss → rs ≡ ss
+pub one_whole : {R K : Type 0} (G : Grammar R K) → IsGrammar G → (xs : List ℕ) (rs ss : List R) → SpellsWhole G xs rs
+    → SpellsWhole G xs ss → rs ≡ ss
 one_whole G is xs rs ss p q = same_records G is xs rs ss p.front q.front

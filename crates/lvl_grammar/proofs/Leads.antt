@@ -13,7 +13,8 @@ pub leads_begin : (whole : Order) → LeadsTo whole [] whole
 leads_begin whole v = (λ h. h, λ h. h)
 
 -- a type that may come leads to what may come after it
-pub leads_on : (whole : Order) (w : List ℕ) (a b : Order) (k : ℕ) → LeadsTo whole w a → after_first a k ≡ b ∷ [] → LeadsTo whole (w ++ k ∷ []) b
+pub leads_on : (whole : Order) (w : List ℕ) (a b : Order) (k : ℕ) → LeadsTo whole w a → after_first a k ≡ b ∷ []
+    → LeadsTo whole (w ++ k ∷ []) b
 leads_on whole w a b k h t v =
     let g : (w ++ k ∷ []) ++ v ≡ w ++ (k ∷ v) = append_assoc w (k ∷ []) v in (
       λ x. only_one b v (subst (λ rs. IsWordOfOne rs v) t (first_taken a k v ((h (k ∷ v)).0 (subst (IsWord whole) g x)))),
@@ -21,7 +22,8 @@ leads_on whole w a b k h t v =
     )
 
 -- a type that may not come begins no word
-pub leads_nowhere : (whole : Order) (w : List ℕ) (a : Order) (k : ℕ) → LeadsTo whole w a → after_first a k ≡ [] → Begins whole (w ++ k ∷ []) → ⊥
+pub leads_nowhere : (whole : Order) (w : List ℕ) (a : Order) (k : ℕ) → LeadsTo whole w a → after_first a k ≡ []
+    → Begins whole (w ++ k ∷ []) → ⊥
 leads_nowhere whole w a k h t (v, x) =
     let g : (w ++ k ∷ []) ++ v ≡ w ++ (k ∷ v) = append_assoc w (k ∷ []) v in
     subst (λ rs. IsWordOfOne rs v) t (first_taken a k v ((h (k ∷ v)).0 (subst (IsWord whole) g x)))
@@ -31,7 +33,8 @@ pub leads_begins : (whole : Order) (w : List ℕ) (a : Order) → LeadsTo whole 
 leads_begins whole w a h = (some_word a, (h (some_word a)).1 (some_word-is a))
 
 -- where something has to come, the word isn't whole
-pub leads_unwhole : (whole : Order) (w : List ℕ) (a : Order) → can_be_empty a ≡ false → LeadsTo whole w a → IsWord whole w → ⊥
+pub leads_unwhole : (whole : Order) (w : List ℕ) (a : Order) → can_be_empty a ≡ false → LeadsTo whole w a
+    → IsWord whole w → ⊥
 leads_unwhole whole w a n h x =
     let y : IsWord a [] = (h []).0 (subst (IsWord whole) (sym (append-nil w)) x) in
     (let z : false ≡ true = sym n ∙ empty_word a y in cc)

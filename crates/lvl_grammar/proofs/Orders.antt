@@ -1,5 +1,6 @@
 -- What may come after a type in an order.
-use Rattle.std.proofs.Common.{◌≡◌, ◌==◌, ℕ, ◌⊎◌, inl, inr, Bool, true, false, ◌&&◌, ◌||◌, if◌then◌else◌, List, [], ◌∷◌, ◌++◌, map, refl, sym, ap, ◌∙◌, subst, arith, append_assoc, eq-eqb}
+use Rattle.std.proofs.Common.{◌≡◌, ◌==◌, ℕ, ◌⊎◌, inl, inr, Bool, true, false, ◌&&◌, ◌||◌, if◌then◌else◌, List, [], ◌∷◌}
+use Rattle.std.proofs.Common.{◌++◌, map, refl, sym, ap, ◌∙◌, subst, arith, append_assoc, eq-eqb}
 use Rattle.std.proofs.lemmas.Bool.Decides.{nat_tests}
 use Rattle.std.specs.List.{AllByRecursion, flat_map}
 use Rattle.lvl_grammar.specs.Order.{Order, nothing, one, next, either, many, IsWord}
@@ -52,11 +53,13 @@ of_one-append (r ∷ rs) ss w h = elim h [
   | inr b ↦ elim (of_one-append rs ss w b) [ inl c ↦ inl (inr c) | inr d ↦ inr d ]
 ]
 
-pub of_one-seq : (rs : List Order) (c : Order) (u v : List ℕ) → IsWordOfOne rs u → IsWord c v → IsWordOfOne (map (λ r. seq r c) rs) (u ++ v)
+pub of_one-seq : (rs : List Order) (c : Order) (u v : List ℕ) → IsWordOfOne rs u → IsWord c v
+    → IsWordOfOne (map (λ r. seq r c) rs) (u ++ v)
 of_one-seq [] c u v h k = absurd h
 of_one-seq (r ∷ rs) c u v h k = elim h [ inl a ↦ inl (seq_word r c u v a k) | inr b ↦ inr (of_one-seq rs c u v b k) ]
 
-pub of_one-seq_back : (rs : List Order) (c : Order) (w : List ℕ) → IsWordOfOne (map (λ r. seq r c) rs) w → (u v : List ℕ) × IsWordOfOne rs u × IsWord c v × (w ≡ u ++ v)
+pub of_one-seq_back : (rs : List Order) (c : Order) (w : List ℕ) → IsWordOfOne (map (λ r. seq r c) rs) w
+    → (u v : List ℕ) × IsWordOfOne rs u × IsWord c v × (w ≡ u ++ v)
 of_one-seq_back [] c w h = absurd h
 of_one-seq_back (r ∷ rs) c w h = elim h [
   | inl a ↦ (let p = seq_back r c w a in (p.0, p.1, inl p.2, p.3, p.4))
@@ -106,7 +109,8 @@ if_true : (b : Bool) (rs : List Order) (w : List ℕ) → b ≡ true → IsWordO
 if_true true rs w e h = h
 if_true false rs w e h = cc
 
-if_back : (b : Bool) (rs : List Order) (w : List ℕ) → IsWordOfOne (if b then rs else []) w → (b ≡ true) × IsWordOfOne rs w
+if_back : (b : Bool) (rs : List Order) (w : List ℕ) → IsWordOfOne (if b then rs else []) w
+    → (b ≡ true) × IsWordOfOne rs w
 if_back true rs w h = (refl, h)
 if_back false rs w h = absurd h
 

@@ -1,5 +1,6 @@
 -- How a stream is read: from its beginning, a record at a time.
-use Rattle.std.proofs.Common.{◌≡◌, ℕ, ◌+◌, ◌-◌, ◌≤◌, List, [], ◌∷◌, ◌++◌, length, take, drop, refl, sym, ap, ◌∙◌, subst, append_assoc, arith, length-append, length-take}
+use Rattle.std.proofs.Common.{◌≡◌, ℕ, ◌+◌, ◌-◌, ◌≤◌, List, [], ◌∷◌, ◌++◌, length, take, drop, refl, sym, ap, ◌∙◌, subst}
+use Rattle.std.proofs.Common.{append_assoc, arith, length-append, length-take}
 use Rattle.std.specs.Prelude.{Option, Some}
 use Rattle.std.proofs.lemmas.List.{take-append-drop}
 use Rattle.lvl_grammar.specs.Grammar.{Grammar}
@@ -10,7 +11,8 @@ use Rattle.lvl_grammar.proofs.Spelled.{spells_join, follow_join}
 use Rattle.lvl_grammar.proofs.Stuck.{parts_at}
 
 -- at the beginning nothing was read
-pub reads_begin : {R K : Type 0} (G : Grammar R K) (xs : List ℕ) (Has : List R → Type 0) (left : Option (List ℕ)) → left ≡ Some xs → Has [] → ReadTo G xs 0 Has left
+pub reads_begin : {R K : Type 0} (G : Grammar R K) (xs : List ℕ) (Has : List R → Type 0) (left : Option (List ℕ))
+    → left ≡ Some xs → Has [] → ReadTo G xs 0 Has left
 reads_begin G xs Has left e h = record {
   records = [];
   front = record { spelled = refl; followed = tt; within = omega arith };
@@ -20,11 +22,13 @@ reads_begin G xs Has left e h = record {
 }
 
 -- what was read is a front
-pub reads_front : {R K : Type 0} (G : Grammar R K) (xs : List ℕ) (at : ℕ) (Has : List R → Type 0) (left : Option (List ℕ)) → ReadTo G xs at Has left → IsFrontAt G xs at
+pub reads_front : {R K : Type 0} (G : Grammar R K) (xs : List ℕ) (at : ℕ) (Has : List R → Type 0) (left : Option (List ℕ))
+    → ReadTo G xs at Has left → IsFrontAt G xs at
 reads_front G xs at Has left to = record { within = to.within; records = to.records; front = to.front }
 
 -- a front with one record more
-pub front_on : {R K : Type 0} (G : Grammar R K) (bytes text : List ℕ) (rs : List R) (r : R) → IsFront G bytes rs → G.spells rs text r → G.follows rs r → length (bytes ++ text) ≤ G.limit → IsFront G (bytes ++ text) (rs ++ r ∷ [])
+pub front_on : {R K : Type 0} (G : Grammar R K) (bytes text : List ℕ) (rs : List R) (r : R) → IsFront G bytes rs
+    → G.spells rs text r → G.follows rs r → length (bytes ++ text) ≤ G.limit → IsFront G (bytes ++ text) (rs ++ r ∷ [])
 front_on G bytes text rs r f s g l = record {
   spelled = spells_join G [] bytes text rs r f.spelled s;
   followed = follow_join G [] rs r f.followed g;

@@ -1,5 +1,6 @@
 -- Where a rule is breached, or a file ends in a record, nothing is spelled.
-use Rattle.std.proofs.Common.{◌≡◌, ℕ, ◌-◌, ◌<◌, ◌≤◌, List, [], ◌∷◌, ◌++◌, length, take, drop, sym, ap, ◌∙◌, subst, append_assoc, inl, inr, arith, length-append, length-take, length-drop}
+use Rattle.std.proofs.Common.{◌≡◌, ℕ, ◌-◌, ◌<◌, ◌≤◌, List, [], ◌∷◌, ◌++◌, length, take, drop, sym, ap, ◌∙◌, subst}
+use Rattle.std.proofs.Common.{append_assoc, inl, inr, arith, length-append, length-take, length-drop}
 use Rattle.std.specs.Prelude.{Option}
 use Rattle.std.proofs.Math.Seq.{take-append_seam, drop-append_seam}
 use Rattle.std.proofs.lemmas.List.{append-nil, append_cancel_left, take-append-drop}
@@ -20,9 +21,11 @@ record IsNext {R K : Type 0} (G : Grammar R K) (records : List R) (room : ℕ) (
   agrees : Agree text ys
   within : length text ≤ room
 
-next_of : {R K : Type 0} (G : Grammar R K) (front ys bytes x y : List ℕ) (rs ss more : List R) (tail : List ℕ) → SpellsAll G rs tail more → FollowAll G rs more
+next_of : {R K : Type 0} (G : Grammar R K) (front ys bytes x y : List ℕ) (rs ss more : List R) (tail : List ℕ)
+    → SpellsAll G rs tail more → FollowAll G rs more
     → bytes ≡ front ++ tail → length front < length bytes → length bytes ≤ G.limit → front ++ (ys ++ x) ≡ bytes ++ y → IsNext G rs (G.limit - length front) ys
-next_of G front ys bytes x y rs ss [] tail p f e l w h = absurd (omega (arith, l, ap length e, length-append front tail, ap length p))
+next_of G front ys bytes x y rs ss [] tail p f e l w h =
+    absurd (omega (arith, l, ap length e, length-append front tail, ap length p))
 next_of G front ys bytes x y rs ss (r ∷ more) tail p f e l w h =
     let g : front ++ (ys ++ x) ≡ front ++ (p.0 ++ (p.1 ++ y)) = h ∙ ap (λ i. i ++ y) (e ∙ ap (λ i. front ++ i) p.4) ∙ append_assoc front (p.0 ++ p.1) y ∙ ap (λ i. front ++ i) (append_assoc p.0 p.1 y) in
     record {
@@ -35,7 +38,8 @@ next_of G front ys bytes x y rs ss (r ∷ more) tail p f e l w h =
     }
 
 -- a longer front that agrees with the input goes on by a record
-goes_on : {R K : Type 0} (G : Grammar R K) → IsGrammar G → (xs : List ℕ) (at : ℕ) (rs ss : List R) (bytes : List ℕ) → at ≤ length xs → IsFront G (take at xs) rs → IsFront G bytes ss → at < length bytes → Agree bytes xs
+goes_on : {R K : Type 0} (G : Grammar R K) → IsGrammar G → (xs : List ℕ) (at : ℕ) (rs ss : List R) (bytes : List ℕ)
+    → at ≤ length xs → IsFront G (take at xs) rs → IsFront G bytes ss → at < length bytes → Agree bytes xs
     → IsNext G rs (G.limit - at) (drop at xs)
 goes_on G is xs at rs ss bytes within front next long agree =
     let q = agree_ends bytes xs agree in
@@ -47,7 +51,8 @@ goes_on G is xs at rs ss bytes within front next long agree =
     ])
 
 -- where a rule is breached the input is stuck
-pub law_stuck : {R K : Type 0} (G : Grammar R K) → IsGrammar G → (xs : List ℕ) (at : ℕ) (rs : List R) (k : K) → at ≤ length xs → IsFront G (take at xs) rs → G.wrong rs (G.limit - at) (drop at xs) k → IsStuck G xs at
+pub law_stuck : {R K : Type 0} (G : Grammar R K) → IsGrammar G → (xs : List ℕ) (at : ℕ) (rs : List R) (k : K)
+    → at ≤ length xs → IsFront G (take at xs) rs → G.wrong rs (G.limit - at) (drop at xs) k → IsStuck G xs at
 law_stuck G is xs at rs k within front wrong = record {
   some = omega (arith, is.here rs (G.limit - at) (drop at xs) k wrong, length-drop at xs, within);
   records = rs;
@@ -61,7 +66,9 @@ law_stuck G is xs at rs k within front wrong = record {
 pub stuck_none : {R K : Type 0} (G : Grammar R K) (xs : List ℕ) (at : ℕ) → IsStuck G xs at → SpellsNothing G xs
 stuck_none G xs at s records p = s.none records xs p.front s.some ([], inl (sym (append-nil xs)))
 
-cut_by : {R K : Type 0} (G : Grammar R K) → IsGrammar G → (xs : List ℕ) (at : ℕ) (t : IsTruncated G xs at) (records : List R) → SpellsWhole G xs records → (more : List R) (tail : List ℕ)
+cut_by : {R K : Type 0} (G : Grammar R K) → IsGrammar G
+    → (xs : List ℕ) (at : ℕ) (t : IsTruncated G xs at) (records : List R) → SpellsWhole G xs records
+    → (more : List R) (tail : List ℕ)
     → records ≡ t.records ++ more → xs ≡ take at xs ++ tail → SpellsAll G t.records tail more → FollowAll G t.records more → ⊥
 cut_by G is xs at t records p [] tail e b s f = t.unended (subst G.ends (e ∙ append-nil t.records) p.whole)
 cut_by G is xs at t records p (r ∷ more) tail e b s f =
@@ -69,24 +76,29 @@ cut_by G is xs at t records p (r ∷ more) tail e b s f =
     is.cut t.records (drop at xs) s.0 s.1 r t.cut t.unended s.2 f.0 here
 
 -- nor is one that is cut
-pub truncated_none : {R K : Type 0} (G : Grammar R K) → IsGrammar G → (xs : List ℕ) (at : ℕ) → IsTruncated G xs at → SpellsNothing G xs
+pub truncated_none : {R K : Type 0} (G : Grammar R K) → IsGrammar G → (xs : List ℕ) (at : ℕ) → IsTruncated G xs at
+    → SpellsNothing G xs
 truncated_none G is xs at t records p = elim (one_reading G is [] t.records records (take at xs) xs (drop at xs) [] t.front.spelled t.front.followed p.front.spelled p.front.followed (take-append-drop at xs ∙ sym (append-nil xs))) [
   | inl m ↦ cut_by G is xs at t records p m.more m.tail m.records_are m.bytes_are m.spelled m.followed
   | inr m ↦ t.unended (subst G.ends (sym (goes_same G is xs (take at xs) records t.records (omega (arith, length-take at xs, t.within)) m)) p.whole)
 ]
 
 -- what is seen to be wrong breaches a rule, and the input is stuck
-pub seen_stuck : {R K : Type 0} (G : Grammar R K) → IsGrammar G → (xs : List ℕ) (at : ℕ) (left : Option (List ℕ)) (k : K) → IsSeenWrong G xs at left k → IsStuck G xs at × IsBreached G xs at k
+pub seen_stuck : {R K : Type 0} (G : Grammar R K) → IsGrammar G
+    → (xs : List ℕ) (at : ℕ) (left : Option (List ℕ)) (k : K) → IsSeenWrong G xs at left k
+    → IsStuck G xs at × IsBreached G xs at k
 seen_stuck G is xs at left k s =
     let wrong : G.wrong s.records (G.limit - at) (drop at xs) k = subst (λ l. G.wrong s.records (G.limit - at) l k) (sym s.parts) (s.wrong s.rest) in
     (law_stuck G is xs at s.records k s.within s.front wrong, record { records = s.records; front = s.front; wrong = wrong; only = s.only })
 
 -- an input in two parts
 pub parts_at : (xs a b : List ℕ) (n : ℕ) → xs ≡ a ++ b → n ≡ length a → (take n xs ≡ a) × (drop n xs ≡ b)
-parts_at xs a b n e h = (ap (take n) e ∙ ap (λ i. take i (a ++ b)) h ∙ take-append_seam a b, ap (drop n) e ∙ ap (λ i. drop i (a ++ b)) h ∙ drop-append_seam a b)
+parts_at xs a b n e h =
+    (ap (take n) e ∙ ap (λ i. take i (a ++ b)) h ∙ take-append_seam a b, ap (drop n) e ∙ ap (λ i. drop i (a ++ b)) h ∙ drop-append_seam a b)
 
 -- and no input that goes on from the bytes that were seen is a whole file
-pub seen_hopeless : {R K : Type 0} (G : Grammar R K) → IsGrammar G → (xs : List ℕ) (at : ℕ) (left : Option (List ℕ)) (k : K) → IsSeenWrong G xs at left k → IsHopeless G xs left
+pub seen_hopeless : {R K : Type 0} (G : Grammar R K) → IsGrammar G
+    → (xs : List ℕ) (at : ℕ) (left : Option (List ℕ)) (k : K) → IsSeenWrong G xs at left k → IsHopeless G xs left
 seen_hopeless G is xs at left k s = record {
   taken = take at xs ++ s.seen;
   rest = s.rest;

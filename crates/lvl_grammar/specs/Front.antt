@@ -5,7 +5,8 @@ use Rattle.lvl_grammar.specs.Grammar.{Grammar}
 -- after some records, the bytes are the spellings of further ones, one after another
 abbrev pub SpellsAll : {R K : Type 0} → Grammar R K → List R → List ℕ → List R → Type 0
 SpellsAll G before bytes [] = bytes ≡ []
-SpellsAll G before bytes (r ∷ rs) = (first rest : List ℕ) × G.spells before first r × SpellsAll G (before ++ r ∷ []) rest rs × (bytes ≡ first ++ rest)
+SpellsAll G before bytes (r ∷ rs) =
+    (first rest : List ℕ) × G.spells before first r × SpellsAll G (before ++ r ∷ []) rest rs × (bytes ≡ first ++ rest)
 
 -- each record may follow those before it
 abbrev pub FollowAll : {R K : Type 0} → Grammar R K → List R → List R → Type 0

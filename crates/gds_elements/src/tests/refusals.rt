@@ -1,4 +1,4 @@
-//! Which rule is told, and of which record.
+//! Which rule is reported, and of which record.
 use super::{DEGREES_45, DEGREES_90, END, Line, Says, Stop, TWICE, array, read};
 use crate::{ElementFault, ElementRule, Misplaced};
 use gds_records::record_type as ty;

@@ -3,7 +3,7 @@ use Rattle.std.specs.Prelude.{◌≡◌, ◌≢◌, ℕ, ◌<◌, ◌≤◌, Lis
 use Rattle.gds_elements.specs.Types.{header, units, bgnstr, strname}
 use Rattle.gds_elements.specs.Values.{name}
 use Rattle.gds_elements.specs.Rules.{IsName}
-use Rattle.gds_elements.specs.Misplaced.{IsMisplacement}
+use Rattle.gds_elements.specs.inside.Misplaced.{IsMisplacement}
 use Rattle.gds_elements.specs.declared.fault.ElementFault.{ElementFault}
 use Rattle.gds_elements.specs.declared.fault.ElementFault.TheVariants.{Misplaced as MisplacedInElement, Rule}
 use Rattle.lvl_refusal.specs.declared.Refusal.{Refusal}

@@ -6,7 +6,8 @@ use Rattle.gds_elements.specs.Types.{bgnstr, strname}
 use Rattle.gds_elements.specs.Values.{name}
 use Rattle.gds_library.specs.Drawn.{KeptShape, KeptCell}
 use Rattle.gds_library.specs.declared.place.Place.{Place}
-use Rattle.gds_library.specs.declared.place.Place.TheVariants.{Header, BgnLib, LibName, Units, Structures, StrName, Elements, Fill}
+use Rattle.gds_library.specs.declared.place.Place.TheVariants.{Header, BgnLib, LibName, Units, Structures, StrName}
+use Rattle.gds_library.specs.declared.place.Place.TheVariants.{Elements, Fill}
 use Rattle.gds_library.specs.declared.builder.Builder.{Builder}
 
 -- the last item, changed
@@ -15,7 +16,7 @@ on_last f [] = []
 on_last f (x ∷ []) = f x ∷ []
 on_last f (x ∷ y ∷ ys) = x ∷ on_last f (y ∷ ys)
 
--- a cell and a library with one record more, outside of elements
+-- a cell and a library with one more record, outside of elements
 abbrev pub grown_cell : ℕ → List ℕ → KeptCell → KeptCell
 grown_cell k payload c = record { name = if k == strname then name payload else c.name; shapes = c.shapes; references = c.references }
 

@@ -1,6 +1,7 @@
 use Rattle.std.proofs.Common.{◌≡◌, ◌++◌, ◌∷◌, [], ◌∙◌, sym, ap, length, arith, length-append, ◌<◌, ◌≤◌, get_or}
 use Rattle.gds_elements.specs.Values.{points}
-use Rattle.gds_elements.proofs.Closing.{closed_last, last_closed, straight_steps, straight_edges, point_eq, point_ne, no_fault}
+use Rattle.gds_elements.proofs.Closing.{closed_last, last_closed, straight_steps, straight_edges, point_eq, point_ne}
+use Rattle.gds_elements.proofs.Closing.{no_fault}
 use Rattle.gds_elements.proofs.boundary.rings_of.Goals as goal
 
 pub returns-then-ne-clause-refused : goal.returns-then-ne-clause-refused

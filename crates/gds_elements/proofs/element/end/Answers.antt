@@ -1,6 +1,6 @@
 use Rattle.gds_elements.specs.Types.{endel}
 use Rattle.lvl_grammar.specs.Order.{one}
-use Rattle.gds_elements.specs.Reading.{record_of}
+use Rattle.gds_elements.specs.inside.Reading.{record_of}
 use Rattle.gds_elements.proofs.Leads.{law_misplaced, none_there}
 use Rattle.gds_elements.proofs.Taking.{law_end}
 use Rattle.gds_elements.proofs.element.end.Goals as goal

@@ -2,7 +2,7 @@ use Rattle.std.proofs.Common.{◌≡◌, ◌∙◌, ◌≤◌, ℕ, Some, List, 
 use Rattle.lvl_grid.specs.declared.point.Point.{Point}
 use Rattle.lvl_path.specs.Runs.{IsPath, IsLowestFault}
 use Rattle.gds_elements.specs.Values.{points}
-use Rattle.gds_elements.specs.Path.{reach_at}
+use Rattle.gds_elements.specs.inside.Path.{reach_at}
 use Rattle.gds_elements.proofs.path.bands_of.Goals as goal
 
 pub returns-in-Ok-clause-allowed : goal.returns-in-Ok-clause-allowed

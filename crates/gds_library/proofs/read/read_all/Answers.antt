@@ -1,4 +1,5 @@
-use Rattle.std.proofs.Common.{[], ◌∷◌, ◌++◌, None, Err, inl, ◌≡◌, ◌∙◌, ◌-◌, length, drop, Ok, Some, refl, sym, ap, subst, arith, true, add-zero}
+use Rattle.std.proofs.Common.{[], ◌∷◌, ◌++◌, None, Err, inl, ◌≡◌, ◌∙◌, ◌-◌, length, drop, Ok, Some, refl, sym, ap}
+use Rattle.std.proofs.Common.{subst, arith, true, add-zero}
 use Rattle.lvl_grammar.specs.inside.ReadTo.{ReadTo}
 use Rattle.lvl_grammar.proofs.Reading.{reads_begin}
 use Rattle.gds_records.specs.Records.{file_limit, room_left, records_offset, bytes_left, bytes_in_hand}
@@ -8,7 +9,7 @@ use Rattle.gds_records.specs.declared.records.Record.{Record as Answered}
 use Rattle.gds_records.specs.declared.fault.RecordFault.{RecordFault}
 use Rattle.gds_records.specs.declared.fault.RecordFault.TheVariants.{Truncated}
 use Rattle.gds_records.specs.declared.fault.Stopped.TheVariants.{Fault}
-use Rattle.gds_elements.specs.Reading.{record_of}
+use Rattle.gds_elements.specs.inside.Reading.{record_of}
 use Rattle.gds_library.specs.Rules.{Breaches}
 use Rattle.gds_library.specs.Front.{gds}
 use Rattle.gds_library.specs.inside.Holds.{HasRead}

@@ -3,10 +3,12 @@ use Rattle.gds_library.proofs.Readable.{refused_tells, refused_none, early_left}
 use Rattle.gds_library.proofs.read.read_gds.Goals as goal
 
 pub returns-clause-refused : goal.returns-clause-refused
-returns-clause-refused g c = λ xs k. refused_tells xs _ c.read_library-read.result (c.read_library-read.ensures.refused xs (c.in_ok-records.ensures.bytes ∙ k))
+returns-clause-refused g c =
+    λ xs k. refused_tells xs _ c.read_library-read.result (c.read_library-read.ensures.refused xs (c.in_ok-records.ensures.bytes ∙ k))
 
 pub returns-clause-none : goal.returns-clause-none
-returns-clause-none g c = λ xs k. refused_none xs _ c.read_library-read.result (c.read_library-read.ensures.refused xs (c.in_ok-records.ensures.bytes ∙ k))
+returns-clause-none g c =
+    λ xs k. refused_none xs _ c.read_library-read.result (c.read_library-read.ensures.refused xs (c.in_ok-records.ensures.bytes ∙ k))
 
 pub returns-clause-early : goal.returns-clause-early
 returns-clause-early g c = λ xs k.

@@ -1,5 +1,5 @@
 use Rattle.std.proofs.Common.{refl, subst, ◌++◌, ◌∷◌, []}
-use Rattle.gds_elements.specs.Reading.{record_of, IsStep}
+use Rattle.gds_elements.specs.inside.Reading.{record_of, IsStep}
 use Rattle.gds_elements.specs.declared.element.Step.{Step}
 use Rattle.gds_library.proofs.Steps.{says_inside, law_inside, law_whole}
 use Rattle.gds_library.proofs.reading.take_inside.Goals as goal

@@ -1,5 +1,5 @@
 use Rattle.std.proofs.Common.{◌≡◌, refl, sym, ◌∙◌, true, false}
-use Rattle.gds_elements.specs.Reading.{record_of}
+use Rattle.gds_elements.specs.inside.Reading.{record_of}
 use Rattle.gds_library.proofs.Places.{OpensNothing}
 use Rattle.gds_library.proofs.Refusing.{says_fault}
 use Rattle.gds_library.proofs.Steps.{takes_refused, law_opens, law_holds, law_allowed, KeepsHead}

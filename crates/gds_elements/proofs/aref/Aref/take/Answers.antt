@@ -2,12 +2,12 @@ use Rattle.std.proofs.Common.{◌≡◌, ◌∙◌, sym, ap, inr, arith}
 use Rattle.gds_elements.specs.Types.{xy, colrow, endel}
 use Rattle.lvl_grammar.specs.Order.{one}
 use Rattle.gds_elements.specs.Values.{points}
-use Rattle.gds_elements.specs.Reading.{record_of}
-use Rattle.gds_elements.specs.Aref.{left, IsArrayFault}
+use Rattle.gds_elements.specs.inside.Reading.{record_of}
+use Rattle.gds_elements.specs.inside.Aref.{left, IsArrayFault}
 use Rattle.gds_elements.specs.declared.aref.Aref.{Aref}
 use Rattle.gds_elements.proofs.Taking.{takes_broken}
-use Rattle.gds_elements.specs.Placing.{IsPlacingFault}
-use Rattle.gds_elements.specs.Counts.{IsCountFault}
+use Rattle.gds_elements.specs.inside.Placing.{IsPlacingFault}
+use Rattle.gds_elements.specs.inside.Counts.{IsCountFault}
 use Rattle.gds_elements.proofs.Leads.{law_misplaced, leads_begins, left_behind, in_order}
 use Rattle.gds_elements.proofs.Allowed.{allowed, placing_fault, count_fault, law_aref, placing_at_points}
 use Rattle.gds_elements.proofs.Arefs.{aref_goes, aref_ends, by_table, goes_on, ends_by, steps_of, array_fault}

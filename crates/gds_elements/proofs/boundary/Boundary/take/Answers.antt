@@ -1,8 +1,8 @@
 use Rattle.std.proofs.Common.{◌≡◌, ◌∙◌, sym, inl, inr, arith, ap}
 use Rattle.gds_elements.specs.Types.{xy, endel}
 use Rattle.lvl_grammar.specs.Order.{one}
-use Rattle.gds_elements.specs.Reading.{record_of}
-use Rattle.gds_elements.specs.Boundary.{left, IsRingFault}
+use Rattle.gds_elements.specs.inside.Reading.{record_of}
+use Rattle.gds_elements.specs.inside.Boundary.{left, IsRingFault}
 use Rattle.gds_elements.specs.declared.fault.ElementRule.TheVariants.{Layer as LayerKind}
 use Rattle.gds_elements.proofs.Taking.{takes_broken, takes_one}
 use Rattle.gds_elements.specs.Values.{points}

@@ -1,5 +1,5 @@
 use Rattle.std.proofs.Common.{subst}
-use Rattle.gds_elements.specs.Reading.{HasRead, record_of}
+use Rattle.gds_elements.specs.inside.Reading.{HasRead, record_of}
 use Rattle.gds_elements.specs.declared.element.State.{State}
 use Rattle.gds_elements.proofs.element.State.take.Goals as goal
 
@@ -24,4 +24,5 @@ returns-in-Text c = λ piece d h.
     c.going-in-Text.ensures piece (record_of c.args.kind d c.args.payload.now) (c.take-in-Text.ensures piece d (subst (λ (s : State). HasRead s piece) c.in-Text.is h))
 
 pub returns-in-Drawn : goal.returns-in-Drawn
-returns-in-Drawn c = λ piece d h. c.end.ensures piece d c.args.payload.now (subst (λ (s : State). HasRead s piece) c.in-Drawn.is h)
+returns-in-Drawn c =
+    λ piece d h. c.end.ensures piece d c.args.payload.now (subst (λ (s : State). HasRead s piece) c.in-Drawn.is h)

@@ -4,14 +4,15 @@ use Rattle.gds_elements.specs.Types.{xy, endel}
 use Rattle.lvl_grammar.specs.Order.{one}
 use Rattle.gds_elements.specs.Values.{points}
 use Rattle.gds_elements.specs.Meaning.{end_of}
-use Rattle.gds_elements.specs.Reading.{record_of}
+use Rattle.gds_elements.specs.inside.Reading.{record_of}
 use Rattle.gds_elements.specs.declared.path.Path.{Path}
-use Rattle.gds_elements.specs.Path.{left, IsBandsFault}
+use Rattle.gds_elements.specs.inside.Path.{left, IsBandsFault}
 use Rattle.gds_elements.specs.declared.fault.ElementRule.TheVariants.{Layer as LayerKind, PathType, Width}
 use Rattle.gds_elements.proofs.Leads.{law_misplaced, leads_begins, left_behind, in_order}
 use Rattle.gds_elements.proofs.Allowed.{allowed, law_path}
 use Rattle.gds_elements.proofs.Taking.{takes_broken, takes_one}
-use Rattle.gds_elements.proofs.Paths.{path_goes, path_ends, by_table, goes_on, ends_by, some_of, width_read, half_is, reach_is, bands_fault}
+use Rattle.gds_elements.proofs.Paths.{path_goes, path_ends, by_table, goes_on, ends_by, some_of, width_read, half_is}
+use Rattle.gds_elements.proofs.Paths.{reach_is, bands_fault}
 use Rattle.gds_elements.proofs.path.Path.take.Goals as goal
 
 pub returns-in_ok-half-in-Goes : goal.returns-in_ok-half-in-Goes

@@ -1,12 +1,12 @@
 use Rattle.std.proofs.Common.{◌≡◌, ◌∙◌, sym, ap, inl, inr}
 use Rattle.gds_elements.specs.Types.{xy, endel}
 use Rattle.lvl_grammar.specs.Order.{one}
-use Rattle.gds_elements.specs.Reading.{record_of}
-use Rattle.gds_elements.specs.Sref.{left}
+use Rattle.gds_elements.specs.inside.Reading.{record_of}
+use Rattle.gds_elements.specs.inside.Sref.{left}
 use Rattle.gds_elements.specs.declared.sref.Sref.{Sref}
 use Rattle.gds_elements.specs.declared.fault.ElementRule.TheVariants.{Points}
 use Rattle.gds_elements.proofs.Taking.{takes_broken, takes_one}
-use Rattle.gds_elements.specs.Placing.{IsPlacingFault}
+use Rattle.gds_elements.specs.inside.Placing.{IsPlacingFault}
 use Rattle.gds_elements.proofs.Leads.{law_misplaced, leads_begins, left_behind, in_order}
 use Rattle.gds_elements.proofs.Allowed.{allowed, placing_fault, law_sref, placing_at_points}
 use Rattle.gds_elements.proofs.Srefs.{sref_goes, sref_ends, by_table, goes_on, ends_by}

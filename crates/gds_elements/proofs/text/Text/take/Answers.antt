@@ -1,8 +1,8 @@
 use Rattle.std.proofs.Common.{◌∙◌, sym, ap, inr}
 use Rattle.gds_elements.specs.Types.{endel}
 use Rattle.lvl_grammar.specs.Order.{one}
-use Rattle.gds_elements.specs.Reading.{record_of}
-use Rattle.gds_elements.specs.Text.{left}
+use Rattle.gds_elements.specs.inside.Reading.{record_of}
+use Rattle.gds_elements.specs.inside.Text.{left}
 use Rattle.gds_elements.specs.declared.text.Text.{Text}
 use Rattle.gds_elements.specs.declared.fault.ElementRule.TheVariants.{Points}
 use Rattle.gds_elements.proofs.Taking.{takes_one}

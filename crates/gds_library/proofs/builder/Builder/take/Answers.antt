@@ -1,8 +1,11 @@
 use Rattle.std.proofs.Common.{◌≡◌, ℕ, List, [], sym, ap, ◌∙◌, rules, arith, ◌==◌, false}
 use Rattle.std.proofs.lemmas.Bool.Decides.{nat_tests}
 use Rattle.gds_library.proofs.builder.Builder.take.Goals as goal
-use Rattle.gds_library.proofs.builder.Builder.take.Goals.{in-0, in-3, in-5+else-len-ge-MOST_CELLS, in-6+else-not-is_name+in_ok-from_slice-in-6, in-7+in_ok-close-in-7, in_default-kind}
-use Rattle.gds_library.proofs.Grown.{shown_endstr, shown_other, shown_place, IsOther, by_kind, shown_header, shown_units, shown_bgnstr, shown_strname}
+use Rattle.gds_library.proofs.builder.Builder.take.Goals.{in-0, in-3, in-5+else-len-ge-MOST_CELLS}
+use Rattle.gds_library.proofs.builder.Builder.take.Goals.{in-6+else-not-is_name+in_ok-from_slice-in-6}
+use Rattle.gds_library.proofs.builder.Builder.take.Goals.{in-7+in_ok-close-in-7, in_default-kind}
+use Rattle.gds_library.proofs.Grown.{shown_endstr, shown_other, shown_place, IsOther, by_kind, shown_header}
+use Rattle.gds_library.proofs.Grown.{shown_units, shown_bgnstr, shown_strname}
 use Rattle.lvl_cells.specs.Building.{Built}
 use Rattle.gds_library.specs.inside.Shown.{shown_at}
 use Rattle.gds_library.specs.declared.builder.Builder.{Builder}

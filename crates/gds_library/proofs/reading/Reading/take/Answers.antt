@@ -5,7 +5,9 @@ use Rattle.gds_library.specs.inside.Holds.{HoldsWith}
 use Rattle.gds_library.proofs.reading.Reading.take.Goals as goal
 
 pub returns-in-Some : goal.returns-in-Some
-returns-in-Some c = λ rs d h. c.take_inside.ensures rs d (subst (λ (o : Option Element). HoldsWith o c.args.self.builder rs) c.in-Some.is h)
+returns-in-Some c =
+    λ rs d h. c.take_inside.ensures rs d (subst (λ (o : Option Element). HoldsWith o c.args.self.builder rs) c.in-Some.is h)
 
 pub returns-in-None : goal.returns-in-None
-returns-in-None c = λ rs d h. c.take_outside.ensures rs d (subst (λ (o : Option Element). HoldsWith o c.args.self.builder rs) c.in-None.is h)
+returns-in-None c =
+    λ rs d h. c.take_outside.ensures rs d (subst (λ (o : Option Element). HoldsWith o c.args.self.builder rs) c.in-None.is h)

@@ -11,7 +11,8 @@ use Rattle.gds_elements.specs.Values.{short}
 use Rattle.gds_elements.specs.Meaning.{layer_of, half}
 use Rattle.lvl_grammar.specs.inside.After.{LeadsTo}
 use Rattle.gds_elements.specs.declared.fault.ElementRule.{ElementRule}
-use Rattle.gds_elements.specs.declared.fault.ElementRule.TheVariants.{Points as PointsFault, Width as WidthFault, Path as PathFault}
+use Rattle.gds_elements.specs.declared.fault.ElementRule.TheVariants.{Points as PointsFault, Width as WidthFault}
+use Rattle.gds_elements.specs.declared.fault.ElementRule.TheVariants.{Path as PathFault}
 use Rattle.gds_elements.specs.declared.order.Next.{Next}
 use Rattle.gds_elements.specs.declared.order.Next.TheVariants.{Goes, Ends, Nowhere}
 use Rattle.gds_elements.specs.declared.path.Place.{Place}
@@ -22,7 +23,8 @@ use Rattle.gds_elements.specs.declared.path.Path.{Path}
 abbrev pub after : Place → ℕ → Next Place
 after Layer k = if k == layer then Goes Datatype else Nowhere
 after Datatype k = if k == datatype then Goes PathType else Nowhere
-after PathType k = if k == pathtype then Goes Width else (if k == width then Goes Points else (if k == xy then Ends else Nowhere))
+after PathType k =
+    if k == pathtype then Goes Width else (if k == width then Goes Points else (if k == xy then Ends else Nowhere))
 after Width k = if k == width then Goes Points else (if k == xy then Ends else Nowhere)
 after Points k = if k == xy then Ends else Nowhere
 
@@ -39,7 +41,7 @@ abbrev pub half_in : Option Rec → Option ℕ
 half_in None = None
 half_in (Some r) = Some (half r.payload)
 
--- the path stands where its records lead, and has their values
+-- the path is where its records lead, and has their values
 pub record IsPathRead (p : Path) (piece : List Rec) : Type 0 where
   pub opened : opener piece ≡ Some path
   pub leads : LeadsTo an_element (kinds piece) (left p.place)

@@ -29,7 +29,7 @@ left Layer = one layer then one datatype then one xy then one endel
 left Datatype = one datatype then one xy then one endel
 left Points = one xy then one endel
 
--- the boundary stands where its records lead, and has their values
+-- the boundary is where its records lead, and has their values
 pub record IsBoundary (b : Boundary) (piece : List Rec) : Type 0 where
   pub opened : opener piece ≡ Some boundary
   pub leads : LeadsTo an_element (kinds piece) (left b.place)

@@ -5,7 +5,7 @@ use Rattle.lvl_grammar.specs.Order.{Order, ◌then◌, one, maybe}
 use Rattle.gds_elements.specs.Order.{a_transform, an_element}
 use Rattle.gds_elements.specs.Rec.{Rec, kinds, opener}
 use Rattle.lvl_grammar.specs.inside.After.{LeadsTo}
-use Rattle.gds_elements.specs.Placing.{IsPlaced}
+use Rattle.gds_elements.specs.inside.Placing.{IsPlaced}
 use Rattle.gds_elements.specs.declared.order.Next.{Next}
 use Rattle.gds_elements.specs.declared.order.Next.TheVariants.{Goes, Ends, Nowhere}
 use Rattle.gds_elements.specs.declared.sref.Place.{Place}
@@ -16,7 +16,8 @@ use Rattle.gds_elements.specs.declared.sref.Sref.{Sref}
 abbrev pub after : Place → ℕ → Next Place
 after Name k = if k == sname then Goes Strans else Nowhere
 after Strans k = if k == strans then Goes Magnification else (if k == xy then Ends else Nowhere)
-after Magnification k = if k == mag then Goes Angle else (if k == angle then Goes Points else (if k == xy then Ends else Nowhere))
+after Magnification k =
+    if k == mag then Goes Angle else (if k == angle then Goes Points else (if k == xy then Ends else Nowhere))
 after Angle k = if k == angle then Goes Points else (if k == xy then Ends else Nowhere)
 after Points k = if k == xy then Ends else Nowhere
 
@@ -28,7 +29,7 @@ left Magnification = maybe (one mag) then maybe (one angle) then one xy then one
 left Angle = maybe (one angle) then one xy then one endel
 left Points = one xy then one endel
 
--- the reference stands where its records lead, and has their values
+-- the reference is where its records lead, and has their values
 pub record IsSrefRead (s : Sref) (piece : List Rec) : Type 0 where
   pub opened : opener piece ≡ Some sref
   pub leads : LeadsTo an_element (kinds piece) (left s.place)

@@ -8,7 +8,7 @@ use Rattle.gds_elements.specs.Rec.{Rec, kinds, opener, last_of}
 use Rattle.gds_elements.specs.Meaning.{columns_in, rows_in}
 use Rattle.gds_elements.specs.Rules.{HasSteps}
 use Rattle.lvl_grammar.specs.inside.After.{LeadsTo}
-use Rattle.gds_elements.specs.Placing.{IsPlaced}
+use Rattle.gds_elements.specs.inside.Placing.{IsPlaced}
 use Rattle.gds_elements.specs.declared.fault.ElementRule.{ElementRule}
 use Rattle.gds_elements.specs.declared.fault.ElementRule.TheVariants.{Points as PointsFault, ArrayStep}
 use Rattle.gds_elements.specs.declared.order.Next.{Next}
@@ -21,7 +21,8 @@ use Rattle.gds_elements.specs.declared.aref.Aref.{Aref}
 abbrev pub after : Place → ℕ → Next Place
 after Name k = if k == sname then Goes Strans else Nowhere
 after Strans k = if k == strans then Goes Magnification else (if k == colrow then Goes Points else Nowhere)
-after Magnification k = if k == mag then Goes Angle else (if k == angle then Goes Columns else (if k == colrow then Goes Points else Nowhere))
+after Magnification k =
+    if k == mag then Goes Angle else (if k == angle then Goes Columns else (if k == colrow then Goes Points else Nowhere))
 after Angle k = if k == angle then Goes Columns else (if k == colrow then Goes Points else Nowhere)
 after Columns k = if k == colrow then Goes Points else Nowhere
 after Points k = if k == xy then Ends else Nowhere
@@ -35,7 +36,7 @@ left Angle = maybe (one angle) then one colrow then one xy then one endel
 left Columns = one colrow then one xy then one endel
 left Points = one xy then one endel
 
--- the array stands where its records lead, and has their values
+-- the array is where its records lead, and has their values
 pub record IsArefRead (a : Aref) (piece : List Rec) : Type 0 where
   pub opened : opener piece ≡ Some aref
   pub leads : LeadsTo an_element (kinds piece) (left a.place)

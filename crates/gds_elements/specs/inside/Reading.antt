@@ -9,11 +9,11 @@ use Rattle.gds_elements.specs.Meaning.{shapes_of, references_of, in_rings}
 use Rattle.gds_elements.specs.Rules.{ElementBreaches, BreachesNone}
 use Rattle.lvl_refusal.specs.Refused.{Says}
 use Rattle.lvl_grammar.specs.inside.After.{LeadsTo}
-use Rattle.gds_elements.specs.Boundary.{IsBoundary}
-use Rattle.gds_elements.specs.Path.{IsPathRead}
-use Rattle.gds_elements.specs.Sref.{IsSrefRead}
-use Rattle.gds_elements.specs.Aref.{IsArefRead}
-use Rattle.gds_elements.specs.Text.{IsTextRead}
+use Rattle.gds_elements.specs.inside.Boundary.{IsBoundary}
+use Rattle.gds_elements.specs.inside.Path.{IsPathRead}
+use Rattle.gds_elements.specs.inside.Sref.{IsSrefRead}
+use Rattle.gds_elements.specs.inside.Aref.{IsArefRead}
+use Rattle.gds_elements.specs.inside.Text.{IsTextRead}
 use Rattle.lvl_refusal.specs.declared.Refusal.{Refusal}
 use Rattle.gds_elements.specs.declared.fault.ElementFault.{ElementFault}
 use Rattle.gds_elements.specs.declared.element.Drawn.{Drawn}
@@ -66,7 +66,7 @@ abbrev pub IsStep : Step → List Rec → Type 0
 IsStep (Open e) piece = IsReading e piece
 IsStep (Whole d) piece = IsWord an_element (kinds piece) × IsDrawn d piece
 
--- the record is read behind the others and breaches no rule, or is refused by one that it breaches
+-- the record is read after the others and breaches no rule, or is refused by one that it breaches
 abbrev pub Takes : List Rec → Rec → Result State (Refusal ElementFault) → Type 0
 Takes piece r (Ok s) = HasRead s (piece ++ r ∷ []) × BreachesNone piece r
 Takes piece r (Err e) = Says e (ElementBreaches piece r)

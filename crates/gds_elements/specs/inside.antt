@@ -1,0 +1,10 @@
+pub mod Formed
+pub mod Misplaced
+pub mod Boundary
+pub mod Path
+pub mod Placing
+pub mod Counts
+pub mod Sref
+pub mod Aref
+pub mod Text
+pub mod Reading
