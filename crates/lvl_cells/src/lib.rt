@@ -26,7 +26,5 @@ mod offsets;
 mod order;
 mod round;
 mod targets;
-#[cfg(test)]
-mod tests;
 mod top;
 mod walk;
