@@ -16,7 +16,7 @@ use Rattle.gds_library.specs.inside.Holds.{HasRead}
 use Rattle.gds_library.specs.declared.fault.GdsKind.TheVariants.{Record}
 use Rattle.gds_library.specs.declared.place.Place.TheVariants.{Header, Fill}
 use Rattle.gds_library.proofs.Answered.{next_took, next_stopped, next_said, next_ended, next_seen}
-use Rattle.gds_library.proofs.Stream.{reads_record, reads_refused, reads_cut, reads_fault, breach_no_read, refuses_by}
+use Rattle.gds_library.proofs.Streams.{reads_record, reads_refused, reads_cut, reads_fault, breach_no_read, refuses_by}
 use Rattle.gds_library.proofs.read.read_all.Goals as goal
 
 pub loop-init : goal.loop-init

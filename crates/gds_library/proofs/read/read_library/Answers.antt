@@ -5,7 +5,7 @@ use Rattle.gds_records.specs.Tail.{AnswersTail}
 use Rattle.gds_records.specs.declared.fault.Stopped.{Stopped}
 use Rattle.gds_records.specs.declared.fault.Stopped.TheVariants.{Fault}
 use Rattle.gds_library.specs.declared.fault.GdsKind.TheVariants.{Record, AfterEnd}
-use Rattle.gds_library.proofs.Stream.{reads_end, reads_all, reads_after, reads_tail, refuses_by}
+use Rattle.gds_library.proofs.Streams.{reads_end, reads_all, reads_after, reads_tail, refuses_by}
 use Rattle.gds_library.proofs.read.read_library.Goals as goal
 
 -- what the answer of `tail` says

@@ -1,4 +1,4 @@
-use Rattle.gds_library.proofs.Stream.{holds_begin}
+use Rattle.gds_library.proofs.Streams.{holds_begin}
 use Rattle.gds_library.proofs.reading.Reading.new.Goals as goal
 
 pub returns-clause-none : goal.returns-clause-none
