@@ -4,29 +4,24 @@
 //!     lvl show A [--top NAME]
 //!
 //! It ends with status 0 where both draw the same mask or one was shown, 1 where they differ, 2
-//! where a file is refused or can't be opened, 3 where the line is not one of these, and 4 where
-//! output failed.
+//! where a file is refused or can't be opened, 3 where the line is not one of these or asks for
+//! help, and 4 where output failed.
 #![tactic(auto)]
 
-use line::{Job, job_of};
 use lvl::Tops;
 use lvl_io::Counted;
+use lvl_line::{Job, LineFault, parse_line};
 use lvl_report::{RunFault, Status, run, run_show};
 use std::fs::File;
-use std::io::BufWriter;
+use std::io::{BufWriter, ErrorKind};
 use std::process::ExitCode;
 use std::{env, io};
 
-mod line;
-
-/// The status of a line that asks for nothing that there is.
+/// The exit status of an invalid command line, and of one that asks for help.
 const BAD_LINE: u8 = 3;
 
-/// The status of a file that can't be opened, and of want of memory behind the line.
+/// The exit status where a file can't be opened, or memory runs out after the line is read.
 const NOT_RUN: u8 = 2;
-
-const USAGE: &str =
-    "usage: lvl compare A B [--top-a NAME] [--top-b NAME] | lvl show A [--top NAME]";
 
 /// Prints why there is no answer, and gives the status.
 fn end(rt: &impl Eprint, why: &str, code: u8) -> u8 {
@@ -62,6 +57,11 @@ fn code_of(rt: &impl Eprint, ran: Result<Status, RunFault>) -> u8 {
     }
 }
 
+/// A top's name, as its bytes.
+fn top_of(name: Option<String>) -> Option<Vec<u8>> {
+    name.map(|name| name.into_bytes())
+}
+
 fn compare(rt: &HostRuntime, first: &str, second: &str, tops: &Tops) -> Result<u8, u8> {
     let mut first = open(rt, first)?;
     let mut second = open(rt, second)?;
@@ -77,31 +77,70 @@ fn show(rt: &HostRuntime, file: &str, top: Option<&[u8]>) -> Result<u8, u8> {
     Ok(code_of(rt, ran))
 }
 
-/// Does what the line asks for, and gives the status.
-fn status_of(rt: &HostRuntime) -> u8 {
-    let Ok(words) = env::args(rt) else {
-        return end(rt, "lvl: out of memory", BAD_LINE);
+/// Does the job, and gives the exit status.
+fn done(rt: &HostRuntime, job: Job) -> Result<u8, u8> {
+    match job {
+        Job::Compare {
+            first,
+            second,
+            top_a,
+            top_b,
+        } => {
+            let tops = Tops {
+                first: top_of(top_a),
+                second: top_of(top_b),
+            };
+            compare(rt, first.as_str(), second.as_str(), &tops)
+        }
+        Job::Show { file, top } => {
+            let top = top_of(top);
+            show(rt, file.as_str(), top.as_deref())
+        }
+    }
+}
+
+/// Why the line asks for nothing that can be done, on standard error.
+fn refuse(rt: &HostRuntime, fault: LineFault) -> u8 {
+    match fault {
+        LineFault::Words(error) => {
+            let _ = rt.eprint(&error);
+            BAD_LINE
+        }
+        LineFault::OutOfMemory => end(rt, "lvl: out of memory", BAD_LINE),
+    }
+}
+
+/// The words of the line, or the status that the program ends with.
+fn words_of(rt: &HostRuntime) -> Result<Vec<String>, u8> {
+    let words = match env::args(rt) {
+        Ok(words) => words,
+        Err(error) if error.kind() == ErrorKind::InvalidData => {
+            return Err(end(rt, "lvl: a word of the command line is not UTF-8 text", BAD_LINE));
+        }
+        Err(_) => return Err(end(rt, "lvl: out of memory", BAD_LINE)),
     };
-    let Ok(words) = words.skip(1).collect::<Vec<String>>(rt.alloc()) else {
-        return end(rt, "lvl: out of memory", BAD_LINE);
+    match words.collect::<Vec<String>>(rt.alloc()) {
+        Ok(words) => Ok(words),
+        Err(_) => Err(end(rt, "lvl: out of memory", BAD_LINE)),
+    }
+}
+
+/// The job of the line, or the status that the program ends with.
+fn job_of(rt: &HostRuntime) -> Result<Job, u8> {
+    let words = words_of(rt)?;
+    let texts = words.iter().map(|word| word.as_str());
+    let Ok(texts) = texts.collect::<Vec<&str>>(rt.alloc()) else {
+        return Err(end(rt, "lvl: out of memory", BAD_LINE));
     };
-    let done = match job_of(rt.alloc(), &words) {
-        Ok(
-            Some(
-                Job::Compare {
-                    first,
-                    second,
-                    tops,
-                },
-            ),
-        ) => compare(rt, first, second, &tops),
-        Ok(Some(Job::Show { file, top })) => show(rt, file, top),
-        Ok(None) => Ok(end(rt, USAGE, BAD_LINE)),
-        Err(_) => Ok(end(rt, "lvl: out of memory", BAD_LINE)),
-    };
-    done.unwrap_or_else(|code| code)
+    parse_line(rt.alloc(), texts.as_slice()).map_err(|fault| refuse(rt, fault))
+}
+
+/// Does what the line asks for, and gives the exit status.
+fn status_of(rt: &HostRuntime) -> Result<u8, u8> {
+    let job = job_of(rt)?;
+    done(rt, job)
 }
 
 fn main(rt: HostRuntime) -> ExitCode {
-    ExitCode::from(status_of(&rt))
+    ExitCode::from(status_of(&rt).unwrap_or_else(|code| code))
 }

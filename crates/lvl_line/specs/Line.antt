@@ -1,0 +1,63 @@
+-- The program's line, as clap reads it, and what its words mean.
+use Rattle.std.specs.Prelude.{◌≡◌, List, Option, Some, None, true, codes, option_map}
+use Rattle.std.specs.String.{string_bytes}
+use Rattle.clap.specs.Walk.{Row, Rule, Text, first_of}
+use Rattle.clap.specs.Values.{kind_of}
+use Rattle.clap.specs.Kinds.{IsAmong}
+use Rattle.clap.specs.Faults.{fault_of}
+use Rattle.clap.specs.Simple.{App, new_app, new_rule, subcommand_of, with_rule, with_subcommand}
+use Rattle.lvl_line.specs.declared.job.Job.{Job}
+use Rattle.lvl_line.specs.declared.job.Job.TheVariants as job
+use Rattle.lvl_line.specs.declared.job.LineFault.{LineFault}
+use Rattle.lvl_line.specs.declared.job.LineFault.TheVariants as fault
+
+-- a file that the line must name
+abbrev pub file_rule : Text → Rule
+file_rule id = record (new_rule id) { required = true }
+
+-- an option that names a top cell
+abbrev pub top_rule : Text → Rule
+top_rule id = record (new_rule id) { long = Some id; value_names = 1 }
+
+-- `compare A B [--top-a NAME] [--top-b NAME]`
+abbrev pub compare_app : App
+compare_app = with_rule (with_rule (with_rule (with_rule (new_app (codes "compare"))
+    (file_rule (codes "A"))) (file_rule (codes "B")))
+    (top_rule (codes "top-a"))) (top_rule (codes "top-b"))
+
+-- `show A [--top NAME]`
+abbrev pub show_app : App
+show_app = with_rule (with_rule (new_app (codes "show"))
+    (file_rule (codes "A"))) (top_rule (codes "top"))
+
+abbrev pub plain_line : App
+plain_line = new_app (codes "lvl")
+
+-- the line: one of the two subcommands
+abbrev pub line : App
+line = with_subcommand (with_subcommand (record plain_line {
+  top = record plain_line.top { has_version = true; subcommand_required = true };
+}) compare_app.top) show_app.top
+
+-- the job has the values that clap finds in the words, under the subcommand of that name
+abbrev pub IsNamed : Job → Option (Text × List Row) → Type 0
+IsNamed (job.Compare first second top_a top_b) (Some (name, rows)) =
+    (name ≡ codes "compare")
+    × (first_of (codes "A") rows ≡ Some (string_bytes first))
+    × (first_of (codes "B") rows ≡ Some (string_bytes second))
+    × (first_of (codes "top-a") rows ≡ option_map string_bytes top_a)
+    × (first_of (codes "top-b") rows ≡ option_map string_bytes top_b)
+IsNamed (job.Show file top) (Some (name, rows)) =
+    (name ≡ codes "show")
+    × (first_of (codes "A") rows ≡ Some (string_bytes file))
+    × (first_of (codes "top") rows ≡ option_map string_bytes top)
+IsNamed _ None = ⊥
+
+-- what the words mean by clap
+abbrev pub IsJob : List Text → Job → Type 0
+IsJob words j = IsNamed j (subcommand_of line words)
+
+-- the error is one that clap has for these words
+abbrev pub IsRefusal : List Text → LineFault → Type 0
+IsRefusal words (fault.Words e) = IsAmong (kind_of e) (fault_of line words)
+IsRefusal words fault.OutOfMemory = Unit {0}

@@ -1,0 +1,25 @@
+//! What a line asks for, and why a line asks for nothing.
+use clap::Error;
+
+/// What a line asks for. Files and names of tops are as they are in the line.
+#[derive(Debug, Drop, PartialEq, Eq)]
+pub enum Job {
+    /// Two files to be compared, each with the name of its top cell where one is given.
+    Compare {
+        first: String,
+        second: String,
+        top_a: Option<String>,
+        top_b: Option<String>,
+    },
+    /// A file to be shown, with the name of its top cell where one is given.
+    Show { file: String, top: Option<String> },
+}
+
+/// Why a line asks for nothing that can be done.
+#[derive(Debug, Drop)]
+pub enum LineFault {
+    /// `clap` refuses the words, or was asked for help or the version; the error has its text.
+    Words(Error),
+    /// A text could not be copied out of the line.
+    OutOfMemory,
+}

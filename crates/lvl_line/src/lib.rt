@@ -1,0 +1,15 @@
+//! The program's command line, read by `clap`.
+//!
+//! [`parse_line`] makes a [`Job`] of the words of a line: the subcommand, the files and the options
+//! that `clap` finds in them, or `clap`'s refusal with its text.
+#![tactic(auto)]
+
+pub use job::{Job, LineFault};
+pub use parse::parse_line;
+
+mod command;
+mod job;
+mod parse;
+
+#[cfg(test)]
+mod tests;

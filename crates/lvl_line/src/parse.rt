@@ -1,0 +1,93 @@
+//! The words of a line, as a job.
+ghost use Rattle.std.specs.Prelude.{◌≡◌, ◌≢◌, ◌⊎◌, Some, true, map, option_map, IfOk, IfErr};
+ghost use Rattle.std.specs.String.{string_bytes};
+ghost use Rattle.clap.specs.Words.{first_of, found_of, kind_of, rows_of, takes};
+ghost use Rattle.lvl_line.specs.Line.{line, IsJob, IsNamed, IsRefusal};
+ghost use Rattle.lvl_line.specs.declared.job.LineFault.TheVariants.{OutOfMemory, Words};
+ghost use Rattle.lvl_line.specs.inside.Given.{Gives, IsJobOf};
+
+use crate::command::program;
+use crate::job::{Job, LineFault};
+use clap::error::ErrorKind;
+use clap::{ArgMatches, Error};
+use std::alloc::{AllocError, Global};
+
+/// The value of an option, copied out of the line, if it is given.
+fn value_of(
+    alloc: Global,
+    matches: &ArgMatches<'_>,
+    id: &str,
+) -> Result<Option<String>, AllocError>
+    ensures { IfOk result (λ text. first_of id.now (rows_of (found_of matches.now)) ≡ option_map string_bytes text) }
+{
+    match matches.get_str(id) {
+        Some(text) => Ok(Some(String::from_str(alloc, text)?)),
+        None => Ok(None),
+    }
+}
+
+/// The value of a file, which `clap` found in the line, copied out of it.
+fn file_of(alloc: Global, matches: &ArgMatches<'_>, id: &str) -> Result<String, AllocError>
+    requires { Gives id.now (rows_of (found_of matches.now)) }
+    ensures { IfOk result (λ text. first_of id.now (rows_of (found_of matches.now)) ≡ Some (string_bytes text)) }
+{
+    let Some(text) = matches.get_str(id) else {
+        unreachable!()
+    };
+    String::from_str(alloc, text)
+}
+
+/// The job of a subcommand that `clap` found in the line.
+fn job_of(alloc: Global, name: &str, matches: &ArgMatches<'_>) -> Result<Job, AllocError>
+    requires { IsJobOf name.now (rows_of (found_of matches.now)) }
+    ensures { IfOk result (λ job. IsNamed job (Some (name.now, rows_of (found_of matches.now)))) }
+{
+    if name == "compare" {
+        return Ok(Job::Compare {
+            first: file_of(alloc, matches, "A")?,
+            second: file_of(alloc, matches, "B")?,
+            top_a: value_of(alloc, matches, "top-a")?,
+            top_b: value_of(alloc, matches, "top-b")?,
+        });
+    }
+    Ok(Job::Show {
+        file: file_of(alloc, matches, "A")?,
+        top: value_of(alloc, matches, "top")?,
+    })
+}
+
+/// `clap`'s refusal, told apart from a failed allocation.
+fn refused(error: Error) -> LineFault
+    ensures { (result ≡ OutOfMemory) ⊎ ((kind_of error ≢ ErrorKind.OutOfMemory) × (result ≡ Words error)) }
+{
+    match error.kind() {
+        ErrorKind::OutOfMemory => LineFault::OutOfMemory,
+        _ => LineFault::Words(error),
+    }
+}
+
+/// What a line asks for; its first word is the program's own name.
+///
+/// The job is what the words mean by `clap` for the program's line (see the README), and every file
+/// is there. `Words` has `clap`'s error: the line is not one of the program's, or asks for help or
+/// the version. Where `clap` takes the words, only an allocation that failed is answered.
+pub fn parse_line<'a>(alloc: Global, words: &'a [&'a str]) -> Result<Job, LineFault>
+    ensures job { IfOk result (IsJob (map (λ s. s.now) words.entry.now)) }
+    ensures refused { IfErr result (IsRefusal (map (λ s. s.now) words.entry.now)) }
+    ensures taken { takes line (map (λ s. s.now) words.entry.now) ≡ true → IfErr result (λ f. f ≡ OutOfMemory) }
+{
+    let Ok(command) = program(alloc) else {
+        return Err(LineFault::OutOfMemory);
+    };
+    let matches = match command.try_get_matches_from(words) {
+        Ok(matches) => matches,
+        Err(error) => return Err(refused(error)),
+    };
+    let Some((name, matches)) = matches.subcommand() else {
+        unreachable!()
+    };
+    match job_of(alloc, name, matches) {
+        Ok(job) => Ok(job),
+        Err(_) => Err(LineFault::OutOfMemory),
+    }
+}

@@ -1,0 +1,97 @@
+//! Lines, and what they ask for.
+use crate::{Job, LineFault, parse_line};
+use clap::error::ErrorKind;
+use std::alloc::{AllocError, Global};
+use std::test::Fail;
+
+/// What a line asks for, or the kind of its refusal.
+#[derive(Clone, Copy)]
+enum Asks<'a> {
+    Compare(&'a str, &'a str, Option<&'a str>, Option<&'a str>),
+    Show(&'a str, Option<&'a str>),
+    Nothing(ErrorKind),
+}
+
+fn is_text(found: &Option<String>, expected: Option<&str>) -> bool {
+    match (found, expected) {
+        (Some(found), Some(expected)) => found.as_str() == expected,
+        (None, None) => true,
+        _ => false,
+    }
+}
+
+fn is_asked(asks: Asks<'_>, answer: &Result<Job, LineFault>) -> bool {
+    match (asks, answer) {
+        (
+            Asks::Compare(a, b, top, other),
+            Ok(
+                Job::Compare {
+                    first,
+                    second,
+                    top_a,
+                    top_b,
+                },
+            ),
+        ) => {
+            first.as_str() == a
+                && second.as_str() == b
+                && is_text(top_a, top)
+                && is_text(top_b, other)
+        }
+        (Asks::Show(a, name), Ok(Job::Show { file, top })) => {
+            file.as_str() == a && is_text(top, name)
+        }
+        (Asks::Nothing(kind), Err(LineFault::Words(error))) => error.kind() == kind,
+        _ => false,
+    }
+}
+
+/// The words of a line, which single spaces part.
+fn words_of(alloc: Global, line: &'static str) -> Result<Vec<&'static str>, AllocError> {
+    let mut words = Vec::new(alloc);
+    for word in line.split(' ') {
+        words.push(word)?;
+    }
+    Ok(words)
+}
+
+static LINES: [(&str, Asks<'static>); 18] = [
+    ("lvl compare a b", Asks::Compare("a", "b", None, None)),
+    ("lvl compare a b --top-a X --top-b Y", Asks::Compare("a", "b", Some("X"), Some("Y"))),
+    ("lvl compare --top-b=Y a --top-a=-X b", Asks::Compare("a", "b", Some("-X"), Some("Y"))),
+    ("lvl compare a b --top-a=", Asks::Compare("a", "b", Some(""), None)),
+    ("lvl compare -- -a --top", Asks::Compare("-a", "--top", None, None)),
+    ("lvl show a", Asks::Show("a", None)),
+    ("lvl show --top X a", Asks::Show("a", Some("X"))),
+    ("lvl", Asks::Nothing(ErrorKind::MissingSubcommand)),
+    ("lvl compare a", Asks::Nothing(ErrorKind::MissingRequiredArgument)),
+    ("lvl compare a b c", Asks::Nothing(ErrorKind::UnknownArgument)),
+    ("lvl compare a b --top-a", Asks::Nothing(ErrorKind::InvalidValue)),
+    ("lvl compare a b --top X", Asks::Nothing(ErrorKind::UnknownArgument)),
+    ("lvl show a --top X --top Y", Asks::Nothing(ErrorKind::ArgumentConflict)),
+    ("lvl comparing a b", Asks::Nothing(ErrorKind::InvalidSubcommand)),
+    ("lvl --help", Asks::Nothing(ErrorKind::DisplayHelp)),
+    ("lvl show --help", Asks::Nothing(ErrorKind::DisplayHelp)),
+    ("lvl help", Asks::Nothing(ErrorKind::DisplayHelp)),
+    ("lvl --version", Asks::Nothing(ErrorKind::DisplayVersion)),
+];
+
+#[test]
+fn lines_ask_for_what_they_say(rt: HostRuntime) -> Result<(), Fail> {
+    for (line, asks) in &LINES {
+        let words = words_of(rt.alloc(), line)?;
+        let answer = parse_line(rt.alloc(), words.as_slice());
+        assert!(rt; is_asked(*asks, &answer), "{line}");
+    }
+    Ok(())
+}
+
+#[test]
+fn growths_of_a_line(rt: HostRuntime) -> Result<(), Fail> {
+    let words = ["lvl", "compare", "a", "b", "--top-a", "X"];
+    match parse_line(rt.alloc(), words.as_slice()) {
+        Ok(_) => Ok(()),
+        Err(LineFault::OutOfMemory) => Err(Fail::from(AllocError)),
+        Err(LineFault::Words(_)) => Err(Fail::from("another refusal")),
+    }
+}
