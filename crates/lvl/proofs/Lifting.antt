@@ -1,5 +1,5 @@
 -- From what was found of the libraries that are kept to what the bytes of the files spell.
-use Rattle.std.proofs.Common.{◌≡◌, ◌≢◌, ◌↔◌, ◌<◌, ◌≤◌, ℕ, List, [], get_or, Option, Some, None, length, slice_get, refl, sym, ap, ◌∙◌, subst}
+use Rattle.std.proofs.Common.{◌≡◌, ◌↔◌, ◌<◌, ◌≤◌, ℕ, List, [], get_or, Option, Some, None, length, slice_get, refl, sym, ap, ◌∙◌, subst}
 use Rattle.lvl_grid.specs.declared.point.Square.{Square}
 use Rattle.lvl_path.specs.Figure.{figure_rings, FigureCovers}
 use Rattle.lvl_path.proofs.Figures.{figure_drawn}

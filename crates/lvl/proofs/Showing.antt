@@ -1,5 +1,5 @@
 -- From what is shown of a library that is kept to what the bytes of the file spell.
-use Rattle.std.proofs.Common.{◌≡◌, ◌<◌, ◌+◌, ◌*◌, ℕ, List, [], ◌∷◌, Result, Ok, Err, IfOk, length, map, slice_get, Some, if◌then◌else◌, ◌==◌, ◌&&◌, refl, sym, ap, ◌∙◌, subst}
+use Rattle.std.proofs.Common.{◌≡◌, ◌<◌, ◌+◌, ◌*◌, ℕ, List, [], ◌∷◌, Result, Ok, Err, IfErr, IfOk, length, map, slice_get, Some, if◌then◌else◌, ◌==◌, ◌&&◌, refl, sym, ap, ◌∙◌, subst}
 use Rattle.std.specs.Prelude.{sum_by}
 use Rattle.std.proofs.lemmas.List.Sums.{sum_by-cons}
 use Rattle.lvl_path.specs.Figure.{figure_rings}
@@ -8,19 +8,23 @@ use Rattle.lvl_cells.specs.Cells.{PlainCell, PlainShape, Rings, each_ring, drawn
 use Rattle.lvl_cells.specs.Chains.{own_rings_on, over_chains, placed_rings_on}
 use Rattle.lvl_cells.specs.Soundness.{IsSound}
 use Rattle.lvl.specs.Drawing.{Drawing}
-use Rattle.lvl_region.specs.declared.region.Side.TheVariants.{First}
+use Rattle.lvl_region.specs.declared.region.Side.TheVariants.{First, Second}
 use Rattle.lvl.specs.declared.layout.Head.{Head}
 use Rattle.lvl.specs.declared.shown.Shown.{Shown}
 use Rattle.lvl.specs.declared.shown.ShownLayer.{ShownLayer}
 use Rattle.lvl.specs.declared.verdict.Refusal.{Refusal}
 use Rattle.lvl.specs.declared.verdict.Refusal.TheVariants.{File as FileRefusal, Cells as CellsRefusal, Flat as FlatRefusal, OutOfMemory}
-use Rattle.lvl.specs.Layouts.{File, Spells, IsLayoutOf}
-use Rattle.lvl.specs.Answers.{IsRefusalOf}
+use Rattle.lvl.specs.Layouts.{File, Spells, SpellsSome, IsLayoutOf}
+use Rattle.lvl_cells.specs.declared.fault.CellFault.{CellFault}
+use Rattle.lvl_flat.specs.declared.fault.FlatFault.{FlatFault}
+use Rattle.lvl_region.specs.declared.region.Side.{Side}
+use Rattle.lvl.specs.Kept.{Kept}
+use Rattle.lvl.specs.Answers.{HasPassed, IsEarlyOf, IsRefusalOf, PassesCheck}
 use Rattle.lvl.specs.Sides.{kept_named}
-use Rattle.lvl.specs.Shown.{AreShownLayers, IsShownOf, IsShownFile, IsShownKept, IsShowRefusal, IsShowReached}
+use Rattle.lvl.specs.Shown.{AreShownLayers, IsShownOf, IsShownFile, IsShownKept, IsShowRefusal}
 use Rattle.lvl.proofs.Keeping.{over_kept, length_kept, sound_kept, cell_kept}
 use Rattle.lvl.proofs.Lifting.{lifted, one_top, one_cell, cell_told, cell_unaccepted, range_told, range_unaccepted}
-use Rattle.lvl.proofs.Refused.{passes}
+use Rattle.lvl.proofs.Refused.{no_memory, passes, spells}
 
 sum_by-map : {X Y : Type 0} (f : X → Y) (g : Y → ℕ) (xs : List X) → sum_by g (map f xs) ≡ sum_by (λ x. g (f x)) xs
 sum_by-map f g [] = refl
@@ -75,14 +79,35 @@ pub file_shown : (file : File) (found : List (PlainCell Rings)) (head : Head) �
 file_shown file found head read (Ok shown) head_is k = shown_lifted file found head read shown head_is k
 file_shown file found head read (Err r) head_is k = tt
 
+passed_cells : (side : Side) (file : File) (f : CellFault) → side ≡ First → SpellsSome file.bytes → HasPassed First file (CellsRefusal side f)
+passed_cells First file f e some = some
+passed_cells Second file f e some = cc
+
+passed_flat : (side : Side) (file : File) (f : FlatFault) → side ≡ First → PassesCheck file → HasPassed First file (FlatRefusal side f)
+passed_flat First file f e p = p
+passed_flat Second file f e p = cc
+
 pub show_refused : (file : File) (found : List (PlainCell Rings)) (head : Head) → IsLayoutOf file.bytes found head → (r : Refusal) → IsShowRefusal (kept_named found file.top) r → IsRefusalOf First file r
 show_refused file found head read (FileRefusal side f) h = absurd h
-show_refused file found head read (CellsRefusal side f) h = record { unaccepted = λ b. cell_unaccepted file found head read f h.1; told = λ e. cell_told file found head read f h.1 }
-show_refused file found head read (FlatRefusal side f) h = record { unaccepted = λ b. range_unaccepted file found head read f h.1; told = λ e. range_told file found head read f h.1 }
-show_refused file found head read OutOfMemory h = record { unaccepted = λ b. absurd b; told = tt }
+show_refused file found head read (CellsRefusal side f) h = record {
+  unaccepted = λ b. cell_unaccepted file found head read f h.1;
+  told = λ e. cell_told file found head read f h.1;
+  passed = passed_cells side file f h.0 (spells file found head read);
+}
+show_refused file found head read (FlatRefusal side f) h = record {
+  unaccepted = λ b. range_unaccepted file found head read f h.1;
+  told = λ e. range_told file found head read f h.1;
+  passed = passed_flat side file f h.0 (passes file found head read (h.1.settled, h.1.checked));
+}
+show_refused file found head read OutOfMemory h = no_memory First file
 
-pub show_reached : (file : File) (found : List (PlainCell Rings)) (head : Head) → IsLayoutOf file.bytes found head → (r : Refusal) → IsShowRefusal (kept_named found file.top) r → IsShowReached file r
-show_reached file found head read (FileRefusal side f) h = absurd h
-show_reached file found head read (CellsRefusal side f) h = (read.cells, head, read.spelled)
-show_reached file found head read (FlatRefusal side f) h = passes file found head read (h.1.settled, h.1.checked)
-show_reached file found head read OutOfMemory h = tt
+-- nothing that was read is refused early
+show_not_early : (k : Kept) (r : Refusal) → IsShowRefusal k r → IsEarlyOf First r → ⊥
+show_not_early k (FileRefusal side f) h e = h
+show_not_early k (CellsRefusal side f) h e = e
+show_not_early k (FlatRefusal side f) h e = e
+show_not_early k OutOfMemory h e = e
+
+pub show_never_early : (k : Kept) (P : Type 0) (r : Result Shown Refusal) → IfErr r (IsShowRefusal k) → IfErr r (λ e. IsEarlyOf First e → P)
+show_never_early k P (Ok x) h = tt
+show_never_early k P (Err e) h = λ early. absurd (show_not_early k e h early)

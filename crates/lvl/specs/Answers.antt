@@ -1,5 +1,5 @@
 -- What an answer says of two files: a verdict, or why one of them is refused.
-use Rattle.std.specs.Prelude.{◌≡◌, ◌≢◌, ⊤, ℕ, Bool, true, false, List, Result, Ok, Err, IfOk, IfErr}
+use Rattle.std.specs.Prelude.{◌≡◌, ⊤, ℕ, Bool, false, List, ◌++◌, Option, Some, Result, Ok, Err}
 use Rattle.lvl_path.specs.Figure.{figure_rings}
 use Rattle.lvl_cells.specs.Cells.{kept}
 use Rattle.lvl_region.specs.declared.region.Side.{Side}
@@ -7,7 +7,7 @@ use Rattle.lvl_region.specs.declared.region.Side.TheVariants.{First, Second}
 use Rattle.lvl.specs.Drawing.{Drawing}
 use Rattle.lvl_refusal.specs.declared.Refusal.{Refusal as Cause}
 use Rattle.lvl_refusal.specs.declared.Refusal.TheVariants.{Breach, OutOfMemory as NoMemory}
-use Rattle.gds_library.specs.Ends.{Tells, IsExcused, is_read_kind}
+use Rattle.gds_library.specs.Ends.{Tells, IsExcused, IsEarly, is_read_kind}
 use Rattle.lvl.specs.declared.layout.Head.{Head}
 use Rattle.lvl.specs.declared.layout.FileFault.{FileFault}
 use Rattle.lvl.specs.declared.layout.FileFault.TheVariants.{Gds}
@@ -44,37 +44,56 @@ IsTold side file (CellsRefusal s fault) = s ≡ side → (cells : List Drawing) 
 IsTold side file (FlatRefusal s fault) = s ≡ side → (cells : List Drawing) (head : Head) → Spells file.bytes cells head → IsRangeFault (kept_of file cells) fault
 IsTold side file OutOfMemory = ⊤
 
--- a refusal means that the file of the side that it names is not accepted, and what its fault says is so
-pub record IsRefusalOf (side : Side) (file : File) (r : Refusal) : Type 0 where
-  pub unaccepted : Blames side r → IsUnaccepted file
-  pub told : IsTold side file r
-
 -- the file's library passes the check of its cells
 abbrev pub PassesCheck : File → Type 0
 PassesCheck file = (cells : List Drawing) × (head : Head) × Spells file.bytes cells head × Passes (kept_of file cells)
 
--- the steps before the one that refused passed: both files are read, then both are checked, then both are flattened, the first before the second
-abbrev pub IsReached : File → File → Refusal → Type 0
-IsReached a b (FileRefusal First f) = ⊤
-IsReached a b (FileRefusal Second f) = SpellsSome a.bytes
-IsReached a b (CellsRefusal First f) = SpellsSome a.bytes × SpellsSome b.bytes
-IsReached a b (CellsRefusal Second f) = PassesCheck a × SpellsSome b.bytes
-IsReached a b (FlatRefusal First f) = PassesCheck a × PassesCheck b
-IsReached a b (FlatRefusal Second f) = ((cells : List Drawing) × (top : Drawing) × IsAccepted a cells top) × PassesCheck b
-IsReached a b OutOfMemory = ⊤
+-- the steps for the file of that side that come before the one that refused passed: both files are read, then both are
+-- checked, then both are flattened, the first before the second
+abbrev pub HasPassed : Side → File → Refusal → Type 0
+HasPassed First a (FileRefusal First f) = ⊤
+HasPassed First a (FileRefusal Second f) = SpellsSome a.bytes
+HasPassed First a (CellsRefusal First f) = SpellsSome a.bytes
+HasPassed First a (CellsRefusal Second f) = PassesCheck a
+HasPassed First a (FlatRefusal First f) = PassesCheck a
+HasPassed First a (FlatRefusal Second f) = (cells : List Drawing) × (top : Drawing) × IsAccepted a cells top
+HasPassed First a OutOfMemory = ⊤
+HasPassed Second b (FileRefusal side f) = ⊤
+HasPassed Second b (CellsRefusal side f) = SpellsSome b.bytes
+HasPassed Second b (FlatRefusal side f) = PassesCheck b
+HasPassed Second b OutOfMemory = ⊤
+
+-- a refusal means that the file of the side that it names is not accepted, what its fault says is so, and the steps for
+-- the file of this side that come before it passed
+pub record IsRefusalOf (side : Side) (file : File) (r : Refusal) : Type 0 where
+  pub unaccepted : Blames side r → IsUnaccepted file
+  pub told : IsTold side file r
+  pub passed : HasPassed side file r
+
+-- the fault is reported before the input has ended, and not because a read failed
+abbrev pub IsEarlyFile : FileFault → Type 0
+IsEarlyFile (Gds f) = IsEarly f
+
+-- the refusal is such a one of that side's file
+abbrev pub IsEarlyOf : Side → Refusal → Type 0
+IsEarlyOf side (FileRefusal s f) = (s ≡ side) × IsEarlyFile f
+IsEarlyOf side (CellsRefusal s f) = ⊥
+IsEarlyOf side (FlatRefusal s f) = ⊥
+IsEarlyOf side OutOfMemory = ⊥
+
+-- of the input some bytes were taken, which spell no library whatever comes after them, and the others are left
+pub record IsHopeless (xs : List ℕ) (left : Option (List ℕ)) : Type 0 where
+  pub taken : List ℕ
+  pub rest : List ℕ
+  pub parts : xs ≡ taken ++ rest
+  pub left_is : left ≡ Some rest
+  pub none : (more : List ℕ) → SpellsSome (taken ++ more) → ⊥
 
 -- the heads are those that the bytes spell, and the verdict holds
 pub record IsCompared (a b : File) (c : Comparison) : Type 0 where
   pub first : HasHead a.bytes c.first
   pub second : HasHead b.bytes c.second
   pub verdict : IsVerdict a b c.verdict
-
--- all that an answer says
-pub record IsAnswer (a b : File) (answer : Result Comparison Refusal) : Type 0 where
-  pub compared : IfOk answer (IsCompared a b)
-  pub first : IfErr answer (IsRefusalOf First a)
-  pub second : IfErr answer (IsRefusalOf Second b)
-  pub order : IfErr answer (IsReached a b)
 
 -- the fault is a read that failed
 abbrev pub read_failed : FileFault → Bool

@@ -14,10 +14,9 @@ use Rattle.lvl.specs.declared.shown.Shown.{Shown}
 use Rattle.lvl.specs.declared.shown.ShownLayer.{ShownLayer}
 use Rattle.lvl.specs.declared.verdict.Refusal.{Refusal}
 use Rattle.lvl.specs.declared.verdict.Refusal.TheVariants.{File as FileRefusal, Cells as CellsRefusal, Flat as FlatRefusal, OutOfMemory}
-use Rattle.lvl.specs.Layouts.{File, Spells, SpellsSome}
+use Rattle.lvl.specs.Layouts.{File, Spells}
 use Rattle.lvl.specs.Accepted.{IsAccepted}
 use Rattle.lvl.specs.Kept.{Kept, IsCheckedAs, IsCellFault, IsRangeFault}
-use Rattle.lvl.specs.Answers.{PassesCheck}
 
 -- a Layer of a flat layout, with the number of its rings
 abbrev pub shown_layer : PlainSheet → ShownLayer
@@ -65,10 +64,3 @@ IsShowRefusal k (FileRefusal side f) = ⊥
 IsShowRefusal k (CellsRefusal side f) = (side ≡ First) × IsCellFault k f
 IsShowRefusal k (FlatRefusal side f) = (side ≡ First) × IsRangeFault k f
 IsShowRefusal k OutOfMemory = ⊤
-
--- the steps before the one that refused passed: the file is read, then checked, then flattened
-abbrev pub IsShowReached : File → Refusal → Type 0
-IsShowReached file (FileRefusal side f) = ⊤
-IsShowReached file (CellsRefusal side f) = SpellsSome file.bytes
-IsShowReached file (FlatRefusal side f) = PassesCheck file
-IsShowReached file OutOfMemory = ⊤

@@ -1,5 +1,5 @@
 -- What the steps for one side answer.
-use Rattle.std.specs.Prelude.{◌≡◌, ◌≢◌, ⊤, ℕ, List, Option, option_map, Vec}
+use Rattle.std.specs.Prelude.{◌≡◌, ⊤, ℕ, List, Option, option_map, Vec}
 use Rattle.std.specs.Global.{Global}
 use Rattle.lvl_cells.specs.Cells.{PlainCell, Rings}
 use Rattle.lvl_cells.specs.Checks.{Settled}
@@ -11,7 +11,6 @@ use Rattle.lvl.specs.declared.layout.Head.TheVariants.{Gds as GdsHeadOf}
 use Rattle.lvl.specs.declared.layout.Layout.{Layout}
 use Rattle.lvl.specs.declared.layout.Layout.TheVariants.{Gds as GdsLayout}
 use Rattle.lvl.specs.declared.layout.FileFault.{FileFault}
-use Rattle.lvl.specs.declared.layout.FileFault.TheVariants.{Gds}
 use Rattle.lvl.specs.declared.verdict.Refusal.{Refusal}
 use Rattle.lvl.specs.declared.verdict.Refusal.TheVariants.{File as FileRefusal, Cells as CellsRefusal, Flat as FlatRefusal, OutOfMemory}
 use Rattle.lvl.specs.Layouts.{File, Spells}

@@ -8,7 +8,7 @@ ghost use Rattle.lvl_region.specs.declared.region.Side.{Side as WhichSide};
 ghost use Rattle.lvl.specs.declared.verdict.Verdict.TheVariants.{Same, Differ};
 ghost use Rattle.lvl.specs.Accepted.{AreSame, AreDifferent, IsUnaccepted};
 ghost use Rattle.lvl.specs.Kept.{IsKeptVerdict, IsKeptRefusal};
-ghost use Rattle.lvl.specs.Answers.{IsAnswer, IsRefusalOf, IsReached, IsTold, Blames, is_read_of};
+ghost use Rattle.lvl.specs.Answers.{Blames, HasPassed, IsCompared, IsEarlyOf, IsHopeless, IsRefusalOf, IsTold, is_read_of};
 ghost use Rattle.lvl.specs.Sides.{file, library_of};
 ghost use Rattle.lvl.specs.declared.verdict.Refusal.TheVariants.{OutOfMemory};
 
@@ -68,8 +68,14 @@ pub fn compare_layouts<A: Read, B: Read>(
         → IfErr result (IsTold First (file xs tops.now.first)) }
     ensures second_told { (ys : List ℕ) → B.remaining second.old ≡ Some ys
         → IfErr result (IsTold Second (file ys tops.now.second)) }
-    ensures order { (xs ys : List ℕ) → A.remaining first.old ≡ Some xs → B.remaining second.old ≡ Some ys
-        → IfErr result (IsReached (file xs tops.now.first) (file ys tops.now.second)) }
+    ensures first_passed { (xs : List ℕ) → A.remaining first.old ≡ Some xs
+        → IfErr result (HasPassed First (file xs tops.now.first)) }
+    ensures second_passed { (ys : List ℕ) → B.remaining second.old ≡ Some ys
+        → IfErr result (HasPassed Second (file ys tops.now.second)) }
+    ensures first_early { (xs : List ℕ) → A.remaining first.old ≡ Some xs
+        → IfErr result (λ r. IsEarlyOf First r → IsHopeless xs (A.remaining first.new)) }
+    ensures second_early { (ys : List ℕ) → B.remaining second.old ≡ Some ys
+        → IfErr result (λ r. IsEarlyOf Second r → IsHopeless ys (B.remaining second.new)) }
     ensures first_reads { result ≢ Err OutOfMemory
         → CountsFailure (A.read_errors first.old) (A.read_errors first.new) (is_read_of First result) }
     ensures second_reads { result ≢ Err OutOfMemory
@@ -89,12 +95,16 @@ pub fn compare_files<A: Read, B: Read>(
     second: &mut B,
     tops: &Tops,
 ) -> Result<Comparison, Refusal>
-    ensures answer { (xs ys : List ℕ) → A.remaining first.old ≡ Some xs → B.remaining second.old ≡ Some ys
-        → IsAnswer (file xs tops.now.first) (file ys tops.now.second) result }
+    ensures compared { (xs ys : List ℕ) → A.remaining first.old ≡ Some xs → B.remaining second.old ≡ Some ys
+        → IfOk result (IsCompared (file xs tops.now.first) (file ys tops.now.second)) }
     ensures first_refused { (xs : List ℕ) → A.remaining first.old ≡ Some xs
         → IfErr result (IsRefusalOf First (file xs tops.now.first)) }
     ensures second_refused { (ys : List ℕ) → B.remaining second.old ≡ Some ys
         → IfErr result (IsRefusalOf Second (file ys tops.now.second)) }
+    ensures first_early { (xs : List ℕ) → A.remaining first.old ≡ Some xs
+        → IfErr result (λ r. IsEarlyOf First r → IsHopeless xs (A.remaining first.new)) }
+    ensures second_early { (ys : List ℕ) → B.remaining second.old ≡ Some ys
+        → IfErr result (λ r. IsEarlyOf Second r → IsHopeless ys (B.remaining second.new)) }
     ensures first_reads { result ≢ Err OutOfMemory
         → CountsFailure (A.read_errors first.old) (A.read_errors first.new) (is_read_of First result) }
     ensures second_reads { result ≢ Err OutOfMemory

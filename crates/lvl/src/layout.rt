@@ -4,7 +4,7 @@ ghost use Rattle.lvl_io.specs.Bytes.{CountsFailure};
 ghost use Rattle.lvl_refusal.specs.Refused.{Says};
 ghost use Rattle.lvl_refusal.specs.declared.Refusal.TheVariants.{OutOfMemory};
 ghost use Rattle.lvl.specs.Layouts.{IsLayoutOf};
-ghost use Rattle.lvl.specs.Answers.{is_failed_read};
+ghost use Rattle.lvl.specs.Answers.{IsEarlyFile, IsHopeless, is_failed_read};
 ghost use Rattle.lvl.specs.Sides.{layout_parts, IsFileFault};
 
 use gds_library::{GdsFault, GdsHead, read_gds};
@@ -53,6 +53,8 @@ pub fn read_layout<R: Read>(alloc: Global, reader: &mut R) -> Result<Layout, Ref
         → IfOk result (λ layout. IsLayoutOf xs (layout_parts layout).0 (layout_parts layout).1) }
     ensures refused { (xs : List ℕ) → R.remaining reader.old ≡ Some xs
         → IfErr result (λ refusal. Says refusal (IsFileFault xs)) }
+    ensures early { (xs : List ℕ) → R.remaining reader.old ≡ Some xs
+        → IfErr result (λ refusal. Says refusal (λ fault. IsEarlyFile fault → IsHopeless xs (R.remaining reader.new))) }
     ensures reads { result ≢ Err OutOfMemory
         → CountsFailure (R.read_errors reader.old) (R.read_errors reader.new) (is_failed_read result) }
 {

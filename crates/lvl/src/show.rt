@@ -2,8 +2,8 @@
 ghost use Rattle.std.specs.Prelude.{◌≡◌, ◌≢◌, List, ℕ, Some, Err, IfOk, IfErr, option_copied};
 ghost use Rattle.lvl_io.specs.Bytes.{CountsFailure};
 ghost use Rattle.lvl_region.specs.declared.region.Side.TheVariants.{First};
-ghost use Rattle.lvl.specs.Answers.{IsRefusalOf, is_read_of};
-ghost use Rattle.lvl.specs.Shown.{IsShownFile, IsShownKept, IsOfFirst, IsShowRefusal, IsShowReached};
+ghost use Rattle.lvl.specs.Answers.{IsEarlyOf, IsHopeless, IsRefusalOf, is_read_of};
+ghost use Rattle.lvl.specs.Shown.{IsShownFile, IsShownKept, IsOfFirst, IsShowRefusal};
 ghost use Rattle.lvl.specs.Sides.{file_named, kept_named};
 ghost use Rattle.lvl.specs.declared.verdict.Refusal.TheVariants.{OutOfMemory};
 
@@ -56,8 +56,8 @@ pub fn show_file<R: Read>(
         → IfOk result (IsShownFile (file_named xs (option_copied top.entry))) }
     ensures refused { (xs : List ℕ) → R.remaining reader.old ≡ Some xs
         → IfErr result (IsRefusalOf First (file_named xs (option_copied top.entry))) }
-    ensures order { (xs : List ℕ) → R.remaining reader.old ≡ Some xs
-        → IfErr result (IsShowReached (file_named xs (option_copied top.entry))) }
+    ensures early { (xs : List ℕ) → R.remaining reader.old ≡ Some xs
+        → IfErr result (λ r. IsEarlyOf First r → IsHopeless xs (R.remaining reader.new)) }
     ensures side { IfErr result IsOfFirst }
     ensures reads { result ≢ Err OutOfMemory
         → CountsFailure (R.read_errors reader.old) (R.read_errors reader.new) (is_read_of First result) }

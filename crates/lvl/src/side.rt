@@ -4,7 +4,7 @@ ghost use Rattle.lvl_io.specs.Bytes.{CountsFailure};
 ghost use Rattle.lvl_flat.specs.Flattened.{IsFlattened};
 ghost use Rattle.lvl.specs.Layouts.{IsLayoutOf};
 ghost use Rattle.lvl.specs.Kept.{IsCheckedAs};
-ghost use Rattle.lvl.specs.Answers.{is_read_of};
+ghost use Rattle.lvl.specs.Answers.{IsEarlyOf, IsHopeless, is_read_of};
 ghost use Rattle.lvl.specs.Sides.{IsOfFile, IsReadRefusal, IsCheckRefusal, IsFlattenRefusal, given_name, library_of, kept_named};
 ghost use Rattle.lvl.specs.declared.verdict.Refusal.TheVariants.{OutOfMemory};
 
@@ -27,6 +27,8 @@ pub(crate) fn read_side<R: Read>(
         → IfOk result (λ found. IsLayoutOf xs found.0 found.1) }
     ensures refused { (xs : List ℕ) → R.remaining reader.old ≡ Some xs
         → IfErr result (IsReadRefusal side xs) }
+    ensures early { (xs : List ℕ) → R.remaining reader.old ≡ Some xs
+        → IfErr result (λ r. IsEarlyOf side r → IsHopeless xs (R.remaining reader.new)) }
     ensures own { IfErr result (IsOfFile side) }
     ensures reads { result ≢ Err OutOfMemory
         → CountsFailure (R.read_errors reader.old) (R.read_errors reader.new) (is_read_of side result) }

@@ -9,25 +9,30 @@ use Rattle.lvl.specs.declared.verdict.Comparison.{Comparison}
 use Rattle.lvl.specs.declared.verdict.Refusal.{Refusal}
 use Rattle.lvl.specs.declared.verdict.Refusal.TheVariants.{OutOfMemory}
 use Rattle.lvl.specs.Sides.{file_named}
-use Rattle.lvl.specs.Answers.{IsAnswer, IsRefusalOf, is_read_of}
-use Rattle.lvl.specs.Shown.{IsShownFile, IsShowReached, IsOfFirst}
+use Rattle.lvl.specs.Answers.{IsCompared, IsEarlyOf, IsHopeless, IsRefusalOf, is_read_of}
+use Rattle.lvl.specs.Shown.{IsShownFile, IsOfFirst}
 use Rattle.lvl_report.specs.Writing.{AppendsBeginning}
 
--- a reader in a run: the bytes that it had, where they are known, its errors before and after, and the name of the top
+-- a reader in a run: the bytes that it had and those that are left, where they are known, its errors before and after, and
+-- the name of the top
 pub record Input : Type 0 where
   pub bytes : Option (List ℕ)
+  pub left : Option (List ℕ)
   pub before : ℕ
   pub after : ℕ
   pub top : Option (List ℕ)
 
-abbrev pub input : Option (List ℕ) → ℕ → ℕ → Option (List ℕ) → Input
-input bytes before after top = record { bytes = bytes; before = before; after = after; top = top }
+abbrev pub input : Option (List ℕ) → Option (List ℕ) → ℕ → ℕ → Option (List ℕ) → Input
+input bytes left before after top = record { bytes = bytes; left = left; before = before; after = after; top = top }
 
 -- the answer is one that the comparison of two files may give
 pub record IsComparedBy (a b : Input) (answer : Result Comparison Refusal) : Type 0 where
-  pub answered : (xs ys : List ℕ) → a.bytes ≡ Some xs → b.bytes ≡ Some ys → IsAnswer (file_named xs a.top) (file_named ys b.top) answer
+  pub compared : (xs ys : List ℕ) → a.bytes ≡ Some xs → b.bytes ≡ Some ys
+      → IfOk answer (IsCompared (file_named xs a.top) (file_named ys b.top))
   pub first_refused : (xs : List ℕ) → a.bytes ≡ Some xs → IfErr answer (IsRefusalOf First (file_named xs a.top))
   pub second_refused : (ys : List ℕ) → b.bytes ≡ Some ys → IfErr answer (IsRefusalOf Second (file_named ys b.top))
+  pub first_early : (xs : List ℕ) → a.bytes ≡ Some xs → IfErr answer (λ r. IsEarlyOf First r → IsHopeless xs a.left)
+  pub second_early : (ys : List ℕ) → b.bytes ≡ Some ys → IfErr answer (λ r. IsEarlyOf Second r → IsHopeless ys b.left)
   pub first_reads : answer ≢ Err OutOfMemory → CountsFailure a.before a.after (is_read_of First answer)
   pub second_reads : answer ≢ Err OutOfMemory → CountsFailure b.before b.after (is_read_of Second answer)
 
@@ -35,7 +40,7 @@ pub record IsComparedBy (a b : Input) (answer : Result Comparison Refusal) : Typ
 pub record IsShownBy (a : Input) (answer : Result Shown Refusal) : Type 0 where
   pub shown : (xs : List ℕ) → a.bytes ≡ Some xs → IfOk answer (IsShownFile (file_named xs a.top))
   pub refused : (xs : List ℕ) → a.bytes ≡ Some xs → IfErr answer (IsRefusalOf First (file_named xs a.top))
-  pub order : (xs : List ℕ) → a.bytes ≡ Some xs → IfErr answer (IsShowReached (file_named xs a.top))
+  pub early : (xs : List ℕ) → a.bytes ≡ Some xs → IfErr answer (λ r. IsEarlyOf First r → IsHopeless xs a.left)
   pub side : IfErr answer IsOfFirst
   pub reads : answer ≢ Err OutOfMemory → CountsFailure a.before a.after (is_read_of First answer)
 

@@ -1,4 +1,4 @@
-use Rattle.lvl.proofs.Spelling.{layout_read, file_fault}
+use Rattle.lvl.proofs.Spelling.{layout_read, file_early, file_fault}
 use Rattle.lvl.proofs.layout.read_layout.Goals as goal
 
 pub returns-in-Ok-clause-spelled : goal.returns-in-Ok-clause-spelled
@@ -8,3 +8,8 @@ pub returns-in-Err-Breach-clause-refused : goal.returns-in-Err-Breach-clause-ref
 returns-in-Err-Breach-clause-refused g c xs known =
     let e = c.in-Err-Breach in
     file_fault xs e.field-0 e.fault e.field-0-is (e.ensures.refused xs known) (e.ensures.none xs known)
+
+pub returns-in-Err-Breach-clause-early : goal.returns-in-Err-Breach-clause-early
+returns-in-Err-Breach-clause-early g c xs known soon =
+    let e = c.in-Err-Breach in
+    file_early xs _ e.field-0 e.fault e.field-0-is (e.ensures.early xs known) soon

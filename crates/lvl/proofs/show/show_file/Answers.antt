@@ -1,7 +1,7 @@
 use Rattle.std.proofs.lemmas.Result.{IfErr-weaker}
 use Rattle.lvl.specs.Sides.{file_named}
 use Rattle.std.specs.Option.{option_copied}
-use Rattle.lvl.proofs.Showing.{file_shown, show_refused, show_reached}
+use Rattle.lvl.proofs.Showing.{file_shown, show_never_early, show_refused}
 use Rattle.lvl.proofs.show.show_file.Goals as goal
 
 pub returns-clause-shown : goal.returns-clause-shown
@@ -13,6 +13,5 @@ pub returns-clause-refused : goal.returns-clause-refused
 returns-clause-refused g c xs known =
     IfErr-weaker _ _ _ (show_refused (file_named xs (option_copied c.args.top)) _ _ (c.in_ok-library.ensures.read xs known)) c.show_library.ensures.refused
 
-pub returns-clause-order : goal.returns-clause-order
-returns-clause-order g c xs known =
-    IfErr-weaker _ _ _ (show_reached (file_named xs (option_copied c.args.top)) _ _ (c.in_ok-library.ensures.read xs known)) c.show_library.ensures.refused
+pub returns-clause-early : goal.returns-clause-early
+returns-clause-early g c xs known = show_never_early _ _ c.show_library.result c.show_library.ensures.refused

@@ -1,5 +1,6 @@
 use Rattle.std.proofs.Common.{refl, subst}
 use Rattle.lvl_refusal.specs.Refused.{Says}
+use Rattle.lvl.specs.Answers.{IsEarlyFile, IsHopeless}
 use Rattle.lvl.specs.Sides.{IsFileFault}
 use Rattle.lvl.proofs.side.read_side.Goals as goal
 
@@ -7,3 +8,8 @@ pub returns-in-Err-Breach-clause-refused : goal.returns-in-Err-Breach-clause-ref
 returns-in-Err-Breach-clause-refused g c xs known =
     let e = c.in-Err-Breach in
     (refl, subst (λ r. Says r (IsFileFault xs)) e.field-0-is (e.ensures.refused xs known))
+
+pub returns-in-Err-Breach-clause-early : goal.returns-in-Err-Breach-clause-early
+returns-in-Err-Breach-clause-early g c xs known soon =
+    let e = c.in-Err-Breach in
+    subst (λ r. Says r (λ f. IsEarlyFile f → IsHopeless xs (g.R.Read.remaining c.read_layout.new.reader))) e.field-0-is (e.ensures.early xs known) soon.1

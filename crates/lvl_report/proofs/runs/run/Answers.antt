@@ -7,12 +7,28 @@ pub returns-clause-written : goal.returns-clause-written
 returns-clause-written g c =
     let found = c.compare_files-answer.ensures in
     was_written _ text_of status_of _ _ c.compare_files-answer.result c.tell.result
-    (record { answered = found.answer; first_refused = found.first_refused; second_refused = found.second_refused; first_reads = found.first_reads; second_reads = found.second_reads })
+    (record {
+      compared = found.compared;
+      first_refused = found.first_refused;
+      second_refused = found.second_refused;
+      first_early = found.first_early;
+      second_early = found.second_early;
+      first_reads = found.first_reads;
+      second_reads = found.second_reads;
+    })
     c.tell.ensures.whole c.tell.ensures.status
 
 pub returns-clause-begun : goal.returns-clause-begun
 returns-clause-begun g c =
     let found = c.compare_files-answer.ensures in
     was_begun _ text_of _ _ c.compare_files-answer.result c.tell.result
-    (record { answered = found.answer; first_refused = found.first_refused; second_refused = found.second_refused; first_reads = found.first_reads; second_reads = found.second_reads })
+    (record {
+      compared = found.compared;
+      first_refused = found.first_refused;
+      second_refused = found.second_refused;
+      first_early = found.first_early;
+      second_early = found.second_early;
+      first_reads = found.first_reads;
+      second_reads = found.second_reads;
+    })
     c.tell.ensures.begun
