@@ -27,7 +27,5 @@ mod order;
 mod path;
 mod placing;
 mod sref;
-#[cfg(test)]
-mod tests;
 mod text;
 mod values;

@@ -1,5 +1,5 @@
 -- The laws of spellings: which are free of prefixes, which can say something, and where one is begun.
-use Rattle.std.proofs.Common.{◌≡◌, ℕ, zero, suc, ◌+◌, ◌<◌, ◌≤◌, ◌⊎◌, inl, inr, List, [], ◌∷◌, ◌++◌, length, Result, Ok, Err, refl, sym, ap, ◌∙◌, subst, arith, append_assoc, append-nil, length-append}
+use Rattle.std.proofs.Common.{◌≡◌, ℕ, zero, suc, inl, inr, List, [], ◌∷◌, ◌++◌, length, Result, Ok, Err, refl, sym, ap, ◌∙◌, subst, arith, append_assoc, append-nil, length-append}
 use Rattle.std.proofs.lemmas.List.{append_cancel_left}
 use Rattle.lvl_io.specs.Known.{Agree}
 use Rattle.lvl_io.specs.Spelling.{IsPrefixFree, IsFront, IsBegun, NoneAgrees, CanSay, Gives, After, UnlessBreached, Then, Chain}

@@ -3,7 +3,7 @@
 -- What may be refused is spelled as a `Result`: bytes say `Ok x` where they spell x, and `Err f` where they breach the
 -- rule f, of which they are the shortest proof. So that a spelling is free of prefixes says three things in one: bytes
 -- spell one value at most, where a rule is breached nothing is spelled, and which rule it is the bytes alone decide.
-use Rattle.std.specs.Prelude.{◌≡◌, ℕ, zero, suc, ◌<◌, ◌≤◌, List, [], ◌∷◌, ◌++◌, length, Result, Ok, Err}
+use Rattle.std.specs.Prelude.{◌≡◌, ℕ, zero, suc, ◌<◌, List, [], ◌∷◌, ◌++◌, length, Result, Ok, Err}
 use Rattle.lvl_io.specs.Known.{Agree}
 
 -- bytes say one thing at most, and nothing that says something begins what says another thing

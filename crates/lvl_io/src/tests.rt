@@ -2,7 +2,7 @@
 ghost use Rattle.std.specs.Prelude.{None};
 
 use crate::fake::Pieces;
-use crate::{Counted, Failure, Read, Write};
+use crate::{Counted, Failure, Peeked, Read, Write};
 use std::io;
 use std::test::Fail;
 
@@ -78,4 +78,16 @@ fn hands_out_pieces_and_fails_once(rt: HostRuntime) {
         assert_eq!(rt; reader.read(&mut buf), want);
     }
     assert_eq!(rt; reader.errors, 1);
+}
+
+#[test]
+fn gives_a_byte_again(rt: HostRuntime) {
+    let mut reader = Peeked::new(Some(b'm'), Pieces::new(b"ask", 2));
+    let mut buf = [0; 4];
+    assert_eq!(rt; reader.read(&mut []), Ok(0));
+    assert_eq!(rt; reader.read(&mut buf), Ok(1));
+    assert_eq!(rt; buf.first(), Some(&b'm'));
+    assert_eq!(rt; reader.read(&mut buf), Ok(2));
+    assert_eq!(rt; reader.read(&mut buf), Ok(1));
+    assert_eq!(rt; reader.read(&mut buf), Ok(0));
 }

@@ -206,7 +206,7 @@ fn tops_by_files(rt: HostRuntime) -> Result<(), Fail> {
     let square = square_with(rt.alloc(), &[])?;
     let mut stream = Stream::new(rt.alloc())?;
     stream.structure(b"TOP\0")?;
-    stream.boundary(&SQUARE)?;
+    stream.ring(&SQUARE)?;
     stream.end_structure()?;
     stream.structure(b"A\0")?;
     stream.end_structure()?;
@@ -258,8 +258,8 @@ fn show_gds(rt: HostRuntime) -> Result<(), Fail> {
     stream.structure(b"A\0")?;
     stream.end_structure()?;
     stream.structure(b"TOP\0")?;
-    stream.boundary(&SQUARE)?;
-    stream.boundary(&SQUARE)?;
+    stream.ring(&SQUARE)?;
+    stream.ring(&SQUARE)?;
     stream.end_structure()?;
     let two = stream.end()?;
     let (text, _) = shown(rt.alloc(), &two, Some(b"TOP"), 1000)?;

@@ -16,13 +16,13 @@ fn chain(alloc: Global, cells: u32, times: u32) -> Result<Vec<u8>, AllocError> {
         let next = format!(in alloc; "C{:05}", number + 1)?;
         stream.structure(name.as_bytes())?;
         for _ in 0..times {
-            stream.place_at(next.as_bytes(), 1, 0)?;
+            stream.reference(next.as_bytes(), (1, 0))?;
         }
         stream.end_structure()?;
     }
     let last = format!(in alloc; "C{cells:05}")?;
     stream.structure(last.as_bytes())?;
-    stream.boundary(&UNIT)?;
+    stream.ring(&UNIT)?;
     stream.end_structure()?;
     stream.end()
 }

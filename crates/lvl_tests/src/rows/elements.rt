@@ -1,7 +1,7 @@
 //! Paths, references, arrays and texts, row by row.
 
 use super::failing::NO_MEMORY;
-use super::stream::{SQUARE, Stream, drawing, square_with};
+use super::stream::{SQUARE, Stream, drawing, place, square_with, text};
 use super::{SAME, ends_with_line, no_tops, written};
 use std::alloc::{AllocError, Global};
 use std::test::Fail;
@@ -32,7 +32,7 @@ fn with_array(
 ) -> Result<Vec<u8>, AllocError> {
     let mut stream = Stream::new(alloc)?;
     stream.structure(b"A\0")?;
-    stream.boundary(&SQUARE)?;
+    stream.ring(&SQUARE)?;
     stream.end_structure()?;
     stream.structure(b"TOP\0")?;
     stream.array(b"A\0", columns, rows, points)?;
@@ -114,10 +114,10 @@ fn flip_then_turn(rt: HostRuntime) -> Result<(), Fail> {
     let standing: [(i32, i32); 4] = [(0, 0), (1, 0), (1, 3), (0, 3)];
     let mut stream = Stream::new(rt.alloc())?;
     stream.structure(b"A\0")?;
-    stream.boundary(&lying)?;
+    stream.ring(&lying)?;
     stream.end_structure()?;
     stream.structure(b"TOP\0")?;
-    stream.place(b"A\0", Some(&RIGHT_ANGLE))?;
+    place(&mut stream, b"A\0", Some(&RIGHT_ANGLE))?;
     stream.end_structure()?;
     let placed = stream.end()?;
     let drawn = drawing(rt.alloc(), &[&standing])?;
@@ -130,10 +130,10 @@ fn flip_then_turn(rt: HostRuntime) -> Result<(), Fail> {
 fn in_a_cycle(alloc: Global) -> Result<Vec<u8>, AllocError> {
     let mut stream = Stream::new(alloc)?;
     stream.structure(b"A\0")?;
-    stream.place(b"B\0", None)?;
+    place(&mut stream, b"B\0", None)?;
     stream.end_structure()?;
     stream.structure(b"B\0")?;
-    stream.place(b"A\0", None)?;
+    place(&mut stream, b"A\0", None)?;
     stream.end_structure()?;
     stream.structure(b"C\0")?;
     stream.end_structure()?;
@@ -148,13 +148,13 @@ fn cycle(rt: HostRuntime) -> Result<(), Fail> {
     assert!(rt; ends_with_line(&text, "refused: first: cells 4 Cycle A B"));
     let mut stream = Stream::new(rt.alloc())?;
     stream.structure(b"A\0")?;
-    stream.place(b"A\0", None)?;
+    place(&mut stream, b"A\0", None)?;
     stream.end_structure()?;
     let (text, _) = written(rt.alloc(), &stream.end()?, &square, &no_tops(), 1000)?;
     assert!(rt; ends_with_line(&text, "refused: first: cells 4 Cycle A"));
     let mut stream = Stream::new(rt.alloc())?;
     stream.structure(b"TOP\0")?;
-    stream.place(b"X\0", None)?;
+    place(&mut stream, b"X\0", None)?;
     stream.end_structure()?;
     let (text, _) = written(rt.alloc(), &square, &stream.end()?, &no_tops(), 1000)?;
     assert!(rt; ends_with_line(&text, "refused: second: cells 3 MissingCell TOP X"));
@@ -166,8 +166,8 @@ fn text_covers_nothing(rt: HostRuntime) -> Result<(), Fail> {
     let square = square_with(rt.alloc(), &[])?;
     let mut stream = Stream::new(rt.alloc())?;
     stream.structure(b"TOP\0")?;
-    stream.boundary(&SQUARE)?;
-    stream.text()?;
+    stream.ring(&SQUARE)?;
+    text(&mut stream)?;
     stream.end_structure()?;
     let (text, _) = written(rt.alloc(), &stream.end()?, &square, &no_tops(), 1000)?;
     assert_eq!(rt; text.as_slice(), SAME.as_bytes());

@@ -2,7 +2,7 @@
 ghost use Rattle.std.specs.Prelude.{IsTrue};
 ghost use Rattle.gds_elements.specs.inside.Formed.{IsFormed};
 
-use crate::{Drawn, Element, ElementFault, ElementRule, Misplaced, Step};
+use gds_elements::{Drawn, Element, ElementFault, ElementRule, Misplaced, Step};
 use gds_records::record_type as ty;
 use lvl_cells::{Layer, Reference, Shape};
 use lvl_grid::{Point, Ring, Turn};

@@ -2,7 +2,7 @@
 //! reader cuts the bytes nor where it fails.
 ghost use Rattle.std.specs.Prelude.{Some, None};
 
-use crate::{RecordFault, Records, Stopped, record_type};
+use gds_records::{RecordFault, Records, Stopped, record_type};
 use lvl_io::Read;
 use lvl_io::fake::Pieces;
 use std::alloc::{AllocError, Global};

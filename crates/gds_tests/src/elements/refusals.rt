@@ -1,6 +1,6 @@
 //! Which rule is reported, and of which record.
 use super::{DEGREES_45, DEGREES_90, END, Line, Says, Stop, TWICE, array, read};
-use crate::{ElementFault, ElementRule, Misplaced};
+use gds_elements::{ElementFault, ElementRule, Misplaced};
 use gds_records::record_type as ty;
 use lvl_path::PathFault;
 use std::test::Fail;

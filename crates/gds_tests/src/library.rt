@@ -2,8 +2,8 @@
 //! how a reader cuts the bytes nor where it fails.
 ghost use Rattle.std.specs.Prelude.{Some, None};
 
-use crate::stream::{ONE, SQUARE, Stream};
-use crate::{ElementRule, GdsFault, GdsHead, GdsKind, Misplaced, RecordFault, read_gds};
+use gds_records::fake::{ONE, SQUARE, Stream};
+use gds_library::{ElementRule, GdsFault, GdsHead, GdsKind, Misplaced, RecordFault, read_gds};
 use lvl_cells::{Layer, Library};
 use lvl_grid::Point;
 use lvl_io::fake::Pieces;
@@ -20,10 +20,9 @@ fn square(alloc: Global) -> Result<Vec<u8>, AllocError> {
 fn with_boundary(alloc: Global, name: &[u8], points: &[(i32, i32)]) -> Result<Vec<u8>, AllocError> {
     let mut stream = Stream::new(alloc)?;
     stream.structure(name)?;
-    stream.boundary(alloc, 1, 0, points)?;
+    stream.boundary(1, 0, points)?;
     stream.end_structure()?;
-    stream.end()?;
-    Ok(stream.bytes)
+    stream.end()
 }
 
 /// Where the records of `square` begin, and where it ends.
@@ -110,12 +109,11 @@ fn reads_structures_in_file_order(rt: HostRuntime) -> Result<(), Fail> {
     for (n, name) in names.iter().enumerate() {
         stream.structure(name)?;
         for _ in 0..n {
-            stream.boundary(rt.alloc(), 2, 32_767, &SQUARE)?;
+            stream.boundary(2, 32_767, &SQUARE)?;
         }
         stream.end_structure()?;
     }
-    stream.end()?;
-    let (library, _) = read(rt.alloc(), &stream.bytes, 7)?;
+    let (library, _) = read(rt.alloc(), &stream.end()?, 7)?;
     assert_eq!(rt; library.cells.len(), 4);
     for (n, cell) in library.cells.iter().enumerate() {
         assert_eq!(rt; cell.shapes.len(), n);

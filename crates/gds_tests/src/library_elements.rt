@@ -1,7 +1,7 @@
 //! Elements in streams: what is read of each, and the offset of the record that is refused.
 
-use crate::stream::{SQUARE, Stream};
-use crate::{ElementRule, GdsFault, GdsKind, Misplaced, read_gds};
+use gds_records::fake::{SQUARE, Stream};
+use gds_library::{ElementRule, GdsFault, GdsKind, Misplaced, read_gds};
 use gds_records::record_type;
 use lvl_cells::{CellFault, Library, Reference, check};
 use lvl_grid::{Point, Ring, Turn};
@@ -16,8 +16,8 @@ const CORNER: [(i32, i32); 3] = [(0, 0), (10, 0), (10, 10)];
 const ANGLE_90: [u8; 8] = [0x42, 0x5A, 0, 0, 0, 0, 0, 0];
 
 /// The cells of a stream, which is cut into pieces of seven bytes.
-fn read(alloc: Global, stream: &Stream) -> Result<Library, Refusal<GdsFault>> {
-    let mut reader = Pieces::new(&stream.bytes, 7);
+fn read(alloc: Global, bytes: &[u8]) -> Result<Library, Refusal<GdsFault>> {
+    let mut reader = Pieces::new(bytes, 7);
     let (library, _) = read_gds(alloc, &mut reader)?;
     Ok(library)
 }
@@ -39,12 +39,11 @@ fn with_path(
     ends: Option<i16>,
     width: i32,
     points: &[(i32, i32)],
-) -> Result<Stream, AllocError> {
+) -> Result<Vec<u8>, AllocError> {
     let mut stream = top(alloc)?;
-    stream.path(alloc, ends, width, points)?;
+    stream.path(ends, width, points)?;
     stream.end_structure()?;
-    stream.end()?;
-    Ok(stream)
+    stream.end()
 }
 
 /// A structure A with a square, and a structure TOP with an array of it.
@@ -53,16 +52,15 @@ fn with_array(
     columns: i16,
     rows: i16,
     points: &[(i32, i32)],
-) -> Result<Stream, AllocError> {
+) -> Result<Vec<u8>, AllocError> {
     let mut stream = Stream::new(alloc)?;
     stream.structure(b"A\0")?;
-    stream.boundary(alloc, 1, 0, &SQUARE)?;
+    stream.boundary(1, 0, &SQUARE)?;
     stream.end_structure()?;
     stream.structure(b"TOP\0")?;
-    stream.array(alloc, b"A\0", columns, rows, points)?;
+    stream.array(b"A\0", columns, rows, points)?;
     stream.end_structure()?;
-    stream.end()?;
-    Ok(stream)
+    stream.end()
 }
 
 /// Where COLROW begins in `with_array`, and where XY does.
@@ -154,11 +152,10 @@ fn flip_then_turn(rt: HostRuntime) -> Result<(), Fail> {
     stream.record(record_type::SNAME, 6, b"AB")?;
     stream.record(record_type::STRANS, 1, &[0x80, 0])?;
     stream.record(record_type::ANGLE, 5, &ANGLE_90)?;
-    stream.points(rt.alloc(), &[(0, 0)])?;
+    stream.points(&[(0, 0)])?;
     stream.end_element()?;
     stream.end_structure()?;
-    stream.end()?;
-    let library = read(rt.alloc(), &stream)?;
+    let library = read(rt.alloc(), &stream.end()?)?;
     let cell = library.cells.first().ok_or("a cell")?;
     let reference = cell.references.first().ok_or("a reference")?;
     assert_eq!(rt; reference.cell(), b"AB".as_slice());
@@ -215,17 +212,16 @@ fn square_ends(rt: HostRuntime) -> Result<(), Fail> {
 #[test]
 fn text_covers_nothing(rt: HostRuntime) -> Result<(), Fail> {
     let mut stream = top(rt.alloc())?;
-    stream.boundary(rt.alloc(), 1, 0, &SQUARE)?;
+    stream.boundary(1, 0, &SQUARE)?;
     stream.record(record_type::TEXT, 0, b"")?;
     stream.record(record_type::LAYER, 2, &[0xFF, 0xFF])?;
     stream.record(record_type::TEXTTYPE, 2, &[0, 0])?;
-    stream.points(rt.alloc(), &[(0, 0)])?;
+    stream.points(&[(0, 0)])?;
     stream.record(record_type::STRING, 6, b"HI")?;
     stream.end_element()?;
-    stream.boundary(rt.alloc(), 2, 0, &SQUARE)?;
+    stream.boundary(2, 0, &SQUARE)?;
     stream.end_structure()?;
-    stream.end()?;
-    let library = read(rt.alloc(), &stream)?;
+    let library = read(rt.alloc(), &stream.end()?)?;
     let cell = library.cells.first().ok_or("a cell")?;
     assert_eq!(rt; cell.shapes.len(), 2);
     assert_eq!(rt; cell.references.len(), 0);
@@ -239,13 +235,12 @@ fn cycle(rt: HostRuntime) -> Result<(), Fail> {
     let cells: [(&[u8], &[u8]); 2] = [(b"A\0", b"B\0"), (b"B\0", b"A\0")];
     for (name, placed) in cells {
         stream.structure(name)?;
-        stream.reference(rt.alloc(), placed, (0, 0))?;
+        stream.reference(placed, (0, 0))?;
         stream.end_structure()?;
     }
     stream.structure(b"C\0")?;
     stream.end_structure()?;
-    stream.end()?;
-    let library = read(rt.alloc(), &stream)?;
+    let library = read(rt.alloc(), &stream.end()?)?;
     assert_eq!(rt; library.cells.len(), 3);
     match check(rt.alloc(), library, None) {
         Err(Refusal::Breach(CellFault::Cycle(names))) => {
@@ -309,10 +304,10 @@ fn names_each_fault_where_it_stands(rt: HostRuntime) -> Result<(), Fail> {
         let mut stream = top(rt.alloc())?;
         stream.record(record_type::SREF, 0, b"")?;
         stream.record(record_type::SNAME, 6, b"AB")?;
-        let offset = stream.bytes.len() as u64;
+        let offset = stream.offset();
         stream.record(kind, data_type, payload)?;
         assert_eq!(rt;
-            read(rt.alloc(), &stream).err(),
+            read(rt.alloc(), &stream.into_bytes()).err(),
             at(offset, fault),
             "type {kind}"
         );

@@ -1,0 +1,43 @@
+//! A reader from which a byte was taken to look at it, and which gives that byte again.
+ghost use Rattle.std.specs.Prelude.{◌≡◌, ◌∷◌, []};
+ghost use Rattle.std.specs.Io.KnownBytes.{prepend_known};
+ghost use Rattle.lvl_io.specs.Peeked.{peeked_byte, peeked_rest, given_again};
+
+use crate::{Failure, Read};
+
+/// A reader with a byte before its own bytes, if there is one.
+#[derive(Drop)]
+pub struct Peeked<R> {
+    byte: Option<u8>,
+    rest: R,
+}
+
+impl<R> Peeked<R> {
+    /// The reader after the byte.
+    pub fn new(byte: Option<u8>, rest: R) -> Peeked<R>
+        ensures byte { peeked_byte result ≡ byte }
+        ensures rest { peeked_rest result ≡ rest }
+    {
+        Peeked { byte, rest }
+    }
+}
+
+impl<R: Read> Read for Peeked<R> {
+    ghost remaining = { λ p. prepend_known (given_again (peeked_byte p)) (R.remaining (peeked_rest p)) };
+
+    ghost read_errors = { λ p. R.read_errors (peeked_rest p) };
+
+    ghost lent = { λ p. R.lent (peeked_rest p) };
+
+    fn read(&mut self, buf: &mut [u8]) -> Result<usize, Failure> {
+        match (self.byte, buf.first_mut()) {
+            (Some(byte), Some(first)) => {
+                *first = byte;
+                self.byte = None;
+                Ok(1)
+            }
+            (Some(_), None) => Ok(0),
+            (None, _) => self.rest.read(buf),
+        }
+    }
+}
