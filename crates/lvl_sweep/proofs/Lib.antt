@@ -5,7 +5,7 @@ pub mod Alive
 pub mod Spans
 pub mod Gathered
 pub mod Merges
-pub mod Reaches
+pub mod Runs
 pub mod Insides
 pub mod RowLists
 pub mod BandLists
