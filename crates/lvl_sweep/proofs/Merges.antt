@@ -106,11 +106,11 @@ put_fresh es fs y m n h last s long low fresh from alive first end =
     let news : IsSameWithin es fs m.low p = swapped_same es fs p q m.low p s (λ k le lt. (omega (arith, lt), omega (arith, lt, room, there))) in
     let olds : IsSameWithin es fs m.from m.alive = swapped_same es fs p q m.from m.alive s (λ k le lt. (omega (arith, le, one, h.fresh), omega (arith, lt, room))) in
     let before : (a : ℕ) (d : Edge) → m.from ≤ a → a < m.alive → (get_or es a d).x ≤ℤ (get_or es p d).x = λ a d le lt.
-        let far : (get_or es a d).x ≤ℤ (get_or es (m.alive - 1) d).x = h.rising a (m.alive - 1) d le (omega (arith, lt)) (omega (arith, lt)) in
-        let by : (get_or es (m.alive - 1) d).x ≤ℤ (get_or es (m.fresh - 1) d).x = last.1 (omega (arith, le, lt)) d in
-        let at : m.fresh - 1 ≡ p = omega (arith, fresh) in
-        let by' : (get_or es (m.alive - 1) d).x ≤ℤ (get_or es p d).x = rw at at by in
-        omega (arith, ints, far, by') in
+    let far : (get_or es a d).x ≤ℤ (get_or es (m.alive - 1) d).x = h.rising a (m.alive - 1) d le (omega (arith, lt)) (omega (arith, lt)) in
+    let by : (get_or es (m.alive - 1) d).x ≤ℤ (get_or es (m.fresh - 1) d).x = last.1 (omega (arith, le, lt)) d in
+    let at : m.fresh - 1 ≡ p = omega (arith, fresh) in
+    let by' : (get_or es (m.alive - 1) d).x ≤ℤ (get_or es p d).x = rw at at by in
+    omega (arith, ints, far, by') in
     record {
       low = omega (arith, low, fresh, some);
       fresh = omega (arith, fresh, from, h.fresh);
@@ -150,11 +150,11 @@ put_active es fs y m n h last s long up low fresh from alive first end =
     let news : IsSameWithin es fs m.low m.fresh = swapped_same es fs p q m.low m.fresh s (λ k le lt. (omega (arith, lt, inner, h.fresh), omega (arith, lt, inner, h.fresh, on))) in
     let olds : IsSameWithin es fs m.from p = swapped_same es fs p q m.from p s (λ k le lt. (omega (arith, lt), omega (arith, lt, on))) in
     let before : (a : ℕ) (d : Edge) → m.low ≤ a → a < m.fresh → (get_or es a d).x ≤ℤ (get_or es p d).x = λ a d le lt.
-        let far : (get_or es a d).x ≤ℤ (get_or es (m.fresh - 1) d).x = h.rising_fresh a (m.fresh - 1) d le (omega (arith, lt)) (omega (arith, lt)) in
-        let by : (get_or es (m.fresh - 1) d).x ≤ℤ (get_or es (m.alive - 1) d).x = last.1 (omega (arith, le, lt)) d in
-        let at : m.alive - 1 ≡ p = omega (arith, alive) in
-        let by' : (get_or es (m.fresh - 1) d).x ≤ℤ (get_or es p d).x = rw at at by in
-        omega (arith, ints, far, by') in
+    let far : (get_or es a d).x ≤ℤ (get_or es (m.fresh - 1) d).x = h.rising_fresh a (m.fresh - 1) d le (omega (arith, lt)) (omega (arith, lt)) in
+    let by : (get_or es (m.fresh - 1) d).x ≤ℤ (get_or es (m.alive - 1) d).x = last.1 (omega (arith, le, lt)) d in
+    let at : m.alive - 1 ≡ p = omega (arith, alive) in
+    let by' : (get_or es (m.fresh - 1) d).x ≤ℤ (get_or es p d).x = rw at at by in
+    omega (arith, ints, far, by') in
     record {
       low = omega (arith, low, fresh, h.low);
       fresh = omega (arith, fresh, from, h.fresh);

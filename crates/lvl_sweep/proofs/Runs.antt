@@ -55,22 +55,22 @@ start_exchanged es fs y from next end low m h many is x mlow mfresh mfrom malive
     let olds : IsSameWithin es fs from next = λ k d le lt. x.between k d (omega (arith, le, is)) lt in
     let lows : IsSameWithin es fs 0 low = x.before in
     let at_there : (k : ℕ) (d : Edge) → low ≤ k → k < from → get_or fs k d ≡ get_or es (next + (k - low)) d = λ k d le lt.
-        let e : low + (k - low) ≡ k = omega (arith, le) in
-        subst (λ (n : ℕ). get_or fs n d ≡ get_or es (next + (k - low)) d) e (x.there (k - low) d (omega (arith, le, lt, is))) in
+    let e : low + (k - low) ≡ k = omega (arith, le) in
+    subst (λ (n : ℕ). get_or fs n d ≡ get_or es (next + (k - low)) d) e (x.there (k - low) d (omega (arith, le, lt, is))) in
     let at_back : (k : ℕ) (d : Edge) → next ≤ k → k < end → get_or fs k d ≡ get_or es (low + (k - next)) d = λ k d le lt.
-        let e : next + (k - next) ≡ k = omega (arith, le) in
-        subst (λ (n : ℕ). get_or fs n d ≡ get_or es (low + (k - next)) d) e (x.back (k - next) d (omega (arith, le, lt))) in
+    let e : next + (k - next) ≡ k = omega (arith, le) in
+    subst (λ (n : ℕ). get_or fs n d ≡ get_or es (low + (k - next)) d) e (x.back (k - next) d (omega (arith, le, lt))) in
     let begun : AllWithin (λ e. e.low ≤ℤ y) fs 0 end = λ k d le lt.
-        elim (cases_lt k low) [
-          | inl a ↦ rw (lows k d le a) (h.begun k d le lt)
-          | inr a ↦ elim (cases_lt k from) [
-            | inl b ↦ rw (at_there k d a b) (h.begun (next + (k - low)) d (omega arith) (omega (arith, a, b, is)))
-            | inr b ↦ elim (cases_lt k next) [
-              | inl c ↦ rw (olds k d b c) (h.begun k d le lt)
-              | inr c ↦ rw (at_back k d c lt) (h.begun (low + (k - next)) d (omega arith) (omega (arith, c, lt, is, h.order.0, h.order.1)))
-            ]
-          ]
-        ] in
+    elim (cases_lt k low) [
+      | inl a ↦ rw (lows k d le a) (h.begun k d le lt)
+      | inr a ↦ elim (cases_lt k from) [
+        | inl b ↦ rw (at_there k d a b) (h.begun (next + (k - low)) d (omega arith) (omega (arith, a, b, is)))
+        | inr b ↦ elim (cases_lt k next) [
+          | inl c ↦ rw (olds k d b c) (h.begun k d le lt)
+          | inr c ↦ rw (at_back k d c lt) (h.begun (low + (k - next)) d (omega arith) (omega (arith, c, lt, is, h.order.0, h.order.1)))
+        ]
+      ]
+    ] in
     record {
       low = omega (arith, mlow, mfresh, inner);
       fresh = omega (arith, mfresh, mfrom);
@@ -138,16 +138,16 @@ start_sorted es fs y from next end m h long moved order mlow mfresh mfrom malive
     let within : from ≤ length es = omega (arith, h.order.0, h.order.1, h.order.2) in
     let many : length fs ≡ end - from = omega (arith, long, length-take (end - from) (drop from es), length-drop from es, h.order.2) in
     let begun_mid : All (λ e. e.low ≤ℤ y) (take (end - from) (drop from es)) = λ k d lt.
-        let short : k < end - from = omega (arith, length-take (end - from) (drop from es), lt) in
-        rw (get_or-take (end - from) (drop from es) k d short, get_or-drop from es k d) (h.begun (from + k) d (omega arith) (omega (arith, short))) in
+    let short : k < end - from = omega (arith, length-take (end - from) (drop from es), lt) in
+    rw (get_or-take (end - from) (drop from es) k d short, get_or-drop from es k d) (h.begun (from + k) d (omega arith) (omega (arith, short))) in
     let begun_new : All (λ e. e.low ≤ℤ y) fs = All-permutation (λ e. e.low ≤ℤ y) (take (end - from) (drop from es)) fs moved begun_mid in
     let begun : AllWithin (λ e. e.low ≤ℤ y) gs 0 end = λ k d le lt.
-        elim (cases_lt k from) [
-          | inl a ↦ rw (put_before from (end - from) es fs within k d le a) (h.begun k d le lt)
-          | inr a ↦ rw (put_within from end es fs within many k d a lt) (begun_new (k - from) d (omega (arith, many, a, lt)))
-        ] in
+    elim (cases_lt k from) [
+      | inl a ↦ rw (put_before from (end - from) es fs within k d le a) (h.begun k d le lt)
+      | inr a ↦ rw (put_within from end es fs within many k d a lt) (begun_new (k - from) d (omega (arith, many, a, lt)))
+    ] in
     let rising : (i j : ℕ) (d : Edge) → i ≤ j → j < length fs → (get_or fs i d).x ≤ℤ (get_or fs j d).x = λ i j d on lt.
-        rise_by fs (j - i) i j d (λ k short. second_by (get_or fs (k + 1) d).x (get_or fs k d).x (int_cmp (get_or fs (k + 1) d).x (get_or fs k d).x) refl (order k d (omega arith) short)) (omega (arith, on)) lt in
+    rise_by fs (j - i) i j d (λ k short. second_by (get_or fs (k + 1) d).x (get_or fs k d).x (int_cmp (get_or fs (k + 1) d).x (get_or fs k d).x) refl (order k d (omega arith) short)) (omega (arith, on)) lt in
     record {
       low = omega (arith, mlow, mfresh);
       fresh = omega (arith, mfresh, mfrom);

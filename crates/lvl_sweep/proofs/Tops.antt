@@ -76,7 +76,6 @@ high_left es y t k d lt within is =
     let lows : count_by (λ e. int_lt t e.low) es ≤ count_by (λ e. int_lt y e.low) es = fewer_by (λ e. int_lt y e.low) (λ e. int_lt t e.low) es (λ e. not_past y t e.low lt) in
     omega (arith, lows, highs)
 
-
 -- where the edge at the index is the next to come, all that are to come begin at or above t
 from_begin : (s : Strips) (t : ℤ) → AreStrips s → ((d : Edge) → s.next < length s.edges.items → t ≤ℤ (get_or s.edges.items s.next d).low) → AllWithin (λ e. t ≤ℤ e.low) s.edges.items s.next (length s.edges.items)
 from_begin s t h first k d low lt =
@@ -90,11 +89,11 @@ from_begin s t h first k d low lt =
 pub begin_of : (es : List Edge) (i : ℕ) → (o : Option ℤ) × IsBeginOf es i o × ((b : ℤ) → o ≡ Some b → (i < length es) × ((d : Edge) → (get_or es i d).low ≡ b)) × ((d : Edge) → i < length es → o ≡ Some (get_or es i d).low)
 begin_of es i = elim (cases_lt i (length es)) [
   | inl lt ↦ (
-      Some (get_or es i nothing).low,
-      (lt, λ d. ap (λ (e : Edge). e.low) (get_or_default es i d nothing lt)),
-      (λ b e. let same : (get_or es i nothing).low ≡ b = cc in (lt, λ d. ap (λ (e : Edge). e.low) (get_or_default es i d nothing lt) ∙ same)),
-      λ d k. ap (λ (e : Edge). Some e.low) (get_or_default es i nothing d lt),
-    )
+    Some (get_or es i nothing).low,
+    (lt, λ d. ap (λ (e : Edge). e.low) (get_or_default es i d nothing lt)),
+    (λ b e. let same : (get_or es i nothing).low ≡ b = cc in (lt, λ d. ap (λ (e : Edge). e.low) (get_or_default es i d nothing lt) ∙ same)),
+    λ d k. ap (λ (e : Edge). Some e.low) (get_or_default es i nothing d lt),
+  )
   | inr ge ↦ (None, ge, (λ b e. absurd (let clash : None ≡ Some b = e in cc)), λ d k. absurd (omega (arith, ge, k)))
 ]
 

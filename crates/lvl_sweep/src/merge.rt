@@ -192,13 +192,7 @@ fn start_by_sort(edges: &mut [Edge], from: usize, end: usize, top: Option<i64>) 
 }
 
 /// The start of a merge.
-fn start(
-    edges: &mut [Edge],
-    from: usize,
-    next: usize,
-    end: usize,
-    top: Option<i64>,
-) -> Merge
+fn start(edges: &mut [Edge], from: usize, next: usize, end: usize, top: Option<i64>) -> Merge
     requires order { (from ≤ next) × (next ≤ end) × (end ≤ length edges.old) }
     ensures merging { (y : ℤ) → IsRenewed edges.old y from next end → IsMerging edges.new y result }
     ensures permutation { IsPermutation edges.old edges.new }

@@ -114,7 +114,11 @@ impl Strips {
         ensures few { 2 * vec_len intervals.new ≤ length self.old.edges.items }
         ensures capacity { vec_capacity intervals.old ≤ vec_capacity intervals.new }
     {
-        collect_row(&self.edges[self.from..self.next], &mut self.windings, intervals);
+        collect_row(
+            &self.edges[self.from..self.next],
+            &mut self.windings,
+            intervals,
+        );
     }
 
     /// Whether the strip's intervals are these.
@@ -125,6 +129,10 @@ impl Strips {
         ensures edges { self.new.edges.items ≡ self.old.edges.items }
         ensures same { IsTrue result ↔ (row_at self.old.edges.items self.old.y ≡ intervals.now) }
     {
-        is_row(&self.edges[self.from..self.next], &mut self.windings, intervals)
+        is_row(
+            &self.edges[self.from..self.next],
+            &mut self.windings,
+            intervals,
+        )
     }
 }
