@@ -1,5 +1,5 @@
 //! Where a column is cut, if it is, and its two halves.
-ghost use Rattle.std.specs.Prelude.{IfOk, IfSome};
+ghost use Rattle.std.specs.Prelude.{◌≡◌, [], IfOk, IfSome};
 ghost use Rattle.lvl_columns.specs.Columns.{AreHalves, AreHalvesAt};
 
 use crate::columns::Column;
@@ -80,6 +80,15 @@ fn is_less(parts: Work, whole: Work) -> bool {
     parts.cost().wrapping_mul(10) < whole.cost().wrapping_mul(9)
 }
 
+/// No rings, with room for three quarters of those of a list: for about what a half is.
+fn half_room(alloc: Global, rings: &Rings) -> Result<Rings, AllocError>
+    ensures { IfOk result (λ half. half ≡ []) }
+{
+    let points = rings.points().len();
+    let many = rings.len();
+    Rings::with_capacity(alloc, points - points / 4, many - many / 4)
+}
+
 /// Both halves of a column that is cut at an abscissa.
 pub(crate) fn halves_at(
     alloc: Global,
@@ -89,11 +98,11 @@ pub(crate) fn halves_at(
 ) -> Result<(Column, Column), AllocError>
     ensures { IfOk result (λ halves. AreHalvesAt at first.now second.now halves.0 halves.1) }
 {
-    let mut left_first = Rings::new(alloc);
-    let mut right_first = Rings::new(alloc);
+    let mut left_first = half_room(alloc, first)?;
+    let mut right_first = half_room(alloc, first)?;
     first.split_into(at, &mut left_first, &mut right_first)?;
-    let mut left_second = Rings::new(alloc);
-    let mut right_second = Rings::new(alloc);
+    let mut left_second = half_room(alloc, second)?;
+    let mut right_second = half_room(alloc, second)?;
     second.split_into(at, &mut left_second, &mut right_second)?;
     Ok((
         Column {

@@ -12,6 +12,4 @@ pub use window::first_difference_in;
 mod columns;
 mod estimate;
 mod halves;
-#[cfg(test)]
-mod tests;
 mod window;

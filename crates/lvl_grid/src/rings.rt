@@ -119,6 +119,16 @@ impl Rings {
         }
     }
 
+    /// No rings, with room for so many points and so many rings.
+    pub fn with_capacity(alloc: Global, points: usize, rings: usize) -> Result<Rings, AllocError>
+        ensures { IfOk result (λ rings. rings ≡ []) }
+    {
+        Ok(Rings {
+            points: Vec::with_capacity(alloc, points)?,
+            ends: Vec::with_capacity(alloc, rings)?,
+        })
+    }
+
     /// The rings of a slice, in the same order.
     pub fn from_slice(alloc: Global, slice: &[Ring]) -> Result<Rings, AllocError>
         ensures { IfOk result (λ rings. rings ≡ slice.now) }

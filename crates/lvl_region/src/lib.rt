@@ -10,5 +10,3 @@ pub use region::{Region, Side, difference};
 mod grid;
 mod lines;
 mod region;
-#[cfg(test)]
-mod tests;

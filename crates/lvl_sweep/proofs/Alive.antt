@@ -1,19 +1,17 @@
 -- The active edges tell what some ring covers.
-use Rattle.std.proofs.Common.{◌≡◌, ◌≢◌, ℕ, ◌+◌, ◌<◌, Bool, true, false, ◌&&◌, not, cond, eqb, List, [], ◌∷◌, ◌++◌, length, get_or, take, drop, ℤ, pos, ◌-ℤ◌, ◌<ℤ◌, ◌≤ℤ◌, int_lt, int_le, All, count_by, ◌↔◌, refl, sym, ◌∙◌, ap, arith, inl, inr}
+use Rattle.std.proofs.Common.{◌≡◌, ◌≢◌, ℕ, ◌+◌, ◌<◌, Bool, true, false, ◌&&◌, not, cond, eqb, List, [], ◌∷◌, length, get_or, ℤ, pos, ◌-ℤ◌, int_lt, int_le, All, count_by, ◌↔◌, refl, sym, ◌∙◌, arith, inl, inr}
 use Rattle.std.specs.List.{sum_by, filter}
-use Rattle.std.specs.List.Sorted.{IsPermutation}
 use Rattle.std.proofs.lemmas.Int.{ints}
 use Rattle.std.proofs.lemmas.Bool.{cases_lt, eqb-true}
 use Rattle.std.proofs.lemmas.List.{get_or_default}
 use Rattle.std.proofs.lemmas.List.Elements.{All-weaker, All-head, All-tail}
-use Rattle.std.proofs.lemmas.List.Sums.{sum_by-cons, sum_by-append, sum_by-take-drop}
-use Rattle.std.proofs.lemmas.List.Sorted.{sum_by-IsPermutation}
+use Rattle.std.proofs.lemmas.List.Sums.{sum_by-cons}
 use Rattle.lvl_grid.specs.declared.point.Point.{Point}
 use Rattle.lvl_grid.specs.declared.point.Square.{Square}
 use Rattle.lvl_grid.specs.Winding.{winding, edges, goes_up, goes_down}
 use Rattle.lvl_region.specs.Region.{SomeCovers}
 use Rattle.lvl_sweep.specs.declared.edge.Edge.{Edge}
-use Rattle.lvl_sweep.specs.Edges.{net, net_left, IsInside, reaches_above}
+use Rattle.lvl_sweep.specs.Edges.{net, net_left, IsInside}
 use Rattle.lvl_sweep.specs.Alive.{alive, HasSame, AreEdgesOf}
 use Rattle.lvl_sweep.proofs.Winds.{bit, count_cons, count_none}
 
@@ -113,26 +111,3 @@ inside_is_covered rings es active y z of same numbers balanced = (
 pub sum_none : {A : Type 0} (f : A → ℕ) (xs : List A) → All (λ x. f x ≡ 0) xs → sum_by f xs ≡ 0
 sum_none f [] h = refl
 sum_none f (x ∷ xs) h = omega (arith, sum_by-cons f x xs, All-head (λ x. f x ≡ 0) x xs h, sum_none f xs (All-tail (λ x. f x ≡ 0) x xs h))
-
-begun_by : (y : ℤ) (e : Edge) → e.low ≤ℤ y → alive y e ≡ reaches_above y e
-begun_by y e h = let t : int_le e.low y ≡ true = grind (arith, ints) in rw t refl
-
-not_begun : (y : ℤ) (e : Edge) → y <ℤ e.low → alive y e ≡ false
-not_begun y e h = let t : int_le e.low y ≡ false = grind (arith, ints) in rw t refl
-
--- what is kept of the active edges, with the edges that begin at y, are the edges that cross row y
-pub merged_alive : (es active merged : List Edge) (n m : ℕ) (y : ℤ)
-    → All (λ e. e.low ≤ℤ y) (take n es)
-    → All (λ e. alive y e ≡ true) (take m (drop n es))
-    → All (λ e. y <ℤ e.low) (drop m (drop n es))
-    → HasSame (filter (reaches_above y) (take n es)) (filter (reaches_above y) active)
-    → IsPermutation (filter (reaches_above y) active ++ take m (drop n es)) merged
-    → HasSame (filter (alive y) es) merged
-merged_alive es active merged n m y begun starts coming kept moved f =
-    let g : Edge → ℕ = λ e. cond (alive y e) (f e) 0 in
-    let h : Edge → ℕ = λ e. cond (reaches_above y e) (f e) 0 in
-    let one : sum_by f merged ≡ sum_by f (filter (reaches_above y) active) + sum_by f (take m (drop n es)) = sum_by-IsPermutation f _ merged moved ∙ sum_by-append f (filter (reaches_above y) active) (take m (drop n es)) in
-    let first : sum_by g (take n es) ≡ sum_by h (take n es) = sum_same g h (take n es) (All-weaker (λ e. e.low ≤ℤ y) (λ e. g e ≡ h e) (λ e k. ap (λ t. cond t (f e) 0) (begun_by y e k)) (take n es) begun) in
-    let second : sum_by g (take m (drop n es)) ≡ sum_by f (take m (drop n es)) = sum_same g f (take m (drop n es)) (All-weaker (λ e. alive y e ≡ true) (λ e. g e ≡ f e) (λ e k. rw k refl) (take m (drop n es)) starts) in
-    let third : sum_by g (drop m (drop n es)) ≡ 0 = sum_none g (drop m (drop n es)) (All-weaker (λ e. y <ℤ e.low) (λ e. g e ≡ 0) (λ e k. rw (not_begun y e k) refl) (drop m (drop n es)) coming) in
-    omega (arith, one, first, second, third, kept f, sum_filter (reaches_above y) f (take n es), sum_filter (alive y) f es, sum_by-take-drop g es n, sum_by-take-drop g (drop n es) m)

@@ -11,7 +11,7 @@ use Rattle.lvl_grid.specs.declared.point.Square.{Square}
 use Rattle.lvl_sweep.specs.declared.edge.Edge.{Edge}
 use Rattle.lvl_sweep.specs.Slab.{Step, Slab, holds, value_of, Follows, AreSteps, spans, AreIntervals, IsSlabList, slabs_cover}
 use Rattle.lvl_sweep.specs.Alive.{alive}
-use Rattle.lvl_sweep.specs.Rows.{from_on, steps_from, inside, far_of, Balanced, row, alive_at, row_at, as_value, same_row, bands_from}
+use Rattle.lvl_sweep.specs.Rows.{is_from, from_on, steps_from, inside, far_of, Balanced, row, alive_at, row_at, as_value, same_row, bands_from}
 use Rattle.lvl_sweep.proofs.Steps.{IsWithin, at_head, past_head, early_rest, steps_give, none_from, first_from, same_from}
 use Rattle.lvl_sweep.proofs.Insides.{each_within}
 use Rattle.lvl_sweep.proofs.RowLists.{row_none, row_covers, row_intervals}
@@ -74,6 +74,11 @@ dead_far far y low high h k = by_lt_z y (pos 0)
 
 within : (es : List Edge) → IsWithin (far_of es) (λ y. as_value (row_at es y))
 within es y far = ap as_value (row_at_none es y (All-weaker (λ e. (unsigned_abs e.low + unsigned_abs e.x + unsigned_abs e.high) ≤ far_of es) (λ e. alive y e ≡ false) (λ e k. dead_far (far_of es) y e.low e.high far (omega (arith, k))) es (each_within es)))
+
+-- lists of edges with the same rows have the same bands
+pub bands_same : (es fs : List Edge) (o : Option ℤ) → ((v : ℤ) → row_at es v ≡ row_at fs v) → bands_from es o ≡ bands_from fs o
+unfolding bands_from
+bands_same es fs o rows = same_from same_row one_row (far_of es) (far_of fs) o o (λ v. as_value (row_at es v)) (λ v. as_value (row_at fs v)) (within es) (within fs) (λ z. ap (λ t. cond (is_from o z) (as_value t) None) (rows z))
 
 -- no row from y on has intervals
 pub bands_none : (es : List Edge) (y : ℤ) → ((v : ℤ) → y ≤ℤ v → row_at es v ≡ []) → bands_from es (Some y) ≡ []

@@ -5,12 +5,13 @@ pub mod Alive
 pub mod Spans
 pub mod Gathered
 pub mod Merges
-pub mod Reaches
+pub mod Runs
 pub mod Insides
 pub mod RowLists
 pub mod BandLists
 pub mod Orders
 pub mod Walks
+pub mod Forgets
 pub mod Collects
 pub mod Alikes
 pub mod Loads

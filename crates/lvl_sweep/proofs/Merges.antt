@@ -1,103 +1,208 @@
--- Two lists of edges, merged by abscissa.
-use Rattle.std.proofs.Common.{◌≡◌, ℕ, ◌+◌, ◌<◌, ◌≤◌, Bool, true, false, cond, List, [], ◌∷◌, ◌++◌, length, get_or, take, ℤ, ◌≤ℤ◌, All, arith, inl, inr}
-use Rattle.std.specs.List.{AllPairs, filter}
-use Rattle.std.specs.List.Sorted.{IsPermutation}
-use Rattle.std.specs.Global.{Vec}
-use Rattle.std.specs.Vec.{vec_len, vec_capacity}
+-- Two runs of edges, merged by abscissa from their ends on, within the list that has both.
+use Rattle.std.proofs.Common.{◌≡◌, ◌≢◌, ℕ, ◌+◌, ◌-◌, ◌<◌, ◌≤◌, false, List, length, get_or, ℤ, pos, ◌<ℤ◌, ◌≤ℤ◌, Option, None, Some, IfSome, IfNone, sym, ◌∙◌, ap, arith, inl, inr, ◌⊎◌}
+use Rattle.std.specs.List.{AllWithin, SwappedAt}
 use Rattle.std.proofs.lemmas.Int.{ints}
-use Rattle.std.proofs.lemmas.List.{take_more, append_assoc, append-nil, get_or_default}
-use Rattle.std.proofs.lemmas.List.Elements.{All-weaker, All-push, All-get_or, filter_more}
-use Rattle.std.proofs.lemmas.Bool.{cases_lt}
-use Rattle.std.proofs.lemmas.List.Quantifiers.{all_pairs_push}
-use Rattle.std.proofs.lemmas.List.Sorted.{IsPermutation-trans, IsPermutation-append_left, IsPermutation-append_right, IsPermutation-append_comm}
+use Rattle.std.proofs.lemmas.Bool.{cases_lt, cases_eq}
+use Rattle.std.proofs.lemmas.List.{get_or_default}
 use Rattle.lvl_sweep.specs.declared.edge.Edge.{Edge}
-use Rattle.lvl_sweep.specs.Edges.{IsNext, reaches_above}
+use Rattle.lvl_sweep.specs.declared.merge.Merge.{Merge}
+use Rattle.lvl_sweep.specs.Edges.{IsLower}
+use Rattle.lvl_sweep.specs.Runs.{IsSameWithin, IsSameFrom, RiseWithin, AreBefore, IsEndOf, IsMerging, AreFresh, AreActive}
 
--- x is at most the abscissa of each edge from i on
-abbrev pub Below : List Edge → ℕ → ℤ → Type 0
-Below es i x = (k : ℕ) (d : Edge) → i ≤ k → k < length es → x ≤ℤ (get_or es k d).x
+nothing : Edge
+nothing = record { low = pos 0; x = pos 0; ring = 0; high = pos 0; up = false }
 
--- the first a and the first f edges are merged
-pub record Merged (active : List Edge) (a : ℕ) (fresh : List Edge) (f : ℕ) (y : ℤ) (old new : Vec Edge) : Type 0 where
-  pub within : a ≤ length active
-  pub within_fresh : f ≤ length fresh
-  pub few : vec_len new ≤ a + f
-  pub capacity : vec_capacity old ≤ vec_capacity new
-  pub rising : AllPairs (λ d e. d.x ≤ℤ e.x) new.items
-  pub below : All (λ e. Below active a e.x) new.items
-  pub below_fresh : All (λ e. Below fresh f e.x) new.items
-  pub edges : IsPermutation (filter (reaches_above y) (take a active) ++ take f fresh) new.items
+pub all_kept : (P : Edge → Type 0) (es fs : List Edge) (i j : ℕ) → IsSameWithin es fs i j → AllWithin P es i j → AllWithin P fs i j
+all_kept P es fs i j same h k d le lt = rw (same k d le lt) (h k d le lt)
 
-below_more : (es : List Edge) (i : ℕ) (x : ℤ) → Below es i x → Below es (i + 1) x
-below_more es i x h k d le lt = h k d (omega arith) lt
+pub rise_kept : (es fs : List Edge) (i j : ℕ) → IsSameWithin es fs i j → RiseWithin es i j → RiseWithin fs i j
+rise_kept es fs i j same h a b d le on lt = rw (same a d le (omega arith), same b d (omega arith) lt) (h a b d le on lt)
 
-same_item : (es : List Edge) (i : ℕ) (c d : Edge) → i < length es → get_or es i c ≡ get_or es i d
-same_item es i c d lt = get_or_default es i c d lt
+pub part_of : (P : Edge → Type 0) (es : List Edge) (i j p q : ℕ) → i ≤ p → q ≤ j → AllWithin P es i j → AllWithin P es p q
+part_of P es i j p q low high h k d le lt = h k d (omega arith) (omega arith)
 
-at_or_past : (es : List Edge) (i : ℕ) (d : Edge) → AllPairs (λ d e. d.x ≤ℤ e.x) es → i < length es → Below es i (get_or es i d).x
-at_or_past es i d h lt k c le within =
-    elim (cases_lt i k) [
-      | inl far ↦ rw (same_item es i d c lt) (h i k c far within)
-      | inr near ↦ let same : i ≡ k = omega arith in rw (same_item es i d c lt, same) (omega (arith, ints))
+pub rise_part : (es : List Edge) (i j p q : ℕ) → i ≤ p → q ≤ j → RiseWithin es i j → RiseWithin es p q
+rise_part es i j p q low high h a b d le on lt = h a b d (omega arith) on (omega arith)
+
+-- an exchange leaves the other edges as they are
+swapped_same : (es fs : List Edge) (p q i j : ℕ) → SwappedAt es fs p q → ((k : ℕ) → i ≤ k → k < j → (k ≢ p) × (k ≢ q)) → IsSameWithin es fs i j
+swapped_same es fs p q i j s off k d le lt = s.2 k d (off k le lt).0 (off k le lt).1
+
+-- all edges of a run that has both still pass
+all_swapped : (P : Edge → Type 0) (es fs : List Edge) (p q i j : ℕ) → SwappedAt es fs p q → i ≤ p → p < j → i ≤ q → q < j → AllWithin P es i j → AllWithin P fs i j
+all_swapped P es fs p q i j s pl ph ql qh h k d le lt =
+    elim (cases_eq k p) [
+      | inl at ↦ rw (at, s.0 d) (h q d ql qh)
+      | inr off ↦ elim (cases_eq k q) [
+        | inl at ↦ rw (at, s.1 d) (h p d pl ph)
+        | inr far ↦ rw (s.2 k d off far) (h k d le lt)
+      ]
     ]
 
-past : (es : List Edge) (i : ℕ) (d : Edge) → AllPairs (λ d e. d.x ≤ℤ e.x) es → i < length es → Below es (i + 1) (get_or es i d).x
-past es i d h lt = below_more es i (get_or es i d).x (at_or_past es i d h lt)
+-- the edge from index p, put at q before a run
+all_front : (P : Edge → Type 0) (es fs : List Edge) (p q first end : ℕ) → SwappedAt es fs p q → q + 1 ≡ first → p < first → ((d : Edge) → P (get_or es p d)) → AllWithin P es first end → AllWithin P fs q end
+all_front P es fs p q first end s e near one h k d le lt =
+    elim (cases_lt q k) [
+      | inl far ↦ rw (s.2 k d (omega arith) (omega arith)) (h k d (omega arith) lt)
+      | inr here ↦ let at : k ≡ q = omega arith in rw (at, s.1 d) (one d)
+    ]
 
-below_left : (es : List Edge) (i : ℕ) (x y : ℤ) → x ≤ℤ y → Below es i y → Below es i x
-below_left es i x y h b k d le lt = let far : y ≤ℤ (get_or es k d).x = b k d le lt in omega (arith, ints, h, far)
+before_front : (es fs : List Edge) (p q first end i j : ℕ) → SwappedAt es fs p q → q + 1 ≡ first → p < first → IsSameWithin es fs i j
+    → ((a : ℕ) (d : Edge) → i ≤ a → a < j → (get_or es a d).x ≤ℤ (get_or es p d).x) → AreBefore es i j first end → AreBefore fs i j q end
+before_front es fs p q first end i j s e near same one h a b d le lt from to =
+    elim (cases_lt q b) [
+      | inl far ↦ rw (same a d le lt, s.2 b d (omega arith) (omega arith)) (h a b d le lt (omega arith) to)
+      | inr here ↦ let at : b ≡ q = omega arith in rw (at, s.1 d, same a d le lt) (one a d le lt)
+    ]
 
-across : (es fs : List Edge) (i j : ℕ) (d : Edge) → AllPairs (λ d e. d.x ≤ℤ e.x) fs → IsNext es i fs j → Below fs j (get_or es i d).x
-across es fs i j d h next k c le lt =
-    let within : j < length fs = omega arith in
-    below_left fs j (get_or es i d).x (get_or fs j d).x (next.1 within d) (at_or_past fs j d h within) k c le lt
+rise_front : (es fs : List Edge) (p q first end : ℕ) → SwappedAt es fs p q → q + 1 ≡ first → p < first
+    → ((b : ℕ) (d : Edge) → first ≤ b → b < end → (get_or es p d).x ≤ℤ (get_or es b d).x) → RiseWithin es first end → RiseWithin fs q end
+rise_front es fs p q first end s e near one h a b d le on lt =
+    elim (cases_lt q a) [
+      | inl far ↦ rw (s.2 a d (omega arith) (omega arith), s.2 b d (omega arith) (omega arith)) (h a b d (omega arith) on lt)
+      | inr here ↦
+          let at : a ≡ q = omega arith in
+          elim (cases_lt q b) [
+            | inl later ↦ rw (at, s.1 d, s.2 b d (omega arith) (omega arith)) (one b d (omega arith) lt)
+            | inr same ↦ let too : b ≡ q = omega arith in rw (at, too) (omega (arith, ints))
+          ]
+    ]
 
--- one more of the fresh edges
-pub fresh_step : (active : List Edge) (a : ℕ) (fresh : List Edge) (f : ℕ) (y : ℤ) (old m new : Vec Edge) (d : Edge)
-    → AllPairs (λ d e. d.x ≤ℤ e.x) active → AllPairs (λ d e. d.x ≤ℤ e.x) fresh → IsNext fresh f active a → Merged active a fresh f y old m
-    → new.items ≡ m.items ++ get_or fresh f d ∷ [] → vec_len new ≡ vec_len m + 1 → vec_capacity m ≤ vec_capacity new → Merged active a fresh (f + 1) y old new
-fresh_step active a fresh f y old m new d rising rising_fresh next h items len room =
-    let lt : f < length fresh = next.0 in
-    let e : Edge = get_or fresh f d in
+-- where the run ends that has one edge more
+pub end_front : (es fs : List Edge) (p q first end : ℕ) (b old new : Option ℤ) → SwappedAt es fs p q → q + 1 ≡ first → p < first → first ≤ end → p < length es → IfNone new ⊥
+    → IfSome new (λ t. (d : Edge) → IsLower (get_or es p d).high old t) → IsEndOf es first end b old → IsEndOf fs q end b new
+end_front es fs p q first end b None None s e near le in' some low h = absurd some
+end_front es fs p q first end b (Some l) None s e near le in' some low h = absurd some
+end_front es fs p q first end b None (Some t) s e near le in' some low h = (
+  all_front (λ e. t ≤ℤ e.high) es fs p q first end s e near (λ d. let is : t ≡ (get_or es p d).high = low d in omega (arith, ints, is)) (λ k d far lt. absurd (omega (arith, h.0, far, lt))),
+  (λ a k. absurd (let clash : None ≡ Some a = sym h.1 ∙ k in cc)),
+  inl (q, omega arith, omega arith, λ d. rw (s.1 d) (sym (low d))),
+)
+end_front es fs p q first end b (Some l) (Some t) s e near le in' some low h = (
+  all_front (λ e. t ≤ℤ e.high) es fs p q first end s e near (λ d. (low d).0) (λ k d far lt. let a : l ≤ℤ (get_or es k d).high = h.0 k d far lt in let c : t ≤ℤ l = (low d).1 in omega (arith, ints, a, c)),
+  (λ a k. let far : l ≤ℤ a = h.1 a k in let c : t ≤ℤ l = (low nothing).1 in omega (arith, ints, far, c)),
+  elim (low nothing).2 [
+    | inl here ↦ inl (q, omega arith, omega arith, λ d. rw (s.1 d, get_or_default es p d nothing in') (sym here))
+    | inr same ↦ elim h.2 [
+      | inl f ↦ inl (f.0, omega (arith, f.1), f.2, λ d. rw (s.2 f.0 d (omega (arith, f.1)) (omega (arith, f.1))) (f.3 d ∙ sym same))
+      | inr begin ↦ inr (begin ∙ ap Some (sym same))
+    ]
+  ],
+)
+
+-- one more of those that begin is put
+pub put_fresh : (es fs : List Edge) (y : ℤ) (m n : Merge) → IsMerging es y m → AreFresh es m → SwappedAt es fs n.fresh n.first → length fs ≡ length es
+    → n.low ≡ m.low → n.fresh + 1 ≡ m.fresh → n.from ≡ m.from → n.alive ≡ m.alive → n.first + 1 ≡ m.first → n.end ≡ m.end → IsMerging fs y n
+put_fresh es fs y m n h last s long low fresh from alive first end =
+    let p : ℕ = n.fresh in
+    let q : ℕ = n.first in
+    let some : m.low < m.fresh = last.0 in
+    let near : p < m.first = omega (arith, h.fresh, h.from, h.gap, some, fresh) in
+    let room : m.alive ≤ q = omega (arith, h.gap, some, first) in
+    let there : p < m.alive = omega (arith, h.fresh, h.from, fresh) in
+    let one : p < m.fresh = omega (arith, fresh) in
+    let inner : m.low ≤ p = omega (arith, some, fresh) in
+    let lows : IsSameWithin es fs 0 m.low = swapped_same es fs p q 0 m.low s (λ k le lt. (omega (arith, inner, lt), omega (arith, inner, lt, room, there))) in
+    let news : IsSameWithin es fs m.low p = swapped_same es fs p q m.low p s (λ k le lt. (omega (arith, lt), omega (arith, lt, room, there))) in
+    let olds : IsSameWithin es fs m.from m.alive = swapped_same es fs p q m.from m.alive s (λ k le lt. (omega (arith, le, one, h.fresh), omega (arith, lt, room))) in
+    let before : (a : ℕ) (d : Edge) → m.from ≤ a → a < m.alive → (get_or es a d).x ≤ℤ (get_or es p d).x = λ a d le lt.
+    let far : (get_or es a d).x ≤ℤ (get_or es (m.alive - 1) d).x = h.rising a (m.alive - 1) d le (omega (arith, lt)) (omega (arith, lt)) in
+    let by : (get_or es (m.alive - 1) d).x ≤ℤ (get_or es (m.fresh - 1) d).x = last.1 (omega (arith, le, lt)) d in
+    let at : m.fresh - 1 ≡ p = omega (arith, fresh) in
+    let by' : (get_or es (m.alive - 1) d).x ≤ℤ (get_or es p d).x = rw at at by in
+    omega (arith, ints, far, by') in
     record {
-      within = h.within;
-      within_fresh = omega (arith, lt);
-      few = omega (arith, h.few, len);
-      capacity = omega (arith, h.capacity, room);
-      rising = rw items (all_pairs_push (λ d e. d.x ≤ℤ e.x) m.items (get_or fresh f d) h.rising (λ k c short. rw (same_item fresh f d c lt) (All-get_or (λ e. Below fresh f e.x) m.items k c short h.below_fresh f c (omega arith) lt)));
-      below = rw items (All-push (λ e. Below active a e.x) m.items (get_or fresh f d) h.below (across fresh active f a d rising next));
-      below_fresh = rw items (All-push (λ e. Below fresh (f + 1) e.x) m.items (get_or fresh f d) (All-weaker (λ e. Below fresh f e.x) (λ e. Below fresh (f + 1) e.x) (λ e b. below_more fresh f e.x b) m.items h.below_fresh) (past fresh f d rising_fresh lt));
-      edges = rw (items, take_more fresh f d lt, ← append_assoc) (IsPermutation-append_left (get_or fresh f d ∷ []) (filter (reaches_above y) (take a active) ++ take f fresh) m.items h.edges);
+      low = omega (arith, low, fresh, some);
+      fresh = omega (arith, fresh, from, h.fresh);
+      from = omega (arith, from, alive, h.from);
+      gap = omega (arith, low, fresh, alive, first, h.gap);
+      first = omega (arith, first, end, h.first);
+      end = omega (arith, end, long, h.end);
+      begun = rw end (all_swapped (λ e. e.low ≤ℤ y) es fs p q 0 m.end s (omega arith) (omega (arith, near, h.first)) (omega arith) (omega (arith, first, h.first)) h.begun);
+      ended = rw low (all_kept (λ e. e.high ≤ℤ y) es fs 0 m.low lows h.ended);
+      ended_between = rw from (λ k d le lt. elim (cases_eq k p) [
+        | inl at ↦ rw (at, s.0 d) (h.ended_behind q d room (omega (arith, first)))
+        | inr off ↦ rw (s.2 k d off (omega (arith, lt, h.from, room))) (h.ended_between k d (omega (arith, le, off, fresh)) lt)
+      ]);
+      ended_behind = rw alive (λ k d le lt. rw (s.2 k d (omega (arith, le, there)) (omega (arith, lt))) (h.ended_behind k d le (omega (arith, lt, first))));
+      fresh_alive = rw low (all_kept (λ e. y <ℤ e.high) es fs m.low p news (part_of (λ e. y <ℤ e.high) es m.low m.fresh m.low p (omega arith) (omega (arith, one)) h.fresh_alive));
+      put_alive = rw end (all_front (λ e. y <ℤ e.high) es fs p q m.first m.end s first near (λ d. h.fresh_alive p d inner one) h.put_alive);
+      rising_fresh = rw low (rise_kept es fs m.low p news (rise_part es m.low m.fresh m.low p (omega arith) (omega (arith, one)) h.rising_fresh));
+      rising = rw (from, alive) (rise_kept es fs m.from m.alive olds h.rising);
+      rising_put = rw end (rise_front es fs p q m.first m.end s first near (λ b d le lt. h.fresh_before p b d inner one le lt) h.rising_put);
+      fresh_before = rw (low, end) (before_front es fs p q m.first m.end m.low p s first near news (λ a d le lt. h.rising_fresh a p d le (omega (arith, lt)) one) (λ a b d le lt to far. h.fresh_before a b d le (omega (arith, lt, one)) to far));
+      before = rw (from, alive, end) (before_front es fs p q m.first m.end m.from m.alive s first near olds before h.before);
     }
 
-moved : (as' fs ms es : List Edge) → IsPermutation (as' ++ fs) ms → IsPermutation ((as' ++ es) ++ fs) (ms ++ es)
-moved as' fs ms es h =
-    let swap : IsPermutation (as' ++ (es ++ fs)) (as' ++ (fs ++ es)) = IsPermutation-append_right as' (es ++ fs) (fs ++ es) (IsPermutation-append_comm es fs) in
-    let kept : IsPermutation ((as' ++ fs) ++ es) (ms ++ es) = IsPermutation-append_left es (as' ++ fs) ms h in
-    IsPermutation-trans ((as' ++ es) ++ fs) ((as' ++ fs) ++ es) (ms ++ es) (rw (append_assoc, append_assoc) swap) kept
-
-all_maybe : (P : Edge → Type 0) (ms : List Edge) (e : Edge) (t : Bool) → All P ms → P e → All P (ms ++ cond t (e ∷ []) [])
-all_maybe P ms e true h p = All-push P ms e h p
-all_maybe P ms e false h p = rw append-nil h
-
-pairs_maybe : (R : Edge → Edge → Type 0) (ms : List Edge) (e : Edge) (t : Bool) → AllPairs R ms → ((k : ℕ) (d : Edge) → k < length ms → R (get_or ms k d) e) → AllPairs R (ms ++ cond t (e ∷ []) [])
-pairs_maybe R ms e true h p = all_pairs_push R ms e h p
-pairs_maybe R ms e false h p = rw append-nil h
-
--- one more of the active edges, kept or dropped
-pub active_step : (active : List Edge) (a : ℕ) (fresh : List Edge) (f : ℕ) (y : ℤ) (old m new : Vec Edge) (d : Edge)
-    → AllPairs (λ d e. d.x ≤ℤ e.x) active → AllPairs (λ d e. d.x ≤ℤ e.x) fresh → IsNext active a fresh f → Merged active a fresh f y old m
-    → new.items ≡ m.items ++ cond (reaches_above y (get_or active a d)) (get_or active a d ∷ []) [] → vec_len new ≤ vec_len m + 1 → vec_capacity m ≤ vec_capacity new → Merged active (a + 1) fresh f y old new
-active_step active a fresh f y old m new d rising rising_fresh next h items len room =
-    let lt : a < length active = next.0 in
-    let t : Bool = reaches_above y (get_or active a d) in
+-- one more of those that were alive is put
+pub put_active : (es fs : List Edge) (y : ℤ) (m n : Merge) → IsMerging es y m → AreActive es m → SwappedAt es fs n.alive n.first → length fs ≡ length es → ((d : Edge) → y <ℤ (get_or es n.alive d).high)
+    → n.low ≡ m.low → n.fresh ≡ m.fresh → n.from ≡ m.from → n.alive + 1 ≡ m.alive → n.first + 1 ≡ m.first → n.end ≡ m.end → IsMerging fs y n
+put_active es fs y m n h last s long up low fresh from alive first end =
+    let p : ℕ = n.alive in
+    let q : ℕ = n.first in
+    let some : m.from < m.alive = last.0 in
+    let room : m.alive ≤ m.first = omega (arith, h.gap, h.low) in
+    let near : p < m.first = omega (arith, room, alive) in
+    let on : p ≤ q = omega (arith, near, first) in
+    let one : p < m.alive = omega (arith, alive) in
+    let inner : m.from ≤ p = omega (arith, some, alive) in
+    let lows : IsSameWithin es fs 0 m.low = swapped_same es fs p q 0 m.low s (λ k le lt. (omega (arith, inner, lt, h.low, h.fresh), omega (arith, inner, lt, h.low, h.fresh, on))) in
+    let news : IsSameWithin es fs m.low m.fresh = swapped_same es fs p q m.low m.fresh s (λ k le lt. (omega (arith, lt, inner, h.fresh), omega (arith, lt, inner, h.fresh, on))) in
+    let olds : IsSameWithin es fs m.from p = swapped_same es fs p q m.from p s (λ k le lt. (omega (arith, lt), omega (arith, lt, on))) in
+    let before : (a : ℕ) (d : Edge) → m.low ≤ a → a < m.fresh → (get_or es a d).x ≤ℤ (get_or es p d).x = λ a d le lt.
+    let far : (get_or es a d).x ≤ℤ (get_or es (m.fresh - 1) d).x = h.rising_fresh a (m.fresh - 1) d le (omega (arith, lt)) (omega (arith, lt)) in
+    let by : (get_or es (m.fresh - 1) d).x ≤ℤ (get_or es (m.alive - 1) d).x = last.1 (omega (arith, le, lt)) d in
+    let at : m.alive - 1 ≡ p = omega (arith, alive) in
+    let by' : (get_or es (m.fresh - 1) d).x ≤ℤ (get_or es p d).x = rw at at by in
+    omega (arith, ints, far, by') in
     record {
-      within = omega (arith, lt);
-      within_fresh = h.within_fresh;
-      few = omega (arith, h.few, len);
-      capacity = omega (arith, h.capacity, room);
-      rising = rw items (pairs_maybe (λ d e. d.x ≤ℤ e.x) m.items (get_or active a d) (reaches_above y (get_or active a d)) h.rising (λ k c short. rw (same_item active a d c lt) (All-get_or (λ e. Below active a e.x) m.items k c short h.below a c (omega arith) lt)));
-      below = rw items (all_maybe (λ e. Below active (a + 1) e.x) m.items (get_or active a d) (reaches_above y (get_or active a d)) (All-weaker (λ e. Below active a e.x) (λ e. Below active (a + 1) e.x) (λ e b. below_more active a e.x b) m.items h.below) (past active a d rising lt));
-      below_fresh = rw items (all_maybe (λ e. Below fresh f e.x) m.items (get_or active a d) (reaches_above y (get_or active a d)) h.below_fresh (across active fresh a f d rising_fresh next));
-      edges = rw (items, filter_more (reaches_above y) active a d lt) (moved (filter (reaches_above y) (take a active)) (take f fresh) m.items (cond (reaches_above y (get_or active a d)) (get_or active a d ∷ []) []) h.edges);
+      low = omega (arith, low, fresh, h.low);
+      fresh = omega (arith, fresh, from, h.fresh);
+      from = omega (arith, from, inner);
+      gap = omega (arith, low, fresh, alive, first, h.gap);
+      first = omega (arith, first, end, h.first);
+      end = omega (arith, end, long, h.end);
+      begun = rw end (all_swapped (λ e. e.low ≤ℤ y) es fs p q 0 m.end s (omega arith) (omega (arith, near, h.first)) (omega arith) (omega (arith, first, h.first)) h.begun);
+      ended = rw low (all_kept (λ e. e.high ≤ℤ y) es fs 0 m.low lows h.ended);
+      ended_between = rw (fresh, from) (λ k d le lt. rw (s.2 k d (omega (arith, lt, inner)) (omega (arith, lt, inner, on))) (h.ended_between k d le lt));
+      ended_behind = (λ k d le lt. elim (cases_eq k p) [
+        | inl at ↦ rw (at, s.0 d) (h.ended_behind q d (omega (arith, at, lt, alive)) (omega (arith, first)))
+        | inr off ↦ rw (s.2 k d off (omega (arith, lt))) (h.ended_behind k d (omega (arith, le, off, alive)) (omega (arith, lt, first)))
+      ]);
+      fresh_alive = rw (low, fresh) (all_kept (λ e. y <ℤ e.high) es fs m.low m.fresh news h.fresh_alive);
+      put_alive = rw end (all_front (λ e. y <ℤ e.high) es fs p q m.first m.end s first near up h.put_alive);
+      rising_fresh = rw (low, fresh) (rise_kept es fs m.low m.fresh news h.rising_fresh);
+      rising = rw from (rise_kept es fs m.from p olds (rise_part es m.from m.alive m.from p (omega arith) (omega (arith, one)) h.rising));
+      rising_put = rw end (rise_front es fs p q m.first m.end s first near (λ b d le lt. h.before p b d inner one le lt) h.rising_put);
+      fresh_before = rw (low, fresh, end) (before_front es fs p q m.first m.end m.low m.fresh s first near news before h.fresh_before);
+      before = rw (from, end) (before_front es fs p q m.first m.end m.from p s first near olds (λ a d le lt. h.rising a p d le (omega (arith, lt)) one) (λ a b d le lt to far. h.before a b d le (omega (arith, lt, one)) to far));
+    }
+
+-- one that has ended is left where it is
+pub left_behind : (es : List Edge) (y : ℤ) (m n : Merge) → IsMerging es y m → AreActive es m → ((d : Edge) → (get_or es n.alive d).high ≤ℤ y)
+    → n.low ≡ m.low → n.fresh ≡ m.fresh → n.from ≡ m.from → n.alive + 1 ≡ m.alive → n.first ≡ m.first → n.end ≡ m.end → IsMerging es y n
+left_behind es y m n h last down low fresh from alive first end =
+    let some : m.from < m.alive = last.0 in
+    let one : n.alive ≤ m.alive = omega (arith, alive) in
+    record {
+      low = omega (arith, low, fresh, h.low);
+      fresh = omega (arith, fresh, from, h.fresh);
+      from = omega (arith, from, some, alive);
+      gap = omega (arith, low, fresh, alive, first, h.gap);
+      first = omega (arith, first, end, h.first);
+      end = omega (arith, end, h.end);
+      begun = rw end h.begun;
+      ended = rw low h.ended;
+      ended_between = rw (fresh, from) h.ended_between;
+      ended_behind = rw first (λ k d le lt. elim (cases_eq k n.alive) [
+        | inl at ↦ rw at (down d)
+        | inr off ↦ h.ended_behind k d (omega (arith, le, off, alive)) lt
+      ]);
+      fresh_alive = rw (low, fresh) h.fresh_alive;
+      put_alive = rw (first, end) h.put_alive;
+      rising_fresh = rw (low, fresh) h.rising_fresh;
+      rising = rw from (rise_part es m.from m.alive m.from n.alive (omega arith) one h.rising);
+      rising_put = rw (first, end) h.rising_put;
+      fresh_before = rw (low, fresh, first, end) h.fresh_before;
+      before = rw (from, first, end) (λ a b d le lt to far. h.before a b d le (omega (arith, lt, one)) to far);
     }

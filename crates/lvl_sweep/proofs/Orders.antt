@@ -8,7 +8,7 @@ use Rattle.std.proofs.lemmas.Int.{ints}
 use Rattle.lvl_sweep.specs.declared.edge.Edge.{Edge}
 use Rattle.lvl_sweep.specs.Alive.{IsNoLater, AreInOrder}
 
-second_by : (a b : ℤ) (o : Ordering) → o ≡ int_cmp a b → is_lt o ≡ false → b ≤ℤ a
+pub second_by : (a b : ℤ) (o : Ordering) → o ≡ int_cmp a b → is_lt o ≡ false → b ≤ℤ a
 second_by a b Less e h = cc
 second_by a b Equal e h = let same : a ≡ b = int_ranked a b Equal e in omega (arith, ints, same)
 second_by a b Greater e h = let lt : b <ℤ a = int_ranked a b Greater e in omega (arith, ints, lt)

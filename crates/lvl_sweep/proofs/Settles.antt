@@ -1,27 +1,54 @@
 -- The bands of a sweep, one after another.
-use Rattle.std.proofs.Common.{◌≡◌, ◌≢◌, ◌<◌, Bool, true, false, cond, List, [], ◌∷◌, length, ℤ, ◌<ℤ◌, Some, IsTrue, refl, sym, ◌∙◌, arith, subst}
-use Rattle.std.proofs.lemmas.Int.{ints}
+use Rattle.std.proofs.Common.{◌≡◌, ◌≢◌, ◌<◌, Bool, true, false, cond, List, [], ◌∷◌, length, ℤ, ◌<ℤ◌, ◌≤ℤ◌, Some, IsTrue, refl, sym, ◌∙◌, arith, subst}
+use Rattle.std.proofs.lemmas.Int.{ints, by_lt_z}
 use Rattle.std.proofs.lemmas.List.Elements.{All-filter}
 use Rattle.lvl_grid.specs.declared.point.Point.{Point}
 use Rattle.lvl_sweep.specs.declared.edge.Edge.{Edge}
 use Rattle.lvl_sweep.specs.declared.band.Band.{Band}
 use Rattle.lvl_sweep.specs.declared.strips.Strips.{Strips}
 use Rattle.lvl_sweep.specs.Slab.{Slab}
-use Rattle.lvl_sweep.specs.Alive.{alive, AreEdgesOf}
+use Rattle.lvl_sweep.specs.Alive.{alive, AreEdgesOf, HasSame}
 use Rattle.lvl_sweep.specs.Rows.{Balanced, alive_at, row_at, bands_from}
 use Rattle.lvl_sweep.specs.Strips.{IsAt, IsTop, IsOver, left}
 use Rattle.lvl_sweep.specs.Bands.{slab_of, AreBandsOf}
 use Rattle.lvl_sweep.specs.Sweeps.{IsHeld}
 use Rattle.lvl_sweep.proofs.Alive.{inside_is_covered}
+use Rattle.lvl_sweep.proofs.Alikes.{left_alike, row_at_alike}
 use Rattle.lvl_sweep.proofs.Insides.{inside_is}
 use Rattle.lvl_sweep.proofs.BandLists.{bands_none, bands_skip, bands_first, bands_are, AreSlabsOf}
 
-pub smaller : (es fs : List Edge) (y z t : ℤ) → fs ≡ es → z ≡ t → left es t < left es y → left fs z < left es y
-smaller es fs y z t e f h = rw (e, f) h
+pub smaller : (es fs : List Edge) (y z t : ℤ) → HasSame es fs → z ≡ t → left es t < left es y → left fs z < left es y
+smaller es fs y z t e f h = rw (left_alike es fs z e, f) h
 
 -- a strip without intervals is passed
 pub strip_skipped : (s : Strips) (t : ℤ) (is : List (ℤ × ℤ)) → IsTop s t → is ≡ row_at s.edges.items s.y → is ≡ [] → bands_from s.edges.items (Some s.y) ≡ bands_from s.edges.items (Some t)
 strip_skipped s t is top row empty = bands_skip s.edges.items s.y t (omega (arith, ints, top.above)) (λ v le lt. top.same v le lt ∙ (sym row ∙ empty))
+
+-- a strip that has intervals begins a band
+pub held_start : (s : Strips) (fs : List Edge) (c : Band) (t z : ℤ) → IsAt s → c.intervals.items ≡ row_at s.edges.items s.y → c.intervals.items ≢ [] → IsTop s t → HasSame s.edges.items fs → c.y0 ≡ s.y → c.y1 ≡ t → z ≡ t → IsHeld fs c z
+held_start s fs c t z at row some top same low high end = record {
+  full = omega (arith, ints, low, high, top.above);
+  top = high ∙ sym end;
+  some = some;
+  rows = λ v le lt.
+      let from : s.y ≤ℤ v = omega (arith, ints, low, le) in
+      let to : v <ℤ t = omega (arith, ints, high, lt) in
+      row_at_alike s.edges.items fs v same (at.strips.balanced v) ∙ (top.same v from to ∙ sym row);
+}
+
+-- and one that has the same lengthens it
+pub held_on : (s : Strips) (fs : List Edge) (b c : Band) (t z : ℤ) → IsAt s → IsHeld s.edges.items b s.y → row_at s.edges.items s.y ≡ b.intervals.items → IsTop s t → HasSame s.edges.items fs → c.y0 ≡ b.y0 → c.y1 ≡ t → c.intervals.items ≡ b.intervals.items → z ≡ t → IsHeld fs c z
+held_on s fs b c t z at h row top same low high is end = record {
+  full = omega (arith, ints, low, high, top.above, h.full, h.top);
+  top = high ∙ sym end;
+  some = rw is h.some;
+  rows = λ v le lt.
+      let from : b.y0 ≤ℤ v = omega (arith, ints, low, le) in
+      let to : v <ℤ t = omega (arith, ints, high, lt) in
+      row_at_alike s.edges.items fs v same (at.strips.balanced v) ∙ by_lt_z v s.y
+      (λ near. let under : v <ℤ b.y1 = omega (arith, ints, near, h.top) in h.rows v from under ∙ sym is)
+      (λ far. top.same v far to ∙ (row ∙ sym is));
+}
 
 -- no band is to come
 pub none_left : (s : Strips) → IsOver s → bands_from s.edges.items (Some s.y) ≡ []
@@ -48,10 +75,10 @@ settled_is all rest b true f g = f refl
 settled_is all rest b false f g = g refl
 
 -- what a sweep begins with is the slab list
-pub settled : (rings : List (List Point)) (s t : Strips) (b : Band) (r : Bool) → IsAt s → AreEdgesOf rings s.edges.items → ((v : ℤ) → v <ℤ s.y → row_at s.edges.items v ≡ []) → t.edges.items ≡ s.edges.items
-    → (IsTrue r → bands_from s.edges.items (Some s.y) ≡ slab_of b ∷ bands_from s.edges.items (Some t.y)) → (r ≡ false → bands_from s.edges.items (Some s.y) ≡ [])
+pub settled : (rings : List (List Point)) (s t : Strips) (b : Band) (r : Bool) → IsAt s → AreEdgesOf rings s.edges.items → ((v : ℤ) → v <ℤ s.y → row_at s.edges.items v ≡ [])
+    → (IsTrue r → bands_from s.edges.items (Some s.y) ≡ slab_of b ∷ bands_from t.edges.items (Some t.y)) → (r ≡ false → bands_from s.edges.items (Some s.y) ≡ [])
     → AreBandsOf rings (cond r (slab_of b ∷ bands_from t.edges.items (Some t.y)) [])
-settled rings s t b r at of lowest same next none =
+settled rings s t b r at of lowest next none =
     let whole : AreBandsOf rings (bands_from s.edges.items (Some s.y)) = bands_of_rings rings s.edges.items (bands_from s.edges.items (Some s.y)) of at.strips.balanced (bands_are s.edges.items s.y at.strips.balanced lowest) in
-    let is : bands_from s.edges.items (Some s.y) ≡ cond r (slab_of b ∷ bands_from s.edges.items (Some t.y)) [] = settled_is (bands_from s.edges.items (Some s.y)) (bands_from s.edges.items (Some t.y)) (slab_of b) r next none in
-    rw same (subst (λ (l : List Slab). AreBandsOf rings l) is whole)
+    let is : bands_from s.edges.items (Some s.y) ≡ cond r (slab_of b ∷ bands_from t.edges.items (Some t.y)) [] = settled_is (bands_from s.edges.items (Some s.y)) (bands_from t.edges.items (Some t.y)) (slab_of b) r next none in
+    subst (λ (l : List Slab). AreBandsOf rings l) is whole

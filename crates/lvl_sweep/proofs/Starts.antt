@@ -1,9 +1,8 @@
 -- A sweep begins: the edges of closed rings balance in each row, and none has begun.
-use Rattle.std.proofs.Common.{◌≡◌, ℕ, ◌+◌, ◌<◌, ◌≤◌, ◌^◌, Bool, true, false, ◌&&◌, not, eqb, List, [], ◌∷◌, length, get_or, take, ℤ, pos, ◌-ℤ◌, ◌<ℤ◌, ◌≤ℤ◌, int_lt, int_le, Option, None, Some, All, count_by, IfSome, IfNone, refl, sym, ◌∙◌, arith, inl, inr}
-use Rattle.std.specs.Vec.{vec_capacity}
+use Rattle.std.proofs.Common.{◌≡◌, ℕ, ◌+◌, ◌<◌, ◌≤◌, ◌^◌, Bool, true, false, ◌&&◌, not, eqb, List, [], ◌∷◌, length, get_or, ℤ, pos, ◌-ℤ◌, ◌<ℤ◌, ◌≤ℤ◌, int_lt, int_le, Option, None, Some, All, count_by, IfSome, IfNone, refl, sym, ◌∙◌, arith, inl, inr}
+use Rattle.std.specs.List.{AllWithin}
 use Rattle.std.proofs.lemmas.Int.{ints, by_lt_z}
 use Rattle.std.proofs.lemmas.Bool.{cases_lt}
-use Rattle.std.proofs.lemmas.List.{length-take, length-drop, get_or-drop}
 use Rattle.std.proofs.lemmas.List.Elements.{All-weaker, All-nil, All-cons, All-filter}
 use Rattle.lvl_grid.specs.declared.point.Point.{Point}
 use Rattle.lvl_grid.specs.declared.point.Square.{Square}
@@ -11,7 +10,7 @@ use Rattle.lvl_grid.specs.Winding.{winding, edges, goes_up, goes_down}
 use Rattle.lvl_grid.proofs.Sides.{winding_left}
 use Rattle.lvl_sweep.specs.declared.edge.Edge.{Edge}
 use Rattle.lvl_sweep.specs.declared.strips.Strips.{Strips}
-use Rattle.lvl_sweep.specs.Edges.{net, AreAtRest, IsReach, IsBeginOf}
+use Rattle.lvl_sweep.specs.Edges.{net, AreAtRest, IsBeginOf}
 use Rattle.lvl_sweep.specs.Alive.{alive, AreInOrder, AreEdgesOf}
 use Rattle.lvl_sweep.specs.Rows.{Balanced, alive_at, row_at}
 use Rattle.lvl_sweep.specs.Strips.{AreStrips, IsAt, CanLoad, IsTop, IsOver}
@@ -62,24 +61,20 @@ rings_close rings es of y r = elim (cases_lt r (length rings)) [
   | inr ge ↦ no_ring r (length rings) (alive_at es y) (All-filter (alive y) (λ e. e.ring < length rings) es of.numbers) ge
 ]
 
-pub start_strips : (rings : List (List Point)) (s : Strips) → AreEdgesOf rings s.edges.items → AreInOrder s.edges.items → length s.edges.items < 2 ^ 63 → s.next ≡ 0 → s.active.items ≡ [] → length s.edges.items ≤ vec_capacity s.active → length s.edges.items ≤ vec_capacity s.spare → s.spare.items ≡ [] → AreAtRest s.windings → length s.windings.counts.items ≡ length rings → AreStrips s
-start_strips rings s of order few next active room room_spare spare rest many = record {
-  order = order;
+pub start_strips : (rings : List (List Point)) (s : Strips) → AreEdgesOf rings s.edges.items → AreInOrder s.edges.items → length s.edges.items < 2 ^ 63 → s.from ≡ 0 → s.next ≡ 0 → AreAtRest s.windings → length s.windings.counts.items ≡ length rings → AreStrips s
+start_strips rings s of order few from next rest many = record {
+  order = λ i j d low on lt. order i j d on lt;
   full = of.full;
   numbers = rw many of.numbers;
   few = few;
   balanced = rings_close rings s.edges.items of;
-  within = omega (arith, next);
-  many = rw active (omega arith);
-  few_spare = rw spare (omega arith);
-  room = room;
-  room_spare = room_spare;
-  rising = rw active (λ i j d lt far. absurd (omega (arith, far)));
+  within = (omega (arith, from, next), omega (arith, next));
+  rising = λ i j d low on lt. absurd (omega (arith, on, lt, next));
   rest = rest;
 }
 
-none_before : (P : Edge → Type 0) (es : List Edge) (n : ℕ) → n ≡ 0 → All P (take n es)
-none_before P es n e k d lt = absurd (omega (arith, length-take n es, lt))
+none_before : (P : Edge → Type 0) (es : List Edge) (n : ℕ) → n ≡ 0 → AllWithin P es 0 n
+none_before P es n e k d low lt = absurd (omega (arith, e, lt))
 
 all_from_first : (es : List Edge) (y : ℤ) → AreInOrder es → IsBeginOf es 0 (Some y) → (k : ℕ) (d : Edge) → k < length es → y ≤ℤ (get_or es k d).low
 all_from_first es y order begin k d lt =
@@ -89,12 +84,12 @@ all_from_first es y order begin k d lt =
       | inr near ↦ let e : k ≡ 0 = omega arith in rw e (omega (arith, ints, first))
     ]
 
-pub can_start : (s : Strips) (y : ℤ) → AreStrips s → s.next ≡ 0 → s.active.items ≡ [] → IsBeginOf s.edges.items 0 (Some y) → CanLoad s y
-can_start s y strips next active begin = record {
+pub can_start : (s : Strips) (y : ℤ) → AreStrips s → AreInOrder s.edges.items → s.from ≡ 0 → s.next ≡ 0 → IsBeginOf s.edges.items 0 (Some y) → CanLoad s y
+can_start s y strips order from next begin = record {
   strips = strips;
+  ended = none_before (λ e. e.high ≤ℤ y) s.edges.items s.from from;
   begun = none_before (λ e. e.low ≤ℤ y) s.edges.items s.next next;
-  coming = λ k d lt. rw get_or-drop (all_from_first s.edges.items y strips.order begin (s.next + k) d (omega (arith, length-drop s.next s.edges.items, lt)));
-  kept = rw (active, next) (λ f. refl);
+  coming = λ k d low lt. all_from_first s.edges.items y order begin k d lt;
 }
 
 -- below the first edge's lower end no row has intervals
@@ -111,18 +106,24 @@ pub no_items : {A : Type 0} (xs : List A) → length xs ≤ 0 → xs ≡ []
 no_items [] h = refl
 no_items (x ∷ xs) h = absurd (omega (arith, h))
 
-pub no_start : (s : Strips) → AreStrips s → s.next ≡ 0 → s.active.items ≡ [] → length s.edges.items ≤ 0 → IsAt s
-no_start s strips next active empty = record {
+no_begin : (es : List Edge) (i : ℕ) (o : Option ℤ) → length es ≤ 0 → IsBeginOf es i o → o ≡ None
+no_begin es i None empty is = refl
+no_begin es i (Some y) empty is = absurd (omega (arith, empty, is.0))
+
+pub no_start : (s : Strips) → AreStrips s → s.from ≡ 0 → s.next ≡ 0 → s.top ≡ None → length s.edges.items ≤ 0 → IsAt s
+no_start s strips from next top empty = record {
   strips = strips;
+  ended = none_before (λ e. e.high ≤ℤ s.y) s.edges.items s.from from;
   begun = none_before (λ e. e.low ≤ℤ s.y) s.edges.items s.next next;
-  coming = λ k d lt. absurd (omega (arith, length-drop s.next s.edges.items, lt, empty));
-  alive = rw (active, no_items s.edges.items empty) (λ f. refl);
+  alive = λ k d low lt. absurd (omega (arith, next, lt));
+  coming = λ k d low lt. absurd (omega (arith, lt, empty));
+  top = λ b is. rw top (omega (arith, from, next), no_begin s.edges.items s.next b empty is);
 }
 
-pub top_some : (s : Strips) (o r : Option ℤ) → IsAt s → IsBeginOf s.edges.items s.next o → IsReach s.active.items o r → IfSome r (λ t. IsTop s t)
-top_some s o None h begins reach = tt
-top_some s o (Some t) h begins reach = topped s o t h begins reach
+pub top_some : (s : Strips) (r : Option ℤ) → IsAt s → r ≡ s.top → IfSome r (λ t. IsTop s t)
+top_some s None h e = tt
+top_some s (Some t) h e = topped s t h (sym e)
 
-pub top_none : (s : Strips) (o r : Option ℤ) → IsAt s → IsBeginOf s.edges.items s.next o → IsReach s.active.items o r → IfNone r (IsOver s)
-top_none s o None h begins reach = over s o h begins reach
-top_none s o (Some t) h begins reach = tt
+pub top_none : (s : Strips) (r : Option ℤ) → IsAt s → r ≡ s.top → IfNone r (IsOver s)
+top_none s None h e = over s h (sym e)
+top_none s (Some t) h e = tt

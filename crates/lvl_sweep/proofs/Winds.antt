@@ -75,13 +75,16 @@ other_by a b true e h = absurd (let same : a ≡ b = eqb-true a b e in omega ari
 pub other : (a b : ℕ) → a < b → eqb a b ≡ false
 other a b h = other_by a b (eqb a b) refl h
 
--- a ring without edges
-pub no_ring : (r n : ℕ) (es : List Edge) → All (λ e. e.ring < n) es → n ≤ r → net r es ≡ pos 0
-no_ring r n es h far =
-    let tests : All (λ e. eqb e.ring r ≡ false) es = All-weaker (λ e. e.ring < n) (λ e. eqb e.ring r ≡ false) (λ e k. other e.ring r (omega arith)) es h in
+-- a ring without edges among these
+pub silent : (r : ℕ) (es : List Edge) → All (λ e. eqb e.ring r ≡ false) es → net r es ≡ pos 0
+silent r es tests =
     let ups : count_by (λ e. eqb e.ring r && e.up) es ≡ 0 = count_none (λ e. eqb e.ring r && e.up) es (All-weaker (λ e. eqb e.ring r ≡ false) (λ e. (eqb e.ring r && e.up) ≡ false) (λ e k. rw k refl) es tests) in
     let downs : count_by (λ e. eqb e.ring r && not e.up) es ≡ 0 = count_none (λ e. eqb e.ring r && not e.up) es (All-weaker (λ e. eqb e.ring r ≡ false) (λ e. (eqb e.ring r && not e.up) ≡ false) (λ e k. rw k refl) es tests) in
     rw (ups, downs) refl
+
+-- a number of no ring
+pub no_ring : (r n : ℕ) (es : List Edge) → All (λ e. e.ring < n) es → n ≤ r → net r es ≡ pos 0
+no_ring r n es h far = silent r es (All-weaker (λ e. e.ring < n) (λ e. eqb e.ring r ≡ false) (λ e k. other e.ring r (omega arith)) es h)
 
 pub within_rings : (r n : ℕ) (es : List Edge) → All (λ e. e.ring < n) es → net r es ≢ pos 0 → r < n
 within_rings r n es h k = elim (cases_lt r n) [ inl lt ↦ lt | inr ge ↦ absurd (k (no_ring r n es h ge)) ]

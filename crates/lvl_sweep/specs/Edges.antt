@@ -1,5 +1,5 @@
 -- Vertical edges, and how the rings wind left of an abscissa.
-use Rattle.std.specs.Prelude.{◌≡◌, ◌≢◌, ℕ, Bool, true, false, ◌&&◌, ◌==◌, not, cond, List, ℤ, pos, negsuc, ◌-ℤ◌, int_le, count_by, All, ◌<◌, ◌≤◌, length, slice_index_or, ◌≤ℤ◌, int_lt, Option, None, Some, ◌⊎◌, Any, []}
+use Rattle.std.specs.Prelude.{◌≡◌, ◌≢◌, ℕ, Bool, true, false, ◌&&◌, ◌==◌, not, cond, List, ℤ, pos, negsuc, ◌-ℤ◌, int_le, count_by, All, ◌<◌, ◌≤◌, length, slice_index_or, ◌≤ℤ◌, Option, None, Some, ◌⊎◌}
 use Rattle.std.specs.Ordering.{int_eq}
 use Rattle.lvl_sweep.specs.declared.edge.Edge.{Edge}
 use Rattle.lvl_sweep.specs.declared.windings.Windings.{Windings}
@@ -36,18 +36,6 @@ pub record AreAtRest (w : Windings) : Type 0 where
 abbrev pub IsLower : ℤ → Option ℤ → ℤ → Type 0
 IsLower a None y = y ≡ a
 IsLower a (Some b) y = (y ≤ℤ a) × (y ≤ℤ b) × ((y ≡ a) ⊎ (y ≡ b))
-
--- y is at most each end of an edge and where the next begins, and is one of them
-abbrev pub IsReach : List Edge → Option ℤ → Option ℤ → Type 0
-IsReach es next None = (es ≡ []) × (next ≡ None)
-IsReach es next (Some y) = All (λ e. y ≤ℤ e.high) es × ((b : ℤ) → next ≡ Some b → y ≤ℤ b) × (Any (λ e. e.high ≡ y) es ⊎ (next ≡ Some y))
-
--- the edge at i is no further right than that of the other list at j
-abbrev pub IsNext : List Edge → ℕ → List Edge → ℕ → Type 0
-IsNext es i fs j = (i < length es) × (j < length fs → (d : Edge) → (slice_index_or es i d).x ≤ℤ (slice_index_or fs j d).x)
-
-abbrev pub reaches_above : ℤ → Edge → Bool
-reaches_above y e = int_lt y e.high
 
 -- where the edge at i begins, if there is one
 abbrev pub IsBeginOf : List Edge → ℕ → Option ℤ → Type 0

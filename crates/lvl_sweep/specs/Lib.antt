@@ -3,6 +3,7 @@ pub mod Edges
 pub mod Alive
 pub mod Rows
 pub mod Walks
+pub mod Runs
 pub mod Strips
 pub mod Bands
 pub mod Sweeps

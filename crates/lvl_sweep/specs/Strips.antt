@@ -1,41 +1,39 @@
--- Where a sweep stands: which edges have begun, and which of them are alive.
-use Rattle.std.specs.Prelude.{◌≡◌, ℕ, ◌+◌, ◌<◌, ◌≤◌, ◌^◌, List, length, take, drop, ℤ, ◌<ℤ◌, ◌≤ℤ◌, int_lt, count_by, All, []}
-use Rattle.std.specs.List.{AllPairs, filter}
-use Rattle.std.specs.Vec.{vec_capacity}
+-- Where a sweep has come to: which edges have ended, which are alive, and which are to come.
+use Rattle.std.specs.Prelude.{◌≡◌, ℕ, ◌+◌, ◌<◌, ◌≤◌, ◌^◌, List, length, ℤ, ◌<ℤ◌, ◌≤ℤ◌, int_lt, count_by, slice_index_or, All, [], Option}
+use Rattle.std.specs.List.{AllWithin}
 use Rattle.lvl_sweep.specs.declared.edge.Edge.{Edge}
 use Rattle.lvl_sweep.specs.declared.strips.Strips.{Strips}
-use Rattle.lvl_sweep.specs.Edges.{AreAtRest, reaches_above}
-use Rattle.lvl_sweep.specs.Alive.{HasSame, AreInOrder}
+use Rattle.lvl_sweep.specs.Edges.{AreAtRest, IsBeginOf}
+use Rattle.lvl_sweep.specs.Alive.{IsNoLater}
 use Rattle.lvl_sweep.specs.Rows.{Balanced, alive_at, row_at}
+use Rattle.lvl_sweep.specs.Runs.{RiseWithin, IsEndOf}
 
--- edges of closed rings, in order, and the lists that a sweep keeps of them
+-- edges of closed rings, those to come in their order, and a count for each ring
 pub record AreStrips (s : Strips) : Type 0 where
-  pub order : AreInOrder s.edges.items
+  pub order : (i j : ℕ) (d : Edge) → s.next ≤ i → i < j → j < length s.edges.items → IsNoLater (slice_index_or s.edges.items i d) (slice_index_or s.edges.items j d)
   pub full : All (λ e. e.low <ℤ e.high) s.edges.items
   pub numbers : All (λ e. e.ring < length s.windings.counts.items) s.edges.items
   pub few : length s.edges.items < 2 ^ 63
   pub balanced : (y : ℤ) → Balanced (alive_at s.edges.items y)
-  pub within : s.next ≤ length s.edges.items
-  pub many : length s.active.items ≤ s.next
-  pub room : length s.edges.items ≤ vec_capacity s.active
-  pub room_spare : length s.edges.items ≤ vec_capacity s.spare
-  pub few_spare : length s.spare.items ≤ length s.edges.items
-  pub rising : AllPairs (λ d e. d.x ≤ℤ e.x) s.active.items
+  pub within : (s.from ≤ s.next) × (s.next ≤ length s.edges.items)
+  pub rising : RiseWithin s.edges.items s.from s.next
   pub rest : AreAtRest s.windings
 
--- the first `next` edges have begun by row y, and those alive in it are the active ones
+-- in row y the edges from `from` up to `next` are alive, those before have ended, those behind are to come
 pub record IsAt (s : Strips) : Type 0 where
   pub strips : AreStrips s
-  pub begun : All (λ e. e.low ≤ℤ s.y) (take s.next s.edges.items)
-  pub coming : All (λ e. s.y <ℤ e.low) (drop s.next s.edges.items)
-  pub alive : HasSame (alive_at s.edges.items s.y) s.active.items
+  pub ended : AllWithin (λ e. e.high ≤ℤ s.y) s.edges.items 0 s.from
+  pub begun : AllWithin (λ e. e.low ≤ℤ s.y) s.edges.items 0 s.next
+  pub alive : AllWithin (λ e. s.y <ℤ e.high) s.edges.items s.from s.next
+  pub coming : AllWithin (λ e. s.y <ℤ e.low) s.edges.items s.next (length s.edges.items)
+  pub top : (begins : Option ℤ) → IsBeginOf s.edges.items s.next begins → IsEndOf s.edges.items s.from s.next begins s.top
 
--- no edge that hasn't begun begins below y, and the active ones that reach above y are all that do
+-- no edge that hasn't begun begins below y, and those taken as ended have ended by then
 pub record CanLoad (s : Strips) (y : ℤ) : Type 0 where
   pub strips : AreStrips s
-  pub begun : All (λ e. e.low ≤ℤ y) (take s.next s.edges.items)
-  pub coming : All (λ e. y ≤ℤ e.low) (drop s.next s.edges.items)
-  pub kept : HasSame (filter (reaches_above y) (take s.next s.edges.items)) (filter (reaches_above y) s.active.items)
+  pub ended : AllWithin (λ e. e.high ≤ℤ y) s.edges.items 0 s.from
+  pub begun : AllWithin (λ e. e.low ≤ℤ y) s.edges.items 0 s.next
+  pub coming : AllWithin (λ e. y ≤ℤ e.low) s.edges.items s.next (length s.edges.items)
 
 -- how many edges are to begin above y, and to end above it
 abbrev pub left : List Edge → ℤ → ℕ

@@ -18,7 +18,5 @@ mod rows;
 mod slab_region;
 mod strips;
 mod sweep;
-#[cfg(test)]
-mod tests;
 mod walk;
 mod windings;

@@ -1,66 +1,235 @@
-//! The edges alive in a row, kept by abscissa from one row to the next.
-ghost use Rattle.std.specs.Prelude.{◌≡◌, ◌<◌, ◌≤◌, ◌+◌, ◌++◌, ◌∷◌, [], length, ◌≤ℤ◌, IsTrue, false, if◌then◌else◌};
-ghost use Rattle.std.specs.List.{AllPairs, filter};
+//! The edges alive in a row, kept by abscissa within the list of all edges.
+ghost use Rattle.std.specs.Prelude.{◌≡◌, ◌⊎◌, ◌<◌, ◌≤◌, ◌+◌, ℕ, ℤ, ◌<ℤ◌, ◌≤ℤ◌, length, Option, IsTrue, IfSome, IfNone, false, slice_index_or};
+ghost use Rattle.std.specs.List.{AllWithin, SwappedAt};
 ghost use Rattle.std.specs.List.Sorted.{IsPermutation};
-ghost use Rattle.std.specs.Vec.{vec_len, vec_capacity};
-ghost use Rattle.lvl_sweep.specs.Edges.{IsNext, reaches_above};
+ghost use Rattle.lvl_sweep.specs.declared.edge.Edge.{Edge as EdgeValue};
+ghost use Rattle.lvl_sweep.specs.Edges.{IsLower};
+ghost use Rattle.lvl_sweep.specs.Runs.{RiseWithin, IsEndOf, IsSameWithin, IsSameFrom, IsMerging, AreFresh, AreActive, IsRenewed};
 
 use crate::edge::Edge;
 
-/// Whether the next edge by abscissa is the fresh one.
-fn is_fresh_next(active: &[Edge], a: usize, fresh: &[Edge], f: usize) -> bool
-    requires within { a ≤ length active.now }
-    requires some { f ≡ length fresh.now → a < length active.now }
-    requires within_fresh { f ≤ length fresh.now }
-    ensures fresh { IsTrue result → IsNext fresh.now f active.now a }
-    ensures active { result ≡ false → IsNext active.now a fresh.now f }
-{
-    f < fresh.len() && (a == active.len() || fresh[f].x < active[a].x)
+/// How far a merge has come. The edges still to be put are those that begin, from index `low` up to
+/// `fresh`, and those that were alive, from `from` up to `alive`. Those that are put lie from
+/// `first` up to `end`. All others below `end` have ended.
+#[derive(Clone, Copy, Debug, PartialEq, Eq)]
+pub struct Merge {
+    pub low: usize,
+    pub fresh: usize,
+    pub from: usize,
+    pub alive: usize,
+    pub first: usize,
+    pub end: usize,
+    /// The least ordinate at which one of those that are put ends, or the next edge begins.
+    pub top: Option<i64>,
 }
 
-/// Puts the edge behind the others, which have room for it.
-fn put_edge(merged: &mut Vec<Edge>, edge: Edge)
-    requires { vec_len merged.old < vec_capacity merged.old }
-    ensures items { merged.new.items ≡ merged.old.items ++ edge ∷ [] }
-    ensures len { vec_len merged.new ≡ vec_len merged.old + 1 }
-    ensures capacity { vec_capacity merged.old ≤ vec_capacity merged.new }
+/// The lower of an ordinate and one that may be missing.
+fn lower(a: i64, b: Option<i64>) -> i64
+    ensures { IsLower a b result }
 {
-    if merged.push(edge).is_err() {
-        unreachable!()
+    match b {
+        Some(y) if y <= a => y,
+        _ => a,
     }
 }
 
-/// Puts the edge behind the others where it reaches above `y`.
-fn put_above(merged: &mut Vec<Edge>, edge: Edge, y: i64)
-    requires { vec_len merged.old < vec_capacity merged.old }
-    ensures items { merged.new.items ≡ merged.old.items ++ (if reaches_above y edge then edge ∷ [] else []) }
-    ensures len { vec_len merged.new ≤ vec_len merged.old + 1 }
-    ensures capacity { vec_capacity merged.old ≤ vec_capacity merged.new }
+/// Whether the edge at the index reaches above `y`.
+fn reaches_above(edges: &[Edge], i: usize, y: i64) -> bool
+    requires within { i < length edges.now }
+    ensures above { IsTrue result → (d : EdgeValue) → y <ℤ (slice_index_or edges.now i d).high }
+    ensures ended { result ≡ false → (d : EdgeValue) → (slice_index_or edges.now i d).high ≤ℤ y }
 {
-    if y < edge.high {
-        put_edge(merged, edge);
+    y < edges[i].high
+}
+
+/// Exchanges so many edges from `to` on with those from `from` on, which lie after them.
+fn exchange(edges: &mut [Edge], to: usize, from: usize, count: usize)
+    requires apart { to + count ≤ from }
+    requires within { from + count ≤ length edges.old }
+    ensures permutation { IsPermutation edges.old edges.new }
+    ensures there { (k : ℕ) (d : EdgeValue) → k < count → slice_index_or edges.new (to + k) d ≡ slice_index_or edges.old (from + k) d }
+    ensures back { (k : ℕ) (d : EdgeValue) → k < count → slice_index_or edges.new (from + k) d ≡ slice_index_or edges.old (to + k) d }
+    ensures before { IsSameWithin edges.old edges.new 0 to }
+    ensures between { IsSameWithin edges.old edges.new (to + count) from }
+    ensures behind { IsSameFrom edges.old edges.new (from + count) }
+{
+    for i in 0..count {
+        edges.swap(to + i, from + i);
     }
 }
 
-/// Puts those active edges that reach above `y`, and the fresh ones, into `merged`, by abscissa.
-pub(crate) fn merge(active: &[Edge], fresh: &[Edge], y: i64, merged: &mut Vec<Edge>)
-    requires rising { AllPairs (λ d e. d.x ≤ℤ e.x) active.now }
-    requires rising_fresh { AllPairs (λ d e. d.x ≤ℤ e.x) fresh.now }
-    requires room { length active.now + length fresh.now ≤ vec_capacity merged.old }
-    ensures rising { AllPairs (λ d e. d.x ≤ℤ e.x) merged.new.items }
-    ensures edges { IsPermutation (filter (reaches_above y) active.now ++ fresh.now) merged.new.items }
-    ensures capacity { vec_capacity merged.old ≤ vec_capacity merged.new }
-{
-    merged.clear();
-    let mut a = 0;
-    let mut f = 0;
-    while a < active.len() || f < fresh.len() {
-        if is_fresh_next(active, a, fresh, f) {
-            put_edge(merged, fresh[f]);
-            f += 1;
+impl Merge {
+    /// Whether some edges are still to be put.
+    fn is_left(&self) -> bool
+        ensures left { IsTrue result → self.now.low < self.now.fresh ⊎ self.now.from < self.now.alive }
+        ensures over { result ≡ false → (self.now.fresh ≤ self.now.low) × (self.now.alive ≤ self.now.from) }
+    {
+        self.low < self.fresh || self.from < self.alive
+    }
+
+    /// Whether, of the edges still to be put, the last by abscissa is one that begins.
+    fn is_fresh_last(&self, edges: &[Edge]) -> bool
+        requires left { self.now.low < self.now.fresh ⊎ self.now.from < self.now.alive }
+        requires fresh_within { self.now.fresh ≤ length edges.now }
+        requires alive_within { self.now.alive ≤ length edges.now }
+        ensures fresh { IsTrue result → AreFresh edges.now self.now }
+        ensures active { result ≡ false → AreActive edges.now self.now }
+    {
+        self.low < self.fresh
+            && (self.from >= self.alive || edges[self.alive - 1].x <= edges[self.fresh - 1].x)
+    }
+
+    /// Puts the edge at the index before those that are put.
+    fn put(&mut self, edges: &mut [Edge], at: usize)
+        requires at { at < self.old.first }
+        requires within { self.old.first ≤ length edges.old }
+        ensures swapped { SwappedAt edges.old edges.new at self.new.first }
+        ensures permutation { IsPermutation edges.old edges.new }
+        ensures first { self.new.first + 1 ≡ self.old.first }
+        ensures low { self.new.low ≡ self.old.low }
+        ensures fresh { self.new.fresh ≡ self.old.fresh }
+        ensures from { self.new.from ≡ self.old.from }
+        ensures alive { self.new.alive ≡ self.old.alive }
+        ensures end { self.new.end ≡ self.old.end }
+        ensures some { IfNone self.new.top ⊥ }
+        ensures top { IfSome self.new.top (λ t. (d : EdgeValue) → IsLower (slice_index_or edges.old at d).high self.old.top t) }
+    {
+        self.first -= 1;
+        self.top = Some(lower(edges[at].high, self.top));
+        edges.swap(at, self.first);
+    }
+
+    /// Puts the last of the edges still to be put, or drops it where it ends by `y`.
+    fn step(&mut self, edges: &mut [Edge], y: i64)
+        requires merging { IsMerging edges.old y self.old }
+        requires left { self.old.low < self.old.fresh ⊎ self.old.from < self.old.alive }
+        ensures merging { IsMerging edges.new y self.new }
+        ensures permutation { IsPermutation edges.old edges.new }
+        ensures behind { IsSameFrom edges.old edges.new self.old.end }
+        ensures fewer { self.new.fresh + self.new.alive < self.old.fresh + self.old.alive }
+        ensures end { self.new.end ≡ self.old.end }
+        ensures top { (b : Option ℤ) → IsEndOf edges.old self.old.first self.old.end b self.old.top → IsEndOf edges.new self.new.first self.old.end b self.new.top }
+    {
+        if self.is_fresh_last(edges) {
+            self.fresh -= 1;
+            self.put(edges, self.fresh);
         } else {
-            put_above(merged, active[a], y);
-            a += 1;
+            self.alive -= 1;
+            if reaches_above(edges, self.alive, y) {
+                self.put(edges, self.alive);
+            }
         }
     }
+
+    /// Puts all edges that are left.
+    fn run(&mut self, edges: &mut [Edge], y: i64)
+        requires merging { IsMerging edges.old y self.old }
+        ensures merging { IsMerging edges.new y self.new }
+        ensures over { (self.new.fresh ≤ self.new.low) × (self.new.alive ≤ self.new.from) }
+        ensures permutation { IsPermutation edges.old edges.new }
+        ensures behind { IsSameFrom edges.old edges.new self.old.end }
+        ensures end { self.new.end ≡ self.old.end }
+        ensures top { (b : Option ℤ) → IsEndOf edges.old self.old.first self.old.end b self.old.top → IsEndOf edges.new self.new.first self.old.end b self.new.top }
+    {
+        while self.is_left() {
+            self.step(edges, y);
+        }
+    }
+}
+
+/// The start of a merge where as many edges have ended as begin: those that begin take their room.
+fn start_by_exchange(
+    edges: &mut [Edge],
+    from: usize,
+    next: usize,
+    end: usize,
+    top: Option<i64>,
+) -> Merge
+    requires many { end ≤ from + next }
+    requires order { (from ≤ next) × (next ≤ end) × (end ≤ length edges.old) }
+    ensures merging { (y : ℤ) → IsRenewed edges.old y from next end → IsMerging edges.new y result }
+    ensures permutation { IsPermutation edges.old edges.new }
+    ensures behind { IsSameFrom edges.old edges.new end }
+    ensures first { result.first ≡ end }
+    ensures end { result.end ≡ end }
+    ensures top { result.top ≡ top }
+{
+    let count = end - next;
+    let low = from - count;
+    exchange(edges, low, next, count);
+    Merge {
+        low,
+        fresh: from,
+        from,
+        alive: next,
+        first: end,
+        end,
+        top,
+    }
+}
+
+/// The start of a merge where fewer edges have ended than begin: those alive and those that begin
+/// are sorted together.
+fn start_by_sort(edges: &mut [Edge], from: usize, end: usize, top: Option<i64>) -> Merge
+    requires order { (from ≤ end) × (end ≤ length edges.old) }
+    ensures merging { (y : ℤ) (next : ℕ) → IsRenewed edges.old y from next end → IsMerging edges.new y result }
+    ensures permutation { IsPermutation edges.old edges.new }
+    ensures behind { IsSameFrom edges.old edges.new end }
+    ensures first { result.first ≡ end }
+    ensures end { result.end ≡ end }
+    ensures top { result.top ≡ top }
+{
+    edges[from..end].sort_unstable_by_key(|edge| edge.x);
+    Merge {
+        low: from,
+        fresh: from,
+        from,
+        alive: end,
+        first: end,
+        end,
+        top,
+    }
+}
+
+/// The start of a merge.
+fn start(edges: &mut [Edge], from: usize, next: usize, end: usize, top: Option<i64>) -> Merge
+    requires order { (from ≤ next) × (next ≤ end) × (end ≤ length edges.old) }
+    ensures merging { (y : ℤ) → IsRenewed edges.old y from next end → IsMerging edges.new y result }
+    ensures permutation { IsPermutation edges.old edges.new }
+    ensures behind { IsSameFrom edges.old edges.new end }
+    ensures first { result.first ≡ end }
+    ensures end { result.end ≡ end }
+    ensures top { result.top ≡ top }
+{
+    if end - next <= from {
+        start_by_exchange(edges, from, next, end, top)
+    } else {
+        start_by_sort(edges, from, end, top)
+    }
+}
+
+/// Drops the edges from `from` up to `next` that end by `y`, and takes in those from `next` up to
+/// `end`, which begin there. Those alive then lie from the answer's `first` up to `end`, and the
+/// strip of rows ends at its `top`.
+pub(crate) fn renew(
+    edges: &mut [Edge],
+    from: usize,
+    next: usize,
+    end: usize,
+    y: i64,
+    begins: Option<i64>,
+) -> Merge
+    requires renewed { IsRenewed edges.old y from next end }
+    ensures within { result.first ≤ end }
+    ensures permutation { IsPermutation edges.old edges.new }
+    ensures behind { IsSameFrom edges.old edges.new end }
+    ensures ended { AllWithin (λ e. e.high ≤ℤ y) edges.new 0 result.first }
+    ensures begun { AllWithin (λ e. e.low ≤ℤ y) edges.new 0 end }
+    ensures alive { AllWithin (λ e. y <ℤ e.high) edges.new result.first end }
+    ensures rising { RiseWithin edges.new result.first end }
+    ensures top { IsEndOf edges.new result.first end begins result.top }
+{
+    let mut merge = start(edges, from, next, end, begins);
+    merge.run(edges, y);
+    merge
 }

@@ -2,39 +2,17 @@
 ghost use Rattle.std.specs.Prelude.{◌≡◌, ◌<◌, ◌≤◌, ◌+◌, ◌*◌, length, [], ℤ, ◌<ℤ◌, ◌≤ℤ◌, slice_index_or, IsTrue, ◌↔◌, IfOk, IfSome, IfNone};
 ghost use Rattle.std.specs.List.{AllWithin};
 ghost use Rattle.std.specs.Vec.{vec_len, vec_capacity};
-ghost use Rattle.lvl_sweep.specs.Alive.{AreEdgesOf};
-ghost use Rattle.lvl_sweep.specs.Edges.{IsLower, IsReach, IsBeginOf};
+ghost use Rattle.lvl_sweep.specs.Alive.{AreEdgesOf, HasSame};
+ghost use Rattle.lvl_sweep.specs.Edges.{IsBeginOf};
 ghost use Rattle.lvl_sweep.specs.Rows.{row_at};
 ghost use Rattle.lvl_sweep.specs.declared.edge.Edge.{Edge as EdgeValue};
 
 use crate::edge::{Edge, edges_of};
-use crate::merge::merge;
+use crate::merge::renew;
 use crate::walk::{collect_row, is_row};
 use crate::windings::Windings;
 use lvl_grid::RingList;
 use std::alloc::{AllocError, Global};
-use std::mem;
-
-/// The lower of an ordinate and one that may be missing.
-fn lower(a: i64, b: Option<i64>) -> i64
-    ensures { IsLower a b result }
-{
-    match b {
-        Some(y) if y <= a => y,
-        _ => a,
-    }
-}
-
-/// The least ordinate at which an edge ends or the next begins, or None where there is neither.
-fn reach(active: &[Edge], begins: Option<i64>) -> Option<i64>
-    ensures { IsReach active.now begins result }
-{
-    let mut least = begins;
-    for edge in active {
-        least = Some(lower(edge.high, least));
-    }
-    least
-}
 
 /// The index behind the edges that begin by `y`.
 fn end_of_start(edges: &[Edge], from: usize, y: i64) -> usize
@@ -63,13 +41,15 @@ fn begins_at(edges: &[Edge], i: usize) -> Option<i64>
     }
 }
 
-/// All vertical edges, of which the first `next` begin by row `y`, and those alive in it.
+/// All vertical edges, in one list: before `from` those that have ended, up to `next` those alive in
+/// row `y`, by abscissa, and then those to come, by the ordinate at which they begin.
 #[derive(Debug, Drop)]
 pub struct Strips {
     pub edges: Vec<Edge>,
+    pub from: usize,
     pub next: usize,
-    pub active: Vec<Edge>,
-    pub spare: Vec<Edge>,
+    /// Where the strip ends, or None where no edge is alive or to come.
+    pub top: Option<i64>,
     pub windings: Windings,
     pub y: i64,
 }
@@ -84,11 +64,10 @@ impl Strips {
         ensures lowest { IfOk result (λ s. (v : ℤ) → v <ℤ s.y → row_at s.edges.items v ≡ []) }
     {
         let edges = edges_of(alloc, rings)?;
-        let count = edges.len();
         let mut strips = Strips {
+            from: 0,
             next: 0,
-            active: Vec::with_capacity(alloc, count)?,
-            spare: Vec::with_capacity(alloc, count)?,
+            top: None,
             windings: Windings::new(alloc, rings.len())?,
             y: 0,
             edges,
@@ -105,7 +84,7 @@ impl Strips {
         ensures top { IfSome result (λ t. IsTop self.now t) }
         ensures over { IfNone result (IsOver self.now) }
     {
-        reach(&self.active, begins_at(&self.edges, self.next))
+        self.top
     }
 
     /// Goes on to the strip that begins at `y`.
@@ -113,17 +92,14 @@ impl Strips {
         requires { CanLoad self.old y }
         ensures at { IsAt self.new }
         ensures here { self.new.y ≡ y }
-        ensures edges { self.new.edges.items ≡ self.old.edges.items }
+        ensures edges { HasSame self.old.edges.items self.new.edges.items }
     {
         let end = end_of_start(&self.edges, self.next, y);
-        merge(
-            &self.active,
-            &self.edges[self.next..end],
-            y,
-            &mut self.spare,
-        );
-        mem::swap(&mut self.active, &mut self.spare);
+        let begins = begins_at(&self.edges, end);
+        let merge = renew(&mut self.edges, self.from, self.next, end, y, begins);
+        self.from = merge.first;
         self.next = end;
+        self.top = merge.top;
         self.y = y;
     }
 
@@ -138,7 +114,11 @@ impl Strips {
         ensures few { 2 * vec_len intervals.new ≤ length self.old.edges.items }
         ensures capacity { vec_capacity intervals.old ≤ vec_capacity intervals.new }
     {
-        collect_row(&self.active, &mut self.windings, intervals);
+        collect_row(
+            &self.edges[self.from..self.next],
+            &mut self.windings,
+            intervals,
+        );
     }
 
     /// Whether the strip's intervals are these.
@@ -149,6 +129,10 @@ impl Strips {
         ensures edges { self.new.edges.items ≡ self.old.edges.items }
         ensures same { IsTrue result ↔ (row_at self.old.edges.items self.old.y ≡ intervals.now) }
     {
-        is_row(&self.active, &mut self.windings, intervals)
+        is_row(
+            &self.edges[self.from..self.next],
+            &mut self.windings,
+            intervals,
+        )
     }
 }

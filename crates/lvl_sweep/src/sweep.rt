@@ -1,6 +1,7 @@
 //! The sweep itself: strips joined to bands.
 ghost use Rattle.std.specs.Prelude.{◌≡◌, ◌≢◌, ◌≤◌, ◌+◌, ◌*◌, ◌∷◌, [], length, drop, IsTrue, false, Some, IfOk, IfSome, IfNone};
 ghost use Rattle.std.specs.Vec.{vec_len, vec_capacity};
+ghost use Rattle.lvl_sweep.specs.Alive.{HasSame};
 ghost use Rattle.lvl_sweep.specs.Rows.{row_at, bands_from};
 ghost use Rattle.lvl_sweep.specs.Strips.{IsAt, IsTop, IsOver};
 ghost use Rattle.lvl_sweep.specs.Bands.{slab_of, AreBandsOf, AreFewerThanLines, HaveFewIntervals};
@@ -14,9 +15,8 @@ use std::marker::Model;
 
 /// The bands of what some ring covers, one at a time, from the lowest on.
 ///
-/// It holds the vertical edges of the rings, two lists of those alive in the present row, one count
-/// for each ring and one band, and takes no memory once it is made. With one list of those alive,
-/// each new row would cost a pass over all edges, or moves within the list for each that begins.
+/// It holds the vertical edges of the rings, among which those alive in the present row lie side by
+/// side, one count for each ring, and one band. It takes no memory once it is made.
 #[derive(Debug, Drop)]
 pub struct Sweep {
     strips: Strips,
@@ -41,13 +41,13 @@ fn find_row(strips: &mut Strips, intervals: &mut Vec<(i64, i64)>) -> Option<i64>
     requires at { IsAt strips.old }
     requires room { length strips.old.edges.items ≤ 2 * vec_capacity intervals.old + 1 }
     ensures at { IsAt strips.new }
-    ensures edges { strips.new.edges.items ≡ strips.old.edges.items }
-    ensures skipped { bands_from strips.old.edges.items (Some strips.old.y) ≡ bands_from strips.old.edges.items (Some strips.new.y) }
+    ensures edges { HasSame strips.old.edges.items strips.new.edges.items }
+    ensures skipped { bands_from strips.old.edges.items (Some strips.old.y) ≡ bands_from strips.new.edges.items (Some strips.new.y) }
     ensures top { IfSome result (λ t. IsTop strips.new t) }
     ensures some { IfSome result (λ _. intervals.new.items ≢ []) }
     ensures over { IfNone result (IsOver strips.new) }
-    ensures row { intervals.new.items ≡ row_at strips.old.edges.items strips.new.y }
-    ensures few { 2 * vec_len intervals.new ≤ length strips.old.edges.items }
+    ensures row { intervals.new.items ≡ row_at strips.new.edges.items strips.new.y }
+    ensures few { 2 * vec_len intervals.new ≤ length strips.new.edges.items }
     ensures capacity { vec_capacity intervals.old ≤ vec_capacity intervals.new }
 {
     loop {
@@ -65,9 +65,9 @@ fn lengthen(strips: &mut Strips, band: &mut Band)
     requires at { IsAt strips.old }
     requires held { IsHeld strips.old.edges.items band.old strips.old.y }
     ensures at { IsAt strips.new }
-    ensures edges { strips.new.edges.items ≡ strips.old.edges.items }
-    ensures held { IsHeld strips.old.edges.items band.new strips.new.y }
-    ensures stops { row_at strips.old.edges.items strips.new.y ≢ band.new.intervals.items }
+    ensures edges { HasSame strips.old.edges.items strips.new.edges.items }
+    ensures held { IsHeld strips.new.edges.items band.new strips.new.y }
+    ensures stops { row_at strips.new.edges.items strips.new.y ≢ band.new.intervals.items }
     ensures low { band.new.y0 ≡ band.old.y0 }
     ensures intervals { band.new.intervals ≡ band.old.intervals }
 {
@@ -85,13 +85,13 @@ fn settle(strips: &mut Strips, band: &mut Band) -> bool
     requires at { IsAt strips.old }
     requires room { length strips.old.edges.items ≤ 2 * vec_capacity band.old.intervals + 1 }
     ensures at { IsAt strips.new }
-    ensures edges { strips.new.edges.items ≡ strips.old.edges.items }
+    ensures edges { HasSame strips.old.edges.items strips.new.edges.items }
     ensures next { IsTrue result
         → bands_from strips.old.edges.items (Some strips.old.y)
-        ≡ slab_of band.new ∷ bands_from strips.old.edges.items (Some strips.new.y) }
+        ≡ slab_of band.new ∷ bands_from strips.new.edges.items (Some strips.new.y) }
     ensures none { result ≡ false → bands_from strips.old.edges.items (Some strips.old.y) ≡ [] }
-    ensures few { 2 * vec_len band.new.intervals ≤ length strips.old.edges.items }
-    ensures capacity { vec_capacity band.old.intervals ≤ vec_capacity band.new.intervals }
+    ensures few { 2 * vec_len band.new.intervals ≤ length strips.new.edges.items }
+    ensures room { length strips.new.edges.items ≤ 2 * vec_capacity band.new.intervals + 1 }
 {
     let Some(top) = find_row(strips, &mut band.intervals) else {
         return false;

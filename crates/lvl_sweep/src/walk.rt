@@ -92,16 +92,17 @@ fn next_interval(active: &[Edge], place: &mut Place, windings: &mut Windings) ->
     Some((start, end))
 }
 
-/// Passes the edges that are left.
-fn pass_rest(active: &[Edge], at: usize, windings: &mut Windings)
+/// Sets the counts of the rings whose edges were passed back to 0.
+fn forget(active: &[Edge], at: usize, windings: &mut Windings)
     requires row { IsRowOf active.now (length windings.old.counts.items) }
     requires passed { HasPassed active.now at windings.old }
-    ensures passed { HasPassed active.now (length active.now) windings.new }
+    ensures rest { AreAtRest windings.new }
     ensures rings { length windings.new.counts.items ≡ length windings.old.counts.items }
 {
-    for i in at..active.len() {
-        windings.pass(active[i].ring, active[i].up);
+    for i in 0..at {
+        windings.counts[active[i].ring] = 0;
     }
+    windings.turning = 0;
 }
 
 /// Puts the interval behind the others, which have room for it.
@@ -146,7 +147,7 @@ pub(crate) fn is_row(active: &[Edge], windings: &mut Windings, intervals: &[(i64
     let mut seen = 0;
     while let Some(interval) = next_interval(active, &mut place, windings) {
         if seen == intervals.len() || intervals[seen] != interval {
-            pass_rest(active, place.at, windings);
+            forget(active, place.at, windings);
             return false;
         }
         seen += 1;

@@ -16,7 +16,8 @@ fn turned(count: i64, up: bool) -> i64
     requires { unsigned_abs count + 1 < 2 ^ 63 }
     ensures { result ≡ count +ℤ turn up }
 {
-    if up { count + 1 } else { count - 1 }
+    let turn = if up { 1 } else { -1 };
+    count + turn
 }
 
 /// How many counts aren't 0, where one of them changes.

@@ -1,5 +1,6 @@
 use Rattle.std.proofs.Common.{◌≡◌, ◌≤◌, Some}
 use Rattle.std.specs.Vec.{vec_capacity}
+use Rattle.lvl_sweep.specs.Alive.{HasSame}
 use Rattle.lvl_sweep.specs.Rows.{bands_from}
 use Rattle.lvl_sweep.specs.Strips.{IsAt, left}
 use Rattle.lvl_sweep.proofs.sweep.find_row.Given as goal
@@ -8,8 +9,8 @@ use Rattle.lvl_sweep.proofs.sweep.find_row.Given as goal
 abbrev pub invariant-loop-top : goal.invariant-loop-top
 invariant-loop-top l = record {
   at : IsAt l.strips;
-  edges : l.strips.edges.items ≡ l.fn.strips.edges.items;
-  skipped : bands_from l.fn.strips.edges.items (Some l.fn.strips.y) ≡ bands_from l.fn.strips.edges.items (Some l.strips.y);
+  edges : HasSame l.fn.strips.edges.items l.strips.edges.items;
+  skipped : bands_from l.fn.strips.edges.items (Some l.fn.strips.y) ≡ bands_from l.strips.edges.items (Some l.strips.y);
   capacity : vec_capacity l.fn.intervals ≤ vec_capacity l.intervals;
 }
 

@@ -1,4 +1,5 @@
 use Rattle.std.proofs.Common.{◌≡◌}
+use Rattle.lvl_sweep.specs.Alive.{HasSame}
 use Rattle.lvl_sweep.specs.Strips.{IsAt, left}
 use Rattle.lvl_sweep.specs.Sweeps.{IsHeld}
 use Rattle.lvl_sweep.proofs.sweep.lengthen.Given as goal
@@ -7,8 +8,8 @@ use Rattle.lvl_sweep.proofs.sweep.lengthen.Given as goal
 abbrev pub invariant-loop-strips : goal.invariant-loop-strips
 invariant-loop-strips l = record {
   at : IsAt l.strips;
-  edges : l.strips.edges.items ≡ l.fn.strips.edges.items;
-  held : IsHeld l.fn.strips.edges.items l.band l.strips.y;
+  edges : HasSame l.fn.strips.edges.items l.strips.edges.items;
+  held : IsHeld l.strips.edges.items l.band l.strips.y;
   low : l.band.y0 ≡ l.fn.band.y0;
   intervals : l.band.intervals ≡ l.fn.band.intervals;
 }

@@ -13,9 +13,6 @@ loop-interval-init c = record {
   row = refl;
 }
 
-pub returns-then-seen-intervals-clause-rest : goal.returns-then-seen-intervals-clause-rest
-returns-then-seen-intervals-clause-rest c = ended c.args.active.now _ c.requires.row.balanced c.pass_rest.ensures.passed
-
 pub loop-interval-preserved : goal.loop-interval-preserved
 loop-interval-preserved c = record {
   passed = c.in-Some.ensures.passed;

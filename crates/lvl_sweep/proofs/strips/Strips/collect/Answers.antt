@@ -1,10 +1,10 @@
-use Rattle.std.proofs.Common.{◌∙◌, ap}
+use Rattle.std.proofs.Common.{◌≡◌, ◌≤◌, length, take, drop, ◌-◌, ◌∙◌, ap}
 use Rattle.lvl_sweep.specs.Rows.{row}
-use Rattle.lvl_sweep.proofs.Loads.{row_walked, row_here}
+use Rattle.lvl_sweep.proofs.Loads.{active, row_walked, row_here}
 use Rattle.lvl_sweep.proofs.strips.Strips.collect.Goals as goal
 
 pub collect_row-requires-clause-row : goal.collect_row-requires-clause-row
 collect_row-requires-clause-row c = rw c.deref.ensures.value (row_walked c.args.self.now c.requires.at)
 
 pub returns-clause-row : goal.returns-clause-row
-returns-clause-row c = c.collect_row.ensures.row ∙ (ap row c.deref.ensures.value ∙ row_here c.args.self.now c.requires.at)
+returns-clause-row c = (rw c.deref.ensures.value at c.collect_row.ensures.row) ∙ row_here c.args.self.now c.requires.at

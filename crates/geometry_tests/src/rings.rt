@@ -1,6 +1,6 @@
 //! Rings in one piece, pushed, placed and clipped.
-use super::{EDGE, FLIP_AND_RISE, ORIGIN, ring_of};
-use crate::{Map, Part, PlaceFault, Point, Ring, RingList, Rings, Square, Turn, Window};
+use crate::maps::{EDGE, FLIP_AND_RISE, ORIGIN, ring_of};
+use lvl_grid::{Map, Part, PlaceFault, Point, Ring, RingList, Rings, Square, Turn, Window};
 use std::alloc::{AllocError, Global};
 use std::test::Fail;
 

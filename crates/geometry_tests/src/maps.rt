@@ -1,14 +1,12 @@
-//! Worked rings and maps, and each growth refused in turn.
-use crate::{Map, PlaceFault, Point, Ring, RingFault, Square, Turn};
+//! Rings and maps worked by hand.
+use lvl_grid::{Map, PlaceFault, Point, Ring, RingFault, Square, Turn};
 use std::alloc::{AllocError, Global};
 use std::test::Fail;
 
-mod rings;
-
-const ORIGIN: Point = Point { x: 0, y: 0 };
+pub const ORIGIN: Point = Point { x: 0, y: 0 };
 
 /// The ring of these vertices; no ring at all where they are none.
-fn ring_of(alloc: Global, vertices: &[(i64, i64)]) -> Result<Option<Ring>, AllocError> {
+pub fn ring_of(alloc: Global, vertices: &[(i64, i64)]) -> Result<Option<Ring>, AllocError> {
     let mut points = Vec::with_capacity(alloc, vertices.len())?;
     for (x, y) in vertices {
         points.push(Point { x: *x, y: *y })?;
@@ -96,7 +94,7 @@ fn refuses_what_is_no_ring(rt: HostRuntime) -> Result<(), Fail> {
     Ok(())
 }
 
-const FLIP_AND_RISE: Map = Map {
+pub const FLIP_AND_RISE: Map = Map {
     flip: true,
     turn: Turn::R0,
     at: Point { x: 0, y: 5 },
@@ -136,7 +134,7 @@ fn map_composition(rt: HostRuntime) -> Result<(), Fail> {
 }
 
 /// At the very edge of 64 bits, one column of one square.
-const EDGE: [(i64, i64); 4] = [
+pub const EDGE: [(i64, i64); 4] = [
     (-9223372036854775807, 0),
     (-9223372036854775808, 0),
     (-9223372036854775808, 1),

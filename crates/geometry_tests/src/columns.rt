@@ -1,35 +1,13 @@
 //! Made lists on which columns, halves, windows, the sweep and the grid agree.
 ghost use Rattle.std.specs.Prelude.{◌<◌, ◌^◌, pos, ◌<ℤ◌, ◌≤ℤ◌};
 
-use crate::halves::{halves, halves_at};
-use crate::{difference_by_columns, first_difference_in};
-use lvl_grid::{Point, Ring, Rings, Square, Window};
+use crate::outlines::{Found, differ_at, next_made, rectangle, ring};
+use lvl_columns::{difference_by_columns, first_difference_in};
+use lvl_grid::{Ring, Rings, Square, Window};
 use lvl_region::{GridRegion, Side, difference};
 use lvl_sweep::first_difference_of;
 use std::alloc::{AllocError, Global};
 use std::test::Fail;
-
-type Found = Option<(Square, Side)>;
-
-fn rectangle(alloc: Global, xs: (i64, i64), ys: (i64, i64)) -> Result<Ring, AllocError> {
-    let low = Point { x: xs.0, y: ys.0 };
-    let high = Point { x: xs.1, y: ys.1 };
-    Ring::rectangle(alloc, low, high)
-}
-
-fn ring(alloc: Global, outline: &[(i64, i64)]) -> Result<Ring, Fail> {
-    let mut points = Vec::new(alloc);
-    for (x, y) in outline {
-        points.push(Point { x: *x, y: *y })?;
-    }
-    Ok(Ring::new(points).ok().ok_or("no ring")?)
-}
-
-/// The next of a row of made numbers.
-fn next_made(seed: u64) -> u64 {
-    seed.wrapping_mul(6_364_136_223_846_793_005)
-        .wrapping_add(1_442_695_040_888_963_407)
-}
 
 /// A made number below `most`.
 fn made(seed: u64, shift: u32, most: u64) -> i64
@@ -107,13 +85,16 @@ fn halves_find(
     at: i64,
     want: Found,
 ) -> Result<bool, AllocError> {
-    let (left, right) = halves_at(alloc, a, b, at)?;
-    let first = difference_by_columns(alloc, &left.first, &left.second)?;
-    let second = difference_by_columns(alloc, &right.first, &right.second)?;
+    let mut left = (Rings::new(alloc), Rings::new(alloc));
+    let mut right = (Rings::new(alloc), Rings::new(alloc));
+    a.split_into(at, &mut left.0, &mut right.0)?;
+    b.split_into(at, &mut left.1, &mut right.1)?;
+    let first = difference_by_columns(alloc, &left.0, &left.1)?;
+    let second = difference_by_columns(alloc, &right.0, &right.1)?;
     Ok(lesser(first, second) == want)
 }
 
-/// Whether the least difference is that, however it is looked for.
+/// Whether the least difference is that of the grids, however it is looked for.
 fn all_find(alloc: Global, first: &[Ring], second: &[Ring], from: i64) -> Result<bool, AllocError> {
     let want = difference::<GridRegion>(alloc, first, second)?;
     let a = Rings::from_slice(alloc, first)?;
@@ -123,11 +104,7 @@ fn all_find(alloc: Global, first: &[Ring], second: &[Ring], from: i64) -> Result
             return Ok(false);
         }
     }
-    Ok(
-        difference_by_columns(alloc, &a, &b)? == want
-            && first_difference_of(alloc, first, second)? == want
-            && first_difference_in(alloc, first, second, None)? == want,
-    )
+    differ_at(alloc, first, second, want)
 }
 
 /// Made lists: about 0, and at both ends of the range.
@@ -171,7 +148,6 @@ fn lists_that_are_cut(rt: HostRuntime) -> Result<(), Fail> {
     let a = Rings::from_slice(alloc, &first)?;
     let b = Rings::from_slice(alloc, &turned)?;
     let c = Rings::from_slice(alloc, &moved)?;
-    assert!(rt; halves(alloc, &a, &b)?.is_some());
     assert!(rt; difference_by_columns(alloc, &a, &b)?.is_none());
     let want = first_difference_of(alloc, &first, &moved)?;
     assert!(rt; want.is_some());
@@ -206,7 +182,7 @@ fn a_window(rt: HostRuntime) -> Result<(), Fail> {
 }
 
 #[test]
-fn growths(rt: HostRuntime) -> Result<(), Fail> {
+fn growths_of_columns(rt: HostRuntime) -> Result<(), Fail> {
     let alloc = rt.alloc();
     let first = narrow(alloc, 300, None)?;
     let moved = narrow(alloc, 300, Some(100))?;

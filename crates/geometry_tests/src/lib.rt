@@ -1,0 +1,18 @@
+//! Rings, maps, bands and differences worked by hand, and each allocation failing in turn.
+//!
+//! These tests of `lvl_grid`, `lvl_region`, `lvl_sweep` and `lvl_columns` are a crate of their own
+//! since a crate with tests is proved twice.
+#![tactic(auto)]
+
+#[cfg(test)]
+mod bands;
+#[cfg(test)]
+mod columns;
+#[cfg(test)]
+mod maps;
+#[cfg(test)]
+mod outlines;
+#[cfg(test)]
+mod pairs;
+#[cfg(test)]
+mod rings;
