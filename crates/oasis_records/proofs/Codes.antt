@@ -4,13 +4,18 @@ use Rattle.std.specs.Prelude.{Option, Some, None}
 use Rattle.lvl_io.specs.Spelling.{IsPrefixFree, CanSay, Gives, Then}
 use Rattle.lvl_io.proofs.Spelling.{gives_free, gives_said, then_free, then_said}
 use Rattle.oasis_values.specs.Known.{Known, Seen, among}
-use Rattle.oasis_values.specs.Numbers.{IsUnsigned}
-use Rattle.oasis_values.specs.Reals.{IsSigned}
+use Rattle.oasis_values.specs.Numbers.{IsByte, IsUnsigned}
+use Rattle.oasis_values.specs.Reals.{IsSigned, IsReal, IsRealOf, IsBytes, real_types}
 use Rattle.oasis_values.specs.Repetitions.{kinds, IsKind, IsRepetition}
 use Rattle.oasis_values.specs.declared.fault.ValueFault.{ValueFault}
-use Rattle.oasis_values.specs.declared.fault.ValueFault.TheVariants.{RepetitionType}
-use Rattle.oasis_values.proofs.Integers.{unsigned_free, unsigned_said}
-use Rattle.oasis_values.proofs.Values.{signed_free, signed_said}
+use Rattle.oasis_values.specs.declared.fault.ValueFault.TheVariants.{RepetitionType, PointListType, StringByte, RealType as unknown_type}
+use Rattle.oasis_values.proofs.Integers.{byte_free, byte_said, unsigned_free, unsigned_said}
+use Rattle.oasis_values.specs.PointLists.{list_types, IsListOf, IsPointList}
+use Rattle.oasis_values.specs.Texts.{text_length, AreCharacters, IsString}
+use Rattle.oasis_values.proofs.Lists.{point_list_free, after_list_type_said}
+use Rattle.oasis_values.proofs.Values.{signed_free, signed_said, real_free, after_type_said, string_free, after_length_said, bytes_free, bytes_said}
+use Rattle.oasis_values.specs.declared.point_list.Use.{Use}
+use Rattle.oasis_values.specs.declared.text.Text.{Text}
 use Rattle.oasis_values.proofs.Places.{repetition_free, after_kind_said}
 use Rattle.oasis_records.specs.Fields.{has, If, on_layer, IsOnLayer, position, IsPosition}
 
@@ -40,6 +45,21 @@ signed_code = record { free = signed_free; said = signed_said }
 
 pub repetition_code : (b : Bool) → IsCode (IsRepetition b)
 repetition_code b = record { free = repetition_free b; said = then_said IsUnsigned (λ n. Then (Known (among 0 kinds n) RepetitionType) (IsKind b)) unsigned_said (after_kind_said b) }
+
+pub byte_code : IsCode IsByte
+byte_code = record { free = byte_free; said = byte_said }
+
+pub bytes_code : (n : ℕ) → IsCode (IsBytes n)
+bytes_code n = record { free = bytes_free n; said = bytes_said n }
+
+pub real_code : IsCode IsReal
+real_code = record { free = real_free; said = then_said IsUnsigned (λ n. Then (Known (among 0 real_types n) unknown_type) IsRealOf) unsigned_said after_type_said }
+
+pub string_code : (kind : Text) (most : ℕ) → IsCode (IsString kind most)
+string_code kind most = record { free = string_free kind most; said = then_said IsUnsigned (λ n. Then (Known (text_length kind most n) StringByte) (AreCharacters kind)) unsigned_said (after_length_said kind most) }
+
+pub points_code : (purpose : Use) → IsCode (IsPointList purpose)
+points_code purpose = record { free = point_list_free purpose; said = then_said IsUnsigned (λ n. Then (Known (among 0 list_types n) PointListType) (IsListOf purpose)) unsigned_said (after_list_type_said purpose) }
 
 pub on_layer_code : (i : ℕ) → IsCode (IsOnLayer i)
 on_layer_code i = then_code (if_code (has i 0x01) unsigned_code) (λ l. seen_code (on_layer l) (if_code (has i 0x02) unsigned_code))

@@ -1,1 +1,4 @@
 pub mod Codes
+pub mod Ruling
+pub mod Shapes
+pub mod Others

@@ -1,2 +1,10 @@
+pub mod Rules
 pub mod Fields
 pub mod Rectangles
+pub mod Polygons
+pub mod Paths
+pub mod Placements
+pub mod Cells
+pub mod Starts
+pub mod Magic
+pub mod Records

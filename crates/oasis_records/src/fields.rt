@@ -4,13 +4,13 @@ ghost use Rattle.oasis_values.specs.Faults.{as_breach};
 ghost use Rattle.oasis_values.specs.Input.{has_failed};
 ghost use Rattle.oasis_values.specs.Numbers.{IsUnsigned};
 ghost use Rattle.oasis_values.specs.Reads.{Reads};
-ghost use Rattle.oasis_values.specs.Reals.{IsSigned};
+ghost use Rattle.oasis_values.specs.Reals.{IsReal, IsSigned};
 ghost use Rattle.oasis_values.specs.Repetitions.{IsRepetition};
 ghost use Rattle.oasis_records.specs.Fields.{has, If};
 
 use lvl_io::Read;
 use lvl_refusal::Refusal;
-use oasis_values::{Input, Repetition, ValueFault};
+use oasis_values::{Input, Real, Repetition, ValueFault};
 use std::alloc::Global;
 
 /// Whether a letter of an info byte is set. A letter is the bit's weight.
@@ -72,6 +72,24 @@ pub(crate) fn repetition_if<R: Read>(
     if has(info, letter) {
         let repetition = input.repetition(alloc, true)?;
         return Ok(Some(repetition));
+    }
+    Ok(None)
+}
+
+/// A real, if its letter is set.
+pub(crate) fn real_if<R: Read>(
+    input: &mut Input<R>,
+    info: u8,
+    letter: u8,
+) -> Result<Option<Real>, ValueFault>
+    requires live { has_failed input.old ≡ false }
+    requires weight { 0 < letter }
+    ensures reads { Reads R.remaining R.read_errors R.lent
+        (If (has info letter) IsReal) input.old input.new (as_breach result) }
+{
+    if has(info, letter) {
+        let number = input.real()?;
+        return Ok(Some(number));
     }
     Ok(None)
 }

@@ -1,8 +1,8 @@
-use Rattle.std.proofs.lemmas.Result.{err_from_is_err_and}
-use Rattle.oasis_values.proofs.Reading.{reads_err, reads_then, reads_seen, reads_seen_err}
+use Rattle.oasis_records.proofs.Codes.{if_code, position_code, seen_code, then_code, unsigned_code}
 use Rattle.oasis_records.specs.Fields.{has}
 use Rattle.oasis_records.specs.Rectangles.{rectangle}
-use Rattle.oasis_records.proofs.Codes.{then_code, seen_code, if_code, unsigned_code, position_code}
+use Rattle.oasis_values.proofs.Reading.{reads_err, reads_seen, reads_seen_err, reads_then}
+use Rattle.std.proofs.lemmas.Result.{err_from_is_err_and}
 use Rattle.oasis_records.proofs.rectangle.rectangle_of.Goals as goal
 
 pub returns-in_err-on : goal.returns-in_err-on
@@ -26,5 +26,4 @@ returns-in_err-position g c =
     rw (p.1, p.2) (record { reads = reads_then _ c.in_ok-on.ensures.reads (reads_then _ c.in_ok-width.ensures.reads (reads_then _ c.in_ok-height.ensures.reads (reads_seen_err _ c.in_err-position.ensures.reads))) })
 
 pub returns : goal.returns
-returns g c =
-    rw c.has.ensures (record { reads = reads_then _ c.in_ok-on.ensures.reads (reads_then _ c.in_ok-width.ensures.reads (reads_then _ c.in_ok-height.ensures.reads (reads_seen _ c.in_ok-position.ensures.reads))) })
+returns g c = rw c.has.ensures (record { reads = reads_then _ c.in_ok-on.ensures.reads (reads_then _ c.in_ok-width.ensures.reads (reads_then _ c.in_ok-height.ensures.reads (reads_seen _ c.in_ok-position.ensures.reads))) })
