@@ -2,3 +2,5 @@ pub mod Codes
 pub mod Ruling
 pub mod Shapes
 pub mod Others
+pub mod Sizes
+pub mod Whole

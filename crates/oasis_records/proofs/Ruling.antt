@@ -1,5 +1,5 @@
 -- Calls one after another, of which the first has rules of records.
-use Rattle.std.proofs.Common.{◌≡◌, ℕ, true, false, List, Result, Ok, Err, refl}
+use Rattle.std.proofs.Common.{◌≡◌, ℕ, Bool, true, false, List, Result, Ok, Err, refl, sym, subst}
 use Rattle.std.specs.Prelude.{Option, Some}
 use Rattle.std.specs.Borrow.{GName}
 use Rattle.lvl_io.specs.Spelling.{IsPrefixFree, CanSay, Gives, Then}
@@ -7,11 +7,12 @@ use Rattle.lvl_io.proofs.Spelling.{gives_free, gives_said, breached_none, front_
 use Rattle.lvl_refusal.specs.declared.Refusal.{Refusal}
 use Rattle.lvl_refusal.specs.declared.Refusal.TheVariants.{Breach, OutOfMemory}
 use Rattle.oasis_values.specs.Known.{Seen}
+use Rattle.oasis_values.specs.Input.{has_failed}
 use Rattle.oasis_values.specs.Reads.{Reads}
 use Rattle.oasis_values.specs.declared.fault.ValueFault.{ValueFault}
 use Rattle.oasis_values.specs.declared.input.Input.{Input}
 use Rattle.oasis_values.proofs.Reading.{reads_err, reads_then, reads_nothing, reads_seen, reads_seen_err}
-use Rattle.oasis_records.specs.Rules.{of_fault, told, plain, obeyed, Must, UnlessRuled, AndThen, Denies}
+use Rattle.oasis_records.specs.Rules.{of_fault, told, told_breach, plain, obeyed, Must, UnlessRuled, AndThen, Denies}
 use Rattle.oasis_records.specs.declared.fault.RecordFault.{RecordFault}
 use Rattle.oasis_records.specs.declared.fault.RecordFault.TheVariants.{Value, Rule}
 use Rattle.oasis_records.specs.declared.fault.RecordRule.{RecordRule}
@@ -60,3 +61,16 @@ reads_denies {S = S} (Ok (Err j)) free p =
 reads_denies (Err OutOfMemory) free p = record { none = λ live xs k. tt }
 reads_denies {S = S} (Err (Breach f)) free p =
     record { none = λ live xs k rule x. let q = (p.answers live xs k).breached rule in breached_none S xs q.count f (Ok x) free q.front }
+
+-- a rule that is tested before more is read
+pub reads_must_stop : {R A B : Type 0} {remaining : R → Option (List ℕ)} {errors : R → ℕ} {lent : R → List GName}
+    (b : Bool) (x : A) (k : RecordRule) (T : A → List ℕ → Result (Result B RecordRule) ValueFault → Type 0) {old : Input R} (e : RecordFault)
+    → ((y : A) → IsCode (T y)) → has_failed old ≡ false → of_fault {A = A} e ≡ Ok (obeyed b x k) → Reads remaining errors lent (AndThen (Must b x k) T) old old (of_fault e)
+reads_must_stop {remaining = remaining} {errors = errors} {lent = lent} b x k T {old = old} e can live h =
+    reads_stop T e can (subst (λ r. Reads remaining errors lent (Must b x k) old old r) (sym h) (reads_nothing (obeyed b x k) live))
+
+pub reads_must_go : {R A B : Type 0} {remaining : R → Option (List ℕ)} {errors : R → ℕ} {lent : R → List GName}
+    (b : Bool) (x : A) (k : RecordRule) (T : A → List ℕ → Result (Result B RecordRule) ValueFault → Type 0) {old new : Input R} {y : A} {r : Result (Result B RecordRule) (Refusal ValueFault)}
+    → has_failed old ≡ false → told_breach (Ok y) ≡ Ok (obeyed b x k) → Reads remaining errors lent (T y) old new r → Reads remaining errors lent (AndThen (Must b x k) T) old new r
+reads_must_go {remaining = remaining} {errors = errors} {lent = lent} b x k T {old = old} live h p =
+    reads_go T (subst (λ r. Reads remaining errors lent (Must b x k) old old r) (sym h) (reads_nothing (obeyed b x k) live)) p

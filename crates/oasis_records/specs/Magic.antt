@@ -14,7 +14,10 @@ magic = 0x25 ∷ 0x53 ∷ 0x45 ∷ 0x4D ∷ 0x49 ∷ 0x2D ∷ 0x4F ∷ 0x41 ∷ 
 abbrev pub IsMagicByte : ℕ → List ℕ → Result (Result ℕ RecordRule) ValueFault → Type 0
 IsMagicByte wanted = Then IsByte (λ b. Must (b == wanted) b Magic)
 
--- these bytes, one after another; how many they are
-abbrev pub AreMagicBytes : List ℕ → List ℕ → Result (Result (List ℕ) RecordRule) ValueFault → Type 0
-AreMagicBytes [] = Gives (Ok (Ok []))
-AreMagicBytes (m ∷ ms) = AndThen (IsMagicByte m) (λ b. AndThen (AreMagicBytes ms) (λ bs. Gives (Ok (Ok (b ∷ bs)))))
+-- these bytes, one after another
+abbrev pub AreMagicBytes : List ℕ → List ℕ → Result (Result (Unit {0}) RecordRule) ValueFault → Type 0
+AreMagicBytes [] = Gives (Ok (Ok tt))
+AreMagicBytes (m ∷ ms) = AndThen (IsMagicByte m) (λ _. AreMagicBytes ms)
+
+abbrev pub IsMagic : List ℕ → Result (Result (Unit {0}) RecordRule) ValueFault → Type 0
+IsMagic = AreMagicBytes magic

@@ -7,7 +7,7 @@
 #![tactic(auto)]
 
 pub use cell::{CellName, CellRef};
-
+pub use end::Validation;
 pub use fault::{RecordFault, RecordRule};
 pub use figure::{OnLayer, Position};
 pub use measured::{Measured, read_id};
@@ -15,13 +15,14 @@ pub use path::{Ends, Extension, Path};
 pub use placement::{Placement, Transform};
 pub use points::Points;
 pub use polygon::Polygon;
-pub use record::Record;
+pub use record::{Record, read_fields};
+pub use record_type::RecordType;
 pub use rectangle::Rectangle;
 pub use start::Start;
 pub use text::Name;
 
 mod cell;
-
+mod end;
 mod fault;
 mod fields;
 mod figure;
@@ -33,6 +34,7 @@ mod placement;
 mod points;
 mod polygon;
 mod record;
+mod record_type;
 mod rectangle;
 mod rules;
 mod start;

@@ -3,7 +3,7 @@ ghost use Rattle.std.specs.Prelude.{◌≡◌};
 ghost use Rattle.oasis_values.specs.Faults.{as_breach};
 ghost use Rattle.oasis_values.specs.Numbers.{IsUnsigned};
 ghost use Rattle.oasis_values.specs.Reads.{Reads, Refutes};
-ghost use Rattle.oasis_records.specs.Records.{Sized};
+ghost use Rattle.oasis_records.specs.Sizes.{Sized};
 
 use lvl_io::Read;
 use oasis_values::{Input, ValueFault};
