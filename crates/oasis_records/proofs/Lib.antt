@@ -1,0 +1,6 @@
+pub mod Codes
+pub mod Ruling
+pub mod Shapes
+pub mod Others
+pub mod Sizes
+pub mod Whole

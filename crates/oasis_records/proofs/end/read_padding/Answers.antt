@@ -1,0 +1,8 @@
+use Rattle.oasis_records.proofs.Sizes.{reads_sized_err}
+use Rattle.std.proofs.lemmas.Result.{err_from_is_err_and}
+use Rattle.oasis_records.proofs.end.read_padding.Goals as goal
+
+pub returns-in_err-value : goal.returns-in_err-value
+returns-in_err-value g c =
+    let p = err_from_is_err_and c.from_residual.result c.from_residual.ensures.1 in
+    rw (p.1, p.2) (record { reads = reads_sized_err _ c.in_err-value.ensures.reads })

@@ -1,0 +1,12 @@
+pub mod Rules
+pub mod Fields
+pub mod Sizes
+pub mod Rectangles
+pub mod Polygons
+pub mod Paths
+pub mod Placements
+pub mod Cells
+pub mod Starts
+pub mod Ends
+pub mod Magic
+pub mod Records

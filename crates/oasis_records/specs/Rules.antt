@@ -1,0 +1,64 @@
+-- The rules of records, beside those of values. What bytes say of a record is the record, or the rule that they breach; so
+-- it is a value of the bytes as any other, and the bytes taken are those that spell the record or breach the rule.
+use Rattle.std.specs.Prelude.{◌≡◌, Bool, true, false, ℕ, List, Option, Some, Result, Ok, Err}
+use Rattle.lvl_io.specs.Spelling.{Gives, Then, NoneAgrees}
+use Rattle.lvl_refusal.specs.declared.Refusal.{Refusal}
+use Rattle.lvl_refusal.specs.declared.Refusal.TheVariants.{Breach, OutOfMemory}
+use Rattle.oasis_values.specs.Faults.{is_rule}
+use Rattle.oasis_values.specs.Input.{has_failed, bytes_left}
+use Rattle.oasis_values.specs.declared.fault.ValueFault.{ValueFault}
+use Rattle.oasis_values.specs.declared.input.Input.{Input}
+use Rattle.oasis_records.specs.declared.fault.RecordFault.{RecordFault}
+use Rattle.oasis_records.specs.declared.fault.RecordFault.TheVariants.{Value, Rule}
+use Rattle.oasis_records.specs.declared.fault.RecordRule.{RecordRule}
+
+-- a fault as an answer of the input: a rule of records is breached by what was read
+abbrev pub of_fault : {A : Type 0} → RecordFault → Result (Result A RecordRule) (Refusal ValueFault)
+of_fault (Value f) = Err (Breach f)
+of_fault (Rule k) = Ok (Err k)
+
+-- what a call answered, as an answer of the input
+abbrev pub told : {A : Type 0} → Result A (Refusal RecordFault) → Result (Result A RecordRule) (Refusal ValueFault)
+told (Ok x) = Ok (Ok x)
+told (Err OutOfMemory) = Err OutOfMemory
+told (Err (Breach f)) = of_fault f
+
+-- the same of a call that takes no memory
+abbrev pub told_breach : {A : Type 0} → Result A RecordFault → Result (Result A RecordRule) (Refusal ValueFault)
+told_breach (Ok x) = Ok (Ok x)
+told_breach (Err f) = of_fault f
+
+-- the same of a call that tests no rule of records
+abbrev pub plain : {A : Type 0} → Result A (Refusal ValueFault) → Result (Result A RecordRule) (Refusal ValueFault)
+plain (Ok x) = Ok (Ok x)
+plain (Err e) = Err e
+
+-- the value, or the rule that isn't kept
+abbrev pub obeyed : {A : Type 0} → Bool → A → RecordRule → Result A RecordRule
+obeyed true x k = Ok x
+obeyed false x k = Err k
+
+-- no byte more is read: the value is given if the rule is kept
+abbrev pub Must : {A : Type 0} → Bool → A → RecordRule → List ℕ → Result (Result A RecordRule) ValueFault → Type 0
+Must b x k = Gives (Ok (obeyed b x k))
+
+-- after a breach nothing more is read
+abbrev pub UnlessRuled : {A B : Type 0} → (A → List ℕ → Result (Result B RecordRule) ValueFault → Type 0) → Result A RecordRule → List ℕ → Result (Result B RecordRule) ValueFault → Type 0
+UnlessRuled T (Ok x) = T x
+UnlessRuled T (Err k) = Gives (Ok (Err k))
+
+-- one after another, where the first has rules of records
+abbrev pub AndThen : {A B : Type 0} → (List ℕ → Result (Result A RecordRule) ValueFault → Type 0)
+    → (A → List ℕ → Result (Result B RecordRule) ValueFault → Type 0) → List ℕ → Result (Result B RecordRule) ValueFault → Type 0
+AndThen S T = Then S (UnlessRuled T)
+
+-- what an answer says of the records that other bytes could spell: where a rule is breached, none agrees with these
+abbrev pub IsDenied : {A : Type 0} → (List ℕ → Result (Result A RecordRule) ValueFault → Type 0) → List ℕ → Result (Result A RecordRule) (Refusal ValueFault) → Type 0
+IsDenied S xs (Ok (Ok x)) = Unit {0}
+IsDenied {A = A} S xs (Ok (Err k)) = (x : A) → NoneAgrees S xs (Ok (Ok x))
+IsDenied S xs (Err OutOfMemory) = Unit {0}
+IsDenied {A = A} S xs (Err (Breach f)) = is_rule f ≡ true → (x : A) → NoneAgrees S xs (Ok (Ok x))
+
+-- the same of a call
+pub record Denies {R A : Type 0} (remaining : R → Option (List ℕ)) (S : List ℕ → Result (Result A RecordRule) ValueFault → Type 0) (old : Input R) (r : Result (Result A RecordRule) (Refusal ValueFault)) : Type 0 where
+  pub none : has_failed old ≡ false → (xs : List ℕ) → bytes_left remaining old ≡ Some xs → IsDenied S xs r

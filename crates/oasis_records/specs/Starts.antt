@@ -1,0 +1,64 @@
+-- START records (SEMI P39 OASIS 1.0, "START record"). Own rule: the most bytes of a version.
+use Rattle.std.specs.Prelude.{ℕ, ◌==◌, nat_lt, not, Bool, true, false, List, [], ◌∷◌, Result, Ok}
+use Rattle.std.specs.Str.{bytes_eq}
+use Rattle.lvl_io.specs.Spelling.{Gives, Then, Chain}
+use Rattle.oasis_values.specs.Known.{Seen}
+use Rattle.oasis_values.specs.Numbers.{IsUnsigned}
+use Rattle.oasis_values.specs.Reals.{IsReal}
+use Rattle.oasis_values.specs.Texts.{IsString}
+use Rattle.oasis_values.specs.declared.fault.ValueFault.{ValueFault}
+use Rattle.oasis_values.specs.declared.number.Real.{Real}
+use Rattle.oasis_values.specs.declared.number.Real.TheVariants.{NegWhole, NegReciprocal, NegRatio}
+use Rattle.oasis_values.specs.declared.text.Text.TheVariants.{A}
+use Rattle.oasis_records.specs.Rules.{Must, AndThen}
+use Rattle.oasis_records.specs.declared.fault.RecordRule.{RecordRule}
+use Rattle.oasis_records.specs.declared.fault.RecordRule.TheVariants.{Version, Unit as NoUnit, Info}
+use Rattle.oasis_records.specs.declared.record.Record.{Record}
+use Rattle.oasis_records.specs.declared.record.Record.TheVariants.{Start}
+
+-- "1.0"
+abbrev pub is_version : List ℕ → Bool
+is_version text = bytes_eq text (0x31 ∷ 0x2E ∷ 0x30 ∷ [])
+
+abbrev pub IsVersionText : List ℕ → Result (Result (List ℕ) RecordRule) ValueFault → Type 0
+IsVersionText = Seen Ok (IsString A 255)
+
+abbrev pub IsVersion : List ℕ → Result (Result (List ℕ) RecordRule) ValueFault → Type 0
+IsVersion = AndThen IsVersionText (λ text. Must (is_version text) text Version)
+
+-- no real of a negative type
+abbrev pub is_unit : Real → Bool
+is_unit (NegWhole n) = false
+is_unit (NegReciprocal n) = false
+is_unit (NegRatio n m) = false
+is_unit r = true
+
+abbrev pub IsUnit : List ℕ → Result (Result Real RecordRule) ValueFault → Type 0
+IsUnit = Then IsReal (λ u. Must (is_unit u) u NoUnit)
+
+-- the offset flag
+abbrev pub IsFlag : List ℕ → Result (Result ℕ RecordRule) ValueFault → Type 0
+IsFlag = Then IsUnsigned (λ f. Must (nat_lt f 2) f Info)
+
+-- twelve offsets of tables, of any values
+abbrev pub AreOffsets : List ℕ → Result Bool ValueFault → Type 0
+AreOffsets = Seen (λ _. true) (Chain (λ _. IsUnsigned) (λ n. n) 12 0)
+
+-- the offsets, if they are there
+abbrev pub AreTables : Bool → List ℕ → Result Bool ValueFault → Type 0
+AreTables true = AreOffsets
+AreTables false = Gives (Ok false)
+
+-- they are in START where the flag isn't 1
+abbrev pub is_here : ℕ → Bool
+is_here flag = not (flag == 1)
+
+abbrev pub start : Real → Bool → Result Record RecordRule
+start unit here = Ok (Start (record { unit = unit; has_offsets_at_end = not here }))
+
+-- what comes after the version
+abbrev pub IsStartOf : List ℕ → Result (Result Record RecordRule) ValueFault → Type 0
+IsStartOf = AndThen IsUnit (λ u. AndThen IsFlag (λ f. Seen (start u) (AreTables (is_here f))))
+
+abbrev pub IsStart : List ℕ → Result (Result Record RecordRule) ValueFault → Type 0
+IsStart = AndThen IsVersion (λ _. IsStartOf)

@@ -1,0 +1,41 @@
+//! The records of an OASIS file, one at a time (SEMI P39 OASIS 1.0).
+//!
+//! A record is read as it is: a field that isn't there is None, and nothing is looked up. What a
+//! record means after others is for the crate above. [`read_magic`] reads what a file begins with,
+//! [`read_id`] the id of a record, of which [`RecordType::of`] gives the type, and [`read_fields`]
+//! what comes after the id.
+#![tactic(auto)]
+
+pub use cell::{CellName, CellRef};
+pub use end::Validation;
+pub use fault::{RecordFault, RecordRule};
+pub use figure::{OnLayer, Position};
+pub use measured::{Measured, read_id};
+pub use path::{Ends, Extension, Path};
+pub use placement::{Placement, Transform};
+pub use points::Points;
+pub use polygon::Polygon;
+pub use record::{Record, read_fields};
+pub use record_type::RecordType;
+pub use rectangle::Rectangle;
+pub use start::Start;
+pub use text::Name;
+
+mod cell;
+mod end;
+mod fault;
+mod fields;
+mod figure;
+mod info;
+mod magic;
+mod measured;
+mod path;
+mod placement;
+mod points;
+mod polygon;
+mod record;
+mod record_type;
+mod rectangle;
+mod rules;
+mod start;
+mod text;

@@ -1,0 +1,41 @@
+//! What a file begins with.
+ghost use Rattle.std.specs.Prelude.{◌≡◌, ◌<◌, ◌==◌, get_or};
+ghost use Rattle.oasis_values.specs.Reads.{Reads};
+ghost use Rattle.oasis_records.specs.Magic.{magic, IsMagicByte, IsMagic};
+ghost use Rattle.oasis_records.specs.Rules.{told_breach, Denies};
+
+use crate::fault::{RecordFault, RecordRule};
+use crate::rules::must;
+use lvl_io::Read;
+use oasis_values::Input;
+
+/// How many bytes the magic string has.
+const LEN: usize = 13;
+
+/// `%SEMI-OASIS`, a carriage return and a line feed.
+const MAGIC: [u8; 13] = [
+    b'%', b'S', b'E', b'M', b'I', b'-', b'O', b'A', b'S', b'I', b'S', b'\r', b'\n',
+];
+
+// A byte of the magic string.
+fn magic_byte(at: usize) -> u8
+    requires { at < 13 }
+    ensures { result ≡ get_or magic at 0 }
+{
+    MAGIC[at]
+}
+
+fn is_byte(byte: u8, wanted: u8) -> bool
+    ensures { result ≡ (byte == wanted) }
+{
+    byte == wanted
+}
+
+// That byte.
+fn read_magic_byte<R: Read>(input: &mut Input<R>, wanted: u8) -> Result<u8, RecordFault>
+    ensures reads { Reads R.remaining R.read_errors R.lent
+        (IsMagicByte wanted) input.old input.new (told_breach result) }
+{
+    let byte = input.byte()?;
+    must(is_byte(byte, wanted), byte, RecordRule::Magic)
+}

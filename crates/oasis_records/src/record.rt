@@ -1,0 +1,89 @@
+//! Records.
+ghost use Rattle.std.specs.Prelude.{◌≡◌, false};
+ghost use Rattle.oasis_values.specs.Input.{has_failed};
+ghost use Rattle.oasis_values.specs.Reads.{Reads};
+ghost use Rattle.oasis_records.specs.Records.{AreFields};
+ghost use Rattle.oasis_records.specs.Rules.{told, Denies};
+
+use crate::cell::{CellName, CellRef, read_cell, read_cell_name, read_numbered_name};
+use crate::end::{Validation, read_end};
+use crate::fault::RecordFault;
+use crate::path::{Path, read_path};
+use crate::placement::{Placement, read_scaled, read_turned};
+use crate::polygon::{Polygon, read_polygon};
+use crate::record_type::RecordType;
+use crate::rectangle::{Rectangle, read_rectangle};
+use crate::rules::of_values;
+use crate::start::{Start, read_start};
+use lvl_io::Read;
+use lvl_refusal::Refusal;
+use oasis_values::Input;
+use std::alloc::Global;
+
+/// A record, as it is: a field that isn't there is None.
+#[derive(Debug, Drop)]
+pub enum Record {
+    Pad,
+    Start(Start),
+    End(Validation),
+    CellName(CellName),
+    Cell(CellRef),
+    XyAbsolute,
+    XyRelative,
+    Placement(Placement),
+    Rectangle(Rectangle),
+    Polygon(Polygon),
+    Path(Path),
+}
+
+/// The fields of a record of that type, after its id, which has so many bytes. END has the offsets of
+/// tables where START says so.
+///
+/// Each field is tested as it is read. The id has to be read before, so that the input hasn't failed.
+pub fn read_fields<R: Read>(
+    input: &mut Input<R>,
+    alloc: Global,
+    kind: RecordType,
+    id_len: u64,
+    has_offsets_at_end: bool,
+) -> Result<Record, Refusal<RecordFault>>
+    requires { has_failed input.old ≡ false }
+    ensures reads { Reads R.remaining R.read_errors R.lent
+        (AreFields has_offsets_at_end id_len kind) input.old input.new (told result) }
+    ensures none { Denies R.remaining (AreFields has_offsets_at_end id_len kind) input.old (told result) }
+{
+    fields_of(input, alloc, kind, id_len, has_offsets_at_end)
+}
+
+// The fields of a record of that type.
+fn fields_of<R: Read>(
+    input: &mut Input<R>,
+    alloc: Global,
+    kind: RecordType,
+    id_len: u64,
+    has_offsets_at_end: bool,
+) -> Result<Record, Refusal<RecordFault>>
+    requires { has_failed input.old ≡ false }
+    ensures reads { Reads R.remaining R.read_errors R.lent
+        (AreFields has_offsets_at_end id_len kind) input.old input.new (told result) }
+{
+    match kind {
+        RecordType::Pad => Ok(Record::Pad),
+        RecordType::Start => read_start(input, alloc),
+        RecordType::End => {
+            let end = read_end(input, has_offsets_at_end, id_len)?;
+            Ok(end)
+        }
+        RecordType::CellName => of_values(read_cell_name(input, alloc)),
+        RecordType::NumberedCellName => of_values(read_numbered_name(input, alloc)),
+        RecordType::NumberedCell => of_values(read_cell(input, alloc, true)),
+        RecordType::NamedCell => of_values(read_cell(input, alloc, false)),
+        RecordType::XyAbsolute => Ok(Record::XyAbsolute),
+        RecordType::XyRelative => Ok(Record::XyRelative),
+        RecordType::Placement => of_values(read_turned(input, alloc)),
+        RecordType::ScaledPlacement => of_values(read_scaled(input, alloc)),
+        RecordType::Rectangle => read_rectangle(input, alloc),
+        RecordType::Polygon => read_polygon(input, alloc),
+        RecordType::Path => read_path(input, alloc),
+    }
+}

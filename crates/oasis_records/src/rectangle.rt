@@ -1,0 +1,82 @@
+//! RECTANGLE records.
+ghost use Rattle.std.specs.Prelude.{◌≡◌, ◌&&◌, not, false};
+ghost use Rattle.oasis_values.specs.Input.{has_failed};
+ghost use Rattle.oasis_values.specs.Reads.{Reads};
+ghost use Rattle.oasis_records.specs.Fields.{has};
+ghost use Rattle.oasis_records.specs.Rectangles.{IsRectangleInfo, IsRectangleOf, IsRectangle};
+ghost use Rattle.oasis_records.specs.Rules.{told, told_breach};
+
+use crate::fault::{RecordFault, RecordRule};
+use crate::fields::{has, unsigned_if};
+use crate::figure::{OnLayer, Position, read_on_layer, read_position};
+use crate::record::Record;
+use crate::rules::{must, of_values};
+use lvl_io::Read;
+use lvl_refusal::Refusal;
+use oasis_values::{Input, ValueFault};
+use std::alloc::Global;
+
+const HEIGHT: u8 = 0x20;
+const WIDTH: u8 = 0x40;
+const SQUARE: u8 = 0x80;
+
+/// A RECTANGLE record, in grid steps.
+#[derive(Debug, Drop)]
+pub struct Rectangle {
+    /// It is as high as wide, and its height isn't there.
+    pub is_square: bool,
+    pub on: OnLayer,
+    pub width: Option<u64>,
+    pub height: Option<u64>,
+    /// Where its lower left corner is.
+    pub position: Position,
+}
+
+// Whether such an info byte may be: a square has no height.
+fn is_info(info: u8) -> bool
+    ensures { result ≡ not (has info 0x80 && has info 0x20) }
+{
+    !(has(info, SQUARE) && has(info, HEIGHT))
+}
+
+// The info byte SWHXYRDL.
+fn read_rectangle_info<R: Read>(input: &mut Input<R>) -> Result<u8, RecordFault>
+    ensures reads { Reads R.remaining R.read_errors R.lent
+        IsRectangleInfo input.old input.new (told_breach result) }
+{
+    let info = input.byte()?;
+    must(is_info(info), info, RecordRule::Info)
+}
+
+// The fields after the info byte.
+fn rectangle_of<R: Read>(
+    input: &mut Input<R>,
+    alloc: Global,
+    info: u8,
+) -> Result<Record, Refusal<ValueFault>>
+    requires { has_failed input.old ≡ false }
+    ensures reads { Reads R.remaining R.read_errors R.lent (IsRectangleOf info) input.old input.new result }
+{
+    let on = read_on_layer(input, info)?;
+    let width = unsigned_if(input, info, WIDTH)?;
+    let height = unsigned_if(input, info, HEIGHT)?;
+    let position = read_position(input, alloc, info)?;
+    Ok(Record::Rectangle(Rectangle {
+        is_square: has(info, SQUARE),
+        on,
+        width,
+        height,
+        position,
+    }))
+}
+
+/// A RECTANGLE record after its id.
+pub(crate) fn read_rectangle<R: Read>(
+    input: &mut Input<R>,
+    alloc: Global,
+) -> Result<Record, Refusal<RecordFault>>
+    ensures reads { Reads R.remaining R.read_errors R.lent IsRectangle input.old input.new (told result) }
+{
+    let info = read_rectangle_info(input)?;
+    of_values(rectangle_of(input, alloc, info))
+}
