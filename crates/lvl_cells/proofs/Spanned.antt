@@ -60,6 +60,10 @@ span_read spans rings kept shapes i s h e l is =
       shifts = ap (λ (g : PlainShape Rings). g.shifts) shape;
     }
 
+pub shifts_read : (spans : List Span) (rings : Rings) (kept : List (List Point)) (shapes : List (PlainShape Rings)) (i : ℕ) (s : Span)
+    → AreShapes spans rings kept → shapes_from 0 spans rings kept ≡ shapes → i < length shapes → s ≡ get_or spans i s → (s.shifts < length kept + 1) × (numbered kept s.shifts ≡ (shape_at shapes i).shifts)
+shifts_read spans rings kept shapes i s h e l is = let span = span_read spans rings kept shapes i s h e l is in (span.number, span.shifts)
+
 -- the shifts of a number that is not zero
 pub numbered_is : (kept : List (List Point)) (n : ℕ) (d : List Point) → n ≢ 0 → n < length kept + 1 → numbered kept n ≡ get_or kept (n - 1) d
 numbered_is kept zero d some h = absurd (some refl)

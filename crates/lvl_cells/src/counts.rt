@@ -41,7 +41,7 @@ fn rings_of(cell: &Cell) -> u64
     let mut sum = 0;
     let shapes = &cell.shapes;
     for i in 0..shapes.len() {
-        let placed = capped_product(shapes.ring_count(i) as u64, shapes.shifts(i).len());
+        let placed = capped_product(shapes.ring_count(i) as u64, shapes.shift_count(i));
         sum = capped_sum(sum, placed);
     }
     sum

@@ -1,6 +1,6 @@
 //! The shapes of a cell in one piece: the rings of all of them in one list, and for each shape
 //! where its rings end.
-ghost use Rattle.std.specs.Prelude.{◌≡◌, ◌<◌, ◌+◌, ◌^◌, ◌++◌, ◌∷◌, [], length, get_or, IsTrue, ◌↔◌, IfOk, OnOk, OnErr};
+ghost use Rattle.std.specs.Prelude.{◌≡◌, ◌<◌, ◌+◌, ◌^◌, ◌++◌, ◌∷◌, [], length, get_or, slice_get, IsTrue, ◌↔◌, IfOk, OnOk, OnErr};
 ghost use Rattle.lvl_grid.specs.Winding.{IsRing};
 ghost use Rattle.lvl_grid.specs.Pieces.{begin_of};
 ghost use Rattle.lvl_cells.specs.Cells.{shape_at};
@@ -31,21 +31,18 @@ pub struct Shapes {
     rings: Rings,
     spans: Vec<Span>,
     shifts: Vec<Offsets>,
-    /// What a shape at one place has.
-    single: Offsets,
 }
 
 impl Model for Shapes {
-    ghost use Rattle.std.specs.Prelude.{◌≡◌, List};
+    ghost use Rattle.std.specs.Prelude.{List};
     ghost use Rattle.lvl_cells.specs.Cells.{PlainShape, Rings as Figure};
-    ghost use Rattle.lvl_cells.specs.Shifts.{one_place};
     ghost use Rattle.lvl_cells.specs.inside.Spans.{shapes_from, AreShapes};
 
     ghost Value = { List (PlainShape Figure) };
 
     ghost view = { λ s. shapes_from 0 s.spans.items s.rings s.shifts.items };
 
-    ghost invariant = { λ s. AreShapes s.spans.items s.rings s.shifts.items × (s.single ≡ one_place) };
+    ghost invariant = { λ s. AreShapes s.spans.items s.rings s.shifts.items };
 }
 
 /// How many rings the shapes before this index have.
@@ -103,7 +100,6 @@ impl Shapes {
             rings: Rings::new(alloc),
             spans: Vec::new(alloc),
             shifts: Vec::new(alloc),
-            single: Offsets::single(),
         }
     }
 
@@ -149,16 +145,26 @@ impl Shapes {
         self.rings.ring(start + j)
     }
 
-    /// The shifts at which the shape at this index is drawn.
-    pub fn shifts(&self, i: usize) -> &Offsets
+    /// At how many shifts the shape at this index is drawn.
+    pub fn shift_count(&self, i: usize) -> u64
         requires { i < length self.now }
-        ensures { result.now ≡ (shape_at self.now i).shifts }
+        ensures { result ≡ length (shape_at self.now i).shifts }
     {
-        let number = self.spans[i].shifts as usize;
-        if number == 0 {
-            return &self.single;
+        match self.spans[i].shifts {
+            0 => 1,
+            number => self.shifts[number as usize - 1].len(),
         }
-        &self.shifts[number - 1]
+    }
+
+    /// One of the shifts of the shape at this index, by its own index; None past the last.
+    pub fn shift(&self, i: usize, k: u64) -> Option<Point>
+        requires { i < length self.now }
+        ensures { result ≡ slice_get (shape_at self.now i).shifts k }
+    {
+        match self.spans[i].shifts {
+            0 => Offsets::single().at(k),
+            number => self.shifts[number as usize - 1].at(k),
+        }
     }
 
     /// Adds a shape of one ring.

@@ -35,9 +35,8 @@ fn draw_shape(rings: &mut Rings, shapes: &Shapes, i: usize, map: &Map) -> Result
     ensures placed { OnOk result (All (λ e. All (IsPlaced map.now e) (shape_at shapes.now i).figure) (shape_at shapes.now i).shifts) }
     ensures out { result ≡ Err PlaceFault.OutOfRange → ¬ All (λ e. All (FitsRing map.now e) (shape_at shapes.now i).figure) (shape_at shapes.now i).shifts }
 {
-    let shifts = shapes.shifts(i);
-    for k in 0..shifts.len() {
-        let Some(shift) = shifts.at(k) else {
+    for k in 0..shapes.shift_count(i) {
+        let Some(shift) = shapes.shift(i, k) else {
             unreachable!()
         };
         draw_figure(rings, shapes, i, shift, map)?;

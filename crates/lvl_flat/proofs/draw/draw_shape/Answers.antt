@@ -16,7 +16,7 @@ loop-k-preserved c =
     let f = placed_figure c.args.map.now figure in
     let k : ℕ = c.loop-k.k in
     let e : Point = c.in-Some.shift in
-    let seen : slice_get shifts k ≡ Some e = sym (ap (λ (es : List Point). slice_get es k) c.shifts-shifts.ensures) ∙ (sym c.at.ensures ∙ c.in-Some.is) in
+    let seen : slice_get shifts k ≡ Some e = sym c.shift.ensures ∙ c.in-Some.is in
     let there : k < length shifts = slice_get_within shifts k e seen in
     let is : get_or shifts k e ≡ e = get_or_from_slice_get shifts k e e seen in
     let more : take (k + 1) shifts ≡ take k shifts ++ e ∷ [] = take_more shifts k e there ∙ ap (λ p. take k shifts ++ p ∷ []) is in
@@ -31,5 +31,5 @@ loop-k-preserved c =
 pub returns-clause-placed : goal.returns-clause-placed
 returns-clause-placed c =
     let shifts : List Point = (shape_at c.args.shapes.now c.args.i).shifts in
-    let long : length shifts ≤ c.loop-k.k = omega (arith, c.loop-k-test.false, c.len-k-end.ensures.count, ap length c.shifts-shifts.ensures) in
+    let long : length shifts ≤ c.loop-k.k = omega (arith, c.loop-k-test.false, c.shift_count-k-end.ensures) in
     subst (All (λ e. All (IsPlaced c.args.map.now e) (shape_at c.args.shapes.now c.args.i).figure)) (take_all c.loop-k.k shifts long) c.loop-k.invariant.placed
