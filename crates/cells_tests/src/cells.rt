@@ -1,5 +1,5 @@
 //! Libraries in a few words, and what the check says of them.
-use lvl_cells::{Cell, CellFault, Checked, Layer, Library, Offsets, Reference, Shape, check};
+use lvl_cells::{Cell, CellFault, Checked, Layer, Library, Offsets, Reference, Shapes, check};
 use lvl_grid::{Point, Ring, Turn};
 use lvl_refusal::Refusal;
 use std::alloc::{AllocError, Global};
@@ -11,11 +11,10 @@ const RIGHT: Point = Point { x: 1, y: 0 };
 
 const UP: Point = Point { x: 0, y: 1 };
 
-/// The zero shift alone.
-fn once(alloc: Global) -> Result<Offsets, Fail> {
-    let shifts = [ORIGIN].to_vec(alloc)?;
-    Ok(Offsets::new(shifts).ok_or("shifts")?)
-}
+const METAL: Layer = Layer {
+    layer: 1,
+    datatype: 0,
+};
 
 /// 1,024 columns and rows.
 fn many() -> Result<Offsets, Fail> {
@@ -28,27 +27,24 @@ fn placing(alloc: Global, name: &[u8], shifts: Offsets) -> Result<Reference, Fai
     Ok(Reference::new(name, false, Turn::R0, ORIGIN, shifts).ok_or("places")?)
 }
 
-/// One unit square at each of the shifts.
-fn square(alloc: Global, shifts: Offsets) -> Result<Shape, Fail> {
+/// A unit square.
+fn square(alloc: Global) -> Result<Ring, Fail> {
     let corners = [ORIGIN, RIGHT, Point { x: 1, y: 1 }, UP];
-    let ring = Ring::new(corners.to_vec(alloc)?)?;
-    let mut rings = Vec::new(alloc);
-    rings.push(ring)?;
-    Ok(Shape {
-        layer: Layer {
-            layer: 1,
-            datatype: 0,
-        },
-        rings,
-        shifts,
-    })
+    Ok(Ring::new(corners.to_vec(alloc)?)?)
+}
+
+/// Adds a unit square at each of the shifts.
+fn add_square(alloc: Global, cell: &mut Cell, shifts: &Offsets) -> Result<(), Fail> {
+    let ring = square(alloc)?;
+    cell.shapes.push_ring(METAL, ring.points(), shifts)?;
+    Ok(())
 }
 
 /// A cell without shapes and references.
 fn empty(alloc: Global, name: &[u8]) -> Result<Cell, AllocError> {
     Ok(Cell {
         name: Vec::from_slice(alloc, name)?,
-        shapes: Vec::new(alloc),
+        shapes: Shapes::new(alloc),
         references: Vec::new(alloc),
     })
 }
@@ -61,7 +57,7 @@ fn library_of(alloc: Global, cells: &[(&str, &[&str])]) -> Result<Library, Fail>
     for (name, placed) in cells {
         let mut cell = empty(alloc, name.as_bytes())?;
         for other in *placed {
-            let reference = placing(alloc, other.as_bytes(), once(alloc)?)?;
+            let reference = placing(alloc, other.as_bytes(), Offsets::single())?;
             cell.references.push(reference)?;
         }
         library.cells.push(cell)?;
@@ -81,11 +77,11 @@ fn chain_of(alloc: Global, length: u32, times: u32) -> Result<Library, Fail> {
         let mut cell = empty(alloc, &name_of(number))?;
         if number + 1 < length {
             for _ in 0..times {
-                let reference = placing(alloc, &name_of(number + 1), once(alloc)?)?;
+                let reference = placing(alloc, &name_of(number + 1), Offsets::single())?;
                 cell.references.push(reference)?;
             }
         } else {
-            cell.shapes.push(square(alloc, once(alloc)?)?)?;
+            add_square(alloc, &mut cell, &Offsets::single())?;
         }
         cells.push(cell)?;
     }
@@ -300,10 +296,10 @@ fn rings_limit(rt: HostRuntime) -> Result<(), Fail> {
         let mut top = empty(rt.alloc(), b"TOP")?;
         top.references.push(placing(rt.alloc(), b"A", sixteen)?)?;
         if more {
-            top.shapes.push(square(rt.alloc(), once(rt.alloc())?)?)?;
+            add_square(rt.alloc(), &mut top, &Offsets::single())?;
         }
         let mut tile = empty(rt.alloc(), b"A")?;
-        tile.shapes.push(square(rt.alloc(), many()?)?)?;
+        add_square(rt.alloc(), &mut tile, &many()?)?;
         let mut cells = Vec::new(rt.alloc());
         cells.push(top)?;
         cells.push(tile)?;
@@ -364,6 +360,35 @@ fn lists_of_shifts(rt: HostRuntime) -> Result<(), Fail> {
     assert_eq!(rt; shifts.len(), 2);
     assert_eq!(rt; shifts.at(1), Some(RIGHT));
     assert_eq!(rt; shifts.at(2), None);
+    Ok(())
+}
+
+/// Shapes of one ring and of two, at one place, at a lattice that two of them have, and at a list.
+#[test]
+fn shapes(rt: HostRuntime) -> Result<(), Fail> {
+    let alloc = rt.alloc();
+    let far = Ring::rectangle(alloc, UP, Point { x: 5, y: 7 })?;
+    let both = vec![in alloc; square(alloc)?, far]?;
+    let lattice = Offsets::lattice(RIGHT, 2, UP, 3).ok_or("shifts")?;
+    let listed = Offsets::new([ORIGIN, RIGHT].to_vec(alloc)?).ok_or("shifts")?;
+    let mut cell = empty(alloc, b"A")?;
+    add_square(alloc, &mut cell, &Offsets::single())?;
+    cell.shapes.push_rings(METAL, &both, &lattice)?;
+    add_square(alloc, &mut cell, &lattice)?;
+    add_square(alloc, &mut cell, &listed)?;
+    let shapes = cell.shapes;
+    assert_eq!(rt; shapes.len(), 4);
+    for (i, rings, shifts) in [(0, 1, 1), (1, 2, 6), (2, 1, 6), (3, 1, 2)] {
+        if i < shapes.len() {
+            assert_eq!(rt; shapes.layer(i), METAL);
+            assert_eq!(rt; shapes.ring_count(i), rings, "{i}");
+            assert_eq!(rt; shapes.shift_count(i), shifts, "{i}");
+        }
+    }
+    assert_eq!(rt; shapes.ring_count(1), 2);
+    assert_eq!(rt; shapes.ring(1, 1).get(2), Some(&Point { x: 5, y: 7 }));
+    assert_eq!(rt; shapes.shift(2, 5), Some(Point { x: 1, y: 2 }));
+    assert_eq!(rt; shapes.shift(0, 1), None);
     Ok(())
 }
 

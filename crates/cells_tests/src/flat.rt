@@ -1,5 +1,5 @@
 //! What small libraries flatten to.
-use lvl_cells::{Cell, Layer, Library, Offsets, Reference, Shape, check};
+use lvl_cells::{Cell, Layer, Library, Offsets, Reference, Shapes, check};
 use lvl_flat::{Flat, FlatFault, flatten};
 use lvl_grid::{Map, Point, Ring, Square, Turn};
 use lvl_refusal::Refusal;
@@ -12,11 +12,6 @@ const METAL: Layer = Layer {
 };
 
 const ORIGIN: Point = Point { x: 0, y: 0 };
-
-fn once(alloc: Global) -> Result<Offsets, Fail> {
-    let shifts = [ORIGIN].to_vec(alloc)?;
-    Ok(Offsets::new(shifts).ok_or("shifts")?)
-}
 
 /// The rectangle between two corners.
 fn rectangle(alloc: Global, low: Point, high: Point) -> Result<Ring, Fail> {
@@ -35,16 +30,10 @@ fn rectangle(alloc: Global, low: Point, high: Point) -> Result<Ring, Fail> {
     Ok(Ring::new(corners.to_vec(alloc)?)?)
 }
 
-/// A cell that draws the rectangle once on the Layer.
-fn drawing(alloc: Global, name: &str, layer: Layer, low: Point, high: Point) -> Result<Cell, Fail> {
-    let mut rings = Vec::new(alloc);
-    rings.push(rectangle(alloc, low, high)?)?;
-    let mut shapes = Vec::new(alloc);
-    shapes.push(Shape {
-        layer,
-        rings,
-        shifts: once(alloc)?,
-    })?;
+/// A cell that draws the ring once on the Layer.
+fn with_ring(alloc: Global, name: &str, layer: Layer, ring: &Ring) -> Result<Cell, Fail> {
+    let mut shapes = Shapes::new(alloc);
+    shapes.push_ring(layer, ring.points(), &Offsets::single())?;
     Ok(Cell {
         name: Vec::from_slice(alloc, name.as_bytes())?,
         shapes,
@@ -52,15 +41,20 @@ fn drawing(alloc: Global, name: &str, layer: Layer, low: Point, high: Point) -> 
     })
 }
 
+/// A cell that draws the rectangle once on the Layer.
+fn drawing(alloc: Global, name: &str, layer: Layer, low: Point, high: Point) -> Result<Cell, Fail> {
+    with_ring(alloc, name, layer, &rectangle(alloc, low, high)?)
+}
+
 /// A cell that places another by the map.
 fn placing(alloc: Global, name: &str, placed: &str, map: Map) -> Result<Cell, Fail> {
     let placed = Vec::from_slice(alloc, placed.as_bytes())?;
-    let reference = Reference::new(placed, map.flip, map.turn, map.at, once(alloc)?);
+    let reference = Reference::new(placed, map.flip, map.turn, map.at, Offsets::single());
     let mut references = Vec::new(alloc);
     references.push(reference.ok_or("places")?)?;
     Ok(Cell {
         name: Vec::from_slice(alloc, name.as_bytes())?,
-        shapes: Vec::new(alloc),
+        shapes: Shapes::new(alloc),
         references,
     })
 }
@@ -178,16 +172,10 @@ fn layers_in_order(rt: HostRuntime) -> Result<(), Fail> {
     let alloc = rt.alloc();
     let mut top = drawing(alloc, "TOP", METAL, ORIGIN, Point { x: 1, y: 1 })?;
     for (layer, datatype) in [(7, 1), (0, 9), (7, 0), (1, 0)] {
-        let more = drawing(
-            alloc,
-            "X",
-            Layer { layer, datatype },
-            ORIGIN,
-            Point { x: 1, y: 1 },
-        )?;
-        for shape in more.shapes {
-            top.shapes.push(shape)?;
-        }
+        let ring = rectangle(alloc, ORIGIN, Point { x: 1, y: 1 })?;
+        let layer = Layer { layer, datatype };
+        top.shapes
+            .push_ring(layer, ring.points(), &Offsets::single())?;
     }
     // A Layer that only a cell out of reach draws on is absent.
     let far = Layer {
@@ -254,17 +242,8 @@ fn l_placed_twice(alloc: Global, outer: Map, inner: Map) -> Result<Flat, Fail> {
     for (x, y) in L {
         points.push(Point { x, y })?;
     }
-    let mut a = drawing(alloc, "A", METAL, ORIGIN, ORIGIN)?;
-    let mut rings = Vec::new(alloc);
-    rings.push(Ring::new(points)?)?;
-    a.shapes.clear();
-    a.shapes.push(Shape {
-        layer: METAL,
-        rings,
-        shifts: once(alloc)?,
-    })?;
     let mut cells = Vec::new(alloc);
-    cells.push(a)?;
+    cells.push(with_ring(alloc, "A", METAL, &Ring::new(points)?)?)?;
     cells.push(placing(alloc, "M", "A", inner)?)?;
     cells.push(placing(alloc, "TOP", "M", outer)?)?;
     let checked = check(alloc, Library { cells }, None)?;

@@ -11,13 +11,13 @@ ghost use Rattle.gds_elements.specs.inside.Reading.{Takes, record_of};
 ghost use Rattle.lvl_refusal.specs.Refused.{Says};
 ghost use Rattle.gds_elements.specs.inside.Misplaced.{Broken};
 
-use crate::element::{Drawn, State, zero_shift};
+use crate::element::{Drawn, State};
 use crate::fault::{ElementFault, ElementRule, breach};
 use crate::layer::read_layer;
 use crate::order::{Next, only, out_of_order};
 use crate::values::points;
 use gds_records::record_type;
-use lvl_cells::{Layer, Shape};
+use lvl_cells::{Layer, Offsets, Shape};
 use lvl_grid::Ring;
 use lvl_refusal::Refusal;
 use std::alloc::Global;
@@ -87,7 +87,7 @@ impl Boundary {
                 Ok(State::Drawn(Drawn::Shape(Shape {
                     layer: self.layer,
                     rings,
-                    shifts: zero_shift(),
+                    shifts: Offsets::single(),
                 })))
             }
             Next::Nowhere => Err(out_of_order(kind)),

@@ -2,7 +2,6 @@
 ghost use Rattle.std.specs.Prelude.{◌≡◌, ◌<◌, ◌∷◌, [], ◌++◌, ℕ, List, IfSome, IfNone, IfOk, IfErr, OnOk, false};
 ghost use Rattle.gds_elements.specs.Order.{opens};
 ghost use Rattle.gds_elements.specs.Rec.{Rec};
-ghost use Rattle.gds_elements.specs.Meaning.{one_place};
 ghost use Rattle.gds_elements.specs.Rules.{ElementBreaches, BreachesOnly, BreachesNone};
 ghost use Rattle.gds_elements.specs.inside.Formed.{IsFormed};
 ghost use Rattle.gds_elements.specs.inside.Reading.{IsReading, IsStep, HasRead, IsAtEnd, Takes, Steps, record_of};
@@ -16,8 +15,7 @@ use crate::path::Path;
 use crate::sref::Sref;
 use crate::text::Text;
 use gds_records::record_type;
-use lvl_cells::{Offsets, Reference, Shape};
-use lvl_grid::Point;
+use lvl_cells::{Reference, Shape};
 use lvl_refusal::Refusal;
 use std::alloc::Global;
 
@@ -147,12 +145,4 @@ fn end(drawn: Drawn, kind: u8) -> Result<Step, Refusal<ElementFault>>
         return Err(out_of_order(kind));
     }
     Ok(Step::Whole(drawn))
-}
-
-/// The zero shift alone. It takes no memory.
-pub(crate) fn zero_shift() -> Offsets
-    ensures { result ≡ one_place }
-{
-    let zero = Point { x: 0, y: 0 };
-    Offsets::lattice(zero, 1, zero, 1).unwrap()
 }

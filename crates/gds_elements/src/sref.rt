@@ -10,13 +10,13 @@ ghost use Rattle.gds_elements.specs.inside.Sref.{after, IsSrefRead};
 ghost use Rattle.gds_elements.specs.inside.Reading.{Takes, record_of};
 ghost use Rattle.gds_elements.specs.inside.Misplaced.{breach};
 
-use crate::element::{Drawn, State, zero_shift};
+use crate::element::{Drawn, State};
 use crate::fault::{ElementFault, ElementRule, breach};
 use crate::order::{Next, only, out_of_order};
 use crate::placing::Placing;
 use crate::values::{point_at, point_count};
 use gds_records::record_type;
-use lvl_cells::Reference;
+use lvl_cells::{Offsets, Reference};
 use lvl_refusal::Refusal;
 use std::alloc::Global;
 
@@ -109,5 +109,5 @@ fn place_once(placing: Placing, payload: &[u8]) -> Result<Reference, Refusal<Ele
     }
     let Placing { name, flip, turn } = placing;
     let at = point_at(payload, 0);
-    Ok(Reference::new(name, flip, turn, at, zero_shift()).unwrap())
+    Ok(Reference::new(name, flip, turn, at, Offsets::single()).unwrap())
 }

@@ -64,21 +64,20 @@ fn reads_a_square(rt: HostRuntime) -> Result<(), Fail> {
     assert_eq!(rt; library.cells.len(), 1);
     let cell = library.cells.first().ok_or("a cell")?;
     assert_eq!(rt; cell.name.as_slice(), b"TOP".as_slice());
-    assert_eq!(rt; cell.shapes.len(), 1);
     assert_eq!(rt; cell.references.len(), 0);
-    let shape = cell.shapes.first().ok_or("a shape")?;
+    let shapes = &cell.shapes;
+    assert_eq!(rt; shapes.len(), 1);
     assert_eq!(rt;
-        shape.layer,
+        shapes.layer(0),
         Layer {
             layer: 1,
             datatype: 0
         }
     );
-    assert_eq!(rt; shape.shifts.len(), 1);
-    assert_eq!(rt; shape.rings.len(), 1);
-    let ring = shape.rings.first().ok_or("a ring")?;
-    assert_eq!(rt; ring.points().len(), 4);
-    assert_eq!(rt; ring.points().get(3), Some(&Point { x: 0, y: 10 }));
+    assert_eq!(rt; shapes.shift_count(0), 1);
+    assert_eq!(rt; shapes.ring_count(0), 1);
+    assert_eq!(rt; shapes.ring(0, 0).len(), 4);
+    assert_eq!(rt; shapes.ring(0, 0).get(3), Some(&Point { x: 0, y: 10 }));
     Ok(())
 }
 
@@ -92,12 +91,12 @@ fn boundary_height(rt: HostRuntime) -> Result<(), Fail> {
         }
     }
     let (library, _) = read(rt.alloc(), &bytes, 1000)?;
-    let cell = library.cells.first().ok_or("a cell")?;
-    let shape = cell.shapes.first().ok_or("a shape")?;
-    let ring = shape.rings.first().ok_or("a ring")?;
+    let shapes = &library.cells.first().ok_or("a cell")?.shapes;
+    assert_eq!(rt; shapes.len(), 1);
+    assert_eq!(rt; shapes.ring_count(0), 1);
     let points: [(i64, i64); 4] = [(0, 0), (10, 0), (10, 9), (0, 9)];
     for (k, (x, y)) in points.iter().enumerate() {
-        assert_eq!(rt; ring.points().get(k), Some(&Point { x: *x, y: *y }));
+        assert_eq!(rt; shapes.ring(0, 0).get(k), Some(&Point { x: *x, y: *y }));
     }
     Ok(())
 }

@@ -4,7 +4,7 @@ use gds_records::fake::{SQUARE, Stream};
 use gds_library::{ElementRule, GdsFault, GdsKind, Misplaced, read_gds};
 use gds_records::record_type;
 use lvl_cells::{CellFault, Library, Reference, check};
-use lvl_grid::{Point, Ring, Turn};
+use lvl_grid::{Point, Turn};
 use lvl_io::fake::Pieces;
 use lvl_path::PathFault;
 use lvl_refusal::Refusal;
@@ -69,11 +69,7 @@ const COLROW_AT: u64 = 208;
 const XY_AT: u64 = 216;
 
 /// Whether the ring has these points.
-fn goes_along(ring: Option<&Ring>, want: &[(i64, i64)]) -> bool {
-    let Some(ring) = ring else {
-        return false;
-    };
-    let points = ring.points();
+fn goes_along(points: &[Point], want: &[(i64, i64)]) -> bool {
     points.len() == want.len()
         && points
             .iter()
@@ -198,13 +194,13 @@ fn short_run(rt: HostRuntime) -> Result<(), Fail> {
 fn square_ends(rt: HostRuntime) -> Result<(), Fail> {
     let stream = with_path(rt.alloc(), Some(2), 4, &CORNER)?;
     let library = read(rt.alloc(), &stream)?;
-    let cell = library.cells.first().ok_or("a cell")?;
-    let shape = cell.shapes.first().ok_or("a shape")?;
-    assert_eq!(rt; shape.rings.len(), 2);
+    let shapes = &library.cells.first().ok_or("a cell")?.shapes;
+    assert_eq!(rt; shapes.len(), 1);
+    assert_eq!(rt; shapes.ring_count(0), 2);
     let first: [(i64, i64); 4] = [(-2, -2), (12, -2), (12, 2), (-2, 2)];
     let second: [(i64, i64); 4] = [(8, -2), (12, -2), (12, 12), (8, 12)];
-    assert!(rt; goes_along(shape.rings.first(), &first));
-    assert!(rt; goes_along(shape.rings.get(1), &second));
+    assert!(rt; goes_along(shapes.ring(0, 0), &first));
+    assert!(rt; goes_along(shapes.ring(0, 1), &second));
     Ok(())
 }
 

@@ -2,7 +2,7 @@
 
 use anyhow::{Context, Result};
 use gds_records::record_type;
-use lvl_cells::{Cell, Layer, Library, Offsets, Reference, Shape};
+use lvl_cells::{Cell, Layer, Library, Offsets, Reference, Shapes};
 use lvl_grid::{Point, Ring, Turn};
 use std::alloc::Global;
 
@@ -60,23 +60,15 @@ fn name(alloc: Global, number: u64) -> Result<Vec<u8>> {
     Ok(Vec::from_slice(alloc, text.as_bytes())?)
 }
 
-fn unit_square(alloc: Global) -> Result<Shape> {
-    let points = vec![in alloc;
-        Point { x: 0, y: 0 },
-        Point { x: 1, y: 0 },
-        Point { x: 1, y: 1 },
-        Point { x: 0, y: 1 },
-    ]?;
-    let ring = Ring::new(points).ok().context("no ring")?;
-    let zero = Point { x: 0, y: 0 };
-    Ok(Shape {
-        layer: Layer {
-            layer: 1,
-            datatype: 0,
-        },
-        rings: vec![in alloc; ring]?,
-        shifts: Offsets::lattice(zero, 1, zero, 1).context("no shift")?,
-    })
+fn unit_square(alloc: Global) -> Result<Shapes> {
+    let ring = Ring::rectangle(alloc, Point { x: 0, y: 0 }, Point { x: 1, y: 1 })?;
+    let layer = Layer {
+        layer: 1,
+        datatype: 0,
+    };
+    let mut shapes = Shapes::new(alloc);
+    shapes.push_rings(layer, &[ring], &Offsets::single())?;
+    Ok(shapes)
 }
 
 /// A reference to the cell of that number by a lattice of steps.
@@ -96,13 +88,13 @@ pub fn flat_library(alloc: Global, count: u64) -> Result<Library> {
     }
     cells.push(Cell {
         name: name(alloc, 0)?,
-        shapes: Vec::new(alloc),
+        shapes: Shapes::new(alloc),
         references,
     })?;
     for number in 1..count {
         cells.push(Cell {
             name: name(alloc, number)?,
-            shapes: Vec::new(alloc),
+            shapes: Shapes::new(alloc),
             references: Vec::new(alloc),
         })?;
     }
@@ -120,7 +112,7 @@ pub fn chain_library(alloc: Global, count: u64) -> Result<Library> {
         }
         cells.push(Cell {
             name: name(alloc, number)?,
-            shapes: Vec::new(alloc),
+            shapes: Shapes::new(alloc),
             references,
         })?;
     }
@@ -134,17 +126,17 @@ pub fn array_library(alloc: Global, outer: u64, inner: u64) -> Result<Library> {
     let up = Point { x: 0, y: 2 };
     cells.push(Cell {
         name: name(alloc, 0)?,
-        shapes: Vec::new(alloc),
+        shapes: Shapes::new(alloc),
         references: vec![in alloc; placed(alloc, 1, (right(2), 1), (up, outer))?]?,
     })?;
     cells.push(Cell {
         name: name(alloc, 1)?,
-        shapes: Vec::new(alloc),
+        shapes: Shapes::new(alloc),
         references: vec![in alloc; placed(alloc, 2, (right(2), inner), (up, 1))?]?,
     })?;
     cells.push(Cell {
         name: name(alloc, 2)?,
-        shapes: vec![in alloc; unit_square(alloc)?]?,
+        shapes: unit_square(alloc)?,
         references: Vec::new(alloc),
     })?;
     Ok(Library { cells })

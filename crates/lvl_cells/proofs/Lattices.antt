@@ -1,5 +1,5 @@
 -- Every place of a lattice fits where its far corner does.
-use Rattle.std.proofs.Common.{◌≡◌, ℕ, suc, ◌+◌, ◌-◌, ◌*◌, ◌/◌, ◌%◌, ◌<◌, ◌≤◌, List, length, get_or, ℤ, pos, negsuc, ◌+ℤ◌, ◌*ℤ◌, ◌≤ℤ◌, ◌⊎◌, inl, inr, Option, Some, None, is_some, IsTrue, SomeIff, ◌↔◌, All, refl, sym, ap, ◌∙◌, subst, ⊎_elim, arith, rules}
+use Rattle.std.proofs.Common.{◌≡◌, ℕ, suc, ◌+◌, ◌-◌, ◌*◌, ◌/◌, ◌%◌, ◌<◌, ◌≤◌, Bool, ◌&&◌, true, int_eq, List, [], ◌∷◌, length, get_or, ℤ, pos, negsuc, ◌+ℤ◌, ◌*ℤ◌, ◌≤ℤ◌, ◌⊎◌, inl, inr, Option, Some, None, is_some, IsTrue, SomeIff, ◌↔◌, All, refl, sym, ap, ◌∙◌, subst, ⊎_elim, arith, rules}
 use Rattle.std.specs.List.{slice_get}
 use Rattle.std.specs.Int.{w64}
 use mir.Val.{SFits, to_z, of_z}
@@ -11,10 +11,17 @@ use Rattle.std.proofs.lemmas.List.FromFn.{get_or-map-range_with_len, length-map-
 use Rattle.std.proofs.lemmas.List.Elements.{All-get_or}
 use Rattle.lvl_grid.specs.declared.point.Point.{Point}
 use Rattle.lvl_grid.specs.Turn.{FitsPoint, shifted}
-use Rattle.lvl_cells.specs.Shifts.{steps, lattice, IsLattice, most_places, StartsAtZero}
+use Rattle.lvl_grid.proofs.Composing.{same_point}
+use Rattle.lvl_cells.specs.Shifts.{steps, lattice, one_place, IsLattice, most_places, StartsAtZero}
 use Rattle.lvl_cells.specs.Keeping.{StaysWithin, HasFarCorner, AreFew, IsKept, kept_shifts}
 use Rattle.lvl_cells.specs.declared.offsets.Kept.{Kept}
 use Rattle.lvl_cells.specs.declared.offsets.Kept.TheVariants.{Lattice as ByLattice}
+
+-- shifts of which there is one are the zero shift alone
+pub one_is : (shifts : List Point) → StartsAtZero shifts → length shifts ≡ 1 → shifts ≡ one_place
+one_is [] z h = absurd (omega (arith, h))
+one_is (p ∷ []) z h = cc
+one_is (p ∷ q ∷ shifts) z h = absurd (omega (arith, h))
 
 -- w is between zero and z
 record IsBetween (w z : ℤ) : Type 0 where
@@ -193,3 +200,17 @@ corners_moved by a m b n fits c =
           }),
       λ all. (in_lattice P a m b n (m - 1) 0 all last_column c.counts.rows, in_lattice P a m b n 0 (n - 1) all c.counts.columns last_row, in_lattice P a m b n (m - 1) (n - 1) all last_column last_row),
     )
+
+points_same : (p q : Point) (same : Bool) → same ≡ (int_eq p.x q.x && int_eq p.y q.y) → same ≡ true → p ≡ q
+points_same p q same e t = same_point p q (grind (arith, ints, e, t)) (grind (arith, ints, e, t))
+
+-- lattices of the same steps and counts are the same shifts
+pub same_lattice : (k l : Kept) (a : Point) (m : ℕ) (b : Point) (n : ℕ) (c : Point) (p : ℕ) (d : Point) (q : ℕ) (steps rows : Bool) (xs ys : List Point)
+    → k ≡ ByLattice a m b n → l ≡ ByLattice c p d q → kept_shifts k ≡ xs → kept_shifts l ≡ ys
+    → steps ≡ (int_eq a.x c.x && int_eq a.y c.y) → steps ≡ true → m ≡ p → rows ≡ (int_eq b.x d.x && int_eq b.y d.y) → rows ≡ true → n ≡ q → xs ≡ ys
+same_lattice k l a m b n c p d q steps rows xs ys hk hl vk vl ea ta em eb tb en =
+    let first : lattice a m b n ≡ lattice c m b n = ap (λ z. lattice z m b n) (points_same a c steps ea ta) in
+    let second : lattice c m b n ≡ lattice c p b n = ap (λ z. lattice c z b n) em in
+    let third : lattice c p b n ≡ lattice c p d n = ap (λ z. lattice c p z n) (points_same b d rows eb tb) in
+    let fourth : lattice c p d n ≡ lattice c p d q = ap (λ z. lattice c p d z) en in
+    sym (seen_lattice k a m b n xs hk vk) ∙ (first ∙ (second ∙ (third ∙ (fourth ∙ seen_lattice l c p d q ys hl vl))))

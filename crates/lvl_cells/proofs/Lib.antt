@@ -14,3 +14,4 @@ pub mod Roots
 pub mod Summing
 pub mod Refusing
 pub mod Looking
+pub mod Spanned

@@ -1,5 +1,5 @@
 -- Cells, shapes and references as plain data, and which cell a name means.
-use Rattle.std.specs.Prelude.{ℕ, Bool, List, [], ◌∷◌, map, Option, Some, None, if◌then◌else◌}
+use Rattle.std.specs.Prelude.{ℕ, Bool, List, [], ◌∷◌, map, get_or, Option, Some, None, if◌then◌else◌}
 use Rattle.std.specs.Str.{bytes_eq}
 use Rattle.lvl_grid.specs.declared.point.Point.{Point}
 use Rattle.lvl_grid.specs.declared.map.Turn.{Turn}
@@ -54,3 +54,7 @@ drawn rings c = record { name = c.name; shapes = map (λ h. record { layer = h.l
 -- a library is kept with rings alone: each figure stands as its rings
 abbrev pub kept : {F : Type 0} → (F → Rings) → List (PlainCell F) → List (PlainCell Rings)
 kept rings cells = map (drawn rings) cells
+
+-- the shape at an index; past the end one that draws nothing
+abbrev pub shape_at : List (PlainShape Rings) → ℕ → PlainShape Rings
+shape_at shapes i = get_or shapes i (record { layer = record { layer = 0; datatype = 0 }; figure = []; shifts = [] })

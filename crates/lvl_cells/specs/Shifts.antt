@@ -1,5 +1,5 @@
 -- Lists of shifts, and the lists that lattices give.
-use Rattle.std.specs.Prelude.{◌≡◌, ℕ, ◌*◌, ◌/◌, ◌%◌, ◌<◌, ◌≤◌, List, map, pos, ◌+ℤ◌, ◌*ℤ◌, All, slice_get, Some}
+use Rattle.std.specs.Prelude.{◌≡◌, ℕ, ◌*◌, ◌/◌, ◌%◌, ◌<◌, ◌≤◌, List, [], ◌∷◌, map, pos, ◌+ℤ◌, ◌*ℤ◌, All, slice_get, Some}
 use Rattle.std.specs.List.{range_with_len}
 use Rattle.lvl_grid.specs.declared.point.Point.{Point}
 use Rattle.lvl_grid.specs.Turn.{FitsPoint}
@@ -26,3 +26,7 @@ pub record IsLattice (a : Point) (m : ℕ) (b : Point) (n : ℕ) : Type 0 where
 -- the first shift is there, and zero
 abbrev pub StartsAtZero : List Point → Type 0
 StartsAtZero shifts = slice_get shifts 0 ≡ Some (record { x = pos 0; y = pos 0 })
+
+-- the zero shift alone
+abbrev pub one_place : List Point
+one_place = record { x = pos 0; y = pos 0 } ∷ []

@@ -1,8 +1,13 @@
 //! A library under construction, cell by cell. Readers of every format make theirs by it.
 ghost use Rattle.std.specs.Prelude.{◌≡◌, [], ◌∷◌, ◌++◌, length, OnOk, OnErr};
+ghost use Rattle.lvl_grid.specs.Winding.{IsRing};
 ghost use Rattle.lvl_cells.specs.Building.{no_cell, with_shape, with_reference};
 
+use crate::layer::Layer;
 use crate::library::{Cell, Library, Reference, Shape};
+use crate::offsets::Offsets;
+use crate::shapes::Shapes;
+use lvl_grid::{Point, Ring};
 use std::alloc::{AllocError, Global};
 use std::marker::Model;
 use std::mem;
@@ -30,7 +35,7 @@ fn empty_cell(alloc: Global) -> Cell
 {
     Cell {
         name: Vec::new(alloc),
-        shapes: Vec::new(alloc),
+        shapes: Shapes::new(alloc),
         references: Vec::new(alloc),
     }
 }
@@ -59,9 +64,36 @@ impl Builder {
     {
         self.current = Cell {
             name,
-            shapes: Vec::new(alloc),
+            shapes: Shapes::new(alloc),
             references: Vec::new(alloc),
         };
+    }
+
+    /// Adds a shape of one ring to the open cell.
+    pub fn add_ring(
+        &mut self,
+        layer: Layer,
+        ring: &[Point],
+        shifts: &Offsets,
+    ) -> Result<(), AllocError>
+        requires { IsRing ring.now }
+        ensures added { OnOk result (self.new ≡ record { cells = self.old.cells; current = with_shape self.old.current (record { layer = layer; figure = ring.now ∷ []; shifts = shifts.now }) }) }
+        ensures kept { OnErr result (self.new ≡ self.old) }
+    {
+        self.current.shapes.push_ring(layer, ring, shifts)
+    }
+
+    /// Adds a shape of these rings to the open cell.
+    pub fn add_rings(
+        &mut self,
+        layer: Layer,
+        rings: &[Ring],
+        shifts: &Offsets,
+    ) -> Result<(), AllocError>
+        ensures added { OnOk result (self.new ≡ record { cells = self.old.cells; current = with_shape self.old.current (record { layer = layer; figure = rings.now; shifts = shifts.now }) }) }
+        ensures kept { OnErr result (self.new ≡ self.old) }
+    {
+        self.current.shapes.push_rings(layer, rings, shifts)
     }
 
     /// Adds a shape to the open cell.
@@ -69,8 +101,7 @@ impl Builder {
         ensures added { OnOk result (self.new ≡ record { cells = self.old.cells; current = with_shape self.old.current shape }) }
         ensures kept { OnErr result (self.new ≡ self.old) }
     {
-        self.current.shapes.push(shape)?;
-        Ok(())
+        self.add_rings(shape.layer, &shape.rings, &shape.shifts)
     }
 
     /// Adds a reference to the open cell.

@@ -39,8 +39,9 @@ fn rings_of(cell: &Cell) -> u64
     ensures { result ≡ min (most_placed + 1) (own_rings each_ring cell.now) }
 {
     let mut sum = 0;
-    for shape in &cell.shapes {
-        let placed = capped_product(shape.rings.len() as u64, shape.shifts.len());
+    let shapes = &cell.shapes;
+    for i in 0..shapes.len() {
+        let placed = capped_product(shapes.ring_count(i) as u64, shapes.shift_count(i));
         sum = capped_sum(sum, placed);
     }
     sum

@@ -1,10 +1,10 @@
 //! Layout libraries: cells that draw shapes and place one another, and the check that a library
 //! is sound.
 //!
-//! A [`Library`] is what a file draws: named cells in file order. A [`Cell`] has [`Shape`]s, each
+//! A [`Library`] is what a file draws: named cells in file order. A [`Cell`] has [`Shapes`], each
 //! rings on a [`Layer`] at a list of shifts, and [`Reference`]s, each of which places another cell
 //! by its name, reflected, turned and at a list of places. A list of shifts or places is an
-//! [`Offsets`], which keeps a lattice as such. [`check`] finds the top, resolves the names and
+//! [`Offsets`], which keeps a lattice as such. A [`Builder`] makes a library cell by cell. [`check`] finds the top, resolves the names and
 //! refuses what is not sound or places too much; what it lets through is a [`Checked`].
 #![tactic(auto)]
 
@@ -14,6 +14,7 @@ pub use fault::CellFault;
 pub use layer::Layer;
 pub use library::{Cell, Library, Reference, Shape};
 pub use offsets::Offsets;
+pub use shapes::Shapes;
 
 mod builder;
 mod checked;
@@ -25,6 +26,7 @@ mod names;
 mod offsets;
 mod order;
 mod round;
+mod shapes;
 mod targets;
 mod top;
 mod walk;

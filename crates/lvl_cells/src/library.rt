@@ -4,10 +4,12 @@ ghost use Rattle.lvl_grid.specs.Turn.{shifted, FitsPoint};
 
 use crate::layer::Layer;
 use crate::offsets::Offsets;
+use crate::shapes::Shapes;
 use lvl_grid::{Point, Ring, Turn};
 use std::marker::Model;
 
-/// Rings on a Layer, at each of the shifts.
+/// A shape by itself, as a reader makes it: rings on a Layer, at each of the shifts. A cell keeps
+/// its shapes as [`Shapes`].
 ///
 /// A boundary, a polygon or a rectangle is one ring, a path the rings of its bands.
 #[derive(Debug, Drop)]
@@ -115,7 +117,7 @@ impl Reference {
 #[derive(Debug, Drop)]
 pub struct Cell {
     pub name: Vec<u8>,
-    pub shapes: Vec<Shape>,
+    pub shapes: Shapes,
     pub references: Vec<Reference>,
 }
 
@@ -124,7 +126,7 @@ impl Model for Cell {
 
     ghost Value = { PlainCell Rings };
 
-    ghost view = { λ c. record { name = c.name.items; shapes = c.shapes.items; references = c.references.items } };
+    ghost view = { λ c. record { name = c.name.items; shapes = c.shapes; references = c.references.items } };
 }
 
 /// The cells of a file, in file order. [`crate::check`] says whether they are sound.

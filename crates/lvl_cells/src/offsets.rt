@@ -3,9 +3,10 @@ ghost use Rattle.std.specs.Prelude.{◌≡◌, ◌<◌, ◌↔◌, ◌^◌, leng
 ghost use Rattle.std.specs.Int.{w64};
 ghost use Rattle.lvl_grid.specs.Turn.{shifted, FitsPoint};
 ghost use Rattle.lvl_cells.specs.Keeping.{StaysWithin, HasFarCorner, AreFew};
-ghost use Rattle.lvl_cells.specs.Shifts.{steps, lattice, IsLattice, StartsAtZero};
+ghost use Rattle.lvl_cells.specs.Shifts.{steps, lattice, one_place, IsLattice, StartsAtZero};
 
 use lvl_grid::Point;
+use std::alloc::AllocError;
 use std::marker::Model;
 
 /// The most places of a lattice.
@@ -38,6 +39,18 @@ impl Model for Offsets {
     ghost view = { λ o. kept_shifts o.kept };
 
     ghost invariant = { λ o. IsKept o.kept };
+}
+
+impl Clone for Offsets {
+    ghost is_clone = { λ o copy. copy ≡ o };
+
+    fn clone(&self) -> Result<Offsets, AllocError> {
+        let kept = match &self.kept {
+            Kept::List(shifts) => Kept::List(Vec::from_slice(*shifts.allocator(), shifts)?),
+            Kept::Lattice(a, m, b, n) => Kept::Lattice(*a, *m, *b, *n),
+        };
+        Ok(Offsets { kept })
+    }
 }
 
 /// `i` steps by `a` and `j` steps by `b`, along one axis.
@@ -159,6 +172,33 @@ impl Offsets {
         Some(Offsets {
             kept: Kept::Lattice(a, m, b, n),
         })
+    }
+
+    /// The zero shift alone. It takes no memory.
+    pub fn single() -> Offsets
+        ensures { result ≡ one_place }
+    {
+        let zero = Point { x: 0, y: 0 };
+        Offsets::lattice(zero, 1, zero, 1).unwrap()
+    }
+
+    /// Whether this is the zero shift alone.
+    pub fn is_single(&self) -> bool
+        ensures { IsTrue result ↔ (self.now ≡ one_place) }
+    {
+        self.len() == 1
+    }
+
+    /// Whether both are kept as one lattice.
+    pub(crate) fn is_same_lattice(&self, other: &Offsets) -> bool
+        ensures { IsTrue result → self.now ≡ other.now }
+    {
+        match (&self.kept, &other.kept) {
+            (Kept::Lattice(a, m, b, n), Kept::Lattice(c, p, d, q)) => {
+                a == c && m == p && b == d && n == q
+            }
+            _ => false,
+        }
     }
 
     /// How many there are.

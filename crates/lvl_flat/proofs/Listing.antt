@@ -1,13 +1,13 @@
 -- The sheets of all Layers: sorted Layers with no Layer twice.
-use Rattle.std.proofs.Common.{◌≡◌, ◌<◌, ◌⊎◌, ◌==◌, ℕ, zero, suc, Bool, true, false, cond, Ordering, Less, Equal, Greater, List, [], ◌∷◌, length, get_or, map, AllPairs, Contains, IsPermutation, nat_cmp, nat_lt, not, inl, inr, refl, sym, ap, subst, arith}
+use Rattle.std.proofs.Common.{◌≡◌, ◌<◌, ◌⊎◌, ◌==◌, ℕ, Bool, true, false, cond, Ordering, Less, Equal, Greater, List, [], ◌∷◌, ◌++◌, length, get_or, map, All, AllPairs, Contains, IsPermutation, nat_cmp, nat_lt, not, inl, inr, refl, sym, ap, subst, arith}
 use Rattle.std.specs.Ordering.{ordering_then, eq_by_cmp, on, then_cmp}
 use Rattle.std.specs.Cmp.{IsTotalOrder, IsEquivalence, then_total, on_total, nat_cmp_total, unsigned_ties, both_tied, and_equiv, on_equiv, nat_eq_equiv}
-use Rattle.std.specs.List.{dedup, flat_map}
+use Rattle.std.specs.List.{dedup}
 use Rattle.std.specs.List.Sorted.{IsSorted, IsStrictlySortedBy}
 use Rattle.std.proofs.lemmas.Bool.{ltb-true, eqb-true}
 use Rattle.std.proofs.lemmas.List.{get_or-map}
 use Rattle.std.proofs.Math.ListN.{length-map}
-use Rattle.std.proofs.lemmas.List.Elements.{All-weaker, All-from_recursion, Contains-append_left, Contains-append_right}
+use Rattle.std.proofs.lemmas.List.Elements.{All-contains, All-contains_itself, All-weaker, All-from_recursion, Contains-append_left}
 use Rattle.std.proofs.lemmas.List.Sorted.{Contains-permutation}
 use Rattle.std.proofs.lemmas.List.Kept.{AllPairs-cons, Contains-dedup, IsStrictlySortedBy-dedup}
 use Rattle.std.proofs.lemmas.Option.{slice_get_within, get_or_from_slice_get}
@@ -62,14 +62,6 @@ sheets_rise xs ss h e =
     let rising : IsStrictlySortedBy layer_cmp (dedup same_layer xs) = IsStrictlySortedBy-dedup layer_total {E = same_layer} layer_ties xs h in
     sheets_sorted ss (subst (AllPairs ComesBefore) (sym e) (pairs_from (dedup same_layer xs) rising))
 
-contains_flat : {A B : Type 0} (f : A → List B) (xs : List A) (k : ℕ) (d : A) (b : B) → k < length xs → Contains (f (get_or xs k d)) b → Contains (flat_map f xs) b
-contains_flat f [] k d b lt h = absurd (omega arith)
-contains_flat f (x ∷ xs) zero d b lt h = Contains-append_left (f x) (flat_map f xs) b h
-contains_flat f (x ∷ xs) (suc k) d b lt h = Contains-append_right (f x) (flat_map f xs) b (contains_flat f xs k d b (omega arith) h)
-
-contains_map : {A B : Type 0} (f : A → B) (as' : List A) (k : ℕ) (d : A) → k < length as' → Contains (map f as') (f (get_or as' k d))
-contains_map f as' k d lt = (k, rw length-map lt, get_or-map f as' k d (f (get_or as' k d)) lt)
-
 same_is : (a b : Layer) → same_layer a b ≡ true → a ≡ b
 same_is a b h = tested_layer a b (ap not h)
 
@@ -77,12 +69,28 @@ layer_equiv : IsEquivalence same_layer
 layer_equiv = and_equiv (on_equiv (λ (l : Layer). l.layer) nat_eq_equiv) (on_equiv (λ (l : Layer). l.datatype) nat_eq_equiv)
 
 -- each shape's Layer has its sheet
-pub sheets_there : (cells : List (PlainCell Rings)) (layers sorted : List Layer) (ss : List PlainSheet) → layers ≡ flat_map (λ (c : PlainCell Rings). map (λ h. h.layer) c.shapes) cells → IsPermutation layers sorted
+pub sheets_there : (cells : List (PlainCell Rings)) (layers sorted : List Layer) (ss : List PlainSheet) → All (λ (c : PlainCell Rings). All (λ h. Contains layers h.layer) c.shapes) cells → IsPermutation layers sorted
     → map (λ s. s.layer) ss ≡ dedup same_layer sorted → AllHaveSheets ss cells
 sheets_there cells layers sorted ss all moved e k c at i d lt =
-    let f : PlainCell Rings → List Layer = λ c. map (λ h. h.layer) c.shapes in
     let layer : Layer = (get_or c.shapes i d).layer in
     let here : get_or cells k c ≡ c = get_or_from_slice_get cells k c c at in
-    let own : Contains (f (get_or cells k c)) layer = subst (λ (z : PlainCell Rings). Contains (f z) layer) (sym here) (contains_map (λ (h : PlainShape Rings). h.layer) c.shapes i d lt) in
-    let found : Contains layers layer = subst (λ ls. Contains ls layer) (sym all) (contains_flat f cells k c layer (slice_get_within cells k c at) own) in
-    subst (λ ls. Contains ls layer) (sym e) (Contains-dedup layer_equiv same_is sorted layer (Contains-permutation layers sorted layer moved found))
+    let own : All (λ h. Contains layers h.layer) c.shapes = subst (λ (z : PlainCell Rings). All (λ h. Contains layers h.layer) z.shapes) here (all k c (slice_get_within cells k c at)) in
+    subst (λ ls. Contains ls layer) (sym e) (Contains-dedup layer_equiv same_is sorted layer (Contains-permutation layers sorted layer moved (own i d lt)))
+
+-- Layers that are among these are among those that these are among
+pub among : (fewer more : List Layer) (shapes : List (PlainShape Rings)) → All (Contains more) fewer → All (λ h. Contains fewer h.layer) shapes → All (λ h. Contains more h.layer) shapes
+among fewer more shapes wider h = All-weaker {X = PlainShape Rings} (λ g. Contains fewer g.layer) (λ g. Contains more g.layer) (λ g has. All-contains (Contains more) fewer g.layer wider has) shapes h
+
+-- Layers to which others are added are among them all
+pub still_among : (layers more : List Layer) → All (Contains (layers ++ more)) layers
+still_among layers more = All-weaker {X = Layer} (Contains layers) (Contains (layers ++ more)) (λ l has. Contains-append_left layers more l has) layers (All-contains_itself layers)
+
+pub among_those : (first second third : List Layer) → All (Contains second) first → All (Contains third) second → All (Contains third) first
+among_those first second third h k = All-weaker {X = Layer} (Contains second) (Contains third) (λ l has. All-contains (Contains third) second l k has) first h
+
+-- the Layers of the cell's shapes are among these
+abbrev pub AreListed : List Layer → PlainCell Rings → Type 0
+AreListed layers c = All (λ h. Contains layers h.layer) c.shapes
+
+pub still_listed : (fewer more : List Layer) (cells : List (PlainCell Rings)) → All (Contains more) fewer → All (AreListed fewer) cells → All (AreListed more) cells
+still_listed fewer more cells wider h = All-weaker {X = PlainCell Rings} (AreListed fewer) (AreListed more) (λ c. among fewer more c.shapes wider) cells h

@@ -43,3 +43,7 @@ pub record SheetAt (sheets : List PlainSheet) (i : ℕ) (layer : Layer) : Type 0
 -- each shape's Layer has a sheet
 abbrev pub HaveSheets : List PlainSheet → List (PlainShape Rings) → Type 0
 HaveSheets sheets shapes = All (λ h. Contains (map (λ s. s.layer) sheets) h.layer) shapes
+
+-- each of some Layers is among these
+abbrev pub ContainsAll : List Layer → List Layer → Type 0
+ContainsAll layers some = All (Contains layers) some

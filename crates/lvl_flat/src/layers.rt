@@ -1,27 +1,39 @@
 //! The Layers of a library, each with an empty sheet.
-ghost use Rattle.std.specs.Prelude.{◌≡◌, ◌++◌, [], All, OnOk, IfOk, map};
-ghost use Rattle.std.specs.List.{flat_map};
-ghost use Rattle.lvl_flat.specs.Sheets.{AreSorted};
+ghost use Rattle.std.specs.Prelude.{◌≡◌, [], All, Contains, OnOk, IfOk, map};
+ghost use Rattle.lvl_flat.specs.Sheets.{AreSorted, ContainsAll};
 ghost use Rattle.lvl_flat.specs.Walking.{AllHaveSheets};
 
 use crate::flat::Sheet;
-use lvl_cells::{Cell, Layer, Shape};
+use lvl_cells::{Cell, Layer, Shapes};
 use lvl_grid::Rings;
 use std::alloc::{AllocError, Global};
 
-/// Adds the Layers of the shapes, in their order.
-fn push_layers(layers: &mut Vec<Layer>, shapes: &[Shape]) -> Result<(), AllocError>
-    ensures { OnOk result (layers.new.items ≡ layers.old.items ++ map (λ h. h.layer) shapes.now) }
+/// Adds a Layer, if it is not the last already.
+fn push_layer(layers: &mut Vec<Layer>, layer: Layer) -> Result<(), AllocError>
+    ensures kept { OnOk result (ContainsAll layers.new.items layers.old.items) }
+    ensures added { OnOk result (Contains layers.new.items layer) }
 {
-    for shape in shapes {
-        layers.push(shape.layer)?;
+    if layers.last() == Some(&layer) {
+        return Ok(());
+    }
+    layers.push(layer)?;
+    Ok(())
+}
+
+/// Adds the Layers of the shapes; one that several shapes in a row are on is added once.
+fn push_layers(layers: &mut Vec<Layer>, shapes: &Shapes) -> Result<(), AllocError>
+    ensures kept { OnOk result (ContainsAll layers.new.items layers.old.items) }
+    ensures added { OnOk result (All (λ h. Contains layers.new.items h.layer) shapes.now) }
+{
+    for i in 0..shapes.len() {
+        push_layer(layers, shapes.layer(i))?;
     }
     Ok(())
 }
 
 /// The Layers of all shapes, cell by cell.
 fn layers_of(alloc: Global, cells: &[Cell]) -> Result<Vec<Layer>, AllocError>
-    ensures { IfOk result (λ layers. layers.items ≡ flat_map (λ c. map (λ h. h.layer) c.shapes) cells.now) }
+    ensures { IfOk result (λ layers. All (λ c. All (λ h. Contains layers.items h.layer) c.shapes) cells.now) }
 {
     let mut layers = Vec::new(alloc);
     for cell in cells {

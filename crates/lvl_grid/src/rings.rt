@@ -222,6 +222,33 @@ impl Rings {
         self.push(ring.points())
     }
 
+    /// Appends the rings of a slice, in the same order; if there is no memory for one of them, none.
+    pub fn push_all(&mut self, slice: &[Ring]) -> Result<(), AllocError>
+        ensures ok { OnOk result (self.new ≡ self.old ++ slice.now) }
+        ensures err { OnErr result (self.new ≡ self.old) }
+    {
+        let count = self.len();
+        for ring in slice {
+            if let Err(refused) = self.push_ring(ring) {
+                self.truncate(count);
+                return Err(refused);
+            }
+        }
+        Ok(())
+    }
+
+    /// Keeps the first `count` rings, or all if there are no more.
+    pub fn truncate(&mut self, count: usize)
+        ensures { self.new ≡ take count self.old }
+    {
+        if count >= self.len() {
+            return;
+        }
+        let size = begin(&self.ends, count);
+        self.points.truncate(size);
+        self.ends.truncate(count);
+    }
+
     /// Appends the image of a ring, each of its points moved by `shift` before it is mapped. Only
     /// the images are tested for 64 bits, so a moved point may be outside (own rule).
     pub fn push_placed(&mut self, ring: &[Point], shift: Point, by: &Map) -> Result<(), PlaceFault>

@@ -4,33 +4,32 @@ use Rattle.std.proofs.lemmas.List.{flat_map_more, take_more, take_all}
 use Rattle.std.proofs.lemmas.List.Elements.{All-more}
 use Rattle.std.proofs.lemmas.Option.{slice_get_within, get_or_from_slice_get}
 use Rattle.lvl_grid.specs.declared.point.Point.{Point}
-use Rattle.lvl_cells.specs.Cells.{PlainShape, Rings}
+use Rattle.lvl_cells.specs.Cells.{shape_at}
 use Rattle.lvl_flat.specs.Drawn.{placed_figure, IsPlaced}
 use Rattle.lvl_flat.proofs.draw.draw_shape.Goals as goal
 
 pub loop-k-preserved : goal.loop-k-preserved
 loop-k-preserved c =
-    let shifts : List Point = c.args.shape.now.shifts in
-    let figure : List (List Point) = c.args.shape.now.figure in
+    let shifts : List Point = (shape_at c.args.shapes.now c.args.i).shifts in
+    let figure : List (List Point) = (shape_at c.args.shapes.now c.args.i).figure in
     let old : List (List Point) = c.args.rings.now in
     let f = placed_figure c.args.map.now figure in
     let k : ℕ = c.loop-k.k in
     let e : Point = c.in-Some.shift in
-    let seen : slice_get shifts k ≡ Some e = sym (ap (λ (h : PlainShape Rings). slice_get h.shifts k) c.shape.view_is) ∙ (sym c.at.ensures ∙ c.in-Some.is) in
+    let seen : slice_get shifts k ≡ Some e = sym c.shift.ensures ∙ c.in-Some.is in
     let there : k < length shifts = slice_get_within shifts k e seen in
     let is : get_or shifts k e ≡ e = get_or_from_slice_get shifts k e e seen in
     let more : take (k + 1) shifts ≡ take k shifts ++ e ∷ [] = take_more shifts k e there ∙ ap (λ p. take k shifts ++ p ∷ []) is in
-    let rings : c.deref.result.now ≡ figure = c.deref.ensures.value ∙ ap (λ (h : PlainShape Rings). h.figure) c.shape.view_is in
     record {
       drawn =
           c.in_ok-draw_figure.ensures.drawn
-          ∙ (ap (λ xs. c.loop-k.rings ++ placed_figure c.args.map.now xs e) rings
-          ∙ (ap (λ xs. xs ++ f e) c.loop-k.invariant.drawn ∙ (flat_map_more f old (take k shifts) e ∙ ap (λ es. old ++ flat_map f es) (sym more))));
+          ∙ (ap (λ xs. xs ++ f e) c.loop-k.invariant.drawn ∙ (flat_map_more f old (take k shifts) e ∙ ap (λ es. old ++ flat_map f es) (sym more)));
       placed = All-more (λ p. All (IsPlaced c.args.map.now p) figure) shifts k e there c.loop-k.invariant.placed
-          (subst (λ (p : Point). All (IsPlaced c.args.map.now p) figure) (sym is) (subst (All (IsPlaced c.args.map.now e)) rings c.in_ok-draw_figure.ensures.placed));
+          (subst (λ (p : Point). All (IsPlaced c.args.map.now p) figure) (sym is) c.in_ok-draw_figure.ensures.placed);
     }
 
 pub returns-clause-placed : goal.returns-clause-placed
 returns-clause-placed c =
-    let long : length c.args.shape.now.shifts ≤ c.loop-k.k = omega (arith, c.loop-k-test.false, c.len-k-end.ensures.count, ap (λ (h : PlainShape Rings). length h.shifts) c.shape.view_is) in
-    subst (All (λ e. All (IsPlaced c.args.map.now e) c.args.shape.now.figure)) (take_all c.loop-k.k c.args.shape.now.shifts long) c.loop-k.invariant.placed
+    let shifts : List Point = (shape_at c.args.shapes.now c.args.i).shifts in
+    let long : length shifts ≤ c.loop-k.k = omega (arith, c.loop-k-test.false, c.shift_count-k-end.ensures) in
+    subst (All (λ e. All (IsPlaced c.args.map.now e) (shape_at c.args.shapes.now c.args.i).figure)) (take_all c.loop-k.k shifts long) c.loop-k.invariant.placed

@@ -20,14 +20,14 @@ pub draw_shapes-requires-clause-layers : goal.draw_shapes-requires-clause-layers
 draw_shapes-requires-clause-layers c =
     let cell : PlainCell Rings = c.index-cells-place.result in
     let at : slice_get c.args.cells.now c.args.place ≡ Some cell = slice_get_read c.args.cells.now (length c.args.cells.now) c.args.place cell refl c.requires.there c.index-cells-place.is in
-    let shapes : c.deref.result.now ≡ cell.shapes = c.deref.ensures.value ∙ ap (λ (b : PlainCell Rings). b.shapes) c.cell.view_is in
+    let shapes : c.cell.inside.shapes ≡ cell.shapes = ap (λ (b : PlainCell Rings). b.shapes) c.cell.view_is in
     subst (HaveSheets c.args.sheets.now.items) (sym shapes) (c.requires.layers c.args.place cell at)
 
 pub returns-in-Ok-clause-drawn : goal.returns-in-Ok-clause-drawn
 returns-in-Ok-clause-drawn c =
     let cell : PlainCell Rings = c.index-cells-place.result in
     let at : slice_get c.args.cells.now c.args.place ≡ Some cell = slice_get_read c.args.cells.now (length c.args.cells.now) c.args.place cell refl c.requires.there c.index-cells-place.is in
-    let shapes : c.deref.result.now ≡ cell.shapes = c.deref.ensures.value ∙ ap (λ (b : PlainCell Rings). b.shapes) c.cell.view_is in
+    let shapes : c.cell.inside.shapes ≡ cell.shapes = ap (λ (b : PlainCell Rings). b.shapes) c.cell.view_is in
     record {
       cell = cell;
       there = at;
@@ -40,8 +40,8 @@ pub returns-in-Err-OutOfRange-clause-err : goal.returns-in-Err-OutOfRange-clause
 returns-in-Err-OutOfRange-clause-err c =
     let cell : PlainCell Rings = c.index-cells-place.result in
     let at : slice_get c.args.cells.now c.args.place ≡ Some cell = slice_get_read c.args.cells.now (length c.args.cells.now) c.args.place cell refl c.requires.there c.index-cells-place.is in
-    let shapes : c.deref.result.now ≡ cell.shapes = c.deref.ensures.value ∙ ap (λ (b : PlainCell Rings). b.shapes) c.cell.view_is in
-    let name : c.deref-in-Err-OutOfRange.result.now ≡ cell.name = c.deref-in-Err-OutOfRange.ensures.value ∙ ap (λ (b : PlainCell Rings). b.name) c.cell.view_is in
+    let shapes : c.cell.inside.shapes ≡ cell.shapes = ap (λ (b : PlainCell Rings). b.shapes) c.cell.view_is in
+    let name : c.deref.result.now ≡ cell.name = c.deref.ensures.value ∙ ap (λ (b : PlainCell Rings). b.name) c.cell.view_is in
     let tells : Says c.out_of_range.result (TellsName cell.name) = subst (λ n. Says c.out_of_range.result (TellsName n)) name c.out_of_range.ensures in
     let out : FitShapes c.args.map.now cell.shapes → ⊥ = subst (λ hs. FitShapes c.args.map.now hs → ⊥) shapes (c.in-Err-OutOfRange.ensures.out (ap Err c.in-Err-OutOfRange.field-0-is)) in
     Says-map (TellsName cell.name) _ c.out_of_range.result (told c.args.cells.now c.args.place c.args.map.now cell at out) tells

@@ -1,6 +1,10 @@
-use Rattle.std.proofs.Common.{◌≡◌, ◌++◌, map, take}
+use Rattle.std.proofs.Common.{All, Contains, take}
+use Rattle.lvl_flat.specs.Sheets.{ContainsAll}
 use Rattle.lvl_flat.proofs.layers.push_layers.Given as goal
 
--- the Layers of the shapes so far are added
-abbrev pub invariant-loop-shape : goal.invariant-loop-shape
-invariant-loop-shape l = l.layers.items ≡ l.initial.layers.items ++ map (λ h. h.layer) (take l.shape-index l.shapes)
+-- the Layers of the shapes so far are among those listed, and so are those from before
+abbrev pub invariant-loop-i : goal.invariant-loop-i
+invariant-loop-i l = record {
+  kept : ContainsAll l.layers.items l.initial.layers.items;
+  added : All (λ h. Contains l.layers.items h.layer) (take l.i l.shapes);
+}

@@ -1,5 +1,5 @@
 use Rattle.std.proofs.Common.{◌≡◌, ◌++◌, ◌∷◌, [], ℕ, List, map, take, get_or, sym, subst, ◌∙◌, arith, ap, below_more, append_assoc}
-use Rattle.std.proofs.lemmas.List.{map_more, get_or_default, take_all}
+use Rattle.std.proofs.lemmas.List.{map_more, get_or_default}
 use Rattle.lvl_grid.specs.declared.point.Point.{Point}
 use Rattle.lvl_grid.specs.Turn.{FitsPoint}
 use Rattle.lvl_grid.specs.Placed.{placed_point}

@@ -1,4 +1,4 @@
-use Rattle.std.proofs.Common.{◌≡◌, ℤ, All, w64, FitsSigned}
+use Rattle.std.proofs.Common.{All, w64, FitsSigned}
 use Rattle.std.proofs.lemmas.Int.{to_z-of_z}
 use Rattle.std.proofs.lemmas.Result.{on_ok_weaker}
 use Rattle.lvl_grid.specs.declared.part.Part.TheVariants.{Left, Right}

@@ -25,7 +25,7 @@ returns-in_ok-rings-in-Ends c = λ piece d h.
     let a = sym c.after.ensures ∙ c.in-Ends.is in
     let e = c.in_ok-rings-in-Ends.ensures in
     let x : c.args.kind ≡ xy = ends_by c.args.self.place c.args.kind a in
-    let b = boundary_ends c.args.self piece r c.in_ok-rings-in-Ends.rings.items c.zero_shift.result h a e.value c.zero_shift.ensures in
+    let b = boundary_ends c.args.self piece r c.in_ok-rings-in-Ends.rings.items c.single.result h a e.value c.single.ensures in
     (b, allowed piece r (leads_begins _ (one endel) b.leads) (law_boundary piece r h.opened (λ l. absurd (elim l [ inl y ↦ omega (arith, y, x) | inr y ↦ omega (arith, y, x) ])) (λ _. e.allowed)))
 
 pub returns-in-Nowhere : goal.returns-in-Nowhere

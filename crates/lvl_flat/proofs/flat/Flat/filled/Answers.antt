@@ -1,4 +1,4 @@
-use Rattle.std.proofs.Common.{◌≡◌, ◌++◌, ◌==◌, ◌↔◌, Bool, IsTrue, List, [], ◌∷◌, length, true, false, not, filter, refl, ap, sym, subst, ◌∙◌, arith}
+use Rattle.std.proofs.Common.{◌≡◌, ◌++◌, ◌==◌, ◌↔◌, Bool, IsTrue, [], ◌∷◌, length, true, false, not, filter, refl, ap, sym, subst, ◌∙◌, arith}
 use Rattle.lvl_cells.specs.Cells.{Rings}
 use Rattle.std.proofs.lemmas.List.{append-nil, nil_from_length}
 use Rattle.lvl_flat.specs.Sheet.{PlainSheet}

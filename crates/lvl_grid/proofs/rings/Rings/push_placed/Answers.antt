@@ -1,6 +1,5 @@
-use Rattle.std.proofs.Common.{◌≡◌, ◌++◌, ◌∷◌, [], ◌+◌, List, length, map, arith, ◌∙◌, ap}
+use Rattle.std.proofs.Common.{◌≡◌, ◌++◌, ◌∷◌, [], ◌+◌, length, map, arith, ◌∙◌, ap}
 use Rattle.std.proofs.lemmas.List.{length-append}
-use Rattle.lvl_grid.specs.declared.point.Point.{Point}
 use Rattle.lvl_grid.specs.Placed.{placed_point}
 use Rattle.lvl_grid.proofs.Placed.{IsRing-placed, covers_placed}
 use Rattle.lvl_grid.proofs.Pieces.{cut-push, AreRings-push}

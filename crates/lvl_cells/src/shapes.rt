@@ -1,0 +1,214 @@
+//! The shapes of a cell in one piece: the rings of all of them in one list, and for each shape
+//! where its rings end.
+ghost use Rattle.std.specs.Prelude.{◌≡◌, ◌<◌, ◌+◌, ◌^◌, ◌++◌, ◌∷◌, [], length, get_or, slice_get, IsTrue, ◌↔◌, IfOk, OnOk, OnErr};
+ghost use Rattle.lvl_grid.specs.Winding.{IsRing};
+ghost use Rattle.lvl_grid.specs.Pieces.{begin_of};
+ghost use Rattle.lvl_cells.specs.Cells.{shape_at};
+ghost use Rattle.lvl_cells.specs.inside.Spans.{ends, GoesOn, HasNumber};
+
+use crate::layer::Layer;
+use crate::offsets::Offsets;
+use lvl_grid::{Point, Ring, Rings};
+use std::alloc::{AllocError, Global};
+use std::marker::Model;
+
+/// A shape: its Layer, the index after its last ring, and the number of its shifts, which is zero
+/// for the zero shift alone and else one more than their index.
+#[derive(Clone, Copy, Debug)]
+struct Span {
+    layer: Layer,
+    end: u32,
+    shifts: u32,
+}
+
+/// The shapes of a cell, in file order: each is rings on a Layer, at each of a list of shifts.
+///
+/// A boundary, a polygon or a rectangle is a shape of one ring, a path a shape of the rings of its
+/// bands. A shape takes no allocation of its own: a boundary at one place takes 24 bytes and its
+/// points. A list of shifts is kept once where shapes one after another have the same lattice.
+#[derive(Debug, Drop)]
+pub struct Shapes {
+    rings: Rings,
+    spans: Vec<Span>,
+    shifts: Vec<Offsets>,
+}
+
+impl Model for Shapes {
+    ghost use Rattle.std.specs.Prelude.{List};
+    ghost use Rattle.lvl_cells.specs.Cells.{PlainShape, Rings as Figure};
+    ghost use Rattle.lvl_cells.specs.inside.Spans.{shapes_from, AreShapes};
+
+    ghost Value = { List (PlainShape Figure) };
+
+    ghost view = { λ s. shapes_from 0 s.spans.items s.rings s.shifts.items };
+
+    ghost invariant = { λ s. AreShapes s.spans.items s.rings s.shifts.items };
+}
+
+/// How many rings the shapes before this index have.
+fn first_ring(spans: &[Span], i: usize) -> usize
+    requires { i < length spans.now }
+    ensures { result ≡ begin_of 0 (ends spans.now) i }
+{
+    if i == 0 {
+        return 0;
+    }
+    spans[i - 1].end as usize
+}
+
+/// A count as a span keeps it. No cell has 2^32 rings or lists of shifts: there is no memory for
+/// them (own rule).
+fn kept_count(count: usize) -> Result<u32, AllocError>
+    ensures { IfOk result (λ kept. (kept ≡ count) × (kept < 2 ^ 32)) }
+{
+    u32::try_from(count).map_err(|_| AllocError)
+}
+
+/// The sum of two counts, as a span keeps it.
+fn kept_sum(count: usize, more: usize) -> Result<u32, AllocError>
+    ensures { IfOk result (λ kept. (kept ≡ count + more) × (kept < 2 ^ 32)) }
+{
+    match count.checked_add(more) {
+        Some(sum) => kept_count(sum),
+        None => Err(AllocError),
+    }
+}
+
+/// The number of the shifts among those that are kept, to which they are added if need be.
+fn number_of(kept: &mut Vec<Offsets>, shifts: &Offsets) -> Result<u32, AllocError>
+    ensures number { IfOk result (λ number. HasNumber kept.new.items number shifts.now) }
+    ensures before { GoesOn kept.old.items kept.new.items }
+{
+    if shifts.is_single() {
+        return Ok(0);
+    }
+    if let Some(last) = kept.last() {
+        if last.is_same_lattice(shifts) {
+            return kept_count(kept.len());
+        }
+    }
+    kept.push(shifts.clone()?)?;
+    kept_count(kept.len())
+}
+
+impl Shapes {
+    /// No shapes.
+    pub fn new(alloc: Global) -> Shapes
+        ensures { result ≡ [] }
+    {
+        Shapes {
+            rings: Rings::new(alloc),
+            spans: Vec::new(alloc),
+            shifts: Vec::new(alloc),
+        }
+    }
+
+    /// How many there are.
+    pub fn len(&self) -> usize
+        ensures { result ≡ length self.now }
+    {
+        self.spans.len()
+    }
+
+    /// Whether there is none.
+    pub fn is_empty(&self) -> bool
+        ensures { IsTrue result ↔ (self.now ≡ []) }
+    {
+        self.len() == 0
+    }
+
+    /// The Layer of the shape at this index.
+    pub fn layer(&self, i: usize) -> Layer
+        requires { i < length self.now }
+        ensures { result ≡ (shape_at self.now i).layer }
+    {
+        self.spans[i].layer
+    }
+
+    /// How many rings the shape at this index has.
+    pub fn ring_count(&self, i: usize) -> usize
+        requires { i < length self.now }
+        ensures { result ≡ length (shape_at self.now i).figure }
+    {
+        let start = first_ring(&self.spans, i);
+        self.spans[i].end as usize - start
+    }
+
+    /// The points of a ring of the shape at this index, both by their indexes.
+    pub fn ring(&self, i: usize, j: usize) -> &[Point]
+        requires shape { i < length self.now }
+        requires ring { j < length (shape_at self.now i).figure }
+        ensures value { result.now ≡ get_or (shape_at self.now i).figure j [] }
+        ensures ring { IsRing result.now }
+    {
+        let start = first_ring(&self.spans, i);
+        self.rings.ring(start + j)
+    }
+
+    /// At how many shifts the shape at this index is drawn.
+    pub fn shift_count(&self, i: usize) -> u64
+        requires { i < length self.now }
+        ensures { result ≡ length (shape_at self.now i).shifts }
+    {
+        match self.spans[i].shifts {
+            0 => 1,
+            number => self.shifts[number as usize - 1].len(),
+        }
+    }
+
+    /// One of the shifts of the shape at this index, by its own index; None past the last.
+    pub fn shift(&self, i: usize, k: u64) -> Option<Point>
+        requires { i < length self.now }
+        ensures { result ≡ slice_get (shape_at self.now i).shifts k }
+    {
+        match self.spans[i].shifts {
+            0 => Offsets::single().at(k),
+            number => self.shifts[number as usize - 1].at(k),
+        }
+    }
+
+    /// Adds a shape of one ring.
+    pub fn push_ring(
+        &mut self,
+        layer: Layer,
+        ring: &[Point],
+        shifts: &Offsets,
+    ) -> Result<(), AllocError>
+        requires { IsRing ring.now }
+        ensures added { OnOk result (self.new ≡ self.old ++ record { layer = layer; figure = ring.now ∷ []; shifts = shifts.now } ∷ []) }
+        ensures kept { OnErr result (self.new ≡ self.old) }
+    {
+        let number = number_of(&mut self.shifts, shifts)?;
+        let end = kept_sum(self.rings.len(), 1)?;
+        self.spans.reserve(1)?;
+        self.rings.push(ring)?;
+        self.spans.push_reserved(Span {
+            layer,
+            end,
+            shifts: number,
+        });
+        Ok(())
+    }
+
+    /// Adds a shape of these rings.
+    pub fn push_rings(
+        &mut self,
+        layer: Layer,
+        rings: &[Ring],
+        shifts: &Offsets,
+    ) -> Result<(), AllocError>
+        ensures added { OnOk result (self.new ≡ self.old ++ record { layer = layer; figure = rings.now; shifts = shifts.now } ∷ []) }
+        ensures kept { OnErr result (self.new ≡ self.old) }
+    {
+        let number = number_of(&mut self.shifts, shifts)?;
+        let end = kept_sum(self.rings.len(), rings.len())?;
+        self.spans.reserve(1)?;
+        self.rings.push_all(rings)?;
+        self.spans.push_reserved(Span {
+            layer,
+            end,
+            shifts: number,
+        });
+        Ok(())
+    }
+}
