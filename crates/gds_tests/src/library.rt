@@ -2,8 +2,8 @@
 //! how a reader cuts the bytes nor where it fails.
 ghost use Rattle.std.specs.Prelude.{Some, None};
 
-use gds_records::fake::{ONE, SQUARE, Stream};
 use gds_library::{ElementRule, GdsFault, GdsHead, GdsKind, Misplaced, RecordFault, read_gds};
+use gds_records::fake::{ONE, SQUARE, Stream};
 use lvl_cells::{Layer, Library};
 use lvl_grid::Point;
 use lvl_io::fake::Pieces;

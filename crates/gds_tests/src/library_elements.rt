@@ -1,7 +1,7 @@
 //! Elements in streams: what is read of each, and the offset of the record that is refused.
 
-use gds_records::fake::{SQUARE, Stream};
 use gds_library::{ElementRule, GdsFault, GdsKind, Misplaced, read_gds};
+use gds_records::fake::{SQUARE, Stream};
 use gds_records::record_type;
 use lvl_cells::{CellFault, Library, Reference, check};
 use lvl_grid::{Point, Turn};

@@ -115,7 +115,11 @@ fn words_of(rt: &HostRuntime) -> Result<Vec<String>, u8> {
     let words = match env::args(rt) {
         Ok(words) => words,
         Err(error) if error.kind() == ErrorKind::InvalidData => {
-            return Err(end(rt, "lvl: a word of the command line is not UTF-8 text", BAD_LINE));
+            return Err(end(
+                rt,
+                "lvl: a word of the command line is not UTF-8 text",
+                BAD_LINE,
+            ));
         }
         Err(_) => return Err(end(rt, "lvl: out of memory", BAD_LINE)),
     };

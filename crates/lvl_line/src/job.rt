@@ -12,7 +12,10 @@ pub enum Job {
         top_b: Option<String>,
     },
     /// A file to be shown, with the name of its top cell where one is given.
-    Show { file: String, top: Option<String> },
+    Show {
+        file: String,
+        top: Option<String>,
+    },
 }
 
 /// Why a line asks for nothing that can be done.

@@ -10,6 +10,5 @@ pub use parse::parse_line;
 mod command;
 mod job;
 mod parse;
-
 #[cfg(test)]
 mod tests;

@@ -57,19 +57,49 @@ fn words_of(alloc: Global, line: &'static str) -> Result<Vec<&'static str>, Allo
 
 static LINES: [(&str, Asks<'static>); 18] = [
     ("lvl compare a b", Asks::Compare("a", "b", None, None)),
-    ("lvl compare a b --top-a X --top-b Y", Asks::Compare("a", "b", Some("X"), Some("Y"))),
-    ("lvl compare --top-b=Y a --top-a=-X b", Asks::Compare("a", "b", Some("-X"), Some("Y"))),
-    ("lvl compare a b --top-a=", Asks::Compare("a", "b", Some(""), None)),
-    ("lvl compare -- -a --top", Asks::Compare("-a", "--top", None, None)),
+    (
+        "lvl compare a b --top-a X --top-b Y",
+        Asks::Compare("a", "b", Some("X"), Some("Y")),
+    ),
+    (
+        "lvl compare --top-b=Y a --top-a=-X b",
+        Asks::Compare("a", "b", Some("-X"), Some("Y")),
+    ),
+    (
+        "lvl compare a b --top-a=",
+        Asks::Compare("a", "b", Some(""), None),
+    ),
+    (
+        "lvl compare -- -a --top",
+        Asks::Compare("-a", "--top", None, None),
+    ),
     ("lvl show a", Asks::Show("a", None)),
     ("lvl show --top X a", Asks::Show("a", Some("X"))),
     ("lvl", Asks::Nothing(ErrorKind::MissingSubcommand)),
-    ("lvl compare a", Asks::Nothing(ErrorKind::MissingRequiredArgument)),
-    ("lvl compare a b c", Asks::Nothing(ErrorKind::UnknownArgument)),
-    ("lvl compare a b --top-a", Asks::Nothing(ErrorKind::InvalidValue)),
-    ("lvl compare a b --top X", Asks::Nothing(ErrorKind::UnknownArgument)),
-    ("lvl show a --top X --top Y", Asks::Nothing(ErrorKind::ArgumentConflict)),
-    ("lvl comparing a b", Asks::Nothing(ErrorKind::InvalidSubcommand)),
+    (
+        "lvl compare a",
+        Asks::Nothing(ErrorKind::MissingRequiredArgument),
+    ),
+    (
+        "lvl compare a b c",
+        Asks::Nothing(ErrorKind::UnknownArgument),
+    ),
+    (
+        "lvl compare a b --top-a",
+        Asks::Nothing(ErrorKind::InvalidValue),
+    ),
+    (
+        "lvl compare a b --top X",
+        Asks::Nothing(ErrorKind::UnknownArgument),
+    ),
+    (
+        "lvl show a --top X --top Y",
+        Asks::Nothing(ErrorKind::ArgumentConflict),
+    ),
+    (
+        "lvl comparing a b",
+        Asks::Nothing(ErrorKind::InvalidSubcommand),
+    ),
     ("lvl --help", Asks::Nothing(ErrorKind::DisplayHelp)),
     ("lvl show --help", Asks::Nothing(ErrorKind::DisplayHelp)),
     ("lvl help", Asks::Nothing(ErrorKind::DisplayHelp)),

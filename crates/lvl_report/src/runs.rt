@@ -26,15 +26,15 @@ pub fn run<A: Read, B: Read, W: Write>(
 ) -> Result<Status, RunFault>
     ensures written { IfOk result (IsWritten
         (IsComparedBy (input (A.remaining first.old) (A.remaining first.new)
-            (A.read_errors first.old) (A.read_errors first.new) (given_name tops.now.first))
+        (A.read_errors first.old) (A.read_errors first.new) (given_name tops.now.first))
         (input (B.remaining second.old) (B.remaining second.new)
-            (B.read_errors second.old) (B.read_errors second.new) (given_name tops.now.second)))
+        (B.read_errors second.old) (B.read_errors second.new) (given_name tops.now.second)))
         text_of status_of (W.contents out.old) (W.contents out.new)) }
     ensures begun { OnErr result (IsBegun
         (IsComparedBy (input (A.remaining first.old) (A.remaining first.new)
-            (A.read_errors first.old) (A.read_errors first.new) (given_name tops.now.first))
+        (A.read_errors first.old) (A.read_errors first.new) (given_name tops.now.first))
         (input (B.remaining second.old) (B.remaining second.new)
-            (B.read_errors second.old) (B.read_errors second.new) (given_name tops.now.second)))
+        (B.read_errors second.old) (B.read_errors second.new) (given_name tops.now.second)))
         text_of (W.contents out.old) (W.contents out.new)) }
     ensures nothing { result ≡ Err RunFault.OutOfMemory → Keeps (W.contents out.old) (W.contents out.new) }
     ensures errors { CountsFailure (W.write_errors out.old) (W.write_errors out.new) (is_output result) }
@@ -56,11 +56,11 @@ pub fn run_show<R: Read, W: Write>(
 ) -> Result<Status, RunFault>
     ensures written { IfOk result (IsWritten
         (IsShownBy (input (R.remaining reader.old) (R.remaining reader.new)
-            (R.read_errors reader.old) (R.read_errors reader.new) (option_copied top.entry)))
+        (R.read_errors reader.old) (R.read_errors reader.new) (option_copied top.entry)))
         text_of_shown shown_status (W.contents out.old) (W.contents out.new)) }
     ensures begun { OnErr result (IsBegun
         (IsShownBy (input (R.remaining reader.old) (R.remaining reader.new)
-            (R.read_errors reader.old) (R.read_errors reader.new) (option_copied top.entry)))
+        (R.read_errors reader.old) (R.read_errors reader.new) (option_copied top.entry)))
         text_of_shown (W.contents out.old) (W.contents out.new)) }
     ensures nothing { result ≡ Err RunFault.OutOfMemory → Keeps (W.contents out.old) (W.contents out.new) }
     ensures errors { CountsFailure (W.write_errors out.old) (W.write_errors out.new) (is_output result) }

@@ -35,10 +35,13 @@ forgotten_more es at i old cs new d lt within h is =
             let same : get_or new r (pos 0) ≡ get_or cs r (pos 0) = rw is (get_or-set_other cs ring r (pos 0) (pos 0) off) in
             elim (h.each r (omega (arith, long, short))) [
               | inl zero ↦ inl (same ∙ zero)
-              | inr old ↦ inr (same ∙ old.0, λ k c near. elim (cases_lt k i) [
-                | inl before ↦ old.1 k c before
-                | inr last ↦ λ e. off (sym (ring_at es i k c d within (omega (arith, near, last)) ∙ e))
-              ])
+              | inr old ↦ inr (
+                same ∙ old.0,
+                λ k c near. elim (cases_lt k i) [
+                  | inl before ↦ old.1 k c before
+                  | inr last ↦ λ e. off (sym (ring_at es i k c d within (omega (arith, near, last)) ∙ e))
+                ],
+              )
             ]
       ];
     }

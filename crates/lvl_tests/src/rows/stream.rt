@@ -1,7 +1,6 @@
 //! GDSII streams made record by record.
 
 pub use gds_records::fake::Stream;
-
 use gds_records::record_type;
 use std::alloc::{AllocError, Global};
 
@@ -24,11 +23,7 @@ pub const VECTOR: [u8; 168] = [
 ];
 
 /// A cell placed at (0, 0), reflected and turned by the angle, if there is one.
-pub fn place(
-    stream: &mut Stream,
-    name: &[u8],
-    reflected: Option<&[u8]>,
-) -> Result<(), AllocError> {
+pub fn place(stream: &mut Stream, name: &[u8], reflected: Option<&[u8]>) -> Result<(), AllocError> {
     stream.record(record_type::SREF, 0, b"")?;
     stream.record(record_type::SNAME, 6, name)?;
     if let Some(angle) = reflected {
