@@ -67,10 +67,7 @@ fn is_scheme(byte: u8) -> bool
 }
 
 // The offsets of tables, if they are here, and the length of the padding.
-fn read_padding_length<R: Read>(
-    input: &mut Input<R>,
-    has_offsets: bool,
-) -> Result<u64, ValueFault>
+fn read_padding_length<R: Read>(input: &mut Input<R>, has_offsets: bool) -> Result<u64, ValueFault>
     requires { has_failed input.old ≡ false }
     ensures reads { Reads R.remaining R.read_errors R.lent
         (IsPaddingLength has_offsets) input.old input.new (as_breach result) }
@@ -80,10 +77,7 @@ fn read_padding_length<R: Read>(
 }
 
 // The same, with the bytes that it took.
-fn read_padding<R: Read>(
-    input: &mut Input<R>,
-    has_offsets: bool,
-) -> Result<Measured, ValueFault>
+fn read_padding<R: Read>(input: &mut Input<R>, has_offsets: bool) -> Result<Measured, ValueFault>
     requires { has_failed input.old ≡ false }
     ensures reads { Reads R.remaining R.read_errors R.lent
         (Sized (IsPaddingLength has_offsets)) input.old input.new (as_breach result) }

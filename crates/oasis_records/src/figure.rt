@@ -12,9 +12,13 @@ use oasis_values::{Input, Repetition, ValueFault};
 use std::alloc::Global;
 
 const LAYER: u8 = 0x01;
+
 const DATATYPE: u8 = 0x02;
+
 const REPETITION: u8 = 0x04;
+
 const Y: u8 = 0x08;
+
 const X: u8 = 0x10;
 
 /// The layer and the datatype of a figure.

@@ -20,6 +20,7 @@ use oasis_values::{Input, Use, ValueFault};
 use std::alloc::Global;
 
 const HALF_WIDTH: u8 = 0x40;
+
 const ENDS: u8 = 0x80;
 
 /// The four highest bits of the scheme byte are reserved.

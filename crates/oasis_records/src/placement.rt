@@ -17,9 +17,13 @@ use oasis_values::{Input, Real, ValueFault};
 use std::alloc::Global;
 
 const CELL: u8 = 0x80;
+
 const NUMBER: u8 = 0x40;
+
 const MAGNIFICATION: u8 = 0x04;
+
 const ANGLE: u8 = 0x02;
+
 const FLIP: u8 = 0x01;
 
 /// How a placed cell is turned, counterclockwise, after it is reflected.

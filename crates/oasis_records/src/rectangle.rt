@@ -17,7 +17,9 @@ use oasis_values::{Input, ValueFault};
 use std::alloc::Global;
 
 const HEIGHT: u8 = 0x20;
+
 const WIDTH: u8 = 0x40;
+
 const SQUARE: u8 = 0x80;
 
 /// A RECTANGLE record, in grid steps.

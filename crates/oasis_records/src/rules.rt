@@ -7,11 +7,7 @@ use lvl_refusal::Refusal;
 use oasis_values::ValueFault;
 
 /// The value, where the rule is kept.
-pub(crate) fn must<T: Drop>(
-    is_kept: bool,
-    value: T,
-    rule: RecordRule,
-) -> Result<T, RecordFault>
+pub(crate) fn must<T: Drop>(is_kept: bool, value: T, rule: RecordRule) -> Result<T, RecordFault>
     ensures { told_breach result ≡ Ok (obeyed is_kept value rule) }
 {
     if is_kept {

@@ -67,10 +67,7 @@ fn read_version_text<R: Read>(
 }
 
 // The version, which is `1.0`.
-fn read_version<R: Read>(
-    input: &mut Input<R>,
-    alloc: Global,
-) -> Result<Name, Refusal<RecordFault>>
+fn read_version<R: Read>(input: &mut Input<R>, alloc: Global) -> Result<Name, Refusal<RecordFault>>
     ensures reads { Reads R.remaining R.read_errors R.lent IsVersion input.old input.new (told result) }
 {
     let text = read_version_text(input, alloc)?;
