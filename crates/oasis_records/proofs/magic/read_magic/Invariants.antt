@@ -1,4 +1,4 @@
-use Rattle.std.proofs.Common.{◌≡◌, ℕ, ◌<◌, false, drop, Result}
+use Rattle.std.proofs.Common.{◌≡◌, ◌<◌, false, drop, Result}
 use Rattle.lvl_refusal.specs.declared.Refusal.{Refusal}
 use Rattle.oasis_values.specs.Input.{has_failed}
 use Rattle.oasis_values.specs.Reads.{Reads}
