@@ -1,6 +1,6 @@
 -- Each spelling is free of prefixes, and can say something.
-use Rattle.std.proofs.Common.{ℕ, Bool, true, false, List, Result, Ok, Err}
-use Rattle.std.specs.Prelude.{Option, Some, None}
+use Rattle.std.proofs.Common.{ℕ, Bool, true, false, List, Result, Ok}
+use Rattle.std.specs.Prelude.{Some}
 use Rattle.lvl_io.specs.Spelling.{IsPrefixFree, CanSay, Gives, Then}
 use Rattle.lvl_io.proofs.Spelling.{gives_free, gives_said, then_free, then_said}
 use Rattle.oasis_values.specs.Known.{Known, Seen, among}

@@ -4,3 +4,4 @@ pub mod Shapes
 pub mod Others
 pub mod Sizes
 pub mod Whole
+pub mod Strings

@@ -1,9 +1,9 @@
 -- Calls one after another, of which the first has rules of records.
-use Rattle.std.proofs.Common.{◌≡◌, ℕ, Bool, true, false, List, Result, Ok, Err, refl, sym, subst}
-use Rattle.std.specs.Prelude.{Option, Some}
+use Rattle.std.proofs.Common.{◌≡◌, ℕ, Bool, false, List, Result, Ok, Err, sym, subst}
+use Rattle.std.specs.Prelude.{Option}
 use Rattle.std.specs.Borrow.{GName}
-use Rattle.lvl_io.specs.Spelling.{IsPrefixFree, CanSay, Gives, Then}
-use Rattle.lvl_io.proofs.Spelling.{gives_free, gives_said, breached_none, front_only}
+use Rattle.lvl_io.specs.Spelling.{IsPrefixFree}
+use Rattle.lvl_io.proofs.Spelling.{breached_none, front_only}
 use Rattle.lvl_refusal.specs.declared.Refusal.{Refusal}
 use Rattle.lvl_refusal.specs.declared.Refusal.TheVariants.{Breach, OutOfMemory}
 use Rattle.oasis_values.specs.Known.{Seen}

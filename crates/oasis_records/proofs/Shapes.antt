@@ -2,9 +2,9 @@
 use Rattle.std.proofs.Common.{ℕ, Bool, true, false, Ok}
 use Rattle.oasis_values.specs.declared.point_list.Use.TheVariants.{Polygon as ForPolygon, Path as ForPath}
 use Rattle.oasis_records.specs.Fields.{has, IsInfo}
-use Rattle.oasis_records.specs.Rectangles.{rectangle, IsRectangleInfo, IsRectangleOf, IsRectangle}
+use Rattle.oasis_records.specs.Rectangles.{rectangle, IsRectangleOf, IsRectangle}
 use Rattle.oasis_records.specs.Polygons.{polygon, IsPolygonOf, IsPolygon}
-use Rattle.oasis_records.specs.Paths.{kind_of, IsExtension, ends, AreEndsOf, some_ends, AreEnds, AreEndsIf, IsStrokeOf, IsStroke, path, IsPathOf, IsPath}
+use Rattle.oasis_records.specs.Paths.{IsExtension, ends, AreEndsOf, some_ends, AreEnds, AreEndsIf, IsStrokeOf, path, IsPathOf, IsPath}
 use Rattle.oasis_records.specs.declared.path.Extension.TheVariants.{Explicit}
 use Rattle.oasis_records.specs.declared.path.Kind.{Kind}
 use Rattle.oasis_records.specs.declared.path.Kind.TheVariants.{Modal as OfModal, Flush as OfFlush, HalfWidth as OfHalfWidth, Explicit as OfExplicit}

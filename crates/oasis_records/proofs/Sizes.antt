@@ -6,7 +6,7 @@ use Rattle.lvl_io.specs.Spelling.{IsPrefixFree, CanSay, IsBegun}
 use Rattle.lvl_refusal.specs.declared.Refusal.{Refusal}
 use Rattle.lvl_refusal.specs.declared.Refusal.TheVariants.{Breach, OutOfMemory}
 use Rattle.oasis_values.specs.Input.{input_offset, room_left}
-use Rattle.oasis_values.specs.Reads.{Breaks, Fails, Answers, Reads}
+use Rattle.oasis_values.specs.Reads.{Fails, Reads}
 use Rattle.oasis_values.specs.declared.fault.ValueFault.{ValueFault}
 use Rattle.oasis_values.specs.declared.input.Input.{Input}
 use Rattle.oasis_records.specs.Sizes.{Sized}

@@ -1,5 +1,5 @@
 -- Whole records: their spelling is free of prefixes, and they are read by an id and what comes after it.
-use Rattle.std.proofs.Common.{◌≡◌, ℕ, ◌==◌, Bool, true, false, List, [], ◌∷◌, Result, Ok, Err, sym, subst}
+use Rattle.std.proofs.Common.{◌≡◌, ℕ, ◌==◌, Bool, true, false, List, [], ◌∷◌, Result, Ok, subst}
 use Rattle.std.specs.Prelude.{Option}
 use Rattle.std.specs.Borrow.{GName}
 use Rattle.lvl_io.specs.Spelling.{Gives}
@@ -11,7 +11,7 @@ use Rattle.oasis_values.specs.declared.fault.ValueFault.{ValueFault}
 use Rattle.oasis_values.specs.declared.input.Input.{Input}
 use Rattle.oasis_values.proofs.Integers.{byte_free, byte_said}
 use Rattle.oasis_values.proofs.Reading.{reads_then, reads_nothing}
-use Rattle.oasis_records.specs.Ends.{IsPaddingLength, ArePadding, IsScheme, four, AreFour, signed, IsSignature, IsEnding, fits, IsEndOf, IsEnd}
+use Rattle.oasis_records.specs.Ends.{IsPaddingLength, ArePadding, IsScheme, four, AreFour, signed, IsSignature, IsEnding, IsEndOf, IsEnd}
 use Rattle.oasis_records.specs.Magic.{AreMagicBytes}
 use Rattle.oasis_records.specs.Records.{record_type, AreFields, IsRecord}
 use Rattle.oasis_records.specs.Sizes.{Sized}

@@ -7,7 +7,6 @@ use Rattle.oasis_values.specs.Known.{one_of, Seen}
 use Rattle.oasis_values.specs.Numbers.{IsByte}
 use Rattle.oasis_values.specs.Reals.{IsReal}
 use Rattle.oasis_values.specs.declared.fault.ValueFault.{ValueFault}
-use Rattle.oasis_values.specs.declared.number.Real.{Real}
 use Rattle.oasis_records.specs.Cells.{IsCellRef}
 use Rattle.oasis_records.specs.Fields.{has, If, IsPosition}
 use Rattle.oasis_records.specs.declared.cell.CellRef.{CellRef}

@@ -10,6 +10,7 @@ pub use cell::{CellName, CellRef};
 pub use end::Validation;
 pub use fault::{RecordFault, RecordRule};
 pub use figure::{OnLayer, Position};
+pub use magic::read_magic;
 pub use measured::{Measured, read_id};
 pub use path::{Ends, Extension, Path};
 pub use placement::{Placement, Transform};

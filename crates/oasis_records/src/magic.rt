@@ -39,3 +39,14 @@ fn read_magic_byte<R: Read>(input: &mut Input<R>, wanted: u8) -> Result<u8, Reco
     let byte = input.byte()?;
     must(is_byte(byte, wanted), byte, RecordRule::Magic)
 }
+
+/// The magic string that a file begins with. `Magic` is reported at the first byte that differs.
+pub fn read_magic<R: Read>(input: &mut Input<R>) -> Result<(), RecordFault>
+    ensures reads { Reads R.remaining R.read_errors R.lent IsMagic input.old input.new (told_breach result) }
+    ensures none { Denies R.remaining IsMagic input.old (told_breach result) }
+{
+    for n in 0..LEN {
+        let _byte = read_magic_byte(input, magic_byte(n))?;
+    }
+    Ok(())
+}
