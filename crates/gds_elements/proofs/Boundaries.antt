@@ -2,7 +2,6 @@
 use Rattle.std.proofs.Common.{◌≡◌, ◌==◌, ℕ, false, if◌then◌else◌, List, [], ◌∷◌, ◌++◌, map, Some, refl, sym, ap, ◌∙◌}
 use Rattle.std.proofs.Common.{subst}
 use Rattle.lvl_grid.specs.declared.point.Point.{Point}
-use Rattle.lvl_cells.specs.Cells.{Rings}
 use Rattle.gds_elements.specs.Types.{boundary, layer, datatype, xy, endel}
 use Rattle.lvl_grammar.specs.Order.{one}
 use Rattle.gds_elements.specs.Rec.{Rec, opener, field}
@@ -14,7 +13,7 @@ use Rattle.gds_elements.specs.declared.order.Next.TheVariants.{Goes, Ends, Nowhe
 use Rattle.gds_elements.specs.declared.boundary.Place.{Place}
 use Rattle.gds_elements.specs.declared.boundary.Place.TheVariants.{Layer, Datatype, Points}
 use Rattle.gds_elements.specs.declared.boundary.Boundary.{Boundary}
-use Rattle.gds_elements.specs.declared.element.Drawn.TheVariants.{Shape}
+use Rattle.gds_elements.specs.declared.element.Drawn.TheVariants.{Ring}
 use Rattle.lvl_grammar.specs.inside.After.{after_first}
 use Rattle.lvl_grammar.proofs.Orders.{at_type}
 use Rattle.gds_elements.proofs.Fields.{field_here, opener-snoc}
@@ -63,10 +62,10 @@ boundary_goes b b' piece r h a l d = record {
   layer = layer_more piece r b.layer b'.layer h.layer l d;
 }
 
-pub boundary_ends : (b : Boundary) (piece : List Rec) (r : Rec) (rings : Rings) (shifts : List Point)
+pub boundary_ends : (b : Boundary) (piece : List Rec) (r : Rec) (ring : List Point)
     → IsBoundary b piece → after b.place r.kind ≡ Ends
-    → rings ≡ but_last (points r.payload) ∷ [] → shifts ≡ one_place → IsAtEnd (Shape (record { layer = b.layer; figure = rings; shifts = shifts })) (piece ++ r ∷ [])
-boundary_ends b piece r rings shifts h a e f =
+    → ring ≡ but_last (points r.payload) → IsAtEnd (Ring b.layer ring) (piece ++ r ∷ [])
+boundary_ends b piece r ring h a e =
     let new = piece ++ r ∷ [] in
     let x : r.kind ≡ xy = ends_by b.place r.kind a in
     let o : opener new ≡ Some boundary = opener-snoc piece r boundary h.opened in
@@ -75,10 +74,10 @@ boundary_ends b piece r rings shifts h a e f =
       leads = leads_more piece r (left b.place) (one endel) h.leads (by_table b.place r.kind ∙ ap (left_behind left) a);
       drawn = record {
         shapes =
-            shape_same b.layer (layer_of new) rings (but_last (points (field xy new)) ∷ []) shifts one_place
+            shape_same b.layer (layer_of new) (ring ∷ []) (but_last (points (field xy new)) ∷ []) one_place one_place
             (h.layer ∙ sym (layer_kept piece r x))
-            (e ∙ sym (ap (λ p. but_last (points p) ∷ []) (field_here xy piece r (kind_test r xy x))))
-            f
+            (ap (λ (ps : List Point). ps ∷ []) e ∙ sym (ap (λ p. but_last (points p) ∷ []) (field_here xy piece r (kind_test r xy x))))
+            refl
             ∙ sym (ap (λ q. map in_rings (shapes_by q new)) o);
         references = sym (ap (λ q. references_by q new) o);
       };

@@ -3,6 +3,8 @@ use Rattle.std.proofs.Common.{◌≡◌, ◌≢◌, ◌==◌, ℕ, pos, false, i
 use Rattle.std.proofs.Common.{sym, ap, ◌∙◌, subst, inl, inr}
 use Rattle.std.specs.Prelude.{Option}
 use Rattle.std.specs.Ordering.{int_eq}
+use Rattle.std.specs.declared.alloc.Global.{Global}
+use Rattle.std.specs.declared.vec.Vec.{Vec}
 use Rattle.lvl_grid.specs.declared.point.Point.{Point}
 use Rattle.lvl_path.specs.Runs.{path_rings, IsLowestFault}
 use Rattle.lvl_cells.specs.Cells.{Rings}
@@ -22,7 +24,7 @@ use Rattle.gds_elements.specs.declared.order.Next.TheVariants.{Goes, Ends, Nowhe
 use Rattle.gds_elements.specs.declared.path.Place.{Place}
 use Rattle.gds_elements.specs.declared.path.Place.TheVariants.{Layer, Datatype, PathType, Width, Points}
 use Rattle.gds_elements.specs.declared.path.Path.{Path}
-use Rattle.gds_elements.specs.declared.element.Drawn.TheVariants.{Shape}
+use Rattle.gds_elements.specs.declared.element.Drawn.TheVariants.{Rings as PathRings}
 use Rattle.lvl_grammar.specs.inside.After.{after_first}
 use Rattle.lvl_grammar.proofs.Orders.{at_type}
 use Rattle.gds_elements.proofs.Fields.{field_read, field_here, field_there, last_read, opener-snoc}
@@ -125,11 +127,11 @@ end_kept piece r x =
 abbrev rings_at : List Point → ℕ → ℕ → Rings
 rings_at ps h e = path_rings ps (record { half = h; start = e; end = e })
 
-pub path_ends : (p : Path) (piece : List Rec) (r : Rec) (h : ℕ) (rings : Rings) (shifts : List Point)
+pub path_ends : (p : Path) (piece : List Rec) (r : Rec) (h : ℕ) (rings : Vec (List Point) Global)
     → IsPathRead p piece → after p.place r.kind ≡ Ends → p.half ≡ Some h
-    → rings ≡ rings_at (points r.payload) h (reach_at p.square h) → shifts ≡ one_place
-    → IsAtEnd (Shape (record { layer = p.layer; figure = rings; shifts = shifts })) (piece ++ r ∷ [])
-path_ends p piece r h rings shifts i a w e f =
+    → rings.items ≡ rings_at (points r.payload) h (reach_at p.square h)
+    → IsAtEnd (PathRings p.layer rings) (piece ++ r ∷ [])
+path_ends p piece r h rings i a w e =
     let new = piece ++ r ∷ [] in
     let x : r.kind ≡ xy = ends_by p.place r.kind a in
     let o : opener new ≡ Some path = opener-snoc piece r path i.opened in
@@ -138,12 +140,12 @@ path_ends p piece r h rings shifts i a w e f =
       leads = leads_more piece r (left p.place) (one endel) i.leads (by_table p.place r.kind ∙ ap (left_behind left) a);
       drawn = record {
         shapes =
-            shape_same p.layer (layer_of new) rings (rings_at (points (field xy new)) (half_of new) (end_of new)) shifts one_place
+            shape_same p.layer (layer_of new) rings.items (rings_at (points (field xy new)) (half_of new) (end_of new)) one_place one_place
             (i.layer ∙ sym (layer_kept piece r x))
             (e ∙ ap (λ q. rings_at (points q) h (reach_at p.square h)) (sym (field_here xy piece r (kind_test r xy x)))
             ∙ ap (λ n. rings_at (points (field xy new)) n (reach_at p.square h)) (half_is p piece h i w ∙ sym (half_kept piece r x))
             ∙ ap (λ n. rings_at (points (field xy new)) (half_of new) n) (reach_is p piece h i w ∙ sym (end_kept piece r x)))
-            f
+            refl
             ∙ sym (ap (λ q. map in_rings (shapes_by q new)) o);
         references = sym (ap (λ q. references_by q new) o);
       };

@@ -17,7 +17,7 @@ use crate::layer::read_layer;
 use crate::order::{Next, only, out_of_order};
 use crate::values::points;
 use gds_records::record_type;
-use lvl_cells::{Layer, Offsets, Shape};
+use lvl_cells::Layer;
 use lvl_grid::Ring;
 use lvl_refusal::Refusal;
 use std::alloc::Global;
@@ -83,21 +83,17 @@ impl Boundary {
                 Ok(State::Boundary(Boundary { place, layer }))
             }
             Next::Ends => {
-                let rings = rings_of(alloc, payload)?;
-                Ok(State::Drawn(Drawn::Shape(Shape {
-                    layer: self.layer,
-                    rings,
-                    shifts: Offsets::single(),
-                })))
+                let ring = ring_of(alloc, payload)?;
+                Ok(State::Drawn(Drawn::Ring(self.layer, ring)))
             }
             Next::Nowhere => Err(out_of_order(kind)),
         }
     }
 }
 
-/// The ring of a boundary's points but the last, alone.
-fn rings_of(alloc: Global, payload: &[u8]) -> Result<Vec<Ring>, Refusal<ElementFault>>
-    ensures value { IfOk result (λ v. v.items ≡ but_last (points payload.now) ∷ []) }
+/// The ring of a boundary's points but the last.
+fn ring_of(alloc: Global, payload: &[u8]) -> Result<Ring, Refusal<ElementFault>>
+    ensures value { IfOk result (λ ring. ring ≡ but_last (points payload.now)) }
     ensures allowed { OnOk result ((4 ≤ length (points payload.now)) × IsClosed (points payload.now)
         × All IsStraight (steps (points payload.now))) }
     ensures refused { IfErr result (λ e. Says e (Broken (IsRingFault (points payload.now)))) }
@@ -110,10 +106,8 @@ fn rings_of(alloc: Global, payload: &[u8]) -> Result<Vec<Ring>, Refusal<ElementF
     if last != points[0] {
         return Err(breach(ElementRule::NotClosed));
     }
-    let mut rings = Vec::with_capacity(alloc, 1)?;
     match Ring::new(points) {
-        Ok(ring) => rings.push(ring)?,
-        Err(_) => return Err(breach(ElementRule::Oblique)),
+        Ok(ring) => Ok(ring),
+        Err(_) => Err(breach(ElementRule::Oblique)),
     }
-    Ok(rings)
 }

@@ -15,15 +15,18 @@ use crate::path::Path;
 use crate::sref::Sref;
 use crate::text::Text;
 use gds_records::record_type;
-use lvl_cells::{Reference, Shape};
+use lvl_cells::{Layer, Reference};
+use lvl_grid::Ring;
 use lvl_refusal::Refusal;
 use std::alloc::Global;
 
 /// What a whole element draws.
 #[derive(Debug, Drop)]
 pub enum Drawn {
-    /// A boundary or a path.
-    Shape(Shape),
+    /// A boundary: its ring, on a Layer.
+    Ring(Layer, Ring),
+    /// A path: the rings of its bands, on a Layer.
+    Rings(Layer, Vec<Ring>),
     /// An SREF or an AREF.
     Reference(Reference),
     /// A text.

@@ -19,7 +19,7 @@ use crate::layer::read_layer;
 use crate::order::{Next, only, out_of_order};
 use crate::values::{long, points, short};
 use gds_records::record_type;
-use lvl_cells::{Layer, Offsets, Shape};
+use lvl_cells::Layer;
 use lvl_grid::Ring;
 use lvl_path::bands;
 use lvl_refusal::Refusal;
@@ -111,11 +111,7 @@ impl Path {
             }
             Next::Ends => {
                 let rings = bands_of(alloc, self.half, self.square, payload)?;
-                Ok(State::Drawn(Drawn::Shape(Shape {
-                    layer: self.layer,
-                    rings,
-                    shifts: Offsets::single(),
-                })))
+                Ok(State::Drawn(Drawn::Rings(self.layer, rings)))
             }
             Next::Nowhere => Err(out_of_order(kind)),
         }

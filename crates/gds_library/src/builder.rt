@@ -13,7 +13,7 @@ use crate::head::{GdsHead, two_reals};
 use crate::place::Place;
 use gds_elements::{Drawn, is_name, misplaced, name};
 use gds_records::record_type;
-use lvl_cells::{Builder as Cells, Library};
+use lvl_cells::{Builder as Cells, Library, Offsets};
 use lvl_refusal::Refusal;
 use std::alloc::Global;
 
@@ -123,7 +123,13 @@ impl Builder {
             → shown self.new ≡ on_last (with_drawn (shapes_in drawn) (references_in drawn)) (shown self.old)) }
     {
         match drawn {
-            Drawn::Shape(shape) => self.cells.add_shape(shape)?,
+            Drawn::Ring(layer, ring) => {
+                self.cells
+                    .add_ring(layer, ring.points(), &Offsets::single())?;
+            }
+            Drawn::Rings(layer, rings) => {
+                self.cells.add_rings(layer, &rings, &Offsets::single())?;
+            }
             Drawn::Reference(reference) => self.cells.add_reference(reference)?,
             Drawn::Nothing => {}
         }

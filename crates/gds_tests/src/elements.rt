@@ -4,7 +4,7 @@ ghost use Rattle.gds_elements.specs.inside.Formed.{IsFormed};
 
 use gds_elements::{Drawn, Element, ElementFault, ElementRule, Misplaced, Step};
 use gds_records::record_type as ty;
-use lvl_cells::{Layer, Reference, Shape};
+use lvl_cells::{Layer, Reference};
 use lvl_grid::{Point, Ring, Turn};
 use lvl_path::PathFault;
 use lvl_refusal::Refusal;
@@ -102,10 +102,17 @@ fn read(alloc: Global, lines: &[Line]) -> Result<Drawn, Stop> {
     Err(Stop::Incomplete)
 }
 
-fn shape(drawn: Result<Drawn, Stop>) -> Result<Shape, Fail> {
+fn ring(drawn: Result<Drawn, Stop>) -> Result<(Layer, Ring), Fail> {
     match drawn? {
-        Drawn::Shape(shape) => Ok(shape),
-        _ => Err(Fail::from("a shape")),
+        Drawn::Ring(layer, ring) => Ok((layer, ring)),
+        _ => Err(Fail::from("a ring")),
+    }
+}
+
+fn rings(drawn: Result<Drawn, Stop>) -> Result<Vec<Ring>, Fail> {
+    match drawn? {
+        Drawn::Rings(_, rings) => Ok(rings),
+        _ => Err(Fail::from("rings")),
     }
 }
 
@@ -150,16 +157,13 @@ fn a_boundary_is_its_ring(rt: HostRuntime) -> Result<(), Fail> {
         (ty::XY, Says::Points(&SQUARE)),
         END,
     ];
-    let shape = shape(read(rt.alloc(), &lines))?;
-    let layer = Layer {
+    let (layer, ring) = ring(read(rt.alloc(), &lines))?;
+    let want = Layer {
         layer: 32_767,
         datatype: 3,
     };
-    assert_eq!(rt; shape.layer, layer);
-    assert_eq!(rt; shape.shifts.len(), 1);
-    assert_eq!(rt; shape.rings.len(), 1);
-    let ring = shape.rings.first().ok_or("a ring")?;
-    assert!(rt; goes_along(ring, &[(0, 0), (10, 0), (10, 10), (0, 10)]));
+    assert_eq!(rt; layer, want);
+    assert!(rt; goes_along(&ring, &[(0, 0), (10, 0), (10, 10), (0, 10)]));
     Ok(())
 }
 
@@ -175,11 +179,11 @@ fn square_ends(rt: HostRuntime) -> Result<(), Fail> {
             (ty::XY, Says::Points(&CORNER)),
             END,
         ];
-        let shape = shape(read(rt.alloc(), &lines))?;
-        assert_eq!(rt; shape.rings.len(), 2);
-        let first = shape.rings.first().ok_or("a ring")?;
+        let rings = rings(read(rt.alloc(), &lines))?;
+        assert_eq!(rt; rings.len(), 2);
+        let first = rings.first().ok_or("a ring")?;
         assert!(rt; goes_along(first, &[(left, -2), (12, -2), (12, 2), (left, 2)]));
-        let second = shape.rings.get(1).ok_or("a ring")?;
+        let second = rings.get(1).ok_or("a ring")?;
         assert!(rt; goes_along(second, &[(8, -2), (12, -2), (12, top), (8, top)]));
     }
     Ok(())
@@ -259,7 +263,7 @@ fn growths(rt: HostRuntime) -> Result<(), Fail> {
         END,
     ];
     let drawn = read(rt.alloc(), &lines);
-    assert!(rt; matches!(drawn, Ok(Drawn::Shape(_)) | Err(Stop::OutOfMemory)));
+    assert!(rt; matches!(drawn, Ok(Drawn::Rings(..)) | Err(Stop::OutOfMemory)));
     let drawn = array(rt.alloc(), 3, 2, &[(0, 0), (30, 0), (0, 20)]);
     assert!(rt; matches!(drawn, Ok(Drawn::Reference(_)) | Err(Stop::OutOfMemory)));
     Ok(())

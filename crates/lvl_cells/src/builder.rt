@@ -4,7 +4,7 @@ ghost use Rattle.lvl_grid.specs.Winding.{IsRing};
 ghost use Rattle.lvl_cells.specs.Building.{no_cell, with_shape, with_reference};
 
 use crate::layer::Layer;
-use crate::library::{Cell, Library, Reference, Shape};
+use crate::library::{Cell, Library, Reference};
 use crate::offsets::Offsets;
 use crate::shapes::Shapes;
 use lvl_grid::{Point, Ring};
@@ -94,14 +94,6 @@ impl Builder {
         ensures kept { OnErr result (self.new ≡ self.old) }
     {
         self.current.shapes.push_rings(layer, rings, shifts)
-    }
-
-    /// Adds a shape to the open cell.
-    pub fn add_shape(&mut self, shape: Shape) -> Result<(), AllocError>
-        ensures added { OnOk result (self.new ≡ record { cells = self.old.cells; current = with_shape self.old.current shape }) }
-        ensures kept { OnErr result (self.new ≡ self.old) }
-    {
-        self.add_rings(shape.layer, &shape.rings, &shape.shifts)
     }
 
     /// Adds a reference to the open cell.

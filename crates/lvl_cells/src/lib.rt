@@ -12,7 +12,7 @@ pub use builder::Builder;
 pub use checked::{Checked, check};
 pub use fault::CellFault;
 pub use layer::Layer;
-pub use library::{Cell, Library, Reference, Shape};
+pub use library::{Cell, Library, Reference};
 pub use offsets::Offsets;
 pub use shapes::Shapes;
 

@@ -2,30 +2,10 @@
 ghost use Rattle.std.specs.Prelude.{◌≡◌, ◌↔◌, All, IsSome, IfSome};
 ghost use Rattle.lvl_grid.specs.Turn.{shifted, FitsPoint};
 
-use crate::layer::Layer;
 use crate::offsets::Offsets;
 use crate::shapes::Shapes;
-use lvl_grid::{Point, Ring, Turn};
+use lvl_grid::{Point, Turn};
 use std::marker::Model;
-
-/// A shape by itself, as a reader makes it: rings on a Layer, at each of the shifts. A cell keeps
-/// its shapes as [`Shapes`].
-///
-/// A boundary, a polygon or a rectangle is one ring, a path the rings of its bands.
-#[derive(Debug, Drop)]
-pub struct Shape {
-    pub layer: Layer,
-    pub rings: Vec<Ring>,
-    pub shifts: Offsets,
-}
-
-impl Model for Shape {
-    ghost use Rattle.lvl_cells.specs.Cells.{PlainShape, Rings};
-
-    ghost Value = { PlainShape Rings };
-
-    ghost view = { λ s. record { layer = s.layer; figure = s.rings.items; shifts = s.shifts } };
-}
 
 /// A cell by its name, reflected, turned, and placed at each of its places: `at`, moved by each
 /// of the shifts.

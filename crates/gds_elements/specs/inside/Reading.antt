@@ -1,11 +1,11 @@
 -- What an element has of the records that were read.
 use Rattle.std.specs.Prelude.{◌≡◌, ℕ, List, [], ◌∷◌, ◌++◌, map, Some, Result, Ok, Err}
-use Rattle.lvl_cells.specs.Cells.{PlainShape, PlainReference, Rings}
+use Rattle.lvl_cells.specs.Cells.{PlainShape, PlainReference, Rings as PlainRings}
 use Rattle.gds_elements.specs.Types.{endel}
 use Rattle.lvl_grammar.specs.Order.{one, IsWord}
 use Rattle.gds_elements.specs.Order.{an_element}
 use Rattle.gds_elements.specs.Rec.{Rec, kinds, opener}
-use Rattle.gds_elements.specs.Meaning.{shapes_of, references_of, in_rings}
+use Rattle.gds_elements.specs.Meaning.{one_place, shapes_of, references_of, in_rings}
 use Rattle.gds_elements.specs.Rules.{ElementBreaches, BreachesNone}
 use Rattle.lvl_refusal.specs.Refused.{Says}
 use Rattle.lvl_grammar.specs.inside.After.{LeadsTo}
@@ -17,7 +17,7 @@ use Rattle.gds_elements.specs.inside.Text.{IsTextRead}
 use Rattle.lvl_refusal.specs.declared.Refusal.{Refusal}
 use Rattle.gds_elements.specs.declared.fault.ElementFault.{ElementFault}
 use Rattle.gds_elements.specs.declared.element.Drawn.{Drawn}
-use Rattle.gds_elements.specs.declared.element.Drawn.TheVariants.{Shape, Reference, Nothing}
+use Rattle.gds_elements.specs.declared.element.Drawn.TheVariants.{Ring, Rings, Reference, Nothing}
 use Rattle.gds_elements.specs.declared.element.State.{State}
 use Rattle.gds_elements.specs.declared.element.State.TheVariants.{Boundary, Path, Sref, Aref, Text, Drawn as AtEnd}
 use Rattle.gds_elements.specs.declared.element.Element.{Element}
@@ -28,13 +28,15 @@ abbrev pub record_of : ℕ → ℕ → List ℕ → Rec
 record_of k d p = record { kind = k; data_type = d; payload = p }
 
 -- the shapes and the references that are drawn
-abbrev pub shapes_in : Drawn → List (PlainShape Rings)
-shapes_in (Shape s) = s ∷ []
+abbrev pub shapes_in : Drawn → List (PlainShape PlainRings)
+shapes_in (Ring layer ring) = record { layer = layer; figure = ring ∷ []; shifts = one_place } ∷ []
+shapes_in (Rings layer rings) = record { layer = layer; figure = rings.items; shifts = one_place } ∷ []
 shapes_in (Reference r) = []
 shapes_in Nothing = []
 
 abbrev pub references_in : Drawn → List PlainReference
-references_in (Shape s) = []
+references_in (Ring layer ring) = []
+references_in (Rings layer rings) = []
 references_in (Reference r) = r ∷ []
 references_in Nothing = []
 

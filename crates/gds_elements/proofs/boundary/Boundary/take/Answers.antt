@@ -19,13 +19,13 @@ returns-in_ok-layer-in-Goes c = λ piece d h.
     let b = boundary_goes c.args.self (record { place = c.in-Goes.place; layer = c.in_ok-layer-in-Goes.layer }) piece r h a e.layer e.datatype in
     (b, allowed piece r (leads_begins _ (left c.in-Goes.place) b.leads) (law_boundary piece r h.opened e.allowed (λ x. absurd (goes_on c.args.self.place c.in-Goes.place c.args.kind a x))))
 
-pub returns-in_ok-rings-in-Ends : goal.returns-in_ok-rings-in-Ends
-returns-in_ok-rings-in-Ends c = λ piece d h.
+pub returns-in_ok-ring-in-Ends : goal.returns-in_ok-ring-in-Ends
+returns-in_ok-ring-in-Ends c = λ piece d h.
     let r = record_of c.args.kind d c.args.payload.now in
     let a = sym c.after.ensures ∙ c.in-Ends.is in
-    let e = c.in_ok-rings-in-Ends.ensures in
+    let e = c.in_ok-ring-in-Ends.ensures in
     let x : c.args.kind ≡ xy = ends_by c.args.self.place c.args.kind a in
-    let b = boundary_ends c.args.self piece r c.in_ok-rings-in-Ends.rings.items c.single.result h a e.value c.single.ensures in
+    let b = boundary_ends c.args.self piece r c.in_ok-ring-in-Ends.ring h a e.value in
     (b, allowed piece r (leads_begins _ (one endel) b.leads) (law_boundary piece r h.opened (λ l. absurd (elim l [ inl y ↦ omega (arith, y, x) | inr y ↦ omega (arith, y, x) ])) (λ _. e.allowed)))
 
 pub returns-in-Nowhere : goal.returns-in-Nowhere
@@ -42,10 +42,10 @@ returns-in_err-layer-in-Goes c = λ piece d h.
     let e = c.in_err-layer-in-Goes.ensures.refused in
     takes_one piece r c.from_residual.result c.in_err-layer-in-Goes.field-0.0 LayerKind c.from_residual.ensures g e.0 (e.1, inl h.opened, e.2)
 
-pub returns-in_err-rings-in-Ends : goal.returns-in_err-rings-in-Ends
-returns-in_err-rings-in-Ends c = λ piece d h.
+pub returns-in_err-ring-in-Ends : goal.returns-in_err-ring-in-Ends
+returns-in_err-ring-in-Ends c = λ piece d h.
     let r = record_of c.args.kind d c.args.payload.now in
     let a = sym c.after.ensures ∙ c.in-Ends.is in
     let g = in_order piece r (left c.args.self.place) (one endel) h.leads (by_table c.args.self.place c.args.kind ∙ ap (left_behind left) a) in
-    takes_broken piece r c.from_residual-in_err-rings-in-Ends.result c.in_err-rings-in-Ends.field-0.0 (IsRingFault (points c.args.payload.now)) c.from_residual-in_err-rings-in-Ends.ensures g
-    (ring_fault piece r h.opened (ends_by c.args.self.place c.args.kind a)) c.in_err-rings-in-Ends.ensures.refused
+    takes_broken piece r c.from_residual-in_err-ring-in-Ends.result c.in_err-ring-in-Ends.field-0.0 (IsRingFault (points c.args.payload.now)) c.from_residual-in_err-ring-in-Ends.ensures g
+    (ring_fault piece r h.opened (ends_by c.args.self.place c.args.kind a)) c.in_err-ring-in-Ends.ensures.refused

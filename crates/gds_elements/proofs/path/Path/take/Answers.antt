@@ -43,7 +43,7 @@ returns-in_ok-rings-in-Ends c = λ piece d h.
     let e = c.in_ok-rings-in-Ends.ensures in
     let x : c.args.kind ≡ xy = ends_by c.args.self.place c.args.kind a in
     let known = some_of c.args.self.half e.width in
-    let b = path_ends c.args.self piece r known.0 c.in_ok-rings-in-Ends.rings.items c.single.result h a known.1 (e.value known.0 known.1) c.single.ensures in
+    let b = path_ends c.args.self piece r known.0 c.in_ok-rings-in-Ends.rings h a known.1 (e.value known.0 known.1) in
     let ok = e.allowed known.0 known.1 in
     let ok' = subst (λ (n : ℕ). IsPath ps (record { half = known.0; start = n; end = n })) (reach_is c.args.self piece known.0 h known.1) ok in
     let ok'' = subst (λ (n : ℕ). IsPath ps (record { half = n; start = end_of piece; end = end_of piece })) (half_is c.args.self piece known.0 h known.1) ok' in (

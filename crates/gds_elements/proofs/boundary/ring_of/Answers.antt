@@ -2,7 +2,7 @@ use Rattle.std.proofs.Common.{◌≡◌, ◌++◌, ◌∷◌, [], ◌∙◌, sym
 use Rattle.gds_elements.specs.Values.{points}
 use Rattle.gds_elements.proofs.Closing.{closed_last, last_closed, straight_steps, straight_edges, point_eq, point_ne}
 use Rattle.gds_elements.proofs.Closing.{no_fault}
-use Rattle.gds_elements.proofs.boundary.rings_of.Goals as goal
+use Rattle.gds_elements.proofs.boundary.ring_of.Goals as goal
 
 pub returns-then-ne-clause-refused : goal.returns-then-ne-clause-refused
 returns-then-ne-clause-refused c =
@@ -28,8 +28,8 @@ returns-in-Err-clause-refused c =
     let h = c.in-Err.ensures.err in
     rw c.breach-in-Err.ensures (n, last_closed ps qs z first e m same, λ s. no_fault qs c.in-Err.field-0 h (omega (arith, n, ap length e, length-append qs (z ∷ []))) (straight_edges ps qs z first e m same s))
 
-pub returns-clause-allowed : goal.returns-clause-allowed
-returns-clause-allowed c =
+pub returns-in-Ok-clause-allowed : goal.returns-in-Ok-clause-allowed
+returns-in-Ok-clause-allowed c =
     let ps = points c.args.payload.now in
     let qs = c.pop.new.self.items in
     let z = c.unwrap-last.result in
