@@ -1,9 +1,8 @@
 -- The counts of a walk that stops early, back at 0.
-use Rattle.std.proofs.Common.{◌≡◌, ◌≢◌, ℕ, ◌+◌, ◌<◌, ◌≤◌, false, ◌⊎◌, eqb, not, List, length, get_or, set, take, ℤ, pos, All, refl, sym, ◌∙◌, ap, arith, inl, inr}
-use Rattle.std.specs.Ordering.{int_eq}
+use Rattle.std.proofs.Common.{◌≡◌, ◌≢◌, ℕ, ◌+◌, ◌<◌, ◌≤◌, false, ◌⊎◌, eqb, List, length, get_or, set, take, ℤ, pos, All, refl, sym, ◌∙◌, ap, arith, inl, inr}
 use Rattle.std.proofs.lemmas.Bool.{cases_lt, cases_eq, cases_Bool, eqb-true}
 use Rattle.std.proofs.lemmas.List.{get_or_default, length-set, length-take, get_or-take, get_or-set_same, get_or-set_other}
-use Rattle.std.proofs.lemmas.List.Elements.{All-weaker, All-from_get_or}
+use Rattle.std.proofs.lemmas.List.Elements.{All-from_get_or}
 use Rattle.lvl_sweep.specs.declared.edge.Edge.{Edge}
 use Rattle.lvl_sweep.specs.Edges.{net}
 use Rattle.lvl_sweep.proofs.Winds.{silent}
@@ -35,10 +34,13 @@ forgotten_more es at i old cs new d lt within h is =
             let same : get_or new r (pos 0) ≡ get_or cs r (pos 0) = rw is (get_or-set_other cs ring r (pos 0) (pos 0) off) in
             elim (h.each r (omega (arith, long, short))) [
               | inl zero ↦ inl (same ∙ zero)
-              | inr old ↦ inr (same ∙ old.0, λ k c near. elim (cases_lt k i) [
-                | inl before ↦ old.1 k c before
-                | inr last ↦ λ e. off (sym (ring_at es i k c d within (omega (arith, near, last)) ∙ e))
-              ])
+              | inr old ↦ inr (
+                same ∙ old.0,
+                λ k c near. elim (cases_lt k i) [
+                  | inl before ↦ old.1 k c before
+                  | inr last ↦ λ e. off (sym (ring_at es i k c d within (omega (arith, near, last)) ∙ e))
+                ],
+              )
             ]
       ];
     }
