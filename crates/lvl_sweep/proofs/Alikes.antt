@@ -1,6 +1,6 @@
 -- What is told of the same edges, in whatever order.
 use Rattle.std.proofs.Common.{◌≡◌, ℕ, ◌<◌, ◌≤◌, Bool, true, false, ◌&&◌, not, cond, eqb, List, [], ◌∷◌, length, get_or, ℤ, pos, ◌<ℤ◌, int_lt, int_le, nat_lt, Option, None, Some, All, count_by, refl, sym, ◌∙◌, ap, arith, inl, inr}
-use Rattle.std.specs.List.{sum_by, filter}
+use Rattle.std.specs.List.{sum_by}
 use Rattle.std.proofs.lemmas.Int.{ints}
 use Rattle.std.proofs.lemmas.Bool.{cases_Bool}
 use Rattle.std.proofs.lemmas.Bool.Decides.{nat_tests}

@@ -1,6 +1,6 @@
 -- A sweep goes on to a row.
 use Rattle.std.proofs.Common.{◌≡◌, ℕ, ◌+◌, ◌-◌, ◌<◌, ◌≤◌, true, false, ◌&&◌, cond, List, length, get_or, take, drop, ℤ, pos, ◌<ℤ◌, ◌≤ℤ◌, int_lt, int_le, Option, All, refl, sym, ◌∙◌, arith, inl, inr, nat_lt}
-use Rattle.std.specs.List.{filter, sum_by, AllPairs, AllWithin}
+use Rattle.std.specs.List.{sum_by, AllWithin}
 use Rattle.std.specs.Global.{Vec}
 use Rattle.std.specs.List.Sorted.{IsPermutation}
 use Rattle.std.proofs.lemmas.Int.{ints}
@@ -13,7 +13,7 @@ use Rattle.std.proofs.lemmas.List.Sorted.{length_permutation, sum_by-IsPermutati
 use Rattle.lvl_sweep.specs.declared.edge.Edge.{Edge}
 use Rattle.lvl_sweep.specs.declared.strips.Strips.{Strips}
 use Rattle.lvl_sweep.specs.Edges.{IsBeginOf}
-use Rattle.lvl_sweep.specs.Alive.{alive, HasSame, IsNoLater}
+use Rattle.lvl_sweep.specs.Alive.{alive, HasSame}
 use Rattle.lvl_sweep.specs.Rows.{alive_at, row, row_at}
 use Rattle.lvl_sweep.specs.Walks.{IsRowOf}
 use Rattle.lvl_sweep.specs.Runs.{IsSameFrom, RiseWithin, IsEndOf, IsRenewed}

@@ -1,5 +1,5 @@
 -- Two runs of edges, merged by abscissa from their ends on, within the list that has both.
-use Rattle.std.proofs.Common.{◌≡◌, ◌≢◌, ℕ, ◌+◌, ◌-◌, ◌<◌, ◌≤◌, false, List, length, get_or, ℤ, pos, ◌<ℤ◌, ◌≤ℤ◌, Option, None, Some, IfSome, IfNone, sym, ◌∙◌, ap, arith, inl, inr, ◌⊎◌}
+use Rattle.std.proofs.Common.{◌≡◌, ◌≢◌, ℕ, ◌+◌, ◌-◌, ◌<◌, ◌≤◌, false, List, length, get_or, ℤ, pos, ◌<ℤ◌, ◌≤ℤ◌, Option, None, Some, IfSome, IfNone, sym, ◌∙◌, ap, arith, inl, inr}
 use Rattle.std.specs.List.{AllWithin, SwappedAt}
 use Rattle.std.proofs.lemmas.Int.{ints}
 use Rattle.std.proofs.lemmas.Bool.{cases_lt, cases_eq}
@@ -7,7 +7,7 @@ use Rattle.std.proofs.lemmas.List.{get_or_default}
 use Rattle.lvl_sweep.specs.declared.edge.Edge.{Edge}
 use Rattle.lvl_sweep.specs.declared.merge.Merge.{Merge}
 use Rattle.lvl_sweep.specs.Edges.{IsLower}
-use Rattle.lvl_sweep.specs.Runs.{IsSameWithin, IsSameFrom, RiseWithin, AreBefore, IsEndOf, IsMerging, AreFresh, AreActive}
+use Rattle.lvl_sweep.specs.Runs.{IsSameWithin, RiseWithin, AreBefore, IsEndOf, IsMerging, AreFresh, AreActive}
 
 nothing : Edge
 nothing = record { low = pos 0; x = pos 0; ring = 0; high = pos 0; up = false }

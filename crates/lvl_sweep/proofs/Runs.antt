@@ -4,13 +4,13 @@ use Rattle.std.specs.List.{AllWithin, SwappedAt}
 use Rattle.std.specs.List.Sorted.{IsPermutation}
 use Rattle.std.specs.Ordering.{int_cmp, is_lt}
 use Rattle.std.proofs.lemmas.Int.{ints}
-use Rattle.std.proofs.lemmas.Bool.{cases_lt, cases_eq}
+use Rattle.std.proofs.lemmas.Bool.{cases_lt}
 use Rattle.std.proofs.lemmas.List.{length-take, length-drop, length-append, get_or-take, get_or-drop}
 use Rattle.std.proofs.lemmas.List.Sorted.{All-permutation, IsPermutation-trans}
 use Rattle.std.proofs.lemmas.Slice.{take-put_mid_below, drop-put_mid, between-put_mid}
 use Rattle.lvl_sweep.specs.declared.edge.Edge.{Edge}
 use Rattle.lvl_sweep.specs.declared.merge.Merge.{Merge}
-use Rattle.lvl_sweep.specs.Runs.{IsSameWithin, IsSameFrom, RiseWithin, IsRenewed, IsMerging, IsEndOf}
+use Rattle.lvl_sweep.specs.Runs.{IsSameWithin, IsSameFrom, IsRenewed, IsMerging, IsEndOf}
 use Rattle.lvl_sweep.proofs.Orders.{second_by}
 use Rattle.lvl_sweep.proofs.Merges.{all_kept, rise_kept, part_of}
 

@@ -1,7 +1,7 @@
 -- Where the strip of a sweep ends.
-use Rattle.std.proofs.Common.{◌≡◌, ℕ, ◌+◌, ◌<◌, ◌≤◌, Bool, true, false, List, [], ◌∷◌, length, get_or, ℤ, ◌<ℤ◌, ◌≤ℤ◌, int_lt, Option, None, Some, All, count_by, refl, sym, ◌∙◌, ap, arith, inl, inr, zero, suc}
+use Rattle.std.proofs.Common.{◌≡◌, ℕ, ◌<◌, ◌≤◌, Bool, true, false, List, [], ◌∷◌, length, get_or, ℤ, ◌<ℤ◌, ◌≤ℤ◌, int_lt, Option, None, Some, All, count_by, refl, sym, ◌∙◌, ap, arith, inl, inr, zero, suc}
 use Rattle.std.specs.List.{AllWithin}
-use Rattle.std.proofs.lemmas.Int.{ints, by_lt_z}
+use Rattle.std.proofs.lemmas.Int.{ints}
 use Rattle.std.proofs.lemmas.Bool.{cases_lt}
 use Rattle.std.proofs.lemmas.List.{get_or_default}
 use Rattle.lvl_sweep.specs.declared.edge.Edge.{Edge}

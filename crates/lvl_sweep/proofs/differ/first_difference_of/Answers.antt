@@ -1,9 +1,7 @@
-use Rattle.std.proofs.Common.{◌↔◌, ℤ, Option, IfNone}
+use Rattle.std.proofs.Common.{◌↔◌, IfNone}
 use Rattle.std.proofs.lemmas.Result.{IfOk-weaker}
 use Rattle.lvl_grid.specs.declared.point.Square.{Square}
 use Rattle.lvl_grid.specs.Winding.{SomeCovers}
-use Rattle.lvl_region.specs.declared.region.Side.{Side}
-use Rattle.lvl_sweep.specs.Ahead.{IsUpTo}
 use Rattle.lvl_sweep.proofs.Lockstep.{in_all_rows}
 use Rattle.lvl_sweep.proofs.differ.first_difference_of.Goals as goal
 

@@ -1,4 +1,4 @@
-use Rattle.std.proofs.Common.{[], arith, rules}
+use Rattle.std.proofs.Common.{arith, rules}
 use Rattle.std.proofs.lemmas.List.Sorted.{answers_always}
 use Rattle.lvl_sweep.proofs.Orders.{in_order}
 use Rattle.lvl_sweep.proofs.Gathered.{one_gathered, all_gathered}

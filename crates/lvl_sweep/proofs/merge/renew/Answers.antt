@@ -1,7 +1,7 @@
-use Rattle.std.proofs.Common.{w64, refl, inr, ap, sym, ◌∙◌, arith}
+use Rattle.std.proofs.Common.{w64, refl}
 use Rattle.std.proofs.lemmas.Int.{to_z-of_z}
 use Rattle.std.proofs.lemmas.List.Sorted.{IsPermutation-trans}
-use Rattle.lvl_sweep.proofs.Runs.{all_ended, no_end}
+use Rattle.lvl_sweep.proofs.Runs.{no_end}
 use Rattle.lvl_sweep.proofs.merge.renew.Goals as goal
 
 pub run-requires : goal.run-requires

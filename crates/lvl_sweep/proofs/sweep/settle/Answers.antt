@@ -1,4 +1,4 @@
-use Rattle.std.proofs.Common.{w64, FitsSigned, rules, Some, ◌∙◌, sym, refl, arith}
+use Rattle.std.proofs.Common.{w64, FitsSigned, rules, Some, ◌∙◌, sym, arith}
 use Rattle.std.proofs.lemmas.Int.{to_z-of_z}
 use Rattle.lvl_sweep.specs.Alive.{HasSame}
 use Rattle.lvl_sweep.proofs.Alikes.{as_long, both_alike, bands_alike}

@@ -1,5 +1,4 @@
-use Rattle.std.proofs.Common.{w64, ◌∙◌}
-use Rattle.std.proofs.lemmas.Int.{to_z-of_z}
+use Rattle.std.proofs.Common.{◌∙◌}
 use Rattle.std.proofs.lemmas.List.Sorted.{IsPermutation-trans}
 use Rattle.lvl_sweep.proofs.merge.Merge.run.Goals as goal
 

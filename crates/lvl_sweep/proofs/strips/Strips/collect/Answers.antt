@@ -1,6 +1,5 @@
-use Rattle.std.proofs.Common.{◌≡◌, ◌≤◌, length, take, drop, ◌-◌, ◌∙◌, ap}
-use Rattle.lvl_sweep.specs.Rows.{row}
-use Rattle.lvl_sweep.proofs.Loads.{active, row_walked, row_here}
+use Rattle.std.proofs.Common.{◌∙◌}
+use Rattle.lvl_sweep.proofs.Loads.{row_walked, row_here}
 use Rattle.lvl_sweep.proofs.strips.Strips.collect.Goals as goal
 
 pub collect_row-requires-clause-row : goal.collect_row-requires-clause-row
