@@ -22,7 +22,8 @@ abbrev pub IsInfo : ℕ → List ℕ → Result (Result ℕ RecordRule) ValueFau
 IsInfo limit = Then IsByte (λ i. Must (nat_lt i limit) i Info)
 
 -- a field that is there, or not
-abbrev pub If : {A : Type 0} → Bool → (List ℕ → Result A ValueFault → Type 0) → List ℕ → Result (Option A) ValueFault → Type 0
+abbrev pub If : {A : Type 0} → Bool → (List ℕ → Result A ValueFault → Type 0) → List ℕ
+    → Result (Option A) ValueFault → Type 0
 If true S = Seen Some S
 If false S = Gives (Ok None)
 

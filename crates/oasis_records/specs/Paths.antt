@@ -17,7 +17,8 @@ use Rattle.oasis_records.specs.declared.path.Ends.{Ends}
 use Rattle.oasis_records.specs.declared.path.Extension.{Extension}
 use Rattle.oasis_records.specs.declared.path.Extension.TheVariants.{Modal, Flush, HalfWidth, Explicit}
 use Rattle.oasis_records.specs.declared.path.Kind.{Kind}
-use Rattle.oasis_records.specs.declared.path.Kind.TheVariants.{Modal as OfModal, Flush as OfFlush, HalfWidth as OfHalfWidth, Explicit as OfExplicit}
+use Rattle.oasis_records.specs.declared.path.Kind.TheVariants.{Modal as OfModal, Flush as OfFlush}
+use Rattle.oasis_records.specs.declared.path.Kind.TheVariants.{HalfWidth as OfHalfWidth, Explicit as OfExplicit}
 use Rattle.oasis_records.specs.declared.path.Stroke.{Stroke}
 use Rattle.oasis_records.specs.declared.record.Record.{Record}
 use Rattle.oasis_records.specs.declared.record.Record.TheVariants.{Path}

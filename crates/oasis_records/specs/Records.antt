@@ -18,7 +18,17 @@ use Rattle.oasis_records.specs.declared.fault.RecordRule.TheVariants.{Unsupporte
 use Rattle.oasis_records.specs.declared.record.Record.{Record}
 use Rattle.oasis_records.specs.declared.record.Record.TheVariants.{Pad, XyAbsolute, XyRelative}
 use Rattle.oasis_records.specs.declared.record_type.RecordType.{RecordType}
-use Rattle.oasis_records.specs.declared.record_type.RecordType.TheVariants.{Pad as OfPad, Start as OfStart, End as OfEnd, CellName as OfCellName, NumberedCellName as OfNumberedCellName, NumberedCell as OfNumberedCell, NamedCell as OfNamedCell, XyAbsolute as OfXyAbsolute, XyRelative as OfXyRelative, Placement as OfPlacement, ScaledPlacement as OfScaledPlacement, Rectangle as OfRectangle, Polygon as OfPolygon, Path as OfPath}
+use Rattle.oasis_records.specs.declared.record_type.RecordType.TheVariants.{Pad as OfPad, Start as OfStart}
+use Rattle.oasis_records.specs.declared.record_type.RecordType.TheVariants.{End as OfEnd, CellName as OfCellName}
+use Rattle.oasis_records.specs.declared.record_type.RecordType.TheVariants.{NumberedCellName as OfNumberedCellName}
+use Rattle.oasis_records.specs.declared.record_type.RecordType.TheVariants.{NumberedCell as OfNumberedCell}
+use Rattle.oasis_records.specs.declared.record_type.RecordType.TheVariants.{NamedCell as OfNamedCell}
+use Rattle.oasis_records.specs.declared.record_type.RecordType.TheVariants.{XyAbsolute as OfXyAbsolute}
+use Rattle.oasis_records.specs.declared.record_type.RecordType.TheVariants.{XyRelative as OfXyRelative}
+use Rattle.oasis_records.specs.declared.record_type.RecordType.TheVariants.{Placement as OfPlacement}
+use Rattle.oasis_records.specs.declared.record_type.RecordType.TheVariants.{ScaledPlacement as OfScaledPlacement}
+use Rattle.oasis_records.specs.declared.record_type.RecordType.TheVariants.{Rectangle as OfRectangle}
+use Rattle.oasis_records.specs.declared.record_type.RecordType.TheVariants.{Polygon as OfPolygon, Path as OfPath}
 
 -- the types of records by their ids
 abbrev pub types : List (ℕ × RecordType)
@@ -47,7 +57,8 @@ look_up (t ∷ ts) n = if n == t.0 then Ok t.1 else look_up ts n
 abbrev pub record_type : ℕ → Result RecordType RecordRule
 record_type = look_up types
 
--- the fields of a record of that type, after an id of so many bytes. The offsets of tables are in END where START says so
+-- the fields of a record of that type, after an id of so many bytes. The offsets of tables are in END where START
+-- says so
 abbrev pub AreFields : Bool → ℕ → RecordType → List ℕ → Result (Result Record RecordRule) ValueFault → Type 0
 AreFields at_end id_len OfPad = Gives (Ok (Ok Pad))
 AreFields at_end id_len OfStart = IsStart

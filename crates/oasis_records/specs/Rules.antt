@@ -1,4 +1,5 @@
--- The rules of records, beside those of values. What bytes say of a record is the record, or the rule that they breach; so
+-- The rules of records, beside those of values. What bytes say of a record is the record, or the rule that they
+-- breach; so
 -- it is a value of the bytes as any other, and the bytes taken are those that spell the record or breach the rule.
 use Rattle.std.specs.Prelude.{◌≡◌, Bool, true, false, ℕ, List, Option, Some, Result, Ok, Err}
 use Rattle.lvl_io.specs.Spelling.{Gives, Then, NoneAgrees}
@@ -43,17 +44,20 @@ abbrev pub Must : {A : Type 0} → Bool → A → RecordRule → List ℕ → Re
 Must b x k = Gives (Ok (obeyed b x k))
 
 -- after a breach nothing more is read
-abbrev pub UnlessRuled : {A B : Type 0} → (A → List ℕ → Result (Result B RecordRule) ValueFault → Type 0) → Result A RecordRule → List ℕ → Result (Result B RecordRule) ValueFault → Type 0
+abbrev pub UnlessRuled : {A B : Type 0} → (A → List ℕ → Result (Result B RecordRule) ValueFault → Type 0)
+    → Result A RecordRule → List ℕ → Result (Result B RecordRule) ValueFault → Type 0
 UnlessRuled T (Ok x) = T x
 UnlessRuled T (Err k) = Gives (Ok (Err k))
 
 -- one after another, where the first has rules of records
 abbrev pub AndThen : {A B : Type 0} → (List ℕ → Result (Result A RecordRule) ValueFault → Type 0)
-    → (A → List ℕ → Result (Result B RecordRule) ValueFault → Type 0) → List ℕ → Result (Result B RecordRule) ValueFault → Type 0
+    → (A → List ℕ → Result (Result B RecordRule) ValueFault → Type 0) → List ℕ
+    → Result (Result B RecordRule) ValueFault → Type 0
 AndThen S T = Then S (UnlessRuled T)
 
 -- what an answer says of the records that other bytes could spell: where a rule is breached, none agrees with these
-abbrev pub IsDenied : {A : Type 0} → (List ℕ → Result (Result A RecordRule) ValueFault → Type 0) → List ℕ → Result (Result A RecordRule) (Refusal ValueFault) → Type 0
+abbrev pub IsDenied : {A : Type 0} → (List ℕ → Result (Result A RecordRule) ValueFault → Type 0) → List ℕ
+    → Result (Result A RecordRule) (Refusal ValueFault) → Type 0
 IsDenied S xs (Ok (Ok x)) = Unit {0}
 IsDenied {A = A} S xs (Ok (Err k)) = (x : A) → NoneAgrees S xs (Ok (Ok x))
 IsDenied S xs (Err OutOfMemory) = Unit {0}

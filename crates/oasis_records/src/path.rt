@@ -3,7 +3,8 @@ ghost use Rattle.std.specs.Prelude.{◌≡◌, false};
 ghost use Rattle.oasis_values.specs.Faults.{as_breach};
 ghost use Rattle.oasis_values.specs.Input.{has_failed};
 ghost use Rattle.oasis_values.specs.Reads.{Reads};
-ghost use Rattle.oasis_records.specs.Paths.{kind_of, IsExtension, AreEndsOf, AreEnds, AreEndsIf, IsStrokeOf, IsStroke, IsPathOf, IsPath};
+ghost use Rattle.oasis_records.specs.Paths.{kind_of, IsExtension, AreEndsOf, AreEnds, AreEndsIf, IsStrokeOf};
+ghost use Rattle.oasis_records.specs.Paths.{IsStroke, IsPathOf, IsPath};
 ghost use Rattle.oasis_records.specs.Fields.{has};
 ghost use Rattle.oasis_records.specs.Rules.{told, told_breach};
 

@@ -4,7 +4,8 @@ ghost use Rattle.oasis_values.specs.Faults.{as_breach};
 ghost use Rattle.oasis_values.specs.Input.{has_failed};
 ghost use Rattle.oasis_values.specs.Reads.{Reads};
 ghost use Rattle.oasis_records.specs.Rules.{told, told_breach};
-ghost use Rattle.oasis_records.specs.Starts.{is_version, is_unit, is_here, AreOffsets, AreTables, IsVersion, IsVersionText, IsUnit, IsFlag, IsStartOf, IsStart};
+ghost use Rattle.oasis_records.specs.Starts.{is_version, is_unit, is_here, AreOffsets, AreTables, IsVersion};
+ghost use Rattle.oasis_records.specs.Starts.{IsVersionText, IsUnit, IsFlag, IsStartOf, IsStart};
 
 use crate::fault::{RecordFault, RecordRule};
 use crate::record::Record;
