@@ -77,7 +77,11 @@ impl Builder {
         shifts: &Offsets,
     ) -> Result<(), AllocError>
         requires { IsRing ring.now }
-        ensures added { OnOk result (self.new ≡ record { cells = self.old.cells; current = with_shape self.old.current (record { layer = layer; figure = ring.now ∷ []; shifts = shifts.now }) }) }
+        ensures added { OnOk result (self.new ≡ record {
+          cells = self.old.cells;
+          current = with_shape self.old.current
+              (record { layer = layer; figure = ring.now ∷ []; shifts = shifts.now });
+        }) }
         ensures kept { OnErr result (self.new ≡ self.old) }
     {
         self.current.shapes.push_ring(layer, ring, shifts)
@@ -90,7 +94,11 @@ impl Builder {
         rings: &[Ring],
         shifts: &Offsets,
     ) -> Result<(), AllocError>
-        ensures added { OnOk result (self.new ≡ record { cells = self.old.cells; current = with_shape self.old.current (record { layer = layer; figure = rings.now; shifts = shifts.now }) }) }
+        ensures added { OnOk result (self.new ≡ record {
+          cells = self.old.cells;
+          current = with_shape self.old.current
+              (record { layer = layer; figure = rings.now; shifts = shifts.now });
+        }) }
         ensures kept { OnErr result (self.new ≡ self.old) }
     {
         self.current.shapes.push_rings(layer, rings, shifts)

@@ -175,7 +175,8 @@ impl Shapes {
         shifts: &Offsets,
     ) -> Result<(), AllocError>
         requires { IsRing ring.now }
-        ensures added { OnOk result (self.new ≡ self.old ++ record { layer = layer; figure = ring.now ∷ []; shifts = shifts.now } ∷ []) }
+        ensures added { OnOk result (self.new ≡ self.old
+            ++ record { layer = layer; figure = ring.now ∷ []; shifts = shifts.now } ∷ []) }
         ensures kept { OnErr result (self.new ≡ self.old) }
     {
         let number = number_of(&mut self.shifts, shifts)?;
@@ -197,7 +198,8 @@ impl Shapes {
         rings: &[Ring],
         shifts: &Offsets,
     ) -> Result<(), AllocError>
-        ensures added { OnOk result (self.new ≡ self.old ++ record { layer = layer; figure = rings.now; shifts = shifts.now } ∷ []) }
+        ensures added { OnOk result (self.new ≡ self.old
+            ++ record { layer = layer; figure = rings.now; shifts = shifts.now } ∷ []) }
         ensures kept { OnErr result (self.new ≡ self.old) }
     {
         let number = number_of(&mut self.shifts, shifts)?;
