@@ -22,9 +22,6 @@ use Rattle.lvl_sweep.proofs.BandLists.{bands_same}
 nothing : Edge
 nothing = record { low = pos 0; x = pos 0; ring = 0; high = pos 0; up = false }
 
-pub turned_round : (es fs : List Edge) → HasSame es fs → HasSame fs es
-turned_round es fs h f = sym (h f)
-
 -- a test that all pass
 pub all_alike : (p : Edge → Bool) (es fs : List Edge) → HasSame es fs → All (λ e. p e ≡ true) es → All (λ e. p e ≡ true) fs
 all_alike p es fs h pass k d lt =
