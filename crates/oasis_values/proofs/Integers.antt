@@ -1,5 +1,7 @@
 -- Integers and their bytes.
-use Rattle.std.proofs.Common.{◌≡◌, ◌≢◌, ℕ, zero, suc, ◌+◌, ◌-◌, ◌*◌, ◌%◌, ◌^◌, ◌<◌, ◌≤◌, ◌⊎◌, inl, inr, List, [], ◌∷◌, ◌++◌, length, Result, Ok, Err, refl, sym, ap, ◌∙◌, subst, arith, append_assoc, append-nil, length-append, take, drop, get_or, mul_assoc, mul-le-mul_left, Bool, true, false, nat_le}
+use Rattle.std.proofs.Common.{◌≡◌, ◌≢◌, ℕ, zero, suc, ◌+◌, ◌-◌, ◌*◌, ◌%◌, ◌^◌, ◌<◌, ◌≤◌, ◌⊎◌, inl, inr, List, [], ◌∷◌}
+use Rattle.std.proofs.Common.{◌++◌, length, Result, Ok, Err, refl, sym, ap, ◌∙◌, subst, arith, append_assoc, append-nil}
+use Rattle.std.proofs.Common.{length-append, take, drop, get_or, mul_assoc, mul-le-mul_left, Bool, true, false, nat_le}
 use Rattle.std.proofs.lemmas.Bool.Decides.{nat_tests}
 use Rattle.std.proofs.lemmas.List.Elements.{All-append, All-cons, All-nil}
 use Rattle.std.proofs.lemmas.List.{take_more, length-take, get_or-take, take-append-drop}
@@ -9,7 +11,8 @@ use Rattle.oasis_values.specs.Numbers.{IsByte, groups, Continues, IsInteger, IsT
 use Rattle.oasis_values.specs.declared.fault.ValueFault.{ValueFault}
 use Rattle.oasis_values.specs.declared.fault.ValueFault.TheVariants.{IntegerTooLarge}
 
-byte_only : (b c m n : List ℕ) (x y : Result ℕ ValueFault) → IsByte b x → IsByte c y → b ++ m ≡ c ++ n → (b ≡ c) × (x ≡ y)
+byte_only : (b c m n : List ℕ) (x y : Result ℕ ValueFault) → IsByte b x → IsByte c y → b ++ m ≡ c ++ n → (b ≡ c)
+    × (x ≡ y)
 byte_only b c m n (Ok x) (Ok y) p q e =
     let h : x ∷ m ≡ y ∷ n = ap (λ l. l ++ m) (sym p) ∙ e ∙ ap (λ l. l ++ n) q in
     let k : x ≡ y = cc in
@@ -29,7 +32,9 @@ all_tail z g c = λ k d h. c (suc k) d (omega (arith, h))
 -- where a front ends by its last byte, another is no longer
 short_front : (f g m n : List ℕ) (x y : ℕ) → Continues g → x < 128 → f ++ (x ∷ m) ≡ g ++ (y ∷ n) → length g ≤ length f
 short_front [] [] m n x y c h e = omega arith
-short_front [] (z ∷ g) m n x y c h e = absurd (let first : 128 ≤ z = c 0 0 (omega arith) in let k : x ∷ m ≡ z ∷ (g ++ (y ∷ n)) = e in let i : x ≡ z = cc in omega arith)
+short_front [] (z ∷ g) m n x y c h e =
+    absurd (let first : 128 ≤ z = c 0 0 (omega arith) in let k : x ∷ m ≡ z ∷ (g ++ (y ∷ n)) = e in
+    let i : x ≡ z = cc in omega arith)
 short_front (a ∷ f) [] m n x y c h e = omega arith
 short_front (a ∷ f) (z ∷ g) m n x y c h e =
     let k : a ∷ (f ++ (x ∷ m)) ≡ z ∷ (g ++ (y ∷ n)) = e in
@@ -52,7 +57,8 @@ groups_snoc [] x = omega arith
 groups_snoc (a ∷ f) x =
     let h = groups_snoc f x in
     let p : 128 ^ suc (length f) ≡ 128 * 128 ^ length f = simp pow-suc (omega arith) in
-    let q : 128 ^ suc (length f) * (x % 128) ≡ 128 * (128 ^ length f * (x % 128)) = rw p (mul_assoc 128 (128 ^ length f) (x % 128)) in
+    let q : 128 ^ suc (length f) * (x % 128) ≡ 128 * (128 ^ length f * (x % 128)) =
+    rw p (mul_assoc 128 (128 ^ length f) (x % 128)) in
     omega (arith, h, q)
 
 pub groups_lt : (f : List ℕ) → groups f < 128 ^ length f
@@ -65,16 +71,19 @@ groups_lt (a ∷ f) =
 joined : (f m b : List ℕ) (x : ℕ) → b ≡ f ++ (x ∷ []) → b ++ m ≡ f ++ (x ∷ m)
 joined f m b x e = ap (λ l. l ++ m) e ∙ append_assoc f (x ∷ []) m
 
-fronts : (f g m n b c : List ℕ) (x y : ℕ) → b ≡ f ++ (x ∷ []) → c ≡ g ++ (y ∷ []) → b ++ m ≡ c ++ n → f ++ (x ∷ m) ≡ g ++ (y ∷ n)
+fronts : (f g m n b c : List ℕ) (x y : ℕ) → b ≡ f ++ (x ∷ []) → c ≡ g ++ (y ∷ []) → b ++ m ≡ c ++ n
+    → f ++ (x ∷ m) ≡ g ++ (y ∷ n)
 fronts f g m n b c x y p q e = sym (joined f m b x p) ∙ e ∙ joined g n c y q
 
-same_bytes : (f g m n b c : List ℕ) (x y : ℕ) → b ≡ f ++ (x ∷ []) → c ≡ g ++ (y ∷ []) → length f ≡ length g → b ++ m ≡ c ++ n → b ≡ c
+same_bytes : (f g m n b c : List ℕ) (x y : ℕ) → b ≡ f ++ (x ∷ []) → c ≡ g ++ (y ∷ []) → length f ≡ length g
+    → b ++ m ≡ c ++ n → b ≡ c
 same_bytes f g m n b c x y p q l e =
     let s = same_front f g m n x y l (fronts f g m n b c x y p q e) in
     p ∙ ap (λ h. h ++ (x ∷ [])) s.0 ∙ ap (λ i. g ++ (i ∷ [])) s.1 ∙ sym q
 
 -- ten bytes, the last of which is above 1, make no number below 2^64
-too_large : (b : List ℕ) (f : List ℕ) (x n : ℕ) → b ≡ f ++ (x ∷ []) → length f ≡ 9 → 1 < x → x < 128 → n ≡ groups b → n < 2 ^ 64 → ⊥
+too_large : (b : List ℕ) (f : List ℕ) (x n : ℕ) → b ≡ f ++ (x ∷ []) → length f ≡ 9 → 1 < x → x < 128 → n ≡ groups b
+    → n < 2 ^ 64 → ⊥
 too_large b f x n e l more less v fits =
     let g = groups_snoc f x in
     let p : 128 ^ length f ≡ 2 ^ 63 = ap (λ i. 128 ^ i) l in
@@ -82,7 +91,8 @@ too_large b f x n e l more less v fits =
     let h : n ≡ groups f + 2 ^ 63 * x = v ∙ ap groups e ∙ g ∙ rw (p, m) refl in
     omega (arith, h)
 
-unsigned_only : (b c m n : List ℕ) (x y : Result ℕ ValueFault) → IsUnsigned b x → IsUnsigned c y → b ++ m ≡ c ++ n → (b ≡ c) × (x ≡ y)
+unsigned_only : (b c m n : List ℕ) (x y : Result ℕ ValueFault) → IsUnsigned b x → IsUnsigned c y → b ++ m ≡ c ++ n
+    → (b ≡ c) × (x ≡ y)
 unsigned_only b c m n (Ok x) (Ok y) p q e =
     let h = fronts p.front q.front m n b c p.last q.last p.bytes q.bytes e in
     let less = short_front p.front q.front m n p.last q.last q.continues p.ends h in
@@ -123,20 +133,42 @@ continues_begun xs c few =
       more = 0 ∷ [];
       value = Ok (groups xs);
       short = omega arith;
-      says = record { front = xs; last = 0; bytes = refl; continues = c; ends = omega arith; few = few; value = sym all; fits = power_fits (length xs) (groups xs) few lt };
+      says = record {
+        front = xs;
+        last = 0;
+        bytes = refl;
+        continues = c;
+        ends = omega arith;
+        few = few;
+        value = sym all;
+        fits = power_fits (length xs) (groups xs) few lt;
+      };
     }
 
 pub unsigned_said : CanSay IsUnsigned
-unsigned_said = record { bytes = 0 ∷ []; value = Ok 0; says = record { front = []; last = 0; bytes = refl; continues = λ k d h. absurd (omega (arith, h)); ends = omega arith; few = omega arith; value = refl; fits = omega arith } }
-
--- reading on from the bytes before a place: the first at bytes continue, and make v by units of u
+unsigned_said =
+    record {
+      bytes = 0 ∷ [];
+      value = Ok 0;
+      says = record {
+        front = [];
+        last = 0;
+        bytes = refl;
+        continues = λ k d h. absurd (omega (arith, h));
+        ends = omega arith;
+        few = omega arith;
+        value = refl;
+        fits = omega arith;
+      };
+    }
 
 by_test : (b : Bool) → (b ≡ true) ⊎ (b ≡ false)
 by_test true = inl refl
 by_test false = inr refl
 
 le_or : (i k : ℕ) → i ≤ k + 1 → (i ≤ k) ⊎ (i ≡ k + 1)
-le_or i k h = elim (by_test (nat_le i k)) [ inl a ↦ inl (grind (arith, nat_tests)) | inr b ↦ inr (grind (arith, nat_tests)) ]
+le_or i k h =
+    elim (by_test (nat_le i k)) [ inl a ↦ inl (grind (arith, nat_tests)) | inr b ↦ inr (grind (arith, nat_tests)) ]
 
 -- a tenth byte adds 2^63 at most, and each before it less than the next unit
 pub sum_fits : (i v x : ℕ) → i ≤ 9 → (i ≡ 9 → x ≤ 1) → v < 128 ^ i → v + 128 ^ i * (x % 128) < 2 ^ 64
@@ -163,7 +195,8 @@ value_lt xs i v h e =
     let l : length (take i xs) ≡ i = omega (arith, length-take {A = ℕ}) in
     subst (λ k. v < 128 ^ k) l (subst (λ k. k < 128 ^ length (take i xs)) (sym e) lt)
 
-one_more : (xs : List ℕ) (i v x : ℕ) → i < length xs → v ≡ groups (take i xs) → x ≡ get_or xs i 0 → v + 128 ^ i * (x % 128) ≡ groups (take (i + 1) xs)
+one_more : (xs : List ℕ) (i v x : ℕ) → i < length xs → v ≡ groups (take i xs) → x ≡ get_or xs i 0
+    → v + 128 ^ i * (x % 128) ≡ groups (take (i + 1) xs)
 one_more xs i v x h e g =
     let l : length (take i xs) ≡ i = omega (arith, length-take {A = ℕ}) in
     let s = groups_snoc (take i xs) (get_or xs i 0) in
@@ -173,43 +206,68 @@ one_more xs i v x h e g =
     ∙ ap (λ k. groups (take i xs) + 128 ^ length (take i xs) * (k % 128)) g
     ∙ sym s ∙ ap groups (sym t)
 
-pub more_groups : (xs : List ℕ) (i v u : ℕ) (x : ℕ) → i < length xs → v ≡ groups (take i xs) → u ≡ 128 ^ i → x ≡ get_or xs i 0 % 128 → v + u * x ≡ groups (take (i + 1) xs)
+pub more_groups : (xs : List ℕ) (i v u : ℕ) (x : ℕ) → i < length xs → v ≡ groups (take i xs) → u ≡ 128 ^ i
+    → x ≡ get_or xs i 0 % 128 → v + u * x ≡ groups (take (i + 1) xs)
 more_groups xs i v u x h e p g =
     ap (λ k. v + k * x) p ∙ ap (λ k. v + 128 ^ i * k) g ∙ one_more xs i v (get_or xs i 0) h e refl
 
-pub next_fits : (xs : List ℕ) (i v u x : ℕ) → i < length xs → i ≤ 9 → (i ≡ 9 → get_or xs i 0 ≤ 1) → v ≡ groups (take i xs) → u ≡ 128 ^ i → x ≡ get_or xs i 0 % 128 → v + u * x < 2 ^ 64
+pub next_fits : (xs : List ℕ) (i v u x : ℕ) → i < length xs → i ≤ 9 → (i ≡ 9 → get_or xs i 0 ≤ 1)
+    → v ≡ groups (take i xs) → u ≡ 128 ^ i → x ≡ get_or xs i 0 % 128 → v + u * x < 2 ^ 64
 next_fits xs i v u x h le tenth e p g =
     let fits = sum_fits i v (get_or xs i 0) le tenth (value_lt xs i v h e) in
     let same : u * x ≡ 128 ^ i * (get_or xs i 0 % 128) = ap (λ k. k * x) p ∙ ap (λ k. 128 ^ i * k) g in
     omega (arith, fits, same)
 
 pub next_unit : (i u m : ℕ) → u ≡ 128 ^ i → m ≡ 128 → u * m ≡ 128 ^ (i + 1)
-next_unit i u m p e = ap (λ k. k * m) p ∙ ap (λ k. 128 ^ i * k) e ∙ sym (pow-suc 128 i) ∙ ap (λ k. 128 ^ k) (omega arith)
+next_unit i u m p e =
+    ap (λ k. k * m) p ∙ ap (λ k. 128 ^ i * k) e ∙ sym (pow-suc 128 i) ∙ ap (λ k. 128 ^ k) (omega arith)
 
-pub more_continues : (xs : List ℕ) (i : ℕ) → i < length xs → Continues (take i xs) → 128 ≤ get_or xs i 0 → Continues (take (i + 1) xs)
+pub more_continues : (xs : List ℕ) (i : ℕ) → i < length xs → Continues (take i xs) → 128 ≤ get_or xs i 0
+    → Continues (take (i + 1) xs)
 more_continues xs i h c b =
     let P : ℕ → Type 0 = λ x. 128 ≤ x in
     let one = All-append P (take i xs) (get_or xs i 0 ∷ []) c (All-cons P (get_or xs i 0) [] b (All-nil P)) in
     subst Continues (sym (take_more xs i 0 h)) one
 
 -- the byte at i is the last of an integer
-pub whole_front : (xs : List ℕ) (i v : ℕ) → i < length xs → i ≤ 9 → Continues (take i xs) → v ≡ groups (take (i + 1) xs) → v < 2 ^ 64 → get_or xs i 0 < 128 → IsFront IsUnsigned xs (i + 1) (Ok v)
+pub whole_front : (xs : List ℕ) (i v : ℕ) → i < length xs → i ≤ 9 → Continues (take i xs)
+    → v ≡ groups (take (i + 1) xs) → v < 2 ^ 64 → get_or xs i 0 < 128 → IsFront IsUnsigned xs (i + 1) (Ok v)
 whole_front xs i v h le c e fits ends =
     let l : length (take i xs) ≡ i = omega (arith, length-take {A = ℕ}) in
     record {
       bytes = take (i + 1) xs;
       rest = drop (i + 1) xs;
-      says = record { front = take i xs; last = get_or xs i 0; bytes = take_more xs i 0 h; continues = c; ends = ends; few = omega (arith, l); value = e; fits = fits };
+      says = record {
+        front = take i xs;
+        last = get_or xs i 0;
+        bytes = take_more xs i 0 h;
+        continues = c;
+        ends = ends;
+        few = omega (arith, l);
+        value = e;
+        fits = fits;
+      };
       whole = sym (take-append-drop (i + 1) xs);
       count = omega (arith, length-take {A = ℕ});
     }
 
-pub too_large_front : (xs : List ℕ) → 9 < length xs → Continues (take 9 xs) → 1 < get_or xs 9 0 → IsFront IsUnsigned xs 10 (Err IntegerTooLarge)
+pub too_large_front : (xs : List ℕ) → 9 < length xs → Continues (take 9 xs) → 1 < get_or xs 9 0
+    → IsFront IsUnsigned xs 10 (Err IntegerTooLarge)
 too_large_front xs h c above =
     record {
       bytes = take 10 xs;
       rest = drop 10 xs;
-      says = (refl, record { front = take 9 xs; tenth = get_or xs 9 0; bytes = take_more xs 9 0 h; continues = c; nine = omega (arith, length-take {A = ℕ}); above = above });
+      says = (
+        refl,
+        record {
+          front = take 9 xs;
+          tenth = get_or xs 9 0;
+          bytes = take_more xs 9 0 h;
+          continues = c;
+          nine = omega (arith, length-take {A = ℕ});
+          above = above;
+        },
+      );
       whole = sym (take-append-drop 10 xs);
       count = omega (arith, length-take {A = ℕ});
     }

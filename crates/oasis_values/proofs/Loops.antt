@@ -1,5 +1,6 @@
 -- Loops that read one thing after another.
-use Rattle.std.proofs.Common.{◌≡◌, ◌≢◌, ℕ, zero, suc, ◌+◌, ◌-◌, ◌<◌, ◌≤◌, Bool, true, false, List, [], ◌∷◌, ◌++◌, Some, Result, Ok, Err, refl, sym, ap, ◌∙◌, subst, arith, append_assoc, append-nil}
+use Rattle.std.proofs.Common.{◌≡◌, ◌≢◌, ℕ, zero, suc, ◌+◌, ◌-◌, ◌<◌, ◌≤◌, Bool, true, false, List, [], ◌∷◌, ◌++◌, Some}
+use Rattle.std.proofs.Common.{Result, Ok, Err, refl, sym, ap, ◌∙◌, subst, arith, append_assoc, append-nil}
 use Rattle.std.specs.Prelude.{Option}
 use Rattle.std.specs.Borrow.{GName}
 use Rattle.lvl_io.specs.Spelling.{CanSay, Gives, Then, Chain}
@@ -16,12 +17,14 @@ abbrev pub behind : {B E : Type 0} → List B → Result (List B) E → Result (
 behind said (Ok ys) = Ok (said ++ ys)
 behind said (Err e) = Err e
 
--- n were wanted, the first as a says. The input was `first` then and is `now`; left are still to come, the next of them as b
--- says, and said was said: whatever reads the rest reads the whole
+-- n were wanted, the first as a says. The input was `first` then and is `now`; left are still to come, the next of them
+-- as b says, and said was said: whatever reads the rest reads the whole
 pub record Going {R A B : Type 0} (remaining : R → Option (List ℕ)) (errors : R → ℕ) (lent : R → List GName)
-    (S : A → List ℕ → Result A ValueFault → Type 0) (show : A → B) (n : ℕ) (a : A) (first now : Input R) (left : ℕ) (b : A) (said : List B) : Type 0 where
+    (S : A → List ℕ → Result A ValueFault → Type 0) (show : A → B) (n : ℕ) (a : A) (first now : Input R) (left : ℕ)
+    (b : A) (said : List B) : Type 0 where
   pub live : has_failed now ≡ false
-  pub goes : (new : Input R) (r : Result (List B) (Refusal ValueFault)) → Reads remaining errors lent (Chain S show left b) now new r
+  pub goes : (new : Input R) (r : Result (List B) (Refusal ValueFault))
+      → Reads remaining errors lent (Chain S show left b) now new r
       → Reads remaining errors lent (Chain S show n a) first new (behind said r)
 
 behind_nothing : {B E : Type 0} (r : Result (List B) E) → behind [] r ≡ r
@@ -34,21 +37,27 @@ pub going_start : {R A B : Type 0} {remaining : R → Option (List ℕ)} {errors
 going_start {remaining = remaining} {errors = errors} {lent = lent} S show n a first live =
     record {
       live = live;
-      goes = λ new r p. subst (λ q. Reads remaining errors lent (Chain S show n a) first new q) (sym (behind_nothing r)) p;
+      goes = λ new r p. subst (λ q. Reads remaining errors lent (Chain S show n a) first new q)
+          (sym (behind_nothing r)) p;
     }
 
 reads_after : {R A B : Type 0} {remaining : R → Option (List ℕ)} {errors : R → ℕ} {lent : R → List GName}
-    (S : A → List ℕ → Result A ValueFault → Type 0) (show : A → B) (k : ℕ) (x : A) (old new : Input R) (r : Result (List B) (Refusal ValueFault))
-    → Reads remaining errors lent (Chain S show k x) old new r → Reads remaining errors lent (Then (Chain S show k x) (λ ys. Gives (Ok (show x ∷ ys)))) old new (behind (show x ∷ []) r)
+    (S : A → List ℕ → Result A ValueFault → Type 0) (show : A → B) (k : ℕ) (x : A) (old new : Input R)
+    (r : Result (List B) (Refusal ValueFault))
+    → Reads remaining errors lent (Chain S show k x) old new r
+    → Reads remaining errors lent (Then (Chain S show k x) (λ ys. Gives (Ok (show x ∷ ys)))) old new
+    (behind (show x ∷ []) r)
 reads_after S show k x old new (Ok ys) p = reads_seen (λ ys. show x ∷ ys) p
 reads_after S show k x old new (Err e) p = reads_seen_err (λ ys. show x ∷ ys) p
 
-behind_more : {B E : Type 0} (said : List B) (y : B) (r : Result (List B) E) → behind said (behind (y ∷ []) r) ≡ behind (said ++ (y ∷ [])) r
+behind_more : {B E : Type 0} (said : List B) (y : B) (r : Result (List B) E)
+    → behind said (behind (y ∷ []) r) ≡ behind (said ++ (y ∷ [])) r
 behind_more said y (Ok ys) = ap Ok (sym (append_assoc said (y ∷ []) ys))
 behind_more said y (Err e) = refl
 
 going_next : {R A B : Type 0} {remaining : R → Option (List ℕ)} {errors : R → ℕ} {lent : R → List GName}
-    (S : A → List ℕ → Result A ValueFault → Type 0) (show : A → B) (n : ℕ) (a : A) (first now mid : Input R) (k : ℕ) (b x : A) (said : List B)
+    (S : A → List ℕ → Result A ValueFault → Type 0) (show : A → B) (n : ℕ) (a : A) (first now mid : Input R) (k : ℕ)
+    (b x : A) (said : List B)
     → Going remaining errors lent S show n a first now (suc k) b said → Reads remaining errors lent (S b) now mid (Ok x)
     → Going remaining errors lent S show n a first mid k x (said ++ (show x ∷ []))
 going_next {remaining = remaining} {errors = errors} {lent = lent} S show n a first now mid k b x said g p =
@@ -56,33 +65,48 @@ going_next {remaining = remaining} {errors = errors} {lent = lent} S show n a fi
       live = p.failed;
       goes = λ new r q.
           subst (λ s. Reads remaining errors lent (Chain S show n a) first new s) (behind_more said (show x) r)
-          (g.goes new (behind (show x ∷ []) r) (reads_then (λ y. Then (Chain S show k y) (λ ys. Gives (Ok (show y ∷ ys)))) p (reads_after S show k x mid new r q)));
+          (g.goes new (behind (show x ∷ []) r)
+          (reads_then (λ y. Then (Chain S show k y) (λ ys. Gives (Ok (show y ∷ ys)))) p
+          (reads_after S show k x mid new r q)));
     }
 
 -- one more was read
 pub going_on : {R A B : Type 0} {remaining : R → Option (List ℕ)} {errors : R → ℕ} {lent : R → List GName}
-    {S : A → List ℕ → Result A ValueFault → Type 0} {show : A → B} {n : ℕ} {a : A} {first now mid : Input R} {left : ℕ} {b x : A} {said : List B} (k : ℕ)
-    → Going remaining errors lent S show n a first now left b said → left ≡ suc k → Reads remaining errors lent (S b) now mid (Ok x)
+    {S : A → List ℕ → Result A ValueFault → Type 0} {show : A → B} {n : ℕ} {a : A} {first now mid : Input R}
+    {left : ℕ} {b x : A} {said : List B} (k : ℕ)
+    → Going remaining errors lent S show n a first now left b said → left ≡ suc k
+    → Reads remaining errors lent (S b) now mid (Ok x)
     → Going remaining errors lent S show n a first mid k x (said ++ (show x ∷ []))
-going_on {remaining = remaining} {errors = errors} {lent = lent} {S = S} {show = show} {n = n} {a = a} {first = first} {now = now} {mid = mid} {b = b} {x = x} {said = said} k g e p =
-    going_next S show n a first now mid k b x said (subst (λ i. Going remaining errors lent S show n a first now i b said) e g) p
+going_on {remaining = remaining} {errors = errors} {lent = lent} {S = S} {show = show} {n = n} {a = a}
+    {first = first} {now = now} {mid = mid} {b = b} {x = x} {said = said} k g e p =
+    going_next S show n a first now mid k b x said
+    (subst (λ i. Going remaining errors lent S show n a first now i b said) e g) p
 
 -- the next could not be read
 pub going_err : {R A B : Type 0} {remaining : R → Option (List ℕ)} {errors : R → ℕ} {lent : R → List GName}
-    {S : A → List ℕ → Result A ValueFault → Type 0} {show : A → B} {n : ℕ} {a : A} {first now new : Input R} {left : ℕ} {b : A} {said : List B} {e : Refusal ValueFault} (k : ℕ)
-    → ((x : A) → CanSay (S x)) → Going remaining errors lent S show n a first now left b said → left ≡ suc k → Reads remaining errors lent (S b) now new (Err e)
+    {S : A → List ℕ → Result A ValueFault → Type 0} {show : A → B} {n : ℕ} {a : A} {first now new : Input R}
+    {left : ℕ} {b : A} {said : List B} {e : Refusal ValueFault} (k : ℕ)
+    → ((x : A) → CanSay (S x)) → Going remaining errors lent S show n a first now left b said → left ≡ suc k
+    → Reads remaining errors lent (S b) now new (Err e)
     → Reads remaining errors lent (Chain S show n a) first new (Err e)
-going_err {remaining = remaining} {errors = errors} {lent = lent} {S = S} {show = show} {n = n} {a = a} {first = first} {now = now} {new = new} {b = b} {said = said} {e = e} k can g h p =
+going_err {remaining = remaining} {errors = errors} {lent = lent} {S = S} {show = show} {n = n} {a = a}
+    {first = first} {now = now} {new = new} {b = b} {said = said} {e = e} k can g h p =
     let next = subst (λ i. Going remaining errors lent S show n a first now i b said) h g in
-    next.goes new (Err e) (reads_err (λ x. Then (Chain S show k x) (λ ys. Gives (Ok (show x ∷ ys)))) (λ x. then_said (Chain S show k x) (λ ys. Gives (Ok (show x ∷ ys))) (chain_said S show k x can) (λ ys. gives_said (Ok (show x ∷ ys)))) p)
+    next.goes new (Err e) (reads_err (λ x. Then (Chain S show k x) (λ ys. Gives (Ok (show x ∷ ys))))
+    (λ x. then_said (Chain S show k x) (λ ys. Gives (Ok (show x ∷ ys))) (chain_said S show k x can)
+    (λ ys. gives_said (Ok (show x ∷ ys)))) p)
 
 -- all were read
 pub going_end : {R A B : Type 0} {remaining : R → Option (List ℕ)} {errors : R → ℕ} {lent : R → List GName}
-    {S : A → List ℕ → Result A ValueFault → Type 0} {show : A → B} {n : ℕ} {a : A} {first now : Input R} {left : ℕ} {b : A} {said : List B}
-    → Going remaining errors lent S show n a first now left b said → left ≡ 0 → Reads remaining errors lent (Chain S show n a) first now (Ok said)
-going_end {remaining = remaining} {errors = errors} {lent = lent} {S = S} {show = show} {n = n} {a = a} {first = first} {now = now} {b = b} {said = said} g h =
+    {S : A → List ℕ → Result A ValueFault → Type 0} {show : A → B} {n : ℕ} {a : A} {first now : Input R} {left : ℕ}
+    {b : A} {said : List B}
+    → Going remaining errors lent S show n a first now left b said → left ≡ 0
+    → Reads remaining errors lent (Chain S show n a) first now (Ok said)
+going_end {remaining = remaining} {errors = errors} {lent = lent} {S = S} {show = show} {n = n} {a = a}
+    {first = first} {now = now} {b = b} {said = said} g h =
     let last = subst (λ i. Going remaining errors lent S show n a first now i b said) h g in
-    subst (λ l. Reads remaining errors lent (Chain S show n a) first now (Ok l)) (append-nil said) (last.goes now (Ok []) (reads_nothing [] last.live))
+    subst (λ l. Reads remaining errors lent (Chain S show n a) first now (Ok l)) (append-nil said)
+    (last.goes now (Ok []) (reads_nothing [] last.live))
 
 pub going_from : {R A B : Type 0} {remaining : R → Option (List ℕ)} {errors : R → ℕ} {lent : R → List GName}
     (S : A → List ℕ → Result A ValueFault → Type 0) (show : A → B) (n : ℕ) (a : A) (first : Input R) {left : ℕ}
@@ -92,14 +116,20 @@ going_from {remaining = remaining} {errors = errors} {lent = lent} S show n a fi
 
 -- what was said, in other words
 pub going_as : {R A B : Type 0} {remaining : R → Option (List ℕ)} {errors : R → ℕ} {lent : R → List GName}
-    {S : A → List ℕ → Result A ValueFault → Type 0} {show : A → B} {n : ℕ} {a : A} {first now : Input R} {left : ℕ} {b : A} {said : List B} {words : List B}
-    → said ≡ words → Going remaining errors lent S show n a first now left b said → Going remaining errors lent S show n a first now left b words
-going_as {remaining = remaining} {errors = errors} {lent = lent} {S = S} {show = show} {n = n} {a = a} {first = first} {now = now} {left = left} {b = b} e g =
+    {S : A → List ℕ → Result A ValueFault → Type 0} {show : A → B} {n : ℕ} {a : A} {first now : Input R} {left : ℕ}
+    {b : A} {said : List B} {words : List B}
+    → said ≡ words → Going remaining errors lent S show n a first now left b said
+    → Going remaining errors lent S show n a first now left b words
+going_as {remaining = remaining} {errors = errors} {lent = lent} {S = S} {show = show} {n = n} {a = a}
+    {first = first} {now = now} {left = left} {b = b} e g =
     subst (λ l. Going remaining errors lent S show n a first now left b l) e g
 
 -- where the next one is read from, in other words
 pub going_at : {R A B : Type 0} {remaining : R → Option (List ℕ)} {errors : R → ℕ} {lent : R → List GName}
-    {S : A → List ℕ → Result A ValueFault → Type 0} {show : A → B} {n : ℕ} {a : A} {first now : Input R} {left : ℕ} {b c : A} {said : List B}
-    → c ≡ b → Going remaining errors lent S show n a first now left b said → Going remaining errors lent S show n a first now left c said
-going_at {remaining = remaining} {errors = errors} {lent = lent} {S = S} {show = show} {n = n} {a = a} {first = first} {now = now} {left = left} {said = said} e g =
+    {S : A → List ℕ → Result A ValueFault → Type 0} {show : A → B} {n : ℕ} {a : A} {first now : Input R} {left : ℕ}
+    {b c : A} {said : List B}
+    → c ≡ b → Going remaining errors lent S show n a first now left b said
+    → Going remaining errors lent S show n a first now left c said
+going_at {remaining = remaining} {errors = errors} {lent = lent} {S = S} {show = show} {n = n} {a = a}
+    {first = first} {now = now} {left = left} {said = said} e g =
     subst (λ x. Going remaining errors lent S show n a first now left x said) (sym e) g

@@ -1,5 +1,7 @@
 -- Calls one after another: what two reads say together, and where a call ends the whole.
-use Rattle.std.proofs.Common.{◌≡◌, ◌≢◌, ℕ, ◌+◌, ◌-◌, ◌<◌, ◌≤◌, Bool, true, false, List, [], ◌∷◌, ◌++◌, length, take, drop, Some, Result, Ok, Err, refl, sym, ap, ◌∙◌, subst, arith, append_assoc, length-append, drop-drop, length-drop}
+use Rattle.std.proofs.Common.{◌≡◌, ◌≢◌, ℕ, ◌+◌, ◌-◌, ◌<◌, ◌≤◌, Bool, true, false, List, [], ◌∷◌, ◌++◌, length, take}
+use Rattle.std.proofs.Common.{drop, Some, Result, Ok, Err, refl, sym, ap, ◌∙◌, subst, arith, append_assoc}
+use Rattle.std.proofs.Common.{length-append, drop-drop, length-drop}
 use Rattle.std.proofs.Math.Seq.{drop-append_seam, take-append_seam, take-append-add}
 use Rattle.std.specs.Prelude.{Option}
 use Rattle.std.specs.Result.{is_err}
@@ -10,37 +12,49 @@ use Rattle.lvl_io.proofs.Spelling.{gives_said, then_begun, then_goes_on, then_bo
 use Rattle.lvl_refusal.specs.declared.Refusal.{Refusal}
 use Rattle.lvl_refusal.specs.declared.Refusal.TheVariants.{Breach, OutOfMemory}
 use Rattle.oasis_values.specs.Faults.{is_rule, is_read_fault, reader_failed}
-use Rattle.oasis_values.specs.Input.{bytes_left, input_offset, has_failed, input_reader, room_left}
+use Rattle.oasis_values.specs.Input.{bytes_left, in_hand, input_offset, has_failed, input_reader, room_left}
 use Rattle.std.specs.Io.KnownBytes.{prepend_known}
 use Rattle.oasis_values.specs.Known.{Seen}
 use Rattle.oasis_values.specs.inside.Stopped.{HasStopped}
-use Rattle.oasis_values.specs.Reads.{Breaks, Fails, Answers, Reads, Refutes}
+use Rattle.oasis_values.specs.Reads.{Breaks, Fails, Answers, bytes_had, Reads, Refutes}
 use Rattle.oasis_values.specs.declared.fault.ValueFault.{ValueFault}
 use Rattle.oasis_values.specs.declared.fault.ValueFault.TheVariants.{Truncated, TooLong, Read, Failed}
 use Rattle.oasis_values.specs.declared.input.Input.{Input}
 
 -- what is after the bytes at the front
-pub front_rest : {A : Type 0} (S : List ℕ → A → Type 0) (xs : List ℕ) (n : ℕ) (x : A) (f : IsFront S xs n x) → drop n xs ≡ f.rest
-front_rest S xs n x f = ap (λ k. drop k xs) (sym f.count) ∙ ap (drop (length f.bytes)) f.whole ∙ drop-append_seam f.bytes f.rest
+pub front_rest : {A : Type 0} (S : List ℕ → A → Type 0) (xs : List ℕ) (n : ℕ) (x : A) (f : IsFront S xs n x)
+    → drop n xs ≡ f.rest
+front_rest S xs n x f =
+    ap (λ k. drop k xs) (sym f.count) ∙ ap (drop (length f.bytes)) f.whole ∙ drop-append_seam f.bytes f.rest
 
 -- a fault of the first is one of the whole
-pub fails_first : {A B : Type 0} (S : List ℕ → Result A ValueFault → Type 0) (T : A → List ℕ → Result B ValueFault → Type 0) (room : ℕ) (xs : List ℕ) (f : ValueFault)
-    → ((x : A) → CanSay (T x)) → Fails S room xs f → Fails (Then S T) room xs f
-fails_first S T room xs f can p =
+pub fails_first : {A B : Type 0} (S : List ℕ → Result A ValueFault → Type 0)
+    (T : A → List ℕ → Result B ValueFault → Type 0) (room had : ℕ) (xs : List ℕ) (f : ValueFault)
+    → ((x : A) → CanSay (T x)) → Fails S room had xs f → Fails (Then S T) room had xs f
+fails_first S T room had xs f can p =
     record {
       truncated = λ e. let q = p.truncated e in (q.0, then_begun S T xs q.1 can);
-      too_long = λ e. let q = p.too_long e in (q.0, then_begun S T (take room xs) q.1 can);
+      too_long = λ e. let q = p.too_long e in (q.0, q.1, then_begun S T (take room xs) q.2 can);
       breached = λ e.
           let q = p.breached e in
           record {
             count = q.count;
             within = q.within;
-            front = record { bytes = q.front.bytes; rest = q.front.rest; says = then_breached S T q.front.bytes f q.front.says; whole = q.front.whole; count = q.front.count };
+            seen = q.seen;
+            front =
+                record {
+                  bytes = q.front.bytes;
+                  rest = q.front.rest;
+                  says = then_breached S T q.front.bytes f q.front.says;
+                  whole = q.front.whole;
+                  count = q.front.count;
+                };
           };
     }
 
 -- a value of the first, and what the second is after it
-pub front_second : {A B : Type 0} (S : List ℕ → Result A ValueFault → Type 0) (T : A → List ℕ → Result B ValueFault → Type 0) (xs : List ℕ) (n m : ℕ) (x : A) (r : Result B ValueFault)
+pub front_second : {A B : Type 0} (S : List ℕ → Result A ValueFault → Type 0)
+    (T : A → List ℕ → Result B ValueFault → Type 0) (xs : List ℕ) (n m : ℕ) (x : A) (r : Result B ValueFault)
     → IsFront S xs n (Ok x) → IsFront (T x) (drop n xs) m r → IsFront (Then S T) xs (n + m) r
 front_second S T xs n m x r p q =
     let rest : p.rest ≡ q.bytes ++ q.rest = sym (front_rest S xs n (Ok x) p) ∙ q.whole in
@@ -52,7 +66,8 @@ front_second S T xs n m x r p q =
       count = omega (arith, length-append p.bytes q.bytes, p.count, q.count);
     }
 
-take_past : {A : Type 0} (S : List ℕ → A → Type 0) (xs : List ℕ) (n room : ℕ) (x : A) (p : IsFront S xs n x) → n ≤ room → p.bytes ++ take (room - n) (drop n xs) ≡ take room xs
+take_past : {A : Type 0} (S : List ℕ → A → Type 0) (xs : List ℕ) (n room : ℕ) (x : A) (p : IsFront S xs n x)
+    → n ≤ room → p.bytes ++ take (room - n) (drop n xs) ≡ take room xs
 take_past S xs n room x p h =
     let whole : length p.bytes + (room - n) ≡ room = omega (arith, p.count) in
     ap (λ l. p.bytes ++ take (room - n) l) (front_rest S xs n x p)
@@ -61,21 +76,30 @@ take_past S xs n room x p h =
     ∙ ap (take room) (sym p.whole)
 
 -- a fault of the second is one of the whole
-pub fails_second : {A B : Type 0} (S : List ℕ → Result A ValueFault → Type 0) (T : A → List ℕ → Result B ValueFault → Type 0) (room n : ℕ) (xs : List ℕ) (x : A) (f : ValueFault)
-    → IsFront S xs n (Ok x) → n ≤ room → Fails (T x) (room - n) (drop n xs) f → Fails (Then S T) room xs f
-fails_second S T room n xs x f p h q =
+pub fails_second : {A B : Type 0} (S : List ℕ → Result A ValueFault → Type 0)
+    (T : A → List ℕ → Result B ValueFault → Type 0) (room n had : ℕ) (xs : List ℕ) (x : A) (f : ValueFault)
+    → IsFront S xs n (Ok x) → n ≤ room → Fails (T x) (room - n) had (drop n xs) f → Fails (Then S T) room (n + had) xs f
+fails_second S T room n had xs x f p h q =
     let whole : p.bytes ++ drop n xs ≡ xs = ap (λ l. p.bytes ++ l) (front_rest S xs n (Ok x) p) ∙ sym p.whole in
-    let len : n + length (drop n xs) ≡ length xs = omega (arith, ap length whole, length-append p.bytes (drop n xs), p.count) in
+    let len : n + length (drop n xs) ≡ length xs =
+    omega (arith, ap length whole, length-append p.bytes (drop n xs), p.count) in
     record {
       truncated = λ e.
           let t = q.truncated e in
           (omega (arith, t.0), subst (IsBegun (Then S T)) whole (then_goes_on S T p.bytes (drop n xs) x p.says t.1));
       too_long = λ e.
           let t = q.too_long e in
-          (omega (arith, t.0), subst (IsBegun (Then S T)) (take_past S xs n room (Ok x) p h) (then_goes_on S T p.bytes (take (room - n) (drop n xs)) x p.says t.1));
+          let goes_on = then_goes_on S T p.bytes (take (room - n) (drop n xs)) x p.says t.2 in
+          let past = take_past S xs n room (Ok x) p h in
+          (omega (arith, t.0), omega (arith, t.1), subst (IsBegun (Then S T)) past goes_on);
       breached = λ e.
           let t = q.breached e in
-          record { count = n + t.count; within = omega (arith, t.within); front = front_second S T xs n t.count x (Err f) p t.front };
+          record {
+            count = n + t.count;
+            within = omega (arith, t.within);
+            seen = omega (arith, t.seen);
+            front = front_second S T xs n t.count x (Err f) p t.front;
+          };
     }
 
 -- the same error, of an answer of another type
@@ -85,13 +109,15 @@ err_as B (Ok x) = Err OutOfMemory
 
 -- a call that answered a fault, or that memory ran out, ends the whole
 pub reads_err : {R A B : Type 0} {remaining : R → Option (List ℕ)} {errors : R → ℕ} {lent : R → List GName}
-    {S : List ℕ → Result A ValueFault → Type 0} (T : A → List ℕ → Result B ValueFault → Type 0) {old new : Input R} {e : Refusal ValueFault}
-    → ((x : A) → CanSay (T x)) → Reads remaining errors lent S old new (Err e) → Reads remaining errors lent (Then S T) old new (Err e)
-reads_err {A = A} {B = B} {S = S} T {old = old} {e = Breach f} can p =
+    {S : List ℕ → Result A ValueFault → Type 0} (T : A → List ℕ → Result B ValueFault → Type 0) {old new : Input R}
+    {e : Refusal ValueFault}
+    → ((x : A) → CanSay (T x)) → Reads remaining errors lent S old new (Err e)
+    → Reads remaining errors lent (Then S T) old new (Err e)
+reads_err {A = A} {B = B} {S = S} T {old = old} {new = new} {e = Breach f} can p =
     record {
       again = λ h. ap (err_as B) (p.again h);
       fresh = λ h k. p.fresh h (ap (err_as A) k);
-      answers = λ h xs k. fails_first S T (room_left old) xs f can (p.answers h xs k);
+      answers = λ h xs k. fails_first S T (room_left old) (bytes_had old new) xs f can (p.answers h xs k);
       left = p.left;
       forward = p.forward;
       failed = p.failed;
@@ -110,20 +136,26 @@ reads_err {A = A} {B = B} {S = S} T {old = old} {e = OutOfMemory} can p =
       same = p.same;
     }
 
-answers_second : {A B : Type 0} (S : List ℕ → Result A ValueFault → Type 0) (T : A → List ℕ → Result B ValueFault → Type 0) (room n m : ℕ) (xs : List ℕ) (x : A) (r : Result B (Refusal ValueFault))
-    → IsFront S xs n (Ok x) → n ≤ room → Answers (T x) (room - n) m (drop n xs) r → Answers (Then S T) room (n + m) xs r
-answers_second S T room n m xs x (Ok y) p h q = (front_second S T xs n m x (Ok y) p q.0, omega (arith, q.1))
-answers_second S T room n m xs x (Err OutOfMemory) p h q = tt
-answers_second S T room n m xs x (Err (Breach f)) p h q = fails_second S T room n xs x f p h q
+answers_second : {A B : Type 0} (S : List ℕ → Result A ValueFault → Type 0)
+    (T : A → List ℕ → Result B ValueFault → Type 0) (room n had m : ℕ) (xs : List ℕ) (x : A)
+    (r : Result B (Refusal ValueFault)) → IsFront S xs n (Ok x) → n ≤ room
+    → Answers (T x) (room - n) had m (drop n xs) r → Answers (Then S T) room (n + had) (n + m) xs r
+answers_second S T room n had m xs x (Ok y) p h q = (front_second S T xs n m x (Ok y) p q.0, omega (arith, q.1))
+answers_second S T room n had m xs x (Err OutOfMemory) p h q = tt
+answers_second S T room n had m xs x (Err (Breach f)) p h q = fails_second S T room n had xs x f p h q
 
 -- a call that answered a value, and what the next call answered
 pub reads_then : {R A B : Type 0} {remaining : R → Option (List ℕ)} {errors : R → ℕ} {lent : R → List GName}
-    {S : List ℕ → Result A ValueFault → Type 0} (T : A → List ℕ → Result B ValueFault → Type 0) {old mid new : Input R} {x : A} {r : Result B (Refusal ValueFault)}
-    → Reads remaining errors lent S old mid (Ok x) → Reads remaining errors lent (T x) mid new r → Reads remaining errors lent (Then S T) old new r
+    {S : List ℕ → Result A ValueFault → Type 0} (T : A → List ℕ → Result B ValueFault → Type 0)
+    {old mid new : Input R} {x : A} {r : Result B (Refusal ValueFault)}
+    → Reads remaining errors lent S old mid (Ok x) → Reads remaining errors lent (T x) mid new r
+    → Reads remaining errors lent (Then S T) old new r
 reads_then {errors = errors} {S = S} T {old = old} {mid = mid} {new = new} {x = x} {r = r} p q =
     let n = input_offset mid - input_offset old in
     let m = input_offset new - input_offset mid in
+    let later = bytes_had mid new in
     let all : n + m ≡ input_offset new - input_offset old = omega (arith, p.forward, q.forward) in
+    let had : n + later ≡ bytes_had old new = omega (arith, p.forward, q.forward) in
     let room : room_left mid ≡ room_left old - n = omega (arith, p.forward) in
     record {
       again = λ h. absurd (let k = p.again h in cc);
@@ -131,9 +163,12 @@ reads_then {errors = errors} {S = S} T {old = old} {mid = mid} {new = new} {x = 
       answers = λ h xs k.
           let a = p.answers h xs k in
           let b = q.answers p.failed (drop n xs) (p.left xs k) in
-          subst (λ i. Answers (Then S T) (room_left old) i xs r) all
-          (answers_second S T (room_left old) n m xs x r a.0 a.1 (subst (λ i. Answers (T x) i m (drop n xs) r) room b));
-      left = λ xs k. q.left (drop n xs) (p.left xs k) ∙ ap Some (drop-drop m n xs ∙ ap (λ i. drop i xs) (omega (arith, all)));
+          let both = answers_second S T (room_left old) n later m xs x r a.0 a.1
+          (subst (λ i. Answers (T x) i later m (drop n xs) r) room b) in
+          subst (λ i. Answers (Then S T) (room_left old) (bytes_had old new) i xs r) all
+          (subst (λ i. Answers (Then S T) (room_left old) i (n + m) xs r) had both);
+      left = λ xs k. q.left (drop n xs) (p.left xs k)
+          ∙ ap Some (drop-drop m n xs ∙ ap (λ i. drop i xs) (omega (arith, all)));
       forward = omega (arith, p.forward, q.forward);
       failed = q.failed;
       counted = subst (λ i. CountsFailure i (errors (input_reader new)) (reader_failed r)) p.counted q.counted;
@@ -144,14 +179,18 @@ drop_none : (xs : List ℕ) (n m : ℕ) → n ≡ m → xs ≡ drop (n - m) xs
 drop_none xs n m e = ap (λ i. drop i xs) (let z : 0 ≡ n - m = omega arith in z)
 
 -- nothing is read
-pub reads_nothing : {R A : Type 0} {remaining : R → Option (List ℕ)} {errors : R → ℕ} {lent : R → List GName} {old : Input R} (x : A)
+pub reads_nothing : {R A : Type 0} {remaining : R → Option (List ℕ)} {errors : R → ℕ} {lent : R → List GName}
+    {old : Input R} (x : A)
     → has_failed old ≡ false → Reads remaining errors lent (Gives (Ok x)) old old (Ok x)
 reads_nothing {old = old} x live =
     let none : 0 ≡ input_offset old - input_offset old = omega arith in
     record {
       again = λ h. absurd (let k : true ≡ false = sym h ∙ live in cc);
       fresh = λ h k. cc;
-      answers = λ h xs k. (record { bytes = []; rest = xs; says = (refl, refl); whole = refl; count = none }, omega arith);
+      answers = λ h xs k. (
+        record { bytes = []; rest = xs; says = (refl, refl); whole = refl; count = none },
+        omega arith,
+      );
       left = λ xs k. k ∙ ap Some (drop_none xs (input_offset old) (input_offset old) refl);
       forward = omega arith;
       failed = live;
@@ -184,10 +223,13 @@ pub reads_seen_err : {R A B : Type 0} {remaining : R → Option (List ℕ)} {err
 reads_seen_err g p = reads_err (λ y. Gives (Ok (g y))) (λ y. gives_said (Ok (g y))) p
 
 -- a rule that was tested of what was read: it is breached
-pub reads_refused : {R A : Type 0} {remaining : R → Option (List ℕ)} {errors : R → ℕ} {lent : R → List GName} {old new : Input R} (f : ValueFault)
-    → has_failed old ≡ false → has_failed new ≡ true → is_rule f ≡ true → new.ahead ≡ old.ahead → new.offset ≡ old.offset → new.reader ≡ old.reader
+pub reads_refused : {R A : Type 0} {remaining : R → Option (List ℕ)} {errors : R → ℕ} {lent : R → List GName}
+    {old new : Input R} (f : ValueFault)
+    → has_failed old ≡ false → has_failed new ≡ true → is_rule f ≡ true → new.ahead ≡ old.ahead
+    → new.offset ≡ old.offset → new.reader ≡ old.reader
     → Reads {A = A} remaining errors lent (Gives (Err f)) old new (Err (Breach f))
-reads_refused {remaining = remaining} {errors = errors} {lent = lent} {old = old} {new = new} f live failed rule ahead offset reader =
+reads_refused {remaining = remaining} {errors = errors} {lent = lent} {old = old} {new = new}
+    f live failed rule ahead offset reader =
     let none : 0 ≡ input_offset new - input_offset old = omega (arith, offset) in
     record {
       again = λ h. absurd (let k : true ≡ false = sym h ∙ live in cc);
@@ -196,12 +238,19 @@ reads_refused {remaining = remaining} {errors = errors} {lent = lent} {old = old
           record {
             truncated = λ e. absurd (rule_not f Truncated rule refl e);
             too_long = λ e. absurd (rule_not f TooLong rule refl e);
-            breached = λ e. record { count = 0; within = omega arith; front = record { bytes = []; rest = xs; says = (refl, refl); whole = refl; count = omega arith } };
+            breached = λ e. record {
+              count = 0;
+              within = omega arith;
+              seen = omega arith;
+              front = record { bytes = []; rest = xs; says = (refl, refl); whole = refl; count = omega arith };
+            };
           };
-      left = λ xs k. ap (λ l. prepend_known l (remaining new.reader)) ahead ∙ ap (λ r. prepend_known old.ahead (remaining r)) reader ∙ k ∙ ap (λ i. Some (drop i xs)) none;
+      left = λ xs k. ap (λ l. prepend_known l (remaining new.reader)) ahead
+          ∙ ap (λ r. prepend_known old.ahead (remaining r)) reader ∙ k ∙ ap (λ i. Some (drop i xs)) none;
       forward = omega (arith, offset);
       failed = failed;
-      counted = subst (λ b. CountsFailure (errors old.reader) (errors new.reader) b) (rule_read f rule) (ap errors reader);
+      counted = subst (λ b. CountsFailure (errors old.reader) (errors new.reader) b) (rule_read f rule)
+          (ap errors reader);
       same = ap lent reader;
     }
 
@@ -212,7 +261,8 @@ reads_seen_as {remaining = remaining} {errors = errors} {lent = lent} {S = S} g 
     subst (λ z. Reads remaining errors lent (Seen g S) old new (Ok z)) e (reads_seen g p)
 
 -- memory ran out before anything more was read
-pub reads_out_of_memory : {R A : Type 0} {remaining : R → Option (List ℕ)} {errors : R → ℕ} {lent : R → List GName} {S : List ℕ → Result A ValueFault → Type 0} {old new : Input R}
+pub reads_out_of_memory : {R A : Type 0} {remaining : R → Option (List ℕ)} {errors : R → ℕ} {lent : R → List GName}
+    {S : List ℕ → Result A ValueFault → Type 0} {old new : Input R}
     → has_failed old ≡ false → HasStopped old new → Reads remaining errors lent S old new (Err OutOfMemory)
 reads_out_of_memory {remaining = remaining} {errors = errors} {lent = lent} {old = old} {new = new} live s =
     let none : 0 ≡ input_offset new - input_offset old = omega (arith, s.offset) in
@@ -220,7 +270,8 @@ reads_out_of_memory {remaining = remaining} {errors = errors} {lent = lent} {old
       again = λ h. absurd (let k : true ≡ false = sym h ∙ live in cc);
       fresh = λ h k. cc;
       answers = λ h xs k. tt;
-      left = λ xs k. ap (λ l. prepend_known l (remaining new.reader)) s.ahead ∙ ap (λ r. prepend_known old.ahead (remaining r)) s.reader ∙ k ∙ ap (λ i. Some (drop i xs)) none;
+      left = λ xs k. ap (λ l. prepend_known l (remaining new.reader)) s.ahead
+          ∙ ap (λ r. prepend_known old.ahead (remaining r)) s.reader ∙ k ∙ ap (λ i. Some (drop i xs)) none;
       forward = omega (arith, s.offset);
       failed = s.failed;
       counted = ap errors s.reader;
@@ -228,14 +279,21 @@ reads_out_of_memory {remaining = remaining} {errors = errors} {lent = lent} {old
     }
 
 -- what is read by one of several cases
-pub reads_case : {R A K : Type 0} {remaining : R → Option (List ℕ)} {errors : R → ℕ} {lent : R → List GName} {old new : Input R} {r : Result A (Refusal ValueFault)}
-    (T : K → List ℕ → Result A ValueFault → Type 0) (k j : K) → k ≡ j → Reads remaining errors lent (T j) old new r → Reads remaining errors lent (T k) old new r
-reads_case {remaining = remaining} {errors = errors} {lent = lent} {old = old} {new = new} {r = r} T k j e p = subst (λ i. Reads remaining errors lent (T i) old new r) (sym e) p
+pub reads_case : {R A K : Type 0} {remaining : R → Option (List ℕ)} {errors : R → ℕ} {lent : R → List GName}
+    {old new : Input R} {r : Result A (Refusal ValueFault)}
+    (T : K → List ℕ → Result A ValueFault → Type 0) (k j : K) → k ≡ j → Reads remaining errors lent (T j) old new r
+    → Reads remaining errors lent (T k) old new r
+reads_case {remaining = remaining} {errors = errors} {lent = lent} {old = old} {new = new} {r = r} T k j e p =
+    subst (λ i. Reads remaining errors lent (T i) old new r) (sym e) p
 
 -- where a rule is breached, nothing is spelled by bytes that agree
-pub reads_refutes : {R A : Type 0} {remaining : R → Option (List ℕ)} {errors : R → ℕ} {lent : R → List GName} {S : List ℕ → Result A ValueFault → Type 0} {old new : Input R} {r : Result A (Refusal ValueFault)}
+pub reads_refutes : {R A : Type 0} {remaining : R → Option (List ℕ)} {errors : R → ℕ} {lent : R → List GName}
+    {S : List ℕ → Result A ValueFault → Type 0} {old new : Input R} {r : Result A (Refusal ValueFault)}
     → IsPrefixFree S → Reads remaining errors lent S old new r → Refutes remaining S old r
 reads_refutes {r = Ok y} free p = record { none = λ live xs k. tt }
 reads_refutes {r = Err OutOfMemory} free p = record { none = λ live xs k. tt }
 reads_refutes {S = S} {r = Err (Breach f)} free p =
-    record { none = λ live xs k rule x. let q = (p.answers live xs k).breached rule in breached_none S xs q.count f x free q.front }
+    record {
+      none = λ live xs k rule x. let q = (p.answers live xs k).breached rule in
+          breached_none S xs q.count f x free q.front;
+    }

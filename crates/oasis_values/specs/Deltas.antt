@@ -7,7 +7,8 @@ use Rattle.oasis_values.specs.Numbers.{IsUnsigned}
 use Rattle.oasis_values.specs.Reals.{with_sign}
 use Rattle.oasis_values.specs.declared.fault.ValueFault.{ValueFault}
 use Rattle.oasis_values.specs.declared.delta.Direction.{Direction}
-use Rattle.oasis_values.specs.declared.delta.Direction.TheVariants.{East, North, West, South, Northeast, Northwest, Southwest, Southeast}
+use Rattle.oasis_values.specs.declared.delta.Direction.TheVariants.{East, North, West, South, Northeast, Northwest}
+use Rattle.oasis_values.specs.declared.delta.Direction.TheVariants.{Southwest, Southeast}
 
 -- the directions, numbered from 0
 abbrev pub direction_of : ℕ → Direction

@@ -1,5 +1,5 @@
 -- What a clause reads of an `Input`.
-use Rattle.std.specs.Prelude.{ℕ, ◌-◌, Bool, List, Option}
+use Rattle.std.specs.Prelude.{ℕ, ◌-◌, Bool, List, length, Option}
 use Rattle.std.specs.Io.KnownBytes.{prepend_known}
 use Rattle.oasis_values.specs.declared.input.Input.{Input}
 
@@ -10,6 +10,10 @@ file_limit = 4294967295
 -- the bytes still to come, where they are known, for a reader that has `remaining`
 abbrev pub bytes_left : {R : Type 0} → (R → Option (List ℕ)) → Input R → Option (List ℕ)
 bytes_left remaining i = prepend_known i.ahead (remaining i.reader)
+
+-- how many bytes were read from the reader and not yet taken
+abbrev pub in_hand : {R : Type 0} → Input R → ℕ
+in_hand i = length i.ahead
 
 -- how many bytes were taken
 abbrev pub input_offset : {R : Type 0} → Input R → ℕ

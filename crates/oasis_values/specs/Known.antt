@@ -14,7 +14,8 @@ Known (Some x) f = Gives (Ok x)
 Known None f = Gives (Err f)
 
 -- what the bytes say, seen as g of it
-abbrev pub Seen : {A B : Type 0} → (A → B) → (List ℕ → Result A ValueFault → Type 0) → List ℕ → Result B ValueFault → Type 0
+abbrev pub Seen : {A B : Type 0} → (A → B) → (List ℕ → Result A ValueFault → Type 0) → List ℕ → Result B ValueFault
+    → Type 0
 Seen g S = Then S (λ x. Gives (Ok (g x)))
 
 -- the same, where the numbers not listed all stand for d

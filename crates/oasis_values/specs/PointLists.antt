@@ -1,6 +1,7 @@
--- Point lists (SEMI P39 OASIS 1.0, "Point-list"). Own rules: the limits of the count, and that each vertex, and each step of
--- a list of double deltas, is within 64 signed bits.
-use Rattle.std.specs.Prelude.{◌≡◌, ℕ, ◌%◌, ◌==◌, ◌&&◌, ◌||◌, not, nat_le, Bool, true, false, if◌then◌else◌, List, [], ◌∷◌, ◌++◌, Option, Some, None, option_map, Result, pos, ℤ}
+-- Point lists (SEMI P39 OASIS 1.0, "Point-list"). Own rules: the limits of the count, and that each vertex, and each
+-- step of a list of double deltas, is within 64 signed bits.
+use Rattle.std.specs.Prelude.{◌≡◌, ℕ, ◌%◌, ◌==◌, ◌&&◌, ◌||◌, not, nat_le, Bool, true, false, if◌then◌else◌, List, []}
+use Rattle.std.specs.Prelude.{◌∷◌, ◌++◌, Option, Some, None, option_map, Result, pos, ℤ}
 use Rattle.lvl_io.specs.Spelling.{Then, Chain}
 use Rattle.lvl_grid.specs.declared.point.Point.{Point}
 use Rattle.oasis_values.specs.Deltas.{to, IsTwoDelta, IsThreeDelta, IsGDelta}
@@ -11,7 +12,8 @@ use Rattle.oasis_values.specs.Reals.{IsSigned}
 use Rattle.oasis_values.specs.declared.fault.ValueFault.{ValueFault}
 use Rattle.oasis_values.specs.declared.fault.ValueFault.TheVariants.{PointListType, PointCount, OutOfRange}
 use Rattle.oasis_values.specs.declared.point_list.ListType.{ListType}
-use Rattle.oasis_values.specs.declared.point_list.ListType.TheVariants.{HorizontalFirst, VerticalFirst, Manhattan, Octangular, AllAngle, DoubleDelta}
+use Rattle.oasis_values.specs.declared.point_list.ListType.TheVariants.{HorizontalFirst, VerticalFirst, Manhattan}
+use Rattle.oasis_values.specs.declared.point_list.ListType.TheVariants.{Octangular, AllAngle, DoubleDelta}
 use Rattle.oasis_values.specs.declared.point_list.Use.{Use}
 use Rattle.oasis_values.specs.declared.point_list.Use.TheVariants.{Polygon, Path}
 use Rattle.oasis_values.specs.declared.point_list.Walk.{Walk}
@@ -39,7 +41,8 @@ abbrev pub most_points : ℕ
 most_points = 65536
 
 abbrev pub may_have : Use → ListType → ℕ → Bool
-may_have for kind n = nat_le (least_points for) n && nat_le n most_points && (not (comes_in_pairs for kind) || (n % 2 == 0))
+may_have for kind n =
+    nat_le (least_points for) n && nat_le n most_points && (not (comes_in_pairs for kind) || (n % 2 == 0))
 
 abbrev pub point_count : Use → ListType → ℕ → Option ℕ
 point_count for kind n = if may_have for kind n then Some n else None
@@ -87,8 +90,8 @@ walked w by = option_map (λ p. record { at = p; by = by; along_x = not w.along_
 abbrev pub IsNext : ListType → Walk → List ℕ → Result Walk ValueFault → Type 0
 IsNext kind w = Then (IsStep kind w) (λ by. Known (walked w by) OutOfRange)
 
--- the vertex that closes a polygon with both of its edges along the axes: the list goes on along the other axis than its
--- last delta, back to where its start is
+-- the vertex that closes a polygon with both of its edges along the axes: the list goes on along the other axis than
+-- its last delta, back to where its start is
 abbrev pub implied : Use → ListType → Point → Option Point
 implied Polygon HorizontalFirst last = Some (to (pos 0) last.y)
 implied Polygon VerticalFirst last = Some (to last.x (pos 0))

@@ -1,14 +1,20 @@
 -- Signed integers and reals (SEMI P39 OASIS 1.0, "Signed-integer", "Real").
-use Rattle.std.specs.Prelude.{◌≡◌, ℕ, ◌/◌, ◌%◌, ◌==◌, if◌then◌else◌, List, [], ◌∷◌, length, Option, Some, None, Result, Ok, Err, pos, neg_ℤ, ℤ}
+use Rattle.std.specs.Prelude.{◌≡◌, ℕ, ◌/◌, ◌%◌, ◌==◌, if◌then◌else◌, List, [], ◌∷◌, length, Option, Some, None, Result}
+use Rattle.std.specs.Prelude.{Ok, Err, pos, neg_ℤ, ℤ}
 use Rattle.lvl_io.specs.Spelling.{Then, Chain}
 use Rattle.oasis_values.specs.Known.{among, Known, Seen}
 use Rattle.oasis_values.specs.Numbers.{IsByte, IsUnsigned}
 use Rattle.oasis_values.specs.declared.fault.ValueFault.{ValueFault}
 use Rattle.oasis_values.specs.declared.fault.ValueFault.TheVariants.{RealType as unknown_type, ZeroDenominator}
 use Rattle.oasis_values.specs.declared.number.Real.{Real}
-use Rattle.oasis_values.specs.declared.number.Real.TheVariants.{Whole, NegWhole, Reciprocal, NegReciprocal, Ratio, NegRatio, Four, Eight}
+use Rattle.oasis_values.specs.declared.number.Real.TheVariants.{Whole, NegWhole, Reciprocal, NegReciprocal, Ratio}
+use Rattle.oasis_values.specs.declared.number.Real.TheVariants.{NegRatio, Four, Eight}
 use Rattle.oasis_values.specs.declared.number.RealType.{RealType}
-use Rattle.oasis_values.specs.declared.number.RealType.TheVariants.{Whole as OfWhole, NegWhole as OfNegWhole, Reciprocal as OfReciprocal, NegReciprocal as OfNegReciprocal, Ratio as OfRatio, NegRatio as OfNegRatio, Four as OfFour, Eight as OfEight}
+use Rattle.oasis_values.specs.declared.number.RealType.TheVariants.{Whole as OfWhole, NegWhole as OfNegWhole}
+use Rattle.oasis_values.specs.declared.number.RealType.TheVariants.{Reciprocal as OfReciprocal}
+use Rattle.oasis_values.specs.declared.number.RealType.TheVariants.{NegReciprocal as OfNegReciprocal, Ratio as OfRatio}
+use Rattle.oasis_values.specs.declared.number.RealType.TheVariants.{NegRatio as OfNegRatio, Four as OfFour}
+use Rattle.oasis_values.specs.declared.number.RealType.TheVariants.{Eight as OfEight}
 
 -- the lowest bit is the sign, and the rest the magnitude
 abbrev pub with_sign : ℕ → ℤ

@@ -1,6 +1,7 @@
--- Repetitions (SEMI P39 OASIS 1.0, "Repetition"). Own rules: the most places of a lattice and of a list, and that each shift is
--- within 64 signed bits.
-use Rattle.std.specs.Prelude.{◌≡◌, ℕ, ◌+◌, ◌*◌, ◌-◌, nat_le, Bool, true, false, if◌then◌else◌, List, [], ◌∷◌, Option, Some, None, Result, Ok, pos, ℤ, ◌+ℤ◌, ◌*ℤ◌}
+-- Repetitions (SEMI P39 OASIS 1.0, "Repetition"). Own rules: the most places of a lattice and of a list, and that each
+-- shift is within 64 signed bits.
+use Rattle.std.specs.Prelude.{◌≡◌, ℕ, ◌+◌, ◌*◌, ◌-◌, nat_le, Bool, true, false, if◌then◌else◌, List, [], ◌∷◌, Option}
+use Rattle.std.specs.Prelude.{Some, None, Result, Ok, pos, ℤ, ◌+ℤ◌, ◌*ℤ◌}
 use Rattle.std.specs.List.{list_all}
 use Rattle.lvl_io.specs.Spelling.{Gives, Then, Chain}
 use Rattle.lvl_grid.specs.declared.point.Point.{Point}
@@ -11,7 +12,8 @@ use Rattle.oasis_values.specs.Numbers.{IsUnsigned}
 use Rattle.oasis_values.specs.PointLists.{origin}
 use Rattle.oasis_values.specs.Ranges.{in_range, is_in_range, is_point_in_range}
 use Rattle.oasis_values.specs.declared.fault.ValueFault.{ValueFault}
-use Rattle.oasis_values.specs.declared.fault.ValueFault.TheVariants.{RepetitionType, RepetitionSize, OutOfRange, NoModal}
+use Rattle.oasis_values.specs.declared.fault.ValueFault.TheVariants.{RepetitionType, RepetitionSize, OutOfRange}
+use Rattle.oasis_values.specs.declared.fault.ValueFault.TheVariants.{NoModal}
 use Rattle.oasis_values.specs.declared.repetition.Far.{Far}
 use Rattle.oasis_values.specs.declared.repetition.Kind.{Kind}
 use Rattle.oasis_values.specs.declared.repetition.Kind.TheVariants.{Modal, Matrix, Line, List as Listed}
@@ -43,7 +45,8 @@ abbrev pub line_size : ℕ → Option ℕ
 line_size n = if nat_le (n + 2) most_places then Some (n + 2) else None
 
 abbrev pub matrix_size : ℕ → ℕ → Option Size
-matrix_size n m = if nat_le ((n + 2) * (m + 2)) most_places then Some (record { columns = n + 2; rows = m + 2 }) else None
+matrix_size n m =
+    if nat_le ((n + 2) * (m + 2)) most_places then Some (record { columns = n + 2; rows = m + 2 }) else None
 
 -- the most places of a list
 abbrev pub most_listed : ℕ
@@ -104,15 +107,19 @@ IsLine spacing = Then IsUnsigned (λ d. Then (Known (line_size d) RepetitionSize
 
 -- the first of two steps, with its places in range
 abbrev pub IsColumns : Spacing → ℕ → List ℕ → Result Point ValueFault → Type 0
-IsColumns spacing n = Then (IsShift spacing 1 origin) (λ a. Seen (λ _. a) (Known (lattice_in_range a n origin 1) OutOfRange))
+IsColumns spacing n =
+    Then (IsShift spacing 1 origin) (λ a. Seen (λ _. a) (Known (lattice_in_range a n origin 1) OutOfRange))
 
 -- places along two steps
 abbrev pub IsMatrixOf : Spacing → Spacing → Size → List ℕ → Result Repetition ValueFault → Type 0
 IsMatrixOf first second s =
-    Then (IsColumns first s.columns) (λ a. Then (IsShift second 1 origin) (λ b. Seen New (Known (lattice_in_range a s.columns b s.rows) OutOfRange)))
+    Then (IsColumns first s.columns)
+    (λ a. Then (IsShift second 1 origin) (λ b. Seen New (Known (lattice_in_range a s.columns b s.rows) OutOfRange)))
 
 abbrev pub IsMatrix : Spacing → Spacing → List ℕ → Result Repetition ValueFault → Type 0
-IsMatrix first second = Then IsUnsigned (λ d. Then IsUnsigned (λ e. Then (Known (matrix_size d e) RepetitionSize) (IsMatrixOf first second)))
+IsMatrix first second =
+    Then IsUnsigned
+    (λ d. Then IsUnsigned (λ e. Then (Known (matrix_size d e) RepetitionSize) (IsMatrixOf first second)))
 
 -- the grid that spaces are multiplied by, if there is one
 abbrev pub IsGrid : Bool → List ℕ → Result ℕ ValueFault → Type 0

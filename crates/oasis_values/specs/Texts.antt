@@ -1,5 +1,5 @@
--- Strings (SEMI P39 OASIS 1.0, "Strings"): a length and that many bytes, each of the string's kind. The most bytes that a
--- string may have is own rule.
+-- Strings (SEMI P39 OASIS 1.0, "Strings"): a length and that many bytes, each of the string's kind. The most bytes that
+-- a string may have is own rule.
 use Rattle.std.specs.Prelude.{ℕ, ◌&&◌, nat_le, Bool, true, if◌then◌else◌, List, Option, Some, None, Result}
 use Rattle.lvl_io.specs.Spelling.{Then, Chain}
 use Rattle.oasis_values.specs.Known.{Known}

@@ -35,7 +35,8 @@ fn want_more<R: Read>(
     ensures front { take (length ahead.old) ahead.new ≡ ahead.old }
     ensures had { IfOk result (λ _. (n < length ahead.new) × (n < room)) }
     ensures stops { IfErr result (λ f. IsStop f × ((xs : List ℕ)
-        → prepend_known ahead.old (R.remaining reader.old) ≡ Some xs → Stops f n room xs)) }
+        → prepend_known ahead.old (R.remaining reader.old) ≡ Some xs
+        → Stops f n room (length ahead.new) xs)) }
     ensures errors { CountsFailure (R.read_errors reader.old) (R.read_errors reader.new)
         (reader_failed (as_breach result)) }
     ensures same { R.lent reader.new ≡ R.lent reader.old }
@@ -62,7 +63,8 @@ pub(crate) fn find_byte<R: Read>(
     ensures bytes { Stays (prepend_known ahead.old (R.remaining reader.old))
         (prepend_known ahead.new (R.remaining reader.new)) }
     ensures had { IfOk result (λ found. (found.len ≤ length ahead.new) × (found.len ≤ room)) }
-    ensures finds { Finds IsByte room (prepend_known ahead.old (R.remaining reader.old)) result }
+    ensures finds { Finds IsByte room (length ahead.new)
+        (prepend_known ahead.old (R.remaining reader.old)) result }
     ensures errors { CountsFailure (R.read_errors reader.old) (R.read_errors reader.new)
         (reader_failed (as_breach result)) }
     ensures same { R.lent reader.new ≡ R.lent reader.old }
@@ -84,7 +86,8 @@ pub(crate) fn find_integer<R: Read>(
     ensures bytes { Stays (prepend_known ahead.old (R.remaining reader.old))
         (prepend_known ahead.new (R.remaining reader.new)) }
     ensures had { IfOk result (λ found. (found.len ≤ length ahead.new) × (found.len ≤ room)) }
-    ensures finds { Finds IsUnsigned room (prepend_known ahead.old (R.remaining reader.old)) result }
+    ensures finds { Finds IsUnsigned room (length ahead.new)
+        (prepend_known ahead.old (R.remaining reader.old)) result }
     ensures errors { CountsFailure (R.read_errors reader.old) (R.read_errors reader.new)
         (reader_failed (as_breach result)) }
     ensures same { R.lent reader.new ≡ R.lent reader.old }

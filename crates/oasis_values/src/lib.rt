@@ -21,6 +21,4 @@ mod integer;
 mod number;
 mod point_list;
 mod repetition;
-#[cfg(test)]
-mod tests;
 mod text;

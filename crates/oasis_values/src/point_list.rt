@@ -165,7 +165,8 @@ impl<R: Read> Input<R> {
     ghost use Rattle.oasis_values.specs.Input.{has_failed};
     ghost use Rattle.oasis_values.specs.Reads.{Reads, Refutes};
     ghost use Rattle.oasis_values.specs.Faults.{as_breach, items};
-    ghost use Rattle.oasis_values.specs.PointLists.{IsAlong, IsMore, IsStep, IsNext, AreVertices, IsListOf, IsPointList};
+    ghost use Rattle.oasis_values.specs.PointLists.{IsAlong, IsMore, IsStep, IsNext};
+    ghost use Rattle.oasis_values.specs.PointLists.{AreVertices, IsListOf, IsPointList};
 
     /// The vertices of a point list, as displacements from its start, which is first; a vertex that is
     /// implied is last.

@@ -22,13 +22,14 @@ IsStop TooLong = Unit {0}
 IsStop Read = Unit {0}
 IsStop f = ⊥
 
--- where n bytes were had and one more was wanted: there is none, or it may not be taken
-abbrev pub Stops : ValueFault → ℕ → ℕ → List ℕ → Type 0
-Stops Truncated n room xs = length xs ≡ n
-Stops TooLong n room xs = (room ≡ n) × (n < length xs)
-Stops f n room xs = Unit {0}
+-- where n bytes were had and one more was wanted, and then had are in hand: there is none, or it may not be taken
+abbrev pub Stops : ValueFault → ℕ → ℕ → ℕ → List ℕ → Type 0
+Stops Truncated n room had xs = length xs ≡ n
+Stops TooLong n room had xs = (room ≡ n) × (n < length xs) × (n < had)
+Stops f n room had xs = Unit {0}
 
--- what was found at the front of known bytes
-abbrev pub Finds : {A : Type 0} → (List ℕ → Result A ValueFault → Type 0) → ℕ → Option (List ℕ) → Result (Found A) ValueFault → Type 0
-Finds S room known (Ok found) = (xs : List ℕ) → known ≡ Some xs → IsFront S xs found.len (Ok found.value)
-Finds S room known (Err f) = (f ≢ Failed) × ((xs : List ℕ) → known ≡ Some xs → Fails S room xs f)
+-- what was found at the front of known bytes, of which only room may be taken, and had are in hand
+abbrev pub Finds : {A : Type 0} → (List ℕ → Result A ValueFault → Type 0) → ℕ → ℕ → Option (List ℕ)
+    → Result (Found A) ValueFault → Type 0
+Finds S room had known (Ok found) = (xs : List ℕ) → known ≡ Some xs → IsFront S xs found.len (Ok found.value)
+Finds S room had known (Err f) = (f ≢ Failed) × ((xs : List ℕ) → known ≡ Some xs → Fails S room had xs f)

@@ -8,8 +8,13 @@ pub returns-in_err-want_more-clause-finds : goal.returns-in_err-want_more-clause
 returns-in_err-want_more-clause-finds g c =
     let p = err_from_is_err_and c.from_residual.result c.from_residual.ensures.1 in
     let stops = c.in_err-want_more.ensures.stops in
-    rw (p.1, p.2) (stop_live c.in_err-want_more.field-0.0 stops.0, λ xs k. stop_fails IsByte 0 c.args.room xs c.in_err-want_more.field-0.0 (omega arith) stops.0 (stops.1 xs k) byte_begun)
+    rw (p.1, p.2) (
+      stop_live c.in_err-want_more.field-0.0 stops.0,
+      λ xs k. stop_fails IsByte 0 c.args.room _ xs
+          c.in_err-want_more.field-0.0 (omega arith) stops.0 (stops.1 xs k) byte_begun,
+    )
 
 pub returns-clause-finds : goal.returns-clause-finds
 returns-clause-finds g c = λ xs k.
-    byte_front c.want_more.new.ahead _ xs _ (c.want_more.ensures.bytes xs k) (omega (arith, c.in_ok-want_more.ensures.had)) (ap (λ l. get_or l 0 0) c.ahead.ensures.value)
+    byte_front c.want_more.new.ahead _ xs _ (c.want_more.ensures.bytes xs k)
+    (omega (arith, c.in_ok-want_more.ensures.had)) (ap (λ l. get_or l 0 0) c.ahead.ensures.value)

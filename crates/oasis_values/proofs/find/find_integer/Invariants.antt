@@ -5,7 +5,8 @@ use Rattle.oasis_values.proofs.find.find_integer.Given as goal
 
 abbrev pub invariant-integer : goal.invariant-integer
 invariant-integer g l =
-    Stays (prepend_known l.initial.ahead (g.R.Read.remaining l.initial.reader)) (prepend_known l.ahead (g.R.Read.remaining l.reader))
+    Stays (prepend_known l.initial.ahead (g.R.Read.remaining l.initial.reader))
+    (prepend_known l.ahead (g.R.Read.remaining l.reader))
     × (g.R.Read.read_errors l.reader ≡ g.R.Read.read_errors l.initial.reader)
     × (g.R.Read.lent l.reader ≡ g.R.Read.lent l.initial.reader)
 

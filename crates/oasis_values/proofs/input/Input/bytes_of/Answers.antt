@@ -1,4 +1,5 @@
-use Rattle.std.proofs.Common.{◌≡◌, ◌+◌, ◌-◌, suc, List, take, set, get_or, length, refl, sym, ap, Ok, ◌<◌, ◌≤◌, ◌∙◌, subst, arith}
+use Rattle.std.proofs.Common.{◌≡◌, ◌+◌, ◌-◌, suc, List, take, set, get_or, length, refl, sym, ap, Ok, ◌<◌, ◌≤◌, ◌∙◌}
+use Rattle.std.proofs.Common.{subst, arith}
 use Rattle.std.proofs.Math.Seq.{take-suc-set}
 use Rattle.std.proofs.Math.ListN.{length-set}
 use Rattle.std.proofs.lemmas.Result.{err_from_is_err_and}
@@ -11,7 +12,11 @@ use Rattle.oasis_values.proofs.Loops.{Going, going_from, going_on, going_err, go
 use Rattle.oasis_values.proofs.input.Input.bytes_of.Goals as goal
 
 pub loop-n-init : goal.loop-n-init
-loop-n-init g c = (0, going_from (λ _. IsByte) (λ x. x) g.row.N 0 c.args.self.now (omega arith) c.requires, length-replicate g.row.N 0)
+loop-n-init g c = (
+  0,
+  going_from (λ _. IsByte) (λ x. x) g.row.N 0 c.args.self.now (omega arith) c.requires,
+  length-replicate g.row.N 0,
+)
 
 pub loop-n-preserved : goal.loop-n-preserved
 loop-n-preserved g c =
@@ -20,8 +25,10 @@ loop-n-preserved g c =
     let more : c.loop-n.n + 1 ≡ suc c.loop-n.n = omega arith in
     let next = going_on (g.row.N - (c.loop-n.n + 1)) c.loop-n.invariant.1 left c.in_ok-bytes.ensures.reads in (
       c.in_ok-bytes.field-0,
-      subst (λ l. Going g.R.Read.remaining g.R.Read.read_errors g.R.Read.lent (λ _. IsByte) (λ x. x) g.row.N 0 c.args.self.now c.byte.new.self (g.row.N - (c.loop-n.n + 1)) c.in_ok-bytes.field-0 l)
-          (sym (ap (λ k. take k (set c.loop-n.bytes c.loop-n.n c.in_ok-bytes.field-0)) more ∙ take-suc-set c.loop-n.bytes c.loop-n.n c.in_ok-bytes.field-0 at)) next,
+      subst (λ l. Going g.R.Read.remaining g.R.Read.read_errors g.R.Read.lent (λ _. IsByte) (λ x. x) g.row.N 0
+          c.args.self.now c.byte.new.self (g.row.N - (c.loop-n.n + 1)) c.in_ok-bytes.field-0 l)
+          (sym (ap (λ k. take k (set c.loop-n.bytes c.loop-n.n c.in_ok-bytes.field-0)) more
+          ∙ take-suc-set c.loop-n.bytes c.loop-n.n c.in_ok-bytes.field-0 at)) next,
       length-set c.loop-n.bytes c.loop-n.n c.in_ok-bytes.field-0 ∙ c.loop-n.invariant.2,
     )
 
@@ -29,9 +36,16 @@ pub returns-in_err-bytes : goal.returns-in_err-bytes
 returns-in_err-bytes g c =
     let p = err_from_is_err_and c.from_residual.result c.from_residual.ensures.1 in
     let left : g.row.N - c.loop-n.n ≡ suc (g.row.N - (c.loop-n.n + 1)) = omega (arith, c.loop-n-test.true) in
-    rw (p.1, p.2) (record { reads = going_err (g.row.N - (c.loop-n.n + 1)) (λ _. byte_said) c.loop-n.invariant.1 left c.in_err-bytes.ensures.reads })
+    rw (p.1, p.2) (record {
+      reads = going_err (g.row.N - (c.loop-n.n + 1)) (λ _. byte_said) c.loop-n.invariant.1 left
+          c.in_err-bytes.ensures.reads;
+    })
 
 pub returns : goal.returns
 returns g c =
     let all : length c.loop-n.bytes ≤ c.loop-n.n = omega (arith, c.loop-n-test.false, c.loop-n.invariant.2) in
-    record { reads = subst (λ l. Reads g.R.Read.remaining g.R.Read.read_errors g.R.Read.lent (IsBytes g.row.N) c.args.self.now c.loop-n.self (Ok l)) (take_all c.loop-n.n c.loop-n.bytes all) (going_end c.loop-n.invariant.1 (omega (arith, c.loop-n-test.false))) }
+    record {
+      reads = subst (λ l. Reads g.R.Read.remaining g.R.Read.read_errors g.R.Read.lent (IsBytes g.row.N)
+          c.args.self.now c.loop-n.self (Ok l)) (take_all c.loop-n.n c.loop-n.bytes all)
+          (going_end c.loop-n.invariant.1 (omega (arith, c.loop-n-test.false)));
+    }

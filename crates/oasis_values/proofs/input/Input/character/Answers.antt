@@ -9,7 +9,10 @@ use Rattle.oasis_values.proofs.input.Input.character.Goals as goal
 pub returns-in_err-byte : goal.returns-in_err-byte
 returns-in_err-byte g c =
     let p = err_from_is_err_and c.from_residual.result c.from_residual.ensures.1 in
-    rw (p.1, p.2) (record { reads = reads_err (λ b. Known (character c.args.kind b) StringByte) (λ b. known_said (character c.args.kind b) StringByte) c.in_err-byte.ensures.reads })
+    rw (p.1, p.2) (record {
+      reads = reads_err (λ b. Known (character c.args.kind b) StringByte)
+          (λ b. known_said (character c.args.kind b) StringByte) c.in_err-byte.ensures.reads;
+    })
 
 pub returns : goal.returns
 returns g c =

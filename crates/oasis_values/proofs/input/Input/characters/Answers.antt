@@ -9,7 +9,8 @@ use Rattle.oasis_values.proofs.input.Input.characters.Goals as goal
 pub loop-n-init : goal.loop-n-init
 loop-n-init g c = (
   0,
-  going_as (sym c.in-Ok.ensures.items) (going_from (λ _. IsCharacter c.args.kind) (λ x. x) c.args.len 0 c.args.self.now (omega arith) c.requires),
+  going_as (sym c.in-Ok.ensures.items)
+      (going_from (λ _. IsCharacter c.args.kind) (λ x. x) c.args.len 0 c.args.self.now (omega arith) c.requires),
   c.in-Ok.ensures.len,
   c.in-Ok.ensures.capacity,
 )
@@ -18,7 +19,8 @@ pub loop-n-preserved : goal.loop-n-preserved
 loop-n-preserved g c =
     let left : c.args.len - c.loop-n.n ≡ suc (c.args.len - (c.loop-n.n + 1)) = omega (arith, c.loop-n-test.true) in (
       c.in_ok-byte.byte,
-      going_as (sym c.push_reserved.ensures.items) (going_on (c.args.len - (c.loop-n.n + 1)) c.loop-n.invariant.1 left c.in_ok-byte.ensures.reads),
+      going_as (sym c.push_reserved.ensures.items)
+          (going_on (c.args.len - (c.loop-n.n + 1)) c.loop-n.invariant.1 left c.in_ok-byte.ensures.reads),
       c.push_reserved.ensures.len ∙ ap (λ k. k + 1) c.loop-n.invariant.2,
       omega (arith, c.push_reserved.ensures.capacity, c.loop-n.invariant.3),
     )
@@ -27,7 +29,10 @@ pub returns-in_err-byte : goal.returns-in_err-byte
 returns-in_err-byte g c =
     let p = err_from_is_err_and c.from_residual.result c.from_residual.ensures.1 in
     let left : c.args.len - c.loop-n.n ≡ suc (c.args.len - (c.loop-n.n + 1)) = omega (arith, c.loop-n-test.true) in
-    rw (p.1, p.2) (record { reads = going_err (c.args.len - (c.loop-n.n + 1)) (λ _. character_said c.args.kind) c.loop-n.invariant.1 left c.in_err-byte.ensures.reads })
+    rw (p.1, p.2) (record {
+      reads = going_err (c.args.len - (c.loop-n.n + 1)) (λ _. character_said c.args.kind)
+          c.loop-n.invariant.1 left c.in_err-byte.ensures.reads;
+    })
 
 pub returns : goal.returns
 returns g c = record { reads = going_end c.loop-n.invariant.1 (omega (arith, c.loop-n-test.false)) }

@@ -6,5 +6,6 @@ use Rattle.oasis_values.proofs.input.Input.characters.Given as goal
 -- the characters so far were read, whichever was the last, and there is room for the others
 abbrev pub invariant-loop-n : goal.invariant-loop-n
 invariant-loop-n g l =
-    (last : ℕ) × Going g.R.Read.remaining g.R.Read.read_errors g.R.Read.lent (λ _. IsCharacter l.kind) (λ c. c) l.len 0 l.initial.self l.self (l.len - l.n) last l.text.items
+    (last : ℕ) × Going g.R.Read.remaining g.R.Read.read_errors g.R.Read.lent (λ _. IsCharacter l.kind) (λ c. c)
+    l.len 0 l.initial.self l.self (l.len - l.n) last l.text.items
     × (vec_len l.text ≡ l.n) × (l.len ≤ vec_capacity l.text)

@@ -9,7 +9,10 @@ use Rattle.oasis_values.proofs.input.Input.denominator.Goals as goal
 pub returns-in_err-number : goal.returns-in_err-number
 returns-in_err-number g c =
     let p = err_from_is_err_and c.from_residual.result c.from_residual.ensures.1 in
-    rw (p.1, p.2) (record { reads = reads_err (λ n. Known (not_zero n) ZeroDenominator) (λ n. known_said (not_zero n) ZeroDenominator) c.in_err-number.ensures.reads })
+    rw (p.1, p.2) (record {
+      reads = reads_err (λ n. Known (not_zero n) ZeroDenominator)
+          (λ n. known_said (not_zero n) ZeroDenominator) c.in_err-number.ensures.reads;
+    })
 
 pub returns : goal.returns
 returns g c =

@@ -10,15 +10,26 @@ use Rattle.oasis_values.proofs.input.Input.line.Goals as goal
 pub returns-in_err-number : goal.returns-in_err-number
 returns-in_err-number g c =
     let p = err_from_is_err_and c.from_residual.result c.from_residual.ensures.1 in
-    rw (p.1, p.2) (record { reads = reads_err (λ d. Then (Known (line_size d) RepetitionSize) (IsLineOf c.args.spacing)) (after_line_size_said c.args.spacing) c.in_err-number.ensures.reads })
+    rw (p.1, p.2) (record {
+      reads = reads_err
+          (λ d. Then (Known (line_size d) RepetitionSize) (IsLineOf c.args.spacing))
+          (after_line_size_said c.args.spacing) c.in_err-number.ensures.reads;
+    })
 
 pub returns-in_err-count : goal.returns-in_err-count
 returns-in_err-count g c =
     let p = err_from_is_err_and c.from_residual-in_err-count.result c.from_residual-in_err-count.ensures.1 in
     let q = rw c.line_size.ensures at c.in_err-count.ensures.reads in
-    rw (p.1, p.2) (record { reads = reads_then (λ d. Then (Known (line_size d) RepetitionSize) (IsLineOf c.args.spacing)) c.in_ok-number.ensures.reads (reads_err (IsLineOf c.args.spacing) (line_of_said c.args.spacing) q) })
+    rw (p.1, p.2) (record {
+      reads = reads_then
+          (λ d. Then (Known (line_size d) RepetitionSize) (IsLineOf c.args.spacing)) c.in_ok-number.ensures.reads
+          (reads_err (IsLineOf c.args.spacing) (line_of_said c.args.spacing) q);
+    })
 
 pub returns : goal.returns
 returns g c =
     let q = rw c.line_size.ensures at c.in_ok-count.ensures.reads in
-    record { reads = reads_then (λ d. Then (Known (line_size d) RepetitionSize) (IsLineOf c.args.spacing)) c.in_ok-number.ensures.reads (reads_then (IsLineOf c.args.spacing) q c.line_of.ensures.reads) }
+    record {
+      reads = reads_then (λ d. Then (Known (line_size d) RepetitionSize) (IsLineOf c.args.spacing))
+          c.in_ok-number.ensures.reads (reads_then (IsLineOf c.args.spacing) q c.line_of.ensures.reads);
+    }

@@ -11,15 +11,26 @@ use Rattle.oasis_values.proofs.input.Input.line_of.Goals as goal
 pub returns-in_err-step : goal.returns-in_err-step
 returns-in_err-step g c =
     let p = err_from_is_err_and c.from_residual.result c.from_residual.ensures.1 in
-    rw (p.1, p.2) (record { reads = reads_err (λ a. Seen New (Known (lattice_in_range a c.args.count origin 1) OutOfRange)) (λ a. placed_said New (lattice_in_range a c.args.count origin 1)) c.in_err-step.ensures.reads })
+    rw (p.1, p.2) (record {
+      reads = reads_err
+          (λ a. Seen New (Known (lattice_in_range a c.args.count origin 1) OutOfRange))
+          (λ a. placed_said New (lattice_in_range a c.args.count origin 1)) c.in_err-step.ensures.reads;
+    })
 
 pub returns-in_err-places : goal.returns-in_err-places
 returns-in_err-places g c =
     let p = err_from_is_err_and c.from_residual-in_err-places.result c.from_residual-in_err-places.ensures.1 in
     let q = rw c.lattice.ensures at c.in_err-places.ensures.reads in
-    rw (p.1, p.2) (record { reads = reads_then (λ a. Seen New (Known (lattice_in_range a c.args.count origin 1) OutOfRange)) c.in_ok-step.ensures.reads (reads_seen_err New q) })
+    rw (p.1, p.2) (record {
+      reads = reads_then
+          (λ a. Seen New (Known (lattice_in_range a c.args.count origin 1) OutOfRange)) c.in_ok-step.ensures.reads
+          (reads_seen_err New q);
+    })
 
 pub returns : goal.returns
 returns g c =
     let q = rw c.lattice.ensures at c.in_ok-places.ensures.reads in
-    record { reads = reads_then (λ a. Seen New (Known (lattice_in_range a c.args.count origin 1) OutOfRange)) c.in_ok-step.ensures.reads (reads_seen New q) }
+    record {
+      reads = reads_then (λ a. Seen New (Known (lattice_in_range a c.args.count origin 1) OutOfRange))
+          c.in_ok-step.ensures.reads (reads_seen New q);
+    }

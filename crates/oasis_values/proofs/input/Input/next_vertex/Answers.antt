@@ -9,7 +9,10 @@ use Rattle.oasis_values.proofs.input.Input.next_vertex.Goals as goal
 pub returns-in_err-by : goal.returns-in_err-by
 returns-in_err-by g c =
     let p = err_from_is_err_and c.from_residual.result c.from_residual.ensures.1 in
-    rw (p.1, p.2) (record { reads = reads_err (λ d. Known (walked c.args.walk d) OutOfRange) (λ d. known_said (walked c.args.walk d) OutOfRange) c.in_err-by.ensures.reads })
+    rw (p.1, p.2) (record {
+      reads = reads_err (λ d. Known (walked c.args.walk d) OutOfRange)
+          (λ d. known_said (walked c.args.walk d) OutOfRange) c.in_err-by.ensures.reads;
+    })
 
 pub returns : goal.returns
 returns g c =

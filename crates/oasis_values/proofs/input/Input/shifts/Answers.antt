@@ -1,4 +1,5 @@
-use Rattle.std.proofs.Common.{◌≡◌, ◌+◌, ◌-◌, ◌<◌, ◌≤◌, suc, List, [], ◌∷◌, ◌++◌, vec_len, vec_capacity, refl, sym, ap, ◌∙◌, arith}
+use Rattle.std.proofs.Common.{◌≡◌, ◌+◌, ◌-◌, ◌<◌, ◌≤◌, suc, List, [], ◌∷◌, ◌++◌, vec_len, vec_capacity, refl, sym, ap}
+use Rattle.std.proofs.Common.{◌∙◌, arith}
 use Rattle.std.proofs.lemmas.Result.{err_from_is_err_and}
 use Rattle.lvl_grid.specs.declared.point.Point.{Point}
 use Rattle.oasis_values.specs.PointLists.{origin}
@@ -12,7 +13,8 @@ use Rattle.oasis_values.proofs.input.Input.shifts.Goals as goal
 pub loop-n-init : goal.loop-n-init
 loop-n-init g c = (
   [],
-  going_from (IsShift c.args.spacing c.args.grid) (λ p. p) c.args.count origin c.args.self.now (omega arith) c.requires.live,
+  going_from (IsShift c.args.spacing c.args.grid) (λ p. p) c.args.count origin c.args.self.now (omega arith)
+      c.requires.live,
   c.push_reserved.ensures.items ∙ ap (λ l. l ++ (origin ∷ [])) c.in-Ok.ensures.items,
   c.push_reserved.ensures.len ∙ ap (λ k. k + 1) c.in-Ok.ensures.len ∙ omega arith,
   omega (arith, c.push_reserved.ensures.capacity, c.in-Ok.ensures.capacity),
@@ -20,7 +22,8 @@ loop-n-init g c = (
 
 pub loop-n-preserved : goal.loop-n-preserved
 loop-n-preserved g c =
-    let left : c.args.count - c.loop-n.n ≡ suc (c.args.count - (c.loop-n.n + 1)) = omega (arith, c.loop-n-test.true) in (
+    let left : c.args.count - c.loop-n.n ≡ suc (c.args.count - (c.loop-n.n + 1)) =
+    omega (arith, c.loop-n-test.true) in (
       c.loop-n.invariant.0 ++ (c.in_ok-at.at ∷ []),
       going_on (c.args.count - (c.loop-n.n + 1)) c.loop-n.invariant.1 left c.in_ok-at.ensures.reads,
       c.push_reserved-in-loop-n.ensures.items ∙ ap (λ l. l ++ (c.in_ok-at.at ∷ [])) c.loop-n.invariant.2,
@@ -32,12 +35,20 @@ pub returns-in_err-at : goal.returns-in_err-at
 returns-in_err-at g c =
     let p = err_from_is_err_and c.from_residual.result c.from_residual.ensures.1 in
     let left : c.args.count - c.loop-n.n ≡ suc (c.args.count - (c.loop-n.n + 1)) = omega (arith, c.loop-n-test.true) in
-    rw (p.1, p.2) (record { reads = reads_seen_err after_origin (going_err (c.args.count - (c.loop-n.n + 1)) (shift_said c.args.spacing c.args.grid) c.loop-n.invariant.1 left c.in_err-at.ensures.reads) })
+    rw (p.1, p.2) (record {
+      reads = reads_seen_err after_origin
+          (going_err (c.args.count - (c.loop-n.n + 1)) (shift_said c.args.spacing c.args.grid)
+          c.loop-n.invariant.1 left c.in_err-at.ensures.reads);
+    })
 
 pub listed-requires : goal.listed-requires
 listed-requires g c = starts_at_zero c.loop-n.shifts.items c.loop-n.invariant.0 c.loop-n.invariant.2
 
 pub returns : goal.returns
 returns g c =
-    let is : after_origin c.loop-n.invariant.0 ≡ New c.listed.result = ap New (sym c.loop-n.invariant.2) ∙ ap New (sym c.listed.ensures) in
-    record { reads = reads_seen_as after_origin (going_end c.loop-n.invariant.1 (omega (arith, c.loop-n-test.false))) is }
+    let is : after_origin c.loop-n.invariant.0 ≡ New c.listed.result =
+    ap New (sym c.loop-n.invariant.2) ∙ ap New (sym c.listed.ensures) in
+    record {
+      reads = reads_seen_as after_origin (going_end c.loop-n.invariant.1 (omega (arith, c.loop-n-test.false)))
+          is;
+    }

@@ -9,5 +9,6 @@ use Rattle.oasis_values.proofs.input.Input.shifts.Given as goal
 abbrev pub invariant-loop-n : goal.invariant-loop-n
 invariant-loop-n g l =
     (said : List Point)
-    × Going g.R.Read.remaining g.R.Read.read_errors g.R.Read.lent (IsShift l.spacing l.grid) (λ p. p) l.count origin l.initial.self l.self (l.count - l.n) l.at said
+    × Going g.R.Read.remaining g.R.Read.read_errors g.R.Read.lent (IsShift l.spacing l.grid) (λ p. p)
+    l.count origin l.initial.self l.self (l.count - l.n) l.at said
     × (l.shifts.items ≡ origin ∷ said) × (vec_len l.shifts ≡ l.n + 1) × (l.count + 1 ≤ vec_capacity l.shifts)

@@ -9,7 +9,10 @@ use Rattle.oasis_values.proofs.input.Input.step_more.Goals as goal
 pub returns-in_err-more : goal.returns-in_err-more
 returns-in_err-more g c =
     let p = err_from_is_err_and c.from_residual.result c.from_residual.ensures.1 in
-    rw (p.1, p.2) (record { reads = reads_err (λ d. Known (sum c.args.before d) OutOfRange) (λ d. known_said (sum c.args.before d) OutOfRange) c.in_err-more.ensures.reads })
+    rw (p.1, p.2) (record {
+      reads = reads_err (λ d. Known (sum c.args.before d) OutOfRange)
+          (λ d. known_said (sum c.args.before d) OutOfRange) c.in_err-more.ensures.reads;
+    })
 
 pub returns : goal.returns
 returns g c =

@@ -2,25 +2,31 @@ use Rattle.std.proofs.lemmas.Result.{err_from_is_err_and}
 use Rattle.lvl_io.specs.Spelling.{Then}
 use Rattle.oasis_values.specs.Known.{Known}
 use Rattle.oasis_values.specs.Texts.{text_length, AreCharacters}
-use Rattle.oasis_values.proofs.Reading.{reads_err, reads_then}
-use Rattle.oasis_values.proofs.Values.{after_length_said, characters_said}
+use Rattle.oasis_values.proofs.Reading.{reads_err, reads_then, reads_refutes}
+use Rattle.oasis_values.proofs.Values.{after_length_said, characters_said, string_free}
 use Rattle.oasis_values.specs.declared.fault.ValueFault.TheVariants.{StringByte}
-use Rattle.oasis_values.proofs.Reading.{reads_refutes}
-use Rattle.oasis_values.proofs.Values.{string_free}
 use Rattle.oasis_values.proofs.input.Input.string.Goals as goal
 
 pub returns-in_err-number : goal.returns-in_err-number
 returns-in_err-number g c =
     let p = err_from_is_err_and c.from_residual.result c.from_residual.ensures.1 in
-    rw (p.1, p.2) (record { reads = reads_err (λ n. Then (Known (text_length c.args.kind c.args.most n) StringByte) (AreCharacters c.args.kind)) (after_length_said c.args.kind c.args.most) c.in_err-number.ensures.reads; none = reads_refutes (string_free c.args.kind c.args.most) (reads_err (λ n. Then (Known (text_length c.args.kind c.args.most n) StringByte) (AreCharacters c.args.kind)) (after_length_said c.args.kind c.args.most) c.in_err-number.ensures.reads) })
+    let read = reads_err (λ n. Then (Known (text_length c.args.kind c.args.most n) StringByte)
+    (AreCharacters c.args.kind)) (after_length_said c.args.kind c.args.most) c.in_err-number.ensures.reads in
+    rw (p.1, p.2) (record { reads = read; none = reads_refutes (string_free c.args.kind c.args.most) read })
 
 pub returns-in_err-len : goal.returns-in_err-len
 returns-in_err-len g c =
     let p = err_from_is_err_and c.from_residual-in_err-len.result c.from_residual-in_err-len.ensures.1 in
     let q = rw c.text_length.ensures at c.in_err-len.ensures.reads in
-    rw (p.1, p.2) (record { reads = reads_then (λ n. Then (Known (text_length c.args.kind c.args.most n) StringByte) (AreCharacters c.args.kind)) c.in_ok-number.ensures.reads (reads_err (AreCharacters c.args.kind) (characters_said c.args.kind) q); none = reads_refutes (string_free c.args.kind c.args.most) (reads_then (λ n. Then (Known (text_length c.args.kind c.args.most n) StringByte) (AreCharacters c.args.kind)) c.in_ok-number.ensures.reads (reads_err (AreCharacters c.args.kind) (characters_said c.args.kind) q)) })
+    let read = reads_then (λ n. Then (Known (text_length c.args.kind c.args.most n) StringByte)
+    (AreCharacters c.args.kind)) c.in_ok-number.ensures.reads
+    (reads_err (AreCharacters c.args.kind) (characters_said c.args.kind) q) in
+    rw (p.1, p.2) (record { reads = read; none = reads_refutes (string_free c.args.kind c.args.most) read })
 
 pub returns : goal.returns
 returns g c =
     let q = rw c.text_length.ensures at c.in_ok-len.ensures.reads in
-    record { reads = reads_then (λ n. Then (Known (text_length c.args.kind c.args.most n) StringByte) (AreCharacters c.args.kind)) c.in_ok-number.ensures.reads (reads_then (AreCharacters c.args.kind) q c.characters.ensures.reads); none = reads_refutes (string_free c.args.kind c.args.most) (reads_then (λ n. Then (Known (text_length c.args.kind c.args.most n) StringByte) (AreCharacters c.args.kind)) c.in_ok-number.ensures.reads (reads_then (AreCharacters c.args.kind) q c.characters.ensures.reads)) }
+    let read = reads_then (λ n. Then (Known (text_length c.args.kind c.args.most n) StringByte)
+    (AreCharacters c.args.kind)) c.in_ok-number.ensures.reads
+    (reads_then (AreCharacters c.args.kind) q c.characters.ensures.reads) in
+    record { reads = read; none = reads_refutes (string_free c.args.kind c.args.most) read }

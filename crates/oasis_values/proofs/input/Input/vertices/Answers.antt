@@ -1,4 +1,5 @@
-use Rattle.std.proofs.Common.{◌≡◌, ◌+◌, ◌-◌, ◌<◌, ◌≤◌, suc, List, [], ◌∷◌, ◌++◌, vec_len, vec_capacity, refl, sym, ap, ◌∙◌, arith}
+use Rattle.std.proofs.Common.{◌≡◌, ◌+◌, ◌-◌, ◌<◌, ◌≤◌, suc, List, [], ◌∷◌, ◌++◌, vec_len, vec_capacity, refl, sym, ap}
+use Rattle.std.proofs.Common.{◌∙◌, arith}
 use Rattle.std.proofs.lemmas.Result.{err_from_is_err_and}
 use Rattle.lvl_grid.specs.declared.point.Point.{Point}
 use Rattle.oasis_values.specs.PointLists.{origin, last_of, closed, implied, if_any, start_of, IsNext}
@@ -10,7 +11,9 @@ use Rattle.oasis_values.proofs.input.Input.vertices.Goals as goal
 pub loop-n-init : goal.loop-n-init
 loop-n-init g c = (
   [],
-  going_at c.start_of-walk.ensures (going_from (IsNext c.args.kind) (λ w. w.at) c.args.count (start_of c.args.kind) c.args.self.now (omega arith) c.requires.live),
+  going_at c.start_of-walk.ensures
+      (going_from (IsNext c.args.kind) (λ w. w.at) c.args.count (start_of c.args.kind) c.args.self.now (omega arith)
+      c.requires.live),
   c.push_reserved.ensures.items ∙ ap (λ l. l ++ (origin ∷ [])) c.in-Ok.ensures.items,
   ap (λ w. w.at) c.start_of-walk.ensures,
   c.push_reserved.ensures.len ∙ ap (λ k. k + 1) c.in-Ok.ensures.len ∙ omega arith,
@@ -20,7 +23,8 @@ loop-n-init g c = (
 pub loop-n-preserved : goal.loop-n-preserved
 loop-n-preserved g c =
     let said = c.loop-n.invariant.0 in
-    let left : c.args.count - c.loop-n.n ≡ suc (c.args.count - (c.loop-n.n + 1)) = omega (arith, c.loop-n-test.true) in (
+    let left : c.args.count - c.loop-n.n ≡ suc (c.args.count - (c.loop-n.n + 1)) =
+    omega (arith, c.loop-n-test.true) in (
       said ++ (c.in_ok-walk.walk.at ∷ []),
       going_on (c.args.count - (c.loop-n.n + 1)) c.loop-n.invariant.1 left c.in_ok-walk.ensures.reads,
       c.push_reserved-in-loop-n.ensures.items ∙ ap (λ l. l ++ (c.in_ok-walk.walk.at ∷ [])) c.loop-n.invariant.2,
@@ -33,12 +37,21 @@ pub returns-in_err-walk : goal.returns-in_err-walk
 returns-in_err-walk g c =
     let p = err_from_is_err_and c.from_residual.result c.from_residual.ensures.1 in
     let left : c.args.count - c.loop-n.n ≡ suc (c.args.count - (c.loop-n.n + 1)) = omega (arith, c.loop-n-test.true) in
-    rw (p.1, p.2) (record { reads = reads_seen_err (closed c.args.purpose c.args.kind) (going_err (c.args.count - (c.loop-n.n + 1)) (next_said c.args.kind) c.loop-n.invariant.1 left c.in_err-walk.ensures.reads) })
+    rw (p.1, p.2) (record {
+      reads = reads_seen_err (closed c.args.purpose c.args.kind)
+          (going_err (c.args.count - (c.loop-n.n + 1)) (next_said c.args.kind) c.loop-n.invariant.1 left
+          c.in_err-walk.ensures.reads);
+    })
 
 pub returns : goal.returns
 returns g c =
     let said = c.loop-n.invariant.0 in
-    let corner : implied c.args.purpose c.args.kind (last_of origin said) ≡ c.implied.result = ap (implied c.args.purpose c.args.kind) (sym c.loop-n.invariant.3) ∙ sym c.implied.ensures in
+    let corner : implied c.args.purpose c.args.kind (last_of origin said) ≡ c.implied.result =
+    ap (implied c.args.purpose c.args.kind) (sym c.loop-n.invariant.3) ∙ sym c.implied.ensures in
     let is : closed c.args.purpose c.args.kind said ≡ c.close.new.points.items =
-    ap (λ o. (origin ∷ said) ++ if_any o) corner ∙ ap (λ l. l ++ if_any c.implied.result) (sym c.loop-n.invariant.2) ∙ sym c.close.ensures in
-    record { reads = reads_seen_as (closed c.args.purpose c.args.kind) (going_end c.loop-n.invariant.1 (omega (arith, c.loop-n-test.false))) is }
+    ap (λ o. (origin ∷ said) ++ if_any o) corner ∙ ap (λ l. l ++ if_any c.implied.result) (sym c.loop-n.invariant.2)
+    ∙ sym c.close.ensures in
+    record {
+      reads = reads_seen_as (closed c.args.purpose c.args.kind)
+          (going_end c.loop-n.invariant.1 (omega (arith, c.loop-n-test.false))) is;
+    }

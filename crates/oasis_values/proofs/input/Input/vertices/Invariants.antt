@@ -4,9 +4,12 @@ use Rattle.oasis_values.specs.PointLists.{origin, last_of, start_of, IsNext}
 use Rattle.oasis_values.proofs.Loops.{Going}
 use Rattle.oasis_values.proofs.input.Input.vertices.Given as goal
 
--- some vertices were read, which stand after the start; the walk is at the last of them, and there is room for the others
+-- some vertices were read, which stand after the start; the walk is at the last of them, and there is room for the
+-- others
 abbrev pub invariant-loop-n : goal.invariant-loop-n
 invariant-loop-n g l =
     (said : List Point)
-    × Going g.R.Read.remaining g.R.Read.read_errors g.R.Read.lent (IsNext l.kind) (λ w. w.at) l.count (start_of l.kind) l.initial.self l.self (l.count - l.n) l.walk said
-    × (l.points.items ≡ origin ∷ said) × (l.walk.at ≡ last_of origin said) × (vec_len l.points ≡ l.n + 1) × (l.count + 2 ≤ vec_capacity l.points)
+    × Going g.R.Read.remaining g.R.Read.read_errors g.R.Read.lent (IsNext l.kind) (λ w. w.at) l.count
+    (start_of l.kind) l.initial.self l.self (l.count - l.n) l.walk said
+    × (l.points.items ≡ origin ∷ said) × (l.walk.at ≡ last_of origin said) × (vec_len l.points ≡ l.n + 1)
+    × (l.count + 2 ≤ vec_capacity l.points)
