@@ -7,11 +7,13 @@ use Rattle.oasis_values.specs.Numbers.{IsUnsigned}
 use Rattle.oasis_records.specs.Fields.{has}
 use Rattle.oasis_records.specs.Cells.{IsCellRef, IsCell, unnumbered, IsCellName, numbered, IsNumberedName}
 use Rattle.oasis_records.specs.Placements.{turn_of, placement, IsCellIf, IsTurnedOf, IsTurned, IsScaledOf, IsScaled}
-use Rattle.oasis_records.specs.Starts.{IsVersionText, IsVersion, IsUnit, IsFlag, AreOffsets, AreTables, start, is_here, IsStartOf, IsStart}
+use Rattle.oasis_records.specs.Starts.{IsVersionText, IsVersion, IsUnit, IsFlag, AreOffsets, AreTables, start, is_here}
+use Rattle.oasis_records.specs.Starts.{IsStartOf, IsStart}
 use Rattle.oasis_records.specs.declared.cell.CellRef.TheVariants.{Number, Name}
 use Rattle.oasis_records.specs.declared.placement.Transform.TheVariants.{Turned, Scaled}
 use Rattle.oasis_records.specs.declared.record.Record.TheVariants.{Cell}
-use Rattle.oasis_records.proofs.Codes.{IsCode, gives_code, then_code, seen_code, if_code, byte_code, unsigned_code, real_code, string_code, position_code}
+use Rattle.oasis_records.proofs.Codes.{IsCode, gives_code, then_code, seen_code, if_code, byte_code, unsigned_code}
+use Rattle.oasis_records.proofs.Codes.{real_code, string_code, position_code}
 use Rattle.oasis_records.proofs.Ruling.{and_then_code}
 
 pub cell_ref_code : (b : Bool) → IsCode (IsCellRef b)
@@ -31,7 +33,8 @@ pub cell_if_code : (i : ℕ) → IsCode (IsCellIf i)
 cell_if_code i = if_code (has i 0x80) (cell_ref_code (has i 0x40))
 
 pub turned_of_code : (i : ℕ) → IsCode (IsTurnedOf i)
-turned_of_code i = then_code (cell_if_code i) (λ c. seen_code (placement i c (Turned (turn_of (i / 2 % 4)))) (position_code (i / 2)))
+turned_of_code i =
+    then_code (cell_if_code i) (λ c. seen_code (placement i c (Turned (turn_of (i / 2 % 4)))) (position_code (i / 2)))
 
 pub scaled_of_code : (i : ℕ) → IsCode (IsScaledOf i)
 scaled_of_code i =
@@ -58,14 +61,20 @@ pub flag_code : IsCode IsFlag
 flag_code = then_code unsigned_code (λ f. gives_code)
 
 pub offsets_code : IsCode AreOffsets
-offsets_code = seen_code (λ _. true) (record { free = chain_free (λ _. IsUnsigned) (λ n. n) 12 0 (λ _. unsigned_free); said = chain_said (λ _. IsUnsigned) (λ n. n) 12 0 (λ _. unsigned_said) })
+offsets_code =
+    seen_code (λ _. true)
+    (record {
+      free = chain_free (λ _. IsUnsigned) (λ n. n) 12 0 (λ _. unsigned_free);
+      said = chain_said (λ _. IsUnsigned) (λ n. n) 12 0 (λ _. unsigned_said);
+    })
 
 pub tables_code : (b : Bool) → IsCode (AreTables b)
 tables_code true = offsets_code
 tables_code false = gives_code
 
 pub start_of_code : IsCode IsStartOf
-start_of_code = and_then_code unit_code (λ u. and_then_code flag_code (λ f. seen_code (start u) (tables_code (is_here f))))
+start_of_code =
+    and_then_code unit_code (λ u. and_then_code flag_code (λ f. seen_code (start u) (tables_code (is_here f))))
 
 pub start_code : IsCode IsStart
 start_code = and_then_code version_code (λ _. start_of_code)

@@ -4,12 +4,15 @@ use Rattle.oasis_values.specs.declared.point_list.Use.TheVariants.{Polygon as Fo
 use Rattle.oasis_records.specs.Fields.{has, IsInfo}
 use Rattle.oasis_records.specs.Rectangles.{rectangle, IsRectangleOf, IsRectangle}
 use Rattle.oasis_records.specs.Polygons.{polygon, IsPolygonOf, IsPolygon}
-use Rattle.oasis_records.specs.Paths.{IsExtension, ends, AreEndsOf, some_ends, AreEnds, AreEndsIf, IsStrokeOf, path, IsPathOf, IsPath}
+use Rattle.oasis_records.specs.Paths.{IsExtension, ends, AreEndsOf, some_ends, AreEnds, AreEndsIf, IsStrokeOf, path}
+use Rattle.oasis_records.specs.Paths.{IsPathOf, IsPath}
 use Rattle.oasis_records.specs.declared.path.Extension.TheVariants.{Explicit}
 use Rattle.oasis_records.specs.declared.path.Kind.{Kind}
-use Rattle.oasis_records.specs.declared.path.Kind.TheVariants.{Modal as OfModal, Flush as OfFlush, HalfWidth as OfHalfWidth, Explicit as OfExplicit}
+use Rattle.oasis_records.specs.declared.path.Kind.TheVariants.{Modal as OfModal, Flush as OfFlush}
+use Rattle.oasis_records.specs.declared.path.Kind.TheVariants.{HalfWidth as OfHalfWidth, Explicit as OfExplicit}
 use Rattle.oasis_records.specs.declared.path.Stroke.{Stroke}
-use Rattle.oasis_records.proofs.Codes.{IsCode, gives_code, then_code, seen_code, if_code, byte_code, unsigned_code, signed_code, points_code, on_layer_code, position_code}
+use Rattle.oasis_records.proofs.Codes.{IsCode, gives_code, then_code, seen_code, if_code, byte_code, unsigned_code}
+use Rattle.oasis_records.proofs.Codes.{signed_code, points_code, on_layer_code, position_code}
 use Rattle.oasis_records.proofs.Ruling.{and_then_code}
 
 pub info_code : (limit : ℕ) → IsCode (IsInfo limit)
@@ -54,7 +57,8 @@ stroke_of_code i =
     then_code (if_code (has i 0x40) unsigned_code) (λ w. and_then_code (ends_if_code (has i 0x80)) (λ e. gives_code)))
 
 pub path_of_code : (s : Stroke) → IsCode (IsPathOf s)
-path_of_code s = then_code (if_code (has s.info 0x20) (points_code ForPath)) (λ ps. seen_code (path s ps) (position_code s.info))
+path_of_code s =
+    then_code (if_code (has s.info 0x20) (points_code ForPath)) (λ ps. seen_code (path s ps) (position_code s.info))
 
 pub path_code : IsCode IsPath
 path_code = and_then_code (then_code byte_code stroke_of_code) (λ s. seen_code Ok (path_of_code s))

@@ -6,7 +6,7 @@ use Rattle.lvl_io.specs.Spelling.{IsPrefixFree, CanSay, IsBegun}
 use Rattle.lvl_refusal.specs.declared.Refusal.{Refusal}
 use Rattle.lvl_refusal.specs.declared.Refusal.TheVariants.{Breach, OutOfMemory}
 use Rattle.oasis_values.specs.Input.{input_offset, room_left}
-use Rattle.oasis_values.specs.Reads.{Fails, Reads}
+use Rattle.oasis_values.specs.Reads.{Fails, bytes_had, Reads}
 use Rattle.oasis_values.specs.declared.fault.ValueFault.{ValueFault}
 use Rattle.oasis_values.specs.declared.input.Input.{Input}
 use Rattle.oasis_records.specs.Sizes.{Sized}
@@ -20,22 +20,27 @@ abbrev of_len : ℕ → Result ℕ ValueFault → Result Measured ValueFault
 of_len n (Ok v) = Ok (measured v n)
 of_len n (Err f) = Err f
 
-sized_says : (S : List ℕ → Result ℕ ValueFault → Type 0) (b : List ℕ) (r : Result ℕ ValueFault) → S b r → Sized S b (of_len (length b) r)
+sized_says : (S : List ℕ → Result ℕ ValueFault → Type 0) (b : List ℕ) (r : Result ℕ ValueFault) → S b r
+    → Sized S b (of_len (length b) r)
 sized_says S b (Ok v) s = (s, refl)
 sized_says S b (Err f) s = s
 
 sized_said : (S : List ℕ → Result ℕ ValueFault → Type 0) → CanSay S → CanSay (Sized S)
-sized_said S s = record { bytes = s.bytes; value = of_len (length s.bytes) s.value; says = sized_says S s.bytes s.value s.says }
+sized_said S s =
+    record { bytes = s.bytes; value = of_len (length s.bytes) s.value; says = sized_says S s.bytes s.value s.says }
 
-sized_only : (S : List ℕ → Result ℕ ValueFault → Type 0) → IsPrefixFree S → (b c m n : List ℕ) (x y : Result Measured ValueFault)
+sized_only : (S : List ℕ → Result ℕ ValueFault → Type 0) → IsPrefixFree S
+    → (b c m n : List ℕ) (x y : Result Measured ValueFault)
     → Sized S b x → Sized S c y → b ++ m ≡ c ++ n → (b ≡ c) × (x ≡ y)
 sized_only S s b c m n (Ok x) (Ok y) p q e =
     let o = s.only b c m n (Ok x.value) (Ok y.value) p.0 q.0 e in
     let v : x.value ≡ y.value = let h : Ok x.value ≡ Ok y.value = o.1 in cc in
     let l : x.len ≡ y.len = p.1 ∙ ap length o.0 ∙ sym q.1 in
     (o.0, ap (λ i. Ok (measured i x.len)) v ∙ ap (λ i. Ok (measured y.value i)) l)
-sized_only S s b c m n (Ok x) (Err f) p q e = absurd (let o = s.only b c m n (Ok x.value) (Err f) p.0 q e in let h : Ok x.value ≡ Err f = o.1 in cc)
-sized_only S s b c m n (Err f) (Ok y) p q e = absurd (let o = s.only b c m n (Err f) (Ok y.value) p q.0 e in let h : Err f ≡ Ok y.value = o.1 in cc)
+sized_only S s b c m n (Ok x) (Err f) p q e =
+    absurd (let o = s.only b c m n (Ok x.value) (Err f) p.0 q e in let h : Ok x.value ≡ Err f = o.1 in cc)
+sized_only S s b c m n (Err f) (Ok y) p q e =
+    absurd (let o = s.only b c m n (Err f) (Ok y.value) p q.0 e in let h : Err f ≡ Ok y.value = o.1 in cc)
 sized_only S s b c m n (Err f) (Err h) p q e =
     let o = s.only b c m n (Err f) (Err h) p q e in
     let k : f ≡ h = let i : Err f ≡ Err h = o.1 in cc in
@@ -45,32 +50,55 @@ pub sized_code : {S : List ℕ → Result ℕ ValueFault → Type 0} → IsCode 
 sized_code {S = S} s = record { free = record { only = sized_only S s.free }; said = sized_said S s.said }
 
 sized_begun : (S : List ℕ → Result ℕ ValueFault → Type 0) (xs : List ℕ) → IsBegun S xs → IsBegun (Sized S) xs
-sized_begun S xs p = record { more = p.more; value = of_len (length (xs ++ p.more)) p.value; short = p.short; says = sized_says S (xs ++ p.more) p.value p.says }
+sized_begun S xs p =
+    record {
+      more = p.more;
+      value = of_len (length (xs ++ p.more)) p.value;
+      short = p.short;
+      says = sized_says S (xs ++ p.more) p.value p.says;
+    }
 
-sized_fails : (S : List ℕ → Result ℕ ValueFault → Type 0) (room : ℕ) (xs : List ℕ) (f : ValueFault) → Fails S room xs f → Fails (Sized S) room xs f
-sized_fails S room xs f p =
+sized_fails : (S : List ℕ → Result ℕ ValueFault → Type 0) (room had : ℕ) (xs : List ℕ) (f : ValueFault)
+    → Fails S room had xs f → Fails (Sized S) room had xs f
+sized_fails S room had xs f p =
     record {
       truncated = λ e. let q = p.truncated e in (q.0, sized_begun S xs q.1);
-      too_long = λ e. let q = p.too_long e in (q.0, sized_begun S (take room xs) q.1);
+      too_long = λ e. let q = p.too_long e in (q.0, q.1, sized_begun S (take room xs) q.2);
       breached = λ e.
           let q = p.breached e in
           record {
             count = q.count;
             within = q.within;
-            front = record { bytes = q.front.bytes; rest = q.front.rest; says = q.front.says; whole = q.front.whole; count = q.front.count };
+            seen = q.seen;
+            front = record {
+              bytes = q.front.bytes;
+              rest = q.front.rest;
+              says = q.front.says;
+              whole = q.front.whole;
+              count = q.front.count;
+            };
           };
     }
 
 pub reads_sized : {R : Type 0} {remaining : R → Option (List ℕ)} {errors : R → ℕ} {lent : R → List GName}
     {S : List ℕ → Result ℕ ValueFault → Type 0} {old new : Input R} (v n : ℕ)
-    → Reads remaining errors lent S old new (Ok v) → n ≡ input_offset new - input_offset old → Reads remaining errors lent (Sized S) old new (Ok (measured v n))
+    → Reads remaining errors lent S old new (Ok v) → n ≡ input_offset new - input_offset old
+    → Reads remaining errors lent (Sized S) old new (Ok (measured v n))
 reads_sized v n p e =
     record {
       again = λ h. absurd (let k = p.again h in cc);
       fresh = λ h k. cc;
       answers = λ h xs k.
-          let a = p.answers h xs k in
-          (record { bytes = a.0.bytes; rest = a.0.rest; says = (a.0.says, e ∙ sym a.0.count); whole = a.0.whole; count = a.0.count }, a.1);
+          let a = p.answers h xs k in (
+            record {
+              bytes = a.0.bytes;
+              rest = a.0.rest;
+              says = (a.0.says, e ∙ sym a.0.count);
+              whole = a.0.whole;
+              count = a.0.count;
+            },
+            a.1,
+          );
       left = p.left;
       forward = p.forward;
       failed = p.failed;
@@ -85,12 +113,13 @@ err_as B (Ok x) = Err OutOfMemory
 
 pub reads_sized_err : {R : Type 0} {remaining : R → Option (List ℕ)} {errors : R → ℕ} {lent : R → List GName}
     {S : List ℕ → Result ℕ ValueFault → Type 0} {old new : Input R} (f : ValueFault)
-    → Reads remaining errors lent S old new (Err (Breach f)) → Reads remaining errors lent (Sized S) old new (Err (Breach f))
-reads_sized_err {S = S} {old = old} f p =
+    → Reads remaining errors lent S old new (Err (Breach f))
+    → Reads remaining errors lent (Sized S) old new (Err (Breach f))
+reads_sized_err {S = S} {old = old} {new = new} f p =
     record {
       again = λ h. ap (err_as Measured) (p.again h);
       fresh = λ h k. p.fresh h (ap (err_as ℕ) k);
-      answers = λ h xs k. sized_fails S (room_left old) xs f (p.answers h xs k);
+      answers = λ h xs k. sized_fails S (room_left old) (bytes_had old new) xs f (p.answers h xs k);
       left = p.left;
       forward = p.forward;
       failed = p.failed;

@@ -11,7 +11,8 @@ use Rattle.oasis_values.specs.declared.fault.ValueFault.{ValueFault}
 use Rattle.oasis_values.specs.declared.input.Input.{Input}
 use Rattle.oasis_values.proofs.Integers.{byte_free, byte_said}
 use Rattle.oasis_values.proofs.Reading.{reads_then, reads_nothing}
-use Rattle.oasis_records.specs.Ends.{IsPaddingLength, ArePadding, IsScheme, four, AreFour, signed, IsSignature, IsEnding, IsEndOf, IsEnd}
+use Rattle.oasis_records.specs.Ends.{IsPaddingLength, ArePadding, IsScheme, four, AreFour, signed, IsSignature}
+use Rattle.oasis_records.specs.Ends.{IsEnding, IsEndOf, IsEnd}
 use Rattle.oasis_records.specs.Magic.{AreMagicBytes}
 use Rattle.oasis_records.specs.Records.{record_type, AreFields, IsRecord}
 use Rattle.oasis_records.specs.Sizes.{Sized}
@@ -19,9 +20,20 @@ use Rattle.oasis_records.specs.declared.fault.RecordRule.{RecordRule}
 use Rattle.oasis_records.specs.declared.measured.Measured.{Measured}
 use Rattle.oasis_records.specs.declared.record.Record.{Record}
 use Rattle.oasis_records.specs.declared.record_type.RecordType.{RecordType}
-use Rattle.oasis_records.specs.declared.record_type.RecordType.TheVariants.{Pad as OfPad, Start as OfStart, End as OfEnd, CellName as OfCellName, NumberedCellName as OfNumberedCellName, NumberedCell as OfNumberedCell, NamedCell as OfNamedCell, XyAbsolute as OfXyAbsolute, XyRelative as OfXyRelative, Placement as OfPlacement, ScaledPlacement as OfScaledPlacement, Rectangle as OfRectangle, Polygon as OfPolygon, Path as OfPath}
+use Rattle.oasis_records.specs.declared.record_type.RecordType.TheVariants.{Pad as OfPad, Start as OfStart}
+use Rattle.oasis_records.specs.declared.record_type.RecordType.TheVariants.{End as OfEnd, CellName as OfCellName}
+use Rattle.oasis_records.specs.declared.record_type.RecordType.TheVariants.{NumberedCellName as OfNumberedCellName}
+use Rattle.oasis_records.specs.declared.record_type.RecordType.TheVariants.{NumberedCell as OfNumberedCell}
+use Rattle.oasis_records.specs.declared.record_type.RecordType.TheVariants.{NamedCell as OfNamedCell}
+use Rattle.oasis_records.specs.declared.record_type.RecordType.TheVariants.{XyAbsolute as OfXyAbsolute}
+use Rattle.oasis_records.specs.declared.record_type.RecordType.TheVariants.{XyRelative as OfXyRelative}
+use Rattle.oasis_records.specs.declared.record_type.RecordType.TheVariants.{Placement as OfPlacement}
+use Rattle.oasis_records.specs.declared.record_type.RecordType.TheVariants.{ScaledPlacement as OfScaledPlacement}
+use Rattle.oasis_records.specs.declared.record_type.RecordType.TheVariants.{Rectangle as OfRectangle}
+use Rattle.oasis_records.specs.declared.record_type.RecordType.TheVariants.{Polygon as OfPolygon, Path as OfPath}
 use Rattle.oasis_records.proofs.Codes.{IsCode, gives_code, then_code, seen_code, byte_code, unsigned_code}
-use Rattle.oasis_records.proofs.Others.{cell_code, cell_name_code, numbered_name_code, turned_code, scaled_code, tables_code, start_code}
+use Rattle.oasis_records.proofs.Others.{cell_code, cell_name_code, numbered_name_code, turned_code, scaled_code}
+use Rattle.oasis_records.proofs.Others.{tables_code, start_code}
 use Rattle.oasis_records.proofs.Ruling.{and_then_code, reads_go}
 use Rattle.oasis_records.proofs.Shapes.{rectangle_code, polygon_code, path_code}
 use Rattle.oasis_records.proofs.Sizes.{sized_code}
@@ -30,20 +42,27 @@ pub padding_length_code : (b : Bool) → IsCode (IsPaddingLength b)
 padding_length_code b = then_code (tables_code b) (λ t. unsigned_code)
 
 pub padding_code : (n : ℕ) → IsCode (ArePadding n)
-padding_code n = seen_code (λ _. n) (record { free = chain_free (λ _. IsByte) (λ x. x) n 0 (λ _. byte_free); said = chain_said (λ _. IsByte) (λ x. x) n 0 (λ _. byte_said) })
+padding_code n =
+    seen_code (λ _. n)
+    (record {
+      free = chain_free (λ _. IsByte) (λ x. x) n 0 (λ _. byte_free);
+      said = chain_said (λ _. IsByte) (λ x. x) n 0 (λ _. byte_said);
+    })
 
 pub scheme_code : IsCode IsScheme
 scheme_code = then_code byte_code (λ s. gives_code)
 
 pub four_code : IsCode AreFour
-four_code = then_code byte_code (λ a. then_code byte_code (λ b. then_code byte_code (λ d. seen_code (four a b d) byte_code)))
+four_code =
+    then_code byte_code (λ a. then_code byte_code (λ b. then_code byte_code (λ d. seen_code (four a b d) byte_code)))
 
 pub signature_code : (b : Bool) (s : ℕ) → IsCode (IsSignature b s)
 signature_code true s = gives_code
 signature_code false s = seen_code (signed (s == 1)) four_code
 
 pub ending_code : (n : ℕ) → IsCode (IsEnding n)
-ending_code n = then_code (padding_code n) (λ p. and_then_code scheme_code (λ s. seen_code Ok (signature_code (s == 0) s)))
+ending_code n =
+    then_code (padding_code n) (λ p. and_then_code scheme_code (λ s. seen_code Ok (signature_code (s == 0) s)))
 
 pub end_of_code : (n : ℕ) (p : Measured) → IsCode (IsEndOf n p)
 end_of_code n p = and_then_code (ending_code p.value) (λ v. gives_code)
@@ -76,8 +95,14 @@ pub record_code : (b : Bool) → IsCode (IsRecord b)
 record_code b = then_code (sized_code unsigned_code) (λ id. and_then_code gives_code (fields_code b id.len))
 
 -- an id, of whose type the fields are read
-pub reads_record : {R : Type 0} {remaining : R → Option (List ℕ)} {errors : R → ℕ} {lent : R → List GName} (b : Bool) {old mid new : Input R} {id : Measured} (kind : RecordType) {r : Result (Result Record RecordRule) (Refusal ValueFault)}
-    → Reads remaining errors lent (Sized IsUnsigned) old mid (Ok id) → record_type id.value ≡ Ok kind → Reads remaining errors lent (AreFields b id.len kind) mid new r → Reads remaining errors lent (IsRecord b) old new r
+pub reads_record : {R : Type 0} {remaining : R → Option (List ℕ)} {errors : R → ℕ} {lent : R → List GName} (b : Bool)
+    {old mid new : Input R} {id : Measured} (kind : RecordType)
+    {r : Result (Result Record RecordRule) (Refusal ValueFault)}
+    → Reads remaining errors lent (Sized IsUnsigned) old mid (Ok id) → record_type id.value ≡ Ok kind
+    → Reads remaining errors lent (AreFields b id.len kind) mid new r
+    → Reads remaining errors lent (IsRecord b) old new r
 reads_record {remaining = remaining} {errors = errors} {lent = lent} b {mid = mid} {id = id} kind p e q =
-    let known : Reads remaining errors lent (Gives (Ok (record_type id.value))) mid mid (Ok (Ok kind)) = subst (λ t. Reads remaining errors lent (Gives (Ok (record_type id.value))) mid mid (Ok t)) e (reads_nothing (record_type id.value) p.failed) in
+    let known : Reads remaining errors lent (Gives (Ok (record_type id.value))) mid mid (Ok (Ok kind)) =
+    subst (λ t. Reads remaining errors lent (Gives (Ok (record_type id.value))) mid mid (Ok t)) e
+    (reads_nothing (record_type id.value) p.failed) in
     reads_then _ p (reads_go (AreFields b id.len) known q)

@@ -62,4 +62,5 @@ IsEndOf id_len p = AndThen (IsEnding p.value) (λ v. Must (is_whole id_len p v) 
 
 -- after an id of so many bytes
 abbrev pub IsEnd : Bool → ℕ → List ℕ → Result (Result Record RecordRule) ValueFault → Type 0
-IsEnd has_offsets id_len = Then (Sized (IsPaddingLength has_offsets)) (λ p. AndThen (Must (fits id_len p) p EndLength) (IsEndOf id_len))
+IsEnd has_offsets id_len =
+    Then (Sized (IsPaddingLength has_offsets)) (λ p. AndThen (Must (fits id_len p) p EndLength) (IsEndOf id_len))

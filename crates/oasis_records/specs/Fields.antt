@@ -40,4 +40,5 @@ position x y r = record { x = x; y = y; repetition = r }
 -- the fields of the letters X, Y and R
 abbrev pub IsPosition : ℕ → List ℕ → Result Position ValueFault → Type 0
 IsPosition info =
-    Then (If (has info 0x10) IsSigned) (λ x. Then (If (has info 0x08) IsSigned) (λ y. Seen (position x y) (If (has info 0x04) (IsRepetition true))))
+    Then (If (has info 0x10) IsSigned)
+    (λ x. Then (If (has info 0x08) IsSigned) (λ y. Seen (position x y) (If (has info 0x04) (IsRepetition true))))

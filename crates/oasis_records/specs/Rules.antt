@@ -1,6 +1,5 @@
--- The rules of records, beside those of values. What bytes say of a record is the record, or the rule that they
--- breach; so
--- it is a value of the bytes as any other, and the bytes taken are those that spell the record or breach the rule.
+-- The rules of records, beside those of values. What bytes say of a record is the record, or the rule that they breach;
+-- so it is a value of the bytes as any other, and the bytes taken are those that spell the record or breach the rule.
 use Rattle.std.specs.Prelude.{◌≡◌, Bool, true, false, ℕ, List, Option, Some, Result, Ok, Err}
 use Rattle.lvl_io.specs.Spelling.{Gives, Then, NoneAgrees}
 use Rattle.lvl_refusal.specs.declared.Refusal.{Refusal}
@@ -64,5 +63,7 @@ IsDenied S xs (Err OutOfMemory) = Unit {0}
 IsDenied {A = A} S xs (Err (Breach f)) = is_rule f ≡ true → (x : A) → NoneAgrees S xs (Ok (Ok x))
 
 -- the same of a call
-pub record Denies {R A : Type 0} (remaining : R → Option (List ℕ)) (S : List ℕ → Result (Result A RecordRule) ValueFault → Type 0) (old : Input R) (r : Result (Result A RecordRule) (Refusal ValueFault)) : Type 0 where
+pub record Denies {R A : Type 0} (remaining : R → Option (List ℕ))
+    (S : List ℕ → Result (Result A RecordRule) ValueFault → Type 0) (old : Input R)
+    (r : Result (Result A RecordRule) (Refusal ValueFault)) : Type 0 where
   pub none : has_failed old ≡ false → (xs : List ℕ) → bytes_left remaining old ≡ Some xs → IsDenied S xs r

@@ -10,4 +10,9 @@ returns-in_err-validation g c =
     rw (p.1, p.2) (record { reads = reads_stop _ _ (λ v. gives_code) c.in_err-validation.ensures.reads })
 
 pub returns : goal.returns
-returns g c = rw (c.must.ensures, c.is_whole-whole.ensures) (record { reads = reads_go _ c.in_ok-validation.ensures.reads (reads_nothing _ c.in_ok-validation.ensures.reads.failed) })
+returns g c =
+    rw (c.must.ensures, c.is_whole-whole.ensures)
+    (record {
+      reads = reads_go _ c.in_ok-validation.ensures.reads
+          (reads_nothing _ c.in_ok-validation.ensures.reads.failed);
+    })

@@ -11,4 +11,6 @@ returns-in_err-bytes g c =
     rw (p.1, p.2, c.if-is_absent.false) (record { reads = reads_seen_err _ c.in_err-bytes.ensures.reads })
 
 pub returns : goal.returns
-returns g c = rw (c.signed.ensures, c.is_crc.ensures, c.if-is_absent.false) (record { reads = reads_seen _ c.in_ok-bytes.ensures.reads })
+returns g c =
+    rw (c.signed.ensures, c.is_crc.ensures, c.if-is_absent.false)
+    (record { reads = reads_seen _ c.in_ok-bytes.ensures.reads })

@@ -11,14 +11,27 @@ loop-n-init g c = (0, [], going_from (λ _. IsByte) (λ x. x) c.args.count 0 c.a
 
 pub loop-n-preserved : goal.loop-n-preserved
 loop-n-preserved g c =
-    let left : c.args.count - c.loop-n.n ≡ suc (c.args.count - (c.loop-n.n + 1)) = omega (arith, c.loop-n-test.true) in
-    (c.in_ok-_byte._byte, _, going_on (c.args.count - (c.loop-n.n + 1)) c.loop-n.invariant.2 left c.in_ok-_byte.ensures.reads)
+    let left : c.args.count - c.loop-n.n ≡ suc (c.args.count - (c.loop-n.n + 1)) =
+    omega (arith, c.loop-n-test.true) in (
+      c.in_ok-_byte._byte,
+      _,
+      going_on (c.args.count - (c.loop-n.n + 1)) c.loop-n.invariant.2 left
+          c.in_ok-_byte.ensures.reads,
+    )
 
 pub returns-in_err-_byte : goal.returns-in_err-_byte
 returns-in_err-_byte g c =
     let p = err_from_is_err_and c.from_residual.result c.from_residual.ensures.1 in
     let left : c.args.count - c.loop-n.n ≡ suc (c.args.count - (c.loop-n.n + 1)) = omega (arith, c.loop-n-test.true) in
-    rw (p.1, p.2) (record { reads = reads_seen_err (λ _. c.args.count) (going_err (c.args.count - (c.loop-n.n + 1)) (λ _. byte_said) c.loop-n.invariant.2 left c.in_err-_byte.ensures.reads) })
+    rw (p.1, p.2) (record {
+      reads = reads_seen_err (λ _. c.args.count)
+          (going_err (c.args.count - (c.loop-n.n + 1)) (λ _. byte_said) c.loop-n.invariant.2 left
+          c.in_err-_byte.ensures.reads);
+    })
 
 pub returns : goal.returns
-returns g c = record { reads = reads_seen (λ _. c.args.count) (going_end c.loop-n.invariant.2 (omega (arith, c.loop-n-test.false))) }
+returns g c =
+    record {
+      reads = reads_seen (λ _. c.args.count)
+          (going_end c.loop-n.invariant.2 (omega (arith, c.loop-n-test.false)));
+    }

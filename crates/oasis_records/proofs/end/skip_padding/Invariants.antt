@@ -6,4 +6,5 @@ use Rattle.oasis_records.proofs.end.skip_padding.Given as goal
 -- the bytes so far were read, whichever they were
 abbrev pub invariant-loop-n : goal.invariant-loop-n
 invariant-loop-n g l =
-    (last : ℕ) × (said : List ℕ) × Going g.R.Read.remaining g.R.Read.read_errors g.R.Read.lent (λ _. IsByte) (λ x. x) l.count 0 l.initial.input l.input (l.count - l.n) last said
+    (last : ℕ) × (said : List ℕ) × Going g.R.Read.remaining g.R.Read.read_errors g.R.Read.lent (λ _. IsByte) (λ x. x)
+    l.count 0 l.initial.input l.input (l.count - l.n) last said

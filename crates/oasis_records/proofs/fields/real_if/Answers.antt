@@ -8,7 +8,14 @@ use Rattle.oasis_records.proofs.fields.real_if.Goals as goal
 pub returns-in_err-number : goal.returns-in_err-number
 returns-in_err-number g c =
     let p = err_from_is_err_and c.from_residual.result c.from_residual.ensures.1 in
-    rw (p.1, p.2) (record { reads = reads_case (λ b. If b (IsReal)) (has c.args.info c.args.letter) true (sym c.has.ensures ∙ c.if-has.true) (reads_seen_err Some c.in_err-number.ensures.reads) })
+    rw (p.1, p.2) (record {
+      reads = reads_case (λ b. If b (IsReal)) (has c.args.info c.args.letter) true
+          (sym c.has.ensures ∙ c.if-has.true) (reads_seen_err Some c.in_err-number.ensures.reads);
+    })
 
 pub returns-then-has : goal.returns-then-has
-returns-then-has g c = record { reads = reads_case (λ b. If b (IsReal)) (has c.args.info c.args.letter) true (sym c.has.ensures ∙ c.if-has.true) (reads_seen Some c.in_ok-number.ensures.reads) }
+returns-then-has g c =
+    record {
+      reads = reads_case (λ b. If b (IsReal)) (has c.args.info c.args.letter) true
+          (sym c.has.ensures ∙ c.if-has.true) (reads_seen Some c.in_ok-number.ensures.reads);
+    }

@@ -11,9 +11,16 @@ use Rattle.oasis_records.proofs.fields.signed_if.Goals as goal
 pub returns-in_err-number : goal.returns-in_err-number
 returns-in_err-number g c =
     let p = err_from_is_err_and c.from_residual.result c.from_residual.ensures.1 in
-    rw (p.1, p.2) (record { reads = reads_case (λ b. If b IsSigned) (has c.args.info c.args.letter) true (sym c.has.ensures ∙ c.if-has.true) (reads_seen_err Some c.in_err-number.ensures.reads) })
+    rw (p.1, p.2) (record {
+      reads = reads_case (λ b. If b IsSigned) (has c.args.info c.args.letter) true
+          (sym c.has.ensures ∙ c.if-has.true) (reads_seen_err Some c.in_err-number.ensures.reads);
+    })
 
 pub returns-then-has : goal.returns-then-has
 returns-then-has g c =
     let fits : SFits w64 c.in_ok-number.number = omega (arith, ints, c.signed.type_inv) in
-    record { reads = reads_case (λ b. If b IsSigned) (has c.args.info c.args.letter) true (sym c.has.ensures ∙ c.if-has.true) (reads_seen_as Some c.in_ok-number.ensures.reads (ap Some (sym (to_z-of_z w64 c.in_ok-number.number fits)))) }
+    record {
+      reads = reads_case (λ b. If b IsSigned) (has c.args.info c.args.letter) true
+          (sym c.has.ensures ∙ c.if-has.true)
+          (reads_seen_as Some c.in_ok-number.ensures.reads (ap Some (sym (to_z-of_z w64 c.in_ok-number.number fits))));
+    }

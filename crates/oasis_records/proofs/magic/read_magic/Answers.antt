@@ -19,9 +19,11 @@ loop-n-preserved g c =
     let q = rw c.magic_byte.ensures at c.in_ok-_byte.ensures.reads in (
       λ h. c.in_ok-_byte.ensures.reads.failed,
       λ new r p.
-          let rest = subst (λ k. Reads g.R.Read.remaining g.R.Read.read_errors g.R.Read.lent (AreMagicBytes (drop k magic)) c.read_magic_byte.new.input new r) more p in
+          let rest = subst (λ k. Reads g.R.Read.remaining g.R.Read.read_errors g.R.Read.lent
+          (AreMagicBytes (drop k magic)) c.read_magic_byte.new.input new r) more p in
           c.loop-n.invariant.1 new r
-          (subst (λ l. Reads g.R.Read.remaining g.R.Read.read_errors g.R.Read.lent (AreMagicBytes l) c.loop-n.input new r) (sym (drop_at n magic c.loop-n-test.true))
+          (subst (λ l. Reads g.R.Read.remaining g.R.Read.read_errors g.R.Read.lent (AreMagicBytes l)
+          c.loop-n.input new r) (sym (drop_at n magic c.loop-n-test.true))
           (reads_go (λ _. AreMagicBytes (drop (suc n) magic)) q rest)),
     )
 
@@ -32,7 +34,8 @@ returns-in_err-_byte g c =
     let q = rw c.magic_byte.ensures at c.in_err-_byte.ensures.reads in
     let e = c.in_err-_byte.field-0.0 in
     let all = c.loop-n.invariant.1 c.read_magic_byte.new.input (of_fault e)
-    (subst (λ l. Reads g.R.Read.remaining g.R.Read.read_errors g.R.Read.lent (AreMagicBytes l) c.loop-n.input c.read_magic_byte.new.input (of_fault e)) (sym (drop_at n magic c.loop-n-test.true))
+    (subst (λ l. Reads g.R.Read.remaining g.R.Read.read_errors g.R.Read.lent (AreMagicBytes l) c.loop-n.input
+    c.read_magic_byte.new.input (of_fault e)) (sym (drop_at n magic c.loop-n-test.true))
     (reads_stop (λ _. AreMagicBytes (drop (suc n) magic)) e (λ _. magic_code (drop (suc n) magic)) q)) in
     rw (p.1, p.2) (record { reads = all; none = reads_denies (of_fault e) (magic_code magic).free all })
 
@@ -41,6 +44,7 @@ returns g c =
     let n = c.loop-n.n in
     let long : 13 ≤ n = omega (arith, c.loop-n-test.false) in
     let all = c.loop-n.invariant.1 c.loop-n.input (Ok (Ok tt))
-    (subst (λ l. Reads g.R.Read.remaining g.R.Read.read_errors g.R.Read.lent (AreMagicBytes l) c.loop-n.input c.loop-n.input (Ok (Ok tt))) (sym (drop_end n magic long))
+    (subst (λ l. Reads g.R.Read.remaining g.R.Read.read_errors g.R.Read.lent (AreMagicBytes l) c.loop-n.input
+    c.loop-n.input (Ok (Ok tt))) (sym (drop_end n magic long))
     (reads_nothing (Ok tt) (c.loop-n.invariant.0 (omega (arith, long))))) in
     record { reads = all; none = reads_denies (Ok (Ok tt)) (magic_code magic).free all }

@@ -11,4 +11,6 @@ returns-in_err-stroke g c =
     rw (p.1, p.2) (record { reads = reads_stop _ _ (λ s. seen_code Ok (path_of_code s)) c.in_err-stroke.ensures.reads })
 
 pub returns : goal.returns
-returns g c = rw c.of_values.ensures (record { reads = reads_go _ c.in_ok-stroke.ensures.reads (reads_plain _ c.path_of.ensures.reads) })
+returns g c =
+    rw c.of_values.ensures
+    (record { reads = reads_go _ c.in_ok-stroke.ensures.reads (reads_plain _ c.path_of.ensures.reads) })

@@ -9,9 +9,15 @@ pub returns-in_err-cell : goal.returns-in_err-cell
 returns-in_err-cell g c =
     let p = err_from_is_err_and c.from_residual.result c.from_residual.ensures.1 in
     let q = rw c.has-by_number.ensures at c.in_err-cell.ensures.reads in
-    rw (p.1, p.2) (record { reads = reads_case (λ b. If b (IsCellRef (has c.args.info 0x40))) (has c.args.info 0x80) true (sym c.has.ensures ∙ c.if-has.true) (reads_seen_err Some q) })
+    rw (p.1, p.2) (record {
+      reads = reads_case (λ b. If b (IsCellRef (has c.args.info 0x40))) (has c.args.info 0x80)
+          true (sym c.has.ensures ∙ c.if-has.true) (reads_seen_err Some q);
+    })
 
 pub returns-then-has : goal.returns-then-has
 returns-then-has g c =
     let q = rw c.has-by_number.ensures at c.in_ok-cell.ensures.reads in
-    record { reads = reads_case (λ b. If b (IsCellRef (has c.args.info 0x40))) (has c.args.info 0x80) true (sym c.has.ensures ∙ c.if-has.true) (reads_seen Some q) }
+    record {
+      reads = reads_case (λ b. If b (IsCellRef (has c.args.info 0x40))) (has c.args.info 0x80) true
+          (sym c.has.ensures ∙ c.if-has.true) (reads_seen Some q);
+    }

@@ -8,17 +8,32 @@ use Rattle.oasis_records.proofs.polygon.polygon_of.Goals as goal
 pub returns-in_err-on : goal.returns-in_err-on
 returns-in_err-on g c =
     let p = err_from_is_err_and c.from_residual.result c.from_residual.ensures.1 in
-    rw (p.1, p.2) (record { reads = reads_err _ (λ on. (then_code (if_code _ (points_code ForPolygon)) (λ ps. seen_code (polygon on ps) (position_code c.args.info))).said) c.in_err-on.ensures.reads })
+    rw (p.1, p.2) (record {
+      reads = reads_err _
+          (λ on. (then_code (if_code _ (points_code ForPolygon))
+          (λ ps. seen_code (polygon on ps) (position_code c.args.info))).said) c.in_err-on.ensures.reads;
+    })
 
 pub returns-in_err-points : goal.returns-in_err-points
 returns-in_err-points g c =
     let p = err_from_is_err_and c.from_residual-in_err-points.result c.from_residual-in_err-points.ensures.1 in
-    rw (p.1, p.2) (record { reads = reads_then _ c.in_ok-on.ensures.reads (reads_err _ (λ ps. (seen_code (polygon c.in_ok-on.on ps) (position_code c.args.info)).said) c.in_err-points.ensures.reads) })
+    rw (p.1, p.2) (record {
+      reads = reads_then _ c.in_ok-on.ensures.reads
+          (reads_err _ (λ ps. (seen_code (polygon c.in_ok-on.on ps) (position_code c.args.info)).said)
+          c.in_err-points.ensures.reads);
+    })
 
 pub returns-in_err-position : goal.returns-in_err-position
 returns-in_err-position g c =
     let p = err_from_is_err_and c.from_residual-in_err-position.result c.from_residual-in_err-position.ensures.1 in
-    rw (p.1, p.2) (record { reads = reads_then _ c.in_ok-on.ensures.reads (reads_then _ c.in_ok-points.ensures.reads (reads_seen_err _ c.in_err-position.ensures.reads)) })
+    rw (p.1, p.2) (record {
+      reads = reads_then _ c.in_ok-on.ensures.reads
+          (reads_then _ c.in_ok-points.ensures.reads (reads_seen_err _ c.in_err-position.ensures.reads));
+    })
 
 pub returns : goal.returns
-returns g c = record { reads = reads_then _ c.in_ok-on.ensures.reads (reads_then _ c.in_ok-points.ensures.reads (reads_seen _ c.in_ok-position.ensures.reads)) }
+returns g c =
+    record {
+      reads = reads_then _ c.in_ok-on.ensures.reads
+          (reads_then _ c.in_ok-points.ensures.reads (reads_seen _ c.in_ok-position.ensures.reads));
+    }

@@ -25,22 +25,33 @@ pub returns-in-Path : goal.returns-in-Path
 returns-in-Path g c = rw c.in-Path.is (record { reads = c.read_path.ensures.reads })
 
 pub returns-in-CellName : goal.returns-in-CellName
-returns-in-CellName g c = rw (c.in-CellName.is, c.of_values.ensures) (record { reads = reads_plain _ c.read_cell_name.ensures.reads })
+returns-in-CellName g c =
+    rw (c.in-CellName.is, c.of_values.ensures) (record { reads = reads_plain _ c.read_cell_name.ensures.reads })
 
 pub returns-in-NumberedCellName : goal.returns-in-NumberedCellName
-returns-in-NumberedCellName g c = rw (c.in-NumberedCellName.is, c.of_values-in-NumberedCellName.ensures) (record { reads = reads_plain _ c.read_numbered_name.ensures.reads })
+returns-in-NumberedCellName g c =
+    rw (c.in-NumberedCellName.is, c.of_values-in-NumberedCellName.ensures)
+    (record { reads = reads_plain _ c.read_numbered_name.ensures.reads })
 
 pub returns-in-NumberedCell : goal.returns-in-NumberedCell
-returns-in-NumberedCell g c = rw (c.in-NumberedCell.is, c.of_values-in-NumberedCell.ensures) (record { reads = reads_plain _ c.read_cell.ensures.reads })
+returns-in-NumberedCell g c =
+    rw (c.in-NumberedCell.is, c.of_values-in-NumberedCell.ensures)
+    (record { reads = reads_plain _ c.read_cell.ensures.reads })
 
 pub returns-in-NamedCell : goal.returns-in-NamedCell
-returns-in-NamedCell g c = rw (c.in-NamedCell.is, c.of_values-in-NamedCell.ensures) (record { reads = reads_plain _ c.read_cell-in-NamedCell.ensures.reads })
+returns-in-NamedCell g c =
+    rw (c.in-NamedCell.is, c.of_values-in-NamedCell.ensures)
+    (record { reads = reads_plain _ c.read_cell-in-NamedCell.ensures.reads })
 
 pub returns-in-Placement : goal.returns-in-Placement
-returns-in-Placement g c = rw (c.in-Placement.is, c.of_values-in-Placement.ensures) (record { reads = reads_plain _ c.read_turned.ensures.reads })
+returns-in-Placement g c =
+    rw (c.in-Placement.is, c.of_values-in-Placement.ensures)
+    (record { reads = reads_plain _ c.read_turned.ensures.reads })
 
 pub returns-in-ScaledPlacement : goal.returns-in-ScaledPlacement
-returns-in-ScaledPlacement g c = rw (c.in-ScaledPlacement.is, c.of_values-in-ScaledPlacement.ensures) (record { reads = reads_plain _ c.read_scaled.ensures.reads })
+returns-in-ScaledPlacement g c =
+    rw (c.in-ScaledPlacement.is, c.of_values-in-ScaledPlacement.ensures)
+    (record { reads = reads_plain _ c.read_scaled.ensures.reads })
 
 pub returns-in_err-end-in-End : goal.returns-in_err-end-in-End
 returns-in_err-end-in-End g c =

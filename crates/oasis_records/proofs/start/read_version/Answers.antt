@@ -12,8 +12,10 @@ returns-in_err-text g c =
 pub returns-in_err-version : goal.returns-in_err-version
 returns-in_err-version g c =
     let p = err_from_is_err_and c.from_residual-in_err-version.result c.from_residual-in_err-version.ensures.1 in
-    rw (p.1, p.2, c.in_err-version.ensures, c.is_version-is_known.ensures) (record { reads = reads_go _ c.in_ok-text.ensures.reads (reads_nothing _ c.in_ok-text.ensures.reads.failed) })
+    rw (p.1, p.2, c.in_err-version.ensures, c.is_version-is_known.ensures)
+    (record { reads = reads_go _ c.in_ok-text.ensures.reads (reads_nothing _ c.in_ok-text.ensures.reads.failed) })
 
 pub returns : goal.returns
 returns g c =
-    rw (c.in_ok-version.ensures, c.is_version-is_known.ensures) (record { reads = reads_go _ c.in_ok-text.ensures.reads (reads_nothing _ c.in_ok-text.ensures.reads.failed) })
+    rw (c.in_ok-version.ensures, c.is_version-is_known.ensures)
+    (record { reads = reads_go _ c.in_ok-text.ensures.reads (reads_nothing _ c.in_ok-text.ensures.reads.failed) })

@@ -1,7 +1,6 @@
 use Rattle.oasis_values.proofs.Reading.{reads_seen, reads_seen_err}
-use Rattle.std.proofs.Common.{true}
+use Rattle.std.proofs.Common.{true, ◌≡◌, ◌+◌, ◌-◌, suc, [], arith}
 use Rattle.std.proofs.lemmas.Result.{err_from_is_err_and}
-use Rattle.std.proofs.Common.{◌≡◌, ◌+◌, ◌-◌, suc, [], arith}
 use Rattle.oasis_values.specs.Numbers.{IsUnsigned}
 use Rattle.oasis_values.proofs.Integers.{unsigned_said}
 use Rattle.oasis_values.proofs.Loops.{going_from, going_on, going_err, going_end}
@@ -12,14 +11,23 @@ loop-n-init g c = (0, [], going_from (λ _. IsUnsigned) (λ x. x) 12 0 c.args.in
 
 pub loop-n-preserved : goal.loop-n-preserved
 loop-n-preserved g c =
-    let left : 12 - c.loop-n.n ≡ suc (12 - (c.loop-n.n + 1)) = omega (arith, c.loop-n-test.true) in
-    (c.in_ok-_offset._offset, _, going_on (12 - (c.loop-n.n + 1)) c.loop-n.invariant.2 left c.in_ok-_offset.ensures.reads)
+    let left : 12 - c.loop-n.n ≡ suc (12 - (c.loop-n.n + 1)) = omega (arith, c.loop-n-test.true) in (
+      c.in_ok-_offset._offset,
+      _,
+      going_on (12 - (c.loop-n.n + 1)) c.loop-n.invariant.2 left
+          c.in_ok-_offset.ensures.reads,
+    )
 
 pub returns-in_err-_offset : goal.returns-in_err-_offset
 returns-in_err-_offset g c =
     let p = err_from_is_err_and c.from_residual.result c.from_residual.ensures.1 in
     let left : 12 - c.loop-n.n ≡ suc (12 - (c.loop-n.n + 1)) = omega (arith, c.loop-n-test.true) in
-    rw (p.1, p.2) (record { reads = reads_seen_err (λ _. true) (going_err (12 - (c.loop-n.n + 1)) (λ _. unsigned_said) c.loop-n.invariant.2 left c.in_err-_offset.ensures.reads) })
+    rw (p.1, p.2) (record {
+      reads = reads_seen_err (λ _. true)
+          (going_err (12 - (c.loop-n.n + 1)) (λ _. unsigned_said) c.loop-n.invariant.2 left
+          c.in_err-_offset.ensures.reads);
+    })
 
 pub returns : goal.returns
-returns g c = record { reads = reads_seen (λ _. true) (going_end c.loop-n.invariant.2 (omega (arith, c.loop-n-test.false))) }
+returns g c =
+    record { reads = reads_seen (λ _. true) (going_end c.loop-n.invariant.2 (omega (arith, c.loop-n-test.false))) }
