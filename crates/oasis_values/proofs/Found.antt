@@ -1,7 +1,7 @@
 -- What is found at the front of known bytes, some of which are in hand.
-use Rattle.std.proofs.Common.{◌≡◌, ◌≢◌, ℕ, ◌+◌, ◌-◌, ◌<◌, ◌≤◌, Bool, true, false, List, [], ◌∷◌, ◌++◌, length, take}
-use Rattle.std.proofs.Common.{drop, min, get_or, None, Some, Result, Ok, Err, refl, sym, ap, ◌∙◌, subst, arith}
-use Rattle.std.proofs.Common.{append_assoc, append-nil, length-append}
+use Rattle.std.proofs.Common.{◌≡◌, ◌≢◌, ℕ, ◌+◌, ◌-◌, ◌<◌, ◌≤◌, true, false, List, [], ◌∷◌, ◌++◌, length, take}
+use Rattle.std.proofs.Common.{drop, get_or, Some, Result, Ok, Err, refl, sym, ap, ◌∙◌, subst, arith}
+use Rattle.std.proofs.Common.{append_assoc, length-append}
 use Rattle.std.proofs.lemmas.List.{take-append-drop, length-take, take-append-le, take_all, drop-append-le}
 use Rattle.std.specs.Prelude.{Option}
 use Rattle.std.specs.Borrow.{GName}
@@ -9,18 +9,17 @@ use Rattle.lvl_io.specs.Bytes.{CountsFailure}
 use Rattle.lvl_refusal.specs.declared.Refusal.TheVariants.{Breach}
 use Rattle.oasis_values.specs.Input.{in_hand, input_offset, has_failed, room_left}
 use Rattle.oasis_values.specs.declared.input.Input.{Input}
-use Rattle.std.specs.Io.KnownBytes.{prepend_known, IsAtEnd}
+use Rattle.std.specs.Io.KnownBytes.{prepend_known}
 use Rattle.lvl_io.specs.Known.{Stays}
-use Rattle.lvl_io.specs.Spelling.{IsPrefixFree, IsFront, IsBegun, CanSay}
+use Rattle.lvl_io.specs.Spelling.{IsFront, IsBegun}
 use Rattle.lvl_io.proofs.Known.{known_parts}
 use Rattle.oasis_values.specs.Faults.{is_rule, is_read_fault}
 use Rattle.oasis_values.specs.Numbers.{IsByte, Continues, IsUnsigned}
-use Rattle.oasis_values.specs.Reads.{Breaks, Fails, Answers, bytes_had, Reads}
-use Rattle.oasis_values.specs.inside.Leading.{IsStop, Stops, Finds}
-use Rattle.oasis_values.proofs.Integers.{continues_begun, byte_said}
-use Rattle.oasis_values.specs.declared.find.Found.{Found}
+use Rattle.oasis_values.specs.Reads.{Fails, bytes_had, Reads}
+use Rattle.oasis_values.specs.inside.Leading.{IsStop, Stops}
+use Rattle.oasis_values.proofs.Integers.{continues_begun}
 use Rattle.oasis_values.specs.declared.fault.ValueFault.{ValueFault}
-use Rattle.oasis_values.specs.declared.fault.ValueFault.TheVariants.{Truncated, IntegerTooLarge, TooLong, Read, Failed}
+use Rattle.oasis_values.specs.declared.fault.ValueFault.TheVariants.{Truncated, TooLong, Read, Failed}
 
 -- what is at the front of the first bytes is at the front of all
 pub front_more : {A : Type 0} (S : List ℕ → A → Type 0) (xs : List ℕ) (k n : ℕ) (x : A) → IsFront S (take k xs) n x

@@ -1,12 +1,11 @@
 -- Point lists: each spelling is free of prefixes, and can say something; the points as they are kept.
-use Rattle.std.proofs.Common.{◌≡◌, ℕ, ◌≤◌, Bool, true, false, List, [], ◌∷◌, ◌++◌, Result, Ok, Err, refl, sym, ap, ◌∙◌}
-use Rattle.std.proofs.Common.{subst, IfSome}
+use Rattle.std.proofs.Common.{◌≡◌, ℕ, Bool, List, [], ◌∷◌, ◌++◌, refl, subst, IfSome}
 use Rattle.std.specs.Prelude.{Option, Some, None}
-use Rattle.lvl_io.specs.Spelling.{IsPrefixFree, CanSay, Gives, Then, Chain}
+use Rattle.lvl_io.specs.Spelling.{IsPrefixFree, CanSay, Then, Chain}
 use Rattle.lvl_io.proofs.Spelling.{then_free, then_said, chain_free, chain_said}
 use Rattle.lvl_grid.specs.declared.point.Point.{Point}
-use Rattle.oasis_values.specs.Deltas.{IsTwoDelta, IsThreeDelta, IsGDelta}
-use Rattle.oasis_values.specs.Known.{among, Known, Seen}
+use Rattle.oasis_values.specs.Deltas.{IsGDelta}
+use Rattle.oasis_values.specs.Known.{among, Known}
 use Rattle.oasis_values.specs.Numbers.{IsUnsigned}
 use Rattle.oasis_values.specs.PointLists.{list_types, point_count, along, IsAlong, IsMore, IsStep, start_of, walked}
 use Rattle.oasis_values.specs.PointLists.{IsNext, last_of, closed, AreVertices, IsListOf, IsPointList}

@@ -1,10 +1,10 @@
 -- Repetitions: each spelling is free of prefixes, and can say something; lattices in range.
-use Rattle.std.proofs.Common.{◌≡◌, ℕ, suc, ◌+◌, ◌<◌, ◌≤◌, ◌⊎◌, inl, inr, ◌&&◌, Bool, true, false, List, [], ◌∷◌, length}
-use Rattle.std.proofs.Common.{Result, Ok, Err, ℤ, IsSome, IfSome, ◌↔◌, All, refl, sym, ap, ◌∙◌, subst, arith, pos}
+use Rattle.std.proofs.Common.{◌≡◌, ℕ, suc, ◌⊎◌, inl, inr, ◌&&◌, Bool, true, false, List, [], ◌∷◌}
+use Rattle.std.proofs.Common.{Ok, IsSome, IfSome, ◌↔◌, All, refl, ap, ◌∙◌, arith}
 use Rattle.std.specs.Prelude.{Option, Some, None}
 use Rattle.std.specs.List.{list_all}
 use Rattle.std.proofs.lemmas.List.Elements.{All-cons, All-nil}
-use Rattle.lvl_io.specs.Spelling.{IsPrefixFree, CanSay, Gives, Then, Chain}
+use Rattle.lvl_io.specs.Spelling.{IsPrefixFree, CanSay, Then, Chain}
 use Rattle.lvl_io.proofs.Spelling.{gives_free, gives_said, then_free, then_said, chain_free, chain_said}
 use Rattle.lvl_grid.specs.declared.point.Point.{Point}
 use Rattle.lvl_grid.specs.Turn.{FitsPoint}
@@ -15,8 +15,8 @@ use Rattle.oasis_values.specs.Numbers.{IsUnsigned}
 use Rattle.oasis_values.specs.PointLists.{origin}
 use Rattle.oasis_values.specs.Ranges.{is_in_range, is_point_in_range}
 use Rattle.oasis_values.specs.Repetitions.{kinds, line_size, matrix_size, list_size, moved, space, widened}
-use Rattle.oasis_values.specs.Repetitions.{IsSpaceAlong, IsSpaceFree, IsSpace, IsShift, lattice_in_range, modal}
-use Rattle.oasis_values.specs.Repetitions.{IsModal, IsLineOf, IsLine, IsColumns, IsMatrixOf, IsMatrix, IsGrid}
+use Rattle.oasis_values.specs.Repetitions.{IsSpace, IsShift, lattice_in_range, modal}
+use Rattle.oasis_values.specs.Repetitions.{IsLineOf, IsLine, IsColumns, IsMatrixOf, IsMatrix, IsGrid}
 use Rattle.oasis_values.specs.Repetitions.{AreShifts, IsSpreadOf, IsSpread, IsKind, IsRepetition}
 use Rattle.oasis_values.specs.inside.Sizes.{IsFew}
 use Rattle.oasis_values.proofs.Integers.{unsigned_free, unsigned_said}

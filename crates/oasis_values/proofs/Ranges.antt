@@ -1,7 +1,6 @@
 -- Coordinates within 64 bits, as the code tests them.
-use Rattle.std.proofs.Common.{◌≡◌, ℕ, ◌<◌, ◌≤◌, ◌^◌, ◌&&◌, Bool, true, false, nat_lt, None, Some, SomeIff, ℤ, pos}
-use Rattle.std.proofs.Common.{negsuc, ◌+ℤ◌, refl, sym, ap, ◌∙◌, arith}
-use Rattle.std.specs.Prelude.{Option, FitsSigned}
+use Rattle.std.proofs.Common.{◌≡◌, ◌<◌, ◌^◌, true, ℤ, pos, negsuc, arith}
+use Rattle.std.specs.Prelude.{FitsSigned}
 use Rattle.std.specs.Int.{w64}
 use Rattle.std.proofs.lemmas.Bool.Decides.{nat_tests}
 use Rattle.std.proofs.lemmas.Int.{ints}

@@ -1,10 +1,9 @@
 -- Calls one after another: what two reads say together, and where a call ends the whole.
-use Rattle.std.proofs.Common.{◌≡◌, ◌≢◌, ℕ, ◌+◌, ◌-◌, ◌<◌, ◌≤◌, Bool, true, false, List, [], ◌∷◌, ◌++◌, length, take}
+use Rattle.std.proofs.Common.{◌≡◌, ◌≢◌, ℕ, ◌+◌, ◌-◌, ◌≤◌, true, false, List, [], ◌++◌, length, take}
 use Rattle.std.proofs.Common.{drop, Some, Result, Ok, Err, refl, sym, ap, ◌∙◌, subst, arith, append_assoc}
-use Rattle.std.proofs.Common.{length-append, drop-drop, length-drop}
-use Rattle.std.proofs.Math.Seq.{drop-append_seam, take-append_seam, take-append-add}
+use Rattle.std.proofs.Common.{length-append, drop-drop}
+use Rattle.std.proofs.Math.Seq.{drop-append_seam, take-append-add}
 use Rattle.std.specs.Prelude.{Option}
-use Rattle.std.specs.Result.{is_err}
 use Rattle.std.specs.Borrow.{GName}
 use Rattle.lvl_io.specs.Bytes.{CountsFailure}
 use Rattle.lvl_io.specs.Spelling.{IsPrefixFree, IsFront, IsBegun, CanSay, Gives, Then}
@@ -12,11 +11,11 @@ use Rattle.lvl_io.proofs.Spelling.{gives_said, then_begun, then_goes_on, then_bo
 use Rattle.lvl_refusal.specs.declared.Refusal.{Refusal}
 use Rattle.lvl_refusal.specs.declared.Refusal.TheVariants.{Breach, OutOfMemory}
 use Rattle.oasis_values.specs.Faults.{is_rule, is_read_fault, reader_failed}
-use Rattle.oasis_values.specs.Input.{bytes_left, in_hand, input_offset, has_failed, input_reader, room_left}
+use Rattle.oasis_values.specs.Input.{input_offset, has_failed, input_reader, room_left}
 use Rattle.std.specs.Io.KnownBytes.{prepend_known}
 use Rattle.oasis_values.specs.Known.{Seen}
 use Rattle.oasis_values.specs.inside.Stopped.{HasStopped}
-use Rattle.oasis_values.specs.Reads.{Breaks, Fails, Answers, bytes_had, Reads, Refutes}
+use Rattle.oasis_values.specs.Reads.{Fails, Answers, bytes_had, Reads, Refutes}
 use Rattle.oasis_values.specs.declared.fault.ValueFault.{ValueFault}
 use Rattle.oasis_values.specs.declared.fault.ValueFault.TheVariants.{Truncated, TooLong, Read, Failed}
 use Rattle.oasis_values.specs.declared.input.Input.{Input}

@@ -1,7 +1,7 @@
 -- Each spelling of a value is free of prefixes, and can say something.
-use Rattle.std.proofs.Common.{◌≡◌, ℕ, ◌/◌, ◌%◌, ◌==◌, Bool, true, false, List, ◌∷◌, Result, Ok, Err, refl}
+use Rattle.std.proofs.Common.{ℕ, ◌/◌, ◌%◌, ◌==◌, Bool, true, false, List, Result, Ok, Err}
 use Rattle.std.specs.Prelude.{Option, Some, None}
-use Rattle.lvl_io.specs.Spelling.{IsPrefixFree, CanSay, Gives, Then, Chain}
+use Rattle.lvl_io.specs.Spelling.{IsPrefixFree, CanSay, Gives, Then}
 use Rattle.lvl_io.proofs.Spelling.{gives_free, gives_said, then_free, then_said, chain_free, chain_said}
 use Rattle.oasis_values.specs.Known.{Known, Seen, among}
 use Rattle.oasis_values.specs.Numbers.{IsByte, IsUnsigned}
@@ -15,7 +15,6 @@ use Rattle.oasis_values.proofs.Integers.{byte_free, byte_said, unsigned_free, un
 use Rattle.oasis_values.specs.declared.fault.ValueFault.{ValueFault}
 use Rattle.oasis_values.specs.declared.fault.ValueFault.TheVariants.{RealType as unknown_type, ZeroDenominator}
 use Rattle.oasis_values.specs.declared.fault.ValueFault.TheVariants.{StringByte}
-use Rattle.oasis_values.specs.declared.number.Real.{Real}
 use Rattle.oasis_values.specs.declared.number.Real.TheVariants.{Whole, NegWhole, Reciprocal, NegReciprocal, Ratio}
 use Rattle.oasis_values.specs.declared.number.Real.TheVariants.{NegRatio, Four, Eight}
 use Rattle.oasis_values.specs.declared.number.RealType.{RealType}

@@ -1,5 +1,5 @@
 -- Deltas (SEMI P39 OASIS 1.0, "Deltas"). A 1-delta is a signed integer.
-use Rattle.std.specs.Prelude.{◌≡◌, ℕ, ◌/◌, ◌%◌, ◌==◌, Bool, true, false, List, [], ◌∷◌, Result, Ok, Err, pos, neg_ℤ, ℤ}
+use Rattle.std.specs.Prelude.{ℕ, ◌/◌, ◌%◌, ◌==◌, Bool, true, false, List, [], ◌∷◌, Result, Ok, pos, neg_ℤ, ℤ}
 use Rattle.lvl_io.specs.Spelling.{Gives, Then}
 use Rattle.lvl_grid.specs.declared.point.Point.{Point}
 use Rattle.oasis_values.specs.Known.{one_of, Seen}

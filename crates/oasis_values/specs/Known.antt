@@ -1,5 +1,5 @@
 -- What numbers stand for, by tables, and what is tested of a value that was read.
-use Rattle.std.specs.Prelude.{◌≡◌, ℕ, ◌+◌, ◌==◌, if◌then◌else◌, List, [], ◌∷◌, Option, Some, None, Result, Ok, Err}
+use Rattle.std.specs.Prelude.{ℕ, ◌+◌, ◌==◌, if◌then◌else◌, List, [], ◌∷◌, Option, Some, None, Result, Ok, Err}
 use Rattle.lvl_io.specs.Spelling.{Gives, Then}
 use Rattle.oasis_values.specs.declared.fault.ValueFault.{ValueFault}
 

@@ -1,6 +1,6 @@
 -- Point lists (SEMI P39 OASIS 1.0, "Point-list"). Own rules: the limits of the count, and that each vertex, and each
 -- step of a list of double deltas, is within 64 signed bits.
-use Rattle.std.specs.Prelude.{◌≡◌, ℕ, ◌%◌, ◌==◌, ◌&&◌, ◌||◌, not, nat_le, Bool, true, false, if◌then◌else◌, List, []}
+use Rattle.std.specs.Prelude.{ℕ, ◌%◌, ◌==◌, ◌&&◌, ◌||◌, not, nat_le, Bool, true, false, if◌then◌else◌, List, []}
 use Rattle.std.specs.Prelude.{◌∷◌, ◌++◌, Option, Some, None, option_map, Result, pos, ℤ}
 use Rattle.lvl_io.specs.Spelling.{Then, Chain}
 use Rattle.lvl_grid.specs.declared.point.Point.{Point}

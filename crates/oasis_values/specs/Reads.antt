@@ -1,6 +1,6 @@
 -- What a call of an `Input` answers, and where it leaves the input. Each call is an instance, by what its value's bytes
 -- are: a spelling S, in which bytes say `Ok x` where they spell x, and `Err f` where they breach the rule f.
-use Rattle.std.specs.Prelude.{◌≡◌, ◌≢◌, ℕ, ◌+◌, ◌-◌, ◌<◌, ◌≤◌, Bool, true, false, List, length, take, drop}
+use Rattle.std.specs.Prelude.{◌≡◌, ◌≢◌, ℕ, ◌+◌, ◌-◌, ◌<◌, ◌≤◌, true, false, List, length, take, drop}
 use Rattle.std.specs.Prelude.{Option, Some, Result, Ok, Err}
 use Rattle.std.specs.Result.{is_err}
 use Rattle.std.specs.Borrow.{GName}

@@ -1,6 +1,6 @@
 -- Signed integers and reals (SEMI P39 OASIS 1.0, "Signed-integer", "Real").
-use Rattle.std.specs.Prelude.{◌≡◌, ℕ, ◌/◌, ◌%◌, ◌==◌, if◌then◌else◌, List, [], ◌∷◌, length, Option, Some, None, Result}
-use Rattle.std.specs.Prelude.{Ok, Err, pos, neg_ℤ, ℤ}
+use Rattle.std.specs.Prelude.{ℕ, ◌/◌, ◌%◌, ◌==◌, if◌then◌else◌, List, [], ◌∷◌, Option, Some, None, Result}
+use Rattle.std.specs.Prelude.{pos, neg_ℤ, ℤ}
 use Rattle.lvl_io.specs.Spelling.{Then, Chain}
 use Rattle.oasis_values.specs.Known.{among, Known, Seen}
 use Rattle.oasis_values.specs.Numbers.{IsByte, IsUnsigned}

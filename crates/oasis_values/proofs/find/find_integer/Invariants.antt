@@ -1,4 +1,4 @@
-use Rattle.std.proofs.Common.{◌≡◌, ◌-◌, ◌≤◌, length, min}
+use Rattle.std.proofs.Common.{◌≡◌, ◌-◌, length, min}
 use Rattle.std.specs.Io.KnownBytes.{prepend_known}
 use Rattle.lvl_io.specs.Known.{Stays}
 use Rattle.oasis_values.proofs.find.find_integer.Given as goal

@@ -1,6 +1,6 @@
-use Rattle.std.proofs.Common.{◌≡◌, ◌<◌, ◌≤◌, ℕ, List, take, get_or, ap, subst, arith}
+use Rattle.std.proofs.Common.{◌≡◌, ◌≤◌, take, get_or, ap, subst, arith}
 use Rattle.oasis_values.specs.Numbers.{Continues}
-use Rattle.oasis_values.proofs.Integers.{next_fits, next_unit, unit_fits, more_groups, more_continues, whole_front}
+use Rattle.oasis_values.proofs.Integers.{next_fits, next_unit, more_groups, more_continues, whole_front}
 use Rattle.oasis_values.proofs.Integers.{too_large_front}
 use Rattle.oasis_values.proofs.integer.scan_integer.Goals as goal
 use Rattle.oasis_values.proofs.integer.scan_integer.Goals.{else-at-eq-MOST_BYTES-via-then-at-eq-MOST_BYTES+else-byte-gt1}

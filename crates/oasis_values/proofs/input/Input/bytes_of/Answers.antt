@@ -1,5 +1,4 @@
-use Rattle.std.proofs.Common.{◌≡◌, ◌+◌, ◌-◌, suc, List, take, set, get_or, length, refl, sym, ap, Ok, ◌<◌, ◌≤◌, ◌∙◌}
-use Rattle.std.proofs.Common.{subst, arith}
+use Rattle.std.proofs.Common.{◌≡◌, ◌+◌, ◌-◌, suc, take, set, length, sym, ap, Ok, ◌<◌, ◌≤◌, ◌∙◌, subst, arith}
 use Rattle.std.proofs.Math.Seq.{take-suc-set}
 use Rattle.std.proofs.Math.ListN.{length-set}
 use Rattle.std.proofs.lemmas.Result.{err_from_is_err_and}

@@ -1,7 +1,6 @@
-use Rattle.std.proofs.Common.{◌≡◌, ◌+◌, ◌-◌, ◌<◌, ◌≤◌, suc, refl, sym, ap, ◌∙◌, subst, arith}
+use Rattle.std.proofs.Common.{◌≡◌, ◌+◌, ◌-◌, suc, sym, ap, ◌∙◌, arith}
 use Rattle.std.proofs.lemmas.Result.{err_from_is_err_and}
 use Rattle.oasis_values.specs.Texts.{IsCharacter}
-use Rattle.oasis_values.proofs.Reading.{reads_out_of_memory}
 use Rattle.oasis_values.proofs.Values.{character_said}
 use Rattle.oasis_values.proofs.Loops.{going_as, going_from, going_on, going_err, going_end}
 use Rattle.oasis_values.proofs.input.Input.characters.Goals as goal

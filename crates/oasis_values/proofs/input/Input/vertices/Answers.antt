@@ -1,7 +1,5 @@
-use Rattle.std.proofs.Common.{◌≡◌, ◌+◌, ◌-◌, ◌<◌, ◌≤◌, suc, List, [], ◌∷◌, ◌++◌, vec_len, vec_capacity, refl, sym, ap}
-use Rattle.std.proofs.Common.{◌∙◌, arith}
+use Rattle.std.proofs.Common.{◌≡◌, ◌+◌, ◌-◌, suc, [], ◌∷◌, ◌++◌, sym, ap, ◌∙◌, arith}
 use Rattle.std.proofs.lemmas.Result.{err_from_is_err_and}
-use Rattle.lvl_grid.specs.declared.point.Point.{Point}
 use Rattle.oasis_values.specs.PointLists.{origin, last_of, closed, implied, if_any, start_of, IsNext}
 use Rattle.oasis_values.proofs.Reading.{reads_seen_as, reads_seen_err}
 use Rattle.oasis_values.proofs.Lists.{next_said, last_more}
