@@ -184,11 +184,6 @@ sum_fits i v x le tenth lt = elim (le_or i 8 le) [
       omega (arith, p, digit, lt)
 ]
 
-pub unit_fits : (i : ℕ) → i ≤ 8 → 128 ^ i * 128 < 2 ^ 64
-unit_fits i h =
-    let most : 128 ^ i ≤ 128 ^ 8 = pow-le-pow_right {n = 128} (omega arith) {i = i} {j = 8} h in
-    omega (arith, most)
-
 pub value_lt : (xs : List ℕ) (i v : ℕ) → i < length xs → v ≡ groups (take i xs) → v < 128 ^ i
 value_lt xs i v h e =
     let lt = groups_lt (take i xs) in
