@@ -1,11 +1,11 @@
 -- Integers of which it is known how many bytes they took.
-use Rattle.std.proofs.Common.{◌≡◌, ℕ, ◌-◌, List, ◌++◌, length, take, Result, Ok, Err, refl, sym, ap, ◌∙◌}
+use Rattle.std.proofs.Common.{◌≡◌, ℕ, List, ◌++◌, length, take, Result, Ok, Err, refl, sym, ap, ◌∙◌}
 use Rattle.std.specs.Prelude.{Option}
 use Rattle.std.specs.Borrow.{GName}
 use Rattle.lvl_io.specs.Spelling.{IsPrefixFree, CanSay, IsBegun}
 use Rattle.lvl_refusal.specs.declared.Refusal.{Refusal}
 use Rattle.lvl_refusal.specs.declared.Refusal.TheVariants.{Breach, OutOfMemory}
-use Rattle.oasis_values.specs.Input.{input_offset, room_left}
+use Rattle.oasis_values.specs.Input.{room_left}
 use Rattle.oasis_values.specs.Reads.{Fails, bytes_had, Reads}
 use Rattle.oasis_values.specs.declared.fault.ValueFault.{ValueFault}
 use Rattle.oasis_values.specs.declared.input.Input.{Input}
@@ -78,32 +78,6 @@ sized_fails S room had xs f p =
               count = q.front.count;
             };
           };
-    }
-
-pub reads_sized : {R : Type 0} {remaining : R → Option (List ℕ)} {errors : R → ℕ} {lent : R → List GName}
-    {S : List ℕ → Result ℕ ValueFault → Type 0} {old new : Input R} (v n : ℕ)
-    → Reads remaining errors lent S old new (Ok v) → n ≡ input_offset new - input_offset old
-    → Reads remaining errors lent (Sized S) old new (Ok (measured v n))
-reads_sized v n p e =
-    record {
-      again = λ h. absurd (let k = p.again h in cc);
-      fresh = λ h k. cc;
-      answers = λ h xs k.
-          let a = p.answers h xs k in (
-            record {
-              bytes = a.0.bytes;
-              rest = a.0.rest;
-              says = (a.0.says, e ∙ sym a.0.count);
-              whole = a.0.whole;
-              count = a.0.count;
-            },
-            a.1,
-          );
-      left = p.left;
-      forward = p.forward;
-      failed = p.failed;
-      counted = p.counted;
-      same = p.same;
     }
 
 -- the same error, of an answer of another type

@@ -14,7 +14,6 @@ use Rattle.oasis_values.specs.Faults.{is_rule, is_read_fault, reader_failed}
 use Rattle.oasis_values.specs.Input.{input_offset, has_failed, input_reader, room_left}
 use Rattle.std.specs.Io.KnownBytes.{prepend_known}
 use Rattle.oasis_values.specs.Known.{Seen}
-use Rattle.oasis_values.specs.inside.Stopped.{HasStopped}
 use Rattle.oasis_values.specs.Reads.{Fails, Answers, bytes_had, Reads, Refutes}
 use Rattle.oasis_values.specs.declared.fault.ValueFault.{ValueFault}
 use Rattle.oasis_values.specs.declared.fault.ValueFault.TheVariants.{Truncated, TooLong, Read, Failed}
@@ -258,24 +257,6 @@ pub reads_seen_as : {R A B : Type 0} {remaining : R → Option (List ℕ)} {erro
     → Reads remaining errors lent S old new (Ok x) → g x ≡ y → Reads remaining errors lent (Seen g S) old new (Ok y)
 reads_seen_as {remaining = remaining} {errors = errors} {lent = lent} {S = S} g {old = old} {new = new} p e =
     subst (λ z. Reads remaining errors lent (Seen g S) old new (Ok z)) e (reads_seen g p)
-
--- memory ran out before anything more was read
-pub reads_out_of_memory : {R A : Type 0} {remaining : R → Option (List ℕ)} {errors : R → ℕ} {lent : R → List GName}
-    {S : List ℕ → Result A ValueFault → Type 0} {old new : Input R}
-    → has_failed old ≡ false → HasStopped old new → Reads remaining errors lent S old new (Err OutOfMemory)
-reads_out_of_memory {remaining = remaining} {errors = errors} {lent = lent} {old = old} {new = new} live s =
-    let none : 0 ≡ input_offset new - input_offset old = omega (arith, s.offset) in
-    record {
-      again = λ h. absurd (let k : true ≡ false = sym h ∙ live in cc);
-      fresh = λ h k. cc;
-      answers = λ h xs k. tt;
-      left = λ xs k. ap (λ l. prepend_known l (remaining new.reader)) s.ahead
-          ∙ ap (λ r. prepend_known old.ahead (remaining r)) s.reader ∙ k ∙ ap (λ i. Some (drop i xs)) none;
-      forward = omega (arith, s.offset);
-      failed = s.failed;
-      counted = ap errors s.reader;
-      same = ap lent s.reader;
-    }
 
 -- what is read by one of several cases
 pub reads_case : {R A K : Type 0} {remaining : R → Option (List ℕ)} {errors : R → ℕ} {lent : R → List GName}
