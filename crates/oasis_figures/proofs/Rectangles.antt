@@ -1,40 +1,30 @@
 -- Rectangles: their values, the rules that they breach, and what they draw.
-use Rattle.std.proofs.Common.{◌≡◌, ◌∙◌, ℕ, zero, suc, Bool, true, false, List, ◌∷◌, Option, Some, None, refl, sym, ap, subst, arith, pos}
+use Rattle.std.proofs.Common.{◌≡◌, ◌∙◌, ℕ, zero, suc, Bool, true, List, ◌∷◌, Option, Some, sym, ap, subst, arith, pos}
 use Rattle.std.specs.Prelude.{is_some, if◌then◌else◌, All}
 use Rattle.std.specs.Option.{option_or}
 use Rattle.lvl_grid.specs.Turn.{FitsPoint, shifted}
 use Rattle.lvl_grid.specs.Winding.{rectangle_between}
 use Rattle.lvl_grid.specs.declared.point.Point.{Point}
-use Rattle.lvl_cells.specs.declared.layer.Layer.{Layer}
 use Rattle.oasis_values.specs.Deltas.{to}
 use Rattle.oasis_records.specs.declared.record.Record.{Record}
 use Rattle.oasis_records.specs.declared.rectangle.Rectangle.{Rectangle}
-use Rattle.oasis_figures.specs.Figures.{number, layer_by, rectangle_ring, shifts_of, shapes_in, IsDrawn}
+use Rattle.oasis_figures.specs.Figures.{number, layer_by, rectangle_ring}
 use Rattle.oasis_figures.specs.Keeping.{StandsFor}
 use Rattle.oasis_figures.specs.Modal.{modal, moved, listed, layer_set, datatype_set, width_set, height_set, geometry}
-use Rattle.oasis_figures.specs.Rules.{AreNarrow, IsWide, Breaches, is_defined, taken, of_repetition, first_undefined}
-use Rattle.oasis_figures.specs.declared.drawn.Drawn.TheVariants.{Ring}
+use Rattle.oasis_figures.specs.Rules.{AreNarrow, IsWide, is_defined, taken, of_repetition, first_undefined}
 use Rattle.oasis_figures.specs.declared.modal.Modal.{Modal}
 use Rattle.oasis_figures.specs.declared.rectangle.Resolved.{Resolved}
-use Rattle.oasis_figures.specs.declared.rule.FigureRule.TheVariants.{Undefined, Layer as WideLayer, OutOfRange}
+use Rattle.oasis_figures.specs.declared.rule.FigureRule.TheVariants.{Undefined, Layer as WideLayer, OutOfRange, Magnification, Angle}
+use Rattle.oasis_figures.specs.declared.rule.FigureRule.TheVariants.{Extension, Oblique, Path}
 use Rattle.oasis_figures.specs.declared.variable.Variable.{Variable}
 use Rattle.oasis_figures.specs.declared.variable.Variable.TheVariants.{Layer as TheLayer, Datatype, GeometryW, GeometryH, Repetition as TheRepetition}
 use Rattle.oasis_figures.specs.inside.Rectangles.{a_rectangle, IsResolved}
 use Rattle.oasis_figures.specs.inside.Repeating.{is_known}
-use Rattle.oasis_figures.proofs.Defined.{later, here, next, unknown, known, undefined, AreDefined, wide, far, no_rule}
+use Rattle.oasis_figures.proofs.Defined.{later, next, known, AreDefined, BreaksNoLater, no_rule}
 
 -- what is asked for after the layer, the datatype, the width and the height
 abbrev tail_4 : Rectangle → List Variable
 tail_4 r = of_repetition r.position.repetition
-
-abbrev tail_3 : Rectangle → List Variable
-tail_3 r = GeometryH ∷ tail_4 r
-
-abbrev tail_2 : Rectangle → List Variable
-tail_2 r = GeometryW ∷ tail_3 r
-
-abbrev tail_1 : Rectangle → List Variable
-tail_1 r = Datatype ∷ tail_2 r
 
 -- the records with the rectangle
 abbrev all : List Record → Rectangle → List Record
@@ -43,27 +33,12 @@ all earlier r = a_rectangle r ∷ earlier
 abbrev defined : List Record → Rectangle → Variable → Bool
 defined earlier r = is_defined (all earlier r)
 
-pub no_layer : (m : Modal) (earlier : List Record) (r : Rectangle) → StandsFor m earlier → option_or r.on.layer m.layer ≡ None → Breaches earlier (a_rectangle r) (Undefined TheLayer)
-no_layer m earlier r s e =
-    undefined earlier (a_rectangle r) TheLayer (here (defined earlier r) TheLayer (tail_1 r) (ap is_some (later r.on.layer s.layer e)))
-
-pub no_datatype : (m : Modal) (earlier : List Record) (r : Rectangle) (l : ℕ) → StandsFor m earlier → option_or r.on.layer m.layer ≡ Some l
-    → option_or r.on.datatype m.datatype ≡ None → Breaches earlier (a_rectangle r) (Undefined Datatype)
-no_datatype m earlier r l s a e =
-    undefined earlier (a_rectangle r) Datatype
-    (next (defined earlier r) TheLayer (tail_1 r) (ap is_some (later r.on.layer s.layer a)) (here (defined earlier r) Datatype (tail_2 r) (ap is_some (later r.on.datatype s.datatype e))))
-
 -- the layer and the datatype are known
 on_known : (m : Modal) (earlier : List Record) (r : Rectangle) (l d : ℕ) (vs : List Variable) {o : Option Variable} → StandsFor m earlier
     → option_or r.on.layer m.layer ≡ Some l → option_or r.on.datatype m.datatype ≡ Some d → first_undefined (defined earlier r) vs ≡ o
     → first_undefined (defined earlier r) (TheLayer ∷ Datatype ∷ vs) ≡ o
 on_known m earlier r l d vs s a b q =
     next (defined earlier r) TheLayer (Datatype ∷ vs) (ap is_some (later r.on.layer s.layer a)) (next (defined earlier r) Datatype vs (ap is_some (later r.on.datatype s.datatype b)) q)
-
-pub no_width : (m : Modal) (earlier : List Record) (r : Rectangle) (l d : ℕ) → StandsFor m earlier → option_or r.on.layer m.layer ≡ Some l
-    → option_or r.on.datatype m.datatype ≡ Some d → option_or r.width m.width ≡ None → Breaches earlier (a_rectangle r) (Undefined GeometryW)
-no_width m earlier r l d s a b e =
-    undefined earlier (a_rectangle r) GeometryW (on_known m earlier r l d (tail_2 r) s a b (here (defined earlier r) GeometryW (tail_3 r) (ap is_some (later r.width s.width e))))
 
 -- what a rectangle of that width makes the height
 pub height_after : (m : Modal) (earlier : List Record) (r : Rectangle) (w : ℕ) (z : Option ℕ) → StandsFor m earlier → option_or r.width m.width ≡ Some w
@@ -78,13 +53,6 @@ width_known : (m : Modal) (earlier : List Record) (r : Rectangle) (l d w : ℕ) 
     → first_undefined (defined earlier r) vs ≡ o → first_undefined (defined earlier r) (TheLayer ∷ Datatype ∷ GeometryW ∷ vs) ≡ o
 width_known m earlier r l d w vs s a b e q =
     on_known m earlier r l d (GeometryW ∷ vs) s a b (next (defined earlier r) GeometryW vs (ap is_some (later r.width s.width e)) q)
-
-pub no_height : (m : Modal) (earlier : List Record) (r : Rectangle) (l d w : ℕ) → StandsFor m earlier → option_or r.on.layer m.layer ≡ Some l
-    → option_or r.on.datatype m.datatype ≡ Some d → option_or r.width m.width ≡ Some w
-    → option_or (if r.is_square then Some w else r.height) m.height ≡ None → Breaches earlier (a_rectangle r) (Undefined GeometryH)
-no_height m earlier r l d w s a b e q =
-    undefined earlier (a_rectangle r) GeometryH
-    (width_known m earlier r l d w (tail_3 r) s a b e (here (defined earlier r) GeometryH (tail_4 r) (ap is_some (height_after m earlier r w None s e q))))
 
 -- the values that are known before the repetition is asked for
 pub record AreValues (m : Modal) (r : Rectangle) (l d w h : ℕ) : Type 0 where
@@ -103,12 +71,6 @@ repeated : (m : Modal) (earlier : List Record) (r : Rectangle) → StandsFor m e
     → defined earlier r TheRepetition ≡ is_some (option_or (listed r.position.repetition) m.repetition)
 repeated m earlier r s = ap (λ (o : Option (List Point)). is_some (option_or (listed r.position.repetition) o)) (sym s.repetition)
 
-pub no_repetition : (m : Modal) (earlier : List Record) (r : Rectangle) (l d w h : ℕ) → StandsFor m earlier → AreValues m r l d w h
-    → is_known r.position.repetition m.repetition ≡ false → Breaches earlier (a_rectangle r) (Undefined TheRepetition)
-no_repetition m earlier r l d w h s v k =
-    undefined earlier (a_rectangle r) TheRepetition
-    (size_known m earlier r l d w h s v (unknown (defined earlier r) r.position.repetition m.repetition (repeated m earlier r s) k))
-
 pub all_defined : (m : Modal) (earlier : List Record) (r : Rectangle) (l d w h : ℕ) → StandsFor m earlier → AreValues m r l d w h
     → is_known r.position.repetition m.repetition ≡ true → AreDefined earlier (a_rectangle r)
 all_defined m earlier r l d w h s v k =
@@ -119,10 +81,6 @@ narrow_at : (a b : Option ℕ) (l d : ℕ) → a ≡ Some l → b ≡ Some d →
 narrow_at a b l d ea eb h =
     subst (λ (o : Option ℕ). AreNarrow (number o) (number b)) (sym ea) (subst (λ (o : Option ℕ). AreNarrow l (number o)) (sym eb) h)
 
-at_narrow : (a b : Option ℕ) (l d : ℕ) → a ≡ Some l → b ≡ Some d → AreNarrow (number a) (number b) → AreNarrow l d
-at_narrow a b l d ea eb h =
-    subst (λ (o : Option ℕ). AreNarrow l (number o)) eb (subst (λ (o : Option ℕ). AreNarrow (number o) (number b)) ea h)
-
 layer_at : (m : Modal) (earlier : List Record) (r : Rectangle) (l : ℕ) → StandsFor m earlier → option_or r.on.layer m.layer ≡ Some l → modal layer_set (all earlier r) ≡ Some l
 layer_at m earlier r l s e = later r.on.layer s.layer e
 
@@ -131,12 +89,6 @@ datatype_at m earlier r d s e = later r.on.datatype s.datatype e
 
 width_at : (m : Modal) (earlier : List Record) (r : Rectangle) (w : ℕ) → StandsFor m earlier → option_or r.width m.width ≡ Some w → modal width_set (all earlier r) ≡ Some w
 width_at m earlier r w s e = later r.width s.width e
-
-pub wide_layer : (m : Modal) (earlier : List Record) (r : Rectangle) (l d w h : ℕ) → StandsFor m earlier → AreValues m r l d w h
-    → is_known r.position.repetition m.repetition ≡ true → ¬ AreNarrow l d → Breaches earlier (a_rectangle r) WideLayer
-wide_layer m earlier r l d w h s v k out =
-    wide earlier (a_rectangle r) (all_defined m earlier r l d w h s v k)
-    (λ n. out (at_narrow (modal layer_set (all earlier r)) (modal datatype_set (all earlier r)) l d (layer_at m earlier r l s v.layer) (datatype_at m earlier r d s v.datatype) n))
 
 not_wide : (m : Modal) (earlier : List Record) (r : Rectangle) (l d w h : ℕ) → StandsFor m earlier → AreValues m r l d w h → AreNarrow l d → ¬ IsWide (all earlier r)
 not_wide m earlier r l d w h s v n =
@@ -155,21 +107,8 @@ all_fit low high a b (suc (suc zero)) d lt = b
 all_fit low high a b (suc (suc (suc zero))) d lt = record { x_fits = a.x_fits; y_fits = b.y_fits }
 all_fit low high a b (suc (suc (suc (suc k)))) d lt = absurd (omega (arith, lt))
 
-low_fits : (low high : Point) → All FitsPoint (rectangle_between low high) → FitsPoint low
-low_fits low high h = h 0 low (omega arith)
-
-high_fits : (low high : Point) → All FitsPoint (rectangle_between low high) → FitsPoint high
-high_fits low high h = h 2 low (omega arith)
-
 abbrev pub corner : Point → ℕ → ℕ → Point
 corner low w h = shifted (to (pos w) (pos h)) low
-
-pub low_outside : (m : Modal) (earlier : List Record) (r : Rectangle) (l d w h : ℕ) → StandsFor m earlier → AreValues m r l d w h
-    → is_known r.position.repetition m.repetition ≡ true → AreNarrow l d → ¬ FitsPoint (moved m.geometry r.position.x r.position.y m.is_relative)
-    → Breaches earlier (a_rectangle r) OutOfRange
-low_outside m earlier r l d w h s v k n out =
-    far earlier (a_rectangle r) (all_defined m earlier r l d w h s v k) (not_wide m earlier r l d w h s v n)
-    (λ fit. out (subst FitsPoint (position_at m earlier r s) (low_fits (geometry (all earlier r)) (corner (geometry (all earlier r)) (number (modal width_set (all earlier r))) (number (modal height_set (all earlier r)))) fit)))
 
 abbrev ring : Point → Option ℕ → Option ℕ → List Point
 ring low a b = rectangle_between low (corner low (number a) (number b))
@@ -184,12 +123,15 @@ ring_of m earlier r l d w h low s v e =
     ring_at low (geometry (all earlier r)) (modal width_set (all earlier r)) (modal height_set (all earlier r)) w h (position_at m earlier r s ∙ sym e) (width_at m earlier r w s v.width)
     (height_after m earlier r w (Some h) s v.width v.height)
 
-pub high_outside : (m : Modal) (earlier : List Record) (r : Rectangle) (l d w h : ℕ) (low : Point) → StandsFor m earlier → AreValues m r l d w h
-    → is_known r.position.repetition m.repetition ≡ true → AreNarrow l d → low ≡ moved m.geometry r.position.x r.position.y m.is_relative
-    → ¬ FitsPoint (corner low w h) → Breaches earlier (a_rectangle r) OutOfRange
-high_outside m earlier r l d w h low s v k n e out =
-    far earlier (a_rectangle r) (all_defined m earlier r l d w h s v k) (not_wide m earlier r l d w h s v n)
-    (λ fit. out (high_fits low (corner low w h) (subst (λ (ps : List Point). All FitsPoint ps) (ring_of m earlier r l d w h low s v e) fit)))
+no_later : (earlier : List Record) (r : Rectangle) → BreaksNoLater earlier (a_rectangle r)
+no_later earlier r (Undefined v) lt b = omega (arith, lt)
+no_later earlier r WideLayer lt b = omega (arith, lt)
+no_later earlier r OutOfRange lt b = omega (arith, lt)
+no_later earlier r Magnification lt b = b
+no_later earlier r Angle lt b = b
+no_later earlier r Extension lt b = b
+no_later earlier r Oblique lt b = b
+no_later earlier r (Path f) lt b = b
 
 pub resolved : (m : Modal) (earlier : List Record) (r : Rectangle) (v : Resolved) → StandsFor m earlier → AreValues m r v.layer v.datatype v.width v.height
     → is_known r.position.repetition m.repetition ≡ true → AreNarrow v.layer v.datatype → v.on ≡ layer_by v.layer v.datatype
@@ -204,60 +146,6 @@ resolved m earlier r v s a k n on low_fit low high_fit high = record {
   low = position_at m earlier r s ∙ sym low;
   high = high;
   none = no_rule earlier (a_rectangle r) (all_defined m earlier r v.layer v.datatype v.width v.height s a k) (not_wide m earlier r v.layer v.datatype v.width v.height s a n)
-      (λ out. out (subst (λ (ps : List Point). All FitsPoint ps) (sym (ring_of m earlier r v.layer v.datatype v.width v.height v.low s a low)) (all_fit v.low (corner v.low v.width v.height) low_fit (subst FitsPoint high high_fit))));
-}
-
-shape_is : (shifts : List Point) {x y : Layer} {ps qs : List Point} → x ≡ y → ps ≡ qs → shapes_in shifts (Ring x ps) ≡ shapes_in shifts (Ring y qs)
-shape_is shifts {x} {y} {ps} {qs} e f = ap (λ (l : Layer). shapes_in shifts (Ring l ps)) e ∙ ap (λ (p : List Point). shapes_in shifts (Ring y p)) f
-
-layers : (a b : Option ℕ) (l d : ℕ) → a ≡ Some l → b ≡ Some d → layer_by (number a) (number b) ≡ layer_by l d
-layers a b l d ea eb = ap (λ (o : Option ℕ). layer_by (number o) (number b)) ea ∙ ap (λ (o : Option ℕ). layer_by l (number o)) eb
-
-pub drawn : (earlier : List Record) (r : Rectangle) (v : Resolved) (ps : List Point) → IsResolved earlier r v → ps ≡ rectangle_between v.low v.high → IsDrawn earlier (a_rectangle r) (Ring v.on ps)
-drawn earlier r v ps h e = record {
-  shapes = shape_is (shifts_of earlier (a_rectangle r))
-      (h.on ∙ sym (layers (modal layer_set (all earlier r)) (modal datatype_set (all earlier r)) v.layer v.datatype h.layer h.datatype))
-      (e ∙ ap (rectangle_between v.low) h.high ∙ sym (ring_at v.low (geometry (all earlier r)) (modal width_set (all earlier r)) (modal height_set (all earlier r)) v.width v.height h.low h.width h.height));
-}
-
--- the variables after the rectangle
-abbrev after_it : Modal → Rectangle → Resolved → Option (List Point) → Modal
-after_it m r v rep = record {
-  is_relative = m.is_relative;
-  placement = m.placement;
-  geometry = v.low;
-  cell = m.cell;
-  layer = Some v.layer;
-  datatype = Some v.datatype;
-  width = Some v.width;
-  height = Some v.height;
-  polygon = m.polygon;
-  half_width = m.half_width;
-  path = m.path;
-  start = m.start;
-  end = m.end;
-  repetition = rep;
-  is_repeated = is_some r.position.repetition;
-  single = m.single;
-}
-
-pub stands : (m : Modal) (earlier : List Record) (r : Rectangle) (v : Resolved) (rep : Option (List Point)) → StandsFor m earlier → IsResolved earlier r v
-    → rep ≡ option_or (listed r.position.repetition) m.repetition → StandsFor (after_it m r v rep) (all earlier r)
-stands m earlier r v rep s h e = record {
-  relative = s.relative;
-  placed = s.placed;
-  drawn = sym h.low;
-  cell = s.cell;
-  layer = sym h.layer;
-  datatype = sym h.datatype;
-  width = sym h.width;
-  height = sym h.height;
-  polygon = s.polygon;
-  half_width = s.half_width;
-  path = s.path;
-  start = s.start;
-  end = s.end;
-  repetition = e ∙ ap (option_or (listed r.position.repetition)) s.repetition;
-  repeated = refl;
-  single = s.single;
+      (λ out. out (subst (λ (ps : List Point). All FitsPoint ps) (sym (ring_of m earlier r v.layer v.datatype v.width v.height v.low s a low)) (all_fit v.low (corner v.low v.width v.height) low_fit (subst FitsPoint high high_fit))))
+      (no_later earlier r);
 }

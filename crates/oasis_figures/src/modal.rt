@@ -1,6 +1,7 @@
 //! Modal variables: what the records of a cell set for those after them.
 ghost use Rattle.std.specs.Prelude.{◌≡◌, ◌∷◌, [], List};
 ghost use Rattle.oasis_records.specs.declared.record.Record.{Record as ARecord};
+ghost use Rattle.oasis_records.specs.declared.record.Record.TheVariants.{XyAbsolute, XyRelative};
 ghost use Rattle.oasis_figures.specs.Figures.{shifts_of};
 ghost use Rattle.oasis_figures.specs.Keeping.{StandsFor};
 
@@ -56,6 +57,22 @@ impl Modal {
             is_repeated: false,
             single: Offsets::single(),
         }
+    }
+
+    /// Takes an XYABSOLUTE: from here on the coordinates of a record are where it is.
+    pub fn take_absolute(&mut self)
+        ensures { (earlier : List ARecord) → StandsFor self.old earlier → StandsFor self.new (XyAbsolute ∷ earlier) }
+    {
+        self.is_relative = false;
+        self.is_repeated = false;
+    }
+
+    /// Takes an XYRELATIVE: from here on the coordinates of a record are added to those before it.
+    pub fn take_relative(&mut self)
+        ensures { (earlier : List ARecord) → StandsFor self.old earlier → StandsFor self.new (XyRelative ∷ earlier) }
+    {
+        self.is_relative = true;
+        self.is_repeated = false;
     }
 
     /// The shifts at which the record before is drawn. A repetition that it has from an earlier record
