@@ -1,0 +1,135 @@
+-- What a record draws after those before it, the latest first.
+use Rattle.std.specs.Prelude.{◌≡◌, ℕ, ◌*◌, ◌==◌, not, ℤ, pos, Bool, false, if◌then◌else◌, List, [], ◌∷◌, map, Option, Some, None}
+use Rattle.lvl_grid.specs.declared.point.Point.{Point}
+use Rattle.lvl_grid.specs.Turn.{shifted}
+use Rattle.lvl_grid.specs.Winding.{rectangle_between}
+use Rattle.lvl_grid.specs.declared.map.Turn.{Turn}
+use Rattle.lvl_grid.specs.declared.map.Turn.TheVariants.{R0, R90, R180, R270}
+use Rattle.lvl_path.specs.Figure.{Figure, rings, path, figure_rings}
+use Rattle.lvl_cells.specs.Cells.{PlainShape, Rings}
+use Rattle.lvl_cells.specs.Shifts.{one_place}
+use Rattle.lvl_cells.specs.declared.layer.Layer.{Layer}
+use Rattle.oasis_values.specs.Deltas.{to}
+use Rattle.oasis_values.specs.declared.repetition.Repetition.{Repetition}
+use Rattle.oasis_records.specs.declared.record.Record.{Record}
+use Rattle.oasis_values.specs.declared.number.Real.{Real}
+use Rattle.oasis_values.specs.declared.number.Real.TheVariants.{Whole, Reciprocal, Ratio}
+use Rattle.oasis_records.specs.declared.cell.CellRef.{CellRef}
+use Rattle.oasis_records.specs.declared.placement.Transform.{Transform}
+use Rattle.oasis_records.specs.declared.placement.Transform.TheVariants.{Turned, Scaled}
+use Rattle.oasis_records.specs.declared.record.Record.TheVariants.{Placement, Rectangle, Polygon, Path}
+use Rattle.oasis_figures.specs.Modal.{value_or, modal, layer_set, datatype_set, width_set, height_set, repetition_set, repetition_of, geometry}
+use Rattle.oasis_figures.specs.Modal.{cell_set, polygon_set, half_width_set, path_set, start_set, end_set, placement}
+use Rattle.oasis_figures.specs.declared.drawn.Drawn.{Drawn}
+use Rattle.oasis_figures.specs.declared.drawn.Drawn.TheVariants.{Ring}
+
+-- a number that a variable has
+abbrev pub number : Option ℕ → ℕ
+number n = value_or n 0
+
+abbrev pub layer_by : ℕ → ℕ → Layer
+layer_by layer datatype = record { layer = layer; datatype = datatype }
+
+abbrev pub layer_of : List Record → Layer
+layer_of records = layer_by (number (modal layer_set records)) (number (modal datatype_set records))
+
+-- the corners of the latest rectangle, the lower left one at its position
+abbrev pub rectangle_ring : List Record → List Point
+rectangle_ring records =
+    rectangle_between (geometry records) (shifted (to (pos (number (modal width_set records))) (pos (number (modal height_set records)))) (geometry records))
+
+-- the points of a list, the first at the position of the latest figure
+abbrev pub vertices : List Record → Option (List Point) → List Point
+vertices records points = map (shifted (geometry records)) (value_or points [])
+
+abbrev pub polygon_ring : List Record → List Point
+polygon_ring records = vertices records (modal polygon_set records)
+
+abbrev pub path_points : List Record → List Point
+path_points records = vertices records (modal path_set records)
+
+-- how far a path reaches beyond an end, where that isn't negative
+abbrev pub reach : Option ℤ → ℕ
+reach (Some (pos n)) = n
+reach z = 0
+
+abbrev pub half_of : List Record → ℕ
+half_of records = number (modal half_width_set records)
+
+abbrev pub start_of : List Record → ℕ
+start_of records = reach (modal start_set records)
+
+abbrev pub end_of : List Record → ℕ
+end_of records = reach (modal end_set records)
+
+abbrev pub path_figure : List Record → Figure
+path_figure records = path (path_points records) (record { half = half_of records; start = start_of records; end = end_of records })
+
+-- the shifts of a record: those of its repetition, or the zero shift alone
+abbrev pub shifts_by : Option Repetition → Option (List Point) → List Point
+shifts_by None shifts = one_place
+shifts_by (Some r) shifts = value_or shifts one_place
+
+abbrev pub shifts_of : List Record → Record → List Point
+shifts_of earlier r = shifts_by (repetition_of r) (modal repetition_set (r ∷ earlier))
+
+abbrev pub shape : List Record → Record → Figure → PlainShape Figure
+shape earlier r figure = record { layer = layer_of (r ∷ earlier); figure = figure; shifts = shifts_of earlier r }
+
+-- the shapes of a record
+abbrev pub shapes_of : List Record → Record → List (PlainShape Figure)
+shapes_of earlier (Rectangle r) = shape earlier (Rectangle r) (rings (rectangle_ring (Rectangle r ∷ earlier) ∷ [])) ∷ []
+shapes_of earlier (Polygon p) = shape earlier (Polygon p) (rings (polygon_ring (Polygon p ∷ earlier) ∷ [])) ∷ []
+shapes_of earlier (Path p) = shape earlier (Path p) (path_figure (Path p ∷ earlier)) ∷ []
+shapes_of earlier r = []
+
+-- whether a real is that number, as a whole number, a reciprocal or a ratio
+abbrev pub is_number : ℕ → Real → Bool
+is_number n (Whole k) = k == n
+is_number n (Reciprocal k) = n * k == 1
+is_number n (Ratio k m) = k == n * m
+is_number n r = false
+
+-- the turn by so many degrees, none but by right angles
+abbrev pub turn_by : Real → Option Turn
+turn_by a =
+    if is_number 0 a then Some R0 else (if is_number 90 a then Some R90 else (if is_number 180 a then Some R180 else (if is_number 270 a then Some R270 else None)))
+
+-- an angle that isn't there is 0, a magnification 1
+
+abbrev pub turn_of : Transform → Option Turn
+turn_of (Turned t) = Some t
+turn_of (Scaled m None) = Some R0
+turn_of (Scaled m (Some a)) = turn_by a
+
+abbrev pub is_magnified : Transform → Bool
+is_magnified (Turned t) = false
+is_magnified (Scaled None a) = false
+is_magnified (Scaled (Some m) a) = not (is_number 1 m)
+
+-- a cell that is placed, by its number or its name
+pub record Placed : Type 0 where
+  pub cell : Option CellRef
+  pub flip : Bool
+  pub turn : Turn
+  pub at : Point
+  pub shifts : List Point
+
+-- the placements of a record
+abbrev pub placements_of : List Record → Record → List Placed
+placements_of earlier (Placement p) =
+    record { cell = modal cell_set (Placement p ∷ earlier); flip = p.flip; turn = value_or (turn_of p.transform) R0; at = placement (Placement p ∷ earlier); shifts = shifts_of earlier (Placement p) }
+    ∷ []
+placements_of earlier r = []
+
+-- the same shape, with its figure drawn as rings
+abbrev pub in_rings : PlainShape Figure → PlainShape Rings
+in_rings s = record { layer = s.layer; figure = figure_rings s.figure; shifts = s.shifts }
+
+-- the shapes that are drawn, at those shifts
+abbrev pub shapes_in : List Point → Drawn → List (PlainShape Rings)
+shapes_in shifts (Ring layer ring) = record { layer = layer; figure = ring ∷ []; shifts = shifts } ∷ []
+
+-- what is drawn is what the record draws, with rings for each figure
+pub record IsDrawn (earlier : List Record) (r : Record) (d : Drawn) : Type 0 where
+  pub shapes : shapes_in (shifts_of earlier r) d ≡ map in_rings (shapes_of earlier r)

@@ -1,0 +1,5 @@
+pub mod Modal
+pub mod Figures
+pub mod Keeping
+pub mod Rules
+pub mod inside

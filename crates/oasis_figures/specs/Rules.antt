@@ -1,0 +1,132 @@
+-- The rules that a record may breach after those before it, the latest first.
+use Rattle.std.specs.Prelude.{◌≡◌, ℕ, ◌<◌, ◌^◌, ◌||◌, ℤ, negsuc, Bool, true, false, is_some, if◌then◌else◌, List, [], ◌∷◌, Option, Some, None, All}
+use Rattle.lvl_grid.specs.Turn.{FitsPoint, shifted}
+use Rattle.lvl_grid.specs.Winding.{IsRing}
+use Rattle.lvl_path.specs.Runs.{IsLowestFault}
+use Rattle.lvl_path.specs.declared.fault.PathFault.{PathFault}
+use Rattle.oasis_values.specs.declared.repetition.Repetition.{Repetition}
+use Rattle.oasis_records.specs.declared.record.Record.{Record}
+use Rattle.oasis_records.specs.declared.record.Record.TheVariants.{Placement, Rectangle, Polygon, Path}
+use Rattle.oasis_figures.specs.Figures.{number, rectangle_ring, polygon_ring, path_points, half_of, start_of, end_of, shifts_of, turn_of, is_magnified}
+use Rattle.oasis_figures.specs.Modal.{geometry, placement}
+use Rattle.oasis_figures.specs.Modal.{modal, cell_set, layer_set, datatype_set, width_set, height_set, polygon_set}
+use Rattle.oasis_figures.specs.Modal.{half_width_set, path_set, start_set, end_set, repetition_set}
+use Rattle.oasis_figures.specs.declared.rule.FigureRule.{FigureRule}
+use Rattle.oasis_figures.specs.declared.rule.FigureRule.TheVariants.{Undefined, Layer as WideLayer, OutOfRange, Magnification, Angle}
+use Rattle.oasis_figures.specs.declared.rule.FigureRule.TheVariants.{Extension, Oblique, Path as PathRule}
+use Rattle.oasis_figures.specs.declared.variable.Variable.{Variable}
+use Rattle.oasis_figures.specs.declared.variable.Variable.TheVariants.{PlacementCell, Layer, Datatype, GeometryW, GeometryH}
+use Rattle.oasis_figures.specs.declared.variable.Variable.TheVariants.{PolygonPointList, PathHalfWidth, PathPointList}
+use Rattle.oasis_figures.specs.declared.variable.Variable.TheVariants.{PathStartExtension, PathEndExtension, Repetition as TheRepetition}
+
+abbrev pub is_defined : List Record → Variable → Bool
+is_defined records PlacementCell = is_some (modal cell_set records)
+is_defined records Layer = is_some (modal layer_set records)
+is_defined records Datatype = is_some (modal datatype_set records)
+is_defined records GeometryW = is_some (modal width_set records)
+is_defined records GeometryH = is_some (modal height_set records)
+is_defined records PolygonPointList = is_some (modal polygon_set records)
+is_defined records PathHalfWidth = is_some (modal half_width_set records)
+is_defined records PathPointList = is_some (modal path_set records)
+is_defined records PathStartExtension = is_some (modal start_set records)
+is_defined records PathEndExtension = is_some (modal end_set records)
+is_defined records TheRepetition = is_some (modal repetition_set records)
+
+-- the variable that a repetition takes
+abbrev pub of_repetition : Option Repetition → List Variable
+of_repetition None = []
+of_repetition (Some r) = TheRepetition ∷ []
+
+-- the variables that a record takes, in the order of its fields
+abbrev pub taken : Record → List Variable
+taken (Rectangle r) = Layer ∷ Datatype ∷ GeometryW ∷ GeometryH ∷ of_repetition r.position.repetition
+taken (Placement p) = PlacementCell ∷ of_repetition p.position.repetition
+taken (Polygon p) = Layer ∷ Datatype ∷ PolygonPointList ∷ of_repetition p.position.repetition
+taken (Path p) =
+    Layer ∷ Datatype ∷ PathHalfWidth ∷ PathStartExtension ∷ PathEndExtension ∷ PathPointList ∷ of_repetition p.position.repetition
+taken r = []
+
+abbrev pub first_undefined : (Variable → Bool) → List Variable → Option Variable
+first_undefined defined [] = None
+first_undefined defined (v ∷ vs) = if defined v then first_undefined defined vs else Some v
+
+abbrev pub AreNarrow : ℕ → ℕ → Type 0
+AreNarrow layer datatype = (layer < 2 ^ 32) × (datatype < 2 ^ 32)
+
+abbrev pub IsWide : List Record → Type 0
+IsWide records = ¬ AreNarrow (number (modal layer_set records)) (number (modal datatype_set records))
+
+abbrev pub HasWideLayer : List Record → Record → Type 0
+HasWideLayer earlier (Rectangle r) = IsWide (Rectangle r ∷ earlier)
+HasWideLayer earlier (Polygon p) = IsWide (Polygon p ∷ earlier)
+HasWideLayer earlier (Path p) = IsWide (Path p ∷ earlier)
+HasWideLayer earlier r = ⊥
+
+-- the position, a vertex at the zero shift or a place of a cell is outside 64 signed bits
+abbrev pub LeavesRange : List Record → Record → Type 0
+LeavesRange earlier (Rectangle r) = ¬ All FitsPoint (rectangle_ring (Rectangle r ∷ earlier))
+LeavesRange earlier (Polygon p) = ¬ All FitsPoint (geometry (Polygon p ∷ earlier) ∷ polygon_ring (Polygon p ∷ earlier))
+LeavesRange earlier (Path p) = ¬ All FitsPoint (geometry (Path p ∷ earlier) ∷ path_points (Path p ∷ earlier))
+LeavesRange earlier (Placement p) =
+    ¬ All (λ e. FitsPoint (shifted (placement (Placement p ∷ earlier)) e)) (shifts_of earlier (Placement p))
+LeavesRange earlier r = ⊥
+
+abbrev pub IsMagnified : Record → Type 0
+IsMagnified (Placement p) = is_magnified p.transform ≡ true
+IsMagnified r = ⊥
+
+abbrev pub IsTurnedOtherwise : Record → Type 0
+IsTurnedOtherwise (Placement p) = turn_of p.transform ≡ None
+IsTurnedOtherwise r = ⊥
+
+abbrev pub is_negative : Option ℤ → Bool
+is_negative (Some (negsuc n)) = true
+is_negative z = false
+
+abbrev pub HasNegativeEnd : List Record → Record → Type 0
+HasNegativeEnd earlier (Path p) =
+    is_negative (modal start_set (Path p ∷ earlier)) || is_negative (modal end_set (Path p ∷ earlier)) ≡ true
+HasNegativeEnd earlier r = ⊥
+
+-- an edge of the polygon is oblique, the closing one too; a list of fewer than three points is none of a POLYGON record
+abbrev pub HasObliqueEdge : List Record → Record → Type 0
+HasObliqueEdge earlier (Polygon p) = ¬ IsRing (polygon_ring (Polygon p ∷ earlier))
+HasObliqueEdge earlier r = ⊥
+
+abbrev pub IsPathFault : List Record → PathFault → Type 0
+IsPathFault records f =
+    IsLowestFault (path_points records) (record { half = half_of records; start = start_of records; end = end_of records }) f
+
+abbrev pub HasPathFault : List Record → Record → PathFault → Type 0
+HasPathFault earlier (Path p) f = IsPathFault (Path p ∷ earlier) f
+HasPathFault earlier r f = ⊥
+
+-- what the record has of each rule by itself
+abbrev pub Breaks : List Record → Record → FigureRule → Type 0
+Breaks earlier r (Undefined v) = first_undefined (is_defined (r ∷ earlier)) (taken r) ≡ Some v
+Breaks earlier r WideLayer = HasWideLayer earlier r
+Breaks earlier r OutOfRange = LeavesRange earlier r
+Breaks earlier r Magnification = IsMagnified r
+Breaks earlier r Angle = IsTurnedOtherwise r
+Breaks earlier r Extension = HasNegativeEnd earlier r
+Breaks earlier r Oblique = HasObliqueEdge earlier r
+Breaks earlier r (PathRule f) = HasPathFault earlier r f
+
+-- the order in which rules are tested
+abbrev pub order : FigureRule → ℕ
+order (Undefined v) = 0
+order WideLayer = 1
+order OutOfRange = 2
+order Magnification = 3
+order Angle = 4
+order Extension = 5
+order Oblique = 6
+order (PathRule f) = 7
+
+-- the rule that is tested first of those that are broken
+pub record Breaches (earlier : List Record) (r : Record) (rule : FigureRule) : Type 0 where
+  pub broken : Breaks earlier r rule
+  pub first : (other : FigureRule) → order other < order rule → ¬ Breaks earlier r other
+
+abbrev pub BreachesNone : List Record → Record → Type 0
+BreachesNone earlier r = (rule : FigureRule) → ¬ Breaks earlier r rule

@@ -1,0 +1,20 @@
+//! What a record of an OASIS cell draws, after the records before it (SEMI P39 OASIS 1.0).
+//!
+//! A field that isn't in a record has the value that an earlier record of the cell gave it: its modal
+//! variable. [`Modal`] keeps these variables. It takes the records of a cell one by one and says what
+//! each of them draws.
+#![tactic(auto)]
+
+pub use drawn::Drawn;
+pub use modal::Modal;
+pub use rule::FigureRule;
+pub use variable::Variable;
+
+mod drawn;
+mod layer;
+mod modal;
+mod position;
+mod rectangle;
+mod repetition;
+mod rule;
+mod variable;

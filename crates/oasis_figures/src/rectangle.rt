@@ -1,0 +1,111 @@
+//! RECTANGLE: the ring of its corners.
+ghost use Rattle.std.specs.Prelude.{◌≡◌, ◌∷◌, Some, List, IfOk, IfErr, OnOk, OnErr, if◌then◌else◌};
+ghost use Rattle.lvl_refusal.specs.Refused.{Says};
+ghost use Rattle.oasis_records.specs.declared.record.Record.{Record as ARecord};
+ghost use Rattle.oasis_figures.specs.Figures.{IsDrawn};
+ghost use Rattle.oasis_figures.specs.Keeping.{StandsFor};
+ghost use Rattle.oasis_figures.specs.Rules.{Breaches, BreachesNone};
+ghost use Rattle.oasis_figures.specs.inside.Rectangles.{a_rectangle, IsResolved};
+
+use crate::drawn::Drawn;
+use crate::layer::layer_of;
+use crate::modal::Modal;
+use crate::position::moved;
+use crate::repetition::{after, is_known};
+use crate::rule::FigureRule;
+use crate::variable::Variable;
+use lvl_cells::Layer;
+use lvl_grid::{Point, Ring};
+use lvl_refusal::Refusal;
+use oasis_records::Rectangle;
+use std::alloc::Global;
+
+/// A rectangle of which every value is known.
+#[derive(Clone, Copy)]
+pub(crate) struct Resolved {
+    layer: u64,
+    datatype: u64,
+    width: u64,
+    height: u64,
+    on: Layer,
+    low: Point,
+    high: Point,
+}
+
+/// The height that a rectangle of this width gives.
+fn height_of(rectangle: &Rectangle, width: u64) -> Option<u64>
+    ensures { result ≡ (if rectangle.now.is_square then Some width else rectangle.now.height) }
+{
+    if rectangle.is_square {
+        return Some(width);
+    }
+    rectangle.height
+}
+
+impl Modal {
+    /// The values of a rectangle, if it breaches no rule.
+    fn resolve_rectangle(&self, rectangle: &Rectangle) -> Result<Resolved, FigureRule>
+        ensures ok { IfOk result (λ v. (earlier : List ARecord) → StandsFor self.now earlier → IsResolved earlier rectangle.now v) }
+        ensures err { IfErr result (λ rule. (earlier : List ARecord) → StandsFor self.now earlier → Breaches earlier (a_rectangle rectangle.now) rule) }
+    {
+        let Some(layer) = rectangle.on.layer.or(self.layer) else {
+            return Err(FigureRule::Undefined(Variable::Layer));
+        };
+        let Some(datatype) = rectangle.on.datatype.or(self.datatype) else {
+            return Err(FigureRule::Undefined(Variable::Datatype));
+        };
+        let Some(width) = rectangle.width.or(self.width) else {
+            return Err(FigureRule::Undefined(Variable::GeometryW));
+        };
+        let Some(height) = height_of(rectangle, width).or(self.height) else {
+            return Err(FigureRule::Undefined(Variable::GeometryH));
+        };
+        let position = &rectangle.position;
+        if !is_known(&position.repetition, &self.repetition) {
+            return Err(FigureRule::Undefined(Variable::Repetition));
+        }
+        let Some(on) = layer_of(layer, datatype) else {
+            return Err(FigureRule::Layer);
+        };
+        let Some(low) = moved(self.geometry, position.x, position.y, self.is_relative) else {
+            return Err(FigureRule::OutOfRange);
+        };
+        let Some(high) = low.offset(width, height) else {
+            return Err(FigureRule::OutOfRange);
+        };
+        Ok(Resolved {
+            layer,
+            datatype,
+            width,
+            height,
+            on,
+            low,
+            high,
+        })
+    }
+
+    /// Takes a RECTANGLE. After a refusal the variables are as they were.
+    pub fn take_rectangle(
+        &mut self,
+        alloc: Global,
+        rectangle: Rectangle,
+    ) -> Result<Drawn, Refusal<FigureRule>>
+        ensures drawn { IfOk result (λ drawn. (earlier : List ARecord) → StandsFor self.old earlier → IsDrawn earlier (a_rectangle rectangle) drawn) }
+        ensures kept { OnOk result ((earlier : List ARecord) → StandsFor self.old earlier → StandsFor self.new (a_rectangle rectangle ∷ earlier)) }
+        ensures none { OnOk result ((earlier : List ARecord) → StandsFor self.old earlier → BreachesNone earlier (a_rectangle rectangle)) }
+        ensures refused { IfErr result (λ e. Says e (λ rule. (earlier : List ARecord) → StandsFor self.old earlier → Breaches earlier (a_rectangle rectangle) rule)) }
+        ensures same { OnErr result (self.new ≡ self.old) }
+    {
+        let values = self.resolve_rectangle(&rectangle)?;
+        let ring = Ring::rectangle(alloc, values.low, values.high)?;
+        let repetition = rectangle.position.repetition;
+        self.geometry = values.low;
+        self.layer = Some(values.layer);
+        self.datatype = Some(values.datatype);
+        self.width = Some(values.width);
+        self.height = Some(values.height);
+        self.is_repeated = repetition.is_some();
+        self.repetition = after(repetition, self.repetition.take());
+        Ok(Drawn::Ring(values.on, ring))
+    }
+}
