@@ -1,3 +1,4 @@
 pub mod Items
 pub mod Reached
 pub mod Instance
+pub mod Typed

@@ -4,5 +4,6 @@ pub mod Head
 pub mod Names
 pub mod Rules
 pub mod Front
+pub mod Told
 pub mod Ends
 pub mod inside

@@ -12,4 +12,5 @@ pub use oasis_values::ValueFault;
 
 mod fault;
 mod head;
+mod next;
 mod order;
