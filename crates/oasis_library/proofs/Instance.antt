@@ -68,7 +68,7 @@ within_room room text ys agree =
     (q.0, drop room ys ++ q.1, q.2 ∙ ap (λ l. l ++ q.1) (sym (take-append-drop room ys)) ∙ append_assoc (take room ys) (drop room ys) q.1)
 
 -- the shorter of two lists of bytes that begin alike is at the front of the longer one
-front_in : (text ys x y : List ℕ) → text ++ x ≡ ys ++ y → length text ≤ length ys → ys ≡ text ++ drop (length text) ys
+pub front_in : (text ys x y : List ℕ) → text ++ x ≡ ys ++ y → length text ≤ length ys → ys ≡ text ++ drop (length text) ys
 front_in text ys x y e fits =
     sym (take-append-drop (length text) ys)
     ∙ ap (λ l. l ++ drop (length text) ys) (sym (take-append-le (length text) ys y fits) ∙ ap (take (length text)) (sym e) ∙ take-append_seam text x)

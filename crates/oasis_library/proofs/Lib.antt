@@ -2,3 +2,4 @@ pub mod Items
 pub mod Reached
 pub mod Instance
 pub mod Typed
+pub mod Only
