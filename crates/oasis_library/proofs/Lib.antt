@@ -3,3 +3,4 @@ pub mod Reached
 pub mod Instance
 pub mod Typed
 pub mod Only
+pub mod Steps
