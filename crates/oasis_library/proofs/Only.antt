@@ -1,8 +1,8 @@
 -- Where a rule is breached no other is.
-use Rattle.std.proofs.Common.{◌≡◌, ℕ, ◌<◌, ◌≤◌, ◌⊎◌, true, false, List, [], ◌∷◌, ◌++◌, length, take, drop, Result, Ok, Err, refl, sym, ap, ◌∙◌, subst}
-use Rattle.std.proofs.Common.{inl, inr, arith, length-append, length-take, append_assoc}
+use Rattle.std.proofs.Common.{◌≡◌, ℕ, ◌<◌, ◌≤◌, ◌⊎◌, List, ◌++◌, length, take, drop, Result, Ok, Err, refl, sym, ap, ◌∙◌, subst}
+use Rattle.std.proofs.Common.{inl, inr, arith, length-take}
 use Rattle.std.proofs.lemmas.List.{take-append-drop}
-use Rattle.lvl_io.specs.Spelling.{IsFront, IsBegun}
+use Rattle.lvl_io.specs.Spelling.{IsFront}
 use Rattle.lvl_io.proofs.Spelling.{front_only, begun_open}
 use Rattle.oasis_values.specs.declared.fault.ValueFault.{ValueFault}
 use Rattle.oasis_values.specs.declared.fault.ValueFault.TheVariants.{TooLong}
@@ -11,7 +11,7 @@ use Rattle.oasis_records.specs.declared.record.Record.{Record as ARecord}
 use Rattle.oasis_records.specs.declared.record.Record.TheVariants.{Pad, Start, End, CellName, Cell, XyAbsolute, XyRelative, Placement, Rectangle, Polygon, Path}
 use Rattle.oasis_library.specs.Items.{Item, magic, item, records, IsEnded}
 use Rattle.oasis_library.specs.Order.{names_in}
-use Rattle.oasis_library.specs.Rules.{RepeatsNumber, RepeatsName, NameBreaches, RecordBreaches, Breaches}
+use Rattle.oasis_library.specs.Rules.{RepeatsNumber, NameBreaches, RecordBreaches, Breaches}
 use Rattle.oasis_library.specs.Front.{IsItem, IsTooLong, BreaksRule, IsWrong}
 use Rattle.oasis_library.specs.declared.fault.NameRule.TheVariants.{Mixed, NumberTwice, NameTwice}
 use Rattle.oasis_library.specs.declared.fault.OasisKind.{OasisKind}

@@ -1,16 +1,14 @@
 -- A file is read item by item: what each call that reads the next item says of the whole input.
-use Rattle.std.proofs.Common.{◌≡◌, ℕ, ◌+◌, ◌-◌, ◌<◌, ◌≤◌, true, false, List, [], ◌∷◌, ◌++◌, length, take, drop, Result, Ok, Err, refl, sym, ap, ◌∙◌, subst}
+use Rattle.std.proofs.Common.{◌≡◌, ℕ, ◌+◌, ◌-◌, ◌<◌, true, false, List, [], ◌∷◌, ◌++◌, length, drop, Ok, Err, refl, sym, ap, ◌∙◌, subst}
 use Rattle.std.proofs.Common.{inl, inr, arith}
 use Rattle.std.specs.Prelude.{Option, Some}
 use Rattle.std.specs.Borrow.{GName}
-use Rattle.lvl_refusal.specs.declared.Refusal.{Refusal}
-use Rattle.lvl_refusal.specs.declared.Refusal.TheVariants.{Breach, OutOfMemory}
 use Rattle.lvl_grammar.specs.Refused.{IsStuck, IsBreached, IsTruncated}
 use Rattle.lvl_grammar.specs.inside.ReadTo.{ReadTo}
 use Rattle.lvl_grammar.proofs.Reading.{reads_on, reads_front}
 use Rattle.lvl_grammar.proofs.Stuck.{law_stuck}
 use Rattle.oasis_values.specs.Faults.{is_rule}
-use Rattle.oasis_values.specs.Input.{file_limit, bytes_left, input_offset, has_failed, room_left}
+use Rattle.oasis_values.specs.Input.{file_limit, bytes_left, input_offset, has_failed}
 use Rattle.oasis_values.specs.Reads.{Fails, Reads}
 use Rattle.oasis_values.specs.declared.fault.ValueFault.{ValueFault}
 use Rattle.oasis_values.specs.declared.fault.ValueFault.TheVariants.{Truncated, IntegerTooLarge, StringByte, RealType, ZeroDenominator, PointListType, PointCount, RepetitionType, RepetitionSize, OutOfRange, TooLong, Read, Failed, NoModal}
