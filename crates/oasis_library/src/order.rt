@@ -1,7 +1,8 @@
 //! Which record may come next, by its id alone.
 ghost use Rattle.std.specs.Prelude.{◌≡◌, List, [], Ok};
 ghost use Rattle.oasis_records.specs.declared.record.Record.{Record as Read};
-ghost use Rattle.oasis_library.specs.Order.{is_start, is_inner, opens_cell, is_expected, mixes, allowed, type_after, at_end};
+ghost use Rattle.oasis_library.specs.Order.{is_start, is_inner, opens_cell, is_expected, mixes, allowed};
+ghost use Rattle.oasis_library.specs.Order.{type_after, at_end};
 ghost use Rattle.oasis_library.specs.inside.Reached.{HasReached, passed};
 
 use crate::fault::{NameRule, OasisKind};
