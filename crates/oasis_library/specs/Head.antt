@@ -1,0 +1,31 @@
+-- What a file says of itself (SEMI P39 OASIS 1.0, "START record", "END record").
+use Rattle.std.specs.Prelude.{ℕ, List, [], ◌∷◌, flat_map}
+use Rattle.oasis_values.specs.declared.number.Real.{Real}
+use Rattle.oasis_values.specs.declared.number.Real.TheVariants.{Whole}
+use Rattle.oasis_records.specs.declared.end.Validation.{Validation}
+use Rattle.oasis_records.specs.declared.end.Validation.TheVariants.{Absent, Crc32, Checksum32}
+use Rattle.oasis_records.specs.declared.record.Record.{Record}
+use Rattle.oasis_records.specs.declared.record.Record.TheVariants.{Start, End}
+use Rattle.oasis_library.specs.Order.{last_or}
+use Rattle.oasis_library.specs.declared.head.OasisHead.{OasisHead}
+
+abbrev pub head_with : Real → ℕ → List ℕ → OasisHead
+head_with unit scheme signature = record { unit = unit; scheme = scheme; signature = signature }
+
+-- the signature is four zero bytes where there is none
+abbrev pub head : Real → Validation → OasisHead
+head unit Absent = head_with unit 0 (0 ∷ 0 ∷ 0 ∷ 0 ∷ [])
+head unit (Crc32 bytes) = head_with unit 1 bytes
+head unit (Checksum32 bytes) = head_with unit 2 bytes
+
+abbrev pub unit_in : Record → List Real
+unit_in (Start s) = s.unit ∷ []
+unit_in r = []
+
+abbrev pub validation_in : Record → List Validation
+validation_in (End v) = v ∷ []
+validation_in r = []
+
+-- the unit is START's, the validation END's
+abbrev pub head_of : List Record → OasisHead
+head_of rs = head (last_or (Whole 0) (flat_map unit_in rs)) (last_or Absent (flat_map validation_in rs))

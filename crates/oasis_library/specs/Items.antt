@@ -1,0 +1,19 @@
+-- What a file is a list of: the magic string, which counts as a record, and records.
+use Rattle.std.specs.Prelude.{◌≡◌, List, [], ◌∷◌, ◌++◌}
+use Rattle.oasis_records.specs.declared.end.Validation.{Validation}
+use Rattle.oasis_records.specs.declared.record.Record.{Record}
+use Rattle.oasis_records.specs.declared.record.Record.TheVariants.{End}
+
+pub data Item : Type 0 where
+  magic : Item
+  item : Record → Item
+
+-- the records among them
+abbrev pub records : List Item → List Record
+records [] = []
+records (magic ∷ rest) = records rest
+records (item r ∷ rest) = r ∷ records rest
+
+-- the last of them is END
+abbrev pub IsEnded : List Item → Type 0
+IsEnded is = (before : List Item) × (v : Validation) × (is ≡ before ++ item (End v) ∷ [])
