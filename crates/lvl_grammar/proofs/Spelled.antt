@@ -1,5 +1,5 @@
 -- The spellings of records, in parts and joined.
-use Rattle.std.proofs.Common.{◌≡◌, ℕ, List, [], ◌∷◌, ◌++◌, refl, sym, ap, ◌∙◌, subst, append_assoc}
+use Rattle.std.proofs.Common.{ℕ, List, [], ◌∷◌, ◌++◌, refl, sym, ap, ◌∙◌, subst, append_assoc}
 use Rattle.std.proofs.lemmas.List.{append-nil}
 use Rattle.lvl_grammar.specs.Grammar.{Grammar}
 use Rattle.lvl_grammar.specs.Front.{SpellsAll, FollowAll}

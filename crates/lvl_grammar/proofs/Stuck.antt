@@ -101,6 +101,9 @@ pub seen_hopeless : {R K : Type 0} (G : Grammar R K) → IsGrammar G
     → (xs : List ℕ) (at : ℕ) (left : Option (List ℕ)) (k : K) → IsSeenWrong G xs at left k → IsHopeless G xs left
 seen_hopeless G is xs at left k s = record {
   taken = take at xs ++ s.seen;
+  some =
+      let seen = is.here s.records (G.limit - at) (s.seen ++ []) k (s.wrong []) in
+      omega (arith, seen, length-append s.seen [], length-append (take at xs) s.seen);
   rest = s.rest;
   parts = sym (take-append-drop at xs) ∙ ap (λ l. take at xs ++ l) s.parts ∙ sym (append_assoc (take at xs) s.seen s.rest);
   left_is = s.left_is;

@@ -32,9 +32,10 @@ pub record IsTruncated {R K : Type 0} (G : Grammar R K) (xs : List ℕ) (at : �
   pub unended : ¬ G.ends records
   pub cut : G.begun records (drop at xs)
 
--- of the input some bytes were taken, which are no whole file whatever comes after them, and the others are left
+-- of the input a byte or more was taken; what was taken is no whole file whatever comes after it, and the others are left
 pub record IsHopeless {R K : Type 0} (G : Grammar R K) (xs : List ℕ) (left : Option (List ℕ)) : Type 0 where
   pub taken : List ℕ
+  pub some : 0 < length taken
   pub rest : List ℕ
   pub parts : xs ≡ taken ++ rest
   pub left_is : left ≡ Some rest
