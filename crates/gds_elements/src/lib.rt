@@ -2,7 +2,7 @@
 //!
 //! An element begins with its opener, BOUNDARY, PATH, SREF, AREF or TEXT, and ends with ENDEL
 //! (GDSII Stream Format Manual, Release 6). [`Element::open`] takes the opener, and
-//! [`Element::take`] one record more, until the element is whole: then it is what it draws, a shape
+//! [`Element::take`] the next record, until the element is whole: then it is what it draws, a shape
 //! or a reference to a cell, or nothing. [`name`], [`is_name`] and [`misplaced`] serve the records
 //! outside of elements too.
 //!

@@ -64,7 +64,7 @@ fn refused(error: Error) -> LineFault
 
 /// What a line asks for; its first word is the program's own name.
 ///
-/// The job is what the words mean by `clap` for the program's line (see the README), and every file
+/// The job is what the words mean by `clap` for the program's line (see [`crate`]), and every file
 /// is there. `Words` has `clap`'s error: the line is not one of the program's, or asks for help or
 /// the version. Where `clap` takes the words, only an allocation that failed is answered.
 pub fn parse_line<'a>(alloc: Global, words: &'a [&'a str]) -> Result<Job, LineFault>
