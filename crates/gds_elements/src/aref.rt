@@ -138,7 +138,8 @@ fn place_all(
     let up = step(origin, point_at(payload, 2), counts.rows)?;
     let shifts = Offsets::lattice(across, counts.columns, up, counts.rows).unwrap();
     let Placing { name, flip, turn } = placing;
-    Ok(Reference::new(Name::new(name)?, flip, turn, origin, shifts).unwrap())
+    let name = Name::new(name)?;
+    Ok(Reference::new(name, flip, turn, origin, shifts).unwrap())
 }
 
 /// One of so many equal steps from a point to another.

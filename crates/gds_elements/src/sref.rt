@@ -110,5 +110,6 @@ fn place_once(placing: Placing, payload: &[u8]) -> Result<Reference, Refusal<Ele
     }
     let Placing { name, flip, turn } = placing;
     let at = point_at(payload, 0);
-    Ok(Reference::new(Name::new(name)?, flip, turn, at, Offsets::single()).unwrap())
+    let name = Name::new(name)?;
+    Ok(Reference::new(name, flip, turn, at, Offsets::single()).unwrap())
 }
