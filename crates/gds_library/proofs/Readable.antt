@@ -1,6 +1,7 @@
 -- What a whole reading and a refusal say of every reading.
-use Rattle.std.proofs.Common.{◌≡◌, ℕ, List, sym, ap, ◌∙◌, subst, Result, Ok, Err, IfErr}
+use Rattle.std.proofs.Common.{◌≡◌, ℕ, List, [], Some, None, sym, ap, ◌∙◌, subst, Result, Ok, Err, IfErr}
 use Rattle.std.specs.Prelude.{Option}
+use Rattle.std.specs.Io.KnownBytes.{prepend_known}
 use Rattle.lvl_refusal.specs.Refused.{Says}
 use Rattle.lvl_refusal.specs.declared.Refusal.{Refusal}
 use Rattle.lvl_refusal.specs.declared.Refusal.TheVariants.{Breach, OutOfMemory}
@@ -19,6 +20,11 @@ use Rattle.gds_library.specs.declared.fault.GdsFault.{GdsFault}
 use Rattle.gds_library.specs.declared.fault.GdsKind.{GdsKind}
 use Rattle.gds_library.specs.declared.fault.GdsKind.TheVariants.{Record}
 use Rattle.gds_library.proofs.Instance.{is_grammar}
+
+-- what is left of a reader with no bytes in hand
+pub none_in_hand : (hand : List ℕ) (remaining left : Option (List ℕ)) → left ≡ prepend_known hand remaining → hand ≡ [] → left ≡ remaining
+none_in_hand hand None left e h = e
+none_in_hand hand (Some ys) left e h = rw h at e
 
 -- bytes spell one library at most
 pub law_only : (xs : List ℕ) (cells ds : List Drawing) (h g : GdsHead) → SpellsLibrary xs cells h

@@ -14,7 +14,7 @@ ghost use Rattle.gds_library.specs.declared.place.Place.TheVariants.{Fill};
 use crate::fault::{GdsFault, GdsKind};
 use crate::head::GdsHead;
 use crate::reading::Reading;
-use gds_records::{RecordFault, Records, Stopped};
+use gds_records::{Buffer, RecordFault, Records, Stopped};
 use lvl_cells::Library;
 use lvl_io::Read;
 use lvl_refusal::Refusal;
@@ -48,11 +48,11 @@ pub fn read_gds<R: Read>(
         → IsHopeless gds xs (R.remaining reader.new))) }
 
     // The reader failed once where `Read` is reported, and else never.
-    ensures reads { result ≢ Err Refusal.OutOfMemory
-        → CountsFailure (R.read_errors reader.old) (R.read_errors reader.new) (is_read result) }
-    ensures same { result ≢ Err Refusal.OutOfMemory → R.lent reader.new ≡ R.lent reader.old }
+    ensures reads { CountsFailure (R.read_errors reader.old) (R.read_errors reader.new) (is_read result) }
+    ensures same { R.lent reader.new ≡ R.lent reader.old }
 {
-    let mut records = Records::new(alloc, reader)?;
+    let buffer = Buffer::new(alloc)?;
+    let mut records = Records::with_buffer(buffer, reader);
     let read = read_library(alloc, &mut records);
     let _reader = records.into_reader();
     read

@@ -1,4 +1,5 @@
 pub mod Behind
+pub mod Formats
 pub mod Spelling
 pub mod Keeping
 pub mod Lifting

@@ -7,10 +7,11 @@ use Rattle.lvl_region.specs.declared.region.Side.TheVariants.{First, Second}
 use Rattle.lvl.specs.Drawing.{Drawing}
 use Rattle.lvl_refusal.specs.declared.Refusal.{Refusal as Cause}
 use Rattle.lvl_refusal.specs.declared.Refusal.TheVariants.{Breach, OutOfMemory as NoMemory}
-use Rattle.gds_library.specs.Ends.{Tells, IsExcused, IsEarly, is_read_kind}
+use Rattle.gds_library.specs.Ends.{Tells as TellsGds, IsExcused as IsExcusedGds, IsEarly as IsEarlyGds, is_read_kind}
+use Rattle.oasis_library.specs.Ends.{Tells as TellsOasis, IsExcused as IsExcusedOasis, IsEarly as IsEarlyOasis, is_read_error}
 use Rattle.lvl.specs.declared.layout.Head.{Head}
 use Rattle.lvl.specs.declared.layout.FileFault.{FileFault}
-use Rattle.lvl.specs.declared.layout.FileFault.TheVariants.{Gds}
+use Rattle.lvl.specs.declared.layout.FileFault.TheVariants.{Gds, Oasis}
 use Rattle.lvl.specs.declared.verdict.Comparison.{Comparison}
 use Rattle.lvl.specs.declared.verdict.Refusal.{Refusal}
 use Rattle.lvl.specs.declared.verdict.Refusal.TheVariants.{File as FileRefusal, Cells as CellsRefusal, Flat as FlatRefusal, OutOfMemory}
@@ -20,11 +21,13 @@ use Rattle.lvl.specs.Kept.{Kept, Passes, IsCellFault, IsRangeFault}
 
 -- a read that failed: it says nothing of the file
 abbrev pub IsExcusedFile : FileFault → Type 0
-IsExcusedFile (Gds f) = IsExcused f
+IsExcusedFile (Gds f) = IsExcusedGds f
+IsExcusedFile (Oasis f) = IsExcusedOasis f
 
 -- what the reader of the format says of the bytes
 abbrev pub TellsOfFile : List ℕ → FileFault → Type 0
-TellsOfFile bytes (Gds f) = Tells bytes f
+TellsOfFile bytes (Gds f) = TellsGds bytes f
+TellsOfFile bytes (Oasis f) = TellsOasis bytes f
 
 -- the refusal is of that side's file, for another cause than memory or a failed read
 abbrev pub Blames : Side → Refusal → Type 0
@@ -72,7 +75,8 @@ pub record IsRefusalOf (side : Side) (file : File) (r : Refusal) : Type 0 where
 
 -- the fault is reported before the input has ended, and not because a read failed
 abbrev pub IsEarlyFile : FileFault → Type 0
-IsEarlyFile (Gds f) = IsEarly f
+IsEarlyFile (Gds f) = IsEarlyGds f
+IsEarlyFile (Oasis f) = IsEarlyOasis f
 
 -- the refusal is such a one of that side's file
 abbrev pub IsEarlyOf : Side → Refusal → Type 0
@@ -98,6 +102,7 @@ pub record IsCompared (a b : File) (c : Comparison) : Type 0 where
 -- the fault is a read that failed
 abbrev pub read_failed : FileFault → Bool
 read_failed (Gds f) = is_read_kind f.kind
+read_failed (Oasis f) = is_read_error f
 
 abbrev pub is_failed_read : {A : Type 0} → Result A (Cause FileFault) → Bool
 is_failed_read (Ok x) = false

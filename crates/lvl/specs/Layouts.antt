@@ -1,11 +1,12 @@
 -- What files spell, by their format.
-use Rattle.std.specs.Prelude.{◌≡◌, ℕ, List, Option}
+use Rattle.std.specs.Prelude.{◌≡◌, ℕ, List, [], ◌∷◌, Option, Some, None}
 use Rattle.lvl_path.specs.Figure.{figure_rings}
 use Rattle.lvl_cells.specs.Cells.{PlainCell, Rings, kept}
 use Rattle.lvl.specs.Drawing.{Drawing}
-use Rattle.gds_library.specs.Front.{SpellsLibrary}
+use Rattle.gds_library.specs.Front.{SpellsLibrary as SpellsGds}
+use Rattle.oasis_library.specs.Libraries.{SpellsLibrary as SpellsOasis}
 use Rattle.lvl.specs.declared.layout.Head.{Head}
-use Rattle.lvl.specs.declared.layout.Head.TheVariants.{Gds}
+use Rattle.lvl.specs.declared.layout.Head.TheVariants.{Gds, Oasis}
 
 -- the bytes of a file, and the name of its top, if one was given
 pub record File : Type 0 where
@@ -14,7 +15,22 @@ pub record File : Type 0 where
 
 -- the bytes spell the cells and the head, in the head's format
 abbrev pub Spells : List ℕ → List Drawing → Head → Type 0
-Spells bytes cells (Gds h) = SpellsLibrary bytes cells h
+Spells bytes cells (Gds h) = SpellsGds bytes cells h
+Spells bytes cells (Oasis h) = SpellsOasis bytes cells h
+
+-- the bytes begin with that byte
+pub record BeginsWith (byte : ℕ) (bytes : List ℕ) : Type 0 where
+  pub rest : List ℕ
+  pub is : bytes ≡ byte ∷ rest
+
+-- its first byte, if it has one
+abbrev pub HasFirst : Option ℕ → List ℕ → Type 0
+HasFirst None bytes = bytes ≡ []
+HasFirst (Some byte) bytes = BeginsWith byte bytes
+
+-- a file is read as OASIS where it begins with the first byte of its magic string, and else as GDSII
+abbrev pub IsOasis : List ℕ → Type 0
+IsOasis bytes = BeginsWith 0x25 bytes
 
 -- the bytes spell some library
 abbrev pub SpellsSome : List ℕ → Type 0

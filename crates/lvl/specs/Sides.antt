@@ -7,9 +7,9 @@ use Rattle.lvl_flat.specs.Flattened.{IsFlatFault}
 use Rattle.lvl.specs.Drawing.{Drawing}
 use Rattle.lvl_region.specs.declared.region.Side.{Side}
 use Rattle.lvl.specs.declared.layout.Head.{Head}
-use Rattle.lvl.specs.declared.layout.Head.TheVariants.{Gds as GdsHeadOf}
+use Rattle.lvl.specs.declared.layout.Head.TheVariants.{Gds as GdsHeadOf, Oasis as OasisHeadOf}
 use Rattle.lvl.specs.declared.layout.Layout.{Layout}
-use Rattle.lvl.specs.declared.layout.Layout.TheVariants.{Gds as GdsLayout}
+use Rattle.lvl.specs.declared.layout.Layout.TheVariants.{Gds as GdsLayout, Oasis as OasisLayout}
 use Rattle.lvl.specs.declared.layout.FileFault.{FileFault}
 use Rattle.lvl.specs.declared.verdict.Refusal.{Refusal}
 use Rattle.lvl.specs.declared.verdict.Refusal.TheVariants.{File as FileRefusal, Cells as CellsRefusal, Flat as FlatRefusal, OutOfMemory}
@@ -19,6 +19,7 @@ use Rattle.lvl.specs.Answers.{TellsOfFile, IsExcusedFile}
 
 abbrev pub layout_parts : Layout → List (PlainCell Rings) × Head
 layout_parts (GdsLayout library h) = (library, GdsHeadOf h)
+layout_parts (OasisLayout library h) = (library, OasisHeadOf h)
 
 -- the bytes spell no library
 abbrev pub SpellsNothing : List ℕ → Type 0

@@ -76,10 +76,8 @@ pub fn compare_layouts<A: Read, B: Read>(
         → IfErr result (λ r. IsEarlyOf First r → IsHopeless xs (A.remaining first.new)) }
     ensures second_early { (ys : List ℕ) → B.remaining second.old ≡ Some ys
         → IfErr result (λ r. IsEarlyOf Second r → IsHopeless ys (B.remaining second.new)) }
-    ensures first_reads { result ≢ Err OutOfMemory
-        → CountsFailure (A.read_errors first.old) (A.read_errors first.new) (is_read_of First result) }
-    ensures second_reads { result ≢ Err OutOfMemory
-        → CountsFailure (B.read_errors second.old) (B.read_errors second.new) (is_read_of Second result) }
+    ensures first_reads { CountsFailure (A.read_errors first.old) (A.read_errors first.new) (is_read_of First result) }
+    ensures second_reads { CountsFailure (B.read_errors second.old) (B.read_errors second.new) (is_read_of Second result) }
 {
     match compare_files(alloc, first, second, tops) {
         Ok(compared) => Ok(compared.verdict),
@@ -105,10 +103,8 @@ pub fn compare_files<A: Read, B: Read>(
         → IfErr result (λ r. IsEarlyOf First r → IsHopeless xs (A.remaining first.new)) }
     ensures second_early { (ys : List ℕ) → B.remaining second.old ≡ Some ys
         → IfErr result (λ r. IsEarlyOf Second r → IsHopeless ys (B.remaining second.new)) }
-    ensures first_reads { result ≢ Err OutOfMemory
-        → CountsFailure (A.read_errors first.old) (A.read_errors first.new) (is_read_of First result) }
-    ensures second_reads { result ≢ Err OutOfMemory
-        → CountsFailure (B.read_errors second.old) (B.read_errors second.new) (is_read_of Second result) }
+    ensures first_reads { CountsFailure (A.read_errors first.old) (A.read_errors first.new) (is_read_of First result) }
+    ensures second_reads { CountsFailure (B.read_errors second.old) (B.read_errors second.new) (is_read_of Second result) }
 {
     let (ours, first_head) = read_side(alloc, Side::First, first)?;
     let (theirs, second_head) = read_side(alloc, Side::Second, second)?;

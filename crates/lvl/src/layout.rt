@@ -1,24 +1,31 @@
 //! A file read by its format.
-ghost use Rattle.std.specs.Prelude.{◌≡◌, ◌≢◌, List, ℕ, Some, Err, IfOk, IfErr};
-ghost use Rattle.lvl_io.specs.Bytes.{CountsFailure};
+ghost use Rattle.std.specs.Prelude.{◌≡◌, ◌↔◌, List, ℕ, true, Some, IsTrue, IfOk, IfErr};
+ghost use Rattle.std.specs.Io.KnownBytes.{prepend_known};
+ghost use Rattle.lvl_io.specs.Bytes.{CountsFailure, failed};
+ghost use Rattle.lvl_io.specs.Peeked.{given_again};
 ghost use Rattle.lvl_refusal.specs.Refused.{Says};
-ghost use Rattle.lvl_refusal.specs.declared.Refusal.TheVariants.{OutOfMemory};
-ghost use Rattle.lvl.specs.Layouts.{IsLayoutOf};
-ghost use Rattle.lvl.specs.Answers.{IsEarlyFile, IsHopeless, is_failed_read};
+ghost use Rattle.lvl.specs.Layouts.{HasFirst, IsLayoutOf, IsOasis};
+ghost use Rattle.lvl.specs.Answers.{IsEarlyFile, IsHopeless, is_failed_read, read_failed};
 ghost use Rattle.lvl.specs.Sides.{layout_parts, IsFileFault};
 
-use gds_library::{GdsFault, GdsHead, read_gds};
+use gds_library::{GdsFault, GdsHead, GdsKind, RecordFault, read_gds};
 use lvl_cells::Library;
-use lvl_io::Read;
+use lvl_io::{Failure, Peeked, Read};
 use lvl_refusal::Refusal;
+use oasis_library::{OasisFault, OasisHead, read_oasis};
 use std::alloc::Global;
 use thiserror::Error;
+
+/// The first byte of an OASIS file.
+const OASIS: u8 = 0x25;
 
 /// What a file says of itself, by its format.
 #[derive(Clone, Copy, Debug, PartialEq, Eq)]
 pub enum Head {
     /// GDSII Stream Release 6.
     Gds(GdsHead),
+    /// SEMI P39 OASIS 1.0.
+    Oasis(OasisHead),
 }
 
 /// The library of a file, with what the file says of itself, by its format.
@@ -26,6 +33,8 @@ pub enum Head {
 pub enum Layout {
     /// GDSII Stream Release 6.
     Gds(Library, GdsHead),
+    /// SEMI P39 OASIS 1.0.
+    Oasis(Library, OasisHead),
 }
 
 /// Why a file was not read, by its format.
@@ -34,6 +43,9 @@ pub enum FileFault {
     /// GDSII Stream Release 6.
     #[error("the GDSII stream is refused")]
     Gds(GdsFault),
+    /// SEMI P39 OASIS 1.0.
+    #[error("the OASIS file is refused")]
+    Oasis(OasisFault),
 }
 
 impl Layout {
@@ -43,11 +55,103 @@ impl Layout {
     {
         match self {
             Layout::Gds(library, head) => (library, Head::Gds(head)),
+            Layout::Oasis(library, head) => (library, Head::Oasis(head)),
         }
     }
 }
 
-/// The layout that a file spells. Every file is read as GDSII.
+/// The first byte, or None where the input has none.
+fn take_first<R: Read>(reader: &mut R) -> Result<Option<u8>, Failure>
+    ensures first { (xs : List ℕ) → R.remaining reader.old ≡ Some xs → IfOk result (λ byte. HasFirst byte xs) }
+    ensures left { (xs : List ℕ) → R.remaining reader.old ≡ Some xs
+        → IfOk result (λ byte. prepend_known (given_again byte) (R.remaining reader.new) ≡ Some xs) }
+    ensures errors { CountsFailure (R.read_errors reader.old) (R.read_errors reader.new) (failed result) }
+{
+    let mut bytes = [0];
+    if reader.read(&mut bytes)? == 0 {
+        return Ok(None);
+    }
+    Ok(Some(bytes[0]))
+}
+
+/// The layout that a GDSII file spells.
+fn read_as_gds<R: Read>(alloc: Global, reader: &mut R) -> Result<Layout, Refusal<FileFault>>
+    ensures spelled { (xs : List ℕ) → R.remaining reader.old ≡ Some xs
+        → IfOk result (λ layout. IsLayoutOf xs (layout_parts layout).0 (layout_parts layout).1) }
+    ensures refused { (xs : List ℕ) → R.remaining reader.old ≡ Some xs → (¬ IsOasis xs)
+        → IfErr result (λ refusal. Says refusal (IsFileFault xs)) }
+    ensures early { (xs : List ℕ) → R.remaining reader.old ≡ Some xs → (¬ IsOasis xs)
+        → IfErr result (λ refusal. Says refusal (λ fault. IsEarlyFile fault → IsHopeless xs (R.remaining reader.new))) }
+    ensures reads { CountsFailure (R.read_errors reader.old) (R.read_errors reader.new) (is_failed_read result) }
+    ensures same { R.lent reader.new ≡ R.lent reader.old }
+{
+    match read_gds(alloc, reader) {
+        Ok((library, head)) => Ok(Layout::Gds(library, head)),
+        Err(Refusal::Breach(fault)) => Err(Refusal::Breach(FileFault::Gds(fault))),
+        Err(Refusal::OutOfMemory) => Err(Refusal::OutOfMemory),
+    }
+}
+
+/// The layout that an OASIS file spells.
+fn read_as_oasis<R: Read>(alloc: Global, reader: &mut R) -> Result<Layout, Refusal<FileFault>>
+    ensures spelled { (xs : List ℕ) → R.remaining reader.old ≡ Some xs
+        → IfOk result (λ layout. IsLayoutOf xs (layout_parts layout).0 (layout_parts layout).1) }
+    ensures refused { (xs : List ℕ) → R.remaining reader.old ≡ Some xs → IsOasis xs
+        → IfErr result (λ refusal. Says refusal (IsFileFault xs)) }
+    ensures early { (xs : List ℕ) → R.remaining reader.old ≡ Some xs → IsOasis xs
+        → IfErr result (λ refusal. Says refusal (λ fault. IsEarlyFile fault → IsHopeless xs (R.remaining reader.new))) }
+    ensures reads { CountsFailure (R.read_errors reader.old) (R.read_errors reader.new) (is_failed_read result) }
+    ensures same { R.lent reader.new ≡ R.lent reader.old }
+{
+    match read_oasis(alloc, reader) {
+        Ok((library, head)) => Ok(Layout::Oasis(library, head)),
+        Err(Refusal::Breach(fault)) => Err(Refusal::Breach(FileFault::Oasis(fault))),
+        Err(Refusal::OutOfMemory) => Err(Refusal::OutOfMemory),
+    }
+}
+
+/// Whether this is the first byte of an OASIS file.
+fn is_oasis(first: Option<u8>) -> bool
+    ensures { IsTrue result ↔ (first ≡ Some 0x25) }
+{
+    first == Some(OASIS)
+}
+
+/// The layout that a file with this first byte spells.
+fn read_by<R: Read>(
+    alloc: Global,
+    first: Option<u8>,
+    reader: &mut R,
+) -> Result<Layout, Refusal<FileFault>>
+    ensures spelled { (xs : List ℕ) → R.remaining reader.old ≡ Some xs
+        → IfOk result (λ layout. IsLayoutOf xs (layout_parts layout).0 (layout_parts layout).1) }
+    ensures refused { (xs : List ℕ) → R.remaining reader.old ≡ Some xs → HasFirst first xs
+        → IfErr result (λ refusal. Says refusal (IsFileFault xs)) }
+    ensures early { (xs : List ℕ) → R.remaining reader.old ≡ Some xs → HasFirst first xs
+        → IfErr result (λ refusal. Says refusal (λ fault. IsEarlyFile fault → IsHopeless xs (R.remaining reader.new))) }
+    ensures reads { CountsFailure (R.read_errors reader.old) (R.read_errors reader.new) (is_failed_read result) }
+    ensures same { R.lent reader.new ≡ R.lent reader.old }
+{
+    if is_oasis(first) {
+        return read_as_oasis(alloc, reader);
+    }
+    read_as_gds(alloc, reader)
+}
+
+/// A read that failed before there was a byte.
+fn unread() -> FileFault
+    ensures told { (xs : List ℕ) → IsFileFault xs result }
+    ensures late { IsEarlyFile result → ⊥ }
+    ensures read { read_failed result ≡ true }
+{
+    FileFault::Gds(GdsFault {
+        offset: 0,
+        kind: GdsKind::Record(RecordFault::Read),
+    })
+}
+
+/// The layout that a file spells. A file whose first byte is 0x25 is read as OASIS, and every other
+/// one as GDSII (own rule; no file is one of both formats).
 pub fn read_layout<R: Read>(alloc: Global, reader: &mut R) -> Result<Layout, Refusal<FileFault>>
     ensures spelled { (xs : List ℕ) → R.remaining reader.old ≡ Some xs
         → IfOk result (λ layout. IsLayoutOf xs (layout_parts layout).0 (layout_parts layout).1) }
@@ -55,12 +159,13 @@ pub fn read_layout<R: Read>(alloc: Global, reader: &mut R) -> Result<Layout, Ref
         → IfErr result (λ refusal. Says refusal (IsFileFault xs)) }
     ensures early { (xs : List ℕ) → R.remaining reader.old ≡ Some xs
         → IfErr result (λ refusal. Says refusal (λ fault. IsEarlyFile fault → IsHopeless xs (R.remaining reader.new))) }
-    ensures reads { result ≢ Err OutOfMemory
-        → CountsFailure (R.read_errors reader.old) (R.read_errors reader.new) (is_failed_read result) }
+    ensures reads { CountsFailure (R.read_errors reader.old) (R.read_errors reader.new) (is_failed_read result) }
 {
-    match read_gds(alloc, reader) {
-        Ok((library, head)) => Ok(Layout::Gds(library, head)),
-        Err(Refusal::Breach(fault)) => Err(Refusal::Breach(FileFault::Gds(fault))),
-        Err(Refusal::OutOfMemory) => Err(Refusal::OutOfMemory),
-    }
+    let Ok(first) = take_first(reader) else {
+        return Err(Refusal::Breach(unread()));
+    };
+    let mut whole = Peeked::new(first, reader);
+    let read = read_by(alloc, first, &mut whole);
+    let _reader = whole.into_rest();
+    read
 }

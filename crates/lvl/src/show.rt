@@ -59,8 +59,7 @@ pub fn show_file<R: Read>(
     ensures early { (xs : List ℕ) → R.remaining reader.old ≡ Some xs
         → IfErr result (λ r. IsEarlyOf First r → IsHopeless xs (R.remaining reader.new)) }
     ensures side { IfErr result IsOfFirst }
-    ensures reads { result ≢ Err OutOfMemory
-        → CountsFailure (R.read_errors reader.old) (R.read_errors reader.new) (is_read_of First result) }
+    ensures reads { CountsFailure (R.read_errors reader.old) (R.read_errors reader.new) (is_read_of First result) }
 {
     let (library, head) = read_side(alloc, Side::First, reader)?;
     show_library(alloc, head, library, top)

@@ -30,8 +30,7 @@ pub(crate) fn read_side<R: Read>(
     ensures early { (xs : List ℕ) → R.remaining reader.old ≡ Some xs
         → IfErr result (λ r. IsEarlyOf side r → IsHopeless xs (R.remaining reader.new)) }
     ensures own { IfErr result (IsOfFile side) }
-    ensures reads { result ≢ Err OutOfMemory
-        → CountsFailure (R.read_errors reader.old) (R.read_errors reader.new) (is_read_of side result) }
+    ensures reads { CountsFailure (R.read_errors reader.old) (R.read_errors reader.new) (is_read_of side result) }
 {
     match read_layout(alloc, reader) {
         Ok(layout) => Ok(layout.into_parts()),

@@ -20,6 +20,14 @@ impl<R> Peeked<R> {
     {
         Peeked { byte, rest }
     }
+
+    /// The reader alone.
+    pub fn into_rest(self) -> R
+        ensures { result ≡ peeked_rest self }
+    {
+        let Peeked { byte: _byte, rest } = self;
+        rest
+    }
 }
 
 impl<R: Read> Read for Peeked<R> {

@@ -1,5 +1,6 @@
 pub mod Faults
 pub mod Gds
+pub mod Oasis
 pub mod Texts
 pub mod Writing
 pub mod Runs

@@ -4,9 +4,9 @@ use Rattle.std.specs.Fmt.{signed_decimal}
 use Rattle.lvl_region.specs.declared.region.Side.{Side}
 use Rattle.lvl_region.specs.declared.region.Side.TheVariants.{First, Second}
 use Rattle.lvl.specs.declared.layout.Head.{Head}
-use Rattle.lvl.specs.declared.layout.Head.TheVariants.{Gds}
+use Rattle.lvl.specs.declared.layout.Head.TheVariants.{Gds, Oasis}
 use Rattle.lvl.specs.declared.layout.FileFault.{FileFault}
-use Rattle.lvl.specs.declared.layout.FileFault.TheVariants.{Gds as GdsFile}
+use Rattle.lvl.specs.declared.layout.FileFault.TheVariants.{Gds as GdsFile, Oasis as OasisFile}
 use Rattle.lvl.specs.declared.verdict.Verdict.{Verdict}
 use Rattle.lvl.specs.declared.verdict.Verdict.TheVariants.{Same, Differ}
 use Rattle.lvl.specs.declared.verdict.Comparison.{Comparison}
@@ -16,6 +16,7 @@ use Rattle.lvl.specs.declared.shown.Shown.{Shown}
 use Rattle.lvl.specs.declared.shown.ShownLayer.{ShownLayer}
 use Rattle.lvl_report.specs.Faults.{spaced, cell_fault, flat_fault}
 use Rattle.lvl_report.specs.Gds.{gds_fault, gds_head_text}
+use Rattle.lvl_report.specs.Oasis.{oasis_fault, oasis_head_text}
 
 -- a line ends with one line feed
 abbrev pub line : List ℕ → List ℕ
@@ -24,6 +25,7 @@ line text = text ++ 10 ∷ []
 -- what a file says of itself
 abbrev pub head_text : Head → List ℕ
 head_text (Gds head) = gds_head_text head
+head_text (Oasis head) = oasis_head_text head
 
 abbrev pub side_text : Side → List ℕ
 side_text First = codes "first"
@@ -39,6 +41,7 @@ verdict_text (Differ layer square side) =
 -- why a file was not read: the format, the fault, and the offset
 abbrev pub file_fault : FileFault → List ℕ
 file_fault (GdsFile fault) = codes "gds " ++ gds_fault fault.kind ++ codes " at " ++ decimal fault.offset
+file_fault (OasisFile fault) = codes "oasis " ++ oasis_fault fault
 
 -- the side, the step and the fault; out of memory stands alone, whichever step it was
 abbrev pub refusal_text : Refusal → List ℕ

@@ -16,7 +16,7 @@ fn push_hex_byte(text: &mut Vec<u8>, byte: u8) -> io::Result<()>
 }
 
 /// Appends each byte as two hexadecimal digits.
-fn push_hex(text: &mut Vec<u8>, bytes: &[u8]) -> io::Result<()>
+pub(crate) fn push_hex(text: &mut Vec<u8>, bytes: &[u8]) -> io::Result<()>
     ensures { OnOk result (text.new.items ≡ text.old.items ++ hex bytes.now) }
 {
     for byte in bytes {

@@ -12,6 +12,7 @@ pub use text::{form, form_shown};
 
 mod faults;
 mod gds;
+mod oasis;
 mod output;
 mod runs;
 mod status;

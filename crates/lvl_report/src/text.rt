@@ -4,6 +4,7 @@ ghost use Rattle.lvl_report.specs.Texts.{layer_line, side_text, verdict_text, he
 
 use crate::faults::{push_cell_fault, push_flat_fault, push_name};
 use crate::gds::{push_gds_fault, push_gds_head};
+use crate::oasis::{push_oasis_fault, push_oasis_head};
 use lvl::{Comparison, FileFault, Head, Refusal, Shown, ShownLayer, Verdict};
 use lvl_cells::Layer;
 use lvl_grid::Square;
@@ -54,6 +55,10 @@ fn push_file_fault(text: &mut Vec<u8>, fault: &FileFault) -> io::Result<()>
             let offset = fault.offset;
             write!(text, " at {offset}")
         }
+        FileFault::Oasis(fault) => {
+            write!(text, "oasis ")?;
+            push_oasis_fault(text, *fault)
+        }
     }
 }
 
@@ -63,6 +68,7 @@ fn push_head(text: &mut Vec<u8>, head: &Head) -> io::Result<()>
 {
     match head {
         Head::Gds(head) => push_gds_head(text, head),
+        Head::Oasis(head) => push_oasis_head(text, head),
     }
 }
 

@@ -1,15 +1,10 @@
-use Rattle.lvl.proofs.Spelling.{layout_read, file_early, file_fault}
+use Rattle.std.proofs.Common.{rules}
+use Rattle.lvl.proofs.Spelling.{early_rest}
 use Rattle.lvl.proofs.layout.read_layout.Goals as goal
 
-pub returns-in-Ok-clause-spelled : goal.returns-in-Ok-clause-spelled
-returns-in-Ok-clause-spelled g c xs known = layout_read xs c.in-Ok.library c.in-Ok.head (c.in-Ok.ensures.spelled xs known)
+pub returns-in_default-clause-refused : goal.returns-in_default-clause-refused
+returns-in_default-clause-refused g c xs known = c.unread.ensures.told xs
 
-pub returns-in-Err-Breach-clause-refused : goal.returns-in-Err-Breach-clause-refused
-returns-in-Err-Breach-clause-refused g c xs known =
-    let e = c.in-Err-Breach in
-    file_fault xs e.field-0 e.fault e.field-0-is (e.ensures.refused xs known) (e.ensures.none xs known)
-
-pub returns-in-Err-Breach-clause-early : goal.returns-in-Err-Breach-clause-early
-returns-in-Err-Breach-clause-early g c xs known soon =
-    let e = c.in-Err-Breach in
-    file_early xs _ e.field-0 e.fault e.field-0-is (e.ensures.early xs known) soon
+pub returns-clause-early : goal.returns-clause-early
+returns-clause-early g c xs known =
+    early_rest xs _ _ _ c.read_by-read.result (c.read_by-read.ensures.early xs (search rules) (c.in-Ok.ensures.first xs known)) (search rules)
