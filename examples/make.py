@@ -3,6 +3,8 @@
 
 chip.gds   a hierarchy: CHIP places ROW twice, the second time reflected and turned; ROW is an array
            of 8 GATEs and a wire; GATE has two boundaries, a path with square ends and a text
+chip.oas   the same hierarchy in OASIS: the array is a repetition, cells go by numbers, and what a
+           record leaves out is as in the record before
 plain.gds  the same mask in one cell, drawn by boundaries alone
 wrong.gds  plain.gds with the last boundary one grid step too short
 """
@@ -74,6 +76,70 @@ def library(*cells):
     )
 
 
+def unsigned(value):
+    groups = [value & 0x7F]
+    while value := value >> 7:
+        groups.append(value & 0x7F)
+    return bytes([group | 0x80 for group in groups[:-1]] + [groups[-1]])
+
+
+def signed(value):
+    return unsigned(2 * abs(value) + (value < 0))
+
+
+def string(data):
+    return unsigned(len(data)) + data
+
+
+def start(grid_steps_in_a_micrometre):
+    return b"\x01" + string(b"1.0") + b"\x00" + unsigned(grid_steps_in_a_micrometre) + b"\x00" + bytes(12)
+
+
+def end():
+    return b"\x02" + b"\xFC\x01" + bytes(252) + b"\x00"
+
+
+def cell_name(name, number):
+    return b"\x04" + string(name) + unsigned(number)
+
+
+def cell_by_number(number):
+    return b"\x0D" + unsigned(number)
+
+
+def rectangle(layer, x0, y0, x1, y1):
+    return b"\x14\x7B" + unsigned(layer) + unsigned(0) + unsigned(x1 - x0) + unsigned(y1 - y0) + signed(x0) + signed(y0)
+
+
+def next_rectangle(layer, x0, y0, x1, y1):
+    """One of the same datatype as the rectangle before."""
+    return b"\x14\x79" + unsigned(layer) + unsigned(x1 - x0) + unsigned(y1 - y0) + signed(x0) + signed(y0)
+
+
+def square_path(layer, half, at, steps):
+    """One with square ends, whose steps are along x, then along y, and so on."""
+    points = b"\x00" + unsigned(len(steps)) + b"".join(signed(step) for step in steps)
+    return b"\x16\xF9" + unsigned(layer) + unsigned(half) + b"\x0A" + points + signed(at[0]) + signed(at[1])
+
+
+def place_row(number, at, count, step):
+    repetition = b"\x02" + unsigned(count - 2) + unsigned(step)
+    return b"\x11\xF8" + unsigned(number) + signed(at[0]) + signed(at[1]) + repetition
+
+
+def place_again(at, flip, quarters):
+    """The cell of the placement before."""
+    return b"\x11" + bytes([0x30 | quarters << 1 | flip]) + signed(at[0]) + signed(at[1])
+
+
+def place_number(number, at):
+    return b"\x11\xF0" + unsigned(number) + signed(at[0]) + signed(at[1])
+
+
+def oasis(*records):
+    return b"%SEMI-OASIS\r\n" + start(1000) + b"".join(records) + end()
+
+
 # GATE is drawn by rectangles on layers 1 and 2, and by the bands of its path on layer 3.
 GATE = [(1, 0, 0, 40, 20), (2, 10, -5, 14, 25), (3, 18, -2, 32, 2), (3, 28, -2, 32, 22)]
 ROWS = [((0, 0), False, 0), ((600, 0), True, 1)]
@@ -101,6 +167,12 @@ gate = cell(b"GATE", boundary(1, 0, 0, 40, 20), boundary(2, 10, -5, 14, 25), pat
 row = cell(b"ROW", array(b"GATE", (0, 0), 8, 1, (50, 60)), boundary(*WIRE))
 chip = cell(b"CHIP", *[place(b"ROW", *placed) for placed in ROWS])
 write("chip.gds", library(gate, row, chip))
+
+gate = cell_by_number(0) + rectangle(*GATE[0]) + next_rectangle(*GATE[1]) + square_path(3, 2, (20, 0), [10, 20])
+row = cell_by_number(1) + place_row(0, (0, 0), 8, 50) + rectangle(*WIRE)
+chip = cell_by_number(2) + place_number(1, (0, 0)) + place_again((600, 0), True, 1)
+names = [cell_name(name, number) for number, name in enumerate([b"GATE", b"ROW", b"CHIP"])]
+write("chip.oas", oasis(gate, row, chip, *names))
 
 drawn = [WIRE] + [(layer, x0 + 50 * i, y0, x1 + 50 * i, y1) for i in range(8) for layer, x0, y0, x1, y1 in GATE]
 plain = [sent_rectangle(placed, *rectangle) for placed in ROWS for rectangle in drawn]

@@ -22,7 +22,7 @@ use Rattle.gds_records.specs.declared.fault.RecordFault.{RecordFault}
 use Rattle.gds_records.specs.declared.fault.RecordFault.TheVariants.{Truncated, BadLength, BadDataType, UnknownRecord}
 use Rattle.gds_records.specs.declared.fault.RecordFault.TheVariants.{TooLong, Read}
 use Rattle.gds_records.proofs.Laws.{law_malformed}
-use Rattle.gds_records.proofs.Known.{known_parts}
+use Rattle.lvl_io.proofs.Known.{known_parts}
 use Rattle.gds_elements.specs.Types.{header}
 use Rattle.gds_elements.specs.Rec.{Rec, kinds, field}
 use Rattle.gds_elements.specs.Values.{short}

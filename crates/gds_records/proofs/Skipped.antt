@@ -9,7 +9,7 @@ use Rattle.std.proofs.lemmas.List.{replicate-append-replicate, length-replicate}
 use Rattle.std.proofs.lemmas.Bool.Decides.{nat_tests}
 use Rattle.lvl_io.specs.Known.{Stays}
 use Rattle.gds_records.specs.Tail.{IsNoZeroFirst, TakesZeros, PassesLimit}
-use Rattle.gds_records.proofs.Known.{known_parts}
+use Rattle.lvl_io.proofs.Known.{known_parts}
 use Rattle.gds_records.proofs.Laws.{by_test}
 use Rattle.gds_records.specs.declared.zeros.After.{After}
 use Rattle.gds_records.specs.declared.zeros.After.TheVariants.{Nothing, Another, Limit}

@@ -1,5 +1,7 @@
 -- Lemmas on bytes that are known, some of them read and the rest still to come.
-use Rattle.std.proofs.Common.{◌≡◌, ℕ, ◌+◌, ◌-◌, ◌<◌, ◌≤◌, List, [], ◌++◌, None, Some, true, false, nat_le, length, length-append, take, drop, slice_range, refl, sym, ap, ◌∙◌, append_assoc, arith, drop-drop}
+use Rattle.std.proofs.Common.{◌≡◌, ℕ, ◌+◌, ◌-◌, ◌<◌, ◌≤◌, List, [], ◌++◌, None, Some, true, false, nat_le, length}
+use Rattle.std.proofs.Common.{length-append, take, drop, slice_range, refl, sym, ap, ◌∙◌, append_assoc, arith}
+use Rattle.std.proofs.Common.{drop-drop}
 use Rattle.std.proofs.Math.Seq.{take-add}
 use Rattle.std.proofs.lemmas.List.{drop-take}
 use Rattle.std.proofs.lemmas.Bool.Decides.{nat_tests}
@@ -8,12 +10,14 @@ use Rattle.std.specs.Io.KnownBytes.{Keeps, Consumes, IsAtEnd, prepend_known}
 use Rattle.lvl_io.specs.Known.{Stays}
 
 -- the parts of known bytes
-pub known_parts : (new : List ℕ) (b : Option (List ℕ)) (xs : List ℕ) → prepend_known new b ≡ Some xs → (ys : List ℕ) × (b ≡ Some ys) × (new ++ ys ≡ xs)
+pub known_parts : (new : List ℕ) (b : Option (List ℕ)) (xs : List ℕ) → prepend_known new b ≡ Some xs
+    → (ys : List ℕ) × (b ≡ Some ys) × (new ++ ys ≡ xs)
 known_parts new None xs e = absurd (let h : None ≡ Some xs = e in cc)
 known_parts new (Some y) xs e = (y, refl, let h : Some (new ++ y) ≡ Some xs = e in cc)
 
--- a reader gave bytes, and they stand behind those read before
-pub stays_pulled : (a b : Option (List ℕ)) (front new taken : List ℕ) → Consumes a b taken → new ≡ front ++ taken → Stays (prepend_known front a) (prepend_known new b)
+-- a reader gave bytes, and they come after those read before
+pub stays_pulled : (a b : Option (List ℕ)) (front new taken : List ℕ) → Consumes a b taken → new ≡ front ++ taken
+    → Stays (prepend_known front a) (prepend_known new b)
 stays_pulled None b front new taken p e = λ xs k. absurd (let h : None ≡ Some xs = k in cc)
 stays_pulled (Some x) None front new taken p e = absurd p
 stays_pulled (Some x) (Some y) front new taken p e =
@@ -21,14 +25,16 @@ stays_pulled (Some x) (Some y) front new taken p e =
     ap Some (ap (λ l. l ++ y) e ∙ append_assoc front taken y ∙ ap (λ l. front ++ l) (sym p)) ∙ h
 
 -- a reader gave nothing
-pub stays_kept : (a b : Option (List ℕ)) (front new : List ℕ) → Keeps a b → new ≡ front → Stays (prepend_known front a) (prepend_known new b)
+pub stays_kept : (a b : Option (List ℕ)) (front new : List ℕ) → Keeps a b → new ≡ front
+    → Stays (prepend_known front a) (prepend_known new b)
 stays_kept None b front new p e = λ xs k. absurd (let h : None ≡ Some xs = k in cc)
 stays_kept (Some x) None front new p e = absurd p
 stays_kept (Some x) (Some y) front new p e =
     λ xs k. let h : Some (front ++ x) ≡ Some xs = k in ap Some (ap (λ l. l ++ y) e ∙ ap (λ l. front ++ l) p) ∙ h
 
 -- so many bytes were read that n are there
-pub known_filled : (new : List ℕ) (b : Option (List ℕ)) (n : ℕ) (xs : List ℕ) → prepend_known new b ≡ Some xs → n ≤ length new → true ≡ nat_le n (length xs)
+pub known_filled : (new : List ℕ) (b : Option (List ℕ)) (n : ℕ) (xs : List ℕ) → prepend_known new b ≡ Some xs
+    → n ≤ length new → true ≡ nat_le n (length xs)
 known_filled new b n xs k h =
     let p = known_parts new b xs k in
     let long : n ≤ length xs = omega (arith, length-append new p.0, ap length p.2) in
@@ -39,7 +45,8 @@ at_end_nil None ys e k = cc
 at_end_nil (Some y) ys e k = cc
 
 -- all bytes were read, and there are fewer than n
-pub known_short : (new : List ℕ) (b : Option (List ℕ)) (n : ℕ) (xs : List ℕ) → prepend_known new b ≡ Some xs → IsAtEnd b → length new < n → false ≡ nat_le n (length xs)
+pub known_short : (new : List ℕ) (b : Option (List ℕ)) (n : ℕ) (xs : List ℕ) → prepend_known new b ≡ Some xs → IsAtEnd b
+    → length new < n → false ≡ nat_le n (length xs)
 known_short new b n xs k e h =
     let p = known_parts new b xs k in
     let none = at_end_nil b p.0 e p.1 in
@@ -58,6 +65,7 @@ pub range_front : (xs : List ℕ) (k : ℕ) → slice_range xs 0 k ≡ take k xs
 range_front xs k = ap (λ m. take m xs) (omega arith)
 
 -- a range at the front grew, and what stood there stayed
-pub range_grown : (old new : List ℕ) (at n : ℕ) → take at new ≡ take at old → slice_range new 0 (at + n) ≡ slice_range old 0 at ++ take n (drop at new)
+pub range_grown : (old new : List ℕ) (at n : ℕ) → take at new ≡ take at old
+    → slice_range new 0 (at + n) ≡ slice_range old 0 at ++ take n (drop at new)
 range_grown old new at n e =
     range_front new (at + n) ∙ take-add at n new ∙ ap (λ l. l ++ take n (drop at new)) (e ∙ sym (range_front old at))
