@@ -3,7 +3,7 @@ PREFIX ?= /usr/local
 PROGRAM := crates/lvl_cli
 NEEDS_RT = command -v rt >/dev/null 2>&1 || { echo "make: rt (the Rattle toolchain) is not on the PATH" >&2; exit 2; }
 
-.PHONY: all check growths install clean
+.PHONY: all check growths klayout install clean
 
 # Proves and builds the program, and leaves it as bin/lvl.
 all:
@@ -19,6 +19,12 @@ check:
 growths:
 	@$(NEEDS_RT)
 	@.ci/growths
+
+# A hierarchy that KLayout writes as GDSII and as OASIS, compared. Not part of the gate.
+klayout:
+	@command -v klayout >/dev/null 2>&1 || { echo "make klayout: klayout is not on the PATH" >&2; exit 2; }
+	@test -x bin/lvl || { echo "make klayout: bin/lvl is missing: run make first" >&2; exit 2; }
+	@contrib/klayout/try
 
 install:
 	@test -x bin/lvl || { echo "make install: bin/lvl is missing: run make first" >&2; exit 2; }

@@ -1,0 +1,48 @@
+"""Writes a small hierarchy by KLayout, as GDSII and as OASIS: `make klayout` runs it.
+
+    klayout -b -r contrib/klayout/write.py -rd gds=OUT.gds -rd oasis=OUT.oas
+
+The options are those that lvl needs of KLayout's OASIS writer (docs/FILES.md says why).
+"""
+
+import pya
+
+
+def gate(layout):
+    """A cell of two boxes, a path with square ends and a polygon."""
+    cell = layout.create_cell("GATE")
+    cell.shapes(layout.layer(1, 0)).insert(pya.Box(0, 0, 400, 200))
+    cell.shapes(layout.layer(2, 0)).insert(pya.Box(100, -50, 140, 250))
+    corner = [pya.Point(200, 0), pya.Point(300, 0), pya.Point(300, 200)]
+    cell.shapes(layout.layer(3, 0)).insert(pya.Path(corner, 40, 20, 20))
+    step = [(0, 210), (0, 300), (90, 300), (90, 250), (50, 250), (50, 210)]
+    cell.shapes(layout.layer(3, 5)).insert(pya.Polygon([pya.Point(x, y) for x, y in step]))
+    return cell
+
+
+def chip(layout):
+    """A row of gates as an array, placed as it is, and reflected and turned."""
+    row = layout.create_cell("ROW")
+    array = pya.CellInstArray(gate(layout).cell_index(), pya.Trans(), pya.Vector(500, 0), pya.Vector(0, 600), 8, 2)
+    row.insert(array)
+    top = layout.create_cell("CHIP")
+    for transform in (pya.Trans(), pya.Trans(1, True, 6000, 0), pya.Trans(2, False, 0, 9000)):
+        top.insert(pya.CellInstArray(row.cell_index(), transform))
+
+
+def save(layout, path, form):
+    options = pya.SaveLayoutOptions()
+    options.format = form
+    options.oasis_strict_mode = False
+    options.oasis_write_cblocks = False
+    options.oasis_write_std_properties_ext = 0
+    options.oasis_compression_level = 2
+    options.write_context_info = False
+    layout.write(path, options)
+
+
+layout = pya.Layout()
+layout.dbu = 0.001
+chip(layout)
+save(layout, gds, "GDS2")
+save(layout, oasis, "OASIS")
