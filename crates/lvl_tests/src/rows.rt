@@ -11,6 +11,8 @@ use stream::{SQUARE, Stream, VECTOR, drawing, square_with};
 mod chains;
 mod elements;
 mod failing;
+mod oasis;
+mod oasis_files;
 mod refusals;
 mod stream;
 
