@@ -22,9 +22,9 @@ use Rattle.oasis_records.specs.Rules.{Must, UnlessRuled, obeyed}
 use Rattle.oasis_records.specs.declared.fault.RecordRule.{RecordRule}
 use Rattle.oasis_records.specs.declared.fault.RecordRule.TheVariants.{Magic}
 use Rattle.oasis_records.specs.declared.record.Record.TheVariants.{End}
-use Rattle.oasis_library.specs.Items.{Item, item, IsEnded}
-use Rattle.oasis_library.specs.Front.{oasis, of_magic, IsItem}
-use Rattle.oasis_library.specs.Libraries.{SpellsLibrary as SpellsOasis}
+use Rattle.oasis_stream.specs.Items.{Item, item, IsEnded}
+use Rattle.oasis_stream.specs.Front.{oasis, of_magic, IsItem}
+use Rattle.oasis_library.specs.Library.{SpellsLibrary as SpellsOasis}
 use Rattle.oasis_library.specs.declared.head.OasisHead.{OasisHead}
 use Rattle.lvl.specs.Drawing.{Drawing}
 use Rattle.lvl.specs.Layouts.{BeginsWith, HasFirst, IsOasis}

@@ -14,8 +14,8 @@ use Rattle.gds_library.specs.Front.{IsRead as IsReadGds, SpellsNone as SpellsNoG
 use Rattle.gds_library.specs.Ends.{Tells as TellsGds, IsEarly as IsEarlyGds, IsExcused as IsExcusedGds}
 use Rattle.gds_library.specs.declared.fault.GdsFault.{GdsFault}
 use Rattle.gds_library.specs.declared.head.GdsHead.{GdsHead}
-use Rattle.oasis_library.specs.Front.{oasis}
-use Rattle.oasis_library.specs.Libraries.{IsRead as IsReadOasis, SpellsNone as SpellsNoOasis}
+use Rattle.oasis_stream.specs.Front.{oasis}
+use Rattle.oasis_library.specs.Library.{IsRead as IsReadOasis, SpellsNone as SpellsNoOasis}
 use Rattle.oasis_library.specs.Ends.{Tells as TellsOasis, IsEarly as IsEarlyOasis, IsExcused as IsExcusedOasis}
 use Rattle.oasis_library.specs.declared.fault.OasisFault.{OasisFault}
 use Rattle.oasis_library.specs.declared.head.OasisHead.{OasisHead}

@@ -4,7 +4,7 @@ use Rattle.lvl_path.specs.Figure.{figure_rings}
 use Rattle.lvl_cells.specs.Cells.{PlainCell, Rings, kept}
 use Rattle.lvl.specs.Drawing.{Drawing}
 use Rattle.gds_library.specs.Front.{SpellsLibrary as SpellsGds}
-use Rattle.oasis_library.specs.Libraries.{SpellsLibrary as SpellsOasis}
+use Rattle.oasis_library.specs.Library.{SpellsLibrary as SpellsOasis}
 use Rattle.lvl.specs.declared.layout.Head.{Head}
 use Rattle.lvl.specs.declared.layout.Head.TheVariants.{Gds, Oasis}
 

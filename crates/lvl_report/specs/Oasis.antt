@@ -15,10 +15,10 @@ use Rattle.oasis_figures.specs.declared.variable.Variable.{Variable}
 use Rattle.oasis_figures.specs.declared.variable.Variable.TheVariants.{PlacementCell, Layer as LayerVariable, Datatype, GeometryW, GeometryH}
 use Rattle.oasis_figures.specs.declared.variable.Variable.TheVariants.{PolygonPointList, PathHalfWidth, PathPointList}
 use Rattle.oasis_figures.specs.declared.variable.Variable.TheVariants.{PathStartExtension, PathEndExtension, Repetition}
-use Rattle.oasis_library.specs.declared.fault.NameRule.{NameRule}
-use Rattle.oasis_library.specs.declared.fault.NameRule.TheVariants.{Mixed, NumberTwice, NameTwice}
-use Rattle.oasis_library.specs.declared.fault.OasisKind.{OasisKind}
-use Rattle.oasis_library.specs.declared.fault.OasisKind.TheVariants.{Value, Record, Figure, Unexpected, Name, AfterEnd, TooManyCells}
+use Rattle.oasis_stream.specs.declared.fault.NameRule.{NameRule}
+use Rattle.oasis_stream.specs.declared.fault.NameRule.TheVariants.{Mixed, NumberTwice, NameTwice}
+use Rattle.oasis_stream.specs.declared.fault.OasisKind.{OasisKind}
+use Rattle.oasis_stream.specs.declared.fault.OasisKind.TheVariants.{Value, Record, Figure, Unexpected, Name, AfterEnd, TooManyCells}
 use Rattle.oasis_library.specs.declared.fault.OasisFault.{OasisFault}
 use Rattle.oasis_library.specs.declared.fault.OasisFault.TheVariants.{At, Unresolved}
 use Rattle.oasis_library.specs.declared.head.OasisHead.{OasisHead}

@@ -6,9 +6,8 @@ ghost use Rattle.lvl_report.specs.Oasis.{figure_rule, name_rule, oasis_kind, oas
 
 use crate::faults::path_fault;
 use crate::gds::push_hex;
-use oasis_figures::{FigureRule, Variable};
-use oasis_library::{NameRule, OasisFault, OasisHead, OasisKind, RecordRule, ValueFault};
-use oasis_values::Real;
+use oasis_library::{FigureRule, NameRule, OasisFault, OasisHead, OasisKind, Real, RecordRule};
+use oasis_library::{ValueFault, Variable};
 use std::io;
 use std::io::Write;
 
