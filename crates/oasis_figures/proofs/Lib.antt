@@ -5,3 +5,4 @@ pub mod Moved
 pub mod Polygons
 pub mod Paths
 pub mod Bands
+pub mod Placings
