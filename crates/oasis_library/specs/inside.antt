@@ -1,1 +1,4 @@
-pub mod Reached
+pub mod Kept
+pub mod Taken
+pub mod Holds
+pub mod Refuses

@@ -1,6 +1,6 @@
 use Rattle.std.proofs.Common.{sym}
-use Rattle.oasis_library.proofs.Typed.{next_unread, next_refused, next_typed}
-use Rattle.oasis_library.proofs.next.read_next.Goals as goal
+use Rattle.oasis_stream.proofs.Typed.{next_unread, next_refused, next_typed}
+use Rattle.oasis_stream.proofs.next.read_next.Goals as goal
 
 pub returns-in-Err : goal.returns-in-Err
 returns-in-Err g c = record { reads = λ rs h. next_unread rs c.in-Err.ensures.reads }

@@ -19,14 +19,14 @@ use Rattle.oasis_records.specs.declared.fault.RecordRule.{RecordRule}
 use Rattle.oasis_records.specs.declared.measured.Measured.{Measured}
 use Rattle.oasis_records.specs.declared.record.Record.{Record}
 use Rattle.oasis_records.specs.declared.record_type.RecordType.{RecordType}
-use Rattle.oasis_library.specs.Items.{Item}
-use Rattle.oasis_library.specs.Order.{cell_limit, at_end, cells_in, opens_cell, mixes, is_expected, allowed, type_after}
-use Rattle.oasis_library.specs.Front.{of_record, IsTyped, IsNext}
-use Rattle.oasis_library.specs.Told.{of_kind, told_record, of_fault}
-use Rattle.oasis_library.specs.declared.fault.NameRule.TheVariants.{Mixed}
-use Rattle.oasis_library.specs.declared.fault.OasisKind.{OasisKind}
-use Rattle.oasis_library.specs.declared.fault.OasisKind.TheVariants.{Unexpected, Name, TooManyCells}
-use Rattle.oasis_library.proofs.Items.{typed_code}
+use Rattle.oasis_stream.specs.Items.{Item}
+use Rattle.oasis_stream.specs.Order.{cell_limit, at_end, cells_in, opens_cell, mixes, is_expected, allowed, type_after}
+use Rattle.oasis_stream.specs.Front.{of_record, IsTyped, IsNext}
+use Rattle.oasis_stream.specs.Told.{of_kind, told_record, of_fault}
+use Rattle.oasis_stream.specs.declared.fault.NameRule.TheVariants.{Mixed}
+use Rattle.oasis_stream.specs.declared.fault.OasisKind.{OasisKind}
+use Rattle.oasis_stream.specs.declared.fault.OasisKind.TheVariants.{Unexpected, Name, TooManyCells}
+use Rattle.oasis_stream.proofs.Items.{typed_code}
 
 -- a record that was read, as an item of the file
 pub reads_recorded : {R : Type 0} {remaining : R → Option (List ℕ)} {errors : R → ℕ} {lent : R → List GName}

@@ -1,9 +1,9 @@
 //! Which record may come next, by its id alone.
 ghost use Rattle.std.specs.Prelude.{◌≡◌, List, [], Ok};
 ghost use Rattle.oasis_records.specs.declared.record.Record.{Record as Read};
-ghost use Rattle.oasis_library.specs.Order.{is_start, is_inner, opens_cell, is_expected, mixes, allowed};
-ghost use Rattle.oasis_library.specs.Order.{type_after, at_end};
-ghost use Rattle.oasis_library.specs.inside.Reached.{HasReached, passed};
+ghost use Rattle.oasis_stream.specs.Order.{is_start, is_inner, opens_cell, is_expected, mixes, allowed};
+ghost use Rattle.oasis_stream.specs.Order.{type_after, at_end};
+ghost use Rattle.oasis_stream.specs.inside.Reached.{HasReached, passed};
 
 use crate::fault::{NameRule, OasisKind};
 use oasis_records::{Record, RecordRule, RecordType};
@@ -13,7 +13,7 @@ const MOST_CELLS: u64 = 1_048_576;
 
 /// What the records so far say of those that may come.
 #[derive(Clone, Copy, Debug, Drop)]
-pub(crate) struct Order {
+pub struct Order {
     /// No record was read.
     is_fresh: bool,
     /// A cell is open.
@@ -66,7 +66,7 @@ fn opens_cell(kind: RecordType) -> bool
 
 impl Order {
     /// Before the first record.
-    pub(crate) fn new() -> Order
+    pub fn new() -> Order
         ensures { HasReached result [] }
     {
         Order {
@@ -80,14 +80,14 @@ impl Order {
     }
 
     /// Whether END has the offsets of tables.
-    pub(crate) fn has_offsets_at_end(&self) -> bool
+    pub fn has_offsets_at_end(&self) -> bool
         ensures { (rs : List Read) → HasReached self.now rs → result ≡ at_end rs }
     {
         self.has_offsets_at_end
     }
 
     /// The type of the next record by its id, or the rule that the id breaches.
-    pub(crate) fn type_of(&self, id: u64) -> Result<RecordType, OasisKind>
+    pub fn type_of(&self, id: u64) -> Result<RecordType, OasisKind>
         ensures { (rs : List Read) → HasReached self.now rs → result ≡ type_after rs id }
     {
         let kind = RecordType::of(id);
@@ -101,7 +101,7 @@ impl Order {
     }
 
     /// Goes on after that record.
-    pub(crate) fn pass(&mut self, taken: &Record)
+    pub fn pass(&mut self, taken: &Record)
         ensures { self.new ≡ passed self.old taken.now }
     {
         self.is_fresh = false;

@@ -9,12 +9,12 @@ use Rattle.lvl_io.proofs.Spelling.{front_only, breached_none, begun_open}
 use Rattle.lvl_grammar.proofs.Agreeing.{agree_ends}
 use Rattle.lvl_grammar.proofs.Laws.{IsGrammar}
 use Rattle.oasis_values.specs.declared.fault.ValueFault.{ValueFault}
-use Rattle.oasis_library.specs.Items.{Item}
-use Rattle.oasis_library.specs.Rules.{Breaches, MayFollow}
-use Rattle.oasis_library.specs.Front.{IsItem, IsTooLong, BreaksRule, IsWrong, oasis}
-use Rattle.oasis_library.specs.declared.fault.OasisKind.{OasisKind}
-use Rattle.oasis_library.specs.declared.fault.OasisKind.TheVariants.{Value, Record, Unexpected, Name, AfterEnd, TooManyCells}
-use Rattle.oasis_library.proofs.Items.{item_code, item_needs, front_needs}
+use Rattle.oasis_stream.specs.Items.{Item}
+use Rattle.oasis_stream.specs.Rules.{Breaches, MayFollow}
+use Rattle.oasis_stream.specs.Front.{IsItem, IsTooLong, BreaksRule, IsWrong, oasis}
+use Rattle.oasis_stream.specs.declared.fault.OasisKind.{OasisKind}
+use Rattle.oasis_stream.specs.declared.fault.OasisKind.TheVariants.{Value, Record, Unexpected, Name, Figure, AfterEnd, TooManyCells}
+use Rattle.oasis_stream.proofs.Items.{item_code, item_needs, front_needs}
 
 abbrev said : Item → Result (Result Item OasisKind) ValueFault
 said i = Ok (Ok i)
@@ -47,6 +47,7 @@ wrong_here before room ys AfterEnd w = w.2
 wrong_here before room ys (Record k) w = rule_needs before room ys (Record k) w
 wrong_here before room ys (Unexpected id) w = rule_needs before room ys (Unexpected id) w
 wrong_here before room ys (Name k) w = rule_needs before room ys (Name k) w
+wrong_here before room ys (Figure k) w = rule_needs before room ys (Figure k) w
 wrong_here before room ys TooManyCells w = rule_needs before room ys TooManyCells w
 
 -- where bytes at the front breach a rule no item may follow
@@ -96,6 +97,7 @@ wrong_stops before room ys text i AfterEnd w p g agree fits = g.0 w.0
 wrong_stops before room ys text i (Record k) w p g agree fits = rule_stops before room ys text i (Record k) w p g agree
 wrong_stops before room ys text i (Unexpected id) w p g agree fits = rule_stops before room ys text i (Unexpected id) w p g agree
 wrong_stops before room ys text i (Name k) w p g agree fits = rule_stops before room ys text i (Name k) w p g agree
+wrong_stops before room ys text i (Figure k) w p g agree fits = rule_stops before room ys text i (Figure k) w p g agree
 wrong_stops before room ys text i TooManyCells w p g agree fits = rule_stops before room ys text i TooManyCells w p g agree
 
 pub is_grammar : IsGrammar oasis

@@ -3,9 +3,9 @@ ghost use Rattle.std.specs.Prelude.{◌≡◌, List, Ok, false};
 ghost use Rattle.oasis_values.specs.Input.{has_failed};
 ghost use Rattle.oasis_values.specs.Reads.{Reads};
 ghost use Rattle.oasis_records.specs.declared.record.Record.{Record as Item};
-ghost use Rattle.oasis_library.specs.Front.{IsTyped, IsNext};
-ghost use Rattle.oasis_library.specs.Told.{told_record, of_fault};
-ghost use Rattle.oasis_library.specs.inside.Reached.{HasReached};
+ghost use Rattle.oasis_stream.specs.Front.{IsTyped, IsNext};
+ghost use Rattle.oasis_stream.specs.Told.{told_record, of_fault};
+ghost use Rattle.oasis_stream.specs.inside.Reached.{HasReached};
 
 use crate::fault::OasisKind;
 use crate::order::Order;
@@ -47,7 +47,7 @@ fn read_typed<R: Read>(
 }
 
 /// The next record. Its id is tested before more is read, each field as it is read.
-pub(crate) fn read_next<R: Read>(
+pub fn read_next<R: Read>(
     input: &mut Input<R>,
     alloc: Global,
     order: &Order,

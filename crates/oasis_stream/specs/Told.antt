@@ -6,9 +6,9 @@ use Rattle.oasis_values.specs.declared.fault.ValueFault.{ValueFault}
 use Rattle.oasis_records.specs.declared.fault.RecordFault.{RecordFault}
 use Rattle.oasis_records.specs.declared.fault.RecordFault.TheVariants.{Value as OfValue, Rule}
 use Rattle.oasis_records.specs.declared.record.Record.{Record}
-use Rattle.oasis_library.specs.Items.{Item, item}
-use Rattle.oasis_library.specs.declared.fault.OasisKind.{OasisKind}
-use Rattle.oasis_library.specs.declared.fault.OasisKind.TheVariants.{Value, Record as OfRecord}
+use Rattle.oasis_stream.specs.Items.{Item, item}
+use Rattle.oasis_stream.specs.declared.fault.OasisKind.{OasisKind}
+use Rattle.oasis_stream.specs.declared.fault.OasisKind.TheVariants.{Value, Record as OfRecord}
 
 -- a fault of values is one of the input; any other is a rule that is breached by what was read
 abbrev pub of_kind : OasisKind → Result (Result Item OasisKind) (Refusal ValueFault)

@@ -14,11 +14,11 @@ use Rattle.oasis_records.specs.Sizes.{Sized}
 use Rattle.oasis_records.specs.declared.fault.RecordRule.{RecordRule}
 use Rattle.oasis_records.specs.declared.record.Record.{Record}
 use Rattle.oasis_records.specs.declared.record_type.RecordType.{RecordType}
-use Rattle.oasis_library.specs.Items.{Item, magic, item, records, IsEnded}
-use Rattle.oasis_library.specs.Order.{at_end, type_after}
-use Rattle.oasis_library.specs.Rules.{Breaches, MayFollow}
-use Rattle.oasis_library.specs.declared.fault.OasisKind.{OasisKind}
-use Rattle.oasis_library.specs.declared.fault.OasisKind.TheVariants.{Value, Record as OfRecord, AfterEnd}
+use Rattle.oasis_stream.specs.Items.{Item, magic, item, records, IsEnded}
+use Rattle.oasis_stream.specs.Order.{at_end, type_after}
+use Rattle.oasis_stream.specs.Rules.{Breaches, MayFollow}
+use Rattle.oasis_stream.specs.declared.fault.OasisKind.{OasisKind}
+use Rattle.oasis_stream.specs.declared.fault.OasisKind.TheVariants.{Value, Record as OfRecord, AfterEnd}
 
 -- the magic string, or the rule that is breached
 abbrev pub of_magic : Result (Unit {0}) RecordRule → Result Item OasisKind

@@ -12,9 +12,9 @@ use Rattle.oasis_records.specs.declared.record_type.RecordType.{RecordType}
 use Rattle.oasis_records.specs.declared.record_type.RecordType.TheVariants.{Start, CellName as AName, NumberedCellName}
 use Rattle.oasis_records.specs.declared.record_type.RecordType.TheVariants.{NumberedCell, NamedCell, XyAbsolute, XyRelative}
 use Rattle.oasis_records.specs.declared.record_type.RecordType.TheVariants.{Placement, ScaledPlacement, Rectangle, Polygon, Path}
-use Rattle.oasis_library.specs.declared.fault.NameRule.TheVariants.{Mixed}
-use Rattle.oasis_library.specs.declared.fault.OasisKind.{OasisKind}
-use Rattle.oasis_library.specs.declared.fault.OasisKind.TheVariants.{Record as OfRecord, Unexpected, Name, TooManyCells}
+use Rattle.oasis_stream.specs.declared.fault.NameRule.TheVariants.{Mixed}
+use Rattle.oasis_stream.specs.declared.fault.OasisKind.{OasisKind}
+use Rattle.oasis_stream.specs.declared.fault.OasisKind.TheVariants.{Record as OfRecord, Unexpected, Name, TooManyCells}
 
 -- own rule: the greatest number of cells
 abbrev pub cell_limit : ℕ

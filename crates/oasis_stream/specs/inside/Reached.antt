@@ -2,8 +2,8 @@
 use Rattle.std.specs.Prelude.{◌≡◌, ℕ, ◌+◌, nat_lt, min, Bool, true, false, ◌||◌, if◌then◌else◌, is_some, is_none, List, [], ◌∷◌, length}
 use Rattle.oasis_records.specs.declared.record.Record.{Record}
 use Rattle.oasis_records.specs.declared.record.Record.TheVariants.{Start, CellName, Cell}
-use Rattle.oasis_library.specs.Order.{cell_limit, in_cell, at_end, names_in, cells_in, any_numbered, any_unnumbered}
-use Rattle.oasis_library.specs.declared.order.Order.{Order}
+use Rattle.oasis_stream.specs.Order.{cell_limit, in_cell, at_end, names_in, cells_in, any_numbered, any_unnumbered}
+use Rattle.oasis_stream.specs.declared.order.Order.{Order}
 
 -- no record is among them
 abbrev pub are_none : List Record → Bool

@@ -8,9 +8,9 @@ use Rattle.oasis_records.specs.declared.fault.RecordRule.{RecordRule}
 use Rattle.oasis_records.specs.declared.record.Record.{Record}
 use Rattle.oasis_records.specs.declared.record.Record.TheVariants.{Pad, Start, End, CellName, Cell, XyAbsolute, XyRelative, Placement, Rectangle, Polygon, Path}
 use Rattle.oasis_records.specs.declared.record_type.RecordType.{RecordType}
-use Rattle.oasis_library.specs.Order.{cell_limit, last_or, opens, flags, name_in, names_in, cell_in, cells_in, in_cell, at_end, any_numbered, any_unnumbered, is_start, is_inner, is_expected}
-use Rattle.oasis_library.specs.declared.order.Order.{Order}
-use Rattle.oasis_library.specs.inside.Reached.{are_none, HasReached, order, passed}
+use Rattle.oasis_stream.specs.Order.{cell_limit, last_or, opens, flags, name_in, names_in, cell_in, cells_in, in_cell, at_end, any_numbered, any_unnumbered, is_start, is_inner, is_expected}
+use Rattle.oasis_stream.specs.declared.order.Order.{Order}
+use Rattle.oasis_stream.specs.inside.Reached.{are_none, HasReached, order, passed}
 
 pub expected_first : (rs : List Record) (t : Result RecordType RecordRule) → are_none rs ≡ true → is_expected rs t ≡ is_start t
 expected_first [] t h = refl

@@ -6,60 +6,14 @@ use Rattle.lvl_io.specs.Spelling.{IsFront}
 use Rattle.lvl_io.proofs.Spelling.{front_only, begun_open}
 use Rattle.oasis_values.specs.declared.fault.ValueFault.{ValueFault}
 use Rattle.oasis_values.specs.declared.fault.ValueFault.TheVariants.{TooLong}
-use Rattle.oasis_records.specs.declared.cell.CellName.{CellName as AName}
-use Rattle.oasis_records.specs.declared.record.Record.{Record as ARecord}
-use Rattle.oasis_records.specs.declared.record.Record.TheVariants.{Pad, Start, End, CellName, Cell, XyAbsolute, XyRelative, Placement, Rectangle, Polygon, Path}
-use Rattle.oasis_library.specs.Items.{Item, magic, item, records, IsEnded}
-use Rattle.oasis_library.specs.Order.{names_in}
-use Rattle.oasis_library.specs.Rules.{RepeatsNumber, NameBreaches, RecordBreaches, Breaches}
-use Rattle.oasis_library.specs.Front.{IsItem, IsTooLong, BreaksRule, IsWrong}
-use Rattle.oasis_library.specs.declared.fault.NameRule.TheVariants.{Mixed, NumberTwice, NameTwice}
-use Rattle.oasis_library.specs.declared.fault.OasisKind.{OasisKind}
-use Rattle.oasis_library.specs.declared.fault.OasisKind.TheVariants.{Value, Record, Unexpected, Name, AfterEnd, TooManyCells}
-use Rattle.oasis_library.proofs.Items.{item_code}
-use Rattle.oasis_library.proofs.Instance.{front_in}
-
--- which rule a name breaches
-name_rule : (names : List AName) (c : AName) (k : OasisKind) → NameBreaches names c k
-    → ((k ≡ Name NumberTwice) × RepeatsNumber names c) ⊎ ((k ≡ Name NameTwice) × ¬ RepeatsNumber names c)
-name_rule names c (Name NumberTwice) b = inl (refl, b)
-name_rule names c (Name NameTwice) b = inr (refl, b.0)
-name_rule names c (Name Mixed) b = absurd b
-name_rule names c (Value f) b = absurd b
-name_rule names c (Record k) b = absurd b
-name_rule names c (Unexpected id) b = absurd b
-name_rule names c AfterEnd b = absurd b
-name_rule names c TooManyCells b = absurd b
-
-name_once : (names : List AName) (c : AName) (j k : OasisKind) → NameBreaches names c j → NameBreaches names c k → j ≡ k
-name_once names c j k p q = elim (name_rule names c j p) [
-  | inl a ↦ elim (name_rule names c k q) [
-    | inl b ↦ a.0 ∙ sym b.0
-    | inr b ↦ absurd (b.1 a.1)
-  ]
-  | inr a ↦ elim (name_rule names c k q) [
-    | inl b ↦ absurd (a.1 b.1)
-    | inr b ↦ a.0 ∙ sym b.0
-  ]
-]
-
-record_once : (rs : List ARecord) (r : ARecord) (j k : OasisKind) → RecordBreaches rs r j → RecordBreaches rs r k → j ≡ k
-record_once rs (CellName c) j k p q = name_once (names_in rs) c j k p q
-record_once rs Pad j k p q = absurd p
-record_once rs (Start s) j k p q = absurd p
-record_once rs (End v) j k p q = absurd p
-record_once rs (Cell c) j k p q = absurd p
-record_once rs XyAbsolute j k p q = absurd p
-record_once rs XyRelative j k p q = absurd p
-record_once rs (Placement s) j k p q = absurd p
-record_once rs (Rectangle s) j k p q = absurd p
-record_once rs (Polygon s) j k p q = absurd p
-record_once rs (Path s) j k p q = absurd p
-
--- an item breaches one rule at most
-pub breaches_once : (before : List Item) (i : Item) (j k : OasisKind) → Breaches before i j → Breaches before i k → j ≡ k
-breaches_once before magic j k p q = absurd p
-breaches_once before (item r) j k p q = record_once (records before) r j k p q
+use Rattle.oasis_stream.specs.Items.{Item, IsEnded}
+use Rattle.oasis_stream.specs.Rules.{Breaches}
+use Rattle.oasis_stream.specs.Front.{IsItem, IsTooLong, BreaksRule, IsWrong}
+use Rattle.oasis_stream.specs.declared.fault.OasisKind.{OasisKind}
+use Rattle.oasis_stream.specs.declared.fault.OasisKind.TheVariants.{Value, Record, Unexpected, Name, Figure, AfterEnd, TooManyCells}
+use Rattle.oasis_stream.proofs.Items.{item_code}
+use Rattle.oasis_stream.proofs.Instance.{front_in}
+use Rattle.oasis_stream.proofs.Once.{breaches_once}
 
 -- what bytes say of the next item is why the rule is breached
 abbrev Explains : List Item → Result (Result Item OasisKind) ValueFault → OasisKind → Type 0
@@ -109,6 +63,7 @@ cause before room ys AfterEnd w = inr (inr (record { kind = refl; ended = w.0; r
 cause before room ys (Record k) w = by_rule before room ys (Record k) w
 cause before room ys (Unexpected id) w = by_rule before room ys (Unexpected id) w
 cause before room ys (Name k) w = by_rule before room ys (Name k) w
+cause before room ys (Figure k) w = by_rule before room ys (Figure k) w
 cause before room ys TooManyCells w = by_rule before room ys TooManyCells w
 
 -- nothing whole is at the front of what there is room for, where that is an unfinished beginning
