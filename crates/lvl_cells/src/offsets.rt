@@ -212,8 +212,8 @@ impl Offsets {
         }
     }
 
-    /// Whether each shift fits 64 bits once it is moved.
-    pub(crate) fn all_fit_at(&self, at: Point) -> bool
+    /// Whether `at`, moved by each of the shifts, is within 64 signed bits.
+    pub fn all_fit_at(&self, at: Point) -> bool
         ensures { IsTrue result ↔ All (λ e. FitsPoint (shifted at e)) self.now }
     {
         match &self.kept {

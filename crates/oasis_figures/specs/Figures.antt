@@ -1,12 +1,12 @@
 -- What a record draws after those before it, the latest first.
-use Rattle.std.specs.Prelude.{◌≡◌, ℕ, ◌*◌, ◌==◌, not, ℤ, pos, Bool, false, if◌then◌else◌, List, [], ◌∷◌, map, Option, Some, None}
+use Rattle.std.specs.Prelude.{◌≡◌, ℕ, ◌*◌, ◌==◌, not, ℤ, pos, Bool, false, if◌then◌else◌, List, [], ◌∷◌, map, Option, Some, None, All}
 use Rattle.lvl_grid.specs.declared.point.Point.{Point}
-use Rattle.lvl_grid.specs.Turn.{shifted}
+use Rattle.lvl_grid.specs.Turn.{FitsPoint, shifted}
 use Rattle.lvl_grid.specs.Winding.{rectangle_between}
 use Rattle.lvl_grid.specs.declared.map.Turn.{Turn}
 use Rattle.lvl_grid.specs.declared.map.Turn.TheVariants.{R0, R90, R180, R270}
 use Rattle.lvl_path.specs.Figure.{Figure, rings, path, figure_rings}
-use Rattle.lvl_cells.specs.Cells.{PlainShape, Rings}
+use Rattle.lvl_cells.specs.Cells.{PlainShape, Rings as PlainRings}
 use Rattle.lvl_cells.specs.Shifts.{one_place}
 use Rattle.lvl_cells.specs.declared.layer.Layer.{Layer}
 use Rattle.oasis_values.specs.Deltas.{to}
@@ -15,13 +15,14 @@ use Rattle.oasis_records.specs.declared.record.Record.{Record}
 use Rattle.oasis_values.specs.declared.number.Real.{Real}
 use Rattle.oasis_values.specs.declared.number.Real.TheVariants.{Whole, Reciprocal, Ratio}
 use Rattle.oasis_records.specs.declared.cell.CellRef.{CellRef}
+use Rattle.oasis_records.specs.declared.cell.CellRef.TheVariants.{Number}
 use Rattle.oasis_records.specs.declared.placement.Transform.{Transform}
 use Rattle.oasis_records.specs.declared.placement.Transform.TheVariants.{Turned, Scaled}
 use Rattle.oasis_records.specs.declared.record.Record.TheVariants.{Placement, Rectangle, Polygon, Path}
 use Rattle.oasis_figures.specs.Modal.{value_or, modal, layer_set, datatype_set, width_set, height_set, repetition_set, repetition_of, geometry}
 use Rattle.oasis_figures.specs.Modal.{cell_set, polygon_set, half_width_set, path_set, start_set, end_set, placement}
 use Rattle.oasis_figures.specs.declared.drawn.Drawn.{Drawn}
-use Rattle.oasis_figures.specs.declared.drawn.Drawn.TheVariants.{Ring}
+use Rattle.oasis_figures.specs.declared.drawn.Drawn.TheVariants.{Ring, Rings, Placement as Placing}
 
 -- a number that a variable has
 abbrev pub number : Option ℕ → ℕ
@@ -107,9 +108,13 @@ is_magnified (Turned t) = false
 is_magnified (Scaled None a) = false
 is_magnified (Scaled (Some m) a) = not (is_number 1 m)
 
+-- the cell of the latest placement
+abbrev pub cell_of : List Record → CellRef
+cell_of records = value_or (modal cell_set records) (Number 0)
+
 -- a cell that is placed, by its number or its name
 pub record Placed : Type 0 where
-  pub cell : Option CellRef
+  pub cell : CellRef
   pub flip : Bool
   pub turn : Turn
   pub at : Point
@@ -118,18 +123,37 @@ pub record Placed : Type 0 where
 -- the placements of a record
 abbrev pub placements_of : List Record → Record → List Placed
 placements_of earlier (Placement p) =
-    record { cell = modal cell_set (Placement p ∷ earlier); flip = p.flip; turn = value_or (turn_of p.transform) R0; at = placement (Placement p ∷ earlier); shifts = shifts_of earlier (Placement p) }
+    record { cell = cell_of (Placement p ∷ earlier); flip = p.flip; turn = value_or (turn_of p.transform) R0; at = placement (Placement p ∷ earlier); shifts = shifts_of earlier (Placement p) }
     ∷ []
 placements_of earlier r = []
 
 -- the same shape, with its figure drawn as rings
-abbrev pub in_rings : PlainShape Figure → PlainShape Rings
+abbrev pub in_rings : PlainShape Figure → PlainShape PlainRings
 in_rings s = record { layer = s.layer; figure = figure_rings s.figure; shifts = s.shifts }
 
 -- the shapes that are drawn, at those shifts
-abbrev pub shapes_in : List Point → Drawn → List (PlainShape Rings)
-shapes_in shifts (Ring layer ring) = record { layer = layer; figure = ring ∷ []; shifts = shifts } ∷ []
+abbrev pub shapes_in : List Point → Option Drawn → List (PlainShape PlainRings)
+shapes_in shifts None = []
+shapes_in shifts (Some (Ring layer ring)) = record { layer = layer; figure = ring ∷ []; shifts = shifts } ∷ []
+shapes_in shifts (Some (Rings layer rs)) = record { layer = layer; figure = rs.items; shifts = shifts } ∷ []
+shapes_in shifts (Some (Placing by)) = []
 
--- what is drawn is what the record draws, with rings for each figure
-pub record IsDrawn (earlier : List Record) (r : Record) (d : Drawn) : Type 0 where
+-- the cell that is placed, at those shifts
+abbrev pub placements_in : CellRef → List Point → Option Drawn → List Placed
+placements_in cell shifts None = []
+placements_in cell shifts (Some (Ring layer ring)) = []
+placements_in cell shifts (Some (Rings layer rs)) = []
+placements_in cell shifts (Some (Placing by)) =
+    record { cell = cell; flip = by.flip; turn = by.turn; at = by.at; shifts = shifts } ∷ []
+
+-- what is drawn is what the record draws, with rings for each figure, and the cells that it places
+pub record IsDrawn (earlier : List Record) (r : Record) (d : Option Drawn) : Type 0 where
   pub shapes : shapes_in (shifts_of earlier r) d ≡ map in_rings (shapes_of earlier r)
+  pub placements : placements_in (cell_of (r ∷ earlier)) (shifts_of earlier r) d ≡ placements_of earlier r
+
+-- each place of a cell that is placed at those shifts fits 64 signed bits
+abbrev pub PlacesFit : List Point → Option Drawn → Type 0
+PlacesFit shifts None = Unit {0}
+PlacesFit shifts (Some (Ring layer ring)) = Unit {0}
+PlacesFit shifts (Some (Rings layer rs)) = Unit {0}
+PlacesFit shifts (Some (Placing by)) = All (λ e. FitsPoint (shifted by.at e)) shifts

@@ -65,10 +65,11 @@ HasWideLayer earlier r = ⊥
 -- the position, a vertex at the zero shift or a place of a cell is outside 64 signed bits
 abbrev pub LeavesRange : List Record → Record → Type 0
 LeavesRange earlier (Rectangle r) = ¬ All FitsPoint (rectangle_ring (Rectangle r ∷ earlier))
-LeavesRange earlier (Polygon p) = ¬ All FitsPoint (geometry (Polygon p ∷ earlier) ∷ polygon_ring (Polygon p ∷ earlier))
-LeavesRange earlier (Path p) = ¬ All FitsPoint (geometry (Path p ∷ earlier) ∷ path_points (Path p ∷ earlier))
+LeavesRange earlier (Polygon p) = ¬ (FitsPoint (geometry (Polygon p ∷ earlier)) × All FitsPoint (polygon_ring (Polygon p ∷ earlier)))
+LeavesRange earlier (Path p) = ¬ (FitsPoint (geometry (Path p ∷ earlier)) × All FitsPoint (path_points (Path p ∷ earlier)))
 LeavesRange earlier (Placement p) =
-    ¬ All (λ e. FitsPoint (shifted (placement (Placement p ∷ earlier)) e)) (shifts_of earlier (Placement p))
+    ¬ (FitsPoint (placement (Placement p ∷ earlier))
+    × All (λ e. FitsPoint (shifted (placement (Placement p ∷ earlier)) e)) (shifts_of earlier (Placement p)))
 LeavesRange earlier r = ⊥
 
 abbrev pub IsMagnified : Record → Type 0

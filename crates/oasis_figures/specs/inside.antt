@@ -1,2 +1,3 @@
 pub mod Repeating
+pub mod Taking
 pub mod Rectangles

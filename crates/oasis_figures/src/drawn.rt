@@ -1,10 +1,14 @@
 //! What a record draws.
 use lvl_cells::Layer;
-use lvl_grid::Ring;
+use lvl_grid::{Map, Ring};
 
-/// What a record draws, at each of the shifts of its repetition.
+/// What a record draws, at each of the shifts of its repetition ([`crate::Modal::shifts`]).
 #[derive(Debug, Drop)]
 pub enum Drawn {
-    /// One ring.
+    /// A RECTANGLE or a POLYGON: its ring, on a Layer.
     Ring(Layer, Ring),
+    /// A PATH: the rings of its bands, on a Layer.
+    Rings(Layer, Vec<Ring>),
+    /// A PLACEMENT: how its cell ([`crate::Modal::cell`]) is reflected, turned and moved.
+    Placement(Map),
 }

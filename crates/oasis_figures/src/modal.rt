@@ -1,13 +1,21 @@
 //! Modal variables: what the records of a cell set for those after them.
-ghost use Rattle.std.specs.Prelude.{◌≡◌, ◌∷◌, [], List};
+ghost use Rattle.std.specs.Prelude.{◌≡◌, ◌∷◌, [], List, IfOk, IfErr, OnOk, OnErr};
+ghost use Rattle.std.specs.Option.{option_copied};
+ghost use Rattle.lvl_refusal.specs.Refused.{Says};
 ghost use Rattle.oasis_records.specs.declared.record.Record.{Record as ARecord};
-ghost use Rattle.oasis_records.specs.declared.record.Record.TheVariants.{XyAbsolute, XyRelative};
-ghost use Rattle.oasis_figures.specs.Figures.{shifts_of};
+ghost use Rattle.oasis_figures.specs.Figures.{shifts_of, IsDrawn, PlacesFit};
 ghost use Rattle.oasis_figures.specs.Keeping.{StandsFor};
+ghost use Rattle.oasis_figures.specs.Modal.{modal, cell_set};
+ghost use Rattle.oasis_figures.specs.Rules.{Breaches, BreachesNone};
+ghost use Rattle.oasis_figures.specs.inside.Taking.{mode, IsOther, Takes};
 
+use crate::drawn::Drawn;
+use crate::rule::FigureRule;
 use lvl_cells::Offsets;
 use lvl_grid::Point;
-use oasis_records::CellRef;
+use lvl_refusal::Refusal;
+use oasis_records::{CellRef, Path, Placement, Polygon, Record};
+use std::alloc::Global;
 
 /// The modal variables, with the values that the records since CELL set (SEMI P39, "Modal
 /// variables").
@@ -59,20 +67,30 @@ impl Modal {
         }
     }
 
-    /// Takes an XYABSOLUTE: from here on the coordinates of a record are where it is.
-    pub fn take_absolute(&mut self)
-        ensures { (earlier : List ARecord) → StandsFor self.old earlier → StandsFor self.new (XyAbsolute ∷ earlier) }
+    /// Takes the next record of the cell and says what it draws; None where it draws nothing. A
+    /// refusal of a rule names the first that the record breaches, and after any refusal the variables
+    /// are as they were.
+    pub fn take(
+        &mut self,
+        alloc: Global,
+        record: Record,
+    ) -> Result<Option<Drawn>, Refusal<FigureRule>>
+        ensures drawn { IfOk result (λ drawn. (earlier : List ARecord) → StandsFor self.old earlier → IsDrawn earlier record drawn) }
+        ensures places { IfOk result (λ drawn. (earlier : List ARecord) → StandsFor self.old earlier → PlacesFit (shifts_of earlier record) drawn) }
+        ensures kept { OnOk result ((earlier : List ARecord) → StandsFor self.old earlier → StandsFor self.new (record ∷ earlier)) }
+        ensures none { OnOk result ((earlier : List ARecord) → StandsFor self.old earlier → BreachesNone earlier record) }
+        ensures refused { IfErr result (λ e. Says e (λ rule. (earlier : List ARecord) → StandsFor self.old earlier → Breaches earlier record rule)) }
+        ensures same { OnErr result (self.new ≡ self.old) }
     {
-        self.is_relative = false;
-        self.is_repeated = false;
-    }
-
-    /// Takes an XYRELATIVE: from here on the coordinates of a record are added to those before it.
-    pub fn take_relative(&mut self)
-        ensures { (earlier : List ARecord) → StandsFor self.old earlier → StandsFor self.new (XyRelative ∷ earlier) }
-    {
-        self.is_relative = true;
-        self.is_repeated = false;
+        match record {
+            Record::Rectangle(rectangle) => self.take_rectangle(alloc, rectangle),
+            Record::Polygon(polygon) => self.take_polygon(alloc, polygon),
+            Record::Path(path) => self.take_path(alloc, path),
+            Record::Placement(placement) => self.take_placement(placement),
+            Record::XyAbsolute => self.take_mode(false),
+            Record::XyRelative => self.take_mode(true),
+            other => self.take_other(other),
+        }
     }
 
     /// The shifts at which the record before is drawn. A repetition that it has from an earlier record
@@ -84,5 +102,58 @@ impl Modal {
             (Some(shifts), true) => shifts,
             _ => &self.single,
         }
+    }
+
+    /// The cell of the latest placement; None where no PLACEMENT since CELL has named one.
+    pub fn cell(&self) -> Option<&CellRef>
+        ensures { (records : List ARecord) → StandsFor self.now records → option_copied result ≡ modal cell_set records }
+    {
+        self.cell.as_ref()
+    }
+
+    /// Takes an XYRELATIVE or an XYABSOLUTE: from here on coordinates are added to those before them,
+    /// or aren't.
+    fn take_mode(&mut self, is_relative: bool) -> Result<Option<Drawn>, Refusal<FigureRule>>
+        ensures { Takes self.old (mode is_relative) result self.new }
+    {
+        self.is_relative = is_relative;
+        self.is_repeated = false;
+        Ok(None)
+    }
+
+    /// Takes a record that sets nothing.
+    fn take_other(&mut self, record: Record) -> Result<Option<Drawn>, Refusal<FigureRule>>
+        requires { IsOther record }
+        ensures { Takes self.old record result self.new }
+    {
+        drop(record);
+        self.is_repeated = false;
+        Ok(None)
+    }
+
+    fn take_polygon(
+        &mut self,
+        alloc: Global,
+        polygon: Polygon,
+    ) -> Result<Option<Drawn>, Refusal<FigureRule>>
+        ensures { Takes self.old (Record.Polygon polygon) result self.new }
+    {
+        Err(Refusal::OutOfMemory)
+    }
+
+    fn take_path(
+        &mut self,
+        alloc: Global,
+        path: Path,
+    ) -> Result<Option<Drawn>, Refusal<FigureRule>>
+        ensures { Takes self.old (Record.Path path) result self.new }
+    {
+        Err(Refusal::OutOfMemory)
+    }
+
+    fn take_placement(&mut self, placement: Placement) -> Result<Option<Drawn>, Refusal<FigureRule>>
+        ensures { Takes self.old (Record.Placement placement) result self.new }
+    {
+        Err(Refusal::OutOfMemory)
     }
 }

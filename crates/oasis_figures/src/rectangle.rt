@@ -1,11 +1,10 @@
 //! RECTANGLE: the ring of its corners.
-ghost use Rattle.std.specs.Prelude.{◌≡◌, ◌∷◌, Some, List, IfOk, IfErr, OnOk, OnErr, if◌then◌else◌};
-ghost use Rattle.lvl_refusal.specs.Refused.{Says};
+ghost use Rattle.std.specs.Prelude.{◌≡◌, Some, List, IfOk, IfErr, if◌then◌else◌};
 ghost use Rattle.oasis_records.specs.declared.record.Record.{Record as ARecord};
-ghost use Rattle.oasis_figures.specs.Figures.{IsDrawn};
 ghost use Rattle.oasis_figures.specs.Keeping.{StandsFor};
-ghost use Rattle.oasis_figures.specs.Rules.{Breaches, BreachesNone};
+ghost use Rattle.oasis_figures.specs.Rules.{Breaches};
 ghost use Rattle.oasis_figures.specs.inside.Rectangles.{a_rectangle, IsResolved};
+ghost use Rattle.oasis_figures.specs.inside.Taking.{Takes};
 
 use crate::drawn::Drawn;
 use crate::layer::layer_of;
@@ -84,17 +83,13 @@ impl Modal {
         })
     }
 
-    /// Takes a RECTANGLE. After a refusal the variables are as they were.
-    pub fn take_rectangle(
+    /// Takes a RECTANGLE.
+    pub(crate) fn take_rectangle(
         &mut self,
         alloc: Global,
         rectangle: Rectangle,
-    ) -> Result<Drawn, Refusal<FigureRule>>
-        ensures drawn { IfOk result (λ drawn. (earlier : List ARecord) → StandsFor self.old earlier → IsDrawn earlier (a_rectangle rectangle) drawn) }
-        ensures kept { OnOk result ((earlier : List ARecord) → StandsFor self.old earlier → StandsFor self.new (a_rectangle rectangle ∷ earlier)) }
-        ensures none { OnOk result ((earlier : List ARecord) → StandsFor self.old earlier → BreachesNone earlier (a_rectangle rectangle)) }
-        ensures refused { IfErr result (λ e. Says e (λ rule. (earlier : List ARecord) → StandsFor self.old earlier → Breaches earlier (a_rectangle rectangle) rule)) }
-        ensures same { OnErr result (self.new ≡ self.old) }
+    ) -> Result<Option<Drawn>, Refusal<FigureRule>>
+        ensures { Takes self.old (a_rectangle rectangle) result self.new }
     {
         let values = self.resolve_rectangle(&rectangle)?;
         let ring = Ring::rectangle(alloc, values.low, values.high)?;
@@ -106,6 +101,6 @@ impl Modal {
         self.height = Some(values.height);
         self.is_repeated = repetition.is_some();
         self.repetition = after(repetition, self.repetition.take());
-        Ok(Drawn::Ring(values.on, ring))
+        Ok(Some(Drawn::Ring(values.on, ring)))
     }
 }
