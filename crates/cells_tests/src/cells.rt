@@ -1,5 +1,5 @@
 //! Libraries in a few words, and what the check says of them.
-use lvl_cells::{Cell, CellFault, Checked, Layer, Library, Offsets, Reference, Shapes, check};
+use lvl_cells::{Cell, CellFault, Checked, Layer, Library, Name, Offsets, Reference, Shapes, check};
 use lvl_grid::{Point, Ring, Turn};
 use lvl_refusal::Refusal;
 use std::alloc::{AllocError, Global};
@@ -23,7 +23,7 @@ fn many() -> Result<Offsets, Fail> {
 
 /// The cell of that name, placed once for each shift.
 fn placing(alloc: Global, name: &[u8], shifts: Offsets) -> Result<Reference, Fail> {
-    let name = Vec::from_slice(alloc, name)?;
+    let name = Name::new(Vec::from_slice(alloc, name)?)?;
     Ok(Reference::new(name, false, Turn::R0, ORIGIN, shifts).ok_or("places")?)
 }
 
@@ -400,7 +400,7 @@ fn references(rt: HostRuntime) -> Result<(), Fail> {
     };
     let down = Point { x: 0, y: -1 };
     for (m, n, want) in [(4, 3, true), (5, 3, false), (4, 4, false), (5, 4, false)] {
-        let name = Vec::from_slice(rt.alloc(), b"A")?;
+        let name = Name::new(Vec::from_slice(rt.alloc(), b"A")?)?;
         let shifts = Offsets::lattice(RIGHT, m, down, n).ok_or("shifts")?;
         let made = Reference::new(name, true, Turn::R90, at, shifts);
         assert_eq!(rt; made.is_some(), want, "{m} {n}");
@@ -414,7 +414,7 @@ fn references(rt: HostRuntime) -> Result<(), Fail> {
     }
     let listed = [ORIGIN, Point { x: 4, y: 0 }].to_vec(rt.alloc())?;
     let shifts = Offsets::new(listed).ok_or("shifts")?;
-    let name = Vec::new(rt.alloc());
+    let name = Name::new(Vec::new(rt.alloc()))?;
     assert!(rt; Reference::new(name, false, Turn::R0, at, shifts).is_none());
     Ok(())
 }

@@ -1,5 +1,5 @@
 //! What small libraries flatten to.
-use lvl_cells::{Cell, Layer, Library, Offsets, Reference, Shapes, check};
+use lvl_cells::{Cell, Layer, Library, Name, Offsets, Reference, Shapes, check};
 use lvl_flat::{Flat, FlatFault, flatten};
 use lvl_grid::{Map, Point, Ring, Square, Turn};
 use lvl_refusal::Refusal;
@@ -48,7 +48,7 @@ fn drawing(alloc: Global, name: &str, layer: Layer, low: Point, high: Point) -> 
 
 /// A cell that places another by the map.
 fn placing(alloc: Global, name: &str, placed: &str, map: Map) -> Result<Cell, Fail> {
-    let placed = Vec::from_slice(alloc, placed.as_bytes())?;
+    let placed = Name::new(Vec::from_slice(alloc, placed.as_bytes())?)?;
     let reference = Reference::new(placed, map.flip, map.turn, map.at, Offsets::single());
     let mut references = Vec::new(alloc);
     references.push(reference.ok_or("places")?)?;

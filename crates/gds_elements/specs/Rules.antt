@@ -7,6 +7,7 @@ use Rattle.lvl_grid.specs.Winding.{IsStraight, path_edges, last_or}
 use Rattle.lvl_grid.specs.declared.point.Point.{Point}
 use Rattle.lvl_grid.specs.declared.map.Turn.{Turn}
 use Rattle.lvl_path.specs.Runs.{IsLowestFault}
+use Rattle.lvl_cells.specs.Names.{IsName}
 use Rattle.gds_elements.specs.Types.{boundary, path, sref, aref, text, layer, datatype, width, xy, sname, colrow}
 use Rattle.gds_elements.specs.Types.{strans, mag, angle, pathtype}
 use Rattle.lvl_grammar.specs.Order.{Begins}
@@ -30,10 +31,6 @@ place_limit = 1048576
 -- the type is one of the table of record types
 abbrev pub IsKnown : ℕ → Type 0
 IsKnown k = is_some (form_among table k) ≡ true
-
--- a name has 1 to 255 bytes, each of them printed and no space
-abbrev pub IsName : List ℕ → Type 0
-IsName bytes = (0 < length bytes) × (length bytes ≤ 255) × All (λ b. (0x21 ≤ b) × (b ≤ 0x7E)) bytes
 
 -- the steps from each point to the next
 abbrev pub steps : List Point → List (Point × Point)

@@ -21,7 +21,7 @@ use crate::order::{Next, only, out_of_order};
 use crate::placing::Placing;
 use crate::values::{point_at, point_count};
 use gds_records::record_type;
-use lvl_cells::{Offsets, Reference};
+use lvl_cells::{Name, Offsets, Reference};
 use lvl_grid::Point;
 use lvl_refusal::Refusal;
 use std::alloc::Global;
@@ -138,6 +138,7 @@ fn place_all(
     let up = step(origin, point_at(payload, 2), counts.rows)?;
     let shifts = Offsets::lattice(across, counts.columns, up, counts.rows).unwrap();
     let Placing { name, flip, turn } = placing;
+    let name = Name::new(name)?;
     Ok(Reference::new(name, flip, turn, origin, shifts).unwrap())
 }
 

@@ -3,8 +3,8 @@
 //! An element begins with its opener, BOUNDARY, PATH, SREF, AREF or TEXT, and ends with ENDEL
 //! (GDSII Stream Format Manual, Release 6). [`Element::open`] takes the opener, and
 //! [`Element::take`] one record more, until the element is whole: then it is what it draws, a shape
-//! or a reference to a cell, or nothing. [`name`], [`is_name`] and [`misplaced`] serve the records
-//! outside of elements too.
+//! or a reference to a cell, or nothing. [`name`] and [`misplaced`] serve the records outside of
+//! elements too.
 //!
 //! A sixth element takes a file of its own beside `boundary.rt`: its places, with what a record is
 //! at each of them, the values that it keeps, and what it draws. `element.rt` opens it and has a
@@ -15,7 +15,7 @@
 pub use element::{Drawn, Element, Step};
 pub use fault::{ElementFault, ElementRule, Misplaced};
 pub use order::misplaced;
-pub use values::{is_name, name};
+pub use values::name;
 
 mod aref;
 mod boundary;

@@ -3,15 +3,16 @@ ghost use Rattle.std.specs.Prelude.{◌≡◌, ◌≢◌, ◌==◌, [], false, I
 ghost use Rattle.lvl_grid.specs.declared.map.Turn.{Turn as GridTurn};
 ghost use Rattle.gds_elements.specs.Types.{sname, strans, mag, angle};
 ghost use Rattle.gds_elements.specs.Values.{bits, name, flips, turn, one_real, degrees};
-ghost use Rattle.gds_elements.specs.Rules.{IsName};
+ghost use Rattle.lvl_cells.specs.Names.{IsName};
 ghost use Rattle.gds_elements.specs.inside.Formed.{IsFormed};
 ghost use Rattle.gds_elements.specs.inside.Placing.{IsPlacingFault, IsPlacingAllowed};
 ghost use Rattle.lvl_refusal.specs.Refused.{Says};
 ghost use Rattle.gds_elements.specs.inside.Misplaced.{Broken, breach};
 
 use crate::fault::{ElementFault, ElementRule, breach};
-use crate::values::{bits, is_name, name};
+use crate::values::{bits, name};
 use gds_records::record_type;
+use lvl_cells::is_name;
 use lvl_grid::Turn;
 use lvl_refusal::Refusal;
 use std::alloc::Global;

@@ -8,7 +8,8 @@ ghost use Rattle.gds_elements.specs.Meaning.{one_place};
 ghost use Rattle.gds_elements.specs.inside.Formed.{IsFormed};
 ghost use Rattle.gds_elements.specs.inside.Sref.{after, IsSrefRead};
 ghost use Rattle.gds_elements.specs.inside.Reading.{Takes, record_of};
-ghost use Rattle.gds_elements.specs.inside.Misplaced.{breach};
+ghost use Rattle.lvl_refusal.specs.Refused.{Says};
+ghost use Rattle.gds_elements.specs.inside.Misplaced.{Broken};
 
 use crate::element::{Drawn, State};
 use crate::fault::{ElementFault, ElementRule, breach};
@@ -16,7 +17,7 @@ use crate::order::{Next, only, out_of_order};
 use crate::placing::Placing;
 use crate::values::{point_at, point_count};
 use gds_records::record_type;
-use lvl_cells::{Offsets, Reference};
+use lvl_cells::{Name, Offsets, Reference};
 use lvl_refusal::Refusal;
 use std::alloc::Global;
 
@@ -102,12 +103,13 @@ impl Sref {
 fn place_once(placing: Placing, payload: &[u8]) -> Result<Reference, Refusal<ElementFault>>
     ensures value { IfOk result (λ r. r ≡ record { cell = placing.name.items; flip = placing.flip; turn = placing.turn; at = nth (points payload.now) 0; shifts = one_place }) }
     ensures allowed { OnOk result (length (points payload.now) ≡ 1) }
-    ensures refused { IfErr result (λ e. (e ≡ breach ElementRule.Points) × (length (points payload.now) ≢ 1)) }
+    ensures refused { IfErr result (λ e. Says e (Broken (λ k. (k ≡ ElementRule.Points) × (length (points payload.now) ≢ 1)))) }
 {
     if point_count(payload) != 1 {
         return Err(breach(ElementRule::Points));
     }
     let Placing { name, flip, turn } = placing;
     let at = point_at(payload, 0);
+    let name = Name::new(name)?;
     Ok(Reference::new(name, flip, turn, at, Offsets::single()).unwrap())
 }

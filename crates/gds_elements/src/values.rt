@@ -1,7 +1,6 @@
 //! The values that payloads spell.
 ghost use Rattle.std.specs.Prelude.{◌≡◌, ◌<◌, ◌≤◌, ◌+◌, ◌*◌, ◌↔◌, IsTrue, IfOk, length, take, drop};
 ghost use Rattle.gds_elements.specs.Values.{short, long, bits, point, points, nth, name, IsNarrow};
-ghost use Rattle.gds_elements.specs.Rules.{IsName};
 
 use lvl_grid::Point;
 use std::alloc::{AllocError, Global};
@@ -66,13 +65,6 @@ pub fn name(payload: &[u8]) -> &[u8]
         [name @ .., 0] => name,
         _ => payload,
     }
-}
-
-/// Whether these bytes are a cell's name: 1 to 255 bytes, each of 0x21 to 0x7E (own rule).
-pub fn is_name(bytes: &[u8]) -> bool
-    ensures { IsTrue result ↔ IsName bytes.now }
-{
-    !bytes.is_empty() && bytes.len() <= 255 && bytes.iter().all(|b| 0x21 <= *b && *b <= 0x7E)
 }
 
 /// How many points a payload has.

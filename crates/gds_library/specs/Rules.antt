@@ -4,16 +4,13 @@ use Rattle.lvl_grammar.specs.Order.{IsWord, Begins}
 use Rattle.gds_elements.specs.Types.{bgnstr, strname}
 use Rattle.gds_elements.specs.Rec.{Rec, kinds, is_type, is_opener}
 use Rattle.gds_elements.specs.Values.{name}
-use Rattle.gds_elements.specs.Rules.{IsName, IsMisplacedAs, ValueBreaches}
+use Rattle.gds_elements.specs.Rules.{IsMisplacedAs, ValueBreaches}
+use Rattle.lvl_cells.specs.Names.{IsName, cell_limit}
 use Rattle.gds_library.specs.Order.{a_library}
 use Rattle.gds_library.specs.Rec.{pieces, last_piece}
 use Rattle.gds_library.specs.declared.fault.GdsKind.{GdsKind}
 use Rattle.gds_library.specs.declared.fault.GdsKind.TheVariants.{Record, Misplaced, Element, Name, AfterEnd}
 use Rattle.gds_library.specs.declared.fault.GdsKind.TheVariants.{TooManyCells}
-
--- the greatest number of cells
-abbrev pub cell_limit : ℕ
-cell_limit = 1048576
 
 -- the records are a whole library
 abbrev pub IsWhole : List Rec → Type 0

@@ -11,14 +11,11 @@ ghost use Rattle.gds_library.specs.inside.Faults.{IsFormed, IsFault, IsAllowed};
 use crate::fault::GdsKind;
 use crate::head::{GdsHead, two_reals};
 use crate::place::Place;
-use gds_elements::{Drawn, is_name, misplaced, name};
+use gds_elements::{Drawn, misplaced, name};
 use gds_records::record_type;
-use lvl_cells::{Builder as Cells, Library, Offsets};
+use lvl_cells::{Builder as Cells, Library, MOST_CELLS, Offsets, is_name};
 use lvl_refusal::Refusal;
 use std::alloc::Global;
-
-/// The greatest number of cells.
-const MOST_CELLS: usize = 1_048_576;
 
 /// The library so far: where the reader is in the order of records, the head, and the cells.
 #[derive(Drop)]

@@ -2,7 +2,7 @@
 
 use anyhow::{Context, Result};
 use gds_records::record_type;
-use lvl_cells::{Cell, Layer, Library, Offsets, Reference, Shapes};
+use lvl_cells::{Cell, Layer, Library, Name, Offsets, Reference, Shapes};
 use lvl_grid::{Point, Ring, Turn};
 use std::alloc::Global;
 
@@ -75,7 +75,8 @@ fn unit_square(alloc: Global) -> Result<Shapes> {
 fn placed(alloc: Global, cell: u64, a: (Point, u64), b: (Point, u64)) -> Result<Reference> {
     let shifts = Offsets::lattice(a.0, a.1, b.0, b.1).context("no lattice")?;
     let at = Point { x: 0, y: 0 };
-    Reference::new(name(alloc, cell)?, false, Turn::R0, at, shifts).context("no reference")
+    let name = Name::new(name(alloc, cell)?)?;
+    Reference::new(name, false, Turn::R0, at, shifts).context("no reference")
 }
 
 /// So many cells, the first of which places each of the others once.

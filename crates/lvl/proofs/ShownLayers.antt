@@ -11,9 +11,11 @@ use Rattle.lvl_cells.specs.declared.layer.Layer.{Layer}
 use Rattle.lvl_cells.specs.Cells.{PlainCell, Rings, each_ring}
 use Rattle.lvl_cells.specs.Chains.{placed_rings_on}
 use Rattle.lvl_flat.specs.Sheet.{PlainSheet}
-use Rattle.lvl_flat.specs.Sheets.{same_layer, rings_on, AreSorted, IsInOrder}
+use Rattle.lvl_flat.specs.Sheets.{rings_on, AreSorted, IsInOrder}
+use Rattle.lvl_cells.specs.Layers.{same_layer}
 use Rattle.lvl_flat.specs.Flattened.{AreAsMany}
-use Rattle.lvl_flat.proofs.Orders.{rings_where, tested_layer}
+use Rattle.lvl_flat.proofs.Orders.{rings_where}
+use Rattle.lvl_cells.proofs.Layers.{tested_layer}
 use Rattle.lvl.specs.declared.shown.ShownLayer.{ShownLayer}
 use Rattle.lvl.specs.Shown.{shown_layer, AreShownLayers}
 

@@ -4,7 +4,8 @@ use Rattle.lvl_grid.specs.declared.point.Square.{Square}
 use Rattle.lvl_cells.specs.declared.layer.Layer.{Layer}
 use Rattle.lvl_cells.specs.Coverage.{RingsCover}
 use Rattle.lvl_flat.specs.Sheet.{PlainSheet}
-use Rattle.lvl_flat.specs.Sheets.{rings_on, same_layer, ComesBefore}
+use Rattle.lvl_flat.specs.Sheets.{rings_on}
+use Rattle.lvl_cells.specs.Layers.{same_layer, ComesBefore}
 use Rattle.lvl_region.specs.Region.{IsAlone}
 use Rattle.lvl_region.specs.declared.region.Side.{Side}
 use Rattle.lvl_grid.specs.Squares.{IsBefore}

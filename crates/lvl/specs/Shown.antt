@@ -7,7 +7,7 @@ use Rattle.lvl_cells.specs.Chains.{placed_rings_on}
 use Rattle.lvl_cells.specs.Checks.{Settled}
 use Rattle.lvl_flat.specs.Flattened.{IsFlattened}
 use Rattle.lvl_flat.specs.Sheet.{PlainSheet}
-use Rattle.lvl_flat.specs.Sheets.{ComesBefore}
+use Rattle.lvl_cells.specs.Layers.{ComesBefore}
 use Rattle.lvl_region.specs.declared.region.Side.TheVariants.{First}
 use Rattle.lvl.specs.Drawing.{Drawing}
 use Rattle.lvl.specs.declared.shown.Shown.{Shown}

@@ -3,9 +3,9 @@ ghost use Rattle.std.specs.Prelude.{◌≡◌, ◌↔◌, drop, Some, IfOk, IsTr
 ghost use Rattle.lvl.specs.Sheets.{IsFlatVerdict, IsLesser, behind, head_layer};
 
 use crate::verdict::Verdict;
-use lvl_cells::Layer;
+use lvl_cells::{Layer, comes_before};
 use lvl_columns::difference_by_columns;
-use lvl_flat::{Flat, comes_before};
+use lvl_flat::Flat;
 use std::alloc::{AllocError, Global};
 
 /// The first Layer, and on it the first square, that one of the two alone covers. A Layer that one

@@ -15,3 +15,4 @@ pub mod Summing
 pub mod Refusing
 pub mod Looking
 pub mod Spanned
+pub mod Layers

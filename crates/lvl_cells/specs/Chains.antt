@@ -1,5 +1,5 @@
 -- Chains of references, what they lead to, and how many there are.
-use Rattle.std.specs.Prelude.{◌≡◌, ℕ, zero, suc, ◌+◌, ◌*◌, ◌≤◌, List, length, false, pos, if◌then◌else◌, ◌==◌, ◌&&◌, Any, All, sum_by, Some}
+use Rattle.std.specs.Prelude.{◌≡◌, ℕ, zero, suc, ◌+◌, ◌*◌, ◌≤◌, List, length, false, pos, if◌then◌else◌, Any, All, sum_by, Some}
 use Rattle.std.specs.Option.{option_map_or}
 use Rattle.lvl_grid.specs.declared.point.Point.{Point}
 use Rattle.lvl_grid.specs.declared.map.Map.{Map}
@@ -7,6 +7,7 @@ use Rattle.lvl_grid.specs.declared.map.Turn.TheVariants.{R0}
 use Rattle.lvl_grid.specs.Turn.{image, shifted, FitsPoint}
 use Rattle.lvl_cells.specs.declared.layer.Layer.{Layer}
 use Rattle.lvl_cells.specs.Cells.{PlainCell, Rings, placing, cell_named}
+use Rattle.lvl_cells.specs.Layers.{same_layer}
 
 -- m does to each point what inner and then outer do
 abbrev pub IsComposed : Map → Map → Map → Type 0
@@ -44,7 +45,7 @@ placed_rings rings cells c = over_chains (own_rings rings) cells (length cells) 
 
 -- the same on one Layer
 abbrev pub own_rings_on : {F : Type 0} → (F → Rings) → Layer → PlainCell F → ℕ
-own_rings_on rings layer c = sum_by (λ h. if (h.layer.layer == layer.layer) && (h.layer.datatype == layer.datatype) then length (rings h.figure) * length h.shifts else 0) c.shapes
+own_rings_on rings layer c = sum_by (λ h. if same_layer h.layer layer then length (rings h.figure) * length h.shifts else 0) c.shapes
 
 abbrev pub placed_rings_on : {F : Type 0} → (F → Rings) → Layer → List (PlainCell F) → PlainCell F → ℕ
 placed_rings_on rings layer cells c = over_chains (own_rings_on rings layer) cells (length cells) c

@@ -3,7 +3,7 @@ use Rattle.std.specs.Prelude.{ℕ, ◌<◌, ◌≤◌, ◌*◌, ◌-◌, List, p
 use Rattle.std.specs.Int.{w64}
 use Rattle.lvl_grid.specs.declared.point.Point.{Point}
 use Rattle.lvl_cells.specs.declared.offsets.Kept.{Kept}
-use Rattle.lvl_cells.specs.declared.offsets.Kept.TheVariants.{List as ByList, Lattice as ByLattice}
+use Rattle.lvl_cells.specs.declared.offsets.Kept.TheVariants.{List as ByList, Shared as ByShared, Lattice as ByLattice}
 use Rattle.lvl_cells.specs.Shifts.{lattice, most_places, StartsAtZero}
 
 -- i steps by a and j steps by b fit along one axis, apart and together
@@ -26,8 +26,10 @@ pub record HasFarCorner (a : Point) (m : ℕ) (b : Point) (n : ℕ) : Type 0 whe
 
 abbrev pub kept_shifts : Kept → List Point
 kept_shifts (ByList shifts) = shifts.items
+kept_shifts (ByShared shifts) = shifts.value.items
 kept_shifts (ByLattice a m b n) = lattice a m b n
 
 abbrev pub IsKept : Kept → Type 0
 IsKept (ByList shifts) = StartsAtZero shifts.items
+IsKept (ByShared shifts) = StartsAtZero shifts.value.items
 IsKept (ByLattice a m b n) = HasFarCorner a m b n

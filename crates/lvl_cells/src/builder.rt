@@ -12,6 +12,9 @@ use std::alloc::{AllocError, Global};
 use std::marker::Model;
 use std::mem;
 
+/// The most cells that a library may have (own rule).
+pub const MOST_CELLS: usize = 1_048_576;
+
 /// The cells that are whole, in file order, and the cell that is open.
 ///
 /// A builder begins with no cell; [`Builder::open`] begins one, [`Builder::close`] makes it one of
@@ -104,11 +107,14 @@ impl Builder {
         self.current.shapes.push_rings(layer, rings, shifts)
     }
 
-    /// Adds a reference to the open cell.
-    pub fn add_reference(&mut self, reference: Reference) -> Result<(), AllocError>
+    /// Adds a reference to the open cell. One to the same cell as the reference before shares its name.
+    pub fn add_reference(&mut self, mut reference: Reference) -> Result<(), AllocError>
         ensures added { OnOk result (self.new ≡ record { cells = self.old.cells; current = with_reference self.old.current reference }) }
         ensures kept { OnErr result (self.new ≡ self.old) }
     {
+        if let Some(last) = self.current.references.last() {
+            reference.share_name(last)?;
+        }
         self.current.references.push(reference)?;
         Ok(())
     }

@@ -3,16 +3,18 @@
 //!
 //! A [`Library`] is what a file draws: named cells in file order. A [`Cell`] has [`Shapes`], each
 //! rings on a [`Layer`] at a list of shifts, and [`Reference`]s, each of which places another cell
-//! by its name, reflected, turned and at a list of places. A list of shifts or places is an
-//! [`Offsets`], which keeps a lattice as such. A [`Builder`] makes a library cell by cell. [`check`] finds the top, resolves the names and
-//! refuses what is not sound or places too much; what it lets through is a [`Checked`].
+//! by its [`Name`], reflected, turned and at a list of places. A list of shifts or places is an
+//! [`Offsets`], which keeps a lattice as such. A [`Builder`] makes a library cell by cell. [`check`]
+//! finds the top, resolves the names and refuses what is not sound or places too much; what it lets
+//! through is a [`Checked`].
 #![tactic(auto)]
 
-pub use builder::Builder;
+pub use builder::{Builder, MOST_CELLS};
 pub use checked::{Checked, check};
 pub use fault::CellFault;
-pub use layer::Layer;
+pub use layer::{Layer, comes_before};
 pub use library::{Cell, Library, Reference};
+pub use name::{MOST_NAME_BYTES, Name, is_name};
 pub use offsets::Offsets;
 pub use shapes::Shapes;
 
@@ -22,6 +24,7 @@ mod counts;
 mod fault;
 mod layer;
 mod library;
+mod name;
 mod names;
 mod offsets;
 mod order;

@@ -2,16 +2,18 @@
 ghost use Rattle.std.specs.Prelude.{◌≡◌, ◌↔◌, All, IsSome, IfSome};
 ghost use Rattle.lvl_grid.specs.Turn.{shifted, FitsPoint};
 
+use crate::name::Name;
 use crate::offsets::Offsets;
 use crate::shapes::Shapes;
 use lvl_grid::{Point, Turn};
+use std::alloc::AllocError;
 use std::marker::Model;
 
 /// A cell by its name, reflected, turned, and placed at each of its places: `at`, moved by each
 /// of the shifts.
 #[derive(Debug, Drop)]
 pub struct Reference {
-    cell: Vec<u8>,
+    cell: Name,
     flip: bool,
     turn: Turn,
     at: Point,
@@ -25,7 +27,7 @@ impl Model for Reference {
 
     ghost Value = { PlainReference };
 
-    ghost view = { λ r. record { cell = r.cell.items; flip = r.flip; turn = r.turn; at = r.at; shifts = r.shifts } };
+    ghost view = { λ r. record { cell = r.cell; flip = r.flip; turn = r.turn; at = r.at; shifts = r.shifts } };
 
     ghost invariant = { λ r. All (λ e. FitsPoint (shifted r.at e)) r.shifts };
 }
@@ -33,15 +35,9 @@ impl Model for Reference {
 impl Reference {
     /// A reference to the cell of that name, or None where one of its places, each `at` moved by
     /// one of the shifts, is outside 64 signed bits.
-    pub fn new(
-        cell: Vec<u8>,
-        flip: bool,
-        turn: Turn,
-        at: Point,
-        shifts: Offsets,
-    ) -> Option<Reference>
+    pub fn new(cell: Name, flip: bool, turn: Turn, at: Point, shifts: Offsets) -> Option<Reference>
         ensures some { IsSome result ↔ All (λ e. FitsPoint (shifted at e)) shifts }
-        ensures same { IfSome result (λ r. r ≡ record { cell = cell.items; flip = flip; turn = turn; at = at; shifts = shifts }) }
+        ensures same { IfSome result (λ r. r ≡ record { cell = cell; flip = flip; turn = turn; at = at; shifts = shifts }) }
     {
         if !shifts.all_fit_at(at) {
             return None;
@@ -59,7 +55,17 @@ impl Reference {
     pub fn cell(&self) -> &[u8]
         ensures { result.now ≡ self.now.cell }
     {
-        &self.cell
+        self.cell.as_bytes()
+    }
+
+    /// Takes its name from the other, where both name one cell, so that the name is kept once.
+    pub(crate) fn share_name(&mut self, other: &Reference) -> Result<(), AllocError>
+        ensures { self.new ≡ self.old }
+    {
+        if self.cell.as_bytes() == other.cell.as_bytes() {
+            self.cell = other.cell.clone()?;
+        }
+        Ok(())
     }
 
     /// Whether the cell is reflected about the X axis, before it is turned.

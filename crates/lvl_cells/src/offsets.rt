@@ -8,6 +8,8 @@ ghost use Rattle.lvl_cells.specs.Shifts.{steps, lattice, one_place, IsLattice, S
 use lvl_grid::Point;
 use std::alloc::AllocError;
 use std::marker::Model;
+use std::mem;
+use std::rc::Rc;
 
 /// The most places of a lattice.
 const MOST_PLACES: u64 = 16_777_216;
@@ -16,13 +18,15 @@ const MOST_PLACES: u64 = 16_777_216;
 #[derive(Debug, Drop)]
 enum Kept {
     List(Vec<Point>),
+    Shared(Rc<Vec<Point>>),
     Lattice(Point, u64, Point, u64),
 }
 
 /// A list of shifts in grid steps, of which the first is zero.
 ///
 /// A lattice is kept by its two steps and counts, and never written out; it is the same list of
-/// shifts to those who look at it.
+/// shifts to those who look at it. A clone of a lattice takes no memory, nor does one of a list that
+/// is shared ([`Offsets::share`]): all its clones have the one list.
 #[derive(Debug, Drop)]
 pub struct Offsets {
     kept: Kept,
@@ -47,6 +51,7 @@ impl Clone for Offsets {
     fn clone(&self) -> Result<Offsets, AllocError> {
         let kept = match &self.kept {
             Kept::List(shifts) => Kept::List(Vec::from_slice(*shifts.allocator(), shifts)?),
+            Kept::Shared(shifts) => Kept::Shared(shifts.clone()?),
             Kept::Lattice(a, m, b, n) => Kept::Lattice(*a, *m, *b, *n),
         };
         Ok(Offsets { kept })
@@ -128,6 +133,13 @@ fn fits_moved(by: Point, point: Point) -> bool
     point.x.checked_add(by.x).is_some() && point.y.checked_add(by.y).is_some()
 }
 
+/// Whether each of these shifts fits 64 bits once it is moved.
+fn list_fits_moved(by: Point, shifts: &[Point]) -> bool
+    ensures { IsTrue result ↔ All (λ e. FitsPoint (shifted by e)) shifts.now }
+{
+    shifts.iter().all(|shift| fits_moved(by, *shift))
+}
+
 /// Whether each shift of the lattice fits 64 bits once it is moved, by the corners.
 fn lattice_fits_moved(by: Point, a: Point, m: u64, b: Point, n: u64) -> bool
     requires { HasFarCorner a m b n }
@@ -182,6 +194,25 @@ impl Offsets {
         Offsets::lattice(zero, 1, zero, 1).unwrap()
     }
 
+    /// Makes a list one that its clones share. It takes memory for the count of those, and nothing
+    /// for a lattice or a list that is shared already.
+    pub fn share(&mut self) -> Result<(), AllocError>
+        ensures { self.new ≡ self.old }
+    {
+        let zero = Point { x: 0, y: 0 };
+        match mem::replace(&mut self.kept, Kept::Lattice(zero, 1, zero, 1)) {
+            Kept::List(shifts) => match Rc::new(*shifts.allocator(), shifts) {
+                Ok(shared) => self.kept = Kept::Shared(shared),
+                Err(failed) => {
+                    self.kept = Kept::List(failed.value);
+                    return Err(AllocError);
+                }
+            },
+            kept => self.kept = kept,
+        }
+        Ok(())
+    }
+
     /// Whether this is the zero shift alone.
     pub fn is_single(&self) -> bool
         ensures { IsTrue result ↔ (self.now ≡ one_place) }
@@ -208,6 +239,7 @@ impl Offsets {
     {
         match &self.kept {
             Kept::List(shifts) => shifts.len() as u64,
+            Kept::Shared(shifts) => shifts.len() as u64,
             Kept::Lattice(_, m, _, n) => m * n,
         }
     }
@@ -217,7 +249,8 @@ impl Offsets {
         ensures { IsTrue result ↔ All (λ e. FitsPoint (shifted at e)) self.now }
     {
         match &self.kept {
-            Kept::List(shifts) => shifts.iter().all(|shift| fits_moved(at, *shift)),
+            Kept::List(shifts) => list_fits_moved(at, shifts),
+            Kept::Shared(shifts) => list_fits_moved(at, shifts),
             Kept::Lattice(a, m, b, n) => lattice_fits_moved(at, *a, *m, *b, *n),
         }
     }
@@ -228,6 +261,7 @@ impl Offsets {
     {
         match &self.kept {
             Kept::List(shifts) => shifts.get(k as usize).copied(),
+            Kept::Shared(shifts) => shifts.get(k as usize).copied(),
             Kept::Lattice(a, m, b, n) => {
                 if k >= m * n {
                     return None;

@@ -25,7 +25,8 @@ struct Span {
 ///
 /// A boundary, a polygon or a rectangle is a shape of one ring, a path a shape of the rings of its
 /// bands. A shape takes no allocation of its own: a boundary at one place takes 24 bytes and its
-/// points. A list of shifts is kept once where shapes one after another have the same lattice.
+/// points. A list of shifts is kept once where shapes one after another have the same lattice; one
+/// that is shared is never copied.
 #[derive(Debug, Drop)]
 pub struct Shapes {
     rings: Rings,

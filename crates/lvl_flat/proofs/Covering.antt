@@ -15,9 +15,9 @@ use Rattle.lvl_cells.specs.Cells.{PlainCell, PlainShape, Rings, placing, cell_na
 use Rattle.lvl_cells.specs.Chains.{IsComposed}
 use Rattle.lvl_cells.specs.Coverage.{moved_back, RingsCover, ShapeCovers, PullsBack, CoversWithin, CellCovers}
 use Rattle.lvl_flat.specs.Drawn.{placed_ring, placed_figure, placed_shape, drawn_on, IsPlaced, AreFiguresPlaced}
-use Rattle.lvl_flat.specs.Sheets.{same_layer}
+use Rattle.lvl_cells.specs.Layers.{same_layer}
 use Rattle.lvl_flat.specs.Visits.{Pick, picks, PickCovers}
-use Rattle.lvl_flat.proofs.Orders.{tested_layer, same_is}
+use Rattle.lvl_cells.proofs.Layers.{tested_layer, same_is}
 use Rattle.lvl_grid.proofs.Anyone.{Any-nil, Any-head, Any-tail, Any-uncons, Any-left, Any-right, Any-sides}
 use Rattle.lvl_flat.proofs.Picks.{picks_any}
 

@@ -9,8 +9,10 @@ use Rattle.lvl_cells.specs.declared.layer.Layer.{Layer}
 use Rattle.lvl_cells.specs.Cells.{PlainShape, Rings}
 use Rattle.lvl_flat.specs.Drawn.{placed_shape, drawn_on}
 use Rattle.lvl_flat.specs.Sheet.{PlainSheet}
-use Rattle.lvl_flat.specs.Sheets.{ComesBefore, AreSorted, same_layer, rings_on}
-use Rattle.lvl_flat.proofs.Orders.{before_itself, sorted_at, sorted_tail, differs_is, tested_layer}
+use Rattle.lvl_flat.specs.Sheets.{AreSorted, rings_on}
+use Rattle.lvl_cells.specs.Layers.{ComesBefore, same_layer}
+use Rattle.lvl_flat.proofs.Orders.{sorted_at, sorted_tail}
+use Rattle.lvl_cells.proofs.Layers.{before_itself, differs_is, tested_layer}
 
 abbrev pub layer_of : PlainSheet → Layer
 layer_of s = s.layer

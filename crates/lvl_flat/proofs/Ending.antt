@@ -16,11 +16,13 @@ use Rattle.lvl_flat.specs.declared.visit.Visit.{Visit}
 use Rattle.lvl_flat.specs.Drawn.{drawn_on, AreFiguresPlaced}
 use Rattle.lvl_flat.specs.Flattened.{IsFlattened, IsOutOfRange}
 use Rattle.lvl_flat.specs.Sheet.{PlainSheet}
-use Rattle.lvl_flat.specs.Sheets.{ComesBefore, AreSorted, IsInOrder, same_layer, rings_on, has_rings, is_filled}
+use Rattle.lvl_flat.specs.Sheets.{AreSorted, IsInOrder, rings_on, has_rings, is_filled}
+use Rattle.lvl_cells.specs.Layers.{ComesBefore, same_layer}
 use Rattle.lvl_flat.specs.Visits.{picks, visit_weight, VisitCovers, FitsUnder, PicksFit, IsVisit}
 use Rattle.lvl_flat.specs.Walking.{AllHaveSheets, IsWalking}
 use Rattle.lvl_flat.specs.Entering.{begun, IsDrawn, IsCellOut}
-use Rattle.lvl_flat.proofs.Orders.{sorted_tail, before_itself, rings_nowhere, tested_layer}
+use Rattle.lvl_flat.proofs.Orders.{sorted_tail, rings_nowhere}
+use Rattle.lvl_cells.proofs.Layers.{before_itself, tested_layer}
 use Rattle.lvl_grid.proofs.Anyone.{Any-nil, Any-head, Any-uncons}
 use Rattle.lvl_flat.proofs.Picks.{picks_from_start}
 use Rattle.lvl_flat.proofs.Ranging.{fits_under, image-unmoved}

@@ -14,8 +14,9 @@ use Rattle.std.proofs.lemmas.Option.{slice_get_within, get_or_from_slice_get}
 use Rattle.lvl_cells.specs.declared.layer.Layer.{Layer}
 use Rattle.lvl_cells.specs.Cells.{PlainCell, PlainShape, Rings}
 use Rattle.lvl_flat.specs.Sheet.{PlainSheet}
-use Rattle.lvl_flat.specs.Sheets.{ComesBefore, AreSorted, same_layer}
-use Rattle.lvl_flat.proofs.Orders.{tested_layer}
+use Rattle.lvl_flat.specs.Sheets.{AreSorted}
+use Rattle.lvl_cells.specs.Layers.{ComesBefore, same_layer}
+use Rattle.lvl_cells.proofs.Layers.{tested_layer}
 use Rattle.lvl_flat.specs.Walking.{AllHaveSheets}
 
 -- Layers are compared by the layer, then by the datatype

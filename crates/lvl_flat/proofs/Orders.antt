@@ -5,17 +5,9 @@ use Rattle.std.proofs.lemmas.Bool.{cases_lt}
 use Rattle.std.proofs.lemmas.List.Elements.{All-head, All-tail}
 use Rattle.lvl_cells.specs.declared.layer.Layer.{Layer}
 use Rattle.lvl_flat.specs.Sheet.{PlainSheet}
-use Rattle.lvl_flat.specs.Sheets.{ComesBefore, AreSorted, same_layer, rings_on}
-
-pub before_trans : (a b c : Layer) → ComesBefore a b → ComesBefore b c → ComesBefore a c
-before_trans a b c (inl h) (inl k) = inl (omega arith)
-before_trans a b c (inl h) (inr k) = inl (omega (arith, k.0))
-before_trans a b c (inr h) (inl k) = inl (omega (arith, h.0))
-before_trans a b c (inr h) (inr k) = inr (omega (arith, h.0, k.0), omega (arith, h.1, k.1))
-
-pub before_itself : (a : Layer) → ComesBefore a a → ⊥
-before_itself a (inl h) = omega arith
-before_itself a (inr h) = omega (arith, h.1)
+use Rattle.lvl_flat.specs.Sheets.{AreSorted, rings_on}
+use Rattle.lvl_cells.specs.Layers.{ComesBefore, same_layer}
+use Rattle.lvl_cells.proofs.Layers.{before_trans, before_itself, same_is, differs_is}
 
 -- a sheet comes before those behind it
 pub sorted_at : (sheets : List PlainSheet) (i j : ℕ) (s t : PlainSheet) → AreSorted sheets → slice_get sheets i ≡ Some s → slice_get sheets j ≡ Some t → i < j → ComesBefore s.layer t.layer
@@ -63,30 +55,6 @@ nowhere sheets layer low sorted below above other k d in' same =
                 other s (subst (λ (j : ℕ). slice_get sheets j ≡ Some s) here at) same
           ]
     ]
-
-pub layers_equal : (a b : Layer) → a.layer ≡ b.layer → a.datatype ≡ b.datatype → a ≡ b
-layers_equal a b e f = let of : (x y : ℕ) → Layer = λ x y. record { layer = x; datatype = y } in ap (λ x. of x a.datatype) e ∙ ap (of b.layer) f
-
--- what the two tests of a Layer say
-pub tested_layer : (a b : Layer) → not (a.layer == b.layer && (a.datatype == b.datatype)) ≡ false → a ≡ b
-tested_layer a b e = layers_equal a b (grind arith) (grind arith)
-
-pub other_layer : (a b : Layer) → not (a.layer == b.layer && (a.datatype == b.datatype)) ≡ true → a ≡ b → ⊥
-other_layer a b e same =
-    let one : a.layer ≡ b.layer = ap (λ (x : Layer). x.layer) same in
-    let two : a.datatype ≡ b.datatype = ap (λ (x : Layer). x.datatype) same in grind arith
-
-pub same_is : (a b : Layer) → a ≡ b → same_layer a b ≡ true
-same_is a b same =
-    let one : a.layer ≡ b.layer = ap (λ (x : Layer). x.layer) same in
-    let two : a.datatype ≡ b.datatype = ap (λ (x : Layer). x.datatype) same in grind arith
-
-pub differs_is : (a b : Layer) → (a ≡ b → ⊥) → same_layer a b ≡ false
-differs_is a b other =
-    elim (same_layer a b) as (λ t. same_layer a b ≡ t → same_layer a b ≡ false) [
-      | true ↦ λ e. absurd (other (tested_layer a b (ap not e)))
-      | false ↦ λ e. e
-    ] refl
 
 pub sorted_tail : (s : PlainSheet) (sheets : List PlainSheet) → AreSorted (s ∷ sheets) → AreSorted sheets
 sorted_tail s sheets sorted = λ i j d lt in'. sorted (suc i) (suc j) d (omega (arith, lt)) (omega (arith, in'))

@@ -20,7 +20,7 @@ use Rattle.lvl_cells.proofs.Summing.{count_step}
 use Rattle.lvl_flat.specs.declared.visit.Visit.{Visit}
 use Rattle.lvl_flat.specs.Drawn.{placed_ring, placed_figure, placed_shape, drawn_on}
 use Rattle.lvl_flat.specs.Sheet.{PlainSheet}
-use Rattle.lvl_flat.specs.Sheets.{same_layer}
+use Rattle.lvl_cells.specs.Layers.{same_layer}
 use Rattle.lvl_flat.specs.Visits.{Pick, picks, pending, pick_weight, visit_weight, PickCovers, VisitCovers, PicksFit, IsVisit}
 use Rattle.lvl_flat.specs.Walking.{IsWalking}
 use Rattle.lvl_flat.specs.Steps.{IsPast, IsInto}

@@ -8,7 +8,7 @@ use Rattle.lvl_grid.specs.Placed.{placed_point, IsPlaceOfCovered}
 use Rattle.lvl_grid.specs.Winding.{Covers}
 use Rattle.lvl_cells.specs.declared.layer.Layer.{Layer}
 use Rattle.lvl_cells.specs.Cells.{PlainShape, Rings}
-use Rattle.lvl_flat.specs.Sheets.{same_layer}
+use Rattle.lvl_cells.specs.Layers.{same_layer}
 
 -- a ring, moved by a shift and placed
 abbrev pub placed_ring : Map → Point → List Point → List Point

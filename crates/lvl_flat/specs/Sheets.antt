@@ -1,12 +1,9 @@
 -- Lists of sheets: which rings are on a Layer, and the order of the Layers.
-use Rattle.std.specs.Prelude.{◌≡◌, ◌≢◌, ◌<◌, ◌==◌, ◌&&◌, ◌⊎◌, ℕ, List, [], ◌∷◌, All, AllPairs, Bool, true, false, slice_get, Some, map, Contains, if◌then◌else◌}
+use Rattle.std.specs.Prelude.{◌≡◌, ◌≢◌, ℕ, List, [], ◌∷◌, All, AllPairs, Bool, true, false, slice_get, Some, map, Contains, if◌then◌else◌}
 use Rattle.lvl_cells.specs.declared.layer.Layer.{Layer}
 use Rattle.lvl_cells.specs.Cells.{PlainShape, Rings}
+use Rattle.lvl_cells.specs.Layers.{same_layer, ComesBefore}
 use Rattle.lvl_flat.specs.Sheet.{PlainSheet}
-
--- the Layers are one
-abbrev pub same_layer : Layer → Layer → Bool
-same_layer a b = (a.layer == b.layer) && (a.datatype == b.datatype)
 
 -- the rings on a Layer: none where no sheet is for it
 abbrev pub rings_on : Layer → List PlainSheet → Rings
@@ -20,10 +17,6 @@ has_rings (ring ∷ rings) = true
 
 abbrev pub is_filled : PlainSheet → Bool
 is_filled s = has_rings s.rings
-
--- Layers are ordered by the layer, then by the datatype
-abbrev pub ComesBefore : Layer → Layer → Type 0
-ComesBefore a b = (a.layer < b.layer) ⊎ ((a.layer ≡ b.layer) × (a.datatype < b.datatype))
 
 -- each sheet comes before those behind it
 abbrev pub AreSorted : List PlainSheet → Type 0

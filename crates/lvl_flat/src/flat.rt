@@ -1,8 +1,9 @@
 //! The rings of each Layer, in the order of the Layers.
 ghost use Rattle.std.specs.Prelude.{◌≡◌, ◌≢◌, ◌↔◌, filter, length, map, slice_get, All, IsTrue, IfOk, IfSome, IfNone};
-ghost use Rattle.lvl_flat.specs.Sheets.{rings_on, is_filled, IsInOrder, ComesBefore, AreSorted, SheetAt};
+ghost use Rattle.lvl_flat.specs.Sheets.{rings_on, is_filled, IsInOrder, AreSorted, SheetAt};
+ghost use Rattle.lvl_cells.specs.Layers.{ComesBefore};
 
-use lvl_cells::Layer;
+use lvl_cells::{Layer, comes_before};
 use lvl_grid::Rings;
 use std::alloc::{AllocError, Global};
 use std::marker::Model;
@@ -88,13 +89,6 @@ impl Flat {
             None => &self.none,
         }
     }
-}
-
-/// Whether the first Layer comes before the second: by the layer, then by the datatype.
-pub fn comes_before(first: Layer, second: Layer) -> bool
-    ensures { IsTrue result ↔ ComesBefore first second }
-{
-    first.layer < second.layer || (first.layer == second.layer && first.datatype < second.datatype)
 }
 
 /// The place of the Layer's sheet.

@@ -7,7 +7,7 @@
 
 pub use advance::flatten;
 pub use fault::FlatFault;
-pub use flat::{Flat, comes_before};
+pub use flat::Flat;
 
 mod advance;
 mod draw;

@@ -14,6 +14,7 @@ use Rattle.oasis_values.specs.Faults.{is_rule, is_read_fault, reader_failed}
 use Rattle.oasis_values.specs.Input.{input_offset, has_failed, input_reader, room_left}
 use Rattle.std.specs.Io.KnownBytes.{prepend_known}
 use Rattle.oasis_values.specs.Known.{Seen}
+use Rattle.oasis_values.specs.inside.Stopped.{HasStopped}
 use Rattle.oasis_values.specs.Reads.{Fails, Answers, bytes_had, Reads, Refutes}
 use Rattle.oasis_values.specs.declared.fault.ValueFault.{ValueFault}
 use Rattle.oasis_values.specs.declared.fault.ValueFault.TheVariants.{Truncated, TooLong, Read, Failed}
@@ -219,6 +220,25 @@ pub reads_seen_err : {R A B : Type 0} {remaining : R → Option (List ℕ)} {err
     {S : List ℕ → Result A ValueFault → Type 0} (g : A → B) {old new : Input R} {e : Refusal ValueFault}
     → Reads remaining errors lent S old new (Err e) → Reads remaining errors lent (Seen g S) old new (Err e)
 reads_seen_err g p = reads_err (λ y. Gives (Ok (g y))) (λ y. gives_said (Ok (g y))) p
+
+-- a value was read, and an allocation failed after it
+pub reads_stopped : {R A : Type 0} {remaining : R → Option (List ℕ)} {errors : R → ℕ} {lent : R → List GName}
+    {S : List ℕ → Result A ValueFault → Type 0} {old now new : Input R} {x : A}
+    → has_failed old ≡ false → Reads remaining errors lent S old now (Ok x) → HasStopped now new
+    → Reads remaining errors lent S old new (Err OutOfMemory)
+reads_stopped {remaining = remaining} {errors = errors} {lent = lent} {old = old} {now = now} {new = new} live p stop =
+    record {
+      again = λ h. absurd (let k : true ≡ false = sym h ∙ live in cc);
+      fresh = λ h k. cc;
+      answers = λ h xs k. tt;
+      left = λ xs k. ap (λ l. prepend_known l (remaining new.reader)) stop.ahead
+          ∙ ap (λ r. prepend_known now.ahead (remaining r)) stop.reader ∙ p.left xs k
+          ∙ ap (λ i. Some (drop (i - input_offset old) xs)) (sym stop.offset);
+      forward = omega (arith, p.forward, stop.offset);
+      failed = stop.failed;
+      counted = subst (λ r. CountsFailure (errors (input_reader old)) (errors r) false) (sym stop.reader) p.counted;
+      same = ap lent stop.reader ∙ p.same;
+    }
 
 -- a rule that was tested of what was read: it is breached
 pub reads_refused : {R A : Type 0} {remaining : R → Option (List ℕ)} {errors : R → ℕ} {lent : R → List GName}

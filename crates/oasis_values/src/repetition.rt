@@ -1,5 +1,5 @@
 //! Repetitions: the shifts at which a shape or a placement stands, as a lattice or as a list.
-ghost use Rattle.std.specs.Prelude.{◌≡◌, ◌<◌, ◌≤◌, ◌^◌, false, IfSome, vec_len, vec_capacity};
+ghost use Rattle.std.specs.Prelude.{◌≡◌, ◌<◌, ◌≤◌, ◌^◌, false, IfOk, IfSome, vec_len, vec_capacity};
 ghost use Rattle.oasis_values.specs.Known.{among};
 ghost use Rattle.oasis_values.specs.Repetitions.{kinds, line_size, matrix_size, list_size, modal};
 ghost use Rattle.oasis_values.specs.Repetitions.{stepped, moved, space, widened, lattice_in_range};
@@ -12,14 +12,14 @@ use lvl_cells::Offsets;
 use lvl_grid::Point;
 use lvl_io::Read;
 use lvl_refusal::Refusal;
-use std::alloc::Global;
+use std::alloc::{AllocError, Global};
 
 /// A repetition, as a record has it.
 #[derive(Debug, Drop)]
 pub enum Repetition {
     /// That of the record before. Nothing of it is copied.
     Modal,
-    /// These shifts.
+    /// These shifts. A list of them is one that its clones share.
     New(Offsets),
 }
 
@@ -182,12 +182,14 @@ fn lattice(a: Point, m: u64, b: Point, n: u64) -> Option<Offsets>
     Offsets::lattice(a, m, b, n)
 }
 
-// The shifts, of which the first is zero.
-fn listed(shifts: Vec<Point>) -> Offsets
+// The shifts, of which the first is zero, as a list that its clones share.
+fn listed(shifts: Vec<Point>) -> Result<Offsets, AllocError>
     requires { StartsAtZero shifts.items }
-    ensures { result ≡ shifts.items }
+    ensures { IfOk result (λ offsets. offsets ≡ shifts.items) }
 {
-    Offsets::new(shifts).unwrap()
+    let mut offsets = Offsets::new(shifts).unwrap();
+    offsets.share()?;
+    Ok(offsets)
 }
 
 impl<R: Read> Input<R> {
@@ -353,7 +355,11 @@ impl<R: Read> Input<R> {
             at = self.shift(spacing, grid, at)?;
             shifts.push_reserved(at);
         }
-        Ok(Repetition::New(listed(shifts)))
+        let Ok(places) = listed(shifts) else {
+            self.stop();
+            return Err(Refusal::OutOfMemory);
+        };
+        Ok(Repetition::New(places))
     }
 
     // A space.

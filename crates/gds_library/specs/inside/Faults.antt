@@ -2,13 +2,13 @@
 use Rattle.std.specs.Prelude.{◌≡◌, ◌≢◌, ℕ, ◌<◌, ◌≤◌, List, length, None}
 use Rattle.gds_elements.specs.Types.{header, units, bgnstr, strname}
 use Rattle.gds_elements.specs.Values.{name}
-use Rattle.gds_elements.specs.Rules.{IsName}
+use Rattle.lvl_cells.specs.Names.{IsName}
 use Rattle.gds_elements.specs.inside.Misplaced.{IsMisplacement}
 use Rattle.gds_elements.specs.declared.fault.ElementFault.{ElementFault}
 use Rattle.gds_elements.specs.declared.fault.ElementFault.TheVariants.{Misplaced as MisplacedInElement, Rule}
 use Rattle.lvl_refusal.specs.declared.Refusal.{Refusal}
 use Rattle.lvl_refusal.specs.declared.Refusal.TheVariants.{Breach, OutOfMemory}
-use Rattle.gds_library.specs.Rules.{cell_limit}
+use Rattle.lvl_cells.specs.Names.{cell_limit}
 use Rattle.gds_library.specs.inside.Place.{after}
 use Rattle.gds_library.specs.declared.fault.GdsKind.{GdsKind}
 use Rattle.gds_library.specs.declared.fault.GdsKind.TheVariants.{Misplaced, Element, Name, TooManyCells}

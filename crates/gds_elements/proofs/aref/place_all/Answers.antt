@@ -32,4 +32,4 @@ unwrap-requires c =
     let same : c.unwrap-shifts.result ≡ lattice c.in_ok-across.across m c.in_ok-up.up n =
     subst (λ (i : Option (List Point)). IfSome i (λ s. s ≡ lattice c.in_ok-across.across m c.in_ok-up.up n)) c.unwrap-shifts.ensures c.lattice.ensures.same in
     let is : c.unwrap-shifts.result ≡ lattice (step o p m) m (step o q n) n = same ∙ ap (λ (i : Point). lattice i m c.in_ok-up.up n) a.0 ∙ ap (λ (i : Point). lattice (step o p m) m i n) b.0 in
-    c.new.ensures.some.1 (subst (λ (s : List Point). All (λ e. FitsPoint (shifted o e)) s) (sym is) all)
+    c.new-2.ensures.some.1 (subst (λ (s : List Point). All (λ e. FitsPoint (shifted o e)) s) (sym is) all)

@@ -1,11 +1,13 @@
-use Rattle.std.proofs.Common.{◌≡◌, ◌∙◌, sym, ap, inl, inr}
+use Rattle.std.proofs.Common.{◌≡◌, ◌≢◌, ◌∙◌, length, sym, ap, subst, inl, inr}
 use Rattle.gds_elements.specs.Types.{xy, endel}
 use Rattle.lvl_grammar.specs.Order.{one}
 use Rattle.gds_elements.specs.inside.Reading.{record_of}
 use Rattle.gds_elements.specs.inside.Sref.{left}
 use Rattle.gds_elements.specs.declared.sref.Sref.{Sref}
 use Rattle.gds_elements.specs.declared.fault.ElementRule.TheVariants.{Points}
-use Rattle.gds_elements.proofs.Taking.{takes_broken, takes_one}
+use Rattle.gds_elements.specs.Rules.{ValueBreaches}
+use Rattle.gds_elements.specs.Values.{points}
+use Rattle.gds_elements.proofs.Taking.{takes_broken}
 use Rattle.gds_elements.specs.inside.Placing.{IsPlacingFault}
 use Rattle.gds_elements.proofs.Leads.{law_misplaced, leads_begins, left_behind, in_order}
 use Rattle.gds_elements.proofs.Allowed.{allowed, placing_fault, law_sref, placing_at_points}
@@ -49,5 +51,5 @@ returns-in_err-reference-in-Ends c = λ piece d h.
     let r = record_of c.args.kind d c.args.payload.now in
     let a = sym c.after.ensures ∙ c.in-Ends.is in
     let g = in_order piece r (left c.args.self.place) (one endel) h.leads (by_table c.args.self.place c.args.kind ∙ ap (left_behind left) a) in
-    let e = c.in_err-reference-in-Ends.ensures.refused in
-    takes_one piece r c.from_residual-in_err-reference-in-Ends.result c.in_err-reference-in-Ends.field-0.0 Points c.from_residual-in_err-reference-in-Ends.ensures g e.0 ((ends_by c.args.self.place c.args.kind a), inr (inr (inr (inl h.opened, e.1))))
+    takes_broken piece r c.from_residual-in_err-reference-in-Ends.result c.in_err-reference-in-Ends.field-0.0 (λ k. (k ≡ Points) × (length (points c.args.payload.now) ≢ 1)) c.from_residual-in_err-reference-in-Ends.ensures g
+    (λ k b. subst (ValueBreaches piece r) (sym b.0) (ends_by c.args.self.place c.args.kind a, inr (inr (inr (inl h.opened, b.1))))) c.in_err-reference-in-Ends.ensures.refused

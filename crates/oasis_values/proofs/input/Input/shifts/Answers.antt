@@ -1,8 +1,8 @@
-use Rattle.std.proofs.Common.{◌≡◌, ◌+◌, ◌-◌, suc, [], ◌∷◌, ◌++◌, sym, ap, ◌∙◌, arith}
+use Rattle.std.proofs.Common.{◌≡◌, ◌+◌, ◌-◌, suc, [], ◌∷◌, ◌++◌, refl, sym, ap, ◌∙◌, arith}
 use Rattle.std.proofs.lemmas.Result.{err_from_is_err_and}
 use Rattle.oasis_values.specs.PointLists.{origin}
 use Rattle.oasis_values.specs.Repetitions.{IsShift}
-use Rattle.oasis_values.proofs.Reading.{reads_seen_as, reads_seen_err}
+use Rattle.oasis_values.proofs.Reading.{reads_seen_as, reads_seen_err, reads_stopped}
 use Rattle.oasis_values.proofs.Places.{shift_said, after_origin, starts_at_zero}
 use Rattle.oasis_values.proofs.Loops.{going_from, going_on, going_err, going_end}
 use Rattle.oasis_values.specs.declared.repetition.Repetition.TheVariants.{New}
@@ -44,9 +44,16 @@ listed-requires g c = starts_at_zero c.loop-n.shifts.items c.loop-n.invariant.0 
 
 pub returns : goal.returns
 returns g c =
-    let is : after_origin c.loop-n.invariant.0 ≡ New c.listed.result =
-    ap New (sym c.loop-n.invariant.2) ∙ ap New (sym c.listed.ensures) in
+    let is : after_origin c.loop-n.invariant.0 ≡ New c.in-Ok-listed.places =
+    ap New (sym c.loop-n.invariant.2) ∙ ap New (sym c.in-Ok-listed.ensures) in
     record {
       reads = reads_seen_as after_origin (going_end c.loop-n.invariant.1 (omega (arith, c.loop-n-test.false)))
           is;
     }
+
+pub returns-in_default-listed : goal.returns-in_default-listed
+returns-in_default-listed g c = record {
+  reads = reads_stopped c.requires.live
+      (reads_seen_as after_origin (going_end c.loop-n.invariant.1 (omega (arith, c.loop-n-test.false))) refl)
+      c.stop-in_default-listed.ensures;
+}
