@@ -14,18 +14,14 @@ pub record PlainDrawing (F : Type 0) : Type 0 where
   pub shapes : List (PlainShape F)
   pub placements : List Placed
 
--- what records draw up to the next CELL, each after those before it, the latest of which come first
-abbrev pub shapes_from : List Record → List Record → List (PlainShape Figure)
-shapes_from earlier [] = []
-shapes_from earlier (r ∷ rs) = if is_cell r then [] else shapes_of earlier r ++ shapes_from (r ∷ earlier) rs
-
-abbrev pub placements_from : List Record → List Record → List Placed
-placements_from earlier [] = []
-placements_from earlier (r ∷ rs) = if is_cell r then [] else placements_of earlier r ++ placements_from (r ∷ earlier) rs
+-- what records give up to the next CELL, by what each gives after those before it, the latest of which come first
+abbrev pub to_next_cell : {A : Type 0} → (List Record → Record → List A) → List Record → List Record → List A
+to_next_cell f earlier [] = []
+to_next_cell f earlier (r ∷ rs) = if is_cell r then [] else f earlier r ++ to_next_cell f (r ∷ earlier) rs
 
 -- the cell that is opened before these records
 abbrev pub drawing : List Record → CellRef → PlainDrawing Figure
-drawing rs name = record { name = name; shapes = shapes_from [] rs; placements = placements_from [] rs }
+drawing rs name = record { name = name; shapes = to_next_cell shapes_of [] rs; placements = to_next_cell placements_of [] rs }
 
 -- a file has a cell for each CELL, in file order
 abbrev pub drawings : List Record → List (PlainDrawing Figure)

@@ -1,4 +1,5 @@
 pub mod Kept
 pub mod Taken
+pub mod Answers
 pub mod Holds
 pub mod Refuses

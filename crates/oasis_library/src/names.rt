@@ -3,13 +3,14 @@ ghost use Rattle.std.specs.Prelude.{◌≡◌, [], ◌∷◌, ◌++◌, List, If
 ghost use Rattle.lvl_refusal.specs.Refused.{Says};
 ghost use Rattle.oasis_records.specs.declared.cell.CellName.{CellName as Given};
 ghost use Rattle.oasis_stream.specs.Names.{name_of};
-ghost use Rattle.oasis_stream.specs.Rules.{NameBreaches};
+ghost use Rattle.oasis_stream.specs.Order.{name_in};
+ghost use Rattle.oasis_stream.specs.Rules.{NameBreaches, NamingBreaches};
 ghost use Rattle.oasis_stream.specs.declared.fault.NameRule.{NameRule as Rule};
 ghost use Rattle.oasis_library.specs.inside.Holds.{HoldsNames};
 
 use lvl_cells::Name;
 use lvl_refusal::Refusal;
-use oasis_records::CellName;
+use oasis_records::{CellName, Record};
 use oasis_stream::NameRule;
 use std::alloc::Global;
 use std::collections::{BTreeMap, BTreeSet};
@@ -39,24 +40,40 @@ impl Names {
         self.by_number.get(&number)
     }
 
-    /// Adds a name. Its number is tested before the name itself.
-    pub(crate) fn add(&mut self, alloc: Global, given: CellName) -> Result<(), Refusal<NameRule>>
+    /// Adds the name that the record gives, if it gives one.
+    pub(crate) fn take(&mut self, alloc: Global, taken: &Record) -> Result<(), Refusal<NameRule>>
         ensures refused { IfErr result (λ e. Says e (λ rule.
-            (names : List Given) → HoldsNames self.old names → NameBreaches names given rule)) }
-        ensures kept { OnOk result
-            ((names : List Given) → HoldsNames self.old names → HoldsNames self.new (names ++ given ∷ [])) }
+            (names : List Given) → HoldsNames self.old names → NamingBreaches names taken.now rule)) }
+        ensures kept { OnOk result ((names : List Given) → HoldsNames self.old names
+            → HoldsNames self.new (names ++ name_in taken.now)) }
         ensures none { OnOk result ((names : List Given) → HoldsNames self.old names
-            → (rule : Rule) → ¬ NameBreaches names given rule) }
+            → (rule : Rule) → ¬ NamingBreaches names taken.now rule) }
+    {
+        match taken {
+            Record::CellName(given) => self.add(alloc, given),
+            _ => Ok(()),
+        }
+    }
+
+    // Adds a name. Its number is tested before the name itself.
+    fn add(&mut self, alloc: Global, given: &CellName) -> Result<(), Refusal<NameRule>>
+        ensures refused { IfErr result (λ e. Says e (λ rule.
+            (names : List Given) → HoldsNames self.old names → NameBreaches names given.now rule)) }
+        ensures kept { OnOk result
+            ((names : List Given) → HoldsNames self.old names → HoldsNames self.new (names ++ given.now ∷ [])) }
+        ensures none { OnOk result ((names : List Given) → HoldsNames self.old names
+            → (rule : Rule) → ¬ NameBreaches names given.now rule) }
     {
         let number = given.number.unwrap_or(self.by_number.len() as u64);
         if self.by_number.contains_key(&number) {
             return Err(Refusal::Breach(NameRule::NumberTwice));
         }
-        let bytes = given.name.into_bytes();
-        if !self.seen.insert(Vec::from_slice(alloc, &bytes)?)? {
+        let bytes = given.name.as_bytes();
+        let is_new = self.seen.insert(Vec::from_slice(alloc, bytes)?)?;
+        if !is_new {
             return Err(Refusal::Breach(NameRule::NameTwice));
         }
-        let name = Name::new(bytes)?;
+        let name = Name::new(Vec::from_slice(alloc, bytes)?)?;
         self.by_number.insert(number, name)?;
         Ok(())
     }

@@ -23,10 +23,10 @@ expected_later (r ∷ rs) t h = refl
 
 -- what one record more adds
 
-flat_map-snoc : {A B : Type 0} (f : A → List B) (xs : List A) (x : A) → flat_map f (xs ++ x ∷ []) ≡ flat_map f xs ++ f x
+pub flat_map-snoc : {A B : Type 0} (f : A → List B) (xs : List A) (x : A) → flat_map f (xs ++ x ∷ []) ≡ flat_map f xs ++ f x
 flat_map-snoc f xs x = sym (flat_map_more f [] xs x)
 
-last_or-append : {A : Type 0} (d : A) (xs ys : List A) → last_or d (xs ++ ys) ≡ last_or (last_or d xs) ys
+pub last_or-append : {A : Type 0} (d : A) (xs ys : List A) → last_or d (xs ++ ys) ≡ last_or (last_or d xs) ys
 last_or-append d [] ys = refl
 last_or-append d (x ∷ xs) ys = last_or-append x xs ys
 

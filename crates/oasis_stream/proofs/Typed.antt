@@ -1,5 +1,5 @@
 -- The next record is read by its id, and then by its type.
-use Rattle.std.proofs.Common.{◌≡◌, ℕ, Bool, true, false, if◌then◌else◌, not, ◌&&◌, nat_lt, length, List, Result, Ok, Err, refl, sym, subst}
+use Rattle.std.proofs.Common.{◌≡◌, ℕ, Bool, true, false, if◌then◌else◌, not, ◌&&◌, nat_lt, length, List, [], Result, Ok, Err, refl, sym, subst}
 use Rattle.std.specs.Prelude.{Option}
 use Rattle.std.specs.Borrow.{GName}
 use Rattle.lvl_refusal.specs.declared.Refusal.{Refusal}
@@ -11,7 +11,8 @@ use Rattle.oasis_values.specs.declared.fault.ValueFault.{ValueFault}
 use Rattle.oasis_values.specs.declared.input.Input.{Input}
 use Rattle.oasis_values.proofs.Reading.{reads_err, reads_then, reads_nothing, reads_seen, reads_seen_err}
 use Rattle.oasis_records.specs.Records.{record_type}
-use Rattle.oasis_records.specs.Rules.{told}
+use Rattle.oasis_records.specs.Magic.{IsMagic}
+use Rattle.oasis_records.specs.Rules.{told, told_breach}
 use Rattle.oasis_records.specs.Sizes.{Sized}
 use Rattle.oasis_records.specs.declared.fault.RecordFault.{RecordFault}
 use Rattle.oasis_records.specs.declared.fault.RecordFault.TheVariants.{Value, Rule}
@@ -21,8 +22,8 @@ use Rattle.oasis_records.specs.declared.record.Record.{Record}
 use Rattle.oasis_records.specs.declared.record_type.RecordType.{RecordType}
 use Rattle.oasis_stream.specs.Items.{Item}
 use Rattle.oasis_stream.specs.Order.{cell_limit, at_end, cells_in, opens_cell, mixes, is_expected, allowed, type_after}
-use Rattle.oasis_stream.specs.Front.{of_record, IsTyped, IsNext}
-use Rattle.oasis_stream.specs.Told.{of_kind, told_record, of_fault}
+use Rattle.oasis_stream.specs.Front.{of_magic, of_record, IsTyped, IsNext, IsItem}
+use Rattle.oasis_stream.specs.Told.{of_kind, told_record, of_fault, told_magic, of_magic_fault}
 use Rattle.oasis_stream.specs.declared.fault.NameRule.TheVariants.{Mixed}
 use Rattle.oasis_stream.specs.declared.fault.OasisKind.{OasisKind}
 use Rattle.oasis_stream.specs.declared.fault.OasisKind.TheVariants.{Unexpected, Name, TooManyCells}
@@ -75,3 +76,10 @@ pub next_typed : {R : Type 0} {remaining : R → Option (List ℕ)} {errors : R 
 next_typed {remaining = remaining} {errors = errors} {lent = lent} rs {mid = mid} {new = new} id t b {r = r} e h p q =
     let here : Reads remaining errors lent (IsTyped (at_end rs) id.len (Ok t)) mid new r = subst (λ i. Reads remaining errors lent (IsTyped i id.len (Ok t)) mid new r) h q in
     reads_then (λ i. IsTyped (at_end rs) i.len (type_after rs i.value)) p (subst (λ i. Reads remaining errors lent (IsTyped (at_end rs) id.len i) mid new r) (sym e) here)
+
+-- the magic string that was read, as an item of the file
+pub reads_first : {R : Type 0} {remaining : R → Option (List ℕ)} {errors : R → ℕ} {lent : R → List GName} {old new : Input R} (r : Result (Unit {0}) RecordFault)
+    → Reads remaining errors lent IsMagic old new (told_breach r) → Reads remaining errors lent (IsItem []) old new (told_magic (of_magic_fault r))
+reads_first (Ok u) p = reads_seen of_magic p
+reads_first (Err (Value f)) p = reads_seen_err of_magic p
+reads_first (Err (Rule k)) p = reads_seen of_magic p

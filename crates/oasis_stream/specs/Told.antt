@@ -6,7 +6,7 @@ use Rattle.oasis_values.specs.declared.fault.ValueFault.{ValueFault}
 use Rattle.oasis_records.specs.declared.fault.RecordFault.{RecordFault}
 use Rattle.oasis_records.specs.declared.fault.RecordFault.TheVariants.{Value as OfValue, Rule}
 use Rattle.oasis_records.specs.declared.record.Record.{Record}
-use Rattle.oasis_stream.specs.Items.{Item, item}
+use Rattle.oasis_stream.specs.Items.{Item, magic, item}
 use Rattle.oasis_stream.specs.declared.fault.OasisKind.{OasisKind}
 use Rattle.oasis_stream.specs.declared.fault.OasisKind.TheVariants.{Value, Record as OfRecord}
 
@@ -30,3 +30,12 @@ abbrev pub of_fault : Result Record (Refusal RecordFault) → Result Record (Ref
 of_fault (Ok r) = Ok r
 of_fault (Err OutOfMemory) = Err OutOfMemory
 of_fault (Err (Breach f)) = Err (Breach (kind_of f))
+
+-- what a call answered that reads the magic string
+abbrev pub told_magic : Result (Unit {0}) OasisKind → Result (Result Item OasisKind) (Refusal ValueFault)
+told_magic (Ok u) = Ok (Ok magic)
+told_magic (Err k) = of_kind k
+
+abbrev pub of_magic_fault : Result (Unit {0}) RecordFault → Result (Unit {0}) OasisKind
+of_magic_fault (Ok u) = Ok u
+of_magic_fault (Err f) = Err (kind_of f)

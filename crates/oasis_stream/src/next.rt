@@ -1,17 +1,17 @@
-//! The next record of a file, by its id.
-ghost use Rattle.std.specs.Prelude.{◌≡◌, List, Ok, false};
+//! The magic string, and the next record of a file, by its id.
+ghost use Rattle.std.specs.Prelude.{◌≡◌, List, [], Ok, false};
 ghost use Rattle.oasis_values.specs.Input.{has_failed};
 ghost use Rattle.oasis_values.specs.Reads.{Reads};
 ghost use Rattle.oasis_records.specs.declared.record.Record.{Record as Item};
-ghost use Rattle.oasis_stream.specs.Front.{IsTyped, IsNext};
-ghost use Rattle.oasis_stream.specs.Told.{told_record, of_fault};
+ghost use Rattle.oasis_stream.specs.Front.{IsTyped, IsNext, IsItem};
+ghost use Rattle.oasis_stream.specs.Told.{told_record, of_fault, told_magic, of_magic_fault};
 ghost use Rattle.oasis_stream.specs.inside.Reached.{HasReached};
 
 use crate::fault::OasisKind;
 use crate::order::Order;
 use lvl_io::Read;
 use lvl_refusal::Refusal;
-use oasis_records::{Record, RecordFault, RecordType, read_fields, read_id};
+use oasis_records::{Record, RecordFault, RecordType, read_fields, read_id, read_magic};
 use oasis_values::Input;
 use std::alloc::Global;
 
@@ -63,4 +63,22 @@ pub fn read_next<R: Read>(
         Ok(kind) => read_typed(input, alloc, kind, id.len, order.has_offsets_at_end()),
         Err(kind) => Err(Refusal::Breach(kind)),
     }
+}
+
+// The same answer, where a fault is one of the file's.
+fn of_magic(answer: Result<(), RecordFault>) -> Result<(), OasisKind>
+    ensures { result ≡ of_magic_fault answer }
+{
+    match answer {
+        Ok(()) => Ok(()),
+        Err(RecordFault::Value(fault)) => Err(OasisKind::Value(fault)),
+        Err(RecordFault::Rule(rule)) => Err(OasisKind::Record(rule)),
+    }
+}
+
+/// The magic string, which a file begins with.
+pub fn read_first<R: Read>(input: &mut Input<R>) -> Result<(), OasisKind>
+    ensures reads { Reads R.remaining R.read_errors R.lent (IsItem []) input.old input.new (told_magic result) }
+{
+    of_magic(read_magic(input))
 }

@@ -1,0 +1,5 @@
+pub mod Growing
+pub mod Naming
+pub mod Resolving
+pub mod Holding
+pub mod Readable
