@@ -1,6 +1,5 @@
-pub mod Items
-pub mod Reached
-pub mod Instance
-pub mod Typed
-pub mod Only
-pub mod Steps
+pub mod Growing
+pub mod Naming
+pub mod Resolving
+pub mod Holding
+pub mod Readable

@@ -3,26 +3,21 @@ use Rattle.std.specs.Prelude.{ℕ, Bool, false, List, Result, Ok, Err}
 use Rattle.lvl_refusal.specs.declared.Refusal.{Refusal}
 use Rattle.lvl_refusal.specs.declared.Refusal.TheVariants.{Breach, OutOfMemory}
 use Rattle.lvl_grammar.specs.Front.{SpellsWhole}
-use Rattle.lvl_grammar.specs.Refused.{IsFrontAt, IsStuck, IsBreached, IsTruncated}
-use Rattle.oasis_values.specs.Faults.{is_read_fault}
 use Rattle.oasis_values.specs.declared.fault.ValueFault.TheVariants.{Truncated, Read}
-use Rattle.oasis_library.specs.Items.{Item, records}
-use Rattle.oasis_library.specs.Front.{oasis}
-use Rattle.oasis_library.specs.Names.{IsUnresolved}
+use Rattle.oasis_stream.specs.Ends.{TellsAt, is_read_kind}
+use Rattle.oasis_stream.specs.Front.{oasis}
+use Rattle.oasis_stream.specs.Items.{Item, records}
+use Rattle.oasis_stream.specs.Order.{names_in}
+use Rattle.oasis_stream.specs.declared.fault.OasisKind.TheVariants.{Value}
+use Rattle.oasis_library.specs.Cells.{drawings}
+use Rattle.oasis_library.specs.Names.{numbers_used, IsUnnamed}
 use Rattle.oasis_library.specs.declared.fault.OasisFault.{OasisFault}
 use Rattle.oasis_library.specs.declared.fault.OasisFault.TheVariants.{At, Unresolved}
-use Rattle.oasis_library.specs.declared.fault.OasisKind.{OasisKind}
-use Rattle.oasis_library.specs.declared.fault.OasisKind.TheVariants.{Value}
 
--- the bytes before the offset are a front, and why none goes on there
-abbrev pub TellsAt : List ℕ → ℕ → OasisKind → Type 0
-TellsAt xs at (Value Truncated) = IsTruncated oasis xs at
-TellsAt xs at (Value Read) = IsFrontAt oasis xs at
-TellsAt xs at k = IsStuck oasis xs at × IsBreached oasis xs at k
-
--- the bytes are a whole file, and of the numbers used this is the first that no name has
+-- the bytes are a whole file, and of the numbers that its cells use this is the first that no name has
 abbrev pub TellsUnresolved : List ℕ → ℕ → Type 0
-TellsUnresolved xs n = (is : List Item) × SpellsWhole oasis xs is × IsUnresolved (records is) n
+TellsUnresolved xs n =
+    (is : List Item) × SpellsWhole oasis xs is × IsUnnamed (names_in (records is)) (numbers_used (drawings (records is))) n
 
 abbrev pub Tells : List ℕ → OasisFault → Type 0
 Tells xs (At at k) = TellsAt xs at k
@@ -41,10 +36,6 @@ IsEarly (At at k) = Unit {0}
 IsEarly (Unresolved n) = ⊥
 
 -- whether the fault is that the reader failed
-abbrev pub is_read_kind : OasisKind → Bool
-is_read_kind (Value f) = is_read_fault f
-is_read_kind k = false
-
 abbrev pub is_read_error : OasisFault → Bool
 is_read_error (At at k) = is_read_kind k
 is_read_error (Unresolved n) = false

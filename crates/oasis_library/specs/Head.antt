@@ -6,7 +6,7 @@ use Rattle.oasis_records.specs.declared.end.Validation.{Validation}
 use Rattle.oasis_records.specs.declared.end.Validation.TheVariants.{Absent, Crc32, Checksum32}
 use Rattle.oasis_records.specs.declared.record.Record.{Record}
 use Rattle.oasis_records.specs.declared.record.Record.TheVariants.{Start, End}
-use Rattle.oasis_library.specs.Order.{last_or}
+use Rattle.oasis_stream.specs.Order.{last_or}
 use Rattle.oasis_library.specs.declared.head.OasisHead.{OasisHead}
 
 abbrev pub head_with : Real → ℕ → List ℕ → OasisHead

@@ -1,9 +1,6 @@
-pub mod Items
-pub mod Order
+pub mod Cells
 pub mod Head
 pub mod Names
-pub mod Rules
-pub mod Front
-pub mod Told
+pub mod Library
 pub mod Ends
 pub mod inside

@@ -1,47 +1,49 @@
--- Names by number (SEMI P39 OASIS 1.0, "CELLNAME record"): which numbers names have, and which numbers are used.
-use Rattle.std.specs.Prelude.{◌≡◌, ℕ, ◌⊎◌, List, [], ◌∷◌, ◌++◌, length, flat_map, All, Option, Some, None}
+-- Cells by their names, where numbers are replaced by names.
+use Rattle.std.specs.Prelude.{◌≡◌, ℕ, List, [], ◌∷◌, ◌++◌, flat_map, All, Some, None, IsSome}
+use Rattle.std.specs.List.{AllZip}
+use Rattle.lvl_cells.specs.Cells.{PlainCell, PlainReference}
 use Rattle.oasis_records.specs.declared.cell.CellName.{CellName}
 use Rattle.oasis_records.specs.declared.cell.CellRef.{CellRef}
 use Rattle.oasis_records.specs.declared.cell.CellRef.TheVariants.{Number, Name}
-use Rattle.oasis_records.specs.declared.record.Record.{Record}
-use Rattle.oasis_records.specs.declared.record.Record.TheVariants.{Cell, Placement}
-use Rattle.oasis_library.specs.Order.{names_in}
+use Rattle.oasis_figures.specs.Figures.{Placed}
+use Rattle.oasis_stream.specs.Names.{name_of, meant}
+use Rattle.oasis_library.specs.Cells.{PlainDrawing}
 
--- a name with a number of its own has that; the others are numbered by their places, from 0
-pub record HasNumber (names : List CellName) (c : CellName) (n : ℕ) : Type 0 where
-  pub before : List CellName
-  pub after : List CellName
-  pub place : names ≡ before ++ c ∷ after
-  pub number : (c.number ≡ Some n) ⊎ ((c.number ≡ None) × (n ≡ length before))
+-- the reference is to the cell that is placed, by the name that is meant
+pub record IsReference (names : List CellName) (p : Placed) (r : PlainReference) : Type 0 where
+  pub cell : meant names p.cell ≡ Some r.cell
+  pub flip : r.flip ≡ p.flip
+  pub turn : r.turn ≡ p.turn
+  pub at : r.at ≡ p.at
+  pub shifts : r.shifts ≡ p.shifts
 
--- some name of the records has the number
-pub record IsNamed (rs : List Record) (n : ℕ) : Type 0 where
-  pub cell_name : CellName
-  pub has : HasNumber (names_in rs) cell_name n
+-- the cell is the one that is drawn, by the names that are meant
+pub record IsCell {F : Type 0} (names : List CellName) (d : PlainDrawing F) (c : PlainCell F) : Type 0 where
+  pub name : meant names d.name ≡ Some c.name
+  pub shapes : c.shapes ≡ d.shapes
+  pub references : AllZip (IsReference names) d.placements c.references
 
--- the name that is meant by a number, or by itself
-abbrev pub Means : List Record → CellRef → List ℕ → Type 0
-Means rs (Number n) name = (c : CellName) × HasNumber (names_in rs) c n × (c.name ≡ name)
-Means rs (Name s) name = s ≡ name
+abbrev pub AreCells : {F : Type 0} → List CellName → List (PlainDrawing F) → List (PlainCell F) → Type 0
+AreCells names ds cs = AllZip (IsCell names) ds cs
 
--- the number that is used, if there is one
+-- the numbers that are used, in file order
 abbrev pub number_in : CellRef → List ℕ
 number_in (Number n) = n ∷ []
 number_in (Name s) = []
 
-abbrev pub number_if : Option CellRef → List ℕ
-number_if (Some c) = number_in c
-number_if None = []
+abbrev pub numbers_in : {F : Type 0} → PlainDrawing F → List ℕ
+numbers_in d = number_in d.name ++ flat_map (λ p. number_in p.cell) d.placements
 
-abbrev pub uses : Record → List ℕ
-uses (Cell c) = number_in c
-uses (Placement p) = number_if p.cell
-uses r = []
+abbrev pub numbers_used : {F : Type 0} → List (PlainDrawing F) → List ℕ
+numbers_used ds = flat_map numbers_in ds
 
--- the number is the first, in file order, that is used and that no name has
-pub record IsUnresolved (rs : List Record) (n : ℕ) : Type 0 where
+abbrev pub IsNamed : List CellName → ℕ → Type 0
+IsNamed names n = IsSome (name_of names n)
+
+-- of numbers it is the first that no name has
+pub record IsUnnamed (names : List CellName) (used : List ℕ) (n : ℕ) : Type 0 where
   pub before : List ℕ
   pub after : List ℕ
-  pub used : flat_map uses rs ≡ before ++ n ∷ after
-  pub named : All (IsNamed rs) before
-  pub unnamed : ¬ IsNamed rs n
+  pub there : used ≡ before ++ n ∷ after
+  pub named : All (IsNamed names) before
+  pub unnamed : name_of names n ≡ None

@@ -1,1 +1,5 @@
-pub mod Reached
+pub mod Kept
+pub mod Taken
+pub mod Answers
+pub mod Holds
+pub mod Refuses

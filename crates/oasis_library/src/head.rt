@@ -1,8 +1,11 @@
 //! What a file says of itself.
 ghost use Rattle.std.specs.Prelude.{◌≡◌};
-ghost use Rattle.oasis_library.specs.Head.{head};
+ghost use Rattle.oasis_values.specs.declared.number.Real.TheVariants.{Whole};
+ghost use Rattle.oasis_records.specs.declared.end.Validation.TheVariants.{Absent};
+ghost use Rattle.oasis_stream.specs.Order.{last_or};
+ghost use Rattle.oasis_library.specs.Head.{head, unit_in, validation_in};
 
-use oasis_records::Validation;
+use oasis_records::{Record, Validation};
 use oasis_values::Real;
 
 /// The unit of START, and how END says that the file may be validated (SEMI P39, "START record", "END
@@ -17,25 +20,58 @@ pub struct OasisHead {
     pub signature: [u8; 4],
 }
 
-/// The head, by the unit of START and the validation of END.
-pub(crate) fn head(unit: Real, validation: Validation) -> OasisHead
-    ensures { result ≡ head unit validation }
-{
-    match validation {
-        Validation::Absent => OasisHead {
-            unit,
-            scheme: 0,
-            signature: [0; 4],
-        },
-        Validation::Crc32(signature) => OasisHead {
-            unit,
-            scheme: 1,
-            signature,
-        },
-        Validation::Checksum32(signature) => OasisHead {
-            unit,
-            scheme: 2,
-            signature,
-        },
+/// What START and END said so far.
+#[derive(Clone, Copy, Debug, Drop)]
+pub(crate) struct HeadRecords {
+    unit: Real,
+    validation: Validation,
+}
+
+impl HeadRecords {
+    /// Neither was read.
+    pub(crate) fn new() -> HeadRecords
+        ensures unit { result.unit ≡ Whole 0 }
+        ensures validation { result.validation ≡ Absent }
+    {
+        HeadRecords {
+            unit: Real::Whole(0),
+            validation: Validation::Absent,
+        }
+    }
+
+    /// Goes on after that record.
+    pub(crate) fn pass(&mut self, taken: &Record)
+        ensures unit { self.new.unit ≡ last_or self.old.unit (unit_in taken.now) }
+        ensures validation { self.new.validation ≡ last_or self.old.validation (validation_in taken.now) }
+    {
+        match taken {
+            Record::Start(start) => self.unit = start.unit,
+            Record::End(validation) => self.validation = *validation,
+            _ => {}
+        }
+    }
+
+    /// The head of the file.
+    pub(crate) fn head(&self) -> OasisHead
+        ensures { result ≡ head self.now.unit self.now.validation }
+    {
+        let unit = self.unit;
+        match self.validation {
+            Validation::Absent => OasisHead {
+                unit,
+                scheme: 0,
+                signature: [0; 4],
+            },
+            Validation::Crc32(signature) => OasisHead {
+                unit,
+                scheme: 1,
+                signature,
+            },
+            Validation::Checksum32(signature) => OasisHead {
+                unit,
+                scheme: 2,
+                signature,
+            },
+        }
     }
 }

@@ -1,16 +1,24 @@
 //! Libraries read from OASIS files (SEMI P39 OASIS 1.0).
 //!
-//! A file is the magic string, a START record, records, and an END record. `specs/Front.antt` says
-//! which bytes are the beginning of a file, as a grammar of streams, and `specs/Names.antt` which
-//! name a number means.
+//! [`read_oasis`] reads a file record by record: [`oasis_stream`] says which records may come and
+//! [`oasis_figures`] what each of them draws; here they are put together to cells, and the numbers of
+//! cells are replaced by their names once the file is read.
 #![tactic(auto)]
 
-pub use fault::{NameRule, OasisFault, OasisKind};
+pub use fault::OasisFault;
 pub use head::OasisHead;
+pub use oasis_figures::{FigureRule, Variable};
 pub use oasis_records::RecordRule;
-pub use oasis_values::ValueFault;
+pub use oasis_stream::{NameRule, OasisKind};
+pub use oasis_values::{Real, ValueFault};
+pub use read::read_oasis;
 
+mod cells;
+mod drawing;
 mod fault;
 mod head;
-mod next;
-mod order;
+mod names;
+mod placement;
+mod read;
+mod reading;
+mod resolve;

@@ -1,0 +1,121 @@
+-- What a whole reading and a refusal say of every reading.
+use Rattle.std.proofs.Common.{◌≡◌, ℕ, List, sym, ap, ◌∙◌, subst, Result, Ok, Err, IfErr, map}
+use Rattle.std.specs.Prelude.{Option}
+use Rattle.lvl_refusal.specs.Refused.{Says}
+use Rattle.lvl_refusal.specs.declared.Refusal.{Refusal}
+use Rattle.lvl_refusal.specs.declared.Refusal.TheVariants.{Breach, OutOfMemory}
+use Rattle.lvl_grammar.specs.Front.{SpellsNothing, SpellsWhole}
+use Rattle.lvl_grammar.specs.Refused.{IsHopeless}
+use Rattle.lvl_grammar.proofs.Laws.{one_whole}
+use Rattle.lvl_grammar.proofs.Stuck.{seen_stuck, seen_hopeless, stuck_none, truncated_none}
+use Rattle.lvl_path.specs.Figure.{Figure}
+use Rattle.lvl_cells.specs.Cells.{PlainCell, Rings}
+use Rattle.oasis_values.specs.declared.fault.ValueFault.TheVariants.{Truncated, Read}
+use Rattle.oasis_stream.specs.Ends.{TellsAt}
+use Rattle.oasis_stream.specs.Front.{oasis}
+use Rattle.oasis_stream.specs.Items.{Item, records}
+use Rattle.oasis_stream.specs.Order.{names_in}
+use Rattle.oasis_stream.specs.inside.Refuses.{RefusesAt}
+use Rattle.oasis_stream.specs.declared.fault.OasisKind.{OasisKind}
+use Rattle.oasis_stream.specs.declared.fault.OasisKind.TheVariants.{Value}
+use Rattle.oasis_stream.proofs.Instance.{is_grammar}
+use Rattle.oasis_library.specs.Cells.{drawings, with_rings}
+use Rattle.oasis_library.specs.Ends.{Tells, TellsUnresolved, IsExcused, IsEarly}
+use Rattle.oasis_library.specs.Head.{head_of}
+use Rattle.oasis_library.specs.Library.{SpellsLibrary, SpellsNone, IsRead}
+use Rattle.oasis_library.specs.Names.{AreCells, numbers_used, IsUnnamed}
+use Rattle.oasis_library.specs.inside.Refuses.{Refuses}
+use Rattle.oasis_library.specs.declared.fault.OasisFault.{OasisFault}
+use Rattle.oasis_library.specs.declared.fault.OasisFault.TheVariants.{At, Unresolved}
+use Rattle.oasis_library.specs.declared.head.OasisHead.{OasisHead}
+use Rattle.oasis_library.proofs.Resolving.{cells_named, unnamed_none, same_cells, kept_cells, numbers_kept}
+
+same_items : (xs : List ℕ) (is js : List Item) → SpellsWhole oasis xs is → SpellsWhole oasis xs js → is ≡ js
+same_items xs is js p q = one_whole oasis is_grammar xs is js p q
+
+-- bytes spell one library at most
+law_only : (xs : List ℕ) (cells ds : List (PlainCell Figure)) (h g : OasisHead) → SpellsLibrary xs cells h
+    → SpellsLibrary xs ds g → (ds ≡ cells) × (g ≡ h)
+law_only xs cells ds h g p q =
+    let e = same_items xs q.items p.items q.whole p.whole in
+    let are : AreCells (names_in (records p.items)) (drawings (records p.items)) ds = subst (λ is. AreCells (names_in (records is)) (drawings (records is)) ds) e q.cells_are in
+    (same_cells (names_in (records p.items)) (drawings (records p.items)) cells ds p.cells_are are, q.head_is ∙ ap (λ is. head_of (records is)) e ∙ sym p.head_is)
+
+-- what was read of a whole file is the library that it spells
+pub law_read : (xs : List ℕ) (is : List Item) (found : List (PlainCell Rings)) (h : OasisHead) → SpellsWhole oasis xs is
+    → AreCells (names_in (records is)) (map with_rings (drawings (records is))) found → h ≡ head_of (records is) → IsRead xs found h
+law_read xs is found h whole are head =
+    let k = kept_cells (names_in (records is)) (drawings (records is)) found are in
+    let spelled : SpellsLibrary xs k.cells h = record { items = is; whole = whole; cells_are = k.are; head_is = head } in
+    record {
+      cells = k.cells;
+      spelled = spelled;
+      only = λ others g q. law_only xs k.cells others h g spelled q;
+      kept_as = k.kept_as;
+    }
+
+-- a number that no name has, of the cells as they are kept
+pub law_unresolved : (xs : List ℕ) (is : List Item) (n : ℕ) → SpellsWhole oasis xs is
+    → IsUnnamed (names_in (records is)) (numbers_used (map with_rings (drawings (records is)))) n → TellsUnresolved xs n
+law_unresolved xs is n whole u =
+    (is, whole, subst (λ l. IsUnnamed (names_in (records is)) l n) (numbers_kept (drawings (records is))) u)
+
+-- where there is no whole file no library is spelled
+none_spelled : (xs : List ℕ) → SpellsNothing oasis xs → SpellsNone xs
+none_spelled xs n cells h p = n p.items p.whole
+
+none_resolved : (xs : List ℕ) (n : ℕ) → TellsUnresolved xs n → SpellsNone xs
+none_resolved xs n t cells h p =
+    let e = same_items xs p.items t.0 p.whole t.1 in
+    let are : AreCells (names_in (records t.0)) (drawings (records t.0)) cells = subst (λ is. AreCells (names_in (records is)) (drawings (records is)) cells) e p.cells_are in
+    unnamed_none (names_in (records t.0)) (numbers_used (drawings (records t.0))) n (cells_named (names_in (records t.0)) (drawings (records t.0)) cells are) t.2
+
+-- what a refusal says
+tells_at : (xs : List ℕ) (left : Option (List ℕ)) (at : ℕ) (k : OasisKind) → RefusesAt xs left at k → TellsAt xs at k
+tells_at xs left at (Value Truncated) x = x
+tells_at xs left at (Value Read) x = x
+tells_at xs left at other x = seen_stuck oasis is_grammar xs at left other x
+
+tells : (xs : List ℕ) (left : Option (List ℕ)) (f : OasisFault) → Refuses xs left f → Tells xs f
+tells xs left (At at k) x = tells_at xs left at k x
+tells xs left (Unresolved n) x = x
+
+none_at : (xs : List ℕ) (left : Option (List ℕ)) (at : ℕ) (k : OasisKind) → RefusesAt xs left at k → (IsExcused (At at k) → ⊥)
+    → SpellsNone xs
+none_at xs left at (Value Truncated) x n = none_spelled xs (truncated_none oasis is_grammar xs at x)
+none_at xs left at (Value Read) x n = absurd (n tt)
+none_at xs left at other x n = none_spelled xs (stuck_none oasis xs at (seen_stuck oasis is_grammar xs at left other x).0)
+
+none_of : (xs : List ℕ) (left : Option (List ℕ)) (f : OasisFault) → Refuses xs left f → (IsExcused f → ⊥) → SpellsNone xs
+none_of xs left (At at k) x n = none_at xs left at k x n
+none_of xs left (Unresolved m) x n = none_resolved xs m x
+
+early_at : (xs : List ℕ) (left : Option (List ℕ)) (at : ℕ) (k : OasisKind) → RefusesAt xs left at k → IsEarly (At at k)
+    → IsHopeless oasis xs left
+early_at xs left at (Value Truncated) x i = absurd i
+early_at xs left at (Value Read) x i = absurd i
+early_at xs left at other x i = seen_hopeless oasis is_grammar xs at left other x
+
+early_of : (xs : List ℕ) (left : Option (List ℕ)) (f : OasisFault) → Refuses xs left f → IsEarly f → IsHopeless oasis xs left
+early_of xs left (At at k) x i = early_at xs left at k x i
+early_of xs left (Unresolved n) x i = absurd i
+
+-- of an answer
+refused : {A : Type 0} (xs : List ℕ) (left : Option (List ℕ)) (P : OasisFault → Type 0)
+    → ((f : OasisFault) → Refuses xs left f → P f) → (r : Result A (Refusal OasisFault))
+    → IfErr r (λ e. Says e (Refuses xs left)) → IfErr r (λ e. Says e P)
+refused xs left P h (Ok x) s = tt
+refused xs left P h (Err (Breach f)) s = h f s
+refused xs left P h (Err OutOfMemory) s = tt
+
+pub refused_tells : {A : Type 0} (xs : List ℕ) (left : Option (List ℕ)) (r : Result A (Refusal OasisFault))
+    → IfErr r (λ e. Says e (Refuses xs left)) → IfErr r (λ e. Says e (Tells xs))
+refused_tells xs left = refused xs left (Tells xs) (tells xs left)
+
+pub refused_none : {A : Type 0} (xs : List ℕ) (left : Option (List ℕ)) (r : Result A (Refusal OasisFault))
+    → IfErr r (λ e. Says e (Refuses xs left)) → IfErr r (λ e. Says e (λ f. (IsExcused f → ⊥) → SpellsNone xs))
+refused_none xs left = refused xs left (λ f. (IsExcused f → ⊥) → SpellsNone xs) (none_of xs left)
+
+pub refused_early : {A : Type 0} (xs : List ℕ) (left : Option (List ℕ)) (r : Result A (Refusal OasisFault))
+    → IfErr r (λ e. Says e (Refuses xs left)) → IfErr r (λ e. Says e (λ f. IsEarly f → IsHopeless oasis xs left))
+refused_early xs left = refused xs left (λ f. IsEarly f → IsHopeless oasis xs left) (early_of xs left)

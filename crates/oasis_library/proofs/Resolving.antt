@@ -1,0 +1,137 @@
+-- Numbers replaced by names: in one way at most, and all or none.
+use Rattle.std.proofs.Common.{◌≡◌, ℕ, List, [], ◌∷◌, ◌++◌, map, Some, None, refl, sym, ap, ◌∙◌, subst, append_assoc, All}
+use Rattle.std.specs.Prelude.{flat_map, IsSome, Option}
+use Rattle.std.specs.List.{AllZip}
+use Rattle.std.proofs.lemmas.List.Elements.{All-nil, All-cons, All-append, All-head, All-tail}
+use Rattle.std.proofs.lemmas.List.Folds.{flat_map-map}
+use Rattle.lvl_path.specs.Figure.{Figure, figure_rings}
+use Rattle.lvl_cells.specs.Cells.{PlainCell, PlainReference, PlainShape, Rings, kept}
+use Rattle.oasis_records.specs.declared.cell.CellName.{CellName}
+use Rattle.oasis_records.specs.declared.cell.CellRef.{CellRef}
+use Rattle.oasis_records.specs.declared.cell.CellRef.TheVariants.{Number, Name}
+use Rattle.oasis_figures.specs.Figures.{Placed}
+use Rattle.oasis_stream.specs.Names.{name_of, meant}
+use Rattle.oasis_library.specs.Cells.{PlainDrawing, with_rings}
+use Rattle.oasis_library.specs.Names.{IsReference, IsCell, AreCells, number_in, numbers_in, numbers_used, IsNamed, IsUnnamed}
+
+pub zip-snoc : {A B : Type 0} (R : A → B → Type 0) (xs : List A) (ys : List B) (x : A) (y : B) → AllZip R xs ys → R x y → AllZip R (xs ++ x ∷ []) (ys ++ y ∷ [])
+zip-snoc R [] [] x y p q = (q, tt)
+zip-snoc R [] (b ∷ ys) x y p q = absurd p
+zip-snoc R (a ∷ xs) [] x y p q = absurd p
+zip-snoc R (a ∷ xs) (b ∷ ys) x y p q = (p.0, zip-snoc R xs ys x y p.1 q)
+
+-- a name that is meant has its number
+is_some : {A : Type 0} (o : Option A) (x : A) → o ≡ Some x → IsSome o
+is_some o x e = subst (λ p. IsSome p) (sym e) tt
+
+pub meant_named : (names : List CellName) (c : CellRef) (s : List ℕ) → meant names c ≡ Some s → All (IsNamed names) (number_in c)
+meant_named names (Number n) s e = All-cons (IsNamed names) n [] (is_some (name_of names n) s e) (All-nil (IsNamed names))
+meant_named names (Name t) s e = All-nil (IsNamed names)
+
+pub references_named : (names : List CellName) (ps : List Placed) (rs : List PlainReference) → AllZip (IsReference names) ps rs
+    → All (IsNamed names) (flat_map (λ p. number_in p.cell) ps)
+references_named names [] [] h = All-nil (IsNamed names)
+references_named names [] (r ∷ rs) h = absurd h
+references_named names (p ∷ ps) [] h = absurd h
+references_named names (p ∷ ps) (r ∷ rs) h =
+    All-append (IsNamed names) (number_in p.cell) (flat_map (λ q. number_in q.cell) ps) (meant_named names p.cell r.cell h.0.cell) (references_named names ps rs h.1)
+
+cell_named : {F : Type 0} (names : List CellName) (d : PlainDrawing F) (c : PlainCell F) → IsCell names d c → All (IsNamed names) (numbers_in d)
+cell_named names d c h =
+    All-append (IsNamed names) (number_in d.name) (flat_map (λ q. number_in q.cell) d.placements) (meant_named names d.name c.name h.name) (references_named names d.placements c.references h.references)
+
+pub cells_named : {F : Type 0} (names : List CellName) (ds : List (PlainDrawing F)) (cs : List (PlainCell F)) → AreCells names ds cs → All (IsNamed names) (numbers_used ds)
+cells_named names [] [] h = All-nil (IsNamed names)
+cells_named names [] (c ∷ cs) h = absurd h
+cells_named names (d ∷ ds) [] h = absurd h
+cells_named names (d ∷ ds) (c ∷ cs) h = All-append (IsNamed names) (numbers_in d) (numbers_used ds) (cell_named names d c h.0) (cells_named names ds cs h.1)
+
+-- the first number that no name has, among others
+pub unnamed_after : (names : List CellName) (xs ys : List ℕ) (n : ℕ) → All (IsNamed names) xs → IsUnnamed names ys n → IsUnnamed names (xs ++ ys) n
+unnamed_after names xs ys n h u = record {
+  before = xs ++ u.before;
+  after = u.after;
+  there = ap (λ l. xs ++ l) u.there ∙ sym (append_assoc xs u.before (n ∷ u.after));
+  named = All-append (IsNamed names) xs u.before h u.named;
+  unnamed = u.unnamed;
+}
+
+pub unnamed_before : (names : List CellName) (xs ys : List ℕ) (n : ℕ) → IsUnnamed names xs n → IsUnnamed names (xs ++ ys) n
+unnamed_before names xs ys n u = record {
+  before = u.before;
+  after = u.after ++ ys;
+  there = ap (λ l. l ++ ys) u.there ∙ append_assoc u.before (n ∷ u.after) ys;
+  named = u.named;
+  unnamed = u.unnamed;
+}
+
+pub unnamed_one : (names : List CellName) (n : ℕ) → name_of names n ≡ None → IsUnnamed names (n ∷ []) n
+unnamed_one names n e = record { before = []; after = []; there = refl; named = All-nil (IsNamed names); unnamed = e }
+
+-- it is none of those that all have names
+last_of : (P : ℕ → Type 0) (xs ys : List ℕ) (n : ℕ) → All P (xs ++ n ∷ ys) → P n
+last_of P [] ys n h = All-head P n ys h
+last_of P (x ∷ xs) ys n h = last_of P xs ys n (All-tail P x (xs ++ n ∷ ys) h)
+
+pub unnamed_none : (names : List CellName) (used : List ℕ) (n : ℕ) → All (IsNamed names) used → IsUnnamed names used n → ⊥
+unnamed_none names used n h u =
+    let some : IsSome (name_of names n) = last_of (IsNamed names) u.before u.after n (subst (All (IsNamed names)) u.there h) in
+    subst (λ o. IsSome o) u.unnamed some
+
+-- names are meant in one way
+a_reference : (c d : PlainReference) → c.cell ≡ d.cell → c.flip ≡ d.flip → c.turn ≡ d.turn → c.at ≡ d.at → c.shifts ≡ d.shifts → c ≡ d
+a_reference c d e f g h i = cc
+
+same_name : (o : Option (List ℕ)) (s t : List ℕ) → o ≡ Some s → o ≡ Some t → t ≡ s
+same_name o s t p q = (let e : Some t ≡ Some s = sym q ∙ p in cc)
+
+same_references : (names : List CellName) (ps : List Placed) (rs ss : List PlainReference) → AllZip (IsReference names) ps rs → AllZip (IsReference names) ps ss → ss ≡ rs
+same_references names [] [] [] p q = refl
+same_references names [] [] (s ∷ ss) p q = absurd q
+same_references names [] (r ∷ rs) ss p q = absurd p
+same_references names (x ∷ ps) [] ss p q = absurd p
+same_references names (x ∷ ps) (r ∷ rs) [] p q = absurd q
+same_references names (x ∷ ps) (r ∷ rs) (s ∷ ss) p q =
+    let one : s ≡ r = a_reference s r (same_name (meant names x.cell) r.cell s.cell p.0.cell q.0.cell) (q.0.flip ∙ sym p.0.flip) (q.0.turn ∙ sym p.0.turn) (q.0.at ∙ sym p.0.at) (q.0.shifts ∙ sym p.0.shifts) in
+    ap (λ (i : PlainReference). i ∷ ss) one ∙ ap (λ l. r ∷ l) (same_references names ps rs ss p.1 q.1)
+
+a_cell : {F : Type 0} (c d : PlainCell F) → c.name ≡ d.name → c.shapes ≡ d.shapes → c.references ≡ d.references → c ≡ d
+a_cell c d e f g = cc
+
+pub same_cells : {F : Type 0} (names : List CellName) (ds : List (PlainDrawing F)) (cs es : List (PlainCell F)) → AreCells names ds cs → AreCells names ds es → es ≡ cs
+same_cells names [] [] [] p q = refl
+same_cells names [] [] (e ∷ es) p q = absurd q
+same_cells names [] (c ∷ cs) es p q = absurd p
+same_cells names (d ∷ ds) [] es p q = absurd p
+same_cells names (d ∷ ds) (c ∷ cs) [] p q = absurd q
+same_cells {F = F} names (d ∷ ds) (c ∷ cs) (e ∷ es) p q =
+    let one : e ≡ c = a_cell e c (same_name (meant names d.name) c.name e.name p.0.name q.0.name) (q.0.shapes ∙ sym p.0.shapes) (same_references names d.placements c.references e.references p.0.references q.0.references) in
+    ap (λ (i : PlainCell F). i ∷ es) one ∙ ap (λ l. c ∷ l) (same_cells names ds cs es p.1 q.1)
+
+-- cells with rings for figures are cells of figures, as they are kept
+pub record AreKept (names : List CellName) (ds : List (PlainDrawing Figure)) (found : List (PlainCell Rings)) : Type 0 where
+  pub cells : List (PlainCell Figure)
+  pub are : AreCells names ds cells
+  pub kept_as : found ≡ kept figure_rings cells
+
+abbrev figured : PlainDrawing Figure → PlainCell Rings → PlainCell Figure
+figured d c = record { name = c.name; shapes = d.shapes; references = c.references }
+
+abbrev ringed : List ℕ → List (PlainShape Rings) → List PlainReference → PlainCell Rings
+ringed name shapes references = record { name = name; shapes = shapes; references = references }
+
+pub kept_cells : (names : List CellName) (ds : List (PlainDrawing Figure)) (found : List (PlainCell Rings)) → AreCells names (map with_rings ds) found → AreKept names ds found
+kept_cells names [] [] h = record { cells = []; are = tt; kept_as = refl }
+kept_cells names [] (c ∷ found) h = absurd h
+kept_cells names (d ∷ ds) [] h = absurd h
+kept_cells names (d ∷ ds) (c ∷ found) h =
+    let rest = kept_cells names ds found h.1 in
+    record {
+      cells = figured d c ∷ rest.cells;
+      are = (record { name = h.0.name; shapes = refl; references = h.0.references }, rest.are);
+      kept_as = ap (λ s. ringed c.name s c.references ∷ found) h.0.shapes ∙ ap (λ l. ringed c.name (with_rings d).shapes c.references ∷ l) rest.kept_as;
+    }
+
+-- rings use the numbers that figures use
+pub numbers_kept : (ds : List (PlainDrawing Figure)) → numbers_used (map with_rings ds) ≡ numbers_used ds
+numbers_kept ds = flat_map-map numbers_in with_rings ds

@@ -1,5 +1,0 @@
-use Rattle.oasis_library.proofs.Typed.{reads_recorded}
-use Rattle.oasis_library.proofs.next.read_typed.Goals as goal
-
-pub returns : goal.returns
-returns g c = rw c.of_record.ensures (record { reads = reads_recorded c.read_fields.result c.read_fields.ensures.reads })

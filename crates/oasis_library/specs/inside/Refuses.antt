@@ -1,0 +1,19 @@
+-- What a refusal says of the input while it is being read.
+use Rattle.std.specs.Prelude.{ℕ, List, Option}
+use Rattle.lvl_refusal.specs.declared.Refusal.{Refusal}
+use Rattle.lvl_refusal.specs.declared.Refusal.TheVariants.{Breach, OutOfMemory}
+use Rattle.oasis_stream.specs.declared.fault.OasisKind.{OasisKind}
+use Rattle.oasis_stream.specs.inside.Refuses.{RefusesAt}
+use Rattle.oasis_library.specs.Ends.{TellsUnresolved}
+use Rattle.oasis_library.specs.declared.fault.OasisFault.{OasisFault}
+use Rattle.oasis_library.specs.declared.fault.OasisFault.TheVariants.{At, Unresolved}
+
+-- where the reader has these bytes left
+abbrev pub Refuses : List ℕ → Option (List ℕ) → OasisFault → Type 0
+Refuses xs left (At at k) = RefusesAt xs left at k
+Refuses xs left (Unresolved n) = TellsUnresolved xs n
+
+-- the same refusal, at that offset
+abbrev pub refused_at : ℕ → Refusal OasisKind → Refusal OasisFault
+refused_at at (Breach k) = Breach (At at k)
+refused_at at OutOfMemory = OutOfMemory

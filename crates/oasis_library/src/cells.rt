@@ -1,0 +1,81 @@
+//! The cells of a file while it is read.
+ghost use Rattle.std.specs.Prelude.{◌≡◌, ◌++◌, ◌∷◌, [], OnOk, IfOk, List};
+ghost use Rattle.oasis_records.specs.declared.record.Record.{Record};
+ghost use Rattle.oasis_library.specs.inside.Kept.{begun, on_last};
+ghost use Rattle.oasis_library.specs.inside.Taken.{IsTaken, grown};
+
+use crate::drawing::Drawing;
+use oasis_figures::{Drawn, Modal};
+use oasis_records::CellRef;
+use std::alloc::{AllocError, Global};
+use std::marker::Model;
+
+/// The cells that other cells follow, and the last one.
+#[derive(Debug, Drop)]
+pub(crate) struct Cells {
+    whole: Vec<Drawing>,
+    last: Option<Drawing>,
+}
+
+impl Model for Cells {
+    ghost use Rattle.std.specs.Prelude.{◌≡◌, ◌++◌, List, [], None, option_to_list};
+    ghost use Rattle.lvl_cells.specs.Cells.{Rings};
+    ghost use Rattle.oasis_library.specs.Cells.{PlainDrawing};
+
+    ghost Value = { List (PlainDrawing Rings) };
+
+    ghost view = { λ c. c.whole.items ++ option_to_list c.last };
+
+    ghost invariant = { λ c. c.last ≡ None → c.whole.items ≡ [] };
+}
+
+impl Cells {
+    /// No cell yet.
+    pub(crate) fn new(alloc: Global) -> Cells
+        ensures { result ≡ [] }
+    {
+        Cells {
+            whole: Vec::new(alloc),
+            last: None,
+        }
+    }
+
+    /// Begins a cell.
+    pub(crate) fn begin(&mut self, alloc: Global, name: CellRef) -> Result<(), AllocError>
+        ensures { OnOk result (self.new ≡ self.old ++ begun name ∷ []) }
+    {
+        let before = self.last.replace(Drawing::new(alloc, name));
+        if let Some(before) = before {
+            self.whole.push(before)?;
+        }
+        Ok(())
+    }
+
+    /// Adds what the record draws that the modal variables took last to the last cell, if there is one.
+    pub(crate) fn add(
+        &mut self,
+        alloc: Global,
+        drawn: Option<Drawn>,
+        modal: &Modal,
+    ) -> Result<(), AllocError>
+        requires { (earlier : List Record) × (r : Record) × IsTaken earlier r drawn modal.now }
+        ensures { OnOk result ((earlier : List Record) (r : Record) → IsTaken earlier r drawn modal.now
+            → self.new ≡ on_last (grown earlier r) self.old) }
+    {
+        if let Some(last) = &mut self.last {
+            last.add(alloc, drawn, modal)?;
+        }
+        Ok(())
+    }
+
+    /// All of them, in file order.
+    pub(crate) fn into_drawings(self) -> Result<Vec<Drawing>, AllocError>
+        ensures { IfOk result (λ drawings. drawings.items ≡ self) }
+    {
+        let Cells { mut whole, last } = self;
+        if let Some(last) = last {
+            whole.push(last)?;
+        }
+        Ok(whole)
+    }
+}

@@ -1,0 +1,96 @@
+//! A cell while its records are read.
+ghost use Rattle.std.specs.Prelude.{◌≡◌, OnOk, IfOk, List, Some};
+ghost use Rattle.oasis_records.specs.declared.record.Record.{Record};
+ghost use Rattle.oasis_figures.specs.declared.drawn.Drawn.TheVariants.{Placement as APlacement};
+ghost use Rattle.oasis_library.specs.inside.Kept.{begun, target_ref};
+ghost use Rattle.oasis_library.specs.inside.Taken.{IsTaken, grown};
+
+use crate::placement::{Placement, Target};
+use lvl_cells::Shapes;
+use lvl_grid::Map;
+use oasis_figures::{Drawn, Modal};
+use oasis_records::CellRef;
+use std::alloc::{AllocError, Global};
+use std::marker::Model;
+
+/// A cell by its number or its name, with the shapes and the placements of its records so far.
+#[derive(Debug, Drop)]
+pub(crate) struct Drawing {
+    pub(crate) name: CellRef,
+    pub(crate) shapes: Shapes,
+    pub(crate) placements: Vec<Placement>,
+}
+
+impl Model for Drawing {
+    ghost use Rattle.lvl_cells.specs.Cells.{Rings};
+    ghost use Rattle.oasis_library.specs.Cells.{PlainDrawing};
+
+    ghost Value = { PlainDrawing Rings };
+
+    ghost view = { λ d. record { name = d.name; shapes = d.shapes; placements = d.placements.items } };
+}
+
+impl Drawing {
+    /// A cell that has nothing yet.
+    pub(crate) fn new(alloc: Global, name: CellRef) -> Drawing
+        ensures { result ≡ begun name }
+    {
+        Drawing {
+            name,
+            shapes: Shapes::new(alloc),
+            placements: Vec::new(alloc),
+        }
+    }
+
+    /// Adds what the record draws that the modal variables took last.
+    pub(crate) fn add(
+        &mut self,
+        alloc: Global,
+        drawn: Option<Drawn>,
+        modal: &Modal,
+    ) -> Result<(), AllocError>
+        requires { (earlier : List Record) × (r : Record) × IsTaken earlier r drawn modal.now }
+        ensures { OnOk result ((earlier : List Record) (r : Record) → IsTaken earlier r drawn modal.now
+            → self.new ≡ grown earlier r self.old) }
+    {
+        match drawn {
+            Some(Drawn::Ring(layer, ring)) => {
+                self.shapes
+                    .push_ring(layer, ring.points(), modal.shifts())?;
+                Ok(())
+            }
+            Some(Drawn::Rings(layer, rings)) => {
+                self.shapes.push_rings(layer, &rings, modal.shifts())?;
+                Ok(())
+            }
+            Some(Drawn::Placement(by)) => self.place(alloc, by, modal),
+            None => Ok(()),
+        }
+    }
+
+    // Adds a placement of the modal cell.
+    fn place(&mut self, alloc: Global, by: Map, modal: &Modal) -> Result<(), AllocError>
+        requires { (earlier : List Record) × (r : Record) × IsTaken earlier r (Some (APlacement by)) modal.now }
+        ensures { OnOk result ((earlier : List Record) (r : Record)
+            → IsTaken earlier r (Some (APlacement by)) modal.now → self.new ≡ grown earlier r self.old) }
+    {
+        let Some(cell) = modal.cell() else {
+            unreachable!()
+        };
+        let target = self.target_for(alloc, cell)?;
+        let shifts = modal.shifts().clone()?;
+        self.placements.push(Placement::new(target, by, shifts))?;
+        Ok(())
+    }
+
+    // What a placement of that cell refers to; the name is shared with the last placement where that is
+    // of the same cell.
+    fn target_for(&self, alloc: Global, cell: &CellRef) -> Result<Target, AllocError>
+        ensures { IfOk result (λ target. target_ref target ≡ cell.now) }
+    {
+        match self.placements.last() {
+            Some(last) => last.target_for(alloc, cell),
+            None => Target::of(alloc, cell),
+        }
+    }
+}

@@ -1,0 +1,172 @@
+//! A library read from an input.
+ghost use Rattle.std.specs.Prelude.{◌≡◌, ◌≢◌, List, ℕ, OnOk, Some, Err, IfErr, IfOk, false};
+ghost use Rattle.lvl_io.specs.Bytes.{CountsFailure};
+ghost use Rattle.lvl_refusal.specs.Refused.{Says};
+ghost use Rattle.lvl_grammar.specs.Refused.{IsHopeless};
+ghost use Rattle.lvl_grammar.specs.inside.ReadTo.{ReadTo};
+ghost use Rattle.oasis_values.specs.Input.{has_failed, bytes_left, input_offset, input_reader};
+ghost use Rattle.lvl_grammar.specs.Front.{SpellsWhole};
+ghost use Rattle.oasis_stream.specs.Front.{oasis};
+ghost use Rattle.oasis_stream.specs.Items.{IsEnded};
+ghost use Rattle.oasis_library.specs.inside.Holds.{is_end};
+ghost use Rattle.oasis_library.specs.Ends.{Tells, IsExcused, IsEarly, is_read};
+ghost use Rattle.oasis_library.specs.Library.{IsRead, SpellsNone};
+ghost use Rattle.oasis_library.specs.inside.Holds.{HasWhole};
+ghost use Rattle.oasis_library.specs.inside.Refuses.{Refuses, refused_at};
+
+use crate::fault::OasisFault;
+use crate::head::OasisHead;
+use crate::reading::Reading;
+use lvl_cells::Library;
+use lvl_io::Read;
+use lvl_refusal::Refusal;
+use oasis_records::Record;
+use oasis_stream::{OasisKind, read_first, read_next};
+use oasis_values::{Input, ValueFault};
+use std::alloc::Global;
+
+/// The most records of a file: each has a byte at least.
+const MOST_RECORDS: u64 = 4_294_967_295;
+
+/// The library that an OASIS file spells, and what the file says of itself.
+///
+/// A file is the magic string, a START record, records, and an END record of 256 bytes (SEMI P39
+/// OASIS 1.0). A cell has the shapes and the references of the records after its CELL, in their order;
+/// a record that leaves a field out takes it from its modal variable, and at each CELL the modal
+/// variables begin anew. A cell that is given by a number has the name of the CELLNAME of that number,
+/// which may come anywhere in the file. The first record that is missing, malformed or breaches a rule
+/// is answered with its offset in bytes; once the file has ended, the first number that is used and
+/// that no CELLNAME has.
+pub fn read_oasis<R: Read>(
+    alloc: Global,
+    reader: &mut R,
+) -> Result<(Library, OasisHead), Refusal<OasisFault>>
+    // What is read is spelled, and nothing else is.
+    ensures spelled { (xs : List ℕ) → R.remaining reader.old ≡ Some xs
+        → IfOk result (λ read. IsRead xs read.0 read.1) }
+
+    // A refusal names what is wrong, and nothing is spelled, unless an allocation or the reader failed.
+    ensures refused { (xs : List ℕ) → R.remaining reader.old ≡ Some xs
+        → IfErr result (λ refusal. Says refusal (Tells xs)) }
+    ensures none { (xs : List ℕ) → R.remaining reader.old ≡ Some xs
+        → IfErr result (λ refusal. Says refusal (λ fault. (¬ IsExcused fault) → SpellsNone xs)) }
+
+    // Unless the input ended, nothing is spelled whatever comes after the bytes taken.
+    ensures early { (xs : List ℕ) → R.remaining reader.old ≡ Some xs
+        → IfErr result (λ refusal. Says refusal (λ fault. IsEarly fault
+        → IsHopeless oasis xs (R.remaining reader.new))) }
+
+    // The reader failed once where `Read` is reported, and else never.
+    ensures reads { CountsFailure (R.read_errors reader.old) (R.read_errors reader.new) (is_read result) }
+    ensures same { R.lent reader.new ≡ R.lent reader.old }
+{
+    let mut input = Input::new(reader);
+    let read = read_library(alloc, &mut input);
+    let _reader = input.into_reader();
+    read
+}
+
+// Reads a whole file, and replaces numbers by names.
+fn read_library<R: Read>(
+    alloc: Global,
+    input: &mut Input<R>,
+) -> Result<(Library, OasisHead), Refusal<OasisFault>>
+    requires fresh { has_failed input.old ≡ false }
+    requires start { input_offset input.old ≡ 0 }
+    ensures spelled { (xs : List ℕ) → bytes_left R.remaining input.old ≡ Some xs
+        → IfOk result (λ read. IsRead xs read.0 read.1) }
+    ensures refused { (xs : List ℕ) → bytes_left R.remaining input.old ≡ Some xs
+        → IfErr result (λ refusal. Says refusal (Refuses xs (R.remaining (input_reader input.new)))) }
+    ensures reads { CountsFailure (R.read_errors (input_reader input.old))
+        (R.read_errors (input_reader input.new)) (is_read result) }
+    ensures same { R.lent (input_reader input.new) ≡ R.lent (input_reader input.old) }
+{
+    let reading = read_records(alloc, input)?;
+    read_nothing(input)?;
+    match reading.finish(alloc) {
+        Ok(read) => Ok(read),
+        Err(Refusal::Breach(number)) => Err(Refusal::Breach(OasisFault::Unresolved(number))),
+        Err(Refusal::OutOfMemory) => Err(Refusal::OutOfMemory),
+    }
+}
+
+// Reads the magic string, and records up to END.
+fn read_records<R: Read>(alloc: Global, input: &mut Input<R>) -> Result<Reading, Refusal<OasisFault>>
+    requires fresh { has_failed input.old ≡ false }
+    requires start { input_offset input.old ≡ 0 }
+    ensures refused { (xs : List ℕ) → bytes_left R.remaining input.old ≡ Some xs
+        → IfErr result (λ refusal. Says refusal (Refuses xs (R.remaining (input_reader input.new)))) }
+    ensures whole { IfOk result (λ x. (xs : List ℕ) → bytes_left R.remaining input.old ≡ Some xs
+        → ReadTo oasis xs (input_offset input.new) (HasWhole x) (bytes_left R.remaining input.new)) }
+    ensures fresh { OnOk result (has_failed input.new ≡ false) }
+    ensures reads { CountsFailure (R.read_errors (input_reader input.old))
+        (R.read_errors (input_reader input.new)) (is_read result) }
+    ensures same { R.lent (input_reader input.new) ≡ R.lent (input_reader input.old) }
+{
+    if let Err(kind) = read_first(input) {
+        return Err(refuse(0, kind));
+    }
+    let mut reading = Reading::new(alloc);
+    for _ in 0..MOST_RECORDS {
+        let offset = input.offset();
+        let record = match read_next(input, alloc, reading.order()) {
+            Ok(record) => record,
+            Err(refusal) => return Err(refused_at(offset, refusal)),
+        };
+        let is_end = is_end(&record);
+        match reading.take(alloc, record) {
+            Ok(()) => {}
+            Err(refusal) => return Err(refused_at(offset, refusal)),
+        }
+        if is_end {
+            return Ok(reading);
+        }
+    }
+    Err(refuse(input.offset(), OasisKind::Value(ValueFault::TooLong)))
+}
+
+// Finds that the input has ended.
+fn read_nothing<R: Read>(input: &mut Input<R>) -> Result<(), Refusal<OasisFault>>
+    requires { has_failed input.old ≡ false }
+    ensures whole { OnOk result ((xs : List ℕ)
+        (to : ReadTo oasis xs (input_offset input.old) IsEnded (bytes_left R.remaining input.old))
+        → SpellsWhole oasis xs to.records) }
+    ensures refused { IfErr result (λ refusal. Says refusal (λ fault. (xs : List ℕ)
+        → ReadTo oasis xs (input_offset input.old) IsEnded (bytes_left R.remaining input.old)
+        → Refuses xs (R.remaining (input_reader input.new)) fault)) }
+    ensures reads { CountsFailure (R.read_errors (input_reader input.old))
+        (R.read_errors (input_reader input.new)) (is_read result) }
+    ensures same { R.lent (input_reader input.new) ≡ R.lent (input_reader input.old) }
+{
+    let offset = input.offset();
+    match input.byte() {
+        Ok(_) => Err(refuse(offset, OasisKind::AfterEnd)),
+        Err(ValueFault::Truncated) => Ok(()),
+        Err(fault) => Err(refuse(offset, OasisKind::Value(fault))),
+    }
+}
+
+fn is_end(record: &Record) -> bool
+    ensures { result ≡ is_end record.now }
+{
+    match record {
+        Record::End(_) => true,
+        _ => false,
+    }
+}
+
+fn refuse(offset: u64, kind: OasisKind) -> Refusal<OasisFault>
+    ensures { result ≡ Refusal.Breach (OasisFault.At offset kind) }
+{
+    Refusal::Breach(OasisFault::At { offset, kind })
+}
+
+// The same refusal, at that offset.
+fn refused_at(offset: u64, refusal: Refusal<OasisKind>) -> Refusal<OasisFault>
+    ensures { result ≡ refused_at offset refusal }
+{
+    match refusal {
+        Refusal::Breach(kind) => refuse(offset, kind),
+        Refusal::OutOfMemory => Refusal::OutOfMemory,
+    }
+}

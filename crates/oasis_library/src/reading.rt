@@ -1,0 +1,126 @@
+//! A file that is being read, record by record.
+ghost use Rattle.std.specs.Prelude.{◌≡◌, [], ◌∷◌, ◌++◌, List, IfErr, IfOk, OnOk, map};
+ghost use Rattle.lvl_refusal.specs.Refused.{Says};
+ghost use Rattle.oasis_records.specs.declared.record.Record.{Record as ARecord};
+ghost use Rattle.oasis_stream.specs.Order.{names_in};
+ghost use Rattle.oasis_stream.specs.Rules.{RecordBreaches};
+ghost use Rattle.oasis_stream.specs.declared.fault.OasisKind.{OasisKind as Kind};
+ghost use Rattle.oasis_library.specs.Cells.{drawings, with_rings};
+ghost use Rattle.oasis_library.specs.Head.{head_of};
+ghost use Rattle.oasis_library.specs.Names.{AreCells, numbers_used, IsUnnamed};
+ghost use Rattle.oasis_library.specs.inside.Answers.{of_name, of_figure};
+ghost use Rattle.oasis_library.specs.inside.Holds.{Holds};
+
+use crate::cells::Cells;
+use crate::head::{HeadRecords, OasisHead};
+use crate::names::Names;
+use crate::resolve::resolve_cells;
+use lvl_cells::Library;
+use lvl_refusal::Refusal;
+use oasis_figures::{Drawn, FigureRule, Modal};
+use oasis_records::Record;
+use oasis_stream::{NameRule, OasisKind, Order};
+use std::alloc::Global;
+
+/// What was read so far: which records may come, the names, the modal variables of the last cell, the
+/// cells, and what START and END say.
+#[derive(Drop)]
+pub(crate) struct Reading {
+    order: Order,
+    names: Names,
+    modal: Modal,
+    cells: Cells,
+    head: HeadRecords,
+}
+
+// The same answer, where a rule of names is one of the file's.
+fn of_name(answer: Result<(), Refusal<NameRule>>) -> Result<(), Refusal<OasisKind>>
+    ensures { result ≡ of_name answer }
+{
+    match answer {
+        Ok(()) => Ok(()),
+        Err(Refusal::Breach(rule)) => Err(Refusal::Breach(OasisKind::Name(rule))),
+        Err(Refusal::OutOfMemory) => Err(Refusal::OutOfMemory),
+    }
+}
+
+// The same answer, where a rule of figures is one of the file's.
+fn of_figure(
+    answer: Result<Option<Drawn>, Refusal<FigureRule>>,
+) -> Result<Option<Drawn>, Refusal<OasisKind>>
+    ensures { result ≡ of_figure answer }
+{
+    match answer {
+        Ok(drawn) => Ok(drawn),
+        Err(Refusal::Breach(rule)) => Err(Refusal::Breach(OasisKind::Figure(rule))),
+        Err(Refusal::OutOfMemory) => Err(Refusal::OutOfMemory),
+    }
+}
+
+impl Reading {
+    /// No record was read.
+    pub(crate) fn new(alloc: Global) -> Reading
+        ensures { Holds result [] }
+    {
+        Reading {
+            order: Order::new(),
+            names: Names::new(alloc),
+            modal: Modal::new(),
+            cells: Cells::new(alloc),
+            head: HeadRecords::new(),
+        }
+    }
+
+    /// Which records may come next.
+    pub(crate) fn order(&self) -> &Order
+        ensures { result.now ≡ self.now.order }
+    {
+        &self.order
+    }
+
+    /// Takes the next record, if it breaches no rule.
+    pub(crate) fn take(&mut self, alloc: Global, record: Record) -> Result<(), Refusal<OasisKind>>
+        requires { (rs : List ARecord) × Holds self.old rs }
+        ensures refused { IfErr result (λ e. Says e (λ kind.
+            (rs : List ARecord) → Holds self.old rs → RecordBreaches rs record kind)) }
+        ensures kept { OnOk result
+            ((rs : List ARecord) → Holds self.old rs → Holds self.new (rs ++ record ∷ [])) }
+        ensures none { OnOk result ((rs : List ARecord) → Holds self.old rs
+            → (kind : Kind) → ¬ RecordBreaches rs record kind) }
+    {
+        self.order.pass(&record);
+        self.head.pass(&record);
+        match record {
+            Record::Cell(name) => {
+                self.modal = Modal::new();
+                self.cells.begin(alloc, name)?;
+                Ok(())
+            }
+            record => {
+                of_name(self.names.take(alloc, &record))?;
+                let drawn = of_figure(self.modal.take(alloc, record))?;
+                self.cells.add(alloc, drawn, &self.modal)?;
+                Ok(())
+            }
+        }
+    }
+
+    /// The library and the head of the file, or the first number that is used and that no name has.
+    pub(crate) fn finish(self, alloc: Global) -> Result<(Library, OasisHead), Refusal<u64>>
+        ensures cells { IfOk result (λ read. (rs : List ARecord) → Holds self rs
+            → AreCells (names_in rs) (map with_rings (drawings rs)) read.0) }
+        ensures head { IfOk result (λ read. (rs : List ARecord) → Holds self rs → read.1 ≡ head_of rs) }
+        ensures unnamed { IfErr result (λ e. Says e (λ number. (rs : List ARecord) → Holds self rs
+            → IsUnnamed (names_in rs) (numbers_used (map with_rings (drawings rs))) number)) }
+    {
+        let Reading {
+            order: _,
+            names,
+            modal: _modal,
+            cells,
+            head,
+        } = self;
+        let cells = resolve_cells(alloc, &names, cells.into_drawings()?)?;
+        Ok((Library { cells }, head.head()))
+    }
+}

@@ -1,0 +1,9 @@
+pub mod Items
+pub mod Reached
+pub mod Instance
+pub mod Typed
+pub mod Once
+pub mod Only
+pub mod Seen
+pub mod Steps
+pub mod Ending

@@ -1,0 +1,173 @@
+-- A record that is read whole breaches one rule at most.
+use Rattle.std.proofs.Common.{◌≡◌, ◌≢◌, ℕ, ◌<◌, ◌⊎◌, List, ◌∷◌, Some, refl, sym, ap, ◌∙◌, subst, arith, inl, inr}
+use Rattle.lvl_grid.specs.declared.point.Point.{Point}
+use Rattle.lvl_path.specs.Runs.{number, IsLowestFault}
+use Rattle.lvl_path.specs.declared.fault.PathFault.{PathFault}
+use Rattle.lvl_path.specs.declared.fault.PathFault.TheVariants.{NoWidth, FewPoints, Oblique as ObliqueStep, RepeatedPoint, TurnsBack}
+use Rattle.lvl_path.specs.declared.fault.PathFault.TheVariants.{ShortRun, OutOfRange as PathOutOfRange}
+use Rattle.oasis_records.specs.declared.cell.CellName.{CellName as AName}
+use Rattle.oasis_records.specs.declared.record.Record.{Record as ARecord}
+use Rattle.oasis_records.specs.declared.record.Record.TheVariants.{Pad, Start, End, CellName, Cell, XyAbsolute, XyRelative}
+use Rattle.oasis_records.specs.declared.record.Record.TheVariants.{Placement, Rectangle, Polygon, Path}
+use Rattle.oasis_figures.specs.Figures.{path_points, half_of, start_of, end_of}
+use Rattle.oasis_figures.specs.Rules.{Breaks, HasPathFault, order, Breaches as FigureBreaches}
+use Rattle.oasis_figures.specs.declared.rule.FigureRule.{FigureRule}
+use Rattle.oasis_figures.specs.declared.rule.FigureRule.TheVariants.{Undefined, Layer, OutOfRange, Magnification, Angle}
+use Rattle.oasis_figures.specs.declared.rule.FigureRule.TheVariants.{Extension, Oblique, Path as PathRule}
+use Rattle.oasis_stream.specs.Items.{Item, magic, item, records}
+use Rattle.oasis_stream.specs.Names.{RepeatsNumber}
+use Rattle.oasis_stream.specs.Order.{names_in}
+use Rattle.oasis_stream.specs.Rules.{since_cell, NameBreaches, NamingBreaches, RecordBreaches, Breaches}
+use Rattle.oasis_stream.specs.declared.fault.NameRule.{NameRule}
+use Rattle.oasis_stream.specs.declared.fault.NameRule.TheVariants.{Mixed, NumberTwice, NameTwice}
+use Rattle.oasis_stream.specs.declared.fault.OasisKind.{OasisKind}
+use Rattle.oasis_stream.specs.declared.fault.OasisKind.TheVariants.{Value, Record, Unexpected, Name, Figure, AfterEnd, TooManyCells}
+
+-- two faults of a path are not both the lowest
+same_fault : (f g : PathFault) → number f ≡ number g → f ≡ g
+same_fault NoWidth NoWidth e = refl
+same_fault FewPoints FewPoints e = refl
+same_fault ObliqueStep ObliqueStep e = refl
+same_fault RepeatedPoint RepeatedPoint e = refl
+same_fault TurnsBack TurnsBack e = refl
+same_fault ShortRun ShortRun e = refl
+same_fault PathOutOfRange PathOutOfRange e = refl
+same_fault f g e = absurd (omega (arith, e))
+
+fault_once : (ps : List Point) (h s e : ℕ) (f g : PathFault)
+    → IsLowestFault ps (record { half = h; start = s; end = e }) f
+    → IsLowestFault ps (record { half = h; start = s; end = e }) g → f ≡ g
+fault_once ps h s e f g x y =
+    let below : number f < number g → ⊥ = λ l. y.lowest f l x.breached in
+    let above : number g < number f → ⊥ = λ l. x.lowest g l y.breached in
+    same_fault f g (omega (arith, below, above))
+
+path_once : (earlier : List ARecord) (r : ARecord) (f g : PathFault) → HasPathFault earlier r f → HasPathFault earlier r g → f ≡ g
+path_once earlier (Path p) f g x y =
+    let rs = Path p ∷ earlier in
+    fault_once (path_points rs) (half_of rs) (start_of rs) (end_of rs) f g x y
+path_once earlier Pad f g x y = absurd x
+path_once earlier (Start s) f g x y = absurd x
+path_once earlier (End v) f g x y = absurd x
+path_once earlier (CellName c) f g x y = absurd x
+path_once earlier (Cell c) f g x y = absurd x
+path_once earlier XyAbsolute f g x y = absurd x
+path_once earlier XyRelative f g x y = absurd x
+path_once earlier (Placement p) f g x y = absurd x
+path_once earlier (Rectangle p) f g x y = absurd x
+path_once earlier (Polygon p) f g x y = absurd x
+
+-- rules of one place in the order of tests are one rule
+same_rule : (earlier : List ARecord) (r : ARecord) (f g : FigureRule) → order f ≡ order g → Breaks earlier r f → Breaks earlier r g → f ≡ g
+same_rule earlier r (Undefined v) (Undefined w) e x y = (let z : Some v ≡ Some w = sym x ∙ y in cc)
+same_rule earlier r Layer Layer e x y = refl
+same_rule earlier r OutOfRange OutOfRange e x y = refl
+same_rule earlier r Magnification Magnification e x y = refl
+same_rule earlier r Angle Angle e x y = refl
+same_rule earlier r Extension Extension e x y = refl
+same_rule earlier r Oblique Oblique e x y = refl
+same_rule earlier r (PathRule f) (PathRule g) e x y = ap (λ (i : PathFault). PathRule i) (path_once earlier r f g x y)
+same_rule earlier r f g e x y = absurd (omega (arith, e))
+
+figure_once : (earlier : List ARecord) (r : ARecord) (f g : FigureRule) → FigureBreaches earlier r f → FigureBreaches earlier r g → f ≡ g
+figure_once earlier r f g x y =
+    let below : order f < order g → ⊥ = λ l. y.first f l x.broken in
+    let above : order g < order f → ⊥ = λ l. x.first g l y.broken in
+    same_rule earlier r f g (omega (arith, below, above)) x.broken y.broken
+
+-- a name draws nothing
+name_draws : (earlier : List ARecord) (c : AName) (f : FigureRule) → Breaks earlier (CellName c) f → ⊥
+name_draws earlier c (Undefined v) x = cc
+name_draws earlier c (PathRule g) x = x
+name_draws earlier c Layer x = x
+name_draws earlier c OutOfRange x = x
+name_draws earlier c Magnification x = x
+name_draws earlier c Angle x = x
+name_draws earlier c Extension x = x
+name_draws earlier c Oblique x = x
+
+-- which rule a name breaches
+name_rule : (names : List AName) (c : AName) (k : NameRule) → NameBreaches names c k
+    → ((k ≡ NumberTwice) × RepeatsNumber names c) ⊎ ((k ≡ NameTwice) × ¬ RepeatsNumber names c)
+name_rule names c NumberTwice b = inl (refl, b)
+name_rule names c NameTwice b = inr (refl, b.0)
+name_rule names c Mixed b = absurd b
+
+name_once : (names : List AName) (c : AName) (j k : NameRule) → NameBreaches names c j → NameBreaches names c k → j ≡ k
+name_once names c j k p q = elim (name_rule names c j p) [
+  | inl a ↦ elim (name_rule names c k q) [
+    | inl b ↦ a.0 ∙ sym b.0
+    | inr b ↦ absurd (b.1 a.1)
+  ]
+  | inr a ↦ elim (name_rule names c k q) [
+    | inl b ↦ absurd (a.1 b.1)
+    | inr b ↦ a.0 ∙ sym b.0
+  ]
+]
+
+-- a rule of names is breached by a name
+record IsNaming (names : List AName) (r : ARecord) (k : NameRule) : Type 0 where
+  cell_name : AName
+  is : r ≡ CellName cell_name
+  breached : NameBreaches names cell_name k
+
+naming : (names : List AName) (r : ARecord) (k : NameRule) → NamingBreaches names r k → IsNaming names r k
+naming names (CellName c) k b = record { cell_name = c; is = refl; breached = b }
+naming names Pad k b = absurd b
+naming names (Start s) k b = absurd b
+naming names (End v) k b = absurd b
+naming names (Cell c) k b = absurd b
+naming names XyAbsolute k b = absurd b
+naming names XyRelative k b = absurd b
+naming names (Placement p) k b = absurd b
+naming names (Rectangle p) k b = absurd b
+naming names (Polygon p) k b = absurd b
+naming names (Path p) k b = absurd b
+
+same_name : (a b : AName) → CellName a ≡ CellName b → a ≡ b
+same_name a b e = cc
+
+naming_once : (names : List AName) (r : ARecord) (j k : NameRule) → NamingBreaches names r j → NamingBreaches names r k → j ≡ k
+naming_once names r j k p q =
+    let a = naming names r j p in
+    let b = naming names r k q in
+    let e = same_name b.cell_name a.cell_name (sym b.is ∙ a.is) in
+    name_once names a.cell_name j k a.breached (subst (λ (c : AName). NameBreaches names c k) e b.breached)
+
+naming_alone : (names : List AName) (earlier : List ARecord) (r : ARecord) (k : NameRule) (f : FigureRule)
+    → NamingBreaches names r k → FigureBreaches earlier r f → ⊥
+naming_alone names earlier r k f p q =
+    let a = naming names r k p in
+    name_draws earlier a.cell_name f (subst (λ (i : ARecord). Breaks earlier i f) a.is q.broken)
+
+-- a rule of names is breached, or one of figures
+abbrev IsEither : List ARecord → ARecord → OasisKind → Type 0
+IsEither rs r k =
+    ((j : NameRule) × (k ≡ Name j) × NamingBreaches (names_in rs) r j)
+    ⊎ ((f : FigureRule) × (k ≡ Figure f) × FigureBreaches (since_cell rs) r f)
+
+either_rule : (rs : List ARecord) (r : ARecord) (k : OasisKind) → RecordBreaches rs r k → IsEither rs r k
+either_rule rs r (Name j) b = inl (j, refl, b)
+either_rule rs r (Figure f) b = inr (f, refl, b)
+either_rule rs r (Value f) b = absurd b
+either_rule rs r (Record k) b = absurd b
+either_rule rs r (Unexpected id) b = absurd b
+either_rule rs r AfterEnd b = absurd b
+either_rule rs r TooManyCells b = absurd b
+
+record_once : (rs : List ARecord) (r : ARecord) (j k : OasisKind) → RecordBreaches rs r j → RecordBreaches rs r k → j ≡ k
+record_once rs r j k p q = elim (either_rule rs r j p) [
+  | inl a ↦ elim (either_rule rs r k q) [
+    | inl b ↦ a.1 ∙ ap Name (naming_once (names_in rs) r a.0 b.0 a.2 b.2) ∙ sym b.1
+    | inr b ↦ absurd (naming_alone (names_in rs) (since_cell rs) r a.0 b.0 a.2 b.2)
+  ]
+  | inr a ↦ elim (either_rule rs r k q) [
+    | inl b ↦ absurd (naming_alone (names_in rs) (since_cell rs) r b.0 a.0 b.2 a.2)
+    | inr b ↦ a.1 ∙ ap Figure (figure_once (since_cell rs) r a.0 b.0 a.2 b.2) ∙ sym b.1
+  ]
+]
+
+-- an item breaches one rule at most
+pub breaches_once : (before : List Item) (i : Item) (j k : OasisKind) → Breaches before i j → Breaches before i k → j ≡ k
+breaches_once before magic j k p q = absurd p
+breaches_once before (item r) j k p q = record_once (records before) r j k p q

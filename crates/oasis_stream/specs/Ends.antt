@@ -1,0 +1,19 @@
+-- What a refusal says of the input where it is refused.
+use Rattle.std.specs.Prelude.{ℕ, Bool, false, List}
+use Rattle.lvl_grammar.specs.Refused.{IsFrontAt, IsStuck, IsBreached, IsTruncated}
+use Rattle.oasis_values.specs.Faults.{is_read_fault}
+use Rattle.oasis_values.specs.declared.fault.ValueFault.TheVariants.{Truncated, Read}
+use Rattle.oasis_stream.specs.Front.{oasis}
+use Rattle.oasis_stream.specs.declared.fault.OasisKind.{OasisKind}
+use Rattle.oasis_stream.specs.declared.fault.OasisKind.TheVariants.{Value}
+
+-- the bytes before the offset are a front, and why none goes on there
+abbrev pub TellsAt : List ℕ → ℕ → OasisKind → Type 0
+TellsAt xs at (Value Truncated) = IsTruncated oasis xs at
+TellsAt xs at (Value Read) = IsFrontAt oasis xs at
+TellsAt xs at k = IsStuck oasis xs at × IsBreached oasis xs at k
+
+-- whether the rule is that the reader failed
+abbrev pub is_read_kind : OasisKind → Bool
+is_read_kind (Value f) = is_read_fault f
+is_read_kind k = false

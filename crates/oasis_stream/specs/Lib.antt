@@ -1,0 +1,8 @@
+pub mod Items
+pub mod Order
+pub mod Names
+pub mod Rules
+pub mod Front
+pub mod Told
+pub mod Ends
+pub mod inside

@@ -1,0 +1,111 @@
+-- Which records may come after others, by their ids alone (SEMI P39 OASIS 1.0, "Records", "START record",
+-- "CELLNAME record", "CELL record").
+use Rattle.std.specs.Prelude.{ℕ, Bool, true, false, not, ◌&&◌, ◌||◌, nat_lt, is_some, is_none, if◌then◌else◌}
+use Rattle.std.specs.Prelude.{List, [], ◌∷◌, length, flat_map, Result, Ok, Err}
+use Rattle.oasis_records.specs.Records.{record_type}
+use Rattle.oasis_records.specs.declared.cell.CellName.{CellName}
+use Rattle.oasis_records.specs.declared.cell.CellRef.{CellRef}
+use Rattle.oasis_records.specs.declared.fault.RecordRule.{RecordRule}
+use Rattle.oasis_records.specs.declared.record.Record.{Record}
+use Rattle.oasis_records.specs.declared.record.Record.TheVariants.{Start as OfStart, CellName as OfCellName, Cell as OfCell}
+use Rattle.oasis_records.specs.declared.record_type.RecordType.{RecordType}
+use Rattle.oasis_records.specs.declared.record_type.RecordType.TheVariants.{Start, CellName as AName, NumberedCellName}
+use Rattle.oasis_records.specs.declared.record_type.RecordType.TheVariants.{NumberedCell, NamedCell, XyAbsolute, XyRelative}
+use Rattle.oasis_records.specs.declared.record_type.RecordType.TheVariants.{Placement, ScaledPlacement, Rectangle, Polygon, Path}
+use Rattle.oasis_stream.specs.declared.fault.NameRule.TheVariants.{Mixed}
+use Rattle.oasis_stream.specs.declared.fault.OasisKind.{OasisKind}
+use Rattle.oasis_stream.specs.declared.fault.OasisKind.TheVariants.{Record as OfRecord, Unexpected, Name, TooManyCells}
+
+-- own rule: the greatest number of cells
+abbrev pub cell_limit : ℕ
+cell_limit = 1048576
+
+-- the last of the list, or d where there is none
+abbrev pub last_or : {A : Type 0} → A → List A → A
+last_or d [] = d
+last_or d (x ∷ xs) = last_or x xs
+
+-- a CELL opens a cell, and a CELLNAME ends the one that is open
+abbrev pub opens : Record → List Bool
+opens (OfCell c) = true ∷ []
+opens (OfCellName n) = false ∷ []
+opens r = []
+
+-- whether a cell is open after the records
+abbrev pub in_cell : List Record → Bool
+in_cell rs = last_or false (flat_map opens rs)
+
+-- the offsets of tables are in END where START says so
+abbrev pub flags : Record → List Bool
+flags (OfStart s) = s.has_offsets_at_end ∷ []
+flags r = []
+
+abbrev pub at_end : List Record → Bool
+at_end rs = last_or false (flat_map flags rs)
+
+-- the names that CELLNAME records give, in their order
+abbrev pub name_in : Record → List CellName
+name_in (OfCellName c) = c ∷ []
+name_in r = []
+
+abbrev pub names_in : List Record → List CellName
+names_in rs = flat_map name_in rs
+
+-- the cells that CELL records open, in their order
+abbrev pub cell_in : Record → List CellRef
+cell_in (OfCell c) = c ∷ []
+cell_in r = []
+
+abbrev pub cells_in : List Record → List CellRef
+cells_in rs = flat_map cell_in rs
+
+-- some name has a number of its own, and some has none
+abbrev pub any_numbered : List CellName → Bool
+any_numbered [] = false
+any_numbered (c ∷ cs) = is_some c.number || any_numbered cs
+
+abbrev pub any_unnumbered : List CellName → Bool
+any_unnumbered [] = false
+any_unnumbered (c ∷ cs) = is_none c.number || any_unnumbered cs
+
+abbrev pub is_start : Result RecordType RecordRule → Bool
+is_start (Ok Start) = true
+is_start t = false
+
+-- what belongs in a cell
+abbrev pub is_inner : Result RecordType RecordRule → Bool
+is_inner (Ok XyAbsolute) = true
+is_inner (Ok XyRelative) = true
+is_inner (Ok Placement) = true
+is_inner (Ok ScaledPlacement) = true
+is_inner (Ok Rectangle) = true
+is_inner (Ok Polygon) = true
+is_inner (Ok Path) = true
+is_inner t = false
+
+-- a file begins with START and has no other, and what belongs in a cell is in one
+abbrev pub is_expected : List Record → Result RecordType RecordRule → Bool
+is_expected [] t = is_start t
+is_expected (r ∷ rs) t = not (is_start t) && (not (is_inner t) || in_cell (r ∷ rs))
+
+-- names with numbers of their own, and names without, are not in one file
+abbrev pub mixes : List Record → RecordType → Bool
+mixes rs AName = any_numbered (names_in rs)
+mixes rs NumberedCellName = any_unnumbered (names_in rs)
+mixes rs t = false
+
+abbrev pub opens_cell : RecordType → Bool
+opens_cell NumberedCell = true
+opens_cell NamedCell = true
+opens_cell t = false
+
+-- the type is given, where the records that are before it allow it
+abbrev pub allowed : List Record → Result RecordType RecordRule → Result RecordType OasisKind
+allowed rs (Err k) = Err (OfRecord k)
+allowed rs (Ok t) =
+    if mixes rs t then Err (Name Mixed)
+    else (if opens_cell t && not (nat_lt (length (cells_in rs)) cell_limit) then Err TooManyCells else Ok t)
+
+-- after the records, the type of an id, or the rule that it breaches
+abbrev pub type_after : List Record → ℕ → Result RecordType OasisKind
+type_after rs id = if is_expected rs (record_type id) then allowed rs (record_type id) else Err (Unexpected id)

@@ -1,0 +1,49 @@
+-- The rules that a record may breach that is read whole.
+use Rattle.std.specs.Prelude.{ℕ, Bool, true, false, if◌then◌else◌, List, [], ◌∷◌}
+use Rattle.oasis_records.specs.declared.cell.CellName.{CellName}
+use Rattle.oasis_records.specs.declared.record.Record.{Record}
+use Rattle.oasis_records.specs.declared.record.Record.TheVariants.{CellName as OfCellName, Cell as OfCell}
+use Rattle.oasis_figures.specs.Rules.{Breaches as FigureBreaches}
+use Rattle.oasis_stream.specs.Items.{Item, magic, item, records, IsEnded}
+use Rattle.oasis_stream.specs.Names.{RepeatsNumber, RepeatsName}
+use Rattle.oasis_stream.specs.Order.{names_in}
+use Rattle.oasis_stream.specs.declared.fault.NameRule.{NameRule}
+use Rattle.oasis_stream.specs.declared.fault.NameRule.TheVariants.{NumberTwice, NameTwice}
+use Rattle.oasis_stream.specs.declared.fault.OasisKind.{OasisKind}
+use Rattle.oasis_stream.specs.declared.fault.OasisKind.TheVariants.{Name, Figure}
+
+abbrev pub is_cell : Record → Bool
+is_cell (OfCell c) = true
+is_cell r = false
+
+-- the records since the last CELL, the latest first, where those given come before
+abbrev pub since : List Record → List Record → List Record
+since earlier [] = earlier
+since earlier (r ∷ rs) = since (if is_cell r then [] else r ∷ earlier) rs
+
+abbrev pub since_cell : List Record → List Record
+since_cell rs = since [] rs
+
+-- the name breaches the rule after others; the number is tested before the name
+abbrev pub NameBreaches : List CellName → CellName → NameRule → Type 0
+NameBreaches names c NumberTwice = RepeatsNumber names c
+NameBreaches names c NameTwice = (¬ RepeatsNumber names c) × RepeatsName names c
+NameBreaches names c k = ⊥
+
+abbrev pub NamingBreaches : List CellName → Record → NameRule → Type 0
+NamingBreaches names (OfCellName c) k = NameBreaches names c k
+NamingBreaches names r k = ⊥
+
+-- after the records, the record breaches the rule: of names, or of what it draws after those of its cell
+abbrev pub RecordBreaches : List Record → Record → OasisKind → Type 0
+RecordBreaches rs r (Name k) = NamingBreaches (names_in rs) r k
+RecordBreaches rs r (Figure k) = FigureBreaches (since_cell rs) r k
+RecordBreaches rs r k = ⊥
+
+abbrev pub Breaches : List Item → Item → OasisKind → Type 0
+Breaches before magic k = ⊥
+Breaches before (item r) k = RecordBreaches (records before) r k
+
+-- it may follow the others: nothing comes after END, and no rule is breached
+abbrev pub MayFollow : List Item → Item → Type 0
+MayFollow before i = (¬ IsEnded before) × ((k : OasisKind) → Breaches before i k → ⊥)

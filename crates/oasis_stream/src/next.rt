@@ -1,0 +1,84 @@
+//! The magic string, and the next record of a file, by its id.
+ghost use Rattle.std.specs.Prelude.{◌≡◌, List, [], Ok, false};
+ghost use Rattle.oasis_values.specs.Input.{has_failed};
+ghost use Rattle.oasis_values.specs.Reads.{Reads};
+ghost use Rattle.oasis_records.specs.declared.record.Record.{Record as Item};
+ghost use Rattle.oasis_stream.specs.Front.{IsTyped, IsNext, IsItem};
+ghost use Rattle.oasis_stream.specs.Told.{told_record, of_fault, told_magic, of_magic_fault};
+ghost use Rattle.oasis_stream.specs.inside.Reached.{HasReached};
+
+use crate::fault::OasisKind;
+use crate::order::Order;
+use lvl_io::Read;
+use lvl_refusal::Refusal;
+use oasis_records::{Record, RecordFault, RecordType, read_fields, read_id, read_magic};
+use oasis_values::Input;
+use std::alloc::Global;
+
+// The same answer, where a fault is one of the file's.
+fn of_record(answer: Result<Record, Refusal<RecordFault>>) -> Result<Record, Refusal<OasisKind>>
+    ensures { result ≡ of_fault answer }
+{
+    match answer {
+        Ok(record) => Ok(record),
+        Err(Refusal::Breach(RecordFault::Value(fault))) => {
+            Err(Refusal::Breach(OasisKind::Value(fault)))
+        }
+        Err(Refusal::Breach(RecordFault::Rule(rule))) => {
+            Err(Refusal::Breach(OasisKind::Record(rule)))
+        }
+        Err(Refusal::OutOfMemory) => Err(Refusal::OutOfMemory),
+    }
+}
+
+// A record of that type, after its id.
+fn read_typed<R: Read>(
+    input: &mut Input<R>,
+    alloc: Global,
+    kind: RecordType,
+    id_len: u64,
+    has_offsets_at_end: bool,
+) -> Result<Record, Refusal<OasisKind>>
+    requires { has_failed input.old ≡ false }
+    ensures reads { Reads R.remaining R.read_errors R.lent
+        (IsTyped has_offsets_at_end id_len (Ok kind)) input.old input.new (told_record result) }
+{
+    of_record(read_fields(input, alloc, kind, id_len, has_offsets_at_end))
+}
+
+/// The next record. Its id is tested before more is read, each field as it is read.
+pub fn read_next<R: Read>(
+    input: &mut Input<R>,
+    alloc: Global,
+    order: &Order,
+) -> Result<Record, Refusal<OasisKind>>
+    ensures reads { (rs : List Item) → HasReached order.now rs
+        → Reads R.remaining R.read_errors R.lent (IsNext rs) input.old input.new (told_record result) }
+{
+    let id = match read_id(input) {
+        Ok(id) => id,
+        Err(fault) => return Err(Refusal::Breach(OasisKind::Value(fault))),
+    };
+    match order.type_of(id.value) {
+        Ok(kind) => read_typed(input, alloc, kind, id.len, order.has_offsets_at_end()),
+        Err(kind) => Err(Refusal::Breach(kind)),
+    }
+}
+
+// The same answer, where a fault is one of the file's.
+fn of_magic(answer: Result<(), RecordFault>) -> Result<(), OasisKind>
+    ensures { result ≡ of_magic_fault answer }
+{
+    match answer {
+        Ok(()) => Ok(()),
+        Err(RecordFault::Value(fault)) => Err(OasisKind::Value(fault)),
+        Err(RecordFault::Rule(rule)) => Err(OasisKind::Record(rule)),
+    }
+}
+
+/// The magic string, which a file begins with.
+pub fn read_first<R: Read>(input: &mut Input<R>) -> Result<(), OasisKind>
+    ensures reads { Reads R.remaining R.read_errors R.lent (IsItem []) input.old input.new (told_magic result) }
+{
+    of_magic(read_magic(input))
+}

@@ -1,0 +1,161 @@
+//! Which record may come next, by its id alone.
+ghost use Rattle.std.specs.Prelude.{◌≡◌, List, [], Ok};
+ghost use Rattle.oasis_records.specs.declared.record.Record.{Record as Read};
+ghost use Rattle.oasis_stream.specs.Order.{is_start, is_inner, opens_cell, is_expected, mixes, allowed};
+ghost use Rattle.oasis_stream.specs.Order.{type_after, at_end};
+ghost use Rattle.oasis_stream.specs.inside.Reached.{HasReached, passed};
+
+use crate::fault::{NameRule, OasisKind};
+use oasis_records::{Record, RecordRule, RecordType};
+
+/// The greatest number of cells (own rule).
+const MOST_CELLS: u64 = 1_048_576;
+
+/// What the records so far say of those that may come.
+#[derive(Clone, Copy, Debug, Drop)]
+pub struct Order {
+    /// No record was read.
+    is_fresh: bool,
+    /// A cell is open.
+    in_cell: bool,
+    /// How many cells there are, up to the limit.
+    cells: u64,
+    /// Some name has a number of its own.
+    has_numbered: bool,
+    /// Some name has none.
+    has_unnumbered: bool,
+    /// START says that END has the offsets of tables.
+    has_offsets_at_end: bool,
+}
+
+fn is_start(kind: Result<RecordType, RecordRule>) -> bool
+    ensures { result ≡ is_start kind }
+{
+    match kind {
+        Ok(RecordType::Start) => true,
+        _ => false,
+    }
+}
+
+// Whether a record of this type belongs in a cell.
+fn is_inner(kind: Result<RecordType, RecordRule>) -> bool
+    ensures { result ≡ is_inner kind }
+{
+    match kind {
+        Ok(
+            RecordType::XyAbsolute
+            | RecordType::XyRelative
+            | RecordType::Placement
+            | RecordType::ScaledPlacement
+            | RecordType::Rectangle
+            | RecordType::Polygon
+            | RecordType::Path,
+        ) => true,
+        _ => false,
+    }
+}
+
+fn opens_cell(kind: RecordType) -> bool
+    ensures { result ≡ opens_cell kind }
+{
+    match kind {
+        RecordType::NumberedCell | RecordType::NamedCell => true,
+        _ => false,
+    }
+}
+
+impl Order {
+    /// Before the first record.
+    pub fn new() -> Order
+        ensures { HasReached result [] }
+    {
+        Order {
+            is_fresh: true,
+            in_cell: false,
+            cells: 0,
+            has_numbered: false,
+            has_unnumbered: false,
+            has_offsets_at_end: false,
+        }
+    }
+
+    /// Whether END has the offsets of tables.
+    pub fn has_offsets_at_end(&self) -> bool
+        ensures { (rs : List Read) → HasReached self.now rs → result ≡ at_end rs }
+    {
+        self.has_offsets_at_end
+    }
+
+    /// The type of the next record by its id, or the rule that the id breaches.
+    pub fn type_of(&self, id: u64) -> Result<RecordType, OasisKind>
+        ensures { (rs : List Read) → HasReached self.now rs → result ≡ type_after rs id }
+    {
+        let kind = RecordType::of(id);
+        if !self.is_expected(kind) {
+            return Err(OasisKind::Unexpected(id));
+        }
+        match kind {
+            Ok(kind) => self.allow(kind),
+            Err(rule) => Err(OasisKind::Record(rule)),
+        }
+    }
+
+    /// Goes on after that record.
+    pub fn pass(&mut self, taken: &Record)
+        ensures { self.new ≡ passed self.old taken.now }
+    {
+        self.is_fresh = false;
+        match taken {
+            Record::Start(start) => self.has_offsets_at_end = start.has_offsets_at_end,
+            Record::CellName(name) => {
+                self.in_cell = false;
+                match name.number {
+                    Some(_) => self.has_numbered = true,
+                    None => self.has_unnumbered = true,
+                }
+            }
+            Record::Cell(_) => {
+                self.in_cell = true;
+                if self.cells < MOST_CELLS {
+                    self.cells += 1;
+                }
+            }
+            _ => {}
+        }
+    }
+
+    // Whether a record of this type may come: START is the first and the only one, and what belongs
+    // in a cell is in one.
+    fn is_expected(&self, kind: Result<RecordType, RecordRule>) -> bool
+        ensures { (rs : List Read) → HasReached self.now rs → result ≡ is_expected rs kind }
+    {
+        if self.is_fresh {
+            return is_start(kind);
+        }
+        !is_start(kind) && (!is_inner(kind) || self.in_cell)
+    }
+
+    // Whether names would be given in both ways.
+    fn mixes(&self, kind: RecordType) -> bool
+        ensures { (rs : List Read) → HasReached self.now rs → result ≡ mixes rs kind }
+    {
+        match kind {
+            RecordType::CellName => self.has_numbered,
+            RecordType::NumberedCellName => self.has_unnumbered,
+            _ => false,
+        }
+    }
+
+    // The type, if the records before allow it.
+    fn allow(&self, kind: RecordType) -> Result<RecordType, OasisKind>
+        ensures { (rs : List Read) → HasReached self.now rs → result ≡ allowed rs (Ok kind) }
+    {
+        if self.mixes(kind) {
+            return Err(OasisKind::Name(NameRule::Mixed));
+        }
+        if opens_cell(kind) && self.cells >= MOST_CELLS {
+            return Err(OasisKind::TooManyCells);
+        }
+        Ok(kind)
+    }
+}
