@@ -67,43 +67,6 @@ known_first earlier r k Extension lt b = omega (arith, lt)
 known_first earlier r k Oblique lt b = omega (arith, lt)
 known_first earlier r k (Path f) lt b = omega (arith, lt)
 
--- the points of a record or the modal ones, moved to where the record is
-pub vertices_at : (place at : Point) (given before set : Option (List Point)) (ps : List Point) → place ≡ at → before ≡ set
-    → ps ≡ value_or (option_or given before) [] → map (shifted at) ps ≡ map (shifted place) (value_or (option_or given set) [])
-vertices_at place at given before set ps e f h =
-    ap (λ (p : Point). map (shifted p) ps) (sym e) ∙ ap (map (shifted place)) (h ∙ ap (λ (o : Option (List Point)). value_or (option_or given o) []) f)
-
-abbrev pub shape_by : ALayer → List (List Point) → List Point → PlainShape Rings
-shape_by on rings shifts = record { layer = on; figure = rings; shifts = shifts }
-
--- the layer and the datatype that records give make the Layer of what they draw
-pub layer_is : (records : List Record) (l d : ℕ) (on : ALayer) → modal layer_set records ≡ Some l → modal datatype_set records ≡ Some d
-    → on ≡ layer_by l d → on ≡ layer_of records
-layer_is records l d on a b e =
-    e ∙ sym (ap (λ (o : Option ℕ). layer_by (number o) (number (modal datatype_set records))) a ∙ ap (λ (o : Option ℕ). layer_by l (number o)) b)
-
-pub shape_is : (on on' : ALayer) (rings rings' : List (List Point)) (shifts : List Point) → on ≡ on' → rings ≡ rings'
-    → shape_by on rings shifts ∷ [] ≡ shape_by on' rings' shifts ∷ []
-shape_is on on' rings rings' shifts e f =
-    ap (λ (l : ALayer). shape_by l rings shifts ∷ []) e ∙ ap (λ (rs : List (List Point)). shape_by on' rs shifts ∷ []) f
-
-pub items_or : (a b : Option (Vec Point Global)) → option_map (λ v. v.items) (option_or a b) ≡ option_or (option_map (λ v. v.items) a) (option_map (λ v. v.items) b)
-items_or None b = refl
-items_or (Some v) b = refl
-
--- the list that a record gives, or else the one before, is kept
-pub list_kept : (given set : Option (List Point)) (list before taken after : Option (Vec Point Global)) → option_map (λ v. v.items) list ≡ given → taken ≡ before
-    → after ≡ option_or list taken → option_map (λ v. v.items) before ≡ set → option_map (λ v. v.items) after ≡ option_or given set
-list_kept given set list before taken after e f g h =
-    ap (λ (o : Option (Vec Point Global)). option_map (λ v. v.items) o) (g ∙ ap (option_or list) f)
-    ∙ items_or list before
-    ∙ ap (λ (o : Option (List Point)). option_or o (option_map (λ v. v.items) before)) e
-    ∙ ap (option_or given) h
-
-pub repetition_kept : (given : Option Repetition) (set before taken after : Option (List Point)) → taken ≡ before → after ≡ option_or (listed given) taken → before ≡ set
-    → after ≡ option_or (listed given) set
-repetition_kept given set before taken after f g h = g ∙ ap (option_or (listed given)) (f ∙ h)
-
 -- a repetition that takes the modal one, which has no value
 pub unknown : (d : Variable → Bool) (rep : Option Repetition) (shifts : Option (List Point)) → d TheRepetition ≡ is_some (option_or (listed rep) shifts)
     → is_known rep shifts ≡ false → first_undefined d (of_repetition rep) ≡ Some TheRepetition

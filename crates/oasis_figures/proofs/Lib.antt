@@ -1,4 +1,5 @@
 pub mod Defined
+pub mod Figures
 pub mod Taking
 pub mod Rectangles
 pub mod Moved

@@ -5,7 +5,7 @@ ghost use Rattle.lvl_refusal.specs.Refused.{Says};
 ghost use Rattle.oasis_records.specs.declared.record.Record.{Record as ARecord};
 ghost use Rattle.oasis_figures.specs.Keeping.{StandsFor};
 ghost use Rattle.oasis_figures.specs.Rules.{Breaches};
-ghost use Rattle.oasis_figures.specs.inside.Paths.{a_path, IsResolved, BandsBreak};
+ghost use Rattle.oasis_figures.specs.inside.Paths.{a_path, IsStroke, IsResolved, BandsBreak};
 ghost use Rattle.oasis_figures.specs.inside.Taking.{Takes};
 
 use crate::drawn::Drawn;
@@ -24,14 +24,20 @@ use lvl_refusal::Refusal;
 use oasis_records::Path;
 use std::alloc::Global;
 
-/// A path of which every value but its points is known.
+/// The values of a path that come before its points.
 #[derive(Clone, Copy)]
-pub(crate) struct Resolved {
+pub(crate) struct Stroke {
     layer: u64,
     datatype: u64,
     half: u64,
     start: Extent,
     end: Extent,
+}
+
+/// A path of which every value but its points is known.
+#[derive(Clone, Copy)]
+pub(crate) struct Resolved {
+    stroke: Stroke,
     on: Layer,
     at: Point,
 }
@@ -56,10 +62,11 @@ fn bands_of(
 }
 
 impl Modal {
-    /// The values of a path, if it breaches no rule that is tested before its vertices.
-    fn resolve_path(&self, path: &Path) -> Result<Resolved, FigureRule>
-        ensures ok { IfOk result (λ v. (earlier : List ARecord) → StandsFor self.now earlier → IsResolved earlier path.now v) }
-        ensures err { IfErr result (λ rule. (earlier : List ARecord) → StandsFor self.now earlier → Breaches earlier (a_path path.now) rule) }
+    /// The values that come before the points of a path, if they are all known.
+    fn stroke_of(&self, path: &Path) -> Result<Stroke, FigureRule>
+        ensures ok { IfOk result (IsStroke self.now path.now) }
+        ensures err { IfErr result (λ rule. (earlier : List ARecord) → StandsFor self.now earlier
+            → Breaches earlier (a_path path.now) rule) }
     {
         let Some(layer) = path.on.layer.or(self.layer) else {
             return Err(FigureRule::Undefined(Variable::Layer));
@@ -77,6 +84,23 @@ impl Modal {
         let Some(end) = resolve(ends.end, half, self.end) else {
             return Err(FigureRule::Undefined(Variable::PathEndExtension));
         };
+        Ok(Stroke {
+            layer,
+            datatype,
+            half,
+            start,
+            end,
+        })
+    }
+
+    /// The values of a path, if it breaches no rule that is tested before its vertices.
+    fn resolve_path(&self, path: &Path) -> Result<Resolved, FigureRule>
+        ensures ok { IfOk result (λ v. (earlier : List ARecord) → StandsFor self.now earlier
+            → IsResolved earlier path.now v) }
+        ensures err { IfErr result (λ rule. (earlier : List ARecord) → StandsFor self.now earlier
+            → Breaches earlier (a_path path.now) rule) }
+    {
+        let stroke = self.stroke_of(path)?;
         if !are_known(&path.points, &self.path) {
             return Err(FigureRule::Undefined(Variable::PathPointList));
         }
@@ -84,21 +108,13 @@ impl Modal {
         if !is_known(&position.repetition, &self.repetition) {
             return Err(FigureRule::Undefined(Variable::Repetition));
         }
-        let Some(on) = layer_of(layer, datatype) else {
+        let Some(on) = layer_of(stroke.layer, stroke.datatype) else {
             return Err(FigureRule::Layer);
         };
         let Some(at) = moved(self.geometry, position.x, position.y, self.is_relative) else {
             return Err(FigureRule::OutOfRange);
         };
-        Ok(Resolved {
-            layer,
-            datatype,
-            half,
-            start,
-            end,
-            on,
-            at,
-        })
+        Ok(Resolved { stroke, on, at })
     }
 
     /// Takes a PATH. Its point list is moved into the modal variable, and its extensions are kept as
@@ -110,23 +126,23 @@ impl Modal {
     ) -> Result<Option<Drawn>, Refusal<FigureRule>>
         ensures { Takes self.old (a_path path) result self.new }
     {
-        let values = self.resolve_path(&path)?;
+        let Resolved { stroke, on, at } = self.resolve_path(&path)?;
         let points = listed(path.points);
-        let vertices = all_shifted(alloc, values.at, known(&points, &self.path))?;
-        let Some((start, end)) = reaches(values.start, values.end) else {
+        let vertices = all_shifted(alloc, at, known(&points, &self.path))?;
+        let Some((start, end)) = reaches(stroke.start, stroke.end) else {
             return Err(Refusal::Breach(FigureRule::Extension));
         };
-        let rings = bands_of(alloc, &vertices, values.half, start, end)?;
+        let rings = bands_of(alloc, &vertices, stroke.half, start, end)?;
         let repetition = path.position.repetition;
-        self.geometry = values.at;
-        self.layer = Some(values.layer);
-        self.datatype = Some(values.datatype);
-        self.half_width = Some(values.half);
+        self.geometry = at;
+        self.layer = Some(stroke.layer);
+        self.datatype = Some(stroke.datatype);
+        self.half_width = Some(stroke.half);
         self.start = Some(start);
         self.end = Some(end);
         self.path = points.or(self.path.take());
         self.is_repeated = repetition.is_some();
         self.repetition = after(repetition, self.repetition.take());
-        Ok(Some(Drawn::Rings(values.on, rings)))
+        Ok(Some(Drawn::Rings(on, rings)))
     }
 }

@@ -1,15 +1,14 @@
-use Rattle.std.proofs.Common.{◌≡◌, ◌∙◌, List, [], Option, Some, Err, refl, sym, ap, map}
-use Rattle.std.specs.Prelude.{option_map}
-use Rattle.std.specs.Option.{option_or}
-use Rattle.lvl_grid.specs.Turn.{shifted}
+use Rattle.std.proofs.Common.{◌≡◌, ◌∙◌, List, Some, Err, refl, sym, subst, map}
+use Rattle.std.specs.Prelude.{All}
+use Rattle.lvl_grid.specs.Turn.{FitsPoint, shifted}
 use Rattle.lvl_grid.specs.declared.point.Point.{Point}
 use Rattle.lvl_refusal.specs.declared.Refusal.TheVariants.{Breach}
+use Rattle.oasis_figures.specs.Modal.{modal, path_set, repetition_set}
 use Rattle.oasis_figures.specs.declared.rule.FigureRule.TheVariants.{Extension}
-use Rattle.oasis_figures.specs.Modal.{value_or, modal, path_set, repetition_set}
 use Rattle.oasis_figures.specs.inside.Extents.{reaches}
 use Rattle.oasis_figures.specs.inside.Paths.{a_path}
-use Rattle.oasis_figures.proofs.Bands.{vertices_refused, extension_refused, bands_refused, has_reaches, path_none, path_drawn}
-use Rattle.oasis_figures.proofs.Defined.{list_kept, repetition_kept}
+use Rattle.oasis_figures.proofs.Bands.{read_after, vertices_refused, extension_refused, bands_refused, has_reaches, path_none, path_drawn}
+use Rattle.oasis_figures.proofs.Figures.{list_kept, repetition_kept}
 use Rattle.oasis_figures.proofs.Taking.{takes_refused}
 use Rattle.oasis_figures.proofs.modal.Modal.take_path.Goals as goal
 
@@ -17,54 +16,65 @@ pub returns-in_err-vertices : goal.returns-in_err-vertices
 returns-in_err-vertices c =
     let m = c.args.self.now in
     let p = c.args.path in
-    let q : c.known.result.now ≡ value_or (option_or p.points (option_map (λ l. l.items) m.path)) [] = c.known.ensures ∙ ap (λ (o : Option (List Point)). value_or (option_or o (option_map (λ l. l.items) m.path)) []) c.listed-points.ensures in
-    takes_refused m (a_path p) c.from_residual-in_err-vertices.result c.in_err-vertices.field-0.0 c.from_residual-in_err-vertices.ensures
-    (vertices_refused m p c.in_ok-values.values c.known.result.now c.in_err-vertices.field-0.0 c.in_ok-values.ensures.ok q c.in_err-vertices.ensures.refused)
+    let v = c.in_ok-stroke.field-0 in
+    let list = c.listed-points in
+    let qs = map (shifted v.at) c.known.result.now in
+    let read = read_after m p v list.result c.known.result.now qs c.in_ok-stroke.ensures.ok list.ensures c.known.ensures refl in
+    let refusal = c.in_err-vertices.field-0.0 in
+    let refused = vertices_refused m p v qs refusal read c.in_err-vertices.ensures.refused in
+    takes_refused m (a_path p) c.from_residual-in_err-vertices.result refusal c.from_residual-in_err-vertices.ensures refused
 
 pub returns-in_default : goal.returns-in_default
 returns-in_default c =
     let m = c.args.self.now in
     let p = c.args.path in
-    let v = c.in_ok-values.values in
-    let ps = c.known.result.now in
-    let q : ps ≡ value_or (option_or p.points (option_map (λ l. l.items) m.path)) [] = c.known.ensures ∙ ap (λ (o : Option (List Point)). value_or (option_or o (option_map (λ l. l.items) m.path)) []) c.listed-points.ensures in
-    let known = c.in_ok-values.ensures.ok in
-    let fit = c.in_ok-vertices.ensures.fit in
-    takes_refused m (a_path p) (Err (Breach Extension)) (Breach Extension) (refl, refl) (extension_refused m p v ps known q fit (sym c.reaches.ensures ∙ c.in_default.is))
+    let v = c.in_ok-stroke.field-0 in
+    let list = c.listed-points in
+    let qs = map (shifted v.at) c.known.result.now in
+    let read = read_after m p v list.result c.known.result.now qs c.in_ok-stroke.ensures.ok list.ensures c.known.ensures refl in
+    let refused = extension_refused m p v qs read c.in_ok-vertices.ensures.fit (sym c.reaches.ensures ∙ c.in_default.is) in
+    takes_refused m (a_path p) (Err (Breach Extension)) (Breach Extension) (refl, refl) refused
 
 pub returns-in_err-rings : goal.returns-in_err-rings
 returns-in_err-rings c =
     let m = c.args.self.now in
     let p = c.args.path in
-    let v = c.in_ok-values.values in
-    let ps = c.known.result.now in
-    let q : ps ≡ value_or (option_or p.points (option_map (λ l. l.items) m.path)) [] = c.known.ensures ∙ ap (λ (o : Option (List Point)). value_or (option_or o (option_map (λ l. l.items) m.path)) []) c.listed-points.ensures in
-    let known = c.in_ok-values.ensures.ok in
-    let fit = c.in_ok-vertices.ensures.fit in
-    let w : c.deref.result.now ≡ map (shifted v.at) ps = c.deref.ensures.value ∙ c.in_ok-vertices.ensures.value in
-    takes_refused m (a_path p) c.from_residual-in_err-rings.result c.in_err-rings.field-0.0 c.from_residual-in_err-rings.ensures
-    (bands_refused m p v ps c.deref.result.now c.in-Some.start c.in-Some.end c.in_err-rings.field-0.0 known q fit (sym c.reaches.ensures ∙ c.in-Some.is) w c.in_err-rings.ensures.refused)
+    let v = c.in_ok-stroke.field-0 in
+    let list = c.listed-points in
+    let qs = c.deref.result.now in
+    let moved : qs ≡ map (shifted v.at) c.known.result.now = c.deref.ensures.value ∙ c.in_ok-vertices.ensures.value in
+    let read = read_after m p v list.result c.known.result.now qs c.in_ok-stroke.ensures.ok list.ensures c.known.ensures moved in
+    let fit = subst (λ (ps : List Point). All FitsPoint ps) (sym moved) c.in_ok-vertices.ensures.fit in
+    let x = c.in-Some.start in
+    let y = c.in-Some.end in
+    let refusal = c.in_err-rings.field-0.0 in
+    let refused = bands_refused m p v qs x y refusal read fit (sym c.reaches.ensures ∙ c.in-Some.is) c.in_err-rings.ensures.refused in
+    takes_refused m (a_path p) c.from_residual-in_err-rings.result refusal c.from_residual-in_err-rings.ensures refused
 
 pub returns : goal.returns
 returns c =
     let m = c.args.self.now in
     let p = c.args.path in
-    let v = c.in_ok-values.values in
-    let ps = c.known.result.now in
-    let q : ps ≡ value_or (option_or p.points (option_map (λ l. l.items) m.path)) [] = c.known.ensures ∙ ap (λ (o : Option (List Point)). value_or (option_or o (option_map (λ l. l.items) m.path)) []) c.listed-points.ensures in
-    let known = c.in_ok-values.ensures.ok in
-    let fit = c.in_ok-vertices.ensures.fit in
+    let v = c.in_ok-stroke.field-0 in
+    let list = c.listed-points in
     let qs = c.deref.result.now in
-    let w : qs ≡ map (shifted v.at) ps = c.deref.ensures.value ∙ c.in_ok-vertices.ensures.value in
+    let moved : qs ≡ map (shifted v.at) c.known.result.now = c.deref.ensures.value ∙ c.in_ok-vertices.ensures.value in
+    let read = read_after m p v list.result c.known.result.now qs c.in_ok-stroke.ensures.ok list.ensures c.known.ensures moved in
+    let fit = subst (λ (ps : List Point). All FitsPoint ps) (sym moved) c.in_ok-vertices.ensures.fit in
     let x = c.in-Some.start in
     let y = c.in-Some.end in
-    let r : reaches v.start v.end ≡ Some (x, y) = sym c.reaches.ensures ∙ c.in-Some.is in
+    let both : reaches v.stroke.start v.stroke.end ≡ Some (x, y) = sym c.reaches.ensures ∙ c.in-Some.is in
+    let rings = c.in_ok-rings.ensures in
     record {
-      drawn = λ earlier s. path_drawn m earlier p v ps qs c.in_ok-rings.rings x y s (known earlier s) q (has_reaches m earlier p v ps x y s (known earlier s) q fit r) w c.in_ok-rings.ensures.value;
+      drawn = λ earlier s.
+          let a = read earlier s in
+          path_drawn earlier p v qs c.in_ok-rings.rings x y a (has_reaches earlier p v x y a.values both) rings.value;
       places = λ earlier s. tt;
       kept = λ earlier s.
-          let a = known earlier s in
-          let h = has_reaches m earlier p v ps x y s a q fit r in
+          let a = (read earlier s).values in
+          let h = has_reaches earlier p v x y a both in
+          let set = modal path_set earlier in
+          let shifts = modal repetition_set earlier in
           record {
             relative = s.relative;
             placed = s.placed;
@@ -76,14 +86,18 @@ returns c =
             height = s.height;
             polygon = s.polygon;
             half_width = sym a.half;
-            path = list_kept p.points (modal path_set earlier) c.listed-points.result m.path c.take.result c.or.result c.listed-points.ensures c.take.ensures.value c.or.ensures s.path;
+            path = list_kept p.points set list.result m.path c.take.result c.or.result list.ensures c.take.ensures.value
+                c.or.ensures s.path;
             start = sym h.start;
             end = sym h.end;
-            repetition = repetition_kept p.position.repetition (modal repetition_set earlier) m.repetition c.take-2.result c.after.result c.take-2.ensures.value c.after.ensures s.repetition;
+            repetition = repetition_kept p.position.repetition shifts m.repetition c.take-2.result c.after.result
+                c.take-2.ensures.value c.after.ensures s.repetition;
             repeated = c.is_some-self.ensures;
             single = s.single;
           };
-      none = λ earlier s. path_none m earlier p v ps qs x y s (known earlier s) q (has_reaches m earlier p v ps x y s (known earlier s) q fit r) w c.in_ok-rings.ensures.path;
+      none = λ earlier s.
+          let a = read earlier s in
+          path_none earlier p v qs x y a fit (has_reaches earlier p v x y a.values both) rings.path;
       refused = tt;
       same = tt;
     }
