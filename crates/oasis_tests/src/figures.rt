@@ -9,10 +9,12 @@ use oasis_figures::{Drawn, FigureRule, Modal, Variable};
 use oasis_records::{CellRef, Record, RecordType, read_fields, read_id};
 use oasis_values::Input;
 use std::alloc::{AllocError, Global};
+use std::process::Abort;
 use std::test::Fail;
 
 /// What the last of some records draws: a ring by its vertices, bands by their corners (left, low,
 /// right, high), or how a cell is placed.
+#[derive(Drop)]
 enum Want {
     Ring(&'static [(i64, i64)]),
     Bands(&'static [(i64, i64, i64, i64)]),
@@ -102,10 +104,14 @@ fn placed(flip: bool, turn: Turn, x: i64, y: i64) -> Want {
 }
 
 /// Each row: what the last of its records draws, and at how many shifts.
-fn check(rt: &HostRuntime, rows: &[(&str, &[u8], Want, u64)]) -> Result<(), Fail> {
+fn check(
+    rt: &impl Abort,
+    alloc: Global,
+    rows: &[(&str, &[u8], Want, u64)],
+) -> Result<(), Fail> {
     for (name, bytes, want, shifts) in rows {
         let mut modal = Modal::new();
-        let got = take_all(&mut modal, rt.alloc(), bytes);
+        let got = take_all(&mut modal, alloc, bytes);
         if let Err(Refusal::OutOfMemory) = &got {
             return Err(AllocError.into());
         }
@@ -119,6 +125,7 @@ fn check(rt: &HostRuntime, rows: &[(&str, &[u8], Want, u64)]) -> Result<(), Fail
 fn figures(rt: HostRuntime) -> Result<(), Fail> {
     check(
         &rt,
+        rt.alloc(),
         &[
             (
                 "square-flag",
@@ -213,6 +220,7 @@ fn figures(rt: HostRuntime) -> Result<(), Fail> {
 fn placements(rt: HostRuntime) -> Result<(), Fail> {
     check(
         &rt,
+        rt.alloc(),
         &[
             (
                 "placement-fields",
