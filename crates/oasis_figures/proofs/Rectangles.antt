@@ -20,7 +20,8 @@ use Rattle.oasis_figures.specs.declared.variable.Variable.{Variable}
 use Rattle.oasis_figures.specs.declared.variable.Variable.TheVariants.{Layer as TheLayer, Datatype, GeometryW, GeometryH, Repetition as TheRepetition}
 use Rattle.oasis_figures.specs.inside.Rectangles.{a_rectangle, IsResolved}
 use Rattle.oasis_figures.specs.inside.Repeating.{is_known}
-use Rattle.oasis_figures.proofs.Defined.{later, next, known, AreDefined, BreaksNoLater, no_rule}
+use Rattle.oasis_figures.proofs.Defined.{later, next, known, BreaksNoLater, no_rule, narrow_at}
+use Rattle.oasis_figures.specs.inside.Known.{AreDefined}
 
 -- what is asked for after the layer, the datatype, the width and the height
 abbrev tail_4 : Rectangle → List Variable
@@ -75,11 +76,6 @@ pub all_defined : (m : Modal) (earlier : List Record) (r : Rectangle) (l d w h :
     → is_known r.position.repetition m.repetition ≡ true → AreDefined earlier (a_rectangle r)
 all_defined m earlier r l d w h s v k =
     size_known m earlier r l d w h s v (known (defined earlier r) r.position.repetition m.repetition (repeated m earlier r s) k)
-
--- numbers that are known
-narrow_at : (a b : Option ℕ) (l d : ℕ) → a ≡ Some l → b ≡ Some d → AreNarrow l d → AreNarrow (number a) (number b)
-narrow_at a b l d ea eb h =
-    subst (λ (o : Option ℕ). AreNarrow (number o) (number b)) (sym ea) (subst (λ (o : Option ℕ). AreNarrow l (number o)) (sym eb) h)
 
 layer_at : (m : Modal) (earlier : List Record) (r : Rectangle) (l : ℕ) → StandsFor m earlier → option_or r.on.layer m.layer ≡ Some l → modal layer_set (all earlier r) ≡ Some l
 layer_at m earlier r l s e = later r.on.layer s.layer e

@@ -11,10 +11,15 @@ pub use rule::FigureRule;
 pub use variable::Variable;
 
 mod drawn;
+mod extension;
 mod layer;
 mod modal;
+mod path;
+mod placement;
+mod polygon;
 mod position;
 mod rectangle;
 mod repetition;
 mod rule;
 mod variable;
+mod vertices;

@@ -14,7 +14,7 @@ use crate::rule::FigureRule;
 use lvl_cells::Offsets;
 use lvl_grid::Point;
 use lvl_refusal::Refusal;
-use oasis_records::{CellRef, Path, Placement, Polygon, Record};
+use oasis_records::{CellRef, Record};
 use std::alloc::Global;
 
 /// The modal variables, with the values that the records since CELL set (SEMI P39, "Modal
@@ -73,16 +73,16 @@ impl Modal {
     pub fn take(
         &mut self,
         alloc: Global,
-        record: Record,
+        next: Record,
     ) -> Result<Option<Drawn>, Refusal<FigureRule>>
-        ensures drawn { IfOk result (λ drawn. (earlier : List ARecord) → StandsFor self.old earlier → IsDrawn earlier record drawn) }
-        ensures places { IfOk result (λ drawn. (earlier : List ARecord) → StandsFor self.old earlier → PlacesFit (shifts_of earlier record) drawn) }
-        ensures kept { OnOk result ((earlier : List ARecord) → StandsFor self.old earlier → StandsFor self.new (record ∷ earlier)) }
-        ensures none { OnOk result ((earlier : List ARecord) → StandsFor self.old earlier → BreachesNone earlier record) }
-        ensures refused { IfErr result (λ e. Says e (λ rule. (earlier : List ARecord) → StandsFor self.old earlier → Breaches earlier record rule)) }
+        ensures drawn { IfOk result (λ drawn. (earlier : List ARecord) → StandsFor self.old earlier → IsDrawn earlier next drawn) }
+        ensures places { IfOk result (λ drawn. (earlier : List ARecord) → StandsFor self.old earlier → PlacesFit (shifts_of earlier next) drawn) }
+        ensures kept { OnOk result ((earlier : List ARecord) → StandsFor self.old earlier → StandsFor self.new (next ∷ earlier)) }
+        ensures none { OnOk result ((earlier : List ARecord) → StandsFor self.old earlier → BreachesNone earlier next) }
+        ensures refused { IfErr result (λ e. Says e (λ rule. (earlier : List ARecord) → StandsFor self.old earlier → Breaches earlier next rule)) }
         ensures same { OnErr result (self.new ≡ self.old) }
     {
-        match record {
+        match next {
             Record::Rectangle(rectangle) => self.take_rectangle(alloc, rectangle),
             Record::Polygon(polygon) => self.take_polygon(alloc, polygon),
             Record::Path(path) => self.take_path(alloc, path),
@@ -122,38 +122,12 @@ impl Modal {
     }
 
     /// Takes a record that sets nothing.
-    fn take_other(&mut self, record: Record) -> Result<Option<Drawn>, Refusal<FigureRule>>
-        requires { IsOther record }
-        ensures { Takes self.old record result self.new }
+    fn take_other(&mut self, next: Record) -> Result<Option<Drawn>, Refusal<FigureRule>>
+        requires { IsOther next }
+        ensures { Takes self.old next result self.new }
     {
-        drop(record);
+        drop(next);
         self.is_repeated = false;
         Ok(None)
-    }
-
-    fn take_polygon(
-        &mut self,
-        alloc: Global,
-        polygon: Polygon,
-    ) -> Result<Option<Drawn>, Refusal<FigureRule>>
-        ensures { Takes self.old (Record.Polygon polygon) result self.new }
-    {
-        Err(Refusal::OutOfMemory)
-    }
-
-    fn take_path(
-        &mut self,
-        alloc: Global,
-        path: Path,
-    ) -> Result<Option<Drawn>, Refusal<FigureRule>>
-        ensures { Takes self.old (Record.Path path) result self.new }
-    {
-        Err(Refusal::OutOfMemory)
-    }
-
-    fn take_placement(&mut self, placement: Placement) -> Result<Option<Drawn>, Refusal<FigureRule>>
-        ensures { Takes self.old (Record.Placement placement) result self.new }
-    {
-        Err(Refusal::OutOfMemory)
     }
 }

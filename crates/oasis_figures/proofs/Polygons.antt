@@ -1,0 +1,111 @@
+-- Polygons: their rings, and the rules that they breach.
+use Rattle.std.proofs.Common.{◌≡◌, ◌∙◌, List, [], ◌∷◌, Option, Some, refl, sym, ap, subst, arith, map}
+use Rattle.std.specs.Prelude.{◌<◌, All, option_map}
+use Rattle.std.specs.Option.{option_or}
+use Rattle.std.specs.declared.alloc.Global.{Global}
+use Rattle.std.specs.declared.vec.Vec.{Vec}
+use Rattle.lvl_grid.specs.Turn.{FitsPoint, shifted}
+use Rattle.lvl_grid.specs.Winding.{IsRing}
+use Rattle.lvl_grid.specs.declared.point.Point.{Point}
+use Rattle.lvl_refusal.specs.Refused.{Says}
+use Rattle.lvl_refusal.specs.declared.Refusal.{Refusal}
+use Rattle.lvl_refusal.specs.declared.Refusal.TheVariants.{Breach, OutOfMemory}
+use Rattle.oasis_records.specs.declared.polygon.Polygon.{Polygon}
+use Rattle.oasis_records.specs.declared.record.Record.{Record}
+use Rattle.oasis_figures.specs.Figures.{polygon_ring, layer_of, shifts_of, IsDrawn}
+use Rattle.oasis_figures.specs.Keeping.{StandsFor}
+use Rattle.oasis_figures.specs.Modal.{value_or, modal, polygon_set, geometry}
+use Rattle.oasis_figures.specs.Rules.{Breaks, Breaches, BreachesNone, order}
+use Rattle.oasis_figures.specs.declared.drawn.Drawn.TheVariants.{Ring}
+use Rattle.oasis_figures.specs.declared.modal.Modal.{Modal}
+use Rattle.oasis_figures.specs.declared.polygon.Resolved.{Resolved}
+use Rattle.oasis_figures.specs.declared.rule.FigureRule.{FigureRule}
+use Rattle.oasis_figures.specs.declared.rule.FigureRule.TheVariants.{Undefined, Layer as WideLayer, OutOfRange, Magnification, Angle}
+use Rattle.oasis_figures.specs.declared.rule.FigureRule.TheVariants.{Extension, Oblique, Path}
+use Rattle.oasis_figures.specs.inside.Polygons.{a_polygon, IsResolved, RingBreaks}
+use Rattle.oasis_figures.proofs.Defined.{BreaksNoLater, no_rule, known_first}
+use Rattle.oasis_figures.proofs.Figures.{vertices_at, layer_is, shape_is}
+use Rattle.oasis_figures.proofs.Taking.{BreachesAfter}
+
+-- the values of a polygon are known, and the vertices are its points, moved to where it is
+pub record IsRead (earlier : List Record) (p : Polygon) (v : Resolved) (vertices : List Point) : Type 0 where
+  pub values : IsResolved earlier p v
+  pub points : vertices ≡ polygon_ring (a_polygon p ∷ earlier)
+
+-- so it is after all records that the variables stand for
+abbrev pub IsReadAfter : Modal → Polygon → Resolved → List Point → Type 0
+IsReadAfter m p v vertices = (earlier : List Record) → StandsFor m earlier → IsRead earlier p v vertices
+
+pub read_after : (m : Modal) (p : Polygon) (v : Resolved) (list : Option (Vec Point Global)) (points vertices : List Point)
+    → ((earlier : List Record) → StandsFor m earlier → IsResolved earlier p v) → option_map (λ l. l.items) list ≡ p.points
+    → points ≡ value_or (option_or (option_map (λ l. l.items) list) (option_map (λ l. l.items) m.polygon)) []
+    → vertices ≡ map (shifted v.at) points → IsReadAfter m p v vertices
+read_after m p v list points vertices known f g w = λ earlier s.
+    let place = geometry (a_polygon p ∷ earlier) in
+    record {
+      values = known earlier s;
+      points = w ∙ vertices_at place v.at p.points list m.polygon (modal polygon_set earlier) points (known earlier s).at f s.polygon g;
+    }
+
+-- no rule before Oblique is breached where the vertices fit
+before_oblique : (earlier : List Record) (p : Polygon) (v : Resolved) (qs : List Point) → IsRead earlier p v qs → All FitsPoint qs
+    → (other : FigureRule) → order other < 6 → ¬ Breaks earlier (a_polygon p) other
+before_oblique earlier p v qs a h (Undefined x) lt b = known_first earlier (a_polygon p) a.values.known (Undefined x) (omega arith) b
+before_oblique earlier p v qs a h WideLayer lt b = known_first earlier (a_polygon p) a.values.known WideLayer (omega arith) b
+before_oblique earlier p v qs a h OutOfRange lt b =
+    b (subst FitsPoint (sym a.values.at) a.values.fits, subst (λ (ps : List Point). All FitsPoint ps) a.points h)
+before_oblique earlier p v qs a h Magnification lt b = b
+before_oblique earlier p v qs a h Angle lt b = b
+before_oblique earlier p v qs a h Extension lt b = b
+before_oblique earlier p v qs a h Oblique lt b = omega (arith, lt)
+before_oblique earlier p v qs a h (Path f) lt b = b
+
+ring_breached : (earlier : List Record) (p : Polygon) (v : Resolved) (qs : List Point) (rule : FigureRule) → IsRead earlier p v qs
+    → RingBreaks qs rule → Breaches earlier (a_polygon p) rule
+ring_breached earlier p v qs OutOfRange a b = record {
+  broken = λ h. b (subst (λ (ps : List Point). All FitsPoint ps) (sym a.points) h.1);
+  first = known_first earlier (a_polygon p) a.values.known;
+}
+ring_breached earlier p v qs Oblique a b = record {
+  broken = λ h. b.1 (subst IsRing (sym a.points) h);
+  first = before_oblique earlier p v qs a b.0;
+}
+ring_breached earlier p v qs (Undefined x) a b = absurd b
+ring_breached earlier p v qs WideLayer a b = absurd b
+ring_breached earlier p v qs Magnification a b = absurd b
+ring_breached earlier p v qs Angle a b = absurd b
+ring_breached earlier p v qs Extension a b = absurd b
+ring_breached earlier p v qs (Path f) a b = absurd b
+
+pub ring_refused : (m : Modal) (p : Polygon) (v : Resolved) (qs : List Point) (x : Refusal FigureRule) → IsReadAfter m p v qs
+    → Says x (RingBreaks qs) → Says x (BreachesAfter m (a_polygon p))
+ring_refused m p v qs (Breach rule) read b = λ earlier s. ring_breached earlier p v qs rule (read earlier s) b
+ring_refused m p v qs OutOfMemory read b = tt
+
+no_later : (earlier : List Record) (p : Polygon) → IsRing (polygon_ring (a_polygon p ∷ earlier)) → BreaksNoLater earlier (a_polygon p)
+no_later earlier p h (Undefined v) lt b = omega (arith, lt)
+no_later earlier p h WideLayer lt b = omega (arith, lt)
+no_later earlier p h OutOfRange lt b = omega (arith, lt)
+no_later earlier p h Magnification lt b = b
+no_later earlier p h Angle lt b = b
+no_later earlier p h Extension lt b = b
+no_later earlier p h Oblique lt b = b h
+no_later earlier p h (Path f) lt b = b
+
+pub polygon_none : (earlier : List Record) (p : Polygon) (v : Resolved) (qs : List Point) → IsRead earlier p v qs → All FitsPoint qs
+    → IsRing qs → BreachesNone earlier (a_polygon p)
+polygon_none earlier p v qs a h ring =
+    let fits = subst (λ (ps : List Point). All FitsPoint ps) a.points h in
+    no_rule earlier (a_polygon p) a.values.known.defined a.values.known.narrow
+    (λ out. out (subst FitsPoint (sym a.values.at) a.values.fits, fits)) (no_later earlier p (subst IsRing a.points ring))
+
+pub polygon_drawn : (earlier : List Record) (p : Polygon) (v : Resolved) (qs ring : List Point) → IsRead earlier p v qs → ring ≡ qs
+    → IsDrawn earlier (a_polygon p) (Some (Ring v.on ring))
+polygon_drawn earlier p v qs ring a e =
+    let all = a_polygon p ∷ earlier in
+    let layer = layer_is all v.layer v.datatype v.on a.values.layer a.values.datatype a.values.on in
+    let rings = ap (λ (ps : List Point). ps ∷ []) (e ∙ a.points) in
+    record {
+      shapes = shape_is v.on (layer_of all) (ring ∷ []) (polygon_ring all ∷ []) (shifts_of earlier (a_polygon p)) layer rings;
+      placements = refl;
+    }

@@ -1,0 +1,12 @@
+-- What is known of a record before its place is tested.
+use Rattle.std.specs.Prelude.{◌≡◌, ◌∷◌, List, None}
+use Rattle.oasis_records.specs.declared.record.Record.{Record}
+use Rattle.oasis_figures.specs.Rules.{first_undefined, is_defined, taken, HasWideLayer}
+
+abbrev pub AreDefined : List Record → Record → Type 0
+AreDefined earlier r = first_undefined (is_defined (r ∷ earlier)) (taken r) ≡ None
+
+-- each variable that it takes has a value, and its layer and its datatype are numbers of 32 bits
+pub record IsKnown (earlier : List Record) (r : Record) : Type 0 where
+  pub defined : AreDefined earlier r
+  pub narrow : ¬ HasWideLayer earlier r

@@ -1,0 +1,126 @@
+//! PLACEMENT: a cell, turned by right angles.
+ghost use Rattle.std.specs.Prelude.{◌≡◌, List, IfOk, IfErr};
+ghost use Rattle.oasis_records.specs.declared.record.Record.{Record as ARecord};
+ghost use Rattle.oasis_figures.specs.Figures.{is_number, turn_by, turn_of, is_magnified};
+ghost use Rattle.oasis_figures.specs.Keeping.{StandsFor};
+ghost use Rattle.oasis_figures.specs.Rules.{Breaches};
+ghost use Rattle.oasis_figures.specs.inside.Placements.{a_placement, IsResolved};
+ghost use Rattle.oasis_figures.specs.inside.Taking.{Takes};
+
+use crate::drawn::Drawn;
+use crate::modal::Modal;
+use crate::position::moved;
+use crate::repetition::{after, all_fit_at, is_known};
+use crate::rule::FigureRule;
+use crate::variable::Variable;
+use lvl_grid::{Map, Turn};
+use lvl_refusal::Refusal;
+use oasis_records::{Placement, Transform};
+use oasis_values::Real;
+
+/// Whether a real is that number.
+fn is_number(number: u64, real: Real) -> bool
+    ensures { result ≡ is_number number real }
+{
+    match real {
+        Real::Whole(whole) => whole == number,
+        Real::Reciprocal(denominator) => number.checked_mul(denominator) == Some(1),
+        Real::Ratio(numerator, denominator) => number.checked_mul(denominator) == Some(numerator),
+        _ => false,
+    }
+}
+
+/// The turn by so many degrees, or None where it is by no right angles.
+fn turn_by(angle: Real) -> Option<Turn>
+    ensures { result ≡ turn_by angle }
+{
+    if is_number(0, angle) {
+        return Some(Turn::R0);
+    }
+    if is_number(90, angle) {
+        return Some(Turn::R90);
+    }
+    if is_number(180, angle) {
+        return Some(Turn::R180);
+    }
+    if is_number(270, angle) {
+        return Some(Turn::R270);
+    }
+    None
+}
+
+/// How a cell is turned, or None where that is by no right angles.
+fn turn_of(transform: Transform) -> Option<Turn>
+    ensures { result ≡ turn_of transform }
+{
+    match transform {
+        Transform::Turned(turn) => Some(turn),
+        Transform::Scaled { angle: None, .. } => Some(Turn::R0),
+        Transform::Scaled {
+            angle: Some(angle),
+            ..
+        } => turn_by(angle),
+    }
+}
+
+/// Whether a cell is larger or smaller than it is drawn.
+fn is_magnified(transform: Transform) -> bool
+    ensures { result ≡ is_magnified transform }
+{
+    match transform {
+        Transform::Scaled {
+            magnification: Some(magnification),
+            ..
+        } => !is_number(1, magnification),
+        _ => false,
+    }
+}
+
+impl Modal {
+    /// How the cell is placed, if the placement breaches no rule.
+    fn resolve_placement(&self, placement: &Placement) -> Result<Map, FigureRule>
+        ensures ok { IfOk result (λ by. (earlier : List ARecord) → StandsFor self.now earlier → IsResolved earlier placement.now by) }
+        ensures err { IfErr result (λ rule. (earlier : List ARecord) → StandsFor self.now earlier → Breaches earlier (a_placement placement.now) rule) }
+    {
+        if placement.cell.is_none() && self.cell.is_none() {
+            return Err(FigureRule::Undefined(Variable::PlacementCell));
+        }
+        let position = &placement.position;
+        if !is_known(&position.repetition, &self.repetition) {
+            return Err(FigureRule::Undefined(Variable::Repetition));
+        }
+        let Some(at) = moved(self.placement, position.x, position.y, self.is_relative) else {
+            return Err(FigureRule::OutOfRange);
+        };
+        if !all_fit_at(at, &position.repetition, &self.repetition) {
+            return Err(FigureRule::OutOfRange);
+        }
+        if is_magnified(placement.transform) {
+            return Err(FigureRule::Magnification);
+        }
+        let Some(turn) = turn_of(placement.transform) else {
+            return Err(FigureRule::Angle);
+        };
+        Ok(Map {
+            flip: placement.flip,
+            turn,
+            at,
+        })
+    }
+
+    /// Takes a PLACEMENT.
+    pub(crate) fn take_placement(
+        &mut self,
+        placement: Placement,
+    ) -> Result<Option<Drawn>, Refusal<FigureRule>>
+        ensures { Takes self.old (a_placement placement) result self.new }
+    {
+        let by = self.resolve_placement(&placement)?;
+        let repetition = placement.position.repetition;
+        self.placement = by.at;
+        self.cell = placement.cell.or(self.cell.take());
+        self.is_repeated = repetition.is_some();
+        self.repetition = after(repetition, self.repetition.take());
+        Ok(Some(Drawn::Placement(by)))
+    }
+}
