@@ -18,7 +18,7 @@ use Rattle.oasis_library.specs.inside.Taken.{grown}
 abbrev IsOther : Record → Type 0
 IsOther r = (is_cell r ≡ false) × (cell_in r ≡ [])
 
-cell_or : (r : Record) → ((c : CellRef) × (r ≡ Cell c)) ⊎ IsOther r
+pub cell_or : (r : Record) → ((c : CellRef) × (r ≡ Cell c)) ⊎ IsOther r
 cell_or (Cell c) = inl (c, refl)
 cell_or Pad = inr (refl, refl)
 cell_or (Start s) = inr (refl, refl)
@@ -30,6 +30,18 @@ cell_or (Placement p) = inr (refl, refl)
 cell_or (Rectangle p) = inr (refl, refl)
 cell_or (Polygon p) = inr (refl, refl)
 cell_or (Path p) = inr (refl, refl)
+
+pub is_other : (r : Record) → ((c : CellRef) → r ≡ Cell c → ⊥) → is_cell r ≡ false
+is_other r h = elim (cell_or r) [
+  | inl c ↦ absurd (h c.0 c.1)
+  | inr o ↦ o.0
+]
+
+-- the last item is changed
+pub last_changed : {A : Type 0} (f : A → A) (xs : List A) (x y : A) → y ≡ f x → xs ++ y ∷ [] ≡ on_last f (xs ++ x ∷ [])
+last_changed f [] x y e = ap (λ z. z ∷ []) e
+last_changed f (a ∷ []) x y e = ap (λ z. a ∷ z ∷ []) e
+last_changed f (a ∷ b ∷ xs) x y e = ap (λ l. a ∷ l) (last_changed f (b ∷ xs) x y e)
 
 -- the records since the last CELL, with one more
 pub since-snoc : (e rs : List Record) (r : Record) → since e (rs ++ r ∷ []) ≡ (if is_cell r then [] else r ∷ since e rs)
@@ -65,7 +77,7 @@ added : {A : Type 0} (f : List Record → Record → List A) (e rs : List Record
 added f e [] r h n = ap (λ b. if b then [] else f e r ++ []) h ∙ append-nil (f e r)
 added f e (x ∷ rs) r h n =
     elim (is_cell x) as (λ b. b || has_cell rs ≡ false
-        → (if b then [] else f e x ++ to_next_cell f (x ∷ e) (rs ++ r ∷ [])) ≡ (if b then [] else f e x ++ to_next_cell f (x ∷ e) rs) ++ f (since (if b then [] else x ∷ e) rs) r) [
+    → (if b then [] else f e x ++ to_next_cell f (x ∷ e) (rs ++ r ∷ [])) ≡ (if b then [] else f e x ++ to_next_cell f (x ∷ e) rs) ++ f (since (if b then [] else x ∷ e) rs) r) [
       | true ↦ λ k. (let z : true ≡ false = k in cc)
       | false ↦ λ k. ap (λ l. f e x ++ l) (added f (x ∷ e) rs r h k) ∙ sym (append_assoc (f e x) (to_next_cell f (x ∷ e) rs) (f (since (x ∷ e) rs) r))
     ] n

@@ -1,18 +1,34 @@
 -- One more record is held.
-use Rattle.std.proofs.Common.{◌≡◌, List, [], ◌∷◌, ◌++◌, map, refl, sym, ap, ◌∙◌, subst}
-use Rattle.std.specs.Prelude.{flat_map}
+use Rattle.std.proofs.Common.{◌≡◌, false, List, [], ◌∷◌, ◌++◌, map, refl, sym, ap, ◌∙◌, subst, if◌then◌else◌, Result, Ok, Err, IfOk, OnOk}
+use Rattle.std.specs.Prelude.{flat_map, Option}
+use Rattle.lvl_refusal.specs.declared.Refusal.{Refusal}
+use Rattle.lvl_refusal.specs.declared.Refusal.TheVariants.{Breach, OutOfMemory}
+use Rattle.oasis_records.specs.declared.cell.CellRef.{CellRef}
+use Rattle.oasis_records.specs.declared.record.Record.TheVariants.{Cell}
+use Rattle.oasis_figures.specs.Figures.{shifts_of, IsDrawn, PlacesFit}
+use Rattle.oasis_figures.specs.Rules.{BreachesNone}
+use Rattle.oasis_figures.specs.declared.drawn.Drawn.{Drawn}
+use Rattle.oasis_figures.specs.declared.modal.Modal.{Modal}
+use Rattle.oasis_figures.specs.declared.rule.FigureRule.{FigureRule}
+use Rattle.oasis_stream.specs.declared.fault.NameRule.{NameRule}
+use Rattle.oasis_stream.specs.declared.fault.OasisKind.{OasisKind}
+use Rattle.oasis_stream.specs.declared.fault.OasisKind.TheVariants.{Value, Record as OfRecord, Unexpected, Name, Figure, AfterEnd, TooManyCells}
 use Rattle.oasis_values.specs.declared.number.Real.TheVariants.{Whole}
 use Rattle.oasis_records.specs.declared.end.Validation.TheVariants.{Absent}
 use Rattle.oasis_records.specs.declared.record.Record.{Record}
 use Rattle.oasis_figures.specs.Keeping.{StandsFor}
 use Rattle.oasis_stream.specs.Items.{Item, magic, item, records}
 use Rattle.oasis_stream.specs.Order.{last_or, name_in, names_in}
-use Rattle.oasis_stream.specs.Rules.{since_cell}
+use Rattle.oasis_stream.specs.Rules.{is_cell, since_cell, NamingBreaches, RecordBreaches}
 use Rattle.oasis_stream.specs.inside.Reached.{HasReached, passed}
 use Rattle.oasis_stream.proofs.Reached.{law_passed, flat_map-snoc, last_or-append}
 use Rattle.oasis_library.specs.Cells.{drawings, with_rings}
 use Rattle.oasis_library.specs.Head.{unit_in, validation_in}
+use Rattle.oasis_library.specs.inside.Answers.{of_name, of_figure}
 use Rattle.oasis_library.specs.inside.Holds.{HoldsNames, Holds}
+use Rattle.oasis_library.specs.inside.Kept.{begun, on_last}
+use Rattle.oasis_library.specs.inside.Taken.{IsTaken, grown}
+use Rattle.oasis_library.proofs.Growing.{since-snoc, since-other, kept-other, kept-cell}
 use Rattle.oasis_library.specs.declared.reading.Reading.{Reading}
 
 last-snoc : {A : Type 0} (f : Record → List A) (d x y : A) (rs : List Record) (r : Record) → x ≡ last_or d (flat_map f rs) → y ≡ last_or x (f r) → y ≡ last_or d (flat_map f (rs ++ r ∷ []))
@@ -42,3 +58,62 @@ pub records-snoc : (is : List Item) (r : Record) → records (is ++ item r ∷ [
 records-snoc [] r = refl
 records-snoc (magic ∷ is) r = records-snoc is r
 records-snoc (item x ∷ is) r = ap (λ l. x ∷ l) (records-snoc is r)
+
+-- what comes after a CELL
+pub cell_goes : (x y : Reading) (rs : List Record) (next : Record) (name : CellRef) → next ≡ Cell name → Holds x rs
+    → y.order ≡ passed x.order next → HoldsNames y.names (names_in rs ++ name_in next) → StandsFor y.modal [] → y.cells ≡ x.cells ++ begun name ∷ []
+    → y.head.unit ≡ last_or x.head.unit (unit_in next) → y.head.validation ≡ last_or x.head.validation (validation_in next) → Holds y (rs ++ next ∷ [])
+cell_goes x y rs next name is h order names modal cells unit validation = law_holds x y rs next h (record {
+  order = order;
+  names = names;
+  modal = subst (StandsFor y.modal) (sym (since-snoc [] rs next ∙ ap (λ (i : Record). if is_cell i then [] else i ∷ since_cell rs) is)) modal;
+  cells = cells ∙ ap (λ l. l ++ begun name ∷ []) h.cells ∙ sym (kept-cell rs name) ∙ ap (λ (i : Record). map with_rings (drawings (rs ++ i ∷ []))) (sym is);
+  unit = unit;
+  validation = validation;
+})
+
+-- and after another record
+pub other_goes : (x y : Reading) (rs : List Record) (next : Record) → is_cell next ≡ false → Holds x rs
+    → y.order ≡ passed x.order next → HoldsNames y.names (names_in rs ++ name_in next) → StandsFor y.modal (next ∷ since_cell rs) → y.cells ≡ on_last (grown (since_cell rs) next) x.cells
+    → y.head.unit ≡ last_or x.head.unit (unit_in next) → y.head.validation ≡ last_or x.head.validation (validation_in next) → Holds y (rs ++ next ∷ [])
+other_goes x y rs next other h order names modal cells unit validation = law_holds x y rs next h (record {
+  order = order;
+  names = names;
+  modal = subst (StandsFor y.modal) (sym (since-other rs next other)) modal;
+  cells = cells ∙ ap (on_last (grown (since_cell rs) next)) h.cells ∙ sym (kept-other rs next other);
+  unit = unit;
+  validation = validation;
+})
+
+-- what was answered of names and of figures
+
+pub name_ok : {P : Type 0} (r : Result (Unit {0}) (Refusal NameRule)) (q : Result (Unit {0}) (Refusal OasisKind)) (u : Unit {0}) → q ≡ of_name r → q ≡ Ok u → OnOk r P → P
+name_ok (Ok v) q u e f p = p
+name_ok (Err (Breach k)) q u e f p = (let z : Err (Breach (Name k)) ≡ Ok u = sym e ∙ f in cc)
+name_ok (Err OutOfMemory) q u e f p = (let z : Err OutOfMemory ≡ Ok u = sym e ∙ f in cc)
+
+pub record Takes (old new : Modal) (next : Record) (r : Result (Option Drawn) (Refusal FigureRule)) : Type 0 where
+  pub drawn : IfOk r (λ drawn. (earlier : List Record) → StandsFor old earlier → IsDrawn earlier next drawn)
+  pub places : IfOk r (λ drawn. (earlier : List Record) → StandsFor old earlier → PlacesFit (shifts_of earlier next) drawn)
+  pub kept : OnOk r ((earlier : List Record) → StandsFor old earlier → StandsFor new (next ∷ earlier))
+  pub none : OnOk r ((earlier : List Record) → StandsFor old earlier → BreachesNone earlier next)
+
+pub figure_ok : (old new : Modal) (next : Record) (r : Result (Option Drawn) (Refusal FigureRule)) (q : Result (Option Drawn) (Refusal OasisKind)) (d : Option Drawn)
+    → q ≡ of_figure r → q ≡ Ok d → Takes old new next r → (earlier : List Record) → StandsFor old earlier → IsTaken earlier next d new
+figure_ok old new next (Ok x) q d e f t earlier h =
+    let z : Ok x ≡ Ok d = sym e ∙ f in
+    let same : x ≡ d = cc in
+    subst (λ (i : Option Drawn). IsTaken earlier next i new) same (record { stands = t.kept earlier h; draws = t.drawn earlier h; fits = t.places earlier h; none = t.none earlier h })
+figure_ok old new next (Err (Breach k)) q d e f t earlier h = (let z : Err (Breach (Figure k)) ≡ Ok d = sym e ∙ f in cc)
+figure_ok old new next (Err OutOfMemory) q d e f t earlier h = (let z : Err OutOfMemory ≡ Ok d = sym e ∙ f in cc)
+
+-- neither a rule of names is breached nor one of figures
+pub none_breached : (rs : List Record) (r : Record) → ((k : NameRule) → NamingBreaches (names_in rs) r k → ⊥) → BreachesNone (since_cell rs) r
+    → (k : OasisKind) → RecordBreaches rs r k → ⊥
+none_breached rs r names figures (Name k) b = names k b
+none_breached rs r names figures (Figure k) b = figures k b.broken
+none_breached rs r names figures (Value f) b = b
+none_breached rs r names figures (OfRecord k) b = b
+none_breached rs r names figures (Unexpected id) b = b
+none_breached rs r names figures AfterEnd b = b
+none_breached rs r names figures TooManyCells b = b

@@ -1,6 +1,6 @@
 -- What one name more does to the names by their numbers.
 use Rattle.std.proofs.Common.{◌≡◌, ◌==◌, ℕ, ◌+◌, Bool, true, false, ◌||◌, cond, if◌then◌else◌, List, [], ◌∷◌, ◌++◌, length, map, Some, None, refl, sym, ap, ◌∙◌, subst, arith, Contains}
-use Rattle.std.specs.Prelude.{Option, not}
+use Rattle.std.specs.Prelude.{Option, is_some, unwrap_or}
 use Rattle.std.specs.BTreeMap.{BTreeMap, get, btree_map_len, IsEmpty, Updates}
 use Rattle.std.specs.BTreeSet as sorted
 use Rattle.std.specs.BTreeSet.{BTreeSet, contains}
@@ -8,7 +8,7 @@ use Rattle.std.specs.Cmp.Lexicographic.{slice_cmp}
 use Rattle.std.specs.Global.{Vec}
 use Rattle.std.specs.List.{list_any}
 use Rattle.std.specs.Option.{option_or}
-use Rattle.std.specs.Ordering.{nat_cmp, is_eq, Ordering}
+use Rattle.std.specs.Ordering.{nat_cmp, is_eq}
 use Rattle.std.specs.Str.{bytes_eq}
 use Rattle.std.proofs.lemmas.Bool.Decides.{nat_tests}
 use Rattle.std.proofs.lemmas.List.{map-append, length_push}
@@ -18,7 +18,12 @@ use Rattle.std.proofs.lemmas.Map.Views.{list_any-from_Contains, Contains-from_an
 use Rattle.std.proofs.lemmas.Slice.Eq.{bytes_eq-Decides}
 use Rattle.lvl_cells.proofs.Indexes.{bytes_eq_laws}
 use Rattle.oasis_records.specs.declared.cell.CellName.{CellName}
-use Rattle.oasis_stream.specs.Names.{number_after, name_from, name_of}
+use Rattle.oasis_stream.specs.Names.{number_by, number_after, name_from, name_of, RepeatsNumber, RepeatsName}
+use Rattle.oasis_stream.specs.Rules.{NameBreaches}
+use Rattle.oasis_stream.specs.declared.fault.NameRule.{NameRule}
+use Rattle.oasis_stream.specs.declared.fault.NameRule.TheVariants.{Mixed, NumberTwice, NameTwice}
+use Rattle.oasis_library.specs.inside.Holds.{HoldsNames}
+use Rattle.oasis_library.specs.declared.names.Names.{Names}
 
 or_none : {A : Type 0} (o : Option A) → option_or o None ≡ o
 or_none None = refl
@@ -67,9 +72,6 @@ numbered_on m n cs c number name old is named none u k =
     ∙ ap (λ j. if j == k then Some c.name else name_of cs k) is
     ∙ sym (name_on cs c k (subst (λ j. name_of cs j ≡ None) is none))
 
-abbrev bytes_cmp : Vec ℕ → Vec ℕ → Ordering
-bytes_cmp x y = slice_cmp nat_cmp x.items y.items
-
 abbrev names : List CellName → List (List ℕ)
 names cs = map (λ c. c.name) cs
 
@@ -89,12 +91,12 @@ cond_or false false = refl
 
 -- one name more, among all
 pub seen_on : (s t : BTreeSet (Vec ℕ)) (cs : List CellName) (c : CellName) (key : Vec ℕ)
-    → ((q : Vec ℕ) → contains bytes_cmp s q ≡ list_any (bytes_eq q.items) (names cs)) → key.items ≡ c.name
-    → sorted.Updates bytes_cmp s t key true → (q : Vec ℕ) → contains bytes_cmp t q ≡ list_any (bytes_eq q.items) (names (cs ++ c ∷ []))
+    → ((q : Vec ℕ) → contains (λ x y. slice_cmp nat_cmp x.items y.items) s q ≡ list_any (bytes_eq q.items) (names cs)) → key.items ≡ c.name
+    → sorted.Updates (λ x y. slice_cmp nat_cmp x.items y.items) s t key true → (q : Vec ℕ) → contains (λ x y. slice_cmp nat_cmp x.items y.items) t q ≡ list_any (bytes_eq q.items) (names (cs ++ c ∷ []))
 seen_on s t cs c key old is u q =
     u.0 q
-    ∙ ap (λ b. cond b true (contains bytes_cmp s q)) (is_eq-slice_cmp key.items q.items ∙ eq_sym key.items q.items ∙ ap (bytes_eq q.items) is)
-    ∙ cond_or (bytes_eq q.items c.name) (contains bytes_cmp s q)
+    ∙ ap (λ b. cond b true (contains (λ x y. slice_cmp nat_cmp x.items y.items) s q)) (is_eq-slice_cmp key.items q.items ∙ eq_sym key.items q.items ∙ ap (bytes_eq q.items) is)
+    ∙ cond_or (bytes_eq q.items c.name) (contains (λ x y. slice_cmp nat_cmp x.items y.items) s q)
     ∙ ap (λ b. b || (bytes_eq q.items c.name || false)) (old q)
     ∙ sym (list_any-append (bytes_eq q.items) (names cs) (c.name ∷ []))
     ∙ ap (list_any (bytes_eq q.items)) (sym (map-append (λ (o : CellName). o.name) cs (c ∷ [])))
@@ -105,3 +107,62 @@ seen_contains cs name h = Contains-from_any (λ x y e. (bytes_eq-Decides x y).0 
 
 pub contains_seen : (cs : List CellName) (name : List ℕ) → Contains (names cs) name → list_any (bytes_eq name) (names cs) ≡ true
 contains_seen cs name h = list_any-from_Contains bytes_eq_laws name (names cs) h
+
+none_is : {A : Type 0} (o : Option A) → is_some o ≡ false → o ≡ None
+none_is None h = refl
+none_is (Some x) h = (let z : true ≡ false = h in cc)
+
+number_is : (o : Option ℕ) (n m k : ℕ) → k ≡ unwrap_or o n → n ≡ m → k ≡ number_by m o
+number_is None n m k e h = e ∙ h
+number_is (Some j) n m k e h = e
+
+-- what is known of a name whose number no other has
+pub record IsFresh (n : Names) (c : CellName) (number : ℕ) (key : Vec ℕ) : Type 0 where
+  pub number_of : number ≡ unwrap_or c.number (btree_map_len n.by_number)
+  pub free : is_some (get nat_cmp n.by_number number) ≡ false
+  pub key_is : key.items ≡ c.name
+
+fresh_number : (n : Names) (cs : List CellName) (c : CellName) (number : ℕ) (key : Vec ℕ) → HoldsNames n cs → IsFresh n c number key
+    → (number ≡ number_after (length cs) c) × (name_of cs number ≡ None)
+fresh_number n cs c number key h f =
+    (number_is c.number (btree_map_len n.by_number) (length cs) number f.number_of h.counted, sym (h.numbered number) ∙ none_is (get nat_cmp n.by_number number) f.free)
+
+unrepeated : (n : Names) (cs : List CellName) (c : CellName) (number : ℕ) (key : Vec ℕ) → HoldsNames n cs → IsFresh n c number key → RepeatsNumber cs c → ⊥
+unrepeated n cs c number key h f r =
+    let p = fresh_number n cs c number key h f in
+    let e : name_of cs (number_after (length cs) c) ≡ None = subst (λ k. name_of cs k ≡ None) p.0 p.1 in
+    let z : false ≡ true = ap is_some (sym e) ∙ r in cc
+
+-- the set has the name: an earlier record gave it
+pub name_twice : (n : Names) (cs : List CellName) (c : CellName) (number : ℕ) (key : Vec ℕ) → HoldsNames n cs → IsFresh n c number key
+    → contains (λ x y. slice_cmp nat_cmp x.items y.items) n.seen key ≡ true → (RepeatsNumber cs c → ⊥) × RepeatsName cs c
+name_twice n cs c number key h f t = (
+  unrepeated n cs c number key h f,
+  seen_contains cs c.name (ap (λ s. list_any (bytes_eq s) (names cs)) (sym f.key_is) ∙ sym (h.seen key) ∙ t),
+)
+
+-- the set hasn't the name: no rule is breached
+pub name_none : (n : Names) (cs : List CellName) (c : CellName) (number : ℕ) (key : Vec ℕ) → HoldsNames n cs → IsFresh n c number key
+    → contains (λ x y. slice_cmp nat_cmp x.items y.items) n.seen key ≡ false → (rule : NameRule) → NameBreaches cs c rule → ⊥
+name_none n cs c number key h f t NumberTwice b = unrepeated n cs c number key h f b
+name_none n cs c number key h f t NameTwice b =
+    let z : false ≡ true = sym t ∙ h.seen key ∙ ap (λ s. list_any (bytes_eq s) (names cs)) f.key_is ∙ contains_seen cs c.name b.1 in cc
+name_none n cs c number key h f t Mixed b = b
+
+-- the name is added
+pub name_added : (n m : Names) (cs : List CellName) (c : CellName) (number : ℕ) (key : Vec ℕ) (name : List ℕ) (old : Option (List ℕ)) → HoldsNames n cs → IsFresh n c number key
+    → name ≡ c.name → old ≡ get nat_cmp n.by_number number → Updates nat_cmp n.by_number m.by_number number (Some name)
+    → btree_map_len m.by_number ≡ btree_map_len n.by_number + (if is_some old then 0 else 1)
+    → sorted.Updates (λ x y. slice_cmp nat_cmp x.items y.items) n.seen m.seen key true → HoldsNames m (cs ++ c ∷ [])
+name_added n m cs c number key name old h f named was u long s =
+    let p = fresh_number n cs c number key h f in
+    let one : is_some old ≡ false = ap is_some was ∙ f.free in
+    record {
+      numbered = numbered_on n.by_number m.by_number cs c number name h.numbered p.0 named p.1 u;
+      counted = long ∙ ap (λ b. btree_map_len n.by_number + (if b then 0 else 1)) one ∙ ap (λ k. k + 1) h.counted ∙ sym (length_push cs c);
+      seen = seen_on n.seen m.seen cs c key h.seen f.key_is s;
+    }
+
+pub fresh : (n : Names) (c : CellName) (number : ℕ) (key : Vec ℕ) → number ≡ unwrap_or c.number (btree_map_len n.by_number)
+    → is_some (get nat_cmp n.by_number number) ≡ false → key.items ≡ c.name → IsFresh n c number key
+fresh n c number key a b d = record { number_of = a; free = b; key_is = d }

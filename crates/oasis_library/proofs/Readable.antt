@@ -119,3 +119,10 @@ refused_none xs left = refused xs left (λ f. (IsExcused f → ⊥) → SpellsNo
 pub refused_early : {A : Type 0} (xs : List ℕ) (left : Option (List ℕ)) (r : Result A (Refusal OasisFault))
     → IfErr r (λ e. Says e (Refuses xs left)) → IfErr r (λ e. Says e (λ f. IsEarly f → IsHopeless oasis xs left))
 refused_early xs left = refused xs left (λ f. IsEarly f → IsHopeless oasis xs left) (early_of xs left)
+
+-- of the bytes that are left in the end
+pub early_left : {A : Type 0} (xs : List ℕ) (left left' : Option (List ℕ)) (r : Result A (Refusal OasisFault))
+    → IfErr r (λ e. Says e (Refuses xs left)) → left ≡ left'
+    → IfErr r (λ e. Says e (λ f. IsEarly f → IsHopeless oasis xs left'))
+early_left xs left left' r h e =
+    subst (λ l. IfErr r (λ e. Says e (λ f. IsEarly f → IsHopeless oasis xs l))) e (refused_early xs left r h)

@@ -1,9 +1,17 @@
 -- Numbers replaced by names: in one way at most, and all or none.
 use Rattle.std.proofs.Common.{◌≡◌, ℕ, List, [], ◌∷◌, ◌++◌, map, Some, None, refl, sym, ap, ◌∙◌, subst, append_assoc, All}
-use Rattle.std.specs.Prelude.{flat_map, IsSome, Option}
+use Rattle.std.specs.Prelude.{flat_map, IsSome, is_some, Option, Bool, true, false, Result, Ok, Err, IfErr}
+use Rattle.std.specs.Result.{IsErr, IsErrAnd}
+use Rattle.lvl_refusal.specs.Refused.{Says}
+use Rattle.lvl_refusal.specs.declared.Refusal.{Refusal}
+use Rattle.lvl_refusal.specs.declared.Refusal.TheVariants.{Breach, OutOfMemory}
 use Rattle.std.specs.List.{AllZip}
 use Rattle.std.proofs.lemmas.List.Elements.{All-nil, All-cons, All-append, All-head, All-tail}
+use Rattle.std.proofs.lemmas.Grind.{flat_map-append}
+use Rattle.std.proofs.lemmas.List.{append-nil}
 use Rattle.std.proofs.lemmas.List.Folds.{flat_map-map}
+use Rattle.lvl_grid.specs.declared.map.Turn.{Turn}
+use Rattle.lvl_grid.specs.declared.point.Point.{Point}
 use Rattle.lvl_path.specs.Figure.{Figure, figure_rings}
 use Rattle.lvl_cells.specs.Cells.{PlainCell, PlainReference, PlainShape, Rings, kept}
 use Rattle.oasis_records.specs.declared.cell.CellName.{CellName}
@@ -21,11 +29,11 @@ zip-snoc R (a ∷ xs) [] x y p q = absurd p
 zip-snoc R (a ∷ xs) (b ∷ ys) x y p q = (p.0, zip-snoc R xs ys x y p.1 q)
 
 -- a name that is meant has its number
-is_some : {A : Type 0} (o : Option A) (x : A) → o ≡ Some x → IsSome o
-is_some o x e = subst (λ p. IsSome p) (sym e) tt
+some_is : {A : Type 0} (o : Option A) (x : A) → o ≡ Some x → IsSome o
+some_is o x e = ap is_some e
 
 pub meant_named : (names : List CellName) (c : CellRef) (s : List ℕ) → meant names c ≡ Some s → All (IsNamed names) (number_in c)
-meant_named names (Number n) s e = All-cons (IsNamed names) n [] (is_some (name_of names n) s e) (All-nil (IsNamed names))
+meant_named names (Number n) s e = All-cons (IsNamed names) n [] (some_is (name_of names n) s e) (All-nil (IsNamed names))
 meant_named names (Name t) s e = All-nil (IsNamed names)
 
 pub references_named : (names : List CellName) (ps : List Placed) (rs : List PlainReference) → AllZip (IsReference names) ps rs
@@ -76,11 +84,17 @@ last_of P (x ∷ xs) ys n h = last_of P xs ys n (All-tail P x (xs ++ n ∷ ys) h
 pub unnamed_none : (names : List CellName) (used : List ℕ) (n : ℕ) → All (IsNamed names) used → IsUnnamed names used n → ⊥
 unnamed_none names used n h u =
     let some : IsSome (name_of names n) = last_of (IsNamed names) u.before u.after n (subst (All (IsNamed names)) u.there h) in
-    subst (λ o. IsSome o) u.unnamed some
+    let z : false ≡ true = ap is_some (sym u.unnamed) ∙ some in cc
 
 -- names are meant in one way
+abbrev make_reference : List ℕ → Bool → Turn → Point → List Point → PlainReference
+make_reference cell flip turn at shifts = record { cell = cell; flip = flip; turn = turn; at = at; shifts = shifts }
+
 a_reference : (c d : PlainReference) → c.cell ≡ d.cell → c.flip ≡ d.flip → c.turn ≡ d.turn → c.at ≡ d.at → c.shifts ≡ d.shifts → c ≡ d
-a_reference c d e f g h i = cc
+a_reference c d e f g h i =
+    ap (λ x. make_reference x c.flip c.turn c.at c.shifts) e ∙ ap (λ x. make_reference d.cell x c.turn c.at c.shifts) f
+    ∙ ap (λ x. make_reference d.cell d.flip x c.at c.shifts) g ∙ ap (λ x. make_reference d.cell d.flip d.turn x c.shifts) h
+    ∙ ap (λ x. make_reference d.cell d.flip d.turn d.at x) i
 
 same_name : (o : Option (List ℕ)) (s t : List ℕ) → o ≡ Some s → o ≡ Some t → t ≡ s
 same_name o s t p q = (let e : Some t ≡ Some s = sym q ∙ p in cc)
@@ -95,8 +109,12 @@ same_references names (x ∷ ps) (r ∷ rs) (s ∷ ss) p q =
     let one : s ≡ r = a_reference s r (same_name (meant names x.cell) r.cell s.cell p.0.cell q.0.cell) (q.0.flip ∙ sym p.0.flip) (q.0.turn ∙ sym p.0.turn) (q.0.at ∙ sym p.0.at) (q.0.shifts ∙ sym p.0.shifts) in
     ap (λ (i : PlainReference). i ∷ ss) one ∙ ap (λ l. r ∷ l) (same_references names ps rs ss p.1 q.1)
 
+abbrev make_cell : {F : Type 0} → List ℕ → List (PlainShape F) → List PlainReference → PlainCell F
+make_cell name shapes references = record { name = name; shapes = shapes; references = references }
+
 a_cell : {F : Type 0} (c d : PlainCell F) → c.name ≡ d.name → c.shapes ≡ d.shapes → c.references ≡ d.references → c ≡ d
-a_cell c d e f g = cc
+a_cell {F = F} c d e f g =
+    ap (λ x. make_cell {F = F} x c.shapes c.references) e ∙ ap (λ x. make_cell {F = F} d.name x c.references) f ∙ ap (λ x. make_cell {F = F} d.name d.shapes x) g
 
 pub same_cells : {F : Type 0} (names : List CellName) (ds : List (PlainDrawing F)) (cs es : List (PlainCell F)) → AreCells names ds cs → AreCells names ds es → es ≡ cs
 same_cells names [] [] [] p q = refl
@@ -135,3 +153,26 @@ kept_cells names (d ∷ ds) (c ∷ found) h =
 -- rings use the numbers that figures use
 pub numbers_kept : (ds : List (PlainDrawing Figure)) → numbers_used (map with_rings ds) ≡ numbers_used ds
 numbers_kept ds = flat_map-map numbers_in with_rings ds
+
+-- a list that is gone over item by item: those that came, the one that comes, and those to come
+pub rest_goes : {A : Type 0} (all came rest after : List A) (x : A) → came ++ rest ≡ all → rest ≡ x ∷ after → (came ++ x ∷ []) ++ after ≡ all
+rest_goes all came rest after x e h = append_assoc came (x ∷ []) after ∙ ap (λ l. came ++ l) (sym h) ∙ e
+
+pub rest_ends : {A : Type 0} (all came rest : List A) → came ++ rest ≡ all → rest ≡ [] → came ≡ all
+rest_ends all came rest e h = sym (append-nil came) ∙ ap (λ l. came ++ l) (sym h) ∙ e
+
+pub unnamed_there : {A : Type 0} (f : A → List ℕ) (names : List CellName) (all came rest after : List A) (x : A) (n : ℕ) → came ++ rest ≡ all → rest ≡ x ∷ after
+    → All (IsNamed names) (flat_map f came) → IsUnnamed names (f x) n → IsUnnamed names (flat_map f all) n
+unnamed_there f names all came rest after x n e h named u =
+    let parts : flat_map f came ++ (f x ++ flat_map f after) ≡ flat_map f all = sym (flat_map-append f came (x ∷ after)) ∙ ap (λ l. flat_map f (came ++ l)) (sym h) ∙ ap (flat_map f) e in
+    subst (λ l. IsUnnamed names l n) parts (unnamed_after names (flat_map f came) (f x ++ flat_map f after) n named (unnamed_before names (f x) (flat_map f after) n u))
+
+says_more : {F : Type 0} (P Q : F → Type 0) (e : Refusal F) → ((f : F) → P f → Q f) → Says e P → Says e Q
+says_more P Q (Breach f) h s = h f s
+says_more P Q OutOfMemory h s = tt
+
+-- a refusal that is passed on
+pub says_carried : {A F : Type 0} (P Q : F → Type 0) (r : Result A (Refusal F)) (e : Refusal F) → ((f : F) → P f → Q f) → Says e P
+    → IsErr r × IsErrAnd r (λ x. x ≡ e) → IfErr r (λ x. Says x Q)
+says_carried P Q (Ok x) e h s g = (let z : false ≡ true = g.0 in cc)
+says_carried P Q (Err x) e h s g = subst (λ y. Says y Q) (sym g.1) (says_more P Q e h s)

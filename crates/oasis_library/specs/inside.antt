@@ -1,5 +1,6 @@
 pub mod Kept
 pub mod Taken
 pub mod Answers
+pub mod Ended
 pub mod Holds
 pub mod Refuses

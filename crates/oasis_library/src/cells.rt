@@ -5,6 +5,7 @@ ghost use Rattle.oasis_library.specs.inside.Kept.{begun, on_last};
 ghost use Rattle.oasis_library.specs.inside.Taken.{IsTaken, grown};
 
 use crate::drawing::Drawing;
+use crate::placement::Target;
 use oasis_figures::{Drawn, Modal};
 use oasis_records::CellRef;
 use std::alloc::{AllocError, Global};
@@ -41,9 +42,10 @@ impl Cells {
     }
 
     /// Begins a cell.
-    pub(crate) fn begin(&mut self, alloc: Global, name: CellRef) -> Result<(), AllocError>
-        ensures { OnOk result (self.new ≡ self.old ++ begun name ∷ []) }
+    pub(crate) fn begin(&mut self, alloc: Global, name: &CellRef) -> Result<(), AllocError>
+        ensures { OnOk result (self.new ≡ self.old ++ begun name.now ∷ []) }
     {
+        let name = Target::of(alloc, name)?;
         let before = self.last.replace(Drawing::new(alloc, name));
         if let Some(before) = before {
             self.whole.push(before)?;
@@ -62,9 +64,11 @@ impl Cells {
         ensures { OnOk result ((earlier : List Record) (r : Record) → IsTaken earlier r drawn modal.now
             → self.new ≡ on_last (grown earlier r) self.old) }
     {
-        if let Some(last) = &mut self.last {
-            last.add(alloc, drawn, modal)?;
-        }
+        let Some(last) = &mut self.last else {
+            drop(drawn);
+            return Ok(());
+        };
+        last.add(alloc, drawn, modal)?;
         Ok(())
     }
 

@@ -16,7 +16,7 @@ use std::marker::Model;
 /// A cell by its number or its name, with the shapes and the placements of its records so far.
 #[derive(Debug, Drop)]
 pub(crate) struct Drawing {
-    pub(crate) name: CellRef,
+    pub(crate) name: Target,
     pub(crate) shapes: Shapes,
     pub(crate) placements: Vec<Placement>,
 }
@@ -27,13 +27,15 @@ impl Model for Drawing {
 
     ghost Value = { PlainDrawing Rings };
 
-    ghost view = { λ d. record { name = d.name; shapes = d.shapes; placements = d.placements.items } };
+    ghost use Rattle.oasis_library.specs.inside.Kept.{target_ref};
+
+    ghost view = { λ d. record { name = target_ref d.name; shapes = d.shapes; placements = d.placements.items } };
 }
 
 impl Drawing {
     /// A cell that has nothing yet.
-    pub(crate) fn new(alloc: Global, name: CellRef) -> Drawing
-        ensures { result ≡ begun name }
+    pub(crate) fn new(alloc: Global, name: Target) -> Drawing
+        ensures { result ≡ begun (target_ref name) }
     {
         Drawing {
             name,
@@ -55,8 +57,7 @@ impl Drawing {
     {
         match drawn {
             Some(Drawn::Ring(layer, ring)) => {
-                self.shapes
-                    .push_ring(layer, ring.points(), modal.shifts())?;
+                self.shapes.push_ring(layer, ring.points(), modal.shifts())?;
                 Ok(())
             }
             Some(Drawn::Rings(layer, rings)) => {

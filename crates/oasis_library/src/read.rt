@@ -11,7 +11,8 @@ ghost use Rattle.oasis_stream.specs.Items.{IsEnded};
 ghost use Rattle.oasis_library.specs.inside.Holds.{is_end};
 ghost use Rattle.oasis_library.specs.Ends.{Tells, IsExcused, IsEarly, is_read};
 ghost use Rattle.oasis_library.specs.Library.{IsRead, SpellsNone};
-ghost use Rattle.oasis_library.specs.inside.Holds.{HasWhole};
+ghost use Rattle.oasis_library.specs.inside.Holds.{is_end, HasWhole};
+ghost use Rattle.oasis_library.specs.inside.Ended.{is_truncated};
 ghost use Rattle.oasis_library.specs.inside.Refuses.{Refuses, refused_at};
 
 use crate::fault::OasisFault;
@@ -91,7 +92,10 @@ fn read_library<R: Read>(
 }
 
 // Reads the magic string, and records up to END.
-fn read_records<R: Read>(alloc: Global, input: &mut Input<R>) -> Result<Reading, Refusal<OasisFault>>
+fn read_records<R: Read>(
+    alloc: Global,
+    input: &mut Input<R>,
+) -> Result<Reading, Refusal<OasisFault>>
     requires fresh { has_failed input.old ≡ false }
     requires start { input_offset input.old ≡ 0 }
     ensures refused { (xs : List ℕ) → bytes_left R.remaining input.old ≡ Some xs
@@ -103,8 +107,9 @@ fn read_records<R: Read>(alloc: Global, input: &mut Input<R>) -> Result<Reading,
         (R.read_errors (input_reader input.new)) (is_read result) }
     ensures same { R.lent (input_reader input.new) ≡ R.lent (input_reader input.old) }
 {
-    if let Err(kind) = read_first(input) {
-        return Err(refuse(0, kind));
+    match read_first(input) {
+        Ok(()) => {}
+        Err(kind) => return Err(refuse(0, kind)),
     }
     let mut reading = Reading::new(alloc);
     for _ in 0..MOST_RECORDS {
@@ -141,15 +146,28 @@ fn read_nothing<R: Read>(input: &mut Input<R>) -> Result<(), Refusal<OasisFault>
     let offset = input.offset();
     match input.byte() {
         Ok(_) => Err(refuse(offset, OasisKind::AfterEnd)),
-        Err(ValueFault::Truncated) => Ok(()),
-        Err(fault) => Err(refuse(offset, OasisKind::Value(fault))),
+        Err(fault) => {
+            if is_truncated(fault) {
+                return Ok(());
+            }
+            Err(refuse(offset, OasisKind::Value(fault)))
+        }
     }
 }
 
-fn is_end(record: &Record) -> bool
-    ensures { result ≡ is_end record.now }
+fn is_truncated(fault: ValueFault) -> bool
+    ensures { result ≡ is_truncated fault }
 {
-    match record {
+    match fault {
+        ValueFault::Truncated => true,
+        _ => false,
+    }
+}
+
+fn is_end(taken: &Record) -> bool
+    ensures { result ≡ is_end taken.now }
+{
+    match taken {
         Record::End(_) => true,
         _ => false,
     }

@@ -79,30 +79,26 @@ impl Reading {
     }
 
     /// Takes the next record, if it breaches no rule.
-    pub(crate) fn take(&mut self, alloc: Global, record: Record) -> Result<(), Refusal<OasisKind>>
+    pub(crate) fn take(&mut self, alloc: Global, next: Record) -> Result<(), Refusal<OasisKind>>
         requires { (rs : List ARecord) × Holds self.old rs }
         ensures refused { IfErr result (λ e. Says e (λ kind.
-            (rs : List ARecord) → Holds self.old rs → RecordBreaches rs record kind)) }
+            (rs : List ARecord) → Holds self.old rs → RecordBreaches rs next kind)) }
         ensures kept { OnOk result
-            ((rs : List ARecord) → Holds self.old rs → Holds self.new (rs ++ record ∷ [])) }
+            ((rs : List ARecord) → Holds self.old rs → Holds self.new (rs ++ next ∷ [])) }
         ensures none { OnOk result ((rs : List ARecord) → Holds self.old rs
-            → (kind : Kind) → ¬ RecordBreaches rs record kind) }
+            → (kind : Kind) → ¬ RecordBreaches rs next kind) }
     {
-        self.order.pass(&record);
-        self.head.pass(&record);
-        match record {
-            Record::Cell(name) => {
-                self.modal = Modal::new();
-                self.cells.begin(alloc, name)?;
-                Ok(())
-            }
-            record => {
-                of_name(self.names.take(alloc, &record))?;
-                let drawn = of_figure(self.modal.take(alloc, record))?;
-                self.cells.add(alloc, drawn, &self.modal)?;
-                Ok(())
-            }
+        self.order.pass(&next);
+        self.head.pass(&next);
+        of_name(self.names.take(alloc, &next))?;
+        if let Record::Cell(name) = &next {
+            self.modal = Modal::new();
+            self.cells.begin(alloc, name)?;
+            return Ok(());
         }
+        let drawn = of_figure(self.modal.take(alloc, next))?;
+        self.cells.add(alloc, drawn, &self.modal)?;
+        Ok(())
     }
 
     /// The library and the head of the file, or the first number that is used and that no name has.

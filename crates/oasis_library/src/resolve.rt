@@ -13,28 +13,9 @@ use crate::names::Names;
 use crate::placement::{Placement, Target};
 use lvl_cells::{Cell, Name, Reference};
 use lvl_refusal::Refusal;
-use oasis_records::CellRef;
 use std::alloc::Global;
 
-// The name of a cell, or the number that no name has.
-fn name_of_cell(alloc: Global, names: &Names, cell: CellRef) -> Result<Vec<u8>, Refusal<u64>>
-    ensures ok { IfOk result (λ name. (given : List Given) → HoldsNames names.now given → meant given cell ≡ Some name.items) }
-    ensures err { IfErr result (λ e. Says e (λ number. (given : List Given) → HoldsNames names.now given
-        → IsUnnamed given (number_in cell) number)) }
-{
-    match cell {
-        CellRef::Number(number) => match names.get(number) {
-            Some(name) => {
-                let bytes = Vec::from_slice(alloc, name.as_bytes())?;
-                Ok(bytes)
-            }
-            None => Err(Refusal::Breach(number)),
-        },
-        CellRef::Name(name) => Ok(name.into_bytes()),
-    }
-}
-
-// The name of the cell that is placed, or the number that no name has.
+// The name of that cell, or the number that no name has.
 fn name_of_target(names: &Names, target: Target) -> Result<Name, Refusal<u64>>
     ensures ok { IfOk result (λ name. (given : List Given) → HoldsNames names.now given → meant given (target_ref target) ≡ Some name) }
     ensures err { IfErr result (λ e. Says e (λ number. (given : List Given) → HoldsNames names.now given
@@ -97,10 +78,10 @@ fn cell_of(alloc: Global, names: &Names, drawing: Drawing) -> Result<Cell, Refus
         shapes,
         placements,
     } = drawing;
-    let name = name_of_cell(alloc, names, name)?;
+    let name = name_of_target(names, name)?;
     let references = references_of(alloc, names, placements)?;
     Ok(Cell {
-        name,
+        name: Vec::from_slice(alloc, name.as_bytes())?,
         shapes,
         references,
     })

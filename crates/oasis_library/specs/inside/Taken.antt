@@ -12,7 +12,7 @@ use Rattle.oasis_library.specs.Cells.{PlainDrawing}
 -- the modal variables have taken the record after those before it in its cell, and this is what it draws
 pub record IsTaken (earlier : List Record) (r : Record) (drawn : Option Drawn) (m : Modal) : Type 0 where
   pub stands : StandsFor m (r ∷ earlier)
-  pub drawn : IsDrawn earlier r drawn
+  pub draws : IsDrawn earlier r drawn
   pub fits : PlacesFit (shifts_of earlier r) drawn
   pub none : BreachesNone earlier r
 
