@@ -9,6 +9,7 @@ pub use advance::flatten;
 pub use fault::FlatFault;
 pub use flat::Flat;
 pub use shapes::flatten_shapes;
+pub use walk::placing_at;
 
 mod advance;
 mod draw;
