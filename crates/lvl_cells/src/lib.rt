@@ -15,6 +15,7 @@ pub use fault::CellFault;
 pub use layer::{Layer, comes_before};
 pub use library::{Cell, Library, Reference};
 pub use name::{MOST_NAME_BYTES, Name, is_name};
+pub use names::index_of;
 pub use offsets::Offsets;
 pub use shapes::Shapes;
 

@@ -12,8 +12,8 @@ use lvl_refusal::Refusal;
 use std::alloc::Global;
 use std::collections::BTreeMap;
 
-/// The place of each name, or the first name that an earlier cell has.
-pub(crate) fn index_of<'a>(
+/// The index of each cell by its name, or the first name that an earlier cell has.
+pub fn index_of<'a>(
     alloc: Global,
     cells: &'a [Cell],
 ) -> Result<BTreeMap<&'a [u8], usize>, Refusal<CellFault>>

@@ -1,5 +1,5 @@
 -- The walk begins at the top, and ends with all rings drawn.
-use Rattle.std.proofs.Common.{◌≡◌, ◌≢◌, ◌<◌, ◌==◌, ◌++◌, ℕ, zero, suc, Bool, true, false, cond, append_assoc, List, [], ◌∷◌, length, filter, not, sum_by, slice_get, Some, All, Contains, inl, inr, refl, sym, ap, subst, ◌∙◌, arith, rules}
+use Rattle.std.proofs.Common.{◌≡◌, ◌≢◌, ◌↔◌, ◌<◌, ◌==◌, ◌++◌, ℕ, zero, suc, Bool, true, false, cond, append_assoc, List, [], ◌∷◌, length, filter, not, sum_by, slice_get, Some, Any, All, Contains, inl, inr, refl, sym, ap, subst, ◌∙◌, arith, rules}
 use Rattle.std.proofs.lemmas.Int.{ints, clamps}
 use Rattle.std.proofs.lemmas.List.Elements.{All-head, All-tail, All-filter, filter-append, All-weaker, filter_passes}
 use Rattle.std.proofs.lemmas.Bool.{eqb-true}
@@ -10,17 +10,19 @@ use Rattle.lvl_cells.specs.declared.layer.Layer.{Layer}
 use Rattle.lvl_cells.specs.Cells.{PlainCell, Rings, each_ring}
 use Rattle.lvl_cells.specs.Chains.{unmoved, own_rings_on}
 use Rattle.lvl_cells.specs.Checks.{Settled}
-use Rattle.lvl_cells.specs.Coverage.{RingsCover, CellCovers}
+use Rattle.lvl_cells.specs.Coverage.{RingsCover, ShapeCovers, CellCovers}
 use Rattle.lvl_cells.specs.Soundness.{AreLinked, IsOrder}
 use Rattle.lvl_flat.specs.declared.visit.Visit.{Visit}
-use Rattle.lvl_flat.specs.Drawn.{drawn_on, AreFiguresPlaced}
+use Rattle.lvl_flat.specs.Drawn.{drawn_on, AreFiguresPlaced, FitShapes}
 use Rattle.lvl_flat.specs.Flattened.{IsFlattened, IsOutOfRange}
 use Rattle.lvl_flat.specs.Sheet.{PlainSheet}
 use Rattle.lvl_flat.specs.Sheets.{AreSorted, IsInOrder, rings_on, has_rings, is_filled}
 use Rattle.lvl_cells.specs.Layers.{ComesBefore, same_layer}
 use Rattle.lvl_flat.specs.Visits.{picks, visit_weight, VisitCovers, FitsUnder, PicksFit, IsVisit}
 use Rattle.lvl_flat.specs.Walking.{AllHaveSheets, IsWalking}
-use Rattle.lvl_flat.specs.Entering.{begun, IsDrawn, IsCellOut}
+use Rattle.lvl_flat.specs.Entering.{begun, IsDrawn, IsCellOut, IsEnterFault, TellsName}
+use Rattle.lvl_flat.specs.declared.fault.FlatFault.{FlatFault}
+use Rattle.lvl_flat.specs.declared.fault.FlatFault.TheVariants.{OutOfRange}
 use Rattle.lvl_flat.proofs.Orders.{sorted_tail, rings_nowhere}
 use Rattle.lvl_cells.proofs.Layers.{before_itself, tested_layer}
 use Rattle.lvl_grid.proofs.Anyone.{Any-nil, Any-head, Any-uncons}
@@ -137,6 +139,28 @@ rings_on-filled (t ∷ ss) sorted layer =
             | false ↦ λ f. refl
           ] refl
     ] refl
+
+-- a cell's own shapes, drawn by themselves
+pub own_covers : (c : PlainCell Rings) (empty new : List PlainSheet) → AreSorted empty → ((layer : Layer) → rings_on layer empty ≡ []) → IsDrawn (c ∷ []) 0 unmoved empty new
+    → (layer : Layer) (s : Square) → RingsCover (rings_on layer (filter is_filled new)) s ↔ Any (ShapeCovers RingsCover layer s) c.shapes
+own_covers c empty new sorted none d layer s =
+    let both : Some c ≡ Some d.cell = d.there in
+    let one : d.cell ≡ c = cc in
+    let placed : AreFiguresPlaced unmoved c.shapes = subst (λ (b : PlainCell Rings). AreFiguresPlaced unmoved b.shapes) one d.placed in
+    let drawn : rings_on layer new ≡ drawn_on layer unmoved c.shapes =
+    d.drawn layer ∙ (ap (λ rs. rs ++ drawn_on layer unmoved d.cell.shapes) (none layer) ∙ ap (λ (b : PlainCell Rings). drawn_on layer unmoved b.shapes) one) in
+    let same : rings_on layer (filter is_filled new) ≡ drawn_on layer unmoved c.shapes = rings_on-filled new (sorted_alike new empty d.layers sorted) layer ∙ drawn in
+    let mine = drawn_covers layer unmoved s c.shapes placed in (
+      λ a. let u = mine.0 (subst (λ rs. RingsCover rs s) same a) in subst (λ t. Any (ShapeCovers RingsCover layer t) c.shapes) (sym (square_stays u.0) ∙ u.1) u.2,
+      λ h. subst (λ rs. RingsCover rs s) (sym same) (mine.1 (s, square_stays s, h)),
+    )
+
+-- whose vertices are out of range
+pub own_out : (c : PlainCell Rings) (fault : FlatFault) → IsEnterFault (c ∷ []) 0 unmoved fault → TellsName c.name fault × (¬ FitShapes unmoved c.shapes)
+own_out c (OutOfRange name) o =
+    let both : Some c ≡ Some o.cell = o.there in
+    let one : o.cell ≡ c = cc in
+    (sym o.named ∙ ap (λ (b : PlainCell Rings). b.name) one, subst (λ (b : PlainCell Rings). ¬ FitShapes unmoved b.shapes) one o.out)
 
 pub filled_in_order : (ss : List PlainSheet) → AreSorted ss → IsInOrder (filter is_filled ss)
 filled_in_order ss sorted = record {

@@ -16,7 +16,7 @@ use lvl_refusal::Refusal;
 use std::alloc::Global;
 
 /// The map that leaves all as it is.
-const UNMOVED: Map = Map {
+pub(crate) const UNMOVED: Map = Map {
     flip: false,
     turn: Turn::R0,
     at: Point { x: 0, y: 0 },

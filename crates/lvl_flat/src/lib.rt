@@ -2,12 +2,14 @@
 //!
 //! [`flatten`] walks the chains of references from the top and places each ring that it meets.
 //! What it gives, a [`Flat`], has for each Layer a list of rings that together cover exactly what
-//! the top covers there.
+//! the top covers there. [`flatten_shapes`] gives the same of one cell's own shapes.
 #![tactic(auto)]
 
 pub use advance::flatten;
 pub use fault::FlatFault;
 pub use flat::Flat;
+pub use shapes::flatten_shapes;
+pub use walk::placing_at;
 
 mod advance;
 mod draw;
@@ -15,5 +17,6 @@ mod enter;
 mod fault;
 mod flat;
 mod layers;
+mod shapes;
 mod visit;
 mod walk;

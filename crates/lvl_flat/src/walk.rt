@@ -18,8 +18,8 @@ pub(crate) enum Step {
     Out(usize),
 }
 
-/// The map of a reference at the place of one of its shifts, where it has that one.
-fn placing_at(reference: &Reference, place: u64) -> Option<Map>
+/// The map of a reference at one of its places, by the index of its shift; None past the last.
+pub fn placing_at(reference: &Reference, place: u64) -> Option<Map>
     ensures some { IfSome result (λ m. IsPlacing reference.now place m) }
     ensures none { IfNone result (slice_get reference.now.shifts place ≡ None) }
 {

@@ -1,0 +1,4 @@
+pub mod Behind
+pub mod Covering
+pub mod Knowing
+pub mod Same

@@ -1,0 +1,69 @@
+//! Two flat layouts compared Layer by Layer, up to the first square that one of them alone covers.
+ghost use Rattle.std.specs.Prelude.{◌≡◌, ◌↔◌, drop, Some, IfOk, IfNone, IfSome, IsTrue};
+ghost use Rattle.lvl_cells.specs.declared.layer.Layer.{Layer as PlainLayer};
+ghost use Rattle.lvl_compare.specs.Flats.{AlikeOn, IsFirstApart, IsLesser, behind, head_layer};
+
+use lvl_cells::{Layer, comes_before};
+use lvl_columns::difference_by_columns;
+use lvl_flat::Flat;
+use lvl_grid::Square;
+use lvl_region::Side;
+use std::alloc::{AllocError, Global};
+
+/// The first Layer, and on it the first square, by y and then x, that one of the two alone covers,
+/// with its side; None where both cover the same squares on every Layer. A Layer that one of them
+/// lacks covers nothing there.
+pub fn first_difference(
+    alloc: Global,
+    first: &Flat,
+    second: &Flat,
+) -> Result<Option<(Layer, Square, Side)>, AllocError>
+    ensures same { IfOk result
+        (λ found. IfNone found ((layer : PlainLayer) → AlikeOn first.now second.now layer)) }
+    ensures differ { IfOk result
+        (λ found. IfSome found (λ at. IsFirstApart first.now second.now at.0 at.1 at.2)) }
+{
+    let mut ours = 0;
+    let mut theirs = 0;
+    while let Some(layer) = lesser(first.layer(ours), second.layer(theirs)) {
+        let (a, b) = (first.rings(layer), second.rings(layer));
+        if let Some((square, side)) = difference_by_columns(alloc, a, b)? {
+            return Ok(Some((layer, square, side)));
+        }
+        ours = past(first, ours, layer);
+        theirs = past(second, theirs, layer);
+    }
+    Ok(None)
+}
+
+/// The lesser of two Layers, or the one that is there.
+fn lesser(first: Option<Layer>, second: Option<Layer>) -> Option<Layer>
+    ensures { IsLesser first second result }
+{
+    match (first, second) {
+        (Some(a), Some(b)) => Some(if comes_before(b, a) { b } else { a }),
+        (Some(a), None) => Some(a),
+        (None, other) => other,
+    }
+}
+
+/// The index after the Layer's, if it is at this index.
+fn past(flat: &Flat, place: usize, layer: Layer) -> usize
+    ensures { drop result flat.now ≡ behind layer (drop place flat.now) }
+{
+    if place < flat.len() && stands_at(flat, place, layer) {
+        place + 1
+    } else {
+        place
+    }
+}
+
+/// Whether the Layer is at this index.
+fn stands_at(flat: &Flat, place: usize, layer: Layer) -> bool
+    ensures { IsTrue result ↔ (head_layer (drop place flat.now) ≡ Some layer) }
+{
+    match flat.layer(place) {
+        Some(here) => here == layer,
+        None => false,
+    }
+}

@@ -1,0 +1,13 @@
+//! Two layouts compared: flat ones Layer by Layer, and libraries cell by cell.
+//!
+//! [`first_difference`] finds the first square that one of two flat layouts alone covers, and
+//! [`same_by_cells`] tells without flattening whether two libraries draw the same, where it can.
+#![tactic(auto)]
+
+pub use cells::same_by_cells;
+pub use flats::first_difference;
+
+mod cells;
+mod flats;
+mod partners;
+mod placements;

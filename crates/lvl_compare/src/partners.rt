@@ -1,0 +1,81 @@
+//! Which cells of two libraries are compared.
+ghost use Rattle.std.specs.Prelude.{◌≡◌, ◌<◌, length, map, Some, IfOk, IfSome, vec_len};
+ghost use Rattle.std.specs.List.{range_with_len};
+ghost use Rattle.lvl_cells.specs.Cells.{names};
+ghost use Rattle.lvl_cells.specs.Resolving.{IsIndexOf};
+ghost use Rattle.lvl_compare.specs.inside.Partners.{IsPartner};
+
+use lvl_cells::{Checked, index_of};
+use lvl_refusal::Refusal;
+use std::alloc::{AllocError, Global};
+use std::collections::BTreeMap;
+
+/// The indexes of the cells by their names.
+pub(crate) fn index_by_name(
+    alloc: Global,
+    checked: &Checked,
+) -> Result<Option<BTreeMap<&[u8], usize>>, AllocError>
+    ensures { IfOk result (λ found. IfSome found (IsIndexOf (names checked.now.cells))) }
+{
+    match index_of(alloc, checked.cells()) {
+        Ok(index) => Ok(Some(index)),
+        Err(Refusal::Breach(_)) => Ok(None),
+        Err(Refusal::OutOfMemory) => Err(AllocError),
+    }
+}
+
+/// The index of the cell that a cell is compared with: the tops with one another, any other with the
+/// cell of its name.
+pub(crate) fn partner_of(
+    first: &Checked,
+    cell: usize,
+    second: &Checked,
+    index: &BTreeMap<&[u8], usize>,
+) -> Option<usize>
+    requires cell { cell < length first.now.cells }
+    requires index { IsIndexOf (names second.now.cells) index.now }
+    ensures { IfSome result (IsPartner first.now second.now cell) }
+{
+    if cell == first.top() {
+        return Some(second.top());
+    }
+    let partnered = &first.cells()[cell];
+    index.get(partnered.name.as_slice()).copied()
+}
+
+/// Each cell by its own index.
+pub(crate) fn own_indexes(alloc: Global, count: usize) -> Result<Vec<Option<usize>>, AllocError>
+    ensures { IfOk result (λ own. own.items ≡ map Some (range_with_len 0 count)) }
+{
+    (0..count).map(|i| Some(i)).collect(alloc)
+}
+
+/// How often each cell is placed from the top, up to the greatest number; zero where it is not
+/// reached. It is a matter of cost alone.
+pub(crate) fn times_placed(alloc: Global, checked: &Checked) -> Result<Vec<u64>, AllocError>
+    ensures { IfOk result (λ times. vec_len times ≡ length checked.now.cells) }
+{
+    let mut times = vec![in alloc; 0; checked.cells().len()]?;
+    times[checked.top()] = 1;
+    for cell in checked.order() {
+        add_places(checked, *cell, &mut times);
+    }
+    Ok(times)
+}
+
+/// Adds how often a cell's references place others.
+fn add_places(checked: &Checked, cell: usize, times: &mut [u64])
+    requires cell { cell < length checked.now.cells }
+    requires long { length times.old ≡ length checked.now.cells }
+{
+    let here = times[cell];
+    let place = &checked.cells()[cell];
+    for (j, reference) in place.references.iter().enumerate() {
+        if let Some(target) = checked.target(cell, j) {
+            if target < times.len() {
+                let more = here.saturating_mul(reference.shifts().len());
+                times[target] = times[target].saturating_add(more);
+            }
+        }
+    }
+}

@@ -1,0 +1,34 @@
+//! A cell's own shapes, with nothing that it refers to.
+ghost use Rattle.std.specs.Prelude.{◌↔◌, Any, IfOk, IfErr};
+ghost use Rattle.lvl_grid.specs.declared.point.Square.{Square};
+ghost use Rattle.lvl_cells.specs.declared.layer.Layer.{Layer};
+ghost use Rattle.lvl_cells.specs.Chains.{unmoved};
+ghost use Rattle.lvl_cells.specs.Coverage.{RingsCover, ShapeCovers};
+ghost use Rattle.lvl_flat.specs.Sheets.{rings_on};
+ghost use Rattle.lvl_flat.specs.Drawn.{FitShapes};
+ghost use Rattle.lvl_flat.specs.Entering.{TellsName};
+ghost use Rattle.lvl_refusal.specs.Refused.{Says};
+
+use crate::advance::UNMOVED;
+use crate::enter::draw_cell;
+use crate::fault::FlatFault;
+use crate::flat::Flat;
+use crate::layers::sheets_of;
+use lvl_cells::Cell;
+use lvl_refusal::Refusal;
+use std::alloc::Global;
+use std::slice;
+
+/// The rings of a cell's own shapes at all their shifts, Layer by Layer; its references are left
+/// out. It is refused as out of range where one of these vertices is outside 64 signed bits.
+pub fn flatten_shapes(alloc: Global, cell: &Cell) -> Result<Flat, Refusal<FlatFault>>
+    ensures covers { IfOk result (λ flat. (layer : Layer) (s : Square)
+        → RingsCover (rings_on layer flat) s ↔ Any (ShapeCovers RingsCover layer s) cell.now.shapes) }
+    ensures err { IfErr result (λ refusal. Says refusal
+        (λ fault. TellsName cell.now.name fault × ¬ FitShapes unmoved cell.now.shapes)) }
+{
+    let alone = slice::from_ref(cell);
+    let mut sheets = sheets_of(alloc, alone)?;
+    draw_cell(alloc, alone, &mut sheets, 0, &UNMOVED)?;
+    Ok(Flat::filled(alloc, sheets)?)
+}
