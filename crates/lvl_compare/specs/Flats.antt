@@ -14,6 +14,11 @@ use Rattle.lvl_grid.specs.Squares.{IsBefore}
 abbrev pub AlikeOn : List PlainSheet → List PlainSheet → Layer → Type 0
 AlikeOn a b layer = (s : Square) → RingsCover (rings_on layer a) s ↔ RingsCover (rings_on layer b) s
 
+-- on lesser Layers both cover the same, and one side alone covers the square
+pub record IsApart (a b : List PlainSheet) (layer : Layer) (square : Square) (side : Side) : Type 0 where
+  pub alone : IsAlone (RingsCover (rings_on layer a)) (RingsCover (rings_on layer b)) square side
+  pub least_layer : (l : Layer) → ComesBefore l layer → AlikeOn a b l
+
 -- the square is the first, on the first Layer, that one side alone covers
 pub record IsFirstApart (a b : List PlainSheet) (layer : Layer) (square : Square) (side : Side) : Type 0 where
   pub alone : IsAlone (RingsCover (rings_on layer a)) (RingsCover (rings_on layer b)) square side

@@ -37,7 +37,7 @@ pub fn first_difference(
 }
 
 /// The lesser of two Layers, or the one that is there.
-fn lesser(first: Option<Layer>, second: Option<Layer>) -> Option<Layer>
+pub(crate) fn lesser(first: Option<Layer>, second: Option<Layer>) -> Option<Layer>
     ensures { IsLesser first second result }
 {
     match (first, second) {
@@ -48,7 +48,7 @@ fn lesser(first: Option<Layer>, second: Option<Layer>) -> Option<Layer>
 }
 
 /// The index after the Layer's, if it is at this index.
-fn past(flat: &Flat, place: usize, layer: Layer) -> usize
+pub(crate) fn past(flat: &Flat, place: usize, layer: Layer) -> usize
     ensures { drop result flat.now ≡ behind layer (drop place flat.now) }
 {
     if place < flat.len() && stands_at(flat, place, layer) {

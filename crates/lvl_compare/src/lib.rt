@@ -6,8 +6,10 @@
 
 pub use cells::same_by_cells;
 pub use flats::first_difference;
+pub use regions::difference_by;
 
 mod cells;
 mod flats;
 mod partners;
 mod placements;
+mod regions;
