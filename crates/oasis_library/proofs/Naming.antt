@@ -1,7 +1,7 @@
 -- What one name more does to the names by their numbers.
 use Rattle.std.proofs.Common.{◌≡◌, ◌==◌, ℕ, ◌+◌, Bool, true, false, ◌||◌, cond, if◌then◌else◌, List, [], ◌∷◌, ◌++◌, length, map, Some, None, refl, sym, ap, ◌∙◌, subst, arith, Contains}
 use Rattle.std.specs.Prelude.{Option, is_some, unwrap_or}
-use Rattle.std.specs.BTreeMap.{BTreeMap, get, btree_map_len, IsEmpty, Updates}
+use Rattle.std.specs.BTreeMap.{BTreeMap, get, btree_map_len, Updates}
 use Rattle.std.specs.BTreeSet as sorted
 use Rattle.std.specs.BTreeSet.{BTreeSet, contains}
 use Rattle.std.specs.Cmp.Lexicographic.{slice_cmp}

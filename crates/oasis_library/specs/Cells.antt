@@ -1,6 +1,6 @@
 -- The cells of a list of records (SEMI P39 OASIS 1.0, "CELL record").
 use Rattle.std.specs.Prelude.{if◌then◌else◌, List, [], ◌∷◌, ◌++◌, map}
-use Rattle.lvl_path.specs.Figure.{Figure, figure_rings}
+use Rattle.lvl_path.specs.Figure.{Figure}
 use Rattle.lvl_cells.specs.Cells.{PlainShape, Rings}
 use Rattle.oasis_records.specs.declared.cell.CellRef.{CellRef}
 use Rattle.oasis_records.specs.declared.record.Record.{Record}

@@ -1,5 +1,5 @@
 -- The cells of a file as they are kept while it is read.
-use Rattle.std.specs.Prelude.{List, [], ◌∷◌, ◌++◌, map}
+use Rattle.std.specs.Prelude.{List, [], ◌∷◌}
 use Rattle.lvl_cells.specs.Cells.{Rings}
 use Rattle.oasis_records.specs.declared.cell.CellRef.{CellRef}
 use Rattle.oasis_records.specs.declared.cell.CellRef.TheVariants.{Number, Name}

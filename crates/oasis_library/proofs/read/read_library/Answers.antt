@@ -1,5 +1,3 @@
-use Rattle.std.proofs.Common.{◌∙◌, sym, ap, subst}
-use Rattle.oasis_values.specs.Input.{input_offset, bytes_left}
 use Rattle.oasis_stream.specs.Items.{IsEnded, records}
 use Rattle.oasis_library.specs.inside.Holds.{HasWhole}
 use Rattle.oasis_library.proofs.Loop.{reads_as}

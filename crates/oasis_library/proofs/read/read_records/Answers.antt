@@ -1,8 +1,8 @@
-use Rattle.std.proofs.Common.{[], ◌∷◌, ◌++◌, sym, ◌∙◌, ap, subst, arith, length-take}
-use Rattle.oasis_stream.specs.Items.{Item, magic, item, records}
+use Rattle.std.proofs.Common.{[], ◌∷◌, ◌++◌, sym, ◌∙◌, subst, arith, length-take}
+use Rattle.oasis_stream.specs.Items.{magic, item, records}
 use Rattle.oasis_library.specs.inside.Holds.{HasBegun, HasWhole}
 use Rattle.oasis_stream.specs.inside.Reached.{HasReached}
-use Rattle.oasis_values.specs.Input.{input_offset, bytes_left}
+use Rattle.oasis_values.specs.Input.{input_offset}
 use Rattle.oasis_library.proofs.Loop.{first_on, first_refused, first_takes, record_on, record_takes, HasMore, more_begun, more_whole, reads_as, next_refused, take_refused}
 use Rattle.oasis_library.proofs.read.read_records.Goals as goal
 

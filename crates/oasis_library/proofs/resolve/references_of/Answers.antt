@@ -1,4 +1,4 @@
-use Rattle.std.proofs.Common.{[], ◌∷◌, sym, ◌∙◌, ap, subst}
+use Rattle.std.proofs.Common.{sym, ◌∙◌, subst}
 use Rattle.std.proofs.lemmas.List.{nil_from_length}
 use Rattle.std.specs.List.{AllZip}
 use Rattle.oasis_figures.specs.Figures.{Placed}
@@ -13,7 +13,7 @@ pub returns-in_err-reference-clause-err : goal.returns-in_err-reference-clause-e
 returns-in_err-reference-clause-err c =
     says_carried _ _ c.from_residual.result c.in_err-reference.field-0.0
     (λ n u given h. unnamed_there (λ (p : Placed). number_in p.cell) given c.args.placements.items c.loop-placement.yielded c.loop-placement.placement-iterator.rest.items c.next.new.self.rest.items c.in-Some.placement n
-        c.loop-placement.invariant.0 c.in-Some.ensures.steps.0 (references_named given c.loop-placement.yielded c.loop-placement.references.items (c.loop-placement.invariant.1 given h)) (u given h))
+    c.loop-placement.invariant.0 c.in-Some.ensures.steps.0 (references_named given c.loop-placement.yielded c.loop-placement.references.items (c.loop-placement.invariant.1 given h)) (u given h))
     c.in_err-reference.ensures.err c.from_residual.ensures
 
 pub loop-placement-preserved : goal.loop-placement-preserved

@@ -1,4 +1,4 @@
-use Rattle.std.proofs.Common.{[], ◌∷◌, sym, ◌∙◌, ap, subst}
+use Rattle.std.proofs.Common.{sym, ◌∙◌, subst}
 use Rattle.std.proofs.lemmas.List.{nil_from_length}
 use Rattle.std.specs.List.{AllZip}
 use Rattle.lvl_cells.specs.Cells.{Rings}
@@ -14,7 +14,7 @@ pub returns-in_err-cell-clause-err : goal.returns-in_err-cell-clause-err
 returns-in_err-cell-clause-err c =
     says_carried _ _ c.from_residual.result c.in_err-cell.field-0.0
     (λ n u given h. unnamed_there (λ (d : PlainDrawing Rings). numbers_in d) given c.args.drawings.items c.loop-drawing.yielded c.loop-drawing.drawing-iterator.rest.items c.next.new.self.rest.items c.in-Some.drawing n
-        c.loop-drawing.invariant.0 c.in-Some.ensures.steps.0 (cells_named given c.loop-drawing.yielded c.loop-drawing.cells.items (c.loop-drawing.invariant.1 given h)) (u given h))
+    c.loop-drawing.invariant.0 c.in-Some.ensures.steps.0 (cells_named given c.loop-drawing.yielded c.loop-drawing.cells.items (c.loop-drawing.invariant.1 given h)) (u given h))
     c.in_err-cell.ensures.err c.from_residual.ensures
 
 pub loop-drawing-preserved : goal.loop-drawing-preserved

@@ -1,4 +1,4 @@
-use Rattle.std.proofs.Common.{◌≡◌, ◌∙◌, Bool, true, false, sym, ap, length}
+use Rattle.std.proofs.Common.{◌≡◌, ◌∙◌, Bool, true, false, sym, ap}
 use Rattle.std.specs.Prelude.{not, unwrap_or}
 use Rattle.oasis_library.proofs.Naming.{fresh, name_twice, name_none, name_added}
 use Rattle.oasis_library.proofs.names.Names.add.Goals as goal

@@ -1,4 +1,4 @@
-use Rattle.std.proofs.Common.{List, sym, ◌∙◌}
+use Rattle.std.proofs.Common.{List}
 use Rattle.oasis_records.specs.declared.record.Record.{Record}
 use Rattle.oasis_library.specs.inside.Holds.{Holds}
 use Rattle.oasis_stream.specs.Order.{names_in}
@@ -15,16 +15,18 @@ returns-in-Cell-clause-kept c = λ rs h.
 
 pub add-requires : goal.add-requires
 add-requires c =
-    let w = c.requires in
-    (since_cell w.0, c.args.next,
+    let w = c.requires in (
+      since_cell w.0,
+      c.args.next,
       figure_ok c.args.self.now.modal c.take-2.new.self c.args.next c.take-2.result c.of_figure.result c.in_ok-drawn.drawn c.of_figure.ensures c.in_ok-drawn.was
-      (record { drawn = c.take-2.ensures.drawn; places = c.take-2.ensures.places; kept = c.take-2.ensures.kept; none = c.take-2.ensures.none }) (since_cell w.0) w.1.modal)
+          (record { drawn = c.take-2.ensures.drawn; places = c.take-2.ensures.places; kept = c.take-2.ensures.kept; none = c.take-2.ensures.none }) (since_cell w.0) w.1.modal,
+    )
 
 pub returns : goal.returns
 returns c =
     let holds = λ (rs : List Record) (h : Holds c.args.self.now rs).
-        figure_ok c.args.self.now.modal c.take-2.new.self c.args.next c.take-2.result c.of_figure.result c.in_ok-drawn.drawn c.of_figure.ensures c.in_ok-drawn.was
-        (record { drawn = c.take-2.ensures.drawn; places = c.take-2.ensures.places; kept = c.take-2.ensures.kept; none = c.take-2.ensures.none }) (since_cell rs) h.modal in
+    figure_ok c.args.self.now.modal c.take-2.new.self c.args.next c.take-2.result c.of_figure.result c.in_ok-drawn.drawn c.of_figure.ensures c.in_ok-drawn.was
+    (record { drawn = c.take-2.ensures.drawn; places = c.take-2.ensures.places; kept = c.take-2.ensures.kept; none = c.take-2.ensures.none }) (since_cell rs) h.modal in
     record {
       refused = tt;
       kept = λ rs h.
