@@ -75,11 +75,16 @@ impl Modal {
         alloc: Global,
         next: Record,
     ) -> Result<Option<Drawn>, Refusal<FigureRule>>
-        ensures drawn { IfOk result (λ drawn. (earlier : List ARecord) → StandsFor self.old earlier → IsDrawn earlier next drawn) }
-        ensures places { IfOk result (λ drawn. (earlier : List ARecord) → StandsFor self.old earlier → PlacesFit (shifts_of earlier next) drawn) }
-        ensures kept { OnOk result ((earlier : List ARecord) → StandsFor self.old earlier → StandsFor self.new (next ∷ earlier)) }
-        ensures none { OnOk result ((earlier : List ARecord) → StandsFor self.old earlier → BreachesNone earlier next) }
-        ensures refused { IfErr result (λ e. Says e (λ rule. (earlier : List ARecord) → StandsFor self.old earlier → Breaches earlier next rule)) }
+        ensures drawn { IfOk result (λ drawn. (earlier : List ARecord) → StandsFor self.old earlier
+            → IsDrawn earlier next drawn) }
+        ensures places { IfOk result (λ drawn. (earlier : List ARecord) → StandsFor self.old earlier
+            → PlacesFit (shifts_of earlier next) drawn) }
+        ensures kept { OnOk result ((earlier : List ARecord) → StandsFor self.old earlier
+            → StandsFor self.new (next ∷ earlier)) }
+        ensures none { OnOk result ((earlier : List ARecord) → StandsFor self.old earlier
+            → BreachesNone earlier next) }
+        ensures refused { IfErr result (λ e. Says e (λ rule. (earlier : List ARecord) → StandsFor self.old earlier
+            → Breaches earlier next rule)) }
         ensures same { OnErr result (self.new ≡ self.old) }
     {
         match next {
@@ -96,7 +101,8 @@ impl Modal {
     /// The shifts at which the record before is drawn. A repetition that it has from an earlier record
     /// isn't copied.
     pub fn shifts(&self) -> &Offsets
-        ensures { (r : ARecord) (earlier : List ARecord) → StandsFor self.now (r ∷ earlier) → result.now ≡ shifts_of earlier r }
+        ensures { (r : ARecord) (earlier : List ARecord) → StandsFor self.now (r ∷ earlier)
+            → result.now ≡ shifts_of earlier r }
     {
         match (&self.repetition, self.is_repeated) {
             (Some(shifts), true) => shifts,
@@ -106,7 +112,8 @@ impl Modal {
 
     /// The cell of the latest placement; None where no PLACEMENT since CELL has named one.
     pub fn cell(&self) -> Option<&CellRef>
-        ensures { (records : List ARecord) → StandsFor self.now records → option_copied result ≡ modal cell_set records }
+        ensures { (records : List ARecord) → StandsFor self.now records
+            → option_copied result ≡ modal cell_set records }
     {
         self.cell.as_ref()
     }

@@ -79,8 +79,10 @@ fn is_magnified(transform: Transform) -> bool
 impl Modal {
     /// How the cell is placed, if the placement breaches no rule.
     fn resolve_placement(&self, placement: &Placement) -> Result<Map, FigureRule>
-        ensures ok { IfOk result (λ by. (earlier : List ARecord) → StandsFor self.now earlier → IsResolved earlier placement.now by) }
-        ensures err { IfErr result (λ rule. (earlier : List ARecord) → StandsFor self.now earlier → Breaches earlier (a_placement placement.now) rule) }
+        ensures ok { IfOk result (λ by. (earlier : List ARecord) → StandsFor self.now earlier
+            → IsResolved earlier placement.now by) }
+        ensures err { IfErr result (λ rule. (earlier : List ARecord) → StandsFor self.now earlier
+            → Breaches earlier (a_placement placement.now) rule) }
     {
         if placement.cell.is_none() && self.cell.is_none() {
             return Err(FigureRule::Undefined(Variable::PlacementCell));
