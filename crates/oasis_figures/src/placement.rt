@@ -30,7 +30,7 @@ fn is_number(number: u64, real: Real) -> bool
     }
 }
 
-/// The turn by so many degrees, or None where it is by no right angles.
+/// The turn by so many degrees, or None where that is another than 0, 90, 180 or 270.
 fn turn_by(angle: Real) -> Option<Turn>
     ensures { result ≡ turn_by angle }
 {
@@ -49,7 +49,7 @@ fn turn_by(angle: Real) -> Option<Turn>
     None
 }
 
-/// How a cell is turned, or None where that is by no right angles.
+/// How a cell is turned, or None where that is by another angle.
 fn turn_of(transform: Transform) -> Option<Turn>
     ensures { result ≡ turn_of transform }
 {

@@ -104,11 +104,7 @@ fn placed(flip: bool, turn: Turn, x: i64, y: i64) -> Want {
 }
 
 /// Each row: what the last of its records draws, and at how many shifts.
-fn check(
-    rt: &impl Abort,
-    alloc: Global,
-    rows: &[(&str, &[u8], Want, u64)],
-) -> Result<(), Fail> {
+fn check(rt: &impl Abort, alloc: Global, rows: &[(&str, &[u8], Want, u64)]) -> Result<(), Fail> {
     for (name, bytes, want, shifts) in rows {
         let mut modal = Modal::new();
         let got = take_all(&mut modal, alloc, bytes);
