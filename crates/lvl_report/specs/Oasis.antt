@@ -1,5 +1,5 @@
 -- What an OASIS file says of itself, and why one is refused, as they are printed.
-use Rattle.std.specs.Prelude.{ℕ, List, [], ◌++◌, codes, decimal}
+use Rattle.std.specs.Prelude.{ℕ, ◌==◌, if◌then◌else◌, List, [], ◌++◌, codes, decimal}
 use Rattle.oasis_values.specs.declared.fault.ValueFault.{ValueFault}
 use Rattle.oasis_values.specs.declared.fault.ValueFault.TheVariants.{Truncated, IntegerTooLarge, StringByte, RealType, ZeroDenominator}
 use Rattle.oasis_values.specs.declared.fault.ValueFault.TheVariants.{PointListType, PointCount, RepetitionType, RepetitionSize}
@@ -38,8 +38,7 @@ real (Eight bytes) = codes "hex " ++ hex bytes
 
 -- the signature is shown where there is one
 abbrev pub signature : ℕ → List ℕ → List ℕ
-signature 0 bytes = []
-signature scheme bytes = codes " signature " ++ hex bytes
+signature scheme bytes = if scheme == 0 then [] else codes " signature " ++ hex bytes
 
 abbrev pub oasis_head_text : OasisHead → List ℕ
 oasis_head_text head = codes "OASIS 1.0 unit " ++ real head.unit ++ codes " scheme " ++ decimal head.scheme ++ signature head.scheme head.signature

@@ -1,5 +1,6 @@
 -- Paths: their bands, and the rules that they breach.
-use Rattle.std.proofs.Common.{◌≡◌, ◌∙◌, ℕ, Bool, true, false, List, [], ◌∷◌, Option, Some, None, refl, sym, ap, subst, arith, map}
+use Rattle.std.proofs.Common.{◌≡◌, ◌∙◌, ℕ, Bool, true, false, List, [], ◌∷◌, Option, Some, None, refl, sym, ap, subst}
+use Rattle.std.proofs.Common.{arith, map}
 use Rattle.std.proofs.Common.{ℤ, pos, negsuc}
 use Rattle.std.specs.Prelude.{◌<◌, ◌||◌, All, option_map}
 use Rattle.std.specs.Option.{option_or}
@@ -14,7 +15,8 @@ use Rattle.lvl_refusal.specs.declared.Refusal.{Refusal}
 use Rattle.lvl_refusal.specs.declared.Refusal.TheVariants.{Breach, OutOfMemory}
 use Rattle.oasis_records.specs.declared.path.Path.{Path}
 use Rattle.oasis_records.specs.declared.record.Record.{Record}
-use Rattle.oasis_figures.specs.Figures.{number, reach, path_points, half_of, start_of, end_of, layer_of, shifts_of, IsDrawn}
+use Rattle.oasis_figures.specs.Figures.{number, reach, path_points, half_of, start_of, end_of, layer_of, shifts_of}
+use Rattle.oasis_figures.specs.Figures.{IsDrawn}
 use Rattle.oasis_figures.specs.Keeping.{StandsFor}
 use Rattle.oasis_figures.specs.Modal.{value_or, modal, path_set, start_set, end_set, geometry}
 use Rattle.oasis_figures.specs.Rules.{Breaks, Breaches, BreachesNone, is_negative, order}
@@ -24,7 +26,8 @@ use Rattle.oasis_figures.specs.declared.extension.Extent.TheVariants.{Beyond, Ne
 use Rattle.oasis_figures.specs.declared.modal.Modal.{Modal}
 use Rattle.oasis_figures.specs.declared.path.Resolved.{Resolved}
 use Rattle.oasis_figures.specs.declared.rule.FigureRule.{FigureRule}
-use Rattle.oasis_figures.specs.declared.rule.FigureRule.TheVariants.{Undefined, Layer as WideLayer, OutOfRange, Magnification, Angle}
+use Rattle.oasis_figures.specs.declared.rule.FigureRule.TheVariants.{Undefined, Layer as WideLayer, OutOfRange}
+use Rattle.oasis_figures.specs.declared.rule.FigureRule.TheVariants.{Magnification, Angle}
 use Rattle.oasis_figures.specs.declared.rule.FigureRule.TheVariants.{Extension, Oblique, Path as PathRule}
 use Rattle.oasis_figures.specs.inside.Extents.{extent, reaches}
 use Rattle.oasis_figures.specs.inside.Paths.{a_path, IsResolved, BandsBreak}
@@ -41,13 +44,16 @@ pub record IsRead (earlier : List Record) (p : Path) (v : Resolved) (vertices : 
 abbrev pub IsReadAfter : Modal → Path → Resolved → List Point → Type 0
 IsReadAfter m p v vertices = (earlier : List Record) → StandsFor m earlier → IsRead earlier p v vertices
 
-pub read_after : (m : Modal) (p : Path) (v : Resolved) (list : Option (Vec Point Global)) (points vertices : List Point)
-    → ((earlier : List Record) → StandsFor m earlier → IsResolved earlier p v) → option_map (λ l. l.items) list ≡ p.points
+pub read_after : (m : Modal) (p : Path) (v : Resolved) (list : Option (Vec Point Global))
+    (points vertices : List Point)
+    → ((earlier : List Record) → StandsFor m earlier → IsResolved earlier p v)
+    → option_map (λ l. l.items) list ≡ p.points
     → points ≡ value_or (option_or (option_map (λ l. l.items) list) (option_map (λ l. l.items) m.path)) []
     → vertices ≡ map (shifted v.at) points → IsReadAfter m p v vertices
 read_after m p v list points vertices known f g w = λ earlier s. record {
   values = known earlier s;
-  points = w ∙ vertices_at (geometry (a_path p ∷ earlier)) v.at p.points list m.path (modal path_set earlier) points (known earlier s).at f s.path g;
+  points = w ∙ vertices_at (geometry (a_path p ∷ earlier)) v.at p.points list m.path (modal path_set earlier) points
+      (known earlier s).at f s.path g;
 }
 
 -- extensions by the extents that they are
@@ -65,15 +71,18 @@ or_right : (a b : Bool) → b ≡ true → (a || b) ≡ true
 or_right true b e = refl
 or_right false b e = e
 
-some_negative : (a b : Option ℤ) (x y : Extent) → option_map extent a ≡ Some x → option_map extent b ≡ Some y → reaches x y ≡ None
+some_negative : (a b : Option ℤ) (x y : Extent) → option_map extent a ≡ Some x → option_map extent b ≡ Some y
+    → reaches x y ≡ None
     → (is_negative a || is_negative b) ≡ true
 some_negative a b (Beyond s) (Beyond e) f g h = cc
 some_negative a b (Beyond s) Negative f g h = or_right (is_negative a) (is_negative b) (negative b g)
 some_negative a b Negative y f g h = ap (λ (c : Bool). c || is_negative b) (negative a f)
 
-none_negative : (a b : Option ℤ) (s e : ℕ) → a ≡ Some (pos s) → b ≡ Some (pos e) → (is_negative a || is_negative b) ≡ true → ⊥
+none_negative : (a b : Option ℤ) (s e : ℕ) → a ≡ Some (pos s) → b ≡ Some (pos e)
+    → (is_negative a || is_negative b) ≡ true → ⊥
 none_negative a b s e f g h =
-    let k : false ≡ true = sym (ap (λ (z : Option ℤ). is_negative z || is_negative b) f ∙ ap (λ (z : Option ℤ). is_negative z) g) ∙ h in
+    let k : false ≡ true = sym (ap (λ (z : Option ℤ). is_negative z || is_negative b) f
+    ∙ ap (λ (z : Option ℤ). is_negative z) g) ∙ h in
     cc
 
 -- neither extension of a path is negative: they are those numbers
@@ -83,8 +92,11 @@ pub record HasReaches (earlier : List Record) (p : Path) (s e : ℕ) : Type 0 wh
 
 both_beyond : (a b : Option ℤ) (x y : Extent) (s e : ℕ) → option_map extent a ≡ Some x → option_map extent b ≡ Some y
     → reaches x y ≡ Some (s, e) → (a ≡ Some (pos s)) × (b ≡ Some (pos e))
-both_beyond a b (Beyond i) (Beyond j) s e f g h =
-    (beyond a s (f ∙ ap (option_map (λ (q : ℕ × ℕ). Beyond q.0)) h), beyond b e (g ∙ ap (option_map (λ (q : ℕ × ℕ). Beyond q.1)) h))
+both_beyond a b (Beyond i) (Beyond j) s e f g h = (
+  beyond a s (f ∙ ap (option_map (λ (q : ℕ × ℕ). Beyond q.0)) h),
+  beyond b e
+      (g ∙ ap (option_map (λ (q : ℕ × ℕ). Beyond q.1)) h),
+)
 both_beyond a b (Beyond i) Negative s e f g h = cc
 both_beyond a b Negative y s e f g h = cc
 
@@ -100,10 +112,13 @@ has_reaches earlier p v s e a r =
     }
 
 -- no rule before Extension is breached where the vertices fit
-before_extension : (earlier : List Record) (p : Path) (v : Resolved) (qs : List Point) → IsRead earlier p v qs → All FitsPoint qs
+before_extension : (earlier : List Record) (p : Path) (v : Resolved) (qs : List Point) → IsRead earlier p v qs
+    → All FitsPoint qs
     → (other : FigureRule) → order other < 5 → ¬ Breaks earlier (a_path p) other
-before_extension earlier p v qs a h (Undefined x) lt b = known_first earlier (a_path p) a.values.known (Undefined x) (omega arith) b
-before_extension earlier p v qs a h WideLayer lt b = known_first earlier (a_path p) a.values.known WideLayer (omega arith) b
+before_extension earlier p v qs a h (Undefined x) lt b =
+    known_first earlier (a_path p) a.values.known (Undefined x) (omega arith) b
+before_extension earlier p v qs a h WideLayer lt b =
+    known_first earlier (a_path p) a.values.known WideLayer (omega arith) b
 before_extension earlier p v qs a h OutOfRange lt b =
     b (subst FitsPoint (sym a.values.at) a.values.fits, subst (λ (ps : List Point). All FitsPoint ps) a.points h)
 before_extension earlier p v qs a h Magnification lt b = b
@@ -113,9 +128,11 @@ before_extension earlier p v qs a h Oblique lt b = b
 before_extension earlier p v qs a h (PathRule f) lt b = omega (arith, lt)
 
 -- nor one before Path where neither extension is negative
-before_path : (earlier : List Record) (p : Path) (v : Resolved) (qs : List Point) (s e : ℕ) → IsRead earlier p v qs → All FitsPoint qs
+before_path : (earlier : List Record) (p : Path) (v : Resolved) (qs : List Point) (s e : ℕ) → IsRead earlier p v qs
+    → All FitsPoint qs
     → HasReaches earlier p s e → (other : FigureRule) → order other < 7 → ¬ Breaks earlier (a_path p) other
-before_path earlier p v qs s e a h r (Undefined x) lt b = before_extension earlier p v qs a h (Undefined x) (omega arith) b
+before_path earlier p v qs s e a h r (Undefined x) lt b =
+    before_extension earlier p v qs a h (Undefined x) (omega arith) b
 before_path earlier p v qs s e a h r WideLayer lt b = before_extension earlier p v qs a h WideLayer (omega arith) b
 before_path earlier p v qs s e a h r OutOfRange lt b = before_extension earlier p v qs a h OutOfRange (omega arith) b
 before_path earlier p v qs s e a h r Magnification lt b = b
@@ -125,15 +142,18 @@ before_path earlier p v qs s e a h r Extension lt b =
 before_path earlier p v qs s e a h r Oblique lt b = b
 before_path earlier p v qs s e a h r (PathRule f) lt b = omega (arith, lt)
 
-pub vertices_refused : (m : Modal) (p : Path) (v : Resolved) (qs : List Point) (x : Refusal FigureRule) → IsReadAfter m p v qs
+pub vertices_refused : (m : Modal) (p : Path) (v : Resolved) (qs : List Point) (x : Refusal FigureRule)
+    → IsReadAfter m p v qs
     → Says x (λ rule. (rule ≡ OutOfRange) × ¬ All FitsPoint qs) → Says x (BreachesAfter m (a_path p))
 vertices_refused m p v qs (Breach rule) read b = λ earlier s.
     let a = read earlier s in
-    let out = range_breached earlier (a_path p) a.values.known (λ h. b.1 (subst (λ (ps : List Point). All FitsPoint ps) (sym a.points) h.1)) in
+    let out = range_breached earlier (a_path p) a.values.known
+    (λ h. b.1 (subst (λ (ps : List Point). All FitsPoint ps) (sym a.points) h.1)) in
     subst (Breaches earlier (a_path p)) (sym b.0) out
 vertices_refused m p v qs OutOfMemory read b = tt
 
-pub extension_refused : (m : Modal) (p : Path) (v : Resolved) (qs : List Point) → IsReadAfter m p v qs → All FitsPoint qs
+pub extension_refused : (m : Modal) (p : Path) (v : Resolved) (qs : List Point) → IsReadAfter m p v qs
+    → All FitsPoint qs
     → reaches v.stroke.start v.stroke.end ≡ None → BreachesAfter m (a_path p) Extension
 extension_refused m p v qs read h r = λ earlier s.
     let a = read earlier s in
@@ -145,7 +165,8 @@ extension_refused m p v qs read h r = λ earlier s.
     }
 
 -- what holds of equal points and numbers
-carried : (P : List Point → ℕ → ℕ → ℕ → Type 0) (ps qs : List Point) (h i s t e f : ℕ) → ps ≡ qs → h ≡ i → s ≡ t → e ≡ f
+carried : (P : List Point → ℕ → ℕ → ℕ → Type 0) (ps qs : List Point) (h i s t e f : ℕ) → ps ≡ qs → h ≡ i → s ≡ t
+    → e ≡ f
     → P ps h s e → P qs i t f
 carried P ps qs h i s t e f a b c d x =
     let ends = subst (λ (n : ℕ). P ps h s n) d x in
@@ -153,18 +174,24 @@ carried P ps qs h i s t e f a b c d x =
     subst (λ (l : List Point). P l i t f) a (subst (λ (n : ℕ). P ps n t f) b starts)
 
 -- what holds of the path as it is read holds of the path that the records give
-as_given : (P : List Point → ℕ → ℕ → ℕ → Type 0) (earlier : List Record) (p : Path) (v : Resolved) (qs : List Point) (s e : ℕ)
+as_given : (P : List Point → ℕ → ℕ → ℕ → Type 0) (earlier : List Record) (p : Path) (v : Resolved) (qs : List Point)
+    (s e : ℕ)
     → IsRead earlier p v qs → HasReaches earlier p s e → P qs v.stroke.half s e
-    → P (path_points (a_path p ∷ earlier)) (half_of (a_path p ∷ earlier)) (start_of (a_path p ∷ earlier)) (end_of (a_path p ∷ earlier))
+    → P (path_points (a_path p ∷ earlier)) (half_of (a_path p ∷ earlier)) (start_of (a_path p ∷ earlier))
+    (end_of (a_path p ∷ earlier))
 as_given P earlier p v qs s e a r x =
     let all = a_path p ∷ earlier in
-    carried P qs (path_points all) v.stroke.half (half_of all) s (start_of all) e (end_of all) a.points (sym (ap number a.values.half))
+    carried P qs (path_points all) v.stroke.half (half_of all) s (start_of all) e (end_of all) a.points
+    (sym (ap number a.values.half))
     (sym (ap reach r.start)) (sym (ap reach r.end)) x
 
-bands_breached : (earlier : List Record) (p : Path) (v : Resolved) (qs : List Point) (s e : ℕ) (rule : FigureRule) → IsRead earlier p v qs
-    → All FitsPoint qs → HasReaches earlier p s e → BandsBreak qs v.stroke.half s e rule → Breaches earlier (a_path p) rule
+bands_breached : (earlier : List Record) (p : Path) (v : Resolved) (qs : List Point) (s e : ℕ) (rule : FigureRule)
+    → IsRead earlier p v qs
+    → All FitsPoint qs → HasReaches earlier p s e → BandsBreak qs v.stroke.half s e rule
+    → Breaches earlier (a_path p) rule
 bands_breached earlier p v qs s e (PathRule f) a h r b = record {
-  broken = as_given (λ (l : List Point) (i j k : ℕ). IsLowestFault l (record { half = i; start = j; end = k }) f) earlier p v qs s e a r b;
+  broken = as_given (λ (l : List Point) (i j k : ℕ). IsLowestFault l (record { half = i; start = j; end = k }) f)
+      earlier p v qs s e a r b;
   first = before_path earlier p v qs s e a h r;
 }
 bands_breached earlier p v qs s e (Undefined x) a h r b = absurd b
@@ -175,8 +202,10 @@ bands_breached earlier p v qs s e Angle a h r b = absurd b
 bands_breached earlier p v qs s e Extension a h r b = absurd b
 bands_breached earlier p v qs s e Oblique a h r b = absurd b
 
-pub bands_refused : (m : Modal) (p : Path) (v : Resolved) (qs : List Point) (s e : ℕ) (x : Refusal FigureRule) → IsReadAfter m p v qs
-    → All FitsPoint qs → reaches v.stroke.start v.stroke.end ≡ Some (s, e) → Says x (BandsBreak qs v.stroke.half s e) → Says x (BreachesAfter m (a_path p))
+pub bands_refused : (m : Modal) (p : Path) (v : Resolved) (qs : List Point) (s e : ℕ) (x : Refusal FigureRule)
+    → IsReadAfter m p v qs
+    → All FitsPoint qs → reaches v.stroke.start v.stroke.end ≡ Some (s, e) → Says x (BandsBreak qs v.stroke.half s e)
+    → Says x (BreachesAfter m (a_path p))
 bands_refused m p v qs s e (Breach rule) read h r b = λ earlier st.
     let a = read earlier st in
     bands_breached earlier p v qs s e rule a h (has_reaches earlier p v s e a.values r) b
@@ -194,23 +223,31 @@ no_later earlier p s e r k Extension lt b =
 no_later earlier p s e r k Oblique lt b = b
 no_later earlier p s e r k (PathRule f) lt b = k f b
 
-pub path_none : (earlier : List Record) (p : Path) (v : Resolved) (qs : List Point) (s e : ℕ) → IsRead earlier p v qs → All FitsPoint qs
-    → HasReaches earlier p s e → IsPath qs (record { half = v.stroke.half; start = s; end = e }) → BreachesNone earlier (a_path p)
+pub path_none : (earlier : List Record) (p : Path) (v : Resolved) (qs : List Point) (s e : ℕ) → IsRead earlier p v qs
+    → All FitsPoint qs
+    → HasReaches earlier p s e → IsPath qs (record { half = v.stroke.half; start = s; end = e })
+    → BreachesNone earlier (a_path p)
 path_none earlier p v qs s e a h r x =
     let fits = subst (λ (ps : List Point). All FitsPoint ps) a.points h in
-    let good = as_given (λ (l : List Point) (i j k : ℕ). IsPath l (record { half = i; start = j; end = k })) earlier p v qs s e a r x in
+    let good = as_given (λ (l : List Point) (i j k : ℕ). IsPath l (record { half = i; start = j; end = k })) earlier p
+    v qs s e a r x in
     no_rule earlier (a_path p) a.values.known.defined a.values.known.narrow
-    (λ out. out (subst FitsPoint (sym a.values.at) a.values.fits, fits)) (no_later earlier p s e r (λ f b. good f b.breached))
+    (λ out. out (subst FitsPoint (sym a.values.at) a.values.fits, fits))
+    (no_later earlier p s e r (λ f b. good f b.breached))
 
-pub path_drawn : (earlier : List Record) (p : Path) (v : Resolved) (qs : List Point) (rings : Vec (List Point) Global) (s e : ℕ)
-    → IsRead earlier p v qs → HasReaches earlier p s e → rings.items ≡ path_rings qs (record { half = v.stroke.half; start = s; end = e })
+pub path_drawn : (earlier : List Record) (p : Path) (v : Resolved) (qs : List Point) (rings : Vec (List Point) Global)
+    (s e : ℕ)
+    → IsRead earlier p v qs → HasReaches earlier p s e
+    → rings.items ≡ path_rings qs (record { half = v.stroke.half; start = s; end = e })
     → IsDrawn earlier (a_path p) (Some (Rings v.on rings))
 path_drawn earlier p v qs rings s e a r x =
     let all = a_path p ∷ earlier in
     let layer = layer_is all v.stroke.layer v.stroke.datatype v.on a.values.layer a.values.datatype a.values.on in
-    let bands = as_given (λ (l : List Point) (i j k : ℕ). rings.items ≡ path_rings l (record { half = i; start = j; end = k })) earlier p v qs s e a r x in
+    let bands = as_given (λ (l : List Point) (i j k : ℕ). rings.items
+    ≡ path_rings l (record { half = i; start = j; end = k })) earlier p v qs s e a r x in
     record {
       shapes = shape_is v.on (layer_of all) rings.items
-          (path_rings (path_points all) (record { half = half_of all; start = start_of all; end = end_of all })) (shifts_of earlier (a_path p)) layer bands;
+          (path_rings (path_points all) (record { half = half_of all; start = start_of all; end = end_of all }))
+          (shifts_of earlier (a_path p)) layer bands;
       placements = refl;
     }

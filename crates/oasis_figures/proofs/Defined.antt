@@ -1,22 +1,22 @@
 -- Which of the variables that a record takes is the first without a value.
-use Rattle.std.proofs.Common.{◌≡◌, ◌∙◌, ◌<◌, ℕ, Bool, true, false, List, [], ◌∷◌, Option, Some, None, refl, sym, ap, subst, arith, map}
-use Rattle.std.specs.Prelude.{is_some, if◌then◌else◌, option_map}
+use Rattle.std.proofs.Common.{◌≡◌, ◌∙◌, ◌<◌, ℕ, Bool, true, false, List, [], ◌∷◌, Option, Some, None, refl, sym, ap}
+use Rattle.std.proofs.Common.{subst, arith}
+use Rattle.std.specs.Prelude.{is_some, if◌then◌else◌}
 use Rattle.std.specs.Option.{option_or}
-use Rattle.std.specs.declared.alloc.Global.{Global}
-use Rattle.std.specs.declared.vec.Vec.{Vec}
-use Rattle.lvl_cells.specs.Cells.{PlainShape, Rings}
-use Rattle.lvl_cells.specs.declared.layer.Layer.{Layer as ALayer}
-use Rattle.lvl_grid.specs.Turn.{shifted}
 use Rattle.lvl_grid.specs.declared.point.Point.{Point}
 use Rattle.oasis_values.specs.declared.repetition.Repetition.{Repetition}
 use Rattle.oasis_values.specs.declared.repetition.Repetition.TheVariants.{Modal as Same, New}
 use Rattle.oasis_records.specs.declared.record.Record.{Record}
-use Rattle.oasis_figures.specs.Figures.{number, layer_by, layer_of}
-use Rattle.oasis_figures.specs.Modal.{value_or, modal, listed, layer_set, datatype_set}
-use Rattle.oasis_figures.specs.Rules.{first_undefined, is_defined, taken, of_repetition, Breaks, Breaches, AreNarrow, order}
+use Rattle.oasis_figures.specs.Figures.{number}
+use Rattle.oasis_figures.specs.Keeping.{StandsFor}
+use Rattle.oasis_figures.specs.Modal.{listed, moved, repetition_of, geometry, geometry_x, geometry_y}
+use Rattle.oasis_figures.specs.Rules.{first_undefined, is_defined, taken, of_repetition, Breaks, Breaches, AreNarrow}
+use Rattle.oasis_figures.specs.Rules.{order}
 use Rattle.oasis_figures.specs.Rules.{HasWideLayer, LeavesRange, BreachesNone}
+use Rattle.oasis_figures.specs.declared.modal.Modal.{Modal}
 use Rattle.oasis_figures.specs.declared.rule.FigureRule.{FigureRule}
-use Rattle.oasis_figures.specs.declared.rule.FigureRule.TheVariants.{Undefined, Layer as WideLayer, OutOfRange, Magnification, Angle}
+use Rattle.oasis_figures.specs.declared.rule.FigureRule.TheVariants.{Undefined, Layer as WideLayer, OutOfRange}
+use Rattle.oasis_figures.specs.declared.rule.FigureRule.TheVariants.{Magnification, Angle}
 use Rattle.oasis_figures.specs.declared.rule.FigureRule.TheVariants.{Extension, Oblique, Path}
 use Rattle.oasis_figures.specs.declared.variable.Variable.{Variable}
 use Rattle.oasis_figures.specs.declared.variable.Variable.TheVariants.{Repetition as TheRepetition}
@@ -27,7 +27,8 @@ use Rattle.oasis_figures.specs.inside.Repeating.{is_known}
 pub later : {A : Type 0} (given : Option A) {x y z : Option A} → x ≡ y → option_or given x ≡ z → option_or given y ≡ z
 later given e q = ap (option_or given) (sym e) ∙ q
 
-pub next : (d : Variable → Bool) (v : Variable) (vs : List Variable) {o : Option Variable} → d v ≡ true → first_undefined d vs ≡ o → first_undefined d (v ∷ vs) ≡ o
+pub next : (d : Variable → Bool) (v : Variable) (vs : List Variable) {o : Option Variable} → d v ≡ true
+    → first_undefined d vs ≡ o → first_undefined d (v ∷ vs) ≡ o
 next d v vs e q = ap (λ (b : Bool). if b then first_undefined d vs else Some v) e ∙ q
 
 untrue : true ≡ false → ⊥
@@ -36,7 +37,8 @@ untrue h = cc
 none_some : {A : Type 0} {x : A} → None ≡ Some x → ⊥
 none_some h = cc
 
-pub known : (d : Variable → Bool) (rep : Option Repetition) (shifts : Option (List Point)) → d TheRepetition ≡ is_some (option_or (listed rep) shifts)
+pub known : (d : Variable → Bool) (rep : Option Repetition) (shifts : Option (List Point))
+    → d TheRepetition ≡ is_some (option_or (listed rep) shifts)
     → is_known rep shifts ≡ true → first_undefined d (of_repetition rep) ≡ None
 known d None shifts e k = refl
 known d (Some Same) shifts e k = next d TheRepetition [] (e ∙ k) refl
@@ -46,7 +48,8 @@ known d (Some (New s)) shifts e k = next d TheRepetition [] e refl
 abbrev pub BreaksNoLater : List Record → Record → Type 0
 BreaksNoLater earlier r = (rule : FigureRule) → 2 < order rule → ¬ Breaks earlier r rule
 
-pub no_rule : (earlier : List Record) (r : Record) → AreDefined earlier r → ¬ HasWideLayer earlier r → ¬ LeavesRange earlier r → BreaksNoLater earlier r → BreachesNone earlier r
+pub no_rule : (earlier : List Record) (r : Record) → AreDefined earlier r → ¬ HasWideLayer earlier r
+    → ¬ LeavesRange earlier r → BreaksNoLater earlier r → BreachesNone earlier r
 no_rule earlier r d n m k (Undefined v) b = none_some (sym d ∙ b)
 no_rule earlier r d n m k WideLayer b = n b
 no_rule earlier r d n m k OutOfRange b = m b
@@ -57,7 +60,8 @@ no_rule earlier r d n m k Oblique b = k Oblique (omega arith) b
 no_rule earlier r d n m k (Path f) b = k (Path f) (omega arith) b
 
 -- no rule before the range is breached by a record whose values are known
-pub known_first : (earlier : List Record) (r : Record) → IsKnown earlier r → (other : FigureRule) → order other < 2 → ¬ Breaks earlier r other
+pub known_first : (earlier : List Record) (r : Record) → IsKnown earlier r → (other : FigureRule) → order other < 2
+    → ¬ Breaks earlier r other
 known_first earlier r k (Undefined v) lt b = none_some (sym k.defined ∙ b)
 known_first earlier r k WideLayer lt b = k.narrow b
 known_first earlier r k OutOfRange lt b = omega (arith, lt)
@@ -68,17 +72,34 @@ known_first earlier r k Oblique lt b = omega (arith, lt)
 known_first earlier r k (Path f) lt b = omega (arith, lt)
 
 -- a repetition that takes the modal one, which has no value
-pub unknown : (d : Variable → Bool) (rep : Option Repetition) (shifts : Option (List Point)) → d TheRepetition ≡ is_some (option_or (listed rep) shifts)
+pub unknown : (d : Variable → Bool) (rep : Option Repetition) (shifts : Option (List Point))
+    → d TheRepetition ≡ is_some (option_or (listed rep) shifts)
     → is_known rep shifts ≡ false → first_undefined d (of_repetition rep) ≡ Some TheRepetition
 unknown d None shifts e k = absurd (untrue k)
 unknown d (Some Same) shifts e k = ap (λ (b : Bool). if b then None else Some TheRepetition) (e ∙ k)
 unknown d (Some (New s)) shifts e k = absurd (untrue k)
 
-pub undefined_breached : (earlier : List Record) (r : Record) (v : Variable) → first_undefined (is_defined (r ∷ earlier)) (taken r) ≡ Some v → Breaches earlier r (Undefined v)
+pub undefined_breached : (earlier : List Record) (r : Record) (v : Variable)
+    → first_undefined (is_defined (r ∷ earlier)) (taken r) ≡ Some v → Breaches earlier r (Undefined v)
 undefined_breached earlier r v e = record { broken = e; first = λ other lt. absurd (omega (arith, lt)) }
 
+-- what the repetition of a record makes of the variable
+pub repeated : (m : Modal) (earlier : List Record) (r : Record) → StandsFor m earlier
+    → is_defined (r ∷ earlier) TheRepetition ≡ is_some (option_or (listed (repetition_of r)) m.repetition)
+repeated m earlier r s =
+    ap (λ (o : Option (List Point)). is_some (option_or (listed (repetition_of r)) o)) (sym s.repetition)
+
+-- where a figure is
+pub position_after : (m : Modal) (earlier : List Record) (r : Record) → StandsFor m earlier
+    → geometry (r ∷ earlier) ≡ moved m.geometry (geometry_x r) (geometry_y r) m.is_relative
+position_after m earlier r s =
+    let before = ap (λ (p : Point). moved p (geometry_x r) (geometry_y r) m.is_relative) s.drawn in
+    let mode = ap (λ (b : Bool). moved (geometry earlier) (geometry_x r) (geometry_y r) b) s.relative in
+    sym (before ∙ mode)
+
 -- no variable without a value, but the layer is wide
-wide_first : (earlier : List Record) (r : Record) → AreDefined earlier r → (other : FigureRule) → order other < 1 → ¬ Breaks earlier r other
+wide_first : (earlier : List Record) (r : Record) → AreDefined earlier r → (other : FigureRule) → order other < 1
+    → ¬ Breaks earlier r other
 wide_first earlier r d (Undefined v) lt b = none_some (sym d ∙ b)
 wide_first earlier r d WideLayer lt b = omega (arith, lt)
 wide_first earlier r d OutOfRange lt b = omega (arith, lt)
@@ -88,17 +109,22 @@ wide_first earlier r d Extension lt b = omega (arith, lt)
 wide_first earlier r d Oblique lt b = omega (arith, lt)
 wide_first earlier r d (Path f) lt b = omega (arith, lt)
 
-pub wide_breached : (earlier : List Record) (r : Record) → AreDefined earlier r → HasWideLayer earlier r → Breaches earlier r WideLayer
+pub wide_breached : (earlier : List Record) (r : Record) → AreDefined earlier r → HasWideLayer earlier r
+    → Breaches earlier r WideLayer
 wide_breached earlier r d w = record { broken = w; first = wide_first earlier r d }
 
-pub range_breached : (earlier : List Record) (r : Record) → IsKnown earlier r → LeavesRange earlier r → Breaches earlier r OutOfRange
+pub range_breached : (earlier : List Record) (r : Record) → IsKnown earlier r → LeavesRange earlier r
+    → Breaches earlier r OutOfRange
 range_breached earlier r k w = record { broken = w; first = known_first earlier r k }
 
 -- the layer and the datatype that records give, where they are these
 pub narrow_at : (a b : Option ℕ) (l d : ℕ) → a ≡ Some l → b ≡ Some d → AreNarrow l d → AreNarrow (number a) (number b)
 narrow_at a b l d ea eb h =
-    subst (λ (o : Option ℕ). AreNarrow (number o) (number b)) (sym ea) (subst (λ (o : Option ℕ). AreNarrow l (number o)) (sym eb) h)
+    subst (λ (o : Option ℕ). AreNarrow (number o) (number b)) (sym ea)
+    (subst (λ (o : Option ℕ). AreNarrow l (number o)) (sym eb) h)
 
-pub narrow_from : (a b : Option ℕ) (l d : ℕ) → a ≡ Some l → b ≡ Some d → AreNarrow (number a) (number b) → AreNarrow l d
+pub narrow_from : (a b : Option ℕ) (l d : ℕ) → a ≡ Some l → b ≡ Some d → AreNarrow (number a) (number b)
+    → AreNarrow l d
 narrow_from a b l d ea eb h =
-    subst (λ (o : Option ℕ). AreNarrow l (number o)) eb (subst (λ (o : Option ℕ). AreNarrow (number o) (number b)) ea h)
+    subst (λ (o : Option ℕ). AreNarrow l (number o)) eb
+    (subst (λ (o : Option ℕ). AreNarrow (number o) (number b)) ea h)

@@ -17,7 +17,8 @@ abbrev points_of : Option (Vec Point Global) → Option (List Point)
 points_of list = option_map (λ l. l.items) list
 
 -- the points of a record or the modal ones, moved to where the record is
-pub vertices_at : (place at : Point) (given : Option (List Point)) (list before : Option (Vec Point Global)) (set : Option (List Point))
+pub vertices_at : (place at : Point) (given : Option (List Point)) (list before : Option (Vec Point Global))
+    (set : Option (List Point))
     (points : List Point) → place ≡ at → points_of list ≡ given → points_of before ≡ set
     → points ≡ value_or (option_or (points_of list) (points_of before)) []
     → map (shifted at) points ≡ map (shifted place) (value_or (option_or given set) [])
@@ -27,7 +28,8 @@ vertices_at place at given list before set points e f g h =
     ap (λ (p : Point). map (shifted p) points) (sym e) ∙ ap (map (shifted place)) (h ∙ by_list ∙ by_set)
 
 -- the layer and the datatype that records give make the Layer of what they draw
-pub layer_is : (records : List Record) (l d : ℕ) (on : Layer) → modal layer_set records ≡ Some l → modal datatype_set records ≡ Some d
+pub layer_is : (records : List Record) (l d : ℕ) (on : Layer) → modal layer_set records ≡ Some l
+    → modal datatype_set records ≡ Some d
     → on ≡ layer_by l d → on ≡ layer_of records
 layer_is records l d on a b e =
     let by_layer = ap (λ (o : Option ℕ). layer_by (number o) (number (modal datatype_set records))) a in
@@ -47,7 +49,8 @@ points_or None b = refl
 points_or (Some v) b = refl
 
 -- the list that a record gives, or else the one before, is kept
-pub list_kept : (given set : Option (List Point)) (list before taken after : Option (Vec Point Global)) → points_of list ≡ given
+pub list_kept : (given set : Option (List Point)) (list before taken after : Option (Vec Point Global))
+    → points_of list ≡ given
     → taken ≡ before → after ≡ option_or list taken → points_of before ≡ set → points_of after ≡ option_or given set
 list_kept given set list before taken after e f g h =
     let by_list = ap (λ (o : Option (List Point)). option_or o (points_of before)) e in

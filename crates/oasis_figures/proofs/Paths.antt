@@ -1,5 +1,5 @@
 -- Paths: their values.
-use Rattle.std.proofs.Common.{◌≡◌, ◌∙◌, ℕ, Bool, true, false, List, ◌∷◌, Option, Some, None, refl, sym, ap, subst, ℤ, pos}
+use Rattle.std.proofs.Common.{◌≡◌, ◌∙◌, ℕ, Bool, true, false, List, ◌∷◌, Option, Some, None, refl, sym, ap, subst, ℤ}
 use Rattle.std.specs.Prelude.{is_some, if◌then◌else◌, option_map}
 use Rattle.std.specs.Option.{option_or, option_and_then}
 use Rattle.lvl_grid.specs.Turn.{FitsPoint}
@@ -9,7 +9,8 @@ use Rattle.oasis_records.specs.declared.path.Path.{Path}
 use Rattle.oasis_records.specs.declared.record.Record.{Record}
 use Rattle.oasis_figures.specs.Figures.{layer_by}
 use Rattle.oasis_figures.specs.Keeping.{StandsFor}
-use Rattle.oasis_figures.specs.Modal.{modal, moved, listed, extended, layer_set, datatype_set, half_width_set, start_set, end_set, geometry}
+use Rattle.oasis_figures.specs.Modal.{modal, moved, extended, layer_set, datatype_set, half_width_set}
+use Rattle.oasis_figures.specs.Modal.{start_set, end_set}
 use Rattle.oasis_figures.specs.Rules.{AreNarrow, Breaches, is_defined, taken, of_repetition, first_undefined}
 use Rattle.oasis_figures.specs.declared.extension.Extent.{Extent}
 use Rattle.oasis_figures.specs.declared.modal.Modal.{Modal}
@@ -17,13 +18,16 @@ use Rattle.oasis_figures.specs.declared.path.Resolved.{Resolved}
 use Rattle.oasis_figures.specs.declared.path.Stroke.{Stroke}
 use Rattle.oasis_figures.specs.declared.rule.FigureRule.TheVariants.{Undefined, Layer as WideLayer, OutOfRange}
 use Rattle.oasis_figures.specs.declared.variable.Variable.{Variable}
-use Rattle.oasis_figures.specs.declared.variable.Variable.TheVariants.{Layer as TheLayer, Datatype, PathHalfWidth, PathPointList}
-use Rattle.oasis_figures.specs.declared.variable.Variable.TheVariants.{PathStartExtension, PathEndExtension, Repetition as TheRepetition}
+use Rattle.oasis_figures.specs.declared.variable.Variable.TheVariants.{Layer as TheLayer, Datatype, PathHalfWidth}
+use Rattle.oasis_figures.specs.declared.variable.Variable.TheVariants.{PathPointList}
+use Rattle.oasis_figures.specs.declared.variable.Variable.TheVariants.{PathStartExtension, PathEndExtension}
+use Rattle.oasis_figures.specs.declared.variable.Variable.TheVariants.{Repetition as TheRepetition}
 use Rattle.oasis_figures.specs.inside.Extents.{extent, ends_of}
 use Rattle.oasis_figures.specs.inside.Known.{AreDefined, IsKnown}
 use Rattle.oasis_figures.specs.inside.Paths.{a_path, IsStroke, IsResolved}
 use Rattle.oasis_figures.specs.inside.Repeating.{is_known}
-use Rattle.oasis_figures.proofs.Defined.{later, next, known, unknown, undefined_breached, wide_breached, range_breached, narrow_at, narrow_from}
+use Rattle.oasis_figures.proofs.Defined.{later, next, known, unknown, undefined_breached, wide_breached}
+use Rattle.oasis_figures.proofs.Defined.{range_breached, narrow_at, narrow_from, repeated, position_after}
 
 abbrev all : List Record → Path → List Record
 all earlier p = a_path p ∷ earlier
@@ -80,16 +84,23 @@ end_at m earlier p t s a =
     ap (option_map extent) (here ∙ before) ∙ a.end
 
 -- the variables before the point list have values
-stroke_known : (m : Modal) (earlier : List Record) (p : Path) (t : Stroke) (vs : List Variable) {o : Option Variable} → StandsFor m earlier
+stroke_known : (m : Modal) (earlier : List Record) (p : Path) (t : Stroke) (vs : List Variable) {o : Option Variable}
+    → StandsFor m earlier
     → IsStroke m p t → first_undefined (defined earlier p) vs ≡ o
-    → first_undefined (defined earlier p) (TheLayer ∷ Datatype ∷ PathHalfWidth ∷ PathStartExtension ∷ PathEndExtension ∷ vs) ≡ o
+    → first_undefined (defined earlier p) (TheLayer ∷ Datatype ∷ PathHalfWidth ∷ PathStartExtension ∷ PathEndExtension
+    ∷ vs) ≡ o
 stroke_known m earlier p t vs s a q =
     let f = defined earlier p in
-    let ends = next f PathEndExtension vs (some_mapped (modal end_set (all earlier p)) t.end (end_at m earlier p t s a)) q in
-    let starts = next f PathStartExtension (PathEndExtension ∷ vs) (some_mapped (modal start_set (all earlier p)) t.start (start_at m earlier p t s a)) ends in
-    let half = next f PathHalfWidth (PathStartExtension ∷ PathEndExtension ∷ vs) (ap is_some (half_at m earlier p t s a)) starts in
-    let datatype = next f Datatype (PathHalfWidth ∷ PathStartExtension ∷ PathEndExtension ∷ vs) (ap is_some (datatype_at m earlier p t s a)) half in
-    next f TheLayer (Datatype ∷ PathHalfWidth ∷ PathStartExtension ∷ PathEndExtension ∷ vs) (ap is_some (layer_at m earlier p t s a)) datatype
+    let ends = next f PathEndExtension vs
+    (some_mapped (modal end_set (all earlier p)) t.end (end_at m earlier p t s a)) q in
+    let starts = next f PathStartExtension (PathEndExtension ∷ vs)
+    (some_mapped (modal start_set (all earlier p)) t.start (start_at m earlier p t s a)) ends in
+    let half = next f PathHalfWidth (PathStartExtension ∷ PathEndExtension ∷ vs)
+    (ap is_some (half_at m earlier p t s a)) starts in
+    let datatype = next f Datatype (PathHalfWidth ∷ PathStartExtension ∷ PathEndExtension ∷ vs)
+    (ap is_some (datatype_at m earlier p t s a)) half in
+    next f TheLayer (Datatype ∷ PathHalfWidth ∷ PathStartExtension ∷ PathEndExtension ∷ vs)
+    (ap is_some (layer_at m earlier p t s a)) datatype
 
 pub list_unknown : (m : Modal) (earlier : List Record) (p : Path) (t : Stroke) → StandsFor m earlier → IsStroke m p t
     → has_list m p ≡ false → Breaches earlier (a_path p) (Undefined PathPointList)
@@ -98,10 +109,12 @@ list_unknown m earlier p t s a k =
     let vs = of_repetition p.position.repetition in
     let here = ap (λ (o : Option (List Point)). is_some (option_or p.points o)) (sym s.path) ∙ k in
     undefined_breached earlier (a_path p) PathPointList
-    (stroke_known m earlier p t (PathPointList ∷ vs) s a (ap (λ (b : Bool). if b then first_undefined f vs else Some PathPointList) here))
+    (stroke_known m earlier p t (PathPointList ∷ vs) s a
+    (ap (λ (b : Bool). if b then first_undefined f vs else Some PathPointList) here))
 
 -- so does the point list
-list_known : (m : Modal) (earlier : List Record) (p : Path) (t : Stroke) {o : Option Variable} → StandsFor m earlier → IsStroke m p t
+list_known : (m : Modal) (earlier : List Record) (p : Path) (t : Stroke) {o : Option Variable} → StandsFor m earlier
+    → IsStroke m p t
     → has_list m p ≡ true → first_undefined (defined earlier p) (of_repetition p.position.repetition) ≡ o
     → first_undefined (defined earlier p) (taken (a_path p)) ≡ o
 list_known m earlier p t s a k q =
@@ -109,20 +122,19 @@ list_known m earlier p t s a k q =
     let here = ap (λ (o : Option (List Point)). is_some (option_or p.points o)) (sym s.path) ∙ k in
     stroke_known m earlier p t (PathPointList ∷ vs) s a (next (defined earlier p) PathPointList vs here q)
 
-repeated : (m : Modal) (earlier : List Record) (p : Path) → StandsFor m earlier
-    → defined earlier p TheRepetition ≡ is_some (option_or (listed p.position.repetition) m.repetition)
-repeated m earlier p s = ap (λ (o : Option (List Point)). is_some (option_or (listed p.position.repetition) o)) (sym s.repetition)
-
-pub repetition_unknown : (m : Modal) (earlier : List Record) (p : Path) (t : Stroke) → StandsFor m earlier → IsStroke m p t
-    → has_list m p ≡ true → is_known p.position.repetition m.repetition ≡ false → Breaches earlier (a_path p) (Undefined TheRepetition)
+pub repetition_unknown : (m : Modal) (earlier : List Record) (p : Path) (t : Stroke) → StandsFor m earlier
+    → IsStroke m p t
+    → has_list m p ≡ true → is_known p.position.repetition m.repetition ≡ false
+    → Breaches earlier (a_path p) (Undefined TheRepetition)
 repetition_unknown m earlier p t s a k n =
-    let none = unknown (defined earlier p) p.position.repetition m.repetition (repeated m earlier p s) n in
+    let none = unknown (defined earlier p) p.position.repetition m.repetition (repeated m earlier (a_path p) s) n in
     undefined_breached earlier (a_path p) TheRepetition (list_known m earlier p t s a k none)
 
 pub all_defined : (m : Modal) (earlier : List Record) (p : Path) (t : Stroke) → StandsFor m earlier → IsStroke m p t
     → has_list m p ≡ true → is_known p.position.repetition m.repetition ≡ true → AreDefined earlier (a_path p)
 all_defined m earlier p t s a k n =
-    list_known m earlier p t s a k (known (defined earlier p) p.position.repetition m.repetition (repeated m earlier p s) n)
+    list_known m earlier p t s a k
+    (known (defined earlier p) p.position.repetition m.repetition (repeated m earlier (a_path p) s) n)
 
 pub layer_wide : (m : Modal) (earlier : List Record) (p : Path) (t : Stroke) → StandsFor m earlier → IsStroke m p t
     → AreDefined earlier (a_path p) → ¬ AreNarrow t.layer t.datatype → Breaches earlier (a_path p) WideLayer
@@ -130,32 +142,28 @@ layer_wide m earlier p t s a d n =
     let layer = modal layer_set (all earlier p) in
     let datatype = modal datatype_set (all earlier p) in
     wide_breached earlier (a_path p) d
-    (λ w. n (narrow_from layer datatype t.layer t.datatype (layer_at m earlier p t s a) (datatype_at m earlier p t s a) w))
+    (λ w. n (narrow_from layer datatype t.layer t.datatype (layer_at m earlier p t s a) (datatype_at m earlier p t s a)
+    w))
 
 pub all_known : (m : Modal) (earlier : List Record) (p : Path) (t : Stroke) → StandsFor m earlier → IsStroke m p t
     → AreDefined earlier (a_path p) → AreNarrow t.layer t.datatype → IsKnown earlier (a_path p)
 all_known m earlier p t s a d n =
     let layer = modal layer_set (all earlier p) in
     let datatype = modal datatype_set (all earlier p) in
-    let narrow = narrow_at layer datatype t.layer t.datatype (layer_at m earlier p t s a) (datatype_at m earlier p t s a) n in
+    let narrow = narrow_at layer datatype t.layer t.datatype (layer_at m earlier p t s a)
+    (datatype_at m earlier p t s a) n in
     record {
       defined = d;
       narrow = λ out. out narrow;
     }
 
--- where the path is
-position_at : (m : Modal) (earlier : List Record) (p : Path) → StandsFor m earlier
-    → geometry (all earlier p) ≡ moved m.geometry p.position.x p.position.y m.is_relative
-position_at m earlier p s =
-    let before = ap (λ (q : Point). moved q p.position.x p.position.y m.is_relative) s.drawn in
-    let mode = ap (λ (b : Bool). moved (geometry earlier) p.position.x p.position.y b) s.relative in
-    sym (before ∙ mode)
-
 pub position_out : (m : Modal) (earlier : List Record) (p : Path) → StandsFor m earlier → IsKnown earlier (a_path p)
     → ¬ FitsPoint (moved m.geometry p.position.x p.position.y m.is_relative) → Breaches earlier (a_path p) OutOfRange
-position_out m earlier p s k n = range_breached earlier (a_path p) k (λ h. n (subst FitsPoint (position_at m earlier p s) h.0))
+position_out m earlier p s k n =
+    range_breached earlier (a_path p) k (λ h. n (subst FitsPoint (position_after m earlier (a_path p) s) h.0))
 
-pub resolved : (m : Modal) (earlier : List Record) (p : Path) (v : Resolved) → StandsFor m earlier → IsStroke m p v.stroke
+pub resolved : (m : Modal) (earlier : List Record) (p : Path) (v : Resolved) → StandsFor m earlier
+    → IsStroke m p v.stroke
     → IsKnown earlier (a_path p) → v.on ≡ layer_by v.stroke.layer v.stroke.datatype → FitsPoint v.at
     → v.at ≡ moved m.geometry p.position.x p.position.y m.is_relative → IsResolved earlier p v
 resolved m earlier p v s a k on fits at = record {
@@ -165,7 +173,7 @@ resolved m earlier p v s a k on fits at = record {
   start = start_at m earlier p v.stroke s a;
   end = end_at m earlier p v.stroke s a;
   on = on;
-  at = position_at m earlier p s ∙ sym at;
+  at = position_after m earlier (a_path p) s ∙ sym at;
   fits = fits;
   known = k;
 }

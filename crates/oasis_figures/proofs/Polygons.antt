@@ -20,7 +20,8 @@ use Rattle.oasis_figures.specs.declared.drawn.Drawn.TheVariants.{Ring}
 use Rattle.oasis_figures.specs.declared.modal.Modal.{Modal}
 use Rattle.oasis_figures.specs.declared.polygon.Resolved.{Resolved}
 use Rattle.oasis_figures.specs.declared.rule.FigureRule.{FigureRule}
-use Rattle.oasis_figures.specs.declared.rule.FigureRule.TheVariants.{Undefined, Layer as WideLayer, OutOfRange, Magnification, Angle}
+use Rattle.oasis_figures.specs.declared.rule.FigureRule.TheVariants.{Undefined, Layer as WideLayer, OutOfRange}
+use Rattle.oasis_figures.specs.declared.rule.FigureRule.TheVariants.{Magnification, Angle}
 use Rattle.oasis_figures.specs.declared.rule.FigureRule.TheVariants.{Extension, Oblique, Path}
 use Rattle.oasis_figures.specs.inside.Polygons.{a_polygon, IsResolved, RingBreaks}
 use Rattle.oasis_figures.proofs.Defined.{BreaksNoLater, no_rule, known_first}
@@ -36,22 +37,28 @@ pub record IsRead (earlier : List Record) (p : Polygon) (v : Resolved) (vertices
 abbrev pub IsReadAfter : Modal → Polygon → Resolved → List Point → Type 0
 IsReadAfter m p v vertices = (earlier : List Record) → StandsFor m earlier → IsRead earlier p v vertices
 
-pub read_after : (m : Modal) (p : Polygon) (v : Resolved) (list : Option (Vec Point Global)) (points vertices : List Point)
-    → ((earlier : List Record) → StandsFor m earlier → IsResolved earlier p v) → option_map (λ l. l.items) list ≡ p.points
+pub read_after : (m : Modal) (p : Polygon) (v : Resolved) (list : Option (Vec Point Global))
+    (points vertices : List Point)
+    → ((earlier : List Record) → StandsFor m earlier → IsResolved earlier p v)
+    → option_map (λ l. l.items) list ≡ p.points
     → points ≡ value_or (option_or (option_map (λ l. l.items) list) (option_map (λ l. l.items) m.polygon)) []
     → vertices ≡ map (shifted v.at) points → IsReadAfter m p v vertices
 read_after m p v list points vertices known f g w = λ earlier s.
     let place = geometry (a_polygon p ∷ earlier) in
     record {
       values = known earlier s;
-      points = w ∙ vertices_at place v.at p.points list m.polygon (modal polygon_set earlier) points (known earlier s).at f s.polygon g;
+      points = w ∙ vertices_at place v.at p.points list m.polygon (modal polygon_set earlier) points
+          (known earlier s).at f s.polygon g;
     }
 
 -- no rule before Oblique is breached where the vertices fit
-before_oblique : (earlier : List Record) (p : Polygon) (v : Resolved) (qs : List Point) → IsRead earlier p v qs → All FitsPoint qs
+before_oblique : (earlier : List Record) (p : Polygon) (v : Resolved) (qs : List Point) → IsRead earlier p v qs
+    → All FitsPoint qs
     → (other : FigureRule) → order other < 6 → ¬ Breaks earlier (a_polygon p) other
-before_oblique earlier p v qs a h (Undefined x) lt b = known_first earlier (a_polygon p) a.values.known (Undefined x) (omega arith) b
-before_oblique earlier p v qs a h WideLayer lt b = known_first earlier (a_polygon p) a.values.known WideLayer (omega arith) b
+before_oblique earlier p v qs a h (Undefined x) lt b =
+    known_first earlier (a_polygon p) a.values.known (Undefined x) (omega arith) b
+before_oblique earlier p v qs a h WideLayer lt b =
+    known_first earlier (a_polygon p) a.values.known WideLayer (omega arith) b
 before_oblique earlier p v qs a h OutOfRange lt b =
     b (subst FitsPoint (sym a.values.at) a.values.fits, subst (λ (ps : List Point). All FitsPoint ps) a.points h)
 before_oblique earlier p v qs a h Magnification lt b = b
@@ -60,7 +67,8 @@ before_oblique earlier p v qs a h Extension lt b = b
 before_oblique earlier p v qs a h Oblique lt b = omega (arith, lt)
 before_oblique earlier p v qs a h (Path f) lt b = b
 
-ring_breached : (earlier : List Record) (p : Polygon) (v : Resolved) (qs : List Point) (rule : FigureRule) → IsRead earlier p v qs
+ring_breached : (earlier : List Record) (p : Polygon) (v : Resolved) (qs : List Point) (rule : FigureRule)
+    → IsRead earlier p v qs
     → RingBreaks qs rule → Breaches earlier (a_polygon p) rule
 ring_breached earlier p v qs OutOfRange a b = record {
   broken = λ h. b (subst (λ (ps : List Point). All FitsPoint ps) (sym a.points) h.1);
@@ -77,12 +85,14 @@ ring_breached earlier p v qs Angle a b = absurd b
 ring_breached earlier p v qs Extension a b = absurd b
 ring_breached earlier p v qs (Path f) a b = absurd b
 
-pub ring_refused : (m : Modal) (p : Polygon) (v : Resolved) (qs : List Point) (x : Refusal FigureRule) → IsReadAfter m p v qs
+pub ring_refused : (m : Modal) (p : Polygon) (v : Resolved) (qs : List Point) (x : Refusal FigureRule)
+    → IsReadAfter m p v qs
     → Says x (RingBreaks qs) → Says x (BreachesAfter m (a_polygon p))
 ring_refused m p v qs (Breach rule) read b = λ earlier s. ring_breached earlier p v qs rule (read earlier s) b
 ring_refused m p v qs OutOfMemory read b = tt
 
-no_later : (earlier : List Record) (p : Polygon) → IsRing (polygon_ring (a_polygon p ∷ earlier)) → BreaksNoLater earlier (a_polygon p)
+no_later : (earlier : List Record) (p : Polygon) → IsRing (polygon_ring (a_polygon p ∷ earlier))
+    → BreaksNoLater earlier (a_polygon p)
 no_later earlier p h (Undefined v) lt b = omega (arith, lt)
 no_later earlier p h WideLayer lt b = omega (arith, lt)
 no_later earlier p h OutOfRange lt b = omega (arith, lt)
@@ -92,20 +102,24 @@ no_later earlier p h Extension lt b = b
 no_later earlier p h Oblique lt b = b h
 no_later earlier p h (Path f) lt b = b
 
-pub polygon_none : (earlier : List Record) (p : Polygon) (v : Resolved) (qs : List Point) → IsRead earlier p v qs → All FitsPoint qs
+pub polygon_none : (earlier : List Record) (p : Polygon) (v : Resolved) (qs : List Point) → IsRead earlier p v qs
+    → All FitsPoint qs
     → IsRing qs → BreachesNone earlier (a_polygon p)
 polygon_none earlier p v qs a h ring =
     let fits = subst (λ (ps : List Point). All FitsPoint ps) a.points h in
     no_rule earlier (a_polygon p) a.values.known.defined a.values.known.narrow
-    (λ out. out (subst FitsPoint (sym a.values.at) a.values.fits, fits)) (no_later earlier p (subst IsRing a.points ring))
+    (λ out. out (subst FitsPoint (sym a.values.at) a.values.fits, fits))
+    (no_later earlier p (subst IsRing a.points ring))
 
-pub polygon_drawn : (earlier : List Record) (p : Polygon) (v : Resolved) (qs ring : List Point) → IsRead earlier p v qs → ring ≡ qs
+pub polygon_drawn : (earlier : List Record) (p : Polygon) (v : Resolved) (qs ring : List Point) → IsRead earlier p v qs
+    → ring ≡ qs
     → IsDrawn earlier (a_polygon p) (Some (Ring v.on ring))
 polygon_drawn earlier p v qs ring a e =
     let all = a_polygon p ∷ earlier in
     let layer = layer_is all v.layer v.datatype v.on a.values.layer a.values.datatype a.values.on in
     let rings = ap (λ (ps : List Point). ps ∷ []) (e ∙ a.points) in
     record {
-      shapes = shape_is v.on (layer_of all) (ring ∷ []) (polygon_ring all ∷ []) (shifts_of earlier (a_polygon p)) layer rings;
+      shapes = shape_is v.on (layer_of all) (ring ∷ []) (polygon_ring all ∷ []) (shifts_of earlier (a_polygon p)) layer
+          rings;
       placements = refl;
     }

@@ -15,7 +15,8 @@ use Rattle.oasis_figures.specs.inside.Taking.{Takes}
 abbrev pub BreachesAfter : Modal → Record → FigureRule → Type 0
 BreachesAfter m r rule = (earlier : List Record) → StandsFor m earlier → Breaches earlier r rule
 
-pub takes_refused : (m : Modal) (r : Record) (result : Result (Option Drawn) (Refusal FigureRule)) (e : Refusal FigureRule)
+pub takes_refused : (m : Modal) (r : Record) (result : Result (Option Drawn) (Refusal FigureRule))
+    (e : Refusal FigureRule)
     → IsErr result × IsErrAnd result (λ x. x ≡ e) → Says e (BreachesAfter m r) → Takes m r result m
 takes_refused m r (Ok d) e h s = absurd h.1
 takes_refused m r (Err x) e h s = record {

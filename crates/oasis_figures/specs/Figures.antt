@@ -1,5 +1,6 @@
 -- What a record draws after those before it, the latest first.
-use Rattle.std.specs.Prelude.{◌≡◌, ℕ, ◌*◌, ◌==◌, not, ℤ, pos, Bool, false, if◌then◌else◌, List, [], ◌∷◌, map, Option, Some, None, All}
+use Rattle.std.specs.Prelude.{◌≡◌, ℕ, ◌*◌, ◌==◌, not, ℤ, pos, Bool, false, if◌then◌else◌, List, [], ◌∷◌, map, Option}
+use Rattle.std.specs.Prelude.{Some, None, All}
 use Rattle.lvl_grid.specs.declared.point.Point.{Point}
 use Rattle.lvl_grid.specs.Turn.{FitsPoint, shifted}
 use Rattle.lvl_grid.specs.Winding.{rectangle_between}
@@ -19,7 +20,8 @@ use Rattle.oasis_records.specs.declared.cell.CellRef.TheVariants.{Number}
 use Rattle.oasis_records.specs.declared.placement.Transform.{Transform}
 use Rattle.oasis_records.specs.declared.placement.Transform.TheVariants.{Turned, Scaled}
 use Rattle.oasis_records.specs.declared.record.Record.TheVariants.{Placement, Rectangle, Polygon, Path}
-use Rattle.oasis_figures.specs.Modal.{value_or, modal, layer_set, datatype_set, width_set, height_set, repetition_set, repetition_of, geometry}
+use Rattle.oasis_figures.specs.Modal.{value_or, modal, layer_set, datatype_set, width_set, height_set, repetition_set}
+use Rattle.oasis_figures.specs.Modal.{repetition_of, geometry}
 use Rattle.oasis_figures.specs.Modal.{cell_set, polygon_set, half_width_set, path_set, start_set, end_set, placement}
 use Rattle.oasis_figures.specs.declared.drawn.Drawn.{Drawn}
 use Rattle.oasis_figures.specs.declared.drawn.Drawn.TheVariants.{Ring, Rings, Placement as Placing}
@@ -37,7 +39,8 @@ layer_of records = layer_by (number (modal layer_set records)) (number (modal da
 -- the corners of the latest rectangle, the lower left one at its position
 abbrev pub rectangle_ring : List Record → List Point
 rectangle_ring records =
-    rectangle_between (geometry records) (shifted (to (pos (number (modal width_set records))) (pos (number (modal height_set records)))) (geometry records))
+    let size : Point = to (pos (number (modal width_set records))) (pos (number (modal height_set records))) in
+    rectangle_between (geometry records) (shifted size (geometry records))
 
 -- the points of a list, the first at the position of the latest figure
 abbrev pub vertices : List Record → Option (List Point) → List Point
@@ -64,7 +67,8 @@ abbrev pub end_of : List Record → ℕ
 end_of records = reach (modal end_set records)
 
 abbrev pub path_figure : List Record → Figure
-path_figure records = path (path_points records) (record { half = half_of records; start = start_of records; end = end_of records })
+path_figure records =
+    path (path_points records) (record { half = half_of records; start = start_of records; end = end_of records })
 
 -- the shifts of a record: those of its repetition, or the zero shift alone
 abbrev pub shifts_by : Option Repetition → Option (List Point) → List Point
@@ -79,7 +83,8 @@ shape earlier r figure = record { layer = layer_of (r ∷ earlier); figure = fig
 
 -- the shapes of a record
 abbrev pub shapes_of : List Record → Record → List (PlainShape Figure)
-shapes_of earlier (Rectangle r) = shape earlier (Rectangle r) (rings (rectangle_ring (Rectangle r ∷ earlier) ∷ [])) ∷ []
+shapes_of earlier (Rectangle r) =
+    shape earlier (Rectangle r) (rings (rectangle_ring (Rectangle r ∷ earlier) ∷ [])) ∷ []
 shapes_of earlier (Polygon p) = shape earlier (Polygon p) (rings (polygon_ring (Polygon p ∷ earlier) ∷ [])) ∷ []
 shapes_of earlier (Path p) = shape earlier (Path p) (path_figure (Path p ∷ earlier)) ∷ []
 shapes_of earlier r = []
@@ -94,7 +99,10 @@ is_number n r = false
 -- the turn by so many degrees, none but by right angles
 abbrev pub turn_by : Real → Option Turn
 turn_by a =
-    if is_number 0 a then Some R0 else (if is_number 90 a then Some R90 else (if is_number 180 a then Some R180 else (if is_number 270 a then Some R270 else None)))
+    if is_number 0 a then Some R0
+    else (if is_number 90 a then Some R90
+    else (if is_number 180 a then Some R180
+    else (if is_number 270 a then Some R270 else None)))
 
 -- an angle that isn't there is 0, a magnification 1
 
@@ -123,7 +131,13 @@ pub record Placed : Type 0 where
 -- the placements of a record
 abbrev pub placements_of : List Record → Record → List Placed
 placements_of earlier (Placement p) =
-    record { cell = cell_of (Placement p ∷ earlier); flip = p.flip; turn = value_or (turn_of p.transform) R0; at = placement (Placement p ∷ earlier); shifts = shifts_of earlier (Placement p) }
+    record {
+      cell = cell_of (Placement p ∷ earlier);
+      flip = p.flip;
+      turn = value_or (turn_of p.transform) R0;
+      at = placement (Placement p ∷ earlier);
+      shifts = shifts_of earlier (Placement p);
+    }
     ∷ []
 placements_of earlier r = []
 

@@ -1,6 +1,7 @@
--- Modal variables (SEMI P39 OASIS 1.0, "Modal variables"). Lists of records are those of a cell after its CELL record, the
--- latest first.
-use Rattle.std.specs.Prelude.{ℕ, ℤ, pos, ◌+ℤ◌, Bool, true, false, if◌then◌else◌, List, [], ◌∷◌, Option, Some, None, option_map}
+-- Modal variables (SEMI P39 OASIS 1.0, "Modal variables"). Lists of records are those of a cell after its CELL record,
+-- the latest first.
+use Rattle.std.specs.Prelude.{ℕ, ℤ, pos, ◌+ℤ◌, Bool, true, false, if◌then◌else◌, List, [], ◌∷◌, Option, Some, None}
+use Rattle.std.specs.Prelude.{option_map}
 use Rattle.std.specs.Option.{option_or, option_and_then}
 use Rattle.lvl_grid.specs.declared.point.Point.{Point}
 use Rattle.oasis_values.specs.declared.repetition.Repetition.{Repetition}
@@ -17,8 +18,8 @@ abbrev pub value_or : {A : Type 0} → Option A → A → A
 value_or None other = other
 value_or (Some x) other = x
 
--- the value that the latest record gave that set the variable, none if no record did. f says what a record sets it to after
--- those before it
+-- the value that the latest record gave that set the variable, none if no record did. f says what a record sets it to
+-- after those before it
 abbrev pub modal : {A : Type 0} → (List Record → Record → Option A) → List Record → Option A
 modal f [] = None
 modal f (r ∷ earlier) = option_or (f earlier r) (modal f earlier)

@@ -1,5 +1,6 @@
 -- The rules that a record may breach after those before it, the latest first.
-use Rattle.std.specs.Prelude.{◌≡◌, ℕ, ◌<◌, ◌^◌, ◌||◌, ℤ, negsuc, Bool, true, false, is_some, if◌then◌else◌, List, [], ◌∷◌, Option, Some, None, All}
+use Rattle.std.specs.Prelude.{◌≡◌, ℕ, ◌<◌, ◌^◌, ◌||◌, ℤ, negsuc, Bool, true, false, is_some, if◌then◌else◌, List, []}
+use Rattle.std.specs.Prelude.{◌∷◌, Option, Some, None, All}
 use Rattle.lvl_grid.specs.Turn.{FitsPoint, shifted}
 use Rattle.lvl_grid.specs.Winding.{IsRing}
 use Rattle.lvl_path.specs.Runs.{IsLowestFault}
@@ -7,17 +8,21 @@ use Rattle.lvl_path.specs.declared.fault.PathFault.{PathFault}
 use Rattle.oasis_values.specs.declared.repetition.Repetition.{Repetition}
 use Rattle.oasis_records.specs.declared.record.Record.{Record}
 use Rattle.oasis_records.specs.declared.record.Record.TheVariants.{Placement, Rectangle, Polygon, Path}
-use Rattle.oasis_figures.specs.Figures.{number, rectangle_ring, polygon_ring, path_points, half_of, start_of, end_of, shifts_of, turn_of, is_magnified}
+use Rattle.oasis_figures.specs.Figures.{number, rectangle_ring, polygon_ring, path_points, half_of, start_of, end_of}
+use Rattle.oasis_figures.specs.Figures.{shifts_of, turn_of, is_magnified}
 use Rattle.oasis_figures.specs.Modal.{geometry, placement}
 use Rattle.oasis_figures.specs.Modal.{modal, cell_set, layer_set, datatype_set, width_set, height_set, polygon_set}
 use Rattle.oasis_figures.specs.Modal.{half_width_set, path_set, start_set, end_set, repetition_set}
 use Rattle.oasis_figures.specs.declared.rule.FigureRule.{FigureRule}
-use Rattle.oasis_figures.specs.declared.rule.FigureRule.TheVariants.{Undefined, Layer as WideLayer, OutOfRange, Magnification, Angle}
+use Rattle.oasis_figures.specs.declared.rule.FigureRule.TheVariants.{Undefined, Layer as WideLayer, OutOfRange}
+use Rattle.oasis_figures.specs.declared.rule.FigureRule.TheVariants.{Magnification, Angle}
 use Rattle.oasis_figures.specs.declared.rule.FigureRule.TheVariants.{Extension, Oblique, Path as PathRule}
 use Rattle.oasis_figures.specs.declared.variable.Variable.{Variable}
-use Rattle.oasis_figures.specs.declared.variable.Variable.TheVariants.{PlacementCell, Layer, Datatype, GeometryW, GeometryH}
+use Rattle.oasis_figures.specs.declared.variable.Variable.TheVariants.{PlacementCell, Layer, Datatype, GeometryW}
+use Rattle.oasis_figures.specs.declared.variable.Variable.TheVariants.{GeometryH}
 use Rattle.oasis_figures.specs.declared.variable.Variable.TheVariants.{PolygonPointList, PathHalfWidth, PathPointList}
-use Rattle.oasis_figures.specs.declared.variable.Variable.TheVariants.{PathStartExtension, PathEndExtension, Repetition as TheRepetition}
+use Rattle.oasis_figures.specs.declared.variable.Variable.TheVariants.{PathStartExtension, PathEndExtension}
+use Rattle.oasis_figures.specs.declared.variable.Variable.TheVariants.{Repetition as TheRepetition}
 
 abbrev pub is_defined : List Record → Variable → Bool
 is_defined records PlacementCell = is_some (modal cell_set records)
@@ -43,7 +48,8 @@ taken (Rectangle r) = Layer ∷ Datatype ∷ GeometryW ∷ GeometryH ∷ of_repe
 taken (Placement p) = PlacementCell ∷ of_repetition p.position.repetition
 taken (Polygon p) = Layer ∷ Datatype ∷ PolygonPointList ∷ of_repetition p.position.repetition
 taken (Path p) =
-    Layer ∷ Datatype ∷ PathHalfWidth ∷ PathStartExtension ∷ PathEndExtension ∷ PathPointList ∷ of_repetition p.position.repetition
+    Layer ∷ Datatype ∷ PathHalfWidth ∷ PathStartExtension ∷ PathEndExtension ∷ PathPointList
+    ∷ of_repetition p.position.repetition
 taken r = []
 
 abbrev pub first_undefined : (Variable → Bool) → List Variable → Option Variable
@@ -65,8 +71,10 @@ HasWideLayer earlier r = ⊥
 -- the position, a vertex at the zero shift or a place of a cell is outside 64 signed bits
 abbrev pub LeavesRange : List Record → Record → Type 0
 LeavesRange earlier (Rectangle r) = ¬ All FitsPoint (rectangle_ring (Rectangle r ∷ earlier))
-LeavesRange earlier (Polygon p) = ¬ (FitsPoint (geometry (Polygon p ∷ earlier)) × All FitsPoint (polygon_ring (Polygon p ∷ earlier)))
-LeavesRange earlier (Path p) = ¬ (FitsPoint (geometry (Path p ∷ earlier)) × All FitsPoint (path_points (Path p ∷ earlier)))
+LeavesRange earlier (Polygon p) =
+    ¬ (FitsPoint (geometry (Polygon p ∷ earlier)) × All FitsPoint (polygon_ring (Polygon p ∷ earlier)))
+LeavesRange earlier (Path p) =
+    ¬ (FitsPoint (geometry (Path p ∷ earlier)) × All FitsPoint (path_points (Path p ∷ earlier)))
 LeavesRange earlier (Placement p) =
     ¬ (FitsPoint (placement (Placement p ∷ earlier))
     × All (λ e. FitsPoint (shifted (placement (Placement p ∷ earlier)) e)) (shifts_of earlier (Placement p)))
@@ -89,14 +97,15 @@ HasNegativeEnd earlier (Path p) =
     is_negative (modal start_set (Path p ∷ earlier)) || is_negative (modal end_set (Path p ∷ earlier)) ≡ true
 HasNegativeEnd earlier r = ⊥
 
--- an edge of the polygon is oblique, the closing one too; a list of fewer than three points is none of a POLYGON record
+-- an edge of the polygon is oblique, or the closing one; no POLYGON record has a list of fewer than three points
 abbrev pub HasObliqueEdge : List Record → Record → Type 0
 HasObliqueEdge earlier (Polygon p) = ¬ IsRing (polygon_ring (Polygon p ∷ earlier))
 HasObliqueEdge earlier r = ⊥
 
 abbrev pub IsPathFault : List Record → PathFault → Type 0
 IsPathFault records f =
-    IsLowestFault (path_points records) (record { half = half_of records; start = start_of records; end = end_of records }) f
+    IsLowestFault (path_points records)
+    (record { half = half_of records; start = start_of records; end = end_of records }) f
 
 abbrev pub HasPathFault : List Record → Record → PathFault → Type 0
 HasPathFault earlier (Path p) f = IsPathFault (Path p ∷ earlier) f

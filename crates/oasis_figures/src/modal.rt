@@ -67,19 +67,26 @@ impl Modal {
         }
     }
 
-    /// Takes the next record of the cell and says what it draws; None where it draws nothing. A
-    /// refusal of a rule names the first that the record breaches, and after any refusal the variables
-    /// are as they were.
+    /// Takes the next record after CELL and says what it draws, in grid steps, at each of
+    /// [`Modal::shifts`]; None where it draws nothing (SEMI P39, "Modal variables", and each record).
+    ///
+    /// A record that breaches a [`FigureRule`] is refused by the first of them, in their order. After a
+    /// refusal, also for memory, the variables are as they were.
     pub fn take(
         &mut self,
         alloc: Global,
         next: Record,
     ) -> Result<Option<Drawn>, Refusal<FigureRule>>
-        ensures drawn { IfOk result (λ drawn. (earlier : List ARecord) → StandsFor self.old earlier → IsDrawn earlier next drawn) }
-        ensures places { IfOk result (λ drawn. (earlier : List ARecord) → StandsFor self.old earlier → PlacesFit (shifts_of earlier next) drawn) }
-        ensures kept { OnOk result ((earlier : List ARecord) → StandsFor self.old earlier → StandsFor self.new (next ∷ earlier)) }
-        ensures none { OnOk result ((earlier : List ARecord) → StandsFor self.old earlier → BreachesNone earlier next) }
-        ensures refused { IfErr result (λ e. Says e (λ rule. (earlier : List ARecord) → StandsFor self.old earlier → Breaches earlier next rule)) }
+        ensures drawn { IfOk result (λ drawn. (earlier : List ARecord) → StandsFor self.old earlier
+            → IsDrawn earlier next drawn) }
+        ensures places { IfOk result (λ drawn. (earlier : List ARecord) → StandsFor self.old earlier
+            → PlacesFit (shifts_of earlier next) drawn) }
+        ensures kept { OnOk result ((earlier : List ARecord) → StandsFor self.old earlier
+            → StandsFor self.new (next ∷ earlier)) }
+        ensures none { OnOk result ((earlier : List ARecord) → StandsFor self.old earlier
+            → BreachesNone earlier next) }
+        ensures refused { IfErr result (λ e. Says e (λ rule. (earlier : List ARecord) → StandsFor self.old earlier
+            → Breaches earlier next rule)) }
         ensures same { OnErr result (self.new ≡ self.old) }
     {
         match next {
@@ -93,10 +100,11 @@ impl Modal {
         }
     }
 
-    /// The shifts at which the record before is drawn. A repetition that it has from an earlier record
-    /// isn't copied.
+    /// The shifts at which the record taken last is drawn, in grid steps: those of its repetition, or
+    /// the zero shift alone. A repetition that it has from an earlier record isn't copied.
     pub fn shifts(&self) -> &Offsets
-        ensures { (r : ARecord) (earlier : List ARecord) → StandsFor self.now (r ∷ earlier) → result.now ≡ shifts_of earlier r }
+        ensures { (r : ARecord) (earlier : List ARecord) → StandsFor self.now (r ∷ earlier)
+            → result.now ≡ shifts_of earlier r }
     {
         match (&self.repetition, self.is_repeated) {
             (Some(shifts), true) => shifts,
@@ -104,15 +112,16 @@ impl Modal {
         }
     }
 
-    /// The cell of the latest placement; None where no PLACEMENT since CELL has named one.
+    /// The cell that the latest PLACEMENT places; None where none since CELL has named one.
     pub fn cell(&self) -> Option<&CellRef>
-        ensures { (records : List ARecord) → StandsFor self.now records → option_copied result ≡ modal cell_set records }
+        ensures { (records : List ARecord) → StandsFor self.now records
+            → option_copied result ≡ modal cell_set records }
     {
         self.cell.as_ref()
     }
 
-    /// Takes an XYRELATIVE or an XYABSOLUTE: from here on coordinates are added to those before them,
-    /// or aren't.
+    /// Takes an XYRELATIVE or an XYABSOLUTE: from here on a coordinate is added to the one before, or
+    /// replaces it.
     fn take_mode(&mut self, is_relative: bool) -> Result<Option<Drawn>, Refusal<FigureRule>>
         ensures { Takes self.old (mode is_relative) result self.new }
     {

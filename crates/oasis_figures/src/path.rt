@@ -50,7 +50,8 @@ fn bands_of(
     start: u64,
     end: u64,
 ) -> Result<Vec<Ring>, Refusal<FigureRule>>
-    ensures value { IfOk result (λ rings. rings.items ≡ path_rings points.now (record { half = half; start = start; end = end })) }
+    ensures value { IfOk result
+        (λ rings. rings.items ≡ path_rings points.now (record { half = half; start = start; end = end })) }
     ensures path { OnOk result (IsPath points.now (record { half = half; start = start; end = end })) }
     ensures refused { IfErr result (λ e. Says e (BandsBreak points.now half start end)) }
 {

@@ -30,7 +30,7 @@ fn is_number(number: u64, real: Real) -> bool
     }
 }
 
-/// The turn by so many degrees, or None where it is by no right angles.
+/// The turn by so many degrees, or None where that is another than 0, 90, 180 or 270.
 fn turn_by(angle: Real) -> Option<Turn>
     ensures { result ≡ turn_by angle }
 {
@@ -49,7 +49,7 @@ fn turn_by(angle: Real) -> Option<Turn>
     None
 }
 
-/// How a cell is turned, or None where that is by no right angles.
+/// How a cell is turned, or None where that is by another angle.
 fn turn_of(transform: Transform) -> Option<Turn>
     ensures { result ≡ turn_of transform }
 {
@@ -79,8 +79,10 @@ fn is_magnified(transform: Transform) -> bool
 impl Modal {
     /// How the cell is placed, if the placement breaches no rule.
     fn resolve_placement(&self, placement: &Placement) -> Result<Map, FigureRule>
-        ensures ok { IfOk result (λ by. (earlier : List ARecord) → StandsFor self.now earlier → IsResolved earlier placement.now by) }
-        ensures err { IfErr result (λ rule. (earlier : List ARecord) → StandsFor self.now earlier → Breaches earlier (a_placement placement.now) rule) }
+        ensures ok { IfOk result (λ by. (earlier : List ARecord) → StandsFor self.now earlier
+            → IsResolved earlier placement.now by) }
+        ensures err { IfErr result (λ rule. (earlier : List ARecord) → StandsFor self.now earlier
+            → Breaches earlier (a_placement placement.now) rule) }
     {
         if placement.cell.is_none() && self.cell.is_none() {
             return Err(FigureRule::Undefined(Variable::PlacementCell));

@@ -49,8 +49,10 @@ fn ring_at(alloc: Global, at: Point, points: &[Point]) -> Result<Ring, Refusal<F
 impl Modal {
     /// The values of a polygon, if it breaches no rule that is tested before its vertices.
     fn resolve_polygon(&self, polygon: &Polygon) -> Result<Resolved, FigureRule>
-        ensures ok { IfOk result (λ v. (earlier : List ARecord) → StandsFor self.now earlier → IsResolved earlier polygon.now v) }
-        ensures err { IfErr result (λ rule. (earlier : List ARecord) → StandsFor self.now earlier → Breaches earlier (a_polygon polygon.now) rule) }
+        ensures ok { IfOk result (λ v. (earlier : List ARecord) → StandsFor self.now earlier
+            → IsResolved earlier polygon.now v) }
+        ensures err { IfErr result (λ rule. (earlier : List ARecord) → StandsFor self.now earlier
+            → Breaches earlier (a_polygon polygon.now) rule) }
     {
         let Some(layer) = polygon.on.layer.or(self.layer) else {
             return Err(FigureRule::Undefined(Variable::Layer));

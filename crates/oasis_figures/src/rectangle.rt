@@ -44,8 +44,10 @@ fn height_of(rectangle: &Rectangle, width: u64) -> Option<u64>
 impl Modal {
     /// The values of a rectangle, if it breaches no rule.
     fn resolve_rectangle(&self, rectangle: &Rectangle) -> Result<Resolved, FigureRule>
-        ensures ok { IfOk result (λ v. (earlier : List ARecord) → StandsFor self.now earlier → IsResolved earlier rectangle.now v) }
-        ensures err { IfErr result (λ rule. (earlier : List ARecord) → StandsFor self.now earlier → Breaches earlier (a_rectangle rectangle.now) rule) }
+        ensures ok { IfOk result (λ v. (earlier : List ARecord) → StandsFor self.now earlier
+            → IsResolved earlier rectangle.now v) }
+        ensures err { IfErr result (λ rule. (earlier : List ARecord) → StandsFor self.now earlier
+            → Breaches earlier (a_rectangle rectangle.now) rule) }
     {
         let Some(layer) = rectangle.on.layer.or(self.layer) else {
             return Err(FigureRule::Undefined(Variable::Layer));

@@ -37,7 +37,8 @@ pub(crate) fn all_fit_at(
     repetition: &Option<Repetition>,
     modal: &Option<Offsets>,
 ) -> bool
-    ensures { IsTrue result ↔ All (λ e. FitsPoint (shifted at e)) (shifts_by repetition.now (option_or (listed repetition.now) modal.now)) }
+    ensures { IsTrue result
+        ↔ All (λ e. FitsPoint (shifted at e)) (shifts_by repetition.now (option_or (listed repetition.now) modal.now)) }
 {
     match (repetition, modal) {
         (Some(Repetition::New(shifts)), _) | (Some(Repetition::Modal), Some(shifts)) => {

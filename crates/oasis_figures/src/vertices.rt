@@ -28,7 +28,8 @@ pub(crate) fn all_shifted(
 ) -> Result<Vec<Point>, Refusal<FigureRule>>
     ensures value { IfOk result (λ vertices. vertices.items ≡ map (shifted by) points.now) }
     ensures fit { OnOk result (All FitsPoint (map (shifted by) points.now)) }
-    ensures refused { IfErr result (λ e. Says e (λ rule. (rule ≡ FigureRule.OutOfRange) × ¬ All FitsPoint (map (shifted by) points.now))) }
+    ensures refused { IfErr result
+        (λ e. Says e (λ rule. (rule ≡ FigureRule.OutOfRange) × ¬ All FitsPoint (map (shifted by) points.now))) }
 {
     let mut vertices = Vec::with_capacity(alloc, points.len())?;
     for point in points {
@@ -62,7 +63,8 @@ pub(crate) fn known<'a>(
     listed: &'a Option<Vec<Point>>,
     modal: &'a Option<Vec<Point>>,
 ) -> &'a [Point]
-    ensures { result.now ≡ value_or (option_or (option_map (λ v. v.items) listed.now) (option_map (λ v. v.items) modal.now)) [] }
+    ensures { result.now
+        ≡ value_or (option_or (option_map (λ v. v.items) listed.now) (option_map (λ v. v.items) modal.now)) [] }
 {
     match (listed, modal) {
         (Some(points), _) | (None, Some(points)) => points,

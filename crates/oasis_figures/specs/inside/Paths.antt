@@ -8,12 +8,14 @@ use Rattle.oasis_records.specs.declared.path.Path.{Path}
 use Rattle.oasis_records.specs.declared.record.Record.{Record}
 use Rattle.oasis_records.specs.declared.record.Record.TheVariants.{Path as APath}
 use Rattle.oasis_figures.specs.Figures.{layer_by}
-use Rattle.oasis_figures.specs.Modal.{modal, extended, layer_set, datatype_set, half_width_set, start_set, end_set, geometry}
+use Rattle.oasis_figures.specs.Modal.{modal, extended, layer_set, datatype_set, half_width_set, start_set, end_set}
+use Rattle.oasis_figures.specs.Modal.{geometry}
 use Rattle.oasis_figures.specs.declared.modal.Modal.{Modal}
 use Rattle.oasis_figures.specs.declared.path.Resolved.{Resolved}
 use Rattle.oasis_figures.specs.declared.path.Stroke.{Stroke}
 use Rattle.oasis_figures.specs.declared.rule.FigureRule.{FigureRule}
-use Rattle.oasis_figures.specs.declared.rule.FigureRule.TheVariants.{Undefined, Layer as WideLayer, OutOfRange, Magnification, Angle}
+use Rattle.oasis_figures.specs.declared.rule.FigureRule.TheVariants.{Undefined, Layer as WideLayer, OutOfRange}
+use Rattle.oasis_figures.specs.declared.rule.FigureRule.TheVariants.{Magnification, Angle}
 use Rattle.oasis_figures.specs.declared.rule.FigureRule.TheVariants.{Extension, Oblique, Path as PathRule}
 use Rattle.oasis_figures.specs.inside.Extents.{extent, ends_of}
 use Rattle.oasis_figures.specs.inside.Known.{IsKnown}
@@ -26,8 +28,10 @@ pub record IsStroke (m : Modal) (p : Path) (t : Stroke) : Type 0 where
   pub layer : option_or p.on.layer m.layer ≡ Some t.layer
   pub datatype : option_or p.on.datatype m.datatype ≡ Some t.datatype
   pub half : option_or p.half_width m.half_width ≡ Some t.half
-  pub start : option_map extent (option_or (extended (Some t.half) (ends_of p.ends).start) (option_map pos m.start)) ≡ Some t.start
-  pub end : option_map extent (option_or (extended (Some t.half) (ends_of p.ends).end) (option_map pos m.end)) ≡ Some t.end
+  pub start : option_map extent (option_or (extended (Some t.half) (ends_of p.ends).start) (option_map pos m.start))
+      ≡ Some t.start
+  pub end : option_map extent (option_or (extended (Some t.half) (ends_of p.ends).end) (option_map pos m.end))
+      ≡ Some t.end
 
 -- the values are those that the records give, and no rule is breached up to the position
 pub record IsResolved (earlier : List Record) (p : Path) (v : Resolved) : Type 0 where

@@ -10,7 +10,8 @@ use Rattle.oasis_figures.specs.Figures.{layer_by}
 use Rattle.oasis_figures.specs.Modal.{modal, layer_set, datatype_set, geometry}
 use Rattle.oasis_figures.specs.declared.polygon.Resolved.{Resolved}
 use Rattle.oasis_figures.specs.declared.rule.FigureRule.{FigureRule}
-use Rattle.oasis_figures.specs.declared.rule.FigureRule.TheVariants.{Undefined, Layer as WideLayer, OutOfRange, Magnification, Angle}
+use Rattle.oasis_figures.specs.declared.rule.FigureRule.TheVariants.{Undefined, Layer as WideLayer, OutOfRange}
+use Rattle.oasis_figures.specs.declared.rule.FigureRule.TheVariants.{Magnification, Angle}
 use Rattle.oasis_figures.specs.declared.rule.FigureRule.TheVariants.{Extension, Oblique, Path as PathRule}
 use Rattle.oasis_figures.specs.inside.Known.{IsKnown}
 

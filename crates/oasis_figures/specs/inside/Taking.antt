@@ -3,7 +3,8 @@ use Rattle.std.specs.Prelude.{◌≡◌, Bool, true, false, ◌∷◌, List, Opt
 use Rattle.lvl_refusal.specs.Refused.{Says}
 use Rattle.lvl_refusal.specs.declared.Refusal.{Refusal}
 use Rattle.oasis_records.specs.declared.record.Record.{Record}
-use Rattle.oasis_records.specs.declared.record.Record.TheVariants.{Placement, Rectangle, Polygon, Path, XyAbsolute, XyRelative}
+use Rattle.oasis_records.specs.declared.record.Record.TheVariants.{Placement, Rectangle, Polygon, Path, XyAbsolute}
+use Rattle.oasis_records.specs.declared.record.Record.TheVariants.{XyRelative}
 use Rattle.oasis_figures.specs.Figures.{IsDrawn, PlacesFit, shifts_of}
 use Rattle.oasis_figures.specs.Keeping.{StandsFor}
 use Rattle.oasis_figures.specs.Rules.{Breaches, BreachesNone}
@@ -11,13 +12,16 @@ use Rattle.oasis_figures.specs.declared.drawn.Drawn.{Drawn}
 use Rattle.oasis_figures.specs.declared.modal.Modal.{Modal}
 use Rattle.oasis_figures.specs.declared.rule.FigureRule.{FigureRule}
 
--- of every list of records that the variables stand for, the record draws this and breaches nothing, or breaches the rule
-pub record Takes (m : Modal) (r : Record) (result : Result (Option Drawn) (Refusal FigureRule)) (after : Modal) : Type 0 where
+-- after each list of records that the variables stand for, the record draws this and breaches nothing, or breaches
+-- the rule
+pub record Takes (m : Modal) (r : Record) (result : Result (Option Drawn) (Refusal FigureRule)) (after : Modal)
+    : Type 0 where
   pub drawn : IfOk result (λ d. (earlier : List Record) → StandsFor m earlier → IsDrawn earlier r d)
   pub places : IfOk result (λ d. (earlier : List Record) → StandsFor m earlier → PlacesFit (shifts_of earlier r) d)
   pub kept : OnOk result ((earlier : List Record) → StandsFor m earlier → StandsFor after (r ∷ earlier))
   pub none : OnOk result ((earlier : List Record) → StandsFor m earlier → BreachesNone earlier r)
-  pub refused : IfErr result (λ e. Says e (λ rule. (earlier : List Record) → StandsFor m earlier → Breaches earlier r rule))
+  pub refused : IfErr result
+      (λ e. Says e (λ rule. (earlier : List Record) → StandsFor m earlier → Breaches earlier r rule))
   pub same : OnErr result (after ≡ m)
 
 -- the record that sets the mode

@@ -7,7 +7,8 @@ use Rattle.oasis_figures.specs.Modal.{modal, path_set, repetition_set}
 use Rattle.oasis_figures.specs.declared.rule.FigureRule.TheVariants.{Extension}
 use Rattle.oasis_figures.specs.inside.Extents.{reaches}
 use Rattle.oasis_figures.specs.inside.Paths.{a_path}
-use Rattle.oasis_figures.proofs.Bands.{read_after, vertices_refused, extension_refused, bands_refused, has_reaches, path_none, path_drawn}
+use Rattle.oasis_figures.proofs.Bands.{read_after, vertices_refused, extension_refused, bands_refused, has_reaches}
+use Rattle.oasis_figures.proofs.Bands.{path_none, path_drawn}
 use Rattle.oasis_figures.proofs.Figures.{list_kept, repetition_kept}
 use Rattle.oasis_figures.proofs.Taking.{takes_refused}
 use Rattle.oasis_figures.proofs.modal.Modal.take_path.Goals as goal
@@ -19,10 +20,12 @@ returns-in_err-vertices c =
     let v = c.in_ok-stroke.field-0 in
     let list = c.listed-points in
     let qs = map (shifted v.at) c.known.result.now in
-    let read = read_after m p v list.result c.known.result.now qs c.in_ok-stroke.ensures.ok list.ensures c.known.ensures refl in
+    let read = read_after m p v list.result c.known.result.now qs c.in_ok-stroke.ensures.ok list.ensures
+    c.known.ensures refl in
     let refusal = c.in_err-vertices.field-0.0 in
     let refused = vertices_refused m p v qs refusal read c.in_err-vertices.ensures.refused in
-    takes_refused m (a_path p) c.from_residual-in_err-vertices.result refusal c.from_residual-in_err-vertices.ensures refused
+    takes_refused m (a_path p) c.from_residual-in_err-vertices.result refusal c.from_residual-in_err-vertices.ensures
+    refused
 
 pub returns-in_default : goal.returns-in_default
 returns-in_default c =
@@ -31,8 +34,10 @@ returns-in_default c =
     let v = c.in_ok-stroke.field-0 in
     let list = c.listed-points in
     let qs = map (shifted v.at) c.known.result.now in
-    let read = read_after m p v list.result c.known.result.now qs c.in_ok-stroke.ensures.ok list.ensures c.known.ensures refl in
-    let refused = extension_refused m p v qs read c.in_ok-vertices.ensures.fit (sym c.reaches.ensures ∙ c.in_default.is) in
+    let read = read_after m p v list.result c.known.result.now qs c.in_ok-stroke.ensures.ok list.ensures
+    c.known.ensures refl in
+    let refused = extension_refused m p v qs read c.in_ok-vertices.ensures.fit
+    (sym c.reaches.ensures ∙ c.in_default.is) in
     takes_refused m (a_path p) (Err (Breach Extension)) (Breach Extension) (refl, refl) refused
 
 pub returns-in_err-rings : goal.returns-in_err-rings
@@ -43,12 +48,14 @@ returns-in_err-rings c =
     let list = c.listed-points in
     let qs = c.deref.result.now in
     let moved : qs ≡ map (shifted v.at) c.known.result.now = c.deref.ensures.value ∙ c.in_ok-vertices.ensures.value in
-    let read = read_after m p v list.result c.known.result.now qs c.in_ok-stroke.ensures.ok list.ensures c.known.ensures moved in
+    let read = read_after m p v list.result c.known.result.now qs c.in_ok-stroke.ensures.ok list.ensures
+    c.known.ensures moved in
     let fit = subst (λ (ps : List Point). All FitsPoint ps) (sym moved) c.in_ok-vertices.ensures.fit in
     let x = c.in-Some.start in
     let y = c.in-Some.end in
     let refusal = c.in_err-rings.field-0.0 in
-    let refused = bands_refused m p v qs x y refusal read fit (sym c.reaches.ensures ∙ c.in-Some.is) c.in_err-rings.ensures.refused in
+    let refused = bands_refused m p v qs x y refusal read fit (sym c.reaches.ensures ∙ c.in-Some.is)
+    c.in_err-rings.ensures.refused in
     takes_refused m (a_path p) c.from_residual-in_err-rings.result refusal c.from_residual-in_err-rings.ensures refused
 
 pub returns : goal.returns
@@ -59,7 +66,8 @@ returns c =
     let list = c.listed-points in
     let qs = c.deref.result.now in
     let moved : qs ≡ map (shifted v.at) c.known.result.now = c.deref.ensures.value ∙ c.in_ok-vertices.ensures.value in
-    let read = read_after m p v list.result c.known.result.now qs c.in_ok-stroke.ensures.ok list.ensures c.known.ensures moved in
+    let read = read_after m p v list.result c.known.result.now qs c.in_ok-stroke.ensures.ok list.ensures
+    c.known.ensures moved in
     let fit = subst (λ (ps : List Point). All FitsPoint ps) (sym moved) c.in_ok-vertices.ensures.fit in
     let x = c.in-Some.start in
     let y = c.in-Some.end in
@@ -86,7 +94,8 @@ returns c =
             height = s.height;
             polygon = s.polygon;
             half_width = sym a.half;
-            path = list_kept p.points set list.result m.path c.take.result c.or.result list.ensures c.take.ensures.value
+            path = list_kept p.points set list.result m.path c.take.result c.or.result list.ensures
+                c.take.ensures.value
                 c.or.ensures s.path;
             start = sym h.start;
             end = sym h.end;

@@ -14,10 +14,12 @@ returns-in_err-ring c =
     let v = c.in_ok-values.values in
     let list = c.listed-points in
     let qs = map (shifted v.at) c.known.result.now in
-    let read = read_after m p v list.result c.known.result.now qs c.in_ok-values.ensures.ok list.ensures c.known.ensures refl in
+    let read = read_after m p v list.result c.known.result.now qs c.in_ok-values.ensures.ok list.ensures
+    c.known.ensures refl in
     let refusal = c.in_err-ring.field-0.0 in
     let refused = ring_refused m p v qs refusal read c.in_err-ring.ensures.refused in
-    takes_refused m (a_polygon p) c.from_residual-in_err-ring.result refusal c.from_residual-in_err-ring.ensures refused
+    takes_refused m (a_polygon p) c.from_residual-in_err-ring.result refusal c.from_residual-in_err-ring.ensures
+    refused
 
 pub returns : goal.returns
 returns c =
@@ -26,7 +28,8 @@ returns c =
     let v = c.in_ok-values.values in
     let list = c.listed-points in
     let qs = map (shifted v.at) c.known.result.now in
-    let read = read_after m p v list.result c.known.result.now qs c.in_ok-values.ensures.ok list.ensures c.known.ensures refl in
+    let read = read_after m p v list.result c.known.result.now qs c.in_ok-values.ensures.ok list.ensures
+    c.known.ensures refl in
     let ring = c.in_ok-ring.ensures in
     record {
       drawn = λ earlier s. polygon_drawn earlier p v qs c.in_ok-ring.ring (read earlier s) ring.value;
