@@ -1,4 +1,3 @@
-pub mod Behind
 pub mod Spelling
 pub mod Keeping
 pub mod Lifting
