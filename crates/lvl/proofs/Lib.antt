@@ -1,4 +1,3 @@
-pub mod Behind
 pub mod Formats
 pub mod Spelling
 pub mod Keeping

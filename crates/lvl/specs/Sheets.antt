@@ -1,43 +1,11 @@
--- Two flat layouts, and where they differ first.
-use Rattle.std.specs.Prelude.{◌≡◌, ◌↔◌, ◌⊎◌, List, [], ◌∷◌, Option, Some, None, if◌then◌else◌}
-use Rattle.lvl_grid.specs.declared.point.Square.{Square}
+-- What a verdict says of two flat layouts.
+use Rattle.std.specs.Prelude.{List}
 use Rattle.lvl_cells.specs.declared.layer.Layer.{Layer}
-use Rattle.lvl_cells.specs.Coverage.{RingsCover}
 use Rattle.lvl_flat.specs.Sheet.{PlainSheet}
-use Rattle.lvl_flat.specs.Sheets.{rings_on}
-use Rattle.lvl_cells.specs.Layers.{same_layer, ComesBefore}
-use Rattle.lvl_region.specs.Region.{IsAlone}
-use Rattle.lvl_region.specs.declared.region.Side.{Side}
-use Rattle.lvl_grid.specs.Squares.{IsBefore}
+use Rattle.lvl_compare.specs.Flats.{AlikeOn, IsFirstApart}
 use Rattle.lvl.specs.declared.verdict.Verdict.{Verdict}
 use Rattle.lvl.specs.declared.verdict.Verdict.TheVariants.{Same, Differ}
-
--- on the Layer both cover the same squares
-abbrev pub AlikeOn : List PlainSheet → List PlainSheet → Layer → Type 0
-AlikeOn a b layer = (s : Square) → RingsCover (rings_on layer a) s ↔ RingsCover (rings_on layer b) s
-
--- the square is the first, on the first Layer, that one side alone covers
-pub record IsFirstApart (a b : List PlainSheet) (layer : Layer) (square : Square) (side : Side) : Type 0 where
-  pub alone : IsAlone (RingsCover (rings_on layer a)) (RingsCover (rings_on layer b)) square side
-  pub least_layer : (l : Layer) → ComesBefore l layer → AlikeOn a b l
-  pub least_square : (s : Square) → IsBefore s square → RingsCover (rings_on layer a) s ↔ RingsCover (rings_on layer b) s
 
 abbrev pub IsFlatVerdict : List PlainSheet → List PlainSheet → Verdict → Type 0
 IsFlatVerdict a b Same = (layer : Layer) → AlikeOn a b layer
 IsFlatVerdict a b (Differ layer square side) = IsFirstApart a b layer square side
-
--- the Layer of the first sheet
-abbrev pub head_layer : List PlainSheet → Option Layer
-head_layer [] = None
-head_layer (sheet ∷ sheets) = Some sheet.layer
-
--- the sheets without the first, if that is for the Layer
-abbrev pub behind : Layer → List PlainSheet → List PlainSheet
-behind layer [] = []
-behind layer (sheet ∷ sheets) = if same_layer sheet.layer layer then sheets else sheet ∷ sheets
-
--- the one of two Layers that does not come behind the other, or the one that is there
-abbrev pub IsLesser : Option Layer → Option Layer → Option Layer → Type 0
-IsLesser None other result = result ≡ other
-IsLesser (Some a) None result = result ≡ Some a
-IsLesser (Some a) (Some b) result = ((result ≡ Some a) × (¬ ComesBefore b a)) ⊎ ((result ≡ Some b) × ComesBefore b a)

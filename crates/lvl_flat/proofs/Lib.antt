@@ -8,3 +8,5 @@ pub mod Walking
 pub mod Going
 pub mod Ending
 mod Listing
+pub mod Corners
+pub mod Holding

@@ -1,12 +1,12 @@
 -- The order of the Layers, and of sheets.
-use Rattle.std.proofs.Common.{◌≡◌, ◌<◌, ◌≤◌, ℕ, List, length, get_or, Some, inl, inr, refl, subst, sym, ap, arith, slice_get, All, ◌∙◌, ◌≢◌, ◌==◌, ◌&&◌, not, true, false, [], ◌∷◌, zero, suc, cond}
+use Rattle.std.proofs.Common.{◌≡◌, ◌<◌, ◌≤◌, ℕ, List, length, get_or, Some, inl, inr, refl, subst, sym, ap, arith, slice_get, All, ◌∙◌, ◌≢◌, [], ◌∷◌, zero, suc, cond}
 use Rattle.std.proofs.lemmas.Option.{slice_get_within, get_or_from_slice_get, slice_get-get_or}
 use Rattle.std.proofs.lemmas.Bool.{cases_lt}
 use Rattle.std.proofs.lemmas.List.Elements.{All-head, All-tail}
 use Rattle.lvl_cells.specs.declared.layer.Layer.{Layer}
 use Rattle.lvl_flat.specs.Sheet.{PlainSheet}
 use Rattle.lvl_flat.specs.Sheets.{AreSorted, rings_on}
-use Rattle.lvl_cells.specs.Layers.{ComesBefore, same_layer}
+use Rattle.lvl_cells.specs.Layers.{ComesBefore}
 use Rattle.lvl_cells.proofs.Layers.{before_trans, before_itself, same_is, differs_is}
 
 -- a sheet comes before those behind it

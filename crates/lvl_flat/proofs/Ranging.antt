@@ -36,16 +36,16 @@ chain_more cells top n w m c d p chain has named whole =
     (w, c, chain, (some.0, some.1, some.2, some.3, (some.4.4.0, (some.4.0, some.4.1, some.4.2, some.4.3, some.4.4.1))))
 
 -- the first choice of a chain, and the chain that goes on from there
-record FirstChoice (cells : List (PlainCell Rings)) (c : PlainCell Rings) (n : ℕ) (m : Map) (d : PlainCell Rings) : Type 0 where
-  pick : Pick
-  next : PlainCell Rings
-  rest : Map
-  chosen : Contains (picks c.references) pick
-  named : cell_named cells pick.0.cell ≡ Some next
-  chain : Chain cells next n rest d
-  whole : IsComposed (placing pick.0 pick.1) rest m
+pub record FirstChoice (cells : List (PlainCell Rings)) (c : PlainCell Rings) (n : ℕ) (m : Map) (d : PlainCell Rings) : Type 0 where
+  pub pick : Pick
+  pub next : PlainCell Rings
+  pub rest : Map
+  pub chosen : Contains (picks c.references) pick
+  pub named : cell_named cells pick.0.cell ≡ Some next
+  pub chain : Chain cells next n rest d
+  pub whole : IsComposed (placing pick.0 pick.1) rest m
 
-first_choice : (cells : List (PlainCell Rings)) (c : PlainCell Rings) (n : ℕ) (m : Map) (d : PlainCell Rings) → Chain cells c (suc n) m d → FirstChoice cells c n m d
+pub first_choice : (cells : List (PlainCell Rings)) (c : PlainCell Rings) (n : ℕ) (m : Map) (d : PlainCell Rings) → Chain cells c (suc n) m d → FirstChoice cells c n m d
 first_choice cells c zero m d chain =
     let base = chain.2 in
     let a = last_pick cells chain.1.references chain.0 m d chain.3 in

@@ -6,12 +6,15 @@
 #![tactic(auto)]
 
 pub use advance::flatten;
+pub use boxes::fits_by_boxes;
 pub use fault::FlatFault;
 pub use flat::Flat;
 pub use shapes::flatten_shapes;
 pub use walk::placing_at;
 
 mod advance;
+mod bounds;
+mod boxes;
 mod draw;
 mod enter;
 mod fault;

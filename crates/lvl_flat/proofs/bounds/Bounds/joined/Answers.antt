@@ -1,0 +1,35 @@
+use Rattle.std.proofs.Common.{◌≡◌, ℤ, ◌≤ℤ◌, arith, rules}
+use Rattle.std.specs.Int.{w64}
+use Rattle.std.proofs.lemmas.Int.{ints}
+use mir.Val.{to_z, of_z}
+use Rattle.lvl_flat.proofs.bounds.Bounds.joined.Goals as goal
+
+-- as they are kept in 64 bits
+abbrev kept : ℤ → ℤ
+kept z = to_z w64 (of_z w64 z)
+
+at_most : (a b m p : ℤ) → kept m ≡ m → kept a ≡ a → m ≤ℤ kept a → a ≤ℤ p → kept m ≤ℤ p
+at_most a b m p h k l w = omega (arith, ints)
+
+at_least : (a b m p : ℤ) → kept m ≡ m → kept a ≡ a → kept a ≤ℤ m → p ≤ℤ a → p ≤ℤ kept m
+at_least a b m p h k l w = omega (arith, ints)
+
+pub returns-clause-first : goal.returns-clause-first
+returns-clause-first c = record {
+  holds = λ p w. record {
+    left = at_most c.args.self.low.x c.args.other.low.x c.min.result p.x (search rules) (search rules) c.min.ensures.self_bound w.left;
+    right = at_least c.args.self.high.x c.args.other.high.x c.max.result p.x (search rules) (search rules) c.max.ensures.self_bound w.right;
+    below = at_most c.args.self.low.y c.args.other.low.y c.min-2.result p.y (search rules) (search rules) c.min-2.ensures.self_bound w.below;
+    above = at_least c.args.self.high.y c.args.other.high.y c.max-2.result p.y (search rules) (search rules) c.max-2.ensures.self_bound w.above;
+  };
+}
+
+pub returns-clause-second : goal.returns-clause-second
+returns-clause-second c = record {
+  holds = λ p w. record {
+    left = at_most c.args.other.low.x c.args.self.low.x c.min.result p.x (search rules) (search rules) c.min.ensures.other_bound w.left;
+    right = at_least c.args.other.high.x c.args.self.high.x c.max.result p.x (search rules) (search rules) c.max.ensures.other_bound w.right;
+    below = at_most c.args.other.low.y c.args.self.low.y c.min-2.result p.y (search rules) (search rules) c.min-2.ensures.other_bound w.below;
+    above = at_least c.args.other.high.y c.args.self.high.y c.max-2.result p.y (search rules) (search rules) c.max-2.ensures.other_bound w.above;
+  };
+}
