@@ -1,5 +1,5 @@
 -- What a run may write: the text of an answer, whole or its beginning.
-use Rattle.std.specs.Prelude.{◌≡◌, ◌≢◌, ℕ, List, Option, Some, Result, Err, IfOk, IfErr}
+use Rattle.std.specs.Prelude.{◌≡◌, ℕ, List, Option, Some, Result, IfOk, IfErr}
 use Rattle.std.specs.Io.KnownBytes.{Appends}
 use Rattle.lvl_io.specs.Bytes.{CountsFailure}
 use Rattle.lvl_region.specs.declared.region.Side.TheVariants.{First, Second}
@@ -7,7 +7,6 @@ use Rattle.lvl.specs.declared.shown.Shown.{Shown}
 use Rattle.lvl_report.specs.declared.status.Status.{Status}
 use Rattle.lvl.specs.declared.verdict.Comparison.{Comparison}
 use Rattle.lvl.specs.declared.verdict.Refusal.{Refusal}
-use Rattle.lvl.specs.declared.verdict.Refusal.TheVariants.{OutOfMemory}
 use Rattle.lvl.specs.Sides.{file_named}
 use Rattle.lvl.specs.Answers.{IsCompared, IsEarlyOf, IsHopeless, IsRefusalOf, is_read_of}
 use Rattle.lvl.specs.Shown.{IsShownFile, IsOfFirst}
@@ -33,8 +32,8 @@ pub record IsComparedBy (a b : Input) (answer : Result Comparison Refusal) : Typ
   pub second_refused : (ys : List ℕ) → b.bytes ≡ Some ys → IfErr answer (IsRefusalOf Second (file_named ys b.top))
   pub first_early : (xs : List ℕ) → a.bytes ≡ Some xs → IfErr answer (λ r. IsEarlyOf First r → IsHopeless xs a.left)
   pub second_early : (ys : List ℕ) → b.bytes ≡ Some ys → IfErr answer (λ r. IsEarlyOf Second r → IsHopeless ys b.left)
-  pub first_reads : answer ≢ Err OutOfMemory → CountsFailure a.before a.after (is_read_of First answer)
-  pub second_reads : answer ≢ Err OutOfMemory → CountsFailure b.before b.after (is_read_of Second answer)
+  pub first_reads : CountsFailure a.before a.after (is_read_of First answer)
+  pub second_reads : CountsFailure b.before b.after (is_read_of Second answer)
 
 -- the answer is one that showing a file may give
 pub record IsShownBy (a : Input) (answer : Result Shown Refusal) : Type 0 where
@@ -42,7 +41,7 @@ pub record IsShownBy (a : Input) (answer : Result Shown Refusal) : Type 0 where
   pub refused : (xs : List ℕ) → a.bytes ≡ Some xs → IfErr answer (IsRefusalOf First (file_named xs a.top))
   pub early : (xs : List ℕ) → a.bytes ≡ Some xs → IfErr answer (λ r. IsEarlyOf First r → IsHopeless xs a.left)
   pub side : IfErr answer IsOfFirst
-  pub reads : answer ≢ Err OutOfMemory → CountsFailure a.before a.after (is_read_of First answer)
+  pub reads : CountsFailure a.before a.after (is_read_of First answer)
 
 -- the text of such an answer was written, and nothing else; the status is that of the answer
 pub record IsWritten {X : Type 0} (Allowed : X → Type 0) (text : X → List ℕ) (status : X → Status) (old new : Option (List ℕ)) (told : Status) : Type 0 where
