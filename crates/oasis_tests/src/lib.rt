@@ -1,11 +1,14 @@
-//! OASIS values byte by byte, the records of a small file, read one by one, and what records draw.
+//! OASIS values byte by byte, the records of a small file, read one by one, what records draw, and
+//! whole files.
 //!
-//! These tests of `oasis_values`, `oasis_records` and `oasis_figures` are a crate of their own since a
+//! These tests of `oasis_values`, `oasis_records`, `oasis_figures` and `oasis_library` are a crate of their own since a
 //! crate with tests is proved twice.
 #![tactic(auto)]
 
 #[cfg(test)]
 mod figures;
+#[cfg(test)]
+mod library;
 #[cfg(test)]
 mod records;
 #[cfg(test)]
