@@ -1,6 +1,7 @@
 //! Pairs of libraries that are compared cell by cell.
 use lvl_cells::{Builder, Checked, Layer, Name, Offsets, Reference, check};
-use lvl_compare::same_by_cells;
+use lvl_compare::{pays_by_cells, same_by_cells};
+use lvl_flat::fits_by_boxes;
 use lvl_grid::{Point, Ring, Turn};
 use std::alloc::Global;
 use std::test::Fail;
@@ -128,6 +129,29 @@ fn alike_by_cells(rt: HostRuntime) -> Result<(), Fail> {
     Ok(())
 }
 
+/// Where the top places a cell of two units, whether all fits, and whether a comparison cell by cell
+/// pays.
+#[test]
+fn boxes(rt: HostRuntime) -> Result<(), Fail> {
+    let far = i64::MAX - 2;
+    let rows = [
+        (Turn::R0, 0, 1, true, false),
+        (Turn::R0, 0, 4, true, true),
+        (Turn::R0, far, 1, true, false),
+        (Turn::R0, far + 1, 1, false, false),
+        (Turn::R180, i64::MIN + 2, 1, true, false),
+        (Turn::R180, i64::MIN + 1, 1, false, false),
+        (Turn::R90, i64::MIN + 1, 1, true, false),
+    ];
+    for (turn, x, count, fits, pays) in rows {
+        let alloc = rt.alloc();
+        let library = checked(alloc, &[("T", &[], &[("A", turn, x, count)]), PLAIN])?;
+        assert_eq!(rt; fits_by_boxes(alloc, &library)?, fits, "{x}");
+        assert_eq!(rt; pays_by_cells(alloc, &library)?, pays, "{count}");
+    }
+    Ok(())
+}
+
 #[test]
 fn growths_by_cells(rt: HostRuntime) -> Result<(), Fail> {
     let alloc = rt.alloc();
@@ -135,5 +159,7 @@ fn growths_by_cells(rt: HostRuntime) -> Result<(), Fail> {
     let halves: Row = ("A", &[(1, 2), (0, 1)], &[]);
     let second = checked(alloc, &[("T", &[], &[("A", Turn::R0, 0, 2)]), halves])?;
     assert!(rt; same_by_cells(alloc, &first, &second)?);
+    assert!(rt; fits_by_boxes(alloc, &first)?);
+    assert!(rt; !pays_by_cells(alloc, &first)?);
     Ok(())
 }

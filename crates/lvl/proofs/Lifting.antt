@@ -15,7 +15,7 @@ use Rattle.lvl_cells.specs.Checks.{Settled, IsSettled}
 use Rattle.lvl_cells.specs.declared.fault.CellFault.{CellFault}
 use Rattle.lvl_flat.specs.Sheet.{PlainSheet}
 use Rattle.lvl_flat.specs.Sheets.{rings_on}
-use Rattle.lvl_flat.specs.Flattened.{IsFlattened, IsFlatFault, IsOutOfRange}
+use Rattle.lvl_flat.specs.Flattened.{IsFlatFault, IsOutOfRange}
 use Rattle.lvl_flat.specs.declared.fault.FlatFault.{FlatFault}
 use Rattle.lvl_flat.specs.declared.fault.FlatFault.TheVariants.{OutOfRange}
 use Rattle.lvl_region.specs.Region.{IsAlone}
@@ -28,7 +28,7 @@ use Rattle.lvl.specs.declared.verdict.Verdict.TheVariants.{Same, Differ}
 use Rattle.lvl.specs.Layouts.{File, Spells, IsLayoutOf}
 use Rattle.lvl.specs.Accepted.{IsAccepted, IsUnaccepted, Draws, IsVerdict}
 use Rattle.lvl.specs.Sheets.{IsFlatVerdict}
-use Rattle.lvl.specs.Kept.{IsCheckedAs, IsFlattenedAs, IsCellFault, IsRangeFault}
+use Rattle.lvl.specs.Kept.{Kept, IsCheckedAs, IsFlattenedAs, IsInRangeAs, AreKeptAlike, IsCellFault, IsRangeFault}
 use Rattle.lvl.specs.Answers.{kept_of}
 use Rattle.lvl.proofs.Keeping.{sound_kept, cell_covers_kept, fits_kept, cell_back, cell_kept}
 
@@ -75,13 +75,43 @@ one_top cells None i j a b =
 pub one_cell : (cells : List (PlainCell Rings)) (i j : ℕ) (c d : PlainCell Rings) → slice_get cells i ≡ Some c → slice_get cells j ≡ Some d → i ≡ j → c ≡ d
 one_cell cells i j c d p q e = let f : Some c ≡ Some d = sym p ∙ (ap (slice_get cells) e ∙ q) in cc
 
-fits_settled : (file : File) (s : Settled) (sheets : List PlainSheet) → IsSettled file.top s → (flat : IsFlattened s sheets) → Fits each_ring s.cells flat.top
-fits_settled file s sheets settled flat =
-    let same : settled.cell ≡ flat.top = one_cell s.cells s.top s.top settled.cell flat.top settled.is flat.is_top refl in
+fits_settled : (file : File) (k : Kept) (s : Settled) → IsSettled file.top s → (r : IsInRangeAs k s) → Fits each_ring s.cells r.top
+fits_settled file k s settled r =
+    let same : settled.cell ≡ r.top = one_cell s.cells s.top s.top settled.cell r.top settled.is r.is_top refl in
     record {
       few_chains = subst (λ (c : PlainCell Rings). chains s.cells c ≤ most_placed) same settled.few_chains;
       few_rings = subst (λ (c : PlainCell Rings). placed_rings each_ring s.cells c ≤ most_placed) same settled.few_rings;
-      in_range = flat.in_range;
+      in_range = r.in_range;
+    }
+
+-- what is in range is accepted, and draws what its top covers
+record IsTopLifted (file : File) (others : List Drawing) (cells : List (PlainCell Rings)) (c : PlainCell Rings) : Type 0 where
+  top : Drawing
+  accepted : IsAccepted file others top
+  draws : (layer : Layer) (s : Square) → CellCovers RingsCover cells layer c s ↔ Draws others top layer s
+
+top_lifted : (file : File) (cells : List (PlainCell Rings)) (head : Head) (read : IsLayoutOf file.bytes cells head) (s : Settled) → (r : IsInRangeAs (record { cells = cells; top = file.top }) s) → IsTopLifted file read.cells s.cells r.top
+top_lifted file cells head read s r =
+    let others : List Drawing = read.cells in
+    let e : s.cells ≡ kept figure_rings others = r.checked.cells ∙ read.kept_as in
+    let b = cell_back figure_rings others s.top r.top (subst (λ (c : List (PlainCell Rings)). slice_get c s.top ≡ Some r.top) e r.is_top) in
+    let fits = subst (λ (c : PlainCell Rings). Fits each_ring (kept figure_rings others) c) (sym b.2)
+    (subst (λ (c : List (PlainCell Rings)). Fits each_ring c r.top) e (fits_settled file (record { cells = cells; top = file.top }) s r.checked.sound r)) in
+    record {
+      top = b.0;
+      accepted = record {
+        head = head;
+        spelled = read.spelled;
+        index = s.top;
+        sound = (sound_kept figure_rings others file.top s.top).1 (subst (λ (c : List (PlainCell Rings)). IsSound c file.top s.top) e r.checked.sound.sound);
+        top_is = b.1;
+        fits = (fits_kept figure_rings others b.0).1 fits;
+      };
+      draws = λ layer t.
+          let q = draws_kept others layer b.0 t in
+          let p = subst (λ (c : PlainCell Rings). Draws others b.0 layer t ↔ CellCovers RingsCover (kept figure_rings others) layer c t) b.2 q in
+          let u = subst (λ (c : List (PlainCell Rings)). Draws others b.0 layer t ↔ CellCovers RingsCover c layer r.top t) (sym e) p in
+          (u.1, u.0);
     }
 
 -- what was flattened is accepted, and draws what the rings cover
@@ -92,26 +122,14 @@ pub record IsLifted (file : File) (others : List Drawing) (sheets : List PlainSh
 
 pub lifted : (file : File) (cells : List (PlainCell Rings)) (head : Head) (read : IsLayoutOf file.bytes cells head) (sheets : List PlainSheet) → IsFlattenedAs (record { cells = cells; top = file.top }) sheets → IsLifted file read.cells sheets
 lifted file cells head read sheets f =
-    let others : List Drawing = read.cells in
-    let s : Settled = f.settled in
-    let e : s.cells ≡ kept figure_rings others = f.checked.cells ∙ read.kept_as in
-    let b = cell_back figure_rings others s.top f.flat.top (subst (λ (c : List (PlainCell Rings)). slice_get c s.top ≡ Some f.flat.top) e f.flat.is_top) in
-    let fits = subst (λ (c : PlainCell Rings). Fits each_ring (kept figure_rings others) c) (sym b.2) (subst (λ (c : List (PlainCell Rings)). Fits each_ring c f.flat.top) e (fits_settled file s sheets f.checked.sound f.flat)) in
+    let p = top_lifted file cells head read f.settled (record { checked = f.checked; top = f.flat.top; is_top = f.flat.is_top; in_range = f.flat.in_range }) in
     record {
-      top = b.0;
-      accepted = record {
-        head = head;
-        spelled = read.spelled;
-        index = s.top;
-        sound = (sound_kept figure_rings others file.top s.top).1 (subst (λ (c : List (PlainCell Rings)). IsSound c file.top s.top) e f.checked.sound.sound);
-        top_is = b.1;
-        fits = (fits_kept figure_rings others b.0).1 fits;
-      };
+      top = p.top;
+      accepted = p.accepted;
       draws = λ layer t.
-          let p = subst (λ (c : PlainCell Rings). RingsCover (rings_on layer sheets) t ↔ CellCovers RingsCover (kept figure_rings others) layer c t) (sym b.2)
-          (subst (λ (c : List (PlainCell Rings)). RingsCover (rings_on layer sheets) t ↔ CellCovers RingsCover c layer f.flat.top t) e (f.flat.covers layer t)) in
-          let q = draws_kept others layer b.0 t in
-          (λ h. q.1 (p.0 h), λ h. p.1 (q.0 h));
+          let q = f.flat.covers layer t in
+          let r = p.draws layer t in
+          (λ h. r.0 (q.0 h), λ h. q.1 (r.1 h));
     }
 
 pub range_told : (file : File) (cells : List (PlainCell Rings)) (head : Head) → IsLayoutOf file.bytes cells head → (fault : FlatFault) → IsRangeFault (record { cells = cells; top = file.top }) fault
@@ -139,8 +157,8 @@ range_unaccepted file cells head read fault told others top accepted =
 
 -- the verdict
 
-alike_lifted : (A A' B B' : Type 0) → A ↔ A' → B ↔ B' → A ↔ B → A' ↔ B'
-alike_lifted A A' B B' p q h = (λ a. q.0 (h.0 (p.1 a)), λ b. p.0 (h.1 (q.1 b)))
+both_lifted : (A A' B B' : Type 0) → A ↔ A' → B ↔ B' → A ↔ B → A' ↔ B'
+both_lifted A A' B B' p q h = (λ a. q.0 (h.0 (p.1 a)), λ b. p.0 (h.1 (q.1 b)))
 
 alone_lifted : (P P' Q Q' : Square → Type 0) (s : Square) (side : Side) → P s ↔ P' s → Q s ↔ Q' s → IsAlone P Q s side → IsAlone P' Q' s side
 alone_lifted P P' Q Q' s First p q h = (p.0 h.0, λ x. h.1 (q.1 x))
@@ -149,11 +167,27 @@ alone_lifted P P' Q Q' s Second p q h = (q.0 h.0, λ x. h.1 (p.1 x))
 pub verdict_lifted : (a b : File) (ours theirs : List Drawing) (us vs : List PlainSheet) → IsLifted a ours us → IsLifted b theirs vs → (v : Verdict) → IsFlatVerdict us vs v → IsVerdict a b v
 verdict_lifted a b ours theirs us vs p q Same h = record {
   both = record { ours = ours; our_top = p.top; theirs = theirs; their_top = q.top; first = p.accepted; second = q.accepted };
-  alike = λ layer s. alike_lifted _ _ _ _ (p.draws layer s) (q.draws layer s) (h layer s);
+  alike = λ layer s. both_lifted _ _ _ _ (p.draws layer s) (q.draws layer s) (h layer s);
 }
 verdict_lifted a b ours theirs us vs p q (Differ layer square side) h = record {
   both = record { ours = ours; our_top = p.top; theirs = theirs; their_top = q.top; first = p.accepted; second = q.accepted };
   alone = alone_lifted (RingsCover (rings_on layer us)) (Draws ours p.top layer) (RingsCover (rings_on layer vs)) (Draws theirs q.top layer) square side (p.draws layer square) (q.draws layer square) h.alone;
-  least_layer = λ l before s. alike_lifted _ _ _ _ (p.draws l s) (q.draws l s) (h.least_layer l before s);
-  least_square = λ s before. alike_lifted _ _ _ _ (p.draws layer s) (q.draws layer s) (h.least_square s before);
+  least_layer = λ l before s. both_lifted _ _ _ _ (p.draws l s) (q.draws l s) (h.least_layer l before s);
+  least_square = λ s before. both_lifted _ _ _ _ (p.draws layer s) (q.draws layer s) (h.least_square s before);
 }
+
+-- tops that are told alike draw the same
+pub alike_lifted : (a b : File) (ours theirs : List (PlainCell Rings)) (g h : Head) → IsLayoutOf a.bytes ours g → IsLayoutOf b.bytes theirs h
+    → AreKeptAlike (record { cells = ours; top = a.top }) (record { cells = theirs; top = b.top }) → IsVerdict a b Same
+alike_lifted a b ours theirs g h p q k =
+    let x = top_lifted a ours g p k.ours k.first in
+    let y = top_lifted b theirs h q k.theirs k.second in
+    let our_top : k.alike.our_cell ≡ k.first.top = one_cell k.ours.cells k.ours.top k.ours.top k.alike.our_cell k.first.top k.alike.ours_is k.first.is_top refl in
+    let their_top : k.alike.their_cell ≡ k.second.top = one_cell k.theirs.cells k.theirs.top k.theirs.top k.alike.their_cell k.second.top k.alike.theirs_is k.second.is_top refl in
+    record {
+      both = record { ours = p.cells; our_top = x.top; theirs = q.cells; their_top = y.top; first = x.accepted; second = y.accepted };
+      alike = λ layer s.
+          let u = subst (λ (c : PlainCell Rings). CellCovers RingsCover k.ours.cells layer c s ↔ CellCovers RingsCover k.theirs.cells layer k.alike.their_cell s) our_top (k.alike.alike layer s) in
+          let v = subst (λ (d : PlainCell Rings). CellCovers RingsCover k.ours.cells layer k.first.top s ↔ CellCovers RingsCover k.theirs.cells layer d s) their_top u in
+          both_lifted _ _ _ _ (x.draws layer s) (y.draws layer s) v;
+    }

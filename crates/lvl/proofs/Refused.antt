@@ -1,5 +1,5 @@
 -- What a refusal says of the two files, step by step.
-use Rattle.std.proofs.Common.{◌≡◌, List, sym, ◌∙◌, subst}
+use Rattle.std.proofs.Common.{◌≡◌, List, inl, inr, sym, ◌∙◌, subst}
 use Rattle.lvl_cells.specs.Cells.{PlainCell, Rings}
 use Rattle.lvl_region.specs.declared.region.Side.{Side}
 use Rattle.lvl_region.specs.declared.region.Side.TheVariants.{First, Second}
@@ -9,12 +9,12 @@ use Rattle.lvl.specs.declared.verdict.Verdict.{Verdict}
 use Rattle.lvl.specs.declared.verdict.Refusal.{Refusal}
 use Rattle.lvl.specs.declared.verdict.Refusal.TheVariants.{File as FileRefusal, Cells as CellsRefusal, Flat as FlatRefusal, OutOfMemory}
 use Rattle.lvl.specs.Layouts.{File, SpellsSome, IsLayoutOf}
-use Rattle.lvl.specs.Accepted.{IsAccepted}
+use Rattle.lvl.specs.Accepted.{IsAccepted, IsVerdict}
 use Rattle.lvl.specs.Kept.{Kept, Passes, IsFlat, IsKeptRefusal, IsKeptVerdict}
 use Rattle.lvl.specs.Answers.{HasPassed, IsCompared, IsEarlyOf, IsRefusalOf, PassesCheck}
 use Rattle.lvl.specs.declared.layout.FileFault.{FileFault}
 use Rattle.lvl.specs.Sides.{IsOfFile, IsReadRefusal}
-use Rattle.lvl.proofs.Lifting.{cell_told, cell_unaccepted, range_told, range_unaccepted, lifted, verdict_lifted}
+use Rattle.lvl.proofs.Lifting.{cell_told, cell_unaccepted, range_told, range_unaccepted, lifted, verdict_lifted, alike_lifted}
 
 first_second : First ≡ Second → ⊥
 first_second e = cc
@@ -152,6 +152,9 @@ pub compared : (a b : File) (ours theirs : List (PlainCell Rings)) (g h : Head) 
 compared a b ours theirs g h p q v k = record {
   first = (p.cells, p.spelled);
   second = (q.cells, q.spelled);
-  verdict = verdict_lifted a b p.cells q.cells k.ours k.theirs (lifted a ours g p k.ours k.first)
-      (lifted b theirs h q k.theirs k.second) v k.verdict;
+  verdict = elim k [
+    | inl f ↦ verdict_lifted a b p.cells q.cells f.ours f.theirs (lifted a ours g p f.ours f.first)
+        (lifted b theirs h q f.theirs f.second) v f.verdict
+    | inr s ↦ subst (IsVerdict a b) (sym s.0) (alike_lifted a b ours theirs g h p q s.1)
+  ];
 }

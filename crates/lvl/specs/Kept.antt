@@ -1,15 +1,17 @@
 -- The steps behind the reading, on libraries with rings alone.
-use Rattle.std.specs.Prelude.{◌≡◌, ⊤, ℕ, List, Option}
+use Rattle.std.specs.Prelude.{◌≡◌, ◌⊎◌, ⊤, ℕ, List, Option, Some, IfSome, slice_get}
 use Rattle.lvl_cells.specs.Cells.{PlainCell, Rings}
 use Rattle.lvl_cells.specs.Checks.{Settled, IsSettled, PlacesFew}
 use Rattle.lvl_cells.specs.Faults.{IsFaultOf, IsSoundWith}
 use Rattle.lvl_cells.specs.declared.fault.CellFault.{CellFault}
-use Rattle.lvl_flat.specs.Flattened.{IsFlattened, IsFlatFault}
+use Rattle.lvl_flat.specs.Flattened.{AllInRange, IsFlattened, IsFlatFault}
+use Rattle.lvl_compare.specs.Alike.{AreAlike}
 use Rattle.lvl_flat.specs.Sheet.{PlainSheet}
 use Rattle.lvl_flat.specs.declared.fault.FlatFault.{FlatFault}
 use Rattle.lvl_region.specs.declared.region.Side.TheVariants.{First, Second}
 use Rattle.lvl.specs.Sheets.{IsFlatVerdict}
 use Rattle.lvl.specs.declared.verdict.Verdict.{Verdict}
+use Rattle.lvl.specs.declared.verdict.Verdict.TheVariants.{Same}
 use Rattle.lvl.specs.declared.verdict.Refusal.{Refusal}
 use Rattle.lvl.specs.declared.verdict.Refusal.TheVariants.{File as FileRefusal, Cells as CellsRefusal, Flat as FlatRefusal, OutOfMemory}
 
@@ -46,13 +48,32 @@ pub record IsRangeFault (k : Kept) (fault : FlatFault) : Type 0 where
   pub checked : IsCheckedAs k settled
   pub told : IsFlatFault settled fault
 
+-- it was checked, and all that its top places is in range
+pub record IsInRangeAs (k : Kept) (s : Settled) : Type 0 where
+  pub checked : IsCheckedAs k s
+  pub top : PlainCell Rings
+  pub is_top : slice_get s.cells s.top ≡ Some top
+  pub in_range : AllInRange s.cells top
+
+-- both are in range, and their tops cover the same squares
+pub record AreKeptAlike (a b : Kept) : Type 0 where
+  pub ours : Settled
+  pub theirs : Settled
+  pub first : IsInRangeAs a ours
+  pub second : IsInRangeAs b theirs
+  pub alike : AreAlike ours.cells ours.top theirs.cells theirs.top
+
 -- both were flattened, and the verdict is that on what they gave
-pub record IsKeptVerdict (a b : Kept) (v : Verdict) : Type 0 where
+pub record IsVerdictOnFlats (a b : Kept) (v : Verdict) : Type 0 where
   pub ours : List PlainSheet
   pub theirs : List PlainSheet
   pub first : IsFlattenedAs a ours
   pub second : IsFlattenedAs b theirs
   pub verdict : IsFlatVerdict ours theirs v
+
+-- the verdict is that on what both gave, or it is that they are the same, which was told cell by cell
+abbrev pub IsKeptVerdict : Kept → Kept → Verdict → Type 0
+IsKeptVerdict a b v = IsVerdictOnFlats a b v ⊎ ((v ≡ Same) × AreKeptAlike a b)
 
 -- the step that refused, and that those before it passed
 abbrev pub IsKeptRefusal : Kept → Kept → Refusal → Type 0
@@ -62,3 +83,9 @@ IsKeptRefusal a b (CellsRefusal Second fault) = Passes a × IsCellFault b fault
 IsKeptRefusal a b (FlatRefusal First fault) = IsRangeFault a fault × Passes b
 IsKeptRefusal a b (FlatRefusal Second fault) = IsFlat a × IsRangeFault b fault
 IsKeptRefusal a b OutOfMemory = ⊤
+
+-- all that both tops place is in range, and both cover the same squares
+pub record AreToldAlike (ours theirs : Settled) : Type 0 where
+  pub first : IfSome (slice_get ours.cells ours.top) (AllInRange ours.cells)
+  pub second : IfSome (slice_get theirs.cells theirs.top) (AllInRange theirs.cells)
+  pub alike : AreAlike ours.cells ours.top theirs.cells theirs.top

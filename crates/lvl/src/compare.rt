@@ -12,6 +12,7 @@ ghost use Rattle.lvl.specs.Answers.{Blames, HasPassed, IsCompared, IsEarlyOf, Is
 ghost use Rattle.lvl.specs.Sides.{file, library_of};
 ghost use Rattle.lvl.specs.declared.verdict.Refusal.TheVariants.{OutOfMemory};
 
+use crate::alike::are_alike;
 use crate::layers::compare_flats;
 use crate::side::{check_side, flatten_side, read_side};
 use crate::verdict::{Comparison, Refusal, Tops, Verdict};
@@ -20,7 +21,8 @@ use lvl_io::Read;
 use lvl_region::Side;
 use std::alloc::Global;
 
-/// The libraries of both files checked, flattened and compared.
+/// The libraries of both files checked, flattened and compared; they are not flattened where they are
+/// told cell by cell to draw the same.
 fn compare_libraries(
     alloc: Global,
     ours: Library,
@@ -32,6 +34,11 @@ fn compare_libraries(
 {
     let ours = check_side(alloc, Side::First, ours, &tops.first)?;
     let theirs = check_side(alloc, Side::Second, theirs, &tops.second)?;
+    match are_alike(alloc, &ours, &theirs) {
+        Ok(true) => return Ok(Verdict::Same),
+        Ok(false) => {}
+        Err(_) => return Err(Refusal::OutOfMemory),
+    }
     let ours = flatten_side(alloc, Side::First, ours)?;
     let theirs = flatten_side(alloc, Side::Second, theirs)?;
     match compare_flats(alloc, &ours, &theirs) {

@@ -12,6 +12,7 @@ pub use show::show_file;
 pub use shown::{Shown, ShownLayer};
 pub use verdict::{Comparison, Refusal, Tops, Verdict};
 
+mod alike;
 mod compare;
 mod layers;
 mod layout;

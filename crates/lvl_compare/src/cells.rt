@@ -99,7 +99,8 @@ fn is_alike(
 /// tops are compared, and any other cell with the cell of its name: own shapes with own shapes, and
 /// references place by place. `false` says nothing of what they cover.
 pub fn same_by_cells(alloc: Global, first: &Checked, second: &Checked) -> Result<bool, AllocError>
-    ensures { IfOk result (λ same. IsTrue same → AreAlike first.now.cells first.now.top second.now.cells second.now.top) }
+    ensures { IfOk result (λ same. IsTrue same
+        → AreAlike first.now.cells first.now.top second.now.cells second.now.top) }
 {
     let Some(index) = index_by_name(alloc, second)? else {
         return Ok(false);

@@ -6,6 +6,7 @@
 
 pub use cells::same_by_cells;
 pub use flats::first_difference;
+pub use partners::pays_by_cells;
 pub use regions::difference_by;
 
 mod cells;

@@ -5,7 +5,7 @@ ghost use Rattle.lvl_cells.specs.Cells.{names};
 ghost use Rattle.lvl_cells.specs.Resolving.{IsIndexOf};
 ghost use Rattle.lvl_compare.specs.inside.Partners.{IsPartner};
 
-use lvl_cells::{Checked, index_of};
+use lvl_cells::{Cell, Checked, index_of};
 use lvl_refusal::Refusal;
 use std::alloc::{AllocError, Global};
 use std::collections::BTreeMap;
@@ -78,4 +78,31 @@ fn add_places(checked: &Checked, cell: usize, times: &mut [u64])
             }
         }
     }
+}
+
+/// How many rings a cell draws, each at each of its shifts, up to the greatest number.
+fn rings_of(cell: &Cell) -> u64 {
+    let shapes = &cell.shapes;
+    let mut sum = 0u64;
+    for i in 0..shapes.len() {
+        let drawn = (shapes.ring_count(i) as u64).saturating_mul(shapes.shift_count(i));
+        sum = sum.saturating_add(drawn);
+    }
+    sum
+}
+
+/// Whether a comparison cell by cell is likely to cost less than one of flat layouts: where the cells
+/// that are reached have far fewer rings of their own than are placed. The answer is one of cost alone.
+pub fn pays_by_cells(alloc: Global, checked: &Checked) -> Result<bool, AllocError> {
+    let times = times_placed(alloc, checked)?;
+    let mut own = 0u64;
+    let mut placed = 0u64;
+    for (cell, count) in checked.cells().iter().zip(&times) {
+        if *count > 0 {
+            let rings = rings_of(cell);
+            own = own.saturating_add(rings);
+            placed = placed.saturating_add(rings.saturating_mul(*count));
+        }
+    }
+    Ok(placed / 4 >= own)
 }

@@ -61,7 +61,8 @@ pub(crate) fn placements_of(
     requires { cell < length checked.now.cells }
     ensures { IfOk result (λ found. IfSome found (λ placements. (theirs : List (PlainCell Rings))
         → AreKnown checked.now.cells theirs known.now
-        → IfSome (slice_get checked.now.cells cell) (λ c. CoverAs checked.now.cells theirs c.references placements.items))) }
+        → IfSome (slice_get checked.now.cells cell)
+        (λ c. CoverAs checked.now.cells theirs c.references placements.items))) }
 {
     let mut placements = Vec::new(alloc);
     let place = &checked.cells()[cell];

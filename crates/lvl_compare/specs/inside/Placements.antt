@@ -16,7 +16,8 @@ placed k r = map (λ e. record { cell = k; map = placing r e }) r.shifts
 -- the placed cell covers the square whose image the square is
 abbrev pub PlacementCovers : List (PlainCell Rings) → Layer → Square → Placement → Type 0
 PlacementCovers cells layer s p =
-    IsSomeAnd (slice_get cells p.cell) (λ d. (t : Square) × (image_square p.map t ≡ s) × CellCovers RingsCover cells layer d t)
+    IsSomeAnd (slice_get cells p.cell)
+    (λ d. (t : Square) × (image_square p.map t ≡ s) × CellCovers RingsCover cells layer d t)
 
 -- each of our cells of which an index is known is alike to their cell at that index
 abbrev pub AreKnown : List (PlainCell Rings) → List (PlainCell Rings) → List (Option ℕ) → Type 0
@@ -25,7 +26,8 @@ AreKnown ours theirs known = (i j : ℕ) → slice_get known i ≡ Some (Some j)
 -- placements of their cells cover what our references do
 abbrev pub CoverAs : List (PlainCell Rings) → List (PlainCell Rings) → List PlainReference → List Placement → Type 0
 CoverAs ours theirs references placements =
-    (layer : Layer) (s : Square) → Any (PlacementCovers theirs layer s) placements ↔ Any (PickCovers ours layer s) (picks references)
+    (layer : Layer) (s : Square)
+    → Any (PlacementCovers theirs layer s) placements ↔ Any (PickCovers ours layer s) (picks references)
 
 -- both lists have the same placements
 abbrev pub HaveSame : List Placement → List Placement → Type 0

@@ -9,7 +9,8 @@ use Rattle.lvl_flat.specs.Visits.{picks, PickCovers}
 -- on every Layer the shapes cover the same squares
 abbrev pub ShapesAlike : List (PlainShape Rings) → List (PlainShape Rings) → Type 0
 ShapesAlike ours theirs =
-    (layer : Layer) (s : Square) → Any (ShapeCovers RingsCover layer s) ours ↔ Any (ShapeCovers RingsCover layer s) theirs
+    (layer : Layer) (s : Square)
+    → Any (ShapeCovers RingsCover layer s) ours ↔ Any (ShapeCovers RingsCover layer s) theirs
 
 -- on every Layer the references of both cells cover the same squares
 abbrev pub ReferAlike : List (PlainCell Rings) → ℕ → List (PlainCell Rings) → ℕ → Type 0
