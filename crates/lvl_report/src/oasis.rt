@@ -6,8 +6,9 @@ ghost use Rattle.lvl_report.specs.Oasis.{figure_rule, name_rule, oasis_kind, oas
 
 use crate::faults::path_fault;
 use crate::gds::push_hex;
-use oasis_library::{FigureRule, NameRule, OasisFault, OasisHead, OasisKind, Real, RecordRule};
-use oasis_library::{ValueFault, Variable};
+use oasis_library::{
+    FigureRule, NameRule, OasisFault, OasisHead, OasisKind, Real, RecordRule, ValueFault, Variable,
+};
 use std::io;
 use std::io::Write;
 
