@@ -179,6 +179,7 @@ fn repeats_shapes(rt: HostRuntime) -> Result<(), Fail> {
     let spaces = b"\x14\x7F\x01\x00\x0A\x0A\x00\x00\x04\x01\x0C\x14";
     let (library, _) = read(rt.alloc(), &file(rt.alloc(), &[TOP, spaces])?, 1)?;
     let shapes = &library.cells.first().ok_or("a cell")?.shapes;
+    assert_eq!(rt; shapes.len(), 1);
     assert_eq!(rt; shapes.shift_count(0), 3);
     for (k, x) in [(0, 0), (1, 12), (2, 32)] {
         assert_eq!(rt; shapes.shift(0, k), Some(Point { x, y: 0 }));

@@ -153,7 +153,7 @@ fn names_faults_of_files(rt: HostRuntime) -> Result<(), Fail> {
     ];
     for (k, byte, offset, rule) in rows {
         let mut bytes = square(rt.alloc())?;
-        bytes[k] = byte;
+        *bytes.get_mut(k).ok_or("a byte")? = byte;
         assert_eq!(rt;
             read(rt.alloc(), &bytes, 9).err(),
             at(offset, OasisKind::Record(rule))
