@@ -51,7 +51,7 @@ fn end_length(rt: HostRuntime) -> Result<(), Fail> {
     let (text, _) = written(rt.alloc(), &oasis, &oasis, &no_tops(), 1000)?;
     assert!(rt; ends_with_line(&text, "refused: first: oasis 37 AfterEnd at 303"));
     oasis.truncate(302);
-    oasis[48] = 0xFB;
+    *oasis.get_mut(48).ok_or("a byte")? = 0xFB;
     let (text, _) = written(rt.alloc(), &oasis, &oasis, &no_tops(), 1000)?;
     assert!(rt; ends_with_line(&text, "refused: first: oasis 35 EndLength at 47"));
     Ok(())
@@ -77,11 +77,11 @@ fn show_and_heads(rt: HostRuntime) -> Result<(), Fail> {
     for (unit, line) in units {
         let mut file = Vec::from_slice(rt.alloc(), &START[..18])?;
         file.extend_from_slice(unit)?;
-        file.extend_from_slice(&oasis[21..])?;
+        file.extend_from_slice(oasis.get(21..).ok_or("a tail")?)?;
         let (text, _) = shown(rt.alloc(), &file, None, 1000)?;
         assert!(rt; text.starts_with(line.as_bytes()), "{line}");
     }
-    let mut file = Vec::from_slice(rt.alloc(), &oasis[..47])?;
+    let mut file = Vec::from_slice(rt.alloc(), oasis.get(..47).ok_or("a front")?)?;
     file.extend_from_slice(&[0x02, 0xF8, 0x01])?;
     for _ in 0..248 {
         file.push(0)?;
