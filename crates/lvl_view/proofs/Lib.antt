@@ -1,0 +1,4 @@
+pub mod Cutting
+pub mod Numbers
+pub mod Zips
+pub mod Sources

@@ -1,0 +1,35 @@
+-- What the steps of reading a view give.
+use Rattle.std.specs.Prelude.{◌≡◌, ◌↔◌, ℕ, List, Option}
+use Rattle.std.specs.BTreeMap.{BTreeMap}
+use Rattle.std.specs.BTreeMap as tree
+use Rattle.lvl_cells.specs.declared.layer.Layer.{Layer}
+use Rattle.lvl_cells.specs.contracts.layer.LayerOrd.TheImpl as layer_ord
+use Rattle.lvl_grid.specs.declared.point.Window.{Window}
+use Rattle.lvl_view.specs.Texts.{IsMapText}
+use Rattle.lvl_view.specs.Views.{IsMapOf, IsWindowOf, IsFirstTwice, sources, target_in}
+use Rattle.lvl_view.specs.declared.map.LayerPair.{LayerPair}
+use Rattle.lvl_view.specs.declared.fault.ViewFault.{ViewFault}
+use Rattle.lvl_view.specs.declared.fault.ViewFault.TheVariants.{MapText, WindowText, MapTwice, EmptyWindow}
+
+-- the value has the property, and no other does
+abbrev pub IsAlone : {A : Type 0} → (A → Type 0) → A → Type 0
+IsAlone {A} P a = (b : A) → P b ↔ (b ≡ a)
+
+-- what the map has at a Layer is the target of the pair whose source it is
+abbrev pub AreTargets : List LayerPair → BTreeMap Layer Layer → Type 0
+AreTargets pairs targets = (layer : Layer) → tree.get (layer_ord.ghosts).cmp targets layer ≡ target_in pairs layer
+
+-- no list of pairs is what the text says
+abbrev pub IsMapFault : Option (List ℕ) → ViewFault → Type 0
+IsMapFault text MapText = (pairs : List LayerPair) → ¬ IsMapOf text pairs
+IsMapFault text _ = ⊥
+
+-- no window is what the text says
+abbrev pub IsWindowFault : Option (List ℕ) → ViewFault → Type 0
+IsWindowFault text WindowText = (window : Option Window) → ¬ IsWindowOf text window
+IsWindowFault text _ = ⊥
+
+-- the fault names the first source that an earlier pair has
+abbrev pub IsTwiceFault : List LayerPair → ViewFault → Type 0
+IsTwiceFault pairs (MapTwice layer) = IsFirstTwice (sources pairs) layer
+IsTwiceFault pairs _ = ⊥

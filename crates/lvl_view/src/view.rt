@@ -1,0 +1,118 @@
+//! A map of layers and a window.
+ghost use Rattle.std.specs.Prelude.{◌≡◌, ◌↔◌, IsTrue, IfOk, IfErr, Some, SomeIff, option_map, MatchOption, None};
+ghost use Rattle.std.specs.List.{IsDistinct};
+ghost use Rattle.lvl_cells.specs.Layers.{same_layer};
+ghost use Rattle.lvl_view.specs.Views.{IsEmptyWindow, IsFaultOf, IsReadingOf, IsViewOf, PlainView, sources, target_of, text_of};
+ghost use Rattle.lvl_view.specs.inside.Reading.{AreTargets, IsTwiceFault};
+ghost use Rattle.lvl_refusal.specs.Refused.{Says};
+
+use crate::fault::ViewFault;
+use crate::map::{LayerPair, pairs_of};
+use crate::window::window_of;
+use lvl_cells::Layer;
+use lvl_grid::Window;
+use lvl_refusal::Refusal;
+use std::alloc::Global;
+use std::collections::BTreeMap;
+use std::marker::Model;
+
+/// A map of layers and a window or none. All pairs of the map apply at once: what is on a source
+/// counts as being on its target alone, and a Layer that is no source is its own target.
+#[derive(Debug, Drop)]
+pub struct View {
+    pairs: Vec<LayerPair>,
+    /// The target of each source.
+    targets: BTreeMap<Layer, Layer>,
+    window: Option<Window>,
+}
+
+impl Model for View {
+    ghost use Rattle.lvl_view.specs.Views.{PlainView};
+    ghost use Rattle.lvl_view.specs.inside.Reading.{AreTargets};
+
+    ghost Value = { PlainView };
+
+    ghost view = { λ v. record { pairs = v.pairs.items; window = v.window } };
+
+    ghost invariant = { λ v. AreTargets v.pairs.items v.targets };
+}
+
+/// The target of each source, or the first source that is also the source of an earlier pair.
+fn targets_of(
+    alloc: Global,
+    pairs: &[LayerPair],
+) -> Result<BTreeMap<Layer, Layer>, Refusal<ViewFault>>
+    ensures targets { IfOk result (AreTargets pairs.now) }
+    ensures distinct { IfOk result (λ targets. IsDistinct same_layer (sources pairs.now)) }
+    ensures err { IfErr result (λ refusal. Says refusal (IsTwiceFault pairs.now)) }
+{
+    let mut targets = BTreeMap::new(alloc);
+    for pair in pairs {
+        let earlier = targets.insert(pair.source, pair.target)?;
+        if earlier.is_some() {
+            return Err(Refusal::Breach(ViewFault::MapTwice(pair.source)));
+        }
+    }
+    Ok(targets)
+}
+
+/// Whether there is a window, and it has no square.
+fn is_empty(window: Option<Window>) -> bool
+    ensures { IsTrue result ↔ IsEmptyWindow window }
+{
+    match window {
+        Some(window) => window.x0 >= window.x1 || window.y0 >= window.y1,
+        None => false,
+    }
+}
+
+impl View {
+    /// The view that two texts say; of a text that is not given there is no map, or no window.
+    ///
+    /// A map is one or more pairs `L/D=L/D` joined by commas, each number 1 to 10 decimal digits
+    /// and below 2^32. A window is `x=A..B,y=C..D`, each number an optional minus and 1 to 19
+    /// decimal digits, within 64 signed bits (own rules). Sources are compared as numbers.
+    pub fn read(
+        alloc: Global,
+        map: Option<&str>,
+        window: Option<&str>,
+    ) -> Result<View, Refusal<ViewFault>>
+        ensures view { IfOk result (IsViewOf (text_of map.entry) (text_of window.entry)) }
+        ensures only { IfOk result (λ view. (other : PlainView)
+            → IsReadingOf (text_of map.entry) (text_of window.entry) other → other ≡ view) }
+        ensures err { IfErr result (λ refusal. Says refusal
+            (IsFaultOf (text_of map.entry) (text_of window.entry))) }
+    {
+        let pairs = pairs_of(alloc, map)?;
+        let window = match window_of(window) {
+            Ok(window) => window,
+            Err(fault) => return Err(Refusal::Breach(fault)),
+        };
+        let targets = targets_of(alloc, &pairs)?;
+        if is_empty(window) {
+            return Err(Refusal::Breach(ViewFault::EmptyWindow));
+        }
+        Ok(View {
+            pairs,
+            targets,
+            window,
+        })
+    }
+
+    /// The window, if there is one.
+    pub fn window(&self) -> Option<&Window>
+        ensures { option_map (λ w. w.now) result ≡ self.now.window }
+    {
+        self.window.as_ref()
+    }
+
+    /// The Layer that this Layer counts as: the target of the pair whose source it is, or itself.
+    pub fn target(&self, layer: Layer) -> Layer
+        ensures { result ≡ target_of self.now.pairs layer }
+    {
+        match self.targets.get(&layer) {
+            Some(target) => *target,
+            None => layer,
+        }
+    }
+}
