@@ -35,7 +35,7 @@ abbrev pub behind : Layer → List PlainSheet → List PlainSheet
 behind layer [] = []
 behind layer (sheet ∷ sheets) = if same_layer sheet.layer layer then sheets else sheet ∷ sheets
 
--- the one of two Layers that does not come behind the other, or the one that is there
+-- the one of two Layers that does not come after the other, or the one that is there
 abbrev pub IsLesser : Option Layer → Option Layer → Option Layer → Type 0
 IsLesser None other result = result ≡ other
 IsLesser (Some a) None result = result ≡ Some a

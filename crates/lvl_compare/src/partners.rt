@@ -91,18 +91,33 @@ fn rings_of(cell: &Cell) -> u64 {
     sum
 }
 
+/// How many shifts a cell's shapes and references have, up to the greatest number.
+fn shifts_of(cell: &Cell) -> u64 {
+    let mut sum = 0u64;
+    for i in 0..cell.shapes.len() {
+        sum = sum.saturating_add(cell.shapes.shift_count(i));
+    }
+    for reference in &cell.references {
+        sum = sum.saturating_add(reference.shifts().len());
+    }
+    sum
+}
+
 /// Whether a comparison cell by cell is likely to cost less than one of flat layouts: where the cells
-/// that are reached have far fewer rings of their own than are placed. The answer is one of cost alone.
+/// that are reached have far fewer rings of their own than are placed, and all cells together not many
+/// more shifts, since boxes look at each of them. The answer is one of cost alone.
 pub fn pays_by_cells(alloc: Global, checked: &Checked) -> Result<bool, AllocError> {
     let times = times_placed(alloc, checked)?;
     let mut own = 0u64;
     let mut placed = 0u64;
+    let mut shifts = 0u64;
     for (cell, count) in checked.cells().iter().zip(&times) {
+        shifts = shifts.saturating_add(shifts_of(cell));
         if *count > 0 {
             let rings = rings_of(cell);
             own = own.saturating_add(rings);
             placed = placed.saturating_add(rings.saturating_mul(*count));
         }
     }
-    Ok(placed / 4 >= own)
+    Ok(placed / 4 >= own && shifts / 2 <= placed)
 }
