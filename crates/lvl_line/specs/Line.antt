@@ -15,20 +15,21 @@ use Rattle.lvl_line.specs.declared.job.LineFault.TheVariants as fault
 abbrev pub file_rule : Text → Rule
 file_rule id = record (new_rule id) { required = true }
 
--- an option that names a top cell
-abbrev pub top_rule : Text → Rule
-top_rule id = record (new_rule id) { long = Some id; value_names = 1 }
+-- an option with one value
+abbrev pub option_rule : Text → Rule
+option_rule id = record (new_rule id) { long = Some id; value_names = 1 }
 
--- `compare A B [--top-a NAME] [--top-b NAME]`
+-- `compare A B [--top-a NAME] [--top-b NAME] [--map PAIRS] [--window RANGES]`
 abbrev pub compare_app : App
-compare_app = with_rule (with_rule (with_rule (with_rule (new_app (codes "compare"))
+compare_app = with_rule (with_rule (with_rule (with_rule (with_rule (with_rule (new_app (codes "compare"))
     (file_rule (codes "A"))) (file_rule (codes "B")))
-    (top_rule (codes "top-a"))) (top_rule (codes "top-b"))
+    (option_rule (codes "top-a"))) (option_rule (codes "top-b")))
+    (option_rule (codes "map"))) (option_rule (codes "window"))
 
 -- `show A [--top NAME]`
 abbrev pub show_app : App
 show_app = with_rule (with_rule (new_app (codes "show"))
-    (file_rule (codes "A"))) (top_rule (codes "top"))
+    (file_rule (codes "A"))) (option_rule (codes "top"))
 
 abbrev pub plain_line : App
 plain_line = new_app (codes "lvl")
@@ -41,12 +42,14 @@ line = with_subcommand (with_subcommand (record plain_line {
 
 -- the job has the values that clap finds in the words, under the subcommand of that name
 abbrev pub IsNamed : Job → Option (Text × List Row) → Type 0
-IsNamed (job.Compare first second top_a top_b) (Some (name, rows)) =
+IsNamed (job.Compare first second top_a top_b layers window) (Some (name, rows)) =
     (name ≡ codes "compare")
     × (first_of (codes "A") rows ≡ Some (string_bytes first))
     × (first_of (codes "B") rows ≡ Some (string_bytes second))
     × (first_of (codes "top-a") rows ≡ option_map string_bytes top_a)
     × (first_of (codes "top-b") rows ≡ option_map string_bytes top_b)
+    × (first_of (codes "map") rows ≡ option_map string_bytes layers)
+    × (first_of (codes "window") rows ≡ option_map string_bytes window)
 IsNamed (job.Show file top) (Some (name, rows)) =
     (name ≡ codes "show")
     × (first_of (codes "A") rows ≡ Some (string_bytes file))

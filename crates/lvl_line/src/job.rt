@@ -1,15 +1,18 @@
 //! What a line asks for, and why a line asks for nothing.
 use clap::Error;
 
-/// What a line asks for. Files and names of tops are as they are in the line.
+/// What a line asks for. Files, names of tops, the map and the window are as they are in the line.
 #[derive(Debug, Drop, PartialEq, Eq)]
 pub enum Job {
-    /// Two files to be compared, each with the name of its top cell where one is given.
+    /// Two files to be compared, each with the name of its top cell where one is given; and the
+    /// texts of a map of layers and a window, where they are given.
     Compare {
         first: String,
         second: String,
         top_a: Option<String>,
         top_b: Option<String>,
+        map: Option<String>,
+        window: Option<String>,
     },
     /// A file to be shown, with the name of its top cell where one is given.
     Show {

@@ -44,6 +44,8 @@ fn job_of(alloc: Global, name: &str, matches: &ArgMatches<'_>) -> Result<Job, Al
             second: file_of(alloc, matches, "B")?,
             top_a: value_of(alloc, matches, "top-a")?,
             top_b: value_of(alloc, matches, "top-b")?,
+            map: value_of(alloc, matches, "map")?,
+            window: value_of(alloc, matches, "window")?,
         });
     }
     Ok(Job::Show {

@@ -7,7 +7,10 @@ use std::test::Fail;
 /// What a line asks for, or the kind of its refusal.
 #[derive(Clone, Copy)]
 enum Asks<'a> {
+    /// Two files and the tops of both; neither a map nor a window.
     Compare(&'a str, &'a str, Option<&'a str>, Option<&'a str>),
+    /// Files `a` and `b`, no tops, a map and a window.
+    View(Option<&'a str>, Option<&'a str>),
     Show(&'a str, Option<&'a str>),
     Nothing(ErrorKind),
 }
@@ -30,6 +33,8 @@ fn is_asked(asks: Asks<'_>, answer: &Result<Job, LineFault>) -> bool {
                     second,
                     top_a,
                     top_b,
+                    map,
+                    window,
                 },
             ),
         ) => {
@@ -37,6 +42,28 @@ fn is_asked(asks: Asks<'_>, answer: &Result<Job, LineFault>) -> bool {
                 && second.as_str() == b
                 && is_text(top_a, top)
                 && is_text(top_b, other)
+                && is_text(map, None)
+                && is_text(window, None)
+        }
+        (
+            Asks::View(pairs, ranges),
+            Ok(
+                Job::Compare {
+                    first,
+                    second,
+                    top_a,
+                    top_b,
+                    map,
+                    window,
+                },
+            ),
+        ) => {
+            first.as_str() == "a"
+                && second.as_str() == "b"
+                && is_text(top_a, None)
+                && is_text(top_b, None)
+                && is_text(map, pairs)
+                && is_text(window, ranges)
         }
         (Asks::Show(a, name), Ok(Job::Show { file, top })) => {
             file.as_str() == a && is_text(top, name)
@@ -55,7 +82,7 @@ fn words_of(alloc: Global, line: &'static str) -> Result<Vec<&'static str>, Allo
     Ok(words)
 }
 
-static LINES: [(&str, Asks<'static>); 18] = [
+static LINES: [(&str, Asks<'static>); 23] = [
     ("lvl compare a b", Asks::Compare("a", "b", None, None)),
     (
         "lvl compare a b --top-a X --top-b Y",
@@ -72,6 +99,23 @@ static LINES: [(&str, Asks<'static>); 18] = [
     (
         "lvl compare -- -a --top",
         Asks::Compare("-a", "--top", None, None),
+    ),
+    (
+        "lvl compare a b --map 1/0=2/0 --window x=0..1,y=-5..5",
+        Asks::View(Some("1/0=2/0"), Some("x=0..1,y=-5..5")),
+    ),
+    (
+        "lvl compare --window=x=0..1,y=0..1 a b",
+        Asks::View(None, Some("x=0..1,y=0..1")),
+    ),
+    ("lvl compare a --map= b", Asks::View(Some(""), None)),
+    (
+        "lvl compare a b --map 1/0=2/0 --map 2/0=1/0",
+        Asks::Nothing(ErrorKind::ArgumentConflict),
+    ),
+    (
+        "lvl show a --window x=0..1,y=0..1",
+        Asks::Nothing(ErrorKind::UnknownArgument),
     ),
     ("lvl show a", Asks::Show("a", None)),
     ("lvl show --top X a", Asks::Show("a", Some("X"))),
@@ -118,7 +162,9 @@ fn lines_ask_for_what_they_say(rt: HostRuntime) -> Result<(), Fail> {
 
 #[test]
 fn growths_of_a_line(rt: HostRuntime) -> Result<(), Fail> {
-    let words = ["lvl", "compare", "a", "b", "--top-a", "X"];
+    let words = [
+        "lvl", "compare", "a", "b", "--top-a", "X", "--map", "1/0=2/0",
+    ];
     match parse_line(rt.alloc(), words.as_slice()) {
         Ok(_) => Ok(()),
         Err(LineFault::OutOfMemory) => Err(Fail::from(AllocError)),
