@@ -1,7 +1,7 @@
 -- A column gives way to its halves, or to what a sweep of it finds.
-use Rattle.std.proofs.Common.{◌≡◌, ℤ, ◌<ℤ◌, ◌≤ℤ◌, List, [], ◌∷◌, ◌++◌, length, All, Option, Some, None, ◌⊎◌, inl, inr, ◌↔◌, refl, subst, sym, IfNone, IfSome, arith}
+use Rattle.std.proofs.Common.{◌≡◌, ℤ, ◌<ℤ◌, ◌≤ℤ◌, List, [], ◌∷◌, ◌++◌, append_assoc, ap, ◌∙◌, map, length, All, Some, None, ◌⊎◌, inl, inr, ◌↔◌, refl, subst, sym, IfNone, IfSome, arith}
 use Rattle.std.proofs.lemmas.Int.{by_lt_z, ints}
-use Rattle.std.proofs.lemmas.List.{take_at, drop_at}
+use Rattle.std.proofs.lemmas.List.{map-append, take_at, drop_at}
 use Rattle.std.proofs.lemmas.List.Elements.{All-take, All-drop, All-head, All-push, All-nil, All-cons}
 use Rattle.lvl_grid.specs.declared.point.Point.{Point}
 use Rattle.lvl_grid.specs.declared.point.Square.{Square}
@@ -12,7 +12,7 @@ use Rattle.lvl_region.specs.declared.region.Side.{Side}
 use Rattle.lvl_region.specs.declared.region.Side.TheVariants.{First, Second}
 use Rattle.lvl_sweep.specs.Ahead.{IsUpTo}
 use Rattle.lvl_columns.specs.declared.columns.Column.{Column}
-use Rattle.lvl_columns.specs.Columns.{Lists, Found, lists_of, Agree, Differ, NotBefore, IsFoundIn, IsFirst, CoversAs, IsTrueTo, IsOpen, AreHalvesAt, last_row}
+use Rattle.lvl_columns.specs.Columns.{Lists, Found, lists_of, Agree, Differ, NotBefore, IsFoundIn, IsFirst, CoversAs, IsTrueTo, IsOpen, IsPartOf, AreHalvesAt, last_row}
 
 all_but_last : {X : Type 0} (P : X → Type 0) (xs : List X) (x : X) → All P (xs ++ x ∷ []) → All P xs
 all_but_last P xs x h = subst (All P) (take_at xs (x ∷ []) (length xs) refl) (All-take P (length xs) (xs ++ x ∷ []) h)
@@ -27,10 +27,6 @@ of_nothing s old new P e h = (
   λ p. h.1 (inr p),
 )
 
--- the lists of a part of the plane
-abbrev IsPartOf : (Square → Type 0) → Lists → Lists → Type 0
-IsPartOf P l part = (s : Square) → (SomeCovers part.0 s ↔ (P s × SomeCovers l.0 s)) × (SomeCovers part.1 s ↔ (P s × SomeCovers l.1 s))
-
 covers_in_part : (P : Square → Type 0) (whole l part : Lists) (s : Square) → IsPartOf P l part → P s → CoversAs whole s l → CoversAs whole s part
 covers_in_part P whole l part s h i t = (
   (λ a. t.0.0 ((h s).0.0 a).1, λ a. (h s).0.1 (i, t.0.1 a)),
@@ -41,15 +37,10 @@ true_part : (P : Square → Type 0) (whole l part : Lists) → IsPartOf P l part
 true_part P whole l part h t s First a = let p = (h s).0.0 a.0 in t s First (p.1, λ q. a.1 ((h s).1.1 (p.0, q)))
 true_part P whole l part h t s Second a = let p = (h s).1.0 a.0 in t s Second (p.1, λ q. a.1 ((h s).0.1 (p.0, q)))
 
--- a column gives way to its halves
-pub open_by_halves : (whole : Lists) (xs : List Lists) (f g : List (List Point)) (left right : Column) (at : ℤ) (found : Found) → AreHalvesAt at f g left right
-    → IsOpen whole (xs ++ (f, g) ∷ []) found → IsOpen whole ((xs ++ lists_of right ∷ []) ++ lists_of left ∷ []) found
-open_by_halves whole xs f g left right at found halves told =
-    let c : Lists = (f, g) in
-    let l : Lists = lists_of left in
-    let r : Lists = lists_of right in
-    let hl : IsPartOf (λ s. s.x <ℤ at) c l = λ s. (halves.left_first s, halves.left_second s) in
-    let hr : IsPartOf (λ s. at ≤ℤ s.x) c r = λ s. (halves.right_first s, halves.right_second s) in
+-- a column gives way to its parts left and right of an abscissa
+pub open_by_parts : (whole : Lists) (xs : List Lists) (c l r : Lists) (at : ℤ) (found : Found) → IsPartOf (λ s. s.x <ℤ at) c l → IsPartOf (λ s. at ≤ℤ s.x) c r
+    → IsOpen whole (xs ++ c ∷ []) found → IsOpen whole ((xs ++ r ∷ []) ++ l ∷ []) found
+open_by_parts whole xs c l r at found hl hr told =
     let t : IsTrueTo whole c = all_last (IsTrueTo whole) xs c told.faithful in
     record {
       alone = told.alone;
@@ -62,7 +53,9 @@ open_by_halves whole xs f g left right at found halves told =
               | inl n ↦ inr (inl n)
               | inr any ↦ elim ((Any-push (CoversAs whole s) xs c).0 any) [
                 | inl old ↦ inr (inr (rest.1 (inl (first.1 (inl old)))))
-                | inr here ↦ by_lt_z s.x at (λ h. inr (inr (rest.1 (inr (covers_in_part (λ s. s.x <ℤ at) whole c l s hl h here))))) (λ h. inr (inr (rest.1 (inl (first.1 (inr (covers_in_part (λ s. at ≤ℤ s.x) whole c r s hr h here)))))))
+                | inr here ↦ by_lt_z s.x at
+                    (λ h. inr (inr (rest.1 (inr (covers_in_part (λ s. s.x <ℤ at) whole c l s hl h here)))))
+                    (λ h. inr (inr (rest.1 (inl (first.1 (inr (covers_in_part (λ s. at ≤ℤ s.x) whole c r s hr h here)))))))
               ]
             ]
           ];
@@ -70,6 +63,18 @@ open_by_halves whole xs f g left right at found halves told =
           (All-push (IsTrueTo whole) xs r (all_but_last (IsTrueTo whole) xs c told.faithful) (true_part (λ s. at ≤ℤ s.x) whole c r hr t))
           (true_part (λ s. s.x <ℤ at) whole c l hl t);
     }
+
+-- a column gives way to its halves
+pub open_by_halves : (whole : Lists) (xs : List Lists) (f g : List (List Point)) (left right : Column) (at : ℤ) (found : Found) → AreHalvesAt at f g left right
+    → IsOpen whole (xs ++ (f, g) ∷ []) found → IsOpen whole ((xs ++ lists_of right ∷ []) ++ lists_of left ∷ []) found
+open_by_halves whole xs f g left right at found halves =
+    open_by_parts whole xs (f, g) (lists_of left) (lists_of right) at found
+    (λ s. (halves.left_first s, halves.left_second s)) (λ s. (halves.right_first s, halves.right_second s))
+
+-- one column more, after others
+pub one_more : (others : List Lists) (xs : List Column) (c : Column) → others ++ map lists_of (xs ++ c ∷ []) ≡ (others ++ map lists_of xs) ++ lists_of c ∷ []
+one_more others xs c =
+    ap (λ (ls : List Lists). others ++ ls) (map-append lists_of xs (c ∷ [])) ∙ sym (append_assoc others (map lists_of xs) (lists_of c ∷ []))
 
 -- what a sweep up to a row tells of a column, once what was found before it is known
 pub record IsFoundUpTo (l : Lists) (best found : Found) : Type 0 where

@@ -1,5 +1,5 @@
 -- The columns that are still to be compared, and what they leave open. These serve the proof alone.
-use Rattle.std.specs.Prelude.{◌≡◌, ℕ, ◌+◌, ◌*◌, ℤ, ◌<ℤ◌, ◌≤ℤ◌, List, [], ◌∷◌, ◌++◌, map, Any, All, Option, Some, None, ◌⊎◌, ◌↔◌, vec_len}
+use Rattle.std.specs.Prelude.{ℕ, ◌+◌, ◌*◌, ℤ, ◌<ℤ◌, ◌≤ℤ◌, List, [], ◌∷◌, ◌++◌, map, Any, All, Option, Some, None, ◌⊎◌, ◌↔◌, vec_len}
 use Rattle.lvl_grid.specs.declared.point.Point.{Point}
 use Rattle.lvl_grid.specs.declared.point.Square.{Square}
 use Rattle.lvl_grid.specs.Winding.{SomeCovers}
@@ -55,12 +55,26 @@ pub record IsOpen (whole : Lists) (columns : List Lists) (found : Found) : Type 
   pub each : (s : Square) → Agree whole s ⊎ (NotBefore s found ⊎ Any (CoversAs whole s) columns)
   pub faithful : All (IsTrueTo whole) columns
 
--- with the column of these lists still to come, and then without it
+-- with the column of these lists still to come, and then without it, whatever other columns are still to come
 abbrev pub GoesOn : List (List Point) → List (List Point) → Progress → Progress → Type 0
 GoesOn first second old new =
-    (whole : Lists)
-    → IsOpen whole (map lists_of old.pending.items ++ (first, second) ∷ []) old.best
-    → IsOpen whole (map lists_of new.pending.items) new.best
+    (whole : Lists) (others : List Lists)
+    → IsOpen whole ((others ++ map lists_of old.pending.items) ++ (first, second) ∷ []) old.best
+    → IsOpen whole (others ++ map lists_of new.pending.items) new.best
+
+-- with the pending columns still to come, and then without them
+abbrev pub EndsWith : Progress → Progress → Type 0
+EndsWith old new = (whole : Lists) (others : List Lists) → IsOpen whole (others ++ map lists_of old.pending.items) old.best → IsOpen whole others new.best
+
+-- the column's lists cover what the lists do in the part of the plane
+abbrev pub IsPartOf : (Square → Type 0) → Lists → Lists → Type 0
+IsPartOf P l part = (s : Square) → (SomeCovers part.0 s ↔ (P s × SomeCovers l.0 s)) × (SomeCovers part.1 s ↔ (P s × SomeCovers l.1 s))
+
+-- with a column that is that part of the lists still to come, and then without it
+pub record IsComparedPart (P : Square → Type 0) (l : Lists) (old new : Progress) : Type 0 where
+  pub column : Lists
+  pub is_part : IsPartOf P l column
+  pub told : (whole : Lists) (others : List Lists) → IsOpen whole (others ++ column ∷ []) old.best → IsOpen whole others new.best
 
 -- the lists of both halves cover what the column's lists do left of the cut, and what they do right of it
 pub record AreHalvesAt (at : ℤ) (first second : List (List Point)) (left right : Column) : Type 0 where
@@ -68,11 +82,6 @@ pub record AreHalvesAt (at : ℤ) (first second : List (List Point)) (left right
   pub left_second : (s : Square) → SomeCovers left.second s ↔ ((s.x <ℤ at) × SomeCovers second s)
   pub right_first : (s : Square) → SomeCovers right.first s ↔ ((at ≤ℤ s.x) × SomeCovers first s)
   pub right_second : (s : Square) → SomeCovers right.second s ↔ ((at ≤ℤ s.x) × SomeCovers second s)
-
--- the same, for some abscissa
-pub record AreHalves (first second : List (List Point)) (left right : Column) : Type 0 where
-  pub at : ℤ
-  pub halves : AreHalvesAt at first second left right
 
 -- how often columns may still be cut, doubled, and how many there are
 abbrev pub work_left : Progress → ℕ

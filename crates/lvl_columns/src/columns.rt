@@ -1,13 +1,14 @@
 //! The loop over the columns that are still to be compared.
 ghost use Rattle.std.specs.Prelude.{◌≡◌, ◌+◌, ◌<◌, ◌≤◌, ◌⊎◌, ◌↔◌, ◌++◌, ◌∷◌, [], ℤ, Option, IfOk, IfNone, IfSome, OnOk};
+ghost use Rattle.lvl_grid.specs.Clip.{IsIn};
 ghost use Rattle.lvl_grid.specs.declared.point.Square.{Square as GridSquare};
 ghost use Rattle.lvl_grid.specs.Winding.{SomeCovers};
 ghost use Rattle.lvl_grid.specs.Squares.{IsBefore};
 ghost use Rattle.lvl_region.specs.Region.{IsAlone};
-ghost use Rattle.lvl_columns.specs.Columns.{NotBefore, last_row, GoesOn, work_left};
+ghost use Rattle.lvl_columns.specs.Columns.{NotBefore, last_row, EndsWith, GoesOn, IsComparedPart, IsFirst, work_left};
 
-use crate::halves::halves;
-use lvl_grid::{Rings, Square};
+use crate::halves::{cut_at, halves_at};
+use lvl_grid::{Part, Rings, Square};
 use lvl_region::Side;
 use lvl_sweep::first_difference_up_to;
 use std::alloc::{AllocError, Global};
@@ -60,6 +61,7 @@ impl Progress {
     fn sweep(&mut self, alloc: Global, first: &Rings, second: &Rings) -> Result<(), AllocError>
         ensures told { OnOk result (GoesOn first.now second.now self.old self.new) }
         ensures work { OnOk result (work_left self.new ≤ work_left self.old) }
+        ensures pending { OnOk result (self.new.pending.items ≡ self.old.pending.items) }
     {
         let found = first_difference_up_to(alloc, first, second, row_of(self.best))?;
         self.best = lesser(self.best, found);
@@ -80,25 +82,82 @@ impl Progress {
     }
 
     /// Compares a column, or cuts it in two.
-    fn step(&mut self, alloc: Global, first: &Rings, second: &Rings) -> Result<(), AllocError>
-        ensures told { OnOk result (GoesOn first.now second.now self.old self.new) }
+    fn step(&mut self, alloc: Global, column: Column) -> Result<(), AllocError>
+        ensures told { OnOk result (GoesOn column.first column.second self.old self.new) }
         ensures work { OnOk result (work_left self.new ≤ work_left self.old) }
     {
-        if first.is_same(second) {
+        if column.first.is_same(&column.second) {
             return Ok(());
         }
         if self.cuts > 0 {
-            if let Some((left, right)) = halves(alloc, first, second)? {
+            if let Some(at) = cut_at(alloc, &column.first, &column.second)? {
+                let (left, right) = halves_at(alloc, column, at)?;
                 self.cut(left, right)?;
                 return Ok(());
             }
         }
-        self.sweep(alloc, first, second)
+        self.sweep(alloc, &column.first, &column.second)
     }
+
+    /// Compares the columns that are pending, the last one first.
+    fn finish(&mut self, alloc: Global) -> Result<(), AllocError>
+        ensures told { OnOk result (EndsWith self.old self.new) }
+        ensures done { OnOk result (self.new.pending.items ≡ []) }
+    {
+        while let Some(column) = self.pending.pop() {
+            self.step(alloc, column)?;
+        }
+        Ok(())
+    }
+
+    /// Compares a part of two lists, of which it holds a copy until it is done.
+    fn part(
+        &mut self,
+        alloc: Global,
+        first: &Rings,
+        second: &Rings,
+        part: &Part,
+    ) -> Result<(), AllocError>
+        requires { self.old.pending.items ≡ [] }
+        ensures told { OnOk result (IsComparedPart (IsIn part.now) (first.now, second.now) self.old self.new) }
+        ensures done { OnOk result (self.new.pending.items ≡ []) }
+    {
+        let column = Column {
+            first: Rings::clipped(alloc, first, part)?,
+            second: Rings::clipped(alloc, second, part)?,
+        };
+        self.pending.push(column)?;
+        self.finish(alloc)
+    }
+}
+
+/// The least difference of two lists, in two parts where a cut is worth while.
+fn least_difference(
+    alloc: Global,
+    first: &Rings,
+    second: &Rings,
+) -> Result<Option<(Square, Side)>, AllocError>
+    ensures { IfOk result (IsFirst (first.now, second.now)) }
+{
+    let mut progress = Progress {
+        pending: Vec::new(alloc),
+        best: None,
+        cuts: CUTS,
+    };
+    let Some(at) = cut_at(alloc, first, second)? else {
+        progress.sweep(alloc, first, second)?;
+        return Ok(progress.best);
+    };
+    progress.part(alloc, first, second, &Part::Left(at))?;
+    progress.part(alloc, first, second, &Part::Right(at))?;
+    Ok(progress.best)
 }
 
 /// The least square, by y and then x, that the rings of one list alone cover, with its side, or
 /// None where both lists cover the same squares. Fails only when out of memory.
+///
+/// The right half is made when the left one is done, so beside the lists there are copies of about
+/// three quarters of them at most.
 pub fn difference_by_columns(
     alloc: Global,
     first: &Rings,
@@ -112,14 +171,8 @@ pub fn difference_by_columns(
         (λ found. IfSome found
         (λ at. (s : GridSquare) → IsBefore s at.0 → SomeCovers first.now s ↔ SomeCovers second.now s)) }
 {
-    let mut progress = Progress {
-        pending: Vec::new(alloc),
-        best: None,
-        cuts: CUTS,
-    };
-    progress.step(alloc, first, second)?;
-    while let Some(column) = progress.pending.pop() {
-        progress.step(alloc, &column.first, &column.second)?;
+    if first.is_same(second) {
+        return Ok(None);
     }
-    Ok(progress.best)
+    least_difference(alloc, first, second)
 }

@@ -1,6 +1,8 @@
 //! Where a column is cut, if it is, and its two halves.
-ghost use Rattle.std.specs.Prelude.{◌≡◌, [], IfOk, IfSome};
-ghost use Rattle.lvl_columns.specs.Columns.{AreHalves, AreHalvesAt};
+ghost use Rattle.std.specs.Prelude.{◌≡◌, ◌↔◌, ◌<ℤ◌, ◌≤ℤ◌, [], IfOk};
+ghost use Rattle.lvl_grid.specs.declared.point.Square.{Square as GridSquare};
+ghost use Rattle.lvl_grid.specs.Winding.{SomeCovers};
+ghost use Rattle.lvl_columns.specs.Columns.{AreHalvesAt};
 
 use crate::columns::Column;
 use crate::estimate::{Sample, Work};
@@ -38,8 +40,12 @@ fn quantiles(alloc: Global, abscissas: &[i64], parts: usize) -> Result<Vec<i64>,
     Ok(cuts)
 }
 
-/// The abscissa of the middle one, if a cut there is worth while.
-fn cut_at(alloc: Global, first: &Rings, second: &Rings) -> Result<Option<i64>, AllocError> {
+/// The abscissa at which a column is cut, the middle one of a sample, if a cut there is worth while.
+pub(crate) fn cut_at(
+    alloc: Global,
+    first: &Rings,
+    second: &Rings,
+) -> Result<Option<i64>, AllocError> {
     let first = Sample::of(alloc, first)?;
     let second = Sample::of(alloc, second)?;
     let whole = first.work(&[]).with(second.work(&[]));
@@ -89,21 +95,29 @@ fn half_room(alloc: Global, rings: &Rings) -> Result<Rings, AllocError>
     Rings::with_capacity(alloc, points - points / 4, many - many / 4)
 }
 
-/// Both halves of a column that is cut at an abscissa.
+/// What is left of the rings on both sides of an abscissa.
+fn split(alloc: Global, rings: Rings, at: i64) -> Result<(Rings, Rings), AllocError>
+    ensures left { IfOk result
+        (λ parts. (s : GridSquare) → SomeCovers parts.0 s ↔ ((s.x <ℤ at) × SomeCovers rings s)) }
+    ensures right { IfOk result
+        (λ parts. (s : GridSquare) → SomeCovers parts.1 s ↔ ((at ≤ℤ s.x) × SomeCovers rings s)) }
+{
+    let mut left = half_room(alloc, &rings)?;
+    let mut right = half_room(alloc, &rings)?;
+    rings.split_into(at, &mut left, &mut right)?;
+    Ok((left, right))
+}
+
+/// Both halves of a column that is cut at an abscissa. Each list goes as soon as it is split.
 pub(crate) fn halves_at(
     alloc: Global,
-    first: &Rings,
-    second: &Rings,
+    column: Column,
     at: i64,
 ) -> Result<(Column, Column), AllocError>
-    ensures { IfOk result (λ halves. AreHalvesAt at first.now second.now halves.0 halves.1) }
+    ensures { IfOk result (λ halves. AreHalvesAt at column.first column.second halves.0 halves.1) }
 {
-    let mut left_first = half_room(alloc, first)?;
-    let mut right_first = half_room(alloc, first)?;
-    first.split_into(at, &mut left_first, &mut right_first)?;
-    let mut left_second = half_room(alloc, second)?;
-    let mut right_second = half_room(alloc, second)?;
-    second.split_into(at, &mut left_second, &mut right_second)?;
+    let (left_first, right_first) = split(alloc, column.first, at)?;
+    let (left_second, right_second) = split(alloc, column.second, at)?;
     Ok((
         Column {
             first: left_first,
@@ -114,18 +128,4 @@ pub(crate) fn halves_at(
             second: right_second,
         },
     ))
-}
-
-/// The halves of a column, or None where a cut isn't worth while.
-pub(crate) fn halves(
-    alloc: Global,
-    first: &Rings,
-    second: &Rings,
-) -> Result<Option<(Column, Column)>, AllocError>
-    ensures { IfOk result (λ halves. IfSome halves (λ h. AreHalves first.now second.now h.0 h.1)) }
-{
-    let Some(at) = cut_at(alloc, first, second)? else {
-        return Ok(None);
-    };
-    Ok(Some(halves_at(alloc, first, second, at)?))
 }

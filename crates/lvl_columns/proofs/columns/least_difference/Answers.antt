@@ -1,0 +1,21 @@
+use Rattle.std.proofs.Common.{◌∷◌, [], None}
+use Rattle.lvl_columns.specs.Columns.{Lists, IsOpen}
+use Rattle.lvl_columns.proofs.Halving.{open_at_first, open_by_parts, first_at_last}
+use Rattle.lvl_columns.proofs.columns.least_difference.Goals as goal
+
+pub returns-in_default : goal.returns-in_default
+returns-in_default c =
+    let whole : Lists = (c.args.first.now, c.args.second.now) in
+    let start : IsOpen whole (whole ∷ []) None = open_at_first c.args.first.now c.args.second.now in
+    let done = c.in_ok-sweep.ensures.told whole [] (rw c.new.ensures.items start) in
+    first_at_last whole _ (rw (c.in_ok-sweep.ensures.pending, c.new.ensures.items) at done)
+
+pub returns : goal.returns
+returns c =
+    let whole : Lists = (c.args.first.now, c.args.second.now) in
+    let start : IsOpen whole (whole ∷ []) None = open_at_first c.args.first.now c.args.second.now in
+    let left = c.in_ok-part.ensures.told in
+    let right = c.in_ok-part-2.ensures.told in
+    first_at_last whole _ (right.told whole []
+    (left.told whole (right.column ∷ [])
+    (open_by_parts whole [] whole left.column right.column _ None left.is_part right.is_part start)))
