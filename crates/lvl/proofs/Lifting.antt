@@ -157,10 +157,10 @@ range_unaccepted file cells head read fault told others top accepted =
 
 -- the verdict
 
-both_lifted : (A A' B B' : Type 0) → A ↔ A' → B ↔ B' → A ↔ B → A' ↔ B'
+pub both_lifted : (A A' B B' : Type 0) → A ↔ A' → B ↔ B' → A ↔ B → A' ↔ B'
 both_lifted A A' B B' p q h = (λ a. q.0 (h.0 (p.1 a)), λ b. p.0 (h.1 (q.1 b)))
 
-alone_lifted : (P P' Q Q' : Square → Type 0) (s : Square) (side : Side) → P s ↔ P' s → Q s ↔ Q' s → IsAlone P Q s side → IsAlone P' Q' s side
+pub alone_lifted : (P P' Q Q' : Square → Type 0) (s : Square) (side : Side) → P s ↔ P' s → Q s ↔ Q' s → IsAlone P Q s side → IsAlone P' Q' s side
 alone_lifted P P' Q Q' s First p q h = (p.0 h.0, λ x. h.1 (q.1 x))
 alone_lifted P P' Q Q' s Second p q h = (q.0 h.0, λ x. h.1 (p.1 x))
 

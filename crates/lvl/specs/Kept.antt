@@ -9,7 +9,9 @@ use Rattle.lvl_compare.specs.Alike.{AreAlike}
 use Rattle.lvl_flat.specs.Sheet.{PlainSheet}
 use Rattle.lvl_flat.specs.declared.fault.FlatFault.{FlatFault}
 use Rattle.lvl_region.specs.declared.region.Side.TheVariants.{First, Second}
+use Rattle.lvl_view.specs.Views.{PlainView}
 use Rattle.lvl.specs.Sheets.{IsFlatVerdict}
+use Rattle.lvl.specs.Views.{IsFlatViewVerdict}
 use Rattle.lvl.specs.declared.verdict.Verdict.{Verdict}
 use Rattle.lvl.specs.declared.verdict.Verdict.TheVariants.{Same}
 use Rattle.lvl.specs.declared.verdict.Refusal.{Refusal}
@@ -70,6 +72,14 @@ pub record IsVerdictOnFlats (a b : Kept) (v : Verdict) : Type 0 where
   pub first : IsFlattenedAs a ours
   pub second : IsFlattenedAs b theirs
   pub verdict : IsFlatVerdict ours theirs v
+
+-- both were flattened, and the verdict is that on what they gave under the view
+pub record IsKeptViewVerdict (view : PlainView) (a b : Kept) (v : Verdict) : Type 0 where
+  pub ours : List PlainSheet
+  pub theirs : List PlainSheet
+  pub first : IsFlattenedAs a ours
+  pub second : IsFlattenedAs b theirs
+  pub verdict : IsFlatViewVerdict view ours theirs v
 
 -- the verdict is that on what both gave, or it is that they are the same, which was told cell by cell
 abbrev pub IsKeptVerdict : Kept → Kept → Verdict → Type 0

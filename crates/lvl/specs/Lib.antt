@@ -6,3 +6,4 @@ pub mod Kept
 pub mod Answers
 pub mod Sides
 pub mod Shown
+pub mod Views

@@ -1,8 +1,8 @@
 //! Two layouts compared: whether they draw the same mask.
 //!
 //! [`compare_layouts`] reads two files, checks their cells, flattens them and compares what they cover
-//! Layer by Layer. Its answer is a [`Verdict`] or a [`Refusal`]. [`show_file`] says what one file
-//! holds. A format is a variant of [`Layout`], [`Head`] and [`FileFault`], and a row in each match on
+//! Layer by Layer. Its answer is a [`Verdict`] or a [`Refusal`]. [`compare_view`] does so with the
+//! second file's Layers mapped, and in a window alone. [`show_file`] says what one file holds. A format is a variant of [`Layout`], [`Head`] and [`FileFault`], and a row in each match on
 //! them.
 #![tactic(auto)]
 
@@ -11,6 +11,7 @@ pub use layout::{FileFault, Head, Layout, read_layout};
 pub use show::show_file;
 pub use shown::{Shown, ShownLayer};
 pub use verdict::{Comparison, Refusal, Tops, Verdict};
+pub use view::{compare_files_in, compare_view};
 
 mod alike;
 mod compare;
@@ -22,3 +23,4 @@ mod side;
 #[cfg(test)]
 mod tests;
 mod verdict;
+mod view;

@@ -1,6 +1,6 @@
 //! The program `lvl`: compares two layout files, or shows one.
 //!
-//!     lvl compare A B [--top-a NAME] [--top-b NAME]
+//!     lvl compare A B [--top-a NAME] [--top-b NAME] [--map PAIRS] [--window RANGES]
 //!     lvl show A [--top NAME]
 //!
 //! It ends with status 0 where both draw the same mask or one was shown, 1 where they differ, 2
@@ -11,7 +11,9 @@
 use lvl::Tops;
 use lvl_io::Counted;
 use lvl_line::{Job, LineFault, parse_line};
-use lvl_report::{RunFault, Status, run, run_show};
+use lvl_refusal::Refusal;
+use lvl_report::{RunFault, Status, run, run_show, run_view, view_fault};
+use lvl_view::View;
 use std::fs::File;
 use std::io::{BufWriter, ErrorKind};
 use std::process::ExitCode;
@@ -62,11 +64,39 @@ fn top_of(name: Option<String>) -> Option<Vec<u8>> {
     name.map(|name| name.into_bytes())
 }
 
-fn compare(rt: &HostRuntime, first: &str, second: &str, tops: &Tops) -> Result<u8, u8> {
+/// The view that two options say, if one of them is given, or the status that a bad one ends with.
+fn view_of(
+    rt: &HostRuntime,
+    map: &Option<String>,
+    window: &Option<String>,
+) -> Result<Option<View>, u8> {
+    if map.is_none() && window.is_none() {
+        return Ok(None);
+    }
+    match View::read(rt.alloc(), map.as_deref(), window.as_deref()) {
+        Ok(view) => Ok(Some(view)),
+        Err(Refusal::Breach(fault)) => {
+            let _ = eprintln!(rt; "lvl: bad view {}", view_fault(fault));
+            Err(BAD_LINE)
+        }
+        Err(Refusal::OutOfMemory) => Err(end(rt, "lvl: out of memory", NOT_RUN)),
+    }
+}
+
+fn compare(
+    rt: &HostRuntime,
+    first: &str,
+    second: &str,
+    tops: &Tops,
+    view: Option<&View>,
+) -> Result<u8, u8> {
     let mut first = open(rt, first)?;
     let mut second = open(rt, second)?;
     let mut out = output(rt)?;
-    let ran = run(rt.alloc(), &mut first, &mut second, tops, &mut out);
+    let ran = match view {
+        Some(view) => run_view(rt.alloc(), &mut first, &mut second, tops, view, &mut out),
+        None => run(rt.alloc(), &mut first, &mut second, tops, &mut out),
+    };
     Ok(code_of(rt, ran))
 }
 
@@ -85,12 +115,15 @@ fn done(rt: &HostRuntime, job: Job) -> Result<u8, u8> {
             second,
             top_a,
             top_b,
+            map,
+            window,
         } => {
+            let view = view_of(rt, &map, &window)?;
             let tops = Tops {
                 first: top_of(top_a),
                 second: top_of(top_b),
             };
-            compare(rt, first.as_str(), second.as_str(), &tops)
+            compare(rt, first.as_str(), second.as_str(), &tops, view.as_ref())
         }
         Job::Show { file, top } => {
             let top = top_of(top);

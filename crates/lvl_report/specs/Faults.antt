@@ -4,6 +4,8 @@ use Rattle.lvl_path.specs.declared.fault.PathFault.{PathFault}
 use Rattle.lvl_path.specs.declared.fault.PathFault.TheVariants.{NoWidth, FewPoints, Oblique, RepeatedPoint, TurnsBack, ShortRun, OutOfRange as BandOutOfRange}
 use Rattle.lvl_cells.specs.declared.fault.CellFault.{CellFault}
 use Rattle.lvl_cells.specs.declared.fault.CellFault.TheVariants.{NoCell, DuplicateCell, MissingCell, Cycle, TopMissing, ManyTops, TooManyPlacements, TooManyRings}
+use Rattle.lvl_view.specs.declared.fault.ViewFault.{ViewFault}
+use Rattle.lvl_view.specs.declared.fault.ViewFault.TheVariants.{MapText, WindowText, MapTwice, EmptyWindow}
 use Rattle.lvl_flat.specs.declared.fault.FlatFault.{FlatFault}
 use Rattle.lvl_flat.specs.declared.fault.FlatFault.TheVariants.{OutOfRange}
 
@@ -20,6 +22,13 @@ path_fault RepeatedPoint = codes "4 RepeatedPoint"
 path_fault TurnsBack = codes "5 TurnsBack"
 path_fault ShortRun = codes "6 ShortRun"
 path_fault BandOutOfRange = codes "7 OutOfRange"
+
+-- why texts are no view; the Layer that is a source twice isn't printed
+abbrev pub view_fault : ViewFault → List ℕ
+view_fault MapText = codes "1 MapText"
+view_fault WindowText = codes "2 WindowText"
+view_fault (MapTwice layer) = codes "3 MapTwice"
+view_fault EmptyWindow = codes "4 EmptyWindow"
 
 -- a fault of a library's cells; cells are named by their names
 abbrev pub cell_fault : CellFault → List ℕ

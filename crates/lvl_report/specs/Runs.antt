@@ -8,6 +8,9 @@ use Rattle.lvl_report.specs.declared.status.Status.{Status}
 use Rattle.lvl.specs.declared.verdict.Comparison.{Comparison}
 use Rattle.lvl.specs.declared.verdict.Refusal.{Refusal}
 use Rattle.lvl.specs.Sides.{file_named}
+use Rattle.lvl.specs.Layouts.{File}
+use Rattle.lvl.specs.Views.{IsComparedIn}
+use Rattle.lvl_view.specs.Views.{PlainView}
 use Rattle.lvl.specs.Answers.{IsCompared, IsEarlyOf, IsHopeless, IsRefusalOf, is_read_of}
 use Rattle.lvl.specs.Shown.{IsShownFile, IsOfFirst}
 use Rattle.lvl_report.specs.Writing.{AppendsBeginning}
@@ -24,16 +27,24 @@ pub record Input : Type 0 where
 abbrev pub input : Option (List ℕ) → Option (List ℕ) → ℕ → ℕ → Option (List ℕ) → Input
 input bytes left before after top = record { bytes = bytes; left = left; before = before; after = after; top = top }
 
--- the answer is one that the comparison of two files may give
-pub record IsComparedBy (a b : Input) (answer : Result Comparison Refusal) : Type 0 where
+-- the answer is one that a comparison of two files may give, where it says that of them
+pub record IsAnswerBy (Says : File → File → Comparison → Type 0) (a b : Input) (answer : Result Comparison Refusal) : Type 0 where
   pub compared : (xs ys : List ℕ) → a.bytes ≡ Some xs → b.bytes ≡ Some ys
-      → IfOk answer (IsCompared (file_named xs a.top) (file_named ys b.top))
+      → IfOk answer (Says (file_named xs a.top) (file_named ys b.top))
   pub first_refused : (xs : List ℕ) → a.bytes ≡ Some xs → IfErr answer (IsRefusalOf First (file_named xs a.top))
   pub second_refused : (ys : List ℕ) → b.bytes ≡ Some ys → IfErr answer (IsRefusalOf Second (file_named ys b.top))
   pub first_early : (xs : List ℕ) → a.bytes ≡ Some xs → IfErr answer (λ r. IsEarlyOf First r → IsHopeless xs a.left)
   pub second_early : (ys : List ℕ) → b.bytes ≡ Some ys → IfErr answer (λ r. IsEarlyOf Second r → IsHopeless ys b.left)
   pub first_reads : CountsFailure a.before a.after (is_read_of First answer)
   pub second_reads : CountsFailure b.before b.after (is_read_of Second answer)
+
+-- the answer is one that the comparison of two files may give
+abbrev pub IsComparedBy : Input → Input → Result Comparison Refusal → Type 0
+IsComparedBy = IsAnswerBy IsCompared
+
+-- the answer is one that their comparison under the view may give
+abbrev pub IsViewedBy : PlainView → Input → Input → Result Comparison Refusal → Type 0
+IsViewedBy view = IsAnswerBy (IsComparedIn view)
 
 -- the answer is one that showing a file may give
 pub record IsShownBy (a : Input) (answer : Result Shown Refusal) : Type 0 where

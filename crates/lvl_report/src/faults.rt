@@ -1,10 +1,11 @@
 //! The number and the name of each fault that no format has alone, and what it carries, as text.
 ghost use Rattle.std.specs.Prelude.{◌≡◌, ◌++◌, flat_map, OnOk};
-ghost use Rattle.lvl_report.specs.Faults.{spaced, path_fault, cell_fault, flat_fault};
+ghost use Rattle.lvl_report.specs.Faults.{spaced, path_fault, cell_fault, flat_fault, view_fault};
 
 use lvl_cells::CellFault;
 use lvl_flat::FlatFault;
 use lvl_path::PathFault;
+use lvl_view::ViewFault;
 use std::io;
 use std::io::Write;
 
@@ -20,6 +21,18 @@ pub(crate) fn path_fault(fault: PathFault) -> &'static str
         PathFault::TurnsBack => "5 TurnsBack",
         PathFault::ShortRun => "6 ShortRun",
         PathFault::OutOfRange => "7 OutOfRange",
+    }
+}
+
+/// Why texts are no view: the number and the name of the fault, without the Layer that it carries.
+pub fn view_fault(fault: ViewFault) -> &'static str
+    ensures { result.now ≡ view_fault fault }
+{
+    match fault {
+        ViewFault::MapText => "1 MapText",
+        ViewFault::WindowText => "2 WindowText",
+        ViewFault::MapTwice(_) => "3 MapTwice",
+        ViewFault::EmptyWindow => "4 EmptyWindow",
     }
 }
 

@@ -1,12 +1,13 @@
 //! The answers of lvl as text: two heads and a verdict, what a layout holds, or a refusal.
 //!
-//! [`run`] compares two files and [`run_show`] shows one; each forms the text of the answer whole,
+//! [`run`] compares two files, [`run_view`] compares them under a view, and [`run_show`] shows one; each forms the text of the answer whole,
 //! writes it, and gives its [`Status`], by which the program exits. Each format has a module of its
 //! own for what its files say of themselves and why they are refused. [`form`] and [`form_shown`] give
 //! the text alone.
 #![tactic(auto)]
 
-pub use runs::{run, run_show};
+pub use faults::view_fault;
+pub use runs::{run, run_show, run_view};
 pub use status::{RunFault, Status};
 pub use text::{form, form_shown};
 

@@ -2,15 +2,16 @@
 ghost use Rattle.std.specs.Prelude.{◌≡◌, OnErr, IfOk, Err, option_copied};
 ghost use Rattle.std.specs.Io.KnownBytes.{Keeps};
 ghost use Rattle.lvl_io.specs.Bytes.{CountsFailure};
-ghost use Rattle.lvl_report.specs.Runs.{IsComparedBy, IsShownBy, IsWritten, IsBegun, input};
+ghost use Rattle.lvl_report.specs.Runs.{IsComparedBy, IsShownBy, IsViewedBy, IsWritten, IsBegun, input};
 ghost use Rattle.lvl.specs.Sides.{given_name};
 ghost use Rattle.lvl_report.specs.Texts.{text_of, text_of_shown};
 ghost use Rattle.lvl_report.specs.Writing.{status_of, shown_status, is_output};
 
 use crate::status::{RunFault, Status};
 use crate::tell::{tell, tell_shown};
-use lvl::{Tops, compare_files, show_file};
+use lvl::{Tops, compare_files, compare_files_in, show_file};
 use lvl_io::{Read, Write};
+use lvl_view::View;
 use std::alloc::Global;
 
 /// Compares two files and writes the answer: what each says of itself and the verdict, on a line
@@ -41,6 +42,38 @@ pub fn run<A: Read, B: Read, W: Write>(
     ensures same { W.lent out.new ≡ W.lent out.old }
 {
     let answer = compare_files(alloc, first, second, tops);
+    tell(alloc, &answer, out)
+}
+
+/// Compares two files under a view, the second with its Layers mapped and in the window alone, and
+/// writes the answer as [`run`] does.
+///
+/// What it writes is what [`compare_files_in`](lvl::compare_files_in) may answer of these files.
+pub fn run_view<A: Read, B: Read, W: Write>(
+    alloc: Global,
+    first: &mut A,
+    second: &mut B,
+    tops: &Tops,
+    view: &View,
+    out: &mut W,
+) -> Result<Status, RunFault>
+    ensures written { IfOk result (IsWritten
+        (IsViewedBy view.now (input (A.remaining first.old) (A.remaining first.new)
+        (A.read_errors first.old) (A.read_errors first.new) (given_name tops.now.first))
+        (input (B.remaining second.old) (B.remaining second.new)
+        (B.read_errors second.old) (B.read_errors second.new) (given_name tops.now.second)))
+        text_of status_of (W.contents out.old) (W.contents out.new)) }
+    ensures begun { OnErr result (IsBegun
+        (IsViewedBy view.now (input (A.remaining first.old) (A.remaining first.new)
+        (A.read_errors first.old) (A.read_errors first.new) (given_name tops.now.first))
+        (input (B.remaining second.old) (B.remaining second.new)
+        (B.read_errors second.old) (B.read_errors second.new) (given_name tops.now.second)))
+        text_of (W.contents out.old) (W.contents out.new)) }
+    ensures nothing { result ≡ Err RunFault.OutOfMemory → Keeps (W.contents out.old) (W.contents out.new) }
+    ensures errors { CountsFailure (W.write_errors out.old) (W.write_errors out.new) (is_output result) }
+    ensures same { W.lent out.new ≡ W.lent out.old }
+{
+    let answer = compare_files_in(alloc, first, second, tops, view);
     tell(alloc, &answer, out)
 }
 

@@ -1,0 +1,89 @@
+"""Writes a layout as GDSII, in one of the spellings that its records leave open."""
+import struct
+
+ANGLES = ["0000000000000000", "425a000000000000", "42b4000000000000", "4310e00000000000"]
+
+
+def record(kind, data_type, payload=b""):
+    payload += b"\0" * (len(payload) % 2)
+    return struct.pack(">HBB", len(payload) + 4, kind, data_type) + payload
+
+
+def short(kind, value, data_type=2):
+    return record(kind, data_type, struct.pack(">H", value & 0xFFFF))
+
+
+def xy(points):
+    return record(0x10, 3, b"".join(struct.pack(">ii", x, y) for x, y in points))
+
+
+def element(kind, *records):
+    return record(kind, 0) + b"".join(records) + record(0x11, 0)
+
+
+def ring(rng, layer, points):
+    points = list(points)
+    if rng.random() < 0.3:
+        at = rng.randrange(len(points))
+        points.insert(at, points[at])
+    at = rng.randrange(len(points))
+    points = points[at:] + points[:at]
+    return element(0x08, short(0x0D, layer[0]), short(0x0E, layer[1]), xy(points + points[:1]))
+
+
+def path(layer, shape, points):
+    square = shape.ends[0] != 0
+    kind = short(0x21, 2) if square else b""
+    width = record(0x0F, 3, struct.pack(">i", shape.width))
+    return element(0x09, short(0x0D, layer[0]), short(0x0E, layer[1]), kind, width, xy(points))
+
+
+def shape_records(rng, shape):
+    out = []
+    for dx, dy in shape.shifts:
+        points = [(x + dx, y + dy) for x, y in shape.points]
+        out.append(path(shape.layer, shape, points) if shape.kind == "path" else ring(rng, shape.layer, points))
+    rng.shuffle(out)
+    return out
+
+
+def lattice(shifts):
+    """Columns, rows and both steps, where the shifts are such an array, columns first."""
+    for columns in range(1, len(shifts) + 1):
+        rows = len(shifts) // columns
+        a = shifts[1] if columns > 1 else (0, 0)
+        b = shifts[columns] if rows > 1 else (0, 0)
+        if [(i * a[0] + j * b[0], i * a[1] + j * b[1]) for j in range(rows) for i in range(columns)] == shifts:
+            return columns, rows, a, b
+    return None
+
+
+def transform(rng, flip, quarters):
+    if not flip and quarters == 0 and rng.random() < 0.5:
+        return b""
+    magnification = record(0x1B, 5, bytes.fromhex("4110000000000000")) if rng.random() < 0.3 else b""
+    angle = record(0x1C, 5, bytes.fromhex(ANGLES[quarters])) if quarters or rng.random() < 0.5 else b""
+    return short(0x1A, 0x8000 if flip else 0, 1) + magnification + angle
+
+
+def reference_records(rng, reference):
+    name = record(0x12, 6, reference.cell.encode())
+    by = transform(rng, reference.flip, reference.quarters)
+    x, y = reference.at
+    array = lattice(reference.shifts)
+    if array and rng.random() < 0.7:
+        columns, rows, a, b = array
+        size = record(0x13, 2, struct.pack(">HH", columns, rows))
+        far = [(x, y), (x + columns * a[0], y + columns * a[1]), (x + rows * b[0], y + rows * b[1])]
+        return [element(0x0B, name, by, size, xy(far))]
+    return [element(0x0A, name, by, xy([(x + dx, y + dy)])) for dx, dy in reference.shifts]
+
+
+def written(rng, cells):
+    out = [short(0x00, 600), record(0x01, 2, bytes(24)), record(0x02, 6, b"L"), record(0x03, 5, bytes(16))]
+    for cell in cells:
+        elements = [e for s in cell.shapes for e in shape_records(rng, s)]
+        elements += [e for r in cell.references for e in reference_records(rng, r)]
+        rng.shuffle(elements)
+        out += [record(0x05, 2, bytes(24)), record(0x06, 6, cell.name.encode()), *elements, record(0x07, 0)]
+    return b"".join(out) + record(0x04, 0) + bytes(rng.choice([0, 0, 1, 100]))

@@ -1,0 +1,195 @@
+"""A layout as plain values, made at random, and what it covers, square by square.
+
+This is a second reading of the rules, with nothing of lvl's in it: a ring covers a square by its
+winding, a path covers the squares of its runs, and each reference is followed for every square.
+"""
+from collections import namedtuple
+
+Shape = namedtuple("Shape", "layer kind points width ends shifts")
+Reference = namedtuple("Reference", "cell flip quarters at shifts")
+Cell = namedtuple("Cell", "name shapes references")
+
+LAYERS = [(1, 0), (1, 1), (2, 0)]
+NONE = [(0, 0)]
+
+
+def winding(points, x, y):
+    """Edges of the closed ring that go up right of the square, less those that go down."""
+    total = 0
+    for (ax, ay), (bx, by) in zip(points, points[1:] + points[:1]):
+        if ax == bx and ax > x:
+            total += (ay <= y < by) - (by <= y < ay)
+    return total
+
+
+def runs(points):
+    """The steps of a path, those that go on in one direction joined."""
+    joined = [points[0]]
+    for at, point in enumerate(points[1:], 1):
+        after = points[at + 1] if at + 1 < len(points) else None
+        if after is None or (joined[-1][0] == point[0]) != (point[0] == after[0]):
+            joined.append(point)
+    return list(zip(joined, joined[1:]))
+
+
+def bands(points, half, start, end):
+    """The boxes of a path's runs: each is half as wide as the path to both sides, and reaches half of
+    it beyond its corners, `start` and `end` at the path's own ends."""
+    parts = runs(points)
+    boxes = []
+    for at, ((ax, ay), (bx, by)) in enumerate(parts):
+        before = start if at == 0 else half
+        after = end if at == len(parts) - 1 else half
+        if ay == by:
+            low, high = (ax - before, bx + after) if ax < bx else (bx - after, ax + before)
+            boxes.append((low, ay - half, high, ay + half))
+        else:
+            low, high = (ay - before, by + after) if ay < by else (by - after, ay + before)
+            boxes.append((ax - half, low, ax + half, high))
+    return boxes
+
+
+def squares_of(shape):
+    """The squares that a shape covers, unmoved."""
+    if shape.kind == "path":
+        half = shape.width // 2
+        boxes = bands(shape.points, half, *shape.ends)
+        return {(x, y) for x0, y0, x1, y1 in boxes for x in range(x0, x1) for y in range(y0, y1)}
+    xs = [x for x, _ in shape.points]
+    ys = [y for _, y in shape.points]
+    return {
+        (x, y) for x in range(min(xs), max(xs)) for y in range(min(ys), max(ys)) if winding(shape.points, x, y) != 0
+    }
+
+
+def image(square, flip, quarters):
+    """Where the square goes by a reflection along y and then quarter turns, as a square."""
+    x, y = square
+    if flip:
+        y = -y - 1
+    for _ in range(quarters):
+        x, y = -y - 1, x
+    return x, y
+
+
+def covered(cells, name, seen=None):
+    """For each Layer the squares that the cell covers, through all references."""
+    seen = {} if seen is None else seen
+    if name in seen:
+        return seen[name]
+    cell = next(c for c in cells if c.name == name)
+    found = {}
+    for shape in cell.shapes:
+        squares = squares_of(shape)
+        for dx, dy in shape.shifts:
+            found.setdefault(shape.layer, set()).update((x + dx, y + dy) for x, y in squares)
+    for reference in cell.references:
+        for layer, squares in covered(cells, reference.cell, seen).items():
+            placed = [image(s, reference.flip, reference.quarters) for s in squares]
+            for dx, dy in reference.shifts:
+                at = reference.at[0] + dx, reference.at[1] + dy
+                found.setdefault(layer, set()).update((x + at[0], y + at[1]) for x, y in placed)
+    seen[name] = found
+    return found
+
+
+def verdict(first, second, pairs=(), window=None):
+    """The last line of the comparison of what two tops cover, under a map and a window."""
+    targets = dict(pairs)
+    moved = {}
+    for layer, squares in second.items():
+        moved.setdefault(targets.get(layer, layer), set()).update(squares)
+    for layer in sorted(set(first) | set(moved)):
+        apart = first.get(layer, set()) ^ moved.get(layer, set())
+        if window:
+            x0, x1, y0, y1 = window
+            apart = {(x, y) for x, y in apart if x0 <= x < x1 and y0 <= y < y1}
+        if apart:
+            x, y = min(apart, key=lambda s: (s[1], s[0]))
+            side = "first" if (x, y) in first.get(layer, set()) else "second"
+            return "differ: layer %d datatype %d square %d %d only in %s" % (*layer, x, y, side)
+    return "same"
+
+
+def stairs(rng, size):
+    """A rectilinear ring at random: steps along x and y in turn, back to the start; it may cross itself."""
+    points = [(rng.randint(-size, size), rng.randint(-size, size))]
+    for _ in range(rng.choice([1, 1, 2, 3])):
+        x, y = points[-1]
+        points.append((rng.randint(-size, size), y))
+        points.append((points[-1][0], rng.randint(-size, size)))
+    points.append((points[0][0], points[-1][1]))
+    return points if rng.random() < 0.5 else points[::-1]
+
+
+def path_points(rng, half):
+    """A path at random whose runs are at least half as long as it is wide."""
+    x, y = rng.randint(-6, 6), rng.randint(-6, 6)
+    points, along = [(x, y)], rng.random() < 0.5
+    for _ in range(rng.randint(1, 3)):
+        step = rng.randint(half, half + 6) * rng.choice([-1, 1])
+        x, y = (x + step, y) if along else (x, y + step)
+        points.append((x, y))
+        along = not along
+    return points
+
+
+def shifts_of(rng):
+    """Shifts of a repetition, the first of them zero."""
+    kind = rng.randint(0, 4)
+    if kind == 0:
+        a, b = (rng.randint(-9, 9), rng.randint(-9, 9)), (rng.randint(-9, 9), rng.randint(-9, 9))
+        m, n = rng.randint(2, 3), rng.randint(2, 3)
+        return [(i * a[0] + j * b[0], i * a[1] + j * b[1]) for j in range(n) for i in range(m)]
+    if kind == 1:
+        step = (rng.randint(-9, 9), rng.randint(-9, 9))
+        return [(i * step[0], i * step[1]) for i in range(rng.randint(2, 4))]
+    if kind == 2:
+        return NONE + [(rng.randint(-12, 12), rng.randint(-12, 12)) for _ in range(rng.randint(1, 3))]
+    return NONE
+
+
+def shape_of(rng):
+    layer = rng.choice(LAYERS)
+    shifts = shifts_of(rng)
+    if rng.random() < 0.3:
+        half = rng.randint(1, 3)
+        ends = rng.choice([(0, 0), (half, half), (half, half)])
+        return Shape(layer, "path", path_points(rng, half), 2 * half, ends, shifts)
+    if rng.random() < 0.5:
+        x, y, w, h = rng.randint(-9, 9), rng.randint(-9, 9), rng.randint(1, 12), rng.randint(1, 12)
+        return Shape(layer, "ring", [(x, y), (x + w, y), (x + w, y + h), (x, y + h)], 0, (0, 0), shifts)
+    return Shape(layer, "ring", stairs(rng, 9), 0, (0, 0), shifts)
+
+
+def made(rng):
+    """Cells at random, the top last but for the order, which is at random too."""
+    names = ["A", "B", "C", "TOP"][rng.randint(0, 3):]
+    cells = []
+    for at, name in enumerate(names):
+        shapes = [shape_of(rng) for _ in range(rng.randint(0 if at else 1, 3))]
+        below = names[:at]
+        targets = [rng.choice(below) for _ in range(rng.randint(0, 2))] if below else []
+        if name == "TOP":
+            targets += [n for n in below if n not in targets and not any(n == r.cell for c in cells for r in c.references)]
+        references = [
+            Reference(t, rng.random() < 0.5, rng.randint(0, 3), (rng.randint(-12, 12), rng.randint(-12, 12)), shifts_of(rng))
+            for t in targets
+        ]
+        cells.append(Cell(name, shapes, references))
+    rng.shuffle(cells)
+    return cells
+
+
+def changed(rng, cells):
+    """The same with one shape moved by a step, or one left out."""
+    at = rng.randrange(len(cells))
+    cell = cells[at]
+    if not cell.shapes:
+        return cells
+    which = rng.randrange(len(cell.shapes))
+    shape = cell.shapes[which]
+    dx, dy = rng.choice([(1, 0), (0, 1), (-1, 0)])
+    moved = shape._replace(points=[(x + dx, y + dy) for x, y in shape.points])
+    shapes = cell.shapes[:which] + ([moved] if rng.random() < 0.7 else []) + cell.shapes[which + 1:]
+    return cells[:at] + [cell._replace(shapes=shapes)] + cells[at + 1:]

@@ -1,0 +1,266 @@
+"""Writes a layout as OASIS, in one of the many spellings that its records leave open: names or numbers,
+what the record before said left out, absolute or relative positions, and any type of repetition and
+point list that says the same."""
+import struct
+
+EAST, NORTH, WEST, SOUTH = range(4)
+
+
+def unsigned(value, fill=0):
+    groups = [value & 0x7F]
+    while value := value >> 7:
+        groups.append(value & 0x7F)
+    groups += [0] * fill
+    return bytes([g | 0x80 for g in groups[:-1]] + [groups[-1]])
+
+
+def signed(value):
+    return unsigned(2 * abs(value) + (value < 0))
+
+
+def string(data):
+    return unsigned(len(data)) + data
+
+
+def g_delta(rng, x, y):
+    if (x == 0 or y == 0 or abs(x) == abs(y)) and rng.random() < 0.6:
+        directions = {(1, 0): 0, (0, 1): 1, (-1, 0): 2, (0, -1): 3, (1, 1): 4, (-1, 1): 5, (-1, -1): 6, (1, -1): 7}
+        direction = directions.get(((x > 0) - (x < 0), (y > 0) - (y < 0)), rng.randint(0, 7))
+        return unsigned(max(abs(x), abs(y)) << 4 | direction << 1)
+    return unsigned(abs(x) << 2 | (x < 0) << 1 | 1) + unsigned(abs(y) << 1 | (y < 0))
+
+
+def axis_delta(x, y, bits):
+    direction = (EAST if x >= 0 else WEST) if y == 0 else (NORTH if y > 0 else SOUTH)
+    return unsigned((abs(x) + abs(y)) << bits | direction)
+
+
+def steps_of(points):
+    return [(bx - ax, by - ay) for (ax, ay), (bx, by) in zip(points, points[1:])]
+
+
+def along(steps, first):
+    """The steps lie along x and y in turn, the first of them along that axis."""
+    return all(step[1 - (first + at) % 2] == 0 for at, step in enumerate(steps))
+
+
+def point_list(rng, points, closed):
+    """The points as a list of deltas from the first; in a polygon types 0 and 1 leave the last one out."""
+    steps = steps_of(points)
+    kinds = [2, 3, 4, 5]
+    for first in (0, 1):
+        inner = steps[:-1] if closed else steps
+        implied = not closed or points[-1] == ((points[0][0], points[-2][1]) if first == 0 else (points[-2][0], points[0][1]))
+        if inner and along(steps, first) and implied and (not closed or len(inner) % 2 == 0):
+            kinds += [first, first]
+    kind = rng.choice(kinds)
+    if kind < 2:
+        inner = steps[:-1] if closed else steps
+        return unsigned(kind) + unsigned(len(inner)) + b"".join(signed(x + y) for x, y in inner)
+    out = unsigned(kind) + unsigned(len(steps))
+    before = (0, 0)
+    for x, y in steps:
+        if kind == 5:
+            out += g_delta(rng, x - before[0], y - before[1])
+            before = (x, y)
+        else:
+            out += g_delta(rng, x, y) if kind == 4 else axis_delta(x, y, kind)
+    return out
+
+
+def spaces(kind, steps, axis):
+    """Types 4 to 7: spaces along one axis, on a grid or not."""
+    lengths = [step[axis] for step in steps]
+    if any(step[1 - axis] or step[axis] < 0 for step in steps):
+        return None
+    if kind in (5, 7):
+        grid = 3 if all(n % 3 == 0 for n in lengths) else 2 if all(n % 2 == 0 for n in lengths) else 1
+        return unsigned(kind) + unsigned(len(lengths) - 1) + unsigned(grid) + b"".join(unsigned(n // grid) for n in lengths)
+    return unsigned(kind) + unsigned(len(lengths) - 1) + b"".join(unsigned(n) for n in lengths)
+
+
+def repetition(rng, shifts):
+    """Shifts, of which there are two at least, by a type that can say them."""
+    steps, many = steps_of(shifts), len(shifts)
+    found = [unsigned(10) + unsigned(many - 2) + b"".join(g_delta(rng, x, y) for x, y in steps)]
+    grid = 2 if all(x % 2 == 0 and y % 2 == 0 for x, y in steps) else 1
+    found.append(unsigned(11) + unsigned(many - 2) + unsigned(grid) + b"".join(g_delta(rng, x // grid, y // grid) for x, y in steps))
+    for kind, axis in ((4, 0), (5, 0), (6, 1), (7, 1)):
+        said = spaces(kind, steps, axis)
+        found += [said] if said else []
+    if len(set(steps)) == 1:
+        x, y = steps[0]
+        found.append(unsigned(9) + unsigned(many - 2) + g_delta(rng, x, y))
+        if y == 0 and x >= 0:
+            found.append(unsigned(2) + unsigned(many - 2) + unsigned(x))
+        if x == 0 and y >= 0:
+            found.append(unsigned(3) + unsigned(many - 2) + unsigned(y))
+    for columns in (2, 3):
+        rows = many // columns
+        if rows < 2 or rows * columns != many:
+            continue
+        a, b = shifts[1], shifts[columns]
+        if [(i * a[0] + j * b[0], i * a[1] + j * b[1]) for j in range(rows) for i in range(columns)] != shifts:
+            continue
+        found.append(unsigned(8) + unsigned(columns - 2) + unsigned(rows - 2) + g_delta(rng, *a) + g_delta(rng, *b))
+        if a[1] == 0 and b[0] == 0 and a[0] >= 0 and b[1] >= 0:
+            found.append(unsigned(1) + unsigned(columns - 2) + unsigned(rows - 2) + unsigned(a[0]) + unsigned(b[1]))
+    return rng.choice(found)
+
+
+class Body:
+    """The records of one cell, with the modal variables as they stand after each."""
+
+    def __init__(self, rng, numbers):
+        self.rng, self.numbers = rng, numbers
+        self.out, self.modal, self.relative = b"", {}, False
+        self.at = {"geometry": (0, 0), "placement": (0, 0)}
+
+    def field(self, name, value, bits, bit, said):
+        """The field's bytes, or none where the modal variable has the value already; sets its bit."""
+        if self.modal.get(name) == value and self.rng.random() < 0.7:
+            return bits, b""
+        self.modal[name] = value
+        return bits | bit, said
+
+    def position(self, which, at, bits, x_bit):
+        """The bytes of a position; the bit of y is the one below that of x."""
+        x, y = self.at[which]
+        said = b""
+        for bit, old, new in ((x_bit, x, at[0]), (x_bit >> 1, y, at[1])):
+            if old == new and self.rng.random() < 0.7:
+                continue
+            bits |= bit
+            said += signed(new - old if self.relative else new)
+        self.at[which] = at
+        return bits, said
+
+    def repeated(self, shifts, bits, bit):
+        if len(shifts) == 1:
+            return bits, b""
+        if self.modal.get("repetition") == shifts and self.rng.random() < 0.7:
+            return bits | bit, b"\0"
+        self.modal["repetition"] = shifts
+        return bits | bit, repetition(self.rng, shifts)
+
+    def mode(self):
+        if self.rng.random() < 0.2:
+            self.relative = self.rng.random() < 0.5
+            self.out += b"\x10" if self.relative else b"\x0F"
+        if self.rng.random() < 0.05:
+            self.out += b"\0"
+
+    def layer(self, layer):
+        bits, one = self.field("layer", layer[0], 0, 0x01, unsigned(layer[0], self.rng.randint(0, 1)))
+        bits, two = self.field("datatype", layer[1], bits, 0x02, unsigned(layer[1]))
+        return bits, one + two
+
+    def end_of(self, shape, bits, said, start):
+        bits, at = self.position("geometry", start, bits, 0x10)
+        bits, repeated = self.repeated(shape.shifts, bits, 0x04)
+        return bits, said + at + repeated
+
+    def rectangle(self, shape, x, y, w, h):
+        bits, said = self.layer(shape.layer)
+        square = w == h and self.rng.random() < 0.5
+        if square:
+            bits |= 0x80
+        bits, wide = self.field("w", w, bits, 0x40, unsigned(w))
+        if square:
+            self.modal["h"], high = w, b""
+        else:
+            bits, high = self.field("h", h, bits, 0x20, unsigned(h))
+        bits, said = self.end_of(shape, bits, said + wide + high, (x, y))
+        self.out += b"\x14" + bytes([bits]) + said
+
+    def polygon(self, shape):
+        bits, said = self.layer(shape.layer)
+        shape_of = steps_of(shape.points)
+        bits, points = self.field("polygon", shape_of, bits, 0x20, point_list(self.rng, shape.points, True))
+        bits, said = self.end_of(shape, bits, said + points, shape.points[0])
+        self.out += b"\x15" + bytes([bits]) + said
+
+    def extension(self, reach, half):
+        """A scheme for one end, and the number that it takes."""
+        schemes = [(3, signed(reach))] + ([(1, b"")] if reach == 0 else []) + ([(2, b"")] if reach == half else [])
+        return self.rng.choice(schemes)
+
+    def path(self, shape):
+        half = shape.width // 2
+        bits, said = self.layer(shape.layer)
+        bits, wide = self.field("half", half, bits, 0x40, unsigned(half))
+        if self.modal.get("ends") != shape.ends or self.rng.random() < 0.3:
+            (first, one), (last, two) = self.extension(shape.ends[0], half), self.extension(shape.ends[1], half)
+            self.modal["ends"] = shape.ends
+            bits, wide = bits | 0x80, wide + unsigned(first << 2 | last) + one + two
+        bits, points = self.field("path", steps_of(shape.points), bits, 0x20, point_list(self.rng, shape.points, False))
+        bits, said = self.end_of(shape, bits, said + wide + points, shape.points[0])
+        self.out += b"\x16" + bytes([bits]) + said
+
+    def shape(self, shape):
+        self.mode()
+        xs, ys = [x for x, _ in shape.points], [y for _, y in shape.points]
+        corners = [(min(xs), min(ys)), (max(xs), min(ys)), (max(xs), max(ys)), (min(xs), max(ys))]
+        if shape.kind == "path":
+            self.path(shape)
+        elif shape.points == corners and self.rng.random() < 0.7:
+            self.rectangle(shape, *corners[0], max(xs) - min(xs), max(ys) - min(ys))
+        else:
+            self.polygon(shape)
+
+    def reference(self, reference):
+        self.mode()
+        bits, cell = 0, b""
+        if self.modal.get("cell") != reference.cell or self.rng.random() < 0.3:
+            bits, cell = 0x80, string(reference.cell.encode())
+            if self.numbers is not None and self.rng.random() < 0.5:
+                bits, cell = 0xC0, unsigned(self.numbers[reference.cell])
+            self.modal["cell"] = reference.cell
+        bits, at = self.position("placement", reference.at, bits, 0x20)
+        bits, repeated = self.repeated(reference.shifts, bits, 0x08)
+        if self.rng.random() < 0.5:
+            self.out += b"\x11" + bytes([bits | reference.quarters << 1 | reference.flip]) + cell + at + repeated
+            return
+        by = b""
+        if self.rng.random() < 0.5:
+            bits, by = bits | 0x04, self.rng.choice([b"\0\1", b"\2\1", b"\4\3\3"])
+        if reference.quarters or self.rng.random() < 0.5:
+            angle = 90 * reference.quarters
+            bits, by = bits | 0x02, by + self.rng.choice([b"\0" + unsigned(angle), b"\4" + unsigned(2 * angle) + b"\2"])
+        self.out += b"\x12" + bytes([bits | reference.flip]) + cell + by + at + repeated
+
+
+def names(rng, numbers):
+    """The name records, with the numbers told or counted."""
+    if rng.random() < 0.5:
+        ordered = sorted(numbers, key=numbers.get)
+        return b"".join(b"\x03" + string(name.encode()) for name in ordered)
+    listed = list(numbers)
+    rng.shuffle(listed)
+    return b"".join(b"\x04" + string(name.encode()) + unsigned(numbers[name]) for name in listed)
+
+
+def cell_records(rng, cell, numbers):
+    by_number = numbers is not None and rng.random() < 0.5
+    body = Body(rng, numbers)
+    items = [("shape", s) for s in cell.shapes] + [("reference", r) for r in cell.references]
+    rng.shuffle(items)
+    for kind, item in items:
+        body.shape(item) if kind == "shape" else body.reference(item)
+    head = b"\x0D" + unsigned(numbers[cell.name]) if by_number else b"\x0E" + string(cell.name.encode())
+    return head + body.out
+
+
+def written(rng, cells):
+    numbers = {cell.name: at for at, cell in enumerate(rng.sample(cells, len(cells)))} if rng.random() < 0.7 else None
+    tables_at_end = rng.random() < 0.3
+    unit = rng.choice([b"\0\xE8\x07", b"\x02\x05", b"\x04\x02\x08", b"\x07" + struct.pack("<d", 1000.0)])
+    start = b"\x01" + string(b"1.0") + unit + (b"\1" if tables_at_end else b"\0" + bytes(12))
+    tables = bytes(12) if tables_at_end else b""
+    scheme = rng.choice([b"\0", b"\0", b"\1abcd", b"\2wxyz"])
+    room = 256 - 1 - len(tables) - len(scheme) - 2
+    end = b"\x02" + tables + unsigned(room) + bytes(room) + scheme
+    body = [cell_records(rng, cell, numbers) for cell in cells]
+    table = names(rng, numbers) if numbers is not None else b""
+    parts = [table, *body] if rng.random() < 0.5 else [*body, table]
+    return b"%SEMI-OASIS\r\n" + start + b"".join(parts) + end
