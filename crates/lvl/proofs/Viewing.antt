@@ -6,7 +6,8 @@ use Rattle.lvl_cells.specs.Cells.{PlainCell, Rings}
 use Rattle.lvl_cells.specs.Coverage.{RingsCover}
 use Rattle.lvl_flat.specs.Sheet.{PlainSheet}
 use Rattle.lvl_flat.specs.Sheets.{rings_on}
-use Rattle.lvl_region.specs.Region.{IsAlone}
+use Rattle.lvl_columns.specs.Windows.{IsShown}
+use Rattle.lvl_flat.specs.Mapped.{IsMapped}
 use Rattle.lvl_view.specs.Views.{PlainView}
 use Rattle.lvl_view.specs.declared.map.LayerPair.{LayerPair}
 use Rattle.lvl.specs.Drawing.{Drawing}
@@ -16,7 +17,7 @@ use Rattle.lvl.specs.declared.verdict.Verdict.TheVariants.{Same, Differ}
 use Rattle.lvl.specs.Layouts.{File, IsLayoutOf}
 use Rattle.lvl.specs.Accepted.{Draws, IsVerdict}
 use Rattle.lvl.specs.Kept.{IsKeptViewVerdict}
-use Rattle.lvl.specs.Views.{IsComparedIn, IsMoved, IsSeenIn, IsVerdictOf, IsViewVerdict, IsWhole}
+use Rattle.lvl.specs.Views.{IsComparedIn, IsFlatViewVerdict, IsMoved, IsVerdictOf, IsViewVerdict, IsWhole}
 use Rattle.lvl.proofs.Lifting.{alone_lifted, both_lifted, lifted}
 
 -- a verdict on what covers the same squares is the same
@@ -43,6 +44,19 @@ moved_same pairs Q Q' q l s = (
 itself : {A : Type 0} → A ↔ A
 itself = (λ a. a, λ a. a)
 
+-- a verdict on a flat layout that was mapped is one under the map
+pub mapped_verdict : (view : PlainView) (ours theirs mapped : List PlainSheet) → IsMapped view.pairs theirs mapped → (v : Verdict)
+    → IsVerdictOf (IsShown view.window) (λ layer. RingsCover (rings_on layer ours)) (λ layer. RingsCover (rings_on layer mapped)) v
+    → IsFlatViewVerdict view ours theirs v
+mapped_verdict view ours theirs mapped is v = verdict_of_same (IsShown view.window) (IsShown view.window)
+    (λ layer. RingsCover (rings_on layer ours)) (λ layer. RingsCover (rings_on layer ours))
+    (λ layer. RingsCover (rings_on layer mapped)) (IsMoved view.pairs (λ layer. RingsCover (rings_on layer theirs)))
+    (λ s seen. seen) (λ s seen. seen) (λ l s. itself)
+    (λ l s. (
+      λ h. let c = (is l s).0 h in record { source = c.source; is_target = c.target_is; covers = c.covered },
+      λ m. (is l s).1 (record { source = m.source; target_is = m.is_target; covered = m.covers }),
+    )) v
+
 -- without pairs nothing is moved
 moved_none : (pairs : List LayerPair) → pairs ≡ [] → (Q : Layer → Square → Type 0) (l : Layer) (s : Square) → IsMoved pairs Q l s ↔ Q l s
 moved_none pairs none Q l s = (
@@ -52,7 +66,7 @@ moved_none pairs none Q l s = (
 
 -- under a view without pairs and without a window the verdict is that on the whole files
 pub whole_verdict : (view : PlainView) → IsWhole view → (a b : File) (v : Verdict) → IsViewVerdict view a b v → IsVerdict a b v
-whole_verdict view whole a b v h = go v (verdict_of_same (IsSeenIn view.window) (λ s. Unit {0})
+whole_verdict view whole a b v h = go v (verdict_of_same (IsShown view.window) (λ s. Unit {0})
     (Draws h.both.ours h.both.our_top) (Draws h.both.ours h.both.our_top)
     (IsMoved view.pairs (Draws h.both.theirs h.both.their_top)) (Draws h.both.theirs h.both.their_top)
     (λ s all. rw whole.no_window tt) (λ s seen. tt)
@@ -79,7 +93,7 @@ compared_in view a b ours theirs g h p q v k =
       second = (q.cells, q.spelled);
       verdict = record {
         both = record { ours = p.cells; our_top = x.top; theirs = q.cells; their_top = y.top; first = x.accepted; second = y.accepted };
-        verdict = verdict_of_same (IsSeenIn view.window) (IsSeenIn view.window)
+        verdict = verdict_of_same (IsShown view.window) (IsShown view.window)
             (λ layer. RingsCover (rings_on layer k.ours)) (Draws p.cells x.top)
             (IsMoved view.pairs (λ layer. RingsCover (rings_on layer k.theirs))) (IsMoved view.pairs (Draws q.cells y.top))
             (λ s seen. seen) (λ s seen. seen) x.draws

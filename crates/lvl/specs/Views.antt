@@ -1,14 +1,13 @@
 -- What a verdict says of two files under a view: a map of Layers for the second file, and a window (own rule).
-use Rattle.std.specs.Prelude.{◌≡◌, ◌↔◌, ⊤, List, [], Option, Some, None}
+use Rattle.std.specs.Prelude.{◌≡◌, ◌↔◌, List, [], None}
 use Rattle.lvl_grid.specs.declared.point.Square.{Square}
-use Rattle.lvl_grid.specs.declared.point.Window.{Window}
-use Rattle.lvl_grid.specs.Clip.{IsWithin}
 use Rattle.lvl_grid.specs.Squares.{IsBefore}
 use Rattle.lvl_cells.specs.declared.layer.Layer.{Layer}
 use Rattle.lvl_cells.specs.Layers.{ComesBefore}
 use Rattle.lvl_cells.specs.Coverage.{RingsCover}
 use Rattle.lvl_flat.specs.Sheet.{PlainSheet}
 use Rattle.lvl_flat.specs.Sheets.{rings_on}
+use Rattle.lvl_columns.specs.Windows.{IsShown}
 use Rattle.lvl_region.specs.Region.{IsAlone}
 use Rattle.lvl_region.specs.declared.region.Side.{Side}
 use Rattle.lvl_view.specs.Views.{PlainView, target_of}
@@ -19,11 +18,6 @@ use Rattle.lvl.specs.Accepted.{AreAccepted, Draws}
 use Rattle.lvl.specs.declared.verdict.Comparison.{Comparison}
 use Rattle.lvl.specs.declared.verdict.Verdict.{Verdict}
 use Rattle.lvl.specs.declared.verdict.Verdict.TheVariants.{Same, Differ}
-
--- the square is one of the window's, or there is no window
-abbrev pub IsSeenIn : Option Window → Square → Type 0
-IsSeenIn None s = ⊤
-IsSeenIn (Some w) s = IsWithin w s
 
 -- what covers squares on a Layer covers, under the map, one on the Layer's target: all pairs apply at once, and a Layer
 -- that is no source is its own target
@@ -49,7 +43,7 @@ IsVerdictOf Seen Ours Theirs (Differ layer square side) = IsFirstApartOf Seen Ou
 -- what the second draws with its Layers mapped
 pub record IsViewVerdict (view : PlainView) (a b : File) (v : Verdict) : Type 0 where
   pub both : AreAccepted a b
-  pub verdict : IsVerdictOf (IsSeenIn view.window) (Draws both.ours both.our_top) (IsMoved view.pairs (Draws both.theirs both.their_top)) v
+  pub verdict : IsVerdictOf (IsShown view.window) (Draws both.ours both.our_top) (IsMoved view.pairs (Draws both.theirs both.their_top)) v
 
 -- the heads are those that the bytes spell, and the verdict holds
 pub record IsComparedIn (view : PlainView) (a b : File) (c : Comparison) : Type 0 where
@@ -64,5 +58,5 @@ pub record IsWhole (view : PlainView) : Type 0 where
 
 -- what a verdict says of two flat layouts under a view
 abbrev pub IsFlatViewVerdict : PlainView → List PlainSheet → List PlainSheet → Verdict → Type 0
-IsFlatViewVerdict view a b v = IsVerdictOf (IsSeenIn view.window) (λ layer. RingsCover (rings_on layer a))
+IsFlatViewVerdict view a b v = IsVerdictOf (IsShown view.window) (λ layer. RingsCover (rings_on layer a))
     (IsMoved view.pairs (λ layer. RingsCover (rings_on layer b))) v
