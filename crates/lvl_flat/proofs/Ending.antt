@@ -110,7 +110,7 @@ sorted_cons t ss before sorted zero (suc j) d lt in' = before j d (omega arith)
 sorted_cons t ss before sorted (suc i) zero d lt in' = absurd (omega arith)
 sorted_cons t ss before sorted (suc i) (suc j) d lt in' = sorted i j d (omega arith) (omega arith)
 
-comes_before_rest : (t : PlainSheet) (ss : List PlainSheet) → AreSorted (t ∷ ss) → All (λ s. ComesBefore t.layer s.layer) ss
+pub comes_before_rest : (t : PlainSheet) (ss : List PlainSheet) → AreSorted (t ∷ ss) → All (λ s. ComesBefore t.layer s.layer) ss
 comes_before_rest t ss sorted = λ k d inside. sorted 0 (suc k) d (omega arith) (omega arith)
 
 sorted_filter : (p : PlainSheet → Bool) (ss : List PlainSheet) → AreSorted ss → AreSorted (filter p ss)

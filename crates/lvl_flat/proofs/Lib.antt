@@ -7,6 +7,7 @@ pub mod Stepping
 pub mod Walking
 pub mod Going
 pub mod Ending
+pub mod Mapping
 mod Listing
 pub mod Corners
 pub mod Holding

@@ -14,7 +14,7 @@ use Rattle.std.proofs.lemmas.Option.{slice_get_within, get_or_from_slice_get}
 use Rattle.lvl_cells.specs.declared.layer.Layer.{Layer}
 use Rattle.lvl_cells.specs.Cells.{PlainCell, PlainShape, Rings}
 use Rattle.lvl_flat.specs.Sheet.{PlainSheet}
-use Rattle.lvl_flat.specs.Sheets.{AreSorted}
+use Rattle.lvl_flat.specs.Sheets.{AreSorted, ContainsAll}
 use Rattle.lvl_cells.specs.Layers.{ComesBefore, same_layer}
 use Rattle.lvl_cells.proofs.Layers.{tested_layer}
 use Rattle.lvl_flat.specs.Walking.{AllHaveSheets}
@@ -69,14 +69,10 @@ same_is a b h = tested_layer a b (ap not h)
 layer_equiv : IsEquivalence same_layer
 layer_equiv = and_equiv (on_equiv (λ (l : Layer). l.layer) nat_eq_equiv) (on_equiv (λ (l : Layer). l.datatype) nat_eq_equiv)
 
--- each shape's Layer has its sheet
-pub sheets_there : (cells : List (PlainCell Rings)) (layers sorted : List Layer) (ss : List PlainSheet) → All (λ (c : PlainCell Rings). All (λ h. Contains layers h.layer) c.shapes) cells → IsPermutation layers sorted
-    → map (λ s. s.layer) ss ≡ dedup same_layer sorted → AllHaveSheets ss cells
-sheets_there cells layers sorted ss all moved e k c at i d lt =
-    let layer : Layer = (get_or c.shapes i d).layer in
-    let here : get_or cells k c ≡ c = get_or_from_slice_get cells k c c at in
-    let own : All (λ h. Contains layers h.layer) c.shapes = subst (λ (z : PlainCell Rings). All (λ h. Contains layers h.layer) z.shapes) here (all k c (slice_get_within cells k c at)) in
-    subst (λ ls. Contains ls layer) (sym e) (Contains-dedup layer_equiv same_is sorted layer (Contains-permutation layers sorted layer moved (own i d lt)))
+-- each of the Layers has its sheet
+pub sheets_there : (layers sorted : List Layer) (ss : List PlainSheet) → IsPermutation layers sorted → map (λ s. s.layer) ss ≡ dedup same_layer sorted → ContainsAll (map (λ s. s.layer) ss) layers
+sheets_there layers sorted ss moved e =
+    All-weaker {X = Layer} (Contains layers) (Contains (map (λ s. s.layer) ss)) (λ l has. subst (λ ls. Contains ls l) (sym e) (Contains-dedup layer_equiv same_is sorted l (Contains-permutation layers sorted l moved has))) layers (All-contains_itself layers)
 
 -- Layers that are among these are among those that these are among
 pub among : (fewer more : List Layer) (shapes : List (PlainShape Rings)) → All (Contains more) fewer → All (λ h. Contains fewer h.layer) shapes → All (λ h. Contains more h.layer) shapes
@@ -95,3 +91,10 @@ AreListed layers c = All (λ h. Contains layers h.layer) c.shapes
 
 pub still_listed : (fewer more : List Layer) (cells : List (PlainCell Rings)) → All (Contains more) fewer → All (AreListed fewer) cells → All (AreListed more) cells
 still_listed fewer more cells wider h = All-weaker {X = PlainCell Rings} (AreListed fewer) (AreListed more) (λ c. among fewer more c.shapes wider) cells h
+
+-- each shape's Layer has its sheet
+pub cells_there : (cells : List (PlainCell Rings)) (layers : List Layer) (ss : List PlainSheet) → All (AreListed layers) cells → ContainsAll (map (λ s. s.layer) ss) layers → AllHaveSheets ss cells
+cells_there cells layers ss all there k c at =
+    let here : get_or cells k c ≡ c = get_or_from_slice_get cells k c c at in
+    let own : AreListed layers c = subst (AreListed layers) here (all k c (slice_get_within cells k c at)) in
+    among layers (map (λ s. s.layer) ss) c.shapes there own

@@ -2,6 +2,7 @@ pub mod Sheet
 pub mod Sheets
 pub mod Drawn
 pub mod Flattened
+pub mod Mapped
 pub mod Visits
 pub mod Walking
 pub mod Steps

@@ -62,6 +62,14 @@ impl Flat {
         })
     }
 
+    /// The sheets of all Layers that have a ring.
+    pub(crate) fn into_sheets(self) -> Vec<Sheet>
+        ensures sheets { result.items ≡ self }
+        ensures in_order { IsInOrder self }
+    {
+        self.sheets
+    }
+
     /// The number of Layers that have a ring.
     pub fn len(&self) -> usize
         ensures { result ≡ length self.now }

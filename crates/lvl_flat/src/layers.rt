@@ -48,7 +48,15 @@ pub(crate) fn sheets_of(alloc: Global, cells: &[Cell]) -> Result<Vec<Sheet>, All
     ensures layers { IfOk result (λ sheets. AllHaveSheets sheets.items cells.now) }
     ensures empty { IfOk result (λ sheets. All (λ s. s.rings ≡ []) sheets.items) }
 {
-    let mut layers = layers_of(alloc, cells)?;
+    sheets_for(alloc, layers_of(alloc, cells)?)
+}
+
+/// An empty sheet for each of the Layers, in their order; one for a Layer that is there twice.
+pub(crate) fn sheets_for(alloc: Global, mut layers: Vec<Layer>) -> Result<Vec<Sheet>, AllocError>
+    ensures sorted { IfOk result (λ sheets. AreSorted sheets.items) }
+    ensures layers { IfOk result (λ sheets. ContainsAll (map (λ s. s.layer) sheets.items) layers.items) }
+    ensures empty { IfOk result (λ sheets. All (λ s. s.rings ≡ []) sheets.items) }
+{
     layers.sort()?;
     layers.dedup();
     empty_sheets(alloc, &layers)

@@ -2,7 +2,8 @@
 //!
 //! [`flatten`] walks the chains of references from the top and places each ring that it meets.
 //! What it gives, a [`Flat`], has for each Layer a list of rings that together cover exactly what
-//! the top covers there. [`flatten_shapes`] gives the same of one cell's own shapes.
+//! the top covers there. [`flatten_shapes`] gives the same of one cell's own shapes, and
+//! [`Flat::mapped`] moves the rings of each Layer to the Layer that it counts as in a view.
 #![tactic(auto)]
 
 pub use advance::flatten;
@@ -20,6 +21,7 @@ mod enter;
 mod fault;
 mod flat;
 mod layers;
+mod mapped;
 mod shapes;
 mod visit;
 mod walk;
