@@ -1,5 +1,5 @@
 -- A column gives way to its halves, or to what a sweep of it finds.
-use Rattle.std.proofs.Common.{◌≡◌, ℤ, ◌<ℤ◌, ◌≤ℤ◌, List, [], ◌∷◌, ◌++◌, length, All, Option, Some, None, ◌⊎◌, inl, inr, ◌↔◌, refl, subst, sym, IfNone, IfSome, arith}
+use Rattle.std.proofs.Common.{◌≡◌, ℤ, ◌<ℤ◌, ◌≤ℤ◌, List, [], ◌∷◌, ◌++◌, length, All, Some, None, ◌⊎◌, inl, inr, ◌↔◌, refl, subst, sym, IfNone, IfSome, arith}
 use Rattle.std.proofs.lemmas.Int.{by_lt_z, ints}
 use Rattle.std.proofs.lemmas.List.{take_at, drop_at}
 use Rattle.std.proofs.lemmas.List.Elements.{All-take, All-drop, All-head, All-push, All-nil, All-cons}

@@ -1,5 +1,5 @@
 -- The columns that are still to be compared, and what they leave open. These serve the proof alone.
-use Rattle.std.specs.Prelude.{◌≡◌, ℕ, ◌+◌, ◌*◌, ℤ, ◌<ℤ◌, ◌≤ℤ◌, List, [], ◌∷◌, ◌++◌, map, Any, All, Option, Some, None, ◌⊎◌, ◌↔◌, vec_len}
+use Rattle.std.specs.Prelude.{ℕ, ◌+◌, ◌*◌, ℤ, ◌<ℤ◌, ◌≤ℤ◌, List, [], ◌∷◌, ◌++◌, map, Any, All, Option, Some, None, ◌⊎◌, ◌↔◌, vec_len}
 use Rattle.lvl_grid.specs.declared.point.Point.{Point}
 use Rattle.lvl_grid.specs.declared.point.Square.{Square}
 use Rattle.lvl_grid.specs.Winding.{SomeCovers}

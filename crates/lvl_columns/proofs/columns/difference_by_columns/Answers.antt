@@ -1,4 +1,4 @@
-use Rattle.std.proofs.Common.{◌≡◌, length, ◌++◌, ◌∷◌, [], List, map, None, ap, subst, sym, ◌∙◌, arith}
+use Rattle.std.proofs.Common.{◌≡◌, length, ◌++◌, ◌∷◌, [], List, map, ap, subst, ◌∙◌, arith}
 use Rattle.std.proofs.lemmas.List.{map-append, nil_from_length}
 use Rattle.lvl_grid.specs.declared.point.Point.{Point}
 use Rattle.lvl_columns.specs.declared.columns.Column.{Column}

@@ -1,7 +1,7 @@
-use Rattle.std.proofs.Common.{◌≡◌, ◌++◌, ◌∷◌, [], List, map, ap, subst, sym, ◌∙◌}
+use Rattle.std.proofs.Common.{◌≡◌, ◌++◌, ◌∷◌, [], List, map, ap, ◌∙◌}
 use Rattle.std.proofs.lemmas.List.{map-append}
 use Rattle.lvl_columns.specs.declared.columns.Column.{Column}
-use Rattle.lvl_columns.specs.Columns.{Lists, lists_of, IsOpen, AreHalves}
+use Rattle.lvl_columns.specs.Columns.{Lists, lists_of, AreHalves}
 use Rattle.lvl_columns.proofs.Halving.{open_by_none, open_by_halves}
 use Rattle.lvl_columns.proofs.columns.Progress.step.Goals as goal
 

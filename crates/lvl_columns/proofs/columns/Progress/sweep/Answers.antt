@@ -1,5 +1,5 @@
-use Rattle.std.proofs.Common.{◌≡◌, map, subst, Option}
-use Rattle.lvl_columns.specs.Columns.{lists_of, last_row}
+use Rattle.std.proofs.Common.{map}
+use Rattle.lvl_columns.specs.Columns.{lists_of}
 use Rattle.lvl_columns.proofs.Halving.{found_up_to, open_by_one}
 use Rattle.lvl_columns.proofs.columns.Progress.sweep.Goals as goal
 
