@@ -42,3 +42,7 @@ pub least_there : (P : Square → Type 0) (f g shown_f shown_g : List (List Poin
     → IfSome found (λ at. (s : Square) → P s → IsBefore s at.0 → SomeCovers f s ↔ SomeCovers g s)
 least_there P f g shown_f shown_g None hf hg least = tt
 least_there P f g shown_f shown_g (Some at) hf hg least = λ s p before. agree_there P f g shown_f shown_g s hf hg p (least s before)
+
+-- where all squares are of the part, rings cover there what they cover
+pub cover_all : (P : Square → Type 0) → ((s : Square) → P s) → (rings : List (List Point)) → CoverIn P rings rings
+cover_all P all rings s = (λ a. (all s, a), λ a. a.1)

@@ -7,7 +7,7 @@
 #![tactic(auto)]
 
 pub use columns::difference_by_columns;
-pub use window::first_difference_in;
+pub use window::{difference_in, first_difference_in};
 
 mod columns;
 mod estimate;

@@ -4,27 +4,47 @@ ghost use Rattle.lvl_grid.specs.declared.point.Square.{Square as GridSquare};
 ghost use Rattle.lvl_grid.specs.Winding.{SomeCovers};
 ghost use Rattle.lvl_grid.specs.Squares.{IsBefore};
 ghost use Rattle.lvl_region.specs.Region.{IsAlone};
-ghost use Rattle.lvl_columns.specs.Windows.{IsShown};
+ghost use Rattle.lvl_columns.specs.Windows.{IsShown, window_of};
 
 use crate::columns::difference_by_columns;
 use lvl_grid::{Part, Ring, Rings, Square, Window};
 use lvl_region::Side;
 use std::alloc::{AllocError, Global};
 
-/// What the rings cover in the window, in all the plane where there is no window.
-fn shown(alloc: Global, rings: &[Ring], window: Option<&Window>) -> Result<Rings, AllocError>
-    ensures { IfOk result
-        (λ shown. (s : GridSquare) → SomeCovers shown s ↔ (IsShown window.entry s × SomeCovers rings.now s)) }
-{
-    match window {
-        None => Rings::from_slice(alloc, rings),
-        Some(window) => Rings::clipped(alloc, &rings, &Part::Within(*window)),
-    }
-}
-
 /// The least square of the window, by y and then x, that the rings of one list alone cover, with
 /// its side, or None where both lists cover the same squares of it. Where there is no window, all
 /// squares count. Fails only when out of memory.
+pub fn difference_in(
+    alloc: Global,
+    first: &Rings,
+    second: &Rings,
+    window: Option<&Window>,
+) -> Result<Option<(Square, Side)>, AllocError>
+    ensures same { IfOk result
+        (λ found. IfNone found
+        ((s : GridSquare) → IsShown (window_of window.entry) s → SomeCovers first.now s ↔ SomeCovers second.now s)) }
+    ensures differ { IfOk result
+        (λ found. IfSome found (λ at. IsAlone (SomeCovers first.now) (SomeCovers second.now) at.0 at.1)) }
+    ensures shown { IfOk result (λ found. IfSome found (λ at. IsShown (window_of window.entry) at.0)) }
+    ensures least { IfOk result
+        (λ found. IfSome found
+        (λ at. (s : GridSquare)
+        → IsShown (window_of window.entry) s
+        → IsBefore s at.0
+        → SomeCovers first.now s ↔ SomeCovers second.now s)) }
+{
+    match window {
+        None => difference_by_columns(alloc, first, second),
+        Some(window) => {
+            let part = Part::Within(*window);
+            let ours = Rings::clipped(alloc, first, &part)?;
+            let theirs = Rings::clipped(alloc, second, &part)?;
+            difference_by_columns(alloc, &ours, &theirs)
+        }
+    }
+}
+
+/// The same of two slices of rings.
 pub fn first_difference_in(
     alloc: Global,
     first: &[Ring],
@@ -33,18 +53,18 @@ pub fn first_difference_in(
 ) -> Result<Option<(Square, Side)>, AllocError>
     ensures same { IfOk result
         (λ found. IfNone found
-        ((s : GridSquare) → IsShown window.entry s → SomeCovers first.now s ↔ SomeCovers second.now s)) }
+        ((s : GridSquare) → IsShown (window_of window.entry) s → SomeCovers first.now s ↔ SomeCovers second.now s)) }
     ensures differ { IfOk result
         (λ found. IfSome found (λ at. IsAlone (SomeCovers first.now) (SomeCovers second.now) at.0 at.1)) }
-    ensures shown { IfOk result (λ found. IfSome found (λ at. IsShown window.entry at.0)) }
+    ensures shown { IfOk result (λ found. IfSome found (λ at. IsShown (window_of window.entry) at.0)) }
     ensures least { IfOk result
         (λ found. IfSome found
         (λ at. (s : GridSquare)
-        → IsShown window.entry s
+        → IsShown (window_of window.entry) s
         → IsBefore s at.0
         → SomeCovers first.now s ↔ SomeCovers second.now s)) }
 {
-    let ours = shown(alloc, first, window)?;
-    let theirs = shown(alloc, second, window)?;
-    difference_by_columns(alloc, &ours, &theirs)
+    let ours = Rings::from_slice(alloc, first)?;
+    let theirs = Rings::from_slice(alloc, second)?;
+    difference_in(alloc, &ours, &theirs, window)
 }
