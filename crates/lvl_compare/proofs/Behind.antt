@@ -86,18 +86,23 @@ not_among l m h (s ∷ us) sorted e b (inr a) =
     let same : s.layer ≡ h = cc in
     before_itself l (before_trans l s.layer l (subst (ComesBefore l) (sym same) b) (head_first l s us sorted a))
 
--- two lists of sheets were walked, and this is left of each: where they are not alike is still to come
-abbrev pub IsWalked : (a b us vs : List PlainSheet) → Type 0
-IsWalked a b us vs = (l : Layer) → AlikeOn a b l ⊎ (Among l us ⊎ Among l vs)
+-- two lists of sheets were walked, and this is left of each: a Layer that is not yet passed as alike is still to come
+abbrev pub IsWalked : (Layer → Type 0) → (us vs : List PlainSheet) → Type 0
+IsWalked alike us vs = (l : Layer) → alike l ⊎ (Among l us ⊎ Among l vs)
 
-pub walked_none : (a b : List PlainSheet) → IsWalked a b a b
-walked_none a b l = elim (among_or_none l a) [
+-- at first only a Layer that neither has is passed
+pub walked_none : (alike : Layer → Type 0) (a b : List PlainSheet) → ((l : Layer) → rings_on l a ≡ [] → rings_on l b ≡ [] → alike l) → IsWalked alike a b
+walked_none alike a b none l = elim (among_or_none l a) [
   | inl x ↦ inr (inl x)
   | inr x ↦ elim (among_or_none l b) [
     | inl y ↦ inr (inr y)
-    | inr y ↦ inl (λ s. rw (x, y) (λ h. h, λ h. h))
+    | inr y ↦ inl (none l x y)
   ]
 ]
+
+-- and neither covers anything there
+pub alike_absent : (a b : List PlainSheet) (l : Layer) → rings_on l a ≡ [] → rings_on l b ≡ [] → AlikeOn a b l
+alike_absent a b l x y s = rw (x, y) (λ h. h, λ h. h)
 
 pub sorted_drop : (n : ℕ) (us : List PlainSheet) → AreSorted us → AreSorted (drop n us)
 sorted_drop zero us p = p
@@ -105,9 +110,9 @@ sorted_drop (suc n) [] p = p
 sorted_drop (suc n) (s ∷ us) p = sorted_drop n us (sorted_tail s us p)
 
 -- one Layer further, where both are alike on it
-pub walked_more : (a b us vs : List PlainSheet) (m : Layer) → IsWalked a b us vs → AlikeOn a b m → IsWalked a b (behind m us) (behind m vs)
-walked_more a b us vs m w alike l =
-    let here : l ≡ m → AlikeOn a b l = λ e. subst (AlikeOn a b) (sym e) alike in
+pub walked_more : (alike : Layer → Type 0) (us vs : List PlainSheet) (m : Layer) → IsWalked alike us vs → alike m → IsWalked alike (behind m us) (behind m vs)
+walked_more alike us vs m w passed l =
+    let here : l ≡ m → alike l = λ e. subst alike (sym e) passed in
     elim (w l) [
       | inl x ↦ inl x
       | inr x ↦ elim x [
@@ -117,11 +122,11 @@ walked_more a b us vs m w alike l =
     ]
 
 -- nothing is left: both are alike on all Layers
-pub walked_all : (a b us vs : List PlainSheet) → IsWalked a b us vs → IsLesser (head_layer us) (head_layer vs) None → (l : Layer) → AlikeOn a b l
-walked_all a b [] [] w e l = elim (w l) [ inl x ↦ x | inr x ↦ elim x [ inl y ↦ absurd y | inr y ↦ absurd y ] ]
-walked_all a b [] (t ∷ vs) w e l = cc
-walked_all a b (s ∷ us) [] w e l = cc
-walked_all a b (s ∷ us) (t ∷ vs) w e l = elim e [ inl x ↦ (let y = x.0 in cc) | inr x ↦ (let y = x.0 in cc) ]
+pub walked_all : (alike : Layer → Type 0) (us vs : List PlainSheet) → IsWalked alike us vs → IsLesser (head_layer us) (head_layer vs) None → (l : Layer) → alike l
+walked_all alike [] [] w e l = elim (w l) [ inl x ↦ x | inr x ↦ elim x [ inl y ↦ absurd y | inr y ↦ absurd y ] ]
+walked_all alike [] (t ∷ vs) w e l = cc
+walked_all alike (s ∷ us) [] w e l = cc
+walked_all alike (s ∷ us) (t ∷ vs) w e l = elim e [ inl x ↦ (let y = x.0 in cc) | inr x ↦ (let y = x.0 in cc) ]
 
 before_or : (a b : Layer) → (ComesBefore b a → ⊥) → (a ≡ b) ⊎ ComesBefore a b
 before_or a b late = elim (cases_lt a.layer b.layer) [
@@ -154,15 +159,15 @@ before_head l m h b (inl e) = subst (ComesBefore l) e b
 before_head l m h b (inr c) = before_trans l m h b c
 
 -- on a Layer before the lesser head both are alike
-pub walked_before : (a b us vs : List PlainSheet) (m l : Layer) → AreSorted us → AreSorted vs → IsWalked a b us vs → IsLesser (head_layer us) (head_layer vs) (Some m) → ComesBefore l m → AlikeOn a b l
-walked_before a b [] [] m l ours theirs w e before = cc
-walked_before a b [] (t ∷ vs) m l ours theirs w e before =
+pub walked_before : (alike : Layer → Type 0) (us vs : List PlainSheet) (m l : Layer) → AreSorted us → AreSorted vs → IsWalked alike us vs → IsLesser (head_layer us) (head_layer vs) (Some m) → ComesBefore l m → alike l
+walked_before alike [] [] m l ours theirs w e before = cc
+walked_before alike [] (t ∷ vs) m l ours theirs w e before =
     let at : m ≡ t.layer = cc in
     elim (w l) [ inl x ↦ x | inr x ↦ elim x [ inl y ↦ absurd y | inr y ↦ absurd (not_among l m t.layer (t ∷ vs) theirs refl (before_head l m t.layer before (inl at)) y) ] ]
-walked_before a b (s ∷ us) [] m l ours theirs w e before =
+walked_before alike (s ∷ us) [] m l ours theirs w e before =
     let at : m ≡ s.layer = cc in
     elim (w l) [ inl x ↦ x | inr x ↦ elim x [ inl y ↦ absurd (not_among l m s.layer (s ∷ us) ours refl (before_head l m s.layer before (inl at)) y) | inr y ↦ absurd y ] ]
-walked_before a b (s ∷ us) (t ∷ vs) m l ours theirs w e before =
+walked_before alike (s ∷ us) (t ∷ vs) m l ours theirs w e before =
     elim (w l) [
       | inl x ↦ x
       | inr x ↦ elim x [

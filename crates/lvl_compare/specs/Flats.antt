@@ -1,6 +1,7 @@
 -- Two flat layouts, and where they differ first.
 use Rattle.std.specs.Prelude.{◌≡◌, ◌↔◌, ◌⊎◌, List, [], ◌∷◌, Option, Some, None, if◌then◌else◌}
 use Rattle.lvl_grid.specs.declared.point.Square.{Square}
+use Rattle.lvl_grid.specs.declared.point.Window.{Window}
 use Rattle.lvl_cells.specs.declared.layer.Layer.{Layer}
 use Rattle.lvl_cells.specs.Coverage.{RingsCover}
 use Rattle.lvl_cells.specs.Layers.{same_layer, ComesBefore}
@@ -9,6 +10,7 @@ use Rattle.lvl_flat.specs.Sheets.{rings_on}
 use Rattle.lvl_region.specs.Region.{IsAlone}
 use Rattle.lvl_region.specs.declared.region.Side.{Side}
 use Rattle.lvl_grid.specs.Squares.{IsBefore}
+use Rattle.lvl_columns.specs.Windows.{IsShown}
 
 -- on the Layer both cover the same squares
 abbrev pub AlikeOn : List PlainSheet → List PlainSheet → Layer → Type 0
@@ -24,6 +26,17 @@ pub record IsFirstApart (a b : List PlainSheet) (layer : Layer) (square : Square
   pub alone : IsAlone (RingsCover (rings_on layer a)) (RingsCover (rings_on layer b)) square side
   pub least_layer : (l : Layer) → ComesBefore l layer → AlikeOn a b l
   pub least_square : (s : Square) → IsBefore s square → RingsCover (rings_on layer a) s ↔ RingsCover (rings_on layer b) s
+
+-- on the Layer both cover the same of the window's squares
+abbrev pub AlikeIn : Option Window → List PlainSheet → List PlainSheet → Layer → Type 0
+AlikeIn window a b layer = (s : Square) → IsShown window s → RingsCover (rings_on layer a) s ↔ RingsCover (rings_on layer b) s
+
+-- the square is the first of the window's, on the first Layer, that one side alone covers
+pub record IsFirstApartIn (window : Option Window) (a b : List PlainSheet) (layer : Layer) (square : Square) (side : Side) : Type 0 where
+  pub shown : IsShown window square
+  pub alone : IsAlone (RingsCover (rings_on layer a)) (RingsCover (rings_on layer b)) square side
+  pub least_layer : (l : Layer) → ComesBefore l layer → AlikeIn window a b l
+  pub least_square : (s : Square) → IsShown window s → IsBefore s square → RingsCover (rings_on layer a) s ↔ RingsCover (rings_on layer b) s
 
 -- the Layer of the first sheet
 abbrev pub head_layer : List PlainSheet → Option Layer

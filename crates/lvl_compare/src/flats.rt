@@ -1,12 +1,13 @@
 //! Two flat layouts compared Layer by Layer, up to the first square that one of them alone covers.
 ghost use Rattle.std.specs.Prelude.{◌≡◌, ◌↔◌, drop, Some, IfOk, IfNone, IfSome, IsTrue};
 ghost use Rattle.lvl_cells.specs.declared.layer.Layer.{Layer as PlainLayer};
-ghost use Rattle.lvl_compare.specs.Flats.{AlikeOn, IsFirstApart, IsLesser, behind, head_layer};
+ghost use Rattle.lvl_columns.specs.Windows.{window_of};
+ghost use Rattle.lvl_compare.specs.Flats.{AlikeIn, AlikeOn, IsFirstApart, IsFirstApartIn, IsLesser, behind, head_layer};
 
 use lvl_cells::{Layer, comes_before};
-use lvl_columns::difference_by_columns;
+use lvl_columns::difference_in;
 use lvl_flat::Flat;
-use lvl_grid::Square;
+use lvl_grid::{Square, Window};
 use lvl_region::Side;
 use std::alloc::{AllocError, Global};
 
@@ -23,11 +24,30 @@ pub fn first_difference(
     ensures differ { IfOk result
         (λ found. IfSome found (λ at. IsFirstApart first.now second.now at.0 at.1 at.2)) }
 {
+    first_difference_in(alloc, first, second, None)
+}
+
+/// The same of the squares of a window alone: the first Layer, and on it the first square of the
+/// window, that one of the two alone covers; None where both cover the same squares of the window on
+/// every Layer. Where there is no window, all squares count.
+pub fn first_difference_in(
+    alloc: Global,
+    first: &Flat,
+    second: &Flat,
+    window: Option<&Window>,
+) -> Result<Option<(Layer, Square, Side)>, AllocError>
+    ensures same { IfOk result
+        (λ found. IfNone found ((layer : PlainLayer)
+        → AlikeIn (window_of window.entry) first.now second.now layer)) }
+    ensures differ { IfOk result
+        (λ found. IfSome found
+        (λ at. IsFirstApartIn (window_of window.entry) first.now second.now at.0 at.1 at.2)) }
+{
     let mut ours = 0;
     let mut theirs = 0;
     while let Some(layer) = lesser(first.layer(ours), second.layer(theirs)) {
         let (a, b) = (first.rings(layer), second.rings(layer));
-        if let Some((square, side)) = difference_by_columns(alloc, a, b)? {
+        if let Some((square, side)) = difference_in(alloc, a, b, window)? {
             return Ok(Some((layer, square, side)));
         }
         ours = past(first, ours, layer);

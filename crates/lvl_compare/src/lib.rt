@@ -1,11 +1,12 @@
 //! Two layouts compared: flat ones Layer by Layer, and libraries cell by cell.
 //!
-//! [`first_difference`] finds the first square that one of two flat layouts alone covers, and
-//! [`same_by_cells`] tells without flattening whether two libraries draw the same, where it can.
+//! [`first_difference`] finds the first square that one of two flat layouts alone covers,
+//! [`first_difference_in`] the first of a window, and [`same_by_cells`] tells without flattening
+//! whether two libraries draw the same, where it can.
 #![tactic(auto)]
 
 pub use cells::same_by_cells;
-pub use flats::first_difference;
+pub use flats::{first_difference, first_difference_in};
 pub use partners::pays_by_cells;
 pub use regions::difference_by;
 

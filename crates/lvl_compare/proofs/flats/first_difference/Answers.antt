@@ -1,50 +1,28 @@
-use Rattle.std.proofs.Common.{◌↔◌, drop, Some, subst, Option}
+use Rattle.std.proofs.Common.{List, Option, None, Some}
 use Rattle.std.specs.Prelude.{IfNone, IfSome}
+use Rattle.std.proofs.lemmas.Result.{IfOk-weaker}
 use Rattle.lvl_grid.specs.declared.point.Square.{Square}
-use Rattle.lvl_cells.specs.Cells.{Rings}
+use Rattle.lvl_cells.specs.declared.layer.Layer.{Layer}
 use Rattle.lvl_region.specs.declared.region.Side.{Side}
-use Rattle.lvl_region.specs.Region.{SomeCovers, IsAlone}
-use Rattle.lvl_grid.specs.Squares.{IsBefore}
-use Rattle.lvl_flat.specs.Sheets.{rings_on}
-use Rattle.lvl_compare.specs.Flats.{AlikeOn, IsLesser, head_layer}
-use Rattle.lvl_compare.proofs.Behind.{sorted_drop, walked_none, walked_more, walked_all, walked_before, walked_less, lesser_heads}
+use Rattle.lvl_flat.specs.Sheet.{PlainSheet}
+use Rattle.lvl_compare.specs.Flats.{AlikeIn, AlikeOn, IsFirstApart, IsFirstApartIn}
 use Rattle.lvl_compare.proofs.flats.first_difference.Goals as goal
 
-pub loop-layer-init : goal.loop-layer-init
-loop-layer-init c = walked_none c.args.first.now c.args.second.now
+-- where there is no window, all squares are shown
+alike_anywhere : (a b : List PlainSheet) (found : Option (Layer × Square × Side)) → IfNone found ((l : Layer) → AlikeIn None a b l) → IfNone found ((l : Layer) → AlikeOn a b l)
+alike_anywhere a b None h = λ l s. h l s tt
+alike_anywhere a b (Some at) h = tt
 
-pub returns-in-Some-2-clause-differ : goal.returns-in-Some-2-clause-differ
-returns-in-Some-2-clause-differ c =
-    let us = drop c.loop-layer.ours c.args.first.now in
-    let vs = drop c.loop-layer.theirs c.args.second.now in
-    let lesser : IsLesser (head_layer us) (head_layer vs) (Some c.in-Some.layer) =
-    lesser_heads c.args.first.now c.args.second.now c.loop-layer.ours c.loop-layer.theirs _ _ _ _ c.layer.ensures.layer c.layer-in-loop-layer.ensures.layer c.lesser.ensures c.in-Some.is in
-    let alone = subst (λ (o : Option (Square × Side)). IfSome o (λ at. IsAlone (SomeCovers c.rings-a.result.now) (SomeCovers c.rings-b.result.now) at.0 at.1)) c.in-Some-2.is c.in_ok-square.ensures.differ in
-    let least = subst (λ (o : Option (Square × Side)). IfSome o (λ at. (s : Square) → IsBefore s at.0 → SomeCovers c.rings-a.result.now s ↔ SomeCovers c.rings-b.result.now s)) c.in-Some-2.is c.in_ok-square.ensures.least in
-    record {
-      alone = subst (λ (x : Rings). IsAlone (SomeCovers x) (SomeCovers (rings_on c.in-Some.layer c.args.second.now)) c.in-Some-2.square c.in-Some-2.side) c.rings-a.ensures
-          (subst (λ (y : Rings). IsAlone (SomeCovers c.rings-a.result.now) (SomeCovers y) c.in-Some-2.square c.in-Some-2.side) c.rings-b.ensures alone);
-      least_layer = λ l before. walked_before c.args.first.now c.args.second.now us vs c.in-Some.layer l
-          (sorted_drop c.loop-layer.ours c.args.first.now c.layer.ensures.in_order.sorted)
-          (sorted_drop c.loop-layer.theirs c.args.second.now c.layer-in-loop-layer.ensures.in_order.sorted)
-          c.loop-layer.invariant lesser before;
-      least_square = λ s before. subst (λ (x : Rings). SomeCovers x s ↔ SomeCovers (rings_on c.in-Some.layer c.args.second.now) s) c.rings-a.ensures
-          (subst (λ (y : Rings). SomeCovers c.rings-a.result.now s ↔ SomeCovers y s) c.rings-b.ensures (least s before));
-    }
-
-pub loop-layer-smaller : goal.loop-layer-smaller
-loop-layer-smaller c =
-    let lesser : IsLesser (head_layer (drop c.loop-layer.ours c.args.first.now)) (head_layer (drop c.loop-layer.theirs c.args.second.now)) (Some c.in-Some.layer) =
-    lesser_heads c.args.first.now c.args.second.now c.loop-layer.ours c.loop-layer.theirs _ _ _ _ c.layer.ensures.layer c.layer-in-loop-layer.ensures.layer c.lesser.ensures c.in-Some.is in
-    rw (c.past-ours.ensures, c.past-theirs.ensures) (walked_less _ _ c.in-Some.layer lesser)
-
-pub loop-layer-preserved : goal.loop-layer-preserved
-loop-layer-preserved c =
-    let same = subst (λ (o : Option (Square × Side)). IfNone o ((s : Square) → SomeCovers c.rings-a.result.now s ↔ SomeCovers c.rings-b.result.now s)) c.in_default-2.is c.in_ok-square.ensures.same in
-    let alike : AlikeOn c.args.first.now c.args.second.now c.in-Some.layer = λ s. subst (λ (x : Rings). SomeCovers x s ↔ SomeCovers (rings_on c.in-Some.layer c.args.second.now) s) c.rings-a.ensures
-    (subst (λ (y : Rings). SomeCovers c.rings-a.result.now s ↔ SomeCovers y s) c.rings-b.ensures (same s)) in
-    rw (c.past-ours.ensures, c.past-theirs.ensures) (walked_more c.args.first.now c.args.second.now _ _ c.in-Some.layer c.loop-layer.invariant alike)
+apart_anywhere : (a b : List PlainSheet) (found : Option (Layer × Square × Side)) → IfSome found (λ at. IsFirstApartIn None a b at.0 at.1 at.2) → IfSome found (λ at. IsFirstApart a b at.0 at.1 at.2)
+apart_anywhere a b None h = tt
+apart_anywhere a b (Some at) h = record {
+  alone = h.alone;
+  least_layer = λ l before s. h.least_layer l before s tt;
+  least_square = λ s before. h.least_square s tt before;
+}
 
 pub returns-clause-same : goal.returns-clause-same
-returns-clause-same c = walked_all c.args.first.now c.args.second.now (drop c.loop-layer.ours c.args.first.now) (drop c.loop-layer.theirs c.args.second.now) c.loop-layer.invariant
-    (lesser_heads c.args.first.now c.args.second.now c.loop-layer.ours c.loop-layer.theirs _ _ _ _ c.layer.ensures.layer c.layer-in-loop-layer.ensures.layer c.lesser.ensures c.in_default.is)
+returns-clause-same c = IfOk-weaker c.first_difference_in.result _ _ (λ found h. alike_anywhere c.args.first.now c.args.second.now found h) c.first_difference_in.ensures.same
+
+pub returns-clause-differ : goal.returns-clause-differ
+returns-clause-differ c = IfOk-weaker c.first_difference_in.result _ _ (λ found h. apart_anywhere c.args.first.now c.args.second.now found h) c.first_difference_in.ensures.differ

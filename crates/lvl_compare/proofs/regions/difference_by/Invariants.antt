@@ -1,10 +1,11 @@
 use Rattle.std.proofs.Common.{drop, length, ◌+◌}
+use Rattle.lvl_compare.specs.Flats.{AlikeOn}
 use Rattle.lvl_compare.proofs.Behind.{IsWalked}
 use Rattle.lvl_compare.proofs.regions.difference_by.Given as goal
 
 -- the Layers that were passed are alike
 abbrev pub invariant-loop-layer : goal.invariant-loop-layer
-invariant-loop-layer g l = IsWalked l.fn.first l.fn.second (drop l.ours l.fn.first) (drop l.theirs l.fn.second)
+invariant-loop-layer g l = IsWalked (AlikeOn l.fn.first l.fn.second) (drop l.ours l.fn.first) (drop l.theirs l.fn.second)
 
 abbrev pub decreases-loop-layer : goal.decreases-loop-layer
 decreases-loop-layer g l = length (drop l.ours l.fn.first) + length (drop l.theirs l.fn.second)
