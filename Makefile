@@ -29,6 +29,10 @@ klayout:
 install:
 	@test -x bin/lvl || { echo "make install: bin/lvl is missing: run make first" >&2; exit 2; }
 	install -D -m 755 bin/lvl $(DESTDIR)$(PREFIX)/bin/lvl
+	install -D -m 644 contrib/man/lvl.1 $(DESTDIR)$(PREFIX)/share/man/man1/lvl.1
+	install -D -m 644 contrib/completions/lvl.bash $(DESTDIR)$(PREFIX)/share/bash-completion/completions/lvl
+	install -D -m 644 contrib/completions/_lvl $(DESTDIR)$(PREFIX)/share/zsh/site-functions/_lvl
+	install -D -m 644 contrib/completions/lvl.fish $(DESTDIR)$(PREFIX)/share/fish/vendor_completions.d/lvl.fish
 
 clean:
 	rm -rf bin crates/*/out
