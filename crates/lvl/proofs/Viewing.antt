@@ -1,5 +1,5 @@
 -- From two flat layouts under a view to what the bytes of the files spell.
-use Rattle.std.proofs.Common.{◌≡◌, ◌↔◌, List, [], None, refl, sym, subst, tt}
+use Rattle.std.proofs.Common.{◌≡◌, ◌↔◌, List, [], Option, None, refl, sym, subst}
 use Rattle.lvl_grid.specs.declared.point.Square.{Square}
 use Rattle.lvl_cells.specs.declared.layer.Layer.{Layer}
 use Rattle.lvl_cells.specs.Cells.{PlainCell, Rings}
@@ -8,6 +8,9 @@ use Rattle.lvl_flat.specs.Sheet.{PlainSheet}
 use Rattle.lvl_flat.specs.Sheets.{rings_on}
 use Rattle.lvl_columns.specs.Windows.{IsShown}
 use Rattle.lvl_flat.specs.Mapped.{IsMapped}
+use Rattle.lvl_compare.specs.Flats.{IsFirstApartIn}
+use Rattle.lvl_region.specs.declared.region.Side.{Side}
+use Rattle.lvl_grid.specs.declared.point.Window.{Window}
 use Rattle.lvl_view.specs.Views.{PlainView}
 use Rattle.lvl_view.specs.declared.map.LayerPair.{LayerPair}
 use Rattle.lvl.specs.Drawing.{Drawing}
@@ -56,6 +59,17 @@ mapped_verdict view ours theirs mapped is v = verdict_of_same (IsShown view.wind
       λ h. let c = (is l s).0 h in record { source = c.source; is_target = c.target_is; covers = c.covered },
       λ m. (is l s).1 (record { source = m.source; target_is = m.is_target; covered = m.covers }),
     )) v
+
+-- the first difference of two flat layouts, as a verdict on them
+pub apart_verdict : (window : Option Window) (ours theirs : List PlainSheet) (layer : Layer) (square : Square) (side : Side)
+    → IsFirstApartIn window ours theirs layer square side
+    → IsVerdictOf (IsShown window) (λ l. RingsCover (rings_on l ours)) (λ l. RingsCover (rings_on l theirs)) (Differ layer square side)
+apart_verdict window ours theirs layer square side h = record {
+  seen = h.shown;
+  alone = h.alone;
+  least_layer = h.least_layer;
+  least_square = h.least_square;
+}
 
 -- without pairs nothing is moved
 moved_none : (pairs : List LayerPair) → pairs ≡ [] → (Q : Layer → Square → Type 0) (l : Layer) (s : Square) → IsMoved pairs Q l s ↔ Q l s
