@@ -43,14 +43,19 @@ reference_draws piece k e b p h = elim (draws piece k e h) [ inl x ↦ b x | inr
 
 -- what is wrong with the number of points, by the opener
 miscounted : (piece : List Rec) (k n : ℕ) → opener piece ≡ Some k → IsMiscounted piece n
-    → ((k ≡ boundary) × (n < 4)) ⊎ ((k ≡ path) × (n < 2)) ⊎ ((k ≡ aref) × (n ≢ 3)) ⊎ (((k ≡ sref) ⊎ (k ≡ text)) × (n ≢ 1))
+    → ((k ≡ boundary) × (n < 4)) ⊎ ((k ≡ path) × (n < 2)) ⊎ ((k ≡ aref) × (n ≢ 3))
+    ⊎ (((k ≡ sref) ⊎ (k ≡ text)) × (n ≢ 1))
 miscounted piece k n e h = elim h [
   | inl b ↦ inl (one_opener piece k boundary e b.0, b.1)
   | inr h1 ↦ elim h1 [
     | inl p ↦ inr (inl (one_opener piece k path e p.0, p.1))
     | inr h2 ↦ elim h2 [
       | inl a ↦ inr (inr (inl (one_opener piece k aref e a.0, a.1)))
-      | inr s ↦ inr (inr (inr (elim s.0 [ inl x ↦ inl (one_opener piece k sref e x) | inr y ↦ inr (one_opener piece k text e y) ], s.1)))
+      | inr s ↦
+          inr (inr (inr (
+            elim s.0 [ inl x ↦ inl (one_opener piece k sref e x) | inr y ↦ inr (one_opener piece k text e y) ],
+            s.1,
+          )))
     ]
   ]
 ]
@@ -81,11 +86,18 @@ allowed piece r g n (Rule k) x = n k x.1
 
 pub law_boundary : (piece : List Rec) (r : Rec) → opener piece ≡ Some boundary
     → (IsLayerNumber r.kind → pos 0 ≤ℤ short r.payload)
-    → (r.kind ≡ xy → (4 ≤ length (points r.payload)) × IsClosed (points r.payload) × All IsStraight (steps (points r.payload)))
+    → (r.kind ≡ xy → (4 ≤ length (points r.payload)) × IsClosed (points r.payload)
+    × All IsStraight (steps (points r.payload)))
     → (k : ElementRule) → ValueBreaches piece r k → ⊥
 law_boundary piece r o l p Layer x = (let z = l x.0 in omega (arith, ints, z, x.2))
 law_boundary piece r o l p Points x =
-    counted piece boundary (length (points r.payload)) o (λ _. (p x.0).0, λ e. absurd (omega arith), λ e. absurd (omega arith), λ e. absurd (omega arith), λ e. absurd (omega arith)) x.1
+    counted piece boundary (length (points r.payload)) o (
+      λ _. (p x.0).0,
+      λ e. absurd (omega arith),
+      λ e. absurd (omega arith),
+      λ e. absurd (omega arith),
+      λ e. absurd (omega arith),
+    ) x.1
 law_boundary piece r o l p NotClosed x = x.3 (p x.0).1
 law_boundary piece r o l p Strans x = shape_refers piece boundary o (λ e. omega arith) (λ e. omega arith) x.1
 law_boundary piece r o l p Magnification x = shape_refers piece boundary o (λ e. omega arith) (λ e. omega arith) x.1
@@ -103,11 +115,18 @@ pub law_path : (piece : List Rec) (r : Rec) → opener piece ≡ Some path
     → (IsLayerNumber r.kind → pos 0 ≤ℤ short r.payload)
     → (r.kind ≡ pathtype → short r.payload ≢ pos 0 → short r.payload ≡ pos 2)
     → (r.kind ≡ width → IsWidth (long r.payload))
-    → (r.kind ≡ xy → (2 ≤ length (points r.payload)) × (last_of width piece ≢ None) × IsPath (points r.payload) (record { half = half_of piece; start = end_of piece; end = end_of piece }))
+    → (r.kind ≡ xy → (2 ≤ length (points r.payload)) × (last_of width piece ≢ None) × IsPath (points r.payload)
+    (record { half = half_of piece; start = end_of piece; end = end_of piece }))
     → (k : ElementRule) → ValueBreaches piece r k → ⊥
 law_path piece r o l t w p Layer x = (let z = l x.0 in omega (arith, ints, z, x.2))
 law_path piece r o l t w p Points x =
-    counted piece path (length (points r.payload)) o (λ e. absurd (omega arith), λ _. (p x.0).0, λ e. absurd (omega arith), λ e. absurd (omega arith), λ e. absurd (omega arith)) x.1
+    counted piece path (length (points r.payload)) o (
+      λ e. absurd (omega arith),
+      λ _. (p x.0).0,
+      λ e. absurd (omega arith),
+      λ e. absurd (omega arith),
+      λ e. absurd (omega arith),
+    ) x.1
 law_path piece r o l t w p NotClosed x = (let z = one_opener piece path boundary o x.1 in omega (arith, z))
 law_path piece r o l t w p Strans x = shape_refers piece path o (λ e. omega arith) (λ e. omega arith) x.1
 law_path piece r o l t w p Magnification x = shape_refers piece path o (λ e. omega arith) (λ e. omega arith) x.1
@@ -122,10 +141,17 @@ law_path piece r o l t w p Oblique x = (let z = one_opener piece path boundary o
 law_path piece r o l t w p Repetition x = (let z = one_opener piece path aref o x.1 in omega (arith, z))
 
 pub law_sref : (piece : List Rec) (r : Rec) → opener piece ≡ Some sref
-    → IsPlacingAllowed r.kind r.payload → (r.kind ≡ xy → length (points r.payload) ≡ 1) → (k : ElementRule) → ValueBreaches piece r k → ⊥
+    → IsPlacingAllowed r.kind r.payload → (r.kind ≡ xy → length (points r.payload) ≡ 1) → (k : ElementRule)
+    → ValueBreaches piece r k → ⊥
 law_sref piece r o a p Layer x = reference_draws piece sref o (λ e. omega arith) (λ e. omega arith) x.1
 law_sref piece r o a p Points x =
-    counted piece sref (length (points r.payload)) o (λ e. absurd (omega arith), λ e. absurd (omega arith), λ e. absurd (omega arith), λ _. p x.0, λ e. absurd (omega arith)) x.1
+    counted piece sref (length (points r.payload)) o (
+      λ e. absurd (omega arith),
+      λ e. absurd (omega arith),
+      λ e. absurd (omega arith),
+      λ _. p x.0,
+      λ e. absurd (omega arith),
+    ) x.1
 law_sref piece r o a p NotClosed x = (let z = one_opener piece sref boundary o x.1 in omega (arith, z))
 law_sref piece r o a p Strans x = x.3 (a.strans x.0 x.2)
 law_sref piece r o a p Magnification x = x.2 (a.mag x.0)
@@ -141,16 +167,27 @@ law_sref piece r o a p Repetition x = (let z = one_opener piece sref aref o x.1 
 
 pub law_aref : (piece : List Rec) (r : Rec) → opener piece ≡ Some aref
     → IsPlacingAllowed r.kind r.payload → (r.kind ≡ colrow → IsCounted r.payload)
-    → (r.kind ≡ xy → (length (points r.payload) ≡ 3) × HasSteps (points r.payload) (columns_in (last_of colrow piece)) (rows_in (last_of colrow piece)))
+    → (r.kind ≡ xy → (length (points r.payload) ≡ 3) × HasSteps (points r.payload) (columns_in (last_of colrow piece))
+    (rows_in (last_of colrow piece)))
     → (k : ElementRule) → ValueBreaches piece r k → ⊥
 law_aref piece r o a c p Layer x = reference_draws piece aref o (λ e. omega arith) (λ e. omega arith) x.1
 law_aref piece r o a c p Points x =
-    counted piece aref (length (points r.payload)) o (λ e. absurd (omega arith), λ e. absurd (omega arith), λ _. (p x.0).0, λ e. absurd (omega arith), λ e. absurd (omega arith)) x.1
+    counted piece aref (length (points r.payload)) o (
+      λ e. absurd (omega arith),
+      λ e. absurd (omega arith),
+      λ _. (p x.0).0,
+      λ e. absurd (omega arith),
+      λ e. absurd (omega arith),
+    ) x.1
 law_aref piece r o a c p NotClosed x = (let z = one_opener piece aref boundary o x.1 in omega (arith, z))
 law_aref piece r o a c p Strans x = x.3 (a.strans x.0 x.2)
 law_aref piece r o a c p Magnification x = x.2 (a.mag x.0)
 law_aref piece r o a c p Angle x = x.2 (turn r.payload) (a.angle x.0)
-law_aref piece r o a c p ColRow x = (let z = c x.0 in elim x.2 [ inl y ↦ omega (arith, ints, y, z.some_columns) | inr y ↦ omega (arith, ints, y, z.some_rows) ])
+law_aref piece r o a c p ColRow x =
+    (let z = c x.0 in elim x.2 [
+      | inl y ↦ omega (arith, ints, y, z.some_columns)
+      | inr y ↦ omega (arith, ints, y, z.some_rows)
+    ])
 law_aref piece r o a c p ArrayStep x = x.3 (p x.0).1
 law_aref piece r o a c p Name x = x.2 (a.name x.0)
 law_aref piece r o a c p (Path f) x = (let z = one_opener piece aref path o x.1 in omega (arith, z))
@@ -163,7 +200,13 @@ pub law_text : (piece : List Rec) (r : Rec) → opener piece ≡ Some text
     → (r.kind ≡ xy → length (points r.payload) ≡ 1) → (k : ElementRule) → ValueBreaches piece r k → ⊥
 law_text piece r o p Layer x = reference_draws piece text o (λ e. omega arith) (λ e. omega arith) x.1
 law_text piece r o p Points x =
-    counted piece text (length (points r.payload)) o (λ e. absurd (omega arith), λ e. absurd (omega arith), λ e. absurd (omega arith), λ e. absurd (omega arith), λ _. p x.0) x.1
+    counted piece text (length (points r.payload)) o (
+      λ e. absurd (omega arith),
+      λ e. absurd (omega arith),
+      λ e. absurd (omega arith),
+      λ e. absurd (omega arith),
+      λ _. p x.0,
+    ) x.1
 law_text piece r o p NotClosed x = (let z = one_opener piece text boundary o x.1 in omega (arith, z))
 law_text piece r o p Strans x = shape_refers piece text o (λ e. omega arith) (λ e. omega arith) x.1
 law_text piece r o p Magnification x = shape_refers piece text o (λ e. omega arith) (λ e. omega arith) x.1

@@ -1,75 +1,28 @@
 -- An array with one more record.
-use Rattle.std.proofs.Common.{◌≡◌, ◌==◌, ℕ, false, if◌then◌else◌, List, length, [], ◌∷◌, ◌++◌, map, Some, inl, inr}
+use Rattle.std.proofs.Common.{◌≡◌, ◌==◌, false, if◌then◌else◌, List, length, [], ◌∷◌, ◌++◌, map, Some, inl, inr}
 use Rattle.std.proofs.Common.{refl, sym, ap, ◌∙◌, subst}
 use Rattle.lvl_grid.specs.declared.point.Point.{Point}
 use Rattle.lvl_cells.specs.Cells.{PlainReference}
-use Rattle.gds_elements.specs.Types.{aref, sname, strans, mag, angle, colrow, xy, endel}
+use Rattle.gds_elements.specs.Types.{aref, sname, strans, angle, colrow, xy, endel}
 use Rattle.lvl_grammar.specs.Order.{one}
 use Rattle.gds_elements.specs.Rec.{Rec, opener, field, last_of}
 use Rattle.gds_elements.specs.Values.{magnitude, columns, rows, name, flips, turn, points, nth}
 use Rattle.gds_elements.specs.Meaning.{shapes_by, references_by, in_rings, columns_in, rows_in, array_shifts, shifts_of}
-use Rattle.gds_elements.specs.inside.Aref.{after, left, IsArefRead, IsArrayFault}
+use Rattle.gds_elements.specs.inside.Aref.{left, IsArefRead, IsArrayFault}
 use Rattle.gds_elements.specs.Rules.{HasSteps, ValueBreaches}
 use Rattle.gds_elements.specs.declared.fault.ElementRule.{ElementRule}
 use Rattle.gds_elements.specs.declared.fault.ElementRule.TheVariants.{Points as PointsFault, ArrayStep}
 use Rattle.gds_elements.specs.inside.Reading.{IsAtEnd}
-use Rattle.gds_elements.specs.declared.order.Next.TheVariants.{Goes, Ends, Nowhere}
-use Rattle.gds_elements.specs.declared.aref.Place.{Place}
-use Rattle.gds_elements.specs.declared.aref.Place.TheVariants.{Name, Strans, Magnification, Angle, Columns, Points}
 use Rattle.gds_elements.specs.declared.aref.Aref.{Aref}
 use Rattle.gds_elements.specs.declared.element.Drawn.TheVariants.{Reference}
 use Rattle.lvl_grammar.specs.inside.After.{after_first}
-use Rattle.lvl_grammar.proofs.Orders.{at_type}
 use Rattle.gds_elements.proofs.Fields.{opener-snoc, last_read, last_there, field_here}
-use Rattle.gds_elements.proofs.Leads.{left_behind, leads_more}
+use Rattle.gds_elements.proofs.Leads.{leads_more}
 use Rattle.gds_elements.proofs.Shapes.{kind_test}
 use Rattle.gds_elements.proofs.Placings.{placed_more, reference_is}
 
-abbrev AsTable : Place → ℕ → Type 0
-AsTable p k = after_first (left p) k ≡ left_behind left (after p k)
-
-one_way : (p : Place) (k j : ℕ) → AsTable p j → (k == j ≡ false → AsTable p k) → AsTable p k
-one_way p k j = at_type (AsTable p) k j
-
--- what may come after a type is what is left at the place that the table gives
-pub by_table : (p : Place) (k : ℕ) → AsTable p k
-by_table Name k = one_way Name k sname refl (λ a. rw a refl)
-by_table Strans k = one_way Strans k strans refl (λ a. one_way Strans k colrow refl (λ b. rw (a, b) refl))
-by_table Magnification k =
-    one_way Magnification k mag refl (λ a. one_way Magnification k angle refl (λ b. one_way Magnification k colrow refl (λ c. rw (a, b, c) refl)))
-by_table Angle k = one_way Angle k angle refl (λ a. one_way Angle k colrow refl (λ b. rw (a, b) refl))
-by_table Columns k = one_way Columns k colrow refl (λ a. rw a refl)
-by_table Points k = one_way Points k xy refl (λ a. rw a refl)
-
-goes_at : (p q : Place) → after p xy ≡ Goes q → ⊥
-goes_at Name q e = cc
-goes_at Strans q e = cc
-goes_at Magnification q e = cc
-goes_at Angle q e = cc
-goes_at Columns q e = cc
-goes_at Points q e = cc
-
--- points end an array, and no other record does
-pub goes_on : (p q : Place) (k : ℕ) → after p k ≡ Goes q → k ≡ xy → ⊥
-goes_on p q k e x = goes_at p q (subst (λ i. after p i ≡ Goes q) x e)
-
-EndsHere : Place → ℕ → Type 0
-EndsHere p k = after p k ≡ Ends → k ≡ xy
-
-pub ends_by : (p : Place) (k : ℕ) → after p k ≡ Ends → k ≡ xy
-unfolding EndsHere
-ends_by Name k = at_type (EndsHere Name) k sname (λ e. cc) (λ a e. (let z : Nowhere ≡ Ends = rw a at e in cc))
-ends_by Strans k =
-    at_type (EndsHere Strans) k strans (λ e. cc) (λ a. at_type (EndsHere Strans) k colrow (λ e. cc) (λ b e. (let z : Nowhere ≡ Ends = rw (a, b) at e in cc)))
-ends_by Magnification k =
-    at_type (EndsHere Magnification) k mag (λ e. cc) (λ a. at_type (EndsHere Magnification) k angle (λ e. cc) (λ b. at_type (EndsHere Magnification) k colrow (λ e. cc)
-    (λ c e. (let z : Nowhere ≡ Ends = rw (a, b, c) at e in cc))))
-ends_by Angle k =
-    at_type (EndsHere Angle) k angle (λ e. cc) (λ a. at_type (EndsHere Angle) k colrow (λ e. cc) (λ b e. (let z : Nowhere ≡ Ends = rw (a, b) at e in cc)))
-ends_by Columns k = at_type (EndsHere Columns) k colrow (λ e. cc) (λ a e. (let z : Nowhere ≡ Ends = rw a at e in cc))
-ends_by Points k = at_type (EndsHere Points) k xy (λ e. refl) (λ a e. (let z : Nowhere ≡ Ends = rw a at e in cc))
-
-pub aref_goes : (s s' : Aref) (piece : List Rec) (r : Rec) → IsArefRead s piece → after s.place r.kind ≡ Goes s'.place
+pub aref_goes : (s s' : Aref) (piece : List Rec) (r : Rec) → IsArefRead s piece
+    → after_first (left s.place) r.kind ≡ left s'.place ∷ []
     → s'.placing.name.items ≡ (if r.kind == sname then name r.payload else s.placing.name.items)
     → s'.placing.flip ≡ (if r.kind == strans then flips r.payload else s.placing.flip)
     → s'.placing.turn ≡ (if r.kind == angle then turn r.payload else s.placing.turn)
@@ -78,7 +31,7 @@ pub aref_goes : (s s' : Aref) (piece : List Rec) (r : Rec) → IsArefRead s piec
     → IsArefRead s' (piece ++ r ∷ [])
 aref_goes s s' piece r h a n f t m w = record {
   opened = opener-snoc piece r aref h.opened;
-  leads = leads_more piece r (left s.place) (left s'.place) h.leads (by_table s.place r.kind ∙ ap (left_behind left) a);
+  leads = leads_more piece r (left s.place) (left s'.place) h.leads a;
   placed = placed_more s.placing s'.placing piece r h.placed n f t;
   columns = last_read columns_in colrow piece r s.counts.columns s'.counts.columns h.columns m;
   rows = last_read rows_in colrow piece r s.counts.rows s'.counts.rows h.rows w;
@@ -89,26 +42,35 @@ shifts_is : (s : Aref) (piece : List Rec) (r : Rec) → IsArefRead s piece → r
     → array_shifts (points r.payload) s.counts.columns s.counts.rows ≡ shifts_of (piece ++ r ∷ [])
 shifts_is s piece r h x =
     let new = piece ++ r ∷ [] in
-    let there : last_of colrow new ≡ last_of colrow piece = last_there colrow piece r (subst (λ k. k == colrow ≡ false) (sym x) refl) in
+    let there : last_of colrow new ≡ last_of colrow piece =
+    last_there colrow piece r (subst (λ k. k == colrow ≡ false) (sym x) refl) in
     ap (λ q. array_shifts (points q) s.counts.columns s.counts.rows) (sym (field_here xy piece r (kind_test r xy x)))
     ∙ ap (λ m. array_shifts (points (field xy new)) m s.counts.rows) (h.columns ∙ sym (ap columns_in there))
-    ∙ ap (λ n. array_shifts (points (field xy new)) (columns_in (last_of colrow new)) n) (h.rows ∙ sym (ap rows_in there))
+    ∙ ap (λ n. array_shifts (points (field xy new)) (columns_in (last_of colrow new)) n)
+    (h.rows ∙ sym (ap rows_in there))
 
 pub aref_ends : (s : Aref) (piece : List Rec) (r : Rec) (p : PlainReference) → IsArefRead s piece
-    → after s.place r.kind ≡ Ends
-    → p ≡ record { cell = s.placing.name.items; flip = s.placing.flip; turn = s.placing.turn; at = nth (points r.payload) 0; shifts = array_shifts (points r.payload) s.counts.columns s.counts.rows }
+    → after_first (left s.place) r.kind ≡ one endel ∷ [] → r.kind ≡ xy
+    → p ≡ record {
+      cell = s.placing.name.items;
+      flip = s.placing.flip;
+      turn = s.placing.turn;
+      at = nth (points r.payload) 0;
+      shifts = array_shifts (points r.payload) s.counts.columns s.counts.rows;
+    }
     → IsAtEnd (Reference p) (piece ++ r ∷ [])
-aref_ends s piece r p h a e =
+aref_ends s piece r p h a x e =
     let new = piece ++ r ∷ [] in
-    let x : r.kind ≡ xy = ends_by s.place r.kind a in
     let o : opener new ≡ Some aref = opener-snoc piece r aref h.opened in
     record {
       opened = (aref, o);
-      leads = leads_more piece r (left s.place) (one endel) h.leads (by_table s.place r.kind ∙ ap (left_behind left) a);
+      leads = leads_more piece r (left s.place) (one endel) h.leads a;
       drawn = record {
         shapes = sym (ap (λ q. map in_rings (shapes_by q new)) o);
         references =
-            ap (λ (i : PlainReference). i ∷ []) (e ∙ reference_is s.placing piece r (array_shifts (points r.payload) s.counts.columns s.counts.rows) (shifts_of new) h.placed x (shifts_is s piece r h x))
+            ap (λ (i : PlainReference). i ∷ [])
+            (e ∙ reference_is s.placing piece r (array_shifts (points r.payload) s.counts.columns s.counts.rows)
+            (shifts_of new) h.placed x (shifts_is s piece r h x))
             ∙ sym (ap (λ q. references_by q new) o);
       };
     }
@@ -117,13 +79,21 @@ aref_ends s piece r p h a e =
 pub steps_of : (s : Aref) (piece : List Rec) (ps : List Point) → IsArefRead s piece
     → (length ps ≡ 3) × HasSteps ps s.counts.columns s.counts.rows
     → (length ps ≡ 3) × HasSteps ps (columns_in (last_of colrow piece)) (rows_in (last_of colrow piece))
-steps_of s piece ps h k =
-    (k.0, subst (λ n. HasSteps ps (columns_in (last_of colrow piece)) n) h.rows (subst (λ m. HasSteps ps m s.counts.rows) h.columns k.1))
+steps_of s piece ps h k = (
+  k.0,
+  subst (λ n. HasSteps ps (columns_in (last_of colrow piece)) n) h.rows
+      (subst (λ m. HasSteps ps m s.counts.rows) h.columns k.1),
+)
 
 -- what is wrong with the points of an array breaches a rule
 pub array_fault : (s : Aref) (piece : List Rec) (r : Rec) → IsArefRead s piece → r.kind ≡ xy → (k : ElementRule)
     → IsArrayFault (points r.payload) s.counts.columns s.counts.rows k → ValueBreaches piece r k
 array_fault s piece r h x PointsFault b = (x, inr (inr (inl (h.opened, b))))
-array_fault s piece r h x ArrayStep b =
-    (x, h.opened, b.0, λ z. b.1 (subst (λ m. HasSteps (points r.payload) m s.counts.rows) (sym h.columns) (subst (λ n. HasSteps (points r.payload) (columns_in (last_of colrow piece)) n) (sym h.rows) z)))
+array_fault s piece r h x ArrayStep b = (
+  x,
+  h.opened,
+  b.0,
+  λ z. b.1 (subst (λ m. HasSteps (points r.payload) m s.counts.rows) (sym h.columns)
+      (subst (λ n. HasSteps (points r.payload) (columns_in (last_of colrow piece)) n) (sym h.rows) z)),
+)
 array_fault s piece r h x other b = absurd b

@@ -24,7 +24,8 @@ add_none x z e = omega (arith, ints, e)
 -- an exact quotient, and its divisor
 divided_abs : (z : ℤ) (m : ℕ) → int_rem z (pos m) ≡ pos 0 → unsigned_abs (int_div z (pos m)) * m ≡ unsigned_abs z
 divided_abs z m e =
-    let q : int_div z (pos m) *ℤ pos m +ℤ pos 0 ≡ z = ap (λ r. int_div z (pos m) *ℤ pos m +ℤ r) (sym e) ∙ quot-rem z (pos m) in
+    let q : int_div z (pos m) *ℤ pos m +ℤ pos 0 ≡ z = ap (λ r. int_div z (pos m) *ℤ pos m +ℤ r) (sym e)
+    ∙ quot-rem z (pos m) in
     sym (unsigned_abs-mul (int_div z (pos m)) (pos m)) ∙ ap unsigned_abs (add_none (int_div z (pos m) *ℤ pos m) z q)
 
 -- no more steps than there are in all lead no farther
@@ -66,13 +67,18 @@ stays a y b z i m j n hi hj e f s t =
     record { across = fits_small _ x; up = fits_small _ u; both = fits_two _ _ x u }
 
 -- an array, by its first place and the points to which its columns and rows lead
-module _ (o p q : Point) (m n : ℕ) (no : IsNarrow o) (np : IsNarrow p) (nq : IsNarrow q) (dp : IsDivided o p m) (dq : IsDivided o q n)
+module _ (o p q : Point) (m n : ℕ) (no : IsNarrow o) (np : IsNarrow p) (nq : IsNarrow q) (dp : IsDivided o p m)
+    (dq : IsDivided o q n)
     (some_columns : 0 < m) (some_rows : 0 < n) (few : m * n ≤ 1048576) where
   pub array_corner : HasFarCorner (step o p m) m (step o q n) n
   array_corner = record {
     counts = record { columns = some_columns; rows = some_rows; few = omega (arith, few) };
-    xs = stays _ (p.x -ℤ o.x) _ (q.x -ℤ o.x) (m - 1) m (n - 1) n (omega arith) (omega arith) (divided_abs _ m dp.0) (divided_abs _ n dq.0) (distance_small o.x p.x no.x_fits np.x_fits) (distance_small o.x q.x no.x_fits nq.x_fits);
-    ys = stays _ (p.y -ℤ o.y) _ (q.y -ℤ o.y) (m - 1) m (n - 1) n (omega arith) (omega arith) (divided_abs _ m dp.1) (divided_abs _ n dq.1) (distance_small o.y p.y no.y_fits np.y_fits) (distance_small o.y q.y no.y_fits nq.y_fits);
+    xs = stays _ (p.x -ℤ o.x) _ (q.x -ℤ o.x) (m - 1) m (n - 1) n (omega arith) (omega arith) (divided_abs _ m dp.0)
+        (divided_abs _ n dq.0) (distance_small o.x p.x no.x_fits np.x_fits)
+        (distance_small o.x q.x no.x_fits nq.x_fits);
+    ys = stays _ (p.y -ℤ o.y) _ (q.y -ℤ o.y) (m - 1) m (n - 1) n (omega arith) (omega arith) (divided_abs _ m dp.1)
+        (divided_abs _ n dq.1) (distance_small o.y p.y no.y_fits np.y_fits)
+        (distance_small o.y q.y no.y_fits nq.y_fits);
   }
 
   pub array_lattice : IsLattice (step o p m) m (step o q n) n
@@ -80,11 +86,20 @@ module _ (o p q : Point) (m n : ℕ) (no : IsNarrow o) (np : IsNarrow p) (nq : I
 
   place_fits : (i j : ℕ) → i ≤ m → j ≤ n → FitsPoint (shifted o (steps (step o p m) i (step o q n) j))
   place_fits i j hi hj = record {
-    x_fits = fits_three _ _ o.x (small_steps i m _ (p.x -ℤ o.x) hi (divided_abs _ m dp.0) (distance_small o.x p.x no.x_fits np.x_fits)) (small_steps j n _ (q.x -ℤ o.x) hj (divided_abs _ n dq.0) (distance_small o.x q.x no.x_fits nq.x_fits)) no.x_fits;
-    y_fits = fits_three _ _ o.y (small_steps i m _ (p.y -ℤ o.y) hi (divided_abs _ m dp.1) (distance_small o.y p.y no.y_fits np.y_fits)) (small_steps j n _ (q.y -ℤ o.y) hj (divided_abs _ n dq.1) (distance_small o.y q.y no.y_fits nq.y_fits)) no.y_fits;
+    x_fits = fits_three _ _ o.x (small_steps i m _ (p.x -ℤ o.x) hi (divided_abs _ m dp.0)
+        (distance_small o.x p.x no.x_fits np.x_fits)) (small_steps j n _ (q.x -ℤ o.x) hj (divided_abs _ n dq.0)
+        (distance_small o.x q.x no.x_fits nq.x_fits)) no.x_fits;
+    y_fits = fits_three _ _ o.y (small_steps i m _ (p.y -ℤ o.y) hi (divided_abs _ m dp.1)
+        (distance_small o.y p.y no.y_fits np.y_fits)) (small_steps j n _ (q.y -ℤ o.y) hj (divided_abs _ n dq.1)
+        (distance_small o.y q.y no.y_fits nq.y_fits)) no.y_fits;
   }
 
   pub array_places : All (λ e. FitsPoint (shifted o e)) (lattice (step o p m) m (step o q n) n)
   array_places =
-      (corners_moved o (step o p m) m (step o q n) n (record { x_fits = wider o.x no.x_fits; y_fits = wider o.y no.y_fits }) array_corner).0
-      (place_fits (m - 1) 0 (omega arith) (omega arith), place_fits 0 (n - 1) (omega arith) (omega arith), place_fits (m - 1) (n - 1) (omega arith) (omega arith))
+      (corners_moved o (step o p m) m (step o q n) n
+      (record { x_fits = wider o.x no.x_fits; y_fits = wider o.y no.y_fits }) array_corner).0 (
+        place_fits (m - 1) 0 (omega arith) (omega arith),
+        place_fits 0 (n - 1) (omega arith) (omega arith),
+        place_fits
+            (m - 1) (n - 1) (omega arith) (omega arith),
+      )

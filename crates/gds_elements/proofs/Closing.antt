@@ -35,17 +35,23 @@ pub straight_steps : (ps qs : List Point) (z d : Point) → ps ≡ qs ++ z ∷ [
     → All IsStraight (edges qs) → All IsStraight (steps ps)
 straight_steps ps [] z d e h c s = absurd (omega arith)
 straight_steps ps (q ∷ qs) z d e h c s =
-    let all : All IsStraight (path_edges q qs ++ (last_or q qs, q) ∷ []) = All-push IsStraight (path_edges q qs) (last_or q qs, q) (All-tail IsStraight (last_or q qs, q) (path_edges q qs) s) (All-head IsStraight (last_or q qs, q) (path_edges q qs) s) in
-    let to : path_edges q (qs ++ z ∷ []) ≡ path_edges q qs ++ (last_or q qs, q) ∷ [] = path_edges-snoc q qs z ∙ ap (λ (i : Point). path_edges q qs ++ (last_or q qs, i) ∷ []) c in
+    let all : All IsStraight (path_edges q qs ++ (last_or q qs, q) ∷ []) = All-push IsStraight (path_edges q qs)
+    (last_or q qs, q) (All-tail IsStraight (last_or q qs, q) (path_edges q qs) s)
+    (All-head IsStraight (last_or q qs, q) (path_edges q qs) s) in
+    let to : path_edges q (qs ++ z ∷ []) ≡ path_edges q qs ++ (last_or q qs, q) ∷ [] = path_edges-snoc q qs z
+    ∙ ap (λ (i : Point). path_edges q qs ++ (last_or q qs, i) ∷ []) c in
     subst (λ l. All IsStraight (steps l)) (sym e) (subst (All IsStraight) (sym to) all)
 
 pub straight_edges : (ps qs : List Point) (z d : Point) → ps ≡ qs ++ z ∷ [] → 0 < length qs → z ≡ get_or qs 0 d
     → All IsStraight (steps ps) → All IsStraight (edges qs)
 straight_edges ps [] z d e h c s = absurd (omega arith)
 straight_edges ps (q ∷ qs) z d e h c s =
-    let to : path_edges q (qs ++ z ∷ []) ≡ path_edges q qs ++ (last_or q qs, q) ∷ [] = path_edges-snoc q qs z ∙ ap (λ (i : Point). path_edges q qs ++ (last_or q qs, i) ∷ []) c in
-    let all : All IsStraight (path_edges q qs ++ (last_or q qs, q) ∷ []) = subst (All IsStraight) to (subst (λ l. All IsStraight (steps l)) e s) in
-    let p = All-pop IsStraight (path_edges q qs ++ (last_or q qs, q) ∷ []) (path_edges q qs) (Some (last_or q qs, q)) refl all in
+    let to : path_edges q (qs ++ z ∷ []) ≡ path_edges q qs ++ (last_or q qs, q) ∷ [] = path_edges-snoc q qs z
+    ∙ ap (λ (i : Point). path_edges q qs ++ (last_or q qs, i) ∷ []) c in
+    let all : All IsStraight (path_edges q qs ++ (last_or q qs, q) ∷ []) =
+    subst (All IsStraight) to (subst (λ l. All IsStraight (steps l)) e s) in
+    let p = All-pop IsStraight (path_edges q qs ++ (last_or q qs, q) ∷ []) (path_edges q qs) (Some (last_or q qs, q))
+    refl all in
     All-cons IsStraight (last_or q qs, q) (path_edges q qs) p.1 p.0
 
 not_true : (t : Bool) → not t ≡ true → t ≡ true → ⊥
@@ -65,7 +71,8 @@ pub point_eq : (a b : Point) → not (int_eq a.x b.x && int_eq a.y b.y) ≡ fals
 point_eq a b h =
     let d = Decides-and (int_eq a.x b.x) (int_eq a.y b.y) (Decides-int_eq a.x b.x) (Decides-int_eq a.y b.y) in
     let both = d.0 (not_false (int_eq a.x b.x && int_eq a.y b.y) h) in
-    ap (λ (i : ℤ). let p : Point = record { x = i; y = a.y } in p) both.0 ∙ ap (λ (i : ℤ). let p : Point = record { x = b.x; y = i } in p) both.1
+    ap (λ (i : ℤ). let p : Point = record { x = i; y = a.y } in p) both.0 ∙ ap (λ (i : ℤ). let p : Point =
+    record { x = b.x; y = i } in p) both.1
 
 pub no_fault : (qs : List Point) (f : RingFault) → IsFaultOf qs f → 3 ≤ length qs → All IsStraight (edges qs) → ⊥
 no_fault qs TooFew h n s = absurd (omega (arith, h, n))

@@ -1,12 +1,10 @@
 -- Where elements begin and end among other records.
-use Rattle.std.proofs.Common.{◌≡◌, ◌==◌, ◌&&◌, ◌||◌, ℕ, inl, inr, Bool, true, false, not, List, [], ◌∷◌, ◌++◌, refl}
+use Rattle.std.proofs.Common.{◌≡◌, ◌==◌, ◌&&◌, ℕ, inl, inr, Bool, true, false, not, List, [], ◌∷◌, ◌++◌, refl}
 use Rattle.std.proofs.Common.{sym, ap, ◌∙◌, subst, append_assoc}
-use Rattle.std.proofs.lemmas.List.{append-nil}
 use Rattle.gds_elements.specs.Types.{boundary, path, sref, aref, text, endel}
 use Rattle.lvl_grammar.specs.Order.{Order, nothing, one, next, either, many, IsWord, Begins, has}
 use Rattle.gds_elements.specs.Order.{opens, an_element}
 use Rattle.gds_elements.specs.Rec.{Rec, kinds}
-use Rattle.lvl_grammar.specs.inside.After.{LeadsTo}
 use Rattle.gds_elements.specs.inside.Reading.{HasRead, IsReading}
 use Rattle.gds_elements.specs.declared.element.Element.{Element}
 use Rattle.gds_elements.specs.declared.element.State.{State}
@@ -37,9 +35,10 @@ use Rattle.gds_elements.specs.inside.Sref.{left as sref_left}
 use Rattle.gds_elements.specs.inside.Aref.{left as aref_left}
 use Rattle.gds_elements.specs.inside.Text.{left as text_left}
 use Rattle.lvl_grammar.specs.inside.After.{can_be_empty}
-use Rattle.lvl_grammar.proofs.Orders.{at_type, type_same, empty_word}
+use Rattle.lvl_grammar.proofs.Orders.{at_type, type_same}
+use Rattle.lvl_grammar.proofs.Leads.{leads_unwhole}
 use Rattle.gds_elements.proofs.Leads.{leads_begins}
-use Rattle.gds_elements.proofs.Words.{Stands, stands_append, stands_left, has_all}
+use Rattle.gds_elements.proofs.Words.{Stands, stands_append, stands_left, has_all, or_left, or_right}
 
 -- an order whose words end with a type, which is nowhere before
 ends_with : ℕ → Order → Bool
@@ -73,7 +72,10 @@ ends_once k (next a b) w e h =
     record {
       before = h.0 ++ r.before;
       is = h.4 ∙ ap (λ l. h.0 ++ l) r.is ∙ sym (append_assoc h.0 r.before (k ∷ []));
-      nowhere = λ s. elim (stands_append k h.0 r.before s) [ inl x ↦ not_so (has a k) p.0 (has_all a k h.0 h.2 x) | inr y ↦ r.nowhere y ];
+      nowhere = λ s. elim (stands_append k h.0 r.before s) [
+        | inl x ↦ not_so (has a k) p.0 (has_all a k h.0 h.2 x)
+        | inr y ↦ r.nowhere y
+      ];
     }
 ends_once k (either a b) w e h =
     let p = and_both (ends_with k a) (ends_with k b) e in
@@ -97,12 +99,6 @@ nothing_follows w u h g =
     let p = ends_once endel an_element w refl h in
     let q = ends_once endel an_element (w ++ u) refl g in
     one_end endel p.before q.before u q.nowhere (ap (λ l. l ++ u) (sym p.is) ∙ q.is)
-
-more_left : (w : List ℕ) (a : Order) → can_be_empty a ≡ false → LeadsTo an_element w a → IsWord an_element w → ⊥
-more_left w a n h x =
-    let y : IsWord a [] = (h []).0 (subst (IsWord an_element) (sym (append-nil w)) x) in
-    let z : false ≡ true = sym n ∙ empty_word a y in
-    cc
 
 -- at each place something is left
 boundary_more : (p : BoundaryPlace) → can_be_empty (boundary_left p) ≡ false
@@ -153,12 +149,17 @@ state_begins (Text t) piece h = leads_begins (kinds piece) (text_left t.place) h
 state_begins (AtEnd d) piece h = leads_begins (kinds piece) (one endel) h.leads
 
 state_unfinished : (s : State) (piece : List Rec) → HasRead s piece → IsWord an_element (kinds piece) → ⊥
-state_unfinished (Boundary b) piece h = more_left (kinds piece) (boundary_left b.place) (boundary_more b.place) h.leads
-state_unfinished (Path p) piece h = more_left (kinds piece) (path_left p.place) (path_more p.place) h.leads
-state_unfinished (Sref s) piece h = more_left (kinds piece) (sref_left s.place) (sref_more s.place) h.leads
-state_unfinished (Aref a) piece h = more_left (kinds piece) (aref_left a.place) (aref_more a.place) h.leads
-state_unfinished (Text t) piece h = more_left (kinds piece) (text_left t.place) (text_more t.place) h.leads
-state_unfinished (AtEnd d) piece h = more_left (kinds piece) (one endel) refl h.leads
+state_unfinished (Boundary b) piece h =
+    leads_unwhole an_element (kinds piece) (boundary_left b.place) (boundary_more b.place) h.leads
+state_unfinished (Path p) piece h =
+    leads_unwhole an_element (kinds piece) (path_left p.place) (path_more p.place) h.leads
+state_unfinished (Sref s) piece h =
+    leads_unwhole an_element (kinds piece) (sref_left s.place) (sref_more s.place) h.leads
+state_unfinished (Aref a) piece h =
+    leads_unwhole an_element (kinds piece) (aref_left a.place) (aref_more a.place) h.leads
+state_unfinished (Text t) piece h =
+    leads_unwhole an_element (kinds piece) (text_left t.place) (text_more t.place) h.leads
+state_unfinished (AtEnd d) piece h = leads_unwhole an_element (kinds piece) (one endel) refl h.leads
 
 -- what an element has read begins an element
 pub reading_begins : (e : Element) (piece : List Rec) → IsReading e piece → Begins an_element (kinds piece)
@@ -178,14 +179,6 @@ begins_with_one : Order → Bool
 begins_with_one (next (one j) b) = true
 begins_with_one (either a b) = begins_with_one a && begins_with_one b
 begins_with_one a = false
-
-or_left : (a b : Bool) → a ≡ true → a || b ≡ true
-or_left true b e = refl
-or_left false b e = cc
-
-or_right : (a b : Bool) → b ≡ true → a || b ≡ true
-or_right true b e = refl
-or_right false b e = e
 
 stands_in_word : (a : Order) (o k : ℕ) (w : List ℕ) → begins_with_one a ≡ true → IsWord a (o ∷ w) → Stands k w
     → has (behind_first a) k ≡ true
@@ -226,7 +219,9 @@ opener_apart k j = at_type no_opener k j
 pub opens_first : (o k : ℕ) (w : List ℕ) → Begins an_element (o ∷ w) → Stands k w → opens k ≡ false
 unfolding no_opener
 opens_first o k w b s =
-    opener_apart k boundary (λ e. cc) (λ a. opener_apart k path (λ e. cc) (λ c. opener_apart k sref (λ e. cc) (λ d. opener_apart k aref (λ e. cc) (λ f. opener_apart k text (λ e. cc)
+    opener_apart k boundary (λ e. cc)
+    (λ a. opener_apart k path (λ e. cc)
+    (λ c. opener_apart k sref (λ e. cc) (λ d. opener_apart k aref (λ e. cc) (λ f. opener_apart k text (λ e. cc)
     (λ g e. rw (a, c, d, f, g) refl))))) (stands_behind o k w b s)
 
 -- nor does a type that is in no element

@@ -38,10 +38,10 @@ pub last_read : {A : Type 0} (f : Option Rec → A) (j : ℕ) (rs : List Rec) (r
 last_read f j rs r old new h e =
     carried f (r.kind == j) (Some r) (last_of j rs) old new h e ∙ sym (ap f (last_of-snoc j rs r))
 
-if_so : {A : Type 0} (b : Bool) (x y : A) → b ≡ true → (if b then x else y) ≡ x
+pub if_so : {A : Type 0} (b : Bool) (x y : A) → b ≡ true → (if b then x else y) ≡ x
 if_so b x y e = rw e refl
 
-if_not : {A : Type 0} (b : Bool) (x y : A) → b ≡ false → (if b then x else y) ≡ y
+pub if_not : {A : Type 0} (b : Bool) (x y : A) → b ≡ false → (if b then x else y) ≡ y
 if_not b x y e = rw e refl
 
 pub field_here : (j : ℕ) (rs : List Rec) (r : Rec) → r.kind == j ≡ true → field j (rs ++ r ∷ []) ≡ r.payload

@@ -14,18 +14,10 @@ use Rattle.gds_elements.specs.declared.fault.ElementFault.TheVariants.{Misplaced
 use Rattle.gds_elements.specs.declared.fault.Misplaced.{Misplaced}
 use Rattle.gds_elements.specs.declared.fault.Misplaced.TheVariants.{Unexpected, Unsupported}
 use Rattle.lvl_refusal.specs.declared.Refusal.TheVariants.{Breach, OutOfMemory}
-use Rattle.gds_elements.specs.declared.order.Next.{Next}
-use Rattle.gds_elements.specs.declared.order.Next.TheVariants.{Goes, Ends, Nowhere}
 use Rattle.lvl_grammar.specs.inside.After.{after_first}
 use Rattle.lvl_grammar.proofs.Orders.{type_same}
 use Rattle.lvl_grammar.proofs.Leads.{leads_begin, leads_on, leads_nowhere, leads_begins as begins_by}
 use Rattle.gds_elements.proofs.Fields.{kinds-snoc}
-
--- what is left after a record
-abbrev pub left_behind : {P : Type 0} → (P → Order) → Next P → List Order
-left_behind left (Goes p) = left p ∷ []
-left_behind left Ends = one endel ∷ []
-left_behind left Nowhere = []
 
 -- what leads to what is left begins an element
 pub leads_begins : (w : List ℕ) (a : Order) → LeadsTo an_element w a → Begins an_element w
@@ -61,7 +53,8 @@ pub law_misplaced : (piece : List Rec) (r : Rec) (a : Order) (e : Refusal Elemen
     → LeadsTo an_element (kinds piece) a → after_first a r.kind ≡ [] → r.kind < 60 → IsMisplaced r.kind e
     → Says e (ElementBreaches piece r)
 law_misplaced piece r a (Breach (MisplacedRecord m)) h t l x =
-    misplaced_as (InOrder piece r) r m (λ g. leads_nowhere an_element (kinds piece) a r.kind h t (subst (Begins an_element) (kinds-snoc piece r) g)) l x
+    misplaced_as (InOrder piece r) r m (λ g. leads_nowhere an_element (kinds piece) a r.kind h t
+    (subst (Begins an_element) (kinds-snoc piece r) g)) l x
 law_misplaced piece r a (Breach (Rule k)) h t l x = absurd x
 law_misplaced piece r a OutOfMemory h t l x = absurd x
 

@@ -15,4 +15,3 @@ pub mod Arefs
 pub mod Texts
 pub mod Arrays
 pub mod Elements
-pub mod Forms

@@ -1,19 +1,14 @@
 -- A record breaches one rule at most.
-use Rattle.std.proofs.Common.{Bool, true, ◌||◌, ◌≡◌, ◌≢◌, ◌==◌, if◌then◌else◌, ℕ, ◌<◌, ◌≤◌, inl, inr, List, length}
+use Rattle.std.proofs.Common.{Bool, true, ◌||◌, ◌≡◌, ◌≢◌, ◌==◌, ℕ, ◌≤◌, inl, inr, List, length}
 use Rattle.std.proofs.Common.{Some, refl, sym, ap, ◌∙◌, subst, arith}
 use Rattle.std.proofs.lemmas.Int.{ints}
-use Rattle.lvl_grid.specs.declared.point.Point.{Point}
-use Rattle.lvl_path.specs.Runs.{IsLowestFault, number}
 use Rattle.lvl_path.specs.declared.fault.PathFault.{PathFault}
-use Rattle.lvl_path.specs.declared.fault.PathFault.TheVariants.{NoWidth, FewPoints, Oblique as ObliqueStep}
-use Rattle.lvl_path.specs.declared.fault.PathFault.TheVariants.{RepeatedPoint, TurnsBack, ShortRun, OutOfRange}
 use Rattle.gds_elements.specs.Types.{boundary, path, aref, layer, datatype, width, xy, sname, colrow, strans, mag}
 use Rattle.gds_elements.specs.Types.{angle, pathtype}
 use Rattle.lvl_grammar.specs.Order.{Begins}
 use Rattle.gds_elements.specs.Order.{an_element}
 use Rattle.gds_elements.specs.Rec.{Rec, kinds, opener}
 use Rattle.gds_elements.specs.Values.{points}
-use Rattle.gds_elements.specs.Meaning.{half_of, end_of}
 use Rattle.gds_elements.specs.Rules.{IsKnown, IsMiscounted, InOrder, ValueBreaches, IsMisplacedAs, ElementBreaches}
 use Rattle.gds_elements.specs.declared.fault.Misplaced.{Misplaced}
 use Rattle.gds_elements.specs.declared.fault.Misplaced.TheVariants.{Unexpected, Unsupported}
@@ -26,45 +21,38 @@ use Rattle.gds_elements.specs.declared.fault.ElementRule.TheVariants.{PathType, 
 use Rattle.gds_elements.proofs.Fields.{kinds-snoc}
 use Rattle.gds_elements.proofs.Words.{begun_known}
 use Rattle.gds_elements.proofs.Allowed.{one_opener, counted}
-
--- the rule of a number
-rule_at : ℕ → PathFault
-rule_at n =
-    if n == 1 then NoWidth else (if n == 2 then FewPoints else (if n == 3 then ObliqueStep else (if n == 4 then RepeatedPoint
-    else (if n == 5 then TurnsBack else (if n == 6 then ShortRun else OutOfRange)))))
-
-rule_back : (f : PathFault) → rule_at (number f) ≡ f
-unfolding rule_at
-rule_back NoWidth = refl
-rule_back FewPoints = refl
-rule_back ObliqueStep = refl
-rule_back RepeatedPoint = refl
-rule_back TurnsBack = refl
-rule_back ShortRun = refl
-rule_back OutOfRange = refl
-
--- two faults of a path are not both the lowest
-lowest_apart : (ps : List Point) (h s e : ℕ) (f g : PathFault)
-    → IsLowestFault ps (record { half = h; start = s; end = e }) f
-    → IsLowestFault ps (record { half = h; start = s; end = e }) g → f ≡ g
-lowest_apart ps h s e f g x y =
-    let below : number f < number g → ⊥ = λ l. y.lowest f l x.breached in
-    let above : number g < number f → ⊥ = λ l. x.lowest g l y.breached in
-    let same : number f ≡ number g = grind arith in
-    sym (rule_back f) ∙ ap rule_at same ∙ rule_back g
+use Rattle.lvl_path.proofs.Lowest.{one_lowest}
 
 -- the number of points is as it has to be, where a rule speaks of what they are
 boundary_counted : (piece : List Rec) (n : ℕ) → opener piece ≡ Some boundary → 4 ≤ n → IsMiscounted piece n → ⊥
 boundary_counted piece n o h =
-    counted piece boundary n o (λ _. h, λ e. absurd (omega arith), λ e. absurd (omega arith), λ e. absurd (omega arith), λ e. absurd (omega arith))
+    counted piece boundary n o (
+      λ _. h,
+      λ e. absurd (omega arith),
+      λ e. absurd (omega arith),
+      λ e. absurd (omega arith),
+      λ e. absurd (omega arith),
+    )
 
 path_counted : (piece : List Rec) (n : ℕ) → opener piece ≡ Some path → 2 ≤ n → IsMiscounted piece n → ⊥
 path_counted piece n o h =
-    counted piece path n o (λ e. absurd (omega arith), λ _. h, λ e. absurd (omega arith), λ e. absurd (omega arith), λ e. absurd (omega arith))
+    counted piece path n o (
+      λ e. absurd (omega arith),
+      λ _. h,
+      λ e. absurd (omega arith),
+      λ e. absurd (omega arith),
+      λ e. absurd (omega arith),
+    )
 
 aref_counted : (piece : List Rec) (n : ℕ) → opener piece ≡ Some aref → n ≡ 3 → IsMiscounted piece n → ⊥
 aref_counted piece n o h =
-    counted piece aref n o (λ e. absurd (omega arith), λ e. absurd (omega arith), λ _. h, λ e. absurd (omega arith), λ e. absurd (omega arith))
+    counted piece aref n o (
+      λ e. absurd (omega arith),
+      λ e. absurd (omega arith),
+      λ _. h,
+      λ e. absurd (omega arith),
+      λ e. absurd (omega arith),
+    )
 
 two_openers : (piece : List Rec) (k j : ℕ) → opener piece ≡ Some k → opener piece ≡ Some j → k ≢ j → ⊥
 two_openers piece k j o p n = n (one_opener piece k j o p)
@@ -86,7 +74,7 @@ one_value piece r PathType PathType x y = refl
 one_value piece r Oblique Oblique x y = refl
 one_value piece r Repetition Repetition x y = refl
 one_value piece r (Path f) (Path g) x y =
-    ap (λ (i : PathFault). Path i) (lowest_apart (points r.payload) (half_of piece) (end_of piece) (end_of piece) f g x.4 y.4)
+    ap (λ (i : PathFault). Path i) (one_lowest (points r.payload) _ f g x.4 y.4)
 one_value piece r Points NotClosed x y = absurd (boundary_counted piece (length (points r.payload)) y.1 y.2 x.1)
 one_value piece r NotClosed Points x y = absurd (boundary_counted piece (length (points r.payload)) x.1 x.2 y.1)
 one_value piece r Points Oblique x y = absurd (boundary_counted piece (length (points r.payload)) y.1 y.2 x.1)
@@ -96,9 +84,15 @@ one_value piece r ArrayStep Points x y = absurd (aref_counted piece (length (poi
 one_value piece r Points (Path f) x y = absurd (path_counted piece (length (points r.payload)) y.1 y.2 x.1)
 one_value piece r (Path f) Points x y = absurd (path_counted piece (length (points r.payload)) x.1 x.2 y.1)
 one_value piece r Points Width x y =
-    absurd (elim y.1 [ inl z ↦ omega (arith, x.0, z.0) | inr z ↦ path_counted piece (length (points r.payload)) y.0 z.1 x.1 ])
+    absurd (elim y.1 [
+      | inl z ↦ omega (arith, x.0, z.0)
+      | inr z ↦ path_counted piece (length (points r.payload)) y.0 z.1 x.1
+    ])
 one_value piece r Width Points x y =
-    absurd (elim x.1 [ inl z ↦ omega (arith, y.0, z.0) | inr z ↦ path_counted piece (length (points r.payload)) x.0 z.1 y.1 ])
+    absurd (elim x.1 [
+      | inl z ↦ omega (arith, y.0, z.0)
+      | inr z ↦ path_counted piece (length (points r.payload)) x.0 z.1 y.1
+    ])
 one_value piece r NotClosed Oblique x y = absurd (x.3 y.3)
 one_value piece r Oblique NotClosed x y = absurd (y.3 x.3)
 one_value piece r NotClosed ArrayStep x y = absurd (two_openers piece boundary aref x.1 y.1 (λ e. omega arith))
@@ -124,9 +118,15 @@ one_value piece r ColRow Repetition x y =
 one_value piece r Repetition ColRow x y =
     absurd (elim y.2 [ inl z ↦ omega (arith, ints, z, x.2) | inr z ↦ omega (arith, ints, z, x.3) ])
 one_value piece r Layer Width x y =
-    absurd (elim y.1 [ inl z ↦ elim x.0 [ inl e ↦ omega (arith, e, z.0) | inr e ↦ omega (arith, e, z.0) ] | inr z ↦ elim x.0 [ inl e ↦ omega (arith, e, z.0) | inr e ↦ omega (arith, e, z.0) ] ])
+    absurd (elim y.1 [
+      | inl z ↦ elim x.0 [ inl e ↦ omega (arith, e, z.0) | inr e ↦ omega (arith, e, z.0) ]
+      | inr z ↦ elim x.0 [ inl e ↦ omega (arith, e, z.0) | inr e ↦ omega (arith, e, z.0) ]
+    ])
 one_value piece r Width Layer x y =
-    absurd (elim x.1 [ inl z ↦ elim y.0 [ inl e ↦ omega (arith, e, z.0) | inr e ↦ omega (arith, e, z.0) ] | inr z ↦ elim y.0 [ inl e ↦ omega (arith, e, z.0) | inr e ↦ omega (arith, e, z.0) ] ])
+    absurd (elim x.1 [
+      | inl z ↦ elim y.0 [ inl e ↦ omega (arith, e, z.0) | inr e ↦ omega (arith, e, z.0) ]
+      | inr z ↦ elim y.0 [ inl e ↦ omega (arith, e, z.0) | inr e ↦ omega (arith, e, z.0) ]
+    ])
 one_value piece r Layer k x y = absurd (elim x.0 [ inl e ↦ omega (arith, e, y.0) | inr e ↦ omega (arith, e, y.0) ])
 one_value piece r j Layer x y = absurd (elim y.0 [ inl e ↦ omega (arith, e, x.0) | inr e ↦ omega (arith, e, x.0) ])
 one_value piece r Width k x y = absurd (elim x.1 [ inl z ↦ omega (arith, z.0, y.0) | inr z ↦ omega (arith, z.0, y.0) ])
@@ -163,14 +163,16 @@ one_rule piece r (Rule j) (Rule k) x y = ap (λ (i : ElementRule). Rule i) (one_
 -- a type whose value may breach a rule
 abbrev pub is_value : ℕ → Bool
 is_value k =
-    (k == layer) || (k == datatype) || (k == width) || (k == xy) || (k == sname) || (k == colrow) || (k == strans) || (k == mag) || (k == angle) || (k == pathtype)
+    (k == layer) || (k == datatype) || (k == width) || (k == xy) || (k == sname) || (k == colrow) || (k == strans)
+    || (k == mag) || (k == angle) || (k == pathtype)
 
 at_value : (k j : ℕ) → is_value j ≡ true → k ≡ j → is_value k ≡ true
 at_value k j h e = subst (λ i. is_value i ≡ true) (sym e) h
 
 -- a rule is breached by such a type alone
 pub value_breaches : (piece : List Rec) (r : Rec) (k : ElementRule) → ValueBreaches piece r k → is_value r.kind ≡ true
-value_breaches piece r Layer x = elim x.0 [ inl e ↦ at_value r.kind layer refl e | inr e ↦ at_value r.kind datatype refl e ]
+value_breaches piece r Layer x =
+    elim x.0 [ inl e ↦ at_value r.kind layer refl e | inr e ↦ at_value r.kind datatype refl e ]
 value_breaches piece r Points x = at_value r.kind xy refl x.0
 value_breaches piece r NotClosed x = at_value r.kind xy refl x.0
 value_breaches piece r Strans x = at_value r.kind strans refl x.0
@@ -180,7 +182,8 @@ value_breaches piece r ColRow x = at_value r.kind colrow refl x.0
 value_breaches piece r ArrayStep x = at_value r.kind xy refl x.0
 value_breaches piece r Name x = at_value r.kind sname refl x.0
 value_breaches piece r (Path f) x = at_value r.kind xy refl x.0
-value_breaches piece r Width x = elim x.1 [ inl e ↦ at_value r.kind width refl e.0 | inr e ↦ at_value r.kind xy refl e.0 ]
+value_breaches piece r Width x =
+    elim x.1 [ inl e ↦ at_value r.kind width refl e.0 | inr e ↦ at_value r.kind xy refl e.0 ]
 value_breaches piece r PathType x = at_value r.kind pathtype refl x.0
 value_breaches piece r Oblique x = at_value r.kind xy refl x.0
 value_breaches piece r Repetition x = at_value r.kind colrow refl x.0

@@ -14,65 +14,21 @@ use Rattle.gds_elements.specs.Rec.{Rec, opener, field, last_of, payload_of}
 use Rattle.gds_elements.specs.Values.{short, magnitude, points}
 use Rattle.gds_elements.specs.Meaning.{layer_of, half, half_of, end_of, end_reach, shapes_by, references_by, in_rings}
 use Rattle.gds_elements.specs.Meaning.{one_place}
-use Rattle.gds_elements.specs.inside.Path.{after, left, half_in, IsPathRead, reach_at, IsBandsFault}
+use Rattle.gds_elements.specs.inside.Path.{left, half_in, IsPathRead, reach_at, IsBandsFault}
 use Rattle.gds_elements.specs.Rules.{ValueBreaches}
 use Rattle.gds_elements.specs.declared.fault.ElementRule.{ElementRule}
 use Rattle.gds_elements.specs.declared.fault.ElementRule.TheVariants.{Points as PointsFault, Path as PathFault}
 use Rattle.gds_elements.specs.declared.fault.ElementRule.TheVariants.{Width as WidthFault}
 use Rattle.gds_elements.specs.inside.Reading.{IsAtEnd}
-use Rattle.gds_elements.specs.declared.order.Next.TheVariants.{Goes, Ends, Nowhere}
-use Rattle.gds_elements.specs.declared.path.Place.{Place}
-use Rattle.gds_elements.specs.declared.path.Place.TheVariants.{Layer, Datatype, PathType, Width, Points}
 use Rattle.gds_elements.specs.declared.path.Path.{Path}
 use Rattle.gds_elements.specs.declared.element.Drawn.TheVariants.{Rings as PathRings}
 use Rattle.lvl_grammar.specs.inside.After.{after_first}
-use Rattle.lvl_grammar.proofs.Orders.{at_type}
 use Rattle.gds_elements.proofs.Fields.{field_read, field_here, field_there, last_read, opener-snoc}
-use Rattle.gds_elements.proofs.Leads.{left_behind, leads_more}
+use Rattle.gds_elements.proofs.Leads.{leads_more}
 use Rattle.gds_elements.proofs.Shapes.{layer_more, layer_kept, shape_same, kind_test}
 
-abbrev AsTable : Place → ℕ → Type 0
-AsTable p k = after_first (left p) k ≡ left_behind left (after p k)
-
-one_way : (p : Place) (k j : ℕ) → AsTable p j → (k == j ≡ false → AsTable p k) → AsTable p k
-one_way p k j = at_type (AsTable p) k j
-
--- what may come after a type is what is left at the place that the table gives
-pub by_table : (p : Place) (k : ℕ) → AsTable p k
-by_table Layer k = one_way Layer k layer refl (λ a. rw a refl)
-by_table Datatype k = one_way Datatype k datatype refl (λ a. rw a refl)
-by_table PathType k =
-    one_way PathType k pathtype refl (λ a. one_way PathType k width refl (λ b. one_way PathType k xy refl (λ c. rw (a, b, c) refl)))
-by_table Width k = one_way Width k width refl (λ a. one_way Width k xy refl (λ b. rw (a, b) refl))
-by_table Points k = one_way Points k xy refl (λ a. rw a refl)
-
-goes_at : (p q : Place) → after p xy ≡ Goes q → ⊥
-goes_at Layer q e = cc
-goes_at Datatype q e = cc
-goes_at PathType q e = cc
-goes_at Width q e = cc
-goes_at Points q e = cc
-
--- points end a path, and no other record does
-pub goes_on : (p q : Place) (k : ℕ) → after p k ≡ Goes q → k ≡ xy → ⊥
-goes_on p q k e x = goes_at p q (subst (λ i. after p i ≡ Goes q) x e)
-
-EndsHere : Place → ℕ → Type 0
-EndsHere p k = after p k ≡ Ends → k ≡ xy
-
-pub ends_by : (p : Place) (k : ℕ) → after p k ≡ Ends → k ≡ xy
-unfolding EndsHere
-ends_by Layer k = at_type (EndsHere Layer) k layer (λ e. cc) (λ a e. (let z : Nowhere ≡ Ends = rw a at e in cc))
-ends_by Datatype k =
-    at_type (EndsHere Datatype) k datatype (λ e. cc) (λ a e. (let z : Nowhere ≡ Ends = rw a at e in cc))
-ends_by PathType k =
-    at_type (EndsHere PathType) k pathtype (λ e. cc) (λ a. at_type (EndsHere PathType) k width (λ e. cc) (λ b. at_type (EndsHere PathType) k xy (λ e. refl)
-    (λ c e. (let z : Nowhere ≡ Ends = rw (a, b, c) at e in cc))))
-ends_by Width k =
-    at_type (EndsHere Width) k width (λ e. cc) (λ a. at_type (EndsHere Width) k xy (λ e. refl) (λ b e. (let z : Nowhere ≡ Ends = rw (a, b) at e in cc)))
-ends_by Points k = at_type (EndsHere Points) k xy (λ e. refl) (λ a e. (let z : Nowhere ≡ Ends = rw a at e in cc))
-
-pub path_goes : (p p' : Path) (piece : List Rec) (r : Rec) → IsPathRead p piece → after p.place r.kind ≡ Goes p'.place
+pub path_goes : (p p' : Path) (piece : List Rec) (r : Rec) → IsPathRead p piece
+    → after_first (left p.place) r.kind ≡ left p'.place ∷ []
     → p'.layer.layer ≡ (if r.kind == layer then magnitude (short r.payload) else p.layer.layer)
     → p'.layer.datatype ≡ (if r.kind == datatype then magnitude (short r.payload) else p.layer.datatype)
     → p'.square ≡ (if r.kind == pathtype then int_eq (short r.payload) (pos 2) else p.square)
@@ -80,7 +36,7 @@ pub path_goes : (p p' : Path) (piece : List Rec) (r : Rec) → IsPathRead p piec
     → IsPathRead p' (piece ++ r ∷ [])
 path_goes p p' piece r h a l d s w = record {
   opened = opener-snoc piece r path h.opened;
-  leads = leads_more piece r (left p.place) (left p'.place) h.leads (by_table p.place r.kind ∙ ap (left_behind left) a);
+  leads = leads_more piece r (left p.place) (left p'.place) h.leads a;
   layer = layer_more piece r p.layer p'.layer h.layer l d;
   square = field_read (λ q. int_eq (short q) (pos 2)) pathtype piece r p.square p'.square h.square s;
   half = last_read half_in width piece r p.half p'.half h.half w;
@@ -97,7 +53,8 @@ half_is p piece h r e = sym (half_known (last_of width piece) h (sym r.half ∙ 
 pub reach_is : (p : Path) (piece : List Rec) (h : ℕ) → IsPathRead p piece → p.half ≡ Some h
     → reach_at p.square h ≡ end_of piece
 reach_is p piece h r e =
-    ap (λ b. reach_at b h) r.square ∙ ap (λ n. reach_at (int_eq (short (field pathtype piece)) (pos 2)) n) (half_is p piece h r e)
+    ap (λ b. reach_at b h) r.square ∙ ap (λ n. reach_at (int_eq (short (field pathtype piece)) (pos 2)) n)
+    (half_is p piece h r e)
 
 half_none : (o : Option Rec) → o ≡ None → half_in o ≡ None
 half_none None e = refl
@@ -121,30 +78,33 @@ half_kept piece r x = ap half (field_there width piece r (subst (λ k. k == widt
 
 end_kept : (piece : List Rec) (r : Rec) → r.kind ≡ xy → end_of (piece ++ r ∷ []) ≡ end_of piece
 end_kept piece r x =
-    ap (λ p. end_reach p (half_of (piece ++ r ∷ []))) (field_there pathtype piece r (subst (λ k. k == pathtype ≡ false) (sym x) refl))
+    ap (λ p. end_reach p (half_of (piece ++ r ∷ [])))
+    (field_there pathtype piece r (subst (λ k. k == pathtype ≡ false) (sym x) refl))
     ∙ ap (end_reach (field pathtype piece)) (half_kept piece r x)
 
 abbrev rings_at : List Point → ℕ → ℕ → Rings
 rings_at ps h e = path_rings ps (record { half = h; start = e; end = e })
 
 pub path_ends : (p : Path) (piece : List Rec) (r : Rec) (h : ℕ) (rings : Vec (List Point) Global)
-    → IsPathRead p piece → after p.place r.kind ≡ Ends → p.half ≡ Some h
+    → IsPathRead p piece → after_first (left p.place) r.kind ≡ one endel ∷ [] → r.kind ≡ xy → p.half ≡ Some h
     → rings.items ≡ rings_at (points r.payload) h (reach_at p.square h)
     → IsAtEnd (PathRings p.layer rings) (piece ++ r ∷ [])
-path_ends p piece r h rings i a w e =
+path_ends p piece r h rings i a x w e =
     let new = piece ++ r ∷ [] in
-    let x : r.kind ≡ xy = ends_by p.place r.kind a in
     let o : opener new ≡ Some path = opener-snoc piece r path i.opened in
     record {
       opened = (path, o);
-      leads = leads_more piece r (left p.place) (one endel) i.leads (by_table p.place r.kind ∙ ap (left_behind left) a);
+      leads = leads_more piece r (left p.place) (one endel) i.leads a;
       drawn = record {
         shapes =
-            shape_same p.layer (layer_of new) rings.items (rings_at (points (field xy new)) (half_of new) (end_of new)) one_place one_place
+            shape_same p.layer (layer_of new) rings.items (rings_at (points (field xy new)) (half_of new) (end_of new))
+            one_place one_place
             (i.layer ∙ sym (layer_kept piece r x))
             (e ∙ ap (λ q. rings_at (points q) h (reach_at p.square h)) (sym (field_here xy piece r (kind_test r xy x)))
-            ∙ ap (λ n. rings_at (points (field xy new)) n (reach_at p.square h)) (half_is p piece h i w ∙ sym (half_kept piece r x))
-            ∙ ap (λ n. rings_at (points (field xy new)) (half_of new) n) (reach_is p piece h i w ∙ sym (end_kept piece r x)))
+            ∙ ap (λ n. rings_at (points (field xy new)) n (reach_at p.square h))
+            (half_is p piece h i w ∙ sym (half_kept piece r x))
+            ∙ ap (λ n. rings_at (points (field xy new)) (half_of new) n)
+            (reach_is p piece h i w ∙ sym (end_kept piece r x)))
             refl
             ∙ sym (ap (λ q. map in_rings (shapes_by q new)) o);
         references = sym (ap (λ q. references_by q new) o);
@@ -158,7 +118,9 @@ bands_fault p piece r h x PointsFault b = (x, inr (inl (h.opened, b)))
 bands_fault p piece r h x WidthFault b = (h.opened, inr (x, b.0, none_half (last_of width piece) (sym h.half ∙ b.1)))
 bands_fault p piece r h x (PathFault f) (n, half, e, low) =
     let ps = points r.payload in
-    let low' = subst (λ (i : ℕ). IsLowestFault ps (record { half = half; start = i; end = i }) f) (reach_is p piece half h e) low in
-    let low'' = subst (λ (i : ℕ). IsLowestFault ps (record { half = i; start = end_of piece; end = end_of piece }) f) (half_is p piece half h e) low' in
+    let low' = subst (λ (i : ℕ). IsLowestFault ps (record { half = half; start = i; end = i }) f)
+    (reach_is p piece half h e) low in
+    let low'' = subst (λ (i : ℕ). IsLowestFault ps (record { half = i; start = end_of piece; end = end_of piece }) f)
+    (half_is p piece half h e) low' in
     (x, h.opened, n, width_read p piece h (λ z. (let y : Some half ≡ None = sym e ∙ z in cc)), low'')
 bands_fault p piece r h x other b = absurd b

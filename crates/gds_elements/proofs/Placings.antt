@@ -37,14 +37,23 @@ reference_from n f t a s = record { cell = n; flip = f; turn = t; at = a; shifts
 -- the reference after the points is that of the records
 pub reference_is : (p : Placing) (piece : List Rec) (r : Rec) (shifts shifts' : List Point) → IsPlaced p piece
     → r.kind ≡ xy → shifts ≡ shifts'
-    → record { cell = p.name.items; flip = p.flip; turn = p.turn; at = nth (points r.payload) 0; shifts = shifts } ≡ reference (piece ++ r ∷ []) shifts'
+    → record {
+      cell = p.name.items;
+      flip = p.flip;
+      turn = p.turn;
+      at = nth (points r.payload) 0;
+      shifts = shifts;
+    } ≡ reference (piece ++ r ∷ []) shifts'
 unfolding reference_from
 reference_is p piece r shifts shifts' h x e =
     let new = piece ++ r ∷ [] in
     let k = placed_kept p piece r h x in
-    let at : nth (points r.payload) 0 ≡ nth (points (field xy new)) 0 = ap (λ q. nth (points q) 0) (sym (field_here xy piece r (kind_test r xy x))) in
+    let at : nth (points r.payload) 0 ≡ nth (points (field xy new)) 0 =
+    ap (λ q. nth (points q) 0) (sym (field_here xy piece r (kind_test r xy x))) in
     ap (λ i. reference_from i p.flip p.turn (nth (points r.payload) 0) shifts) k.name
     ∙ ap (λ i. reference_from (name (field sname new)) i p.turn (nth (points r.payload) 0) shifts) k.flip
-    ∙ ap (λ i. reference_from (name (field sname new)) (flips (field strans new)) i (nth (points r.payload) 0) shifts) k.turn
+    ∙ ap (λ i. reference_from (name (field sname new)) (flips (field strans new)) i (nth (points r.payload) 0) shifts)
+    k.turn
     ∙ ap (λ i. reference_from (name (field sname new)) (flips (field strans new)) (turn (field angle new)) i shifts) at
-    ∙ ap (λ i. reference_from (name (field sname new)) (flips (field strans new)) (turn (field angle new)) (nth (points (field xy new)) 0) i) e
+    ∙ ap (λ i. reference_from (name (field sname new)) (flips (field strans new)) (turn (field angle new))
+    (nth (points (field xy new)) 0) i) e

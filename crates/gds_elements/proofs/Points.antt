@@ -1,7 +1,7 @@
 -- Lemmas on points.
 use Rattle.std.proofs.Common.{◌≡◌, ℕ, ◌+◌, ◌*◌, ◌/◌, ◌<◌, ◌≤◌, length, slice_index_or, arith, suc, zero, List, [], ◌∷◌}
-use Rattle.std.proofs.Common.{◌++◌, take, drop, refl, sym, ap, ◌∙◌, subst, append_assoc, add-one}
-use Rattle.std.proofs.lemmas.List.{append-nil, drop-drop}
+use Rattle.std.proofs.Common.{◌++◌, take, drop, refl, ap, ◌∙◌, subst, append_assoc, add-one}
+use Rattle.std.proofs.lemmas.List.{drop-drop}
 use Rattle.lvl_grid.specs.declared.point.Point.{Point}
 use Rattle.gds_elements.specs.Values.{point, points_of, points, nth}
 
@@ -12,10 +12,6 @@ points_more m n ps xs all e h =
     let s : n ≡ suc m = e ∙ add-one m in
     let k : ps ++ points_of (suc m) xs ≡ all = subst (λ i. ps ++ points_of i xs ≡ all) s h in
     append_assoc ps (point (take 8 xs) ∷ []) (points_of m (drop 8 xs)) ∙ k
-
-pub points_done : (n : ℕ) (ps : List Point) (xs : List ℕ) (all : List Point) → n ≡ 0 → ps ++ points_of n xs ≡ all
-    → ps ≡ all
-points_done n ps xs all e h = sym (append-nil ps) ∙ subst (λ i. ps ++ points_of i xs ≡ all) e h
 
 length-points_of : (n : ℕ) (p : List ℕ) → length (points_of n p) ≡ n
 length-points_of zero p = refl

@@ -12,7 +12,8 @@ use Rattle.gds_elements.proofs.Fields.{field_read, field_there}
 
 layer_from : (a b : ℕ) (l : LayerOf) → l.layer ≡ a → l.datatype ≡ b → l ≡ record { layer = a; datatype = b }
 layer_from a b l e f =
-    ap (λ (i : ℕ). let x : LayerOf = record { layer = i; datatype = l.datatype } in x) e ∙ ap (λ (i : ℕ). let x : LayerOf = record { layer = a; datatype = i } in x) f
+    ap (λ (i : ℕ). let x : LayerOf = record { layer = i; datatype = l.datatype } in x) e
+    ∙ ap (λ (i : ℕ). let x : LayerOf = record { layer = a; datatype = i } in x) f
 
 -- the layer and datatype after one more record
 pub layer_more : (piece : List Rec) (r : Rec) (old new : LayerOf) → old ≡ layer_of piece
@@ -22,7 +23,8 @@ pub layer_more : (piece : List Rec) (r : Rec) (old new : LayerOf) → old ≡ la
 layer_more piece r old new h e f =
     layer_from _ _ new
     (field_read (λ p. magnitude (short p)) layer piece r old.layer new.layer (ap (λ (l : LayerOf). l.layer) h) e)
-    (field_read (λ p. magnitude (short p)) datatype piece r old.datatype new.datatype (ap (λ (l : LayerOf). l.datatype) h) f)
+    (field_read (λ p. magnitude (short p)) datatype piece r old.datatype new.datatype
+    (ap (λ (l : LayerOf). l.datatype) h) f)
 
 -- the layer and datatype after the points
 pub layer_kept : (piece : List Rec) (r : Rec) → r.kind ≡ xy → layer_of (piece ++ r ∷ []) ≡ layer_of piece
@@ -38,7 +40,8 @@ shape_from l f s = record { layer = l; figure = f; shifts = s } ∷ []
 pub shape_same : (l m : LayerOf) (f g : Rings) (s t : List Point) → l ≡ m → f ≡ g → s ≡ t
     → shape_from l f s ≡ shape_from m g t
 shape_same l m f g s t a b c =
-    ap (λ (i : LayerOf). shape_from i f s) a ∙ ap (λ (i : Rings). shape_from m i s) b ∙ ap (λ (i : List Point). shape_from m g i) c
+    ap (λ (i : LayerOf). shape_from i f s) a ∙ ap (λ (i : Rings). shape_from m i s) b
+    ∙ ap (λ (i : List Point). shape_from m g i) c
 
 pub kind_test : (r : Rec) (k : ℕ) → r.kind ≡ k → r.kind == k ≡ true
 kind_test r k e = same_type r.kind k e

@@ -38,17 +38,21 @@ broken_breaches piece r P g h (MisplacedRecord m) x = absurd x
 broken_breaches piece r P g h (Rule k) x = (g, h k x)
 
 -- by a value that breaches a rule
-pub takes_broken : (piece : List Rec) (r : Rec) (res : Result State (Refusal ElementFault)) (e : Refusal ElementFault) (P : ElementRule → Type 0)
+pub takes_broken : (piece : List Rec) (r : Rec) (res : Result State (Refusal ElementFault)) (e : Refusal ElementFault)
+    (P : ElementRule → Type 0)
     → IsErr res × IsErrAnd res (λ x. x ≡ e) → InOrder piece r
     → ((k : ElementRule) → P k → ValueBreaches piece r k) → Says e (Broken P) → Takes piece r res
 takes_broken piece r res e P h g f s =
-    takes_refused piece r res e h (says_carried e (Broken P) (ElementBreaches piece r) (broken_breaches piece r P g f) s)
+    takes_refused piece r res e h (says_carried e (Broken P) (ElementBreaches piece r) (broken_breaches piece r P g f)
+    s)
 
-pub takes_one : (piece : List Rec) (r : Rec) (res : Result State (Refusal ElementFault)) (e : Refusal ElementFault) (k : ElementRule)
+pub takes_one : (piece : List Rec) (r : Rec) (res : Result State (Refusal ElementFault)) (e : Refusal ElementFault)
+    (k : ElementRule)
     → IsErr res × IsErrAnd res (λ x. x ≡ e) → InOrder piece r
     → e ≡ breach k → ValueBreaches piece r k → Takes piece r res
 takes_one piece r res e k h g f b =
-    takes_refused piece r res e h (subst (λ (i : Refusal ElementFault). Says i (ElementBreaches piece r)) (sym f) (g, b))
+    takes_refused piece r res e h (subst (λ (i : Refusal ElementFault). Says i (ElementBreaches piece r)) (sym f)
+    (g, b))
 
 -- the end leaves what was drawn
 same_kinds : (piece : List Rec) (r : Rec) (j : ℕ) → r.kind ≡ endel → endel == j ≡ false
@@ -58,12 +62,24 @@ same_kinds piece r j e n = last_there j piece r (subst (λ k. k == j ≡ false) 
 endel_shapes : (k : ℕ) (piece : List Rec) (r : Rec) → r.kind ≡ endel
     → shapes_by (Some k) (piece ++ r ∷ []) ≡ shapes_by (Some k) piece
 endel_shapes k piece r e =
-    rw (same_kinds piece r layer e refl, same_kinds piece r datatype e refl, same_kinds piece r xy e refl, same_kinds piece r width e refl, same_kinds piece r pathtype e refl) refl
+    rw (
+      same_kinds piece r layer e refl,
+      same_kinds piece r datatype e refl,
+      same_kinds piece r xy e refl,
+      same_kinds piece r width e refl,
+      same_kinds piece r pathtype e refl,
+    ) refl
 
 endel_references : (k : ℕ) (piece : List Rec) (r : Rec) → r.kind ≡ endel
     → references_by (Some k) (piece ++ r ∷ []) ≡ references_by (Some k) piece
 endel_references k piece r e =
-    rw (same_kinds piece r sname e refl, same_kinds piece r strans e refl, same_kinds piece r angle e refl, same_kinds piece r xy e refl, same_kinds piece r colrow e refl) refl
+    rw (
+      same_kinds piece r sname e refl,
+      same_kinds piece r strans e refl,
+      same_kinds piece r angle e refl,
+      same_kinds piece r xy e refl,
+      same_kinds piece r colrow e refl,
+    ) refl
 
 pub law_end : (piece : List Rec) (r : Rec) (d : Drawn) → IsAtEnd d piece → r.kind ≡ endel
     → IsStep (Whole d) (piece ++ r ∷ []) × BreachesNone piece r
@@ -71,13 +87,18 @@ law_end piece r d h e =
     let new = piece ++ r ∷ [] in
     let k = h.opened.0 in
     let o : opener new ≡ Some k = opener-snoc piece r k h.opened.1 in
-    let whole : IsWord an_element (kinds new) = subst (IsWord an_element) (sym (kinds-snoc piece r ∙ ap (λ i. kinds piece ++ i ∷ []) e)) ((h.leads (endel ∷ [])).1 refl) in
-    let begun : Begins an_element (kinds new) = ([], subst (IsWord an_element) (sym (append-nil (kinds new))) whole) in (
+    let whole : IsWord an_element (kinds new) =
+    subst (IsWord an_element) (sym (kinds-snoc piece r ∙ ap (λ i. kinds piece ++ i ∷ []) e))
+    ((h.leads (endel ∷ [])).1 refl) in
+    let begun : Begins an_element (kinds new) =
+    ([], subst (IsWord an_element) (sym (append-nil (kinds new))) whole) in (
       (
         whole,
         record {
-          shapes = h.drawn.shapes ∙ ap (λ q. map in_rings (shapes_by q piece)) h.opened.1 ∙ ap (map in_rings) (sym (endel_shapes k piece r e)) ∙ sym (ap (λ q. map in_rings (shapes_by q new)) o);
-          references = h.drawn.references ∙ ap (λ q. references_by q piece) h.opened.1 ∙ sym (endel_references k piece r e) ∙ sym (ap (λ q. references_by q new) o);
+          shapes = h.drawn.shapes ∙ ap (λ q. map in_rings (shapes_by q piece)) h.opened.1 ∙ ap (map in_rings)
+              (sym (endel_shapes k piece r e)) ∙ sym (ap (λ q. map in_rings (shapes_by q new)) o);
+          references = h.drawn.references ∙ ap (λ q. references_by q piece) h.opened.1
+              ∙ sym (endel_references k piece r e) ∙ sym (ap (λ q. references_by q new) o);
         },
       ),
       allowed piece r begun (law_endel piece r e),
@@ -87,7 +108,8 @@ law_end piece r d h e =
 pub takes_steps : (piece : List Rec) (r : Rec) (k : ℕ) (p : List ℕ) (res : Result Step (Refusal ElementFault))
     → r.kind ≡ k → r.payload ≡ p → ((d : ℕ) → Steps piece (record_of k d p) res) → Steps piece r res
 takes_steps piece r k p res e f h =
-    let g : record_of k r.data_type p ≡ r = ap (λ i. record_of i r.data_type p) (sym e) ∙ ap (λ q. record_of r.kind r.data_type q) (sym f) in
+    let g : record_of k r.data_type p ≡ r = ap (λ i. record_of i r.data_type p) (sym e)
+    ∙ ap (λ q. record_of r.kind r.data_type q) (sym f) in
     subst (λ (i : Rec). Steps piece i res) g (h r.data_type)
 
 pub steps_going : (piece : List Rec) (r : Rec) (res : Result Step (Refusal ElementFault)) → Steps piece r res

@@ -28,18 +28,19 @@ pub stands_right : (k : ℕ) (u v : List ℕ) → Stands k v → Stands k (u ++ 
 stands_right k [] v h = h
 stands_right k (x ∷ u) v h = inr (stands_right k u v h)
 
-or_left : (a b : Bool) → a ≡ true → a || b ≡ true
+pub or_left : (a b : Bool) → a ≡ true → a || b ≡ true
 or_left true b e = refl
 or_left false b e = cc
 
-or_right : (a b : Bool) → b ≡ true → a || b ≡ true
+pub or_right : (a b : Bool) → b ≡ true → a || b ≡ true
 or_right true b e = refl
 or_right false b e = e
 
 has_many : (a : Order) (k : ℕ) → ((w : List ℕ) → IsWord a w → Stands k w → has a k ≡ true)
     → (ws : List (List ℕ)) → AllByRecursion (IsWord a) ws → Stands k (flat_map (λ u. u) ws) → has a k ≡ true
 has_many a k ha [] p s = absurd s
-has_many a k ha (w ∷ ws) p s = elim (stands_append k w (flat_map (λ u. u) ws) s) [ inl x ↦ ha w p.0 x | inr y ↦ has_many a k ha ws p.1 y ]
+has_many a k ha (w ∷ ws) p s =
+    elim (stands_append k w (flat_map (λ u. u) ws) s) [ inl x ↦ ha w p.0 x | inr y ↦ has_many a k ha ws p.1 y ]
 
 -- a word of an order has only types that are in the order
 pub has_all : (a : Order) (k : ℕ) (w : List ℕ) → IsWord a w → Stands k w → has a k ≡ true
@@ -65,14 +66,21 @@ one_more k j = at_type known_if k j
 pub element_known : (k : ℕ) → has an_element k ≡ true → IsKnown k
 unfolding known_if
 element_known k =
-    one_more k boundary (λ _. refl) (λ e0. one_more k path (λ _. refl) (λ e1. one_more k sref (λ _. refl) (λ e2. one_more k aref (λ _. refl) (λ e3.
-    one_more k text (λ _. refl) (λ e4. one_more k layer (λ _. refl) (λ e5. one_more k datatype (λ _. refl) (λ e6. one_more k width (λ _. refl) (λ e7.
-    one_more k xy (λ _. refl) (λ e8. one_more k endel (λ _. refl) (λ e9. one_more k sname (λ _. refl) (λ e10. one_more k colrow (λ _. refl) (λ e11.
-    one_more k texttype (λ _. refl) (λ e12. one_more k presentation (λ _. refl) (λ e13. one_more k string (λ _. refl) (λ e14. one_more k strans (λ _. refl) (λ e15.
+    one_more k boundary (λ _. refl)
+    (λ e0. one_more k path (λ _. refl) (λ e1. one_more k sref (λ _. refl) (λ e2. one_more k aref (λ _. refl) (λ e3.
+    one_more k text (λ _. refl) (λ e4. one_more k layer (λ _. refl)
+    (λ e5. one_more k datatype (λ _. refl) (λ e6. one_more k width (λ _. refl) (λ e7.
+    one_more k xy (λ _. refl) (λ e8. one_more k endel (λ _. refl)
+    (λ e9. one_more k sname (λ _. refl) (λ e10. one_more k colrow (λ _. refl) (λ e11.
+    one_more k texttype (λ _. refl)
+    (λ e12. one_more k presentation (λ _. refl)
+    (λ e13. one_more k string (λ _. refl) (λ e14. one_more k strans (λ _. refl) (λ e15.
     one_more k mag (λ _. refl) (λ e16. one_more k angle (λ _. refl) (λ e17. one_more k pathtype (λ _. refl) (λ e18. λ h.
-    (let z : false ≡ true = rw (e0, e1, e2, e3, e4, e5, e6, e7, e8, e9, e10, e11, e12, e13, e14, e15, e16, e17, e18) at h in cc))))))))))))))))))))
+    (let z : false ≡ true = rw (e0, e1, e2, e3, e4, e5, e6, e7, e8, e9, e10, e11, e12, e13, e14, e15, e16, e17, e18)
+    at h in cc))))))))))))))))))))
 
 -- a record that goes on to an element is of a known type
 pub begun_known : (w : List ℕ) (k : ℕ) → Begins an_element (w ++ k ∷ []) → IsKnown k
 begun_known w k (v, x) =
-    element_known k (has_all an_element k ((w ++ k ∷ []) ++ v) x (stands_left k (w ++ k ∷ []) v (stands_right k w (k ∷ []) (inl refl))))
+    element_known k (has_all an_element k ((w ++ k ∷ []) ++ v) x
+    (stands_left k (w ++ k ∷ []) v (stands_right k w (k ∷ []) (inl refl))))

@@ -17,7 +17,8 @@ abbrev pub one_place : List Point
 one_place = record { x = pos 0; y = pos 0 } ∷ []
 
 abbrev pub layer_of : List Rec → Layer
-layer_of piece = record { layer = magnitude (short (field layer piece)); datatype = magnitude (short (field datatype piece)) }
+layer_of piece =
+    record { layer = magnitude (short (field layer piece)); datatype = magnitude (short (field datatype piece)) }
 
 -- half of a width
 abbrev pub half : List ℕ → ℕ
@@ -35,10 +36,20 @@ end_of piece = end_reach (field pathtype piece) (half_of piece)
 
 -- a boundary is the ring of its points but the last
 abbrev pub boundary_shape : List Rec → PlainShape Figure
-boundary_shape piece = record { layer = layer_of piece; figure = rings (but_last (points (field xy piece)) ∷ []); shifts = one_place }
+boundary_shape piece =
+    record { layer = layer_of piece; figure = rings (but_last (points (field xy piece)) ∷ []); shifts = one_place }
 
 abbrev pub path_shape : List Rec → PlainShape Figure
-path_shape piece = record { layer = layer_of piece; figure = path_along (points (field xy piece)) (record { half = half_of piece; start = end_of piece; end = end_of piece }); shifts = one_place }
+path_shape piece =
+    record {
+      layer = layer_of piece;
+      figure = path_along (points (field xy piece)) (record {
+        half = half_of piece;
+        start = end_of piece;
+        end = end_of piece;
+      });
+      shifts = one_place;
+    }
 
 -- the cell of that name, reflected, turned, and placed at the first of the points moved by each of the shifts
 abbrev pub reference : List Rec → List Point → PlainReference
@@ -79,9 +90,11 @@ shapes_by (Some k) piece =
 abbrev pub references_by : Option ℕ → List Rec → List PlainReference
 references_by None piece = []
 references_by (Some k) piece =
-    if k == sref then reference piece one_place ∷ [] else (if k == aref then reference piece (shifts_of piece) ∷ [] else [])
+    if k == sref then reference piece one_place ∷ [] else (if k == aref then reference piece (shifts_of piece) ∷ []
+    else [])
 
--- the shapes and the references of an element, by the type that opens it: one shape of a boundary or a path, one reference
+-- the shapes and the references of an element, by the type that opens it: one shape of a boundary or a path, one
+-- reference
 -- of a reference or an array, nothing of a text
 abbrev pub shapes_of : List Rec → List (PlainShape Figure)
 shapes_of piece = shapes_by (opener piece) piece

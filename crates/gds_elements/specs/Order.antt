@@ -13,7 +13,8 @@ a_boundary = one boundary then one layer then one datatype then one xy then one 
 
 abbrev pub a_path : Order
 a_path =
-    one path then one layer then one datatype then maybe (one pathtype) then maybe (one width) then one xy then one endel
+    one path then one layer then one datatype then maybe (one pathtype) then maybe (one width) then one xy
+    then one endel
 
 abbrev pub a_reference : Order
 a_reference = one sref then one sname then maybe a_transform then one xy then one endel
@@ -23,7 +24,8 @@ an_array = one aref then one sname then maybe a_transform then one colrow then o
 
 abbrev pub a_text : Order
 a_text =
-    one text then one layer then one texttype then maybe (one presentation) then maybe (one pathtype) then maybe (one width)
+    one text then one layer then one texttype then maybe (one presentation) then maybe (one pathtype)
+    then maybe (one width)
     then maybe a_transform then one xy then one string then one endel
 
 abbrev pub an_element : Order

@@ -63,7 +63,8 @@ RefersToCell piece = (opener piece ≡ Some sref) ⊎ (opener piece ≡ Some are
 -- a boundary has at least four points, a path at least two, an array three, the others one
 abbrev pub IsMiscounted : List Rec → ℕ → Type 0
 IsMiscounted piece n =
-    ((opener piece ≡ Some boundary) × (n < 4)) ⊎ ((opener piece ≡ Some path) × (n < 2)) ⊎ ((opener piece ≡ Some aref) × (n ≢ 3))
+    ((opener piece ≡ Some boundary) × (n < 4)) ⊎ ((opener piece ≡ Some path) × (n < 2))
+    ⊎ ((opener piece ≡ Some aref) × (n ≢ 3))
     ⊎ (((opener piece ≡ Some sref) ⊎ (opener piece ≡ Some text)) × (n ≢ 1))
 
 -- what a record says, after the records of its element so far, breaches the rule
@@ -86,7 +87,8 @@ ValueBreaches piece r (Path f) =
     × IsLowestFault (points r.payload) (record { half = half_of piece; start = end_of piece; end = end_of piece }) f
 ValueBreaches piece r Width =
     (opener piece ≡ Some path)
-    × (((r.kind ≡ width) × ¬ IsWidth (long r.payload)) ⊎ ((r.kind ≡ xy) × (2 ≤ length (points r.payload)) × (last_of width piece ≡ None)))
+    × (((r.kind ≡ width) × ¬ IsWidth (long r.payload)) ⊎ ((r.kind ≡ xy) × (2 ≤ length (points r.payload))
+    × (last_of width piece ≡ None)))
 ValueBreaches piece r PathType =
     (r.kind ≡ pathtype) × (opener piece ≡ Some path) × (short r.payload ≢ pos 0) × (short r.payload ≢ pos 2)
 ValueBreaches piece r Oblique =

@@ -64,7 +64,8 @@ degrees R270 = 0x43 ∷ 0x10 ∷ 0xE0 ∷ 0 ∷ 0 ∷ 0 ∷ 0 ∷ 0 ∷ []
 -- the turn by so many degrees, none where there is no angle
 abbrev pub turn : List ℕ → Turn
 turn p =
-    if bytes_eq p (degrees R90) then R90 else (if bytes_eq p (degrees R180) then R180 else (if bytes_eq p (degrees R270) then R270 else R0))
+    if bytes_eq p (degrees R90) then R90
+    else (if bytes_eq p (degrees R180) then R180 else (if bytes_eq p (degrees R270) then R270 else R0))
 
 -- the columns and the rows of an array, of two bytes each
 abbrev pub columns : List ℕ → ℤ

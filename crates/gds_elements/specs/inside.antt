@@ -1,3 +1,4 @@
+pub mod Left
 pub mod Formed
 pub mod Misplaced
 pub mod Boundary

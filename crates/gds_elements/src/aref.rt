@@ -1,15 +1,18 @@
 //! AREF SNAME [STRANS [MAG] [ANGLE]] COLROW XY ENDEL: a reference to a cell at columns and rows of
 //! places.
-ghost use Rattle.std.specs.Prelude.{◌≡◌, ◌∷◌, ◌≢◌, [], false, ◌≤◌, ◌<◌, ◌<ℤ◌, ◌-ℤ◌, pos, List, ℕ, Some, None, IfOk, IfErr, IfSome, IfNone, OnOk, length, FitsSigned};
+ghost use Rattle.std.specs.Prelude.{◌≡◌, ◌∷◌, ◌≢◌, [], false, ◌≤◌, ◌<◌, ◌<ℤ◌, ◌-ℤ◌, pos, List, ℕ, Some, None, IfOk};
+ghost use Rattle.std.specs.Prelude.{IfErr, IfSome, IfNone, OnOk, length, FitsSigned};
 ghost use Rattle.std.specs.Int.{w32};
 ghost use Rattle.std.specs.Int.RustNames.{int_div, int_rem};
-ghost use Rattle.gds_elements.specs.Types.{aref, colrow};
+ghost use Rattle.gds_elements.specs.Types.{aref, colrow, xy};
 ghost use Rattle.gds_elements.specs.Values.{points, nth, IsNarrow};
 ghost use Rattle.gds_elements.specs.Rec.{Rec};
 ghost use Rattle.gds_elements.specs.Meaning.{array_shifts, step};
 ghost use Rattle.gds_elements.specs.Rules.{HasSteps, IsDivided};
+ghost use Rattle.lvl_grammar.specs.inside.After.{after_first};
+ghost use Rattle.gds_elements.specs.inside.Left.{left_after, EndsBy};
 ghost use Rattle.gds_elements.specs.inside.Formed.{IsFormed};
-ghost use Rattle.gds_elements.specs.inside.Aref.{after, IsArefRead, IsArrayFault};
+ghost use Rattle.gds_elements.specs.inside.Aref.{left, IsArefRead, IsArrayFault};
 ghost use Rattle.gds_elements.specs.inside.Reading.{Takes, record_of};
 ghost use Rattle.lvl_refusal.specs.Refused.{Says};
 ghost use Rattle.gds_elements.specs.inside.Misplaced.{Broken, breach};
@@ -40,7 +43,8 @@ pub(crate) enum Place {
 impl Place {
     /// What a record of this type is here.
     fn after(self, kind: u8) -> Next<Place>
-        ensures { result ≡ after self kind }
+        ensures order { after_first (left self) kind ≡ left_after left result }
+        ensures last { EndsBy xy kind result }
     {
         match self {
             Place::Name => only(kind, record_type::SNAME, Next::Goes(Place::Strans)),
@@ -94,7 +98,8 @@ impl Aref {
         payload: &[u8],
     ) -> Result<State, Refusal<ElementFault>>
         requires { IsFormed kind payload.now }
-        ensures { (piece : List Rec) (d : ℕ) → IsArefRead self piece → Takes piece (record_of kind d payload.now) result }
+        ensures { (piece : List Rec) (d : ℕ) → IsArefRead self piece
+            → Takes piece (record_of kind d payload.now) result }
     {
         let Aref {
             place,
@@ -126,9 +131,17 @@ fn place_all(
     counts: Counts,
     payload: &[u8],
 ) -> Result<Reference, Refusal<ElementFault>>
-    ensures value { IfOk result (λ r. r ≡ record { cell = placing.name.items; flip = placing.flip; turn = placing.turn; at = nth (points payload.now) 0; shifts = array_shifts (points payload.now) counts.columns counts.rows }) }
-    ensures allowed { OnOk result ((length (points payload.now) ≡ 3) × HasSteps (points payload.now) counts.columns counts.rows) }
-    ensures refused { IfErr result (λ e. Says e (Broken (IsArrayFault (points payload.now) counts.columns counts.rows))) }
+    ensures value { IfOk result (λ r. r ≡ record {
+      cell = placing.name.items;
+      flip = placing.flip;
+      turn = placing.turn;
+      at = nth (points payload.now) 0;
+      shifts = array_shifts (points payload.now) counts.columns counts.rows;
+    }) }
+    ensures allowed { OnOk result
+        ((length (points payload.now) ≡ 3) × HasSteps (points payload.now) counts.columns counts.rows) }
+    ensures refused { IfErr result
+        (λ e. Says e (Broken (IsArrayFault (points payload.now) counts.columns counts.rows))) }
 {
     if point_count(payload) != 3 {
         return Err(breach(ElementRule::Points));
@@ -162,8 +175,10 @@ fn step_along(from: i64, to: i64, count: u64) -> Result<i64, Refusal<ElementFaul
     requires to { FitsSigned w32 to }
     requires count { 0 < count }
     requires few { count ≤ 1048576 }
-    ensures value { IfOk result (λ n. (n ≡ int_div (to -ℤ from) (pos count)) × (int_rem (to -ℤ from) (pos count) ≡ pos 0)) }
-    ensures refused { IfErr result (λ e. (e ≡ breach ElementRule.ArrayStep) × (int_rem (to -ℤ from) (pos count) ≢ pos 0)) }
+    ensures value { IfOk result (λ n. (n ≡ int_div (to -ℤ from) (pos count))
+        × (int_rem (to -ℤ from) (pos count) ≡ pos 0)) }
+    ensures refused { IfErr result (λ e. (e ≡ breach ElementRule.ArrayStep)
+        × (int_rem (to -ℤ from) (pos count) ≢ pos 0)) }
 {
     divided(to - from, count as i64)
 }

@@ -1,12 +1,14 @@
 //! BOUNDARY LAYER DATATYPE XY ENDEL: the ring of its points but the last.
 ghost use Rattle.std.specs.Prelude.{◌≡◌, ◌∷◌, [], ◌≤◌, List, ℕ, IfOk, IfErr, OnOk, length, All};
 ghost use Rattle.lvl_grid.specs.Winding.{IsStraight};
-ghost use Rattle.gds_elements.specs.Types.{boundary};
+ghost use Rattle.gds_elements.specs.Types.{boundary, xy};
 ghost use Rattle.gds_elements.specs.Values.{points, but_last};
 ghost use Rattle.gds_elements.specs.Rec.{Rec};
 ghost use Rattle.gds_elements.specs.Rules.{IsClosed, steps};
+ghost use Rattle.lvl_grammar.specs.inside.After.{after_first};
+ghost use Rattle.gds_elements.specs.inside.Left.{left_after, EndsBy};
 ghost use Rattle.gds_elements.specs.inside.Formed.{IsFormed};
-ghost use Rattle.gds_elements.specs.inside.Boundary.{after, IsBoundary, IsRingFault};
+ghost use Rattle.gds_elements.specs.inside.Boundary.{left, IsBoundary, IsRingFault};
 ghost use Rattle.gds_elements.specs.inside.Reading.{Takes, record_of};
 ghost use Rattle.lvl_refusal.specs.Refused.{Says};
 ghost use Rattle.gds_elements.specs.inside.Misplaced.{Broken};
@@ -36,7 +38,8 @@ pub(crate) enum Place {
 impl Place {
     /// What a record of this type is here.
     fn after(self, kind: u8) -> Next<Place>
-        ensures { result ≡ after self kind }
+        ensures order { after_first (left self) kind ≡ left_after left result }
+        ensures last { EndsBy xy kind result }
     {
         match self {
             Place::Layer => only(kind, record_type::LAYER, Next::Goes(Place::Datatype)),
@@ -75,7 +78,8 @@ impl Boundary {
         payload: &[u8],
     ) -> Result<State, Refusal<ElementFault>>
         requires { IsFormed kind payload.now }
-        ensures { (piece : List Rec) (d : ℕ) → IsBoundary self piece → Takes piece (record_of kind d payload.now) result }
+        ensures { (piece : List Rec) (d : ℕ) → IsBoundary self piece
+            → Takes piece (record_of kind d payload.now) result }
     {
         match self.place.after(kind) {
             Next::Goes(place) => {

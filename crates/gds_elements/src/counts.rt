@@ -32,7 +32,8 @@ pub(crate) fn read_counts(
     payload: &[u8],
 ) -> Result<Counts, Refusal<ElementFault>>
     requires { IsFormed kind payload.now }
-    ensures columns { IfOk result (λ n. n.columns ≡ (if kind == colrow then magnitude (columns payload.now) else old.columns)) }
+    ensures columns { IfOk result
+        (λ n. n.columns ≡ (if kind == colrow then magnitude (columns payload.now) else old.columns)) }
     ensures rows { IfOk result (λ n. n.rows ≡ (if kind == colrow then magnitude (rows payload.now) else old.rows)) }
     ensures allowed { OnOk result (kind ≡ colrow → IsCounted payload.now) }
     ensures refused { IfErr result (λ e. Says e (Broken (λ k. (kind ≡ colrow) × IsCountFault payload.now k))) }

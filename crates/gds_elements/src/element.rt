@@ -142,7 +142,8 @@ fn going(read: Result<State, Refusal<ElementFault>>) -> Result<Step, Refusal<Ele
 /// The step by the last record, of which only ENDEL is left.
 fn end(drawn: Drawn, kind: u8) -> Result<Step, Refusal<ElementFault>>
     requires { kind < 60 }
-    ensures { (piece : List Rec) (d : ℕ) (payload : List ℕ) → IsAtEnd drawn piece → Steps piece (record_of kind d payload) result }
+    ensures { (piece : List Rec) (d : ℕ) (payload : List ℕ) → IsAtEnd drawn piece
+        → Steps piece (record_of kind d payload) result }
 {
     if kind != record_type::ENDEL {
         return Err(out_of_order(kind));

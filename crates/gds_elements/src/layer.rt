@@ -19,9 +19,11 @@ pub(crate) fn read_layer(
 ) -> Result<Layer, Refusal<ElementFault>>
     requires { IsFormed kind payload.now }
     ensures layer { IfOk result (λ l. l.layer ≡ (if kind == layer then magnitude (short payload.now) else old.layer)) }
-    ensures datatype { IfOk result (λ l. l.datatype ≡ (if kind == datatype then magnitude (short payload.now) else old.datatype)) }
+    ensures datatype { IfOk result
+        (λ l. l.datatype ≡ (if kind == datatype then magnitude (short payload.now) else old.datatype)) }
     ensures allowed { OnOk result (IsLayerNumber kind → pos 0 ≤ℤ short payload.now) }
-    ensures refused { IfErr result (λ e. (e ≡ breach ElementRule.Layer) × IsLayerNumber kind × (short payload.now <ℤ pos 0)) }
+    ensures refused { IfErr result (λ e. (e ≡ breach ElementRule.Layer) × IsLayerNumber kind
+        × (short payload.now <ℤ pos 0)) }
 {
     match kind {
         record_type::LAYER => Ok(Layer {

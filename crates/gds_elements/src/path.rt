@@ -1,14 +1,17 @@
 //! PATH LAYER DATATYPE [PATHTYPE] [WIDTH] XY ENDEL: the bands of its runs.
-ghost use Rattle.std.specs.Prelude.{◌≡◌, [], ◌∷◌, ◌≢◌, ◌==◌, ◌≤◌, ◌<◌, List, ℕ, Some, None, false, pos, IfOk, IfErr, OnOk, length, if◌then◌else◌};
+ghost use Rattle.std.specs.Prelude.{◌≡◌, [], ◌∷◌, ◌≢◌, ◌==◌, ◌≤◌, ◌<◌, List, ℕ, Some, None, false, pos, IfOk, IfErr};
+ghost use Rattle.std.specs.Prelude.{OnOk, length, if◌then◌else◌};
 ghost use Rattle.std.specs.Ordering.{int_eq};
 ghost use Rattle.lvl_path.specs.Runs.{path_rings, IsPath};
-ghost use Rattle.gds_elements.specs.Types.{path, width, pathtype};
+ghost use Rattle.gds_elements.specs.Types.{path, width, pathtype, xy};
 ghost use Rattle.gds_elements.specs.Values.{short, long, points};
 ghost use Rattle.gds_elements.specs.Rec.{Rec};
 ghost use Rattle.gds_elements.specs.Meaning.{half};
 ghost use Rattle.gds_elements.specs.Rules.{IsWidth};
+ghost use Rattle.lvl_grammar.specs.inside.After.{after_first};
+ghost use Rattle.gds_elements.specs.inside.Left.{left_after, EndsBy};
 ghost use Rattle.gds_elements.specs.inside.Formed.{IsFormed};
-ghost use Rattle.gds_elements.specs.inside.Path.{after, IsPathRead, IsBandsFault, reach_at};
+ghost use Rattle.gds_elements.specs.inside.Path.{left, IsPathRead, IsBandsFault, reach_at};
 ghost use Rattle.gds_elements.specs.inside.Reading.{Takes, record_of};
 ghost use Rattle.lvl_refusal.specs.Refused.{Says};
 ghost use Rattle.gds_elements.specs.inside.Misplaced.{Broken, breach};
@@ -41,7 +44,8 @@ pub(crate) enum Place {
 impl Place {
     /// What a record of this type is here.
     fn after(self, kind: u8) -> Next<Place>
-        ensures { result ≡ after self kind }
+        ensures order { after_first (left self) kind ≡ left_after left result }
+        ensures last { EndsBy xy kind result }
     {
         match self {
             Place::Layer => only(kind, record_type::LAYER, Next::Goes(Place::Datatype)),
@@ -95,7 +99,8 @@ impl Path {
         payload: &[u8],
     ) -> Result<State, Refusal<ElementFault>>
         requires { IsFormed kind payload.now }
-        ensures { (piece : List Rec) (d : ℕ) → IsPathRead self piece → Takes piece (record_of kind d payload.now) result }
+        ensures { (piece : List Rec) (d : ℕ) → IsPathRead self piece
+            → Takes piece (record_of kind d payload.now) result }
     {
         match self.place.after(kind) {
             Next::Goes(place) => {
@@ -121,7 +126,8 @@ impl Path {
 /// Whether a path reaches half its width beyond its ends, after one more record.
 fn read_ends(old: bool, kind: u8, payload: &[u8]) -> Result<bool, Refusal<ElementFault>>
     requires { IsFormed kind payload.now }
-    ensures value { IfOk result (λ square. square ≡ (if kind == pathtype then int_eq (short payload.now) (pos 2) else old)) }
+    ensures value { IfOk result
+        (λ square. square ≡ (if kind == pathtype then int_eq (short payload.now) (pos 2) else old)) }
     ensures allowed { OnOk result (kind ≡ pathtype → (short payload.now ≢ pos 0) → short payload.now ≡ pos 2) }
     ensures refused { IfErr result (λ e. (e ≡ breach ElementRule.PathType) × (kind ≡ pathtype)
         × (short payload.now ≢ pos 0) × (short payload.now ≢ pos 2)) }
@@ -145,7 +151,8 @@ fn read_half(
     requires { IsFormed kind payload.now }
     ensures value { IfOk result (λ h. h ≡ (if kind == width then Some (half payload.now) else old)) }
     ensures allowed { OnOk result (kind ≡ width → IsWidth (long payload.now)) }
-    ensures refused { IfErr result (λ e. (e ≡ breach ElementRule.Width) × (kind ≡ width) × ¬ IsWidth (long payload.now)) }
+    ensures refused { IfErr result
+        (λ e. (e ≡ breach ElementRule.Width) × (kind ≡ width) × ¬ IsWidth (long payload.now)) }
 {
     if kind != record_type::WIDTH {
         return Ok(old);
@@ -166,8 +173,11 @@ fn bands_of(
     square: bool,
     payload: &[u8],
 ) -> Result<Vec<Ring>, Refusal<ElementFault>>
-    ensures value { (h : ℕ) → half ≡ Some h → IfOk result (λ v. v.items ≡ path_rings (points payload.now) (record { half = h; start = reach_at square h; end = reach_at square h })) }
-    ensures allowed { (h : ℕ) → half ≡ Some h → OnOk result (IsPath (points payload.now) (record { half = h; start = reach_at square h; end = reach_at square h })) }
+    ensures value { (h : ℕ) → half ≡ Some h → IfOk result (λ v.
+        v.items ≡ path_rings (points payload.now)
+        (record { half = h; start = reach_at square h; end = reach_at square h })) }
+    ensures allowed { (h : ℕ) → half ≡ Some h → OnOk result
+        (IsPath (points payload.now) (record { half = h; start = reach_at square h; end = reach_at square h })) }
     ensures enough { OnOk result (2 ≤ length (points payload.now)) }
     ensures width { OnOk result (half ≢ None) }
     ensures refused { IfErr result (λ e. Says e (Broken (IsBandsFault (points payload.now) half square))) }

@@ -81,7 +81,8 @@ fn read_name(
 ) -> Result<Vec<u8>, Refusal<ElementFault>>
     ensures value { IfOk result (λ v. v.items ≡ (if kind == sname then name payload.now else old.items)) }
     ensures allowed { OnOk result (kind ≡ sname → IsName (name payload.now)) }
-    ensures refused { IfErr result (λ e. Says e (Broken (λ k. (k ≡ ElementRule.Name) × (kind ≡ sname) × ¬ IsName (name payload.now)))) }
+    ensures refused { IfErr result
+        (λ e. Says e (Broken (λ k. (k ≡ ElementRule.Name) × (kind ≡ sname) × ¬ IsName (name payload.now)))) }
 {
     if kind != record_type::SNAME {
         return Ok(old);
@@ -112,7 +113,8 @@ fn read_flip(old: bool, kind: u8, payload: &[u8]) -> Result<bool, Refusal<Elemen
 
 fn check_magnification(kind: u8, payload: &[u8]) -> Result<(), Refusal<ElementFault>>
     ensures allowed { OnOk result (kind ≡ mag → payload.now ≡ one_real) }
-    ensures refused { IfErr result (λ e. (e ≡ breach ElementRule.Magnification) × (kind ≡ mag) × (payload.now ≢ one_real)) }
+    ensures refused { IfErr result (λ e. (e ≡ breach ElementRule.Magnification) × (kind ≡ mag)
+        × (payload.now ≢ one_real)) }
 {
     if kind == record_type::MAG && payload != ONE.as_slice() {
         return Err(breach(ElementRule::Magnification));
@@ -123,7 +125,8 @@ fn check_magnification(kind: u8, payload: &[u8]) -> Result<(), Refusal<ElementFa
 fn read_turn(old: Turn, kind: u8, payload: &[u8]) -> Result<Turn, Refusal<ElementFault>>
     ensures value { IfOk result (λ t. t ≡ (if kind == angle then turn payload.now else old)) }
     ensures allowed { OnOk result (kind ≡ angle → payload.now ≡ degrees (turn payload.now)) }
-    ensures refused { IfErr result (λ e. (e ≡ breach ElementRule.Angle) × (kind ≡ angle) × ((t : GridTurn) → payload.now ≢ degrees t)) }
+    ensures refused { IfErr result (λ e. (e ≡ breach ElementRule.Angle) × (kind ≡ angle)
+        × ((t : GridTurn) → payload.now ≢ degrees t)) }
 {
     if kind != record_type::ANGLE {
         return Ok(old);

@@ -1,12 +1,14 @@
 //! SREF SNAME [STRANS [MAG] [ANGLE]] XY ENDEL: a reference to a cell at one place.
 ghost use Rattle.std.specs.Prelude.{◌≡◌, ◌∷◌, ◌≢◌, [], false, List, ℕ, IfOk, IfErr, OnOk, length};
 ghost use Rattle.lvl_cells.specs.Cells.{PlainReference};
-ghost use Rattle.gds_elements.specs.Types.{sref};
+ghost use Rattle.gds_elements.specs.Types.{sref, xy};
 ghost use Rattle.gds_elements.specs.Values.{points, nth};
 ghost use Rattle.gds_elements.specs.Rec.{Rec};
 ghost use Rattle.gds_elements.specs.Meaning.{one_place};
+ghost use Rattle.lvl_grammar.specs.inside.After.{after_first};
+ghost use Rattle.gds_elements.specs.inside.Left.{left_after, EndsBy};
 ghost use Rattle.gds_elements.specs.inside.Formed.{IsFormed};
-ghost use Rattle.gds_elements.specs.inside.Sref.{after, IsSrefRead};
+ghost use Rattle.gds_elements.specs.inside.Sref.{left, IsSrefRead};
 ghost use Rattle.gds_elements.specs.inside.Reading.{Takes, record_of};
 ghost use Rattle.lvl_refusal.specs.Refused.{Says};
 ghost use Rattle.gds_elements.specs.inside.Misplaced.{Broken};
@@ -34,7 +36,8 @@ pub(crate) enum Place {
 impl Place {
     /// What a record of this type is here.
     fn after(self, kind: u8) -> Next<Place>
-        ensures { result ≡ after self kind }
+        ensures order { after_first (left self) kind ≡ left_after left result }
+        ensures last { EndsBy xy kind result }
     {
         match self {
             Place::Name => only(kind, record_type::SNAME, Next::Goes(Place::Strans)),
@@ -82,7 +85,8 @@ impl Sref {
         payload: &[u8],
     ) -> Result<State, Refusal<ElementFault>>
         requires { IsFormed kind payload.now }
-        ensures { (piece : List Rec) (d : ℕ) → IsSrefRead self piece → Takes piece (record_of kind d payload.now) result }
+        ensures { (piece : List Rec) (d : ℕ) → IsSrefRead self piece
+            → Takes piece (record_of kind d payload.now) result }
     {
         let Sref { place, placing } = self;
         match place.after(kind) {
@@ -101,9 +105,16 @@ impl Sref {
 
 /// The reference to the cell at the one point.
 fn place_once(placing: Placing, payload: &[u8]) -> Result<Reference, Refusal<ElementFault>>
-    ensures value { IfOk result (λ r. r ≡ record { cell = placing.name.items; flip = placing.flip; turn = placing.turn; at = nth (points payload.now) 0; shifts = one_place }) }
+    ensures value { IfOk result (λ r. r ≡ record {
+      cell = placing.name.items;
+      flip = placing.flip;
+      turn = placing.turn;
+      at = nth (points payload.now) 0;
+      shifts = one_place;
+    }) }
     ensures allowed { OnOk result (length (points payload.now) ≡ 1) }
-    ensures refused { IfErr result (λ e. Says e (Broken (λ k. (k ≡ ElementRule.Points) × (length (points payload.now) ≢ 1)))) }
+    ensures refused { IfErr result
+        (λ e. Says e (Broken (λ k. (k ≡ ElementRule.Points) × (length (points payload.now) ≢ 1)))) }
 {
     if point_count(payload) != 1 {
         return Err(breach(ElementRule::Points));

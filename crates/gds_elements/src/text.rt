@@ -1,11 +1,13 @@
 //! TEXT LAYER TEXTTYPE [PRESENTATION] [PATHTYPE] [WIDTH] [STRANS [MAG] [ANGLE]] XY STRING ENDEL: it
 //! covers nothing, and its values are free but for the one point.
 ghost use Rattle.std.specs.Prelude.{◌≡◌, [], ◌∷◌, ◌≢◌, List, ℕ, OnOk, IfErr, length};
-ghost use Rattle.gds_elements.specs.Types.{text, xy};
+ghost use Rattle.gds_elements.specs.Types.{text, xy, string};
 ghost use Rattle.gds_elements.specs.Values.{points};
 ghost use Rattle.gds_elements.specs.Rec.{Rec};
+ghost use Rattle.lvl_grammar.specs.inside.After.{after_first};
+ghost use Rattle.gds_elements.specs.inside.Left.{left_after, EndsBy};
 ghost use Rattle.gds_elements.specs.inside.Formed.{IsFormed};
-ghost use Rattle.gds_elements.specs.inside.Text.{after, IsTextRead};
+ghost use Rattle.gds_elements.specs.inside.Text.{left, IsTextRead};
 ghost use Rattle.gds_elements.specs.inside.Reading.{Takes, record_of};
 ghost use Rattle.gds_elements.specs.inside.Misplaced.{breach};
 
@@ -34,7 +36,8 @@ pub(crate) enum Place {
 impl Place {
     /// What a record of this type is here.
     fn after(self, kind: u8) -> Next<Place>
-        ensures { result ≡ after self kind }
+        ensures order { after_first (left self) kind ≡ left_after left result }
+        ensures last { EndsBy string kind result }
     {
         match self {
             Place::Layer => only(kind, record_type::LAYER, Next::Goes(Place::TextType)),
@@ -58,7 +61,8 @@ impl Place {
 }
 
 fn after_presentation(kind: u8) -> Next<Place>
-    ensures { result ≡ after Place.PathType kind }
+    ensures order { after_first (left Place.PathType) kind ≡ left_after left result }
+    ensures last { EndsBy string kind result }
 {
     match kind {
         record_type::PATHTYPE => Next::Goes(Place::Width),
@@ -67,7 +71,8 @@ fn after_presentation(kind: u8) -> Next<Place>
 }
 
 fn after_path_type(kind: u8) -> Next<Place>
-    ensures { result ≡ after Place.Width kind }
+    ensures order { after_first (left Place.Width) kind ≡ left_after left result }
+    ensures last { EndsBy string kind result }
 {
     match kind {
         record_type::WIDTH => Next::Goes(Place::Strans),
@@ -76,7 +81,8 @@ fn after_path_type(kind: u8) -> Next<Place>
 }
 
 fn after_width(kind: u8) -> Next<Place>
-    ensures { result ≡ after Place.Strans kind }
+    ensures order { after_first (left Place.Strans) kind ≡ left_after left result }
+    ensures last { EndsBy string kind result }
 {
     match kind {
         record_type::STRANS => Next::Goes(Place::Magnification),
@@ -85,7 +91,8 @@ fn after_width(kind: u8) -> Next<Place>
 }
 
 fn after_magnification(kind: u8) -> Next<Place>
-    ensures { result ≡ after Place.Angle kind }
+    ensures order { after_first (left Place.Angle) kind ≡ left_after left result }
+    ensures last { EndsBy string kind result }
 {
     match kind {
         record_type::ANGLE => Next::Goes(Place::Points),
@@ -112,7 +119,8 @@ impl Text {
     /// Takes the next record, if it breaches no rule.
     pub(crate) fn take(self, kind: u8, payload: &[u8]) -> Result<State, Refusal<ElementFault>>
         requires { IsFormed kind payload.now }
-        ensures { (piece : List Rec) (d : ℕ) → IsTextRead self piece → Takes piece (record_of kind d payload.now) result }
+        ensures { (piece : List Rec) (d : ℕ) → IsTextRead self piece
+            → Takes piece (record_of kind d payload.now) result }
     {
         match self.place.after(kind) {
             Next::Goes(place) => {
@@ -127,7 +135,8 @@ impl Text {
 
 fn check_points(kind: u8, payload: &[u8]) -> Result<(), Refusal<ElementFault>>
     ensures allowed { OnOk result (kind ≡ xy → length (points payload.now) ≡ 1) }
-    ensures refused { IfErr result (λ e. (e ≡ breach ElementRule.Points) × (kind ≡ xy) × (length (points payload.now) ≢ 1)) }
+    ensures refused { IfErr result (λ e. (e ≡ breach ElementRule.Points) × (kind ≡ xy)
+        × (length (points payload.now) ≢ 1)) }
 {
     if kind == record_type::XY && point_count(payload) != 1 {
         return Err(breach(ElementRule::Points));

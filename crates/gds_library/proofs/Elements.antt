@@ -19,7 +19,7 @@ use Rattle.gds_library.specs.inside.Place.{left, to_end_of_structure}
 use Rattle.lvl_grammar.specs.inside.After.{LeadsTo}
 use Rattle.gds_library.specs.declared.place.Place.TheVariants.{Elements}
 
-either_false : (a b : Bool) → a || b ≡ false → (a ≡ false) × (b ≡ false)
+pub either_false : (a b : Bool) → a || b ≡ false → (a ≡ false) × (b ≡ false)
 either_false true b e = cc
 either_false false b e = (refl, e)
 
@@ -97,8 +97,14 @@ left_nil (i ∷ t) m e = cc
 -- one more element before the end of a structure
 pub join_element : (a w : List ℕ) → IsWord an_element a → IsWord to_end_of_structure w
     → IsWord to_end_of_structure (a ++ w)
-join_element a w x h =
-    (a ++ h.0, h.1, (a ∷ h.2.0, (x, h.2.1), ap (λ i. a ++ i) h.2.2), h.3, ap (λ i. a ++ i) h.4 ∙ sym (append_assoc a h.0 h.1))
+join_element a w x h = (
+  a ++ h.0,
+  h.1,
+  (a ∷ h.2.0, (x, h.2.1), ap (λ i. a ++ i) h.2.2),
+  h.3,
+  ap (λ i. a ++ i) h.4
+      ∙ sym (append_assoc a h.0 h.1),
+)
 
 -- a list that begins with an opener goes on to the end of a structure by an element
 first_element : (k : ℕ) (w : List ℕ) → opens k ≡ true → IsWord to_end_of_structure (k ∷ w)
@@ -108,21 +114,30 @@ first_element k w o (u, v, ([], all, e), h, f) =
     let t : k ≡ endstr = cc in
     let y : false ≡ true = subst (λ i. opens i ≡ true) t o in
     cc
-first_element k w o (u, v, (x ∷ ws, all, e), h, f) =
-    (x, flat_map (λ u. u) ws ++ v, all.0, (flat_map (λ u. u) ws, v, (ws, all.1, refl), h, refl), f ∙ ap (λ i. i ++ v) e ∙ append_assoc x (flat_map (λ u. u) ws) v)
+first_element k w o (u, v, (x ∷ ws, all, e), h, f) = (
+  x,
+  flat_map (λ u. u) ws ++ v,
+  all.0,
+  (flat_map (λ u. u) ws, v, (ws, all.1, refl), h, refl),
+  f ∙ ap (λ i. i ++ v) e
+      ∙ append_assoc x (flat_map (λ u. u) ws) v,
+)
 
 -- an open element goes on to its end, and then to the end of the structure
 pub split_open : (p v : List ℕ) → IsOpen p → IsWord to_end_of_structure (p ++ v)
     → (u w : List ℕ) × (v ≡ u ++ w) × IsWord an_element (p ++ u) × IsWord to_end_of_structure w
 split_open p v o h =
-    let z = first_element o.first (o.rest ++ v) (begins_open o.first o.rest (subst (Begins an_element) o.parts o.begun)) (subst (λ i. IsWord to_end_of_structure (i ++ v)) o.parts h) in
+    let z = first_element o.first (o.rest ++ v) (begins_open o.first o.rest (subst (Begins an_element) o.parts o.begun))
+    (subst (λ i. IsWord to_end_of_structure (i ++ v)) o.parts h) in
     let e : p ++ v ≡ z.0 ++ z.1 = ap (λ i. i ++ v) o.parts ∙ z.4 in
     elim (comparable p z.0 v z.1 e) [
       | inl t ↦ (t.0, z.1, t.2, subst (IsWord an_element) t.1 z.2, z.3)
       | inr t ↦
           let more = o.begun.0 in
-          let none = nothing_follows z.0 (t.0 ++ more) z.2 (subst (IsWord an_element) (ap (λ l. l ++ more) t.1 ∙ append_assoc z.0 t.0 more) o.begun.1) in
-          absurd (o.unended (subst (IsWord an_element) (sym (t.1 ∙ ap (λ l. z.0 ++ l) (left_nil t.0 more none) ∙ append-nil z.0)) z.2))
+          let none = nothing_follows z.0 (t.0 ++ more) z.2
+          (subst (IsWord an_element) (ap (λ l. l ++ more) t.1 ∙ append_assoc z.0 t.0 more) o.begun.1) in
+          absurd (o.unended (subst (IsWord an_element)
+          (sym (t.1 ∙ ap (λ l. z.0 ++ l) (left_nil t.0 more none) ∙ append-nil z.0)) z.2))
     ]
 
 -- after a whole element comes the end of the structure
@@ -131,8 +146,10 @@ pub split_whole : (k : ℕ) (a v : List ℕ) → IsWord an_element (k ∷ a) →
 split_whole k a v w h =
     let z = first_element k (a ++ v) (begins_open k a ([], subst (IsWord an_element) (sym (append-nil (k ∷ a))) w)) h in
     elim (comparable (k ∷ a) z.0 v z.1 z.4) [
-      | inl t ↦ (let none = nothing_follows (k ∷ a) t.0 w (subst (IsWord an_element) t.1 z.2) in subst (IsWord to_end_of_structure) (sym (t.2 ∙ ap (λ l. l ++ z.1) none)) z.3)
-      | inr t ↦ (let none = nothing_follows z.0 t.0 z.2 (subst (IsWord an_element) t.1 w) in subst (IsWord to_end_of_structure) (t.2 ∙ ap (λ l. l ++ v) none) z.3)
+      | inl t ↦ (let none = nothing_follows (k ∷ a) t.0 w (subst (IsWord an_element) t.1 z.2) in
+          subst (IsWord to_end_of_structure) (sym (t.2 ∙ ap (λ l. l ++ z.1) none)) z.3)
+      | inr t ↦ (let none = nothing_follows z.0 t.0 z.2 (subst (IsWord an_element) t.1 w) in
+          subst (IsWord to_end_of_structure) (t.2 ∙ ap (λ l. l ++ v) none) z.3)
     ]
 
 -- a whole element leads on to the next
@@ -155,7 +172,8 @@ begins_inside b p h g =
     let more = g.0 ++ some_word to_end_of_structure in (
       more,
       subst (IsWord a_library) (sym (append_assoc b p more)) ((h (p ++ more)).1
-          (subst (IsWord to_end_of_structure) (append_assoc p g.0 (some_word to_end_of_structure)) (join_element (p ++ g.0) (some_word to_end_of_structure) g.1 (some_word-is to_end_of_structure)))),
+          (subst (IsWord to_end_of_structure) (append_assoc p g.0 (some_word to_end_of_structure))
+          (join_element (p ++ g.0) (some_word to_end_of_structure) g.1 (some_word-is to_end_of_structure)))),
     )
 
 first_goes : (p u w more : List ℕ) (k : ℕ) → (IsWord an_element p → ⊥) → k ∷ more ≡ u ++ w → IsWord an_element (p ++ u)
@@ -169,12 +187,14 @@ first_goes p (i ∷ u) w more k n e h =
 pub open_goes : (b p : List ℕ) (k : ℕ) → LeadsTo a_library b (left Elements) → IsOpen p
     → Begins a_library ((b ++ p) ++ k ∷ []) → Begins an_element (p ++ k ∷ [])
 open_goes b p k h o (more, x) =
-    let e : ((b ++ p) ++ k ∷ []) ++ more ≡ b ++ (p ++ (k ∷ more)) = append_assoc (b ++ p) (k ∷ []) more ∙ append_assoc b p (k ∷ more) in
+    let e : ((b ++ p) ++ k ∷ []) ++ more ≡ b ++ (p ++ (k ∷ more)) = append_assoc (b ++ p) (k ∷ []) more ∙ append_assoc b
+    p (k ∷ more) in
     let z = split_open p (k ∷ more) o ((h (p ++ (k ∷ more))).0 (subst (IsWord a_library) e x)) in
     first_goes p z.0 z.1 more k o.unended z.2 z.3
 
 some_left : (u w : List ℕ) → [] ≡ u ++ w → IsWord to_end_of_structure w → ⊥
-some_left [] w e h = (let z : false ≡ true = empty_word to_end_of_structure (subst (IsWord to_end_of_structure) (sym e) h) in cc)
+some_left [] w e h =
+    (let z : false ≡ true = empty_word to_end_of_structure (subst (IsWord to_end_of_structure) (sym e) h) in cc)
 some_left (i ∷ u) w e h = cc
 
 -- where an element is open, the library isn't whole

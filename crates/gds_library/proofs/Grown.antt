@@ -26,7 +26,8 @@ plain k p cs n s = rw n (on_last-id (grown_cell k p) cs (λ c. plain_cell k p c 
 
 pub shown_header : (p q : Place) (b b' : Builder) (payload : List ℕ) → after p header ≡ Some q → b'.cells ≡ b.cells
     → shown_at q b' ≡ grown header payload (shown_at p b)
-shown_header Header q b b' payload e c = (let z : q ≡ BgnLib = cc in rw (z, c) (sym (plain header payload (done b) refl refl)))
+shown_header Header q b b' payload e c =
+    (let z : q ≡ BgnLib = cc in rw (z, c) (sym (plain header payload (done b) refl refl)))
 shown_header BgnLib q b b' payload e c = cc
 shown_header LibName q b b' payload e c = cc
 shown_header Units q b b' payload e c = cc
@@ -40,7 +41,8 @@ pub shown_units : (p q : Place) (b b' : Builder) (payload : List ℕ) → after 
 shown_units Header q b b' payload e c = cc
 shown_units BgnLib q b b' payload e c = cc
 shown_units LibName q b b' payload e c = cc
-shown_units Units q b b' payload e c = (let z : q ≡ Structures = cc in rw (z, c) (sym (plain units payload (done b) refl refl)))
+shown_units Units q b b' payload e c =
+    (let z : q ≡ Structures = cc in rw (z, c) (sym (plain units payload (done b) refl refl)))
 shown_units Structures q b b' payload e c = cc
 shown_units StrName q b b' payload e c = cc
 shown_units Elements q b b' payload e c = cc
@@ -58,14 +60,18 @@ shown_bgnstr Elements q b b' payload e c = cc
 shown_bgnstr Fill q b b' payload e c = cc
 
 pub shown_strname : (p q : Place) (b b' : Builder) (payload : List ℕ) → after p strname ≡ Some q
-    → b'.cells ≡ record { cells = b.cells.cells; current = record { name = name payload; shapes = []; references = [] } }
+    → b'.cells ≡ record {
+      cells = b.cells.cells;
+      current = record { name = name payload; shapes = []; references = [] };
+    }
     → shown_at q b' ≡ grown strname payload (shown_at p b)
 shown_strname Header q b b' payload e c = cc
 shown_strname BgnLib q b b' payload e c = cc
 shown_strname LibName q b b' payload e c = cc
 shown_strname Units q b b' payload e c = cc
 shown_strname Structures q b b' payload e c = cc
-shown_strname StrName q b b' payload e c = (let z : q ≡ Elements = cc in rw (z, c) (sym (on_last-append (grown_cell strname payload) (done b) no_cell)))
+shown_strname StrName q b b' payload e c =
+    (let z : q ≡ Elements = cc in rw (z, c) (sym (on_last-append (grown_cell strname payload) (done b) no_cell)))
 shown_strname Elements q b b' payload e c = cc
 shown_strname Fill q b b' payload e c = cc
 
@@ -77,7 +83,8 @@ shown_endstr LibName q b b' payload e c = cc
 shown_endstr Units q b b' payload e c = cc
 shown_endstr Structures q b b' payload e c = cc
 shown_endstr StrName q b b' payload e c = cc
-shown_endstr Elements q b b' payload e c = (let z : q ≡ Structures = cc in rw (z, c) (sym (plain endstr payload (done b ++ open_cell b ∷ []) refl refl)))
+shown_endstr Elements q b b' payload e c =
+    (let z : q ≡ Structures = cc in rw (z, c) (sym (plain endstr payload (done b ++ open_cell b ∷ []) refl refl)))
 shown_endstr Fill q b b' payload e c = cc
 
 pub by_kind : (k j : ℕ) (p q : Place) (b b' : Builder) (payload : List ℕ) → k ≡ j
@@ -107,20 +114,29 @@ same_place true r q e = cc
 same_place false r q e = cc
 
 structures_rest : (k : ℕ) (q : Place) (b : Builder) (payload : List ℕ) → IsOther k → (t : Bool)
-    → (if t then Some Fill else (if k == bgnstr then Some StrName else None)) ≡ Some q → shown_at q b ≡ grown k payload (shown_at Structures b)
-structures_rest k q b payload o true e = (let z : q ≡ Fill = cc in rw z (other_plain k Structures Fill b payload o refl))
-structures_rest k q b payload o false e = (let z : None ≡ Some q = none_some (k == bgnstr) StrName q None o.bgnstr e in cc)
+    → (if t then Some Fill else (if k == bgnstr then Some StrName else None)) ≡ Some q
+    → shown_at q b ≡ grown k payload (shown_at Structures b)
+structures_rest k q b payload o true e =
+    (let z : q ≡ Fill = cc in rw z (other_plain k Structures Fill b payload o refl))
+structures_rest k q b payload o false e =
+    (let z : None ≡ Some q = none_some (k == bgnstr) StrName q None o.bgnstr e in cc)
 
 pub shown_other : (k : ℕ) (p q : Place) (b : Builder) (payload : List ℕ) → IsOther k → after p k ≡ Some q
     → shown_at q b ≡ grown k payload (shown_at p b)
 shown_other k Header q b payload o e = (let z : None ≡ Some q = none_some (k == header) BgnLib q None o.header e in cc)
-shown_other k BgnLib q b payload o e = (let z = same_place (k == bgnlib) LibName q e in rw z (other_plain k BgnLib LibName b payload o refl))
-shown_other k LibName q b payload o e = (let z = same_place (k == libname) Units q e in rw z (other_plain k LibName Units b payload o refl))
-shown_other k Units q b payload o e = (let z = same_place (k == units) Structures q e in rw z (other_plain k Units Structures b payload o refl))
+shown_other k BgnLib q b payload o e =
+    (let z = same_place (k == bgnlib) LibName q e in rw z (other_plain k BgnLib LibName b payload o refl))
+shown_other k LibName q b payload o e =
+    (let z = same_place (k == libname) Units q e in rw z (other_plain k LibName Units b payload o refl))
+shown_other k Units q b payload o e =
+    (let z = same_place (k == units) Structures q e in rw z (other_plain k Units Structures b payload o refl))
 shown_other k Structures q b payload o e = structures_rest k q b payload o (k == endlib) e
-shown_other k StrName q b payload o e = (let z : None ≡ Some q = none_some (k == strname) Elements q None o.strname e in cc)
-shown_other k Elements q b payload o e = (let z : None ≡ Some q = none_some (k == endstr) Structures q None o.endstr e in cc)
-shown_other k Fill q b payload o e = (let z = same_place (k == fill) Fill q e in rw z (other_plain k Fill Fill b payload o refl))
+shown_other k StrName q b payload o e =
+    (let z : None ≡ Some q = none_some (k == strname) Elements q None o.strname e in cc)
+shown_other k Elements q b payload o e =
+    (let z : None ≡ Some q = none_some (k == endstr) Structures q None o.endstr e in cc)
+shown_other k Fill q b payload o e =
+    (let z = same_place (k == fill) Fill q e in rw z (other_plain k Fill Fill b payload o refl))
 
 -- the place itself isn't shown
 pub shown_place : (q r : Place) (b : Builder) → shown_at q (record b { place = r }) ≡ shown_at q b

@@ -10,7 +10,7 @@ use Rattle.lvl_grammar.proofs.Laws.{IsGrammar}
 use Rattle.gds_records.specs.Spelled.{IsSpelling, IsBegun}
 use Rattle.gds_records.specs.Step.{step}
 use Rattle.gds_records.specs.declared.fault.RecordFault.{RecordFault}
-use Rattle.gds_records.proofs.Laws.{law_malformed}
+use Rattle.gds_records.proofs.Laws.{law_malformed, length_spelled}
 use Rattle.gds_elements.specs.Types.{header, bgnlib, libname, units, endlib}
 use Rattle.gds_elements.specs.Rec.{Rec, kinds}
 use Rattle.gds_elements.proofs.Fields.{kinds-snoc}
@@ -22,7 +22,7 @@ use Rattle.gds_library.specs.Front.{gds, StartsWith, IsWrong}
 use Rattle.gds_library.specs.declared.fault.GdsKind.{GdsKind}
 use Rattle.gds_library.specs.declared.fault.GdsKind.TheVariants.{Record, Misplaced, Element, Name, AfterEnd}
 use Rattle.gds_library.specs.declared.fault.GdsKind.TheVariants.{TooManyCells}
-use Rattle.gds_library.proofs.Spellings.{one_record, spells_once, spells_some, length_spelled, a_fill}
+use Rattle.gds_library.proofs.Spellings.{one_record, spells_once, spells_some, a_fill}
 
 -- a library up to its end
 abbrev a_body : Order
@@ -41,7 +41,8 @@ fill_whole before g = fill_ends a_body endlib fill (kinds before) refl no_end (i
 -- after a whole library no record may come
 pub whole_alone : (before : List Rec) (r : Rec) → IsWhole before → InOrder before r → r.kind ≡ fill
 whole_alone before r w g =
-    fill_alone a_body endlib fill r.kind (kinds before) refl refl no_end (fill_more a_body endlib fill (kinds before) w) (in_order before r g)
+    fill_alone a_body endlib fill r.kind (kinds before) refl refl no_end (fill_more a_body endlib fill (kinds before) w)
+    (in_order before r g)
 
 -- after the same records, bytes that begin alike spell the same record
 same_next : (before : List Rec) (r s : Rec) (a b x y : List ℕ) → Spells a r → Spells b s → MayFollow before r
@@ -49,10 +50,12 @@ same_next : (before : List Rec) (r s : Rec) (a b x y : List ℕ) → Spells a r 
 same_next before r s a b x y p q f g e = elim p [
   | inl i ↦ elim q [
     | inl j ↦ one_record a b x y r s i.1 j.1 e
-    | inr j ↦ (let z = whole_alone before r (fill_whole before (subst (InOrder before) j.0 g.0)) f.0 in absurd (omega (arith, z, i.0.known)))
+    | inr j ↦ (let z = whole_alone before r (fill_whole before (subst (InOrder before) j.0 g.0)) f.0 in
+        absurd (omega (arith, z, i.0.known)))
   ]
   | inr i ↦ elim q [
-    | inl j ↦ (let z = whole_alone before s (fill_whole before (subst (InOrder before) i.0 f.0)) g.0 in absurd (omega (arith, z, j.0.known)))
+    | inl j ↦ (let z = whole_alone before s (fill_whole before (subst (InOrder before) i.0 f.0)) g.0 in
+        absurd (omega (arith, z, j.0.known)))
     | inr j ↦ i.0 ∙ sym j.0
   ]
 ]
@@ -91,7 +94,8 @@ stops_record before room ys text s k n w p f agree = elim p [
 wrong_stops : (before : List Rec) (room : ℕ) (ys text : List ℕ) (s : Rec) (k : GdsKind) → IsWrong before room ys k
     → Spells text s → MayFollow before s → Agree text ys → length text ≤ room → ⊥
 wrong_stops before room ys text s (Record f) w p g agree fits = elim p [
-  | inl i ↦ law_malformed room ys f w.2 w.0 s.kind s.data_type s.payload text i.0 i.1 (omega (arith, fits, length_spelled text s.payload s.kind s.data_type i.1)) agree
+  | inl i ↦ law_malformed room ys f w.2 w.0 s.kind s.data_type s.payload text i.0 i.1
+      (omega (arith, fits, length_spelled text s.payload s.kind s.data_type i.1)) agree
   | inr i ↦ (let z = w.3 (fill_whole before (subst (InOrder before) i.0 g.0)) in omega (arith, z, fits, ap length i.1))
 ]
 wrong_stops before room ys text s AfterEnd w p g agree fits = elim p [
@@ -117,8 +121,18 @@ cut_none ys text rest r s e cut = elim cut [
   | inl l ↦ omega (arith, l, ap length e, length-append text rest, length_spelled text r.payload r.kind r.data_type s)
   | inr b ↦
       let t : Rec = record { kind = b.kind; data_type = b.data_type; payload = b.payload } in
-      let same : r ≡ t = one_record text (ys ++ b.more) (rest ++ b.more) [] r t s b.spelled (sym (append_assoc text rest b.more) ∙ ap (λ l. l ++ b.more) (sym e) ∙ sym (append-nil (ys ++ b.more))) in
-      omega (arith, ap (λ (i : Rec). length i.payload) same, length_spelled text r.payload r.kind r.data_type s, length_spelled (ys ++ b.more) b.payload b.kind b.data_type b.spelled, length-append ys b.more, b.short, ap length e, length-append text rest)
+      let same : r ≡ t = one_record text (ys ++ b.more) (rest ++ b.more) [] r t s b.spelled
+      (sym (append_assoc text rest b.more) ∙ ap (λ l. l ++ b.more) (sym e) ∙ sym (append-nil (ys ++ b.more))) in
+      omega (
+        arith,
+        ap (λ (i : Rec). length i.payload) same,
+        length_spelled text r.payload r.kind r.data_type s,
+        length_spelled (ys ++ b.more) b.payload b.kind b.data_type b.spelled,
+        length-append ys b.more,
+        b.short,
+        ap length e,
+        length-append text rest,
+      )
 ]
 
 pub is_grammar : IsGrammar gds

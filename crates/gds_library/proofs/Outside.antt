@@ -1,5 +1,5 @@
 -- Types that are outside of elements, and types that carry no value of an element.
-use Rattle.std.proofs.Common.{◌≡◌, ◌==◌, ◌||◌, ◌<◌, ℕ, Bool, true, false, Some, None, refl, arith}
+use Rattle.std.proofs.Common.{◌≡◌, ◌==◌, ◌||◌, ◌<◌, ℕ, true, false, Some, None, refl, arith}
 use Rattle.gds_elements.specs.Types.{header, bgnlib, libname, units, endlib, bgnstr, strname, endstr, boundary, path}
 use Rattle.gds_elements.specs.Types.{sref, aref, text, layer, datatype, width, xy, sname, colrow, strans, mag, angle}
 use Rattle.gds_elements.specs.Types.{pathtype}
@@ -12,6 +12,7 @@ use Rattle.gds_library.specs.inside.Place.{after}
 use Rattle.gds_library.specs.declared.place.Place.{Place}
 use Rattle.gds_library.specs.declared.place.Place.TheVariants.{Header, BgnLib, LibName, Units, Structures, StrName}
 use Rattle.gds_library.specs.declared.place.Place.TheVariants.{Elements, Fill}
+use Rattle.gds_library.proofs.Elements.{either_false}
 
 pub record IsNoValue (k : ℕ) : Type 0 where
   pub layer : k == layer ≡ false
@@ -25,22 +26,37 @@ pub record IsNoValue (k : ℕ) : Type 0 where
   pub angle : k == angle ≡ false
   pub pathtype : k == pathtype ≡ false
 
-either_false : (a b : Bool) → a || b ≡ false → (a ≡ false) × (b ≡ false)
-either_false true b e = cc
-either_false false b e = (refl, e)
-
 no_value : (k : ℕ) → is_value k ≡ false → IsNoValue k
 no_value k e =
-    let p9 = either_false (((((((((k == layer) || (k == datatype)) || (k == width)) || (k == xy)) || (k == sname)) || (k == colrow)) || (k == strans)) || (k == mag)) || (k == angle)) (k == pathtype) e in
-    let p8 = either_false ((((((((k == layer) || (k == datatype)) || (k == width)) || (k == xy)) || (k == sname)) || (k == colrow)) || (k == strans)) || (k == mag)) (k == angle) p9.0 in
-    let p7 = either_false (((((((k == layer) || (k == datatype)) || (k == width)) || (k == xy)) || (k == sname)) || (k == colrow)) || (k == strans)) (k == mag) p8.0 in
-    let p6 = either_false ((((((k == layer) || (k == datatype)) || (k == width)) || (k == xy)) || (k == sname)) || (k == colrow)) (k == strans) p7.0 in
-    let p5 = either_false (((((k == layer) || (k == datatype)) || (k == width)) || (k == xy)) || (k == sname)) (k == colrow) p6.0 in
+    let p9 =
+    either_false (((((((((k == layer) || (k == datatype)) || (k == width)) || (k == xy)) || (k == sname))
+    || (k == colrow)) || (k == strans)) || (k == mag)) || (k == angle)) (k == pathtype) e in
+    let p8 =
+    either_false ((((((((k == layer) || (k == datatype)) || (k == width)) || (k == xy)) || (k == sname))
+    || (k == colrow)) || (k == strans)) || (k == mag)) (k == angle) p9.0 in
+    let p7 =
+    either_false (((((((k == layer) || (k == datatype)) || (k == width)) || (k == xy)) || (k == sname))
+    || (k == colrow)) || (k == strans)) (k == mag) p8.0 in
+    let p6 = either_false ((((((k == layer) || (k == datatype)) || (k == width)) || (k == xy)) || (k == sname))
+    || (k == colrow)) (k == strans) p7.0 in
+    let p5 = either_false (((((k == layer) || (k == datatype)) || (k == width)) || (k == xy)) || (k == sname))
+    (k == colrow) p6.0 in
     let p4 = either_false ((((k == layer) || (k == datatype)) || (k == width)) || (k == xy)) (k == sname) p5.0 in
     let p3 = either_false (((k == layer) || (k == datatype)) || (k == width)) (k == xy) p4.0 in
     let p2 = either_false ((k == layer) || (k == datatype)) (k == width) p3.0 in
     let p1 = either_false (k == layer) (k == datatype) p2.0 in
-    record { layer = p1.0; datatype = p1.1; width = p2.1; xy = p3.1; sname = p4.1; colrow = p5.1; strans = p6.1; mag = p7.1; angle = p8.1; pathtype = p9.1 }
+    record {
+      layer = p1.0;
+      datatype = p1.1;
+      width = p2.1;
+      xy = p3.1;
+      sname = p4.1;
+      colrow = p5.1;
+      strans = p6.1;
+      mag = p7.1;
+      angle = p8.1;
+      pathtype = p9.1;
+    }
 
 -- a type that opens no element and carries no value of one
 pub record IsOutside (k : ℕ) : Type 0 where
@@ -66,7 +82,9 @@ outside_after LibName q k =
 outside_after Units q k =
     outside_one Units q k units (outside_by units refl refl) (λ a e. (let z : None ≡ Some q = rw a at e in cc))
 outside_after Structures q k =
-    outside_one Structures q k endlib (outside_by endlib refl refl) (λ a e. outside_one Structures q k bgnstr (outside_by bgnstr refl refl) (λ b e'. (let z : None ≡ Some q = rw (a, b) at e' in cc)) e)
+    outside_one Structures q k endlib (outside_by endlib refl refl)
+    (λ a e. outside_one Structures q k bgnstr (outside_by bgnstr refl refl)
+    (λ b e'. (let z : None ≡ Some q = rw (a, b) at e' in cc)) e)
 outside_after StrName q k =
     outside_one StrName q k strname (outside_by strname refl refl) (λ a e. (let z : None ≡ Some q = rw a at e in cc))
 outside_after Elements q k =
@@ -86,7 +104,8 @@ known_after BgnLib q k = known_one BgnLib q k bgnlib (λ _. refl) (λ a l e. (le
 known_after LibName q k = known_one LibName q k libname (λ _. refl) (λ a l e. (let z : None ≡ Some q = rw a at e in cc))
 known_after Units q k = known_one Units q k units (λ _. refl) (λ a l e. (let z : None ≡ Some q = rw a at e in cc))
 known_after Structures q k =
-    known_one Structures q k endlib (λ _. refl) (λ a l e. known_one Structures q k bgnstr (λ _. refl) (λ b l' e'. (let z : None ≡ Some q = rw (a, b) at e' in cc)) l e)
+    known_one Structures q k endlib (λ _. refl) (λ a l e. known_one Structures q k bgnstr (λ _. refl)
+    (λ b l' e'. (let z : None ≡ Some q = rw (a, b) at e' in cc)) l e)
 known_after StrName q k = known_one StrName q k strname (λ _. refl) (λ a l e. (let z : None ≡ Some q = rw a at e in cc))
 known_after Elements q k =
     known_one Elements q k endstr (λ _. refl) (λ a l e. (let z : None ≡ Some q = rw a at e in cc))
@@ -109,5 +128,9 @@ opener_one k j = at_type (λ i. opens i ≡ true → IsOpener i) k j
 
 pub opener_is : (k : ℕ) → opens k ≡ true → IsOpener k
 opener_is k =
-    opener_one k boundary (λ e. opener_by boundary refl refl refl refl) (λ a. opener_one k path (λ e. opener_by path refl refl refl refl) (λ b. opener_one k sref (λ e. opener_by sref refl refl refl refl)
-    (λ c. opener_one k aref (λ e. opener_by aref refl refl refl refl) (λ d. opener_one k text (λ e. opener_by text refl refl refl refl) (λ f e. (let z : false ≡ true = rw (a, b, c, d, f) at e in cc))))))
+    opener_one k boundary (λ e. opener_by boundary refl refl refl refl)
+    (λ a. opener_one k path (λ e. opener_by path refl refl refl refl)
+    (λ b. opener_one k sref (λ e. opener_by sref refl refl refl refl)
+    (λ c. opener_one k aref (λ e. opener_by aref refl refl refl refl)
+    (λ d. opener_one k text (λ e. opener_by text refl refl refl refl)
+    (λ f e. (let z : false ≡ true = rw (a, b, c, d, f) at e in cc))))))

@@ -9,7 +9,7 @@ use Rattle.gds_elements.specs.Types.{bgnstr}
 use Rattle.gds_elements.specs.Rec.{Rec, kinds, is_type, is_opener, field}
 use Rattle.gds_elements.specs.inside.Reading.{IsReading}
 use Rattle.gds_elements.specs.declared.element.Element.{Element}
-use Rattle.gds_elements.proofs.Fields.{field_there}
+use Rattle.gds_elements.proofs.Fields.{field_there, if_so, if_not}
 use Rattle.lvl_grammar.proofs.Orders.{type_same, empty_word}
 use Rattle.gds_elements.proofs.Words.{Stands}
 use Rattle.gds_elements.proofs.Elements.{opens_first, stands_not, behind_opener}
@@ -75,27 +75,33 @@ until_none test (x ∷ xs) e = until_none_at test x xs (until_none test xs) (tes
 by_last : {A : Type 0} (b : Bool) (test : A → Bool) (x : A) (xs : List A) (y : A)
     → until test (xs ++ y ∷ []) ≡ (if b then xs else xs ++ y ∷ []) → until test xs ≡ xs
     → pieces test (xs ++ y ∷ []) ≡ (if b then [] ++ (y ∷ []) ∷ [] else [])
-    → (x ∷ until test (xs ++ y ∷ [])) ∷ pieces test (xs ++ y ∷ []) ≡ (if b then ((x ∷ until test xs) ∷ []) ++ (y ∷ []) ∷ [] else (x ∷ until test xs ++ y ∷ []) ∷ [])
+    → (x ∷ until test (xs ++ y ∷ [])) ∷ pieces test
+    (xs ++ y ∷ []) ≡ (if b then ((x ∷ until test xs) ∷ []) ++ (y ∷ []) ∷ [] else (x ∷ until test xs ++ y ∷ []) ∷ [])
 by_last true test x xs y u n h = rw (u, n, h) refl
 by_last false test x xs y u n h = rw (u, n, h) refl
 
 -- the piece that begins at x takes the item where no other piece begins after it
 last_grown : {A : Type 0} (test : A → Bool) (x : A) (xs : List A) (y : A) (ps : List (List A)) → pieces test xs ≡ ps
     → pieces test (xs ++ y ∷ []) ≡ (if test y then ps ++ (y ∷ []) ∷ [] else on_last (λ p. p ++ y ∷ []) ps)
-    → (x ∷ until test (xs ++ y ∷ [])) ∷ pieces test (xs ++ y ∷ []) ≡ (if test y then ((x ∷ until test xs) ∷ ps) ++ (y ∷ []) ∷ [] else on_last (λ p. p ++ y ∷ []) ((x ∷ until test xs) ∷ ps))
+    → (x ∷ until test (xs ++ y ∷ [])) ∷ pieces test
+    (xs ++ y ∷ []) ≡ (if test y then ((x ∷ until test xs) ∷ ps) ++ (y ∷ []) ∷ [] else on_last (λ p. p ++ y ∷ [])
+    ((x ∷ until test xs) ∷ ps))
 last_grown test x xs y [] n h = by_last (test y) test x xs y (until_all test xs y n) (until_none test xs n) h
 last_grown test x xs y (p ∷ ps) n h =
     ap (λ l. (x ∷ l) ∷ pieces test (xs ++ y ∷ [])) (until_stop test xs y p ps n) ∙ ap (λ l. (x ∷ until test xs) ∷ l) h
     ∙ if_ap (λ l. (x ∷ until test xs) ∷ l) (test y) ((p ∷ ps) ++ (y ∷ []) ∷ []) (on_last (λ p. p ++ y ∷ []) (p ∷ ps))
 
 pieces_at : {A : Type 0} (test : A → Bool) (x : A) (xs : List A) (y : A) (b : Bool) → test x ≡ b
-    → pieces test (xs ++ y ∷ []) ≡ (if test y then pieces test xs ++ (y ∷ []) ∷ [] else on_last (λ p. p ++ y ∷ []) (pieces test xs))
-    → pieces test ((x ∷ xs) ++ y ∷ []) ≡ (if test y then pieces test (x ∷ xs) ++ (y ∷ []) ∷ [] else on_last (λ p. p ++ y ∷ []) (pieces test (x ∷ xs)))
+    → pieces test (xs ++ y ∷ []) ≡ (if test y then pieces test xs ++ (y ∷ []) ∷ [] else on_last (λ p. p ++ y ∷ [])
+    (pieces test xs))
+    → pieces test ((x ∷ xs) ++ y ∷ []) ≡ (if test y then pieces test (x ∷ xs) ++ (y ∷ []) ∷ []
+    else on_last (λ p. p ++ y ∷ []) (pieces test (x ∷ xs)))
 pieces_at test x xs y true t h = rw t (last_grown test x xs y (pieces test xs) refl h)
 pieces_at test x xs y false t h = rw t h
 
 pub pieces-snoc : {A : Type 0} (test : A → Bool) (xs : List A) (y : A)
-    → pieces test (xs ++ y ∷ []) ≡ (if test y then pieces test xs ++ (y ∷ []) ∷ [] else on_last (λ p. p ++ y ∷ []) (pieces test xs))
+    → pieces test (xs ++ y ∷ []) ≡ (if test y then pieces test xs ++ (y ∷ []) ∷ [] else on_last (λ p. p ++ y ∷ [])
+    (pieces test xs))
 pieces-snoc test [] y = refl
 pieces-snoc test (x ∷ xs) y = pieces_at test x xs y (test x) refl (pieces-snoc test xs y)
 
@@ -112,12 +118,6 @@ on_last_twice f g h e (x ∷ []) = ap (λ i. i ∷ []) (e x)
 on_last_twice f g h e (x ∷ y ∷ []) = ap (λ l. x ∷ l) (on_last_twice f g h e (y ∷ []))
 on_last_twice f g h e (x ∷ y ∷ z ∷ zs) = ap (λ l. x ∷ l) (on_last_twice f g h e (y ∷ z ∷ zs))
 
-pub if_so : {A : Type 0} (b : Bool) (x y : A) → b ≡ true → (if b then x else y) ≡ x
-if_so b x y e = rw e refl
-
-pub if_not : {A : Type 0} (b : Bool) (x y : A) → b ≡ false → (if b then x else y) ≡ y
-if_not b x y e = rw e refl
-
 -- items that don't pass the test go to the last piece
 pub pieces_within : {A : Type 0} (test : A → Bool) (xs ys : List A) → AllByRecursion (λ y. test y ≡ false) ys
     → pieces test (xs ++ ys) ≡ on_last (λ p. p ++ ys) (pieces test xs)
@@ -126,7 +126,8 @@ pieces_within test xs [] h =
 pieces_within test xs (y ∷ ys) h =
     ap (pieces test) (sym (append_assoc xs (y ∷ []) ys)) ∙ pieces_within test (xs ++ y ∷ []) ys h.1
     ∙ ap (on_last (λ p. p ++ ys)) (pieces-snoc test xs y ∙ if_not (test y) _ _ h.0)
-    ∙ on_last_twice (λ p. p ++ y ∷ []) (λ p. p ++ ys) (λ p. p ++ (y ∷ ys)) (λ p. append_assoc p (y ∷ []) ys) (pieces test xs)
+    ∙ on_last_twice (λ p. p ++ y ∷ []) (λ p. p ++ ys) (λ p. p ++ (y ∷ ys)) (λ p. append_assoc p (y ∷ []) ys)
+    (pieces test xs)
 
 -- an item that passes it begins a piece
 pub pieces_next : {A : Type 0} (test : A → Bool) (xs : List A) (y : A) (ys : List A) → test y ≡ true
@@ -157,7 +158,13 @@ reading_piece e piece h = piece_by piece (reading_open e piece h)
 
 pub word_piece : (piece : List Rec) → IsWord an_element (kinds piece) → IsPiece piece
 word_piece [] w = (let z : false ≡ true = empty_word an_element w in cc)
-word_piece (r ∷ rs) w = record { first = r; rest = rs; parts = refl; begun = ([], subst (IsWord an_element) (sym (append-nil (r.kind ∷ kinds rs))) w) }
+word_piece (r ∷ rs) w =
+    record {
+      first = r;
+      rest = rs;
+      parts = refl;
+      begun = ([], subst (IsWord an_element) (sym (append-nil (r.kind ∷ kinds rs))) w);
+    }
 
 none_of : (t : ℕ → Bool) (rs : List Rec) → ((k : ℕ) → Stands k (kinds rs) → t k ≡ false)
     → AllByRecursion (λ r. t r.kind ≡ false) rs
@@ -175,16 +182,22 @@ unlike k j h = unlike_at (k == j) k j refl h
 pub piece_lacks : (piece : List Rec) (j : ℕ) → IsPiece piece → opens j ≡ false → has behind_opener j ≡ false
     → AllByRecursion (λ r. r.kind == j ≡ false) piece
 piece_lacks piece j p o n =
-    let first : p.first.kind == j ≡ false = unlike p.first.kind j (λ e. (let z : false ≡ true = sym o ∙ sym (ap opens e) ∙ begins_open p.first.kind (kinds p.rest) p.begun in cc)) in
-    let rest = none_of (λ k. k == j) p.rest (λ k s. unlike k j (λ e. stands_not p.first.kind j (kinds p.rest) n p.begun (subst (λ i. Stands i (kinds p.rest)) e s))) in
+    let first : p.first.kind == j ≡ false =
+    unlike p.first.kind j (λ e. (let z : false ≡ true = sym o ∙ sym (ap opens e) ∙ begins_open p.first.kind
+    (kinds p.rest) p.begun in cc)) in
+    let rest =
+    none_of (λ k. k == j) p.rest (λ k s. unlike k j (λ e. stands_not p.first.kind j (kinds p.rest) n p.begun
+    (subst (λ i. Stands i (kinds p.rest)) e s))) in
     subst (AllByRecursion (λ r. r.kind == j ≡ false)) (sym p.parts) (first, rest)
 
 -- an element's records are a piece by its opener
 pub opener_piece : (before piece : List Rec) → IsPiece piece
     → pieces is_opener (before ++ piece) ≡ pieces is_opener before ++ piece ∷ []
 opener_piece before piece p =
-    let rest : AllByRecursion (λ r. is_opener r ≡ false) p.rest = none_of opens p.rest (λ k s. opens_first p.first.kind k (kinds p.rest) p.begun s) in
-    subst (λ l. pieces is_opener (before ++ l) ≡ pieces is_opener before ++ l ∷ []) (sym p.parts) (pieces_next is_opener before p.first p.rest (begins_open p.first.kind (kinds p.rest) p.begun) rest)
+    let rest : AllByRecursion (λ r. is_opener r ≡ false) p.rest =
+    none_of opens p.rest (λ k s. opens_first p.first.kind k (kinds p.rest) p.begun s) in
+    subst (λ l. pieces is_opener (before ++ l) ≡ pieces is_opener before ++ l ∷ []) (sym p.parts)
+    (pieces_next is_opener before p.first p.rest (begins_open p.first.kind (kinds p.rest) p.begun) rest)
 
 pub last_opened : (before piece : List Rec) → IsPiece piece → last_piece is_opener (before ++ piece) ≡ piece
 last_opened before piece p =

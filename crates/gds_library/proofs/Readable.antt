@@ -22,7 +22,8 @@ use Rattle.gds_library.specs.declared.fault.GdsKind.TheVariants.{Record}
 use Rattle.gds_library.proofs.Instance.{is_grammar}
 
 -- what is left of a reader with no bytes in hand
-pub none_in_hand : (hand : List ℕ) (remaining left : Option (List ℕ)) → left ≡ prepend_known hand remaining → hand ≡ [] → left ≡ remaining
+pub none_in_hand : (hand : List ℕ) (remaining left : Option (List ℕ)) → left ≡ prepend_known hand remaining → hand ≡ []
+    → left ≡ remaining
 none_in_hand hand None left e h = e
 none_in_hand hand (Some ys) left e h = rw h at e
 

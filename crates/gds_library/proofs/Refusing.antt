@@ -68,7 +68,9 @@ stands_at : (b : Builder) (rs : List Rec) (r : Rec) (o : Option Place) → Holds
     → o ≢ None → InOrder rs r
 stands_at b rs r None h e n = absurd (n refl)
 stands_at b rs r (Some q) h e n =
-    subst (Begins a_library) (sym (kinds-snoc rs r)) (leads_begins (kinds rs ++ r.kind ∷ []) q (leads_on (kinds rs) b.place q r.kind h.leads (λ _. (outside_after b.place q r.kind e).opens) e))
+    subst (Begins a_library) (sym (kinds-snoc rs r))
+    (leads_begins (kinds rs ++ r.kind ∷ []) q (leads_on (kinds rs) b.place q r.kind h.leads
+    (λ _. (outside_after b.place q r.kind e).opens) e))
 
 -- where the place has a place after the record, it may come there
 stands : (b : Builder) (rs : List Rec) (r : Rec) → Holds b rs → after b.place r.kind ≢ None → InOrder rs r
@@ -146,7 +148,8 @@ value_only b rs r h o l n = value_at b rs r (after b.place r.kind) h o l refl n
 law_only : (b : Builder) (rs : List Rec) (r : Rec) (f : GdsKind) → Holds b rs → OpensNothing b.place r.kind
     → r.kind < 60 → IsFault b.place (length b.cells.cells) r.kind r.payload f → BreachesOnly rs r f
 law_only b rs r (Record f) h o l x = absurd x
-law_only b rs r (Misplaced m) h o l x = (let n = nowhere b rs r h o x.1 in misplaced_only rs r m n (misplaced_as (InOrder rs r) r m n l x.0))
+law_only b rs r (Misplaced m) h o l x =
+    (let n = nowhere b rs r h o x.1 in misplaced_only rs r m n (misplaced_as (InOrder rs r) r m n l x.0))
 law_only b rs r (Element k) h o l x = absurd x
 law_only b rs r Name h o l x =
     λ i y. elim (value_only b rs r h o l x.1 i y) [ inl z ↦ z.0 | inr z ↦ absurd (omega (arith, x.0, z.1)) ]
@@ -158,4 +161,5 @@ pub says_fault : (b : Builder) (rs : List Rec) (r : Rec) (e : Refusal GdsKind) �
     → OpensNothing b.place r.kind → r.kind < 60 → Says e (IsFault b.place (length b.cells.cells) r.kind r.payload)
     → Says e (λ k. Breaches rs r k × BreachesOnly rs r k)
 says_fault b rs r e h o l x =
-    says_carried e (IsFault b.place (length b.cells.cells) r.kind r.payload) (λ k. Breaches rs r k × BreachesOnly rs r k) (λ f y. (law_fault b rs r f h o l y, law_only b rs r f h o l y)) x
+    says_carried e (IsFault b.place (length b.cells.cells) r.kind r.payload) (λ k. Breaches rs r k
+    × BreachesOnly rs r k) (λ f y. (law_fault b rs r f h o l y, law_only b rs r f h o l y)) x

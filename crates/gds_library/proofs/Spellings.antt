@@ -23,7 +23,8 @@ same_record r s a b c =
 pub one_record : (a b x y : List ℕ) (r s : Rec) → IsSpelling a r.kind r.data_type r.payload
     → IsSpelling b s.kind s.data_type s.payload → a ++ x ≡ b ++ y → r ≡ s
 one_record a b x y r s p q e =
-    let f : (p.high ∷ p.low ∷ r.kind ∷ r.data_type ∷ r.payload) ++ x ≡ (q.high ∷ q.low ∷ s.kind ∷ s.data_type ∷ s.payload) ++ y =
+    let f : (p.high ∷ p.low ∷ r.kind ∷ r.data_type ∷ r.payload) ++ x
+    ≡ (q.high ∷ q.low ∷ s.kind ∷ s.data_type ∷ s.payload) ++ y =
     ap (λ l. l ++ x) (sym p.bytes_are) ∙ e ∙ ap (λ l. l ++ y) q.bytes_are in
     let h : p.high ≡ q.high = cc in
     let l : p.low ≡ q.low = cc in
@@ -40,15 +41,15 @@ one_spelling a b k d p s t =
     let l : s.low ≡ t.low = omega (arith, s.len, t.len, s.byte, t.byte) in
     s.bytes_are ∙ ap (λ i. i ∷ s.low ∷ k ∷ d ∷ p) h ∙ ap (λ i. t.high ∷ i ∷ k ∷ d ∷ p) l ∙ sym t.bytes_are
 
-pub length_spelled : (bytes p : List ℕ) (k d : ℕ) → IsSpelling bytes k d p → length bytes ≡ 4 + length p
-length_spelled bytes p k d s = ap length s.bytes_are ∙ grind arith
-
 no_fill : (r : Rec) → IsRecord r.kind r.data_type r.payload → r ≡ a_fill → ⊥
 no_fill r p e = let k : r.kind ≡ 256 = ap (λ (x : Rec). x.kind) e in omega (arith, p.known, k)
 
 pub spells_once : (a b : List ℕ) (r : Rec) → Spells a r → Spells b r → a ≡ b
 spells_once a b r p q = elim p [
-  | inl x ↦ elim q [ inl y ↦ one_spelling a b r.kind r.data_type r.payload x.1 y.1 | inr y ↦ absurd (no_fill r x.0 y.0) ]
+  | inl x ↦ elim q [
+    | inl y ↦ one_spelling a b r.kind r.data_type r.payload x.1 y.1
+    | inr y ↦ absurd (no_fill r x.0 y.0)
+  ]
   | inr x ↦ elim q [ inl y ↦ absurd (no_fill r y.0 x.0) | inr y ↦ x.1 ∙ sym y.1 ]
 ]
 

@@ -79,7 +79,8 @@ may_follow_inside rs piece r e n o g s b = (g, none)
   where
     none : (k : GdsKind) → Breaches rs r k → ⊥
     none (Record f) x = x
-    none (Misplaced m) x = n (MisplacedInElement m) (misplaced_carried (InOrder rs r) (InOrderInElement piece r) r m (λ _. g) x)
+    none (Misplaced m) x = n (MisplacedInElement m) (misplaced_carried (InOrder rs r) (InOrderInElement piece r) r m
+        (λ _. g) x)
     none (Element k) x = n (Rule k) (o, subst (λ p. BreachesInElement p r k) e x.1)
     none Name x = is_not r.kind strname s x.1
     none AfterEnd x = x
@@ -89,13 +90,15 @@ may_follow_inside rs piece r e n o g s b = (g, none)
 order_inside : (before piece : List Rec) (r : Rec) → LeadsTo a_library (kinds before) (left Elements)
     → InOrderInElement piece r → InOrder (before ++ piece) r
 order_inside before piece r h g =
-    subst (Begins a_library) (sym (ap kinds (append_assoc before piece (r ∷ [])) ∙ map-append before (piece ++ r ∷ []))) (begins_inside (kinds before) (kinds (piece ++ r ∷ [])) h g)
+    subst (Begins a_library) (sym (ap kinds (append_assoc before piece (r ∷ [])) ∙ map-append before (piece ++ r ∷ [])))
+    (begins_inside (kinds before) (kinds (piece ++ r ∷ [])) h g)
 
 order_element : (before piece : List Rec) (r : Rec) → LeadsTo a_library (kinds before) (left Elements)
     → IsOpen (kinds piece) → InOrder (before ++ piece) r → InOrderInElement piece r
 order_element before piece r h o g =
     subst (Begins an_element) (sym (kinds-snoc piece r)) (open_goes (kinds before) (kinds piece) r.kind h o
-    (subst (Begins a_library) (kinds-snoc (before ++ piece) r ∙ ap (λ l. l ++ r.kind ∷ []) (map-append before piece)) g))
+    (subst (Begins a_library) (kinds-snoc (before ++ piece) r ∙ ap (λ l. l ++ r.kind ∷ []) (map-append before piece))
+    g))
 
 -- a record that breaches a rule of the open element breaches a rule
 breach_inside : (before piece : List Rec) (r : Rec) (f : ElementFault)
@@ -132,10 +135,21 @@ breach_back : (before piece : List Rec) (r : Rec) (k : GdsKind) → LeadsTo a_li
     → IsOpen (kinds piece) → IsPiece piece → Breaches (before ++ piece) r k
     → (f : ElementFault) × (k ≡ lifted f) × ElementBreaches piece r f
 breach_back before piece r (Record f) h o p x = absurd x
-breach_back before piece r (Misplaced m) h o p x =
-    (MisplacedInElement m, refl, misplaced_carried (InOrder (before ++ piece) r) (InOrderInElement piece r) r m (order_inside before piece r h) x)
-breach_back before piece r (Element k) h o p x =
-    (Rule k, refl, (order_element before piece r h o x.0, subst (λ l. BreachesInElement l r k) (last_opened before piece p) x.1))
+breach_back before piece r (Misplaced m) h o p x = (
+  MisplacedInElement m,
+  refl,
+  misplaced_carried (InOrder (before ++ piece) r) (InOrderInElement piece r) r m
+      (order_inside before piece r h) x,
+)
+breach_back before piece r (Element k) h o p x = (
+  Rule k,
+  refl,
+  (
+    order_element before piece r h o x.0,
+    subst (λ l. BreachesInElement l r k)
+        (last_opened before piece p) x.1,
+  ),
+)
 breach_back before piece r Name h o p x = absurd (never_inside before piece r strname h o p x.0 refl refl x.1)
 breach_back before piece r AfterEnd h o p x = absurd x
 breach_back before piece r TooManyCells h o p x = absurd (never_inside before piece r bgnstr h o p x.0 refl refl x.1)
@@ -159,10 +173,12 @@ says_lifted b e rs r (Breach k) i x only = breaches_both b e rs r k i x only
 says_lifted b e rs r OutOfMemory i x only = tt
 
 -- a record that its element refuses is refused
-pub says_inside : (b : Builder) (e : OpenElement) (rs : List Rec) (r : Rec) (f : Refusal ElementFault) (g : Refusal GdsKind) (i : IsInside b e rs)
+pub says_inside : (b : Builder) (e : OpenElement) (rs : List Rec) (r : Rec) (f : Refusal ElementFault)
+    (g : Refusal GdsKind) (i : IsInside b e rs)
     → g ≡ lifted_refusal f → Says f (ElementBreaches i.piece r) → Says f (OnlyInElement i.piece r) → Takes rs r (Err g)
 says_inside b e rs r f g i h x only =
-    subst (λ (j : Refusal GdsKind). Says j (λ k. Breaches rs r k × BreachesOnly rs r k)) (sym h) (says_lifted b e rs r f i x only)
+    subst (λ (j : Refusal GdsKind). Says j (λ k. Breaches rs r k × BreachesOnly rs r k)) (sym h)
+    (says_lifted b e rs r f i x only)
 
 -- what is refused with the same refusal
 pub takes_refused : (rs : List Rec) (r : Rec) (res : Result Reading (Refusal GdsKind)) (e : Refusal GdsKind)
@@ -173,9 +189,12 @@ takes_refused rs r (Err x) e h b =
 
 -- what is known of the units at a place is known before, unless they are there
 units_before : (p q : Place) (k : ℕ) → after p k ≡ Some q → k == units ≡ false → has_units q ≡ true → has_units p ≡ true
-units_before Header q k e n h = (let z : has_units BgnLib ≡ true = subst (λ i. has_units i ≡ true) (same_place (k == header) BgnLib q e) h in cc)
-units_before BgnLib q k e n h = (let z : has_units LibName ≡ true = subst (λ i. has_units i ≡ true) (same_place (k == bgnlib) LibName q e) h in cc)
-units_before LibName q k e n h = (let z : has_units Units ≡ true = subst (λ i. has_units i ≡ true) (same_place (k == libname) Units q e) h in cc)
+units_before Header q k e n h =
+    (let z : has_units BgnLib ≡ true = subst (λ i. has_units i ≡ true) (same_place (k == header) BgnLib q e) h in cc)
+units_before BgnLib q k e n h =
+    (let z : has_units LibName ≡ true = subst (λ i. has_units i ≡ true) (same_place (k == bgnlib) LibName q e) h in cc)
+units_before LibName q k e n h =
+    (let z : has_units Units ≡ true = subst (λ i. has_units i ≡ true) (same_place (k == libname) Units q e) h in cc)
 units_before Units q k e n h = (let z : None ≡ Some q = none_some (k == units) Structures q None n e in cc)
 units_before Structures q k e n h = refl
 units_before StrName q k e n h = refl
@@ -198,23 +217,29 @@ pub law_holds : (b b' : Builder) (rs : List Rec) (r : Rec) → Holds b rs → af
 law_holds b b' rs r h e s k =
     let o = outside_after b.place b'.place r.kind e in
     record {
-      leads = subst (λ l. LeadsTo a_library l (left b'.place)) (sym (kinds-snoc rs r)) (leads_on (kinds rs) b.place b'.place r.kind h.leads (λ _. o.opens) e);
+      leads = subst (λ l. LeadsTo a_library l (left b'.place)) (sym (kinds-snoc rs r))
+          (leads_on (kinds rs) b.place b'.place r.kind h.leads (λ _. o.opens) e);
       shown = s ∙ ap (grown r.kind r.payload) h.shown ∙ sym (drawings-snoc rs r o);
-      version = k.version ∙ ap (λ (i : ℤ). if r.kind == header then short r.payload else i) h.version ∙ sym (ap short (field-snoc header rs r) ∙ if_ap short (r.kind == header) r.payload (field header rs));
-      units = λ z. units_kept (r.kind == units) r.payload (field units rs) (field units (rs ++ r ∷ [])) b.units b'.units k.units (λ n. h.units (units_before b.place b'.place r.kind e n z)) (field-snoc units rs r);
+      version = k.version ∙ ap (λ (i : ℤ). if r.kind == header then short r.payload else i) h.version
+          ∙ sym (ap short (field-snoc header rs r) ∙ if_ap short (r.kind == header) r.payload (field header rs));
+      units = λ z. units_kept (r.kind == units) r.payload (field units rs) (field units (rs ++ r ∷ [])) b.units b'.units
+          k.units (λ n. h.units (units_before b.place b'.place r.kind e n z)) (field-snoc units rs r);
     }
 
 -- and breaches no rule
 pub law_allowed : (b b' : Builder) (rs : List Rec) (r : Rec) → Holds b rs → Holds b' (rs ++ r ∷ []) → r.kind < 60
     → after b.place r.kind ≡ Some b'.place → IsAllowed (length b.cells.cells) r.kind r.payload → MayFollow rs r
 law_allowed b b' rs r h h' l e a =
-    may_follow rs r (outside_after b.place b'.place r.kind e).value (leads_begins (kinds (rs ++ r ∷ [])) b'.place h'.leads) (λ l. known_after b.place b'.place r.kind l e) a.name
-    (λ k. (let n = cells_shown b.place b'.place b (subst (λ i. after b.place i ≡ Some b'.place) k e) in omega (arith, a.cells k, n, ap (λ ds. length ds) h.shown, kept_many rs)))
+    may_follow rs r (outside_after b.place b'.place r.kind e).value (leads_begins (kinds (rs ++ r ∷ [])) b'.place
+    h'.leads) (λ l. known_after b.place b'.place r.kind l e) a.name
+    (λ k. (let n = cells_shown b.place b'.place b (subst (λ i. after b.place i ≡ Some b'.place) k e) in
+    omega (arith, a.cells k, n, ap (λ ds. length ds) h.shown, kept_many rs)))
 
 -- a zero byte after the end breaches no rule
 pub law_fill : (rs : List Rec) → Begins a_library (kinds (rs ++ a_fill ∷ [])) → MayFollow rs a_fill
 law_fill rs g =
-    may_follow rs a_fill (outside_after Fill Fill fill refl).value g (λ l. absurd (omega (arith, l))) (λ e. absurd (omega (arith, e))) (λ e. absurd (omega (arith, e)))
+    may_follow rs a_fill (outside_after Fill Fill fill refl).value g (λ l. absurd (omega (arith, l)))
+    (λ e. absurd (omega (arith, e))) (λ e. absurd (omega (arith, e)))
 
 -- a builder that has read the records of whole elements alone, and those after them
 law_element : (b b' : Builder) (before piece : List Rec) (d : Drawn) → Holds b before → b.place ≡ Elements
@@ -223,21 +248,28 @@ law_element : (b b' : Builder) (before piece : List Rec) (d : Drawn) → Holds b
     → shown b' ≡ on_last (with_drawn (shapes_in d) (references_in d)) (shown b) → Holds b' (before ++ piece)
 law_element b b' before piece d h at w dr p v u s =
     let pc = word_piece piece w in
-    let to : LeadsTo a_library (kinds before ++ kinds piece) (left Elements) = leads_element (kinds before) (kinds piece) (subst (λ p. LeadsTo a_library (kinds before) (left p)) at h.leads) w in
+    let to : LeadsTo a_library (kinds before ++ kinds piece) (left Elements) =
+    leads_element (kinds before) (kinds piece) (subst (λ p. LeadsTo a_library (kinds before) (left p)) at h.leads)
+    w in
     record {
-      leads = subst (λ l. LeadsTo a_library l (left b'.place)) (sym (map-append before piece)) (subst (λ q. LeadsTo a_library (kinds before ++ kinds piece) (left q)) (sym (p ∙ at)) to);
+      leads = subst (λ l. LeadsTo a_library l (left b'.place)) (sym (map-append before piece))
+          (subst (λ q. LeadsTo a_library (kinds before ++ kinds piece) (left q)) (sym (p ∙ at)) to);
       shown = s ∙ ap (on_last (with_drawn (shapes_in d) (references_in d))) h.shown
           ∙ ap (λ l. on_last (with_drawn l (references_in d)) (kept figure_rings (drawings before))) dr.shapes
-          ∙ ap (λ l. on_last (with_drawn (map in_rings (shapes_of piece)) l) (kept figure_rings (drawings before))) dr.references
+          ∙ ap (λ l. on_last (with_drawn (map in_rings (shapes_of piece)) l) (kept figure_rings (drawings before)))
+          dr.references
           ∙ sym (drawings_element before piece pc);
       version = v ∙ h.version ∙ sym (ap short (field_past header before piece (piece_lacks piece header pc refl refl)));
-      units = λ z. u ∙ h.units (ap has_units at) ∙ sym (ap two_reals (field_past units before piece (piece_lacks piece units pc refl refl)));
+      units = λ z. u ∙ h.units (ap has_units at)
+          ∙ sym (ap two_reals (field_past units before piece (piece_lacks piece units pc refl refl)));
     }
 
 -- what begins with the records of an open element begins a library
 pub inside_begins : (b : Builder) (e : OpenElement) (rs : List Rec) → IsInside b e rs → Begins a_library (kinds rs)
 inside_begins b e rs i =
-    subst (Begins a_library) (sym (ap kinds i.parts ∙ map-append i.before i.piece)) (begins_inside (kinds i.before) (kinds i.piece) (subst (λ p. LeadsTo a_library (kinds i.before) (left p)) i.at i.holds.leads) (reading_begins e i.piece i.reading))
+    subst (Begins a_library) (sym (ap kinds i.parts ∙ map-append i.before i.piece))
+    (begins_inside (kinds i.before) (kinds i.piece) (subst (λ p. LeadsTo a_library (kinds i.before) (left p)) i.at
+    i.holds.leads) (reading_begins e i.piece i.reading))
 
 -- one more record of an open element, which stays open
 pub law_inside : (b : Builder) (e e' : OpenElement) (rs : List Rec) (r : Rec) (i : IsInside b e rs)
@@ -252,24 +284,49 @@ law_inside b e e' rs r i re n =
       reading = re;
     } in
     let pc = reading_piece e' (i.piece ++ r ∷ []) re in
-    let last : last_piece is_opener rs ≡ i.piece = ap (last_piece is_opener) i.parts ∙ last_opened i.before i.piece (reading_piece e i.piece i.reading) in
-    (next, may_follow_inside rs i.piece r last n (reading_begins e' (i.piece ++ r ∷ []) re) (inside_begins b e' (rs ++ r ∷ []) next) (last_lacks i.piece r strname pc refl refl) (last_lacks i.piece r bgnstr pc refl refl))
+    let last : last_piece is_opener rs ≡ i.piece = ap (last_piece is_opener) i.parts ∙ last_opened i.before i.piece
+    (reading_piece e i.piece i.reading) in (
+      next,
+      may_follow_inside rs i.piece r last n (reading_begins e' (i.piece ++ r ∷ []) re)
+          (inside_begins b e' (rs ++ r ∷ []) next) (last_lacks i.piece r strname pc refl refl)
+          (last_lacks i.piece r bgnstr pc refl refl),
+    )
 
 -- the record that ends an open element
 pub law_whole : (b b' : Builder) (e : OpenElement) (rs : List Rec) (r : Rec) (d : Drawn) (i : IsInside b e rs)
     → IsWord an_element (kinds (i.piece ++ r ∷ [])) × IsDrawn d (i.piece ++ r ∷ []) → KeepsElement i.piece r
-    → b'.place ≡ b.place → b'.version ≡ b.version → b'.units ≡ b.units → shown b' ≡ on_last (with_drawn (shapes_in d) (references_in d)) (shown b) → Holds b' (rs ++ r ∷ []) × MayFollow rs r
+    → b'.place ≡ b.place → b'.version ≡ b.version → b'.units ≡ b.units
+    → shown b' ≡ on_last (with_drawn (shapes_in d) (references_in d)) (shown b)
+    → Holds b' (rs ++ r ∷ []) × MayFollow rs r
 law_whole b b' e rs r d i w n p v u s =
-    let parts : rs ++ r ∷ [] ≡ i.before ++ (i.piece ++ r ∷ []) = ap (λ l. l ++ r ∷ []) i.parts ∙ append_assoc i.before i.piece (r ∷ []) in
-    let next : Holds b' (rs ++ r ∷ []) = subst (Holds b') (sym parts) (law_element b b' i.before (i.piece ++ r ∷ []) d i.holds i.at w.0 w.1 p v u s) in
+    let parts : rs ++ r ∷ [] ≡ i.before ++ (i.piece ++ r ∷ []) = ap (λ l. l ++ r ∷ []) i.parts ∙ append_assoc i.before
+    i.piece (r ∷ []) in
+    let next : Holds b' (rs ++ r ∷ []) = subst (Holds b') (sym parts) (law_element b b' i.before (i.piece ++ r ∷ []) d
+    i.holds i.at w.0 w.1 p v u s) in
     let pc = word_piece (i.piece ++ r ∷ []) w.0 in
-    let last : last_piece is_opener rs ≡ i.piece = ap (last_piece is_opener) i.parts ∙ last_opened i.before i.piece (reading_piece e i.piece i.reading) in
-    (next, may_follow_inside rs i.piece r last n ([], subst (IsWord an_element) (sym (append-nil (kinds (i.piece ++ r ∷ [])))) w.0) (leads_begins (kinds (rs ++ r ∷ [])) b'.place next.leads) (last_lacks i.piece r strname pc refl refl) (last_lacks i.piece r bgnstr pc refl refl))
+    let last : last_piece is_opener rs ≡ i.piece = ap (last_piece is_opener) i.parts ∙ last_opened i.before i.piece
+    (reading_piece e i.piece i.reading) in (
+      next,
+      may_follow_inside rs i.piece r last n
+          ([], subst (IsWord an_element) (sym (append-nil (kinds (i.piece ++ r ∷ [])))) w.0)
+          (leads_begins (kinds (rs ++ r ∷ [])) b'.place next.leads) (last_lacks i.piece r strname pc refl refl)
+          (last_lacks i.piece r bgnstr pc refl refl),
+    )
 
 -- the record that opens an element
 pub law_opens : (b : Builder) (e : OpenElement) (rs : List Rec) (r : Rec) → Holds b rs → b.place ≡ Elements
     → IsReading e (r ∷ []) → IsInside b e (rs ++ r ∷ []) × MayFollow rs r
 law_opens b e rs r h at re =
-    let next : IsInside b e (rs ++ r ∷ []) = record { before = rs; piece = r ∷ []; parts = refl; holds = h; at = at; reading = re } in
-    let o = opener_is r.kind (begins_open r.kind [] (reading_begins e (r ∷ []) re)) in
-    (next, may_follow rs r o.value (inside_begins b e (rs ++ r ∷ []) next) (λ _. o.known) (λ z. absurd (is_not r.kind strname o.strname z)) (λ z. absurd (is_not r.kind bgnstr o.bgnstr z)))
+    let next : IsInside b e (rs ++ r ∷ []) = record {
+      before = rs;
+      piece = r ∷ [];
+      parts = refl;
+      holds = h;
+      at = at;
+      reading = re;
+    } in
+    let o = opener_is r.kind (begins_open r.kind [] (reading_begins e (r ∷ []) re)) in (
+      next,
+      may_follow rs r o.value (inside_begins b e (rs ++ r ∷ []) next) (λ _. o.known)
+          (λ z. absurd (is_not r.kind strname o.strname z)) (λ z. absurd (is_not r.kind bgnstr o.bgnstr z)),
+    )

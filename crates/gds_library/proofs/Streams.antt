@@ -21,7 +21,7 @@ use Rattle.gds_records.specs.declared.fault.Stopped.TheVariants.{Fault}
 use Rattle.gds_records.specs.declared.fault.RecordFault.{RecordFault}
 use Rattle.gds_records.specs.declared.fault.RecordFault.TheVariants.{Truncated, BadLength, BadDataType, UnknownRecord}
 use Rattle.gds_records.specs.declared.fault.RecordFault.TheVariants.{TooLong, Read}
-use Rattle.gds_records.proofs.Laws.{law_malformed}
+use Rattle.gds_records.proofs.Laws.{law_malformed, length_spelled}
 use Rattle.lvl_io.proofs.Known.{known_parts}
 use Rattle.gds_elements.specs.Types.{header}
 use Rattle.gds_elements.specs.Rec.{Rec, kinds, field}
@@ -55,7 +55,7 @@ use Rattle.gds_library.proofs.Places.{leads_begins}
 use Rattle.gds_library.proofs.Elements.{reading_open, open_unwhole}
 use Rattle.gds_library.proofs.Steps.{law_fill, law_holds}
 use Rattle.gds_library.proofs.Grown.{plain}
-use Rattle.gds_library.proofs.Spellings.{a_fill, map-append, length_spelled}
+use Rattle.gds_library.proofs.Spellings.{a_fill, map-append}
 use Rattle.gds_library.proofs.Instance.{starts_same}
 use Rattle.gds_library.proofs.Readable.{law_only}
 
@@ -74,7 +74,8 @@ with_unwhole : (o : Option OpenElement) (b : Builder) (rs : List Rec) → HoldsW
     → ⊥
 with_unwhole None b rs h go w = leads_unwhole a_library (kinds rs) (left b.place) (not_ended b.place go) h.leads w
 with_unwhole (Some e) b rs h go w =
-    open_unwhole (kinds h.before) (kinds h.piece) (subst (λ p. LeadsTo a_library (kinds h.before) (left p)) h.at h.holds.leads) (reading_open e h.piece h.reading)
+    open_unwhole (kinds h.before) (kinds h.piece) (subst (λ p. LeadsTo a_library (kinds h.before) (left p)) h.at
+    h.holds.leads) (reading_open e h.piece h.reading)
     (subst (IsWord a_library) (ap kinds h.parts ∙ map-append h.before h.piece) w)
 
 -- what was read is no whole library before the place after its end
@@ -83,7 +84,8 @@ has_unwhole x rs h go w = with_unwhole x.element x.builder rs h go w
 
 holds_whole : (b : Builder) (rs : List Rec) → Holds b rs → b.place ≡ Fill → IsWhole rs
 holds_whole b rs h e =
-    leads_whole a_library (kinds rs) (left Fill) (subst (λ p. LeadsTo a_library (kinds rs) (left p)) e h.leads) ([], tt, refl)
+    leads_whole a_library (kinds rs) (left Fill) (subst (λ p. LeadsTo a_library (kinds rs) (left p)) e h.leads)
+    ([], tt, refl)
 
 with_ended : (o : Option OpenElement) (b : Builder) (rs : List Rec) → HoldsWith o b rs → b.place ≡ Fill → Holds b rs
 with_ended None b rs h e = h
@@ -92,14 +94,27 @@ with_ended (Some i) b rs h e = (let z : Elements ≡ Fill = sym h.at ∙ e in cc
 -- no element is open after the end
 pub reads_end : (xs : List ℕ) (at : ℕ) (x : Reading) (was : Option (List ℕ)) → ReadTo gds xs at (HasRead x) was
     → x.builder.place ≡ Fill → ReadTo gds xs at (Holds x.builder) was
-reads_end xs at x was to e = record { records = to.records; front = to.front; holds = with_ended x.element x.builder to.records to.holds e; left_is = to.left_is; within = to.within }
+reads_end xs at x was to e =
+    record {
+      records = to.records;
+      front = to.front;
+      holds = with_ended x.element x.builder to.records to.holds e;
+      left_is = to.left_is;
+      within = to.within;
+    }
 
 same_left : (a b : List ℕ) (was : Option (List ℕ)) → was ≡ Some a → was ≡ Some b → a ≡ b
 same_left a b was e f = (let g : Some a ≡ Some b = sym e ∙ f in cc)
 
 -- nothing was read yet
 pub holds_begin : (b : Builder) → b.place ≡ Header → shown b ≡ [] → b.version ≡ pos 0 → Holds b []
-holds_begin b p s v = record { leads = subst (λ q. LeadsTo a_library [] (left q)) (sym p) (leads_begin a_library); shown = s; version = v; units = λ z. (let y : has_units Header ≡ true = subst (λ i. has_units i ≡ true) p z in cc) }
+holds_begin b p s v =
+    record {
+      leads = subst (λ q. LeadsTo a_library [] (left q)) (sym p) (leads_begin a_library);
+      shown = s;
+      version = v;
+      units = λ z. (let y : has_units Header ≡ true = subst (λ i. has_units i ≡ true) p z in cc);
+    }
 
 -- the record that is read begins the bytes
 abbrev starts : (room : ℕ) (ys : List ℕ) (k : ℕ) (payload : List ℕ) (s : IsSpelledAt room ys k payload)
@@ -107,15 +122,19 @@ abbrev starts : (room : ℕ) (ys : List ℕ) (k : ℕ) (payload : List ℕ) (s :
 starts room ys k payload s = (s.1, s.2, s.3, s.4, omega (arith, s.5, length_spelled s.1 payload k s.0 s.4), s.6)
 
 -- one more record
-pub reads_record : (xs : List ℕ) (at : ℕ) (x x' : Reading) (was left' : Option (List ℕ)) (k : ℕ) (payload : List ℕ) (to : ReadTo gds xs at (HasRead x) was)
+pub reads_record : (xs : List ℕ) (at : ℕ) (x x' : Reading) (was left' : Option (List ℕ)) (k : ℕ) (payload : List ℕ)
+    (to : ReadTo gds xs at (HasRead x) was)
     → IsSpelledAt (file_limit - at) (drop at xs) k payload
     → ((d : ℕ) → HasRead x' (to.records ++ record_of k d payload ∷ []) × MayFollow to.records (record_of k d payload))
-    → left' ≡ Some (drop (4 + length payload) (drop at xs)) → ReadTo gds xs (at + (4 + length payload)) (HasRead x') left'
+    → left' ≡ Some (drop (4 + length payload) (drop at xs)) → ReadTo gds xs (at + (4 + length payload)) (HasRead x')
+    left'
 reads_record xs at x x' was left' k payload to s takes e =
     let long = length_spelled s.1 payload k s.0 s.4 in
     let rest = (parts_at (drop at xs) s.1 s.2 (4 + length payload) s.6 (sym long)).1 in
-    let next = reads_on gds xs at (HasRead x) (HasRead x') was to (record_of k s.0 payload) s.1 s.2 s.6 (inl (s.3, s.4)) (takes s.0).1 (omega (arith, long, s.5)) (takes s.0).0 in
-    subst (λ i. ReadTo gds xs (at + i) (HasRead x') left') long (subst (ReadTo gds xs (at + length s.1) (HasRead x')) (ap (λ (l : List ℕ). Some l) (sym rest) ∙ sym e) next)
+    let next = reads_on gds xs at (HasRead x) (HasRead x') was to (record_of k s.0 payload) s.1 s.2 s.6 (inl (s.3, s.4))
+    (takes s.0).1 (omega (arith, long, s.5)) (takes s.0).0 in
+    subst (λ i. ReadTo gds xs (at + i) (HasRead x') left') long (subst (ReadTo gds xs (at + length s.1) (HasRead x'))
+    (ap (λ (l : List ℕ). Some l) (sym rest) ∙ sym e) next)
 
 -- the bytes that are left, in hand and in the reader
 record IsLeft (bytes : List ℕ) (hand : List ℕ) (remaining : Option (List ℕ)) : Type 0 where
@@ -125,7 +144,8 @@ record IsLeft (bytes : List ℕ) (hand : List ℕ) (remaining : Option (List ℕ
 
 left_parts : (bytes hand : List ℕ) (remaining : Option (List ℕ)) → prepend_known hand remaining ≡ Some bytes
     → IsLeft bytes hand remaining
-left_parts bytes hand remaining e = (let p = known_parts hand remaining bytes e in record { rest = p.0; parts = sym p.2; is = p.1 })
+left_parts bytes hand remaining e =
+    (let p = known_parts hand remaining bytes e in record { rest = p.0; parts = sym p.2; is = p.1 })
 
 same_start : (room : ℕ) (ys : List ℕ) (r s : Rec) → StartsWith room ys r → StartsWith room ys s → s ≡ r
 same_start room ys r s p q = starts_same room ys q.0 r s p q.3 (q.1, inr q.5)
@@ -134,7 +154,8 @@ same_start room ys r s p q = starts_same room ys q.0 r s p q.3 (q.1, inr q.5)
 only_record : (before : List Rec) (room : ℕ) (ys : List ℕ) (r : Rec) (k : GdsKind) → (IsWhole before → ⊥)
     → StartsWith room ys r → BreachesOnly before r k → (j : GdsKind) → IsWrong before room ys j → j ≡ k
 only_record before room ys r k n s only (Record f) w =
-    absurd (law_malformed room ys f w.2 w.0 r.kind r.data_type r.payload s.0 s.2 s.3 (omega (arith, s.4, length_spelled s.0 r.payload r.kind r.data_type s.3)) (s.1, inr s.5))
+    absurd (law_malformed room ys f w.2 w.0 r.kind r.data_type r.payload s.0 s.2 s.3
+    (omega (arith, s.4, length_spelled s.0 r.payload r.kind r.data_type s.3)) (s.1, inr s.5))
 only_record before room ys r k n s only AfterEnd w = absurd (n w.0)
 only_record before room ys r k n s only (Misplaced m) w =
     only (Misplaced m) (subst (λ (x : Rec). Breaches before x (Misplaced m)) (same_start room ys r w.1 s w.2) w.3)
@@ -178,9 +199,11 @@ seen_refuses xs at rest Name o s = s
 seen_refuses xs at rest TooManyCells o s = s
 
 -- where a record is refused
-pub reads_refused : (xs : List ℕ) (at : ℕ) (x : Reading) (was remaining : Option (List ℕ)) (k : ℕ) (payload hand : List ℕ) (f : GdsKind) (to : ReadTo gds xs at (HasRead x) was)
+pub reads_refused : (xs : List ℕ) (at : ℕ) (x : Reading) (was remaining : Option (List ℕ)) (k : ℕ)
+    (payload hand : List ℕ) (f : GdsKind) (to : ReadTo gds xs at (HasRead x) was)
     → x.builder.place ≢ Fill
-    → IsSpelledAt (file_limit - at) (drop at xs) k payload → ((d : ℕ) → Breaches to.records (record_of k d payload) f × BreachesOnly to.records (record_of k d payload) f)
+    → IsSpelledAt (file_limit - at) (drop at xs) k payload
+    → ((d : ℕ) → Breaches to.records (record_of k d payload) f × BreachesOnly to.records (record_of k d payload) f)
     → prepend_known hand remaining ≡ Some (drop (4 + length payload) (drop at xs)) → RefusesAt xs remaining at f
 reads_refused xs at x was remaining k payload hand f to go s breaches e =
     let room = file_limit - at in
@@ -200,7 +223,8 @@ reads_refused xs at x was remaining k payload hand f to go s breaches e =
       rest = l.rest;
       parts = s.6 ∙ ap (λ i. s.1 ++ i) l.parts ∙ sym (append_assoc s.1 hand l.rest);
       left_is = l.is;
-      wrong = λ more. wrong_record to.records room ((s.1 ++ hand) ++ more) r f o n (s.1, hand ++ more, s.3, s.4, begins.4, append_assoc s.1 hand more) b.0;
+      wrong = λ more. wrong_record to.records room ((s.1 ++ hand) ++ more) r f o n
+          (s.1, hand ++ more, s.3, s.4, begins.4, append_assoc s.1 hand more) b.0;
       only = only_record to.records room (drop at xs) r f n begins b.1;
     })
 
@@ -210,7 +234,8 @@ same_fault f g s a b = (let h : Err f ≡ Err g = sym a ∙ b in cc)
 no_start : (before : List Rec) (room : ℕ) (ys : List ℕ) (f : RecordFault) → step room ys ≡ Err f → f ≢ Truncated
     → (r : Rec) → StartsWith room ys r → ⊥
 no_start before room ys f e t r s =
-    law_malformed room ys f e t r.kind r.data_type r.payload s.0 s.2 s.3 (omega (arith, s.4, length_spelled s.0 r.payload r.kind r.data_type s.3)) (s.1, inr s.5)
+    law_malformed room ys f e t r.kind r.data_type r.payload s.0 s.2 s.3
+    (omega (arith, s.4, length_spelled s.0 r.payload r.kind r.data_type s.3)) (s.1, inr s.5)
 
 -- where no record begins the bytes, that is all that is wrong with them
 only_fault : (before : List Rec) (room : ℕ) (ys : List ℕ) (f : RecordFault) → step room ys ≡ Err f → f ≢ Truncated
@@ -224,12 +249,15 @@ only_fault before room ys f e t z Name w = absurd (no_start before room ys f e t
 only_fault before room ys f e t z TooManyCells w = absurd (no_start before room ys f e t w.1 w.2)
 
 -- a fault of the bytes in hand
-seen_fault : (xs : List ℕ) (at : ℕ) (Has : List Rec → Type 0) (was remaining : Option (List ℕ)) (hand : List ℕ) (f : RecordFault) (to : ReadTo gds xs at Has was)
+seen_fault : (xs : List ℕ) (at : ℕ) (Has : List Rec → Type 0) (was remaining : Option (List ℕ)) (hand : List ℕ)
+    (f : RecordFault) (to : ReadTo gds xs at Has was)
     → f ≢ Truncated → f ≢ Read
-    → (IsWhole to.records → file_limit - at ≡ 0) → ((more : List ℕ) → step (file_limit - at) (hand ++ more) ≡ Err f) → prepend_known hand remaining ≡ Some (drop at xs) → IsSeenWrong gds xs at remaining (Record f)
+    → (IsWhole to.records → file_limit - at ≡ 0) → ((more : List ℕ) → step (file_limit - at) (hand ++ more) ≡ Err f)
+    → prepend_known hand remaining ≡ Some (drop at xs) → IsSeenWrong gds xs at remaining (Record f)
 seen_fault xs at Has was remaining hand f to t r z said e =
     let l = left_parts (drop at xs) hand remaining e in
-    let all : step (file_limit - at) (drop at xs) ≡ Err f = subst (λ i. step (file_limit - at) i ≡ Err f) (sym l.parts) (said l.rest) in
+    let all : step (file_limit - at) (drop at xs) ≡ Err f = subst (λ i. step (file_limit - at) i ≡ Err f) (sym l.parts)
+    (said l.rest) in
     record {
       within = to.within;
       records = to.records;
@@ -254,22 +282,30 @@ reads_cut xs at x was to go cut = record {
 }
 
 -- what a fault of the records says
-pub reads_fault : (xs : List ℕ) (at : ℕ) (x : Reading) (was remaining : Option (List ℕ)) (hand : List ℕ) (f : RecordFault)
+pub reads_fault : (xs : List ℕ) (at : ℕ) (x : Reading) (was remaining : Option (List ℕ)) (hand : List ℕ)
+    (f : RecordFault)
     → ReadTo gds xs at (HasRead x) was → x.builder.place ≢ Fill
-    → (f ≢ Truncated → f ≢ Read → (more : List ℕ) → step (file_limit - at) (hand ++ more) ≡ Err f) → (f ≡ Truncated → (length (drop at xs) < 4) ⊎ IsBegun (drop at xs))
+    → (f ≢ Truncated → f ≢ Read → (more : List ℕ) → step (file_limit - at) (hand ++ more) ≡ Err f)
+    → (f ≡ Truncated → (length (drop at xs) < 4) ⊎ IsBegun (drop at xs))
     → prepend_known hand remaining ≡ Some (drop at xs) → RefusesAt xs remaining at (Record f)
 reads_fault xs at x was remaining hand f to go said cut e = by f refl
   where
     known : f ≢ Truncated → f ≢ Read → IsSeenWrong gds xs at remaining (Record f)
-    known t r = seen_fault xs at (HasRead x) was remaining hand f to t r (λ w. absurd (has_unwhole x to.records to.holds go w)) (said t r) e
+    known t r = seen_fault xs at (HasRead x) was remaining hand f to t r
+        (λ w. absurd (has_unwhole x to.records to.holds go w)) (said t r) e
 
     by : (g : RecordFault) → g ≡ f → RefusesAt xs remaining at (Record g)
     by Truncated i = reads_cut xs at x was to go (cut (sym i))
     by Read i = reads_front gds xs at (HasRead x) was to
-    by BadLength i = subst (λ (h : RecordFault). IsSeenWrong gds xs at remaining (Record h)) (sym i) (known (λ z. (let y : BadLength ≡ Truncated = i ∙ z in cc)) (λ z. (let y : BadLength ≡ Read = i ∙ z in cc)))
-    by BadDataType i = subst (λ (h : RecordFault). IsSeenWrong gds xs at remaining (Record h)) (sym i) (known (λ z. (let y : BadDataType ≡ Truncated = i ∙ z in cc)) (λ z. (let y : BadDataType ≡ Read = i ∙ z in cc)))
-    by UnknownRecord i = subst (λ (h : RecordFault). IsSeenWrong gds xs at remaining (Record h)) (sym i) (known (λ z. (let y : UnknownRecord ≡ Truncated = i ∙ z in cc)) (λ z. (let y : UnknownRecord ≡ Read = i ∙ z in cc)))
-    by TooLong i = subst (λ (h : RecordFault). IsSeenWrong gds xs at remaining (Record h)) (sym i) (known (λ z. (let y : TooLong ≡ Truncated = i ∙ z in cc)) (λ z. (let y : TooLong ≡ Read = i ∙ z in cc)))
+    by BadLength i = subst (λ (h : RecordFault). IsSeenWrong gds xs at remaining (Record h)) (sym i)
+        (known (λ z. (let y : BadLength ≡ Truncated = i ∙ z in cc)) (λ z. (let y : BadLength ≡ Read = i ∙ z in cc)))
+    by BadDataType i = subst (λ (h : RecordFault). IsSeenWrong gds xs at remaining (Record h)) (sym i)
+        (known (λ z. (let y : BadDataType ≡ Truncated = i ∙ z in cc)) (λ z. (let y : BadDataType ≡ Read = i ∙ z in cc)))
+    by UnknownRecord i = subst (λ (h : RecordFault). IsSeenWrong gds xs at remaining (Record h)) (sym i)
+        (known (λ z. (let y : UnknownRecord ≡ Truncated = i ∙ z in cc))
+        (λ z. (let y : UnknownRecord ≡ Read = i ∙ z in cc)))
+    by TooLong i = subst (λ (h : RecordFault). IsSeenWrong gds xs at remaining (Record h)) (sym i)
+        (known (λ z. (let y : TooLong ≡ Truncated = i ∙ z in cc)) (λ z. (let y : TooLong ≡ Read = i ∙ z in cc)))
 
 -- one zero byte more after the end
 reads_zero : (xs : List ℕ) (at : ℕ) (b : Builder) (was : Option (List ℕ)) (rest : List ℕ)
@@ -277,8 +313,11 @@ reads_zero : (xs : List ℕ) (at : ℕ) (b : Builder) (was : Option (List ℕ)) 
     → ReadTo gds xs (at + 1) (Holds b) (Some rest)
 reads_zero xs at b was rest to e here limit =
     let stays : after b.place fill ≡ Some b.place = ap (λ p. after p fill) e ∙ ap (λ (p : Place). Some p) (sym e) in
-    let holds : Holds b (to.records ++ a_fill ∷ []) = law_holds b b to.records a_fill to.holds stays (sym (plain fill [] (shown b) refl refl)) (record { version = refl; units = refl }) in
-    reads_on gds xs at (Holds b) (Holds b) was to a_fill (0 ∷ []) rest here (inr (refl, refl)) (law_fill to.records (leads_begins (kinds (to.records ++ a_fill ∷ [])) b.place holds.leads)) (omega (arith, limit)) holds
+    let holds : Holds b (to.records ++ a_fill ∷ []) = law_holds b b to.records a_fill to.holds stays
+    (sym (plain fill [] (shown b) refl refl)) (record { version = refl; units = refl }) in
+    reads_on gds xs at (Holds b) (Holds b) was to a_fill (0 ∷ []) rest here (inr (refl, refl))
+    (law_fill to.records (leads_begins (kinds (to.records ++ a_fill ∷ [])) b.place holds.leads))
+    (omega (arith, limit)) holds
 
 -- zero bytes after the end
 reads_zeros : (n : ℕ) (xs : List ℕ) (at : ℕ) (b : Builder) (was : Option (List ℕ)) (rest : List ℕ)
@@ -289,7 +328,9 @@ reads_zeros zero xs at b was rest to e here limit =
     (was, subst (λ i. ReadTo gds xs i (Holds b) was) z to, subst (λ i. drop i xs ≡ rest) z here)
 reads_zeros (suc n) xs at b was rest to e here limit =
     let one = reads_zero xs at b was (replicate n 0 ++ rest) to e here (omega (arith, limit)) in
-    let more = reads_zeros n xs (at + 1) b (Some (replicate n 0 ++ rest)) rest one e (same_left (drop (at + 1) xs) (replicate n 0 ++ rest) (Some (replicate n 0 ++ rest)) one.left_is refl) (omega (arith, limit)) in
+    let more = reads_zeros n xs (at + 1) b (Some (replicate n 0 ++ rest)) rest one e
+    (same_left (drop (at + 1) xs) (replicate n 0 ++ rest) (Some (replicate n 0 ++ rest)) one.left_is refl)
+    (omega (arith, limit)) in
     let z : at + 1 + n ≡ at + suc n = omega arith in
     (more.0, subst (λ i. ReadTo gds xs i (Holds b) more.0) z more.1, subst (λ i. drop i xs ≡ rest) z more.2)
 
@@ -298,19 +339,32 @@ pub reads_all : (xs : List ℕ) (at : ℕ) (b : Builder) (was : Option (List ℕ
     → b.place ≡ Fill → drop at xs ≡ replicate (length (drop at xs)) 0 → at + length (drop at xs) ≤ file_limit
     → IsRead xs (done b) (record { version = b.version; units = b.units })
 reads_all xs at b was to e zeros limit =
-    let more = reads_zeros (length (drop at xs)) xs at b was [] to e (zeros ∙ sym (append-nil (replicate (length (drop at xs)) 0))) limit in
+    let more = reads_zeros (length (drop at xs)) xs at b was [] to e
+    (zeros ∙ sym (append-nil (replicate (length (drop at xs)) 0))) limit in
     let end = more.1 in
     let n : at + length (drop at xs) ≡ length xs = omega (arith, length-drop at xs, to.within) in
-    let all : take (at + length (drop at xs)) xs ≡ xs = (parts_at xs xs [] (at + length (drop at xs)) (sym (append-nil xs)) n).0 in
+    let all : take (at + length (drop at xs)) xs ≡ xs =
+    (parts_at xs xs [] (at + length (drop at xs)) (sym (append-nil xs)) n).0 in
     let h : GdsHead = record { version = b.version; units = b.units } in
     let spelled : SpellsLibrary xs (drawings end.records) h = record {
       records = end.records;
-      whole = record { front = subst (λ l. IsFront gds l end.records) all end.front; whole = holds_whole b end.records end.holds e };
+      whole = record {
+        front = subst (λ l. IsFront gds l end.records) all end.front;
+        whole = holds_whole b end.records end.holds e;
+      };
       cells_are = refl;
       head_is = ap (λ (i : ℤ). let g : GdsHead = record { version = i; units = b.units } in g) end.holds.version
-          ∙ ap (λ (i : List (List ℕ)). let g : GdsHead = record { version = short (field header end.records); units = i } in g) (end.holds.units (ap has_units e));
+          ∙ ap (λ (i : List (List ℕ)). let g : GdsHead = record {
+            version = short (field header end.records);
+            units = i;
+          } in g) (end.holds.units (ap has_units e));
     } in
-    record { cells = drawings end.records; spelled = spelled; only = λ ds g p. law_only xs (drawings end.records) ds h g spelled p; kept_as = sym (ap (λ p. shown_at p b) e) ∙ end.holds.shown }
+    record {
+      cells = drawings end.records;
+      spelled = spelled;
+      only = λ ds g p. law_only xs (drawings end.records) ds h g spelled p;
+      kept_as = sym (ap (λ p. shown_at p b) e) ∙ end.holds.shown;
+    }
 
 drop_zeros : (n : ℕ) (ys : List ℕ) → drop n (replicate n 0 ++ ys) ≡ ys
 drop_zeros zero ys = refl
@@ -319,7 +373,8 @@ drop_zeros (suc n) ys = drop_zeros n ys
 some_hand : (hand rest ys : List ℕ) (c : ℕ) → 0 < length hand → c ∷ rest ≡ hand ++ ys → (more : List ℕ)
     → (tail : List ℕ) × (hand ++ more ≡ c ∷ tail)
 some_hand [] rest ys c h e more = absurd (omega (arith, h))
-some_hand (i ∷ hand) rest ys c h e more = (let same : c ≡ i = cc in (hand ++ more, ap (λ j. j ∷ (hand ++ more)) (sym same)))
+some_hand (i ∷ hand) rest ys c h e more =
+    (let same : c ≡ i = cc in (hand ++ more, ap (λ j. j ∷ (hand ++ more)) (sym same)))
 
 only_other : (before : List Rec) (room : ℕ) (ys : List ℕ) → IsWhole before → 0 < room → (j : GdsKind)
     → IsWrong before room ys j → j ≡ AfterEnd
@@ -334,7 +389,8 @@ only_other before room ys w l TooManyCells x = absurd (x.0 w)
 pub reads_other : (xs : List ℕ) (at n : ℕ) (b : Builder) (was remaining : Option (List ℕ)) (c : ℕ) (rest hand : List ℕ)
     → ReadTo gds xs at (Holds b) was → b.place ≡ Fill → drop at xs ≡ replicate n 0 ++ (c ∷ rest) → c ≢ 0
     → n < file_limit - at
-    → 0 < length hand → prepend_known hand remaining ≡ Some (drop n (drop at xs)) → RefusesAt xs remaining (at + n) AfterEnd
+    → 0 < length hand → prepend_known hand remaining ≡ Some (drop n (drop at xs))
+    → RefusesAt xs remaining (at + n) AfterEnd
 reads_other xs at n b was remaining c rest hand to e here other room some known =
     let more = reads_zeros n xs at b was (c ∷ rest) to e here (omega (arith, room)) in
     let end = more.1 in
@@ -358,12 +414,15 @@ reads_other xs at n b was remaining c rest hand to e here other room some known 
 pub reads_too_long : (xs : List ℕ) (at : ℕ) (b : Builder) (was remaining : Option (List ℕ)) (rest hand : List ℕ)
     → ReadTo gds xs at (Holds b) was → b.place ≡ Fill → at ≤ file_limit
     → drop at xs ≡ replicate (file_limit - at) 0 ++ rest
-    → ((more : List ℕ) → step (file_limit - (at + (file_limit - at))) (hand ++ more) ≡ Err TooLong) → prepend_known hand remaining ≡ Some (drop (file_limit - at) (drop at xs)) → RefusesAt xs remaining (at + (file_limit - at)) (Record TooLong)
+    → ((more : List ℕ) → step (file_limit - (at + (file_limit - at))) (hand ++ more) ≡ Err TooLong)
+    → prepend_known hand remaining ≡ Some (drop (file_limit - at) (drop at xs))
+    → RefusesAt xs remaining (at + (file_limit - at)) (Record TooLong)
 reads_too_long xs at b was remaining rest hand to e limit here said known =
     let n = file_limit - at in
     let more = reads_zeros n xs at b was rest to e here (omega (arith, limit)) in
     let after : drop n (drop at xs) ≡ drop (at + n) xs = ap (drop n) here ∙ drop_zeros n rest ∙ sym more.2 in
-    seen_fault xs (at + n) (Holds b) more.0 remaining hand TooLong more.1 (λ z. cc) (λ z. cc) (λ w. omega (arith, limit)) said (known ∙ ap (λ (i : List ℕ). Some i) after)
+    seen_fault xs (at + n) (Holds b) more.0 remaining hand TooLong more.1 (λ z. cc) (λ z. cc)
+    (λ w. omega (arith, limit)) said (known ∙ ap (λ (i : List ℕ). Some i) after)
 
 -- where the reader failed after the end
 pub reads_failed : (xs : List ℕ) (at n : ℕ) (b : Builder) (was : Option (List ℕ)) (rest : List ℕ)
@@ -389,18 +448,24 @@ refuses_by xs rest e offset at k h o x =
 pub reads_after : (xs : List ℕ) (at n : ℕ) (b : Builder) (was remaining : Option (List ℕ)) (c : ℕ) (rest hand : List ℕ)
     → ReadTo gds xs at (Holds b) was → b.place ≡ Fill → drop at xs ≡ replicate n 0 ++ (c ∷ rest) → c ≢ 0
     → n < file_limit - at
-    → 0 < length hand → ((ys : List ℕ) → was ≡ Some ys → prepend_known hand remaining ≡ Some (drop n ys)) → RefusesAt xs remaining (at + n) AfterEnd
+    → 0 < length hand → ((ys : List ℕ) → was ≡ Some ys → prepend_known hand remaining ≡ Some (drop n ys))
+    → RefusesAt xs remaining (at + n) AfterEnd
 reads_after xs at n b was remaining c rest hand to e here other room some left =
     reads_other xs at n b was remaining c rest hand to e here other room some (left (drop at xs) to.left_is)
 
 -- what a fault after the end says
-pub reads_tail : (xs : List ℕ) (at new : ℕ) (b : Builder) (was remaining : Option (List ℕ)) (hand : List ℕ) (f : RecordFault)
+pub reads_tail : (xs : List ℕ) (at new : ℕ) (b : Builder) (was remaining : Option (List ℕ)) (hand : List ℕ)
+    (f : RecordFault)
     → ReadTo gds xs at (Holds b) was → b.place ≡ Fill → at ≤ file_limit
-    → AnswersTail (Err (Fault f)) at new (file_limit - at) (drop at xs) → Decides f (file_limit - new) hand → ((ys : List ℕ) → was ≡ Some ys → prepend_known hand remaining ≡ Some (drop (new - at) ys)) → RefusesAt xs remaining new (Record f)
+    → AnswersTail (Err (Fault f)) at new (file_limit - at) (drop at xs) → Decides f (file_limit - new) hand
+    → ((ys : List ℕ) → was ≡ Some ys → prepend_known hand remaining ≡ Some (drop (new - at) ys))
+    → RefusesAt xs remaining new (Record f)
 reads_tail xs at new b was remaining hand TooLong to e limit x said left =
     let n : new - at ≡ file_limit - at = omega (arith, x.1) in
     subst (λ i. RefusesAt xs remaining i (Record TooLong)) (sym x.1)
-    (reads_too_long xs at b was remaining x.0.0 hand to e limit x.0.2 (subst (λ i. (more : List ℕ) → step (file_limit - i) (hand ++ more) ≡ Err TooLong) x.1 (said (λ z. cc) (λ z. cc)))
+    (reads_too_long xs at b was remaining x.0.0 hand to e limit x.0.2
+    (subst (λ i. (more : List ℕ) → step (file_limit - i) (hand ++ more) ≡ Err TooLong) x.1
+    (said (λ z. cc) (λ z. cc)))
     (left (drop at xs) to.left_is ∙ ap (λ i. Some (drop i (drop at xs))) n))
 reads_tail xs at new b was remaining hand Read to e limit x said left =
     subst (IsFrontAt gds xs) (sym x.4) (reads_failed xs at x.0 b was x.1 to e x.3 x.2 limit)

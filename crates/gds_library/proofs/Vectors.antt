@@ -1,16 +1,15 @@
 -- The definitions at small examples.
-use Rattle.std.proofs.Common.{◌≡◌, ℕ, ◌⊎◌, inl, inr, Bool, true, false, ◌||◌, List, [], ◌∷◌, refl}
+use Rattle.std.proofs.Common.{◌||◌, ◌≡◌, ℕ, ◌⊎◌, inl, inr, Bool, true, false, List, [], ◌∷◌, refl}
 use Rattle.std.specs.Prelude.{pos, negsuc}
 use Rattle.std.specs.List.{flat_map}
 use Rattle.lvl_grid.specs.declared.map.Turn.TheVariants.{R90}
-use Rattle.lvl_path.specs.Figure.{rings, path}
+use Rattle.lvl_path.specs.Figure.{path}
 use Rattle.lvl_grammar.specs.Order.{Order, IsWord}
 use Rattle.gds_elements.specs.Order.{an_element}
-use Rattle.gds_elements.specs.Rec.{Rec, kinds}
+use Rattle.gds_elements.specs.Rec.{Rec}
 use Rattle.lvl_grammar.specs.inside.After.{after_first, can_be_empty, IsWordOfOne}
 use Rattle.lvl_grammar.proofs.Orders.{first_put, empty_back, of_one-append}
-use Rattle.gds_library.specs.Order.{a_library}
-use Rattle.gds_library.specs.Values.{drawings, head}
+use Rattle.gds_library.specs.Values.{drawings}
 
 -- whether what is left of some orders is a word of one of them
 abbrev accepts : List Order → List ℕ → Bool
@@ -35,7 +34,8 @@ put_back (a ∷ rs) k w h = elim (of_one-append (after_first a k) (flat_map (λ 
   | inr y ↦ inr (put_back rs k w y)
 ]
 
-accepted : (rs : List Order) (w : List ℕ) → accepts rs w ≡ true → IsWordOfOne rs w
+-- what is accepted is a word
+pub accepted : (rs : List Order) (w : List ℕ) → accepts rs w ≡ true → IsWordOfOne rs w
 accepted rs [] e = one_empty rs e
 accepted rs (k ∷ w) e = put_back rs k w (accepted (flat_map (λ a. after_first a k) rs) w e)
 
@@ -48,50 +48,35 @@ array_with_magnification = accepted (an_element ∷ []) (0x0B ∷ 0x12 ∷ 0x1A 
 no_angle_alone : accepts (an_element ∷ []) (0x0A ∷ 0x12 ∷ 0x1C ∷ []) ≡ false
 no_angle_alone = refl
 
--- the records of the square
-abbrev rec : ℕ → ℕ → List ℕ → Rec
+abbrev pub rec : ℕ → ℕ → List ℕ → Rec
 rec k d p = record { kind = k; data_type = d; payload = p }
-
-abbrev square : List Rec
-square =
-    rec 0x00 2 (2 ∷ 0x58 ∷ []) ∷ rec 0x01 2 [] ∷ rec 0x02 6 (0x4C ∷ 0x42 ∷ [])
-    ∷ rec 0x03 5 (0x41 ∷ 0x10 ∷ 0 ∷ 0 ∷ 0 ∷ 0 ∷ 0 ∷ 0 ∷ 0x41 ∷ 0x10 ∷ 0 ∷ 0 ∷ 0 ∷ 0 ∷ 0 ∷ 0 ∷ [])
-    ∷ rec 0x05 2 [] ∷ rec 0x06 6 (0x54 ∷ 0x4F ∷ 0x50 ∷ 0 ∷ []) ∷ rec 0x08 0 [] ∷ rec 0x0D 2 (0 ∷ 1 ∷ []) ∷ rec 0x0E 2 (0 ∷ 0 ∷ [])
-    ∷ rec 0x10 3 (0 ∷ 0 ∷ 0 ∷ 0 ∷ 0 ∷ 0 ∷ 0 ∷ 0 ∷ 0 ∷ 0 ∷ 0 ∷ 10 ∷ 0 ∷ 0 ∷ 0 ∷ 0 ∷ 0 ∷ 0 ∷ 0 ∷ 10 ∷ 0 ∷ 0 ∷ 0 ∷ 10 ∷ 0 ∷ 0 ∷ 0 ∷ 0 ∷ 0 ∷ 0 ∷ 0 ∷ 10 ∷ 0 ∷ 0 ∷ 0 ∷ 0 ∷ 0 ∷ 0 ∷ 0 ∷ 0 ∷ [])
-    ∷ rec 0x11 0 [] ∷ rec 0x07 0 [] ∷ rec 0x04 0 [] ∷ []
-
-square_order : IsWordOfOne (a_library ∷ []) (kinds square)
-square_order = accepted (a_library ∷ []) (kinds square) refl
-
-square_drawn : drawings square ≡ record {
-  name = 0x54 ∷ 0x4F ∷ 0x50 ∷ [];
-  references = [];
-  shapes = record {
-    layer = record { layer = 1; datatype = 0 };
-    shifts = record { x = pos 0; y = pos 0 } ∷ [];
-    figure = rings ((record { x = pos 0; y = pos 0 } ∷ record { x = pos 10; y = pos 0 } ∷ record { x = pos 10; y = pos 10 } ∷ record { x = pos 0; y = pos 10 } ∷ []) ∷ []);
-  } ∷ [];
-} ∷ []
-square_drawn = refl
-
-square_version : (head square).version ≡ pos 600
-square_version = refl
 
 -- a structure with a path with ends that reach out, a reference reflected and turned, and a text
 abbrev elements : List Rec
 elements =
-    rec 0x05 2 [] ∷ rec 0x06 6 (0x41 ∷ 0x42 ∷ []) ∷ rec 0x09 0 [] ∷ rec 0x0D 2 (0 ∷ 3 ∷ []) ∷ rec 0x0E 2 (0 ∷ 4 ∷ []) ∷ rec 0x21 2 (0 ∷ 2 ∷ []) ∷ rec 0x0F 3 (0 ∷ 0 ∷ 0 ∷ 6 ∷ [])
+    rec 0x05 2 [] ∷ rec 0x06 6 (0x41 ∷ 0x42 ∷ []) ∷ rec 0x09 0 [] ∷ rec 0x0D 2 (0 ∷ 3 ∷ []) ∷ rec 0x0E 2
+    (0 ∷ 4 ∷ []) ∷ rec 0x21 2 (0 ∷ 2 ∷ []) ∷ rec 0x0F 3 (0 ∷ 0 ∷ 0 ∷ 6 ∷ [])
     ∷ rec 0x10 3 (0 ∷ 0 ∷ 0 ∷ 0 ∷ 0 ∷ 0 ∷ 0 ∷ 0 ∷ 0 ∷ 0 ∷ 0 ∷ 10 ∷ 0 ∷ 0 ∷ 0 ∷ 0 ∷ []) ∷ rec 0x11 0 []
-    ∷ rec 0x0A 0 [] ∷ rec 0x12 6 (0x43 ∷ 0 ∷ []) ∷ rec 0x1A 1 (0x80 ∷ 0 ∷ []) ∷ rec 0x1C 5 (0x42 ∷ 0x5A ∷ 0 ∷ 0 ∷ 0 ∷ 0 ∷ 0 ∷ 0 ∷ []) ∷ rec 0x10 3 (0xFF ∷ 0xFF ∷ 0xFF ∷ 0xFF ∷ 0 ∷ 0 ∷ 0 ∷ 7 ∷ []) ∷ rec 0x11 0 []
-    ∷ rec 0x0C 0 [] ∷ rec 0x0D 2 (0 ∷ 1 ∷ []) ∷ rec 0x16 2 (0 ∷ 0 ∷ []) ∷ rec 0x10 3 (0 ∷ 0 ∷ 0 ∷ 0 ∷ 0 ∷ 0 ∷ 0 ∷ 0 ∷ []) ∷ rec 0x19 6 [] ∷ rec 0x11 0 [] ∷ rec 0x07 0 [] ∷ []
+    ∷ rec 0x0A 0 [] ∷ rec 0x12 6 (0x43 ∷ 0 ∷ []) ∷ rec 0x1A 1 (0x80 ∷ 0 ∷ []) ∷ rec 0x1C 5
+    (0x42 ∷ 0x5A ∷ 0 ∷ 0 ∷ 0 ∷ 0 ∷ 0 ∷ 0 ∷ []) ∷ rec 0x10 3 (0xFF ∷ 0xFF ∷ 0xFF ∷ 0xFF ∷ 0 ∷ 0 ∷ 0 ∷ 7 ∷ []) ∷ rec
+    0x11 0 []
+    ∷ rec 0x0C 0 [] ∷ rec 0x0D 2 (0 ∷ 1 ∷ []) ∷ rec 0x16 2 (0 ∷ 0 ∷ []) ∷ rec 0x10 3
+    (0 ∷ 0 ∷ 0 ∷ 0 ∷ 0 ∷ 0 ∷ 0 ∷ 0 ∷ []) ∷ rec 0x19 6 [] ∷ rec 0x11 0 [] ∷ rec 0x07 0 [] ∷ []
 
 elements_drawn : drawings elements ≡ record {
   name = 0x41 ∷ 0x42 ∷ [];
   shapes = record {
     layer = record { layer = 3; datatype = 4 };
-    figure = path (record { x = pos 0; y = pos 0 } ∷ record { x = pos 10; y = pos 0 } ∷ []) (record { half = 3; start = 3; end = 3 });
+    figure = path (record { x = pos 0; y = pos 0 } ∷ record { x = pos 10; y = pos 0 } ∷ [])
+        (record { half = 3; start = 3; end = 3 });
     shifts = record { x = pos 0; y = pos 0 } ∷ [];
   } ∷ [];
-  references = record { cell = 0x43 ∷ []; flip = true; turn = R90; at = record { x = negsuc 0; y = pos 7 }; shifts = record { x = pos 0; y = pos 0 } ∷ [] } ∷ [];
+  references = record {
+    cell = 0x43 ∷ [];
+    flip = true;
+    turn = R90;
+    at = record { x = negsuc 0; y = pos 7 };
+    shifts = record { x = pos 0; y = pos 0 } ∷ [];
+  } ∷ [];
 } ∷ []
 elements_drawn = refl

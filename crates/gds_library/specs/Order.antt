@@ -9,4 +9,5 @@ a_structure = one bgnstr then one strname then many an_element then one endstr
 
 abbrev pub a_library : Order
 a_library =
-    one header then one bgnlib then one libname then one units then many a_structure then one endlib then many (one fill)
+    one header then one bgnlib then one libname then one units then many a_structure then one endlib
+    then many (one fill)

@@ -1,5 +1,5 @@
 -- The rules that a record may breach.
-use Rattle.std.specs.Prelude.{◌≡◌, ℕ, ◌≤◌, List, [], ◌∷◌, ◌++◌, length}
+use Rattle.std.specs.Prelude.{◌≡◌, ◌≤◌, List, [], ◌∷◌, ◌++◌, length}
 use Rattle.lvl_grammar.specs.Order.{IsWord, Begins}
 use Rattle.gds_elements.specs.Types.{bgnstr, strname}
 use Rattle.gds_elements.specs.Rec.{Rec, kinds, is_type, is_opener}
@@ -20,7 +20,8 @@ IsWhole rs = IsWord a_library (kinds rs)
 abbrev pub InOrder : List Rec → Rec → Type 0
 InOrder before r = Begins a_library (kinds (before ++ r ∷ []))
 
--- the record breaches the rule: it may not come there, or what it says, after the records of its element, or of the library, may not
+-- the record breaches the rule: it may not come there, or what it says, after the records of its element, or of the
+-- library, may not
 abbrev pub Breaches : List Rec → Rec → GdsKind → Type 0
 Breaches before r (Record f) = ⊥
 Breaches before r (Misplaced m) = IsMisplacedAs (InOrder before r) r m

@@ -1,5 +1,6 @@
 //! The library of the records that are outside of elements, and of what elements draw.
-ghost use Rattle.std.specs.Prelude.{◌≡◌, ◌==◌, if◌then◌else◌, ◌<◌, [], pos, Some, None, IsTrue, ◌↔◌, OnOk, IfOk, IfErr, length};
+ghost use Rattle.std.specs.Prelude.{◌≡◌, ◌==◌, if◌then◌else◌, ◌<◌, [], pos, Some, None, IsTrue, ◌↔◌, OnOk, IfOk, IfErr};
+ghost use Rattle.std.specs.Prelude.{length};
 ghost use Rattle.gds_elements.specs.Types.{header, units};
 ghost use Rattle.gds_elements.specs.Values.{short};
 ghost use Rattle.lvl_refusal.specs.Refused.{Says};
@@ -78,11 +79,14 @@ impl Builder {
         payload: &[u8],
     ) -> Result<(), Refusal<GdsKind>>
         requires { IsFormed kind payload.now }
-        ensures refused { IfErr result (λ e. Says e (IsFault self.old.place (length self.old.cells.cells) kind payload.now)) }
+        ensures refused { IfErr result
+            (λ e. Says e (IsFault self.old.place (length self.old.cells.cells) kind payload.now)) }
         ensures place { OnOk result (after self.old.place kind ≡ Some self.new.place) }
         ensures allowed { OnOk result (IsAllowed (length self.old.cells.cells) kind payload.now) }
-        ensures version { OnOk result (self.new.version ≡ (if kind == header then short payload.now else self.old.version)) }
-        ensures units { OnOk result (self.new.units ≡ (if kind == units then two_reals payload.now else self.old.units)) }
+        ensures version { OnOk result
+            (self.new.version ≡ (if kind == header then short payload.now else self.old.version)) }
+        ensures units { OnOk result
+            (self.new.units ≡ (if kind == units then two_reals payload.now else self.old.units)) }
         ensures shown { OnOk result (shown self.new ≡ grown kind payload.now (shown self.old)) }
     {
         let Some(next) = self.place.after(kind) else {

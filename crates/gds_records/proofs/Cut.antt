@@ -47,7 +47,8 @@ header_whole : (xs : List ℕ) → header xs ≡ Err Truncated → ⊥
 unfolding header
 header_whole xs e =
     let len = 256 * slice_index xs 0 + slice_index xs 1 in
-    unless_truncated (header_fault len (slice_index xs 2) (slice_index xs 3)) len (of_header len (slice_index xs 2) (slice_index xs 3)) e
+    unless_truncated (header_fault len (slice_index xs 2) (slice_index xs 3)) len
+    (of_header len (slice_index xs 2) (slice_index xs 3)) e
 
 -- where `Truncated` came from
 
@@ -83,14 +84,25 @@ begun n xs e bytes long short =
     let says = header_ok xs n e in
     let more = replicate (n - length xs) 0 in
     let p = drop 4 xs ++ more in
-    let all : 4 + length p ≡ n = omega (arith, length-append (drop 4 xs) more, length-drop {A = ℕ}, length-replicate {A = ℕ}) in
+    let all : 4 + length p ≡ n = omega (
+      arith,
+      length-append (drop 4 xs) more,
+      length-drop {A = ℕ},
+      length-replicate {A = ℕ},
+    ) in
     record {
       kind = slice_index xs 2;
       data_type = slice_index xs 3;
       payload = p;
       more = more;
       allowed = record_said n xs p says bytes all;
-      spelled = record { high = slice_index xs 0; low = slice_index xs 1; byte = bytes.1; len = sym says.len ∙ sym all; bytes_are = ap (λ l. l ++ more) (four xs long) };
+      spelled = record {
+        high = slice_index xs 0;
+        low = slice_index xs 1;
+        byte = bytes.1;
+        len = sym says.len ∙ sym all;
+        bytes_are = ap (λ l. l ++ more) (four xs long);
+      };
       short = omega (arith, length-replicate {A = ℕ});
     }
 
@@ -101,7 +113,8 @@ law_truncated room xs e bytes = elim (by_test (nat_le 1 (length xs))) [
   | inr none ↦ absurd (let h : Ok 0 ≡ Err Truncated = sym (step_end room xs (sym none)) ∙ e in cc)
   | inl some ↦
       let stands : 0 < length xs = grind (arith, nat_tests) in
-      elim (bind_err (want 4 room xs) (λ _. header xs >>= λ n. want n room xs) Truncated (sym (step_goes room xs (sym some)) ∙ e)) [
+      elim (bind_err (want 4 room xs) (λ _. header xs >>= λ n. want n room xs) Truncated
+      (sym (step_goes room xs (sym some)) ∙ e)) [
         | inl w ↦ let s = want_truncated 4 room xs w in (s.1, (stands, inl s.0))
         | inr p ↦ elim (bind_err (header xs) (λ n. want n room xs) Truncated p.2) [
           | inl h ↦ absurd (header_whole xs h)
@@ -129,8 +142,15 @@ law_cut room xs fits cut =
             | inl short ↦ absurd (omega arith)
             | inr b ↦
                 let n = 4 + length b.payload in
-                let head : header xs ≡ Ok n = sym (header-append xs b.more long) ∙ header_spelled (xs ++ b.more) b.payload b.kind b.data_type b.allowed b.spelled in
-                let less : length xs < n = omega (arith, b.short, length_spelled (xs ++ b.more) b.payload b.kind b.data_type b.spelled, length-append xs b.more) in
+                let head : header xs ≡ Ok n = sym (header-append xs b.more long) ∙ header_spelled (xs ++ b.more)
+                b.payload b.kind b.data_type b.allowed b.spelled in
+                let less : length xs < n =
+                omega (
+                  arith,
+                  b.short,
+                  length_spelled (xs ++ b.more) b.payload b.kind b.data_type b.spelled,
+                  length-append xs b.more,
+                ) in
                 step_wants room xs 4 n some (want_had 4 4 room xs (sym is_long) (omega arith) (omega arith)) head
                 ∙ want_short n (length xs + 1) room xs no (omega arith) (omega arith)
           ]

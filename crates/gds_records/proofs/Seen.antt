@@ -20,14 +20,16 @@ seen_header Read room ahead u h = λ t r more. absurd (r refl)
 seen_header TooLong room ahead u h = λ t r more.
     let b = h refl in
     step_no_header room (ahead ++ more) TooLong (at_least 1 ahead more (omega (arith, b.1)))
-    (want_long 4 (room + 1) room (ahead ++ more) (at_least (room + 1) ahead more (omega (arith, b.1))) (omega arith) (omega (arith, b.0)))
+    (want_long 4 (room + 1) room (ahead ++ more) (at_least (room + 1) ahead more (omega (arith, b.1))) (omega arith)
+    (omega (arith, b.0)))
 seen_header f room ahead u h = absurd u
 
 -- a header with a fault
 pub seen_bad : (f : RecordFault) (room : ℕ) (ahead : List ℕ) → 4 ≤ length ahead → 4 ≤ room → header ahead ≡ Err f
     → Decides f room ahead
 seen_bad f room ahead long fits h = λ t r more.
-    step_bad_header room (ahead ++ more) 4 f (at_least 1 ahead more (omega (arith, long))) (want_had 4 4 room (ahead ++ more) (at_least 4 ahead more long) (omega arith) fits)
+    step_bad_header room (ahead ++ more) 4 f (at_least 1 ahead more (omega (arith, long)))
+    (want_had 4 4 room (ahead ++ more) (at_least 4 ahead more long) (omega arith) fits)
     (header-append ahead more long ∙ h)
 
 -- no room for a payload
@@ -37,16 +39,21 @@ seen_payload Truncated room n ahead long fits e u h = λ t r more. absurd (t ref
 seen_payload Read room n ahead long fits e u h = λ t r more. absurd (r refl)
 seen_payload TooLong room n ahead long fits e u h = λ t r more.
     let b = h refl in
-    step_wants room (ahead ++ more) 4 n (at_least 1 ahead more (omega (arith, long))) (want_had 4 4 room (ahead ++ more) (at_least 4 ahead more long) (omega arith) fits) (header-append ahead more long ∙ e)
-    ∙ want_long n (room + 1) room (ahead ++ more) (at_least (room + 1) ahead more (omega (arith, b.1))) (omega arith) (omega (arith, b.0))
+    step_wants room (ahead ++ more) 4 n (at_least 1 ahead more (omega (arith, long)))
+    (want_had 4 4 room (ahead ++ more) (at_least 4 ahead more long) (omega arith) fits)
+    (header-append ahead more long ∙ e)
+    ∙ want_long n (room + 1) room (ahead ++ more) (at_least (room + 1) ahead more (omega (arith, b.1))) (omega arith)
+    (omega (arith, b.0))
 seen_payload f room n ahead long fits e u h = absurd u
 
 pub seen_last : (res : Result ℕ RecordFault) (room n : ℕ) (old ahead : List ℕ) → take (length old) ahead ≡ old
     → 4 ≤ length old → 4 ≤ room → header ahead ≡ Ok n
-    → IfErr res IsUnhad → (res ≡ Err TooLong → (room < n) × (room < length ahead)) → IfErr res (λ f. Decides f room ahead)
+    → IfErr res IsUnhad → (res ≡ Err TooLong → (room < n) × (room < length ahead))
+    → IfErr res (λ f. Decides f room ahead)
 seen_last (Ok m) room n old ahead front long fits e u h = tt
 seen_last (Err f) room n old ahead front long fits e u h =
-    seen_payload f room n ahead (omega (arith, ap length front, length-take (length old) ahead, long)) fits e u (λ t. h (ap Err t))
+    seen_payload f room n ahead (omega (arith, ap length front, length-take (length old) ahead, long)) fits e u
+    (λ t. h (ap Err t))
 
 -- no room at all
 pub seen_limit : (room : ℕ) (ahead : List ℕ) → room ≡ 0 → 0 < length ahead → Decides TooLong room ahead

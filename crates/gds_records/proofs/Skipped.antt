@@ -21,7 +21,8 @@ zeros_front (suc n) [] h = absurd (omega arith)
 zeros_front (suc n) (x ∷ xs) h = elim (by_test (x == 0)) [
   | inl same ↦
       let is : x ≡ 0 = grind (arith, nat_tests) in
-      let less : n ≤ prefix_len (λ b. b == 0) xs = (let h2 : suc n ≤ 1 + prefix_len (λ b. b == 0) xs = (rw same at h) in omega arith) in
+      let less : n ≤ prefix_len (λ b. b == 0) xs = (let h2 : suc n ≤ 1 + prefix_len (λ b. b == 0) xs = (rw same at h) in
+      omega arith) in
       let rest = zeros_front n xs less in
       ap (λ i. i ∷ xs) is ∙ ap (λ l. 0 ∷ l) rest
   | inr other ↦ absurd (let h2 : suc n ≤ 0 = (rw other at h) in omega arith)
@@ -35,7 +36,8 @@ zeros_stop (x ∷ xs) = stop_at (x == 0) x xs refl (zeros_stop xs)
     stop_at : (b : Bool) (x : ℕ) (xs : List ℕ) → b ≡ (x == 0) → IsNoZeroFirst (drop (prefix_len (λ b. b == 0) xs) xs)
         → IsNoZeroFirst (drop (cond b (1 + prefix_len (λ b. b == 0) xs) 0) (x ∷ xs))
     stop_at true x xs e h = rw (one-add (prefix_len (λ b. b == 0) xs)) h
-    stop_at false x xs e h = λ is. (let k : (x == 0) ≡ true = grind (arith, nat_tests) in let z : true ≡ false = sym k ∙ sym e in cc)
+    stop_at false x xs e h = λ is. (let k : (x == 0) ≡ true = grind (arith, nat_tests) in let z : true ≡ false =
+        sym k ∙ sym e in cc)
 
 -- n zero bytes were taken
 abbrev pub Takes : ℕ → Option (List ℕ) → Option (List ℕ) → Type 0
@@ -53,8 +55,14 @@ takes_more n m a rest old new t e = λ xs k.
     let q = known_parts old rest p.0 p.1 in
     let ys = q.0 in
     let left : prepend_known new rest ≡ Some (new ++ ys) = ap (prepend_known new) q.1 in
-    let whole : p.0 ≡ replicate m 0 ++ (new ++ ys) = sym q.2 ∙ ap (λ l. l ++ ys) e ∙ append_assoc (replicate m 0) new ys in
-    (new ++ ys, left, p.2 ∙ ap (λ l. replicate n 0 ++ l) whole ∙ sym (append_assoc (replicate n 0) (replicate m 0) (new ++ ys)) ∙ ap (λ l. l ++ (new ++ ys)) (replicate-append-replicate n m 0))
+    let whole : p.0 ≡ replicate m 0 ++ (new ++ ys) = sym q.2 ∙ ap (λ l. l ++ ys) e ∙ append_assoc (replicate m 0) new
+    ys in (
+      new ++ ys,
+      left,
+      p.2 ∙ ap (λ l. replicate n 0 ++ l) whole
+          ∙ sym (append_assoc (replicate n 0) (replicate m 0) (new ++ ys)) ∙ ap (λ l. l ++ (new ++ ys))
+          (replicate-append-replicate n m 0),
+    )
 
 no_bytes : (xs : List ℕ) → false ≡ nat_le 1 (length xs) → xs ≡ []
 no_bytes [] h = refl
@@ -75,8 +83,17 @@ pub takes_another : (n room : ℕ) (a rest : Option (List ℕ)) (ahead : List �
     → TakesZeros Another n room a (prepend_known ahead rest)
 takes_another n room a rest ahead t some less first = λ xs k.
     let p = t xs k in
-    let q = known_parts ahead rest p.0 p.1 in
-    (p.0, p.1, p.2, (less, omega (arith, ap length q.2, length-append ahead q.0), subst IsNoZeroFirst q.2 (no_zero_append ahead q.0 some first)))
+    let q = known_parts ahead rest p.0 p.1 in (
+      p.0,
+      p.1,
+      p.2,
+      (
+        less,
+        omega (arith, ap length q.2, length-append ahead q.0),
+        subst IsNoZeroFirst q.2
+            (no_zero_append ahead q.0 some first),
+      ),
+    )
 
 pub takes_too_long : (n room : ℕ) (a rest : Option (List ℕ)) (ahead : List ℕ) → Takes n a (prepend_known ahead rest)
     → 0 < length ahead → n ≡ room
@@ -93,14 +110,23 @@ other_within : (n room b : ℕ) (rest more : List ℕ) → n < room → b ≢ 0
 other_within n zero b rest more less ne e = omega arith
 other_within zero (suc room) b rest more less ne e = ne (let k : b ∷ rest ≡ 0 ∷ (replicate room 0 ++ more) = e in cc)
 other_within (suc n) (suc room) b rest more less ne e =
-    other_within n room b rest more (omega arith) ne (let k : 0 ∷ (replicate n 0 ++ (b ∷ rest)) ≡ 0 ∷ (replicate room 0 ++ more) = e in cc)
+    other_within n room b rest more (omega arith) ne
+    (let k : 0 ∷ (replicate n 0 ++ (b ∷ rest)) ≡ 0 ∷ (replicate room 0 ++ more) = e in cc)
 
 -- where the bytes pass the limit and those within it are zero, zero bytes don't stop before it
 pub nothing_passes : (a : After) (n room : ℕ) (old new : Option (List ℕ)) (xs : List ℕ) → a ≡ Nothing
     → TakesZeros a n room old new → old ≡ Some xs → n ≤ room → PassesLimit room xs → ⊥
 nothing_passes a n room old new xs e t k fits p =
     let left = subst (λ i. TakesZeros i n room old new) e t xs k in
-    omega (arith, p.1, ap length (sym p.2 ∙ left.2), ap length left.3, length-append (replicate room 0) p.0, length-append (replicate n 0) left.0, length-replicate {A = ℕ})
+    omega (
+      arith,
+      p.1,
+      ap length (sym p.2 ∙ left.2),
+      ap length left.3,
+      length-append (replicate room 0) p.0,
+      length-append (replicate n 0) left.0,
+      length-replicate {A = ℕ},
+    )
 
 another_stops : (n room : ℕ) (xs left more : List ℕ) → xs ≡ replicate n 0 ++ left → n < room → 0 < length left
     → IsNoZeroFirst left → xs ≡ replicate room 0 ++ more → ⊥

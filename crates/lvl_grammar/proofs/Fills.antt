@@ -45,7 +45,8 @@ word_lacks nothing k w n h = subst (Lacks k) (sym h) tt
 word_lacks (one j) k w n h = subst (Lacks k) (sym h) (other_type k j n, tt)
 word_lacks (next a b) k w n h =
     let p = neither (has a k) (has b k) n in
-    subst (Lacks k) (sym h.4) (all_append (λ x. x ≢ k) h.0 h.1 (word_lacks a k h.0 p.0 h.2) (word_lacks b k h.1 p.1 h.3))
+    subst (Lacks k) (sym h.4) (all_append (λ x. x ≢ k) h.0 h.1 (word_lacks a k h.0 p.0 h.2)
+    (word_lacks b k h.1 p.1 h.3))
 word_lacks (either a b) k w n h =
     let p = neither (has a k) (has b k) n in
     elim h [ inl x ↦ word_lacks a k w p.0 x | inr y ↦ word_lacks b k w p.1 y ]
@@ -87,7 +88,8 @@ first_once : (e : ℕ) (x x' y y' : List ℕ) → Lacks e x → Lacks e x' → x
 first_once e [] [] y y' p q h = cc
 first_once e [] (i ∷ x') y y' p q h = absurd (q.0 (let g : i ≡ e = cc in g))
 first_once e (i ∷ x) [] y y' p q h = absurd (p.0 (let g : i ≡ e = cc in g))
-first_once e (i ∷ x) (j ∷ x') y y' p q h = (let g : x ++ (e ∷ y) ≡ x' ++ (e ∷ y') = cc in first_once e x x' y y' p.1 q.1 g)
+first_once e (i ∷ x) (j ∷ x') y y' p q h =
+    (let g : x ++ (e ∷ y) ≡ x' ++ (e ∷ y') = cc in first_once e x x' y y' p.1 q.1 g)
 
 -- an f stands behind the e that ends the list before
 behind : (e f : ℕ) (w more u v : List ℕ) → f ≢ e → Lacks f u → w ++ (f ∷ more) ≡ u ++ (e ∷ v)
@@ -118,8 +120,10 @@ pub fill_alone : (a : Order) (e f k : ℕ) (w : List ℕ) → has a e ≡ false 
 fill_alone a e f k w ne nf n g h =
     let p = before_fill a e f w nf n g in
     let q = parts_of a e f (w ++ (k ∷ h.0)) (subst (IsWord (ends a e f)) (append_assoc w (k ∷ []) h.0) h.1) in
-    let both : p.0 ++ (e ∷ (p.1 ++ (k ∷ h.0))) ≡ q.0 ++ (e ∷ q.1) = sym (append_assoc p.0 (e ∷ p.1) (k ∷ h.0)) ∙ ap (λ l. l ++ (k ∷ h.0)) (sym p.4) ∙ q.4 in
-    let rest = first_once e p.0 q.0 (p.1 ++ (k ∷ h.0)) q.1 (word_lacks a e p.0 ne p.2) (word_lacks a e q.0 ne q.2) both in
+    let both : p.0 ++ (e ∷ (p.1 ++ (k ∷ h.0))) ≡ q.0 ++ (e ∷ q.1) = sym (append_assoc p.0 (e ∷ p.1) (k ∷ h.0))
+    ∙ ap (λ l. l ++ (k ∷ h.0)) (sym p.4) ∙ q.4 in
+    let rest = first_once e p.0 q.0 (p.1 ++ (k ∷ h.0)) q.1 (word_lacks a e p.0 ne p.2) (word_lacks a e q.0 ne q.2)
+    both in
     (all_right (λ x. x ≡ f) p.1 (k ∷ h.0) (subst (Repeats f) (sym rest) q.3)).0
 
 -- where f may come, the word is whole
@@ -134,5 +138,9 @@ pub fill_more : (a : Order) (e f : ℕ) (w : List ℕ) → IsWord (ends a e f) w
 fill_more a e f w h =
     let p = parts_of a e f w h in
     let more : Repeats f (p.1 ++ f ∷ []) = all_append (λ x. x ≡ f) p.1 (f ∷ []) p.3 (refl, tt) in
-    let whole : w ++ f ∷ [] ≡ p.0 ++ (e ∷ (p.1 ++ f ∷ [])) = ap (λ l. l ++ f ∷ []) p.4 ∙ append_assoc p.0 (e ∷ p.1) (f ∷ []) in
-    ([], subst (IsWord (ends a e f)) (sym (append-nil (w ++ f ∷ []) ∙ whole)) (put_parts a e f p.0 (p.1 ++ f ∷ []) p.2 more))
+    let whole : w ++ f ∷ [] ≡ p.0 ++ (e ∷ (p.1 ++ f ∷ [])) = ap (λ l. l ++ f ∷ []) p.4 ∙ append_assoc p.0 (e ∷ p.1)
+    (f ∷ []) in (
+      [],
+      subst (IsWord (ends a e f)) (sym (append-nil (w ++ f ∷ []) ∙ whole))
+          (put_parts a e f p.0 (p.1 ++ f ∷ []) p.2 more),
+    )

@@ -56,18 +56,23 @@ one_more G before r first a b a' b' rs ss e f h = record {
 
 -- of two fronts that agree one goes on from the other
 pub one_reading : {R K : Type 0} (G : Grammar R K) → IsGrammar G → (before : List R) (rs ss : List R) (a b x y : List ℕ)
-    → SpellsAll G before a rs → FollowAll G before rs → SpellsAll G before b ss → FollowAll G before ss → a ++ x ≡ b ++ y
+    → SpellsAll G before a rs → FollowAll G before rs → SpellsAll G before b ss → FollowAll G before ss
+    → a ++ x ≡ b ++ y
     → GoesOn G before a b rs ss ⊎ GoesOn G before b a ss rs
 one_reading G is before [] ss a b x y p f q g e = inl (from_nothing G before a b ss p q g)
 one_reading G is before (r ∷ rs) [] a b x y p f q g e = inr (from_nothing G before b a (r ∷ rs) q p f)
 one_reading G is before (r ∷ rs) (s ∷ ss) a b x y p f q g e =
-    let h : p.0 ++ (p.1 ++ x) ≡ q.0 ++ (q.1 ++ y) = sym (append_assoc p.0 p.1 x) ∙ ap (λ l. l ++ x) (sym p.4) ∙ e ∙ ap (λ l. l ++ y) q.4 ∙ append_assoc q.0 q.1 y in
+    let h : p.0 ++ (p.1 ++ x) ≡ q.0 ++ (q.1 ++ y) = sym (append_assoc p.0 p.1 x) ∙ ap (λ l. l ++ x) (sym p.4) ∙ e
+    ∙ ap (λ l. l ++ y) q.4 ∙ append_assoc q.0 q.1 y in
     let same = is.decided before r s p.0 q.0 (p.1 ++ x) (q.1 ++ y) p.2 q.2 f.0 g.0 h in
-    let rest : p.1 ++ x ≡ q.1 ++ y = append_cancel_left q.0 (p.1 ++ x) (q.1 ++ y) (ap (λ l. l ++ (p.1 ++ x)) (sym same.0) ∙ h) in
-    let q' : SpellsAll G (before ++ r ∷ []) q.1 ss = subst (λ i. SpellsAll G (before ++ i ∷ []) q.1 ss) (sym same.1) q.3 in
+    let rest : p.1 ++ x ≡ q.1 ++ y = append_cancel_left q.0 (p.1 ++ x) (q.1 ++ y)
+    (ap (λ l. l ++ (p.1 ++ x)) (sym same.0) ∙ h) in
+    let q' : SpellsAll G (before ++ r ∷ []) q.1 ss = subst (λ i. SpellsAll G (before ++ i ∷ []) q.1 ss) (sym same.1)
+    q.3 in
     let g' : FollowAll G (before ++ r ∷ []) ss = subst (λ i. FollowAll G (before ++ i ∷ []) ss) (sym same.1) g.1 in
     let b' : b ≡ p.0 ++ q.1 = q.4 ∙ ap (λ l. l ++ q.1) (sym same.0) in
-    subst (λ i. GoesOn G before a b (r ∷ rs) (i ∷ ss) ⊎ GoesOn G before b a (i ∷ ss) (r ∷ rs)) same.1 (elim (one_reading G is (before ++ r ∷ []) rs ss p.1 q.1 x y p.3 f.1 q' g' rest) [
+    subst (λ i. GoesOn G before a b (r ∷ rs) (i ∷ ss) ⊎ GoesOn G before b a (i ∷ ss) (r ∷ rs)) same.1
+    (elim (one_reading G is (before ++ r ∷ []) rs ss p.1 q.1 x y p.3 f.1 q' g' rest) [
       | inl m ↦ inl (one_more G before r p.0 p.1 q.1 a b rs ss p.4 b' m)
       | inr m ↦ inr (one_more G before r p.0 q.1 p.1 b a ss rs b' p.4 m)
     ])
@@ -89,10 +94,11 @@ goes_same G is a b rs ss l h =
 -- the records of a front are known by its bytes
 pub same_records : {R K : Type 0} (G : Grammar R K) → IsGrammar G → (xs : List ℕ) (rs ss : List R) → IsFront G xs rs
     → IsFront G xs ss → rs ≡ ss
-same_records G is xs rs ss p q = elim (one_reading G is [] rs ss xs xs [] [] p.spelled p.followed q.spelled q.followed refl) [
-  | inl m ↦ sym (goes_same G is xs xs rs ss (omega arith) m)
-  | inr m ↦ goes_same G is xs xs ss rs (omega arith) m
-]
+same_records G is xs rs ss p q =
+    elim (one_reading G is [] rs ss xs xs [] [] p.spelled p.followed q.spelled q.followed refl) [
+      | inl m ↦ sym (goes_same G is xs xs rs ss (omega arith) m)
+      | inr m ↦ goes_same G is xs xs ss rs (omega arith) m
+    ]
 
 -- a file has one reading
 pub one_whole : {R K : Type 0} (G : Grammar R K) → IsGrammar G → (xs : List ℕ) (rs ss : List R) → SpellsWhole G xs rs

@@ -17,8 +17,10 @@ pub leads_on : (whole : Order) (w : List ℕ) (a b : Order) (k : ℕ) → LeadsT
     → LeadsTo whole (w ++ k ∷ []) b
 leads_on whole w a b k h t v =
     let g : (w ++ k ∷ []) ++ v ≡ w ++ (k ∷ v) = append_assoc w (k ∷ []) v in (
-      λ x. only_one b v (subst (λ rs. IsWordOfOne rs v) t (first_taken a k v ((h (k ∷ v)).0 (subst (IsWord whole) g x)))),
-      λ y. subst (IsWord whole) (sym g) ((h (k ∷ v)).1 (first_put a k v (subst (λ rs. IsWordOfOne rs v) (sym t) (inl y)))),
+      λ x. only_one b v (subst (λ rs. IsWordOfOne rs v) t
+          (first_taken a k v ((h (k ∷ v)).0 (subst (IsWord whole) g x)))),
+      λ y. subst (IsWord whole) (sym g)
+          ((h (k ∷ v)).1 (first_put a k v (subst (λ rs. IsWordOfOne rs v) (sym t) (inl y)))),
     )
 
 -- a type that may not come begins no word

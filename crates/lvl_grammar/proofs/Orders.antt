@@ -102,7 +102,8 @@ empty_back (one k) h = cc
 empty_back (next a b) h =
     let p = and_parts (can_be_empty a) (can_be_empty b) h in
     ([], [], empty_back a p.0, empty_back b p.1, refl)
-empty_back (either a b) h = elim (or_parts (can_be_empty a) (can_be_empty b) h) [ inl x ↦ inl (empty_back a x) | inr y ↦ inr (empty_back b y) ]
+empty_back (either a b) h =
+    elim (or_parts (can_be_empty a) (can_be_empty b) h) [ inl x ↦ inl (empty_back a x) | inr y ↦ inr (empty_back b y) ]
 empty_back (many a) h = ([], tt, refl)
 
 if_true : (b : Bool) (rs : List Order) (w : List ℕ) → b ≡ true → IsWordOfOne rs w → IsWordOfOne (if b then rs else []) w
@@ -124,21 +125,25 @@ taken_next : (a b : Order) (k : ℕ) (w : List ℕ) → ((x : List ℕ) → IsWo
     → ((x : List ℕ) → IsWord b (k ∷ x) → IsWordOfOne (after_first b k) x)
     → (u v : List ℕ) → IsWord a u → IsWord b v → k ∷ w ≡ u ++ v → IsWordOfOne (after_first (next a b) k) w
 taken_next a b k w ha hb [] v p q e =
-    of_one-right (map (λ r. seq r b) (after_first a k)) _ w (if_true (can_be_empty a) (after_first b k) w (empty_word a p) (hb w (subst (IsWord b) (sym e) q)))
+    of_one-right (map (λ r. seq r b) (after_first a k)) _ w (if_true (can_be_empty a) (after_first b k) w
+    (empty_word a p) (hb w (subst (IsWord b) (sym e) q)))
 taken_next a b k w ha hb (x ∷ u) v p q e =
     let same : x ≡ k = cc in
     let rest : u ++ v ≡ w = cc in
     let one = of_one-seq (after_first a k) b u v (ha u (subst (λ y. IsWord a (y ∷ u)) same p)) q in
-    of_one-left (map (λ r. seq r b) (after_first a k)) _ w (subst (IsWordOfOne (map (λ r. seq r b) (after_first a k))) rest one)
+    of_one-left (map (λ r. seq r b) (after_first a k)) _ w (subst (IsWordOfOne (map (λ r. seq r b) (after_first a k)))
+    rest one)
 
 taken_many : (a : Order) (k : ℕ) (w : List ℕ) → ((x : List ℕ) → IsWord a (k ∷ x) → IsWordOfOne (after_first a k) x)
-    → (ws : List (List ℕ)) → AllByRecursion (IsWord a) ws → k ∷ w ≡ flat_map (λ u. u) ws → IsWordOfOne (after_first (many a) k) w
+    → (ws : List (List ℕ)) → AllByRecursion (IsWord a) ws → k ∷ w ≡ flat_map (λ u. u) ws
+    → IsWordOfOne (after_first (many a) k) w
 taken_many a k w ha [] p e = cc
 taken_many a k w ha ([] ∷ ws) p e = taken_many a k w ha ws p.1 e
 taken_many a k w ha ((x ∷ u) ∷ ws) p e =
     let same : x ≡ k = cc in
     let rest : u ++ flat_map (λ u. u) ws ≡ w = cc in
-    let one = of_one-seq (after_first a k) (many a) u (flat_map (λ u. u) ws) (ha u (subst (λ y. IsWord a (y ∷ u)) same p.0)) (ws, p.1, refl) in
+    let one = of_one-seq (after_first a k) (many a) u (flat_map (λ u. u) ws)
+    (ha u (subst (λ y. IsWord a (y ∷ u)) same p.0)) (ws, p.1, refl) in
     subst (IsWordOfOne (map (λ r. seq r (many a)) (after_first a k))) rest one
 
 -- a word that begins with k goes on by what may come after k
@@ -163,8 +168,10 @@ first_put (one j) k w h =
     let e = type_same k j p.0 in
     elim p.1 [ inl n ↦ (let n' : w ≡ [] = n in cc) | inr x ↦ absurd x ]
 first_put (next a b) k w h = elim (of_one-append (map (λ r. seq r b) (after_first a k)) _ w h) [
-  | inl x ↦ (let p = of_one-seq_back (after_first a k) b w x in (k ∷ p.0, p.1, first_put a k p.0 p.2, p.3, ap (λ l. k ∷ l) p.4))
-  | inr y ↦ (let p = if_back (can_be_empty a) (after_first b k) w y in ([], k ∷ w, empty_back a p.0, first_put b k w p.1, refl))
+  | inl x ↦ (let p = of_one-seq_back (after_first a k) b w x in
+      (k ∷ p.0, p.1, first_put a k p.0 p.2, p.3, ap (λ l. k ∷ l) p.4))
+  | inr y ↦ (let p = if_back (can_be_empty a) (after_first b k) w y in
+      ([], k ∷ w, empty_back a p.0, first_put b k w p.1, refl))
 ]
 first_put (either a b) k w h = elim (of_one-append (after_first a k) (after_first b k) w h) [
   | inl x ↦ inl (first_put a k w x)

@@ -22,7 +22,8 @@ reads_begin G xs Has left e h = record {
 }
 
 -- what was read is a front
-pub reads_front : {R K : Type 0} (G : Grammar R K) (xs : List ℕ) (at : ℕ) (Has : List R → Type 0) (left : Option (List ℕ))
+pub reads_front : {R K : Type 0} (G : Grammar R K) (xs : List ℕ) (at : ℕ) (Has : List R → Type 0)
+    (left : Option (List ℕ))
     → ReadTo G xs at Has left → IsFrontAt G xs at
 reads_front G xs at Has left to = record { within = to.within; records = to.records; front = to.front }
 
@@ -36,14 +37,18 @@ front_on G bytes text rs r f s g l = record {
 }
 
 -- one record more
-pub reads_on : {R K : Type 0} (G : Grammar R K) (xs : List ℕ) (at : ℕ) (Has Has' : List R → Type 0) (left : Option (List ℕ)) (to : ReadTo G xs at Has left) (r : R) (text rest : List ℕ)
-    → drop at xs ≡ text ++ rest → G.spells to.records text r → G.follows to.records r → length text ≤ G.limit - at → Has' (to.records ++ r ∷ []) → ReadTo G xs (at + length text) Has' (Some rest)
+pub reads_on : {R K : Type 0} (G : Grammar R K) (xs : List ℕ) (at : ℕ) (Has Has' : List R → Type 0)
+    (left : Option (List ℕ)) (to : ReadTo G xs at Has left) (r : R) (text rest : List ℕ)
+    → drop at xs ≡ text ++ rest → G.spells to.records text r → G.follows to.records r
+    → length text ≤ G.limit - at → Has' (to.records ++ r ∷ []) → ReadTo G xs (at + length text) Has' (Some rest)
 reads_on G xs at Has Has' left to r text rest here s g l h =
     let n : length (take at xs) ≡ at = omega (arith, length-take at xs, to.within) in
-    let all : xs ≡ (take at xs ++ text) ++ rest = sym (take-append-drop at xs) ∙ ap (λ l. take at xs ++ l) here ∙ sym (append_assoc (take at xs) text rest) in
+    let all : xs ≡ (take at xs ++ text) ++ rest = sym (take-append-drop at xs) ∙ ap (λ l. take at xs ++ l) here
+    ∙ sym (append_assoc (take at xs) text rest) in
     let m : at + length text ≡ length (take at xs ++ text) = omega (arith, length-append (take at xs) text, n) in
     let cut = parts_at xs (take at xs ++ text) rest (at + length text) all m in
-    let front : IsFront G (take at xs ++ text) (to.records ++ r ∷ []) = front_on G (take at xs) text to.records r to.front s g (omega (arith, m, n, l, to.front.within)) in
+    let front : IsFront G (take at xs ++ text) (to.records ++ r ∷ []) = front_on G (take at xs) text to.records r
+    to.front s g (omega (arith, m, n, l, to.front.within)) in
     record {
       records = to.records ++ r ∷ [];
       front = subst (λ l. IsFront G l (to.records ++ r ∷ [])) (sym cut.0) front;

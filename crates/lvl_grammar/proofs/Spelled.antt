@@ -13,12 +13,16 @@ spells_join G before a b (x ∷ xs) r p q = (
   p.0,
   p.1 ++ b,
   p.2,
-  spells_join G (before ++ x ∷ []) p.1 b xs r p.3 (subst (λ l. G.spells l b r) (sym (append_assoc before (x ∷ []) xs)) q),
+  spells_join G (before ++ x ∷ []) p.1 b xs r p.3 (subst (λ l. G.spells l b r) (sym (append_assoc before (x ∷ []) xs))
+      q),
   ap (λ l. l ++ b) p.4 ∙ append_assoc p.0 p.1 b,
 )
 
 pub follow_join : {R K : Type 0} (G : Grammar R K) (before rs : List R) (r : R) → FollowAll G before rs
     → G.follows (before ++ rs) r → FollowAll G before (rs ++ r ∷ [])
 follow_join G before [] r p q = (subst (λ l. G.follows l r) (append-nil before) q, tt)
-follow_join G before (x ∷ xs) r p q =
-    (p.0, follow_join G (before ++ x ∷ []) xs r p.1 (subst (λ l. G.follows l r) (sym (append_assoc before (x ∷ []) xs)) q))
+follow_join G before (x ∷ xs) r p q = (
+  p.0,
+  follow_join G (before ++ x ∷ []) xs r p.1 (subst (λ l. G.follows l r) (sym (append_assoc before (x ∷ []) xs))
+      q),
+)

@@ -13,7 +13,8 @@ abbrev pub FollowAll : {R K : Type 0} → Grammar R K → List R → List R → 
 FollowAll G before [] = Unit {0}
 FollowAll G before (r ∷ rs) = G.follows before r × FollowAll G (before ++ r ∷ []) rs
 
--- the bytes are a front: they spell records each of which may follow those before it, and are no more than a file may have
+-- the bytes are a front: they spell records each of which may follow those before it, and are no more than a file may
+-- have
 pub record IsFront {R K : Type 0} (G : Grammar R K) (bytes : List ℕ) (records : List R) : Type 0 where
   pub spelled : SpellsAll G [] bytes records
   pub followed : FollowAll G [] records

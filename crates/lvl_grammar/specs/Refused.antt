@@ -24,7 +24,8 @@ pub record IsBreached {R K : Type 0} (G : Grammar R K) (xs : List ℕ) (at : ℕ
   pub wrong : G.wrong records (G.limit - at) (drop at xs) k
   pub only : (j : K) → G.wrong records (G.limit - at) (drop at xs) j → j ≡ k
 
--- the bytes before the offset are a front that is no whole file, and those after it are an unfinished beginning of a record
+-- the bytes before the offset are a front that is no whole file, and those after it are an unfinished beginning of a
+-- record
 pub record IsTruncated {R K : Type 0} (G : Grammar R K) (xs : List ℕ) (at : ℕ) : Type 0 where
   pub within : at ≤ length xs
   pub records : List R
@@ -32,7 +33,8 @@ pub record IsTruncated {R K : Type 0} (G : Grammar R K) (xs : List ℕ) (at : �
   pub unended : ¬ G.ends records
   pub cut : G.begun records (drop at xs)
 
--- of the input a byte or more was taken; what was taken is no whole file whatever comes after it, and the others are left
+-- of the input a byte or more was taken; what was taken is no whole file whatever comes after it, and the others are
+-- left
 pub record IsHopeless {R K : Type 0} (G : Grammar R K) (xs : List ℕ) (left : Option (List ℕ)) : Type 0 where
   pub taken : List ℕ
   pub some : 0 < length taken

@@ -1,12 +1,11 @@
 -- Lemmas on bytes that are known, some of them read and the rest still to come.
-use Rattle.std.proofs.Common.{◌≡◌, ℕ, ◌+◌, ◌-◌, ◌<◌, ◌≤◌, List, [], ◌++◌, None, Some, true, false, nat_le, length}
-use Rattle.std.proofs.Common.{length-append, take, drop, slice_range, refl, sym, ap, ◌∙◌, append_assoc, arith}
+use Rattle.std.proofs.Common.{◌≡◌, ℕ, ◌+◌, ◌-◌, ◌≤◌, List, ◌++◌, None, Some}
+use Rattle.std.proofs.Common.{take, drop, slice_range, refl, sym, ap, ◌∙◌, append_assoc, arith}
 use Rattle.std.proofs.Common.{drop-drop}
 use Rattle.std.proofs.Math.Seq.{take-add}
 use Rattle.std.proofs.lemmas.List.{drop-take}
-use Rattle.std.proofs.lemmas.Bool.Decides.{nat_tests}
 use Rattle.std.specs.Prelude.{Option}
-use Rattle.std.specs.Io.KnownBytes.{Keeps, Consumes, IsAtEnd, prepend_known}
+use Rattle.std.specs.Io.KnownBytes.{Consumes, prepend_known}
 use Rattle.lvl_io.specs.Known.{Stays}
 
 -- the parts of known bytes
@@ -23,35 +22,6 @@ stays_pulled (Some x) None front new taken p e = absurd p
 stays_pulled (Some x) (Some y) front new taken p e =
     λ xs k. let h : Some (front ++ x) ≡ Some xs = k in
     ap Some (ap (λ l. l ++ y) e ∙ append_assoc front taken y ∙ ap (λ l. front ++ l) (sym p)) ∙ h
-
--- a reader gave nothing
-pub stays_kept : (a b : Option (List ℕ)) (front new : List ℕ) → Keeps a b → new ≡ front
-    → Stays (prepend_known front a) (prepend_known new b)
-stays_kept None b front new p e = λ xs k. absurd (let h : None ≡ Some xs = k in cc)
-stays_kept (Some x) None front new p e = absurd p
-stays_kept (Some x) (Some y) front new p e =
-    λ xs k. let h : Some (front ++ x) ≡ Some xs = k in ap Some (ap (λ l. l ++ y) e ∙ ap (λ l. front ++ l) p) ∙ h
-
--- so many bytes were read that n are there
-pub known_filled : (new : List ℕ) (b : Option (List ℕ)) (n : ℕ) (xs : List ℕ) → prepend_known new b ≡ Some xs
-    → n ≤ length new → true ≡ nat_le n (length xs)
-known_filled new b n xs k h =
-    let p = known_parts new b xs k in
-    let long : n ≤ length xs = omega (arith, length-append new p.0, ap length p.2) in
-    grind (arith, nat_tests)
-
-at_end_nil : (b : Option (List ℕ)) (ys : List ℕ) → IsAtEnd b → b ≡ Some ys → ys ≡ []
-at_end_nil None ys e k = cc
-at_end_nil (Some y) ys e k = cc
-
--- all bytes were read, and there are fewer than n
-pub known_short : (new : List ℕ) (b : Option (List ℕ)) (n : ℕ) (xs : List ℕ) → prepend_known new b ≡ Some xs → IsAtEnd b
-    → length new < n → false ≡ nat_le n (length xs)
-known_short new b n xs k e h =
-    let p = known_parts new b xs k in
-    let none = at_end_nil b p.0 e p.1 in
-    let less : length xs < n = omega (arith, length-append new p.0, ap length p.2, ap length none) in
-    grind (arith, nat_tests)
 
 -- a range that begins n later lacks its first n
 pub range_skip : (xs : List ℕ) (a e n : ℕ) → a + n ≤ e → slice_range xs (a + n) e ≡ drop n (slice_range xs a e)

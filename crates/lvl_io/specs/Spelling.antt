@@ -40,25 +40,29 @@ abbrev pub Gives : {A : Type 0} → A → List ℕ → A → Type 0
 Gives x b y = (b ≡ []) × (y ≡ x)
 
 -- one after another: the first bytes say some x, and those after them are read as x says
-pub record After {A B : Type 0} (S : List ℕ → A → Type 0) (T : A → List ℕ → B → Type 0) (b : List ℕ) (y : B) : Type 0 where
-  pub value : A
-  pub first : List ℕ
-  pub second : List ℕ
-  pub first_says : S first value
-  pub second_says : T value second y
-  pub joined : b ≡ first ++ second
+pub record After {A B : Type 0} (S : List ℕ → A → Type 0) (T : A → List ℕ → B → Type 0) (b : List ℕ) (y : B) : Type 0
+  where
+    pub value : A
+    pub first : List ℕ
+    pub second : List ℕ
+    pub first_says : S first value
+    pub second_says : T value second y
+    pub joined : b ≡ first ++ second
 
 -- after a breach nothing more is read
-abbrev pub UnlessBreached : {A B F : Type 0} → (A → List ℕ → Result B F → Type 0) → Result A F → List ℕ → Result B F → Type 0
+abbrev pub UnlessBreached : {A B F : Type 0} → (A → List ℕ → Result B F → Type 0) → Result A F → List ℕ → Result B F
+    → Type 0
 UnlessBreached T (Ok x) = T x
 UnlessBreached T (Err f) = Gives (Err f)
 
 -- one after another: a breach of the first is one of the whole; else the bytes after it are read as its value says
-abbrev pub Then : {A B F : Type 0} → (List ℕ → Result A F → Type 0) → (A → List ℕ → Result B F → Type 0) → List ℕ → Result B F → Type 0
+abbrev pub Then : {A B F : Type 0} → (List ℕ → Result A F → Type 0) → (A → List ℕ → Result B F → Type 0) → List ℕ
+    → Result B F → Type 0
 Then S T = After S (UnlessBreached T)
 
 -- n of them one after another, the first of which is read as a says, and each other as the one before it says. What is
 -- said is the list of what is shown of each
-abbrev pub Chain : {A B F : Type 0} → (A → List ℕ → Result A F → Type 0) → (A → B) → ℕ → A → List ℕ → Result (List B) F → Type 0
+abbrev pub Chain : {A B F : Type 0} → (A → List ℕ → Result A F → Type 0) → (A → B) → ℕ → A → List ℕ → Result (List B) F
+    → Type 0
 Chain S show zero a = Gives (Ok [])
 Chain S show (suc n) a = Then (S a) (λ x. Then (Chain S show n x) (λ ys. Gives (Ok (show x ∷ ys))))

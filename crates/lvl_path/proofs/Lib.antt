@@ -3,3 +3,4 @@ pub mod Corners
 pub mod Covering
 pub mod Outcomes
 pub mod Figures
+pub mod Lowest

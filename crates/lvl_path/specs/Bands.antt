@@ -10,10 +10,14 @@ use Rattle.lvl_path.specs.Ways.{way_between}
 
 -- half to both sides across the run, so much beyond its begin and so much beyond its end along it
 abbrev pub band_towards : Way → Point → Point → (half before after : ℕ) → Band
-band_towards East p q half before after = record { x0 = p.x -ℤ pos before; y0 = p.y -ℤ pos half; x1 = q.x +ℤ pos after; y1 = p.y +ℤ pos half }
-band_towards North p q half before after = record { x0 = p.x -ℤ pos half; y0 = p.y -ℤ pos before; x1 = p.x +ℤ pos half; y1 = q.y +ℤ pos after }
-band_towards West p q half before after = record { x0 = q.x -ℤ pos after; y0 = p.y -ℤ pos half; x1 = p.x +ℤ pos before; y1 = p.y +ℤ pos half }
-band_towards South p q half before after = record { x0 = p.x -ℤ pos half; y0 = q.y -ℤ pos after; x1 = p.x +ℤ pos half; y1 = p.y +ℤ pos before }
+band_towards East p q half before after =
+    record { x0 = p.x -ℤ pos before; y0 = p.y -ℤ pos half; x1 = q.x +ℤ pos after; y1 = p.y +ℤ pos half }
+band_towards North p q half before after =
+    record { x0 = p.x -ℤ pos half; y0 = p.y -ℤ pos before; x1 = p.x +ℤ pos half; y1 = q.y +ℤ pos after }
+band_towards West p q half before after =
+    record { x0 = q.x -ℤ pos after; y0 = p.y -ℤ pos half; x1 = p.x +ℤ pos before; y1 = p.y +ℤ pos half }
+band_towards South p q half before after =
+    record { x0 = p.x -ℤ pos half; y0 = q.y -ℤ pos after; x1 = p.x +ℤ pos half; y1 = p.y +ℤ pos before }
 
 abbrev pub band_between : Point → Point → (half before after : ℕ) → Band
 band_between p q half before after = band_towards (way_between p q) p q half before after

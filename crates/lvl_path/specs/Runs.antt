@@ -1,5 +1,6 @@
 -- The straight runs of a path, and the squares that it covers.
-use Rattle.std.specs.Prelude.{◌≡◌, ◌<◌, ◌≤◌, ◌+◌, ◌-◌, ◌==◌, ◌||◌, not, Bool, ℕ, pos, List, [], ◌∷◌, length, map, filter, slice_index_or, Any, if◌then◌else◌, unsigned_abs, ◌-ℤ◌}
+use Rattle.std.specs.Prelude.{◌≡◌, ◌<◌, ◌≤◌, ◌+◌, ◌-◌, ◌==◌, ◌||◌, not, Bool, ℕ, pos, List, length, map}
+use Rattle.std.specs.Prelude.{filter, slice_index_or, Any, if◌then◌else◌, unsigned_abs, ◌-ℤ◌}
 use Rattle.std.specs.List.{range_with_len}
 use Rattle.lvl_grid.specs.declared.point.Point.{Point}
 use Rattle.lvl_grid.specs.declared.point.Square.{Square}
@@ -7,7 +8,8 @@ use Rattle.lvl_grid.specs.Winding.{IsStraight, path_edges}
 use Rattle.lvl_path.specs.declared.band.Band.{Band}
 use Rattle.lvl_path.specs.declared.band.Reach.{Reach}
 use Rattle.lvl_path.specs.declared.fault.PathFault.{PathFault}
-use Rattle.lvl_path.specs.declared.fault.PathFault.TheVariants.{NoWidth, FewPoints, Oblique, RepeatedPoint, TurnsBack, ShortRun, OutOfRange}
+use Rattle.lvl_path.specs.declared.fault.PathFault.TheVariants.{NoWidth, FewPoints, Oblique, RepeatedPoint, TurnsBack}
+use Rattle.lvl_path.specs.declared.fault.PathFault.TheVariants.{ShortRun, OutOfRange}
 use Rattle.lvl_path.specs.declared.way.Way.{Way}
 use Rattle.lvl_path.specs.Ways.{way_between, opposite, same_way}
 use Rattle.lvl_path.specs.Bands.{band_between, band_ring, Holds, FitsBand}
@@ -34,7 +36,9 @@ runs ps = path_edges 0 (corners ps)
 
 -- the band of a run: half beyond a corner, the end's reach beyond an end of the path
 abbrev pub run_band : List Point → Reach → ℕ × ℕ → Band
-run_band ps w run = band_between (point ps run.0) (point ps run.1) w.half (if run.0 == 0 then w.start else w.half) (if run.1 + 1 == length ps then w.end else w.half)
+run_band ps w run =
+    band_between (point ps run.0) (point ps run.1) w.half (if run.0 == 0 then w.start else w.half)
+    (if run.1 + 1 == length ps then w.end else w.half)
 
 -- the path covers the squares that some run holds
 abbrev pub PathCovers : List Point → Reach → Square → Type 0
@@ -46,7 +50,8 @@ path_rings ps w = map (λ run. band_ring (run_band ps w run)) (runs ps)
 
 -- how far a run goes
 abbrev pub run_length : List Point → ℕ × ℕ → ℕ
-run_length ps run = unsigned_abs ((point ps run.1).x -ℤ (point ps run.0).x) + unsigned_abs ((point ps run.1).y -ℤ (point ps run.0).y)
+run_length ps run =
+    unsigned_abs ((point ps run.1).x -ℤ (point ps run.0).x) + unsigned_abs ((point ps run.1).y -ℤ (point ps run.0).y)
 
 -- some step of the path does so
 abbrev pub SomeStep : (Point → Point → Type 0) → List Point → Type 0

@@ -6,7 +6,8 @@ use Rattle.lvl_path.specs.declared.way.Way.TheVariants.{East, North, West, South
 
 -- the way from one point to another, where the step is straight
 abbrev pub way_between : Point → Point → Way
-way_between p q = if int_lt p.x q.x then East else (if int_lt q.x p.x then West else (if int_lt p.y q.y then North else South))
+way_between p q =
+    if int_lt p.x q.x then East else (if int_lt q.x p.x then West else (if int_lt p.y q.y then North else South))
 
 abbrev pub opposite : Way → Way
 opposite East = West

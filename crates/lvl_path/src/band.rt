@@ -69,7 +69,8 @@ impl Band {
     pub(crate) fn ring(self, alloc: Global) -> Result<Ring, Refusal<PathFault>>
         ensures ok { IfOk result (λ ring. ring ≡ band_ring self) }
         ensures fits { IfOk result (λ _. FitsBand self) }
-        ensures err { IfErr result (λ refusal. Says refusal (λ fault. (fault ≡ PathFault.OutOfRange) × ¬ FitsBand self)) }
+        ensures err { IfErr result
+            (λ refusal. Says refusal (λ fault. (fault ≡ PathFault.OutOfRange) × ¬ FitsBand self)) }
     {
         let (Ok(x0), Ok(y0)) = (i64::try_from(self.x0), i64::try_from(self.y0)) else {
             return Err(Refusal::Breach(PathFault::OutOfRange));

@@ -23,10 +23,13 @@ pub fn bands(
     start: u64,
     end: u64,
 ) -> Result<Vec<Ring>, Refusal<PathFault>>
-    ensures rings { IfOk result (λ rings. rings.items ≡ path_rings points.now (record { half = half; start = start; end = end })) }
-    ensures covers { IfOk result (λ rings. (s : GridSquare) → Any (λ ring. Covers ring s) rings.items ↔ PathCovers points.now (record { half = half; start = start; end = end }) s) }
+    ensures rings { IfOk result (λ rings.
+        rings.items ≡ path_rings points.now (record { half = half; start = start; end = end })) }
+    ensures covers { IfOk result (λ rings. (s : GridSquare) → Any (λ ring. Covers ring s) rings.items
+        ↔ PathCovers points.now (record { half = half; start = start; end = end }) s) }
     ensures ok { IfOk result (λ _. IsPath points.now (record { half = half; start = start; end = end })) }
-    ensures err { IfErr result (λ refusal. Says refusal (IsLowestFault points.now (record { half = half; start = start; end = end }))) }
+    ensures err { IfErr result (λ refusal.
+        Says refusal (IsLowestFault points.now (record { half = half; start = start; end = end }))) }
 {
     if half == 0 {
         return Err(Refusal::Breach(PathFault::NoWidth));
@@ -97,7 +100,8 @@ fn run_bands(
     requires { 2 ≤ length points.now }
     ensures ok { IfOk result (λ rings. rings.items ≡ path_rings points.now reach.now) }
     ensures fits { IfOk result (λ _. ¬ HasFault points.now reach.now PathFault.OutOfRange) }
-    ensures err { IfErr result (λ refusal. Says refusal (λ fault. (fault ≡ PathFault.OutOfRange) × HasFault points.now reach.now fault)) }
+    ensures err { IfErr result (λ refusal.
+        Says refusal (λ fault. (fault ≡ PathFault.OutOfRange) × HasFault points.now reach.now fault)) }
 {
     let mut rings = Vec::with_capacity(alloc, count)?;
     let mut from = 0;

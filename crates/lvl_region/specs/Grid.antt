@@ -1,5 +1,6 @@
 -- A grid of lines, with a truth value for each cell.
-use Rattle.std.specs.Prelude.{ℕ, Bool, false, List, [], ◌∷◌, map, ℤ, int_le, count_by, slice_index_or, IsTrue, ◌↔◌, All, Contains}
+use Rattle.std.specs.Prelude.{ℕ, Bool, false, List, [], ◌∷◌, map, ℤ, int_le, count_by, slice_index_or, IsTrue, ◌↔◌, All}
+use Rattle.std.specs.Prelude.{Contains}
 use Rattle.std.specs.Global.{Vec}
 use Rattle.std.specs.List.{AllZip}
 use Rattle.std.specs.Ordering.{int_cmp}

@@ -1,5 +1,8 @@
 -- The list of the bands from a row on.
-use Rattle.std.proofs.Common.{◌≡◌, ◌≢◌, ℕ, ◌+◌, ◌<◌, ◌≤◌, Bool, true, false, ◌&&◌, ◌||◌, cond, List, [], ◌∷◌, length, get_or, ℤ, pos, ◌<ℤ◌, ◌≤ℤ◌, int_lt, int_le, unsigned_abs, Option, None, Some, All, refl, sym, ◌∙◌, ap, arith}
+use Rattle.std.proofs.Common.{◌||◌, ◌≡◌, ◌≢◌, ℕ, ◌+◌, ◌<◌, ◌≤◌, Bool, true, false, ◌&&◌, cond, List, [], ◌∷◌, length}
+use Rattle.std.proofs.Common.{get_or}
+use Rattle.std.proofs.Common.{ℤ, pos, ◌<ℤ◌, ◌≤ℤ◌, int_lt, int_le, unsigned_abs, Option, None, Some, All, refl, sym, ◌∙◌}
+use Rattle.std.proofs.Common.{ap, arith}
 use Rattle.std.specs.List.{list_any}
 use Rattle.std.specs.Ordering.{int_eq}
 use Rattle.std.specs.Bool.{Decides}
@@ -9,12 +12,16 @@ use Rattle.std.proofs.lemmas.Bool.Decides.{Decides-int_eq}
 use Rattle.std.proofs.lemmas.List.Elements.{All-weaker, All-nil, All-cons, All-head, All-tail}
 use Rattle.lvl_grid.specs.declared.point.Square.{Square}
 use Rattle.lvl_sweep.specs.declared.edge.Edge.{Edge}
-use Rattle.lvl_sweep.specs.Slab.{Step, Slab, holds, value_of, Follows, AreSteps, spans, AreIntervals, IsSlabList, slabs_cover}
+use Rattle.lvl_sweep.specs.Slab.{Step, Slab, holds, value_of, Follows, AreSteps, spans, AreIntervals, IsSlabList}
+use Rattle.lvl_sweep.specs.Slab.{slabs_cover}
 use Rattle.lvl_sweep.specs.Alive.{alive}
-use Rattle.lvl_sweep.specs.Rows.{is_from, from_on, steps_from, inside, far_of, Balanced, row, alive_at, row_at, as_value, same_row, bands_from}
-use Rattle.lvl_sweep.proofs.Steps.{IsWithin, at_head, past_head, early_rest, steps_give, none_from, first_from, same_from}
+use Rattle.lvl_sweep.specs.Rows.{is_from, from_on, steps_from, inside, far_of, Balanced, row, alive_at, row_at}
+use Rattle.lvl_sweep.specs.Rows.{as_value, same_row, bands_from}
+use Rattle.lvl_sweep.proofs.Steps.{IsWithin, at_head, past_head, steps_give, none_from, first_from}
+use Rattle.lvl_sweep.proofs.Steps.{same_from}
 use Rattle.lvl_sweep.proofs.Insides.{each_within}
 use Rattle.lvl_sweep.proofs.RowLists.{row_none, row_covers, row_intervals}
+use Rattle.lvl_sweep.proofs.Slabs.{early_rest}
 
 pub pair_is : (i j : ℤ × ℤ) → i.0 ≡ j.0 → i.1 ≡ j.1 → i ≡ j
 pair_is i j e f =
@@ -35,14 +42,18 @@ same_row_is (i ∷ is) (j ∷ js) h =
 
 same_row_self : (is : List (ℤ × ℤ)) → same_row is is ≡ true
 same_row_self [] = refl
-same_row_self (i ∷ is) = and_from (int_eq i.0 i.0 && int_eq i.1 i.1) (same_row is is) (and_from (int_eq i.0 i.0) (int_eq i.1 i.1) ((Decides-int_eq i.0 i.0).1 refl) ((Decides-int_eq i.1 i.1).1 refl)) (same_row_self is)
+same_row_self (i ∷ is) =
+    and_from (int_eq i.0 i.0 && int_eq i.1 i.1) (same_row is is)
+    (and_from (int_eq i.0 i.0) (int_eq i.1 i.1) ((Decides-int_eq i.0 i.0).1 refl) ((Decides-int_eq i.1 i.1).1 refl))
+    (same_row_self is)
 
 one_row : (is js : List (ℤ × ℤ)) → Decides (same_row is js) (is ≡ js)
 one_row is js = (λ h. same_row_is is js h, λ e. rw e (same_row_self js))
 
 none_alive : (y : ℤ) (es : List Edge) → All (λ e. alive y e ≡ false) es → alive_at es y ≡ []
 none_alive y [] h = refl
-none_alive y (e ∷ es) h = rw (All-head (λ e. alive y e ≡ false) e es h) (none_alive y es (All-tail (λ e. alive y e ≡ false) e es h))
+none_alive y (e ∷ es) h =
+    rw (All-head (λ e. alive y e ≡ false) e es h) (none_alive y es (All-tail (λ e. alive y e ≡ false) e es h))
 
 same_alive : (y v : ℤ) (es : List Edge) → All (λ e. alive v e ≡ alive y e) es → alive_at es v ≡ alive_at es y
 same_alive y v [] h = refl
@@ -67,18 +78,27 @@ pub row_at_same : (es : List Edge) (y v : ℤ) → All (λ e. alive v e ≡ aliv
 unfolding row_at
 row_at_same es y v h = ap row (same_alive y v es h)
 
-dead_far : (far : ℕ) (y : ℤ) (low high : ℤ) → far < unsigned_abs y → (unsigned_abs low + unsigned_abs high) ≤ far → (int_le low y && int_lt y high) ≡ false
+dead_far : (far : ℕ) (y : ℤ) (low high : ℤ) → far < unsigned_abs y → (unsigned_abs low + unsigned_abs high) ≤ far
+    → (int_le low y && int_lt y high) ≡ false
 dead_far far y low high h k = by_lt_z y (pos 0)
-    (λ lt. let below : y <ℤ low = omega (arith, ints) in let t : int_le low y ≡ false = grind (arith, ints) in rw t refl)
-    (λ ge. let above : high ≤ℤ y = omega (arith, ints) in let t : int_lt y high ≡ false = grind (arith, ints) in elim (int_le low y) as (λ b. (b && int_lt y high) ≡ false) [ true ↦ t | false ↦ refl ])
+    (λ lt. let below : y <ℤ low = omega (arith, ints) in let t : int_le low y ≡ false = grind (arith, ints) in
+    rw t refl)
+    (λ ge. let above : high ≤ℤ y = omega (arith, ints) in let t : int_lt y high ≡ false = grind (arith, ints) in
+    elim (int_le low y) as (λ b. (b && int_lt y high) ≡ false) [ true ↦ t | false ↦ refl ])
 
 within : (es : List Edge) → IsWithin (far_of es) (λ y. as_value (row_at es y))
-within es y far = ap as_value (row_at_none es y (All-weaker (λ e. (unsigned_abs e.low + unsigned_abs e.x + unsigned_abs e.high) ≤ far_of es) (λ e. alive y e ≡ false) (λ e k. dead_far (far_of es) y e.low e.high far (omega (arith, k))) es (each_within es)))
+within es y far =
+    ap as_value (row_at_none es y (All-weaker
+    (λ e. (unsigned_abs e.low + unsigned_abs e.x + unsigned_abs e.high) ≤ far_of es) (λ e. alive y e ≡ false)
+    (λ e k. dead_far (far_of es) y e.low e.high far (omega (arith, k))) es (each_within es)))
 
 -- lists of edges with the same rows have the same bands
-pub bands_same : (es fs : List Edge) (o : Option ℤ) → ((v : ℤ) → row_at es v ≡ row_at fs v) → bands_from es o ≡ bands_from fs o
+pub bands_same : (es fs : List Edge) (o : Option ℤ) → ((v : ℤ) → row_at es v ≡ row_at fs v)
+    → bands_from es o ≡ bands_from fs o
 unfolding bands_from
-bands_same es fs o rows = same_from same_row one_row (far_of es) (far_of fs) o o (λ v. as_value (row_at es v)) (λ v. as_value (row_at fs v)) (within es) (within fs) (λ z. ap (λ t. cond (is_from o z) (as_value t) None) (rows z))
+bands_same es fs o rows =
+    same_from same_row one_row (far_of es) (far_of fs) o o (λ v. as_value (row_at es v)) (λ v. as_value (row_at fs v))
+    (within es) (within fs) (λ z. ap (λ t. cond (is_from o z) (as_value t) None) (rows z))
 
 -- no row from y on has intervals
 pub bands_none : (es : List Edge) (y : ℤ) → ((v : ℤ) → y ≤ℤ v → row_at es v ≡ []) → bands_from es (Some y) ≡ []
@@ -87,9 +107,12 @@ bands_none es y none = none_from same_row one_row (far_of es) (Some y) (λ v. as
     let far : y ≤ℤ v = grind (arith, ints) in ap as_value (none v far))
 
 -- no row from y up to t has
-pub bands_skip : (es : List Edge) (y t : ℤ) → y ≤ℤ t → ((v : ℤ) → y ≤ℤ v → v <ℤ t → row_at es v ≡ []) → bands_from es (Some y) ≡ bands_from es (Some t)
+pub bands_skip : (es : List Edge) (y t : ℤ) → y ≤ℤ t → ((v : ℤ) → y ≤ℤ v → v <ℤ t → row_at es v ≡ [])
+    → bands_from es (Some y) ≡ bands_from es (Some t)
 unfolding bands_from
-bands_skip es y t le none = same_from same_row one_row (far_of es) (far_of es) (Some y) (Some t) (λ v. as_value (row_at es v)) (λ v. as_value (row_at es v)) (within es) (within es) (λ v.
+bands_skip es y t le none =
+    same_from same_row one_row (far_of es) (far_of es) (Some y) (Some t) (λ v. as_value (row_at es v))
+    (λ v. as_value (row_at es v)) (within es) (within es) (λ v.
     by_lt_z v y
     (λ lt.
     let a : int_le y v ≡ false = grind (arith, ints) in
@@ -114,7 +137,8 @@ value_of_some [] r h = cc
 value_of_some (i ∷ is) r h = cc
 
 -- the rows from y up to t are r, and row t is another
-pub bands_first : (es : List Edge) (y t : ℤ) (r : List (ℤ × ℤ)) → y <ℤ t → r ≢ [] → ((v : ℤ) → y ≤ℤ v → v <ℤ t → row_at es v ≡ r) → row_at es t ≢ r
+pub bands_first : (es : List Edge) (y t : ℤ) (r : List (ℤ × ℤ)) → y <ℤ t → r ≢ []
+    → ((v : ℤ) → y ≤ℤ v → v <ℤ t → row_at es v ≡ r) → row_at es t ≢ r
     → bands_from es (Some y) ≡ record { from = y; to = t; value = r } ∷ bands_from es (Some t)
 unfolding bands_from
 bands_first es y t r lt full here stops =
@@ -128,13 +152,15 @@ all_later : {V : Type 0} (s : Step V) (ss : List (Step V)) → Follows s ss → 
 all_later s [] f a = All-nil (λ t. s.to ≤ℤ t.from)
 all_later s (t ∷ ts) f a =
     let rest : All (λ u. t.to ≤ℤ u.from) ts = all_later t ts a.1 a.2 in
-    All-cons (λ u. s.to ≤ℤ u.from) t ts f.0 (All-weaker (λ u. t.to ≤ℤ u.from) (λ u. s.to ≤ℤ u.from) (λ u k. omega (arith, ints, f.0, a.0, k)) ts rest)
+    All-cons (λ u. s.to ≤ℤ u.from) t ts f.0 (All-weaker (λ u. t.to ≤ℤ u.from) (λ u. s.to ≤ℤ u.from)
+    (λ u k. omega (arith, ints, f.0, a.0, k)) ts rest)
 
 -- where each step starts, its value holds
 pub each_there : {V : Type 0} (ss : List (Step V)) → AreSteps ss → All (λ t. value_of ss t.from ≡ Some t.value) ss
 each_there [] a = All-nil (λ t. value_of [] t.from ≡ Some t.value)
 each_there (s ∷ ss) a =
-    let later : (k : ℕ) (d : Step _) → k < length ss → value_of (s ∷ ss) (get_or ss k d).from ≡ Some (get_or ss k d).value = λ k d lt.
+    let later : (k : ℕ) (d : Step _) → k < length ss
+    → value_of (s ∷ ss) (get_or ss k d).from ≡ Some (get_or ss k d).value = λ k d lt.
     past_head s ss (get_or ss k d).from (all_later s ss a.1 a.2 k d lt) ∙ each_there ss a.2 k d lt in
     All-cons (λ t. value_of (s ∷ ss) t.from ≡ Some t.value) s ss (at_head s ss s.from (omega (arith, ints)) a.0) later
 
@@ -142,9 +168,6 @@ each_there (s ∷ ss) a =
 abbrev pub in_value : ℤ → Option (List (ℤ × ℤ)) → Bool
 in_value x None = false
 in_value x (Some r) = list_any (spans x) r
-
-abbrev has : Square → Slab → Bool
-has s b = holds b s.y && list_any (spans s.x) b.value
 
 or_none : (a b : Bool) → b ≡ false → (a || b) ≡ a
 or_none true b h = refl
@@ -154,11 +177,13 @@ or_none false b h = h
 pub cover_is : (s : Square) (ss : List Slab) → AreSteps ss → slabs_cover ss s ≡ in_value s.x (value_of ss s.y)
 cover_is s [] a = refl
 cover_is s (b ∷ bs) a =
-    elim (holds b s.y) as (λ t. holds b s.y ≡ t → ((t && list_any (spans s.x) b.value) || slabs_cover bs s) ≡ in_value s.x (cond t (Some b.value) (value_of bs s.y))) [
+    elim (holds b s.y) as (λ t. holds b s.y ≡ t → ((t && list_any (spans s.x) b.value) || slabs_cover bs s) ≡ in_value
+    s.x (cond t (Some b.value) (value_of bs s.y))) [
       | true ↦ λ here.
           let parts = and_parts (int_le b.from s.y) (int_lt s.y b.to) here in
           let high : s.y <ℤ b.to = grind (arith, ints) in
-          or_none (list_any (spans s.x) b.value) (slabs_cover bs s) (cover_is s bs a.2 ∙ ap (in_value s.x) (early_rest b bs s.y a.1 a.2 high))
+          or_none (list_any (spans s.x) b.value) (slabs_cover bs s)
+          (cover_is s bs a.2 ∙ ap (in_value s.x) (early_rest b bs s.y a.1 a.2 high))
       | false ↦ λ there. cover_is s bs a.2
     ] refl
 
@@ -171,7 +196,8 @@ pub record AreSlabsOf (es : List Edge) (slabs : List Slab) : Type 0 where
   pub list : IsSlabList slabs
   pub covers : (s : Square) → slabs_cover slabs s ≡ inside (alive_at es s.y) s.x
 
-row_at_covers : (es : List Edge) (s : Square) → Balanced (alive_at es s.y) → list_any (spans s.x) (row_at es s.y) ≡ inside (alive_at es s.y) s.x
+row_at_covers : (es : List Edge) (s : Square) → Balanced (alive_at es s.y)
+    → list_any (spans s.x) (row_at es s.y) ≡ inside (alive_at es s.y) s.x
 unfolding row_at
 row_at_covers es s balanced = row_covers (alive_at es s.y) s.x balanced
 
@@ -188,7 +214,8 @@ full [] q h e = cc
 full (i ∷ is) q h e = cc
 
 -- where no row below y has intervals, the bands from y on are all bands
-pub bands_are : (es : List Edge) (y : ℤ) → ((v : ℤ) → Balanced (alive_at es v)) → ((v : ℤ) → v <ℤ y → row_at es v ≡ []) → AreSlabsOf es (bands_from es (Some y))
+pub bands_are : (es : List Edge) (y : ℤ) → ((v : ℤ) → Balanced (alive_at es v)) → ((v : ℤ) → v <ℤ y → row_at es v ≡ [])
+    → AreSlabsOf es (bands_from es (Some y))
 unfolding bands_from
 bands_are es y balanced none =
     let f : ℤ → Option (List (ℤ × ℤ)) = λ v. as_value (row_at es v) in
@@ -200,7 +227,8 @@ bands_are es y balanced none =
         rows = λ k d lt.
             let b : Slab = get_or slabs k d in
             let there : value_of slabs b.from ≡ Some b.value = each_there slabs given.steps k d lt in
-            let is : as_value (row_at es b.from) ≡ Some b.value = on_some (int_le y b.from) (as_value (row_at es b.from)) b.value (sym (given.values b.from) ∙ there) in
+            let is : as_value (row_at es b.from) ≡ Some b.value =
+            on_some (int_le y b.from) (as_value (row_at es b.from)) b.value (sym (given.values b.from) ∙ there) in
             let same : row_at es b.from ≡ b.value = value_of_some (row_at es b.from) b.value is in
             (full (row_at es b.from) b.value is, rw same at (row_at_intervals es b.from (balanced b.from)));
       };
@@ -208,5 +236,6 @@ bands_are es y balanced none =
           let value : from_on (Some y) f s.y ≡ f s.y = by_lt_z s.y y
           (λ lt. let t : int_le y s.y ≡ false = grind (arith, ints) in rw t (sym (ap as_value (none s.y lt))))
           (λ ge. let t : int_le y s.y ≡ true = grind (arith, ints) in rw t refl) in
-          cover_is s slabs given.steps ∙ (ap (in_value s.x) (given.values s.y ∙ value) ∙ (in_as_value s.x (row_at es s.y) ∙ row_at_covers es s (balanced s.y)));
+          cover_is s slabs given.steps ∙ (ap (in_value s.x) (given.values s.y ∙ value)
+          ∙ (in_as_value s.x (row_at es s.y) ∙ row_at_covers es s (balanced s.y)));
     }

@@ -1,9 +1,9 @@
 -- The intervals of a row, taken or compared one after another.
-use Rattle.std.proofs.Common.{◌≡◌, ◌≢◌, ℕ, ◌+◌, ◌*◌, ◌<◌, ◌≤◌, Bool, false, List, [], ◌∷◌, ◌++◌, length, get_or, take, ℤ, refl, sym, ◌∙◌, ap, arith, subst, not, ◌&&◌}
+use Rattle.std.proofs.Common.{◌≡◌, ℕ, ◌+◌, ◌*◌, ◌<◌, ◌≤◌, Bool, false, List, [], ◌∷◌, ◌++◌, length, get_or, take, ℤ}
+use Rattle.std.proofs.Common.{refl, sym, ◌∙◌, not, ◌&&◌}
 use Rattle.std.specs.Global.{Vec}
 use Rattle.std.specs.Vec.{vec_len, vec_capacity}
-use Rattle.std.proofs.lemmas.List.{take_more, append_assoc, append-nil, length-append, length-take}
-use Rattle.std.proofs.Math.Seq.{get_or-append_seam}
+use Rattle.std.proofs.lemmas.List.{take_more, append_assoc}
 use Rattle.lvl_sweep.specs.declared.edge.Edge.{Edge}
 use Rattle.lvl_sweep.specs.declared.windings.Windings.{Windings}
 use Rattle.lvl_sweep.specs.declared.walk.Place.{Place}
@@ -38,28 +38,19 @@ pub at_rest_outside : (w : Windings) → AreAtRest w → is_inside w ≡ false
 at_rest_outside w rest = rw rest.turning refl
 
 -- one interval more
-pub one_taken : (whole new is rest left : List (ℤ × ℤ)) (i : ℤ × ℤ) → whole ≡ is ++ rest → rest ≡ i ∷ left → new ≡ is ++ i ∷ [] → whole ≡ new ++ left
+pub one_taken : (whole new is rest left : List (ℤ × ℤ)) (i : ℤ × ℤ) → whole ≡ is ++ rest → rest ≡ i ∷ left
+    → new ≡ is ++ i ∷ [] → whole ≡ new ++ left
 one_taken whole new is rest left i e f g = rw (e, f, g, append_assoc) refl
 
 -- the next interval of the list is the row's next
-pub one_seen : (whole is rest left : List (ℤ × ℤ)) (k : ℕ) (i d : ℤ × ℤ) → k < length is → whole ≡ take k is ++ rest → rest ≡ i ∷ left → get_or is k d ≡ i → whole ≡ take (k + 1) is ++ left
-one_seen whole is rest left k i d lt e f g = rw (take_more is k d lt, g) (one_taken whole (take k is ++ i ∷ []) (take k is) rest left i e f refl)
-
--- the row has an interval where the list has another, or none
-pub not_seen : (whole is rest left : List (ℤ × ℤ)) (k : ℕ) (i d : ℤ × ℤ) → k ≤ length is → whole ≡ take k is ++ rest → rest ≡ i ∷ left → (k < length is → get_or is k d ≢ i) → whole ≢ is
-not_seen whole is rest left k i d le e f differ same =
-    let split : is ≡ take k is ++ i ∷ left = sym same ∙ (e ∙ ap (λ t. take k is ++ t) f) in
-    let front : length (take k is) ≡ k = omega (arith, length-take k is, le) in
-    let long : length is ≡ length (take k is) + (length left + 1) = ap length split ∙ (length-append (take k is) (i ∷ left) ∙ omega arith) in
-    let at : get_or (take k is ++ i ∷ left) (length (take k is)) d ≡ i = get_or-append_seam (take k is) i left d in
-    let there : get_or (take k is ++ i ∷ left) k d ≡ i = rw front at at in
-    differ (omega (arith, long, front)) (subst (λ (l : List (ℤ × ℤ)). get_or l k d ≡ i) (sym split) there)
-
-pub all_taken : (whole is rest : List (ℤ × ℤ)) → whole ≡ is ++ rest → rest ≡ [] → is ≡ whole
-all_taken whole is rest e f = sym (e ∙ (ap (λ t. is ++ t) f ∙ append-nil is))
+pub one_seen : (whole is rest left : List (ℤ × ℤ)) (k : ℕ) (i d : ℤ × ℤ) → k < length is → whole ≡ take k is ++ rest
+    → rest ≡ i ∷ left → get_or is k d ≡ i → whole ≡ take (k + 1) is ++ left
+one_seen whole is rest left k i d lt e f g =
+    rw (take_more is k d lt, g) (one_taken whole (take k is ++ i ∷ []) (take k is) rest left i e f refl)
 
 -- two intervals that the test finds no different
 pub same_pair : (a b : ℤ × ℤ) (r : Bool) → r ≡ not (int_eq a.0 b.0 && int_eq a.1 b.1) → r ≡ false → a ≡ b
 same_pair a b r is off =
-    let both = and_parts (int_eq a.0 b.0) (int_eq a.1 b.1) (not-false (int_eq a.0 b.0 && int_eq a.1 b.1) (sym is ∙ off)) in
+    let both = and_parts (int_eq a.0 b.0) (int_eq a.1 b.1) (not-false (int_eq a.0 b.0 && int_eq a.1 b.1) (sym is ∙ off))
+    in
     pair_is a b ((Decides-int_eq a.0 b.0).0 both.0) ((Decides-int_eq a.1 b.1).0 both.1)

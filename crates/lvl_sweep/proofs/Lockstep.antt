@@ -1,5 +1,6 @@
 -- Two lists of bands walked in step.
-use Rattle.std.proofs.Common.{◌≡◌, ◌≢◌, ◌+◌, ◌<◌, ◌≤◌, Bool, true, false, cond, List, [], ◌∷◌, length, ℤ, ◌<ℤ◌, ◌≤ℤ◌, int_le, Option, None, Some, ◌↔◌, IfNone, IfSome, refl, sym, ◌∙◌, ap, arith, inl, inr}
+use Rattle.std.proofs.Common.{◌≡◌, ◌≢◌, ◌+◌, ◌<◌, ◌≤◌, Bool, true, false, cond, List, [], ◌∷◌, length, ℤ, ◌<ℤ◌, ◌≤ℤ◌}
+use Rattle.std.proofs.Common.{int_le, Option, None, Some, ◌↔◌, IfNone, IfSome, refl, sym, ◌∙◌, arith, inl, inr}
 use Rattle.std.proofs.lemmas.Int.{ints}
 use Rattle.std.proofs.lemmas.Bool.{cases_Bool, both_ways}
 use Rattle.std.proofs.lemmas.List.Elements.{All-head, All-tail}
@@ -28,7 +29,13 @@ met_at_first : (us : List Slab) → IsSlabList us → FirstIs (IsMet None) (Unit
 met_at_first [] h = tt
 met_at_first (b ∷ bs) h =
     let row = All-head (λ (c : Slab). (c.value ≢ []) × AreIntervals c.value) b bs h.rows in
-    record { full = h.steps.0; some = row.0; row = row.1; above = refl; past = λ e. let clash : None ≡ Some b.to = e in cc }
+    record {
+      full = h.steps.0;
+      some = row.0;
+      row = row.1;
+      above = refl;
+      past = λ e. let clash : None ≡ Some b.to = e in cc;
+    }
 
 pub in_step_first : (us vs : List Slab) → IsSlabList us → IsSlabList vs → InStep None us vs us vs
 in_step_first us vs ours theirs = record {
@@ -43,7 +50,8 @@ in_step_first us vs ours theirs = record {
 
 -- the rest of a slab list is one
 rest_is : (b : Slab) (bs : List Slab) → IsSlabList (b ∷ bs) → IsSlabList bs
-rest_is b bs h = record { steps = h.steps.2; rows = All-tail (λ (c : Slab). (c.value ≢ []) × AreIntervals c.value) b bs h.rows }
+rest_is b bs h =
+    record { steps = h.steps.2; rows = All-tail (λ (c : Slab). (c.value ≢ []) × AreIntervals c.value) b bs h.rows }
 
 list_by : (b : Slab) (bs : List Slab) (t : Bool) → IsSlabList (b ∷ bs) → IsSlabList (cond t bs (b ∷ bs))
 list_by b bs true h = rest_is b bs h
@@ -53,28 +61,44 @@ list_on : (y : ℤ) (us : List Slab) → IsSlabList us → IsSlabList (ended_by 
 list_on y [] h = h
 list_on y (b ∷ bs) h = list_by b bs (int_le b.to y) h
 
-met_behind : (y : ℤ) (b : Slab) (bs : List Slab) → y ≤ℤ b.to → IsSlabList (b ∷ bs) → FirstIs (IsMet (Some y)) (Unit {0}) bs
+met_behind : (y : ℤ) (b : Slab) (bs : List Slab) → y ≤ℤ b.to → IsSlabList (b ∷ bs)
+    → FirstIs (IsMet (Some y)) (Unit {0}) bs
 met_behind y b [] le h = tt
 met_behind y b (c ∷ cs) le h =
     let row = All-head (λ (d : Slab). (d.value ≢ []) × AreIntervals d.value) c cs (rest_is b (c ∷ cs) h).rows in
     let after : b.to ≤ℤ c.from = h.steps.1.0 in
     let full : c.from <ℤ c.to = h.steps.2.0 in
     let lt : y <ℤ c.to = omega (arith, ints) in
-    record { full = full; some = row.0; row = row.1; above = (let t : int_le y c.to ≡ true = grind (arith, ints) in t); past = λ e. let same : y ≡ c.to = cc in absurd (omega (arith, ints, lt, same)) }
+    record {
+      full = full;
+      some = row.0;
+      row = row.1;
+      above = (let t : int_le y c.to ≡ true = grind (arith, ints) in t);
+      past = λ e. let same : y ≡ c.to = cc in absurd (omega (arith, ints, lt, same));
+    }
 
 met_still : (from : Option ℤ) (y : ℤ) (b : Slab) → IsMet from b → int_le b.to y ≡ false → IsMet (Some y) b
 met_still from y b h t =
     let lt : y <ℤ b.to = grind (arith, ints) in
-    record { full = h.full; some = h.some; row = h.row; above = (let k : int_le y b.to ≡ true = grind (arith, ints) in k); past = λ e. let same : y ≡ b.to = cc in absurd (omega (arith, ints, lt, same)) }
+    record {
+      full = h.full;
+      some = h.some;
+      row = h.row;
+      above = (let k : int_le y b.to ≡ true = grind (arith, ints) in k);
+      past = λ e. let same : y ≡ b.to = cc in absurd (omega (arith, ints, lt, same));
+    }
 
-met_on : (from : Option ℤ) (y : ℤ) (us : List Slab) → IsSlabList us → FirstIs (IsMet from) (Unit {0}) us → FirstIs (λ b. y ≤ℤ b.to) (Unit {0}) us → FirstIs (IsMet (Some y)) (Unit {0}) (ended_by y us)
+met_on : (from : Option ℤ) (y : ℤ) (us : List Slab) → IsSlabList us → FirstIs (IsMet from) (Unit {0}) us
+    → FirstIs (λ b. y ≤ℤ b.to) (Unit {0}) us → FirstIs (IsMet (Some y)) (Unit {0}) (ended_by y us)
 met_on from y [] h met le = tt
-met_on from y (b ∷ bs) h met le = elim (int_le b.to y) as (λ t. int_le b.to y ≡ t → FirstIs (IsMet (Some y)) (Unit {0}) (cond t bs (b ∷ bs))) [
-  | true ↦ λ e. met_behind y b bs le h
-  | false ↦ λ e. met_still from y b met e
-] refl
+met_on from y (b ∷ bs) h met le =
+    elim (int_le b.to y) as (λ t. int_le b.to y ≡ t → FirstIs (IsMet (Some y)) (Unit {0}) (cond t bs (b ∷ bs))) [
+      | true ↦ λ e. met_behind y b bs le h
+      | false ↦ λ e. met_still from y b met e
+    ] refl
 
-rest_by : (y : ℤ) (b : Slab) (bs : List Slab) (t : Square) (r : Bool) → int_le b.to y ≡ r → y ≤ℤ t.y → slabs_cover (b ∷ bs) t ≡ slabs_cover (cond r bs (b ∷ bs)) t
+rest_by : (y : ℤ) (b : Slab) (bs : List Slab) (t : Square) (r : Bool) → int_le b.to y ≡ r → y ≤ℤ t.y
+    → slabs_cover (b ∷ bs) t ≡ slabs_cover (cond r bs (b ∷ bs)) t
 rest_by y b bs t true e le = let past : b.to ≤ℤ t.y = grind (arith, ints) in cover_past b bs t past
 rest_by y b bs t false e le = refl
 
@@ -87,14 +111,16 @@ sooner None y z h le = refl
 sooner (Some a) y z h le = grind (arith, ints)
 
 -- what both cover below the row up to which they are alike
-pub same_below : (from : Option ℤ) (us vs us' vs' : List Slab) (y : ℤ) → InStep from us vs us' vs' → IsAlike from us' vs' y → (t : Square) → t.y <ℤ y → slabs_cover us t ≡ slabs_cover vs t
+pub same_below : (from : Option ℤ) (us vs us' vs' : List Slab) (y : ℤ) → InStep from us vs us' vs'
+    → IsAlike from us' vs' y → (t : Square) → t.y <ℤ y → slabs_cover us t ≡ slabs_cover vs t
 same_below from us vs us' vs' y h alike t lt = elim (cases_Bool (is_from from t.y)) [
   | inl there ↦ h.our_rest t there ∙ (alike.same t there lt ∙ sym (h.their_rest t there))
   | inr below ↦ h.seen t below
 ]
 
 -- both go on behind the rows in which they are alike
-pub in_step_more : (from : Option ℤ) (us vs us' vs' us2 vs2 : List Slab) (y : ℤ) → us2 ≡ ended_by y us' → vs2 ≡ ended_by y vs' → InStep from us vs us' vs' → IsAlike from us' vs' y → InStep (Some y) us vs us2 vs2
+pub in_step_more : (from : Option ℤ) (us vs us' vs' us2 vs2 : List Slab) (y : ℤ) → us2 ≡ ended_by y us'
+    → vs2 ≡ ended_by y vs' → InStep from us vs us' vs' → IsAlike from us' vs' y → InStep (Some y) us vs us2 vs2
 in_step_more from us vs us' vs' us2 vs2 y e f h alike = rw (e, f) (record {
   ours = list_on y us' h.ours;
   theirs = list_on y vs' h.theirs;
@@ -111,57 +137,56 @@ in_step_more from us vs us' vs' us2 vs2 y e f h alike = rw (e, f) (record {
 
 no_longer : (y : ℤ) (us : List Slab) → length (ended_by y us) ≤ length us
 no_longer y [] = omega arith
-no_longer y (b ∷ bs) = elim (int_le b.to y) as (λ t. length (cond t bs (b ∷ bs)) ≤ length (b ∷ bs)) [ true ↦ omega arith | false ↦ omega arith ]
+no_longer y (b ∷ bs) =
+    elim (int_le b.to y) as (λ t. length (cond t bs (b ∷ bs)) ≤ length (b ∷ bs)) [
+      | true ↦ omega arith
+      | false ↦ omega arith
+    ]
 
 shorter : (y : ℤ) (us : List Slab) → FirstIs (λ b. b.to ≡ y) ⊥ us → length (ended_by y us) < length us
 shorter y [] h = absurd h
 shorter y (b ∷ bs) h = let t : int_le b.to y ≡ true = grind (arith, ints) in rw t (omega arith)
 
 -- and one of them gets shorter
-pub fewer_left : (from : Option ℤ) (us vs us2 vs2 : List Slab) (y : ℤ) → us2 ≡ ended_by y us → vs2 ≡ ended_by y vs → IsAlike from us vs y → length us2 + length vs2 < length us + length vs
+pub fewer_left : (from : Option ℤ) (us vs us2 vs2 : List Slab) (y : ℤ) → us2 ≡ ended_by y us → vs2 ≡ ended_by y vs
+    → IsAlike from us vs y → length us2 + length vs2 < length us + length vs
 fewer_left from us vs us2 vs2 y e f alike = rw (e, f) (elim alike.ends [
   | inl h ↦ omega (arith, shorter y us h, no_longer y vs)
   | inr h ↦ omega (arith, shorter y vs h, no_longer y us)
 ])
 
-pub found_first : (from : Option ℤ) (us vs us' vs' : List Slab) (s : Square) (side : Side) → InStep from us vs us' vs' → IsLeastAlone from us' vs' s side → IsLeastAlone None us vs s side
-found_first from us vs us' vs' s side h found = record {
-  there = refl;
-  on = rw (h.our_rest s found.there, h.their_rest s found.there) found.on;
-  least = λ t past before. elim (cases_Bool (is_from from t.y)) [
-    | inl there ↦ h.our_rest t there ∙ (found.least t there before ∙ sym (h.their_rest t there))
-    | inr below ↦ h.seen t below
-  ];
-}
+covers_alike : (as' bs : List (List Point)) (us vs : List Slab) → AreBandsOf as' us → AreBandsOf bs vs → (t : Square)
+    → slabs_cover us t ≡ slabs_cover vs t → SomeCovers as' t ↔ SomeCovers bs t
+covers_alike as' bs us vs a b t e =
+    (λ h. (b.covers t).0 (sym e ∙ (a.covers t).1 h), λ h. (a.covers t).0 (e ∙ (b.covers t).1 h))
 
-pub nothing_left : (from : Option ℤ) (us vs us' vs' : List Slab) → InStep from us vs us' vs' → (us' ≡ []) × (vs' ≡ []) → (t : Square) → slabs_cover us t ≡ slabs_cover vs t
-nothing_left from us vs us' vs' h none t = elim (cases_Bool (is_from from t.y)) [
-  | inl there ↦ h.our_rest t there ∙ (ap (λ l. slabs_cover l t) none.0 ∙ sym (h.their_rest t there ∙ ap (λ l. slabs_cover l t) none.1))
-  | inr below ↦ h.seen t below
-]
-
-covers_alike : (as' bs : List (List Point)) (us vs : List Slab) → AreBandsOf as' us → AreBandsOf bs vs → (t : Square) → slabs_cover us t ≡ slabs_cover vs t → SomeCovers as' t ↔ SomeCovers bs t
-covers_alike as' bs us vs a b t e = (λ h. (b.covers t).0 (sym e ∙ (a.covers t).1 h), λ h. (a.covers t).0 (e ∙ (b.covers t).1 h))
-
-pub same_rings : {A : Type 0} (r : Option A) (last : Option ℤ) (as' bs : List (List Point)) (us vs : List Slab) → AreBandsOf as' us → AreBandsOf bs vs
+pub same_rings : {A : Type 0} (r : Option A) (last : Option ℤ) (as' bs : List (List Point)) (us vs : List Slab)
+    → AreBandsOf as' us → AreBandsOf bs vs
     → IfNone r ((t : Square) → IsUpTo last t.y → slabs_cover us t ≡ slabs_cover vs t)
     → IfNone r ((t : Square) → IsUpTo last t.y → SomeCovers as' t ↔ SomeCovers bs t)
 same_rings None last as' bs us vs a b h = λ t up. covers_alike as' bs us vs a b t (h t up)
 same_rings (Some x) last as' bs us vs a b h = tt
 
-alone_by : (as' bs : List (List Point)) (us vs : List Slab) (s : Square) (side : Side) → AreBandsOf as' us → AreBandsOf bs vs → IsOn (slabs_cover us s) (slabs_cover vs s) side → IsAlone (SomeCovers as') (SomeCovers bs) s side
+alone_by : (as' bs : List (List Point)) (us vs : List Slab) (s : Square) (side : Side) → AreBandsOf as' us
+    → AreBandsOf bs vs → IsOn (slabs_cover us s) (slabs_cover vs s) side
+    → IsAlone (SomeCovers as') (SomeCovers bs) s side
 alone_by as' bs us vs s First a b on = ((a.covers s).0 on.0, λ c. both_ways (slabs_cover vs s) on.1 ((b.covers s).1 c))
 alone_by as' bs us vs s Second a b on = ((b.covers s).0 on.1, λ c. both_ways (slabs_cover us s) on.0 ((a.covers s).1 c))
 
-pub alone_rings : (r : Option (Square × Side)) (as' bs : List (List Point)) (us vs : List Slab) → AreBandsOf as' us → AreBandsOf bs vs → IfSome r (λ f. IsLeastAlone None us vs f.0 f.1) → IfSome r (λ f. IsAlone (SomeCovers as') (SomeCovers bs) f.0 f.1)
+pub alone_rings : (r : Option (Square × Side)) (as' bs : List (List Point)) (us vs : List Slab) → AreBandsOf as' us
+    → AreBandsOf bs vs → IfSome r (λ f. IsLeastAlone None us vs f.0 f.1)
+    → IfSome r (λ f. IsAlone (SomeCovers as') (SomeCovers bs) f.0 f.1)
 alone_rings None as' bs us vs a b h = tt
 alone_rings (Some f) as' bs us vs a b h = alone_by as' bs us vs f.0 f.1 a b h.on
 
-pub least_rings : (r : Option (Square × Side)) (as' bs : List (List Point)) (us vs : List Slab) → AreBandsOf as' us → AreBandsOf bs vs → IfSome r (λ f. IsLeastAlone None us vs f.0 f.1) → IfSome r (λ f. (t : Square) → IsBefore t f.0 → SomeCovers as' t ↔ SomeCovers bs t)
+pub least_rings : (r : Option (Square × Side)) (as' bs : List (List Point)) (us vs : List Slab) → AreBandsOf as' us
+    → AreBandsOf bs vs → IfSome r (λ f. IsLeastAlone None us vs f.0 f.1)
+    → IfSome r (λ f. (t : Square) → IsBefore t f.0 → SomeCovers as' t ↔ SomeCovers bs t)
 least_rings None as' bs us vs a b h = tt
 least_rings (Some f) as' bs us vs a b h = λ t before. covers_alike as' bs us vs a b t (h.least t refl before)
 
 -- where no row is the last, all rows are meant
-pub in_all_rows : {A : Type 0} (r : Option A) (P : Square → Type 0) → IfNone r ((t : Square) → IsUpTo None t.y → P t) → IfNone r ((t : Square) → P t)
+pub in_all_rows : {A : Type 0} (r : Option A) (P : Square → Type 0) → IfNone r ((t : Square) → IsUpTo None t.y → P t)
+    → IfNone r ((t : Square) → P t)
 in_all_rows None P h = λ t. h t tt
 in_all_rows (Some x) P h = tt

@@ -12,30 +12,33 @@ left_of s z h = grind (arith, ints)
 right_of : {V : Type 0} (s : Step V) (z : ℤ) → s.to ≤ℤ z → holds s z ≡ false
 right_of s z h = grind (arith, ints)
 
-at_head : {V : Type 0} (s : Step V) (ss : List (Step V)) (z : ℤ) → s.from ≤ℤ z → z <ℤ s.to → value_of (s ∷ ss) z ≡ Some s.value
+at_head : {V : Type 0} (s : Step V) (ss : List (Step V)) (z : ℤ) → s.from ≤ℤ z → z <ℤ s.to
+    → value_of (s ∷ ss) z ≡ Some s.value
 at_head s ss z h k = rw (inside s z h k) refl
 
 past_head : {V : Type 0} (s : Step V) (ss : List (Step V)) (z : ℤ) → s.to ≤ℤ z → value_of (s ∷ ss) z ≡ value_of ss z
 past_head s ss z h = rw (right_of s z h) refl
 
 -- nothing is held before the steps that follow s
-quiet : {V : Type 0} (s : Step V) (ss : List (Step V)) (z : ℤ) → Follows s ss → AreSteps ss → z <ℤ s.to → value_of ss z ≡ None
-quiet s [] z f a h = refl
-quiet s (t ∷ ts) z f a h =
+pub early_rest : {V : Type 0} (s : Step V) (ss : List (Step V)) (z : ℤ) → Follows s ss → AreSteps ss → z <ℤ s.to
+    → value_of ss z ≡ None
+early_rest s [] z f a h = refl
+early_rest s (t ∷ ts) z f a h =
     let low : z <ℤ t.from = omega (arith, ints, f.0) in
     let lower : z <ℤ t.to = omega (arith, ints, low, a.0) in
-    rw (left_of t z low) (quiet t ts z a.1 a.2 lower)
+    rw (left_of t z low) (early_rest t ts z a.1 a.2 lower)
 
-before : {V : Type 0} (s : Step V) (ss : List (Step V)) (z : ℤ) → AreSteps (s ∷ ss) → z <ℤ s.from → value_of (s ∷ ss) z ≡ None
-before s ss z a h =
+pub none_left_of : {V : Type 0} (s : Step V) (ss : List (Step V)) (z : ℤ) → AreSteps (s ∷ ss) → z <ℤ s.from
+    → value_of (s ∷ ss) z ≡ None
+none_left_of s ss z a h =
     let low : z <ℤ s.to = omega (arith, ints, a.0) in
-    rw (left_of s z h) (quiet s ss z a.1 a.2 low)
+    rw (left_of s z h) (early_rest s ss z a.1 a.2 low)
 
 -- where s ends, its value ends
 ends : {V : Type 0} (s : Step V) (ss : List (Step V)) → Follows s ss → AreSteps ss → value_of ss s.to ≡ Some s.value → ⊥
 ends s [] f a e = cc
 ends s (t ∷ ts) f a e = by_lt_z s.to t.from
-    (λ lt. let none : value_of (t ∷ ts) s.to ≡ None = before t ts s.to a lt in cc)
+    (λ lt. let none : value_of (t ∷ ts) s.to ≡ None = none_left_of t ts s.to a lt in cc)
     (λ ge. let touch : s.to ≡ t.from = omega (arith, ints, f.0) in
     let low : t.from ≤ℤ s.to = ge in
     let high : s.to <ℤ t.to = omega (arith, ints, a.0, touch) in
@@ -43,18 +46,21 @@ ends s (t ∷ ts) f a e = by_lt_z s.to t.from
     f.1 touch cc)
 
 -- the least number held is no later in the one than in the other
-starts : {V : Type 0} (s : Step V) (ss : List (Step V)) (t : Step V) (ts : List (Step V)) → AreSteps (s ∷ ss) → AreSteps (t ∷ ts) → ((z : ℤ) → value_of (s ∷ ss) z ≡ value_of (t ∷ ts) z) → t.from ≤ℤ s.from
+starts : {V : Type 0} (s : Step V) (ss : List (Step V)) (t : Step V) (ts : List (Step V)) → AreSteps (s ∷ ss)
+    → AreSteps (t ∷ ts) → ((z : ℤ) → value_of (s ∷ ss) z ≡ value_of (t ∷ ts) z) → t.from ≤ℤ s.from
 starts s ss t ts a b same = by_lt_z s.from t.from
     (λ lt.
     let low : s.from ≤ℤ s.from = omega (arith, ints) in
     let here : value_of (s ∷ ss) s.from ≡ Some s.value = at_head s ss s.from low a.0 in
-    let none : value_of (t ∷ ts) s.from ≡ None = before t ts s.from b lt in
+    let none : value_of (t ∷ ts) s.from ≡ None = none_left_of t ts s.from b lt in
     let both : value_of (s ∷ ss) s.from ≡ value_of (t ∷ ts) s.from = same s.from in
     cc)
     (λ ge. ge)
 
 -- and the end of the first value no earlier
-stops : {V : Type 0} (s : Step V) (ss : List (Step V)) (t : Step V) (ts : List (Step V)) → AreSteps (s ∷ ss) → AreSteps (t ∷ ts) → ((z : ℤ) → value_of (s ∷ ss) z ≡ value_of (t ∷ ts) z) → s.from ≡ t.from → s.value ≡ t.value → t.to ≤ℤ s.to
+stops : {V : Type 0} (s : Step V) (ss : List (Step V)) (t : Step V) (ts : List (Step V)) → AreSteps (s ∷ ss)
+    → AreSteps (t ∷ ts) → ((z : ℤ) → value_of (s ∷ ss) z ≡ value_of (t ∷ ts) z) → s.from ≡ t.from → s.value ≡ t.value
+    → t.to ≤ℤ s.to
 stops s ss t ts a b same start value = by_lt_z s.to t.to
     (λ lt.
     let low : t.from ≤ℤ s.to = omega (arith, ints, a.0, start) in
@@ -76,7 +82,8 @@ step_is {V} s t e f g =
     whole
 
 -- steps that give the same values are the same steps
-pub same_steps : {V : Type 0} (ss ts : List (Step V)) → AreSteps ss → AreSteps ts → ((z : ℤ) → value_of ss z ≡ value_of ts z) → ss ≡ ts
+pub same_steps : {V : Type 0} (ss ts : List (Step V)) → AreSteps ss → AreSteps ts
+    → ((z : ℤ) → value_of ss z ≡ value_of ts z) → ss ≡ ts
 same_steps [] [] a b same = refl
 same_steps [] (t ∷ ts) a b same =
     let low : t.from ≤ℤ t.from = omega (arith, ints) in
@@ -96,11 +103,12 @@ same_steps {V} (s ∷ ss) (t ∷ ts) a b same =
     let there : value_of (t ∷ ts) s.from ≡ Some t.value = at_head t ts s.from low' high in
     let both : value_of (s ∷ ss) s.from ≡ value_of (t ∷ ts) s.from = same s.from in
     let value : s.value ≡ t.value = cc in
-    let stop : s.to ≡ t.to = flat s.to t.to (stops t ts s ss b a back (sym start) (sym value)) (stops s ss t ts a b same start value) in
+    let stop : s.to ≡ t.to = flat s.to t.to (stops t ts s ss b a back (sym start) (sym value))
+    (stops s ss t ts a b same start value) in
     let rest : (z : ℤ) → value_of ss z ≡ value_of ts z = λ z. by_lt_z z s.to
     (λ lt.
     let lt' : z <ℤ t.to = omega (arith, ints, lt, stop) in
-    quiet s ss z a.1 a.2 lt ∙ sym (quiet t ts z b.1 b.2 lt'))
+    early_rest s ss z a.1 a.2 lt ∙ sym (early_rest t ts z b.1 b.2 lt'))
     (λ ge.
     let ge' : t.to ≤ℤ z = omega (arith, ints, ge, stop) in
     sym (past_head s ss z ge) ∙ (same z ∙ past_head t ts z ge')) in

@@ -60,12 +60,18 @@ IsRow b = (b.value ≢ []) × AreIntervals b.value
 cornered_is : IsSlabList cornered
 cornered_is = record {
   steps = (omega (arith, ints), (omega (arith, ints), λ e. rows_differ), (omega (arith, ints), tt, tt));
-  rows = All-cons IsRow lower (upper ∷ []) ((λ e. cc), one_interval (pos 0) (pos 20) (omega (arith, ints))) (All-cons IsRow upper [] ((λ e. cc), one_interval (pos 0) (pos 10) (omega (arith, ints))) (All-nil IsRow));
+  rows = All-cons IsRow lower (upper ∷ []) ((λ e. cc), one_interval (pos 0) (pos 20) (omega (arith, ints)))
+      (All-cons IsRow upper [] ((λ e. cc), one_interval (pos 0) (pos 10) (omega (arith, ints))) (All-nil IsRow));
 }
 
 -- bands that touch with equal intervals are none
 abbrev apart : List Slab
-apart = record { from = pos 0; to = pos 10; value = (pos 0, pos 10) ∷ [] } ∷ record { from = pos 10; to = pos 20; value = (pos 0, pos 10) ∷ [] } ∷ []
+apart =
+    record { from = pos 0; to = pos 10; value = (pos 0, pos 10) ∷ [] } ∷ record {
+      from = pos 10;
+      to = pos 20;
+      value = (pos 0, pos 10) ∷ [];
+    } ∷ []
 
 not_joined : IsSlabList apart → ⊥
 not_joined h = h.steps.1.1 refl refl

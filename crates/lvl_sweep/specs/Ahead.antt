@@ -1,5 +1,6 @@
 -- Where two lists of bands differ first.
-use Rattle.std.specs.Prelude.{◌≡◌, ◌≢◌, Bool, true, false, List, [], ◌∷◌, ℤ, ◌<ℤ◌, ◌≤ℤ◌, int_le, int_lt, Option, None, Some, cond, ◌⊎◌, pos}
+use Rattle.std.specs.Prelude.{◌≡◌, ◌≢◌, Bool, true, false, List, [], ◌∷◌, ℤ, ◌<ℤ◌, ◌≤ℤ◌, int_le, int_lt, Option, None}
+use Rattle.std.specs.Prelude.{Some, cond, ◌⊎◌, pos}
 use Rattle.std.specs.List.{list_any}
 use Rattle.lvl_grid.specs.declared.point.Square.{Square}
 pub use Rattle.lvl_grid.specs.Squares.{IsBefore}
@@ -79,4 +80,6 @@ left_end (i ∷ is) = i.0
 
 -- the first abscissa that one of two intervals alone has, where they differ
 abbrev pub end_difference : ℤ × ℤ → ℤ × ℤ → ℤ × Side
-end_difference a b = cond (int_lt a.0 b.0) (a.0, First) (cond (int_lt b.0 a.0) (b.0, Second) (cond (int_lt a.1 b.1) (a.1, Second) (b.1, First)))
+end_difference a b =
+    cond (int_lt a.0 b.0) (a.0, First)
+    (cond (int_lt b.0 a.0) (b.0, Second) (cond (int_lt a.1 b.1) (a.1, Second) (b.1, First)))

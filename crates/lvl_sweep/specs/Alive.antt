@@ -1,5 +1,6 @@
 -- The edges that cross a row, and what they tell of the rings.
-use Rattle.std.specs.Prelude.{◌≡◌, ℕ, ◌<◌, Bool, ◌&&◌, ◌==◌, not, List, [], length, ℤ, ◌<ℤ◌, ◌≤ℤ◌, int_lt, int_le, count_by, slice_index_or, All, Option, None, Some, false}
+use Rattle.std.specs.Prelude.{◌≡◌, ℕ, ◌<◌, Bool, ◌&&◌, ◌==◌, not, List, [], length, ℤ, ◌<ℤ◌, ◌≤ℤ◌, int_lt, int_le}
+use Rattle.std.specs.Prelude.{count_by, slice_index_or, All, Option, None, Some, false}
 use Rattle.std.specs.List.{sum_by, AllPairs}
 use Rattle.lvl_grid.specs.declared.point.Point.{Point}
 use Rattle.lvl_grid.specs.declared.point.Square.{Square}
@@ -23,8 +24,10 @@ falls r s e = alive s.y e && (int_lt s.x e.x && ((e.ring == r) && not e.up))
 
 -- the vertical edges of the rings, numbered by their ring
 pub record AreEdgesOf (rings : List (List Point)) (es : List Edge) : Type 0 where
-  pub rising : (r : ℕ) (s : Square) → r < length rings → count_by (goes_up s) (edges (slice_index_or rings r [])) ≡ count_by (rises r s) es
-  pub falling : (r : ℕ) (s : Square) → r < length rings → count_by (goes_down s) (edges (slice_index_or rings r [])) ≡ count_by (falls r s) es
+  pub rising : (r : ℕ) (s : Square) → r < length rings
+      → count_by (goes_up s) (edges (slice_index_or rings r [])) ≡ count_by (rises r s) es
+  pub falling : (r : ℕ) (s : Square) → r < length rings
+      → count_by (goes_down s) (edges (slice_index_or rings r [])) ≡ count_by (falls r s) es
   pub numbers : All (λ e. e.ring < length rings) es
   pub full : All (λ e. e.low <ℤ e.high) es
 

@@ -1,5 +1,6 @@
 -- The bands of rings: their slab list, and how large it can be.
-use Rattle.std.specs.Prelude.{◌*◌, ◌<◌, ◌≤◌, Bool, not, List, [], ◌∷◌, ◌++◌, length, ℤ, count_by, All, Contains, IsTrue, ◌↔◌}
+use Rattle.std.specs.Prelude.{◌*◌, ◌<◌, ◌≤◌, Bool, not, List, [], ◌∷◌, ◌++◌, length, ℤ, count_by, All, Contains, IsTrue}
+use Rattle.std.specs.Prelude.{◌↔◌}
 use Rattle.std.specs.Ordering.{int_eq}
 use Rattle.lvl_grid.specs.declared.point.Point.{Point}
 use Rattle.lvl_grid.specs.declared.point.Square.{Square}
@@ -23,7 +24,8 @@ HaveOrdinates lines rings = All (λ ring. All (λ p. Contains lines p.y) ring) r
 
 -- fewer bands than lines, if there is a line
 abbrev pub AreFewerThanLines : List (List Point) → List Slab → Type 0
-AreFewerThanLines rings slabs = (lines : List ℤ) → HaveOrdinates lines rings → 0 < length lines → length slabs < length lines
+AreFewerThanLines rings slabs =
+    (lines : List ℤ) → HaveOrdinates lines rings → 0 < length lines → length slabs < length lines
 
 abbrev pub is_vertical : Point × Point → Bool
 is_vertical e = not (int_eq e.0.y e.1.y)

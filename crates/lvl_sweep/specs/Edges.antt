@@ -1,5 +1,6 @@
 -- Vertical edges, and how the rings wind left of an abscissa.
-use Rattle.std.specs.Prelude.{◌≡◌, ◌≢◌, ℕ, Bool, true, false, ◌&&◌, ◌==◌, not, cond, List, ℤ, pos, negsuc, ◌-ℤ◌, int_le, count_by, All, ◌<◌, ◌≤◌, length, slice_index_or, ◌≤ℤ◌, Option, None, Some, ◌⊎◌}
+use Rattle.std.specs.Prelude.{◌≡◌, ◌≢◌, ℕ, Bool, true, false, ◌&&◌, ◌==◌, not, cond, List, ℤ, pos, negsuc, ◌-ℤ◌, int_le}
+use Rattle.std.specs.Prelude.{count_by, All, ◌<◌, ◌≤◌, length, slice_index_or, ◌≤ℤ◌, Option, None, Some, ◌⊎◌}
 use Rattle.std.specs.Ordering.{int_eq}
 use Rattle.lvl_sweep.specs.declared.edge.Edge.{Edge}
 use Rattle.lvl_sweep.specs.declared.windings.Windings.{Windings}
@@ -22,7 +23,9 @@ net r es = pos (count_by (λ e. (e.ring == r) && e.up) es) -ℤ pos (count_by (�
 
 -- the same for the edges that aren't right of z
 abbrev pub net_left : ℕ → ℤ → List Edge → ℤ
-net_left r z es = pos (count_by (λ e. int_le e.x z && ((e.ring == r) && e.up)) es) -ℤ pos (count_by (λ e. int_le e.x z && ((e.ring == r) && not e.up)) es)
+net_left r z es =
+    pos (count_by (λ e. int_le e.x z && ((e.ring == r) && e.up)) es) -ℤ pos
+    (count_by (λ e. int_le e.x z && ((e.ring == r) && not e.up)) es)
 
 -- some ring winds round the squares at z
 abbrev pub IsInside : List Edge → ℤ → Type 0

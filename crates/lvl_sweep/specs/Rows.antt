@@ -1,5 +1,6 @@
 -- The intervals of a row, and the bands of all rows from one on, as edges tell them.
-use Rattle.std.specs.Prelude.{◌≡◌, ℕ, ◌+◌, zero, suc, Bool, true, false, ◌&&◌, not, List, [], ◌∷◌, map, ℤ, pos, ◌+ℤ◌, neg_ℤ, int_le, unsigned_abs, Option, None, Some, cond}
+use Rattle.std.specs.Prelude.{◌≡◌, ℕ, ◌+◌, zero, suc, Bool, true, false, ◌&&◌, not, List, [], ◌∷◌, map, ℤ, pos, ◌+ℤ◌}
+use Rattle.std.specs.Prelude.{neg_ℤ, int_le, unsigned_abs, Option, None, Some, cond}
 use Rattle.std.specs.List.{list_any, filter, sum_by}
 use Rattle.std.specs.Ordering.{int_eq}
 use Rattle.lvl_sweep.specs.declared.edge.Edge.{Edge}
@@ -11,7 +12,9 @@ use Rattle.lvl_sweep.specs.Alive.{alive}
 abbrev pub join : {V : Type 0} → (V → V → Bool) → ℤ → ℤ → Option V → List (Step V) → List (Step V)
 join same a b None ss = ss
 join same a b (Some v) [] = record { from = a; to = b; value = v } ∷ []
-join same a b (Some v) (t ∷ ts) = cond (int_eq b t.from && same v t.value) (record { from = a; to = t.to; value = v } ∷ ts) (record { from = a; to = b; value = v } ∷ t ∷ ts)
+join same a b (Some v) (t ∷ ts) =
+    cond (int_eq b t.from && same v t.value) (record { from = a; to = t.to; value = v } ∷ ts)
+    (record { from = a; to = b; value = v } ∷ t ∷ ts)
 
 -- the steps of f at the n numbers from a on
 abbrev pub steps_at : {V : Type 0} → (V → V → Bool) → (ℤ → Option V) → ℤ → ℕ → List (Step V)

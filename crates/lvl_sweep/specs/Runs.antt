@@ -1,5 +1,6 @@
 -- Runs of a list of edges, by the indices from which and up to which they go, and how two are merged.
-use Rattle.std.specs.Prelude.{◌≡◌, ℕ, ◌+◌, ◌-◌, ◌<◌, ◌≤◌, List, length, ℤ, ◌<ℤ◌, ◌≤ℤ◌, slice_index_or, Option, None, Some, ◌⊎◌}
+use Rattle.std.specs.Prelude.{◌≡◌, ℕ, ◌+◌, ◌-◌, ◌<◌, ◌≤◌, List, length, ℤ, ◌<ℤ◌, ◌≤ℤ◌, slice_index_or, Option, None}
+use Rattle.std.specs.Prelude.{Some, ◌⊎◌}
 use Rattle.std.specs.List.{AllWithin}
 use Rattle.lvl_sweep.specs.declared.edge.Edge.{Edge}
 use Rattle.lvl_sweep.specs.declared.merge.Merge.{Merge}
@@ -14,11 +15,13 @@ IsSameFrom es fs low = (k : ℕ) (d : Edge) → low ≤ k → slice_index_or fs 
 
 -- the edges from low up to high are in the order of their abscissas
 abbrev pub RiseWithin : List Edge → ℕ → ℕ → Type 0
-RiseWithin es low high = (i j : ℕ) (d : Edge) → low ≤ i → i ≤ j → j < high → (slice_index_or es i d).x ≤ℤ (slice_index_or es j d).x
+RiseWithin es low high =
+    (i j : ℕ) (d : Edge) → low ≤ i → i ≤ j → j < high → (slice_index_or es i d).x ≤ℤ (slice_index_or es j d).x
 
 -- no edge from i up to j is right of one from p up to q
 abbrev pub AreBefore : List Edge → ℕ → ℕ → ℕ → ℕ → Type 0
-AreBefore es i j p q = (a b : ℕ) (d : Edge) → i ≤ a → a < j → p ≤ b → b < q → (slice_index_or es a d).x ≤ℤ (slice_index_or es b d).x
+AreBefore es i j p q =
+    (a b : ℕ) (d : Edge) → i ≤ a → a < j → p ≤ b → b < q → (slice_index_or es a d).x ≤ℤ (slice_index_or es b d).x
 
 -- t is the least ordinate at which an edge from low up to high ends, or the one at which the next begins
 abbrev pub IsEndOf : List Edge → ℕ → ℕ → Option ℤ → Option ℤ → Type 0
@@ -59,8 +62,12 @@ pub record IsMerging (es : List Edge) (y : ℤ) (m : Merge) : Type 0 where
 
 -- the last of those that begin is the last of all still to be put
 abbrev pub AreFresh : List Edge → Merge → Type 0
-AreFresh es m = (m.low < m.fresh) × (m.from < m.alive → (d : Edge) → (slice_index_or es (m.alive - 1) d).x ≤ℤ (slice_index_or es (m.fresh - 1) d).x)
+AreFresh es m =
+    (m.low < m.fresh) × (m.from < m.alive → (d : Edge) → (slice_index_or es (m.alive - 1) d).x ≤ℤ (slice_index_or es
+    (m.fresh - 1) d).x)
 
 -- the last of those that were alive is
 abbrev pub AreActive : List Edge → Merge → Type 0
-AreActive es m = (m.from < m.alive) × (m.low < m.fresh → (d : Edge) → (slice_index_or es (m.fresh - 1) d).x ≤ℤ (slice_index_or es (m.alive - 1) d).x)
+AreActive es m =
+    (m.from < m.alive) × (m.low < m.fresh → (d : Edge) → (slice_index_or es (m.fresh - 1) d).x ≤ℤ (slice_index_or es
+    (m.alive - 1) d).x)

@@ -1,5 +1,6 @@
 -- Slab lists: bands of intervals, of which a set of squares has one list.
-use Rattle.std.specs.Prelude.{◌≡◌, ◌≢◌, Bool, ◌&&◌, List, [], ◌∷◌, ℤ, ◌<ℤ◌, ◌≤ℤ◌, int_lt, int_le, Option, None, Some, cond, All}
+use Rattle.std.specs.Prelude.{◌≡◌, ◌≢◌, Bool, ◌&&◌, List, [], ◌∷◌, ℤ, ◌<ℤ◌, ◌≤ℤ◌, int_lt, int_le, Option, None, Some}
+use Rattle.std.specs.Prelude.{cond, All}
 use Rattle.std.specs.List.{AllPairs, list_any}
 use Rattle.lvl_grid.specs.declared.point.Square.{Square}
 

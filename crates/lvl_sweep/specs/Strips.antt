@@ -1,5 +1,6 @@
 -- Where a sweep has come to: which edges have ended, which are alive, and which are to come.
-use Rattle.std.specs.Prelude.{◌≡◌, ℕ, ◌+◌, ◌<◌, ◌≤◌, ◌^◌, List, length, ℤ, ◌<ℤ◌, ◌≤ℤ◌, int_lt, count_by, slice_index_or, All, [], Option}
+use Rattle.std.specs.Prelude.{◌≡◌, ℕ, ◌+◌, ◌<◌, ◌≤◌, ◌^◌, List, length, ℤ, ◌<ℤ◌, ◌≤ℤ◌, int_lt, count_by, slice_index_or}
+use Rattle.std.specs.Prelude.{All, [], Option}
 use Rattle.std.specs.List.{AllWithin}
 use Rattle.lvl_sweep.specs.declared.edge.Edge.{Edge}
 use Rattle.lvl_sweep.specs.declared.strips.Strips.{Strips}
@@ -10,7 +11,8 @@ use Rattle.lvl_sweep.specs.Runs.{RiseWithin, IsEndOf}
 
 -- edges of closed rings, those to come in their order, and a count for each ring
 pub record AreStrips (s : Strips) : Type 0 where
-  pub order : (i j : ℕ) (d : Edge) → s.next ≤ i → i < j → j < length s.edges.items → IsNoLater (slice_index_or s.edges.items i d) (slice_index_or s.edges.items j d)
+  pub order : (i j : ℕ) (d : Edge) → s.next ≤ i → i < j → j < length s.edges.items
+      → IsNoLater (slice_index_or s.edges.items i d) (slice_index_or s.edges.items j d)
   pub full : All (λ e. e.low <ℤ e.high) s.edges.items
   pub numbers : All (λ e. e.ring < length s.windings.counts.items) s.edges.items
   pub few : length s.edges.items < 2 ^ 63
@@ -26,7 +28,8 @@ pub record IsAt (s : Strips) : Type 0 where
   pub begun : AllWithin (λ e. e.low ≤ℤ s.y) s.edges.items 0 s.next
   pub alive : AllWithin (λ e. s.y <ℤ e.high) s.edges.items s.from s.next
   pub coming : AllWithin (λ e. s.y <ℤ e.low) s.edges.items s.next (length s.edges.items)
-  pub top : (begins : Option ℤ) → IsBeginOf s.edges.items s.next begins → IsEndOf s.edges.items s.from s.next begins s.top
+  pub top : (begins : Option ℤ) → IsBeginOf s.edges.items s.next begins
+      → IsEndOf s.edges.items s.from s.next begins s.top
 
 -- no edge that hasn't begun begins below y, and those taken as ended have ended by then
 pub record CanLoad (s : Strips) (y : ℤ) : Type 0 where

@@ -1,5 +1,6 @@
 -- How far a walk over the edges of a row has come, and what it has seen.
-use Rattle.std.specs.Prelude.{◌≡◌, ℕ, ◌<◌, ◌≤◌, ◌^◌, Bool, true, not, ◌==◌, List, length, take, drop, ℤ, pos, ◌<ℤ◌, ◌≤ℤ◌, slice_index_or, All, Option, None, Some}
+use Rattle.std.specs.Prelude.{◌≡◌, ℕ, ◌<◌, ◌≤◌, ◌^◌, Bool, true, not, ◌==◌, List, length, take, drop, ℤ, pos, ◌<ℤ◌}
+use Rattle.std.specs.Prelude.{◌≤ℤ◌, slice_index_or, All, Option, None, Some}
 use Rattle.std.specs.List.{AllPairs}
 use Rattle.lvl_sweep.specs.declared.edge.Edge.{Edge}
 use Rattle.lvl_sweep.specs.declared.windings.Windings.{Windings}

@@ -1,5 +1,6 @@
 //! Two lists of bands walked in step, up to the least square that one of them alone covers.
-ghost use Rattle.std.specs.Prelude.{◌≡◌, ◌↔◌, ◌∷◌, [], List, true, false, drop, Option, None, ℤ, ◌<ℤ◌, IsTrue, IfOk, IfSome, IfNone};
+ghost use Rattle.std.specs.Prelude.{◌≡◌, ◌↔◌, ◌∷◌, [], List, true, false, drop, Option, None, ℤ, ◌<ℤ◌, IsTrue, IfOk};
+ghost use Rattle.std.specs.Prelude.{IfSome, IfNone};
 ghost use Rattle.lvl_grid.specs.declared.point.Square.{Square as GridSquare};
 ghost use Rattle.lvl_grid.specs.Squares.{IsBefore};
 ghost use Rattle.lvl_grid.specs.Winding.{SomeCovers};

@@ -1,5 +1,6 @@
 //! The vertical edges of rings, in the order in which a sweep meets them.
-ghost use Rattle.std.specs.Prelude.{◌≡◌, ◌<◌, ◌+◌, ◌&&◌, ◌==◌, ℕ, ◌<ℤ◌, All, length, count_by, IfOk, IfSome, if◌then◌else◌};
+ghost use Rattle.std.specs.Prelude.{◌≡◌, ◌<◌, ◌+◌, ◌&&◌, ◌==◌, ℕ, ◌<ℤ◌, All, length, count_by, IfOk, IfSome};
+ghost use Rattle.std.specs.Prelude.{if◌then◌else◌};
 ghost use Rattle.lvl_grid.specs.declared.point.Square.{Square as GridSquare};
 ghost use Rattle.lvl_grid.specs.Winding.{goes_up, goes_down, edges as steps_round};
 ghost use Rattle.lvl_sweep.specs.Alive.{edge_is, rises, falls, AreEdgesOf, AreInOrder};
@@ -46,10 +47,14 @@ fn edge_between(ring: usize, from: Point, to: Point) -> Option<Edge>
 
 /// Puts the vertical edge from one point to the next behind the edges, unless it is flat.
 fn push_edge(edges: &mut Vec<Edge>, ring: usize, from: Point, to: Point) -> Result<(), AllocError>
-    ensures rising { IfOk result (λ _. (r : ℕ) (s : GridSquare) → count_by (rises r s) edges.new.items ≡ count_by (rises r s) edges.old.items + (if (ring == r) && goes_up s (from, to) then 1 else 0)) }
-    ensures falling { IfOk result (λ _. (r : ℕ) (s : GridSquare) → count_by (falls r s) edges.new.items ≡ count_by (falls r s) edges.old.items + (if (ring == r) && goes_down s (from, to) then 1 else 0)) }
-    ensures numbers { IfOk result (λ _. (n : ℕ) → ring < n → All (λ e. e.ring < n) edges.old.items → All (λ e. e.ring < n) edges.new.items) }
-    ensures full { IfOk result (λ _. All (λ e. e.low <ℤ e.high) edges.old.items → All (λ e. e.low <ℤ e.high) edges.new.items) }
+    ensures rising { IfOk result (λ _. (r : ℕ) (s : GridSquare) → count_by (rises r s) edges.new.items
+        ≡ count_by (rises r s) edges.old.items + (if (ring == r) && goes_up s (from, to) then 1 else 0)) }
+    ensures falling { IfOk result (λ _. (r : ℕ) (s : GridSquare) → count_by (falls r s) edges.new.items
+        ≡ count_by (falls r s) edges.old.items + (if (ring == r) && goes_down s (from, to) then 1 else 0)) }
+    ensures numbers { IfOk result (λ _. (n : ℕ) → ring < n → All (λ e. e.ring < n) edges.old.items
+        → All (λ e. e.ring < n) edges.new.items) }
+    ensures full { IfOk result (λ _. All (λ e. e.low <ℤ e.high) edges.old.items
+        → All (λ e. e.low <ℤ e.high) edges.new.items) }
 {
     if let Some(edge) = edge_between(ring, from, to) {
         edges.push(edge)?;
@@ -60,10 +65,16 @@ fn push_edge(edges: &mut Vec<Edge>, ring: usize, from: Point, to: Point) -> Resu
 /// Puts the vertical edges of a ring behind the edges.
 fn push_edges(edges: &mut Vec<Edge>, ring: usize, points: &[Point]) -> Result<(), AllocError>
     requires { 0 < length points.now }
-    ensures rising { IfOk result (λ _. (r : ℕ) (s : GridSquare) → count_by (rises r s) edges.new.items ≡ count_by (rises r s) edges.old.items + (if ring == r then count_by (goes_up s) (steps_round points.now) else 0)) }
-    ensures falling { IfOk result (λ _. (r : ℕ) (s : GridSquare) → count_by (falls r s) edges.new.items ≡ count_by (falls r s) edges.old.items + (if ring == r then count_by (goes_down s) (steps_round points.now) else 0)) }
-    ensures numbers { IfOk result (λ _. (n : ℕ) → ring < n → All (λ e. e.ring < n) edges.old.items → All (λ e. e.ring < n) edges.new.items) }
-    ensures full { IfOk result (λ _. All (λ e. e.low <ℤ e.high) edges.old.items → All (λ e. e.low <ℤ e.high) edges.new.items) }
+    ensures rising { IfOk result (λ _. (r : ℕ) (s : GridSquare) → count_by (rises r s) edges.new.items
+        ≡ count_by (rises r s) edges.old.items
+        + (if ring == r then count_by (goes_up s) (steps_round points.now) else 0)) }
+    ensures falling { IfOk result (λ _. (r : ℕ) (s : GridSquare) → count_by (falls r s) edges.new.items
+        ≡ count_by (falls r s) edges.old.items
+        + (if ring == r then count_by (goes_down s) (steps_round points.now) else 0)) }
+    ensures numbers { IfOk result (λ _. (n : ℕ) → ring < n → All (λ e. e.ring < n) edges.old.items
+        → All (λ e. e.ring < n) edges.new.items) }
+    ensures full { IfOk result (λ _. All (λ e. e.low <ℤ e.high) edges.old.items
+        → All (λ e. e.low <ℤ e.high) edges.new.items) }
 {
     let mut previous = points[points.len() - 1];
     for point in points {

@@ -1,10 +1,12 @@
 //! The edges alive in a row, kept by abscissa within the list of all edges.
-ghost use Rattle.std.specs.Prelude.{◌≡◌, ◌⊎◌, ◌<◌, ◌≤◌, ◌+◌, ℕ, ℤ, ◌<ℤ◌, ◌≤ℤ◌, length, Option, IsTrue, IfSome, IfNone, false, slice_index_or};
+ghost use Rattle.std.specs.Prelude.{◌≡◌, ◌⊎◌, ◌<◌, ◌≤◌, ◌+◌, ℕ, ℤ, ◌<ℤ◌, ◌≤ℤ◌, length, Option, IsTrue, IfSome, IfNone};
+ghost use Rattle.std.specs.Prelude.{false, slice_index_or};
 ghost use Rattle.std.specs.List.{AllWithin, SwappedAt};
 ghost use Rattle.std.specs.List.Sorted.{IsPermutation};
 ghost use Rattle.lvl_sweep.specs.declared.edge.Edge.{Edge as EdgeValue};
 ghost use Rattle.lvl_sweep.specs.Edges.{IsLower};
-ghost use Rattle.lvl_sweep.specs.Runs.{RiseWithin, IsEndOf, IsSameWithin, IsSameFrom, IsMerging, AreFresh, AreActive, IsRenewed};
+ghost use Rattle.lvl_sweep.specs.Runs.{RiseWithin, IsEndOf, IsSameWithin, IsSameFrom, IsMerging, AreFresh, AreActive};
+ghost use Rattle.lvl_sweep.specs.Runs.{IsRenewed};
 
 use crate::edge::Edge;
 
@@ -47,8 +49,10 @@ fn exchange(edges: &mut [Edge], to: usize, from: usize, count: usize)
     requires apart { to + count ≤ from }
     requires within { from + count ≤ length edges.old }
     ensures permutation { IsPermutation edges.old edges.new }
-    ensures there { (k : ℕ) (d : EdgeValue) → k < count → slice_index_or edges.new (to + k) d ≡ slice_index_or edges.old (from + k) d }
-    ensures back { (k : ℕ) (d : EdgeValue) → k < count → slice_index_or edges.new (from + k) d ≡ slice_index_or edges.old (to + k) d }
+    ensures there { (k : ℕ) (d : EdgeValue) → k < count → slice_index_or edges.new (to + k) d
+        ≡ slice_index_or edges.old (from + k) d }
+    ensures back { (k : ℕ) (d : EdgeValue) → k < count → slice_index_or edges.new (from + k) d
+        ≡ slice_index_or edges.old (to + k) d }
     ensures before { IsSameWithin edges.old edges.new 0 to }
     ensures between { IsSameWithin edges.old edges.new (to + count) from }
     ensures behind { IsSameFrom edges.old edges.new (from + count) }
@@ -92,7 +96,8 @@ impl Merge {
         ensures alive { self.new.alive ≡ self.old.alive }
         ensures end { self.new.end ≡ self.old.end }
         ensures some { IfNone self.new.top ⊥ }
-        ensures top { IfSome self.new.top (λ t. (d : EdgeValue) → IsLower (slice_index_or edges.old at d).high self.old.top t) }
+        ensures top { IfSome self.new.top
+            (λ t. (d : EdgeValue) → IsLower (slice_index_or edges.old at d).high self.old.top t) }
     {
         self.first -= 1;
         self.top = Some(lower(edges[at].high, self.top));
@@ -108,7 +113,8 @@ impl Merge {
         ensures behind { IsSameFrom edges.old edges.new self.old.end }
         ensures fewer { self.new.fresh + self.new.alive < self.old.fresh + self.old.alive }
         ensures end { self.new.end ≡ self.old.end }
-        ensures top { (b : Option ℤ) → IsEndOf edges.old self.old.first self.old.end b self.old.top → IsEndOf edges.new self.new.first self.old.end b self.new.top }
+        ensures top { (b : Option ℤ) → IsEndOf edges.old self.old.first self.old.end b self.old.top
+            → IsEndOf edges.new self.new.first self.old.end b self.new.top }
     {
         if self.is_fresh_last(edges) {
             self.fresh -= 1;
@@ -129,7 +135,8 @@ impl Merge {
         ensures permutation { IsPermutation edges.old edges.new }
         ensures behind { IsSameFrom edges.old edges.new self.old.end }
         ensures end { self.new.end ≡ self.old.end }
-        ensures top { (b : Option ℤ) → IsEndOf edges.old self.old.first self.old.end b self.old.top → IsEndOf edges.new self.new.first self.old.end b self.new.top }
+        ensures top { (b : Option ℤ) → IsEndOf edges.old self.old.first self.old.end b self.old.top
+            → IsEndOf edges.new self.new.first self.old.end b self.new.top }
     {
         while self.is_left() {
             self.step(edges, y);

@@ -126,7 +126,8 @@ impl Region for SlabRegion {
     ghost holds = { λ r s. IsTrue (slabs_cover r s) };
 
     fn build(alloc: Global, rings: &[Ring]) -> Result<Self, AllocError>
-        ensures covers { IfOk result (λ region. (s : GridSquare) → IsTrue (slabs_cover region s) ↔ SomeCovers rings.now s) }
+        ensures covers { IfOk result
+            (λ region. (s : GridSquare) → IsTrue (slabs_cover region s) ↔ SomeCovers rings.now s) }
         ensures list { IfOk result (λ region. AreBandsOf rings.now region) }
         ensures few_bands { IfOk result (λ region. AreFewerThanLines rings.now region) }
         ensures few_intervals { IfOk result (λ region. HaveFewIntervals rings.now region) }

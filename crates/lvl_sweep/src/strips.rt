@@ -1,5 +1,6 @@
 //! The strips of rows between the ordinates at which edges begin or end, from the lowest on.
-ghost use Rattle.std.specs.Prelude.{◌≡◌, ◌<◌, ◌≤◌, ◌+◌, ◌*◌, length, [], ℤ, ◌<ℤ◌, ◌≤ℤ◌, slice_index_or, IsTrue, ◌↔◌, IfOk, IfSome, IfNone};
+ghost use Rattle.std.specs.Prelude.{◌≡◌, ◌<◌, ◌≤◌, ◌+◌, ◌*◌, length, [], ℤ, ◌<ℤ◌, ◌≤ℤ◌, slice_index_or, IsTrue, ◌↔◌};
+ghost use Rattle.std.specs.Prelude.{IfOk, IfSome, IfNone};
 ghost use Rattle.std.specs.List.{AllWithin};
 ghost use Rattle.std.specs.Vec.{vec_len, vec_capacity};
 ghost use Rattle.lvl_sweep.specs.Alive.{AreEdgesOf, HasSame};

@@ -1,5 +1,6 @@
 //! The sweep itself: strips joined to bands.
-ghost use Rattle.std.specs.Prelude.{◌≡◌, ◌≢◌, ◌≤◌, ◌+◌, ◌*◌, ◌∷◌, [], length, drop, IsTrue, false, Some, IfOk, IfSome, IfNone};
+ghost use Rattle.std.specs.Prelude.{◌≡◌, ◌≢◌, ◌≤◌, ◌+◌, ◌*◌, ◌∷◌, [], length, drop, IsTrue, false, Some, IfOk, IfSome};
+ghost use Rattle.std.specs.Prelude.{IfNone};
 ghost use Rattle.std.specs.Vec.{vec_len, vec_capacity};
 ghost use Rattle.lvl_sweep.specs.Alive.{HasSame};
 ghost use Rattle.lvl_sweep.specs.Rows.{row_at, bands_from};
@@ -42,7 +43,8 @@ fn find_row(strips: &mut Strips, intervals: &mut Vec<(i64, i64)>) -> Option<i64>
     requires room { length strips.old.edges.items ≤ 2 * vec_capacity intervals.old + 1 }
     ensures at { IsAt strips.new }
     ensures edges { HasSame strips.old.edges.items strips.new.edges.items }
-    ensures skipped { bands_from strips.old.edges.items (Some strips.old.y) ≡ bands_from strips.new.edges.items (Some strips.new.y) }
+    ensures skipped { bands_from strips.old.edges.items (Some strips.old.y)
+        ≡ bands_from strips.new.edges.items (Some strips.new.y) }
     ensures top { IfSome result (λ t. IsTop strips.new t) }
     ensures some { IfSome result (λ _. intervals.new.items ≢ []) }
     ensures over { IfNone result (IsOver strips.new) }

@@ -1,5 +1,6 @@
 //! The walk over the edges of one row, from left to right, which gives the intervals covered there.
-ghost use Rattle.std.specs.Prelude.{◌≡◌, ◌≢◌, ◌<◌, ◌≤◌, ◌+◌, ◌*◌, ◌++◌, ◌∷◌, [], ℕ, length, not, false, IsTrue, ◌↔◌, IfSome, IfNone, slice_index_or};
+ghost use Rattle.std.specs.Prelude.{◌≡◌, ◌≢◌, ◌<◌, ◌≤◌, ◌+◌, ◌*◌, ◌++◌, ◌∷◌, [], ℕ, length, not, false, IsTrue, ◌↔◌};
+ghost use Rattle.std.specs.Prelude.{IfSome, IfNone, slice_index_or};
 ghost use Rattle.std.specs.Vec.{vec_len, vec_capacity};
 ghost use Rattle.lvl_sweep.specs.declared.edge.Edge.{Edge as EdgeValue};
 ghost use Rattle.lvl_sweep.specs.Edges.{AreAtRest};
@@ -20,7 +21,8 @@ pub struct Place {
 fn stands_at(active: &[Edge], i: usize, x: i64) -> bool
     ensures within { IsTrue result → i < length active.now }
     ensures here { IsTrue result → (d : EdgeValue) → (slice_index_or active.now i d).x ≡ x }
-    ensures elsewhere { result ≡ false → i < length active.now → (d : EdgeValue) → (slice_index_or active.now i d).x ≢ x }
+    ensures elsewhere { result ≡ false → i < length active.now → (d : EdgeValue)
+        → (slice_index_or active.now i d).x ≢ x }
 {
     i < active.len() && active[i].x == x
 }

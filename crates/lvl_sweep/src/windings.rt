@@ -1,5 +1,6 @@
 //! How often each ring winds round the squares that a walk has come to.
-ghost use Rattle.std.specs.Prelude.{◌≡◌, ◌≢◌, ◌<◌, ◌+◌, ◌^◌, ℤ, pos, ◌+ℤ◌, length, unsigned_abs, slice_index_or, slice_set, IfOk};
+ghost use Rattle.std.specs.Prelude.{◌≡◌, ◌≢◌, ◌<◌, ◌+◌, ◌^◌, ℤ, pos, ◌+ℤ◌, length, unsigned_abs, slice_index_or};
+ghost use Rattle.std.specs.Prelude.{slice_set, IfOk};
 ghost use Rattle.lvl_sweep.specs.Edges.{turn, weight, how_many_turn, AreAtRest};
 
 use std::alloc::{AllocError, Global};
@@ -53,7 +54,8 @@ impl Windings {
         requires ring { ring < length self.old.counts.items }
         requires small { unsigned_abs (slice_index_or self.old.counts.items ring (pos 0)) + 1 < 2 ^ 63 }
         requires turning { self.old.turning ≡ how_many_turn self.old.counts.items }
-        ensures counts { self.new.counts.items ≡ slice_set self.old.counts.items ring (slice_index_or self.old.counts.items ring (pos 0) +ℤ turn up) }
+        ensures counts { self.new.counts.items ≡ slice_set self.old.counts.items ring
+            (slice_index_or self.old.counts.items ring (pos 0) +ℤ turn up) }
         ensures turning { self.new.turning ≡ how_many_turn self.new.counts.items }
     {
         let old = self.counts[ring];

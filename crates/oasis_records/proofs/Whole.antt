@@ -1,24 +1,13 @@
 -- Whole records: their spelling is free of prefixes, and they are read by an id and what comes after it.
-use Rattle.std.proofs.Common.{◌≡◌, ℕ, ◌==◌, Bool, true, false, List, [], ◌∷◌, Result, Ok, subst}
-use Rattle.std.specs.Prelude.{Option}
-use Rattle.std.specs.Borrow.{GName}
-use Rattle.lvl_io.specs.Spelling.{Gives}
+use Rattle.std.proofs.Common.{ℕ, ◌==◌, Bool, true, false, List, [], ◌∷◌, Ok}
 use Rattle.lvl_io.proofs.Spelling.{chain_free, chain_said}
-use Rattle.lvl_refusal.specs.declared.Refusal.{Refusal}
-use Rattle.oasis_values.specs.Numbers.{IsByte, IsUnsigned}
-use Rattle.oasis_values.specs.Reads.{Reads}
-use Rattle.oasis_values.specs.declared.fault.ValueFault.{ValueFault}
-use Rattle.oasis_values.specs.declared.input.Input.{Input}
+use Rattle.oasis_values.specs.Numbers.{IsByte}
 use Rattle.oasis_values.proofs.Integers.{byte_free, byte_said}
-use Rattle.oasis_values.proofs.Reading.{reads_then, reads_nothing}
 use Rattle.oasis_records.specs.Ends.{IsPaddingLength, ArePadding, IsScheme, four, AreFour, signed, IsSignature}
 use Rattle.oasis_records.specs.Ends.{IsEnding, IsEndOf, IsEnd}
 use Rattle.oasis_records.specs.Magic.{AreMagicBytes}
-use Rattle.oasis_records.specs.Records.{record_type, AreFields, IsRecord}
-use Rattle.oasis_records.specs.Sizes.{Sized}
-use Rattle.oasis_records.specs.declared.fault.RecordRule.{RecordRule}
+use Rattle.oasis_records.specs.Records.{AreFields}
 use Rattle.oasis_records.specs.declared.measured.Measured.{Measured}
-use Rattle.oasis_records.specs.declared.record.Record.{Record}
 use Rattle.oasis_records.specs.declared.record_type.RecordType.{RecordType}
 use Rattle.oasis_records.specs.declared.record_type.RecordType.TheVariants.{Pad as OfPad, Start as OfStart}
 use Rattle.oasis_records.specs.declared.record_type.RecordType.TheVariants.{End as OfEnd, CellName as OfCellName}
@@ -34,7 +23,7 @@ use Rattle.oasis_records.specs.declared.record_type.RecordType.TheVariants.{Poly
 use Rattle.oasis_records.proofs.Codes.{IsCode, gives_code, then_code, seen_code, byte_code, unsigned_code}
 use Rattle.oasis_records.proofs.Others.{cell_code, cell_name_code, numbered_name_code, turned_code, scaled_code}
 use Rattle.oasis_records.proofs.Others.{tables_code, start_code}
-use Rattle.oasis_records.proofs.Ruling.{and_then_code, reads_go}
+use Rattle.oasis_records.proofs.Ruling.{and_then_code}
 use Rattle.oasis_records.proofs.Shapes.{rectangle_code, polygon_code, path_code}
 use Rattle.oasis_records.proofs.Sizes.{sized_code}
 
@@ -89,20 +78,3 @@ fields_code b n OfScaledPlacement = seen_code Ok scaled_code
 fields_code b n OfRectangle = rectangle_code
 fields_code b n OfPolygon = polygon_code
 fields_code b n OfPath = path_code
-
--- what bytes say of a record is one thing at most
-pub record_code : (b : Bool) → IsCode (IsRecord b)
-record_code b = then_code (sized_code unsigned_code) (λ id. and_then_code gives_code (fields_code b id.len))
-
--- an id, of whose type the fields are read
-pub reads_record : {R : Type 0} {remaining : R → Option (List ℕ)} {errors : R → ℕ} {lent : R → List GName} (b : Bool)
-    {old mid new : Input R} {id : Measured} (kind : RecordType)
-    {r : Result (Result Record RecordRule) (Refusal ValueFault)}
-    → Reads remaining errors lent (Sized IsUnsigned) old mid (Ok id) → record_type id.value ≡ Ok kind
-    → Reads remaining errors lent (AreFields b id.len kind) mid new r
-    → Reads remaining errors lent (IsRecord b) old new r
-reads_record {remaining = remaining} {errors = errors} {lent = lent} b {mid = mid} {id = id} kind p e q =
-    let known : Reads remaining errors lent (Gives (Ok (record_type id.value))) mid mid (Ok (Ok kind)) =
-    subst (λ t. Reads remaining errors lent (Gives (Ok (record_type id.value))) mid mid (Ok t)) e
-    (reads_nothing (record_type id.value) p.failed) in
-    reads_then _ p (reads_go (AreFields b id.len) known q)

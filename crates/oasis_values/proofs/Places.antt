@@ -29,8 +29,8 @@ use Rattle.oasis_values.specs.declared.repetition.Kind.TheVariants.{Modal, Matri
 use Rattle.oasis_values.specs.declared.repetition.Repetition.{Repetition}
 use Rattle.oasis_values.specs.declared.repetition.Repetition.TheVariants.{New}
 use Rattle.oasis_values.specs.declared.repetition.Size.{Size}
-use Rattle.oasis_values.specs.declared.repetition.Spacing.{Spacing}
-use Rattle.oasis_values.specs.declared.repetition.Spacing.TheVariants.{AlongX, AlongY, Free}
+use Rattle.oasis_values.specs.declared.shift.Spacing.{Spacing}
+use Rattle.oasis_values.specs.declared.shift.Spacing.TheVariants.{AlongX, AlongY, Free}
 
 -- a lattice is in range just where it is one that can be kept
 

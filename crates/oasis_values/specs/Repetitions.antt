@@ -14,14 +14,14 @@ use Rattle.oasis_values.specs.Ranges.{in_range, is_in_range, is_point_in_range}
 use Rattle.oasis_values.specs.declared.fault.ValueFault.{ValueFault}
 use Rattle.oasis_values.specs.declared.fault.ValueFault.TheVariants.{RepetitionType, RepetitionSize, OutOfRange}
 use Rattle.oasis_values.specs.declared.fault.ValueFault.TheVariants.{NoModal}
-use Rattle.oasis_values.specs.declared.repetition.Far.{Far}
+use Rattle.oasis_values.specs.declared.shift.Far.{Far}
 use Rattle.oasis_values.specs.declared.repetition.Kind.{Kind}
 use Rattle.oasis_values.specs.declared.repetition.Kind.TheVariants.{Modal, Matrix, Line, List as Listed}
 use Rattle.oasis_values.specs.declared.repetition.Repetition.{Repetition}
 use Rattle.oasis_values.specs.declared.repetition.Repetition.TheVariants.{Modal as TheModal, New}
 use Rattle.oasis_values.specs.declared.repetition.Size.{Size}
-use Rattle.oasis_values.specs.declared.repetition.Spacing.{Spacing}
-use Rattle.oasis_values.specs.declared.repetition.Spacing.TheVariants.{AlongX, AlongY, Free}
+use Rattle.oasis_values.specs.declared.shift.Spacing.{Spacing}
+use Rattle.oasis_values.specs.declared.shift.Spacing.TheVariants.{AlongX, AlongY, Free}
 
 -- the types of repetitions, numbered from 0: what each is made of, and whether its spaces are multiplied by a grid
 abbrev pub kinds : List Kind

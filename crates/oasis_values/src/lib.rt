@@ -21,4 +21,5 @@ mod integer;
 mod number;
 mod point_list;
 mod repetition;
+mod shift;
 mod text;

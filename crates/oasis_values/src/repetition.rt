@@ -2,12 +2,13 @@
 ghost use Rattle.std.specs.Prelude.{◌≡◌, ◌<◌, ◌≤◌, ◌^◌, false, IfOk, IfSome, vec_len, vec_capacity};
 ghost use Rattle.oasis_values.specs.Known.{among};
 ghost use Rattle.oasis_values.specs.Repetitions.{kinds, line_size, matrix_size, list_size, modal};
-ghost use Rattle.oasis_values.specs.Repetitions.{stepped, moved, space, widened, lattice_in_range};
+ghost use Rattle.oasis_values.specs.Repetitions.{lattice_in_range};
 ghost use Rattle.lvl_cells.specs.Shifts.{StartsAtZero};
 ghost use Rattle.oasis_values.specs.inside.Sizes.{IsFew, IsSmall};
 
 use crate::fault::ValueFault;
 use crate::input::Input;
+use crate::shift::Spacing;
 use lvl_cells::Offsets;
 use lvl_grid::Point;
 use lvl_io::Read;
@@ -23,17 +24,6 @@ pub enum Repetition {
     New(Offsets),
 }
 
-/// Along what the spaces of a repetition go.
-#[derive(Clone, Copy, Debug, Drop, PartialEq, Eq)]
-pub enum Spacing {
-    /// Unsigned spaces along x.
-    AlongX,
-    /// Unsigned spaces along y.
-    AlongY,
-    /// g-deltas.
-    Free,
-}
-
 /// What repetitions of a type are made of.
 #[derive(Clone, Copy, Debug, Drop, PartialEq, Eq)]
 pub enum Kind {
@@ -45,13 +35,6 @@ pub enum Kind {
     Line(Spacing),
     /// A list of spaces, each taken as many times as a grid says, if there is one.
     List(Spacing, bool),
-}
-
-/// A space, which may be greater than any coordinate.
-#[derive(Clone, Copy, Debug, Drop, PartialEq, Eq)]
-pub struct Far {
-    x: i128,
-    y: i128,
 }
 
 /// How many places a repetition along two steps has.
@@ -123,46 +106,6 @@ fn list_size(dimension: u64) -> Option<usize>
     Some(dimension as usize + 1)
 }
 
-// So many spaces of `by` on, or None where that is outside 64 bits.
-fn stepped(before: i64, by: i128, times: u64) -> Option<i64>
-    ensures { result ≡ stepped before by times }
-{
-    let far = i128::from(times).checked_mul(by)?;
-    let at = far.checked_add(i128::from(before))?;
-    i64::try_from(at).ok()
-}
-
-// So many spaces of `by` on from a shift, or None where that is outside 64 bits.
-fn moved(before: Point, by: Far, times: u64) -> Option<Point>
-    ensures { result ≡ moved before by times }
-{
-    let x = stepped(before.x, by.x, times)?;
-    let y = stepped(before.y, by.y, times)?;
-    Some(Point { x, y })
-}
-
-// A space along an axis.
-fn space(along_x: bool, far: u64) -> Far
-    ensures { result ≡ space along_x far }
-{
-    let far = i128::from(far);
-    if along_x {
-        Far { x: far, y: 0 }
-    } else {
-        Far { x: 0, y: far }
-    }
-}
-
-// A g-delta as a space.
-fn widened(delta: Point) -> Far
-    ensures { result ≡ widened delta }
-{
-    Far {
-        x: i128::from(delta.x),
-        y: i128::from(delta.y),
-    }
-}
-
 // The modal repetition, if there is one.
 fn modal(has_modal: bool) -> Option<Repetition>
     ensures { result ≡ modal has_modal }
@@ -196,7 +139,7 @@ impl<R: Read> Input<R> {
     ghost use Rattle.oasis_values.specs.Input.{has_failed};
     ghost use Rattle.oasis_values.specs.Reads.{Reads, Refutes};
     ghost use Rattle.oasis_values.specs.Faults.{as_breach};
-    ghost use Rattle.oasis_values.specs.Repetitions.{IsSpaceAlong, IsSpaceFree, IsSpace, IsShift, IsModal};
+    ghost use Rattle.oasis_values.specs.Repetitions.{IsModal};
     ghost use Rattle.oasis_values.specs.Repetitions.{IsLineOf, IsLine, IsColumns, IsMatrixOf, IsMatrix};
     ghost use Rattle.oasis_values.specs.Repetitions.{IsGrid, AreShifts, IsSpreadOf, IsSpread, IsRepetition};
 
@@ -360,42 +303,5 @@ impl<R: Read> Input<R> {
             return Err(Refusal::OutOfMemory);
         };
         Ok(Repetition::New(places))
-    }
-
-    // A space.
-    fn space(&mut self, spacing: Spacing) -> Result<Far, ValueFault>
-        ensures reads { Reads R.remaining R.read_errors R.lent (IsSpace spacing) self.old self.new (as_breach result) }
-    {
-        match spacing {
-            Spacing::AlongX => self.space_along(true),
-            Spacing::AlongY => self.space_along(false),
-            Spacing::Free => self.space_free(),
-        }
-    }
-
-    // An unsigned space along an axis.
-    fn space_along(&mut self, along_x: bool) -> Result<Far, ValueFault>
-        ensures reads { Reads R.remaining R.read_errors R.lent
-            (IsSpaceAlong along_x) self.old self.new (as_breach result) }
-    {
-        let far = self.unsigned()?;
-        Ok(space(along_x, far))
-    }
-
-    // A g-delta as a space.
-    fn space_free(&mut self) -> Result<Far, ValueFault>
-        ensures reads { Reads R.remaining R.read_errors R.lent IsSpaceFree self.old self.new (as_breach result) }
-    {
-        let delta = self.g_delta()?;
-        Ok(widened(delta))
-    }
-
-    // The shift after a space, taken as many times as the grid says.
-    fn shift(&mut self, spacing: Spacing, grid: u64, before: Point) -> Result<Point, ValueFault>
-        ensures reads { Reads R.remaining R.read_errors R.lent
-            (IsShift spacing grid before) self.old self.new (as_breach result) }
-    {
-        let by = self.space(spacing)?;
-        self.known(moved(before, by, grid), ValueFault::OutOfRange)
     }
 }

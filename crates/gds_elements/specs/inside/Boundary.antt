@@ -1,33 +1,26 @@
 -- What a boundary has that is being read.
-use Rattle.std.specs.Prelude.{◌≡◌, ℕ, ◌==◌, ◌<◌, ◌≤◌, if◌then◌else◌, List, length, All, Some}
+use Rattle.std.specs.Prelude.{◌≡◌, ◌<◌, ◌≤◌, List, length, All, Some}
 use Rattle.lvl_grid.specs.declared.point.Point.{Point}
 use Rattle.lvl_grid.specs.Winding.{IsStraight}
-use Rattle.gds_elements.specs.Types.{boundary, layer, datatype, xy, endel}
-use Rattle.gds_elements.specs.Order.{an_element}
-use Rattle.lvl_grammar.specs.Order.{Order, ◌then◌, one}
+use Rattle.gds_elements.specs.Types.{boundary, layer}
+use Rattle.gds_elements.specs.Order.{an_element, a_boundary}
+use Rattle.lvl_grammar.specs.Order.{Order}
 use Rattle.gds_elements.specs.Rec.{Rec, kinds, opener}
 use Rattle.gds_elements.specs.Meaning.{layer_of}
 use Rattle.gds_elements.specs.Rules.{IsClosed, steps}
 use Rattle.gds_elements.specs.declared.fault.ElementRule.{ElementRule}
 use Rattle.gds_elements.specs.declared.fault.ElementRule.TheVariants.{Points as PointsFault, NotClosed, Oblique}
 use Rattle.lvl_grammar.specs.inside.After.{LeadsTo}
-use Rattle.gds_elements.specs.declared.order.Next.{Next}
-use Rattle.gds_elements.specs.declared.order.Next.TheVariants.{Goes, Ends, Nowhere}
+use Rattle.gds_elements.specs.inside.Left.{rest}
 use Rattle.gds_elements.specs.declared.boundary.Place.{Place}
 use Rattle.gds_elements.specs.declared.boundary.Place.TheVariants.{Layer, Datatype, Points}
 use Rattle.gds_elements.specs.declared.boundary.Boundary.{Boundary}
 
--- what a record of a type is at a place
-abbrev pub after : Place → ℕ → Next Place
-after Layer k = if k == layer then Goes Datatype else Nowhere
-after Datatype k = if k == datatype then Goes Points else Nowhere
-after Points k = if k == xy then Ends else Nowhere
-
 -- what may still come at a place
 abbrev pub left : Place → Order
-left Layer = one layer then one datatype then one xy then one endel
-left Datatype = one datatype then one xy then one endel
-left Points = one xy then one endel
+left Layer = rest 1 a_boundary
+left Datatype = rest 2 a_boundary
+left Points = rest 3 a_boundary
 
 -- the boundary is where its records lead, and has their values
 pub record IsBoundary (b : Boundary) (piece : List Rec) : Type 0 where

@@ -15,5 +15,6 @@ pub record IsCounted (payload : List ℕ) : Type 0 where
 abbrev pub IsCountFault : List ℕ → ElementRule → Type 0
 IsCountFault payload ColRow = (columns payload <ℤ pos 1) ⊎ (rows payload <ℤ pos 1)
 IsCountFault payload Repetition =
-    (pos 1 ≤ℤ columns payload) × (pos 1 ≤ℤ rows payload) × (place_limit < magnitude (columns payload) * magnitude (rows payload))
+    (pos 1 ≤ℤ columns payload) × (pos 1 ≤ℤ rows payload)
+    × (place_limit < magnitude (columns payload) * magnitude (rows payload))
 IsCountFault payload f = ⊥

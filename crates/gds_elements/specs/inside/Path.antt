@@ -1,11 +1,11 @@
 -- What a path has that is being read.
-use Rattle.std.specs.Prelude.{◌≡◌, ℕ, ◌==◌, ◌<◌, ◌≤◌, Bool, pos, if◌then◌else◌, List, length, Option, Some, None}
+use Rattle.std.specs.Prelude.{◌≡◌, ℕ, ◌<◌, ◌≤◌, Bool, pos, if◌then◌else◌, List, length, Option, Some, None}
 use Rattle.std.specs.Ordering.{int_eq}
 use Rattle.lvl_grid.specs.declared.point.Point.{Point}
 use Rattle.lvl_path.specs.Runs.{IsLowestFault}
-use Rattle.gds_elements.specs.Types.{path, layer, datatype, pathtype, width, xy, endel}
-use Rattle.gds_elements.specs.Order.{an_element}
-use Rattle.lvl_grammar.specs.Order.{Order, ◌then◌, one, maybe}
+use Rattle.gds_elements.specs.Types.{path, layer, pathtype, width}
+use Rattle.gds_elements.specs.Order.{an_element, a_path}
+use Rattle.lvl_grammar.specs.Order.{Order}
 use Rattle.gds_elements.specs.Rec.{Rec, kinds, opener, field, last_of}
 use Rattle.gds_elements.specs.Values.{short}
 use Rattle.gds_elements.specs.Meaning.{layer_of, half}
@@ -13,28 +13,18 @@ use Rattle.lvl_grammar.specs.inside.After.{LeadsTo}
 use Rattle.gds_elements.specs.declared.fault.ElementRule.{ElementRule}
 use Rattle.gds_elements.specs.declared.fault.ElementRule.TheVariants.{Points as PointsFault, Width as WidthFault}
 use Rattle.gds_elements.specs.declared.fault.ElementRule.TheVariants.{Path as PathFault}
-use Rattle.gds_elements.specs.declared.order.Next.{Next}
-use Rattle.gds_elements.specs.declared.order.Next.TheVariants.{Goes, Ends, Nowhere}
+use Rattle.gds_elements.specs.inside.Left.{rest}
 use Rattle.gds_elements.specs.declared.path.Place.{Place}
 use Rattle.gds_elements.specs.declared.path.Place.TheVariants.{Layer, Datatype, PathType, Width, Points}
 use Rattle.gds_elements.specs.declared.path.Path.{Path}
 
--- what a record of a type is at a place
-abbrev pub after : Place → ℕ → Next Place
-after Layer k = if k == layer then Goes Datatype else Nowhere
-after Datatype k = if k == datatype then Goes PathType else Nowhere
-after PathType k =
-    if k == pathtype then Goes Width else (if k == width then Goes Points else (if k == xy then Ends else Nowhere))
-after Width k = if k == width then Goes Points else (if k == xy then Ends else Nowhere)
-after Points k = if k == xy then Ends else Nowhere
-
 -- what may still come at a place
 abbrev pub left : Place → Order
-left Layer = one layer then one datatype then maybe (one pathtype) then maybe (one width) then one xy then one endel
-left Datatype = one datatype then maybe (one pathtype) then maybe (one width) then one xy then one endel
-left PathType = maybe (one pathtype) then maybe (one width) then one xy then one endel
-left Width = maybe (one width) then one xy then one endel
-left Points = one xy then one endel
+left Layer = rest 1 a_path
+left Datatype = rest 2 a_path
+left PathType = rest 3 a_path
+left Width = rest 4 a_path
+left Points = rest 5 a_path
 
 -- half of the width of a record, if there is one
 abbrev pub half_in : Option Rec → Option ℕ
@@ -58,5 +48,6 @@ abbrev pub IsBandsFault : List Point → Option ℕ → Bool → ElementRule →
 IsBandsFault ps half square PointsFault = length ps < 2
 IsBandsFault ps half square WidthFault = (2 ≤ length ps) × (half ≡ None)
 IsBandsFault ps half square (PathFault f) =
-    (2 ≤ length ps) × (h : ℕ) × (half ≡ Some h) × IsLowestFault ps (record { half = h; start = reach_at square h; end = reach_at square h }) f
+    (2 ≤ length ps) × (h : ℕ) × (half ≡ Some h)
+    × IsLowestFault ps (record { half = h; start = reach_at square h; end = reach_at square h }) f
 IsBandsFault ps half square f = ⊥

@@ -18,14 +18,16 @@ on_last f (x ∷ y ∷ ys) = x ∷ on_last f (y ∷ ys)
 
 -- a cell and a library with one more record, outside of elements
 abbrev pub grown_cell : ℕ → List ℕ → KeptCell → KeptCell
-grown_cell k payload c = record { name = if k == strname then name payload else c.name; shapes = c.shapes; references = c.references }
+grown_cell k payload c =
+    record { name = if k == strname then name payload else c.name; shapes = c.shapes; references = c.references }
 
 abbrev pub grown : ℕ → List ℕ → List KeptCell → List KeptCell
 grown k payload cells = if k == bgnstr then cells ++ no_cell ∷ [] else on_last (grown_cell k payload) cells
 
 -- a cell with shapes and references more
 abbrev pub with_drawn : List KeptShape → List PlainReference → KeptCell → KeptCell
-with_drawn shapes references c = record { name = c.name; shapes = c.shapes ++ shapes; references = c.references ++ references }
+with_drawn shapes references c =
+    record { name = c.name; shapes = c.shapes ++ shapes; references = c.references ++ references }
 
 -- the cells that were read whole
 abbrev pub done : Builder → List KeptCell

@@ -4,7 +4,8 @@ use Rattle.lvl_grammar.specs.Grammar.{Grammar}
 use Rattle.lvl_grammar.specs.Front.{IsFront}
 
 -- the bytes before the offset are a front of records that are had, and the others are left
-pub record ReadTo {R K : Type 0} (G : Grammar R K) (xs : List ℕ) (at : ℕ) (Has : List R → Type 0) (left : Option (List ℕ)) : Type 0 where
+pub record ReadTo {R K : Type 0} (G : Grammar R K) (xs : List ℕ) (at : ℕ) (Has : List R → Type 0)
+    (left : Option (List ℕ)) : Type 0 where
   pub records : List R
   pub front : IsFront G (take at xs) records
   pub holds : Has records
@@ -12,13 +13,14 @@ pub record ReadTo {R K : Type 0} (G : Grammar R K) (xs : List ℕ) (at : ℕ) (H
   pub within : at ≤ length xs
 
 -- at the offset the bytes seen breach the rule, and no other, whatever comes after them
-pub record IsSeenWrong {R K : Type 0} (G : Grammar R K) (xs : List ℕ) (at : ℕ) (left : Option (List ℕ)) (k : K) : Type 0 where
-  pub within : at ≤ length xs
-  pub records : List R
-  pub front : IsFront G (take at xs) records
-  pub seen : List ℕ
-  pub rest : List ℕ
-  pub parts : drop at xs ≡ seen ++ rest
-  pub left_is : left ≡ Some rest
-  pub wrong : (more : List ℕ) → G.wrong records (G.limit - at) (seen ++ more) k
-  pub only : (j : K) → G.wrong records (G.limit - at) (drop at xs) j → j ≡ k
+pub record IsSeenWrong {R K : Type 0} (G : Grammar R K) (xs : List ℕ) (at : ℕ) (left : Option (List ℕ)) (k : K) : Type 0
+  where
+    pub within : at ≤ length xs
+    pub records : List R
+    pub front : IsFront G (take at xs) records
+    pub seen : List ℕ
+    pub rest : List ℕ
+    pub parts : drop at xs ≡ seen ++ rest
+    pub left_is : left ≡ Some rest
+    pub wrong : (more : List ℕ) → G.wrong records (G.limit - at) (seen ++ more) k
+    pub only : (j : K) → G.wrong records (G.limit - at) (drop at xs) j → j ≡ k

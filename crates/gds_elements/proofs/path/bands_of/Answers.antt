@@ -10,16 +10,28 @@ returns-in-Ok-clause-allowed c = λ h e.
     let ps = points c.args.payload.now in
     let known : c.in-Some.half ≡ h = (let z : Some c.in-Some.half ≡ Some h = sym c.in-Some.is ∙ e in cc) in
     let at : c.deref.result.now ≡ ps = c.deref.ensures.value ∙ c.in_ok-points.ensures in
-    let o = subst (λ (qs : List Point). IsPath qs (record { half = c.in-Some.half; start = c.end_reach-reach.result; end = c.end_reach-reach.result })) at c.in-Ok.ensures.ok in
-    let q = subst (λ (n : ℕ). IsPath ps (record { half = c.in-Some.half; start = n; end = n })) c.end_reach-reach.ensures o in
-    subst (λ (n : ℕ). IsPath ps (record { half = n; start = reach_at c.args.square n; end = reach_at c.args.square n })) known q
+    let o =
+    subst (λ (qs : List Point). IsPath qs (record {
+      half = c.in-Some.half;
+      start = c.end_reach-reach.result;
+      end = c.end_reach-reach.result;
+    })) at c.in-Ok.ensures.ok in
+    let q = subst (λ (n : ℕ). IsPath ps (record { half = c.in-Some.half; start = n; end = n }))
+    c.end_reach-reach.ensures o in
+    subst (λ (n : ℕ). IsPath ps (record { half = n; start = reach_at c.args.square n; end = reach_at c.args.square n }))
+    known q
 
 pub returns-in-Err-Breach-clause-refused : goal.returns-in-Err-Breach-clause-refused
 returns-in-Err-Breach-clause-refused c =
     let ps = points c.args.payload.now in
     let at : c.deref.result.now ≡ ps = c.deref.ensures.value ∙ c.in_ok-points.ensures in
     let low = rw c.in-Err-Breach.field-0-is at c.in-Err-Breach.ensures.err in
-    let o = subst (λ (qs : List Point). IsLowestFault qs (record { half = c.in-Some.half; start = c.end_reach-reach.result; end = c.end_reach-reach.result }) c.in-Err-Breach.fault) at low in
-    let q = subst (λ (n : ℕ). IsLowestFault ps (record { half = c.in-Some.half; start = n; end = n }) c.in-Err-Breach.fault) c.end_reach-reach.ensures o in
-    let n : 2 ≤ length ps = omega (arith, c.if-len-lt-FEWEST_POINTS.false, c.len.ensures, ap length c.in_ok-points.ensures) in
+    let o =
+    subst (λ (qs : List Point). IsLowestFault qs
+    (record { half = c.in-Some.half; start = c.end_reach-reach.result; end = c.end_reach-reach.result })
+    c.in-Err-Breach.fault) at low in
+    let q = subst (λ (n : ℕ). IsLowestFault ps (record { half = c.in-Some.half; start = n; end = n })
+    c.in-Err-Breach.fault) c.end_reach-reach.ensures o in
+    let n : 2 ≤ length ps =
+    omega (arith, c.if-len-lt-FEWEST_POINTS.false, c.len.ensures, ap length c.in_ok-points.ensures) in
     rw c.breach-in-Err-Breach.ensures (n, c.in-Some.half, c.in-Some.is, q)

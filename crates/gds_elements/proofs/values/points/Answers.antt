@@ -7,5 +7,6 @@ loop-preserved c =
     let n = length c.args.payload.now / 8 in
     let e : n - c.loop.counter ≡ n - (c.loop.counter + 1) + 1 = omega arith in (
       omega (arith, c.loop.invariant.0, ap length c.split_at.ensures.back, length-drop 8 c.loop.rest.now),
-      rw (c.in_ok-push.ensures.items, c.point.ensures.value, c.split_at.ensures.front, c.split_at.ensures.back) (points_more _ _ _ _ _ e c.loop.invariant.1),
+      rw (c.in_ok-push.ensures.items, c.point.ensures.value, c.split_at.ensures.front, c.split_at.ensures.back)
+          (points_more _ _ _ _ _ e c.loop.invariant.1),
     )

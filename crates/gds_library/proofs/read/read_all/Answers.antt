@@ -23,7 +23,8 @@ pub loop-init : goal.loop-init
 loop-init g c = (
   c.requires.fresh,
   λ z. (let y : Header ≡ Fill = sym c.new-reading.ensures.place ∙ z in cc),
-  λ xs k. subst (λ i. ReadTo gds xs i (HasRead c.new-reading.result) (bytes_left g.R.Read.remaining c.args.records.now)) (sym c.requires.start) (reads_begin gds xs (HasRead c.new-reading.result) _ k c.new-reading.ensures.none),
+  λ xs k. subst (λ i. ReadTo gds xs i (HasRead c.new-reading.result) (bytes_left g.R.Read.remaining c.args.records.now))
+      (sym c.requires.start) (reads_begin gds xs (HasRead c.new-reading.result) _ k c.new-reading.ensures.none),
   omega arith,
   refl,
   refl,
@@ -37,25 +38,36 @@ returns-in-Err-Breach-clause-refused g c = λ xs k.
     let at = records_offset c.loop.records in
     let new = c.next.follows.lender-at-none in
     let is : c.next.result ≡ Ok (Some c.in-Ok-Some.record) = c.in-Ok-Some.is ∙ ap Ok c.in-Ok-Some.field-0-is in
-    let sp = next_said (λ (r : Answered). IsSpelledAt (room_left c.loop.records) (drop at xs) r.kind r.payload.now) c.next.result c.in-Ok-Some.record is (c.next.ensures.spelled c.loop.invariant.0 (drop at xs) to.left_is) in
-    let p = next_took g.R.Read.remaining g.R.Read.read_errors g.R.Read.lent c.loop.records new c.next.result c.in-Ok-Some.record is c.next.follows.holds-at-none in
-    refuses_by xs _ _ _ at c.in-Err-Breach.kind (rw c.in-Err-Breach.field-0-is at c.refuse.ensures) c.offset-offset.ensures
-    (reads_refused xs at c.loop.reading _ _ _ _ (bytes_in_hand new) c.in-Err-Breach.kind to c.loop.invariant.1 sp (λ d. rw c.in-Err-Breach.field-0-is at (c.in-Err-Breach.ensures to.records d to.holds)) (p.left (drop at xs) to.left_is))
+    let sp = next_said (λ (r : Answered). IsSpelledAt (room_left c.loop.records) (drop at xs) r.kind r.payload.now)
+    c.next.result c.in-Ok-Some.record is (c.next.ensures.spelled c.loop.invariant.0 (drop at xs) to.left_is) in
+    let p = next_took g.R.Read.remaining g.R.Read.read_errors g.R.Read.lent c.loop.records new c.next.result
+    c.in-Ok-Some.record is c.next.follows.holds-at-none in
+    refuses_by xs _ _ _ at c.in-Err-Breach.kind (rw c.in-Err-Breach.field-0-is at c.refuse.ensures)
+    c.offset-offset.ensures
+    (reads_refused xs at c.loop.reading _ _ _ _ (bytes_in_hand new) c.in-Err-Breach.kind to c.loop.invariant.1 sp
+    (λ d. rw c.in-Err-Breach.field-0-is at (c.in-Err-Breach.ensures to.records d to.holds))
+    (p.left (drop at xs) to.left_is))
 
 pub returns-in-Err-Breach-clause-reads : goal.returns-in-Err-Breach-clause-reads
 returns-in-Err-Breach-clause-reads g c =
-    let breach : Breaches c.loop.invariant.6 (record_of c.in-Ok-Some.record.kind 0 c.in-Ok-Some.record.payload.now) c.in-Err-Breach.kind = (rw c.in-Err-Breach.field-0-is at (c.in-Err-Breach.ensures c.loop.invariant.6 0 c.loop.invariant.7)).0 in
+    let breach : Breaches c.loop.invariant.6 (record_of c.in-Ok-Some.record.kind 0 c.in-Ok-Some.record.payload.now)
+    c.in-Err-Breach.kind =
+    (rw c.in-Err-Breach.field-0-is at (c.in-Err-Breach.ensures c.loop.invariant.6 0 c.loop.invariant.7)).0 in
     let is : c.next.result ≡ Ok (Some c.in-Ok-Some.record) = c.in-Ok-Some.is ∙ ap Ok c.in-Ok-Some.field-0-is in
-    let p = next_took g.R.Read.remaining g.R.Read.read_errors g.R.Read.lent c.loop.records c.next.follows.lender-at-none c.next.result c.in-Ok-Some.record is c.next.follows.holds-at-none in
-    rw (c.refuse.ensures, c.in-Err-Breach.field-0-is, breach_no_read c.loop.invariant.6 _ c.in-Err-Breach.kind breach) (p.counted ∙ c.loop.invariant.4)
+    let p = next_took g.R.Read.remaining g.R.Read.read_errors g.R.Read.lent c.loop.records c.next.follows.lender-at-none
+    c.next.result c.in-Ok-Some.record is c.next.follows.holds-at-none in
+    rw (c.refuse.ensures, c.in-Err-Breach.field-0-is, breach_no_read c.loop.invariant.6 _ c.in-Err-Breach.kind breach)
+    (p.counted ∙ c.loop.invariant.4)
 
 pub returns-in-Ok-None-clause-refused : goal.returns-in-Ok-None-clause-refused
 returns-in-Ok-None-clause-refused g c = λ xs k.
     let to = c.loop.invariant.2 xs k in
     let at = records_offset c.loop.records in
     let is : c.next.result ≡ Ok None = c.in-Ok-None.is ∙ ap Ok c.in-Ok-None.field-0-is in
-    let none : drop at xs ≡ [] = next_ended (drop at xs ≡ []) c.next.result is (c.next.ensures.ended c.loop.invariant.0 (drop at xs) to.left_is) in
-    refuses_by xs _ _ _ at (Record Truncated) c.refuse-in-Ok-None.ensures c.offset-offset.ensures (reads_cut xs at c.loop.reading _ to c.loop.invariant.1 (inl (omega (arith, ap length none))))
+    let none : drop at xs ≡ [] = next_ended (drop at xs ≡ []) c.next.result is
+    (c.next.ensures.ended c.loop.invariant.0 (drop at xs) to.left_is) in
+    refuses_by xs _ _ _ at (Record Truncated) c.refuse-in-Ok-None.ensures c.offset-offset.ensures
+    (reads_cut xs at c.loop.reading _ to c.loop.invariant.1 (inl (omega (arith, ap length none))))
 
 pub returns-in-Err-Fault-clause-refused : goal.returns-in-Err-Fault-clause-refused
 returns-in-Err-Fault-clause-refused g c = λ xs k.
@@ -64,13 +76,16 @@ returns-in-Err-Fault-clause-refused g c = λ xs k.
     let new = c.next.follows.lender-at-none in
     let f = c.in-Err-Fault.fault in
     let is : c.next.result ≡ Err (Fault f) = c.in-Err-Fault.is ∙ ap Err c.in-Err-Fault.field-0-is in
-    let p = next_stopped g.R.Read.remaining g.R.Read.read_errors g.R.Read.lent c.loop.records new c.next.result (Fault f) is c.next.follows.holds-at-none in
+    let p = next_stopped g.R.Read.remaining g.R.Read.read_errors g.R.Read.lent c.loop.records new c.next.result
+    (Fault f) is c.next.follows.holds-at-none in
     let seen = next_seen c.loop.records new c.next.result f is c.next.follows.holds-at-none.1 in
     let room : room_left new ≡ file_limit - at = ap (λ i. file_limit - i) (p.offset ∙ add-zero at) in
-    refuses_by xs _ _ _ at (Record f) (rw c.in-Err-Fault.field-0-is at c.refuse-in-Err-Fault.ensures) c.offset-offset.ensures
+    refuses_by xs _ _ _ at (Record f) (rw c.in-Err-Fault.field-0-is at c.refuse-in-Err-Fault.ensures)
+    c.offset-offset.ensures
     (reads_fault xs at c.loop.reading _ _ (bytes_in_hand new) f to c.loop.invariant.1
     (λ t r more. subst (λ i. step i (bytes_in_hand new ++ more) ≡ Err f) room (seen t r more))
-    (λ e. (c.next.ensures.truncated c.loop.invariant.0 (drop at xs) to.left_is (is ∙ ap (λ (i : RecordFault). Err (Fault i)) e)).1.1)
+    (λ e. (c.next.ensures.truncated c.loop.invariant.0 (drop at xs) to.left_is
+    (is ∙ ap (λ (i : RecordFault). Err (Fault i)) e)).1.1)
     (p.left (drop at xs) to.left_is))
 
 pub loop-preserved : goal.loop-preserved
@@ -78,14 +93,18 @@ loop-preserved g c =
     let at = records_offset c.loop.records in
     let new = c.next.follows.lender-at-none in
     let is : c.next.result ≡ Ok (Some c.in-Ok-Some.record) = c.in-Ok-Some.is ∙ ap Ok c.in-Ok-Some.field-0-is in
-    let p = next_took g.R.Read.remaining g.R.Read.read_errors g.R.Read.lent c.loop.records new c.next.result c.in-Ok-Some.record is c.next.follows.holds-at-none in (
+    let p = next_took g.R.Read.remaining g.R.Read.read_errors g.R.Read.lent c.loop.records new c.next.result
+    c.in-Ok-Some.record is c.next.follows.holds-at-none in (
       p.failed,
       λ z. (let t : c.is_whole.result ≡ true = c.is_whole.ensures.1 z in cc),
       λ xs k.
           let to = c.loop.invariant.2 xs k in
-          let sp = next_said (λ (r : Answered). IsSpelledAt (room_left c.loop.records) (drop at xs) r.kind r.payload.now) c.next.result c.in-Ok-Some.record is (c.next.ensures.spelled c.loop.invariant.0 (drop at xs) to.left_is) in
+          let sp = next_said (λ (r : Answered). IsSpelledAt (room_left c.loop.records) (drop at xs) r.kind
+          r.payload.now) c.next.result c.in-Ok-Some.record is
+          (c.next.ensures.spelled c.loop.invariant.0 (drop at xs) to.left_is) in
           subst (λ i. ReadTo gds xs i (HasRead c.in-Ok.next) (bytes_left g.R.Read.remaining new)) (sym p.offset)
-          (reads_record xs at c.loop.reading c.in-Ok.next _ (bytes_left g.R.Read.remaining new) _ _ to sp (λ d. c.in-Ok.ensures to.records d to.holds) (p.left (drop at xs) to.left_is)),
+          (reads_record xs at c.loop.reading c.in-Ok.next _ (bytes_left g.R.Read.remaining new) _ _ to sp
+          (λ d. c.in-Ok.ensures to.records d to.holds) (p.left (drop at xs) to.left_is)),
       omega (arith, p.offset, c.loop.invariant.3),
       p.counted ∙ c.loop.invariant.4,
       p.same ∙ c.loop.invariant.5,
@@ -100,9 +119,12 @@ returns-then-is_whole-clause-whole g c = (
       let at = records_offset c.loop.records in
       let new = c.next.follows.lender-at-none in
       let is : c.next.result ≡ Ok (Some c.in-Ok-Some.record) = c.in-Ok-Some.is ∙ ap Ok c.in-Ok-Some.field-0-is in
-      let p = next_took g.R.Read.remaining g.R.Read.read_errors g.R.Read.lent c.loop.records new c.next.result c.in-Ok-Some.record is c.next.follows.holds-at-none in
+      let p = next_took g.R.Read.remaining g.R.Read.read_errors g.R.Read.lent c.loop.records new c.next.result
+      c.in-Ok-Some.record is c.next.follows.holds-at-none in
       let to = c.loop.invariant.2 xs k in
-      let sp = next_said (λ (r : Answered). IsSpelledAt (room_left c.loop.records) (drop at xs) r.kind r.payload.now) c.next.result c.in-Ok-Some.record is (c.next.ensures.spelled c.loop.invariant.0 (drop at xs) to.left_is) in
+      let sp = next_said (λ (r : Answered). IsSpelledAt (room_left c.loop.records) (drop at xs) r.kind r.payload.now)
+      c.next.result c.in-Ok-Some.record is (c.next.ensures.spelled c.loop.invariant.0 (drop at xs) to.left_is) in
       subst (λ i. ReadTo gds xs i (HasRead c.in-Ok.next) (bytes_left g.R.Read.remaining new)) (sym p.offset)
-      (reads_record xs at c.loop.reading c.in-Ok.next _ (bytes_left g.R.Read.remaining new) _ _ to sp (λ d. c.in-Ok.ensures to.records d to.holds) (p.left (drop at xs) to.left_is)),
+      (reads_record xs at c.loop.reading c.in-Ok.next _ (bytes_left g.R.Read.remaining new) _ _ to sp
+      (λ d. c.in-Ok.ensures to.records d to.holds) (p.left (drop at xs) to.left_is)),
 )

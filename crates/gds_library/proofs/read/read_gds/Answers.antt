@@ -4,12 +4,18 @@ use Rattle.gds_library.proofs.read.read_gds.Goals as goal
 
 pub returns-clause-refused : goal.returns-clause-refused
 returns-clause-refused g c =
-    λ xs k. refused_tells xs _ c.read_library-read.result (c.read_library-read.ensures.refused xs (none_in_hand _ _ _ c.with_buffer-records.ensures.bytes c.in_ok-buffer.ensures ∙ k))
+    λ xs k. refused_tells xs _ c.read_library-read.result
+    (c.read_library-read.ensures.refused xs (none_in_hand _ _ _ c.with_buffer-records.ensures.bytes
+    c.in_ok-buffer.ensures ∙ k))
 
 pub returns-clause-none : goal.returns-clause-none
 returns-clause-none g c =
-    λ xs k. refused_none xs _ c.read_library-read.result (c.read_library-read.ensures.refused xs (none_in_hand _ _ _ c.with_buffer-records.ensures.bytes c.in_ok-buffer.ensures ∙ k))
+    λ xs k. refused_none xs _ c.read_library-read.result
+    (c.read_library-read.ensures.refused xs (none_in_hand _ _ _ c.with_buffer-records.ensures.bytes
+    c.in_ok-buffer.ensures ∙ k))
 
 pub returns-clause-early : goal.returns-clause-early
 returns-clause-early g c = λ xs k.
-    early_left xs _ _ c.read_library-read.result (c.read_library-read.ensures.refused xs (none_in_hand _ _ _ c.with_buffer-records.ensures.bytes c.in_ok-buffer.ensures ∙ k)) (search rules)
+    early_left xs _ _ c.read_library-read.result
+    (c.read_library-read.ensures.refused xs (none_in_hand _ _ _ c.with_buffer-records.ensures.bytes
+    c.in_ok-buffer.ensures ∙ k)) (search rules)

@@ -9,7 +9,8 @@ use Rattle.gds_library.proofs.reading.take_outside.Goals.{then-may_open+in_defau
 pub returns-in-Some : goal.returns-in-Some
 returns-in-Some c = λ rs d h.
     let r = record_of c.args.kind d c.args.payload.now in
-    law_opens c.args.builder c.in-Some.element rs r h (c.may_open.ensures.0 c.if-may_open.true) (c.in-Some.ensures.opened r refl)
+    law_opens c.args.builder c.in-Some.element rs r h (c.may_open.ensures.0 c.if-may_open.true)
+    (c.in-Some.ensures.opened r refl)
 
 pub returns-in_err-take : goal.returns-in_err-take
 returns-in_err-take c = λ rs d h.
@@ -19,12 +20,14 @@ returns-in_err-take c = λ rs d h.
       | then-may_open+in_default w ↦ λ p. w.in_default.ensures.none
       | else-may_open w ↦ λ p. (let t : true ≡ false = sym (c.may_open.ensures.1 p) ∙ w.if-may_open.false in cc)
     ] in
-    takes_refused rs r c.from_residual.result e c.from_residual.ensures (says_fault c.args.builder rs r e h o c.requires.formed.known c.in_err-take.ensures.refused)
+    takes_refused rs r c.from_residual.result e c.from_residual.ensures
+    (says_fault c.args.builder rs r e h o c.requires.formed.known c.in_err-take.ensures.refused)
 
 pub returns : goal.returns
 returns c = λ rs d h.
     let r = record_of c.args.kind d c.args.payload.now in
     let e = c.in_ok-take.ensures in
-    let head : KeepsHead c.args.builder c.take.new.self c.args.kind c.args.payload.now = record { version = e.version; units = e.units } in
+    let head : KeepsHead c.args.builder c.take.new.self c.args.kind c.args.payload.now =
+    record { version = e.version; units = e.units } in
     let next = law_holds c.args.builder c.take.new.self rs r h e.place e.shown head in
     (next, law_allowed c.args.builder c.take.new.self rs r h next c.requires.formed.known e.place e.allowed)

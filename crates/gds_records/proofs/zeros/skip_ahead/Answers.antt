@@ -10,11 +10,13 @@ skip-requires c = omega (arith, prefix_len-le-length (λ b. b == 0) c.ahead.resu
 
 pub returns-clause-zeros : goal.returns-clause-zeros
 returns-clause-zeros c =
-    let few = zeros_front c.min-n.result c.args.ahead.now (omega (arith, ap (prefix_len (λ b. b == 0)) c.ahead.ensures.value)) in
+    let few = zeros_front c.min-n.result c.args.ahead.now
+    (omega (arith, ap (prefix_len (λ b. b == 0)) c.ahead.ensures.value)) in
     cc
 
 pub returns-clause-all : goal.returns-clause-all
 returns-clause-all c = λ less.
-    let all : c.min-n.result ≡ prefix_len (λ b. b == 0) c.args.ahead.now = omega (arith, ap (prefix_len (λ b. b == 0)) c.ahead.ensures.value) in
+    let all : c.min-n.result ≡ prefix_len (λ b. b == 0) c.args.ahead.now =
+    omega (arith, ap (prefix_len (λ b. b == 0)) c.ahead.ensures.value) in
     let left : drop (prefix_len (λ b. b == 0) c.args.ahead.now) c.args.ahead.now ≡ c.skip.new.self = cc in
     subst IsNoZeroFirst left (zeros_stop c.args.ahead.now)

@@ -11,7 +11,8 @@ pub returns-then-taken-room-clause-zeros : goal.returns-then-taken-room-clause-z
 returns-then-taken-room-clause-zeros g c =
     let read = takes_read c.zeros.taken _ _ _ c.zeros.invariant.0 c.fill.ensures.bytes in
     let more = takes_more c.zeros.taken c.skip_ahead-taken.result _ _ _ _ read c.skip_ahead-taken.ensures.zeros in
-    takes_another _ _ _ _ c.skip_ahead-taken.new.ahead more (omega arith) (omega arith) (c.skip_ahead-taken.ensures.all (omega arith))
+    takes_another _ _ _ _ c.skip_ahead-taken.new.ahead more (omega arith) (omega arith)
+    (c.skip_ahead-taken.ensures.all (omega arith))
 
 pub returns-else-taken-room-clause-zeros : goal.returns-else-taken-room-clause-zeros
 returns-else-taken-room-clause-zeros g c =

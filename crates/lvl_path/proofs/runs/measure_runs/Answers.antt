@@ -28,5 +28,7 @@ loop-to-preserved c =
       few = omega (arith, kept.few);
       count = rw (more, length-append) (ap (λ n. n + 1) kept.count);
       short = rw more
-          (either_any (λ run. run_length c.args.points.now run < c.args.half) (runs_to c.args.points.now c.loop-to.to) (c.loop-to.from, c.loop-to.to) c.loop-to.measured.some_short c.is_short.result kept.short c.is_short.ensures);
+          (either_any (λ run. run_length c.args.points.now run < c.args.half) (runs_to c.args.points.now c.loop-to.to)
+          (c.loop-to.from, c.loop-to.to) c.loop-to.measured.some_short c.is_short.result kept.short
+          c.is_short.ensures);
     }

@@ -7,7 +7,11 @@ pub loop-ring-init : goal.loop-ring-init
 loop-ring-init c = places_none _ _ c.args.rings.now
 
 pub loop-ring-preserved : goal.loop-ring-preserved
-loop-ring-preserved c = places_step _ _ _ c.args.rings.now _ c.ring-item.result c.loop-ring-test.true c.loop-ring.invariant (rw c.points.ensures.all at c.in_ok-push_places.ensures) c.ring-item.is
+loop-ring-preserved c =
+    places_step _ _ _ c.args.rings.now _ c.ring-item.result c.loop-ring-test.true c.loop-ring.invariant
+    (rw c.points.ensures.all at c.in_ok-push_places.ensures) c.ring-item.is
 
 pub returns : goal.returns
-returns c = lines_done _ _ c.sort_unstable.new.self.items _ c.args.rings.now _ c.loop-ring-test.false c.loop-ring.invariant c.sort_unstable.ensures.permutation c.sort_unstable.ensures.sorted (dedup_is int_eq _ _ c.dedup.ensures.filtered)
+returns c =
+    lines_done _ _ c.sort_unstable.new.self.items _ c.args.rings.now _ c.loop-ring-test.false c.loop-ring.invariant
+    c.sort_unstable.ensures.permutation c.sort_unstable.ensures.sorted (dedup_is int_eq _ _ c.dedup.ensures.filtered)

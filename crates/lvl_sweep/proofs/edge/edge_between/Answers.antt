@@ -16,7 +16,8 @@ returns-then-from-to-clause-falling c =
     let y : FitsSigned w64 c.args.from.y = search rules in
     let z : FitsSigned w64 c.args.to.y = search rules in
     let lt : c.args.from.y <ℤ c.args.to.y = grind (arith, ints) in
-    λ r s. rw (to_z-of_z w64 _ x, to_z-of_z w64 _ y, to_z-of_z w64 _ z) (up_falls c.args.from c.args.to c.args.ring r s lt)
+    λ r s. rw (to_z-of_z w64 _ x, to_z-of_z w64 _ y, to_z-of_z w64 _ z) (up_falls c.args.from c.args.to c.args.ring r s
+    lt)
 
 pub returns-then-to-from-clause-rising : goal.returns-then-to-from-clause-rising
 returns-then-to-from-clause-rising c =
@@ -24,11 +25,13 @@ returns-then-to-from-clause-rising c =
     let y : FitsSigned w64 c.args.from.y = search rules in
     let z : FitsSigned w64 c.args.to.y = search rules in
     let lt : c.args.to.y <ℤ c.args.from.y = grind (arith, ints) in
-    λ r s. rw (to_z-of_z w64 _ x, to_z-of_z w64 _ y, to_z-of_z w64 _ z) (down_rises c.args.from c.args.to c.args.ring r s lt)
+    λ r s. rw (to_z-of_z w64 _ x, to_z-of_z w64 _ y, to_z-of_z w64 _ z) (down_rises c.args.from c.args.to c.args.ring r
+    s lt)
 
 pub returns-then-to-from-clause-falling : goal.returns-then-to-from-clause-falling
 returns-then-to-from-clause-falling c =
     let x : FitsSigned w64 c.args.from.x = search rules in
     let y : FitsSigned w64 c.args.from.y = search rules in
     let z : FitsSigned w64 c.args.to.y = search rules in
-    λ r s. rw (to_z-of_z w64 _ x, to_z-of_z w64 _ y, to_z-of_z w64 _ z) (down_falls c.args.from c.args.to c.args.ring r s)
+    λ r s. rw (to_z-of_z w64 _ x, to_z-of_z w64 _ y, to_z-of_z w64 _ z) (down_falls c.args.from c.args.to c.args.ring r
+    s)

@@ -6,7 +6,8 @@ use Rattle.lvl_sweep.proofs.edge.edges_of.Goals as goal
 
 pub loop-number-preserved : goal.loop-number-preserved
 loop-number-preserved g c =
-    one_gathered (g.R.RingList.rings c.args.rings.now) c.ring.result.now c.loop-number.number _ _ (omega (arith, c.loop-number-test.true, c.len-number-end.ensures))
+    one_gathered (g.R.RingList.rings c.args.rings.now) c.ring.result.now c.loop-number.number _ _
+    (omega (arith, c.loop-number-test.true, c.len-number-end.ensures))
     c.ring.ensures.value
     c.loop-number.invariant
     c.in_ok-push_edges.ensures.rising
@@ -15,7 +16,11 @@ loop-number-preserved g c =
     c.in_ok-push_edges.ensures.full
 
 pub returns-clause-edges : goal.returns-clause-edges
-returns-clause-edges g c = all_gathered _ c.loop-number.number _ _ (omega (arith, c.loop-number-test.false, c.len-number-end.ensures)) c.loop-number.invariant c.sort_unstable_by_key.ensures.permutation
+returns-clause-edges g c =
+    all_gathered _ c.loop-number.number _ _ (omega (arith, c.loop-number-test.false, c.len-number-end.ensures))
+    c.loop-number.invariant c.sort_unstable_by_key.ensures.permutation
 
 pub returns-clause-order : goal.returns-clause-order
-returns-clause-order g c = in_order _ (c.sort_unstable_by_key.ensures.sorted (λ e. (e.low, e.x)) (answers_always _ _ _ (λ f a r g h. search rules)))
+returns-clause-order g c =
+    in_order _ (c.sort_unstable_by_key.ensures.sorted (λ e. (e.low, e.x))
+    (answers_always _ _ _ (λ f a r g h. search rules)))

@@ -16,8 +16,12 @@ loop-point-init c = record {
 
 pub loop-point-preserved : goal.loop-point-preserved
 loop-point-preserved c = record {
-  rising = λ r s. edges_step (rises r s) (goes_up s) c.loop-point.edges.items c.push_edge.new.edges.items c.loop-point.previous c.args.points.now c.loop-point.point-index origin (eqb c.args.ring r) _ c.loop-point-test.true (c.in_ok-push_edge.ensures.rising r s) (c.loop-point.invariant.rising r s);
-  falling = λ r s. edges_step (falls r s) (goes_down s) c.loop-point.edges.items c.push_edge.new.edges.items c.loop-point.previous c.args.points.now c.loop-point.point-index origin (eqb c.args.ring r) _ c.loop-point-test.true (c.in_ok-push_edge.ensures.falling r s) (c.loop-point.invariant.falling r s);
+  rising = λ r s. edges_step (rises r s) (goes_up s) c.loop-point.edges.items c.push_edge.new.edges.items
+      c.loop-point.previous c.args.points.now c.loop-point.point-index origin (eqb c.args.ring r) _
+      c.loop-point-test.true (c.in_ok-push_edge.ensures.rising r s) (c.loop-point.invariant.rising r s);
+  falling = λ r s. edges_step (falls r s) (goes_down s) c.loop-point.edges.items c.push_edge.new.edges.items
+      c.loop-point.previous c.args.points.now c.loop-point.point-index origin (eqb c.args.ring r) _
+      c.loop-point-test.true (c.in_ok-push_edge.ensures.falling r s) (c.loop-point.invariant.falling r s);
   numbers = λ n lt h. c.in_ok-push_edge.ensures.numbers n lt (c.loop-point.invariant.numbers n lt h);
   full = λ h. c.in_ok-push_edge.ensures.full (c.loop-point.invariant.full h);
 }

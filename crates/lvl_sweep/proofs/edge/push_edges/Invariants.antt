@@ -7,8 +7,12 @@ use Rattle.lvl_sweep.proofs.edge.push_edges.Given as goal
 -- the edges put and those that are left are all
 abbrev pub invariant-loop-point : goal.invariant-loop-point
 invariant-loop-point l = record {
-  rising : (r : ℕ) (s : Square) → count_by (rises r s) l.edges.items + cond (l.ring == r) (count_by (goes_up s) (path_edges l.previous (drop l.point-index l.points))) 0 ≡ count_by (rises r s) l.fn.edges.items + cond (l.ring == r) (count_by (goes_up s) (edges l.points)) 0;
-  falling : (r : ℕ) (s : Square) → count_by (falls r s) l.edges.items + cond (l.ring == r) (count_by (goes_down s) (path_edges l.previous (drop l.point-index l.points))) 0 ≡ count_by (falls r s) l.fn.edges.items + cond (l.ring == r) (count_by (goes_down s) (edges l.points)) 0;
+  rising : (r : ℕ) (s : Square) → count_by (rises r s) l.edges.items + cond (l.ring == r)
+      (count_by (goes_up s) (path_edges l.previous (drop l.point-index l.points))) 0 ≡ count_by (rises r s)
+      l.fn.edges.items + cond (l.ring == r) (count_by (goes_up s) (edges l.points)) 0;
+  falling : (r : ℕ) (s : Square) → count_by (falls r s) l.edges.items + cond (l.ring == r)
+      (count_by (goes_down s) (path_edges l.previous (drop l.point-index l.points))) 0 ≡ count_by (falls r s)
+      l.fn.edges.items + cond (l.ring == r) (count_by (goes_down s) (edges l.points)) 0;
   numbers : (n : ℕ) → l.ring < n → All (λ e. e.ring < n) l.fn.edges.items → All (λ e. e.ring < n) l.edges.items;
   full : All (λ e. e.low <ℤ e.high) l.fn.edges.items → All (λ e. e.low <ℤ e.high) l.edges.items;
 }

@@ -4,7 +4,8 @@ use Rattle.lvl_sweep.specs.Slab.{slab_covers}
 use Rattle.lvl_sweep.specs.Bands.{slab_of}
 use Rattle.lvl_sweep.proofs.slab_region.cover.Goals as goal
 
-list_any-map : {A B : Type 0} (p : B → Bool) (f : A → B) (xs : List A) → list_any p (map f xs) ≡ list_any (λ x. p (f x)) xs
+list_any-map : {A B : Type 0} (p : B → Bool) (f : A → B) (xs : List A)
+    → list_any p (map f xs) ≡ list_any (λ x. p (f x)) xs
 list_any-map p f [] = refl
 list_any-map p f (x ∷ xs) = ap (λ r. p (f x) || r) (list_any-map p f xs)
 

@@ -15,4 +15,5 @@ loop-interval-init c = record {
 }
 
 pub returns-clause-rest : goal.returns-clause-rest
-returns-clause-rest c = ended c.args.active.now _ c.requires.row.balanced (rw c.in_default.ensures.all at c.in_default.ensures.passed)
+returns-clause-rest c =
+    ended c.args.active.now _ c.requires.row.balanced (rw c.in_default.ensures.all at c.in_default.ensures.passed)

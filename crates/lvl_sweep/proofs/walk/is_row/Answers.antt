@@ -20,8 +20,11 @@ loop-interval-preserved c = record {
   rings = c.in-Some.ensures.rings ∙ c.loop-interval.invariant.rings;
   outside = c.in-Some.ensures.outside;
   within = omega (arith, c.loop-interval.invariant.within);
-  row = one_seen _ c.args.intervals.now _ _ c.loop-interval.seen _ (pos 0, pos 0) (omega (arith, c.loop-interval.invariant.within)) c.loop-interval.invariant.row c.in-Some.ensures.first (same_pair _ _ _ c.ne.ensures c.if-ne.false);
+  row = one_seen _ c.args.intervals.now _ _ c.loop-interval.seen _ (pos 0, pos 0)
+      (omega (arith, c.loop-interval.invariant.within)) c.loop-interval.invariant.row c.in-Some.ensures.first
+      (same_pair _ _ _ c.ne.ensures c.if-ne.false);
 }
 
 pub returns-clause-rest : goal.returns-clause-rest
-returns-clause-rest c = ended c.args.active.now _ c.requires.row.balanced (rw c.in_default.ensures.all at c.in_default.ensures.passed)
+returns-clause-rest c =
+    ended c.args.active.now _ c.requires.row.balanced (rw c.in_default.ensures.all at c.in_default.ensures.passed)

@@ -15,12 +15,21 @@ returns-then-windings-wanted-clause-parted c =
 pub returns-then-windings-wanted-clause-turned : goal.returns-then-windings-wanted-clause-turned
 returns-then-windings-wanted-clause-turned c =
     let fits : FitsSigned w64 (get_or c.args.active.now c.loop-place.place.at nothing).x = search rules in
-    rw (to_z-of_z w64 _ fits) (turned c.args.active.now c.args.wanted c.args.place.now c.loop-place.place c.args.windings.now c.loop-place.windings c.pass_abscissa-at.new.windings c.pass_abscissa-at.result _ nothing c.requires.row c.requires.parted c.loop-place.invariant c.loop-place-test.true refl c.pass_abscissa-at.ensures.on (wanted_is _ _ c.if-windings-wanted.true))
+    rw (to_z-of_z w64 _ fits) (turned c.args.active.now c.args.wanted c.args.place.now c.loop-place.place
+    c.args.windings.now c.loop-place.windings c.pass_abscissa-at.new.windings c.pass_abscissa-at.result _ nothing
+    c.requires.row c.requires.parted c.loop-place.invariant c.loop-place-test.true refl
+    c.pass_abscissa-at.ensures.on (wanted_is _ _ c.if-windings-wanted.true))
 
 pub loop-place-preserved : goal.loop-place-preserved
 loop-place-preserved c =
     let fits : FitsSigned w64 (get_or c.args.active.now c.loop-place.place.at nothing).x = search rules in
-    rw (to_z-of_z w64 _ fits) (look_more c.args.active.now c.args.wanted c.args.place.now c.loop-place.place c.args.windings.now c.loop-place.windings c.pass_abscissa-at.new.windings c.pass_abscissa-at.result _ nothing c.requires.row c.loop-place.invariant c.loop-place-test.true refl c.pass_abscissa-at.ensures.passed (c.pass_abscissa-at.ensures.parted nothing) c.pass_abscissa-at.ensures.on c.pass_abscissa-at.ensures.rings (wanted_is_not _ _ c.if-windings-wanted.false))
+    rw (to_z-of_z w64 _ fits) (look_more c.args.active.now c.args.wanted c.args.place.now c.loop-place.place
+    c.args.windings.now c.loop-place.windings c.pass_abscissa-at.new.windings c.pass_abscissa-at.result _ nothing
+    c.requires.row c.loop-place.invariant c.loop-place-test.true refl c.pass_abscissa-at.ensures.passed
+    (c.pass_abscissa-at.ensures.parted nothing) c.pass_abscissa-at.ensures.on c.pass_abscissa-at.ensures.rings
+    (wanted_is_not _ _ c.if-windings-wanted.false))
 
 pub returns-clause-never : goal.returns-clause-never
-returns-clause-never c = never c.args.active.now c.args.wanted c.args.place.now c.loop-place.place c.args.windings.now c.loop-place.windings c.requires.row c.loop-place.invariant c.loop-place-test.false
+returns-clause-never c =
+    never c.args.active.now c.args.wanted c.args.place.now c.loop-place.place c.args.windings.now c.loop-place.windings
+    c.requires.row c.loop-place.invariant c.loop-place-test.false

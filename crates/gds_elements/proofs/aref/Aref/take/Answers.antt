@@ -1,36 +1,48 @@
-use Rattle.std.proofs.Common.{◌≡◌, ◌∙◌, sym, ap, inr, arith}
+use Rattle.std.proofs.Common.{◌≡◌, ◌∙◌, ap, inr, arith, subst}
 use Rattle.gds_elements.specs.Types.{xy, colrow, endel}
 use Rattle.lvl_grammar.specs.Order.{one}
 use Rattle.gds_elements.specs.Values.{points}
+use Rattle.gds_elements.specs.inside.Left.{left_after, EndsBy}
 use Rattle.gds_elements.specs.inside.Reading.{record_of}
 use Rattle.gds_elements.specs.inside.Aref.{left, IsArrayFault}
 use Rattle.gds_elements.specs.declared.aref.Aref.{Aref}
 use Rattle.gds_elements.proofs.Taking.{takes_broken}
 use Rattle.gds_elements.specs.inside.Placing.{IsPlacingFault}
 use Rattle.gds_elements.specs.inside.Counts.{IsCountFault}
-use Rattle.gds_elements.proofs.Leads.{law_misplaced, leads_begins, left_behind, in_order}
+use Rattle.gds_elements.proofs.Leads.{law_misplaced, leads_begins, in_order}
 use Rattle.gds_elements.proofs.Allowed.{allowed, placing_fault, count_fault, law_aref, placing_at_points}
-use Rattle.gds_elements.proofs.Arefs.{aref_goes, aref_ends, by_table, goes_on, ends_by, steps_of, array_fault}
+use Rattle.gds_elements.proofs.Arefs.{aref_goes, aref_ends, steps_of, array_fault}
 use Rattle.gds_elements.proofs.aref.Aref.take.Goals as goal
 
 pub returns-in_ok-counts-in-Goes : goal.returns-in_ok-counts-in-Goes
 returns-in_ok-counts-in-Goes c = λ piece d h.
     let r = record_of c.args.kind d c.args.payload.now in
-    let a = sym c.after.ensures ∙ c.in-Goes.is in
+    let t = c.after.ensures.order ∙ ap (left_after left) c.in-Goes.is in
     let e = c.in_ok-placing-in-Goes.ensures in
-    let s' : Aref = record { place = c.in-Goes.place; placing = c.in_ok-placing-in-Goes.placing; counts = c.in_ok-counts-in-Goes.counts } in
-    let b = aref_goes c.args.self s' piece r h a e.name e.flip e.turn c.in_ok-counts-in-Goes.ensures.columns c.in_ok-counts-in-Goes.ensures.rows in
-    (b, allowed piece r (leads_begins _ (left c.in-Goes.place) b.leads) (law_aref piece r h.opened e.allowed c.in_ok-counts-in-Goes.ensures.allowed (λ x. absurd (goes_on c.args.self.place c.in-Goes.place c.args.kind a x))))
+    let s' : Aref = record {
+      place = c.in-Goes.place;
+      placing = c.in_ok-placing-in-Goes.placing;
+      counts = c.in_ok-counts-in-Goes.counts;
+    } in
+    let b = aref_goes c.args.self s' piece r h t e.name e.flip e.turn c.in_ok-counts-in-Goes.ensures.columns
+    c.in_ok-counts-in-Goes.ensures.rows in (
+      b,
+      allowed piece r (leads_begins _ (left c.in-Goes.place) b.leads)
+          (law_aref piece r h.opened e.allowed c.in_ok-counts-in-Goes.ensures.allowed
+          (λ x. absurd (subst (EndsBy xy c.args.kind) c.in-Goes.is c.after.ensures.last x))),
+    )
 
 pub returns-in_ok-reference-in-Ends : goal.returns-in_ok-reference-in-Ends
 returns-in_ok-reference-in-Ends c = λ piece d h.
     let r = record_of c.args.kind d c.args.payload.now in
-    let a = sym c.after.ensures ∙ c.in-Ends.is in
+    let t = c.after.ensures.order ∙ ap (left_after left) c.in-Ends.is in
+    let x : c.args.kind ≡ xy = subst (EndsBy xy c.args.kind) c.in-Ends.is c.after.ensures.last in
     let e = c.in_ok-reference-in-Ends.ensures in
-    let x : c.args.kind ≡ xy = ends_by c.args.self.place c.args.kind a in
-    let b = aref_ends c.args.self piece r c.in_ok-reference-in-Ends.reference h a e.value in (
+    let b = aref_ends c.args.self piece r c.in_ok-reference-in-Ends.reference h t x e.value in (
       b,
-      allowed piece r (leads_begins _ (one endel) b.leads) (law_aref piece r h.opened (placing_at_points c.args.kind c.args.payload.now x) (λ y. absurd (omega (arith, x, y)))
+      allowed piece r (leads_begins _ (one endel) b.leads)
+          (law_aref piece r h.opened (placing_at_points c.args.kind c.args.payload.now x)
+          (λ y. absurd (omega (arith, x, y)))
           (λ _. steps_of c.args.self piece (points c.args.payload.now) h e.allowed)),
     )
 
@@ -38,28 +50,34 @@ pub returns-in-Nowhere : goal.returns-in-Nowhere
 returns-in-Nowhere c = λ piece d h.
     let r = record_of c.args.kind d c.args.payload.now in
     law_misplaced piece r (left c.args.self.place) c.out_of_order.result h.leads
-    (by_table c.args.self.place c.args.kind ∙ ap (left_behind left) (sym c.after.ensures ∙ c.in-Nowhere.is)) c.requires.known c.out_of_order.ensures
+    (c.after.ensures.order ∙ ap (left_after left) c.in-Nowhere.is) c.requires.known c.out_of_order.ensures
 
 pub returns-in_err-placing-in-Goes : goal.returns-in_err-placing-in-Goes
 returns-in_err-placing-in-Goes c = λ piece d h.
     let r = record_of c.args.kind d c.args.payload.now in
-    let a = sym c.after.ensures ∙ c.in-Goes.is in
-    let g = in_order piece r (left c.args.self.place) (left c.in-Goes.place) h.leads (by_table c.args.self.place c.args.kind ∙ ap (left_behind left) a) in
-    takes_broken piece r c.from_residual.result c.in_err-placing-in-Goes.field-0.0 (IsPlacingFault c.args.kind c.args.payload.now) c.from_residual.ensures g
+    let t = c.after.ensures.order ∙ ap (left_after left) c.in-Goes.is in
+    let g = in_order piece r (left c.args.self.place) (left c.in-Goes.place) h.leads t in
+    takes_broken piece r c.from_residual.result c.in_err-placing-in-Goes.field-0.0
+    (IsPlacingFault c.args.kind c.args.payload.now) c.from_residual.ensures g
     (placing_fault piece r (inr h.opened)) c.in_err-placing-in-Goes.ensures.refused
 
 pub returns-in_err-counts-in-Goes : goal.returns-in_err-counts-in-Goes
 returns-in_err-counts-in-Goes c = λ piece d h.
     let r = record_of c.args.kind d c.args.payload.now in
-    let a = sym c.after.ensures ∙ c.in-Goes.is in
-    let g = in_order piece r (left c.args.self.place) (left c.in-Goes.place) h.leads (by_table c.args.self.place c.args.kind ∙ ap (left_behind left) a) in
-    takes_broken piece r c.from_residual-in_err-counts-in-Goes.result c.in_err-counts-in-Goes.field-0.0 (λ k. (c.args.kind ≡ colrow) × IsCountFault c.args.payload.now k) c.from_residual-in_err-counts-in-Goes.ensures g
+    let t = c.after.ensures.order ∙ ap (left_after left) c.in-Goes.is in
+    let g = in_order piece r (left c.args.self.place) (left c.in-Goes.place) h.leads t in
+    takes_broken piece r c.from_residual-in_err-counts-in-Goes.result c.in_err-counts-in-Goes.field-0.0
+    (λ k. (c.args.kind ≡ colrow) × IsCountFault c.args.payload.now k) c.from_residual-in_err-counts-in-Goes.ensures
+    g
     (count_fault piece r h.opened) c.in_err-counts-in-Goes.ensures.refused
 
 pub returns-in_err-reference-in-Ends : goal.returns-in_err-reference-in-Ends
 returns-in_err-reference-in-Ends c = λ piece d h.
     let r = record_of c.args.kind d c.args.payload.now in
-    let a = sym c.after.ensures ∙ c.in-Ends.is in
-    let g = in_order piece r (left c.args.self.place) (one endel) h.leads (by_table c.args.self.place c.args.kind ∙ ap (left_behind left) a) in
-    takes_broken piece r c.from_residual-in_err-reference-in-Ends.result c.in_err-reference-in-Ends.field-0.0 (IsArrayFault (points c.args.payload.now) c.args.self.counts.columns c.args.self.counts.rows) c.from_residual-in_err-reference-in-Ends.ensures g
-    (array_fault c.args.self piece r h (ends_by c.args.self.place c.args.kind a)) c.in_err-reference-in-Ends.ensures.refused
+    let t = c.after.ensures.order ∙ ap (left_after left) c.in-Ends.is in
+    let last = subst (EndsBy xy c.args.kind) c.in-Ends.is c.after.ensures.last in
+    let g = in_order piece r (left c.args.self.place) (one endel) h.leads t in
+    takes_broken piece r c.from_residual-in_err-reference-in-Ends.result c.in_err-reference-in-Ends.field-0.0
+    (IsArrayFault (points c.args.payload.now) c.args.self.counts.columns c.args.self.counts.rows)
+    c.from_residual-in_err-reference-in-Ends.ensures g
+    (array_fault c.args.self piece r h last) c.in_err-reference-in-Ends.ensures.refused

@@ -1,6 +1,7 @@
 use Rattle.std.proofs.Common.{◌≡◌, ◌≢◌, ◌∙◌, length, sym, ap, subst, inl, inr}
 use Rattle.gds_elements.specs.Types.{xy, endel}
 use Rattle.lvl_grammar.specs.Order.{one}
+use Rattle.gds_elements.specs.inside.Left.{left_after, EndsBy}
 use Rattle.gds_elements.specs.inside.Reading.{record_of}
 use Rattle.gds_elements.specs.inside.Sref.{left}
 use Rattle.gds_elements.specs.declared.sref.Sref.{Sref}
@@ -9,47 +10,59 @@ use Rattle.gds_elements.specs.Rules.{ValueBreaches}
 use Rattle.gds_elements.specs.Values.{points}
 use Rattle.gds_elements.proofs.Taking.{takes_broken}
 use Rattle.gds_elements.specs.inside.Placing.{IsPlacingFault}
-use Rattle.gds_elements.proofs.Leads.{law_misplaced, leads_begins, left_behind, in_order}
+use Rattle.gds_elements.proofs.Leads.{law_misplaced, leads_begins, in_order}
 use Rattle.gds_elements.proofs.Allowed.{allowed, placing_fault, law_sref, placing_at_points}
-use Rattle.gds_elements.proofs.Srefs.{sref_goes, sref_ends, by_table, goes_on, ends_by}
+use Rattle.gds_elements.proofs.Srefs.{sref_goes, sref_ends}
 use Rattle.gds_elements.proofs.sref.Sref.take.Goals as goal
 
 pub returns-in_ok-placing-in-Goes : goal.returns-in_ok-placing-in-Goes
 returns-in_ok-placing-in-Goes c = λ piece d h.
     let r = record_of c.args.kind d c.args.payload.now in
-    let a = sym c.after.ensures ∙ c.in-Goes.is in
+    let t = c.after.ensures.order ∙ ap (left_after left) c.in-Goes.is in
     let e = c.in_ok-placing-in-Goes.ensures in
     let s' : Sref = record { place = c.in-Goes.place; placing = c.in_ok-placing-in-Goes.placing } in
-    let b = sref_goes c.args.self s' piece r h a e.name e.flip e.turn in
-    (b, allowed piece r (leads_begins _ (left c.in-Goes.place) b.leads) (law_sref piece r h.opened e.allowed (λ x. absurd (goes_on c.args.self.place c.in-Goes.place c.args.kind a x))))
+    let b = sref_goes c.args.self s' piece r h t e.name e.flip e.turn in (
+      b,
+      allowed piece r (leads_begins _ (left c.in-Goes.place) b.leads)
+          (law_sref piece r h.opened e.allowed
+          (λ x. absurd (subst (EndsBy xy c.args.kind) c.in-Goes.is c.after.ensures.last x))),
+    )
 
 pub returns-in_ok-reference-in-Ends : goal.returns-in_ok-reference-in-Ends
 returns-in_ok-reference-in-Ends c = λ piece d h.
     let r = record_of c.args.kind d c.args.payload.now in
-    let a = sym c.after.ensures ∙ c.in-Ends.is in
+    let t = c.after.ensures.order ∙ ap (left_after left) c.in-Ends.is in
+    let x : c.args.kind ≡ xy = subst (EndsBy xy c.args.kind) c.in-Ends.is c.after.ensures.last in
     let e = c.in_ok-reference-in-Ends.ensures in
-    let x : c.args.kind ≡ xy = ends_by c.args.self.place c.args.kind a in
-    let b = sref_ends c.args.self piece r c.in_ok-reference-in-Ends.reference h a e.value in
-    (b, allowed piece r (leads_begins _ (one endel) b.leads) (law_sref piece r h.opened (placing_at_points c.args.kind c.args.payload.now x) (λ _. e.allowed)))
+    let b = sref_ends c.args.self piece r c.in_ok-reference-in-Ends.reference h t x e.value in (
+      b,
+      allowed piece r (leads_begins _ (one endel) b.leads)
+          (law_sref piece r h.opened (placing_at_points c.args.kind c.args.payload.now x) (λ _. e.allowed)),
+    )
 
 pub returns-in-Nowhere : goal.returns-in-Nowhere
 returns-in-Nowhere c = λ piece d h.
     let r = record_of c.args.kind d c.args.payload.now in
     law_misplaced piece r (left c.args.self.place) c.out_of_order.result h.leads
-    (by_table c.args.self.place c.args.kind ∙ ap (left_behind left) (sym c.after.ensures ∙ c.in-Nowhere.is)) c.requires.known c.out_of_order.ensures
+    (c.after.ensures.order ∙ ap (left_after left) c.in-Nowhere.is) c.requires.known c.out_of_order.ensures
 
 pub returns-in_err-placing-in-Goes : goal.returns-in_err-placing-in-Goes
 returns-in_err-placing-in-Goes c = λ piece d h.
     let r = record_of c.args.kind d c.args.payload.now in
-    let a = sym c.after.ensures ∙ c.in-Goes.is in
-    let g = in_order piece r (left c.args.self.place) (left c.in-Goes.place) h.leads (by_table c.args.self.place c.args.kind ∙ ap (left_behind left) a) in
-    takes_broken piece r c.from_residual.result c.in_err-placing-in-Goes.field-0.0 (IsPlacingFault c.args.kind c.args.payload.now) c.from_residual.ensures g
+    let t = c.after.ensures.order ∙ ap (left_after left) c.in-Goes.is in
+    let g = in_order piece r (left c.args.self.place) (left c.in-Goes.place) h.leads t in
+    takes_broken piece r c.from_residual.result c.in_err-placing-in-Goes.field-0.0
+    (IsPlacingFault c.args.kind c.args.payload.now) c.from_residual.ensures g
     (placing_fault piece r (inl h.opened)) c.in_err-placing-in-Goes.ensures.refused
 
 pub returns-in_err-reference-in-Ends : goal.returns-in_err-reference-in-Ends
 returns-in_err-reference-in-Ends c = λ piece d h.
     let r = record_of c.args.kind d c.args.payload.now in
-    let a = sym c.after.ensures ∙ c.in-Ends.is in
-    let g = in_order piece r (left c.args.self.place) (one endel) h.leads (by_table c.args.self.place c.args.kind ∙ ap (left_behind left) a) in
-    takes_broken piece r c.from_residual-in_err-reference-in-Ends.result c.in_err-reference-in-Ends.field-0.0 (λ k. (k ≡ Points) × (length (points c.args.payload.now) ≢ 1)) c.from_residual-in_err-reference-in-Ends.ensures g
-    (λ k b. subst (ValueBreaches piece r) (sym b.0) (ends_by c.args.self.place c.args.kind a, inr (inr (inr (inl h.opened, b.1))))) c.in_err-reference-in-Ends.ensures.refused
+    let t = c.after.ensures.order ∙ ap (left_after left) c.in-Ends.is in
+    let last = subst (EndsBy xy c.args.kind) c.in-Ends.is c.after.ensures.last in
+    let g = in_order piece r (left c.args.self.place) (one endel) h.leads t in
+    takes_broken piece r c.from_residual-in_err-reference-in-Ends.result c.in_err-reference-in-Ends.field-0.0
+    (λ k. (k ≡ Points) × (length (points c.args.payload.now) ≢ 1)) c.from_residual-in_err-reference-in-Ends.ensures
+    g
+    (λ k b. subst (ValueBreaches piece r) (sym b.0) (last, inr (inr (inr (inl h.opened, b.1)))))
+    c.in_err-reference-in-Ends.ensures.refused

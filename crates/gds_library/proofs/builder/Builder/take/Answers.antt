@@ -24,14 +24,28 @@ returns-clause-shown c =
     let a = sym c.after.ensures ∙ c.in-Some.is in
     let payload = c.args.payload.now in
     elim c.match-kind.branch [
-      | in-0 w ↦ by_kind _ header p q b b' payload w.in-0.is (λ e. shown_header p q b b' payload e (ap (λ (x : Builder). x.cells) w.self-is)) a
-      | in-3 w ↦ by_kind _ units p q b b' payload w.in-3.is (λ e. shown_units p q b b' payload e (ap (λ (x : Builder). x.cells) w.self-is)) a
-      | in-5+else-len-ge-MOST_CELLS w ↦ by_kind _ bgnstr p q b b' payload w.in-5.is (λ e. shown_bgnstr p q b b' payload e (ap (λ (x : Builder). x.cells) w.self-is)) a
-      | in-6+else-not-is_name+in_ok-from_slice-in-6 w ↦ by_kind _ strname p q b b' payload w.in-6.is (λ e. shown_strname p q b b' payload e (ap (λ (x : Builder). x.cells) w.self-is ∙ w.open.ensures
-          ∙ ap (λ (n : List ℕ). let x : Built = record { cells = b.cells.cells; current = record { name = n; shapes = []; references = [] } } in x) (w.in_ok-from_slice-in-6.ensures.items ∙ w.name-name.ensures))) a
-      | in-7+in_ok-close-in-7 w ↦ by_kind _ endstr p q b b' payload w.in-7.is (λ e. shown_endstr p q b b' payload e (ap (λ (x : Builder). x.cells.cells) w.self-is ∙ ap (λ (x : Built). x.cells) w.in_ok-close-in-7.ensures)) a
+      | in-0 w ↦ by_kind _ header p q b b' payload w.in-0.is
+          (λ e. shown_header p q b b' payload e (ap (λ (x : Builder). x.cells) w.self-is)) a
+      | in-3 w ↦ by_kind _ units p q b b' payload w.in-3.is
+          (λ e. shown_units p q b b' payload e (ap (λ (x : Builder). x.cells) w.self-is)) a
+      | in-5+else-len-ge-MOST_CELLS w ↦ by_kind _ bgnstr p q b b' payload w.in-5.is
+          (λ e. shown_bgnstr p q b b' payload e (ap (λ (x : Builder). x.cells) w.self-is)) a
+      | in-6+else-not-is_name+in_ok-from_slice-in-6 w ↦ by_kind _ strname p q b b' payload w.in-6.is
+          (λ e. shown_strname p q b b' payload e (ap (λ (x : Builder). x.cells) w.self-is ∙ w.open.ensures
+          ∙ ap (λ (n : List ℕ). let x : Built =
+          record { cells = b.cells.cells; current = record { name = n; shapes = []; references = [] } } in x)
+          (w.in_ok-from_slice-in-6.ensures.items ∙ w.name-name.ensures))) a
+      | in-7+in_ok-close-in-7 w ↦ by_kind _ endstr p q b b' payload w.in-7.is
+          (λ e. shown_endstr p q b b' payload e (ap (λ (x : Builder). x.cells.cells) w.self-is
+          ∙ ap (λ (x : Built). x.cells) w.in_ok-close-in-7.ensures)) a
       | in_default-kind w ↦ (
-          let z : IsOther c.args.kind = record { header = other _ _ (λ e. absurd (search rules)); bgnstr = other _ _ (λ e. absurd (search rules)); strname = other _ _ (λ e. absurd (search rules)); endstr = other _ _ (λ e. absurd (search rules)) } in
-          let same : shown_at q b' ≡ shown_at q b = ap (λ (x : Builder). shown_at q (record x { place = q })) w.self-is ∙ shown_place q q b in
+          let z : IsOther c.args.kind = record {
+            header = other _ _ (λ e. absurd (search rules));
+            bgnstr = other _ _ (λ e. absurd (search rules));
+            strname = other _ _ (λ e. absurd (search rules));
+            endstr = other _ _ (λ e. absurd (search rules));
+          } in
+          let same : shown_at q b' ≡ shown_at q b = ap (λ (x : Builder). shown_at q (record x { place = q })) w.self-is
+          ∙ shown_place q q b in
           same ∙ shown_other c.args.kind p q b payload z a)
     ]

@@ -7,7 +7,8 @@ use Rattle.gds_records.proofs.records.Records.tail.Goals as goal
 pub returns-in-Nothing-clause-too_long : goal.returns-in-Nothing-clause-too_long
 returns-in-Nothing-clause-too_long g c = λ f xs k p _.
     let known = ap (λ l. prepend_known l (g.R.Read.remaining c.args.self.now.reader)) c.skip.ensures ∙ k in
-    absurd (nothing_passes _ _ _ _ _ xs c.in-Nothing.is c.skip_zeros-zeros.ensures.zeros known c.skip_zeros-zeros.ensures.within p)
+    absurd (nothing_passes _ _ _ _ _ xs c.in-Nothing.is c.skip_zeros-zeros.ensures.zeros known
+    c.skip_zeros-zeros.ensures.within p)
 
 pub returns-in-Another-clause-too_long : goal.returns-in-Another-clause-too_long
 returns-in-Another-clause-too_long g c = λ f xs k p _.

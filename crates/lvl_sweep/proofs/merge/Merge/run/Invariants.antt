@@ -9,7 +9,8 @@ invariant-loop-self l = record {
   permutation : IsPermutation l.fn.edges l.edges;
   behind : IsSameFrom l.fn.edges l.edges l.fn.self.end;
   end : l.self.end ≡ l.fn.self.end;
-  top : (b : Option ℤ) → IsEndOf l.fn.edges l.fn.self.first l.fn.self.end b l.fn.self.top → IsEndOf l.edges l.self.first l.fn.self.end b l.self.top;
+  top : (b : Option ℤ) → IsEndOf l.fn.edges l.fn.self.first l.fn.self.end b l.fn.self.top
+      → IsEndOf l.edges l.self.first l.fn.self.end b l.self.top;
 }
 
 abbrev pub decreases-loop-self : goal.decreases-loop-self
