@@ -1,9 +1,11 @@
-//! Small libraries checked and flattened, and each allocation failing in turn.
+//! Small libraries checked, flattened and compared cell by cell, and each allocation failing in turn.
 //!
-//! These tests of `lvl_cells` and `lvl_flat` are a crate of their own since a crate with tests is
-//! proved twice.
+//! These tests of `lvl_cells`, `lvl_flat` and `lvl_compare` are a crate of their own since a crate with
+//! tests is proved twice.
 #![tactic(auto)]
 
+#[cfg(test)]
+mod alike;
 #[cfg(test)]
 mod cells;
 #[cfg(test)]
