@@ -8,3 +8,5 @@
 mod cells;
 #[cfg(test)]
 mod flat;
+#[cfg(test)]
+mod view;
