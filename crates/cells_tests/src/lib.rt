@@ -10,3 +10,5 @@ mod alike;
 mod cells;
 #[cfg(test)]
 mod flat;
+#[cfg(test)]
+mod view;
