@@ -1,65 +1,212 @@
-//! One failing read, one failing write, and each growth refused in turn.
+//! Files that are cut, one failing read, and one failing write.
 
-use super::stream::{VECTOR, square_with};
-use super::{SAME, SHOWN, begun, no_tops, shown, sink, written};
-use lvl_io::fake::Pieces;
+use super::show::lines;
+use super::words::{cut, file};
+use super::{no_tops, shown, sink, written};
+use lvl_io::Counted;
+use lvl_io::fake::{Pieces, Sink};
 use lvl_report::{RunFault, Status, run, run_show};
-use std::alloc::AllocError;
+use std::alloc::{AllocError, Global};
+use std::io;
+use std::process::Abort;
 use std::test::Fail;
 
-#[test]
-fn failing_read(rt: HostRuntime) -> Result<(), Fail> {
-    let square = square_with(rt.alloc(), &[])?;
-    for k in 0..=square.len() {
-        let start = begun(k);
-        let mut out = sink(rt.alloc(), 1000)?;
-        let mut cut = Pieces::failing(&square[..k], 50);
-        let mut whole = Pieces::new(&square, 1000);
-        let ran = run(rt.alloc(), &mut cut, &mut whole, &no_tops(), &mut out);
-        let line = format!(in rt.alloc(); "refused: first: gds 6 Read at {start}\n")?;
-        assert_eq!(rt; out.taken.as_slice(), line.as_bytes(), "first after {k}");
-        assert_eq!(rt; ran, Ok(Status::Refused));
-        assert_eq!(rt; cut.errors, 1);
-        assert_eq!(rt; whole.rest.len(), square.len());
-        let mut out = sink(rt.alloc(), 1000)?;
-        let mut cut = Pieces::failing(&square[..k], 50);
-        let ran = run(rt.alloc(), &mut whole, &mut cut, &no_tops(), &mut out);
-        let second = format!(in rt.alloc(); "refused: second: gds 6 Read at {start}\n")?;
-        assert_eq!(rt; out.taken.as_slice(), second.as_bytes(), "second after {k}");
-        assert_eq!(rt; ran, Ok(Status::Refused));
-        let mut out = sink(rt.alloc(), 1000)?;
-        let mut cut = Pieces::failing(&square[..k], 50);
-        let ran = run_show(rt.alloc(), &mut cut, None, &mut out);
-        assert_eq!(rt; out.taken.as_slice(), line.as_bytes(), "shown after {k}");
-        assert_eq!(rt; ran, Ok(Status::Refused));
+/// Where the records of the square in GDSII begin, and where it ends.
+const GDS: [usize; 14] = [0, 6, 34, 40, 60, 88, 96, 100, 106, 112, 156, 160, 164, 168];
+
+/// The same in OASIS.
+const OASIS: [usize; 6] = [0, 13, 34, 39, 47, 303];
+
+/// The start of the record that isn't whole in the first `k` bytes.
+fn begun(starts: &[usize], k: usize) -> usize {
+    starts
+        .iter()
+        .copied()
+        .filter(|start| *start <= k)
+        .max()
+        .unwrap_or(0)
+}
+
+/// Each beginning of the file is refused as cut, at the record that isn't whole. Without a first byte a
+/// file is read as GDSII.
+fn check_cuts(
+    rt: &impl Abort,
+    alloc: Global,
+    bytes: &[u8],
+    starts: &[usize],
+    format: &str,
+) -> Result<(), Fail> {
+    let square = file(alloc, "square.gds")?;
+    for k in 0..bytes.len() {
+        let format = if k == 0 { "gds" } else { format };
+        let start = begun(starts, k);
+        let first = format!(in alloc; "refused: first: {format} 1 Truncated at {start}\n")?;
+        let (text, _) = written(alloc, &bytes[..k], &square, &no_tops(), 1000)?;
+        assert!(rt; text.as_slice() == first.as_bytes(), "{format} cut to {k}");
+        let (text, _) = shown(alloc, &bytes[..k], None, 1000)?;
+        assert!(rt;
+            text.as_slice() == first.as_bytes(),
+            "{format} cut to {k}, shown"
+        );
+        let second = format!(in alloc; "refused: second: {format} 1 Truncated at {start}\n")?;
+        let (text, _) = written(alloc, &square, &bytes[..k], &no_tops(), 1000)?;
+        assert!(rt;
+            text.as_slice() == second.as_bytes(),
+            "{format} cut to {k}, second"
+        );
     }
     Ok(())
 }
 
 #[test]
-fn failing_write(rt: HostRuntime) -> Result<(), Fail> {
-    let square = square_with(rt.alloc(), &[])?;
-    for takes_nothing in [false, true] {
-        for k in 0..SAME.len() {
-            let mut out = sink(rt.alloc(), 40)?;
-            out.room = k;
-            out.takes_nothing = takes_nothing;
-            let mut first = Pieces::new(&square, 1000);
-            let mut second = Pieces::new(&square, 1000);
-            let ran = run(rt.alloc(), &mut first, &mut second, &no_tops(), &mut out);
-            assert_eq!(rt; ran, Err(RunFault::Output), "room for {k}");
-            assert_eq!(rt; Some(out.taken.as_slice()), SAME.as_bytes().get(..k));
-            assert_eq!(rt; out.errors, 1);
+fn cuts(rt: HostRuntime) -> Result<(), Fail> {
+    let alloc = rt.alloc();
+    check_cuts(&rt, alloc, &file(alloc, "square.gds")?, &GDS, "gds")?;
+    check_cuts(&rt, alloc, &file(alloc, "square.oas")?, &OASIS, "oasis")
+}
+
+/// These bytes, and then a failure each time that more are asked for.
+fn failing(bytes: &[u8]) -> Pieces<'_> {
+    Pieces {
+        rest: bytes,
+        most: 50,
+        failures: 9,
+        errors: 0,
+    }
+}
+
+/// What is written of two files of which one fails, or of one that is shown.
+fn failed(alloc: Global, bytes: &[u8], side: &str) -> Result<Vec<u8>, Fail> {
+    let square = file(alloc, "square.gds")?;
+    let mut out = sink(alloc, 1000)?;
+    let mut whole = Pieces::new(&square, 1000);
+    let mut cut = failing(bytes);
+    let ran = match side {
+        "first" => run(alloc, &mut cut, &mut whole, &no_tops(), &mut out),
+        "second" => run(alloc, &mut whole, &mut cut, &no_tops(), &mut out),
+        _ => run_show(alloc, &mut cut, None, &mut out),
+    };
+    if ran != Ok(Status::Refused) || cut.errors != 1 {
+        return Err("not refused, or asked again".into());
+    }
+    if side == "first" && whole.rest.len() != square.len() {
+        return Err("the second file was read".into());
+    }
+    Ok(out.taken)
+}
+
+/// A failure after each number of bytes is reported at the record that isn't whole.
+fn check_reads(
+    rt: &impl Abort,
+    alloc: Global,
+    bytes: &[u8],
+    starts: &[usize],
+    step: &str,
+) -> Result<(), Fail> {
+    for k in 0..=bytes.len() {
+        let step = if k == 0 { "gds 6" } else { step };
+        let start = begun(starts, k);
+        let first = format!(in alloc; "refused: first: {step} Read at {start}\n")?;
+        let second = format!(in alloc; "refused: second: {step} Read at {start}\n")?;
+        for (side, want) in [("first", &first), ("second", &second), ("shown", &first)] {
+            let text = failed(alloc, &bytes[..k], side)?;
+            assert!(rt; text.as_slice() == want.as_bytes(), "{side} after {k}");
         }
-        for k in 0..SHOWN.len() {
-            let mut out = sink(rt.alloc(), 40)?;
-            out.room = k;
-            out.takes_nothing = takes_nothing;
-            let mut file = Pieces::new(&square, 1000);
-            let ran = run_show(rt.alloc(), &mut file, None, &mut out);
-            assert_eq!(rt; ran, Err(RunFault::Output), "room for {k}");
-            assert_eq!(rt; Some(out.taken.as_slice()), SHOWN.as_bytes().get(..k));
-            assert_eq!(rt; out.errors, 1);
+    }
+    Ok(())
+}
+
+#[test]
+fn failing_read(rt: HostRuntime) -> Result<(), Fail> {
+    let alloc = rt.alloc();
+    check_reads(&rt, alloc, &file(alloc, "square.gds")?, &GDS, "gds 6")?;
+    check_reads(&rt, alloc, &file(alloc, "square.oas")?, &OASIS, "oasis 12")
+}
+
+/// A reader of std's that is interrupted at the end of its bytes, each time that it is asked.
+#[derive(Drop)]
+struct Interrupted<'a> {
+    rest: &'a [u8],
+    times: u32,
+}
+
+impl io::Read for Interrupted<'_> {
+    fn read(&mut self, buf: &mut [u8]) -> io::Result<usize> {
+        if self.rest.is_empty() {
+            self.times = self.times.saturating_add(1);
+            return Err(io::Error::from(io::ErrorKind::Interrupted));
+        }
+        self.rest.read(buf)
+    }
+}
+
+#[test]
+fn interrupted_read(rt: HostRuntime) -> Result<(), Fail> {
+    let alloc = rt.alloc();
+    for (words, line) in [
+        ("square.gds <99", "refused: first: gds 6 Read at 96\n"),
+        ("square.gds", "refused: first: gds 6 Read at 168\n"),
+        ("square.oas <40", "refused: first: oasis 12 Read at 39\n"),
+        ("square.oas", "refused: first: oasis 12 Read at 303\n"),
+    ] {
+        let bytes = file(alloc, words)?;
+        let mut cut = Interrupted {
+            rest: &bytes,
+            times: 0,
+        };
+        let mut out = sink(alloc, 1000)?;
+        let ran = run_show(alloc, &mut Counted::new(&mut cut), None, &mut out);
+        assert_eq!(rt; ran, Ok(Status::Refused));
+        assert!(rt; out.taken.as_slice() == line.as_bytes(), "{words}");
+        assert_eq!(rt; cut.times, 1);
+    }
+    Ok(())
+}
+
+/// The files, `-` where one is shown, and the lines that are written.
+const WRITTEN: &str = "\
+square.gds | square.oas | first: GDSII version 600 units 4110000000000000 4110000000000000 / \
+    second: OASIS 1.0 unit 1000 scheme 0 / same
+gds 00 04 09 00 1/0 00 08 0F 03 00 00 00 04 00 1C 10 03 0,0 10,0 10,1 00 04 11 00 | square.gds | \
+    refused: first: gds 21 Path 6 ShortRun at 120
+square.oas | - | file: OASIS 1.0 unit 1000 scheme 0 / top: TOP / cells: 1 / layer 1 datatype 0 rings 1
+square.gds <99 | - | refused: first: gds 1 Truncated at 96
+";
+
+/// Two files compared, or one shown, by a writer.
+fn ran(
+    alloc: Global,
+    first: &str,
+    second: &str,
+    out: &mut Sink,
+) -> Result<Result<Status, RunFault>, Fail> {
+    let bytes = file(alloc, first)?;
+    let mut reader = Pieces::new(&bytes, 1000);
+    if second == "-" {
+        return Ok(run_show(alloc, &mut reader, None, out));
+    }
+    let others = file(alloc, second)?;
+    let mut other = Pieces::new(&others, 1000);
+    Ok(run(alloc, &mut reader, &mut other, &no_tops(), out))
+}
+
+#[test]
+fn failing_write(rt: HostRuntime) -> Result<(), Fail> {
+    let alloc = rt.alloc();
+    for row in WRITTEN.lines() {
+        let (first, row) = cut(row);
+        let (second, parts) = cut(row);
+        let text = lines(alloc, parts)?;
+        for k in 0..text.len() {
+            for takes_nothing in [false, true] {
+                let mut out = sink(alloc, 40)?;
+                out.room = k;
+                out.takes_nothing = takes_nothing;
+                let ran = ran(alloc, first, second, &mut out)?;
+                assert_eq!(rt; ran, Err(RunFault::Output), "room for {k}");
+                assert_eq!(rt; Some(out.taken.as_slice()), text.as_bytes().get(..k));
+                assert_eq!(rt; out.errors, 1);
+            }
         }
     }
     assert_eq!(rt; RunFault::Output.code(), 4);
@@ -67,65 +214,23 @@ fn failing_write(rt: HostRuntime) -> Result<(), Fail> {
 }
 
 #[test]
-fn failing_flush(rt: HostRuntime) -> Result<(), Fail> {
-    let square = square_with(rt.alloc(), &[])?;
-    let mut out = sink(rt.alloc(), 1)?;
-    out.flush_fails = true;
-    let mut first = Pieces::new(&square, 1000);
-    let mut second = Pieces::new(&square, 1000);
-    let ran = run(rt.alloc(), &mut first, &mut second, &no_tops(), &mut out);
-    assert_eq!(rt; ran, Err(RunFault::Output));
-    assert_eq!(rt; out.taken.as_slice(), SAME.as_bytes());
-    let mut out = sink(rt.alloc(), 1)?;
-    out.flush_fails = true;
-    let mut file = Pieces::new(&square, 1000);
-    let ran = run_show(rt.alloc(), &mut file, None, &mut out);
-    assert_eq!(rt; ran, Err(RunFault::Output));
-    assert_eq!(rt; out.taken.as_slice(), SHOWN.as_bytes());
+fn failing_flush_and_a_byte_a_call(rt: HostRuntime) -> Result<(), Fail> {
+    let alloc = rt.alloc();
+    for row in WRITTEN.lines() {
+        let (first, row) = cut(row);
+        let (second, parts) = cut(row);
+        let text = lines(alloc, parts)?;
+        for flush_fails in [false, true] {
+            let mut out = sink(alloc, 1)?;
+            out.flush_fails = flush_fails;
+            let ran = ran(alloc, first, second, &mut out)?;
+            assert_eq!(rt;
+                ran.err(),
+                flush_fails.then_some(RunFault::Output),
+                "{first}"
+            );
+            assert!(rt; out.taken.as_slice() == text.as_bytes(), "{first}");
+        }
+    }
     Ok(())
-}
-
-/// What a growth that was refused leaves: want of memory told, or nothing written.
-pub const NO_MEMORY: &str = "refused: out of memory\n";
-
-#[test]
-fn growths_of_a_comparison(rt: HostRuntime) -> Result<(), Fail> {
-    let mut lower = VECTOR;
-    for place in [139, 147] {
-        lower[place] = 9;
-    }
-    let (text, ended) = written(rt.alloc(), &VECTOR, &lower, &no_tops(), 1000)?;
-    match ended {
-        Some(Status::Refused) => {
-            assert_eq!(rt; text.as_slice(), NO_MEMORY.as_bytes());
-            Err(AllocError.into())
-        }
-        None => {
-            assert_eq!(rt; text.len(), 0);
-            Err(AllocError.into())
-        }
-        _ => {
-            assert_eq!(rt; ended, Some(Status::Differ));
-            Ok(())
-        }
-    }
-}
-
-#[test]
-fn growths_of_a_show(rt: HostRuntime) -> Result<(), Fail> {
-    let (text, ended) = shown(rt.alloc(), &VECTOR, None, 1000)?;
-    match ended {
-        Some(Status::Refused) => {
-            assert_eq!(rt; text.as_slice(), NO_MEMORY.as_bytes());
-            Err(AllocError.into())
-        }
-        None => {
-            assert_eq!(rt; text.len(), 0);
-            Err(AllocError.into())
-        }
-        _ => {
-            assert_eq!(rt; text.as_slice(), SHOWN.as_bytes());
-            Ok(())
-        }
-    }
 }

@@ -1,0 +1,97 @@
+//! Rows with each allocation refused in turn: what is written is the row's own text, or that memory is
+//! out, or nothing at all.
+
+use super::words::{cut, file};
+use super::{Answer, is_answer, no_tops, shown, written};
+use lvl::Tops;
+use lvl_report::{RunFault, Status};
+use std::alloc::AllocError;
+use std::process::Abort;
+use std::test::Fail;
+
+/// What is written where memory is out.
+const NO_MEMORY: &[u8] = b"refused: out of memory\n";
+
+/// Whether memory was out: that is written, or there was none for the text and nothing is.
+fn is_out_of_memory(answer: &Answer) -> bool {
+    match answer {
+        (text, Ok(Status::Refused)) => text.as_slice() == NO_MEMORY,
+        (text, Err(RunFault::OutOfMemory)) => text.is_empty(),
+        _ => false,
+    }
+}
+
+/// What a row is, its files, and the last line.
+const ROWS: &str = "\
+square-ends | gds 00 04 09 00 1/0 00 06 21 02 00 02 00 08 0F 03 00 00 00 04 00 1C 10 03 0,0 10,0 10,10 \
+    00 04 11 00 | gds -2,-2..12,2 8,-2..12,12 | same
+formats-agree | square.gds | square.oas | same
+height-off-by-one | square.gds | oasis 14 7B 01 00 0A 09 00 00 | differ: layer 1 datatype 0 square 0 9 only in first
+array-tiles | gds-cells A{ 0,0..10,10 } TOP{ 00 04 0B 00 00 06 12 06 A 00 00 08 13 02 00 03 00 02 \
+    00 1C 10 03 0,0 30,0 0,20 00 04 11 00 } | gds 0,0..30,20 | same
+array-tiles, cell by cell | gds-cells A{ 0,0..10,10 } TOP{ 00 04 0B 00 00 06 12 06 A 00 00 08 13 02 00 03 00 02 \
+    00 1C 10 03 0,0 30,0 0,20 00 04 11 00 } | \
+    oasis-cells 0E 01 A 14 7B 01 00 0A 0A 00 00 0E 03 TOP 11 B8 01 A 00 00 01 01 00 0A 0A | same
+cycle | gds-cells A{ B@0,0 } B{ A@0,0 } C{ } | square.gds | refused: first: cells 4 Cycle A B
+cycle of one | gds-cells A{ A@0,0 } | square.gds | refused: first: cells 4 Cycle A
+edge-of-range | oasis-cells 0E 01 A 15 3B 01 00 00 02 03 02 FF*9 01 00 0E 03 TOP 11 B4 01 A 03 00 | oasis | \
+    differ: layer 1 datatype 0 square 9223372036854775806 -1 only in first
+edge-of-range, past it | oasis-cells 0E 01 A 15 3B 01 00 00 02 03 02 FF*9 01 00 0E 03 TOP 11 B4 01 A 00 00 | oasis | \
+    refused: first: flat 1 OutOfRange A
+spaces | oasis 14 7F 01 00 0A 0A 00 00 04 01 0C 14 | gds 0,0..10,10 12,0..22,10 32,0..42,10 | same
+";
+
+/// The answer is the row's own, or the test ends since memory is out.
+fn settle(rt: &impl Abort, answer: &Answer, line: &str) -> Result<(), AllocError> {
+    if is_out_of_memory(answer) {
+        return Err(AllocError);
+    }
+    assert!(rt; is_answer(answer, line), "{line}");
+    Ok(())
+}
+
+#[test]
+fn growths_of_rows(rt: HostRuntime) -> Result<(), Fail> {
+    let alloc = rt.alloc();
+    for row in ROWS.lines() {
+        let (_, row) = cut(row);
+        let (first, row) = cut(row);
+        let (second, line) = cut(row);
+        let (first, second) = (file(alloc, first)?, file(alloc, second)?);
+        let answer = written(alloc, &first, &second, &no_tops(), 1000)?;
+        settle(&rt, &answer, line)?;
+    }
+    Ok(())
+}
+
+#[test]
+fn growths_of_tops(rt: HostRuntime) -> Result<(), Fail> {
+    let alloc = rt.alloc();
+    let square = file(alloc, "square.oas")?;
+    let tops = Tops {
+        first: Some(Vec::from_slice(alloc, b"TOP")?),
+        second: Some(Vec::from_slice(alloc, b"X")?),
+    };
+    let answer = written(alloc, &square, &square, &tops, 1000)?;
+    settle(&rt, &answer, "refused: second: cells 5 TopMissing")?;
+    Ok(())
+}
+
+/// What is shown of the square in OASIS.
+const SHOWN: &[u8] =
+    b"file: OASIS 1.0 unit 1000 scheme 0\ntop: TOP\ncells: 1\nlayer 1 datatype 0 rings 1\n";
+
+#[test]
+fn growths_of_a_show(rt: HostRuntime) -> Result<(), Fail> {
+    let alloc = rt.alloc();
+    let square = file(alloc, "square.oas")?;
+    let answer = shown(alloc, &square, None, 1000)?;
+    if is_out_of_memory(&answer) {
+        return Err(AllocError.into());
+    }
+    assert!(rt; answer.0.as_slice() == SHOWN);
+    assert_eq!(rt; answer.1, Ok(Status::Shown));
+    let answer = shown(alloc, &square, Some(b"X"), 1000)?;
+    settle(&rt, &answer, "refused: first: cells 5 TopMissing")?;
+    Ok(())
+}
