@@ -6,4 +6,3 @@ pub mod Moved
 pub mod Polygons
 pub mod Paths
 pub mod Bands
-pub mod Placings

@@ -1,5 +1,6 @@
 -- One more record is held.
-use Rattle.std.proofs.Common.{◌≡◌, false, List, [], ◌∷◌, ◌++◌, map, refl, sym, ap, ◌∙◌, subst, if◌then◌else◌, Result, Ok, Err, IfOk, OnOk}
+use Rattle.std.proofs.Common.{◌≡◌, false, List, [], ◌∷◌, ◌++◌, map, refl, sym, ap, ◌∙◌, subst, if◌then◌else◌, Result}
+use Rattle.std.proofs.Common.{Ok, Err, IfOk, OnOk}
 use Rattle.std.specs.Prelude.{flat_map, Option}
 use Rattle.lvl_refusal.specs.declared.Refusal.{Refusal}
 use Rattle.lvl_refusal.specs.declared.Refusal.TheVariants.{Breach, OutOfMemory}
@@ -12,7 +13,8 @@ use Rattle.oasis_figures.specs.declared.modal.Modal.{Modal}
 use Rattle.oasis_figures.specs.declared.rule.FigureRule.{FigureRule}
 use Rattle.oasis_stream.specs.declared.fault.NameRule.{NameRule}
 use Rattle.oasis_stream.specs.declared.fault.OasisKind.{OasisKind}
-use Rattle.oasis_stream.specs.declared.fault.OasisKind.TheVariants.{Value, Record as OfRecord, Unexpected, Name, Figure, AfterEnd, TooManyCells}
+use Rattle.oasis_stream.specs.declared.fault.OasisKind.TheVariants.{Value, Record as OfRecord, Unexpected, Name, Figure}
+use Rattle.oasis_stream.specs.declared.fault.OasisKind.TheVariants.{AfterEnd, TooManyCells}
 use Rattle.oasis_values.specs.declared.number.Real.TheVariants.{Whole}
 use Rattle.oasis_records.specs.declared.end.Validation.TheVariants.{Absent}
 use Rattle.oasis_records.specs.declared.record.Record.{Record}
@@ -31,9 +33,11 @@ use Rattle.oasis_library.specs.inside.Taken.{IsTaken, grown}
 use Rattle.oasis_library.proofs.Growing.{since-snoc, since-other, kept-other, kept-cell}
 use Rattle.oasis_library.specs.declared.reading.Reading.{Reading}
 
-last-snoc : {A : Type 0} (f : Record → List A) (d x y : A) (rs : List Record) (r : Record) → x ≡ last_or d (flat_map f rs) → y ≡ last_or x (f r) → y ≡ last_or d (flat_map f (rs ++ r ∷ []))
+last-snoc : {A : Type 0} (f : Record → List A) (d x y : A) (rs : List Record) (r : Record)
+    → x ≡ last_or d (flat_map f rs) → y ≡ last_or x (f r) → y ≡ last_or d (flat_map f (rs ++ r ∷ []))
 last-snoc f d x y rs r e h =
-    h ∙ ap (λ i. last_or i (f r)) e ∙ sym (last_or-append d (flat_map f rs) (f r)) ∙ ap (last_or d) (sym (flat_map-snoc f rs r))
+    h ∙ ap (λ i. last_or i (f r)) e ∙ sym (last_or-append d (flat_map f rs) (f r)) ∙ ap (last_or d)
+    (sym (flat_map-snoc f rs r))
 
 -- what a record leaves
 pub record Goes (x y : Reading) (rs : List Record) (r : Record) : Type 0 where
@@ -61,21 +65,28 @@ records-snoc (item x ∷ is) r = ap (λ l. x ∷ l) (records-snoc is r)
 
 -- what comes after a CELL
 pub cell_goes : (x y : Reading) (rs : List Record) (next : Record) (name : CellRef) → next ≡ Cell name → Holds x rs
-    → y.order ≡ passed x.order next → HoldsNames y.names (names_in rs ++ name_in next) → StandsFor y.modal [] → y.cells ≡ x.cells ++ begun name ∷ []
-    → y.head.unit ≡ last_or x.head.unit (unit_in next) → y.head.validation ≡ last_or x.head.validation (validation_in next) → Holds y (rs ++ next ∷ [])
+    → y.order ≡ passed x.order next → HoldsNames y.names (names_in rs ++ name_in next) → StandsFor y.modal []
+    → y.cells ≡ x.cells ++ begun name ∷ []
+    → y.head.unit ≡ last_or x.head.unit (unit_in next)
+    → y.head.validation ≡ last_or x.head.validation (validation_in next) → Holds y (rs ++ next ∷ [])
 cell_goes x y rs next name is h order names modal cells unit validation = law_holds x y rs next h (record {
   order = order;
   names = names;
-  modal = subst (StandsFor y.modal) (sym (since-snoc [] rs next ∙ ap (λ (i : Record). if is_cell i then [] else i ∷ since_cell rs) is)) modal;
-  cells = cells ∙ ap (λ l. l ++ begun name ∷ []) h.cells ∙ sym (kept-cell rs name) ∙ ap (λ (i : Record). map with_rings (drawings (rs ++ i ∷ []))) (sym is);
+  modal =
+      subst (StandsFor y.modal) (sym
+      (since-snoc [] rs next ∙ ap (λ (i : Record). if is_cell i then [] else i ∷ since_cell rs) is)) modal;
+  cells = cells ∙ ap (λ l. l ++ begun name ∷ []) h.cells ∙ sym (kept-cell rs name)
+      ∙ ap (λ (i : Record). map with_rings (drawings (rs ++ i ∷ []))) (sym is);
   unit = unit;
   validation = validation;
 })
 
 -- and after another record
 pub other_goes : (x y : Reading) (rs : List Record) (next : Record) → is_cell next ≡ false → Holds x rs
-    → y.order ≡ passed x.order next → HoldsNames y.names (names_in rs ++ name_in next) → StandsFor y.modal (next ∷ since_cell rs) → y.cells ≡ on_last (grown (since_cell rs) next) x.cells
-    → y.head.unit ≡ last_or x.head.unit (unit_in next) → y.head.validation ≡ last_or x.head.validation (validation_in next) → Holds y (rs ++ next ∷ [])
+    → y.order ≡ passed x.order next → HoldsNames y.names (names_in rs ++ name_in next)
+    → StandsFor y.modal (next ∷ since_cell rs) → y.cells ≡ on_last (grown (since_cell rs) next) x.cells
+    → y.head.unit ≡ last_or x.head.unit (unit_in next)
+    → y.head.validation ≡ last_or x.head.validation (validation_in next) → Holds y (rs ++ next ∷ [])
 other_goes x y rs next other h order names modal cells unit validation = law_holds x y rs next h (record {
   order = order;
   names = names;
@@ -87,28 +98,39 @@ other_goes x y rs next other h order names modal cells unit validation = law_hol
 
 -- what was answered of names and of figures
 
-pub name_ok : {P : Type 0} (r : Result (Unit {0}) (Refusal NameRule)) (q : Result (Unit {0}) (Refusal OasisKind)) (u : Unit {0}) → q ≡ of_name r → q ≡ Ok u → OnOk r P → P
+pub name_ok : {P : Type 0} (r : Result (Unit {0}) (Refusal NameRule)) (q : Result (Unit {0}) (Refusal OasisKind))
+    (u : Unit {0}) → q ≡ of_name r → q ≡ Ok u → OnOk r P → P
 name_ok (Ok v) q u e f p = p
 name_ok (Err (Breach k)) q u e f p = (let z : Err (Breach (Name k)) ≡ Ok u = sym e ∙ f in cc)
 name_ok (Err OutOfMemory) q u e f p = (let z : Err OutOfMemory ≡ Ok u = sym e ∙ f in cc)
 
 pub record Takes (old new : Modal) (next : Record) (r : Result (Option Drawn) (Refusal FigureRule)) : Type 0 where
   pub drawn : IfOk r (λ drawn. (earlier : List Record) → StandsFor old earlier → IsDrawn earlier next drawn)
-  pub places : IfOk r (λ drawn. (earlier : List Record) → StandsFor old earlier → PlacesFit (shifts_of earlier next) drawn)
+  pub places : IfOk r (λ drawn. (earlier : List Record) → StandsFor old earlier → PlacesFit (shifts_of earlier next)
+      drawn)
   pub kept : OnOk r ((earlier : List Record) → StandsFor old earlier → StandsFor new (next ∷ earlier))
   pub none : OnOk r ((earlier : List Record) → StandsFor old earlier → BreachesNone earlier next)
 
-pub figure_ok : (old new : Modal) (next : Record) (r : Result (Option Drawn) (Refusal FigureRule)) (q : Result (Option Drawn) (Refusal OasisKind)) (d : Option Drawn)
-    → q ≡ of_figure r → q ≡ Ok d → Takes old new next r → (earlier : List Record) → StandsFor old earlier → IsTaken earlier next d new
+pub figure_ok : (old new : Modal) (next : Record) (r : Result (Option Drawn) (Refusal FigureRule))
+    (q : Result (Option Drawn) (Refusal OasisKind)) (d : Option Drawn)
+    → q ≡ of_figure r → q ≡ Ok d → Takes old new next r → (earlier : List Record) → StandsFor old earlier
+    → IsTaken earlier next d new
 figure_ok old new next (Ok x) q d e f t earlier h =
     let z : Ok x ≡ Ok d = sym e ∙ f in
     let same : x ≡ d = cc in
-    subst (λ (i : Option Drawn). IsTaken earlier next i new) same (record { stands = t.kept earlier h; draws = t.drawn earlier h; fits = t.places earlier h; none = t.none earlier h })
+    subst (λ (i : Option Drawn). IsTaken earlier next i new) same
+    (record {
+      stands = t.kept earlier h;
+      draws = t.drawn earlier h;
+      fits = t.places earlier h;
+      none = t.none earlier h;
+    })
 figure_ok old new next (Err (Breach k)) q d e f t earlier h = (let z : Err (Breach (Figure k)) ≡ Ok d = sym e ∙ f in cc)
 figure_ok old new next (Err OutOfMemory) q d e f t earlier h = (let z : Err OutOfMemory ≡ Ok d = sym e ∙ f in cc)
 
 -- neither a rule of names is breached nor one of figures
-pub none_breached : (rs : List Record) (r : Record) → ((k : NameRule) → NamingBreaches (names_in rs) r k → ⊥) → BreachesNone (since_cell rs) r
+pub none_breached : (rs : List Record) (r : Record) → ((k : NameRule) → NamingBreaches (names_in rs) r k → ⊥)
+    → BreachesNone (since_cell rs) r
     → (k : OasisKind) → RecordBreaches rs r k → ⊥
 none_breached rs r names figures (Name k) b = names k b
 none_breached rs r names figures (Figure k) b = figures k b.broken

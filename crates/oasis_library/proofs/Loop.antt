@@ -1,5 +1,6 @@
 -- A file is read: the magic string, and record by record.
-use Rattle.std.proofs.Common.{◌≡◌, ℕ, ◌<◌, true, false, List, [], ◌∷◌, ◌++◌, length, take, drop, Ok, Err, Some, refl, sym, ap, ◌∙◌, subst, arith, length-append}
+use Rattle.std.proofs.Common.{◌≡◌, ℕ, ◌<◌, true, false, List, [], ◌∷◌, ◌++◌, length, take, drop, Ok, Err, Some, refl}
+use Rattle.std.proofs.Common.{sym, ap, ◌∙◌, subst, arith, length-append}
 use Rattle.std.specs.Prelude.{Option, Result}
 use Rattle.lvl_refusal.specs.declared.Refusal.{Refusal}
 use Rattle.oasis_values.specs.declared.fault.ValueFault.{ValueFault}
@@ -10,7 +11,8 @@ use Rattle.oasis_values.specs.Reads.{Reads}
 use Rattle.oasis_values.specs.declared.input.Input.{Input}
 use Rattle.oasis_records.specs.declared.end.Validation.{Validation}
 use Rattle.oasis_records.specs.declared.record.Record.{Record}
-use Rattle.oasis_records.specs.declared.record.Record.TheVariants.{Pad, Start, End, CellName, Cell, XyAbsolute, XyRelative}
+use Rattle.oasis_records.specs.declared.record.Record.TheVariants.{Pad, Start, End, CellName, Cell, XyAbsolute}
+use Rattle.oasis_records.specs.declared.record.Record.TheVariants.{XyRelative}
 use Rattle.oasis_records.specs.declared.record.Record.TheVariants.{Placement, Rectangle, Polygon, Path}
 use Rattle.oasis_stream.specs.Items.{Item, magic, item, records, IsEnded}
 use Rattle.oasis_stream.specs.Order.{last_or}
@@ -44,42 +46,56 @@ IsNothing is = is ≡ []
 start_to : (xs : List ℕ) (at : ℕ) (left : Option (List ℕ)) → at ≡ 0 → left ≡ Some xs → ReadTo oasis xs at IsNothing left
 start_to xs at left e k = record {
   records = [];
-  front = record { spelled = ap (λ i. take i xs) e; followed = tt; within = omega (arith, ap (λ i. length (take i xs)) e) };
+  front = record {
+    spelled = ap (λ i. take i xs) e;
+    followed = tt;
+    within = omega (arith, ap (λ i. length (take i xs)) e);
+  };
   holds = refl;
   left_is = k ∙ ap (λ i. Some (drop i xs)) (sym e);
   within = omega (arith, e);
 }
 
 -- the magic string was read
-pub first_on : {R : Type 0} {remaining : R → Option (List ℕ)} {errors : R → ℕ} {lent : R → List GName} (xs : List ℕ) (x : Reading) {old new : Input R}
+pub first_on : {R : Type 0} {remaining : R → Option (List ℕ)} {errors : R → ℕ} {lent : R → List GName} (xs : List ℕ)
+    (x : Reading) {old new : Input R}
     → has_failed old ≡ false → input_offset old ≡ 0 → bytes_left remaining old ≡ Some xs → Holds x []
-    → Reads remaining errors lent (IsItem []) old new (Ok (Ok magic)) → ReadTo oasis xs (input_offset new) (HasBegun x) (bytes_left remaining new)
+    → Reads remaining errors lent (IsItem []) old new (Ok (Ok magic))
+    → ReadTo oasis xs (input_offset new) (HasBegun x) (bytes_left remaining new)
 first_on {remaining = remaining} {errors = errors} {lent = lent} xs x {old = old} {new = new} live start known h p =
     let to = start_to xs (input_offset old) (bytes_left remaining old) start known in
-    item_on xs IsNothing (HasBegun x) to magic live (subst (λ is. Reads remaining errors lent (IsItem is) old new (Ok (Ok magic))) (sym to.holds) p)
+    item_on xs IsNothing (HasBegun x) to magic live
+    (subst (λ is. Reads remaining errors lent (IsItem is) old new (Ok (Ok magic))) (sym to.holds) p)
     ((λ e. none_ended (subst IsEnded to.holds e)), λ k b. b)
-    (subst (λ is. HasBegun x (is ++ magic ∷ [])) (sym to.holds) (h, (λ e. (let z : magic ≡ item (End e.1) = last_same [] e.0 magic (item (End e.1)) e.2 in cc)), [], refl))
+    (subst (λ is. HasBegun x (is ++ magic ∷ [])) (sym to.holds)
+    (h, (λ e. (let z : magic ≡ item (End e.1) = last_same [] e.0 magic (item (End e.1)) e.2 in cc)), [], refl))
 
 -- or refused
-pub first_refused : {R : Type 0} {remaining : R → Option (List ℕ)} {errors : R → ℕ} {lent : R → List GName} (xs : List ℕ) {old new : Input R} (k : OasisKind)
+pub first_refused : {R : Type 0} {remaining : R → Option (List ℕ)} {errors : R → ℕ} {lent : R → List GName}
+    (xs : List ℕ) {old new : Input R} (k : OasisKind)
     → has_failed old ≡ false → input_offset old ≡ 0 → bytes_left remaining old ≡ Some xs
     → Reads remaining errors lent (IsItem []) old new (of_kind k) → RefusesAt xs (remaining (input_reader new)) 0 k
 first_refused {remaining = remaining} {errors = errors} {lent = lent} xs {old = old} {new = new} k live start known p =
     let to = start_to xs (input_offset old) (bytes_left remaining old) start known in
     subst (λ i. RefusesAt xs (remaining (input_reader new)) i k) start
-    (next_refuses xs to k live (λ e. none_ended (subst IsEnded to.holds e)) (subst (λ is. Reads remaining errors lent (IsItem is) old new (of_kind k)) (sym to.holds) p))
+    (next_refuses xs to k live (λ e. none_ended (subst IsEnded to.holds e))
+    (subst (λ is. Reads remaining errors lent (IsItem is) old new (of_kind k)) (sym to.holds) p))
 
 -- after the magic string, the next item is a record
-pub as_item : {R : Type 0} {remaining : R → Option (List ℕ)} {errors : R → ℕ} {lent : R → List GName} (x : Reading) (is : List Item) {old new : Input R} {r : Result (Result Item OasisKind) (Refusal ValueFault)}
-    → HasBegun x is → Reads remaining errors lent (IsNext (records is)) old new r → Reads remaining errors lent (IsItem is) old new r
+pub as_item : {R : Type 0} {remaining : R → Option (List ℕ)} {errors : R → ℕ} {lent : R → List GName} (x : Reading)
+    (is : List Item) {old new : Input R} {r : Result (Result Item OasisKind) (Refusal ValueFault)}
+    → HasBegun x is → Reads remaining errors lent (IsNext (records is)) old new r
+    → Reads remaining errors lent (IsItem is) old new r
 as_item {remaining = remaining} {errors = errors} {lent = lent} x is {old = old} {new = new} {r = r} h p =
-    subst (λ js. Reads remaining errors lent (IsItem js) old new r) (sym h.3) (subst (λ js. Reads remaining errors lent (IsNext (records js)) old new r) h.3 p)
+    subst (λ js. Reads remaining errors lent (IsItem js) old new r) (sym h.3)
+    (subst (λ js. Reads remaining errors lent (IsNext (records js)) old new r) h.3 p)
 
 -- a record more, after the magic string
 abbrev pub HasMore : Reading → Record → List Item → Type 0
 HasMore y r js = HasRead y js × (is : List Item) × (js ≡ is ++ item r ∷ []) × (rest : List Item) × (is ≡ magic ∷ rest)
 
-pub record_on : {R : Type 0} {remaining : R → Option (List ℕ)} {errors : R → ℕ} {lent : R → List GName} (xs : List ℕ) (x y : Reading) (r : Record) {old new : Input R}
+pub record_on : {R : Type 0} {remaining : R → Option (List ℕ)} {errors : R → ℕ} {lent : R → List GName} (xs : List ℕ)
+    (x y : Reading) (r : Record) {old new : Input R}
     (to : ReadTo oasis xs (input_offset old) (HasBegun x) (bytes_left remaining old))
     → has_failed old ≡ false → Reads remaining errors lent (IsNext (records to.records)) old new (Ok (Ok (item r)))
     → Holds y (records to.records ++ r ∷ []) → ((k : OasisKind) → RecordBreaches (records to.records) r k → ⊥)
@@ -106,7 +122,8 @@ pub more_begun : (y : Reading) (r : Record) (js : List Item) → is_end r ≡ fa
 more_begun y r js e m = (
   m.0,
   (λ ended.
-      let last : item r ≡ item (End ended.1) = last_same m.1 ended.0 (item r) (item (End ended.1)) (sym m.2 ∙ ended.2) in
+      let last : item r ≡ item (End ended.1) = last_same m.1 ended.0 (item r) (item (End ended.1))
+      (sym m.2 ∙ ended.2) in
       let is : r ≡ End ended.1 = cc in
       let z : false ≡ true = sym e ∙ ap is_end is in cc),
   m.3 ++ item r ∷ [],
@@ -118,26 +135,39 @@ more_whole y r js e m =
     let v = end_is r e in
     (m.0, (m.1, v.0, m.2 ∙ ap (λ (i : Record). m.1 ++ item i ∷ []) v.1))
 
-abbrev pub reads_as : (xs : List ℕ) (at : ℕ) (P Q : List Item → Type 0) (left : Option (List ℕ)) → ReadTo oasis xs at P left → ((is : List Item) → P is → Q is) → ReadTo oasis xs at Q left
-reads_as xs at P Q left to h = record { records = to.records; front = to.front; holds = h to.records to.holds; left_is = to.left_is; within = to.within }
+abbrev pub reads_as : (xs : List ℕ) (at : ℕ) (P Q : List Item → Type 0) (left : Option (List ℕ))
+    → ReadTo oasis xs at P left → ((is : List Item) → P is → Q is) → ReadTo oasis xs at Q left
+reads_as xs at P Q left to h =
+    record {
+      records = to.records;
+      front = to.front;
+      holds = h to.records to.holds;
+      left_is = to.left_is;
+      within = to.within;
+    }
 
 -- a record takes a byte at least
-pub record_takes : {R : Type 0} {remaining : R → Option (List ℕ)} {errors : R → ℕ} {lent : R → List GName} (xs : List ℕ) (x : Reading) (i : Item) {old new : Input R}
+pub record_takes : {R : Type 0} {remaining : R → Option (List ℕ)} {errors : R → ℕ} {lent : R → List GName} (xs : List ℕ)
+    (x : Reading) (i : Item) {old new : Input R}
     (to : ReadTo oasis xs (input_offset old) (HasBegun x) (bytes_left remaining old))
-    → has_failed old ≡ false → Reads remaining errors lent (IsNext (records to.records)) old new (Ok (Ok i)) → input_offset old < input_offset new
+    → has_failed old ≡ false → Reads remaining errors lent (IsNext (records to.records)) old new (Ok (Ok i))
+    → input_offset old < input_offset new
 record_takes {R = R} xs x i {old = old} to live p =
     let q = as_item x to.records to.holds p in
     let f = (q.answers live (drop (input_offset old) xs) to.left_is).0 in
     omega (arith, item_needs to.records f.bytes (Ok (Ok i)) f.says, f.count)
 
-pub first_takes : {R : Type 0} {remaining : R → Option (List ℕ)} {errors : R → ℕ} {lent : R → List GName} (xs : List ℕ) (i : Item) {old new : Input R}
-    → has_failed old ≡ false → bytes_left remaining old ≡ Some xs → Reads remaining errors lent (IsItem []) old new (Ok (Ok i)) → 0 < input_offset new
+pub first_takes : {R : Type 0} {remaining : R → Option (List ℕ)} {errors : R → ℕ} {lent : R → List GName} (xs : List ℕ)
+    (i : Item) {old new : Input R}
+    → has_failed old ≡ false → bytes_left remaining old ≡ Some xs
+    → Reads remaining errors lent (IsItem []) old new (Ok (Ok i)) → 0 < input_offset new
 first_takes xs i live known p =
     let f = (p.answers live xs known).0 in
     omega (arith, item_needs [] f.bytes (Ok (Ok i)) f.says, f.count)
 
 -- the next record was refused as it was read
-pub next_refused : {R : Type 0} {remaining : R → Option (List ℕ)} {errors : R → ℕ} {lent : R → List GName} (xs : List ℕ) (x : Reading) {old new : Input R}
+pub next_refused : {R : Type 0} {remaining : R → Option (List ℕ)} {errors : R → ℕ} {lent : R → List GName} (xs : List ℕ)
+    (x : Reading) {old new : Input R}
     (to : ReadTo oasis xs (input_offset old) (HasBegun x) (bytes_left remaining old)) (e : Refusal OasisKind)
     → has_failed old ≡ false → Reads remaining errors lent (IsNext (records to.records)) old new (told_record (Err e))
     → Says (refused_at (input_offset old) e) (Refuses xs (remaining (input_reader new)))
@@ -145,10 +175,13 @@ next_refused xs x to (Breach k) live p = next_refuses xs to k live to.holds.1 (a
 next_refused xs x to OutOfMemory live p = tt
 
 -- a record was refused that was read whole
-pub take_refused : {R : Type 0} {remaining : R → Option (List ℕ)} {errors : R → ℕ} {lent : R → List GName} (xs : List ℕ) (x : Reading) (r : Record) {old new : Input R}
+pub take_refused : {R : Type 0} {remaining : R → Option (List ℕ)} {errors : R → ℕ} {lent : R → List GName} (xs : List ℕ)
+    (x : Reading) (r : Record) {old new : Input R}
     (to : ReadTo oasis xs (input_offset old) (HasBegun x) (bytes_left remaining old)) (e : Refusal OasisKind)
     → has_failed old ≡ false → Reads remaining errors lent (IsNext (records to.records)) old new (Ok (Ok (item r)))
     → Says e (λ k. (rs : List Record) → Holds x rs → RecordBreaches rs r k)
     → Says (refused_at (input_offset old) e) (Refuses xs (remaining (input_reader new)))
-take_refused xs x r to (Breach k) live p b = breach_refuses xs to (item r) k live to.holds.1 (b (records to.records) to.holds.0) (as_item x to.records to.holds p)
+take_refused xs x r to (Breach k) live p b =
+    breach_refuses xs to (item r) k live to.holds.1 (b (records to.records) to.holds.0)
+    (as_item x to.records to.holds p)
 take_refused xs x r to OutOfMemory live p b = tt

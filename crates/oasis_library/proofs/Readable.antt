@@ -38,15 +38,25 @@ law_only : (xs : List ℕ) (cells ds : List (PlainCell Figure)) (h g : OasisHead
     → SpellsLibrary xs ds g → (ds ≡ cells) × (g ≡ h)
 law_only xs cells ds h g p q =
     let e = same_items xs q.items p.items q.whole p.whole in
-    let are : AreCells (names_in (records p.items)) (drawings (records p.items)) ds = subst (λ is. AreCells (names_in (records is)) (drawings (records is)) ds) e q.cells_are in
-    (same_cells (names_in (records p.items)) (drawings (records p.items)) cells ds p.cells_are are, q.head_is ∙ ap (λ is. head_of (records is)) e ∙ sym p.head_is)
+    let are : AreCells (names_in (records p.items)) (drawings (records p.items)) ds =
+    subst (λ is. AreCells (names_in (records is)) (drawings (records is)) ds) e q.cells_are in (
+      same_cells (names_in (records p.items)) (drawings (records p.items)) cells ds p.cells_are are,
+      q.head_is
+          ∙ ap (λ is. head_of (records is)) e ∙ sym p.head_is,
+    )
 
 -- what was read of a whole file is the library that it spells
 pub law_read : (xs : List ℕ) (is : List Item) (found : List (PlainCell Rings)) (h : OasisHead) → SpellsWhole oasis xs is
-    → AreCells (names_in (records is)) (map with_rings (drawings (records is))) found → h ≡ head_of (records is) → IsRead xs found h
+    → AreCells (names_in (records is)) (map with_rings (drawings (records is))) found → h ≡ head_of (records is)
+    → IsRead xs found h
 law_read xs is found h whole are head =
     let k = kept_cells (names_in (records is)) (drawings (records is)) found are in
-    let spelled : SpellsLibrary xs k.cells h = record { items = is; whole = whole; cells_are = k.are; head_is = head } in
+    let spelled : SpellsLibrary xs k.cells h = record {
+      items = is;
+      whole = whole;
+      cells_are = k.are;
+      head_is = head;
+    } in
     record {
       cells = k.cells;
       spelled = spelled;
@@ -67,8 +77,10 @@ none_spelled xs n cells h p = n p.items p.whole
 none_resolved : (xs : List ℕ) (n : ℕ) → TellsUnresolved xs n → SpellsNone xs
 none_resolved xs n t cells h p =
     let e = same_items xs p.items t.0 p.whole t.1 in
-    let are : AreCells (names_in (records t.0)) (drawings (records t.0)) cells = subst (λ is. AreCells (names_in (records is)) (drawings (records is)) cells) e p.cells_are in
-    unnamed_none (names_in (records t.0)) (numbers_used (drawings (records t.0))) n (cells_named (names_in (records t.0)) (drawings (records t.0)) cells are) t.2
+    let are : AreCells (names_in (records t.0)) (drawings (records t.0)) cells =
+    subst (λ is. AreCells (names_in (records is)) (drawings (records is)) cells) e p.cells_are in
+    unnamed_none (names_in (records t.0)) (numbers_used (drawings (records t.0))) n
+    (cells_named (names_in (records t.0)) (drawings (records t.0)) cells are) t.2
 
 -- what a refusal says
 tells_at : (xs : List ℕ) (left : Option (List ℕ)) (at : ℕ) (k : OasisKind) → RefusesAt xs left at k → TellsAt xs at k
@@ -80,13 +92,16 @@ tells : (xs : List ℕ) (left : Option (List ℕ)) (f : OasisFault) → Refuses 
 tells xs left (At at k) x = tells_at xs left at k x
 tells xs left (Unresolved n) x = x
 
-none_at : (xs : List ℕ) (left : Option (List ℕ)) (at : ℕ) (k : OasisKind) → RefusesAt xs left at k → (IsExcused (At at k) → ⊥)
+none_at : (xs : List ℕ) (left : Option (List ℕ)) (at : ℕ) (k : OasisKind) → RefusesAt xs left at k
+    → (IsExcused (At at k) → ⊥)
     → SpellsNone xs
 none_at xs left at (Value Truncated) x n = none_spelled xs (truncated_none oasis is_grammar xs at x)
 none_at xs left at (Value Read) x n = absurd (n tt)
-none_at xs left at other x n = none_spelled xs (stuck_none oasis xs at (seen_stuck oasis is_grammar xs at left other x).0)
+none_at xs left at other x n =
+    none_spelled xs (stuck_none oasis xs at (seen_stuck oasis is_grammar xs at left other x).0)
 
-none_of : (xs : List ℕ) (left : Option (List ℕ)) (f : OasisFault) → Refuses xs left f → (IsExcused f → ⊥) → SpellsNone xs
+none_of : (xs : List ℕ) (left : Option (List ℕ)) (f : OasisFault) → Refuses xs left f → (IsExcused f → ⊥)
+    → SpellsNone xs
 none_of xs left (At at k) x n = none_at xs left at k x n
 none_of xs left (Unresolved m) x n = none_resolved xs m x
 
@@ -96,7 +111,8 @@ early_at xs left at (Value Truncated) x i = absurd i
 early_at xs left at (Value Read) x i = absurd i
 early_at xs left at other x i = seen_hopeless oasis is_grammar xs at left other x
 
-early_of : (xs : List ℕ) (left : Option (List ℕ)) (f : OasisFault) → Refuses xs left f → IsEarly f → IsHopeless oasis xs left
+early_of : (xs : List ℕ) (left : Option (List ℕ)) (f : OasisFault) → Refuses xs left f → IsEarly f
+    → IsHopeless oasis xs left
 early_of xs left (At at k) x i = early_at xs left at k x i
 early_of xs left (Unresolved n) x i = absurd i
 

@@ -21,7 +21,8 @@ to_next_cell f earlier (r ∷ rs) = if is_cell r then [] else f earlier r ++ to_
 
 -- the cell that is opened before these records
 abbrev pub drawing : List Record → CellRef → PlainDrawing Figure
-drawing rs name = record { name = name; shapes = to_next_cell shapes_of [] rs; placements = to_next_cell placements_of [] rs }
+drawing rs name =
+    record { name = name; shapes = to_next_cell shapes_of [] rs; placements = to_next_cell placements_of [] rs }
 
 -- a file has a cell for each CELL, in file order
 abbrev pub drawings : List Record → List (PlainDrawing Figure)

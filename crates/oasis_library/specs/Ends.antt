@@ -17,7 +17,8 @@ use Rattle.oasis_library.specs.declared.fault.OasisFault.TheVariants.{At, Unreso
 -- the bytes are a whole file, and of the numbers that its cells use this is the first that no name has
 abbrev pub TellsUnresolved : List ℕ → ℕ → Type 0
 TellsUnresolved xs n =
-    (is : List Item) × SpellsWhole oasis xs is × IsUnnamed (names_in (records is)) (numbers_used (drawings (records is))) n
+    (is : List Item) × SpellsWhole oasis xs is × IsUnnamed (names_in (records is))
+    (numbers_used (drawings (records is))) n
 
 abbrev pub Tells : List ℕ → OasisFault → Type 0
 Tells xs (At at k) = TellsAt xs at k
@@ -28,7 +29,8 @@ abbrev pub IsExcused : OasisFault → Type 0
 IsExcused (At at (Value Read)) = Unit {0}
 IsExcused f = ⊥
 
--- the fault is reported as soon as it is seen, whatever may still come: the input needn't have ended, and the reader didn't fail
+-- the fault is reported as soon as it is seen, whatever may still come: the input needn't have ended, and the reader
+-- didn't fail
 abbrev pub IsEarly : OasisFault → Type 0
 IsEarly (At at (Value Truncated)) = ⊥
 IsEarly (At at (Value Read)) = ⊥

@@ -11,7 +11,8 @@ use Rattle.oasis_library.specs.Head.{head_of}
 use Rattle.oasis_library.specs.Names.{AreCells}
 use Rattle.oasis_library.specs.declared.head.OasisHead.{OasisHead}
 
--- the bytes spell a library and a head: they are a whole file, the cells are those that its records draw, by the names that its
+-- the bytes spell a library and a head: they are a whole file, the cells are those that its records draw, by the names
+-- that its
 -- CELLNAME records give, and the head is what its START and END say
 pub record SpellsLibrary (bytes : List ℕ) (cells : List (PlainCell Figure)) (h : OasisHead) : Type 0 where
   pub items : List Item

@@ -4,7 +4,8 @@ ghost use Rattle.std.specs.List.{AllZip};
 ghost use Rattle.lvl_refusal.specs.Refused.{Says};
 ghost use Rattle.oasis_records.specs.declared.cell.CellName.{CellName as Given};
 ghost use Rattle.oasis_stream.specs.Names.{meant};
-ghost use Rattle.oasis_library.specs.Names.{IsReference, IsCell, AreCells, number_in, numbers_in, numbers_used, IsUnnamed};
+ghost use Rattle.oasis_library.specs.Names.{IsReference, IsCell, AreCells, number_in, numbers_in, numbers_used};
+ghost use Rattle.oasis_library.specs.Names.{IsUnnamed};
 ghost use Rattle.oasis_library.specs.inside.Holds.{HoldsNames};
 ghost use Rattle.oasis_library.specs.inside.Kept.{target_ref};
 
@@ -17,7 +18,8 @@ use std::alloc::Global;
 
 // The name of that cell, or the number that no name has.
 fn name_of_target(names: &Names, target: Target) -> Result<Name, Refusal<u64>>
-    ensures ok { IfOk result (λ name. (given : List Given) → HoldsNames names.now given → meant given (target_ref target) ≡ Some name) }
+    ensures ok { IfOk result (λ name. (given : List Given) → HoldsNames names.now given
+        → meant given (target_ref target) ≡ Some name) }
     ensures err { IfErr result (λ e. Says e (λ number. (given : List Given) → HoldsNames names.now given
         → IsUnnamed given (number_in (target_ref target)) number)) }
 {

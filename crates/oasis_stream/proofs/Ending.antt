@@ -1,22 +1,24 @@
 -- What comes after END: the end of the input, or a byte that is refused.
-use Rattle.std.proofs.Common.{◌≡◌, ℕ, ◌+◌, ◌-◌, ◌<◌, ◌≤◌, true, false, List, [], ◌∷◌, ◌++◌, length, take, drop, Result, Ok, Err, refl, sym, ap, ◌∙◌, subst}
-use Rattle.std.proofs.Common.{inl, arith, length-append, length-drop, length-take}
+use Rattle.std.proofs.Common.{◌≡◌, ℕ, ◌+◌, ◌-◌, ◌<◌, true, false, List, [], ◌++◌, length, take, drop, Result}
+use Rattle.std.proofs.Common.{Ok, Err, refl, sym, ap, ◌∙◌, subst}
+use Rattle.std.proofs.Common.{inl, arith, length-append}
 use Rattle.std.proofs.lemmas.List.{append-nil, nil_from_length, take-append-drop}
 use Rattle.std.specs.Prelude.{Option}
 use Rattle.std.specs.Borrow.{GName}
-use Rattle.lvl_io.specs.Spelling.{IsFront, IsBegun}
+use Rattle.lvl_io.specs.Spelling.{IsBegun}
 use Rattle.lvl_grammar.specs.Front.{SpellsWhole, IsFront as IsFrontOf}
 use Rattle.lvl_grammar.specs.inside.ReadTo.{ReadTo, IsSeenWrong}
 use Rattle.lvl_grammar.proofs.Reading.{reads_front}
-use Rattle.lvl_refusal.specs.declared.Refusal.TheVariants.{Breach}
 use Rattle.oasis_values.specs.Faults.{is_rule}
 use Rattle.oasis_values.specs.Input.{file_limit, bytes_left, input_offset, has_failed, input_reader}
 use Rattle.oasis_values.specs.Numbers.{IsByte}
 use Rattle.oasis_values.specs.Reads.{Fails, Reads, bytes_had}
 use Rattle.oasis_values.specs.declared.fault.ValueFault.{ValueFault}
 use Rattle.oasis_values.specs.declared.fault.ValueFault.TheVariants.{Truncated, IntegerTooLarge, StringByte, RealType}
-use Rattle.oasis_values.specs.declared.fault.ValueFault.TheVariants.{ZeroDenominator, PointListType, PointCount, RepetitionType}
-use Rattle.oasis_values.specs.declared.fault.ValueFault.TheVariants.{RepetitionSize, OutOfRange, TooLong, Read, Failed, NoModal}
+use Rattle.oasis_values.specs.declared.fault.ValueFault.TheVariants.{ZeroDenominator, PointListType, PointCount}
+use Rattle.oasis_values.specs.declared.fault.ValueFault.TheVariants.{RepetitionType}
+use Rattle.oasis_values.specs.declared.fault.ValueFault.TheVariants.{RepetitionSize, OutOfRange, TooLong, Read, Failed}
+use Rattle.oasis_values.specs.declared.fault.ValueFault.TheVariants.{NoModal}
 use Rattle.oasis_values.specs.declared.input.Input.{Input}
 use Rattle.oasis_stream.specs.Items.{Item, IsEnded}
 use Rattle.oasis_stream.specs.Front.{IsItem, oasis}
@@ -27,16 +29,28 @@ use Rattle.oasis_stream.proofs.Seen.{IsSeen, law_seen, front_seen, room_seen}
 use Rattle.oasis_stream.proofs.Steps.{wrong_seen}
 
 -- a byte follows
-pub byte_refuses : {R : Type 0} {remaining : R → Option (List ℕ)} {errors : R → ℕ} {lent : R → List GName} {Has : List Item → Type 0} (xs : List ℕ) {old new : Input R} (to : ReadTo oasis xs (input_offset old) Has (bytes_left remaining old)) (b : ℕ)
-    → has_failed old ≡ false → IsEnded to.records → Reads remaining errors lent IsByte old new (Ok b) → RefusesAt xs (remaining (input_reader new)) (input_offset old) AfterEnd
+pub byte_refuses : {R : Type 0} {remaining : R → Option (List ℕ)} {errors : R → ℕ} {lent : R → List GName}
+    {Has : List Item → Type 0} (xs : List ℕ) {old new : Input R}
+    (to : ReadTo oasis xs (input_offset old) Has (bytes_left remaining old)) (b : ℕ)
+    → has_failed old ≡ false → IsEnded to.records → Reads remaining errors lent IsByte old new (Ok b)
+    → RefusesAt xs (remaining (input_reader new)) (input_offset old) AfterEnd
 byte_refuses xs {old = old} {new = new} to b live ended p =
     let at = input_offset old in
     let had = bytes_had old new in
     let a = p.answers live (drop at xs) to.left_is in
     let one : length a.0.bytes ≡ 1 = ap length a.0.says in
     wrong_seen xs at had to AfterEnd (law_seen (drop at xs) p to.left_is)
-    (λ more. let f = front_seen IsByte (drop at xs) had (input_offset new - at) (Ok b) a.0 (omega arith) more in
-    (ended, omega (arith, one, a.0.count, a.1), omega (arith, ap length f.whole, length-append f.bytes f.rest, ap length f.says)))
+    (λ more. let f = front_seen IsByte (drop at xs) had (input_offset new - at) (Ok b) a.0 (omega arith) more in (
+      ended,
+      omega (arith, one, a.0.count, a.1),
+      omega (
+        arith,
+        ap length f.whole,
+        length-append f.bytes f.rest,
+        ap length
+            f.says,
+      ),
+    ))
 
 -- nothing is begun but the byte itself
 short_byte : (x : Result ℕ ValueFault) (ys more : List ℕ) → 0 < length more → IsByte (ys ++ more) x → length ys ≡ 0
@@ -47,25 +61,36 @@ begun_byte : (ys : List ℕ) → IsBegun IsByte ys → length ys ≡ 0
 begun_byte ys b = short_byte b.value ys b.more b.short b.says
 
 -- the limit of a file is reached, and a byte follows
-long_after : {Has : List Item → Type 0} {was left : Option (List ℕ)} (xs : List ℕ) (at had : ℕ) (to : ReadTo oasis xs at Has was)
-    → IsSeen (drop at xs) had left → Fails IsByte (file_limit - at) had (drop at xs) TooLong → IsSeenWrong oasis xs at left (Value TooLong)
+long_after : {Has : List Item → Type 0} {was left : Option (List ℕ)} (xs : List ℕ) (at had : ℕ)
+    (to : ReadTo oasis xs at Has was)
+    → IsSeen (drop at xs) had left → Fails IsByte (file_limit - at) had (drop at xs) TooLong
+    → IsSeenWrong oasis xs at left (Value TooLong)
 long_after xs at had to s p =
     let q = p.too_long refl in
-    let none : length (take (file_limit - at) (drop at xs)) ≡ 0 = begun_byte (take (file_limit - at) (drop at xs)) q.2 in
+    let none : length (take (file_limit - at) (drop at xs)) ≡ 0 = begun_byte (take (file_limit - at) (drop at xs))
+    q.2 in
     let nil : take (file_limit - at) (drop at xs) ≡ [] = nil_from_length (take (file_limit - at) (drop at xs)) none in
     let said = (item_code to.records).said in
-    let begun : IsBegun (IsItem to.records) [] = record { more = said.bytes; value = said.value; short = item_needs to.records said.bytes said.value said.says; says = said.says } in
+    let begun : IsBegun (IsItem to.records) [] = record {
+      more = said.bytes;
+      value = said.value;
+      short = item_needs to.records said.bytes said.value said.says;
+      says = said.says;
+    } in
     wrong_seen xs at had to (Value TooLong) s
     (λ more. let z = room_seen (drop at xs) had (file_limit - at) more q.0 q.1 in
     inl (refl, (z.0, ((λ e. z.1 ∙ nil), subst (IsBegun (IsItem to.records)) (sym (z.1 ∙ nil)) begun))))
 
 -- no rule of values is breached by a byte
-byte_rule : {A : Type 0} (room had : ℕ) (ys : List ℕ) (f : ValueFault) → is_rule f ≡ true → Fails IsByte room had ys f → A
+byte_rule : {A : Type 0} (room had : ℕ) (ys : List ℕ) (f : ValueFault) → is_rule f ≡ true → Fails IsByte room had ys f
+    → A
 byte_rule room had ys f rule p = absurd ((p.breached rule).front.says)
 
 -- no byte could be read, and the input hasn't ended
-pub after_refuses : {Has : List Item → Type 0} {was left : Option (List ℕ)} (xs : List ℕ) (at had : ℕ) (to : ReadTo oasis xs at Has was) (f : ValueFault)
-    → ¬ (f ≡ Truncated) → ¬ (f ≡ Failed) → IsSeen (drop at xs) had left → Fails IsByte (file_limit - at) had (drop at xs) f → RefusesAt xs left at (Value f)
+pub after_refuses : {Has : List Item → Type 0} {was left : Option (List ℕ)} (xs : List ℕ) (at had : ℕ)
+    (to : ReadTo oasis xs at Has was) (f : ValueFault)
+    → ¬ (f ≡ Truncated) → ¬ (f ≡ Failed) → IsSeen (drop at xs) had left
+    → Fails IsByte (file_limit - at) had (drop at xs) f → RefusesAt xs left at (Value f)
 after_refuses xs at had to Truncated t n s p = absurd (t refl)
 after_refuses {Has = Has} {was = was} xs at had to Read t n s p = reads_front oasis xs at Has was to
 after_refuses xs at had to TooLong t n s p = long_after xs at had to s p
@@ -82,9 +107,11 @@ after_refuses xs at had to OutOfRange t n s p = byte_rule _ _ _ _ refl p
 after_refuses xs at had to NoModal t n s p = byte_rule _ _ _ _ refl p
 
 -- the input has ended: it is a whole file
-pub whole_file : {Has : List Item → Type 0} {had : ℕ} {was : Option (List ℕ)} (xs : List ℕ) (at : ℕ) (to : ReadTo oasis xs at Has was) → IsEnded to.records
+pub whole_file : {Has : List Item → Type 0} {had : ℕ} {was : Option (List ℕ)} (xs : List ℕ) (at : ℕ)
+    (to : ReadTo oasis xs at Has was) → IsEnded to.records
     → Fails IsByte (file_limit - at) had (drop at xs) Truncated → SpellsWhole oasis xs to.records
 whole_file xs at to ended p =
     let nil : drop at xs ≡ [] = nil_from_length (drop at xs) (begun_byte (drop at xs) (p.truncated refl).1) in
-    let all : take at xs ≡ xs = sym (append-nil (take at xs)) ∙ ap (λ l. take at xs ++ l) (sym nil) ∙ take-append-drop at xs in
+    let all : take at xs ≡ xs = sym (append-nil (take at xs)) ∙ ap (λ l. take at xs ++ l) (sym nil)
+    ∙ take-append-drop at xs in
     record { front = subst (λ l. IsFrontOf oasis l to.records) all to.front; whole = ended }

@@ -1,5 +1,6 @@
 -- OASIS is a grammar: what the laws of streams ask of a format.
-use Rattle.std.proofs.Common.{◌≡◌, ℕ, ◌<◌, ◌≤◌, List, ◌++◌, length, take, drop, Result, Ok, Err, refl, sym, ap, ◌∙◌, subst}
+use Rattle.std.proofs.Common.{◌≡◌, ℕ, ◌<◌, ◌≤◌, List, ◌++◌, length, take, drop, Result, Ok, Err, refl, sym, ap, ◌∙◌}
+use Rattle.std.proofs.Common.{subst}
 use Rattle.std.proofs.Common.{append_assoc, inl, inr, arith, length-take}
 use Rattle.std.proofs.lemmas.List.{take-append-drop, take-append-le}
 use Rattle.std.proofs.Math.Seq.{take-append_seam}
@@ -13,7 +14,8 @@ use Rattle.oasis_stream.specs.Items.{Item}
 use Rattle.oasis_stream.specs.Rules.{Breaches, MayFollow}
 use Rattle.oasis_stream.specs.Front.{IsItem, IsTooLong, BreaksRule, IsWrong, oasis}
 use Rattle.oasis_stream.specs.declared.fault.OasisKind.{OasisKind}
-use Rattle.oasis_stream.specs.declared.fault.OasisKind.TheVariants.{Value, Record, Unexpected, Name, Figure, AfterEnd, TooManyCells}
+use Rattle.oasis_stream.specs.declared.fault.OasisKind.TheVariants.{Value, Record, Unexpected, Name, Figure, AfterEnd}
+use Rattle.oasis_stream.specs.declared.fault.OasisKind.TheVariants.{TooManyCells}
 use Rattle.oasis_stream.proofs.Items.{item_code, item_needs, front_needs}
 
 abbrev said : Item → Result (Result Item OasisKind) ValueFault
@@ -26,7 +28,8 @@ same_item : (i j : Item) → said i ≡ said j → i ≡ j
 same_item i j e = cc
 
 -- after the same items, bytes that begin alike spell the same item by the same bytes
-one_item : (before : List Item) (i j : Item) (a b x y : List ℕ) → Spelled before a i → Spelled before b j → a ++ x ≡ b ++ y → (a ≡ b) × (i ≡ j)
+one_item : (before : List Item) (i j : Item) (a b x y : List ℕ) → Spelled before a i → Spelled before b j
+    → a ++ x ≡ b ++ y → (a ≡ b) × (i ≡ j)
 one_item before i j a b x y p q e =
     let o = (item_code before).free.only a b x y (Ok (Ok i)) (Ok (Ok j)) p q e in
     (o.0, same_item i j o.1)
@@ -54,10 +57,12 @@ wrong_here before room ys TooManyCells w = rule_needs before room ys TooManyCell
 rule_stops : (before : List Item) (room : ℕ) (ys text : List ℕ) (i : Item) (k : OasisKind) → BreaksRule before room ys k
     → Spelled before text i → MayFollow before i → Agree text ys → ⊥
 rule_stops before room ys text i k w p g agree = elim w.3 [
-  | inl q ↦ (let e : Ok (Err k) ≡ Ok (Ok i) = front_only (IsItem before) ys w.1 (Ok (Err k)) (Ok (Ok i)) (item_code before).free q text p agree in
+  | inl q ↦ (let e : Ok (Err k) ≡ Ok (Ok i) = front_only (IsItem before) ys w.1 (Ok (Err k)) (Ok (Ok i))
+      (item_code before).free q text p agree in
       let h : Err k ≡ Ok i = cc in cc)
   | inr q ↦
-      let e : q.0 ≡ i = same_item q.0 i (front_only (IsItem before) ys w.1 (Ok (Ok q.0)) (Ok (Ok i)) (item_code before).free q.1 text p agree) in
+      let e : q.0 ≡ i = same_item q.0 i (front_only (IsItem before) ys w.1 (Ok (Ok q.0)) (Ok (Ok i))
+      (item_code before).free q.1 text p agree) in
       g.1 k (subst (λ (j : Item). Breaches before j k) e q.2)
 ]
 
@@ -65,26 +70,36 @@ rule_stops before room ys text i k w p g agree = elim w.3 [
 within_room : (room : ℕ) (text ys : List ℕ) → Agree text ys
     → (x y : List ℕ) × (text ++ x ≡ take room ys ++ y)
 within_room room text ys agree =
-    let q = agree_ends text ys agree in
-    (q.0, drop room ys ++ q.1, q.2 ∙ ap (λ l. l ++ q.1) (sym (take-append-drop room ys)) ∙ append_assoc (take room ys) (drop room ys) q.1)
+    let q = agree_ends text ys agree in (
+      q.0,
+      drop room ys ++ q.1,
+      q.2 ∙ ap (λ l. l ++ q.1) (sym (take-append-drop room ys)) ∙ append_assoc (take room ys)
+          (drop room ys) q.1,
+    )
 
 -- the shorter of two lists of bytes that begin alike is at the front of the longer one
-pub front_in : (text ys x y : List ℕ) → text ++ x ≡ ys ++ y → length text ≤ length ys → ys ≡ text ++ drop (length text) ys
+pub front_in : (text ys x y : List ℕ) → text ++ x ≡ ys ++ y → length text ≤ length ys
+    → ys ≡ text ++ drop (length text) ys
 front_in text ys x y e fits =
     sym (take-append-drop (length text) ys)
-    ∙ ap (λ l. l ++ drop (length text) ys) (sym (take-append-le (length text) ys y fits) ∙ ap (take (length text)) (sym e) ∙ take-append_seam text x)
+    ∙ ap (λ l. l ++ drop (length text) ys) (sym (take-append-le (length text) ys y fits) ∙ ap (take (length text))
+    (sym e) ∙ take-append_seam text x)
 
 -- an unfinished beginning has no item at its front
-begun_none : (before : List Item) (ys text rest : List ℕ) (i : Item) → IsBegun (IsItem before) ys → Spelled before text i → ys ≡ text ++ rest → ⊥
+begun_none : (before : List Item) (ys text rest : List ℕ) (i : Item) → IsBegun (IsItem before) ys
+    → Spelled before text i → ys ≡ text ++ rest → ⊥
 begun_none before ys text rest i b p e =
-    begun_open (IsItem before) ys (length text) (Ok (Ok i)) (item_code before).free b (record { bytes = text; rest = rest; says = p; whole = e; count = refl })
+    begun_open (IsItem before) ys (length text) (Ok (Ok i)) (item_code before).free b
+    (record { bytes = text; rest = rest; says = p; whole = e; count = refl })
 
-long_none : (before : List Item) (room : ℕ) (ys text : List ℕ) (i : Item) → IsTooLong before room ys → Spelled before text i
+long_none : (before : List Item) (room : ℕ) (ys text : List ℕ) (i : Item) → IsTooLong before room ys
+    → Spelled before text i
     → Agree text ys → length text ≤ room → ⊥
 long_none before room ys text i (more, (ended, begun)) p agree fits =
     let q = within_room room text ys agree in
     let l : length text ≤ length (take room ys) = omega (arith, fits, more, length-take room ys) in
-    begun_none before (take room ys) text (drop (length text) (take room ys)) i begun p (front_in text (take room ys) q.0 q.1 q.2 l)
+    begun_none before (take room ys) text (drop (length text) (take room ys)) i begun p
+    (front_in text (take room ys) q.0 q.1 q.2 l)
 
 -- where a rule is breached no item may follow
 wrong_stops : (before : List Item) (room : ℕ) (ys text : List ℕ) (i : Item) (k : OasisKind) → IsWrong before room ys k
@@ -95,10 +110,12 @@ wrong_stops before room ys text i (Value f) w p g agree fits = elim w [
 ]
 wrong_stops before room ys text i AfterEnd w p g agree fits = g.0 w.0
 wrong_stops before room ys text i (Record k) w p g agree fits = rule_stops before room ys text i (Record k) w p g agree
-wrong_stops before room ys text i (Unexpected id) w p g agree fits = rule_stops before room ys text i (Unexpected id) w p g agree
+wrong_stops before room ys text i (Unexpected id) w p g agree fits =
+    rule_stops before room ys text i (Unexpected id) w p g agree
 wrong_stops before room ys text i (Name k) w p g agree fits = rule_stops before room ys text i (Name k) w p g agree
 wrong_stops before room ys text i (Figure k) w p g agree fits = rule_stops before room ys text i (Figure k) w p g agree
-wrong_stops before room ys text i TooManyCells w p g agree fits = rule_stops before room ys text i TooManyCells w p g agree
+wrong_stops before room ys text i TooManyCells w p g agree fits =
+    rule_stops before room ys text i TooManyCells w p g agree
 
 pub is_grammar : IsGrammar oasis
 is_grammar = record {

@@ -1,15 +1,12 @@
 -- A record that is read whole breaches one rule at most.
-use Rattle.std.proofs.Common.{◌≡◌, ◌≢◌, ℕ, ◌<◌, ◌⊎◌, List, ◌∷◌, Some, refl, sym, ap, ◌∙◌, subst, arith, inl, inr}
-use Rattle.lvl_grid.specs.declared.point.Point.{Point}
-use Rattle.lvl_path.specs.Runs.{number, IsLowestFault}
+use Rattle.std.proofs.Common.{◌≡◌, ◌<◌, ◌⊎◌, List, ◌∷◌, Some, refl, sym, ap, ◌∙◌, subst, arith, inl, inr}
 use Rattle.lvl_path.specs.declared.fault.PathFault.{PathFault}
-use Rattle.lvl_path.specs.declared.fault.PathFault.TheVariants.{NoWidth, FewPoints, Oblique as ObliqueStep, RepeatedPoint, TurnsBack}
-use Rattle.lvl_path.specs.declared.fault.PathFault.TheVariants.{ShortRun, OutOfRange as PathOutOfRange}
 use Rattle.oasis_records.specs.declared.cell.CellName.{CellName as AName}
 use Rattle.oasis_records.specs.declared.record.Record.{Record as ARecord}
-use Rattle.oasis_records.specs.declared.record.Record.TheVariants.{Pad, Start, End, CellName, Cell, XyAbsolute, XyRelative}
+use Rattle.oasis_records.specs.declared.record.Record.TheVariants.{Pad, Start, End, CellName, Cell, XyAbsolute}
+use Rattle.oasis_records.specs.declared.record.Record.TheVariants.{XyRelative}
 use Rattle.oasis_records.specs.declared.record.Record.TheVariants.{Placement, Rectangle, Polygon, Path}
-use Rattle.oasis_figures.specs.Figures.{path_points, half_of, start_of, end_of}
+use Rattle.oasis_figures.specs.Figures.{path_points}
 use Rattle.oasis_figures.specs.Rules.{Breaks, HasPathFault, order, Breaches as FigureBreaches}
 use Rattle.oasis_figures.specs.declared.rule.FigureRule.{FigureRule}
 use Rattle.oasis_figures.specs.declared.rule.FigureRule.TheVariants.{Undefined, Layer, OutOfRange, Magnification, Angle}
@@ -21,31 +18,15 @@ use Rattle.oasis_stream.specs.Rules.{since_cell, NameBreaches, NamingBreaches, R
 use Rattle.oasis_stream.specs.declared.fault.NameRule.{NameRule}
 use Rattle.oasis_stream.specs.declared.fault.NameRule.TheVariants.{Mixed, NumberTwice, NameTwice}
 use Rattle.oasis_stream.specs.declared.fault.OasisKind.{OasisKind}
-use Rattle.oasis_stream.specs.declared.fault.OasisKind.TheVariants.{Value, Record, Unexpected, Name, Figure, AfterEnd, TooManyCells}
+use Rattle.oasis_stream.specs.declared.fault.OasisKind.TheVariants.{Value, Record, Unexpected, Name, Figure, AfterEnd}
+use Rattle.oasis_stream.specs.declared.fault.OasisKind.TheVariants.{TooManyCells}
+use Rattle.lvl_path.proofs.Lowest.{one_lowest}
 
--- two faults of a path are not both the lowest
-same_fault : (f g : PathFault) → number f ≡ number g → f ≡ g
-same_fault NoWidth NoWidth e = refl
-same_fault FewPoints FewPoints e = refl
-same_fault ObliqueStep ObliqueStep e = refl
-same_fault RepeatedPoint RepeatedPoint e = refl
-same_fault TurnsBack TurnsBack e = refl
-same_fault ShortRun ShortRun e = refl
-same_fault PathOutOfRange PathOutOfRange e = refl
-same_fault f g e = absurd (omega (arith, e))
-
-fault_once : (ps : List Point) (h s e : ℕ) (f g : PathFault)
-    → IsLowestFault ps (record { half = h; start = s; end = e }) f
-    → IsLowestFault ps (record { half = h; start = s; end = e }) g → f ≡ g
-fault_once ps h s e f g x y =
-    let below : number f < number g → ⊥ = λ l. y.lowest f l x.breached in
-    let above : number g < number f → ⊥ = λ l. x.lowest g l y.breached in
-    same_fault f g (omega (arith, below, above))
-
-path_once : (earlier : List ARecord) (r : ARecord) (f g : PathFault) → HasPathFault earlier r f → HasPathFault earlier r g → f ≡ g
+path_once : (earlier : List ARecord) (r : ARecord) (f g : PathFault) → HasPathFault earlier r f
+    → HasPathFault earlier r g → f ≡ g
 path_once earlier (Path p) f g x y =
     let rs = Path p ∷ earlier in
-    fault_once (path_points rs) (half_of rs) (start_of rs) (end_of rs) f g x y
+    one_lowest (path_points rs) _ f g x y
 path_once earlier Pad f g x y = absurd x
 path_once earlier (Start s) f g x y = absurd x
 path_once earlier (End v) f g x y = absurd x
@@ -58,7 +39,8 @@ path_once earlier (Rectangle p) f g x y = absurd x
 path_once earlier (Polygon p) f g x y = absurd x
 
 -- rules of one place in the order of tests are one rule
-same_rule : (earlier : List ARecord) (r : ARecord) (f g : FigureRule) → order f ≡ order g → Breaks earlier r f → Breaks earlier r g → f ≡ g
+same_rule : (earlier : List ARecord) (r : ARecord) (f g : FigureRule) → order f ≡ order g → Breaks earlier r f
+    → Breaks earlier r g → f ≡ g
 same_rule earlier r (Undefined v) (Undefined w) e x y = (let z : Some v ≡ Some w = sym x ∙ y in cc)
 same_rule earlier r Layer Layer e x y = refl
 same_rule earlier r OutOfRange OutOfRange e x y = refl
@@ -69,7 +51,8 @@ same_rule earlier r Oblique Oblique e x y = refl
 same_rule earlier r (PathRule f) (PathRule g) e x y = ap (λ (i : PathFault). PathRule i) (path_once earlier r f g x y)
 same_rule earlier r f g e x y = absurd (omega (arith, e))
 
-figure_once : (earlier : List ARecord) (r : ARecord) (f g : FigureRule) → FigureBreaches earlier r f → FigureBreaches earlier r g → f ≡ g
+figure_once : (earlier : List ARecord) (r : ARecord) (f g : FigureRule) → FigureBreaches earlier r f
+    → FigureBreaches earlier r g → f ≡ g
 figure_once earlier r f g x y =
     let below : order f < order g → ⊥ = λ l. y.first f l x.broken in
     let above : order g < order f → ⊥ = λ l. x.first g l y.broken in
@@ -127,7 +110,8 @@ naming names (Path p) k b = absurd b
 same_name : (a b : AName) → CellName a ≡ CellName b → a ≡ b
 same_name a b e = cc
 
-naming_once : (names : List AName) (r : ARecord) (j k : NameRule) → NamingBreaches names r j → NamingBreaches names r k → j ≡ k
+naming_once : (names : List AName) (r : ARecord) (j k : NameRule) → NamingBreaches names r j → NamingBreaches names r k
+    → j ≡ k
 naming_once names r j k p q =
     let a = naming names r j p in
     let b = naming names r k q in
@@ -155,7 +139,8 @@ either_rule rs r (Unexpected id) b = absurd b
 either_rule rs r AfterEnd b = absurd b
 either_rule rs r TooManyCells b = absurd b
 
-record_once : (rs : List ARecord) (r : ARecord) (j k : OasisKind) → RecordBreaches rs r j → RecordBreaches rs r k → j ≡ k
+record_once : (rs : List ARecord) (r : ARecord) (j k : OasisKind) → RecordBreaches rs r j → RecordBreaches rs r k
+    → j ≡ k
 record_once rs r j k p q = elim (either_rule rs r j p) [
   | inl a ↦ elim (either_rule rs r k q) [
     | inl b ↦ a.1 ∙ ap Name (naming_once (names_in rs) r a.0 b.0 a.2 b.2) ∙ sym b.1
@@ -168,6 +153,7 @@ record_once rs r j k p q = elim (either_rule rs r j p) [
 ]
 
 -- an item breaches one rule at most
-pub breaches_once : (before : List Item) (i : Item) (j k : OasisKind) → Breaches before i j → Breaches before i k → j ≡ k
+pub breaches_once : (before : List Item) (i : Item) (j k : OasisKind) → Breaches before i j → Breaches before i k
+    → j ≡ k
 breaches_once before magic j k p q = absurd p
 breaches_once before (item r) j k p q = record_once (records before) r j k p q

@@ -1,5 +1,6 @@
 -- Where a rule is breached no other is.
-use Rattle.std.proofs.Common.{◌≡◌, ℕ, ◌<◌, ◌≤◌, ◌⊎◌, List, ◌++◌, length, take, drop, Result, Ok, Err, refl, sym, ap, ◌∙◌, subst}
+use Rattle.std.proofs.Common.{◌≡◌, ℕ, ◌<◌, ◌≤◌, ◌⊎◌, List, ◌++◌, length, take, drop, Result, Ok, Err, refl, sym, ap}
+use Rattle.std.proofs.Common.{◌∙◌, subst}
 use Rattle.std.proofs.Common.{inl, inr, arith, length-take}
 use Rattle.std.proofs.lemmas.List.{take-append-drop}
 use Rattle.lvl_io.specs.Spelling.{IsFront}
@@ -10,7 +11,8 @@ use Rattle.oasis_stream.specs.Items.{Item, IsEnded}
 use Rattle.oasis_stream.specs.Rules.{Breaches}
 use Rattle.oasis_stream.specs.Front.{IsItem, IsTooLong, BreaksRule, IsWrong}
 use Rattle.oasis_stream.specs.declared.fault.OasisKind.{OasisKind}
-use Rattle.oasis_stream.specs.declared.fault.OasisKind.TheVariants.{Value, Record, Unexpected, Name, Figure, AfterEnd, TooManyCells}
+use Rattle.oasis_stream.specs.declared.fault.OasisKind.TheVariants.{Value, Record, Unexpected, Name, Figure, AfterEnd}
+use Rattle.oasis_stream.specs.declared.fault.OasisKind.TheVariants.{TooManyCells}
 use Rattle.oasis_stream.proofs.Items.{item_code}
 use Rattle.oasis_stream.proofs.Instance.{front_in}
 use Rattle.oasis_stream.proofs.Once.{breaches_once}
@@ -21,7 +23,8 @@ Explains before (Err f) k = k ≡ Value f
 Explains before (Ok (Err r)) k = k ≡ r
 Explains before (Ok (Ok i)) k = Breaches before i k
 
-explains_once : (before : List Item) (x : Result (Result Item OasisKind) ValueFault) (j k : OasisKind) → Explains before x j → Explains before x k → j ≡ k
+explains_once : (before : List Item) (x : Result (Result Item OasisKind) ValueFault) (j k : OasisKind)
+    → Explains before x j → Explains before x k → j ≡ k
 explains_once before (Err f) j k p q = p ∙ sym q
 explains_once before (Ok (Err r)) j k p q = p ∙ sym q
 explains_once before (Ok (Ok i)) j k p q = breaches_once before i j k p q
@@ -48,16 +51,25 @@ record IsAfter (before : List Item) (room : ℕ) (ys : List ℕ) (k : OasisKind)
 abbrev Cause : List Item → ℕ → List ℕ → OasisKind → Type 0
 Cause before room ys k = IsExplained before room ys k ⊎ (IsLong before room ys k ⊎ IsAfter before room ys k)
 
-by_rule : (before : List Item) (room : ℕ) (ys : List ℕ) (k : OasisKind) → BreaksRule before room ys k → Cause before room ys k
+by_rule : (before : List Item) (room : ℕ) (ys : List ℕ) (k : OasisKind) → BreaksRule before room ys k
+    → Cause before room ys k
 by_rule before room ys k w = elim w.3 [
   | inl p ↦ inl (record { unended = w.0; count = w.1; within = w.2; said = Ok (Err k); front = p; why = refl })
   | inr p ↦ inl (record { unended = w.0; count = w.1; within = w.2; said = Ok (Ok p.0); front = p.1; why = p.2 })
 ]
 
-cause : (before : List Item) (room : ℕ) (ys : List ℕ) (k : OasisKind) → IsWrong before room ys k → Cause before room ys k
+cause : (before : List Item) (room : ℕ) (ys : List ℕ) (k : OasisKind) → IsWrong before room ys k
+    → Cause before room ys k
 cause before room ys (Value f) w = elim w [
   | inl p ↦ inr (inl (record { kind = ap Value p.0; long = p.1 }))
-  | inr p ↦ inl (record { unended = p.0; count = p.2.count; within = p.2.within; said = Err f; front = p.2.front; why = refl })
+  | inr p ↦ inl (record {
+    unended = p.0;
+    count = p.2.count;
+    within = p.2.within;
+    said = Err f;
+    front = p.2.front;
+    why = refl;
+  })
 ]
 cause before room ys AfterEnd w = inr (inr (record { kind = refl; ended = w.0; room_is = w.1; some = w.2 }))
 cause before room ys (Record k) w = by_rule before room ys (Record k) w
@@ -67,25 +79,38 @@ cause before room ys (Figure k) w = by_rule before room ys (Figure k) w
 cause before room ys TooManyCells w = by_rule before room ys TooManyCells w
 
 -- nothing whole is at the front of what there is room for, where that is an unfinished beginning
-long_open : (before : List Item) (room : ℕ) (ys : List ℕ) (n : ℕ) (x : Result (Result Item OasisKind) ValueFault) → IsTooLong before room ys
+long_open : (before : List Item) (room : ℕ) (ys : List ℕ) (n : ℕ) (x : Result (Result Item OasisKind) ValueFault)
+    → IsTooLong before room ys
     → IsFront (IsItem before) ys n x → n ≤ room → ⊥
 long_open before room ys n x (more, (ended, begun)) f fits =
     let l : length f.bytes ≤ length (take room ys) = omega (arith, fits, more, f.count, length-take room ys) in
     let e : f.bytes ++ f.rest ≡ take room ys ++ drop room ys = sym f.whole ∙ sym (take-append-drop room ys) in
     begun_open (IsItem before) (take room ys) n x (item_code before).free begun
-    (record { bytes = f.bytes; rest = drop (length f.bytes) (take room ys); says = f.says; whole = front_in f.bytes (take room ys) f.rest (drop room ys) e l; count = f.count })
+    (record {
+      bytes = f.bytes;
+      rest = drop (length f.bytes) (take room ys);
+      says = f.says;
+      whole = front_in f.bytes (take room ys) f.rest (drop room ys) e l;
+      count = f.count;
+    })
 
 -- nor does a byte follow there after END
 long_after : (before : List Item) (room : ℕ) (ys : List ℕ) → IsTooLong before room ys → IsEnded before → 0 < room → ⊥
-long_after before room ys (more, (ended, begun)) e some = omega (arith, some, more, length-take room ys, ap length (ended e))
+long_after before room ys (more, (ended, begun)) e some =
+    omega (arith, some, more, length-take room ys, ap length (ended e))
 
-front_same : (before : List Item) (ys : List ℕ) (n m : ℕ) (x y : Result (Result Item OasisKind) ValueFault) → IsFront (IsItem before) ys n x → IsFront (IsItem before) ys m y → x ≡ y
-front_same before ys n m x y p q = front_only (IsItem before) ys n x y (item_code before).free p q.bytes q.says (q.rest, inr q.whole)
+front_same : (before : List Item) (ys : List ℕ) (n m : ℕ) (x y : Result (Result Item OasisKind) ValueFault)
+    → IsFront (IsItem before) ys n x → IsFront (IsItem before) ys m y → x ≡ y
+front_same before ys n m x y p q =
+    front_only (IsItem before) ys n x y (item_code before).free p q.bytes q.says (q.rest, inr q.whole)
 
-one_cause : (before : List Item) (room : ℕ) (ys : List ℕ) (j k : OasisKind) → Cause before room ys j → Cause before room ys k → j ≡ k
+one_cause : (before : List Item) (room : ℕ) (ys : List ℕ) (j k : OasisKind) → Cause before room ys j
+    → Cause before room ys k → j ≡ k
 one_cause before room ys j k p q = elim p [
   | inl a ↦ elim q [
-    | inl b ↦ explains_once before a.said j k a.why (subst (λ x. Explains before x k) (sym (front_same before ys a.count b.count a.said b.said a.front b.front)) b.why)
+    | inl b ↦ explains_once before a.said j k a.why
+        (subst (λ x. Explains before x k) (sym (front_same before ys a.count b.count a.said b.said a.front b.front))
+        b.why)
     | inr r ↦ elim r [
       | inl b ↦ absurd (long_open before room ys a.count a.said b.long a.front a.within)
       | inr b ↦ absurd (a.unended b.ended)
@@ -110,5 +135,6 @@ one_cause before room ys j k p q = elim p [
 ]
 
 -- what is wrong with the front of the bytes is one rule
-pub only_wrong : (before : List Item) (room : ℕ) (ys : List ℕ) (j k : OasisKind) → IsWrong before room ys j → IsWrong before room ys k → j ≡ k
+pub only_wrong : (before : List Item) (room : ℕ) (ys : List ℕ) (j k : OasisKind) → IsWrong before room ys j
+    → IsWrong before room ys k → j ≡ k
 only_wrong before room ys j k p q = one_cause before room ys j k (cause before room ys j p) (cause before room ys k q)

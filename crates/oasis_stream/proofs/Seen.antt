@@ -1,4 +1,5 @@
--- The bytes that a call has read: those that were taken, and those in hand. What they say they say whatever comes after them.
+-- The bytes that a call has read: those that were taken, and those in hand. What they say they say whatever comes after
+-- them.
 use Rattle.std.proofs.Common.{◌≡◌, ℕ, ◌+◌, ◌-◌, ◌<◌, ◌≤◌, List, ◌++◌, length, take, drop, Some, sym, ap, ◌∙◌}
 use Rattle.std.proofs.Common.{append_assoc, arith, length-append, length-take}
 use Rattle.std.proofs.Math.Seq.{take-add, take-append-add, take-append_seam}
@@ -27,10 +28,12 @@ pub law_seen : {R A : Type 0} {remaining : R → Option (List ℕ)} {errors : R 
 law_seen {remaining = remaining} {old = old} {new = new} ys p known =
     let n = input_offset new - input_offset old in
     let q = known_parts new.ahead (remaining new.reader) (drop n ys) (p.left ys known) in
-    let hand : take (length new.ahead) (drop n ys) ≡ new.ahead = ap (take (length new.ahead)) (sym q.2) ∙ take-append_seam new.ahead q.0 in
+    let hand : take (length new.ahead) (drop n ys) ≡ new.ahead = ap (take (length new.ahead)) (sym q.2)
+    ∙ take-append_seam new.ahead q.0 in
     record {
       rest = q.0;
-      parts = sym (take-append-drop n ys) ∙ ap (λ l. take n ys ++ l) (sym q.2) ∙ sym (append_assoc (take n ys) new.ahead q.0)
+      parts = sym (take-append-drop n ys) ∙ ap (λ l. take n ys ++ l) (sym q.2)
+          ∙ sym (append_assoc (take n ys) new.ahead q.0)
           ∙ ap (λ l. (take n ys ++ l) ++ q.0) (sym hand) ∙ ap (λ l. l ++ q.0) (sym (take-add n (length new.ahead) ys));
       left_is = q.1;
     }
@@ -41,7 +44,8 @@ pub front_seen : {A : Type 0} (S : List ℕ → A → Type 0) (ys : List ℕ) (h
 front_seen S ys had n x f fits more =
     let long : length f.bytes + (had - n) ≡ had = omega (arith, f.count) in
     let first : take had ys ≡ f.bytes ++ take (had - n) f.rest =
-    ap (λ k. take k ys) (sym long) ∙ ap (take (length f.bytes + (had - n))) f.whole ∙ take-append-add f.bytes f.rest (had - n) in
+    ap (λ k. take k ys) (sym long) ∙ ap (take (length f.bytes + (had - n))) f.whole ∙ take-append-add f.bytes f.rest
+    (had - n) in
     record {
       bytes = f.bytes;
       rest = take (had - n) f.rest ++ more;
@@ -54,5 +58,8 @@ front_seen S ys had n x f fits more =
 pub room_seen : (ys : List ℕ) (had room : ℕ) (more : List ℕ) → room < length ys → room < had
     → (room < length (take had ys ++ more)) × (take room (take had ys ++ more) ≡ take room ys)
 room_seen ys had room more long read =
-    let enough : room < length (take had ys) = omega (arith, length-take had ys) in
-    (omega (arith, length-append (take had ys) more), take-append-le room (take had ys) more (omega (arith, enough)) ∙ take-take room had ys (omega (arith, read)))
+    let enough : room < length (take had ys) = omega (arith, length-take had ys) in (
+      omega (arith, length-append (take had ys) more),
+      take-append-le room (take had ys) more (omega (arith, enough))
+          ∙ take-take room had ys (omega (arith, read)),
+    )

@@ -1,23 +1,23 @@
 -- A file is read item by item: what each call that reads the next item says of the whole input.
-use Rattle.std.proofs.Common.{◌≡◌, ℕ, ◌+◌, ◌-◌, ◌<◌, ◌≤◌, true, false, List, [], ◌∷◌, ◌++◌, length, take, drop, Result, Ok, Err, refl, sym, ap, ◌∙◌, subst}
-use Rattle.std.proofs.Common.{inl, inr, arith, length-append, length-drop, length-take}
-use Rattle.std.proofs.lemmas.List.{append-nil, nil_from_length, take-append-drop}
+use Rattle.std.proofs.Common.{◌≡◌, ℕ, ◌+◌, ◌-◌, true, false, List, [], ◌∷◌, ◌++◌, length, take, drop}
+use Rattle.std.proofs.Common.{Ok, Err, refl, sym, ap, ◌∙◌, subst}
+use Rattle.std.proofs.Common.{inl, inr, arith}
 use Rattle.std.specs.Prelude.{Option, Some}
 use Rattle.std.specs.Borrow.{GName}
-use Rattle.lvl_io.specs.Spelling.{IsFront, IsBegun, Gives, After, UnlessBreached}
-use Rattle.lvl_grammar.specs.Front.{SpellsWhole, IsFront as IsFrontOf}
-use Rattle.lvl_grammar.specs.Refused.{IsFrontAt, IsTruncated}
+use Rattle.lvl_io.specs.Spelling.{IsBegun}
+use Rattle.lvl_grammar.specs.Refused.{IsTruncated}
 use Rattle.lvl_grammar.specs.inside.ReadTo.{ReadTo, IsSeenWrong}
 use Rattle.lvl_grammar.proofs.Reading.{reads_on, reads_front}
 use Rattle.lvl_refusal.specs.declared.Refusal.TheVariants.{Breach}
 use Rattle.oasis_values.specs.Faults.{is_rule}
 use Rattle.oasis_values.specs.Input.{file_limit, bytes_left, input_offset, has_failed, input_reader}
-use Rattle.oasis_values.specs.Numbers.{IsByte}
 use Rattle.oasis_values.specs.Reads.{Fails, Reads, bytes_had}
 use Rattle.oasis_values.specs.declared.fault.ValueFault.{ValueFault}
 use Rattle.oasis_values.specs.declared.fault.ValueFault.TheVariants.{Truncated, IntegerTooLarge, StringByte, RealType}
-use Rattle.oasis_values.specs.declared.fault.ValueFault.TheVariants.{ZeroDenominator, PointListType, PointCount, RepetitionType}
-use Rattle.oasis_values.specs.declared.fault.ValueFault.TheVariants.{RepetitionSize, OutOfRange, TooLong, Read, Failed, NoModal}
+use Rattle.oasis_values.specs.declared.fault.ValueFault.TheVariants.{ZeroDenominator, PointListType, PointCount}
+use Rattle.oasis_values.specs.declared.fault.ValueFault.TheVariants.{RepetitionType}
+use Rattle.oasis_values.specs.declared.fault.ValueFault.TheVariants.{RepetitionSize, OutOfRange, TooLong, Read, Failed}
+use Rattle.oasis_values.specs.declared.fault.ValueFault.TheVariants.{NoModal}
 use Rattle.oasis_values.specs.declared.input.Input.{Input}
 use Rattle.oasis_values.proofs.Reading.{front_rest}
 use Rattle.oasis_stream.specs.Items.{Item, magic, item, records, IsEnded}
@@ -26,31 +26,42 @@ use Rattle.oasis_stream.specs.Front.{IsItem, BreaksRule, IsWrong, oasis}
 use Rattle.oasis_stream.specs.Told.{of_kind}
 use Rattle.oasis_stream.specs.inside.Refuses.{RefusesAt}
 use Rattle.oasis_stream.specs.declared.fault.OasisKind.{OasisKind}
-use Rattle.oasis_stream.specs.declared.fault.OasisKind.TheVariants.{Value, Record, Unexpected, Name, Figure, AfterEnd, TooManyCells}
-use Rattle.oasis_stream.proofs.Items.{item_code, never_after}
+use Rattle.oasis_stream.specs.declared.fault.OasisKind.TheVariants.{Value, Record, Unexpected, Name, Figure, AfterEnd}
+use Rattle.oasis_stream.specs.declared.fault.OasisKind.TheVariants.{TooManyCells}
+use Rattle.oasis_stream.proofs.Items.{never_after}
 use Rattle.oasis_stream.proofs.Only.{only_wrong}
 use Rattle.oasis_stream.proofs.Seen.{IsSeen, law_seen, front_seen, room_seen}
 
 -- an item that may follow was read: the bytes before the new offset are a front of one item more
-pub item_on : {R : Type 0} {remaining : R → Option (List ℕ)} {errors : R → ℕ} {lent : R → List GName} (xs : List ℕ) (Has Has' : List Item → Type 0) {old new : Input R} (to : ReadTo oasis xs (input_offset old) Has (bytes_left remaining old)) (i : Item)
-    → has_failed old ≡ false → Reads remaining errors lent (IsItem to.records) old new (Ok (Ok i)) → MayFollow to.records i → Has' (to.records ++ i ∷ [])
+pub item_on : {R : Type 0} {remaining : R → Option (List ℕ)} {errors : R → ℕ} {lent : R → List GName} (xs : List ℕ)
+    (Has Has' : List Item → Type 0) {old new : Input R}
+    (to : ReadTo oasis xs (input_offset old) Has (bytes_left remaining old)) (i : Item)
+    → has_failed old ≡ false → Reads remaining errors lent (IsItem to.records) old new (Ok (Ok i))
+    → MayFollow to.records i → Has' (to.records ++ i ∷ [])
     → ReadTo oasis xs (input_offset new) Has' (bytes_left remaining new)
 item_on {remaining = remaining} xs Has Has' {old = old} {new = new} to i live p follows has =
     let at = input_offset old in
     let n = input_offset new - at in
     let a = p.answers live (drop at xs) to.left_is in
     let f = a.0 in
-    let on = reads_on oasis xs at Has Has' (bytes_left remaining old) to i f.bytes f.rest f.whole f.says follows (omega (arith, f.count, a.1)) has in
+    let on = reads_on oasis xs at Has Has' (bytes_left remaining old) to i f.bytes f.rest f.whole f.says follows
+    (omega (arith, f.count, a.1)) has in
     let here : at + length f.bytes ≡ input_offset new = omega (arith, f.count, p.forward) in
-    let left : Some f.rest ≡ bytes_left remaining new = ap (λ (l : List ℕ). Some l) (sym (front_rest (IsItem to.records) (drop at xs) n (Ok (Ok i)) f)) ∙ sym (p.left (drop at xs) to.left_is) in
-    subst (λ l. ReadTo oasis xs (input_offset new) Has' l) left (subst (λ j. ReadTo oasis xs j Has' (Some f.rest)) here on)
+    let left : Some f.rest ≡ bytes_left remaining new =
+    ap (λ (l : List ℕ). Some l) (sym (front_rest (IsItem to.records) (drop at xs) n (Ok (Ok i)) f))
+    ∙ sym (p.left (drop at xs) to.left_is) in
+    subst (λ l. ReadTo oasis xs (input_offset new) Has' l) left (subst (λ j. ReadTo oasis xs j Has' (Some f.rest)) here
+    on)
 
 -- what is wrong with the bytes that were read is wrong whatever comes after them
-pub wrong_seen : {Has : List Item → Type 0} {was left : Option (List ℕ)} (xs : List ℕ) (at had : ℕ) (to : ReadTo oasis xs at Has was) (k : OasisKind)
-    → IsSeen (drop at xs) had left → ((more : List ℕ) → IsWrong to.records (file_limit - at) (take had (drop at xs) ++ more) k)
+pub wrong_seen : {Has : List Item → Type 0} {was left : Option (List ℕ)} (xs : List ℕ) (at had : ℕ)
+    (to : ReadTo oasis xs at Has was) (k : OasisKind)
+    → IsSeen (drop at xs) had left
+    → ((more : List ℕ) → IsWrong to.records (file_limit - at) (take had (drop at xs) ++ more) k)
     → IsSeenWrong oasis xs at left k
 wrong_seen xs at had to k s w =
-    let here : IsWrong to.records (file_limit - at) (drop at xs) k = subst (λ l. IsWrong to.records (file_limit - at) l k) (sym s.parts) (w s.rest) in
+    let here : IsWrong to.records (file_limit - at) (drop at xs) k =
+    subst (λ l. IsWrong to.records (file_limit - at) l k) (sym s.parts) (w s.rest) in
     record {
       within = to.within;
       records = to.records;
@@ -64,37 +75,59 @@ wrong_seen xs at had to k s w =
     }
 
 -- a rule of records, of names or of their order is breached by what was read
-rule_refuses : {R : Type 0} {remaining : R → Option (List ℕ)} {errors : R → ℕ} {lent : R → List GName} {Has : List Item → Type 0} (xs : List ℕ) {old new : Input R} (to : ReadTo oasis xs (input_offset old) Has (bytes_left remaining old)) (k : OasisKind)
+rule_refuses : {R : Type 0} {remaining : R → Option (List ℕ)} {errors : R → ℕ} {lent : R → List GName}
+    {Has : List Item → Type 0} (xs : List ℕ) {old new : Input R}
+    (to : ReadTo oasis xs (input_offset old) Has (bytes_left remaining old)) (k : OasisKind)
     → has_failed old ≡ false → ¬ IsEnded to.records
     → ((room : ℕ) (ys : List ℕ) → BreaksRule to.records room ys k → IsWrong to.records room ys k)
-    → Reads remaining errors lent (IsItem to.records) old new (Ok (Err k)) → IsSeenWrong oasis xs (input_offset old) (remaining (input_reader new)) k
+    → Reads remaining errors lent (IsItem to.records) old new (Ok (Err k))
+    → IsSeenWrong oasis xs (input_offset old) (remaining (input_reader new)) k
 rule_refuses {remaining = remaining} xs {old = old} {new = new} to k live unended is_wrong p =
     let at = input_offset old in
     let n = input_offset new - at in
     let had = bytes_had old new in
     let a = p.answers live (drop at xs) to.left_is in
     wrong_seen xs at had to k (law_seen (drop at xs) p to.left_is)
-    (λ more. is_wrong (file_limit - at) (take had (drop at xs) ++ more) (unended, n, a.1, inl (front_seen (IsItem to.records) (drop at xs) had n (Ok (Err k)) a.0 (omega arith) more)))
+    (λ more. is_wrong (file_limit - at) (take had (drop at xs) ++ more)
+    (unended, n, a.1, inl (front_seen (IsItem to.records) (drop at xs) had n (Ok (Err k)) a.0 (omega arith) more)))
 
 -- an item was read whole that breaches a rule
-item_refuses : {R : Type 0} {remaining : R → Option (List ℕ)} {errors : R → ℕ} {lent : R → List GName} {Has : List Item → Type 0} (xs : List ℕ) {old new : Input R} (to : ReadTo oasis xs (input_offset old) Has (bytes_left remaining old)) (i : Item) (k : OasisKind)
+item_refuses : {R : Type 0} {remaining : R → Option (List ℕ)} {errors : R → ℕ} {lent : R → List GName}
+    {Has : List Item → Type 0} (xs : List ℕ) {old new : Input R}
+    (to : ReadTo oasis xs (input_offset old) Has (bytes_left remaining old)) (i : Item) (k : OasisKind)
     → has_failed old ≡ false → ¬ IsEnded to.records
-    → ((room : ℕ) (ys : List ℕ) → BreaksRule to.records room ys k → IsWrong to.records room ys k) → Breaches to.records i k
-    → Reads remaining errors lent (IsItem to.records) old new (Ok (Ok i)) → IsSeenWrong oasis xs (input_offset old) (remaining (input_reader new)) k
+    → ((room : ℕ) (ys : List ℕ) → BreaksRule to.records room ys k → IsWrong to.records room ys k)
+    → Breaches to.records i k
+    → Reads remaining errors lent (IsItem to.records) old new (Ok (Ok i))
+    → IsSeenWrong oasis xs (input_offset old) (remaining (input_reader new)) k
 item_refuses {remaining = remaining} xs {old = old} {new = new} to i k live unended is_wrong breach p =
     let at = input_offset old in
     let n = input_offset new - at in
     let had = bytes_had old new in
     let a = p.answers live (drop at xs) to.left_is in
     wrong_seen xs at had to k (law_seen (drop at xs) p to.left_is)
-    (λ more. is_wrong (file_limit - at) (take had (drop at xs) ++ more) (unended, n, a.1, inr (i, front_seen (IsItem to.records) (drop at xs) had n (Ok (Ok i)) a.0 (omega arith) more, breach)))
+    (λ more. is_wrong (file_limit - at) (take had (drop at xs) ++ more) (
+      unended,
+      n,
+      a.1,
+      inr (
+        i,
+        front_seen (IsItem to.records) (drop at xs) had n (Ok (Ok i)) a.0 (omega arith) more,
+        breach,
+      ),
+    ))
 
-pub breach_refuses : {R : Type 0} {remaining : R → Option (List ℕ)} {errors : R → ℕ} {lent : R → List GName} {Has : List Item → Type 0} (xs : List ℕ) {old new : Input R} (to : ReadTo oasis xs (input_offset old) Has (bytes_left remaining old)) (i : Item) (k : OasisKind)
+pub breach_refuses : {R : Type 0} {remaining : R → Option (List ℕ)} {errors : R → ℕ} {lent : R → List GName}
+    {Has : List Item → Type 0} (xs : List ℕ) {old new : Input R}
+    (to : ReadTo oasis xs (input_offset old) Has (bytes_left remaining old)) (i : Item) (k : OasisKind)
     → has_failed old ≡ false → ¬ IsEnded to.records → Breaches to.records i k
-    → Reads remaining errors lent (IsItem to.records) old new (Ok (Ok i)) → RefusesAt xs (remaining (input_reader new)) (input_offset old) k
+    → Reads remaining errors lent (IsItem to.records) old new (Ok (Ok i))
+    → RefusesAt xs (remaining (input_reader new)) (input_offset old) k
 breach_refuses xs to magic k live unended b p = absurd b
-breach_refuses xs to (item r) (Name k) live unended b p = item_refuses xs to (item r) (Name k) live unended (λ room ys w. w) b p
-breach_refuses xs to (item r) (Figure k) live unended b p = item_refuses xs to (item r) (Figure k) live unended (λ room ys w. w) b p
+breach_refuses xs to (item r) (Name k) live unended b p =
+    item_refuses xs to (item r) (Name k) live unended (λ room ys w. w) b p
+breach_refuses xs to (item r) (Figure k) live unended b p =
+    item_refuses xs to (item r) (Figure k) live unended (λ room ys w. w) b p
 breach_refuses xs to (item r) (Value f) live unended b p = absurd b
 breach_refuses xs to (item r) (Record k) live unended b p = absurd b
 breach_refuses xs to (item r) (Unexpected id) live unended b p = absurd b
@@ -102,29 +135,50 @@ breach_refuses xs to (item r) AfterEnd live unended b p = absurd b
 breach_refuses xs to (item r) TooManyCells live unended b p = absurd b
 
 -- a rule of values is breached
-value_refuses : {Has : List Item → Type 0} {was left : Option (List ℕ)} (xs : List ℕ) (at had : ℕ) (to : ReadTo oasis xs at Has was) (f : ValueFault) → ¬ IsEnded to.records
-    → is_rule f ≡ true → IsSeen (drop at xs) had left → Fails (IsItem to.records) (file_limit - at) had (drop at xs) f → IsSeenWrong oasis xs at left (Value f)
+value_refuses : {Has : List Item → Type 0} {was left : Option (List ℕ)} (xs : List ℕ) (at had : ℕ)
+    (to : ReadTo oasis xs at Has was) (f : ValueFault) → ¬ IsEnded to.records
+    → is_rule f ≡ true → IsSeen (drop at xs) had left → Fails (IsItem to.records) (file_limit - at) had (drop at xs) f
+    → IsSeenWrong oasis xs at left (Value f)
 value_refuses xs at had to f unended rule s p =
     let b = p.breached rule in
     wrong_seen xs at had to (Value f) s
-    (λ more. inr (unended, rule, record { count = b.count; within = b.within; front = front_seen (IsItem to.records) (drop at xs) had b.count (Err f) b.front b.seen more }))
+    (λ more. inr (
+      unended,
+      rule,
+      record {
+        count = b.count;
+        within = b.within;
+        front = front_seen (IsItem to.records) (drop at xs) had b.count (Err f) b.front b.seen more;
+      },
+    ))
 
-long_refuses : {Has : List Item → Type 0} {was left : Option (List ℕ)} (xs : List ℕ) (at had : ℕ) (to : ReadTo oasis xs at Has was) → ¬ IsEnded to.records
-    → IsSeen (drop at xs) had left → Fails (IsItem to.records) (file_limit - at) had (drop at xs) TooLong → IsSeenWrong oasis xs at left (Value TooLong)
+long_refuses : {Has : List Item → Type 0} {was left : Option (List ℕ)} (xs : List ℕ) (at had : ℕ)
+    (to : ReadTo oasis xs at Has was) → ¬ IsEnded to.records
+    → IsSeen (drop at xs) had left → Fails (IsItem to.records) (file_limit - at) had (drop at xs) TooLong
+    → IsSeenWrong oasis xs at left (Value TooLong)
 long_refuses xs at had to unended s p =
     let q = p.too_long refl in
     wrong_seen xs at had to (Value TooLong) s
     (λ more. let z = room_seen (drop at xs) had (file_limit - at) more q.0 q.1 in
     inl (refl, (z.0, ((λ e. absurd (unended e)), subst (IsBegun (IsItem to.records)) (sym z.1) q.2))))
 
-cut_refuses : {Has : List Item → Type 0} {had : ℕ} {was : Option (List ℕ)} (xs : List ℕ) (at : ℕ) (to : ReadTo oasis xs at Has was) → ¬ IsEnded to.records
+cut_refuses : {Has : List Item → Type 0} {had : ℕ} {was : Option (List ℕ)} (xs : List ℕ) (at : ℕ)
+    (to : ReadTo oasis xs at Has was) → ¬ IsEnded to.records
     → Fails (IsItem to.records) (file_limit - at) had (drop at xs) Truncated → IsTruncated oasis xs at
 cut_refuses xs at to unended p =
-    record { within = to.within; records = to.records; front = to.front; unended = unended; cut = ((λ e. absurd (unended e)), (p.truncated refl).1) }
+    record {
+      within = to.within;
+      records = to.records;
+      front = to.front;
+      unended = unended;
+      cut = ((λ e. absurd (unended e)), (p.truncated refl).1);
+    }
 
 -- no value could be read
-fault_refuses : {Has : List Item → Type 0} {was left : Option (List ℕ)} (xs : List ℕ) (at had : ℕ) (to : ReadTo oasis xs at Has was) (f : ValueFault) → ¬ IsEnded to.records
-    → ¬ (f ≡ Failed) → IsSeen (drop at xs) had left → Fails (IsItem to.records) (file_limit - at) had (drop at xs) f → RefusesAt xs left at (Value f)
+fault_refuses : {Has : List Item → Type 0} {was left : Option (List ℕ)} (xs : List ℕ) (at had : ℕ)
+    (to : ReadTo oasis xs at Has was) (f : ValueFault) → ¬ IsEnded to.records
+    → ¬ (f ≡ Failed) → IsSeen (drop at xs) had left → Fails (IsItem to.records) (file_limit - at) had (drop at xs) f
+    → RefusesAt xs left at (Value f)
 fault_refuses xs at had to Truncated u n s p = cut_refuses xs at to u p
 fault_refuses {Has = Has} {was = was} xs at had to Read u n s p = reads_front oasis xs at Has was to
 fault_refuses xs at had to TooLong u n s p = long_refuses xs at had to u s p
@@ -141,11 +195,16 @@ fault_refuses xs at had to OutOfRange u n s p = value_refuses xs at had to OutOf
 fault_refuses xs at had to NoModal u n s p = value_refuses xs at had to NoModal u refl s p
 
 -- a call that reads the next item refused it
-pub next_refuses : {R : Type 0} {remaining : R → Option (List ℕ)} {errors : R → ℕ} {lent : R → List GName} {Has : List Item → Type 0} (xs : List ℕ) {old new : Input R} (to : ReadTo oasis xs (input_offset old) Has (bytes_left remaining old)) (k : OasisKind)
-    → has_failed old ≡ false → ¬ IsEnded to.records → Reads remaining errors lent (IsItem to.records) old new (of_kind k)
+pub next_refuses : {R : Type 0} {remaining : R → Option (List ℕ)} {errors : R → ℕ} {lent : R → List GName}
+    {Has : List Item → Type 0} (xs : List ℕ) {old new : Input R}
+    (to : ReadTo oasis xs (input_offset old) Has (bytes_left remaining old)) (k : OasisKind)
+    → has_failed old ≡ false → ¬ IsEnded to.records → Reads remaining errors lent (IsItem to.records) old new
+    (of_kind k)
     → RefusesAt xs (remaining (input_reader new)) (input_offset old) k
 next_refuses xs {old = old} {new = new} to (Value f) live u p =
-    fault_refuses xs (input_offset old) (bytes_had old new) to f u (λ e. p.fresh live (ap (λ (i : ValueFault). Err (Breach i)) e)) (law_seen (drop (input_offset old) xs) p to.left_is) (p.answers live (drop (input_offset old) xs) to.left_is)
+    fault_refuses xs (input_offset old) (bytes_had old new) to f u
+    (λ e. p.fresh live (ap (λ (i : ValueFault). Err (Breach i)) e))
+    (law_seen (drop (input_offset old) xs) p to.left_is) (p.answers live (drop (input_offset old) xs) to.left_is)
 next_refuses xs {old = old} to AfterEnd live u p =
     let f = (p.answers live (drop (input_offset old) xs) to.left_is).0 in
     absurd (never_after to.records f.bytes f.says)

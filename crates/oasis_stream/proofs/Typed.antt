@@ -1,5 +1,6 @@
 -- The next record is read by its id, and then by its type.
-use Rattle.std.proofs.Common.{◌≡◌, ℕ, Bool, true, false, if◌then◌else◌, not, ◌&&◌, nat_lt, length, List, [], Result, Ok, Err, refl, sym, subst}
+use Rattle.std.proofs.Common.{◌≡◌, ℕ, Bool, true, false, if◌then◌else◌, not, ◌&&◌, nat_lt, length, List, [], Result, Ok}
+use Rattle.std.proofs.Common.{Err, refl, sym, subst}
 use Rattle.std.specs.Prelude.{Option}
 use Rattle.std.specs.Borrow.{GName}
 use Rattle.lvl_refusal.specs.declared.Refusal.{Refusal}
@@ -21,7 +22,8 @@ use Rattle.oasis_records.specs.declared.measured.Measured.{Measured}
 use Rattle.oasis_records.specs.declared.record.Record.{Record}
 use Rattle.oasis_records.specs.declared.record_type.RecordType.{RecordType}
 use Rattle.oasis_stream.specs.Items.{Item}
-use Rattle.oasis_stream.specs.Order.{cell_limit, at_end, cells_in, opens_cell, mixes, is_expected, allowed, type_after}
+use Rattle.lvl_cells.specs.Names.{cell_limit}
+use Rattle.oasis_stream.specs.Order.{at_end, cells_in, opens_cell, mixes, is_expected, allowed, type_after}
 use Rattle.oasis_stream.specs.Front.{of_magic, of_record, IsTyped, IsNext, IsItem}
 use Rattle.oasis_stream.specs.Told.{of_kind, told_record, of_fault, told_magic, of_magic_fault}
 use Rattle.oasis_stream.specs.declared.fault.NameRule.TheVariants.{Mixed}
@@ -31,8 +33,10 @@ use Rattle.oasis_stream.proofs.Items.{typed_code}
 
 -- a record that was read, as an item of the file
 pub reads_recorded : {R : Type 0} {remaining : R → Option (List ℕ)} {errors : R → ℕ} {lent : R → List GName}
-    {S : List ℕ → Result (Result Record RecordRule) ValueFault → Type 0} {old new : Input R} (r : Result Record (Refusal RecordFault))
-    → Reads remaining errors lent S old new (told r) → Reads remaining errors lent (Seen of_record S) old new (told_record (of_fault r))
+    {S : List ℕ → Result (Result Record RecordRule) ValueFault → Type 0} {old new : Input R}
+    (r : Result Record (Refusal RecordFault))
+    → Reads remaining errors lent S old new (told r) → Reads remaining errors lent (Seen of_record S) old new
+    (told_record (of_fault r))
 reads_recorded (Ok x) p = reads_seen of_record p
 reads_recorded (Err OutOfMemory) p = reads_seen_err of_record p
 reads_recorded (Err (Breach (Value f))) p = reads_seen_err of_record p
@@ -50,36 +54,55 @@ judged_if false x y p q = q
 judged_allowed : (rs : List Record) (t : Result RecordType RecordRule) → IsJudged (allowed rs t)
 judged_allowed rs (Ok t) =
     let full = opens_cell t && not (nat_lt (length (cells_in rs)) cell_limit) in
-    judged_if (mixes rs t) (Err (Name Mixed)) (if full then Err TooManyCells else Ok t) refl (judged_if full (Err TooManyCells) (Ok t) refl tt)
+    judged_if (mixes rs t) (Err (Name Mixed)) (if full then Err TooManyCells else Ok t) refl
+    (judged_if full (Err TooManyCells) (Ok t) refl tt)
 judged_allowed rs (Err k) = refl
 
 judged : (rs : List Record) (id : ℕ) → IsJudged (type_after rs id)
-judged rs id = judged_if (is_expected rs (record_type id)) (allowed rs (record_type id)) (Err (Unexpected id)) (judged_allowed rs (record_type id)) refl
+judged rs id =
+    judged_if (is_expected rs (record_type id)) (allowed rs (record_type id)) (Err (Unexpected id))
+    (judged_allowed rs (record_type id)) refl
 
 -- no id is read
-pub next_unread : {R : Type 0} {remaining : R → Option (List ℕ)} {errors : R → ℕ} {lent : R → List GName} (rs : List Record) {old new : Input R} {e : Refusal ValueFault}
-    → Reads remaining errors lent (Sized IsUnsigned) old new (Err e) → Reads remaining errors lent (IsNext rs) old new (Err e)
-next_unread rs p = reads_err (λ id. IsTyped (at_end rs) id.len (type_after rs id.value)) (λ id. (typed_code (at_end rs) id.len (type_after rs id.value)).said) p
+pub next_unread : {R : Type 0} {remaining : R → Option (List ℕ)} {errors : R → ℕ} {lent : R → List GName}
+    (rs : List Record) {old new : Input R} {e : Refusal ValueFault}
+    → Reads remaining errors lent (Sized IsUnsigned) old new (Err e)
+    → Reads remaining errors lent (IsNext rs) old new (Err e)
+next_unread rs p =
+    reads_err (λ id. IsTyped (at_end rs) id.len (type_after rs id.value))
+    (λ id. (typed_code (at_end rs) id.len (type_after rs id.value)).said) p
 
 -- the id breaches a rule
-pub next_refused : {R : Type 0} {remaining : R → Option (List ℕ)} {errors : R → ℕ} {lent : R → List GName} (rs : List Record) {old new : Input R} (id : Measured) (k : OasisKind)
-    → type_after rs id.value ≡ Err k → Reads remaining errors lent (Sized IsUnsigned) old new (Ok id) → Reads remaining errors lent (IsNext rs) old new (of_kind k)
+pub next_refused : {R : Type 0} {remaining : R → Option (List ℕ)} {errors : R → ℕ} {lent : R → List GName}
+    (rs : List Record) {old new : Input R} (id : Measured) (k : OasisKind)
+    → type_after rs id.value ≡ Err k → Reads remaining errors lent (Sized IsUnsigned) old new (Ok id)
+    → Reads remaining errors lent (IsNext rs) old new (of_kind k)
 next_refused {remaining = remaining} {errors = errors} {lent = lent} rs {old = old} {new = new} id k e p =
     let j : of_kind k ≡ Ok (Err k) = subst IsJudged e (judged rs id.value) in
-    let none : Reads remaining errors lent (IsTyped (at_end rs) id.len (type_after rs id.value)) new new (Ok (Err k)) = subst (λ t. Reads remaining errors lent (IsTyped (at_end rs) id.len t) new new (Ok (Err k))) (sym e) (reads_nothing (Err k) p.failed) in
-    subst (λ r. Reads remaining errors lent (IsNext rs) old new r) (sym j) (reads_then (λ i. IsTyped (at_end rs) i.len (type_after rs i.value)) p none)
+    let none : Reads remaining errors lent (IsTyped (at_end rs) id.len (type_after rs id.value)) new new (Ok (Err k)) =
+    subst (λ t. Reads remaining errors lent (IsTyped (at_end rs) id.len t) new new (Ok (Err k))) (sym e)
+    (reads_nothing (Err k) p.failed) in
+    subst (λ r. Reads remaining errors lent (IsNext rs) old new r) (sym j)
+    (reads_then (λ i. IsTyped (at_end rs) i.len (type_after rs i.value)) p none)
 
 -- the id gives the type
-pub next_typed : {R : Type 0} {remaining : R → Option (List ℕ)} {errors : R → ℕ} {lent : R → List GName} (rs : List Record) {old mid new : Input R} (id : Measured) (t : RecordType) (b : Bool) {r : Result (Result Item OasisKind) (Refusal ValueFault)}
+pub next_typed : {R : Type 0} {remaining : R → Option (List ℕ)} {errors : R → ℕ} {lent : R → List GName}
+    (rs : List Record) {old mid new : Input R} (id : Measured) (t : RecordType) (b : Bool)
+    {r : Result (Result Item OasisKind) (Refusal ValueFault)}
     → type_after rs id.value ≡ Ok t → b ≡ at_end rs → Reads remaining errors lent (Sized IsUnsigned) old mid (Ok id)
-    → Reads remaining errors lent (IsTyped b id.len (Ok t)) mid new r → Reads remaining errors lent (IsNext rs) old new r
+    → Reads remaining errors lent (IsTyped b id.len (Ok t)) mid new r
+    → Reads remaining errors lent (IsNext rs) old new r
 next_typed {remaining = remaining} {errors = errors} {lent = lent} rs {mid = mid} {new = new} id t b {r = r} e h p q =
-    let here : Reads remaining errors lent (IsTyped (at_end rs) id.len (Ok t)) mid new r = subst (λ i. Reads remaining errors lent (IsTyped i id.len (Ok t)) mid new r) h q in
-    reads_then (λ i. IsTyped (at_end rs) i.len (type_after rs i.value)) p (subst (λ i. Reads remaining errors lent (IsTyped (at_end rs) id.len i) mid new r) (sym e) here)
+    let here : Reads remaining errors lent (IsTyped (at_end rs) id.len (Ok t)) mid new r =
+    subst (λ i. Reads remaining errors lent (IsTyped i id.len (Ok t)) mid new r) h q in
+    reads_then (λ i. IsTyped (at_end rs) i.len (type_after rs i.value)) p
+    (subst (λ i. Reads remaining errors lent (IsTyped (at_end rs) id.len i) mid new r) (sym e) here)
 
 -- the magic string that was read, as an item of the file
-pub reads_first : {R : Type 0} {remaining : R → Option (List ℕ)} {errors : R → ℕ} {lent : R → List GName} {old new : Input R} (r : Result (Unit {0}) RecordFault)
-    → Reads remaining errors lent IsMagic old new (told_breach r) → Reads remaining errors lent (IsItem []) old new (told_magic (of_magic_fault r))
+pub reads_first : {R : Type 0} {remaining : R → Option (List ℕ)} {errors : R → ℕ} {lent : R → List GName}
+    {old new : Input R} (r : Result (Unit {0}) RecordFault)
+    → Reads remaining errors lent IsMagic old new (told_breach r)
+    → Reads remaining errors lent (IsItem []) old new (told_magic (of_magic_fault r))
 reads_first (Ok u) p = reads_seen of_magic p
 reads_first (Err (Value f)) p = reads_seen_err of_magic p
 reads_first (Err (Rule k)) p = reads_seen of_magic p

@@ -31,7 +31,8 @@ of_record (Ok r) = Ok (item r)
 of_record (Err k) = Err (OfRecord k)
 
 -- the fields of a record of that type, after an id of so many bytes; where the id breaches a rule nothing more is read
-abbrev pub IsTyped : Bool → ℕ → Result RecordType OasisKind → List ℕ → Result (Result Item OasisKind) ValueFault → Type 0
+abbrev pub IsTyped : Bool → ℕ → Result RecordType OasisKind → List ℕ → Result (Result Item OasisKind) ValueFault
+    → Type 0
 IsTyped has_offsets id_len (Ok t) = Seen of_record (AreFields has_offsets id_len t)
 IsTyped has_offsets id_len (Err k) = Gives (Ok (Err k))
 
@@ -53,7 +54,8 @@ abbrev pub IsTooLong : List Item → ℕ → List ℕ → Type 0
 IsTooLong before room ys = (room < length ys) × IsBegunAfter before (take room ys)
 
 -- bytes at the front that there is room for breach the rule
-pub record Breaks {A : Type 0} (S : List ℕ → Result A ValueFault → Type 0) (room : ℕ) (xs : List ℕ) (f : ValueFault) : Type 0 where
+pub record Breaks {A : Type 0} (S : List ℕ → Result A ValueFault → Type 0) (room : ℕ) (xs : List ℕ)
+    (f : ValueFault) : Type 0 where
   pub count : ℕ
   pub within : count ≤ room
   pub front : IsFront S xs count (Err f)
@@ -66,7 +68,8 @@ BreaksValue before room ys f = (¬ IsEnded before) × (is_rule f ≡ true) × Br
 abbrev pub BreaksRule : List Item → ℕ → List ℕ → OasisKind → Type 0
 BreaksRule before room ys k =
     (¬ IsEnded before) × (n : ℕ) × (n ≤ room)
-    × (IsFront (IsItem before) ys n (Ok (Err k)) ⊎ ((i : Item) × IsFront (IsItem before) ys n (Ok (Ok i)) × Breaches before i k))
+    × (IsFront (IsItem before) ys n (Ok (Err k)) ⊎ ((i : Item) × IsFront (IsItem before) ys n (Ok (Ok i))
+    × Breaches before i k))
 
 -- what is wrong with the front of the bytes, with room for so many
 abbrev pub IsWrong : List Item → ℕ → List ℕ → OasisKind → Type 0

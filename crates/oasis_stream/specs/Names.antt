@@ -1,5 +1,6 @@
 -- Names by number (SEMI P39 OASIS 1.0, "CELLNAME record").
-use Rattle.std.specs.Prelude.{ℕ, ◌+◌, ◌==◌, if◌then◌else◌, List, [], ◌∷◌, length, map, Contains, Option, Some, None, IsSome}
+use Rattle.std.specs.Prelude.{ℕ, ◌+◌, ◌==◌, if◌then◌else◌, List, [], ◌∷◌, length, map, Contains, Option, Some, None}
+use Rattle.std.specs.Prelude.{IsSome}
 use Rattle.oasis_records.specs.declared.cell.CellName.{CellName}
 use Rattle.oasis_records.specs.declared.cell.CellRef.{CellRef}
 use Rattle.oasis_records.specs.declared.cell.CellRef.TheVariants.{Number, Name}

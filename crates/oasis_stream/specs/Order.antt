@@ -2,23 +2,23 @@
 -- "CELLNAME record", "CELL record").
 use Rattle.std.specs.Prelude.{ℕ, Bool, true, false, not, ◌&&◌, ◌||◌, nat_lt, is_some, is_none, if◌then◌else◌}
 use Rattle.std.specs.Prelude.{List, [], ◌∷◌, length, flat_map, Result, Ok, Err}
+use Rattle.lvl_cells.specs.Names.{cell_limit}
 use Rattle.oasis_records.specs.Records.{record_type}
 use Rattle.oasis_records.specs.declared.cell.CellName.{CellName}
 use Rattle.oasis_records.specs.declared.cell.CellRef.{CellRef}
 use Rattle.oasis_records.specs.declared.fault.RecordRule.{RecordRule}
 use Rattle.oasis_records.specs.declared.record.Record.{Record}
-use Rattle.oasis_records.specs.declared.record.Record.TheVariants.{Start as OfStart, CellName as OfCellName, Cell as OfCell}
+use Rattle.oasis_records.specs.declared.record.Record.TheVariants.{Start as OfStart, CellName as OfCellName}
+use Rattle.oasis_records.specs.declared.record.Record.TheVariants.{Cell as OfCell}
 use Rattle.oasis_records.specs.declared.record_type.RecordType.{RecordType}
 use Rattle.oasis_records.specs.declared.record_type.RecordType.TheVariants.{Start, CellName as AName, NumberedCellName}
-use Rattle.oasis_records.specs.declared.record_type.RecordType.TheVariants.{NumberedCell, NamedCell, XyAbsolute, XyRelative}
-use Rattle.oasis_records.specs.declared.record_type.RecordType.TheVariants.{Placement, ScaledPlacement, Rectangle, Polygon, Path}
+use Rattle.oasis_records.specs.declared.record_type.RecordType.TheVariants.{NumberedCell, NamedCell, XyAbsolute}
+use Rattle.oasis_records.specs.declared.record_type.RecordType.TheVariants.{XyRelative}
+use Rattle.oasis_records.specs.declared.record_type.RecordType.TheVariants.{Placement, ScaledPlacement, Rectangle}
+use Rattle.oasis_records.specs.declared.record_type.RecordType.TheVariants.{Polygon, Path}
 use Rattle.oasis_stream.specs.declared.fault.NameRule.TheVariants.{Mixed}
 use Rattle.oasis_stream.specs.declared.fault.OasisKind.{OasisKind}
 use Rattle.oasis_stream.specs.declared.fault.OasisKind.TheVariants.{Record as OfRecord, Unexpected, Name, TooManyCells}
-
--- own rule: the greatest number of cells
-abbrev pub cell_limit : ℕ
-cell_limit = 1048576
 
 -- the last of the list, or d where there is none
 abbrev pub last_or : {A : Type 0} → A → List A → A

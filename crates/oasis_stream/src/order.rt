@@ -6,10 +6,8 @@ ghost use Rattle.oasis_stream.specs.Order.{type_after, at_end};
 ghost use Rattle.oasis_stream.specs.inside.Reached.{HasReached, passed};
 
 use crate::fault::{NameRule, OasisKind};
+use lvl_cells::MOST_CELLS;
 use oasis_records::{Record, RecordRule, RecordType};
-
-/// The greatest number of cells (own rule).
-const MOST_CELLS: u64 = 1_048_576;
 
 /// What the records so far say of those that may come.
 #[derive(Clone, Copy, Debug, Drop)]
@@ -19,7 +17,7 @@ pub struct Order {
     /// A cell is open.
     in_cell: bool,
     /// How many cells there are, up to the limit.
-    cells: u64,
+    cells: usize,
     /// Some name has a number of its own.
     has_numbered: bool,
     /// Some name has none.

@@ -27,7 +27,8 @@ use Rattle.oasis_library.specs.declared.reading.Reading.{Reading}
 pub record HoldsNames (n : Names) (cs : List CellName) : Type 0 where
   pub numbered : (k : ℕ) → get nat_cmp n.by_number k ≡ name_of cs k
   pub counted : btree_map_len n.by_number ≡ length cs
-  pub seen : (q : Vec ℕ) → contains (λ x y. slice_cmp nat_cmp x.items y.items) n.seen q ≡ list_any (bytes_eq q.items) (map (λ c. c.name) cs)
+  pub seen : (q : Vec ℕ) → contains (λ x y. slice_cmp nat_cmp x.items y.items) n.seen q ≡ list_any (bytes_eq q.items)
+      (map (λ c. c.name) cs)
 
 -- exactly these records were read
 pub record Holds (x : Reading) (rs : List Record) : Type 0 where

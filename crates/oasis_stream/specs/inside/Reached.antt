@@ -1,8 +1,10 @@
 -- How far a reader of ids is: what it keeps of the records before.
-use Rattle.std.specs.Prelude.{◌≡◌, ℕ, ◌+◌, nat_lt, min, Bool, true, false, ◌||◌, if◌then◌else◌, is_some, is_none, List, [], ◌∷◌, length}
+use Rattle.std.specs.Prelude.{◌≡◌, ℕ, ◌+◌, nat_lt, min, Bool, true, false, ◌||◌, if◌then◌else◌, is_some, is_none, List}
+use Rattle.std.specs.Prelude.{[], ◌∷◌, length}
 use Rattle.oasis_records.specs.declared.record.Record.{Record}
 use Rattle.oasis_records.specs.declared.record.Record.TheVariants.{Start, CellName, Cell}
-use Rattle.oasis_stream.specs.Order.{cell_limit, in_cell, at_end, names_in, cells_in, any_numbered, any_unnumbered}
+use Rattle.lvl_cells.specs.Names.{cell_limit}
+use Rattle.oasis_stream.specs.Order.{in_cell, at_end, names_in, cells_in, any_numbered, any_unnumbered}
 use Rattle.oasis_stream.specs.declared.order.Order.{Order}
 
 -- no record is among them
@@ -33,6 +35,9 @@ order in_cell cells numbered unnumbered at_end = record {
 -- after one record more
 abbrev pub passed : Order → Record → Order
 passed o (Start s) = order o.in_cell o.cells o.has_numbered o.has_unnumbered s.has_offsets_at_end
-passed o (CellName c) = order false o.cells (o.has_numbered || is_some c.number) (o.has_unnumbered || is_none c.number) o.has_offsets_at_end
-passed o (Cell c) = order true (if nat_lt o.cells cell_limit then o.cells + 1 else o.cells) o.has_numbered o.has_unnumbered o.has_offsets_at_end
+passed o (CellName c) =
+    order false o.cells (o.has_numbered || is_some c.number) (o.has_unnumbered || is_none c.number) o.has_offsets_at_end
+passed o (Cell c) =
+    order true (if nat_lt o.cells cell_limit then o.cells + 1 else o.cells) o.has_numbered o.has_unnumbered
+    o.has_offsets_at_end
 passed o r = order o.in_cell o.cells o.has_numbered o.has_unnumbered o.has_offsets_at_end

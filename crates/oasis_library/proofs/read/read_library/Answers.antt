@@ -23,4 +23,5 @@ pub returns-in_err-read_nothing-clause-refused : goal.returns-in_err-read_nothin
 returns-in_err-read_nothing-clause-refused g c = λ xs k.
     let to = c.in_ok-reading.ensures.whole xs k in
     let ended = reads_as xs _ (HasWhole c.in_ok-reading.reading) IsEnded _ to (λ is h. h.1) in
-    says_carried _ _ c.from_residual-in_err-read_nothing.result c.in_err-read_nothing.field-0.0 (λ f p. p xs ended) c.in_err-read_nothing.ensures.refused c.from_residual-in_err-read_nothing.ensures
+    says_carried _ _ c.from_residual-in_err-read_nothing.result c.in_err-read_nothing.field-0.0 (λ f p. p xs ended)
+    c.in_err-read_nothing.ensures.refused c.from_residual-in_err-read_nothing.ensures

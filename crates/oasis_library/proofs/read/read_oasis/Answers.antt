@@ -4,12 +4,15 @@ use Rattle.oasis_library.proofs.read.read_oasis.Goals as goal
 
 pub returns-clause-refused : goal.returns-clause-refused
 returns-clause-refused g c =
-    λ xs k. refused_tells xs _ c.read_library-read.result (c.read_library-read.ensures.refused xs (c.new-input.ensures.bytes ∙ k))
+    λ xs k. refused_tells xs _ c.read_library-read.result
+    (c.read_library-read.ensures.refused xs (c.new-input.ensures.bytes ∙ k))
 
 pub returns-clause-none : goal.returns-clause-none
 returns-clause-none g c =
-    λ xs k. refused_none xs _ c.read_library-read.result (c.read_library-read.ensures.refused xs (c.new-input.ensures.bytes ∙ k))
+    λ xs k. refused_none xs _ c.read_library-read.result
+    (c.read_library-read.ensures.refused xs (c.new-input.ensures.bytes ∙ k))
 
 pub returns-clause-early : goal.returns-clause-early
 returns-clause-early g c = λ xs k.
-    early_left xs _ _ c.read_library-read.result (c.read_library-read.ensures.refused xs (c.new-input.ensures.bytes ∙ k)) (search rules)
+    early_left xs _ _ c.read_library-read.result
+    (c.read_library-read.ensures.refused xs (c.new-input.ensures.bytes ∙ k)) (search rules)

@@ -3,17 +3,23 @@ use Rattle.oasis_stream.specs.Items.{magic, item, records}
 use Rattle.oasis_library.specs.inside.Holds.{HasBegun, HasWhole}
 use Rattle.oasis_stream.specs.inside.Reached.{HasReached}
 use Rattle.oasis_values.specs.Input.{input_offset}
-use Rattle.oasis_library.proofs.Loop.{first_on, first_refused, first_takes, record_on, record_takes, HasMore, more_begun, more_whole, reads_as, next_refused, take_refused}
+use Rattle.oasis_library.proofs.Loop.{first_on, first_refused, first_takes, record_on, record_takes, HasMore}
+use Rattle.oasis_library.proofs.Loop.{more_begun, more_whole, reads_as, next_refused, take_refused}
 use Rattle.oasis_library.proofs.read.read_records.Goals as goal
 
 pub returns-in-Err-clause-refused : goal.returns-in-Err-clause-refused
-returns-in-Err-clause-refused g c = λ xs k. rw c.refuse.ensures (first_refused xs c.in-Err.kind c.requires.fresh c.requires.start k c.in-Err.ensures.reads)
+returns-in-Err-clause-refused g c =
+    λ xs k. rw c.refuse.ensures (first_refused xs c.in-Err.kind c.requires.fresh c.requires.start k
+    c.in-Err.ensures.reads)
 
 pub loop-init : goal.loop-init
 loop-init g c = (
   c.in-Ok.ensures.reads.failed,
   ([], c.new-reading.ensures),
-  (λ xs k. (first_on xs c.new-reading.result c.requires.fresh c.requires.start k c.new-reading.ensures c.in-Ok.ensures.reads, first_takes xs magic c.requires.fresh k c.in-Ok.ensures.reads)),
+  (λ xs k. (
+    first_on xs c.new-reading.result c.requires.fresh c.requires.start k c.new-reading.ensures c.in-Ok.ensures.reads,
+    first_takes xs magic c.requires.fresh k c.in-Ok.ensures.reads,
+  )),
   c.in-Ok.ensures.reads.counted,
   c.in-Ok.ensures.reads.same,
 )
@@ -23,14 +29,17 @@ returns-in-Err-read_next-clause-refused g c = λ xs k.
     let to = (c.loop.invariant.2 xs k).0 in
     let rs = records to.records in
     let p = c.in-Err-read_next.ensures.reads rs (subst (λ o. HasReached o rs) (sym c.order.ensures) to.holds.0.order) in
-    rw (c.refused_at.ensures, c.offset-offset.ensures) (next_refused xs c.loop.reading to c.in-Err-read_next.refusal c.loop.invariant.0 p)
+    rw (c.refused_at.ensures, c.offset-offset.ensures) (next_refused xs c.loop.reading to c.in-Err-read_next.refusal
+    c.loop.invariant.0 p)
 
 pub returns-in-Err-take-clause-refused : goal.returns-in-Err-take-clause-refused
 returns-in-Err-take-clause-refused g c = λ xs k.
     let to = (c.loop.invariant.2 xs k).0 in
     let rs = records to.records in
     let p = c.in-Ok-read_next.ensures.reads rs (subst (λ o. HasReached o rs) (sym c.order.ensures) to.holds.0.order) in
-    rw (c.refused_at-in-Err-take.ensures, c.offset-offset.ensures) (take_refused xs c.loop.reading c.in-Ok-read_next.record to c.in-Err-take.refusal c.loop.invariant.0 p c.in-Err-take.ensures.refused)
+    rw (c.refused_at-in-Err-take.ensures, c.offset-offset.ensures)
+    (take_refused xs c.loop.reading c.in-Ok-read_next.record to c.in-Err-take.refusal c.loop.invariant.0 p
+    c.in-Err-take.ensures.refused)
 
 pub returns-then-is_end-clause-whole : goal.returns-then-is_end-clause-whole
 returns-then-is_end-clause-whole g c = λ xs k.
@@ -39,8 +48,10 @@ returns-then-is_end-clause-whole g c = λ xs k.
     let r = c.in-Ok-read_next.record in
     let y = c.take.new.self in
     let p = c.in-Ok-read_next.ensures.reads rs (subst (λ o. HasReached o rs) (sym c.order.ensures) to.holds.0.order) in
-    let on = record_on xs c.loop.reading y r to c.loop.invariant.0 p (c.in-Ok-take.ensures.kept rs to.holds.0) (c.in-Ok-take.ensures.none rs to.holds.0) in
-    reads_as xs _ (HasMore y r) (HasWhole y) _ on (λ is m. more_whole y r is (sym c.is_end-is_end.ensures ∙ c.if-is_end.true) m)
+    let on = record_on xs c.loop.reading y r to c.loop.invariant.0 p (c.in-Ok-take.ensures.kept rs to.holds.0)
+    (c.in-Ok-take.ensures.none rs to.holds.0) in
+    reads_as xs _ (HasMore y r) (HasWhole y) _ on
+    (λ is m. more_whole y r is (sym c.is_end-is_end.ensures ∙ c.if-is_end.true) m)
 
 pub loop-preserved : goal.loop-preserved
 loop-preserved g c =
@@ -54,10 +65,16 @@ loop-preserved g c =
           let z = c.loop.invariant.2 xs k in
           let to = z.0 in
           let rs = records to.records in
-          let p = c.in-Ok-read_next.ensures.reads rs (subst (λ o. HasReached o rs) (sym c.order.ensures) to.holds.0.order) in
-          let on = record_on xs c.loop.reading y r to c.loop.invariant.0 p (c.in-Ok-take.ensures.kept rs to.holds.0) (c.in-Ok-take.ensures.none rs to.holds.0) in
-          let more = record_takes xs c.loop.reading (item r) to c.loop.invariant.0 p in
-          (reads_as xs _ (HasMore y r) (HasBegun y) _ on (λ is m. more_begun y r is (sym c.is_end-is_end.ensures ∙ c.if-is_end.false) m), omega (arith, z.1, more))),
+          let p = c.in-Ok-read_next.ensures.reads rs (subst (λ o. HasReached o rs) (sym c.order.ensures)
+          to.holds.0.order) in
+          let on = record_on xs c.loop.reading y r to c.loop.invariant.0 p (c.in-Ok-take.ensures.kept rs to.holds.0)
+          (c.in-Ok-take.ensures.none rs to.holds.0) in
+          let more = record_takes xs c.loop.reading (item r) to c.loop.invariant.0 p in (
+            reads_as xs _ (HasMore y r) (HasBegun y) _ on
+                (λ is m. more_begun y r is (sym c.is_end-is_end.ensures ∙ c.if-is_end.false) m),
+            omega
+                (arith, z.1, more),
+          )),
       q.counted ∙ c.loop.invariant.3,
       q.same ∙ c.loop.invariant.4,
     )
@@ -65,4 +82,11 @@ loop-preserved g c =
 pub returns-clause-refused : goal.returns-clause-refused
 returns-clause-refused g c = λ xs k.
     let z = c.loop.invariant.2 xs k in
-    absurd (omega (arith, z.1, z.0.front.within, length-take (input_offset c.loop.input) xs, z.0.within, c.loop-test.false))
+    absurd (omega (
+      arith,
+      z.1,
+      z.0.front.within,
+      length-take (input_offset c.loop.input) xs,
+      z.0.within,
+      c.loop-test.false,
+    ))

@@ -7,8 +7,15 @@ returns-in-Err g c = record { reads = λ rs h. next_unread rs c.in-Err.ensures.r
 
 pub returns-in-Ok-type_of : goal.returns-in-Ok-type_of
 returns-in-Ok-type_of g c =
-    record { reads = λ rs h. next_typed rs c.in-Ok.id c.in-Ok-type_of.kind c.has_offsets_at_end.result (sym (c.in-Ok-type_of.ensures rs h)) (c.has_offsets_at_end.ensures rs h) c.in-Ok.ensures.reads c.read_typed.ensures.reads }
+    record {
+      reads = λ rs h. next_typed rs c.in-Ok.id c.in-Ok-type_of.kind c.has_offsets_at_end.result
+          (sym (c.in-Ok-type_of.ensures rs h)) (c.has_offsets_at_end.ensures rs h) c.in-Ok.ensures.reads
+          c.read_typed.ensures.reads;
+    }
 
 pub returns-in-Err-type_of : goal.returns-in-Err-type_of
 returns-in-Err-type_of g c =
-    record { reads = λ rs h. next_refused rs c.in-Ok.id c.in-Err-type_of.kind (sym (c.in-Err-type_of.ensures rs h)) c.in-Ok.ensures.reads }
+    record {
+      reads = λ rs h. next_refused rs c.in-Ok.id c.in-Err-type_of.kind (sym (c.in-Err-type_of.ensures rs h))
+          c.in-Ok.ensures.reads;
+    }

@@ -11,4 +11,6 @@ unreachable-requires c =
 pub returns : goal.returns
 returns c = λ earlier r t.
     rw (c.in_ok-push.ensures.items, ← c.self.view_is)
-    (placed_grown earlier r c.args.by c.args.modal.now _ c.new.result c.in-Some.cell.now c.in_ok-shifts.shifts t (c.in-Some.ensures (r ∷ earlier) t.stands) (c.in_ok-shifts.ensures.cases ∙ c.shifts.ensures r earlier t.stands) (c.new.ensures ∙ ap (λ (k : CellRef). placed k c.args.by c.in_ok-shifts.shifts) c.in_ok-target.ensures))
+    (placed_grown earlier r c.args.by c.args.modal.now _ c.new.result c.in-Some.cell.now c.in_ok-shifts.shifts t
+    (c.in-Some.ensures (r ∷ earlier) t.stands) (c.in_ok-shifts.ensures.cases ∙ c.shifts.ensures r earlier t.stands)
+    (c.new.ensures ∙ ap (λ (k : CellRef). placed k c.args.by c.in_ok-shifts.shifts) c.in_ok-target.ensures))

@@ -10,7 +10,8 @@ use Rattle.oasis_library.proofs.reading.Reading.take.Goals as goal
 pub returns-in-Cell-clause-kept : goal.returns-in-Cell-clause-kept
 returns-in-Cell-clause-kept c = λ rs h.
     cell_goes c.args.self.now _ rs c.args.next c.in-Cell.name c.in-Cell.is h c.pass.ensures
-    (name_ok c.take.result c.of_name.result c.in_ok-of_name.field-0 c.of_name.ensures c.in_ok-of_name.was c.take.ensures.kept (names_in rs) h.names)
+    (name_ok c.take.result c.of_name.result c.in_ok-of_name.field-0 c.of_name.ensures c.in_ok-of_name.was
+    c.take.ensures.kept (names_in rs) h.names)
     c.new.ensures c.in_ok-begin.ensures c.pass-2.ensures.unit c.pass-2.ensures.validation
 
 pub add-requires : goal.add-requires
@@ -18,21 +19,36 @@ add-requires c =
     let w = c.requires in (
       since_cell w.0,
       c.args.next,
-      figure_ok c.args.self.now.modal c.take-2.new.self c.args.next c.take-2.result c.of_figure.result c.in_ok-drawn.drawn c.of_figure.ensures c.in_ok-drawn.was
-          (record { drawn = c.take-2.ensures.drawn; places = c.take-2.ensures.places; kept = c.take-2.ensures.kept; none = c.take-2.ensures.none }) (since_cell w.0) w.1.modal,
+      figure_ok c.args.self.now.modal c.take-2.new.self c.args.next c.take-2.result c.of_figure.result
+          c.in_ok-drawn.drawn c.of_figure.ensures c.in_ok-drawn.was
+          (record {
+            drawn = c.take-2.ensures.drawn;
+            places = c.take-2.ensures.places;
+            kept = c.take-2.ensures.kept;
+            none = c.take-2.ensures.none;
+          }) (since_cell w.0) w.1.modal,
     )
 
 pub returns : goal.returns
 returns c =
     let holds = λ (rs : List Record) (h : Holds c.args.self.now rs).
-    figure_ok c.args.self.now.modal c.take-2.new.self c.args.next c.take-2.result c.of_figure.result c.in_ok-drawn.drawn c.of_figure.ensures c.in_ok-drawn.was
-    (record { drawn = c.take-2.ensures.drawn; places = c.take-2.ensures.places; kept = c.take-2.ensures.kept; none = c.take-2.ensures.none }) (since_cell rs) h.modal in
+    figure_ok c.args.self.now.modal c.take-2.new.self c.args.next c.take-2.result c.of_figure.result c.in_ok-drawn.drawn
+    c.of_figure.ensures c.in_ok-drawn.was
+    (record {
+      drawn = c.take-2.ensures.drawn;
+      places = c.take-2.ensures.places;
+      kept = c.take-2.ensures.kept;
+      none = c.take-2.ensures.none;
+    }) (since_cell rs) h.modal in
     record {
       refused = tt;
       kept = λ rs h.
           other_goes c.args.self.now _ rs c.args.next (is_other c.args.next c.in_default.not-Cell) h c.pass.ensures
-          (name_ok c.take.result c.of_name.result c.in_ok-of_name.field-0 c.of_name.ensures c.in_ok-of_name.was c.take.ensures.kept (names_in rs) h.names)
-          (holds rs h).stands (c.in_ok-add.ensures (since_cell rs) c.args.next (holds rs h)) c.pass-2.ensures.unit c.pass-2.ensures.validation;
+          (name_ok c.take.result c.of_name.result c.in_ok-of_name.field-0 c.of_name.ensures c.in_ok-of_name.was
+          c.take.ensures.kept (names_in rs) h.names)
+          (holds rs h).stands (c.in_ok-add.ensures (since_cell rs) c.args.next (holds rs h)) c.pass-2.ensures.unit
+          c.pass-2.ensures.validation;
       none = λ rs h kind b.
-          none_breached rs c.args.next (name_ok c.take.result c.of_name.result c.in_ok-of_name.field-0 c.of_name.ensures c.in_ok-of_name.was c.take.ensures.none (names_in rs) h.names) (holds rs h).none kind b;
+          none_breached rs c.args.next (name_ok c.take.result c.of_name.result c.in_ok-of_name.field-0 c.of_name.ensures
+          c.in_ok-of_name.was c.take.ensures.none (names_in rs) h.names) (holds rs h).none kind b;
     }
