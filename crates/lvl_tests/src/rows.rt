@@ -13,6 +13,7 @@ mod large;
 mod refusals;
 mod refused;
 mod show;
+mod view;
 mod words;
 
 /// What was written, and how the run ended.
