@@ -1,58 +1,26 @@
 //! Streams and libraries that are made to be timed.
 
 use anyhow::{Context, Result};
-use gds_records::record_type;
+use gds_records::fake::Stream;
 use lvl_cells::{Cell, Layer, Library, Name, Offsets, Reference, Shapes};
 use lvl_grid::{Point, Ring, Turn};
 use std::alloc::Global;
 
-fn record(bytes: &mut Vec<u8>, kind: u8, data_type: u8, payload: &[u8]) -> Result<()> {
-    let len = (payload.len() % 65_532 + 4) as u16;
-    bytes.extend_from_slice(&len.to_be_bytes())?;
-    bytes.push(kind)?;
-    bytes.push(data_type)?;
-    bytes.extend_from_slice(payload)?;
-    Ok(())
-}
-
-fn point(bytes: &mut Vec<u8>, x: i32, y: i32) -> Result<()> {
-    bytes.extend_from_slice(&x.to_be_bytes())?;
-    bytes.extend_from_slice(&y.to_be_bytes())?;
-    Ok(())
-}
-
-/// A square of ten steps with its lower left corner there.
-fn boundary(bytes: &mut Vec<u8>, xy: &mut Vec<u8>, x: i32, y: i32) -> Result<()> {
+/// The corners of a square of ten steps with its lower left corner there.
+fn square(x: i32, y: i32) -> [(i32, i32); 4] {
     let (right, top) = (x.saturating_add(10), y.saturating_add(10));
-    xy.clear();
-    point(xy, x, y)?;
-    point(xy, right, y)?;
-    point(xy, right, top)?;
-    point(xy, x, top)?;
-    point(xy, x, y)?;
-    record(bytes, record_type::BOUNDARY, 0, b"")?;
-    record(bytes, record_type::LAYER, 2, &[0, 1])?;
-    record(bytes, record_type::DATATYPE, 2, &[0, 0])?;
-    record(bytes, record_type::XY, 3, xy)?;
-    record(bytes, record_type::ENDEL, 0, b"")
+    [(x, y), (right, y), (right, top), (x, top)]
 }
 
 /// A stream of one structure with so many boundaries.
 pub fn stream(alloc: Global, count: i32) -> Result<Vec<u8>> {
-    let mut bytes = Vec::new(alloc);
-    let mut xy = Vec::new(alloc);
-    record(&mut bytes, record_type::HEADER, 2, &[0x02, 0x58])?;
-    record(&mut bytes, record_type::BGNLIB, 2, &[0; 24])?;
-    record(&mut bytes, record_type::LIBNAME, 6, b"LB")?;
-    record(&mut bytes, record_type::UNITS, 5, &[0; 16])?;
-    record(&mut bytes, record_type::BGNSTR, 2, &[0; 24])?;
-    record(&mut bytes, record_type::STRNAME, 6, b"TOP\0")?;
+    let mut stream = Stream::new(alloc)?;
+    stream.structure(b"TOP\0")?;
     for number in 0..count {
-        boundary(&mut bytes, &mut xy, number % 1000, number / 1000)?;
+        stream.ring(&square(number % 1000, number / 1000))?;
     }
-    record(&mut bytes, record_type::ENDSTR, 0, b"")?;
-    record(&mut bytes, record_type::ENDLIB, 0, b"")?;
-    Ok(bytes)
+    stream.end_structure()?;
+    Ok(stream.end()?)
 }
 
 fn name(alloc: Global, number: u64) -> Result<Vec<u8>> {
