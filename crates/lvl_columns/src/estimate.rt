@@ -51,7 +51,7 @@ pub struct Sample {
 pub struct Work {
     /// How many edges there are.
     pub edges: u128,
-    /// How many are alive, summed up over the ordinates at which the sweep stops.
+    /// How many are alive, summed up over the ordinates at which the sweep stops, and weighed.
     pub passes: u128,
 }
 
@@ -67,6 +67,16 @@ impl Work {
     pub(crate) fn cost(&self) -> u128 {
         self.passes.wrapping_add(self.edges.wrapping_mul(2))
     }
+}
+
+/// How many edges alive in a row the nearest caches hold, about.
+const NEAR: u128 = 2_500;
+
+/// So many passes with so many edges alive in a row: each costs more where these don't stay in the
+/// nearest caches, up to nine times as much.
+fn weighed(passes: u128, alive: u128) -> u128 {
+    let further = passes.wrapping_mul(alive.min(NEAR * 8)) / NEAR;
+    passes.wrapping_add(further)
 }
 
 /// The quotient, or the greatest number where the divisor is 0.
@@ -174,9 +184,11 @@ impl Sample {
         let columns = (cuts.len() as u128).wrapping_add(1);
         let height = self.height();
         let stops = over(edges, columns).min(height).min(self.lines());
+        let passes = stops.wrapping_mul(heights).checked_div(height).unwrap_or(0);
+        let alive = heights.checked_div(height).unwrap_or(0) / columns.max(1);
         Work {
             edges,
-            passes: stops.wrapping_mul(heights).checked_div(height).unwrap_or(0),
+            passes: weighed(passes, alive),
         }
     }
 }

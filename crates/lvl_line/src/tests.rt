@@ -4,6 +4,8 @@ use clap::error::ErrorKind;
 use std::alloc::{AllocError, Global};
 use std::test::Fail;
 
+mod help;
+
 /// What a line asks for, or the kind of its refusal.
 #[derive(Clone, Copy)]
 enum Asks<'a> {

@@ -84,12 +84,34 @@ fn push_edges(edges: &mut Vec<Edge>, ring: usize, points: &[Point]) -> Result<()
     Ok(())
 }
 
+/// How many vertical edges a ring has.
+fn how_many_of(points: &[Point]) -> usize {
+    let mut many: usize = 0;
+    let mut y = points.last().map_or(0, |last| last.y);
+    for point in points {
+        if point.y != y {
+            many = many.wrapping_add(1);
+        }
+        y = point.y;
+    }
+    many
+}
+
+/// How many vertical edges all rings have.
+fn how_many<R: RingList>(rings: &R) -> usize {
+    let mut many: usize = 0;
+    for number in 0..rings.len() {
+        many = many.wrapping_add(how_many_of(rings.ring(number)));
+    }
+    many
+}
+
 /// The vertical edges of all rings, by the ordinate at which they begin, then by abscissa.
 pub(crate) fn edges_of<R: RingList>(alloc: Global, rings: &R) -> Result<Vec<Edge>, AllocError>
     ensures edges { IfOk result (λ edges. AreEdgesOf (R.rings rings.now) edges.items) }
     ensures order { IfOk result (λ edges. AreInOrder edges.items) }
 {
-    let mut edges = Vec::new(alloc);
+    let mut edges = Vec::with_capacity(alloc, how_many(rings))?;
     for number in 0..rings.len() {
         push_edges(&mut edges, number, rings.ring(number))?;
     }

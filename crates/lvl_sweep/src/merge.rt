@@ -62,6 +62,18 @@ fn exchange(edges: &mut [Edge], to: usize, from: usize, count: usize)
     }
 }
 
+/// Exchanges two edges; does nothing where both are one, as they mostly are.
+fn exchange_two(edges: &mut [Edge], i: usize, j: usize)
+    requires first { i < length edges.old }
+    requires second { j < length edges.old }
+    ensures swapped { SwappedAt edges.old edges.new i j }
+    ensures permutation { IsPermutation edges.old edges.new }
+{
+    if i != j {
+        edges.swap(i, j);
+    }
+}
+
 impl Merge {
     /// Whether some edges are still to be put.
     fn is_left(&self) -> bool
@@ -101,7 +113,7 @@ impl Merge {
     {
         self.first -= 1;
         self.top = Some(lower(edges[at].high, self.top));
-        edges.swap(at, self.first);
+        exchange_two(edges, at, self.first);
     }
 
     /// Puts the last of the edges still to be put, or drops it where it ends by `y`.

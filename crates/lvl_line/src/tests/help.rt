@@ -1,0 +1,82 @@
+//! The texts of help and of the version, which `clap` writes in its usual form.
+use crate::tests::words_of;
+use crate::{LineFault, parse_line};
+use std::test::Fail;
+
+const LVL: &str = "\
+Compares two chip mask layouts by the mask that they draw
+
+Usage: lvl <COMMAND>
+
+Commands:
+  compare  Says whether two layouts draw the same mask
+  show     Shows a layout's top cell, and how many rings it places on each layer
+  help     Print this message or the help of the given subcommand(s)
+
+Options:
+  -h, --help     Print help
+  -V, --version  Print version
+";
+
+const COMPARE: &str = "\
+Says whether two layouts draw the same mask
+
+Usage: lvl compare [OPTIONS] <A> <B>
+
+Arguments:
+  <A>  The first layout, GDSII or OASIS
+  <B>  The second layout, GDSII or OASIS
+
+Options:
+      --top-a <NAME>     The first layout's top cell
+      --top-b <NAME>     The second layout's top cell
+      --map <PAIRS>      Layers of the second layout, as those of the first: 1/0=2/0,3/1=3/0
+      --window <RANGES>  The only squares to be compared, in grid steps: x=0..100,y=-50..50
+  -h, --help             Print help
+";
+
+const SHOW: &str = "\
+Shows a layout's top cell, and how many rings it places on each layer
+
+Usage: lvl show [OPTIONS] <A>
+
+Arguments:
+  <A>  The layout, GDSII or OASIS
+
+Options:
+      --top <NAME>  The layout's top cell
+  -h, --help        Print help
+";
+
+const BARE: &str = "\
+error: 'lvl' requires a subcommand but one was not provided
+  [subcommands: compare, show, help]
+
+Usage: lvl <COMMAND>
+
+For more information, try '--help'.
+";
+
+static TEXTS: [(&str, &str); 8] = [
+    ("lvl --help", LVL),
+    ("lvl -h", LVL),
+    ("lvl help", LVL),
+    ("lvl compare --help", COMPARE),
+    ("lvl help compare", COMPARE),
+    ("lvl show --help", SHOW),
+    ("lvl --version", "lvl 1.0.0\n"),
+    ("lvl", BARE),
+];
+
+#[test]
+fn help_and_version_are_texts(rt: HostRuntime) -> Result<(), Fail> {
+    for (line, text) in &TEXTS {
+        let words = words_of(rt.alloc(), line)?;
+        let Err(LineFault::Words(error)) = parse_line(rt.alloc(), words.as_slice()) else {
+            return Err(Fail::from("the line was taken"));
+        };
+        let found = format!(in rt.alloc(); "{error}")?;
+        assert!(rt; found.as_str() == *text, "{line}: {found}");
+    }
+    Ok(())
+}
