@@ -2,7 +2,7 @@
 use Rattle.std.proofs.Common.{◌≡◌, ◌==◌, ℕ, ◌<◌, ℤ, Bool, true, false, if◌then◌else◌, List, [], ◌∷◌, ◌++◌, length, Some}
 use Rattle.std.proofs.Common.{None, map, refl, sym, ap, ◌∙◌, subst, arith, append_assoc}
 use Rattle.std.specs.List.{AllByRecursion}
-use Rattle.std.specs.Prelude.{Result, Ok, Err, IsErr, IsErrAnd}
+use Rattle.std.specs.Prelude.{Option, Result, Ok, Err, IsErr, IsErrAnd}
 use Rattle.std.proofs.lemmas.List.{append-nil}
 use Rattle.lvl_path.specs.Figure.{figure_rings}
 use Rattle.lvl_cells.specs.Cells.{kept}
@@ -42,7 +42,7 @@ use Rattle.gds_library.specs.declared.fault.GdsKind.{GdsKind}
 use Rattle.gds_library.specs.declared.fault.GdsKind.TheVariants.{Record, Misplaced, Element, Name, AfterEnd}
 use Rattle.gds_library.specs.declared.fault.GdsKind.TheVariants.{TooManyCells}
 use Rattle.gds_library.specs.inside.Shown.{grown, shown, on_last, with_drawn}
-use Rattle.gds_library.specs.inside.Holds.{Holds, IsInside, Takes}
+use Rattle.gds_library.specs.inside.Holds.{Holds, IsInside, HoldsWith, Takes}
 use Rattle.gds_library.specs.declared.place.Place.{Place}
 use Rattle.gds_library.specs.declared.place.Place.TheVariants.{Header, BgnLib, LibName, Units, Structures, StrName}
 use Rattle.gds_library.specs.declared.place.Place.TheVariants.{Elements, Fill}
@@ -175,16 +175,22 @@ says_lifted b e rs r OutOfMemory i x only = tt
 -- a record that its element refuses is refused
 pub says_inside : (b : Builder) (e : OpenElement) (rs : List Rec) (r : Rec) (f : Refusal ElementFault)
     (g : Refusal GdsKind) (i : IsInside b e rs)
-    → g ≡ lifted_refusal f → Says f (ElementBreaches i.piece r) → Says f (OnlyInElement i.piece r) → Takes rs r (Err g)
+    → g ≡ lifted_refusal f → Says f (ElementBreaches i.piece r) → Says f (OnlyInElement i.piece r)
+    → Says g (λ k. Breaches rs r k × BreachesOnly rs r k)
 says_inside b e rs r f g i h x only =
     subst (λ (j : Refusal GdsKind). Says j (λ k. Breaches rs r k × BreachesOnly rs r k)) (sym h)
     (says_lifted b e rs r f i x only)
 
+-- what a builder holds is read where no element is open
+pub none_open : (b : Builder) (e : Option OpenElement) (rs : List Rec) → e ≡ None → Holds b rs → HoldsWith e b rs
+none_open b e rs none h = subst (λ (o : Option OpenElement). HoldsWith o b rs) (sym none) h
+
 -- what is refused with the same refusal
-pub takes_refused : (rs : List Rec) (r : Rec) (res : Result Reading (Refusal GdsKind)) (e : Refusal GdsKind)
-    → IsErr res × IsErrAnd res (λ x. x ≡ e) → Says e (λ k. Breaches rs r k × BreachesOnly rs r k) → Takes rs r res
-takes_refused rs r (Ok x) e h b = absurd h.1
-takes_refused rs r (Err x) e h b =
+pub takes_refused : {A : Type 0} (rs : List Rec) (r : Rec) (x : Reading) (res : Result A (Refusal GdsKind))
+    (e : Refusal GdsKind) → IsErr res × IsErrAnd res (λ f. f ≡ e)
+    → Says e (λ k. Breaches rs r k × BreachesOnly rs r k) → Takes rs r x res
+takes_refused rs r x (Ok v) e h b = absurd h.1
+takes_refused rs r x (Err f) e h b =
     subst (λ (i : Refusal GdsKind). Says i (λ k. Breaches rs r k × BreachesOnly rs r k)) (sym h.1) b
 
 -- what is known of the units at a place is known before, unless they are there

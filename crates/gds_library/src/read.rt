@@ -107,7 +107,7 @@ fn read_all<R: Read>(alloc: Global, records: &mut Records<R>) -> Result<Reading,
         let offset = records.offset();
         match records.next() {
             Ok(Some(record)) => match reading.take(alloc, record.kind, record.payload) {
-                Ok(next) => reading = next,
+                Ok(()) => {}
                 Err(Refusal::Breach(kind)) => return Err(refuse(offset, kind)),
                 Err(Refusal::OutOfMemory) => return Err(Refusal::OutOfMemory),
             },

@@ -1,5 +1,5 @@
 //! A library that is being read, record by record.
-ghost use Rattle.std.specs.Prelude.{◌≡◌, List, ℕ, [], IsTrue, ◌↔◌};
+ghost use Rattle.std.specs.Prelude.{◌≡◌, List, ℕ, [], None, IsTrue, ◌↔◌};
 ghost use Rattle.gds_elements.specs.Rec.{Rec};
 ghost use Rattle.gds_elements.specs.inside.Reading.{record_of};
 ghost use Rattle.gds_elements.specs.inside.Formed.{IsFormed as IsFormedInElement};
@@ -52,48 +52,68 @@ impl Reading {
 
     /// Takes the next record, if it breaches no rule.
     pub(crate) fn take(
-        self,
+        &mut self,
         alloc: Global,
         kind: u8,
         payload: &[u8],
-    ) -> Result<Reading, Refusal<GdsKind>>
+    ) -> Result<(), Refusal<GdsKind>>
         requires formed { IsFormed kind payload.now }
         requires in_element { IsFormedInElement kind payload.now }
-        ensures { (rs : List Rec) (d : ℕ) → HasRead self rs → Takes rs (record_of kind d payload.now) result }
+        ensures { (rs : List Rec) (d : ℕ) → HasRead self.old rs
+            → Takes rs (record_of kind d payload.now) self.new result }
     {
-        let Reading { builder, element } = self;
-        match element {
-            Some(element) => take_inside(builder, element, alloc, kind, payload),
-            None => take_outside(builder, alloc, kind, payload),
+        match self.element.take() {
+            Some(element) => self.take_inside(element, alloc, kind, payload),
+            None => self.take_outside(alloc, kind, payload),
         }
     }
-}
 
-// Takes a record of the element that is open.
-fn take_inside(
-    builder: Builder,
-    element: Element,
-    alloc: Global,
-    kind: u8,
-    payload: &[u8],
-) -> Result<Reading, Refusal<GdsKind>>
-    requires in_element { IsFormedInElement kind payload.now }
-    ensures { (rs : List Rec) (d : ℕ) → IsInside builder element rs → Takes rs (record_of kind d payload.now) result }
-{
-    let mut builder = builder;
-    match element.take(alloc, kind, payload) {
-        Ok(Step::Open(element)) => Ok(Reading {
-            builder,
-            element: Some(element),
-        }),
-        Ok(Step::Whole(drawn)) => {
-            builder.add(drawn)?;
-            Ok(Reading {
-                builder,
-                element: None,
-            })
+    // Takes a record of the element that is open.
+    fn take_inside(
+        &mut self,
+        element: Element,
+        alloc: Global,
+        kind: u8,
+        payload: &[u8],
+    ) -> Result<(), Refusal<GdsKind>>
+        requires open { self.old.element ≡ None }
+        requires in_element { IsFormedInElement kind payload.now }
+        ensures { (rs : List Rec) (d : ℕ) → IsInside self.old.builder element rs
+            → Takes rs (record_of kind d payload.now) self.new result }
+    {
+        match element.take(alloc, kind, payload) {
+            Ok(Step::Open(element)) => {
+                self.element = Some(element);
+                Ok(())
+            }
+            Ok(Step::Whole(drawn)) => {
+                self.builder.add(drawn)?;
+                Ok(())
+            }
+            Err(refusal) => Err(lifted(refusal)),
         }
-        Err(refusal) => Err(lifted(refusal)),
+    }
+
+    // Takes a record where no element is open.
+    fn take_outside(
+        &mut self,
+        alloc: Global,
+        kind: u8,
+        payload: &[u8],
+    ) -> Result<(), Refusal<GdsKind>>
+        requires none { self.old.element ≡ None }
+        requires formed { IsFormed kind payload.now }
+        ensures { (rs : List Rec) (d : ℕ) → Holds self.old.builder rs
+            → Takes rs (record_of kind d payload.now) self.new result }
+    {
+        if self.builder.may_open() {
+            if let Some(element) = Element::open(alloc, kind) {
+                self.element = Some(element);
+                return Ok(());
+            }
+        }
+        self.builder.take(alloc, kind, payload)?;
+        Ok(())
     }
 }
 
@@ -108,30 +128,4 @@ fn lifted(refusal: Refusal<ElementFault>) -> Refusal<GdsKind>
         Refusal::Breach(ElementFault::Rule(rule)) => Refusal::Breach(GdsKind::Element(rule)),
         Refusal::OutOfMemory => Refusal::OutOfMemory,
     }
-}
-
-// Takes a record where no element is open.
-fn take_outside(
-    builder: Builder,
-    alloc: Global,
-    kind: u8,
-    payload: &[u8],
-) -> Result<Reading, Refusal<GdsKind>>
-    requires formed { IsFormed kind payload.now }
-    ensures { (rs : List Rec) (d : ℕ) → Holds builder rs → Takes rs (record_of kind d payload.now) result }
-{
-    let mut builder = builder;
-    if builder.may_open() {
-        if let Some(element) = Element::open(alloc, kind) {
-            return Ok(Reading {
-                builder,
-                element: Some(element),
-            });
-        }
-    }
-    builder.take(alloc, kind, payload)?;
-    Ok(Reading {
-        builder,
-        element: None,
-    })
 }

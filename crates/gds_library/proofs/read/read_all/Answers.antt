@@ -102,8 +102,8 @@ loop-preserved g c =
           let sp = next_said (λ (r : Answered). IsSpelledAt (room_left c.loop.records) (drop at xs) r.kind
           r.payload.now) c.next.result c.in-Ok-Some.record is
           (c.next.ensures.spelled c.loop.invariant.0 (drop at xs) to.left_is) in
-          subst (λ i. ReadTo gds xs i (HasRead c.in-Ok.next) (bytes_left g.R.Read.remaining new)) (sym p.offset)
-          (reads_record xs at c.loop.reading c.in-Ok.next _ (bytes_left g.R.Read.remaining new) _ _ to sp
+          subst (λ i. ReadTo gds xs i (HasRead c.take.new.self) (bytes_left g.R.Read.remaining new)) (sym p.offset)
+          (reads_record xs at c.loop.reading c.take.new.self _ (bytes_left g.R.Read.remaining new) _ _ to sp
           (λ d. c.in-Ok.ensures to.records d to.holds) (p.left (drop at xs) to.left_is)),
       omega (arith, p.offset, c.loop.invariant.3),
       p.counted ∙ c.loop.invariant.4,
@@ -124,7 +124,7 @@ returns-then-is_whole-clause-whole g c = (
       let to = c.loop.invariant.2 xs k in
       let sp = next_said (λ (r : Answered). IsSpelledAt (room_left c.loop.records) (drop at xs) r.kind r.payload.now)
       c.next.result c.in-Ok-Some.record is (c.next.ensures.spelled c.loop.invariant.0 (drop at xs) to.left_is) in
-      subst (λ i. ReadTo gds xs i (HasRead c.in-Ok.next) (bytes_left g.R.Read.remaining new)) (sym p.offset)
-      (reads_record xs at c.loop.reading c.in-Ok.next _ (bytes_left g.R.Read.remaining new) _ _ to sp
+      subst (λ i. ReadTo gds xs i (HasRead c.take.new.self) (bytes_left g.R.Read.remaining new)) (sym p.offset)
+      (reads_record xs at c.loop.reading c.take.new.self _ (bytes_left g.R.Read.remaining new) _ _ to sp
       (λ d. c.in-Ok.ensures to.records d to.holds) (p.left (drop at xs) to.left_is)),
 )
