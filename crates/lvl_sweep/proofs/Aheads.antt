@@ -10,9 +10,10 @@ use Rattle.lvl_region.specs.declared.region.Side.TheVariants.{First, Second}
 use Rattle.lvl_sweep.specs.declared.rows.Ahead.{Ahead}
 use Rattle.lvl_sweep.specs.declared.rows.Ahead.TheVariants.{Differ, Alike, Nothing}
 use Rattle.lvl_sweep.specs.Slab.{Slab, holds, AreSteps, spans, AreIntervals, IsSlabList, slabs_cover}
-use Rattle.lvl_sweep.specs.Rows.{is_from}
-use Rattle.lvl_sweep.specs.Ahead.{IsLeastIn, IsBefore, IsLeastAlone, IsMet, FirstIs, IsTold, IsToldByTwo}
-use Rattle.lvl_sweep.specs.Ahead.{higher_of, left_end}
+use Rattle.lvl_sweep.specs.Ahead.{is_from}
+use Rattle.lvl_sweep.specs.inside.InStep.{IsLeastIn, IsMet, FirstIs, IsTold, IsToldByTwo}
+use Rattle.lvl_sweep.specs.Ahead.{IsBefore, IsLeastAlone}
+use Rattle.lvl_sweep.specs.inside.InStep.{higher_of, left_end}
 use Rattle.lvl_sweep.proofs.Steps.{inside, left_of, right_of}
 use Rattle.lvl_sweep.proofs.BandLists.{cover_is, in_value}
 use Rattle.lvl_sweep.proofs.Firsts.{Stands, stands, early, here, other_side, or_false, flip_on}

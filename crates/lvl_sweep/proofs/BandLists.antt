@@ -15,8 +15,9 @@ use Rattle.lvl_sweep.specs.declared.edge.Edge.{Edge}
 use Rattle.lvl_sweep.specs.Slab.{Step, Slab, holds, value_of, Follows, AreSteps, spans, AreIntervals, IsSlabList}
 use Rattle.lvl_sweep.specs.Slab.{slabs_cover}
 use Rattle.lvl_sweep.specs.Alive.{alive}
-use Rattle.lvl_sweep.specs.Rows.{is_from, from_on, steps_from, inside, far_of, Balanced, row, alive_at, row_at}
-use Rattle.lvl_sweep.specs.Rows.{as_value, same_row, bands_from}
+use Rattle.lvl_sweep.specs.Ahead.{is_from}
+use Rattle.lvl_sweep.specs.inside.Rows.{from_on, steps_from, inside, far_of, Balanced, row, alive_at, row_at}
+use Rattle.lvl_sweep.specs.inside.Rows.{as_value, same_row, bands_from}
 use Rattle.lvl_sweep.proofs.Steps.{IsWithin, at_head, past_head, steps_give, none_from, first_from}
 use Rattle.lvl_sweep.proofs.Steps.{same_from}
 use Rattle.lvl_sweep.proofs.Insides.{each_within}

@@ -11,7 +11,7 @@ use Rattle.std.proofs.lemmas.List.Folds.{Any-from_list_any, list_any-from_Any, l
 use Rattle.std.proofs.lemmas.List.Sums.{get_or-le-sum_by}
 use Rattle.lvl_sweep.specs.declared.edge.Edge.{Edge}
 use Rattle.lvl_sweep.specs.Edges.{net_left, IsInside}
-use Rattle.lvl_sweep.specs.Rows.{inside, far_of, Balanced}
+use Rattle.lvl_sweep.specs.inside.Rows.{inside, far_of, Balanced}
 use Rattle.lvl_sweep.proofs.Winds.{count_none, left_of_all}
 
 pub none_of : {A : Type 0} (p : A → Bool) (xs : List A) → list_any p xs ≡ false → All (λ x. p x ≡ false) xs

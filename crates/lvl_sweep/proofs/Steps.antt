@@ -8,7 +8,8 @@ use Rattle.std.proofs.lemmas.Int.{ints, by_lt_z}
 use Rattle.std.proofs.lemmas.Bool.Decides.{Decides-int_eq}
 use Rattle.lvl_sweep.proofs.Slabs.{same_steps, early_rest}
 use Rattle.lvl_sweep.specs.Slab.{Step, holds, value_of, Follows, AreSteps}
-use Rattle.lvl_sweep.specs.Rows.{join, steps_at, is_from, from_on, steps_from}
+use Rattle.lvl_sweep.specs.inside.Rows.{join, steps_at, from_on, steps_from}
+use Rattle.lvl_sweep.specs.Ahead.{is_from}
 
 pub inside : {V : Type 0} (s : Step V) (z : ℤ) → s.from ≤ℤ z → z <ℤ s.to → holds s z ≡ true
 inside s z h k = grind (arith, ints)
