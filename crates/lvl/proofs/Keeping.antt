@@ -6,7 +6,7 @@ use Rattle.std.proofs.Common.{subst, inl, inr}
 use Rattle.std.specs.Prelude.{◌⊎◌, sum_by, IsSomeAnd, Contains, option_map}
 use Rattle.std.specs.Option.{option_map_or}
 use Rattle.std.specs.Str.{bytes_eq}
-use Rattle.std.proofs.lemmas.List.{get_or-map, length-map}
+use Rattle.std.proofs.lemmas.List.{length-map}
 use Rattle.std.proofs.lemmas.List.Elements.{All-map}
 use Rattle.std.proofs.lemmas.List.Sums.{sum_by-cons}
 use Rattle.std.proofs.lemmas.Option.{slice_get-map}
@@ -21,6 +21,7 @@ use Rattle.lvl_cells.specs.Coverage.{RingsCover, ShapeCovers, PullsBack, CoversW
 use Rattle.lvl_cells.specs.Soundness.{links, AreLinked, IsRanked, IsTop, IsSound}
 use Rattle.lvl_cells.specs.Chains.{Chain, IsComposed, IsInRange, over_chains, chains, own_rings, placed_rings}
 use Rattle.lvl_cells.specs.Chains.{most_placed, Fits}
+use Rattle.oasis_figures.proofs.Moved.{All-unmap}
 
 -- names and references
 
@@ -248,9 +249,6 @@ chain_back rings cells top (suc n) m d h =
     there (h.3.0, r, h.3.2, h.3.3, (found.1, h.3.4.1)) in
     (found.0, (h.0, before.0, before.1, reference), found.2)
 
-all_back : {X Y : Type 0} (P : Y → Type 0) (f : X → Y) (xs : List X) → All P (map f xs) → All (λ x. P (f x)) xs
-all_back P f xs h = λ i d lt. subst P (get_or-map f xs i d (f d) lt) (h i (f d) (rw (length-map xs f) lt))
-
 pub range_kept : {F : Type 0} (rings : F → Rings) (m : Map) (d : PlainCell F)
     → IsInRange rings m d ↔ IsInRange each_ring m (drawn rings d)
 range_kept rings m d = (
@@ -265,7 +263,7 @@ range_kept rings m d = (
   λ h. record {
     shift = h.shift;
     vertices =
-        all_back
+        All-unmap
         (λ (h : PlainShape Rings).
         All (λ e. All (λ ring. All (λ v. FitsPoint (image m (shifted e v))) ring) h.figure) h.shifts)
         (λ h. record { layer = h.layer; figure = rings h.figure; shifts = h.shifts }) d.shapes h.vertices;

@@ -42,8 +42,7 @@ IsVerdictOf Seen Ours Theirs Same = (layer : Layer) (s : Square) → Seen s → 
 IsVerdictOf Seen Ours Theirs (Differ layer square side) = IsFirstApartOf Seen Ours Theirs layer square side
 
 -- both files are accepted, whole, and of the squares that the window shows the verdict is that on what the first draws
--- and
--- what the second draws with its Layers mapped
+-- and what the second draws with its Layers mapped
 pub record IsViewVerdict (view : PlainView) (a b : File) (v : Verdict) : Type 0 where
   pub both : AreAccepted a b
   pub verdict : IsVerdictOf (IsShown view.window) (Draws both.ours both.our_top)

@@ -16,8 +16,7 @@ use Rattle.lvl.specs.Shown.{IsShownFile, IsOfFirst}
 use Rattle.lvl_report.specs.Writing.{AppendsBeginning}
 
 -- a reader in a run: the bytes that it had and those that are left, where they are known, its errors before and after,
--- and
--- the name of the top
+-- and the name of the top
 pub record Input : Type 0 where
   pub bytes : Option (List ℕ)
   pub left : Option (List ℕ)
