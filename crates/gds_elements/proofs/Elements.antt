@@ -1,6 +1,7 @@
 -- Where elements begin and end among other records.
-use Rattle.std.proofs.Common.{◌≡◌, ◌==◌, ◌&&◌, ℕ, inl, inr, Bool, true, false, not, List, [], ◌∷◌, ◌++◌, refl}
-use Rattle.std.proofs.Common.{sym, ap, ◌∙◌, subst, append_assoc}
+use Rattle.std.proofs.Common.{◌≡◌, ◌==◌, ◌&&◌, ℕ, inl, inr, Bool, true, false, not, List, [], ◌∷◌, ◌++◌, refl, sym, ap}
+use Rattle.std.proofs.Common.{◌∙◌, subst, append_assoc}
+use Rattle.std.proofs.lemmas.Bool.{and_parts, or_left, or_right}
 use Rattle.gds_elements.specs.Types.{boundary, path, sref, aref, text, endel}
 use Rattle.lvl_grammar.specs.Order.{Order, nothing, one, next, either, many, IsWord, Begins, has}
 use Rattle.gds_elements.specs.Order.{opens, an_element}
@@ -38,7 +39,7 @@ use Rattle.lvl_grammar.specs.inside.After.{can_be_empty}
 use Rattle.lvl_grammar.proofs.Orders.{at_type, type_same}
 use Rattle.lvl_grammar.proofs.Leads.{leads_unwhole}
 use Rattle.gds_elements.proofs.Leads.{leads_begins}
-use Rattle.gds_elements.proofs.Words.{Stands, stands_append, stands_left, has_all, or_left, or_right}
+use Rattle.gds_elements.proofs.Words.{Stands, stands_append, stands_left, has_all}
 
 -- an order whose words end with a type, which is nowhere before
 ends_with : ℕ → Order → Bool
@@ -54,10 +55,6 @@ record EndsOnce (k : ℕ) (w : List ℕ) : Type 0 where
   is : w ≡ before ++ k ∷ []
   nowhere : Stands k before → ⊥
 
-and_both : (a b : Bool) → a && b ≡ true → (a ≡ true) × (b ≡ true)
-and_both true b e = (refl, e)
-and_both false b e = cc
-
 not_so : (a : Bool) → not a ≡ true → a ≡ true → ⊥
 not_so true e f = cc
 not_so false e f = cc
@@ -67,7 +64,7 @@ unfolding ends_with
 ends_once k nothing w e h = cc
 ends_once k (one j) w e h = record { before = []; is = h ∙ ap (λ i. i ∷ []) (type_same j k e); nowhere = λ s. s }
 ends_once k (next a b) w e h =
-    let p = and_both (not (has a k)) (ends_with k b) e in
+    let p = and_parts (not (has a k)) (ends_with k b) e in
     let r = ends_once k b h.1 p.1 h.3 in
     record {
       before = h.0 ++ r.before;
@@ -78,7 +75,7 @@ ends_once k (next a b) w e h =
       ];
     }
 ends_once k (either a b) w e h =
-    let p = and_both (ends_with k a) (ends_with k b) e in
+    let p = and_parts (ends_with k a) (ends_with k b) e in
     elim h [ inl x ↦ ends_once k a w p.0 x | inr y ↦ ends_once k b w p.1 y ]
 ends_once k (many a) w e h = cc
 
@@ -194,7 +191,7 @@ stands_in_word (next (next c d) b) o k w e h s = cc
 stands_in_word (next (either c d) b) o k w e h s = cc
 stands_in_word (next (many c) b) o k w e h s = cc
 stands_in_word (either a b) o k w e h s =
-    let p = and_both (begins_with_one a) (begins_with_one b) e in
+    let p = and_parts (begins_with_one a) (begins_with_one b) e in
     elim h [
       | inl x ↦ or_left (has (behind_first a) k) (has (behind_first b) k) (stands_in_word a o k w p.0 x s)
       | inr y ↦ or_right (has (behind_first a) k) (has (behind_first b) k) (stands_in_word b o k w p.1 y s)

@@ -1,5 +1,6 @@
 -- The types that a word of an order has.
-use Rattle.std.proofs.Common.{◌≡◌, ◌==◌, ℕ, ◌⊎◌, inl, inr, Bool, true, false, ◌||◌, List, [], ◌∷◌, ◌++◌, refl, subst}
+use Rattle.std.proofs.Common.{◌≡◌, ◌==◌, ℕ, ◌⊎◌, inl, inr, true, false, List, [], ◌∷◌, ◌++◌, refl, subst}
+use Rattle.std.proofs.lemmas.Bool.{or_left, or_right}
 use Rattle.std.specs.List.{AllByRecursion, flat_map}
 use Rattle.gds_elements.specs.Types.{boundary, path, sref, aref, text, layer, datatype, width, xy, endel, sname, colrow}
 use Rattle.gds_elements.specs.Types.{texttype, presentation, string, strans, mag, angle, pathtype}
@@ -27,14 +28,6 @@ stands_left k (x ∷ u) v h = elim h [ inl e ↦ inl e | inr t ↦ inr (stands_l
 pub stands_right : (k : ℕ) (u v : List ℕ) → Stands k v → Stands k (u ++ v)
 stands_right k [] v h = h
 stands_right k (x ∷ u) v h = inr (stands_right k u v h)
-
-pub or_left : (a b : Bool) → a ≡ true → a || b ≡ true
-or_left true b e = refl
-or_left false b e = cc
-
-pub or_right : (a b : Bool) → b ≡ true → a || b ≡ true
-or_right true b e = refl
-or_right false b e = e
 
 has_many : (a : Order) (k : ℕ) → ((w : List ℕ) → IsWord a w → Stands k w → has a k ≡ true)
     → (ws : List (List ℕ)) → AllByRecursion (IsWord a) ws → Stands k (flat_map (λ u. u) ws) → has a k ≡ true

@@ -2,6 +2,7 @@
 use Rattle.std.proofs.Common.{◌≡◌, ◌==◌, ◌||◌, ◌⊎◌, ℕ, Bool, true, false, List, [], ◌∷◌, ◌++◌, Some, refl, sym, ap, ◌∙◌}
 use Rattle.std.proofs.Common.{subst, append_assoc, inl, inr}
 use Rattle.std.proofs.lemmas.List.{append-nil}
+use Rattle.std.proofs.lemmas.Bool.{or_parts}
 use Rattle.std.specs.List.{flat_map}
 use Rattle.gds_elements.specs.Types.{boundary, path, sref, aref, text, endstr}
 use Rattle.lvl_grammar.specs.Order.{IsWord, Begins}
@@ -11,17 +12,12 @@ use Rattle.gds_elements.specs.inside.Reading.{HasRead, IsReading}
 use Rattle.gds_elements.specs.declared.element.Element.{Element}
 use Rattle.gds_elements.specs.declared.element.State.{State}
 use Rattle.gds_elements.specs.declared.element.State.TheVariants.{Boundary, Path, Sref, Aref, Text, Drawn as AtEnd}
-use Rattle.lvl_grammar.specs.inside.After.{after_first, IsWordOfOne}
+use Rattle.lvl_grammar.specs.inside.After.{after_first, IsWordOfOne, LeadsTo}
 use Rattle.lvl_grammar.proofs.Orders.{first_taken, some_word, some_word-is, empty_word}
 use Rattle.gds_elements.proofs.Elements.{reading_begins, reading_unfinished, nothing_follows}
 use Rattle.gds_library.specs.Order.{a_library}
 use Rattle.gds_library.specs.inside.Place.{left, to_end_of_structure}
-use Rattle.lvl_grammar.specs.inside.After.{LeadsTo}
 use Rattle.gds_library.specs.declared.place.Place.TheVariants.{Elements}
-
-pub either_false : (a b : Bool) → a || b ≡ false → (a ≡ false) × (b ≡ false)
-either_false true b e = cc
-either_false false b e = (refl, e)
 
 -- no element begins with the type
 pub record OpensNone (k : ℕ) : Type 0 where
@@ -33,10 +29,10 @@ pub record OpensNone (k : ℕ) : Type 0 where
 
 pub opens_none : (k : ℕ) → opens k ≡ false → OpensNone k
 opens_none k e =
-    let a = either_false ((((k == boundary) || (k == path)) || (k == sref)) || (k == aref)) (k == text) e in
-    let b = either_false (((k == boundary) || (k == path)) || (k == sref)) (k == aref) a.0 in
-    let c = either_false ((k == boundary) || (k == path)) (k == sref) b.0 in
-    let d = either_false (k == boundary) (k == path) c.0 in
+    let a = or_parts ((((k == boundary) || (k == path)) || (k == sref)) || (k == aref)) (k == text) e in
+    let b = or_parts (((k == boundary) || (k == path)) || (k == sref)) (k == aref) a.0 in
+    let c = or_parts ((k == boundary) || (k == path)) (k == sref) b.0 in
+    let d = or_parts (k == boundary) (k == path) c.0 in
     record { boundary = d.0; path = d.1; sref = c.1; aref = b.1; text = a.1 }
 
 opens_at : (b : Bool) (k : ℕ) (w : List ℕ) → opens k ≡ b → IsWord an_element (k ∷ w) → opens k ≡ true

@@ -1,5 +1,6 @@
 -- Types that are outside of elements, and types that carry no value of an element.
 use Rattle.std.proofs.Common.{◌≡◌, ◌==◌, ◌||◌, ◌<◌, ℕ, true, false, Some, None, refl, arith}
+use Rattle.std.proofs.lemmas.Bool.{or_parts}
 use Rattle.gds_elements.specs.Types.{header, bgnlib, libname, units, endlib, bgnstr, strname, endstr, boundary, path}
 use Rattle.gds_elements.specs.Types.{sref, aref, text, layer, datatype, width, xy, sname, colrow, strans, mag, angle}
 use Rattle.gds_elements.specs.Types.{pathtype}
@@ -12,7 +13,6 @@ use Rattle.gds_library.specs.inside.Place.{after}
 use Rattle.gds_library.specs.declared.place.Place.{Place}
 use Rattle.gds_library.specs.declared.place.Place.TheVariants.{Header, BgnLib, LibName, Units, Structures, StrName}
 use Rattle.gds_library.specs.declared.place.Place.TheVariants.{Elements, Fill}
-use Rattle.gds_library.proofs.Elements.{either_false}
 
 pub record IsNoValue (k : ℕ) : Type 0 where
   pub layer : k == layer ≡ false
@@ -29,22 +29,22 @@ pub record IsNoValue (k : ℕ) : Type 0 where
 no_value : (k : ℕ) → is_value k ≡ false → IsNoValue k
 no_value k e =
     let p9 =
-    either_false (((((((((k == layer) || (k == datatype)) || (k == width)) || (k == xy)) || (k == sname))
+    or_parts (((((((((k == layer) || (k == datatype)) || (k == width)) || (k == xy)) || (k == sname))
     || (k == colrow)) || (k == strans)) || (k == mag)) || (k == angle)) (k == pathtype) e in
     let p8 =
-    either_false ((((((((k == layer) || (k == datatype)) || (k == width)) || (k == xy)) || (k == sname))
+    or_parts ((((((((k == layer) || (k == datatype)) || (k == width)) || (k == xy)) || (k == sname))
     || (k == colrow)) || (k == strans)) || (k == mag)) (k == angle) p9.0 in
     let p7 =
-    either_false (((((((k == layer) || (k == datatype)) || (k == width)) || (k == xy)) || (k == sname))
+    or_parts (((((((k == layer) || (k == datatype)) || (k == width)) || (k == xy)) || (k == sname))
     || (k == colrow)) || (k == strans)) (k == mag) p8.0 in
-    let p6 = either_false ((((((k == layer) || (k == datatype)) || (k == width)) || (k == xy)) || (k == sname))
+    let p6 = or_parts ((((((k == layer) || (k == datatype)) || (k == width)) || (k == xy)) || (k == sname))
     || (k == colrow)) (k == strans) p7.0 in
-    let p5 = either_false (((((k == layer) || (k == datatype)) || (k == width)) || (k == xy)) || (k == sname))
+    let p5 = or_parts (((((k == layer) || (k == datatype)) || (k == width)) || (k == xy)) || (k == sname))
     (k == colrow) p6.0 in
-    let p4 = either_false ((((k == layer) || (k == datatype)) || (k == width)) || (k == xy)) (k == sname) p5.0 in
-    let p3 = either_false (((k == layer) || (k == datatype)) || (k == width)) (k == xy) p4.0 in
-    let p2 = either_false ((k == layer) || (k == datatype)) (k == width) p3.0 in
-    let p1 = either_false (k == layer) (k == datatype) p2.0 in
+    let p4 = or_parts ((((k == layer) || (k == datatype)) || (k == width)) || (k == xy)) (k == sname) p5.0 in
+    let p3 = or_parts (((k == layer) || (k == datatype)) || (k == width)) (k == xy) p4.0 in
+    let p2 = or_parts ((k == layer) || (k == datatype)) (k == width) p3.0 in
+    let p1 = or_parts (k == layer) (k == datatype) p2.0 in
     record {
       layer = p1.0;
       datatype = p1.1;

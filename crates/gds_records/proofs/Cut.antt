@@ -5,12 +5,13 @@ use Rattle.std.proofs.Common.{None, Some, refl, sym, ap, ◌∙◌, arith, lengt
 use Rattle.std.proofs.lemmas.List.{length-replicate}
 use Rattle.std.specs.Prelude.{Option, replicate}
 use Rattle.std.proofs.lemmas.Bool.Decides.{nat_tests}
+use Rattle.std.proofs.lemmas.Bool.{cases_Bool}
 use Rattle.gds_records.specs.Table.{table, form_among, form_fault, allows}
 use Rattle.gds_records.specs.Step.{want, header, step, ◌>>=◌, header_fault, unless, OfHeader, HasByteLength}
 use Rattle.gds_records.specs.Spelled.{IsBegun, IsCut}
 use Rattle.gds_records.proofs.Steps.{header-append, step_end, step_goes, step_no_header, step_wants, want_had}
 use Rattle.gds_records.proofs.Steps.{want_short}
-use Rattle.gds_records.proofs.Laws.{header_ok, header_spelled, length_spelled, record_said, four, by_test, want_ok}
+use Rattle.gds_records.proofs.Laws.{header_ok, header_spelled, length_spelled, record_said, four, want_ok}
 use Rattle.gds_records.specs.declared.form.Form.{Form}
 use Rattle.gds_records.specs.declared.fault.RecordFault.{RecordFault}
 use Rattle.gds_records.specs.declared.fault.RecordFault.TheVariants.{Truncated, BadLength, BadDataType, UnknownRecord}
@@ -109,7 +110,7 @@ begun n xs e bytes long short =
 -- `Truncated` comes only where all bytes left are the beginning of a record
 pub law_truncated : (room : ℕ) (xs : List ℕ) → step room xs ≡ Err Truncated → (4 ≤ length xs → HasByteLength xs)
     → (length xs ≤ room) × IsCut xs
-law_truncated room xs e bytes = elim (by_test (nat_le 1 (length xs))) [
+law_truncated room xs e bytes = elim (cases_Bool (nat_le 1 (length xs))) [
   | inr none ↦ absurd (let h : Ok 0 ≡ Err Truncated = sym (step_end room xs (sym none)) ∙ e in cc)
   | inl some ↦
       let stands : 0 < length xs = grind (arith, nat_tests) in
@@ -132,7 +133,7 @@ law_cut room xs fits cut =
     let stands = cut.0 in
     let some : true ≡ nat_le 1 (length xs) = grind (arith, nat_tests) in
     let no : false ≡ nat_le (length xs + 1) (length xs) = grind (arith, nat_tests) in
-    elim (by_test (nat_le 4 (length xs))) [
+    elim (cases_Bool (nat_le 4 (length xs))) [
       | inr is_short ↦
           let short : length xs < 4 = grind (arith, nat_tests) in
           step_no_header room xs Truncated some (want_short 4 (length xs + 1) room xs no (omega arith) (omega arith))

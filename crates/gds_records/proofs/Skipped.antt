@@ -7,10 +7,10 @@ use Rattle.std.specs.List.{prefix_len}
 use Rattle.std.specs.Io.KnownBytes.{prepend_known}
 use Rattle.std.proofs.lemmas.List.{replicate-append-replicate, length-replicate}
 use Rattle.std.proofs.lemmas.Bool.Decides.{nat_tests}
+use Rattle.std.proofs.lemmas.Bool.{cases_Bool}
 use Rattle.lvl_io.specs.Known.{Stays}
 use Rattle.gds_records.specs.Tail.{IsNoZeroFirst, TakesZeros, PassesLimit}
 use Rattle.lvl_io.proofs.Known.{known_parts}
-use Rattle.gds_records.proofs.Laws.{by_test}
 use Rattle.gds_records.specs.declared.zeros.After.{After}
 use Rattle.gds_records.specs.declared.zeros.After.TheVariants.{Nothing, Another, Limit}
 
@@ -18,7 +18,7 @@ use Rattle.gds_records.specs.declared.zeros.After.TheVariants.{Nothing, Another,
 pub zeros_front : (n : ℕ) (xs : List ℕ) → n ≤ prefix_len (λ b. b == 0) xs → xs ≡ replicate n 0 ++ drop n xs
 zeros_front zero xs h = refl
 zeros_front (suc n) [] h = absurd (omega arith)
-zeros_front (suc n) (x ∷ xs) h = elim (by_test (x == 0)) [
+zeros_front (suc n) (x ∷ xs) h = elim (cases_Bool (x == 0)) [
   | inl same ↦
       let is : x ≡ 0 = grind (arith, nat_tests) in
       let less : n ≤ prefix_len (λ b. b == 0) xs = (let h2 : suc n ≤ 1 + prefix_len (λ b. b == 0) xs = (rw same at h) in

@@ -69,15 +69,18 @@ obeyed_is : (x m : ℕ) (b : Bool) (u : ℕ) → x == m ≡ b → given u ≡ Ok
 obeyed_is x m true u e o = type_same x m e
 obeyed_is x m false u e o = cc
 
-byte_begins : (m u : ℕ) (bytes first second : List ℕ) (v : Result ℕ ValueFault) → bytes ≡ first ++ second → IsByte first v
+byte_begins : (m u : ℕ) (bytes first second : List ℕ) (v : Result ℕ ValueFault) → bytes ≡ first ++ second
+    → IsByte first v
     → UnlessBreached (λ b. Must (b == m) b Magic) v second (Ok (Ok u)) → BeginsWith m bytes
 byte_begins m u bytes first second (Err f) e p q = absurd p
 byte_begins m u bytes first second (Ok x) e p q =
     let is : x ≡ m = obeyed_is x m (x == m) u refl q.1 in
     goes_on m bytes first second e (record { rest = []; is = rw is at p })
 
-magic_first : (m : ℕ) (ms bytes first second : List ℕ) (u : Unit {0}) (v : Result (Result ℕ RecordRule) ValueFault) → bytes ≡ first ++ second
-    → IsMagicByte m first v → UnlessBreached (UnlessRuled (λ b. AreMagicBytes ms)) v second (Ok (Ok u)) → BeginsWith m bytes
+magic_first : (m : ℕ) (ms bytes first second : List ℕ) (u : Unit {0}) (v : Result (Result ℕ RecordRule) ValueFault)
+    → bytes ≡ first ++ second
+    → IsMagicByte m first v → UnlessBreached (UnlessRuled (λ b. AreMagicBytes ms)) v second (Ok (Ok u))
+    → BeginsWith m bytes
 magic_first m ms bytes first second u (Err f) e p q = (let z = q.1 in cc)
 magic_first m ms bytes first second u (Ok (Err k)) e p q = (let z = q.1 in cc)
 magic_first m ms bytes first second u (Ok (Ok b)) e p q =
@@ -88,10 +91,13 @@ abbrev magic_rest : List ℕ
 magic_rest = 0x53 ∷ 0x45 ∷ 0x4D ∷ 0x49 ∷ 0x2D ∷ 0x4F ∷ 0x41 ∷ 0x53 ∷ 0x49 ∷ 0x53 ∷ 0x0D ∷ 0x0A ∷ []
 
 magic_begins : (bytes : List ℕ) (u : Unit {0}) → IsMagic bytes (Ok (Ok u)) → BeginsWith 0x25 bytes
-magic_begins bytes u p = magic_first 0x25 magic_rest bytes p.first p.second u p.value p.joined p.first_says p.second_says
+magic_begins bytes u p =
+    magic_first 0x25 magic_rest bytes p.first p.second u p.value p.joined p.first_says p.second_says
 
-item_first : (i : Item) (bytes first second : List ℕ) (v : Result (Result (Unit {0}) RecordRule) ValueFault) → bytes ≡ first ++ second
-    → IsMagic first v → UnlessBreached (λ x b y. (b ≡ []) × (y ≡ Ok (of_magic x))) v second (Ok (Ok i)) → BeginsWith 0x25 bytes
+item_first : (i : Item) (bytes first second : List ℕ) (v : Result (Result (Unit {0}) RecordRule) ValueFault)
+    → bytes ≡ first ++ second
+    → IsMagic first v → UnlessBreached (λ x b y. (b ≡ []) × (y ≡ Ok (of_magic x))) v second (Ok (Ok i))
+    → BeginsWith 0x25 bytes
 item_first i bytes first second (Err f) e p q = (let z = q.1 in cc)
 item_first i bytes first second (Ok (Err k)) e p q = (let z = q.1 in cc)
 item_first i bytes first second (Ok (Ok u)) e p q = goes_on 0x25 bytes first second e (magic_begins first u p)
@@ -106,7 +112,8 @@ items_begin bytes (i ∷ is) s e =
     let p : IsItem [] s.0 (Ok (Ok i)) = s.2 in
     goes_on 0x25 bytes s.0 s.1 s.4 (item_first i s.0 p.first p.second p.value p.joined p.first_says p.second_says)
 
-pub oasis_begins : (bytes : List ℕ) (cells : List Drawing) (h : OasisHead) → SpellsOasis bytes cells h → BeginsWith 0x25 bytes
+pub oasis_begins : (bytes : List ℕ) (cells : List Drawing) (h : OasisHead) → SpellsOasis bytes cells h
+    → BeginsWith 0x25 bytes
 oasis_begins bytes cells h s = items_begin bytes s.items s.whole.front.spelled s.whole.whole
 
 -- so a file of one format is none of the other
@@ -118,6 +125,8 @@ pub not_oasis : (first : Option ℕ) (bytes : List ℕ) → HasFirst first bytes
 not_oasis None bytes p n q = (let e : [] ≡ 0x25 ∷ q.rest = sym p ∙ q.is in cc)
 not_oasis (Some b) bytes p n q = n (ap Some (one_byte b 0x25 bytes p q))
 
-pub one_format : (bytes : List ℕ) (ours theirs : List Drawing) (g : GdsHead) (o : OasisHead) → SpellsGds bytes ours g → SpellsOasis bytes theirs o → ⊥
+pub one_format : (bytes : List ℕ) (ours theirs : List Drawing) (g : GdsHead) (o : OasisHead) → SpellsGds bytes ours g
+    → SpellsOasis bytes theirs o → ⊥
 one_format bytes ours theirs g o p q =
-    (let e : 0 ≡ 0x25 = one_byte 0 0x25 bytes (gds_begins bytes ours g p) (oasis_begins bytes theirs o q) in omega (arith, e))
+    (let e : 0 ≡ 0x25 = one_byte 0 0x25 bytes (gds_begins bytes ours g p) (oasis_begins bytes theirs o q) in
+    omega (arith, e))

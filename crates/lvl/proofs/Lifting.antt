@@ -1,5 +1,6 @@
 -- From what was found of the libraries that are kept to what the bytes of the files spell.
-use Rattle.std.proofs.Common.{◌≡◌, ◌↔◌, ◌<◌, ◌≤◌, ℕ, List, [], get_or, Option, Some, None, length, slice_get, refl, sym, ap, ◌∙◌, subst}
+use Rattle.std.proofs.Common.{◌≡◌, ◌↔◌, ◌<◌, ◌≤◌, ℕ, List, [], get_or, Option, Some, None, length, slice_get, refl, sym}
+use Rattle.std.proofs.Common.{ap, ◌∙◌, subst}
 use Rattle.lvl_grid.specs.declared.point.Square.{Square}
 use Rattle.lvl_path.specs.Figure.{figure_rings, FigureCovers}
 use Rattle.lvl_path.proofs.Figures.{figure_drawn}
@@ -33,23 +34,30 @@ use Rattle.lvl.specs.Answers.{kept_of}
 use Rattle.lvl.proofs.Keeping.{sound_kept, cell_covers_kept, fits_kept, cell_back, cell_kept}
 
 -- what a cell of figures draws is what its rings do
-pub draws_kept : (cells : List Drawing) (layer : Layer) (top : Drawing) (s : Square) → Draws cells top layer s ↔ CellCovers RingsCover (kept figure_rings cells) layer (drawn figure_rings top) s
+pub draws_kept : (cells : List Drawing) (layer : Layer) (top : Drawing) (s : Square)
+    → Draws cells top layer s ↔ CellCovers RingsCover (kept figure_rings cells) layer (drawn figure_rings top) s
 draws_kept cells layer top s = cell_covers_kept figure_rings FigureCovers figure_drawn cells layer top s
 
 -- the library that was found is the one kept, whichever the bytes spell
-found_as : (file : File) (found : List (PlainCell Rings)) (head : Head) → IsLayoutOf file.bytes found head → (cells : List Drawing) (h : Head) → Spells file.bytes cells h → found ≡ kept figure_rings cells
+found_as : (file : File) (found : List (PlainCell Rings)) (head : Head) → IsLayoutOf file.bytes found head
+    → (cells : List Drawing) (h : Head) → Spells file.bytes cells h → found ≡ kept figure_rings cells
 found_as file found head read cells h s = (read.alone cells h s).0
 
-by_found : (P : List (PlainCell Rings) → Type 0) (file : File) (cells : List (PlainCell Rings)) (head : Head) → IsLayoutOf file.bytes cells head → P cells → (others : List Drawing) (h : Head) → Spells file.bytes others h → P (kept figure_rings others)
+by_found : (P : List (PlainCell Rings) → Type 0) (file : File) (cells : List (PlainCell Rings)) (head : Head)
+    → IsLayoutOf file.bytes cells head → P cells → (others : List Drawing) (h : Head) → Spells file.bytes others h
+    → P (kept figure_rings others)
 by_found P file cells head read p others h s = subst P (found_as file cells head read others h s) p
 
 -- the check of cells
 
-pub cell_told : (file : File) (cells : List (PlainCell Rings)) (head : Head) → IsLayoutOf file.bytes cells head → (fault : CellFault) → IsCellFault (record { cells = cells; top = file.top }) fault
+pub cell_told : (file : File) (cells : List (PlainCell Rings)) (head : Head) → IsLayoutOf file.bytes cells head
+    → (fault : CellFault) → IsCellFault (record { cells = cells; top = file.top }) fault
     → (others : List Drawing) (h : Head) → Spells file.bytes others h → IsCellFault (kept_of file others) fault
-cell_told file cells head read fault told = by_found (λ c. IsCellFault (record { cells = c; top = file.top }) fault) file cells head read told
+cell_told file cells head read fault told =
+    by_found (λ c. IsCellFault (record { cells = c; top = file.top }) fault) file cells head read told
 
-pub cell_unaccepted : (file : File) (cells : List (PlainCell Rings)) (head : Head) → IsLayoutOf file.bytes cells head → (fault : CellFault) → IsCellFault (record { cells = cells; top = file.top }) fault → IsUnaccepted file
+pub cell_unaccepted : (file : File) (cells : List (PlainCell Rings)) (head : Head) → IsLayoutOf file.bytes cells head
+    → (fault : CellFault) → IsCellFault (record { cells = cells; top = file.top }) fault → IsUnaccepted file
 cell_unaccepted file cells head read fault told others top accepted =
     let here = cell_told file cells head read fault told others accepted.head accepted.spelled in
     let fits = (fits_kept figure_rings others top).0 accepted.fits in
@@ -63,7 +71,8 @@ cell_unaccepted file cells head read fault told others top accepted =
 
 -- a library has one top
 
-pub one_top : (cells : List (PlainCell Rings)) (given : Option (List ℕ)) (i j : ℕ) → IsSound cells given i → IsSound cells given j → i ≡ j
+pub one_top : (cells : List (PlainCell Rings)) (given : Option (List ℕ)) (i j : ℕ) → IsSound cells given i
+    → IsSound cells given j → i ≡ j
 one_top cells (Some name) i j a b = once_named (names cells) i j name a.linked.distinct a.is_top b.is_top
 one_top cells None i j a b =
     let some : i < length (names cells) = rw (length-map cells (λ (c : PlainCell Rings). c.name)) a.is_top.0 in
@@ -72,45 +81,61 @@ one_top cells None i j a b =
 
 -- flattening
 
-pub one_cell : (cells : List (PlainCell Rings)) (i j : ℕ) (c d : PlainCell Rings) → slice_get cells i ≡ Some c → slice_get cells j ≡ Some d → i ≡ j → c ≡ d
+pub one_cell : (cells : List (PlainCell Rings)) (i j : ℕ) (c d : PlainCell Rings) → slice_get cells i ≡ Some c
+    → slice_get cells j ≡ Some d → i ≡ j → c ≡ d
 one_cell cells i j c d p q e = let f : Some c ≡ Some d = sym p ∙ (ap (slice_get cells) e ∙ q) in cc
 
-fits_settled : (file : File) (k : Kept) (s : Settled) → IsSettled file.top s → (r : IsInRangeAs k s) → Fits each_ring s.cells r.top
+fits_settled : (file : File) (k : Kept) (s : Settled) → IsSettled file.top s → (r : IsInRangeAs k s)
+    → Fits each_ring s.cells r.top
 fits_settled file k s settled r =
     let same : settled.cell ≡ r.top = one_cell s.cells s.top s.top settled.cell r.top settled.is r.is_top refl in
     record {
       few_chains = subst (λ (c : PlainCell Rings). chains s.cells c ≤ most_placed) same settled.few_chains;
-      few_rings = subst (λ (c : PlainCell Rings). placed_rings each_ring s.cells c ≤ most_placed) same settled.few_rings;
+      few_rings =
+          subst (λ (c : PlainCell Rings). placed_rings each_ring s.cells c ≤ most_placed) same settled.few_rings;
       in_range = r.in_range;
     }
 
 -- what is in range is accepted, and draws what its top covers
-record IsTopLifted (file : File) (others : List Drawing) (cells : List (PlainCell Rings)) (c : PlainCell Rings) : Type 0 where
+record IsTopLifted (file : File) (others : List Drawing) (cells : List (PlainCell Rings))
+    (c : PlainCell Rings) : Type 0 where
   top : Drawing
   accepted : IsAccepted file others top
   draws : (layer : Layer) (s : Square) → CellCovers RingsCover cells layer c s ↔ Draws others top layer s
 
-top_lifted : (file : File) (cells : List (PlainCell Rings)) (head : Head) (read : IsLayoutOf file.bytes cells head) (s : Settled) → (r : IsInRangeAs (record { cells = cells; top = file.top }) s) → IsTopLifted file read.cells s.cells r.top
+top_lifted : (file : File) (cells : List (PlainCell Rings)) (head : Head) (read : IsLayoutOf file.bytes cells head)
+    (s : Settled) → (r : IsInRangeAs (record { cells = cells; top = file.top }) s)
+    → IsTopLifted file read.cells s.cells r.top
 top_lifted file cells head read s r =
     let others : List Drawing = read.cells in
     let e : s.cells ≡ kept figure_rings others = r.checked.cells ∙ read.kept_as in
-    let b = cell_back figure_rings others s.top r.top (subst (λ (c : List (PlainCell Rings)). slice_get c s.top ≡ Some r.top) e r.is_top) in
+    let b =
+    cell_back figure_rings others s.top r.top
+    (subst (λ (c : List (PlainCell Rings)). slice_get c s.top ≡ Some r.top) e r.is_top) in
     let fits = subst (λ (c : PlainCell Rings). Fits each_ring (kept figure_rings others) c) (sym b.2)
-    (subst (λ (c : List (PlainCell Rings)). Fits each_ring c r.top) e (fits_settled file (record { cells = cells; top = file.top }) s r.checked.sound r)) in
+    (subst (λ (c : List (PlainCell Rings)). Fits each_ring c r.top) e
+    (fits_settled file (record { cells = cells; top = file.top }) s r.checked.sound r)) in
     record {
       top = b.0;
       accepted = record {
         head = head;
         spelled = read.spelled;
         index = s.top;
-        sound = (sound_kept figure_rings others file.top s.top).1 (subst (λ (c : List (PlainCell Rings)). IsSound c file.top s.top) e r.checked.sound.sound);
+        sound =
+            (sound_kept figure_rings others file.top s.top).1
+            (subst (λ (c : List (PlainCell Rings)). IsSound c file.top s.top) e r.checked.sound.sound);
         top_is = b.1;
         fits = (fits_kept figure_rings others b.0).1 fits;
       };
       draws = λ layer t.
           let q = draws_kept others layer b.0 t in
-          let p = subst (λ (c : PlainCell Rings). Draws others b.0 layer t ↔ CellCovers RingsCover (kept figure_rings others) layer c t) b.2 q in
-          let u = subst (λ (c : List (PlainCell Rings)). Draws others b.0 layer t ↔ CellCovers RingsCover c layer r.top t) (sym e) p in
+          let p =
+          subst
+          (λ (c : PlainCell Rings).
+          Draws others b.0 layer t ↔ CellCovers RingsCover (kept figure_rings others) layer c t) b.2 q in
+          let u =
+          subst (λ (c : List (PlainCell Rings)). Draws others b.0 layer t ↔ CellCovers RingsCover c layer r.top t)
+          (sym e) p in
           (u.1, u.0);
     }
 
@@ -120,9 +145,13 @@ pub record IsLifted (file : File) (others : List Drawing) (sheets : List PlainSh
   pub accepted : IsAccepted file others top
   pub draws : (layer : Layer) (s : Square) → RingsCover (rings_on layer sheets) s ↔ Draws others top layer s
 
-pub lifted : (file : File) (cells : List (PlainCell Rings)) (head : Head) (read : IsLayoutOf file.bytes cells head) (sheets : List PlainSheet) → IsFlattenedAs (record { cells = cells; top = file.top }) sheets → IsLifted file read.cells sheets
+pub lifted : (file : File) (cells : List (PlainCell Rings)) (head : Head) (read : IsLayoutOf file.bytes cells head)
+    (sheets : List PlainSheet) → IsFlattenedAs (record { cells = cells; top = file.top }) sheets
+    → IsLifted file read.cells sheets
 lifted file cells head read sheets f =
-    let p = top_lifted file cells head read f.settled (record { checked = f.checked; top = f.flat.top; is_top = f.flat.is_top; in_range = f.flat.in_range }) in
+    let p =
+    top_lifted file cells head read f.settled
+    (record { checked = f.checked; top = f.flat.top; is_top = f.flat.is_top; in_range = f.flat.in_range }) in
     record {
       top = p.top;
       accepted = p.accepted;
@@ -132,25 +161,38 @@ lifted file cells head read sheets f =
           (λ h. r.0 (q.0 h), λ h. q.1 (r.1 h));
     }
 
-pub range_told : (file : File) (cells : List (PlainCell Rings)) (head : Head) → IsLayoutOf file.bytes cells head → (fault : FlatFault) → IsRangeFault (record { cells = cells; top = file.top }) fault
+pub range_told : (file : File) (cells : List (PlainCell Rings)) (head : Head) → IsLayoutOf file.bytes cells head
+    → (fault : FlatFault) → IsRangeFault (record { cells = cells; top = file.top }) fault
     → (others : List Drawing) (h : Head) → Spells file.bytes others h → IsRangeFault (kept_of file others) fault
-range_told file cells head read fault told = by_found (λ c. IsRangeFault (record { cells = c; top = file.top }) fault) file cells head read told
+range_told file cells head read fault told =
+    by_found (λ c. IsRangeFault (record { cells = c; top = file.top }) fault) file cells head read told
 
-out_of_range : (file : File) (others : List Drawing) (top : Drawing) (s : Settled) (name : List ℕ) → IsAccepted file others top → IsCheckedAs (kept_of file others) s → IsOutOfRange s name → ⊥
+out_of_range : (file : File) (others : List Drawing) (top : Drawing) (s : Settled) (name : List ℕ)
+    → IsAccepted file others top → IsCheckedAs (kept_of file others) s → IsOutOfRange s name → ⊥
 out_of_range file others top s name accepted checked told =
     let e : s.cells ≡ kept figure_rings others = checked.cells in
-    let same : accepted.index ≡ s.top = one_top (kept figure_rings others) file.top accepted.index s.top ((sound_kept figure_rings others file.top accepted.index).0 accepted.sound) (subst (λ (c : List (PlainCell Rings)). IsSound c file.top s.top) e checked.sound.sound) in
-    let at : slice_get (kept figure_rings others) s.top ≡ Some told.top = subst (λ (c : List (PlainCell Rings)). slice_get c s.top ≡ Some told.top) e told.is_top in
-    let cell : drawn figure_rings top ≡ told.top = one_cell (kept figure_rings others) accepted.index s.top (drawn figure_rings top) told.top (cell_kept figure_rings others accepted.index top accepted.top_is) at same in
+    let same : accepted.index ≡ s.top =
+    one_top (kept figure_rings others) file.top accepted.index s.top
+    ((sound_kept figure_rings others file.top accepted.index).0 accepted.sound)
+    (subst (λ (c : List (PlainCell Rings)). IsSound c file.top s.top) e checked.sound.sound) in
+    let at : slice_get (kept figure_rings others) s.top ≡ Some told.top =
+    subst (λ (c : List (PlainCell Rings)). slice_get c s.top ≡ Some told.top) e told.is_top in
+    let cell : drawn figure_rings top ≡ told.top =
+    one_cell (kept figure_rings others) accepted.index s.top (drawn figure_rings top) told.top
+    (cell_kept figure_rings others accepted.index top accepted.top_is) at same in
     let fits = (fits_kept figure_rings others top).0 accepted.fits in
     let chain : Chain (kept figure_rings others) (drawn figure_rings top) told.steps told.map told.cell =
-    subst (λ (c : PlainCell Rings). Chain (kept figure_rings others) c told.steps told.map told.cell) (sym cell) (subst (λ (c : List (PlainCell Rings)). Chain c told.top told.steps told.map told.cell) e told.chain) in
+    subst (λ (c : PlainCell Rings). Chain (kept figure_rings others) c told.steps told.map told.cell) (sym cell)
+    (subst (λ (c : List (PlainCell Rings)). Chain c told.top told.steps told.map told.cell) e told.chain) in
     told.out (fits.in_range told.steps told.map told.cell chain)
 
-fault_in_range : (file : File) (others : List Drawing) (top : Drawing) (s : Settled) (fault : FlatFault) → IsAccepted file others top → IsCheckedAs (kept_of file others) s → IsFlatFault s fault → ⊥
-fault_in_range file others top s (OutOfRange name) accepted checked told = out_of_range file others top s name.items accepted checked told
+fault_in_range : (file : File) (others : List Drawing) (top : Drawing) (s : Settled) (fault : FlatFault)
+    → IsAccepted file others top → IsCheckedAs (kept_of file others) s → IsFlatFault s fault → ⊥
+fault_in_range file others top s (OutOfRange name) accepted checked told =
+    out_of_range file others top s name.items accepted checked told
 
-pub range_unaccepted : (file : File) (cells : List (PlainCell Rings)) (head : Head) → IsLayoutOf file.bytes cells head → (fault : FlatFault) → IsRangeFault (record { cells = cells; top = file.top }) fault → IsUnaccepted file
+pub range_unaccepted : (file : File) (cells : List (PlainCell Rings)) (head : Head) → IsLayoutOf file.bytes cells head
+    → (fault : FlatFault) → IsRangeFault (record { cells = cells; top = file.top }) fault → IsUnaccepted file
 range_unaccepted file cells head read fault told others top accepted =
     let here = range_told file cells head read fault told others accepted.head accepted.spelled in
     fault_in_range file others top here.settled fault accepted here.checked here.told
@@ -160,34 +202,70 @@ range_unaccepted file cells head read fault told others top accepted =
 pub both_lifted : (A A' B B' : Type 0) → A ↔ A' → B ↔ B' → A ↔ B → A' ↔ B'
 both_lifted A A' B B' p q h = (λ a. q.0 (h.0 (p.1 a)), λ b. p.0 (h.1 (q.1 b)))
 
-pub alone_lifted : (P P' Q Q' : Square → Type 0) (s : Square) (side : Side) → P s ↔ P' s → Q s ↔ Q' s → IsAlone P Q s side → IsAlone P' Q' s side
+pub alone_lifted : (P P' Q Q' : Square → Type 0) (s : Square) (side : Side) → P s ↔ P' s → Q s ↔ Q' s
+    → IsAlone P Q s side → IsAlone P' Q' s side
 alone_lifted P P' Q Q' s First p q h = (p.0 h.0, λ x. h.1 (q.1 x))
 alone_lifted P P' Q Q' s Second p q h = (q.0 h.0, λ x. h.1 (p.1 x))
 
-pub verdict_lifted : (a b : File) (ours theirs : List Drawing) (us vs : List PlainSheet) → IsLifted a ours us → IsLifted b theirs vs → (v : Verdict) → IsFlatVerdict us vs v → IsVerdict a b v
+pub verdict_lifted : (a b : File) (ours theirs : List Drawing) (us vs : List PlainSheet) → IsLifted a ours us
+    → IsLifted b theirs vs → (v : Verdict) → IsFlatVerdict us vs v → IsVerdict a b v
 verdict_lifted a b ours theirs us vs p q Same h = record {
-  both = record { ours = ours; our_top = p.top; theirs = theirs; their_top = q.top; first = p.accepted; second = q.accepted };
+  both = record {
+    ours = ours;
+    our_top = p.top;
+    theirs = theirs;
+    their_top = q.top;
+    first = p.accepted;
+    second = q.accepted;
+  };
   alike = λ layer s. both_lifted _ _ _ _ (p.draws layer s) (q.draws layer s) (h layer s);
 }
 verdict_lifted a b ours theirs us vs p q (Differ layer square side) h = record {
-  both = record { ours = ours; our_top = p.top; theirs = theirs; their_top = q.top; first = p.accepted; second = q.accepted };
-  alone = alone_lifted (RingsCover (rings_on layer us)) (Draws ours p.top layer) (RingsCover (rings_on layer vs)) (Draws theirs q.top layer) square side (p.draws layer square) (q.draws layer square) h.alone;
+  both = record {
+    ours = ours;
+    our_top = p.top;
+    theirs = theirs;
+    their_top = q.top;
+    first = p.accepted;
+    second = q.accepted;
+  };
+  alone =
+      alone_lifted (RingsCover (rings_on layer us)) (Draws ours p.top layer) (RingsCover (rings_on layer vs))
+      (Draws theirs q.top layer) square side (p.draws layer square) (q.draws layer square) h.alone;
   least_layer = λ l before s. both_lifted _ _ _ _ (p.draws l s) (q.draws l s) (h.least_layer l before s);
   least_square = λ s before. both_lifted _ _ _ _ (p.draws layer s) (q.draws layer s) (h.least_square s before);
 }
 
 -- tops that are told alike draw the same
-pub alike_lifted : (a b : File) (ours theirs : List (PlainCell Rings)) (g h : Head) → IsLayoutOf a.bytes ours g → IsLayoutOf b.bytes theirs h
+pub alike_lifted : (a b : File) (ours theirs : List (PlainCell Rings)) (g h : Head) → IsLayoutOf a.bytes ours g
+    → IsLayoutOf b.bytes theirs h
     → AreKeptAlike (record { cells = ours; top = a.top }) (record { cells = theirs; top = b.top }) → IsVerdict a b Same
 alike_lifted a b ours theirs g h p q k =
     let x = top_lifted a ours g p k.ours k.first in
     let y = top_lifted b theirs h q k.theirs k.second in
-    let our_top : k.alike.our_cell ≡ k.first.top = one_cell k.ours.cells k.ours.top k.ours.top k.alike.our_cell k.first.top k.alike.ours_is k.first.is_top refl in
-    let their_top : k.alike.their_cell ≡ k.second.top = one_cell k.theirs.cells k.theirs.top k.theirs.top k.alike.their_cell k.second.top k.alike.theirs_is k.second.is_top refl in
+    let our_top : k.alike.our_cell ≡ k.first.top =
+    one_cell k.ours.cells k.ours.top k.ours.top k.alike.our_cell k.first.top k.alike.ours_is k.first.is_top refl in
+    let their_top : k.alike.their_cell ≡ k.second.top =
+    one_cell k.theirs.cells k.theirs.top k.theirs.top k.alike.their_cell k.second.top k.alike.theirs_is
+    k.second.is_top refl in
     record {
-      both = record { ours = p.cells; our_top = x.top; theirs = q.cells; their_top = y.top; first = x.accepted; second = y.accepted };
+      both = record {
+        ours = p.cells;
+        our_top = x.top;
+        theirs = q.cells;
+        their_top = y.top;
+        first = x.accepted;
+        second = y.accepted;
+      };
       alike = λ layer s.
-          let u = subst (λ (c : PlainCell Rings). CellCovers RingsCover k.ours.cells layer c s ↔ CellCovers RingsCover k.theirs.cells layer k.alike.their_cell s) our_top (k.alike.alike layer s) in
-          let v = subst (λ (d : PlainCell Rings). CellCovers RingsCover k.ours.cells layer k.first.top s ↔ CellCovers RingsCover k.theirs.cells layer d s) their_top u in
+          let u =
+          subst
+          (λ (c : PlainCell Rings). CellCovers RingsCover k.ours.cells layer c s
+          ↔ CellCovers RingsCover k.theirs.cells layer k.alike.their_cell s) our_top
+          (k.alike.alike layer s) in
+          let v =
+          subst
+          (λ (d : PlainCell Rings). CellCovers RingsCover k.ours.cells layer k.first.top s
+          ↔ CellCovers RingsCover k.theirs.cells layer d s) their_top u in
           both_lifted _ _ _ _ (x.draws layer s) (y.draws layer s) v;
     }

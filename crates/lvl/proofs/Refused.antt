@@ -7,14 +7,16 @@ use Rattle.lvl.specs.Drawing.{Drawing}
 use Rattle.lvl.specs.declared.layout.Head.{Head}
 use Rattle.lvl.specs.declared.verdict.Verdict.{Verdict}
 use Rattle.lvl.specs.declared.verdict.Refusal.{Refusal}
-use Rattle.lvl.specs.declared.verdict.Refusal.TheVariants.{File as FileRefusal, Cells as CellsRefusal, Flat as FlatRefusal, OutOfMemory}
+use Rattle.lvl.specs.declared.verdict.Refusal.TheVariants.{File as FileRefusal, Cells as CellsRefusal}
+use Rattle.lvl.specs.declared.verdict.Refusal.TheVariants.{Flat as FlatRefusal, OutOfMemory}
 use Rattle.lvl.specs.Layouts.{File, SpellsSome, IsLayoutOf}
 use Rattle.lvl.specs.Accepted.{IsAccepted, IsVerdict}
 use Rattle.lvl.specs.Kept.{Kept, Passes, IsFlat, IsKeptRefusal, IsKeptVerdict}
 use Rattle.lvl.specs.Answers.{HasPassed, IsCompared, IsEarlyOf, IsRefusalOf, PassesCheck}
 use Rattle.lvl.specs.declared.layout.FileFault.{FileFault}
 use Rattle.lvl.specs.Sides.{IsOfFile, IsReadRefusal}
-use Rattle.lvl.proofs.Lifting.{cell_told, cell_unaccepted, range_told, range_unaccepted, lifted, verdict_lifted, alike_lifted}
+use Rattle.lvl.proofs.Lifting.{cell_told, cell_unaccepted, range_told, range_unaccepted, lifted, verdict_lifted}
+use Rattle.lvl.proofs.Lifting.{alike_lifted}
 
 first_second : First ≡ Second → ⊥
 first_second e = cc
@@ -26,11 +28,13 @@ pub passes : (file : File) (cells : List (PlainCell Rings)) (head : Head) → Is
 passes file cells head read p =
     (read.cells, head, read.spelled, subst (λ c. Passes (record { cells = c; top = file.top })) read.kept_as p)
 
-pub spells : (file : File) (cells : List (PlainCell Rings)) (head : Head) → IsLayoutOf file.bytes cells head → SpellsSome file.bytes
+pub spells : (file : File) (cells : List (PlainCell Rings)) (head : Head) → IsLayoutOf file.bytes cells head
+    → SpellsSome file.bytes
 spells file cells head read = (read.cells, head, read.spelled)
 
 accepts : (file : File) (cells : List (PlainCell Rings)) (head : Head) → IsLayoutOf file.bytes cells head
-    → IsFlat (record { cells = cells; top = file.top }) → (others : List Drawing) × (top : Drawing) × IsAccepted file others top
+    → IsFlat (record { cells = cells; top = file.top })
+    → (others : List Drawing) × (top : Drawing) × IsAccepted file others top
 accepts file cells head read f = let l = lifted file cells head read f.0 f.1 in (read.cells, l.top, l.accepted)
 
 -- a file that was not read
@@ -66,7 +70,8 @@ second_of_first file (CellsRefusal s f) h = absurd h
 second_of_first file (FlatRefusal s f) h = absurd h
 second_of_first file OutOfMemory h = no_memory Second file
 
-pub first_of_second : (file : File) (cells : List (PlainCell Rings)) (head : Head) → IsLayoutOf file.bytes cells head → (r : Refusal) → IsOfFile Second r
+pub first_of_second : (file : File) (cells : List (PlainCell Rings)) (head : Head) → IsLayoutOf file.bytes cells head
+    → (r : Refusal) → IsOfFile Second r
     → IsRefusalOf First file r
 first_of_second file cells head read (FileRefusal First f) h = absurd (first_second h)
 first_of_second file cells head read (FileRefusal Second f) h = record {
@@ -80,7 +85,8 @@ first_of_second file cells head read OutOfMemory h = no_memory First file
 
 -- libraries that were not compared
 
-pub first_refused : (a : File) (k : Kept) (cells : List (PlainCell Rings)) (head : Head) → IsLayoutOf a.bytes cells head → (r : Refusal)
+pub first_refused : (a : File) (k : Kept) (cells : List (PlainCell Rings)) (head : Head) → IsLayoutOf a.bytes cells head
+    → (r : Refusal)
     → IsKeptRefusal (record { cells = cells; top = a.top }) k r → IsRefusalOf First a r
 first_refused a k cells head read (FileRefusal s f) h = absurd h
 first_refused a k cells head read (CellsRefusal First f) h = record {
@@ -105,7 +111,8 @@ first_refused a k cells head read (FlatRefusal Second f) h = record {
 }
 first_refused a k cells head read OutOfMemory h = no_memory First a
 
-pub second_refused : (b : File) (k : Kept) (cells : List (PlainCell Rings)) (head : Head) → IsLayoutOf b.bytes cells head → (r : Refusal)
+pub second_refused : (b : File) (k : Kept) (cells : List (PlainCell Rings)) (head : Head)
+    → IsLayoutOf b.bytes cells head → (r : Refusal)
     → IsKeptRefusal k (record { cells = cells; top = b.top }) r → IsRefusalOf Second b r
 second_refused b k cells head read (FileRefusal s f) h = absurd h
 second_refused b k cells head read (CellsRefusal First f) h = record {
@@ -146,7 +153,8 @@ not_early_of side other OutOfMemory apart h e = e
 
 -- a whole comparison
 
-pub compared : (a b : File) (ours theirs : List (PlainCell Rings)) (g h : Head) → IsLayoutOf a.bytes ours g → IsLayoutOf b.bytes theirs h → (v : Verdict)
+pub compared : (a b : File) (ours theirs : List (PlainCell Rings)) (g h : Head) → IsLayoutOf a.bytes ours g
+    → IsLayoutOf b.bytes theirs h → (v : Verdict)
     → IsKeptVerdict (record { cells = ours; top = a.top }) (record { cells = theirs; top = b.top }) v
     → IsCompared a b (record { first = g; second = h; verdict = v })
 compared a b ours theirs g h p q v k = record {

@@ -1,5 +1,6 @@
 -- From what is shown of a library that is kept to what the bytes of the file spell.
-use Rattle.std.proofs.Common.{◌≡◌, ◌<◌, ◌+◌, ◌*◌, ℕ, List, [], ◌∷◌, Result, Ok, Err, IfErr, IfOk, length, map, slice_get, Some, if◌then◌else◌, ◌==◌, ◌&&◌, refl, sym, ap, ◌∙◌, subst}
+use Rattle.std.proofs.Common.{◌≡◌, ◌<◌, ◌+◌, ◌*◌, ℕ, List, [], ◌∷◌, Result, Ok, Err, IfErr, IfOk, length, map}
+use Rattle.std.proofs.Common.{slice_get, Some, if◌then◌else◌, ◌==◌, ◌&&◌, refl, sym, ap, ◌∙◌, subst}
 use Rattle.std.specs.Prelude.{sum_by}
 use Rattle.std.proofs.lemmas.List.Sums.{sum_by-cons}
 use Rattle.lvl_path.specs.Figure.{figure_rings}
@@ -13,7 +14,8 @@ use Rattle.lvl.specs.declared.layout.Head.{Head}
 use Rattle.lvl.specs.declared.shown.Shown.{Shown}
 use Rattle.lvl.specs.declared.shown.ShownLayer.{ShownLayer}
 use Rattle.lvl.specs.declared.verdict.Refusal.{Refusal}
-use Rattle.lvl.specs.declared.verdict.Refusal.TheVariants.{File as FileRefusal, Cells as CellsRefusal, Flat as FlatRefusal, OutOfMemory}
+use Rattle.lvl.specs.declared.verdict.Refusal.TheVariants.{File as FileRefusal, Cells as CellsRefusal}
+use Rattle.lvl.specs.declared.verdict.Refusal.TheVariants.{Flat as FlatRefusal, OutOfMemory}
 use Rattle.lvl.specs.Layouts.{File, Spells, SpellsSome, IsLayoutOf}
 use Rattle.lvl_cells.specs.declared.fault.CellFault.{CellFault}
 use Rattle.lvl_flat.specs.declared.fault.FlatFault.{FlatFault}
@@ -28,20 +30,30 @@ use Rattle.lvl.proofs.Refused.{no_memory, passes, spells}
 
 sum_by-map : {X Y : Type 0} (f : X → Y) (g : Y → ℕ) (xs : List X) → sum_by g (map f xs) ≡ sum_by (λ x. g (f x)) xs
 sum_by-map f g [] = refl
-sum_by-map f g (x ∷ xs) = sum_by-cons g (f x) (map f xs) ∙ ap (λ n. g (f x) + n) (sum_by-map f g xs) ∙ sym (sum_by-cons (λ x. g (f x)) x xs)
+sum_by-map f g (x ∷ xs) =
+    sum_by-cons g (f x) (map f xs) ∙ ap (λ n. g (f x) + n) (sum_by-map f g xs) ∙ sym (sum_by-cons (λ x. g (f x)) x xs)
 
-own_on_kept : {F : Type 0} (rings : F → Rings) (layer : Layer) (c : PlainCell F) → own_rings_on rings layer c ≡ own_rings_on each_ring layer (drawn rings c)
+own_on_kept : {F : Type 0} (rings : F → Rings) (layer : Layer) (c : PlainCell F)
+    → own_rings_on rings layer c ≡ own_rings_on each_ring layer (drawn rings c)
 own_on_kept {F = F} rings layer c =
-    let f : PlainShape F → PlainShape Rings = λ h. record { layer = h.layer; figure = rings h.figure; shifts = h.shifts } in
-    sym (sum_by-map f (λ (h : PlainShape Rings). if (h.layer.layer == layer.layer) && (h.layer.datatype == layer.datatype) then length h.figure * length h.shifts else 0) c.shapes)
+    let f : PlainShape F → PlainShape Rings =
+    λ h. record { layer = h.layer; figure = rings h.figure; shifts = h.shifts } in
+    sym (sum_by-map f
+    (λ (h : PlainShape Rings). if (h.layer.layer == layer.layer) && (h.layer.datatype == layer.datatype)
+    then length h.figure * length h.shifts else 0) c.shapes)
 
 -- a library of figures places as many rings on a Layer as the one that keeps it
-placed_on_kept : {F : Type 0} (rings : F → Rings) (layer : Layer) (cells : List (PlainCell F)) (c : PlainCell F) → placed_rings_on rings layer cells c ≡ placed_rings_on each_ring layer (kept rings cells) (drawn rings c)
+placed_on_kept : {F : Type 0} (rings : F → Rings) (layer : Layer) (cells : List (PlainCell F)) (c : PlainCell F)
+    → placed_rings_on rings layer cells c ≡ placed_rings_on each_ring layer (kept rings cells) (drawn rings c)
 placed_on_kept rings layer cells c =
-    over_kept rings (own_rings_on rings layer) (own_rings_on each_ring layer) (own_on_kept rings layer) cells (length cells) c
-    ∙ ap (λ n. over_chains (own_rings_on each_ring layer) (kept rings cells) n (drawn rings c)) (sym (length_kept rings cells))
+    over_kept rings (own_rings_on rings layer) (own_rings_on each_ring layer) (own_on_kept rings layer) cells
+    (length cells) c
+    ∙ ap (λ n. over_chains (own_rings_on each_ring layer) (kept rings cells) n (drawn rings c))
+    (sym (length_kept rings cells))
 
-layers_back : {F : Type 0} (rings : F → Rings) (cells : List (PlainCell F)) (top : PlainCell F) (layers : List ShownLayer) → AreShownLayers each_ring (kept rings cells) (drawn rings top) layers → AreShownLayers rings cells top layers
+layers_back : {F : Type 0} (rings : F → Rings) (cells : List (PlainCell F)) (top : PlainCell F)
+    (layers : List ShownLayer) → AreShownLayers each_ring (kept rings cells) (drawn rings top) layers
+    → AreShownLayers rings cells top layers
 layers_back rings cells top layers h = record {
   sorted = h.sorted;
   filled = h.filled;
@@ -49,24 +61,33 @@ layers_back rings cells top layers h = record {
   whole = λ layer some. h.whole layer (subst (λ n. 0 < n) (placed_on_kept rings layer cells top) some);
 }
 
-shown_back : {F : Type 0} (rings : F → Rings) (cells : List (PlainCell F)) (top : PlainCell F) (shown : Shown) → IsShownOf each_ring (kept rings cells) (drawn rings top) shown → IsShownOf rings cells top shown
+shown_back : {F : Type 0} (rings : F → Rings) (cells : List (PlainCell F)) (top : PlainCell F) (shown : Shown)
+    → IsShownOf each_ring (kept rings cells) (drawn rings top) shown → IsShownOf rings cells top shown
 shown_back rings cells top shown h = record {
   top_is = h.top_is;
   cells_are = h.cells_are ∙ length_kept rings cells;
   layers_are = layers_back rings cells top shown.layers.items h.layers_are;
 }
 
-shown_lifted : (file : File) (found : List (PlainCell Rings)) (head : Head) → IsLayoutOf file.bytes found head → (shown : Shown) → shown.head ≡ head → IsShownKept (kept_named found file.top) shown → IsShownFile file shown
+shown_lifted : (file : File) (found : List (PlainCell Rings)) (head : Head) → IsLayoutOf file.bytes found head
+    → (shown : Shown) → shown.head ≡ head → IsShownKept (kept_named found file.top) shown → IsShownFile file shown
 shown_lifted file found head read shown head_is k =
     let others : List Drawing = read.cells in
     let s = k.settled in
     let e : s.cells ≡ kept figure_rings others = k.checked.cells ∙ read.kept_as in
     let l = lifted file found head read k.sheets (record { settled = s; checked = k.checked; flat = k.flat }) in
-    let same : l.accepted.index ≡ s.top = one_top (kept figure_rings others) file.top l.accepted.index s.top ((sound_kept figure_rings others file.top l.accepted.index).0 l.accepted.sound) (subst (λ (c : List (PlainCell Rings)). IsSound c file.top s.top) e k.checked.sound.sound) in
-    let at : slice_get (kept figure_rings others) s.top ≡ Some k.flat.top = subst (λ (c : List (PlainCell Rings)). slice_get c s.top ≡ Some k.flat.top) e k.flat.is_top in
-    let cell : drawn figure_rings l.top ≡ k.flat.top = one_cell (kept figure_rings others) l.accepted.index s.top (drawn figure_rings l.top) k.flat.top (cell_kept figure_rings others l.accepted.index l.top l.accepted.top_is) at same in
+    let same : l.accepted.index ≡ s.top =
+    one_top (kept figure_rings others) file.top l.accepted.index s.top
+    ((sound_kept figure_rings others file.top l.accepted.index).0 l.accepted.sound)
+    (subst (λ (c : List (PlainCell Rings)). IsSound c file.top s.top) e k.checked.sound.sound) in
+    let at : slice_get (kept figure_rings others) s.top ≡ Some k.flat.top =
+    subst (λ (c : List (PlainCell Rings)). slice_get c s.top ≡ Some k.flat.top) e k.flat.is_top in
+    let cell : drawn figure_rings l.top ≡ k.flat.top =
+    one_cell (kept figure_rings others) l.accepted.index s.top (drawn figure_rings l.top) k.flat.top
+    (cell_kept figure_rings others l.accepted.index l.top l.accepted.top_is) at same in
     let here : IsShownOf each_ring (kept figure_rings others) (drawn figure_rings l.top) shown =
-    subst (λ (c : List (PlainCell Rings)). IsShownOf each_ring c (drawn figure_rings l.top) shown) e (subst (λ (t : PlainCell Rings). IsShownOf each_ring s.cells t shown) (sym cell) k.shown_is) in
+    subst (λ (c : List (PlainCell Rings)). IsShownOf each_ring c (drawn figure_rings l.top) shown) e
+    (subst (λ (t : PlainCell Rings). IsShownOf each_ring s.cells t shown) (sym cell) k.shown_is) in
     record {
       cells = others;
       top = l.top;
@@ -75,19 +96,24 @@ shown_lifted file found head read shown head_is k =
       shown_is = shown_back figure_rings others l.top shown here;
     }
 
-pub file_shown : (file : File) (found : List (PlainCell Rings)) (head : Head) → IsLayoutOf file.bytes found head → (r : Result Shown Refusal) → IfOk r (λ shown. shown.head ≡ head) → IfOk r (IsShownKept (kept_named found file.top)) → IfOk r (IsShownFile file)
+pub file_shown : (file : File) (found : List (PlainCell Rings)) (head : Head) → IsLayoutOf file.bytes found head
+    → (r : Result Shown Refusal) → IfOk r (λ shown. shown.head ≡ head)
+    → IfOk r (IsShownKept (kept_named found file.top)) → IfOk r (IsShownFile file)
 file_shown file found head read (Ok shown) head_is k = shown_lifted file found head read shown head_is k
 file_shown file found head read (Err r) head_is k = tt
 
-passed_cells : (side : Side) (file : File) (f : CellFault) → side ≡ First → SpellsSome file.bytes → HasPassed First file (CellsRefusal side f)
+passed_cells : (side : Side) (file : File) (f : CellFault) → side ≡ First → SpellsSome file.bytes
+    → HasPassed First file (CellsRefusal side f)
 passed_cells First file f e some = some
 passed_cells Second file f e some = cc
 
-passed_flat : (side : Side) (file : File) (f : FlatFault) → side ≡ First → PassesCheck file → HasPassed First file (FlatRefusal side f)
+passed_flat : (side : Side) (file : File) (f : FlatFault) → side ≡ First → PassesCheck file
+    → HasPassed First file (FlatRefusal side f)
 passed_flat First file f e p = p
 passed_flat Second file f e p = cc
 
-pub show_refused : (file : File) (found : List (PlainCell Rings)) (head : Head) → IsLayoutOf file.bytes found head → (r : Refusal) → IsShowRefusal (kept_named found file.top) r → IsRefusalOf First file r
+pub show_refused : (file : File) (found : List (PlainCell Rings)) (head : Head) → IsLayoutOf file.bytes found head
+    → (r : Refusal) → IsShowRefusal (kept_named found file.top) r → IsRefusalOf First file r
 show_refused file found head read (FileRefusal side f) h = absurd h
 show_refused file found head read (CellsRefusal side f) h = record {
   unaccepted = λ b. cell_unaccepted file found head read f h.1;
@@ -108,6 +134,7 @@ show_not_early k (CellsRefusal side f) h e = e
 show_not_early k (FlatRefusal side f) h e = e
 show_not_early k OutOfMemory h e = e
 
-pub show_never_early : (k : Kept) (P : Type 0) (r : Result Shown Refusal) → IfErr r (IsShowRefusal k) → IfErr r (λ e. IsEarlyOf First e → P)
+pub show_never_early : (k : Kept) (P : Type 0) (r : Result Shown Refusal) → IfErr r (IsShowRefusal k)
+    → IfErr r (λ e. IsEarlyOf First e → P)
 show_never_early k P (Ok x) h = tt
 show_never_early k P (Err e) h = λ early. absurd (show_not_early k e h early)

@@ -1,5 +1,6 @@
 -- What a reader's answer says of what the bytes spell, in any format.
-use Rattle.std.proofs.Common.{◌≡◌, ◌∙◌, [], ◌∷◌, ◌++◌, List, ℕ, Option, Ok, Err, IfErr, ap, sym, subst, length, ◌<◌, arith, append_assoc}
+use Rattle.std.proofs.Common.{◌≡◌, ◌∙◌, [], ◌∷◌, ◌++◌, List, ℕ, Option, Ok, Err, IfErr, ap, sym, subst, length, ◌<◌}
+use Rattle.std.proofs.Common.{arith, append_assoc}
 use Rattle.std.specs.Prelude.{Result}
 use Rattle.std.specs.Io.KnownBytes.{prepend_known}
 use Rattle.lvl_io.specs.Peeked.{given_again}
@@ -31,17 +32,20 @@ use Rattle.lvl.proofs.Formats.{gds_begins, oasis_begins, one_format, one_byte}
 
 -- a file that was read
 
-gds_alone : (xs : List ℕ) (found : List (PlainCell Rings)) (h : GdsHead) → IsReadGds xs found h → (others : List Drawing) (head : Head)
+gds_alone : (xs : List ℕ) (found : List (PlainCell Rings)) (h : GdsHead) → IsReadGds xs found h
+    → (others : List Drawing) (head : Head)
     → Spells xs others head → (found ≡ kept figure_rings others) × (Gds h ≡ head)
 gds_alone xs found h read others (Gds g) s =
     let p = read.only others g s in (read.kept_as ∙ ap (kept figure_rings) (sym p.0), ap Gds (sym p.1))
 gds_alone xs found h read others (Oasis o) s = absurd (one_format xs read.cells others h o read.spelled s)
 
-pub gds_read : (xs : List ℕ) (found : List (PlainCell Rings)) (h : GdsHead) → IsReadGds xs found h → IsLayoutOf xs found (Gds h)
+pub gds_read : (xs : List ℕ) (found : List (PlainCell Rings)) (h : GdsHead) → IsReadGds xs found h
+    → IsLayoutOf xs found (Gds h)
 gds_read xs found h read =
     record { cells = read.cells; spelled = read.spelled; kept_as = read.kept_as; alone = gds_alone xs found h read }
 
-oasis_alone : (xs : List ℕ) (found : List (PlainCell Rings)) (h : OasisHead) → IsReadOasis xs found h → (others : List Drawing) (head : Head)
+oasis_alone : (xs : List ℕ) (found : List (PlainCell Rings)) (h : OasisHead) → IsReadOasis xs found h
+    → (others : List Drawing) (head : Head)
     → Spells xs others head → (found ≡ kept figure_rings others) × (Oasis h ≡ head)
 oasis_alone xs found h read others (Oasis o) s =
     let p = read.only others o s in (read.kept_as ∙ ap (kept figure_rings) (sym p.0), ap Oasis (sym p.1))
@@ -60,19 +64,22 @@ no_gds xs other none cells (Oasis h) s = other (oasis_begins xs cells h s)
 
 no_oasis : (xs : List ℕ) → IsOasis xs → SpellsNoOasis xs → SpellsNothing xs
 no_oasis xs own none cells (Oasis h) s = none cells h s
-no_oasis xs own none cells (Gds h) s = (let e : 0 ≡ 0x25 = one_byte 0 0x25 xs (gds_begins xs cells h s) own in omega (arith, e))
+no_oasis xs own none cells (Gds h) s =
+    (let e : 0 ≡ 0x25 = one_byte 0 0x25 xs (gds_begins xs cells h s) own in omega (arith, e))
 
 said : {F : Type 0} (P : F → Type 0) (r : Refusal F) (fault : F) → r ≡ Breach fault → Says r P → P fault
 said P r fault is h = subst (λ x. Says x P) is h
 
-pub gds_fault : (xs : List ℕ) (r : Refusal GdsFault) (fault : GdsFault) → r ≡ Breach fault → (IsOasis xs → ⊥) → Says r (TellsGds xs)
+pub gds_fault : (xs : List ℕ) (r : Refusal GdsFault) (fault : GdsFault) → r ≡ Breach fault → (IsOasis xs → ⊥)
+    → Says r (TellsGds xs)
     → Says r (λ f. (¬ IsExcusedGds f) → SpellsNoGds xs) → IsFileFault xs (GdsFile fault)
 gds_fault xs r fault is other told none = record {
   told = said (TellsGds xs) r fault is told;
   nothing = λ n. no_gds xs other (said (λ f. (¬ IsExcusedGds f) → SpellsNoGds xs) r fault is none n);
 }
 
-pub oasis_fault : (xs : List ℕ) (r : Refusal OasisFault) (fault : OasisFault) → r ≡ Breach fault → IsOasis xs → Says r (TellsOasis xs)
+pub oasis_fault : (xs : List ℕ) (r : Refusal OasisFault) (fault : OasisFault) → r ≡ Breach fault → IsOasis xs
+    → Says r (TellsOasis xs)
     → Says r (λ f. (¬ IsExcusedOasis f) → SpellsNoOasis xs) → IsFileFault xs (OasisFile fault)
 oasis_fault xs r fault is own told none = record {
   told = said (TellsOasis xs) r fault is told;
@@ -80,7 +87,8 @@ oasis_fault xs r fault is own told none = record {
 }
 
 -- a byte that was looked at and not given again was taken
-hopeless_rest : (xs : List ℕ) (byte : Option ℕ) (inner : Option (List ℕ)) → IsHopeless xs (prepend_known (given_again byte) inner)
+hopeless_rest : (xs : List ℕ) (byte : Option ℕ) (inner : Option (List ℕ))
+    → IsHopeless xs (prepend_known (given_again byte) inner)
     → IsHopeless xs inner
 hopeless_rest xs byte inner h =
     let front = given_again byte in
@@ -93,29 +101,36 @@ hopeless_rest xs byte inner h =
       none = λ more some. h.none (front ++ more) (subst SpellsSome (append_assoc h.taken front more) some);
     }
 
-pub early_rest : {A : Type 0} (xs : List ℕ) (byte : Option ℕ) (inner left : Option (List ℕ)) (r : Result A (Refusal FileFault))
+pub early_rest : {A : Type 0} (xs : List ℕ) (byte : Option ℕ) (inner left : Option (List ℕ))
+    (r : Result A (Refusal FileFault))
     → IfErr r (λ e. Says e (λ f. IsEarlyFile f → IsHopeless xs (prepend_known (given_again byte) inner))) → inner ≡ left
     → IfErr r (λ e. Says e (λ f. IsEarlyFile f → IsHopeless xs left))
 early_rest xs byte inner left (Ok x) h e = tt
 early_rest xs byte inner left (Err OutOfMemory) h e = tt
-early_rest xs byte inner left (Err (Breach f)) h e = λ soon. subst (IsHopeless xs) e (hopeless_rest xs byte inner (h soon))
+early_rest xs byte inner left (Err (Breach f)) h e =
+    λ soon. subst (IsHopeless xs) e (hopeless_rest xs byte inner (h soon))
 
 -- what is refused early is hopeless in both formats: a byte or more was taken, and the first of these decides
 
-begun_so : (byte : ℕ) (taken rest more : List ℕ) → 0 < length taken → BeginsWith byte (taken ++ more) → BeginsWith byte (taken ++ rest)
+begun_so : (byte : ℕ) (taken rest more : List ℕ) → 0 < length taken → BeginsWith byte (taken ++ more)
+    → BeginsWith byte (taken ++ rest)
 begun_so byte [] rest more some b = absurd (omega (arith, some))
-begun_so byte (t ∷ ts) rest more some b = (let e : t ∷ (ts ++ more) ≡ byte ∷ b.rest = b.is in record { rest = ts ++ rest; is = cc })
+begun_so byte (t ∷ ts) rest more some b =
+    (let e : t ∷ (ts ++ more) ≡ byte ∷ b.rest = b.is in record { rest = ts ++ rest; is = cc })
 
-no_gds_more : (taken rest more : List ℕ) → 0 < length taken → (IsOasis (taken ++ rest) → ⊥) → SpellsNoGds (taken ++ more)
+no_gds_more : (taken rest more : List ℕ) → 0 < length taken → (IsOasis (taken ++ rest) → ⊥)
+    → SpellsNoGds (taken ++ more)
     → SpellsSome (taken ++ more) → ⊥
 no_gds_more taken rest more some other none s =
     no_gds (taken ++ more) (λ o. other (begun_so 0x25 taken rest more some o)) none s.0 s.1 s.2
 
 no_oasis_more : (taken rest more : List ℕ) → 0 < length taken → IsOasis (taken ++ rest) → SpellsNoOasis (taken ++ more)
     → SpellsSome (taken ++ more) → ⊥
-no_oasis_more taken rest more some own none s = no_oasis (taken ++ more) (begun_so 0x25 taken more rest some own) none s.0 s.1 s.2
+no_oasis_more taken rest more some own none s =
+    no_oasis (taken ++ more) (begun_so 0x25 taken more rest some own) none s.0 s.1 s.2
 
-pub gds_early : (xs : List ℕ) (left : Option (List ℕ)) (r : Refusal GdsFault) (fault : GdsFault) → r ≡ Breach fault → (IsOasis xs → ⊥)
+pub gds_early : (xs : List ℕ) (left : Option (List ℕ)) (r : Refusal GdsFault) (fault : GdsFault) → r ≡ Breach fault
+    → (IsOasis xs → ⊥)
     → Says r (λ f. IsEarlyGds f → IsHopelessStream gds xs left) → IsEarlyGds fault → IsHopeless xs left
 gds_early xs left r fault is other early soon =
     let h = said (λ f. IsEarlyGds f → IsHopelessStream gds xs left) r fault is early soon in
@@ -124,10 +139,13 @@ gds_early xs left r fault is other early soon =
       rest = h.rest;
       parts = h.parts;
       left_is = h.left_is;
-      none = λ more s. no_gds_more h.taken h.rest more h.some (λ o. other (subst IsOasis (sym h.parts) o)) (λ cells g p. h.none more p.records p.whole) s;
+      none =
+          λ more s. no_gds_more h.taken h.rest more h.some (λ o. other (subst IsOasis (sym h.parts) o))
+          (λ cells g p. h.none more p.records p.whole) s;
     }
 
-pub oasis_early : (xs : List ℕ) (left : Option (List ℕ)) (r : Refusal OasisFault) (fault : OasisFault) → r ≡ Breach fault → IsOasis xs
+pub oasis_early : (xs : List ℕ) (left : Option (List ℕ)) (r : Refusal OasisFault) (fault : OasisFault)
+    → r ≡ Breach fault → IsOasis xs
     → Says r (λ f. IsEarlyOasis f → IsHopelessStream oasis xs left) → IsEarlyOasis fault → IsHopeless xs left
 oasis_early xs left r fault is own early soon =
     let h = said (λ f. IsEarlyOasis f → IsHopelessStream oasis xs left) r fault is early soon in
@@ -136,5 +154,7 @@ oasis_early xs left r fault is own early soon =
       rest = h.rest;
       parts = h.parts;
       left_is = h.left_is;
-      none = λ more s. no_oasis_more h.taken h.rest more h.some (subst IsOasis h.parts own) (λ cells o p. h.none more p.items p.whole) s;
+      none =
+          λ more s. no_oasis_more h.taken h.rest more h.some (subst IsOasis h.parts own)
+          (λ cells o p. h.none more p.items p.whole) s;
     }

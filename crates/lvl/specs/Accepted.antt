@@ -45,14 +45,18 @@ pub record AreAccepted (a b : File) : Type 0 where
 -- and on every Layer their tops cover the same squares
 pub record AreSame (a b : File) : Type 0 where
   pub both : AreAccepted a b
-  pub alike : (layer : Layer) (s : Square) → Draws both.ours both.our_top layer s ↔ Draws both.theirs both.their_top layer s
+  pub alike : (layer : Layer) (s : Square)
+      → Draws both.ours both.our_top layer s ↔ Draws both.theirs both.their_top layer s
 
--- and the square on the Layer is covered by the top of that side alone; before it they draw the same: on lesser Layers, and on the Layer at lesser squares, by y and then x
+-- and the square on the Layer is covered by the top of that side alone; before it they draw the same: on lesser Layers,
+-- and on the Layer at lesser squares, by y and then x
 pub record AreDifferent (a b : File) (layer : Layer) (square : Square) (side : Side) : Type 0 where
   pub both : AreAccepted a b
   pub alone : IsAlone (Draws both.ours both.our_top layer) (Draws both.theirs both.their_top layer) square side
-  pub least_layer : (l : Layer) → ComesBefore l layer → (s : Square) → Draws both.ours both.our_top l s ↔ Draws both.theirs both.their_top l s
-  pub least_square : (s : Square) → IsBefore s square → Draws both.ours both.our_top layer s ↔ Draws both.theirs both.their_top layer s
+  pub least_layer : (l : Layer) → ComesBefore l layer → (s : Square)
+      → Draws both.ours both.our_top l s ↔ Draws both.theirs both.their_top l s
+  pub least_square : (s : Square) → IsBefore s square
+      → Draws both.ours both.our_top layer s ↔ Draws both.theirs both.their_top layer s
 
 -- what a verdict says
 abbrev pub IsVerdict : File → File → Verdict → Type 0

@@ -8,13 +8,15 @@ use Rattle.lvl.specs.Drawing.{Drawing}
 use Rattle.lvl_refusal.specs.declared.Refusal.{Refusal as Cause}
 use Rattle.lvl_refusal.specs.declared.Refusal.TheVariants.{Breach, OutOfMemory as NoMemory}
 use Rattle.gds_library.specs.Ends.{Tells as TellsGds, IsExcused as IsExcusedGds, IsEarly as IsEarlyGds, is_read_kind}
-use Rattle.oasis_library.specs.Ends.{Tells as TellsOasis, IsExcused as IsExcusedOasis, IsEarly as IsEarlyOasis, is_read_error}
+use Rattle.oasis_library.specs.Ends.{Tells as TellsOasis, IsExcused as IsExcusedOasis, IsEarly as IsEarlyOasis}
+use Rattle.oasis_library.specs.Ends.{is_read_error}
 use Rattle.lvl.specs.declared.layout.Head.{Head}
 use Rattle.lvl.specs.declared.layout.FileFault.{FileFault}
 use Rattle.lvl.specs.declared.layout.FileFault.TheVariants.{Gds, Oasis}
 use Rattle.lvl.specs.declared.verdict.Comparison.{Comparison}
 use Rattle.lvl.specs.declared.verdict.Refusal.{Refusal}
-use Rattle.lvl.specs.declared.verdict.Refusal.TheVariants.{File as FileRefusal, Cells as CellsRefusal, Flat as FlatRefusal, OutOfMemory}
+use Rattle.lvl.specs.declared.verdict.Refusal.TheVariants.{File as FileRefusal, Cells as CellsRefusal}
+use Rattle.lvl.specs.declared.verdict.Refusal.TheVariants.{Flat as FlatRefusal, OutOfMemory}
 use Rattle.lvl.specs.Layouts.{File, Spells, SpellsSome, HasHead}
 use Rattle.lvl.specs.Accepted.{IsAccepted, IsUnaccepted, IsVerdict}
 use Rattle.lvl.specs.Kept.{Kept, Passes, IsCellFault, IsRangeFault}
@@ -43,8 +45,12 @@ kept_of file cells = record { cells = kept figure_rings cells; top = file.top }
 -- what the fault says holds of the bytes, or of every library that they spell
 abbrev pub IsTold : Side → File → Refusal → Type 0
 IsTold side file (FileRefusal s fault) = s ≡ side → TellsOfFile file.bytes fault
-IsTold side file (CellsRefusal s fault) = s ≡ side → (cells : List Drawing) (head : Head) → Spells file.bytes cells head → IsCellFault (kept_of file cells) fault
-IsTold side file (FlatRefusal s fault) = s ≡ side → (cells : List Drawing) (head : Head) → Spells file.bytes cells head → IsRangeFault (kept_of file cells) fault
+IsTold side file (CellsRefusal s fault) =
+    s ≡ side → (cells : List Drawing) (head : Head) → Spells file.bytes cells head
+    → IsCellFault (kept_of file cells) fault
+IsTold side file (FlatRefusal s fault) =
+    s ≡ side → (cells : List Drawing) (head : Head) → Spells file.bytes cells head
+    → IsRangeFault (kept_of file cells) fault
 IsTold side file OutOfMemory = ⊤
 
 -- the file's library passes the check of its cells

@@ -15,7 +15,8 @@ use Rattle.lvl.specs.Views.{IsFlatViewVerdict}
 use Rattle.lvl.specs.declared.verdict.Verdict.{Verdict}
 use Rattle.lvl.specs.declared.verdict.Verdict.TheVariants.{Same}
 use Rattle.lvl.specs.declared.verdict.Refusal.{Refusal}
-use Rattle.lvl.specs.declared.verdict.Refusal.TheVariants.{File as FileRefusal, Cells as CellsRefusal, Flat as FlatRefusal, OutOfMemory}
+use Rattle.lvl.specs.declared.verdict.Refusal.TheVariants.{File as FileRefusal, Cells as CellsRefusal}
+use Rattle.lvl.specs.declared.verdict.Refusal.TheVariants.{Flat as FlatRefusal, OutOfMemory}
 
 -- a library with rings alone, and the name of its top, if one was given
 pub record Kept : Type 0 where

@@ -45,4 +45,5 @@ pub record IsLayoutOf (bytes : List ℕ) (found : List (PlainCell Rings)) (head 
   pub cells : List Drawing
   pub spelled : Spells bytes cells head
   pub kept_as : found ≡ kept figure_rings cells
-  pub alone : (others : List Drawing) (h : Head) → Spells bytes others h → (found ≡ kept figure_rings others) × (head ≡ h)
+  pub alone : (others : List Drawing) (h : Head) → Spells bytes others h
+      → (found ≡ kept figure_rings others) × (head ≡ h)

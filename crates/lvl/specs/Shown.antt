@@ -13,7 +13,8 @@ use Rattle.lvl.specs.Drawing.{Drawing}
 use Rattle.lvl.specs.declared.shown.Shown.{Shown}
 use Rattle.lvl.specs.declared.shown.ShownLayer.{ShownLayer}
 use Rattle.lvl.specs.declared.verdict.Refusal.{Refusal}
-use Rattle.lvl.specs.declared.verdict.Refusal.TheVariants.{File as FileRefusal, Cells as CellsRefusal, Flat as FlatRefusal, OutOfMemory}
+use Rattle.lvl.specs.declared.verdict.Refusal.TheVariants.{File as FileRefusal, Cells as CellsRefusal}
+use Rattle.lvl.specs.declared.verdict.Refusal.TheVariants.{Flat as FlatRefusal, OutOfMemory}
 use Rattle.lvl.specs.Layouts.{File, Spells}
 use Rattle.lvl.specs.Accepted.{IsAccepted}
 use Rattle.lvl.specs.Kept.{Kept, IsCheckedAs, IsCellFault, IsRangeFault}
@@ -23,14 +24,16 @@ abbrev pub shown_layer : PlainSheet → ShownLayer
 shown_layer sheet = record { layer = sheet.layer; rings = length sheet.rings }
 
 -- each Layer on which the cell places rings stands there, in their order, with the number of these rings
-pub record AreShownLayers {F : Type 0} (rings : F → Rings) (cells : List (PlainCell F)) (top : PlainCell F) (layers : List ShownLayer) : Type 0 where
+pub record AreShownLayers {F : Type 0} (rings : F → Rings) (cells : List (PlainCell F)) (top : PlainCell F)
+    (layers : List ShownLayer) : Type 0 where
   pub sorted : AllPairs (λ a b. ComesBefore a.layer b.layer) layers
   pub filled : All (λ l. 0 < l.rings) layers
   pub counted : All (λ l. l.rings ≡ placed_rings_on rings l.layer cells top) layers
   pub whole : (layer : Layer) → 0 < placed_rings_on rings layer cells top → Contains (map (λ l. l.layer) layers) layer
 
 -- this is what a library of these cells with this top holds
-pub record IsShownOf {F : Type 0} (rings : F → Rings) (cells : List (PlainCell F)) (top : PlainCell F) (shown : Shown) : Type 0 where
+pub record IsShownOf {F : Type 0} (rings : F → Rings) (cells : List (PlainCell F)) (top : PlainCell F)
+    (shown : Shown) : Type 0 where
   pub top_is : shown.top.items ≡ top.name
   pub cells_are : shown.cells ≡ length cells
   pub layers_are : AreShownLayers rings cells top shown.layers.items

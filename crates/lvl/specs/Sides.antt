@@ -12,7 +12,8 @@ use Rattle.lvl.specs.declared.layout.Layout.{Layout}
 use Rattle.lvl.specs.declared.layout.Layout.TheVariants.{Gds as GdsLayout, Oasis as OasisLayout}
 use Rattle.lvl.specs.declared.layout.FileFault.{FileFault}
 use Rattle.lvl.specs.declared.verdict.Refusal.{Refusal}
-use Rattle.lvl.specs.declared.verdict.Refusal.TheVariants.{File as FileRefusal, Cells as CellsRefusal, Flat as FlatRefusal, OutOfMemory}
+use Rattle.lvl.specs.declared.verdict.Refusal.TheVariants.{File as FileRefusal, Cells as CellsRefusal}
+use Rattle.lvl.specs.declared.verdict.Refusal.TheVariants.{Flat as FlatRefusal, OutOfMemory}
 use Rattle.lvl.specs.Layouts.{File, Spells}
 use Rattle.lvl.specs.Kept.{Kept, IsCellFault}
 use Rattle.lvl.specs.Answers.{TellsOfFile, IsExcusedFile}

@@ -21,14 +21,16 @@ use Rattle.lvl.specs.declared.verdict.Verdict.TheVariants.{Same, Differ}
 
 -- what covers squares on a Layer covers, under the map, one on the Layer's target: all pairs apply at once, and a Layer
 -- that is no source is its own target
-pub record IsMoved (pairs : List LayerPair) (Covers : Layer → Square → Type 0) (target : Layer) (s : Square) : Type 0 where
+pub record IsMoved (pairs : List LayerPair) (Covers : Layer → Square → Type 0) (target : Layer)
+    (s : Square) : Type 0 where
   pub source : Layer
   pub is_target : target_of pairs source ≡ target
   pub covers : Covers source s
 
 -- of the squares seen, that one on that Layer is covered by that side alone; before it both cover the same of them: on
 -- lesser Layers, and on the Layer at lesser squares, by y and then x
-pub record IsFirstApartOf (Seen : Square → Type 0) (Ours Theirs : Layer → Square → Type 0) (layer : Layer) (square : Square) (side : Side) : Type 0 where
+pub record IsFirstApartOf (Seen : Square → Type 0) (Ours Theirs : Layer → Square → Type 0) (layer : Layer)
+    (square : Square) (side : Side) : Type 0 where
   pub seen : Seen square
   pub alone : IsAlone (Ours layer) (Theirs layer) square side
   pub least_layer : (l : Layer) → ComesBefore l layer → (s : Square) → Seen s → Ours l s ↔ Theirs l s
@@ -39,11 +41,12 @@ abbrev pub IsVerdictOf : (Square → Type 0) → (Layer → Square → Type 0) �
 IsVerdictOf Seen Ours Theirs Same = (layer : Layer) (s : Square) → Seen s → Ours layer s ↔ Theirs layer s
 IsVerdictOf Seen Ours Theirs (Differ layer square side) = IsFirstApartOf Seen Ours Theirs layer square side
 
--- both files are accepted, whole, and of the squares that the window shows the verdict is that on what the first draws and
--- what the second draws with its Layers mapped
+-- both files are accepted, whole, and of the squares that the window shows the verdict is that on what the first draws
+-- and what the second draws with its Layers mapped
 pub record IsViewVerdict (view : PlainView) (a b : File) (v : Verdict) : Type 0 where
   pub both : AreAccepted a b
-  pub verdict : IsVerdictOf (IsShown view.window) (Draws both.ours both.our_top) (IsMoved view.pairs (Draws both.theirs both.their_top)) v
+  pub verdict : IsVerdictOf (IsShown view.window) (Draws both.ours both.our_top)
+      (IsMoved view.pairs (Draws both.theirs both.their_top)) v
 
 -- the heads are those that the bytes spell, and the verdict holds
 pub record IsComparedIn (view : PlainView) (a b : File) (c : Comparison) : Type 0 where

@@ -8,7 +8,8 @@ ghost use Rattle.lvl_region.specs.declared.region.Side.{Side as WhichSide};
 ghost use Rattle.lvl.specs.declared.verdict.Verdict.TheVariants.{Same, Differ};
 ghost use Rattle.lvl.specs.Accepted.{AreSame, AreDifferent, IsUnaccepted};
 ghost use Rattle.lvl.specs.Kept.{IsKeptVerdict, IsKeptRefusal};
-ghost use Rattle.lvl.specs.Answers.{Blames, HasPassed, IsCompared, IsEarlyOf, IsHopeless, IsRefusalOf, IsTold, is_read_of};
+ghost use Rattle.lvl.specs.Answers.{Blames, HasPassed, IsCompared, IsEarlyOf, IsHopeless, IsRefusalOf, IsTold};
+ghost use Rattle.lvl.specs.Answers.{is_read_of};
 ghost use Rattle.lvl.specs.Sides.{file, library_of};
 ghost use Rattle.lvl.specs.declared.verdict.Refusal.TheVariants.{OutOfMemory};
 
@@ -30,7 +31,8 @@ fn compare_libraries(
     tops: &Tops,
 ) -> Result<Verdict, Refusal>
     ensures verdict { IfOk result (IsKeptVerdict (library_of ours tops.now.first) (library_of theirs tops.now.second)) }
-    ensures refused { IfErr result (IsKeptRefusal (library_of ours tops.now.first) (library_of theirs tops.now.second)) }
+    ensures refused { IfErr result
+        (IsKeptRefusal (library_of ours tops.now.first) (library_of theirs tops.now.second)) }
 {
     let ours = check_side(alloc, Side::First, ours, &tops.first)?;
     let theirs = check_side(alloc, Side::Second, theirs, &tops.second)?;
@@ -84,7 +86,8 @@ pub fn compare_layouts<A: Read, B: Read>(
     ensures second_early { (ys : List ℕ) → B.remaining second.old ≡ Some ys
         → IfErr result (λ r. IsEarlyOf Second r → IsHopeless ys (B.remaining second.new)) }
     ensures first_reads { CountsFailure (A.read_errors first.old) (A.read_errors first.new) (is_read_of First result) }
-    ensures second_reads { CountsFailure (B.read_errors second.old) (B.read_errors second.new) (is_read_of Second result) }
+    ensures second_reads { CountsFailure (B.read_errors second.old) (B.read_errors second.new)
+        (is_read_of Second result) }
 {
     match compare_files(alloc, first, second, tops) {
         Ok(compared) => Ok(compared.verdict),
@@ -111,7 +114,8 @@ pub fn compare_files<A: Read, B: Read>(
     ensures second_early { (ys : List ℕ) → B.remaining second.old ≡ Some ys
         → IfErr result (λ r. IsEarlyOf Second r → IsHopeless ys (B.remaining second.new)) }
     ensures first_reads { CountsFailure (A.read_errors first.old) (A.read_errors first.new) (is_read_of First result) }
-    ensures second_reads { CountsFailure (B.read_errors second.old) (B.read_errors second.new) (is_read_of Second result) }
+    ensures second_reads { CountsFailure (B.read_errors second.old) (B.read_errors second.new)
+        (is_read_of Second result) }
 {
     let (ours, first_head) = read_side(alloc, Side::First, first)?;
     let (theirs, second_head) = read_side(alloc, Side::Second, second)?;

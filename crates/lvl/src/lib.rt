@@ -2,8 +2,8 @@
 //!
 //! [`compare_layouts`] reads two files, checks their cells, flattens them and compares what they cover
 //! Layer by Layer. Its answer is a [`Verdict`] or a [`Refusal`]. [`compare_view`] does so with the
-//! second file's Layers mapped, and in a window alone. [`show_file`] says what one file holds. A format is a variant of [`Layout`], [`Head`] and [`FileFault`], and a row in each match on
-//! them.
+//! second file's Layers mapped, and in a window alone. [`show_file`] says what one file holds. A
+//! format is a variant of [`Layout`], [`Head`] and [`FileFault`], and a row in each match on them.
 #![tactic(auto)]
 
 pub use compare::{compare_files, compare_layouts};

@@ -5,7 +5,8 @@ ghost use Rattle.lvl_flat.specs.Flattened.{IsFlattened};
 ghost use Rattle.lvl.specs.Layouts.{IsLayoutOf};
 ghost use Rattle.lvl.specs.Kept.{IsCheckedAs};
 ghost use Rattle.lvl.specs.Answers.{IsEarlyOf, IsHopeless, is_read_of};
-ghost use Rattle.lvl.specs.Sides.{IsOfFile, IsReadRefusal, IsCheckRefusal, IsFlattenRefusal, given_name, library_of, kept_named};
+ghost use Rattle.lvl.specs.Sides.{IsOfFile, IsReadRefusal, IsCheckRefusal, IsFlattenRefusal, given_name, library_of};
+ghost use Rattle.lvl.specs.Sides.{kept_named};
 ghost use Rattle.lvl.specs.declared.verdict.Refusal.TheVariants.{OutOfMemory};
 
 use crate::layout::{Head, read_layout};

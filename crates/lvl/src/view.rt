@@ -49,7 +49,8 @@ fn compare_libraries_in(
 ) -> Result<Verdict, Refusal>
     ensures verdict { IfOk result (IsKeptViewVerdict view.now
         (library_of ours tops.now.first) (library_of theirs tops.now.second)) }
-    ensures refused { IfErr result (IsKeptRefusal (library_of ours tops.now.first) (library_of theirs tops.now.second)) }
+    ensures refused { IfErr result
+        (IsKeptRefusal (library_of ours tops.now.first) (library_of theirs tops.now.second)) }
 {
     let ours = check_side(alloc, Side::First, ours, &tops.first)?;
     let theirs = check_side(alloc, Side::Second, theirs, &tops.second)?;
@@ -90,7 +91,8 @@ pub fn compare_view<A: Read, B: Read>(
     ensures second_early { (ys : List ℕ) → B.remaining second.old ≡ Some ys
         → IfErr result (λ r. IsEarlyOf Second r → IsHopeless ys (B.remaining second.new)) }
     ensures first_reads { CountsFailure (A.read_errors first.old) (A.read_errors first.new) (is_read_of First result) }
-    ensures second_reads { CountsFailure (B.read_errors second.old) (B.read_errors second.new) (is_read_of Second result) }
+    ensures second_reads { CountsFailure (B.read_errors second.old) (B.read_errors second.new)
+        (is_read_of Second result) }
 {
     match compare_files_in(alloc, first, second, tops, view) {
         Ok(compared) => Ok(compared.verdict),
@@ -121,7 +123,8 @@ pub fn compare_files_in<A: Read, B: Read>(
     ensures second_early { (ys : List ℕ) → B.remaining second.old ≡ Some ys
         → IfErr result (λ r. IsEarlyOf Second r → IsHopeless ys (B.remaining second.new)) }
     ensures first_reads { CountsFailure (A.read_errors first.old) (A.read_errors first.new) (is_read_of First result) }
-    ensures second_reads { CountsFailure (B.read_errors second.old) (B.read_errors second.new) (is_read_of Second result) }
+    ensures second_reads { CountsFailure (B.read_errors second.old) (B.read_errors second.new)
+        (is_read_of Second result) }
 {
     let (ours, first_head) = read_side(alloc, Side::First, first)?;
     let (theirs, second_head) = read_side(alloc, Side::Second, second)?;

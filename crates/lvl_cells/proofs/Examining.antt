@@ -1,5 +1,7 @@
 -- How the faults of the steps are faults of the library.
-use Rattle.std.proofs.Common.{◌≡◌, ℕ, zero, suc, ◌+◌, ◌<◌, ◌≤◌, min, ◌-◌, true, false, cond, get_or, ◌⊎◌, inl, inr, ⊎_elim, List, [], ◌∷◌, map, length, Option, Some, IfSome, All, Contains, refl, ap, ◌∙◌, subst, arith}
+use Rattle.std.proofs.Common.{◌≡◌, ℕ, zero, suc, ◌+◌, ◌<◌, ◌≤◌, min, ◌-◌, true, false, cond, get_or, ◌⊎◌, inl, inr}
+use Rattle.std.proofs.Common.{⊎_elim, List, [], ◌∷◌, map, length, Option, Some, IfSome, All, Contains, refl, ap, ◌∙◌}
+use Rattle.std.proofs.Common.{subst, arith}
 use Rattle.std.specs.List.{slice_get, IsDistinct}
 use Rattle.std.specs.Str.{bytes_eq}
 use Rattle.std.specs.declared.alloc.Global.{Global}
@@ -14,14 +16,16 @@ use Rattle.lvl_cells.specs.Cells.{PlainCell, PlainReference, Rings, each_ring, n
 use Rattle.lvl_cells.specs.Chains.{over_chains, own_rings, most_placed}
 use Rattle.lvl_cells.specs.Soundness.{links, AreLinked, IsRanked, IsTop, IsOrder}
 use Rattle.lvl_cells.specs.Faults.{IsFaultOf}
-use Rattle.lvl_cells.specs.Steps.{AreAllTargets, IsCycleFault, IsTopFault}
+use Rattle.lvl_cells.specs.inside.Steps.{AreAllTargets, IsCycleFault, IsTopFault}
 use Rattle.lvl_cells.specs.Checks.{IsSettled}
 use Rattle.lvl_cells.specs.declared.fault.CellFault.{CellFault}
-use Rattle.lvl_cells.specs.declared.fault.CellFault.TheVariants.{NoCell, DuplicateCell, MissingCell, Cycle, TopMissing, ManyTops, TooManyPlacements, TooManyRings}
+use Rattle.lvl_cells.specs.declared.fault.CellFault.TheVariants.{NoCell, DuplicateCell, MissingCell, Cycle, TopMissing}
+use Rattle.lvl_cells.specs.declared.fault.CellFault.TheVariants.{ManyTops, TooManyPlacements, TooManyRings}
 use Rattle.lvl_cells.proofs.Missing.{named_links}
 use Rattle.lvl_cells.proofs.Sequences.{item_there}
 
-pub linked_by : (cells : List (PlainCell Rings)) (tss : List (Vec ℕ Global)) → IsDistinct bytes_eq (names cells) → AreAllTargets cells tss → AreLinked cells
+pub linked_by : (cells : List (PlainCell Rings)) (tss : List (Vec ℕ Global)) → IsDistinct bytes_eq (names cells)
+    → AreAllTargets cells tss → AreLinked cells
 linked_by cells tss d t = record { distinct = d; named = named_links (names cells) cells tss t }
 
 zero_or_more : (n : ℕ) → (n ≡ 0) ⊎ (0 < n)
@@ -36,21 +40,39 @@ height all (k ∷ ks) name = cond (bytes_eq (get_or all k []) name) (suc (length
 pub height_most : (all : List (List ℕ)) (order : List ℕ) (name : List ℕ) → height all order name ≤ length order
 unfolding height
 height_most all [] name = omega arith
-height_most all (k ∷ ks) name = elim (bytes_eq (get_or all k []) name) as (λ b. cond b (suc (length ks)) (height all ks name) ≤ suc (length ks)) [ true ↦ omega arith | false ↦ omega (arith, height_most all ks name) ]
+height_most all (k ∷ ks) name =
+    elim (bytes_eq (get_or all k []) name)
+    as (λ b. cond b (suc (length ks)) (height all ks name) ≤ suc (length ks)) [
+      | true ↦ omega arith
+      | false ↦ omega (arith, height_most all ks name)
+    ]
 
-height_least : (all : List (List ℕ)) (order : List ℕ) (i k : ℕ) (a : List ℕ) → slice_get order i ≡ Some k → get_or all k [] ≡ a → length order - i ≤ height all order a
+height_least : (all : List (List ℕ)) (order : List ℕ) (i k : ℕ) (a : List ℕ) → slice_get order i ≡ Some k
+    → get_or all k [] ≡ a → length order - i ≤ height all order a
 unfolding height
 height_least all [] i k a o e = cc
-height_least all (q ∷ qs) zero k a o e = let same : q ≡ k = cc in let yes : bytes_eq (get_or all q []) a ≡ true = (bytes_eq-Decides (get_or all q []) a).1 (ap (λ n. get_or all n []) same ∙ e) in rw yes (omega arith)
+height_least all (q ∷ qs) zero k a o e =
+    let same : q ≡ k = cc in
+    let yes : bytes_eq (get_or all q []) a ≡ true =
+    (bytes_eq-Decides (get_or all q []) a).1 (ap (λ n. get_or all n []) same ∙ e) in
+    rw yes (omega arith)
 height_least all (q ∷ qs) (suc i) k a o e =
-    elim (bytes_eq (get_or all q []) a) as (λ b. suc (length qs) - suc i ≤ cond b (suc (length qs)) (height all qs a)) [ true ↦ omega arith | false ↦ omega (arith, height_least all qs i k a o e) ]
+    elim (bytes_eq (get_or all q []) a)
+    as (λ b. suc (length qs) - suc i ≤ cond b (suc (length qs)) (height all qs a)) [
+      | true ↦ omega arith
+      | false ↦ omega (arith, height_least all qs i k a o e)
+    ]
 
 -- the first cell of that name in the order, if there is one
-height_from : (all : List (List ℕ)) (order : List ℕ) (b : List ℕ) → 0 < height all order b → (j : ℕ) × (l : ℕ) × (slice_get order j ≡ Some l) × (get_or all l [] ≡ b) × (height all order b + j ≡ length order)
+height_from : (all : List (List ℕ)) (order : List ℕ) (b : List ℕ) → 0 < height all order b
+    → (j : ℕ) × (l : ℕ) × (slice_get order j ≡ Some l) × (get_or all l [] ≡ b) × (height all order b + j ≡ length order)
 unfolding height
 height_from all [] b h = absurd (omega arith)
 height_from all (q ∷ qs) b h =
-    elim (bytes_eq (get_or all q []) b) as (λ t. bytes_eq (get_or all q []) b ≡ t → 0 < cond t (suc (length qs)) (height all qs b) → (j : ℕ) × (l : ℕ) × (slice_get (q ∷ qs) j ≡ Some l) × (get_or all l [] ≡ b) × (cond t (suc (length qs)) (height all qs b) + j ≡ suc (length qs))) [
+    elim (bytes_eq (get_or all q []) b)
+    as (λ t. bytes_eq (get_or all q []) b ≡ t → 0 < cond t (suc (length qs)) (height all qs b)
+    → (j : ℕ) × (l : ℕ) × (slice_get (q ∷ qs) j ≡ Some l) × (get_or all l [] ≡ b)
+    × (cond t (suc (length qs)) (height all qs b) + j ≡ suc (length qs))) [
       | true ↦ λ e g. (zero, q, refl, (bytes_eq-Decides (get_or all q []) b).0 e, omega arith)
       | false ↦ λ e g. let r = height_from all qs b g in (suc r.0, r.1, r.2, r.3, omega (arith, r.4))
     ] refl h
@@ -58,25 +80,36 @@ height_from all (q ∷ qs) b h =
 abbrev IsFromOne : List (List ℕ) → (List ℕ × List ℕ) → Type 0
 IsFromOne all link = Contains all link.0
 
-pairs_from : (all : List (List ℕ)) (from : List ℕ) (refs : List PlainReference) → Contains all from → All (IsFromOne all) (map {B = List ℕ × List ℕ} (λ r. (from, r.cell)) refs)
+pairs_from : (all : List (List ℕ)) (from : List ℕ) (refs : List PlainReference) → Contains all from
+    → All (IsFromOne all) (map {B = List ℕ × List ℕ} (λ r. (from, r.cell)) refs)
 pairs_from all from [] h = All-nil (IsFromOne all)
-pairs_from all from (r ∷ rs) h = All-cons (IsFromOne all) (from, r.cell) (map {B = List ℕ × List ℕ} (λ (q : PlainReference). (from, q.cell)) rs) h (pairs_from all from rs h)
+pairs_from all from (r ∷ rs) h =
+    All-cons (IsFromOne all) (from, r.cell) (map {B = List ℕ × List ℕ} (λ (q : PlainReference). (from, q.cell)) rs) h
+    (pairs_from all from rs h)
 
-all_from : (all : List (List ℕ)) (cs : List (PlainCell Rings)) → All (λ c. Contains all c.name) cs → All (IsFromOne all) (links cs)
+all_from : (all : List (List ℕ)) (cs : List (PlainCell Rings)) → All (λ c. Contains all c.name) cs
+    → All (IsFromOne all) (links cs)
 all_from all [] h = All-nil (IsFromOne all)
 all_from all (c ∷ cs) h =
     let there : PlainCell Rings → Type 0 = λ q. Contains all q.name in
-    All-append (IsFromOne all) (map {B = List ℕ × List ℕ} (λ (r : PlainReference). (c.name, r.cell)) c.references) (links cs) (pairs_from all c.name c.references (All-head there c cs h)) (all_from all cs (All-tail there c cs h))
+    All-append (IsFromOne all) (map {B = List ℕ × List ℕ} (λ (r : PlainReference). (c.name, r.cell)) c.references)
+    (links cs) (pairs_from all c.name c.references (All-head there c cs h))
+    (all_from all cs (All-tail there c cs h))
 
 named_themselves : (cells : List (PlainCell Rings)) → All (λ c. Contains (names cells) c.name) cells
 named_themselves cells =
     let name_of : PlainCell Rings → List ℕ = λ x. x.name in
-    λ k d h. contains_at (names cells) k (get_or cells k d).name (slice_get-map name_of cells k ∙ ap (option_map name_of) (slice_get-get_or cells k d h))
+    λ k d h. contains_at (names cells) k (get_or cells k d).name
+    (slice_get-map name_of cells k ∙ ap (option_map name_of) (slice_get-get_or cells k d h))
 
-from_is_name : (cells : List (PlainCell Rings)) (a b : List ℕ) → Contains (links cells) (a, b) → Contains (names cells) a
-from_is_name cells a b h = All-contains (IsFromOne (names cells)) (links cells) (a, b) (all_from (names cells) cells (named_themselves cells)) h
+from_is_name : (cells : List (PlainCell Rings)) (a b : List ℕ) → Contains (links cells) (a, b)
+    → Contains (names cells) a
+from_is_name cells a b h =
+    All-contains (IsFromOne (names cells)) (links cells) (a, b) (all_from (names cells) cells (named_themselves cells))
+    h
 
-pub falls_by : (cells : List (PlainCell Rings)) (order : List ℕ) → AreLinked cells → IsOrder cells order → (a b : List ℕ) → Contains (links cells) (a, b) → height (names cells) order b < height (names cells) order a
+pub falls_by : (cells : List (PlainCell Rings)) (order : List ℕ) → AreLinked cells → IsOrder cells order
+    → (a b : List ℕ) → Contains (links cells) (a, b) → height (names cells) order b < height (names cells) order a
 falls_by cells order l o a b h =
     let all : List (List ℕ) = names cells in
     let from = from_is_name cells a b h in
@@ -89,22 +122,29 @@ falls_by cells order l o a b h =
     ⊎_elim (λ low. omega (arith, low, high, place.1))
     (λ some.
     let first = height_from all order b some in
-    let l_in : first.1 < length cells = subst (λ n. n < length cells) (get_or_from_slice_get order first.0 first.1 first.1 first.2) (o.within first.0 first.1 (slice_get_within order first.0 first.1 first.2)) in
-    let b_at : slice_get all first.1 ≡ Some b = slice_get-get_or all first.1 [] (omega (arith, l_in, length-map cells name_of)) ∙ ap Some first.3 in
+    let l_in : first.1 < length cells =
+    subst (λ n. n < length cells) (get_or_from_slice_get order first.0 first.1 first.1 first.2)
+    (o.within first.0 first.1 (slice_get_within order first.0 first.1 first.2)) in
+    let b_at : slice_get all first.1 ≡ Some b =
+    slice_get-get_or all first.1 [] (omega (arith, l_in, length-map cells name_of)) ∙ ap Some first.3 in
     let before = o.falls place.0 first.0 from.0 first.1 a b at first.2 a_at b_at h in
-    omega (arith, before, high, first.4, slice_get_within order first.0 first.1 first.2)) (zero_or_more (height all order b))
+    omega (arith, before, high, first.4, slice_get_within order first.0 first.1 first.2))
+    (zero_or_more (height all order b))
 
-pub ranked_by : (cells : List (PlainCell Rings)) (order : List ℕ) → AreLinked cells → IsOrder cells order → IsRanked cells
+pub ranked_by : (cells : List (PlainCell Rings)) (order : List ℕ) → AreLinked cells → IsOrder cells order
+    → IsRanked cells
 ranked_by cells order l o =
     let all : List (List ℕ) = names cells in (
       height all order,
       λ k d h.
           let link : List ℕ × List ℕ = get_or (links cells) k d in
-          let there : Contains (links cells) (link.0, link.1) = contains_at (links cells) k link (slice_get-get_or (links cells) k d h) in
+          let there : Contains (links cells) (link.0, link.1) =
+          contains_at (links cells) k link (slice_get-get_or (links cells) k d h) in
           falls_by cells order l o link.0 link.1 there,
     )
 
-pub cycle_fault : (cells : List (PlainCell Rings)) (given : Option (List ℕ)) (f : CellFault) → AreLinked cells → IsCycleFault cells f → IsFaultOf cells given f
+pub cycle_fault : (cells : List (PlainCell Rings)) (given : Option (List ℕ)) (f : CellFault) → AreLinked cells
+    → IsCycleFault cells f → IsFaultOf cells given f
 cycle_fault cells given (Cycle round) l h = (l, h)
 cycle_fault cells given NoCell l h = absurd h
 cycle_fault cells given (DuplicateCell name) l h = absurd h
@@ -114,8 +154,10 @@ cycle_fault cells given ManyTops l h = absurd h
 cycle_fault cells given TooManyPlacements l h = absurd h
 cycle_fault cells given TooManyRings l h = absurd h
 
-pub top_fault : (cells : List (PlainCell Rings)) (given : Option (List ℕ)) (f : CellFault) → 0 < length cells → AreLinked cells → IsRanked cells → IsTopFault cells given f → IsFaultOf cells given f
-top_fault cells given TopMissing n l r h = (l, r, (λ e. let none : length cells ≡ 0 = ap length e in absurd (omega (arith, n))), h)
+pub top_fault : (cells : List (PlainCell Rings)) (given : Option (List ℕ)) (f : CellFault) → 0 < length cells
+    → AreLinked cells → IsRanked cells → IsTopFault cells given f → IsFaultOf cells given f
+top_fault cells given TopMissing n l r h =
+    (l, r, (λ e. let none : length cells ≡ 0 = ap length e in absurd (omega (arith, n))), h)
 top_fault cells given ManyTops n l r h = (l, r, h.0, h.1)
 top_fault cells given NoCell n l r h = absurd h
 top_fault cells given (DuplicateCell name) n l r h = absurd h
@@ -125,26 +167,54 @@ top_fault cells given TooManyPlacements n l r h = absurd h
 top_fault cells given TooManyRings n l r h = absurd h
 
 -- a sum that stops one past the limit is past it, or whole
-pub sum_at : (cells : List (PlainCell Rings)) (k : ℕ) (c : PlainCell Rings) (w : PlainCell Rings → ℕ) (sum : ℕ) → slice_get cells k ≡ Some c → IfSome (slice_get cells k) (λ d. sum ≡ min (most_placed + 1) (over_chains w cells (length cells) d)) → sum ≡ min (most_placed + 1) (over_chains w cells (length cells) c)
+pub sum_at : (cells : List (PlainCell Rings)) (k : ℕ) (c : PlainCell Rings) (w : PlainCell Rings → ℕ) (sum : ℕ)
+    → slice_get cells k ≡ Some c
+    → IfSome (slice_get cells k) (λ d. sum ≡ min (most_placed + 1) (over_chains w cells (length cells) d))
+    → sum ≡ min (most_placed + 1) (over_chains w cells (length cells) c)
 sum_at cells k c w sum e h = rw e at h
 
-pub too_many_chains : (cells : List (PlainCell Rings)) (given : Option (List ℕ)) (k : ℕ) (sum : ℕ) → AreLinked cells → IsRanked cells → IsTop cells given k → k < length cells → IfSome (slice_get cells k) (λ d. sum ≡ min (most_placed + 1) (over_chains (λ _. 1) cells (length cells) d)) → most_placed < sum
+pub too_many_chains : (cells : List (PlainCell Rings)) (given : Option (List ℕ)) (k : ℕ) (sum : ℕ) → AreLinked cells
+    → IsRanked cells → IsTop cells given k → k < length cells
+    → IfSome (slice_get cells k) (λ d. sum ≡ min (most_placed + 1) (over_chains (λ _. 1) cells (length cells) d))
+    → most_placed < sum
     → IsFaultOf cells given TooManyPlacements
 too_many_chains cells given k sum l r t h s m =
     let at = item_there cells k h in
     let e = sum_at cells k at.0 (λ _. 1) sum at.1 s in
-    record { index = k; cell = at.0; sound = record { linked = l; ranked = r; is_top = t }; is = at.1; counts = omega (arith, e, m) }
+    record {
+      index = k;
+      cell = at.0;
+      sound = record { linked = l; ranked = r; is_top = t };
+      is = at.1;
+      counts = omega (arith, e, m);
+    }
 
-pub too_many_rings : (cells : List (PlainCell Rings)) (given : Option (List ℕ)) (k : ℕ) (few sum : ℕ) → AreLinked cells → IsRanked cells → IsTop cells given k → k < length cells → IfSome (slice_get cells k) (λ d. few ≡ min (most_placed + 1) (over_chains (λ _. 1) cells (length cells) d)) → few ≤ most_placed
-    → IfSome (slice_get cells k) (λ d. sum ≡ min (most_placed + 1) (over_chains (own_rings each_ring) cells (length cells) d)) → most_placed < sum → IsFaultOf cells given TooManyRings
+pub too_many_rings : (cells : List (PlainCell Rings)) (given : Option (List ℕ)) (k : ℕ) (few sum : ℕ) → AreLinked cells
+    → IsRanked cells → IsTop cells given k → k < length cells
+    → IfSome (slice_get cells k) (λ d. few ≡ min (most_placed + 1) (over_chains (λ _. 1) cells (length cells) d))
+    → few ≤ most_placed
+    → IfSome (slice_get cells k)
+    (λ d. sum ≡ min (most_placed + 1) (over_chains (own_rings each_ring) cells (length cells) d)) → most_placed < sum
+    → IsFaultOf cells given TooManyRings
 too_many_rings cells given k few sum l r t h s m s2 m2 =
     let at = item_there cells k h in
     let e = sum_at cells k at.0 (λ _. 1) few at.1 s in
     let e2 = sum_at cells k at.0 (own_rings each_ring) sum at.1 s2 in
-    record { index = k; cell = at.0; sound = record { linked = l; ranked = r; is_top = t }; is = at.1; counts = (omega (arith, e, m), omega (arith, e2, m2)) }
+    record {
+      index = k;
+      cell = at.0;
+      sound = record { linked = l; ranked = r; is_top = t };
+      is = at.1;
+      counts = (omega (arith, e, m), omega (arith, e2, m2));
+    }
 
-pub settled_by : (cells : List (PlainCell Rings)) (given : Option (List ℕ)) (order : List ℕ) (k : ℕ) (few sum : ℕ) → AreLinked cells → IsOrder cells order → IsTop cells given k → k < length cells → IfSome (slice_get cells k) (λ d. few ≡ min (most_placed + 1) (over_chains (λ _. 1) cells (length cells) d)) → few ≤ most_placed
-    → IfSome (slice_get cells k) (λ d. sum ≡ min (most_placed + 1) (over_chains (own_rings each_ring) cells (length cells) d)) → sum ≤ most_placed → IsSettled given (record { cells = cells; top = k; order = order })
+pub settled_by : (cells : List (PlainCell Rings)) (given : Option (List ℕ)) (order : List ℕ) (k : ℕ) (few sum : ℕ)
+    → AreLinked cells → IsOrder cells order → IsTop cells given k → k < length cells
+    → IfSome (slice_get cells k) (λ d. few ≡ min (most_placed + 1) (over_chains (λ _. 1) cells (length cells) d))
+    → few ≤ most_placed
+    → IfSome (slice_get cells k)
+    (λ d. sum ≡ min (most_placed + 1) (over_chains (own_rings each_ring) cells (length cells) d)) → sum ≤ most_placed
+    → IsSettled given (record { cells = cells; top = k; order = order })
 settled_by cells given order k few sum l o t h s m s2 m2 =
     let at = item_there cells k h in
     let e = sum_at cells k at.0 (λ _. 1) few at.1 s in

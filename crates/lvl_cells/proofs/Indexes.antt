@@ -1,5 +1,7 @@
 -- What one more name does to an index, and what a name that is there twice says.
-use Rattle.std.proofs.Common.{◌≡◌, ℕ, zero, suc, ◌+◌, ◌<◌, Bool, true, false, ◌||◌, cond, List, [], ◌∷◌, ◌++◌, take, drop, length, get_or, ◌⊎◌, inl, inr, ⊎_elim, Option, Some, None, is_some, append_assoc, Contains, refl, sym, ap, ◌∙◌, subst, arith, ◌↔◌}
+use Rattle.std.proofs.Common.{◌≡◌, ℕ, zero, suc, ◌+◌, ◌<◌, Bool, true, false, ◌||◌, cond, List, [], ◌∷◌, ◌++◌, take}
+use Rattle.std.proofs.Common.{drop, length, get_or, ◌⊎◌, inl, inr, ⊎_elim, Option, Some, None, is_some, append_assoc}
+use Rattle.std.proofs.Common.{Contains, refl, sym, ap, ◌∙◌, subst, arith, ◌↔◌}
 use Rattle.std.specs.List.{slice_get, list_any, IsDistinct}
 use Rattle.std.specs.Str.{bytes_eq}
 use Rattle.std.specs.Map.{update, lookup}
@@ -18,7 +20,8 @@ use denote.Ref.{Bor}
 use Rattle.lvl_cells.specs.Resolving.{Finds, place_in_index, IsIndexOf}
 use Rattle.lvl_cells.specs.Faults.{IsFirstRepeat}
 
-pub push_front : {X : Type 0} (xs : List X) (y : X) (k : ℕ) (x : X) → slice_get xs k ≡ Some x → slice_get (xs ++ y ∷ []) k ≡ Some x
+pub push_front : {X : Type 0} (xs : List X) (y : X) (k : ℕ) (x : X) → slice_get xs k ≡ Some x
+    → slice_get (xs ++ y ∷ []) k ≡ Some x
 push_front [] y k x h = cc
 push_front (z ∷ zs) y zero x h = h
 push_front (z ∷ zs) y (suc k) x h = push_front zs y k x h
@@ -27,7 +30,8 @@ pub push_last : {X : Type 0} (xs : List X) (y : X) → slice_get (xs ++ y ∷ []
 push_last [] y = refl
 push_last (z ∷ zs) y = push_last zs y
 
-pub push_cases : {X : Type 0} (xs : List X) (y : X) (k : ℕ) (x : X) → slice_get (xs ++ y ∷ []) k ≡ Some x → (slice_get xs k ≡ Some x) ⊎ ((k ≡ length xs) × (y ≡ x))
+pub push_cases : {X : Type 0} (xs : List X) (y : X) (k : ℕ) (x : X) → slice_get (xs ++ y ∷ []) k ≡ Some x
+    → (slice_get xs k ≡ Some x) ⊎ ((k ≡ length xs) × (y ≡ x))
 push_cases [] y zero x h = inr (refl, cc)
 push_cases [] y (suc k) x h = cc
 push_cases (z ∷ zs) y zero x h = inl h
@@ -41,7 +45,10 @@ same_answer false false f g = refl
 pub bytes_eq_laws : IsEquivalence bytes_eq
 bytes_eq_laws = record {
   refl = λ x. (bytes_eq-Decides x x).1 refl;
-  symm = λ x y. same_answer (bytes_eq x y) (bytes_eq y x) (λ h. (bytes_eq-Decides y x).1 (sym ((bytes_eq-Decides x y).0 h))) (λ h. (bytes_eq-Decides x y).1 (sym ((bytes_eq-Decides y x).0 h)));
+  symm =
+      λ x y.
+      same_answer (bytes_eq x y) (bytes_eq y x) (λ h. (bytes_eq-Decides y x).1 (sym ((bytes_eq-Decides x y).0 h)))
+      (λ h. (bytes_eq-Decides x y).1 (sym ((bytes_eq-Decides y x).0 h)));
   congr = λ x y z h. ap (λ (w : List ℕ). bytes_eq w z) ((bytes_eq-Decides x y).0 h);
 }
 
@@ -53,10 +60,12 @@ absent (x ∷ xs) y h =
       | false ↦ λ e. absent xs y (λ k. h (suc k))
     ] refl
 
-pub distinct_more : (g : List ℕ → Option ℕ) (xs : List (List ℕ)) (y : List ℕ) → Finds g xs → g y ≡ None → IsDistinct bytes_eq xs → IsDistinct bytes_eq (xs ++ y ∷ [])
+pub distinct_more : (g : List ℕ → Option ℕ) (xs : List (List ℕ)) (y : List ℕ) → Finds g xs → g y ≡ None
+    → IsDistinct bytes_eq xs → IsDistinct bytes_eq (xs ++ y ∷ [])
 distinct_more g xs y f n d = IsDistinct-push bytes_eq_laws xs y d (absent xs y (λ k h. let e = (f y k).1 h in cc))
 
-finds_here : (g h : List ℕ → Option ℕ) (xs : List (List ℕ)) (y name : List ℕ) (k : ℕ) (b : Bool) → Finds g xs → g y ≡ None → bytes_eq y name ≡ b → h name ≡ cond b (Some (length xs)) (g name)
+finds_here : (g h : List ℕ → Option ℕ) (xs : List (List ℕ)) (y name : List ℕ) (k : ℕ) (b : Bool) → Finds g xs
+    → g y ≡ None → bytes_eq y name ≡ b → h name ≡ cond b (Some (length xs)) (g name)
     → (h name ≡ Some k) ↔ (slice_get (xs ++ y ∷ []) k ≡ Some name)
 finds_here g h xs y name k true f n e u =
     let same : y ≡ name = (bytes_eq-Decides y name).0 e in (
@@ -65,13 +74,16 @@ finds_here g h xs y name k true f n e u =
     )
 finds_here g h xs y name k false f n e u = (
   λ t. push_front xs y k name ((f name k).0 (sym u ∙ t)),
-  λ t. ⊎_elim (λ a. u ∙ (f name k).1 a) (λ a. let yes : bytes_eq y name ≡ true = (bytes_eq-Decides y name).1 a.1 in cc) (push_cases xs y k name t),
+  λ t. ⊎_elim (λ a. u ∙ (f name k).1 a) (λ a. let yes : bytes_eq y name ≡ true = (bytes_eq-Decides y name).1 a.1 in cc)
+      (push_cases xs y k name t),
 )
 
-pub finds_more : (g h : List ℕ → Option ℕ) (xs : List (List ℕ)) (y : List ℕ) → Finds g xs → g y ≡ None → ((name : List ℕ) → h name ≡ update bytes_eq g y (Some (length xs)) name) → Finds h (xs ++ y ∷ [])
+pub finds_more : (g h : List ℕ → Option ℕ) (xs : List (List ℕ)) (y : List ℕ) → Finds g xs → g y ≡ None
+    → ((name : List ℕ) → h name ≡ update bytes_eq g y (Some (length xs)) name) → Finds h (xs ++ y ∷ [])
 finds_more g h xs y f n u = λ name k. finds_here g h xs y name k (bytes_eq y name) f n refl (u name)
 
-pub names_more : (cells : List (PlainCell Rings)) (i : ℕ) (c : PlainCell Rings) → i < length cells → c ≡ get_or cells i c → take (i + 1) (names cells) ≡ take i (names cells) ++ c.name ∷ []
+pub names_more : (cells : List (PlainCell Rings)) (i : ℕ) (c : PlainCell Rings) → i < length cells
+    → c ≡ get_or cells i c → take (i + 1) (names cells) ≡ take i (names cells) ++ c.name ∷ []
 names_more cells i c h e =
     let name_of : PlainCell Rings → List ℕ = λ x. x.name in
     let at : get_or (names cells) i c.name ≡ c.name = get_or-map name_of cells i c ∙ ap name_of (sym e) in
@@ -85,18 +97,24 @@ pub at_contains : {X : Type 0} (xs : List X) (x : X) → Contains xs x → (k : 
 at_contains xs x h = (h.0, slice_get-get_or xs h.0 x h.1 ∙ ap Some h.2)
 
 -- the name at i stands earlier too
-pub repeat_at : (cells : List (PlainCell Rings)) (i k : ℕ) (c : PlainCell Rings) → i < length cells → c ≡ get_or cells i c → IsDistinct bytes_eq (take i (names cells)) → slice_get (take i (names cells)) k ≡ Some c.name → IsFirstRepeat (names cells) c.name
+pub repeat_at : (cells : List (PlainCell Rings)) (i k : ℕ) (c : PlainCell Rings) → i < length cells
+    → c ≡ get_or cells i c → IsDistinct bytes_eq (take i (names cells))
+    → slice_get (take i (names cells)) k ≡ Some c.name → IsFirstRepeat (names cells) c.name
 repeat_at cells i k c h e d s = record {
   before = take i (names cells);
   after = drop (i + 1) (names cells);
   there =
       let rest : List (List ℕ) = drop (i + 1) (names cells) in
-      sym (take-append-drop (i + 1) (names cells)) ∙ (ap (λ (t : List (List ℕ)). t ++ rest) (names_more cells i c h e) ∙ append_assoc (take i (names cells)) (c.name ∷ []) rest);
+      sym (take-append-drop (i + 1) (names cells))
+      ∙ (ap (λ (t : List (List ℕ)). t ++ rest) (names_more cells i c h e)
+      ∙ append_assoc (take i (names cells)) (c.name ∷ []) rest);
   distinct = d;
   repeated = contains_at (take i (names cells)) k c.name s;
 }
 
-pub repeat_by : (cells : List (PlainCell Rings)) (i : ℕ) (c : PlainCell Rings) (g : List ℕ → Option ℕ) (o : Option ℕ) → i < length cells → c ≡ get_or cells i c → IsDistinct bytes_eq (take i (names cells)) → Finds g (take i (names cells)) → is_some o ≡ true → o ≡ g c.name → IsFirstRepeat (names cells) c.name
+pub repeat_by : (cells : List (PlainCell Rings)) (i : ℕ) (c : PlainCell Rings) (g : List ℕ → Option ℕ) (o : Option ℕ)
+    → i < length cells → c ≡ get_or cells i c → IsDistinct bytes_eq (take i (names cells))
+    → Finds g (take i (names cells)) → is_some o ≡ true → o ≡ g c.name → IsFirstRepeat (names cells) c.name
 repeat_by cells i c g None h e d f t u = absurd (false≢true t)
 repeat_by cells i c g (Some k) h e d f t u = repeat_at cells i k c h e d ((f c.name k).0 (sym u))
 
@@ -108,7 +126,9 @@ pub index_none : (m : BTreeMap (Bor (List ℕ)) ℕ) → IsEmpty m → IsDistinc
 index_none m h = (
   distinct_none,
   λ name k. (
-    λ e. let n : place_in_index m name ≡ None = ap (lookup (is_at (λ (q : Bor (List ℕ)). slice_cmp nat_cmp name q.now))) h in cc,
+    λ e. let n : place_in_index m name ≡ None =
+        ap (lookup (is_at (λ (q : Bor (List ℕ)). slice_cmp nat_cmp name q.now))) h in
+        cc,
     λ e. cc,
   ),
 )
@@ -118,8 +138,10 @@ none_where None h = refl
 none_where (Some x) h = absurd (false≢true (sym h))
 
 -- one more name, which the index does not have yet
-pub index_step : (cells : List (PlainCell Rings)) (i : ℕ) (c : PlainCell Rings) (m n : BTreeMap (Bor (List ℕ)) ℕ) (o : Option ℕ) → i < length cells → c ≡ get_or cells i c
-    → IsDistinct bytes_eq (take i (names cells)) × IsIndexOf (take i (names cells)) m → is_some o ≡ false → o ≡ place_in_index m c.name
+pub index_step : (cells : List (PlainCell Rings)) (i : ℕ) (c : PlainCell Rings) (m n : BTreeMap (Bor (List ℕ)) ℕ)
+    (o : Option ℕ) → i < length cells → c ≡ get_or cells i c
+    → IsDistinct bytes_eq (take i (names cells)) × IsIndexOf (take i (names cells)) m → is_some o ≡ false
+    → o ≡ place_in_index m c.name
     → ((name : List ℕ) → place_in_index n name ≡ update bytes_eq (place_in_index m) c.name (Some i) name)
     → IsDistinct bytes_eq (take (i + 1) (names cells)) × IsIndexOf (take (i + 1) (names cells)) n
 index_step cells i c m n o h e inv t u up =
@@ -128,7 +150,10 @@ index_step cells i c m n o h e inv t u up =
     let long : length xs ≡ i = length-take-le i (names cells) (omega (arith, length-map cells name_of)) in
     let free : place_in_index m c.name ≡ None = sym u ∙ none_where o t in
     let more : take (i + 1) (names cells) ≡ xs ++ c.name ∷ [] = names_more cells i c h e in
-    let raised : (name : List ℕ) → place_in_index n name ≡ update bytes_eq (place_in_index m) c.name (Some (length xs)) name = rw long up in (
+    let raised : (name : List ℕ)
+    → place_in_index n name ≡ update bytes_eq (place_in_index m) c.name (Some (length xs)) name =
+    rw long up in (
       subst (IsDistinct bytes_eq) (sym more) (distinct_more (place_in_index m) xs c.name inv.1 free inv.0),
-      subst (λ (l : List (List ℕ)). IsIndexOf l n) (sym more) (finds_more (place_in_index m) (place_in_index n) xs c.name inv.1 free raised),
+      subst (λ (l : List (List ℕ)). IsIndexOf l n) (sym more)
+          (finds_more (place_in_index m) (place_in_index n) xs c.name inv.1 free raised),
     )

@@ -14,7 +14,9 @@ before_itself a (inl h) = omega arith
 before_itself a (inr h) = omega (arith, h.1)
 
 pub layers_equal : (a b : Layer) → a.layer ≡ b.layer → a.datatype ≡ b.datatype → a ≡ b
-layers_equal a b e f = let of : (x y : ℕ) → Layer = λ x y. record { layer = x; datatype = y } in ap (λ x. of x a.datatype) e ∙ ap (of b.layer) f
+layers_equal a b e f =
+    let of : (x y : ℕ) → Layer = λ x y. record { layer = x; datatype = y } in
+    ap (λ x. of x a.datatype) e ∙ ap (of b.layer) f
 
 -- what the two tests of a Layer say
 pub tested_layer : (a b : Layer) → not (a.layer == b.layer && (a.datatype == b.datatype)) ≡ false → a ≡ b

@@ -7,29 +7,47 @@ use Rattle.std.specs.declared.vec.Vec.{Vec}
 use Rattle.std.proofs.lemmas.Option.{slice_get_within}
 use Rattle.lvl_cells.specs.Cells.{PlainCell, PlainReference, Rings, names, cell_named}
 use Rattle.lvl_cells.specs.Checks.{IsTargetOf, HasReference}
-use Rattle.lvl_cells.specs.Steps.{AreAllTargets}
+use Rattle.lvl_cells.specs.inside.Steps.{AreAllTargets}
 use Rattle.lvl_cells.proofs.Arcs.{cell_at, row_of, reference_in_row}
 use Rattle.lvl_cells.proofs.Orders.{rows_long}
 use Rattle.lvl_cells.proofs.Sequences.{one_answer, item_there}
 use Rattle.lvl_cells.proofs.Summing.{named_at, row_fits}
 
-target_is : (cells : List (PlainCell Rings)) (targets : List (Vec ℕ Global)) (i j k : ℕ) (ts : Vec ℕ Global) → IsDistinct bytes_eq (names cells) → AreAllTargets cells targets → slice_get targets i ≡ Some ts → slice_get ts.items j ≡ Some k → IsTargetOf cells i j k
+target_is : (cells : List (PlainCell Rings)) (targets : List (Vec ℕ Global)) (i j k : ℕ) (ts : Vec ℕ Global)
+    → IsDistinct bytes_eq (names cells) → AreAllTargets cells targets → slice_get targets i ≡ Some ts
+    → slice_get ts.items j ≡ Some k → IsTargetOf cells i j k
 target_is cells targets i j k ts d t hi hj =
     let c = item_there cells i (omega (arith, slice_get_within targets i ts hi, rows_long cells targets t)) in
     let row = row_of cells targets i c.0 t c.1 in
     let same : row.0 ≡ ts = one_answer row.1 hi in
-    let here : map (slice_get (names cells)) ts.items ≡ map (λ (r : PlainReference). Some r.cell) c.0.references = subst (λ (u : Vec ℕ Global). map (slice_get (names cells)) u.items ≡ map (λ (r : PlainReference). Some r.cell) c.0.references) same row.2 in
+    let here : map (slice_get (names cells)) ts.items ≡ map (λ (r : PlainReference). Some r.cell) c.0.references =
+    subst
+    (λ (u : Vec ℕ Global).
+    map (slice_get (names cells)) u.items ≡ map (λ (r : PlainReference). Some r.cell) c.0.references) same
+    row.2 in
     let from = reference_in_row (names cells) ts.items c.0.references j k here hj in
     let to = cell_at cells k from.0.cell from.2 in
-    record { cell = c.0; reference = from.0; target = to.0; cell_is = c.1; reference_is = from.1; target_is = to.1; named = subst (λ (n : List ℕ). cell_named cells n ≡ Some to.0) to.2 (named_at cells k to.0 d to.1) }
+    record {
+      cell = c.0;
+      reference = from.0;
+      target = to.0;
+      cell_is = c.1;
+      reference_is = from.1;
+      target_is = to.1;
+      named = subst (λ (n : List ℕ). cell_named cells n ≡ Some to.0) to.2 (named_at cells k to.0 d to.1);
+    }
 
 -- what is found in the row is the target
-pub target_found : (cells : List (PlainCell Rings)) (targets : List (Vec ℕ Global)) (i j : ℕ) (ts : Vec ℕ Global) (o : Option ℕ) → IsDistinct bytes_eq (names cells) → AreAllTargets cells targets → slice_get targets i ≡ Some ts → o ≡ slice_get ts.items j → IfSome o (IsTargetOf cells i j)
+pub target_found : (cells : List (PlainCell Rings)) (targets : List (Vec ℕ Global)) (i j : ℕ) (ts : Vec ℕ Global)
+    (o : Option ℕ) → IsDistinct bytes_eq (names cells) → AreAllTargets cells targets → slice_get targets i ≡ Some ts
+    → o ≡ slice_get ts.items j → IfSome o (IsTargetOf cells i j)
 target_found cells targets i j ts None d t hi e = tt
 target_found cells targets i j ts (Some k) d t hi e = target_is cells targets i j k ts d t hi (sym e)
 
 -- past the row there is no reference
-pub target_past : (cells : List (PlainCell Rings)) (targets : List (Vec ℕ Global)) (i j : ℕ) (ts : Vec ℕ Global) (o : Option ℕ) → AreAllTargets cells targets → slice_get targets i ≡ Some ts → o ≡ slice_get ts.items j → IfNone o (¬ HasReference cells i j)
+pub target_past : (cells : List (PlainCell Rings)) (targets : List (Vec ℕ Global)) (i j : ℕ) (ts : Vec ℕ Global)
+    (o : Option ℕ) → AreAllTargets cells targets → slice_get targets i ≡ Some ts → o ≡ slice_get ts.items j
+    → IfNone o (¬ HasReference cells i j)
 target_past cells targets i j ts (Some k) t hi e = tt
 target_past cells targets i j ts None t hi e =
     λ w.

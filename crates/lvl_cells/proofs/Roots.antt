@@ -1,5 +1,7 @@
 -- Which cells none refers to.
-use Rattle.std.proofs.Common.{◌≡◌, ℕ, zero, suc, ◌+◌, ◌<◌, ◌≤◌, Bool, true, false, List, [], ◌∷◌, ◌++◌, map, take, drop, length, set, ◌⊎◌, inl, inr, ⊎_elim, ◌↔◌, Some, None, Contains, refl, sym, ap, ◌∙◌, subst, arith}
+use Rattle.std.proofs.Common.{◌≡◌, ℕ, zero, suc, ◌+◌, ◌<◌, ◌≤◌, Bool, true, false, List, [], ◌∷◌, ◌++◌, map, take, drop}
+use Rattle.std.proofs.Common.{length, set, ◌⊎◌, inl, inr, ⊎_elim, ◌↔◌, Some, None, Contains, refl, sym, ap, ◌∙◌, subst}
+use Rattle.std.proofs.Common.{arith}
 use Rattle.std.specs.List.{slice_get}
 use Rattle.std.specs.Option.{option_map}
 use Rattle.std.specs.declared.alloc.Global.{Global}
@@ -11,9 +13,9 @@ use Rattle.std.proofs.lemmas.Option.{slice_get-map, slice_get_within}
 use Rattle.lvl_cells.specs.Cells.{PlainCell, Rings, names}
 use Rattle.lvl_cells.specs.Soundness.{links, AreLinked, IsReferred, IsOrder, IsTop}
 use Rattle.lvl_cells.specs.Faults.{HasTwoTops}
-use Rattle.lvl_cells.specs.Steps.{AreAllTargets}
-use Rattle.lvl_cells.specs.Walking.{IsArc}
-use Rattle.lvl_cells.specs.Topping.{IsTarget, HasOtherRoot}
+use Rattle.lvl_cells.specs.inside.Steps.{AreAllTargets}
+use Rattle.lvl_cells.specs.inside.Walking.{IsArc}
+use Rattle.lvl_cells.specs.inside.Topping.{IsTarget, HasOtherRoot}
 use Rattle.lvl_cells.proofs.Indexes.{contains_at, at_contains}
 use Rattle.lvl_cells.proofs.Arcs.{order_of_two, link_of, arc_from_link, link_from_arc}
 use Rattle.lvl_cells.proofs.Orders.{rows_long, names_long}
@@ -22,20 +24,29 @@ use Rattle.lvl_cells.proofs.Walks.{set_there, set_elsewhere, same_or_not}
 
 -- the places before i are marked, beside those that were
 abbrev pub AreMarked : List Bool → List Bool → List ℕ → ℕ → Type 0
-AreMarked old new places i = (k : ℕ) → (slice_get new k ≡ Some true) ↔ ((slice_get old k ≡ Some true) ⊎ ((q : ℕ) × (q < i) × (slice_get places q ≡ Some k)))
+AreMarked old new places i =
+    (k : ℕ)
+    → (slice_get new k ≡ Some true)
+    ↔ ((slice_get old k ≡ Some true) ⊎ ((q : ℕ) × (q < i) × (slice_get places q ≡ Some k)))
 
-pub mark_more : (old new : List Bool) (places : List ℕ) (i p : ℕ) → slice_get places i ≡ Some p → p < length new → AreMarked old new places i → AreMarked old (set new p true) places (i + 1)
+pub mark_more : (old new : List Bool) (places : List ℕ) (i p : ℕ) → slice_get places i ≡ Some p → p < length new
+    → AreMarked old new places i → AreMarked old (set new p true) places (i + 1)
 mark_more old new places i p at low inv k =
     ⊎_elim (λ e. (
       λ h. inr (i, omega arith, at ∙ ap Some (sym e)),
-      λ h. subst (λ n. slice_get (set new p true) n ≡ Some true) (sym e) (let x = item_there new p low in set_there new p x.0 true x.1),
+      λ h. subst (λ n. slice_get (set new p true) n ≡ Some true) (sym e)
+          (let x = item_there new p low in set_there new p x.0 true x.1),
     ))
     (λ n. (
-      λ h. ⊎_elim (λ w. inl w) (λ w. inr (w.0, omega (arith, w.1), w.2)) ((inv k).0 (sym (set_elsewhere new p k true n) ∙ h)),
+      λ h. ⊎_elim (λ w. inl w) (λ w. inr (w.0, omega (arith, w.1), w.2))
+          ((inv k).0 (sym (set_elsewhere new p k true n) ∙ h)),
       λ h.
           set_elsewhere new p k true n
           ∙ (inv k).1 (⊎_elim (λ w. inl w)
-          (λ w. ⊎_elim (λ e. absurd (n (let same : Some k ≡ Some p = sym w.2 ∙ subst (λ q. slice_get places q ≡ Some p) (sym e) at in cc)))
+          (λ w. ⊎_elim
+          (λ e. absurd
+          (n (let same : Some k ≡ Some p = sym w.2 ∙ subst (λ q. slice_get places q ≡ Some p) (sym e) at in
+          cc)))
           (λ m. inr (w.0, omega (arith, w.1, m), w.2)) (same_or_not w.0 i)) h),
     )) (same_or_not k p)
 
@@ -46,18 +57,25 @@ drop_past (x ∷ xs) zero h = absurd (omega arith)
 drop_past (x ∷ xs) (suc n) h = drop_past xs n (omega arith)
 
 -- a slice of a whole list, written back
-pub written_whole : (old new : List Bool) (n : ℕ) → length new ≡ length old → n ≡ length old → take n (new ++ drop (length new) old) ≡ new
+pub written_whole : (old new : List Bool) (n : ℕ) → length new ≡ length old → n ≡ length old
+    → take n (new ++ drop (length new) old) ≡ new
 written_whole old new n h e =
     let none : drop (length new) old ≡ [] = drop_past old (length new) (omega (arith, h)) in
-    ap (λ (t : List Bool). take n (new ++ t)) none ∙ (ap (take n) (append-nil new) ∙ take_past new n (omega (arith, h, e)))
+    ap (λ (t : List Bool). take n (new ++ t)) none
+    ∙ (ap (take n) (append-nil new) ∙ take_past new n (omega (arith, h, e)))
 
 -- the targets of the first i cells are marked
 abbrev pub AreMarkedBefore : List Bool → List (Vec ℕ Global) → ℕ → Type 0
-AreMarkedBefore marks targets i = (k : ℕ) → (slice_get marks k ≡ Some true) ↔ ((a : ℕ) × (j : ℕ) × (a < i) × IsArc targets a j k)
+AreMarkedBefore marks targets i =
+    (k : ℕ) → (slice_get marks k ≡ Some true) ↔ ((a : ℕ) × (j : ℕ) × (a < i) × IsArc targets a j k)
 
-pub referred_more : (old new : List Bool) (targets : List (Vec ℕ Global)) (i : ℕ) (ts : Vec ℕ Global) → slice_get targets i ≡ Some ts → AreMarkedBefore old targets i → ((k : ℕ) → (slice_get new k ≡ Some true) ↔ ((slice_get old k ≡ Some true) ⊎ Contains ts.items k)) → AreMarkedBefore new targets (i + 1)
+pub referred_more : (old new : List Bool) (targets : List (Vec ℕ Global)) (i : ℕ) (ts : Vec ℕ Global)
+    → slice_get targets i ≡ Some ts → AreMarkedBefore old targets i
+    → ((k : ℕ) → (slice_get new k ≡ Some true) ↔ ((slice_get old k ≡ Some true) ⊎ Contains ts.items k))
+    → AreMarkedBefore new targets (i + 1)
 referred_more old new targets i ts at inv more k = (
-  λ h. ⊎_elim (λ w. let a = (inv k).0 w in (a.0, a.1, omega (arith, a.2), a.3)) (λ w. let b = at_contains ts.items k w in (i, b.0, omega arith, (ts, at, b.1))) ((more k).0 h),
+  λ h. ⊎_elim (λ w. let a = (inv k).0 w in (a.0, a.1, omega (arith, a.2), a.3))
+      (λ w. let b = at_contains ts.items k w in (i, b.0, omega arith, (ts, at, b.1))) ((more k).0 h),
   λ w.
       (more k).1 (⊎_elim
       (λ e.
@@ -68,40 +86,54 @@ referred_more old new targets i ts at inv more k = (
 )
 
 -- a cell is a target exactly where its name is referred to
-pub referred_from_target : (cells : List (PlainCell Rings)) (targets : List (Vec ℕ Global)) (k : ℕ) (name : List ℕ) → AreAllTargets cells targets → slice_get (names cells) k ≡ Some name → IsTarget targets k → IsReferred cells name
+pub referred_from_target : (cells : List (PlainCell Rings)) (targets : List (Vec ℕ Global)) (k : ℕ) (name : List ℕ)
+    → AreAllTargets cells targets → slice_get (names cells) k ≡ Some name → IsTarget targets k → IsReferred cells name
 referred_from_target cells targets k name t at w =
-    let low : w.0 < length (names cells) = omega (arith, slice_get_within targets w.0 w.2.0 w.2.1, rows_long cells targets t, names_long cells) in
+    let low : w.0 < length (names cells) =
+    omega (arith, slice_get_within targets w.0 w.2.0 w.2.1, rows_long cells targets t, names_long cells) in
     let from = item_there (names cells) w.0 low in
-    let link = at_contains (links cells) (from.0, name) (link_from_arc cells targets w.0 w.1 k from.0 name t from.1 at w.2) in
+    let link =
+    at_contains (links cells) (from.0, name) (link_from_arc cells targets w.0 w.1 k from.0 name t from.1 at w.2) in
     let to : (List ℕ × List ℕ) → List ℕ = λ p. p.1 in
     contains_at (map to (links cells)) link.0 name (slice_get-map to (links cells) link.0 ∙ ap (option_map to) link.1)
 
-link_to : (all : List (List ℕ × List ℕ)) (name : List ℕ) → Contains (map (λ p. p.1) all) name → (from : List ℕ) × Contains all (from, name)
+link_to : (all : List (List ℕ × List ℕ)) (name : List ℕ) → Contains (map (λ p. p.1) all) name
+    → (from : List ℕ) × Contains all (from, name)
 link_to all name h =
     let to : (List ℕ × List ℕ) → List ℕ = λ p. p.1 in
     let at = at_contains (map to all) name h in
     let read : option_map to (slice_get all at.0) ≡ Some name = sym (slice_get-map to all at.0) ∙ at.1 in
-    elim (slice_get all at.0) as (λ o. slice_get all at.0 ≡ o → option_map to o ≡ Some name → (from : List ℕ) × Contains all (from, name)) [
+    elim (slice_get all at.0)
+    as (λ o. slice_get all at.0 ≡ o → option_map to o ≡ Some name → (from : List ℕ) × Contains all (from, name)) [
       | None ↦ λ e g. cc
-      | Some p ↦ λ e g. let same : p.1 ≡ name = cc in (p.0, subst (λ (n : List ℕ). Contains all (p.0, n)) same (contains_at all at.0 p e))
+      | Some p ↦
+          λ e g. let same : p.1 ≡ name = cc in
+          (p.0, subst (λ (n : List ℕ). Contains all (p.0, n)) same (contains_at all at.0 p e))
     ] refl read
 
-pub target_from_referred : (cells : List (PlainCell Rings)) (targets : List (Vec ℕ Global)) (k : ℕ) (name : List ℕ) → AreLinked cells → AreAllTargets cells targets → slice_get (names cells) k ≡ Some name → IsReferred cells name → IsTarget targets k
+pub target_from_referred : (cells : List (PlainCell Rings)) (targets : List (Vec ℕ Global)) (k : ℕ) (name : List ℕ)
+    → AreLinked cells → AreAllTargets cells targets → slice_get (names cells) k ≡ Some name → IsReferred cells name
+    → IsTarget targets k
 target_from_referred cells targets k name l t at h =
     let name_of : PlainCell Rings → List ℕ = λ c. c.name in
     let link = link_to (links cells) name h in
     let w = link_of cells link.0 name link.1 in
-    let named : slice_get (names cells) w.place ≡ Some link.0 = slice_get-map name_of cells w.place ∙ (ap (option_map name_of) w.cell_is ∙ ap Some w.name_is) in
+    let named : slice_get (names cells) w.place ≡ Some link.0 =
+    slice_get-map name_of cells w.place ∙ (ap (option_map name_of) w.cell_is ∙ ap Some w.name_is) in
     let arc = arc_from_link cells targets w.place k link.0 name l.distinct t named at link.1 in
     (w.place, arc.0, arc.1)
 
-pub root_within : (cells : List (PlainCell Rings)) (order : List ℕ) (root : ℕ) → IsOrder cells order → slice_get order 0 ≡ Some root → root < length cells
-root_within cells order root o first = All-contains (λ k. k < length cells) order root o.within (contains_at order 0 root first)
+pub root_within : (cells : List (PlainCell Rings)) (order : List ℕ) (root : ℕ) → IsOrder cells order
+    → slice_get order 0 ≡ Some root → root < length cells
+root_within cells order root o first =
+    All-contains (λ k. k < length cells) order root o.within (contains_at order 0 root first)
 
 -- none refers to the first cell of an order
-pub first_is_free : (cells : List (PlainCell Rings)) (targets : List (Vec ℕ Global)) (order : List ℕ) (root : ℕ) → AreAllTargets cells targets → IsOrder cells order → slice_get order 0 ≡ Some root → IsTarget targets root → ⊥
+pub first_is_free : (cells : List (PlainCell Rings)) (targets : List (Vec ℕ Global)) (order : List ℕ) (root : ℕ)
+    → AreAllTargets cells targets → IsOrder cells order → slice_get order 0 ≡ Some root → IsTarget targets root → ⊥
 first_is_free cells targets order root t o first w =
-    let a_low : w.0 < length cells = omega (arith, slice_get_within targets w.0 w.2.0 w.2.1, rows_long cells targets t) in
+    let a_low : w.0 < length cells =
+    omega (arith, slice_get_within targets w.0 w.2.0 w.2.1, rows_long cells targets t) in
     let root_low : root < length cells = root_within cells order root o first in
     let a = item_there (names cells) w.0 (omega (arith, a_low, names_long cells)) in
     let b = item_there (names cells) root (omega (arith, root_low, names_long cells)) in
@@ -110,7 +142,9 @@ first_is_free cells targets order root t o first w =
     absurd (omega (arith, o.falls place.0 0 w.0 root a.0 b.0 place.1 first a.1 b.1 link))
 
 -- the root, where no other cell is free, is the top
-pub top_by : (cells : List (PlainCell Rings)) (targets : List (Vec ℕ Global)) (order : List ℕ) (root : ℕ) → AreLinked cells → AreAllTargets cells targets → IsOrder cells order → slice_get order 0 ≡ Some root → (HasOtherRoot targets root → ⊥) → IsTop cells None root
+pub top_by : (cells : List (PlainCell Rings)) (targets : List (Vec ℕ Global)) (order : List ℕ) (root : ℕ)
+    → AreLinked cells → AreAllTargets cells targets → IsOrder cells order → slice_get order 0 ≡ Some root
+    → (HasOtherRoot targets root → ⊥) → IsTop cells None root
 top_by cells targets order root l t o first alone = (
   root_within cells order root o first,
   λ j name at. (
@@ -123,16 +157,20 @@ top_by cells targets order root l t o first alone = (
           apart = n;
           free = λ w. free (referred_from_target cells targets j name t at w);
         }))) (same_or_not j root),
-    λ e h. first_is_free cells targets order root t o first (subst (IsTarget targets) e (target_from_referred cells targets j name l t at h)),
+    λ e h. first_is_free cells targets order root t o first
+        (subst (IsTarget targets) e (target_from_referred cells targets j name l t at h)),
   ),
 )
 
 -- two cells that none refers to
-pub two_tops_by : (cells : List (PlainCell Rings)) (targets : List (Vec ℕ Global)) (order : List ℕ) (root : ℕ) → AreLinked cells → AreAllTargets cells targets → IsOrder cells order → slice_get order 0 ≡ Some root → HasOtherRoot targets root → HasTwoTops cells
+pub two_tops_by : (cells : List (PlainCell Rings)) (targets : List (Vec ℕ Global)) (order : List ℕ) (root : ℕ)
+    → AreLinked cells → AreAllTargets cells targets → IsOrder cells order → slice_get order 0 ≡ Some root
+    → HasOtherRoot targets root → HasTwoTops cells
 two_tops_by cells targets order root l t o first h =
     let a = item_there (names cells) root (omega (arith, root_within cells order root o first, names_long cells)) in
     let b = item_there (names cells) h.other (omega (arith, h.low, rows_long cells targets t, names_long cells)) in
-    let a_free : IsReferred cells a.0 → ⊥ = λ w. first_is_free cells targets order root t o first (target_from_referred cells targets root a.0 l t a.1 w) in
+    let a_free : IsReferred cells a.0 → ⊥ =
+    λ w. first_is_free cells targets order root t o first (target_from_referred cells targets root a.0 l t a.1 w) in
     let b_free : IsReferred cells b.0 → ⊥ = λ w. h.free (target_from_referred cells targets h.other b.0 l t b.1 w) in
     ⊎_elim (λ e. absurd (h.apart (sym e)))
     (λ o2.
@@ -161,7 +199,10 @@ two_tops_by cells targets order root l t o first h =
     }) o2) (order_of_two root h.other)
 
 -- where each unmarked cell is the root, no other is free
-pub no_other : (marks : List Bool) (targets : List (Vec ℕ Global)) (root n : ℕ) → ((k : ℕ) → (slice_get marks k ≡ Some true) ↔ IsTarget targets k) → ((j : ℕ) → j < n → slice_get marks j ≡ Some false → j ≡ root) → length marks ≤ n → length marks ≡ length targets → HasOtherRoot targets root → ⊥
+pub no_other : (marks : List Bool) (targets : List (Vec ℕ Global)) (root n : ℕ)
+    → ((k : ℕ) → (slice_get marks k ≡ Some true) ↔ IsTarget targets k)
+    → ((j : ℕ) → j < n → slice_get marks j ≡ Some false → j ≡ root) → length marks ≤ n → length marks ≡ length targets
+    → HasOtherRoot targets root → ⊥
 no_other marks targets root n marked only past long h =
     let at = item_there marks h.other (omega (arith, h.low, long)) in
     elim at.0 as (λ b. slice_get marks h.other ≡ Some b → ⊥) [

@@ -1,5 +1,6 @@
 -- Lists, one step after another, and once round.
-use Rattle.std.proofs.Common.{◌≡◌, ℕ, zero, suc, ◌+◌, ◌-◌, ◌<◌, List, [], ◌∷◌, ◌++◌, drop, length, Option, Some, All, ◌∙◌, refl, sym, ap, subst, arith}
+use Rattle.std.proofs.Common.{◌≡◌, ℕ, zero, suc, ◌+◌, ◌-◌, ◌<◌, List, [], ◌∷◌, ◌++◌, drop, length, Option, Some, All}
+use Rattle.std.proofs.Common.{◌∙◌, refl, sym, ap, subst, arith}
 use Rattle.std.specs.List.{slice_get}
 use Rattle.std.proofs.lemmas.List.{append-nil}
 use Rattle.std.proofs.lemmas.List.Elements.{All-nil, All-cons, All-head, All-tail, All-append}
@@ -20,26 +21,35 @@ slice_get-drop xs zero k = let e : 0 + k ≡ k = omega arith in rw e refl
 slice_get-drop [] (suc p) k = refl
 slice_get-drop (x ∷ xs) (suc p) k = let e : suc p + k ≡ suc (p + k) = omega arith in rw e (slice_get-drop xs p k)
 
-pub slice_get-front : {X : Type 0} (xs ys : List X) (k : ℕ) (x : X) → slice_get xs k ≡ Some x → slice_get (xs ++ ys) k ≡ Some x
+pub slice_get-front : {X : Type 0} (xs ys : List X) (k : ℕ) (x : X) → slice_get xs k ≡ Some x
+    → slice_get (xs ++ ys) k ≡ Some x
 slice_get-front [] ys k x h = cc
 slice_get-front (z ∷ zs) ys zero x h = h
 slice_get-front (z ∷ zs) ys (suc k) x h = slice_get-front zs ys k x h
 
 -- where each step is in R, from d on, so are all edges
-pub step_edges : {X : Type 0} (R : (X × X) → Type 0) (d : X) (xs : List X) → ((a : X) → slice_get xs 0 ≡ Some a → R (d, a)) → ((k : ℕ) (a b : X) → slice_get xs k ≡ Some a → slice_get xs (suc k) ≡ Some b → R (a, b)) → All R (path_edges d xs)
+pub step_edges : {X : Type 0} (R : (X × X) → Type 0) (d : X) (xs : List X)
+    → ((a : X) → slice_get xs 0 ≡ Some a → R (d, a))
+    → ((k : ℕ) (a b : X) → slice_get xs k ≡ Some a → slice_get xs (suc k) ≡ Some b → R (a, b)) → All R (path_edges d xs)
 step_edges R d [] first steps = All-nil R
-step_edges R d (x ∷ xs) first steps = All-cons R (d, x) (path_edges x xs) (first x refl) (step_edges R x xs (λ a h. steps 0 x a refl h) (λ k a b ha hb. steps (suc k) a b ha hb))
+step_edges R d (x ∷ xs) first steps =
+    All-cons R (d, x) (path_edges x xs) (first x refl)
+    (step_edges R x xs (λ a h. steps 0 x a refl h) (λ k a b ha hb. steps (suc k) a b ha hb))
 
 pub last_is : {X : Type 0} (p : X) (ps : List X) → slice_get (p ∷ ps) (length (p ∷ ps) - 1) ≡ Some (last_or p ps)
 last_is p [] = refl
 last_is p (q ∷ qs) = let e : length (p ∷ q ∷ qs) - 1 ≡ suc (length (q ∷ qs) - 1) = omega arith in rw e (last_is q qs)
 
 -- where each step is in R, and that from the last to the first, so are the edges once round
-pub round_edges : {X : Type 0} (R : (X × X) → Type 0) (xs : List X) → ((k : ℕ) (a b : X) → slice_get xs k ≡ Some a → slice_get xs (suc k) ≡ Some b → R (a, b)) → ((a b : X) → slice_get xs 0 ≡ Some a → slice_get xs (length xs - 1) ≡ Some b → R (b, a)) → All R (edges xs)
+pub round_edges : {X : Type 0} (R : (X × X) → Type 0) (xs : List X)
+    → ((k : ℕ) (a b : X) → slice_get xs k ≡ Some a → slice_get xs (suc k) ≡ Some b → R (a, b))
+    → ((a b : X) → slice_get xs 0 ≡ Some a → slice_get xs (length xs - 1) ≡ Some b → R (b, a)) → All R (edges xs)
 round_edges R [] steps close = All-nil R
-round_edges R (p ∷ ps) steps close = step_edges R (last_or p ps) (p ∷ ps) (λ a h. close a (last_or p ps) h (last_is p ps)) steps
+round_edges R (p ∷ ps) steps close =
+    step_edges R (last_or p ps) (p ∷ ps) (λ a h. close a (last_or p ps) h (last_is p ps)) steps
 
-path_edges-append : {X : Type 0} (d : X) (us vs : List X) → path_edges d (us ++ vs) ≡ path_edges d us ++ path_edges (last_or d us) vs
+path_edges-append : {X : Type 0} (d : X) (us vs : List X)
+    → path_edges d (us ++ vs) ≡ path_edges d us ++ path_edges (last_or d us) vs
 path_edges-append d [] vs = refl
 path_edges-append d (u ∷ us) vs = ap (λ t. (d, u) ∷ t) (path_edges-append u us vs)
 
@@ -56,7 +66,8 @@ All-right P [] ys h = h
 All-right P (x ∷ xs) ys h = All-right P xs ys (All-tail P x (xs ++ ys) h)
 
 -- the edges once round are the same, wherever the list begins
-pub edges_round : {X : Type 0} (R : (X × X) → Type 0) (us vs : List X) → All R (edges (us ++ vs)) → All R (edges (vs ++ us))
+pub edges_round : {X : Type 0} (R : (X × X) → Type 0) (us vs : List X) → All R (edges (us ++ vs))
+    → All R (edges (vs ++ us))
 edges_round R [] vs h = subst (λ l. All R (edges l)) (sym (append-nil vs)) h
 edges_round R (u ∷ us) [] h = subst (λ l. All R (edges l)) (append-nil (u ∷ us)) h
 edges_round {X} R (u ∷ us) (v ∷ vs) h =
@@ -64,6 +75,12 @@ edges_round {X} R (u ∷ us) (v ∷ vs) h =
     let last_v : X = last_or v vs in
     let from : last_or u (us ++ v ∷ vs) ≡ last_v = last_or-append u us (v ∷ vs) in
     let to : last_or v (vs ++ u ∷ us) ≡ last_u = last_or-append v vs (u ∷ us) in
-    let split : All R (path_edges last_v (u ∷ us) ++ path_edges last_u (v ∷ vs)) = subst (λ l. All R l) (path_edges-append last_v (u ∷ us) (v ∷ vs)) (subst (λ d. All R (path_edges d (u ∷ us ++ v ∷ vs))) from h) in
-    let turned : All R (path_edges last_u (v ∷ vs) ++ path_edges last_v (u ∷ us)) = All-append R (path_edges last_u (v ∷ vs)) (path_edges last_v (u ∷ us)) (All-right R (path_edges last_v (u ∷ us)) (path_edges last_u (v ∷ vs)) split) (All-left R (path_edges last_v (u ∷ us)) (path_edges last_u (v ∷ vs)) split) in
-    subst (λ d. All R (path_edges d (v ∷ vs ++ u ∷ us))) (sym to) (subst (λ l. All R l) (sym (path_edges-append last_u (v ∷ vs) (u ∷ us))) turned)
+    let split : All R (path_edges last_v (u ∷ us) ++ path_edges last_u (v ∷ vs)) =
+    subst (λ l. All R l) (path_edges-append last_v (u ∷ us) (v ∷ vs))
+    (subst (λ d. All R (path_edges d (u ∷ us ++ v ∷ vs))) from h) in
+    let turned : All R (path_edges last_u (v ∷ vs) ++ path_edges last_v (u ∷ us)) =
+    All-append R (path_edges last_u (v ∷ vs)) (path_edges last_v (u ∷ us))
+    (All-right R (path_edges last_v (u ∷ us)) (path_edges last_u (v ∷ vs)) split)
+    (All-left R (path_edges last_v (u ∷ us)) (path_edges last_u (v ∷ vs)) split) in
+    subst (λ d. All R (path_edges d (v ∷ vs ++ u ∷ us))) (sym to)
+    (subst (λ l. All R l) (sym (path_edges-append last_u (v ∷ vs) (u ∷ us))) turned)

@@ -49,7 +49,11 @@ cell_named (c ∷ cs) name = if bytes_eq c.name name then Some c else cell_named
 
 -- the same cell, with each figure drawn as rings
 abbrev pub drawn : {F : Type 0} → (F → Rings) → PlainCell F → PlainCell Rings
-drawn rings c = record { name = c.name; shapes = map (λ h. record { layer = h.layer; figure = rings h.figure; shifts = h.shifts }) c.shapes; references = c.references }
+drawn rings c = record {
+  name = c.name;
+  shapes = map (λ h. record { layer = h.layer; figure = rings h.figure; shifts = h.shifts }) c.shapes;
+  references = c.references;
+}
 
 -- a library is kept with rings alone: each figure stands as its rings
 abbrev pub kept : {F : Type 0} → (F → Rings) → List (PlainCell F) → List (PlainCell Rings)

@@ -1,5 +1,6 @@
 -- Chains of references, what they lead to, and how many there are.
-use Rattle.std.specs.Prelude.{◌≡◌, ℕ, zero, suc, ◌+◌, ◌*◌, ◌≤◌, List, length, false, pos, if◌then◌else◌, Any, All, sum_by, Some}
+use Rattle.std.specs.Prelude.{◌≡◌, ℕ, zero, suc, ◌+◌, ◌*◌, ◌≤◌, List, length, false, pos, if◌then◌else◌, Any, All}
+use Rattle.std.specs.Prelude.{sum_by, Some}
 use Rattle.std.specs.Option.{option_map_or}
 use Rattle.lvl_grid.specs.declared.point.Point.{Point}
 use Rattle.lvl_grid.specs.declared.map.Map.{Map}
@@ -22,15 +23,21 @@ Chain cells top zero m d = (m ≡ unmoved) × (d ≡ top)
 Chain {F} cells top (suc n) m d = (w : Map) × (c : PlainCell F) × Chain cells top n w c
     × Any (λ r. (cell_named cells r.cell ≡ Some d) × Any (λ e. IsComposed w (placing r e) m) r.shifts) c.references
 
--- the shift of the map, and each vertex that the cell places by it, fit 64 signed bits; rings gives those that a figure is drawn by
+-- the shift of the map, and each vertex that the cell places by it, fit 64 signed bits; rings gives those that a figure
+-- is drawn by
 pub record IsInRange {F : Type 0} (rings : F → Rings) (m : Map) (d : PlainCell F) : Type 0 where
   pub shift : FitsPoint m.at
-  pub vertices : All (λ h. All (λ e. All (λ ring. All (λ v. FitsPoint (image m (shifted e v))) ring) (rings h.figure)) h.shifts) d.shapes
+  pub vertices : All
+      (λ h. All (λ e. All (λ ring. All (λ v. FitsPoint (image m (shifted e v))) ring) (rings h.figure)) h.shifts)
+      d.shapes
 
 -- a weight, added up over the last cells of all chains of at most n choices from the cell on
 abbrev pub over_chains : {F : Type 0} → (PlainCell F → ℕ) → List (PlainCell F) → ℕ → PlainCell F → ℕ
 over_chains weight cells zero c = weight c
-over_chains weight cells (suc n) c = weight c + sum_by (λ r. length r.shifts * option_map_or (over_chains weight cells n) (cell_named cells r.cell) 0) c.references
+over_chains weight cells (suc n) c =
+    weight c
+    + sum_by (λ r. length r.shifts * option_map_or (over_chains weight cells n) (cell_named cells r.cell) 0)
+    c.references
 
 -- the chains from the cell on: none has as many choices as there are cells
 abbrev pub chains : {F : Type 0} → List (PlainCell F) → PlainCell F → ℕ
@@ -45,7 +52,8 @@ placed_rings rings cells c = over_chains (own_rings rings) cells (length cells) 
 
 -- the same on one Layer
 abbrev pub own_rings_on : {F : Type 0} → (F → Rings) → Layer → PlainCell F → ℕ
-own_rings_on rings layer c = sum_by (λ h. if same_layer h.layer layer then length (rings h.figure) * length h.shifts else 0) c.shapes
+own_rings_on rings layer c =
+    sum_by (λ h. if same_layer h.layer layer then length (rings h.figure) * length h.shifts else 0) c.shapes
 
 abbrev pub placed_rings_on : {F : Type 0} → (F → Rings) → Layer → List (PlainCell F) → PlainCell F → ℕ
 placed_rings_on rings layer cells c = over_chains (own_rings_on rings layer) cells (length cells) c

@@ -24,11 +24,15 @@ abbrev pub PullsBack : (Square → Type 0) → PlainReference → Square → Poi
 PullsBack P r s e = (t : Square) × (image_square (placing r e) t ≡ s) × P t
 
 -- the cell covers the square on the Layer, through at most n references one after another
-abbrev pub CoversWithin : {F : Type 0} → (F → Square → Type 0) → List (PlainCell F) → Layer → ℕ → PlainCell F → Square → Type 0
+abbrev pub CoversWithin : {F : Type 0} → (F → Square → Type 0) → List (PlainCell F) → Layer → ℕ → PlainCell F → Square
+    → Type 0
 CoversWithin holds cells layer zero c s = Any (ShapeCovers holds layer s) c.shapes
 CoversWithin holds cells layer (suc n) c s = Any (ShapeCovers holds layer s) c.shapes
-    ⊎ Any (λ r. IsSomeAnd (cell_named cells r.cell) (λ d. Any (PullsBack (CoversWithin holds cells layer n d) r s) r.shifts)) c.references
+    ⊎ Any
+    (λ r. IsSomeAnd (cell_named cells r.cell)
+    (λ d. Any (PullsBack (CoversWithin holds cells layer n d) r s) r.shifts)) c.references
 
 -- through however many
-abbrev pub CellCovers : {F : Type 0} → (F → Square → Type 0) → List (PlainCell F) → Layer → PlainCell F → Square → Type 0
+abbrev pub CellCovers : {F : Type 0} → (F → Square → Type 0) → List (PlainCell F) → Layer → PlainCell F → Square
+    → Type 0
 CellCovers holds cells layer c s = (n : ℕ) × CoversWithin holds cells layer n c s

@@ -1,5 +1,6 @@
 -- Which fault a library has.
-use Rattle.std.specs.Prelude.{◌≡◌, ◌≢◌, ℕ, ◌<◌, ◌≤◌, List, [], ◌∷◌, ◌++◌, map, All, Contains, slice_get, Option, Some, None}
+use Rattle.std.specs.Prelude.{◌≡◌, ◌≢◌, ℕ, ◌<◌, ◌≤◌, List, [], ◌∷◌, ◌++◌, map, All, Contains, slice_get, Option, Some}
+use Rattle.std.specs.Prelude.{None}
 use Rattle.std.specs.List.{IsDistinct}
 use Rattle.std.specs.Str.{bytes_eq}
 use Rattle.lvl_grid.specs.Winding.{edges}
@@ -7,7 +8,8 @@ use Rattle.lvl_cells.specs.Cells.{PlainCell, Rings, each_ring, names}
 use Rattle.lvl_cells.specs.Chains.{chains, placed_rings, most_placed}
 use Rattle.lvl_cells.specs.Soundness.{links, AreNamed, AreLinked, IsRanked, IsReferred, IsSound}
 use Rattle.lvl_cells.specs.declared.fault.CellFault.{CellFault}
-use Rattle.lvl_cells.specs.declared.fault.CellFault.TheVariants.{NoCell, DuplicateCell, MissingCell, Cycle, TopMissing, ManyTops, TooManyPlacements, TooManyRings}
+use Rattle.lvl_cells.specs.declared.fault.CellFault.TheVariants.{NoCell, DuplicateCell, MissingCell, Cycle, TopMissing}
+use Rattle.lvl_cells.specs.declared.fault.CellFault.TheVariants.{ManyTops, TooManyPlacements, TooManyRings}
 
 -- the first name that an earlier one equals
 pub record IsFirstRepeat (all : List (List ℕ)) (name : List ℕ) : Type 0 where
@@ -25,12 +27,14 @@ pub record IsFirstMissing (cells : List (PlainCell Rings)) (from name : List ℕ
   pub named : AreNamed cells before
   pub missing : ¬ Contains (names cells) name
 
--- distinct cells, each referring to the next and the last to the first; none of them is earlier in the file than the first
+-- distinct cells, each referring to the next and the last to the first; none of them is earlier in the file than the
+-- first
 pub record IsCycle (cells : List (PlainCell Rings)) (round : List (List ℕ)) : Type 0 where
   pub some : round ≢ []
   pub distinct : IsDistinct bytes_eq round
   pub linked : All (Contains (links cells)) (edges round)
-  pub first : (i j : ℕ) (name : List ℕ) → slice_get (names cells) i ≡ slice_get round 0 → slice_get (names cells) j ≡ Some name → Contains round name → i ≤ j
+  pub first : (i j : ℕ) (name : List ℕ) → slice_get (names cells) i ≡ slice_get round 0
+      → slice_get (names cells) j ≡ Some name → Contains round name → i ≤ j
 
 -- two cells to which none refers
 pub record HasTwoTops (cells : List (PlainCell Rings)) : Type 0 where
@@ -45,7 +49,8 @@ pub record HasTwoTops (cells : List (PlainCell Rings)) : Type 0 where
   pub second_free : ¬ IsReferred cells second_name
 
 -- the library is sound for the top, and so many are placed from it
-pub record IsSoundWith (cells : List (PlainCell Rings)) (given : Option (List ℕ)) (P : PlainCell Rings → Type 0) : Type 0 where
+pub record IsSoundWith (cells : List (PlainCell Rings)) (given : Option (List ℕ))
+    (P : PlainCell Rings → Type 0) : Type 0 where
   pub index : ℕ
   pub cell : PlainCell Rings
   pub sound : IsSound cells given index
@@ -56,9 +61,13 @@ pub record IsSoundWith (cells : List (PlainCell Rings)) (given : Option (List �
 abbrev pub IsFaultOf : List (PlainCell Rings) → Option (List ℕ) → CellFault → Type 0
 IsFaultOf cells given NoCell = cells ≡ []
 IsFaultOf cells given (DuplicateCell name) = IsFirstRepeat (names cells) name.items
-IsFaultOf cells given (MissingCell from name) = IsDistinct bytes_eq (names cells) × IsFirstMissing cells from.items name.items
+IsFaultOf cells given (MissingCell from name) =
+    IsDistinct bytes_eq (names cells) × IsFirstMissing cells from.items name.items
 IsFaultOf cells given (Cycle round) = AreLinked cells × IsCycle cells (map (λ name. name.items) round.items)
-IsFaultOf cells given TopMissing = AreLinked cells × IsRanked cells × (cells ≢ []) × ((name : List ℕ) × (given ≡ Some name) × (¬ Contains (names cells) name))
+IsFaultOf cells given TopMissing =
+    AreLinked cells × IsRanked cells × (cells ≢ [])
+    × ((name : List ℕ) × (given ≡ Some name) × (¬ Contains (names cells) name))
 IsFaultOf cells given ManyTops = AreLinked cells × IsRanked cells × (given ≡ None) × HasTwoTops cells
 IsFaultOf cells given TooManyPlacements = IsSoundWith cells given (λ c. most_placed < chains cells c)
-IsFaultOf cells given TooManyRings = IsSoundWith cells given (λ c. (chains cells c ≤ most_placed) × (most_placed < placed_rings each_ring cells c))
+IsFaultOf cells given TooManyRings =
+    IsSoundWith cells given (λ c. (chains cells c ≤ most_placed) × (most_placed < placed_rings each_ring cells c))

@@ -1,13 +1,12 @@
--- An index of names, and the targets of references.
-use Rattle.std.specs.Prelude.{◌≡◌, ℕ, List, ◌∷◌, ◌++◌, map, ◌↔◌, All, Contains, slice_get, Option, Some}
+-- An index of names.
+use Rattle.std.specs.Prelude.{◌≡◌, ℕ, List, ◌↔◌, slice_get, Option, Some}
 use Rattle.std.specs.BTreeMap.{BTreeMap, get_by}
 use Rattle.std.specs.Cmp.Lexicographic.{slice_cmp}
 use Rattle.std.specs.Ordering.{nat_cmp}
 use denote.Ref.{Bor}
-use Rattle.lvl_cells.specs.Cells.{PlainCell, PlainReference, Rings}
 use Rattle.lvl_cells.specs.Faults.{IsFirstRepeat}
 use Rattle.lvl_cells.specs.declared.fault.CellFault.{CellFault}
-use Rattle.lvl_cells.specs.declared.fault.CellFault.TheVariants.{DuplicateCell, MissingCell}
+use Rattle.lvl_cells.specs.declared.fault.CellFault.TheVariants.{DuplicateCell}
 
 -- g finds a name's place exactly where the name stands there
 abbrev pub Finds : (List ℕ → Option ℕ) → List (List ℕ) → Type 0
@@ -24,20 +23,3 @@ IsIndexOf names index = Finds (place_in_index index) names
 abbrev pub IsRepeatFault : List (List ℕ) → CellFault → Type 0
 IsRepeatFault names (DuplicateCell name) = IsFirstRepeat names name.items
 IsRepeatFault names _ = ⊥
-
--- the targets are the places of the names that the references give
-abbrev pub AreTargets : List (List ℕ) → List PlainReference → List ℕ → Type 0
-AreTargets names references targets = map (slice_get names) targets ≡ map (λ r. Some r.cell) references
-
--- the first name that is not there
-pub record IsFirstUnknown (names asked : List (List ℕ)) (name : List ℕ) : Type 0 where
-  pub before : List (List ℕ)
-  pub after : List (List ℕ)
-  pub there : asked ≡ before ++ name ∷ after
-  pub known : All (Contains names) before
-  pub unknown : ¬ Contains names name
-
--- the fault is the cell's first reference that has no cell
-abbrev pub IsMissingFault : List (List ℕ) → PlainCell Rings → CellFault → Type 0
-IsMissingFault names c (MissingCell from name) = (from.items ≡ c.name) × IsFirstUnknown names (map (λ r. r.cell) c.references) name.items
-IsMissingFault names c _ = ⊥

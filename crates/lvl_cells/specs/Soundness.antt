@@ -1,5 +1,6 @@
 -- When a library is sound for a top.
-use Rattle.std.specs.Prelude.{◌≡◌, ℕ, ◌<◌, List, map, flat_map, length, ◌↔◌, All, Contains, slice_get, Option, Some, None}
+use Rattle.std.specs.Prelude.{◌≡◌, ℕ, ◌<◌, List, map, flat_map, length, ◌↔◌, All, Contains, slice_get, Option, Some}
+use Rattle.std.specs.Prelude.{None}
 use Rattle.std.specs.List.{IsDistinct}
 use Rattle.std.specs.Str.{bytes_eq}
 use Rattle.lvl_cells.specs.Cells.{PlainCell, names}
@@ -22,7 +23,9 @@ IsReferred cells name = Contains (map (λ link. link.1) (links cells)) name
 -- cell k has the given name; or, with none given, it is the only one to which none refers
 abbrev pub IsTop : {F : Type 0} → List (PlainCell F) → Option (List ℕ) → ℕ → Type 0
 IsTop cells (Some name) k = slice_get (names cells) k ≡ Some name
-IsTop cells None k = (k < length cells) × ((j : ℕ) (name : List ℕ) → slice_get (names cells) j ≡ Some name → (¬ IsReferred cells name) ↔ (j ≡ k))
+IsTop cells None k =
+    (k < length cells)
+    × ((j : ℕ) (name : List ℕ) → slice_get (names cells) j ≡ Some name → (¬ IsReferred cells name) ↔ (j ≡ k))
 
 -- names are distinct, and each reference names a cell
 pub record AreLinked {F : Type 0} (cells : List (PlainCell F)) : Type 0 where
@@ -39,4 +42,5 @@ pub record IsOrder {F : Type 0} (cells : List (PlainCell F)) (order : List ℕ) 
   pub there : (k : ℕ) → k < length cells → Contains order k
   pub once : (i j k : ℕ) → slice_get order i ≡ Some k → slice_get order j ≡ Some k → i ≡ j
   pub within : All (λ k. k < length cells) order
-  pub falls : (i j k l : ℕ) (a b : List ℕ) → slice_get order i ≡ Some k → slice_get order j ≡ Some l → slice_get (names cells) k ≡ Some a → slice_get (names cells) l ≡ Some b → Contains (links cells) (a, b) → i < j
+  pub falls : (i j k l : ℕ) (a b : List ℕ) → slice_get order i ≡ Some k → slice_get order j ≡ Some l
+      → slice_get (names cells) k ≡ Some a → slice_get (names cells) l ≡ Some b → Contains (links cells) (a, b) → i < j

@@ -1,1 +1,8 @@
 pub mod Spans
+pub mod Keeping
+pub mod Targets
+pub mod Steps
+pub mod Settling
+pub mod Walking
+pub mod Rounding
+pub mod Topping

@@ -63,7 +63,10 @@ impl Builder {
 
     /// Opens a cell of this name, in place of the one that was open.
     pub fn open(&mut self, alloc: Global, name: Vec<u8>)
-        ensures { self.new ≡ record { cells = self.old.cells; current = record { name = name.items; shapes = []; references = [] } } }
+        ensures { self.new ≡ record {
+          cells = self.old.cells;
+          current = record { name = name.items; shapes = []; references = [] };
+        } }
     {
         self.current = Cell {
             name,
@@ -109,7 +112,8 @@ impl Builder {
 
     /// Adds a reference to the open cell. One to the same cell as the reference before shares its name.
     pub fn add_reference(&mut self, mut reference: Reference) -> Result<(), AllocError>
-        ensures added { OnOk result (self.new ≡ record { cells = self.old.cells; current = with_reference self.old.current reference }) }
+        ensures added { OnOk result
+            (self.new ≡ record { cells = self.old.cells; current = with_reference self.old.current reference }) }
         ensures kept { OnErr result (self.new ≡ self.old) }
     {
         if let Some(last) = self.current.references.last() {
@@ -121,7 +125,8 @@ impl Builder {
 
     /// Makes the open cell the last of the library's.
     pub fn close(&mut self, alloc: Global) -> Result<(), AllocError>
-        ensures { OnOk result (self.new ≡ record { cells = self.old.cells ++ self.old.current ∷ []; current = no_cell }) }
+        ensures { OnOk result
+            (self.new ≡ record { cells = self.old.cells ++ self.old.current ∷ []; current = no_cell }) }
     {
         let cell = mem::replace(&mut self.current, empty_cell(alloc));
         self.cells.push(cell)?;

@@ -3,7 +3,7 @@ ghost use Rattle.std.specs.Prelude.{◌≡◌, ◌≢◌, ◌<◌, length, IfOk,
 ghost use Rattle.lvl_cells.specs.Checks.{IsSettled, IsChecked, PlacesFew, IsTargetOf, HasReference};
 ghost use Rattle.lvl_cells.specs.Faults.{IsFaultOf, IsSoundWith};
 ghost use Rattle.lvl_cells.specs.Soundness.{IsOrder};
-ghost use Rattle.lvl_cells.specs.Steps.{AreAllTargets};
+ghost use Rattle.lvl_cells.specs.inside.Steps.{AreAllTargets};
 ghost use Rattle.lvl_refusal.specs.Refused.{Says};
 
 use crate::counts::{Weight, count_from};
@@ -34,7 +34,7 @@ impl Model for Checked {
 
     ghost Value = { Settled };
 
-    ghost use Rattle.lvl_cells.specs.Settling.{settled, IsKeptSettled};
+    ghost use Rattle.lvl_cells.specs.inside.Settling.{settled, IsKeptSettled};
 
     ghost view = { settled };
 
@@ -48,7 +48,9 @@ fn examine(
     given: Option<&[u8]>,
 ) -> Result<(usize, Vec<usize>, Vec<Vec<usize>>), Refusal<CellFault>>
     requires { 0 < length cells.now }
-    ensures ok { IfOk result (λ found. IsSettled (option_copied given.entry) (record { cells = cells.now; top = found.0; order = found.1.items })) }
+    ensures ok { IfOk result
+        (λ found. IsSettled (option_copied given.entry)
+        (record { cells = cells.now; top = found.0; order = found.1.items })) }
     ensures targets { IfOk result (λ found. AreAllTargets cells.now found.2.items) }
     ensures err { IfErr result (λ refusal. Says refusal (IsFaultOf cells.now (option_copied given.entry))) }
 {
@@ -82,7 +84,8 @@ pub fn check(
     ensures same { IfOk result (λ checked. checked.cells ≡ library) }
     ensures sound { IfOk result (λ checked. IsSettled (option_copied top.entry) checked) }
     ensures fault { IfErr result (λ refusal. Says refusal (IsFaultOf library (option_copied top.entry))) }
-    ensures refused { IfErr result (λ refusal. Says refusal (λ _. ¬ IsSoundWith library (option_copied top.entry) (PlacesFew library))) }
+    ensures refused { IfErr result
+        (λ refusal. Says refusal (λ _. ¬ IsSoundWith library (option_copied top.entry) (PlacesFew library))) }
 {
     let Library { cells } = library;
     if cells.is_empty() {

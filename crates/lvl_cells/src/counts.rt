@@ -3,7 +3,7 @@ ghost use Rattle.std.specs.Prelude.{◌≡◌, ◌<◌, ◌≤◌, ◌+◌, ◌*
 ghost use Rattle.lvl_cells.specs.Cells.{each_ring};
 ghost use Rattle.lvl_cells.specs.Chains.{over_chains, own_rings, most_placed};
 ghost use Rattle.lvl_cells.specs.Soundness.{AreLinked, IsOrder};
-ghost use Rattle.lvl_cells.specs.Steps.{AreAllTargets, weigh, placed_sum};
+ghost use Rattle.lvl_cells.specs.inside.Steps.{AreAllTargets, weigh, placed_sum};
 
 use crate::library::Cell;
 use std::alloc::{AllocError, Global};
@@ -61,7 +61,8 @@ fn weight_of(weight: Weight, cell: &Cell) -> u64
 fn sum_of(weight: Weight, cell: &Cell, targets: &[usize], sums: &[u64]) -> u64
     requires row { length targets.now ≡ length cell.now.references }
     requires within { All (λ t. t < length sums.now) targets.now }
-    ensures { result ≡ min (most_placed + 1) (weigh weight cell.now + placed_sum cell.now.references targets.now sums.now) }
+    ensures { result
+        ≡ min (most_placed + 1) (weigh weight cell.now + placed_sum cell.now.references targets.now sums.now) }
 {
     let mut sum = weight_of(weight, cell);
     for (j, reference) in cell.references.iter().enumerate() {
@@ -85,7 +86,8 @@ pub(crate) fn count_from(
     requires targets { AreAllTargets cells.now targets.now }
     requires order { IsOrder cells.now order.now }
     requires top { top < length cells.now }
-    ensures { IfOk result (λ sum. IfSome (slice_get cells.now top) (λ c. sum ≡ min (most_placed + 1) (over_chains (weigh weight) cells.now (length cells.now) c))) }
+    ensures { IfOk result (λ sum. IfSome (slice_get cells.now top)
+        (λ c. sum ≡ min (most_placed + 1) (over_chains (weigh weight) cells.now (length cells.now) c))) }
 {
     let mut sums = vec![in alloc; 0; cells.len()]?;
     for i in (0..order.len()).rev() {

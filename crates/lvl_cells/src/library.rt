@@ -37,7 +37,8 @@ impl Reference {
     /// one of the shifts, is outside 64 signed bits.
     pub fn new(cell: Name, flip: bool, turn: Turn, at: Point, shifts: Offsets) -> Option<Reference>
         ensures some { IsSome result ↔ All (λ e. FitsPoint (shifted at e)) shifts }
-        ensures same { IfSome result (λ r. r ≡ record { cell = cell; flip = flip; turn = turn; at = at; shifts = shifts }) }
+        ensures same { IfSome result
+            (λ r. r ≡ record { cell = cell; flip = flip; turn = turn; at = at; shifts = shifts }) }
     {
         if !shifts.all_fit_at(at) {
             return None;

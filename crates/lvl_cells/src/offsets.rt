@@ -1,8 +1,9 @@
 //! Shifts: the displacements at which a shape or a cell stands, kept as a list or as a lattice.
-ghost use Rattle.std.specs.Prelude.{◌≡◌, ◌<◌, ◌↔◌, ◌^◌, length, slice_get, pos, ◌+ℤ◌, ◌*ℤ◌, FitsSigned, IsTrue, IsSome, IfSome, SomeIff, All};
+ghost use Rattle.std.specs.Prelude.{◌≡◌, ◌<◌, ◌↔◌, ◌^◌, length, slice_get, pos, ◌+ℤ◌, ◌*ℤ◌, FitsSigned, IsTrue, IsSome};
+ghost use Rattle.std.specs.Prelude.{IfSome, SomeIff, All};
 ghost use Rattle.std.specs.Int.{w64};
 ghost use Rattle.lvl_grid.specs.Turn.{shifted, FitsPoint};
-ghost use Rattle.lvl_cells.specs.Keeping.{StaysWithin, HasFarCorner, AreFew};
+ghost use Rattle.lvl_cells.specs.inside.Keeping.{StaysWithin, HasFarCorner, AreFew};
 ghost use Rattle.lvl_cells.specs.Shifts.{steps, lattice, one_place, IsLattice, StartsAtZero};
 
 use lvl_grid::Point;
@@ -36,7 +37,7 @@ impl Model for Offsets {
     ghost use Rattle.std.specs.Prelude.{List};
     ghost use Rattle.lvl_grid.specs.declared.point.Point.{Point};
     ghost use Rattle.lvl_grid.specs.Turn.{shifted, FitsPoint};
-    ghost use Rattle.lvl_cells.specs.Keeping.{kept_shifts, IsKept};
+    ghost use Rattle.lvl_cells.specs.inside.Keeping.{kept_shifts, IsKept};
 
     ghost Value = { List Point };
 

@@ -1,7 +1,7 @@
 //! An order of the cells in which each stands before those that it refers to.
 ghost use Rattle.std.specs.Prelude.{IfOk, IfErr};
 ghost use Rattle.lvl_cells.specs.Soundness.{AreLinked, IsOrder};
-ghost use Rattle.lvl_cells.specs.Steps.{AreAllTargets, IsCycleFault};
+ghost use Rattle.lvl_cells.specs.inside.Steps.{AreAllTargets, IsCycleFault};
 ghost use Rattle.lvl_refusal.specs.Refused.{Says};
 
 use crate::fault::CellFault;

@@ -2,7 +2,7 @@
 ghost use Rattle.std.specs.Prelude.{◌≡◌, ◌<◌, ◌++◌, length, map, All, Contains, IfOk, OnOk, OnErr};
 ghost use Rattle.lvl_cells.specs.Faults.{IsCycle};
 ghost use Rattle.lvl_cells.specs.Soundness.{AreLinked};
-ghost use Rattle.lvl_cells.specs.Rounding.{IsFirstIn, IsFrom, IsRoundOf, visited_name};
+ghost use Rattle.lvl_cells.specs.inside.Rounding.{IsFirstIn, IsFrom, IsRoundOf, visited_name};
 
 use crate::library::Cell;
 use crate::walk::Visit;
@@ -43,7 +43,8 @@ fn add_names(
     names: &mut Vec<Vec<u8>>,
 ) -> Result<(), AllocError>
     requires { All (λ v. v.cell < length cells.now) visits.now }
-    ensures { OnOk result (map (λ n. n.items) names.new.items ≡ map (λ n. n.items) names.old.items ++ map (visited_name cells.now) visits.now) }
+    ensures { OnOk result (map (λ n. n.items) names.new.items
+        ≡ map (λ n. n.items) names.old.items ++ map (visited_name cells.now) visits.now) }
 {
     for visit in visits {
         let cell = &cells[visit.cell];

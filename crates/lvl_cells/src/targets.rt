@@ -1,8 +1,9 @@
 //! The cells that references name.
 ghost use Rattle.std.specs.Prelude.{IfOk, IfErr};
 ghost use Rattle.lvl_cells.specs.Cells.{names};
-ghost use Rattle.lvl_cells.specs.Resolving.{IsIndexOf, AreTargets, IsMissingFault};
-ghost use Rattle.lvl_cells.specs.Steps.{AreAllTargets, IsFirstMissingFault};
+ghost use Rattle.lvl_cells.specs.Resolving.{IsIndexOf};
+ghost use Rattle.lvl_cells.specs.inside.Targets.{AreTargets, IsMissingFault};
+ghost use Rattle.lvl_cells.specs.inside.Steps.{AreAllTargets, IsFirstMissingFault};
 ghost use Rattle.lvl_refusal.specs.Refused.{Says};
 
 use crate::fault::CellFault;

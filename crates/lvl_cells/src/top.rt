@@ -1,11 +1,12 @@
 //! The top of a library.
-ghost use Rattle.std.specs.Prelude.{◌≡◌, ◌≢◌, ℕ, ◌<◌, ◌↔◌, ◌⊎◌, true, length, slice_get, vec_len, All, Contains, Some, IsTrue, IfOk, IfErr, option_copied};
+ghost use Rattle.std.specs.Prelude.{◌≡◌, ◌≢◌, ℕ, ◌<◌, ◌↔◌, ◌⊎◌, true, length, slice_get, vec_len, All, Contains, Some};
+ghost use Rattle.std.specs.Prelude.{IsTrue, IfOk, IfErr, option_copied};
 ghost use Rattle.lvl_cells.specs.Cells.{names};
 ghost use Rattle.lvl_cells.specs.Resolving.{IsIndexOf};
 ghost use Rattle.lvl_cells.specs.Soundness.{AreLinked, IsOrder, IsTop};
-ghost use Rattle.lvl_cells.specs.Steps.{AreAllTargets, IsTopFault};
-ghost use Rattle.lvl_cells.specs.Walking.{EachTargetWithin};
-ghost use Rattle.lvl_cells.specs.Topping.{IsTarget, HasOtherRoot};
+ghost use Rattle.lvl_cells.specs.inside.Steps.{AreAllTargets, IsTopFault};
+ghost use Rattle.lvl_cells.specs.inside.Walking.{EachTargetWithin};
+ghost use Rattle.lvl_cells.specs.inside.Topping.{IsTarget, HasOtherRoot};
 ghost use Rattle.lvl_refusal.specs.Refused.{Says};
 
 use crate::fault::CellFault;
@@ -17,7 +18,8 @@ use std::collections::BTreeMap;
 /// Marks these places.
 fn mark_all(marks: &mut [bool], places: &[usize])
     requires { All (λ k. k < length marks.old) places.now }
-    ensures { (k : ℕ) → (slice_get marks.new k ≡ Some true) ↔ ((slice_get marks.old k ≡ Some true) ⊎ Contains places.now k) }
+    ensures { (k : ℕ)
+        → (slice_get marks.new k ≡ Some true) ↔ ((slice_get marks.old k ≡ Some true) ⊎ Contains places.now k) }
 {
     for place in places {
         marks[*place] = true;

@@ -3,7 +3,7 @@
 //! Every cell is new at first, open while it is on the path from a root, and done once all that it
 //! refers to is done. A reference to an open cell closes a round.
 ghost use Rattle.std.specs.Prelude.{◌≡◌, ◌<◌, [], length, vec_len, slice_get, All, Some, IfOk, IfNone, IfSome};
-ghost use Rattle.lvl_cells.specs.Walking.{EachTargetWithin, IsStepFrom, IsWalk, GoesOn, LeadsBack, work_left};
+ghost use Rattle.lvl_cells.specs.inside.Walking.{EachTargetWithin, IsStepFrom, IsWalk, GoesOn, LeadsBack, work_left};
 
 use std::alloc::AllocError;
 
@@ -63,7 +63,8 @@ fn advance(
     ensures walk { IfOk result (λ _. IsWalk targets.now marks.new path.new.items finished.new.items) }
     ensures on { IfOk result (λ _. GoesOn marks.old marks.new) }
     ensures back { IfOk result (λ round. IfSome round (LeadsBack targets.now path.new.items)) }
-    ensures nearer { IfOk result (λ round. IfNone round (work_left targets.now marks.new path.new.items < work_left targets.now marks.old path.old.items)) }
+    ensures nearer { IfOk result (λ round. IfNone round
+        (work_left targets.now marks.new path.new.items < work_left targets.now marks.old path.old.items)) }
 {
     let Some(visit) = path.pop() else {
         return Ok(None);

@@ -1,5 +1,6 @@
 -- A column gives way to its halves, or to what a sweep of it finds.
-use Rattle.std.proofs.Common.{◌≡◌, ℤ, ◌<ℤ◌, ◌≤ℤ◌, List, [], ◌∷◌, ◌++◌, append_assoc, ap, ◌∙◌, map, length, All, Some, None, ◌⊎◌, inl, inr, ◌↔◌, refl, subst, sym, IfNone, IfSome, arith}
+use Rattle.std.proofs.Common.{◌≡◌, ℤ, ◌<ℤ◌, ◌≤ℤ◌, List, [], ◌∷◌, ◌++◌, append_assoc, ap, ◌∙◌, map, length, All, Some}
+use Rattle.std.proofs.Common.{None, ◌⊎◌, inl, inr, ◌↔◌, refl, subst, sym, IfNone, IfSome, arith}
 use Rattle.std.proofs.lemmas.Int.{by_lt_z, ints}
 use Rattle.std.proofs.lemmas.List.{map-append, take_at, drop_at}
 use Rattle.std.proofs.lemmas.List.Elements.{All-take, All-drop, All-head, All-push, All-nil, All-cons}
@@ -12,33 +13,42 @@ use Rattle.lvl_region.specs.declared.region.Side.{Side}
 use Rattle.lvl_region.specs.declared.region.Side.TheVariants.{First, Second}
 use Rattle.lvl_sweep.specs.Ahead.{IsUpTo}
 use Rattle.lvl_columns.specs.declared.columns.Column.{Column}
-use Rattle.lvl_columns.specs.Columns.{Lists, Found, lists_of, Agree, Differ, NotBefore, IsFoundIn, IsFirst, CoversAs, IsTrueTo, IsOpen, IsPartOf, AreHalvesAt, last_row}
+use Rattle.lvl_columns.specs.Columns.{Lists, Found, lists_of, Agree, Differ, NotBefore, IsFoundIn, IsFirst, CoversAs}
+use Rattle.lvl_columns.specs.Columns.{IsTrueTo, IsOpen, IsPartOf, AreHalvesAt, last_row}
 
 all_but_last : {X : Type 0} (P : X → Type 0) (xs : List X) (x : X) → All P (xs ++ x ∷ []) → All P xs
 all_but_last P xs x h = subst (All P) (take_at xs (x ∷ []) (length xs) refl) (All-take P (length xs) (xs ++ x ∷ []) h)
 
 all_last : {X : Type 0} (P : X → Type 0) (xs : List X) (x : X) → All P (xs ++ x ∷ []) → P x
-all_last P xs x h = All-head P x [] (subst (All P) (drop_at xs (x ∷ []) (length xs) refl) (All-drop P (length xs) (xs ++ x ∷ []) h))
+all_last P xs x h =
+    All-head P x [] (subst (All P) (drop_at xs (x ∷ []) (length xs) refl) (All-drop P (length xs) (xs ++ x ∷ []) h))
 
 -- clipped into a list that was empty
-pub of_nothing : (s : Square) (old new : List (List Point)) (P : Type 0) → old ≡ [] → (SomeCovers new s ↔ (SomeCovers old s ⊎ P)) → SomeCovers new s ↔ P
+pub of_nothing : (s : Square) (old new : List (List Point)) (P : Type 0) → old ≡ []
+    → (SomeCovers new s ↔ (SomeCovers old s ⊎ P)) → SomeCovers new s ↔ P
 of_nothing s old new P e h = (
-  λ a. elim (h.0 a) [ inl o ↦ absurd (Any-nil (λ r. Covers r s) (subst (λ (rs : List (List Point)). SomeCovers rs s) e o)) | inr p ↦ p ],
+  λ a. elim (h.0 a) [
+    | inl o ↦ absurd (Any-nil (λ r. Covers r s) (subst (λ (rs : List (List Point)). SomeCovers rs s) e o))
+    | inr p ↦ p
+  ],
   λ p. h.1 (inr p),
 )
 
-covers_in_part : (P : Square → Type 0) (whole l part : Lists) (s : Square) → IsPartOf P l part → P s → CoversAs whole s l → CoversAs whole s part
+covers_in_part : (P : Square → Type 0) (whole l part : Lists) (s : Square) → IsPartOf P l part → P s
+    → CoversAs whole s l → CoversAs whole s part
 covers_in_part P whole l part s h i t = (
   (λ a. t.0.0 ((h s).0.0 a).1, λ a. (h s).0.1 (i, t.0.1 a)),
   (λ a. t.1.0 ((h s).1.0 a).1, λ a. (h s).1.1 (i, t.1.1 a)),
 )
 
-true_part : (P : Square → Type 0) (whole l part : Lists) → IsPartOf P l part → IsTrueTo whole l → (s : Square) (side : Side) → Differ part s side → Differ whole s side
+true_part : (P : Square → Type 0) (whole l part : Lists) → IsPartOf P l part → IsTrueTo whole l
+    → (s : Square) (side : Side) → Differ part s side → Differ whole s side
 true_part P whole l part h t s First a = let p = (h s).0.0 a.0 in t s First (p.1, λ q. a.1 ((h s).1.1 (p.0, q)))
 true_part P whole l part h t s Second a = let p = (h s).1.0 a.0 in t s Second (p.1, λ q. a.1 ((h s).0.1 (p.0, q)))
 
 -- a column gives way to its parts left and right of an abscissa
-pub open_by_parts : (whole : Lists) (xs : List Lists) (c l r : Lists) (at : ℤ) (found : Found) → IsPartOf (λ s. s.x <ℤ at) c l → IsPartOf (λ s. at ≤ℤ s.x) c r
+pub open_by_parts : (whole : Lists) (xs : List Lists) (c l r : Lists) (at : ℤ) (found : Found)
+    → IsPartOf (λ s. s.x <ℤ at) c l → IsPartOf (λ s. at ≤ℤ s.x) c r
     → IsOpen whole (xs ++ c ∷ []) found → IsOpen whole ((xs ++ r ∷ []) ++ l ∷ []) found
 open_by_parts whole xs c l r at found hl hr told =
     let t : IsTrueTo whole c = all_last (IsTrueTo whole) xs c told.faithful in
@@ -55,26 +65,31 @@ open_by_parts whole xs c l r at found hl hr told =
                 | inl old ↦ inr (inr (rest.1 (inl (first.1 (inl old)))))
                 | inr here ↦ by_lt_z s.x at
                     (λ h. inr (inr (rest.1 (inr (covers_in_part (λ s. s.x <ℤ at) whole c l s hl h here)))))
-                    (λ h. inr (inr (rest.1 (inl (first.1 (inr (covers_in_part (λ s. at ≤ℤ s.x) whole c r s hr h here)))))))
+                    (λ h. inr (inr (rest.1 (inl (first.1 (inr (covers_in_part (λ s. at ≤ℤ s.x) whole c r s hr h
+                    here)))))))
               ]
             ]
           ];
       faithful = All-push (IsTrueTo whole) (xs ++ r ∷ []) l
-          (All-push (IsTrueTo whole) xs r (all_but_last (IsTrueTo whole) xs c told.faithful) (true_part (λ s. at ≤ℤ s.x) whole c r hr t))
+          (All-push (IsTrueTo whole) xs r (all_but_last (IsTrueTo whole) xs c told.faithful)
+          (true_part (λ s. at ≤ℤ s.x) whole c r hr t))
           (true_part (λ s. s.x <ℤ at) whole c l hl t);
     }
 
 -- a column gives way to its halves
-pub open_by_halves : (whole : Lists) (xs : List Lists) (f g : List (List Point)) (left right : Column) (at : ℤ) (found : Found) → AreHalvesAt at f g left right
+pub open_by_halves : (whole : Lists) (xs : List Lists) (f g : List (List Point)) (left right : Column) (at : ℤ)
+    (found : Found) → AreHalvesAt at f g left right
     → IsOpen whole (xs ++ (f, g) ∷ []) found → IsOpen whole ((xs ++ lists_of right ∷ []) ++ lists_of left ∷ []) found
 open_by_halves whole xs f g left right at found halves =
     open_by_parts whole xs (f, g) (lists_of left) (lists_of right) at found
     (λ s. (halves.left_first s, halves.left_second s)) (λ s. (halves.right_first s, halves.right_second s))
 
 -- one column more, after others
-pub one_more : (others : List Lists) (xs : List Column) (c : Column) → others ++ map lists_of (xs ++ c ∷ []) ≡ (others ++ map lists_of xs) ++ lists_of c ∷ []
+pub one_more : (others : List Lists) (xs : List Column) (c : Column)
+    → others ++ map lists_of (xs ++ c ∷ []) ≡ (others ++ map lists_of xs) ++ lists_of c ∷ []
 one_more others xs c =
-    ap (λ (ls : List Lists). others ++ ls) (map-append lists_of xs (c ∷ [])) ∙ sym (append_assoc others (map lists_of xs) (lists_of c ∷ []))
+    ap (λ (ls : List Lists). others ++ ls) (map-append lists_of xs (c ∷ []))
+    ∙ sym (append_assoc others (map lists_of xs) (lists_of c ∷ []))
 
 -- what a sweep up to a row tells of a column, once what was found before it is known
 pub record IsFoundUpTo (l : Lists) (best found : Found) : Type 0 where
@@ -89,12 +104,18 @@ agree_as : (whole : Lists) (s : Square) (l : Lists) → CoversAs whole s l → A
 agree_as whole s l t a = (λ p. t.1.0 (a.0 (t.0.1 p)), λ q. t.0.0 (a.1 (t.1.1 q)))
 
 -- a column that was compared is done
-pub open_by_one : (whole : Lists) (xs : List Lists) (c : Lists) (best found result : Found) → IsFoundUpTo c best found → ((result ≡ best) ⊎ (result ≡ found))
-    → ((s : Square) → (NotBefore s best ⊎ NotBefore s found) → NotBefore s result) → IsOpen whole (xs ++ c ∷ []) best → IsOpen whole xs result
+pub open_by_one : (whole : Lists) (xs : List Lists) (c : Lists) (best found result : Found) → IsFoundUpTo c best found
+    → ((result ≡ best) ⊎ (result ≡ found))
+    → ((s : Square) → (NotBefore s best ⊎ NotBefore s found) → NotBefore s result) → IsOpen whole (xs ++ c ∷ []) best
+    → IsOpen whole xs result
 open_by_one whole xs c best found result up one bound told =
     let t : IsTrueTo whole c = all_last (IsTrueTo whole) xs c told.faithful in
     record {
-      alone = elim one [ inl e ↦ subst (IsFoundIn whole) (sym e) told.alone | inr e ↦ subst (IsFoundIn whole) (sym e) (found_alone whole c found t up.alone) ];
+      alone =
+          elim one [
+            | inl e ↦ subst (IsFoundIn whole) (sym e) told.alone
+            | inr e ↦ subst (IsFoundIn whole) (sym e) (found_alone whole c found t up.alone)
+          ];
       each = λ s. elim (told.each s) [
         | inl a ↦ inl a
         | inr b ↦ elim b [
@@ -109,9 +130,14 @@ open_by_one whole xs c best found result up one bound told =
     }
 
 -- a column whose lists are the same is done
-pub open_by_none : (whole : Lists) (xs : List Lists) (f g : List (List Point)) (best : Found) → f ≡ g → IsOpen whole (xs ++ (f, g) ∷ []) best → IsOpen whole xs best
+pub open_by_none : (whole : Lists) (xs : List Lists) (f g : List (List Point)) (best : Found) → f ≡ g
+    → IsOpen whole (xs ++ (f, g) ∷ []) best → IsOpen whole xs best
 open_by_none whole xs f g best e told =
-    open_by_one whole xs (f, g) best None best (record { alone = tt; least = λ s. inl (subst (λ (h : List (List Point)). SomeCovers f s ↔ SomeCovers h s) e (λ a. a, λ a. a)) }) (inl refl)
+    open_by_one whole xs (f, g) best None best
+    (record {
+      alone = tt;
+      least = λ s. inl (subst (λ (h : List (List Point)). SomeCovers f s ↔ SomeCovers h s) e (λ a. a, λ a. a));
+    }) (inl refl)
     (λ s either. elim either [ inl n ↦ n | inr n ↦ absurd n ]) told
 
 -- at the start the whole is one column
@@ -128,20 +154,37 @@ open_at_first f g =
 pub first_at_last : (whole : Lists) (found : Found) → IsOpen whole [] found → IsFirst whole found
 first_at_last whole found told = record {
   alone = told.alone;
-  least = λ s. elim (told.each s) [ inl a ↦ inl a | inr b ↦ elim b [ inl n ↦ inr n | inr any ↦ absurd (Any-nil (CoversAs whole s) any) ] ];
+  least =
+      λ s. elim (told.each s)
+      [ inl a ↦ inl a | inr b ↦ elim b [ inl n ↦ inr n | inr any ↦ absurd (Any-nil (CoversAs whole s) any) ] ];
 }
 
 -- a square is before another, or not
 before_or_not : (s t : Square) → IsBefore s t ⊎ (¬ IsBefore s t)
 before_or_not s t =
     by_lt_z s.y t.y (λ a. inl (inl a))
-    (λ a. by_lt_z t.y s.y (λ b. inr (λ k. elim k [ inl d ↦ absurd (omega (arith, ints, d, b)) | inr d ↦ absurd (let e = d.0 in omega (arith, ints, e, b)) ]))
+    (λ a.
+    by_lt_z t.y s.y
+    (λ b. inr (λ k. elim k [
+      | inl d ↦ absurd (omega (arith, ints, d, b))
+      | inr d ↦ absurd (let e = d.0 in omega (arith, ints, e, b))
+    ]))
     (λ b. by_lt_z s.x t.x (λ d. inl (inr (omega (arith, ints, a, b), d)))
-    (λ d. inr (λ k. elim k [ inl m ↦ absurd (omega (arith, ints, m, a)) | inr m ↦ absurd (let n = m.1 in omega (arith, ints, n, d)) ]))))
+    (λ d.
+    inr (λ k. elim k [
+      | inl m ↦ absurd (omega (arith, ints, m, a))
+      | inr m ↦ absurd (let n = m.1 in omega (arith, ints, n, d))
+    ]))))
 
 above_or_up_to : (s : Square) (best : Found) → NotBefore s best ⊎ IsUpTo (last_row best) s.y
 above_or_up_to s None = inr tt
-above_or_up_to s (Some at) = by_lt_z at.0.y s.y (λ h. inl (λ k. elim k [ inl d ↦ absurd (omega (arith, ints, d, h)) | inr d ↦ absurd (let e = d.0 in omega (arith, ints, e, h)) ])) (λ h. inr h)
+above_or_up_to s (Some at) =
+    by_lt_z at.0.y s.y
+    (λ h.
+    inl (λ k. elim k [
+      | inl d ↦ absurd (omega (arith, ints, d, h))
+      | inr d ↦ absurd (let e = d.0 in omega (arith, ints, e, h))
+    ])) (λ h. inr h)
 
 -- the clauses of a sweep up to the row of what was found before
 pub found_up_to : (f g : List (List Point)) (best found : Found)
@@ -159,14 +202,17 @@ found_up_to f g best (Some at) same differ least = record {
 }
 
 -- the least square, in the words of a comparison
-pub first_same : (f g : List (List Point)) (found : Found) → IsFirst (f, g) found → IfNone found ((s : Square) → SomeCovers f s ↔ SomeCovers g s)
+pub first_same : (f g : List (List Point)) (found : Found) → IsFirst (f, g) found
+    → IfNone found ((s : Square) → SomeCovers f s ↔ SomeCovers g s)
 first_same f g None h = λ s. elim (h.least s) [ inl a ↦ a | inr n ↦ absurd n ]
 first_same f g (Some at) h = tt
 
-pub first_differ : (f g : List (List Point)) (found : Found) → IsFirst (f, g) found → IfSome found (λ at. Differ (f, g) at.0 at.1)
+pub first_differ : (f g : List (List Point)) (found : Found) → IsFirst (f, g) found
+    → IfSome found (λ at. Differ (f, g) at.0 at.1)
 first_differ f g None h = tt
 first_differ f g (Some at) h = h.alone
 
-pub first_least : (f g : List (List Point)) (found : Found) → IsFirst (f, g) found → IfSome found (λ at. (s : Square) → IsBefore s at.0 → SomeCovers f s ↔ SomeCovers g s)
+pub first_least : (f g : List (List Point)) (found : Found) → IsFirst (f, g) found
+    → IfSome found (λ at. (s : Square) → IsBefore s at.0 → SomeCovers f s ↔ SomeCovers g s)
 first_least f g None h = tt
 first_least f g (Some at) h = λ s b. elim (h.least s) [ inl a ↦ a | inr n ↦ absurd (n b) ]

@@ -1,5 +1,6 @@
 -- The columns that are still to be compared, and what they leave open. These serve the proof alone.
-use Rattle.std.specs.Prelude.{ℕ, ◌+◌, ◌*◌, ℤ, ◌<ℤ◌, ◌≤ℤ◌, List, [], ◌∷◌, ◌++◌, map, Any, All, Option, Some, None, ◌⊎◌, ◌↔◌, vec_len}
+use Rattle.std.specs.Prelude.{ℕ, ◌+◌, ◌*◌, ℤ, ◌<ℤ◌, ◌≤ℤ◌, List, [], ◌∷◌, ◌++◌, map, Any, All, Option, Some, None, ◌⊎◌}
+use Rattle.std.specs.Prelude.{◌↔◌, vec_len}
 use Rattle.lvl_grid.specs.declared.point.Point.{Point}
 use Rattle.lvl_grid.specs.declared.point.Square.{Square}
 use Rattle.lvl_grid.specs.Winding.{SomeCovers}
@@ -64,17 +65,21 @@ GoesOn first second old new =
 
 -- with the pending columns still to come, and then without them
 abbrev pub EndsWith : Progress → Progress → Type 0
-EndsWith old new = (whole : Lists) (others : List Lists) → IsOpen whole (others ++ map lists_of old.pending.items) old.best → IsOpen whole others new.best
+EndsWith old new =
+    (whole : Lists) (others : List Lists) → IsOpen whole (others ++ map lists_of old.pending.items) old.best
+    → IsOpen whole others new.best
 
 -- the column's lists cover what the lists do in the part of the plane
 abbrev pub IsPartOf : (Square → Type 0) → Lists → Lists → Type 0
-IsPartOf P l part = (s : Square) → (SomeCovers part.0 s ↔ (P s × SomeCovers l.0 s)) × (SomeCovers part.1 s ↔ (P s × SomeCovers l.1 s))
+IsPartOf P l part =
+    (s : Square) → (SomeCovers part.0 s ↔ (P s × SomeCovers l.0 s)) × (SomeCovers part.1 s ↔ (P s × SomeCovers l.1 s))
 
 -- with a column that is that part of the lists still to come, and then without it
 pub record IsComparedPart (P : Square → Type 0) (l : Lists) (old new : Progress) : Type 0 where
   pub column : Lists
   pub is_part : IsPartOf P l column
-  pub told : (whole : Lists) (others : List Lists) → IsOpen whole (others ++ column ∷ []) old.best → IsOpen whole others new.best
+  pub told : (whole : Lists) (others : List Lists) → IsOpen whole (others ++ column ∷ []) old.best
+      → IsOpen whole others new.best
 
 -- the lists of both halves cover what the column's lists do left of the cut, and what they do right of it
 pub record AreHalvesAt (at : ℤ) (first second : List (List Point)) (left right : Column) : Type 0 where

@@ -1,5 +1,7 @@
 -- Two lists of sheets walked Layer by Layer: the Layers on which they are not alike are still to come.
-use Rattle.std.proofs.Common.{◌≡◌, ◌↔◌, ◌+◌, ◌<◌, ◌≤◌, ℕ, zero, suc, Bool, true, false, not, IsTrue, List, [], ◌∷◌, Option, Some, None, map, drop, length, slice_get, get_or, refl, sym, ap, ◌∙◌, subst, inl, inr, arith}
+use Rattle.std.proofs.Common.{◌≡◌, ◌↔◌, ◌+◌, ◌<◌, ◌≤◌, ℕ, zero, suc, Bool, true, false, not, IsTrue, List, [], ◌∷◌}
+use Rattle.std.proofs.Common.{Option, Some, None, map, drop, length, slice_get, get_or, refl, sym, ap, ◌∙◌, subst, inl}
+use Rattle.std.proofs.Common.{inr, arith}
 use Rattle.std.specs.Prelude.{◌⊎◌}
 use Rattle.std.proofs.lemmas.Bool.{cases_lt}
 use Rattle.std.proofs.lemmas.List.{drop-drop}
@@ -29,7 +31,8 @@ drop_none : (n : ℕ) → drop {A = PlainSheet} n [] ≡ []
 drop_none zero = refl
 drop_none (suc n) = refl
 
-pub drop_behind : (flat : List PlainSheet) (n : ℕ) (l : Layer) → head_layer (drop n flat) ≡ Some l → drop (n + 1) flat ≡ behind l (drop n flat)
+pub drop_behind : (flat : List PlainSheet) (n : ℕ) (l : Layer) → head_layer (drop n flat) ≡ Some l
+    → drop (n + 1) flat ≡ behind l (drop n flat)
 drop_behind flat n l e = sym (drop-drop 1 n flat) ∙ sym (behind_head (drop n flat) l e)
 
 pub past_all : (flat : List PlainSheet) (n : ℕ) (l : Layer) → length flat ≤ n → drop n flat ≡ behind l (drop n flat)
@@ -41,10 +44,13 @@ some_same : (a b : Layer) → Some a ≡ Some b → a ≡ b
 some_same a b e = cc
 
 -- whether the Layer that stands at a place is this one
-pub tested_at : (flat : List PlainSheet) (n : ℕ) (here l : Layer) → Some here ≡ slice_get (map (λ s. s.layer) flat) n → (test : Bool) → test ≡ same_layer here l → IsTrue test ↔ (head_layer (drop n flat) ≡ Some l)
+pub tested_at : (flat : List PlainSheet) (n : ℕ) (here l : Layer) → Some here ≡ slice_get (map (λ s. s.layer) flat) n
+    → (test : Bool) → test ≡ same_layer here l → IsTrue test ↔ (head_layer (drop n flat) ≡ Some l)
 tested_at flat n here l at test is =
-    let head : head_layer (drop n flat) ≡ Some here = sym (head_is flat n) ∙ sym at in
-    (λ t. head ∙ ap Some (tested_layer here l (ap not (sym is ∙ t))), λ e. is ∙ same_is here l (some_same here l (sym head ∙ e)))
+    let head : head_layer (drop n flat) ≡ Some here = sym (head_is flat n) ∙ sym at in (
+      λ t. head ∙ ap Some (tested_layer here l (ap not (sym is ∙ t))),
+      λ e. is ∙ same_is here l (some_same here l (sym head ∙ e)),
+    )
 
 -- the Layer is that of one of the sheets
 abbrev pub Among : Layer → List PlainSheet → Type 0
@@ -53,31 +59,36 @@ Among l (s ∷ us) = (s.layer ≡ l) ⊎ Among l us
 
 among_or_none : (l : Layer) (us : List PlainSheet) → Among l us ⊎ (rings_on l us ≡ [])
 among_or_none l [] = inr refl
-among_or_none l (s ∷ us) = elim (same_layer s.layer l) as (λ t. same_layer s.layer l ≡ t → Among l (s ∷ us) ⊎ (rings_on l (s ∷ us) ≡ [])) [
-  | true ↦ λ e. inl (inl (tested_layer s.layer l (rw e refl)))
-  | false ↦ λ e. elim (among_or_none l us) [ inl a ↦ inl (inr a) | inr n ↦ inr (rw e n) ]
-] refl
+among_or_none l (s ∷ us) =
+    elim (same_layer s.layer l) as (λ t. same_layer s.layer l ≡ t → Among l (s ∷ us) ⊎ (rings_on l (s ∷ us) ≡ [])) [
+      | true ↦ λ e. inl (inl (tested_layer s.layer l (rw e refl)))
+      | false ↦ λ e. elim (among_or_none l us) [ inl a ↦ inl (inr a) | inr n ↦ inr (rw e n) ]
+    ] refl
 
 -- what is among the sheets is among those behind a Layer, or is that Layer
 among_behind : (l m : Layer) (us : List PlainSheet) → Among l us → Among l (behind m us) ⊎ (l ≡ m)
 among_behind l m [] a = absurd a
-among_behind l m (s ∷ us) a = elim (same_layer s.layer m) as (λ t. same_layer s.layer m ≡ t → Among l (behind m (s ∷ us)) ⊎ (l ≡ m)) [
-  | true ↦ λ e. rw e (elim a [ inl h ↦ inr (sym h ∙ tested_layer s.layer m (rw e refl)) | inr b ↦ inl b ])
-  | false ↦ λ e. rw e (inl a)
-] refl
+among_behind l m (s ∷ us) a =
+    elim (same_layer s.layer m) as (λ t. same_layer s.layer m ≡ t → Among l (behind m (s ∷ us)) ⊎ (l ≡ m)) [
+      | true ↦ λ e. rw e (elim a [ inl h ↦ inr (sym h ∙ tested_layer s.layer m (rw e refl)) | inr b ↦ inl b ])
+      | false ↦ λ e. rw e (inl a)
+    ] refl
 
-among_at : (l : Layer) (us : List PlainSheet) → Among l us → (k : ℕ) × (k < length us) × ((d : PlainSheet) → (get_or us k d).layer ≡ l)
+among_at : (l : Layer) (us : List PlainSheet) → Among l us
+    → (k : ℕ) × (k < length us) × ((d : PlainSheet) → (get_or us k d).layer ≡ l)
 among_at l [] a = absurd a
 among_at l (s ∷ us) (inl h) = (0, omega arith, λ d. h)
 among_at l (s ∷ us) (inr a) = let p = among_at l us a in (suc p.0, omega (arith, p.1), p.2)
 
-head_first : (l : Layer) (s : PlainSheet) (us : List PlainSheet) → AreSorted (s ∷ us) → Among l us → ComesBefore s.layer l
+head_first : (l : Layer) (s : PlainSheet) (us : List PlainSheet) → AreSorted (s ∷ us) → Among l us
+    → ComesBefore s.layer l
 head_first l s us sorted a =
     let p = among_at l us a in
     subst (ComesBefore s.layer) (p.2 s) (sorted 0 (suc p.0) s (omega arith) (omega (arith, p.1)))
 
 -- a Layer that comes before the head, or before what comes before it, is not among the sheets
-not_among : (l m h : Layer) (us : List PlainSheet) → AreSorted us → head_layer us ≡ Some h → (ComesBefore l h) → Among l us → ⊥
+not_among : (l m h : Layer) (us : List PlainSheet) → AreSorted us → head_layer us ≡ Some h → (ComesBefore l h)
+    → Among l us → ⊥
 not_among l m h [] sorted e b a = absurd a
 not_among l m h (s ∷ us) sorted e b (inl is) =
     let same : s.layer ≡ h = cc in
@@ -91,7 +102,8 @@ abbrev pub IsWalked : (Layer → Type 0) → (us vs : List PlainSheet) → Type 
 IsWalked alike us vs = (l : Layer) → alike l ⊎ (Among l us ⊎ Among l vs)
 
 -- at first only a Layer that neither has is passed
-pub walked_none : (alike : Layer → Type 0) (a b : List PlainSheet) → ((l : Layer) → rings_on l a ≡ [] → rings_on l b ≡ [] → alike l) → IsWalked alike a b
+pub walked_none : (alike : Layer → Type 0) (a b : List PlainSheet)
+    → ((l : Layer) → rings_on l a ≡ [] → rings_on l b ≡ [] → alike l) → IsWalked alike a b
 walked_none alike a b none l = elim (among_or_none l a) [
   | inl x ↦ inr (inl x)
   | inr x ↦ elim (among_or_none l b) [
@@ -110,7 +122,8 @@ sorted_drop (suc n) [] p = p
 sorted_drop (suc n) (s ∷ us) p = sorted_drop n us (sorted_tail s us p)
 
 -- one Layer further, where both are alike on it
-pub walked_more : (alike : Layer → Type 0) (us vs : List PlainSheet) (m : Layer) → IsWalked alike us vs → alike m → IsWalked alike (behind m us) (behind m vs)
+pub walked_more : (alike : Layer → Type 0) (us vs : List PlainSheet) (m : Layer) → IsWalked alike us vs → alike m
+    → IsWalked alike (behind m us) (behind m vs)
 walked_more alike us vs m w passed l =
     let here : l ≡ m → alike l = λ e. subst alike (sym e) passed in
     elim (w l) [
@@ -122,7 +135,8 @@ walked_more alike us vs m w passed l =
     ]
 
 -- nothing is left: both are alike on all Layers
-pub walked_all : (alike : Layer → Type 0) (us vs : List PlainSheet) → IsWalked alike us vs → IsLesser (head_layer us) (head_layer vs) None → (l : Layer) → alike l
+pub walked_all : (alike : Layer → Type 0) (us vs : List PlainSheet) → IsWalked alike us vs
+    → IsLesser (head_layer us) (head_layer vs) None → (l : Layer) → alike l
 walked_all alike [] [] w e l = elim (w l) [ inl x ↦ x | inr x ↦ elim x [ inl y ↦ absurd y | inr y ↦ absurd y ] ]
 walked_all alike [] (t ∷ vs) w e l = cc
 walked_all alike (s ∷ us) [] w e l = cc
@@ -148,10 +162,13 @@ before_or a b late = elim (cases_lt a.layer b.layer) [
 -- the lesser head comes before no other head
 lesser_ours : (p q m : Layer) → IsLesser (Some p) (Some q) (Some m) → (m ≡ p) ⊎ ComesBefore m p
 lesser_ours p q m (inl h) = inl (let e = h.0 in cc)
-lesser_ours p q m (inr h) = inr (let e : m ≡ q = (let f = h.0 in cc) in subst (λ (x : Layer). ComesBefore x p) (sym e) h.1)
+lesser_ours p q m (inr h) =
+    inr (let e : m ≡ q = (let f = h.0 in cc) in subst (λ (x : Layer). ComesBefore x p) (sym e) h.1)
 
 lesser_theirs : (p q m : Layer) → IsLesser (Some p) (Some q) (Some m) → (m ≡ q) ⊎ ComesBefore m q
-lesser_theirs p q m (inl h) = let e : m ≡ p = (let f = h.0 in cc) in elim (before_or p q h.1) [ inl s ↦ inl (e ∙ s) | inr b ↦ inr (subst (λ (x : Layer). ComesBefore x q) (sym e) b) ]
+lesser_theirs p q m (inl h) =
+    let e : m ≡ p = (let f = h.0 in cc) in
+    elim (before_or p q h.1) [ inl s ↦ inl (e ∙ s) | inr b ↦ inr (subst (λ (x : Layer). ComesBefore x q) (sym e) b) ]
 lesser_theirs p q m (inr h) = inl (let e = h.0 in cc)
 
 before_head : (l m h : Layer) → ComesBefore l m → (m ≡ h) ⊎ ComesBefore m h → ComesBefore l h
@@ -159,43 +176,72 @@ before_head l m h b (inl e) = subst (ComesBefore l) e b
 before_head l m h b (inr c) = before_trans l m h b c
 
 -- on a Layer before the lesser head both are alike
-pub walked_before : (alike : Layer → Type 0) (us vs : List PlainSheet) (m l : Layer) → AreSorted us → AreSorted vs → IsWalked alike us vs → IsLesser (head_layer us) (head_layer vs) (Some m) → ComesBefore l m → alike l
+pub walked_before : (alike : Layer → Type 0) (us vs : List PlainSheet) (m l : Layer) → AreSorted us → AreSorted vs
+    → IsWalked alike us vs → IsLesser (head_layer us) (head_layer vs) (Some m) → ComesBefore l m → alike l
 walked_before alike [] [] m l ours theirs w e before = cc
 walked_before alike [] (t ∷ vs) m l ours theirs w e before =
     let at : m ≡ t.layer = cc in
-    elim (w l) [ inl x ↦ x | inr x ↦ elim x [ inl y ↦ absurd y | inr y ↦ absurd (not_among l m t.layer (t ∷ vs) theirs refl (before_head l m t.layer before (inl at)) y) ] ]
+    elim (w l) [
+      | inl x ↦ x
+      | inr x ↦
+          elim x [
+            | inl y ↦ absurd y
+            | inr y ↦
+                absurd (not_among l m t.layer (t ∷ vs) theirs refl (before_head l m t.layer before (inl at))
+                y)
+          ]
+    ]
 walked_before alike (s ∷ us) [] m l ours theirs w e before =
     let at : m ≡ s.layer = cc in
-    elim (w l) [ inl x ↦ x | inr x ↦ elim x [ inl y ↦ absurd (not_among l m s.layer (s ∷ us) ours refl (before_head l m s.layer before (inl at)) y) | inr y ↦ absurd y ] ]
+    elim (w l) [
+      | inl x ↦ x
+      | inr x ↦
+          elim x [
+            | inl y ↦
+                absurd (not_among l m s.layer (s ∷ us) ours refl (before_head l m s.layer before (inl at))
+                y)
+            | inr y ↦ absurd y
+          ]
+    ]
 walked_before alike (s ∷ us) (t ∷ vs) m l ours theirs w e before =
     elim (w l) [
       | inl x ↦ x
       | inr x ↦ elim x [
-        | inl y ↦ absurd (not_among l m s.layer (s ∷ us) ours refl (before_head l m s.layer before (lesser_ours s.layer t.layer m e)) y)
-        | inr y ↦ absurd (not_among l m t.layer (t ∷ vs) theirs refl (before_head l m t.layer before (lesser_theirs s.layer t.layer m e)) y)
+        | inl y ↦
+            absurd (not_among l m s.layer (s ∷ us) ours refl
+            (before_head l m s.layer before (lesser_ours s.layer t.layer m e)) y)
+        | inr y ↦
+            absurd (not_among l m t.layer (t ∷ vs) theirs refl
+            (before_head l m t.layer before (lesser_theirs s.layer t.layer m e)) y)
       ]
     ]
 
 behind_shorter : (m : Layer) (us : List PlainSheet) → length (behind m us) ≤ length us
 behind_shorter m [] = omega arith
-behind_shorter m (s ∷ us) = elim (same_layer s.layer m) as (λ t. same_layer s.layer m ≡ t → length (behind m (s ∷ us)) ≤ length (s ∷ us)) [
-  | true ↦ λ e. rw e (omega arith)
-  | false ↦ λ e. rw e (omega arith)
-] refl
+behind_shorter m (s ∷ us) =
+    elim (same_layer s.layer m) as (λ t. same_layer s.layer m ≡ t → length (behind m (s ∷ us)) ≤ length (s ∷ us)) [
+      | true ↦ λ e. rw e (omega arith)
+      | false ↦ λ e. rw e (omega arith)
+    ] refl
 
-behind_less : (m : Layer) (s : PlainSheet) (us : List PlainSheet) → s.layer ≡ m → length (behind m (s ∷ us)) < length (s ∷ us)
+behind_less : (m : Layer) (s : PlainSheet) (us : List PlainSheet) → s.layer ≡ m
+    → length (behind m (s ∷ us)) < length (s ∷ us)
 behind_less m s us e = rw (same_is s.layer m e) (omega arith)
 
 -- and less is left
-pub walked_less : (us vs : List PlainSheet) (m : Layer) → IsLesser (head_layer us) (head_layer vs) (Some m) → length (behind m us) + length (behind m vs) < length us + length vs
+pub walked_less : (us vs : List PlainSheet) (m : Layer) → IsLesser (head_layer us) (head_layer vs) (Some m)
+    → length (behind m us) + length (behind m vs) < length us + length vs
 walked_less [] [] m e = cc
 walked_less [] (t ∷ vs) m e = let at : t.layer ≡ m = cc in omega (arith, behind_less m t vs at)
 walked_less (s ∷ us) [] m e = let at : s.layer ≡ m = cc in omega (arith, behind_less m s us at)
-walked_less (s ∷ us) (t ∷ vs) m (inl e) = let f = e.0 in let at : s.layer ≡ m = cc in omega (arith, behind_less m s us at, behind_shorter m (t ∷ vs))
-walked_less (s ∷ us) (t ∷ vs) m (inr e) = let f = e.0 in let at : t.layer ≡ m = cc in omega (arith, behind_less m t vs at, behind_shorter m (s ∷ us))
+walked_less (s ∷ us) (t ∷ vs) m (inl e) =
+    let f = e.0 in let at : s.layer ≡ m = cc in omega (arith, behind_less m s us at, behind_shorter m (t ∷ vs))
+walked_less (s ∷ us) (t ∷ vs) m (inr e) =
+    let f = e.0 in let at : t.layer ≡ m = cc in omega (arith, behind_less m t vs at, behind_shorter m (s ∷ us))
 
 -- what the lesser of the Layers at two places says of the sheets from there on
-pub lesser_heads : (a b : List PlainSheet) (i j : ℕ) (p q r m : Option Layer) → p ≡ slice_get (map (λ s. s.layer) a) i → q ≡ slice_get (map (λ s. s.layer) b) j → IsLesser p q r → r ≡ m
+pub lesser_heads : (a b : List PlainSheet) (i j : ℕ) (p q r m : Option Layer) → p ≡ slice_get (map (λ s. s.layer) a) i
+    → q ≡ slice_get (map (λ s. s.layer) b) j → IsLesser p q r → r ≡ m
     → IsLesser (head_layer (drop i a)) (head_layer (drop j b)) m
 lesser_heads a b i j p q r m at_i at_j h e =
     subst (IsLesser (head_layer (drop i a)) (head_layer (drop j b))) e

@@ -2,6 +2,7 @@
 use Rattle.std.proofs.Common.{◌≡◌, ℕ, Bool, true, false, ◌&&◌, nat_eq, int_eq, refl, arith, ap, ◌∙◌, subst}
 use Rattle.std.specs.Bool.{Decides}
 use Rattle.std.proofs.lemmas.Int.{ints}
+use Rattle.std.proofs.lemmas.Bool.{and_parts}
 use Rattle.lvl_grid.proofs.Composing.{same_point}
 use Rattle.lvl_grid.specs.declared.point.Point.{Point}
 use Rattle.lvl_grid.specs.declared.map.Map.{Map}
@@ -36,28 +37,31 @@ turn_itself R90 = refl
 turn_itself R180 = refl
 turn_itself R270 = refl
 
-flips : (f g : Bool) (t u : Turn) (a b : Point) → (let m : Map = record { flip = f; turn = t; at = a } in let n : Map = record { flip = g; turn = u; at = b } in map-eq.it m n) ≡ true → f ≡ g
+flips : (f g : Bool) (t u : Turn) (a b : Point)
+    → (let m : Map = record { flip = f; turn = t; at = a } in
+    let n : Map = record { flip = g; turn = u; at = b } in map-eq.it m n) ≡ true → f ≡ g
 flips true true t u a b h = refl
 flips true false t u a b h = cc
 flips false true t u a b h = cc
 flips false false t u a b h = refl
 
-second : (f g : Bool) (t u : Turn) (a b : Point) → (let m : Map = record { flip = f; turn = t; at = a } in let n : Map = record { flip = g; turn = u; at = b } in map-eq.it m n) ≡ true → (turn-eq.it t u && (int_eq a.x b.x && int_eq a.y b.y)) ≡ true
+second : (f g : Bool) (t u : Turn) (a b : Point)
+    → (let m : Map = record { flip = f; turn = t; at = a } in
+    let n : Map = record { flip = g; turn = u; at = b } in map-eq.it m n) ≡ true
+    → (turn-eq.it t u && (int_eq a.x b.x && int_eq a.y b.y)) ≡ true
 second true true t u a b h = h
 second true false t u a b h = cc
 second false true t u a b h = cc
 second false false t u a b h = h
 
-both_true : (a b : Bool) → (a && b) ≡ true → (a ≡ true) × (b ≡ true)
-both_true true b h = (refl, h)
-both_true false b h = cc
-
 maps : (m n : Map) → map-eq.it m n ≡ true → m ≡ n
 maps m n h =
     let flip = flips m.flip n.flip m.turn n.turn m.at n.at h in
-    let rest = both_true (turn-eq.it m.turn n.turn) (int_eq m.at.x n.at.x && int_eq m.at.y n.at.y) (second m.flip n.flip m.turn n.turn m.at n.at h) in
+    let rest =
+    and_parts (turn-eq.it m.turn n.turn) (int_eq m.at.x n.at.x && int_eq m.at.y n.at.y)
+    (second m.flip n.flip m.turn n.turn m.at n.at h) in
     let turn = turns m.turn n.turn rest.0 in
-    let both = both_true (int_eq m.at.x n.at.x) (int_eq m.at.y n.at.y) rest.1 in
+    let both = and_parts (int_eq m.at.x n.at.x) (int_eq m.at.y n.at.y) rest.1 in
     let at : m.at ≡ n.at = same_point m.at n.at (grind (arith, ints, both.0)) (grind (arith, ints, both.1)) in
     let of : Bool → Turn → Point → Map = λ f t a. record { flip = f; turn = t; at = a } in
     ap (λ f. of f m.turn m.at) flip ∙ (ap (λ t. of n.flip t m.at) turn ∙ ap (of n.flip n.turn) at)
@@ -65,7 +69,8 @@ maps m n h =
 point_itself : (a : Point) → (int_eq a.x a.x && int_eq a.y a.y) ≡ true
 point_itself a = grind (arith, ints)
 
-map_itself : (f : Bool) (t : Turn) (a : Point) → (let m : Map = record { flip = f; turn = t; at = a } in map-eq.it m m) ≡ true
+map_itself : (f : Bool) (t : Turn) (a : Point)
+    → (let m : Map = record { flip = f; turn = t; at = a } in map-eq.it m m) ≡ true
 map_itself true t a = ap (λ b. b && (int_eq a.x a.x && int_eq a.y a.y)) (turn_itself t) ∙ point_itself a
 map_itself false t a = ap (λ b. b && (int_eq a.x a.x && int_eq a.y a.y)) (turn_itself t) ∙ point_itself a
 
@@ -76,7 +81,7 @@ itself p =
 
 same : (p q : Placement) → eq-value.it p q ≡ true → p ≡ q
 same p q h =
-    let both = both_true (nat_eq p.cell q.cell) (map-eq.it p.map q.map) h in
+    let both = and_parts (nat_eq p.cell q.cell) (map-eq.it p.map q.map) h in
     let cell : p.cell ≡ q.cell = grind (arith, both.0) in
     let of : ℕ → Map → Placement = λ k m. record { cell = k; map = m } in
     ap (λ k. of k p.map) cell ∙ ap (of q.cell) (maps p.map q.map both.1)

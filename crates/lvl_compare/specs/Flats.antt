@@ -25,18 +25,22 @@ pub record IsApart (a b : List PlainSheet) (layer : Layer) (square : Square) (si
 pub record IsFirstApart (a b : List PlainSheet) (layer : Layer) (square : Square) (side : Side) : Type 0 where
   pub alone : IsAlone (RingsCover (rings_on layer a)) (RingsCover (rings_on layer b)) square side
   pub least_layer : (l : Layer) → ComesBefore l layer → AlikeOn a b l
-  pub least_square : (s : Square) → IsBefore s square → RingsCover (rings_on layer a) s ↔ RingsCover (rings_on layer b) s
+  pub least_square : (s : Square) → IsBefore s square
+      → RingsCover (rings_on layer a) s ↔ RingsCover (rings_on layer b) s
 
 -- on the Layer both cover the same of the window's squares
 abbrev pub AlikeIn : Option Window → List PlainSheet → List PlainSheet → Layer → Type 0
-AlikeIn window a b layer = (s : Square) → IsShown window s → RingsCover (rings_on layer a) s ↔ RingsCover (rings_on layer b) s
+AlikeIn window a b layer =
+    (s : Square) → IsShown window s → RingsCover (rings_on layer a) s ↔ RingsCover (rings_on layer b) s
 
 -- the square is the first of the window's, on the first Layer, that one side alone covers
-pub record IsFirstApartIn (window : Option Window) (a b : List PlainSheet) (layer : Layer) (square : Square) (side : Side) : Type 0 where
+pub record IsFirstApartIn (window : Option Window) (a b : List PlainSheet) (layer : Layer) (square : Square)
+    (side : Side) : Type 0 where
   pub shown : IsShown window square
   pub alone : IsAlone (RingsCover (rings_on layer a)) (RingsCover (rings_on layer b)) square side
   pub least_layer : (l : Layer) → ComesBefore l layer → AlikeIn window a b l
-  pub least_square : (s : Square) → IsShown window s → IsBefore s square → RingsCover (rings_on layer a) s ↔ RingsCover (rings_on layer b) s
+  pub least_square : (s : Square) → IsShown window s → IsBefore s square
+      → RingsCover (rings_on layer a) s ↔ RingsCover (rings_on layer b) s
 
 -- the Layer of the first sheet
 abbrev pub head_layer : List PlainSheet → Option Layer

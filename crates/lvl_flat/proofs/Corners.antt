@@ -24,17 +24,30 @@ twice z d = omega (arith, ints)
 
 -- along both axes the image of a point lies between those of the corners
 abbrev Lies : Map → Bounds → Point → Type 0
-Lies m b p = IsBetween (image m b.low).x (image m p).x (image m b.high).x × IsBetween (image m b.low).y (image m p).y (image m b.high).y
+Lies m b p =
+    IsBetween (image m b.low).x (image m p).x (image m b.high).x
+    × IsBetween (image m b.low).y (image m p).y (image m b.high).y
 
-lies : (f : Bool) (t : Turn) (at : Point) (b : Bounds) (p : Point) → IsWithin b p → Lies (record { flip = f; turn = t; at = at }) b p
+lies : (f : Bool) (t : Turn) (at : Point) (b : Bounds) (p : Point) → IsWithin b p
+    → Lies (record { flip = f; turn = t; at = at }) b p
 lies false R0 at b p w = (up b.low.x at.x p.x b.high.x w.left w.right, up b.low.y at.y p.y b.high.y w.below w.above)
 lies false R90 at b p w = (down b.low.y at.x p.y b.high.y w.below w.above, up b.low.x at.y p.x b.high.x w.left w.right)
-lies false R180 at b p w = (down b.low.x at.x p.x b.high.x w.left w.right, down b.low.y at.y p.y b.high.y w.below w.above)
+lies false R180 at b p w =
+    (down b.low.x at.x p.x b.high.x w.left w.right, down b.low.y at.y p.y b.high.y w.below w.above)
 lies false R270 at b p w = (up b.low.y at.x p.y b.high.y w.below w.above, down b.low.x at.y p.x b.high.x w.left w.right)
 lies true R0 at b p w = (up b.low.x at.x p.x b.high.x w.left w.right, down b.low.y at.y p.y b.high.y w.below w.above)
-lies true R90 at b p w = (record { way = inl (omega (arith, ints, w.below), omega (arith, ints, w.above)) }, up b.low.x at.y p.x b.high.x w.left w.right)
-lies true R180 at b p w = (down b.low.x at.x p.x b.high.x w.left w.right, record { way = inl (omega (arith, ints, w.below), omega (arith, ints, w.above)) })
-lies true R270 at b p w = (down b.low.y at.x p.y b.high.y w.below w.above, down b.low.x at.y p.x b.high.x w.left w.right)
+lies true R90 at b p w = (
+  record { way = inl (omega (arith, ints, w.below), omega (arith, ints, w.above)) },
+  up b.low.x at.y p.x b.high.x w.left w.right,
+)
+lies true R180 at b p w = (
+  down b.low.x at.x p.x b.high.x w.left w.right,
+  record {
+    way = inl (omega (arith, ints, w.below), omega (arith, ints, w.above));
+  },
+)
+lies true R270 at b p w =
+    (down b.low.y at.x p.y b.high.y w.below w.above, down b.low.x at.y p.x b.high.x w.left w.right)
 
 inside : (l x z y h : ℤ) → IsBetween x z y → l ≤ℤ x → x ≤ℤ h → l ≤ℤ y → y ≤ℤ h → (l ≤ℤ z) × (z ≤ℤ h)
 inside l x z y h b p q r s = elim b.way [
@@ -43,9 +56,14 @@ inside l x z y h b p q r s = elim b.way [
 ]
 
 -- where the images of the corners lie, the image of what is between them does
-pub placed_within : (m : Map) (b r : Bounds) (p : Point) → IsWithin r (image m b.low) → IsWithin r (image m b.high) → IsWithin b p → IsWithin r (image m p)
+pub placed_within : (m : Map) (b r : Bounds) (p : Point) → IsWithin r (image m b.low) → IsWithin r (image m b.high)
+    → IsWithin b p → IsWithin r (image m p)
 placed_within m b r p low high w =
     let both = lies m.flip m.turn m.at b p w in
-    let across = inside r.low.x (image m b.low).x (image m p).x (image m b.high).x r.high.x both.0 low.left low.right high.left high.right in
-    let along = inside r.low.y (image m b.low).y (image m p).y (image m b.high).y r.high.y both.1 low.below low.above high.below high.above in
+    let across =
+    inside r.low.x (image m b.low).x (image m p).x (image m b.high).x r.high.x both.0 low.left low.right high.left
+    high.right in
+    let along =
+    inside r.low.y (image m b.low).y (image m p).y (image m b.high).y r.high.y both.1 low.below low.above high.below
+    high.above in
     record { left = across.0; right = across.1; below = along.0; above = along.1 }

@@ -1,5 +1,7 @@
 -- The walk begins at the top, and ends with all rings drawn.
-use Rattle.std.proofs.Common.{◌≡◌, ◌≢◌, ◌↔◌, ◌<◌, ◌==◌, ◌++◌, ℕ, zero, suc, Bool, true, false, cond, append_assoc, List, [], ◌∷◌, length, filter, not, sum_by, slice_get, Some, Any, All, Contains, inl, inr, refl, sym, ap, subst, ◌∙◌, arith, rules}
+use Rattle.std.proofs.Common.{◌≡◌, ◌≢◌, ◌↔◌, ◌<◌, ◌==◌, ◌++◌, ℕ, zero, suc, Bool, true, false, cond, append_assoc, List}
+use Rattle.std.proofs.Common.{[], ◌∷◌, length, filter, not, sum_by, slice_get, Some, Any, All, Contains, inl, inr, refl}
+use Rattle.std.proofs.Common.{sym, ap, subst, ◌∙◌, arith, rules}
 use Rattle.std.proofs.lemmas.Int.{ints, clamps}
 use Rattle.std.proofs.lemmas.List.Elements.{All-head, All-tail, All-filter, filter-append, All-weaker, filter_passes}
 use Rattle.std.proofs.lemmas.Bool.{eqb-true}
@@ -13,14 +15,16 @@ use Rattle.lvl_cells.specs.Checks.{Settled}
 use Rattle.lvl_cells.specs.Coverage.{RingsCover, ShapeCovers, CellCovers}
 use Rattle.lvl_cells.specs.Soundness.{AreLinked, IsOrder}
 use Rattle.lvl_flat.specs.declared.visit.Visit.{Visit}
-use Rattle.lvl_flat.specs.Drawn.{drawn_on, AreFiguresPlaced, FitShapes}
+use Rattle.lvl_flat.specs.inside.Drawn.{drawn_on, AreFiguresPlaced}
+use Rattle.lvl_flat.specs.Flattened.{FitShapes}
 use Rattle.lvl_flat.specs.Flattened.{IsFlattened, IsOutOfRange}
 use Rattle.lvl_flat.specs.Sheet.{PlainSheet}
 use Rattle.lvl_flat.specs.Sheets.{AreSorted, IsInOrder, rings_on, has_rings, is_filled}
 use Rattle.lvl_cells.specs.Layers.{ComesBefore, same_layer}
-use Rattle.lvl_flat.specs.Visits.{picks, visit_weight, VisitCovers, FitsUnder, PicksFit, IsVisit}
-use Rattle.lvl_flat.specs.Walking.{AllHaveSheets, IsWalking}
-use Rattle.lvl_flat.specs.Entering.{begun, IsDrawn, IsCellOut, IsEnterFault, TellsName}
+use Rattle.lvl_flat.specs.inside.Visits.{picks, visit_weight, VisitCovers, FitsUnder, PicksFit, IsVisit}
+use Rattle.lvl_flat.specs.inside.Walking.{AllHaveSheets, IsWalking}
+use Rattle.lvl_flat.specs.inside.Entering.{begun, IsDrawn, IsCellOut, IsEnterFault}
+use Rattle.lvl_flat.specs.Flattened.{TellsName}
 use Rattle.lvl_flat.specs.declared.fault.FlatFault.{FlatFault}
 use Rattle.lvl_flat.specs.declared.fault.FlatFault.TheVariants.{OutOfRange}
 use Rattle.lvl_flat.proofs.Orders.{sorted_tail, rings_nowhere}
@@ -45,16 +49,21 @@ only v u (zero, below, same) P p = subst P same p
 only v u (suc k, below, same) P p = absurd (omega arith)
 
 -- sheets without a ring, and the top drawn on them
-pub walk_begins : (s : Settled) (c : PlainCell Rings) (empty new : List PlainSheet) → AreLinked s.cells → IsOrder s.cells s.order → slice_get s.cells s.top ≡ Some c → AreSorted empty → AllHaveSheets empty s.cells
-    → ((layer : Layer) → rings_on layer empty ≡ []) → IsDrawn s.cells s.top unmoved empty new → IsWalking s new (begun s.top unmoved ∷ [])
+pub walk_begins : (s : Settled) (c : PlainCell Rings) (empty new : List PlainSheet) → AreLinked s.cells
+    → IsOrder s.cells s.order → slice_get s.cells s.top ≡ Some c → AreSorted empty → AllHaveSheets empty s.cells
+    → ((layer : Layer) → rings_on layer empty ≡ []) → IsDrawn s.cells s.top unmoved empty new
+    → IsWalking s new (begun s.top unmoved ∷ [])
 walk_begins s c empty new linked ordered at sorted have none d =
     let cells : List (PlainCell Rings) = s.cells in
     let both : Some d.cell ≡ Some c = sym d.there ∙ at in
     let one : d.cell ≡ c = cc in
     let child : Visit = begun s.top unmoved in
-    let placed : AreFiguresPlaced unmoved c.shapes = subst (λ (b : PlainCell Rings). AreFiguresPlaced unmoved b.shapes) one d.placed in
+    let placed : AreFiguresPlaced unmoved c.shapes =
+    subst (λ (b : PlainCell Rings). AreFiguresPlaced unmoved b.shapes) one d.placed in
     let drawn : (layer : Layer) → rings_on layer new ≡ drawn_on layer unmoved c.shapes = λ layer.
-    d.drawn layer ∙ (ap (λ rs. rs ++ drawn_on layer unmoved d.cell.shapes) (none layer) ∙ ap (λ (b : PlainCell Rings). drawn_on layer unmoved b.shapes) one) in
+    d.drawn layer
+    ∙ (ap (λ rs. rs ++ drawn_on layer unmoved d.cell.shapes) (none layer)
+    ∙ ap (λ (b : PlainCell Rings). drawn_on layer unmoved b.shapes) one) in
     record {
       top = c;
       is_top = at;
@@ -73,28 +82,46 @@ walk_begins s c empty new linked ordered at sorted have none d =
                 let u : Under unmoved q (CellCovers RingsCover cells layer c) =
                 elim e [
                   | inl a ↦ begin.1 (inl (mine.0 (subst (λ rs. RingsCover rs q) (drawn layer) a)))
-                  | inr b ↦ elim (Any-uncons V child [] b) [ inl far ↦ begin.1 (inr far) | inr nothing ↦ absurd (Any-nil V nothing) ]
+                  | inr b ↦
+                      elim (Any-uncons V child [] b)
+                      [ inl far ↦ begin.1 (inr far) | inr nothing ↦ absurd (Any-nil V nothing) ]
                 ] in
                 subst (CellCovers RingsCover cells layer c) (sym (square_stays u.0) ∙ u.1) u.2,
           );
       counts = λ layer.
           let own : PlainCell Rings → ℕ = own_rings_on each_ring layer in
-          let long : length (rings_on layer new) ≡ own c = ap length (drawn layer) ∙ drawn_length layer unmoved c.shapes in
+          let long : length (rings_on layer new) ≡ own c =
+          ap length (drawn layer) ∙ drawn_length layer unmoved c.shapes in
           let single : sum_by (visit_weight own cells) (child ∷ []) ≡ visit_weight own cells child = omega arith in
           omega (arith, long, single, weight_begun own cells s.order s.top unmoved c linked ordered at);
       fits = λ each.
-          let begun_fits : PicksFit cells unmoved (picks c.references) = subst (PicksFit cells unmoved) (pending_at cells child c at ∙ picks_from_start c.references) (each child (0, omega arith, refl)) in
-          let under : FitsUnder cells unmoved c = fits_under cells unmoved c (in_range_of unmoved c fits_unmoved placed) begun_fits in
+          let begun_fits : PicksFit cells unmoved (picks c.references) =
+          subst (PicksFit cells unmoved) (pending_at cells child c at ∙ picks_from_start c.references)
+          (each child (0, omega arith, refl)) in
+          let under : FitsUnder cells unmoved c =
+          fits_under cells unmoved c (in_range_of unmoved c fits_unmoved placed) begun_fits in
           λ n m e chain. under n m e chain m (λ p. sym (image-unmoved (image m p)));
-      visits = λ u has. only child u has (λ v. IsVisit cells c v) (record { cell = c; there = at; steps = 0; chain = (refl, refl) });
+      visits =
+          λ u has. only child u has (λ v. IsVisit cells c v)
+          (record { cell = c; there = at; steps = 0; chain = (refl, refl) });
     }
 
 -- a top whose own vertices are out of range
-pub top_out : (s : Settled) (c : PlainCell Rings) (name : List ℕ) → slice_get s.cells s.top ≡ Some c → IsCellOut s.cells s.top unmoved name → IsOutOfRange s name
+pub top_out : (s : Settled) (c : PlainCell Rings) (name : List ℕ) → slice_get s.cells s.top ≡ Some c
+    → IsCellOut s.cells s.top unmoved name → IsOutOfRange s name
 top_out s c name at o =
     let both : Some o.cell ≡ Some c = sym o.there ∙ at in
     let one : o.cell ≡ c = cc in
-    record { top = c; is_top = at; steps = 0; map = unmoved; cell = o.cell; chain = (refl, one); named = o.named; out = λ fits. o.out fits.vertices }
+    record {
+      top = c;
+      is_top = at;
+      steps = 0;
+      map = unmoved;
+      cell = o.cell;
+      chain = (refl, one);
+      named = o.named;
+      out = λ fits. o.out fits.vertices;
+    }
 
 none_there : (rings : Rings) → has_rings rings ≡ false → rings ≡ []
 none_there [] e = refl
@@ -104,13 +131,15 @@ some_there : (rings : Rings) → has_rings rings ≡ true → rings ≢ []
 some_there [] e same = cc
 some_there (ring ∷ rings) e same = cc
 
-sorted_cons : (t : PlainSheet) (ss : List PlainSheet) → All (λ s. ComesBefore t.layer s.layer) ss → AreSorted ss → AreSorted (t ∷ ss)
+sorted_cons : (t : PlainSheet) (ss : List PlainSheet) → All (λ s. ComesBefore t.layer s.layer) ss → AreSorted ss
+    → AreSorted (t ∷ ss)
 sorted_cons t ss before sorted zero zero d lt in' = absurd (omega arith)
 sorted_cons t ss before sorted zero (suc j) d lt in' = before j d (omega arith)
 sorted_cons t ss before sorted (suc i) zero d lt in' = absurd (omega arith)
 sorted_cons t ss before sorted (suc i) (suc j) d lt in' = sorted i j d (omega arith) (omega arith)
 
-pub comes_before_rest : (t : PlainSheet) (ss : List PlainSheet) → AreSorted (t ∷ ss) → All (λ s. ComesBefore t.layer s.layer) ss
+pub comes_before_rest : (t : PlainSheet) (ss : List PlainSheet) → AreSorted (t ∷ ss)
+    → All (λ s. ComesBefore t.layer s.layer) ss
 comes_before_rest t ss sorted = λ k d inside. sorted 0 (suc k) d (omega arith) (omega arith)
 
 sorted_filter : (p : PlainSheet → Bool) (ss : List PlainSheet) → AreSorted ss → AreSorted (filter p ss)
@@ -118,53 +147,76 @@ sorted_filter p [] sorted = sorted
 sorted_filter p (t ∷ ss) sorted =
     let rest = sorted_filter p ss (sorted_tail t ss sorted) in
     elim (p t) as (λ b. AreSorted (cond b (t ∷ filter p ss) (filter p ss))) [
-      | true ↦ sorted_cons t (filter p ss) (All-filter p (λ s. ComesBefore t.layer s.layer) ss (comes_before_rest t ss sorted)) rest
+      | true ↦
+          sorted_cons t (filter p ss)
+          (All-filter p (λ s. ComesBefore t.layer s.layer) ss (comes_before_rest t ss sorted)) rest
       | false ↦ rest
     ]
 
 -- no ring is lost with the sheets that have none
-pub rings_on-filled : (ss : List PlainSheet) → AreSorted ss → (layer : Layer) → rings_on layer (filter is_filled ss) ≡ rings_on layer ss
+pub rings_on-filled : (ss : List PlainSheet) → AreSorted ss → (layer : Layer)
+    → rings_on layer (filter is_filled ss) ≡ rings_on layer ss
 rings_on-filled [] sorted layer = refl
 rings_on-filled (t ∷ ss) sorted layer =
     let rest = rings_on-filled ss (sorted_tail t ss sorted) layer in
-    elim (is_filled t) as (λ b. is_filled t ≡ b → rings_on layer (cond b (t ∷ filter is_filled ss) (filter is_filled ss)) ≡ cond (same_layer t.layer layer) t.rings (rings_on layer ss)) [
+    elim (is_filled t)
+    as (λ b. is_filled t ≡ b
+    → rings_on layer (cond b (t ∷ filter is_filled ss) (filter is_filled ss))
+    ≡ cond (same_layer t.layer layer) t.rings (rings_on layer ss)) [
       | true ↦ λ e. ap (cond (same_layer t.layer layer) t.rings) rest
       | false ↦ λ e.
           rest
-          ∙ elim (same_layer t.layer layer) as (λ b. same_layer t.layer layer ≡ b → rings_on layer ss ≡ cond b t.rings (rings_on layer ss)) [
+          ∙ elim (same_layer t.layer layer)
+          as (λ b. same_layer t.layer layer ≡ b → rings_on layer ss ≡ cond b t.rings (rings_on layer ss)) [
             | true ↦ λ f.
                 let here : t.layer ≡ layer = tested_layer t.layer layer (ap not f) in
-                let others : All (λ s. s.layer ≢ layer) ss = All-weaker (λ s. ComesBefore t.layer s.layer) (λ s. s.layer ≢ layer) (λ s before same. before_itself layer (subst (λ (x : Layer). ComesBefore x layer) here (subst (λ (x : Layer). ComesBefore t.layer x) same before))) ss (comes_before_rest t ss sorted) in
+                let others : All (λ s. s.layer ≢ layer) ss =
+                All-weaker (λ s. ComesBefore t.layer s.layer) (λ s. s.layer ≢ layer)
+                (λ s before same. before_itself layer (subst (λ (x : Layer). ComesBefore x layer) here
+                (subst (λ (x : Layer). ComesBefore t.layer x) same before))) ss
+                (comes_before_rest t ss sorted) in
                 rings_nowhere ss layer others ∙ sym (none_there t.rings e)
             | false ↦ λ f. refl
           ] refl
     ] refl
 
 -- a cell's own shapes, drawn by themselves
-pub own_covers : (c : PlainCell Rings) (empty new : List PlainSheet) → AreSorted empty → ((layer : Layer) → rings_on layer empty ≡ []) → IsDrawn (c ∷ []) 0 unmoved empty new
-    → (layer : Layer) (s : Square) → RingsCover (rings_on layer (filter is_filled new)) s ↔ Any (ShapeCovers RingsCover layer s) c.shapes
+pub own_covers : (c : PlainCell Rings) (empty new : List PlainSheet) → AreSorted empty
+    → ((layer : Layer) → rings_on layer empty ≡ []) → IsDrawn (c ∷ []) 0 unmoved empty new
+    → (layer : Layer) (s : Square)
+    → RingsCover (rings_on layer (filter is_filled new)) s ↔ Any (ShapeCovers RingsCover layer s) c.shapes
 own_covers c empty new sorted none d layer s =
     let both : Some c ≡ Some d.cell = d.there in
     let one : d.cell ≡ c = cc in
-    let placed : AreFiguresPlaced unmoved c.shapes = subst (λ (b : PlainCell Rings). AreFiguresPlaced unmoved b.shapes) one d.placed in
+    let placed : AreFiguresPlaced unmoved c.shapes =
+    subst (λ (b : PlainCell Rings). AreFiguresPlaced unmoved b.shapes) one d.placed in
     let drawn : rings_on layer new ≡ drawn_on layer unmoved c.shapes =
-    d.drawn layer ∙ (ap (λ rs. rs ++ drawn_on layer unmoved d.cell.shapes) (none layer) ∙ ap (λ (b : PlainCell Rings). drawn_on layer unmoved b.shapes) one) in
-    let same : rings_on layer (filter is_filled new) ≡ drawn_on layer unmoved c.shapes = rings_on-filled new (sorted_alike new empty d.layers sorted) layer ∙ drawn in
+    d.drawn layer
+    ∙ (ap (λ rs. rs ++ drawn_on layer unmoved d.cell.shapes) (none layer)
+    ∙ ap (λ (b : PlainCell Rings). drawn_on layer unmoved b.shapes) one) in
+    let same : rings_on layer (filter is_filled new) ≡ drawn_on layer unmoved c.shapes =
+    rings_on-filled new (sorted_alike new empty d.layers sorted) layer ∙ drawn in
     let mine = drawn_covers layer unmoved s c.shapes placed in (
-      λ a. let u = mine.0 (subst (λ rs. RingsCover rs s) same a) in subst (λ t. Any (ShapeCovers RingsCover layer t) c.shapes) (sym (square_stays u.0) ∙ u.1) u.2,
+      λ a. let u = mine.0 (subst (λ rs. RingsCover rs s) same a) in
+          subst (λ t. Any (ShapeCovers RingsCover layer t) c.shapes) (sym (square_stays u.0) ∙ u.1) u.2,
       λ h. subst (λ rs. RingsCover rs s) (sym same) (mine.1 (s, square_stays s, h)),
     )
 
 -- whose vertices are out of range
-pub own_out : (c : PlainCell Rings) (fault : FlatFault) → IsEnterFault (c ∷ []) 0 unmoved fault → TellsName c.name fault × (¬ FitShapes unmoved c.shapes)
+pub own_out : (c : PlainCell Rings) (fault : FlatFault) → IsEnterFault (c ∷ []) 0 unmoved fault
+    → TellsName c.name fault × (¬ FitShapes unmoved c.shapes)
 own_out c (OutOfRange name) o =
     let both : Some c ≡ Some o.cell = o.there in
-    let one : o.cell ≡ c = cc in
-    (sym o.named ∙ ap (λ (b : PlainCell Rings). b.name) one, subst (λ (b : PlainCell Rings). ¬ FitShapes unmoved b.shapes) one o.out)
+    let one : o.cell ≡ c = cc in (
+      sym o.named ∙ ap (λ (b : PlainCell Rings). b.name) one,
+      subst (λ (b : PlainCell Rings). ¬ FitShapes unmoved b.shapes) one o.out,
+    )
 
 pub filled_in_order : (ss : List PlainSheet) → AreSorted ss → IsInOrder (filter is_filled ss)
 filled_in_order ss sorted = record {
-  filled = All-weaker (λ s. is_filled s ≡ true) (λ s. s.rings ≢ []) (λ s. some_there s.rings) (filter is_filled ss) (filter_passes is_filled ss);
+  filled =
+      All-weaker (λ s. is_filled s ≡ true) (λ s. s.rings ≢ []) (λ s. some_there s.rings) (filter is_filled ss)
+      (filter_passes is_filled ss);
   sorted = sorted_filter is_filled ss sorted;
 }
 
@@ -177,14 +229,18 @@ filled_if (ring ∷ rings) false e =
     absurd (omega arith)
 
 -- one sheet more, kept for its rings or left out for want of them
-pub filled_step : (ss filled all rest rest' : List PlainSheet) (s : PlainSheet) (b : Bool) → (length s.rings == 0) ≡ not b → (filled ≡ filter is_filled ss) × (ss ++ rest ≡ all) → rest ≡ s ∷ rest'
+pub filled_step : (ss filled all rest rest' : List PlainSheet) (s : PlainSheet) (b : Bool)
+    → (length s.rings == 0) ≡ not b → (filled ≡ filter is_filled ss) × (ss ++ rest ≡ all) → rest ≡ s ∷ rest'
     → (filled ++ cond b (s ∷ []) [] ≡ filter is_filled (ss ++ s ∷ [])) × ((ss ++ s ∷ []) ++ rest' ≡ all)
 filled_step ss filled all rest rest' s b e so next = (
-  ap (λ fs. fs ++ cond b (s ∷ []) []) so.0 ∙ sym (filter-append is_filled ss (s ∷ []) ∙ ap (λ t. filter is_filled ss ++ cond t (s ∷ []) []) (filled_if s.rings b e)),
+  ap (λ fs. fs ++ cond b (s ∷ []) []) so.0
+      ∙ sym (filter-append is_filled ss (s ∷ [])
+      ∙ ap (λ t. filter is_filled ss ++ cond t (s ∷ []) []) (filled_if s.rings b e)),
   append_assoc ss (s ∷ []) rest' ∙ (ap (λ r. ss ++ r) (sym next) ∙ so.1),
 )
 
-pub walk_ends : (s : Settled) (sheets : List PlainSheet) → IsWalking s sheets [] → IsFlattened s (filter is_filled sheets)
+pub walk_ends : (s : Settled) (sheets : List PlainSheet) → IsWalking s sheets []
+    → IsFlattened s (filter is_filled sheets)
 walk_ends s sheets w = record {
   top = w.top;
   is_top = w.is_top;
@@ -192,7 +248,10 @@ walk_ends s sheets w = record {
       let same = rings_on-filled sheets w.sorted layer in
       let both = w.covers layer q in (
         λ a. both.1 (inl (subst (λ rs. RingsCover rs q) same a)),
-        λ h. elim (both.0 h) [ inl a ↦ subst (λ rs. RingsCover rs q) (sym same) a | inr b ↦ absurd (Any-nil (VisitCovers s.cells layer q) b) ],
+        λ h. elim (both.0 h) [
+          | inl a ↦ subst (λ rs. RingsCover rs q) (sym same) a
+          | inr b ↦ absurd (Any-nil (VisitCovers s.cells layer q) b)
+        ],
       );
   count = λ layer. ap length (rings_on-filled sheets w.sorted layer) ∙ omega (arith, w.counts layer);
   in_range = w.fits (λ v has. let below : has.0 < 0 = has.1 in absurd (omega arith));
@@ -202,4 +261,8 @@ walk_ends s sheets w = record {
 pub rings_on_empty : (ss : List PlainSheet) → All (λ s. s.rings ≡ []) ss → (layer : Layer) → rings_on layer ss ≡ []
 rings_on_empty [] empty layer = refl
 rings_on_empty (t ∷ ss) empty layer =
-    elim (same_layer t.layer layer) as (λ b. cond b t.rings (rings_on layer ss) ≡ []) [ true ↦ All-head (λ s. s.rings ≡ []) t ss empty | false ↦ rings_on_empty ss (All-tail (λ s. s.rings ≡ []) t ss empty) layer ]
+    elim (same_layer t.layer layer)
+    as (λ b. cond b t.rings (rings_on layer ss) ≡ []) [
+      | true ↦ All-head (λ s. s.rings ≡ []) t ss empty
+      | false ↦ rings_on_empty ss (All-tail (λ s. s.rings ≡ []) t ss empty) layer
+    ]

@@ -1,5 +1,6 @@
 -- Rings moved to the targets of their Layers.
-use Rattle.std.proofs.Common.{◌≡◌, ◌≢◌, ◌↔◌, ◌++◌, Bool, true, false, cond, not, List, [], ◌∷◌, map, All, Contains, inl, inr, refl, sym, ap, subst, ◌∙◌, arith}
+use Rattle.std.proofs.Common.{◌≡◌, ◌≢◌, ◌↔◌, ◌++◌, Bool, true, false, cond, not, List, [], ◌∷◌, map, All, Contains, inl}
+use Rattle.std.proofs.Common.{inr, refl, sym, ap, subst, ◌∙◌, arith}
 use Rattle.std.proofs.lemmas.List.{append-nil, map-append}
 use Rattle.std.proofs.lemmas.List.Concat.{flat_map-append}
 use Rattle.std.proofs.lemmas.List.Elements.{All-contains, All-weaker, Contains-append_right}
@@ -25,35 +26,51 @@ abbrev pub moved_on : List LayerPair → Layer → PlainSheet → Rings
 moved_on pairs layer t = cond (same_layer (target_of pairs t.layer) layer) t.rings []
 
 -- one sheet more
-pub mapped_more : (pairs : List LayerPair) (layer : Layer) (sheets : List PlainSheet) (t : PlainSheet) → mapped_on pairs layer (sheets ++ t ∷ []) ≡ mapped_on pairs layer sheets ++ moved_on pairs layer t
+pub mapped_more : (pairs : List LayerPair) (layer : Layer) (sheets : List PlainSheet) (t : PlainSheet)
+    → mapped_on pairs layer (sheets ++ t ∷ []) ≡ mapped_on pairs layer sheets ++ moved_on pairs layer t
 mapped_more pairs layer sheets t =
-    flat_map-append (moved_on pairs layer) sheets (t ∷ []) ∙ ap (λ rings. mapped_on pairs layer sheets ++ rings) (append-nil (moved_on pairs layer t))
+    flat_map-append (moved_on pairs layer) sheets (t ∷ [])
+    ∙ ap (λ rings. mapped_on pairs layer sheets ++ rings) (append-nil (moved_on pairs layer t))
 
 none_cover : (s : Square) → RingsCover [] s → ⊥
 none_cover s a = Any-nil (λ (ring : List Point). Covers ring s) a
 
 -- what a sheet after the first has on a Layer is there with the first too
-covered_after : (t : PlainSheet) (ts : List PlainSheet) (layer : Layer) (s : Square) → AreSorted (t ∷ ts) → RingsCover (rings_on layer ts) s → RingsCover (rings_on layer (t ∷ ts)) s
-covered_after t ts layer s sorted a = elim (same_layer t.layer layer) as (λ b. same_layer t.layer layer ≡ b → RingsCover (cond b t.rings (rings_on layer ts)) s) [
-  | true ↦ λ e.
-      let here : t.layer ≡ layer = tested_layer t.layer layer (ap not e) in
-      let others : All (λ u. u.layer ≢ layer) ts = All-weaker (λ u. ComesBefore t.layer u.layer) (λ u. u.layer ≢ layer) (λ u before same. before_itself layer (subst (λ (x : Layer). ComesBefore x layer) here (subst (λ (x : Layer). ComesBefore t.layer x) same before))) ts (comes_before_rest t ts sorted) in
-      absurd (none_cover s (subst (λ (rings : Rings). RingsCover rings s) (rings_nowhere ts layer others) a))
-  | false ↦ λ e. a
-] refl
+covered_after : (t : PlainSheet) (ts : List PlainSheet) (layer : Layer) (s : Square) → AreSorted (t ∷ ts)
+    → RingsCover (rings_on layer ts) s → RingsCover (rings_on layer (t ∷ ts)) s
+covered_after t ts layer s sorted a =
+    elim (same_layer t.layer layer)
+    as (λ b. same_layer t.layer layer ≡ b → RingsCover (cond b t.rings (rings_on layer ts)) s) [
+      | true ↦ λ e.
+          let here : t.layer ≡ layer = tested_layer t.layer layer (ap not e) in
+          let others : All (λ u. u.layer ≢ layer) ts =
+          All-weaker (λ u. ComesBefore t.layer u.layer) (λ u. u.layer ≢ layer)
+          (λ u before same. before_itself layer (subst (λ (x : Layer). ComesBefore x layer) here
+          (subst (λ (x : Layer). ComesBefore t.layer x) same before))) ts (comes_before_rest t ts sorted) in
+          absurd (none_cover s (subst (λ (rings : Rings). RingsCover rings s) (rings_nowhere ts layer others) a))
+      | false ↦ λ e. a
+    ] refl
 
-first_covered : (pairs : List LayerPair) (t : PlainSheet) (ts : List PlainSheet) (layer : Layer) (s : Square) → RingsCover (moved_on pairs layer t) s → IsCoveredFrom pairs (t ∷ ts) layer s
-first_covered pairs t ts layer s a = elim (same_layer (target_of pairs t.layer) layer) as (λ b. same_layer (target_of pairs t.layer) layer ≡ b → RingsCover (cond b t.rings []) s → IsCoveredFrom pairs (t ∷ ts) layer s) [
-  | true ↦ λ e h. record {
-    source = t.layer;
-    target_is = tested_layer (target_of pairs t.layer) layer (ap not e);
-    covered = subst (λ (b : Bool). RingsCover (cond b t.rings (rings_on t.layer ts)) s) (sym (same_is t.layer t.layer refl)) h;
-  }
-  | false ↦ λ e h. absurd (none_cover s h)
-] refl a
+first_covered : (pairs : List LayerPair) (t : PlainSheet) (ts : List PlainSheet) (layer : Layer) (s : Square)
+    → RingsCover (moved_on pairs layer t) s → IsCoveredFrom pairs (t ∷ ts) layer s
+first_covered pairs t ts layer s a =
+    elim (same_layer (target_of pairs t.layer) layer)
+    as (λ b. same_layer (target_of pairs t.layer) layer ≡ b → RingsCover (cond b t.rings []) s
+    → IsCoveredFrom pairs (t ∷ ts) layer s) [
+      | true ↦ λ e h. record {
+        source = t.layer;
+        target_is = tested_layer (target_of pairs t.layer) layer (ap not e);
+        covered =
+            subst (λ (b : Bool). RingsCover (cond b t.rings (rings_on t.layer ts)) s)
+            (sym (same_is t.layer t.layer refl))
+            h;
+      }
+      | false ↦ λ e h. absurd (none_cover s h)
+    ] refl a
 
 -- the rings that came to a Layer cover what was covered on the Layers whose target it is
-pub mapped_covers : (pairs : List LayerPair) (sheets : List PlainSheet) (layer : Layer) (s : Square) → AreSorted sheets → RingsCover (mapped_on pairs layer sheets) s ↔ IsCoveredFrom pairs sheets layer s
+pub mapped_covers : (pairs : List LayerPair) (sheets : List PlainSheet) (layer : Layer) (s : Square) → AreSorted sheets
+    → RingsCover (mapped_on pairs layer sheets) s ↔ IsCoveredFrom pairs sheets layer s
 mapped_covers pairs [] layer s sorted = (λ a. absurd (none_cover s a), λ h. absurd (none_cover s h.covered))
 mapped_covers pairs (t ∷ ts) layer s sorted =
     let rest = mapped_covers pairs ts layer s (sorted_tail t ts sorted) in
@@ -62,19 +79,36 @@ mapped_covers pairs (t ∷ ts) layer s sorted =
     let theirs : Rings = mapped_on pairs layer ts in (
       λ a. elim (Any-sides P mine theirs a) [
         | inl b ↦ first_covered pairs t ts layer s b
-        | inr b ↦ let h = rest.0 b in record { source = h.source; target_is = h.target_is; covered = covered_after t ts h.source s sorted h.covered }
+        | inr b ↦
+            let h = rest.0 b in
+            record {
+              source = h.source;
+              target_is = h.target_is;
+              covered = covered_after t ts h.source s sorted h.covered;
+            }
       ],
-      λ h. elim (same_layer t.layer h.source) as (λ b. same_layer t.layer h.source ≡ b → RingsCover (cond b t.rings (rings_on h.source ts)) s → RingsCover (mine ++ theirs) s) [
-        | true ↦ λ e k.
-            let here : target_of pairs t.layer ≡ layer = ap (target_of pairs) (tested_layer t.layer h.source (ap not e)) ∙ h.target_is in
-            Any-left P mine theirs (subst (λ (b : Bool). RingsCover (cond b t.rings []) s) (sym (same_is (target_of pairs t.layer) layer here)) k)
-        | false ↦ λ e k. Any-right P mine theirs (rest.1 (record { source = h.source; target_is = h.target_is; covered = k }))
-      ] refl h.covered,
+      λ h. elim (same_layer t.layer h.source)
+          as (λ b. same_layer t.layer h.source ≡ b → RingsCover (cond b t.rings (rings_on h.source ts)) s
+          → RingsCover (mine ++ theirs) s) [
+            | true ↦ λ e k.
+                let here : target_of pairs t.layer ≡ layer =
+                ap (target_of pairs) (tested_layer t.layer h.source (ap not e)) ∙ h.target_is in
+                Any-left P mine theirs (subst (λ (b : Bool). RingsCover (cond b t.rings []) s)
+                (sym (same_is (target_of pairs t.layer) layer here)) k)
+            | false ↦
+                λ e k. Any-right P mine theirs
+                (rest.1 (record { source = h.source; target_is = h.target_is; covered = k }))
+          ] refl h.covered,
     )
 
 -- the target of a sheet is among those of all
-pub target_there : (pairs : List LayerPair) (layers : List Layer) (before after all : List PlainSheet) (t : PlainSheet) → before ++ t ∷ after ≡ all → All (Contains layers) (map (λ s. target_of pairs s.layer) all) → Contains layers (target_of pairs t.layer)
+pub target_there : (pairs : List LayerPair) (layers : List Layer) (before after all : List PlainSheet) (t : PlainSheet)
+    → before ++ t ∷ after ≡ all → All (Contains layers) (map (λ s. target_of pairs s.layer) all)
+    → Contains layers (target_of pairs t.layer)
 target_there pairs layers before after all t e there =
     let target : PlainSheet → Layer = λ s. target_of pairs s.layer in
-    let has : Contains (map target (before ++ t ∷ after)) (target t) = rw map-append (Contains-append_right (map target before) (target t ∷ map target after) (target t) (0, omega arith, refl)) in
-    All-contains (Contains layers) (map target all) (target t) there (subst (λ (ss : List PlainSheet). Contains (map target ss) (target t)) e has)
+    let has : Contains (map target (before ++ t ∷ after)) (target t) =
+    rw map-append (Contains-append_right (map target before) (target t ∷ map target after) (target t)
+    (0, omega arith, refl)) in
+    All-contains (Contains layers) (map target all) (target t) there
+    (subst (λ (ss : List PlainSheet). Contains (map target ss) (target t)) e has)

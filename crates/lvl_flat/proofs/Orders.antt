@@ -1,5 +1,6 @@
 -- The order of the Layers, and of sheets.
-use Rattle.std.proofs.Common.{◌≡◌, ◌<◌, ◌≤◌, ℕ, List, length, get_or, Some, inl, inr, refl, subst, sym, ap, arith, slice_get, All, ◌∙◌, ◌≢◌, [], ◌∷◌, zero, suc, cond}
+use Rattle.std.proofs.Common.{◌≡◌, ◌<◌, ◌≤◌, ℕ, List, length, get_or, Some, inl, inr, refl, subst, sym, ap, arith}
+use Rattle.std.proofs.Common.{slice_get, All, ◌∙◌, ◌≢◌, [], ◌∷◌, zero, suc, cond}
 use Rattle.std.proofs.lemmas.Option.{slice_get_within, get_or_from_slice_get, slice_get-get_or}
 use Rattle.std.proofs.lemmas.Bool.{cases_lt}
 use Rattle.std.proofs.lemmas.List.Elements.{All-head, All-tail}
@@ -10,15 +11,19 @@ use Rattle.lvl_cells.specs.Layers.{ComesBefore}
 use Rattle.lvl_cells.proofs.Layers.{before_trans, before_itself, same_is, differs_is}
 
 -- a sheet comes before those behind it
-pub sorted_at : (sheets : List PlainSheet) (i j : ℕ) (s t : PlainSheet) → AreSorted sheets → slice_get sheets i ≡ Some s → slice_get sheets j ≡ Some t → i < j → ComesBefore s.layer t.layer
+pub sorted_at : (sheets : List PlainSheet) (i j : ℕ) (s t : PlainSheet) → AreSorted sheets → slice_get sheets i ≡ Some s
+    → slice_get sheets j ≡ Some t → i < j → ComesBefore s.layer t.layer
 sorted_at sheets i j s t sorted at_i at_j lt =
     let P : PlainSheet → PlainSheet → Type 0 = λ u v. ComesBefore u.layer v.layer in
     let left : get_or sheets i s ≡ s = get_or_from_slice_get sheets i s s at_i in
     let right : get_or sheets j s ≡ t = get_or_from_slice_get sheets j t s at_j in
-    subst (λ u. P u t) left (subst (λ v. P (get_or sheets i s) v) right (sorted i j s lt (slice_get_within sheets j t at_j)))
+    subst (λ u. P u t) left
+    (subst (λ v. P (get_or sheets i s) v) right (sorted i j s lt (slice_get_within sheets j t at_j)))
 
 -- a sheet up to one that comes before the Layer does so too
-pub up_to : (sheets : List PlainSheet) (layer : Layer) (m k : ℕ) (t s : PlainSheet) → AreSorted sheets → slice_get sheets m ≡ Some t → ComesBefore t.layer layer → k ≤ m → slice_get sheets k ≡ Some s → ComesBefore s.layer layer
+pub up_to : (sheets : List PlainSheet) (layer : Layer) (m k : ℕ) (t s : PlainSheet) → AreSorted sheets
+    → slice_get sheets m ≡ Some t → ComesBefore t.layer layer → k ≤ m → slice_get sheets k ≡ Some s
+    → ComesBefore s.layer layer
 up_to sheets layer m k t s sorted there before low at =
     elim (cases_lt k m) [
       | inl lt ↦ before_trans s.layer t.layer layer (sorted_at sheets k m s t sorted at there lt) before
@@ -30,8 +35,11 @@ up_to sheets layer m k t s sorted there before low at =
     ]
 
 -- a sheet from one on that does not come before the Layer does not either
-pub from_on : (sheets : List PlainSheet) (layer : Layer) (m k : ℕ) (t s : PlainSheet) → AreSorted sheets → slice_get sheets m ≡ Some t → (ComesBefore t.layer layer → ⊥) → m ≤ k → slice_get sheets k ≡ Some s → ComesBefore s.layer layer → ⊥
-from_on sheets layer m k t s sorted there late high at before = late (up_to sheets layer k m s t sorted at before high there)
+pub from_on : (sheets : List PlainSheet) (layer : Layer) (m k : ℕ) (t s : PlainSheet) → AreSorted sheets
+    → slice_get sheets m ≡ Some t → (ComesBefore t.layer layer → ⊥) → m ≤ k → slice_get sheets k ≡ Some s
+    → ComesBefore s.layer layer → ⊥
+from_on sheets layer m k t s sorted there late high at before =
+    late (up_to sheets layer k m s t sorted at before high there)
 
 -- a Layer that is none of those that come before it, of its own place's, nor of those behind
 pub nowhere : (sheets : List PlainSheet) (layer : Layer) (low : ℕ) → AreSorted sheets
@@ -48,8 +56,10 @@ nowhere sheets layer low sorted below above other k d in' same =
           elim (cases_lt low k) [
             | inl gt ↦
                 let first : PlainSheet = get_or sheets low d in
-                let there : slice_get sheets low ≡ Some first = slice_get-get_or sheets low d (omega (arith, gt, in')) in
-                above low first (omega arith) there (subst (λ (x : Layer). ComesBefore first.layer x) same (sorted_at sheets low k first s sorted there at gt))
+                let there : slice_get sheets low ≡ Some first =
+                slice_get-get_or sheets low d (omega (arith, gt, in')) in
+                above low first (omega arith) there (subst (λ (x : Layer). ComesBefore first.layer x) same
+                (sorted_at sheets low k first s sorted there at gt))
             | inr eq ↦
                 let here : k ≡ low = omega (arith, le, eq) in
                 other s (subst (λ (j : ℕ). slice_get sheets j ≡ Some s) here at) same
@@ -60,17 +70,25 @@ pub sorted_tail : (s : PlainSheet) (sheets : List PlainSheet) → AreSorted (s �
 sorted_tail s sheets sorted = λ i j d lt in'. sorted (suc i) (suc j) d (omega (arith, lt)) (omega (arith, in'))
 
 -- the rings on a Layer, where its sheet stands and where none does
-pub rings_where : (sheets : List PlainSheet) (layer : Layer) (i : ℕ) (s : PlainSheet) → AreSorted sheets → slice_get sheets i ≡ Some s → s.layer ≡ layer → rings_on layer sheets ≡ s.rings
+pub rings_where : (sheets : List PlainSheet) (layer : Layer) (i : ℕ) (s : PlainSheet) → AreSorted sheets
+    → slice_get sheets i ≡ Some s → s.layer ≡ layer → rings_on layer sheets ≡ s.rings
 rings_where [] layer i s sorted at is = cc
 rings_where (t ∷ sheets) layer zero s sorted at is =
     let one : t ≡ s = cc in
-    ap (λ b. cond b t.rings (rings_on layer sheets)) (same_is t.layer layer (ap (λ (x : PlainSheet). x.layer) one ∙ is)) ∙ ap (λ (x : PlainSheet). x.rings) one
+    ap (λ b. cond b t.rings (rings_on layer sheets)) (same_is t.layer layer (ap (λ (x : PlainSheet). x.layer) one ∙ is))
+    ∙ ap (λ (x : PlainSheet). x.rings) one
 rings_where (t ∷ sheets) layer (suc i) s sorted at is =
     let before : ComesBefore t.layer s.layer = sorted_at (t ∷ sheets) 0 (suc i) t s sorted refl at (omega arith) in
-    let other : t.layer ≡ layer → ⊥ = λ e. before_itself layer (subst (λ (x : Layer). ComesBefore x layer) e (subst (λ (x : Layer). ComesBefore t.layer x) is before)) in
-    ap (λ b. cond b t.rings (rings_on layer sheets)) (differs_is t.layer layer other) ∙ rings_where sheets layer i s (sorted_tail t sheets sorted) at is
+    let other : t.layer ≡ layer → ⊥ =
+    λ e. before_itself layer
+    (subst (λ (x : Layer). ComesBefore x layer) e (subst (λ (x : Layer). ComesBefore t.layer x) is before)) in
+    ap (λ b. cond b t.rings (rings_on layer sheets)) (differs_is t.layer layer other)
+    ∙ rings_where sheets layer i s (sorted_tail t sheets sorted) at is
 
-pub rings_nowhere : (sheets : List PlainSheet) (layer : Layer) → All (λ s. s.layer ≢ layer) sheets → rings_on layer sheets ≡ []
+pub rings_nowhere : (sheets : List PlainSheet) (layer : Layer) → All (λ s. s.layer ≢ layer) sheets
+    → rings_on layer sheets ≡ []
 rings_nowhere [] layer none = refl
 rings_nowhere (t ∷ sheets) layer none =
-    ap (λ b. cond b t.rings (rings_on layer sheets)) (differs_is t.layer layer (All-head (λ s. s.layer ≢ layer) t sheets none)) ∙ rings_nowhere sheets layer (All-tail (λ s. s.layer ≢ layer) t sheets none)
+    ap (λ b. cond b t.rings (rings_on layer sheets))
+    (differs_is t.layer layer (All-head (λ s. s.layer ≢ layer) t sheets none))
+    ∙ rings_nowhere sheets layer (All-tail (λ s. s.layer ≢ layer) t sheets none)

@@ -1,5 +1,6 @@
 -- Chains by their first choice, and what of them is in range.
-use Rattle.std.proofs.Common.{◌≡◌, ℕ, zero, suc, List, Some, Any, Contains, ℤ, pos, ◌+ℤ◌, Bool, true, false, refl, sym, ap, subst, ◌∙◌, arith}
+use Rattle.std.proofs.Common.{◌≡◌, ℕ, zero, suc, List, Some, Any, Contains, ℤ, pos, ◌+ℤ◌, Bool, true, false, refl, sym}
+use Rattle.std.proofs.Common.{ap, subst, ◌∙◌, arith}
 use Rattle.std.proofs.lemmas.Int.{ints}
 use Rattle.lvl_grid.specs.declared.map.Turn.{Turn}
 use Rattle.lvl_grid.specs.declared.map.Turn.TheVariants.{R0, R90, R180, R270}
@@ -9,7 +10,7 @@ use Rattle.lvl_grid.specs.Turn.{image, turned, reflected, shifted, FitsPoint}
 use Rattle.lvl_grid.proofs.Composing.{composed, image-composed, same_point}
 use Rattle.lvl_cells.specs.Cells.{PlainCell, PlainReference, Rings, each_ring, placing, cell_named}
 use Rattle.lvl_cells.specs.Chains.{Chain, IsComposed, IsInRange, unmoved}
-use Rattle.lvl_flat.specs.Visits.{Pick, picks, FitsUnder, PicksFit}
+use Rattle.lvl_flat.specs.inside.Visits.{Pick, picks, FitsUnder, PicksFit}
 use Rattle.lvl_flat.proofs.Picks.{picks_any}
 
 plus_zero : (a : ℤ) → a +ℤ pos 0 ≡ a
@@ -28,15 +29,20 @@ last_pick cells refs w m d a =
     (a.0, a.1, a.2, a.3, (a.4.1.0, a.4.1.1, a.4.1.2, a.4.1.3, (a.4.0, a.4.1.4)))
 
 -- a chain with one pick more
-pub chain_more : (cells : List (PlainCell Rings)) (top : PlainCell Rings) (n : ℕ) (w m : Map) (c d : PlainCell Rings) (p : Pick)
-    → Chain cells top n w c → Contains (picks c.references) p → cell_named cells p.0.cell ≡ Some d → IsComposed w (placing p.0 p.1) m → Chain cells top (suc n) m d
+pub chain_more : (cells : List (PlainCell Rings)) (top : PlainCell Rings) (n : ℕ) (w m : Map) (c d : PlainCell Rings)
+    (p : Pick)
+    → Chain cells top n w c → Contains (picks c.references) p → cell_named cells p.0.cell ≡ Some d
+    → IsComposed w (placing p.0 p.1) m → Chain cells top (suc n) m d
 chain_more cells top n w m c d p chain has named whole =
-    let P : PlainReference → Point → Type 0 = λ r e. (cell_named cells r.cell ≡ Some d) × IsComposed w (placing r e) m in
-    let some : Any (λ r. Any (P r) r.shifts) c.references = (picks_any P c.references).1 (has.0, p, has.1, has.2, (named, whole)) in
+    let P : PlainReference → Point → Type 0 =
+    λ r e. (cell_named cells r.cell ≡ Some d) × IsComposed w (placing r e) m in
+    let some : Any (λ r. Any (P r) r.shifts) c.references =
+    (picks_any P c.references).1 (has.0, p, has.1, has.2, (named, whole)) in
     (w, c, chain, (some.0, some.1, some.2, some.3, (some.4.4.0, (some.4.0, some.4.1, some.4.2, some.4.3, some.4.4.1))))
 
 -- the first choice of a chain, and the chain that goes on from there
-pub record FirstChoice (cells : List (PlainCell Rings)) (c : PlainCell Rings) (n : ℕ) (m : Map) (d : PlainCell Rings) : Type 0 where
+pub record FirstChoice (cells : List (PlainCell Rings)) (c : PlainCell Rings) (n : ℕ) (m : Map)
+    (d : PlainCell Rings) : Type 0 where
   pub pick : Pick
   pub next : PlainCell Rings
   pub rest : Map
@@ -45,7 +51,8 @@ pub record FirstChoice (cells : List (PlainCell Rings)) (c : PlainCell Rings) (n
   pub chain : Chain cells next n rest d
   pub whole : IsComposed (placing pick.0 pick.1) rest m
 
-pub first_choice : (cells : List (PlainCell Rings)) (c : PlainCell Rings) (n : ℕ) (m : Map) (d : PlainCell Rings) → Chain cells c (suc n) m d → FirstChoice cells c n m d
+pub first_choice : (cells : List (PlainCell Rings)) (c : PlainCell Rings) (n : ℕ) (m : Map) (d : PlainCell Rings)
+    → Chain cells c (suc n) m d → FirstChoice cells c n m d
 first_choice cells c zero m d chain =
     let base = chain.2 in
     let a = last_pick cells chain.1.references chain.0 m d chain.3 in
@@ -57,7 +64,10 @@ first_choice cells c zero m d chain =
       chosen = subst (λ (b : PlainCell Rings). Contains (picks b.references) a.1) base.1 (a.0, a.2, a.3);
       named = a.4.0;
       chain = (refl, refl);
-      whole = λ q. a.4.1 q ∙ (ap (λ (u : Map). image u (image place q)) base.0 ∙ (image-unmoved (image place q) ∙ sym (ap (image place) (image-unmoved q))));
+      whole =
+          λ q. a.4.1 q
+          ∙ (ap (λ (u : Map). image u (image place q)) base.0
+          ∙ (image-unmoved (image place q) ∙ sym (ap (image place) (image-unmoved q))));
     }
 first_choice cells c (suc n) m d chain =
     let first = first_choice cells c n chain.0 chain.1 chain.2 in
@@ -71,7 +81,9 @@ first_choice cells c (suc n) m d chain =
       rest = rest;
       chosen = first.chosen;
       named = first.named;
-      chain = chain_more cells first.next n first.rest rest chain.1 d a.1 first.chain (a.0, a.2, a.3) a.4.0 (λ p. image-composed first.rest place p);
+      chain =
+          chain_more cells first.next n first.rest rest chain.1 d a.1 first.chain (a.0, a.2, a.3) a.4.0
+          (λ p. image-composed first.rest place p);
       whole = λ q. a.4.1 q ∙ (first.whole (image place q) ∙ ap (image begin) (sym (image-composed first.rest place q)));
     }
 
@@ -92,29 +104,37 @@ zero_plus : (a : ℤ) → pos 0 +ℤ a ≡ a
 zero_plus a = omega (arith, ints)
 
 pub image_of_origin : (m : Map) → image m origin ≡ m.at
-image_of_origin m = ap (shifted m.at) (origin_stays m.turn m.flip) ∙ same_point _ _ (zero_plus m.at.x) (zero_plus m.at.y)
+image_of_origin m =
+    ap (shifted m.at) (origin_stays m.turn m.flip) ∙ same_point _ _ (zero_plus m.at.x) (zero_plus m.at.y)
 
 -- where the origin comes to lie under two maps
 pub composed_at : (m n w : Map) → IsComposed m n w → w.at ≡ image m n.at
 composed_at m n w whole = sym (image_of_origin w) ∙ (whole origin ∙ ap (image m) (image_of_origin n))
 
 -- ranges are told by the images alone
-in_range_alike : (m v : Map) (d : PlainCell Rings) → ((p : Point) → image m p ≡ image v p) → IsInRange each_ring m d → IsInRange each_ring v d
+in_range_alike : (m v : Map) (d : PlainCell Rings) → ((p : Point) → image m p ≡ image v p) → IsInRange each_ring m d
+    → IsInRange each_ring v d
 in_range_alike m v d same h = record {
   shift = subst FitsPoint (sym (image_of_origin m) ∙ (same origin ∙ image_of_origin v)) h.shift;
   vertices = λ i a li j b lj k e lk l f ll. subst FitsPoint (same _) (h.vertices i a li j b lj k e lk l f ll);
 }
 
-pub fits_alike : (cells : List (PlainCell Rings)) (m v : Map) (c : PlainCell Rings) → ((p : Point) → image v p ≡ image m p) → FitsUnder cells m c → FitsUnder cells v c
+pub fits_alike : (cells : List (PlainCell Rings)) (m v : Map) (c : PlainCell Rings)
+    → ((p : Point) → image v p ≡ image m p) → FitsUnder cells m c → FitsUnder cells v c
 fits_alike cells m v c same h = λ n w d chain u whole. h n w d chain u (λ p. whole p ∙ same (image w p))
 
 -- a cell that is in range, with all that its picks lead to
-pub fits_under : (cells : List (PlainCell Rings)) (m : Map) (c : PlainCell Rings) → IsInRange each_ring m c → PicksFit cells m (picks c.references) → FitsUnder cells m c
+pub fits_under : (cells : List (PlainCell Rings)) (m : Map) (c : PlainCell Rings) → IsInRange each_ring m c
+    → PicksFit cells m (picks c.references) → FitsUnder cells m c
 fits_under cells m c here below zero w d chain v whole =
-    let same : (p : Point) → image m p ≡ image v p = λ p. sym (whole p ∙ ap (image m) (ap (λ (u : Map). image u p) chain.0 ∙ image-unmoved p)) in
+    let same : (p : Point) → image m p ≡ image v p =
+    λ p. sym (whole p ∙ ap (image m) (ap (λ (u : Map). image u p) chain.0 ∙ image-unmoved p)) in
     subst (IsInRange each_ring v) (sym chain.1) (in_range_alike m v c same here)
 fits_under cells m c here below (suc n) w d chain v whole =
     let first = first_choice cells c n w d chain in
     let map : Map = composed m (placing first.pick.0 first.pick.1) in
-    below first.pick first.next map first.chosen first.named (λ p. image-composed m (placing first.pick.0 first.pick.1) p) n first.rest d first.chain v
-    (λ p. whole p ∙ (ap (image m) (first.whole p) ∙ sym (image-composed m (placing first.pick.0 first.pick.1) (image first.rest p))))
+    below first.pick first.next map first.chosen first.named
+    (λ p. image-composed m (placing first.pick.0 first.pick.1) p) n first.rest d first.chain v
+    (λ p. whole p
+    ∙ (ap (image m) (first.whole p)
+    ∙ sym (image-composed m (placing first.pick.0 first.pick.1) (image first.rest p))))

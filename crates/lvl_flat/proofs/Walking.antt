@@ -1,5 +1,7 @@
 -- What a step of the walk keeps.
-use Rattle.std.proofs.Common.{◌≡◌, ◌<◌, ◌++◌, ◌+◌, ◌*◌, ℕ, true, false, cond, List, [], ◌∷◌, length, sum_by, slice_get, Option, Some, Any, Contains, ◌⊎◌, ◌↔◌, inl, inr, refl, sym, ap, subst, ◌∙◌, arith, length-append, add_comm, add-zero}
+use Rattle.std.proofs.Common.{◌≡◌, ◌<◌, ◌++◌, ◌+◌, ◌*◌, ℕ, true, false, cond, List, [], ◌∷◌, length, sum_by, slice_get}
+use Rattle.std.proofs.Common.{Option, Some, Any, Contains, ◌⊎◌, ◌↔◌, inl, inr, refl, sym, ap, subst, ◌∙◌, arith}
+use Rattle.std.proofs.Common.{length-append, add_comm, add-zero}
 use Rattle.std.specs.List.{flat_map}
 use Rattle.std.specs.Option.{option_map_or}
 use Rattle.std.proofs.Math.Nat.{mul-suc, mul-zero}
@@ -18,64 +20,95 @@ use Rattle.lvl_cells.specs.Coverage.{RingsCover, ShapeCovers, CellCovers}
 use Rattle.lvl_cells.specs.Soundness.{AreLinked, IsOrder}
 use Rattle.lvl_cells.proofs.Summing.{count_step}
 use Rattle.lvl_flat.specs.declared.visit.Visit.{Visit}
-use Rattle.lvl_flat.specs.Drawn.{placed_ring, placed_figure, placed_shape, drawn_on}
+use Rattle.lvl_flat.specs.inside.Drawn.{placed_ring, placed_figure, placed_shape, drawn_on}
 use Rattle.lvl_flat.specs.Sheet.{PlainSheet}
 use Rattle.lvl_cells.specs.Layers.{same_layer}
-use Rattle.lvl_flat.specs.Visits.{Pick, picks, pending, pick_weight, visit_weight, PickCovers, VisitCovers, PicksFit, IsVisit}
-use Rattle.lvl_flat.specs.Walking.{IsWalking}
-use Rattle.lvl_flat.specs.Steps.{IsPast, IsInto}
-use Rattle.lvl_flat.specs.Entering.{begun}
+use Rattle.lvl_flat.specs.inside.Visits.{Pick, picks, pending, pick_weight, visit_weight, PickCovers, VisitCovers}
+use Rattle.lvl_flat.specs.inside.Visits.{PicksFit}
+use Rattle.lvl_flat.specs.inside.Visits.{IsVisit}
+use Rattle.lvl_flat.specs.inside.Walking.{IsWalking}
+use Rattle.lvl_flat.specs.inside.Steps.{IsPast, IsInto}
+use Rattle.lvl_flat.specs.inside.Entering.{begun}
 use Rattle.lvl_grid.proofs.Anyone.{Any-nil, Any-head, Any-tail, Any-uncons, Any-left, Any-right, Any-sides}
 use Rattle.lvl_flat.proofs.Picks.{picks_from_start, picks_sum}
 use Rattle.lvl_flat.proofs.Covering.{Under, under_either, under_same, cell_covers, pick_covers}
 use Rattle.lvl_flat.proofs.Stepping.{pending_at}
 
 -- so many rings are drawn as the cell has of its own
-figure_length : (m : Map) (rings : Rings) (shifts : List Point) → length (flat_map (placed_figure m rings) shifts) ≡ length rings * length shifts
+figure_length : (m : Map) (rings : Rings) (shifts : List Point)
+    → length (flat_map (placed_figure m rings) shifts) ≡ length rings * length shifts
 figure_length m rings [] = sym (mul-zero (length rings))
 figure_length m rings (e ∷ shifts) =
     length-append (placed_figure m rings e) (flat_map (placed_figure m rings) shifts)
     ∙ (ap (λ n. length (placed_figure m rings e) + n) (figure_length m rings shifts)
-    ∙ (ap (λ n. n + length rings * length shifts) (length-map rings (placed_ring m e)) ∙ (add_comm (length rings) (length rings * length shifts) ∙ sym (mul-suc (length rings) (length shifts)))))
+    ∙ (ap (λ n. n + length rings * length shifts) (length-map rings (placed_ring m e))
+    ∙ (add_comm (length rings) (length rings * length shifts) ∙ sym (mul-suc (length rings) (length shifts)))))
 
-pub drawn_length : (layer : Layer) (m : Map) (shapes : List (PlainShape Rings)) → length (drawn_on layer m shapes) ≡ sum_by (λ h. cond (same_layer h.layer layer) (length h.figure * length h.shifts) 0) shapes
+pub drawn_length : (layer : Layer) (m : Map) (shapes : List (PlainShape Rings))
+    → length (drawn_on layer m shapes)
+    ≡ sum_by (λ h. cond (same_layer h.layer layer) (length h.figure * length h.shifts) 0) shapes
 drawn_length layer m [] = refl
 drawn_length layer m (h ∷ shapes) =
     let f : PlainShape Rings → ℕ = λ g. cond (same_layer g.layer layer) (length g.figure * length g.shifts) 0 in
     let mine : length (cond (same_layer h.layer layer) (placed_shape m h) []) ≡ f h =
-    elim (same_layer h.layer layer) as (λ b. length (cond b (placed_shape m h) []) ≡ cond b (length h.figure * length h.shifts) 0) [ true ↦ figure_length m h.figure h.shifts | false ↦ refl ] in
-    length-append (cond (same_layer h.layer layer) (placed_shape m h) []) (drawn_on layer m shapes) ∙ (ap (λ n. n + length (drawn_on layer m shapes)) mine ∙ (ap (λ n. f h + n) (drawn_length layer m shapes) ∙ sym (sum_by-cons f h shapes)))
+    elim (same_layer h.layer layer)
+    as (λ b. length (cond b (placed_shape m h) []) ≡ cond b (length h.figure * length h.shifts) 0)
+    [ true ↦ figure_length m h.figure h.shifts | false ↦ refl ] in
+    length-append (cond (same_layer h.layer layer) (placed_shape m h) []) (drawn_on layer m shapes)
+    ∙ (ap (λ n. n + length (drawn_on layer m shapes)) mine
+    ∙ (ap (λ n. f h + n) (drawn_length layer m shapes) ∙ sym (sum_by-cons f h shapes)))
 
 -- a weight over the chains from a cell: its own, and that of a visit that has all still to do
-pub weight_begun : (w : PlainCell Rings → ℕ) (cells : List (PlainCell Rings)) (order : List ℕ) (i : ℕ) (m : Map) (c : PlainCell Rings) → AreLinked cells → IsOrder cells order → slice_get cells i ≡ Some c
+pub weight_begun : (w : PlainCell Rings → ℕ) (cells : List (PlainCell Rings)) (order : List ℕ) (i : ℕ) (m : Map)
+    (c : PlainCell Rings) → AreLinked cells → IsOrder cells order → slice_get cells i ≡ Some c
     → over_chains w cells (length cells) c ≡ w c + visit_weight w cells (begun i m)
 weight_begun w cells order i m c linked ordered at =
     let f : PlainReference → ℕ = λ r. option_map_or (over_chains w cells (length cells)) (cell_named cells r.cell) 0 in
-    count_step w cells order i c linked ordered at ∙ ap (λ n. w c + n) (picks_sum f c.references ∙ ap (sum_by (pick_weight w cells)) (sym (pending_at cells (begun i m) c at ∙ picks_from_start c.references)))
+    count_step w cells order i c linked ordered at
+    ∙ ap (λ n. w c + n) (picks_sum f c.references
+    ∙ ap (sum_by (pick_weight w cells))
+    (sym (pending_at cells (begun i m) c at ∙ picks_from_start c.references)))
 
 -- a weight of a visit: that of its pick, and that of the rest
-pub weight_into : (w : PlainCell Rings → ℕ) (cells : List (PlainCell Rings)) (v : Visit) (i : ℕ) (m : Map) (rest : Visit) → (into : IsInto cells v i m rest) → visit_weight w cells v ≡ over_chains w cells (length cells) into.next + visit_weight w cells rest
+pub weight_into : (w : PlainCell Rings → ℕ) (cells : List (PlainCell Rings)) (v : Visit) (i : ℕ) (m : Map)
+    (rest : Visit) → (into : IsInto cells v i m rest)
+    → visit_weight w cells v ≡ over_chains w cells (length cells) into.next + visit_weight w cells rest
 weight_into w cells v i m rest into =
     let o : Option (PlainCell Rings) → ℕ = λ q. option_map_or (over_chains w cells (length cells)) q 0 in
-    ap (sum_by (pick_weight w cells)) into.pending_is ∙ (sum_by-cons (pick_weight w cells) into.pick (pending cells rest) ∙ ap (λ n. n + visit_weight w cells rest) (ap o into.named))
+    ap (sum_by (pick_weight w cells)) into.pending_is
+    ∙ (sum_by-cons (pick_weight w cells) into.pick (pending cells rest)
+    ∙ ap (λ n. n + visit_weight w cells rest) (ap o into.named))
 
 pub sum_last : {X : Type 0} (f : X → ℕ) (xs : List X) (x : X) → sum_by f (xs ++ x ∷ []) ≡ sum_by f xs + f x
 sum_last f xs x = sum_by-append f xs (x ∷ []) ∙ ap (λ n. sum_by f xs + n) (sum_by-cons f x [] ∙ add-zero (f x))
 
 -- a visit that is entered covers what the cell does beyond its own shapes
-pub visit_begun : (cells : List (PlainCell Rings)) (layer : Layer) (i : ℕ) (m : Map) (q : Square) (c : PlainCell Rings) → slice_get cells i ≡ Some c
-    → Under m q (CellCovers RingsCover cells layer c) ↔ (Under m q (λ t. Any (ShapeCovers RingsCover layer t) c.shapes) ⊎ VisitCovers cells layer q (begun i m))
+pub visit_begun : (cells : List (PlainCell Rings)) (layer : Layer) (i : ℕ) (m : Map) (q : Square) (c : PlainCell Rings)
+    → slice_get cells i ≡ Some c
+    → Under m q (CellCovers RingsCover cells layer c)
+    ↔ (Under m q (λ t. Any (ShapeCovers RingsCover layer t) c.shapes) ⊎ VisitCovers cells layer q (begun i m))
 visit_begun cells layer i m q c at =
-    let all : pending cells (begun i m) ≡ picks c.references = pending_at cells (begun i m) c at ∙ picks_from_start c.references in
-    let step = under_same m q (CellCovers RingsCover cells layer c) (λ t. Any (ShapeCovers RingsCover layer t) c.shapes ⊎ Any (PickCovers cells layer t) (picks c.references)) (cell_covers cells layer c) in
-    let split = under_either m q (λ t. Any (ShapeCovers RingsCover layer t) c.shapes) (λ t. Any (PickCovers cells layer t) (picks c.references)) in (
-      λ u. elim (split.0 (step.0 u)) [ inl a ↦ inl a | inr b ↦ inr (b.0, b.1, subst (Any (PickCovers cells layer b.0)) (sym all) b.2) ],
-      λ e. step.1 (split.1 (elim e [ inl a ↦ inl a | inr b ↦ inr (b.0, b.1, subst (Any (PickCovers cells layer b.0)) all b.2) ])),
+    let all : pending cells (begun i m) ≡ picks c.references =
+    pending_at cells (begun i m) c at ∙ picks_from_start c.references in
+    let step =
+    under_same m q (CellCovers RingsCover cells layer c)
+    (λ t. Any (ShapeCovers RingsCover layer t) c.shapes ⊎ Any (PickCovers cells layer t) (picks c.references))
+    (cell_covers cells layer c) in
+    let split =
+    under_either m q (λ t. Any (ShapeCovers RingsCover layer t) c.shapes)
+    (λ t. Any (PickCovers cells layer t) (picks c.references)) in (
+      λ u. elim (split.0 (step.0 u))
+          [ inl a ↦ inl a | inr b ↦ inr (b.0, b.1, subst (Any (PickCovers cells layer b.0)) (sym all) b.2) ],
+      λ e. step.1
+          (split.1
+          (elim e [ inl a ↦ inl a | inr b ↦ inr (b.0, b.1, subst (Any (PickCovers cells layer b.0)) all b.2) ])),
     )
 
 -- a visit covers what its pick does, and what the rest does
-pub visit_into : (cells : List (PlainCell Rings)) (layer : Layer) (v : Visit) (i : ℕ) (m : Map) (rest : Visit) (q : Square) → (into : IsInto cells v i m rest)
-    → VisitCovers cells layer q v ↔ (Under m q (CellCovers RingsCover cells layer into.next) ⊎ VisitCovers cells layer q rest)
+pub visit_into : (cells : List (PlainCell Rings)) (layer : Layer) (v : Visit) (i : ℕ) (m : Map) (rest : Visit)
+    (q : Square) → (into : IsInto cells v i m rest)
+    → VisitCovers cells layer q v
+    ↔ (Under m q (CellCovers RingsCover cells layer into.next) ⊎ VisitCovers cells layer q rest)
 visit_into cells layer v i m rest q into =
     let P : Square → Pick → Type 0 = λ t p. PickCovers cells layer t p in
     let pick = pick_covers cells layer v.map m q into.pick into.next into.named into.placed in (
@@ -86,15 +119,24 @@ visit_into cells layer v i m rest q into =
           ],
       λ e.
           elim e [
-            | inl a ↦ let u = pick.1 a in (u.0, u.1, subst (Any (P u.0)) (sym into.pending_is) (Any-head (P u.0) into.pick (pending cells rest) u.2))
-            | inr b ↦
-                (b.0, sym (ap (λ n. image_square n b.0) into.map_is) ∙ b.1, subst (Any (P b.0)) (sym into.pending_is) (Any-tail (P b.0) into.pick (pending cells rest) b.2))
+            | inl a ↦
+                let u = pick.1 a in (
+                  u.0,
+                  u.1,
+                  subst (Any (P u.0)) (sym into.pending_is) (Any-head (P u.0) into.pick (pending cells rest) u.2),
+                )
+            | inr b ↦ (
+              b.0,
+              sym (ap (λ n. image_square n b.0) into.map_is) ∙ b.1,
+              subst (Any (P b.0)) (sym into.pending_is) (Any-tail (P b.0) into.pick (pending cells rest) b.2),
+            )
           ],
     )
 
 pub Any-last : {X : Type 0} (P : X → Type 0) (xs : List X) (x : X) → Any P (xs ++ x ∷ []) ↔ (Any P xs ⊎ P x)
 Any-last P xs x = (
-  λ a. elim (Any-sides P xs (x ∷ []) a) [ inl b ↦ inl b | inr b ↦ elim (Any-uncons P x [] b) [ inl p ↦ inr p | inr c ↦ absurd (Any-nil P c) ] ],
+  λ a. elim (Any-sides P xs (x ∷ []) a)
+      [ inl b ↦ inl b | inr b ↦ elim (Any-uncons P x [] b) [ inl p ↦ inr p | inr c ↦ absurd (Any-nil P c) ] ],
   λ e. elim e [ inl b ↦ Any-left P xs (x ∷ []) b | inr p ↦ Any-right P xs (x ∷ []) (Any-head P x [] p) ],
 )
 
@@ -105,7 +147,8 @@ pub in_last : (front : List Visit) (v : Visit) → Contains (front ++ v ∷ []) 
 in_last front v = Contains-push front v
 
 -- a visit that has nothing left to do is taken off
-pub walk_done : (s : Settled) (sheets : List PlainSheet) (front : List Visit) (v : Visit) → IsWalking s sheets (front ++ v ∷ []) → pending s.cells v ≡ [] → IsWalking s sheets front
+pub walk_done : (s : Settled) (sheets : List PlainSheet) (front : List Visit) (v : Visit)
+    → IsWalking s sheets (front ++ v ∷ []) → pending s.cells v ≡ [] → IsWalking s sheets front
 walk_done s sheets front v w none = record {
   top = w.top;
   is_top = w.is_top;
@@ -117,7 +160,13 @@ walk_done s sheets front v w none = record {
         λ h.
             elim (both.0 h) [
               | inl a ↦ inl a
-              | inr b ↦ elim (last.0 b) [ inl c ↦ inr c | inr u ↦ absurd (Any-nil (PickCovers s.cells layer u.0) (subst (Any (PickCovers s.cells layer u.0)) none u.2)) ]
+              | inr b ↦
+                  elim (last.0 b) [
+                    | inl c ↦ inr c
+                    | inr u ↦
+                        absurd (Any-nil (PickCovers s.cells layer u.0)
+                        (subst (Any (PickCovers s.cells layer u.0)) none u.2))
+                  ]
             ],
         λ e. both.1 (elim e [ inl a ↦ inl a | inr b ↦ inr (last.1 (inl b)) ]),
       );
@@ -130,17 +179,31 @@ walk_done s sheets front v w none = record {
       (λ u has.
       elim (Contains-push_cases front v u has) [
         | inl there ↦ each u there
-        | inr same ↦ λ p d m chosen named whole. absurd (let chosen' : Contains [] p = subst (λ ps. Contains ps p) none (subst (λ (x : Visit). Contains (pending s.cells x) p) (sym same) chosen) in let below : chosen'.0 < 0 = chosen'.1 in omega arith)
+        | inr same ↦
+            λ p d m chosen named whole. absurd (let chosen' : Contains [] p =
+            subst (λ ps. Contains ps p) none
+            (subst (λ (x : Visit). Contains (pending s.cells x) p) (sym same) chosen) in
+            let below : chosen'.0 < 0 = chosen'.1 in omega arith)
       ]);
   visits = λ u there. w.visits u (in_front front v u there);
 }
 
 -- a visit goes on with the reference behind
-pub walk_past : (s : Settled) (sheets : List PlainSheet) (front : List Visit) (v rest : Visit) → IsWalking s sheets (front ++ v ∷ []) → IsPast s.cells v rest → IsWalking s sheets (front ++ rest ∷ [])
+pub walk_past : (s : Settled) (sheets : List PlainSheet) (front : List Visit) (v rest : Visit)
+    → IsWalking s sheets (front ++ v ∷ []) → IsPast s.cells v rest → IsWalking s sheets (front ++ rest ∷ [])
 walk_past s sheets front v rest w past =
-    let alike : (layer : Layer) (q : Square) → VisitCovers s.cells layer q v ↔ VisitCovers s.cells layer q rest = λ layer q. (
-      λ u. (u.0, ap (λ (n : Map). image_square n u.0) past.map_is ∙ u.1, subst (Any (PickCovers s.cells layer u.0)) past.pending_is u.2),
-      λ u. (u.0, sym (ap (λ (n : Map). image_square n u.0) past.map_is) ∙ u.1, subst (Any (PickCovers s.cells layer u.0)) (sym past.pending_is) u.2),
+    let alike : (layer : Layer) (q : Square) → VisitCovers s.cells layer q v ↔ VisitCovers s.cells layer q rest =
+    λ layer q. (
+      λ u. (
+        u.0,
+        ap (λ (n : Map). image_square n u.0) past.map_is ∙ u.1,
+        subst (Any (PickCovers s.cells layer u.0)) past.pending_is u.2,
+      ),
+      λ u. (
+        u.0,
+        sym (ap (λ (n : Map). image_square n u.0) past.map_is) ∙ u.1,
+        subst (Any (PickCovers s.cells layer u.0)) (sym past.pending_is) u.2,
+      ),
     ) in
     record {
       top = w.top;
@@ -156,11 +219,15 @@ walk_past s sheets front v rest w past =
                   | inl a ↦ inl a
                   | inr b ↦ inr (new.1 (elim (old.0 b) [ inl c ↦ inl c | inr u ↦ inr ((alike layer q).0 u) ]))
                 ],
-            λ e. both.1 (elim e [ inl a ↦ inl a | inr b ↦ inr (old.1 (elim (new.0 b) [ inl c ↦ inl c | inr u ↦ inr ((alike layer q).1 u) ])) ]),
+            λ e. both.1 (elim e [
+              | inl a ↦ inl a
+              | inr b ↦ inr (old.1 (elim (new.0 b) [ inl c ↦ inl c | inr u ↦ inr ((alike layer q).1 u) ]))
+            ]),
           );
       counts = λ layer.
           let weight = visit_weight (own_rings_on each_ring layer) s.cells in
-          let same : weight v ≡ weight rest = ap (sum_by (pick_weight (own_rings_on each_ring layer) s.cells)) past.pending_is in
+          let same : weight v ≡ weight rest =
+          ap (sum_by (pick_weight (own_rings_on each_ring layer) s.cells)) past.pending_is in
           omega (arith, w.counts layer, sum_last weight front v, sum_last weight front rest, same);
       fits = λ each.
           w.fits
@@ -169,7 +236,9 @@ walk_past s sheets front v rest w past =
             | inl there ↦ each u (in_front front rest u there)
             | inr same ↦
                 subst (λ (x : Visit). PicksFit s.cells x.map (pending s.cells x)) same
-                (subst (λ ps. PicksFit s.cells v.map ps) (sym past.pending_is) (subst (λ (n : Map). PicksFit s.cells n (pending s.cells rest)) past.map_is (each rest (in_last front rest))))
+                (subst (λ ps. PicksFit s.cells v.map ps) (sym past.pending_is)
+                (subst (λ (n : Map). PicksFit s.cells n (pending s.cells rest)) past.map_is
+                (each rest (in_last front rest))))
           ]);
       visits = λ u has.
           elim (Contains-push_cases front rest u has) [

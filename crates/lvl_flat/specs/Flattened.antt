@@ -1,9 +1,12 @@
 -- What flattening gives, and when it is refused.
-use Rattle.std.specs.Prelude.{◌≡◌, ◌↔◌, ℕ, List, length, slice_get, Some}
+use Rattle.std.specs.Prelude.{◌≡◌, ◌↔◌, ℕ, List, length, slice_get, Some, All}
 use Rattle.lvl_grid.specs.declared.map.Map.{Map}
+use Rattle.lvl_grid.specs.declared.point.Point.{Point}
 use Rattle.lvl_grid.specs.declared.point.Square.{Square}
+use Rattle.lvl_grid.specs.Turn.{FitsPoint}
+use Rattle.lvl_grid.specs.Placed.{placed_point}
 use Rattle.lvl_cells.specs.declared.layer.Layer.{Layer}
-use Rattle.lvl_cells.specs.Cells.{PlainCell, Rings, each_ring}
+use Rattle.lvl_cells.specs.Cells.{PlainCell, PlainShape, Rings, each_ring}
 use Rattle.lvl_cells.specs.Coverage.{RingsCover, CellCovers}
 use Rattle.lvl_cells.specs.Chains.{Chain, IsInRange, placed_rings_on}
 use Rattle.lvl_cells.specs.Checks.{Settled}
@@ -14,7 +17,8 @@ use Rattle.lvl_flat.specs.Sheets.{rings_on}
 
 -- on each Layer the rings together cover what the cell covers
 abbrev pub CoverAlike : List (PlainCell Rings) → PlainCell Rings → List PlainSheet → Type 0
-CoverAlike cells c sheets = (layer : Layer) (s : Square) → RingsCover (rings_on layer sheets) s ↔ CellCovers RingsCover cells layer c s
+CoverAlike cells c sheets =
+    (layer : Layer) (s : Square) → RingsCover (rings_on layer sheets) s ↔ CellCovers RingsCover cells layer c s
 
 -- and they are as many as the placed rings there
 abbrev pub AreAsMany : List (PlainCell Rings) → PlainCell Rings → List PlainSheet → Type 0
@@ -45,3 +49,15 @@ pub record IsOutOfRange (s : Settled) (name : List ℕ) : Type 0 where
 
 abbrev pub IsFlatFault : Settled → FlatFault → Type 0
 IsFlatFault s (OutOfRange name) = IsOutOfRange s name.items
+
+-- the vertices of the placed ring are within 64 signed bits
+abbrev pub FitsRing : Map → Point → List Point → Type 0
+FitsRing m e ring = All (λ v. FitsPoint (placed_point m e v)) ring
+
+-- all vertices of the shapes are within 64 signed bits
+abbrev pub FitShapes : Map → List (PlainShape Rings) → Type 0
+FitShapes m shapes = All (λ h. All (λ e. All (FitsRing m e) h.figure) h.shifts) shapes
+
+-- the fault names the cell
+abbrev pub TellsName : List ℕ → FlatFault → Type 0
+TellsName name (OutOfRange told) = told.items ≡ name

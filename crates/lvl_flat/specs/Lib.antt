@@ -1,10 +1,6 @@
 pub mod Sheet
 pub mod Sheets
-pub mod Drawn
 pub mod Flattened
 pub mod Mapped
-pub mod Visits
-pub mod Walking
-pub mod Steps
-pub mod Entering
+pub mod Placing
 pub mod inside

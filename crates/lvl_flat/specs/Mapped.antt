@@ -19,8 +19,10 @@ pub record IsCoveredFrom (pairs : List LayerPair) (sheets : List PlainSheet) (la
 
 -- on each Layer the second cover what the first cover on the Layers whose target it is
 abbrev pub IsMapped : List LayerPair → List PlainSheet → List PlainSheet → Type 0
-IsMapped pairs from to = (layer : Layer) (s : Square) → RingsCover (rings_on layer to) s ↔ IsCoveredFrom pairs from layer s
+IsMapped pairs from to =
+    (layer : Layer) (s : Square) → RingsCover (rings_on layer to) s ↔ IsCoveredFrom pairs from layer s
 
 -- the rings of the Layers whose target is this one, in the order of those Layers
 abbrev pub mapped_on : List LayerPair → Layer → List PlainSheet → Rings
-mapped_on pairs layer sheets = flat_map (λ sheet. if same_layer (target_of pairs sheet.layer) layer then sheet.rings else []) sheets
+mapped_on pairs layer sheets =
+    flat_map (λ sheet. if same_layer (target_of pairs sheet.layer) layer then sheet.rings else []) sheets

@@ -1,5 +1,6 @@
 -- Lists of sheets: which rings are on a Layer, and the order of the Layers.
-use Rattle.std.specs.Prelude.{◌≡◌, ◌≢◌, ℕ, List, [], ◌∷◌, All, AllPairs, Bool, true, false, slice_get, Some, map, Contains, if◌then◌else◌}
+use Rattle.std.specs.Prelude.{◌≡◌, ◌≢◌, ℕ, List, [], ◌∷◌, All, AllPairs, Bool, true, false, slice_get, Some, map}
+use Rattle.std.specs.Prelude.{Contains, if◌then◌else◌}
 use Rattle.lvl_cells.specs.declared.layer.Layer.{Layer}
 use Rattle.lvl_cells.specs.Cells.{PlainShape, Rings}
 use Rattle.lvl_cells.specs.Layers.{same_layer, ComesBefore}

@@ -1,1 +1,6 @@
 pub mod Bounds
+pub mod Drawn
+pub mod Visits
+pub mod Walking
+pub mod Steps
+pub mod Entering

@@ -1,7 +1,7 @@
 //! One step of the walk, and the walk.
 ghost use Rattle.std.specs.Prelude.{◌<◌, ◌++◌, ◌∷◌, [], IfOk, IfErr, OnOk};
 ghost use Rattle.lvl_flat.specs.Flattened.{IsFlattened, IsFlatFault};
-ghost use Rattle.lvl_flat.specs.Walking.{IsWalking, work};
+ghost use Rattle.lvl_flat.specs.inside.Walking.{IsWalking, work};
 ghost use Rattle.lvl_refusal.specs.Refused.{Says};
 
 use crate::enter::{draw_cell, out_of_range, push_visit};
@@ -32,7 +32,8 @@ pub(crate) fn advance(
 ) -> Result<(), Refusal<FlatFault>>
     requires { IsWalking checked.now sheets.old.items (stack.old.items ++ visit ∷ []) }
     ensures walking { OnOk result (IsWalking checked.now sheets.new.items stack.new.items) }
-    ensures nearer { OnOk result (work checked.now.cells stack.new.items < work checked.now.cells (stack.old.items ++ visit ∷ [])) }
+    ensures nearer { OnOk result
+        (work checked.now.cells stack.new.items < work checked.now.cells (stack.old.items ++ visit ∷ [])) }
     ensures err { IfErr result (λ refusal. Says refusal (IsFlatFault checked.now)) }
 {
     let cells = checked.cells();

@@ -44,7 +44,8 @@ impl Bounds {
     /// What holds the points when they are moved by shifts that are within others; None where it is
     /// outside 64 bits.
     pub(crate) fn moved(self, by: Bounds) -> Option<Bounds>
-        ensures { IfSome result (λ bounds. (p e : GridPoint) → IsWithin self p → IsWithin by e → IsWithin bounds (shifted e p)) }
+        ensures { IfSome result
+            (λ bounds. (p e : GridPoint) → IsWithin self p → IsWithin by e → IsWithin bounds (shifted e p)) }
     {
         Some(Bounds {
             low: Point {

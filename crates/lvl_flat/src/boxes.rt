@@ -4,7 +4,8 @@ ghost use Rattle.lvl_grid.specs.declared.point.Point.{Point as GridPoint};
 ghost use Rattle.lvl_grid.specs.Turn.{image};
 ghost use Rattle.lvl_cells.specs.Cells.{PlainCell, Rings, shape_at, placing};
 ghost use Rattle.lvl_flat.specs.Flattened.{AllInRange};
-ghost use Rattle.lvl_flat.specs.inside.Bounds.{IsWithin, Widens, HoldsRing, HoldsOwn, HoldsPicks, HoldsChains, AreBounds, Fits};
+ghost use Rattle.lvl_flat.specs.inside.Bounds.{IsWithin, Widens, HoldsRing, HoldsOwn, HoldsPicks, HoldsChains};
+ghost use Rattle.lvl_flat.specs.inside.Bounds.{AreBounds, Fits};
 
 use crate::bounds::Bounds;
 use lvl_cells::{Checked, Offsets, Reference, Shapes};

@@ -2,7 +2,9 @@
 ghost use Rattle.std.specs.Prelude.{◌≡◌, ◌<◌, ◌++◌, length, All, OnOk, map as list_map};
 ghost use Rattle.lvl_cells.specs.declared.layer.Layer.{Layer as PlainLayer};
 ghost use Rattle.lvl_cells.specs.Cells.{shape_at};
-ghost use Rattle.lvl_flat.specs.Drawn.{placed_figure, placed_shape, drawn_on, IsPlaced, FitsRing, AreFiguresPlaced, FitShapes};
+ghost use Rattle.lvl_flat.specs.inside.Drawn.{placed_figure, placed_shape, drawn_on, IsPlaced, AreFiguresPlaced};
+ghost use Rattle.lvl_flat.specs.Flattened.{FitsRing};
+ghost use Rattle.lvl_flat.specs.Flattened.{FitShapes};
 ghost use Rattle.lvl_flat.specs.Sheets.{rings_on, AreSorted, HaveSheets};
 
 use crate::flat::{Sheet, place_of};
@@ -32,8 +34,10 @@ fn draw_figure(
 fn draw_shape(rings: &mut Rings, shapes: &Shapes, i: usize, map: &Map) -> Result<(), PlaceFault>
     requires { i < length shapes.now }
     ensures drawn { OnOk result (rings.new ≡ rings.old ++ placed_shape map.now (shape_at shapes.now i)) }
-    ensures placed { OnOk result (All (λ e. All (IsPlaced map.now e) (shape_at shapes.now i).figure) (shape_at shapes.now i).shifts) }
-    ensures out { result ≡ Err PlaceFault.OutOfRange → ¬ All (λ e. All (FitsRing map.now e) (shape_at shapes.now i).figure) (shape_at shapes.now i).shifts }
+    ensures placed { OnOk result
+        (All (λ e. All (IsPlaced map.now e) (shape_at shapes.now i).figure) (shape_at shapes.now i).shifts) }
+    ensures out { result ≡ Err PlaceFault.OutOfRange
+        → ¬ All (λ e. All (FitsRing map.now e) (shape_at shapes.now i).figure) (shape_at shapes.now i).shifts }
 {
     for k in 0..shapes.shift_count(i) {
         let Some(shift) = shapes.shift(i, k) else {
@@ -52,10 +56,12 @@ pub(crate) fn draw_shapes(
 ) -> Result<(), PlaceFault>
     requires sorted { AreSorted sheets.old.items }
     requires layers { HaveSheets sheets.old.items shapes.now }
-    ensures drawn { OnOk result ((layer : PlainLayer) → rings_on layer sheets.new.items ≡ rings_on layer sheets.old.items ++ drawn_on layer map.now shapes.now) }
+    ensures drawn { OnOk result ((layer : PlainLayer)
+        → rings_on layer sheets.new.items ≡ rings_on layer sheets.old.items ++ drawn_on layer map.now shapes.now) }
     ensures placed { OnOk result (AreFiguresPlaced map.now shapes.now) }
     ensures out { result ≡ Err PlaceFault.OutOfRange → ¬ FitShapes map.now shapes.now }
-    ensures layers_stay { OnOk result (list_map (λ s. s.layer) sheets.new.items ≡ list_map (λ s. s.layer) sheets.old.items) }
+    ensures layers_stay { OnOk result
+        (list_map (λ s. s.layer) sheets.new.items ≡ list_map (λ s. s.layer) sheets.old.items) }
 {
     for i in 0..shapes.len() {
         let Some(place) = place_of(sheets, shapes.layer(i)) else {

@@ -1,8 +1,9 @@
 //! Entering a cell: its shapes are drawn, and it is visited.
 ghost use Rattle.std.specs.Prelude.{◌≡◌, ◌++◌, ◌∷◌, ◌<◌, [], length, IfErr, OnOk};
-ghost use Rattle.lvl_flat.specs.Entering.{begun, IsDrawn, IsEnterFault, TellsName};
+ghost use Rattle.lvl_flat.specs.inside.Entering.{begun, IsDrawn, IsEnterFault};
+ghost use Rattle.lvl_flat.specs.Flattened.{TellsName};
 ghost use Rattle.lvl_flat.specs.Sheets.{AreSorted};
-ghost use Rattle.lvl_flat.specs.Walking.{AllHaveSheets};
+ghost use Rattle.lvl_flat.specs.inside.Walking.{AllHaveSheets};
 ghost use Rattle.lvl_refusal.specs.Refused.{Says};
 
 use crate::draw::draw_shapes;

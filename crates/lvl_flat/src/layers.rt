@@ -1,7 +1,7 @@
 //! The Layers of a library, each with an empty sheet.
 ghost use Rattle.std.specs.Prelude.{◌≡◌, [], All, Contains, OnOk, IfOk, map};
 ghost use Rattle.lvl_flat.specs.Sheets.{AreSorted, ContainsAll};
-ghost use Rattle.lvl_flat.specs.Walking.{AllHaveSheets};
+ghost use Rattle.lvl_flat.specs.inside.Walking.{AllHaveSheets};
 
 use crate::flat::Sheet;
 use lvl_cells::{Cell, Layer, Shapes};

@@ -5,8 +5,8 @@ ghost use Rattle.lvl_cells.specs.declared.layer.Layer.{Layer};
 ghost use Rattle.lvl_cells.specs.Chains.{unmoved};
 ghost use Rattle.lvl_cells.specs.Coverage.{RingsCover, ShapeCovers};
 ghost use Rattle.lvl_flat.specs.Sheets.{rings_on};
-ghost use Rattle.lvl_flat.specs.Drawn.{FitShapes};
-ghost use Rattle.lvl_flat.specs.Entering.{TellsName};
+ghost use Rattle.lvl_flat.specs.Flattened.{FitShapes};
+ghost use Rattle.lvl_flat.specs.Flattened.{TellsName};
 ghost use Rattle.lvl_refusal.specs.Refused.{Says};
 
 use crate::advance::UNMOVED;

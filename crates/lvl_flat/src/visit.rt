@@ -1,6 +1,6 @@
 //! Visits: placed cells on the way from the top.
 ghost use Rattle.std.specs.Prelude.{◌≡◌};
-ghost use Rattle.lvl_flat.specs.Entering.{begun};
+ghost use Rattle.lvl_flat.specs.inside.Entering.{begun};
 
 use lvl_grid::Map;
 

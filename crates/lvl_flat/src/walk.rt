@@ -1,6 +1,7 @@
 //! The walk over the chains of references from the top, one step at a time.
 ghost use Rattle.std.specs.Prelude.{◌≡◌, ◌<◌, length, None, IfSome, IfNone, slice_get};
-ghost use Rattle.lvl_flat.specs.Steps.{IsPlacing, IsStep};
+ghost use Rattle.lvl_flat.specs.Placing.{IsPlacing};
+ghost use Rattle.lvl_flat.specs.inside.Steps.{IsStep};
 
 use crate::visit::Visit;
 use lvl_cells::{Checked, Reference};

@@ -1,5 +1,6 @@
 -- A ring whose points are clamped to a window winds round the window's squares as before, and round no other.
-use Rattle.std.proofs.Common.{subst, ◌≡◌, Bool, true, false, List, [], ◌∷◌, map, ℤ, pos, ◌-ℤ◌, ◌<ℤ◌, ◌≤ℤ◌, ℕ, refl, arith, cond, sym, ap, ◌∙◌, ◌⊎◌, inl, inr, int_lt, int_le, count_by, All, ◌↔◌}
+use Rattle.std.proofs.Common.{subst, ◌≡◌, Bool, true, false, List, [], ◌∷◌, map, ℤ, pos, ◌-ℤ◌, ◌<ℤ◌, ◌≤ℤ◌, ℕ, refl}
+use Rattle.std.proofs.Common.{arith, cond, sym, ap, ◌∙◌, ◌⊎◌, inl, inr, int_lt, int_le, count_by, All, ◌↔◌}
 use Rattle.std.specs.Int.{int_max, int_min}
 use Rattle.std.proofs.lemmas.Int.{ints, by_lt_z}
 use Rattle.std.proofs.lemmas.List.{length-map}
@@ -32,13 +33,19 @@ max_right x0 a x h = grind (arith, ints)
 side_put : (part : Part) (s : Square) → IsIn part s → (p : Point) → side s (put part p) ≡ side s p
 side_put (Left at) s h p = rw (min_right at p.x s.x h) refl
 side_put (Right at) s h p = rw (max_right at p.x s.x h) refl
-side_put (Within w) s h p = rw (clamp_right w.x0 w.x1 p.x s.x h.x_from h.x_below, clamp_low w.y0 w.y1 p.y s.y h.y_from h.y_below) refl
+side_put (Within w) s h p =
+    rw (clamp_right w.x0 w.x1 p.x s.x h.x_from h.x_below, clamp_low w.y0 w.y1 p.y s.y h.y_from h.y_below) refl
 
-pub put_winds_inside : (part : Part) (ps : List Point) (s : Square) → IsIn part s → winding (map (put part) ps) s ≡ winding ps s
-put_winds_inside part ps s h = winding_by_side s (map (put part) ps) ∙ (rw (map-map (put part) (side s) (side s) ps (side_put part s h)) refl ∙ sym (winding_by_side s ps))
+pub put_winds_inside : (part : Part) (ps : List Point) (s : Square) → IsIn part s
+    → winding (map (put part) ps) s ≡ winding ps s
+put_winds_inside part ps s h =
+    winding_by_side s (map (put part) ps)
+    ∙ (rw (map-map (put part) (side s) (side s) ps (side_put part s h)) refl ∙ sym (winding_by_side s ps))
 
 -- where each edge goes up as often as down, so does the path
-level_path : (s : Square) (P : Point → Type 0) → ((p q : Point) → P p → P q → goes_up s (p, q) ≡ goes_down s (p, q)) → (p : Point) (ps : List Point) → P p → All P ps → count_by (goes_up s) (path_edges p ps) ≡ count_by (goes_down s) (path_edges p ps)
+level_path : (s : Square) (P : Point → Type 0) → ((p q : Point) → P p → P q → goes_up s (p, q) ≡ goes_down s (p, q))
+    → (p : Point) (ps : List Point) → P p → All P ps
+    → count_by (goes_up s) (path_edges p ps) ≡ count_by (goes_down s) (path_edges p ps)
 level_path s P none p [] e h = refl
 level_path s P none p (q ∷ qs) e h =
     let here : P q = All-head P q qs h in
@@ -59,7 +66,8 @@ last_meets P p (q ∷ qs) h = last_meets P q qs (All-tail P p (q ∷ qs) h)
 level_off : (a b : ℕ) → a ≡ b → pos a -ℤ pos b ≡ pos 0
 level_off a b e = omega (arith, ints)
 
-level_winding : (s : Square) (P : Point → Type 0) → ((p q : Point) → P p → P q → goes_up s (p, q) ≡ goes_down s (p, q)) → (ps : List Point) → All P ps → winding ps s ≡ pos 0
+level_winding : (s : Square) (P : Point → Type 0) → ((p q : Point) → P p → P q → goes_up s (p, q) ≡ goes_down s (p, q))
+    → (ps : List Point) → All P ps → winding ps s ≡ pos 0
 level_winding s P none [] h = refl
 level_winding s P none (p ∷ ps) h = level_off _ _ (level_path s P none (last_or p ps) (p ∷ ps) (last_meets P p ps h) h)
 
@@ -67,7 +75,8 @@ level_winding s P none (p ∷ ps) h = level_off _ _ (level_path s P none (last_o
 pub winding_right : (s : Square) (ps : List Point) → All (λ q. int_lt s.x q.x ≡ false) ps → winding ps s ≡ pos 0
 winding_right s ps h = level_winding s (λ q. int_lt s.x q.x ≡ false) (λ p q e f. rw e refl) ps h
 
-none_above : (s : Square) (p q : Point) → int_lt s.y p.y ≡ false → int_lt s.y q.y ≡ false → goes_up s (p, q) ≡ goes_down s (p, q)
+none_above : (s : Square) (p q : Point) → int_lt s.y p.y ≡ false → int_lt s.y q.y ≡ false
+    → goes_up s (p, q) ≡ goes_down s (p, q)
 none_above s p q e f = grind arith
 
 -- nothing above every vertex is covered
@@ -96,24 +105,35 @@ max_above x0 a x h = grind (arith, ints)
 -- a square is within the window, or the clamped ring does not wind round it
 within_or_level : (w : Window) (ps : List Point) (s : Square) → IsWithin w s ⊎ (winding (map (clamped w) ps) s ≡ pos 0)
 within_or_level w ps s =
-    by_lt_z s.x w.x0 (λ a. inr (winding_left s _ (all_map (λ q. int_lt s.x q.x ≡ true) (clamped w) (λ p. above_low w.x0 w.x1 p.x s.x a) ps)))
+    by_lt_z s.x w.x0 (λ a. inr (winding_left s _
+    (all_map (λ q. int_lt s.x q.x ≡ true) (clamped w) (λ p. above_low w.x0 w.x1 p.x s.x a) ps)))
     (λ a. by_lt_z s.x w.x1
-    (λ b. by_lt_z s.y w.y0 (λ c. inr (winding_below s _ (all_map (λ q. int_le q.y s.y ≡ false) (clamped w) (λ p. not_below w.y0 w.y1 p.y s.y c) ps)))
+    (λ b. by_lt_z s.y w.y0 (λ c. inr (winding_below s _
+    (all_map (λ q. int_le q.y s.y ≡ false) (clamped w) (λ p. not_below w.y0 w.y1 p.y s.y c) ps)))
     (λ c. by_lt_z s.y w.y1 (λ d. inl (record { x_from = a; x_below = b; y_from = c; y_below = d }))
-    (λ d. inr (winding_above s _ (all_map (λ q. int_lt s.y q.y ≡ false) (clamped w) (λ p. not_above w.y0 w.y1 p.y s.y c d) ps)))))
-    (λ b. inr (winding_right s _ (all_map (λ q. int_lt s.x q.x ≡ false) (clamped w) (λ p. not_above w.x0 w.x1 p.x s.x a b) ps))))
+    (λ d. inr (winding_above s _
+    (all_map (λ q. int_lt s.y q.y ≡ false) (clamped w) (λ p. not_above w.y0 w.y1 p.y s.y c d) ps)))))
+    (λ b. inr (winding_right s _
+    (all_map (λ q. int_lt s.x q.x ≡ false) (clamped w) (λ p. not_above w.x0 w.x1 p.x s.x a b) ps))))
 
 -- the same of a part
 in_or_level : (part : Part) (ps : List Point) (s : Square) → IsIn part s ⊎ (winding (map (put part) ps) s ≡ pos 0)
-in_or_level (Left at) ps s = by_lt_z s.x at (λ h. inl h) (λ h. inr (winding_right s _ (all_map (λ q. int_lt s.x q.x ≡ false) (put (Left at)) (λ p. min_not_above at p.x s.x h) ps)))
-in_or_level (Right at) ps s = by_lt_z s.x at (λ h. inr (winding_left s _ (all_map (λ q. int_lt s.x q.x ≡ true) (put (Right at)) (λ p. max_above at p.x s.x h) ps))) (λ h. inl h)
+in_or_level (Left at) ps s =
+    by_lt_z s.x at (λ h. inl h) (λ h. inr (winding_right s _
+    (all_map (λ q. int_lt s.x q.x ≡ false) (put (Left at)) (λ p. min_not_above at p.x s.x h) ps)))
+in_or_level (Right at) ps s =
+    by_lt_z s.x at
+    (λ h. inr (winding_left s _
+    (all_map (λ q. int_lt s.x q.x ≡ true) (put (Right at)) (λ p. max_above at p.x s.x h) ps))) (λ h. inl h)
 in_or_level (Within w) ps s = within_or_level w ps s
 
-pub put_winds_outside : (part : Part) (ps : List Point) (s : Square) → ¬ IsIn part s → winding (map (put part) ps) s ≡ pos 0
+pub put_winds_outside : (part : Part) (ps : List Point) (s : Square) → ¬ IsIn part s
+    → winding (map (put part) ps) s ≡ pos 0
 put_winds_outside part ps s out = elim (in_or_level part ps s) [ inl h ↦ absurd (out h) | inr e ↦ e ]
 
 -- a ring put into a part covers what the ring covers there
-pub covers_put : (part : Part) (ps : List Point) (s : Square) → Covers (map (put part) ps) s ↔ (IsIn part s × Covers ps s)
+pub covers_put : (part : Part) (ps : List Point) (s : Square)
+    → Covers (map (put part) ps) s ↔ (IsIn part s × Covers ps s)
 covers_put part ps s = (
   λ c. elim (in_or_level part ps s) [ inl h ↦ (h, λ e. c (put_winds_inside part ps s h ∙ e)) | inr e ↦ absurd (c e) ],
   λ b e. b.1 (sym (put_winds_inside part ps s b.0) ∙ e),
@@ -128,7 +148,10 @@ put_straight (Within w) p q (inl e) = inl (ap (clamp w.x0 w.x1) e)
 put_straight (Within w) p q (inr e) = inr (ap (clamp w.y0 w.y1) e)
 
 pub IsRing-put : (part : Part) (ps : List Point) → IsRing ps → IsRing (map (put part) ps)
-IsRing-put part ps h = record { enough = rw length-map h.enough; straight = straight_ring (put part) (put_straight part) ps h.straight }
+IsRing-put part ps h = record {
+  enough = rw length-map h.enough;
+  straight = straight_ring (put part) (put_straight part) ps h.straight;
+}
 
 right_of_all : (x a z : ℤ) → x <ℤ a → a ≤ℤ z → int_lt x z ≡ true
 right_of_all x a z h g = grind (arith, ints)
@@ -137,12 +160,19 @@ left_of_all : (x a z : ℤ) → a ≤ℤ x → z ≤ℤ a → int_lt x z ≡ fal
 left_of_all x a z h g = grind (arith, ints)
 
 -- a ring whose points are all beyond covers nothing of the part
-pub beyond_uncovered : (part : Part) (ps : List Point) (s : Square) → All (IsBeyond part) ps → IsIn part s → winding ps s ≡ pos 0
-beyond_uncovered (Left at) ps s h i = winding_left s ps (All-weaker (IsBeyond (Left at)) (λ q. int_lt s.x q.x ≡ true) (λ q g. right_of_all s.x at q.x i g) ps h)
-beyond_uncovered (Right at) ps s h i = winding_right s ps (All-weaker (IsBeyond (Right at)) (λ q. int_lt s.x q.x ≡ false) (λ q g. left_of_all s.x at q.x i g) ps h)
+pub beyond_uncovered : (part : Part) (ps : List Point) (s : Square) → All (IsBeyond part) ps → IsIn part s
+    → winding ps s ≡ pos 0
+beyond_uncovered (Left at) ps s h i =
+    winding_left s ps
+    (All-weaker (IsBeyond (Left at)) (λ q. int_lt s.x q.x ≡ true) (λ q g. right_of_all s.x at q.x i g) ps h)
+beyond_uncovered (Right at) ps s h i =
+    winding_right s ps
+    (All-weaker (IsBeyond (Right at)) (λ q. int_lt s.x q.x ≡ false) (λ q g. left_of_all s.x at q.x i g) ps h)
 beyond_uncovered (Within w) [] s h i = refl
 beyond_uncovered (Within w) (p ∷ ps) s h i = absurd (All-head (IsBeyond (Within w)) p ps h)
 
 -- a ring that stays as it is covers only squares of the part
-pub kept_covers : (part : Part) (ps : List Point) (s : Square) → map (put part) ps ≡ ps → Covers ps s ↔ (IsIn part s × Covers ps s)
-kept_covers part ps s e = subst (λ (qs : List Point). Covers qs s ↔ (IsIn part s × Covers ps s)) e (covers_put part ps s)
+pub kept_covers : (part : Part) (ps : List Point) (s : Square) → map (put part) ps ≡ ps
+    → Covers ps s ↔ (IsIn part s × Covers ps s)
+kept_covers part ps s e =
+    subst (λ (qs : List Point). Covers qs s ↔ (IsIn part s × Covers ps s)) e (covers_put part ps s)

@@ -64,12 +64,23 @@ shifted_twice a b p = same_point _ _ (plus_plus p.x b.x a.x) (plus_plus p.y b.y 
 
 -- the map that applies the second, then the first
 abbrev pub composed : Map → Map → Map
-composed m n = record { flip = not (beq m.flip n.flip); turn = turn_after m.turn (mirrored m.flip n.turn); at = image m n.at }
+composed m n = record {
+  flip = not (beq m.flip n.flip);
+  turn = turn_after m.turn (mirrored m.flip n.turn);
+  at = image m n.at;
+}
 
 pub image-composed : (m n : Map) (p : Point) → image (composed m n) p ≡ image m (image n p)
 image-composed m n p =
     let q : Point = reflected n.flip p in
     let inner : Point = turned n.turn q in
-    rw (reflected_shifted m.flip n.at inner, turned_shifted m.turn (reflected m.flip n.at) (reflected m.flip inner), reflected_turned m.flip n.turn q)
-    (rw (turned_after m.turn (mirrored m.flip n.turn) (reflected (not (beq m.flip n.flip)) p), reflected_twice m.flip n.flip p)
+    rw (
+      reflected_shifted m.flip n.at inner,
+      turned_shifted m.turn (reflected m.flip n.at) (reflected m.flip inner),
+      reflected_turned m.flip n.turn q,
+    )
+    (rw (
+      turned_after m.turn (mirrored m.flip n.turn) (reflected (not (beq m.flip n.flip)) p),
+      reflected_twice m.flip n.flip p,
+    )
     (sym (shifted_twice m.at (turned m.turn (reflected m.flip n.at)) _)))

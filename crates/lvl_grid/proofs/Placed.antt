@@ -1,5 +1,6 @@
 -- A ring that was moved and placed is a ring, and covers the places of what it covered.
-use Rattle.std.proofs.Common.{◌≡◌, Bool, true, false, List, map, ◌+ℤ◌, neg_ℤ, refl, subst, arith, sym, ap, ◌∙◌, inl, inr, All, ◌↔◌}
+use Rattle.std.proofs.Common.{◌≡◌, Bool, true, false, List, map, ◌+ℤ◌, neg_ℤ, refl, subst, arith, sym, ap, ◌∙◌, inl}
+use Rattle.std.proofs.Common.{inr, All, ◌↔◌}
 use Rattle.std.proofs.lemmas.Int.{ints}
 use Rattle.lvl_grid.specs.declared.point.Point.{Point}
 use Rattle.lvl_grid.specs.declared.point.Square.{Square}
@@ -32,29 +33,43 @@ reflected_straight true p q (inl e) = inl e
 reflected_straight true p q (inr e) = inr (ap neg_ℤ e)
 
 -- a map keeps straight edges straight
-pub placed_straight : (m : Map) (d p q : Point) → IsStraight (p, q) → IsStraight (placed_point m d p, placed_point m d q)
-placed_straight m d p q h = shifted_straight m.at _ _ (turned_straight m.turn _ _ (reflected_straight m.flip _ _ (shifted_straight d p q h)))
+pub placed_straight : (m : Map) (d p q : Point) → IsStraight (p, q)
+    → IsStraight (placed_point m d p, placed_point m d q)
+placed_straight m d p q h =
+    shifted_straight m.at _ _ (turned_straight m.turn _ _ (reflected_straight m.flip _ _ (shifted_straight d p q h)))
 
 pub IsRing-placed : (m : Map) (d : Point) (ps : List Point) → IsRing ps → IsRing (map (placed_point m d) ps)
-IsRing-placed m d ps h = record { enough = rw length-map h.enough; straight = straight_ring (placed_point m d) (placed_straight m d) ps h.straight }
+IsRing-placed m d ps h = record {
+  enough = rw length-map h.enough;
+  straight = straight_ring (placed_point m d) (placed_straight m d) ps h.straight;
+}
 
 put_back : (d : Point) (s : Square) → moved_square d (moved_square (record { x = neg_ℤ d.x; y = neg_ℤ d.y }) s) ≡ s
 put_back d s = same_square _ _ (omega (arith, ints)) (omega (arith, ints))
 
 -- the ring covers the place of a square exactly where it covered the square
-pub covers_place : (m : Map) (d : Point) (ps : List Point) → All IsStraight (edges ps) → (s : Square) → Covers (map (placed_point m d) ps) (image_square m (moved_square d s)) ↔ Covers ps s
+pub covers_place : (m : Map) (d : Point) (ps : List Point) → All IsStraight (edges ps) → (s : Square)
+    → Covers (map (placed_point m d) ps) (image_square m (moved_square d s)) ↔ Covers ps s
 covers_place m d ps h s =
     let moved : List Point = map (shifted d) ps in
-    let whole : map (image m) moved ≡ map (placed_point m d) ps = map-map (shifted d) (image m) (placed_point m d) ps (λ p. refl) in
+    let whole : map (image m) moved ≡ map (placed_point m d) ps =
+    map-map (shifted d) (image m) (placed_point m d) ps (λ p. refl) in
     let both = image_covers m moved (straight_ring (shifted d) (shifted_straight d) ps h) (moved_square d s) in
     let same : winding moved (moved_square d s) ≡ winding ps s = shift_winding d ps s in
-    subst (λ (qs : List Point). Covers qs (image_square m (moved_square d s)) ↔ Covers ps s) whole (λ c e. both.0 c (same ∙ e), λ c. both.1 (λ e. c (sym same ∙ e)))
+    subst (λ (qs : List Point). Covers qs (image_square m (moved_square d s)) ↔ Covers ps s) whole
+    (λ c e. both.0 c (same ∙ e), λ c. both.1 (λ e. c (sym same ∙ e)))
 
 -- and it covers nothing else
-pub covers_placed : (m : Map) (d : Point) (ps : List Point) → All IsStraight (edges ps) → (t : Square) → Covers (map (placed_point m d) ps) t ↔ IsPlaceOfCovered m d ps t
+pub covers_placed : (m : Map) (d : Point) (ps : List Point) → All IsStraight (edges ps) → (t : Square)
+    → Covers (map (placed_point m d) ps) t ↔ IsPlaceOfCovered m d ps t
 covers_placed m d ps h t =
     let from : Square = moved_square (record { x = neg_ℤ d.x; y = neg_ℤ d.y }) (unplaced m t) in
-    let there : image_square m (moved_square d from) ≡ t = ap (image_square m) (put_back d (unplaced m t)) ∙ image-unplaced m t in (
-      λ c. record { from = from; place = there; covered = (covers_place m d ps h from).0 (subst (Covers (map (placed_point m d) ps)) (sym there) c) },
+    let there : image_square m (moved_square d from) ≡ t =
+    ap (image_square m) (put_back d (unplaced m t)) ∙ image-unplaced m t in (
+      λ c. record {
+        from = from;
+        place = there;
+        covered = (covers_place m d ps h from).0 (subst (Covers (map (placed_point m d) ps)) (sym there) c);
+      },
       λ p. subst (Covers (map (placed_point m d) ps)) p.place ((covers_place m d ps h p.from).1 p.covered),
     )

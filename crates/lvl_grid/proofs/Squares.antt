@@ -13,7 +13,8 @@ use Rattle.lvl_grid.proofs.Placing.{turn_square, reflect_square, square_steps}
 
 -- squares with equal coordinates are equal
 pub same_square : (s t : Square) → s.x ≡ t.x → s.y ≡ t.y → s ≡ t
-same_square s t e f = let at : (x y : ℤ) → Square = λ x y. record { x = x; y = y } in ap (λ x. at x s.y) e ∙ ap (at t.x) f
+same_square s t e f =
+    let at : (x y : ℤ) → Square = λ x y. record { x = x; y = y } in ap (λ x. at x s.y) e ∙ ap (at t.x) f
 
 -- twice the middle of a square
 abbrev middle : Square → Point
@@ -23,10 +24,13 @@ half : (a b : ℤ) → a +ℤ a +ℤ pos 1 ≡ b +ℤ b +ℤ pos 1 → a ≡ b
 half a b e = omega (arith, ints)
 
 middle_tells : (s t : Square) → middle s ≡ middle t → s ≡ t
-middle_tells s t e = same_square s t (half s.x t.x (ap (λ (p : Point). p.x) e)) (half s.y t.y (ap (λ (p : Point). p.y) e))
+middle_tells s t e =
+    same_square s t (half s.x t.x (ap (λ (p : Point). p.x) e)) (half s.y t.y (ap (λ (p : Point). p.y) e))
 
 -- the map that does to middles what the map does to squares: its shift counts twice
-middle_steps : (t : Turn) (f : Bool) (d : Point) (s : Square) → middle (image_square (record { flip = f; turn = t; at = d }) s) ≡ shifted d (image (record { flip = f; turn = t; at = d }) (middle s))
+middle_steps : (t : Turn) (f : Bool) (d : Point) (s : Square)
+    → middle (image_square (record { flip = f; turn = t; at = d }) s)
+    ≡ shifted d (image (record { flip = f; turn = t; at = d }) (middle s))
 middle_steps R0 true d s = same_point _ _ (omega (arith, ints, clamps)) (omega (arith, ints, clamps))
 middle_steps R0 false d s = same_point _ _ (omega (arith, ints, clamps)) (omega (arith, ints, clamps))
 middle_steps R90 true d s = same_point _ _ (omega (arith, ints, clamps)) (omega (arith, ints, clamps))
@@ -65,21 +69,29 @@ origin_stays R270 true = refl
 origin_stays R270 false = refl
 
 image_of_origin : (m : Map) → image m origin ≡ m.at
-image_of_origin m = ap (shifted m.at) (origin_stays m.turn m.flip) ∙ same_point _ _ (zero_plus m.at.x) (zero_plus m.at.y)
+image_of_origin m =
+    ap (shifted m.at) (origin_stays m.turn m.flip) ∙ same_point _ _ (zero_plus m.at.x) (zero_plus m.at.y)
 
 -- where a map is one after another on points, it is so on squares
-pub image_square-composed : (m n w : Map) → ((p : Point) → image w p ≡ image m (image n p)) → (s : Square) → image_square w s ≡ image_square m (image_square n s)
+pub image_square-composed : (m n w : Map) → ((p : Point) → image w p ≡ image m (image n p)) → (s : Square)
+    → image_square w s ≡ image_square m (image_square n s)
 image_square-composed m n w each s =
     let p : Point = middle s in
-    let at : w.at ≡ shifted m.at (turned_only m n.at) = sym (image_of_origin w) ∙ (each origin ∙ ap (image m) (image_of_origin n)) in
-    let left : middle (image_square w s) ≡ shifted (shifted m.at (turned_only m n.at)) (image m (image n p)) = middle-image w s ∙ (ap (shifted w.at) (each p) ∙ ap (λ d. shifted d (image m (image n p))) at) in
-    let right : middle (image_square m (image_square n s)) ≡ shifted m.at (shifted (turned_only m n.at) (image m (image n p))) =
-    middle-image m (image_square n s) ∙ ap (shifted m.at) (ap (image m) (middle-image n s) ∙ image-shifted m n.at (image n p)) in
+    let at : w.at ≡ shifted m.at (turned_only m n.at) =
+    sym (image_of_origin w) ∙ (each origin ∙ ap (image m) (image_of_origin n)) in
+    let left : middle (image_square w s) ≡ shifted (shifted m.at (turned_only m n.at)) (image m (image n p)) =
+    middle-image w s ∙ (ap (shifted w.at) (each p) ∙ ap (λ d. shifted d (image m (image n p))) at) in
+    let right : middle (image_square m (image_square n s))
+    ≡ shifted m.at (shifted (turned_only m n.at) (image m (image n p))) =
+    middle-image m (image_square n s)
+    ∙ ap (shifted m.at) (ap (image m) (middle-image n s) ∙ image-shifted m n.at (image n p)) in
     middle_tells _ _ (left ∙ (sym (shifted_twice m.at (turned_only m n.at) (image m (image n p))) ∙ sym right))
 
 -- the square whose image is t
 abbrev pub unplaced : Map → Square → Square
-unplaced m t = reflect_square m.flip (turn_square (mirrored true m.turn) (moved_square (record { x = neg_ℤ m.at.x; y = neg_ℤ m.at.y }) t))
+unplaced m t =
+    reflect_square m.flip
+    (turn_square (mirrored true m.turn) (moved_square (record { x = neg_ℤ m.at.x; y = neg_ℤ m.at.y }) t))
 
 turn_back : (t : Turn) (s : Square) → turn_square t (turn_square (mirrored true t) s) ≡ s
 turn_back R0 s = refl
@@ -94,4 +106,6 @@ reflect_back false s = refl
 pub image-unplaced : (m : Map) (t : Square) → image_square m (unplaced m t) ≡ t
 image-unplaced m t =
     let back : Square = moved_square (record { x = neg_ℤ m.at.x; y = neg_ℤ m.at.y }) t in
-    square_steps m.turn m.flip m.at (unplaced m t) ∙ rw (reflect_back m.flip (turn_square (mirrored true m.turn) back), turn_back m.turn back) (same_square _ _ (omega (arith, ints)) (omega (arith, ints)))
+    square_steps m.turn m.flip m.at (unplaced m t)
+    ∙ rw (reflect_back m.flip (turn_square (mirrored true m.turn) back), turn_back m.turn back)
+    (same_square _ _ (omega (arith, ints)) (omega (arith, ints)))

@@ -1,5 +1,6 @@
 //! The eight maps of the grid onto itself, each with a shift.
-ghost use Rattle.std.specs.Prelude.{◌≡◌, ◌≤◌, ◌↔◌, IsSome, IfSome, SomeIff, if◌then◌else◌, neg_ℤ, ◌+ℤ◌, ◌^◌, unsigned_abs, FitsSigned};
+ghost use Rattle.std.specs.Prelude.{◌≡◌, ◌≤◌, ◌↔◌, IsSome, IfSome, SomeIff, if◌then◌else◌, neg_ℤ, ◌+ℤ◌, ◌^◌};
+ghost use Rattle.std.specs.Prelude.{unsigned_abs, FitsSigned};
 ghost use Rattle.std.specs.Int.{w64};
 ghost use Rattle.lvl_grid.specs.declared.point.Point.{Point as GridPoint};
 ghost use Rattle.lvl_grid.specs.Turn.{image, turned, reflected, shifted, turn_after, mirrored, FitsPoint};

@@ -155,9 +155,11 @@ impl Ring {
     /// tested for 64 bits, so a moved point may be outside (own rule).
     pub fn placed(&self, alloc: Global, shift: Point, by: &Map) -> Result<Ring, PlaceFault>
         ensures points { IfOk result (λ ring. ring ≡ map (placed_point by.now shift) self.now) }
-        ensures covers { IfOk result (λ ring. (t : GridSquare) → Covers ring t ↔ IsPlaceOfCovered by.now shift self.now t) }
+        ensures covers { IfOk result
+            (λ ring. (t : GridSquare) → Covers ring t ↔ IsPlaceOfCovered by.now shift self.now t) }
         ensures in_range { IfOk result (λ _. All (λ v. FitsPoint (placed_point by.now shift v)) self.now) }
-        ensures out_of_range { result ≡ Err PlaceFault.OutOfRange → Any (λ v. ¬ FitsPoint (placed_point by.now shift v)) self.now }
+        ensures out_of_range { result ≡ Err PlaceFault.OutOfRange
+            → Any (λ v. ¬ FitsPoint (placed_point by.now shift v)) self.now }
     {
         let Ok(mut points) = Vec::with_capacity(alloc, self.points.len()) else {
             return Err(PlaceFault::OutOfMemory);

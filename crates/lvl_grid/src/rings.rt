@@ -1,5 +1,6 @@
 //! Many rings in one piece: all points in one list, and where each ring ends.
-ghost use Rattle.std.specs.Prelude.{◌≡◌, ◌<◌, ◌≤◌, ◌-◌, ◌<ℤ◌, ◌≤ℤ◌, List, take, drop, map, Any, All, ◌⊎◌, ◌↔◌, ◌++◌, ◌∷◌, [], length, get_or, IsTrue, IsSome, IfSome, IfOk, OnOk, OnErr};
+ghost use Rattle.std.specs.Prelude.{◌≡◌, ◌<◌, ◌≤◌, ◌-◌, ◌<ℤ◌, ◌≤ℤ◌, List, take, drop, map, Any, All, ◌⊎◌, ◌↔◌, ◌++◌};
+ghost use Rattle.std.specs.Prelude.{◌∷◌, [], length, get_or, IsTrue, IsSome, IfSome, IfOk, OnOk, OnErr};
 ghost use Rattle.lvl_grid.specs.declared.point.Square.{Square as GridSquare};
 ghost use Rattle.lvl_grid.specs.Winding.{IsRing, Covers, SomeCovers};
 ghost use Rattle.lvl_grid.specs.Pieces.{begin_of};

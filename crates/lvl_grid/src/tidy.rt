@@ -1,5 +1,6 @@
 //! Rings clipped at the end of a list of points, without the points that they can do without.
-ghost use Rattle.std.specs.Prelude.{◌≡◌, ◌<◌, ◌≤◌, ◌+◌, ◌++◌, ◌∷◌, List, take, drop, vec_len, vec_capacity, length, ◌↔◌, IsTrue, OnOk, OnErr};
+ghost use Rattle.std.specs.Prelude.{◌≡◌, ◌<◌, ◌≤◌, ◌+◌, ◌++◌, ◌∷◌, List, take, drop, vec_len, vec_capacity, length};
+ghost use Rattle.std.specs.Prelude.{◌↔◌, IsTrue, OnOk, OnErr};
 ghost use Rattle.lvl_grid.specs.declared.point.Point.{Point as GridPoint};
 ghost use Rattle.lvl_grid.specs.Winding.{IsRing};
 ghost use Rattle.lvl_grid.specs.Clip.{GoesOnByClip};

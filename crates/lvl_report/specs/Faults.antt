@@ -1,9 +1,11 @@
 -- The number and the name of each fault that no format has alone, and what it carries, as they are printed.
 use Rattle.std.specs.Prelude.{ℕ, List, ◌∷◌, ◌++◌, flat_map, codes}
 use Rattle.lvl_path.specs.declared.fault.PathFault.{PathFault}
-use Rattle.lvl_path.specs.declared.fault.PathFault.TheVariants.{NoWidth, FewPoints, Oblique, RepeatedPoint, TurnsBack, ShortRun, OutOfRange as BandOutOfRange}
+use Rattle.lvl_path.specs.declared.fault.PathFault.TheVariants.{NoWidth, FewPoints, Oblique, RepeatedPoint, TurnsBack}
+use Rattle.lvl_path.specs.declared.fault.PathFault.TheVariants.{ShortRun, OutOfRange as BandOutOfRange}
 use Rattle.lvl_cells.specs.declared.fault.CellFault.{CellFault}
-use Rattle.lvl_cells.specs.declared.fault.CellFault.TheVariants.{NoCell, DuplicateCell, MissingCell, Cycle, TopMissing, ManyTops, TooManyPlacements, TooManyRings}
+use Rattle.lvl_cells.specs.declared.fault.CellFault.TheVariants.{NoCell, DuplicateCell, MissingCell, Cycle, TopMissing}
+use Rattle.lvl_cells.specs.declared.fault.CellFault.TheVariants.{ManyTops, TooManyPlacements, TooManyRings}
 use Rattle.lvl_view.specs.declared.fault.ViewFault.{ViewFault}
 use Rattle.lvl_view.specs.declared.fault.ViewFault.TheVariants.{MapText, WindowText, MapTwice, EmptyWindow}
 use Rattle.lvl_flat.specs.declared.fault.FlatFault.{FlatFault}

@@ -2,13 +2,17 @@
 use Rattle.std.specs.Prelude.{ℕ, ◌/◌, ◌%◌, List, [], ◌∷◌, ◌++◌, flat_map, false, codes, decimal}
 use Rattle.std.specs.Fmt.{signed_decimal, digit_glyph}
 use Rattle.gds_records.specs.declared.fault.RecordFault.{RecordFault}
-use Rattle.gds_records.specs.declared.fault.RecordFault.TheVariants.{Truncated, BadLength, BadDataType, UnknownRecord, TooLong, Read}
+use Rattle.gds_records.specs.declared.fault.RecordFault.TheVariants.{Truncated, BadLength, BadDataType, UnknownRecord}
+use Rattle.gds_records.specs.declared.fault.RecordFault.TheVariants.{TooLong, Read}
 use Rattle.gds_elements.specs.declared.fault.Misplaced.{Misplaced as MisplacedRecord}
 use Rattle.gds_elements.specs.declared.fault.Misplaced.TheVariants.{Unexpected, Unsupported}
 use Rattle.gds_elements.specs.declared.fault.ElementRule.{ElementRule}
-use Rattle.gds_elements.specs.declared.fault.ElementRule.TheVariants.{Layer, Points, NotClosed, Strans, Magnification, Angle, ColRow, ArrayStep, Name, Path, Width, PathType, Oblique, Repetition}
+use Rattle.gds_elements.specs.declared.fault.ElementRule.TheVariants.{Layer, Points, NotClosed, Strans, Magnification}
+use Rattle.gds_elements.specs.declared.fault.ElementRule.TheVariants.{Angle, ColRow, ArrayStep, Name, Path, Width}
+use Rattle.gds_elements.specs.declared.fault.ElementRule.TheVariants.{PathType, Oblique, Repetition}
 use Rattle.gds_library.specs.declared.fault.GdsKind.{GdsKind}
-use Rattle.gds_library.specs.declared.fault.GdsKind.TheVariants.{Record, Misplaced, Element, Name as CellName, AfterEnd, TooManyCells}
+use Rattle.gds_library.specs.declared.fault.GdsKind.TheVariants.{Record, Misplaced, Element, Name as CellName, AfterEnd}
+use Rattle.gds_library.specs.declared.fault.GdsKind.TheVariants.{TooManyCells}
 use Rattle.gds_library.specs.declared.head.GdsHead.{GdsHead}
 use Rattle.lvl_report.specs.Faults.{spaced, path_fault}
 
@@ -21,7 +25,9 @@ hex bytes = flat_map hex_byte bytes
 
 -- each of the units is shown by the eight bytes of its real
 abbrev pub gds_head_text : GdsHead → List ℕ
-gds_head_text head = codes "GDSII version " ++ signed_decimal head.version ++ codes " units" ++ flat_map (λ unit. spaced (hex unit)) head.units
+gds_head_text head =
+    codes "GDSII version " ++ signed_decimal head.version ++ codes " units"
+    ++ flat_map (λ unit. spaced (hex unit)) head.units
 
 -- a fault of a record
 abbrev pub record_fault : RecordFault → List ℕ

@@ -1,24 +1,31 @@
 -- What an OASIS file says of itself, and why one is refused, as they are printed.
 use Rattle.std.specs.Prelude.{ℕ, ◌==◌, if◌then◌else◌, List, [], ◌++◌, codes, decimal}
 use Rattle.oasis_values.specs.declared.fault.ValueFault.{ValueFault}
-use Rattle.oasis_values.specs.declared.fault.ValueFault.TheVariants.{Truncated, IntegerTooLarge, StringByte, RealType, ZeroDenominator}
-use Rattle.oasis_values.specs.declared.fault.ValueFault.TheVariants.{PointListType, PointCount, RepetitionType, RepetitionSize}
+use Rattle.oasis_values.specs.declared.fault.ValueFault.TheVariants.{Truncated, IntegerTooLarge, StringByte, RealType}
+use Rattle.oasis_values.specs.declared.fault.ValueFault.TheVariants.{ZeroDenominator}
+use Rattle.oasis_values.specs.declared.fault.ValueFault.TheVariants.{PointListType, PointCount, RepetitionType}
+use Rattle.oasis_values.specs.declared.fault.ValueFault.TheVariants.{RepetitionSize}
 use Rattle.oasis_values.specs.declared.fault.ValueFault.TheVariants.{OutOfRange, TooLong, Read, Failed, NoModal}
 use Rattle.oasis_values.specs.declared.number.Real.{Real}
-use Rattle.oasis_values.specs.declared.number.Real.TheVariants.{Whole, NegWhole, Reciprocal, NegReciprocal, Ratio, NegRatio, Four, Eight}
+use Rattle.oasis_values.specs.declared.number.Real.TheVariants.{Whole, NegWhole, Reciprocal, NegReciprocal, Ratio}
+use Rattle.oasis_values.specs.declared.number.Real.TheVariants.{NegRatio, Four, Eight}
 use Rattle.oasis_records.specs.declared.fault.RecordRule.{RecordRule}
-use Rattle.oasis_records.specs.declared.fault.RecordRule.TheVariants.{Magic, Version, Unit, Unsupported, Info, EndLength, Scheme}
+use Rattle.oasis_records.specs.declared.fault.RecordRule.TheVariants.{Magic, Version, Unit, Unsupported, Info}
+use Rattle.oasis_records.specs.declared.fault.RecordRule.TheVariants.{EndLength, Scheme}
 use Rattle.oasis_figures.specs.declared.rule.FigureRule.{FigureRule}
-use Rattle.oasis_figures.specs.declared.rule.FigureRule.TheVariants.{Undefined, Layer, OutOfRange as OutsideRange, Magnification}
+use Rattle.oasis_figures.specs.declared.rule.FigureRule.TheVariants.{Undefined, Layer, OutOfRange as OutsideRange}
+use Rattle.oasis_figures.specs.declared.rule.FigureRule.TheVariants.{Magnification}
 use Rattle.oasis_figures.specs.declared.rule.FigureRule.TheVariants.{Angle, Extension, Oblique, Path}
 use Rattle.oasis_figures.specs.declared.variable.Variable.{Variable}
-use Rattle.oasis_figures.specs.declared.variable.Variable.TheVariants.{PlacementCell, Layer as LayerVariable, Datatype, GeometryW, GeometryH}
+use Rattle.oasis_figures.specs.declared.variable.Variable.TheVariants.{PlacementCell, Layer as LayerVariable, Datatype}
+use Rattle.oasis_figures.specs.declared.variable.Variable.TheVariants.{GeometryW, GeometryH}
 use Rattle.oasis_figures.specs.declared.variable.Variable.TheVariants.{PolygonPointList, PathHalfWidth, PathPointList}
 use Rattle.oasis_figures.specs.declared.variable.Variable.TheVariants.{PathStartExtension, PathEndExtension, Repetition}
 use Rattle.oasis_stream.specs.declared.fault.NameRule.{NameRule}
 use Rattle.oasis_stream.specs.declared.fault.NameRule.TheVariants.{Mixed, NumberTwice, NameTwice}
 use Rattle.oasis_stream.specs.declared.fault.OasisKind.{OasisKind}
-use Rattle.oasis_stream.specs.declared.fault.OasisKind.TheVariants.{Value, Record, Figure, Unexpected, Name, AfterEnd, TooManyCells}
+use Rattle.oasis_stream.specs.declared.fault.OasisKind.TheVariants.{Value, Record, Figure, Unexpected, Name, AfterEnd}
+use Rattle.oasis_stream.specs.declared.fault.OasisKind.TheVariants.{TooManyCells}
 use Rattle.oasis_library.specs.declared.fault.OasisFault.{OasisFault}
 use Rattle.oasis_library.specs.declared.fault.OasisFault.TheVariants.{At, Unresolved}
 use Rattle.oasis_library.specs.declared.head.OasisHead.{OasisHead}
@@ -41,7 +48,9 @@ abbrev pub signature : ℕ → List ℕ → List ℕ
 signature scheme bytes = if scheme == 0 then [] else codes " signature " ++ hex bytes
 
 abbrev pub oasis_head_text : OasisHead → List ℕ
-oasis_head_text head = codes "OASIS 1.0 unit " ++ real head.unit ++ codes " scheme " ++ decimal head.scheme ++ signature head.scheme head.signature
+oasis_head_text head =
+    codes "OASIS 1.0 unit " ++ real head.unit ++ codes " scheme " ++ decimal head.scheme
+    ++ signature head.scheme head.signature
 
 -- a fault of a value
 abbrev pub value_fault : ValueFault → List ℕ

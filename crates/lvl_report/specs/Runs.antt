@@ -15,8 +15,8 @@ use Rattle.lvl.specs.Answers.{IsCompared, IsEarlyOf, IsHopeless, IsRefusalOf, is
 use Rattle.lvl.specs.Shown.{IsShownFile, IsOfFirst}
 use Rattle.lvl_report.specs.Writing.{AppendsBeginning}
 
--- a reader in a run: the bytes that it had and those that are left, where they are known, its errors before and after, and
--- the name of the top
+-- a reader in a run: the bytes that it had and those that are left, where they are known, its errors before and after,
+-- and the name of the top
 pub record Input : Type 0 where
   pub bytes : Option (List ℕ)
   pub left : Option (List ℕ)
@@ -28,7 +28,8 @@ abbrev pub input : Option (List ℕ) → Option (List ℕ) → ℕ → ℕ → O
 input bytes left before after top = record { bytes = bytes; left = left; before = before; after = after; top = top }
 
 -- the answer is one that a comparison of two files may give, where it says that of them
-pub record IsAnswerBy (Says : File → File → Comparison → Type 0) (a b : Input) (answer : Result Comparison Refusal) : Type 0 where
+pub record IsAnswerBy (Says : File → File → Comparison → Type 0) (a b : Input)
+    (answer : Result Comparison Refusal) : Type 0 where
   pub compared : (xs ys : List ℕ) → a.bytes ≡ Some xs → b.bytes ≡ Some ys
       → IfOk answer (Says (file_named xs a.top) (file_named ys b.top))
   pub first_refused : (xs : List ℕ) → a.bytes ≡ Some xs → IfErr answer (IsRefusalOf First (file_named xs a.top))
@@ -55,7 +56,8 @@ pub record IsShownBy (a : Input) (answer : Result Shown Refusal) : Type 0 where
   pub reads : CountsFailure a.before a.after (is_read_of First answer)
 
 -- the text of such an answer was written, and nothing else; the status is that of the answer
-pub record IsWritten {X : Type 0} (Allowed : X → Type 0) (text : X → List ℕ) (status : X → Status) (old new : Option (List ℕ)) (told : Status) : Type 0 where
+pub record IsWritten {X : Type 0} (Allowed : X → Type 0) (text : X → List ℕ) (status : X → Status)
+    (old new : Option (List ℕ)) (told : Status) : Type 0 where
   pub answer : X
   pub allowed : Allowed answer
   pub whole : Appends old new (text answer)

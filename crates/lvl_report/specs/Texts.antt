@@ -52,15 +52,21 @@ refusal_text OutOfMemory = codes "refused: out of memory"
 
 -- what is printed of an answer, whole
 abbrev pub text_of : Result Comparison Refusal → List ℕ
-text_of (Ok c) = line (codes "first: " ++ head_text c.first) ++ line (codes "second: " ++ head_text c.second) ++ line (verdict_text c.verdict)
+text_of (Ok c) =
+    line (codes "first: " ++ head_text c.first) ++ line (codes "second: " ++ head_text c.second)
+    ++ line (verdict_text c.verdict)
 text_of (Err refusal) = line (refusal_text refusal)
 
 -- what is printed of a Layer that is shown
 abbrev pub layer_line : ShownLayer → List ℕ
-layer_line shown = line (codes "layer " ++ decimal shown.layer.layer ++ codes " datatype " ++ decimal shown.layer.datatype ++ codes " rings " ++ decimal shown.rings)
+layer_line shown =
+    line (codes "layer " ++ decimal shown.layer.layer ++ codes " datatype " ++ decimal shown.layer.datatype
+    ++ codes " rings " ++ decimal shown.rings)
 
 abbrev pub shown_text : Shown → List ℕ
-shown_text shown = line (codes "file: " ++ head_text shown.head) ++ line (codes "top:" ++ spaced shown.top.items) ++ line (codes "cells: " ++ decimal shown.cells) ++ flat_map layer_line shown.layers.items
+shown_text shown =
+    line (codes "file: " ++ head_text shown.head) ++ line (codes "top:" ++ spaced shown.top.items)
+    ++ line (codes "cells: " ++ decimal shown.cells) ++ flat_map layer_line shown.layers.items
 
 -- what is printed of a layout, whole
 abbrev pub text_of_shown : Result Shown Refusal → List ℕ

@@ -1,7 +1,8 @@
 //! What a GDSII file says of itself, and why one is refused, as text.
 ghost use Rattle.std.specs.Prelude.{◌≡◌, ◌++◌, flat_map, OnOk};
 ghost use Rattle.lvl_report.specs.Faults.{spaced};
-ghost use Rattle.lvl_report.specs.Gds.{hex, hex_byte, gds_head_text, record_fault, misplaced_record, element_rule, gds_fault};
+ghost use Rattle.lvl_report.specs.Gds.{hex, hex_byte, gds_head_text, record_fault, misplaced_record, element_rule};
+ghost use Rattle.lvl_report.specs.Gds.{gds_fault};
 
 use crate::faults::path_fault;
 use gds_library::{ElementRule, GdsHead, GdsKind, Misplaced, RecordFault};

@@ -1,9 +1,9 @@
 //! The answers of lvl as text: two heads and a verdict, what a layout holds, or a refusal.
 //!
-//! [`run`] compares two files, [`run_view`] compares them under a view, and [`run_show`] shows one; each forms the text of the answer whole,
-//! writes it, and gives its [`Status`], by which the program exits. Each format has a module of its
-//! own for what its files say of themselves and why they are refused. [`form`] and [`form_shown`] give
-//! the text alone.
+//! [`run`] compares two files, [`run_view`] compares them under a view, and [`run_show`] shows one;
+//! each forms the text of the answer whole, writes it, and gives its [`Status`], by which the program
+//! exits. Each format has a module of its own for what its files say of themselves and why they are
+//! refused. [`form`] and [`form_shown`] give the text alone.
 #![tactic(auto)]
 
 pub use faults::view_fault;

@@ -52,7 +52,8 @@ pub(crate) fn tell_shown<W: Write>(
 ) -> Result<Status, RunFault>
     ensures whole { OnOk result (Appends (W.contents out.old) (W.contents out.new) (text_of_shown answer.now)) }
     ensures status { IfOk result (λ status. status ≡ shown_status answer.now) }
-    ensures begun { OnErr result (AppendsBeginning (W.contents out.old) (W.contents out.new) (text_of_shown answer.now)) }
+    ensures begun { OnErr result
+        (AppendsBeginning (W.contents out.old) (W.contents out.new) (text_of_shown answer.now)) }
     ensures nothing { result ≡ Err RunFault.OutOfMemory → Keeps (W.contents out.old) (W.contents out.new) }
     ensures errors { CountsFailure (W.write_errors out.old) (W.write_errors out.new) (is_output result) }
     ensures same { W.lent out.new ≡ W.lent out.old }

@@ -1,6 +1,7 @@
 //! The text of an answer: two heads and a verdict, what a layout holds, or a refusal.
 ghost use Rattle.std.specs.Prelude.{◌≡◌, ◌++◌, flat_map, OnOk, IfOk};
-ghost use Rattle.lvl_report.specs.Texts.{layer_line, side_text, verdict_text, head_text, file_fault, refusal_text, shown_text, text_of, text_of_shown};
+ghost use Rattle.lvl_report.specs.Texts.{layer_line, side_text, verdict_text, head_text, file_fault, refusal_text};
+ghost use Rattle.lvl_report.specs.Texts.{shown_text, text_of, text_of_shown};
 
 use crate::faults::{push_cell_fault, push_flat_fault, push_name};
 use crate::gds::{push_gds_fault, push_gds_head};

@@ -1,6 +1,6 @@
 -- What the first bands of two lists tell of the rows from one on.
-use Rattle.std.proofs.Common.{◌≡◌, ◌≢◌, true, false, ◌&&◌, ◌||◌, cond, List, [], ◌∷◌, ℤ, ◌<ℤ◌, ◌≤ℤ◌, int_lt}
-use Rattle.std.proofs.Common.{int_le, Option, None, Some, refl, sym, ◌∙◌, ap, arith, subst, ◌⊎◌, inl, inr}
+use Rattle.std.proofs.Common.{◌≡◌, ◌≢◌, true, false, ◌&&◌, ◌||◌, cond, List, [], ◌∷◌, ℤ, ◌<ℤ◌, ◌≤ℤ◌, int_lt, int_le}
+use Rattle.std.proofs.Common.{Option, None, Some, refl, sym, ◌∙◌, ap, arith, subst, ◌⊎◌, inl, inr}
 use Rattle.std.specs.List.{list_any}
 use Rattle.std.specs.Int.{int_min}
 use Rattle.std.proofs.lemmas.Int.{ints, by_lt_z}
@@ -10,13 +10,11 @@ use Rattle.lvl_region.specs.declared.region.Side.TheVariants.{First, Second}
 use Rattle.lvl_sweep.specs.declared.rows.Ahead.{Ahead}
 use Rattle.lvl_sweep.specs.declared.rows.Ahead.TheVariants.{Differ, Alike, Nothing}
 use Rattle.lvl_sweep.specs.Slab.{Slab, holds, AreSteps, spans, AreIntervals, IsSlabList, slabs_cover}
-use Rattle.lvl_sweep.specs.Rows.{is_from}
-use Rattle.lvl_sweep.specs.Ahead.{IsLeastIn, IsBefore, IsLeastAlone, IsMet, FirstIs, IsTold, IsToldByTwo}
-use Rattle.lvl_sweep.specs.Ahead.{higher_of, left_end}
-use Rattle.lvl_sweep.proofs.Steps.{inside, left_of, right_of}
+use Rattle.lvl_sweep.specs.Ahead.{is_from, IsBefore, IsLeastAlone}
+use Rattle.lvl_sweep.specs.inside.InStep.{IsLeastIn, IsMet, FirstIs, IsTold, IsToldByTwo, higher_of, left_end}
 use Rattle.lvl_sweep.proofs.BandLists.{cover_is, in_value}
 use Rattle.lvl_sweep.proofs.Firsts.{Stands, stands, early, here, other_side, or_false, flip_on}
-use Rattle.lvl_sweep.proofs.Slabs.{early_rest}
+use Rattle.lvl_sweep.proofs.Slabs.{early_rest, inside, left_of, right_of}
 
 -- in the rows of a band, its intervals tell
 pub cover_in : (b : Slab) (t : Square) → b.from ≤ℤ t.y → t.y <ℤ b.to

@@ -12,9 +12,9 @@ use Rattle.lvl_grid.specs.declared.point.Point.{Point}
 use Rattle.lvl_sweep.specs.declared.edge.Edge.{Edge}
 use Rattle.lvl_sweep.specs.Edges.{net, net_left, IsBeginOf}
 use Rattle.lvl_sweep.specs.Alive.{alive, rises, falls, HasSame, AreEdgesOf}
-use Rattle.lvl_sweep.specs.Rows.{Balanced, row, alive_at, row_at, bands_from}
+use Rattle.lvl_sweep.specs.inside.Rows.{Balanced, row, alive_at, row_at, bands_from}
 use Rattle.lvl_sweep.specs.Runs.{IsSameFrom}
-use Rattle.lvl_sweep.specs.Strips.{left}
+use Rattle.lvl_sweep.specs.inside.Strips.{left}
 use Rattle.lvl_sweep.proofs.Winds.{count_none}
 use Rattle.lvl_sweep.proofs.Insides.{inside_same}
 use Rattle.lvl_sweep.proofs.RowLists.{row_same}

@@ -1,8 +1,7 @@
 -- The list of the bands from a row on.
 use Rattle.std.proofs.Common.{◌||◌, ◌≡◌, ◌≢◌, ℕ, ◌+◌, ◌<◌, ◌≤◌, Bool, true, false, ◌&&◌, cond, List, [], ◌∷◌, length}
-use Rattle.std.proofs.Common.{get_or}
-use Rattle.std.proofs.Common.{ℤ, pos, ◌<ℤ◌, ◌≤ℤ◌, int_lt, int_le, unsigned_abs, Option, None, Some, All, refl, sym, ◌∙◌}
-use Rattle.std.proofs.Common.{ap, arith}
+use Rattle.std.proofs.Common.{get_or, ℤ, pos, ◌<ℤ◌, ◌≤ℤ◌, int_lt, int_le, unsigned_abs, Option, None, Some, All, refl}
+use Rattle.std.proofs.Common.{sym, ◌∙◌, ap, arith}
 use Rattle.std.specs.List.{list_any}
 use Rattle.std.specs.Ordering.{int_eq}
 use Rattle.std.specs.Bool.{Decides}
@@ -15,13 +14,13 @@ use Rattle.lvl_sweep.specs.declared.edge.Edge.{Edge}
 use Rattle.lvl_sweep.specs.Slab.{Step, Slab, holds, value_of, Follows, AreSteps, spans, AreIntervals, IsSlabList}
 use Rattle.lvl_sweep.specs.Slab.{slabs_cover}
 use Rattle.lvl_sweep.specs.Alive.{alive}
-use Rattle.lvl_sweep.specs.Rows.{is_from, from_on, steps_from, inside, far_of, Balanced, row, alive_at, row_at}
-use Rattle.lvl_sweep.specs.Rows.{as_value, same_row, bands_from}
-use Rattle.lvl_sweep.proofs.Steps.{IsWithin, at_head, past_head, steps_give, none_from, first_from}
-use Rattle.lvl_sweep.proofs.Steps.{same_from}
+use Rattle.lvl_sweep.specs.Ahead.{is_from}
+use Rattle.lvl_sweep.specs.inside.Rows.{from_on, steps_from, inside, far_of, Balanced, row, alive_at, row_at, as_value}
+use Rattle.lvl_sweep.specs.inside.Rows.{same_row, bands_from}
+use Rattle.lvl_sweep.proofs.Steps.{IsWithin, steps_give, none_from, first_from, same_from}
 use Rattle.lvl_sweep.proofs.Insides.{each_within}
 use Rattle.lvl_sweep.proofs.RowLists.{row_none, row_covers, row_intervals}
-use Rattle.lvl_sweep.proofs.Slabs.{early_rest}
+use Rattle.lvl_sweep.proofs.Slabs.{early_rest, at_head, past_head}
 
 pub pair_is : (i j : ℤ × ℤ) → i.0 ≡ j.0 → i.1 ≡ j.1 → i ≡ j
 pair_is i j e f =

@@ -8,8 +8,8 @@ use Rattle.lvl_sweep.specs.declared.edge.Edge.{Edge}
 use Rattle.lvl_sweep.specs.declared.windings.Windings.{Windings}
 use Rattle.lvl_sweep.specs.declared.walk.Place.{Place}
 use Rattle.lvl_sweep.specs.Edges.{AreAtRest}
-use Rattle.lvl_sweep.specs.Rows.{row, row_from}
-use Rattle.lvl_sweep.specs.Walks.{HasPassed, IsParted, is_inside}
+use Rattle.lvl_sweep.specs.inside.Rows.{row, row_from}
+use Rattle.lvl_sweep.specs.inside.Walks.{HasPassed, IsParted, is_inside}
 use Rattle.std.specs.Ordering.{int_eq}
 use Rattle.std.proofs.lemmas.Bool.{and_parts, not-false}
 use Rattle.std.proofs.lemmas.Bool.Decides.{Decides-int_eq}

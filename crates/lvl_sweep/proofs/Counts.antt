@@ -21,12 +21,11 @@ use Rattle.lvl_sweep.specs.Bands.{AreBandsOf, HaveOrdinates, AreFewerThanLines, 
 use Rattle.lvl_sweep.specs.Bands.{HaveFewIntervals}
 use Rattle.lvl_sweep.proofs.Winds.{count_same}
 use Rattle.lvl_sweep.proofs.Insides.{none_of}
-use Rattle.lvl_sweep.proofs.Steps.{at_head, past_head}
 use Rattle.lvl_sweep.proofs.BandLists.{in_value, cover_is, each_there}
 use Rattle.lvl_sweep.proofs.Tops.{fewer_by, fewer_at}
 use Rattle.lvl_sweep.proofs.OneList.{same_value, value_has}
 use Rattle.lvl_sweep.proofs.Firsts.{Stands, stands, early, here, at_end, right_of}
-use Rattle.lvl_sweep.proofs.Slabs.{none_left_of}
+use Rattle.lvl_sweep.proofs.Slabs.{none_left_of, at_head, past_head}
 
 -- rings that wind alike cover alike
 some_same : (rings : List (List Point)) (s t : Square) → All (λ ring. winding ring s ≡ winding ring t) rings

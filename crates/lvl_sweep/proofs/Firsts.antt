@@ -16,7 +16,8 @@ use Rattle.lvl_region.specs.declared.region.Side.{Side}
 use Rattle.lvl_region.specs.declared.region.Side.TheVariants.{First, Second}
 use Rattle.lvl_sweep.specs.Slab.{spans, AreIntervals}
 use Rattle.lvl_sweep.proofs.BandLists.{pair_is}
-use Rattle.lvl_sweep.specs.Ahead.{IsOn, IsLeastIn, end_difference}
+use Rattle.lvl_sweep.specs.Ahead.{IsOn}
+use Rattle.lvl_sweep.specs.inside.InStep.{IsLeastIn, end_difference}
 
 pub left_of : (z : ℤ) (i : ℤ × ℤ) → z <ℤ i.0 → spans z i ≡ false
 left_of z i h = grind (arith, ints)

@@ -4,14 +4,14 @@ use Rattle.std.proofs.Common.{◌≤ℤ◌, int_le, unsigned_abs, All, Any, coun
 use Rattle.std.specs.List.{list_any}
 use Rattle.std.specs.Ordering.{int_eq}
 use Rattle.std.proofs.lemmas.Int.{ints, by_lt_z}
-use Rattle.std.proofs.lemmas.Bool.{both_ways, not-true, false_from_ne_true, eqb-true, cases_Bool}
+use Rattle.std.proofs.lemmas.Bool.{both_ways, not-true, false_from_ne_true, eqb-true, cases_Bool, and_right}
 use Rattle.std.proofs.lemmas.Bool.Decides.{Decides-int_eq, same_from_decides}
 use Rattle.std.proofs.lemmas.List.Elements.{All-weaker}
 use Rattle.std.proofs.lemmas.List.Folds.{Any-from_list_any, list_any-from_Any, list_any_at}
 use Rattle.std.proofs.lemmas.List.Sums.{get_or-le-sum_by}
 use Rattle.lvl_sweep.specs.declared.edge.Edge.{Edge}
 use Rattle.lvl_sweep.specs.Edges.{net_left, IsInside}
-use Rattle.lvl_sweep.specs.Rows.{inside, far_of, Balanced}
+use Rattle.lvl_sweep.specs.inside.Rows.{inside, far_of, Balanced}
 use Rattle.lvl_sweep.proofs.Winds.{count_none, left_of_all}
 
 pub none_of : {A : Type 0} (p : A → Bool) (xs : List A) → list_any p xs ≡ false → All (λ x. p x ≡ false) xs
@@ -34,17 +34,13 @@ zero_of r z es h =
     k) es h) in
     rw (ups, downs) refl
 
-and_off : (a b : Bool) → b ≡ false → (a && b) ≡ false
-and_off true b e = e
-and_off false b e = refl
-
 -- a ring that winds has an edge
 has_edge : (r : ℕ) (z : ℤ) (es : List Edge) → net_left r z es ≢ pos 0 → Any (λ e. eqb e.ring r ≡ true) es
 has_edge r z es h = elim (cases_Bool (list_any (λ e. eqb e.ring r) es)) [
   | inl some ↦ Any-from_list_any (λ e. eqb e.ring r) es some
   | inr none ↦
       absurd (h (zero_of r z es (All-weaker (λ e. eqb e.ring r ≡ false) (λ e. (int_le e.x z && eqb e.ring r) ≡ false)
-      (λ e k. and_off (int_le e.x z) (eqb e.ring r) k) es (none_of (λ e. eqb e.ring r) es none))))
+      (λ e k. and_right (int_le e.x z) (eqb e.ring r) k) es (none_of (λ e. eqb e.ring r) es none))))
 ]
 
 not_zero : (c : ℤ) → not (int_eq c (pos 0)) ≡ true → c ≢ pos 0

@@ -10,9 +10,10 @@ use Rattle.lvl_region.specs.declared.region.Side.{Side}
 use Rattle.lvl_region.specs.declared.region.Side.TheVariants.{First, Second}
 use Rattle.lvl_region.specs.Region.{SomeCovers, IsAlone}
 use Rattle.lvl_sweep.specs.Slab.{Slab, AreIntervals, IsSlabList, slabs_cover}
-use Rattle.lvl_sweep.specs.Rows.{is_from}
+use Rattle.lvl_sweep.specs.Ahead.{is_from}
 use Rattle.lvl_sweep.specs.Bands.{AreBandsOf}
-use Rattle.lvl_sweep.specs.Ahead.{IsOn, IsBefore, IsLeastAlone, IsUpTo, IsMet, FirstIs, IsAlike, ended_by}
+use Rattle.lvl_sweep.specs.Ahead.{IsOn, IsBefore, IsLeastAlone, IsUpTo}
+use Rattle.lvl_sweep.specs.inside.InStep.{IsMet, FirstIs, IsAlike, ended_by}
 use Rattle.lvl_sweep.proofs.Aheads.{cover_past}
 
 -- below the row the lists that were are the same, and from it on those that are left tell

@@ -8,8 +8,8 @@ use Rattle.std.proofs.lemmas.List.Elements.{All-head, All-tail}
 use Rattle.lvl_grid.specs.declared.point.Square.{Square}
 use Rattle.lvl_sweep.specs.Slab.{Step, Slab, holds, value_of, Follows, AreSteps, spans, AreIntervals, IsSlabList}
 use Rattle.lvl_sweep.specs.Slab.{slabs_cover}
-use Rattle.lvl_sweep.specs.Rows.{ends}
-use Rattle.lvl_sweep.specs.Ahead.{left_end}
+use Rattle.lvl_sweep.specs.inside.Rows.{ends}
+use Rattle.lvl_sweep.specs.inside.InStep.{left_end}
 use Rattle.lvl_sweep.proofs.Slabs.{same_steps}
 use Rattle.lvl_sweep.proofs.RowLists.{token, spans_value}
 use Rattle.lvl_sweep.proofs.BandLists.{in_value, cover_is}

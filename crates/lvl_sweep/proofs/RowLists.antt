@@ -7,7 +7,8 @@ use Rattle.std.proofs.lemmas.Int.{ints}
 use Rattle.std.proofs.lemmas.List.Elements.{All-weaker, All-nil, All-cons}
 use Rattle.lvl_sweep.specs.declared.edge.Edge.{Edge}
 use Rattle.lvl_sweep.specs.Slab.{Step, holds, value_of, Follows, AreSteps, spans, AreIntervals}
-use Rattle.lvl_sweep.specs.Rows.{is_from, steps_from, inside, far_of, Balanced, ends, row_from, row}
+use Rattle.lvl_sweep.specs.Ahead.{is_from}
+use Rattle.lvl_sweep.specs.inside.Rows.{steps_from, inside, far_of, Balanced, ends, row_from, row}
 use Rattle.lvl_sweep.proofs.Steps.{IsWithin, steps_give, none_from, first_from, same_from}
 use Rattle.lvl_sweep.proofs.Insides.{inside_far}
 

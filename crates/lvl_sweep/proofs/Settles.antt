@@ -9,10 +9,10 @@ use Rattle.lvl_sweep.specs.declared.band.Band.{Band}
 use Rattle.lvl_sweep.specs.declared.strips.Strips.{Strips}
 use Rattle.lvl_sweep.specs.Slab.{Slab}
 use Rattle.lvl_sweep.specs.Alive.{alive, AreEdgesOf, HasSame}
-use Rattle.lvl_sweep.specs.Rows.{Balanced, alive_at, row_at, bands_from}
-use Rattle.lvl_sweep.specs.Strips.{IsAt, IsTop, IsOver, left}
+use Rattle.lvl_sweep.specs.inside.Rows.{Balanced, alive_at, row_at, bands_from}
+use Rattle.lvl_sweep.specs.inside.Strips.{IsAt, IsTop, IsOver, left}
 use Rattle.lvl_sweep.specs.Bands.{slab_of, AreBandsOf}
-use Rattle.lvl_sweep.specs.Sweeps.{IsHeld}
+use Rattle.lvl_sweep.specs.inside.Sweeps.{IsHeld}
 use Rattle.lvl_sweep.proofs.Alive.{inside_is_covered}
 use Rattle.lvl_sweep.proofs.Alikes.{left_alike, row_at_alike}
 use Rattle.lvl_sweep.proofs.Insides.{inside_is}

@@ -3,20 +3,20 @@ use Rattle.std.proofs.Common.{◌≡◌, true, false, List, [], ◌∷◌, ℤ, 
 use Rattle.std.proofs.lemmas.Int.{ints, by_lt_z}
 use Rattle.lvl_sweep.specs.Slab.{Step, holds, value_of, Follows, AreSteps}
 
-inside : {V : Type 0} (s : Step V) (z : ℤ) → s.from ≤ℤ z → z <ℤ s.to → holds s z ≡ true
+pub inside : {V : Type 0} (s : Step V) (z : ℤ) → s.from ≤ℤ z → z <ℤ s.to → holds s z ≡ true
 inside s z h k = grind (arith, ints)
 
-left_of : {V : Type 0} (s : Step V) (z : ℤ) → z <ℤ s.from → holds s z ≡ false
+pub left_of : {V : Type 0} (s : Step V) (z : ℤ) → z <ℤ s.from → holds s z ≡ false
 left_of s z h = grind (arith, ints)
 
-right_of : {V : Type 0} (s : Step V) (z : ℤ) → s.to ≤ℤ z → holds s z ≡ false
+pub right_of : {V : Type 0} (s : Step V) (z : ℤ) → s.to ≤ℤ z → holds s z ≡ false
 right_of s z h = grind (arith, ints)
 
-at_head : {V : Type 0} (s : Step V) (ss : List (Step V)) (z : ℤ) → s.from ≤ℤ z → z <ℤ s.to
+pub at_head : {V : Type 0} (s : Step V) (ss : List (Step V)) (z : ℤ) → s.from ≤ℤ z → z <ℤ s.to
     → value_of (s ∷ ss) z ≡ Some s.value
 at_head s ss z h k = rw (inside s z h k) refl
 
-past_head : {V : Type 0} (s : Step V) (ss : List (Step V)) (z : ℤ) → s.to ≤ℤ z → value_of (s ∷ ss) z ≡ value_of ss z
+pub past_head : {V : Type 0} (s : Step V) (ss : List (Step V)) (z : ℤ) → s.to ≤ℤ z → value_of (s ∷ ss) z ≡ value_of ss z
 past_head s ss z h = rw (right_of s z h) refl
 
 -- nothing is held before the steps that follow s

@@ -14,8 +14,8 @@ use Rattle.lvl_sweep.specs.declared.edge.Edge.{Edge}
 use Rattle.lvl_sweep.specs.declared.strips.Strips.{Strips}
 use Rattle.lvl_sweep.specs.Edges.{net, AreAtRest, IsBeginOf}
 use Rattle.lvl_sweep.specs.Alive.{alive, AreInOrder, AreEdgesOf}
-use Rattle.lvl_sweep.specs.Rows.{Balanced, alive_at, row_at}
-use Rattle.lvl_sweep.specs.Strips.{AreStrips, IsAt, CanLoad, IsTop, IsOver}
+use Rattle.lvl_sweep.specs.inside.Rows.{Balanced, alive_at, row_at}
+use Rattle.lvl_sweep.specs.inside.Strips.{AreStrips, IsAt, CanLoad, IsTop, IsOver}
 use Rattle.lvl_sweep.proofs.Winds.{count_same, no_ring}
 use Rattle.lvl_sweep.proofs.Alive.{alive_count}
 use Rattle.lvl_sweep.proofs.BandLists.{row_at_none}

@@ -6,25 +6,11 @@ use Rattle.std.specs.Ordering.{int_eq}
 use Rattle.std.specs.Bool.{Decides}
 use Rattle.std.proofs.lemmas.Int.{ints, by_lt_z}
 use Rattle.std.proofs.lemmas.Bool.Decides.{Decides-int_eq}
-use Rattle.lvl_sweep.proofs.Slabs.{same_steps, early_rest}
-use Rattle.lvl_sweep.specs.Slab.{Step, holds, value_of, Follows, AreSteps}
-use Rattle.lvl_sweep.specs.Rows.{join, steps_at, is_from, from_on, steps_from}
-
-pub inside : {V : Type 0} (s : Step V) (z : ℤ) → s.from ≤ℤ z → z <ℤ s.to → holds s z ≡ true
-inside s z h k = grind (arith, ints)
-
-pub left_of : {V : Type 0} (s : Step V) (z : ℤ) → z <ℤ s.from → holds s z ≡ false
-left_of s z h = grind (arith, ints)
-
-pub right_of : {V : Type 0} (s : Step V) (z : ℤ) → s.to ≤ℤ z → holds s z ≡ false
-right_of s z h = grind (arith, ints)
-
-pub at_head : {V : Type 0} (s : Step V) (ss : List (Step V)) (z : ℤ) → s.from ≤ℤ z → z <ℤ s.to
-    → value_of (s ∷ ss) z ≡ Some s.value
-at_head s ss z h k = rw (inside s z h k) refl
-
-pub past_head : {V : Type 0} (s : Step V) (ss : List (Step V)) (z : ℤ) → s.to ≤ℤ z → value_of (s ∷ ss) z ≡ value_of ss z
-past_head s ss z h = rw (right_of s z h) refl
+use Rattle.std.proofs.lemmas.Bool.{and_from}
+use Rattle.lvl_sweep.proofs.Slabs.{same_steps, early_rest, left_of, at_head, past_head}
+use Rattle.lvl_sweep.specs.Slab.{Step, value_of, Follows, AreSteps}
+use Rattle.lvl_sweep.specs.inside.Rows.{join, steps_at, from_on, steps_from}
+use Rattle.lvl_sweep.specs.Ahead.{is_from}
 
 -- the first step starts at or after a
 abbrev pub StartsAt : {V : Type 0} → ℤ → List (Step V) → Type 0
@@ -47,10 +33,6 @@ first_true false q h = h
 second_true : (p q : Bool) → (p && q) ≡ true → q ≡ true
 second_true true q h = h
 second_true false q h = absurd (let clash : false ≡ true = h in cc)
-
-both_true : (p q : Bool) → p ≡ true → q ≡ true → (p && q) ≡ true
-both_true true q h k = k
-both_true false q h k = h
 
 pub early : {V : Type 0} (a z : ℤ) (ss : List (Step V)) → StartsAt a ss → AreSteps ss → z <ℤ a → value_of ss z ≡ None
 early a z [] h k lt = refl
@@ -111,7 +93,7 @@ join_is same laws a b (Some v) (t ∷ ts) lt steps starts =
       (laws v t.value).0 (second_true (int_eq b t.from) (same v t.value) h),
     ))
     (λ h e f. absurd (let clash : true ≡ false =
-    sym (both_true (int_eq b t.from) (same v t.value) ((Decides-int_eq b t.from).1 e) ((laws v t.value).1 f)) ∙ h in
+    sym (and_from (int_eq b t.from) (same v t.value) ((Decides-int_eq b t.from).1 e) ((laws v t.value).1 f)) ∙ h in
     cc))
 
 pub record Gives {V : Type 0} (f : ℤ → Option V) (a : ℤ) (ss : List (Step V)) : Type 0 where

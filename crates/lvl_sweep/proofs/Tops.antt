@@ -10,7 +10,7 @@ use Rattle.lvl_sweep.specs.declared.strips.Strips.{Strips}
 use Rattle.lvl_sweep.specs.Edges.{IsBeginOf}
 use Rattle.lvl_sweep.specs.Alive.{alive}
 use Rattle.lvl_sweep.specs.Runs.{IsEndOf}
-use Rattle.lvl_sweep.specs.Strips.{AreStrips, IsAt, IsTop, IsOver, left}
+use Rattle.lvl_sweep.specs.inside.Strips.{AreStrips, IsAt, IsTop, IsOver, left}
 use Rattle.lvl_sweep.proofs.Winds.{bit, count_cons}
 use Rattle.lvl_sweep.proofs.BandLists.{row_at_none, row_at_same}
 use Rattle.lvl_sweep.proofs.Loads.{nothing, dead_low, dead_high, alive_there}

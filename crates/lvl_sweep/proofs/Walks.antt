@@ -17,8 +17,10 @@ use Rattle.lvl_sweep.specs.declared.edge.Edge.{Edge}
 use Rattle.lvl_sweep.specs.declared.windings.Windings.{Windings}
 use Rattle.lvl_sweep.specs.declared.walk.Place.{Place}
 use Rattle.lvl_sweep.specs.Edges.{turn, how_many_turn, net, net_left, IsInside, AreAtRest}
-use Rattle.lvl_sweep.specs.Rows.{inside, is_from, Balanced, row_from, far_of}
-use Rattle.lvl_sweep.specs.Walks.{IsRowOf, HasPassed, IsPartedAt, IsParted, is_inside, IsRightOf, HasTurned, NeverTurns}
+use Rattle.lvl_sweep.specs.inside.Rows.{inside, Balanced, row_from, far_of}
+use Rattle.lvl_sweep.specs.Ahead.{is_from}
+use Rattle.lvl_sweep.specs.inside.Walks.{IsRowOf, HasPassed, IsPartedAt, IsParted, is_inside, IsRightOf, HasTurned}
+use Rattle.lvl_sweep.specs.inside.Walks.{NeverTurns}
 use Rattle.lvl_sweep.proofs.Winds.{count_none, counts_more, inside_left}
 use Rattle.lvl_sweep.proofs.Insides.{inside_is, inside_far}
 use Rattle.lvl_sweep.proofs.RowLists.{row_first, row_none}

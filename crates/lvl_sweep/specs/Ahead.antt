@@ -1,25 +1,20 @@
--- Where two lists of bands differ first.
-use Rattle.std.specs.Prelude.{◌≡◌, ◌≢◌, Bool, true, false, List, [], ◌∷◌, ℤ, ◌<ℤ◌, ◌≤ℤ◌, int_le, int_lt, Option, None}
-use Rattle.std.specs.Prelude.{Some, cond, ◌⊎◌, pos}
-use Rattle.std.specs.List.{list_any}
+-- The least square that one of two lists of bands alone covers.
+use Rattle.std.specs.Prelude.{◌≡◌, Bool, true, false, List, ℤ, ◌≤ℤ◌, int_le, Option, None, Some}
 use Rattle.lvl_grid.specs.declared.point.Square.{Square}
 pub use Rattle.lvl_grid.specs.Squares.{IsBefore}
 use Rattle.lvl_region.specs.declared.region.Side.{Side}
 use Rattle.lvl_region.specs.declared.region.Side.TheVariants.{First, Second}
-use Rattle.lvl_sweep.specs.declared.rows.Ahead.{Ahead}
-use Rattle.lvl_sweep.specs.declared.rows.Ahead.TheVariants.{Differ, Alike, Nothing}
-use Rattle.lvl_sweep.specs.Slab.{Slab, spans, AreIntervals, slabs_cover}
-use Rattle.lvl_sweep.specs.Rows.{is_from}
+use Rattle.lvl_sweep.specs.Slab.{Slab, slabs_cover}
+
+-- z is at the place or after it, if there is one
+abbrev pub is_from : Option ℤ → ℤ → Bool
+is_from None z = true
+is_from (Some a) z = int_le a z
 
 -- one of the two tests alone is passed, that of the side
 abbrev pub IsOn : Bool → Bool → Side → Type 0
 IsOn p q First = (p ≡ true) × (q ≡ false)
 IsOn p q Second = (p ≡ false) × (q ≡ true)
-
--- x is the least abscissa that one of the two rows alone has
-pub record IsLeastIn (is js : List (ℤ × ℤ)) (x : ℤ) (side : Side) : Type 0 where
-  pub on : IsOn (list_any (spans x) is) (list_any (spans x) js) side
-  pub least : (z : ℤ) → z <ℤ x → list_any (spans z) is ≡ list_any (spans z) js
 
 -- the row is not above the last one, if there is one
 abbrev pub IsUpTo : Option ℤ → ℤ → Type 0
@@ -31,55 +26,3 @@ pub record IsLeastAlone (from : Option ℤ) (us vs : List Slab) (s : Square) (si
   pub there : is_from from s.y ≡ true
   pub on : IsOn (slabs_cover us s) (slabs_cover vs s) side
   pub least : (t : Square) → is_from from t.y ≡ true → IsBefore t s → slabs_cover us t ≡ slabs_cover vs t
-
--- a band that has rows from a row on
-pub record IsMet (from : Option ℤ) (b : Slab) : Type 0 where
-  pub full : b.from <ℤ b.to
-  pub some : b.value ≢ []
-  pub row : AreIntervals b.value
-  pub above : is_from from b.to ≡ true
-  pub past : from ≢ Some b.to
-
--- the first band, if there is one
-abbrev pub FirstIs : (Slab → Type 0) → Type 0 → List Slab → Type 0
-FirstIs P none [] = none
-FirstIs P none (b ∷ bs) = P b
-
--- the lists are the same up to row y, where the first band of one ends
-pub record IsAlike (from : Option ℤ) (us vs : List Slab) (y : ℤ) : Type 0 where
-  pub there : is_from from y ≡ true
-  pub ours : FirstIs (λ b. y ≤ℤ b.to) (Unit {0}) us
-  pub theirs : FirstIs (λ b. y ≤ℤ b.to) (Unit {0}) vs
-  pub ends : FirstIs (λ b. b.to ≡ y) ⊥ us ⊎ FirstIs (λ b. b.to ≡ y) ⊥ vs
-  pub same : (t : Square) → is_from from t.y ≡ true → t.y <ℤ y → slabs_cover us t ≡ slabs_cover vs t
-
--- what the first bands on both sides tell of the rows from one on
-abbrev pub IsTold : Option ℤ → List Slab → List Slab → Ahead → Type 0
-IsTold from us vs (Differ s side) = IsLeastAlone from us vs s side
-IsTold from us vs (Alike y) = IsAlike from us vs y
-IsTold from us vs Nothing = (us ≡ []) × (vs ≡ [])
-
--- the same of two bands alone, whose rows go on above the square
-abbrev pub IsToldByTwo : Option ℤ → Slab → Slab → Ahead → Type 0
-IsToldByTwo from b d (Differ s side) = (s.y <ℤ b.to) × (s.y <ℤ d.to) × IsLeastAlone from (b ∷ []) (d ∷ []) s side
-IsToldByTwo from b d (Alike y) = IsAlike from (b ∷ []) (d ∷ []) y
-IsToldByTwo from b d Nothing = ⊥
-
--- the list without its first band, if that ends by row y
-abbrev pub ended_by : ℤ → List Slab → List Slab
-ended_by y [] = []
-ended_by y (b ∷ bs) = cond (int_le b.to y) bs (b ∷ bs)
-
-abbrev pub higher_of : ℤ → Option ℤ → ℤ
-higher_of a None = a
-higher_of a (Some b) = cond (int_lt a b) b a
-
-abbrev pub left_end : List (ℤ × ℤ) → ℤ
-left_end [] = pos 0
-left_end (i ∷ is) = i.0
-
--- the first abscissa that one of two intervals alone has, where they differ
-abbrev pub end_difference : ℤ × ℤ → ℤ × ℤ → ℤ × Side
-end_difference a b =
-    cond (int_lt a.0 b.0) (a.0, First)
-    (cond (int_lt b.0 a.0) (b.0, Second) (cond (int_lt a.1 b.1) (a.1, Second) (b.1, First)))

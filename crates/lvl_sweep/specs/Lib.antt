@@ -1,10 +1,7 @@
 pub mod Slab
 pub mod Edges
 pub mod Alive
-pub mod Rows
-pub mod Walks
 pub mod Runs
-pub mod Strips
 pub mod Bands
-pub mod Sweeps
 pub mod Ahead
+pub mod inside

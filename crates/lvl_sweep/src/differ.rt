@@ -7,7 +7,8 @@ ghost use Rattle.lvl_grid.specs.Winding.{SomeCovers};
 ghost use Rattle.lvl_region.specs.Region.{IsAlone};
 ghost use Rattle.lvl_sweep.specs.Slab.{Slab, IsSlabList, slabs_cover};
 ghost use Rattle.lvl_sweep.specs.Bands.{slab_of};
-ghost use Rattle.lvl_sweep.specs.Ahead.{IsLeastAlone, IsMet, FirstIs, IsTold, IsUpTo, ended_by};
+ghost use Rattle.lvl_sweep.specs.Ahead.{IsLeastAlone, IsUpTo};
+ghost use Rattle.lvl_sweep.specs.inside.InStep.{IsMet, FirstIs, IsTold, ended_by};
 
 use crate::band::Band;
 use crate::rows::{Ahead, both, least_square};

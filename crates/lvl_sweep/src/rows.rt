@@ -3,7 +3,7 @@ ghost use Rattle.std.specs.Prelude.{◌≡◌, ◌≢◌, ℤ, ◌<ℤ◌, IfNon
 ghost use Rattle.std.specs.List.{list_any};
 ghost use Rattle.lvl_sweep.specs.Slab.{spans, AreIntervals};
 ghost use Rattle.lvl_sweep.specs.Bands.{slab_of};
-ghost use Rattle.lvl_sweep.specs.Ahead.{IsLeastIn, IsMet, IsToldByTwo, higher_of, left_end, end_difference};
+ghost use Rattle.lvl_sweep.specs.inside.InStep.{IsLeastIn, IsMet, IsToldByTwo, higher_of, left_end, end_difference};
 
 use crate::band::Band;
 use lvl_grid::Square;

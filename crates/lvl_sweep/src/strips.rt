@@ -5,7 +5,7 @@ ghost use Rattle.std.specs.List.{AllWithin};
 ghost use Rattle.std.specs.Vec.{vec_len, vec_capacity};
 ghost use Rattle.lvl_sweep.specs.Alive.{AreEdgesOf, HasSame};
 ghost use Rattle.lvl_sweep.specs.Edges.{IsBeginOf};
-ghost use Rattle.lvl_sweep.specs.Rows.{row_at};
+ghost use Rattle.lvl_sweep.specs.inside.Rows.{row_at};
 ghost use Rattle.lvl_sweep.specs.declared.edge.Edge.{Edge as EdgeValue};
 
 use crate::edge::{Edge, edges_of};
@@ -56,7 +56,7 @@ pub struct Strips {
 }
 
 impl Strips {
-    ghost use Rattle.lvl_sweep.specs.Strips.{IsAt, CanLoad, IsTop, IsOver};
+    ghost use Rattle.lvl_sweep.specs.inside.Strips.{IsAt, CanLoad, IsTop, IsOver};
 
     /// The lowest strip.
     pub(crate) fn new<R: RingList>(alloc: Global, rings: &R) -> Result<Strips, AllocError>

@@ -3,10 +3,10 @@ ghost use Rattle.std.specs.Prelude.{◌≡◌, ◌≢◌, ◌≤◌, ◌+◌, �
 ghost use Rattle.std.specs.Prelude.{IfNone};
 ghost use Rattle.std.specs.Vec.{vec_len, vec_capacity};
 ghost use Rattle.lvl_sweep.specs.Alive.{HasSame};
-ghost use Rattle.lvl_sweep.specs.Rows.{row_at, bands_from};
-ghost use Rattle.lvl_sweep.specs.Strips.{IsAt, IsTop, IsOver};
+ghost use Rattle.lvl_sweep.specs.inside.Rows.{row_at, bands_from};
+ghost use Rattle.lvl_sweep.specs.inside.Strips.{IsAt, IsTop, IsOver};
 ghost use Rattle.lvl_sweep.specs.Bands.{slab_of, AreBandsOf, AreFewerThanLines, HaveFewIntervals};
-ghost use Rattle.lvl_sweep.specs.Sweeps.{IsHeld};
+ghost use Rattle.lvl_sweep.specs.inside.Sweeps.{IsHeld};
 
 use crate::band::Band;
 use crate::strips::Strips;
@@ -28,7 +28,7 @@ pub struct Sweep {
 impl Model for Sweep {
     ghost use Rattle.std.specs.Prelude.{List};
     ghost use Rattle.lvl_sweep.specs.Slab.{Slab};
-    ghost use Rattle.lvl_sweep.specs.Sweeps.{bands_of, IsSweep};
+    ghost use Rattle.lvl_sweep.specs.inside.Sweeps.{bands_of, IsSweep};
 
     ghost Value = { List Slab };
 

@@ -1,5 +1,7 @@
 -- A text with a character between two parts is read in one way, where the first part lacks the character.
-use Rattle.std.proofs.Common.{◌≡◌, ◌≢◌, ℕ, zero, suc, ◌<◌, ◌≤◌, List, [], ◌∷◌, ◌++◌, length, get_or, All, Option, Some, None, Bor, sym, ap, subst, ◌∙◌, refl, drop, arith, ◌↔◌, ⊎_elim, ℤ, w64, to_z, of_z, FitsSigned}
+use Rattle.std.proofs.Common.{◌≡◌, ◌≢◌, ℕ, zero, suc, ◌<◌, ◌≤◌, List, [], ◌∷◌, ◌++◌, length, get_or, All, Option, Some}
+use Rattle.std.proofs.Common.{None, Bor, sym, ap, subst, ◌∙◌, refl, drop, arith, ◌↔◌, ⊎_elim, ℤ, w64, to_z, of_z}
+use Rattle.std.proofs.Common.{FitsSigned}
 use Rattle.std.proofs.lemmas.Option.{same_Some}
 use Rattle.std.proofs.lemmas.List.Elements.{All-head, All-tail}
 use Rattle.std.proofs.lemmas.Str.Pattern.{IsSplitOnceResult, split_after, split_parts}
@@ -27,8 +29,10 @@ lacks_append c d (x ∷ xs) ys h n k = (h.0, lacks_append c d xs ys h.1 n k)
 lacks_digits : (c : ℕ) (bs : List ℕ) → IsNoDigit c → All (λ b. (48 ≤ b) × (b ≤ 57)) bs → Lacks c bs
 lacks_digits c [] n h = tt
 lacks_digits c (b ∷ bs) n h =
-    let one : (48 ≤ b) × (b ≤ 57) = All-head (λ d. (48 ≤ d) × (d ≤ 57)) b bs h in
-    (λ e. n (subst (λ d. 48 ≤ d) e one.0) (subst (λ d. d ≤ 57) e one.1), lacks_digits c bs n (All-tail (λ d. (48 ≤ d) × (d ≤ 57)) b bs h))
+    let one : (48 ≤ b) × (b ≤ 57) = All-head (λ d. (48 ≤ d) × (d ≤ 57)) b bs h in (
+      λ e. n (subst (λ d. 48 ≤ d) e one.0) (subst (λ d. d ≤ 57) e one.1),
+      lacks_digits c bs n (All-tail (λ d. (48 ≤ d) × (d ≤ 57)) b bs h),
+    )
 
 pub number_lacks : (c : ℕ) → IsNoDigit c → (text : List ℕ) (n : ℕ) → IsNumber text n → Lacks c text
 number_lacks c far text n h = lacks_digits c text far h.digits.digits
@@ -39,22 +43,37 @@ coordinate_lacks c far n text z h =
     ⊎_elim (λ e. subst (Lacks c) (sym e.0) digits) (λ e. subst (Lacks c) (sym e.0) (n, digits)) h.spelled
 
 module _ {A B : Type 0} (c : ℕ) (P : List ℕ → A → Type 0) (Q : List ℕ → B → Type 0) where
-  pub joined_lacks : (d : ℕ) → ((t : List ℕ) (a : A) → P t a → Lacks d t) → ((t : List ℕ) (b : B) → Q t b → Lacks d t) → c ≢ d → (text : List ℕ) (a : A) (b : B) → IsJoined c P Q text a b → Lacks d text
-  joined_lacks d p q n text a b j = subst (Lacks d) (sym j.joined) (lacks_append d c j.before j.after (p j.before a j.before_is) n (q j.after b j.after_is))
+  pub joined_lacks : (d : ℕ) → ((t : List ℕ) (a : A) → P t a → Lacks d t) → ((t : List ℕ) (b : B) → Q t b → Lacks d t)
+      → c ≢ d → (text : List ℕ) (a : A) (b : B) → IsJoined c P Q text a b → Lacks d text
+  joined_lacks d p q n text a b j =
+      subst (Lacks d) (sym j.joined)
+      (lacks_append d c j.before j.after (p j.before a j.before_is) n (q j.after b j.after_is))
 
   -- a text that lacks the character is not joined by it
-  pub uncut : ((t : List ℕ) (a : A) → P t a → Lacks c t) → c < 128 → (text : List ℕ) → IsSplitOnceResult c text None → (a : A) (b : B) → ¬ IsJoined c P Q text a b
-  uncut lacks small text h a b j = split_after c text j.before j.after None h small j.joined (lacks_index c j.before (lacks j.before a j.before_is))
+  pub uncut : ((t : List ℕ) (a : A) → P t a → Lacks c t) → c < 128 → (text : List ℕ) → IsSplitOnceResult c text None
+      → (a : A) (b : B) → ¬ IsJoined c P Q text a b
+  uncut lacks small text h a b j =
+      split_after c text j.before j.after None h small j.joined (lacks_index c j.before (lacks j.before a j.before_is))
 
   -- a text is joined by the character as it is cut at the first one
-  pub cut : ((t : List ℕ) (a : A) → P t a → Lacks c t) → c < 128 → (text : List ℕ) (l r : Bor (List ℕ)) → IsSplitOnceResult c text (Some (l, r)) → (a : A) (b : B) → IsJoined c P Q text a b ↔ (P l.now a × Q r.now b)
+  pub cut : ((t : List ℕ) (a : A) → P t a → Lacks c t) → c < 128 → (text : List ℕ) (l r : Bor (List ℕ))
+      → IsSplitOnceResult c text (Some (l, r)) → (a : A) (b : B) → IsJoined c P Q text a b ↔ (P l.now a × Q r.now b)
   cut lacks small text l r h a b = (
-    λ j. let e = split_after c text j.before j.after (Some (l, r)) h small j.joined (lacks_index c j.before (lacks j.before a j.before_is)) in
+    λ j. let e =
+        split_after c text j.before j.after (Some (l, r)) h small j.joined
+        (lacks_index c j.before (lacks j.before a j.before_is)) in
         (subst (λ t. P t a) (sym e.0) j.before_is, subst (λ t. Q t b) (sym e.1) j.after_is),
-    λ p. record { before = l.now; after = r.now; joined = (split_parts c text (Some (l, r)) h small).0; before_is = p.0; after_is = p.1 },
+    λ p. record {
+      before = l.now;
+      after = r.now;
+      joined = (split_parts c text (Some (l, r)) h small).0;
+      before_is = p.0;
+      after_is = p.1;
+    },
   )
 
-pub headed_lacks : {A : Type 0} (c : ℕ) (P : List ℕ → A → Type 0) (d : ℕ) → ((t : List ℕ) (a : A) → P t a → Lacks d t) → c ≢ d → (text : List ℕ) (a : A) → IsHeaded c P text a → Lacks d text
+pub headed_lacks : {A : Type 0} (c : ℕ) (P : List ℕ → A → Type 0) (d : ℕ) → ((t : List ℕ) (a : A) → P t a → Lacks d t)
+    → c ≢ d → (text : List ℕ) (a : A) → IsHeaded c P text a → Lacks d text
 headed_lacks c P d p n text a j = subst (Lacks d) (sym j.headed) (n, p j.rest a j.rest_is)
 
 -- where no value has the property, none is the answer
@@ -82,10 +101,14 @@ module _ {A B V : Type 0} (c : ℕ) (P : List ℕ → A → Type 0) (Q : List �
 
   module _ (l r : Bor (List ℕ)) (h : IsSplitOnceResult c text (Some (l, r))) where
     pub none_first : (o : Option V) → o ≡ None → IsOnly (P l.now) None → IsOnly IsMade o
-    none_first o e n = only_none IsMade o e (λ v j. none_only (P l.now) n (first v) ((cut c P Q lacks small text l r h (first v) (second v)).0 j).0)
+    none_first o e n =
+        only_none IsMade o e
+        (λ v j. none_only (P l.now) n (first v) ((cut c P Q lacks small text l r h (first v) (second v)).0 j).0)
 
     pub none_second : (o : Option V) → o ≡ None → IsOnly (Q r.now) None → IsOnly IsMade o
-    none_second o e n = only_none IsMade o e (λ v j. none_only (Q r.now) n (second v) ((cut c P Q lacks small text l r h (first v) (second v)).0 j).1)
+    none_second o e n =
+        only_none IsMade o e
+        (λ v j. none_only (Q r.now) n (second v) ((cut c P Q lacks small text l r h (first v) (second v)).0 j).1)
 
     pub made : (a : A) (b : B) → IsOnly (P l.now) (Some a) → IsOnly (Q r.now) (Some b) → IsOnly IsMade (Some (make a b))
     made a b f g = λ v. (
@@ -96,7 +119,10 @@ module _ {A B V : Type 0} (c : ℕ) (P : List ℕ → A → Type 0) (Q : List �
       λ e. let same : make a b ≡ v = same_Some (make a b) v e in
           let left : a ≡ first v = sym (one a b) ∙ ap first same in
           let right : b ≡ second v = sym (two a b) ∙ ap second same in
-          (cut c P Q lacks small text l r h (first v) (second v)).1 (subst (P l.now) left ((f a).1 refl), subst (Q r.now) right ((g b).1 refl)),
+          (cut c P Q lacks small text l r h (first v) (second v)).1 (
+            subst (P l.now) left ((f a).1 refl),
+            subst (Q r.now) right ((g b).1 refl),
+          ),
     )
 
 -- what a text with a character in front of it says
@@ -111,10 +137,12 @@ module _ {A : Type 0} (c : ℕ) (P : List ℕ → A → Type 0) (text : List ℕ
   )
 
 -- the same of a pair of coordinates, each written to 64 bits and read back
-pub carried : (P : Span → Type 0) (a b : ℤ) → FitsSigned w64 a → FitsSigned w64 b → IsOnly P (Some (a, b)) → IsOnly P (Some (to_z w64 (of_z w64 a), to_z w64 (of_z w64 b)))
+pub carried : (P : Span → Type 0) (a b : ℤ) → FitsSigned w64 a → FitsSigned w64 b → IsOnly P (Some (a, b))
+    → IsOnly P (Some (to_z w64 (of_z w64 a), to_z w64 (of_z w64 b)))
 carried P a b f g h =
     subst (λ (x : ℤ). IsOnly P (Some (x, to_z w64 (of_z w64 b)))) (sym (to_z-of_z w64 a f))
     (subst (λ (y : ℤ). IsOnly P (Some (a, y))) (sym (to_z-of_z w64 b g)) h)
 
-pub carried_one : (P : ℤ → Type 0) (a : ℤ) → FitsSigned w64 a → IsOnly P (Some a) → IsOnly P (Some (to_z w64 (of_z w64 a)))
+pub carried_one : (P : ℤ → Type 0) (a : ℤ) → FitsSigned w64 a → IsOnly P (Some a)
+    → IsOnly P (Some (to_z w64 (of_z w64 a)))
 carried_one P a f h = subst (λ (x : ℤ). IsOnly P (Some x)) (sym (to_z-of_z w64 a f)) h

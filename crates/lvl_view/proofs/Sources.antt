@@ -1,5 +1,7 @@
 -- A map of sources with one pair more.
-use Rattle.std.proofs.Common.{◌≡◌, ◌≢◌, ℕ, zero, suc, ◌+◌, ◌<◌, Bool, true, false, ◌&&◌, ◌||◌, ◌==◌, cond, List, [], ◌∷◌, ◌++◌, take, drop, length, get_or, map, Option, Some, None, is_some, Contains, refl, sym, ap, ◌∙◌, subst, arith, append_assoc}
+use Rattle.std.proofs.Common.{◌≡◌, ◌≢◌, ℕ, zero, suc, ◌+◌, ◌<◌, Bool, true, false, ◌&&◌, ◌||◌, ◌==◌, cond, List, []}
+use Rattle.std.proofs.Common.{◌∷◌, ◌++◌, take, drop, length, get_or, map, Option, Some, None, is_some, Contains, refl}
+use Rattle.std.proofs.Common.{sym, ap, ◌∙◌, subst, arith, append_assoc}
 use Rattle.std.specs.List.{list_any, IsDistinct}
 use Rattle.std.specs.Cmp.{IsEquivalence}
 use Rattle.std.specs.Ordering.{is_eq, nat_cmp, ordering_then}
@@ -33,7 +35,10 @@ number_is_eq x y = grind arith
 
 -- the order does not tell apart just the Layers that are one
 pub cmp_same : (a b : Layer) → is_eq ((layer_ord.ghosts).cmp a b) ≡ same_layer a b
-cmp_same a b = then_is_eq (nat_cmp a.layer b.layer) (nat_cmp a.datatype b.datatype) ∙ (ap (λ (t : Bool). t && is_eq (nat_cmp a.datatype b.datatype)) (number_is_eq a.layer b.layer) ∙ ap (λ (t : Bool). (a.layer == b.layer) && t) (number_is_eq a.datatype b.datatype))
+cmp_same a b =
+    then_is_eq (nat_cmp a.layer b.layer) (nat_cmp a.datatype b.datatype)
+    ∙ (ap (λ (t : Bool). t && is_eq (nat_cmp a.datatype b.datatype)) (number_is_eq a.layer b.layer)
+    ∙ ap (λ (t : Bool). (a.layer == b.layer) && t) (number_is_eq a.datatype b.datatype))
 
 and_parts : (a b : Bool) → (a && b) ≡ true → (a ≡ true) × (b ≡ true)
 and_parts true b h = (refl, h)
@@ -44,11 +49,13 @@ same_is a b h =
     let both = and_parts (a.layer == b.layer) (a.datatype == b.datatype) h in
     let one : a.layer ≡ b.layer = (Decides-eqb a.layer b.layer).0 both.0 in
     let two : a.datatype ≡ b.datatype = (Decides-eqb a.datatype b.datatype).0 both.1 in
-    ap (λ (n : ℕ). record { layer = n; datatype = a.datatype }) one ∙ ap (λ (n : ℕ). record { layer = b.layer; datatype = n }) two
+    ap (λ (n : ℕ). record { layer = n; datatype = a.datatype }) one
+    ∙ ap (λ (n : ℕ). record { layer = b.layer; datatype = n }) two
 
 same_self : (a : Layer) → same_layer a a ≡ true
 same_self a =
-    ap (λ (t : Bool). t && (a.datatype == a.datatype)) ((Decides-eqb a.layer a.layer).1 refl) ∙ (Decides-eqb a.datatype a.datatype).1 refl
+    ap (λ (t : Bool). t && (a.datatype == a.datatype)) ((Decides-eqb a.layer a.layer).1 refl)
+    ∙ (Decides-eqb a.datatype a.datatype).1 refl
 
 same_either : (a b : Bool) → (a ≡ true → b ≡ true) → (b ≡ true → a ≡ true) → a ≡ b
 same_either true b f g = sym (f refl)
@@ -58,7 +65,10 @@ same_either false false f g = refl
 pub same_laws : IsEquivalence same_layer
 same_laws = record {
   refl = same_self;
-  symm = λ x y. same_either (same_layer x y) (same_layer y x) (λ h. subst (λ z. same_layer z x ≡ true) (same_is x y h) (same_self x)) (λ h. subst (λ z. same_layer z y ≡ true) (same_is y x h) (same_self y));
+  symm =
+      λ x y. same_either (same_layer x y) (same_layer y x)
+      (λ h. subst (λ z. same_layer z x ≡ true) (same_is x y h) (same_self x))
+      (λ h. subst (λ z. same_layer z y ≡ true) (same_is y x h) (same_self y));
   congr = λ x y z h. ap (λ (w : Layer). same_layer w z) (same_is x y h);
 }
 
@@ -73,7 +83,8 @@ swap false true x y z n = refl
 swap false false x y z n = refl
 
 -- one pair more, whose source no earlier pair has
-find_push : (pairs : List LayerPair) (p : LayerPair) (q : Layer) → target_in pairs p.source ≡ None → target_in (pairs ++ p ∷ []) q ≡ cond (same_layer p.source q) (Some p.target) (target_in pairs q)
+find_push : (pairs : List LayerPair) (p : LayerPair) (q : Layer) → target_in pairs p.source ≡ None
+    → target_in (pairs ++ p ∷ []) q ≡ cond (same_layer p.source q) (Some p.target) (target_in pairs q)
 find_push [] p q h = refl
 find_push (w ∷ pairs) p q h =
     let parts = cond_none (same_layer w.source p.source) w.target (target_in pairs p.source) h in
@@ -81,16 +92,20 @@ find_push (w ∷ pairs) p q h =
     ∙ swap (same_layer w.source q) (same_layer p.source q) (Some w.target) (Some p.target) (target_in pairs q)
     (λ a b. false≢true (sym parts.0 ∙ subst (λ z. same_layer w.source z ≡ true) (sym (same_is p.source q b)) a))
 
-absent : (pairs : List LayerPair) (y : Layer) → target_in pairs y ≡ None → list_any (same_layer y) (sources pairs) ≡ false
+absent : (pairs : List LayerPair) (y : Layer) → target_in pairs y ≡ None
+    → list_any (same_layer y) (sources pairs) ≡ false
 absent [] y h = refl
 absent (w ∷ pairs) y h =
     let parts = cond_none (same_layer w.source y) w.target (target_in pairs y) h in
-    ap (λ (b : Bool). b || list_any (same_layer y) (sources pairs)) (same_laws.symm y w.source ∙ parts.0) ∙ absent pairs y parts.1
+    ap (λ (b : Bool). b || list_any (same_layer y) (sources pairs)) (same_laws.symm y w.source ∙ parts.0)
+    ∙ absent pairs y parts.1
 
 contains_source : (pairs : List LayerPair) (y : Layer) → is_some (target_in pairs y) ≡ true → Contains (sources pairs) y
 contains_source [] y h = absurd (false≢true h)
 contains_source (w ∷ pairs) y h =
-    elim (same_layer w.source y) as (λ b. same_layer w.source y ≡ b → is_some (cond b (Some w.target) (target_in pairs y)) ≡ true → Contains (sources (w ∷ pairs)) y) [
+    elim (same_layer w.source y)
+    as (λ b. same_layer w.source y ≡ b → is_some (cond b (Some w.target) (target_in pairs y)) ≡ true
+    → Contains (sources (w ∷ pairs)) y) [
       | true ↦ λ e t. (zero, omega arith, same_is w.source y e)
       | false ↦ λ e t. let k = contains_source pairs y t in (suc k.0, omega (arith, k.1), k.2)
     ] refl h
@@ -99,29 +114,40 @@ sources_append : (xs ys : List LayerPair) → sources (xs ++ ys) ≡ sources xs 
 sources_append [] ys = refl
 sources_append (x ∷ xs) ys = ap (λ (t : List Layer). x.source ∷ t) (sources_append xs ys)
 
-pairs_more : (pairs : List LayerPair) (i : ℕ) (p : LayerPair) → i < length pairs → p ≡ get_or pairs i p → take (i + 1) pairs ≡ take i pairs ++ p ∷ []
+pairs_more : (pairs : List LayerPair) (i : ℕ) (p : LayerPair) → i < length pairs → p ≡ get_or pairs i p
+    → take (i + 1) pairs ≡ take i pairs ++ p ∷ []
 pairs_more pairs i p h e = take_more pairs i p h ∙ ap (λ (q : LayerPair). take i pairs ++ q ∷ []) (sym e)
 
-pub first_twice : (pairs : List LayerPair) (i : ℕ) (p : LayerPair) (m : BTreeMap Layer Layer) (o : Option Layer) → i < length pairs → p ≡ get_or pairs i p → AreTargets (take i pairs) m × IsDistinct same_layer (sources (take i pairs))
+pub first_twice : (pairs : List LayerPair) (i : ℕ) (p : LayerPair) (m : BTreeMap Layer Layer) (o : Option Layer)
+    → i < length pairs → p ≡ get_or pairs i p
+    → AreTargets (take i pairs) m × IsDistinct same_layer (sources (take i pairs))
     → o ≡ tree.get (layer_ord.ghosts).cmp m p.source → is_some o ≡ true → IsFirstTwice (sources pairs) p.source
 first_twice pairs i p m o h e inv u t = record {
   before = sources (take i pairs);
   after = sources (drop (i + 1) pairs);
   there =
       let rest : List LayerPair = drop (i + 1) pairs in
-      let whole : pairs ≡ take i pairs ++ p ∷ rest = sym (take-append-drop (i + 1) pairs) ∙ (ap (λ (l : List LayerPair). l ++ rest) (pairs_more pairs i p h e) ∙ append_assoc (take i pairs) (p ∷ []) rest) in
+      let whole : pairs ≡ take i pairs ++ p ∷ rest =
+      sym (take-append-drop (i + 1) pairs)
+      ∙ (ap (λ (l : List LayerPair). l ++ rest) (pairs_more pairs i p h e)
+      ∙ append_assoc (take i pairs) (p ∷ []) rest) in
       ap (λ (l : List LayerPair). sources l) whole ∙ sources_append (take i pairs) (p ∷ rest);
   distinct = inv.1;
-  earlier = contains_source (take i pairs) p.source (ap (λ (x : Option Layer). is_some x) (sym (u ∙ inv.0 p.source)) ∙ t);
+  earlier =
+      contains_source (take i pairs) p.source (ap (λ (x : Option Layer). is_some x) (sym (u ∙ inv.0 p.source)) ∙ t);
 }
 
 none_where : (o : Option Layer) → is_some o ≡ false → o ≡ None
 none_where None h = refl
 none_where (Some x) h = absurd (false≢true (sym h))
 
-pub targets_more : (pairs : List LayerPair) (i : ℕ) (p : LayerPair) (m n : BTreeMap Layer Layer) (o : Option Layer) → i < length pairs → p ≡ get_or pairs i p → AreTargets (take i pairs) m × IsDistinct same_layer (sources (take i pairs))
+pub targets_more : (pairs : List LayerPair) (i : ℕ) (p : LayerPair) (m n : BTreeMap Layer Layer) (o : Option Layer)
+    → i < length pairs → p ≡ get_or pairs i p
+    → AreTargets (take i pairs) m × IsDistinct same_layer (sources (take i pairs))
     → o ≡ tree.get (layer_ord.ghosts).cmp m p.source → is_some o ≡ false
-    → ((q : Layer) → tree.get (layer_ord.ghosts).cmp n q ≡ cond (is_eq ((layer_ord.ghosts).cmp p.source q)) (Some p.target) (tree.get (layer_ord.ghosts).cmp m q))
+    → ((q : Layer)
+    → tree.get (layer_ord.ghosts).cmp n q
+    ≡ cond (is_eq ((layer_ord.ghosts).cmp p.source q)) (Some p.target) (tree.get (layer_ord.ghosts).cmp m q))
     → AreTargets (take (i + 1) pairs) n × IsDistinct same_layer (sources (take (i + 1) pairs))
 targets_more pairs i p m n o h e inv u t up =
     let front : List LayerPair = take i pairs in
@@ -129,8 +155,11 @@ targets_more pairs i p m n o h e inv u t up =
     let more : take (i + 1) pairs ≡ front ++ p ∷ [] = pairs_more pairs i p h e in (
       subst (λ (l : List LayerPair). AreTargets l n) (sym more) (λ q. up q
           ∙ (ap (λ (b : Bool). cond b (Some p.target) (tree.get (layer_ord.ghosts).cmp m q)) (cmp_same p.source q)
-          ∙ (ap (λ (x : Option Layer). cond (same_layer p.source q) (Some p.target) x) (inv.0 q) ∙ sym (find_push front p q free)))),
-      subst (λ (l : List LayerPair). IsDistinct same_layer (sources l)) (sym more) (subst (IsDistinct same_layer) (sym (sources_append front (p ∷ []))) (IsDistinct-push same_laws (sources front) p.source inv.1 (absent front p.source free))),
+          ∙ (ap (λ (x : Option Layer). cond (same_layer p.source q) (Some p.target) x) (inv.0 q)
+          ∙ sym (find_push front p q free)))),
+      subst (λ (l : List LayerPair). IsDistinct same_layer (sources l)) (sym more)
+          (subst (IsDistinct same_layer) (sym (sources_append front (p ∷ [])))
+          (IsDistinct-push same_laws (sources front) p.source inv.1 (absent front p.source free))),
     )
 
 distinct_none : IsDistinct same_layer []
@@ -141,8 +170,11 @@ pub targets_none : (m : BTreeMap Layer Layer) → IsEmpty m → AreTargets [] m 
 targets_none m h = (λ q. ap (lookup (is_at ((layer_ord.ghosts).cmp q))) h, distinct_none)
 
 -- no two sources may be one
-pub twice_fault : (map_text window_text : Option (List ℕ)) (pairs : List LayerPair) (w : Option Window) (f : ViewFault) → IsAlone (IsMapOf map_text) pairs → IsAlone (IsWindowOf window_text) w → IsTwiceFault pairs f → IsFaultOf map_text window_text f
+pub twice_fault : (map_text window_text : Option (List ℕ)) (pairs : List LayerPair) (w : Option Window) (f : ViewFault)
+    → IsAlone (IsMapOf map_text) pairs → IsAlone (IsWindowOf window_text) w → IsTwiceFault pairs f
+    → IsFaultOf map_text window_text f
 twice_fault map_text window_text pairs w MapText a b h = absurd h
 twice_fault map_text window_text pairs w WindowText a b h = absurd h
-twice_fault map_text window_text pairs w (MapTwice layer) a b h = (record { pairs = pairs; window = w }, ((a pairs).1 refl, (b w).1 refl), h)
+twice_fault map_text window_text pairs w (MapTwice layer) a b h =
+    (record { pairs = pairs; window = w }, ((a pairs).1 refl, (b w).1 refl), h)
 twice_fault map_text window_text pairs w EmptyWindow a b h = absurd h

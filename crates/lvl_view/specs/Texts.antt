@@ -1,5 +1,6 @@
 -- The texts of a map of layers and of a window, as the command line gives them (own rule).
-use Rattle.std.specs.Prelude.{◌≡◌, ℕ, ◌<◌, ◌≤◌, ◌^◌, ◌==◌, ◌↔◌, ◌⊎◌, ℤ, pos, neg_ℤ, List, [], ◌∷◌, ◌++◌, length, All, Option, Some, FitsSigned}
+use Rattle.std.specs.Prelude.{◌≡◌, ℕ, ◌<◌, ◌≤◌, ◌^◌, ◌==◌, ◌↔◌, ◌⊎◌, ℤ, pos, neg_ℤ, List, [], ◌∷◌, ◌++◌, length, All}
+use Rattle.std.specs.Prelude.{Option, Some, FitsSigned}
 use Rattle.std.specs.Int.{w64}
 use Rattle.std.specs.List.{slice_split, AllZip}
 use Rattle.std.specs.Str.Parse.{digits_value}
@@ -27,7 +28,8 @@ abbrev pub IsOnly : {A : Type 0} → (A → Type 0) → Option A → Type 0
 IsOnly {A} P answer = (v : A) → P v ↔ (answer ≡ Some v)
 
 -- two texts with a character between them, each of which says what it should
-pub record IsJoined {A B : Type 0} (character : ℕ) (P : List ℕ → A → Type 0) (Q : List ℕ → B → Type 0) (text : List ℕ) (a : A) (b : B) : Type 0 where
+pub record IsJoined {A B : Type 0} (character : ℕ) (P : List ℕ → A → Type 0) (Q : List ℕ → B → Type 0) (text : List ℕ)
+    (a : A) (b : B) : Type 0 where
   pub before : List ℕ
   pub after : List ℕ
   pub joined : text ≡ before ++ character ∷ after
@@ -68,7 +70,8 @@ IsMapText text pairs = AllZip IsPairText (slice_split (λ b. b == comma) text) p
 pub record IsCoordinate (text : List ℕ) (value : ℤ) : Type 0 where
   pub digits : List ℕ
   pub are : IsDigits 19 digits
-  pub spelled : ((text ≡ digits) × (value ≡ pos (digits_value 10 digits))) ⊎ ((text ≡ minus ∷ digits) × (value ≡ neg_ℤ (pos (digits_value 10 digits))))
+  pub spelled : ((text ≡ digits) × (value ≡ pos (digits_value 10 digits)))
+      ⊎ ((text ≡ minus ∷ digits) × (value ≡ neg_ℤ (pos (digits_value 10 digits))))
   pub fits : FitsSigned w64 value
 
 -- where a span begins and ends

@@ -1,5 +1,6 @@
 -- What a view is, and why texts are none (own rule).
-use Rattle.std.specs.Prelude.{◌≡◌, ℕ, ◌≤ℤ◌, List, [], ◌∷◌, ◌++◌, ◌⊎◌, map, Contains, Option, Some, None, unwrap_or, option_map, if◌then◌else◌}
+use Rattle.std.specs.Prelude.{◌≡◌, ℕ, ◌≤ℤ◌, List, [], ◌∷◌, ◌++◌, ◌⊎◌, map, Contains, Option, Some, None, unwrap_or}
+use Rattle.std.specs.Prelude.{option_map, if◌then◌else◌}
 use denote.Ref.{Bor}
 use Rattle.std.specs.List.{IsDistinct}
 use Rattle.std.specs.BTreeMap.{BTreeMap}
@@ -71,6 +72,10 @@ pub record IsViewOf (map_text window_text : Option (List ℕ)) (view : PlainView
 -- the fault holds, and none before it
 abbrev pub IsFaultOf : Option (List ℕ) → Option (List ℕ) → ViewFault → Type 0
 IsFaultOf map_text window_text MapText = (pairs : List LayerPair) → ¬ IsMapOf map_text pairs
-IsFaultOf map_text window_text WindowText = ((pairs : List LayerPair) × IsMapOf map_text pairs) × ((window : Option Window) → ¬ IsWindowOf window_text window)
-IsFaultOf map_text window_text (MapTwice layer) = (view : PlainView) × IsReadingOf map_text window_text view × IsFirstTwice (sources view.pairs) layer
-IsFaultOf map_text window_text EmptyWindow = (view : PlainView) × IsReadingOf map_text window_text view × IsDistinct same_layer (sources view.pairs) × IsEmptyWindow view.window
+IsFaultOf map_text window_text WindowText =
+    ((pairs : List LayerPair) × IsMapOf map_text pairs) × ((window : Option Window) → ¬ IsWindowOf window_text window)
+IsFaultOf map_text window_text (MapTwice layer) =
+    (view : PlainView) × IsReadingOf map_text window_text view × IsFirstTwice (sources view.pairs) layer
+IsFaultOf map_text window_text EmptyWindow =
+    (view : PlainView) × IsReadingOf map_text window_text view × IsDistinct same_layer (sources view.pairs)
+    × IsEmptyWindow view.window

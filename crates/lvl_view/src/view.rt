@@ -2,7 +2,8 @@
 ghost use Rattle.std.specs.Prelude.{◌≡◌, ◌↔◌, IsTrue, IfOk, IfErr, Some, SomeIff, option_map, MatchOption, None};
 ghost use Rattle.std.specs.List.{IsDistinct};
 ghost use Rattle.lvl_cells.specs.Layers.{same_layer};
-ghost use Rattle.lvl_view.specs.Views.{IsEmptyWindow, IsFaultOf, IsReadingOf, IsViewOf, PlainView, sources, target_of, text_of};
+ghost use Rattle.lvl_view.specs.Views.{IsEmptyWindow, IsFaultOf, IsReadingOf, IsViewOf, PlainView, sources, target_of};
+ghost use Rattle.lvl_view.specs.Views.{text_of};
 ghost use Rattle.lvl_view.specs.inside.Reading.{AreTargets, IsTwiceFault};
 ghost use Rattle.lvl_refusal.specs.Refused.{Says};
 

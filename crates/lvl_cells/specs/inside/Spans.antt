@@ -14,7 +14,11 @@ numbered kept number = get_or (one_place ∷ kept) number []
 abbrev pub shapes_from : ℕ → List Span → Rings → List (List Point) → List (PlainShape Rings)
 shapes_from start [] rings kept = []
 shapes_from start (span ∷ spans) rings kept =
-    record { layer = span.layer; figure = take (span.end - start) (drop start rings); shifts = numbered kept span.shifts }
+    record {
+      layer = span.layer;
+      figure = take (span.end - start) (drop start rings);
+      shifts = numbered kept span.shifts;
+    }
     ∷ shapes_from span.end spans rings kept
 
 abbrev pub ends : List Span → List ℕ

@@ -5,7 +5,7 @@ use Rattle.lvl_grid.specs.Turn.{image_square}
 use Rattle.lvl_cells.specs.declared.layer.Layer.{Layer}
 use Rattle.lvl_cells.specs.Cells.{PlainCell, PlainReference, Rings, placing}
 use Rattle.lvl_cells.specs.Coverage.{RingsCover, CellCovers}
-use Rattle.lvl_flat.specs.Visits.{picks, PickCovers}
+use Rattle.lvl_flat.specs.inside.Visits.{picks, PickCovers}
 use Rattle.lvl_compare.specs.Alike.{AreAlike}
 use Rattle.lvl_compare.specs.declared.placements.Placement.{Placement}
 

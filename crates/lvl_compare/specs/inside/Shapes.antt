@@ -4,7 +4,7 @@ use Rattle.lvl_grid.specs.declared.point.Square.{Square}
 use Rattle.lvl_cells.specs.declared.layer.Layer.{Layer}
 use Rattle.lvl_cells.specs.Cells.{PlainCell, PlainShape, Rings}
 use Rattle.lvl_cells.specs.Coverage.{RingsCover, ShapeCovers}
-use Rattle.lvl_flat.specs.Visits.{picks, PickCovers}
+use Rattle.lvl_flat.specs.inside.Visits.{picks, PickCovers}
 
 -- on every Layer the shapes cover the same squares
 abbrev pub ShapesAlike : List (PlainShape Rings) → List (PlainShape Rings) → Type 0

@@ -42,7 +42,8 @@ HoldsOwn b h = All (λ e. All (λ ring. All (λ v. IsWithin b (shifted e v)) rin
 -- and so is all that a reference leads to at one of its places
 abbrev pub HoldsPick : List (PlainCell Rings) → Bounds → PlainReference → Point → Type 0
 HoldsPick cells b r e =
-    (d f : PlainCell Rings) (n : ℕ) (w m : Map) → cell_named cells r.cell ≡ Some d → Chain cells d n w f → IsComposed (placing r e) w m → HoldsCell b m f
+    (d f : PlainCell Rings) (n : ℕ) (w m : Map) → cell_named cells r.cell ≡ Some d → Chain cells d n w f
+    → IsComposed (placing r e) w m → HoldsCell b m f
 
 abbrev pub HoldsPicks : List (PlainCell Rings) → Bounds → List PlainReference → Type 0
 HoldsPicks cells b references = All (λ r. (e : Point) → Contains r.shifts e → HoldsPick cells b r e) references
@@ -55,4 +56,5 @@ pub record Fits (b : Bounds) : Type 0 where
 -- the boxes that are known are within 64 bits and hold all that their cells place
 abbrev pub AreBounds : List (PlainCell Rings) → List (Option Bounds) → Type 0
 AreBounds cells known =
-    (k : ℕ) (b : Bounds) (c : PlainCell Rings) → slice_get known k ≡ Some (Some b) → slice_get cells k ≡ Some c → Fits b × HoldsChains cells b c
+    (k : ℕ) (b : Bounds) (c : PlainCell Rings) → slice_get known k ≡ Some (Some b) → slice_get cells k ≡ Some c
+    → Fits b × HoldsChains cells b c

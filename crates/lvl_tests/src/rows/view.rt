@@ -45,7 +45,8 @@ layers-exchanged, one way | oasis 14 7B 01 00 0A 0A 00 00 14 7B 02 00 05 05 00 0
     differ: layer 1 datatype 0 square 0 0 only in first
 two sources of one target | square.gds | oasis 14 7B 02 00 05 0A 00 00 14 7B 03 00 05 0A 0A 00 | \
     2/0=1/0,3/0=1/0 | x=-1..11,y=-1..11 | same
-one source of two targets' layer | square.gds | oasis 14 7B 02 00 05 0A 00 00 14 7B 01 00 05 0A 0A 00 | 2/0=1/0 | - | same
+one source of two targets' layer | square.gds | oasis 14 7B 02 00 05 0A 00 00 14 7B 01 00 05 0A 0A 00 | \
+    2/0=1/0 | - | same
 a source leaves its layer | square.gds | square.oas | 1/0=9/7 | - | differ: layer 1 datatype 0 square 0 0 only in first
 an absent source | square.gds | square.oas | 5/0=1/0 | - | same
 a numeral with zeros | square.gds | oasis 14 7B 02 00 0A 0A 00 00 | 02/00=0001/0 | - | same

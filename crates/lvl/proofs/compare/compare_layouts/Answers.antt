@@ -7,12 +7,14 @@ use Rattle.lvl.proofs.compare.compare_layouts.Goals as goal
 pub returns-in-Ok-clause-same : goal.returns-in-Ok-clause-same
 returns-in-Ok-clause-same g c xs ys known_first known_second e =
     let is : c.in-Ok.compared.verdict ≡ Same = cc in
-    subst (IsVerdict (file xs c.args.tops.now.first) (file ys c.args.tops.now.second)) is (c.in-Ok.ensures.compared xs ys known_first known_second).verdict
+    subst (IsVerdict (file xs c.args.tops.now.first) (file ys c.args.tops.now.second)) is
+    (c.in-Ok.ensures.compared xs ys known_first known_second).verdict
 
 pub returns-in-Ok-clause-differ : goal.returns-in-Ok-clause-differ
 returns-in-Ok-clause-differ g c xs ys known_first known_second layer square side e =
     let is : c.in-Ok.compared.verdict ≡ Differ layer square side = cc in
-    subst (IsVerdict (file xs c.args.tops.now.first) (file ys c.args.tops.now.second)) is (c.in-Ok.ensures.compared xs ys known_first known_second).verdict
+    subst (IsVerdict (file xs c.args.tops.now.first) (file ys c.args.tops.now.second)) is
+    (c.in-Ok.ensures.compared xs ys known_first known_second).verdict
 
 pub returns-in-Err-clause-first_refused : goal.returns-in-Err-clause-first_refused
 returns-in-Err-clause-first_refused g c xs known = (c.in-Err.ensures.first_refused xs known).unaccepted

@@ -2,7 +2,8 @@ use Rattle.lvl.proofs.Spelling.{oasis_read, oasis_fault, oasis_early}
 use Rattle.lvl.proofs.layout.read_as_oasis.Goals as goal
 
 pub returns-in-Ok-clause-spelled : goal.returns-in-Ok-clause-spelled
-returns-in-Ok-clause-spelled g c xs known = oasis_read xs c.in-Ok.library c.in-Ok.head (c.in-Ok.ensures.spelled xs known)
+returns-in-Ok-clause-spelled g c xs known =
+    oasis_read xs c.in-Ok.library c.in-Ok.head (c.in-Ok.ensures.spelled xs known)
 
 pub returns-in-Err-Breach-clause-refused : goal.returns-in-Err-Breach-clause-refused
 returns-in-Err-Breach-clause-refused g c xs known format =

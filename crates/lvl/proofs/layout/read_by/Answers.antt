@@ -5,7 +5,8 @@ use Rattle.lvl.proofs.layout.read_by.Goals as goal
 
 pub returns-then-is_oasis-clause-refused : goal.returns-then-is_oasis-clause-refused
 returns-then-is_oasis-clause-refused g c xs known first =
-    c.read_as_oasis.ensures.refused xs known (subst (λ b. HasFirst b xs) (c.is_oasis.ensures.0 c.if-is_oasis.true) first)
+    c.read_as_oasis.ensures.refused xs known
+    (subst (λ b. HasFirst b xs) (c.is_oasis.ensures.0 c.if-is_oasis.true) first)
 
 pub returns-then-is_oasis-clause-early : goal.returns-then-is_oasis-clause-early
 returns-then-is_oasis-clause-early g c xs known first =

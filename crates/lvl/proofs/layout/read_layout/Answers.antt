@@ -7,4 +7,5 @@ returns-in_default-clause-refused g c xs known = c.unread.ensures.told xs
 
 pub returns-clause-early : goal.returns-clause-early
 returns-clause-early g c xs known =
-    early_rest xs _ _ _ c.read_by-read.result (c.read_by-read.ensures.early xs (search rules) (c.in-Ok.ensures.first xs known)) (search rules)
+    early_rest xs _ _ _ c.read_by-read.result
+    (c.read_by-read.ensures.early xs (search rules) (c.in-Ok.ensures.first xs known)) (search rules)

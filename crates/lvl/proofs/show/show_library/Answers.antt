@@ -17,6 +17,8 @@ returns-clause-shown c =
       shown_is = record {
         top_is = c.in-Ok.ensures flat.top flat.is_top;
         cells_are = ap length c.cells-cells.ensures.value;
-        layers_are = subst (AreShownLayers each_ring s.cells flat.top) (sym layers.layers) (all_shown s.cells flat.top c.in_ok-flat.flat layers.in_order flat.count);
+        layers_are =
+            subst (AreShownLayers each_ring s.cells flat.top) (sym layers.layers)
+            (all_shown s.cells flat.top c.in_ok-flat.flat layers.in_order flat.count);
       };
     }

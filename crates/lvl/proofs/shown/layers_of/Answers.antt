@@ -14,7 +14,9 @@ loop-layer-preserved c =
     let place : c.len.result ≡ length layers = c.len.ensures ∙ c.loop-layer.layers.ok.0 in
     let at : slice_get (map (λ (s : PlainSheet). s.layer) flat) (length layers) ≡ Some c.in-Some.layer =
     ap (slice_get _) (sym place) ∙ sym c.in-Some.ensures.layer in
-    let more = one_more flat layers (length layers) c.in-Some.layer _ c.in-Some.ensures.in_order.sorted so_far.1 at refl (c.len-rings.ensures ∙ ap length c.rings.ensures) in
+    let more =
+    one_more flat layers (length layers) c.in-Some.layer _ c.in-Some.ensures.in_order.sorted so_far.1 at refl
+    (c.len-rings.ensures ∙ ap length c.rings.ensures) in
     let items = c.in_ok-push.ensures.items in
     let longer : length c.push.new.self.items ≡ length layers + 1 = ap length items ∙ length_push layers _ in
     (omega (arith, longer, more.0), items ∙ more.1 ∙ ap (λ n. map shown_layer (take n flat)) (sym longer))
@@ -27,6 +29,8 @@ returns c =
     let at : slice_get (map (λ (s : PlainSheet). s.layer) flat) (length layers) ≡ None =
     ap (slice_get _) (sym place) ∙ sym c.in_default.ensures.layer in
     record {
-      layers = c.loop-layer.invariant.1 ∙ ap (map shown_layer) (take_all (length layers) flat (none_left flat (length layers) at));
+      layers =
+          c.loop-layer.invariant.1
+          ∙ ap (map shown_layer) (take_all (length layers) flat (none_left flat (length layers) at));
       in_order = c.in_default.ensures.in_order;
     }

@@ -13,4 +13,7 @@ returns-in_err-place-clause-refused c =
     let given = option_copied c.args.top in
     let p = err_from_is_err_and c.from_residual.result c.from_residual.ensures.1 in
     let same : c.deref.result.now ≡ c.args.library = c.deref.ensures.value ∙ c.library.view_is in
-    rw (p.1, p.2) (Says-map (IsFaultOf c.deref.result.now given) _ _ (λ f h w. refused c.deref.result.now given f h (subst (λ (l : List (PlainCell Rings)). IsSoundWith l given (PlacesFew l)) (sym same) w)) c.in_err-place.ensures.err)
+    rw (p.1, p.2) (Says-map (IsFaultOf c.deref.result.now given) _ _
+    (λ f h w. refused c.deref.result.now given f h
+    (subst (λ (l : List (PlainCell Rings)). IsSoundWith l given (PlacesFew l)) (sym same) w))
+    c.in_err-place.ensures.err)

@@ -5,4 +5,7 @@ use Rattle.lvl_cells.proofs.counts.rings_of.Given as goal
 
 -- the rings of the shapes so far
 abbrev pub invariant-loop-i : goal.invariant-loop-i
-invariant-loop-i l = l.sum ≡ min (most_placed + 1) (sum_by (λ (h : PlainShape Rings). length h.figure * length h.shifts) (take l.i l.shapes))
+invariant-loop-i l =
+    l.sum
+    ≡ min (most_placed + 1)
+    (sum_by (λ (h : PlainShape Rings). length h.figure * length h.shifts) (take l.i l.shapes))

@@ -1,9 +1,13 @@
 use Rattle.std.proofs.Common.{◌≡◌, ℕ, ◌<◌, [], Some}
 use Rattle.std.specs.List.{slice_get}
 use Rattle.lvl_cells.specs.declared.walk.Mark.TheVariants.{New}
-use Rattle.lvl_cells.specs.Walking.{IsWalk}
+use Rattle.lvl_cells.specs.inside.Walking.{IsWalk}
 use Rattle.lvl_cells.proofs.order.order_of.Given as goal
 
 -- the walk is at rest between roots, and the cells so far are seen
 abbrev pub invariant-loop-root : goal.invariant-loop-root
-invariant-loop-root l = record { walk : IsWalk l.targets l.marks.items l.path.items l.finished.items; resting : l.path.items ≡ []; seen : (k : ℕ) → k < l.root → ¬ (slice_get l.marks.items k ≡ Some New) }
+invariant-loop-root l = record {
+  walk : IsWalk l.targets l.marks.items l.path.items l.finished.items;
+  resting : l.path.items ≡ [];
+  seen : (k : ℕ) → k < l.root → ¬ (slice_get l.marks.items k ≡ Some New);
+}

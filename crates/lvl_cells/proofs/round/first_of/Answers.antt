@@ -9,5 +9,7 @@ returns c =
     record {
       visit = first.0;
       there = first.1;
-      least = λ j w h. let low : j < length c.args.round.now = slice_get_within c.args.round.now j w h in c.loop-k.invariant.least j first.0 w (omega arith) first.1 h;
+      least =
+          λ j w h. let low : j < length c.args.round.now = slice_get_within c.args.round.now j w h in
+          c.loop-k.invariant.least j first.0 w (omega arith) first.1 h;
     }

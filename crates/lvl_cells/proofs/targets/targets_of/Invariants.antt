@@ -1,6 +1,6 @@
 use Rattle.std.proofs.Common.{take}
 use Rattle.lvl_cells.specs.Cells.{names}
-use Rattle.lvl_cells.specs.Resolving.{AreTargets}
+use Rattle.lvl_cells.specs.inside.Targets.{AreTargets}
 use Rattle.lvl_cells.proofs.targets.targets_of.Given as goal
 
 -- the targets so far are those of the references so far

@@ -3,4 +3,7 @@ use Rattle.lvl_cells.proofs.Roots.{AreMarkedBefore}
 use Rattle.lvl_cells.proofs.top.referred_cells.Given as goal
 
 abbrev pub invariant-loop-here : goal.invariant-loop-here
-invariant-loop-here l = record { long : vec_len l.referred ≡ length l.targets; marked : AreMarkedBefore l.referred.items l.targets l.here-index }
+invariant-loop-here l = record {
+  long : vec_len l.referred ≡ length l.targets;
+  marked : AreMarkedBefore l.referred.items l.targets l.here-index;
+}

@@ -2,7 +2,7 @@ use Rattle.std.proofs.Common.{◌≡◌, List, [], ◌∷◌, ◌++◌, Some, se
 use Rattle.std.specs.List.{slice_get}
 use Rattle.lvl_cells.specs.declared.walk.Visit.{Visit}
 use Rattle.lvl_cells.specs.declared.walk.Mark.TheVariants.{New, Open}
-use Rattle.lvl_cells.specs.Walking.{IsWalk}
+use Rattle.lvl_cells.specs.inside.Walking.{IsWalk}
 use Rattle.lvl_cells.proofs.Walks.{walk_begin, set_there}
 use Rattle.lvl_cells.proofs.Nearing.{goes_on}
 use Rattle.lvl_cells.proofs.walk.walk_from.Goals as goal
@@ -14,11 +14,15 @@ loop-marks-init c =
     let root = c.args.root in
     let done = c.args.finished.now.items in
     let first : Visit = record { cell = root; done = 0 } in
-    let resting : IsWalk all marks [] done = subst (λ (p : List Visit). IsWalk all marks p done) c.requires.resting c.requires.walk in
-    let path : c.push.new.self.items ≡ first ∷ [] = c.in_ok-push.ensures.items ∙ ap (λ (p : List Visit). p ++ first ∷ []) c.requires.resting in
+    let resting : IsWalk all marks [] done =
+    subst (λ (p : List Visit). IsWalk all marks p done) c.requires.resting c.requires.walk in
+    let path : c.push.new.self.items ≡ first ∷ [] =
+    c.in_ok-push.ensures.items ∙ ap (λ (p : List Visit). p ++ first ∷ []) c.requires.resting in
     let now : slice_get (set marks root Open) root ≡ Some Open = set_there marks root New Open c.requires.new in
     record {
-      walk = subst (λ (p : List Visit). IsWalk all (set marks root Open) p done) (sym path) (walk_begin all marks root done resting c.requires.new);
+      walk =
+          subst (λ (p : List Visit). IsWalk all (set marks root Open) p done) (sym path)
+          (walk_begin all marks root done resting c.requires.new);
       on = goes_on marks root New Open c.requires.new (λ e. cc);
       seen = λ e. cc;
     }

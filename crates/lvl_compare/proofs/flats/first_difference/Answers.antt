@@ -9,11 +9,13 @@ use Rattle.lvl_compare.specs.Flats.{AlikeIn, AlikeOn, IsFirstApart, IsFirstApart
 use Rattle.lvl_compare.proofs.flats.first_difference.Goals as goal
 
 -- where there is no window, all squares are shown
-alike_anywhere : (a b : List PlainSheet) (found : Option (Layer × Square × Side)) → IfNone found ((l : Layer) → AlikeIn None a b l) → IfNone found ((l : Layer) → AlikeOn a b l)
+alike_anywhere : (a b : List PlainSheet) (found : Option (Layer × Square × Side))
+    → IfNone found ((l : Layer) → AlikeIn None a b l) → IfNone found ((l : Layer) → AlikeOn a b l)
 alike_anywhere a b None h = λ l s. h l s tt
 alike_anywhere a b (Some at) h = tt
 
-apart_anywhere : (a b : List PlainSheet) (found : Option (Layer × Square × Side)) → IfSome found (λ at. IsFirstApartIn None a b at.0 at.1 at.2) → IfSome found (λ at. IsFirstApart a b at.0 at.1 at.2)
+apart_anywhere : (a b : List PlainSheet) (found : Option (Layer × Square × Side))
+    → IfSome found (λ at. IsFirstApartIn None a b at.0 at.1 at.2) → IfSome found (λ at. IsFirstApart a b at.0 at.1 at.2)
 apart_anywhere a b None h = tt
 apart_anywhere a b (Some at) h = record {
   alone = h.alone;
@@ -22,7 +24,11 @@ apart_anywhere a b (Some at) h = record {
 }
 
 pub returns-clause-same : goal.returns-clause-same
-returns-clause-same c = IfOk-weaker c.first_difference_in.result _ _ (λ found h. alike_anywhere c.args.first.now c.args.second.now found h) c.first_difference_in.ensures.same
+returns-clause-same c =
+    IfOk-weaker c.first_difference_in.result _ _ (λ found h. alike_anywhere c.args.first.now c.args.second.now found h)
+    c.first_difference_in.ensures.same
 
 pub returns-clause-differ : goal.returns-clause-differ
-returns-clause-differ c = IfOk-weaker c.first_difference_in.result _ _ (λ found h. apart_anywhere c.args.first.now c.args.second.now found h) c.first_difference_in.ensures.differ
+returns-clause-differ c =
+    IfOk-weaker c.first_difference_in.result _ _ (λ found h. apart_anywhere c.args.first.now c.args.second.now found h)
+    c.first_difference_in.ensures.differ

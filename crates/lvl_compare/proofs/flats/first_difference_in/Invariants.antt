@@ -6,7 +6,9 @@ use Rattle.lvl_compare.proofs.flats.first_difference_in.Given as goal
 
 -- the Layers that were passed are alike in the window
 abbrev pub invariant-loop-layer : goal.invariant-loop-layer
-invariant-loop-layer l = IsWalked (AlikeIn (window_of l.fn.window) l.fn.first l.fn.second) (drop l.ours l.fn.first) (drop l.theirs l.fn.second)
+invariant-loop-layer l =
+    IsWalked (AlikeIn (window_of l.fn.window) l.fn.first l.fn.second) (drop l.ours l.fn.first)
+    (drop l.theirs l.fn.second)
 
 abbrev pub decreases-loop-layer : goal.decreases-loop-layer
 decreases-loop-layer l = length (drop l.ours l.fn.first) + length (drop l.theirs l.fn.second)

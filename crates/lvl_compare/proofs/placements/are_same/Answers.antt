@@ -11,8 +11,11 @@ returns c = λ h p.
     let theirs : List Placement = c.sort_unstable_by_key-2.new.self.items in
     let first = c.sort_unstable_by_key.ensures.permutation in
     let second = c.sort_unstable_by_key-2.ensures.permutation in
-    let tested = slice_eq-Decides placement_decides c.as_slice.result.now c.as_slice-2.result.now c.eq.result c.eq.ensures in
+    let tested =
+    slice_eq-Decides placement_decides c.as_slice.result.now c.as_slice-2.result.now c.eq.result c.eq.ensures in
     let one : ours ≡ theirs = sym c.as_slice.ensures.value ∙ (tested.0 h ∙ c.as_slice-2.ensures.value) in (
-      λ a. Contains-permutation theirs c.args.theirs.items p (IsPermutation-sym c.args.theirs.items theirs second) (subst (λ ps. Contains ps p) one (Contains-permutation c.args.ours.items ours p first a)),
-      λ a. Contains-permutation ours c.args.ours.items p (IsPermutation-sym c.args.ours.items ours first) (subst (λ ps. Contains ps p) (sym one) (Contains-permutation c.args.theirs.items theirs p second a)),
+      λ a. Contains-permutation theirs c.args.theirs.items p (IsPermutation-sym c.args.theirs.items theirs second)
+          (subst (λ ps. Contains ps p) one (Contains-permutation c.args.ours.items ours p first a)),
+      λ a. Contains-permutation ours c.args.ours.items p (IsPermutation-sym c.args.ours.items ours first)
+          (subst (λ ps. Contains ps p) (sym one) (Contains-permutation c.args.theirs.items theirs p second a)),
     )

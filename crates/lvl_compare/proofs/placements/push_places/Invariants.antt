@@ -4,4 +4,7 @@ use Rattle.lvl_compare.proofs.placements.push_places.Given as goal
 
 -- the places so far are added
 abbrev pub invariant-loop-k : goal.invariant-loop-k
-invariant-loop-k l = l.placements.items ≡ l.initial.placements.items ++ map (λ e. record { cell = l.cell; map = placing l.reference e }) (take l.k l.reference.shifts)
+invariant-loop-k l =
+    l.placements.items
+    ≡ l.initial.placements.items
+    ++ map (λ e. record { cell = l.cell; map = placing l.reference e }) (take l.k l.reference.shifts)

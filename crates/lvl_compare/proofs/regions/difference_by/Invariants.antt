@@ -5,7 +5,8 @@ use Rattle.lvl_compare.proofs.regions.difference_by.Given as goal
 
 -- the Layers that were passed are alike
 abbrev pub invariant-loop-layer : goal.invariant-loop-layer
-invariant-loop-layer g l = IsWalked (AlikeOn l.fn.first l.fn.second) (drop l.ours l.fn.first) (drop l.theirs l.fn.second)
+invariant-loop-layer g l =
+    IsWalked (AlikeOn l.fn.first l.fn.second) (drop l.ours l.fn.first) (drop l.theirs l.fn.second)
 
 abbrev pub decreases-loop-layer : goal.decreases-loop-layer
 decreases-loop-layer g l = length (drop l.ours l.fn.first) + length (drop l.theirs l.fn.second)

@@ -1,4 +1,4 @@
-use Rattle.lvl_flat.specs.Walking.{IsWalking, work}
+use Rattle.lvl_flat.specs.inside.Walking.{IsWalking, work}
 use Rattle.lvl_flat.proofs.advance.flatten.Given as goal
 
 -- what the top covers is drawn or still visited

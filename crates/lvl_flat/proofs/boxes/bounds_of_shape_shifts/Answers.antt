@@ -1,4 +1,5 @@
-use Rattle.std.proofs.Common.{◌≡◌, ◌<◌, ◌≤◌, ℕ, List, Some, All, take, length, get_or, slice_get, sym, ◌∙◌, subst, arith}
+use Rattle.std.proofs.Common.{◌≡◌, ◌<◌, ◌≤◌, ℕ, List, Some, All, take, length, get_or, slice_get, sym, ◌∙◌, subst}
+use Rattle.std.proofs.Common.{arith}
 use Rattle.std.proofs.lemmas.List.{take_all}
 use Rattle.std.proofs.lemmas.List.Elements.{All-more, All-weaker}
 use Rattle.std.proofs.lemmas.Option.{slice_get_within, get_or_from_slice_get}
@@ -16,7 +17,8 @@ loop-k-preserved c =
     let seen : slice_get shifts k ≡ Some e = sym c.shift.ensures ∙ c.in-Some.is in
     let there : k < length shifts = slice_get_within shifts k e seen in
     let is : get_or shifts k e ≡ e = get_or_from_slice_get shifts k e e seen in
-    All-more (IsWithin b) shifts k e there (All-weaker (IsWithin c.loop-k.bounds) (IsWithin b) (λ p w. c.joined-bounds.ensures.first.holds p w) (take k shifts) c.loop-k.invariant)
+    All-more (IsWithin b) shifts k e there (All-weaker (IsWithin c.loop-k.bounds) (IsWithin b)
+    (λ p w. c.joined-bounds.ensures.first.holds p w) (take k shifts) c.loop-k.invariant)
     (subst (IsWithin b) (sym is) (c.joined-bounds.ensures.second.holds e c.around.ensures))
 
 pub returns : goal.returns

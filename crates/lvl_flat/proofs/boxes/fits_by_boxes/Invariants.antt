@@ -4,4 +4,7 @@ use Rattle.lvl_flat.proofs.boxes.fits_by_boxes.Given as goal
 
 -- the boxes that are known hold what their cells place
 abbrev pub invariant-loop-i : goal.invariant-loop-i
-invariant-loop-i l = record { long : vec_len l.known ≡ length l.checked.cells; known : AreBounds l.checked.cells l.known.items }
+invariant-loop-i l = record {
+  long : vec_len l.known ≡ length l.checked.cells;
+  known : AreBounds l.checked.cells l.known.items;
+}

@@ -12,6 +12,9 @@ returns-clause-held c = λ p within k e lt.
     let r : PlainReference = c.args.reference.now in
     let m : Map = record { flip = c.flip.result; turn = c.turn.result; at = c.at.result } in
     let d : Point = get_or r.shifts k e in
-    let shifts : All (IsWithin c.bounds_of_shifts.result) r.shifts = subst (All (IsWithin c.bounds_of_shifts.result)) c.shifts.ensures.all c.bounds_of_shifts.ensures in
-    let there : IsWithin c.joined.result (shifted d (image m p)) = c.joined.ensures.second.holds _ (c.in_ok-everywhere.ensures (image m p) d (c.in_ok-placed.ensures p within) (shifts k e lt)) in
+    let shifts : All (IsWithin c.bounds_of_shifts.result) r.shifts =
+    subst (All (IsWithin c.bounds_of_shifts.result)) c.shifts.ensures.all c.bounds_of_shifts.ensures in
+    let there : IsWithin c.joined.result (shifted d (image m p)) =
+    c.joined.ensures.second.holds _
+    (c.in_ok-everywhere.ensures (image m p) d (c.in_ok-placed.ensures p within) (shifts k e lt)) in
     subst (IsWithin c.joined.result) (moved_place r m d p c.flip.ensures c.turn.ensures c.at.ensures) there

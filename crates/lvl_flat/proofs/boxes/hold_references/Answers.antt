@@ -28,21 +28,34 @@ loop-j-preserved c =
     record {
       wider = widens_further c.args.bounds c.loop-j.held b c.loop-j.invariant.wider wider;
       held = λ known.
-          let at : slice_get c.args.known.now c.in-Some.target ≡ Some (Some inner) = grind (arith, common_steps, gets, c.in-Some-Some.ensures.lookup) in
-          let read : slice_get c.cells.result.now c.args.cell ≡ Some cell = slice_get_read c.cells.result.now (length c.cells.result.now) c.args.cell cell refl (omega (arith, c.requires, ap length c.cells.ensures.value)) c.index-cells-cell.is in
-          let there : slice_get cells c.args.cell ≡ Some cell = subst (λ (cs : List (PlainCell Rings)). slice_get cs c.args.cell ≡ Some cell) c.cells.ensures.value read in
+          let at : slice_get c.args.known.now c.in-Some.target ≡ Some (Some inner) =
+          grind (arith, common_steps, gets, c.in-Some-Some.ensures.lookup) in
+          let read : slice_get c.cells.result.now c.args.cell ≡ Some cell =
+          slice_get_read c.cells.result.now (length c.cells.result.now) c.args.cell cell refl
+          (omega (arith, c.requires, ap length c.cells.ensures.value)) c.index-cells-cell.is in
+          let there : slice_get cells c.args.cell ≡ Some cell =
+          subst (λ (cs : List (PlainCell Rings)). slice_get cs c.args.cell ≡ Some cell) c.cells.ensures.value
+          read in
           let both : Some t.cell ≡ Some cell = sym t.cell_is ∙ there in
           let one : t.cell ≡ cell = cc in
-          let refs : t.cell.references ≡ items = ap (λ (x : PlainCell Rings). x.references) one ∙ sym (c.deref-reference-items.ensures.value ∙ ap (λ (x : PlainCell Rings). x.references) c.place.view_is) in
-          let here : slice_get items j ≡ Some r = slice_get_read items (length items) j r refl c.loop-j-test.true c.reference-item.is in
+          let refs : t.cell.references ≡ items =
+          ap (λ (x : PlainCell Rings). x.references) one
+          ∙ sym (c.deref-reference-items.ensures.value
+          ∙ ap (λ (x : PlainCell Rings). x.references) c.place.view_is) in
+          let here : slice_get items j ≡ Some r =
+          slice_get_read items (length items) j r refl c.loop-j-test.true c.reference-item.is in
           let named_there : Some t.reference ≡ Some r = sym t.reference_is ∙ (ap (λ rs. slice_get rs j) refs ∙ here) in
           let same : t.reference ≡ r = cc in
-          let named : cell_named cells r.cell ≡ Some t.target = ap (λ (q : PlainReference). cell_named cells q.cell) (sym same) ∙ t.named in
+          let named : cell_named cells r.cell ≡ Some t.target =
+          ap (λ (q : PlainReference). cell_named cells q.cell) (sym same) ∙ t.named in
           let chains = (known c.in-Some.target inner t.target at t.target_is).1 in
-          let last : (e : Point) → Contains r.shifts e → HoldsPick cells b r e = reference_holds cells b inner r t.target named chains c.in_ok-held.ensures.held in
-          All-more (λ (q : PlainReference). (e : Point) → Contains q.shifts e → HoldsPick cells b q e) items j r c.loop-j-test.true
+          let last : (e : Point) → Contains r.shifts e → HoldsPick cells b r e =
+          reference_holds cells b inner r t.target named chains c.in_ok-held.ensures.held in
+          All-more (λ (q : PlainReference). (e : Point) → Contains q.shifts e → HoldsPick cells b q e) items j r
+          c.loop-j-test.true
           (picks_wider cells c.loop-j.held b (take j items) wider (c.loop-j.invariant.held known))
-          (subst (λ (q : PlainReference). (e : Point) → Contains q.shifts e → HoldsPick cells b q e) c.reference-item.is last);
+          (subst (λ (q : PlainReference). (e : Point) → Contains q.shifts e → HoldsPick cells b q e) c.reference-item.is
+          last);
     }
 
 pub returns-clause-held : goal.returns-clause-held
@@ -50,9 +63,14 @@ returns-clause-held c = λ known.
     let cells : List (PlainCell Rings) = c.args.checked.now.cells in
     let items : List PlainReference = c.deref-reference-items.result.now in
     let cell : PlainCell Rings = c.index-cells-cell.result in
-    let read : slice_get c.cells.result.now c.args.cell ≡ Some cell = slice_get_read c.cells.result.now (length c.cells.result.now) c.args.cell cell refl (omega (arith, c.requires, ap length c.cells.ensures.value)) c.index-cells-cell.is in
-    let there : slice_get cells c.args.cell ≡ Some cell = subst (λ (cs : List (PlainCell Rings)). slice_get cs c.args.cell ≡ Some cell) c.cells.ensures.value read in
-    let refs : items ≡ cell.references = c.deref-reference-items.ensures.value ∙ ap (λ (x : PlainCell Rings). x.references) c.place.view_is in
+    let read : slice_get c.cells.result.now c.args.cell ≡ Some cell =
+    slice_get_read c.cells.result.now (length c.cells.result.now) c.args.cell cell refl
+    (omega (arith, c.requires, ap length c.cells.ensures.value)) c.index-cells-cell.is in
+    let there : slice_get cells c.args.cell ≡ Some cell =
+    subst (λ (cs : List (PlainCell Rings)). slice_get cs c.args.cell ≡ Some cell) c.cells.ensures.value read in
+    let refs : items ≡ cell.references =
+    c.deref-reference-items.ensures.value ∙ ap (λ (x : PlainCell Rings). x.references) c.place.view_is in
     let all : take c.loop-j.j items ≡ cell.references = take_all c.loop-j.j items c.loop-j-test.false ∙ refs in
-    let held : HoldsPicks cells c.loop-j.held cell.references = subst (HoldsPicks cells c.loop-j.held) all (c.loop-j.invariant.held known) in
+    let held : HoldsPicks cells c.loop-j.held cell.references =
+    subst (HoldsPicks cells c.loop-j.held) all (c.loop-j.invariant.held known) in
     subst (λ o. IfSome o (λ (x : PlainCell Rings). HoldsPicks cells c.loop-j.held x.references)) (sym there) held

@@ -4,4 +4,7 @@ use Rattle.lvl_flat.proofs.boxes.hold_references.Given as goal
 
 -- what the references so far lead to is in the box
 abbrev pub invariant-loop-j : goal.invariant-loop-j
-invariant-loop-j l = record { wider : Widens l.fn.bounds l.held; held : AreBounds l.checked.cells l.known → HoldsPicks l.checked.cells l.held (take l.j l.reference-items) }
+invariant-loop-j l = record {
+  wider : Widens l.fn.bounds l.held;
+  held : AreBounds l.checked.cells l.known → HoldsPicks l.checked.cells l.held (take l.j l.reference-items);
+}

@@ -19,10 +19,14 @@ loop-point-preserved c =
     let s : Bounds = c.args.shifts in
     record {
       wider = widens_further c.args.bounds c.loop-point.held b c.loop-point.invariant.wider c.joined-held.ensures.first;
-      held = All-more (λ (p : Point). (e : Point) → IsWithin s e → IsWithin b (shifted e p)) ring k _ c.loop-point-test.true
+      held =
+          All-more (λ (p : Point). (e : Point) → IsWithin s e → IsWithin b (shifted e p)) ring k _
+          c.loop-point-test.true
           (ring_wider c.loop-point.held b s (take k ring) c.joined-held.ensures.first c.loop-point.invariant.held)
           (λ e w. c.joined-held.ensures.second.holds _ (c.in_ok-moved.ensures _ e c.around.ensures w));
     }
 
 pub returns-clause-held : goal.returns-clause-held
-returns-clause-held c = subst (HoldsRing c.loop-point.held c.args.shifts) (take_all c.loop-point.point-index c.args.ring.now c.loop-point-test.false) c.loop-point.invariant.held
+returns-clause-held c =
+    subst (HoldsRing c.loop-point.held c.args.shifts)
+    (take_all c.loop-point.point-index c.args.ring.now c.loop-point-test.false) c.loop-point.invariant.held

@@ -20,7 +20,9 @@ loop-j-preserved c =
     record {
       wider = widens_further c.args.bounds c.loop-j.held b c.loop-j.invariant.wider c.in_ok-held.ensures.wider;
       held = All-more (HoldsRing b s) figure j [] there
-          (All-weaker (HoldsRing c.loop-j.held s) (HoldsRing b s) (λ ring h. ring_wider c.loop-j.held b s ring c.in_ok-held.ensures.wider h) (take j figure) c.loop-j.invariant.held)
+          (All-weaker (HoldsRing c.loop-j.held s) (HoldsRing b s)
+          (λ ring h. ring_wider c.loop-j.held b s ring c.in_ok-held.ensures.wider h) (take j figure)
+          c.loop-j.invariant.held)
           (subst (HoldsRing b s) c.ring.ensures.value c.in_ok-held.ensures.held);
     }
 
@@ -29,4 +31,5 @@ returns-clause-held c =
     let h : PlainShape Rings = shape_at c.args.shapes.now c.args.i in
     let s : Bounds = c.bounds_of_shape_shifts-shifts.result in
     let long : length h.figure ≤ c.loop-j.j = omega (arith, c.loop-j-test.false, c.ring_count-j-end.ensures) in
-    figure_own c.loop-j.held s h c.bounds_of_shape_shifts-shifts.ensures (subst (All (HoldsRing c.loop-j.held s)) (take_all c.loop-j.j h.figure long) c.loop-j.invariant.held)
+    figure_own c.loop-j.held s h c.bounds_of_shape_shifts-shifts.ensures
+    (subst (All (HoldsRing c.loop-j.held s)) (take_all c.loop-j.j h.figure long) c.loop-j.invariant.held)

@@ -5,4 +5,7 @@ use Rattle.lvl_flat.proofs.boxes.hold_shape.Given as goal
 
 -- the rings so far are in the box
 abbrev pub invariant-loop-j : goal.invariant-loop-j
-invariant-loop-j l = record { wider : Widens l.fn.bounds l.held; held : All (HoldsRing l.held l.shifts) (take l.j (shape_at l.shapes l.i).figure) }
+invariant-loop-j l = record {
+  wider : Widens l.fn.bounds l.held;
+  held : All (HoldsRing l.held l.shifts) (take l.j (shape_at l.shapes l.i).figure);
+}

@@ -19,7 +19,9 @@ loop-i-preserved c =
     record {
       wider = widens_further c.args.bounds c.loop-i.held b c.loop-i.invariant.wider c.in_ok-held.ensures.wider;
       held = All-more (HoldsOwn b) shapes i _ there
-          (All-weaker (HoldsOwn c.loop-i.held) (HoldsOwn b) (λ h held. own_wider c.loop-i.held b h c.in_ok-held.ensures.wider held) (take i shapes) c.loop-i.invariant.held)
+          (All-weaker (HoldsOwn c.loop-i.held) (HoldsOwn b)
+          (λ h held. own_wider c.loop-i.held b h c.in_ok-held.ensures.wider held) (take i shapes)
+          c.loop-i.invariant.held)
           c.in_ok-held.ensures.held;
     }
 

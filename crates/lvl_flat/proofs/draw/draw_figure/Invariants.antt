@@ -1,6 +1,6 @@
 use Rattle.std.proofs.Common.{◌≡◌, ◌++◌, All, take}
 use Rattle.lvl_cells.specs.Cells.{shape_at}
-use Rattle.lvl_flat.specs.Drawn.{placed_figure, IsPlaced}
+use Rattle.lvl_flat.specs.inside.Drawn.{placed_figure, IsPlaced}
 use Rattle.lvl_flat.proofs.draw.draw_figure.Given as goal
 
 -- the rings so far are placed, in order

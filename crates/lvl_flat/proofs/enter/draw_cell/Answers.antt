@@ -4,34 +4,46 @@ use Rattle.lvl_cells.specs.declared.layer.Layer.{Layer}
 use Rattle.lvl_cells.specs.Cells.{PlainCell, Rings}
 use Rattle.lvl_flat.specs.declared.fault.FlatFault.{FlatFault}
 use Rattle.lvl_flat.specs.declared.fault.FlatFault.TheVariants.{OutOfRange}
-use Rattle.lvl_flat.specs.Drawn.{drawn_on, AreFiguresPlaced, FitShapes}
+use Rattle.lvl_flat.specs.inside.Drawn.{drawn_on, AreFiguresPlaced}
+use Rattle.lvl_flat.specs.Flattened.{FitShapes}
 use Rattle.lvl_flat.specs.Sheets.{HaveSheets, rings_on}
-use Rattle.lvl_flat.specs.Entering.{TellsName, IsEnterFault}
+use Rattle.lvl_flat.specs.Flattened.{TellsName}
+use Rattle.lvl_flat.specs.inside.Entering.{IsEnterFault}
 use Rattle.lvl_grid.specs.declared.map.Map.{Map}
 use Rattle.std.specs.Prelude.{ℕ, ◌++◌}
 use Rattle.lvl_refusal.specs.Refused.{Says}
 use Rattle.lvl_refusal.proofs.Saying.{Says-map}
 use Rattle.lvl_flat.proofs.enter.draw_cell.Goals as goal
 
-told : (cells : List (PlainCell Rings)) (i : ℕ) (m : Map) (c : PlainCell Rings) → slice_get cells i ≡ Some c → (FitShapes m c.shapes → ⊥) → (fault : FlatFault) → TellsName c.name fault → IsEnterFault cells i m fault
+told : (cells : List (PlainCell Rings)) (i : ℕ) (m : Map) (c : PlainCell Rings) → slice_get cells i ≡ Some c
+    → (FitShapes m c.shapes → ⊥) → (fault : FlatFault) → TellsName c.name fault → IsEnterFault cells i m fault
 told cells i m c at out (OutOfRange name) tells = record { cell = c; there = at; named = sym tells; out = out }
 
 pub draw_shapes-requires-clause-layers : goal.draw_shapes-requires-clause-layers
 draw_shapes-requires-clause-layers c =
     let cell : PlainCell Rings = c.index-cells-place.result in
-    let at : slice_get c.args.cells.now c.args.place ≡ Some cell = slice_get_read c.args.cells.now (length c.args.cells.now) c.args.place cell refl c.requires.there c.index-cells-place.is in
+    let at : slice_get c.args.cells.now c.args.place ≡ Some cell =
+    slice_get_read c.args.cells.now (length c.args.cells.now) c.args.place cell refl c.requires.there
+    c.index-cells-place.is in
     let shapes : c.cell.inside.shapes ≡ cell.shapes = ap (λ (b : PlainCell Rings). b.shapes) c.cell.view_is in
     subst (HaveSheets c.args.sheets.now.items) (sym shapes) (c.requires.layers c.args.place cell at)
 
 pub returns-in-Ok-clause-drawn : goal.returns-in-Ok-clause-drawn
 returns-in-Ok-clause-drawn c =
     let cell : PlainCell Rings = c.index-cells-place.result in
-    let at : slice_get c.args.cells.now c.args.place ≡ Some cell = slice_get_read c.args.cells.now (length c.args.cells.now) c.args.place cell refl c.requires.there c.index-cells-place.is in
+    let at : slice_get c.args.cells.now c.args.place ≡ Some cell =
+    slice_get_read c.args.cells.now (length c.args.cells.now) c.args.place cell refl c.requires.there
+    c.index-cells-place.is in
     let shapes : c.cell.inside.shapes ≡ cell.shapes = ap (λ (b : PlainCell Rings). b.shapes) c.cell.view_is in
     record {
       cell = cell;
       there = at;
-      drawn = subst (λ hs. (layer : Layer) → rings_on layer c.draw_shapes.new.sheets.items ≡ rings_on layer c.args.sheets.now.items ++ drawn_on layer c.args.map.now hs) shapes c.in-Ok.ensures.drawn;
+      drawn =
+          subst
+          (λ hs. (layer : Layer)
+          → rings_on layer c.draw_shapes.new.sheets.items
+          ≡ rings_on layer c.args.sheets.now.items ++ drawn_on layer c.args.map.now hs) shapes
+          c.in-Ok.ensures.drawn;
       placed = subst (AreFiguresPlaced c.args.map.now) shapes c.in-Ok.ensures.placed;
       layers = c.in-Ok.ensures.layers_stay;
     }
@@ -39,9 +51,16 @@ returns-in-Ok-clause-drawn c =
 pub returns-in-Err-OutOfRange-clause-err : goal.returns-in-Err-OutOfRange-clause-err
 returns-in-Err-OutOfRange-clause-err c =
     let cell : PlainCell Rings = c.index-cells-place.result in
-    let at : slice_get c.args.cells.now c.args.place ≡ Some cell = slice_get_read c.args.cells.now (length c.args.cells.now) c.args.place cell refl c.requires.there c.index-cells-place.is in
+    let at : slice_get c.args.cells.now c.args.place ≡ Some cell =
+    slice_get_read c.args.cells.now (length c.args.cells.now) c.args.place cell refl c.requires.there
+    c.index-cells-place.is in
     let shapes : c.cell.inside.shapes ≡ cell.shapes = ap (λ (b : PlainCell Rings). b.shapes) c.cell.view_is in
-    let name : c.deref.result.now ≡ cell.name = c.deref.ensures.value ∙ ap (λ (b : PlainCell Rings). b.name) c.cell.view_is in
-    let tells : Says c.out_of_range.result (TellsName cell.name) = subst (λ n. Says c.out_of_range.result (TellsName n)) name c.out_of_range.ensures in
-    let out : FitShapes c.args.map.now cell.shapes → ⊥ = subst (λ hs. FitShapes c.args.map.now hs → ⊥) shapes (c.in-Err-OutOfRange.ensures.out (ap Err c.in-Err-OutOfRange.field-0-is)) in
-    Says-map (TellsName cell.name) _ c.out_of_range.result (told c.args.cells.now c.args.place c.args.map.now cell at out) tells
+    let name : c.deref.result.now ≡ cell.name =
+    c.deref.ensures.value ∙ ap (λ (b : PlainCell Rings). b.name) c.cell.view_is in
+    let tells : Says c.out_of_range.result (TellsName cell.name) =
+    subst (λ n. Says c.out_of_range.result (TellsName n)) name c.out_of_range.ensures in
+    let out : FitShapes c.args.map.now cell.shapes → ⊥ =
+    subst (λ hs. FitShapes c.args.map.now hs → ⊥) shapes
+    (c.in-Err-OutOfRange.ensures.out (ap Err c.in-Err-OutOfRange.field-0-is)) in
+    Says-map (TellsName cell.name) _ c.out_of_range.result
+    (told c.args.cells.now c.args.place c.args.map.now cell at out) tells

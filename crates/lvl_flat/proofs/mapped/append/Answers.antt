@@ -14,7 +14,11 @@ loop-i-preserved c =
     c.in_ok-push.ensures.ok
     ∙ (ap (λ rings. rings ++ c.ring.result.now ∷ []) c.loop-i.invariant
     ∙ (append_assoc c.args.rings.now (take i more) (c.ring.result.now ∷ [])
-    ∙ ap (λ rings. c.args.rings.now ++ rings) (ap (λ p. take i more ++ p ∷ []) c.ring.ensures.value ∙ sym (take_more more i [] there))))
+    ∙ ap (λ rings. c.args.rings.now ++ rings)
+    (ap (λ p. take i more ++ p ∷ []) c.ring.ensures.value ∙ sym (take_more more i [] there))))
 
 pub returns : goal.returns
-returns c = c.loop-i.invariant ∙ ap (λ rings. c.args.rings.now ++ rings) (take_all c.loop-i.i c.args.more (omega (arith, c.loop-i-test.false, c.len-i-end.ensures)))
+returns c =
+    c.loop-i.invariant
+    ∙ ap (λ rings. c.args.rings.now ++ rings)
+    (take_all c.loop-i.i c.args.more (omega (arith, c.loop-i-test.false, c.len-i-end.ensures)))

@@ -1,4 +1,5 @@
-use Rattle.std.proofs.Common.{◌≡◌, ◌+ℤ◌, slice_get, Some, get_or, sym, ap, subst, ◌∙◌, arith, Bool, to_z, of_z, w64, rules, FitsSigned}
+use Rattle.std.proofs.Common.{◌≡◌, ◌+ℤ◌, slice_get, Some, get_or, sym, ap, subst, ◌∙◌, arith, Bool, to_z, of_z, w64}
+use Rattle.std.proofs.Common.{rules, FitsSigned}
 use Rattle.std.proofs.lemmas.Int.{ints}
 use Rattle.std.proofs.lemmas.Option.{slice_get_within, get_or_from_slice_get}
 use Rattle.lvl_grid.specs.declared.point.Point.{Point}
@@ -12,21 +13,30 @@ pub returns-clause-some : goal.returns-clause-some
 returns-clause-some c =
     let e : Point = c.in_ok-shift.shift in
     let seen : slice_get c.shifts.result.now c.args.place ≡ Some e = sym c.at.ensures ∙ c.in_ok-shift.was in
-    let there : slice_get c.args.reference.now.shifts c.args.place ≡ Some e = subst (λ xs. slice_get xs c.args.place ≡ Some e) c.shifts.ensures.all seen in
-    let read : get_or c.args.reference.now.shifts c.args.place e ≡ e = get_or_from_slice_get c.args.reference.now.shifts c.args.place e e there in
-    let fits : FitsPoint (shifted c.args.reference.now.at e) = subst (λ (p : Point). FitsPoint (shifted c.args.reference.now.at p)) read (c.shifts.ensures.in_range c.args.place e (slice_get_within c.args.reference.now.shifts c.args.place e there)) in
+    let there : slice_get c.args.reference.now.shifts c.args.place ≡ Some e =
+    subst (λ xs. slice_get xs c.args.place ≡ Some e) c.shifts.ensures.all seen in
+    let read : get_or c.args.reference.now.shifts c.args.place e ≡ e =
+    get_or_from_slice_get c.args.reference.now.shifts c.args.place e e there in
+    let fits : FitsPoint (shifted c.args.reference.now.at e) =
+    subst (λ (p : Point). FitsPoint (shifted c.args.reference.now.at p)) read (c.shifts.ensures.in_range
+    c.args.place e (slice_get_within c.args.reference.now.shifts c.args.place e there)) in
     let of : Bool → Turn → Point → Map = λ f t p. record { flip = f; turn = t; at = p } in
     let near : FitsPoint (shifted c.at-at.result e) = subst (λ d. FitsPoint (shifted d e)) (sym c.at-at.ensures) fits in
     let ax : FitsSigned w64 c.at-at.result.x = search rules in
     let ay : FitsSigned w64 c.at-at.result.y = search rules in
     let ex : FitsSigned w64 e.x = search rules in
     let ey : FitsSigned w64 e.y = search rules in
-    let here : Point = record { x = to_z w64 (of_z w64 (to_z w64 (of_z w64 c.at-at.result.x) +ℤ to_z w64 (of_z w64 e.x))); y = to_z w64 (of_z w64 (to_z w64 (of_z w64 c.at-at.result.y) +ℤ to_z w64 (of_z w64 e.y))) } in
+    let here : Point = record {
+      x = to_z w64 (of_z w64 (to_z w64 (of_z w64 c.at-at.result.x) +ℤ to_z w64 (of_z w64 e.x)));
+      y = to_z w64 (of_z w64 (to_z w64 (of_z w64 c.at-at.result.y) +ℤ to_z w64 (of_z w64 e.y)));
+    } in
     record {
       shift = e;
       there = there;
       map_is =
           ap (λ f. of f c.turn.result here) c.flip.ensures
           ∙ (ap (λ t. of c.args.reference.now.flip t here) c.turn.ensures
-          ∙ ap (of c.args.reference.now.flip c.args.reference.now.turn) (same_point here (shifted c.at-at.result e) (omega (arith, ints, ax, ex, near.x_fits)) (omega (arith, ints, ay, ey, near.y_fits)) ∙ ap (λ d. shifted d e) c.at-at.ensures));
+          ∙ ap (of c.args.reference.now.flip c.args.reference.now.turn)
+          (same_point here (shifted c.at-at.result e) (omega (arith, ints, ax, ex, near.x_fits))
+          (omega (arith, ints, ay, ey, near.y_fits)) ∙ ap (λ d. shifted d e) c.at-at.ensures));
     }

@@ -11,5 +11,6 @@ invariant-loop-point l = record {
   room : l.start + length l.ring ≤ vec_capacity l.points;
   count : vec_len l.points ≡ l.start + l.point-index;
   images : l.points.items ≡ l.fn.points.items ++ map (placed_point l.by l.shift) (take l.point-index l.ring);
-  in_range : (k : ℕ) → (d : Point) → k < l.point-index → FitsPoint (placed_point l.by l.shift (slice_index_or l.ring k d));
+  in_range : (k : ℕ) → (d : Point) → k < l.point-index
+      → FitsPoint (placed_point l.by l.shift (slice_index_or l.ring k d));
 }

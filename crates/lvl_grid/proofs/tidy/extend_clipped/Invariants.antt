@@ -8,7 +8,8 @@ abbrev pub invariant-loop-point : goal.invariant-loop-point
 invariant-loop-point l = record {
   start : l.start ≡ length l.fn.points.items;
   kept : take l.start l.points.items ≡ l.fn.points.items;
-  winds : WindsAs (map (put l.part) l.ring) (drop l.start l.points.items ++ map (put l.part) (drop l.point-index l.ring));
+  winds : WindsAs (map (put l.part) l.ring)
+      (drop l.start l.points.items ++ map (put l.part) (drop l.point-index l.ring));
   from : l.start ≤ vec_len l.points;
   room : vec_len l.points + length l.ring ≤ vec_capacity l.points + l.point-index;
 }

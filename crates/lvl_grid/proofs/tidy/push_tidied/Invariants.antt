@@ -7,7 +7,8 @@ use Rattle.lvl_grid.proofs.tidy.push_tidied.Given as goal
 abbrev pub invariant-loop-points : goal.invariant-loop-points
 invariant-loop-points l = record {
   kept : take l.start l.points.items ≡ take l.start l.fn.points.items;
-  winds : (rest : List Point) → WindsAs (drop l.start l.fn.points.items ++ l.point ∷ rest) (drop l.start l.points.items ++ l.point ∷ rest);
+  winds : (rest : List Point)
+      → WindsAs (drop l.start l.fn.points.items ++ l.point ∷ rest) (drop l.start l.points.items ++ l.point ∷ rest);
   from : l.start ≤ vec_len l.points;
   len : vec_len l.points ≤ vec_len l.fn.points;
   capacity : vec_capacity l.points ≡ vec_capacity l.fn.points;

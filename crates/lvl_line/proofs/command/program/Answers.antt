@@ -38,7 +38,8 @@ bare_line = record plain_line { top = record plain_line.top { has_version = true
 pub returns : goal.returns
 unfolding versioned must
 returns c =
-    let compare_new : app_of c.about.result ≡ new_app (codes "compare") = ap app_of_fields c.about.ensures ∙ c.new.ensures.app in
+    let compare_new : app_of c.about.result ≡ new_app (codes "compare") =
+    ap app_of_fields c.about.ensures ∙ c.new.ensures.app in
     let first : app_of c.in_ok-arg.field-0 ≡ with_first =
     c.in_ok-arg.ensures.shape c.file.ensures.local ∙ ap₂ with_rule compare_new c.file.ensures.rule in
     let files : app_of c.in_ok-arg-2.field-0 ≡ with_files =
@@ -51,14 +52,16 @@ returns c =
     c.in_ok-arg-5.ensures.shape c.option-3.ensures.local ∙ ap₂ with_rule tops c.option-3.ensures.rule in
     let compare_is : app_of c.in_ok-compare.compare ≡ compare_app =
     c.in_ok-compare.ensures.shape c.option-4.ensures.local ∙ ap₂ with_rule layers c.option-4.ensures.rule in
-    let show_new : app_of c.about-2.result ≡ new_app (codes "show") = ap app_of_fields c.about-2.ensures ∙ c.new-2.ensures.app in
+    let show_new : app_of c.about-2.result ≡ new_app (codes "show") =
+    ap app_of_fields c.about-2.ensures ∙ c.new-2.ensures.app in
     let shown_file : app_of c.in_ok-arg-6.field-0 ≡ with_rule (new_app (codes "show")) (file_rule (codes "A")) =
     c.in_ok-arg-6.ensures.shape c.file-3.ensures.local ∙ ap₂ with_rule show_new c.file-3.ensures.rule in
     let show_is : app_of c.in_ok-show.show ≡ show_app =
     c.in_ok-show.ensures.shape c.option-5.ensures.local ∙ ap₂ with_rule shown_file c.option-5.ensures.rule in
     let line_new : app_of c.subcommand_required.result ≡ bare_line =
     ap app_of_fields c.subcommand_required.ensures
-    ∙ ap must (ap app_of_fields c.about-3.ensures ∙ ap app_of_fields c.version.ensures ∙ ap versioned c.new-3.ensures.app) in
+    ∙ ap must
+    (ap app_of_fields c.about-3.ensures ∙ ap app_of_fields c.version.ensures ∙ ap versioned c.new-3.ensures.app) in
     let compared : app_of c.in_ok-subcommand.field-0 ≡ with_subcommand bare_line compare_app.top =
     c.in_ok-subcommand.ensures.shape
     (is_false _ (both _ _ (both _ _ (both _ _ (ap (λ (a : App). a.top.is_plain) compare_is)).1).1).0)

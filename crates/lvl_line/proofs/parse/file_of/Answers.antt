@@ -8,7 +8,8 @@ use Rattle.lvl_line.proofs.parse.file_of.Goals as goal
 pub unreachable-requires : goal.unreachable-requires
 unreachable-requires c =
     let none = c.in_default.ensures in
-    let is : None ≡ first_of c.args.id.now (rows_of (found_of c.args.matches.now)) = none ∙ first_value-rows (found_of c.args.matches.now) c.args.id.now in
+    let is : None ≡ first_of c.args.id.now (rows_of (found_of c.args.matches.now)) =
+    none ∙ first_value-rows (found_of c.args.matches.now) c.args.id.now in
     let bad = rw (← is) at c.requires in
     cc
 

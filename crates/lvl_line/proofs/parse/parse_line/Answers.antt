@@ -13,8 +13,10 @@ pub returns-in-Err-clause-refused : goal.returns-in-Err-clause-refused
 returns-in-Err-clause-refused c =
     let words : List Text = map (λ s. s.now) c.args.words.now in
     let app_is : app_of c.in-Ok.command ≡ line = c.in-Ok.ensures in
-    let kinds : HasKind (fault_of (app_of c.in-Ok.command) words) c.in-Err.error = c.in-Err.ensures.kinds (ap is_simple_and_free app_is) in
-    let here : HasKind (fault_of line words) c.in-Err.error = subst (λ (a : App). HasKind (fault_of a words) c.in-Err.error) app_is kinds in
+    let kinds : HasKind (fault_of (app_of c.in-Ok.command) words) c.in-Err.error =
+    c.in-Err.ensures.kinds (ap is_simple_and_free app_is) in
+    let here : HasKind (fault_of line words) c.in-Err.error =
+    subst (λ (a : App). HasKind (fault_of a words) c.in-Err.error) app_is kinds in
     elim c.refused.ensures [
       | inl memory ↦ subst (IsRefusal words) (sym memory) (tt {0})
       | inr other ↦ subst (IsRefusal words) (sym other.1) (elim here [ inl m ↦ absurd (other.0 m) | inr among ↦ among ])
@@ -33,9 +35,13 @@ pub job_of-requires : goal.job_of-requires
 job_of-requires c =
     let words : List Text = map (λ s. s.now) c.args.words.now in
     let app_is : app_of c.in-Ok.command ≡ line = c.in-Ok.ensures in
-    let kinds : fault_of line words ≡ [] = ap (λ (a : App). fault_of a words) (sym app_is) ∙ c.in-Ok-try_get_matches_from.ensures.kinds (ap is_simple_and_free app_is) in
+    let kinds : fault_of line words ≡ [] =
+    ap (λ (a : App). fault_of a words) (sym app_is)
+    ∙ c.in-Ok-try_get_matches_from.ensures.kinds (ap is_simple_and_free app_is) in
     let found : subcommand_rows_of c.in-Ok-try_get_matches_from.matches ≡ subcommand_of line words =
-    (c.in-Ok-try_get_matches_from.ensures.matches (ap is_simple app_is)).1 ∙ ap (λ (a : App). subcommand_of a words) app_is in
-    let both : subcommand_rows_of c.in-Ok-try_get_matches_from.matches ≡ Some (c.in-Some.name.now, rows_of (found_of c.in-Some.matches.now)) =
+    (c.in-Ok-try_get_matches_from.ensures.matches (ap is_simple app_is)).1
+    ∙ ap (λ (a : App). subcommand_of a words) app_is in
+    let both : subcommand_rows_of c.in-Ok-try_get_matches_from.matches
+    ≡ Some (c.in-Some.name.now, rows_of (found_of c.in-Some.matches.now)) =
     pair_of _ _ _ _ _ c.in-Some.ensures.name c.in-Some.ensures.rows in
     line_gives words c.in-Some.name.now (rows_of (found_of c.in-Some.matches.now)) kinds (sym found ∙ both)

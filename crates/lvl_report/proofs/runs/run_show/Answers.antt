@@ -7,12 +7,24 @@ pub returns-clause-written : goal.returns-clause-written
 returns-clause-written g c =
     let found = c.show_file-answer.ensures in
     was_written _ text_of_shown shown_status _ _ c.show_file-answer.result c.tell_shown.result
-    (record { shown = found.shown; refused = found.refused; early = found.early; side = found.side; reads = found.reads })
+    (record {
+      shown = found.shown;
+      refused = found.refused;
+      early = found.early;
+      side = found.side;
+      reads = found.reads;
+    })
     c.tell_shown.ensures.whole c.tell_shown.ensures.status
 
 pub returns-clause-begun : goal.returns-clause-begun
 returns-clause-begun g c =
     let found = c.show_file-answer.ensures in
     was_begun _ text_of_shown _ _ c.show_file-answer.result c.tell_shown.result
-    (record { shown = found.shown; refused = found.refused; early = found.early; side = found.side; reads = found.reads })
+    (record {
+      shown = found.shown;
+      refused = found.refused;
+      early = found.early;
+      side = found.side;
+      reads = found.reads;
+    })
     c.tell_shown.ensures.begun

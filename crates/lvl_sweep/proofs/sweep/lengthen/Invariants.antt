@@ -1,7 +1,7 @@
 use Rattle.std.proofs.Common.{◌≡◌}
 use Rattle.lvl_sweep.specs.Alive.{HasSame}
-use Rattle.lvl_sweep.specs.Strips.{IsAt, left}
-use Rattle.lvl_sweep.specs.Sweeps.{IsHeld}
+use Rattle.lvl_sweep.specs.inside.Strips.{IsAt, left}
+use Rattle.lvl_sweep.specs.inside.Sweeps.{IsHeld}
 use Rattle.lvl_sweep.proofs.sweep.lengthen.Given as goal
 
 -- the strips passed have the band's intervals

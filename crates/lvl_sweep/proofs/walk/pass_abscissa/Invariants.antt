@@ -1,6 +1,6 @@
 use Rattle.std.proofs.Common.{◌≡◌, ℕ, ◌-◌, ◌<◌, ◌≤◌, length, get_or}
 use Rattle.lvl_sweep.specs.declared.edge.Edge.{Edge}
-use Rattle.lvl_sweep.specs.Walks.{HasPassed}
+use Rattle.lvl_sweep.specs.inside.Walks.{HasPassed}
 use Rattle.lvl_sweep.proofs.walk.pass_abscissa.Given as goal
 
 -- the edges passed stand at x

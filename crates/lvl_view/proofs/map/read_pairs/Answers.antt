@@ -1,4 +1,5 @@
-use Rattle.std.proofs.Common.{◌≡◌, ◌<◌, ◌+◌, ℕ, List, take, get_or, arith, sym, ap, subst, ◌∙◌, Bor, map, length, [], ◌==◌}
+use Rattle.std.proofs.Common.{◌≡◌, ◌<◌, ◌+◌, ℕ, List, take, get_or, arith, sym, ap, subst, ◌∙◌, Bor, map, length, []}
+use Rattle.std.proofs.Common.{◌==◌}
 use Rattle.lvl_view.specs.Texts.{IsPairText, IsOnly}
 use Rattle.lvl_view.specs.inside.Reading.{IsAlone}
 use Rattle.lvl_view.specs.declared.map.LayerPair.{LayerPair}
@@ -12,7 +13,10 @@ returns-in_default-clause-err c =
     let parts : List (Bor (List ℕ)) = c.deref-part-items.result.now in
     let part : Bor (List ℕ) = get_or parts c.loop-part.part-index (record { ref_ptr = (0, 0); now = [] }) in
     let within : c.loop-part.part-index < length parts = c.loop-part-test.true in
-    part_none IsPairText (Bor (List ℕ)) (λ p. p.now) parts (slice_split (λ b. b == 44) c.args.text.now) (ap (λ (l : List (Bor (List ℕ))). map (λ p. p.now) l) c.deref-part-items.ensures.value ∙ c.in_ok-parts.ensures) c.loop-part.part-index part within (read_at parts c.loop-part.part-index (record { ref_ptr = (0, 0); now = [] }) within)
+    part_none IsPairText (Bor (List ℕ)) (λ p. p.now) parts (slice_split (λ b. b == 44) c.args.text.now)
+    (ap (λ (l : List (Bor (List ℕ))). map (λ p. p.now) l) c.deref-part-items.ensures.value ∙ c.in_ok-parts.ensures)
+    c.loop-part.part-index part within
+    (read_at parts c.loop-part.part-index (record { ref_ptr = (0, 0); now = [] }) within)
     (none_only (IsPairText part.now) c.in_default.ensures)
 
 pub loop-part-preserved : goal.loop-part-preserved
@@ -20,9 +24,17 @@ loop-part-preserved c =
     let parts : List (Bor (List ℕ)) = c.deref-part-items.result.now in
     let part : Bor (List ℕ) = get_or parts c.loop-part.part-index (record { ref_ptr = (0, 0); now = [] }) in
     let within : c.loop-part.part-index < length parts = c.loop-part-test.true in
-    subst (λ (ps : List LayerPair). IsAlone (AllZip IsPairText (map (λ p. p.now) (take (c.loop-part.part-index + 1) parts))) ps) (sym c.in_ok-push.ensures.items)
-    (parts_more IsPairText (Bor (List ℕ)) (λ p. p.now) parts c.loop-part.pairs.items c.loop-part.part-index part c.in-Some.pair within (read_at parts c.loop-part.part-index (record { ref_ptr = (0, 0); now = [] }) within) c.loop-part.invariant c.in-Some.ensures)
+    subst
+    (λ (ps : List LayerPair).
+    IsAlone (AllZip IsPairText (map (λ p. p.now) (take (c.loop-part.part-index + 1) parts))) ps)
+    (sym c.in_ok-push.ensures.items)
+    (parts_more IsPairText (Bor (List ℕ)) (λ p. p.now) parts c.loop-part.pairs.items c.loop-part.part-index part
+    c.in-Some.pair within (read_at parts c.loop-part.part-index (record { ref_ptr = (0, 0); now = [] }) within)
+    c.loop-part.invariant c.in-Some.ensures)
 
 pub returns-clause-ok : goal.returns-clause-ok
 returns-clause-ok c =
-    parts_all IsPairText (Bor (List ℕ)) (λ p. p.now) c.deref-part-items.result.now (slice_split (λ b. b == 44) c.args.text.now) (ap (λ (l : List (Bor (List ℕ))). map (λ p. p.now) l) c.deref-part-items.ensures.value ∙ c.in_ok-parts.ensures) c.loop-part.pairs.items c.loop-part.part-index c.loop-part-test.false c.loop-part.invariant
+    parts_all IsPairText (Bor (List ℕ)) (λ p. p.now) c.deref-part-items.result.now
+    (slice_split (λ b. b == 44) c.args.text.now)
+    (ap (λ (l : List (Bor (List ℕ))). map (λ p. p.now) l) c.deref-part-items.ensures.value ∙ c.in_ok-parts.ensures)
+    c.loop-part.pairs.items c.loop-part.part-index c.loop-part-test.false c.loop-part.invariant

@@ -7,4 +7,5 @@ use Rattle.lvl_view.proofs.view.targets_of.Given as goal
 
 -- the map has the targets of the pairs so far, of which no two have one source
 abbrev pub invariant-loop-pair : goal.invariant-loop-pair
-invariant-loop-pair l = AreTargets (take l.pair-index l.pairs) l.targets × IsDistinct same_layer (sources (take l.pair-index l.pairs))
+invariant-loop-pair l =
+    AreTargets (take l.pair-index l.pairs) l.targets × IsDistinct same_layer (sources (take l.pair-index l.pairs))

@@ -3,8 +3,6 @@ use Rattle.oasis_values.specs.Numbers.{Continues}
 use Rattle.oasis_values.proofs.Integers.{next_fits, next_unit, more_groups, more_continues, whole_front}
 use Rattle.oasis_values.proofs.Integers.{too_large_front}
 use Rattle.oasis_values.proofs.integer.scan_integer.Goals as goal
-use Rattle.oasis_values.proofs.integer.scan_integer.Goals.{else-at-eq-MOST_BYTES-via-then-at-eq-MOST_BYTES+else-byte-gt1}
-use Rattle.oasis_values.proofs.integer.scan_integer.Goals.{else-at-eq-MOST_BYTES-via-else-at-eq-MOST_BYTES}
 
 pub returns-then-byte-gt1 : goal.returns-then-byte-gt1
 returns-then-byte-gt1 c =
@@ -17,8 +15,8 @@ pub overflow_add-value : goal.overflow_add-value
 overflow_add-value c =
     let tenth : c.loop-at.at ≡ 9 → get_or c.args.bytes.now c.loop-at.at 0 ≤ 1 =
     λ e. elim c.else-at-eq-MOST_BYTES.branch [
-      | else-at-eq-MOST_BYTES-via-then-at-eq-MOST_BYTES+else-byte-gt1 w ↦ omega arith
-      | else-at-eq-MOST_BYTES-via-else-at-eq-MOST_BYTES w ↦ absurd (omega arith)
+      | goal.else-at-eq-MOST_BYTES-via-then-at-eq-MOST_BYTES+else-byte-gt1 w ↦ omega arith
+      | goal.else-at-eq-MOST_BYTES-via-else-at-eq-MOST_BYTES w ↦ absurd (omega arith)
     ] in
     let fits = next_fits c.args.bytes.now c.loop-at.at c.loop-at.value c.loop-at.unit c.from-digit.result
     c.loop-at-test.true c.loop-at.invariant.0 tenth c.loop-at.invariant.2 c.loop-at.invariant.3
@@ -29,8 +27,8 @@ pub returns-then-byte-lt-CONTINUES : goal.returns-then-byte-lt-CONTINUES
 returns-then-byte-lt-CONTINUES c =
     let tenth : c.loop-at.at ≡ 9 → get_or c.args.bytes.now c.loop-at.at 0 ≤ 1 =
     λ e. elim c.else-at-eq-MOST_BYTES.branch [
-      | else-at-eq-MOST_BYTES-via-then-at-eq-MOST_BYTES+else-byte-gt1 w ↦ omega arith
-      | else-at-eq-MOST_BYTES-via-else-at-eq-MOST_BYTES w ↦ absurd (omega arith)
+      | goal.else-at-eq-MOST_BYTES-via-then-at-eq-MOST_BYTES+else-byte-gt1 w ↦ omega arith
+      | goal.else-at-eq-MOST_BYTES-via-else-at-eq-MOST_BYTES w ↦ absurd (omega arith)
     ] in
     let fits = next_fits c.args.bytes.now c.loop-at.at c.loop-at.value c.loop-at.unit c.from-digit.result
     c.loop-at-test.true c.loop-at.invariant.0 tenth c.loop-at.invariant.2 c.loop-at.invariant.3
@@ -43,8 +41,8 @@ returns-then-byte-lt-CONTINUES c =
 pub loop-at-preserved : goal.loop-at-preserved
 loop-at-preserved c =
     let low : c.loop-at.at ≤ 8 = elim c.else-at-eq-MOST_BYTES.branch [
-      | else-at-eq-MOST_BYTES-via-then-at-eq-MOST_BYTES+else-byte-gt1 w ↦ omega arith
-      | else-at-eq-MOST_BYTES-via-else-at-eq-MOST_BYTES w ↦ omega arith
+      | goal.else-at-eq-MOST_BYTES-via-then-at-eq-MOST_BYTES+else-byte-gt1 w ↦ omega arith
+      | goal.else-at-eq-MOST_BYTES-via-else-at-eq-MOST_BYTES w ↦ omega arith
     ] in (
       omega arith,
       more_continues c.args.bytes.now c.loop-at.at c.loop-at-test.true c.loop-at.invariant.1 (omega arith),

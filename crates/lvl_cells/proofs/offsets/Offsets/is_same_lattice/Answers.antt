@@ -10,8 +10,10 @@ returns-then-eq-2 c =
     elim c.if-m-p.branch [
       | then-m-p w ↦ elim c.if-eq.branch [
         | then-eq v ↦ λ h.
-            same_lattice c.self.inside.kept c.other.inside.kept k.a k.m k.b k.n k.c k.p k.d k.q c.eq.result w.eq-then-m-p.result c.args.self.now c.args.other.now
-            k.is-0 k.is-1 c.self.view_is c.other.view_is c.eq.ensures v.if-eq.true ((Decides-eqb k.m k.p).0 (sym v.value-is ∙ w.if-m-p.true))
+            same_lattice c.self.inside.kept c.other.inside.kept k.a k.m k.b k.n k.c k.p k.d k.q c.eq.result
+            w.eq-then-m-p.result c.args.self.now c.args.other.now
+            k.is-0 k.is-1 c.self.view_is c.other.view_is c.eq.ensures v.if-eq.true
+            ((Decides-eqb k.m k.p).0 (sym v.value-is ∙ w.if-m-p.true))
             w.eq-then-m-p.ensures (sym w.value-is ∙ c.if-eq-2.true) ((Decides-eqb k.n k.q).0 h)
         | else-eq v ↦ λ h. cc
       ]

@@ -8,4 +8,5 @@ index-requires c =
     omega (arith, there, c.self.inside.spans.ok.0)
 
 pub returns : goal.returns
-returns c = (span_read _ _ _ _ c.args.i c.index.result.now c.self.invariant c.self.view_is c.requires c.index.ensures).layer
+returns c =
+    (span_read _ _ _ _ c.args.i c.index.result.now c.self.invariant c.self.view_is c.requires c.index.ensures).layer

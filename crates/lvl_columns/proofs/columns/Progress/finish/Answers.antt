@@ -17,6 +17,8 @@ loop-column-preserved c = λ whole others told.
 pub returns-clause-told : goal.returns-clause-told
 returns-clause-told c = λ whole others told.
     let none : c.loop-column.self.pending.items ≡ [] =
-    nil_from_length c.loop-column.self.pending.items (omega (arith, c.in_default.ensures.cases, c.loop-column.self.pending.ok.0)) in
+    nil_from_length c.loop-column.self.pending.items
+    (omega (arith, c.in_default.ensures.cases, c.loop-column.self.pending.ok.0)) in
     subst (λ (ls : List Lists). IsOpen whole ls c.loop-column.self.best)
-    (ap (λ (cs : List Column). others ++ map lists_of cs) none ∙ append-nil others) (c.loop-column.invariant whole others told)
+    (ap (λ (cs : List Column). others ++ map lists_of cs) none ∙ append-nil others) (c.loop-column.invariant whole
+    others told)

@@ -14,6 +14,7 @@ returns-clause-told c =
       column = lists_of column;
       is_part = λ s. (c.in_ok-clipped.ensures s, c.in_ok-clipped-2.ensures s);
       told = λ whole others told. h whole others
-          (subst (λ (cs : List Column). IsOpen whole (others ++ map lists_of cs) c.args.self.now.best) (sym pushed) told);
+          (subst (λ (cs : List Column). IsOpen whole (others ++ map lists_of cs) c.args.self.now.best) (sym pushed)
+          told);
     })
     c.finish.ensures.told

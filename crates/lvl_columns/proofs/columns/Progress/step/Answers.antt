@@ -6,7 +6,8 @@ use Rattle.lvl_columns.proofs.columns.Progress.step.Goals as goal
 
 pub returns-then-is_same-clause-told : goal.returns-then-is_same-clause-told
 returns-then-is_same-clause-told c = λ whole others told.
-    open_by_none whole (others ++ map lists_of c.args.self.now.pending.items) c.args.column.first c.args.column.second c.args.self.now.best
+    open_by_none whole (others ++ map lists_of c.args.self.now.pending.items) c.args.column.first c.args.column.second
+    c.args.self.now.best
     (c.if-is_same.ensures cc) told
 
 pub returns-in-Some-clause-told : goal.returns-in-Some-clause-told
@@ -14,8 +15,11 @@ returns-in-Some-clause-told c = λ whole others told.
     let left : Column = c.in_ok-left.left in
     let right : Column = c.in_ok-left.right in
     let old : List Column = c.args.self.now.pending.items in
-    let items : others ++ map lists_of c.cut.new.self.pending.items ≡ ((others ++ map lists_of old) ++ lists_of right ∷ []) ++ lists_of left ∷ [] =
+    let items : others ++ map lists_of c.cut.new.self.pending.items
+    ≡ ((others ++ map lists_of old) ++ lists_of right ∷ []) ++ lists_of left ∷ [] =
     ap (λ (cs : List Column). others ++ map lists_of cs) c.in_ok-cut.ensures.pending
-    ∙ one_more others (old ++ right ∷ []) left ∙ ap (λ (ls : List Lists). ls ++ lists_of left ∷ []) (one_more others old right) in
+    ∙ one_more others (old ++ right ∷ []) left
+    ∙ ap (λ (ls : List Lists). ls ++ lists_of left ∷ []) (one_more others old right) in
     rw (items, c.in_ok-cut.ensures.best)
-    (open_by_halves whole (others ++ map lists_of old) c.args.column.first c.args.column.second left right _ c.args.self.now.best c.in_ok-left.ensures told)
+    (open_by_halves whole (others ++ map lists_of old) c.args.column.first c.args.column.second left right _
+    c.args.self.now.best c.in_ok-left.ensures told)

@@ -8,6 +8,8 @@ returns-clause-told c = λ whole others told.
     let f = c.args.first.now in
     let g = c.args.second.now in
     let best = c.args.self.now.best in
-    open_by_one whole (others ++ map lists_of c.args.self.now.pending.items) (f, g) best c.in_ok-found.found c.lesser-self.result
-    (found_up_to f g best c.in_ok-found.found (rw c.row_of.ensures at c.in_ok-found.ensures.same) c.in_ok-found.ensures.differ c.in_ok-found.ensures.least)
+    open_by_one whole (others ++ map lists_of c.args.self.now.pending.items) (f, g) best c.in_ok-found.found
+    c.lesser-self.result
+    (found_up_to f g best c.in_ok-found.found (rw c.row_of.ensures at c.in_ok-found.ensures.same)
+    c.in_ok-found.ensures.differ c.in_ok-found.ensures.least)
     c.lesser-self.ensures.one c.lesser-self.ensures.bound told

@@ -17,19 +17,35 @@ at_least a b m p h k l w = omega (arith, ints)
 pub returns-clause-first : goal.returns-clause-first
 returns-clause-first c = record {
   holds = λ p w. record {
-    left = at_most c.args.self.low.x c.args.other.low.x c.min.result p.x (search rules) (search rules) c.min.ensures.self_bound w.left;
-    right = at_least c.args.self.high.x c.args.other.high.x c.max.result p.x (search rules) (search rules) c.max.ensures.self_bound w.right;
-    below = at_most c.args.self.low.y c.args.other.low.y c.min-2.result p.y (search rules) (search rules) c.min-2.ensures.self_bound w.below;
-    above = at_least c.args.self.high.y c.args.other.high.y c.max-2.result p.y (search rules) (search rules) c.max-2.ensures.self_bound w.above;
+    left =
+        at_most c.args.self.low.x c.args.other.low.x c.min.result p.x (search rules) (search rules)
+        c.min.ensures.self_bound w.left;
+    right =
+        at_least c.args.self.high.x c.args.other.high.x c.max.result p.x (search rules) (search rules)
+        c.max.ensures.self_bound w.right;
+    below =
+        at_most c.args.self.low.y c.args.other.low.y c.min-2.result p.y (search rules) (search rules)
+        c.min-2.ensures.self_bound w.below;
+    above =
+        at_least c.args.self.high.y c.args.other.high.y c.max-2.result p.y (search rules) (search rules)
+        c.max-2.ensures.self_bound w.above;
   };
 }
 
 pub returns-clause-second : goal.returns-clause-second
 returns-clause-second c = record {
   holds = λ p w. record {
-    left = at_most c.args.other.low.x c.args.self.low.x c.min.result p.x (search rules) (search rules) c.min.ensures.other_bound w.left;
-    right = at_least c.args.other.high.x c.args.self.high.x c.max.result p.x (search rules) (search rules) c.max.ensures.other_bound w.right;
-    below = at_most c.args.other.low.y c.args.self.low.y c.min-2.result p.y (search rules) (search rules) c.min-2.ensures.other_bound w.below;
-    above = at_least c.args.other.high.y c.args.self.high.y c.max-2.result p.y (search rules) (search rules) c.max-2.ensures.other_bound w.above;
+    left =
+        at_most c.args.other.low.x c.args.self.low.x c.min.result p.x (search rules) (search rules)
+        c.min.ensures.other_bound w.left;
+    right =
+        at_least c.args.other.high.x c.args.self.high.x c.max.result p.x (search rules) (search rules)
+        c.max.ensures.other_bound w.right;
+    below =
+        at_most c.args.other.low.y c.args.self.low.y c.min-2.result p.y (search rules) (search rules)
+        c.min-2.ensures.other_bound w.below;
+    above =
+        at_least c.args.other.high.y c.args.self.high.y c.max-2.result p.y (search rules) (search rules)
+        c.max-2.ensures.other_bound w.above;
   };
 }

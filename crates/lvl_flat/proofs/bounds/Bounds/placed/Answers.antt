@@ -7,7 +7,9 @@ use Rattle.lvl_flat.proofs.bounds.Bounds.placed.Goals as goal
 pub returns : goal.returns
 returns c = λ p w.
     let low : IsWithin c.joined.result (image c.args.map.now c.args.self.low) =
-    subst (IsWithin c.joined.result) c.in_ok-low.ensures.1 (c.joined.ensures.first.holds c.in_ok-low.low c.around.ensures) in
+    subst (IsWithin c.joined.result) c.in_ok-low.ensures.1
+    (c.joined.ensures.first.holds c.in_ok-low.low c.around.ensures) in
     let high : IsWithin c.joined.result (image c.args.map.now c.args.self.high) =
-    subst (IsWithin c.joined.result) c.in_ok-high.ensures.1 (c.joined.ensures.second.holds c.in_ok-high.high c.around-2.ensures) in
+    subst (IsWithin c.joined.result) c.in_ok-high.ensures.1
+    (c.joined.ensures.second.holds c.in_ok-high.high c.around-2.ensures) in
     placed_within c.args.map.now c.args.self c.joined.result p low high w

@@ -1,4 +1,5 @@
-use Rattle.std.proofs.Common.{◌≡◌, ◌++◌, ◌==◌, ◌↔◌, Bool, IsTrue, [], ◌∷◌, length, true, false, not, filter, refl, ap, sym, subst, ◌∙◌, arith}
+use Rattle.std.proofs.Common.{◌≡◌, ◌++◌, ◌==◌, ◌↔◌, Bool, IsTrue, [], ◌∷◌, length, true, false, not, filter, refl, ap}
+use Rattle.std.proofs.Common.{sym, subst, ◌∙◌, arith}
 use Rattle.lvl_cells.specs.Cells.{Rings}
 use Rattle.std.proofs.lemmas.List.{append-nil, nil_from_length}
 use Rattle.lvl_flat.specs.Sheet.{PlainSheet}
@@ -21,24 +22,45 @@ loop-sheet-init c = (c.new-filled.ensures.items, c.into_iter-sheet-iterator.ensu
 
 pub loop-sheet-preserved-in-Continue-1 : goal.loop-sheet-preserved-in-Continue-1
 loop-sheet-preserved-in-Continue-1 c =
-    let long : (length c.in-Some.sheet.rings == 0) ≡ not true = ap (λ (s : PlainSheet). length s.rings == 0) (sym c.sheet.view_is) ∙ (empty_is c.sheet.inside.rings c.is_empty.result c.is_empty.ensures ∙ c.if-not-is_empty.true) in
-    let so = filled_step c.loop-sheet.yielded c.loop-sheet.filled.items c.args.sheets.items c.loop-sheet.sheet-iterator.rest.items c.next.new.self.rest.items c.in-Some.sheet true long c.loop-sheet.invariant c.in-Some.ensures.steps.0 in
+    let long : (length c.in-Some.sheet.rings == 0) ≡ not true =
+    ap (λ (s : PlainSheet). length s.rings == 0) (sym c.sheet.view_is)
+    ∙ (empty_is c.sheet.inside.rings c.is_empty.result c.is_empty.ensures ∙ c.if-not-is_empty.true) in
+    let so =
+    filled_step c.loop-sheet.yielded c.loop-sheet.filled.items c.args.sheets.items
+    c.loop-sheet.sheet-iterator.rest.items c.next.new.self.rest.items c.in-Some.sheet true long
+    c.loop-sheet.invariant c.in-Some.ensures.steps.0 in
     (c.in_ok-push.ensures.items ∙ so.0, so.1)
 
 pub loop-sheet-preserved : goal.loop-sheet-preserved
 loop-sheet-preserved c =
-    let long : (length c.in-Some.sheet.rings == 0) ≡ not false = ap (λ (s : PlainSheet). length s.rings == 0) (sym c.sheet.view_is) ∙ (empty_is c.sheet.inside.rings c.is_empty.result c.is_empty.ensures ∙ c.if-not-is_empty.false) in
-    let so = filled_step c.loop-sheet.yielded c.loop-sheet.filled.items c.args.sheets.items c.loop-sheet.sheet-iterator.rest.items c.next.new.self.rest.items c.in-Some.sheet false long c.loop-sheet.invariant c.in-Some.ensures.steps.0 in
+    let long : (length c.in-Some.sheet.rings == 0) ≡ not false =
+    ap (λ (s : PlainSheet). length s.rings == 0) (sym c.sheet.view_is)
+    ∙ (empty_is c.sheet.inside.rings c.is_empty.result c.is_empty.ensures ∙ c.if-not-is_empty.false) in
+    let so =
+    filled_step c.loop-sheet.yielded c.loop-sheet.filled.items c.args.sheets.items
+    c.loop-sheet.sheet-iterator.rest.items c.next.new.self.rest.items c.in-Some.sheet false long
+    c.loop-sheet.invariant c.in-Some.ensures.steps.0 in
     (sym (append-nil c.loop-sheet.filled.items) ∙ so.0, so.1)
 
 pub invariant_of-result : goal.invariant_of-result
 invariant_of-result c =
-    let none = nil_from_length c.loop-sheet.sheet-iterator.rest.items (sym c.loop-sheet.sheet-iterator.rest.ok.0 ∙ c.in-None.ensures.steps.0) in
-    let all : c.loop-sheet.yielded ≡ c.args.sheets.items = sym (append-nil c.loop-sheet.yielded) ∙ (ap (λ r. c.loop-sheet.yielded ++ r) (sym none) ∙ c.loop-sheet.invariant.1) in
-    (subst IsInOrder (sym (c.loop-sheet.invariant.0 ∙ ap (filter is_filled) all)) (filled_in_order c.args.sheets.items c.requires), c.new.ensures)
+    let none =
+    nil_from_length c.loop-sheet.sheet-iterator.rest.items
+    (sym c.loop-sheet.sheet-iterator.rest.ok.0 ∙ c.in-None.ensures.steps.0) in
+    let all : c.loop-sheet.yielded ≡ c.args.sheets.items =
+    sym (append-nil c.loop-sheet.yielded)
+    ∙ (ap (λ r. c.loop-sheet.yielded ++ r) (sym none) ∙ c.loop-sheet.invariant.1) in (
+      subst IsInOrder (sym (c.loop-sheet.invariant.0 ∙ ap (filter is_filled) all))
+          (filled_in_order c.args.sheets.items c.requires),
+      c.new.ensures,
+    )
 
 pub returns : goal.returns
 returns c =
-    let none = nil_from_length c.loop-sheet.sheet-iterator.rest.items (sym c.loop-sheet.sheet-iterator.rest.ok.0 ∙ c.in-None.ensures.steps.0) in
-    let all : c.loop-sheet.yielded ≡ c.args.sheets.items = sym (append-nil c.loop-sheet.yielded) ∙ (ap (λ r. c.loop-sheet.yielded ++ r) (sym none) ∙ c.loop-sheet.invariant.1) in
+    let none =
+    nil_from_length c.loop-sheet.sheet-iterator.rest.items
+    (sym c.loop-sheet.sheet-iterator.rest.ok.0 ∙ c.in-None.ensures.steps.0) in
+    let all : c.loop-sheet.yielded ≡ c.args.sheets.items =
+    sym (append-nil c.loop-sheet.yielded)
+    ∙ (ap (λ r. c.loop-sheet.yielded ++ r) (sym none) ∙ c.loop-sheet.invariant.1) in
     c.loop-sheet.invariant.0 ∙ ap (filter is_filled) all

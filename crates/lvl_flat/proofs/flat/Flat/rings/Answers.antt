@@ -11,10 +11,17 @@ returns-in-Some c =
     let sheets : c.deref.result.now ≡ c.args.self.now = c.deref.ensures.value ∙ c.self.view_is in
     let sorted : AreSorted c.deref.result.now = subst AreSorted (sym c.deref.ensures.value) c.self.invariant.0.sorted in
     let sheet : c.index-sheet.result.now ≡ found.sheet =
-    c.index-sheet.ensures ∙ (ap (λ xs. get_or xs c.in-Some.place c.index-sheet.result.now) (sym c.deref.ensures.value) ∙ get_or_from_slice_get c.deref.result.now c.in-Some.place found.sheet c.index-sheet.result.now found.there) in
-    (ap (λ (s : PlainSheet). s.rings) (c.sheet.view_is ∙ sheet) ∙ (sym (rings_where c.deref.result.now c.args.layer c.in-Some.place found.sheet sorted found.there found.layer_is) ∙ ap (λ xs. rings_on c.args.layer xs) sheets))
+    c.index-sheet.ensures
+    ∙ (ap (λ xs. get_or xs c.in-Some.place c.index-sheet.result.now) (sym c.deref.ensures.value)
+    ∙ get_or_from_slice_get c.deref.result.now c.in-Some.place found.sheet c.index-sheet.result.now found.there)
+    in
+    (ap (λ (s : PlainSheet). s.rings) (c.sheet.view_is ∙ sheet)
+    ∙ (sym (rings_where c.deref.result.now c.args.layer c.in-Some.place found.sheet sorted found.there
+    found.layer_is) ∙ ap (λ xs. rings_on c.args.layer xs) sheets))
 
 pub returns-in-None : goal.returns-in-None
 returns-in-None c =
     let sheets : c.deref.result.now ≡ c.args.self.now = c.deref.ensures.value ∙ c.self.view_is in
-    c.self.invariant.1 ∙ sym (ap (λ xs. rings_on c.args.layer xs) (sym sheets) ∙ rings_nowhere c.deref.result.now c.args.layer c.in-None.ensures.absent)
+    c.self.invariant.1
+    ∙ sym (ap (λ xs. rings_on c.args.layer xs) (sym sheets)
+    ∙ rings_nowhere c.deref.result.now c.args.layer c.in-None.ensures.absent)

@@ -10,5 +10,6 @@ invariant-loop-point l = record {
   room : length l.point-items ≤ vec_capacity l.points;
   count : vec_len l.points ≡ l.point-index;
   images : l.points.items ≡ map (placed_point l.by l.shift) (take l.point-index l.point-items);
-  in_range : (k : ℕ) → (d : Point) → k < l.point-index → FitsPoint (placed_point l.by l.shift (slice_index_or l.point-items k d));
+  in_range : (k : ℕ) → (d : Point) → k < l.point-index
+      → FitsPoint (placed_point l.by l.shift (slice_index_or l.point-items k d));
 }

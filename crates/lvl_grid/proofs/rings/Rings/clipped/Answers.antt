@@ -14,12 +14,18 @@ loop-i-preserved g c = λ s.
     let i = c.loop-i.i in
     let all : List (List Point) = g.R.RingList.rings c.args.rings.now in
     let below : i < length all = omega (arith, c.loop-i-test.true, c.len-i-end.ensures) in
-    let done : take (i + 1) all ≡ take i all ++ c.ring.result.now ∷ [] = take_more all i [] below ∙ ap (λ (r : List Point). take i all ++ r ∷ []) (sym c.ring.ensures.value) in
-    subst (λ (rs : List (List Point)). SomeCovers c.push_clipped.new.self s ↔ (IsIn c.args.part.now s × SomeCovers rs s)) (sym done)
-    (clip_more_alone c.args.part.now (take i all) c.loop-i.clipped c.push_clipped.new.self c.ring.result.now s (c.loop-i.invariant s) (c.in_ok-push_clipped.ensures.covers s))
+    let done : take (i + 1) all ≡ take i all ++ c.ring.result.now ∷ [] =
+    take_more all i [] below ∙ ap (λ (r : List Point). take i all ++ r ∷ []) (sym c.ring.ensures.value) in
+    subst
+    (λ (rs : List (List Point)). SomeCovers c.push_clipped.new.self s ↔ (IsIn c.args.part.now s × SomeCovers rs s))
+    (sym done)
+    (clip_more_alone c.args.part.now (take i all) c.loop-i.clipped c.push_clipped.new.self c.ring.result.now s
+    (c.loop-i.invariant s) (c.in_ok-push_clipped.ensures.covers s))
 
 pub returns : goal.returns
 returns g c = λ s.
     let all : List (List Point) = g.R.RingList.rings c.args.rings.now in
-    let whole : take c.loop-i.i all ≡ all = take_all c.loop-i.i all (omega (arith, c.loop-i-test.false, c.len-i-end.ensures)) in
-    subst (λ (rs : List (List Point)). SomeCovers c.loop-i.clipped s ↔ (IsIn c.args.part.now s × SomeCovers rs s)) whole (c.loop-i.invariant s)
+    let whole : take c.loop-i.i all ≡ all =
+    take_all c.loop-i.i all (omega (arith, c.loop-i-test.false, c.len-i-end.ensures)) in
+    subst (λ (rs : List (List Point)). SomeCovers c.loop-i.clipped s ↔ (IsIn c.args.part.now s × SomeCovers rs s)) whole
+    (c.loop-i.invariant s)

@@ -6,4 +6,5 @@ use Rattle.lvl_grid.proofs.rings.Rings.clipped.Given as goal
 
 -- the rings so far are clipped
 abbrev pub invariant-loop-i : goal.invariant-loop-i
-invariant-loop-i g l = (s : Square) → SomeCovers l.clipped s ↔ (IsIn l.part s × SomeCovers (take l.i (g.R.RingList.rings l.rings)) s)
+invariant-loop-i g l =
+    (s : Square) → SomeCovers l.clipped s ↔ (IsIn l.part s × SomeCovers (take l.i (g.R.RingList.rings l.rings)) s)

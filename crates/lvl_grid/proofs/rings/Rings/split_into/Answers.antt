@@ -1,4 +1,5 @@
-use Rattle.std.proofs.Common.{◌≡◌, ◌<◌, ◌+◌, ◌++◌, ◌∷◌, [], ℤ, List, take, length, ◌↔◌, arith, subst, sym, ◌∙◌, ap, w64, to_z, of_z, FitsSigned}
+use Rattle.std.proofs.Common.{◌≡◌, ◌<◌, ◌+◌, ◌++◌, ◌∷◌, [], ℤ, List, take, length, ◌↔◌, arith, subst, sym, ◌∙◌, ap, w64}
+use Rattle.std.proofs.Common.{to_z, of_z, FitsSigned}
 use Rattle.std.proofs.lemmas.Int.{to_z-of_z}
 use Rattle.std.proofs.lemmas.List.{take_more, take_all}
 use Rattle.lvl_grid.specs.declared.point.Point.{Point}
@@ -14,14 +15,21 @@ loop-i-preserved c =
     let ring : List Point = c.ring.result.now in
     let at : ℤ = to_z w64 (of_z w64 c.args.at) in
     let below : i < length all = omega (arith, c.loop-i-test.true, c.len-i-end.ensures) in
-    let done : take (i + 1) all ≡ take i all ++ ring ∷ [] = take_more all i [] below ∙ ap (λ (r : List Point). take i all ++ r ∷ []) (sym c.ring.ensures.value) in
+    let done : take (i + 1) all ≡ take i all ++ ring ∷ [] =
+    take_more all i [] below ∙ ap (λ (r : List Point). take i all ++ r ∷ []) (sym c.ring.ensures.value) in
     record {
       left = λ s.
-          subst (λ (rs : List (List Point)). SomeCovers c.push_split.new.left s ↔ WithOthers (Left at) c.args.left.now rs s) (sym done)
-          (clip_more (Left at) c.args.left.now (take i all) c.loop-i.left c.push_split.new.left ring s (c.loop-i.invariant.left s) (c.in_ok-push_split.ensures.left s));
+          subst
+          (λ (rs : List (List Point)).
+          SomeCovers c.push_split.new.left s ↔ WithOthers (Left at) c.args.left.now rs s) (sym done)
+          (clip_more (Left at) c.args.left.now (take i all) c.loop-i.left c.push_split.new.left ring s
+          (c.loop-i.invariant.left s) (c.in_ok-push_split.ensures.left s));
       right = λ s.
-          subst (λ (rs : List (List Point)). SomeCovers c.push_split.new.right s ↔ WithOthers (Right at) c.args.right.now rs s) (sym done)
-          (clip_more (Right at) c.args.right.now (take i all) c.loop-i.right c.push_split.new.right ring s (c.loop-i.invariant.right s) (c.in_ok-push_split.ensures.right s));
+          subst
+          (λ (rs : List (List Point)).
+          SomeCovers c.push_split.new.right s ↔ WithOthers (Right at) c.args.right.now rs s) (sym done)
+          (clip_more (Right at) c.args.right.now (take i all) c.loop-i.right c.push_split.new.right ring s
+          (c.loop-i.invariant.right s) (c.in_ok-push_split.ensures.right s));
     }
 
 all_seen : (c : goal.After-loop-i) → take c.loop-i.i c.args.self.now ≡ c.args.self.now
@@ -30,9 +38,11 @@ all_seen c = take_all c.loop-i.i c.args.self.now (omega (arith, c.loop-i-test.fa
 pub returns-clause-left : goal.returns-clause-left
 returns-clause-left c = λ s.
     let fits : FitsSigned w64 c.args.at = c.ranges.at in
-    subst (λ (rs : List (List Point)). SomeCovers c.loop-i.left s ↔ WithOthers (Left c.args.at) c.args.left.now rs s) (all_seen c) (rw (to_z-of_z w64 _ fits) at (c.loop-i.invariant.left s))
+    subst (λ (rs : List (List Point)). SomeCovers c.loop-i.left s ↔ WithOthers (Left c.args.at) c.args.left.now rs s)
+    (all_seen c) (rw (to_z-of_z w64 _ fits) at (c.loop-i.invariant.left s))
 
 pub returns-clause-right : goal.returns-clause-right
 returns-clause-right c = λ s.
     let fits : FitsSigned w64 c.args.at = c.ranges.at in
-    subst (λ (rs : List (List Point)). SomeCovers c.loop-i.right s ↔ WithOthers (Right c.args.at) c.args.right.now rs s) (all_seen c) (rw (to_z-of_z w64 _ fits) at (c.loop-i.invariant.right s))
+    subst (λ (rs : List (List Point)). SomeCovers c.loop-i.right s ↔ WithOthers (Right c.args.at) c.args.right.now rs s)
+    (all_seen c) (rw (to_z-of_z w64 _ fits) at (c.loop-i.invariant.right s))

@@ -1,21 +1,14 @@
 -- The steps of the walk.
 use Rattle.std.specs.Prelude.{◌≡◌, ◌<◌, ℕ, List, ◌∷◌, [], Contains, slice_get, Some}
-use Rattle.lvl_grid.specs.declared.point.Point.{Point}
 use Rattle.lvl_grid.specs.declared.map.Map.{Map}
 use Rattle.lvl_grid.specs.Turn.{image, FitsPoint}
-use Rattle.lvl_cells.specs.Cells.{PlainCell, PlainReference, Rings, placing, cell_named}
+use Rattle.lvl_cells.specs.Cells.{PlainCell, Rings, placing, cell_named}
 use Rattle.lvl_cells.specs.Chains.{IsComposed}
 use Rattle.lvl_flat.specs.declared.visit.Visit.{Visit}
 use Rattle.lvl_flat.specs.declared.walk.Step.{Step}
 use Rattle.lvl_flat.specs.declared.walk.Step.TheVariants.{Done, Past, Into, Out}
-use Rattle.lvl_flat.specs.Visits.{Pick, pending}
-use Rattle.lvl_flat.specs.Walking.{references_left}
-
--- the map places the reference at that one of its shifts
-pub record IsPlacing (r : PlainReference) (place : ℕ) (m : Map) : Type 0 where
-  pub shift : Point
-  pub there : slice_get r.shifts place ≡ Some shift
-  pub map_is : m ≡ placing r shift
+use Rattle.lvl_flat.specs.inside.Visits.{Pick, pending}
+use Rattle.lvl_flat.specs.inside.Walking.{references_left}
 
 -- the visit goes on with the reference behind, and has the same still to do
 pub record IsPast (cells : List (PlainCell Rings)) (v rest : Visit) : Type 0 where

@@ -11,7 +11,7 @@ use Rattle.lvl_flat.specs.declared.visit.Visit.{Visit}
 use Rattle.lvl_flat.specs.Flattened.{AllInRange}
 use Rattle.lvl_flat.specs.Sheet.{PlainSheet}
 use Rattle.lvl_flat.specs.Sheets.{AreSorted, HaveSheets, rings_on}
-use Rattle.lvl_flat.specs.Visits.{pending, visit_weight, VisitCovers, PicksFit, IsVisit}
+use Rattle.lvl_flat.specs.inside.Visits.{pending, visit_weight, VisitCovers, PicksFit, IsVisit}
 
 -- every cell's Layers have sheets
 abbrev pub AllHaveSheets : List PlainSheet → List (PlainCell Rings) → Type 0
@@ -23,8 +23,12 @@ pub record IsWalking (s : Settled) (sheets : List PlainSheet) (stack : List Visi
   pub is_top : slice_get s.cells s.top ≡ Some top
   pub sorted : AreSorted sheets
   pub layers : AllHaveSheets sheets s.cells
-  pub covers : (layer : Layer) (q : Square) → CellCovers RingsCover s.cells layer top q ↔ (RingsCover (rings_on layer sheets) q ⊎ Any (VisitCovers s.cells layer q) stack)
-  pub counts : (layer : Layer) → length (rings_on layer sheets) + sum_by (visit_weight (own_rings_on each_ring layer) s.cells) stack ≡ placed_rings_on each_ring layer s.cells top
+  pub covers : (layer : Layer) (q : Square)
+      → CellCovers RingsCover s.cells layer top q
+      ↔ (RingsCover (rings_on layer sheets) q ⊎ Any (VisitCovers s.cells layer q) stack)
+  pub counts : (layer : Layer)
+      → length (rings_on layer sheets) + sum_by (visit_weight (own_rings_on each_ring layer) s.cells) stack
+      ≡ placed_rings_on each_ring layer s.cells top
   pub fits : ((v : Visit) → Contains stack v → PicksFit s.cells v.map (pending s.cells v)) → AllInRange s.cells top
   pub visits : (v : Visit) → Contains stack v → IsVisit s.cells top v
 

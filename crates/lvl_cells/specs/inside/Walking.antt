@@ -1,5 +1,6 @@
 -- A walk over cells along their references: what is marked, on the way, and finished.
-use Rattle.std.specs.Prelude.{◌≡◌, ℕ, suc, ◌+◌, ◌*◌, ◌-◌, ◌<◌, ◌≤◌, List, [], ◌∷◌, map, length, ◌↔◌, sum_by, All, Contains, slice_get, Option, Some, None}
+use Rattle.std.specs.Prelude.{◌≡◌, ℕ, suc, ◌+◌, ◌*◌, ◌-◌, ◌<◌, ◌≤◌, List, [], ◌∷◌, map, length, ◌↔◌, sum_by, All}
+use Rattle.std.specs.Prelude.{Contains, slice_get, Option, Some, None}
 use Rattle.std.specs.Option.{option_map_or}
 use Rattle.std.specs.List.{IsDistinct}
 use Rattle.std.specs.Bool.{nat_eq}
@@ -15,16 +16,21 @@ use Rattle.lvl_cells.specs.declared.walk.Mark.TheVariants.{New, Open, Done}
 abbrev pub IsArc : List (Vec ℕ Global) → ℕ → ℕ → ℕ → Type 0
 IsArc targets a j b = (ts : Vec ℕ Global) × (slice_get targets a ≡ Some ts) × (slice_get ts.items j ≡ Some b)
 
--- open cells are those on the path, done cells those that are finished, and each finished one stands behind those that it refers to
-pub record IsWalk (targets : List (Vec ℕ Global)) (marks : List Mark) (path : List Visit) (finished : List ℕ) : Type 0 where
+-- open cells are those on the path, done cells those that are finished, and each finished one stands behind those that
+-- it refers to
+pub record IsWalk (targets : List (Vec ℕ Global)) (marks : List Mark) (path : List Visit)
+    (finished : List ℕ) : Type 0 where
   pub long : length marks ≡ length targets
   pub open_ones : (k : ℕ) → (slice_get marks k ≡ Some Open) ↔ Contains (map (λ v. v.cell) path) k
   pub done_ones : (k : ℕ) → (slice_get marks k ≡ Some Done) ↔ Contains finished k
   pub apart : IsDistinct nat_eq (map (λ v. v.cell) path)
   pub once : IsDistinct nat_eq finished
-  pub arcs : (k : ℕ) (v w : Visit) → slice_get path k ≡ Some v → slice_get path (k + 1) ≡ Some w → IsArc targets v.cell v.done w.cell
-  pub behind : (k : ℕ) (v : Visit) (j b : ℕ) → slice_get path k ≡ Some v → j < v.done → IsArc targets v.cell j b → Contains finished b
-  pub falls : (i k j b : ℕ) → slice_get finished i ≡ Some k → IsArc targets k j b → (l : ℕ) × (l < i) × (slice_get finished l ≡ Some b)
+  pub arcs : (k : ℕ) (v w : Visit) → slice_get path k ≡ Some v → slice_get path (k + 1) ≡ Some w
+      → IsArc targets v.cell v.done w.cell
+  pub behind : (k : ℕ) (v : Visit) (j b : ℕ) → slice_get path k ≡ Some v → j < v.done → IsArc targets v.cell j b
+      → Contains finished b
+  pub falls : (i k j b : ℕ) → slice_get finished i ≡ Some k → IsArc targets k j b
+      → (l : ℕ) × (l < i) × (slice_get finished l ≡ Some b)
 
 -- how many cells are new
 abbrev pub new_count : List Mark → ℕ
@@ -40,7 +46,9 @@ left_at targets (Some v) = option_map_or (λ ts. length ts.items - v.done) (slic
 
 -- the work that is left: first what is to be opened and closed, then the references of the last cell on the path
 abbrev pub work_left : List (Vec ℕ Global) → List Mark → List Visit → ℕ
-work_left targets marks path = (2 * new_count marks + length path) * (1 + sum_by (λ ts. length ts.items) targets) + left_at targets (slice_get path (length path - 1))
+work_left targets marks path =
+    (2 * new_count marks + length path) * (1 + sum_by (λ ts. length ts.items) targets)
+    + left_at targets (slice_get path (length path - 1))
 
 -- no cell is new again
 abbrev pub GoesOn : List Mark → List Mark → Type 0
@@ -48,7 +56,9 @@ GoesOn old new = (k : ℕ) → slice_get new k ≡ Some New → slice_get old k 
 
 -- the next reference of the last cell on the path is to the cell start, which is on the path too
 abbrev pub LeadsBack : List (Vec ℕ Global) → List Visit → ℕ → Type 0
-LeadsBack targets path start = (v : Visit) × (slice_get path (length path - 1) ≡ Some v) × IsArc targets v.cell v.done start × Contains (map (λ w. w.cell) path) start
+LeadsBack targets path start =
+    (v : Visit) × (slice_get path (length path - 1) ≡ Some v) × IsArc targets v.cell v.done start
+    × Contains (map (λ w. w.cell) path) start
 
 abbrev pub EachTargetWithin : List (Vec ℕ Global) → ℕ → Type 0
 EachTargetWithin targets n = All (λ ts. All (λ b. b < n) ts.items) targets
@@ -57,5 +67,6 @@ EachTargetWithin targets n = All (λ ts. All (λ b. b < n) ts.items) targets
 abbrev pub IsStepFrom : List (Vec ℕ Global) → List Mark → Visit → Move → Type 0
 IsStepFrom targets marks v (Into b) = IsArc targets v.cell v.done b × (slice_get marks b ≡ Some New)
 IsStepFrom targets marks v (Round b) = IsArc targets v.cell v.done b × (slice_get marks b ≡ Some Open)
-IsStepFrom targets marks v (Past done) = (b : ℕ) × (done ≡ v.done + 1) × IsArc targets v.cell v.done b × (slice_get marks b ≡ Some Done)
+IsStepFrom targets marks v (Past done) =
+    (b : ℕ) × (done ≡ v.done + 1) × IsArc targets v.cell v.done b × (slice_get marks b ≡ Some Done)
 IsStepFrom targets marks v Out = (ts : Vec ℕ Global) × (slice_get targets v.cell ≡ Some ts) × (length ts.items ≤ v.done)

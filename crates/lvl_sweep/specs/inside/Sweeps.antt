@@ -6,8 +6,8 @@ use Rattle.lvl_sweep.specs.declared.band.Band.{Band}
 use Rattle.lvl_sweep.specs.declared.strips.Strips.{Strips}
 use Rattle.lvl_sweep.specs.Slab.{Slab}
 use Rattle.lvl_sweep.specs.Bands.{slab_of}
-use Rattle.lvl_sweep.specs.Rows.{row_at, bands_from}
-use Rattle.lvl_sweep.specs.Strips.{IsAt}
+use Rattle.lvl_sweep.specs.inside.Rows.{row_at, bands_from}
+use Rattle.lvl_sweep.specs.inside.Strips.{IsAt}
 
 -- the rows of the band, up to y, have its intervals
 pub record IsHeld (es : List Edge) (b : Band) (y : ℤ) : Type 0 where

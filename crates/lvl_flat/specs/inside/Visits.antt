@@ -1,5 +1,6 @@
 -- Visits: placed cells, with the references and places that are still to come.
-use Rattle.std.specs.Prelude.{◌≡◌, ℕ, List, [], ◌∷◌, ◌++◌, map, flat_map, drop, length, sum_by, slice_get, Some, Any, Contains, IsSomeAnd}
+use Rattle.std.specs.Prelude.{◌≡◌, ℕ, List, [], ◌∷◌, ◌++◌, map, flat_map, drop, length, sum_by, slice_get, Some, Any}
+use Rattle.std.specs.Prelude.{Contains, IsSomeAnd}
 use Rattle.std.specs.Option.{option_map_or}
 use Rattle.lvl_grid.specs.declared.point.Point.{Point}
 use Rattle.lvl_grid.specs.declared.point.Square.{Square}
@@ -37,19 +38,25 @@ visit_weight weight cells v = sum_by (pick_weight weight cells) (pending cells v
 
 -- the cell of the pick covers the square, at that place
 abbrev pub PickCovers : List (PlainCell Rings) → Layer → Square → Pick → Type 0
-PickCovers cells layer t p = IsSomeAnd (cell_named cells p.0.cell) (λ d. PullsBack (CellCovers RingsCover cells layer d) p.0 t p.1)
+PickCovers cells layer t p =
+    IsSomeAnd (cell_named cells p.0.cell) (λ d. PullsBack (CellCovers RingsCover cells layer d) p.0 t p.1)
 
 -- what the visit has still to do covers the square
 abbrev pub VisitCovers : List (PlainCell Rings) → Layer → Square → Visit → Type 0
-VisitCovers cells layer s v = (t : Square) × (image_square v.map t ≡ s) × Any (PickCovers cells layer t) (pending cells v)
+VisitCovers cells layer s v =
+    (t : Square) × (image_square v.map t ≡ s) × Any (PickCovers cells layer t) (pending cells v)
 
 -- all chains from the cell, placed by the map, are in range
 abbrev pub FitsUnder : List (PlainCell Rings) → Map → PlainCell Rings → Type 0
-FitsUnder cells m c = (n : ℕ) (w : Map) (d : PlainCell Rings) → Chain cells c n w d → (v : Map) → IsComposed m w v → IsInRange each_ring v d
+FitsUnder cells m c =
+    (n : ℕ) (w : Map) (d : PlainCell Rings) → Chain cells c n w d → (v : Map) → IsComposed m w v
+    → IsInRange each_ring v d
 
 -- all chains that begin with one of the picks are
 abbrev pub PicksFit : List (PlainCell Rings) → Map → List Pick → Type 0
-PicksFit cells m ps = (p : Pick) (d : PlainCell Rings) (v : Map) → Contains ps p → cell_named cells p.0.cell ≡ Some d → IsComposed m (placing p.0 p.1) v → FitsUnder cells v d
+PicksFit cells m ps =
+    (p : Pick) (d : PlainCell Rings) (v : Map) → Contains ps p → cell_named cells p.0.cell ≡ Some d
+    → IsComposed m (placing p.0 p.1) v → FitsUnder cells v d
 
 -- the visit is to a cell at the end of a chain from the top
 pub record IsVisit (cells : List (PlainCell Rings)) (top : PlainCell Rings) (v : Visit) : Type 0 where

@@ -1,5 +1,6 @@
 -- A round of references, on the path of a walk.
-use Rattle.std.specs.Prelude.{◌≡◌, ℕ, suc, ◌-◌, ◌<◌, ◌≤◌, List, [], map, drop, length, All, Contains, slice_get, slice_index_or, Some}
+use Rattle.std.specs.Prelude.{◌≡◌, ℕ, suc, ◌-◌, ◌<◌, ◌≤◌, List, [], map, drop, length, All, Contains, slice_get}
+use Rattle.std.specs.Prelude.{slice_index_or, Some}
 use Rattle.std.specs.List.{IsDistinct}
 use Rattle.std.specs.Bool.{nat_eq}
 use Rattle.lvl_cells.specs.Cells.{PlainCell, Rings, names}
@@ -23,8 +24,10 @@ pub record IsRoundOf (cells : List (PlainCell Rings)) (round : List Visit) : Typ
   pub some : 0 < length round
   pub within : All (λ v. v.cell < length cells) round
   pub apart : IsDistinct nat_eq (map (λ v. v.cell) round)
-  pub steps : (k : ℕ) (v w : Visit) → slice_get round k ≡ Some v → slice_get round (suc k) ≡ Some w → Contains (links cells) (visited_name cells v, visited_name cells w)
-  pub closed : (v w : Visit) → slice_get round 0 ≡ Some v → slice_get round (length round - 1) ≡ Some w → Contains (links cells) (visited_name cells w, visited_name cells v)
+  pub steps : (k : ℕ) (v w : Visit) → slice_get round k ≡ Some v → slice_get round (suc k) ≡ Some w
+      → Contains (links cells) (visited_name cells v, visited_name cells w)
+  pub closed : (v w : Visit) → slice_get round 0 ≡ Some v → slice_get round (length round - 1) ≡ Some w
+      → Contains (links cells) (visited_name cells w, visited_name cells v)
 
 -- the visit at the place first is to the cell that comes first in the file
 pub record IsFirstIn (round : List Visit) (first : ℕ) : Type 0 where

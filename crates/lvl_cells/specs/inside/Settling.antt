@@ -1,7 +1,7 @@
 -- What a checked library keeps, and how it is seen.
 use Rattle.std.specs.Prelude.{ℕ, List, Option}
 use Rattle.lvl_cells.specs.Checks.{Settled, IsSettled}
-use Rattle.lvl_cells.specs.Steps.{AreAllTargets}
+use Rattle.lvl_cells.specs.inside.Steps.{AreAllTargets}
 use Rattle.lvl_cells.specs.declared.checked.Checked.TheInside.{Inside}
 
 abbrev pub settled : Inside → Settled

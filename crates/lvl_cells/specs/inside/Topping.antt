@@ -2,7 +2,7 @@
 use Rattle.std.specs.Prelude.{◌≢◌, ℕ, ◌<◌, List, length}
 use Rattle.std.specs.declared.alloc.Global.{Global}
 use Rattle.std.specs.declared.vec.Vec.{Vec}
-use Rattle.lvl_cells.specs.Walking.{IsArc}
+use Rattle.lvl_cells.specs.inside.Walking.{IsArc}
 
 -- some reference is to cell k
 abbrev pub IsTarget : List (Vec ℕ Global) → ℕ → Type 0

@@ -1,5 +1,6 @@
 -- What the steps of the check say.
-use Rattle.std.specs.Prelude.{◌≡◌, ℕ, ◌+◌, ◌*◌, List, [], ◌∷◌, length, slice_index, map, Option, Some, None, Contains, slice_get}
+use Rattle.std.specs.Prelude.{◌≡◌, ℕ, ◌+◌, ◌*◌, List, [], ◌∷◌, length, slice_index, map, Option, Some, None, Contains}
+use Rattle.std.specs.Prelude.{slice_get}
 use Rattle.std.specs.declared.alloc.Global.{Global}
 use Rattle.std.specs.declared.vec.Vec.{Vec}
 use Rattle.lvl_cells.specs.Cells.{PlainCell, PlainReference, Rings, each_ring, names}
@@ -12,7 +13,8 @@ use Rattle.lvl_cells.specs.declared.fault.CellFault.TheVariants.{MissingCell, Cy
 
 -- each cell's targets are the places of the names that its references give
 abbrev pub AreAllTargets : List (PlainCell Rings) → List (Vec ℕ Global) → Type 0
-AreAllTargets cells targets = map (λ ts. map (slice_get (names cells)) ts.items) targets ≡ map (λ c. map (λ r. Some r.cell) c.references) cells
+AreAllTargets cells targets =
+    map (λ ts. map (slice_get (names cells)) ts.items) targets ≡ map (λ c. map (λ r. Some r.cell) c.references) cells
 
 abbrev pub IsFirstMissingFault : List (PlainCell Rings) → CellFault → Type 0
 IsFirstMissingFault cells (MissingCell from name) = IsFirstMissing cells from.items name.items

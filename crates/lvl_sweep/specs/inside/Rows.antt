@@ -1,12 +1,13 @@
 -- The intervals of a row, and the bands of all rows from one on, as edges tell them.
 use Rattle.std.specs.Prelude.{◌≡◌, ℕ, ◌+◌, zero, suc, Bool, true, false, ◌&&◌, not, List, [], ◌∷◌, map, ℤ, pos, ◌+ℤ◌}
-use Rattle.std.specs.Prelude.{neg_ℤ, int_le, unsigned_abs, Option, None, Some, cond}
+use Rattle.std.specs.Prelude.{neg_ℤ, unsigned_abs, Option, None, Some, cond}
 use Rattle.std.specs.List.{list_any, filter, sum_by}
 use Rattle.std.specs.Ordering.{int_eq}
 use Rattle.lvl_sweep.specs.declared.edge.Edge.{Edge}
 use Rattle.lvl_sweep.specs.Slab.{Step, Slab}
 use Rattle.lvl_sweep.specs.Edges.{net, net_left}
 use Rattle.lvl_sweep.specs.Alive.{alive}
+use Rattle.lvl_sweep.specs.Ahead.{is_from}
 
 -- the value from a up to b, before the steps from b on; a step that goes on with it is lengthened
 abbrev pub join : {V : Type 0} → (V → V → Bool) → ℤ → ℤ → Option V → List (Step V) → List (Step V)
@@ -20,11 +21,6 @@ join same a b (Some v) (t ∷ ts) =
 abbrev pub steps_at : {V : Type 0} → (V → V → Bool) → (ℤ → Option V) → ℤ → ℕ → List (Step V)
 steps_at same f a zero = []
 steps_at same f a (suc n) = join same a (a +ℤ pos 1) (f a) (steps_at same f (a +ℤ pos 1) n)
-
--- z lies at or behind the place, if there is one
-abbrev pub is_from : Option ℤ → ℤ → Bool
-is_from None z = true
-is_from (Some a) z = int_le a z
 
 -- the function from the place on
 abbrev pub from_on : {V : Type 0} → Option ℤ → (ℤ → Option V) → ℤ → Option V

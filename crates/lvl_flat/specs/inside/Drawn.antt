@@ -3,12 +3,12 @@ use Rattle.std.specs.Prelude.{◌↔◌, List, [], map, flat_map, All, if◌then
 use Rattle.lvl_grid.specs.declared.point.Point.{Point}
 use Rattle.lvl_grid.specs.declared.point.Square.{Square}
 use Rattle.lvl_grid.specs.declared.map.Map.{Map}
-use Rattle.lvl_grid.specs.Turn.{FitsPoint}
 use Rattle.lvl_grid.specs.Placed.{placed_point, IsPlaceOfCovered}
 use Rattle.lvl_grid.specs.Winding.{Covers}
 use Rattle.lvl_cells.specs.declared.layer.Layer.{Layer}
 use Rattle.lvl_cells.specs.Cells.{PlainShape, Rings}
 use Rattle.lvl_cells.specs.Layers.{same_layer}
+use Rattle.lvl_flat.specs.Flattened.{FitsRing}
 
 -- a ring, moved by a shift and placed
 abbrev pub placed_ring : Map → Point → List Point → List Point
@@ -25,10 +25,6 @@ placed_shape m h = flat_map (placed_figure m h.figure) h.shifts
 abbrev pub drawn_on : Layer → Map → List (PlainShape Rings) → Rings
 drawn_on layer m shapes = flat_map (λ h. if same_layer h.layer layer then placed_shape m h else []) shapes
 
--- its vertices are within 64 signed bits
-abbrev pub FitsRing : Map → Point → List Point → Type 0
-FitsRing m e ring = All (λ v. FitsPoint (placed_point m e v)) ring
-
 -- and it covers the places of what the ring covered
 pub record IsPlaced (m : Map) (e : Point) (ring : List Point) : Type 0 where
   pub fits : FitsRing m e ring
@@ -36,7 +32,3 @@ pub record IsPlaced (m : Map) (e : Point) (ring : List Point) : Type 0 where
 
 abbrev pub AreFiguresPlaced : Map → List (PlainShape Rings) → Type 0
 AreFiguresPlaced m shapes = All (λ h. All (λ e. All (IsPlaced m e) h.figure) h.shifts) shapes
-
--- all vertices of the shapes are within 64 signed bits
-abbrev pub FitShapes : Map → List (PlainShape Rings) → Type 0
-FitShapes m shapes = All (λ h. All (λ e. All (FitsRing m e) h.figure) h.shifts) shapes

@@ -6,7 +6,7 @@ use Rattle.lvl_sweep.specs.declared.edge.Edge.{Edge}
 use Rattle.lvl_sweep.specs.declared.strips.Strips.{Strips}
 use Rattle.lvl_sweep.specs.Edges.{AreAtRest, IsBeginOf}
 use Rattle.lvl_sweep.specs.Alive.{IsNoLater}
-use Rattle.lvl_sweep.specs.Rows.{Balanced, alive_at, row_at}
+use Rattle.lvl_sweep.specs.inside.Rows.{Balanced, alive_at, row_at}
 use Rattle.lvl_sweep.specs.Runs.{RiseWithin, IsEndOf}
 
 -- edges of closed rings, those to come in their order, and a count for each ring

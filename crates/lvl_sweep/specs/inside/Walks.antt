@@ -6,7 +6,8 @@ use Rattle.lvl_sweep.specs.declared.edge.Edge.{Edge}
 use Rattle.lvl_sweep.specs.declared.windings.Windings.{Windings}
 use Rattle.lvl_sweep.specs.declared.walk.Place.{Place}
 use Rattle.lvl_sweep.specs.Edges.{net, how_many_turn}
-use Rattle.lvl_sweep.specs.Rows.{inside, is_from, Balanced}
+use Rattle.lvl_sweep.specs.inside.Rows.{inside, Balanced}
+use Rattle.lvl_sweep.specs.Ahead.{is_from}
 
 -- the edges of a row, by abscissa, of rings that have counts
 pub record IsRowOf (es : List Edge) (rings : ℕ) : Type 0 where

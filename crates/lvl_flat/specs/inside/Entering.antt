@@ -6,7 +6,8 @@ use Rattle.lvl_cells.specs.Cells.{PlainCell, Rings}
 use Rattle.lvl_flat.specs.declared.fault.FlatFault.{FlatFault}
 use Rattle.lvl_flat.specs.declared.fault.FlatFault.TheVariants.{OutOfRange}
 use Rattle.lvl_flat.specs.declared.visit.Visit.{Visit}
-use Rattle.lvl_flat.specs.Drawn.{drawn_on, AreFiguresPlaced, FitShapes}
+use Rattle.lvl_flat.specs.inside.Drawn.{drawn_on, AreFiguresPlaced}
+use Rattle.lvl_flat.specs.Flattened.{FitShapes}
 use Rattle.lvl_flat.specs.Sheet.{PlainSheet}
 use Rattle.lvl_flat.specs.Sheets.{rings_on}
 
@@ -31,7 +32,3 @@ pub record IsCellOut (cells : List (PlainCell Rings)) (i : ℕ) (m : Map) (name 
 
 abbrev pub IsEnterFault : List (PlainCell Rings) → ℕ → Map → FlatFault → Type 0
 IsEnterFault cells i m (OutOfRange name) = IsCellOut cells i m name.items
-
--- the fault names the cell
-abbrev pub TellsName : List ℕ → FlatFault → Type 0
-TellsName name (OutOfRange told) = told.items ≡ name

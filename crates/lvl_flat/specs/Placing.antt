@@ -1,0 +1,11 @@
+-- Where a reference places its cell.
+use Rattle.std.specs.Prelude.{◌≡◌, ℕ, slice_get, Some}
+use Rattle.lvl_grid.specs.declared.point.Point.{Point}
+use Rattle.lvl_grid.specs.declared.map.Map.{Map}
+use Rattle.lvl_cells.specs.Cells.{PlainReference, placing}
+
+-- the map places the reference at that one of its shifts
+pub record IsPlacing (r : PlainReference) (place : ℕ) (m : Map) : Type 0 where
+  pub shift : Point
+  pub there : slice_get r.shifts place ≡ Some shift
+  pub map_is : m ≡ placing r shift

@@ -1,0 +1,5 @@
+pub mod Rows
+pub mod Walks
+pub mod Strips
+pub mod Sweeps
+pub mod InStep
