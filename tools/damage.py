@@ -1,0 +1,227 @@
+#!/usr/bin/env python3
+"""Damages files at random, and compares the whole answers of `lvl` with those of a second reading of the
+rules: `tools/damage.py [--format gds|oas] [--count N] [--seed S] [--program FILE]`.
+
+Each damaged file is shown, and compared with the file that it was. Status, standard output and standard
+error have to be those that `answers.py` forms. Stops at the first that isn't, and leaves both files in the
+folder that it names. Where over 1,500 rings are placed, the verdict itself isn't judged.
+"""
+import argparse
+import collections
+import glob
+import os
+import random
+import shutil
+import subprocess
+import sys
+import tempfile
+
+import answers
+import gds
+import gds_reader
+import layout
+import oasis
+import oasis_reader
+
+ROOT = os.path.dirname(os.path.dirname(os.path.abspath(__file__)))
+WRITERS = {"gds": gds, "oas": oasis}
+ODD_BYTES = [0, 1, 2, 3, 4, 6, 8, 13, 14, 15, 16, 17, 18, 20, 21, 22, 0x40, 0x7F, 0x80, 0xFF]
+
+
+class Traced(oasis_reader.Reader):
+    """A reader that keeps where records begin."""
+
+    def __init__(self, data):
+        super().__init__(data)
+        self.starts = []
+
+    def judge(self, id):
+        self.starts.append(self.begun)
+        super().judge(id)
+
+
+def read(data):
+    return (oasis_reader if data[:1] == b"%" else gds_reader).read(data)
+
+
+def starts_of(data):
+    """Where the records of a whole file begin, and its end."""
+    if data[:1] == b"%":
+        reader = Traced(data)
+        reader.library()
+        return [0, 13, *reader.starts, len(data)]
+    starts = [0]
+    while starts[-1] + 4 <= len(data) and (length := int.from_bytes(data[starts[-1]:starts[-1] + 2], "big")):
+        starts.append(starts[-1] + length)
+    return starts if len(starts) > 1 else [0, len(data)]
+
+
+def other_byte(rng, old):
+    near = [old ^ 1 << rng.randrange(8), old + 1 & 255, old - 1 & 255]
+    return rng.choice([rng.randrange(256), *near, rng.choice(ODD_BYTES)])
+
+
+def changed_bytes(rng, data):
+    out = bytearray(data)
+    for _ in range(rng.choice([1, 1, 1, 2, 5])):
+        at = rng.randrange(len(out))
+        out[at] = other_byte(rng, out[at])
+    return bytes(out)
+
+
+def span(rng, data):
+    at = rng.randrange(len(data))
+    return at, min(len(data), at + rng.choice([1, 1, 2, 3, 4, 8, 30]))
+
+
+def removed(rng, data):
+    at, end = span(rng, data)
+    return data[:at] + data[end:]
+
+
+def inserted(rng, data):
+    at, end = span(rng, data)
+    to = rng.randrange(len(data) + 1)
+    more = rng.choice([bytes(rng.choice(ODD_BYTES) for _ in range(end - at)), data[at:end], b"\x80" * 10])
+    return data[:to] + more + data[to:]
+
+
+def swapped(rng, data):
+    (a, b), (c, d) = sorted([span(rng, data), span(rng, data)])
+    return data if b > c else data[:a] + data[c:d] + data[b:c] + data[a:b] + data[d:]
+
+
+def cut(rng, data):
+    return data[:rng.randrange(len(data))]
+
+
+def lengthened(rng, data):
+    return data + rng.choice([b"\0" * rng.randint(1, 99), b"\1", b"\0\0\0\1", data])
+
+
+def records_moved(rng, data):
+    """One record left out, told twice, or put in another's place."""
+    starts = starts_of(data)
+    parts = [data[a:b] for a, b in zip(starts, starts[1:])] + [data[starts[-1]:]]
+    one, other = rng.randrange(len(parts)), rng.randrange(len(parts))
+    kind = rng.randrange(4)
+    if kind == 0:
+        del parts[one]
+    elif kind == 1:
+        parts.insert(other, parts[one])
+    elif kind == 2:
+        parts[one], parts[other] = parts[other], parts[one]
+    else:
+        parts[one] = parts[other]
+    return b"".join(parts)
+
+
+def heads_changed(rng, data):
+    """The first bytes of a record: in GDSII length, type and data type, in OASIS id and info, or a count."""
+    out, at = bytearray(data), rng.choice(starts_of(data)[:-1])
+    for _ in range(rng.choice([1, 1, 2])):
+        place = min(len(out) - 1, at + rng.choice([0, 1, 1, 2, 3, 4, 5, 6, 7]))
+        out[place] = rng.choice([rng.randrange(64), rng.choice(ODD_BYTES), rng.randrange(256), out[place] + 2 & 255])
+    return bytes(out)
+
+
+def values_changed(rng, data):
+    """A byte or two of one record, its head left as it is."""
+    out, starts = bytearray(data), starts_of(data)
+    which = rng.randrange(len(starts) - 1)
+    first, end = starts[which] + (1 if data[:1] == b"%" else 4), starts[which + 1]
+    for _ in range(rng.choice([1, 1, 2])) if first < min(end, len(out)) else ():
+        at = rng.randrange(first, min(end, len(out)))
+        out[at] = other_byte(rng, out[at])
+    return bytes(out)
+
+
+DAMAGES = [
+    changed_bytes, removed, inserted, swapped, cut, lengthened, records_moved, records_moved,
+    heads_changed, heads_changed, values_changed, values_changed, values_changed, values_changed,
+]
+
+
+def source(rng, form):
+    """A file to damage: an example, or one that is made."""
+    kept = sorted(glob.glob(os.path.join(ROOT, "examples", "*." + form)))
+    if rng.random() < 0.15:
+        with open(rng.choice(kept), "rb") as file:
+            return file.read()
+    return WRITERS[form].written(rng, layout.made(rng))
+
+
+def damaged(rng, data):
+    for _ in range(rng.choice([1, 1, 1, 2])):
+        try:
+            data = rng.choice(DAMAGES)(rng, data) if data else data
+        except answers.Refused:
+            pass
+    return data
+
+
+def answered(program, words):
+    done = subprocess.run([program, *words], capture_output=True, timeout=600)
+    return done.returncode, done.stdout.decode("latin-1"), done.stderr.decode("latin-1")
+
+
+def pair_of(rng, form):
+    """The words of a comparison of a damaged file with what it was, both files, and their tops."""
+    whole = source(rng, form)
+    files = [damaged(rng, whole), whole]
+    if rng.random() < 0.3:
+        files.reverse()
+    tops = [rng.choice([None, None, "TOP", "TOP", "A", "X"]), rng.choice([None, "TOP"])]
+    words = [word for top, option in zip(tops, ("--top-a", "--top-b")) if top for word in (option, top)]
+    return words, files, tops
+
+
+def kind_of(answer):
+    """Step, number and name of a refusal, or the verdict's word."""
+    words = answer.text.split("\n")[-1].rstrip(":").split()
+    if words[0] == "refused:":
+        return " ".join(words[2:5])
+    return words[0].rstrip(":") if len(answer.statuses) == 1 else "not judged"
+
+
+def judged(program, rng, form, names):
+    """What was told of a pair, in short; or the whole of what was expected and answered, where they differ."""
+    words, files, tops = pair_of(rng, form)
+    for name, data in zip(names, files):
+        with open(name, "wb") as out:
+            out.write(data)
+    shown = ["--top", tops[0]] if tops[0] else []
+    runs = [
+        (["compare", *names, *words], answers.compare(read, *files, tops)),
+        (["show", names[0], *shown], answers.show(read, files[0], tops[0])),
+    ]
+    for line, expected in runs:
+        answer = answered(program, line)
+        if not answers.agrees(expected, *answer):
+            return None, "%s\n  expected %s\n  answered %s" % (" ".join(line), expected, answer)
+    return kind_of(runs[0][1]), None
+
+
+def main():
+    line = argparse.ArgumentParser()
+    line.add_argument("--format", choices=["gds", "oas"], default="gds")
+    line.add_argument("--count", type=int, default=1000)
+    line.add_argument("--seed", type=int, default=1)
+    line.add_argument("--program", default=os.path.join(ROOT, "bin", "lvl"))
+    asked = line.parse_args()
+    folder = tempfile.mkdtemp(prefix="lvl-damage-")
+    names = [os.path.join(folder, "a"), os.path.join(folder, "b")]
+    told = collections.Counter()
+    for seed in range(asked.seed, asked.seed + asked.count):
+        short, wrong = judged(asked.program, random.Random("%s %d" % (asked.format, seed)), asked.format, names)
+        if wrong:
+            sys.exit("seed %d: %s" % (seed, wrong))
+        told[short] += 1
+    shutil.rmtree(folder)
+    print("%d damaged files, all answered as the rules have it:" % asked.count)
+    for short, many in told.most_common():
+        print("%7d %s" % (many, short))
+
+
+if __name__ == "__main__":
+    main()

@@ -1,0 +1,206 @@
+"""A second reader of GDSII, by the rules alone: bytes to a library, or the refusal with its offset."""
+import struct
+
+from answers import Cell, Lattice, Library, ONCE, Reference, Refused, Shape, band_rings, oblique, path_fault
+
+HEADER, BGNLIB, LIBNAME, UNITS, ENDLIB, BGNSTR, STRNAME, ENDSTR = range(8)
+BOUNDARY, PATH, SREF, AREF, TEXT, LAYER, DATATYPE, WIDTH, XY, ENDEL, SNAME, COLROW = range(0x08, 0x14)
+TEXTTYPE, PRESENTATION, STRING, STRANS, MAG, ANGLE, PATHTYPE = 0x16, 0x17, 0x19, 0x1A, 0x1B, 0x1C, 0x21
+
+# Data type and payload of each type: a number of bytes, or None for any even number.
+TABLE = {
+    HEADER: (2, 2), BGNLIB: (2, 24), LIBNAME: (6, None), UNITS: (5, 16), ENDLIB: (0, 0), BGNSTR: (2, 24),
+    STRNAME: (6, None), ENDSTR: (0, 0), BOUNDARY: (0, 0), PATH: (0, 0), SREF: (0, 0), AREF: (0, 0), TEXT: (0, 0),
+    LAYER: (2, 2), DATATYPE: (2, 2), WIDTH: (3, 4), XY: (3, None), ENDEL: (0, 0), SNAME: (6, None), COLROW: (2, 4),
+    TEXTTYPE: (2, 2), PRESENTATION: (1, 2), STRING: (6, None), STRANS: (1, 2), MAG: (5, 8), ANGLE: (5, 8),
+    PATHTYPE: (2, 2),
+}
+# The order of records; a list in a list may be left out.
+BY = [STRANS, [MAG], [ANGLE]]
+ELEMENTS = {
+    BOUNDARY: [LAYER, DATATYPE, XY, ENDEL],
+    PATH: [LAYER, DATATYPE, [PATHTYPE], [WIDTH], XY, ENDEL],
+    SREF: [SNAME, BY, XY, ENDEL],
+    AREF: [SNAME, BY, COLROW, XY, ENDEL],
+    TEXT: [LAYER, TEXTTYPE, [PRESENTATION], [PATHTYPE], [WIDTH], BY, XY, STRING, ENDEL],
+}
+IN_LIBRARY = {BGNSTR: [STRNAME], ENDLIB: []}
+IN_STRUCTURE = {**ELEMENTS, ENDSTR: []}
+ONE = bytes.fromhex("4110000000000000")
+QUARTERS = [bytes.fromhex(n) for n in ("0000000000000000", "425a000000000000", "42b4000000000000", "4310e00000000000")]
+POINTS = {BOUNDARY: (4, 8191), PATH: (2, 8191), SREF: (1, 1), TEXT: (1, 1), AREF: (3, 3)}
+
+
+def after(order, kind):
+    """The rest of the order once a record of the kind stands next; None where it has none there."""
+    for at, item in enumerate(order):
+        if isinstance(item, list):
+            rest = after(item, kind)
+            if rest is not None:
+                return rest + order[at + 1:]
+        else:
+            return order[at + 1:] if item == kind else None
+    return None
+
+
+def record(data, at):
+    """The type and payload of the record at an offset."""
+    def refuse(number, name):
+        raise Refused("gds", number, name, at=at)
+
+    if len(data) - at < 4:
+        refuse(1, "Truncated")
+    length, kind, data_type = struct.unpack_from(">HBB", data, at)
+    if length % 2 or length < 4:
+        refuse(2, "BadLength")
+    if kind >= 60:
+        refuse(4, "UnknownRecord")
+    known, most = TABLE.get(kind, (data_type, None))
+    if data_type > 6 or data_type != known:
+        refuse(3, "BadDataType")
+    payload = length - 4
+    if (most is not None and payload != most) or (kind == XY and (payload % 8 or payload == 0)):
+        refuse(2, "BadLength")
+    if len(data) - at < length:
+        refuse(1, "Truncated")
+    return kind, data[at + 4:at + length]
+
+
+def name_of(payload):
+    name = payload[:-1] if payload[-1:] == b"\0" else payload
+    return name.decode("latin-1") if 1 <= len(name) <= 255 and all(0x21 <= b <= 0x7E for b in name) else None
+
+
+class Reader:
+    def __init__(self, data):
+        self.data, self.at = data, 0
+        self.order, self.openers = [HEADER, BGNLIB, LIBNAME, UNITS], IN_LIBRARY
+        self.cells, self.element, self.values, self.head = [], None, {}, ["", b""]
+
+    def refuse(self, number, name, *values):
+        raise Refused("gds", number, name, *values, at=self.at)
+
+    def refuse_if(self, breached, number, name, *values):
+        if breached:
+            self.refuse(number, name, *values)
+
+    def library(self):
+        ended = False
+        while not ended:
+            kind, payload = record(self.data, self.at)
+            self.place(kind)
+            self.value(kind, payload)
+            ended = kind == ENDLIB
+            self.at += 4 + len(payload)
+        rest = self.data[self.at:]
+        self.at = len(self.data) - len(rest.lstrip(b"\0"))
+        self.refuse_if(self.at < len(self.data), 24, "AfterEnd")
+        version, units = self.head
+        head = "GDSII version %d units %s %s" % (version, units[:8].hex(), units[8:].hex())
+        return Library(head, [Cell(*cell) for cell in self.cells])
+
+    def place(self, kind):
+        """The record's place in the order; an element is opened by its first record."""
+        self.refuse_if(kind not in TABLE, 11, "Unsupported", kind)
+        if self.order:
+            rest = after(self.order, kind)
+        else:
+            rest = self.openers.get(kind)
+            if kind in ELEMENTS:
+                self.element, self.values = kind, {}
+        self.refuse_if(rest is None, 10, "Unexpected", kind)
+        self.order = rest
+
+    def value(self, kind, payload):
+        shorts = struct.unpack(">%dh" % (len(payload) // 2), payload)
+        drawn, placed = self.element in (BOUNDARY, PATH), self.element in (SREF, AREF)
+        if kind == HEADER:
+            self.head[0] = shorts[0]
+        elif kind == UNITS:
+            self.head[1] = payload
+        elif kind == BGNSTR:
+            self.refuse_if(len(self.cells) == 1_048_576, 27, "TooManyCells")
+            self.openers = IN_STRUCTURE
+        elif kind == ENDSTR:
+            self.openers, self.element = IN_LIBRARY, None
+        elif kind in (STRNAME, SNAME):
+            self.name(kind, payload)
+        elif kind in (LAYER, DATATYPE):
+            self.refuse_if(drawn and shorts[0] < 0, 12, "Layer")
+            self.values[kind] = shorts[0]
+        elif kind == XY:
+            self.xy(payload)
+        elif kind == ENDEL:
+            self.end()
+        elif self.element == PATH:
+            self.path_value(kind, payload)
+        elif placed:
+            self.place_value(kind, payload, shorts)
+
+    def name(self, kind, payload):
+        name = name_of(payload)
+        self.refuse_if(name is None, 20, "Name")
+        if kind == STRNAME:
+            self.cells.append((name, [], []))
+        self.values[kind] = name
+
+    def path_value(self, kind, payload):
+        value = int.from_bytes(payload, "big", signed=True)
+        self.refuse_if(kind == WIDTH and (value <= 0 or value % 2), 22, "Width")
+        self.refuse_if(kind == PATHTYPE and value not in (0, 2), 23, "PathType")
+        self.values[kind] = value
+
+    def place_value(self, kind, payload, shorts):
+        if kind == STRANS:
+            self.refuse_if(shorts[0] & 0x7FFF, 15, "Strans")
+        elif kind == MAG:
+            self.refuse_if(payload != ONE, 16, "Magnification")
+        elif kind == ANGLE:
+            self.refuse_if(payload not in QUARTERS, 17, "Angle")
+        elif kind == COLROW:
+            self.refuse_if(min(shorts) < 1, 18, "ColRow")
+            self.refuse_if(shorts[0] * shorts[1] > 1_048_576, 26, "Repetition")
+        self.values[kind] = shorts if kind == COLROW else payload
+
+    def xy(self, payload):
+        points = list(struct.iter_unpack(">ii", payload))
+        least, most = POINTS[self.element]
+        self.refuse_if(not least <= len(points) <= most, 13, "Points")
+        if self.element == BOUNDARY:
+            self.refuse_if(points[0] != points[-1], 14, "NotClosed")
+            self.refuse_if(oblique(points[:-1]), 25, "Oblique")
+        elif self.element == PATH:
+            self.refuse_if(WIDTH not in self.values, 22, "Width")
+            fault = path_fault(points, *self.ends())
+            self.refuse_if(fault, 21, "Path", *(fault or ()))
+        elif self.element == AREF:
+            (x, y), *far = points
+            counts = zip(far, self.values[COLROW])
+            self.refuse_if(any((bx - x) % n or (by - y) % n for (bx, by), n in counts), 19, "ArrayStep")
+        self.values[XY] = points
+
+    def ends(self):
+        half = self.values[WIDTH] // 2
+        reach = half if self.values.get(PATHTYPE) == 2 else 0
+        return half, reach, reach
+
+    def end(self):
+        _, shapes, references = self.cells[-1]
+        values, points = self.values, self.values[XY]
+        if self.element in (BOUNDARY, PATH):
+            rings = [points[:-1]] if self.element == BOUNDARY else band_rings(points, *self.ends())
+            shapes.append(Shape((values[LAYER], values[DATATYPE]), rings, ONCE))
+        elif self.element in (SREF, AREF):
+            flip = values.get(STRANS, b"\0")[0] >= 0x80
+            quarters = QUARTERS.index(values.get(ANGLE, QUARTERS[0]))
+            references.append(Reference(values[SNAME], flip, quarters, points[0], self.shifts(points)))
+
+    def shifts(self, points):
+        if self.element == SREF:
+            return ONCE
+        (columns, rows), ((x, y), (ax, ay), (bx, by)) = self.values[COLROW], points
+        return Lattice(((ax - x) // columns, (ay - y) // columns), columns, ((bx - x) // rows, (by - y) // rows), rows)
+
+
+def read(data):
+    return Reader(data).library()

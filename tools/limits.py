@@ -1,0 +1,221 @@
+#!/usr/bin/env python3
+"""Runs `lvl` on files at each limit and one past it: `tools/limits.py [--program FILE] [--only TEXT]`.
+
+The files are made one after another in a temporary folder and kept by none. For each run a line is
+printed: whether the answer is the rules', what was run, its last line, seconds, peak MB, and bytes of the
+files. Some take a minute and 3 GB; the files of 4 GB are zeros that take no room on the disk.
+"""
+import argparse
+import os
+import sys
+import tempfile
+from collections import namedtuple
+
+import crafted
+from crafted import GDS_END, GDS_HEAD, GDS_TEXT, OAS_END, OAS_HEAD, OAS_TEXT
+from crafted import aref, box, gds_cell, gds_file, lattice, oas_cell, oas_file, placement, rectangle, sref
+from oasis import signed, string, unsigned
+
+ROOT = os.path.dirname(os.path.dirname(os.path.abspath(__file__)))
+MOST_BYTES, CELLS, PLACES = 4_294_967_295, 1_048_576, 16_777_216
+# What is run, on which files (pieces of bytes), with which further words, and the lines of the answer.
+Case = namedtuple("Case", "what files words answer")
+
+
+def shown(what, file, top, cells, layers, words=(), head=None):
+    head = head or (GDS_TEXT if what.startswith("gds") else OAS_TEXT)
+    lines = ["file: " + head, "top: " + top, "cells: %d" % cells]
+    return Case(what, [file], words, lines + ["layer %d datatype %d rings %d" % layer for layer in layers])
+
+
+def refused(what, file, refusal, words=()):
+    return Case(what, [file], words, ["refused: first: " + refusal])
+
+
+def told(what, first, second, verdict):
+    heads = [GDS_TEXT if next(file) == GDS_HEAD else OAS_TEXT for file in (first(), second())]
+    return Case(what, [first(), second()], (), ["first: " + heads[0], "second: " + heads[1], verdict])
+
+
+def file_bytes():
+    square = b"".join(gds_file(gds_cell("TOP", box(0, 0, 10, 10))))
+    rest = MOST_BYTES - len(square)
+    yield shown("gds bytes", [square, rest], "TOP", 1, [(1, 0, 1)])
+    yield refused("gds bytes + 1", [square, rest + 1], "gds 5 TooLong at %d" % MOST_BYTES)
+    start = OAS_HEAD + b"".join(oas_cell("TOP", rectangle(0, 0, 10, 10)))
+    rest = MOST_BYTES - len(start) - 256
+    yield shown("oasis bytes", [start, rest, OAS_END], "TOP", 1, [(1, 0, 1)])
+    late = [start, rest + 1, OAS_END]
+    yield refused("oasis bytes, END one later", late, "oasis 11 TooLong at %d" % (MOST_BYTES - 255))
+    yield refused("oasis bytes + 1", [start, rest, OAS_END, 1], "oasis 11 TooLong at %d" % MOST_BYTES)
+
+
+def cells():
+    for more in (0, 1):
+        gds = gds_file(b"".join(gds_cell("%07d" % at)) for at in range(CELLS + more))
+        oas = oas_file(b"".join(oas_cell("%07d" % at)) for at in range(CELLS + more))
+        words = ["--top", "%07d" % 5]
+        if more:
+            yield refused("gds cells + 1", gds, "gds 27 TooManyCells at %d" % (len(GDS_HEAD) + CELLS * 44))
+            yield refused("oasis cells + 1", oas, "oasis 39 TooManyCells at %d" % (len(OAS_HEAD) + CELLS * 9))
+        else:
+            yield shown("gds cells", gds, "0000005", CELLS, [], words)
+            yield shown("oasis cells", oas, "0000005", CELLS, [], words)
+            gds = gds_file(b"".join(gds_cell("%07d" % at)) for at in range(CELLS))
+            yield refused("gds cells, no top told", gds, "cells 6 ManyTops")
+
+
+def chains():
+    full, less = aref("A", 1024, 1024, (1, 0), (0, 1)), aref("A", 1025, 1023, (1, 0), (0, 1))
+    for what, arrays, answer in (("gds chains", [full] * 15 + [less], None), ("gds chains + 1", [full] * 16, 7)):
+        file = gds_file(gds_cell("TOP", *arrays), gds_cell("A"))
+        yield refused(what, file, "cells 7 TooManyPlacements") if answer else shown(what, file, "TOP", 2, [])
+    for what, n, answer in (("oasis chains", 4095, None), ("oasis chains + 1", 4096, 7)):
+        more = placement("A", 0, 0, b"\2" + unsigned(4094 - 1) + b"\1") if not answer else b""
+        file = oas_file(oas_cell("TOP", placement("A", 0, 0, lattice(4096, n, 1, 1)), more), oas_cell("A"))
+        yield refused(what, file, "cells 7 TooManyPlacements") if answer else shown(what, file, "TOP", 2, [])
+
+
+def rings():
+    squares = [box(at, 0, at + 1, 1) for at in range(16)]
+    array = aref("A", 1024, 1024, (20, 0), (0, 20))
+    file = gds_file(gds_cell("TOP", array), gds_cell("A", *squares))
+    yield shown("gds rings", file, "TOP", 2, [(1, 0, PLACES)])
+    file = gds_file(gds_cell("TOP", array, squares[0]), gds_cell("A", *squares))
+    yield refused("gds rings + 1", file, "cells 8 TooManyRings")
+    many = rectangle(0, 0, 1, 1, 1, lattice(4096, 4096, 2, 2))
+    yield shown("oasis rings", oas_file(oas_cell("TOP", many)), "TOP", 1, [(1, 0, PLACES)])
+    file = oas_file(oas_cell("TOP", many, rectangle(0, 0, 1, 1)))
+    yield refused("oasis rings + 1", file, "cells 8 TooManyRings")
+
+
+def compared_rings():
+    """A grid of as many rings as there may be, against the same drawn cell by cell, and against one less."""
+    many = lambda: oas_file(oas_cell("TOP", rectangle(0, 0, 1, 1, 1, lattice(4096, 4096, 2, 2))))
+    rows = lambda n: oas_file(
+        oas_cell("TOP", placement("ROW", 0, 0, b"\3" + unsigned(4094) + b"\2")),
+        oas_cell("ROW", rectangle(0, 0, 1, 1, 1, b"\2" + unsigned(n - 2) + b"\2")),
+    )
+    yield told("oasis rings, compared", many, lambda: rows(4096), "same")
+    verdict = "differ: layer 1 datatype 0 square 8190 0 only in first"
+    yield told("oasis rings, one column less", many, lambda: rows(4095), verdict)
+
+
+def places():
+    for what, file, answer in (
+        ("oasis lattice + 1", rectangle(0, 0, 1, 1, 1, b"\2" + unsigned(PLACES - 1) + b"\1"), "oasis 9 RepetitionSize"),
+        ("oasis list + 1", rectangle(0, 0, 1, 1, 1, b"\4" + unsigned(CELLS - 1)), "oasis 9 RepetitionSize"),
+    ):
+        yield refused(what, oas_file(oas_cell("TOP", file)), "%s at %d" % (answer, len(OAS_HEAD) + 5))
+    listed = rectangle(0, 0, 1, 1, 1, b"\4" + unsigned(CELLS - 2) + b"\2" * (CELLS - 1))
+    yield shown("oasis list", oas_file(oas_cell("TOP", listed)), "TOP", 1, [(1, 0, CELLS)])
+    array = aref("A", 1025, 1024, (1, 0), (0, 1))
+    at = len(GDS_HEAD) + 28 + 8 + 4 + 6
+    yield refused("gds array + 1", gds_file(gds_cell("TOP", array), gds_cell("A")), "gds 26 Repetition at %d" % at)
+
+
+def stairs(count):
+    """Deltas of a polygon that climbs: steps along x and y in turn, one of each list less at the top."""
+    return [signed(1)] * count
+
+
+def deltas():
+    record = len(OAS_HEAD) + 5
+    for use, made in (("polygon", crafted.polygon), ("path", lambda steps: crafted.oas_path(steps, 1))):
+        file = oas_file(oas_cell("TOP", made(stairs(65_536))))
+        yield shown("oasis deltas of a " + use, file, "TOP", 1, [(1, 0, 1 if use == "polygon" else 65_536)])
+        file = oas_file(oas_cell("TOP", made(stairs(65_538))))
+        yield refused("oasis deltas of a %s + 2" % use, file, "oasis 7 PointCount at %d" % record)
+    file = oas_file(oas_cell("TOP", crafted.polygon([b"\6"], 2, 65_537)))
+    yield refused("oasis deltas + 1", file, "oasis 7 PointCount at %d" % record)
+
+
+def points():
+    """In GDSII a record holds no more than 8,191 points."""
+    up = [((n + 1) // 2, n // 2) for n in range(8188)]
+    ring = [*up, (up[-1][0], 9000), (0, 9000)]
+    yield shown("gds points of a boundary", gds_file(gds_cell("TOP", crafted.boundary(ring))), "TOP", 1, [(1, 0, 1)])
+    path = crafted.gds_path([((n + 1) // 2, n // 2) for n in range(8191)], 2)
+    yield shown("gds points of a path", gds_file(gds_cell("TOP", path)), "TOP", 1, [(1, 0, 8190)])
+
+
+def names():
+    long, longer = "N" * 255, "N" * 256
+    yield shown("gds name", gds_file(gds_cell(long)), long, 1, [])
+    yield refused("gds name + 1", gds_file(gds_cell(longer)), "gds 20 Name at %d" % (len(GDS_HEAD) + 28))
+    yield shown("oasis name", oas_file(oas_cell(long)), long, 1, [])
+    yield refused("oasis name + 1", oas_file(oas_cell(longer)), "oasis 3 StringByte at %d" % len(OAS_HEAD))
+    table = lambda name: b"\3" + string(name.encode())
+    yield shown("oasis name in a table", oas_file(table(long), b"\x0D\0"), long, 1, [])
+    file = oas_file(table(longer), b"\x0D\0")
+    yield refused("oasis name in a table + 1", file, "oasis 3 StringByte at %d" % len(OAS_HEAD))
+
+
+def deep():
+    """A chain of as many cells as there may be, against the one square that it places."""
+    last = CELLS - 1
+    gds = lambda: gds_file(
+        (b"".join(gds_cell("%07d" % at, sref("%07d" % (at + 1), 1, 0))) for at in range(last)),
+        gds_cell("%07d" % last, box(0, 0, 1, 1)),
+    )
+    oas = lambda: oas_file(
+        (b"".join(oas_cell("%07d" % at, placement("%07d" % (at + 1), 1, 0))) for at in range(last)),
+        oas_cell("%07d" % last, rectangle(0, 0, 1, 1)),
+    )
+    flat = lambda: gds_file(gds_cell("TOP", box(last, 0, last + 1, 1)))
+    yield told("gds chain of cells", gds, flat, "same")
+    yield told("oasis chain of cells", oas, flat, "same")
+    yield told("chains of cells of both", gds, oas, "same")
+
+
+def round_and_round():
+    """A path that goes round one square again and again, against one round, and one run more."""
+    steps = [signed(10), signed(10), signed(-10), signed(-10)] * 16_384
+    long = lambda: oas_file(oas_cell("TOP", crafted.oas_path(steps, 2)))
+    ring = lambda: gds_file(
+        gds_cell("TOP", *(box(*b) for b in ((-2, -2, 12, 2), (8, -2, 12, 12), (-2, 8, 12, 12), (-2, -2, 2, 12))))
+    )
+    yield told("oasis path on itself", long, ring, "same")
+
+
+def layers():
+    oas = lambda layer: oas_file(oas_cell("TOP", rectangle(0, 0, 1, 1, layer)))
+    gds = lambda layer: gds_file(gds_cell("TOP", box(0, 0, 1, 1, layer)))
+    yield shown("oasis layer", oas(2**32 - 1), "TOP", 1, [(2**32 - 1, 0, 1)])
+    yield refused("oasis layer + 1", oas(2**32), "oasis 38 Layer at %d" % (len(OAS_HEAD) + 5))
+    yield shown("gds layer", gds(32_767), "TOP", 1, [(32_767, 0, 1)])
+    yield refused("gds layer + 1", gds(32_768), "gds 12 Layer at %d" % (len(GDS_HEAD) + 40))
+
+
+GROUPS = [
+    layers, names, points, deltas, places, chains, rings, compared_rings, cells, deep, round_and_round, file_bytes,
+]
+
+
+def tried(program, case, folder):
+    names = [os.path.join(folder, "%s%d" % (case.what.replace(" ", "-"), at)) for at in range(len(case.files))]
+    sizes = [crafted.write(name, file) for name, file in zip(names, case.files)]
+    done = crafted.run(program, ["show" if len(names) == 1 else "compare", *names, *case.words])
+    for name in names:
+        os.remove(name)
+    last = case.answer[-1]
+    status = 2 if last.startswith("refused") else 1 if last.startswith("differ") else 0
+    right = (done.status, done.output, done.errors) == (status, "\n".join(case.answer) + "\n", "")
+    told = done.output.rstrip("\n").split("\n")[-1] if done.output else done.errors.strip()
+    figures = "%.2f s, %.0f MB, %s bytes" % (done.seconds, done.megabytes, " and ".join("%d" % n for n in sizes))
+    print("%s  %s: %s (%s)" % ("right" if right else "WRONG", case.what, told[:90], figures), flush=True)
+    return right
+
+
+def main():
+    line = argparse.ArgumentParser()
+    line.add_argument("--program", default=os.path.join(ROOT, "bin", "lvl"))
+    line.add_argument("--only", default="", help="the groups whose name has this text")
+    asked = line.parse_args()
+    with tempfile.TemporaryDirectory(prefix="lvl-limits-") as folder:
+        right = [tried(asked.program, c, folder) for group in GROUPS if asked.only in group.__name__ for c in group()]
+    sys.exit(0 if all(right) else 1)
+
+
+if __name__ == "__main__":
+    main()

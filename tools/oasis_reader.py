@@ -1,0 +1,361 @@
+"""A second reader of OASIS, by the rules alone: bytes to a library, or the refusal with its offset."""
+from answers import LIMIT, Cell, Lattice, Library, Listed, ONCE, Reference, Refused, Shape
+from answers import band_rings, in_range, oblique, path_fault
+
+MAGIC = b"%SEMI-OASIS\r\n"
+DIRECTIONS = [(1, 0), (0, 1), (-1, 0), (0, -1), (1, 1), (-1, 1), (-1, -1), (1, -1)]
+LISTED, MOST_DELTAS, LAYERS = 1_048_576, 65_536, 2**32
+IN_CELL = (15, 16, 17, 18, 20, 21, 22)
+KNOWN = (0, 1, 2, 3, 4, 13, 14, *IN_CELL)
+A_STRING, N_STRING, B_STRING = range(0x20, 0x7F), range(0x21, 0x7F), range(256)
+GEOMETRY, PLACEMENT = ("geometry-x", "geometry-y"), ("placement-x", "placement-y")
+
+
+def moved(point, step):
+    return point[0] + step[0], point[1] + step[1]
+
+
+def times(step, count):
+    return step[0] * count, step[1] * count
+
+
+class Values:
+    """The values of section 2, one after another; a refusal has the offset of the record begun."""
+
+    def __init__(self, data):
+        self.data, self.at, self.begun = data, 0, 0
+
+    def refuse(self, number, name, *values):
+        raise Refused("oasis", number, name, *values, at=self.begun)
+
+    def refuse_if(self, breached, number, name, *values):
+        if breached:
+            self.refuse(number, name, *values)
+
+    def byte(self):
+        self.refuse_if(self.at >= len(self.data), 1, "Truncated")
+        self.at += 1
+        return self.data[self.at - 1]
+
+    def unsigned(self):
+        value = 0
+        for group in range(10):
+            byte = self.byte()
+            self.refuse_if(group == 9 and byte > 1, 2, "IntegerTooLarge")
+            value |= (byte & 0x7F) << (7 * group)
+            if byte < 0x80:
+                return value
+
+    def signed(self):
+        value = self.unsigned()
+        return -(value >> 1) if value & 1 else value >> 1
+
+    def string(self, kind, most):
+        length = self.unsigned()
+        self.refuse_if(length > most or (kind is N_STRING and length == 0), 3, "StringByte")
+        out = bytearray()
+        for _ in range(length):
+            out.append(self.byte())
+            self.refuse_if(out[-1] not in kind, 3, "StringByte")
+        return out.decode("latin-1")
+
+    def real(self):
+        """The type and what follows it: whole numbers or bytes."""
+        kind = self.unsigned()
+        self.refuse_if(kind > 7, 4, "RealType")
+        if kind > 5:
+            return kind, bytes(self.byte() for _ in range(4 if kind == 6 else 8))
+        numbers = [self.unsigned() for _ in range(2 if kind > 3 else 1)]
+        self.refuse_if(kind > 1 and numbers[-1] == 0, 5, "ZeroDenominator")
+        return kind, numbers
+
+    def delta(self, bits):
+        value = self.unsigned()
+        return times(DIRECTIONS[value & ((1 << bits) - 1)], value >> bits)
+
+    def g_delta(self):
+        value = self.unsigned()
+        if value & 1 == 0:
+            return times(DIRECTIONS[value >> 1 & 7], value >> 4)
+        other = self.unsigned()
+        return (-1 if value & 2 else 1) * (value >> 2), (-1 if other & 1 else 1) * (other >> 1)
+
+    def step(self, kind, at, before):
+        """The delta number `at` of a point list, and the step that it makes."""
+        if kind < 2:
+            length = self.signed()
+            return (length, 0) if (at + kind) % 2 == 0 else (0, length)
+        if kind < 4:
+            return self.delta(kind)
+        step = self.g_delta()
+        return moved(step, before) if kind == 5 else step
+
+    def point_list(self, closed):
+        kind = self.unsigned()
+        self.refuse_if(kind > 5, 6, "PointListType")
+        count = self.unsigned()
+        odd = closed and kind < 2 and count % 2
+        self.refuse_if(odd or not (2 if closed else 1) <= count <= MOST_DELTAS, 7, "PointCount")
+        points, step = [(0, 0)], (0, 0)
+        for at in range(count):
+            step = self.step(kind, at, step)
+            points.append(moved(points[-1], step))
+            self.refuse_if(not in_range(*step, *points[-1]), 10, "OutOfRange")
+        if closed and kind < 2:
+            points.append((0, points[-1][1]) if kind == 0 else (points[-1][0], 0))
+        return points
+
+    def repetition(self, modal):
+        """The shifts; None for type 0 where there is no modal repetition."""
+        kind = self.unsigned()
+        self.refuse_if(kind > 11, 8, "RepetitionType")
+        if kind == 0:
+            return modal
+        if kind in (1, 2, 3, 8, 9):
+            return self.lattice(kind)
+        return self.listed(kind)
+
+    def lattice(self, kind):
+        m = self.unsigned() + 2
+        n = self.unsigned() + 2 if kind in (1, 8) else 1
+        self.refuse_if(m * n > LIMIT, 9, "RepetitionSize")
+        steps = []
+        for count, axis in ((m, 0), (n, 1)) if kind in (1, 8) else ((m, 1 if kind == 3 else 0),):
+            step = self.g_delta() if kind > 7 else times(DIRECTIONS[axis], self.unsigned())
+            self.refuse_if(not in_range(*times(step, count - 1)), 10, "OutOfRange")
+            steps.append(step)
+        lattice = Lattice(steps[0], m, steps[-1] if len(steps) > 1 else (0, 0), n)
+        self.refuse_if(not all(in_range(*corner) for corner in lattice.corners()), 10, "OutOfRange")
+        return lattice
+
+    def listed(self, kind):
+        count = self.unsigned() + 2
+        self.refuse_if(count > LISTED, 9, "RepetitionSize")
+        grid = self.unsigned() if kind in (5, 7, 11) else 1
+        shifts = [(0, 0)]
+        for _ in range(count - 1):
+            step = self.g_delta() if kind > 9 else times(DIRECTIONS[kind // 6], self.unsigned())
+            shifts.append(moved(shifts[-1], times(step, grid)))
+            self.refuse_if(not in_range(*shifts[-1]), 10, "OutOfRange")
+        return Listed(shifts)
+
+
+def unit_text(real):
+    kind, value = real
+    if kind > 5:
+        return "hex " + value.hex()
+    return {0: "%d", 2: "1/%d", 4: "%d/%d"}[kind] % tuple(value)
+
+
+def ratio(real):
+    """The real as a whole number, if it is one of type 0, 2 or 4."""
+    kind, numbers = real
+    if kind not in (0, 2, 4):
+        return None
+    above, below = (numbers[0], 1) if kind == 0 else (1, numbers[0]) if kind == 2 else numbers
+    return above // below if above % below == 0 else None
+
+
+class Reader(Values):
+    def __init__(self, data):
+        super().__init__(data)
+        self.cells, self.in_cell, self.modal = [], False, {}
+        self.names, self.numbers, self.used, self.name_kind = set(), {}, [], None
+
+    def library(self):
+        for byte in MAGIC:
+            self.refuse_if(self.byte() != byte, 20, "Magic")
+        self.begun = self.at
+        id = self.unsigned()
+        self.refuse_if(id != 1, 23, "Unexpected", id)
+        unit, tables_at_end = self.start()
+        while True:
+            self.begun = self.at
+            id = self.unsigned()
+            self.judge(id)
+            if id == 2:
+                return Library("OASIS 1.0 unit %s scheme %s" % (unit, self.end(tables_at_end)), self.named())
+            self.record(id)
+
+    def judge(self, id):
+        """What the id alone breaches."""
+        self.refuse_if(id not in KNOWN, 24, "Unsupported", id)
+        self.refuse_if(id == 1 or (id in IN_CELL and not self.in_cell), 23, "Unexpected", id)
+        self.refuse_if(id in (3, 4) and self.name_kind not in (None, id), 26, "MixedNames")
+        self.refuse_if(id in (13, 14) and len(self.cells) == 1_048_576, 39, "TooManyCells")
+
+    def start(self):
+        version = self.string(A_STRING, 255)
+        self.refuse_if(version != "1.0", 21, "Version")
+        unit = self.real()
+        self.refuse_if(unit[0] in (1, 3, 5), 22, "Unit")
+        flag = self.unsigned()
+        self.refuse_if(flag > 1, 29, "Info")
+        for _ in range(0 if flag else 12):
+            self.unsigned()
+        return unit_text(unit), flag == 1
+
+    def end(self, tables):
+        for _ in range(12 if tables else 0):
+            self.unsigned()
+        padding = self.unsigned()
+        self.refuse_if(self.at - self.begun + padding + 1 > 256, 35, "EndLength")
+        for _ in range(padding):
+            self.byte()
+        scheme = self.byte()
+        self.refuse_if(scheme > 2, 36, "Scheme")
+        signature = bytes(self.byte() for _ in range(4 if scheme else 0))
+        self.refuse_if(self.at - self.begun != 256, 35, "EndLength")
+        self.begun = self.at
+        self.refuse_if(self.at < len(self.data), 37, "AfterEnd")
+        return "%d signature %s" % (scheme, signature.hex()) if scheme else "0"
+
+    def named(self):
+        """The cells with the names of the numbers that they and their references use."""
+        for number in self.used:
+            if number not in self.numbers:
+                raise Refused("oasis", 40, "Unresolved", number)
+        name = lambda used: self.numbers[used] if isinstance(used, int) else used
+        return [
+            Cell(name(cell), shapes, [r._replace(cell=name(r.cell)) for r in references])
+            for cell, shapes, references in self.cells
+        ]
+
+    def record(self, id):
+        if id in (3, 4):
+            self.cell_name(id)
+        elif id in (13, 14):
+            self.cells.append((self.number() if id == 13 else self.string(N_STRING, 255), [], []))
+            self.modal, self.in_cell = {name: 0 for name in GEOMETRY + PLACEMENT}, True
+        elif id in (15, 16):
+            self.modal["relative"] = id == 16
+        elif id in (17, 18):
+            self.placement(id)
+        elif id != 0:
+            {20: self.rectangle, 21: self.polygon, 22: self.path}[id]()
+
+    def number(self):
+        self.used.append(self.unsigned())
+        return self.used[-1]
+
+    def cell_name(self, id):
+        self.name_kind, self.in_cell = id, False
+        name = self.string(N_STRING, 255)
+        number = self.unsigned() if id == 4 else len(self.numbers)
+        self.refuse_if(number in self.numbers, 27, "NumberTwice")
+        self.refuse_if(name in self.names, 28, "NameTwice")
+        self.names.add(name)
+        self.numbers[number] = name
+
+    def field(self, variable, stands, value):
+        if stands:
+            self.modal[variable] = value()
+
+    def position(self, names, info, x_bit):
+        for name, bit in zip(names, (x_bit, x_bit >> 1)):
+            if info & bit:
+                given = self.signed()
+                self.modal[name] = self.modal[name] + given if self.modal.get("relative") else given
+        return self.modal[names[0]], self.modal[names[1]]
+
+    def shifts(self, stands):
+        """The record's repetition; what is missing is told after the other variables."""
+        if not stands:
+            return ONCE
+        shifts = self.repetition(self.modal.get("repetition"))
+        if shifts:
+            self.modal["repetition"] = shifts
+        return shifts
+
+    def defined(self, variables, shifts):
+        for name in variables:
+            self.refuse_if(name not in self.modal, 25, "Undefined", name)
+        self.refuse_if(shifts is None, 25, "Undefined", "repetition")
+        return [self.modal[name] for name in variables]
+
+    def placement(self, id):
+        info = self.byte()
+        flip, cell = info & 1, self.number if info & 0x40 else lambda: self.string(N_STRING, 255)
+        self.field("placement-cell", info & 0x80, cell)
+        scale = self.real() if id == 18 and info & 0x04 else (0, [1])
+        angle = self.real() if id == 18 and info & 0x02 else (0, [0 if id == 18 else 90 * (info >> 1 & 3)])
+        at = self.position(PLACEMENT, info, 0x20)
+        shifts = self.shifts(info & 0x08)
+        (name,) = self.defined(["placement-cell"], shifts)
+        places = [moved(at, corner) for corner in shifts.corners()]
+        self.refuse_if(not all(in_range(*at, *place) for place in places), 10, "OutOfRange")
+        self.refuse_if(ratio(scale) != 1, 30, "Magnification")
+        self.refuse_if(ratio(angle) not in (0, 90, 180, 270), 31, "Angle")
+        self.cells[-1][2].append(Reference(name, bool(flip), ratio(angle) // 90, at, shifts))
+
+    def layer(self, info):
+        self.field("layer", info & 0x01, self.unsigned)
+        self.field("datatype", info & 0x02, self.unsigned)
+
+    def drawn(self, info, variables):
+        """Position, shifts, Layer and further variables of a shape, once all its fields are read."""
+        at = self.position(GEOMETRY, info, 0x10)
+        shifts = self.shifts(info & 0x04)
+        layer, datatype, *values = self.defined(["layer", "datatype", *variables], shifts)
+        self.refuse_if(max(layer, datatype) >= LAYERS, 38, "Layer")
+        self.refuse_if(not in_range(*at), 10, "OutOfRange")
+        return at, shifts, (layer, datatype), values
+
+    def placed(self, at, points):
+        points = [moved(at, point) for point in points]
+        self.refuse_if(not all(in_range(*point) for point in points), 10, "OutOfRange")
+        return points
+
+    def rectangle(self):
+        info = self.byte()
+        self.refuse_if(info & 0xA0 == 0xA0, 29, "Info")
+        self.layer(info)
+        self.field("geometry-w", info & 0x40, self.unsigned)
+        self.field("geometry-h", info & 0x20, self.unsigned)
+        if info & 0x80 and "geometry-w" in self.modal:
+            self.modal["geometry-h"] = self.modal["geometry-w"]
+        at, shifts, layer, (w, h) = self.drawn(info, ["geometry-w", "geometry-h"])
+        ring = self.placed(at, [(0, 0), (w, 0), (w, h), (0, h)])
+        self.cells[-1][1].append(Shape(layer, [ring], shifts))
+
+    def polygon(self):
+        info = self.byte()
+        self.refuse_if(info & 0xC0, 29, "Info")
+        self.layer(info)
+        self.field("polygon-point-list", info & 0x20, lambda: self.point_list(True))
+        at, shifts, layer, (points,) = self.drawn(info, ["polygon-point-list"])
+        ring = self.placed(at, points)
+        self.refuse_if(oblique(ring), 34, "Oblique")
+        self.cells[-1][1].append(Shape(layer, [ring], shifts))
+
+    def extension(self, variable, scheme):
+        """An end's reach; of scheme 2 it is known once the half-width is."""
+        if scheme == 3:
+            self.modal[variable] = self.signed()
+        elif scheme == 1:
+            self.modal[variable] = 0
+        elif scheme == 2 and "path-halfwidth" in self.modal:
+            self.modal[variable] = self.modal["path-halfwidth"]
+
+    def path(self):
+        info = self.byte()
+        ends = ["path-start-extension", "path-end-extension"]
+        self.layer(info)
+        self.field("path-halfwidth", info & 0x40, self.unsigned)
+        if info & 0x80:
+            schemes = self.byte()
+            self.refuse_if(schemes & 0xF0, 29, "Info")
+            self.extension(ends[0], schemes >> 2)
+            self.extension(ends[1], schemes & 3)
+        self.field("path-point-list", info & 0x20, lambda: self.point_list(False))
+        at, shifts, layer, values = self.drawn(info, ["path-halfwidth", *ends, "path-point-list"])
+        half, start, end, points = values
+        points = self.placed(at, points)
+        self.refuse_if(min(start, end) < 0, 32, "Extension")
+        fault = path_fault(points, half, start, end)
+        self.refuse_if(fault, 33, "Path", *(fault or ()))
+        self.cells[-1][1].append(Shape(layer, band_rings(points, half, start, end), shifts))
+
+
+def read(data):
+    return Reader(data).library()
