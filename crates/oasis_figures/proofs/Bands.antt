@@ -2,6 +2,7 @@
 use Rattle.std.proofs.Common.{◌≡◌, ◌∙◌, ℕ, Bool, true, false, List, [], ◌∷◌, Option, Some, None, refl, sym, ap, subst}
 use Rattle.std.proofs.Common.{arith, map}
 use Rattle.std.proofs.Common.{ℤ, pos, negsuc}
+use Rattle.std.proofs.lemmas.Bool.{or_right}
 use Rattle.std.specs.Prelude.{◌<◌, ◌||◌, All, option_map}
 use Rattle.std.specs.Option.{option_or}
 use Rattle.std.specs.declared.alloc.Global.{Global}
@@ -66,10 +67,6 @@ negative : (z : Option ℤ) → option_map extent z ≡ Some Negative → is_neg
 negative None e = cc
 negative (Some (pos k)) e = cc
 negative (Some (negsuc k)) e = refl
-
-or_right : (a b : Bool) → b ≡ true → (a || b) ≡ true
-or_right true b e = refl
-or_right false b e = e
 
 some_negative : (a b : Option ℤ) (x y : Extent) → option_map extent a ≡ Some x → option_map extent b ≡ Some y
     → reaches x y ≡ None
