@@ -12,8 +12,8 @@ use Rattle.lvl_grid.specs.declared.point.Square.{Square}
 use Rattle.lvl_grid.specs.Winding.{winding, edges, goes_up, goes_down}
 use Rattle.lvl_region.specs.Region.{SomeCovers}
 use Rattle.lvl_sweep.specs.declared.edge.Edge.{Edge}
-use Rattle.lvl_sweep.specs.Edges.{net, net_left, IsInside}
-use Rattle.lvl_sweep.specs.Alive.{alive, HasSame, AreEdgesOf}
+use Rattle.lvl_sweep.specs.inside.Edges.{net, net_left, IsInside}
+use Rattle.lvl_sweep.specs.inside.Alive.{alive, HasSame, AreEdgesOf}
 use Rattle.lvl_sweep.proofs.Winds.{bit, count_cons, count_none, other}
 use Rattle.lvl_grid.proofs.Sides.{level_off}
 
