@@ -91,7 +91,7 @@ impl Element {
     /// The order of an element's records and their values are those of the GDSII Stream Format
     /// Manual, Release 6; a rule that [`crate::GdsKind`] marks own is this project's. A record that
     /// may not come there is refused before what it says is looked at. Then its tests run in the
-    /// order of the rules, but `Oblique` behind `NotClosed` and `Width` before `Path`, and the first
+    /// order of the rules, but `Oblique` after `NotClosed` and `Width` before `Path`, and the first
     /// that fails is reported.
     pub fn take(
         self,

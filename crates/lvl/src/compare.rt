@@ -23,7 +23,7 @@ use lvl_region::Side;
 use std::alloc::Global;
 
 /// The libraries of both files checked, flattened and compared; they are not flattened where they are
-/// told cell by cell to draw the same.
+/// found to draw the same cell by cell.
 fn compare_libraries(
     alloc: Global,
     ours: Library,

@@ -46,7 +46,7 @@ fn show_library(
 
 /// What a file's layout holds: what the file says of itself, its top, how many cells it has, and
 /// how many rings the top places on each Layer. It is shown where the file is accepted; a refusal
-/// is told of the first side, and another than for memory or a failed read only where it isn't.
+/// names the first side; one for another cause than memory or a failed read comes only where it isn't.
 pub fn show_file<R: Read>(
     alloc: Global,
     reader: &mut R,

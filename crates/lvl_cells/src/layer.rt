@@ -1,4 +1,4 @@
-//! Layers, by which shapes are told apart.
+//! Layers: what shapes are on.
 ghost use Rattle.std.specs.Prelude.{◌↔◌, IsTrue};
 ghost use Rattle.lvl_cells.specs.Layers.{ComesBefore};
 

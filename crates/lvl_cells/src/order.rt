@@ -1,4 +1,4 @@
-//! An order of the cells in which each stands before those that it refers to.
+//! An order of the cells in which each is before those that it refers to.
 ghost use Rattle.std.specs.Prelude.{IfOk, IfErr};
 ghost use Rattle.lvl_cells.specs.Soundness.{AreLinked, IsOrder};
 ghost use Rattle.lvl_cells.specs.inside.Steps.{AreAllTargets, IsCycleFault};

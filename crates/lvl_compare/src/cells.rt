@@ -95,7 +95,7 @@ fn is_alike(
     draw_alike(alloc, &first.cells()[ours], &second.cells()[theirs])
 }
 
-/// Whether both tops cover the same squares on every Layer, so far as that is told cell by cell. The
+/// Whether both tops cover the same squares on every Layer, so far as that can be seen cell by cell. The
 /// tops are compared, and any other cell with the cell of its name: own shapes with own shapes, and
 /// references place by place. `false` says nothing of what they cover.
 pub fn same_by_cells(alloc: Global, first: &Checked, second: &Checked) -> Result<bool, AllocError>

@@ -1,7 +1,7 @@
 //! Two layouts compared: flat ones Layer by Layer, and libraries cell by cell.
 //!
 //! [`first_difference`] finds the first square that one of two flat layouts alone covers,
-//! [`first_difference_in`] the first of a window, and [`same_by_cells`] tells without flattening
+//! [`first_difference_in`] the first of a window, and [`same_by_cells`] finds without flattening
 //! whether two libraries draw the same, where it can.
 #![tactic(auto)]
 

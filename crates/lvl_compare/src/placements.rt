@@ -16,7 +16,7 @@ pub(crate) struct Placement {
 }
 
 impl Placement {
-    /// By what placements are sorted: it tells any two apart.
+    /// By what placements are sorted: no two different ones have the same.
     fn key(&self) -> (usize, i64, i64, u8, bool) {
         let Map { flip, turn, at } = self.map;
         (self.cell, at.x, at.y, quarters(turn), flip)

@@ -136,7 +136,7 @@ fn bounds_of_cell(checked: &Checked, cell: usize, known: &[Option<Bounds>]) -> O
     hold_references(held, checked, cell, known)
 }
 
-/// Whether all that the top places is within 64 signed bits, so far as boxes tell: each cell's box
+/// Whether all that the top places is within 64 signed bits, so far as boxes show: each cell's box
 /// holds its shapes and the boxes of the cells that it places. `false` says nothing.
 pub fn fits_by_boxes(alloc: Global, checked: &Checked) -> Result<bool, AllocError>
     ensures { IfOk result (λ fits. IsTrue fits

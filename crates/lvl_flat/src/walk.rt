@@ -11,7 +11,7 @@ use lvl_grid::{Map, Point};
 pub(crate) enum Step {
     /// It has nothing left to do.
     Done,
-    /// It is past the places of a reference, and goes on with the one behind.
+    /// It is past the places of a reference, and goes on with the next one.
     Past(Visit),
     /// The cell at the place is placed by the map, and the visit has the rest still to do.
     Into(usize, Map, Visit),

@@ -29,7 +29,7 @@ pub enum PlaceFault {
     /// A coordinate of some placed vertex is outside 64 signed bits.
     #[error("a placed vertex is outside 64 bits")]
     OutOfRange = 1,
-    /// A growth was refused.
+    /// An allocation failed.
     #[error("out of memory")]
     OutOfMemory = 2,
 }

@@ -1,4 +1,4 @@
-//! Readers and writers for tests: they hand out pieces, and fail where they are told to.
+//! Readers and writers for tests: they hand out pieces, and fail where a test says.
 ghost use Rattle.std.specs.Prelude.{Some, []};
 
 use crate::{Failure, Read, Write};
@@ -6,7 +6,7 @@ use std::alloc::Global;
 use std::io;
 
 /// Gives at most `most` bytes of the rest at a read, and at the end of the rest fails as often as
-/// `failures` says before it tells the end.
+/// `failures` says before it reports the end.
 #[derive(Drop)]
 pub struct Pieces<'a> {
     pub rest: &'a [u8],

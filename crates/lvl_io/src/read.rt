@@ -1,4 +1,4 @@
-//! A reader that tells its bytes and counts its errors.
+//! A reader whose contract names its bytes, and which counts its errors.
 ghost use Rattle.std.specs.Prelude.{◌≡◌, ℕ, List, ◌∷◌, Option, Some};
 ghost use Rattle.std.specs.Io.{ReadsAtMost};
 ghost use Rattle.std.specs.Io.KnownBytes.{ReadConsumes};

@@ -1,4 +1,4 @@
-//! A writer that tells its bytes and counts its errors.
+//! A writer whose contract names its bytes, and which counts its errors.
 ghost use Rattle.std.specs.Prelude.{◌≡◌, ℕ, List, ◌∷◌, Option, Some};
 ghost use Rattle.std.specs.Io.{WritesAtMost};
 ghost use Rattle.std.specs.Io.KnownBytes.{Keeps, WriteAppends};

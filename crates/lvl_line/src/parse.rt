@@ -54,7 +54,7 @@ fn job_of(alloc: Global, name: &str, matches: &ArgMatches<'_>) -> Result<Job, Al
     })
 }
 
-/// `clap`'s refusal, told apart from a failed allocation.
+/// `clap`'s refusal, or a failed allocation.
 fn refused(error: Error) -> LineFault
     ensures { (result ≡ OutOfMemory) ⊎ ((kind_of error ≢ ErrorKind.OutOfMemory) × (result ≡ Words error)) }
 {

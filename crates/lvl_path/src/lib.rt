@@ -1,6 +1,6 @@
 //! Paths: the bands of squares that the straight runs of a path cover.
 //!
-//! A path is a list of points, each step along an axis. Where it goes straight on, a point tells
+//! A path is a list of points, each step along an axis. Where it goes straight on, a point adds
 //! nothing and is left out; what is left has straight runs that meet at right angles. Each run
 //! covers a band, and [`bands`] gives these as rings.
 #![tactic(auto)]

@@ -1,7 +1,7 @@
 //! Why something was refused, where memory may be refused too.
 //!
 //! A call that takes memory can fail in two ways: what it was given breaches a rule, or an
-//! allocation failed. [`Refusal`] tells the two apart once for all crates, so that the enum of
+//! allocation failed. [`Refusal`] keeps the two apart once for all crates, so that the enum of
 //! rules of each layer names rules alone, and `?` serves both.
 #![tactic(auto)]
 

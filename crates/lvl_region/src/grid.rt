@@ -37,7 +37,7 @@ fn row_of(alloc: Global, rings: &[Ring], xs: &[i64], y: i64) -> Result<Vec<bool>
     Ok(cells)
 }
 
-/// The cell behind `passed` lines.
+/// The cell after `passed` lines.
 fn cell_behind(cells: &[bool], passed: usize) -> bool
     ensures { result ≡ slice_index_or (false ∷ cells.now) passed false }
 {
@@ -47,7 +47,7 @@ fn cell_behind(cells: &[bool], passed: usize) -> bool
     cells[passed - 1]
 }
 
-/// The row behind `passed` lines.
+/// The row after `passed` lines.
 fn row_behind(rows: &[Vec<bool>], passed: usize) -> &[bool]
     ensures { result.now ≡ slice_index_or ([] ∷ map (λ row. row.items) rows.now) passed [] }
 {

@@ -23,7 +23,7 @@ fn place_along(axis: Axis, point: Point) -> i64
     }
 }
 
-/// Puts the points' places along the axis behind the lines.
+/// Appends the points' coordinates along the axis to the lines.
 fn push_places(lines: &mut Vec<i64>, axis: Axis, points: &[Point]) -> Result<(), AllocError>
     ensures { IfOk result (λ _. lines.new.items ≡ lines.old.items ++ map (along axis) points.now) }
 {
@@ -69,7 +69,7 @@ pub(crate) fn next_line(first: &[i64], i: usize, second: &[i64], j: usize) -> Op
     Some(first[i])
 }
 
-/// The place behind `line` if line `i` of the list is that one, else `i`.
+/// The index after `line` if line `i` of the list is that one, else `i`.
 pub(crate) fn step_past(lines: &[i64], i: usize, line: i64) -> usize
     ensures one { result ≤ i + 1 }
     ensures stays { i ≤ result }

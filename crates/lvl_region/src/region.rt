@@ -20,7 +20,7 @@ pub trait Region: Drop {
     /// Its squares.
     ghost holds: { Self → GridSquare → Type 0 };
 
-    /// The squares that some ring covers. Refused only for want of memory.
+    /// The squares that some ring covers. Fails only when out of memory.
     fn build(alloc: Global, rings: &[Ring]) -> Result<Self, AllocError>
     where
         Self: Sized,
@@ -37,7 +37,7 @@ pub trait Region: Drop {
 }
 
 /// A square that the rings of one list alone cover, with its side, or None where both lists cover
-/// the same squares. Refused only for want of memory.
+/// the same squares. Fails only when out of memory.
 pub fn difference<R: Region>(
     alloc: Global,
     first: &[Ring],

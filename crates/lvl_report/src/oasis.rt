@@ -12,7 +12,7 @@ use oasis_library::{
 use std::io;
 use std::io::Write;
 
-/// Appends bytes in file order, as they stand for a number.
+/// Appends bytes in file order, as hexadecimal digits.
 fn push_bytes(text: &mut Vec<u8>, bytes: &[u8]) -> io::Result<()>
     ensures { OnOk result (text.new.items ≡ text.old.items ++ codes "hex " ++ hex bytes.now) }
 {

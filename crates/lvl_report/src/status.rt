@@ -19,7 +19,7 @@ pub enum Status {
 
 impl Status {
     /// The exit status of the program: 0 where two layouts are the same or one was shown, 1 where
-    /// two differ, 2 where a refusal was told.
+    /// two differ, 2 where a refusal was printed.
     pub fn code(&self) -> u8
         ensures { result ≡ status_code self.now }
     {
@@ -44,7 +44,7 @@ pub enum RunFault {
 }
 
 impl RunFault {
-    /// The exit status of the program: 4 where output failed, 2 for want of memory.
+    /// The exit status of the program: 4 where output failed, 2 when out of memory.
     pub fn code(&self) -> u8
         ensures { result ≡ fault_code self.now }
     {

@@ -1,4 +1,4 @@
-//! An answer told: its text written whole, and its status.
+//! An answer as it is printed: its text written whole, and its status.
 ghost use Rattle.std.specs.Prelude.{◌≡◌, OnOk, OnErr, IfOk, Err};
 ghost use Rattle.std.specs.Io.KnownBytes.{Appends, Keeps};
 ghost use Rattle.lvl_io.specs.Bytes.{CountsFailure};

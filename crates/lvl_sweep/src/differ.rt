@@ -44,7 +44,7 @@ impl Bands for Sweep {
     }
 }
 
-/// What the first bands on both sides tell of the rows from `from` on.
+/// What the first bands on both sides say of the rows from `from` on.
 fn look_ahead<B: Bands>(first: &B, second: &B, from: Option<i64>) -> Ahead
     requires ours { IsSlabList (B.left first.now) }
     requires theirs { IsSlabList (B.left second.now) }

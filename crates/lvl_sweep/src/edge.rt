@@ -45,7 +45,7 @@ fn edge_between(ring: usize, from: Point, to: Point) -> Option<Edge>
     None
 }
 
-/// Puts the vertical edge from one point to the next behind the edges, unless it is flat.
+/// Appends the vertical edge from one point to the next, unless it is flat.
 fn push_edge(edges: &mut Vec<Edge>, ring: usize, from: Point, to: Point) -> Result<(), AllocError>
     ensures rising { IfOk result (λ _. (r : ℕ) (s : GridSquare) → count_by (rises r s) edges.new.items
         ≡ count_by (rises r s) edges.old.items + (if (ring == r) && goes_up s (from, to) then 1 else 0)) }
@@ -62,7 +62,7 @@ fn push_edge(edges: &mut Vec<Edge>, ring: usize, from: Point, to: Point) -> Resu
     Ok(())
 }
 
-/// Puts the vertical edges of a ring behind the edges.
+/// Appends the vertical edges of a ring.
 fn push_edges(edges: &mut Vec<Edge>, ring: usize, points: &[Point]) -> Result<(), AllocError>
     requires { 0 < length points.now }
     ensures rising { IfOk result (λ _. (r : ℕ) (s : GridSquare) → count_by (rises r s) edges.new.items

@@ -46,7 +46,7 @@ pub(crate) fn row_difference(first: &[(i64, i64)], second: &[(i64, i64)]) -> Opt
     None
 }
 
-/// What the first bands on two sides, from a row on, tell of the rows there.
+/// What the first bands on two sides, from a row on, say of the rows there.
 #[derive(Clone, Copy, Debug, PartialEq, Eq)]
 pub enum Ahead {
     /// The least square that one side alone covers.
@@ -79,7 +79,7 @@ pub(crate) fn least_square(band: &Band, from: Option<i64>) -> Square
     }
 }
 
-/// What a band on each side tells.
+/// What a band on each side says.
 pub(crate) fn both(first: &Band, second: &Band, from: Option<i64>) -> Ahead
     requires first { IsMet from (slab_of first.now) }
     requires second { IsMet from (slab_of second.now) }

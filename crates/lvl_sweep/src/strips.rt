@@ -15,7 +15,7 @@ use crate::windings::Windings;
 use lvl_grid::RingList;
 use std::alloc::{AllocError, Global};
 
-/// The index behind the edges that begin by `y`.
+/// The index after the edges that begin by `y`.
 fn end_of_start(edges: &[Edge], from: usize, y: i64) -> usize
     requires within { from ≤ length edges.now }
     ensures within { result ≤ length edges.now }

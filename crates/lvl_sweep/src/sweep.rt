@@ -106,7 +106,7 @@ fn settle(strips: &mut Strips, band: &mut Band) -> bool
 }
 
 impl Sweep {
-    /// The bands of what some ring covers: the one slab list of it. Refused only for want of memory,
+    /// The bands of what some ring covers: the one slab list of it. Fails only when out of memory,
     /// all of which it takes here.
     pub fn new<R: RingList>(alloc: Global, rings: &R) -> Result<Sweep, AllocError>
         ensures bands { IfOk result (λ sweep. AreBandsOf (R.rings rings.now) sweep) }

@@ -11,14 +11,14 @@ ghost use Rattle.lvl_sweep.specs.inside.Walks.{NeverTurns};
 use crate::edge::Edge;
 use crate::windings::Windings;
 
-/// How far a walk has come: behind `at` edges, the last of them at abscissa `x`.
+/// How far a walk has come: past `at` edges, the last of them at abscissa `x`.
 #[derive(Clone, Copy, Debug, PartialEq, Eq)]
 pub struct Place {
     pub at: usize,
     pub x: Option<i64>,
 }
 
-/// Whether an edge stands there, at this abscissa.
+/// Whether there is an edge at the index, at this abscissa.
 fn stands_at(active: &[Edge], i: usize, x: i64) -> bool
     ensures within { IsTrue result → i < length active.now }
     ensures here { IsTrue result → (d : EdgeValue) → (slice_index_or active.now i d).x ≡ x }
@@ -28,7 +28,7 @@ fn stands_at(active: &[Edge], i: usize, x: i64) -> bool
     i < active.len() && active[i].x == x
 }
 
-/// Passes the edge at `at` and all behind it that stand at one abscissa with it.
+/// Passes the edge at `at` and all after it at the same abscissa.
 fn pass_abscissa(active: &[Edge], at: usize, windings: &mut Windings) -> usize
     requires left { at < length active.now }
     requires row { IsRowOf active.now (length windings.old.counts.items) }
@@ -47,7 +47,7 @@ fn pass_abscissa(active: &[Edge], at: usize, windings: &mut Windings) -> usize
     next
 }
 
-/// Passes edges until the squares behind them are inside, or outside, and gives their abscissa.
+/// Passes edges until the squares after them are inside, or outside, and gives their abscissa.
 fn pass_until(
     active: &[Edge],
     place: &mut Place,
@@ -108,7 +108,7 @@ fn forget(active: &[Edge], at: usize, windings: &mut Windings)
     windings.turning = 0;
 }
 
-/// Puts the interval behind the others, which have room for it.
+/// Appends the interval, for which there is room.
 fn put_interval(intervals: &mut Vec<(i64, i64)>, interval: (i64, i64))
     requires { vec_len intervals.old < vec_capacity intervals.old }
     ensures items { intervals.new.items ≡ intervals.old.items ++ interval ∷ [] }

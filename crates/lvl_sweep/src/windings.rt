@@ -12,7 +12,7 @@ pub struct Windings {
     pub turning: usize,
 }
 
-/// The count behind one more edge.
+/// The count after one more edge.
 fn turned(count: i64, up: bool) -> i64
     requires { unsigned_abs count + 1 < 2 ^ 63 }
     ensures { result ≡ count +ℤ turn up }

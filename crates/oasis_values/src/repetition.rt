@@ -1,4 +1,4 @@
-//! Repetitions: the shifts at which a shape or a placement stands, as a lattice or as a list.
+//! Repetitions: the shifts at which a shape or a placement is repeated, as a lattice or as a list.
 ghost use Rattle.std.specs.Prelude.{◌≡◌, ◌<◌, ◌≤◌, ◌^◌, false, IfOk, IfSome, vec_len, vec_capacity};
 ghost use Rattle.oasis_values.specs.Known.{among};
 ghost use Rattle.oasis_values.specs.Repetitions.{kinds, line_size, matrix_size, list_size, modal};
