@@ -11,25 +11,15 @@ use Rattle.gds_elements.specs.declared.element.Element.{Element}
 use Rattle.gds_elements.specs.declared.element.State.{State}
 use Rattle.gds_elements.specs.declared.element.State.TheVariants.{Boundary, Path, Sref, Aref, Text, Drawn as AtEnd}
 use Rattle.gds_elements.specs.declared.boundary.Place.{Place as BoundaryPlace}
-use Rattle.gds_elements.specs.declared.boundary.Place.TheVariants.{Layer, Datatype, Points}
+use Rattle.gds_elements.specs.declared.boundary.Place.TheVariants.{Layer}
 use Rattle.gds_elements.specs.declared.path.Place.{Place as PathPlace}
-use Rattle.gds_elements.specs.declared.path.Place.TheVariants.{Layer as PathLayer, Datatype as PathDatatype, PathType}
-use Rattle.gds_elements.specs.declared.path.Place.TheVariants.{Width as PathWidth, Points as PathPoints}
+use Rattle.gds_elements.specs.declared.path.Place.TheVariants.{Layer as PathLayer}
 use Rattle.gds_elements.specs.declared.sref.Place.{Place as SrefPlace}
-use Rattle.gds_elements.specs.declared.sref.Place.TheVariants.{Name as SrefName, Strans as SrefStrans}
-use Rattle.gds_elements.specs.declared.sref.Place.TheVariants.{Magnification as SrefMagnification, Angle as SrefAngle}
-use Rattle.gds_elements.specs.declared.sref.Place.TheVariants.{Points as SrefPoints}
+use Rattle.gds_elements.specs.declared.sref.Place.TheVariants.{Name as SrefName}
 use Rattle.gds_elements.specs.declared.aref.Place.{Place as ArefPlace}
-use Rattle.gds_elements.specs.declared.aref.Place.TheVariants.{Name as ArefName, Strans as ArefStrans}
-use Rattle.gds_elements.specs.declared.aref.Place.TheVariants.{Magnification as ArefMagnification, Angle as ArefAngle}
-use Rattle.gds_elements.specs.declared.aref.Place.TheVariants.{Columns as ArefColumns, Points as ArefPoints}
+use Rattle.gds_elements.specs.declared.aref.Place.TheVariants.{Name as ArefName}
 use Rattle.gds_elements.specs.declared.text.Place.{Place as TextPlace}
-use Rattle.gds_elements.specs.declared.text.Place.TheVariants.{Layer as TextLayer, TextType as TextTextType}
-use Rattle.gds_elements.specs.declared.text.Place.TheVariants.{Presentation as TextPresentation}
-use Rattle.gds_elements.specs.declared.text.Place.TheVariants.{PathType as TextPathType, Width as TextWidth}
-use Rattle.gds_elements.specs.declared.text.Place.TheVariants.{Strans as TextStrans, Magnification as TextMagnification}
-use Rattle.gds_elements.specs.declared.text.Place.TheVariants.{Angle as TextAngle, Points as TextPoints}
-use Rattle.gds_elements.specs.declared.text.Place.TheVariants.{Letters as TextLetters}
+use Rattle.gds_elements.specs.declared.text.Place.TheVariants.{Layer as TextLayer}
 use Rattle.gds_elements.specs.inside.Boundary.{left as boundary_left}
 use Rattle.gds_elements.specs.inside.Path.{left as path_left}
 use Rattle.gds_elements.specs.inside.Sref.{left as sref_left}
@@ -100,42 +90,23 @@ nothing_follows w u h g =
 -- at each place something is left
 boundary_more : (p : BoundaryPlace) → can_be_empty (boundary_left p) ≡ false
 boundary_more Layer = refl
-boundary_more Datatype = refl
-boundary_more Points = refl
+boundary_more _ = refl
 
 path_more : (p : PathPlace) → can_be_empty (path_left p) ≡ false
 path_more PathLayer = refl
-path_more PathDatatype = refl
-path_more PathType = refl
-path_more PathWidth = refl
-path_more PathPoints = refl
+path_more _ = refl
 
 sref_more : (p : SrefPlace) → can_be_empty (sref_left p) ≡ false
 sref_more SrefName = refl
-sref_more SrefStrans = refl
-sref_more SrefMagnification = refl
-sref_more SrefAngle = refl
-sref_more SrefPoints = refl
+sref_more _ = refl
 
 aref_more : (p : ArefPlace) → can_be_empty (aref_left p) ≡ false
 aref_more ArefName = refl
-aref_more ArefStrans = refl
-aref_more ArefMagnification = refl
-aref_more ArefAngle = refl
-aref_more ArefColumns = refl
-aref_more ArefPoints = refl
+aref_more _ = refl
 
 text_more : (p : TextPlace) → can_be_empty (text_left p) ≡ false
 text_more TextLayer = refl
-text_more TextTextType = refl
-text_more TextPresentation = refl
-text_more TextPathType = refl
-text_more TextWidth = refl
-text_more TextStrans = refl
-text_more TextMagnification = refl
-text_more TextAngle = refl
-text_more TextPoints = refl
-text_more TextLetters = refl
+text_more _ = refl
 
 state_begins : (s : State) (piece : List Rec) → HasRead s piece → Begins an_element (kinds piece)
 state_begins (Boundary b) piece h = leads_begins (kinds piece) (boundary_left b.place) h.leads

@@ -28,36 +28,18 @@ pub shown_header : (p q : Place) (b b' : Builder) (payload : List ℕ) → after
     → shown_at q b' ≡ grown header payload (shown_at p b)
 shown_header Header q b b' payload e c =
     (let z : q ≡ BgnLib = cc in rw (z, c) (sym (plain header payload (done b) refl refl)))
-shown_header BgnLib q b b' payload e c = cc
-shown_header LibName q b b' payload e c = cc
-shown_header Units q b b' payload e c = cc
-shown_header Structures q b b' payload e c = cc
-shown_header StrName q b b' payload e c = cc
-shown_header Elements q b b' payload e c = cc
-shown_header Fill q b b' payload e c = cc
+shown_header _ q b b' payload e c = cc
 
 pub shown_units : (p q : Place) (b b' : Builder) (payload : List ℕ) → after p units ≡ Some q → b'.cells ≡ b.cells
     → shown_at q b' ≡ grown units payload (shown_at p b)
-shown_units Header q b b' payload e c = cc
-shown_units BgnLib q b b' payload e c = cc
-shown_units LibName q b b' payload e c = cc
 shown_units Units q b b' payload e c =
     (let z : q ≡ Structures = cc in rw (z, c) (sym (plain units payload (done b) refl refl)))
-shown_units Structures q b b' payload e c = cc
-shown_units StrName q b b' payload e c = cc
-shown_units Elements q b b' payload e c = cc
-shown_units Fill q b b' payload e c = cc
+shown_units _ q b b' payload e c = cc
 
 pub shown_bgnstr : (p q : Place) (b b' : Builder) (payload : List ℕ) → after p bgnstr ≡ Some q → b'.cells ≡ b.cells
     → shown_at q b' ≡ grown bgnstr payload (shown_at p b)
-shown_bgnstr Header q b b' payload e c = cc
-shown_bgnstr BgnLib q b b' payload e c = cc
-shown_bgnstr LibName q b b' payload e c = cc
-shown_bgnstr Units q b b' payload e c = cc
 shown_bgnstr Structures q b b' payload e c = (let z : q ≡ StrName = cc in rw (z, c) refl)
-shown_bgnstr StrName q b b' payload e c = cc
-shown_bgnstr Elements q b b' payload e c = cc
-shown_bgnstr Fill q b b' payload e c = cc
+shown_bgnstr _ q b b' payload e c = cc
 
 pub shown_strname : (p q : Place) (b b' : Builder) (payload : List ℕ) → after p strname ≡ Some q
     → b'.cells ≡ record {
@@ -65,27 +47,15 @@ pub shown_strname : (p q : Place) (b b' : Builder) (payload : List ℕ) → afte
       current = record { name = name payload; shapes = []; references = [] };
     }
     → shown_at q b' ≡ grown strname payload (shown_at p b)
-shown_strname Header q b b' payload e c = cc
-shown_strname BgnLib q b b' payload e c = cc
-shown_strname LibName q b b' payload e c = cc
-shown_strname Units q b b' payload e c = cc
-shown_strname Structures q b b' payload e c = cc
 shown_strname StrName q b b' payload e c =
     (let z : q ≡ Elements = cc in rw (z, c) (sym (on_last-append (grown_cell strname payload) (done b) no_cell)))
-shown_strname Elements q b b' payload e c = cc
-shown_strname Fill q b b' payload e c = cc
+shown_strname _ q b b' payload e c = cc
 
 pub shown_endstr : (p q : Place) (b b' : Builder) (payload : List ℕ) → after p endstr ≡ Some q
     → b'.cells.cells ≡ done b ++ open_cell b ∷ [] → shown_at q b' ≡ grown endstr payload (shown_at p b)
-shown_endstr Header q b b' payload e c = cc
-shown_endstr BgnLib q b b' payload e c = cc
-shown_endstr LibName q b b' payload e c = cc
-shown_endstr Units q b b' payload e c = cc
-shown_endstr Structures q b b' payload e c = cc
-shown_endstr StrName q b b' payload e c = cc
 shown_endstr Elements q b b' payload e c =
     (let z : q ≡ Structures = cc in rw (z, c) (sym (plain endstr payload (done b ++ open_cell b ∷ []) refl refl)))
-shown_endstr Fill q b b' payload e c = cc
+shown_endstr _ q b b' payload e c = cc
 
 pub by_kind : (k j : ℕ) (p q : Place) (b b' : Builder) (payload : List ℕ) → k ≡ j
     → (after p j ≡ Some q → shown_at q b' ≡ grown j payload (shown_at p b)) → after p k ≡ Some q
@@ -141,13 +111,7 @@ shown_other k Fill q b payload o e =
 -- the place itself isn't shown
 pub shown_place : (q r : Place) (b : Builder) → shown_at q (record b { place = r }) ≡ shown_at q b
 shown_place Header r b = refl
-shown_place BgnLib r b = refl
-shown_place LibName r b = refl
-shown_place Units r b = refl
-shown_place Structures r b = refl
-shown_place StrName r b = refl
-shown_place Elements r b = refl
-shown_place Fill r b = refl
+shown_place _ r b = refl
 
 -- what an element draws is last in the open cell
 pub shown_drawn : (p : Place) (b b' : Builder) (shapes : List KeptShape) (references : List PlainReference)

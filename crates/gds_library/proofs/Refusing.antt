@@ -29,8 +29,7 @@ use Rattle.gds_library.specs.inside.Faults.{IsFault}
 use Rattle.gds_library.specs.inside.Shown.{shown_at}
 use Rattle.gds_library.specs.inside.Holds.{Holds}
 use Rattle.gds_library.specs.declared.place.Place.{Place}
-use Rattle.gds_library.specs.declared.place.Place.TheVariants.{Header, BgnLib, LibName, Units, Structures, StrName}
-use Rattle.gds_library.specs.declared.place.Place.TheVariants.{Elements, Fill}
+use Rattle.gds_library.specs.declared.place.Place.TheVariants.{Structures, StrName, Elements}
 use Rattle.gds_library.specs.declared.builder.Builder.{Builder}
 use Rattle.gds_library.proofs.Places.{OpensNothing, leads_on, leads_nowhere, leads_begins}
 use Rattle.gds_library.proofs.Outside.{outside_after, known_after}
@@ -44,25 +43,14 @@ kept_many rs = length-map (drawn figure_rings) (drawings rs) ∙ length-map draw
 
 -- as many cells are shown as were read, and one more where one is open
 shown_many : (p : Place) (b : Builder) → length b.cells.cells ≤ length (shown_at p b)
-shown_many Header b = omega arith
-shown_many BgnLib b = omega arith
-shown_many LibName b = omega arith
-shown_many Units b = omega arith
-shown_many Structures b = omega arith
 shown_many StrName b = omega (arith, length-append {A = KeptCell})
 shown_many Elements b = omega (arith, length-append {A = KeptCell})
-shown_many Fill b = omega arith
+shown_many _ b = omega arith
 
 -- where a cell may begin, as many are shown as were read
 pub cells_shown : (p q : Place) (b : Builder) → after p bgnstr ≡ Some q → length (shown_at p b) ≡ length b.cells.cells
-cells_shown Header q b e = cc
-cells_shown BgnLib q b e = cc
-cells_shown LibName q b e = cc
-cells_shown Units q b e = cc
 cells_shown Structures q b e = refl
-cells_shown StrName q b e = cc
-cells_shown Elements q b e = cc
-cells_shown Fill q b e = cc
+cells_shown _ q b e = cc
 
 stands_at : (b : Builder) (rs : List Rec) (r : Rec) (o : Option Place) → Holds b rs → after b.place r.kind ≡ o
     → o ≢ None → InOrder rs r

@@ -44,7 +44,7 @@ use Rattle.gds_library.specs.declared.fault.GdsKind.TheVariants.{TooManyCells}
 use Rattle.gds_library.specs.inside.Shown.{grown, shown, on_last, with_drawn}
 use Rattle.gds_library.specs.inside.Holds.{Holds, IsInside, HoldsWith, Takes}
 use Rattle.gds_library.specs.declared.place.Place.{Place}
-use Rattle.gds_library.specs.declared.place.Place.TheVariants.{Header, BgnLib, LibName, Units, Structures, StrName}
+use Rattle.gds_library.specs.declared.place.Place.TheVariants.{Header, BgnLib, LibName, Units, Structures}
 use Rattle.gds_library.specs.declared.place.Place.TheVariants.{Elements, Fill}
 use Rattle.gds_library.specs.declared.builder.Builder.{Builder}
 use Rattle.gds_library.specs.declared.reading.Reading.{Reading}
@@ -202,10 +202,7 @@ units_before BgnLib q k e n h =
 units_before LibName q k e n h =
     (let z : has_units Units ≡ true = subst (λ i. has_units i ≡ true) (same_place (k == libname) Units q e) h in cc)
 units_before Units q k e n h = (let z : None ≡ Some q = none_some (k == units) Structures q None n e in cc)
-units_before Structures q k e n h = refl
-units_before StrName q k e n h = refl
-units_before Elements q k e n h = refl
-units_before Fill q k e n h = refl
+units_before _ q k e n h = refl
 
 units_kept : (t : Bool) (p x y : List ℕ) (old new : List (List ℕ)) → new ≡ (if t then two_reals p else old)
     → (t ≡ false → old ≡ two_reals x) → y ≡ (if t then p else x) → new ≡ two_reals y

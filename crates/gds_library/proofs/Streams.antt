@@ -47,8 +47,7 @@ use Rattle.gds_library.specs.declared.fault.GdsKind.TheVariants.{Record, Misplac
 use Rattle.gds_library.specs.declared.fault.GdsKind.TheVariants.{TooManyCells}
 use Rattle.gds_library.specs.declared.head.GdsHead.{GdsHead}
 use Rattle.gds_library.specs.declared.place.Place.{Place}
-use Rattle.gds_library.specs.declared.place.Place.TheVariants.{Header, BgnLib, LibName, Units, Structures, StrName}
-use Rattle.gds_library.specs.declared.place.Place.TheVariants.{Elements, Fill}
+use Rattle.gds_library.specs.declared.place.Place.TheVariants.{Header, Elements, Fill}
 use Rattle.gds_library.specs.declared.builder.Builder.{Builder}
 use Rattle.gds_library.specs.declared.reading.Reading.{Reading}
 use Rattle.gds_library.proofs.Places.{leads_begins}
@@ -61,14 +60,8 @@ use Rattle.gds_library.proofs.Readable.{law_only}
 
 -- before the place after the end something has to come
 not_ended : (p : Place) → p ≢ Fill → can_be_empty (left p) ≡ false
-not_ended Header h = refl
-not_ended BgnLib h = refl
-not_ended LibName h = refl
-not_ended Units h = refl
-not_ended Structures h = refl
-not_ended StrName h = refl
-not_ended Elements h = refl
 not_ended Fill h = absurd (h refl)
+not_ended _ h = refl
 
 with_unwhole : (o : Option OpenElement) (b : Builder) (rs : List Rec) → HoldsWith o b rs → b.place ≢ Fill → IsWhole rs
     → ⊥
@@ -175,28 +168,19 @@ OfRecord k = Unit {0}
 of_record : (before : List Rec) (r : Rec) (k : GdsKind) → Breaches before r k → OfRecord k
 of_record before r (Record f) b = b
 of_record before r AfterEnd b = b
-of_record before r (Misplaced m) b = tt
-of_record before r (Element m) b = tt
-of_record before r Name b = tt
-of_record before r TooManyCells b = tt
+of_record before r _ b = tt
 
 wrong_record : (before : List Rec) (room : ℕ) (ys : List ℕ) (r : Rec) (k : GdsKind) → OfRecord k → (IsWhole before → ⊥)
     → StartsWith room ys r → Breaches before r k → IsWrong before room ys k
 wrong_record before room ys r (Record f) o n s b = absurd o
 wrong_record before room ys r AfterEnd o n s b = absurd o
-wrong_record before room ys r (Misplaced m) o n s b = (n, r, s, b)
-wrong_record before room ys r (Element m) o n s b = (n, r, s, b)
-wrong_record before room ys r Name o n s b = (n, r, s, b)
-wrong_record before room ys r TooManyCells o n s b = (n, r, s, b)
+wrong_record before room ys r _ o n s b = (n, r, s, b)
 
 seen_refuses : (xs : List ℕ) (at : ℕ) (rest : Option (List ℕ)) (k : GdsKind) → OfRecord k → IsSeenWrong gds xs at rest k
     → RefusesAt xs rest at k
 seen_refuses xs at rest (Record f) o s = absurd o
 seen_refuses xs at rest AfterEnd o s = absurd o
-seen_refuses xs at rest (Misplaced m) o s = s
-seen_refuses xs at rest (Element m) o s = s
-seen_refuses xs at rest Name o s = s
-seen_refuses xs at rest TooManyCells o s = s
+seen_refuses xs at rest _ o s = s
 
 -- where a record is refused
 pub reads_refused : (xs : List ℕ) (at : ℕ) (x : Reading) (was remaining : Option (List ℕ)) (k : ℕ)
@@ -243,10 +227,7 @@ only_fault : (before : List Rec) (room : ℕ) (ys : List ℕ) (f : RecordFault) 
 only_fault before room ys f e t z (Record g) w =
     ap (λ (i : RecordFault). Record i) (same_fault f g (step room ys) e w.2)
 only_fault before room ys f e t z AfterEnd w = absurd (omega (arith, z w.0, w.1))
-only_fault before room ys f e t z (Misplaced m) w = absurd (no_start before room ys f e t w.1 w.2)
-only_fault before room ys f e t z (Element m) w = absurd (no_start before room ys f e t w.1 w.2)
-only_fault before room ys f e t z Name w = absurd (no_start before room ys f e t w.1 w.2)
-only_fault before room ys f e t z TooManyCells w = absurd (no_start before room ys f e t w.1 w.2)
+only_fault before room ys f e t z _ w = absurd (no_start before room ys f e t w.1 w.2)
 
 -- a fault of the bytes in hand
 seen_fault : (xs : List ℕ) (at : ℕ) (Has : List Rec → Type 0) (was remaining : Option (List ℕ)) (hand : List ℕ)
@@ -380,10 +361,7 @@ only_other : (before : List Rec) (room : ℕ) (ys : List ℕ) → IsWhole before
     → IsWrong before room ys j → j ≡ AfterEnd
 only_other before room ys w l (Record f) x = absurd (omega (arith, l, x.3 w))
 only_other before room ys w l AfterEnd x = refl
-only_other before room ys w l (Misplaced m) x = absurd (x.0 w)
-only_other before room ys w l (Element m) x = absurd (x.0 w)
-only_other before room ys w l Name x = absurd (x.0 w)
-only_other before room ys w l TooManyCells x = absurd (x.0 w)
+only_other before room ys w l _ x = absurd (x.0 w)
 
 -- another byte after the end
 pub reads_other : (xs : List ℕ) (at n : ℕ) (b : Builder) (was remaining : Option (List ℕ)) (c : ℕ) (rest hand : List ℕ)

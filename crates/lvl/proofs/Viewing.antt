@@ -1,5 +1,5 @@
 -- From two flat layouts under a view to what the bytes of the files spell.
-use Rattle.std.proofs.Common.{◌≡◌, ◌↔◌, List, [], Option, None, refl, sym, subst}
+use Rattle.std.proofs.Common.{◌≡◌, ◌↔◌, List, [], Option, refl, subst}
 use Rattle.lvl_grid.specs.declared.point.Square.{Square}
 use Rattle.lvl_cells.specs.declared.layer.Layer.{Layer}
 use Rattle.lvl_cells.specs.Cells.{PlainCell, Rings}
@@ -13,7 +13,6 @@ use Rattle.lvl_region.specs.declared.region.Side.{Side}
 use Rattle.lvl_grid.specs.declared.point.Window.{Window}
 use Rattle.lvl_view.specs.Views.{PlainView}
 use Rattle.lvl_view.specs.declared.map.LayerPair.{LayerPair}
-use Rattle.lvl.specs.Drawing.{Drawing}
 use Rattle.lvl.specs.declared.layout.Head.{Head}
 use Rattle.lvl.specs.declared.verdict.Verdict.{Verdict}
 use Rattle.lvl.specs.declared.verdict.Verdict.TheVariants.{Same, Differ}

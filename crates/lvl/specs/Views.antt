@@ -12,7 +12,6 @@ use Rattle.lvl_region.specs.Region.{IsAlone}
 use Rattle.lvl_region.specs.declared.region.Side.{Side}
 use Rattle.lvl_view.specs.Views.{PlainView, target_of}
 use Rattle.lvl_view.specs.declared.map.LayerPair.{LayerPair}
-use Rattle.lvl.specs.Drawing.{Drawing}
 use Rattle.lvl.specs.Layouts.{File, HasHead}
 use Rattle.lvl.specs.Accepted.{AreAccepted, Draws}
 use Rattle.lvl.specs.declared.verdict.Comparison.{Comparison}

@@ -10,7 +10,7 @@ use Rattle.std.specs.declared.alloc.Global.{Global}
 use Rattle.std.specs.declared.vec.Vec.{Vec}
 use Rattle.std.proofs.lemmas.Map.Keys.{apart_from_distinct, IsDistinct-from_apart}
 use Rattle.std.proofs.lemmas.Slice.Eq.{bytes_eq-Decides}
-use Rattle.std.proofs.lemmas.Bool.{false≢true}
+use Rattle.std.proofs.lemmas.Bool.{false≢true, false_from_ne_true}
 use Rattle.std.proofs.lemmas.List.Elements.{Contains-append_cases, Contains-append_left, Contains-append_right}
 use Rattle.std.proofs.lemmas.Option.{slice_get-map, slice_get_within, slice_get-get_or, get_or_from_slice_get}
 use Rattle.lvl_cells.specs.Cells.{PlainCell, PlainReference, Rings, names}
@@ -51,10 +51,6 @@ pub once_numbered : (xs : List ℕ) (i j x : ℕ) → IsDistinct nat_eq xs → s
     → i ≡ j
 once_numbered xs i j x d hi hj = once_in nat_eq (λ y. (Decides-eqb y y).1 refl) xs i j x d hi hj
 
-pub not_true : (b : Bool) → (b ≡ true → ⊥) → b ≡ false
-not_true true h = absurd (h refl)
-not_true false h = refl
-
 -- names of which each stands once are distinct
 pub distinct_once : (xs : List (List ℕ))
     → ((i j : ℕ) (x : List ℕ) → slice_get xs i ≡ Some x → slice_get xs j ≡ Some x → i ≡ j) → IsDistinct bytes_eq xs
@@ -62,7 +58,7 @@ distinct_once xs once =
     IsDistinct-from_apart bytes_eq xs (λ i j d lt le.
     let x : List ℕ = get_or xs i d in
     let y : List ℕ = get_or xs j d in
-    not_true (bytes_eq x y) (λ e.
+    false_from_ne_true (bytes_eq x y) (λ e.
     let same : x ≡ y = (bytes_eq-Decides x y).0 e in
     let at_i : slice_get xs i ≡ Some x = slice_get-get_or xs i d (omega (arith, lt, le)) in
     let at_j : slice_get xs j ≡ Some x = slice_get-get_or xs j d le ∙ ap Some (sym same) in

@@ -19,7 +19,7 @@ use Rattle.lvl_cells.specs.Faults.{IsFaultOf}
 use Rattle.lvl_cells.specs.inside.Steps.{AreAllTargets, IsCycleFault, IsTopFault}
 use Rattle.lvl_cells.specs.Checks.{IsSettled}
 use Rattle.lvl_cells.specs.declared.fault.CellFault.{CellFault}
-use Rattle.lvl_cells.specs.declared.fault.CellFault.TheVariants.{NoCell, DuplicateCell, MissingCell, Cycle, TopMissing}
+use Rattle.lvl_cells.specs.declared.fault.CellFault.TheVariants.{Cycle, TopMissing}
 use Rattle.lvl_cells.specs.declared.fault.CellFault.TheVariants.{ManyTops, TooManyPlacements, TooManyRings}
 use Rattle.lvl_cells.proofs.Missing.{named_links}
 use Rattle.lvl_cells.proofs.Sequences.{item_there}
@@ -146,25 +146,14 @@ ranked_by cells order l o =
 pub cycle_fault : (cells : List (PlainCell Rings)) (given : Option (List ℕ)) (f : CellFault) → AreLinked cells
     → IsCycleFault cells f → IsFaultOf cells given f
 cycle_fault cells given (Cycle round) l h = (l, h)
-cycle_fault cells given NoCell l h = absurd h
-cycle_fault cells given (DuplicateCell name) l h = absurd h
-cycle_fault cells given (MissingCell from name) l h = absurd h
-cycle_fault cells given TopMissing l h = absurd h
-cycle_fault cells given ManyTops l h = absurd h
-cycle_fault cells given TooManyPlacements l h = absurd h
-cycle_fault cells given TooManyRings l h = absurd h
+cycle_fault cells given _ l h = absurd h
 
 pub top_fault : (cells : List (PlainCell Rings)) (given : Option (List ℕ)) (f : CellFault) → 0 < length cells
     → AreLinked cells → IsRanked cells → IsTopFault cells given f → IsFaultOf cells given f
 top_fault cells given TopMissing n l r h =
     (l, r, (λ e. let none : length cells ≡ 0 = ap length e in absurd (omega (arith, n))), h)
 top_fault cells given ManyTops n l r h = (l, r, h.0, h.1)
-top_fault cells given NoCell n l r h = absurd h
-top_fault cells given (DuplicateCell name) n l r h = absurd h
-top_fault cells given (MissingCell from name) n l r h = absurd h
-top_fault cells given (Cycle round) n l r h = absurd h
-top_fault cells given TooManyPlacements n l r h = absurd h
-top_fault cells given TooManyRings n l r h = absurd h
+top_fault cells given _ n l r h = absurd h
 
 -- a sum that stops one past the limit is past it, or whole
 pub sum_at : (cells : List (PlainCell Rings)) (k : ℕ) (c : PlainCell Rings) (w : PlainCell Rings → ℕ) (sum : ℕ)

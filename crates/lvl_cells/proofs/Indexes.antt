@@ -37,7 +37,7 @@ push_cases [] y (suc k) x h = cc
 push_cases (z ∷ zs) y zero x h = inl h
 push_cases (z ∷ zs) y (suc k) x h = ⊎_elim (λ e. inl e) (λ e. inr (ap suc e.0, e.1)) (push_cases zs y k x h)
 
-same_answer : (a b : Bool) → (a ≡ true → b ≡ true) → (b ≡ true → a ≡ true) → a ≡ b
+pub same_answer : (a b : Bool) → (a ≡ true → b ≡ true) → (b ≡ true → a ≡ true) → a ≡ b
 same_answer true b f g = sym (f refl)
 same_answer false true f g = g refl
 same_answer false false f g = refl

@@ -1,5 +1,5 @@
 -- The order of the Layers, and when two are one.
-use Rattle.std.proofs.Common.{◌≡◌, ◌<◌, ℕ, inl, inr, refl, ap, arith, ◌∙◌, ◌==◌, ◌&&◌, not, true, false}
+use Rattle.std.proofs.Common.{◌≡◌, ℕ, inl, inr, refl, ap, arith, ◌∙◌, ◌==◌, ◌&&◌, not, true, false}
 use Rattle.lvl_cells.specs.declared.layer.Layer.{Layer}
 use Rattle.lvl_cells.specs.Layers.{ComesBefore, same_layer}
 
@@ -31,6 +31,9 @@ pub same_is : (a b : Layer) → a ≡ b → same_layer a b ≡ true
 same_is a b same =
     let one : a.layer ≡ b.layer = ap (λ (x : Layer). x.layer) same in
     let two : a.datatype ≡ b.datatype = ap (λ (x : Layer). x.datatype) same in grind arith
+
+pub is_same : (a b : Layer) → same_layer a b ≡ true → a ≡ b
+is_same a b h = tested_layer a b (ap not h)
 
 pub differs_is : (a b : Layer) → (a ≡ b → ⊥) → same_layer a b ≡ false
 differs_is a b other =

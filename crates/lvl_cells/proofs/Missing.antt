@@ -13,8 +13,7 @@ use Rattle.lvl_cells.specs.Faults.{IsFirstMissing}
 use Rattle.lvl_cells.specs.inside.Targets.{AreTargets, IsFirstUnknown, IsMissingFault}
 use Rattle.lvl_cells.specs.inside.Steps.{IsFirstMissingFault}
 use Rattle.lvl_cells.specs.declared.fault.CellFault.{CellFault}
-use Rattle.lvl_cells.specs.declared.fault.CellFault.TheVariants.{NoCell, DuplicateCell, MissingCell, Cycle, TopMissing}
-use Rattle.lvl_cells.specs.declared.fault.CellFault.TheVariants.{ManyTops, TooManyPlacements, TooManyRings}
+use Rattle.lvl_cells.specs.declared.fault.CellFault.TheVariants.{MissingCell}
 use Rattle.lvl_cells.proofs.Indexes.{contains_at}
 use Rattle.lvl_cells.proofs.NamedTargets.{split_here}
 
@@ -112,10 +111,4 @@ pub missing_fault : (cells : List (PlainCell Rings)) (i : ℕ) (c : PlainCell Ri
     → IsMissingFault (names cells) c f → IsFirstMissingFault cells f
 missing_fault cells i c tss (MissingCell from name) h e inv m =
     first_missing cells i c tss from.items name.items h e inv m
-missing_fault cells i c tss NoCell h e inv m = absurd m
-missing_fault cells i c tss (DuplicateCell name) h e inv m = absurd m
-missing_fault cells i c tss (Cycle round) h e inv m = absurd m
-missing_fault cells i c tss TopMissing h e inv m = absurd m
-missing_fault cells i c tss ManyTops h e inv m = absurd m
-missing_fault cells i c tss TooManyPlacements h e inv m = absurd m
-missing_fault cells i c tss TooManyRings h e inv m = absurd m
+missing_fault cells i c tss _ h e inv m = absurd m

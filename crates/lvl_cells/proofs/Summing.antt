@@ -21,10 +21,11 @@ use Rattle.lvl_cells.specs.Chains.{over_chains, most_placed}
 use Rattle.lvl_cells.specs.Soundness.{AreLinked, IsOrder}
 use Rattle.lvl_cells.specs.inside.Steps.{AreAllTargets, placed_sum}
 use Rattle.lvl_cells.proofs.Indexes.{contains_at}
-use Rattle.lvl_cells.proofs.Arcs.{cell_at, once_named, not_true, is_link, row_of, reference_in_row}
+use Rattle.lvl_cells.proofs.Arcs.{cell_at, once_named, is_link, row_of, reference_in_row}
 use Rattle.lvl_cells.proofs.Counting.{FallsFrom, over_chains_is, capped_times}
 use Rattle.lvl_cells.proofs.Examining.{height, height_most, falls_by}
 use Rattle.std.proofs.Math.ListN.{length-map}
+use Rattle.std.proofs.lemmas.Bool.{false_from_ne_true}
 use Rattle.lvl_cells.proofs.Orders.{names_long}
 use Rattle.lvl_cells.proofs.Sequences.{one_answer, item_there}
 use Rattle.lvl_cells.proofs.Walks.{set_there, set_elsewhere, same_or_not}
@@ -119,7 +120,7 @@ distinct_numbers xs once =
     IsDistinct-from_apart nat_eq xs (λ i j d lt le.
     let x : ℕ = get_or xs i d in
     let y : ℕ = get_or xs j d in
-    not_true (nat_eq x y) (λ e.
+    false_from_ne_true (nat_eq x y) (λ e.
     let same : x ≡ y = (Decides-eqb x y).0 e in
     let at_i : slice_get xs i ≡ Some x = slice_get-get_or xs i d (omega (arith, lt, le)) in
     let at_j : slice_get xs j ≡ Some x = slice_get-get_or xs j d le ∙ ap Some (sym same) in

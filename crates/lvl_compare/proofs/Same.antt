@@ -15,27 +15,14 @@ use Rattle.lvl_compare.specs.declared.placements.Placement.{Placement}
 
 turns : (t u : Turn) → turn-eq.it t u ≡ true → t ≡ u
 turns R0 R0 h = refl
-turns R0 R90 h = cc
-turns R0 R180 h = cc
-turns R0 R270 h = cc
-turns R90 R0 h = cc
 turns R90 R90 h = refl
-turns R90 R180 h = cc
-turns R90 R270 h = cc
-turns R180 R0 h = cc
-turns R180 R90 h = cc
 turns R180 R180 h = refl
-turns R180 R270 h = cc
-turns R270 R0 h = cc
-turns R270 R90 h = cc
-turns R270 R180 h = cc
 turns R270 R270 h = refl
+turns _ _ h = cc
 
 turn_itself : (t : Turn) → turn-eq.it t t ≡ true
 turn_itself R0 = refl
-turn_itself R90 = refl
-turn_itself R180 = refl
-turn_itself R270 = refl
+turn_itself _ = refl
 
 flips : (f g : Bool) (t u : Turn) (a b : Point)
     → (let m : Map = record { flip = f; turn = t; at = a } in

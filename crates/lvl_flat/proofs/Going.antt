@@ -28,14 +28,14 @@ use Rattle.lvl_flat.specs.inside.Walking.{AllHaveSheets, IsWalking, references_l
 use Rattle.lvl_flat.specs.inside.Steps.{IsPast, IsInto, IsOut}
 use Rattle.lvl_flat.specs.inside.Entering.{begun, IsDrawn, IsCellOut, IsEnterFault}
 use Rattle.lvl_flat.specs.Flattened.{TellsName}
-use Rattle.lvl_grid.proofs.Anyone.{Any-left, Any-right, Any-sides}
+use Rattle.lvl_grid.proofs.Anyone.{Any-left, Any-right, Any-sides, Any-push}
 use Rattle.lvl_flat.proofs.Picks.{picks_from_start, picks_within}
 use Rattle.lvl_flat.proofs.Ranging.{chain_more, fits_alike, fits_under}
 use Rattle.lvl_flat.proofs.Covering.{drawn_covers}
 use Rattle.lvl_flat.proofs.Drawing.{layer_of, sorted_alike}
 use Rattle.lvl_flat.proofs.Stepping.{pending_at}
 use Rattle.lvl_flat.proofs.Walking.{drawn_length, weight_begun, weight_into, sum_last, visit_begun, visit_into}
-use Rattle.lvl_flat.proofs.Walking.{Any-last, in_front, in_last}
+use Rattle.lvl_flat.proofs.Walking.{in_front, in_last}
 
 -- a cell whose shapes are placed and whose shift fits is in range
 pub in_range_of : (m : Map) (c : PlainCell Rings) → FitsPoint m.at → AreFiguresPlaced m c.shapes
@@ -104,9 +104,9 @@ walk_into s sheets new front v i m rest linked ordered w into d =
           let V : Visit → Type 0 = VisitCovers cells layer q in
           let C : List Point → Type 0 = λ ring. Covers ring q in
           let was = w.covers layer q in
-          let before = Any-last V front v in
-          let after = Any-last V lower child in
-          let inner = Any-last V front rest in
+          let before = Any-push V front v in
+          let after = Any-push V lower child in
+          let inner = Any-push V front rest in
           let go = visit_into cells layer v i m rest q into in
           let begin = visit_begun cells layer i m q c into.there in
           let mine = drawn_covers layer m q c.shapes placed in

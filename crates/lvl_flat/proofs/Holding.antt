@@ -10,6 +10,7 @@ use Rattle.lvl_grid.specs.declared.map.Map.{Map}
 use Rattle.lvl_grid.specs.declared.map.Turn.{Turn}
 use Rattle.lvl_grid.specs.Turn.{image, shifted, turned, reflected, FitsPoint}
 use Rattle.lvl_grid.proofs.Composing.{same_point}
+use Rattle.lvl_grid.proofs.Paths.{origin}
 use Rattle.lvl_flat.proofs.Picks.{picks_any}
 use Rattle.lvl_cells.specs.Cells.{PlainCell, PlainShape, PlainReference, Rings, placing, cell_named}
 use Rattle.lvl_cells.specs.Chains.{Chain, unmoved}
@@ -19,7 +20,7 @@ use Rattle.lvl_flat.specs.Flattened.{AllInRange}
 use Rattle.lvl_flat.specs.inside.Visits.{Pick, picks}
 use Rattle.lvl_flat.specs.inside.Bounds.{IsWithin, Widens, HoldsRing, HoldsOwn, HoldsShape, HoldsCell, HoldsPick}
 use Rattle.lvl_flat.specs.inside.Bounds.{HoldsPicks, HoldsChains, AreBounds, Fits}
-use Rattle.lvl_flat.proofs.Ranging.{origin, image-unmoved, composed_at, first_choice}
+use Rattle.lvl_flat.proofs.Ranging.{image-unmoved, composed_at, first_choice}
 
 pub widens_itself : (a : Bounds) → Widens a a
 widens_itself a = record { holds = λ p w. w }

@@ -1,7 +1,7 @@
 -- The sheets of all Layers: sorted Layers with no Layer twice.
 use Rattle.std.proofs.Common.{◌≡◌, ◌<◌, ◌⊎◌, ◌==◌, ℕ, Bool, true, false, cond, Ordering, Less, Equal, Greater, List, []}
 use Rattle.std.proofs.Common.{◌∷◌, ◌++◌, length, get_or, map, All, AllPairs, Contains, IsPermutation, nat_cmp, nat_lt}
-use Rattle.std.proofs.Common.{not, inl, inr, refl, sym, ap, subst, arith}
+use Rattle.std.proofs.Common.{inl, inr, refl, sym, subst, arith}
 use Rattle.std.specs.Ordering.{ordering_then, eq_by_cmp, on, then_cmp}
 use Rattle.std.specs.Cmp.{IsTotalOrder, IsEquivalence, then_total, on_total, nat_cmp_total, unsigned_ties, both_tied}
 use Rattle.std.specs.Cmp.{and_equiv, on_equiv, nat_eq_equiv}
@@ -20,7 +20,7 @@ use Rattle.lvl_cells.specs.Cells.{PlainCell, PlainShape, Rings}
 use Rattle.lvl_flat.specs.Sheet.{PlainSheet}
 use Rattle.lvl_flat.specs.Sheets.{AreSorted, ContainsAll}
 use Rattle.lvl_cells.specs.Layers.{ComesBefore, same_layer}
-use Rattle.lvl_cells.proofs.Layers.{tested_layer}
+use Rattle.lvl_cells.proofs.Layers.{is_same}
 use Rattle.lvl_flat.specs.inside.Walking.{AllHaveSheets}
 
 -- Layers are compared by the layer, then by the datatype
@@ -76,9 +76,6 @@ sheets_rise xs ss h e =
     IsStrictlySortedBy-dedup layer_total {E = same_layer} layer_ties xs h in
     sheets_sorted ss (subst (AllPairs ComesBefore) (sym e) (pairs_from (dedup same_layer xs) rising))
 
-same_is : (a b : Layer) → same_layer a b ≡ true → a ≡ b
-same_is a b h = tested_layer a b (ap not h)
-
 layer_equiv : IsEquivalence same_layer
 layer_equiv =
     and_equiv (on_equiv (λ (l : Layer). l.layer) nat_eq_equiv) (on_equiv (λ (l : Layer). l.datatype) nat_eq_equiv)
@@ -89,7 +86,7 @@ pub sheets_there : (layers sorted : List Layer) (ss : List PlainSheet) → IsPer
 sheets_there layers sorted ss moved e =
     All-weaker {X = Layer} (Contains layers) (Contains (map (λ s. s.layer) ss))
     (λ l has. subst (λ ls. Contains ls l) (sym e)
-    (Contains-dedup layer_equiv same_is sorted l (Contains-permutation layers sorted l moved has))) layers
+    (Contains-dedup layer_equiv is_same sorted l (Contains-permutation layers sorted l moved has))) layers
     (All-contains_itself layers)
 
 -- Layers that are among these are among those that these are among

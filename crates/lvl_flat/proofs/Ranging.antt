@@ -1,13 +1,13 @@
 -- Chains by their first choice, and what of them is in range.
-use Rattle.std.proofs.Common.{◌≡◌, ℕ, zero, suc, List, Some, Any, Contains, ℤ, pos, ◌+ℤ◌, Bool, true, false, refl, sym}
-use Rattle.std.proofs.Common.{ap, subst, ◌∙◌, arith}
+use Rattle.std.proofs.Common.{◌≡◌, ℕ, zero, suc, List, Some, Any, Contains, ℤ, pos, ◌+ℤ◌, refl, sym, ap, subst, ◌∙◌}
+use Rattle.std.proofs.Common.{arith}
 use Rattle.std.proofs.lemmas.Int.{ints}
-use Rattle.lvl_grid.specs.declared.map.Turn.{Turn}
-use Rattle.lvl_grid.specs.declared.map.Turn.TheVariants.{R0, R90, R180, R270}
 use Rattle.lvl_grid.specs.declared.point.Point.{Point}
 use Rattle.lvl_grid.specs.declared.map.Map.{Map}
-use Rattle.lvl_grid.specs.Turn.{image, turned, reflected, shifted, FitsPoint}
+use Rattle.lvl_grid.specs.Turn.{image, FitsPoint}
 use Rattle.lvl_grid.proofs.Composing.{composed, image-composed, same_point}
+use Rattle.lvl_grid.proofs.Squares.{image_of_origin}
+use Rattle.lvl_grid.proofs.Paths.{origin}
 use Rattle.lvl_cells.specs.Cells.{PlainCell, PlainReference, Rings, each_ring, placing, cell_named}
 use Rattle.lvl_cells.specs.Chains.{Chain, IsComposed, IsInRange, unmoved}
 use Rattle.lvl_flat.specs.inside.Visits.{Pick, picks, FitsUnder, PicksFit}
@@ -86,26 +86,6 @@ first_choice cells c (suc n) m d chain =
           (λ p. image-composed first.rest place p);
       whole = λ q. a.4.1 q ∙ (first.whole (image place q) ∙ ap (image begin) (sym (image-composed first.rest place q)));
     }
-
-abbrev pub origin : Point
-origin = record { x = pos 0; y = pos 0 }
-
-origin_stays : (t : Turn) (f : Bool) → turned t (reflected f origin) ≡ origin
-origin_stays R0 true = refl
-origin_stays R0 false = refl
-origin_stays R90 true = refl
-origin_stays R90 false = refl
-origin_stays R180 true = refl
-origin_stays R180 false = refl
-origin_stays R270 true = refl
-origin_stays R270 false = refl
-
-zero_plus : (a : ℤ) → pos 0 +ℤ a ≡ a
-zero_plus a = omega (arith, ints)
-
-pub image_of_origin : (m : Map) → image m origin ≡ m.at
-image_of_origin m =
-    ap (shifted m.at) (origin_stays m.turn m.flip) ∙ same_point _ _ (zero_plus m.at.x) (zero_plus m.at.y)
 
 -- where the origin comes to lie under two maps
 pub composed_at : (m n w : Map) → IsComposed m n w → w.at ≡ image m n.at

@@ -24,12 +24,11 @@ use Rattle.lvl_flat.specs.inside.Drawn.{placed_ring, placed_figure, placed_shape
 use Rattle.lvl_flat.specs.Sheet.{PlainSheet}
 use Rattle.lvl_cells.specs.Layers.{same_layer}
 use Rattle.lvl_flat.specs.inside.Visits.{Pick, picks, pending, pick_weight, visit_weight, PickCovers, VisitCovers}
-use Rattle.lvl_flat.specs.inside.Visits.{PicksFit}
-use Rattle.lvl_flat.specs.inside.Visits.{IsVisit}
+use Rattle.lvl_flat.specs.inside.Visits.{PicksFit, IsVisit}
 use Rattle.lvl_flat.specs.inside.Walking.{IsWalking}
 use Rattle.lvl_flat.specs.inside.Steps.{IsPast, IsInto}
 use Rattle.lvl_flat.specs.inside.Entering.{begun}
-use Rattle.lvl_grid.proofs.Anyone.{Any-nil, Any-head, Any-tail, Any-uncons, Any-left, Any-right, Any-sides}
+use Rattle.lvl_grid.proofs.Anyone.{Any-nil, Any-head, Any-tail, Any-uncons, Any-push}
 use Rattle.lvl_flat.proofs.Picks.{picks_from_start, picks_sum}
 use Rattle.lvl_flat.proofs.Covering.{Under, under_either, under_same, cell_covers, pick_covers}
 use Rattle.lvl_flat.proofs.Stepping.{pending_at}
@@ -133,13 +132,6 @@ visit_into cells layer v i m rest q into =
           ],
     )
 
-pub Any-last : {X : Type 0} (P : X → Type 0) (xs : List X) (x : X) → Any P (xs ++ x ∷ []) ↔ (Any P xs ⊎ P x)
-Any-last P xs x = (
-  λ a. elim (Any-sides P xs (x ∷ []) a)
-      [ inl b ↦ inl b | inr b ↦ elim (Any-uncons P x [] b) [ inl p ↦ inr p | inr c ↦ absurd (Any-nil P c) ] ],
-  λ e. elim e [ inl b ↦ Any-left P xs (x ∷ []) b | inr p ↦ Any-right P xs (x ∷ []) (Any-head P x [] p) ],
-)
-
 pub in_front : (front : List Visit) (v u : Visit) → Contains front u → Contains (front ++ v ∷ []) u
 in_front front v u h = Contains-append_left front (v ∷ []) u h
 
@@ -156,7 +148,7 @@ walk_done s sheets front v w none = record {
   layers = w.layers;
   covers = λ layer q.
       let both = w.covers layer q in
-      let last = Any-last (VisitCovers s.cells layer q) front v in (
+      let last = Any-push (VisitCovers s.cells layer q) front v in (
         λ h.
             elim (both.0 h) [
               | inl a ↦ inl a
@@ -212,8 +204,8 @@ walk_past s sheets front v rest w past =
       layers = w.layers;
       covers = λ layer q.
           let both = w.covers layer q in
-          let old = Any-last (VisitCovers s.cells layer q) front v in
-          let new = Any-last (VisitCovers s.cells layer q) front rest in (
+          let old = Any-push (VisitCovers s.cells layer q) front v in
+          let new = Any-push (VisitCovers s.cells layer q) front rest in (
             λ h.
                 elim (both.0 h) [
                   | inl a ↦ inl a

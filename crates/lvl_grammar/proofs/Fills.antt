@@ -1,7 +1,8 @@
 -- Orders that end in a type and then in another alone, as zero bytes after the end of a file.
-use Rattle.std.proofs.Common.{◌≡◌, ◌≢◌, ◌==◌, ◌||◌, ℕ, Bool, true, false, List, [], ◌∷◌, ◌++◌, refl, sym, ap, ◌∙◌}
-use Rattle.std.proofs.Common.{subst, append_assoc, inl, inr}
+use Rattle.std.proofs.Common.{◌≡◌, ◌≢◌, ◌==◌, ℕ, true, false, List, [], ◌∷◌, ◌++◌, refl, sym, ap, ◌∙◌, subst}
+use Rattle.std.proofs.Common.{append_assoc, inl, inr}
 use Rattle.std.proofs.lemmas.List.{append-nil}
+use Rattle.std.proofs.lemmas.Bool.{or_parts}
 use Rattle.std.specs.List.{AllByRecursion, flat_map}
 use Rattle.lvl_grammar.specs.Order.{Order, nothing, one, next, either, many, IsWord, Begins, has}
 use Rattle.lvl_grammar.specs.inside.After.{seq}
@@ -32,10 +33,6 @@ all_flat : (P : ℕ → Type 0) (Q : List ℕ → Type 0) → ((u : List ℕ) �
 all_flat P Q h [] p = tt
 all_flat P Q h (w ∷ ws) p = all_append P w (flat_map (λ u. u) ws) (h w p.0) (all_flat P Q h ws p.1)
 
-neither : (a b : Bool) → a || b ≡ false → (a ≡ false) × (b ≡ false)
-neither true b e = cc
-neither false b e = (refl, e)
-
 other_type : (k j : ℕ) → k == j ≡ false → j ≢ k
 other_type k j n e = (let t : true ≡ false = sym (same_type k j (sym e)) ∙ n in cc)
 
@@ -44,11 +41,11 @@ pub word_lacks : (a : Order) (k : ℕ) (w : List ℕ) → has a k ≡ false → 
 word_lacks nothing k w n h = subst (Lacks k) (sym h) tt
 word_lacks (one j) k w n h = subst (Lacks k) (sym h) (other_type k j n, tt)
 word_lacks (next a b) k w n h =
-    let p = neither (has a k) (has b k) n in
+    let p = or_parts (has a k) (has b k) n in
     subst (Lacks k) (sym h.4) (all_append (λ x. x ≢ k) h.0 h.1 (word_lacks a k h.0 p.0 h.2)
     (word_lacks b k h.1 p.1 h.3))
 word_lacks (either a b) k w n h =
-    let p = neither (has a k) (has b k) n in
+    let p = or_parts (has a k) (has b k) n in
     elim h [ inl x ↦ word_lacks a k w p.0 x | inr y ↦ word_lacks b k w p.1 y ]
 word_lacks (many a) k w n h =
     subst (Lacks k) (sym h.2) (all_flat (λ x. x ≢ k) (IsWord a) (λ u. word_lacks a k u n) h.0 h.1)

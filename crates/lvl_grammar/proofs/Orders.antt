@@ -1,7 +1,8 @@
 -- What may come after a type in an order.
-use Rattle.std.proofs.Common.{◌≡◌, ◌==◌, ℕ, ◌⊎◌, inl, inr, Bool, true, false, ◌&&◌, ◌||◌, if◌then◌else◌, List, [], ◌∷◌}
-use Rattle.std.proofs.Common.{◌++◌, map, refl, sym, ap, ◌∙◌, subst, arith, append_assoc, eq-eqb}
+use Rattle.std.proofs.Common.{◌≡◌, ◌==◌, ℕ, ◌⊎◌, inl, inr, Bool, true, false, ◌||◌, if◌then◌else◌, List, [], ◌∷◌, ◌++◌}
+use Rattle.std.proofs.Common.{map, refl, sym, ap, ◌∙◌, subst, arith, append_assoc, eq-eqb}
 use Rattle.std.proofs.lemmas.Bool.Decides.{nat_tests}
+use Rattle.std.proofs.lemmas.Bool.{and_parts, or_right}
 use Rattle.std.specs.List.{AllByRecursion, flat_map}
 use Rattle.lvl_grammar.specs.Order.{Order, nothing, one, next, either, many, IsWord}
 use Rattle.lvl_grammar.specs.inside.After.{seq, can_be_empty, after_first, IsWordOfOne}
@@ -70,10 +71,6 @@ both_nil : (u v : List ℕ) → [] ≡ u ++ v → (u ≡ []) × (v ≡ [])
 both_nil [] v e = (refl, sym e)
 both_nil (x ∷ u) v e = cc
 
-or_right : (a b : Bool) → b ≡ true → a || b ≡ true
-or_right true b e = refl
-or_right false b e = e
-
 pub empty_word : (a : Order) → IsWord a [] → can_be_empty a ≡ true
 empty_word nothing h = refl
 empty_word (one k) h = cc
@@ -87,10 +84,6 @@ empty_word (either a b) h = elim h [
   | inr y ↦ or_right (can_be_empty a) (can_be_empty b) (empty_word b y)
 ]
 empty_word (many a) h = refl
-
-and_parts : (a b : Bool) → a && b ≡ true → (a ≡ true) × (b ≡ true)
-and_parts true b e = (refl, e)
-and_parts false b e = cc
 
 or_parts : (a b : Bool) → a || b ≡ true → (a ≡ true) ⊎ (b ≡ true)
 or_parts true b e = inl refl

@@ -1,6 +1,6 @@
 -- A ring whose points are clamped to a window winds round the window's squares as before, and round no other.
-use Rattle.std.proofs.Common.{subst, ◌≡◌, Bool, true, false, List, [], ◌∷◌, map, ℤ, pos, ◌-ℤ◌, ◌<ℤ◌, ◌≤ℤ◌, ℕ, refl}
-use Rattle.std.proofs.Common.{arith, cond, sym, ap, ◌∙◌, ◌⊎◌, inl, inr, int_lt, int_le, count_by, All, ◌↔◌}
+use Rattle.std.proofs.Common.{subst, ◌≡◌, Bool, true, false, List, [], ◌∷◌, map, ℤ, pos, ◌<ℤ◌, ◌≤ℤ◌, ℕ, refl, arith}
+use Rattle.std.proofs.Common.{cond, sym, ap, ◌∙◌, ◌⊎◌, inl, inr, int_lt, int_le, count_by, All, ◌↔◌}
 use Rattle.std.specs.Int.{int_max, int_min}
 use Rattle.std.proofs.lemmas.Int.{ints, by_lt_z}
 use Rattle.std.proofs.lemmas.List.{length-map}
@@ -13,7 +13,7 @@ use Rattle.lvl_grid.specs.declared.part.Part.{Part}
 use Rattle.lvl_grid.specs.declared.part.Part.TheVariants.{Left, Right, Within}
 use Rattle.lvl_grid.specs.Clip.{clamp, clamped, IsWithin, put, IsIn, IsBeyond}
 use Rattle.lvl_grid.proofs.Turning.{count-cons}
-use Rattle.lvl_grid.proofs.Sides.{side, winding_by_side, winding_left, winding_below}
+use Rattle.lvl_grid.proofs.Sides.{side, winding_by_side, winding_left, winding_below, level_off}
 use Rattle.lvl_grid.proofs.Placing.{map-map, straight_ring}
 
 -- a point is right of one of the window's squares exactly where it was
@@ -62,9 +62,6 @@ level_path s P none p (q ∷ qs) e h =
 last_meets : (P : Point → Type 0) (p : Point) (ps : List Point) → All P (p ∷ ps) → P (last_or p ps)
 last_meets P p [] h = All-head P p [] h
 last_meets P p (q ∷ qs) h = last_meets P q qs (All-tail P p (q ∷ qs) h)
-
-level_off : (a b : ℕ) → a ≡ b → pos a -ℤ pos b ≡ pos 0
-level_off a b e = omega (arith, ints)
 
 level_winding : (s : Square) (P : Point → Type 0) → ((p q : Point) → P p → P q → goes_up s (p, q) ≡ goes_down s (p, q))
     → (ps : List Point) → All P ps → winding ps s ≡ pos 0

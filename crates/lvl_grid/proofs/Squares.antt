@@ -10,6 +10,7 @@ use Rattle.lvl_grid.specs.Turn.{turned, reflected, shifted, image, image_square,
 use Rattle.lvl_grid.specs.Placed.{moved_square}
 use Rattle.lvl_grid.proofs.Composing.{same_point, turned_shifted, reflected_shifted, shifted_twice}
 use Rattle.lvl_grid.proofs.Placing.{turn_square, reflect_square, square_steps}
+use Rattle.lvl_grid.proofs.Paths.{origin}
 
 -- squares with equal coordinates are equal
 pub same_square : (s t : Square) → s.x ≡ t.x → s.y ≡ t.y → s ≡ t
@@ -43,9 +44,6 @@ middle_steps R270 false d s = same_point _ _ (omega (arith, ints, clamps)) (omeg
 middle-image : (m : Map) (s : Square) → middle (image_square m s) ≡ shifted m.at (image m (middle s))
 middle-image m s = middle_steps m.turn m.flip m.at s
 
-abbrev origin : Point
-origin = record { x = pos 0; y = pos 0 }
-
 -- what a map does without its shift
 abbrev turned_only : Map → Point → Point
 turned_only m p = turned m.turn (reflected m.flip p)
@@ -68,7 +66,7 @@ origin_stays R180 false = refl
 origin_stays R270 true = refl
 origin_stays R270 false = refl
 
-image_of_origin : (m : Map) → image m origin ≡ m.at
+pub image_of_origin : (m : Map) → image m origin ≡ m.at
 image_of_origin m =
     ap (shifted m.at) (origin_stays m.turn m.flip) ∙ same_point _ _ (zero_plus m.at.x) (zero_plus m.at.y)
 

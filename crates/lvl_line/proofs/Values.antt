@@ -6,6 +6,7 @@ use Rattle.std.specs.Option.{option_map_or}
 use Rattle.std.specs.List.{find, fold, list_all, list_any}
 use Rattle.std.specs.Str.{bytes_eq, chars}
 use Rattle.std.proofs.lemmas.List.{length-append}
+use Rattle.std.proofs.lemmas.Bool.{and_parts}
 use Rattle.clap.specs.Lexer.{long_of, short_of}
 use Rattle.clap.specs.Values.{is_request}
 use Rattle.clap.specs.Facts.{explicit_source, unwrap_or_range}
@@ -83,10 +84,6 @@ pub neither : (a b : Kinds) → or_else a b ≡ [] → (a ≡ []) × (b ≡ [])
 neither [] b e = (refl, e)
 neither (k ∷ ks) b e = cc
 
-pub both : (a b : Bool) → (a && b) ≡ true → (a ≡ true) × (b ≡ true)
-both true b e = (refl, e)
-both false b e = cc
-
 either : (a b : Bool) → (a || b) ≡ true → (a ≡ true) ⊎ (b ≡ true)
 either true b e = inl refl
 either false b e = inr e
@@ -150,11 +147,11 @@ have_used again a values rows wants none h =
 
 found_wants : (p : Rule → Bool) (c : List Rule) (a : Rule) → WantValues c → find p c ≡ Some a → wants_value a ≡ true
 found_wants p [] a w e = cc
-found_wants p (x ∷ xs) a w e = go (p x) (found_wants p xs a (both _ _ w).1) e
+found_wants p (x ∷ xs) a w e = go (p x) (found_wants p xs a (and_parts _ _ w).1) e
   where
     go : (b : Bool) → (find p xs ≡ Some a → wants_value a ≡ true) → cond b (Some x) (find p xs) ≡ Some a
         → wants_value a ≡ true
-    go true rest same = ap (λ (o : Option Rule). option_map_or wants_value o true) (sym same) ∙ (both _ _ w).0
+    go true rest same = ap (λ (o : Option Rule). option_map_or wants_value o true) (sym same) ∙ (and_parts _ _ w).0
     go false rest same = rest same
 
 module _ (c : List Rule) (again : Bool) (w : WantValues c) where

@@ -12,6 +12,7 @@ use Rattle.lvl_path.specs.declared.way.Way.TheVariants.{East, North, West, South
 use Rattle.lvl_path.specs.Bands.{band_towards, band_between, band_ring, Holds}
 use Rattle.lvl_path.specs.Runs.{point, run_band, runs, path_rings, PathCovers}
 use Rattle.lvl_grid.proofs.Anyone.{Any-map, Any-same}
+use Rattle.lvl_grid.proofs.Turning.{lt_is_not_le, le_is_not_lt}
 
 lt_says : (a b : ℤ) → a <ℤ b → int_lt a b ≡ true
 lt_says a b h = grind (arith, ints)
@@ -27,12 +28,6 @@ said_not_lt a b h = grind (arith, ints)
 
 said_le : (a b : ℤ) → int_le a b ≡ true → a ≤ℤ b
 said_le a b h = grind (arith, ints)
-
-lt_is_not_le : (a b : ℤ) → int_lt a b ≡ not (int_le b a)
-lt_is_not_le a b = grind (arith, ints)
-
-le_is_not_lt : (a b : ℤ) → int_le a b ≡ not (int_lt b a)
-le_is_not_lt a b = grind (arith, ints)
 
 -- what the tests say of a square and a band
 record Tested (b : Band) (s : Square) (right left above below : Bool) : Type 0 where

@@ -10,10 +10,10 @@ use Rattle.std.proofs.lemmas.List.Elements.{All-weaker}
 use Rattle.std.proofs.lemmas.List.Sums.{get_or-le-sum_by, sum_by-cons}
 use Rattle.lvl_grid.specs.declared.point.Point.{Point}
 use Rattle.lvl_sweep.specs.declared.edge.Edge.{Edge}
-use Rattle.lvl_sweep.specs.Edges.{net, net_left, IsBeginOf}
-use Rattle.lvl_sweep.specs.Alive.{alive, rises, falls, HasSame, AreEdgesOf}
+use Rattle.lvl_sweep.specs.inside.Edges.{net, net_left, IsBeginOf}
+use Rattle.lvl_sweep.specs.inside.Alive.{alive, rises, falls, HasSame, AreEdgesOf}
 use Rattle.lvl_sweep.specs.inside.Rows.{Balanced, row, alive_at, row_at, bands_from}
-use Rattle.lvl_sweep.specs.Runs.{IsSameFrom}
+use Rattle.lvl_sweep.specs.inside.Runs.{IsSameFrom}
 use Rattle.lvl_sweep.specs.inside.Strips.{left}
 use Rattle.lvl_sweep.proofs.Winds.{count_none}
 use Rattle.lvl_sweep.proofs.Insides.{inside_same}

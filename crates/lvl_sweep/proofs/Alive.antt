@@ -12,9 +12,10 @@ use Rattle.lvl_grid.specs.declared.point.Square.{Square}
 use Rattle.lvl_grid.specs.Winding.{winding, edges, goes_up, goes_down}
 use Rattle.lvl_region.specs.Region.{SomeCovers}
 use Rattle.lvl_sweep.specs.declared.edge.Edge.{Edge}
-use Rattle.lvl_sweep.specs.Edges.{net, net_left, IsInside}
-use Rattle.lvl_sweep.specs.Alive.{alive, HasSame, AreEdgesOf}
+use Rattle.lvl_sweep.specs.inside.Edges.{net, net_left, IsInside}
+use Rattle.lvl_sweep.specs.inside.Alive.{alive, HasSame, AreEdgesOf}
 use Rattle.lvl_sweep.proofs.Winds.{bit, count_cons, count_none, other}
+use Rattle.lvl_grid.proofs.Sides.{level_off}
 
 sum_filter_by : {A : Type 0} (f : A → ℕ) (x : A) (t : Bool) (xs ys : List A) (n : ℕ) → ys ≡ cond t (x ∷ xs) xs
     → sum_by f xs ≡ n → sum_by f ys ≡ cond t (f x) 0 + n
@@ -77,9 +78,6 @@ sides t z es =
 flat : (a b : ℕ) → pos a -ℤ pos b ≡ pos 0 → a ≡ b
 flat a b h = omega (arith, ints)
 
-level : (a b : ℕ) → a ≡ b → pos a -ℤ pos b ≡ pos 0
-level a b h = omega (arith, ints)
-
 -- in a balanced row the edges left of z balance where those right of it do
 pub left_or_right : (r : ℕ) (z : ℤ) (es : List Edge) → net r es ≡ pos 0
     → net_left r z es ≡ pos 0 ↔ (pos (count_by (λ e. int_lt z e.x && (eqb e.ring r && e.up)) es) -ℤ pos
@@ -94,13 +92,13 @@ left_or_right r z es balanced =
           (λ e. int_le e.x z && (eqb e.ring r && not e.up)) es = flat _ _ h in
           let m : count_by (λ e. int_lt z e.x && (eqb e.ring r && e.up)) es ≡ count_by
           (λ e. int_lt z e.x && (eqb e.ring r && not e.up)) es = omega (arith, ups, downs, whole, l) in
-          level _ _ m,
+          level_off _ _ m,
       λ h.
           let l : count_by (λ e. int_lt z e.x && (eqb e.ring r && e.up)) es ≡ count_by
           (λ e. int_lt z e.x && (eqb e.ring r && not e.up)) es = flat _ _ h in
           let m : count_by (λ e. int_le e.x z && (eqb e.ring r && e.up)) es ≡ count_by
           (λ e. int_le e.x z && (eqb e.ring r && not e.up)) es = omega (arith, ups, downs, whole, l) in
-          level _ _ m,
+          level_off _ _ m,
     )
 
 -- so the walk from the left sees what the winding counts from the right
@@ -125,7 +123,7 @@ no_edge r n z es h k =
     elim (cases_lt r n) [
       | inl lt ↦ lt
       | inr ge ↦
-          absurd (k (level _ _ (count_none (λ e. int_le e.x z && (eqb e.ring r && e.up)) es
+          absurd (k (level_off _ _ (count_none (λ e. int_le e.x z && (eqb e.ring r && e.up)) es
           (All-weaker (λ e. e.ring < n) (λ e. (int_le e.x z && (eqb e.ring r && e.up)) ≡ false)
           (λ e j. off (int_le e.x z) (eqb e.ring r) e.up (other e.ring r (omega arith))) es h)
           ∙ sym (count_none (λ e. int_le e.x z && (eqb e.ring r && not e.up)) es

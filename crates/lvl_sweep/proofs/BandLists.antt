@@ -13,7 +13,7 @@ use Rattle.lvl_grid.specs.declared.point.Square.{Square}
 use Rattle.lvl_sweep.specs.declared.edge.Edge.{Edge}
 use Rattle.lvl_sweep.specs.Slab.{Step, Slab, holds, value_of, Follows, AreSteps, spans, AreIntervals, IsSlabList}
 use Rattle.lvl_sweep.specs.Slab.{slabs_cover}
-use Rattle.lvl_sweep.specs.Alive.{alive}
+use Rattle.lvl_sweep.specs.inside.Alive.{alive}
 use Rattle.lvl_sweep.specs.Ahead.{is_from}
 use Rattle.lvl_sweep.specs.inside.Rows.{from_on, steps_from, inside, far_of, Balanced, row, alive_at, row_at, as_value}
 use Rattle.lvl_sweep.specs.inside.Rows.{same_row, bands_from}

@@ -7,7 +7,7 @@ use Rattle.std.proofs.lemmas.List.{take_more, append_assoc}
 use Rattle.lvl_sweep.specs.declared.edge.Edge.{Edge}
 use Rattle.lvl_sweep.specs.declared.windings.Windings.{Windings}
 use Rattle.lvl_sweep.specs.declared.walk.Place.{Place}
-use Rattle.lvl_sweep.specs.Edges.{AreAtRest}
+use Rattle.lvl_sweep.specs.inside.Edges.{AreAtRest}
 use Rattle.lvl_sweep.specs.inside.Rows.{row, row_from}
 use Rattle.lvl_sweep.specs.inside.Walks.{HasPassed, IsParted, is_inside}
 use Rattle.std.specs.Ordering.{int_eq}

@@ -5,7 +5,7 @@ use Rattle.std.proofs.lemmas.Bool.{cases_Bool, eqb-true}
 use Rattle.std.proofs.lemmas.List.{length-take, get_or-take}
 use Rattle.std.proofs.lemmas.List.Elements.{All-from_get_or}
 use Rattle.lvl_sweep.specs.declared.edge.Edge.{Edge}
-use Rattle.lvl_sweep.specs.Edges.{net}
+use Rattle.lvl_sweep.specs.inside.Edges.{net}
 use Rattle.lvl_sweep.proofs.Winds.{silent}
 
 -- each count is 0, or still that of the edges passed, none of the first i of which is its ring's

@@ -10,7 +10,7 @@ use Rattle.lvl_grid.specs.declared.point.Point.{Point}
 use Rattle.lvl_grid.specs.declared.point.Square.{Square}
 use Rattle.lvl_grid.specs.Winding.{edges, goes_up, goes_down}
 use Rattle.lvl_sweep.specs.declared.edge.Edge.{Edge}
-use Rattle.lvl_sweep.specs.Alive.{alive, rises, falls, AreEdgesOf}
+use Rattle.lvl_sweep.specs.inside.Alive.{alive, rises, falls, AreEdgesOf}
 use Rattle.lvl_sweep.proofs.Winds.{count_none, other}
 
 not_same_by : (a b : ℕ) (t : Bool) → eqb a b ≡ t → b < a → t ≡ false

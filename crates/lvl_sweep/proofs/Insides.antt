@@ -10,7 +10,7 @@ use Rattle.std.proofs.lemmas.List.Elements.{All-weaker}
 use Rattle.std.proofs.lemmas.List.Folds.{Any-from_list_any, list_any-from_Any, list_any_at}
 use Rattle.std.proofs.lemmas.List.Sums.{get_or-le-sum_by}
 use Rattle.lvl_sweep.specs.declared.edge.Edge.{Edge}
-use Rattle.lvl_sweep.specs.Edges.{net_left, IsInside}
+use Rattle.lvl_sweep.specs.inside.Edges.{net_left, IsInside}
 use Rattle.lvl_sweep.specs.inside.Rows.{inside, far_of, Balanced}
 use Rattle.lvl_sweep.proofs.Winds.{count_none, left_of_all}
 

@@ -12,11 +12,11 @@ use Rattle.std.proofs.lemmas.List.Sums.{sum_by-take-drop}
 use Rattle.std.proofs.lemmas.List.Sorted.{length_permutation, sum_by-IsPermutation, All-permutation}
 use Rattle.lvl_sweep.specs.declared.edge.Edge.{Edge}
 use Rattle.lvl_sweep.specs.declared.strips.Strips.{Strips}
-use Rattle.lvl_sweep.specs.Edges.{IsBeginOf}
-use Rattle.lvl_sweep.specs.Alive.{alive, HasSame}
+use Rattle.lvl_sweep.specs.inside.Edges.{IsBeginOf}
+use Rattle.lvl_sweep.specs.inside.Alive.{alive, HasSame}
 use Rattle.lvl_sweep.specs.inside.Rows.{alive_at, row, row_at}
 use Rattle.lvl_sweep.specs.inside.Walks.{IsRowOf}
-use Rattle.lvl_sweep.specs.Runs.{IsSameFrom, RiseWithin, IsEndOf, IsRenewed}
+use Rattle.lvl_sweep.specs.inside.Runs.{IsSameFrom, RiseWithin, IsEndOf, IsRenewed}
 use Rattle.lvl_sweep.specs.inside.Strips.{AreStrips, IsAt, CanLoad}
 use Rattle.lvl_sweep.proofs.Alive.{sum_filter, sum_same, sum_none}
 use Rattle.lvl_sweep.proofs.Alikes.{alive_alike, balanced_alike, row_of_alive, one_begin}

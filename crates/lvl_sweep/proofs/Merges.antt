@@ -7,8 +7,8 @@ use Rattle.std.proofs.lemmas.Bool.{cases_lt, cases_eq}
 use Rattle.std.proofs.lemmas.List.{get_or_default}
 use Rattle.lvl_sweep.specs.declared.edge.Edge.{Edge}
 use Rattle.lvl_sweep.specs.declared.merge.Merge.{Merge}
-use Rattle.lvl_sweep.specs.Edges.{IsLower}
-use Rattle.lvl_sweep.specs.Runs.{IsSameWithin, RiseWithin, AreBefore, IsEndOf, IsMerging, AreFresh, AreActive}
+use Rattle.lvl_sweep.specs.inside.Edges.{IsLower}
+use Rattle.lvl_sweep.specs.inside.Runs.{IsSameWithin, RiseWithin, AreBefore, IsEndOf, IsMerging, AreFresh, AreActive}
 
 nothing : Edge
 nothing = record { low = pos 0; x = pos 0; ring = 0; high = pos 0; up = false }

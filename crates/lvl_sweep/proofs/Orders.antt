@@ -7,7 +7,7 @@ use Rattle.std.specs.declared.cmp.Ordering.TheVariants.{Less, Equal, Greater}
 use Rattle.std.proofs.lemmas.Cmp.{int_ranked}
 use Rattle.std.proofs.lemmas.Int.{ints}
 use Rattle.lvl_sweep.specs.declared.edge.Edge.{Edge}
-use Rattle.lvl_sweep.specs.Alive.{IsNoLater, AreInOrder}
+use Rattle.lvl_sweep.specs.inside.Alive.{IsNoLater, AreInOrder}
 
 pub second_by : (a b : ℤ) (o : Ordering) → o ≡ int_cmp a b → is_lt o ≡ false → b ≤ℤ a
 second_by a b Less e h = cc

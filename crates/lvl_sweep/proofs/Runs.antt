@@ -11,7 +11,7 @@ use Rattle.std.proofs.lemmas.List.Sorted.{All-permutation, IsPermutation-trans}
 use Rattle.std.proofs.lemmas.Slice.{take-put_mid_below, between-put_mid}
 use Rattle.lvl_sweep.specs.declared.edge.Edge.{Edge}
 use Rattle.lvl_sweep.specs.declared.merge.Merge.{Merge}
-use Rattle.lvl_sweep.specs.Runs.{IsSameWithin, IsSameFrom, IsRenewed, IsMerging, IsEndOf}
+use Rattle.lvl_sweep.specs.inside.Runs.{IsSameWithin, IsSameFrom, IsRenewed, IsMerging, IsEndOf}
 use Rattle.lvl_sweep.proofs.Orders.{second_by}
 use Rattle.lvl_sweep.proofs.Merges.{all_kept, rise_kept, part_of}
 

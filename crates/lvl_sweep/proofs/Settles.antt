@@ -8,7 +8,7 @@ use Rattle.lvl_sweep.specs.declared.edge.Edge.{Edge}
 use Rattle.lvl_sweep.specs.declared.band.Band.{Band}
 use Rattle.lvl_sweep.specs.declared.strips.Strips.{Strips}
 use Rattle.lvl_sweep.specs.Slab.{Slab}
-use Rattle.lvl_sweep.specs.Alive.{alive, AreEdgesOf, HasSame}
+use Rattle.lvl_sweep.specs.inside.Alive.{alive, AreEdgesOf, HasSame}
 use Rattle.lvl_sweep.specs.inside.Rows.{Balanced, alive_at, row_at, bands_from}
 use Rattle.lvl_sweep.specs.inside.Strips.{IsAt, IsTop, IsOver, left}
 use Rattle.lvl_sweep.specs.Bands.{slab_of, AreBandsOf}

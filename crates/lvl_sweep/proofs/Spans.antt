@@ -8,7 +8,7 @@ use Rattle.lvl_grid.specs.Winding.{goes_up, goes_down, path_edges}
 use Rattle.lvl_grid.proofs.Paths.{path_at}
 use Rattle.lvl_sweep.proofs.Winds.{bit, count_cons}
 use Rattle.lvl_sweep.specs.declared.edge.Edge.{Edge}
-use Rattle.lvl_sweep.specs.Alive.{rises, falls}
+use Rattle.lvl_sweep.specs.inside.Alive.{rises, falls}
 
 same_way : (a b c d : Bool) → ((a && b) && (c && (d && true))) ≡ (d && (c && (a && b)))
 same_way true true true true = refl

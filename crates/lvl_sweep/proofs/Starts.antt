@@ -12,8 +12,8 @@ use Rattle.lvl_grid.specs.Winding.{winding, edges, goes_up, goes_down}
 use Rattle.lvl_grid.proofs.Sides.{winding_left}
 use Rattle.lvl_sweep.specs.declared.edge.Edge.{Edge}
 use Rattle.lvl_sweep.specs.declared.strips.Strips.{Strips}
-use Rattle.lvl_sweep.specs.Edges.{net, AreAtRest, IsBeginOf}
-use Rattle.lvl_sweep.specs.Alive.{alive, AreInOrder, AreEdgesOf}
+use Rattle.lvl_sweep.specs.inside.Edges.{net, AreAtRest, IsBeginOf}
+use Rattle.lvl_sweep.specs.inside.Alive.{alive, AreInOrder, AreEdgesOf}
 use Rattle.lvl_sweep.specs.inside.Rows.{Balanced, alive_at, row_at}
 use Rattle.lvl_sweep.specs.inside.Strips.{AreStrips, IsAt, CanLoad, IsTop, IsOver}
 use Rattle.lvl_sweep.proofs.Winds.{count_same, no_ring}

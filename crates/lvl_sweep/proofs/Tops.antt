@@ -7,9 +7,9 @@ use Rattle.std.proofs.lemmas.Bool.{cases_lt}
 use Rattle.std.proofs.lemmas.List.{get_or_default}
 use Rattle.lvl_sweep.specs.declared.edge.Edge.{Edge}
 use Rattle.lvl_sweep.specs.declared.strips.Strips.{Strips}
-use Rattle.lvl_sweep.specs.Edges.{IsBeginOf}
-use Rattle.lvl_sweep.specs.Alive.{alive}
-use Rattle.lvl_sweep.specs.Runs.{IsEndOf}
+use Rattle.lvl_sweep.specs.inside.Edges.{IsBeginOf}
+use Rattle.lvl_sweep.specs.inside.Alive.{alive}
+use Rattle.lvl_sweep.specs.inside.Runs.{IsEndOf}
 use Rattle.lvl_sweep.specs.inside.Strips.{AreStrips, IsAt, IsTop, IsOver, left}
 use Rattle.lvl_sweep.proofs.Winds.{bit, count_cons}
 use Rattle.lvl_sweep.proofs.BandLists.{row_at_none, row_at_same}

@@ -16,7 +16,7 @@ use mathlib.Core.Bool.{beq}
 use Rattle.lvl_sweep.specs.declared.edge.Edge.{Edge}
 use Rattle.lvl_sweep.specs.declared.windings.Windings.{Windings}
 use Rattle.lvl_sweep.specs.declared.walk.Place.{Place}
-use Rattle.lvl_sweep.specs.Edges.{turn, how_many_turn, net, net_left, IsInside, AreAtRest}
+use Rattle.lvl_sweep.specs.inside.Edges.{turn, how_many_turn, net, net_left, IsInside, AreAtRest}
 use Rattle.lvl_sweep.specs.inside.Rows.{inside, Balanced, row_from, far_of}
 use Rattle.lvl_sweep.specs.Ahead.{is_from}
 use Rattle.lvl_sweep.specs.inside.Walks.{IsRowOf, HasPassed, IsPartedAt, IsParted, is_inside, IsRightOf, HasTurned}

@@ -10,7 +10,7 @@ use Rattle.std.proofs.lemmas.List.{get_or-set_same, get_or-set_other, length-tak
 use Rattle.std.proofs.lemmas.List.Elements.{All-weaker, All-head, All-tail}
 use Rattle.std.proofs.lemmas.List.Sums.{sum_by_push, sum_by-cons, get_or-le-sum_by, count_by-le-length}
 use Rattle.lvl_sweep.specs.declared.edge.Edge.{Edge}
-use Rattle.lvl_sweep.specs.Edges.{turn, how_many_turn, net, net_left, IsInside}
+use Rattle.lvl_sweep.specs.inside.Edges.{turn, how_many_turn, net, net_left, IsInside}
 
 abbrev pub bit : Bool → ℕ
 bit t = cond t 1 0

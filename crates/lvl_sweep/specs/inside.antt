@@ -1,3 +1,6 @@
+pub mod Edges
+pub mod Alive
+pub mod Runs
 pub mod Rows
 pub mod Walks
 pub mod Strips

@@ -3,7 +3,7 @@ ghost use Rattle.std.specs.Prelude.{◌≡◌, ◌<◌, ◌+◌, ◌&&◌, ◌==
 ghost use Rattle.std.specs.Prelude.{if◌then◌else◌};
 ghost use Rattle.lvl_grid.specs.declared.point.Square.{Square as GridSquare};
 ghost use Rattle.lvl_grid.specs.Winding.{goes_up, goes_down, edges as steps_round};
-ghost use Rattle.lvl_sweep.specs.Alive.{edge_is, rises, falls, AreEdgesOf, AreInOrder};
+ghost use Rattle.lvl_sweep.specs.inside.Alive.{edge_is, rises, falls, AreEdgesOf, AreInOrder};
 
 use lvl_grid::{Point, RingList};
 use std::alloc::{AllocError, Global};

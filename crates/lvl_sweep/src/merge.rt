@@ -4,9 +4,9 @@ ghost use Rattle.std.specs.Prelude.{false, slice_index_or};
 ghost use Rattle.std.specs.List.{AllWithin, SwappedAt};
 ghost use Rattle.std.specs.List.Sorted.{IsPermutation};
 ghost use Rattle.lvl_sweep.specs.declared.edge.Edge.{Edge as EdgeValue};
-ghost use Rattle.lvl_sweep.specs.Edges.{IsLower};
-ghost use Rattle.lvl_sweep.specs.Runs.{RiseWithin, IsEndOf, IsSameWithin, IsSameFrom, IsMerging, AreFresh, AreActive};
-ghost use Rattle.lvl_sweep.specs.Runs.{IsRenewed};
+ghost use Rattle.lvl_sweep.specs.inside.Edges.{IsLower};
+ghost use Rattle.lvl_sweep.specs.inside.Runs.{RiseWithin, IsEndOf, IsSameWithin, IsSameFrom, IsMerging, AreFresh};
+ghost use Rattle.lvl_sweep.specs.inside.Runs.{AreActive, IsRenewed};
 
 use crate::edge::Edge;
 

@@ -3,8 +3,8 @@ ghost use Rattle.std.specs.Prelude.{◌≡◌, ◌<◌, ◌≤◌, ◌+◌, ◌*
 ghost use Rattle.std.specs.Prelude.{IfOk, IfSome, IfNone};
 ghost use Rattle.std.specs.List.{AllWithin};
 ghost use Rattle.std.specs.Vec.{vec_len, vec_capacity};
-ghost use Rattle.lvl_sweep.specs.Alive.{AreEdgesOf, HasSame};
-ghost use Rattle.lvl_sweep.specs.Edges.{IsBeginOf};
+ghost use Rattle.lvl_sweep.specs.inside.Alive.{AreEdgesOf, HasSame};
+ghost use Rattle.lvl_sweep.specs.inside.Edges.{IsBeginOf};
 ghost use Rattle.lvl_sweep.specs.inside.Rows.{row_at};
 ghost use Rattle.lvl_sweep.specs.declared.edge.Edge.{Edge as EdgeValue};
 

@@ -2,7 +2,7 @@
 ghost use Rattle.std.specs.Prelude.{◌≡◌, ◌≢◌, ◌≤◌, ◌+◌, ◌*◌, ◌∷◌, [], length, drop, IsTrue, false, Some, IfOk, IfSome};
 ghost use Rattle.std.specs.Prelude.{IfNone};
 ghost use Rattle.std.specs.Vec.{vec_len, vec_capacity};
-ghost use Rattle.lvl_sweep.specs.Alive.{HasSame};
+ghost use Rattle.lvl_sweep.specs.inside.Alive.{HasSame};
 ghost use Rattle.lvl_sweep.specs.inside.Rows.{row_at, bands_from};
 ghost use Rattle.lvl_sweep.specs.inside.Strips.{IsAt, IsTop, IsOver};
 ghost use Rattle.lvl_sweep.specs.Bands.{slab_of, AreBandsOf, AreFewerThanLines, HaveFewIntervals};

@@ -3,7 +3,7 @@ ghost use Rattle.std.specs.Prelude.{◌≡◌, ◌≢◌, ◌<◌, ◌≤◌, �
 ghost use Rattle.std.specs.Prelude.{IfSome, IfNone, slice_index_or};
 ghost use Rattle.std.specs.Vec.{vec_len, vec_capacity};
 ghost use Rattle.lvl_sweep.specs.declared.edge.Edge.{Edge as EdgeValue};
-ghost use Rattle.lvl_sweep.specs.Edges.{AreAtRest};
+ghost use Rattle.lvl_sweep.specs.inside.Edges.{AreAtRest};
 ghost use Rattle.lvl_sweep.specs.inside.Rows.{row, row_from};
 ghost use Rattle.lvl_sweep.specs.inside.Walks.{IsRowOf, HasPassed, IsPartedAt, IsParted, is_inside, HasTurned};
 ghost use Rattle.lvl_sweep.specs.inside.Walks.{NeverTurns};

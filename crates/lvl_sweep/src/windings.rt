@@ -1,7 +1,7 @@
 //! How often each ring winds round the squares that a walk has come to.
 ghost use Rattle.std.specs.Prelude.{◌≡◌, ◌≢◌, ◌<◌, ◌+◌, ◌^◌, ℤ, pos, ◌+ℤ◌, length, unsigned_abs, slice_index_or};
 ghost use Rattle.std.specs.Prelude.{slice_set, IfOk};
-ghost use Rattle.lvl_sweep.specs.Edges.{turn, weight, how_many_turn, AreAtRest};
+ghost use Rattle.lvl_sweep.specs.inside.Edges.{turn, weight, how_many_turn, AreAtRest};
 
 use std::alloc::{AllocError, Global};
 

@@ -6,7 +6,7 @@ use Rattle.std.proofs.lemmas.Option.{same_Some}
 use Rattle.std.proofs.lemmas.List.Elements.{All-head, All-tail}
 use Rattle.std.proofs.lemmas.Str.Pattern.{IsSplitOnceResult, split_after, split_parts}
 use Rattle.std.proofs.lemmas.Int.{to_z-of_z}
-use Rattle.lvl_view.specs.Texts.{IsJoined, IsHeaded, IsDigits, IsNumber, IsCoordinate, IsOnly, Span, minus}
+use Rattle.lvl_view.specs.Texts.{IsJoined, IsHeaded, IsNumber, IsCoordinate, IsOnly, Span, minus}
 
 -- no byte of the list is the character
 abbrev pub Lacks : ℕ → List ℕ → Type 0

@@ -1,12 +1,11 @@
 -- What parsing a text of digits gives.
-use Rattle.std.proofs.Common.{◌≡◌, ◌≢◌, ℕ, ◌<◌, ◌≤◌, ◌+◌, ◌*◌, ◌^◌, List, [], ◌∷◌, length, All, Option, Some, None}
-use Rattle.std.proofs.Common.{Result, Ok, Err, sym, ap, subst, ◌∙◌, arith, refl, rules, drop, get_or, suc, ℤ, pos}
-use Rattle.std.proofs.Common.{neg_ℤ, ◌⊎◌, inl, inr, ⊎_elim, Bor, Bool, true, false, cond, ◌==◌, unwrap_or, FitsSigned}
-use Rattle.std.proofs.Common.{w64}
+use Rattle.std.proofs.Common.{◌≡◌, ◌≢◌, ℕ, ◌<◌, ◌≤◌, ◌^◌, List, [], ◌∷◌, length, All, Option, Some, None, Result, Ok}
+use Rattle.std.proofs.Common.{Err, sym, ap, subst, ◌∙◌, arith, refl, rules, drop, get_or, suc, ℤ, pos, neg_ℤ, ◌⊎◌, inl}
+use Rattle.std.proofs.Common.{inr, ⊎_elim, Bor, Bool, false, cond, ◌==◌, unwrap_or, FitsSigned, w64}
 use Rattle.std.specs.Str.Parse.{ParsesUnsigned, ParsesSigned, IsNumeral, digits_value, signed_digits_value}
 use Rattle.std.specs.Str.Parse.{without_leading_sign}
 use Rattle.std.specs.Option.{MatchOption}
-use Rattle.std.specs.Result.{OkIff, result_ok}
+use Rattle.std.specs.Result.{result_ok}
 use Rattle.std.proofs.lemmas.List.Elements.{All-head, All-tail}
 use Rattle.std.proofs.lemmas.Str.Parse.{IsNumeralModel, IsDigitsTest, numerals_by_value, parse_digits}
 use Rattle.std.proofs.lemmas.Option.{same_Some}

@@ -1,7 +1,7 @@
 -- A map of sources with one pair more.
-use Rattle.std.proofs.Common.{◌≡◌, ◌≢◌, ℕ, zero, suc, ◌+◌, ◌<◌, Bool, true, false, ◌&&◌, ◌||◌, ◌==◌, cond, List, []}
-use Rattle.std.proofs.Common.{◌∷◌, ◌++◌, take, drop, length, get_or, map, Option, Some, None, is_some, Contains, refl}
-use Rattle.std.proofs.Common.{sym, ap, ◌∙◌, subst, arith, append_assoc}
+use Rattle.std.proofs.Common.{◌≡◌, ℕ, zero, suc, ◌+◌, ◌<◌, Bool, true, false, ◌&&◌, ◌||◌, ◌==◌, cond, List, [], ◌∷◌}
+use Rattle.std.proofs.Common.{◌++◌, take, drop, length, get_or, Option, Some, None, is_some, Contains, refl, sym, ap}
+use Rattle.std.proofs.Common.{◌∙◌, subst, arith, append_assoc}
 use Rattle.std.specs.List.{list_any, IsDistinct}
 use Rattle.std.specs.Cmp.{IsEquivalence}
 use Rattle.std.specs.Ordering.{is_eq, nat_cmp, ordering_then}
@@ -24,6 +24,8 @@ use Rattle.lvl_view.specs.declared.fault.ViewFault.{ViewFault}
 use Rattle.lvl_view.specs.declared.fault.ViewFault.TheVariants.{MapText, WindowText, MapTwice, EmptyWindow}
 use Rattle.lvl_view.specs.inside.Reading.{AreTargets, IsAlone, IsTwiceFault}
 use Rattle.lvl_view.specs.declared.map.LayerPair.{LayerPair}
+use Rattle.lvl_cells.proofs.Layers.{is_same}
+use Rattle.lvl_cells.proofs.Indexes.{same_answer}
 
 then_is_eq : (o p : Ordering) → is_eq (ordering_then o p) ≡ (is_eq o && is_eq p)
 then_is_eq Less p = refl
@@ -40,36 +42,19 @@ cmp_same a b =
     ∙ (ap (λ (t : Bool). t && is_eq (nat_cmp a.datatype b.datatype)) (number_is_eq a.layer b.layer)
     ∙ ap (λ (t : Bool). (a.layer == b.layer) && t) (number_is_eq a.datatype b.datatype))
 
-and_parts : (a b : Bool) → (a && b) ≡ true → (a ≡ true) × (b ≡ true)
-and_parts true b h = (refl, h)
-and_parts false b h = absurd (false≢true h)
-
-pub same_is : (a b : Layer) → same_layer a b ≡ true → a ≡ b
-same_is a b h =
-    let both = and_parts (a.layer == b.layer) (a.datatype == b.datatype) h in
-    let one : a.layer ≡ b.layer = (Decides-eqb a.layer b.layer).0 both.0 in
-    let two : a.datatype ≡ b.datatype = (Decides-eqb a.datatype b.datatype).0 both.1 in
-    ap (λ (n : ℕ). record { layer = n; datatype = a.datatype }) one
-    ∙ ap (λ (n : ℕ). record { layer = b.layer; datatype = n }) two
-
 same_self : (a : Layer) → same_layer a a ≡ true
 same_self a =
     ap (λ (t : Bool). t && (a.datatype == a.datatype)) ((Decides-eqb a.layer a.layer).1 refl)
     ∙ (Decides-eqb a.datatype a.datatype).1 refl
 
-same_either : (a b : Bool) → (a ≡ true → b ≡ true) → (b ≡ true → a ≡ true) → a ≡ b
-same_either true b f g = sym (f refl)
-same_either false true f g = g refl
-same_either false false f g = refl
-
 pub same_laws : IsEquivalence same_layer
 same_laws = record {
   refl = same_self;
   symm =
-      λ x y. same_either (same_layer x y) (same_layer y x)
-      (λ h. subst (λ z. same_layer z x ≡ true) (same_is x y h) (same_self x))
-      (λ h. subst (λ z. same_layer z y ≡ true) (same_is y x h) (same_self y));
-  congr = λ x y z h. ap (λ (w : Layer). same_layer w z) (same_is x y h);
+      λ x y. same_answer (same_layer x y) (same_layer y x)
+      (λ h. subst (λ z. same_layer z x ≡ true) (is_same x y h) (same_self x))
+      (λ h. subst (λ z. same_layer z y ≡ true) (is_same y x h) (same_self y));
+  congr = λ x y z h. ap (λ (w : Layer). same_layer w z) (is_same x y h);
 }
 
 cond_none : (b : Bool) (x : Layer) (o : Option Layer) → cond b (Some x) o ≡ None → (b ≡ false) × (o ≡ None)
@@ -90,7 +75,7 @@ find_push (w ∷ pairs) p q h =
     let parts = cond_none (same_layer w.source p.source) w.target (target_in pairs p.source) h in
     ap (λ (t : Option Layer). cond (same_layer w.source q) (Some w.target) t) (find_push pairs p q parts.1)
     ∙ swap (same_layer w.source q) (same_layer p.source q) (Some w.target) (Some p.target) (target_in pairs q)
-    (λ a b. false≢true (sym parts.0 ∙ subst (λ z. same_layer w.source z ≡ true) (sym (same_is p.source q b)) a))
+    (λ a b. false≢true (sym parts.0 ∙ subst (λ z. same_layer w.source z ≡ true) (sym (is_same p.source q b)) a))
 
 absent : (pairs : List LayerPair) (y : Layer) → target_in pairs y ≡ None
     → list_any (same_layer y) (sources pairs) ≡ false
@@ -106,7 +91,7 @@ contains_source (w ∷ pairs) y h =
     elim (same_layer w.source y)
     as (λ b. same_layer w.source y ≡ b → is_some (cond b (Some w.target) (target_in pairs y)) ≡ true
     → Contains (sources (w ∷ pairs)) y) [
-      | true ↦ λ e t. (zero, omega arith, same_is w.source y e)
+      | true ↦ λ e t. (zero, omega arith, is_same w.source y e)
       | false ↦ λ e t. let k = contains_source pairs y t in (suc k.0, omega (arith, k.1), k.2)
     ] refl h
 

@@ -3,7 +3,6 @@ use Rattle.std.specs.Prelude.{◌≡◌, ℕ, ◌≤ℤ◌, List, [], ◌∷◌,
 use Rattle.std.specs.Prelude.{option_map, if◌then◌else◌}
 use denote.Ref.{Bor}
 use Rattle.std.specs.List.{IsDistinct}
-use Rattle.std.specs.BTreeMap.{BTreeMap}
 use Rattle.std.specs.BTreeMap as tree
 use Rattle.lvl_cells.specs.Layers.{same_layer}
 use Rattle.lvl_cells.specs.declared.layer.Layer.{Layer}

@@ -1,7 +1,7 @@
 -- Paths: their bands, and the rules that they breach.
 use Rattle.std.proofs.Common.{◌≡◌, ◌∙◌, ℕ, Bool, true, false, List, [], ◌∷◌, Option, Some, None, refl, sym, ap, subst}
-use Rattle.std.proofs.Common.{arith, map}
-use Rattle.std.proofs.Common.{ℤ, pos, negsuc}
+use Rattle.std.proofs.Common.{arith, map, ℤ, pos, negsuc}
+use Rattle.std.proofs.lemmas.Bool.{or_right}
 use Rattle.std.specs.Prelude.{◌<◌, ◌||◌, All, option_map}
 use Rattle.std.specs.Option.{option_or}
 use Rattle.std.specs.declared.alloc.Global.{Global}
@@ -66,10 +66,6 @@ negative : (z : Option ℤ) → option_map extent z ≡ Some Negative → is_neg
 negative None e = cc
 negative (Some (pos k)) e = cc
 negative (Some (negsuc k)) e = refl
-
-or_right : (a b : Bool) → b ≡ true → (a || b) ≡ true
-or_right true b e = refl
-or_right false b e = e
 
 some_negative : (a b : Option ℤ) (x y : Extent) → option_map extent a ≡ Some x → option_map extent b ≡ Some y
     → reaches x y ≡ None
@@ -194,13 +190,7 @@ bands_breached earlier p v qs s e (PathRule f) a h r b = record {
       earlier p v qs s e a r b;
   first = before_path earlier p v qs s e a h r;
 }
-bands_breached earlier p v qs s e (Undefined x) a h r b = absurd b
-bands_breached earlier p v qs s e WideLayer a h r b = absurd b
-bands_breached earlier p v qs s e OutOfRange a h r b = absurd b
-bands_breached earlier p v qs s e Magnification a h r b = absurd b
-bands_breached earlier p v qs s e Angle a h r b = absurd b
-bands_breached earlier p v qs s e Extension a h r b = absurd b
-bands_breached earlier p v qs s e Oblique a h r b = absurd b
+bands_breached earlier p v qs s e _ a h r b = absurd b
 
 pub bands_refused : (m : Modal) (p : Path) (v : Resolved) (qs : List Point) (s e : ℕ) (x : Refusal FigureRule)
     → IsReadAfter m p v qs

@@ -11,13 +11,11 @@ use Rattle.oasis_figures.specs.Figures.{number}
 use Rattle.oasis_figures.specs.Keeping.{StandsFor}
 use Rattle.oasis_figures.specs.Modal.{listed, moved, repetition_of, geometry, geometry_x, geometry_y}
 use Rattle.oasis_figures.specs.Rules.{first_undefined, is_defined, taken, of_repetition, Breaks, Breaches, AreNarrow}
-use Rattle.oasis_figures.specs.Rules.{order}
-use Rattle.oasis_figures.specs.Rules.{HasWideLayer, LeavesRange, BreachesNone}
+use Rattle.oasis_figures.specs.Rules.{order, HasWideLayer, LeavesRange, BreachesNone}
 use Rattle.oasis_figures.specs.declared.modal.Modal.{Modal}
 use Rattle.oasis_figures.specs.declared.rule.FigureRule.{FigureRule}
 use Rattle.oasis_figures.specs.declared.rule.FigureRule.TheVariants.{Undefined, Layer as WideLayer, OutOfRange}
-use Rattle.oasis_figures.specs.declared.rule.FigureRule.TheVariants.{Magnification, Angle}
-use Rattle.oasis_figures.specs.declared.rule.FigureRule.TheVariants.{Extension, Oblique, Path}
+use Rattle.oasis_figures.specs.declared.rule.FigureRule.TheVariants.{Magnification, Angle, Extension, Oblique, Path}
 use Rattle.oasis_figures.specs.declared.variable.Variable.{Variable}
 use Rattle.oasis_figures.specs.declared.variable.Variable.TheVariants.{Repetition as TheRepetition}
 use Rattle.oasis_figures.specs.inside.Known.{AreDefined, IsKnown}
@@ -64,12 +62,7 @@ pub known_first : (earlier : List Record) (r : Record) → IsKnown earlier r →
     → ¬ Breaks earlier r other
 known_first earlier r k (Undefined v) lt b = none_some (sym k.defined ∙ b)
 known_first earlier r k WideLayer lt b = k.narrow b
-known_first earlier r k OutOfRange lt b = omega (arith, lt)
-known_first earlier r k Magnification lt b = omega (arith, lt)
-known_first earlier r k Angle lt b = omega (arith, lt)
-known_first earlier r k Extension lt b = omega (arith, lt)
-known_first earlier r k Oblique lt b = omega (arith, lt)
-known_first earlier r k (Path f) lt b = omega (arith, lt)
+known_first earlier r k _ lt b = omega (arith, lt)
 
 -- a repetition that takes the modal one, which has no value
 pub unknown : (d : Variable → Bool) (rep : Option Repetition) (shifts : Option (List Point))
@@ -101,13 +94,7 @@ position_after m earlier r s =
 wide_first : (earlier : List Record) (r : Record) → AreDefined earlier r → (other : FigureRule) → order other < 1
     → ¬ Breaks earlier r other
 wide_first earlier r d (Undefined v) lt b = none_some (sym d ∙ b)
-wide_first earlier r d WideLayer lt b = omega (arith, lt)
-wide_first earlier r d OutOfRange lt b = omega (arith, lt)
-wide_first earlier r d Magnification lt b = omega (arith, lt)
-wide_first earlier r d Angle lt b = omega (arith, lt)
-wide_first earlier r d Extension lt b = omega (arith, lt)
-wide_first earlier r d Oblique lt b = omega (arith, lt)
-wide_first earlier r d (Path f) lt b = omega (arith, lt)
+wide_first earlier r d _ lt b = omega (arith, lt)
 
 pub wide_breached : (earlier : List Record) (r : Record) → AreDefined earlier r → HasWideLayer earlier r
     → Breaches earlier r WideLayer

@@ -21,8 +21,7 @@ use Rattle.oasis_figures.specs.declared.modal.Modal.{Modal}
 use Rattle.oasis_figures.specs.declared.polygon.Resolved.{Resolved}
 use Rattle.oasis_figures.specs.declared.rule.FigureRule.{FigureRule}
 use Rattle.oasis_figures.specs.declared.rule.FigureRule.TheVariants.{Undefined, Layer as WideLayer, OutOfRange}
-use Rattle.oasis_figures.specs.declared.rule.FigureRule.TheVariants.{Magnification, Angle}
-use Rattle.oasis_figures.specs.declared.rule.FigureRule.TheVariants.{Extension, Oblique, Path}
+use Rattle.oasis_figures.specs.declared.rule.FigureRule.TheVariants.{Magnification, Angle, Extension, Oblique, Path}
 use Rattle.oasis_figures.specs.inside.Polygons.{a_polygon, IsResolved, RingBreaks}
 use Rattle.oasis_figures.proofs.Defined.{BreaksNoLater, no_rule, known_first}
 use Rattle.oasis_figures.proofs.Figures.{vertices_at, layer_is, shape_is}
@@ -78,12 +77,7 @@ ring_breached earlier p v qs Oblique a b = record {
   broken = λ h. b.1 (subst IsRing (sym a.points) h);
   first = before_oblique earlier p v qs a b.0;
 }
-ring_breached earlier p v qs (Undefined x) a b = absurd b
-ring_breached earlier p v qs WideLayer a b = absurd b
-ring_breached earlier p v qs Magnification a b = absurd b
-ring_breached earlier p v qs Angle a b = absurd b
-ring_breached earlier p v qs Extension a b = absurd b
-ring_breached earlier p v qs (Path f) a b = absurd b
+ring_breached earlier p v qs _ a b = absurd b
 
 pub ring_refused : (m : Modal) (p : Polygon) (v : Resolved) (qs : List Point) (x : Refusal FigureRule)
     → IsReadAfter m p v qs
@@ -96,11 +90,8 @@ no_later : (earlier : List Record) (p : Polygon) → IsRing (polygon_ring (a_pol
 no_later earlier p h (Undefined v) lt b = omega (arith, lt)
 no_later earlier p h WideLayer lt b = omega (arith, lt)
 no_later earlier p h OutOfRange lt b = omega (arith, lt)
-no_later earlier p h Magnification lt b = b
-no_later earlier p h Angle lt b = b
-no_later earlier p h Extension lt b = b
 no_later earlier p h Oblique lt b = b h
-no_later earlier p h (Path f) lt b = b
+no_later earlier p h _ lt b = b
 
 pub polygon_none : (earlier : List Record) (p : Polygon) (v : Resolved) (qs : List Point) → IsRead earlier p v qs
     → All FitsPoint qs

@@ -15,8 +15,6 @@ use Rattle.oasis_figures.specs.Rules.{AreNarrow, IsWide, is_defined, taken, of_r
 use Rattle.oasis_figures.specs.declared.modal.Modal.{Modal}
 use Rattle.oasis_figures.specs.declared.rectangle.Resolved.{Resolved}
 use Rattle.oasis_figures.specs.declared.rule.FigureRule.TheVariants.{Undefined, Layer as WideLayer, OutOfRange}
-use Rattle.oasis_figures.specs.declared.rule.FigureRule.TheVariants.{Magnification, Angle}
-use Rattle.oasis_figures.specs.declared.rule.FigureRule.TheVariants.{Extension, Oblique, Path}
 use Rattle.oasis_figures.specs.declared.variable.Variable.{Variable}
 use Rattle.oasis_figures.specs.declared.variable.Variable.TheVariants.{Layer as TheLayer, Datatype, GeometryW}
 use Rattle.oasis_figures.specs.declared.variable.Variable.TheVariants.{GeometryH}
@@ -140,11 +138,7 @@ no_later : (earlier : List Record) (r : Rectangle) → BreaksNoLater earlier (a_
 no_later earlier r (Undefined v) lt b = omega (arith, lt)
 no_later earlier r WideLayer lt b = omega (arith, lt)
 no_later earlier r OutOfRange lt b = omega (arith, lt)
-no_later earlier r Magnification lt b = b
-no_later earlier r Angle lt b = b
-no_later earlier r Extension lt b = b
-no_later earlier r Oblique lt b = b
-no_later earlier r (Path f) lt b = b
+no_later earlier r _ lt b = b
 
 pub resolved : (m : Modal) (earlier : List Record) (r : Rectangle) (v : Resolved) → StandsFor m earlier
     → AreValues m r v.layer v.datatype v.width v.height

@@ -6,9 +6,7 @@ use Rattle.lvl_path.specs.Figure.{Figure}
 use Rattle.lvl_cells.specs.Cells.{PlainShape, Rings}
 use Rattle.oasis_records.specs.declared.cell.CellRef.{CellRef}
 use Rattle.oasis_records.specs.declared.record.Record.{Record}
-use Rattle.oasis_records.specs.declared.record.Record.TheVariants.{Pad, Start, End, CellName, Cell, XyAbsolute}
-use Rattle.oasis_records.specs.declared.record.Record.TheVariants.{XyRelative}
-use Rattle.oasis_records.specs.declared.record.Record.TheVariants.{Placement, Rectangle, Polygon, Path}
+use Rattle.oasis_records.specs.declared.record.Record.TheVariants.{Cell}
 use Rattle.oasis_figures.specs.Figures.{Placed, shapes_of, placements_of, in_rings}
 use Rattle.oasis_stream.specs.Order.{cell_in}
 use Rattle.oasis_stream.specs.Rules.{is_cell, since, since_cell}
@@ -22,16 +20,7 @@ IsOther r = (is_cell r ≡ false) × (cell_in r ≡ [])
 
 pub cell_or : (r : Record) → ((c : CellRef) × (r ≡ Cell c)) ⊎ IsOther r
 cell_or (Cell c) = inl (c, refl)
-cell_or Pad = inr (refl, refl)
-cell_or (Start s) = inr (refl, refl)
-cell_or (End v) = inr (refl, refl)
-cell_or (CellName c) = inr (refl, refl)
-cell_or XyAbsolute = inr (refl, refl)
-cell_or XyRelative = inr (refl, refl)
-cell_or (Placement p) = inr (refl, refl)
-cell_or (Rectangle p) = inr (refl, refl)
-cell_or (Polygon p) = inr (refl, refl)
-cell_or (Path p) = inr (refl, refl)
+cell_or _ = inr (refl, refl)
 
 pub is_other : (r : Record) → ((c : CellRef) → r ≡ Cell c → ⊥) → is_cell r ≡ false
 is_other r h = elim (cell_or r) [

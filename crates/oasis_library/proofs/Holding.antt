@@ -13,8 +13,7 @@ use Rattle.oasis_figures.specs.declared.modal.Modal.{Modal}
 use Rattle.oasis_figures.specs.declared.rule.FigureRule.{FigureRule}
 use Rattle.oasis_stream.specs.declared.fault.NameRule.{NameRule}
 use Rattle.oasis_stream.specs.declared.fault.OasisKind.{OasisKind}
-use Rattle.oasis_stream.specs.declared.fault.OasisKind.TheVariants.{Value, Record as OfRecord, Unexpected, Name, Figure}
-use Rattle.oasis_stream.specs.declared.fault.OasisKind.TheVariants.{AfterEnd, TooManyCells}
+use Rattle.oasis_stream.specs.declared.fault.OasisKind.TheVariants.{Name, Figure}
 use Rattle.oasis_values.specs.declared.number.Real.TheVariants.{Whole}
 use Rattle.oasis_records.specs.declared.end.Validation.TheVariants.{Absent}
 use Rattle.oasis_records.specs.declared.record.Record.{Record}
@@ -134,8 +133,4 @@ pub none_breached : (rs : List Record) (r : Record) → ((k : NameRule) → Nami
     → (k : OasisKind) → RecordBreaches rs r k → ⊥
 none_breached rs r names figures (Name k) b = names k b
 none_breached rs r names figures (Figure k) b = figures k b.broken
-none_breached rs r names figures (Value f) b = b
-none_breached rs r names figures (OfRecord k) b = b
-none_breached rs r names figures (Unexpected id) b = b
-none_breached rs r names figures AfterEnd b = b
-none_breached rs r names figures TooManyCells b = b
+none_breached rs r names figures _ b = b

@@ -11,9 +11,7 @@ use Rattle.oasis_values.specs.Reads.{Reads}
 use Rattle.oasis_values.specs.declared.input.Input.{Input}
 use Rattle.oasis_records.specs.declared.end.Validation.{Validation}
 use Rattle.oasis_records.specs.declared.record.Record.{Record}
-use Rattle.oasis_records.specs.declared.record.Record.TheVariants.{Pad, Start, End, CellName, Cell, XyAbsolute}
-use Rattle.oasis_records.specs.declared.record.Record.TheVariants.{XyRelative}
-use Rattle.oasis_records.specs.declared.record.Record.TheVariants.{Placement, Rectangle, Polygon, Path}
+use Rattle.oasis_records.specs.declared.record.Record.TheVariants.{End}
 use Rattle.oasis_stream.specs.Items.{Item, magic, item, records, IsEnded}
 use Rattle.oasis_stream.specs.Order.{last_or}
 use Rattle.oasis_stream.specs.Rules.{RecordBreaches}
@@ -107,16 +105,7 @@ record_on {R = R} xs x y r to live p h none =
 -- the record is the last, or isn't
 end_is : (r : Record) → is_end r ≡ true → (v : Validation) × (r ≡ End v)
 end_is (End v) h = (v, refl)
-end_is Pad h = cc
-end_is (Start s) h = cc
-end_is (CellName c) h = cc
-end_is (Cell c) h = cc
-end_is XyAbsolute h = cc
-end_is XyRelative h = cc
-end_is (Placement p) h = cc
-end_is (Rectangle p) h = cc
-end_is (Polygon p) h = cc
-end_is (Path p) h = cc
+end_is _ h = cc
 
 pub more_begun : (y : Reading) (r : Record) (js : List Item) → is_end r ≡ false → HasMore y r js → HasBegun y js
 more_begun y r js e m = (

@@ -17,7 +17,7 @@ use Rattle.std.proofs.lemmas.List.Folds.{list_any-append}
 use Rattle.std.proofs.lemmas.Map.Text.{is_eq-slice_cmp}
 use Rattle.std.proofs.lemmas.Map.Views.{list_any-from_Contains, Contains-from_any}
 use Rattle.std.proofs.lemmas.Slice.Eq.{bytes_eq-Decides}
-use Rattle.lvl_cells.proofs.Indexes.{bytes_eq_laws}
+use Rattle.lvl_cells.proofs.Indexes.{bytes_eq_laws, same_answer}
 use Rattle.oasis_records.specs.declared.cell.CellName.{CellName}
 use Rattle.oasis_stream.specs.Names.{number_by, number_after, name_from, name_of, RepeatsNumber, RepeatsName}
 use Rattle.oasis_stream.specs.Rules.{NameBreaches}
@@ -82,11 +82,6 @@ numbered_on m n cs c number name old is named none u k =
 
 abbrev names : List CellName → List (List ℕ)
 names cs = map (λ c. c.name) cs
-
-same_answer : (a b : Bool) → (a ≡ true → b ≡ true) → (b ≡ true → a ≡ true) → a ≡ b
-same_answer true b f g = sym (f refl)
-same_answer false true f g = g refl
-same_answer false false f g = refl
 
 eq_sym : (x y : List ℕ) → bytes_eq x y ≡ bytes_eq y x
 eq_sym x y =

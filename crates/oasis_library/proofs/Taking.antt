@@ -8,9 +8,7 @@ use Rattle.lvl_cells.specs.Cells.{PlainShape, Rings}
 use Rattle.oasis_records.specs.declared.cell.CellRef.{CellRef}
 use Rattle.oasis_records.specs.declared.cell.CellRef.TheVariants.{Number}
 use Rattle.oasis_records.specs.declared.record.Record.{Record}
-use Rattle.oasis_records.specs.declared.record.Record.TheVariants.{Pad, Start, End, CellName, Cell, XyAbsolute}
-use Rattle.oasis_records.specs.declared.record.Record.TheVariants.{XyRelative}
-use Rattle.oasis_records.specs.declared.record.Record.TheVariants.{Placement, Rectangle, Polygon, Path}
+use Rattle.oasis_records.specs.declared.record.Record.TheVariants.{Placement}
 use Rattle.oasis_figures.specs.Figures.{Placed, shapes_of, placements_of, shifts_of, in_rings, placements_in, shapes_in}
 use Rattle.oasis_figures.specs.Figures.{cell_of}
 use Rattle.oasis_figures.specs.Modal.{modal, cell_set, value_or}
@@ -30,16 +28,7 @@ unknown_cell earlier (Placement p) x xs e none h =
     none (Undefined PlacementCell)
     (ap (λ o. if is_some o then first_undefined (is_defined (Placement p ∷ earlier))
     (of_repetition p.position.repetition) else Some PlacementCell) h)
-unknown_cell earlier Pad x xs e none h = cc
-unknown_cell earlier (Start s) x xs e none h = cc
-unknown_cell earlier (End v) x xs e none h = cc
-unknown_cell earlier (CellName c) x xs e none h = cc
-unknown_cell earlier (Cell c) x xs e none h = cc
-unknown_cell earlier XyAbsolute x xs e none h = cc
-unknown_cell earlier XyRelative x xs e none h = cc
-unknown_cell earlier (Rectangle p) x xs e none h = cc
-unknown_cell earlier (Polygon p) x xs e none h = cc
-unknown_cell earlier (Path p) x xs e none h = cc
+unknown_cell earlier _ x xs e none h = cc
 
 -- the cell of a placement is known
 pub known_cell : (earlier : List Record) (r : Record) (by : Map) (m : Modal) → IsTaken earlier r (Some (Placing by)) m

@@ -3,8 +3,7 @@ use Rattle.std.proofs.Common.{◌≡◌, ℕ, List, ◌++◌, length, take, Resu
 use Rattle.std.specs.Prelude.{Option}
 use Rattle.std.specs.Borrow.{GName}
 use Rattle.lvl_io.specs.Spelling.{IsPrefixFree, CanSay, IsBegun}
-use Rattle.lvl_refusal.specs.declared.Refusal.{Refusal}
-use Rattle.lvl_refusal.specs.declared.Refusal.TheVariants.{Breach, OutOfMemory}
+use Rattle.lvl_refusal.specs.declared.Refusal.TheVariants.{Breach}
 use Rattle.oasis_values.specs.Input.{room_left}
 use Rattle.oasis_values.specs.Reads.{Fails, bytes_had, Reads}
 use Rattle.oasis_values.specs.declared.fault.ValueFault.{ValueFault}
@@ -12,6 +11,7 @@ use Rattle.oasis_values.specs.declared.input.Input.{Input}
 use Rattle.oasis_records.specs.Sizes.{Sized}
 use Rattle.oasis_records.specs.declared.measured.Measured.{Measured}
 use Rattle.oasis_records.proofs.Codes.{IsCode}
+use Rattle.oasis_values.proofs.Reading.{err_as}
 
 abbrev pub measured : ℕ → ℕ → Measured
 measured v n = record { value = v; len = n }
@@ -79,11 +79,6 @@ sized_fails S room had xs f p =
             };
           };
     }
-
--- the same error, of an answer of another type
-abbrev err_as : {A : Type 0} (B : Type 0) → Result A (Refusal ValueFault) → Result B (Refusal ValueFault)
-err_as B (Err e) = Err e
-err_as B (Ok x) = Err OutOfMemory
 
 pub reads_sized_err : {R : Type 0} {remaining : R → Option (List ℕ)} {errors : R → ℕ} {lent : R → List GName}
     {S : List ℕ → Result ℕ ValueFault → Type 0} {old new : Input R} (f : ValueFault)

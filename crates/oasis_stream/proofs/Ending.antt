@@ -1,7 +1,6 @@
 -- What comes after END: the end of the input, or a byte that is refused.
-use Rattle.std.proofs.Common.{◌≡◌, ℕ, ◌+◌, ◌-◌, ◌<◌, true, false, List, [], ◌++◌, length, take, drop, Result}
-use Rattle.std.proofs.Common.{Ok, Err, refl, sym, ap, ◌∙◌, subst}
-use Rattle.std.proofs.Common.{inl, arith, length-append}
+use Rattle.std.proofs.Common.{◌≡◌, ℕ, ◌-◌, ◌<◌, true, false, List, [], ◌++◌, length, take, drop, Result, Ok, Err, refl}
+use Rattle.std.proofs.Common.{sym, ap, ◌∙◌, subst, inl, arith, length-append}
 use Rattle.std.proofs.lemmas.List.{append-nil, nil_from_length, take-append-drop}
 use Rattle.std.specs.Prelude.{Option}
 use Rattle.std.specs.Borrow.{GName}
@@ -14,11 +13,7 @@ use Rattle.oasis_values.specs.Input.{file_limit, bytes_left, input_offset, has_f
 use Rattle.oasis_values.specs.Numbers.{IsByte}
 use Rattle.oasis_values.specs.Reads.{Fails, Reads, bytes_had}
 use Rattle.oasis_values.specs.declared.fault.ValueFault.{ValueFault}
-use Rattle.oasis_values.specs.declared.fault.ValueFault.TheVariants.{Truncated, IntegerTooLarge, StringByte, RealType}
-use Rattle.oasis_values.specs.declared.fault.ValueFault.TheVariants.{ZeroDenominator, PointListType, PointCount}
-use Rattle.oasis_values.specs.declared.fault.ValueFault.TheVariants.{RepetitionType}
-use Rattle.oasis_values.specs.declared.fault.ValueFault.TheVariants.{RepetitionSize, OutOfRange, TooLong, Read, Failed}
-use Rattle.oasis_values.specs.declared.fault.ValueFault.TheVariants.{NoModal}
+use Rattle.oasis_values.specs.declared.fault.ValueFault.TheVariants.{Truncated, TooLong, Read, Failed}
 use Rattle.oasis_values.specs.declared.input.Input.{Input}
 use Rattle.oasis_stream.specs.Items.{Item, IsEnded}
 use Rattle.oasis_stream.specs.Front.{IsItem, oasis}
@@ -95,16 +90,7 @@ after_refuses xs at had to Truncated t n s p = absurd (t refl)
 after_refuses {Has = Has} {was = was} xs at had to Read t n s p = reads_front oasis xs at Has was to
 after_refuses xs at had to TooLong t n s p = long_after xs at had to s p
 after_refuses xs at had to Failed t n s p = absurd (n refl)
-after_refuses xs at had to IntegerTooLarge t n s p = byte_rule _ _ _ _ refl p
-after_refuses xs at had to StringByte t n s p = byte_rule _ _ _ _ refl p
-after_refuses xs at had to RealType t n s p = byte_rule _ _ _ _ refl p
-after_refuses xs at had to ZeroDenominator t n s p = byte_rule _ _ _ _ refl p
-after_refuses xs at had to PointListType t n s p = byte_rule _ _ _ _ refl p
-after_refuses xs at had to PointCount t n s p = byte_rule _ _ _ _ refl p
-after_refuses xs at had to RepetitionType t n s p = byte_rule _ _ _ _ refl p
-after_refuses xs at had to RepetitionSize t n s p = byte_rule _ _ _ _ refl p
-after_refuses xs at had to OutOfRange t n s p = byte_rule _ _ _ _ refl p
-after_refuses xs at had to NoModal t n s p = byte_rule _ _ _ _ refl p
+after_refuses xs at had to _ t n s p = byte_rule _ _ _ _ refl p
 
 -- the input has ended: it is a whole file
 pub whole_file : {Has : List Item → Type 0} {had : ℕ} {was : Option (List ℕ)} (xs : List ℕ) (at : ℕ)

@@ -3,9 +3,7 @@ use Rattle.std.proofs.Common.{◌≡◌, ◌<◌, ◌⊎◌, List, ◌∷◌, So
 use Rattle.lvl_path.specs.declared.fault.PathFault.{PathFault}
 use Rattle.oasis_records.specs.declared.cell.CellName.{CellName as AName}
 use Rattle.oasis_records.specs.declared.record.Record.{Record as ARecord}
-use Rattle.oasis_records.specs.declared.record.Record.TheVariants.{Pad, Start, End, CellName, Cell, XyAbsolute}
-use Rattle.oasis_records.specs.declared.record.Record.TheVariants.{XyRelative}
-use Rattle.oasis_records.specs.declared.record.Record.TheVariants.{Placement, Rectangle, Polygon, Path}
+use Rattle.oasis_records.specs.declared.record.Record.TheVariants.{CellName, Path}
 use Rattle.oasis_figures.specs.Figures.{path_points}
 use Rattle.oasis_figures.specs.Rules.{Breaks, HasPathFault, order, Breaches as FigureBreaches}
 use Rattle.oasis_figures.specs.declared.rule.FigureRule.{FigureRule}
@@ -18,8 +16,7 @@ use Rattle.oasis_stream.specs.Rules.{since_cell, NameBreaches, NamingBreaches, R
 use Rattle.oasis_stream.specs.declared.fault.NameRule.{NameRule}
 use Rattle.oasis_stream.specs.declared.fault.NameRule.TheVariants.{Mixed, NumberTwice, NameTwice}
 use Rattle.oasis_stream.specs.declared.fault.OasisKind.{OasisKind}
-use Rattle.oasis_stream.specs.declared.fault.OasisKind.TheVariants.{Value, Record, Unexpected, Name, Figure, AfterEnd}
-use Rattle.oasis_stream.specs.declared.fault.OasisKind.TheVariants.{TooManyCells}
+use Rattle.oasis_stream.specs.declared.fault.OasisKind.TheVariants.{Name, Figure}
 use Rattle.lvl_path.proofs.Lowest.{one_lowest}
 
 path_once : (earlier : List ARecord) (r : ARecord) (f g : PathFault) → HasPathFault earlier r f
@@ -27,16 +24,7 @@ path_once : (earlier : List ARecord) (r : ARecord) (f g : PathFault) → HasPath
 path_once earlier (Path p) f g x y =
     let rs = Path p ∷ earlier in
     one_lowest (path_points rs) _ f g x y
-path_once earlier Pad f g x y = absurd x
-path_once earlier (Start s) f g x y = absurd x
-path_once earlier (End v) f g x y = absurd x
-path_once earlier (CellName c) f g x y = absurd x
-path_once earlier (Cell c) f g x y = absurd x
-path_once earlier XyAbsolute f g x y = absurd x
-path_once earlier XyRelative f g x y = absurd x
-path_once earlier (Placement p) f g x y = absurd x
-path_once earlier (Rectangle p) f g x y = absurd x
-path_once earlier (Polygon p) f g x y = absurd x
+path_once earlier _ f g x y = absurd x
 
 -- rules of one place in the order of tests are one rule
 same_rule : (earlier : List ARecord) (r : ARecord) (f g : FigureRule) → order f ≡ order g → Breaks earlier r f
@@ -61,13 +49,7 @@ figure_once earlier r f g x y =
 -- a name draws nothing
 name_draws : (earlier : List ARecord) (c : AName) (f : FigureRule) → Breaks earlier (CellName c) f → ⊥
 name_draws earlier c (Undefined v) x = cc
-name_draws earlier c (PathRule g) x = x
-name_draws earlier c Layer x = x
-name_draws earlier c OutOfRange x = x
-name_draws earlier c Magnification x = x
-name_draws earlier c Angle x = x
-name_draws earlier c Extension x = x
-name_draws earlier c Oblique x = x
+name_draws earlier c _ x = x
 
 -- which rule a name breaches
 name_rule : (names : List AName) (c : AName) (k : NameRule) → NameBreaches names c k
@@ -96,16 +78,7 @@ record IsNaming (names : List AName) (r : ARecord) (k : NameRule) : Type 0 where
 
 naming : (names : List AName) (r : ARecord) (k : NameRule) → NamingBreaches names r k → IsNaming names r k
 naming names (CellName c) k b = record { cell_name = c; is = refl; breached = b }
-naming names Pad k b = absurd b
-naming names (Start s) k b = absurd b
-naming names (End v) k b = absurd b
-naming names (Cell c) k b = absurd b
-naming names XyAbsolute k b = absurd b
-naming names XyRelative k b = absurd b
-naming names (Placement p) k b = absurd b
-naming names (Rectangle p) k b = absurd b
-naming names (Polygon p) k b = absurd b
-naming names (Path p) k b = absurd b
+naming names _ k b = absurd b
 
 same_name : (a b : AName) → CellName a ≡ CellName b → a ≡ b
 same_name a b e = cc
@@ -133,11 +106,7 @@ IsEither rs r k =
 either_rule : (rs : List ARecord) (r : ARecord) (k : OasisKind) → RecordBreaches rs r k → IsEither rs r k
 either_rule rs r (Name j) b = inl (j, refl, b)
 either_rule rs r (Figure f) b = inr (f, refl, b)
-either_rule rs r (Value f) b = absurd b
-either_rule rs r (Record k) b = absurd b
-either_rule rs r (Unexpected id) b = absurd b
-either_rule rs r AfterEnd b = absurd b
-either_rule rs r TooManyCells b = absurd b
+either_rule rs r _ b = absurd b
 
 record_once : (rs : List ARecord) (r : ARecord) (j k : OasisKind) → RecordBreaches rs r j → RecordBreaches rs r k
     → j ≡ k

@@ -1,7 +1,6 @@
 -- A file is read item by item: what each call that reads the next item says of the whole input.
-use Rattle.std.proofs.Common.{◌≡◌, ℕ, ◌+◌, ◌-◌, true, false, List, [], ◌∷◌, ◌++◌, length, take, drop}
-use Rattle.std.proofs.Common.{Ok, Err, refl, sym, ap, ◌∙◌, subst}
-use Rattle.std.proofs.Common.{inl, inr, arith}
+use Rattle.std.proofs.Common.{◌≡◌, ℕ, ◌+◌, ◌-◌, true, false, List, [], ◌∷◌, ◌++◌, length, take, drop, Ok, Err, refl}
+use Rattle.std.proofs.Common.{sym, ap, ◌∙◌, subst, inl, inr, arith}
 use Rattle.std.specs.Prelude.{Option, Some}
 use Rattle.std.specs.Borrow.{GName}
 use Rattle.lvl_io.specs.Spelling.{IsBegun}
@@ -15,9 +14,8 @@ use Rattle.oasis_values.specs.Reads.{Fails, Reads, bytes_had}
 use Rattle.oasis_values.specs.declared.fault.ValueFault.{ValueFault}
 use Rattle.oasis_values.specs.declared.fault.ValueFault.TheVariants.{Truncated, IntegerTooLarge, StringByte, RealType}
 use Rattle.oasis_values.specs.declared.fault.ValueFault.TheVariants.{ZeroDenominator, PointListType, PointCount}
-use Rattle.oasis_values.specs.declared.fault.ValueFault.TheVariants.{RepetitionType}
-use Rattle.oasis_values.specs.declared.fault.ValueFault.TheVariants.{RepetitionSize, OutOfRange, TooLong, Read, Failed}
-use Rattle.oasis_values.specs.declared.fault.ValueFault.TheVariants.{NoModal}
+use Rattle.oasis_values.specs.declared.fault.ValueFault.TheVariants.{RepetitionType, RepetitionSize, OutOfRange}
+use Rattle.oasis_values.specs.declared.fault.ValueFault.TheVariants.{TooLong, Read, Failed, NoModal}
 use Rattle.oasis_values.specs.declared.input.Input.{Input}
 use Rattle.oasis_values.proofs.Reading.{front_rest}
 use Rattle.oasis_stream.specs.Items.{Item, magic, item, records, IsEnded}
@@ -128,11 +126,7 @@ breach_refuses xs to (item r) (Name k) live unended b p =
     item_refuses xs to (item r) (Name k) live unended (λ room ys w. w) b p
 breach_refuses xs to (item r) (Figure k) live unended b p =
     item_refuses xs to (item r) (Figure k) live unended (λ room ys w. w) b p
-breach_refuses xs to (item r) (Value f) live unended b p = absurd b
-breach_refuses xs to (item r) (Record k) live unended b p = absurd b
-breach_refuses xs to (item r) (Unexpected id) live unended b p = absurd b
-breach_refuses xs to (item r) AfterEnd live unended b p = absurd b
-breach_refuses xs to (item r) TooManyCells live unended b p = absurd b
+breach_refuses xs to (item r) _ live unended b p = absurd b
 
 -- a rule of values is breached
 value_refuses : {Has : List Item → Type 0} {was left : Option (List ℕ)} (xs : List ℕ) (at had : ℕ)

@@ -181,6 +181,3 @@ pub hand_front : {A : Type 0} (S : List ℕ → A → Type 0) (new hand : List �
     (k n : ℕ) (x : A) → hand ≡ new → prepend_known new b ≡ Some xs → IsFront S (take k hand) n x → IsFront S xs n x
 hand_front S new hand b xs k n x e known f =
     front_known S new b xs n x known (subst (λ l. IsFront S l n x) e (front_more S hand k n x f))
-
-pub rule_live : (f : ValueFault) → is_rule f ≡ true → f ≢ Failed
-rule_live f rule = λ e. let r = ap is_rule e in let k : true ≡ false = sym rule ∙ r in cc

@@ -1,11 +1,12 @@
 -- Integers and their bytes.
-use Rattle.std.proofs.Common.{◌≡◌, ℕ, suc, ◌+◌, ◌*◌, ◌%◌, ◌^◌, ◌<◌, ◌≤◌, ◌⊎◌, inl, inr, List, [], ◌∷◌}
-use Rattle.std.proofs.Common.{◌++◌, length, Result, Ok, Err, refl, sym, ap, ◌∙◌, subst, arith, append_assoc}
-use Rattle.std.proofs.Common.{take, drop, get_or, mul_assoc, mul-le-mul_left, Bool, true, false, nat_le}
+use Rattle.std.proofs.Common.{◌≡◌, ℕ, suc, ◌+◌, ◌*◌, ◌%◌, ◌^◌, ◌<◌, ◌≤◌, ◌⊎◌, inl, inr, List, [], ◌∷◌, ◌++◌, length}
+use Rattle.std.proofs.Common.{Result, Ok, Err, refl, sym, ap, ◌∙◌, subst, arith, append_assoc, take, drop, get_or}
+use Rattle.std.proofs.Common.{mul_assoc, mul-le-mul_left, nat_le}
 use Rattle.std.proofs.lemmas.Bool.Decides.{nat_tests}
 use Rattle.std.proofs.lemmas.List.Elements.{All-append, All-cons, All-nil}
 use Rattle.std.proofs.lemmas.List.{take_more, length-take, take-append-drop}
 use Rattle.std.proofs.Math.Nat.{pow-le-pow_right, pow-suc}
+use Rattle.std.proofs.lemmas.Bool.{cases_Bool}
 use Rattle.lvl_io.specs.Spelling.{IsPrefixFree, IsFront, IsBegun, CanSay}
 use Rattle.oasis_values.specs.Numbers.{IsByte, groups, Continues, IsUnsigned}
 use Rattle.oasis_values.specs.declared.fault.ValueFault.{ValueFault}
@@ -162,13 +163,9 @@ unsigned_said =
       };
     }
 
-by_test : (b : Bool) → (b ≡ true) ⊎ (b ≡ false)
-by_test true = inl refl
-by_test false = inr refl
-
 le_or : (i k : ℕ) → i ≤ k + 1 → (i ≤ k) ⊎ (i ≡ k + 1)
 le_or i k h =
-    elim (by_test (nat_le i k)) [ inl a ↦ inl (grind (arith, nat_tests)) | inr b ↦ inr (grind (arith, nat_tests)) ]
+    elim (cases_Bool (nat_le i k)) [ inl a ↦ inl (grind (arith, nat_tests)) | inr b ↦ inr (grind (arith, nat_tests)) ]
 
 -- a tenth byte adds 2^63 at most, and each before it less than the next unit
 pub sum_fits : (i v x : ℕ) → i ≤ 9 → (i ≡ 9 → x ≤ 1) → v < 128 ^ i → v + 128 ^ i * (x % 128) < 2 ^ 64

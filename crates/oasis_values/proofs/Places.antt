@@ -1,9 +1,10 @@
 -- Repetitions: each spelling is free of prefixes, and can say something; lattices in range.
-use Rattle.std.proofs.Common.{◌≡◌, ℕ, suc, ◌⊎◌, inl, inr, ◌&&◌, Bool, true, false, List, [], ◌∷◌}
-use Rattle.std.proofs.Common.{Ok, IsSome, IfSome, ◌↔◌, All, refl, ap, ◌∙◌, arith}
+use Rattle.std.proofs.Common.{◌≡◌, ℕ, suc, inl, inr, Bool, true, false, List, [], ◌∷◌, Ok, IsSome, IfSome, ◌↔◌, All}
+use Rattle.std.proofs.Common.{refl, ap, ◌∙◌, arith}
 use Rattle.std.specs.Prelude.{Option, Some, None}
 use Rattle.std.specs.List.{list_all}
 use Rattle.std.proofs.lemmas.List.Elements.{All-cons, All-nil}
+use Rattle.std.proofs.lemmas.Bool.{cases_Bool, and_parts}
 use Rattle.lvl_io.specs.Spelling.{IsPrefixFree, CanSay, Then, Chain}
 use Rattle.lvl_io.proofs.Spelling.{gives_free, gives_said, then_free, then_said, chain_free, chain_said}
 use Rattle.lvl_grid.specs.declared.point.Point.{Point}
@@ -14,10 +15,9 @@ use Rattle.oasis_values.specs.Known.{among, Known, Seen}
 use Rattle.oasis_values.specs.Numbers.{IsUnsigned}
 use Rattle.oasis_values.specs.PointLists.{origin}
 use Rattle.oasis_values.specs.Ranges.{is_in_range, is_point_in_range}
-use Rattle.oasis_values.specs.Repetitions.{kinds, line_size, matrix_size, list_size, moved, space, widened}
-use Rattle.oasis_values.specs.Repetitions.{IsSpace, IsShift, lattice_in_range, modal}
-use Rattle.oasis_values.specs.Repetitions.{IsLineOf, IsLine, IsColumns, IsMatrixOf, IsMatrix, IsGrid}
-use Rattle.oasis_values.specs.Repetitions.{AreShifts, IsSpreadOf, IsSpread, IsKind, IsRepetition}
+use Rattle.oasis_values.specs.Repetitions.{kinds, line_size, matrix_size, list_size, moved, space, widened, IsSpace}
+use Rattle.oasis_values.specs.Repetitions.{IsShift, lattice_in_range, modal, IsLineOf, IsLine, IsColumns, IsMatrixOf}
+use Rattle.oasis_values.specs.Repetitions.{IsMatrix, IsGrid, AreShifts, IsSpreadOf, IsSpread, IsKind, IsRepetition}
 use Rattle.oasis_values.specs.inside.Sizes.{IsFew}
 use Rattle.oasis_values.proofs.Integers.{unsigned_free, unsigned_said}
 use Rattle.oasis_values.proofs.Ranges.{range_true, range_fits}
@@ -33,11 +33,6 @@ use Rattle.oasis_values.specs.declared.shift.Spacing.{Spacing}
 use Rattle.oasis_values.specs.declared.shift.Spacing.TheVariants.{AlongX, AlongY, Free}
 
 -- a lattice is in range just where it is one that can be kept
-
-and_parts : (a b : Bool) → (a && b) ≡ true → (a ≡ true) × (b ≡ true)
-and_parts true true e = (refl, refl)
-and_parts true false e = absurd (let k : false ≡ true = e in cc)
-and_parts false b e = absurd (let k : false ≡ true = e in cc)
 
 point_true : (p : Point) → FitsPoint p → is_point_in_range p ≡ true
 point_true p f = let x = range_true p.x f.x_fits in let y = range_true p.y f.y_fits in rw (x, y) refl
@@ -60,16 +55,12 @@ all_fit (p ∷ ps) e =
     let s = and_parts (is_point_in_range p) (list_all is_point_in_range ps) e in
     All-cons FitsPoint p ps (point_fits p s.0) (all_fit ps s.1)
 
-by_test : (b : Bool) → (b ≡ true) ⊎ (b ≡ false)
-by_test true = inl refl
-by_test false = inr refl
-
 pub lattice_is : (a : Point) (m : ℕ) (b : Point) (n : ℕ) (o : Option (List Point)) → IsFew m n
     → (IsSome o ↔ IsLattice a m b n) → IfSome o (λ l. l ≡ lattice a m b n) → o ≡ lattice_in_range a m b n
 lattice_is a m b n (Some l) few is same =
     let fit = all_true (lattice a m b n) (is.0 refl).fit in
     ap Some same ∙ rw fit refl
-lattice_is a m b n None few is same = elim (by_test (list_all is_point_in_range (lattice a m b n))) [
+lattice_is a m b n None few is same = elim (cases_Bool (list_all is_point_in_range (lattice a m b n))) [
   | inl e ↦ absurd (let k : false ≡ true = is.1
       (record { columns = few.columns; rows = few.rows; few = few.few; fit = all_fit (lattice a m b n) e }) in cc)
   | inr e ↦ rw e refl

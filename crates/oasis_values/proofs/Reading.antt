@@ -102,7 +102,7 @@ fails_second S T room n had xs x f p h q =
     }
 
 -- the same error, of an answer of another type
-abbrev err_as : {A : Type 0} (B : Type 0) → Result A (Refusal ValueFault) → Result B (Refusal ValueFault)
+abbrev pub err_as : {A : Type 0} (B : Type 0) → Result A (Refusal ValueFault) → Result B (Refusal ValueFault)
 err_as B (Err e) = Err e
 err_as B (Ok x) = Err OutOfMemory
 
@@ -200,7 +200,7 @@ reads_nothing {old = old} x live =
 rule_not : (f h : ValueFault) → is_rule f ≡ true → is_rule h ≡ false → f ≡ h → ⊥
 rule_not f h rule other e = let k : true ≡ false = sym rule ∙ ap is_rule e ∙ other in cc
 
-rule_live : (f : ValueFault) → is_rule f ≡ true → f ≢ Failed
+pub rule_live : (f : ValueFault) → is_rule f ≡ true → f ≢ Failed
 rule_live f rule = λ e. rule_not f Failed rule refl e
 
 rule_read : (f : ValueFault) → is_rule f ≡ true → false ≡ is_read_fault f

@@ -5,8 +5,8 @@ use Rattle.std.specs.List.{list_any, filter, sum_by}
 use Rattle.std.specs.Ordering.{int_eq}
 use Rattle.lvl_sweep.specs.declared.edge.Edge.{Edge}
 use Rattle.lvl_sweep.specs.Slab.{Step, Slab}
-use Rattle.lvl_sweep.specs.Edges.{net, net_left}
-use Rattle.lvl_sweep.specs.Alive.{alive}
+use Rattle.lvl_sweep.specs.inside.Edges.{net, net_left}
+use Rattle.lvl_sweep.specs.inside.Alive.{alive}
 use Rattle.lvl_sweep.specs.Ahead.{is_from}
 
 -- the value from a up to b, before the steps from b on; a step that goes on with it is lengthened

@@ -4,10 +4,10 @@ use Rattle.std.specs.Prelude.{All, [], Option}
 use Rattle.std.specs.List.{AllWithin}
 use Rattle.lvl_sweep.specs.declared.edge.Edge.{Edge}
 use Rattle.lvl_sweep.specs.declared.strips.Strips.{Strips}
-use Rattle.lvl_sweep.specs.Edges.{AreAtRest, IsBeginOf}
-use Rattle.lvl_sweep.specs.Alive.{IsNoLater}
+use Rattle.lvl_sweep.specs.inside.Edges.{AreAtRest, IsBeginOf}
+use Rattle.lvl_sweep.specs.inside.Alive.{IsNoLater}
 use Rattle.lvl_sweep.specs.inside.Rows.{Balanced, alive_at, row_at}
-use Rattle.lvl_sweep.specs.Runs.{RiseWithin, IsEndOf}
+use Rattle.lvl_sweep.specs.inside.Runs.{RiseWithin, IsEndOf}
 
 -- edges of closed rings, those to come in their order, and a count for each ring
 pub record AreStrips (s : Strips) : Type 0 where

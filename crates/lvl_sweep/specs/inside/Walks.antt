@@ -5,7 +5,7 @@ use Rattle.std.specs.List.{AllPairs}
 use Rattle.lvl_sweep.specs.declared.edge.Edge.{Edge}
 use Rattle.lvl_sweep.specs.declared.windings.Windings.{Windings}
 use Rattle.lvl_sweep.specs.declared.walk.Place.{Place}
-use Rattle.lvl_sweep.specs.Edges.{net, how_many_turn}
+use Rattle.lvl_sweep.specs.inside.Edges.{net, how_many_turn}
 use Rattle.lvl_sweep.specs.inside.Rows.{inside, Balanced}
 use Rattle.lvl_sweep.specs.Ahead.{is_from}
 

@@ -5,11 +5,10 @@ use Rattle.std.specs.BTreeMap as tree
 use Rattle.lvl_cells.specs.declared.layer.Layer.{Layer}
 use Rattle.lvl_cells.specs.contracts.layer.LayerOrd.TheImpl as layer_ord
 use Rattle.lvl_grid.specs.declared.point.Window.{Window}
-use Rattle.lvl_view.specs.Texts.{IsMapText}
 use Rattle.lvl_view.specs.Views.{IsMapOf, IsWindowOf, IsFirstTwice, sources, target_in}
 use Rattle.lvl_view.specs.declared.map.LayerPair.{LayerPair}
 use Rattle.lvl_view.specs.declared.fault.ViewFault.{ViewFault}
-use Rattle.lvl_view.specs.declared.fault.ViewFault.TheVariants.{MapText, WindowText, MapTwice, EmptyWindow}
+use Rattle.lvl_view.specs.declared.fault.ViewFault.TheVariants.{MapText, WindowText, MapTwice}
 
 -- the value has the property, and no other does
 abbrev pub IsAlone : {A : Type 0} → (A → Type 0) → A → Type 0

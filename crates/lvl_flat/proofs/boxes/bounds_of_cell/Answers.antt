@@ -4,9 +4,9 @@ use Rattle.std.proofs.lemmas.Option.{slice_get_read}
 use Rattle.lvl_cells.specs.Cells.{PlainCell, Rings}
 use Rattle.lvl_flat.specs.declared.bounds.Bounds.{Bounds}
 use Rattle.lvl_flat.specs.inside.Bounds.{IsWithin, Widens, HoldsOwn, HoldsPicks, HoldsChains, AreBounds}
-use Rattle.lvl_flat.proofs.Ranging.{origin}
 use Rattle.lvl_flat.proofs.Holding.{own_wider, chains_from}
 use Rattle.lvl_flat.proofs.boxes.bounds_of_cell.Goals as goal
+use Rattle.lvl_grid.proofs.Paths.{origin}
 
 pub returns-clause-held : goal.returns-clause-held
 returns-clause-held c =

@@ -1,5 +1,5 @@
 use Rattle.std.proofs.Common.{take}
-use Rattle.lvl_sweep.specs.Alive.{AreEdgesOf}
+use Rattle.lvl_sweep.specs.inside.Alive.{AreEdgesOf}
 use Rattle.lvl_sweep.proofs.edge.edges_of.Given as goal
 
 abbrev pub invariant-loop-number : goal.invariant-loop-number

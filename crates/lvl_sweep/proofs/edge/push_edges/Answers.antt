@@ -2,7 +2,7 @@ use Rattle.std.proofs.Common.{◌≡◌, drop, [], arith, refl, eqb}
 use Rattle.std.proofs.lemmas.Grind.{common_steps}
 use Rattle.lvl_grid.specs.Winding.{goes_up, goes_down}
 use Rattle.lvl_grid.proofs.Paths.{origin, edges_from_last}
-use Rattle.lvl_sweep.specs.Alive.{rises, falls}
+use Rattle.lvl_sweep.specs.inside.Alive.{rises, falls}
 use Rattle.lvl_sweep.proofs.Spans.{edges_step, nothing_left}
 use Rattle.lvl_sweep.proofs.edge.push_edges.Goals as goal
 

@@ -1,7 +1,7 @@
 use Rattle.std.proofs.Common.{◌≡◌, ◌+◌, ◌<◌, ◌<ℤ◌, ◌==◌, ℕ, All, drop, count_by, cond}
 use Rattle.lvl_grid.specs.declared.point.Square.{Square}
 use Rattle.lvl_grid.specs.Winding.{edges, path_edges, goes_up, goes_down}
-use Rattle.lvl_sweep.specs.Alive.{rises, falls}
+use Rattle.lvl_sweep.specs.inside.Alive.{rises, falls}
 use Rattle.lvl_sweep.proofs.edge.push_edges.Given as goal
 
 -- the edges put and those that are left are all

@@ -1,7 +1,7 @@
 use Rattle.std.proofs.Common.{◌≡◌, ◌≤◌, length, w64, FitsSigned, rules, arith, Some, ◌∙◌, sym}
 use Rattle.std.specs.Vec.{vec_len}
 use Rattle.std.proofs.lemmas.Bool.{eqb-true}
-use Rattle.lvl_sweep.specs.Alive.{HasSame}
+use Rattle.lvl_sweep.specs.inside.Alive.{HasSame}
 use Rattle.lvl_sweep.proofs.Alikes.{as_long, both_alike, bands_alike}
 use Rattle.lvl_sweep.proofs.Starts.{no_items}
 use Rattle.std.proofs.lemmas.Int.{to_z-of_z}

@@ -1,6 +1,6 @@
 use Rattle.std.proofs.Common.{◌≡◌, ◌≤◌, Some}
 use Rattle.std.specs.Vec.{vec_capacity}
-use Rattle.lvl_sweep.specs.Alive.{HasSame}
+use Rattle.lvl_sweep.specs.inside.Alive.{HasSame}
 use Rattle.lvl_sweep.specs.inside.Rows.{bands_from}
 use Rattle.lvl_sweep.specs.inside.Strips.{IsAt, left}
 use Rattle.lvl_sweep.proofs.sweep.find_row.Given as goal

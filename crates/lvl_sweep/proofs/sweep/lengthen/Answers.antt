@@ -1,6 +1,6 @@
 use Rattle.std.proofs.Common.{w64, FitsSigned, rules, refl, ◌∙◌}
 use Rattle.std.proofs.lemmas.Int.{to_z-of_z}
-use Rattle.lvl_sweep.specs.Alive.{HasSame}
+use Rattle.lvl_sweep.specs.inside.Alive.{HasSame}
 use Rattle.lvl_sweep.proofs.Alikes.{both_alike}
 use Rattle.lvl_sweep.proofs.Settles.{held_on}
 use Rattle.lvl_sweep.proofs.sweep.lengthen.Goals as goal

@@ -1,5 +1,5 @@
 use Rattle.std.proofs.Common.{◌≡◌}
-use Rattle.lvl_sweep.specs.Alive.{HasSame}
+use Rattle.lvl_sweep.specs.inside.Alive.{HasSame}
 use Rattle.lvl_sweep.specs.inside.Strips.{IsAt, left}
 use Rattle.lvl_sweep.specs.inside.Sweeps.{IsHeld}
 use Rattle.lvl_sweep.proofs.sweep.lengthen.Given as goal

@@ -1,6 +1,6 @@
 use Rattle.std.proofs.Common.{w64, FitsSigned, rules, Some, ◌∙◌, sym, arith}
 use Rattle.std.proofs.lemmas.Int.{to_z-of_z}
-use Rattle.lvl_sweep.specs.Alive.{HasSame}
+use Rattle.lvl_sweep.specs.inside.Alive.{HasSame}
 use Rattle.lvl_sweep.proofs.Alikes.{as_long, both_alike, bands_alike}
 use Rattle.lvl_sweep.proofs.Settles.{none_left, held_first, held_start}
 use Rattle.lvl_sweep.proofs.sweep.settle.Goals as goal

@@ -1,6 +1,5 @@
-use Rattle.std.proofs.Common.{◌≡◌, ◌<◌, ◌+◌, ℕ, List, take, get_or, arith, sym, ap, subst, ◌∙◌, Bor, map, length, []}
-use Rattle.std.proofs.Common.{◌==◌}
-use Rattle.lvl_view.specs.Texts.{IsPairText, IsOnly}
+use Rattle.std.proofs.Common.{◌<◌, ◌+◌, ℕ, List, take, get_or, sym, ap, subst, ◌∙◌, Bor, map, length, [], ◌==◌}
+use Rattle.lvl_view.specs.Texts.{IsPairText}
 use Rattle.lvl_view.specs.inside.Reading.{IsAlone}
 use Rattle.lvl_view.specs.declared.map.LayerPair.{LayerPair}
 use Rattle.std.specs.List.{AllZip, slice_split}

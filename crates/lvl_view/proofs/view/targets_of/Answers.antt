@@ -1,4 +1,4 @@
-use Rattle.std.proofs.Common.{◌<◌, length, get_or, sym, ◌∙◌}
+use Rattle.std.proofs.Common.{get_or, sym, ◌∙◌}
 use Rattle.lvl_view.specs.declared.map.LayerPair.{LayerPair}
 use Rattle.lvl_view.proofs.Sources.{first_twice, targets_more, targets_none}
 use Rattle.lvl_view.proofs.Zips.{read_at}

@@ -1,7 +1,7 @@
-use Rattle.std.proofs.Common.{ℕ, List, arith, refl}
+use Rattle.std.proofs.Common.{arith}
 use Rattle.std.proofs.lemmas.Str.Pattern.{strip_prefix_char}
 use Rattle.std.specs.Prelude.{None, Some}
-use Rattle.lvl_view.specs.Texts.{IsSpanText, IsHeaded, Span}
+use Rattle.lvl_view.specs.Texts.{IsSpanText, IsHeaded}
 use Rattle.lvl_view.proofs.Cutting.{unheaded, headed}
 use Rattle.lvl_view.proofs.window.axis_of.Goals as goal
 

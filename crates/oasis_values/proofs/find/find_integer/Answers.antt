@@ -1,10 +1,11 @@
 use Rattle.std.proofs.Common.{◌<◌, ◌≤◌, List, ℕ, length, take, Ok, Err, refl, ap, subst, arith}
 use Rattle.std.proofs.lemmas.Result.{err_from_is_err_and}
 use Rattle.oasis_values.specs.Numbers.{IsUnsigned, Continues}
-use Rattle.oasis_values.proofs.Found.{hand_front, front_within, breach_fails, stop_fails, stop_live, rule_live}
+use Rattle.oasis_values.proofs.Found.{hand_front, front_within, breach_fails, stop_fails, stop_live}
 use Rattle.oasis_values.proofs.Found.{hand_begun}
 use Rattle.oasis_values.specs.declared.fault.ValueFault.TheVariants.{IntegerTooLarge}
 use Rattle.oasis_values.proofs.find.find_integer.Goals as goal
+use Rattle.oasis_values.proofs.Reading.{rule_live}
 
 pub returns-in-Whole-clause-finds : goal.returns-in-Whole-clause-finds
 returns-in-Whole-clause-finds g c = λ xs k.

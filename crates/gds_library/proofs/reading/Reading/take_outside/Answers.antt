@@ -29,5 +29,7 @@ returns c = λ rs d h.
     let e = c.in_ok-take.ensures in
     let head : KeepsHead c.args.self.now.builder c.take.new.self c.args.kind c.args.payload.now =
     record { version = e.version; units = e.units } in
-    let next = law_holds c.args.self.now.builder c.take.new.self rs r h e.place e.shown head in
-    (none_open c.take.new.self _ (rs ++ r ∷ []) c.requires.none next, law_allowed c.args.self.now.builder c.take.new.self rs r h next c.requires.formed.known e.place e.allowed)
+    let next = law_holds c.args.self.now.builder c.take.new.self rs r h e.place e.shown head in (
+      none_open c.take.new.self _ (rs ++ r ∷ []) c.requires.none next,
+      law_allowed c.args.self.now.builder c.take.new.self rs r h next c.requires.formed.known e.place e.allowed,
+    )

@@ -1,6 +1,6 @@
 use Rattle.std.proofs.Common.{◌≡◌, ◌+◌, ℤ, Option}
 use Rattle.std.specs.List.Sorted.{IsPermutation}
-use Rattle.lvl_sweep.specs.Runs.{IsMerging, IsSameFrom, IsEndOf}
+use Rattle.lvl_sweep.specs.inside.Runs.{IsMerging, IsSameFrom, IsEndOf}
 use Rattle.lvl_sweep.proofs.merge.Merge.run.Given as goal
 
 abbrev pub invariant-loop-self : goal.invariant-loop-self
