@@ -16,11 +16,7 @@ use Rattle.oasis_figures.specs.declared.rule.FigureRule.{FigureRule}
 use Rattle.oasis_figures.specs.declared.rule.FigureRule.TheVariants.{Undefined, Layer, OutOfRange as OutsideRange}
 use Rattle.oasis_figures.specs.declared.rule.FigureRule.TheVariants.{Magnification}
 use Rattle.oasis_figures.specs.declared.rule.FigureRule.TheVariants.{Angle, Extension, Oblique, Path}
-use Rattle.oasis_figures.specs.declared.variable.Variable.{Variable}
-use Rattle.oasis_figures.specs.declared.variable.Variable.TheVariants.{PlacementCell, Layer as LayerVariable, Datatype}
-use Rattle.oasis_figures.specs.declared.variable.Variable.TheVariants.{GeometryW, GeometryH}
-use Rattle.oasis_figures.specs.declared.variable.Variable.TheVariants.{PolygonPointList, PathHalfWidth, PathPointList}
-use Rattle.oasis_figures.specs.declared.variable.Variable.TheVariants.{PathStartExtension, PathEndExtension, Repetition}
+use Rattle.oasis_figures.specs.Names.{variable_name}
 use Rattle.oasis_stream.specs.declared.fault.NameRule.{NameRule}
 use Rattle.oasis_stream.specs.declared.fault.NameRule.TheVariants.{Mixed, NumberTwice, NameTwice}
 use Rattle.oasis_stream.specs.declared.fault.OasisKind.{OasisKind}
@@ -78,20 +74,6 @@ record_rule (Unsupported id) = codes "24 Unsupported " ++ decimal id
 record_rule Info = codes "29 Info"
 record_rule EndLength = codes "35 EndLength"
 record_rule Scheme = codes "36 Scheme"
-
--- a modal variable
-abbrev pub variable_name : Variable → List ℕ
-variable_name PlacementCell = codes "placement-cell"
-variable_name LayerVariable = codes "layer"
-variable_name Datatype = codes "datatype"
-variable_name GeometryW = codes "geometry-w"
-variable_name GeometryH = codes "geometry-h"
-variable_name PolygonPointList = codes "polygon-point-list"
-variable_name PathHalfWidth = codes "path-halfwidth"
-variable_name PathPointList = codes "path-point-list"
-variable_name PathStartExtension = codes "path-start-extension"
-variable_name PathEndExtension = codes "path-end-extension"
-variable_name Repetition = codes "repetition"
 
 -- a rule of figures and placements
 abbrev pub figure_rule : FigureRule → List ℕ

@@ -1,13 +1,13 @@
 //! What an OASIS file says of itself, and why one is refused, as text.
 ghost use Rattle.std.specs.Prelude.{◌≡◌, ◌++◌, OnOk, codes};
-ghost use Rattle.lvl_report.specs.Oasis.{real, signature, oasis_head_text, value_fault, record_rule, variable_name};
+ghost use Rattle.lvl_report.specs.Oasis.{real, signature, oasis_head_text, value_fault, record_rule};
 ghost use Rattle.lvl_report.specs.Gds.{hex};
 ghost use Rattle.lvl_report.specs.Oasis.{figure_rule, name_rule, oasis_kind, oasis_fault};
 
 use crate::faults::path_fault;
 use crate::gds::push_hex;
 use oasis_library::{
-    FigureRule, NameRule, OasisFault, OasisHead, OasisKind, Real, RecordRule, ValueFault, Variable,
+    FigureRule, NameRule, OasisFault, OasisHead, OasisKind, Real, RecordRule, ValueFault,
 };
 use std::io;
 use std::io::Write;
@@ -95,25 +95,6 @@ fn push_record_rule(text: &mut Vec<u8>, rule: RecordRule) -> io::Result<()>
     }
 }
 
-/// The name of a modal variable.
-fn variable_name(variable: Variable) -> &'static str
-    ensures { result.now ≡ variable_name variable }
-{
-    match variable {
-        Variable::PlacementCell => "placement-cell",
-        Variable::Layer => "layer",
-        Variable::Datatype => "datatype",
-        Variable::GeometryW => "geometry-w",
-        Variable::GeometryH => "geometry-h",
-        Variable::PolygonPointList => "polygon-point-list",
-        Variable::PathHalfWidth => "path-halfwidth",
-        Variable::PathPointList => "path-point-list",
-        Variable::PathStartExtension => "path-start-extension",
-        Variable::PathEndExtension => "path-end-extension",
-        Variable::Repetition => "repetition",
-    }
-}
-
 /// Appends a rule of figures and placements.
 fn push_figure_rule(text: &mut Vec<u8>, rule: FigureRule) -> io::Result<()>
     ensures { OnOk result (text.new.items ≡ text.old.items ++ figure_rule rule) }
@@ -122,7 +103,7 @@ fn push_figure_rule(text: &mut Vec<u8>, rule: FigureRule) -> io::Result<()>
         FigureRule::OutOfRange => write!(text, "10 OutOfRange"),
         FigureRule::Undefined(found) => {
             write!(text, "25 Undefined ")?;
-            text.write_all(variable_name(found).as_bytes())
+            text.write_all(found.name().as_bytes())
         }
         FigureRule::Magnification => write!(text, "30 Magnification"),
         FigureRule::Angle => write!(text, "31 Angle"),

@@ -1,4 +1,5 @@
 pub mod Modal
+pub mod Names
 pub mod Figures
 pub mod Keeping
 pub mod Rules

@@ -1,4 +1,7 @@
 //! The names of modal variables.
+ghost use Rattle.std.specs.Prelude.{◌≡◌, Some};
+ghost use Rattle.oasis_figures.specs.Names.{variable_name};
+
 use std::fmt;
 
 /// A modal variable that may have no value (SEMI P39, "Modal variables"). Those of positions always
@@ -18,9 +21,12 @@ pub enum Variable {
     Repetition,
 }
 
-impl fmt::Display for Variable {
-    fn fmt<W: fmt::Write>(&self, f: &mut fmt::Formatter<W>) -> fmt::Result {
-        f.write_str(match self {
+impl Variable {
+    /// Its name in the standard's table.
+    pub fn name(self) -> &'static str
+        ensures { result.now ≡ variable_name self }
+    {
+        match self {
             Variable::PlacementCell => "placement-cell",
             Variable::Layer => "layer",
             Variable::Datatype => "datatype",
@@ -32,6 +38,14 @@ impl fmt::Display for Variable {
             Variable::PathStartExtension => "path-start-extension",
             Variable::PathEndExtension => "path-end-extension",
             Variable::Repetition => "repetition",
-        })
+        }
+    }
+}
+
+impl fmt::Display for Variable {
+    ghost output = { λ variable. Some (variable_name variable) };
+
+    fn fmt<W: fmt::Write>(&self, f: &mut fmt::Formatter<W>) -> fmt::Result {
+        f.write_str(self.name())
     }
 }
