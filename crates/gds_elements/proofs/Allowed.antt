@@ -61,10 +61,10 @@ miscounted piece k n e h = elim h [
 ]
 
 -- the points of an element are as many as they have to be
-abbrev pub CountOk : ℕ → ℕ → Type 0
+abbrev CountOk : ℕ → ℕ → Type 0
 CountOk k n = (k ≡ boundary → 4 ≤ n) × (k ≡ path → 2 ≤ n) × (k ≡ aref → n ≡ 3) × (k ≡ sref → n ≡ 1) × (k ≡ text → n ≡ 1)
 
-pub counted : (piece : List Rec) (k n : ℕ) → opener piece ≡ Some k → CountOk k n → IsMiscounted piece n → ⊥
+counted : (piece : List Rec) (k n : ℕ) → opener piece ≡ Some k → CountOk k n → IsMiscounted piece n → ⊥
 counted piece k n e ok h = elim (miscounted piece k n e h) [
   | inl b ↦ omega (arith, ok.0 b.0, b.1)
   | inr h1 ↦ elim h1 [
@@ -75,6 +75,21 @@ counted piece k n e ok h = elim (miscounted piece k n e h) [
     ]
   ]
 ]
+
+pub boundary_counted : (piece : List Rec) (n : ℕ) → opener piece ≡ Some boundary → 4 ≤ n → IsMiscounted piece n → ⊥
+boundary_counted piece n o h = counted piece boundary n o (grind (arith, h))
+
+pub path_counted : (piece : List Rec) (n : ℕ) → opener piece ≡ Some path → 2 ≤ n → IsMiscounted piece n → ⊥
+path_counted piece n o h = counted piece path n o (grind (arith, h))
+
+pub aref_counted : (piece : List Rec) (n : ℕ) → opener piece ≡ Some aref → n ≡ 3 → IsMiscounted piece n → ⊥
+aref_counted piece n o h = counted piece aref n o (grind (arith, h))
+
+sref_counted : (piece : List Rec) (n : ℕ) → opener piece ≡ Some sref → n ≡ 1 → IsMiscounted piece n → ⊥
+sref_counted piece n o h = counted piece sref n o (grind (arith, h))
+
+text_counted : (piece : List Rec) (n : ℕ) → opener piece ≡ Some text → n ≡ 1 → IsMiscounted piece n → ⊥
+text_counted piece n o h = counted piece text n o (grind (arith, h))
 
 -- a record in order whose values breach no rule breaches none
 pub allowed : (piece : List Rec) (r : Rec) → InOrder piece r → ((k : ElementRule) → ValueBreaches piece r k → ⊥)
@@ -90,14 +105,7 @@ pub law_boundary : (piece : List Rec) (r : Rec) → opener piece ≡ Some bounda
     × All IsStraight (steps (points r.payload)))
     → (k : ElementRule) → ValueBreaches piece r k → ⊥
 law_boundary piece r o l p Layer x = (let z = l x.0 in omega (arith, ints, z, x.2))
-law_boundary piece r o l p Points x =
-    counted piece boundary (length (points r.payload)) o (
-      λ _. (p x.0).0,
-      λ e. absurd (omega arith),
-      λ e. absurd (omega arith),
-      λ e. absurd (omega arith),
-      λ e. absurd (omega arith),
-    ) x.1
+law_boundary piece r o l p Points x = boundary_counted piece _ o (p x.0).0 x.1
 law_boundary piece r o l p NotClosed x = x.3 (p x.0).1
 law_boundary piece r o l p Strans x = shape_refers piece boundary o (λ e. omega arith) (λ e. omega arith) x.1
 law_boundary piece r o l p Magnification x = shape_refers piece boundary o (λ e. omega arith) (λ e. omega arith) x.1
@@ -119,14 +127,7 @@ pub law_path : (piece : List Rec) (r : Rec) → opener piece ≡ Some path
     (record { half = half_of piece; start = end_of piece; end = end_of piece }))
     → (k : ElementRule) → ValueBreaches piece r k → ⊥
 law_path piece r o l t w p Layer x = (let z = l x.0 in omega (arith, ints, z, x.2))
-law_path piece r o l t w p Points x =
-    counted piece path (length (points r.payload)) o (
-      λ e. absurd (omega arith),
-      λ _. (p x.0).0,
-      λ e. absurd (omega arith),
-      λ e. absurd (omega arith),
-      λ e. absurd (omega arith),
-    ) x.1
+law_path piece r o l t w p Points x = path_counted piece _ o (p x.0).0 x.1
 law_path piece r o l t w p NotClosed x = (let z = one_opener piece path boundary o x.1 in omega (arith, z))
 law_path piece r o l t w p Strans x = shape_refers piece path o (λ e. omega arith) (λ e. omega arith) x.1
 law_path piece r o l t w p Magnification x = shape_refers piece path o (λ e. omega arith) (λ e. omega arith) x.1
@@ -144,14 +145,7 @@ pub law_sref : (piece : List Rec) (r : Rec) → opener piece ≡ Some sref
     → IsPlacingAllowed r.kind r.payload → (r.kind ≡ xy → length (points r.payload) ≡ 1) → (k : ElementRule)
     → ValueBreaches piece r k → ⊥
 law_sref piece r o a p Layer x = reference_draws piece sref o (λ e. omega arith) (λ e. omega arith) x.1
-law_sref piece r o a p Points x =
-    counted piece sref (length (points r.payload)) o (
-      λ e. absurd (omega arith),
-      λ e. absurd (omega arith),
-      λ e. absurd (omega arith),
-      λ _. p x.0,
-      λ e. absurd (omega arith),
-    ) x.1
+law_sref piece r o a p Points x = sref_counted piece _ o (p x.0) x.1
 law_sref piece r o a p NotClosed x = (let z = one_opener piece sref boundary o x.1 in omega (arith, z))
 law_sref piece r o a p Strans x = x.3 (a.strans x.0 x.2)
 law_sref piece r o a p Magnification x = x.2 (a.mag x.0)
@@ -171,14 +165,7 @@ pub law_aref : (piece : List Rec) (r : Rec) → opener piece ≡ Some aref
     (rows_in (last_of colrow piece)))
     → (k : ElementRule) → ValueBreaches piece r k → ⊥
 law_aref piece r o a c p Layer x = reference_draws piece aref o (λ e. omega arith) (λ e. omega arith) x.1
-law_aref piece r o a c p Points x =
-    counted piece aref (length (points r.payload)) o (
-      λ e. absurd (omega arith),
-      λ e. absurd (omega arith),
-      λ _. (p x.0).0,
-      λ e. absurd (omega arith),
-      λ e. absurd (omega arith),
-    ) x.1
+law_aref piece r o a c p Points x = aref_counted piece _ o (p x.0).0 x.1
 law_aref piece r o a c p NotClosed x = (let z = one_opener piece aref boundary o x.1 in omega (arith, z))
 law_aref piece r o a c p Strans x = x.3 (a.strans x.0 x.2)
 law_aref piece r o a c p Magnification x = x.2 (a.mag x.0)
@@ -199,14 +186,7 @@ law_aref piece r o a c p Repetition x = (let z = c x.0 in omega (arith, z.few, x
 pub law_text : (piece : List Rec) (r : Rec) → opener piece ≡ Some text
     → (r.kind ≡ xy → length (points r.payload) ≡ 1) → (k : ElementRule) → ValueBreaches piece r k → ⊥
 law_text piece r o p Layer x = reference_draws piece text o (λ e. omega arith) (λ e. omega arith) x.1
-law_text piece r o p Points x =
-    counted piece text (length (points r.payload)) o (
-      λ e. absurd (omega arith),
-      λ e. absurd (omega arith),
-      λ e. absurd (omega arith),
-      λ e. absurd (omega arith),
-      λ _. p x.0,
-    ) x.1
+law_text piece r o p Points x = text_counted piece _ o (p x.0) x.1
 law_text piece r o p NotClosed x = (let z = one_opener piece text boundary o x.1 in omega (arith, z))
 law_text piece r o p Strans x = shape_refers piece text o (λ e. omega arith) (λ e. omega arith) x.1
 law_text piece r o p Magnification x = shape_refers piece text o (λ e. omega arith) (λ e. omega arith) x.1

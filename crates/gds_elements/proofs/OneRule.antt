@@ -1,6 +1,6 @@
 -- A record breaches one rule at most.
-use Rattle.std.proofs.Common.{Bool, true, ◌||◌, ◌≡◌, ◌≢◌, ◌==◌, ℕ, ◌≤◌, inl, inr, List, length}
-use Rattle.std.proofs.Common.{Some, refl, sym, ap, ◌∙◌, subst, arith}
+use Rattle.std.proofs.Common.{Bool, true, ◌||◌, ◌≡◌, ◌≢◌, ◌==◌, ℕ, inl, inr, List, length, Some, refl, sym, ap, ◌∙◌}
+use Rattle.std.proofs.Common.{subst, arith}
 use Rattle.std.proofs.lemmas.Int.{ints}
 use Rattle.lvl_path.specs.declared.fault.PathFault.{PathFault}
 use Rattle.gds_elements.specs.Types.{boundary, path, aref, layer, datatype, width, xy, sname, colrow, strans, mag}
@@ -9,7 +9,7 @@ use Rattle.lvl_grammar.specs.Order.{Begins}
 use Rattle.gds_elements.specs.Order.{an_element}
 use Rattle.gds_elements.specs.Rec.{Rec, kinds, opener}
 use Rattle.gds_elements.specs.Values.{points}
-use Rattle.gds_elements.specs.Rules.{IsKnown, IsMiscounted, InOrder, ValueBreaches, IsMisplacedAs, ElementBreaches}
+use Rattle.gds_elements.specs.Rules.{IsKnown, InOrder, ValueBreaches, IsMisplacedAs, ElementBreaches}
 use Rattle.gds_elements.specs.declared.fault.Misplaced.{Misplaced}
 use Rattle.gds_elements.specs.declared.fault.Misplaced.TheVariants.{Unexpected, Unsupported}
 use Rattle.gds_elements.specs.declared.fault.ElementFault.{ElementFault}
@@ -20,39 +20,8 @@ use Rattle.gds_elements.specs.declared.fault.ElementRule.TheVariants.{Angle, Col
 use Rattle.gds_elements.specs.declared.fault.ElementRule.TheVariants.{PathType, Oblique, Repetition}
 use Rattle.gds_elements.proofs.Fields.{kinds-snoc}
 use Rattle.gds_elements.proofs.Words.{begun_known}
-use Rattle.gds_elements.proofs.Allowed.{one_opener, counted}
+use Rattle.gds_elements.proofs.Allowed.{one_opener, boundary_counted, path_counted, aref_counted}
 use Rattle.lvl_path.proofs.Lowest.{one_lowest}
-
--- the number of points is as it has to be, where a rule speaks of what they are
-boundary_counted : (piece : List Rec) (n : ℕ) → opener piece ≡ Some boundary → 4 ≤ n → IsMiscounted piece n → ⊥
-boundary_counted piece n o h =
-    counted piece boundary n o (
-      λ _. h,
-      λ e. absurd (omega arith),
-      λ e. absurd (omega arith),
-      λ e. absurd (omega arith),
-      λ e. absurd (omega arith),
-    )
-
-path_counted : (piece : List Rec) (n : ℕ) → opener piece ≡ Some path → 2 ≤ n → IsMiscounted piece n → ⊥
-path_counted piece n o h =
-    counted piece path n o (
-      λ e. absurd (omega arith),
-      λ _. h,
-      λ e. absurd (omega arith),
-      λ e. absurd (omega arith),
-      λ e. absurd (omega arith),
-    )
-
-aref_counted : (piece : List Rec) (n : ℕ) → opener piece ≡ Some aref → n ≡ 3 → IsMiscounted piece n → ⊥
-aref_counted piece n o h =
-    counted piece aref n o (
-      λ e. absurd (omega arith),
-      λ e. absurd (omega arith),
-      λ _. h,
-      λ e. absurd (omega arith),
-      λ e. absurd (omega arith),
-    )
 
 two_openers : (piece : List Rec) (k j : ℕ) → opener piece ≡ Some k → opener piece ≡ Some j → k ≢ j → ⊥
 two_openers piece k j o p n = n (one_opener piece k j o p)

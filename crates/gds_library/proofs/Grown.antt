@@ -24,18 +24,6 @@ plain_cell k p c s = rw s refl
 pub plain : (k : ℕ) (p : List ℕ) (cs : List KeptCell) → k == bgnstr ≡ false → k == strname ≡ false → grown k p cs ≡ cs
 plain k p cs n s = rw n (on_last-id (grown_cell k p) cs (λ c. plain_cell k p c s))
 
-pub shown_header : (p q : Place) (b b' : Builder) (payload : List ℕ) → after p header ≡ Some q → b'.cells ≡ b.cells
-    → shown_at q b' ≡ grown header payload (shown_at p b)
-shown_header Header q b b' payload e c =
-    (let z : q ≡ BgnLib = cc in rw (z, c) (sym (plain header payload (done b) refl refl)))
-shown_header _ q b b' payload e c = cc
-
-pub shown_units : (p q : Place) (b b' : Builder) (payload : List ℕ) → after p units ≡ Some q → b'.cells ≡ b.cells
-    → shown_at q b' ≡ grown units payload (shown_at p b)
-shown_units Units q b b' payload e c =
-    (let z : q ≡ Structures = cc in rw (z, c) (sym (plain units payload (done b) refl refl)))
-shown_units _ q b b' payload e c = cc
-
 pub shown_bgnstr : (p q : Place) (b b' : Builder) (payload : List ℕ) → after p bgnstr ≡ Some q → b'.cells ≡ b.cells
     → shown_at q b' ≡ grown bgnstr payload (shown_at p b)
 shown_bgnstr Structures q b b' payload e c = (let z : q ≡ StrName = cc in rw (z, c) refl)
@@ -63,16 +51,15 @@ pub by_kind : (k j : ℕ) (p q : Place) (b b' : Builder) (payload : List ℕ) �
 by_kind k j p q b b' payload e h a =
     subst (λ i. shown_at q b' ≡ grown i payload (shown_at p b)) (sym e) (h (subst (λ i. after p i ≡ Some q) e a))
 
--- where a type is none of those that have an arm, the builder stays
+-- a type of records that begin, name or end no structure
 pub record IsOther (k : ℕ) : Type 0 where
-  pub header : k == 0x00 ≡ false
   pub bgnstr : k == 0x05 ≡ false
   pub strname : k == 0x06 ≡ false
   pub endstr : k == 0x07 ≡ false
 
-other_plain : (k : ℕ) (p q : Place) (b : Builder) (payload : List ℕ) → IsOther k → shown_at q b ≡ shown_at p b
-    → shown_at q b ≡ grown k payload (shown_at p b)
-other_plain k p q b payload o e = e ∙ sym (plain k payload (shown_at p b) o.bgnstr o.strname)
+other_plain : (k : ℕ) (p q : Place) (b b' : Builder) (payload : List ℕ) → IsOther k → shown_at q b' ≡ shown_at p b
+    → shown_at q b' ≡ grown k payload (shown_at p b)
+other_plain k p q b b' payload o e = e ∙ sym (plain k payload (shown_at p b) o.bgnstr o.strname)
 
 pub none_some : (b : Bool) (r q : Place) (x : Option Place) → b ≡ false → (if b then Some r else x) ≡ Some q
     → x ≡ Some q
@@ -83,35 +70,32 @@ pub same_place : (b : Bool) (r q : Place) → (if b then Some r else None) ≡ S
 same_place true r q e = cc
 same_place false r q e = cc
 
-structures_rest : (k : ℕ) (q : Place) (b : Builder) (payload : List ℕ) → IsOther k → (t : Bool)
+structures_rest : (k : ℕ) (q : Place) (b b' : Builder) (payload : List ℕ) → IsOther k → done b' ≡ done b → (t : Bool)
     → (if t then Some Fill else (if k == bgnstr then Some StrName else None)) ≡ Some q
-    → shown_at q b ≡ grown k payload (shown_at Structures b)
-structures_rest k q b payload o true e =
-    (let z : q ≡ Fill = cc in rw z (other_plain k Structures Fill b payload o refl))
-structures_rest k q b payload o false e =
+    → shown_at q b' ≡ grown k payload (shown_at Structures b)
+structures_rest k q b b' payload o c true e =
+    (let z : q ≡ Fill = cc in rw z (other_plain k Structures Fill b b' payload o c))
+structures_rest k q b b' payload o c false e =
     (let z : None ≡ Some q = none_some (k == bgnstr) StrName q None o.bgnstr e in cc)
 
-pub shown_other : (k : ℕ) (p q : Place) (b : Builder) (payload : List ℕ) → IsOther k → after p k ≡ Some q
-    → shown_at q b ≡ grown k payload (shown_at p b)
-shown_other k Header q b payload o e = (let z : None ≡ Some q = none_some (k == header) BgnLib q None o.header e in cc)
-shown_other k BgnLib q b payload o e =
-    (let z = same_place (k == bgnlib) LibName q e in rw z (other_plain k BgnLib LibName b payload o refl))
-shown_other k LibName q b payload o e =
-    (let z = same_place (k == libname) Units q e in rw z (other_plain k LibName Units b payload o refl))
-shown_other k Units q b payload o e =
-    (let z = same_place (k == units) Structures q e in rw z (other_plain k Units Structures b payload o refl))
-shown_other k Structures q b payload o e = structures_rest k q b payload o (k == endlib) e
-shown_other k StrName q b payload o e =
+-- after such a record as much is shown as before
+pub shown_other : (k : ℕ) (p q : Place) (b b' : Builder) (payload : List ℕ) → IsOther k → done b' ≡ done b
+    → after p k ≡ Some q → shown_at q b' ≡ grown k payload (shown_at p b)
+shown_other k Header q b b' payload o c e =
+    (let z = same_place (k == header) BgnLib q e in rw z (other_plain k Header BgnLib b b' payload o c))
+shown_other k BgnLib q b b' payload o c e =
+    (let z = same_place (k == bgnlib) LibName q e in rw z (other_plain k BgnLib LibName b b' payload o c))
+shown_other k LibName q b b' payload o c e =
+    (let z = same_place (k == libname) Units q e in rw z (other_plain k LibName Units b b' payload o c))
+shown_other k Units q b b' payload o c e =
+    (let z = same_place (k == units) Structures q e in rw z (other_plain k Units Structures b b' payload o c))
+shown_other k Structures q b b' payload o c e = structures_rest k q b b' payload o c (k == endlib) e
+shown_other k StrName q b b' payload o c e =
     (let z : None ≡ Some q = none_some (k == strname) Elements q None o.strname e in cc)
-shown_other k Elements q b payload o e =
+shown_other k Elements q b b' payload o c e =
     (let z : None ≡ Some q = none_some (k == endstr) Structures q None o.endstr e in cc)
-shown_other k Fill q b payload o e =
-    (let z = same_place (k == fill) Fill q e in rw z (other_plain k Fill Fill b payload o refl))
-
--- the place itself isn't shown
-pub shown_place : (q r : Place) (b : Builder) → shown_at q (record b { place = r }) ≡ shown_at q b
-shown_place Header r b = refl
-shown_place _ r b = refl
+shown_other k Fill q b b' payload o c e =
+    (let z = same_place (k == fill) Fill q e in rw z (other_plain k Fill Fill b b' payload o c))
 
 -- what an element draws is last in the open cell
 pub shown_drawn : (p : Place) (b b' : Builder) (shapes : List KeptShape) (references : List PlainReference)

@@ -11,32 +11,10 @@ use Rattle.lvl_sweep.specs.declared.edge.Edge.{Edge}
 use Rattle.lvl_sweep.specs.inside.Alive.{rises, falls}
 
 same_way : (a b c d : Bool) → ((a && b) && (c && (d && true))) ≡ (d && (c && (a && b)))
-same_way true true true true = refl
-same_way true true true false = refl
-same_way true true false true = refl
-same_way true true false false = refl
-same_way true false true true = refl
-same_way true false true false = refl
-same_way true false false true = refl
-same_way true false false false = refl
-same_way false true true true = refl
-same_way false true true false = refl
-same_way false true false true = refl
-same_way false true false false = refl
-same_way false false true true = refl
-same_way false false true false = refl
-same_way false false false true = refl
-same_way false false false false = refl
+same_way a b c d = grind arith
 
 no_way : (a c d t : Bool) → t ≡ false → (a && (c && (d && false))) ≡ (d && (c && t))
-no_way true true true t e = rw e refl
-no_way true true false t e = refl
-no_way true false true t e = refl
-no_way true false false t e = refl
-no_way false true true t e = rw e refl
-no_way false true false t e = refl
-no_way false false true t e = refl
-no_way false false false t e = refl
+no_way a c d t e = grind (arith, e)
 
 by_case : (p q : Bool) → (p ≡ true → q ≡ true → true ≡ false) → (p && q) ≡ false
 by_case true true h = h refl refl

@@ -1,18 +1,22 @@
-use Rattle.std.proofs.Common.{◌≡◌, ℕ, List, [], sym, ap, ◌∙◌, rules, arith, ◌==◌, false}
+use Rattle.std.proofs.Common.{◌≡◌, ℕ, List, [], refl, sym, ap, ◌∙◌, rules, arith, ◌==◌, false}
 use Rattle.std.proofs.lemmas.Bool.Decides.{nat_tests}
 use Rattle.gds_library.proofs.builder.Builder.take.Goals as goal
 use Rattle.gds_library.proofs.builder.Builder.take.Goals.{in-0, in-3, in-5+else-len-ge-MOST_CELLS}
 use Rattle.gds_library.proofs.builder.Builder.take.Goals.{in-6+else-not-is_name+in_ok-from_slice-in-6}
 use Rattle.gds_library.proofs.builder.Builder.take.Goals.{in-7+in_ok-close-in-7, in_default-kind}
-use Rattle.gds_library.proofs.Grown.{shown_endstr, shown_other, shown_place, IsOther, by_kind, shown_header}
-use Rattle.gds_library.proofs.Grown.{shown_units, shown_bgnstr, shown_strname}
+use Rattle.gds_library.proofs.Grown.{IsOther, shown_other, shown_bgnstr, shown_strname, shown_endstr, by_kind}
 use Rattle.lvl_cells.specs.Building.{Built}
-use Rattle.gds_library.specs.inside.Shown.{shown_at}
 use Rattle.gds_library.specs.declared.builder.Builder.{Builder}
 use Rattle.gds_elements.specs.Types.{units, endstr, header, bgnstr, strname}
 
 other : (k j : ℕ) → (k ≡ j → ⊥) → k == j ≡ false
 other k j h = grind (arith, nat_tests)
+
+other_header : IsOther header
+other_header = record { bgnstr = refl; strname = refl; endstr = refl }
+
+other_units : IsOther units
+other_units = record { bgnstr = refl; strname = refl; endstr = refl }
 
 pub returns-clause-shown : goal.returns-clause-shown
 returns-clause-shown c =
@@ -25,9 +29,9 @@ returns-clause-shown c =
     let payload = c.args.payload.now in
     elim c.match-kind.branch [
       | in-0 w ↦ by_kind _ header p q b b' payload w.in-0.is
-          (λ e. shown_header p q b b' payload e (ap (λ (x : Builder). x.cells) w.self-is)) a
+          (shown_other header p q b b' payload other_header (ap (λ (x : Builder). x.cells.cells) w.self-is)) a
       | in-3 w ↦ by_kind _ units p q b b' payload w.in-3.is
-          (λ e. shown_units p q b b' payload e (ap (λ (x : Builder). x.cells) w.self-is)) a
+          (shown_other units p q b b' payload other_units (ap (λ (x : Builder). x.cells.cells) w.self-is)) a
       | in-5+else-len-ge-MOST_CELLS w ↦ by_kind _ bgnstr p q b b' payload w.in-5.is
           (λ e. shown_bgnstr p q b b' payload e (ap (λ (x : Builder). x.cells) w.self-is)) a
       | in-6+else-not-is_name+in_ok-from_slice-in-6 w ↦ by_kind _ strname p q b b' payload w.in-6.is
@@ -40,12 +44,9 @@ returns-clause-shown c =
           ∙ ap (λ (x : Built). x.cells) w.in_ok-close-in-7.ensures)) a
       | in_default-kind w ↦ (
           let z : IsOther c.args.kind = record {
-            header = other _ _ (λ e. absurd (search rules));
             bgnstr = other _ _ (λ e. absurd (search rules));
             strname = other _ _ (λ e. absurd (search rules));
             endstr = other _ _ (λ e. absurd (search rules));
           } in
-          let same : shown_at q b' ≡ shown_at q b = ap (λ (x : Builder). shown_at q (record x { place = q })) w.self-is
-          ∙ shown_place q q b in
-          same ∙ shown_other c.args.kind p q b payload z a)
+          shown_other c.args.kind p q b b' payload z (ap (λ (x : Builder). x.cells.cells) w.self-is) a)
     ]
