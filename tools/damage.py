@@ -25,6 +25,8 @@ import oasis_reader
 
 ROOT = os.path.dirname(os.path.dirname(os.path.abspath(__file__)))
 WRITERS = {"gds": gds, "oas": oasis}
+LARGE = [2**20 - 2, 2**20 - 1, 2**24 - 1, 2**32 - 1, 2**32, 2**62, 2**62 - 1, 2**63 - 1, 2**63, 2**64 - 2, 2**64 - 1]
+EXTREME = [b"\x7F\xFF\xFF\xFF", b"\x80\0\0\0", b"\xFF\xFF\xFF\xFF", b"\0\1\0\0"]
 ODD_BYTES = [0, 1, 2, 3, 4, 6, 8, 13, 14, 15, 16, 17, 18, 20, 21, 22, 0x40, 0x7F, 0x80, 0xFF]
 
 
@@ -136,9 +138,21 @@ def values_changed(rng, data):
     return bytes(out)
 
 
+def number_grown(rng, data):
+    """A byte of a record made a large number, as OASIS spells it; in GDSII four bytes made an extreme one."""
+    starts = starts_of(data)
+    which = rng.randrange(len(starts) - 1)
+    if data[:1] == b"%":
+        at = rng.randrange(starts[which], max(starts[which] + 1, starts[which + 1]))
+        return data[:at] + oasis.unsigned(rng.choice(LARGE)) + data[at + 1:]
+    at = starts[which] + 4 * rng.randint(1, 6)
+    return data[:at] + rng.choice(EXTREME) + data[at + 4:] if at + 4 <= len(data) else data
+
+
 DAMAGES = [
     changed_bytes, removed, inserted, swapped, cut, lengthened, records_moved, records_moved,
-    heads_changed, heads_changed, values_changed, values_changed, values_changed, values_changed,
+    heads_changed, heads_changed, values_changed, values_changed, values_changed, values_changed, number_grown,
+    number_grown,
 ]
 
 

@@ -2,8 +2,8 @@
 """What the worst file of each kind costs: `tools/hostile.py [--program FILE] [--only TEXT] [--most SECONDS]`.
 
 Each case makes its files, runs `lvl compare` or `lvl show` on them and prints a row of a table: what it is,
-bytes of the files, placed rings, seconds, peak MB, bytes of memory for each byte of the files, and the last
-line of the answer. A run that takes longer than --most is stopped.
+bytes of the files, placed rings, seconds of processor time, peak MB, bytes of memory for each byte of the
+files, and the last line of the answer. A run that takes longer than --most is stopped.
 """
 import argparse
 import os
@@ -201,13 +201,13 @@ def wires():
 
 def overlaps():
     """Rectangles whose union is simple, though many lie over each row."""
-    for n in (5_000, 10_000, 20_000):
+    for n in (5_000, 10_000):
         yield against_itself("%d nested squares" % n, [(at, at, 3 * n - at, 3 * n - at) for at in range(n)])
     for n in (5_000, 10_000):
         yield against_itself("%d long bars over each other" % n, [(0, at, 10, at + n) for at in range(n)])
         yield against_itself("%d bars as a stair" % n, [(at, at, at + n, at + n) for at in range(n)])
         yield against_itself("%d crosswise bars" % n, [(-at, at - n, at + 1, n - at) for at in range(n)])
-    for n in (8_000, 16_000, 32_000):
+    for n in (4_000, 8_000, 16_000):
         signs = (1, 1, -1, -1)
         spiral = crafted.polygon([signed(signs[at % 4] * (at // 2 + 1)) for at in range(2 * n)])
         more = rectangle(-n // 8, 0, n // 4, 1)
@@ -217,7 +217,7 @@ def overlaps():
 
 def scattered():
     rng = random.Random(7)
-    for n in (250_000, 500_000, 1_000_000):
+    for n in (250_000, 1_000_000):
         spots = [(rng.randrange(10**6), rng.randrange(10**6)) for _ in range(n)]
         yield against_itself("%d scattered squares" % n, [(x, y, x + 100, y + 100) for x, y in spots])
     for n in (50_000, 100_000, 200_000):

@@ -2,8 +2,8 @@
 """Runs `lvl` on files at each limit and one past it: `tools/limits.py [--program FILE] [--only TEXT]`.
 
 The files are made one after another in a temporary folder and kept by none. For each run a line is
-printed: whether the answer is the rules', what was run, its last line, seconds, peak MB, and bytes of the
-files. Some take a minute and 3 GB; the files of 4 GB are zeros that take no room on the disk.
+printed: whether the answer is the rules', what was run, its last line, seconds of processor time, peak MB,
+and bytes of the files. Some take minutes or 5 GB; the files of 4 GB are zeros that take no room on the disk.
 """
 import argparse
 import os
