@@ -16,3 +16,4 @@ pub mod Refusing
 pub mod Looking
 pub mod Spanned
 pub mod Layers
+pub mod Reaches

@@ -19,6 +19,7 @@ pub use names::index_of;
 pub use offsets::Offsets;
 pub use shapes::Shapes;
 
+mod bounded;
 mod builder;
 mod checked;
 mod counts;

@@ -3,9 +3,10 @@ ghost use Rattle.std.specs.Prelude.{◌≡◌, ◌<◌, ◌↔◌, ◌^◌, leng
 ghost use Rattle.std.specs.Prelude.{IfSome, SomeIff, All};
 ghost use Rattle.std.specs.Int.{w64};
 ghost use Rattle.lvl_grid.specs.Turn.{shifted, FitsPoint};
-ghost use Rattle.lvl_cells.specs.inside.Keeping.{StaysWithin, HasFarCorner, AreFew};
+ghost use Rattle.lvl_cells.specs.inside.Keeping.{StaysWithin, HasFarCorner, AreFew, IsBounded};
 ghost use Rattle.lvl_cells.specs.Shifts.{steps, lattice, one_place, IsLattice, StartsAtZero};
 
+use crate::bounded::BoundedList;
 use lvl_grid::Point;
 use std::alloc::AllocError;
 use std::marker::Model;
@@ -19,7 +20,7 @@ const MOST_PLACES: u64 = 16_777_216;
 #[derive(Debug, Drop)]
 enum Kept {
     List(Vec<Point>),
-    Shared(Rc<Vec<Point>>),
+    Shared(Rc<BoundedList>),
     Lattice(Point, u64, Point, u64),
 }
 
@@ -52,7 +53,7 @@ impl Clone for Offsets {
     fn clone(&self) -> Result<Offsets, AllocError> {
         let kept = match &self.kept {
             Kept::List(shifts) => Kept::List(Vec::from_slice(*shifts.allocator(), shifts)?),
-            Kept::Shared(shifts) => Kept::Shared(shifts.clone()?),
+            Kept::Shared(list) => Kept::Shared(list.clone()?),
             Kept::Lattice(a, m, b, n) => Kept::Lattice(*a, *m, *b, *n),
         };
         Ok(Offsets { kept })
@@ -141,6 +142,14 @@ fn list_fits_moved(by: Point, shifts: &[Point]) -> bool
     shifts.iter().all(|shift| fits_moved(by, *shift))
 }
 
+/// Whether each of the list's shifts fits 64 bits once it is moved, by the corners.
+fn bounded_fits_moved(by: Point, list: &BoundedList) -> bool
+    requires { IsBounded list.now }
+    ensures { IsTrue result ↔ All (λ e. FitsPoint (shifted by e)) list.now.shifts.items }
+{
+    fits_moved(by, list.low) && fits_moved(by, list.high)
+}
+
 /// Whether each shift of the lattice fits 64 bits once it is moved, by the corners.
 fn lattice_fits_moved(by: Point, a: Point, m: u64, b: Point, n: u64) -> bool
     requires { HasFarCorner a m b n }
@@ -202,10 +211,10 @@ impl Offsets {
     {
         let zero = Point { x: 0, y: 0 };
         match mem::replace(&mut self.kept, Kept::Lattice(zero, 1, zero, 1)) {
-            Kept::List(shifts) => match Rc::new(*shifts.allocator(), shifts) {
+            Kept::List(shifts) => match Rc::new(*shifts.allocator(), BoundedList::new(shifts)) {
                 Ok(shared) => self.kept = Kept::Shared(shared),
                 Err(failed) => {
-                    self.kept = Kept::List(failed.value);
+                    self.kept = Kept::List(failed.value.shifts);
                     return Err(AllocError);
                 }
             },
@@ -240,7 +249,7 @@ impl Offsets {
     {
         match &self.kept {
             Kept::List(shifts) => shifts.len() as u64,
-            Kept::Shared(shifts) => shifts.len() as u64,
+            Kept::Shared(list) => list.shifts.len() as u64,
             Kept::Lattice(_, m, _, n) => m * n,
         }
     }
@@ -251,7 +260,7 @@ impl Offsets {
     {
         match &self.kept {
             Kept::List(shifts) => list_fits_moved(at, shifts),
-            Kept::Shared(shifts) => list_fits_moved(at, shifts),
+            Kept::Shared(list) => bounded_fits_moved(at, list),
             Kept::Lattice(a, m, b, n) => lattice_fits_moved(at, *a, *m, *b, *n),
         }
     }
@@ -262,7 +271,7 @@ impl Offsets {
     {
         match &self.kept {
             Kept::List(shifts) => shifts.get(k as usize).copied(),
-            Kept::Shared(shifts) => shifts.get(k as usize).copied(),
+            Kept::Shared(list) => list.shifts.get(k as usize).copied(),
             Kept::Lattice(a, m, b, n) => {
                 if k >= m * n {
                     return None;

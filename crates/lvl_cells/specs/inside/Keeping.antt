@@ -1,7 +1,9 @@
 -- How a list of shifts is kept.
-use Rattle.std.specs.Prelude.{ℕ, ◌<◌, ◌≤◌, ◌*◌, ◌-◌, List, pos, ℤ, ◌+ℤ◌, ◌*ℤ◌, FitsSigned}
+use Rattle.std.specs.Prelude.{ℕ, ◌<◌, ◌≤◌, ◌*◌, ◌-◌, List, map, All, Contains, pos, ℤ, ◌≤ℤ◌, ◌+ℤ◌, ◌*ℤ◌}
+use Rattle.std.specs.Prelude.{FitsSigned}
 use Rattle.std.specs.Int.{w64}
 use Rattle.lvl_grid.specs.declared.point.Point.{Point}
+use Rattle.lvl_cells.specs.declared.bounded.BoundedList.{BoundedList}
 use Rattle.lvl_cells.specs.declared.offsets.Kept.{Kept}
 use Rattle.lvl_cells.specs.declared.offsets.Kept.TheVariants.{List as ByList, Shared as ByShared, Lattice as ByLattice}
 use Rattle.lvl_cells.specs.Shifts.{lattice, most_places, StartsAtZero}
@@ -24,12 +26,31 @@ pub record HasFarCorner (a : Point) (m : ℕ) (b : Point) (n : ℕ) : Type 0 whe
   pub xs : StaysWithin a.x (m - 1) b.x (n - 1)
   pub ys : StaysWithin a.y (m - 1) b.y (n - 1)
 
+-- the shift is between the corners, along both axes
+pub record IsBetween (low high e : Point) : Type 0 where
+  pub left : low.x ≤ℤ e.x
+  pub right : e.x ≤ℤ high.x
+  pub below : low.y ≤ℤ e.y
+  pub above : e.y ≤ℤ high.y
+
+-- each coordinate of the corners is that of some shift
+pub record IsReached (low high : Point) (shifts : List Point) : Type 0 where
+  pub left : Contains (map (λ e. e.x) shifts) low.x
+  pub right : Contains (map (λ e. e.x) shifts) high.x
+  pub below : Contains (map (λ e. e.y) shifts) low.y
+  pub above : Contains (map (λ e. e.y) shifts) high.y
+
+-- the corners have the least and the greatest coordinates of the shifts
+pub record IsBounded (list : BoundedList) : Type 0 where
+  pub between : All (IsBetween list.low list.high) list.shifts.items
+  pub reached : IsReached list.low list.high list.shifts.items
+
 abbrev pub kept_shifts : Kept → List Point
 kept_shifts (ByList shifts) = shifts.items
-kept_shifts (ByShared shifts) = shifts.value.items
+kept_shifts (ByShared list) = list.value.shifts.items
 kept_shifts (ByLattice a m b n) = lattice a m b n
 
 abbrev pub IsKept : Kept → Type 0
 IsKept (ByList shifts) = StartsAtZero shifts.items
-IsKept (ByShared shifts) = StartsAtZero shifts.value.items
+IsKept (ByShared list) = StartsAtZero list.value.shifts.items × IsBounded list.value
 IsKept (ByLattice a m b n) = HasFarCorner a m b n
