@@ -14,6 +14,11 @@ struct Outline {
 }
 
 impl Outline {
+    /// Whether the ring is a rectangle.
+    fn is_rectangle(&self) -> bool {
+        self.edges == 2
+    }
+
     fn of(ring: &[Point]) -> Outline {
         let mut outline = Outline {
             left: i64::MAX,
@@ -171,7 +176,7 @@ impl Sample {
         let mut edges: u128 = 0;
         let mut heights: u128 = 0;
         for outline in &self.outlines {
-            let further = cuts_through(cuts, outline).wrapping_mul(2);
+            let further = cuts_that_count(cuts, outline).wrapping_mul(2);
             edges = edges.wrapping_add(outline.edges.wrapping_add(further));
             let each = outline.heights.checked_div(outline.edges).unwrap_or(0);
             heights = heights.wrapping_add(
@@ -191,6 +196,16 @@ impl Sample {
             passes: weighed(passes, alive),
         }
     }
+}
+
+/// How many of the cuts go through the ring and make work: in the columns that a rectangle spans it
+/// is joined with others.
+fn cuts_that_count(cuts: &[i64], outline: &Outline) -> u128 {
+    let cuts = cuts_through(cuts, outline);
+    if outline.is_rectangle() {
+        return cuts.min(2);
+    }
+    cuts
 }
 
 /// How many of the cuts go through the ring.

@@ -12,4 +12,5 @@ pub use window::{difference_in, first_difference_in};
 mod columns;
 mod estimate;
 mod halves;
+mod spanning;
 mod window;
