@@ -55,11 +55,13 @@ fn extent(rings: &Rings) -> (i64, i64) {
 fn spanned(ring: &[Point], left: i64, right: i64) -> Option<Window>
     ensures { IfSome result (λ window. (s : GridSquare) → Covers ring.now s ↔ IsWithin window s) }
 {
-    let window = window_of(ring)?;
-    if window.x0 != left || window.x1 != right {
+    let [a, _, c, _] = ring else {
+        return None;
+    };
+    if a.x.min(c.x) != left || a.x.max(c.x) != right {
         return None;
     }
-    Some(window)
+    window_of(ring)
 }
 
 /// The windows of the rings that are rectangles as wide as all rings together.
@@ -195,14 +197,29 @@ fn uncovered(alloc: Global, rings: &Rings, windows: &[Window]) -> Result<Rings, 
     Ok(rest)
 }
 
+/// How many rings of a list are looked at before it is gone through.
+const LOOKED_AT: usize = 64;
+
+/// Some rings of a list, from all over it.
+fn some_of(alloc: Global, rings: &Rings) -> Result<Rings, AllocError> {
+    let step = rings.len() / LOOKED_AT + 1;
+    let mut some = Rings::new(alloc);
+    for i in 0..LOOKED_AT {
+        if let Some(ring) = rings.get(i.wrapping_mul(step)) {
+            some.push(ring)?;
+        }
+    }
+    Ok(some)
+}
+
 /// Rings that cover the same squares, with few rectangles among them that span all abscissas.
 pub(crate) fn joined(alloc: Global, rings: Rings) -> Result<Rings, AllocError>
     ensures { IfOk result (λ joined. (s : GridSquare) → SomeCovers joined s ↔ SomeCovers rings s) }
 {
-    let windows = spanning(alloc, &rings)?;
-    if windows.is_empty() {
+    if spanning(alloc, &some_of(alloc, &rings)?)?.is_empty() {
         return Ok(rings);
     }
+    let windows = spanning(alloc, &rings)?;
     let windows = joined_windows(alloc, windows)?;
     let mut joined = uncovered(alloc, &rings, &windows)?;
     push_windows(&mut joined, &windows)?;
