@@ -1,6 +1,6 @@
 -- Windows joined and pushed, and the squares that they have.
-use Rattle.std.proofs.Common.{◌≡◌, ◌<◌, ◌+◌, ℕ, ℤ, ◌<ℤ◌, ◌≤ℤ◌, List, [], ◌∷◌, ◌++◌, take, length, get_or, Any, ◌⊎◌, inl, inr, ◌↔◌}
-use Rattle.std.proofs.Common.{subst, sym, arith, IsPermutation}
+use Rattle.std.proofs.Common.{◌≡◌, ◌<◌, ◌+◌, ℕ, ◌≤ℤ◌, List, [], ◌∷◌, ◌++◌, take, length, get_or, Any, ◌⊎◌, inl, inr}
+use Rattle.std.proofs.Common.{◌↔◌, subst, sym, arith, IsPermutation}
 use Rattle.std.specs.Int.{int_max}
 use Rattle.std.proofs.lemmas.Int.{ints, clamps, by_lt_z}
 use Rattle.std.proofs.lemmas.List.{take_more}

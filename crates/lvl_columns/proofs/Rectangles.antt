@@ -1,9 +1,9 @@
 -- The squares that a rectangle covers.
-use Rattle.std.proofs.Common.{◌≡◌, ◌≢◌, ℤ, pos, ◌-ℤ◌, ◌<ℤ◌, ◌≤ℤ◌, Bool, true, false, not, ◌&&◌, List, [], ◌∷◌, map, refl}
-use Rattle.std.proofs.Common.{◌↔◌, ◌∙◌, sym, ap, arith, int_lt, int_le, count_by, IsTrue}
+use Rattle.std.proofs.Common.{◌≡◌, ◌≢◌, ℤ, pos, ◌-ℤ◌, ◌<ℤ◌, ◌≤ℤ◌, Bool, true, false, not, ◌&&◌, List, [], ◌∷◌, map}
+use Rattle.std.proofs.Common.{refl, ◌↔◌, ◌∙◌, sym, ap, arith, int_lt, int_le, count_by, IsTrue}
 use Rattle.std.proofs.Common.{◌≤◌, ◌<◌, length, get_or}
 use Rattle.std.specs.Int.{int_max, int_min}
-use Rattle.std.proofs.lemmas.Int.{ints, clamps, by_lt_z}
+use Rattle.std.proofs.lemmas.Int.{ints}
 use Rattle.lvl_grid.specs.declared.point.Point.{Point}
 use Rattle.lvl_grid.specs.declared.point.Square.{Square}
 use Rattle.lvl_grid.specs.declared.point.Window.{Window}
@@ -63,19 +63,19 @@ both_true false q = (λ h. absurd (untrue h), λ h. absurd (untrue h.0))
 sides_are : (a b c d : Point) (s : Square) → b.x ≡ a.x → b.y ≡ c.y → d.x ≡ c.x → d.y ≡ a.y
     → map (side s) (a ∷ b ∷ c ∷ d ∷ [])
     ≡ corners (int_lt s.x a.x) (int_lt s.x c.x) (int_le a.y s.y) (int_le c.y s.y)
-sides_are a b c d s bx by_ dx dy = rw (bx, by_, dx, dy) refl
+sides_are a b c d s left top right bottom = rw (left, top, right, bottom) refl
 
 -- four points of a rectangle whose first edge is vertical cover the squares between them
 pub covers_four : (a b c d : Point) (w : Window) → b.x ≡ a.x → b.y ≡ c.y → d.x ≡ c.x → d.y ≡ a.y
     → w.x0 ≡ int_min a.x c.x → w.y0 ≡ int_min a.y c.y → w.x1 ≡ int_max a.x c.x → w.y1 ≡ int_max a.y c.y
     → (s : Square) → Covers (a ∷ b ∷ c ∷ d ∷ []) s ↔ IsWithin w s
-covers_four a b c d w bx by_ dx dy x0 y0 x1 y1 s =
+covers_four a b c d w left top right bottom x0 y0 x1 y1 s =
     let x : Bool = int_lt s.x a.x in
     let z : Bool = int_lt s.x c.x in
     let u : Bool = int_le a.y s.y in
     let v : Bool = int_le c.y s.y in
     let same : winding (a ∷ b ∷ c ∷ d ∷ []) s ≡ winds (corners x z u v) =
-    winding_by_side s (a ∷ b ∷ c ∷ d ∷ []) ∙ ap winds (sides_are a b c d s bx by_ dx dy) in
+    winding_by_side s (a ∷ b ∷ c ∷ d ∷ []) ∙ ap winds (sides_are a b c d s left top right bottom) in
     let turns = winds_by_sides x z u v in
     let split = both_true (differ x z) (differ u v) in
     let across = between a.x c.x s.x in

@@ -1,4 +1,4 @@
-use Rattle.std.proofs.Common.{◌≡◌, List, take, ◌∙◌, sym, subst, ◌↔◌}
+use Rattle.std.proofs.Common.{◌≡◌, List, take, ◌∙◌, subst, ◌↔◌}
 use Rattle.std.proofs.lemmas.List.{take_all}
 use Rattle.std.proofs.lemmas.List.Sorted.{IsPermutation-sym}
 use Rattle.lvl_grid.specs.declared.point.Window.{Window}

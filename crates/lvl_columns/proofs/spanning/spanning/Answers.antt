@@ -1,4 +1,5 @@
-use Rattle.std.proofs.Common.{◌≡◌, ◌<◌, ◌++◌, ◌∷◌, List, [], ap, ◌∙◌, subst, arith, length, inl, inr, get_or, Vec, Global}
+use Rattle.std.proofs.Common.{◌≡◌, ◌<◌, ◌++◌, ◌∷◌, List, [], ap, ◌∙◌, subst, arith, length, inl, inr, get_or}
+use Rattle.std.proofs.Common.{Vec, Global}
 use Rattle.std.proofs.lemmas.List.Elements.{Contains-get_or}
 use Rattle.lvl_grid.specs.declared.point.Point.{Point}
 use Rattle.lvl_grid.specs.declared.point.Window.{Window}
@@ -22,7 +23,8 @@ loop-i-preserved c = λ s h.
           elim ((any_pushed (λ window. IsWithin window s) c.loop-i.windows.items c.match-spanned.windows.items
           w.in-Some.window same).0 h) [
             | inl old ↦ c.loop-i.invariant s old
-            | inr here ↦ some_contained (λ ring. Covers ring s) rings (get_or rings i []) (Contains-get_or rings i [] below)
+            | inr here ↦
+                some_contained (λ ring. Covers ring s) rings (get_or rings i []) (Contains-get_or rings i [] below)
                 (subst (λ (r : List Point). Covers r s) c.ring.ensures.value ((w.in-Some.ensures s).1 here))
           ]
       | in_default w ↦ c.loop-i.invariant s (subst (λ (v : Vec Window Global). IsWithinSome v.items s) w.windows-is h)

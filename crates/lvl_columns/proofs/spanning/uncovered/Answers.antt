@@ -1,4 +1,4 @@
-use Rattle.std.proofs.Common.{◌↔◌, ◌⊎◌, ◌<◌, ◌+◌, List, [], take, length, subst, sym, arith, rules}
+use Rattle.std.proofs.Common.{◌↔◌, ◌⊎◌, ◌<◌, ◌+◌, List, [], take, length, subst, arith, rules}
 use Rattle.std.proofs.lemmas.List.{take_all}
 use Rattle.lvl_grid.specs.declared.point.Point.{Point}
 use Rattle.lvl_grid.specs.Winding.{Covers, SomeCovers}

@@ -10,7 +10,8 @@ use Rattle.lvl_columns.proofs.spanning.window_of.Goals as goal
 
 pub returns-then-a-b : goal.returns-then-a-b
 returns-then-a-b c =
-    subst (λ (ps : List Point). IfSome c.window_of_four.result (λ window. (s : Square) → Covers ps s ↔ IsWithin window s))
+    subst
+    (λ (ps : List Point). IfSome c.window_of_four.result (λ window. (s : Square) → Covers ps s ↔ IsWithin window s))
     (sym (four_points c.args.ring.now c.in-len4.len_at_least c.in-len4.len_below)) c.window_of_four.ensures
 
 pub returns : goal.returns
