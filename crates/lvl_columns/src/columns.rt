@@ -8,6 +8,7 @@ ghost use Rattle.lvl_region.specs.Region.{IsAlone};
 ghost use Rattle.lvl_columns.specs.Columns.{NotBefore, last_row, EndsWith, GoesOn, IsComparedPart, IsFirst, work_left};
 
 use crate::halves::{cut_at, halves_at};
+use crate::spanning::joined;
 use lvl_grid::{Part, Rings, Square};
 use lvl_region::Side;
 use lvl_sweep::first_difference_up_to;
@@ -54,6 +55,14 @@ fn row_of(best: Option<(Square, Side)>) -> Option<i64>
         Some((square, _)) => Some(square.y),
         None => None,
     }
+}
+
+/// What is left of the rings of a list in a part, joined where it spans the part.
+fn clipped(alloc: Global, rings: &Rings, part: &Part) -> Result<Rings, AllocError>
+    ensures { IfOk result
+        (λ clipped. (s : GridSquare) → SomeCovers clipped s ↔ (IsIn part.now s × SomeCovers rings.now s)) }
+{
+    joined(alloc, Rings::clipped(alloc, rings, part)?)
 }
 
 impl Progress {
@@ -123,8 +132,8 @@ impl Progress {
         ensures done { OnOk result (self.new.pending.items ≡ []) }
     {
         let column = Column {
-            first: Rings::clipped(alloc, first, part)?,
-            second: Rings::clipped(alloc, second, part)?,
+            first: clipped(alloc, first, part)?,
+            second: clipped(alloc, second, part)?,
         };
         self.pending.push(column)?;
         self.finish(alloc)

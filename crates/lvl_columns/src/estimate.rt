@@ -14,6 +14,11 @@ struct Outline {
 }
 
 impl Outline {
+    /// Whether the ring is a rectangle.
+    fn is_rectangle(&self) -> bool {
+        self.edges == 2
+    }
+
     fn of(ring: &[Point]) -> Outline {
         let mut outline = Outline {
             left: i64::MAX,
@@ -34,6 +39,69 @@ impl Outline {
             y = point.y;
         }
         outline
+    }
+}
+
+/// The vertical edges of sampled rings, cut to columns.
+#[derive(Clone, Copy, Debug)]
+struct Load {
+    edges: u128,
+    heights: u128,
+    /// The pieces of rectangles that span a column, which are joined there.
+    spanning: u128,
+    /// Their heights, each counted once.
+    spanned: u128,
+}
+
+impl Load {
+    const NONE: Load = Load {
+        edges: 0,
+        heights: 0,
+        spanning: 0,
+        spanned: 0,
+    };
+
+    /// Adds a ring that so many cuts go through.
+    fn add(&mut self, outline: &Outline, cuts: u128) {
+        let spanning = if outline.is_rectangle() {
+            cuts.saturating_sub(1)
+        } else {
+            0
+        };
+        let each = outline.heights.checked_div(outline.edges).unwrap_or(0);
+        let further = cuts.wrapping_sub(spanning).wrapping_mul(2);
+        self.edges = self.edges.wrapping_add(outline.edges.wrapping_add(further));
+        self.heights = self
+            .heights
+            .wrapping_add(outline.heights.wrapping_add(further.wrapping_mul(each)));
+        self.spanning = self.spanning.wrapping_add(spanning);
+        self.spanned = self.spanned.wrapping_add(spanning.wrapping_mul(each));
+    }
+
+    /// The same for all rings, of which so many were sampled.
+    fn scaled(self, rings: u128, sampled: u128) -> Load {
+        let scale = |sum: u128| over(sum.wrapping_mul(rings), sampled);
+        Load {
+            edges: scale(self.edges),
+            heights: scale(self.heights),
+            spanning: scale(self.spanning),
+            spanned: scale(self.spanned),
+        }
+    }
+
+    /// With what is left of the spanning pieces once they are joined: the fewer, the more of them
+    /// lie over each other, and none over another.
+    fn joined(self, height: u128, columns: u128) -> Load {
+        let room = height.wrapping_mul(columns);
+        let layers = self.spanned.checked_div(room).unwrap_or(0);
+        let share = layers.wrapping_mul(layers.wrapping_add(1)).wrapping_add(1);
+        let left = over(self.spanning, share).wrapping_mul(2);
+        let heights = self.spanned.min(room).wrapping_mul(2);
+        Load {
+            edges: self.edges.wrapping_add(left),
+            heights: self.heights.wrapping_add(heights),
+            ..self
+        }
     }
 }
 
@@ -168,21 +236,15 @@ impl Sample {
 
     /// The work of all sweeps where the plane is cut at these abscissas, which rise.
     pub(crate) fn work(&self, cuts: &[i64]) -> Work {
-        let mut edges: u128 = 0;
-        let mut heights: u128 = 0;
+        let mut load = Load::NONE;
         for outline in &self.outlines {
-            let further = cuts_through(cuts, outline).wrapping_mul(2);
-            edges = edges.wrapping_add(outline.edges.wrapping_add(further));
-            let each = outline.heights.checked_div(outline.edges).unwrap_or(0);
-            heights = heights.wrapping_add(
-                outline.heights.wrapping_add(further.wrapping_mul(each)),
-            );
+            load.add(outline, cuts_through(cuts, outline));
         }
-        let sampled = (self.outlines.len() as u128).max(1);
-        let edges = edges.wrapping_mul(self.rings) / sampled;
-        let heights = heights.wrapping_mul(self.rings) / sampled;
         let columns = (cuts.len() as u128).wrapping_add(1);
         let height = self.height();
+        let sampled = (self.outlines.len() as u128).max(1);
+        let load = load.scaled(self.rings, sampled).joined(height, columns);
+        let Load { edges, heights, .. } = load;
         let stops = over(edges, columns).min(height).min(self.lines());
         let passes = stops.wrapping_mul(heights).checked_div(height).unwrap_or(0);
         let alive = heights.checked_div(height).unwrap_or(0) / columns.max(1);

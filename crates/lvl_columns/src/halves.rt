@@ -6,6 +6,7 @@ ghost use Rattle.lvl_columns.specs.Columns.{AreHalvesAt};
 
 use crate::columns::Column;
 use crate::estimate::{Sample, Work};
+use crate::spanning::joined;
 use lvl_grid::Rings;
 use std::alloc::{AllocError, Global};
 
@@ -95,7 +96,7 @@ fn half_room(alloc: Global, rings: &Rings) -> Result<Rings, AllocError>
     Rings::with_capacity(alloc, points - points / 4, many - many / 4)
 }
 
-/// What is left of the rings on both sides of an abscissa.
+/// What is left of the rings on both sides of an abscissa, joined where it spans a side.
 fn split(alloc: Global, rings: Rings, at: i64) -> Result<(Rings, Rings), AllocError>
     ensures left { IfOk result
         (λ parts. (s : GridSquare) → SomeCovers parts.0 s ↔ ((s.x <ℤ at) × SomeCovers rings s)) }
@@ -105,6 +106,9 @@ fn split(alloc: Global, rings: Rings, at: i64) -> Result<(Rings, Rings), AllocEr
     let mut left = half_room(alloc, &rings)?;
     let mut right = half_room(alloc, &rings)?;
     rings.split_into(at, &mut left, &mut right)?;
+    drop(rings);
+    let left = joined(alloc, left)?;
+    let right = joined(alloc, right)?;
     Ok((left, right))
 }
 

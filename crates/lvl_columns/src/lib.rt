@@ -3,7 +3,8 @@
 //! A sweep walks every edge alive in a row at every ordinate, so over scattered shapes its cost grows
 //! as n to the power 1.5. [`difference_by_columns`] cuts the plane into columns first, clips the
 //! rings to them, and sweeps each column by itself. Where to cut and when to stop is a matter of cost
-//! alone: the answer is the same for every choice.
+//! alone: the answer is the same for every choice. Rectangles as wide as a column would make work in
+//! all columns that they span, so they are joined first.
 #![tactic(auto)]
 
 pub use columns::difference_by_columns;
@@ -12,4 +13,5 @@ pub use window::{difference_in, first_difference_in};
 mod columns;
 mod estimate;
 mod halves;
+mod spanning;
 mod window;

@@ -18,6 +18,8 @@ pub enum Kind {
     Stairs,
     /// 50,000 by 100, anywhere in the field.
     Bars,
+    /// Squares round one middle, in no order.
+    Nested,
     /// Wires along x, in tracks of 100.
     AlongX,
     /// Wires along y, in tracks of 100.
@@ -115,6 +117,16 @@ fn nth_shape(kind: Kind, count: i64, number: i64, seed: u64) -> Shape {
             width: 50_000,
             height: 100,
         },
+        Kind::Nested => {
+            let inset = made(seed, number, 6, count.unsigned_abs().max(1));
+            let side = count.wrapping_sub(inset).wrapping_mul(2);
+            Shape {
+                x: inset,
+                y: inset,
+                width: side,
+                height: side,
+            }
+        }
         Kind::AlongX => Shape {
             x: along,
             y: across,
@@ -270,13 +282,14 @@ fn push_polygon(
 
 impl Kind {
     /// Each of them once.
-    pub const ALL: [Kind; 11] = [
+    pub const ALL: [Kind; 12] = [
         Kind::Random,
         Kind::Tiles,
         Kind::Vias,
         Kind::Combs,
         Kind::Stairs,
         Kind::Bars,
+        Kind::Nested,
         Kind::AlongX,
         Kind::AlongY,
         Kind::Crossing,
@@ -293,6 +306,7 @@ impl Kind {
             "combs" => Some(Kind::Combs),
             "stairs" => Some(Kind::Stairs),
             "bars" => Some(Kind::Bars),
+            "nested" => Some(Kind::Nested),
             "along-x" => Some(Kind::AlongX),
             "along-y" => Some(Kind::AlongY),
             "crossing" => Some(Kind::Crossing),

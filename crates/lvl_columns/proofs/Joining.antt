@@ -1,0 +1,157 @@
+-- Windows joined and pushed, and the squares that they have.
+use Rattle.std.proofs.Common.{◌≡◌, ◌<◌, ◌+◌, ℕ, ◌≤ℤ◌, List, [], ◌∷◌, ◌++◌, take, length, get_or, Any, ◌⊎◌, inl, inr}
+use Rattle.std.proofs.Common.{◌↔◌, subst, sym, arith, IsPermutation}
+use Rattle.std.specs.Int.{int_max}
+use Rattle.std.proofs.lemmas.Int.{ints, clamps, by_lt_z}
+use Rattle.std.proofs.lemmas.List.{take_more}
+use Rattle.std.proofs.lemmas.List.Sorted.{Contains-permutation}
+use Rattle.lvl_grid.specs.declared.point.Point.{Point}
+use Rattle.lvl_grid.specs.declared.point.Square.{Square}
+use Rattle.lvl_grid.specs.declared.point.Window.{Window}
+use Rattle.lvl_grid.specs.Clip.{IsWithin}
+use Rattle.lvl_grid.specs.Winding.{Covers, SomeCovers}
+use Rattle.lvl_grid.proofs.Anyone.{Any-push, some_contained}
+
+-- one element more
+pub any_pushed : {X : Type 0} (P : X → Type 0) (old new : List X) (x : X) → new ≡ old ++ x ∷ []
+    → Any P new ↔ (Any P old ⊎ P x)
+any_pushed P old new x e = subst (λ (xs : List _). Any P xs ↔ (Any P old ⊎ P x)) (sym e) (Any-push P old x)
+
+-- a ring more, which covers what a window has
+pub window_pushed : (into after : List (List Point)) (ring : List Point) (window : Window) (s : Square)
+    → after ≡ into ++ ring ∷ [] → (Covers ring s ↔ IsWithin window s)
+    → SomeCovers after s ↔ (SomeCovers into s ⊎ IsWithin window s)
+window_pushed into after ring window s e same =
+    let pushed = any_pushed (λ r. Covers r s) into after ring e in (
+      λ a. elim (pushed.0 a) [ inl o ↦ inl o | inr r ↦ inr (same.0 r) ],
+      λ a. elim a [ inl o ↦ pushed.1 (inl o) | inr w ↦ pushed.1 (inr (same.1 w)) ],
+    )
+
+-- one element more of those that a loop goes over
+pub any_next : {X : Type 0} (P : X → Type 0) (xs : List X) (i : ℕ) (d : X) → i < length xs
+    → Any P (take (i + 1) xs) ↔ (Any P (take i xs) ⊎ P (get_or xs i d))
+any_next P xs i d below = any_pushed P (take i xs) (take (i + 1) xs) (get_or xs i d) (take_more xs i d below)
+
+pub any_permuted : {X : Type 0} (P : X → Type 0) (xs ys : List X) → IsPermutation xs ys → Any P xs → Any P ys
+any_permuted P xs ys moved a = some_contained P ys a.1 (Contains-permutation xs ys a.1 moved (a.0, a.2, a.3)) a.4
+
+-- an element that has what the last one and another have, in the place of the last one
+pub any_replaced : {X : Type 0} (P : X → Type 0) (rest old new : List X) (last next both : X) → old ≡ rest ++ last ∷ []
+    → new ≡ rest ++ both ∷ [] → (P both ↔ (P last ⊎ P next)) → Any P new ↔ (Any P old ⊎ P next)
+any_replaced P rest old new last next both before after same =
+    let a = any_pushed P rest old last before in
+    let b = any_pushed P rest new both after in (
+      λ h. elim (b.0 h) [
+        | inl r ↦ inl (a.1 (inl r))
+        | inr p ↦ elim (same.0 p) [ inl l ↦ inl (a.1 (inr l)) | inr n ↦ inr n ]
+      ],
+      λ h. elim h [
+        | inl o ↦ elim (a.0 o) [ inl r ↦ b.1 (inl r) | inr l ↦ b.1 (inr (same.1 (inl l))) ]
+        | inr n ↦ b.1 (inr (same.1 (inr n)))
+      ],
+    )
+
+-- what was added so far, and what is added next
+pub added_next : {A B C D E F : Type 0} → (A ↔ (B ⊎ C)) → (D ↔ (A ⊎ E)) → (F ↔ (C ⊎ E)) → D ↔ (B ⊎ F)
+added_next so_far step next = (
+  λ d. elim (step.0 d) [
+    | inl a ↦ elim (so_far.0 a) [ inl b ↦ inl b | inr c ↦ inr (next.1 (inl c)) ]
+    | inr e ↦ inr (next.1 (inr e))
+  ],
+  λ k. elim k [
+    | inl b ↦ step.1 (inl (so_far.1 (inl b)))
+    | inr f ↦ elim (next.0 f) [ inl c ↦ step.1 (inl (so_far.1 (inr c))) | inr e ↦ step.1 (inr e) ]
+  ],
+)
+
+-- the same where there was nothing before
+pub same_next : {A C D E F : Type 0} → (A ↔ C) → (D ↔ (A ⊎ E)) → (F ↔ (C ⊎ E)) → D ↔ F
+same_next so_far step next = (
+  λ d. elim (step.0 d) [ inl a ↦ next.1 (inl (so_far.0 a)) | inr e ↦ next.1 (inr e) ],
+  λ f. elim (next.0 f) [ inl c ↦ step.1 (inl (so_far.1 c)) | inr e ↦ step.1 (inr e) ],
+)
+
+-- the same beside what else there is
+pub kept_next : {A C D E F W : Type 0} → ((A ⊎ W) ↔ (C ⊎ W)) → (D ↔ (A ⊎ E)) → (F ↔ (C ⊎ E))
+    → (D ⊎ W) ↔ (F ⊎ W)
+kept_next so_far step next = (
+  λ k. elim k [
+    | inl d ↦ elim (step.0 d) [
+      | inl a ↦ elim (so_far.0 (inl a)) [ inl c ↦ inl (next.1 (inl c)) | inr w ↦ inr w ]
+      | inr e ↦ inl (next.1 (inr e))
+    ]
+    | inr w ↦ inr w
+  ],
+  λ k. elim k [
+    | inl f ↦ elim (next.0 f) [
+      | inl c ↦ elim (so_far.1 (inl c)) [ inl a ↦ inl (step.1 (inl a)) | inr w ↦ inr w ]
+      | inr e ↦ inl (step.1 (inr e))
+    ]
+    | inr w ↦ inr w
+  ],
+)
+
+-- and where what comes next is part of that
+pub left_out_next : {A C E F W : Type 0} → ((A ⊎ W) ↔ (C ⊎ W)) → (E → W) → (F ↔ (C ⊎ E)) → (A ⊎ W) ↔ (F ⊎ W)
+left_out_next so_far within next = (
+  λ k. elim (so_far.0 k) [ inl c ↦ inl (next.1 (inl c)) | inr w ↦ inr w ],
+  λ k. elim k [
+    | inl f ↦ elim (next.0 f) [ inl c ↦ so_far.1 (inl c) | inr e ↦ inr (within e) ]
+    | inr w ↦ inr w
+  ],
+)
+
+-- a list without what the windows have, and then with it
+pub all_again : {A W V R N : Type 0} → (V → A) → (W ↔ V) → ((R ⊎ W) ↔ (A ⊎ W)) → (N ↔ (R ⊎ W)) → N ↔ A
+all_again spans same rest all = (
+  λ n. elim (rest.0 (all.0 n)) [ inl a ↦ a | inr w ↦ spans (same.0 w) ],
+  λ a. all.1 (rest.1 (inl a)),
+)
+
+-- a window that goes on above another, on the same abscissas
+pub both_have : (first second window : Window) → second.x0 ≡ first.x0 → second.x1 ≡ first.x1 → window.x0 ≡ first.x0
+    → window.x1 ≡ first.x1 → window.y0 ≡ first.y0 → window.y1 ≡ int_max first.y1 second.y1 → first.y0 ≤ℤ second.y0
+    → second.y0 ≤ℤ first.y1 → (s : Square) → IsWithin window s ↔ (IsWithin first s ⊎ IsWithin second s)
+both_have first second window c d x0 x1 y0 y1 low touch s = (
+  λ h.
+      let a = h.x_from in
+      let b = h.x_below in
+      let e = h.y_from in
+      let f = h.y_below in
+      by_lt_z s.y first.y1
+      (λ g. inl (record {
+        x_from = omega (arith, ints, a, x0);
+        x_below = omega (arith, ints, b, x1);
+        y_from = omega (arith, ints, e, y0);
+        y_below = g;
+      })) (λ g. inr (record {
+        x_from = omega (arith, ints, a, x0, c);
+        x_below = omega (arith, ints, b, x1, d);
+        y_from = omega (arith, ints, g, touch);
+        y_below = omega (arith, ints, clamps, f, y1, g);
+      })),
+  λ h. elim h [
+    | inl k ↦
+        let a = k.x_from in
+        let b = k.x_below in
+        let e = k.y_from in
+        let f = k.y_below in
+        record {
+          x_from = omega (arith, ints, a, x0);
+          x_below = omega (arith, ints, b, x1);
+          y_from = omega (arith, ints, e, y0);
+          y_below = omega (arith, ints, clamps, f, y1);
+        }
+    | inr k ↦
+        let a = k.x_from in
+        let b = k.x_below in
+        let e = k.y_from in
+        let f = k.y_below in
+        record {
+          x_from = omega (arith, ints, a, x0, c);
+          x_below = omega (arith, ints, b, x1, d);
+          y_from = omega (arith, ints, e, y0, low);
+          y_below = omega (arith, ints, clamps, f, y1);
+        }
+  ],
+)
