@@ -11,4 +11,6 @@ mod cells;
 #[cfg(test)]
 mod flat;
 #[cfg(test)]
+mod shifts;
+#[cfg(test)]
 mod view;

@@ -1,0 +1,51 @@
+//! A list of shifts and the same list shared, where all of its shifts fit and where they don't.
+use lvl_cells::Offsets;
+use lvl_grid::Point;
+use std::alloc::Global;
+use std::test::Fail;
+
+/// The list: 0 0, 3 -1 and -2 4.
+fn shifts(alloc: Global) -> Result<Offsets, Fail> {
+    let right = Point { x: 3, y: -1 };
+    let left = Point { x: -2, y: 4 };
+    let listed = [Point { x: 0, y: 0 }, right, left].to_vec(alloc)?;
+    Ok(Offsets::new(listed).ok_or("shifts")?)
+}
+
+/// A place, and whether each of the shifts is within 64 bits once it is moved there.
+const PLACES: &str = "\
+0 0 true
+9223372036854775804 9223372036854775803 true
+9223372036854775805 0 false
+0 9223372036854775804 false
+-9223372036854775806 -9223372036854775807 true
+-9223372036854775807 0 false
+0 -9223372036854775808 false
+";
+
+/// What is before the space, and what is after it.
+fn cut(text: &str) -> (&str, &str) {
+    text.split_once(" ").unwrap_or((text, ""))
+}
+
+/// Run with each allocation refused in turn: it ends with that, or each answer is the list's own.
+#[test]
+fn shared_lists(rt: HostRuntime) -> Result<(), Fail> {
+    let listed = shifts(rt.alloc())?;
+    let mut shared = shifts(rt.alloc())?;
+    shared.share()?;
+    let again = shared.clone()?;
+    for row in PLACES.lines() {
+        let (x, rest) = cut(row);
+        let (y, want) = cut(rest);
+        let at = Point {
+            x: x.parse::<i64>()?,
+            y: y.parse::<i64>()?,
+        };
+        assert_eq!(rt; listed.all_fit_at(at), want == "true", "{row}");
+        assert_eq!(rt; again.all_fit_at(at), want == "true", "{row}, shared");
+    }
+    assert_eq!(rt; again.len(), 3);
+    assert_eq!(rt; again.at(2), shared.at(2));
+    Ok(())
+}
