@@ -28,7 +28,7 @@ fn cut(text: &str) -> (&str, &str) {
     text.split_once(" ").unwrap_or((text, ""))
 }
 
-/// Run with each allocation refused in turn: it ends with that, or each answer is the list's own.
+/// A list that is shared answers as the list itself.
 #[test]
 fn shared_lists(rt: HostRuntime) -> Result<(), Fail> {
     let listed = shifts(rt.alloc())?;
