@@ -1,4 +1,4 @@
--- What the records of an element mean: the last record of each type tells, wherever it is.
+-- What the records of an element mean: the last record of each type counts, wherever it is.
 use Rattle.std.specs.Prelude.{ℕ, ◌/◌, ◌==◌, ◌-ℤ◌, pos, if◌then◌else◌, List, [], ◌∷◌, Option, Some, None}
 use Rattle.std.specs.Int.RustNames.{int_div}
 use Rattle.std.specs.Ordering.{int_eq}
@@ -69,7 +69,7 @@ step p q n = record { x = int_div (q.x -ℤ p.x) (pos n); y = int_div (q.y -ℤ 
 abbrev pub array_shifts : List Point → ℕ → ℕ → List Point
 array_shifts ps m n = lattice (step (nth ps 0) (nth ps 1) m) m (step (nth ps 0) (nth ps 2) n) n
 
--- the columns and the rows of an array, one where no record tells
+-- the columns and the rows of an array, one where no record gives it
 abbrev pub columns_in : Option Rec → ℕ
 columns_in None = 1
 columns_in (Some r) = magnitude (columns r.payload)

@@ -236,7 +236,7 @@ verdict_lifted a b ours theirs us vs p q (Differ layer square side) h = record {
   least_square = λ s before. both_lifted _ _ _ _ (p.draws layer s) (q.draws layer s) (h.least_square s before);
 }
 
--- tops that are told alike draw the same
+-- tops with equal answers draw the same
 pub alike_lifted : (a b : File) (ours theirs : List (PlainCell Rings)) (g h : Head) → IsLayoutOf a.bytes ours g
     → IsLayoutOf b.bytes theirs h
     → AreKeptAlike (record { cells = ours; top = a.top }) (record { cells = theirs; top = b.top }) → IsVerdict a b Same

@@ -24,7 +24,7 @@ use Rattle.lvl.specs.Shown.{shown_layer, AreShownLayers}
 abbrev layer_of : PlainSheet → Layer
 layer_of s = s.layer
 
--- the sheet whose Layer stands at a place
+-- the sheet whose Layer is at an index
 sheet_at : (flat : List PlainSheet) (n : ℕ) (layer : Layer) → slice_get (map layer_of flat) n ≡ Some layer
     → (s : PlainSheet) × (slice_get flat n ≡ Some s) × (s.layer ≡ layer)
 sheet_at flat n layer e =

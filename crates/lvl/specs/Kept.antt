@@ -1,4 +1,4 @@
--- The steps behind the reading, on libraries with rings alone.
+-- The steps after the reading, on libraries with rings alone.
 use Rattle.std.specs.Prelude.{◌≡◌, ◌⊎◌, ⊤, ℕ, List, Option, Some, IfSome, slice_get}
 use Rattle.lvl_cells.specs.Cells.{PlainCell, Rings}
 use Rattle.lvl_cells.specs.Checks.{Settled, IsSettled, PlacesFew}
@@ -82,7 +82,7 @@ pub record IsKeptViewVerdict (view : PlainView) (a b : Kept) (v : Verdict) : Typ
   pub second : IsFlattenedAs b theirs
   pub verdict : IsFlatViewVerdict view ours theirs v
 
--- the verdict is that on what both gave, or it is that they are the same, which was told cell by cell
+-- the verdict is that on what both gave, or it is that they are the same, which was found cell by cell
 abbrev pub IsKeptVerdict : Kept → Kept → Verdict → Type 0
 IsKeptVerdict a b v = IsVerdictOnFlats a b v ⊎ ((v ≡ Same) × AreKeptAlike a b)
 

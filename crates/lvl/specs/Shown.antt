@@ -23,7 +23,7 @@ use Rattle.lvl.specs.Kept.{Kept, IsCheckedAs, IsCellFault, IsRangeFault}
 abbrev pub shown_layer : PlainSheet → ShownLayer
 shown_layer sheet = record { layer = sheet.layer; rings = length sheet.rings }
 
--- each Layer on which the cell places rings stands there, in their order, with the number of these rings
+-- each Layer on which the cell places rings is there, in their order, with the number of these rings
 pub record AreShownLayers {F : Type 0} (rings : F → Rings) (cells : List (PlainCell F)) (top : PlainCell F)
     (layers : List ShownLayer) : Type 0 where
   pub sorted : AllPairs (λ a b. ComesBefore a.layer b.layer) layers

@@ -35,7 +35,7 @@ not_twice e same xs i j x d hi hj lt =
     let unlike : e x x ≡ false = rw (get_or_from_slice_get xs i x x hi, get_or_from_slice_get xs j x x hj) at apart in
     false≢true (sym unlike ∙ same x)
 
--- in a list of distinct items each stands once
+-- in a list of distinct items each occurs once
 once_in : {K : Type 0} (e : K → K → Bool) → ((x : K) → e x x ≡ true) → (xs : List K) (i j : ℕ) (x : K) → IsDistinct e xs
     → slice_get xs i ≡ Some x → slice_get xs j ≡ Some x → i ≡ j
 once_in e same xs i j x d hi hj =
@@ -51,7 +51,7 @@ pub once_numbered : (xs : List ℕ) (i j x : ℕ) → IsDistinct nat_eq xs → s
     → i ≡ j
 once_numbered xs i j x d hi hj = once_in nat_eq (λ y. (Decides-eqb y y).1 refl) xs i j x d hi hj
 
--- names of which each stands once are distinct
+-- names of which each occurs once are distinct
 pub distinct_once : (xs : List (List ℕ))
     → ((i j : ℕ) (x : List ℕ) → slice_get xs i ≡ Some x → slice_get xs j ≡ Some x → i ≡ j) → IsDistinct bytes_eq xs
 distinct_once xs once =

@@ -32,7 +32,7 @@ zero_or_more : (n : ℕ) → (n ≡ 0) ⊎ (0 < n)
 zero_or_more zero = inl refl
 zero_or_more (suc n) = inr (omega arith)
 
--- how far from the end of the order the first cell of that name stands
+-- how far from the end of the order the first cell of that name is
 pub height : List (List ℕ) → List ℕ → List ℕ → ℕ
 height all [] name = 0
 height all (k ∷ ks) name = cond (bytes_eq (get_or all k []) name) (suc (length ks)) (height all ks name)

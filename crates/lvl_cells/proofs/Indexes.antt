@@ -96,7 +96,7 @@ contains_at xs k x h = (k, slice_get_within xs k x h, get_or_from_slice_get xs k
 pub at_contains : {X : Type 0} (xs : List X) (x : X) → Contains xs x → (k : ℕ) × (slice_get xs k ≡ Some x)
 at_contains xs x h = (h.0, slice_get-get_or xs h.0 x h.1 ∙ ap Some h.2)
 
--- the name at i stands earlier too
+-- the name at i occurs earlier too
 pub repeat_at : (cells : List (PlainCell Rings)) (i k : ℕ) (c : PlainCell Rings) → i < length cells
     → c ≡ get_or cells i c → IsDistinct bytes_eq (take i (names cells))
     → slice_get (take i (names cells)) k ≡ Some c.name → IsFirstRepeat (names cells) c.name

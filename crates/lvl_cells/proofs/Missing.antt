@@ -1,4 +1,4 @@
--- What the targets of all cells say, and where the first reference without a cell stands.
+-- What the targets of all cells say, and where the first reference without a cell is.
 use Rattle.std.proofs.Common.{◌≡◌, ℕ, ◌+◌, ◌<◌, List, [], ◌∷◌, ◌++◌, map, take, drop, length, get_or, Option, Some}
 use Rattle.std.proofs.Common.{append_assoc, All, Contains, refl, sym, ap, ◌∙◌}
 use Rattle.std.specs.List.{slice_get}

@@ -1,4 +1,4 @@
--- A fault other than want of memory is of a library that is not sound with few placed.
+-- A fault other than out of memory is of a library that is not sound with few placed.
 use Rattle.std.proofs.Common.{◌≡◌, ℕ, ◌<◌, ◌≤◌, List, [], ◌∷◌, ◌++◌, map, length, Option, Some, None, All, Contains}
 use Rattle.std.proofs.Common.{refl, sym, ap, ◌∙◌, subst, arith}
 use Rattle.std.specs.List.{slice_get, IsDistinct}

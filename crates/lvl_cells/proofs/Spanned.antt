@@ -211,7 +211,7 @@ still spans rings kept new h g =
       same = shapes_same 0 spans rings kept new g h.within;
     }
 
--- one shape more, behind the others
+-- one shape more, after the others
 pub record AreMore (spans : List Span) (rings more : Rings) (kept new : List (List Point)) (s : Span)
     (shifts : List Point) : Type 0 where
   pub are : AreShapes (spans ++ s ∷ []) (rings ++ more) new

@@ -55,7 +55,7 @@ drawn rings c = record {
   references = c.references;
 }
 
--- a library is kept with rings alone: each figure stands as its rings
+-- a library is kept with rings alone: each figure is kept as its rings
 abbrev pub kept : {F : Type 0} → (F → Rings) → List (PlainCell F) → List (PlainCell Rings)
 kept rings cells = map (drawn rings) cells
 

@@ -8,7 +8,7 @@ use Rattle.lvl_cells.specs.Faults.{IsFirstRepeat}
 use Rattle.lvl_cells.specs.declared.fault.CellFault.{CellFault}
 use Rattle.lvl_cells.specs.declared.fault.CellFault.TheVariants.{DuplicateCell}
 
--- g finds a name's place exactly where the name stands there
+-- g finds a name's index exactly where the name is there
 abbrev pub Finds : (List ℕ → Option ℕ) → List (List ℕ) → Type 0
 Finds g names = (name : List ℕ) (k : ℕ) → (g name ≡ Some k) ↔ (slice_get names k ≡ Some name)
 

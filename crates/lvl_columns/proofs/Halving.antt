@@ -91,7 +91,7 @@ one_more others xs c =
     ap (λ (ls : List Lists). others ++ ls) (map-append lists_of xs (c ∷ []))
     ∙ sym (append_assoc others (map lists_of xs) (lists_of c ∷ []))
 
--- what a sweep up to a row tells of a column, once what was found before it is known
+-- what a sweep up to a row says of a column, once what was found before it is known
 pub record IsFoundUpTo (l : Lists) (best found : Found) : Type 0 where
   pub alone : IsFoundIn l found
   pub least : (s : Square) → Agree l s ⊎ (NotBefore s best ⊎ NotBefore s found)

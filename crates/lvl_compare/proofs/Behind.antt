@@ -43,7 +43,7 @@ past_all (s ∷ flat) (suc n) l h = past_all flat n l (omega (arith, h))
 some_same : (a b : Layer) → Some a ≡ Some b → a ≡ b
 some_same a b e = cc
 
--- whether the Layer that stands at a place is this one
+-- whether the Layer at an index is this one
 pub tested_at : (flat : List PlainSheet) (n : ℕ) (here l : Layer) → Some here ≡ slice_get (map (λ s. s.layer) flat) n
     → (test : Bool) → test ≡ same_layer here l → IsTrue test ↔ (head_layer (drop n flat) ≡ Some l)
 tested_at flat n here l at test is =
@@ -65,7 +65,7 @@ among_or_none l (s ∷ us) =
       | false ↦ λ e. elim (among_or_none l us) [ inl a ↦ inl (inr a) | inr n ↦ inr (rw e n) ]
     ] refl
 
--- what is among the sheets is among those behind a Layer, or is that Layer
+-- what is among the sheets is among those after a Layer, or is that Layer
 among_behind : (l m : Layer) (us : List PlainSheet) → Among l us → Among l (behind m us) ⊎ (l ≡ m)
 among_behind l m [] a = absurd a
 among_behind l m (s ∷ us) a =

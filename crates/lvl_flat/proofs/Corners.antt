@@ -1,4 +1,4 @@
--- What lies in boxes: images of what lies in others.
+-- What is in boxes: images of what is in others.
 use Rattle.std.proofs.Common.{◌≡◌, ℤ, ◌≤ℤ◌, ◌+ℤ◌, neg_ℤ, Bool, true, false, ◌⊎◌, inl, inr, arith}
 use Rattle.std.proofs.lemmas.Int.{ints}
 use Rattle.lvl_grid.specs.declared.point.Point.{Point}
@@ -9,7 +9,7 @@ use Rattle.lvl_grid.specs.Turn.{image}
 use Rattle.lvl_flat.specs.declared.bounds.Bounds.{Bounds}
 use Rattle.lvl_flat.specs.inside.Bounds.{IsWithin}
 
--- z lies between x and y, in whichever order they are
+-- z is between x and y, in whichever order they are
 record IsBetween (x z y : ℤ) : Type 0 where
   way : ((x ≤ℤ z) × (z ≤ℤ y)) ⊎ ((y ≤ℤ z) × (z ≤ℤ x))
 
@@ -22,7 +22,7 @@ down a d z b h k = record { way = inr (omega (arith, ints), omega (arith, ints))
 twice : (z d : ℤ) → neg_ℤ (neg_ℤ z) +ℤ d ≡ z +ℤ d
 twice z d = omega (arith, ints)
 
--- along both axes the image of a point lies between those of the corners
+-- along both axes the image of a point is between those of the corners
 abbrev Lies : Map → Bounds → Point → Type 0
 Lies m b p =
     IsBetween (image m b.low).x (image m p).x (image m b.high).x

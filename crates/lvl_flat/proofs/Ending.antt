@@ -228,7 +228,7 @@ filled_if (ring ∷ rings) false e =
     let none : length (ring ∷ rings) ≡ 0 = eqb-true _ 0 e in
     absurd (omega arith)
 
--- one sheet more, kept for its rings or left out for want of them
+-- one sheet more, kept for its rings or left out where it has none
 pub filled_step : (ss filled all rest rest' : List PlainSheet) (s : PlainSheet) (b : Bool)
     → (length s.rings == 0) ≡ not b → (filled ≡ filter is_filled ss) × (ss ++ rest ≡ all) → rest ≡ s ∷ rest'
     → (filled ++ cond b (s ∷ []) [] ≡ filter is_filled (ss ++ s ∷ [])) × ((ss ++ s ∷ []) ++ rest' ≡ all)

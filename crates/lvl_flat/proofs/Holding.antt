@@ -113,7 +113,7 @@ fits_within b p f w = record {
   y_fits = between b.low.y p.y b.high.y f.low.y_fits f.high.y_fits w.below w.above;
 }
 
--- what lies in a box within 64 bits is in range
+-- what is in a box within 64 bits is in range
 pub box_in_range : (cells : List (PlainCell Rings)) (b : Bounds) (c : PlainCell Rings) → Fits b → HoldsChains cells b c
     → AllInRange cells c
 box_in_range cells b c f h n m d chain =

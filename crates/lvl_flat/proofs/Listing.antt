@@ -68,7 +68,7 @@ sheets_sorted ss pairs i j d lt in' =
     subst (λ (l : Layer). ComesBefore l (get_or ss j d).layer) (at i (omega arith))
     (subst (λ (l : Layer). ComesBefore (get_or (map (λ s. s.layer) ss) i d.layer) l) (at j in') both)
 
--- an empty sheet for each of the Layers stands in their order
+-- an empty sheet for each of the Layers, in their order
 pub sheets_rise : (xs : List Layer) (ss : List PlainSheet) → IsSorted layer_cmp xs
     → map (λ s. s.layer) ss ≡ dedup same_layer xs → AreSorted ss
 sheets_rise xs ss h e =

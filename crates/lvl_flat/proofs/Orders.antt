@@ -10,7 +10,7 @@ use Rattle.lvl_flat.specs.Sheets.{AreSorted, rings_on}
 use Rattle.lvl_cells.specs.Layers.{ComesBefore}
 use Rattle.lvl_cells.proofs.Layers.{before_trans, before_itself, same_is, differs_is}
 
--- a sheet comes before those behind it
+-- a sheet comes before those after it
 pub sorted_at : (sheets : List PlainSheet) (i j : ℕ) (s t : PlainSheet) → AreSorted sheets → slice_get sheets i ≡ Some s
     → slice_get sheets j ≡ Some t → i < j → ComesBefore s.layer t.layer
 sorted_at sheets i j s t sorted at_i at_j lt =
@@ -41,7 +41,7 @@ pub from_on : (sheets : List PlainSheet) (layer : Layer) (m k : ℕ) (t s : Plai
 from_on sheets layer m k t s sorted there late high at before =
     late (up_to sheets layer k m s t sorted at before high there)
 
--- a Layer that is none of those that come before it, of its own place's, nor of those behind
+-- a Layer that is none of those that come before it, of its own place's, nor of those after
 pub nowhere : (sheets : List PlainSheet) (layer : Layer) (low : ℕ) → AreSorted sheets
     → ((k : ℕ) (s : PlainSheet) → k < low → slice_get sheets k ≡ Some s → ComesBefore s.layer layer)
     → ((k : ℕ) (s : PlainSheet) → low ≤ k → slice_get sheets k ≡ Some s → ComesBefore s.layer layer → ⊥)
@@ -69,7 +69,7 @@ nowhere sheets layer low sorted below above other k d in' same =
 pub sorted_tail : (s : PlainSheet) (sheets : List PlainSheet) → AreSorted (s ∷ sheets) → AreSorted sheets
 sorted_tail s sheets sorted = λ i j d lt in'. sorted (suc i) (suc j) d (omega (arith, lt)) (omega (arith, in'))
 
--- the rings on a Layer, where its sheet stands and where none does
+-- the rings on a Layer, where it has a sheet and where it has none
 pub rings_where : (sheets : List PlainSheet) (layer : Layer) (i : ℕ) (s : PlainSheet) → AreSorted sheets
     → slice_get sheets i ≡ Some s → s.layer ≡ layer → rings_on layer sheets ≡ s.rings
 rings_where [] layer i s sorted at is = cc

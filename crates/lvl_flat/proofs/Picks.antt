@@ -21,7 +21,7 @@ pub picks_from_start : (rs : List PlainReference) → picks_from rs 0 ≡ picks 
 picks_from_start [] = refl
 picks_from_start (r ∷ rs) = refl
 
--- the pick at a place, where more of the reference are behind it, and where it is the last
+-- the pick at a place, where more of the reference come after it, and where it is the last
 pub pick_next : (rs : List PlainReference) (j place : ℕ) (r : PlainReference) (e : Point) → slice_get rs j ≡ Some r
     → slice_get r.shifts place ≡ Some e → picks_from (drop j rs) place ≡ (r, e) ∷ picks_from (drop j rs) (place + 1)
 pick_next rs j place r e at shift =

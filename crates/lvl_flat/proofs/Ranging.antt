@@ -91,7 +91,7 @@ first_choice cells c (suc n) m d chain =
 pub composed_at : (m n w : Map) → IsComposed m n w → w.at ≡ image m n.at
 composed_at m n w whole = sym (image_of_origin w) ∙ (whole origin ∙ ap (image m) (image_of_origin n))
 
--- ranges are told by the images alone
+-- ranges depend on the images alone
 in_range_alike : (m v : Map) (d : PlainCell Rings) → ((p : Point) → image m p ≡ image v p) → IsInRange each_ring m d
     → IsInRange each_ring v d
 in_range_alike m v d same h = record {

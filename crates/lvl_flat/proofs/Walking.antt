@@ -180,7 +180,7 @@ walk_done s sheets front v w none = record {
   visits = λ u there. w.visits u (in_front front v u there);
 }
 
--- a visit goes on with the reference behind
+-- a visit goes on with the next reference
 pub walk_past : (s : Settled) (sheets : List PlainSheet) (front : List Visit) (v rest : Visit)
     → IsWalking s sheets (front ++ v ∷ []) → IsPast s.cells v rest → IsWalking s sheets (front ++ rest ∷ [])
 walk_past s sheets front v rest w past =

@@ -36,7 +36,7 @@ pub record IsFlattened (s : Settled) (sheets : List PlainSheet) : Type 0 where
   pub count : AreAsMany s.cells top sheets
   pub in_range : AllInRange s.cells top
 
--- a cell of that name stands at the end of a chain from the top, and is out of range there
+-- a cell of that name is at the end of a chain from the top, and is out of range there
 pub record IsOutOfRange (s : Settled) (name : List ℕ) : Type 0 where
   pub top : PlainCell Rings
   pub is_top : slice_get s.cells s.top ≡ Some top

@@ -19,11 +19,11 @@ has_rings (ring ∷ rings) = true
 abbrev pub is_filled : PlainSheet → Bool
 is_filled s = has_rings s.rings
 
--- each sheet comes before those behind it
+-- each sheet comes before those after it
 abbrev pub AreSorted : List PlainSheet → Type 0
 AreSorted sheets = AllPairs (λ s t. ComesBefore s.layer t.layer) sheets
 
--- each sheet has rings, and comes before those behind it
+-- each sheet has rings, and comes before those after it
 pub record IsInOrder (sheets : List PlainSheet) : Type 0 where
   pub filled : All (λ s. s.rings ≢ []) sheets
   pub sorted : AreSorted sheets

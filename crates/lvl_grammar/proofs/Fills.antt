@@ -36,7 +36,7 @@ all_flat P Q h (w ∷ ws) p = all_append P w (flat_map (λ u. u) ws) (h w p.0) (
 other_type : (k j : ℕ) → k == j ≡ false → j ≢ k
 other_type k j n e = (let t : true ≡ false = sym (same_type k j (sym e)) ∙ n in cc)
 
--- a type that an order doesn't have stands in none of its words
+-- a type that an order doesn't have is in none of its words
 pub word_lacks : (a : Order) (k : ℕ) (w : List ℕ) → has a k ≡ false → IsWord a w → Lacks k w
 word_lacks nothing k w n h = subst (Lacks k) (sym h) tt
 word_lacks (one j) k w n h = subst (Lacks k) (sym h) (other_type k j n, tt)
@@ -80,7 +80,7 @@ put_parts : (a : Order) (e f : ℕ) (u v : List ℕ) → IsWord a u → Repeats 
 put_parts a e f u v p q =
     seq_word a (next (one e) (many (one f))) u (e ∷ v) p (e ∷ [], v, refl, repeats_word f v q, refl)
 
--- the first e of a list stands in one place
+-- the first e of a list is at one index
 first_once : (e : ℕ) (x x' y y' : List ℕ) → Lacks e x → Lacks e x' → x ++ (e ∷ y) ≡ x' ++ (e ∷ y') → y ≡ y'
 first_once e [] [] y y' p q h = cc
 first_once e [] (i ∷ x') y y' p q h = absurd (q.0 (let g : i ≡ e = cc in g))
@@ -88,7 +88,7 @@ first_once e (i ∷ x) [] y y' p q h = absurd (p.0 (let g : i ≡ e = cc in g))
 first_once e (i ∷ x) (j ∷ x') y y' p q h =
     (let g : x ++ (e ∷ y) ≡ x' ++ (e ∷ y') = cc in first_once e x x' y y' p.1 q.1 g)
 
--- an f stands behind the e that ends the list before
+-- an f comes after the e that ends the list before
 behind : (e f : ℕ) (w more u v : List ℕ) → f ≢ e → Lacks f u → w ++ (f ∷ more) ≡ u ++ (e ∷ v)
     → (z : List ℕ) × (w ≡ u ++ (e ∷ z)) × (v ≡ z ++ (f ∷ more))
 behind e f [] more [] v n p h = absurd (n (let g : f ≡ e = cc in g))
@@ -103,7 +103,7 @@ behind e f (i ∷ w) more (j ∷ u) v n p h =
     let q = behind e f w more u v n p.1 t in
     (q.0, ap (λ k. k ∷ w) g ∙ ap (λ l. j ∷ l) q.1, q.2)
 
--- where f may come, what stands before is a word, in parts
+-- where f may come, what comes before is a word, in parts
 before_fill : (a : Order) (e f : ℕ) (w : List ℕ) → has a f ≡ false → f ≢ e → Begins (ends a e f) (w ++ f ∷ [])
     → Parts a e f w
 before_fill a e f w nf n g =

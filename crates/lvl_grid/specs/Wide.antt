@@ -3,7 +3,7 @@ use Rattle.std.specs.Prelude.{ℕ, ◌≤◌, ◌^◌, unsigned_abs}
 use Rattle.lvl_grid.specs.declared.point.Point.{Point}
 use Rattle.lvl_grid.specs.declared.map.Wide.{Wide}
 
--- the point that it stands for
+-- the point that it represents
 abbrev pub as_point : Wide → Point
 as_point w = record { x = w.x; y = w.y }
 

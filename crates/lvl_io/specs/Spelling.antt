@@ -29,7 +29,7 @@ pub record IsBegun {A : Type 0} (S : List ℕ → A → Type 0) (xs : List ℕ) 
 abbrev pub NoneAgrees : {A : Type 0} → (List ℕ → A → Type 0) → List ℕ → A → Type 0
 NoneAgrees S xs x = (b : List ℕ) → S b x → Agree b xs → ⊥
 
--- something is said by some bytes
+-- some bytes spell something
 pub record CanSay {A : Type 0} (S : List ℕ → A → Type 0) : Type 0 where
   pub bytes : List ℕ
   pub value : A

@@ -38,7 +38,7 @@ bit t = cond t 1 0
 pub passed-cons : (a : ℤ) (as' : List ℤ) (v : ℤ) → passed (a ∷ as') v ≡ bit (int_le a v) + passed as' v
 passed-cons a as' v = sum_by-cons (λ b. cond (int_le b v) 1 0) a as'
 
--- whether a line is at most v tells whether it is at most w
+-- a line is at most v exactly where it is at most w
 abbrev pub NoLineBetween : List ℤ → ℤ → ℤ → Type 0
 NoLineBetween lines v w = AllByRecursion (λ a. int_le a v ≡ int_le a w) lines
 
@@ -67,7 +67,7 @@ far p v (a ∷ as') h k =
     let high : int_le a v ≡ false = h.0 in
     (grind (arith, ints), far p v as' h.1 k.1)
 
--- v lies at or after p, whose cell is c: the value at v is that of a line w, at or after p, and no line parts w from v
+-- v is at or after p, whose cell is c: the value at v is that of a line w, at or after p, and no line parts w from v
 abbrev WalkEnds : {B : Type 0} → (ℤ → B → Type 0) → ℤ → B → List ℤ → List B → ℤ → B → Type 0
 WalkEnds R p c as' cs v d =
     (w : ℤ) × (int_le p w ≡ true) × NoLineBetween as' v w × R w (get_or (c ∷ cs) (passed as' v) d)
@@ -103,7 +103,7 @@ walk R p c (a ∷ as') (x ∷ xs) v d r e above rising zip =
           )
     ] refl
 
--- At v stands the value of some line w that no line parts from v, or v lies before all lines and d stands there.
+-- At v is the value of some line w that no line parts from v, or v is before all lines and d is there.
 pub value_is : {B : Type 0} (R : ℤ → B → Type 0) (lines : List ℤ) (cs : List B) (v : ℤ) (d : B)
     → IsStrictlySortedBy int_cmp lines → AllZip R lines cs
     → ((w : ℤ) × NoLineBetween lines v w × R w (value_at d lines cs v))

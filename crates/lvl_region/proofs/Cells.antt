@@ -1,4 +1,4 @@
--- The cells of the grid of all lines tell what the rings cover.
+-- The cells of the grid of all lines say what the rings cover.
 use Rattle.std.proofs.Common.{◌≡◌, map, ℕ, Bool, true, false, not, List, [], ◌∷◌, get_or, ℤ, pos, refl, sym, ◌∙◌, ap}
 use Rattle.std.proofs.Common.{inl, inr, ◌↔◌, int_le, int_lt, All, Contains, IsTrue, zero, suc}
 use Rattle.std.specs.List.{AllZip, AllByRecursion}
@@ -84,7 +84,7 @@ grid_right rings xs ys rows columns lines zip s =
           (λ j p lt'. line_above ys s.y _ low.0 (lines.through i r lt j p lt'))))
     ]
 
--- so the marks of a grid with these rows tell what some ring covers
+-- so the marks of a grid with these rows say what some ring covers
 pub marks_right : (rings : List (List Point)) (xs ys : List ℤ) (rows : List (Vec Bool)) → AreLinesOf rings X xs
     → AreLinesOf rings Y ys → AreRowsOf rings xs ys rows → (s : Square) → IsMarked xs ys rows s ↔ SomeCovers rings s
 unfolding IsMarked AreRowsOf

@@ -15,7 +15,7 @@ use Rattle.lvl_region.specs.Region.{SomeCovers}
 abbrev pub passed : List ℤ → ℤ → ℕ
 passed lines v = count_by (λ a. int_le a v) lines
 
--- the value of the cell at v: the lines' values lie from each line on, and d lies before the first
+-- the value of the cell at v: the lines' values hold from each line on, and d before the first
 abbrev pub value_at : {A : Type 0} → A → List ℤ → List A → ℤ → A
 value_at d lines cells v = slice_index_or (d ∷ cells) (passed lines v) d
 
@@ -37,7 +37,7 @@ pub record AreLinesOf (rings : List (List Point)) (axis : Axis) (lines : List �
   pub rising : IsStrictlySortedBy int_cmp lines
   pub through : HasPlaces axis lines rings
 
--- the cells of a row tell what some ring covers at their lower left squares
+-- the cells of a row say what some ring covers at their lower left squares
 unfoldable pub IsRowOf : List (List Point) → List ℤ → ℤ → List Bool → Type 0
 IsRowOf rings xs y cells = AllZip (λ x cell. IsTrue cell ↔ SomeCovers rings (record { x = x; y = y })) xs cells
 

@@ -1,4 +1,4 @@
--- What a run wrote, from what it was to tell.
+-- What a run wrote, from what it had to say.
 use Rattle.std.proofs.Common.{◌≡◌, ℕ, List, Option, Result, Ok, Err, IfOk, OnOk, OnErr}
 use Rattle.std.specs.Io.KnownBytes.{Appends}
 use Rattle.lvl_report.specs.declared.status.Status.{Status}

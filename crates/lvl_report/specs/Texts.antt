@@ -43,7 +43,7 @@ abbrev pub file_fault : FileFault → List ℕ
 file_fault (GdsFile fault) = codes "gds " ++ gds_fault fault.kind ++ codes " at " ++ decimal fault.offset
 file_fault (OasisFile fault) = codes "oasis " ++ oasis_fault fault
 
--- the side, the step and the fault; out of memory stands alone, whichever step it was
+-- the side, the step and the fault; out of memory is alone, whichever step it was
 abbrev pub refusal_text : Refusal → List ℕ
 refusal_text (File side fault) = codes "refused: " ++ side_text side ++ codes ": " ++ file_fault fault
 refusal_text (Cells side fault) = codes "refused: " ++ side_text side ++ codes ": cells " ++ cell_fault fault

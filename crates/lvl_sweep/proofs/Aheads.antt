@@ -1,4 +1,4 @@
--- What the first bands of two lists tell of the rows from one on.
+-- What the first bands of two lists say of the rows from one on.
 use Rattle.std.proofs.Common.{◌≡◌, ◌≢◌, true, false, ◌&&◌, ◌||◌, cond, List, [], ◌∷◌, ℤ, ◌<ℤ◌, ◌≤ℤ◌, int_lt, int_le}
 use Rattle.std.proofs.Common.{Option, None, Some, refl, sym, ◌∙◌, ap, arith, subst, ◌⊎◌, inl, inr}
 use Rattle.std.specs.List.{list_any}
@@ -16,7 +16,7 @@ use Rattle.lvl_sweep.proofs.BandLists.{cover_is, in_value}
 use Rattle.lvl_sweep.proofs.Firsts.{Stands, stands, early, here, other_side, or_false, flip_on}
 use Rattle.lvl_sweep.proofs.Slabs.{early_rest, inside, left_of, right_of}
 
--- in the rows of a band, its intervals tell
+-- in the rows of a band, its intervals say what is covered
 pub cover_in : (b : Slab) (t : Square) → b.from ≤ℤ t.y → t.y <ℤ b.to
     → slabs_cover (b ∷ []) t ≡ list_any (spans t.x) b.value
 cover_in b t le lt = rw (inside b t.y le lt) (or_false (list_any (spans t.x) b.value))
@@ -174,7 +174,7 @@ up_to : (t s : Square) → IsBefore t s → t.y ≤ℤ s.y
 up_to t s (inl lt) = omega (arith, ints, lt)
 up_to t s (inr h) = omega (arith, ints, h.0)
 
--- what two bands tell their lists tell
+-- what two bands say their lists say
 told_lists : (from : Option ℤ) (b d : Slab) (bs ds : List Slab) (r : Ahead) → AreSteps (b ∷ bs) → AreSteps (d ∷ ds)
     → IsToldByTwo from b d r → IsTold from (b ∷ bs) (d ∷ ds) r
 told_lists from b d bs ds (Differ s side) us vs h = record {

@@ -1,4 +1,4 @@
--- What is told of the same edges, in whatever order.
+-- What is said of the same edges, in whatever order.
 use Rattle.std.proofs.Common.{◌≡◌, ℕ, ◌<◌, ◌≤◌, Bool, true, false, ◌&&◌, not, cond, eqb, List, [], ◌∷◌, length, get_or}
 use Rattle.std.proofs.Common.{ℤ, pos, ◌<ℤ◌, int_lt, int_le, nat_lt, Option, None, Some, All, count_by, refl, sym, ◌∙◌}
 use Rattle.std.proofs.Common.{ap, arith, inl, inr}

@@ -1,4 +1,4 @@
--- The active edges tell what some ring covers.
+-- The active edges give what some ring covers.
 use Rattle.std.proofs.Common.{◌≡◌, ◌≢◌, ℕ, ◌+◌, ◌<◌, Bool, true, false, ◌&&◌, not, cond, eqb, List, [], ◌∷◌, length}
 use Rattle.std.proofs.Common.{get_or, ℤ, pos, ◌-ℤ◌, int_lt, int_le, All, count_by, ◌↔◌, refl, sym, ◌∙◌, arith, inl, inr}
 use Rattle.std.specs.List.{sum_by, filter}
@@ -131,7 +131,7 @@ no_edge r n z es h k =
           (λ e j. off (int_le e.x z) (eqb e.ring r) (not e.up) (other e.ring r (omega arith))) es h)))))
     ]
 
--- walking the active edges from the left tells exactly what some ring covers in their row
+-- walking the active edges from the left gives exactly what some ring covers in their row
 pub inside_is_covered : (rings : List (List Point)) (es active : List Edge) (y z : ℤ) → AreEdgesOf rings es
     → HasSame (filter (alive y) es) active → All (λ e. e.ring < length rings) active → ((r : ℕ) → net r active ≡ pos 0)
     → IsInside active z ↔ SomeCovers rings (record { x = z; y = y })

@@ -244,7 +244,7 @@ winding_beside ring z y h =
     (λ e k. tests_alike e.0.x z e.1.y e.0.y y (flat_too e.0.y e.1.y e.0.x z k)) (edges ring) h) in
     rw (ups, downs) refl
 
--- where a row changes, an edge stands
+-- where a row changes, there is an edge
 changes_at : (rings : List (List Point)) (slabs : List Slab) (z y : ℤ) → AreBandsOf rings slabs
     → slabs_cover slabs (record { x = z -ℤ pos 1; y = y }) ≢ slabs_cover slabs (record { x = z; y = y })
     → Any (λ e. is_on z e ≡ true) (all_edges rings)
@@ -268,7 +268,7 @@ still_on a b v x lt h =
     let t : int_le a x ≡ true = let k : int_le b x ≡ true = both.1 in grind (arith, ints) in
     rw (both.0, t) refl
 
--- the vertical edges from one abscissa on are more than those from a later one on, if one stands there
+-- the vertical edges from one abscissa on are more than those from a later one on, if there is one there
 more_right : (rings : List (List Point)) (a b : ℤ) → a <ℤ b → Any (λ e. is_on a e ≡ true) (all_edges rings)
     → count_by (from_on b) (all_edges rings) < count_by (from_on a) (all_edges rings)
 more_right rings a b lt f =
@@ -305,7 +305,7 @@ ends_of rings slabs y fr i is of row order =
           (omega (arith, ints))) (row i.1 ∙ at_end fr i is s)),
     )
 
--- an edge stands at both ends of each interval
+-- there is an edge at both ends of each interval
 intervals_few : (rings : List (List Point)) (slabs : List Slab) (y : ℤ) (fr : List (ℤ × ℤ)) (i : ℤ × ℤ)
     (is : List (ℤ × ℤ)) → AreBandsOf rings slabs
     → ((x : ℤ) → slabs_cover slabs (record { x = x; y = y }) ≡ list_any (spans x) (fr ++ i ∷ is))

@@ -28,7 +28,7 @@ right_of z i h = grind (arith, ints)
 pub inside_of : (z : ℤ) (i : ℤ × ℤ) → i.0 ≤ℤ z → z <ℤ i.1 → spans z i ≡ true
 inside_of z i h k = grind (arith, ints)
 
--- what stands round one interval of a row
+-- what is around one interval of a row
 pub record Stands (fr : List (ℤ × ℤ)) (a : ℤ × ℤ) (rest : List (ℤ × ℤ)) : Type 0 where
   pub full : a.0 <ℤ a.1
   pub before : All (λ i. i.1 <ℤ a.0) fr

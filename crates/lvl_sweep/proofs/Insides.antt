@@ -84,7 +84,7 @@ left_of_all' far z x h k l =
     let lt : z <ℤ x = omega (arith, ints) in
     grind (arith, ints)
 
--- no ring winds round what lies left or right of all edges
+-- no ring winds round what is left or right of all edges
 pub inside_far : (es : List Edge) (z : ℤ) → Balanced es → far_of es < unsigned_abs z → inside es z ≡ false
 inside_far es z balanced far = false_from_ne_true (inside es z) (λ h.
     let f : IsInside es z = (inside_is es z).0 h in

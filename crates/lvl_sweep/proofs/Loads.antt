@@ -62,7 +62,7 @@ alive_there y e h k =
     let b : int_lt y e.high ≡ true = grind (arith, ints) in
     rw (a, b) refl
 
--- the edges alive in a row, where those before have ended and those behind are to come
+-- the edges alive in a row, where those before have ended and those after are to come
 run_alive : (es : List Edge) (i j : ℕ) (y : ℤ) → i ≤ j → AllWithin (λ e. e.high ≤ℤ y) es 0 i
     → AllWithin (λ e. e.low ≤ℤ y) es 0 j → AllWithin (λ e. y <ℤ e.high) es i j
     → AllWithin (λ e. y <ℤ e.low) es j (length es)
@@ -160,7 +160,7 @@ renewed s end y h le within begun = record {
       ];
 }
 
--- what stays behind the edges that begin by y begins above it
+-- what stays after the edges that begin by y begins above it
 still_coming : (s : Strips) (end : ℕ) (y : ℤ) → AreStrips s → s.next ≤ end
     → (end < length s.edges.items → (d : Edge) → y <ℤ (get_or s.edges.items end d).low)
     → AllWithin (λ e. y <ℤ e.low) s.edges.items end (length s.edges.items)

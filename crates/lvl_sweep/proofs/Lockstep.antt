@@ -16,7 +16,7 @@ use Rattle.lvl_sweep.specs.Ahead.{IsOn, IsBefore, IsLeastAlone, IsUpTo}
 use Rattle.lvl_sweep.specs.inside.InStep.{IsMet, FirstIs, IsAlike, ended_by}
 use Rattle.lvl_sweep.proofs.Aheads.{cover_past}
 
--- below the row the lists that were are the same, and from it on those that are left tell
+-- below the row the lists that were are the same, and from it on those that are left count
 pub record InStep (from : Option ℤ) (us vs us' vs' : List Slab) : Type 0 where
   pub ours : IsSlabList us'
   pub theirs : IsSlabList vs'
@@ -119,7 +119,7 @@ same_below from us vs us' vs' y h alike t lt = elim (cases_Bool (is_from from t.
   | inr below ↦ h.seen t below
 ]
 
--- both go on behind the rows in which they are alike
+-- both go on after the rows in which they are alike
 pub in_step_more : (from : Option ℤ) (us vs us' vs' us2 vs2 : List Slab) (y : ℤ) → us2 ≡ ended_by y us'
     → vs2 ≡ ended_by y vs' → InStep from us vs us' vs' → IsAlike from us' vs' y → InStep (Some y) us vs us2 vs2
 in_step_more from us vs us' vs' us2 vs2 y e f h alike = rw (e, f) (record {

@@ -12,7 +12,7 @@ use Rattle.lvl_sweep.specs.inside.Rows.{steps_from, inside, far_of, Balanced, en
 use Rattle.lvl_sweep.proofs.Steps.{IsWithin, steps_give, none_from, first_from, same_from}
 use Rattle.lvl_sweep.proofs.Insides.{inside_far}
 
--- what a row tells of an abscissa, as a value of steps
+-- what a row says of an abscissa, as a value of steps
 abbrev mark : List Edge → ℤ → Option (Unit {0})
 mark es z = cond (inside es z) (Some tt) None
 

@@ -21,7 +21,7 @@ use Rattle.lvl_sweep.proofs.Alive.{alive_count}
 use Rattle.lvl_sweep.proofs.BandLists.{row_at_none}
 use Rattle.lvl_sweep.proofs.Tops.{topped, over}
 
--- some number lies below all
+-- some number is below all
 lowest : {A : Type 0} (f : A → ℤ) (xs : List A) → (x : ℤ) × All (λ a. x <ℤ f a) xs
 lowest f [] = (pos 0, All-nil (λ a. pos 0 <ℤ f a))
 lowest f (a ∷ xs) =

@@ -78,7 +78,7 @@ left_front r z es i far =
     (λ e k. off e (eqb e.ring r && not e.up) k) (drop i es) far) in
     rw (ups, downs) refl
 
--- between the edges passed and the others the counts tell what is inside
+-- between the edges passed and the others the counts say what is inside
 pub turning_tells : (es : List Edge) (i : ℕ) (w : Windings) (z : ℤ) → All (λ e. e.ring < length w.counts.items) es
     → HasPassed es i w → All (λ e. e.x ≤ℤ z) (take i es) → All (λ e. z <ℤ e.x) (drop i es) → inside es z ≡ is_inside w
 turning_tells es i w z numbers passed left right =
@@ -91,7 +91,7 @@ turning_tells es i w z numbers passed left right =
     )
     front
 
--- behind all edges of a balanced row the counts are at rest
+-- after all edges of a balanced row the counts are at rest
 pub ended : (es : List Edge) (w : Windings) → Balanced es → HasPassed es (length es) w → AreAtRest w
 ended es w balanced passed =
     let all : take (length es) es ≡ es = take_all (length es) es (omega arith) in
@@ -164,7 +164,7 @@ abbrev is_before : Option ℤ → ℤ → Bool
 is_before None z = false
 is_before (Some c) z = int_lt z c
 
--- what stands before the next edge but not before the place lies between
+-- what is before the next edge but not before the place is between
 between : (es : List Edge) (i : ℕ) (o : Option ℤ) (z : ℤ) (d : Edge) → AllPairs (λ d e. d.x ≤ℤ e.x) es → IsParted es i o
     → is_before o z ≡ false → (i < length es → z <ℤ (get_or es i d).x) → All (λ e. e.x ≤ℤ z) (take i es)
     × All (λ e. z <ℤ e.x) (drop i es)
@@ -188,7 +188,7 @@ pub record Looked (es : List Edge) (wanted : Bool) (first now : Place) (w w' : W
 pub numbers_of : (es : List Edge) (n m : ℕ) → m ≡ n → All (λ e. e.ring < n) es → All (λ e. e.ring < m) es
 numbers_of es n m e h = rw e h
 
--- before the next edge nothing of the wanted side stands either
+-- before the next edge there is nothing of the wanted side either
 pub looked_on : (es : List Edge) (wanted : Bool) (first now : Place) (w w' : Windings) (d : Edge)
     → IsRowOf es (length w.counts.items) → Looked es wanted first now w w' → (z : ℤ) → is_from first.x z ≡ true
     → (now.at < length es → z <ℤ (get_or es now.at d).x) → inside es z ≡ not wanted
@@ -210,7 +210,7 @@ right_of es i j (Some c) d h le lt =
     let far : c <ℤ (get_or (drop i es) (j - i) d).x = h.right (j - i) d (omega (arith, length-drop i es)) in
     rw (at, same) at far
 
--- the edges of one abscissa more, behind which the side is the same
+-- the edges of one abscissa more, after which the side is the same
 pub look_more : (es : List Edge) (wanted : Bool) (first now : Place) (w w' v : Windings) (at : ℕ) (x : ℤ) (d : Edge)
     → IsRowOf es (length w.counts.items) → Looked es wanted first now w w' → now.at < length es
     → x ≡ (get_or es now.at d).x
@@ -227,7 +227,7 @@ look_more es wanted first now w w' v at x d row h lt is passed place on rings si
       grind (arith, ints) in rw is at k);
 }
 
--- and behind which it is the wanted one
+-- and after which it is the wanted one
 pub turned : (es : List Edge) (wanted : Bool) (first now : Place) (w w' v : Windings) (at : ℕ) (x : ℤ) (d : Edge)
     → IsRowOf es (length w.counts.items) → IsParted es first.at first.x → Looked es wanted first now w w'
     → now.at < length es → x ≡ (get_or es now.at d).x
@@ -303,7 +303,7 @@ wanted_is_not true false h = refl
 wanted_is_not false true h = refl
 wanted_is_not false false h = absurd (let clash : true ≡ false = h in cc)
 
--- the edges passed behind i stand at x, with one more
+-- the edges passed after i are at x, with one more
 pub same_more : (es : List Edge) (i j : ℕ) (x : ℤ) → ((k : ℕ) (d : Edge) → i ≤ k → k < j → (get_or es k d).x ≡ x)
     → ((d : Edge) → (get_or es j d).x ≡ x) → (k : ℕ) (d : Edge) → i ≤ k → k < j + 1 → (get_or es k d).x ≡ x
 same_more es i j x h here k d le lt =

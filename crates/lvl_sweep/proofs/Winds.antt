@@ -148,7 +148,7 @@ small_count es i r c lt few e =
     let le : unsigned_abs (net r (take i es)) ≤ length (take i es) = net_small r (take i es) in
     rw e (omega (arith, le, length-take i es, lt, few))
 
--- what stands in the counts behind one more edge
+-- what the counts are after one more edge
 pub counts_more : (cs new : List ℤ) (es : List Edge) (e : Edge) (r : ℕ)
     → new ≡ set cs e.ring (get_or cs e.ring (pos 0) +ℤ turn e.up)
     → ((r : ℕ) → r < length cs → get_or cs r (pos 0) ≡ net r es) → e.ring < length cs → r < length cs

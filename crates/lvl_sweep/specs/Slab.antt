@@ -19,7 +19,7 @@ abbrev pub value_of : {V : Type 0} → List (Step V) → ℤ → Option V
 value_of [] z = None
 value_of (s ∷ ss) z = cond (holds s z) (Some s.value) (value_of ss z)
 
--- the steps lie behind s, and one that touches it has another value
+-- the steps come after s, and one that touches it has another value
 abbrev pub Follows : {V : Type 0} → Step V → List (Step V) → Type 0
 Follows s [] = Unit {0}
 Follows s (t ∷ ts) = (s.to ≤ℤ t.from) × (s.to ≡ t.from → s.value ≢ t.value)
@@ -29,7 +29,7 @@ abbrev pub AreSteps : {V : Type 0} → List (Step V) → Type 0
 AreSteps [] = Unit {0}
 AreSteps (s ∷ ss) = (s.from <ℤ s.to) × Follows s ss × AreSteps ss
 
--- z lies in the interval
+-- z is in the interval
 abbrev pub spans : ℤ → ℤ × ℤ → Bool
 spans z i = int_le i.0 z && int_lt z i.1
 

@@ -35,7 +35,7 @@ then_is_eq Greater p = refl
 number_is_eq : (x y : ℕ) → is_eq (nat_cmp x y) ≡ (x == y)
 number_is_eq x y = grind arith
 
--- the order does not tell apart just the Layers that are one
+-- equal in the order are just the Layers that are one
 pub cmp_same : (a b : Layer) → is_eq ((layer_ord.ghosts).cmp a b) ≡ same_layer a b
 cmp_same a b =
     then_is_eq (nat_cmp a.layer b.layer) (nat_cmp a.datatype b.datatype)

@@ -3,7 +3,7 @@ use Rattle.std.specs.Prelude.{ℕ, ◌+◌, ◌==◌, if◌then◌else◌, List,
 use Rattle.lvl_io.specs.Spelling.{Gives, Then}
 use Rattle.oasis_values.specs.declared.fault.ValueFault.{ValueFault}
 
--- what the number k stands for among those listed, the first of which has the number n
+-- what the number k means among those listed, the first of which has the number n
 abbrev pub among : {A : Type 0} → ℕ → List A → ℕ → Option A
 among n [] k = None
 among n (x ∷ xs) k = if k == n then Some x else among (n + 1) xs k

@@ -34,7 +34,7 @@ abbrev pub weigh : Weight → PlainCell Rings → ℕ
 weigh One c = 1
 weigh OwnRings c = own_rings each_ring c
 
--- what the references add: each as often as it has places the sum that stands at its target
+-- what the references add: each as often as it has places the sum at its target
 abbrev pub placed_sum : List PlainReference → List ℕ → List ℕ → ℕ
 placed_sum [] targets sums = 0
 placed_sum (r ∷ rs) [] sums = 0

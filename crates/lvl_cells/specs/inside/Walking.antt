@@ -16,7 +16,7 @@ use Rattle.lvl_cells.specs.declared.walk.Mark.TheVariants.{New, Open, Done}
 abbrev pub IsArc : List (Vec ℕ Global) → ℕ → ℕ → ℕ → Type 0
 IsArc targets a j b = (ts : Vec ℕ Global) × (slice_get targets a ≡ Some ts) × (slice_get ts.items j ≡ Some b)
 
--- open cells are those on the path, done cells those that are finished, and each finished one stands behind those that
+-- open cells are those on the path, done cells those that are finished, and each finished one comes after those that
 -- it refers to
 pub record IsWalk (targets : List (Vec ℕ Global)) (marks : List Mark) (path : List Visit)
     (finished : List ℕ) : Type 0 where

@@ -1,4 +1,4 @@
--- Boxes of points, and what lies in them.
+-- Boxes of points, and what is in them.
 use Rattle.std.specs.Prelude.{◌≡◌, ℕ, List, slice_get, Option, Some, All, Contains, ◌≤ℤ◌}
 use Rattle.lvl_grid.specs.declared.point.Point.{Point}
 use Rattle.lvl_grid.specs.declared.map.Map.{Map}

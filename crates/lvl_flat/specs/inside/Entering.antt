@@ -23,7 +23,7 @@ pub record IsDrawn (cells : List (PlainCell Rings)) (i : ℕ) (m : Map) (old new
   pub placed : AreFiguresPlaced m cell.shapes
   pub layers : map (λ s. s.layer) new ≡ map (λ s. s.layer) old
 
--- the shapes of cell i, whose name it tells, are out of range under the map
+-- the shapes of cell i, whose name it gives, are out of range under the map
 pub record IsCellOut (cells : List (PlainCell Rings)) (i : ℕ) (m : Map) (name : List ℕ) : Type 0 where
   pub cell : PlainCell Rings
   pub there : slice_get cells i ≡ Some cell

@@ -10,14 +10,14 @@ use Rattle.lvl_flat.specs.declared.walk.Step.TheVariants.{Done, Past, Into, Out}
 use Rattle.lvl_flat.specs.inside.Visits.{Pick, pending}
 use Rattle.lvl_flat.specs.inside.Walking.{references_left}
 
--- the visit goes on with the reference behind, and has the same still to do
+-- the visit goes on with the next reference, and has the same still to do
 pub record IsPast (cells : List (PlainCell Rings)) (v rest : Visit) : Type 0 where
   pub pending_is : pending cells v ≡ pending cells rest
   pub map_is : rest.map ≡ v.map
   pub cell_is : rest.cell ≡ v.cell
   pub fewer : references_left cells rest < references_left cells v
 
--- the visit's next pick is of the cell at the place i, and the rest is what is behind it
+-- the visit's next pick is of the cell at the place i, and the rest is what comes after it
 pub record IsInto (cells : List (PlainCell Rings)) (v : Visit) (i : ℕ) (m : Map) (rest : Visit) : Type 0 where
   pub pick : Pick
   pub next : PlainCell Rings

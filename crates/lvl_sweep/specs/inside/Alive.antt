@@ -1,4 +1,4 @@
--- The edges that cross a row, and what they tell of the rings.
+-- The edges that cross a row, and what they say of the rings.
 use Rattle.std.specs.Prelude.{◌≡◌, ℕ, ◌<◌, Bool, ◌&&◌, ◌==◌, not, List, [], length, ℤ, ◌<ℤ◌, ◌≤ℤ◌, int_lt, int_le}
 use Rattle.std.specs.Prelude.{count_by, slice_index_or, All, Option, None, Some, false}
 use Rattle.std.specs.List.{sum_by, AllPairs}

@@ -36,7 +36,7 @@ pub record IsAlike (from : Option ℤ) (us vs : List Slab) (y : ℤ) : Type 0 wh
   pub ends : FirstIs (λ b. b.to ≡ y) ⊥ us ⊎ FirstIs (λ b. b.to ≡ y) ⊥ vs
   pub same : (t : Square) → is_from from t.y ≡ true → t.y <ℤ y → slabs_cover us t ≡ slabs_cover vs t
 
--- what the first bands on both sides tell of the rows from one on
+-- what the first bands on both sides say of the rows from one on
 abbrev pub IsTold : Option ℤ → List Slab → List Slab → Ahead → Type 0
 IsTold from us vs (Differ s side) = IsLeastAlone from us vs s side
 IsTold from us vs (Alike y) = IsAlike from us vs y

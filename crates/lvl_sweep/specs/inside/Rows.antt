@@ -1,4 +1,4 @@
--- The intervals of a row, and the bands of all rows from one on, as edges tell them.
+-- The intervals of a row, and the bands of all rows from one on, as the edges give them.
 use Rattle.std.specs.Prelude.{◌≡◌, ℕ, ◌+◌, zero, suc, Bool, true, false, ◌&&◌, not, List, [], ◌∷◌, map, ℤ, pos, ◌+ℤ◌}
 use Rattle.std.specs.Prelude.{neg_ℤ, unsigned_abs, Option, None, Some, cond}
 use Rattle.std.specs.List.{list_any, filter, sum_by}
@@ -30,7 +30,7 @@ from_on o f z = cond (is_from o z) (f z) None
 unfoldable pub steps_from : {V : Type 0} → (V → V → Bool) → ℕ → Option ℤ → (ℤ → Option V) → List (Step V)
 steps_from same far o f = steps_at same (from_on o f) (neg_ℤ (pos far)) (far + far + 1)
 
--- no edge lies further from 0
+-- no edge is further from 0
 unfoldable pub far_of : List Edge → ℕ
 far_of es = sum_by (λ e. unsigned_abs e.low + unsigned_abs e.x + unsigned_abs e.high) es
 

@@ -21,7 +21,7 @@ pub record AreStrips (s : Strips) : Type 0 where
   pub rising : RiseWithin s.edges.items s.from s.next
   pub rest : AreAtRest s.windings
 
--- in row y the edges from `from` up to `next` are alive, those before have ended, those behind are to come
+-- in row y the edges from `from` up to `next` are alive, those before have ended, those after are to come
 pub record IsAt (s : Strips) : Type 0 where
   pub strips : AreStrips s
   pub ended : AllWithin (λ e. e.high ≤ℤ s.y) s.edges.items 0 s.from

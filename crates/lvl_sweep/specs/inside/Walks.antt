@@ -31,7 +31,7 @@ abbrev pub IsParted : List Edge → ℕ → Option ℤ → Type 0
 IsParted es i None = i ≡ 0
 IsParted es i (Some x) = IsPartedAt es i x
 
--- the squares behind the last edge passed are inside
+-- the squares after the last edge passed are inside
 abbrev pub is_inside : Windings → Bool
 is_inside w = not (w.turning == 0)
 
