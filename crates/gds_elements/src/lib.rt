@@ -10,6 +10,13 @@
 //! at each of them, the values that it keeps, and what it draws. `element.rt` opens it and has a
 //! `State` for it; in `specs/` its order joins `an_element` and its type `opens`, and what it means
 //! joins `shapes_of` or `references_of`.
+//!
+//! ```
+//! let element = Element::open(alloc, record_type::BOUNDARY).ok_or("no element")?;
+//! let step = element.take(alloc, record_type::LAYER, b"\x00\x01")?;
+//! assert!(rt; matches!(step, Step::Open(_)));
+//! assert!(rt; Element::open(alloc, record_type::LAYER).is_none());
+//! ```
 #![tactic(auto)]
 
 pub use element::{Drawn, Element, Step};

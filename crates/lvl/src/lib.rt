@@ -4,6 +4,19 @@
 //! Layer by Layer. Its answer is a [`Verdict`] or a [`Refusal`]. [`compare_view`] does so with the
 //! second file's Layers mapped, and in a window alone. [`show_file`] says what one file holds. A
 //! format is a variant of [`Layout`], [`Head`] and [`FileFault`], and a row in each match on them.
+//!
+//! `one` and `other` are two files in memory that draw the same:
+//!
+//! ```
+//! let tops = Tops {
+//!     first: None,
+//!     second: None,
+//! };
+//! let mut first = Pieces::new(&one, usize::MAX);
+//! let mut second = Pieces::new(&other, usize::MAX);
+//! let verdict = compare_layouts(alloc, &mut first, &mut second, &tops)?;
+//! assert_eq!(rt; verdict, Verdict::Same);
+//! ```
 #![tactic(auto)]
 
 pub use compare::{compare_files, compare_layouts};

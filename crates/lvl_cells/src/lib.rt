@@ -7,6 +7,18 @@
 //! [`Offsets`], which keeps a lattice as such. A [`Builder`] makes a library cell by cell. [`check`]
 //! finds the top, resolves the names and refuses what is not sound or places too much; what it lets
 //! through is a [`Checked`].
+//!
+//! `METAL` is a `Layer`:
+//!
+//! ```
+//! let ring = Ring::rectangle(alloc, Point { x: 0, y: 0 }, Point { x: 4, y: 2 })?;
+//! let mut builder = Builder::new(alloc);
+//! builder.open(alloc, Vec::from_slice(alloc, b"TOP")?);
+//! builder.add_ring(METAL, ring.points(), &Offsets::single())?;
+//! builder.close(alloc)?;
+//! let checked = check(alloc, builder.finish(), None)?;
+//! assert_eq!(rt; checked.top(), 0);
+//! ```
 #![tactic(auto)]
 
 pub use builder::{Builder, MOST_CELLS};

@@ -5,6 +5,14 @@
 //! rings to them, and sweeps each column by itself. Where to cut and when to stop is a matter of cost
 //! alone: the answer is the same for every choice. Rectangles as wide as a column would make work in
 //! all columns that they span, so they are joined first.
+//!
+//! ```
+//! let mut first = Rings::new(alloc);
+//! first.push_ring(&Ring::rectangle(alloc, Point { x: 0, y: 0 }, Point { x: 4, y: 2 })?)?;
+//! let second = Rings::new(alloc);
+//! let found = difference_by_columns(alloc, &first, &second)?;
+//! assert_eq!(rt; found, Some((Square { x: 0, y: 0 }, Side::First)));
+//! ```
 #![tactic(auto)]
 
 pub use columns::difference_by_columns;

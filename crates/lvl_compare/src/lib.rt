@@ -3,6 +3,17 @@
 //! [`first_difference`] finds the first square that one of two flat layouts alone covers,
 //! [`first_difference_in`] the first of a window, and [`same_by_cells`] finds without flattening
 //! whether two libraries draw the same, where it can.
+//!
+//! `wide` and `narrow` are libraries of one rectangle each, checked:
+//!
+//! ```
+//! let wide = checked(alloc, b"TOP", Point { x: 4, y: 2 })?;
+//! let narrow = checked(alloc, b"MASK", Point { x: 3, y: 2 })?;
+//! let first = flatten(alloc, &wide)?;
+//! let second = flatten(alloc, &narrow)?;
+//! let found = first_difference(alloc, &first, &second)?;
+//! assert_eq!(rt; found, Some((METAL, Square { x: 3, y: 0 }, Side::First)));
+//! ```
 #![tactic(auto)]
 
 pub use cells::same_by_cells;

@@ -4,6 +4,16 @@
 //! What it gives, a [`Flat`], has for each Layer a list of rings that together cover exactly what
 //! the top covers there. [`flatten_shapes`] gives the same of one cell's own shapes, and
 //! [`Flat::mapped`] moves the rings of each Layer to the Layer that it counts as in a view.
+//!
+//! `checked` is a library whose top draws one rectangle of 4 by 2:
+//!
+//! ```
+//! let checked = checked(alloc, b"TOP", Point { x: 4, y: 2 })?;
+//! let flat = flatten(alloc, &checked)?;
+//! assert_eq!(rt; flat.len(), 1);
+//! assert_eq!(rt; flat.layer(0), Some(METAL));
+//! assert!(rt; flat.rings(METAL).covers(Square { x: 3, y: 1 }));
+//! ```
 #![tactic(auto)]
 
 pub use advance::flatten;

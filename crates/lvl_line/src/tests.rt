@@ -153,6 +153,17 @@ static LINES: [(&str, Asks<'static>); 23] = [
 ];
 
 #[test]
+fn one_line(rt: HostRuntime) -> Result<(), Fail> {
+    let alloc = rt.alloc();
+    let Ok(Job::Show { file, top }) = parse_line(alloc, &["lvl", "show", "chip.gds"]) else {
+        return Err(Fail::from("the line is refused"));
+    };
+    assert_eq!(rt; file.as_str(), "chip.gds");
+    assert!(rt; top.is_none());
+    Ok(())
+}
+
+#[test]
 fn lines_ask_for_what_they_say(rt: HostRuntime) -> Result<(), Fail> {
     for (line, asks) in &LINES {
         let words = words_of(rt.alloc(), line)?;

@@ -2,6 +2,15 @@
 //!
 //! A [`Region`] is made from rings and holds exactly the squares that some ring covers.
 //! [`difference`] compares two lists of rings by any region. [`GridRegion`] is the plain one.
+//!
+//! ```
+//! let wide = Ring::rectangle(alloc, Point { x: 0, y: 0 }, Point { x: 4, y: 2 })?;
+//! let narrow = Ring::rectangle(alloc, Point { x: 0, y: 0 }, Point { x: 3, y: 2 })?;
+//! let first = vec![in alloc; wide]?;
+//! let second = vec![in alloc; narrow]?;
+//! let found = difference::<GridRegion>(alloc, &first, &second)?;
+//! assert_eq!(rt; found, Some((Square { x: 3, y: 0 }, Side::First)));
+//! ```
 #![tactic(auto)]
 
 pub use grid::GridRegion;

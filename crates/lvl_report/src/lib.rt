@@ -4,6 +4,15 @@
 //! each forms the text of the answer whole, writes it, and gives its [`Status`], by which the program
 //! exits. Each format has a module of its own for what its files say of themselves and why they are
 //! refused. [`form`] and [`form_shown`] give the text alone.
+//!
+//! `bytes` is a file that draws one square:
+//!
+//! ```
+//! let mut out = Sink::new(alloc, usize::MAX);
+//! let status = run_show(alloc, &mut Pieces::new(&bytes, usize::MAX), None, &mut out)?;
+//! assert_eq!(rt; status, Status::Shown);
+//! assert!(rt; out.taken.ends_with(b"layer 1 datatype 0 rings 1\n"));
+//! ```
 #![tactic(auto)]
 
 pub use faults::view_fault;

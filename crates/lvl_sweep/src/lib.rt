@@ -3,6 +3,15 @@
 //! A [`Sweep`] gives the slab list of its rings band by band, with all its memory taken at the
 //! start. [`first_difference_of`] walks two sweeps in step. [`SlabRegion`] is the bands
 //! collected.
+//!
+//! ```
+//! let mut rings = Rings::new(alloc);
+//! rings.push_ring(&Ring::rectangle(alloc, Point { x: 0, y: 0 }, Point { x: 4, y: 2 })?)?;
+//! let mut sweep = Sweep::new(alloc, &rings)?;
+//! assert_eq!(rt; sweep.band().map(|band| (band.y0, band.y1)), Some((0, 2)));
+//! sweep.advance();
+//! assert!(rt; sweep.band().is_none());
+//! ```
 #![tactic(auto)]
 
 pub use band::Band;

@@ -3,6 +3,14 @@
 //! A field that isn't in a record has the value that an earlier record of the cell gave it: its modal
 //! variable. [`Modal`] keeps these variables. It takes the records of a cell one by one and says what
 //! each of them draws.
+//!
+//! `record` is a RECTANGLE that gives all its fields:
+//!
+//! ```
+//! let mut modal = Modal::new();
+//! let drawn = modal.take(alloc, record)?;
+//! assert!(rt; matches!(drawn, Some(Drawn::Ring(_, _))));
+//! ```
 #![tactic(auto)]
 
 pub use drawn::Drawn;

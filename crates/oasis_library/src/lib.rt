@@ -3,6 +3,14 @@
 //! [`read_oasis`] reads a file record by record: [`oasis_stream`] says which records may come and
 //! [`oasis_figures`] what each of them draws; here they are put together to cells, and the numbers of
 //! cells are replaced by their names once the file is read.
+//!
+//! `bytes` is a file with one cell:
+//!
+//! ```
+//! let (library, head) = read_oasis(alloc, &mut Pieces::new(&bytes, usize::MAX))?;
+//! assert_eq!(rt; library.cells.len(), 1);
+//! assert_eq!(rt; head.unit, Real::Whole(1000));
+//! ```
 #![tactic(auto)]
 
 pub use fault::OasisFault;

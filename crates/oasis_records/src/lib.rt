@@ -4,6 +4,16 @@
 //! record means after others is for the crate above. [`read_magic`] reads what a file begins with,
 //! [`read_id`] the id of a record, of which [`RecordType::of`] gives the type, and [`read_fields`]
 //! what comes after the id.
+//!
+//! The bytes of a RECTANGLE are read:
+//!
+//! ```
+//! let mut input = Input::new(Pieces::new(RECTANGLE, usize::MAX));
+//! let id = read_id(&mut input)?;
+//! let kind = RecordType::of(id.value)?;
+//! let record = read_fields(&mut input, alloc, kind, id.len, false)?;
+//! assert!(rt; matches!(record, Record::Rectangle(_)));
+//! ```
 #![tactic(auto)]
 
 pub use cell::{CellName, CellRef};

@@ -5,6 +5,18 @@
 //! may come after others by their ids, `specs/Rules.antt` which rules a record may breach that is read
 //! whole, and `specs/Names.antt` which name a number means. [`read_first`] reads the magic string, and
 //! [`read_next`] the next record after those that an [`Order`] has passed.
+//!
+//! `bytes` is a file:
+//!
+//! ```
+//! let mut input = Input::new(Pieces::new(&bytes, usize::MAX));
+//! let mut order = Order::new();
+//! read_first(&mut input)?;
+//! let start = read_next(&mut input, alloc, &order)?;
+//! order.pass(&start);
+//! let cell = read_next(&mut input, alloc, &order)?;
+//! assert!(rt; matches!(cell, Record::Cell(_)));
+//! ```
 #![tactic(auto)]
 
 pub use fault::{NameRule, OasisKind};

@@ -3,6 +3,13 @@
 //!
 //! [`Input`] reads a value where its caller knows what has to come. What records are made of these
 //! values is for the crates above.
+//!
+//! ```
+//! let mut input = Input::new(Pieces::new(b"\xE8\x07\x0B", usize::MAX));
+//! assert_eq!(rt; input.unsigned(), Ok(1000));
+//! assert_eq!(rt; input.signed(), Ok(-5));
+//! assert_eq!(rt; input.offset(), 3);
+//! ```
 #![tactic(auto)]
 
 pub use fault::ValueFault;

@@ -1,0 +1,13 @@
+//! The examples in the documentation of the crates, line by line: `.ci/examples` finds each of them here.
+#![tactic(auto)]
+
+#[cfg(test)]
+mod cells;
+#[cfg(test)]
+mod gds;
+#[cfg(test)]
+mod geometry;
+#[cfg(test)]
+mod oasis;
+#[cfg(test)]
+mod program;

@@ -1,0 +1,80 @@
+//! What the documentation of the crates shows, line by line.
+
+use lvl_io::fake::Pieces;
+use oasis_figures::{Drawn, Modal};
+use oasis_library::read_oasis;
+use oasis_records::{Record, RecordType, read_fields, read_id};
+use oasis_stream::{Order, read_first, read_next};
+use oasis_values::{Input, Real};
+use std::alloc::{AllocError, Global};
+use std::test::Fail;
+
+/// A RECTANGLE of 10 by 10 at (0, 0).
+const RECTANGLE: &[u8] = b"\x14\x7B\x01\x00\x0A\x0A\x00\x00";
+
+/// A file with one cell, which draws the rectangle.
+fn square(alloc: Global) -> Result<Vec<u8>, AllocError> {
+    let mut bytes = Vec::from_slice(alloc, b"%SEMI-OASIS\r\n\x01\x031.0\x00\xE8\x07")?;
+    bytes.extend_from_slice(&[0; 13])?;
+    bytes.extend_from_slice(b"\x0E\x03TOP")?;
+    bytes.extend_from_slice(RECTANGLE)?;
+    bytes.extend_from_slice(b"\x02\xFC\x01")?;
+    bytes.extend_from_slice(&[0; 253])?;
+    Ok(bytes)
+}
+
+#[test]
+fn values(rt: HostRuntime) {
+    let mut input = Input::new(Pieces::new(b"\xE8\x07\x0B", usize::MAX));
+    assert_eq!(rt; input.unsigned(), Ok(1000));
+    assert_eq!(rt; input.signed(), Ok(-5));
+    assert_eq!(rt; input.offset(), 3);
+}
+
+#[test]
+fn records(rt: HostRuntime) -> Result<(), Fail> {
+    let alloc = rt.alloc();
+    let mut input = Input::new(Pieces::new(RECTANGLE, usize::MAX));
+    let id = read_id(&mut input)?;
+    let kind = RecordType::of(id.value)?;
+    let record = read_fields(&mut input, alloc, kind, id.len, false)?;
+    assert!(rt; matches!(record, Record::Rectangle(_)));
+    Ok(())
+}
+
+#[test]
+fn figures(rt: HostRuntime) -> Result<(), Fail> {
+    let alloc = rt.alloc();
+    let mut input = Input::new(Pieces::new(RECTANGLE, usize::MAX));
+    let id = read_id(&mut input)?;
+    let kind = RecordType::of(id.value)?;
+    let record = read_fields(&mut input, alloc, kind, id.len, false)?;
+    let mut modal = Modal::new();
+    let drawn = modal.take(alloc, record)?;
+    assert!(rt; matches!(drawn, Some(Drawn::Ring(_, _))));
+    Ok(())
+}
+
+#[test]
+fn streams(rt: HostRuntime) -> Result<(), Fail> {
+    let alloc = rt.alloc();
+    let bytes = square(alloc)?;
+    let mut input = Input::new(Pieces::new(&bytes, usize::MAX));
+    let mut order = Order::new();
+    read_first(&mut input)?;
+    let start = read_next(&mut input, alloc, &order)?;
+    order.pass(&start);
+    let cell = read_next(&mut input, alloc, &order)?;
+    assert!(rt; matches!(cell, Record::Cell(_)));
+    Ok(())
+}
+
+#[test]
+fn libraries(rt: HostRuntime) -> Result<(), Fail> {
+    let alloc = rt.alloc();
+    let bytes = square(alloc)?;
+    let (library, head) = read_oasis(alloc, &mut Pieces::new(&bytes, usize::MAX))?;
+    assert_eq!(rt; library.cells.len(), 1);
+    assert_eq!(rt; head.unit, Real::Whole(1000));
+    Ok(())
+}

@@ -1,0 +1,43 @@
+//! What the documentation of the crates shows, line by line.
+
+use gds_records::fake::{SQUARE, Stream};
+use lvl::{Tops, Verdict, compare_layouts};
+use lvl_io::fake::{Pieces, Sink};
+use lvl_report::{Status, run_show};
+use std::alloc::{AllocError, Global};
+use std::test::Fail;
+
+/// A GDSII file with a square in one structure.
+fn square(alloc: Global, name: &[u8]) -> Result<Vec<u8>, AllocError> {
+    let mut stream = Stream::new(alloc)?;
+    stream.structure(name)?;
+    stream.boundary(1, 0, &SQUARE)?;
+    stream.end_structure()?;
+    stream.end()
+}
+
+#[test]
+fn verdicts(rt: HostRuntime) -> Result<(), Fail> {
+    let alloc = rt.alloc();
+    let (one, other) = (square(alloc, b"TOP\0")?, square(alloc, b"MASK")?);
+    let tops = Tops {
+        first: None,
+        second: None,
+    };
+    let mut first = Pieces::new(&one, usize::MAX);
+    let mut second = Pieces::new(&other, usize::MAX);
+    let verdict = compare_layouts(alloc, &mut first, &mut second, &tops)?;
+    assert_eq!(rt; verdict, Verdict::Same);
+    Ok(())
+}
+
+#[test]
+fn texts(rt: HostRuntime) -> Result<(), Fail> {
+    let alloc = rt.alloc();
+    let bytes = square(alloc, b"TOP\0")?;
+    let mut out = Sink::new(alloc, usize::MAX);
+    let status = run_show(alloc, &mut Pieces::new(&bytes, usize::MAX), None, &mut out)?;
+    assert_eq!(rt; status, Status::Shown);
+    assert!(rt; out.taken.ends_with(b"layer 1 datatype 0 rings 1\n"));
+    Ok(())
+}
