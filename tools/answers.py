@@ -308,8 +308,8 @@ def compare(read, first, second, tops):
     heads = "".join("%s: %s\n" % (side, library.head) for side, (library, _, _) in sides)
     if any(sum(rings.values()) > MOST_RINGS for _, (_, _, rings) in sides):
         return Answer({0, 1}, heads.rstrip("\n"), lambda words: True)
-    told = verdict(*[placed_rings(library.cells, top, {}) for _, (library, top, _) in sides])
-    return Answer({0 if told == "same" else 1}, heads + told, None)
+    text = verdict(*[placed_rings(library.cells, top, {}) for _, (library, top, _) in sides])
+    return Answer({0 if text == "same" else 1}, heads + text, None)
 
 
 def show(read, data, top):

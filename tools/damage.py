@@ -102,7 +102,7 @@ def lengthened(rng, data):
 
 
 def records_moved(rng, data):
-    """One record left out, told twice, or put in another's place."""
+    """One record left out, written twice, or put in another's place."""
     starts = starts_of(data)
     parts = [data[a:b] for a, b in zip(starts, starts[1:])] + [data[starts[-1]:]]
     one, other = rng.randrange(len(parts)), rng.randrange(len(parts))
@@ -199,7 +199,7 @@ def kind_of(answer):
 
 
 def judged(program, rng, form, names):
-    """What was told of a pair, in short; or the whole of what was expected and answered, where they differ."""
+    """The answer for a pair, in short; or the whole of what was expected and answered, where they differ."""
     words, files, tops = pair_of(rng, form)
     for name, data in zip(names, files):
         with open(name, "wb") as out:
@@ -225,15 +225,15 @@ def main():
     asked = line.parse_args()
     folder = tempfile.mkdtemp(prefix="lvl-damage-")
     names = [os.path.join(folder, "a"), os.path.join(folder, "b")]
-    told = collections.Counter()
+    outcomes = collections.Counter()
     for seed in range(asked.seed, asked.seed + asked.count):
         short, wrong = judged(asked.program, random.Random("%s %d" % (asked.format, seed)), asked.format, names)
         if wrong:
             sys.exit("seed %d: %s" % (seed, wrong))
-        told[short] += 1
+        outcomes[short] += 1
     shutil.rmtree(folder)
     print("%d damaged files, all answered as the rules have it:" % asked.count)
-    for short, many in told.most_common():
+    for short, many in outcomes.most_common():
         print("%7d %s" % (many, short))
 
 

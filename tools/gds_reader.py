@@ -32,7 +32,7 @@ POINTS = {BOUNDARY: (4, 8191), PATH: (2, 8191), SREF: (1, 1), TEXT: (1, 1), AREF
 
 
 def after(order, kind):
-    """The rest of the order once a record of the kind stands next; None where it has none there."""
+    """The rest of the order once a record of the kind is next; None where it has none there."""
     for at, item in enumerate(order):
         if isinstance(item, list):
             rest = after(item, kind)

@@ -32,7 +32,7 @@ def refused(what, file, refusal, words=()):
     return Case(what, [file], words, ["refused: first: " + refusal])
 
 
-def told(what, first, second, verdict):
+def judged(what, first, second, verdict):
     heads = [GDS_TEXT if next(file) == GDS_HEAD else OAS_TEXT for file in (first(), second())]
     return Case(what, [first(), second()], (), ["first: " + heads[0], "second: " + heads[1], verdict])
 
@@ -62,7 +62,7 @@ def cells():
             yield shown("gds cells", gds, "0000005", CELLS, [], words)
             yield shown("oasis cells", oas, "0000005", CELLS, [], words)
             gds = gds_file(b"".join(gds_cell("%07d" % at)) for at in range(CELLS))
-            yield refused("gds cells, no top told", gds, "cells 6 ManyTops")
+            yield refused("gds cells, no top named", gds, "cells 6 ManyTops")
 
 
 def chains():
@@ -96,9 +96,9 @@ def compared_rings():
         oas_cell("TOP", placement("ROW", 0, 0, b"\3" + unsigned(4094) + b"\2")),
         oas_cell("ROW", rectangle(0, 0, 1, 1, 1, b"\2" + unsigned(n - 2) + b"\2")),
     )
-    yield told("oasis rings, compared", many, lambda: rows(4096), "same")
+    yield judged("oasis rings, compared", many, lambda: rows(4096), "same")
     verdict = "differ: layer 1 datatype 0 square 8190 0 only in first"
-    yield told("oasis rings, one column less", many, lambda: rows(4095), verdict)
+    yield judged("oasis rings, one column less", many, lambda: rows(4095), verdict)
 
 
 def places():
@@ -163,9 +163,9 @@ def deep():
         oas_cell("%07d" % last, rectangle(0, 0, 1, 1)),
     )
     flat = lambda: gds_file(gds_cell("TOP", box(last, 0, last + 1, 1)))
-    yield told("gds chain of cells", gds, flat, "same")
-    yield told("oasis chain of cells", oas, flat, "same")
-    yield told("chains of cells of both", gds, oas, "same")
+    yield judged("gds chain of cells", gds, flat, "same")
+    yield judged("oasis chain of cells", oas, flat, "same")
+    yield judged("chains of cells of both", gds, oas, "same")
 
 
 def round_and_round():
@@ -175,7 +175,7 @@ def round_and_round():
     ring = lambda: gds_file(
         gds_cell("TOP", *(box(*b) for b in ((-2, -2, 12, 2), (8, -2, 12, 12), (-2, 8, 12, 12), (-2, -2, 2, 12))))
     )
-    yield told("oasis path on itself", long, ring, "same")
+    yield judged("oasis path on itself", long, ring, "same")
 
 
 def layers():
@@ -201,9 +201,9 @@ def tried(program, case, folder):
     last = case.answer[-1]
     status = 2 if last.startswith("refused") else 1 if last.startswith("differ") else 0
     right = (done.status, done.output, done.errors) == (status, "\n".join(case.answer) + "\n", "")
-    told = done.output.rstrip("\n").split("\n")[-1] if done.output else done.errors.strip()
+    last = done.output.rstrip("\n").split("\n")[-1] if done.output else done.errors.strip()
     figures = "%.2f s, %.0f MB, %s bytes" % (done.seconds, done.megabytes, " and ".join("%d" % n for n in sizes))
-    print("%s  %s: %s (%s)" % ("right" if right else "WRONG", case.what, told[:90], figures), flush=True)
+    print("%s  %s: %s (%s)" % ("right" if right else "WRONG", case.what, last[:90], figures), flush=True)
     return right
 
 

@@ -231,7 +231,7 @@ class Body:
 
 
 def names(rng, numbers):
-    """The name records, with the numbers told or counted."""
+    """The name records, with the numbers given or counted."""
     if rng.random() < 0.5:
         ordered = sorted(numbers, key=numbers.get)
         return b"".join(b"\x03" + string(name.encode()) for name in ordered)

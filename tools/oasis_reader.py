@@ -247,8 +247,8 @@ class Reader(Values):
         self.names.add(name)
         self.numbers[number] = name
 
-    def field(self, variable, stands, value):
-        if stands:
+    def field(self, variable, is_there, value):
+        if is_there:
             self.modal[variable] = value()
 
     def position(self, names, info, x_bit):
@@ -258,9 +258,9 @@ class Reader(Values):
                 self.modal[name] = self.modal[name] + given if self.modal.get("relative") else given
         return self.modal[names[0]], self.modal[names[1]]
 
-    def shifts(self, stands):
-        """The record's repetition; what is missing is told after the other variables."""
-        if not stands:
+    def shifts(self, is_there):
+        """The record's repetition; what is missing is reported after the other variables."""
+        if not is_there:
             return ONCE
         shifts = self.repetition(self.modal.get("repetition"))
         if shifts:

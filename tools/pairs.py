@@ -51,7 +51,7 @@ def main():
     asked = line.parse_args()
     folder = tempfile.mkdtemp(prefix="lvl-pairs-")
     files = [os.path.join(folder, "a"), os.path.join(folder, "b")]
-    told = {}
+    counts = {}
     for at in range(asked.seed, asked.seed + asked.count):
         rng = random.Random(at)
         pair = pair_of(rng)
@@ -63,8 +63,8 @@ def main():
         answer = answer_of(asked.lvl, files, words)
         if answer != expected:
             sys.exit("seed %d in %s: %s\n  expected %s\n  answered %s" % (at, folder, " ".join(words), expected, answer))
-        told[expected.split(":")[0]] = told.get(expected.split(":")[0], 0) + 1
-    print("%d pairs, all as the raster has them: %s" % (asked.count, told))
+        counts[expected.split(":")[0]] = counts.get(expected.split(":")[0], 0) + 1
+    print("%d pairs, all as the raster has them: %s" % (asked.count, counts))
 
 
 if __name__ == "__main__":
