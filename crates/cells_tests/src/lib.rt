@@ -11,6 +11,8 @@ mod cells;
 #[cfg(test)]
 mod flat;
 #[cfg(test)]
+mod offsets;
+#[cfg(test)]
 mod shifts;
 #[cfg(test)]
 mod view;

@@ -1,0 +1,81 @@
+//! Lattices and lists of shifts, and references that place a cell at them.
+use lvl_cells::{Name, Offsets, Reference};
+use lvl_grid::{Point, Turn};
+use std::test::Fail;
+
+const ORIGIN: Point = Point { x: 0, y: 0 };
+
+const RIGHT: Point = Point { x: 1, y: 0 };
+
+const UP: Point = Point { x: 0, y: 1 };
+
+const FAR: i64 = 1 << 62;
+
+#[test]
+fn lattices(rt: HostRuntime) -> Result<(), Fail> {
+    let far = Point { x: FAR, y: 0 };
+    let shifts = Offsets::lattice(far, 2, UP, 3).ok_or("shifts")?;
+    let want = [(0, 0), (FAR, 0), (0, 1), (FAR, 1), (0, 2), (FAR, 2)];
+    assert_eq!(rt; shifts.len(), 6);
+    let mut place = 0;
+    for (x, y) in want {
+        assert_eq!(rt; shifts.at(place), Some(Point { x, y }));
+        place = shifts.len().min(place.saturating_add(1));
+    }
+    assert_eq!(rt; shifts.at(6), None);
+    let left = Point { x: i64::MIN, y: 0 };
+    for (a, m, b, n, want) in [
+        (far, 3, UP, 1, false),
+        (far, 2, far, 2, false),
+        (left, 2, far, 3, false),
+        (left, 2, far, 2, true),
+        (RIGHT, 0, UP, 1, false),
+        (RIGHT, 1, UP, 0, false),
+        (RIGHT, 16_777_216, UP, 1, true),
+        (RIGHT, 16_777_217, UP, 1, false),
+        (ORIGIN, u64::MAX, ORIGIN, u64::MAX, false),
+    ] {
+        let made = Offsets::lattice(a, m, b, n);
+        assert_eq!(rt; made.is_some(), want, "{a:?} {m} {b:?} {n}");
+    }
+    Ok(())
+}
+
+#[test]
+fn lists_of_shifts(rt: HostRuntime) -> Result<(), Fail> {
+    assert!(rt; Offsets::new(Vec::new(rt.alloc())).is_none());
+    let moved = [RIGHT, ORIGIN].to_vec(rt.alloc())?;
+    assert!(rt; Offsets::new(moved).is_none());
+    let shifts = Offsets::new([ORIGIN, RIGHT].to_vec(rt.alloc())?).ok_or("shifts")?;
+    assert_eq!(rt; shifts.len(), 2);
+    assert_eq!(rt; shifts.at(1), Some(RIGHT));
+    assert_eq!(rt; shifts.at(2), None);
+    Ok(())
+}
+
+#[test]
+fn references(rt: HostRuntime) -> Result<(), Fail> {
+    let at = Point {
+        x: i64::MAX - 3,
+        y: i64::MIN + 2,
+    };
+    let down = Point { x: 0, y: -1 };
+    for (m, n, want) in [(4, 3, true), (5, 3, false), (4, 4, false), (5, 4, false)] {
+        let name = Name::new(Vec::from_slice(rt.alloc(), b"A")?)?;
+        let shifts = Offsets::lattice(RIGHT, m, down, n).ok_or("shifts")?;
+        let made = Reference::new(name, true, Turn::R90, at, shifts);
+        assert_eq!(rt; made.is_some(), want, "{m} {n}");
+        if let Some(reference) = made {
+            assert_eq!(rt; reference.cell(), b"A".as_slice());
+            assert!(rt; reference.flip());
+            assert_eq!(rt; reference.turn(), Turn::R90);
+            assert_eq!(rt; reference.at(), at);
+            assert_eq!(rt; reference.shifts().len(), 12);
+        }
+    }
+    let listed = [ORIGIN, Point { x: 4, y: 0 }].to_vec(rt.alloc())?;
+    let shifts = Offsets::new(listed).ok_or("shifts")?;
+    let name = Name::new(Vec::new(rt.alloc()))?;
+    assert!(rt; Reference::new(name, false, Turn::R0, at, shifts).is_none());
+    Ok(())
+}
