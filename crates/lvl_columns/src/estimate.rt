@@ -61,19 +61,15 @@ impl Load {
         spanned: 0,
     };
 
-    /// Adds a ring that so many cuts go through.
-    fn add(&mut self, outline: &Outline, cuts: u128) {
-        let spanning = if outline.is_rectangle() {
-            cuts.saturating_sub(1)
-        } else {
-            0
-        };
+    /// Adds a ring that so many cuts go through, of whose pieces so many span a column.
+    fn add(&mut self, outline: &Outline, cuts: u128, spanning: u128) {
         let each = outline.heights.checked_div(outline.edges).unwrap_or(0);
-        let further = cuts.wrapping_sub(spanning).wrapping_mul(2);
-        self.edges = self.edges.wrapping_add(outline.edges.wrapping_add(further));
-        self.heights = self
-            .heights
-            .wrapping_add(outline.heights.wrapping_add(further.wrapping_mul(each)));
+        let edges = outline
+            .edges
+            .wrapping_add(cuts.wrapping_mul(2))
+            .saturating_sub(spanning.wrapping_mul(2));
+        self.edges = self.edges.wrapping_add(edges);
+        self.heights = self.heights.wrapping_add(edges.wrapping_mul(each));
         self.spanning = self.spanning.wrapping_add(spanning);
         self.spanned = self.spanned.wrapping_add(spanning.wrapping_mul(each));
     }
@@ -89,19 +85,65 @@ impl Load {
         }
     }
 
-    /// With what is left of the spanning pieces once they are joined: the fewer, the more of them
-    /// lie over each other, and none over another.
+    /// With what is left once the spanning pieces are joined, and what lies within them is dropped.
     fn joined(self, height: u128, columns: u128) -> Load {
         let room = height.wrapping_mul(columns);
-        let layers = self.spanned.checked_div(room).unwrap_or(0);
-        let share = layers.wrapping_mul(layers.wrapping_add(1)).wrapping_add(1);
-        let left = over(self.spanning, share).wrapping_mul(2);
+        let layers = Layers::of(self.spanned, room);
+        let left = layers.joined(self.spanning).wrapping_mul(2);
         let heights = self.spanned.min(room).wrapping_mul(2);
         Load {
-            edges: self.edges.wrapping_add(left),
-            heights: self.heights.wrapping_add(heights),
+            edges: layers.uncovered(self.edges).wrapping_add(left),
+            heights: layers.uncovered(self.heights).wrapping_add(heights),
             ..self
         }
+    }
+}
+
+/// How many spanning pieces lie over each other on average, in sixteenths. They begin anywhere, one
+/// independent of the others, so `e` to the power of their number is about how many are joined to one.
+#[derive(Clone, Copy, Debug)]
+struct Layers(u128);
+
+impl Layers {
+    const MOST: u128 = 1 << 20;
+
+    /// Of pieces of so much height together, in columns of so much height together.
+    fn of(spanned: u128, room: u128) -> Layers {
+        let layers = spanned.wrapping_mul(16).checked_div(room).unwrap_or(0);
+        Layers(layers.min(Layers::MOST))
+    }
+
+    /// The square, the third and the fourth power, in units of 256, of 4,096 and of 65,536.
+    fn powers(self) -> (u128, u128, u128) {
+        let squared = self.0.wrapping_mul(self.0);
+        (
+            squared,
+            squared.wrapping_mul(self.0),
+            squared.wrapping_mul(squared),
+        )
+    }
+
+    /// How many rectangles so many pieces are joined to: by the first terms of the series of `e`.
+    fn joined(self, pieces: u128) -> u128 {
+        let (second, third, fourth) = self.powers();
+        let terms = [
+            256,
+            self.0.wrapping_mul(16),
+            second / 2,
+            third / 96,
+            fourth / 6_144,
+        ];
+        let sum = terms
+            .iter()
+            .fold(0, |sum: u128, term| sum.wrapping_add(*term));
+        over(pieces.wrapping_mul(256), sum)
+    }
+
+    /// How many of so many edges lie within none of the pieces, where they are about as high.
+    fn uncovered(self, edges: u128) -> u128 {
+        let (second, _, fourth) = self.powers();
+        let sum = (second / 3).wrapping_add(fourth / 6_144).wrapping_add(256);
+        over(edges.wrapping_mul(256), sum)
     }
 }
 
@@ -234,11 +276,25 @@ impl Sample {
         }
     }
 
+    /// The least and the greatest abscissa of the sampled rings.
+    fn borders(&self) -> (i64, i64) {
+        let mut left = i64::MAX;
+        let mut right = i64::MIN;
+        for outline in &self.outlines {
+            left = left.min(outline.left);
+            right = right.max(outline.right);
+        }
+        (left, right)
+    }
+
     /// The work of all sweeps where the plane is cut at these abscissas, which rise.
     pub(crate) fn work(&self, cuts: &[i64]) -> Work {
+        let borders = self.borders();
         let mut load = Load::NONE;
         for outline in &self.outlines {
-            load.add(outline, cuts_through(cuts, outline));
+            let through = cuts_through(cuts, outline);
+            let spanning = columns_spanned(cuts, borders, outline, through);
+            load.add(outline, through, spanning);
         }
         let columns = (cuts.len() as u128).wrapping_add(1);
         let height = self.height();
@@ -260,4 +316,25 @@ fn cuts_through(cuts: &[i64], outline: &Outline) -> u128 {
     let before = cuts.partition_point(|cut| *cut <= outline.left);
     let after = cuts.partition_point(|cut| *cut < outline.right);
     (after.saturating_sub(before)) as u128
+}
+
+/// Whether an abscissa is that of a cut.
+fn is_cut(cuts: &[i64], x: i64) -> bool {
+    let at = cuts.partition_point(|cut| *cut < x);
+    cuts.get(at) == Some(&x)
+}
+
+/// How many columns a ring spans that so many cuts go through: none, unless it is a rectangle and
+/// something is cut, and else all that it has a piece in, but those within which it ends.
+fn columns_spanned(cuts: &[i64], borders: (i64, i64), outline: &Outline, through: u128) -> u128 {
+    if cuts.is_empty() || !outline.is_rectangle() {
+        return 0;
+    }
+    let (left, right) = borders;
+    let begins = outline.left != left && !is_cut(cuts, outline.left);
+    let ends = outline.right != right && !is_cut(cuts, outline.right);
+    through
+        .wrapping_add(1)
+        .saturating_sub(u128::from(begins))
+        .saturating_sub(u128::from(ends))
 }

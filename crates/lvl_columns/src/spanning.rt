@@ -187,7 +187,7 @@ fn uncovered(alloc: Global, rings: &Rings, windows: &[Window]) -> Result<Rings, 
         → (SomeCovers rest s ⊎ IsWithinSome windows.now s)
         ↔ (SomeCovers rings.now s ⊎ IsWithinSome windows.now s)) }
 {
-    let mut rest = Rings::new(alloc);
+    let mut rest = Rings::with_capacity(alloc, rings.points().len(), rings.len())?;
     for i in 0..rings.len() {
         let ring = rings.ring(i);
         if !is_covered(ring, windows) {
