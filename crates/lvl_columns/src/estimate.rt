@@ -163,6 +163,8 @@ pub struct Work {
     pub edges: u128,
     /// How many are alive, summed up over the ordinates at which the sweep stops, and weighed.
     pub passes: u128,
+    /// How many pieces of rectangles are joined before.
+    pub joined: u128,
 }
 
 impl Work {
@@ -170,12 +172,15 @@ impl Work {
         Work {
             edges: self.edges.wrapping_add(other.edges),
             passes: self.passes.wrapping_add(other.passes),
+            joined: self.joined.wrapping_add(other.joined),
         }
     }
 
-    /// Clipping, sorting and sweeping together.
+    /// Clipping, joining, sorting and sweeping together.
     pub(crate) fn cost(&self) -> u128 {
-        self.passes.wrapping_add(self.edges.wrapping_mul(2))
+        self.passes
+            .wrapping_add(self.edges.wrapping_mul(2))
+            .wrapping_add(self.joined.wrapping_mul(4))
     }
 }
 
@@ -300,13 +305,19 @@ impl Sample {
         let height = self.height();
         let sampled = (self.outlines.len() as u128).max(1);
         let load = load.scaled(self.rings, sampled).joined(height, columns);
-        let Load { edges, heights, .. } = load;
+        let Load {
+            edges,
+            heights,
+            spanning,
+            ..
+        } = load;
         let stops = over(edges, columns).min(height).min(self.lines());
         let passes = stops.wrapping_mul(heights).checked_div(height).unwrap_or(0);
         let alive = heights.checked_div(height).unwrap_or(0) / columns.max(1);
         Work {
             edges,
             passes: weighed(passes, alive),
+            joined: spanning,
         }
     }
 }

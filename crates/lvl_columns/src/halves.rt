@@ -75,18 +75,16 @@ fn is_worth_while(
             return Ok(false);
         }
         let cuts = quantiles(alloc, abscissas, 1 << power)?;
-        let parts = first.work(&cuts).with(second.work(&cuts));
-        if is_less(parts, whole, u128::from(power)) {
+        if is_less(first.work(&cuts).with(second.work(&cuts)), whole) {
             return Ok(true);
         }
     }
     Ok(false)
 }
 
-/// Whether the work is less by a tenth, the copies of the edges at so many cuts included.
-fn is_less(parts: Work, whole: Work, cuts: u128) -> bool {
-    let copies = whole.edges.wrapping_mul(cuts);
-    parts.cost().wrapping_add(copies).wrapping_mul(10) < whole.cost().wrapping_mul(9)
+/// Whether the work is less by a tenth.
+fn is_less(parts: Work, whole: Work) -> bool {
+    parts.cost().wrapping_mul(10) < whole.cost().wrapping_mul(9)
 }
 
 /// No rings, with room for three quarters of those of a list: for about what a half is.
