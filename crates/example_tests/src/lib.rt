@@ -1,4 +1,4 @@
-//! The examples in the documentation of the crates, line by line: `.ci/examples` finds each of them here.
+//! Examples in the documentation of the crates, line by line: `.ci/examples` looks for them here.
 #![tactic(auto)]
 
 #[cfg(test)]

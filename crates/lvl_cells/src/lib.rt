@@ -8,7 +8,7 @@
 //! finds the top, resolves the names and refuses what is not sound or places too much; what it lets
 //! through is a [`Checked`].
 //!
-//! `METAL` is a `Layer`:
+//! `METAL` is the layer 1, datatype 0:
 //!
 //! ```
 //! let ring = Ring::rectangle(alloc, Point { x: 0, y: 0 }, Point { x: 4, y: 2 })?;

@@ -4,11 +4,9 @@
 //! [`first_difference_in`] the first of a window, and [`same_by_cells`] finds without flattening
 //! whether two libraries draw the same, where it can.
 //!
-//! `wide` and `narrow` are libraries of one rectangle each, checked:
+//! `wide` and `narrow` are checked libraries, whose tops draw rectangles of 4 by 2 and of 3 by 2:
 //!
 //! ```
-//! let wide = checked(alloc, b"TOP", Point { x: 4, y: 2 })?;
-//! let narrow = checked(alloc, b"MASK", Point { x: 3, y: 2 })?;
 //! let first = flatten(alloc, &wide)?;
 //! let second = flatten(alloc, &narrow)?;
 //! let found = first_difference(alloc, &first, &second)?;

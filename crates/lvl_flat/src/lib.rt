@@ -5,10 +5,9 @@
 //! the top covers there. [`flatten_shapes`] gives the same of one cell's own shapes, and
 //! [`Flat::mapped`] moves the rings of each Layer to the Layer that it counts as in a view.
 //!
-//! `checked` is a library whose top draws one rectangle of 4 by 2:
+//! `checked` is a checked library, whose top draws one rectangle of 4 by 2 on the layer `METAL`:
 //!
 //! ```
-//! let checked = checked(alloc, b"TOP", Point { x: 4, y: 2 })?;
 //! let flat = flatten(alloc, &checked)?;
 //! assert_eq!(rt; flat.len(), 1);
 //! assert_eq!(rt; flat.layer(0), Some(METAL));

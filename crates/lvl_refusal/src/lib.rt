@@ -3,6 +3,16 @@
 //! A call that takes memory can fail in two ways: what it was given breaches a rule, or an
 //! allocation failed. [`Refusal`] keeps the two apart once for all crates, so that the enum of
 //! rules of each layer names rules alone, and `?` serves both.
+//!
+//! A caller who wants the fault of a text, if it has one:
+//!
+//! ```
+//! match View::read(alloc, map, window) {
+//!     Ok(_) => Ok(None),
+//!     Err(Refusal::Breach(fault)) => Ok(Some(fault)),
+//!     Err(Refusal::OutOfMemory) => Err(AllocError),
+//! }
+//! ```
 #![tactic(auto)]
 
 ghost use Rattle.std.specs.Prelude.{◌≡◌};
