@@ -176,7 +176,8 @@ impl Work {
         }
     }
 
-    /// Clipping, joining, sorting and sweeping together.
+    /// Clipping, joining, sorting and sweeping together, in passes over an edge: what an edge and a
+    /// joined piece cost beside the sweep is measured.
     pub(crate) fn cost(&self) -> u128 {
         self.passes
             .wrapping_add(self.edges.wrapping_mul(2))
