@@ -10,7 +10,7 @@ use Rattle.lvl_grid.specs.declared.point.Square.{Square}
 use Rattle.lvl_grid.specs.declared.point.Window.{Window}
 use Rattle.lvl_grid.specs.Clip.{IsWithin}
 use Rattle.lvl_grid.specs.Winding.{Covers, SomeCovers}
-use Rattle.lvl_grid.proofs.Anyone.{Any-push, some_contained}
+use Rattle.lvl_grid.proofs.Anyone.{Any-push, Any-nil, Any-left, Any-right, Any-sides, some_contained}
 
 -- one element more
 pub any_pushed : {X : Type 0} (P : X → Type 0) (old new : List X) (x : X) → new ≡ old ++ x ∷ []
@@ -26,6 +26,14 @@ window_pushed into after ring window s e same =
       λ a. elim (pushed.0 a) [ inl o ↦ inl o | inr r ↦ inr (same.0 r) ],
       λ a. elim a [ inl o ↦ pushed.1 (inl o) | inr w ↦ pushed.1 (inr (same.1 w)) ],
     )
+
+-- some elements more
+pub any_appended : {X : Type 0} (P : X → Type 0) (old more new : List X) → new ≡ old ++ more
+    → Any P new ↔ (Any P old ⊎ Any P more)
+any_appended P old more new e = rw e (
+  Any-sides P old more,
+  λ k. elim k [ inl o ↦ Any-left P old more o | inr n ↦ Any-right P old more n ],
+)
 
 -- one element more of those that a loop goes over
 pub any_next : {X : Type 0} (P : X → Type 0) (xs : List X) (i : ℕ) (d : X) → i < length xs
@@ -50,6 +58,14 @@ any_replaced P rest old new last next both before after same =
         | inr n ↦ b.1 (inr (same.1 (inr n)))
       ],
     )
+
+-- nothing is parted into nothing
+pub none_parted : (s : Square) (rest : List (List Point)) (windows : List Window) → rest ≡ [] → windows ≡ []
+    → (SomeCovers rest s ⊎ Any (λ window. IsWithin window s) windows) ↔ SomeCovers [] s
+none_parted s rest windows e f = rw (e, f) (
+  λ k. elim k [ inl r ↦ r | inr w ↦ absurd (Any-nil (λ window. IsWithin window s) w) ],
+  λ r. inl r,
+)
 
 -- what was added so far, and what is added next
 pub added_next : {A B C D E F : Type 0} → (A ↔ (B ⊎ C)) → (D ↔ (A ⊎ E)) → (F ↔ (C ⊎ E)) → D ↔ (B ⊎ F)
@@ -101,11 +117,37 @@ left_out_next so_far within next = (
   ],
 )
 
--- a list without what the windows have, and then with it
-pub all_again : {A W V R N : Type 0} → (V → A) → (W ↔ V) → ((R ⊎ W) ↔ (A ⊎ W)) → (N ↔ (R ⊎ W)) → N ↔ A
-all_again spans same rest all = (
-  λ n. elim (rest.0 (all.0 n)) [ inl a ↦ a | inr w ↦ spans (same.0 w) ],
-  λ a. all.1 (rest.1 (inl a)),
+-- a list in two parts, one without what the windows have, and then with it
+pub all_again : {A W V R P N : Type 0} → ((P ⊎ V) ↔ A) → (W ↔ V) → ((R ⊎ W) ↔ (P ⊎ W)) → (N ↔ (R ⊎ W)) → N ↔ A
+all_again parts same rest all = (
+  λ n. elim (rest.0 (all.0 n)) [ inl p ↦ parts.0 (inl p) | inr w ↦ parts.0 (inr (same.0 w)) ],
+  λ a. elim (parts.1 a) [ inl p ↦ all.1 (rest.1 (inl p)) | inr v ↦ all.1 (inr (same.1 v)) ],
+)
+
+-- what a ring covers, added to the windows
+pub rows_more : {R W V C M : Type 0} → (M ↔ (W ⊎ V)) → (C ↔ V) → (R ⊎ M) ↔ ((R ⊎ W) ⊎ C)
+rows_more more same = (
+  λ k. elim k [
+    | inl r ↦ inl (inl r)
+    | inr m ↦ elim (more.0 m) [ inl w ↦ inl (inr w) | inr v ↦ inr (same.1 v) ]
+  ],
+  λ k. elim k [
+    | inl o ↦ elim o [ inl r ↦ inl r | inr w ↦ inr (more.1 (inl w)) ]
+    | inr c ↦ inr (more.1 (inr (same.0 c)))
+  ],
+)
+
+-- or to the rings
+pub rest_more : {R W C M : Type 0} → (M ↔ (R ⊎ C)) → (M ⊎ W) ↔ ((R ⊎ W) ⊎ C)
+rest_more more = (
+  λ k. elim k [
+    | inl m ↦ elim (more.0 m) [ inl r ↦ inl (inl r) | inr c ↦ inr c ]
+    | inr w ↦ inl (inr w)
+  ],
+  λ k. elim k [
+    | inl o ↦ elim o [ inl r ↦ inl (more.1 (inl r)) | inr w ↦ inr w ]
+    | inr c ↦ inl (more.1 (inr c))
+  ],
 )
 
 -- a window that goes on above another, on the same abscissas

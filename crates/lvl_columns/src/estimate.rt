@@ -11,12 +11,15 @@ struct Outline {
     right: i64,
     edges: u128,
     heights: u128,
+    widths: u128,
 }
 
 impl Outline {
-    /// Whether the ring is a rectangle.
-    fn is_rectangle(&self) -> bool {
-        self.edges == 2
+    /// How many rectangles a column without a point of the ring is left with: half as many as a line
+    /// along y crosses edges, on average.
+    fn folds(&self) -> u128 {
+        let across = u128::from(self.right.abs_diff(self.left)).wrapping_mul(2);
+        self.widths.checked_div(across).unwrap_or(1).max(1)
     }
 
     fn of(ring: &[Point]) -> Outline {
@@ -25,20 +28,24 @@ impl Outline {
             right: i64::MIN,
             edges: 0,
             heights: 0,
+            widths: 0,
         };
-        let mut y = ring.last().map_or(0, |last| last.y);
+        let mut before = ring.last().copied().unwrap_or(Point { x: 0, y: 0 });
         for point in ring {
-            outline.left = outline.left.min(point.x);
-            outline.right = outline.right.max(point.x);
-            if point.y != y {
-                outline.edges = outline.edges.wrapping_add(1);
-                outline.heights = outline
-                    .heights
-                    .wrapping_add(u128::from(point.y.abs_diff(y)));
-            }
-            y = point.y;
+            outline.add(before, *point);
+            before = *point;
         }
         outline
+    }
+
+    /// Adds the edge from one point to another.
+    fn add(&mut self, from: Point, to: Point) {
+        self.left = self.left.min(to.x);
+        self.right = self.right.max(to.x);
+        let height = u128::from(to.y.abs_diff(from.y));
+        self.edges = self.edges.wrapping_add(u128::from(height > 0));
+        self.heights = self.heights.wrapping_add(height);
+        self.widths = self.widths.wrapping_add(u128::from(to.x.abs_diff(from.x)));
     }
 }
 
@@ -47,7 +54,7 @@ impl Outline {
 struct Load {
     edges: u128,
     heights: u128,
-    /// The pieces of rectangles that span a column, which are joined there.
+    /// The rectangles that span a column, which are joined there.
     spanning: u128,
     /// Their heights, each counted once.
     spanned: u128,
@@ -61,12 +68,14 @@ impl Load {
         spanned: 0,
     };
 
-    /// Adds a ring that so many cuts go through, of whose pieces so many span a column.
-    fn add(&mut self, outline: &Outline, cuts: u128, spanning: u128) {
+    /// Adds a ring that so many cuts go through, and that spans so many columns.
+    fn add(&mut self, outline: &Outline, cuts: u128, columns: u128) {
+        let folds = outline.folds();
+        let spanning = columns.wrapping_mul(folds);
         let each = outline.heights.checked_div(outline.edges).unwrap_or(0);
         let edges = outline
             .edges
-            .wrapping_add(cuts.wrapping_mul(2))
+            .wrapping_add(cuts.wrapping_mul(folds).wrapping_mul(2))
             .saturating_sub(spanning.wrapping_mul(2));
         self.edges = self.edges.wrapping_add(edges);
         self.heights = self.heights.wrapping_add(edges.wrapping_mul(each));
@@ -299,8 +308,8 @@ impl Sample {
         let mut load = Load::NONE;
         for outline in &self.outlines {
             let through = cuts_through(cuts, outline);
-            let spanning = columns_spanned(cuts, borders, outline, through);
-            load.add(outline, through, spanning);
+            let spanned = columns_spanned(cuts, borders, outline, through);
+            load.add(outline, through, spanned);
         }
         let columns = (cuts.len() as u128).wrapping_add(1);
         let height = self.height();
@@ -336,10 +345,10 @@ fn is_cut(cuts: &[i64], x: i64) -> bool {
     cuts.get(at) == Some(&x)
 }
 
-/// How many columns a ring spans that so many cuts go through: none, unless it is a rectangle and
-/// something is cut, and else all that it has a piece in, but those within which it ends.
+/// How many columns a ring spans that so many cuts go through: none where nothing is cut, and else
+/// all that it has a piece in, but those within which it ends or has another edge.
 fn columns_spanned(cuts: &[i64], borders: (i64, i64), outline: &Outline, through: u128) -> u128 {
-    if cuts.is_empty() || !outline.is_rectangle() {
+    if cuts.is_empty() {
         return 0;
     }
     let (left, right) = borders;
@@ -349,4 +358,5 @@ fn columns_spanned(cuts: &[i64], borders: (i64, i64), outline: &Outline, through
         .wrapping_add(1)
         .saturating_sub(u128::from(begins))
         .saturating_sub(u128::from(ends))
+        .saturating_sub(outline.edges.saturating_sub(2))
 }

@@ -13,7 +13,8 @@ use std::alloc::{AllocError, Global};
 /// How many edges a column has where cutting ends, about.
 const COLUMN_EDGES: u128 = 500;
 
-/// Appends the abscissas strictly between the least and the greatest of all, which rise.
+/// The abscissas strictly between the least and the greatest of all, which rise, or the middle where
+/// there are none: what spans a list from side to side is joined once the list is cut anywhere.
 fn inner(alloc: Global, first: &[i64], second: &[i64]) -> Result<Vec<i64>, AllocError> {
     let mut all = Vec::from_slice(alloc, first)?;
     all.extend_from_slice(second)?;
@@ -22,6 +23,10 @@ fn inner(alloc: Global, first: &[i64], second: &[i64]) -> Result<Vec<i64>, Alloc
         return Ok(all);
     };
     all.retain(|x| left < *x && *x < right);
+    let middle = left.wrapping_add(right.wrapping_sub(left) / 2);
+    if all.is_empty() && left < middle {
+        all.push(middle)?;
+    }
     Ok(all)
 }
 

@@ -3,8 +3,8 @@
 //! A sweep walks every edge alive in a row at every ordinate, so over scattered shapes its cost grows
 //! as n to the power 1.5. [`difference_by_columns`] cuts the plane into columns first, clips the
 //! rings to them, and sweeps each column by itself. Where to cut and when to stop is a matter of cost
-//! alone: the answer is the same for every choice. Rectangles as wide as a column would make work in
-//! all columns that they span, so they are joined first.
+//! alone: the answer is the same for every choice. Shapes as wide as a column would make work in all
+//! columns that they span, so their rows are joined first.
 //!
 //! ```
 //! let mut first = Rings::new(alloc);
@@ -21,5 +21,6 @@ pub use window::{difference_in, first_difference_in};
 mod columns;
 mod estimate;
 mod halves;
+mod rows;
 mod spanning;
 mod window;

@@ -1,13 +1,14 @@
-//! Rectangles that span a column, joined where they overlap or touch.
+//! Rings that span a column, joined where their rows overlap or touch.
 //!
-//! Such a rectangle is the same as its rows, so a few joined ones cover what thousands of nested
-//! ones do, and what lies within them needs no sweep.
+//! Such a ring is the same as its rows, so a few joined ones cover what thousands of nested ones do,
+//! and what lies within them needs no sweep.
 ghost use Rattle.std.specs.Prelude.{◌↔◌, ◌⊎◌, ◌∷◌, [], IsTrue, IfSome, IfOk, OnOk};
 ghost use Rattle.lvl_grid.specs.declared.point.Square.{Square as GridSquare};
 ghost use Rattle.lvl_grid.specs.Clip.{IsWithin};
-ghost use Rattle.lvl_grid.specs.Winding.{Covers, SomeCovers};
+ghost use Rattle.lvl_grid.specs.Winding.{Covers, SomeCovers, IsRing};
 ghost use Rattle.lvl_columns.specs.Spanning.{IsWithinSome};
 
+use crate::rows::rows;
 use lvl_grid::{Part, Point, Rings, Window};
 use std::alloc::{AllocError, Global};
 
@@ -64,18 +65,45 @@ fn spanned(ring: &[Point], left: i64, right: i64) -> Option<Window>
     window_of(ring)
 }
 
-/// The windows of the rings that are rectangles as wide as all rings together.
-fn spanning(alloc: Global, rings: &Rings) -> Result<Vec<Window>, AllocError>
-    ensures { IfOk result (λ windows. (s : GridSquare) → IsWithinSome windows.items s → SomeCovers rings.now s) }
+/// Appends the rows of a ring that spans from one abscissa to another to the windows, or the ring to
+/// the rest.
+fn part(
+    alloc: Global,
+    windows: &mut Vec<Window>,
+    rest: &mut Rings,
+    ring: &[Point],
+    borders: (i64, i64),
+) -> Result<(), AllocError>
+    requires { IsRing ring.now }
+    ensures { OnOk result ((s : GridSquare)
+        → (SomeCovers rest.new s ⊎ IsWithinSome windows.new.items s)
+        ↔ ((SomeCovers rest.old s ⊎ IsWithinSome windows.old.items s) ⊎ Covers ring.now s)) }
 {
-    let (left, right) = extent(rings);
-    let mut windows = Vec::new(alloc);
-    for i in 0..rings.len() {
-        if let Some(window) = spanned(rings.ring(i), left, right) {
-            windows.push(window)?;
-        }
+    let (left, right) = borders;
+    if let Some(window) = spanned(ring, left, right) {
+        windows.push(window)?;
+        return Ok(());
     }
-    Ok(windows)
+    if let Some(rows) = rows(alloc, ring, left, right)? {
+        windows.extend_from_slice(&rows)?;
+        return Ok(());
+    }
+    rest.push(ring)
+}
+
+/// The rows of the rings whose points all lie at the borders of all rings together, and the rest of
+/// the rings.
+fn parted(alloc: Global, rings: &Rings) -> Result<(Vec<Window>, Rings), AllocError>
+    ensures { IfOk result (λ parts. (s : GridSquare)
+        → (SomeCovers parts.1 s ⊎ IsWithinSome parts.0.items s) ↔ SomeCovers rings.now s) }
+{
+    let borders = extent(rings);
+    let mut windows = Vec::new(alloc);
+    let mut rest = Rings::with_capacity(alloc, rings.points().len(), rings.len())?;
+    for i in 0..rings.len() {
+        part(alloc, &mut windows, &mut rest, rings.ring(i), borders)?;
+    }
+    Ok((windows, rest))
 }
 
 /// The window that has the squares of both, if they have the same abscissas and the second begins
@@ -181,13 +209,16 @@ fn is_covered(ring: &[Point], windows: &[Window]) -> bool
     }
 }
 
-/// The rings that lie within none of the windows.
+/// The rings that lie within none of the windows, with room for a rectangle of each window.
 fn uncovered(alloc: Global, rings: &Rings, windows: &[Window]) -> Result<Rings, AllocError>
     ensures { IfOk result (λ rest. (s : GridSquare)
         → (SomeCovers rest s ⊎ IsWithinSome windows.now s)
         ↔ (SomeCovers rings.now s ⊎ IsWithinSome windows.now s)) }
 {
-    let mut rest = Rings::with_capacity(alloc, rings.points().len(), rings.len())?;
+    let corners = windows.len().saturating_mul(4);
+    let points = rings.points().len().saturating_add(corners);
+    let many = rings.len().saturating_add(windows.len());
+    let mut rest = Rings::with_capacity(alloc, points, many)?;
     for i in 0..rings.len() {
         let ring = rings.ring(i);
         if !is_covered(ring, windows) {
@@ -212,16 +243,17 @@ fn some_of(alloc: Global, rings: &Rings) -> Result<Rings, AllocError> {
     Ok(some)
 }
 
-/// Rings that cover the same squares, with few rectangles among them that span all abscissas.
+/// Rings that cover the same squares, with few among them that span all abscissas.
 pub(crate) fn joined(alloc: Global, rings: Rings) -> Result<Rings, AllocError>
     ensures { IfOk result (λ joined. (s : GridSquare) → SomeCovers joined s ↔ SomeCovers rings s) }
 {
-    if spanning(alloc, &some_of(alloc, &rings)?)?.is_empty() {
+    if parted(alloc, &some_of(alloc, &rings)?)?.0.is_empty() {
         return Ok(rings);
     }
-    let windows = spanning(alloc, &rings)?;
+    let (windows, rest) = parted(alloc, &rings)?;
+    drop(rings);
     let windows = joined_windows(alloc, windows)?;
-    let mut joined = uncovered(alloc, &rings, &windows)?;
+    let mut joined = uncovered(alloc, &rest, &windows)?;
     push_windows(&mut joined, &windows)?;
     Ok(joined)
 }
