@@ -192,6 +192,29 @@ def against_itself(what, boxes):
     return case(what, 2 * len(boxes) + 1, drawn(boxes), drawn(more, random.Random(1)))
 
 
+def polygons_against_themselves(what, rings):
+    """As for boxes: the polygons against the same in another order, and a unit square far above."""
+    high = max(y for ring in rings for _, y in ring) + 5
+    square = [(0, high), (0, high + 1), (1, high + 1), (1, high)]
+    other = rings + [square]
+    random.Random(1).shuffle(other)
+    file = lambda rings: gds_file(gds_cell("TOP", (crafted.boundary(ring) for ring in rings)))
+    return case(what, 2 * len(rings) + 1, file(rings), file(other))
+
+
+def corner(at, n):
+    """An L of which the next lies within."""
+    low, middle, high = at, 2 * n - at, 4 * n - at
+    return [(low, low), (low, high), (middle, high), (middle, middle), (high, middle), (high, low)]
+
+
+def bracket(at, n):
+    """A C of which the next lies within."""
+    low, middle, upper, right, high = at, 2 * n - at, 4 * n + at, 4 * n - at, 6 * n - at
+    return [(low, low), (low, high), (right, high), (right, upper), (middle, upper), (middle, middle),
+            (right, middle), (right, low)]
+
+
 def wires():
     for n in (1_000, 2_000, 4_000):
         along = [(0, 2 * at, 2 * n, 2 * at + 1) for at in range(n)]
@@ -207,6 +230,10 @@ def overlaps():
         yield against_itself("%d long bars over each other" % n, [(0, at, 10, at + n) for at in range(n)])
         yield against_itself("%d bars as a stair" % n, [(at, at, at + n, at + n) for at in range(n)])
         yield against_itself("%d crosswise bars" % n, [(-at, at - n, at + 1, n - at) for at in range(n)])
+    for n in (5_000, 10_000):
+        for name, shape in ("an L", corner), ("a C", bracket):
+            what = "%d polygons of the form of %s, nested" % (n, name)
+            yield polygons_against_themselves(what, [shape(at, n) for at in range(n)])
     for n in (4_000, 8_000, 16_000):
         signs = (1, 1, -1, -1)
         spiral = crafted.polygon([signed(signs[at % 4] * (at // 2 + 1)) for at in range(2 * n)])
