@@ -156,6 +156,45 @@ fn lists_that_are_cut(rt: HostRuntime) -> Result<(), Fail> {
     Ok(())
 }
 
+/// Appends a bracket, open to the right, within which those of higher numbers lie.
+fn push_bracket(alloc: Global, rings: &mut Rings, at: i64) -> Result<(), Fail> {
+    let middle = 2000i64.wrapping_sub(at);
+    let right = 4000i64.wrapping_sub(at);
+    let upper = at.wrapping_add(4000);
+    let high = 6000i64.wrapping_sub(at);
+    let outline = [
+        (at, at),
+        (at, high),
+        (right, high),
+        (right, upper),
+        (middle, upper),
+        (middle, middle),
+        (right, middle),
+        (right, at),
+    ];
+    rings.push_ring(&ring(alloc, &outline)?)?;
+    Ok(())
+}
+
+#[test]
+fn nested_brackets(rt: HostRuntime) -> Result<(), Fail> {
+    let alloc = rt.alloc();
+    let mut all = Rings::new(alloc);
+    let mut inner = Rings::new(alloc);
+    for at in 0..1000 {
+        push_bracket(alloc, &mut all, at)?;
+        push_bracket(alloc, &mut inner, at.max(1))?;
+    }
+    let found = difference_by_columns(alloc, &all, &inner)?;
+    assert!(rt; found == Some((Square { x: 0, y: 0 }, Side::First)));
+    push_bracket(alloc, &mut inner, 0)?;
+    assert!(rt; difference_by_columns(alloc, &all, &inner)?.is_none());
+    inner.push_ring(&rectangle(alloc, (2500, 2501), (3000, 3001))?)?;
+    let found = difference_by_columns(alloc, &all, &inner)?;
+    assert!(rt; found == Some((Square { x: 2500, y: 3000 }, Side::Second)));
+    Ok(())
+}
+
 #[test]
 fn a_window(rt: HostRuntime) -> Result<(), Fail> {
     let alloc = rt.alloc();
