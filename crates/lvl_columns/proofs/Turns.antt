@@ -1,5 +1,6 @@
 -- Turns of a ring, and the rows that it covers.
-use Rattle.std.proofs.Common.{◌≡◌, ◌≢◌, ◌<◌, ◌+◌, ◌-◌, ℕ, ℤ, pos, negsuc, ◌-ℤ◌, ◌+ℤ◌, ◌<ℤ◌, ◌≤ℤ◌, Bool, true, false, ◌&&◌, not}
+use Rattle.std.proofs.Common.{◌≡◌, ◌≢◌, ◌<◌, ◌+◌, ◌-◌, ℕ, ℤ, pos, negsuc, ◌-ℤ◌, ◌+ℤ◌, ◌<ℤ◌, ◌≤ℤ◌, Bool}
+use Rattle.std.proofs.Common.{true, false, ◌&&◌, not}
 use Rattle.std.proofs.Common.{cond, List, [], ◌∷◌, ◌++◌, drop, length, get_or, ◌⊎◌, ◌↔◌, inl, inr, sym, ◌∙◌, refl}
 use Rattle.std.proofs.Common.{arith, int_lt, int_le, count_by, IsPermutation, All}
 use Rattle.std.specs.Ordering.{int_eq}
@@ -66,7 +67,8 @@ edge_pushed right y old one two from to at e f =
     numbers false true old one two e f = omega (arith, ints, e, f)
     numbers false false old one two e f = omega (arith, ints, e, f)
 
-sides_turn : (b c : Bool) → pos (cond (b && not c) 1 0) -ℤ pos (cond (c && not b) 1 0) ≡ pos (cond b 1 0) -ℤ pos (cond c 1 0)
+sides_turn : (b c : Bool)
+    → pos (cond (b && not c) 1 0) -ℤ pos (cond (c && not b) 1 0) ≡ pos (cond b 1 0) -ℤ pos (cond c 1 0)
 sides_turn true true = refl
 sides_turn true false = refl
 sides_turn false true = refl

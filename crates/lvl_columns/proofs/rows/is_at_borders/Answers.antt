@@ -4,7 +4,8 @@ use Rattle.std.proofs.lemmas.List.{take_all}
 use Rattle.std.proofs.lemmas.List.Elements.{All-more, All-nil}
 use Rattle.lvl_grid.proofs.Paths.{origin}
 use Rattle.lvl_columns.specs.Rows.{IsAtBorder}
-use Rattle.lvl_columns.proofs.rows.is_at_borders.Goals.{else-point-left-via-then-point-left+else-point-right, else-point-left-via-else-point-left}
+use Rattle.lvl_columns.proofs.rows.is_at_borders.Goals.{else-point-left-via-then-point-left+else-point-right}
+use Rattle.lvl_columns.proofs.rows.is_at_borders.Goals.{else-point-left-via-else-point-left}
 use Rattle.lvl_columns.proofs.rows.is_at_borders.Goals as goal
 
 pub loop-point-init : goal.loop-point-init

@@ -7,6 +7,6 @@ pub returns : goal.returns
 returns c = λ y.
     let a : FitsSigned w64 c.args.from.y = search rules in
     let b : FitsSigned w64 c.args.to.y = search rules in
-    edge_pushed c.args.right y c.args.turns.now.items c.push.new.self.items c.push-2.new.self.items c.args.from c.args.to
-    (grind (arith, ints)) (rw (to_z-of_z w64 _ a) at c.in_ok-push.ensures.items)
+    edge_pushed c.args.right y c.args.turns.now.items c.push.new.self.items c.push-2.new.self.items c.args.from
+    c.args.to (grind (arith, ints)) (rw (to_z-of_z w64 _ a) at c.in_ok-push.ensures.items)
     (rw (to_z-of_z w64 _ b) at c.in_ok-push-2.ensures.items)

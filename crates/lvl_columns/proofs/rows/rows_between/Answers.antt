@@ -1,5 +1,5 @@
-use Rattle.std.proofs.Common.{◌≡◌, ◌≢◌, ◌↔◌, ◌⊎◌, ◌+◌, ◌≤ℤ◌, ◌<ℤ◌, ℤ, pos, List, take, get_or, inl, inr, ◌∙◌, arith, w64}
-use Rattle.std.proofs.Common.{FitsSigned, rules}
+use Rattle.std.proofs.Common.{◌≡◌, ◌≢◌, ◌↔◌, ◌⊎◌, ◌+◌, ◌≤ℤ◌, ◌<ℤ◌, ℤ, pos, List, take, get_or, inl, inr}
+use Rattle.std.proofs.Common.{◌∙◌, arith, w64, FitsSigned, rules}
 use Rattle.std.proofs.lemmas.Int.{ints, to_z-of_z, by_lt_z}
 use Rattle.std.proofs.lemmas.List.{take_all, take_more}
 use Rattle.lvl_grid.specs.declared.point.Square.{Square}
@@ -56,7 +56,8 @@ returns c = λ s.
     let turns : List Turn = c.args.turns.now in
     let l = to_z-of_z w64 c.args.left c.ranges.left in
     let r = to_z-of_z w64 c.args.right c.ranges.right in
-    let all : take c.loop-turn.turn-index turns ≡ turns = take_all c.loop-turn.turn-index turns c.loop-turn-test.false in
+    let all : take c.loop-turn.turn-index turns ≡ turns =
+    take_all c.loop-turn.turn-index turns c.loop-turn-test.false in
     let so_far = rw (l, r, c.loop-turn.low-is, c.loop-turn.windings-is, all) at c.loop-turn.invariant in
     let below = so_far.below s in
     let none : c.loop-turn.windings ≡ pos 0 = grind (arith, ints) in (
