@@ -1,6 +1,6 @@
 //! Many rings in one piece: all points in one list, and where each ring ends.
 ghost use Rattle.std.specs.Prelude.{◌≡◌, ◌<◌, ◌≤◌, ◌-◌, ◌<ℤ◌, ◌≤ℤ◌, List, take, drop, map, Any, All, ◌⊎◌, ◌↔◌, ◌++◌};
-ghost use Rattle.std.specs.Prelude.{◌∷◌, [], length, get_or, IsTrue, IsSome, IfSome, IfOk, OnOk, OnErr};
+ghost use Rattle.std.specs.Prelude.{◌∷◌, [], length, flat_map, get_or, IsTrue, IsSome, IfSome, IfOk, OnOk, OnErr};
 ghost use Rattle.lvl_grid.specs.declared.point.Square.{Square as GridSquare};
 ghost use Rattle.lvl_grid.specs.Winding.{IsRing, Covers, SomeCovers};
 ghost use Rattle.lvl_grid.specs.Pieces.{begin_of};
@@ -179,13 +179,15 @@ impl Rings {
     }
 
     /// The points of all rings together, ring by ring.
-    pub fn points(&self) -> &[Point] {
+    pub fn points(&self) -> &[Point]
+        ensures { result.now ≡ flat_map (λ ring. ring) self.now }
+    {
         &self.points
     }
 
     /// Whether both are the same rings, point by point and in one order.
     pub fn is_same(&self, other: &Rings) -> bool
-        ensures { IsTrue result → self.now ≡ other.now }
+        ensures { IsTrue result ↔ (self.now ≡ other.now) }
     {
         self.ends.as_slice() == other.ends.as_slice()
             && self.points.as_slice() == other.points.as_slice()
