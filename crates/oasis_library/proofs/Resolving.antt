@@ -23,6 +23,8 @@ use Rattle.oasis_stream.specs.Names.{name_of, meant}
 use Rattle.oasis_library.specs.Cells.{PlainDrawing, with_rings}
 use Rattle.oasis_library.specs.Names.{IsReference, IsCell, AreCells, number_in, numbers_in, numbers_used, IsNamed}
 use Rattle.oasis_library.specs.Names.{IsUnnamed}
+use Rattle.oasis_library.specs.Ends.{is_read, is_read_error}
+use Rattle.oasis_library.specs.declared.fault.OasisFault.{OasisFault}
 
 pub zip-snoc : {A B : Type 0} (R : A → B → Type 0) (xs : List A) (ys : List B) (x : A) (y : B) → AllZip R xs ys → R x y
     → AllZip R (xs ++ x ∷ []) (ys ++ y ∷ [])
@@ -200,6 +202,21 @@ unnamed_there f names all came rest after x n e h named u =
 says_more : {F : Type 0} (P Q : F → Type 0) (e : Refusal F) → ((f : F) → P f → Q f) → Says e P → Says e Q
 says_more P Q (Breach f) h s = h f s
 says_more P Q OutOfMemory h s = tt
+
+-- whether a refusal is one of the reader's
+abbrev pub is_refusal_read : Refusal OasisFault → Bool
+is_refusal_read (Breach f) = is_read_error f
+is_refusal_read OutOfMemory = false
+
+is_read_err : (A : Type 0) (e : Refusal OasisFault) → is_read {A = A} (Err e) ≡ is_refusal_read e
+is_read_err A (Breach f) = refl
+is_read_err A OutOfMemory = refl
+
+-- it still is where the refusal is passed on
+pub read_carried : (A : Type 0) (r : Result A (Refusal OasisFault)) (e : Refusal OasisFault)
+    → IsErr r × IsErrAnd r (λ x. x ≡ e) → is_refusal_read e ≡ is_read r
+read_carried A (Ok x) e g = (let z : false ≡ true = g.0 in cc)
+read_carried A (Err x) e g = ap is_refusal_read (sym g.1) ∙ sym (is_read_err A x)
 
 -- a refusal that is passed on
 pub says_carried : {A F : Type 0} (P Q : F → Type 0) (r : Result A (Refusal F)) (e : Refusal F) → ((f : F) → P f → Q f)

@@ -1,8 +1,11 @@
+use Rattle.std.proofs.Common.{ℕ, subst}
+use Rattle.lvl_io.specs.Bytes.{CountsFailure}
+use Rattle.oasis_values.specs.Input.{input_reader}
 use Rattle.oasis_stream.specs.Items.{IsEnded, records}
 use Rattle.oasis_library.specs.inside.Holds.{HasWhole}
 use Rattle.oasis_library.proofs.Loop.{reads_as}
 use Rattle.oasis_library.proofs.Readable.{law_read, law_unresolved}
-use Rattle.oasis_library.proofs.Resolving.{says_carried}
+use Rattle.oasis_library.proofs.Resolving.{says_carried, read_carried, is_refusal_read}
 use Rattle.oasis_library.proofs.read.read_library.Goals as goal
 
 pub returns-in-Ok-clause-spelled : goal.returns-in-Ok-clause-spelled
@@ -25,3 +28,13 @@ returns-in_err-read_nothing-clause-refused g c = λ xs k.
     let ended = reads_as xs _ (HasWhole c.in_ok-reading.reading) IsEnded _ to (λ is h. h.1) in
     says_carried _ _ c.from_residual-in_err-read_nothing.result c.in_err-read_nothing.field-0.0 (λ f p. p xs ended)
     c.in_err-read_nothing.ensures.refused c.from_residual-in_err-read_nothing.ensures
+
+pub returns-in_err-read_nothing-clause-reads : goal.returns-in_err-read_nothing-clause-reads
+returns-in_err-read_nothing-clause-reads g c =
+    let before : ℕ = g.R.Read.read_errors (input_reader c.args.input.now) in
+    let after : ℕ = g.R.Read.read_errors (input_reader c.read_nothing.new.input) in
+    subst (λ b. CountsFailure before after b)
+    (read_carried _ c.from_residual-in_err-read_nothing.result c.in_err-read_nothing.field-0.0
+    c.from_residual-in_err-read_nothing.ensures)
+    (subst (λ i. CountsFailure i after (is_refusal_read c.in_err-read_nothing.field-0.0)) c.in_ok-reading.ensures.reads
+    c.in_err-read_nothing.ensures.reads)
