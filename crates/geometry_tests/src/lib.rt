@@ -16,3 +16,5 @@ mod outlines;
 mod pairs;
 #[cfg(test)]
 mod rings;
+#[cfg(test)]
+mod spirals;

@@ -67,7 +67,7 @@ edge_pushed right y old one two from to at e f =
     numbers false true old one two e f = omega (arith, ints, e, f)
     numbers false false old one two e f = omega (arith, ints, e, f)
 
-sides_turn : (b c : Bool)
+pub sides_turn : (b c : Bool)
     → pos (cond (b && not c) 1 0) -ℤ pos (cond (c && not b) 1 0) ≡ pos (cond b 1 0) -ℤ pos (cond c 1 0)
 sides_turn true true = refl
 sides_turn true false = refl

@@ -8,7 +8,7 @@ ghost use Rattle.lvl_region.specs.Region.{IsAlone};
 ghost use Rattle.lvl_columns.specs.Columns.{NotBefore, last_row, EndsWith, GoesOn, IsComparedPart, IsFirst, work_left};
 
 use crate::halves::{cut_at, halves_at};
-use crate::spanning::joined;
+use crate::redraw::simplified;
 use lvl_grid::{Part, Rings, Square};
 use lvl_region::Side;
 use lvl_sweep::first_difference_up_to;
@@ -62,7 +62,7 @@ fn clipped(alloc: Global, rings: &Rings, part: &Part) -> Result<Rings, AllocErro
     ensures { IfOk result
         (λ clipped. (s : GridSquare) → SomeCovers clipped s ↔ (IsIn part.now s × SomeCovers rings.now s)) }
 {
-    joined(alloc, Rings::clipped(alloc, rings, part)?)
+    simplified(alloc, Rings::clipped(alloc, rings, part)?)
 }
 
 impl Progress {

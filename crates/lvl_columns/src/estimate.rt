@@ -6,9 +6,9 @@ use std::alloc::{AllocError, Global};
 
 /// What a sampled ring tells.
 #[derive(Clone, Copy, Debug)]
-struct Outline {
-    left: i64,
-    right: i64,
+pub struct Outline {
+    pub left: i64,
+    pub right: i64,
     edges: u128,
     heights: u128,
     widths: u128,
@@ -17,12 +17,12 @@ struct Outline {
 impl Outline {
     /// How many rectangles a column without a point of the ring is left with: half as many as a line
     /// along y crosses edges, on average.
-    fn folds(&self) -> u128 {
+    pub(crate) fn folds(&self) -> u128 {
         let across = u128::from(self.right.abs_diff(self.left)).wrapping_mul(2);
         self.widths.checked_div(across).unwrap_or(1).max(1)
     }
 
-    fn of(ring: &[Point]) -> Outline {
+    pub(crate) fn of(ring: &[Point]) -> Outline {
         let mut outline = Outline {
             left: i64::MAX,
             right: i64::MIN,

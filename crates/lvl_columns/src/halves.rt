@@ -6,7 +6,8 @@ ghost use Rattle.lvl_columns.specs.Columns.{AreHalvesAt};
 
 use crate::columns::Column;
 use crate::estimate::{Sample, Work};
-use crate::spanning::joined;
+use crate::folded::folded_cut;
+use crate::redraw::simplified;
 use lvl_grid::Rings;
 use std::alloc::{AllocError, Global};
 
@@ -52,6 +53,9 @@ pub(crate) fn cut_at(
     first: &Rings,
     second: &Rings,
 ) -> Result<Option<i64>, AllocError> {
+    if let Some(at) = folded_cut(alloc, first, second)? {
+        return Ok(Some(at));
+    }
     let first = Sample::of(alloc, first)?;
     let second = Sample::of(alloc, second)?;
     let whole = first.work(&[]).with(second.work(&[]));
@@ -112,8 +116,8 @@ fn split(alloc: Global, rings: Rings, at: i64) -> Result<(Rings, Rings), AllocEr
     let mut right = half_room(alloc, &rings)?;
     rings.split_into(at, &mut left, &mut right)?;
     drop(rings);
-    let left = joined(alloc, left)?;
-    let right = joined(alloc, right)?;
+    let left = simplified(alloc, left)?;
+    let right = simplified(alloc, right)?;
     Ok((left, right))
 }
 

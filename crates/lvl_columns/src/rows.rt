@@ -29,7 +29,12 @@ fn is_at_borders(ring: &[Point], left: i64, right: i64) -> bool
 }
 
 /// Appends the turns of the edge from one point to another, if it lies at the right border.
-fn push_turns(turns: &mut Vec<Turn>, from: Point, to: Point, right: i64) -> Result<(), AllocError>
+pub(crate) fn push_turns(
+    turns: &mut Vec<Turn>,
+    from: Point,
+    to: Point,
+    right: i64,
+) -> Result<(), AllocError>
     ensures { OnOk result ((y : ℤ)
         → turning y turns.new.items ≡ turning y turns.old.items +ℤ edge_turning right y (from, to)) }
 {
@@ -65,7 +70,7 @@ fn turns_of(alloc: Global, ring: &[Point], left: i64, right: i64) -> Result<Vec<
 
 impl Turn {
     /// So many windings, once more or once less.
-    fn counted(self, windings: i64) -> Option<i64>
+    pub(crate) fn counted(self, windings: i64) -> Option<i64>
         ensures { IfSome result (λ counted. counted ≡ windings +ℤ change self) }
     {
         if self.more {

@@ -42,7 +42,7 @@ fn window_of(ring: &[Point]) -> Option<Window>
 }
 
 /// The least and the greatest abscissa of the rings.
-fn extent(rings: &Rings) -> (i64, i64) {
+pub(crate) fn extent(rings: &Rings) -> (i64, i64) {
     let mut left = i64::MAX;
     let mut right = i64::MIN;
     for point in rings.points() {

@@ -3,8 +3,8 @@ use Rattle.lvl_columns.proofs.columns.clipped.Goals as goal
 
 pub returns : goal.returns
 returns c =
-    IfOk-weaker c.joined.result _ _
+    IfOk-weaker c.simplified.result _ _
     (λ rings same s. (
       λ a. (c.in_ok-clipped.ensures s).0 ((same s).0 a),
       λ b. (same s).1 ((c.in_ok-clipped.ensures s).1 b),
-    )) c.joined.ensures
+    )) c.simplified.ensures

@@ -8,7 +8,7 @@ pub returns-then-is_same-clause-told : goal.returns-then-is_same-clause-told
 returns-then-is_same-clause-told c = λ whole others told.
     open_by_none whole (others ++ map lists_of c.args.self.now.pending.items) c.args.column.first c.args.column.second
     c.args.self.now.best
-    (c.if-is_same.ensures cc) told
+    (c.if-is_same.ensures.0 cc) told
 
 pub returns-in-Some-clause-told : goal.returns-in-Some-clause-told
 returns-in-Some-clause-told c = λ whole others told.

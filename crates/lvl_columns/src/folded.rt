@@ -1,0 +1,60 @@
+//! Where a column is cut that has corners of large rings which go in and out many times. No contract
+//! speaks of it.
+//!
+//! A line through such a ring crosses edges by the thousand, and each goes through every column. A
+//! column without corners of the ring is joined at once, so what counts is how many have some.
+
+use crate::estimate::Outline;
+use lvl_grid::{Point, Rings};
+use std::alloc::{AllocError, Global};
+
+/// How many points a ring has at least that is looked at.
+const MANY: usize = 1024;
+
+/// How often it is crossed at least.
+pub(crate) const FOLDS: u128 = 16;
+
+/// Appends the abscissas of a ring's points that lie between the least and the greatest.
+fn push_between(abscissas: &mut Vec<i64>, ring: &[Point]) -> Result<(), AllocError> {
+    let outline = Outline::of(ring);
+    if outline.folds() < FOLDS {
+        return Ok(());
+    }
+    for point in ring {
+        if outline.left < point.x && point.x < outline.right {
+            abscissas.push(point.x)?;
+        }
+    }
+    Ok(())
+}
+
+/// Appends those of all large rings.
+fn push_folded(abscissas: &mut Vec<i64>, rings: &Rings) -> Result<(), AllocError> {
+    for i in 0..rings.len() {
+        let ring = rings.ring(i);
+        if ring.len() >= MANY {
+            push_between(abscissas, ring)?;
+        }
+    }
+    Ok(())
+}
+
+/// The middle abscissa of the corners that large folded rings have within a column, while these are
+/// many. A column costs as much as it has points, and what is left in it the square of its corners:
+/// both together cost least where these are about alike.
+pub(crate) fn folded_cut(
+    alloc: Global,
+    first: &Rings,
+    second: &Rings,
+) -> Result<Option<i64>, AllocError> {
+    let mut abscissas = Vec::new(alloc);
+    push_folded(&mut abscissas, first)?;
+    push_folded(&mut abscissas, second)?;
+    let corners = abscissas.len() as u128;
+    let points = (first.points().len() as u128).wrapping_add(second.points().len() as u128);
+    if corners.wrapping_mul(corners) <= points.wrapping_mul(4) {
+        return Ok(None);
+    }
+    abscissas.sort_unstable();
+    Ok(abscissas.get(abscissas.len() / 2).copied())
+}
