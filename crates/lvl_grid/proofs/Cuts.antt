@@ -39,13 +39,12 @@ same_cut start (e ∷ es) (d ∷ ds) xs ys h g same =
     let size-2 = length-take-le (d - start) (drop start ys) (omega (arith, length-drop start ys, up-2, g.0)) in
     let at : d ≡ e = omega (arith, size, size-2, ap length piece, h.0, g.0) in
     let more = same_cut e es ds xs ys h.1 (subst (λ n. Rising n ds (length ys)) at g.1)
-    (others ∙ ap (λ n. cut_from n ds ys) at) in
-    (
-        ap (λ n. n ∷ es) (sym at) ∙ ap (λ ns. d ∷ ns) more.0,
-        parts start e xs h.0
-        ∙ (ap (λ ps. ps ++ drop e xs) piece
-        ∙ (ap (λ ps. take (d - start) (drop start ys) ++ ps) (more.1 ∙ ap (λ n. drop n ys) (sym at))
-        ∙ sym (parts start d ys g.0))),
+    (others ∙ ap (λ n. cut_from n ds ys) at) in (
+      ap (λ n. n ∷ es) (sym at) ∙ ap (λ ns. d ∷ ns) more.0,
+      parts start e xs h.0
+          ∙ (ap (λ ps. ps ++ drop e xs) piece
+          ∙ (ap (λ ps. take (d - start) (drop start ys) ++ ps) (more.1 ∙ ap (λ n. drop n ys) (sym at))
+          ∙ sym (parts start d ys g.0))),
     )
 
 -- rings in one piece are determined by their list
