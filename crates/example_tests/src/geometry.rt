@@ -4,6 +4,7 @@ use lvl_columns::difference_by_columns;
 use lvl_grid::{Part, Point, Ring, Rings, Square};
 use lvl_path::bands;
 use lvl_region::{GridRegion, Side, difference};
+use lvl_simplify::simplified;
 use lvl_sweep::Sweep;
 use std::test::Fail;
 
@@ -40,6 +41,16 @@ fn bands_of_a_sweep(rt: HostRuntime) -> Result<(), Fail> {
     assert_eq!(rt; sweep.band().map(|band| (band.y0, band.y1)), Some((0, 2)));
     sweep.advance();
     assert!(rt; sweep.band().is_none());
+    Ok(())
+}
+
+#[test]
+fn rings_made_simpler(rt: HostRuntime) -> Result<(), Fail> {
+    let alloc = rt.alloc();
+    let mut rings = Rings::new(alloc);
+    rings.push_ring(&Ring::rectangle(alloc, Point { x: 0, y: 0 }, Point { x: 9, y: 2 })?)?;
+    rings.push_ring(&Ring::rectangle(alloc, Point { x: 0, y: 1 }, Point { x: 9, y: 5 })?)?;
+    assert_eq!(rt; simplified(alloc, rings)?.len(), 1);
     Ok(())
 }
 

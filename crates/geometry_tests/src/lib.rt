@@ -1,7 +1,7 @@
 //! Rings, maps, bands and differences worked by hand, and each allocation failing in turn.
 //!
-//! These tests of `lvl_grid`, `lvl_region`, `lvl_sweep` and `lvl_columns` are a crate of their own
-//! since a crate with tests is proved twice.
+//! These tests of `lvl_grid`, `lvl_region`, `lvl_sweep`, `lvl_simplify` and `lvl_columns` are a crate
+//! of their own since a crate with tests is proved twice.
 #![tactic(auto)]
 
 #[cfg(test)]
@@ -16,5 +16,7 @@ mod outlines;
 mod pairs;
 #[cfg(test)]
 mod rings;
+#[cfg(test)]
+mod simpler;
 #[cfg(test)]
 mod spirals;

@@ -13,7 +13,7 @@ fn push(points: &mut Vec<Point>, x: i64, y: i64) -> Result<(), AllocError> {
 }
 
 /// A ring that goes so many times round the origin, further out each time: it covers all within.
-fn winding(alloc: Global, many: i64) -> Result<Rings, Fail> {
+pub(crate) fn winding(alloc: Global, many: i64) -> Result<Rings, Fail> {
     let mut points = Vec::new(alloc);
     push(&mut points, many.wrapping_neg(), -1)?;
     for radius in 1..many {

@@ -8,9 +8,9 @@ ghost use Rattle.lvl_region.specs.Region.{IsAlone};
 ghost use Rattle.lvl_columns.specs.Columns.{NotBefore, last_row, EndsWith, GoesOn, IsComparedPart, IsFirst, work_left};
 
 use crate::halves::{cut_at, halves_at};
-use crate::redraw::simplified;
 use lvl_grid::{Part, Rings, Square};
 use lvl_region::Side;
+use lvl_simplify::simplified;
 use lvl_sweep::first_difference_up_to;
 use std::alloc::{AllocError, Global};
 

@@ -2,52 +2,8 @@
 //! No contract speaks of them.
 
 use lvl_grid::{Point, Rings};
+use lvl_simplify::Outline;
 use std::alloc::{AllocError, Global};
-
-/// What a sampled ring tells.
-#[derive(Clone, Copy, Debug)]
-pub struct Outline {
-    pub left: i64,
-    pub right: i64,
-    edges: u128,
-    heights: u128,
-    widths: u128,
-}
-
-impl Outline {
-    /// How many rectangles a column without a point of the ring is left with: half as many as a line
-    /// along y crosses edges, on average.
-    pub(crate) fn folds(&self) -> u128 {
-        let across = u128::from(self.right.abs_diff(self.left)).wrapping_mul(2);
-        self.widths.checked_div(across).unwrap_or(1).max(1)
-    }
-
-    pub(crate) fn of(ring: &[Point]) -> Outline {
-        let mut outline = Outline {
-            left: i64::MAX,
-            right: i64::MIN,
-            edges: 0,
-            heights: 0,
-            widths: 0,
-        };
-        let mut before = ring.last().copied().unwrap_or(Point { x: 0, y: 0 });
-        for point in ring {
-            outline.add(before, *point);
-            before = *point;
-        }
-        outline
-    }
-
-    /// Adds the edge from one point to another.
-    fn add(&mut self, from: Point, to: Point) {
-        self.left = self.left.min(to.x);
-        self.right = self.right.max(to.x);
-        let height = u128::from(to.y.abs_diff(from.y));
-        self.edges = self.edges.wrapping_add(u128::from(height > 0));
-        self.heights = self.heights.wrapping_add(height);
-        self.widths = self.widths.wrapping_add(u128::from(to.x.abs_diff(from.x)));
-    }
-}
 
 /// The vertical edges of sampled rings, cut to columns.
 #[derive(Clone, Copy, Debug)]

@@ -4,20 +4,17 @@
 //! A line through such a ring crosses edges by the thousand, and each goes through every column. A
 //! column without corners of the ring is joined at once, so what counts is how many have some.
 
-use crate::estimate::Outline;
 use lvl_grid::{Point, Rings};
+use lvl_simplify::Outline;
 use std::alloc::{AllocError, Global};
 
 /// How many points a ring has at least that is looked at.
 const MANY: usize = 1024;
 
-/// How often it is crossed at least.
-pub(crate) const FOLDS: u128 = 16;
-
 /// Appends the abscissas of a ring's points that lie between the least and the greatest.
 fn push_between(abscissas: &mut Vec<i64>, ring: &[Point]) -> Result<(), AllocError> {
     let outline = Outline::of(ring);
-    if outline.folds() < FOLDS {
+    if !outline.is_folded() {
         return Ok(());
     }
     for point in ring {

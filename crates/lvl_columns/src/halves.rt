@@ -7,8 +7,8 @@ ghost use Rattle.lvl_columns.specs.Columns.{AreHalvesAt};
 use crate::columns::Column;
 use crate::estimate::{Sample, Work};
 use crate::folded::folded_cut;
-use crate::redraw::simplified;
 use lvl_grid::Rings;
+use lvl_simplify::simplified;
 use std::alloc::{AllocError, Global};
 
 /// How many edges a column has where cutting ends, about.

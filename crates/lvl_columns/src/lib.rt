@@ -4,8 +4,7 @@
 //! as n to the power 1.5. [`difference_by_columns`] cuts the plane into columns first, clips the
 //! rings to them, and sweeps each column by itself. Where to cut and when to stop is a matter of cost
 //! alone: the answer is the same for every choice. Shapes as wide as a column would make work in all
-//! columns that they span, so their rows are joined first; and a ring that goes round and round is
-//! redrawn in each column with fewer edges at its border.
+//! columns that they span, so in each column the rings are made simpler first.
 //!
 //! ```
 //! let mut first = Rings::new(alloc);
@@ -23,7 +22,4 @@ mod columns;
 mod estimate;
 mod folded;
 mod halves;
-mod redraw;
-mod rows;
-mod spanning;
 mod window;

@@ -1,0 +1,101 @@
+//! Rings made simpler, and what their outlines are.
+
+use crate::outlines::rectangle;
+use crate::spirals::winding;
+use lvl_columns::difference_by_columns;
+use lvl_grid::{Part, Point, Rings, Window};
+use lvl_simplify::{Outline, simplified};
+use std::alloc::{AllocError, Global};
+use std::test::Fail;
+
+/// Rectangles from `x` 0 to 9 with these ordinates.
+fn rows(alloc: Global, ordinates: &[(i64, i64)]) -> Result<Rings, Fail> {
+    let mut rings = Rings::new(alloc);
+    for (low, high) in ordinates {
+        rings.push_ring(&rectangle(alloc, (0, 9), (*low, *high))?)?;
+    }
+    Ok(rings)
+}
+
+#[test]
+fn rows_that_overlap_or_touch(rt: HostRuntime) -> Result<(), Fail> {
+    let alloc = rt.alloc();
+    let table: [(&[(i64, i64)], &[(i64, i64)]); 5] = [
+        (&[], &[]),
+        (&[(0, 2), (1, 5)], &[(0, 5)]),
+        (&[(0, 2), (2, 5)], &[(0, 5)]),
+        (&[(1, 2), (0, 5)], &[(0, 5)]),
+        (&[(3, 5), (0, 2)], &[(0, 2), (3, 5)]),
+    ];
+    for (given, joined) in table {
+        let simpler = simplified(alloc, rows(alloc, given)?)?;
+        let wanted = rows(alloc, joined)?;
+        assert_eq!(rt; simpler.len(), wanted.len());
+        assert!(rt; difference_by_columns(alloc, &simpler, &wanted)?.is_none());
+    }
+    Ok(())
+}
+
+#[test]
+fn what_lies_within_a_row_is_dropped(rt: HostRuntime) -> Result<(), Fail> {
+    let alloc = rt.alloc();
+    let mut rings = rows(alloc, &[(0, 9)])?;
+    rings.push_ring(&rectangle(alloc, (2, 4), (2, 4))?)?;
+    rings.push_ring(&rectangle(alloc, (2, 4), (8, 12))?)?;
+    assert_eq!(rt; simplified(alloc, rings)?.len(), 2);
+    Ok(())
+}
+
+/// A ring that winds 600 times, in a column in which it has ten vertical edges: with these and eleven
+/// at the right border it covers the same, and four points for each edge are enough.
+#[test]
+fn a_ring_that_winds_in_a_column(rt: HostRuntime) -> Result<(), Fail> {
+    let alloc = rt.alloc();
+    let column = Part::Within(Window {
+        x0: 0,
+        y0: -600,
+        x1: 11,
+        y1: 600,
+    });
+    let clipped = Rings::clipped(alloc, &winding(alloc, 600)?, &column)?;
+    assert!(rt; clipped.points().len() > 1000);
+    let simpler = simplified(alloc, clipped)?;
+    assert!(rt; simpler.points().len() <= 84);
+    let clipped = Rings::clipped(alloc, &winding(alloc, 600)?, &column)?;
+    assert!(rt; difference_by_columns(alloc, &simpler, &clipped)?.is_none());
+    Ok(())
+}
+
+/// The points of a comb whose teeth are 10 units long.
+fn comb(alloc: Global, teeth: i64) -> Result<Vec<Point>, AllocError> {
+    let mut points = Vec::new(alloc);
+    for tooth in 0..teeth {
+        let low = tooth.wrapping_mul(2);
+        let high = low.wrapping_add(1);
+        points.push(Point { x: 0, y: low })?;
+        points.push(Point { x: 10, y: low })?;
+        points.push(Point { x: 10, y: high })?;
+        points.push(Point { x: 0, y: high })?;
+    }
+    Ok(points)
+}
+
+#[test]
+fn outlines_of_combs(rt: HostRuntime) -> Result<(), Fail> {
+    let alloc = rt.alloc();
+    for (teeth, edges, heights, widths, is_folded) in [
+        (1, 2, 2, 20, false),
+        (15, 30, 58, 300, false),
+        (16, 32, 62, 320, true),
+    ] {
+        let outline = Outline::of(&comb(alloc, teeth)?);
+        assert_eq!(rt; (outline.left, outline.right), (0, 10));
+        assert_eq!(rt;
+            (outline.edges, outline.heights, outline.widths),
+            (edges, heights, widths)
+        );
+        assert_eq!(rt; outline.folds(), u128::try_from(teeth).unwrap_or(0));
+        assert_eq!(rt; outline.is_folded(), is_folded);
+    }
+    Ok(())
+}

@@ -1,7 +1,0 @@
-use Rattle.std.proofs.Common.{All, take}
-use Rattle.lvl_columns.specs.Redraw.{NotLeftOf}
-use Rattle.lvl_columns.proofs.redraw.is_from.Given as goal
-
--- the points so far don't lie left of the abscissa
-abbrev pub invariant-loop-point : goal.invariant-loop-point
-invariant-loop-point l = All (NotLeftOf l.left) (take l.point-index l.ring)

@@ -1,7 +1,0 @@
-use Rattle.std.proofs.Common.{◌≡◌, map, take}
-use Rattle.lvl_grid.specs.Clip.{put}
-use Rattle.lvl_columns.proofs.spanning.is_inside.Given as goal
-
--- the points so far stay where they are
-abbrev pub invariant-loop-point : goal.invariant-loop-point
-invariant-loop-point l = map (put l.part) (take l.point-index l.ring) ≡ take l.point-index l.ring

@@ -1,0 +1,13 @@
+use Rattle.std.proofs.Common.{◌≡◌, ◌+ℤ◌, ◌≤ℤ◌, drop}
+use Rattle.lvl_grid.specs.declared.point.Square.{Square}
+use Rattle.lvl_grid.specs.Winding.{path_edges, winding}
+use Rattle.lvl_simplify.specs.Redraw.{edges_winding}
+use Rattle.lvl_simplify.proofs.Turns.{net}
+use Rattle.lvl_simplify.proofs.redraw.Edges.of.Given as goal
+
+-- the edges that are kept and those that are left wind as the ring does
+abbrev pub invariant-loop-point : goal.invariant-loop-point
+invariant-loop-point l =
+    (s : Square)
+    → l.left ≤ℤ s.x
+    → edges_winding s l.right l.edges +ℤ net s (path_edges l.previous (drop l.point-index l.ring)) ≡ winding l.ring s

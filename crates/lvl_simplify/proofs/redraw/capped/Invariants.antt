@@ -1,0 +1,11 @@
+use Rattle.std.proofs.Common.{◌≡◌, ◌≤ℤ◌, ℤ, take}
+use Rattle.lvl_simplify.specs.Rows.{turning}
+use Rattle.lvl_simplify.specs.Redraw.{ends_turning, within}
+use Rattle.lvl_simplify.proofs.redraw.capped.Given as goal
+
+-- how often the turns so far wind from the last one on, and the ends that are kept everywhere
+abbrev pub invariant-loop-turn : goal.invariant-loop-turn
+invariant-loop-turn l = record {
+  above : (y : ℤ) → l.low ≤ℤ y → turning y (take l.turn-index l.turns) ≡ l.windings;
+  kept : (y : ℤ) → ends_turning y l.ends ≡ within l.least l.most (turning y (take l.turn-index l.turns));
+}

@@ -1,0 +1,13 @@
+use Rattle.std.proofs.Common.{◌≡◌, ◌+ℤ◌, ◌-ℤ◌, pos, take}
+use Rattle.lvl_grid.specs.declared.point.Square.{Square}
+use Rattle.lvl_simplify.specs.Redraw.{if_right, count_to, winding_by}
+use Rattle.lvl_simplify.proofs.redraw.paired.Given as goal
+
+-- the edges so far are those that were there, and those from so many beginnings to as many ends
+abbrev pub invariant-loop-i : goal.invariant-loop-i
+invariant-loop-i l =
+    (s : Square)
+    → winding_by s l.uprights.items
+    ≡ winding_by s l.fn.uprights.items
+    +ℤ if_right s l.right
+    (pos (count_to s.y (take l.i l.ends.begins.items)) -ℤ pos (count_to s.y (take l.i l.ends.ends.items)))

@@ -1,0 +1,8 @@
+use Rattle.lvl_simplify.proofs.Joining.{all_again}
+use Rattle.lvl_simplify.proofs.spanning.joined.Goals as goal
+
+pub returns : goal.returns
+returns c = λ s.
+    all_again (c.in_ok-windows.ensures s) (c.in_ok-windows-2.ensures s)
+    (rw c.deref.ensures.value at (c.in_ok-joined.ensures s))
+    (rw c.deref-2.ensures.value at (c.in_ok-push_windows.ensures s))

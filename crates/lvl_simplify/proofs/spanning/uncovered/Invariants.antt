@@ -1,0 +1,12 @@
+use Rattle.std.proofs.Common.{◌↔◌, ◌⊎◌, take}
+use Rattle.lvl_grid.specs.declared.point.Square.{Square}
+use Rattle.lvl_grid.specs.Winding.{SomeCovers}
+use Rattle.lvl_simplify.specs.Spanning.{IsWithinSome}
+use Rattle.lvl_simplify.proofs.spanning.uncovered.Given as goal
+
+-- the rings so far are kept, or they lie within a window
+abbrev pub invariant-loop-i : goal.invariant-loop-i
+invariant-loop-i l =
+    (s : Square)
+    → (SomeCovers l.rest s ⊎ IsWithinSome l.windows s)
+    ↔ (SomeCovers (take l.i l.rings) s ⊎ IsWithinSome l.windows s)

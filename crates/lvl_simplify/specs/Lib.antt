@@ -1,0 +1,3 @@
+pub mod Spanning
+pub mod Rows
+pub mod Redraw

@@ -1,0 +1,60 @@
+//! How far a ring reaches, and how long its edges are in all. No contract speaks of it.
+
+use lvl_grid::Point;
+
+/// How far a ring reaches along x, and how long its edges are in all, in grid steps.
+#[derive(Clone, Copy, Debug)]
+pub struct Outline {
+    /// The least abscissa.
+    pub left: i64,
+    /// The greatest abscissa.
+    pub right: i64,
+    /// How many vertical edges there are.
+    pub edges: u128,
+    /// The lengths of the vertical edges together.
+    pub heights: u128,
+    /// The lengths of the horizontal edges together.
+    pub widths: u128,
+}
+
+impl Outline {
+    /// The outline of a ring.
+    pub fn of(ring: &[Point]) -> Outline {
+        let mut outline = Outline {
+            left: i64::MAX,
+            right: i64::MIN,
+            edges: 0,
+            heights: 0,
+            widths: 0,
+        };
+        let mut before = ring.last().copied().unwrap_or(Point { x: 0, y: 0 });
+        for point in ring {
+            outline.add(before, *point);
+            before = *point;
+        }
+        outline
+    }
+
+    /// Adds the edge from one point to another.
+    fn add(&mut self, from: Point, to: Point) {
+        self.left = self.left.min(to.x);
+        self.right = self.right.max(to.x);
+        let height = u128::from(to.y.abs_diff(from.y));
+        self.edges = self.edges.wrapping_add(u128::from(height > 0));
+        self.heights = self.heights.wrapping_add(height);
+        self.widths = self.widths.wrapping_add(u128::from(to.x.abs_diff(from.x)));
+    }
+
+    /// How many rectangles a column without a point of the ring is left with: half as many as a line
+    /// along y crosses edges, on average; at least 1.
+    pub fn folds(&self) -> u128 {
+        let across = u128::from(self.right.abs_diff(self.left)).wrapping_mul(2);
+        self.widths.checked_div(across).unwrap_or(1).max(1)
+    }
+
+    /// Whether the ring goes in and out many times: a column without a point of it is left with 16
+    /// rectangles or more.
+    pub fn is_folded(&self) -> bool {
+        self.folds() >= 16
+    }
+}

@@ -1,0 +1,259 @@
+//! Rings that span a column, joined where their rows overlap or touch.
+//!
+//! Such a ring is the same as its rows, so a few joined ones cover what thousands of nested ones do,
+//! and what lies within them needs no sweep.
+ghost use Rattle.std.specs.Prelude.{◌↔◌, ◌⊎◌, ◌∷◌, [], IsTrue, IfSome, IfOk, OnOk};
+ghost use Rattle.lvl_grid.specs.declared.point.Square.{Square as GridSquare};
+ghost use Rattle.lvl_grid.specs.Clip.{IsWithin};
+ghost use Rattle.lvl_grid.specs.Winding.{Covers, SomeCovers, IsRing};
+ghost use Rattle.lvl_simplify.specs.Spanning.{IsWithinSome};
+
+use crate::rows::rows;
+use lvl_grid::{Part, Point, Rings, Window};
+use std::alloc::{AllocError, Global};
+
+/// The window whose squares the ring of four points covers, if that is a rectangle whose first edge
+/// is vertical.
+fn window_of_four(a: Point, b: Point, c: Point, d: Point) -> Option<Window>
+    ensures { IfSome result (λ window. (s : GridSquare) → Covers (a ∷ b ∷ c ∷ d ∷ []) s ↔ IsWithin window s) }
+{
+    if a.x != b.x || b.y != c.y || c.x != d.x || d.y != a.y {
+        return None;
+    }
+    Some(Window {
+        x0: a.x.min(c.x),
+        y0: a.y.min(c.y),
+        x1: a.x.max(c.x),
+        y1: a.y.max(c.y),
+    })
+}
+
+/// The window whose squares a ring covers, if it is a rectangle.
+fn window_of(ring: &[Point]) -> Option<Window>
+    ensures { IfSome result (λ window. (s : GridSquare) → Covers ring.now s ↔ IsWithin window s) }
+{
+    let [a, b, c, d] = ring else {
+        return None;
+    };
+    if a.x == b.x {
+        return window_of_four(*a, *b, *c, *d);
+    }
+    window_of_four(*b, *c, *d, *a)
+}
+
+/// The least and the greatest abscissa of the rings.
+pub(crate) fn extent(rings: &Rings) -> (i64, i64) {
+    let mut left = i64::MAX;
+    let mut right = i64::MIN;
+    for point in rings.points() {
+        left = left.min(point.x);
+        right = right.max(point.x);
+    }
+    (left, right)
+}
+
+/// The window of a ring that is a rectangle from one abscissa to another.
+fn spanned(ring: &[Point], left: i64, right: i64) -> Option<Window>
+    ensures { IfSome result (λ window. (s : GridSquare) → Covers ring.now s ↔ IsWithin window s) }
+{
+    let [a, _, c, _] = ring else {
+        return None;
+    };
+    if a.x.min(c.x) != left || a.x.max(c.x) != right {
+        return None;
+    }
+    window_of(ring)
+}
+
+/// Appends the rows of a ring that spans from one abscissa to another to the windows, or the ring to
+/// the rest.
+fn part(
+    alloc: Global,
+    windows: &mut Vec<Window>,
+    rest: &mut Rings,
+    ring: &[Point],
+    borders: (i64, i64),
+) -> Result<(), AllocError>
+    requires { IsRing ring.now }
+    ensures { OnOk result ((s : GridSquare)
+        → (SomeCovers rest.new s ⊎ IsWithinSome windows.new.items s)
+        ↔ ((SomeCovers rest.old s ⊎ IsWithinSome windows.old.items s) ⊎ Covers ring.now s)) }
+{
+    let (left, right) = borders;
+    if let Some(window) = spanned(ring, left, right) {
+        windows.push(window)?;
+        return Ok(());
+    }
+    if let Some(rows) = rows(alloc, ring, left, right)? {
+        windows.extend_from_slice(&rows)?;
+        return Ok(());
+    }
+    rest.push(ring)
+}
+
+/// The rows of the rings whose points all lie at the borders of all rings together, and the rest of
+/// the rings.
+fn parted(alloc: Global, rings: &Rings) -> Result<(Vec<Window>, Rings), AllocError>
+    ensures { IfOk result (λ parts. (s : GridSquare)
+        → (SomeCovers parts.1 s ⊎ IsWithinSome parts.0.items s) ↔ SomeCovers rings.now s) }
+{
+    let borders = extent(rings);
+    let mut windows = Vec::new(alloc);
+    let mut rest = Rings::with_capacity(alloc, rings.points().len(), rings.len())?;
+    for i in 0..rings.len() {
+        part(alloc, &mut windows, &mut rest, rings.ring(i), borders)?;
+    }
+    Ok((windows, rest))
+}
+
+/// The window that has the squares of both, if they have the same abscissas and the second begins
+/// within the first or where it ends.
+fn both(first: Window, second: Window) -> Option<Window>
+    ensures { IfSome result
+        (λ window. (s : GridSquare) → IsWithin window s ↔ (IsWithin first s ⊎ IsWithin second s)) }
+{
+    if second.x0 != first.x0 || second.x1 != first.x1 {
+        return None;
+    }
+    if second.y0 < first.y0 || first.y1 < second.y0 {
+        return None;
+    }
+    Some(Window {
+        y1: first.y1.max(second.y1),
+        ..first
+    })
+}
+
+/// Joins a window with the last one, or appends it.
+fn push_joined(windows: &mut Vec<Window>, next: Window) -> Result<(), AllocError>
+    ensures { OnOk result ((s : GridSquare)
+        → IsWithinSome windows.new.items s ↔ (IsWithinSome windows.old.items s ⊎ IsWithin next s)) }
+{
+    let Some(last) = windows.pop() else {
+        windows.push(next)?;
+        return Ok(());
+    };
+    if let Some(window) = both(last, next) {
+        windows.push(window)?;
+        return Ok(());
+    }
+    windows.push(last)?;
+    windows.push(next)?;
+    Ok(())
+}
+
+/// The windows from below, joined where they overlap or touch.
+fn joined_windows(alloc: Global, mut windows: Vec<Window>) -> Result<Vec<Window>, AllocError>
+    ensures { IfOk result (λ joined. (s : GridSquare) → IsWithinSome joined.items s ↔ IsWithinSome windows.items s) }
+{
+    windows.sort_unstable_by_key(|window| window.y0);
+    let mut joined = Vec::new(alloc);
+    for window in &windows {
+        push_joined(&mut joined, *window)?;
+    }
+    Ok(joined)
+}
+
+/// Appends the rectangle of a window, if it has squares.
+fn push_window(rings: &mut Rings, window: Window) -> Result<(), AllocError>
+    ensures { OnOk result ((s : GridSquare)
+        → SomeCovers rings.new s ↔ (SomeCovers rings.old s ⊎ IsWithin window s)) }
+{
+    let Window { x0, y0, x1, y1 } = window;
+    if x1 <= x0 || y1 <= y0 {
+        return Ok(());
+    }
+    rings.push(&[
+        Point { x: x0, y: y0 },
+        Point { x: x0, y: y1 },
+        Point { x: x1, y: y1 },
+        Point { x: x1, y: y0 },
+    ])
+}
+
+/// Appends the rectangles of windows.
+fn push_windows(rings: &mut Rings, windows: &[Window]) -> Result<(), AllocError>
+    ensures { OnOk result ((s : GridSquare)
+        → SomeCovers rings.new s ↔ (SomeCovers rings.old s ⊎ IsWithinSome windows.now s)) }
+{
+    for window in windows {
+        push_window(rings, *window)?;
+    }
+    Ok(())
+}
+
+/// Whether a ring lies within a window.
+fn is_inside(ring: &[Point], window: Window) -> bool
+    ensures { IsTrue result → (s : GridSquare) → Covers ring.now s → IsWithin window s }
+{
+    let part = Part::Within(window);
+    for point in ring {
+        if part.put(*point) != *point {
+            return false;
+        }
+    }
+    true
+}
+
+/// Whether a ring lies within one of the windows, which are apart and in order from below.
+fn is_covered(ring: &[Point], windows: &[Window]) -> bool
+    ensures { IsTrue result → (s : GridSquare) → Covers ring.now s → IsWithinSome windows.now s }
+{
+    let Some(point) = ring.first() else {
+        return false;
+    };
+    let after = windows.partition_point(|window| window.y0 <= point.y);
+    match windows.get(after.wrapping_sub(1)) {
+        Some(window) => is_inside(ring, *window),
+        None => false,
+    }
+}
+
+/// The rings that lie within none of the windows, with room for a rectangle of each window.
+fn uncovered(alloc: Global, rings: &Rings, windows: &[Window]) -> Result<Rings, AllocError>
+    ensures { IfOk result (λ rest. (s : GridSquare)
+        → (SomeCovers rest s ⊎ IsWithinSome windows.now s)
+        ↔ (SomeCovers rings.now s ⊎ IsWithinSome windows.now s)) }
+{
+    let corners = windows.len().saturating_mul(4);
+    let points = rings.points().len().saturating_add(corners);
+    let many = rings.len().saturating_add(windows.len());
+    let mut rest = Rings::with_capacity(alloc, points, many)?;
+    for i in 0..rings.len() {
+        let ring = rings.ring(i);
+        if !is_covered(ring, windows) {
+            rest.push(ring)?;
+        }
+    }
+    Ok(rest)
+}
+
+/// How many rings of a list are looked at before it is gone through.
+const LOOKED_AT: usize = 64;
+
+/// Some rings of a list, from all over it.
+fn some_of(alloc: Global, rings: &Rings) -> Result<Rings, AllocError> {
+    let step = rings.len() / LOOKED_AT + 1;
+    let mut some = Rings::new(alloc);
+    for i in 0..LOOKED_AT {
+        if let Some(ring) = rings.get(i.wrapping_mul(step)) {
+            some.push(ring)?;
+        }
+    }
+    Ok(some)
+}
+
+/// Rings that cover the same squares, with few among them that span all abscissas.
+pub(crate) fn joined(alloc: Global, rings: Rings) -> Result<Rings, AllocError>
+    ensures { IfOk result (λ joined. (s : GridSquare) → SomeCovers joined s ↔ SomeCovers rings s) }
+{
+    if parted(alloc, &some_of(alloc, &rings)?)?.0.is_empty() {
+        return Ok(rings);
+    }
+    let (windows, rest) = parted(alloc, &rings)?;
+    drop(rings);
+    let windows = joined_windows(alloc, windows)?;
+    let mut joined = uncovered(alloc, &rest, &windows)?;
+    push_windows(&mut joined, &windows)?;
+    Ok(joined)
+}
