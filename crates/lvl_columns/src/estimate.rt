@@ -116,7 +116,7 @@ impl Layers {
 #[derive(Debug, Drop)]
 pub struct Sample {
     outlines: Vec<Outline>,
-    abscissas: Vec<i64>,
+    points: Vec<Point>,
     ordinates: Vec<i64>,
     rings: u128,
 }
@@ -130,6 +130,8 @@ pub struct Work {
     pub passes: u128,
     /// How many pieces of rectangles are joined before.
     pub joined: u128,
+    /// How many edges are clipped, summed up over the cuts that halve a column, one after another.
+    pub clipped: u128,
 }
 
 impl Work {
@@ -138,15 +140,17 @@ impl Work {
             edges: self.edges.wrapping_add(other.edges),
             passes: self.passes.wrapping_add(other.passes),
             joined: self.joined.wrapping_add(other.joined),
+            clipped: self.clipped.wrapping_add(other.clipped),
         }
     }
 
-    /// Clipping, joining, sorting and sweeping together, in passes over an edge: what an edge and a
-    /// joined piece cost beside the sweep is measured.
+    /// Clipping, joining, sorting and sweeping together, in passes over an edge: what an edge, a joined
+    /// piece and an edge that is clipped cost beside the sweep is measured.
     pub(crate) fn cost(&self) -> u128 {
         self.passes
             .wrapping_add(self.edges.wrapping_mul(2))
             .wrapping_add(self.joined.wrapping_mul(4))
+            .wrapping_add(self.clipped / 2)
     }
 }
 
@@ -177,11 +181,14 @@ fn made_below(seed: u64, most: usize) -> usize {
     usize::try_from((seed >> 20).checked_rem(most).unwrap_or(0)).unwrap_or(0)
 }
 
+/// Fewer points than these say nothing on how they lie.
+const FEW: u128 = 16;
+
 impl Sample {
     pub(crate) fn of(alloc: Global, rings: &Rings) -> Result<Sample, AllocError> {
         let mut sample = Sample {
             outlines: Vec::new(alloc),
-            abscissas: Vec::new(alloc),
+            points: Vec::new(alloc),
             ordinates: Vec::new(alloc),
             rings: rings.len() as u128,
         };
@@ -193,7 +200,7 @@ impl Sample {
         } else {
             sample.push_some(rings, many)?;
         }
-        sample.abscissas.sort_unstable();
+        sample.points.sort_unstable_by_key(|point| point.x);
         sample.ordinates.sort_unstable();
         Ok(sample)
     }
@@ -210,19 +217,19 @@ impl Sample {
         Ok(())
     }
 
-    /// Takes a ring, with the abscissa and the ordinate of one of its points: two of one ring would
-    /// often lie on one line.
+    /// Takes a ring, with one of its points: two of one ring would often lie on one line.
     fn push(&mut self, ring: &[Point], seed: u64) -> Result<(), AllocError> {
         self.outlines.push(Outline::of(ring))?;
         if let Some(point) = ring.get(made_below(next_made(seed), ring.len())) {
-            self.abscissas.push(point.x)?;
+            self.points.push(*point)?;
             self.ordinates.push(point.y)?;
         }
         Ok(())
     }
 
-    pub(crate) fn abscissas(&self) -> &[i64] {
-        &self.abscissas
+    /// One point of each sampled ring, from the left.
+    pub(crate) fn points(&self) -> &[Point] {
+        &self.points
     }
 
     /// At how many ordinates points lie, judged by how often two that are sampled lie at one.
@@ -245,6 +252,30 @@ impl Sample {
             (Some(low), Some(high)) => u128::from(high.abs_diff(*low)),
             _ => 0,
         }
+    }
+
+    /// How far apart along `y` neighbours along `x` are on average, in 256ths of a third of the height:
+    /// about 256 where shapes are scattered, and less where they lie along a slope.
+    fn scattering(&self) -> u128 {
+        let mut apart: u128 = 0;
+        let mut before: Option<Point> = None;
+        for point in &self.points {
+            if let Some(last) = before {
+                apart = apart.wrapping_add(u128::from(point.y.abs_diff(last.y)));
+            }
+            before = Some(*point);
+        }
+        let many = self.points.len() as u128;
+        if many < FEW {
+            return 256;
+        }
+        over(apart.wrapping_mul(768), many.wrapping_mul(self.height())).min(256)
+    }
+
+    /// How high the part of a column is in which there are shapes, on average, in so many columns.
+    fn room(&self, columns: u128) -> u128 {
+        let part = self.scattering().max(over(256, columns));
+        (self.height().wrapping_mul(part) / 256).max(1)
     }
 
     /// The least and the greatest abscissa of the sampled rings.
@@ -277,13 +308,16 @@ impl Sample {
             spanning,
             ..
         } = load;
-        let stops = over(edges, columns).min(height).min(self.lines());
-        let passes = stops.wrapping_mul(heights).checked_div(height).unwrap_or(0);
-        let alive = heights.checked_div(height).unwrap_or(0) / columns.max(1);
+        let room = self.room(columns);
+        let lines = over(self.lines().min(height).wrapping_mul(room), height);
+        let stops = over(edges, columns).min(room).min(lines).min(height);
+        let passes = over(stops.wrapping_mul(heights), room);
+        let alive = over(heights, room.wrapping_mul(columns));
         Work {
             edges,
             passes: weighed(passes, alive),
             joined: spanning,
+            clipped: edges.wrapping_mul(u128::from(columns.ilog2())),
         }
     }
 }

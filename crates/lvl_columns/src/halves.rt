@@ -7,18 +7,27 @@ ghost use Rattle.lvl_columns.specs.Columns.{AreHalvesAt};
 use crate::columns::Column;
 use crate::estimate::{Sample, Work};
 use crate::folded::folded_cut;
-use lvl_grid::Rings;
+use lvl_grid::{Point, Rings};
 use lvl_simplify::simplified;
 use std::alloc::{AllocError, Global};
 
 /// How many edges a column has where cutting ends, about.
 const COLUMN_EDGES: u128 = 500;
 
+/// Appends the abscissas of points.
+fn push_abscissas(abscissas: &mut Vec<i64>, points: &[Point]) -> Result<(), AllocError> {
+    for point in points {
+        abscissas.push(point.x)?;
+    }
+    Ok(())
+}
+
 /// The abscissas strictly between the least and the greatest of all, which rise, or the middle where
 /// there are none: what spans a list from side to side is joined once the list is cut anywhere.
-fn inner(alloc: Global, first: &[i64], second: &[i64]) -> Result<Vec<i64>, AllocError> {
-    let mut all = Vec::from_slice(alloc, first)?;
-    all.extend_from_slice(second)?;
+fn inner(alloc: Global, first: &[Point], second: &[Point]) -> Result<Vec<i64>, AllocError> {
+    let mut all = Vec::with_capacity(alloc, first.len().saturating_add(second.len()))?;
+    push_abscissas(&mut all, first)?;
+    push_abscissas(&mut all, second)?;
     all.sort_unstable();
     let (Some(left), Some(right)) = (all.first().copied(), all.last().copied()) else {
         return Ok(all);
@@ -62,7 +71,7 @@ pub(crate) fn cut_at(
     if whole.passes < whole.edges.wrapping_mul(4) {
         return Ok(None);
     }
-    let abscissas = inner(alloc, first.abscissas(), second.abscissas())?;
+    let abscissas = inner(alloc, first.points(), second.points())?;
     if !is_worth_while(alloc, &first, &second, whole, &abscissas)? {
         return Ok(None);
     }

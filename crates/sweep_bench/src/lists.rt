@@ -16,6 +16,7 @@ pub enum Kind {
     Combs,
     /// Stairs of 10 steps anywhere in the field, each one polygon, against their rectangles.
     Stairs,
+    Slopes,
     /// 50,000 by 100, anywhere in the field.
     Bars,
     /// Squares round one middle, in no order.
@@ -166,6 +167,7 @@ impl Pair {
         match kind {
             Kind::Combs => polygons(alloc, count, 2000, seed),
             Kind::Stairs => polygons(alloc, count, 10, seed),
+            Kind::Slopes => slopes(alloc, count),
             Kind::Same | Kind::Moved => in_order(alloc, kind, count, seed),
             _ => divided(alloc, kind, count, seed),
         }
@@ -280,14 +282,60 @@ fn push_polygon(
     Ok(())
 }
 
+/// How many polygons there are whose sides are slopes.
+const SLOPES: i64 = 100;
+
+/// Polygons with a long side that goes up 9 units and down 8 by turns, each 20 units above the one
+/// before, against themselves, the last first: `count` edges along `y` in all.
+fn slopes(alloc: Global, count: i64) -> Result<Pair, AllocError> {
+    let mut first = Rings::new(alloc);
+    let mut second = Rings::new(alloc);
+    for number in 0..SLOPES {
+        push_slope(alloc, &mut first, count / (2 * SLOPES), number)?;
+        let back = SLOPES.wrapping_sub(1).wrapping_sub(number);
+        push_slope(alloc, &mut second, count / (2 * SLOPES), back)?;
+    }
+    Ok(Pair {
+        first,
+        second,
+        differs: false,
+    })
+}
+
+fn push_slope(alloc: Global, rings: &mut Rings, steps: i64, number: i64) -> Result<(), AllocError> {
+    let low = number.wrapping_mul(20);
+    let mut points = vec![in alloc; Point { x: 0, y: low }]?;
+    for step in 0..steps {
+        let x = step.wrapping_mul(2);
+        let y = low.wrapping_add(step);
+        for (x, y) in [
+            (x, y.wrapping_add(9)),
+            (x.wrapping_add(1), y.wrapping_add(9)),
+            (x.wrapping_add(1), y.wrapping_add(1)),
+            (x.wrapping_add(2), y.wrapping_add(1)),
+        ] {
+            points.push(Point { x, y })?;
+        }
+    }
+    points.push(Point {
+        x: steps.wrapping_mul(2),
+        y: low,
+    })?;
+    if let Ok(ring) = Ring::new(points) {
+        rings.push_ring(&ring)?;
+    }
+    Ok(())
+}
+
 impl Kind {
     /// Each of them once.
-    pub const ALL: [Kind; 12] = [
+    pub const ALL: [Kind; 13] = [
         Kind::Random,
         Kind::Tiles,
         Kind::Vias,
         Kind::Combs,
         Kind::Stairs,
+        Kind::Slopes,
         Kind::Bars,
         Kind::Nested,
         Kind::AlongX,
@@ -305,6 +353,7 @@ impl Kind {
             "vias" => Some(Kind::Vias),
             "combs" => Some(Kind::Combs),
             "stairs" => Some(Kind::Stairs),
+            "slopes" => Some(Kind::Slopes),
             "bars" => Some(Kind::Bars),
             "nested" => Some(Kind::Nested),
             "along-x" => Some(Kind::AlongX),
