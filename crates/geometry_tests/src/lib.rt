@@ -9,6 +9,8 @@ mod bands;
 #[cfg(test)]
 mod columns;
 #[cfg(test)]
+mod far;
+#[cfg(test)]
 mod maps;
 #[cfg(test)]
 mod outlines;

@@ -103,6 +103,11 @@ found_alone whole l (Some at) t h = t at.0 at.1 h
 agree_as : (whole : Lists) (s : Square) (l : Lists) → CoversAs whole s l → Agree l s → Agree whole s
 agree_as whole s l t a = (λ p. t.1.0 (a.0 (t.0.1 p)), λ q. t.0.0 (a.1 (t.1.1 q)))
 
+true_as : (whole l : Lists) → ((s : Square) → CoversAs whole s l) → (s : Square) (side : Side) → Differ l s side
+    → Differ whole s side
+true_as whole l same s First a = ((same s).0.0 a.0, λ b. a.1 ((same s).1.1 b))
+true_as whole l same s Second a = ((same s).1.0 a.0, λ b. a.1 ((same s).0.1 b))
+
 -- a column that was compared is done
 pub open_by_one : (whole : Lists) (xs : List Lists) (c : Lists) (best found result : Found) → IsFoundUpTo c best found
     → ((result ≡ best) ⊎ (result ≡ found))
@@ -216,3 +221,18 @@ pub first_least : (f g : List (List Point)) (found : Found) → IsFirst (f, g) f
     → IfSome found (λ at. (s : Square) → IsBefore s at.0 → SomeCovers f s ↔ SomeCovers g s)
 first_least f g None h = tt
 first_least f g (Some at) h = λ s b. elim (h.least s) [ inl a ↦ a | inr n ↦ absurd (n b) ]
+
+-- a sweep that goes up to no row finds the least square
+pub first_of_sweep : (f g : List (List Point)) (found : Found) → IsFoundUpTo (f, g) None found → IsFirst (f, g) found
+first_of_sweep f g found h = record {
+  alone = h.alone;
+  least = λ s. elim (h.least s) [ inl a ↦ inl a | inr n ↦ elim n [ inl none ↦ absurd none | inr m ↦ inr m ] ];
+}
+
+-- lists that cover the same squares have the same least difference
+pub first_as : (whole l : Lists) (found : Found) → ((s : Square) → CoversAs whole s l) → IsFirst l found
+    → IsFirst whole found
+first_as whole l found same h = record {
+  alone = found_alone whole l found (true_as whole l same) h.alone;
+  least = λ s. elim (h.least s) [ inl a ↦ inl (agree_as whole s l (same s) a) | inr n ↦ inr n ];
+}

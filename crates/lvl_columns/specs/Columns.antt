@@ -1,6 +1,6 @@
 -- The columns that are still to be compared, and what they leave open. These serve the proof alone.
-use Rattle.std.specs.Prelude.{ℕ, ◌+◌, ◌*◌, ℤ, ◌<ℤ◌, ◌≤ℤ◌, List, [], ◌∷◌, ◌++◌, map, Any, All, Option, Some, None, ◌⊎◌}
-use Rattle.std.specs.Prelude.{◌↔◌, vec_len}
+use Rattle.std.specs.Prelude.{◌≡◌, ℕ, ◌+◌, ◌-◌, ◌≤◌, ℤ, ◌<ℤ◌, ◌≤ℤ◌, List, [], ◌∷◌, ◌++◌, map, Any, All, Option, Some}
+use Rattle.std.specs.Prelude.{None, ◌⊎◌, ◌↔◌, vec_len}
 use Rattle.lvl_grid.specs.declared.point.Point.{Point}
 use Rattle.lvl_grid.specs.declared.point.Square.{Square}
 use Rattle.lvl_grid.specs.Winding.{SomeCovers}
@@ -88,9 +88,13 @@ pub record AreHalvesAt (at : ℤ) (first second : List (List Point)) (left right
   pub right_first : (s : Square) → SomeCovers right.first s ↔ ((at ≤ℤ s.x) × SomeCovers first s)
   pub right_second : (s : Square) → SomeCovers right.second s ↔ ((at ≤ℤ s.x) × SomeCovers second s)
 
--- how often columns may still be cut, doubled, and how many there are
+-- how many columns may still be made, and how many there are
 abbrev pub work_left : Progress → ℕ
-work_left p = 2 * p.cuts + vec_len p.pending
+work_left p = (p.most - p.columns) + vec_len p.pending
+
+-- no more columns were made than may be, and the limit is the same
+abbrev pub KeepsLimit : Progress → Progress → Type 0
+KeepsLimit old new = (new.most ≡ old.most) × (new.columns ≤ new.most)
 
 -- the row of what is found: no less square is above it
 abbrev pub last_row : Found → Option ℤ

@@ -1,37 +1,51 @@
 //! The loop over the columns that are still to be compared.
-ghost use Rattle.std.specs.Prelude.{◌≡◌, ◌+◌, ◌<◌, ◌≤◌, ◌⊎◌, ◌↔◌, ◌++◌, ◌∷◌, [], ℤ, Option, IfOk, IfNone, IfSome, OnOk};
+ghost use Rattle.std.specs.Prelude.{◌≡◌, ◌+◌, ◌*◌, ◌<◌, ◌≤◌, ◌⊎◌, ◌↔◌, ◌++◌, ◌∷◌, [], ℤ, Option, IfOk, IfNone};
+ghost use Rattle.std.specs.Prelude.{IfSome, IsTrue, OnOk, length};
 ghost use Rattle.lvl_grid.specs.Clip.{IsIn};
 ghost use Rattle.lvl_grid.specs.declared.point.Square.{Square as GridSquare};
 ghost use Rattle.lvl_grid.specs.Winding.{SomeCovers};
 ghost use Rattle.lvl_grid.specs.Squares.{IsBefore};
 ghost use Rattle.lvl_region.specs.Region.{IsAlone};
 ghost use Rattle.lvl_columns.specs.Columns.{NotBefore, last_row, EndsWith, GoesOn, IsComparedPart, IsFirst, work_left};
+ghost use Rattle.lvl_columns.specs.Columns.{KeepsLimit};
+ghost use Rattle.lvl_columns.specs.Corners.{corners_of};
 
-use crate::halves::{cut_at, halves_at};
+use crate::cut::{cut_at, is_narrow};
+use crate::halves::halves_at;
 use lvl_grid::{Part, Rings, Square};
 use lvl_region::Side;
 use lvl_simplify::simplified;
 use lvl_sweep::first_difference_up_to;
 use std::alloc::{AllocError, Global};
 
-/// What is left of two lists of rings in a column of the grid.
+/// What is left of two lists of rings in a column of the grid, and how many cuts made it, one within the
+/// other.
 #[derive(Debug, Drop)]
 pub struct Column {
     pub first: Rings,
     pub second: Rings,
+    pub depth: u32,
 }
 
 /// How far a comparison has come: the columns still to be compared, the least difference in the
-/// others, and how many cuts may still be made.
+/// others, how many columns were made, and how many may be.
 #[derive(Debug, Drop)]
 pub struct Progress {
     pub pending: Vec<Column>,
     pub best: Option<(Square, Side)>,
-    pub cuts: u64,
+    pub columns: u64,
+    pub most: u64,
 }
 
-/// More cuts than any machine can make: it bounds the loop, and never the comparison.
-const CUTS: u64 = 1 << 48;
+/// What a comparison column by column found, and how much it was cut.
+#[derive(Clone, Copy, Debug)]
+pub struct Comparison {
+    /// The least square, by y and then x, that the rings of one list alone cover, with its side, or
+    /// None where both lists cover the same squares.
+    pub found: Option<(Square, Side)>,
+    /// How many columns were made: two at each cut.
+    pub columns: u64,
+}
 
 /// The lesser of two squares with their sides.
 fn lesser(best: Option<(Square, Side)>, found: Option<(Square, Side)>) -> Option<(Square, Side)>
@@ -69,7 +83,7 @@ impl Progress {
     /// Compares a column as it is.
     fn sweep(&mut self, alloc: Global, first: &Rings, second: &Rings) -> Result<(), AllocError>
         ensures told { OnOk result (GoesOn first.now second.now self.old self.new) }
-        ensures work { OnOk result (work_left self.new ≤ work_left self.old) }
+        ensures limit { OnOk result ((self.new.columns ≡ self.old.columns) × (self.new.most ≡ self.old.most)) }
         ensures pending { OnOk result (self.new.pending.items ≡ self.old.pending.items) }
     {
         let found = first_difference_up_to(alloc, first, second, row_of(self.best))?;
@@ -77,29 +91,38 @@ impl Progress {
         Ok(())
     }
 
+    /// Whether a column may still be cut in two.
+    fn may_cut(&self) -> bool
+        ensures { IsTrue result → self.now.columns + 2 ≤ self.now.most }
+    {
+        self.columns < self.most && self.most - self.columns >= 2
+    }
+
     /// Puts both halves in the column's place, the left one to be compared first.
     fn cut(&mut self, left: Column, right: Column) -> Result<(), AllocError>
-        requires { 0 < self.old.cuts }
+        requires { self.old.columns + 2 ≤ self.old.most }
         ensures pending { OnOk result (self.new.pending.items ≡ (self.old.pending.items ++ right ∷ []) ++ left ∷ []) }
         ensures best { OnOk result (self.new.best ≡ self.old.best) }
-        ensures cuts { OnOk result (self.new.cuts + 1 ≡ self.old.cuts) }
+        ensures columns { OnOk result (self.new.columns ≡ self.old.columns + 2) }
+        ensures most { OnOk result (self.new.most ≡ self.old.most) }
     {
         self.pending.push(right)?;
         self.pending.push(left)?;
-        self.cuts -= 1;
+        self.columns += 2;
         Ok(())
     }
 
     /// Compares a column, or cuts it in two.
     fn step(&mut self, alloc: Global, column: Column) -> Result<(), AllocError>
         ensures told { OnOk result (GoesOn column.first column.second self.old self.new) }
+        ensures limit { OnOk result (self.old.columns ≤ self.old.most → KeepsLimit self.old self.new) }
         ensures work { OnOk result (work_left self.new ≤ work_left self.old) }
     {
         if column.first.is_same(&column.second) {
             return Ok(());
         }
-        if self.cuts > 0 {
-            if let Some(at) = cut_at(alloc, &column.first, &column.second)? {
+        if self.may_cut() {
+            if let Some(at) = cut_at(alloc, &column.first, &column.second, column.depth)? {
                 let (left, right) = halves_at(alloc, column, at)?;
                 self.cut(left, right)?;
                 return Ok(());
@@ -110,7 +133,9 @@ impl Progress {
 
     /// Compares the columns that are pending, the last one first.
     fn finish(&mut self, alloc: Global) -> Result<(), AllocError>
+        requires { self.old.columns ≤ self.old.most }
         ensures told { OnOk result (EndsWith self.old self.new) }
+        ensures limit { OnOk result (KeepsLimit self.old self.new) }
         ensures done { OnOk result (self.new.pending.items ≡ []) }
     {
         while let Some(column) = self.pending.pop() {
@@ -127,46 +152,133 @@ impl Progress {
         second: &Rings,
         part: &Part,
     ) -> Result<(), AllocError>
-        requires { self.old.pending.items ≡ [] }
+        requires none { self.old.pending.items ≡ [] }
+        requires limit { self.old.columns ≤ self.old.most }
         ensures told { OnOk result (IsComparedPart (IsIn part.now) (first.now, second.now) self.old self.new) }
+        ensures limit { OnOk result (KeepsLimit self.old self.new) }
         ensures done { OnOk result (self.new.pending.items ≡ []) }
     {
         let column = Column {
             first: clipped(alloc, first, part)?,
             second: clipped(alloc, second, part)?,
+            depth: 1,
         };
         self.pending.push(column)?;
         self.finish(alloc)
     }
 }
 
-/// The least difference of two lists, in two parts where a cut is worth while.
-fn least_difference(
+/// A copy of a list.
+fn copied(alloc: Global, rings: &Rings) -> Result<Rings, AllocError>
+    ensures { IfOk result (λ copy. copy ≡ rings.now) }
+{
+    let mut copy = Rings::with_capacity(alloc, rings.points().len(), rings.len())?;
+    for i in 0..rings.len() {
+        copy.push(rings.ring(i))?;
+    }
+    Ok(copy)
+}
+
+/// The least difference of two lists by one sweep of each.
+fn swept(alloc: Global, first: &Rings, second: &Rings) -> Result<Option<(Square, Side)>, AllocError>
+    ensures { IfOk result (IsFirst (first.now, second.now)) }
+{
+    let found = first_difference_up_to(alloc, first, second, None)?;
+    Ok(found)
+}
+
+/// The least difference of two lists that are not cut. Where all corners lie at two abscissas, copies
+/// of both are made simpler first, since each of their rings is joined with others.
+fn uncut(alloc: Global, first: &Rings, second: &Rings) -> Result<Option<(Square, Side)>, AllocError>
+    ensures { IfOk result (IsFirst (first.now, second.now)) }
+{
+    if !is_narrow(first, second) {
+        return swept(alloc, first, second);
+    }
+    let ours = simplified(alloc, copied(alloc, first)?)?;
+    let theirs = simplified(alloc, copied(alloc, second)?)?;
+    swept(alloc, &ours, &theirs)
+}
+
+/// The least difference of two lists, that of the part left of an abscissa before that of the other.
+fn in_parts(
     alloc: Global,
     first: &Rings,
     second: &Rings,
-) -> Result<Option<(Square, Side)>, AllocError>
-    ensures { IfOk result (IsFirst (first.now, second.now)) }
+    at: i64,
+    most: u64,
+) -> Result<Comparison, AllocError>
+    requires { 2 ≤ most }
+    ensures found { IfOk result (λ it. IsFirst (first.now, second.now) it.found) }
+    ensures columns { IfOk result (λ it. it.columns ≤ most) }
 {
     let mut progress = Progress {
         pending: Vec::new(alloc),
         best: None,
-        cuts: CUTS,
-    };
-    let Some(at) = cut_at(alloc, first, second)? else {
-        progress.sweep(alloc, first, second)?;
-        return Ok(progress.best);
+        columns: 2,
+        most,
     };
     progress.part(alloc, first, second, &Part::Left(at))?;
     progress.part(alloc, first, second, &Part::Right(at))?;
-    Ok(progress.best)
+    Ok(Comparison {
+        found: progress.best,
+        columns: progress.columns,
+    })
 }
 
-/// The least square, by y and then x, that the rings of one list alone cover, with its side, or
-/// None where both lists cover the same squares. Fails only when out of memory.
+/// How many columns may be made of two lists: two for each corner, at each of which is cut once at most.
+fn most_columns(first: &Rings, second: &Rings) -> u64
+    ensures { result ≤ 2 * length (corners_of first.now second.now) }
+{
+    let corners = (first.points().len() as u64).saturating_add(second.points().len() as u64);
+    corners.saturating_mul(2)
+}
+
+/// The least difference of two lists, in columns where a cut is worth while.
+fn least_difference(alloc: Global, first: &Rings, second: &Rings) -> Result<Comparison, AllocError>
+    ensures found { IfOk result (λ it. IsFirst (first.now, second.now) it.found) }
+    ensures columns { IfOk result (λ it. it.columns ≤ 2 * length (corners_of first.now second.now)) }
+{
+    let most = most_columns(first, second);
+    if most >= 2 {
+        if let Some(at) = cut_at(alloc, first, second, 0)? {
+            return in_parts(alloc, first, second, at, most);
+        }
+    }
+    let found = uncut(alloc, first, second)?;
+    Ok(Comparison { found, columns: 0 })
+}
+
+/// The least square, by y and then x, that the rings of one list alone cover, with its side, or None
+/// where both lists cover the same squares; and how many columns were made to find it, at most two for
+/// each corner of both lists. Fails only when out of memory.
 ///
 /// The right half is made when the left one is done, so beside the lists there are copies of about
 /// three quarters of them at most.
+pub fn compare_by_columns(
+    alloc: Global,
+    first: &Rings,
+    second: &Rings,
+) -> Result<Comparison, AllocError>
+    ensures same { IfOk result
+        (λ it. IfNone it.found ((s : GridSquare) → SomeCovers first.now s ↔ SomeCovers second.now s)) }
+    ensures differ { IfOk result
+        (λ it. IfSome it.found (λ at. IsAlone (SomeCovers first.now) (SomeCovers second.now) at.0 at.1)) }
+    ensures least { IfOk result
+        (λ it. IfSome it.found
+        (λ at. (s : GridSquare) → IsBefore s at.0 → SomeCovers first.now s ↔ SomeCovers second.now s)) }
+    ensures columns { IfOk result (λ it. it.columns ≤ 2 * length (corners_of first.now second.now)) }
+{
+    if first.is_same(second) {
+        return Ok(Comparison {
+            found: None,
+            columns: 0,
+        });
+    }
+    least_difference(alloc, first, second)
+}
+
+/// What [`compare_by_columns`] finds.
 pub fn difference_by_columns(
     alloc: Global,
     first: &Rings,
@@ -180,8 +292,5 @@ pub fn difference_by_columns(
         (λ found. IfSome found
         (λ at. (s : GridSquare) → IsBefore s at.0 → SomeCovers first.now s ↔ SomeCovers second.now s)) }
 {
-    if first.is_same(second) {
-        return Ok(None);
-    }
-    least_difference(alloc, first, second)
+    Ok(compare_by_columns(alloc, first, second)?.found)
 }

@@ -11,26 +11,31 @@ use std::alloc::{AllocError, Global};
 /// How many points a ring has at least that is looked at.
 const MANY: usize = 1024;
 
-/// Appends the abscissas of a ring's points that lie between the least and the greatest.
-fn push_between(abscissas: &mut Vec<i64>, ring: &[Point]) -> Result<(), AllocError> {
-    let outline = Outline::of(ring);
-    if !outline.is_folded() {
-        return Ok(());
-    }
-    for point in ring {
-        if outline.left < point.x && point.x < outline.right {
+/// Appends the abscissas of points that lie strictly between two.
+pub(crate) fn push_between(
+    abscissas: &mut Vec<i64>,
+    points: &[Point],
+    left: i64,
+    right: i64,
+) -> Result<(), AllocError> {
+    for point in points {
+        if left < point.x && point.x < right {
             abscissas.push(point.x)?;
         }
     }
     Ok(())
 }
 
-/// Appends those of all large rings.
+/// Appends those of all large folded rings that lie between the borders of their ring.
 fn push_folded(abscissas: &mut Vec<i64>, rings: &Rings) -> Result<(), AllocError> {
     for i in 0..rings.len() {
         let ring = rings.ring(i);
-        if ring.len() >= MANY {
-            push_between(abscissas, ring)?;
+        if ring.len() < MANY {
+            continue;
+        }
+        let outline = Outline::of(ring);
+        if outline.is_folded() {
+            push_between(abscissas, ring, outline.left, outline.right)?;
         }
     }
     Ok(())
@@ -48,8 +53,8 @@ pub(crate) fn folded_cut(
     push_folded(&mut abscissas, first)?;
     push_folded(&mut abscissas, second)?;
     let corners = abscissas.len() as u128;
-    let points = (first.points().len() as u128).wrapping_add(second.points().len() as u128);
-    if corners.wrapping_mul(corners) <= points.wrapping_mul(4) {
+    let points = (first.points().len() as u128).saturating_add(second.points().len() as u128);
+    if corners.saturating_mul(corners) <= points.saturating_mul(4) {
         return Ok(None);
     }
     abscissas.sort_unstable();

@@ -15,11 +15,15 @@
 //! ```
 #![tactic(auto)]
 
-pub use columns::difference_by_columns;
+pub use columns::{Comparison, compare_by_columns, difference_by_columns};
 pub use window::{difference_in, first_difference_in};
 
 mod columns;
+mod cut;
 mod estimate;
 mod folded;
 mod halves;
+mod passes;
+mod sample;
+mod slices;
 mod window;

@@ -97,7 +97,8 @@ fn is_alike(
 
 /// Whether both tops cover the same squares on every Layer, so far as that can be seen cell by cell. The
 /// tops are compared, and any other cell with the cell of its name: own shapes with own shapes, and
-/// references place by place. `false` says nothing of what they cover.
+/// references place by place. `false` says nothing of what they cover. A cell whose partner is not
+/// placed is not compared, since nothing bounds how much such a cell draws.
 pub fn same_by_cells(alloc: Global, first: &Checked, second: &Checked) -> Result<bool, AllocError>
     ensures { IfOk result (λ same. IsTrue same
         → AreAlike first.now.cells first.now.top second.now.cells second.now.top) }
@@ -106,6 +107,7 @@ pub fn same_by_cells(alloc: Global, first: &Checked, second: &Checked) -> Result
         return Ok(false);
     };
     let times = times_placed(alloc, first)?;
+    let their_times = times_placed(alloc, second)?;
     let themselves = own_indexes(alloc, second.cells().len())?;
     let mut known = vec![in alloc; None; first.cells().len()]?;
     for i in (0..first.order().len()).rev() {
@@ -116,6 +118,9 @@ pub fn same_by_cells(alloc: Global, first: &Checked, second: &Checked) -> Result
         let Some(partner) = partner_of(first, cell, second, &index) else {
             return Ok(false);
         };
+        if their_times[partner] == 0 {
+            return Ok(false);
+        }
         if !is_alike(alloc, first, cell, &known, second, partner, &themselves)? {
             return Ok(false);
         }

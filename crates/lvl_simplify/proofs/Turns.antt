@@ -169,7 +169,7 @@ above_step y high before after windings change counted more le so_far next =
     omega (arith, ints, rw all at more, so_far, next)
 
 -- a ring whose points lie at two abscissas covers squares between them alone
-only_between : (left right : ℤ) (ring : List Point) (s : Square) → left <ℤ right → All (IsAtBorder left right) ring
+only_between : (left right : ℤ) (ring : List Point) (s : Square) → left ≤ℤ right → All (IsAtBorder left right) ring
     → Covers ring s → IsBetween left right s
 only_between left right ring s wide at covered =
     by_lt_z s.x left
@@ -187,7 +187,7 @@ only_between left right ring s wide at covered =
 
 -- it covers what its rows have
 pub covers_rows : (left right : ℤ) (ring : List Point) (s : Square) (turns sorted : List Turn) (rows : List Window)
-    → left <ℤ right → All (IsAtBorder left right) ring
+    → left ≤ℤ right → All (IsAtBorder left right) ring
     → (IsBetween left right s → winding ring s ≡ turning s.y turns) → IsPermutation turns sorted
     → (IsWithinSome rows s ↔ (IsBetween left right s × (turning s.y sorted ≢ pos 0)))
     → Covers ring s ↔ IsWithinSome rows s

@@ -15,6 +15,7 @@
 
 pub use outline::Outline;
 pub use simplify::simplified;
+pub use spanning::extent;
 
 mod outline;
 mod redraw;

@@ -9,6 +9,10 @@ pub struct Outline {
     pub left: i64,
     /// The greatest abscissa.
     pub right: i64,
+    /// The least ordinate.
+    pub low: i64,
+    /// The greatest ordinate.
+    pub high: i64,
     /// How many vertical edges there are.
     pub edges: u128,
     /// The lengths of the vertical edges together.
@@ -23,6 +27,8 @@ impl Outline {
         let mut outline = Outline {
             left: i64::MAX,
             right: i64::MIN,
+            low: i64::MAX,
+            high: i64::MIN,
             edges: 0,
             heights: 0,
             widths: 0,
@@ -35,20 +41,25 @@ impl Outline {
         outline
     }
 
-    /// Adds the edge from one point to another.
+    /// Adds the edge from one point to another. A length is below 2^64 and a list has fewer than 2^60
+    /// points, so no sum of lengths reaches 2^124.
     fn add(&mut self, from: Point, to: Point) {
         self.left = self.left.min(to.x);
         self.right = self.right.max(to.x);
+        self.low = self.low.min(to.y);
+        self.high = self.high.max(to.y);
         let height = u128::from(to.y.abs_diff(from.y));
-        self.edges = self.edges.wrapping_add(u128::from(height > 0));
-        self.heights = self.heights.wrapping_add(height);
-        self.widths = self.widths.wrapping_add(u128::from(to.x.abs_diff(from.x)));
+        self.edges = self.edges.saturating_add(u128::from(height > 0));
+        self.heights = self.heights.saturating_add(height);
+        self.widths = self
+            .widths
+            .saturating_add(u128::from(to.x.abs_diff(from.x)));
     }
 
     /// How many rectangles a column without a point of the ring is left with: half as many as a line
     /// along y crosses edges, on average; at least 1.
     pub fn folds(&self) -> u128 {
-        let across = u128::from(self.right.abs_diff(self.left)).wrapping_mul(2);
+        let across = u128::from(self.right.abs_diff(self.left)).saturating_mul(2);
         self.widths.checked_div(across).unwrap_or(1).max(1)
     }
 

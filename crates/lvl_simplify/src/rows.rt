@@ -119,7 +119,8 @@ fn rows_between(
     Ok(Some(windows))
 }
 
-/// The rows that a ring covers, if all of its points lie at two abscissas.
+/// The rows that a ring covers, if all of its points lie at two abscissas; none of them has squares where
+/// both are the same.
 pub(crate) fn rows(
     alloc: Global,
     ring: &[Point],
@@ -129,7 +130,7 @@ pub(crate) fn rows(
     ensures { IfOk result (λ rows. IfSome rows (λ windows. (s : GridSquare)
         → Covers ring.now s ↔ IsWithinSome windows.items s)) }
 {
-    if ring.is_empty() || right <= left || !is_at_borders(ring, left, right) {
+    if ring.is_empty() || right < left || !is_at_borders(ring, left, right) {
         return Ok(None);
     }
     let mut turns = turns_of(alloc, ring, left, right)?;

@@ -41,8 +41,9 @@ fn window_of(ring: &[Point]) -> Option<Window>
     window_of_four(*b, *c, *d, *a)
 }
 
-/// The least and the greatest abscissa of the rings.
-pub(crate) fn extent(rings: &Rings) -> (i64, i64) {
+/// The least and the greatest abscissa of the rings; the greatest and the least number where they have
+/// no points.
+pub fn extent(rings: &Rings) -> (i64, i64) {
     let mut left = i64::MAX;
     let mut right = i64::MIN;
     for point in rings.points() {
@@ -203,7 +204,10 @@ fn is_covered(ring: &[Point], windows: &[Window]) -> bool
         return false;
     };
     let after = windows.partition_point(|window| window.y0 <= point.y);
-    match windows.get(after.wrapping_sub(1)) {
+    let Some(last) = after.checked_sub(1) else {
+        return false;
+    };
+    match windows.get(last) {
         Some(window) => is_inside(ring, *window),
         None => false,
     }
@@ -236,7 +240,7 @@ fn some_of(alloc: Global, rings: &Rings) -> Result<Rings, AllocError> {
     let step = rings.len() / LOOKED_AT + 1;
     let mut some = Rings::new(alloc);
     for i in 0..LOOKED_AT {
-        if let Some(ring) = rings.get(i.wrapping_mul(step)) {
+        if let Some(ring) = rings.get(i.saturating_mul(step)) {
             some.push(ring)?;
         }
     }
@@ -247,7 +251,8 @@ fn some_of(alloc: Global, rings: &Rings) -> Result<Rings, AllocError> {
 pub(crate) fn joined(alloc: Global, rings: Rings) -> Result<Rings, AllocError>
     ensures { IfOk result (λ joined. (s : GridSquare) → SomeCovers joined s ↔ SomeCovers rings s) }
 {
-    if parted(alloc, &some_of(alloc, &rings)?)?.0.is_empty() {
+    let some = some_of(alloc, &rings)?;
+    if parted(alloc, &some)?.1.len() == some.len() {
         return Ok(rings);
     }
     let (windows, rest) = parted(alloc, &rings)?;

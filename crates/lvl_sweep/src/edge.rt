@@ -90,7 +90,7 @@ fn how_many_of(points: &[Point]) -> usize {
     let mut y = points.last().map_or(0, |last| last.y);
     for point in points {
         if point.y != y {
-            many = many.wrapping_add(1);
+            many = many.saturating_add(1);
         }
         y = point.y;
     }
@@ -101,7 +101,7 @@ fn how_many_of(points: &[Point]) -> usize {
 fn how_many<R: RingList>(rings: &R) -> usize {
     let mut many: usize = 0;
     for number in 0..rings.len() {
-        many = many.wrapping_add(how_many_of(rings.ring(number)));
+        many = many.saturating_add(how_many_of(rings.ring(number)));
     }
     many
 }

@@ -1,4 +1,4 @@
-use Rattle.std.proofs.Common.{◌<ℤ◌, All, arith, rules, w64}
+use Rattle.std.proofs.Common.{◌≤ℤ◌, All, arith, rules, w64}
 use Rattle.std.proofs.lemmas.Int.{ints, to_z-of_z}
 use Rattle.std.proofs.lemmas.Option.{IfSome_then}
 use Rattle.std.proofs.lemmas.Result.{IfOk-weaker}
@@ -8,7 +8,7 @@ use Rattle.lvl_simplify.proofs.rows.rows.Goals as goal
 
 pub returns : goal.returns
 returns c =
-    let wide : c.args.left <ℤ c.args.right = grind (arith, ints) in
+    let wide : c.args.left ≤ℤ c.args.right = grind (arith, ints) in
     let l = to_z-of_z w64 c.args.left c.ranges.left in
     let r = to_z-of_z w64 c.args.right c.ranges.right in
     let at : All (IsAtBorder c.args.left c.args.right) c.args.ring.now =

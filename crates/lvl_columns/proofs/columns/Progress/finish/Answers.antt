@@ -6,13 +6,17 @@ use Rattle.lvl_columns.proofs.Halving.{one_more}
 use Rattle.lvl_columns.proofs.columns.Progress.finish.Goals as goal
 
 pub loop-column-preserved : goal.loop-column-preserved
-loop-column-preserved c = λ whole others told.
-    let column : Column = c.in-Some.column in
-    let rest : List Column = c.pop.new.self.items in
-    c.in_ok-step.ensures.told whole others
-    (subst (λ (ls : List Lists). IsOpen whole ls c.loop-column.self.best)
-    (ap (λ (cs : List Column). others ++ map lists_of cs) c.in-Some.ensures.items ∙ one_more others rest column)
-    (c.loop-column.invariant whole others told))
+loop-column-preserved c = record {
+  told = λ whole others told.
+      let column : Column = c.in-Some.column in
+      let rest : List Column = c.pop.new.self.items in
+      c.in_ok-step.ensures.told whole others
+      (subst (λ (ls : List Lists). IsOpen whole ls c.loop-column.self.best)
+      (ap (λ (cs : List Column). others ++ map lists_of cs) c.in-Some.ensures.items ∙ one_more others rest column)
+      (c.loop-column.invariant.told whole others told));
+  limit = let kept = c.in_ok-step.ensures.limit c.loop-column.invariant.limit.1 in
+      (kept.0 ∙ c.loop-column.invariant.limit.0, kept.1);
+}
 
 pub returns-clause-told : goal.returns-clause-told
 returns-clause-told c = λ whole others told.
@@ -20,5 +24,5 @@ returns-clause-told c = λ whole others told.
     nil_from_length c.loop-column.self.pending.items
     (omega (arith, c.in_default.ensures.cases, c.loop-column.self.pending.ok.0)) in
     subst (λ (ls : List Lists). IsOpen whole ls c.loop-column.self.best)
-    (ap (λ (cs : List Column). others ++ map lists_of cs) none ∙ append-nil others) (c.loop-column.invariant whole
+    (ap (λ (cs : List Column). others ++ map lists_of cs) none ∙ append-nil others) (c.loop-column.invariant.told whole
     others told)

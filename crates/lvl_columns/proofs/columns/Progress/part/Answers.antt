@@ -7,8 +7,8 @@ use Rattle.lvl_columns.proofs.columns.Progress.part.Goals as goal
 -- src/columns.rt:112:5
 pub returns-clause-told : goal.returns-clause-told
 returns-clause-told c =
-    let column : Column = record { first = c.in_ok-clipped.field-0; second = c.in_ok-clipped-2.field-0 } in
-    let pushed : c.push.new.self.items ≡ column ∷ [] = rw c.requires at c.in_ok-push.ensures.items in
+    let column : Column = record { first = c.in_ok-clipped.field-0; second = c.in_ok-clipped-2.field-0; depth = 1 } in
+    let pushed : c.push.new.self.items ≡ column ∷ [] = rw c.requires.none at c.in_ok-push.ensures.items in
     on_ok_weaker c.finish.result
     (λ h. record {
       column = lists_of column;

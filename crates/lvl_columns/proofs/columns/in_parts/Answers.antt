@@ -1,17 +1,10 @@
 use Rattle.std.proofs.Common.{◌∷◌, [], None}
 use Rattle.lvl_columns.specs.Columns.{Lists, IsOpen}
 use Rattle.lvl_columns.proofs.Halving.{open_at_first, open_by_parts, first_at_last}
-use Rattle.lvl_columns.proofs.columns.least_difference.Goals as goal
+use Rattle.lvl_columns.proofs.columns.in_parts.Goals as goal
 
-pub returns-in_default : goal.returns-in_default
-returns-in_default c =
-    let whole : Lists = (c.args.first.now, c.args.second.now) in
-    let start : IsOpen whole (whole ∷ []) None = open_at_first c.args.first.now c.args.second.now in
-    let done = c.in_ok-sweep.ensures.told whole [] (rw c.new.ensures.items start) in
-    first_at_last whole _ (rw (c.in_ok-sweep.ensures.pending, c.new.ensures.items) at done)
-
-pub returns : goal.returns
-returns c =
+pub returns-clause-found : goal.returns-clause-found
+returns-clause-found c =
     let whole : Lists = (c.args.first.now, c.args.second.now) in
     let start : IsOpen whole (whole ∷ []) None = open_at_first c.args.first.now c.args.second.now in
     let left = c.in_ok-part.ensures.told in

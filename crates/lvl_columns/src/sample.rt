@@ -1,0 +1,185 @@
+//! Some rings of a list, taken at random: what the work of a sweep is estimated from. No contract speaks
+//! of them.
+
+use lvl_grid::{Point, Rings};
+use lvl_simplify::Outline;
+use std::alloc::{AllocError, Global};
+
+/// A Lehmer generator of pseudo-random numbers with a fixed seed, so that a comparison takes the same
+/// steps each time.
+#[derive(Debug, Drop)]
+struct Random(u64);
+
+impl Random {
+    /// A number below `most`, or 0. A state is below 2^31, so the product is below 2^47.
+    fn below(&mut self, most: usize) -> usize {
+        self.0 = self.0.saturating_mul(48_271) % 0x7FFF_FFFF;
+        (self.0 as usize).checked_rem(most).unwrap_or(0)
+    }
+}
+
+/// Some rings of a list, taken at random; all of them where there are few.
+#[derive(Debug, Drop)]
+pub struct Sample {
+    outlines: Vec<Outline>,
+    points: Vec<Point>,
+    ordinates: Vec<i64>,
+    rings: u128,
+    unit: u128,
+}
+
+/// The quotient, or the greatest number where the divisor is 0.
+pub(crate) fn over(a: u128, b: u128) -> u128 {
+    a.checked_div(b).unwrap_or(u128::MAX)
+}
+
+/// How many rings are taken at least, where there are as many.
+const LEAST: usize = 256;
+
+/// How many rings are taken at most.
+const MOST: usize = 4096;
+
+/// Of how many points of a ring one is taken: two that are close to each other often lie on one line.
+const APART: usize = 16;
+
+/// Fewer points than these say nothing on how they lie.
+const FEW: u128 = 16;
+
+impl Sample {
+    pub(crate) fn of(alloc: Global, rings: &Rings) -> Result<Sample, AllocError> {
+        let mut sample = Sample {
+            outlines: Vec::new(alloc),
+            points: Vec::new(alloc),
+            ordinates: Vec::new(alloc),
+            rings: rings.len() as u128,
+            unit: 1,
+        };
+        let mut random = Random(12_345);
+        let taken = (rings.len() / 64).clamp(LEAST, MOST);
+        let points = LEAST.checked_div(rings.len()).unwrap_or(1).max(1);
+        for i in 0..taken.min(rings.len()) {
+            let number = if rings.len() <= taken {
+                i
+            } else {
+                random.below(rings.len())
+            };
+            if let Some(ring) = rings.get(number) {
+                sample.push(ring, points, &mut random)?;
+            }
+        }
+        sample.points.sort_unstable_by_key(|point| point.x);
+        sample.ordinates.sort_unstable();
+        sample.unit = over(sample.steps(), 1 << 32).saturating_add(1);
+        Ok(sample)
+    }
+
+    /// Takes a ring, with at most that many of its points.
+    fn push(&mut self, ring: &[Point], most: usize, random: &mut Random) -> Result<(), AllocError> {
+        self.outlines.push(Outline::of(ring))?;
+        for _ in 0..(ring.len() / APART).min(most).max(1) {
+            if let Some(point) = ring.get(random.below(ring.len())) {
+                self.points.push(*point)?;
+                self.ordinates.push(point.y)?;
+            }
+        }
+        Ok(())
+    }
+
+    /// The outlines of the sampled rings.
+    pub(crate) fn outlines(&self) -> &[Outline] {
+        &self.outlines
+    }
+
+    /// Sampled points, from the left.
+    pub(crate) fn points(&self) -> &[Point] {
+        &self.points
+    }
+
+    /// How many rings the list has.
+    pub(crate) fn rings(&self) -> u128 {
+        self.rings
+    }
+
+    /// From the least to the greatest ordinate of the sampled rings, in grid steps.
+    fn steps(&self) -> u128 {
+        let mut low = i64::MAX;
+        let mut high = i64::MIN;
+        for outline in &self.outlines {
+            low = low.min(outline.low);
+            high = high.max(outline.high);
+        }
+        if high < low {
+            return 0;
+        }
+        u128::from(high.abs_diff(low))
+    }
+
+    /// A height in units of which the sampled rings together are at most 2^32 high: products of heights
+    /// and numbers of edges then fit 128 bits.
+    pub(crate) fn scaled(&self, steps: u128) -> u128 {
+        if self.unit == 1 {
+            return steps;
+        }
+        over(steps, self.unit)
+    }
+
+    /// The height of the sampled rings together, in units.
+    pub(crate) fn height(&self) -> u128 {
+        self.scaled(self.steps())
+    }
+
+    /// At how many ordinates points lie, judged by how often two that are sampled lie at one.
+    pub(crate) fn lines(&self) -> u128 {
+        let many = self.ordinates.len() as u128;
+        let mut meetings: u128 = 0;
+        let mut before = None;
+        for y in &self.ordinates {
+            if before == Some(*y) {
+                meetings = meetings.saturating_add(1);
+            }
+            before = Some(*y);
+        }
+        over(many.saturating_mul(many), meetings.saturating_mul(2))
+    }
+
+    /// How far apart along `y` neighbours along `x` are on average, in 256ths of a third of the height:
+    /// about 256 where shapes are scattered, and less where they lie along a slope.
+    fn scattering(&self) -> u128 {
+        let mut apart: u128 = 0;
+        let mut before: Option<Point> = None;
+        for point in &self.points {
+            if let Some(last) = before {
+                apart = apart.saturating_add(u128::from(point.y.abs_diff(last.y)));
+            }
+            before = Some(*point);
+        }
+        let many = self.points.len() as u128;
+        if many < FEW {
+            return 256;
+        }
+        let apart = self.scaled(apart);
+        over(
+            apart.saturating_mul(768),
+            many.saturating_mul(self.height()),
+        )
+        .min(256)
+    }
+
+    /// How high the part of a column is in which there are shapes, on average, in that many columns, in
+    /// units.
+    pub(crate) fn room(&self, columns: u128) -> u128 {
+        let part = self.scattering().max(over(256, columns));
+        (self.height().saturating_mul(part) / 256).max(1)
+    }
+
+    /// The least and the greatest abscissa of the sampled rings.
+    pub(crate) fn borders(&self) -> (i64, i64) {
+        let mut left = i64::MAX;
+        let mut right = i64::MIN;
+        for outline in &self.outlines {
+            left = left.min(outline.left);
+            right = right.max(outline.right);
+        }
+        (left, right)
+    }
+}

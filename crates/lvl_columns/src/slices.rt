@@ -1,0 +1,103 @@
+//! The height of a list of rings cut into slices, by which passes of a sweep are bounded without sorting.
+
+use lvl_grid::{Point, Rings};
+use std::alloc::{AllocError, Global};
+
+/// The binary logarithm of the number of slices, at most.
+const BITS: u32 = 18;
+
+/// How many edges begin in a slice, and how many end there.
+#[derive(Clone, Copy, Debug)]
+struct Slice {
+    begun: usize,
+    ended: usize,
+}
+
+/// Slices of the height of a list, from the lowest on, about as many as it has edges.
+#[derive(Debug, Drop)]
+pub struct Slices {
+    slices: Vec<Slice>,
+    low: i64,
+    /// The height of each slice is two to the power of this.
+    shift: u32,
+    edges: u128,
+}
+
+/// The least and the greatest ordinate of points.
+fn extent_along_y(points: &[Point]) -> (i64, i64) {
+    let mut low = i64::MAX;
+    let mut high = i64::MIN;
+    for point in points {
+        low = low.min(point.y);
+        high = high.max(point.y);
+    }
+    (low, high)
+}
+
+impl Slices {
+    pub(crate) fn of(alloc: Global, rings: &Rings) -> Result<Slices, AllocError> {
+        let (low, high) = extent_along_y(rings.points());
+        let height = high.abs_diff(low);
+        let bits = rings.points().len().checked_ilog2().unwrap_or(0).min(BITS);
+        let shift = height.checked_ilog2().unwrap_or(0).saturating_sub(bits);
+        let last = height.checked_shr(shift).unwrap_or(0) as usize;
+        let none = Slice { begun: 0, ended: 0 };
+        let mut slices = Slices {
+            slices: vec![in alloc; none; last.saturating_add(1)]?,
+            low,
+            shift,
+            edges: 0,
+        };
+        for i in 0..rings.len() {
+            slices.add(rings.ring(i));
+        }
+        Ok(slices)
+    }
+
+    /// The slice of an ordinate.
+    fn at(&self, y: i64) -> usize {
+        y.abs_diff(self.low).checked_shr(self.shift).unwrap_or(0) as usize
+    }
+
+    /// Adds the vertical edges of a ring.
+    fn add(&mut self, ring: &[Point]) {
+        let mut y = ring.last().map_or(0, |last| last.y);
+        for point in ring {
+            if point.y != y {
+                self.add_edge(point.y.min(y), point.y.max(y));
+            }
+            y = point.y;
+        }
+    }
+
+    fn add_edge(&mut self, low: i64, high: i64) {
+        let (first, last) = (self.at(low), self.at(high));
+        if let Some(slice) = self.slices.get_mut(first) {
+            slice.begun = slice.begun.saturating_add(1);
+        }
+        if let Some(slice) = self.slices.get_mut(last) {
+            slice.ended = slice.ended.saturating_add(1);
+        }
+        self.edges = self.edges.saturating_add(1);
+    }
+
+    /// How many vertical edges there are.
+    pub(crate) fn edges(&self) -> u128 {
+        self.edges
+    }
+
+    /// The passes of a sweep if all edges of each slice were alive at all of its ordinates: at least as
+    /// many as there are, and close to it where slices have few edges.
+    pub(crate) fn passes(&self) -> u128 {
+        let rows = 1u128.checked_shl(self.shift).unwrap_or(u128::MAX);
+        let mut alive: usize = 0;
+        let mut passes: u128 = 0;
+        for slice in &self.slices {
+            alive = alive.saturating_add(slice.begun);
+            let ends = slice.begun.saturating_add(slice.ended) as u128;
+            passes = passes.saturating_add(ends.min(rows).saturating_mul(alive as u128));
+            alive = alive.saturating_sub(slice.ended);
+        }
+        passes
+    }
+}
