@@ -1,0 +1,128 @@
+-- What a job did, from what its steps did.
+use Rattle.std.proofs.Common.{◌≡◌, ℕ, List, Option, Some, None, Result, Ok, Err, IfOk, IfErr, refl, sym, subst}
+use Rattle.std.proofs.Common.{option_map}
+use Rattle.std.specs.Io.KnownBytes.{Keeps}
+use Rattle.std.specs.Global.{Global}
+use Rattle.std.specs.Prelude.{String, string_bytes}
+use Rattle.lvl_line.specs.declared.job.Job.TheVariants.{Compare, Show}
+use Rattle.lvl_report.specs.declared.status.Status.{Status}
+use Rattle.lvl_report.specs.declared.status.RunFault.{RunFault}
+use Rattle.lvl_report.specs.declared.status.RunFault.TheVariants.{Output as RunOutput, OutOfMemory as RunOutOfMemory}
+use Rattle.lvl_report.specs.Runs.{Input, input, IsBegun, IsShownBy, IsWritten}
+use Rattle.lvl_report.specs.Texts.{text_of, text_of_shown}
+use Rattle.lvl_report.specs.Writing.{is_output}
+use Rattle.lvl_view.specs.Views.{PlainView}
+use Rattle.lvl_job.specs.declared.fault.JobFault.{JobFault}
+use Rattle.lvl_job.specs.declared.fault.JobFault.TheVariants.{BadView, NotOpened, OutOfMemory, Output}
+use Rattle.lvl_job.specs.Ends.{is_cut}
+use Rattle.lvl_job.specs.Jobs.{IsAnswered, IsComparedUnder, IsFaultOfJob, IsViewAsked, Named, named, OfOne, OfTwo}
+use Rattle.lvl_job.specs.inside.Parts.{IsOneFault, IsPairAnswered, IsPairFault, IsViewFault, fault_of_run}
+use Rattle.lvl_job.proofs.Saying.{keeps_same}
+
+-- a run with this fault
+abbrev pub failed_run : RunFault → Result Status RunFault
+failed_run fault = Err fault
+
+module _ {S : Type 0} (opens : S → List ℕ → Option (Option (List ℕ)) → S → Type 0) where
+  pub of_one : (old new : S) (a : Named) (xs left : Option (List ℕ)) (e after : ℕ) (Holds : Input → Type 0)
+      → opens old a.name (Some xs) new → e ≡ 0 → Holds (input xs left e after a.top)
+      → OfOne opens old new a Holds
+  of_one old new a xs left e after Holds opened fresh holds = record {
+    bytes = xs;
+    left = record { bytes = left; errors = after };
+    opened = opened;
+    holds = (let P : ℕ → Type 0 = λ n. Holds (input xs left n after a.top) in subst P fresh holds);
+  }
+
+  pub of_two : (old between new : S) (a b : Named) (xs ys left rest : Option (List ℕ)) (e f after later : ℕ)
+      (Holds : Input → Input → Type 0)
+      → opens old a.name (Some xs) between → opens between b.name (Some ys) new → e ≡ 0 → f ≡ 0
+      → Holds (input xs left e after a.top) (input ys rest f later b.top)
+      → OfTwo opens old new a b Holds
+  of_two old between new a b xs ys left rest e f after later Holds first second fresh new_too holds = record {
+    first = xs;
+    second = ys;
+    between = between;
+    first_left = record { bytes = left; errors = after };
+    second_left = record { bytes = rest; errors = later };
+    first_opened = first;
+    second_opened = second;
+    holds =
+        (let P : ℕ → Type 0 = λ n. Holds (input xs left n after a.top) (input ys rest f later b.top) in
+        let Q : ℕ → Type 0 = λ n. Holds (input xs left 0 after a.top) (input ys rest n later b.top) in
+        subst Q new_too (subst P fresh holds));
+  }
+
+  pub pair_fault : (view : Option PlainView) (a b : Named) (old new : S) (from to : Option (List ℕ)) (fault : RunFault)
+      (told : JobFault) → told ≡ fault_of_run fault
+      → OfTwo opens old new a b (λ x y. IsBegun (IsComparedUnder view x y) text_of from to)
+      → (failed_run fault ≡ Err RunOutOfMemory → Keeps from to)
+      → IsPairFault opens view a b old new from to told
+  pair_fault view a b old new from to fault told is begun nothing =
+      subst (IsPairFault opens view a b old new from to) (sym is) (go fault nothing)
+    where
+      go : (fault : RunFault) → (failed_run fault ≡ Err RunOutOfMemory → Keeps from to)
+          → IsPairFault opens view a b old new from to (fault_of_run fault)
+      go RunOutput none = begun
+      go RunOutOfMemory none = none refl
+
+  pub one_fault : (a : Named) (old new : S) (from to : Option (List ℕ)) (fault : RunFault)
+      (told : JobFault) → told ≡ fault_of_run fault
+      → OfOne opens old new a (λ x. IsBegun (IsShownBy x) text_of_shown from to)
+      → (failed_run fault ≡ Err RunOutOfMemory → Keeps from to)
+      → IsOneFault opens a old new from to told
+  one_fault a old new from to fault told is begun nothing =
+      subst (IsOneFault opens a old new from to) (sym is) (go fault nothing)
+    where
+      go : (fault : RunFault) → (failed_run fault ≡ Err RunOutOfMemory → Keeps from to)
+          → IsOneFault opens a old new from to (fault_of_run fault)
+      go RunOutput none = begun
+      go RunOutOfMemory none = none refl
+
+  module _ (first second : String Global) (top_a top_b map_text window_text : Option (String Global))
+      (view : Option PlainView)
+      (asked : IsViewAsked (option_map string_bytes map_text) (option_map string_bytes window_text) view) where
+    pub job_answered : (old new : S) (from to : Option (List ℕ)) (r : Result Status JobFault)
+        → IfOk r (IsPairAnswered opens view (named first top_a) (named second top_b) old new from to)
+        → IfOk r (IsAnswered opens (Compare first second top_a top_b map_text window_text) old new from to)
+    job_answered old new from to (Ok status) h = record { view = view; asked = asked; holds = h }
+    job_answered old new from to (Err fault) h = tt
+
+    pub job_fault : (old new : S) (from to : Option (List ℕ)) (r : Result Status JobFault)
+        → IfErr r (IsPairFault opens view (named first top_a) (named second top_b) old new from to)
+        → IfErr r (IsFaultOfJob opens (Compare first second top_a top_b map_text window_text) old new from to)
+    job_fault old new from to (Ok status) h = tt
+    job_fault old new from to (Err fault) h = go fault h
+      where
+        go : (fault : JobFault) → IsPairFault opens view (named first top_a) (named second top_b) old new from to fault
+            → IsFaultOfJob opens (Compare first second top_a top_b map_text window_text) old new from to fault
+        go (BadView fault) h = absurd h
+        go (NotOpened name) h = (record { view = view; asked = asked; holds = h.0 }, h.1)
+        go OutOfMemory h = h
+        go Output h = record { view = view; asked = asked; holds = h }
+
+  pub shown_fault : (file : String Global) (top : Option (String Global)) (old new : S) (from to : Option (List ℕ))
+      (r : Result Status JobFault) → IfErr r (IsOneFault opens (named file top) old new from to)
+      → IfErr r (IsFaultOfJob opens (Show file top) old new from to)
+  shown_fault file top old new from to (Ok status) h = tt
+  shown_fault file top old new from to (Err fault) h = go fault h
+    where
+      go : (fault : JobFault) → IsOneFault opens (named file top) old new from to fault
+          → IsFaultOfJob opens (Show file top) old new from to fault
+      go (BadView fault) h = absurd h
+      go (NotOpened name) h = ((h.0, h.1), h.2)
+      go OutOfMemory h = h
+      go Output h = h
+
+  pub view_fault : (first second : String Global) (top_a top_b map_text window_text : Option (String Global)) (old : S)
+      (from : Option (List ℕ)) (fault : JobFault)
+      → IsViewFault (option_map string_bytes map_text) (option_map string_bytes window_text) fault
+      → IsFaultOfJob opens (Compare first second top_a top_b map_text window_text) old old from from fault
+  view_fault first second top_a top_b map_text window_text old from (BadView fault) h = (h, refl, keeps_same from)
+  view_fault first second top_a top_b map_text window_text old from (NotOpened name) h = absurd h
+  view_fault first second top_a top_b map_text window_text old from OutOfMemory h = keeps_same from
+  view_fault first second top_a top_b map_text window_text old from Output h = absurd h
+
+pub cut_is : (fault : RunFault) → is_cut (Err (fault_of_run fault)) ≡ is_output {A = Status} (Err fault)
+cut_is RunOutput = refl
+cut_is RunOutOfMemory = refl

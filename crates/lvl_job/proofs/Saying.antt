@@ -1,0 +1,63 @@
+-- A text written in parts.
+use Rattle.std.proofs.Common.{◌≡◌, ℕ, List, ◌++◌, Result, Ok, Err, OnErr, subst, Option, Some, None, refl, ap, ◌∙◌}
+use Rattle.std.proofs.Common.{sym, append_assoc}
+use Rattle.std.specs.Io.KnownBytes.{Appends, Keeps}
+use Rattle.std.proofs.KnownBytes.{Appends-trans}
+use Rattle.lvl_report.specs.Writing.{AppendsBeginning}
+
+-- a beginning of the first part is one of the whole
+pub begins : (old new : Option (List ℕ)) (a b : List ℕ) → AppendsBeginning old new a
+    → AppendsBeginning old new (a ++ b)
+begins old new a b h = record {
+  front = h.front;
+  rest = h.rest ++ b;
+  split = ap (λ l. l ++ b) h.split ∙ append_assoc h.front h.rest b;
+  appended = h.appended;
+}
+
+-- the first part whole, and then a beginning of the second
+pub begins_later : (old mid new : Option (List ℕ)) (a b : List ℕ) → Appends old mid a → AppendsBeginning mid new b
+    → AppendsBeginning old new (a ++ b)
+begins_later old mid new a b whole h = record {
+  front = a ++ h.front;
+  rest = h.rest;
+  split = ap (λ l. a ++ l) h.split ∙ sym (append_assoc a h.front h.rest);
+  appended = Appends-trans _ _ _ _ _ whole h.appended;
+}
+
+-- known bytes are those that they are
+pub keeps_same : (a : Option (List ℕ)) → Keeps a a
+keeps_same None = tt
+keeps_same (Some xs) = refl
+
+-- of a line in three parts a beginning of the first was written
+pub in_first : (old new : Option (List ℕ)) (x a b c : List ℕ) → x ≡ a → AppendsBeginning old new x
+    → AppendsBeginning old new ((a ++ b) ++ c)
+in_first old new x a b c is h =
+    let P : List ℕ → Type 0 = λ l. AppendsBeginning old new l in
+    subst P (sym (append_assoc a b c)) (begins old new a (b ++ c) (subst P is h))
+
+-- the first, and a beginning of the second
+pub in_second : (old mid new : Option (List ℕ)) (x y a b c : List ℕ) → x ≡ a → y ≡ b → Appends old mid x
+    → AppendsBeginning mid new y → AppendsBeginning old new ((a ++ b) ++ c)
+in_second old mid new x y a b c first second whole h =
+    let P : List ℕ → Type 0 = λ l. Appends old mid l in
+    let Q : List ℕ → Type 0 = λ l. AppendsBeginning mid new l in
+    begins old new (a ++ b) c (begins_later old mid new a b (subst P first whole) (subst Q second h))
+
+-- the first and the second, and a beginning of the third
+pub in_third : (old mid late new : Option (List ℕ)) (x y a b c : List ℕ) → x ≡ a → y ≡ b → Appends old mid x
+    → Appends mid late y → AppendsBeginning late new c → AppendsBeginning old new ((a ++ b) ++ c)
+in_third old mid late new x y a b c first second whole too h =
+    let P : List ℕ → Type 0 = λ l. Appends old mid l in
+    let Q : List ℕ → Type 0 = λ l. Appends mid late l in
+    begins_later old late new (a ++ b) c
+    (Appends-trans old mid late a b (subst P first whole) (subst Q second too)) h
+
+pub on_err : {T E : Type 0} (P : Type 0) (r : Result T E) → P → OnErr r P
+on_err P (Ok x) h = tt
+on_err P (Err e) h = h
+
+pub on_err_map : {T E : Type 0} (P Q : Type 0) (r : Result T E) → (P → Q) → OnErr r P → OnErr r Q
+on_err_map P Q (Ok x) f h = tt
+on_err_map P Q (Err e) f h = f h

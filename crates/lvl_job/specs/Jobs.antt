@@ -1,0 +1,132 @@
+-- What doing a job is: which files are opened, in which order, and what is written of them.
+use Rattle.std.specs.Prelude.{◌≡◌, ℕ, List, Option, Some, None, Result, Bool, true, false, ◌||◌, is_some, option_map}
+use Rattle.std.specs.Prelude.{◌⊎◌}
+use Rattle.std.specs.Prelude.{String, string_bytes}
+use Rattle.std.specs.Global.{Global}
+use Rattle.std.specs.Io.KnownBytes.{Keeps}
+use Rattle.lvl.specs.declared.verdict.Comparison.{Comparison}
+use Rattle.lvl.specs.declared.verdict.Refusal.{Refusal}
+use Rattle.lvl_line.specs.declared.job.Job.{Job}
+use Rattle.lvl_line.specs.declared.job.Job.TheVariants.{Compare, Show}
+use Rattle.lvl_report.specs.declared.status.Status.{Status}
+use Rattle.lvl_report.specs.Runs.{Input, input, IsComparedBy, IsViewedBy, IsShownBy, IsWritten, IsBegun}
+use Rattle.lvl_report.specs.Texts.{text_of, text_of_shown}
+use Rattle.lvl_report.specs.Writing.{status_of, shown_status}
+use Rattle.lvl_view.specs.declared.fault.ViewFault.{ViewFault}
+use Rattle.lvl_view.specs.Views.{PlainView, IsViewOf, IsFaultOf}
+use Rattle.lvl_job.specs.declared.fault.JobFault.{JobFault}
+use Rattle.lvl_job.specs.declared.fault.JobFault.TheVariants.{BadView, NotOpened, OutOfMemory, Output}
+
+-- a file that a job names, and the name of its top
+pub record Named : Type 0 where
+  pub name : List ℕ
+  pub top : Option (List ℕ)
+
+abbrev pub named : String Global → Option (String Global) → Named
+named file top = record { name = string_bytes file; top = option_map string_bytes top }
+
+-- what reading a file left: the bytes, where they are known, and the errors that its reader answered
+pub record Left : Type 0 where
+  pub bytes : Option (List ℕ)
+  pub errors : ℕ
+
+-- a reader of these bytes that had not failed before the run
+abbrev pub reader_of : Option (List ℕ) → Left → Option (List ℕ) → Input
+reader_of bytes left top = input bytes left.bytes 0 left.errors top
+
+-- the file was opened, and this holds of its reader; no other file was opened
+pub record OfOne {S : Type 0} (opens : S → List ℕ → Option (Option (List ℕ)) → S → Type 0) (old new : S) (a : Named)
+    (Holds : Input → Type 0) : Type 0 where
+  pub bytes : Option (List ℕ)
+  pub left : Left
+  pub opened : opens old a.name (Some bytes) new
+  pub holds : Holds (reader_of bytes left a.top)
+
+-- both files were opened, `a` before `b`, and this holds of their readers; no other file was opened
+pub record OfTwo {S : Type 0} (opens : S → List ℕ → Option (Option (List ℕ)) → S → Type 0) (old new : S) (a b : Named)
+    (Holds : Input → Input → Type 0) : Type 0 where
+  pub first : Option (List ℕ)
+  pub second : Option (List ℕ)
+  pub between : S
+  pub first_left : Left
+  pub second_left : Left
+  pub first_opened : opens old a.name (Some first) between
+  pub second_opened : opens between b.name (Some second) new
+  pub holds : Holds (reader_of first first_left a.top) (reader_of second second_left b.top)
+
+-- the first file was opened, and then the second can't be
+pub record IsSecondMissing {S : Type 0} (opens : S → List ℕ → Option (Option (List ℕ)) → S → Type 0) (old new : S)
+    (a b : List ℕ) : Type 0 where
+  pub first : Option (List ℕ)
+  pub between : S
+  pub first_opened : opens old a (Some first) between
+  pub second_missing : opens between b None new
+
+-- the file of this name can't be opened; where it is `a`, opening `b` was not tried
+abbrev pub IsMissing : {S : Type 0} → (S → List ℕ → Option (Option (List ℕ)) → S → Type 0) → S → S → List ℕ
+    → List ℕ → List ℕ → Type 0
+IsMissing opens old new a b name =
+    ((name ≡ a) × opens old a None new) ⊎ ((name ≡ b) × IsSecondMissing opens old new a b)
+
+-- whether a map or a window is given
+abbrev pub asks_view : Option (List ℕ) → Option (List ℕ) → Bool
+asks_view map_text window_text = is_some map_text || is_some window_text
+
+-- the view that the texts of a map and a window say; none where neither is given
+abbrev pub IsViewAsked : Option (List ℕ) → Option (List ℕ) → Option PlainView → Type 0
+IsViewAsked map_text window_text None = asks_view map_text window_text ≡ false
+IsViewAsked map_text window_text (Some view) =
+    (asks_view map_text window_text ≡ true) × IsViewOf map_text window_text view
+
+-- this holds of the view that the texts of a map and a window say
+pub record UnderView (map_text window_text : Option (String Global)) (Holds : Option PlainView → Type 0) : Type 0 where
+  pub view : Option PlainView
+  pub asked : IsViewAsked (option_map string_bytes map_text) (option_map string_bytes window_text) view
+  pub holds : Holds view
+
+-- the answer is one that a comparison may give of these readers, under the view where there is one
+abbrev pub IsComparedUnder : Option PlainView → Input → Input → Result Comparison Refusal → Type 0
+IsComparedUnder None = IsComparedBy
+IsComparedUnder (Some view) = IsViewedBy view
+
+-- the answer to a job was written, and this is its status
+abbrev pub IsAnswered : {S : Type 0} → (S → List ℕ → Option (Option (List ℕ)) → S → Type 0) → Job → S → S
+    → Option (List ℕ) → Option (List ℕ) → Status → Type 0
+IsAnswered opens (Compare first second top_a top_b map_text window_text) old new from to status =
+    UnderView map_text window_text (λ view.
+    OfTwo opens old new (named first top_a) (named second top_b) (λ a b.
+    IsWritten (IsComparedUnder view a b) text_of status_of from to status))
+IsAnswered opens (Show file top) old new from to status =
+    OfOne opens old new (named file top) (λ a. IsWritten (IsShownBy a) text_of_shown shown_status from to status)
+
+-- a beginning of the answer to a job was written
+abbrev pub IsCut : {S : Type 0} → (S → List ℕ → Option (Option (List ℕ)) → S → Type 0) → Job → S → S
+    → Option (List ℕ) → Option (List ℕ) → Type 0
+IsCut opens (Compare first second top_a top_b map_text window_text) old new from to =
+    UnderView map_text window_text (λ view.
+    OfTwo opens old new (named first top_a) (named second top_b) (λ a b.
+    IsBegun (IsComparedUnder view a b) text_of from to))
+IsCut opens (Show file top) old new from to =
+    OfOne opens old new (named file top) (λ a. IsBegun (IsShownBy a) text_of_shown from to)
+
+-- the file of this name is the first of the job that can't be opened
+abbrev pub IsNotOpened : {S : Type 0} → (S → List ℕ → Option (Option (List ℕ)) → S → Type 0) → Job → S → S → List ℕ
+    → Type 0
+IsNotOpened opens (Compare first second top_a top_b map_text window_text) old new name =
+    UnderView map_text window_text (λ _. IsMissing opens old new (string_bytes first) (string_bytes second) name)
+IsNotOpened opens (Show file top) old new name = (name ≡ string_bytes file) × opens old name None new
+
+-- why the texts of a map and a window are no view; a job that shows a file has none
+abbrev pub IsBadView : Job → ViewFault → Type 0
+IsBadView (Compare first second top_a top_b map_text window_text) fault =
+    IsFaultOf (option_map string_bytes map_text) (option_map string_bytes window_text) fault
+IsBadView (Show file top) fault = ⊥
+
+-- the fault is so: with a bad view no file was opened, and but where output failed nothing was written
+abbrev pub IsFaultOfJob : {S : Type 0} → (S → List ℕ → Option (Option (List ℕ)) → S → Type 0) → Job → S → S
+    → Option (List ℕ) → Option (List ℕ) → JobFault → Type 0
+IsFaultOfJob opens job old new from to (BadView fault) = IsBadView job fault × (new ≡ old) × Keeps from to
+IsFaultOfJob opens job old new from to (NotOpened name) =
+    IsNotOpened opens job old new (string_bytes name) × Keeps from to
+IsFaultOfJob opens job old new from to OutOfMemory = Keeps from to
+IsFaultOfJob opens job old new from to Output = IsCut opens job old new from to

@@ -1,0 +1,5 @@
+pub mod Opening
+pub mod Ends
+pub mod Jobs
+pub mod inside
+pub mod Lines

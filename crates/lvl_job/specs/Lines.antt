@@ -1,0 +1,45 @@
+-- What a line of words comes to: a job that was done, or a refusal.
+use Rattle.std.specs.Prelude.{◌≡◌, ℕ, List, Option, Result, IfOk, IfErr}
+use Rattle.std.specs.Io.KnownBytes.{Keeps}
+use Rattle.lvl_line.specs.Line.{IsJob, IsRefusal}
+use Rattle.lvl_line.specs.declared.job.Job.{Job}
+use Rattle.lvl_line.specs.declared.job.LineFault.{LineFault}
+use Rattle.lvl_line.specs.declared.job.LineFault.TheVariants as line_fault
+use Rattle.lvl_report.specs.declared.status.Status.{Status}
+use Rattle.lvl_job.specs.declared.fault.JobFault.{JobFault}
+use Rattle.lvl_job.specs.declared.fault.JobFault.TheVariants.{OutOfMemory}
+use Rattle.lvl_job.specs.Ends.{IsSaid, end_code, end_text, fault_text}
+use Rattle.lvl_job.specs.Jobs.{IsAnswered, IsFaultOfJob}
+
+-- a writer before and after: its bytes, where they are known, and its errors
+pub record Change : Type 0 where
+  pub old : Option (List ℕ)
+  pub new : Option (List ℕ)
+  pub before : ℕ
+  pub after : ℕ
+
+-- the words ask for a job; it was done, and this is its exit status
+pub record IsLineDone {S : Type 0} (opens : S → List ℕ → Option (Option (List ℕ)) → S → Type 0)
+    (words : List (List ℕ)) (old new : S) (out err : Change) (code : ℕ) : Type 0 where
+  pub job : Job
+  pub asked : IsJob words job
+  pub ended : Result Status JobFault
+  pub answered : IfOk ended (IsAnswered opens job old new out.old out.new)
+  pub fault : IfErr ended (IsFaultOfJob opens job old new out.old out.new)
+  pub said : IsSaid (end_text ended) err.old err.new err.before err.after
+  pub status : code ≡ end_code ended
+
+-- why a line is refused, on standard error; clap's own text is not said here
+abbrev pub IsRefusalSaid : LineFault → Change → Type 0
+IsRefusalSaid (line_fault.Words error) err =
+    (text : List ℕ) × IsSaid text err.old err.new err.before err.after
+IsRefusalSaid line_fault.OutOfMemory err = IsSaid (fault_text OutOfMemory) err.old err.new err.before err.after
+
+-- the words are refused, or memory was: no file was opened, nothing was written, and the exit status is 3
+pub record IsLineRefused {S : Type 0} (words : List (List ℕ)) (old new : S) (out err : Change) (code : ℕ) : Type 0 where
+  pub fault : LineFault
+  pub refused : IsRefusal words fault
+  pub unopened : new ≡ old
+  pub unwritten : Keeps out.old out.new
+  pub said : IsRefusalSaid fault err
+  pub status : code ≡ 3

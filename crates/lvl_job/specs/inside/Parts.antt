@@ -1,0 +1,58 @@
+-- What the steps of a job answer.
+use Rattle.std.specs.Prelude.{◌≡◌, ⊤, ℕ, List, Option, None}
+use Rattle.std.specs.Prelude.{string_bytes}
+use Rattle.std.specs.Io.KnownBytes.{Keeps}
+use Rattle.lvl_report.specs.declared.status.Status.{Status}
+use Rattle.lvl_report.specs.declared.status.RunFault.{RunFault}
+use Rattle.lvl_report.specs.declared.status.RunFault.TheVariants.{Output as RunOutput, OutOfMemory as RunOutOfMemory}
+use Rattle.lvl_report.specs.Runs.{IsWritten, IsBegun, IsShownBy}
+use Rattle.lvl_report.specs.Texts.{text_of, text_of_shown}
+use Rattle.lvl_report.specs.Writing.{status_of, shown_status}
+use Rattle.lvl_view.specs.Views.{PlainView, IsFaultOf}
+use Rattle.lvl_job.specs.declared.fault.JobFault.{JobFault}
+use Rattle.lvl_job.specs.declared.fault.JobFault.TheVariants.{BadView, NotOpened, OutOfMemory, Output}
+use Rattle.lvl_job.specs.Jobs.{IsComparedUnder, IsMissing, Named, OfOne, OfTwo}
+
+-- why two texts gave no view
+abbrev pub IsViewFault : Option (List ℕ) → Option (List ℕ) → JobFault → Type 0
+IsViewFault map_text window_text (BadView fault) = IsFaultOf map_text window_text fault
+IsViewFault map_text window_text (NotOpened name) = ⊥
+IsViewFault map_text window_text OutOfMemory = ⊤
+IsViewFault map_text window_text Output = ⊥
+
+-- the fault of a job whose run has no answer
+abbrev pub fault_of_run : RunFault → JobFault
+fault_of_run RunOutput = Output
+fault_of_run RunOutOfMemory = OutOfMemory
+
+-- the answer of a comparison under a view was written
+abbrev pub IsPairAnswered : {S : Type 0} → (S → List ℕ → Option (Option (List ℕ)) → S → Type 0) → Option PlainView
+    → Named → Named → S → S → Option (List ℕ) → Option (List ℕ) → Status → Type 0
+IsPairAnswered opens view a b old new from to status =
+    OfTwo opens old new a b (λ x y. IsWritten (IsComparedUnder view x y) text_of status_of from to status)
+
+-- why a comparison under a view has no answer
+abbrev pub IsPairFault : {S : Type 0} → (S → List ℕ → Option (Option (List ℕ)) → S → Type 0) → Option PlainView
+    → Named → Named → S → S → Option (List ℕ) → Option (List ℕ) → JobFault → Type 0
+IsPairFault opens view a b old new from to (BadView fault) = ⊥
+IsPairFault opens view a b old new from to (NotOpened name) =
+    IsMissing opens old new a.name b.name (string_bytes name) × Keeps from to
+IsPairFault opens view a b old new from to OutOfMemory = Keeps from to
+IsPairFault opens view a b old new from to Output =
+    OfTwo opens old new a b (λ x y. IsBegun (IsComparedUnder view x y) text_of from to)
+
+-- what is shown of a file was written
+abbrev pub IsOneAnswered : {S : Type 0} → (S → List ℕ → Option (Option (List ℕ)) → S → Type 0)
+    → Named → S → S → Option (List ℕ) → Option (List ℕ) → Status → Type 0
+IsOneAnswered opens a old new from to status =
+    OfOne opens old new a (λ x. IsWritten (IsShownBy x) text_of_shown shown_status from to status)
+
+-- why nothing is shown of a file
+abbrev pub IsOneFault : {S : Type 0} → (S → List ℕ → Option (Option (List ℕ)) → S → Type 0)
+    → Named → S → S → Option (List ℕ) → Option (List ℕ) → JobFault → Type 0
+IsOneFault opens a old new from to (BadView fault) = ⊥
+IsOneFault opens a old new from to (NotOpened name) =
+    (string_bytes name ≡ a.name) × opens old (string_bytes name) None new × Keeps from to
+IsOneFault opens a old new from to OutOfMemory = Keeps from to
+IsOneFault opens a old new from to Output =
+    OfOne opens old new a (λ x. IsBegun (IsShownBy x) text_of_shown from to)

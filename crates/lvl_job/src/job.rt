@@ -1,0 +1,230 @@
+//! A job, done.
+ghost use Rattle.std.specs.Prelude.{◌≡◌, IfOk, IfErr, OnErr, Err, option_map, option_copied};
+ghost use Rattle.std.specs.Io.KnownBytes.{Keeps};
+ghost use Rattle.std.specs.Prelude.{string_bytes};
+ghost use Rattle.lvl.specs.Sides.{given_name};
+ghost use Rattle.lvl_io.specs.Bytes.{CountsFailure};
+ghost use Rattle.lvl_job.specs.Ends.{IsSaid, end_code, end_text, is_cut};
+ghost use Rattle.lvl_job.specs.Jobs.{IsAnswered, IsComparedUnder, IsFaultOfJob, IsViewAsked};
+ghost use Rattle.lvl_job.specs.Opening.{held};
+ghost use Rattle.lvl_job.specs.inside.Parts.{IsOneAnswered, IsOneFault, IsPairAnswered, IsPairFault, IsViewFault};
+ghost use Rattle.lvl_job.specs.inside.Parts.{fault_of_run};
+ghost use Rattle.lvl_report.specs.Runs.{IsBegun, IsShownBy, IsWritten, input};
+ghost use Rattle.lvl_report.specs.Texts.{text_of, text_of_shown};
+ghost use Rattle.lvl_report.specs.Writing.{is_output, shown_status, status_of};
+
+use crate::fault::JobFault;
+use crate::files::Files;
+use crate::said::say;
+use lvl::Tops;
+use lvl_io::{Read, Write};
+use lvl_line::Job;
+use lvl_refusal::Refusal;
+use lvl_report::{RunFault, Status, run, run_show, run_view};
+use lvl_view::View;
+use std::alloc::Global;
+
+/// The file of this name, opened.
+fn open<F: Files>(files: &mut F, name: String) -> Result<F::File, JobFault>
+    ensures opened { F.opens files.old (string_bytes name) (held F.File.remaining result) files.new }
+    ensures fresh { IfOk result (λ file. F.File.read_errors file ≡ 0) }
+    ensures missing { IfErr result (λ fault. fault ≡ JobFault.NotOpened name) }
+{
+    match files.open(name.as_str()) {
+        Ok(file) => Ok(file),
+        Err(_) => Err(JobFault::NotOpened(name)),
+    }
+}
+
+/// A top's name, as its bytes.
+fn top_of(name: Option<String>) -> Option<Vec<u8>>
+    ensures { given_name result ≡ option_map string_bytes name }
+{
+    match name {
+        Some(name) => Some(name.into_bytes()),
+        None => None,
+    }
+}
+
+/// The view that the texts of a map and a window say, if one of them is given.
+fn view_of(
+    alloc: Global,
+    map: &Option<String>,
+    window: &Option<String>,
+) -> Result<Option<View>, JobFault>
+    ensures view { IfOk result (IsViewAsked (option_map string_bytes map.now) (option_map string_bytes window.now)) }
+    ensures fault { IfErr result (IsViewFault (option_map string_bytes map.now) (option_map string_bytes window.now)) }
+{
+    if map.is_none() && window.is_none() {
+        return Ok(None);
+    }
+    match View::read(alloc, map.as_deref(), window.as_deref()) {
+        Ok(view) => Ok(Some(view)),
+        Err(Refusal::Breach(fault)) => Err(JobFault::BadView(fault)),
+        Err(Refusal::OutOfMemory) => Err(JobFault::OutOfMemory),
+    }
+}
+
+/// The fault of a job whose run has no answer.
+fn fault_of(fault: RunFault) -> JobFault
+    ensures { result ≡ fault_of_run fault }
+{
+    match fault {
+        RunFault::Output => JobFault::Output,
+        RunFault::OutOfMemory => JobFault::OutOfMemory,
+    }
+}
+
+/// Compares two files that are open, under the view if there is one.
+fn run_under<A: Read, B: Read, O: Write>(
+    alloc: Global,
+    first: &mut A,
+    second: &mut B,
+    tops: &Tops,
+    view: Option<&View>,
+    out: &mut O,
+) -> Result<Status, RunFault>
+    ensures written { IfOk result (IsWritten
+        (IsComparedUnder (option_map (λ v. v.now) view.entry)
+        (input (A.remaining first.old) (A.remaining first.new)
+        (A.read_errors first.old) (A.read_errors first.new) (given_name tops.now.first))
+        (input (B.remaining second.old) (B.remaining second.new)
+        (B.read_errors second.old) (B.read_errors second.new) (given_name tops.now.second)))
+        text_of status_of (O.contents out.old) (O.contents out.new)) }
+    ensures begun { OnErr result (IsBegun
+        (IsComparedUnder (option_map (λ v. v.now) view.entry)
+        (input (A.remaining first.old) (A.remaining first.new)
+        (A.read_errors first.old) (A.read_errors first.new) (given_name tops.now.first))
+        (input (B.remaining second.old) (B.remaining second.new)
+        (B.read_errors second.old) (B.read_errors second.new) (given_name tops.now.second)))
+        text_of (O.contents out.old) (O.contents out.new)) }
+    ensures nothing { result ≡ Err RunFault.OutOfMemory → Keeps (O.contents out.old) (O.contents out.new) }
+    ensures errors { CountsFailure (O.write_errors out.old) (O.write_errors out.new) (is_output result) }
+{
+    match view {
+        Some(view) => run_view(alloc, first, second, tops, view, out),
+        None => run(alloc, first, second, tops, out),
+    }
+}
+
+/// Compares the files of two names, under the view if there is one.
+fn compare<F: Files, O: Write>(
+    alloc: Global,
+    names: (String, String),
+    tops: &Tops,
+    view: Option<&View>,
+    files: &mut F,
+    out: &mut O,
+) -> Result<Status, JobFault>
+    ensures answered { IfOk result (IsPairAnswered F.opens (option_map (λ v. v.now) view.entry)
+        (record { name = string_bytes names.0; top = given_name tops.now.first })
+        (record { name = string_bytes names.1; top = given_name tops.now.second })
+        files.old files.new (O.contents out.old) (O.contents out.new)) }
+    ensures fault { IfErr result (IsPairFault F.opens (option_map (λ v. v.now) view.entry)
+        (record { name = string_bytes names.0; top = given_name tops.now.first })
+        (record { name = string_bytes names.1; top = given_name tops.now.second })
+        files.old files.new (O.contents out.old) (O.contents out.new)) }
+    ensures errors { CountsFailure (O.write_errors out.old) (O.write_errors out.new) (is_cut result) }
+{
+    let mut first = open(files, names.0)?;
+    let mut second = open(files, names.1)?;
+    match run_under(alloc, &mut first, &mut second, tops, view, out) {
+        Ok(status) => Ok(status),
+        Err(fault) => Err(fault_of(fault)),
+    }
+}
+
+/// Shows the file of a name.
+fn show<F: Files, O: Write>(
+    alloc: Global,
+    name: String,
+    top: Option<&[u8]>,
+    files: &mut F,
+    out: &mut O,
+) -> Result<Status, JobFault>
+    ensures answered { IfOk result (IsOneAnswered F.opens
+        (record { name = string_bytes name; top = option_copied top.entry })
+        files.old files.new (O.contents out.old) (O.contents out.new)) }
+    ensures fault { IfErr result (IsOneFault F.opens
+        (record { name = string_bytes name; top = option_copied top.entry })
+        files.old files.new (O.contents out.old) (O.contents out.new)) }
+    ensures errors { CountsFailure (O.write_errors out.old) (O.write_errors out.new) (is_cut result) }
+{
+    let mut file = open(files, name)?;
+    match run_show(alloc, &mut file, top, out) {
+        Ok(status) => Ok(status),
+        Err(fault) => Err(fault_of(fault)),
+    }
+}
+
+/// Does a job, and says nothing of why there is no answer.
+fn perform<F: Files, O: Write>(
+    alloc: Global,
+    job: Job,
+    files: &mut F,
+    out: &mut O,
+) -> Result<Status, JobFault>
+    ensures answered { IfOk result
+        (IsAnswered F.opens job files.old files.new (O.contents out.old) (O.contents out.new)) }
+    ensures fault { IfErr result
+        (IsFaultOfJob F.opens job files.old files.new (O.contents out.old) (O.contents out.new)) }
+    ensures errors { CountsFailure (O.write_errors out.old) (O.write_errors out.new) (is_cut result) }
+{
+    match job {
+        Job::Compare {
+            first,
+            second,
+            top_a,
+            top_b,
+            map,
+            window,
+        } => {
+            let view = view_of(alloc, &map, &window)?;
+            let tops = Tops {
+                first: top_of(top_a),
+                second: top_of(top_b),
+            };
+            compare(alloc, (first, second), &tops, view.as_ref(), files, out)
+        }
+        Job::Show { file, top } => {
+            let top = top_of(top);
+            show(alloc, file, top.as_deref(), files, out)
+        }
+    }
+}
+
+/// Does a job: reads its view, opens its files by `files`, the first before the second, and writes
+/// its answer to `out`. Where there is no answer, it writes why to `err`, on one line.
+///
+/// The answer is what [`run`], [`run_view`] or [`run_show`] may write of these files.
+pub fn do_job<F: Files, O: Write, E: Write>(
+    alloc: Global,
+    job: Job,
+    files: &mut F,
+    out: &mut O,
+    err: &mut E,
+) -> Result<Status, JobFault>
+    ensures answered { IfOk result
+        (IsAnswered F.opens job files.old files.new (O.contents out.old) (O.contents out.new)) }
+    ensures fault { IfErr result
+        (IsFaultOfJob F.opens job files.old files.new (O.contents out.old) (O.contents out.new)) }
+    ensures errors { CountsFailure (O.write_errors out.old) (O.write_errors out.new) (is_cut result) }
+    ensures said { IsSaid (end_text result) (E.contents err.old) (E.contents err.new)
+        (E.write_errors err.old) (E.write_errors err.new) }
+{
+    let ended = perform(alloc, job, files, out);
+    if let Err(fault) = &ended {
+        say(err, fault);
+    }
+    ended
+}
+
+/// The exit status of a job that ended so.
+pub fn code_of(ended: &Result<Status, JobFault>) -> u8
+    ensures { result ≡ end_code ended.now }
+{
+    match ended {
+        Ok(status) => status.code(),
+        Err(fault) => fault.code(),
+    }
+}

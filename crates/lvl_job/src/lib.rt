@@ -1,0 +1,27 @@
+//! The program's job as one call: its files opened, its answer written, and its exit status.
+//!
+//! [`do_job`] does a job over any [`Files`], which opens readers by name, and two writers, and
+//! [`code_of`] gives the exit status of its end. [`do_line`] does both for the words of a line.
+//!
+//! `Held` holds the file `square`, which draws one square:
+//!
+//! ```
+//! let words = ["lvl", "show", "square"];
+//! let code = do_line(alloc, &words, &mut Held { asked: 0 }, &mut out, &mut err);
+//! assert_eq!(rt; code, 0);
+//! assert!(rt; out.taken.ends_with(b"layer 1 datatype 0 rings 1\n"));
+//! ```
+#![tactic(auto)]
+
+pub use fault::JobFault;
+pub use files::Files;
+pub use job::{code_of, do_job};
+pub use line::do_line;
+
+mod fault;
+mod files;
+mod job;
+mod line;
+mod said;
+#[cfg(test)]
+mod tests;

@@ -1,0 +1,81 @@
+//! A line of words, done.
+ghost use Rattle.std.specs.Prelude.{◌⊎◌, map};
+ghost use Rattle.lvl_job.specs.Lines.{IsLineDone, IsLineRefused, IsRefusalSaid};
+
+use crate::fault::JobFault;
+use crate::files::Files;
+use crate::job::{code_of, do_job};
+use crate::said::{say, say_text};
+use lvl_io::Write;
+use lvl_line::{LineFault, parse_line};
+use std::alloc::Global;
+
+/// The exit status of a line that asks for nothing that can be done.
+const BAD_LINE: u8 = 3;
+
+/// Writes why a line asks for nothing that can be done: `clap`'s text, or that memory ran out.
+fn refuse<E: Write>(alloc: Global, fault: &LineFault, err: &mut E)
+    ensures { IsRefusalSaid fault.now (record {
+      old = E.contents err.old;
+      new = E.contents err.new;
+      before = E.write_errors err.old;
+      after = E.write_errors err.new;
+    }) }
+{
+    match fault {
+        LineFault::Words(error) => match format!(in alloc; "{error}") {
+            Ok(text) => say_text(err, text.as_str()),
+            Err(_) => say(err, &JobFault::OutOfMemory),
+        },
+        LineFault::OutOfMemory => say(err, &JobFault::OutOfMemory),
+    }
+}
+
+/// Does what the words of a line ask for, as [`do_job`] does it, and gives the exit status; the
+/// first word is the program's own name. Words that ask for nothing that can be done open no file,
+/// and `clap`'s text for them goes to `err`, with status 3.
+pub fn do_line<'a, F: Files, O: Write, E: Write>(
+    alloc: Global,
+    words: &'a [&'a str],
+    files: &mut F,
+    out: &mut O,
+    err: &mut E,
+) -> u8
+    ensures { IsLineDone F.opens (map (λ s. s.now) words.entry.now) files.old files.new
+        (record {
+          old = O.contents out.old;
+          new = O.contents out.new;
+          before = O.write_errors out.old;
+          after = O.write_errors out.new;
+        })
+        (record {
+          old = E.contents err.old;
+          new = E.contents err.new;
+          before = E.write_errors err.old;
+          after = E.write_errors err.new;
+        }) result
+        ⊎ IsLineRefused (map (λ s. s.now) words.entry.now) files.old files.new
+        (record {
+          old = O.contents out.old;
+          new = O.contents out.new;
+          before = O.write_errors out.old;
+          after = O.write_errors out.new;
+        })
+        (record {
+          old = E.contents err.old;
+          new = E.contents err.new;
+          before = E.write_errors err.old;
+          after = E.write_errors err.new;
+        }) result }
+{
+    match parse_line(alloc, words) {
+        Ok(job) => {
+            let ended = do_job(alloc, job, files, out, err);
+            code_of(&ended)
+        }
+        Err(fault) => {
+            refuse(alloc, &fault, err);
+            BAD_LINE
+        }
+    }
+}

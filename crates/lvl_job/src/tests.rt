@@ -1,0 +1,174 @@
+//! Jobs over files that are held in memory.
+ghost use Rattle.std.specs.Prelude.{◌≡◌};
+
+use crate::tests::files::{SQUARE, TWO};
+use crate::{Files, code_of, do_job, do_line};
+use lvl_io::Failure;
+use lvl_io::fake::{Pieces, Sink};
+use lvl_line::Job;
+use std::alloc::{AllocError, Global};
+use std::test::Fail;
+
+mod files;
+
+/// A file that is read in pieces, and has not failed.
+fn pieces(bytes: &'static [u8]) -> Pieces<'static>
+    ensures { result.errors ≡ 0 }
+{
+    Pieces {
+        rest: bytes,
+        most: 7,
+        failures: 0,
+        errors: 0,
+    }
+}
+
+/// The files `square` and `two`, and how many times one was asked for.
+#[derive(Drop)]
+struct Held {
+    asked: u8,
+}
+
+impl Files for Held {
+    type File = Pieces<'static>;
+
+    ghost opens = { λ _ _ _ _. Unit {0} };
+
+    fn open(&mut self, name: &str) -> Result<Pieces<'static>, Failure> {
+        self.asked = self.asked.saturating_add(1);
+        match name {
+            "square" => Ok(pieces(SQUARE)),
+            "two" => Ok(pieces(TWO)),
+            _ => Err(Failure),
+        }
+    }
+}
+
+/// The job of a line in order: two files, two tops, a map and a window, each `-` where it is none;
+/// or one file and a top.
+fn job_of(alloc: Global, line: &str) -> Result<Job, AllocError> {
+    let mut words = Vec::new(alloc);
+    for word in line.split(' ') {
+        words.push(word)?;
+    }
+    match words.as_slice() {
+        [first, second, top_a, top_b, map, window] => Ok(Job::Compare {
+            first: String::from_str(alloc, first)?,
+            second: String::from_str(alloc, second)?,
+            top_a: given(alloc, top_a)?,
+            top_b: given(alloc, top_b)?,
+            map: given(alloc, map)?,
+            window: given(alloc, window)?,
+        }),
+        [file, top] => Ok(Job::Show {
+            file: String::from_str(alloc, file)?,
+            top: given(alloc, top)?,
+        }),
+        _ => Err(AllocError),
+    }
+}
+
+/// A word that may be `-`, for none.
+fn given(alloc: Global, word: &str) -> Result<Option<String>, AllocError> {
+    if word == "-" {
+        return Ok(None);
+    }
+    Ok(Some(String::from_str(alloc, word)?))
+}
+
+/// A job, how many files are asked for, the last line of what it writes, what it says, and its status.
+static ROWS: [(&str, u8, &str, &str, u8); 11] = [
+    ("square square - - - -", 2, "same\n", "", 0),
+    ("square two - A - -", 2, "same\n", "", 0),
+    (
+        "square two - B - -",
+        2,
+        "differ: layer 1 datatype 0 square 0 0 only in first\n",
+        "",
+        1,
+    ),
+    (
+        "two square B - - -",
+        2,
+        "differ: layer 1 datatype 0 square 0 0 only in second\n",
+        "",
+        1,
+    ),
+    (
+        "square two - B 2/0=1/0 -",
+        2,
+        "differ: layer 1 datatype 0 square 0 10 only in second\n",
+        "",
+        1,
+    ),
+    ("square two - B 2/0=1/0 x=0..10,y=0..10", 2, "same\n", "", 0),
+    ("two B", 1, "layer 2 datatype 0 rings 1\n", "", 0),
+    ("two -", 1, "refused: first: cells 6 ManyTops\n", "", 2),
+    ("none two - - - -", 1, "", "lvl: cannot open none\n", 2),
+    ("two other - - - -", 2, "", "lvl: cannot open other\n", 2),
+    ("none two - - 1/0 -", 0, "", "lvl: bad view 1 MapText\n", 3),
+];
+
+#[test]
+fn jobs_are_done(rt: HostRuntime) -> Result<(), Fail> {
+    for (line, asked, last, said, status) in &ROWS {
+        let mut files = Held { asked: 0 };
+        let mut out = Sink::new(rt.alloc(), usize::MAX);
+        let mut err = Sink::new(rt.alloc(), 5);
+        let ended = do_job(
+            rt.alloc(),
+            job_of(rt.alloc(), line)?,
+            &mut files,
+            &mut out,
+            &mut err,
+        );
+        assert_eq!(rt; code_of(&ended), *status, "{line}");
+        assert_eq!(rt; files.asked, *asked, "{line}");
+        assert!(rt; out.taken.ends_with(last.as_bytes()), "{line}");
+        assert!(rt; last.is_empty() == out.taken.is_empty(), "{line}");
+        assert!(rt; err.taken.as_slice() == said.as_bytes(), "{line}");
+    }
+    Ok(())
+}
+
+#[test]
+fn growths_of_a_job(rt: HostRuntime) -> Result<(), Fail> {
+    let mut files = Held { asked: 0 };
+    let mut out = Sink::new(rt.alloc(), usize::MAX);
+    out.taken.reserve(1024)?;
+    let mut err = Sink::new(rt.alloc(), usize::MAX);
+    err.taken.reserve(64)?;
+    let job = job_of(rt.alloc(), "square two - B 2/0=1/0 x=0..10,y=0..10")?;
+    let ended = do_job(rt.alloc(), job, &mut files, &mut out, &mut err);
+    match code_of(&ended) {
+        0 => Ok(()),
+        2 => Err(Fail::from(AllocError)),
+        _ => Err(Fail::from("another answer")),
+    }
+}
+
+#[test]
+fn one_line(rt: HostRuntime) {
+    let alloc = rt.alloc();
+    let mut out = Sink::new(alloc, usize::MAX);
+    let mut err = Sink::new(alloc, usize::MAX);
+    let words = ["lvl", "show", "square"];
+    let code = do_line(alloc, &words, &mut Held { asked: 0 }, &mut out, &mut err);
+    assert_eq!(rt; code, 0);
+    assert!(rt; out.taken.ends_with(b"layer 1 datatype 0 rings 1\n"));
+}
+
+#[test]
+fn no_job_opens_nothing(rt: HostRuntime) {
+    let mut files = Held { asked: 0 };
+    let mut out = Sink::new(rt.alloc(), usize::MAX);
+    let mut err = Sink::new(rt.alloc(), usize::MAX);
+    let words = ["lvl", "--version"];
+    assert_eq!(rt;
+        do_line(rt.alloc(), &words, &mut files, &mut out, &mut err),
+        3
+    );
+    assert_eq!(rt; files.asked, 0);
+    assert!(rt; out.taken.is_empty());
+    assert!(rt; err.taken.as_slice() == b"lvl 1.0.0\n".as_slice());
+}
