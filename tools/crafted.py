@@ -82,9 +82,10 @@ def placement(name, x=0, y=0, repetition=b""):
     return b"\x11" + (b"\xB8" if repetition else b"\xB0") + said + repetition
 
 
-def polygon(deltas, kind=0, count=None):
+def polygon(deltas, kind=0, count=None, at=(0, 0)):
     many = len(deltas) if count is None else count
-    return b"\x15\x3B\1\0" + unsigned(kind) + unsigned(many) + b"".join(deltas) + b"\0\0"
+    position = signed(at[0]) + signed(at[1])
+    return b"\x15\x3B\1\0" + unsigned(kind) + unsigned(many) + b"".join(deltas) + position
 
 
 def oas_path(deltas, half):
@@ -97,7 +98,7 @@ def lattice(m, n, x, y):
 
 
 def write(name, parts):
-    """Writes the pieces; a number stands for so many zero bytes, which take no room on the disk."""
+    """Writes the pieces; a number is that many zero bytes, which take no room on the disk."""
     with open(name, "wb") as out:
         for part in parts:
             if isinstance(part, int):
@@ -109,6 +110,6 @@ def write(name, parts):
 
 
 def run(program, words, most_seconds=0):
-    """Runs the program to its end, or for so many seconds: then the status is None."""
+    """Runs the program to its end, or for a number of seconds: then the status is None."""
     line = [sys.executable, "-S", MEASURE, str(most_seconds), program, *words]
     return Run(*json.loads(subprocess.run(line, stdout=subprocess.PIPE, check=True).stdout))

@@ -14,10 +14,13 @@ from collections import namedtuple
 
 import crafted
 from crafted import aref, box, gds_cell, gds_file, lattice, oas_cell, oas_file, placement, rectangle, sref
-from oasis import signed, string, unsigned
+from oasis import axis_delta, signed, steps_of, string, unsigned
 
 ROOT = os.path.dirname(os.path.dirname(os.path.abspath(__file__)))
 Case = namedtuple("Case", "what rings files words")
+# The least coordinate that a position may have, and the greatest; each is the other's opposite.
+LOW, HIGH = 1 - 2**63, 2**63 - 1
+SIZES = (4_000, 16_000, 64_000)
 
 
 def case(what, rings, *files, words=()):
@@ -263,9 +266,186 @@ def views():
     yield case("4,000,000 squares in a window of all but some", 8_000_000, squares(1), squares(2), words=[window])
 
 
+def turning(points):
+    """A polygon of corners along x and y in turn, the last of which its point list leaves out."""
+    along_x = points[0][1] == points[1][1]
+    deltas = [signed(x + y) for x, y in steps_of(points[:-1])]
+    return crafted.polygon(deltas, 0 if along_x else 1, at=points[0])
+
+
+def other_way(points):
+    """The ring from the same corner the other way round."""
+    return points[:1] + points[:0:-1]
+
+
+def boxes_of(boxes):
+    return [rectangle(x0, y0, x1 - x0, y1 - y0) for x0, y0, x1, y1 in boxes]
+
+
+def at_both_ends(rings):
+    """Rings at the low end of the grid, and the same at the high end, turned by a half."""
+    return rings + [[(-x, -y) for x, y in ring] for ring in rings]
+
+
+def far_case(what, first, second):
+    """Records against others of the same mask, and a unit square in the last row of the grid."""
+    return case(what, len(first) + len(second) + 1, one(*first), one(*second, rectangle(LOW, HIGH - 1, 1, 1)))
+
+
+def far_combs():
+    rng = random.Random(1)
+    for n in SIZES:
+        teeth = [(LOW + 2 * at, LOW + 2**62 + rng.randrange(2**40)) for at in range(n // 4)]
+        comb = [point for x, top in teeth for point in ((x, LOW + 1), (x, top), (x + 1, top), (x + 1, LOW + 1))]
+        comb[0], comb[-1] = (LOW, LOW), (comb[-1][0], LOW)
+        bars = [(LOW, LOW, comb[-1][0], LOW + 1)] + [(x, LOW, x + 1, top) for x, top in teeth]
+        bars += [(-x1, -y1, -x0, -y0) for x0, y0, x1, y1 in bars]
+        combs = [turning(ring) for ring in at_both_ends([comb])]
+        yield far_case("two combs of %d corners, 2^62 tall, against bars" % n, combs, boxes_of(bars))
+
+
+def spiral(corners, step):
+    """Round and round, each side a step longer than the one before the last; at the low end of the grid."""
+    points, signs = [(0, 0)], (1, 1, -1, -1)
+    for at in range(corners - 2):
+        x, y = points[-1]
+        length = signs[at % 4] * (at // 2 + 1) * step
+        points.append((x, y + length) if at % 2 else (x + length, y))
+    points.append((0, points[-1][1]))
+    left, low = min(x for x, _ in points), min(y for _, y in points)
+    return [(x - left + LOW, y - low + LOW) for x, y in points]
+
+
+def far_spirals():
+    for n in SIZES:
+        rings = at_both_ends([spiral(n, 2**61 // n)])
+        more = [(x - 1, y - 1, x + 1, y + 1) for (x, y), *_ in rings]
+        other = [turning(other_way(ring)) for ring in rings] + boxes_of(more)
+        what = "two spirals of %d corners, 2^60 wide, the other way round" % n
+        yield far_case(what, [turning(ring) for ring in rings], other)
+
+
+def far_stairs():
+    step, rng = 2**40, random.Random(1)
+    for n in SIZES:
+        many = n // 4
+        ends = [(LOW + at * step, LOW + (at + many) * step) for at in range(many)]
+        squares = [(low, low, high, high) for low, high in ends]
+        mixed = rng.sample(squares, many)
+        yield far_case("%d squares as a stair, 2^40 apart" % many, boxes_of(squares), boxes_of(mixed))
+    for n in SIZES:
+        many = n // 2 - 1
+        stair = [(LOW + at // 2 * step, LOW + (at + 1) // 2 * step) for at in range(2 * many + 1)]
+        stair.append((stair[-1][0], LOW))
+        bars = [(LOW + at * step, LOW, LOW + (at + 1) * step, LOW + (at + 1) * step) for at in range(many)]
+        yield far_case("a stair of %d corners, 2^40 apart, against bars" % n, [turning(stair)], boxes_of(bars))
+
+
+def wound(rng, times):
+    """Round a large square at the low end of the grid, each time a little beside the time before."""
+    near = lambda: rng.randrange(2**30)
+    points = [(LOW + near(), LOW + near())]
+    for _ in range(times):
+        right, upper, left, lower = -near(), -near(), LOW + near(), LOW + near()
+        points += [(right, points[-1][1]), (right, upper), (left, upper), (left, lower)]
+    return points[:-2] + [(points[0][0], points[-2][1])]
+
+
+def far_rounds():
+    rng = random.Random(1)
+    for many in (1, 4, 16):
+        rings = at_both_ends([wound(rng, 1_000) for _ in range(many)])
+        more = [(x, y, x + 1, y + 1) for x, y in ((LOW + 2**31, LOW + 2**31), (2**31, 2**31))]
+        other = [turning(other_way(ring)) for ring in rings] + boxes_of(more)
+        rng.shuffle(other)
+        what = "%d polygons of 4,000 corners that wind 1,000 times, the other way round" % len(rings)
+        yield far_case(what, [turning(ring) for ring in rings], other)
+
+
+def far_bars():
+    """Rings that share two abscissas."""
+    rng = random.Random(1)
+    number = lambda: rng.randrange(-(2**61), 2**61)
+    for n in (10_000, 20_000, 40_000):
+        lows = [number() for _ in range(n)]
+        over = [(LOW, low, HIGH, low + rng.randrange(1, 2**61)) for low in lows]
+        apart = [(LOW, at << 46, HIGH, (at << 46) + rng.randrange(1, 2**46)) for at in range(n)]
+        for what, bars in (("over each other", over), ("apart", apart)):
+            mixed = boxes_of(rng.sample(bars, n))
+            yield far_case("%d bars at two abscissas, %s" % (n, what), boxes_of(bars), mixed)
+    for n in SIZES:
+        ys = [number() for _ in range(n // 2)]
+        sides = (LOW, -1)
+        ring = [(sides[(at + 1) // 2 % 2], ys[at // 2]) for at in range(n)]
+        yield far_case("a polygon of %d corners at two abscissas" % n, [turning(ring)], [turning(other_way(ring))])
+
+
+def straight(points):
+    """A polygon of corners anywhere on one line."""
+    return crafted.polygon([axis_delta(x, y, 2) for x, y in steps_of(points)], 2, at=points[0])
+
+
+def far_lines():
+    rng = random.Random(1)
+    number = lambda: LOW + rng.randrange(2**62)
+    for what, on_line in (("along x", lambda at: (at, LOW)), ("along y", lambda at: (LOW, at))):
+        for n in SIZES:
+            ring = [on_line(number()) for _ in range(n)]
+            rings = [straight(each) for each in at_both_ends([ring])]
+            other = [straight(other_way(each)) for each in at_both_ends([ring])]
+            yield far_case("two polygons of %d corners on one line %s" % (n, what), rings, other)
+        for n in SIZES:
+            rings = [straight([on_line(number()) for _ in range(4)]) for _ in range(n // 4)]
+            yield far_case("%d polygons on one line %s" % (n // 4, what), rings, rng.sample(rings, n // 4))
+
+
+def line(n, x, y):
+    """A repetition of n places, a step apart."""
+    step = unsigned(abs(x) << 2 | (x < 0) << 1 | 1) + unsigned(abs(y) << 1 | (y < 0))
+    return b"\x09" + unsigned(n - 2) + step
+
+
+def stair_below(n, more):
+    """Bars beside each other, each a step higher than the one before it, and a few squares far above them."""
+    bars = rectangle(0, 0, 1, n, 1, line(n - 1, 2, 1))
+    last = rectangle(2 * (n - 1), n - 1, 1, n + more)
+    return one(bars, last, rectangle(0, 10**13, 1, 1, 1, line(n // 50, 100, 10**11)))
+
+
+def high_comb(rng, teeth):
+    """A comb whose teeth end at ordinates that all differ, one of them far above the others."""
+    tops = [3 * teeth + at for at in rng.sample(range(teeth), teeth)]
+    tops[teeth // 2] = 2**40
+    lows = [0, *(1 + at for at in rng.sample(range(teeth), teeth))]
+    points = [(0, 0)]
+    for at, top in enumerate(tops):
+        points += [(4 * at, lows[at]), (4 * at, top), (4 * at + 2, top), (4 * at + 2, lows[at + 1])]
+    points[1] = (0, 0)
+    points[-1] = (points[-1][0], 0)
+    return points[1:]
+
+
+def deceptive():
+    """Files whose work a sample of them hides."""
+    for n in (5_000, 20_000, 80_000):
+        yield case("%d bars as a stair, below far squares" % n, 2 * n, stair_below(n, 0), stair_below(n, 1))
+    for teeth in (2_000, 8_000, 16_000):
+        comb = high_comb(random.Random(1), teeth)
+        what = "a comb of %d corners, one tooth far above, the other way round" % len(comb)
+        yield case(what, 2, one(turning(comb)), one(turning(other_way(comb)), rectangle(-2, -2, 1, 1)))
+    many = lattice(1000, 1000, 4, 4)
+    path = b"\x16\xFF\1\0\1\5\0" + unsigned(1000) + signed(9) * 1000 + b"\0\0" + many
+    placed = oas_file(oas_cell("A", rectangle(0, 0, 1, 1)), oas_cell("TOP", placement("A", 0, 0, many)))
+    other = oas_file(oas_cell("A", path), oas_cell("B", rectangle(0, 0, 1, 1)),
+                     oas_cell("TOP", placement("B", 0, 0, many)))
+    yield case("a cell of the other's name that isn't placed and draws 10^9 rings", 2_000_000, placed, other,
+               words=["--top-b", "TOP"])
+
+
 GROUPS = [
     deep_chains, hierarchies, cells_that_double, arrays_of_arrays, paths, polygons, small_cells, records, repetitions,
-    tables, layers, wires, overlaps, scattered, views,
+    tables, layers, wires, overlaps, scattered, views, far_combs, far_spirals, far_stairs, far_rounds, far_bars,
+    far_lines, deceptive,
 ]
 
 
@@ -275,7 +455,7 @@ def measured(program, each, folder, most):
     done = crafted.run(program, ["show" if len(names) == 1 else "compare", *names, *each.words], most)
     last = done.output.rstrip("\n").split("\n")[-1] if done.status is not None else "stopped"
     cells = [each.what, "%d" % size, "%d" % each.rings, "%.1f" % done.seconds, "%.0f" % done.megabytes]
-    print("| %s |" % " | ".join([*cells, "%.1f" % (done.megabytes * 2**20 / size), last[:70]]), flush=True)
+    print("| %s |" % " | ".join([*cells, "%.1f" % (done.megabytes * 2**20 / size), last[:90]]), flush=True)
 
 
 def main():

@@ -1,5 +1,5 @@
 #!/usr/bin/env python3
-"""Runs a program to its end, or for so many seconds (0: no limit), and prints as JSON its status (null where
+"""Runs a program to its end, or for a number of seconds (0: no limit), and prints as JSON its status (null where
 it was stopped), what it wrote, the seconds of processor time that it took, and its peak MB:
 `tools/measure.py SECONDS PROGRAM WORD...`.
 

@@ -4,6 +4,8 @@ point list that says the same."""
 import struct
 
 EAST, NORTH, WEST, SOUTH = range(4)
+# The longest step along an axis that any delta holds, and the greatest magnitude of a signed integer.
+LONGEST, MOST = 2**61 - 1, 2**63 - 1
 
 
 def unsigned(value, fill=0):
@@ -23,11 +25,17 @@ def string(data):
 
 
 def g_delta(rng, x, y):
-    if (x == 0 or y == 0 or abs(x) == abs(y)) and rng.random() < 0.6:
+    short = max(abs(x), abs(y)) < 2**60
+    if short and (x == 0 or y == 0 or abs(x) == abs(y)) and rng.random() < 0.6:
         directions = {(1, 0): 0, (0, 1): 1, (-1, 0): 2, (0, -1): 3, (1, 1): 4, (-1, 1): 5, (-1, -1): 6, (1, -1): 7}
         direction = directions.get(((x > 0) - (x < 0), (y > 0) - (y < 0)), rng.randint(0, 7))
         return unsigned(max(abs(x), abs(y)) << 4 | direction << 1)
     return unsigned(abs(x) << 2 | (x < 0) << 1 | 1) + unsigned(abs(y) << 1 | (y < 0))
+
+
+def are_delta(x, y):
+    """The numbers fit in a g-delta."""
+    return abs(x) < 2**62 and abs(y) <= MOST
 
 
 def axis_delta(x, y, bits):
@@ -37,6 +45,15 @@ def axis_delta(x, y, bits):
 
 def steps_of(points):
     return [(bx - ax, by - ay) for (ax, ay), (bx, by) in zip(points, points[1:])]
+
+
+def cut(step):
+    """The step in as many parts as it takes for each to fit in any delta."""
+    length = max(abs(step[0]), abs(step[1]))
+    if length <= LONGEST:
+        return [step]
+    parts = -(-length // LONGEST)
+    return steps_of([(step[0] * at // parts, step[1] * at // parts) for at in range(parts + 1)])
 
 
 def along(steps, first):
@@ -51,12 +68,14 @@ def point_list(rng, points, closed):
     for first in (0, 1):
         inner = steps[:-1] if closed else steps
         implied = not closed or points[-1] == ((points[0][0], points[-2][1]) if first == 0 else (points[-2][0], points[0][1]))
-        if inner and along(steps, first) and implied and (not closed or len(inner) % 2 == 0):
+        short = all(abs(x + y) <= MOST for x, y in inner)
+        if inner and short and along(steps, first) and implied and (not closed or len(inner) % 2 == 0):
             kinds += [first, first]
     kind = rng.choice(kinds)
     if kind < 2:
         inner = steps[:-1] if closed else steps
         return unsigned(kind) + unsigned(len(inner)) + b"".join(signed(x + y) for x, y in inner)
+    steps = [part for step in steps for part in cut(step)]
     out = unsigned(kind) + unsigned(len(steps))
     before = (0, 0)
     for x, y in steps:
@@ -81,16 +100,19 @@ def spaces(kind, steps, axis):
 
 def repetition(rng, shifts):
     """Shifts, of which there are two at least, by a type that can say them."""
-    steps, many = steps_of(shifts), len(shifts)
-    found = [unsigned(10) + unsigned(many - 2) + b"".join(g_delta(rng, x, y) for x, y in steps)]
-    grid = 2 if all(x % 2 == 0 and y % 2 == 0 for x, y in steps) else 1
-    found.append(unsigned(11) + unsigned(many - 2) + unsigned(grid) + b"".join(g_delta(rng, x // grid, y // grid) for x, y in steps))
+    steps, many, found = steps_of(shifts), len(shifts), []
+    by_deltas = all(are_delta(*step) for step in steps)
+    if by_deltas:
+        found.append(unsigned(10) + unsigned(many - 2) + b"".join(g_delta(rng, x, y) for x, y in steps))
+        grid = 2 if all(x % 2 == 0 and y % 2 == 0 for x, y in steps) else 1
+        deltas = b"".join(g_delta(rng, x // grid, y // grid) for x, y in steps)
+        found.append(unsigned(11) + unsigned(many - 2) + unsigned(grid) + deltas)
     for kind, axis in ((4, 0), (5, 0), (6, 1), (7, 1)):
         said = spaces(kind, steps, axis)
         found += [said] if said else []
     if len(set(steps)) == 1:
         x, y = steps[0]
-        found.append(unsigned(9) + unsigned(many - 2) + g_delta(rng, x, y))
+        found += [unsigned(9) + unsigned(many - 2) + g_delta(rng, x, y)] if by_deltas else []
         if y == 0 and x >= 0:
             found.append(unsigned(2) + unsigned(many - 2) + unsigned(x))
         if x == 0 and y >= 0:
@@ -102,7 +124,8 @@ def repetition(rng, shifts):
         a, b = shifts[1], shifts[columns]
         if [(i * a[0] + j * b[0], i * a[1] + j * b[1]) for j in range(rows) for i in range(columns)] != shifts:
             continue
-        found.append(unsigned(8) + unsigned(columns - 2) + unsigned(rows - 2) + g_delta(rng, *a) + g_delta(rng, *b))
+        if are_delta(*a) and are_delta(*b):
+            found.append(unsigned(8) + unsigned(columns - 2) + unsigned(rows - 2) + g_delta(rng, *a) + g_delta(rng, *b))
         if a[1] == 0 and b[0] == 0 and a[0] >= 0 and b[1] >= 0:
             found.append(unsigned(1) + unsigned(columns - 2) + unsigned(rows - 2) + unsigned(a[0]) + unsigned(b[1]))
     return rng.choice(found)
@@ -143,10 +166,14 @@ class Body:
         self.modal["repetition"] = shifts
         return bits | bit, repetition(self.rng, shifts)
 
-    def mode(self):
+    def mode(self, which, at):
+        """A change of mode now and then; and where the position can be said in absolute mode alone."""
         if self.rng.random() < 0.2:
             self.relative = self.rng.random() < 0.5
             self.out += b"\x10" if self.relative else b"\x0F"
+        if self.relative and any(abs(new - old) > MOST for old, new in zip(self.at[which], at)):
+            self.relative = False
+            self.out += b"\x0F"
         if self.rng.random() < 0.05:
             self.out += b"\0"
 
@@ -198,18 +225,18 @@ class Body:
         self.out += b"\x16" + bytes([bits]) + said
 
     def shape(self, shape):
-        self.mode()
+        self.mode("geometry", shape.points[0])
         xs, ys = [x for x, _ in shape.points], [y for _, y in shape.points]
         corners = [(min(xs), min(ys)), (max(xs), min(ys)), (max(xs), max(ys)), (min(xs), max(ys))]
         if shape.kind == "path":
             self.path(shape)
-        elif shape.points == corners and self.rng.random() < 0.7:
+        elif shape.points == corners and (self.rng.random() < 0.7 or max(xs) - min(xs) > MOST or max(ys) - min(ys) > MOST):
             self.rectangle(shape, *corners[0], max(xs) - min(xs), max(ys) - min(ys))
         else:
             self.polygon(shape)
 
     def reference(self, reference):
-        self.mode()
+        self.mode("placement", reference.at)
         bits, cell = 0, b""
         if self.modal.get("cell") != reference.cell or self.rng.random() < 0.3:
             bits, cell = 0x80, string(reference.cell.encode())

@@ -4,18 +4,28 @@
 Each pair is two spellings of one layout, or of a layout and a changed one, in GDSII or OASIS; one in
 four is compared under a map of layers and a window. Stops at the first answer that isn't the raster's,
 and leaves both files in the folder that it names.
+
+With `--far [--most SECONDS] [--jobs N]` the coordinates lie all over 64 bits, and the answer is that of
+`exact.py`. A run that takes more seconds of processor time than --most is stopped. Goes on after a wrong or
+a late answer, keeps the files of each in the folder that it names, and ends with status 1 if there was one.
 """
 import argparse
+import collections
+import multiprocessing
 import os
 import random
+import resource
 import subprocess
 import sys
 import tempfile
 
+import far
 import gds
 import layout
 import oasis
+import spelling
 
+MOST_BYTES = 4 * 2**30
 ROOT = os.path.dirname(os.path.dirname(os.path.abspath(__file__)))
 
 
@@ -39,16 +49,93 @@ def pair_of(rng):
 
 
 def answer_of(lvl, files, words):
-    done = subprocess.run([lvl, "compare", *files, "--top-a", "TOP", "--top-b", "TOP", *words], capture_output=True, text=True)
+    done = subprocess.run([*words_of(lvl, files), *words], capture_output=True, text=True)
     return (done.stdout + done.stderr).strip().split("\n")[-1]
+
+
+def words_of(lvl, files):
+    return [lvl, "compare", *files, "--top-a", "TOP", "--top-b", "TOP"]
+
+
+def timed(lvl, files, most):
+    """The last line of the answer, or why there is none, and the seconds of processor time that it took."""
+    before = resource.getrusage(resource.RUSAGE_CHILDREN)
+    run = subprocess.Popen(words_of(lvl, files), stdout=subprocess.PIPE, stderr=subprocess.STDOUT, text=True)
+    resource.prlimit(run.pid, resource.RLIMIT_CPU, (most, most))
+    resource.prlimit(run.pid, resource.RLIMIT_AS, (MOST_BYTES, MOST_BYTES))
+    answer = run.communicate()[0].strip().split("\n")[-1]
+    after = resource.getrusage(resource.RUSAGE_CHILDREN)
+    seconds = after.ru_utime + after.ru_stime - before.ru_utime - before.ru_stime
+    if run.returncode < 0:
+        answer = "stopped" if seconds > most - 0.1 else "ended by signal %d" % -run.returncode
+    return answer, seconds
+
+
+def far_files(seed):
+    """The bytes of both files, and the answer."""
+    rng = random.Random("far %d" % seed)
+    layouts, expected = far.pair_of(rng)
+    forms = [gds if spelling.fits_gds(cells) and rng.random() < 0.5 else oasis for cells in layouts]
+    return [form.written(rng, cells) for form, cells in zip(forms, layouts)], expected
+
+
+def write(name, data):
+    with open(name, "wb") as out:
+        out.write(data)
+
+
+def hunted(job):
+    """What the seeds of a range came to: how often each answer, the slowest run, and what was wrong."""
+    lvl, most, folder, seeds = job
+    counts, slowest, wrong = collections.Counter(), (0, 0), []
+    for seed in seeds:
+        files = [os.path.join(folder, "%d.%s" % (seed, side)) for side in "ab"]
+        pair, expected = far_files(seed)
+        for name, data in zip(files, pair):
+            write(name, data)
+        answer, seconds = timed(lvl, files, most)
+        slowest = max(slowest, (seconds, seed))
+        if answer == expected:
+            counts[expected.split(":")[0]] += 1
+            for name in files:
+                os.remove(name)
+        else:
+            counts["stopped" if answer == "stopped" else "wrong"] += 1
+            wrong.append("seed %d\n  expected %s\n  answered %s" % (seed, expected, answer))
+    return counts, slowest, wrong
+
+
+def hunt(asked):
+    """Compares far pairs, by some processes side by side; the status to end with."""
+    folder = tempfile.mkdtemp(prefix="lvl-far-")
+    last = asked.seed + asked.count
+    ranges = [range(at, min(at + 50, last)) for at in range(asked.seed, last, 50)]
+    jobs = [(asked.program, asked.most, folder, seeds) for seeds in ranges]
+    counts, slowest, failed = collections.Counter(), (0, 0), False
+    with multiprocessing.Pool(asked.jobs) as pool:
+        for some, slow, wrong in pool.imap_unordered(hunted, jobs):
+            counts, slowest, failed = counts + some, max(slowest, slow), failed or wrong != []
+            print("\n".join(wrong), end="\n" if wrong else "", flush=True)
+    print("%d far pairs: %s" % (asked.count, dict(counts)))
+    print("the slowest: seed %d, %.2f seconds" % (slowest[1], slowest[0]))
+    if not failed:
+        os.rmdir(folder)
+        return 0
+    print("the files are in %s" % folder)
+    return 1
 
 
 def main():
     line = argparse.ArgumentParser()
     line.add_argument("--count", type=int, default=1000)
     line.add_argument("--seed", type=int, default=1)
-    line.add_argument("--lvl", default=os.path.join(ROOT, "bin", "lvl"))
+    line.add_argument("--program", default=os.path.join(ROOT, "bin", "lvl"))
+    line.add_argument("--far", action="store_true", help="coordinates all over 64 bits")
+    line.add_argument("--most", type=int, default=2, help="far: seconds of processor time after which a run is stopped")
+    line.add_argument("--jobs", type=int, default=1, help="far: processes side by side")
     asked = line.parse_args()
+    if asked.far:
+        sys.exit(hunt(asked))
     folder = tempfile.mkdtemp(prefix="lvl-pairs-")
     files = [os.path.join(folder, "a"), os.path.join(folder, "b")]
     counts = {}
@@ -57,10 +144,9 @@ def main():
         pair = pair_of(rng)
         words, pairs, window = view_of(rng)
         for name, (_, written) in zip(files, pair):
-            with open(name, "wb") as out:
-                out.write(written)
+            write(name, written)
         expected = layout.verdict(*[layout.covered(cells, "TOP") for cells, _ in pair], pairs, window)
-        answer = answer_of(asked.lvl, files, words)
+        answer = answer_of(asked.program, files, words)
         if answer != expected:
             sys.exit("seed %d in %s: %s\n  expected %s\n  answered %s" % (at, folder, " ".join(words), expected, answer))
         counts[expected.split(":")[0]] = counts.get(expected.split(":")[0], 0) + 1
