@@ -3,10 +3,14 @@ PREFIX ?= /usr/local
 PROGRAM := crates/lvl_cli
 NEEDS_RT = command -v rt >/dev/null 2>&1 || { echo "make: rt (the Rattle toolchain) is not on the PATH" >&2; exit 2; }
 
+SOURCES := crates.txt $(shell find crates -path '*/out' -prune -o -type f \( -name '*.rt' -o -name '*.antt' \) -print)
+
 .PHONY: all check growths klayout install clean
 
 # Proves and builds the program, and leaves it as bin/lvl.
-all:
+all: bin/lvl
+
+bin/lvl: $(SOURCES)
 	@$(NEEDS_RT)
 	@.ci/build
 
