@@ -1,7 +1,8 @@
-"""What the program has to answer, whole, by a second reading of the rules: a library as `gds_reader` or
-`oasis_reader` reads it is checked, counted, placed and compared, and the text of the answer is formed.
+"""The right answers of the program, by a second implementation of the rules.
 
-Nothing of lvl's is in it, and no sweep: two lists of rings are compared row by row, by their windings.
+A library that `gds_reader` or `oasis_reader` has read is checked, counted, placed and compared, and the text of
+the answer is made. No code of lvl is used, and no sweep: two lists of rings are compared row by row, by their
+windings.
 """
 from collections import namedtuple
 
@@ -17,7 +18,7 @@ Shape = namedtuple("Shape", "layer rings shifts")
 Reference = namedtuple("Reference", "cell flip quarters at shifts")
 Cell = namedtuple("Cell", "name shapes references")
 Library = namedtuple("Library", "head cells")
-# `allows` is None where the text is the whole answer; else it tests the words that follow the text.
+# If `allows` is None, the text is the whole answer; else `allows` says whether the words after the text are right.
 Answer = namedtuple("Answer", "statuses text allows")
 
 
@@ -69,7 +70,7 @@ def in_range(*numbers):
 
 
 def path_fault(points, half, start, end):
-    """The number and name of what a path breaches, or None."""
+    """The number and name of the rule that a path breaches, or None."""
     steps = [(bx - ax, by - ay) for (ax, ay), (bx, by) in zip(points, points[1:])]
     if half == 0:
         return 1, "NoWidth"
@@ -99,7 +100,7 @@ def oblique(points):
 
 
 def is_cycle(cells, names):
-    """The names are those of cells that refer each to the next, from the first of them in the file on."""
+    """Whether each of these cells refers to the next and the last to the first, which is the first in the file."""
     order = [cell.name for cell in cells]
     if not set(names) <= set(order) or len(set(names)) < len(names):
         return False
@@ -109,7 +110,7 @@ def is_cycle(cells, names):
 
 
 def ranked(cells):
-    """Every cell after those that refer to it; those on a cycle, or below one, are left out."""
+    """The cells, each after those that refer to it, without cells that are on a cycle or below one."""
     waiting = {cell.name: 0 for cell in cells}
     for cell in cells:
         for name in {r.cell for r in cell.references}:
@@ -145,7 +146,7 @@ def top_of(cells, top):
 
 
 def counted(cells, top):
-    """How often each cell is placed, and how many rings each Layer has of all placed cells."""
+    """The number of placed rings on each Layer that has any; refuses too many placed cells or rings."""
     placed, rings = {cell.name: 0 for cell in cells}, {}
     placed[top] = 1
     for cell in ranked(cells):
@@ -183,9 +184,10 @@ def added(box, matrix, points):
 
 
 def beyond(cells, top):
-    """The names of the cells at the end of a chain whose shift, or a vertex of which, is out of range.
+    """The names of the cells at the end of a chain whose shift is out of range, or a placed vertex of which is.
 
-    Least and greatest coordinates are exact for each cell and orientation, since places are chosen freely.
+    The least and greatest coordinates of each cell and orientation are exact, since each reference of a chain can
+    be at any of its places.
     """
     boxes, out = {top: {UNIT: (0, 0, 0, 0)}}, set()
     for cell in ranked(cells):
@@ -206,7 +208,7 @@ def beyond(cells, top):
 
 
 def placed_rings(cells, name, known):
-    """The rings of each Layer that a cell places."""
+    """The rings that a cell draws, itself or through references, by Layer."""
     if name in known:
         return known[name]
     cell, found = next(c for c in cells if c.name == name), {}
@@ -226,7 +228,7 @@ def placed_rings(cells, name, known):
 
 
 def intervals(rings, y):
-    """What the rings cover of a row, as intervals that don't touch."""
+    """What the rings cover in a row, as intervals that don't touch."""
     spans = []
     for ring in rings:
         winding, start = 0, None
@@ -245,7 +247,7 @@ def intervals(rings, y):
 
 
 def first_difference(first, second):
-    """The least square that one list of rings alone covers, and which; None where there is none."""
+    """The least square that only one of the lists of rings covers, and which list; None if there is none."""
     for y in sorted({y for ring in first + second for _, y in ring}):
         one, other = intervals(first, y), intervals(second, y)
         for x in sorted({x for span in one + other for x in span}) if one != other else []:
@@ -268,7 +270,7 @@ def refusal(side, refused):
 
 
 def in_turn(sides, step):
-    """The step of each side in turn: what they give, or the refusal of the first that is refused."""
+    """Applies the step to each side in turn: the results, or the first refusal."""
     given = []
     for side, value in sides:
         try:
@@ -293,7 +295,7 @@ def fitting(value):
 
 
 def accepted(read, files):
-    """Each side's library, top and counts, or the refusal; files are a side, its bytes and its top."""
+    """The library, top and counts of each side, or the refusal; each file is a side, its bytes and its top."""
     sides, refused = in_turn([(side, (data, top)) for side, data, top in files], lambda v: (read(v[0]), v[1]))
     for step in (checked, fitting):
         if not refused:

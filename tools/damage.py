@@ -1,12 +1,10 @@
 #!/usr/bin/env python3
-"""Damages files at random, and compares the whole answers of `lvl` with those of a second reading of the
-rules: `tools/damage.py [--format gds|oas] [--count N] [--seed S] [--program FILE]`.
+"""Damages files at random, and checks the answers of `lvl` against a second implementation of the rules.
 
-Each damaged file is shown, and compared with the file that it was. Status, standard output and standard
-error have to be those that `answers.py` forms. Stops at the first that isn't, and leaves both files in the
-folder that it names. Where over 1,500 rings are placed, the verdict itself isn't judged.
+Each damaged file is shown, and compared with the undamaged one. The exit status, the standard output and the
+standard error must be those that `answers.py` gives. The script stops at the first wrong answer and leaves both
+files in the folder that it prints. If more than 1,500 rings are placed, the verdict itself is not checked.
 """
-import argparse
 import collections
 import glob
 import os
@@ -22,8 +20,8 @@ import gds_reader
 import layout
 import oasis
 import oasis_reader
+import options
 
-ROOT = os.path.dirname(os.path.dirname(os.path.abspath(__file__)))
 WRITERS = {"gds": gds, "oas": oasis}
 LARGE = [2**20 - 2, 2**20 - 1, 2**24 - 1, 2**32 - 1, 2**32, 2**62, 2**62 - 1, 2**63 - 1, 2**63, 2**64 - 2, 2**64 - 1]
 EXTREME = [b"\x7F\xFF\xFF\xFF", b"\x80\0\0\0", b"\xFF\xFF\xFF\xFF", b"\0\1\0\0"]
@@ -31,7 +29,7 @@ ODD_BYTES = [0, 1, 2, 3, 4, 6, 8, 13, 14, 15, 16, 17, 18, 20, 21, 22, 0x40, 0x7F
 
 
 class Traced(oasis_reader.Reader):
-    """A reader that keeps where records begin."""
+    """A reader that keeps the offset of each record."""
 
     def __init__(self, data):
         super().__init__(data)
@@ -47,7 +45,7 @@ def read(data):
 
 
 def starts_of(data):
-    """Where the records of a whole file begin, and its end."""
+    """The offsets of the records of an undamaged file, and the length of the file."""
     if data[:1] == b"%":
         reader = Traced(data)
         reader.library()
@@ -102,7 +100,7 @@ def lengthened(rng, data):
 
 
 def records_moved(rng, data):
-    """One record left out, written twice, or put in another's place."""
+    """One record removed, repeated, exchanged with another, or copied over another."""
     starts = starts_of(data)
     parts = [data[a:b] for a, b in zip(starts, starts[1:])] + [data[starts[-1]:]]
     one, other = rng.randrange(len(parts)), rng.randrange(len(parts))
@@ -119,7 +117,7 @@ def records_moved(rng, data):
 
 
 def heads_changed(rng, data):
-    """The first bytes of a record: in GDSII length, type and data type, in OASIS id and info, or a count."""
+    """The first bytes of a record changed: length, type and data type in GDSII; id, info or a count in OASIS."""
     out, at = bytearray(data), rng.choice(starts_of(data)[:-1])
     for _ in range(rng.choice([1, 1, 2])):
         place = min(len(out) - 1, at + rng.choice([0, 1, 1, 2, 3, 4, 5, 6, 7]))
@@ -128,7 +126,7 @@ def heads_changed(rng, data):
 
 
 def values_changed(rng, data):
-    """A byte or two of one record, its head left as it is."""
+    """One or two bytes of a record changed, but not its head."""
     out, starts = bytearray(data), starts_of(data)
     which = rng.randrange(len(starts) - 1)
     first, end = starts[which] + (1 if data[:1] == b"%" else 4), starts[which + 1]
@@ -139,7 +137,7 @@ def values_changed(rng, data):
 
 
 def number_grown(rng, data):
-    """A byte of a record made a large number, as OASIS spells it; in GDSII four bytes made an extreme one."""
+    """A byte of a record replaced by a large OASIS integer; in GDSII, four bytes by an extreme integer."""
     starts = starts_of(data)
     which = rng.randrange(len(starts) - 1)
     if data[:1] == b"%":
@@ -157,8 +155,8 @@ DAMAGES = [
 
 
 def source(rng, form):
-    """A file to damage: an example, or one that is made."""
-    kept = sorted(glob.glob(os.path.join(ROOT, "examples", "*." + form)))
+    """A file to damage: an example or a pseudo-random file."""
+    kept = sorted(glob.glob(os.path.join(options.ROOT, "examples", "*." + form)))
     if rng.random() < 0.15:
         with open(rng.choice(kept), "rb") as file:
             return file.read()
@@ -180,7 +178,7 @@ def answered(program, words):
 
 
 def pair_of(rng, form):
-    """The words of a comparison of a damaged file with what it was, both files, and their tops."""
+    """A damaged file and the undamaged one: the options of their comparison, the files, and their tops."""
     whole = source(rng, form)
     files = [damaged(rng, whole), whole]
     if rng.random() < 0.3:
@@ -191,7 +189,7 @@ def pair_of(rng, form):
 
 
 def kind_of(answer):
-    """Step, number and name of a refusal, or the verdict's word."""
+    """The step, number and name of a refusal, or the first word of a verdict."""
     words = answer.text.split("\n")[-1].rstrip(":").split()
     if words[0] == "refused:":
         return " ".join(words[2:5])
@@ -199,7 +197,7 @@ def kind_of(answer):
 
 
 def judged(program, rng, form, names):
-    """The answer for a pair, in short; or the whole of what was expected and answered, where they differ."""
+    """The kind of answer for a pair and None; or None and a message if an answer is wrong."""
     words, files, tops = pair_of(rng, form)
     for name, data in zip(names, files):
         with open(name, "wb") as out:
@@ -217,22 +215,22 @@ def judged(program, rng, form, names):
 
 
 def main():
-    line = argparse.ArgumentParser()
-    line.add_argument("--format", choices=["gds", "oas"], default="gds")
-    line.add_argument("--count", type=int, default=1000)
-    line.add_argument("--seed", type=int, default=1)
-    line.add_argument("--program", default=os.path.join(ROOT, "bin", "lvl"))
-    asked = line.parse_args()
+    line = options.parser("Damages files at random, and checks the answers of lvl against a second implementation "
+                          "of the rules.")
+    line.add_argument("--format", choices=["gds", "oas"], default="gds", help="GDSII (the default) or OASIS")
+    line.add_argument("--count", metavar="N", type=int, default=1000, help="the number of files (default: 1000)")
+    line.add_argument("--seed", metavar="S", type=int, default=1, help="the first seed (default: 1)")
+    asked = options.parsed(line)
     folder = tempfile.mkdtemp(prefix="lvl-damage-")
     names = [os.path.join(folder, "a"), os.path.join(folder, "b")]
     outcomes = collections.Counter()
     for seed in range(asked.seed, asked.seed + asked.count):
         short, wrong = judged(asked.program, random.Random("%s %d" % (asked.format, seed)), asked.format, names)
         if wrong:
-            sys.exit("seed %d: %s" % (seed, wrong))
+            sys.exit("seed %d in %s: %s" % (seed, folder, wrong))
         outcomes[short] += 1
     shutil.rmtree(folder)
-    print("%d damaged files, all answered as the rules have it:" % asked.count)
+    print("%d damaged files, all answers right:" % asked.count)
     for short, many in outcomes.most_common():
         print("%7d %s" % (many, short))
 

@@ -1,7 +1,7 @@
-"""What shapes cover and where two layouts differ, exactly, wherever on the grid their corners lie.
+"""The first square in which two layouts differ, exact for coordinates anywhere in 64 bits.
 
-Nothing of lvl's is in it. Each ring is cut into slabs between its own ordinates, and covers there what its
-windings say; the slabs of all rings are laid over each other, and the rows of both layouts are compared.
+No code of lvl is used. Each ring is cut into slabs between its own ordinates; its windings say what it covers in
+each slab. The slabs of all rings are combined to rows, and the rows of both layouts are compared.
 """
 from collections import namedtuple
 
@@ -11,7 +11,7 @@ LEAST, MOST = -(2**63), 2**63 - 1
 PAST = (MOST + 1, MOST + 1)
 
 Map = namedtuple("Map", "flip quarters at")
-# Shapes and the maps by which all of them are placed.
+# Shapes, and the maps by each of which all of them are placed.
 Group = namedtuple("Group", "shapes maps")
 HERE = Map(False, 0, (0, 0))
 
@@ -26,7 +26,7 @@ def image(point, by):
 
 
 def source(point, by):
-    """The point whose image it is."""
+    """The point whose image this is."""
     x, y = point[0] - by.at[0], point[1] - by.at[1]
     for _ in range(by.quarters):
         x, y = y, -x
@@ -34,7 +34,7 @@ def source(point, by):
 
 
 def moved(shape, by, go=image):
-    """The shape by a map, or by the way back."""
+    """The shape moved by a map, or by its inverse with `go=source`."""
     if by == HERE:
         return shape
     turn = by._replace(at=(0, 0))
@@ -50,12 +50,12 @@ def bands(shape):
 
 
 def rings_of(shape):
-    """The rings of a shape, unmoved."""
+    """The rings of a shape, without its shifts."""
     return [corners(*band) for band in bands(shape)] if shape.kind == "path" else [shape.points]
 
 
 def fits(shape, least=LEAST, most=MOST):
-    """All of the shape's coordinates are within the bounds, as drawn and at each shift."""
+    """Whether all coordinates of the shape are within the bounds, as drawn and at each shift."""
     points = [point for ring in rings_of(shape) for point in ring]
     for numbers, steps in zip(zip(*points), zip(*shape.shifts)):
         low, high = min(steps), max(steps)
@@ -69,7 +69,7 @@ def transposed(points):
 
 
 def spans_of(crossings):
-    """What a ring covers of a row, from the abscissas and signs of the edges that cross it."""
+    """What a ring covers in a row, from the abscissas and signs of the edges that cross the row."""
     spans, winding, start = [], 0, 0
     for x, sign in sorted(crossings):
         if winding == 0:
@@ -81,7 +81,7 @@ def spans_of(crossings):
 
 
 def slabs(ring):
-    """Lower and upper ordinate of each slab of the ring, and the intervals that it covers there."""
+    """The lower and upper ordinate of each slab of the ring, and the intervals that the ring covers there."""
     edges = [(ax, ay, by) for (ax, ay), (_, by) in zip(ring, ring[1:] + ring[:1]) if ay != by]
     ys = sorted({edge[1] for edge in edges})
     at = {y: n for n, y in enumerate(ys)}
@@ -105,7 +105,7 @@ def merged(spans):
 
 
 def rows(rings, ys):
-    """For each of the ordinates the intervals that rings cover from there up to the next, not yet merged."""
+    """For each ordinate the intervals, not merged, that the rings cover from there up to the next ordinate."""
     at = {y: n for n, y in enumerate(ys)}
     found = [[] for _ in ys]
     for ring in rings:
@@ -120,7 +120,7 @@ def ordinates(rings):
 
 
 def least(one, other):
-    """The least abscissa that one of two rows alone covers, and which row."""
+    """The least abscissa that only one of two rows covers, and which row."""
     for (a, b), (c, d) in zip(one + [PAST], other + [PAST]):
         if a != c:
             return (a, "first") if a < c else (c, "second")
@@ -129,7 +129,7 @@ def least(one, other):
 
 
 def first_difference(first, second):
-    """The least square that one of two lists of rings alone covers, and which list; None if there is none."""
+    """The least square that only one of the lists of rings covers, and which list; None if there is none."""
     ys = ordinates(first + second)
     for y, one, other in zip(ys, rows(first, ys), rows(second, ys)):
         one, other = merged(one), merged(other)
@@ -145,7 +145,7 @@ def flat(groups):
 
 
 def placed_rings(shapes):
-    """The rings of each Layer, at all shifts."""
+    """The rings at all shifts, by Layer."""
     found = {}
     for shape in shapes:
         rings = found.setdefault(shape.layer, [])

@@ -1,4 +1,4 @@
-"""Layouts at random with coordinates near 0, 2^31, 2^32, 2^62 and both ends of 64 bits, mixed in one layout."""
+"""Pseudo-random layouts with coordinates near 0, 2^31, 2^32, 2^62 and both ends of 64 bits."""
 import layout
 import spelling
 from exact import HERE, LEAST, MOST, Group, Map, corners, fits, moved, transposed, verdict
@@ -9,7 +9,7 @@ NARROW = [0, 2**16, 2**30, -(2**30), -(2**31), 2**31 - 1]
 
 
 class Numbers:
-    """Coordinates at random: few of each axis, so that many of them are equal."""
+    """Pseudo-random coordinates, few on each axis, so that many of them are equal."""
 
     def __init__(self, rng, narrow):
         self.rng, self.narrow = rng, narrow
@@ -30,28 +30,28 @@ class Numbers:
         return sorted(found) if len(found) > 1 else self.pool()
 
     def one(self, axis):
-        """A coordinate, mostly of the pool."""
+        """A coordinate, in most cases from the pool."""
         if self.rng.random() < 0.9:
             return self.rng.choice(self.pools[axis])
         return self.near(self.rng.choice(NARROW if self.narrow else BASES))
 
     def other(self, axis, old):
-        """A coordinate that isn't the old one."""
+        """A coordinate other than the old one."""
         new = self.one(axis)
         return new if new != old else self.other(axis, old)
 
     def length(self):
-        """A length from 1 to 2^63, or as far as the grid has it."""
+        """A length from 1 to 2^63, or to 2^30 in a narrow layout."""
         return self.rng.choice([1, self.rng.randint(1, 40), 2 ** self.rng.randint(0, 30 if self.narrow else 63)])
 
     def two(self, axis):
-        """Two coordinates, the lesser first."""
+        """Two different coordinates, the lesser first."""
         low = self.one(axis)
         high = self.clamped(low + self.length()) if self.rng.random() < 0.3 else self.one(axis)
         return (low, high) if low < high else (high, low) if high < low else self.two(axis)
 
     def many(self, axis, count):
-        """Coordinates in rising order, all different."""
+        """Different coordinates in ascending order."""
         fresh = [self.near(self.rng.choice(self.pools[axis])) for _ in range(count)]
         return sorted({*fresh, *self.two(axis)})
 
@@ -73,7 +73,7 @@ def box(numbers, _):
 
 
 def walk(numbers, many):
-    """Steps along x and y in turn, back to the start; it may cross itself."""
+    """Steps along x and y in turn, back to the start; the ring may cross itself."""
     points = [(numbers.one(0), numbers.one(1))]
     for _ in range(many + 1):
         points.append((numbers.one(0), points[-1][1]))
@@ -94,7 +94,7 @@ def comb(numbers, many):
 
 
 def rounds(numbers, many):
-    """Round and round, each time almost as the time before, or as a spiral."""
+    """A ring that goes round several times, along the same way or as a spiral."""
     (x0, x1), (y0, y1) = numbers.two(0), numbers.two(1)
     more = numbers.rng.choice([0, 0, 1, 1, 3]) if many <= 100 else 0
     points = [(x0, y0)]
@@ -106,7 +106,7 @@ def rounds(numbers, many):
 
 
 def line(numbers, many):
-    """All corners on one line, which covers nothing."""
+    """A ring whose corners are all on one line, so that it covers nothing."""
     axis = numbers.rng.randint(0, 1)
     across = numbers.one(1 - axis)
     points = [(numbers.one(axis), across) for _ in range(many + 3)]
@@ -114,7 +114,7 @@ def line(numbers, many):
 
 
 def column(numbers, many):
-    """All corners at two abscissas; or, transposed, at two ordinates."""
+    """A ring whose corners are all at two abscissas, or at two ordinates."""
     axis = numbers.rng.randint(0, 1)
     pair = numbers.two(axis)
     points = [(pair[0], numbers.one(1 - axis))]
@@ -129,7 +129,7 @@ RINGS = [box, box, box, box, walk, walk, walk, comb, rounds, line, column]
 
 
 def path(numbers, layer):
-    """A path at random, or None where the one that was tried isn't allowed."""
+    """A pseudo-random path, or None if the first one that is tried breaches a rule."""
     rng, points = numbers.rng, [(numbers.one(0), numbers.one(1))]
     axis = rng.randint(0, 1)
     for _ in range(rng.randint(1, 4)):
@@ -150,7 +150,7 @@ def path(numbers, layer):
 
 
 def repeated(numbers, shape):
-    """The shape at some shifts, where it fits at all of them."""
+    """The shape at several shifts, if some are found at all of which it fits."""
     for _ in range(4):
         (ax, ay), (bx, by) = numbers.step(), numbers.step()
         m, n = numbers.rng.randint(2, 3), numbers.rng.choice([1, 1, 2])
@@ -172,7 +172,7 @@ def shape_of(numbers):
 
 
 def group_of(numbers):
-    """A shape as it is, or some shapes placed by maps."""
+    """One shape that isn't moved, or several shapes placed by maps."""
     rng = numbers.rng
     if rng.random() < 0.85:
         return Group([shape_of(numbers)], [HERE])
@@ -183,12 +183,12 @@ def group_of(numbers):
 
 
 def made(numbers):
-    """A layout of one Layer to three."""
+    """A layout of up to 40 groups."""
     return [group_of(numbers) for _ in range(numbers.rng.choice([1, 1, 2, 2, 3, 4, 5, 8, 12, 20, 40]))]
 
 
 def edge_moved(numbers, points):
-    """The ring with one of its edges moved, or all of its corners at one abscissa or ordinate."""
+    """The ring with one edge moved, or with all corners at one abscissa or ordinate moved."""
     axis = numbers.rng.randint(0, 1)
     points = transposed(points) if axis else list(points)
     at = numbers.rng.randrange(len(points))
@@ -209,7 +209,7 @@ def shape_changed(numbers, shape):
 
 
 def changed(numbers, groups):
-    """The layout with one shape changed, added, or left out."""
+    """The layout with one shape changed, or with one group added or removed."""
     rng, which = numbers.rng, numbers.rng.randrange(len(groups))
     group, rest = groups[which], groups[:which] + groups[which + 1:]
     kind = rng.random()
@@ -225,7 +225,7 @@ def changed(numbers, groups):
 
 
 def allowed(shape, numbers):
-    """The shape fits, and as a path has no run that is too short."""
+    """Whether the shape fits and, if it is a path, has no run that is too short."""
     if not fits(shape, numbers.least, numbers.most) or shape.width > numbers.most:
         return False
     runs = layout.runs(shape.points) if shape.kind == "path" else []
@@ -233,7 +233,7 @@ def allowed(shape, numbers):
 
 
 def pair_of(rng):
-    """Two layouts that are equal or differ in one shape, each spelled as cells, and the answer."""
+    """Two layouts as cells, of which the second is the first or a changed copy, and the right answer."""
     numbers = Numbers(rng, rng.random() < 0.2)
     first = made(numbers)
     second = changed(numbers, first) if rng.random() < 0.6 else first

@@ -1,24 +1,7 @@
-"""Writes a layout as GDSII, in one of the spellings that its records leave open."""
+"""Writes a layout as GDSII. Where a file can say the same in several ways, one is chosen at random."""
 import struct
 
-ANGLES = ["0000000000000000", "425a000000000000", "42b4000000000000", "4310e00000000000"]
-
-
-def record(kind, data_type, payload=b""):
-    payload += b"\0" * (len(payload) % 2)
-    return struct.pack(">HBB", len(payload) + 4, kind, data_type) + payload
-
-
-def short(kind, value, data_type=2):
-    return record(kind, data_type, struct.pack(">H", value & 0xFFFF))
-
-
-def xy(points):
-    return record(0x10, 3, b"".join(struct.pack(">ii", x, y) for x, y in points))
-
-
-def element(kind, *records):
-    return record(kind, 0) + b"".join(records) + record(0x11, 0)
+from assembler import ANGLES, REFLECTED, STREAM_END, element, record, short, stream_head, structure, xy
 
 
 def ring(rng, layer, points):
@@ -48,7 +31,7 @@ def shape_records(rng, shape):
 
 
 def lattice(shifts):
-    """Columns, rows and both steps, where the shifts are such an array, columns first."""
+    """The columns, rows and both steps of the array that the shifts are, if they are one; columns run fastest."""
     for columns in range(1, len(shifts) + 1):
         rows = len(shifts) // columns
         a = shifts[1] if columns > 1 else (0, 0)
@@ -62,8 +45,8 @@ def transform(rng, flip, quarters):
     if not flip and quarters == 0 and rng.random() < 0.5:
         return b""
     magnification = record(0x1B, 5, bytes.fromhex("4110000000000000")) if rng.random() < 0.3 else b""
-    angle = record(0x1C, 5, bytes.fromhex(ANGLES[quarters])) if quarters or rng.random() < 0.5 else b""
-    return short(0x1A, 0x8000 if flip else 0, 1) + magnification + angle
+    angle = record(0x1C, 5, ANGLES[quarters]) if quarters or rng.random() < 0.5 else b""
+    return short(0x1A, REFLECTED if flip else 0, 1) + magnification + angle
 
 
 def reference_records(rng, reference):
@@ -80,10 +63,10 @@ def reference_records(rng, reference):
 
 
 def written(rng, cells):
-    out = [short(0x00, 600), record(0x01, 2, bytes(24)), record(0x02, 6, b"L"), record(0x03, 5, bytes(16))]
+    out = [stream_head()]
     for cell in cells:
         elements = [e for s in cell.shapes for e in shape_records(rng, s)]
         elements += [e for r in cell.references for e in reference_records(rng, r)]
         rng.shuffle(elements)
-        out += [record(0x05, 2, bytes(24)), record(0x06, 6, cell.name.encode()), *elements, record(0x07, 0)]
-    return b"".join(out) + record(0x04, 0) + bytes(rng.choice([0, 0, 1, 100]))
+        out.append(structure(cell.name, *elements))
+    return b"".join(out) + STREAM_END + bytes(rng.choice([0, 0, 1, 100]))

@@ -1,4 +1,4 @@
-"""A second reader of GDSII, by the rules alone: bytes to a library, or the refusal with its offset."""
+"""A second implementation of the GDSII rules: reads bytes as a library, or refuses them with an offset."""
 import struct
 
 from answers import Cell, Lattice, Library, ONCE, Reference, Refused, Shape, band_rings, oblique, path_fault
@@ -7,7 +7,7 @@ HEADER, BGNLIB, LIBNAME, UNITS, ENDLIB, BGNSTR, STRNAME, ENDSTR = range(8)
 BOUNDARY, PATH, SREF, AREF, TEXT, LAYER, DATATYPE, WIDTH, XY, ENDEL, SNAME, COLROW = range(0x08, 0x14)
 TEXTTYPE, PRESENTATION, STRING, STRANS, MAG, ANGLE, PATHTYPE = 0x16, 0x17, 0x19, 0x1A, 0x1B, 0x1C, 0x21
 
-# Data type and payload of each type: a number of bytes, or None for any even number.
+# The data type of each record type, and the length of its payload in bytes (None: any even number).
 TABLE = {
     HEADER: (2, 2), BGNLIB: (2, 24), LIBNAME: (6, None), UNITS: (5, 16), ENDLIB: (0, 0), BGNSTR: (2, 24),
     STRNAME: (6, None), ENDSTR: (0, 0), BOUNDARY: (0, 0), PATH: (0, 0), SREF: (0, 0), AREF: (0, 0), TEXT: (0, 0),
@@ -15,7 +15,7 @@ TABLE = {
     TEXTTYPE: (2, 2), PRESENTATION: (1, 2), STRING: (6, None), STRANS: (1, 2), MAG: (5, 8), ANGLE: (5, 8),
     PATHTYPE: (2, 2),
 }
-# The order of records; a list in a list may be left out.
+# The order of records; a list within a list is optional.
 BY = [STRANS, [MAG], [ANGLE]]
 ELEMENTS = {
     BOUNDARY: [LAYER, DATATYPE, XY, ENDEL],
@@ -32,7 +32,7 @@ POINTS = {BOUNDARY: (4, 8191), PATH: (2, 8191), SREF: (1, 1), TEXT: (1, 1), AREF
 
 
 def after(order, kind):
-    """The rest of the order once a record of the kind is next; None where it has none there."""
+    """What may follow a record of the kind that comes next in the order; None if it may not come there."""
     for at, item in enumerate(order):
         if isinstance(item, list):
             rest = after(item, kind)
@@ -44,7 +44,7 @@ def after(order, kind):
 
 
 def record(data, at):
-    """The type and payload of the record at an offset."""
+    """The type and the payload of the record at an offset."""
     def refuse(number, name):
         raise Refused("gds", number, name, at=at)
 
@@ -100,7 +100,7 @@ class Reader:
         return Library(head, [Cell(*cell) for cell in self.cells])
 
     def place(self, kind):
-        """The record's place in the order; an element is opened by its first record."""
+        """Advances the order by the record, which opens an element if it is its first."""
         self.refuse_if(kind not in TABLE, 11, "Unsupported", kind)
         if self.order:
             rest = after(self.order, kind)

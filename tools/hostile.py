@@ -1,24 +1,26 @@
 #!/usr/bin/env python3
-"""What the worst file of each kind costs: `tools/hostile.py [--program FILE] [--only TEXT] [--most SECONDS]`.
+"""Measures what the worst files of each kind cost, and prints a table of it.
 
-Each case makes its files, runs `lvl compare` or `lvl show` on them and prints a row of a table: what it is,
-bytes of the files, placed rings, seconds of processor time, peak MB, bytes of memory for each byte of the
-files, and the last line of the answer. A run that takes longer than --most is stopped.
+Each case makes its files and runs `lvl compare` on two of them or `lvl show` on one. Its row has the size of
+the files in bytes, the placed rings, seconds of processor time, peak memory in MB, bytes of memory for each
+byte of the files, and the last line of the answer (`shown` for a file that was shown).
 """
-import argparse
 import os
 import random
+import re
 import sys
 import tempfile
 from collections import namedtuple
 
 import crafted
-from crafted import aref, box, gds_cell, gds_file, lattice, oas_cell, oas_file, placement, rectangle, sref
-from oasis import axis_delta, signed, steps_of, string, unsigned
+import options
+from assembler import aref, boundary, box, cell_by_name, counted_name, lattice, line, numbered_name, oas_path, placement
+from assembler import polygon, rectangle, row, signed, sref, unsigned
+from crafted import gds_cell, gds_file, oas_cell, oas_file
+from oasis import axis_delta, steps_of
 
-ROOT = os.path.dirname(os.path.dirname(os.path.abspath(__file__)))
 Case = namedtuple("Case", "what rings files words")
-# The least coordinate that a position may have, and the greatest; each is the other's opposite.
+# The least coordinate of a position that OASIS can write, and the greatest; one is the negative of the other.
 LOW, HIGH = 1 - 2**63, 2**63 - 1
 SIZES = (4_000, 16_000, 64_000)
 
@@ -31,12 +33,8 @@ def one(*records):
     return oas_file(oas_cell("TOP", *records))
 
 
-def row(n, step=2):
-    return b"\2" + unsigned(n - 2) + unsigned(step)
-
-
 def doubling(levels, square):
-    """Cells that place the next twice; the last has the square."""
+    """Cells that each place the next one twice; the last draws the square."""
     parts = [
         oas_cell("C%d" % n, placement("C%d" % (n + 1), 0, 0), placement("C%d" % (n + 1), 3 << (levels - n), 0))
         for n in range(levels)
@@ -46,13 +44,13 @@ def doubling(levels, square):
 
 def cells_that_double():
     small, wide = rectangle(0, 0, 1, 1), rectangle(0, 0, 2, 1)
-    yield case("23 cells that double, shown", 2**23, doubling(23, small))
+    yield case("23 cells that double", 2**23, doubling(23, small))
     yield case("the same, twice in the same cells", 2**24, doubling(23, small), doubling(23, small))
     yield case("the same, against wider squares", 2**24, doubling(23, small), doubling(23, wide))
 
 
 def arrays_of_arrays():
-    """Four arrays of 63 places below each other: 15.7 million rings of a hundred bytes."""
+    """Four nested arrays of 63 places each: 15.7 million rings."""
     def file(width):
         parts = [oas_cell("C%d" % n, placement("C%d" % (n + 1), 0, 0, row(63, 2 * 63**n))) for n in range(4)]
         return oas_file(*parts, oas_cell("C4", rectangle(0, 0, width, 1)))
@@ -79,40 +77,40 @@ def hierarchies():
     yield case("2,500 cells, each places all after it; shown from the last", 0, oas_file(dense), words=words)
     round_ = (b"".join(oas_cell("%07d" % at, placement("%07d" % ((at + 1) % many)))) for at in range(many))
     yield case("a cycle of 1,048,576 cells", 0, oas_file(round_))
-    yield case("1,048,576 cells of one name", 0, oas_file(b"\x0E\1A" * many))
+    yield case("1,048,576 cells of one name", 0, oas_file(cell_by_name(b"A") * many))
 
 
 def paths():
     steps = [signed(10), signed(10), signed(-10), signed(-10)] * 16_384
     def file(n, half):
-        return one(crafted.oas_path(steps, half)[:-2], b"\0\0", *([b"\x16\0"] * (n - 1)))
+        return one(oas_path(steps, half)[:-2], b"\0\0", *([b"\x16\0"] * (n - 1)))
     yield case("a path of 65,536 runs on itself, two widths", 2 * 65_536, file(1, 2), file(1, 3))
     yield case("16 such paths, two widths", 32 * 65_536, file(16, 2), file(16, 3))
-    hidden = lambda n: oas_file(oas_cell("TOP"), oas_cell("B", crafted.oas_path(steps, 2), *([b"\x16\0"] * (n - 1))))
-    yield case("100 such paths in a cell that isn't placed, shown", 0, hidden(100), words=["--top", "TOP"])
+    hidden = lambda n: oas_file(oas_cell("TOP"), oas_cell("B", oas_path(steps, 2), *([b"\x16\0"] * (n - 1))))
+    yield case("100 such paths in a cell that isn't placed", 0, hidden(100), words=["--top", "TOP"])
 
 
 def comb(teeth):
-    """Deltas of a comb: up, right, down, right."""
+    """The deltas of a comb: up, right, down, right."""
     return [signed(9), signed(1), signed(-8), signed(1)] * teeth
 
 
 def polygons():
     def file(n, height):
-        list_ = crafted.polygon(comb(16_383), 1)
-        return one(list_, *([b"\x15\x08" + signed(height * at) for at in range(1, n)]))
+        first = polygon(comb(16_383), 1)
+        return one(first, *([b"\x15\x08" + signed(height * at) for at in range(1, n)]))
     yield case("a polygon of 65,534 corners, two heights", 2, file(2, 20), file(2, 21))
     yield case("100 polygons of one point list, by 4 bytes each", 200, file(100, 20), file(100, 21))
-    yield case("1,000 polygons of one point list, shown", 1000, file(1000, 20))
-    again = crafted.polygon(comb(16_383), 1) + b"\x15\0" * 999
+    yield case("1,000 polygons of one point list", 1000, file(1000, 20))
+    again = polygon(comb(16_383), 1) + b"\x15\0" * 999
     hidden = oas_file(oas_cell("TOP"), oas_cell("B", again))
     yield case("1,000 such polygons by 2 bytes each, not placed", 0, hidden, words=["--top", "TOP"])
-    many = crafted.polygon(comb(16_383), 1).replace(b"\x15\x3B", b"\x15\x3F", 1) + row(1000, 40_000)
-    yield case("the polygon at 1,000 places, shown", 1000, one(many))
+    many = polygon(comb(16_383), 1).replace(b"\x15\x3B", b"\x15\x3F", 1) + row(1000, 40_000)
+    yield case("the polygon at 1,000 places", 1000, one(many))
     up = [((n + 1) // 2, n // 2) for n in range(8188)]
-    ring = crafted.boundary([*up, (up[-1][0], 9000), (0, 9000)])
+    ring = boundary([*up, (up[-1][0], 9000), (0, 9000)])
     array = aref("A", 100, 100, (9000, 0), (0, 9000))
-    yield case("gds, a boundary of 8,190 corners at 10,000 places, shown", 10_000, gds_file(
+    yield case("gds, a boundary of 8,190 corners at 10,000 places", 10_000, gds_file(
         gds_cell("TOP", array), gds_cell("A", ring)))
 
 
@@ -133,18 +131,18 @@ def small_cells():
 
 def records():
     n = 5_000_000
-    yield case("100 MB of PAD records", 0, [crafted.OAS_HEAD + b"\x0E\1A", 10**8, crafted.OAS_END])
-    yield case("5,000,000 rectangles of 2 bytes, shown", n, one(rectangle(0, 0, 1, 1), b"\x14\0" * (n - 1)))
+    yield case("100 MB of PAD records", 0, [crafted.OAS_HEAD + cell_by_name(b"A"), 10**8, crafted.OAS_END])
+    yield case("5,000,000 rectangles of 2 bytes", n, one(rectangle(0, 0, 1, 1), b"\x14\0" * (n - 1)))
     name = "N" * 255
     many = oas_file(oas_cell("TOP"), oas_cell("B", placement(name), b"\x11\0" * (n - 1)), oas_cell(name))
-    yield case("5,000,000 placements of 2 bytes, of a long name, shown", 0, many, words=["--top", "TOP"])
+    yield case("5,000,000 placements of 2 bytes, of a long name", 0, many, words=["--top", "TOP"])
 
 
 def repetitions():
-    """A list of a million shifts, taken again by many records."""
+    """A list of a million shifts that many records repeat by type 0."""
     listed = b"\x0A" + unsigned(1_048_574) + (b"\xA8\1" * 1_048_575)
     again = lambda n: [rectangle(0, 0, 1, 1, 1, listed), *([b"\x14\x04\0"] * (n - 1))]
-    yield case("15 rectangles with one list of 1,048,576 shifts, shown", 15 * 2**20, one(*again(15)))
+    yield case("15 rectangles with one list of 1,048,576 shifts", 15 * 2**20, one(*again(15)))
     hidden = oas_file(oas_cell("TOP"), oas_cell("B", *again(20_000)))
     yield case("20,000 such rectangles in a cell that isn't placed", 0, hidden, words=["--top", "TOP"])
     def placed(n):
@@ -159,9 +157,9 @@ def tables():
     mixed = list(range(n))
     rng.shuffle(mixed)
     for what, order in (("rising", range(n)), ("falling", range(n - 1, -1, -1)), ("mixed", mixed)):
-        table = (b"\4" + string(b"%07d" % at) + unsigned(at << 40) for at in order)
+        table = (numbered_name(b"%07d" % at, at << 40) for at in order)
         yield case("a table of a million names and numbers, %s" % what, 0, oas_file(table, oas_cell("TOP")))
-    long = (b"\3" + string(b"N" * 248 + b"%07d" % at) for at in mixed)
+    long = (counted_name(b"N" * 248 + b"%07d" % at) for at in mixed)
     yield case("a table of a million names of 255 bytes", 0, oas_file(long, oas_cell("TOP")))
 
 
@@ -171,7 +169,7 @@ def layers():
     rng.shuffle(mixed)
     for what, order in (("falling", range(n - 1, -1, -1)), ("mixed", mixed)):
         file = lambda width: one(b"".join(rectangle(0, 0, width, 1, at) for at in order))
-        yield case("a million rectangles on as many layers, %s, shown" % what, n, file(1))
+        yield case("a million rectangles on as many layers, %s" % what, n, file(1))
         yield case("the same, compared with equal ones", 2 * n, file(1), one(rectangle(0, 0, 1, 1, 0), *(
             rectangle(0, 0, 1, 1, at) for at in range(1, n))))
     gds = lambda width: gds_file(
@@ -181,7 +179,7 @@ def layers():
 
 
 def drawn(boxes, rng=None):
-    """A file of boxes in their order, or in another."""
+    """A file of boxes in the given order, or shuffled."""
     boxes = list(boxes)
     if rng:
         rng.shuffle(boxes)
@@ -189,30 +187,30 @@ def drawn(boxes, rng=None):
 
 
 def against_itself(what, boxes):
-    """The boxes against the same in another order, and one unit square far above, which is compared last."""
+    """The boxes against the same boxes shuffled and one unit square far above them, which is compared last."""
     high = max(y1 for _, _, _, y1 in boxes) + 5
     more = boxes + [(boxes[0][0], high, boxes[0][0] + 1, high + 1)]
     return case(what, 2 * len(boxes) + 1, drawn(boxes), drawn(more, random.Random(1)))
 
 
 def polygons_against_themselves(what, rings):
-    """As for boxes: the polygons against the same in another order, and a unit square far above."""
+    """The polygons against the same polygons shuffled and one unit square far above them."""
     high = max(y for ring in rings for _, y in ring) + 5
     square = [(0, high), (0, high + 1), (1, high + 1), (1, high)]
     other = rings + [square]
     random.Random(1).shuffle(other)
-    file = lambda rings: gds_file(gds_cell("TOP", (crafted.boundary(ring) for ring in rings)))
+    file = lambda rings: gds_file(gds_cell("TOP", (boundary(ring) for ring in rings)))
     return case(what, 2 * len(rings) + 1, file(rings), file(other))
 
 
 def corner(at, n):
-    """An L of which the next lies within."""
+    """An L-shape; each lies within the one before."""
     low, middle, high = at, 2 * n - at, 4 * n - at
     return [(low, low), (low, high), (middle, high), (middle, middle), (high, middle), (high, low)]
 
 
 def bracket(at, n):
-    """A C of which the next lies within."""
+    """A C-shape; each lies within the one before."""
     low, middle, upper, right, high = at, 2 * n - at, 4 * n + at, 4 * n - at, 6 * n - at
     return [(low, low), (low, high), (right, high), (right, upper), (middle, upper), (middle, middle),
             (right, middle), (right, low)]
@@ -226,7 +224,7 @@ def wires():
 
 
 def overlaps():
-    """Rectangles whose union is simple, though many lie over each row."""
+    """Shapes that overlap so that many of them cross each row, with a simple union."""
     for n in (5_000, 10_000):
         yield against_itself("%d nested squares" % n, [(at, at, 3 * n - at, 3 * n - at) for at in range(n)])
     for n in (5_000, 10_000):
@@ -239,7 +237,7 @@ def overlaps():
             yield polygons_against_themselves(what, [shape(at, n) for at in range(n)])
     for n in (4_000, 8_000, 16_000):
         signs = (1, 1, -1, -1)
-        spiral = crafted.polygon([signed(signs[at % 4] * (at // 2 + 1)) for at in range(2 * n)])
+        spiral = polygon([signed(signs[at % 4] * (at // 2 + 1)) for at in range(2 * n)])
         more = rectangle(-n // 8, 0, n // 4, 1)
         what = "a polygon of %d corners, round and round, and the same" % (2 * n)
         yield case(what, 3, one(spiral), one(spiral, more))
@@ -267,14 +265,14 @@ def views():
 
 
 def turning(points):
-    """A polygon of corners along x and y in turn, the last of which its point list leaves out."""
+    """A polygon whose edges are along x and y in turn, by a point list of type 0 or 1."""
     along_x = points[0][1] == points[1][1]
     deltas = [signed(x + y) for x, y in steps_of(points[:-1])]
-    return crafted.polygon(deltas, 0 if along_x else 1, at=points[0])
+    return polygon(deltas, 0 if along_x else 1, at=points[0])
 
 
 def other_way(points):
-    """The ring from the same corner the other way round."""
+    """The ring in the opposite direction, from the same corner."""
     return points[:1] + points[:0:-1]
 
 
@@ -283,12 +281,12 @@ def boxes_of(boxes):
 
 
 def at_both_ends(rings):
-    """Rings at the low end of the grid, and the same at the high end, turned by a half."""
+    """Rings at the low end of the grid, and the same rings turned by 180 degrees at the high end."""
     return rings + [[(-x, -y) for x, y in ring] for ring in rings]
 
 
 def far_case(what, first, second):
-    """Records against others of the same mask, and a unit square in the last row of the grid."""
+    """Records against others that draw the same mask and a unit square in the last row of the grid."""
     return case(what, len(first) + len(second) + 1, one(*first), one(*second, rectangle(LOW, HIGH - 1, 1, 1)))
 
 
@@ -305,7 +303,7 @@ def far_combs():
 
 
 def spiral(corners, step):
-    """Round and round, each side a step longer than the one before the last; at the low end of the grid."""
+    """A spiral at the low end of the grid: each side is a step longer than the one before the last."""
     points, signs = [(0, 0)], (1, 1, -1, -1)
     for at in range(corners - 2):
         x, y = points[-1]
@@ -342,7 +340,7 @@ def far_stairs():
 
 
 def wound(rng, times):
-    """Round a large square at the low end of the grid, each time a little beside the time before."""
+    """A ring that goes round a large square at the low end of the grid, each time along a slightly different way."""
     near = lambda: rng.randrange(2**30)
     points = [(LOW + near(), LOW + near())]
     for _ in range(times):
@@ -363,7 +361,7 @@ def far_rounds():
 
 
 def far_bars():
-    """Rings that share two abscissas."""
+    """Rings whose corners are all at two abscissas."""
     rng = random.Random(1)
     number = lambda: rng.randrange(-(2**61), 2**61)
     for n in (10_000, 20_000, 40_000):
@@ -381,8 +379,8 @@ def far_bars():
 
 
 def straight(points):
-    """A polygon of corners anywhere on one line."""
-    return crafted.polygon([axis_delta(x, y, 2) for x, y in steps_of(points)], 2, at=points[0])
+    """A polygon whose corners are anywhere on one line."""
+    return polygon([axis_delta(x, y, 2) for x, y in steps_of(points)], 2, at=points[0])
 
 
 def far_lines():
@@ -399,21 +397,15 @@ def far_lines():
             yield far_case("%d polygons on one line %s" % (n // 4, what), rings, rng.sample(rings, n // 4))
 
 
-def line(n, x, y):
-    """A repetition of n places, a step apart."""
-    step = unsigned(abs(x) << 2 | (x < 0) << 1 | 1) + unsigned(abs(y) << 1 | (y < 0))
-    return b"\x09" + unsigned(n - 2) + step
-
-
 def stair_below(n, more):
-    """Bars beside each other, each a step higher than the one before it, and a few squares far above them."""
+    """Bars side by side, each a step higher than the one before, and a few squares far above them."""
     bars = rectangle(0, 0, 1, n, 1, line(n - 1, 2, 1))
     last = rectangle(2 * (n - 1), n - 1, 1, n + more)
     return one(bars, last, rectangle(0, 10**13, 1, 1, 1, line(n // 50, 100, 10**11)))
 
 
 def high_comb(rng, teeth):
-    """A comb whose teeth end at ordinates that all differ, one of them far above the others."""
+    """A comb whose teeth all end at different ordinates, one of them far above the others."""
     tops = [3 * teeth + at for at in rng.sample(range(teeth), teeth)]
     tops[teeth // 2] = 2**40
     lows = [0, *(1 + at for at in rng.sample(range(teeth), teeth))]
@@ -426,7 +418,7 @@ def high_comb(rng, teeth):
 
 
 def deceptive():
-    """Files whose work a sample of them hides."""
+    """Files in which a sample of the rings doesn't show how much work they are."""
     for n in (5_000, 20_000, 80_000):
         yield case("%d bars as a stair, below far squares" % n, 2 * n, stair_below(n, 0), stair_below(n, 1))
     for teeth in (2_000, 8_000, 16_000):
@@ -449,27 +441,36 @@ GROUPS = [
 ]
 
 
-def measured(program, each, folder, most):
+def answer_of(run):
+    """The last line of the answer; `shown` for a file that was shown."""
+    if run.status is None:
+        return "stopped"
+    last = run.output.rstrip("\n").split("\n")[-1]
+    return "shown" if run.output.startswith("file: ") else last[:90]
+
+
+def measure(program, each, folder, most):
+    """Runs a case and prints its row."""
     names = [os.path.join(folder, "f%d" % at) for at in range(len(each.files))]
     size = sum(crafted.write(name, file) for name, file in zip(names, each.files))
     done = crafted.run(program, ["show" if len(names) == 1 else "compare", *names, *each.words], most)
-    last = done.output.rstrip("\n").split("\n")[-1] if done.status is not None else "stopped"
-    cells = [each.what, "%d" % size, "%d" % each.rings, "%.1f" % done.seconds, "%.0f" % done.megabytes]
-    print("| %s |" % " | ".join([*cells, "%.1f" % (done.megabytes * 2**20 / size), last[:90]]), flush=True)
+    what = re.sub(r"\d{4,}", lambda digits: f"{int(digits[0]):,}", each.what)
+    cells = [what, f"{size:,}", f"{each.rings:,}", f"{done.seconds:.1f}", f"{done.megabytes:,.0f}"]
+    print("| %s |" % " | ".join([*cells, f"{done.megabytes * 2**20 / size:,.1f}", answer_of(done)]), flush=True)
 
 
 def main():
-    line = argparse.ArgumentParser()
-    line.add_argument("--program", default=os.path.join(ROOT, "bin", "lvl"))
-    line.add_argument("--only", default="", help="the groups whose name has this text")
-    line.add_argument("--most", type=float, default=120, help="seconds after which a run is stopped")
-    asked = line.parse_args()
+    parser = options.parser("Measures what the worst files of each kind cost, and prints a table of it.")
+    parser.add_argument("--only", metavar="TEXT", default="", help="only the groups whose name contains TEXT")
+    parser.add_argument("--most", metavar="SECONDS", type=float, default=120,
+                        help="the elapsed seconds after which a run is stopped (default: 120)")
+    asked = options.parsed(parser)
     print("| What | Bytes | Placed rings | Seconds | Peak MB | Memory per byte | Answer |")
     print("|---|---|---|---|---|---|---|")
     with tempfile.TemporaryDirectory(prefix="lvl-hostile-") as folder:
         for group in GROUPS:
             for each in group() if asked.only in group.__name__ else ():
-                measured(asked.program, each, folder, asked.most)
+                measure(asked.program, each, folder, asked.most)
 
 
 if __name__ == "__main__":

@@ -1,7 +1,7 @@
-"""A layout as plain values, made at random, and what it covers, square by square.
+"""Pseudo-random layouts, and the squares that they cover.
 
-This is a second reading of the rules, with nothing of lvl's in it: a ring covers a square by its
-winding, a path covers the squares of its runs, and each reference is followed for every square.
+This is a second implementation of the rules, without any code of lvl: a ring covers a square if its winding there
+isn't 0, a path covers the squares of its runs, and references are followed square by square.
 """
 from collections import namedtuple
 
@@ -14,7 +14,7 @@ NONE = [(0, 0)]
 
 
 def winding(points, x, y):
-    """Edges of the closed ring that go up right of the square, less those that go down."""
+    """The number of edges right of the square that go up across its row, less the number that go down."""
     total = 0
     for (ax, ay), (bx, by) in zip(points, points[1:] + points[:1]):
         if ax == bx and ax > x:
@@ -23,7 +23,7 @@ def winding(points, x, y):
 
 
 def runs(points):
-    """The steps of a path, those that go on in one direction joined."""
+    """The straight runs of a path: its steps, with those in one direction joined."""
     joined = [points[0]]
     for at, point in enumerate(points[1:], 1):
         after = points[at + 1] if at + 1 < len(points) else None
@@ -33,8 +33,8 @@ def runs(points):
 
 
 def bands(points, half, start, end):
-    """The boxes of a path's runs: each is half as wide as the path to both sides, and reaches half of
-    it beyond its corners, `start` and `end` at the path's own ends."""
+    """The boxes of the runs of a path. Each reaches `half` to both sides of its run and beyond the corners of the
+    path; beyond the ends of the path it reaches `start` and `end`."""
     parts = runs(points)
     boxes = []
     for at, ((ax, ay), (bx, by)) in enumerate(parts):
@@ -50,7 +50,7 @@ def bands(points, half, start, end):
 
 
 def squares_of(shape):
-    """The squares that a shape covers, unmoved."""
+    """The squares that a shape covers, without its shifts."""
     if shape.kind == "path":
         half = shape.width // 2
         boxes = bands(shape.points, half, *shape.ends)
@@ -63,7 +63,7 @@ def squares_of(shape):
 
 
 def image(square, flip, quarters):
-    """Where the square goes by a reflection along y and then quarter turns, as a square."""
+    """The image of a square by a reflection about the X axis, if `flip` is set, and then quarter turns."""
     x, y = square
     if flip:
         y = -y - 1
@@ -73,7 +73,7 @@ def image(square, flip, quarters):
 
 
 def covered(cells, name, seen=None):
-    """For each Layer the squares that the cell covers, through all references."""
+    """The squares that the cell covers through all references, by Layer."""
     seen = {} if seen is None else seen
     if name in seen:
         return seen[name]
@@ -94,7 +94,7 @@ def covered(cells, name, seen=None):
 
 
 def verdict(first, second, pairs=(), window=None):
-    """The last line of the comparison of what two tops cover, under a map and a window."""
+    """The last line of the answer, from the squares that two tops cover, under a map and a window."""
     targets = dict(pairs)
     moved = {}
     for layer, squares in second.items():
@@ -123,7 +123,7 @@ def stairs(rng, size):
 
 
 def path_points(rng, half):
-    """A path at random whose runs are at least half as long as it is wide."""
+    """A pseudo-random path whose runs are at least as long as half its width."""
     x, y = rng.randint(-6, 6), rng.randint(-6, 6)
     points, along = [(x, y)], rng.random() < 0.5
     for _ in range(rng.randint(1, 3)):
@@ -135,7 +135,7 @@ def path_points(rng, half):
 
 
 def shifts_of(rng):
-    """Shifts of a repetition, the first of them zero."""
+    """The shifts of a repetition, of which the first is zero."""
     kind = rng.randint(0, 4)
     if kind == 0:
         a, b = (rng.randint(-9, 9), rng.randint(-9, 9)), (rng.randint(-9, 9), rng.randint(-9, 9))
@@ -162,8 +162,13 @@ def shape_of(rng):
     return Shape(layer, "ring", stairs(rng, 9), 0, (0, 0), shifts)
 
 
+def reference_of(rng, cell):
+    flip, quarters = rng.random() < 0.5, rng.randint(0, 3)
+    return Reference(cell, flip, quarters, (rng.randint(-12, 12), rng.randint(-12, 12)), shifts_of(rng))
+
+
 def made(rng):
-    """Cells at random, the top last but for the order, which is at random too."""
+    """Pseudo-random cells in a random order; the top is named TOP."""
     names = ["A", "B", "C", "TOP"][rng.randint(0, 3):]
     cells = []
     for at, name in enumerate(names):
@@ -171,18 +176,15 @@ def made(rng):
         below = names[:at]
         targets = [rng.choice(below) for _ in range(rng.randint(0, 2))] if below else []
         if name == "TOP":
-            targets += [n for n in below if n not in targets and not any(n == r.cell for c in cells for r in c.references)]
-        references = [
-            Reference(t, rng.random() < 0.5, rng.randint(0, 3), (rng.randint(-12, 12), rng.randint(-12, 12)), shifts_of(rng))
-            for t in targets
-        ]
-        cells.append(Cell(name, shapes, references))
+            used = {r.cell for c in cells for r in c.references}
+            targets += [n for n in below if n not in targets and n not in used]
+        cells.append(Cell(name, shapes, [reference_of(rng, target) for target in targets]))
     rng.shuffle(cells)
     return cells
 
 
 def changed(rng, cells):
-    """The same with one shape moved by a step, or one left out."""
+    """The cells with one shape moved by one step, or removed."""
     at = rng.randrange(len(cells))
     cell = cells[at]
     if not cell.shapes:

@@ -1,24 +1,24 @@
 #!/usr/bin/env python3
-"""Runs `lvl` on files at each limit and one past it: `tools/limits.py [--program FILE] [--only TEXT]`.
+"""Runs `lvl` on files at each limit and one past it, and checks the answers.
 
-The files are made one after another in a temporary folder and kept by none. For each run a line is
-printed: whether the answer is the rules', what was run, its last line, seconds of processor time, peak MB,
-and bytes of the files. Some take minutes or 5 GB; the files of 4 GB are zeros that take no room on the disk.
+The files are made one after another in a temporary folder, and each is removed after its run. A line is
+printed for each run: whether the answer is right, what was run, the last line of the answer, seconds of
+processor time, peak memory in MB, and the sizes of the files in bytes. Some runs take minutes or 5 GB of
+memory; the files of 4 GB are zeros that take no space on disk. The exit status is 1 if an answer is wrong.
 """
-import argparse
 import os
 import sys
 import tempfile
 from collections import namedtuple
 
 import crafted
-from crafted import GDS_END, GDS_HEAD, GDS_TEXT, OAS_END, OAS_HEAD, OAS_TEXT
-from crafted import aref, box, gds_cell, gds_file, lattice, oas_cell, oas_file, placement, rectangle, sref
-from oasis import signed, string, unsigned
+import options
+from assembler import aref, boundary, box, cell_by_number, column, counted_name, lattice, oas_path, path, placement
+from assembler import polygon, rectangle, row, signed, sref, unsigned
+from crafted import GDS_HEAD, GDS_TEXT, OAS_END, OAS_HEAD, OAS_TEXT, gds_cell, gds_file, oas_cell, oas_file
 
-ROOT = os.path.dirname(os.path.dirname(os.path.abspath(__file__)))
 MOST_BYTES, CELLS, PLACES = 4_294_967_295, 1_048_576, 16_777_216
-# What is run, on which files (pieces of bytes), with which further words, and the lines of the answer.
+# A name, the files (each as pieces), further words of the command line, and the lines of the right answer.
 Case = namedtuple("Case", "what files words answer")
 
 
@@ -71,7 +71,7 @@ def chains():
         file = gds_file(gds_cell("TOP", *arrays), gds_cell("A"))
         yield refused(what, file, "cells 7 TooManyPlacements") if answer else shown(what, file, "TOP", 2, [])
     for what, n, answer in (("oasis chains", 4095, None), ("oasis chains + 1", 4096, 7)):
-        more = placement("A", 0, 0, b"\2" + unsigned(4094 - 1) + b"\1") if not answer else b""
+        more = placement("A", 0, 0, row(4095, 1)) if not answer else b""
         file = oas_file(oas_cell("TOP", placement("A", 0, 0, lattice(4096, n, 1, 1)), more), oas_cell("A"))
         yield refused(what, file, "cells 7 TooManyPlacements") if answer else shown(what, file, "TOP", 2, [])
 
@@ -90,11 +90,11 @@ def rings():
 
 
 def compared_rings():
-    """A grid of as many rings as there may be, against the same drawn cell by cell, and against one less."""
+    """A grid of 16,777,216 rings against the same grid placed row by row, and against one with a column less."""
     many = lambda: oas_file(oas_cell("TOP", rectangle(0, 0, 1, 1, 1, lattice(4096, 4096, 2, 2))))
     rows = lambda n: oas_file(
-        oas_cell("TOP", placement("ROW", 0, 0, b"\3" + unsigned(4094) + b"\2")),
-        oas_cell("ROW", rectangle(0, 0, 1, 1, 1, b"\2" + unsigned(n - 2) + b"\2")),
+        oas_cell("TOP", placement("ROW", 0, 0, column(4096, 2))),
+        oas_cell("ROW", rectangle(0, 0, 1, 1, 1, row(n, 2))),
     )
     yield judged("oasis rings, compared", many, lambda: rows(4096), "same")
     verdict = "differ: layer 1 datatype 0 square 8190 0 only in first"
@@ -103,7 +103,7 @@ def compared_rings():
 
 def places():
     for what, file, answer in (
-        ("oasis lattice + 1", rectangle(0, 0, 1, 1, 1, b"\2" + unsigned(PLACES - 1) + b"\1"), "oasis 9 RepetitionSize"),
+        ("oasis lattice + 1", rectangle(0, 0, 1, 1, 1, row(PLACES + 1, 1)), "oasis 9 RepetitionSize"),
         ("oasis list + 1", rectangle(0, 0, 1, 1, 1, b"\4" + unsigned(CELLS - 1)), "oasis 9 RepetitionSize"),
     ):
         yield refused(what, oas_file(oas_cell("TOP", file)), "%s at %d" % (answer, len(OAS_HEAD) + 5))
@@ -115,28 +115,28 @@ def places():
 
 
 def stairs(count):
-    """Deltas of a polygon that climbs: steps along x and y in turn, one of each list less at the top."""
+    """The deltas of a staircase: steps of 1 along x and y in turn."""
     return [signed(1)] * count
 
 
 def deltas():
     record = len(OAS_HEAD) + 5
-    for use, made in (("polygon", crafted.polygon), ("path", lambda steps: crafted.oas_path(steps, 1))):
+    for use, made in (("polygon", polygon), ("path", lambda steps: oas_path(steps, 1))):
         file = oas_file(oas_cell("TOP", made(stairs(65_536))))
         yield shown("oasis deltas of a " + use, file, "TOP", 1, [(1, 0, 1 if use == "polygon" else 65_536)])
         file = oas_file(oas_cell("TOP", made(stairs(65_538))))
         yield refused("oasis deltas of a %s + 2" % use, file, "oasis 7 PointCount at %d" % record)
-    file = oas_file(oas_cell("TOP", crafted.polygon([b"\6"], 2, 65_537)))
+    file = oas_file(oas_cell("TOP", polygon([b"\6"], 2, 65_537)))
     yield refused("oasis deltas + 1", file, "oasis 7 PointCount at %d" % record)
 
 
 def points():
-    """In GDSII a record holds no more than 8,191 points."""
+    """A GDSII record holds at most 8,191 points."""
     up = [((n + 1) // 2, n // 2) for n in range(8188)]
     ring = [*up, (up[-1][0], 9000), (0, 9000)]
-    yield shown("gds points of a boundary", gds_file(gds_cell("TOP", crafted.boundary(ring))), "TOP", 1, [(1, 0, 1)])
-    path = crafted.gds_path([((n + 1) // 2, n // 2) for n in range(8191)], 2)
-    yield shown("gds points of a path", gds_file(gds_cell("TOP", path)), "TOP", 1, [(1, 0, 8190)])
+    yield shown("gds points of a boundary", gds_file(gds_cell("TOP", boundary(ring))), "TOP", 1, [(1, 0, 1)])
+    stair = path([((n + 1) // 2, n // 2) for n in range(8191)], 2)
+    yield shown("gds points of a path", gds_file(gds_cell("TOP", stair)), "TOP", 1, [(1, 0, 8190)])
 
 
 def names():
@@ -145,14 +145,13 @@ def names():
     yield refused("gds name + 1", gds_file(gds_cell(longer)), "gds 20 Name at %d" % (len(GDS_HEAD) + 28))
     yield shown("oasis name", oas_file(oas_cell(long)), long, 1, [])
     yield refused("oasis name + 1", oas_file(oas_cell(longer)), "oasis 3 StringByte at %d" % len(OAS_HEAD))
-    table = lambda name: b"\3" + string(name.encode())
-    yield shown("oasis name in a table", oas_file(table(long), b"\x0D\0"), long, 1, [])
-    file = oas_file(table(longer), b"\x0D\0")
+    yield shown("oasis name in a table", oas_file(counted_name(long.encode()), cell_by_number(0)), long, 1, [])
+    file = oas_file(counted_name(longer.encode()), cell_by_number(0))
     yield refused("oasis name in a table + 1", file, "oasis 3 StringByte at %d" % len(OAS_HEAD))
 
 
 def deep():
-    """A chain of as many cells as there may be, against the one square that it places."""
+    """A chain of 1,048,576 cells, against the one square that it places."""
     last = CELLS - 1
     gds = lambda: gds_file(
         (b"".join(gds_cell("%07d" % at, sref("%07d" % (at + 1), 1, 0))) for at in range(last)),
@@ -169,9 +168,9 @@ def deep():
 
 
 def round_and_round():
-    """A path that goes round one square again and again, against one round, and one run more."""
+    """A path that goes round a square 16,384 times, against four rectangles that cover the same."""
     steps = [signed(10), signed(10), signed(-10), signed(-10)] * 16_384
-    long = lambda: oas_file(oas_cell("TOP", crafted.oas_path(steps, 2)))
+    long = lambda: oas_file(oas_cell("TOP", oas_path(steps, 2)))
     ring = lambda: gds_file(
         gds_cell("TOP", *(box(*b) for b in ((-2, -2, 12, 2), (8, -2, 12, 12), (-2, 8, 12, 12), (-2, -2, 2, 12))))
     )
@@ -192,7 +191,8 @@ GROUPS = [
 ]
 
 
-def tried(program, case, folder):
+def is_right(program, case, folder):
+    """Whether the program gives the right answer; prints the line of the run."""
     names = [os.path.join(folder, "%s%d" % (case.what.replace(" ", "-"), at)) for at in range(len(case.files))]
     sizes = [crafted.write(name, file) for name, file in zip(names, case.files)]
     done = crafted.run(program, ["show" if len(names) == 1 else "compare", *names, *case.words])
@@ -208,12 +208,12 @@ def tried(program, case, folder):
 
 
 def main():
-    line = argparse.ArgumentParser()
-    line.add_argument("--program", default=os.path.join(ROOT, "bin", "lvl"))
-    line.add_argument("--only", default="", help="the groups whose name has this text")
-    asked = line.parse_args()
+    line = options.parser("Runs lvl on files at each limit and one past it, and checks the answers.")
+    line.add_argument("--only", metavar="TEXT", default="", help="only the groups whose name contains TEXT")
+    asked = options.parsed(line)
     with tempfile.TemporaryDirectory(prefix="lvl-limits-") as folder:
-        right = [tried(asked.program, c, folder) for group in GROUPS if asked.only in group.__name__ for c in group()]
+        groups = [group for group in GROUPS if asked.only in group.__name__]
+        right = [is_right(asked.program, case, folder) for group in groups for case in group()]
     sys.exit(0 if all(right) else 1)
 
 

@@ -1,9 +1,14 @@
 #!/usr/bin/env python3
-"""Runs a program to its end, or for a number of seconds (0: no limit), and prints as JSON its status (null where
-it was stopped), what it wrote, the seconds of processor time that it took, and its peak MB:
-`tools/measure.py SECONDS PROGRAM WORD...`.
+"""Runs a program and prints what it answered and what it cost, as JSON.
 
-It is a program of its own since a child's peak is counted from that of the process that starts it.
+    tools/measure.py SECONDS PROGRAM WORD...
+
+The program is stopped after SECONDS of elapsed time (0: no limit). The list that is printed has its exit
+status (null if it was stopped), its standard output, its standard error, the seconds of processor time that it
+took, and its peak memory in MB.
+
+This is a script of its own, and imports little, since the peak of a process is at least that of the process
+that started it.
 """
 import json
 import os
@@ -13,7 +18,7 @@ import time
 
 
 def waited(child, until):
-    """The child's status, None where it was stopped, and what it used."""
+    """The exit status of the child, None if it was stopped, and the resources that it used."""
     while True:
         done, status, used = os.wait4(child, os.WNOHANG if until else 0)
         if done:
@@ -25,6 +30,9 @@ def waited(child, until):
 
 
 def main():
+    if len(sys.argv) < 3:
+        print(__doc__)
+        return
     most, *words = sys.argv[1:]
     with tempfile.TemporaryFile() as output, tempfile.TemporaryFile() as errors:
         streams = [(os.POSIX_SPAWN_DUP2, output.fileno(), 1), (os.POSIX_SPAWN_DUP2, errors.fileno(), 2)]

@@ -1,27 +1,17 @@
-"""Writes a layout as OASIS, in one of the many spellings that its records leave open: names or numbers,
-what the record before said left out, absolute or relative positions, and any type of repetition and
-point list that says the same."""
+"""Writes a layout as OASIS. Where a file can say the same in several ways, one is chosen at random.
+
+These are names or numbers of cells, fields that are left out since the modal variable has the value, absolute or
+relative positions, and the types of repetitions and point lists.
+"""
 import struct
 
+import assembler
+from assembler import MAGIC, cell_by_name, cell_by_number, column, counted_name, end, lattice, numbered_name, row
+from assembler import signed, start, string, unsigned
+
 EAST, NORTH, WEST, SOUTH = range(4)
-# The longest step along an axis that any delta holds, and the greatest magnitude of a signed integer.
+# The longest step along an axis that fits in any type of delta, and the greatest magnitude of a signed integer.
 LONGEST, MOST = 2**61 - 1, 2**63 - 1
-
-
-def unsigned(value, fill=0):
-    groups = [value & 0x7F]
-    while value := value >> 7:
-        groups.append(value & 0x7F)
-    groups += [0] * fill
-    return bytes([g | 0x80 for g in groups[:-1]] + [groups[-1]])
-
-
-def signed(value):
-    return unsigned(2 * abs(value) + (value < 0))
-
-
-def string(data):
-    return unsigned(len(data)) + data
 
 
 def g_delta(rng, x, y):
@@ -30,11 +20,11 @@ def g_delta(rng, x, y):
         directions = {(1, 0): 0, (0, 1): 1, (-1, 0): 2, (0, -1): 3, (1, 1): 4, (-1, 1): 5, (-1, -1): 6, (1, -1): 7}
         direction = directions.get(((x > 0) - (x < 0), (y > 0) - (y < 0)), rng.randint(0, 7))
         return unsigned(max(abs(x), abs(y)) << 4 | direction << 1)
-    return unsigned(abs(x) << 2 | (x < 0) << 1 | 1) + unsigned(abs(y) << 1 | (y < 0))
+    return assembler.g_delta(x, y)
 
 
 def are_delta(x, y):
-    """The numbers fit in a g-delta."""
+    """Whether a g-delta can be the step."""
     return abs(x) < 2**62 and abs(y) <= MOST
 
 
@@ -48,7 +38,7 @@ def steps_of(points):
 
 
 def cut(step):
-    """The step in as many parts as it takes for each to fit in any delta."""
+    """The step in parts, each of which fits in any type of delta."""
     length = max(abs(step[0]), abs(step[1]))
     if length <= LONGEST:
         return [step]
@@ -57,17 +47,18 @@ def cut(step):
 
 
 def along(steps, first):
-    """The steps lie along x and y in turn, the first of them along that axis."""
+    """Whether the steps are along x and y in turn, the first along the given axis."""
     return all(step[1 - (first + at) % 2] == 0 for at, step in enumerate(steps))
 
 
 def point_list(rng, points, closed):
-    """The points as a list of deltas from the first; in a polygon types 0 and 1 leave the last one out."""
+    """The points as a point list; in a polygon, types 0 and 1 imply the last point."""
     steps = steps_of(points)
     kinds = [2, 3, 4, 5]
     for first in (0, 1):
         inner = steps[:-1] if closed else steps
-        implied = not closed or points[-1] == ((points[0][0], points[-2][1]) if first == 0 else (points[-2][0], points[0][1]))
+        last = (points[0][0], points[-2][1]) if first == 0 else (points[-2][0], points[0][1])
+        implied = not closed or points[-1] == last
         short = all(abs(x + y) <= MOST for x, y in inner)
         if inner and short and along(steps, first) and implied and (not closed or len(inner) % 2 == 0):
             kinds += [first, first]
@@ -88,18 +79,19 @@ def point_list(rng, points, closed):
 
 
 def spaces(kind, steps, axis):
-    """Types 4 to 7: spaces along one axis, on a grid or not."""
+    """A repetition of type 4 to 7, or None if the steps aren't all along the axis in its positive direction."""
     lengths = [step[axis] for step in steps]
     if any(step[1 - axis] or step[axis] < 0 for step in steps):
         return None
     if kind in (5, 7):
         grid = 3 if all(n % 3 == 0 for n in lengths) else 2 if all(n % 2 == 0 for n in lengths) else 1
-        return unsigned(kind) + unsigned(len(lengths) - 1) + unsigned(grid) + b"".join(unsigned(n // grid) for n in lengths)
+        multiples = b"".join(unsigned(n // grid) for n in lengths)
+        return unsigned(kind) + unsigned(len(lengths) - 1) + unsigned(grid) + multiples
     return unsigned(kind) + unsigned(len(lengths) - 1) + b"".join(unsigned(n) for n in lengths)
 
 
 def repetition(rng, shifts):
-    """Shifts, of which there are two at least, by a type that can say them."""
+    """Shifts, of which there are at least two, by one of the types that can be them."""
     steps, many, found = steps_of(shifts), len(shifts), []
     by_deltas = all(are_delta(*step) for step in steps)
     if by_deltas:
@@ -114,9 +106,9 @@ def repetition(rng, shifts):
         x, y = steps[0]
         found += [unsigned(9) + unsigned(many - 2) + g_delta(rng, x, y)] if by_deltas else []
         if y == 0 and x >= 0:
-            found.append(unsigned(2) + unsigned(many - 2) + unsigned(x))
+            found.append(row(many, x))
         if x == 0 and y >= 0:
-            found.append(unsigned(3) + unsigned(many - 2) + unsigned(y))
+            found.append(column(many, y))
     for columns in (2, 3):
         rows = many // columns
         if rows < 2 or rows * columns != many:
@@ -127,12 +119,12 @@ def repetition(rng, shifts):
         if are_delta(*a) and are_delta(*b):
             found.append(unsigned(8) + unsigned(columns - 2) + unsigned(rows - 2) + g_delta(rng, *a) + g_delta(rng, *b))
         if a[1] == 0 and b[0] == 0 and a[0] >= 0 and b[1] >= 0:
-            found.append(unsigned(1) + unsigned(columns - 2) + unsigned(rows - 2) + unsigned(a[0]) + unsigned(b[1]))
+            found.append(lattice(columns, rows, a[0], b[1]))
     return rng.choice(found)
 
 
 class Body:
-    """The records of one cell, with the modal variables as they stand after each."""
+    """The records of one cell, and the modal variables after the last of them."""
 
     def __init__(self, rng, numbers):
         self.rng, self.numbers = rng, numbers
@@ -140,14 +132,14 @@ class Body:
         self.at = {"geometry": (0, 0), "placement": (0, 0)}
 
     def field(self, name, value, bits, bit, said):
-        """The field's bytes, or none where the modal variable has the value already; sets its bit."""
+        """The info bits and the bytes of a field, which may be left out if its modal variable has the value."""
         if self.modal.get(name) == value and self.rng.random() < 0.7:
             return bits, b""
         self.modal[name] = value
         return bits | bit, said
 
     def position(self, which, at, bits, x_bit):
-        """The bytes of a position; the bit of y is the one below that of x."""
+        """The info bits and the bytes of a position; the bit of y is the one below that of x."""
         x, y = self.at[which]
         said = b""
         for bit, old, new in ((x_bit, x, at[0]), (x_bit >> 1, y, at[1])):
@@ -167,7 +159,7 @@ class Body:
         return bits | bit, repetition(self.rng, shifts)
 
     def mode(self, which, at):
-        """A change of mode now and then; and where the position can be said in absolute mode alone."""
+        """Now and then changes the mode or adds a PAD; leaves relative mode if the position can't be relative."""
         if self.rng.random() < 0.2:
             self.relative = self.rng.random() < 0.5
             self.out += b"\x10" if self.relative else b"\x0F"
@@ -208,7 +200,7 @@ class Body:
         self.out += b"\x15" + bytes([bits]) + said
 
     def extension(self, reach, half):
-        """A scheme for one end, and the number that it takes."""
+        """A scheme for one end of a path, and the bytes of its number if it has one."""
         schemes = [(3, signed(reach))] + ([(1, b"")] if reach == 0 else []) + ([(2, b"")] if reach == half else [])
         return self.rng.choice(schemes)
 
@@ -220,18 +212,20 @@ class Body:
             (first, one), (last, two) = self.extension(shape.ends[0], half), self.extension(shape.ends[1], half)
             self.modal["ends"] = shape.ends
             bits, wide = bits | 0x80, wide + unsigned(first << 2 | last) + one + two
-        bits, points = self.field("path", steps_of(shape.points), bits, 0x20, point_list(self.rng, shape.points, False))
+        listed = point_list(self.rng, shape.points, False)
+        bits, points = self.field("path", steps_of(shape.points), bits, 0x20, listed)
         bits, said = self.end_of(shape, bits, said + wide + points, shape.points[0])
         self.out += b"\x16" + bytes([bits]) + said
 
     def shape(self, shape):
         self.mode("geometry", shape.points[0])
         xs, ys = [x for x, _ in shape.points], [y for _, y in shape.points]
+        wide, high = max(xs) - min(xs), max(ys) - min(ys)
         corners = [(min(xs), min(ys)), (max(xs), min(ys)), (max(xs), max(ys)), (min(xs), max(ys))]
         if shape.kind == "path":
             self.path(shape)
-        elif shape.points == corners and (self.rng.random() < 0.7 or max(xs) - min(xs) > MOST or max(ys) - min(ys) > MOST):
-            self.rectangle(shape, *corners[0], max(xs) - min(xs), max(ys) - min(ys))
+        elif shape.points == corners and (self.rng.random() < 0.7 or max(wide, high) > MOST):
+            self.rectangle(shape, *corners[0], wide, high)
         else:
             self.polygon(shape)
 
@@ -258,13 +252,13 @@ class Body:
 
 
 def names(rng, numbers):
-    """The name records, with the numbers given or counted."""
+    """The name records, with explicit numbers or with counted ones."""
     if rng.random() < 0.5:
         ordered = sorted(numbers, key=numbers.get)
-        return b"".join(b"\x03" + string(name.encode()) for name in ordered)
+        return b"".join(counted_name(name.encode()) for name in ordered)
     listed = list(numbers)
     rng.shuffle(listed)
-    return b"".join(b"\x04" + string(name.encode()) + unsigned(numbers[name]) for name in listed)
+    return b"".join(numbered_name(name.encode(), numbers[name]) for name in listed)
 
 
 def cell_records(rng, cell, numbers):
@@ -274,7 +268,7 @@ def cell_records(rng, cell, numbers):
     rng.shuffle(items)
     for kind, item in items:
         body.shape(item) if kind == "shape" else body.reference(item)
-    head = b"\x0D" + unsigned(numbers[cell.name]) if by_number else b"\x0E" + string(cell.name.encode())
+    head = cell_by_number(numbers[cell.name]) if by_number else cell_by_name(cell.name.encode())
     return head + body.out
 
 
@@ -282,12 +276,8 @@ def written(rng, cells):
     numbers = {cell.name: at for at, cell in enumerate(rng.sample(cells, len(cells)))} if rng.random() < 0.7 else None
     tables_at_end = rng.random() < 0.3
     unit = rng.choice([b"\0\xE8\x07", b"\x02\x05", b"\x04\x02\x08", b"\x07" + struct.pack("<d", 1000.0)])
-    start = b"\x01" + string(b"1.0") + unit + (b"\1" if tables_at_end else b"\0" + bytes(12))
-    tables = bytes(12) if tables_at_end else b""
     scheme = rng.choice([b"\0", b"\0", b"\1abcd", b"\2wxyz"])
-    room = 256 - 1 - len(tables) - len(scheme) - 2
-    end = b"\x02" + tables + unsigned(room) + bytes(room) + scheme
     body = [cell_records(rng, cell, numbers) for cell in cells]
     table = names(rng, numbers) if numbers is not None else b""
     parts = [table, *body] if rng.random() < 0.5 else [*body, table]
-    return b"%SEMI-OASIS\r\n" + start + b"".join(parts) + end
+    return MAGIC + start(unit, tables_at_end) + b"".join(parts) + end(scheme, tables_at_end)

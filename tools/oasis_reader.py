@@ -1,4 +1,4 @@
-"""A second reader of OASIS, by the rules alone: bytes to a library, or the refusal with its offset."""
+"""A second implementation of the OASIS rules: reads bytes as a library, or refuses them with an offset."""
 from answers import LIMIT, Cell, Lattice, Library, Listed, ONCE, Reference, Refused, Shape
 from answers import band_rings, in_range, oblique, path_fault
 
@@ -20,7 +20,7 @@ def times(step, count):
 
 
 class Values:
-    """The values of section 2, one after another; a refusal has the offset of the record begun."""
+    """Reads values one after another; the offset of a refusal is that of the record that was begun."""
 
     def __init__(self, data):
         self.data, self.at, self.begun = data, 0, 0
@@ -60,7 +60,7 @@ class Values:
         return out.decode("latin-1")
 
     def real(self):
-        """The type and what follows it: whole numbers or bytes."""
+        """The type of a real, and its integers or its bytes."""
         kind = self.unsigned()
         self.refuse_if(kind > 7, 4, "RealType")
         if kind > 5:
@@ -81,7 +81,7 @@ class Values:
         return (-1 if value & 2 else 1) * (value >> 2), (-1 if other & 1 else 1) * (other >> 1)
 
     def step(self, kind, at, before):
-        """The delta number `at` of a point list, and the step that it makes."""
+        """The step that the delta with index `at` of a point list makes."""
         if kind < 2:
             length = self.signed()
             return (length, 0) if (at + kind) % 2 == 0 else (0, length)
@@ -106,7 +106,7 @@ class Values:
         return points
 
     def repetition(self, modal):
-        """The shifts; None for type 0 where there is no modal repetition."""
+        """The shifts; None for type 0 if there is no modal repetition."""
         kind = self.unsigned()
         self.refuse_if(kind > 11, 8, "RepetitionType")
         if kind == 0:
@@ -148,7 +148,7 @@ def unit_text(real):
 
 
 def ratio(real):
-    """The real as a whole number, if it is one of type 0, 2 or 4."""
+    """The real as a whole number, if its type is 0, 2 or 4 and it is one."""
     kind, numbers = real
     if kind not in (0, 2, 4):
         return None
@@ -178,7 +178,7 @@ class Reader(Values):
             self.record(id)
 
     def judge(self, id):
-        """What the id alone breaches."""
+        """Refuses an id that breaches a rule by itself."""
         self.refuse_if(id not in KNOWN, 24, "Unsupported", id)
         self.refuse_if(id == 1 or (id in IN_CELL and not self.in_cell), 23, "Unexpected", id)
         self.refuse_if(id in (3, 4) and self.name_kind not in (None, id), 26, "MixedNames")
@@ -211,7 +211,7 @@ class Reader(Values):
         return "%d signature %s" % (scheme, signature.hex()) if scheme else "0"
 
     def named(self):
-        """The cells with the names of the numbers that they and their references use."""
+        """The cells, with names in place of the numbers that they and their references use."""
         for number in self.used:
             if number not in self.numbers:
                 raise Refused("oasis", 40, "Unresolved", number)
@@ -259,7 +259,7 @@ class Reader(Values):
         return self.modal[names[0]], self.modal[names[1]]
 
     def shifts(self, is_there):
-        """The record's repetition; what is missing is reported after the other variables."""
+        """The shifts of a record; None if its repetition is undefined, which is reported after the other variables."""
         if not is_there:
             return ONCE
         shifts = self.repetition(self.modal.get("repetition"))
@@ -293,7 +293,7 @@ class Reader(Values):
         self.field("datatype", info & 0x02, self.unsigned)
 
     def drawn(self, info, variables):
-        """Position, shifts, Layer and further variables of a shape, once all its fields are read."""
+        """The position, shifts, Layer and further variables of a shape, after all its fields were read."""
         at = self.position(GEOMETRY, info, 0x10)
         shifts = self.shifts(info & 0x04)
         layer, datatype, *values = self.defined(["layer", "datatype", *variables], shifts)
@@ -329,7 +329,7 @@ class Reader(Values):
         self.cells[-1][1].append(Shape(layer, [ring], shifts))
 
     def extension(self, variable, scheme):
-        """An end's reach; of scheme 2 it is known once the half-width is."""
+        """Sets the reach of an end; scheme 2 sets it only if the half-width is defined."""
         if scheme == 3:
             self.modal[variable] = self.signed()
         elif scheme == 1:

@@ -1,15 +1,14 @@
 #!/usr/bin/env python3
-"""Compares made pairs of files by `lvl` and by a raster: `tools/pairs.py [--count N] [--seed S]`.
+"""Makes pairs of files at random, and checks the answers of `lvl` against those of a raster.
 
-Each pair is two spellings of one layout, or of a layout and a changed one, in GDSII or OASIS; one in
-four is compared under a map of layers and a window. Stops at the first answer that isn't the raster's,
-and leaves both files in the folder that it names.
+Each pair is one layout written twice, or a layout and a changed copy of it, in GDSII or OASIS. One pair in four
+is compared under a map of layers and a window. The script stops at the first wrong answer and leaves both files
+in the folder that it prints.
 
-With `--far [--most SECONDS] [--jobs N]` the coordinates lie all over 64 bits, and the answer is that of
-`exact.py`. A run that takes more seconds of processor time than --most is stopped. Goes on after a wrong or
-a late answer, keeps the files of each in the folder that it names, and ends with status 1 if there was one.
+With `--far` the coordinates are anywhere in 64 bits, and the right answer is that of `exact.py`. Then the script
+goes on after a wrong or late answer, keeps the files of each in the folder that it prints, and ends with status
+1 if there was one.
 """
-import argparse
 import collections
 import multiprocessing
 import os
@@ -23,14 +22,14 @@ import far
 import gds
 import layout
 import oasis
+import options
 import spelling
 
 MOST_BYTES = 4 * 2**30
-ROOT = os.path.dirname(os.path.dirname(os.path.abspath(__file__)))
 
 
 def view_of(rng):
-    """The words of a view at random, and what they mean."""
+    """The options of a pseudo-random view, and its pairs and window."""
     if rng.random() < 0.75:
         return [], (), None
     sources = rng.sample(layout.LAYERS, rng.randint(1, 2))
@@ -42,7 +41,7 @@ def view_of(rng):
 
 
 def pair_of(rng):
-    """Two layouts and their bytes."""
+    """Two layouts, each as cells and as the bytes of a file."""
     first = layout.made(rng)
     second = layout.changed(rng, first) if rng.random() < 0.6 else first
     return [(cells, rng.choice([gds, oasis]).written(rng, cells)) for cells in (first, second)]
@@ -58,7 +57,7 @@ def words_of(lvl, files):
 
 
 def timed(lvl, files, most):
-    """The last line of the answer, or why there is none, and the seconds of processor time that it took."""
+    """The last line of the answer, or why there is none, and the seconds of processor time."""
     before = resource.getrusage(resource.RUSAGE_CHILDREN)
     run = subprocess.Popen(words_of(lvl, files), stdout=subprocess.PIPE, stderr=subprocess.STDOUT, text=True)
     resource.prlimit(run.pid, resource.RLIMIT_CPU, (most, most))
@@ -72,7 +71,7 @@ def timed(lvl, files, most):
 
 
 def far_files(seed):
-    """The bytes of both files, and the answer."""
+    """The bytes of both files, and the right answer."""
     rng = random.Random("far %d" % seed)
     layouts, expected = far.pair_of(rng)
     forms = [gds if spelling.fits_gds(cells) and rng.random() < 0.5 else oasis for cells in layouts]
@@ -85,7 +84,7 @@ def write(name, data):
 
 
 def hunted(job):
-    """What the seeds of a range came to: how often each answer, the slowest run, and what was wrong."""
+    """Runs the pairs of a range of seeds; returns the number of each answer, the slowest run, and what was wrong."""
     lvl, most, folder, seeds = job
     counts, slowest, wrong = collections.Counter(), (0, 0), []
     for seed in seeds:
@@ -106,7 +105,7 @@ def hunted(job):
 
 
 def hunt(asked):
-    """Compares far pairs, by some processes side by side; the status to end with."""
+    """Compares far pairs in parallel, and returns the exit status."""
     folder = tempfile.mkdtemp(prefix="lvl-far-")
     last = asked.seed + asked.count
     ranges = [range(at, min(at + 50, last)) for at in range(asked.seed, last, 50)]
@@ -126,14 +125,15 @@ def hunt(asked):
 
 
 def main():
-    line = argparse.ArgumentParser()
-    line.add_argument("--count", type=int, default=1000)
-    line.add_argument("--seed", type=int, default=1)
-    line.add_argument("--program", default=os.path.join(ROOT, "bin", "lvl"))
-    line.add_argument("--far", action="store_true", help="coordinates all over 64 bits")
-    line.add_argument("--most", type=int, default=2, help="far: seconds of processor time after which a run is stopped")
-    line.add_argument("--jobs", type=int, default=1, help="far: processes side by side")
-    asked = line.parse_args()
+    line = options.parser("Makes pairs of files at random, and checks the answers of lvl against those of a raster.")
+    line.add_argument("--count", metavar="N", type=int, default=1000, help="the number of pairs (default: 1000)")
+    line.add_argument("--seed", metavar="S", type=int, default=1, help="the first seed (default: 1)")
+    line.add_argument("--far", action="store_true", help="make coordinates anywhere in 64 bits")
+    line.add_argument("--most", metavar="SECONDS", type=int, default=2,
+                      help="with --far: the processor time after which a run is stopped (default: 2)")
+    line.add_argument("--jobs", metavar="N", type=int, default=1,
+                      help="with --far: the number of processes (default: 1)")
+    asked = options.parsed(line)
     if asked.far:
         sys.exit(hunt(asked))
     folder = tempfile.mkdtemp(prefix="lvl-pairs-")
@@ -148,9 +148,10 @@ def main():
         expected = layout.verdict(*[layout.covered(cells, "TOP") for cells, _ in pair], pairs, window)
         answer = answer_of(asked.program, files, words)
         if answer != expected:
-            sys.exit("seed %d in %s: %s\n  expected %s\n  answered %s" % (at, folder, " ".join(words), expected, answer))
+            sys.exit("seed %d in %s: %s\n  expected %s\n  answered %s"
+                     % (at, folder, " ".join(words), expected, answer))
         counts[expected.split(":")[0]] = counts.get(expected.split(":")[0], 0) + 1
-    print("%d pairs, all as the raster has them: %s" % (asked.count, counts))
+    print("%d pairs, all answers right: %s" % (asked.count, counts))
 
 
 if __name__ == "__main__":

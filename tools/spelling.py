@@ -1,19 +1,22 @@
-"""The many ways to spell a layout as cells: other rings that cover the same, other corners to begin from, and
-cells placed by maps. The numbers are those of `far.py`, and so are shapes, groups and maps."""
+"""Writes a layout of `far.py` as cells, in one of many ways chosen at random.
+
+Rings are replaced by others that cover the same squares or begin at other corners, and shapes are moved to cells
+that are placed by maps.
+"""
 from exact import HERE, LEAST, MOST, Map, corners, fits, image, merged, moved, ordinates, placed_rings, rings_of
 from exact import rows, source, transposed
 from layout import NONE, Cell, Reference, Shape
 
 
 def clipped(points, axis, low, high):
-    """The part of a ring between two coordinates."""
+    """The ring clipped to the part of the grid between two coordinates."""
     points = transposed(points) if axis else points
     points = [(min(max(x, low), high), y) for x, y in points]
     return transposed(points) if axis else points
 
 
 def cut(numbers, points):
-    """The ring in two parts, which may overlap."""
+    """Two rings that together cover what the ring covers; they may overlap."""
     axis = numbers.rng.randint(0, 1)
     at = [numbers.one(axis) for _ in range(numbers.rng.randint(1, 2))]
     return [clipped(points, axis, LEAST, max(at)), clipped(points, axis, min(at), MOST)]
@@ -25,7 +28,7 @@ def within(numbers, points):
 
 
 def spike(numbers, points):
-    """The ring with a way out and back at one corner."""
+    """The ring with a spike of no width at one corner."""
     at = numbers.rng.randrange(len(points))
     x, y = points[at]
     far = (numbers.one(0), y) if numbers.rng.random() < 0.5 else (x, numbers.one(1))
@@ -33,7 +36,7 @@ def spike(numbers, points):
 
 
 def twice(_, points):
-    """The ring by going round it two times."""
+    """A ring that goes round twice."""
     return [points * 2 if len(points) < 80 else points]
 
 
@@ -45,7 +48,7 @@ WAYS = [cut, within, spike, spike, twice, other_way, other_way]
 
 
 def ways(numbers, points):
-    """Rings that cover together what the ring covers."""
+    """Rings that together cover what the ring covers."""
     rings = [points]
     for _ in range(numbers.rng.choice([0, 0, 1, 1, 2, 3])):
         at = numbers.rng.randrange(len(rings))
@@ -54,7 +57,7 @@ def ways(numbers, points):
 
 
 def respelled(numbers, shape, maps):
-    """Shapes that cover together what the shape covers, and fit wherever it is placed."""
+    """Shapes that together cover what the shape covers, and fit wherever it is placed."""
     if shape.kind == "path" and numbers.rng.random() < 0.5:
         return [shape]
     rings = [ring for whole in rings_of(shape) for ring in ways(numbers, whole)]
@@ -64,7 +67,7 @@ def respelled(numbers, shape, maps):
 
 
 def as_boxes(numbers, layer, rings):
-    """What rings cover as boxes, one for each interval of a row or of a column; none where they are many."""
+    """What the rings cover as boxes, one for each interval of a row or column; None if there are more than 60."""
     turned = numbers.rng.random() < 0.5
     rings = [transposed(ring) for ring in rings] if turned else rings
     ys = ordinates(rings)
@@ -76,7 +79,7 @@ def as_boxes(numbers, layer, rings):
 
 
 def can_be_said(shifts):
-    """The shifts can be said as a repetition: by deltas, or by spaces along one axis."""
+    """Whether some type of repetition can be the shifts: by deltas, or by spaces along one axis."""
     steps = [(bx - ax, by - ay) for (ax, ay), (bx, by) in zip(shifts, shifts[1:])]
     if all(abs(x) < 2**62 and abs(y) < 2**63 for x, y in steps):
         return True
@@ -84,24 +87,24 @@ def can_be_said(shifts):
 
 
 def is_start(at, low, high):
-    """A list of points between two coordinates can be said from that coordinate on."""
+    """Whether a point list can start at a coordinate, if its points lie between two others."""
     return LEAST < at and LEAST <= low - at and high - at <= MOST
 
 
 def starts(points):
-    """Where the list is at points from which all of it can be said."""
+    """The indices of the points at which a point list of these points can start."""
     (x0, x1), (y0, y1) = [(min(numbers), max(numbers)) for numbers in zip(*points)]
     return [at for at, (x, y) in enumerate(points) if is_start(x, x0, x1) and is_start(y, y0, y1)]
 
 
 def between(numbers):
-    """A coordinate from which a list of points can be said that has those coordinates, the first if possible."""
+    """A coordinate at which a point list with those coordinates can start: the first of them if possible."""
     low, high = min(numbers), max(numbers)
     return next(at for at in (numbers[0], (low + high + 1) // 2, LEAST + 1) if is_start(at, low, high))
 
 
 def started(numbers, points):
-    """The ring from a corner from which it can be said; if there is none, from a point within its box."""
+    """The ring from a corner at which a point list can start; if there is none, from a point within its box."""
     good = starts(points)
     if good:
         at = numbers.rng.choice(good)
@@ -111,7 +114,7 @@ def started(numbers, points):
 
 
 def ring_kept(numbers, points):
-    """The ring as a record has it: a rectangle from its lower left corner, unless that can't be said."""
+    """The ring as a record can have it; a rectangle mostly starts at its lower left corner."""
     xs, ys = zip(*points)
     rectangle = corners(min(xs), min(ys), max(xs), max(ys))
     same = len(points) == 4 and set(points) == set(rectangle) and points[0] != points[2]
@@ -121,7 +124,7 @@ def ring_kept(numbers, points):
 
 
 def path_kept(shape):
-    """The path from an end from which it can be said, or its bands."""
+    """The path from an end at which a point list can start; if there is none, its bands."""
     for points, ends in ((shape.points, shape.ends), (shape.points[::-1], shape.ends[::-1])):
         if 0 in starts(points):
             return [shape._replace(points=points, ends=ends)]
@@ -129,7 +132,7 @@ def path_kept(shape):
 
 
 def kept(numbers, shape):
-    """The shape as records have it."""
+    """The shape as records can have it."""
     if not can_be_said(shape.shifts):
         here = [Map(False, 0, shift) for shift in shape.shifts]
         return [each for by in here for each in kept(numbers, moved(shape._replace(shifts=NONE), by))]
@@ -138,12 +141,12 @@ def kept(numbers, shape):
 
 
 def in_range(numbers, *points):
-    """The points can be positions."""
+    """Whether all of the points can be positions."""
     return all(numbers.least < x <= numbers.most and numbers.least < y <= numbers.most for x, y in points)
 
 
 def placed_at(points, chains):
-    """Where points of a cell are at last, by each of the chains of maps from the top down to it."""
+    """The images of points of a cell by each of the chains of maps from the top to the cell."""
     for chain in chains:
         for point in points:
             for by in reversed(chain):
@@ -152,7 +155,7 @@ def placed_at(points, chains):
 
 
 def cell_below(numbers, shapes, chains):
-    """A map, those of the shapes that a cell placed by it may draw, the rest, and the only shift."""
+    """A map, the shapes that a cell placed by it can draw, the remaining shapes, and the zero shift."""
     by = numbers.map()
     if not in_range(numbers, by.at, *placed_at([by.at], chains)):
         return HERE, [], shapes, NONE
@@ -166,7 +169,7 @@ def cell_below(numbers, shapes, chains):
 
 
 def repeated_below(numbers, shapes, chains):
-    """As `cell_below`, with one shape whose repetition becomes that of the reference."""
+    """As `cell_below`, for one shape, whose repetition becomes that of the reference."""
     many = [at for at, shape in enumerate(shapes) if len(shape.shifts) > 1 and can_be_said(shape.shifts)]
     by = numbers.map()
     for at in many:
@@ -179,7 +182,7 @@ def repeated_below(numbers, shapes, chains):
 
 
 def cell_of(numbers, shapes, name, chains=((),)):
-    """The shapes as a cell, some of them in cells that it places; those come before it."""
+    """The shapes as a cell and the cells that it places, which come before it."""
     cells, references = [], []
     for at in range(numbers.rng.choice([0, 0, 1, 2]) if len(chains[0]) < 4 else 0):
         part = repeated_below if numbers.rng.random() < 0.3 else cell_below
@@ -193,7 +196,7 @@ def cell_of(numbers, shapes, name, chains=((),)):
 
 
 def cells_of(numbers, groups):
-    """The layout as cells, the top named TOP."""
+    """The layout as cells; the top is named TOP."""
     rng, top, cells, references = numbers.rng, [], [], []
     for at, group in enumerate(groups):
         shapes = [each for shape in group.shapes for each in respelled(numbers, shape, group.maps)]
@@ -214,7 +217,7 @@ def cells_of(numbers, groups):
 
 
 def fits_gds(cells):
-    """The cells can be written as GDSII: all coordinates fit in 32 bits, those that say an array among them."""
+    """Whether the cells can be written as GDSII: all coordinates, also those of arrays, fit in 32 bits."""
     least, most = -(2**31), 2**31 - 1
     for cell in cells:
         for shape in cell.shapes:

@@ -1,13 +1,13 @@
 #!/usr/bin/env python3
-"""Rewrites the END record of an OASIS file that KLayout wrote, and touches nothing else.
+"""Rewrites the END record of an OASIS file that KLayout wrote, and changes nothing else.
 
-SEMI P39 OASIS fills the END record with padding up to 256 bytes. KLayout leaves the padding empty
-and spells its length, 0, in up to 254 bytes; lvl reads integers of ten bytes at most. This program
-writes the same END record with a padding of zero bytes in the standard's way:
+SEMI P39 OASIS fills the END record with padding to 256 bytes. KLayout leaves the padding empty and writes
+its length, 0, in up to 254 bytes, but lvl reads integers of at most ten bytes. This script writes the same END
+record with a padding of zero bytes:
 
     mend_end.py IN OUT
 
-It refuses a file whose last 256 bytes are no such record, and then writes nothing.
+It refuses a file whose last 256 bytes aren't such a record, and then writes nothing.
 """
 
 import sys
@@ -23,7 +23,7 @@ class NotMendable(Exception):
 
 
 def unsigned(data, at):
-    """The unsigned integer at the offset, and the offset after it."""
+    """The unsigned integer at an offset, and the offset after it."""
     value = shift = 0
     while True:
         if at >= len(data):
@@ -37,13 +37,13 @@ def unsigned(data, at):
 
 
 def spelled(value, count):
-    """The integer in so many bytes, with fill bytes where it needs fewer."""
+    """The integer in `count` bytes, with fill bytes if it needs fewer."""
     groups = [(value >> (7 * i)) & 0x7F for i in range(count)]
     return bytes([group | 0x80 for group in groups[:-1]] + [groups[-1]])
 
 
 def tables_are_in_end(data):
-    """Whether START says that the offsets of the tables are in END."""
+    """Whether the offsets of the tables are in END, as START says."""
     if not data.startswith(MAGIC) or data[len(MAGIC)] != 1:
         raise NotMendable("no OASIS file")
     length, at = unsigned(data, len(MAGIC) + 1)
@@ -58,7 +58,7 @@ def tables_are_in_end(data):
 
 
 def mended(data):
-    """The file with its END record as the standard has it."""
+    """The file with an END record that lvl reads."""
     start = len(data) - LENGTH
     if start < len(MAGIC) or data[start] != END:
         raise NotMendable("the last 256 bytes are no END record")

@@ -1,8 +1,8 @@
-"""Writes a small hierarchy by KLayout, as GDSII and as OASIS: `make klayout` runs it.
+"""Writes a small hierarchy as GDSII and as OASIS by KLayout; `make klayout` runs it.
 
     klayout -b -r contrib/klayout/write.py -rd gds=OUT.gds -rd oasis=OUT.oas
 
-The options are those that lvl needs of KLayout's OASIS writer (docs/FILES.md says why).
+The options of the OASIS writer are those that lvl needs; docs/FILES.md says why.
 """
 
 import pya
@@ -21,7 +21,7 @@ def gate(layout):
 
 
 def chip(layout):
-    """A row of gates as an array, placed as it is, and reflected and turned."""
+    """A row of gates as an array, placed three times: as it is, reflected and turned, and turned."""
     row = layout.create_cell("ROW")
     array = pya.CellInstArray(gate(layout).cell_index(), pya.Trans(), pya.Vector(500, 0), pya.Vector(0, 600), 8, 2)
     row.insert(array)

@@ -4,10 +4,11 @@
 //! semicolon between them. A cell is its name and then words: `0..2` is a box from 0 to 2, one high, and
 //! `A,5,3,90` places the cell A three times, ten steps apart from 5 on, turned by 90 degrees; `-90`
 //! reflects it first.
-use lvl_cells::{Builder, Checked, Layer, Name, Offsets, Reference, check};
+use lvl_cells::{Builder, Checked, Reference, check};
 use lvl_compare::{pays_by_cells, same_by_cells};
 use lvl_flat::fits_by_boxes;
 use lvl_grid::{Point, Ring, Turn};
+use lvl_names::{Layer, Name, Offsets};
 use std::alloc::Global;
 use std::test::Fail;
 

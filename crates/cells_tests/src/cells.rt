@@ -1,8 +1,7 @@
 //! Libraries in a few words, and what the check says of them.
-use lvl_cells::{
-    Cell, CellFault, Checked, Layer, Library, Name, Offsets, Reference, Shapes, check,
-};
+use lvl_cells::{Cell, CellFault, Checked, Library, Reference, Shapes, check};
 use lvl_grid::{Point, Ring, Turn};
+use lvl_names::{Layer, Name, Offsets};
 use lvl_refusal::Refusal;
 use std::alloc::{AllocError, Global};
 use std::test::Fail;

@@ -1,7 +1,8 @@
 //! What small libraries flatten to.
-use lvl_cells::{Cell, Layer, Library, Name, Offsets, Reference, Shapes, check};
+use lvl_cells::{Cell, Library, Reference, Shapes, check};
 use lvl_flat::{Flat, FlatFault, flatten};
 use lvl_grid::{Map, Point, Ring, Square, Turn};
+use lvl_names::{Layer, Name, Offsets};
 use lvl_refusal::Refusal;
 use std::alloc::Global;
 use std::test::Fail;

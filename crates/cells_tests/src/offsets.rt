@@ -1,6 +1,7 @@
 //! Lattices and lists of shifts, and references that place a cell at them.
-use lvl_cells::{Name, Offsets, Reference};
+use lvl_cells::Reference;
 use lvl_grid::{Point, Turn};
+use lvl_names::{Name, Offsets};
 use std::test::Fail;
 
 const ORIGIN: Point = Point { x: 0, y: 0 };
@@ -50,6 +51,31 @@ fn lists_of_shifts(rt: HostRuntime) -> Result<(), Fail> {
     assert_eq!(rt; shifts.len(), 2);
     assert_eq!(rt; shifts.at(1), Some(RIGHT));
     assert_eq!(rt; shifts.at(2), None);
+    Ok(())
+}
+
+fn point(x: i64, y: i64) -> Point {
+    Point { x, y }
+}
+
+#[test]
+fn reaches(rt: HostRuntime) -> Result<(), Fail> {
+    let rows = [
+        (RIGHT, 1, UP, 1, (0, 0), (0, 0)),
+        (point(3, 1), 4, point(2, 5), 3, (0, 0), (13, 13)),
+        (point(-3, 1), 4, point(2, -5), 3, (-9, -10), (4, 3)),
+        (point(-3, -1), 4, point(-2, -5), 3, (-13, -13), (0, 0)),
+    ];
+    for (a, m, b, n, low, high) in rows {
+        let shifts = Offsets::lattice(a, m, b, n).ok_or("shifts")?;
+        let want = (point(low.0, low.1), point(high.0, high.1));
+        assert_eq!(rt; shifts.reach(), want, "{a:?} {b:?}");
+    }
+    let listed = [ORIGIN, point(5, -2), point(-1, 7)].to_vec(rt.alloc())?;
+    let mut shifts = Offsets::new(listed).ok_or("shifts")?;
+    assert_eq!(rt; shifts.reach(), (point(-1, -2), point(5, 7)));
+    shifts.share()?;
+    assert_eq!(rt; shifts.reach(), (point(-1, -2), point(5, 7)));
     Ok(())
 }
 

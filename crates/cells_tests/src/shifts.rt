@@ -1,6 +1,6 @@
 //! A list of shifts and the same list shared, where all of its shifts fit and where they don't.
-use lvl_cells::Offsets;
 use lvl_grid::Point;
+use lvl_names::Offsets;
 use std::alloc::Global;
 use std::test::Fail;
 

@@ -1,10 +1,11 @@
 //! Layers mapped and windows shown: flat layouts compared as a view says.
 ghost use Rattle.std.specs.Prelude.{◌<◌, ◌^◌, pos, ◌<ℤ◌, ◌≤ℤ◌};
 
-use lvl_cells::{Cell, Layer, Offsets, Shapes};
+use lvl_cells::{Cell, Shapes};
 use lvl_compare::first_difference_in;
 use lvl_flat::{Flat, flatten_shapes};
 use lvl_grid::{Point, Ring, Square, Window};
+use lvl_names::{Layer, Offsets};
 use lvl_region::Side;
 use lvl_view::View;
 use std::alloc::Global;

@@ -1,9 +1,10 @@
 //! What the documentation of the crates shows, line by line.
 
-use lvl_cells::{Builder, Checked, Layer, Offsets, check};
+use lvl_cells::{Builder, Checked, check};
 use lvl_compare::first_difference;
 use lvl_flat::flatten;
 use lvl_grid::{Point, Ring, Square};
+use lvl_names::{Layer, Offsets};
 use lvl_region::Side;
 use lvl_view::View;
 use std::alloc::Global;
@@ -22,6 +23,17 @@ fn checked(alloc: Global, name: &[u8], high: Point) -> Result<Checked, Fail> {
     builder.add_ring(METAL, ring.points(), &Offsets::single())?;
     builder.close(alloc)?;
     Ok(check(alloc, builder.finish(), None)?)
+}
+
+#[test]
+fn shifts(rt: HostRuntime) -> Result<(), Fail> {
+    let across = Point { x: 10, y: 0 };
+    let up = Point { x: 0, y: 20 };
+    let shifts = Offsets::lattice(across, 4, up, 3).ok_or("out of range")?;
+    assert_eq!(rt; shifts.len(), 12);
+    assert_eq!(rt; shifts.at(5), Some(Point { x: 10, y: 20 }));
+    assert!(rt; shifts.all_fit_at(Point { x: -5, y: -5 }));
+    Ok(())
 }
 
 #[test]

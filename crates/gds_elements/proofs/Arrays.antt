@@ -8,9 +8,9 @@ use Rattle.std.proofs.Math.Nat.{mul-le-mul_left}
 use Rattle.std.proofs.lemmas.Int.{ints, quot-rem, unsigned_abs-mul, fits_signed_from_abs}
 use Rattle.lvl_grid.specs.declared.point.Point.{Point}
 use Rattle.lvl_grid.specs.Turn.{FitsPoint, shifted}
-use Rattle.lvl_cells.specs.Shifts.{steps, lattice, IsLattice}
-use Rattle.lvl_cells.specs.inside.Keeping.{StaysWithin, HasFarCorner}
-use Rattle.lvl_cells.proofs.Lattices.{far_corner, corners_moved}
+use Rattle.lvl_names.specs.Shifts.{steps, lattice, IsLattice}
+use Rattle.lvl_names.specs.inside.Keeping.{StaysWithin, HasFarCorner}
+use Rattle.lvl_names.proofs.Lattices.{far_corner, corners_moved}
 use Rattle.gds_elements.specs.Values.{IsNarrow}
 use Rattle.gds_elements.specs.Meaning.{step}
 use Rattle.gds_elements.specs.Rules.{IsDivided}

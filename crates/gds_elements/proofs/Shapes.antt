@@ -1,7 +1,7 @@
 -- The layer and datatype of a shape with one more record, and shapes by their parts.
 use Rattle.std.proofs.Common.{◌≡◌, ◌==◌, ℕ, true, false, if◌then◌else◌, List, [], ◌∷◌, ◌++◌, refl, sym, ap, ◌∙◌, subst}
 use Rattle.lvl_grid.specs.declared.point.Point.{Point}
-use Rattle.lvl_cells.specs.declared.layer.Layer.{Layer as LayerOf}
+use Rattle.lvl_names.specs.declared.layer.Layer.{Layer as LayerOf}
 use Rattle.lvl_cells.specs.Cells.{PlainShape, Rings}
 use Rattle.gds_elements.specs.Types.{layer, datatype, xy}
 use Rattle.gds_elements.specs.Rec.{Rec}

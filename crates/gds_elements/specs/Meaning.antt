@@ -4,9 +4,9 @@ use Rattle.std.specs.Int.RustNames.{int_div}
 use Rattle.std.specs.Ordering.{int_eq}
 use Rattle.lvl_grid.specs.declared.point.Point.{Point}
 use Rattle.lvl_path.specs.Figure.{Figure, rings, path as path_along, figure_rings}
-use Rattle.lvl_cells.specs.declared.layer.Layer.{Layer}
+use Rattle.lvl_names.specs.declared.layer.Layer.{Layer}
 use Rattle.lvl_cells.specs.Cells.{PlainShape, PlainReference, Rings}
-use Rattle.lvl_cells.specs.Shifts.{lattice}
+use Rattle.lvl_names.specs.Shifts.{lattice}
 use Rattle.gds_elements.specs.Types.{boundary, path, sref, aref, layer, datatype, width, xy, sname, colrow, strans}
 use Rattle.gds_elements.specs.Types.{angle, pathtype}
 use Rattle.gds_elements.specs.Rec.{Rec, opener, field, last_of}
@@ -65,7 +65,7 @@ reference piece shifts = record {
 abbrev pub step : Point → Point → ℕ → Point
 step p q n = record { x = int_div (q.x -ℤ p.x) (pos n); y = int_div (q.y -ℤ p.y) (pos n) }
 
--- the second point is so many columns from the first, the third so many rows
+-- the second point is all columns from the first, the third all rows
 abbrev pub array_shifts : List Point → ℕ → ℕ → List Point
 array_shifts ps m n = lattice (step (nth ps 0) (nth ps 1) m) m (step (nth ps 0) (nth ps 2) n) n
 

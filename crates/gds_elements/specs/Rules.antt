@@ -7,7 +7,7 @@ use Rattle.lvl_grid.specs.Winding.{IsStraight, path_edges, last_or}
 use Rattle.lvl_grid.specs.declared.point.Point.{Point}
 use Rattle.lvl_grid.specs.declared.map.Turn.{Turn}
 use Rattle.lvl_path.specs.Runs.{IsLowestFault}
-use Rattle.lvl_cells.specs.Names.{IsName}
+use Rattle.lvl_names.specs.Names.{IsName}
 use Rattle.gds_elements.specs.Types.{boundary, path, sref, aref, text, layer, datatype, width, xy, sname, colrow}
 use Rattle.gds_elements.specs.Types.{strans, mag, angle, pathtype}
 use Rattle.lvl_grammar.specs.Order.{Begins}

@@ -61,7 +61,7 @@ degrees R90 = 0x42 ∷ 0x5A ∷ 0 ∷ 0 ∷ 0 ∷ 0 ∷ 0 ∷ 0 ∷ []
 degrees R180 = 0x42 ∷ 0xB4 ∷ 0 ∷ 0 ∷ 0 ∷ 0 ∷ 0 ∷ 0 ∷ []
 degrees R270 = 0x43 ∷ 0x10 ∷ 0xE0 ∷ 0 ∷ 0 ∷ 0 ∷ 0 ∷ 0 ∷ []
 
--- the turn by so many degrees, none where there is no angle
+-- the turn by an angle in degrees, none where there is no angle
 abbrev pub turn : List ℕ → Turn
 turn p =
     if bytes_eq p (degrees R90) then R90

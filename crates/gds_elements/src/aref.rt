@@ -24,8 +24,9 @@ use crate::order::{Next, only, out_of_order};
 use crate::placing::Placing;
 use crate::values::{point_at, point_count};
 use gds_records::record_type;
-use lvl_cells::{Name, Offsets, Reference};
+use lvl_cells::Reference;
 use lvl_grid::Point;
+use lvl_names::{Name, Offsets};
 use lvl_refusal::Refusal;
 use std::alloc::Global;
 
@@ -155,7 +156,7 @@ fn place_all(
     Ok(Reference::new(name, flip, turn, origin, shifts).unwrap())
 }
 
-/// One of so many equal steps from a point to another.
+/// One of `count` equal steps from a point to another.
 fn step(from: Point, to: Point, count: u64) -> Result<Point, Refusal<ElementFault>>
     requires from { IsNarrow from }
     requires to { IsNarrow to }
@@ -169,7 +170,7 @@ fn step(from: Point, to: Point, count: u64) -> Result<Point, Refusal<ElementFaul
     Ok(Point { x, y })
 }
 
-/// One of so many equal steps, along one axis.
+/// One of `count` equal steps, along one axis.
 fn step_along(from: i64, to: i64, count: u64) -> Result<i64, Refusal<ElementFault>>
     requires from { FitsSigned w32 from }
     requires to { FitsSigned w32 to }

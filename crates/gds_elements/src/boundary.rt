@@ -19,8 +19,8 @@ use crate::layer::read_layer;
 use crate::order::{Next, only, out_of_order};
 use crate::values::points;
 use gds_records::record_type;
-use lvl_cells::Layer;
 use lvl_grid::Ring;
+use lvl_names::Layer;
 use lvl_refusal::Refusal;
 use std::alloc::Global;
 

@@ -15,8 +15,9 @@ use crate::path::Path;
 use crate::sref::Sref;
 use crate::text::Text;
 use gds_records::record_type;
-use lvl_cells::{Layer, Reference};
+use lvl_cells::Reference;
 use lvl_grid::Ring;
+use lvl_names::Layer;
 use lvl_refusal::Refusal;
 use std::alloc::Global;
 

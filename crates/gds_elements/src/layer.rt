@@ -8,7 +8,7 @@ ghost use Rattle.gds_elements.specs.inside.Misplaced.{breach};
 use crate::fault::{ElementFault, ElementRule, breach};
 use crate::values::short;
 use gds_records::record_type;
-use lvl_cells::Layer;
+use lvl_names::Layer;
 use lvl_refusal::Refusal;
 
 /// The layer and datatype of a shape after one more record.

@@ -3,7 +3,7 @@ ghost use Rattle.std.specs.Prelude.{◌≡◌, ◌≢◌, ◌==◌, [], false, I
 ghost use Rattle.lvl_grid.specs.declared.map.Turn.{Turn as GridTurn};
 ghost use Rattle.gds_elements.specs.Types.{sname, strans, mag, angle};
 ghost use Rattle.gds_elements.specs.Values.{bits, name, flips, turn, one_real, degrees};
-ghost use Rattle.lvl_cells.specs.Names.{IsName};
+ghost use Rattle.lvl_names.specs.Names.{IsName};
 ghost use Rattle.gds_elements.specs.inside.Formed.{IsFormed};
 ghost use Rattle.gds_elements.specs.inside.Placing.{IsPlacingFault, IsPlacingAllowed};
 ghost use Rattle.lvl_refusal.specs.Refused.{Says};
@@ -12,8 +12,8 @@ ghost use Rattle.gds_elements.specs.inside.Misplaced.{Broken, breach};
 use crate::fault::{ElementFault, ElementRule, breach};
 use crate::values::{bits, name};
 use gds_records::record_type;
-use lvl_cells::is_name;
 use lvl_grid::Turn;
+use lvl_names::is_name;
 use lvl_refusal::Refusal;
 use std::alloc::Global;
 
@@ -137,7 +137,7 @@ fn read_turn(old: Turn, kind: u8, payload: &[u8]) -> Result<Turn, Refusal<Elemen
     }
 }
 
-/// The turn by so many degrees.
+/// The turn by an angle in degrees.
 fn turn(payload: &[u8]) -> Option<Turn>
     ensures some { IfSome result (λ t. (payload.now ≡ degrees t) × (t ≡ turn payload.now)) }
     ensures none { IfNone result ((t : GridTurn) → payload.now ≢ degrees t) }

@@ -19,7 +19,8 @@ use crate::order::{Next, only, out_of_order};
 use crate::placing::Placing;
 use crate::values::{point_at, point_count};
 use gds_records::record_type;
-use lvl_cells::{Name, Offsets, Reference};
+use lvl_cells::Reference;
+use lvl_names::{Name, Offsets};
 use lvl_refusal::Refusal;
 use std::alloc::Global;
 

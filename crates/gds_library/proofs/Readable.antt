@@ -6,13 +6,14 @@ use Rattle.lvl_refusal.specs.Refused.{Says}
 use Rattle.lvl_refusal.specs.declared.Refusal.{Refusal}
 use Rattle.lvl_refusal.specs.declared.Refusal.TheVariants.{Breach, OutOfMemory}
 use Rattle.lvl_grammar.specs.Front.{SpellsNothing}
-use Rattle.lvl_grammar.specs.Refused.{IsHopeless}
+use Rattle.lvl_grammar.specs.Refused.{IsHopeless, IsUnread}
 use Rattle.lvl_grammar.proofs.Laws.{one_whole}
+use Rattle.lvl_grammar.proofs.Reading.{unread_front}
 use Rattle.lvl_grammar.proofs.Stuck.{seen_stuck, seen_hopeless, stuck_none, truncated_none}
 use Rattle.gds_records.specs.declared.fault.RecordFault.TheVariants.{Truncated, Read}
 use Rattle.gds_library.specs.Drawn.{Drawing}
 use Rattle.gds_library.specs.Front.{gds, SpellsLibrary, SpellsNone}
-use Rattle.gds_library.specs.Ends.{Tells, TellsAt, IsExcused, IsExcusedKind, IsEarly, IsEarlyKind}
+use Rattle.gds_library.specs.Ends.{Tells, TellsAt, TellsUnread, IsExcused, IsExcusedKind, IsEarly, IsEarlyKind}
 use Rattle.gds_library.specs.inside.Refuses.{Refuses, RefusesAt}
 use Rattle.gds_library.specs.Values.{drawings, head}
 use Rattle.gds_library.specs.declared.head.GdsHead.{GdsHead}
@@ -41,7 +42,7 @@ none_spelled xs n cells h p = n p.records p.whole
 -- what a refusal says
 tells_at : (xs : List ℕ) (left : Option (List ℕ)) (at : ℕ) (k : GdsKind) → RefusesAt xs left at k → TellsAt xs at k
 tells_at xs left at (Record Truncated) x = x
-tells_at xs left at (Record Read) x = x
+tells_at xs left at (Record Read) x = unread_front gds xs left at x
 tells_at xs left at other x = seen_stuck gds is_grammar xs at left other x
 
 none_at : (xs : List ℕ) (left : Option (List ℕ)) (at : ℕ) (k : GdsKind) → RefusesAt xs left at k → (IsExcusedKind k → ⊥)
@@ -55,6 +56,11 @@ early_at : (xs : List ℕ) (left : Option (List ℕ)) (at : ℕ) (k : GdsKind) �
 early_at xs left at (Record Truncated) x i = absurd i
 early_at xs left at (Record Read) x i = absurd i
 early_at xs left at other x i = seen_hopeless gds is_grammar xs at left other x
+
+unread_at : (xs : List ℕ) (left : Option (List ℕ)) (at : ℕ) (k : GdsKind) → RefusesAt xs left at k → IsExcusedKind k
+    → IsUnread gds xs left at
+unread_at xs left at (Record Read) x e = x
+unread_at xs left at other x e = absurd e
 
 -- of an answer
 refused : {A : Type 0} (xs : List ℕ) (left : Option (List ℕ)) (P : GdsFault → Type 0)
@@ -78,7 +84,16 @@ pub refused_early : {A : Type 0} (xs : List ℕ) (left : Option (List ℕ)) (r :
 refused_early xs left =
     refused xs left (λ f. IsEarly f → IsHopeless gds xs left) (λ f x. early_at xs left f.offset f.kind x)
 
+refused_unread : {A : Type 0} (xs : List ℕ) (left : Option (List ℕ)) (r : Result A (Refusal GdsFault))
+    → IfErr r (λ e. Says e (Refuses xs left)) → IfErr r (λ e. Says e (TellsUnread xs left))
+refused_unread xs left = refused xs left (TellsUnread xs left) (λ f x. unread_at xs left f.offset f.kind x)
+
 -- of the bytes that are left in the end
+pub unread_left : {A : Type 0} (xs : List ℕ) (left left' : Option (List ℕ)) (r : Result A (Refusal GdsFault))
+    → IfErr r (λ e. Says e (Refuses xs left)) → left ≡ left' → IfErr r (λ e. Says e (TellsUnread xs left'))
+unread_left xs left left' r h e =
+    subst (λ l. IfErr r (λ e. Says e (TellsUnread xs l))) e (refused_unread xs left r h)
+
 pub early_left : {A : Type 0} (xs : List ℕ) (left left' : Option (List ℕ)) (r : Result A (Refusal GdsFault))
     → IfErr r (λ e. Says e (Refuses xs left)) → left ≡ left'
     → IfErr r (λ e. Says e (λ f. IsEarly f → IsHopeless gds xs left'))

@@ -10,7 +10,8 @@ use Rattle.lvl_grid.specs.Winding.{IsStraight}
 use Rattle.lvl_path.specs.Figure.{rings}
 use Rattle.lvl_grammar.specs.Front.{SpellsAll, FollowAll}
 use Rattle.lvl_grammar.specs.Order.{IsWord, Begins}
-use Rattle.lvl_cells.specs.Names.{IsName, cell_limit}
+use Rattle.lvl_names.specs.Names.{IsName}
+use Rattle.lvl_cells.specs.Building.{cell_limit}
 use Rattle.gds_records.specs.Table.{table, form_among}
 use Rattle.gds_records.specs.Spelled.{IsOfForm}
 use Rattle.gds_elements.specs.Types.{boundary, strname, bgnstr, layer, datatype, xy}

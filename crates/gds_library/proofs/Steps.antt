@@ -12,7 +12,7 @@ use Rattle.gds_elements.specs.Order.{an_element, opens}
 use Rattle.gds_elements.specs.Rec.{Rec, kinds, is_type, is_opener, field}
 use Rattle.gds_elements.specs.Values.{short, name}
 use Rattle.gds_elements.specs.Rules.{IsKnown, ElementBreaches, ValueBreaches as BreachesInElement}
-use Rattle.lvl_cells.specs.Names.{IsName}
+use Rattle.lvl_names.specs.Names.{IsName}
 use Rattle.gds_elements.specs.Rules.{InOrder as InOrderInElement, BreachesNone as KeepsElement}
 use Rattle.gds_elements.specs.Rules.{BreachesOnly as OnlyInElement}
 use Rattle.gds_elements.specs.Meaning.{in_rings, shapes_of}
@@ -28,7 +28,7 @@ use Rattle.lvl_grammar.specs.inside.After.{LeadsTo}
 use Rattle.gds_library.specs.Rec.{pieces, last_piece}
 use Rattle.gds_library.specs.Values.{drawings, two_reals}
 use Rattle.gds_library.specs.Rules.{InOrder, Breaches, BreachesOnly, MayFollow}
-use Rattle.lvl_cells.specs.Names.{cell_limit}
+use Rattle.lvl_cells.specs.Building.{cell_limit}
 use Rattle.gds_library.specs.inside.Faults.{IsAllowed, lifted, lifted_refusal}
 use Rattle.lvl_refusal.specs.Refused.{Says}
 use Rattle.lvl_refusal.specs.declared.Refusal.{Refusal}

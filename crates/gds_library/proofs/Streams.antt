@@ -8,13 +8,13 @@ use Rattle.std.specs.Io.KnownBytes.{prepend_known}
 use Rattle.lvl_grammar.specs.Order.{IsWord}
 use Rattle.lvl_grammar.specs.inside.After.{LeadsTo, can_be_empty}
 use Rattle.lvl_grammar.specs.Front.{IsFront}
-use Rattle.lvl_grammar.specs.Refused.{IsFrontAt, IsTruncated}
+use Rattle.lvl_grammar.specs.Refused.{IsTruncated, IsUnread}
 use Rattle.lvl_grammar.specs.inside.ReadTo.{ReadTo, IsSeenWrong}
 use Rattle.lvl_grammar.proofs.Leads.{leads_begin, leads_unwhole, leads_whole}
-use Rattle.lvl_grammar.proofs.Reading.{reads_front, reads_on}
+use Rattle.lvl_grammar.proofs.Reading.{reads_unread, reads_on}
 use Rattle.lvl_grammar.proofs.Stuck.{parts_at}
 use Rattle.gds_records.specs.Records.{file_limit}
-use Rattle.gds_records.specs.Spelled.{IsSpelledAt, IsBegun}
+use Rattle.gds_records.specs.Spelled.{IsSpelledAt, IsBegun, IsUnfinished}
 use Rattle.gds_records.specs.Step.{step, Decides}
 use Rattle.gds_records.specs.Tail.{AnswersTail}
 use Rattle.gds_records.specs.declared.fault.Stopped.TheVariants.{Fault}
@@ -268,8 +268,9 @@ pub reads_fault : (xs : List ℕ) (at : ℕ) (x : Reading) (was remaining : Opti
     → ReadTo gds xs at (HasRead x) was → x.builder.place ≢ Fill
     → (f ≢ Truncated → f ≢ Read → (more : List ℕ) → step (file_limit - at) (hand ++ more) ≡ Err f)
     → (f ≡ Truncated → (length (drop at xs) < 4) ⊎ IsBegun (drop at xs))
+    → (f ≡ Read → IsUnfinished (file_limit - at) hand)
     → prepend_known hand remaining ≡ Some (drop at xs) → RefusesAt xs remaining at (Record f)
-reads_fault xs at x was remaining hand f to go said cut e = by f refl
+reads_fault xs at x was remaining hand f to go said cut unread e = by f refl
   where
     known : f ≢ Truncated → f ≢ Read → IsSeenWrong gds xs at remaining (Record f)
     known t r = seen_fault xs at (HasRead x) was remaining hand f to t r
@@ -277,7 +278,10 @@ reads_fault xs at x was remaining hand f to go said cut e = by f refl
 
     by : (g : RecordFault) → g ≡ f → RefusesAt xs remaining at (Record g)
     by Truncated i = reads_cut xs at x was to go (cut (sym i))
-    by Read i = reads_front gds xs at (HasRead x) was to
+    by Read i =
+        let l = left_parts (drop at xs) hand remaining e in
+        reads_unread gds xs at (HasRead x) was remaining to hand l.rest l.parts l.is
+        (λ some. ((unread (sym i)).1 some).1)
     by BadLength i = subst (λ (h : RecordFault). IsSeenWrong gds xs at remaining (Record h)) (sym i)
         (known (λ z. (let y : BadLength ≡ Truncated = i ∙ z in cc)) (λ z. (let y : BadLength ≡ Read = i ∙ z in cc)))
     by BadDataType i = subst (λ (h : RecordFault). IsSeenWrong gds xs at remaining (Record h)) (sym i)
@@ -402,13 +406,15 @@ reads_too_long xs at b was remaining rest hand to e limit here said known =
     seen_fault xs (at + n) (Holds b) more.0 remaining hand TooLong more.1 (λ z. cc) (λ z. cc)
     (λ w. omega (arith, limit)) said (known ∙ ap (λ (i : List ℕ). Some i) after)
 
--- where the reader failed after the end
-pub reads_failed : (xs : List ℕ) (at n : ℕ) (b : Builder) (was : Option (List ℕ)) (rest : List ℕ)
+-- where the reader failed after the end, all that it gave was taken
+pub reads_failed : (xs : List ℕ) (at n : ℕ) (b : Builder) (was remaining : Option (List ℕ)) (rest : List ℕ)
     → ReadTo gds xs at (Holds b) was → b.place ≡ Fill → drop at xs ≡ replicate n 0 ++ rest → n ≤ file_limit - at
-    → at ≤ file_limit → IsFrontAt gds xs (at + n)
-reads_failed xs at n b was rest to e here room limit =
+    → at ≤ file_limit → remaining ≡ Some (drop n (drop at xs)) → IsUnread gds xs remaining (at + n)
+reads_failed xs at n b was remaining rest to e here room limit left =
     let more = reads_zeros n xs at b was rest to e here (omega (arith, room, limit)) in
-    reads_front gds xs (at + n) (Holds b) more.0 more.1
+    let after : drop n (drop at xs) ≡ drop (at + n) xs = ap (drop n) here ∙ drop_zeros n rest ∙ sym more.2 in
+    reads_unread gds xs (at + n) (Holds b) more.0 remaining more.1 [] (drop (at + n) xs) refl
+    (left ∙ ap (λ (i : List ℕ). Some i) after) (λ some. absurd (omega (arith, some)))
 
 -- a rule that a record breaches is no failed read
 pub breach_no_read : (before : List Rec) (r : Rec) (k : GdsKind) → Breaches before r k → is_read_kind k ≡ false
@@ -436,15 +442,19 @@ pub reads_tail : (xs : List ℕ) (at new : ℕ) (b : Builder) (was remaining : O
     (f : RecordFault)
     → ReadTo gds xs at (Holds b) was → b.place ≡ Fill → at ≤ file_limit
     → AnswersTail (Err (Fault f)) at new (file_limit - at) (drop at xs) → Decides f (file_limit - new) hand
+    → (f ≡ Read → prepend_known hand remaining ≡ remaining)
     → ((ys : List ℕ) → was ≡ Some ys → prepend_known hand remaining ≡ Some (drop (new - at) ys))
     → RefusesAt xs remaining new (Record f)
-reads_tail xs at new b was remaining hand TooLong to e limit x said left =
+reads_tail xs at new b was remaining hand TooLong to e limit x said starved left =
     let n : new - at ≡ file_limit - at = omega (arith, x.1) in
     subst (λ i. RefusesAt xs remaining i (Record TooLong)) (sym x.1)
     (reads_too_long xs at b was remaining x.0.0 hand to e limit x.0.2
     (subst (λ i. (more : List ℕ) → step (file_limit - i) (hand ++ more) ≡ Err TooLong) x.1
     (said (λ z. cc) (λ z. cc)))
     (left (drop at xs) to.left_is ∙ ap (λ i. Some (drop i (drop at xs))) n))
-reads_tail xs at new b was remaining hand Read to e limit x said left =
-    subst (IsFrontAt gds xs) (sym x.4) (reads_failed xs at x.0 b was x.1 to e x.3 x.2 limit)
-reads_tail xs at new b was remaining hand other to e limit x said left = absurd x
+reads_tail xs at new b was remaining hand Read to e limit x said starved left =
+    let n : new - at ≡ x.0 = omega (arith, x.4) in
+    subst (IsUnread gds xs remaining) (sym x.4)
+    (reads_failed xs at x.0 b was remaining x.1 to e x.3 x.2 limit
+    (sym (starved refl) ∙ left (drop at xs) to.left_is ∙ ap (λ i. Some (drop i (drop at xs))) n))
+reads_tail xs at new b was remaining hand other to e limit x said starved left = absurd x

@@ -23,9 +23,9 @@ StartsWith room ys r =
     (text rest : List ℕ) × IsRecord r.kind r.data_type r.payload × IsSpelling text r.kind r.data_type r.payload
     × (length text ≤ room) × (ys ≡ text ++ rest)
 
--- what is wrong with the front of the bytes, with room for so many: the tests of a record, in their order, give the
--- fault, after the
--- whole library only that of the limit; a byte after the whole library isn't zero; or the record breaches the rule
+-- what is wrong with the front of the bytes, with room for some of them: the tests of a record, in their order, give
+-- the fault, after the whole library only that of the limit; a byte after the whole library isn't zero; or the record
+-- breaches the rule
 abbrev pub IsWrong : List Rec → ℕ → List ℕ → GdsKind → Type 0
 IsWrong before room ys (Record f) = (f ≢ Truncated) × (f ≢ Read) × (step room ys ≡ Err f) × (IsWhole before → room ≡ 0)
 IsWrong before room ys AfterEnd = IsWhole before × (0 < room) × (b : ℕ) × (rest : List ℕ) × (b ≢ 0) × (ys ≡ b ∷ rest)

@@ -5,7 +5,8 @@ use Rattle.gds_elements.specs.Types.{bgnstr, strname}
 use Rattle.gds_elements.specs.Rec.{Rec, kinds, is_type, is_opener}
 use Rattle.gds_elements.specs.Values.{name}
 use Rattle.gds_elements.specs.Rules.{IsMisplacedAs, ValueBreaches}
-use Rattle.lvl_cells.specs.Names.{IsName, cell_limit}
+use Rattle.lvl_names.specs.Names.{IsName}
+use Rattle.lvl_cells.specs.Building.{cell_limit}
 use Rattle.gds_library.specs.Order.{a_library}
 use Rattle.gds_library.specs.Rec.{pieces, last_piece}
 use Rattle.gds_library.specs.declared.fault.GdsKind.{GdsKind}

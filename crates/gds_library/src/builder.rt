@@ -14,7 +14,8 @@ use crate::head::{GdsHead, two_reals};
 use crate::place::Place;
 use gds_elements::{Drawn, misplaced, name};
 use gds_records::record_type;
-use lvl_cells::{Builder as Cells, Library, MOST_CELLS, Offsets, is_name};
+use lvl_cells::{Builder as Cells, Library, MOST_CELLS};
+use lvl_names::{Offsets, is_name};
 use lvl_refusal::Refusal;
 use std::alloc::Global;
 

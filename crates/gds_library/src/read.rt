@@ -6,7 +6,7 @@ ghost use Rattle.lvl_grammar.specs.Refused.{IsHopeless};
 ghost use Rattle.lvl_grammar.specs.inside.ReadTo.{ReadTo};
 ghost use Rattle.gds_records.specs.Records.{has_failed, bytes_left, records_offset, records_reader};
 ghost use Rattle.gds_library.specs.Front.{gds, IsRead, SpellsNone};
-ghost use Rattle.gds_library.specs.Ends.{Tells, IsExcused, IsEarly, is_read};
+ghost use Rattle.gds_library.specs.Ends.{Tells, TellsUnread, IsExcused, IsEarly, is_read};
 ghost use Rattle.gds_library.specs.inside.Holds.{HasRead};
 ghost use Rattle.gds_library.specs.inside.Refuses.{Refuses};
 ghost use Rattle.gds_library.specs.declared.place.Place.TheVariants.{Fill};
@@ -14,9 +14,9 @@ ghost use Rattle.gds_library.specs.declared.place.Place.TheVariants.{Fill};
 use crate::fault::{GdsFault, GdsKind};
 use crate::head::GdsHead;
 use crate::reading::Reading;
-use gds_records::{Buffer, RecordFault, Records, Stopped};
+use gds_records::{RecordFault, Records, Stopped};
 use lvl_cells::Library;
-use lvl_io::Read;
+use lvl_io::{Buffer, Read};
 use lvl_refusal::Refusal;
 use std::alloc::Global;
 
@@ -42,6 +42,10 @@ pub fn read_gds<R: Read>(
     ensures none { (xs : List ℕ) → R.remaining reader.old ≡ Some xs
         → IfErr result (λ refusal. Says refusal (λ fault. (¬ IsExcused fault) → SpellsNone xs)) }
 
+    // Where the reader failed, it had given no whole record from the offset on.
+    ensures unread { (xs : List ℕ) → R.remaining reader.old ≡ Some xs
+        → IfErr result (λ refusal. Says refusal (TellsUnread xs (R.remaining reader.new))) }
+
     // Unless the input ended too early, nothing is spelled whatever comes after the bytes taken.
     ensures early { (xs : List ℕ) → R.remaining reader.old ≡ Some xs
         → IfErr result (λ refusal. Says refusal (λ fault. IsEarly fault
@@ -51,7 +55,7 @@ pub fn read_gds<R: Read>(
     ensures reads { CountsFailure (R.read_errors reader.old) (R.read_errors reader.new) (is_read result) }
     ensures same { R.lent reader.new ≡ R.lent reader.old }
 {
-    let buffer = Buffer::new(alloc)?;
+    let buffer = Box::new(alloc, Buffer::new())?;
     let mut records = Records::with_buffer(buffer, reader);
     let read = read_library(alloc, &mut records);
     let _reader = records.into_reader();

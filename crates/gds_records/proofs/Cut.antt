@@ -8,7 +8,7 @@ use Rattle.std.proofs.lemmas.Bool.Decides.{nat_tests}
 use Rattle.std.proofs.lemmas.Bool.{cases_Bool}
 use Rattle.gds_records.specs.Table.{table, form_among, form_fault, allows}
 use Rattle.gds_records.specs.Step.{want, header, step, ◌>>=◌, header_fault, unless, OfHeader, HasByteLength}
-use Rattle.gds_records.specs.Spelled.{IsBegun, IsCut}
+use Rattle.gds_records.specs.Spelled.{IsBegun, IsCut, IsUnfinished}
 use Rattle.gds_records.proofs.Steps.{header-append, step_end, step_goes, step_no_header, step_wants, want_had}
 use Rattle.gds_records.proofs.Steps.{want_short}
 use Rattle.gds_records.proofs.Laws.{header_ok, header_spelled, length_spelled, record_said, four, want_ok}
@@ -106,6 +106,15 @@ begun n xs e bytes long short =
       };
       short = omega (arith, length-replicate {A = ℕ});
     }
+
+-- fewer bytes in hand than a header has
+pub few_unfinished : (room : ℕ) (hand : List ℕ) → length hand < 4 → length hand ≤ room → IsUnfinished room hand
+few_unfinished room hand few fits = (fits, λ some. (some, inl few))
+
+-- a header in hand that has no fault, and less than its payload
+pub cut_unfinished : (n room : ℕ) (hand : List ℕ) → header hand ≡ Ok n → HasByteLength hand → 4 ≤ length hand
+    → length hand < n → length hand ≤ room → IsUnfinished room hand
+cut_unfinished n room hand e bytes long few fits = (fits, λ some. (some, inr (begun n hand e bytes long few)))
 
 -- `Truncated` comes only where all bytes left are the beginning of a record
 pub law_truncated : (room : ℕ) (xs : List ℕ) → step room xs ≡ Err Truncated → (4 ≤ length xs → HasByteLength xs)

@@ -5,8 +5,7 @@ ghost use Rattle.std.specs.Io.KnownBytes.{prepend_known};
 ghost use Rattle.lvl_io.specs.Bytes.{CountsFailure};
 ghost use Rattle.gds_records.specs.Tail.{IsNoZeroFirst, TakesZeros, is_failure};
 
-use crate::buffer::Buffer;
-use lvl_io::Read;
+use lvl_io::{Buffer, Read};
 
 /// What comes after zero bytes.
 #[derive(Clone, Copy, Debug, PartialEq, Eq)]
@@ -29,7 +28,7 @@ fn leading_zeros(bytes: &[u8]) -> usize
 }
 
 // Skips the zero bytes that are ahead, `most` at most, and counts them.
-fn skip_ahead(ahead: &mut Buffer, most: u64) -> u64
+fn skip_ahead(ahead: &mut Buffer<65536>, most: u64) -> u64
     requires { most < 2 ^ 32 }
     ensures zeros { ahead.old ≡ replicate result 0 ++ ahead.new }
     ensures most { result ≤ most }
@@ -41,7 +40,11 @@ fn skip_ahead(ahead: &mut Buffer, most: u64) -> u64
 }
 
 // Skips zero bytes, `room` at most, counts them, and says what comes after them.
-pub(crate) fn skip_zeros<R: Read>(reader: &mut R, ahead: &mut Buffer, room: u64) -> (u64, After)
+pub(crate) fn skip_zeros<R: Read>(
+    reader: &mut R,
+    ahead: &mut Buffer<65536>,
+    room: u64,
+) -> (u64, After)
     requires { room < 2 ^ 32 }
     ensures zeros { TakesZeros result.1 result.0 room (prepend_known ahead.old (R.remaining reader.old))
         (prepend_known ahead.new (R.remaining reader.new)) }

@@ -4,8 +4,9 @@ ghost use Rattle.gds_elements.specs.inside.Formed.{IsFormed};
 
 use gds_elements::{Drawn, Element, ElementFault, ElementRule, Misplaced, Step};
 use gds_records::record_type as ty;
-use lvl_cells::{Layer, Reference};
+use lvl_cells::Reference;
 use lvl_grid::{Point, Ring, Turn};
+use lvl_names::Layer;
 use lvl_path::PathFault;
 use lvl_refusal::Refusal;
 use std::alloc::{AllocError, Global};

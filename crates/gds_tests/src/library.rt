@@ -4,9 +4,10 @@ ghost use Rattle.std.specs.Prelude.{Some, None};
 
 use gds_library::{ElementRule, GdsFault, GdsHead, GdsKind, Misplaced, RecordFault, read_gds};
 use gds_records::fake::{ONE, SQUARE, Stream};
-use lvl_cells::{Layer, Library};
+use lvl_cells::Library;
 use lvl_grid::Point;
 use lvl_io::fake::Pieces;
+use lvl_names::Layer;
 use lvl_refusal::Refusal;
 use std::alloc::{AllocError, Global};
 use std::test::Fail;

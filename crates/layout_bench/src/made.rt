@@ -2,8 +2,9 @@
 
 use anyhow::{Context, Result};
 use gds_records::fake::Stream;
-use lvl_cells::{Cell, Layer, Library, Name, Offsets, Reference, Shapes};
+use lvl_cells::{Cell, Library, Reference, Shapes};
 use lvl_grid::{Point, Ring, Turn};
+use lvl_names::{Layer, Name, Offsets};
 use std::alloc::Global;
 
 /// The corners of a square of ten steps with its lower left corner there.

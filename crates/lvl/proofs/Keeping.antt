@@ -14,7 +14,7 @@ use Rattle.lvl_grid.specs.declared.point.Square.{Square}
 use Rattle.lvl_grid.specs.declared.map.Map.{Map}
 use Rattle.lvl_grid.specs.Turn.{image, shifted, FitsPoint}
 use Rattle.lvl_grid.proofs.Anyone.{Any-same, Any-map}
-use Rattle.lvl_cells.specs.declared.layer.Layer.{Layer}
+use Rattle.lvl_names.specs.declared.layer.Layer.{Layer}
 use Rattle.lvl_cells.specs.Cells.{PlainCell, PlainShape, PlainReference, Rings, each_ring, names, placing, cell_named}
 use Rattle.lvl_cells.specs.Cells.{drawn, kept}
 use Rattle.lvl_cells.specs.Coverage.{RingsCover, ShapeCovers, PullsBack, CoversWithin, CellCovers, moved_back}

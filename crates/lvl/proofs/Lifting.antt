@@ -4,7 +4,7 @@ use Rattle.std.proofs.Common.{ap, ◌∙◌, subst}
 use Rattle.lvl_grid.specs.declared.point.Square.{Square}
 use Rattle.lvl_path.specs.Figure.{figure_rings, FigureCovers}
 use Rattle.lvl_path.proofs.Figures.{figure_drawn}
-use Rattle.lvl_cells.specs.declared.layer.Layer.{Layer}
+use Rattle.lvl_names.specs.declared.layer.Layer.{Layer}
 use Rattle.lvl_cells.specs.Cells.{PlainCell, Rings, each_ring, names, drawn, kept}
 use Rattle.lvl_cells.specs.Coverage.{RingsCover, CellCovers}
 use Rattle.lvl_cells.specs.Soundness.{IsSound}
@@ -22,14 +22,12 @@ use Rattle.lvl_flat.specs.declared.fault.FlatFault.TheVariants.{OutOfRange}
 use Rattle.lvl_region.specs.Region.{IsAlone}
 use Rattle.lvl_region.specs.declared.region.Side.{Side}
 use Rattle.lvl_region.specs.declared.region.Side.TheVariants.{First, Second}
+use Rattle.lvl_view.specs.Views.{PlainView}
 use Rattle.lvl.specs.Drawing.{Drawing}
 use Rattle.lvl.specs.declared.layout.Head.{Head}
-use Rattle.lvl.specs.declared.verdict.Verdict.{Verdict}
-use Rattle.lvl.specs.declared.verdict.Verdict.TheVariants.{Same, Differ}
 use Rattle.lvl.specs.Layouts.{File, Spells, IsLayoutOf}
-use Rattle.lvl.specs.Accepted.{IsAccepted, IsUnaccepted, Draws, IsVerdict}
-use Rattle.lvl.specs.Sheets.{IsFlatVerdict}
-use Rattle.lvl.specs.Kept.{Kept, IsCheckedAs, IsFlattenedAs, IsInRangeAs, AreKeptAlike, IsCellFault, IsRangeFault}
+use Rattle.lvl.specs.Accepted.{IsAccepted, IsUnaccepted, Draws, AreSame}
+use Rattle.lvl.specs.Kept.{Kept, IsCheckedAs, IsFlattenedAs, IsInRangeAs, IsCellFault, IsRangeFault}
 use Rattle.lvl.specs.Answers.{kept_of}
 use Rattle.lvl.proofs.Keeping.{sound_kept, cell_covers_kept, fits_kept, cell_back, cell_kept}
 
@@ -97,13 +95,13 @@ fits_settled file k s settled r =
     }
 
 -- what is in range is accepted, and draws what its top covers
-record IsTopLifted (file : File) (others : List Drawing) (cells : List (PlainCell Rings))
+pub record IsTopLifted (file : File) (others : List Drawing) (cells : List (PlainCell Rings))
     (c : PlainCell Rings) : Type 0 where
-  top : Drawing
-  accepted : IsAccepted file others top
-  draws : (layer : Layer) (s : Square) → CellCovers RingsCover cells layer c s ↔ Draws others top layer s
+  pub top : Drawing
+  pub accepted : IsAccepted file others top
+  pub draws : (layer : Layer) (s : Square) → CellCovers RingsCover cells layer c s ↔ Draws others top layer s
 
-top_lifted : (file : File) (cells : List (PlainCell Rings)) (head : Head) (read : IsLayoutOf file.bytes cells head)
+pub top_lifted : (file : File) (cells : List (PlainCell Rings)) (head : Head) (read : IsLayoutOf file.bytes cells head)
     (s : Settled) → (r : IsInRangeAs (record { cells = cells; top = file.top }) s)
     → IsTopLifted file read.cells s.cells r.top
 top_lifted file cells head read s r =
@@ -206,66 +204,3 @@ pub alone_lifted : (P P' Q Q' : Square → Type 0) (s : Square) (side : Side) �
     → IsAlone P Q s side → IsAlone P' Q' s side
 alone_lifted P P' Q Q' s First p q h = (p.0 h.0, λ x. h.1 (q.1 x))
 alone_lifted P P' Q Q' s Second p q h = (q.0 h.0, λ x. h.1 (p.1 x))
-
-pub verdict_lifted : (a b : File) (ours theirs : List Drawing) (us vs : List PlainSheet) → IsLifted a ours us
-    → IsLifted b theirs vs → (v : Verdict) → IsFlatVerdict us vs v → IsVerdict a b v
-verdict_lifted a b ours theirs us vs p q Same h = record {
-  both = record {
-    ours = ours;
-    our_top = p.top;
-    theirs = theirs;
-    their_top = q.top;
-    first = p.accepted;
-    second = q.accepted;
-  };
-  alike = λ layer s. both_lifted _ _ _ _ (p.draws layer s) (q.draws layer s) (h layer s);
-}
-verdict_lifted a b ours theirs us vs p q (Differ layer square side) h = record {
-  both = record {
-    ours = ours;
-    our_top = p.top;
-    theirs = theirs;
-    their_top = q.top;
-    first = p.accepted;
-    second = q.accepted;
-  };
-  alone =
-      alone_lifted (RingsCover (rings_on layer us)) (Draws ours p.top layer) (RingsCover (rings_on layer vs))
-      (Draws theirs q.top layer) square side (p.draws layer square) (q.draws layer square) h.alone;
-  least_layer = λ l before s. both_lifted _ _ _ _ (p.draws l s) (q.draws l s) (h.least_layer l before s);
-  least_square = λ s before. both_lifted _ _ _ _ (p.draws layer s) (q.draws layer s) (h.least_square s before);
-}
-
--- tops with equal answers draw the same
-pub alike_lifted : (a b : File) (ours theirs : List (PlainCell Rings)) (g h : Head) → IsLayoutOf a.bytes ours g
-    → IsLayoutOf b.bytes theirs h
-    → AreKeptAlike (record { cells = ours; top = a.top }) (record { cells = theirs; top = b.top }) → IsVerdict a b Same
-alike_lifted a b ours theirs g h p q k =
-    let x = top_lifted a ours g p k.ours k.first in
-    let y = top_lifted b theirs h q k.theirs k.second in
-    let our_top : k.alike.our_cell ≡ k.first.top =
-    one_cell k.ours.cells k.ours.top k.ours.top k.alike.our_cell k.first.top k.alike.ours_is k.first.is_top refl in
-    let their_top : k.alike.their_cell ≡ k.second.top =
-    one_cell k.theirs.cells k.theirs.top k.theirs.top k.alike.their_cell k.second.top k.alike.theirs_is
-    k.second.is_top refl in
-    record {
-      both = record {
-        ours = p.cells;
-        our_top = x.top;
-        theirs = q.cells;
-        their_top = y.top;
-        first = x.accepted;
-        second = y.accepted;
-      };
-      alike = λ layer s.
-          let u =
-          subst
-          (λ (c : PlainCell Rings). CellCovers RingsCover k.ours.cells layer c s
-          ↔ CellCovers RingsCover k.theirs.cells layer k.alike.their_cell s) our_top
-          (k.alike.alike layer s) in
-          let v =
-          subst
-          (λ (d : PlainCell Rings). CellCovers RingsCover k.ours.cells layer k.first.top s
-          ↔ CellCovers RingsCover k.theirs.cells layer d s) their_top u in
-          both_lifted _ _ _ _ (x.draws layer s) (y.draws layer s) v;
-    }

@@ -5,18 +5,16 @@ use Rattle.lvl_region.specs.declared.region.Side.{Side}
 use Rattle.lvl_region.specs.declared.region.Side.TheVariants.{First, Second}
 use Rattle.lvl.specs.Drawing.{Drawing}
 use Rattle.lvl.specs.declared.layout.Head.{Head}
-use Rattle.lvl.specs.declared.verdict.Verdict.{Verdict}
 use Rattle.lvl.specs.declared.verdict.Refusal.{Refusal}
 use Rattle.lvl.specs.declared.verdict.Refusal.TheVariants.{File as FileRefusal, Cells as CellsRefusal}
 use Rattle.lvl.specs.declared.verdict.Refusal.TheVariants.{Flat as FlatRefusal, OutOfMemory}
 use Rattle.lvl.specs.Layouts.{File, SpellsSome, IsLayoutOf}
-use Rattle.lvl.specs.Accepted.{IsAccepted, IsVerdict}
-use Rattle.lvl.specs.Kept.{Kept, Passes, IsFlat, IsKeptRefusal, IsKeptVerdict}
-use Rattle.lvl.specs.Answers.{HasPassed, IsCompared, IsEarlyOf, IsRefusalOf, PassesCheck}
+use Rattle.lvl.specs.Accepted.{IsAccepted}
+use Rattle.lvl.specs.Kept.{Kept, Passes, IsFitted, IsKeptRefusal}
+use Rattle.lvl.specs.Answers.{HasPassed, IsEarlyOf, IsRefusalOf, PassesCheck}
 use Rattle.lvl.specs.declared.layout.FileFault.{FileFault}
 use Rattle.lvl.specs.Sides.{IsOfFile, IsReadRefusal}
-use Rattle.lvl.proofs.Lifting.{cell_told, cell_unaccepted, range_told, range_unaccepted, lifted, verdict_lifted}
-use Rattle.lvl.proofs.Lifting.{alike_lifted}
+use Rattle.lvl.proofs.Lifting.{cell_told, cell_unaccepted, range_told, range_unaccepted, top_lifted}
 
 first_second : First ≡ Second → ⊥
 first_second e = cc
@@ -33,9 +31,9 @@ pub spells : (file : File) (cells : List (PlainCell Rings)) (head : Head) → Is
 spells file cells head read = (read.cells, head, read.spelled)
 
 accepts : (file : File) (cells : List (PlainCell Rings)) (head : Head) → IsLayoutOf file.bytes cells head
-    → IsFlat (record { cells = cells; top = file.top })
+    → IsFitted (record { cells = cells; top = file.top })
     → (others : List Drawing) × (top : Drawing) × IsAccepted file others top
-accepts file cells head read f = let l = lifted file cells head read f.0 f.1 in (read.cells, l.top, l.accepted)
+accepts file cells head read f = let l = top_lifted file cells head read f.0 f.1 in (read.cells, l.top, l.accepted)
 
 -- a file that was not read
 
@@ -150,19 +148,3 @@ not_early_of side other (FileRefusal s f) apart h e = apart (sym h ∙ e.0)
 not_early_of side other (CellsRefusal s f) apart h e = e
 not_early_of side other (FlatRefusal s f) apart h e = e
 not_early_of side other OutOfMemory apart h e = e
-
--- a whole comparison
-
-pub compared : (a b : File) (ours theirs : List (PlainCell Rings)) (g h : Head) → IsLayoutOf a.bytes ours g
-    → IsLayoutOf b.bytes theirs h → (v : Verdict)
-    → IsKeptVerdict (record { cells = ours; top = a.top }) (record { cells = theirs; top = b.top }) v
-    → IsCompared a b (record { first = g; second = h; verdict = v })
-compared a b ours theirs g h p q v k = record {
-  first = (p.cells, p.spelled);
-  second = (q.cells, q.spelled);
-  verdict = elim k [
-    | inl f ↦ verdict_lifted a b p.cells q.cells f.ours f.theirs (lifted a ours g p f.ours f.first)
-        (lifted b theirs h q f.theirs f.second) v f.verdict
-    | inr s ↦ subst (IsVerdict a b) (sym s.0) (alike_lifted a b ours theirs g h p q s.1)
-  ];
-}

@@ -4,7 +4,7 @@ use Rattle.std.proofs.Common.{slice_get, Some, if◌then◌else◌, ◌==◌, �
 use Rattle.std.specs.Prelude.{sum_by}
 use Rattle.std.proofs.lemmas.List.Sums.{sum_by-cons}
 use Rattle.lvl_path.specs.Figure.{figure_rings}
-use Rattle.lvl_cells.specs.declared.layer.Layer.{Layer}
+use Rattle.lvl_names.specs.declared.layer.Layer.{Layer}
 use Rattle.lvl_cells.specs.Cells.{PlainCell, PlainShape, Rings, each_ring, drawn, kept}
 use Rattle.lvl_cells.specs.Chains.{own_rings_on, over_chains, placed_rings_on}
 use Rattle.lvl_cells.specs.Soundness.{IsSound}

@@ -74,7 +74,7 @@ pub gds_fault : (xs : List ℕ) (r : Refusal GdsFault) (fault : GdsFault) → r 
     → Says r (TellsGds xs)
     → Says r (λ f. (¬ IsExcusedGds f) → SpellsNoGds xs) → IsFileFault xs (GdsFile fault)
 gds_fault xs r fault is other told none = record {
-  told = said (TellsGds xs) r fault is told;
+  told = (λ read. other, said (TellsGds xs) r fault is told);
   nothing = λ n. no_gds xs other (said (λ f. (¬ IsExcusedGds f) → SpellsNoGds xs) r fault is none n);
 }
 
@@ -82,7 +82,7 @@ pub oasis_fault : (xs : List ℕ) (r : Refusal OasisFault) (fault : OasisFault) 
     → Says r (TellsOasis xs)
     → Says r (λ f. (¬ IsExcusedOasis f) → SpellsNoOasis xs) → IsFileFault xs (OasisFile fault)
 oasis_fault xs r fault is own told none = record {
-  told = said (TellsOasis xs) r fault is told;
+  told = (own, said (TellsOasis xs) r fault is told);
   nothing = λ n. no_oasis xs own (said (λ f. (¬ IsExcusedOasis f) → SpellsNoOasis xs) r fault is none n);
 }
 

@@ -1,26 +1,32 @@
--- From two flat layouts under a view to what the bytes of the files spell.
-use Rattle.std.proofs.Common.{◌≡◌, ◌↔◌, List, [], Option, refl, subst}
+-- From a verdict on what tops cover under a view to what the bytes of the files spell.
+use Rattle.std.proofs.Common.{◌≡◌, ◌↔◌, List, [], Option, Some, slice_get, refl, subst, sym}
+use Rattle.std.specs.Prelude.{IfErr, IfSome, IsErr, IsErrAnd, Result, Ok, Err}
 use Rattle.lvl_grid.specs.declared.point.Square.{Square}
-use Rattle.lvl_cells.specs.declared.layer.Layer.{Layer}
+use Rattle.lvl_names.specs.declared.layer.Layer.{Layer}
 use Rattle.lvl_cells.specs.Cells.{PlainCell, Rings}
-use Rattle.lvl_cells.specs.Coverage.{RingsCover}
-use Rattle.lvl_flat.specs.Sheet.{PlainSheet}
-use Rattle.lvl_flat.specs.Sheets.{rings_on}
+use Rattle.lvl_cells.specs.Checks.{Settled}
+use Rattle.lvl_cells.specs.Coverage.{RingsCover, CellCovers}
 use Rattle.lvl_columns.specs.Windows.{IsShown}
-use Rattle.lvl_flat.specs.Mapped.{IsMapped}
-use Rattle.lvl_compare.specs.Flats.{IsFirstApartIn}
+use Rattle.lvl_flat.specs.Flattened.{AllInRange, IsTopInRange, TopCovers}
+use Rattle.lvl_compare.specs.Alike.{AreAlike}
+use Rattle.lvl_compare.specs.Tops.{DrawSame}
 use Rattle.lvl_region.specs.declared.region.Side.{Side}
-use Rattle.lvl_grid.specs.declared.point.Window.{Window}
-use Rattle.lvl_view.specs.Views.{PlainView}
+use Rattle.lvl_region.specs.declared.region.Side.TheVariants.{First, Second}
+use Rattle.lvl_view.specs.Views.{IsWhole, PlainView}
+use Rattle.lvl_view.specs.Moved.{IsMoved}
 use Rattle.lvl_view.specs.declared.map.LayerPair.{LayerPair}
 use Rattle.lvl.specs.declared.layout.Head.{Head}
+use Rattle.lvl.specs.declared.verdict.Refusal.{Refusal}
+use Rattle.lvl.specs.declared.verdict.Refusal.TheVariants.{File as FileRefusal, Cells as CellsRefusal}
+use Rattle.lvl.specs.declared.verdict.Refusal.TheVariants.{Flat as FlatRefusal, OutOfMemory}
 use Rattle.lvl.specs.declared.verdict.Verdict.{Verdict}
 use Rattle.lvl.specs.declared.verdict.Verdict.TheVariants.{Same, Differ}
 use Rattle.lvl.specs.Layouts.{File, IsLayoutOf}
 use Rattle.lvl.specs.Accepted.{Draws, IsVerdict}
-use Rattle.lvl.specs.Kept.{IsKeptViewVerdict}
-use Rattle.lvl.specs.Views.{IsComparedIn, IsFlatViewVerdict, IsMoved, IsVerdictOf, IsViewVerdict, IsWhole}
-use Rattle.lvl.proofs.Lifting.{alone_lifted, both_lifted, lifted}
+use Rattle.lvl.specs.Kept.{Kept, IsCheckedAs, IsInRangeAs, IsKeptRefusal, IsKeptVerdict, Places}
+use Rattle.lvl.specs.Sides.{IsFlattenRefusal}
+use Rattle.lvl.specs.Views.{IsComparedIn, IsVerdictOf, IsViewVerdict}
+use Rattle.lvl.proofs.Lifting.{alone_lifted, both_lifted, top_lifted}
 
 -- a verdict on what covers the same squares is the same
 pub verdict_of_same : (Seen Saw : Square → Type 0) (P P' Q Q' : Layer → Square → Type 0)
@@ -47,33 +53,8 @@ moved_same pairs Q Q' q l s = (
 itself : {A : Type 0} → A ↔ A
 itself = (λ a. a, λ a. a)
 
--- a verdict on a flat layout that was mapped is one under the map
-pub mapped_verdict : (view : PlainView) (ours theirs mapped : List PlainSheet) → IsMapped view.pairs theirs mapped
-    → (v : Verdict)
-    → IsVerdictOf (IsShown view.window) (λ layer. RingsCover (rings_on layer ours))
-    (λ layer. RingsCover (rings_on layer mapped)) v
-    → IsFlatViewVerdict view ours theirs v
-mapped_verdict view ours theirs mapped is v = verdict_of_same (IsShown view.window) (IsShown view.window)
-    (λ layer. RingsCover (rings_on layer ours)) (λ layer. RingsCover (rings_on layer ours))
-    (λ layer. RingsCover (rings_on layer mapped)) (IsMoved view.pairs (λ layer. RingsCover (rings_on layer theirs)))
-    (λ s seen. seen) (λ s seen. seen) (λ l s. itself)
-    (λ l s. (
-      λ h. let c = (is l s).0 h in record { source = c.source; is_target = c.target_is; covers = c.covered },
-      λ m. (is l s).1 (record { source = m.source; target_is = m.is_target; covered = m.covers }),
-    )) v
-
--- the first difference of two flat layouts, as a verdict on them
-pub apart_verdict : (window : Option Window) (ours theirs : List PlainSheet) (layer : Layer) (square : Square)
-    (side : Side)
-    → IsFirstApartIn window ours theirs layer square side
-    → IsVerdictOf (IsShown window) (λ l. RingsCover (rings_on l ours)) (λ l. RingsCover (rings_on l theirs))
-    (Differ layer square side)
-apart_verdict window ours theirs layer square side h = record {
-  seen = h.shown;
-  alone = h.alone;
-  least_layer = h.least_layer;
-  least_square = h.least_square;
-}
+turned : {A B : Type 0} → A ↔ B → B ↔ A
+turned h = (h.1, h.0)
 
 -- without pairs nothing is moved
 moved_none : (pairs : List LayerPair) → pairs ≡ [] → (Q : Layer → Square → Type 0) (l : Layer) (s : Square)
@@ -103,33 +84,95 @@ whole_verdict view whole a b v h = go v (verdict_of_same (IsShown view.window) (
       least_square = λ s before. p.least_square s tt before;
     }
 
+-- what the top covers, by its cell
+pub top_places : (s : Settled) (top : PlainCell Rings) → slice_get s.cells s.top ≡ Some top → (l : Layer)
+    (q : Square) → TopCovers s l q ↔ CellCovers RingsCover s.cells l top q
+top_places s top is l q = rw is itself
+
+-- where nothing is mapped, tops that cover the same squares draw the same under the view
+pub alike_draw : (view : PlainView) (s t : Settled) → view.pairs ≡ [] → AreAlike s.cells s.top t.cells t.top
+    → DrawSame (IsShown view.window) (TopCovers s) (IsMoved view.pairs (TopCovers t))
+alike_draw view s t none h = λ l q seen.
+    let ours = top_places s h.our_cell h.ours_is l q in
+    let theirs = top_places t h.their_cell h.theirs_is l q in
+    both_lifted _ _ _ _ itself (turned (moved_none view.pairs none (TopCovers t) l q))
+    (both_lifted _ _ _ _ (turned ours) (turned theirs) (h.alike l q))
+
+-- a verdict on what both tops cover, as one on what the files draw
+kept_viewed : (view : PlainView) (a b : File) (ours theirs : List (PlainCell Rings)) (g h : Head)
+    → IsLayoutOf a.bytes ours g → IsLayoutOf b.bytes theirs h → (v : Verdict)
+    → IsKeptVerdict view (record { cells = ours; top = a.top }) (record { cells = theirs; top = b.top }) v
+    → IsViewVerdict view a b v
+kept_viewed view a b ours theirs g h p q v k =
+    let x = top_lifted a ours g p k.ours k.first in
+    let y = top_lifted b theirs h q k.theirs k.second in
+    record {
+      both = record {
+        ours = p.cells;
+        our_top = x.top;
+        theirs = q.cells;
+        their_top = y.top;
+        first = x.accepted;
+        second = y.accepted;
+      };
+      verdict = verdict_of_same (IsShown view.window) (IsShown view.window)
+          (Places k.ours k.first.top) (Draws p.cells x.top)
+          (IsMoved view.pairs (Places k.theirs k.second.top)) (IsMoved view.pairs (Draws q.cells y.top))
+          (λ s seen. seen) (λ s seen. seen) x.draws
+          (moved_same view.pairs (Places k.theirs k.second.top) (Draws q.cells y.top) y.draws) v
+          k.verdict;
+    }
+
 -- a whole comparison under a view
 pub compared_in : (view : PlainView) (a b : File) (ours theirs : List (PlainCell Rings)) (g h : Head)
     → IsLayoutOf a.bytes ours g → IsLayoutOf b.bytes theirs h
     → (v : Verdict)
-    → IsKeptViewVerdict view (record { cells = ours; top = a.top }) (record { cells = theirs; top = b.top }) v
+    → IsKeptVerdict view (record { cells = ours; top = a.top }) (record { cells = theirs; top = b.top }) v
     → IsComparedIn view a b (record { first = g; second = h; verdict = v })
-compared_in view a b ours theirs g h p q v k =
-    let x = lifted a ours g p k.ours k.first in
-    let y = lifted b theirs h q k.theirs k.second in
+compared_in view a b ours theirs g h p q v k = record {
+  first = (p.cells, p.spelled);
+  second = (q.cells, q.spelled);
+  verdict = kept_viewed view a b ours theirs g h p q v k;
+}
+
+-- a library that was checked and whose top is in range
+pub in_range_as : (k : Kept) (s t : Settled) → IsCheckedAs k s → t ≡ s → IsTopInRange t → IsInRangeAs k t
+in_range_as k s t checked same h =
+    let c : IsCheckedAs k t = subst (IsCheckedAs k) (sym same) checked in
     record {
-      first = (p.cells, p.spelled);
-      second = (q.cells, q.spelled);
-      verdict = record {
-        both = record {
-          ours = p.cells;
-          our_top = x.top;
-          theirs = q.cells;
-          their_top = y.top;
-          first = x.accepted;
-          second = y.accepted;
-        };
-        verdict = verdict_of_same (IsShown view.window) (IsShown view.window)
-            (λ layer. RingsCover (rings_on layer k.ours)) (Draws p.cells x.top)
-            (IsMoved view.pairs (λ layer. RingsCover (rings_on layer k.theirs))) (IsMoved view.pairs
-            (Draws q.cells y.top))
-            (λ s seen. seen) (λ s seen. seen) x.draws
-            (moved_same view.pairs (λ layer. RingsCover (rings_on layer k.theirs)) (Draws q.cells y.top) y.draws) v
-            k.verdict;
-      };
+      checked = c;
+      top = c.sound.cell;
+      is_top = c.sound.is;
+      in_range = subst (λ o. IfSome o (AllInRange t.cells)) c.sound.is h;
     }
+
+-- a verdict on what both tops cover
+pub kept_verdict : (view : PlainView) (a b : Kept) (s t : Settled) → IsInRangeAs a s → IsInRangeAs b t → (v : Verdict)
+    → IsVerdictOf (IsShown view.window) (TopCovers s) (IsMoved view.pairs (TopCovers t)) v → IsKeptVerdict view a b v
+kept_verdict view a b s t first second v h = record {
+  ours = s;
+  theirs = t;
+  first = first;
+  second = second;
+  verdict = verdict_of_same (IsShown view.window) (IsShown view.window) (TopCovers s) (Places s first.top)
+      (IsMoved view.pairs (TopCovers t)) (IsMoved view.pairs (Places t second.top)) (λ q seen. seen) (λ q seen. seen)
+      (top_places s first.top first.is_top)
+      (moved_same view.pairs (TopCovers t) (Places t second.top) (top_places t second.top second.is_top)) v h;
+}
+
+-- why the second is refused, where the first is in range
+pub second_fault : (a b : Kept) (s t : Settled) → IsInRangeAs a s → IsCheckedAs b t → (r : Refusal)
+    → IsFlattenRefusal Second t r → IsKeptRefusal a b r
+second_fault a b s t first checked (FileRefusal side f) h = absurd h
+second_fault a b s t first checked (CellsRefusal side f) h = absurd h
+second_fault a b s t first checked (FlatRefusal First f) h = cc
+second_fault a b s t first checked (FlatRefusal Second f) h =
+    ((s, first), record { settled = t; checked = checked; told = h.1 })
+second_fault a b s t first checked OutOfMemory h = tt
+
+pub second_told : (a b : Kept) (s u t : Settled) → IsCheckedAs a s → u ≡ s → IsTopInRange u → IsCheckedAs b t
+    → (e : Refusal) → IsFlattenRefusal Second t e → (res : Result Verdict Refusal) → IsErr res × IsErrAnd res (λ r. r ≡ e)
+    → IfErr res (IsKeptRefusal a b)
+second_told a b s u t first same in' second e h (Ok v) is = tt
+second_told a b s u t first same in' second e h (Err r) is =
+    subst (IsKeptRefusal a b) (sym is.1) (second_fault a b u t (in_range_as a s u first same in') second e h)

@@ -1,5 +1,5 @@
 -- What an answer says of two files: a verdict, or why one of them is refused.
-use Rattle.std.specs.Prelude.{◌≡◌, ⊤, ℕ, Bool, false, List, ◌++◌, Option, Some, Result, Ok, Err}
+use Rattle.std.specs.Prelude.{◌≡◌, ◌≢◌, ⊤, ℕ, Bool, false, List, ◌++◌, Option, Some, Result, Ok, Err}
 use Rattle.lvl_path.specs.Figure.{figure_rings}
 use Rattle.lvl_cells.specs.Cells.{kept}
 use Rattle.lvl_region.specs.declared.region.Side.{Side}
@@ -8,6 +8,9 @@ use Rattle.lvl.specs.Drawing.{Drawing}
 use Rattle.lvl_refusal.specs.declared.Refusal.{Refusal as Cause}
 use Rattle.lvl_refusal.specs.declared.Refusal.TheVariants.{Breach, OutOfMemory as NoMemory}
 use Rattle.gds_library.specs.Ends.{Tells as TellsGds, IsExcused as IsExcusedGds, IsEarly as IsEarlyGds, is_read_kind}
+use Rattle.gds_records.specs.declared.fault.RecordFault.TheVariants.{Read}
+use Rattle.gds_library.specs.declared.fault.GdsFault.{GdsFault}
+use Rattle.gds_library.specs.declared.fault.GdsKind.TheVariants.{Record}
 use Rattle.oasis_library.specs.Ends.{Tells as TellsOasis, IsExcused as IsExcusedOasis, IsEarly as IsEarlyOasis}
 use Rattle.oasis_library.specs.Ends.{is_read_error}
 use Rattle.lvl.specs.declared.layout.Head.{Head}
@@ -17,7 +20,7 @@ use Rattle.lvl.specs.declared.verdict.Comparison.{Comparison}
 use Rattle.lvl.specs.declared.verdict.Refusal.{Refusal}
 use Rattle.lvl.specs.declared.verdict.Refusal.TheVariants.{File as FileRefusal, Cells as CellsRefusal}
 use Rattle.lvl.specs.declared.verdict.Refusal.TheVariants.{Flat as FlatRefusal, OutOfMemory}
-use Rattle.lvl.specs.Layouts.{File, Spells, SpellsSome, HasHead}
+use Rattle.lvl.specs.Layouts.{File, IsOasis, Spells, SpellsSome, HasHead}
 use Rattle.lvl.specs.Accepted.{IsAccepted, IsUnaccepted, IsVerdict}
 use Rattle.lvl.specs.Kept.{Kept, Passes, IsCellFault, IsRangeFault}
 
@@ -26,10 +29,14 @@ abbrev pub IsExcusedFile : FileFault → Type 0
 IsExcusedFile (Gds f) = IsExcusedGds f
 IsExcusedFile (Oasis f) = IsExcusedOasis f
 
--- what the reader of the format says of the bytes
+-- a first read that failed, before there was a byte: it is reported as one of GDSII
+abbrev pub nothing_read : GdsFault
+nothing_read = record { offset = 0; kind = Record Read }
+
+-- what the reader of the format says of the bytes; the format is that of the first byte, where one was read
 abbrev pub TellsOfFile : List ℕ → FileFault → Type 0
-TellsOfFile bytes (Gds f) = TellsGds bytes f
-TellsOfFile bytes (Oasis f) = TellsOasis bytes f
+TellsOfFile bytes (Gds f) = (f ≢ nothing_read → ¬ IsOasis bytes) × TellsGds bytes f
+TellsOfFile bytes (Oasis f) = IsOasis bytes × TellsOasis bytes f
 
 -- the refusal is of that side's file, for another cause than memory or a failed read
 abbrev pub Blames : Side → Refusal → Type 0

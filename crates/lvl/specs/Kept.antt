@@ -1,19 +1,21 @@
 -- The steps after the reading, on libraries with rings alone.
-use Rattle.std.specs.Prelude.{◌≡◌, ◌⊎◌, ⊤, ℕ, List, Option, Some, IfSome, slice_get}
+use Rattle.std.specs.Prelude.{◌≡◌, ⊤, ℕ, List, Option, Some, slice_get}
 use Rattle.lvl_cells.specs.Cells.{PlainCell, Rings}
+use Rattle.lvl_grid.specs.declared.point.Square.{Square}
+use Rattle.lvl_names.specs.declared.layer.Layer.{Layer}
+use Rattle.lvl_cells.specs.Coverage.{RingsCover, CellCovers}
+use Rattle.lvl_columns.specs.Windows.{IsShown}
 use Rattle.lvl_cells.specs.Checks.{Settled, IsSettled, PlacesFew}
 use Rattle.lvl_cells.specs.Faults.{IsFaultOf, IsSoundWith}
 use Rattle.lvl_cells.specs.declared.fault.CellFault.{CellFault}
 use Rattle.lvl_flat.specs.Flattened.{AllInRange, IsFlattened, IsFlatFault}
-use Rattle.lvl_compare.specs.Alike.{AreAlike}
 use Rattle.lvl_flat.specs.Sheet.{PlainSheet}
 use Rattle.lvl_flat.specs.declared.fault.FlatFault.{FlatFault}
 use Rattle.lvl_region.specs.declared.region.Side.TheVariants.{First, Second}
 use Rattle.lvl_view.specs.Views.{PlainView}
-use Rattle.lvl.specs.Sheets.{IsFlatVerdict}
-use Rattle.lvl.specs.Views.{IsFlatViewVerdict}
+use Rattle.lvl_view.specs.Moved.{IsMoved}
+use Rattle.lvl.specs.Views.{IsVerdictOf}
 use Rattle.lvl.specs.declared.verdict.Verdict.{Verdict}
-use Rattle.lvl.specs.declared.verdict.Verdict.TheVariants.{Same}
 use Rattle.lvl.specs.declared.verdict.Refusal.{Refusal}
 use Rattle.lvl.specs.declared.verdict.Refusal.TheVariants.{File as FileRefusal, Cells as CellsRefusal}
 use Rattle.lvl.specs.declared.verdict.Refusal.TheVariants.{Flat as FlatRefusal, OutOfMemory}
@@ -37,9 +39,6 @@ pub record IsFlattenedAs (k : Kept) (sheets : List PlainSheet) : Type 0 where
   pub checked : IsCheckedAs k settled
   pub flat : IsFlattened settled sheets
 
-abbrev pub IsFlat : Kept → Type 0
-IsFlat k = (sheets : List PlainSheet) × IsFlattenedAs k sheets
-
 -- the fault is why the check refused it
 pub record IsCellFault (k : Kept) (fault : CellFault) : Type 0 where
   pub told : IsFaultOf k.cells k.top fault
@@ -58,33 +57,21 @@ pub record IsInRangeAs (k : Kept) (s : Settled) : Type 0 where
   pub is_top : slice_get s.cells s.top ≡ Some top
   pub in_range : AllInRange s.cells top
 
--- both are in range, and their tops cover the same squares
-pub record AreKeptAlike (a b : Kept) : Type 0 where
+abbrev pub IsFitted : Kept → Type 0
+IsFitted k = (s : Settled) × IsInRangeAs k s
+
+-- what the cell covers on each Layer, through all references
+abbrev pub Places : Settled → PlainCell Rings → Layer → Square → Type 0
+Places s top layer q = CellCovers RingsCover s.cells layer top q
+
+-- all that both place is in range, and the verdict is that on what their tops cover under the view
+pub record IsKeptVerdict (view : PlainView) (a b : Kept) (v : Verdict) : Type 0 where
   pub ours : Settled
   pub theirs : Settled
   pub first : IsInRangeAs a ours
   pub second : IsInRangeAs b theirs
-  pub alike : AreAlike ours.cells ours.top theirs.cells theirs.top
-
--- both were flattened, and the verdict is that on what they gave
-pub record IsVerdictOnFlats (a b : Kept) (v : Verdict) : Type 0 where
-  pub ours : List PlainSheet
-  pub theirs : List PlainSheet
-  pub first : IsFlattenedAs a ours
-  pub second : IsFlattenedAs b theirs
-  pub verdict : IsFlatVerdict ours theirs v
-
--- both were flattened, and the verdict is that on what they gave under the view
-pub record IsKeptViewVerdict (view : PlainView) (a b : Kept) (v : Verdict) : Type 0 where
-  pub ours : List PlainSheet
-  pub theirs : List PlainSheet
-  pub first : IsFlattenedAs a ours
-  pub second : IsFlattenedAs b theirs
-  pub verdict : IsFlatViewVerdict view ours theirs v
-
--- the verdict is that on what both gave, or it is that they are the same, which was found cell by cell
-abbrev pub IsKeptVerdict : Kept → Kept → Verdict → Type 0
-IsKeptVerdict a b v = IsVerdictOnFlats a b v ⊎ ((v ≡ Same) × AreKeptAlike a b)
+  pub verdict : IsVerdictOf (IsShown view.window) (Places ours first.top)
+      (IsMoved view.pairs (Places theirs second.top)) v
 
 -- the step that refused, and that those before it passed
 abbrev pub IsKeptRefusal : Kept → Kept → Refusal → Type 0
@@ -92,11 +79,5 @@ IsKeptRefusal a b (FileRefusal side fault) = ⊥
 IsKeptRefusal a b (CellsRefusal First fault) = IsCellFault a fault
 IsKeptRefusal a b (CellsRefusal Second fault) = Passes a × IsCellFault b fault
 IsKeptRefusal a b (FlatRefusal First fault) = IsRangeFault a fault × Passes b
-IsKeptRefusal a b (FlatRefusal Second fault) = IsFlat a × IsRangeFault b fault
+IsKeptRefusal a b (FlatRefusal Second fault) = IsFitted a × IsRangeFault b fault
 IsKeptRefusal a b OutOfMemory = ⊤
-
--- all that both tops place is in range, and both cover the same squares
-pub record AreToldAlike (ours theirs : Settled) : Type 0 where
-  pub first : IfSome (slice_get ours.cells ours.top) (AllInRange ours.cells)
-  pub second : IfSome (slice_get theirs.cells theirs.top) (AllInRange theirs.cells)
-  pub alike : AreAlike ours.cells ours.top theirs.cells theirs.top

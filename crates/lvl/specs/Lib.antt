@@ -1,7 +1,6 @@
 pub mod Drawing
 pub mod Layouts
 pub mod Accepted
-pub mod Sheets
 pub mod Kept
 pub mod Answers
 pub mod Sides

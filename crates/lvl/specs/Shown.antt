@@ -1,13 +1,13 @@
 -- What is shown of a layout, and why it is not.
 use Rattle.std.specs.Prelude.{◌≡◌, ◌<◌, ⊤, List, map, length, All, AllPairs, Contains}
 use Rattle.lvl_path.specs.Figure.{figure_rings}
-use Rattle.lvl_cells.specs.declared.layer.Layer.{Layer}
+use Rattle.lvl_names.specs.declared.layer.Layer.{Layer}
 use Rattle.lvl_cells.specs.Cells.{PlainCell, Rings, each_ring}
 use Rattle.lvl_cells.specs.Chains.{placed_rings_on}
 use Rattle.lvl_cells.specs.Checks.{Settled}
 use Rattle.lvl_flat.specs.Flattened.{IsFlattened}
 use Rattle.lvl_flat.specs.Sheet.{PlainSheet}
-use Rattle.lvl_cells.specs.Layers.{ComesBefore}
+use Rattle.lvl_names.specs.Layers.{ComesBefore}
 use Rattle.lvl_region.specs.declared.region.Side.TheVariants.{First}
 use Rattle.lvl.specs.Drawing.{Drawing}
 use Rattle.lvl.specs.declared.shown.Shown.{Shown}

@@ -1,49 +1,47 @@
-//! The comparison of two files: read, checked, flattened, and compared Layer by Layer.
-ghost use Rattle.std.specs.Prelude.{◌≡◌, ◌≢◌, List, ℕ, Some, Ok, Err, IfOk, IfErr};
+//! The comparison of two files: read, checked, and compared strip by strip under a view.
+ghost use Rattle.std.specs.Prelude.{◌≡◌, List, ℕ, Some, Ok, Err, IfOk, IfErr};
 ghost use Rattle.lvl_io.specs.Bytes.{CountsFailure};
 ghost use Rattle.lvl_region.specs.declared.region.Side.TheVariants.{First, Second};
-ghost use Rattle.lvl_cells.specs.declared.layer.Layer.{Layer};
+ghost use Rattle.lvl_names.specs.declared.layer.Layer.{Layer};
 ghost use Rattle.lvl_grid.specs.declared.point.Square.{Square};
 ghost use Rattle.lvl_region.specs.declared.region.Side.{Side as WhichSide};
+ghost use Rattle.lvl_view.specs.Views.{IsWhole};
+ghost use Rattle.lvl.specs.declared.layout.FileFault.{FileFault as FaultOfFile};
 ghost use Rattle.lvl.specs.declared.verdict.Verdict.TheVariants.{Same, Differ};
-ghost use Rattle.lvl.specs.Accepted.{AreSame, AreDifferent, IsUnaccepted};
+ghost use Rattle.lvl.specs.declared.verdict.Refusal.TheVariants.{File as FileRefused};
+ghost use Rattle.lvl.specs.Accepted.{AreSame, AreDifferent, IsUnaccepted, IsVerdict};
 ghost use Rattle.lvl.specs.Kept.{IsKeptVerdict, IsKeptRefusal};
-ghost use Rattle.lvl.specs.Answers.{Blames, HasPassed, IsCompared, IsEarlyOf, IsHopeless, IsRefusalOf, IsTold};
-ghost use Rattle.lvl.specs.Answers.{is_read_of};
+ghost use Rattle.lvl.specs.Answers.{Blames, HasPassed, IsEarlyOf, IsHopeless, IsRefusalOf, IsTold, is_read_of};
 ghost use Rattle.lvl.specs.Sides.{file, library_of};
-ghost use Rattle.lvl.specs.declared.verdict.Refusal.TheVariants.{OutOfMemory};
+ghost use Rattle.lvl.specs.Views.{IsComparedIn, IsViewVerdict};
 
-use crate::alike::are_alike;
-use crate::layers::compare_flats;
-use crate::side::{check_side, flatten_side, read_side};
+use crate::fitted::compare_fitted;
+use crate::side::{check_side, fit_side, read_side};
 use crate::verdict::{Comparison, Refusal, Tops, Verdict};
 use lvl_cells::Library;
 use lvl_io::Read;
 use lvl_region::Side;
+use lvl_view::View;
 use std::alloc::Global;
 
-/// The libraries of both files checked, flattened and compared; they are not flattened where they are
-/// found to draw the same cell by cell.
+/// The libraries of both files checked and compared under the view.
 fn compare_libraries(
     alloc: Global,
     ours: Library,
     theirs: Library,
     tops: &Tops,
+    view: &View,
 ) -> Result<Verdict, Refusal>
-    ensures verdict { IfOk result (IsKeptVerdict (library_of ours tops.now.first) (library_of theirs tops.now.second)) }
+    ensures verdict { IfOk result (IsKeptVerdict view.now
+        (library_of ours tops.now.first) (library_of theirs tops.now.second)) }
     ensures refused { IfErr result
         (IsKeptRefusal (library_of ours tops.now.first) (library_of theirs tops.now.second)) }
 {
     let ours = check_side(alloc, Side::First, ours, &tops.first)?;
     let theirs = check_side(alloc, Side::Second, theirs, &tops.second)?;
-    match are_alike(alloc, &ours, &theirs) {
-        Ok(true) => return Ok(Verdict::Same),
-        Ok(false) => {}
-        Err(_) => return Err(Refusal::OutOfMemory),
-    }
-    let ours = flatten_side(alloc, Side::First, ours)?;
-    let theirs = flatten_side(alloc, Side::Second, theirs)?;
-    match compare_flats(alloc, &ours, &theirs) {
+    let ours = fit_side(alloc, Side::First, ours)?;
+    let theirs = fit_side(alloc, Side::Second, theirs)?;
+    match compare_fitted(alloc, &ours, &theirs, view) {
         Ok(verdict) => Ok(verdict),
         Err(_) => Err(Refusal::OutOfMemory),
     }
@@ -85,26 +83,37 @@ pub fn compare_layouts<A: Read, B: Read>(
         → IfErr result (λ r. IsEarlyOf First r → IsHopeless xs (A.remaining first.new)) }
     ensures second_early { (ys : List ℕ) → B.remaining second.old ≡ Some ys
         → IfErr result (λ r. IsEarlyOf Second r → IsHopeless ys (B.remaining second.new)) }
+    ensures second_kept { (fault : FaultOfFile) → result ≡ Err (FileRefused First fault) → second.new ≡ second.old }
     ensures first_reads { CountsFailure (A.read_errors first.old) (A.read_errors first.new) (is_read_of First result) }
     ensures second_reads { CountsFailure (B.read_errors second.old) (B.read_errors second.new)
         (is_read_of Second result) }
 {
-    match compare_files(alloc, first, second, tops) {
+    match compare_files(alloc, first, second, tops, &View::whole(alloc)) {
         Ok(compared) => Ok(compared.verdict),
         Err(refusal) => Err(refusal),
     }
 }
 
-/// Two files compared: what each says of itself, and whether both draw the same mask. All that
-/// [`compare_layouts`] says of its answer holds of this one.
-pub fn compare_files<A: Read, B: Read>(
+/// Whether two files draw the same mask under a view.
+///
+/// The second file covers a square on a Layer where its top covers it on some Layer whose target that
+/// is; all pairs of the map apply at once, and a Layer that is no source is its own target. Only
+/// squares of the window count. Both whole files must be accepted, whatever the view. `Differ` names
+/// the least target Layer and on it the least square of the window. Refusals are those of
+/// [`compare_layouts`], in the same order; with no pairs and no window the
+/// verdict is, too (own rule).
+pub fn compare_view<A: Read, B: Read>(
     alloc: Global,
     first: &mut A,
     second: &mut B,
     tops: &Tops,
-) -> Result<Comparison, Refusal>
-    ensures compared { (xs ys : List ℕ) → A.remaining first.old ≡ Some xs → B.remaining second.old ≡ Some ys
-        → IfOk result (IsCompared (file xs tops.now.first) (file ys tops.now.second)) }
+    view: &View,
+) -> Result<Verdict, Refusal>
+    ensures verdict { (xs ys : List ℕ) → A.remaining first.old ≡ Some xs → B.remaining second.old ≡ Some ys
+        → IfOk result (IsViewVerdict view.now (file xs tops.now.first) (file ys tops.now.second)) }
+    ensures whole { IsWhole view.now
+        → (xs ys : List ℕ) → A.remaining first.old ≡ Some xs → B.remaining second.old ≡ Some ys
+        → IfOk result (IsVerdict (file xs tops.now.first) (file ys tops.now.second)) }
     ensures first_refused { (xs : List ℕ) → A.remaining first.old ≡ Some xs
         → IfErr result (IsRefusalOf First (file xs tops.now.first)) }
     ensures second_refused { (ys : List ℕ) → B.remaining second.old ≡ Some ys
@@ -113,13 +122,48 @@ pub fn compare_files<A: Read, B: Read>(
         → IfErr result (λ r. IsEarlyOf First r → IsHopeless xs (A.remaining first.new)) }
     ensures second_early { (ys : List ℕ) → B.remaining second.old ≡ Some ys
         → IfErr result (λ r. IsEarlyOf Second r → IsHopeless ys (B.remaining second.new)) }
+    ensures second_kept { (fault : FaultOfFile) → result ≡ Err (FileRefused First fault) → second.new ≡ second.old }
+    ensures first_reads { CountsFailure (A.read_errors first.old) (A.read_errors first.new) (is_read_of First result) }
+    ensures second_reads { CountsFailure (B.read_errors second.old) (B.read_errors second.new)
+        (is_read_of Second result) }
+{
+    match compare_files(alloc, first, second, tops, view) {
+        Ok(viewed) => Ok(viewed.verdict),
+        Err(refusal) => Err(refusal),
+    }
+}
+
+/// Two files compared under a view: what each says of itself, and the verdict of [`compare_view`]. The
+/// second file is not read where the first is refused. [`compare_layouts`] and [`compare_view`] are this
+/// call without the heads.
+pub fn compare_files<A: Read, B: Read>(
+    alloc: Global,
+    first: &mut A,
+    second: &mut B,
+    tops: &Tops,
+    view: &View,
+) -> Result<Comparison, Refusal>
+    ensures compared { (xs ys : List ℕ) → A.remaining first.old ≡ Some xs → B.remaining second.old ≡ Some ys
+        → IfOk result (IsComparedIn view.now (file xs tops.now.first) (file ys tops.now.second)) }
+    ensures whole { IsWhole view.now
+        → (xs ys : List ℕ) → A.remaining first.old ≡ Some xs → B.remaining second.old ≡ Some ys
+        → IfOk result (λ c. IsVerdict (file xs tops.now.first) (file ys tops.now.second) c.verdict) }
+    ensures first_refused { (xs : List ℕ) → A.remaining first.old ≡ Some xs
+        → IfErr result (IsRefusalOf First (file xs tops.now.first)) }
+    ensures second_refused { (ys : List ℕ) → B.remaining second.old ≡ Some ys
+        → IfErr result (IsRefusalOf Second (file ys tops.now.second)) }
+    ensures first_early { (xs : List ℕ) → A.remaining first.old ≡ Some xs
+        → IfErr result (λ r. IsEarlyOf First r → IsHopeless xs (A.remaining first.new)) }
+    ensures second_early { (ys : List ℕ) → B.remaining second.old ≡ Some ys
+        → IfErr result (λ r. IsEarlyOf Second r → IsHopeless ys (B.remaining second.new)) }
+    ensures second_kept { (fault : FaultOfFile) → result ≡ Err (FileRefused First fault) → second.new ≡ second.old }
     ensures first_reads { CountsFailure (A.read_errors first.old) (A.read_errors first.new) (is_read_of First result) }
     ensures second_reads { CountsFailure (B.read_errors second.old) (B.read_errors second.new)
         (is_read_of Second result) }
 {
     let (ours, first_head) = read_side(alloc, Side::First, first)?;
     let (theirs, second_head) = read_side(alloc, Side::Second, second)?;
-    let verdict = compare_libraries(alloc, ours, theirs, tops)?;
+    let verdict = compare_libraries(alloc, ours, theirs, tops, view)?;
     Ok(Comparison {
         first: first_head,
         second: second_head,

@@ -19,16 +19,15 @@
 //! ```
 #![tactic(auto)]
 
-pub use compare::{compare_files, compare_layouts};
+pub use compare::{compare_files, compare_layouts, compare_view};
 pub use layout::{FileFault, Head, Layout, read_layout};
 pub use show::show_file;
 pub use shown::{Shown, ShownLayer};
 pub use verdict::{Comparison, Refusal, Tops, Verdict};
-pub use view::{compare_files_in, compare_view};
 
 mod alike;
 mod compare;
-mod layers;
+mod fitted;
 mod layout;
 mod show;
 mod shown;
@@ -36,4 +35,3 @@ mod side;
 #[cfg(test)]
 mod tests;
 mod verdict;
-mod view;

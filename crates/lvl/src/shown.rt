@@ -5,8 +5,9 @@ ghost use Rattle.lvl_flat.specs.Sheets.{IsInOrder};
 ghost use Rattle.lvl.specs.Shown.{shown_layer};
 
 use crate::layout::Head;
-use lvl_cells::{Checked, Layer};
+use lvl_cells::Checked;
 use lvl_flat::Flat;
+use lvl_names::Layer;
 use std::alloc::{AllocError, Global};
 
 /// A Layer, and how many rings are placed on it.

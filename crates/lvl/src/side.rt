@@ -1,7 +1,7 @@
 //! The steps for one of two files: read, check its cells, flatten.
 ghost use Rattle.std.specs.Prelude.{◌≡◌, ◌≢◌, List, ℕ, Some, Err, IfOk, IfErr, option_copied};
 ghost use Rattle.lvl_io.specs.Bytes.{CountsFailure};
-ghost use Rattle.lvl_flat.specs.Flattened.{IsFlattened};
+ghost use Rattle.lvl_flat.specs.Flattened.{IsFlattened, IsTopInRange};
 ghost use Rattle.lvl.specs.Layouts.{IsLayoutOf};
 ghost use Rattle.lvl.specs.Kept.{IsCheckedAs};
 ghost use Rattle.lvl.specs.Answers.{IsEarlyOf, IsHopeless, is_read_of};
@@ -12,7 +12,7 @@ ghost use Rattle.lvl.specs.declared.verdict.Refusal.TheVariants.{OutOfMemory};
 use crate::layout::{Head, read_layout};
 use crate::verdict::Refusal;
 use lvl_cells::{Checked, Library, check};
-use lvl_flat::{Flat, flatten};
+use lvl_flat::{Fitted, Flat, flatten};
 use lvl_io::Read;
 use lvl_refusal::Refusal as Cause;
 use lvl_region::Side;
@@ -78,6 +78,19 @@ pub(crate) fn check_side(
     ensures refused { IfErr result (IsCheckRefusal side (library_of library top.now)) }
 {
     check_named(alloc, side, library, name_of(top))
+}
+
+/// The library, if all that its top places is within 64 bits.
+pub(crate) fn fit_side(alloc: Global, side: Side, checked: Checked) -> Result<Fitted, Refusal>
+    ensures same { IfOk result (λ fitted. fitted ≡ checked) }
+    ensures in_range { IfOk result IsTopInRange }
+    ensures refused { IfErr result (IsFlattenRefusal side checked) }
+{
+    match Fitted::new(alloc, checked) {
+        Ok(fitted) => Ok(fitted),
+        Err(Cause::Breach(fault)) => Err(Refusal::Flat(side, fault)),
+        Err(Cause::OutOfMemory) => Err(Refusal::OutOfMemory),
+    }
 }
 
 /// The rings of the library, Layer by Layer. The library is let go with it.

@@ -1,10 +1,13 @@
 //! Each public call once, on the file of one square, with ample memory.
 
-use crate::{Layout, Tops, Verdict, compare_files, compare_layouts, read_layout, show_file};
-use lvl_cells::Layer;
+use crate::{
+    Layout, Tops, Verdict, compare_files, compare_layouts, compare_view, read_layout, show_file,
+};
 use lvl_grid::Square;
 use lvl_io::fake::Pieces;
+use lvl_names::Layer;
 use lvl_region::Side;
+use lvl_view::View;
 use std::test::Fail;
 
 /// 0..10 by 0..10 on 1/0 in the cell TOP, as GDSII.
@@ -61,9 +64,19 @@ fn verdicts(rt: HostRuntime) -> Result<(), Fail> {
         let (mut first, mut second) = (Pieces::new(&ours, 50), Pieces::new(&theirs, 7));
         let verdict = compare_layouts(rt.alloc(), &mut first, &mut second, &NO_TOPS).ok();
         assert_eq!(rt; verdict, Some(want));
+        let view = View::whole(rt.alloc());
         let (mut first, mut second) = (Pieces::new(&ours, 168), Pieces::new(&theirs, 1));
-        let compared = compare_files(rt.alloc(), &mut first, &mut second, &NO_TOPS);
+        let compared = compare_files(rt.alloc(), &mut first, &mut second, &NO_TOPS, &view);
         assert_eq!(rt; compared.ok().map(|compared| compared.verdict), Some(want));
+        let view = View::read(rt.alloc(), Some("1/0=2/0"), Some("x=0..10,y=0..9"))?;
+        let (mut first, mut second) = (Pieces::new(&ours, 168), Pieces::new(&theirs, 168));
+        let mapped = compare_view(rt.alloc(), &mut first, &mut second, &NO_TOPS, &view).ok();
+        let at_origin = Verdict::Differ {
+            layer,
+            square: Square { x: 0, y: 0 },
+            side: Side::First,
+        };
+        assert_eq!(rt; mapped, Some(at_origin));
     }
     Ok(())
 }

@@ -1,9 +1,10 @@
 //! What comes of a comparison: a verdict, or a refusal.
 
 use crate::layout::{FileFault, Head};
-use lvl_cells::{CellFault, Layer};
+use lvl_cells::CellFault;
 use lvl_flat::FlatFault;
 use lvl_grid::Square;
+use lvl_names::Layer;
 use lvl_region::Side;
 use thiserror::Error;
 

@@ -17,7 +17,7 @@ use Rattle.lvl_cells.specs.Cells.{PlainCell, PlainReference, Rings, names}
 use Rattle.lvl_cells.specs.Soundness.{links}
 use Rattle.lvl_cells.specs.inside.Steps.{AreAllTargets}
 use Rattle.lvl_cells.specs.inside.Walking.{IsArc}
-use Rattle.lvl_cells.proofs.Indexes.{contains_at, at_contains}
+use Rattle.lvl_names.proofs.Elements.{contains_at, at_contains}
 use Rattle.lvl_cells.proofs.Sequences.{one_answer}
 
 pub order_of_two : (i j : ℕ) → (i ≡ j) ⊎ ((i < j) ⊎ (j < i))

@@ -88,6 +88,3 @@ capped_times most zero x = omega arith
 capped_times most (suc a) x =
     ⊎_elim (λ h. let e : min most x ≡ most = omega (arith, h) in ap (λ y. min most (suc a * y)) e ∙ omega (arith, h))
     (λ h. let e : min most x ≡ x = omega (arith, h) in ap (λ y. min most (suc a * y)) e) (cases_lt most x)
-
-pub capped_plus : (most x y : ℕ) → min most (min most x + y) ≡ min most (x + y)
-capped_plus most x y = omega arith

@@ -1,7 +1,7 @@
 -- What one more name does to an index, and what a name that is there twice says.
 use Rattle.std.proofs.Common.{◌≡◌, ℕ, zero, suc, ◌+◌, ◌<◌, Bool, true, false, ◌||◌, cond, List, [], ◌∷◌, ◌++◌, take}
 use Rattle.std.proofs.Common.{drop, length, get_or, ◌⊎◌, inl, inr, ⊎_elim, Option, Some, None, is_some, append_assoc}
-use Rattle.std.proofs.Common.{Contains, refl, sym, ap, ◌∙◌, subst, arith, ◌↔◌}
+use Rattle.std.proofs.Common.{refl, sym, ap, ◌∙◌, subst, arith, ◌↔◌}
 use Rattle.std.specs.List.{slice_get, list_any, IsDistinct}
 use Rattle.std.specs.Str.{bytes_eq}
 use Rattle.std.specs.Map.{update, lookup}
@@ -10,8 +10,8 @@ use Rattle.std.proofs.lemmas.Slice.Eq.{bytes_eq-Decides}
 use Rattle.std.proofs.lemmas.Map.Keys.{IsDistinct-push}
 use Rattle.std.proofs.lemmas.List.{take_more, take-append-drop, length-take-le}
 use Rattle.std.proofs.lemmas.Bool.{false≢true}
-use Rattle.std.proofs.lemmas.Option.{slice_get_within, slice_get-get_or, get_or_from_slice_get}
 use Rattle.std.proofs.Math.ListN.{get_or-map, length-map}
+use Rattle.lvl_names.proofs.Elements.{contains_at, same_answer}
 use Rattle.lvl_cells.specs.Cells.{PlainCell, names, Rings}
 use Rattle.std.specs.BTreeMap.{BTreeMap, IsEmpty, is_at}
 use Rattle.std.specs.Cmp.Lexicographic.{slice_cmp}
@@ -36,11 +36,6 @@ push_cases [] y zero x h = inr (refl, cc)
 push_cases [] y (suc k) x h = cc
 push_cases (z ∷ zs) y zero x h = inl h
 push_cases (z ∷ zs) y (suc k) x h = ⊎_elim (λ e. inl e) (λ e. inr (ap suc e.0, e.1)) (push_cases zs y k x h)
-
-pub same_answer : (a b : Bool) → (a ≡ true → b ≡ true) → (b ≡ true → a ≡ true) → a ≡ b
-same_answer true b f g = sym (f refl)
-same_answer false true f g = g refl
-same_answer false false f g = refl
 
 pub bytes_eq_laws : IsEquivalence bytes_eq
 bytes_eq_laws = record {
@@ -89,12 +84,6 @@ names_more cells i c h e =
     let at : get_or (names cells) i c.name ≡ c.name = get_or-map name_of cells i c ∙ ap name_of (sym e) in
     let within : i < length (names cells) = omega (arith, length-map cells name_of) in
     take_more (names cells) i c.name within ∙ ap (λ (n : List ℕ). take i (names cells) ++ n ∷ []) at
-
-pub contains_at : {X : Type 0} (xs : List X) (k : ℕ) (x : X) → slice_get xs k ≡ Some x → Contains xs x
-contains_at xs k x h = (k, slice_get_within xs k x h, get_or_from_slice_get xs k x x h)
-
-pub at_contains : {X : Type 0} (xs : List X) (x : X) → Contains xs x → (k : ℕ) × (slice_get xs k ≡ Some x)
-at_contains xs x h = (h.0, slice_get-get_or xs h.0 x h.1 ∙ ap Some h.2)
 
 -- the name at i occurs earlier too
 pub repeat_at : (cells : List (PlainCell Rings)) (i k : ℕ) (c : PlainCell Rings) → i < length cells

@@ -1,4 +1,3 @@
-pub mod Lattices
 pub mod Indexes
 pub mod NamedTargets
 pub mod Missing
@@ -15,5 +14,3 @@ pub mod Summing
 pub mod Refusing
 pub mod Looking
 pub mod Spanned
-pub mod Layers
-pub mod Reaches

@@ -1,20 +1,20 @@
 -- What the targets of all cells say, and where the first reference without a cell is.
-use Rattle.std.proofs.Common.{◌≡◌, ℕ, ◌+◌, ◌<◌, List, [], ◌∷◌, ◌++◌, map, take, drop, length, get_or, Option, Some}
+use Rattle.std.proofs.Common.{◌≡◌, ℕ, ◌+◌, ◌<◌, List, [], ◌∷◌, ◌++◌, map, take, drop, length, get_or, Some}
 use Rattle.std.proofs.Common.{append_assoc, All, Contains, refl, sym, ap, ◌∙◌}
 use Rattle.std.specs.List.{slice_get}
 use Rattle.std.specs.declared.alloc.Global.{Global}
 use Rattle.std.specs.declared.vec.Vec.{Vec}
-use Rattle.std.proofs.lemmas.List.{map-append, take_more}
+use Rattle.std.proofs.lemmas.List.{map-append}
 use Rattle.std.proofs.lemmas.List.Concat.{flat_map-append}
 use Rattle.std.proofs.lemmas.List.Elements.{All-nil, All-cons, All-head, All-tail, All-append}
 use Rattle.lvl_cells.specs.Cells.{PlainCell, PlainReference, names, Rings}
 use Rattle.lvl_cells.specs.Soundness.{links}
 use Rattle.lvl_cells.specs.Faults.{IsFirstMissing}
-use Rattle.lvl_cells.specs.inside.Targets.{AreTargets, IsFirstUnknown, IsMissingFault}
+use Rattle.lvl_cells.specs.inside.Targets.{IsFirstUnknown, IsMissingFault}
 use Rattle.lvl_cells.specs.inside.Steps.{IsFirstMissingFault}
 use Rattle.lvl_cells.specs.declared.fault.CellFault.{CellFault}
 use Rattle.lvl_cells.specs.declared.fault.CellFault.TheVariants.{MissingCell}
-use Rattle.lvl_cells.proofs.Indexes.{contains_at}
+use Rattle.lvl_names.proofs.Elements.{contains_at}
 use Rattle.lvl_cells.proofs.NamedTargets.{split_here}
 
 -- the targets of the first cells, by the names of all
@@ -47,22 +47,6 @@ named_links all (c ∷ cs) (ts ∷ tss) e =
     let rest : AreTargetsOf all cs tss = cc in
     All-append (IsNamed all) (links_from c) (links cs) (named_from all c.name c.references ts.items first)
     (named_links all cs tss rest)
-
-pub all_targets_more : (all : List (List ℕ)) (cells : List (PlainCell Rings)) (i : ℕ) (c : PlainCell Rings)
-    (tss : List (Vec ℕ Global)) (ts : Vec ℕ Global) → i < length cells → c ≡ get_or cells i c
-    → AreTargets all c.references ts.items → AreTargetsOf all (take i cells) tss
-    → AreTargetsOf all (take (i + 1) cells) (tss ++ ts ∷ [])
-all_targets_more all cells i c tss ts h e here inv =
-    let more : take (i + 1) cells ≡ take i cells ++ c ∷ [] =
-    take_more cells i c h ∙ ap (λ (y : PlainCell Rings). take i cells ++ y ∷ []) (sym e) in
-    let reach : Vec ℕ Global → List (Option (List ℕ)) = λ w. map (slice_get all) w.items in
-    let asked : PlainCell Rings → List (Option (List ℕ)) = λ q. map (λ r. Some r.cell) q.references in
-    let left : map reach (tss ++ ts ∷ []) ≡ map reach tss ++ reach ts ∷ [] = map-append reach tss (ts ∷ []) in
-    let right : map asked (take (i + 1) cells) ≡ map asked (take i cells) ++ asked c ∷ [] =
-    ap (map asked) more ∙ map-append asked (take i cells) (c ∷ []) in
-    left
-    ∙ (ap (λ (o : List (Option (List ℕ))). map reach tss ++ o ∷ []) here
-    ∙ (ap (λ (l : List (List (Option (List ℕ)))). l ++ asked c ∷ []) inv ∙ sym right))
 
 paired : (from : List ℕ) (refs : List PlainReference)
     → map {B = List ℕ × List ℕ} (λ r. (from, r.cell)) refs

@@ -18,7 +18,7 @@ use Rattle.lvl_cells.specs.Soundness.{links, AreLinked, IsOrder}
 use Rattle.lvl_cells.specs.inside.Steps.{AreAllTargets}
 use Rattle.lvl_cells.specs.inside.Walking.{IsArc, IsWalk, EachTargetWithin, LeadsBack}
 use Rattle.lvl_cells.specs.inside.Rounding.{visited_name, IsFrom, IsRoundOf}
-use Rattle.lvl_cells.proofs.Indexes.{contains_at}
+use Rattle.lvl_names.proofs.Elements.{contains_at}
 use Rattle.lvl_cells.proofs.Arcs.{once_numbered, row_of, reference_in_row, arc_from_link, link_from_arc}
 use Rattle.lvl_cells.proofs.Rounds.{name_there}
 use Rattle.lvl_cells.proofs.Walks.{none_open}

@@ -14,7 +14,7 @@ use Rattle.lvl_cells.specs.Checks.{PlacesFew}
 use Rattle.lvl_cells.specs.declared.fault.CellFault.{CellFault}
 use Rattle.lvl_cells.specs.declared.fault.CellFault.TheVariants.{NoCell, DuplicateCell, MissingCell, Cycle, TopMissing}
 use Rattle.lvl_cells.specs.declared.fault.CellFault.TheVariants.{ManyTops, TooManyPlacements, TooManyRings}
-use Rattle.lvl_cells.proofs.Indexes.{at_contains, contains_at}
+use Rattle.lvl_names.proofs.Elements.{at_contains, contains_at}
 use Rattle.lvl_cells.proofs.Arcs.{once_named}
 use Rattle.lvl_cells.proofs.Orders.{names_long}
 use Rattle.lvl_cells.proofs.Sequences.{one_answer, item_there, slice_get-front}

@@ -1,6 +1,6 @@
 -- Which cells none refers to.
 use Rattle.std.proofs.Common.{◌≡◌, ℕ, zero, suc, ◌+◌, ◌<◌, ◌≤◌, Bool, true, false, List, [], ◌∷◌, ◌++◌, map, take, drop}
-use Rattle.std.proofs.Common.{length, set, ◌⊎◌, inl, inr, ⊎_elim, ◌↔◌, Some, None, Contains, refl, sym, ap, ◌∙◌, subst}
+use Rattle.std.proofs.Common.{length, ◌⊎◌, inl, inr, ⊎_elim, ◌↔◌, Some, None, Contains, refl, sym, ap, ◌∙◌, subst}
 use Rattle.std.proofs.Common.{arith}
 use Rattle.std.specs.List.{slice_get}
 use Rattle.std.specs.Option.{option_map}
@@ -16,11 +16,11 @@ use Rattle.lvl_cells.specs.Faults.{HasTwoTops}
 use Rattle.lvl_cells.specs.inside.Steps.{AreAllTargets}
 use Rattle.lvl_cells.specs.inside.Walking.{IsArc}
 use Rattle.lvl_cells.specs.inside.Topping.{IsTarget, HasOtherRoot}
-use Rattle.lvl_cells.proofs.Indexes.{contains_at, at_contains}
+use Rattle.lvl_names.proofs.Elements.{contains_at, at_contains}
 use Rattle.lvl_cells.proofs.Arcs.{order_of_two, link_of, arc_from_link, link_from_arc}
 use Rattle.lvl_cells.proofs.Orders.{rows_long, names_long}
 use Rattle.lvl_cells.proofs.Sequences.{one_answer, item_there}
-use Rattle.lvl_cells.proofs.Walks.{set_there, set_elsewhere, same_or_not}
+use Rattle.lvl_cells.proofs.Walks.{same_or_not}
 
 -- the places before i are marked, beside those that were
 abbrev pub AreMarked : List Bool → List Bool → List ℕ → ℕ → Type 0
@@ -28,27 +28,6 @@ AreMarked old new places i =
     (k : ℕ)
     → (slice_get new k ≡ Some true)
     ↔ ((slice_get old k ≡ Some true) ⊎ ((q : ℕ) × (q < i) × (slice_get places q ≡ Some k)))
-
-pub mark_more : (old new : List Bool) (places : List ℕ) (i p : ℕ) → slice_get places i ≡ Some p → p < length new
-    → AreMarked old new places i → AreMarked old (set new p true) places (i + 1)
-mark_more old new places i p at low inv k =
-    ⊎_elim (λ e. (
-      λ h. inr (i, omega arith, at ∙ ap Some (sym e)),
-      λ h. subst (λ n. slice_get (set new p true) n ≡ Some true) (sym e)
-          (let x = item_there new p low in set_there new p x.0 true x.1),
-    ))
-    (λ n. (
-      λ h. ⊎_elim (λ w. inl w) (λ w. inr (w.0, omega (arith, w.1), w.2))
-          ((inv k).0 (sym (set_elsewhere new p k true n) ∙ h)),
-      λ h.
-          set_elsewhere new p k true n
-          ∙ (inv k).1 (⊎_elim (λ w. inl w)
-          (λ w. ⊎_elim
-          (λ e. absurd
-          (n (let same : Some k ≡ Some p = sym w.2 ∙ subst (λ q. slice_get places q ≡ Some p) (sym e) at in
-          cc)))
-          (λ m. inr (w.0, omega (arith, w.1, m), w.2)) (same_or_not w.0 i)) h),
-    )) (same_or_not k p)
 
 drop_past : (xs : List Bool) (n : ℕ) → length xs ≤ n → drop n xs ≡ []
 drop_past [] zero h = refl

@@ -16,7 +16,8 @@ use Rattle.lvl_cells.specs.Cells.{PlainCell, Rings, names}
 use Rattle.lvl_cells.specs.Soundness.{links, AreLinked}
 use Rattle.lvl_cells.specs.Faults.{IsCycle}
 use Rattle.lvl_cells.specs.inside.Rounding.{visited_name, IsRoundOf, IsFirstIn}
-use Rattle.lvl_cells.proofs.Indexes.{contains_at, at_contains, bytes_eq_laws}
+use Rattle.lvl_names.proofs.Elements.{contains_at, at_contains}
+use Rattle.lvl_cells.proofs.Indexes.{bytes_eq_laws}
 use Rattle.lvl_cells.proofs.Arcs.{once_named, once_numbered, distinct_once}
 use Rattle.lvl_cells.proofs.Sequences.{round_edges, edges_round, slice_get-drop, slice_get-front, item_there}
 

@@ -20,7 +20,7 @@ use Rattle.lvl_cells.specs.Cells.{PlainCell, PlainReference, Rings, names, cell_
 use Rattle.lvl_cells.specs.Chains.{over_chains, most_placed}
 use Rattle.lvl_cells.specs.Soundness.{AreLinked, IsOrder}
 use Rattle.lvl_cells.specs.inside.Steps.{AreAllTargets, placed_sum}
-use Rattle.lvl_cells.proofs.Indexes.{contains_at}
+use Rattle.lvl_names.proofs.Elements.{contains_at}
 use Rattle.lvl_cells.proofs.Arcs.{cell_at, once_named, is_link, row_of, reference_in_row}
 use Rattle.lvl_cells.proofs.Counting.{FallsFrom, over_chains_is, capped_times}
 use Rattle.lvl_cells.proofs.Examining.{height, height_most, falls_by}

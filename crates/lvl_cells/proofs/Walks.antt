@@ -17,7 +17,8 @@ use Rattle.lvl_cells.specs.declared.walk.Visit.{Visit}
 use Rattle.lvl_cells.specs.declared.walk.Mark.{Mark}
 use Rattle.lvl_cells.specs.declared.walk.Mark.TheVariants.{New, Open, Done}
 use Rattle.lvl_cells.specs.inside.Walking.{IsArc, IsWalk, EachTargetWithin}
-use Rattle.lvl_cells.proofs.Indexes.{push_front, push_last, push_cases, contains_at, at_contains}
+use Rattle.lvl_names.proofs.Elements.{contains_at, at_contains}
+use Rattle.lvl_cells.proofs.Indexes.{push_front, push_last, push_cases}
 use Rattle.lvl_cells.proofs.Sequences.{one_answer}
 
 pub same_or_not : (a b : ℕ) → (a ≡ b) ⊎ (a ≢ b)

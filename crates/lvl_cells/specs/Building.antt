@@ -1,6 +1,10 @@
--- What a builder has.
-use Rattle.std.specs.Prelude.{List, [], ◌∷◌, ◌++◌}
+-- What a builder has, and how many cells there may be.
+use Rattle.std.specs.Prelude.{ℕ, List, [], ◌∷◌, ◌++◌}
 use Rattle.lvl_cells.specs.Cells.{PlainShape, PlainReference, PlainCell, Rings}
+
+-- the most cells of a library (own rule)
+abbrev pub cell_limit : ℕ
+cell_limit = 1048576
 
 -- the cells that are whole, and the one that is open
 pub record Built : Type 0 where

@@ -6,9 +6,9 @@ use Rattle.lvl_grid.specs.declared.point.Point.{Point}
 use Rattle.lvl_grid.specs.declared.map.Map.{Map}
 use Rattle.lvl_grid.specs.declared.map.Turn.TheVariants.{R0}
 use Rattle.lvl_grid.specs.Turn.{image, shifted, FitsPoint}
-use Rattle.lvl_cells.specs.declared.layer.Layer.{Layer}
+use Rattle.lvl_names.specs.declared.layer.Layer.{Layer}
 use Rattle.lvl_cells.specs.Cells.{PlainCell, Rings, placing, cell_named}
-use Rattle.lvl_cells.specs.Layers.{same_layer}
+use Rattle.lvl_names.specs.Layers.{same_layer}
 
 -- m does to each point what inner and then outer do
 abbrev pub IsComposed : Map → Map → Map → Type 0

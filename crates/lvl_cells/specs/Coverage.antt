@@ -4,7 +4,7 @@ use Rattle.lvl_grid.specs.declared.point.Point.{Point}
 use Rattle.lvl_grid.specs.declared.point.Square.{Square}
 use Rattle.lvl_grid.specs.Turn.{image_square}
 use Rattle.lvl_grid.specs.Winding.{Covers}
-use Rattle.lvl_cells.specs.declared.layer.Layer.{Layer}
+use Rattle.lvl_names.specs.declared.layer.Layer.{Layer}
 use Rattle.lvl_cells.specs.Cells.{PlainShape, PlainReference, PlainCell, Rings, placing, cell_named}
 
 -- the square that the shift moves to s

@@ -3,11 +3,10 @@ ghost use Rattle.std.specs.Prelude.{◌≡◌, [], ◌∷◌, ◌++◌, length, 
 ghost use Rattle.lvl_grid.specs.Winding.{IsRing};
 ghost use Rattle.lvl_cells.specs.Building.{no_cell, with_shape, with_reference};
 
-use crate::layer::Layer;
 use crate::library::{Cell, Library, Reference};
-use crate::offsets::Offsets;
 use crate::shapes::Shapes;
 use lvl_grid::{Point, Ring};
+use lvl_names::{Layer, Offsets};
 use std::alloc::{AllocError, Global};
 use std::marker::Model;
 use std::mem;

@@ -2,11 +2,10 @@
 //! is sound.
 //!
 //! A [`Library`] is what a file draws: named cells in file order. A [`Cell`] has [`Shapes`], each
-//! rings on a [`Layer`] at a list of shifts, and [`Reference`]s, each of which places another cell
-//! by its [`Name`], reflected, turned and at a list of places. A list of shifts or places is an
-//! [`Offsets`], which keeps a lattice as such. A [`Builder`] makes a library cell by cell. [`check`]
-//! finds the top, resolves the names and refuses what is not sound or places too much; what it lets
-//! through is a [`Checked`].
+//! rings on a layer at a list of shifts, and [`Reference`]s, each of which places another cell by
+//! its name, reflected, turned and at a list of shifts. A [`Builder`] makes a library cell by cell.
+//! [`check`] finds the top, resolves the names and refuses what is not sound or places too much;
+//! what it lets through is a [`Checked`].
 //!
 //! `METAL` is the layer 1, datatype 0:
 //!
@@ -24,23 +23,16 @@
 pub use builder::{Builder, MOST_CELLS};
 pub use checked::{Checked, check};
 pub use fault::CellFault;
-pub use layer::{Layer, comes_before};
 pub use library::{Cell, Library, Reference};
-pub use name::{MOST_NAME_BYTES, Name, is_name};
 pub use names::index_of;
-pub use offsets::Offsets;
 pub use shapes::Shapes;
 
-mod bounded;
 mod builder;
 mod checked;
 mod counts;
 mod fault;
-mod layer;
 mod library;
-mod name;
 mod names;
-mod offsets;
 mod order;
 mod round;
 mod shapes;

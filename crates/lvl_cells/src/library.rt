@@ -2,10 +2,9 @@
 ghost use Rattle.std.specs.Prelude.{◌≡◌, ◌↔◌, All, IsSome, IfSome};
 ghost use Rattle.lvl_grid.specs.Turn.{shifted, FitsPoint};
 
-use crate::name::Name;
-use crate::offsets::Offsets;
 use crate::shapes::Shapes;
 use lvl_grid::{Point, Turn};
+use lvl_names::{Name, Offsets};
 use std::alloc::AllocError;
 use std::marker::Model;
 

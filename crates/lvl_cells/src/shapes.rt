@@ -1,15 +1,15 @@
 //! The shapes of a cell in one piece: the rings of all of them in one list, and for each shape
 //! where its rings end.
 ghost use Rattle.std.specs.Prelude.{◌≡◌, ◌<◌, ◌+◌, ◌^◌, ◌++◌, ◌∷◌, [], length, get_or, slice_get, IsTrue, ◌↔◌, IfOk};
-ghost use Rattle.std.specs.Prelude.{OnOk, OnErr};
+ghost use Rattle.std.specs.Prelude.{All, OnOk, OnErr};
 ghost use Rattle.lvl_grid.specs.Winding.{IsRing};
 ghost use Rattle.lvl_grid.specs.Pieces.{begin_of};
+ghost use Rattle.lvl_names.specs.Shifts.{IsBetween};
 ghost use Rattle.lvl_cells.specs.Cells.{shape_at};
 ghost use Rattle.lvl_cells.specs.inside.Spans.{ends, GoesOn, HasNumber};
 
-use crate::layer::Layer;
-use crate::offsets::Offsets;
 use lvl_grid::{Point, Ring, Rings};
+use lvl_names::{Layer, Offsets};
 use std::alloc::{AllocError, Global};
 use std::marker::Model;
 
@@ -166,6 +166,17 @@ impl Shapes {
         match self.spans[i].shifts {
             0 => Offsets::single().at(k),
             number => self.shifts[number as usize - 1].at(k),
+        }
+    }
+
+    /// The least and the greatest of the coordinates of the shifts of the shape at this index.
+    pub fn reach(&self, i: usize) -> (Point, Point)
+        requires { i < length self.now }
+        ensures { All (IsBetween result.0 result.1) (shape_at self.now i).shifts }
+    {
+        match self.spans[i].shifts {
+            0 => Offsets::single().reach(),
+            number => self.shifts[number as usize - 1].reach(),
         }
     }
 

@@ -194,9 +194,11 @@ fn is_inner(first: &[Point], second: &[Point], at: i64) -> bool
     either_has_right(first, second, at)
 }
 
-/// The abscissa at which two lists are cut that come of a number of cuts, one within the other, if a cut
-/// is worth while. It is a corner's, so each half has fewer abscissas strictly inside.
-pub(crate) fn cut_at(
+/// The abscissa at which two lists are cut that come of `depth` cuts, one within the other, or None where
+/// a cut isn't worth while: a matter of cost alone. It is a corner's, and lies strictly between those of
+/// two others, so each half has fewer abscissas strictly inside. One list alone is cut with an empty
+/// second one. Fails only when out of memory.
+pub fn cut_at(
     alloc: Global,
     first: &Rings,
     second: &Rings,

@@ -16,6 +16,7 @@
 #![tactic(auto)]
 
 pub use columns::{Comparison, compare_by_columns, difference_by_columns};
+pub use cut::cut_at;
 pub use window::{difference_in, first_difference_in};
 
 mod columns;

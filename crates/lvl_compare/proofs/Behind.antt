@@ -5,12 +5,12 @@ use Rattle.std.proofs.Common.{inr, arith}
 use Rattle.std.specs.Prelude.{◌⊎◌}
 use Rattle.std.proofs.lemmas.Bool.{cases_lt}
 use Rattle.std.proofs.lemmas.List.{drop-drop}
-use Rattle.lvl_cells.specs.declared.layer.Layer.{Layer}
+use Rattle.lvl_names.specs.declared.layer.Layer.{Layer}
 use Rattle.lvl_flat.specs.Sheet.{PlainSheet}
 use Rattle.lvl_flat.specs.Sheets.{rings_on, AreSorted}
-use Rattle.lvl_cells.specs.Layers.{same_layer, ComesBefore}
+use Rattle.lvl_names.specs.Layers.{same_layer, ComesBefore}
 use Rattle.lvl_flat.proofs.Orders.{sorted_tail}
-use Rattle.lvl_cells.proofs.Layers.{before_trans, before_itself, layers_equal, tested_layer, same_is, differs_is}
+use Rattle.lvl_names.proofs.Layers.{before_trans, before_itself, layers_equal, tested_layer, same_is, differs_is}
 use Rattle.lvl_compare.specs.Flats.{AlikeOn, head_layer, behind, IsLesser}
 
 pub head_is : (flat : List PlainSheet) (n : ℕ) → slice_get (map (λ s. s.layer) flat) n ≡ head_layer (drop n flat)

@@ -2,3 +2,4 @@ pub mod Behind
 pub mod Covering
 pub mod Knowing
 pub mod Same
+pub mod InStrips

@@ -1,7 +1,7 @@
 -- Cells of two libraries that cover the same squares.
 use Rattle.std.specs.Prelude.{◌≡◌, ◌↔◌, ℕ, List, slice_get, Some}
 use Rattle.lvl_grid.specs.declared.point.Square.{Square}
-use Rattle.lvl_cells.specs.declared.layer.Layer.{Layer}
+use Rattle.lvl_names.specs.declared.layer.Layer.{Layer}
 use Rattle.lvl_cells.specs.Cells.{PlainCell, Rings}
 use Rattle.lvl_cells.specs.Coverage.{RingsCover, CellCovers}
 

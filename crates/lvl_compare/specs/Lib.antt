@@ -1,3 +1,4 @@
 pub mod Flats
 pub mod Alike
+pub mod Tops
 pub mod inside

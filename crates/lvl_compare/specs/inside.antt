@@ -1,3 +1,4 @@
 pub mod Partners
+pub mod Strips
 pub mod Placements
 pub mod Shapes

@@ -1,7 +1,7 @@
 //! Two libraries compared cell by cell, without flattening them.
 ghost use Rattle.std.specs.Prelude.{◌≡◌, ◌↔◌, ◌<◌, length, Any, IsTrue, IfOk, IfSome};
 ghost use Rattle.lvl_grid.specs.declared.point.Square.{Square};
-ghost use Rattle.lvl_cells.specs.declared.layer.Layer.{Layer};
+ghost use Rattle.lvl_names.specs.declared.layer.Layer.{Layer};
 ghost use Rattle.lvl_cells.specs.Coverage.{RingsCover, ShapeCovers};
 ghost use Rattle.lvl_flat.specs.Sheets.{rings_on};
 ghost use Rattle.lvl_compare.specs.Alike.{AreAlike};

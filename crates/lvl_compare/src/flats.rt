@@ -1,13 +1,13 @@
 //! Two flat layouts compared Layer by Layer, up to the first square that one of them alone covers.
 ghost use Rattle.std.specs.Prelude.{◌≡◌, ◌↔◌, drop, Some, IfOk, IfNone, IfSome, IsTrue};
-ghost use Rattle.lvl_cells.specs.declared.layer.Layer.{Layer as PlainLayer};
+ghost use Rattle.lvl_names.specs.declared.layer.Layer.{Layer as PlainLayer};
 ghost use Rattle.lvl_columns.specs.Windows.{window_of};
 ghost use Rattle.lvl_compare.specs.Flats.{AlikeIn, AlikeOn, IsFirstApart, IsFirstApartIn, IsLesser, behind, head_layer};
 
-use lvl_cells::{Layer, comes_before};
 use lvl_columns::difference_in;
 use lvl_flat::Flat;
 use lvl_grid::{Square, Window};
+use lvl_names::{Layer, comes_before};
 use lvl_region::Side;
 use std::alloc::{AllocError, Global};
 

@@ -1,7 +1,8 @@
 //! Two layouts compared: flat ones Layer by Layer, and libraries cell by cell.
 //!
 //! [`first_difference`] finds the first square that one of two flat layouts alone covers,
-//! [`first_difference_in`] the first of a window, and [`same_by_cells`] finds without flattening
+//! [`first_difference_in`] the first of a window, [`difference_by_strips`] the first of two libraries
+//! that are never flattened whole, and [`same_by_cells`] finds without flattening
 //! whether two libraries draw the same, where it can.
 //!
 //! `wide` and `narrow` are checked libraries, whose tops draw rectangles of 4 by 2 and of 3 by 2:
@@ -18,9 +19,11 @@ pub use cells::same_by_cells;
 pub use flats::{first_difference, first_difference_in};
 pub use partners::pays_by_cells;
 pub use regions::difference_by;
+pub use strips::difference_by_strips;
 
 mod cells;
 mod flats;
 mod partners;
 mod placements;
 mod regions;
+mod strips;

@@ -1,15 +1,15 @@
 //! Two flat layouts compared Layer by Layer, by any way to keep a region.
 ghost use Rattle.std.specs.Prelude.{◌≡◌, ◌↔◌, IfOk, IfNone, IfSome};
-ghost use Rattle.lvl_cells.specs.declared.layer.Layer.{Layer as PlainLayer};
+ghost use Rattle.lvl_names.specs.declared.layer.Layer.{Layer as PlainLayer};
 ghost use Rattle.lvl_grid.specs.Winding.{IsRing};
 ghost use Rattle.lvl_grid.specs.declared.point.Square.{Square as GridSquare};
 ghost use Rattle.lvl_region.specs.Region.{SomeCovers, IsAlone};
 ghost use Rattle.lvl_compare.specs.Flats.{AlikeOn, IsApart};
 
 use crate::flats::{lesser, past};
-use lvl_cells::Layer;
 use lvl_flat::Flat;
 use lvl_grid::{Point, Ring, Rings, Square};
+use lvl_names::Layer;
 use lvl_region::{Region, Side, difference};
 use std::alloc::{AllocError, Global};
 

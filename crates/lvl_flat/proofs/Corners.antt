@@ -7,7 +7,7 @@ use Rattle.lvl_grid.specs.declared.map.Turn.{Turn}
 use Rattle.lvl_grid.specs.declared.map.Turn.TheVariants.{R0, R90, R180, R270}
 use Rattle.lvl_grid.specs.Turn.{image}
 use Rattle.lvl_flat.specs.declared.bounds.Bounds.{Bounds}
-use Rattle.lvl_flat.specs.inside.Bounds.{IsWithin}
+use Rattle.lvl_flat.specs.Boxes.{IsWithin}
 
 -- z is between x and y, in whichever order they are
 record IsBetween (x z y : ℤ) : Type 0 where

@@ -11,14 +11,14 @@ use Rattle.lvl_grid.specs.Turn.{image_square}
 use Rattle.lvl_grid.specs.Placed.{moved_square}
 use Rattle.lvl_grid.specs.Winding.{Covers}
 use Rattle.lvl_grid.proofs.Squares.{same_square, image_square-composed}
-use Rattle.lvl_cells.specs.declared.layer.Layer.{Layer}
+use Rattle.lvl_names.specs.declared.layer.Layer.{Layer}
 use Rattle.lvl_cells.specs.Cells.{PlainCell, PlainShape, Rings, placing, cell_named}
 use Rattle.lvl_cells.specs.Chains.{IsComposed}
 use Rattle.lvl_cells.specs.Coverage.{moved_back, RingsCover, ShapeCovers, PullsBack, CoversWithin, CellCovers}
 use Rattle.lvl_flat.specs.inside.Drawn.{placed_ring, placed_figure, placed_shape, drawn_on, IsPlaced, AreFiguresPlaced}
-use Rattle.lvl_cells.specs.Layers.{same_layer}
+use Rattle.lvl_names.specs.Layers.{same_layer}
 use Rattle.lvl_flat.specs.inside.Visits.{Pick, picks, PickCovers}
-use Rattle.lvl_cells.proofs.Layers.{tested_layer, same_is}
+use Rattle.lvl_names.proofs.Layers.{tested_layer, same_is}
 use Rattle.lvl_grid.proofs.Anyone.{Any-nil, Any-head, Any-tail, Any-uncons, Any-left, Any-right, Any-sides}
 use Rattle.lvl_flat.proofs.Picks.{picks_any}
 
@@ -36,10 +36,10 @@ under_either m s P Q = (
 pub under_same : (m : Map) (s : Square) (P Q : Square → Type 0) → ((t : Square) → P t ↔ Q t) → Under m s P ↔ Under m s Q
 under_same m s P Q same = (λ u. (u.0, u.1, (same u.0).0 u.2), λ u. (u.0, u.1, (same u.0).1 u.2))
 
-there_and_back : (e : Point) (s : Square) → moved_back e (moved_square e s) ≡ s
+pub there_and_back : (e : Point) (s : Square) → moved_back e (moved_square e s) ≡ s
 there_and_back e s = same_square _ _ (omega (arith, ints)) (omega (arith, ints))
 
-back_and_there : (e : Point) (s : Square) → moved_square e (moved_back e s) ≡ s
+pub back_and_there : (e : Point) (s : Square) → moved_square e (moved_back e s) ≡ s
 back_and_there e s = same_square _ _ (omega (arith, ints)) (omega (arith, ints))
 
 -- the rings of a figure at a shift
@@ -148,7 +148,7 @@ drawn_covers layer m s (h ∷ shapes) all =
           ],
     )
 
-some_is : {X : Type 0} (P : X → Type 0) (o : Option X) → IsSomeAnd o P → (x : X) × (o ≡ Some x) × P x
+pub some_is : {X : Type 0} (P : X → Type 0) (o : Option X) → IsSomeAnd o P → (x : X) × (o ≡ Some x) × P x
 some_is P None h = absurd h
 some_is P (Some x) h = (x, refl, h)
 

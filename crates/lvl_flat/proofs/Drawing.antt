@@ -7,14 +7,14 @@ use Rattle.std.proofs.lemmas.List.{append-nil, take_more, get_or-map, length-map
 use Rattle.std.proofs.lemmas.List.Concat.{flat_map-append}
 use Rattle.std.proofs.lemmas.List.Elements.{All-map, All-contains}
 use Rattle.lvl_grid.specs.declared.map.Map.{Map}
-use Rattle.lvl_cells.specs.declared.layer.Layer.{Layer}
+use Rattle.lvl_names.specs.declared.layer.Layer.{Layer}
 use Rattle.lvl_cells.specs.Cells.{PlainShape, Rings}
 use Rattle.lvl_flat.specs.inside.Drawn.{placed_shape, drawn_on}
 use Rattle.lvl_flat.specs.Sheet.{PlainSheet}
 use Rattle.lvl_flat.specs.Sheets.{AreSorted, rings_on}
-use Rattle.lvl_cells.specs.Layers.{ComesBefore, same_layer}
+use Rattle.lvl_names.specs.Layers.{ComesBefore, same_layer}
 use Rattle.lvl_flat.proofs.Orders.{sorted_at, sorted_tail}
-use Rattle.lvl_cells.proofs.Layers.{before_itself, differs_is, tested_layer}
+use Rattle.lvl_names.proofs.Layers.{before_itself, differs_is, tested_layer}
 
 abbrev pub layer_of : PlainSheet → Layer
 layer_of s = s.layer

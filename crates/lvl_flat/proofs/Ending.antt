@@ -1,14 +1,11 @@
 -- The walk begins at the top, and ends with all rings drawn.
 use Rattle.std.proofs.Common.{◌≡◌, ◌≢◌, ◌↔◌, ◌<◌, ◌==◌, ◌++◌, ℕ, zero, suc, Bool, true, false, cond, append_assoc, List}
 use Rattle.std.proofs.Common.{[], ◌∷◌, length, filter, not, sum_by, slice_get, Some, Any, All, Contains, inl, inr, refl}
-use Rattle.std.proofs.Common.{sym, ap, subst, ◌∙◌, arith, rules}
-use Rattle.std.proofs.lemmas.Int.{ints, clamps}
+use Rattle.std.proofs.Common.{sym, ap, subst, ◌∙◌, arith}
 use Rattle.std.proofs.lemmas.List.Elements.{All-head, All-tail, All-filter, filter-append, All-weaker, filter_passes}
 use Rattle.std.proofs.lemmas.Bool.{eqb-true}
 use Rattle.lvl_grid.specs.declared.point.Square.{Square}
-use Rattle.lvl_grid.specs.Turn.{image, image_square, FitsPoint}
-use Rattle.lvl_grid.proofs.Squares.{same_square}
-use Rattle.lvl_cells.specs.declared.layer.Layer.{Layer}
+use Rattle.lvl_names.specs.declared.layer.Layer.{Layer}
 use Rattle.lvl_cells.specs.Cells.{PlainCell, Rings, each_ring}
 use Rattle.lvl_cells.specs.Chains.{unmoved, own_rings_on}
 use Rattle.lvl_cells.specs.Checks.{Settled}
@@ -16,37 +13,28 @@ use Rattle.lvl_cells.specs.Coverage.{RingsCover, ShapeCovers, CellCovers}
 use Rattle.lvl_cells.specs.Soundness.{AreLinked, IsOrder}
 use Rattle.lvl_flat.specs.declared.visit.Visit.{Visit}
 use Rattle.lvl_flat.specs.inside.Drawn.{drawn_on, AreFiguresPlaced}
-use Rattle.lvl_flat.specs.Flattened.{FitShapes}
+use Rattle.lvl_flat.specs.Flattened.{FitShapes, IsFlattenedWithin}
 use Rattle.lvl_flat.specs.Flattened.{IsFlattened, IsOutOfRange}
 use Rattle.lvl_flat.specs.Sheet.{PlainSheet}
 use Rattle.lvl_flat.specs.Sheets.{AreSorted, IsInOrder, rings_on, has_rings, is_filled}
-use Rattle.lvl_cells.specs.Layers.{ComesBefore, same_layer}
-use Rattle.lvl_flat.specs.inside.Visits.{picks, visit_weight, VisitCovers, FitsUnder, PicksFit, IsVisit}
-use Rattle.lvl_flat.specs.inside.Walking.{AllHaveSheets, IsWalking}
+use Rattle.lvl_names.specs.Layers.{ComesBefore, same_layer}
+use Rattle.lvl_flat.specs.inside.Visits.{visit_weight, VisitCovers, PicksFit, pending}
+use Rattle.lvl_flat.specs.inside.Walking.{AllHaveSheets, IsWalking, Everywhere, IsUnderWay, IsWalkingWithin}
+use Rattle.lvl_flat.specs.inside.Walking.{SheetsCover}
 use Rattle.lvl_flat.specs.inside.Entering.{begun, IsDrawn, IsCellOut, IsEnterFault}
 use Rattle.lvl_flat.specs.Flattened.{TellsName}
 use Rattle.lvl_flat.specs.declared.fault.FlatFault.{FlatFault}
 use Rattle.lvl_flat.specs.declared.fault.FlatFault.TheVariants.{OutOfRange}
 use Rattle.lvl_flat.proofs.Orders.{sorted_tail, rings_nowhere}
-use Rattle.lvl_cells.proofs.Layers.{before_itself, tested_layer}
-use Rattle.lvl_grid.proofs.Anyone.{Any-nil, Any-head, Any-uncons}
-use Rattle.lvl_flat.proofs.Picks.{picks_from_start}
-use Rattle.lvl_flat.proofs.Ranging.{fits_under, image-unmoved}
-use Rattle.lvl_flat.proofs.Covering.{Under, drawn_covers}
+use Rattle.lvl_names.proofs.Layers.{before_itself, tested_layer}
+use Rattle.lvl_grid.proofs.Anyone.{Any-nil}
+use Rattle.lvl_flat.proofs.Covering.{drawn_covers}
 use Rattle.lvl_flat.proofs.Drawing.{sorted_alike}
-use Rattle.lvl_flat.proofs.Stepping.{pending_at}
-use Rattle.lvl_flat.proofs.Walking.{drawn_length, weight_begun, visit_begun}
-use Rattle.lvl_flat.proofs.Going.{in_range_of, layers_kept}
-
-square_stays : (s : Square) → image_square unmoved s ≡ s
-square_stays s = same_square _ _ (omega (arith, ints, clamps)) (omega (arith, ints, clamps))
-
-fits_unmoved : FitsPoint unmoved.at
-fits_unmoved = record { x_fits = search rules; y_fits = search rules }
-
-only : (v u : Visit) → Contains (v ∷ []) u → (P : Visit → Type 0) → P v → P u
-only v u (zero, below, same) P p = subst P same p
-only v u (suc k, below, same) P p = absurd (omega arith)
+use Rattle.lvl_flat.proofs.Walking.{drawn_length, weight_begun}
+use Rattle.lvl_flat.proofs.Going.{layers_kept, placed_fit}
+use Rattle.lvl_grid.specs.declared.point.Window.{Window}
+use Rattle.lvl_grid.specs.Clip.{IsWithin}
+use Rattle.lvl_flat.proofs.UnderWay.{under_unmoved, way_begins}
 
 -- sheets without a ring, and the top drawn on them
 pub walk_begins : (s : Settled) (c : PlainCell Rings) (empty new : List PlainSheet) → AreLinked s.cells
@@ -66,44 +54,21 @@ walk_begins s c empty new linked ordered at sorted have none d =
     ∙ ap (λ (b : PlainCell Rings). drawn_on layer unmoved b.shapes) one) in
     record {
       top = c;
-      is_top = at;
+      way =
+          way_begins s c Everywhere (SheetsCover new) at (placed_fit unmoved c.shapes placed)
+          (λ layer q counts.
+          let mine = drawn_covers layer unmoved q c.shapes placed in (
+            λ a. mine.0 (subst (λ rs. RingsCover rs q) (drawn layer) a),
+            λ own. subst (λ rs. RingsCover rs q) (sym (drawn layer)) (mine.1 own),
+          ));
       sorted = sorted_alike new empty d.layers sorted;
       layers = layers_kept cells empty new d.layers have;
-      covers = λ layer q.
-          let begin = visit_begun cells layer s.top unmoved q c at in
-          let mine = drawn_covers layer unmoved q c.shapes placed in
-          let V : Visit → Type 0 = VisitCovers cells layer q in (
-            λ h.
-                elim (begin.0 (q, square_stays q, h)) [
-                  | inl own ↦ inl (subst (λ rs. RingsCover rs q) (sym (drawn layer)) (mine.1 own))
-                  | inr far ↦ inr (Any-head V child [] far)
-                ],
-            λ e.
-                let u : Under unmoved q (CellCovers RingsCover cells layer c) =
-                elim e [
-                  | inl a ↦ begin.1 (inl (mine.0 (subst (λ rs. RingsCover rs q) (drawn layer) a)))
-                  | inr b ↦
-                      elim (Any-uncons V child [] b)
-                      [ inl far ↦ begin.1 (inr far) | inr nothing ↦ absurd (Any-nil V nothing) ]
-                ] in
-                subst (CellCovers RingsCover cells layer c) (sym (square_stays u.0) ∙ u.1) u.2,
-          );
       counts = λ layer.
           let own : PlainCell Rings → ℕ = own_rings_on each_ring layer in
           let long : length (rings_on layer new) ≡ own c =
           ap length (drawn layer) ∙ drawn_length layer unmoved c.shapes in
           let single : sum_by (visit_weight own cells) (child ∷ []) ≡ visit_weight own cells child = omega arith in
           omega (arith, long, single, weight_begun own cells s.order s.top unmoved c linked ordered at);
-      fits = λ each.
-          let begun_fits : PicksFit cells unmoved (picks c.references) =
-          subst (PicksFit cells unmoved) (pending_at cells child c at ∙ picks_from_start c.references)
-          (each child (0, omega arith, refl)) in
-          let under : FitsUnder cells unmoved c =
-          fits_under cells unmoved c (in_range_of unmoved c fits_unmoved placed) begun_fits in
-          λ n m e chain. under n m e chain m (λ p. sym (image-unmoved (image m p)));
-      visits =
-          λ u has. only child u has (λ v. IsVisit cells c v)
-          (record { cell = c; there = at; steps = 0; chain = (refl, refl) });
     }
 
 -- a top whose own vertices are out of range
@@ -196,10 +161,10 @@ own_covers c empty new sorted none d layer s =
     ∙ ap (λ (b : PlainCell Rings). drawn_on layer unmoved b.shapes) one) in
     let same : rings_on layer (filter is_filled new) ≡ drawn_on layer unmoved c.shapes =
     rings_on-filled new (sorted_alike new empty d.layers sorted) layer ∙ drawn in
+    let stays = under_unmoved s (λ t. Any (ShapeCovers RingsCover layer t) c.shapes) in
     let mine = drawn_covers layer unmoved s c.shapes placed in (
-      λ a. let u = mine.0 (subst (λ rs. RingsCover rs s) same a) in
-          subst (λ t. Any (ShapeCovers RingsCover layer t) c.shapes) (sym (square_stays u.0) ∙ u.1) u.2,
-      λ h. subst (λ rs. RingsCover rs s) (sym same) (mine.1 (s, square_stays s, h)),
+      λ a. stays.0 (mine.0 (subst (λ rs. RingsCover rs s) same a)),
+      λ h. subst (λ rs. RingsCover rs s) (sym same) (mine.1 (stays.1 h)),
     )
 
 -- whose vertices are out of range
@@ -239,22 +204,47 @@ filled_step ss filled all rest rest' s b e so next = (
   append_assoc ss (s ∷ []) rest' ∙ (ap (λ r. ss ++ r) (sym next) ∙ so.1),
 )
 
+-- with no visit left, what the top covers is drawn, and all is in range
+ended : (s : Settled) (top : PlainCell Rings) (W : Square → Type 0) (sheets : List PlainSheet) → AreSorted sheets
+    → (way : IsUnderWay s top W (SheetsCover sheets) []) → (layer : Layer) (q : Square) → W q
+    → RingsCover (rings_on layer (filter is_filled sheets)) q ↔ CellCovers RingsCover s.cells layer top q
+ended s top W sheets sorted way layer q counts =
+    let same = rings_on-filled sheets sorted layer in
+    let both = way.covers layer q counts in (
+      λ a. both.1 (inl (subst (λ rs. RingsCover rs q) same a)),
+      λ h. elim (both.0 h) [
+        | inl a ↦ subst (λ rs. RingsCover rs q) (sym same) a
+        | inr b ↦ absurd (Any-nil (VisitCovers s.cells layer q) b)
+      ],
+    )
+
+none_left : (s : Settled) (v : Visit) → Contains [] v → PicksFit s.cells v.map (pending s.cells v)
+none_left s v has = let below : has.0 < 0 = has.1 in absurd (omega arith)
+
 pub walk_ends : (s : Settled) (sheets : List PlainSheet) → IsWalking s sheets []
     → IsFlattened s (filter is_filled sheets)
 walk_ends s sheets w = record {
   top = w.top;
-  is_top = w.is_top;
+  is_top = w.way.is_top;
+  covers = λ layer q. ended s w.top Everywhere sheets w.sorted w.way layer q tt;
+  count = λ layer. ap length (rings_on-filled sheets w.sorted layer) ∙ omega (arith, w.counts layer);
+  in_range = w.way.fits (none_left s);
+}
+
+pub window_ends : (s : Settled) (window : Window) (sheets : List PlainSheet) → IsWalkingWithin s window sheets []
+    → IsFlattenedWithin s window (filter is_filled sheets)
+window_ends s window sheets w = record {
+  top = w.top;
+  is_top = w.way.is_top;
   covers = λ layer q.
       let same = rings_on-filled sheets w.sorted layer in
-      let both = w.covers layer q in (
-        λ a. both.1 (inl (subst (λ rs. RingsCover rs q) same a)),
-        λ h. elim (both.0 h) [
-          | inl a ↦ subst (λ rs. RingsCover rs q) (sym same) a
-          | inr b ↦ absurd (Any-nil (VisitCovers s.cells layer q) b)
-        ],
+      let both = ended s w.top (IsWithin window) sheets w.sorted w.way layer q in (
+        λ a.
+            let shown : IsWithin window q = w.within layer q (subst (λ rs. RingsCover rs q) same a) in
+            (shown, (both shown).0 a),
+        λ h. (both h.0).1 h.1,
       );
-  count = λ layer. ap length (rings_on-filled sheets w.sorted layer) ∙ omega (arith, w.counts layer);
-  in_range = w.fits (λ v has. let below : has.0 < 0 = has.1 in absurd (omega arith));
+  in_range = w.way.fits (none_left s);
 }
 
 -- sheets that have no rings have none on any Layer

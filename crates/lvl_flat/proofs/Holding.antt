@@ -18,8 +18,10 @@ use Rattle.lvl_cells.proofs.Walks.{set_elsewhere, set_there}
 use Rattle.lvl_flat.specs.declared.bounds.Bounds.{Bounds}
 use Rattle.lvl_flat.specs.Flattened.{AllInRange}
 use Rattle.lvl_flat.specs.inside.Visits.{Pick, picks}
-use Rattle.lvl_flat.specs.inside.Bounds.{IsWithin, Widens, HoldsRing, HoldsOwn, HoldsShape, HoldsCell, HoldsPick}
-use Rattle.lvl_flat.specs.inside.Bounds.{HoldsPicks, HoldsChains, AreBounds, Fits}
+use Rattle.lvl_flat.specs.Boxes.{IsWithin, HoldsShape, HoldsCell}
+use Rattle.lvl_flat.specs.inside.Bounds.{Widens, HoldsRing, HoldsOwn, HoldsPick}
+use Rattle.lvl_flat.specs.Boxes.{HoldsChains, AreBoxes, Fits}
+use Rattle.lvl_flat.specs.inside.Bounds.{HoldsPicks}
 use Rattle.lvl_flat.proofs.Ranging.{image-unmoved, composed_at, first_choice}
 
 pub widens_itself : (a : Bounds) → Widens a a
@@ -107,7 +109,7 @@ chains_from cells b c at own below = record { chains = chains_of cells b c at ow
 between : (l z h : ℤ) → FitsSigned w64 l → FitsSigned w64 h → l ≤ℤ z → z ≤ℤ h → FitsSigned w64 z
 between l z h f g p q = omega (arith, ints, p, q)
 
-fits_within : (b : Bounds) (p : Point) → Fits b → IsWithin b p → FitsPoint p
+pub fits_within : (b : Bounds) (p : Point) → Fits b → IsWithin b p → FitsPoint p
 fits_within b p f w = record {
   x_fits = between b.low.x p.x b.high.x f.low.x_fits f.high.x_fits w.left w.right;
   y_fits = between b.low.y p.y b.high.y f.low.y_fits f.high.y_fits w.below w.above;
@@ -125,9 +127,9 @@ box_in_range cells b c f h n m d chain =
 
 -- one box more is known
 pub known_box : (cells : List (PlainCell Rings)) (known : List (Option Bounds)) (k : ℕ) (old new : Option Bounds)
-    → AreBounds cells known → slice_get known k ≡ Some old
+    → AreBoxes cells known → slice_get known k ≡ Some old
     → ((b : Bounds) (c : PlainCell Rings) → new ≡ Some b → slice_get cells k ≡ Some c → Fits b × HoldsChains cells b c)
-    → AreBounds cells (set known k new)
+    → AreBoxes cells (set known k new)
 known_box cells known k old new before there here i b c h at =
     let other : i ≢ k → Fits b × HoldsChains cells b c =
     λ apart. before i b c (sym (set_elsewhere known k i new apart) ∙ h) at in

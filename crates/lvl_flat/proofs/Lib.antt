@@ -11,3 +11,8 @@ pub mod Mapping
 mod Listing
 pub mod Corners
 pub mod Holding
+pub mod UnderWay
+pub mod Outside
+pub mod WindowWalk
+pub mod Cutting
+pub mod Runs

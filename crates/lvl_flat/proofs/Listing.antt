@@ -15,12 +15,12 @@ use Rattle.std.proofs.lemmas.List.Elements.{Contains-append_left}
 use Rattle.std.proofs.lemmas.List.Sorted.{Contains-permutation}
 use Rattle.std.proofs.lemmas.List.Kept.{AllPairs-cons, Contains-dedup, IsStrictlySortedBy-dedup}
 use Rattle.std.proofs.lemmas.Option.{slice_get_within, get_or_from_slice_get}
-use Rattle.lvl_cells.specs.declared.layer.Layer.{Layer}
+use Rattle.lvl_names.specs.declared.layer.Layer.{Layer}
 use Rattle.lvl_cells.specs.Cells.{PlainCell, PlainShape, Rings}
 use Rattle.lvl_flat.specs.Sheet.{PlainSheet}
 use Rattle.lvl_flat.specs.Sheets.{AreSorted, ContainsAll}
-use Rattle.lvl_cells.specs.Layers.{ComesBefore, same_layer}
-use Rattle.lvl_cells.proofs.Layers.{is_same}
+use Rattle.lvl_names.specs.Layers.{ComesBefore, same_layer}
+use Rattle.lvl_names.proofs.Layers.{is_same}
 use Rattle.lvl_flat.specs.inside.Walking.{AllHaveSheets}
 
 -- Layers are compared by the layer, then by the datatype

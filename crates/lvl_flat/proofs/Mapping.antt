@@ -8,14 +8,15 @@ use Rattle.lvl_grid.specs.declared.point.Point.{Point}
 use Rattle.lvl_grid.specs.declared.point.Square.{Square}
 use Rattle.lvl_grid.specs.Winding.{Covers}
 use Rattle.lvl_grid.proofs.Anyone.{Any-nil, Any-left, Any-right, Any-sides}
-use Rattle.lvl_cells.specs.declared.layer.Layer.{Layer}
+use Rattle.lvl_names.specs.declared.layer.Layer.{Layer}
 use Rattle.lvl_cells.specs.Cells.{Rings}
 use Rattle.lvl_cells.specs.Coverage.{RingsCover}
-use Rattle.lvl_cells.specs.Layers.{ComesBefore, same_layer}
-use Rattle.lvl_cells.proofs.Layers.{before_itself, same_is, tested_layer}
+use Rattle.lvl_names.specs.Layers.{ComesBefore, same_layer}
+use Rattle.lvl_names.proofs.Layers.{before_itself, same_is, tested_layer}
 use Rattle.lvl_view.specs.declared.map.LayerPair.{LayerPair}
 use Rattle.lvl_view.specs.Views.{target_of}
-use Rattle.lvl_flat.specs.Mapped.{IsCoveredFrom, mapped_on}
+use Rattle.lvl_flat.specs.Mapped.{mapped_on}
+use Rattle.lvl_view.specs.Moved.{IsMoved}
 use Rattle.lvl_flat.specs.Sheet.{PlainSheet}
 use Rattle.lvl_flat.specs.Sheets.{AreSorted, rings_on}
 use Rattle.lvl_flat.proofs.Orders.{sorted_tail, rings_nowhere}
@@ -52,15 +53,15 @@ covered_after t ts layer s sorted a =
     ] refl
 
 first_covered : (pairs : List LayerPair) (t : PlainSheet) (ts : List PlainSheet) (layer : Layer) (s : Square)
-    → RingsCover (moved_on pairs layer t) s → IsCoveredFrom pairs (t ∷ ts) layer s
+    → RingsCover (moved_on pairs layer t) s → IsMoved pairs (λ l. RingsCover (rings_on l (t ∷ ts))) layer s
 first_covered pairs t ts layer s a =
     elim (same_layer (target_of pairs t.layer) layer)
     as (λ b. same_layer (target_of pairs t.layer) layer ≡ b → RingsCover (cond b t.rings []) s
-    → IsCoveredFrom pairs (t ∷ ts) layer s) [
+    → IsMoved pairs (λ l. RingsCover (rings_on l (t ∷ ts))) layer s) [
       | true ↦ λ e h. record {
         source = t.layer;
-        target_is = tested_layer (target_of pairs t.layer) layer (ap not e);
-        covered =
+        is_target = tested_layer (target_of pairs t.layer) layer (ap not e);
+        covers =
             subst (λ (b : Bool). RingsCover (cond b t.rings (rings_on t.layer ts)) s)
             (sym (same_is t.layer t.layer refl))
             h;
@@ -70,8 +71,8 @@ first_covered pairs t ts layer s a =
 
 -- the rings that came to a Layer cover what was covered on the Layers whose target it is
 pub mapped_covers : (pairs : List LayerPair) (sheets : List PlainSheet) (layer : Layer) (s : Square) → AreSorted sheets
-    → RingsCover (mapped_on pairs layer sheets) s ↔ IsCoveredFrom pairs sheets layer s
-mapped_covers pairs [] layer s sorted = (λ a. absurd (none_cover s a), λ h. absurd (none_cover s h.covered))
+    → RingsCover (mapped_on pairs layer sheets) s ↔ IsMoved pairs (λ l. RingsCover (rings_on l sheets)) layer s
+mapped_covers pairs [] layer s sorted = (λ a. absurd (none_cover s a), λ h. absurd (none_cover s h.covers))
 mapped_covers pairs (t ∷ ts) layer s sorted =
     let rest = mapped_covers pairs ts layer s (sorted_tail t ts sorted) in
     let P : List Point → Type 0 = λ ring. Covers ring s in
@@ -83,8 +84,8 @@ mapped_covers pairs (t ∷ ts) layer s sorted =
             let h = rest.0 b in
             record {
               source = h.source;
-              target_is = h.target_is;
-              covered = covered_after t ts h.source s sorted h.covered;
+              is_target = h.is_target;
+              covers = covered_after t ts h.source s sorted h.covers;
             }
       ],
       λ h. elim (same_layer t.layer h.source)
@@ -92,13 +93,13 @@ mapped_covers pairs (t ∷ ts) layer s sorted =
           → RingsCover (mine ++ theirs) s) [
             | true ↦ λ e k.
                 let here : target_of pairs t.layer ≡ layer =
-                ap (target_of pairs) (tested_layer t.layer h.source (ap not e)) ∙ h.target_is in
+                ap (target_of pairs) (tested_layer t.layer h.source (ap not e)) ∙ h.is_target in
                 Any-left P mine theirs (subst (λ (b : Bool). RingsCover (cond b t.rings []) s)
                 (sym (same_is (target_of pairs t.layer) layer here)) k)
             | false ↦
                 λ e k. Any-right P mine theirs
-                (rest.1 (record { source = h.source; target_is = h.target_is; covered = k }))
-          ] refl h.covered,
+                (rest.1 (record { source = h.source; is_target = h.is_target; covers = k }))
+          ] refl h.covers,
     )
 
 -- the target of a sheet is among those of all

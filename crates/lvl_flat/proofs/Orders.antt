@@ -4,11 +4,11 @@ use Rattle.std.proofs.Common.{slice_get, All, ◌∙◌, ◌≢◌, [], ◌∷�
 use Rattle.std.proofs.lemmas.Option.{slice_get_within, get_or_from_slice_get, slice_get-get_or}
 use Rattle.std.proofs.lemmas.Bool.{cases_lt}
 use Rattle.std.proofs.lemmas.List.Elements.{All-head, All-tail}
-use Rattle.lvl_cells.specs.declared.layer.Layer.{Layer}
+use Rattle.lvl_names.specs.declared.layer.Layer.{Layer}
 use Rattle.lvl_flat.specs.Sheet.{PlainSheet}
 use Rattle.lvl_flat.specs.Sheets.{AreSorted, rings_on}
-use Rattle.lvl_cells.specs.Layers.{ComesBefore}
-use Rattle.lvl_cells.proofs.Layers.{before_trans, before_itself, same_is, differs_is}
+use Rattle.lvl_names.specs.Layers.{ComesBefore}
+use Rattle.lvl_names.proofs.Layers.{before_trans, before_itself, same_is, differs_is}
 
 -- a sheet comes before those after it
 pub sorted_at : (sheets : List PlainSheet) (i j : ℕ) (s t : PlainSheet) → AreSorted sheets → slice_get sheets i ≡ Some s

@@ -9,6 +9,7 @@ use Rattle.lvl_cells.specs.Cells.{PlainCell, PlainReference, Rings, placing, cel
 use Rattle.lvl_cells.specs.Chains.{IsComposed}
 use Rattle.lvl_cells.specs.Checks.{IsTargetOf}
 use Rattle.lvl_flat.specs.declared.visit.Visit.{Visit}
+use Rattle.lvl_flat.specs.inside.Passing.{at_place}
 use Rattle.lvl_flat.specs.inside.Visits.{Pick, picks_from, pending}
 use Rattle.lvl_flat.specs.inside.Walking.{references_left}
 use Rattle.lvl_flat.specs.Placing.{IsPlacing}
@@ -23,6 +24,23 @@ pending_at cells v c at =
     λ o. option_map_or (λ (b : PlainCell Rings). picks_from (drop v.reference b.references) v.place) o [] in
     ap f at
 
+-- what a visit has still to do depends on its cell, its reference and its place
+pub pending_alike : (cells : List (PlainCell Rings)) (u v : Visit) → u.cell ≡ v.cell → u.reference ≡ v.reference
+    → u.place ≡ v.place → pending cells v ≡ pending cells u
+pending_alike cells u v cell reference place =
+    let f : ℕ → ℕ → ℕ → List Pick =
+    λ i j k. option_map_or (λ (b : PlainCell Rings). picks_from (drop j b.references) k) (slice_get cells i) [] in
+    sym (ap (λ i. f i u.reference u.place) cell
+    ∙ (ap (λ j. f v.cell j u.place) reference ∙ ap (f v.cell v.reference) place))
+
+-- and so do the references that it has not begun
+pub left_alike : (cells : List (PlainCell Rings)) (u v : Visit) → u.cell ≡ v.cell → u.reference ≡ v.reference
+    → references_left cells v ≡ references_left cells u
+left_alike cells u v cell reference =
+    let f : ℕ → ℕ → ℕ =
+    λ i j. option_map_or (λ (b : PlainCell Rings). length b.references - j) (slice_get cells i) 0 in
+    sym (ap (λ i. f i u.reference) cell ∙ ap (f v.cell) reference)
+
 left_at : (cells : List (PlainCell Rings)) (v : Visit) (c : PlainCell Rings) → slice_get cells v.cell ≡ Some c
     → references_left cells v ≡ length c.references - v.reference
 left_at cells v c at =
@@ -36,9 +54,9 @@ step_done cells v c at past = pending_at cells v c at ∙ picks_past c.reference
 
 pub step_past : (cells : List (PlainCell Rings)) (v : Visit) (c : PlainCell Rings) (r : PlainReference)
     → slice_get cells v.cell ≡ Some c → slice_get c.references v.reference ≡ Some r → length r.shifts ≤ v.place
-    → IsPast cells v (record { cell = v.cell; map = v.map; reference = v.reference + 1; place = 0 })
+    → IsPast cells v (record { cell = v.cell; map = v.map; reference = v.reference + 1; place = 0; row = 0 })
 step_past cells v c r at there past =
-    let rest : Visit = record { cell = v.cell; map = v.map; reference = v.reference + 1; place = 0 } in
+    let rest : Visit = record { cell = v.cell; map = v.map; reference = v.reference + 1; place = 0; row = 0 } in
     let inside : v.reference < length c.references = slice_get_within c.references v.reference r there in
     record {
       pending_is =
@@ -55,7 +73,7 @@ record Picked (cells : List (PlainCell Rings)) (v : Visit) (t : ℕ) (inner : Ma
   next : PlainCell Rings
   rest : List Pick
   pending_is : pending cells v
-      ≡ pick ∷ pending cells (record { cell = v.cell; map = v.map; reference = v.reference; place = v.place + 1 })
+      ≡ pick ∷ pending cells (at_place v (v.place + 1))
   named : cell_named cells pick.0.cell ≡ Some next
   there : slice_get cells t ≡ Some next
   map_is : inner ≡ placing pick.0 pick.1
@@ -64,7 +82,7 @@ picked : (cells : List (PlainCell Rings)) (v : Visit) (c : PlainCell Rings) (r :
     → slice_get cells v.cell ≡ Some c → slice_get c.references v.reference ≡ Some r
     → IsPlacing r v.place inner → IsTargetOf cells v.cell v.reference t → Picked cells v t inner
 picked cells v c r t inner at there place target =
-    let rest : Visit = record { cell = v.cell; map = v.map; reference = v.reference; place = v.place + 1 } in
+    let rest : Visit = at_place v (v.place + 1) in
     let cells_are : Some target.cell ≡ Some c = sym target.cell_is ∙ at in
     let cell : target.cell ≡ c = cc in
     let references_are : Some target.reference ≡ Some r =
@@ -86,7 +104,7 @@ picked cells v c r t inner at there place target =
 pub step_into : (cells : List (PlainCell Rings)) (v : Visit) (c : PlainCell Rings) (r : PlainReference) (t : ℕ)
     (inner m : Map) → slice_get cells v.cell ≡ Some c → slice_get c.references v.reference ≡ Some r
     → IsPlacing r v.place inner → IsTargetOf cells v.cell v.reference t → IsComposed v.map inner m → FitsPoint m.at
-    → IsInto cells v t m (record { cell = v.cell; map = v.map; reference = v.reference; place = v.place + 1 })
+    → IsInto cells v t m (at_place v (v.place + 1))
 step_into cells v c r t inner m at there place target whole fits =
     let p = picked cells v c r t inner at there place target in
     record {

@@ -1,34 +1,30 @@
 -- What a step of the walk keeps.
-use Rattle.std.proofs.Common.{◌≡◌, ◌<◌, ◌++◌, ◌+◌, ◌*◌, ℕ, true, false, cond, List, [], ◌∷◌, length, sum_by, slice_get}
-use Rattle.std.proofs.Common.{Option, Some, Any, Contains, ◌⊎◌, ◌↔◌, inl, inr, refl, sym, ap, subst, ◌∙◌, arith}
+use Rattle.std.proofs.Common.{◌≡◌, ◌++◌, ◌+◌, ◌*◌, ℕ, true, false, cond, List, [], ◌∷◌, length, sum_by, slice_get}
+use Rattle.std.proofs.Common.{Option, Some, Any, Contains, ◌⊎◌, ◌↔◌, inl, inr, refl, sym, ap, subst, ◌∙◌}
 use Rattle.std.proofs.Common.{length-append, add_comm, add-zero}
 use Rattle.std.specs.List.{flat_map}
 use Rattle.std.specs.Option.{option_map_or}
 use Rattle.std.proofs.Math.Nat.{mul-suc, mul-zero}
 use Rattle.std.proofs.lemmas.List.{length-map}
 use Rattle.std.proofs.lemmas.List.Sums.{sum_by-cons, sum_by-append}
-use Rattle.std.proofs.lemmas.List.Elements.{Contains-append_left, Contains-push, Contains-push_cases}
+use Rattle.std.proofs.lemmas.List.Elements.{Contains-append_left, Contains-push}
 use Rattle.lvl_grid.specs.declared.point.Point.{Point}
 use Rattle.lvl_grid.specs.declared.point.Square.{Square}
 use Rattle.lvl_grid.specs.declared.map.Map.{Map}
 use Rattle.lvl_grid.specs.Turn.{image_square}
-use Rattle.lvl_cells.specs.declared.layer.Layer.{Layer}
-use Rattle.lvl_cells.specs.Cells.{PlainCell, PlainReference, PlainShape, Rings, each_ring, cell_named}
-use Rattle.lvl_cells.specs.Chains.{Chain, over_chains, own_rings_on}
-use Rattle.lvl_cells.specs.Checks.{Settled}
+use Rattle.lvl_names.specs.declared.layer.Layer.{Layer}
+use Rattle.lvl_cells.specs.Cells.{PlainCell, PlainReference, PlainShape, Rings, cell_named}
+use Rattle.lvl_cells.specs.Chains.{over_chains}
 use Rattle.lvl_cells.specs.Coverage.{RingsCover, ShapeCovers, CellCovers}
 use Rattle.lvl_cells.specs.Soundness.{AreLinked, IsOrder}
 use Rattle.lvl_cells.proofs.Summing.{count_step}
 use Rattle.lvl_flat.specs.declared.visit.Visit.{Visit}
 use Rattle.lvl_flat.specs.inside.Drawn.{placed_ring, placed_figure, placed_shape, drawn_on}
-use Rattle.lvl_flat.specs.Sheet.{PlainSheet}
-use Rattle.lvl_cells.specs.Layers.{same_layer}
+use Rattle.lvl_names.specs.Layers.{same_layer}
 use Rattle.lvl_flat.specs.inside.Visits.{Pick, picks, pending, pick_weight, visit_weight, PickCovers, VisitCovers}
-use Rattle.lvl_flat.specs.inside.Visits.{PicksFit, IsVisit}
-use Rattle.lvl_flat.specs.inside.Walking.{IsWalking}
-use Rattle.lvl_flat.specs.inside.Steps.{IsPast, IsInto}
+use Rattle.lvl_flat.specs.inside.Steps.{IsInto}
 use Rattle.lvl_flat.specs.inside.Entering.{begun}
-use Rattle.lvl_grid.proofs.Anyone.{Any-nil, Any-head, Any-tail, Any-uncons, Any-push}
+use Rattle.lvl_grid.proofs.Anyone.{Any-head, Any-tail, Any-uncons}
 use Rattle.lvl_flat.proofs.Picks.{picks_from_start, picks_sum}
 use Rattle.lvl_flat.proofs.Covering.{Under, under_either, under_same, cell_covers, pick_covers}
 use Rattle.lvl_flat.proofs.Stepping.{pending_at}
@@ -137,112 +133,3 @@ in_front front v u h = Contains-append_left front (v ∷ []) u h
 
 pub in_last : (front : List Visit) (v : Visit) → Contains (front ++ v ∷ []) v
 in_last front v = Contains-push front v
-
--- a visit that has nothing left to do is taken off
-pub walk_done : (s : Settled) (sheets : List PlainSheet) (front : List Visit) (v : Visit)
-    → IsWalking s sheets (front ++ v ∷ []) → pending s.cells v ≡ [] → IsWalking s sheets front
-walk_done s sheets front v w none = record {
-  top = w.top;
-  is_top = w.is_top;
-  sorted = w.sorted;
-  layers = w.layers;
-  covers = λ layer q.
-      let both = w.covers layer q in
-      let last = Any-push (VisitCovers s.cells layer q) front v in (
-        λ h.
-            elim (both.0 h) [
-              | inl a ↦ inl a
-              | inr b ↦
-                  elim (last.0 b) [
-                    | inl c ↦ inr c
-                    | inr u ↦
-                        absurd (Any-nil (PickCovers s.cells layer u.0)
-                        (subst (Any (PickCovers s.cells layer u.0)) none u.2))
-                  ]
-            ],
-        λ e. both.1 (elim e [ inl a ↦ inl a | inr b ↦ inr (last.1 (inl b)) ]),
-      );
-  counts = λ layer.
-      let weight = visit_weight (own_rings_on each_ring layer) s.cells in
-      let nothing : weight v ≡ 0 = ap (sum_by (pick_weight (own_rings_on each_ring layer) s.cells)) none in
-      omega (arith, w.counts layer, sum_last weight front v, nothing);
-  fits = λ each.
-      w.fits
-      (λ u has.
-      elim (Contains-push_cases front v u has) [
-        | inl there ↦ each u there
-        | inr same ↦
-            λ p d m chosen named whole. absurd (let chosen' : Contains [] p =
-            subst (λ ps. Contains ps p) none
-            (subst (λ (x : Visit). Contains (pending s.cells x) p) (sym same) chosen) in
-            let below : chosen'.0 < 0 = chosen'.1 in omega arith)
-      ]);
-  visits = λ u there. w.visits u (in_front front v u there);
-}
-
--- a visit goes on with the next reference
-pub walk_past : (s : Settled) (sheets : List PlainSheet) (front : List Visit) (v rest : Visit)
-    → IsWalking s sheets (front ++ v ∷ []) → IsPast s.cells v rest → IsWalking s sheets (front ++ rest ∷ [])
-walk_past s sheets front v rest w past =
-    let alike : (layer : Layer) (q : Square) → VisitCovers s.cells layer q v ↔ VisitCovers s.cells layer q rest =
-    λ layer q. (
-      λ u. (
-        u.0,
-        ap (λ (n : Map). image_square n u.0) past.map_is ∙ u.1,
-        subst (Any (PickCovers s.cells layer u.0)) past.pending_is u.2,
-      ),
-      λ u. (
-        u.0,
-        sym (ap (λ (n : Map). image_square n u.0) past.map_is) ∙ u.1,
-        subst (Any (PickCovers s.cells layer u.0)) (sym past.pending_is) u.2,
-      ),
-    ) in
-    record {
-      top = w.top;
-      is_top = w.is_top;
-      sorted = w.sorted;
-      layers = w.layers;
-      covers = λ layer q.
-          let both = w.covers layer q in
-          let old = Any-push (VisitCovers s.cells layer q) front v in
-          let new = Any-push (VisitCovers s.cells layer q) front rest in (
-            λ h.
-                elim (both.0 h) [
-                  | inl a ↦ inl a
-                  | inr b ↦ inr (new.1 (elim (old.0 b) [ inl c ↦ inl c | inr u ↦ inr ((alike layer q).0 u) ]))
-                ],
-            λ e. both.1 (elim e [
-              | inl a ↦ inl a
-              | inr b ↦ inr (old.1 (elim (new.0 b) [ inl c ↦ inl c | inr u ↦ inr ((alike layer q).1 u) ]))
-            ]),
-          );
-      counts = λ layer.
-          let weight = visit_weight (own_rings_on each_ring layer) s.cells in
-          let same : weight v ≡ weight rest =
-          ap (sum_by (pick_weight (own_rings_on each_ring layer) s.cells)) past.pending_is in
-          omega (arith, w.counts layer, sum_last weight front v, sum_last weight front rest, same);
-      fits = λ each.
-          w.fits
-          (λ u has.
-          elim (Contains-push_cases front v u has) [
-            | inl there ↦ each u (in_front front rest u there)
-            | inr same ↦
-                subst (λ (x : Visit). PicksFit s.cells x.map (pending s.cells x)) same
-                (subst (λ ps. PicksFit s.cells v.map ps) (sym past.pending_is)
-                (subst (λ (n : Map). PicksFit s.cells n (pending s.cells rest)) past.map_is
-                (each rest (in_last front rest))))
-          ]);
-      visits = λ u has.
-          elim (Contains-push_cases front rest u has) [
-            | inl there ↦ w.visits u (in_front front v u there)
-            | inr same ↦
-                let old = w.visits v (in_last front v) in
-                subst (IsVisit s.cells w.top) same
-                (record {
-                  cell = old.cell;
-                  there = ap (slice_get s.cells) past.cell_is ∙ old.there;
-                  steps = old.steps;
-                  chain = subst (λ (n : Map). Chain s.cells w.top old.steps n old.cell) (sym past.map_is) old.chain;
-                })
-          ];
-    }

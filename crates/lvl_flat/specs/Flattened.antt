@@ -1,11 +1,13 @@
 -- What flattening gives, and when it is refused.
-use Rattle.std.specs.Prelude.{◌≡◌, ◌↔◌, ℕ, List, length, slice_get, Some, All}
+use Rattle.std.specs.Prelude.{◌≡◌, ◌↔◌, ℕ, List, length, slice_get, Some, All, IfSome, IsSomeAnd}
 use Rattle.lvl_grid.specs.declared.map.Map.{Map}
 use Rattle.lvl_grid.specs.declared.point.Point.{Point}
 use Rattle.lvl_grid.specs.declared.point.Square.{Square}
+use Rattle.lvl_grid.specs.declared.point.Window.{Window}
+use Rattle.lvl_grid.specs.Clip.{IsWithin}
 use Rattle.lvl_grid.specs.Turn.{FitsPoint}
 use Rattle.lvl_grid.specs.Placed.{placed_point}
-use Rattle.lvl_cells.specs.declared.layer.Layer.{Layer}
+use Rattle.lvl_names.specs.declared.layer.Layer.{Layer}
 use Rattle.lvl_cells.specs.Cells.{PlainCell, PlainShape, Rings, each_ring}
 use Rattle.lvl_cells.specs.Coverage.{RingsCover, CellCovers}
 use Rattle.lvl_cells.specs.Chains.{Chain, IsInRange, placed_rings_on}
@@ -28,12 +30,29 @@ AreAsMany cells c sheets = (layer : Layer) → length (rings_on layer sheets) �
 abbrev pub AllInRange : List (PlainCell Rings) → PlainCell Rings → Type 0
 AllInRange cells c = (n : ℕ) (m : Map) (d : PlainCell Rings) → Chain cells c n m d → IsInRange each_ring m d
 
+-- and so for the top
+abbrev pub IsTopInRange : Settled → Type 0
+IsTopInRange s = IfSome (slice_get s.cells s.top) (AllInRange s.cells)
+
+-- the top covers the square on the Layer
+abbrev pub TopCovers : Settled → Layer → Square → Type 0
+TopCovers s layer q = IsSomeAnd (slice_get s.cells s.top) (λ top. CellCovers RingsCover s.cells layer top q)
+
 -- the rings cover, and count, what the top places, and all of it is in range
 pub record IsFlattened (s : Settled) (sheets : List PlainSheet) : Type 0 where
   pub top : PlainCell Rings
   pub is_top : slice_get s.cells s.top ≡ Some top
   pub covers : CoverAlike s.cells top sheets
   pub count : AreAsMany s.cells top sheets
+  pub in_range : AllInRange s.cells top
+
+-- on each Layer the rings cover the squares of the window that the top covers, and no others; and all that the top
+-- places is in range
+pub record IsFlattenedWithin (s : Settled) (window : Window) (sheets : List PlainSheet) : Type 0 where
+  pub top : PlainCell Rings
+  pub is_top : slice_get s.cells s.top ≡ Some top
+  pub covers : (layer : Layer) (q : Square) → RingsCover (rings_on layer sheets) q
+      ↔ (IsWithin window q × CellCovers RingsCover s.cells layer top q)
   pub in_range : AllInRange s.cells top
 
 -- a cell of that name is at the end of a chain from the top, and is out of range there

@@ -3,4 +3,5 @@ pub mod Sheets
 pub mod Flattened
 pub mod Mapped
 pub mod Placing
+pub mod Boxes
 pub mod inside

@@ -2,25 +2,20 @@
 use Rattle.std.specs.Prelude.{◌≡◌, ◌↔◌, List, [], if◌then◌else◌}
 use Rattle.std.specs.List.{flat_map}
 use Rattle.lvl_grid.specs.declared.point.Square.{Square}
-use Rattle.lvl_cells.specs.declared.layer.Layer.{Layer}
+use Rattle.lvl_names.specs.declared.layer.Layer.{Layer}
 use Rattle.lvl_cells.specs.Cells.{Rings}
 use Rattle.lvl_cells.specs.Coverage.{RingsCover}
-use Rattle.lvl_cells.specs.Layers.{same_layer}
+use Rattle.lvl_names.specs.Layers.{same_layer}
 use Rattle.lvl_view.specs.declared.map.LayerPair.{LayerPair}
 use Rattle.lvl_view.specs.Views.{target_of}
+use Rattle.lvl_view.specs.Moved.{IsMoved}
 use Rattle.lvl_flat.specs.Sheet.{PlainSheet}
 use Rattle.lvl_flat.specs.Sheets.{rings_on}
-
--- the square is covered on some Layer whose target is this one
-pub record IsCoveredFrom (pairs : List LayerPair) (sheets : List PlainSheet) (layer : Layer) (s : Square) : Type 0 where
-  pub source : Layer
-  pub target_is : target_of pairs source ≡ layer
-  pub covered : RingsCover (rings_on source sheets) s
 
 -- on each Layer the second cover what the first cover on the Layers whose target it is
 abbrev pub IsMapped : List LayerPair → List PlainSheet → List PlainSheet → Type 0
 IsMapped pairs from to =
-    (layer : Layer) (s : Square) → RingsCover (rings_on layer to) s ↔ IsCoveredFrom pairs from layer s
+    (layer : Layer) (s : Square) → RingsCover (rings_on layer to) s ↔ IsMoved pairs (λ l. RingsCover (rings_on l from)) layer s
 
 -- the rings of the Layers whose target is this one, in the order of those Layers
 abbrev pub mapped_on : List LayerPair → Layer → List PlainSheet → Rings

@@ -1,9 +1,9 @@
 -- Lists of sheets: which rings are on a Layer, and the order of the Layers.
 use Rattle.std.specs.Prelude.{◌≡◌, ◌≢◌, ℕ, List, [], ◌∷◌, All, AllPairs, Bool, true, false, slice_get, Some, map}
 use Rattle.std.specs.Prelude.{Contains, if◌then◌else◌}
-use Rattle.lvl_cells.specs.declared.layer.Layer.{Layer}
+use Rattle.lvl_names.specs.declared.layer.Layer.{Layer}
 use Rattle.lvl_cells.specs.Cells.{PlainShape, Rings}
-use Rattle.lvl_cells.specs.Layers.{same_layer, ComesBefore}
+use Rattle.lvl_names.specs.Layers.{same_layer, ComesBefore}
 use Rattle.lvl_flat.specs.Sheet.{PlainSheet}
 
 -- the rings on a Layer: none where no sheet is for it

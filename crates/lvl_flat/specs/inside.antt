@@ -4,3 +4,4 @@ pub mod Visits
 pub mod Walking
 pub mod Steps
 pub mod Entering
+pub mod Passing

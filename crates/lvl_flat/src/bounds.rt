@@ -1,10 +1,12 @@
 //! Boxes of points, in which all that a cell draws lies.
-ghost use Rattle.std.specs.Prelude.{◌≡◌, IfSome};
+ghost use Rattle.std.specs.Prelude.{◌≡◌, IfSome, IsTrue};
 ghost use Rattle.lvl_grid.specs.declared.point.Point.{Point as GridPoint};
-ghost use Rattle.lvl_grid.specs.Turn.{image, shifted};
-ghost use Rattle.lvl_flat.specs.inside.Bounds.{IsWithin, Widens};
+ghost use Rattle.lvl_grid.specs.Turn.{image, shifted, FitsPoint};
+ghost use Rattle.lvl_flat.specs.Boxes.{IsWithin, Fits};
+ghost use Rattle.lvl_flat.specs.inside.Bounds.{Widens, IsOutside, IsInside};
+ghost use Rattle.lvl_flat.specs.inside.Passing.{IsSpreadOutside};
 
-use lvl_grid::{Map, Point};
+use lvl_grid::{Map, Point, Window};
 
 /// The points from one to another, both included.
 #[derive(Clone, Copy, Debug)]
@@ -21,6 +23,34 @@ impl Bounds {
         Bounds {
             low: point,
             high: point,
+        }
+    }
+
+    /// What holds every point.
+    pub(crate) fn grid() -> Bounds
+        ensures { (p : GridPoint) → FitsPoint p → IsWithin result p }
+    {
+        Bounds {
+            low: Point {
+                x: i64::MIN,
+                y: i64::MIN,
+            },
+            high: Point {
+                x: i64::MAX,
+                y: i64::MAX,
+            },
+        }
+    }
+
+    /// The squares between the corners.
+    pub(crate) fn window(self) -> Window
+        ensures { result ≡ record { x0 = self.low.x; y0 = self.low.y; x1 = self.high.x; y1 = self.high.y } }
+    {
+        Window {
+            x0: self.low.x,
+            y0: self.low.y,
+            x1: self.high.x,
+            y1: self.high.y,
         }
     }
 
@@ -61,10 +91,50 @@ impl Bounds {
 
     /// What holds the images of the points; None where it is outside 64 bits.
     pub(crate) fn placed(self, map: &Map) -> Option<Bounds>
-        ensures { IfSome result (λ bounds. (p : GridPoint) → IsWithin self p → IsWithin bounds (image map.now p)) }
+        ensures held { IfSome result
+            (λ bounds. (p : GridPoint) → IsWithin self p → IsWithin bounds (image map.now p)) }
+        ensures fits { IfSome result Fits }
     {
         let low = map.place(self.low)?;
         let high = map.place(self.high)?;
         Some(Bounds::around(low).joined(Bounds::around(high)))
+    }
+
+    /// Whether no square between the corners is one of the window's.
+    pub(crate) fn misses(self, window: &Window) -> bool
+        ensures { IsTrue result → IsOutside self window.now }
+    {
+        if self.high.x <= window.x0 || window.x1 <= self.low.x {
+            return true;
+        }
+        self.high.y <= window.y0 || window.y1 <= self.low.y
+    }
+
+    /// Whether what it holds, moved by shifts that are within others and placed by the map, is within
+    /// 64 bits and covers no square of the window. `false` says nothing.
+    pub(crate) fn misses_moved(self, by: Bounds, map: &Map, window: &Window) -> bool
+        ensures { IsTrue result → IsSpreadOutside self by map.now window.now }
+    {
+        let Some(moved) = self.moved(by) else {
+            return false;
+        };
+        let Some(placed) = moved.placed(map) else {
+            return false;
+        };
+        placed.misses(window)
+    }
+
+    /// Whether each square between the corners is one of the window's.
+    pub(crate) fn is_inside(self, window: &Window) -> bool
+        ensures { IsTrue result → IsInside self window.now }
+    {
+        if window.x0 <= self.low.x
+            && self.high.x <= window.x1
+            && window.y0 <= self.low.y
+            && self.high.y <= window.y1
+        {
+            return true;
+        }
+        false
     }
 }

@@ -1,47 +1,43 @@
-//! Whether all that a library places is within 64 bits, by the boxes in which its cells lie.
-ghost use Rattle.std.specs.Prelude.{◌≡◌, ◌<◌, length, slice_get, All, IsTrue, IfOk, IfSome};
+//! The boxes in which all that the cells of a library place lies.
+ghost use Rattle.std.specs.Prelude.{◌≡◌, ◌<◌, length, slice_get, Some, All, IsTrue, IfOk, IfSome};
 ghost use Rattle.lvl_grid.specs.declared.point.Point.{Point as GridPoint};
 ghost use Rattle.lvl_grid.specs.Turn.{image};
 ghost use Rattle.lvl_cells.specs.Cells.{PlainCell, Rings, shape_at, placing};
-ghost use Rattle.lvl_flat.specs.Flattened.{AllInRange};
-ghost use Rattle.lvl_flat.specs.inside.Bounds.{IsWithin, Widens, HoldsRing, HoldsOwn, HoldsPicks, HoldsChains};
-ghost use Rattle.lvl_flat.specs.inside.Bounds.{AreBounds, Fits};
+ghost use Rattle.lvl_grid.specs.declared.point.Square.{Square as GridSquare};
+ghost use Rattle.lvl_grid.specs.Clip.{IsWithin as IsInWindow};
+ghost use Rattle.lvl_names.specs.declared.layer.Layer.{Layer as PlainLayer};
+ghost use Rattle.lvl_flat.specs.Flattened.{IsTopInRange, TopCovers};
+ghost use Rattle.lvl_flat.specs.Boxes.{IsWithin, HoldsChains};
+ghost use Rattle.lvl_flat.specs.inside.Bounds.{Widens, HoldsRing, HoldsOwn, HoldsPicks};
+ghost use Rattle.lvl_flat.specs.Boxes.{AreBoxes, Fits};
+ghost use Rattle.lvl_flat.specs.inside.Bounds.{IsPlacedOutside};
+ghost use Rattle.lvl_flat.specs.inside.Passing.{before_shifts};
 
 use crate::bounds::Bounds;
-use lvl_cells::{Checked, Offsets, Reference, Shapes};
-use lvl_grid::{Map, Point};
+use lvl_cells::{Checked, Reference, Shapes};
+use lvl_grid::{Map, Point, Window};
+use lvl_names::Offsets;
 use std::alloc::{AllocError, Global};
+use std::marker::Model;
 
-/// Where every list of shifts begins.
+/// What holds the cell's origin.
 const ORIGIN: Point = Point { x: 0, y: 0 };
 
 /// What holds the shifts.
-fn bounds_of_shifts(shifts: &Offsets) -> Bounds
+pub(crate) fn bounds_of_shifts(shifts: &Offsets) -> Bounds
     ensures { All (IsWithin result) shifts.now }
 {
-    let mut bounds = Bounds::around(ORIGIN);
-    for k in 0..shifts.len() {
-        let Some(shift) = shifts.at(k) else {
-            unreachable!()
-        };
-        bounds = bounds.joined(Bounds::around(shift));
-    }
-    bounds
+    let (low, high) = shifts.reach();
+    Bounds { low, high }
 }
 
 /// What holds the shifts of the shape at an index.
-fn bounds_of_shape_shifts(shapes: &Shapes, i: usize) -> Bounds
+pub(crate) fn bounds_of_shape_shifts(shapes: &Shapes, i: usize) -> Bounds
     requires { i < length shapes.now }
     ensures { All (IsWithin result) (shape_at shapes.now i).shifts }
 {
-    let mut bounds = Bounds::around(ORIGIN);
-    for k in 0..shapes.shift_count(i) {
-        let Some(shift) = shapes.shift(i, k) else {
-            unreachable!()
-        };
-        bounds = bounds.joined(Bounds::around(shift));
-    }
-    bounds
+    let (low, high) = shapes.reach(i);
+    Bounds { low, high }
 }
 
 /// What also holds the points of a ring at all of the shifts.
@@ -82,18 +78,25 @@ fn hold_shapes(bounds: Bounds, shapes: &Shapes) -> Option<Bounds>
     Some(held)
 }
 
+/// What holds the points of a box once a reference places them, before they are moved by its shifts.
+pub(crate) fn placed_by(target: Bounds, reference: &Reference) -> Option<Bounds>
+    ensures { IfSome result (λ placed. (p : GridPoint) → IsWithin target p
+        → IsWithin placed (image (before_shifts reference.now) p)) }
+{
+    target.placed(&Map {
+        flip: reference.flip(),
+        turn: reference.turn(),
+        at: reference.at(),
+    })
+}
+
 /// What also holds the places of what a reference's cell has in a box.
 fn hold_reference(bounds: Bounds, reference: &Reference, target: Bounds) -> Option<Bounds>
     ensures wider { IfSome result (Widens bounds) }
     ensures held { IfSome result (λ held. (p : GridPoint) → IsWithin target p
         → All (λ e. IsWithin held (image (placing reference.now e) p)) reference.now.shifts) }
 {
-    let map = Map {
-        flip: reference.flip(),
-        turn: reference.turn(),
-        at: reference.at(),
-    };
-    let placed = target.placed(&map)?;
+    let placed = placed_by(target, reference)?;
     let everywhere = placed.moved(bounds_of_shifts(reference.shifts()))?;
     Some(bounds.joined(everywhere))
 }
@@ -107,7 +110,7 @@ fn hold_references(
 ) -> Option<Bounds>
     requires { cell < length checked.now.cells }
     ensures wider { IfSome result (Widens bounds) }
-    ensures held { IfSome result (λ held. AreBounds checked.now.cells known.now
+    ensures held { IfSome result (λ held. AreBoxes checked.now.cells known.now
         → IfSome (slice_get checked.now.cells cell) (λ c. HoldsPicks checked.now.cells held c.references)) }
 {
     let mut held = bounds;
@@ -128,7 +131,7 @@ fn hold_references(
 fn bounds_of_cell(checked: &Checked, cell: usize, known: &[Option<Bounds>]) -> Option<Bounds>
     requires { cell < length checked.now.cells }
     ensures fits { IfSome result Fits }
-    ensures held { IfSome result (λ held. AreBounds checked.now.cells known.now
+    ensures held { IfSome result (λ held. AreBoxes checked.now.cells known.now
         → IfSome (slice_get checked.now.cells cell) (HoldsChains checked.now.cells held)) }
 {
     let place = &checked.cells()[cell];
@@ -136,19 +139,90 @@ fn bounds_of_cell(checked: &Checked, cell: usize, known: &[Option<Bounds>]) -> O
     hold_references(held, checked, cell, known)
 }
 
+/// For each cell of a checked library the box in which all that it places lies, through all
+/// references; none where the box leaves 64 signed bits.
+#[derive(Debug, Drop)]
+pub(crate) struct Boxes {
+    known: Vec<Option<Bounds>>,
+}
+
+impl Model for Boxes {
+    ghost use Rattle.std.specs.Prelude.{List, Option};
+    ghost use Rattle.lvl_flat.specs.declared.bounds.Bounds.{Bounds};
+
+    ghost Value = { List (Option Bounds) };
+
+    ghost view = { λ b. b.known.items };
+}
+
+impl Boxes {
+    /// The boxes of a library's cells, each from its own shapes and the boxes of the cells that it
+    /// refers to.
+    pub(crate) fn new(alloc: Global, checked: &Checked) -> Result<Boxes, AllocError>
+        ensures { IfOk result (AreBoxes checked.now.cells) }
+    {
+        let mut known: Vec<Option<Bounds>> = vec![in alloc; None; checked.cells().len()]?;
+        for i in (0..checked.order().len()).rev() {
+            let cell = checked.order()[i];
+            known[cell] = bounds_of_cell(checked, cell, &known);
+        }
+        Ok(Boxes { known })
+    }
+
+    /// The box of the cell at an index, if one is known.
+    pub(crate) fn get(&self, cell: usize) -> Option<Bounds>
+        ensures { IfSome result (λ bounds. slice_get self.now cell ≡ Some (Some bounds)) }
+    {
+        match self.known.get(cell) {
+            Some(Some(bounds)) => Some(*bounds),
+            _ => None,
+        }
+    }
+
+    /// Whether all that the top places is within 64 signed bits, so far as its box shows: it holds the
+    /// top's shapes and the boxes of the cells that it places. `false` says nothing.
+    pub(crate) fn hold_top(&self, checked: &Checked) -> bool
+        requires { AreBoxes checked.now.cells self.now }
+        ensures { IsTrue result → IsTopInRange checked.now }
+    {
+        match self.get(checked.top()) {
+            Some(_) => true,
+            None => false,
+        }
+    }
+
+    /// A window that has every square which the top covers.
+    pub(crate) fn extent(&self, checked: &Checked) -> Window
+        requires boxes { AreBoxes checked.now.cells self.now }
+        requires in_range { IsTopInRange checked.now }
+        ensures { (layer : PlainLayer) (s : GridSquare) → TopCovers checked.now layer s → IsInWindow result s }
+    {
+        match self.get(checked.top()) {
+            Some(bounds) => bounds.window(),
+            None => Bounds::grid().window(),
+        }
+    }
+
+    /// Whether what the cell at an index places, itself placed by the map, is within 64 bits and
+    /// covers no square of the window, so far as its box shows. `false` says nothing.
+    pub(crate) fn miss(&self, cell: usize, map: &Map, window: &Window) -> bool
+        ensures { IsTrue result → IsPlacedOutside self.now cell map.now window.now }
+    {
+        let Some(bounds) = self.get(cell) else {
+            return false;
+        };
+        let Some(placed) = bounds.placed(map) else {
+            return false;
+        };
+        placed.misses(window)
+    }
+}
+
 /// Whether all that the top places is within 64 signed bits, so far as boxes show: each cell's box
 /// holds its shapes and the boxes of the cells that it places. `false` says nothing.
 pub fn fits_by_boxes(alloc: Global, checked: &Checked) -> Result<bool, AllocError>
-    ensures { IfOk result (λ fits. IsTrue fits
-        → IfSome (slice_get checked.now.cells checked.now.top) (AllInRange checked.now.cells)) }
+    ensures { IfOk result (λ fits. IsTrue fits → IsTopInRange checked.now) }
 {
-    let mut known: Vec<Option<Bounds>> = vec![in alloc; None; checked.cells().len()]?;
-    for i in (0..checked.order().len()).rev() {
-        let cell = checked.order()[i];
-        known[cell] = bounds_of_cell(checked, cell, &known);
-    }
-    match known[checked.top()] {
-        Some(_) => Ok(true),
-        None => Ok(false),
-    }
+    let boxes = Boxes::new(alloc, checked)?;
+    Ok(boxes.hold_top(checked))
 }

@@ -1,6 +1,6 @@
 //! A cell's own shapes, placed by a map.
 ghost use Rattle.std.specs.Prelude.{◌≡◌, ◌<◌, ◌++◌, length, All, OnOk, map as list_map};
-ghost use Rattle.lvl_cells.specs.declared.layer.Layer.{Layer as PlainLayer};
+ghost use Rattle.lvl_names.specs.declared.layer.Layer.{Layer as PlainLayer};
 ghost use Rattle.lvl_cells.specs.Cells.{shape_at};
 ghost use Rattle.lvl_flat.specs.inside.Drawn.{placed_figure, placed_shape, drawn_on, IsPlaced, AreFiguresPlaced};
 ghost use Rattle.lvl_flat.specs.Flattened.{FitsRing};

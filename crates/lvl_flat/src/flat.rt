@@ -1,10 +1,10 @@
 //! The rings of each Layer, in the order of the Layers.
 ghost use Rattle.std.specs.Prelude.{◌≡◌, ◌≢◌, ◌↔◌, filter, length, map, slice_get, All, IsTrue, IfOk, IfSome, IfNone};
 ghost use Rattle.lvl_flat.specs.Sheets.{rings_on, is_filled, IsInOrder, AreSorted, SheetAt};
-ghost use Rattle.lvl_cells.specs.Layers.{ComesBefore};
+ghost use Rattle.lvl_names.specs.Layers.{ComesBefore};
 
-use lvl_cells::{Layer, comes_before};
 use lvl_grid::Rings;
+use lvl_names::{Layer, comes_before};
 use std::alloc::{AllocError, Global};
 use std::marker::Model;
 

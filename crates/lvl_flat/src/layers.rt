@@ -4,8 +4,9 @@ ghost use Rattle.lvl_flat.specs.Sheets.{AreSorted, ContainsAll};
 ghost use Rattle.lvl_flat.specs.inside.Walking.{AllHaveSheets};
 
 use crate::flat::Sheet;
-use lvl_cells::{Cell, Layer, Shapes};
+use lvl_cells::{Cell, Shapes};
 use lvl_grid::Rings;
+use lvl_names::Layer;
 use std::alloc::{AllocError, Global};
 
 /// Adds a Layer, if it is not the last already.

@@ -2,7 +2,8 @@
 //!
 //! [`flatten`] walks the chains of references from the top and places each ring that it meets.
 //! What it gives, a [`Flat`], has for each Layer a list of rings that together cover exactly what
-//! the top covers there. [`flatten_shapes`] gives the same of one cell's own shapes, and
+//! the top covers there. [`Fitted::within`] gives the same of a window, and takes memory for what is
+//! drawn in it alone. [`flatten_shapes`] gives the same of one cell's own shapes, and
 //! [`Flat::mapped`] moves the rings of each Layer to the Layer that it counts as in a view.
 //!
 //! `checked` is a checked library, whose top draws one rectangle of 4 by 2 on the layer `METAL`:
@@ -18,6 +19,7 @@
 pub use advance::flatten;
 pub use boxes::fits_by_boxes;
 pub use fault::FlatFault;
+pub use fitted::Fitted;
 pub use flat::Flat;
 pub use shapes::flatten_shapes;
 pub use walk::placing_at;
@@ -28,9 +30,14 @@ mod boxes;
 mod draw;
 mod enter;
 mod fault;
+mod fitted;
 mod flat;
 mod layers;
 mod mapped;
+mod passing;
+mod rows;
 mod shapes;
 mod visit;
 mod walk;
+mod windowed;
+mod within;

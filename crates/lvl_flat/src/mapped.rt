@@ -1,15 +1,15 @@
 //! Flat layouts seen through a map of layers.
 ghost use Rattle.std.specs.Prelude.{◌≡◌, ◌++◌, [], map, Contains, OnOk, IfOk, if◌then◌else◌};
-ghost use Rattle.lvl_cells.specs.declared.layer.Layer.{Layer as PlainLayer};
-ghost use Rattle.lvl_cells.specs.Layers.{same_layer};
+ghost use Rattle.lvl_names.specs.declared.layer.Layer.{Layer as PlainLayer};
+ghost use Rattle.lvl_names.specs.Layers.{same_layer};
 ghost use Rattle.lvl_view.specs.Views.{target_of};
 ghost use Rattle.lvl_flat.specs.Mapped.{IsMapped, mapped_on};
 ghost use Rattle.lvl_flat.specs.Sheets.{rings_on, AreSorted};
 
 use crate::flat::{Flat, Sheet, place_of};
 use crate::layers::sheets_for;
-use lvl_cells::Layer;
 use lvl_grid::Rings;
+use lvl_names::Layer;
 use lvl_view::View;
 use std::alloc::{AllocError, Global};
 

@@ -1,7 +1,7 @@
 //! A cell's own shapes, with nothing that it refers to.
 ghost use Rattle.std.specs.Prelude.{◌↔◌, Any, IfOk, IfErr};
 ghost use Rattle.lvl_grid.specs.declared.point.Square.{Square};
-ghost use Rattle.lvl_cells.specs.declared.layer.Layer.{Layer};
+ghost use Rattle.lvl_names.specs.declared.layer.Layer.{Layer};
 ghost use Rattle.lvl_cells.specs.Chains.{unmoved};
 ghost use Rattle.lvl_cells.specs.Coverage.{RingsCover, ShapeCovers};
 ghost use Rattle.lvl_flat.specs.Sheets.{rings_on};

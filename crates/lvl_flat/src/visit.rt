@@ -5,13 +5,15 @@ ghost use Rattle.lvl_flat.specs.inside.Entering.{begun};
 use lvl_grid::Map;
 
 /// A placed cell, of whose references those before `reference`, and of that one's places those
-/// before `place`, are done with.
+/// before `place`, are done with. Its places come in rows of `row`, so far as has been seen: 0 where
+/// nobody has looked.
 #[derive(Clone, Copy, Debug)]
 pub(crate) struct Visit {
     pub cell: usize,
     pub map: Map,
     pub reference: usize,
     pub place: u64,
+    pub row: u64,
 }
 
 impl Visit {
@@ -24,6 +26,7 @@ impl Visit {
             map,
             reference: 0,
             place: 0,
+            row: 0,
         }
     }
 }

@@ -49,6 +49,7 @@ pub(crate) fn next_step(checked: &Checked, visit: &Visit) -> Step
         return Step::Past(Visit {
             reference: visit.reference + 1,
             place: 0,
+            row: 0,
             ..*visit
         });
     }

@@ -1,11 +1,12 @@
 -- How a stream is read: from its beginning, a record at a time.
-use Rattle.std.proofs.Common.{◌≡◌, ℕ, ◌+◌, ◌-◌, ◌≤◌, List, [], ◌∷◌, ◌++◌, length, take, drop, refl, sym, ap, ◌∙◌, subst}
+use Rattle.std.proofs.Common.{◌≡◌, ℕ, ◌+◌, ◌-◌, ◌<◌, ◌≤◌, List, [], ◌∷◌, ◌++◌, length, take, drop, refl, sym, ap, ◌∙◌}
+use Rattle.std.proofs.Common.{subst}
 use Rattle.std.proofs.Common.{append_assoc, arith, length-append, length-take}
 use Rattle.std.specs.Prelude.{Option, Some}
 use Rattle.std.proofs.lemmas.List.{take-append-drop}
 use Rattle.lvl_grammar.specs.Grammar.{Grammar}
 use Rattle.lvl_grammar.specs.Front.{IsFront}
-use Rattle.lvl_grammar.specs.Refused.{IsFrontAt}
+use Rattle.lvl_grammar.specs.Refused.{IsFrontAt, IsUnread}
 use Rattle.lvl_grammar.specs.inside.ReadTo.{ReadTo}
 use Rattle.lvl_grammar.proofs.Spelled.{spells_join, follow_join}
 use Rattle.lvl_grammar.proofs.Stuck.{parts_at}
@@ -21,11 +22,26 @@ reads_begin G xs Has left e h = record {
   within = omega arith;
 }
 
--- what was read is a front
-pub reads_front : {R K : Type 0} (G : Grammar R K) (xs : List ℕ) (at : ℕ) (Has : List R → Type 0)
-    (left : Option (List ℕ))
-    → ReadTo G xs at Has left → IsFrontAt G xs at
-reads_front G xs at Has left to = record { within = to.within; records = to.records; front = to.front }
+-- where a reader failed, what was read before is a front
+pub unread_front : {R K : Type 0} (G : Grammar R K) (xs : List ℕ) (left : Option (List ℕ)) (at : ℕ)
+    → IsUnread G xs left at → IsFrontAt G xs at
+unread_front G xs left at u = record { within = u.within; records = u.records; front = u.front }
+
+-- a reader that failed after records gave the first of the bytes that come
+pub reads_unread : {R K : Type 0} (G : Grammar R K) (xs : List ℕ) (at : ℕ) (Has : List R → Type 0)
+    (was left : Option (List ℕ)) (to : ReadTo G xs at Has was) (given rest : List ℕ)
+    → drop at xs ≡ given ++ rest → left ≡ Some rest → (0 < length given → G.begun to.records given)
+    → IsUnread G xs left at
+reads_unread G xs at Has was left to given rest parts is begun = record {
+  within = to.within;
+  records = to.records;
+  front = to.front;
+  given = given;
+  rest = rest;
+  parts = parts;
+  left_is = is;
+  begun = begun;
+}
 
 -- a front with one record more
 pub front_on : {R K : Type 0} (G : Grammar R K) (bytes text : List ℕ) (rs : List R) (r : R) → IsFront G bytes rs

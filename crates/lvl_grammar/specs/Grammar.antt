@@ -11,7 +11,7 @@ pub record Grammar (R K : Type 0) : Type 1 where
   pub ends : List R → Type 0
   -- after these records, the bytes are an unfinished beginning of a record
   pub begun : List R → List ℕ → Type 0
-  -- after these records, and with room for so many bytes before the limit, the front of the bytes breaches the rule
+  -- after these records, and with room for a number of bytes before the limit, the front of the bytes breaches the rule
   pub wrong : List R → ℕ → List ℕ → K → Type 0
   -- the greatest length of a file
   pub limit : ℕ

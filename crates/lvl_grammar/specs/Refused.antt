@@ -10,6 +10,18 @@ pub record IsFrontAt {R K : Type 0} (G : Grammar R K) (xs : List ℕ) (at : ℕ)
   pub records : List R
   pub front : IsFront G (take at xs) records
 
+-- the bytes before the offset are a front; those from it on that were read are none, or an unfinished beginning of a
+-- record; the others are left
+pub record IsUnread {R K : Type 0} (G : Grammar R K) (xs : List ℕ) (left : Option (List ℕ)) (at : ℕ) : Type 0 where
+  pub within : at ≤ length xs
+  pub records : List R
+  pub front : IsFront G (take at xs) records
+  pub given : List ℕ
+  pub rest : List ℕ
+  pub parts : drop at xs ≡ given ++ rest
+  pub left_is : left ≡ Some rest
+  pub begun : 0 < length given → G.begun records given
+
 -- there is a byte at the offset, the bytes before it are a front, and no longer front agrees with the input
 pub record IsStuck {R K : Type 0} (G : Grammar R K) (xs : List ℕ) (at : ℕ) : Type 0 where
   pub some : at < length xs

@@ -1,7 +1,7 @@
 -- Lemmas on bytes that are known, some of them read and the rest still to come.
 use Rattle.std.proofs.Common.{◌≡◌, ℕ, ◌+◌, ◌-◌, ◌≤◌, List, ◌++◌, None, Some}
 use Rattle.std.proofs.Common.{take, drop, slice_range, refl, sym, ap, ◌∙◌, append_assoc, arith}
-use Rattle.std.proofs.Common.{drop-drop}
+use Rattle.std.proofs.Common.{drop-drop, length, length-append}
 use Rattle.std.proofs.Math.Seq.{take-add}
 use Rattle.std.proofs.lemmas.List.{drop-take}
 use Rattle.std.specs.Prelude.{Option}
@@ -13,6 +13,11 @@ pub known_parts : (new : List ℕ) (b : Option (List ℕ)) (xs : List ℕ) → p
     → (ys : List ℕ) × (b ≡ Some ys) × (new ++ ys ≡ xs)
 known_parts new None xs e = absurd (let h : None ≡ Some xs = e in cc)
 known_parts new (Some y) xs e = (y, refl, let h : Some (new ++ y) ≡ Some xs = e in cc)
+
+-- the bytes in hand are among the known ones
+pub hand_within : {n : ℕ} (new : List ℕ) (b : Option (List ℕ)) (xs : List ℕ) → prepend_known new b ≡ Some xs
+    → n ≤ length new → n ≤ length xs
+hand_within new b xs k h = let p = known_parts new b xs k in omega (arith, h, ap length p.2, length-append new p.0)
 
 -- a reader gave bytes, and they come after those read before
 pub stays_pulled : (a b : Option (List ℕ)) (front new taken : List ℕ) → Consumes a b taken → new ≡ front ++ taken

@@ -10,7 +10,7 @@ use Rattle.lvl_io.specs.Known.{Agree}
 pub record IsPrefixFree {A : Type 0} (S : List ℕ → A → Type 0) : Type 0 where
   pub only : (b c m n : List ℕ) (x y : A) → S b x → S c y → b ++ m ≡ c ++ n → (b ≡ c) × (x ≡ y)
 
--- so many bytes at the front say x
+-- the first n bytes say x
 pub record IsFront {A : Type 0} (S : List ℕ → A → Type 0) (xs : List ℕ) (n : ℕ) (x : A) : Type 0 where
   pub bytes : List ℕ
   pub rest : List ℕ

@@ -2,7 +2,7 @@
 ghost use Rattle.std.specs.Prelude.{None};
 
 use crate::fake::Pieces;
-use crate::{Counted, Failure, Peeked, Read, Write};
+use crate::{Buffer, Counted, Failure, Missing, Peeked, Read, Write};
 use std::io;
 use std::test::Fail;
 
@@ -90,4 +90,39 @@ fn gives_a_byte_again(rt: HostRuntime) {
     assert_eq!(rt; reader.read(&mut buf), Ok(2));
     assert_eq!(rt; reader.read(&mut buf), Ok(1));
     assert_eq!(rt; reader.read(&mut buf), Ok(0));
+}
+
+#[test]
+fn fills_a_buffer_by_pieces(rt: HostRuntime) {
+    let mut reader = Pieces::failing(b"masks", 2);
+    let mut buffer: Buffer<4> = Buffer::new();
+    assert_eq!(rt; buffer.fill(&mut reader, 3), Ok(true));
+    assert_eq!(rt; buffer.ahead(), b"mask".as_slice());
+    buffer.skip(1);
+    assert_eq!(rt; buffer.fill(&mut reader, 4), Ok(true));
+    assert_eq!(rt; buffer.ahead(), b"asks".as_slice());
+    buffer.skip(4);
+    assert_eq!(rt; buffer.fill(&mut reader, 1), Err(Failure));
+    assert_eq!(rt; buffer.fill(&mut reader, 1), Ok(false));
+    assert_eq!(rt; buffer.len(), 0);
+}
+
+#[test]
+fn wants_bytes_within_a_limit(rt: HostRuntime) {
+    // The failures after the bytes, the limit, how many are wanted, and the answer.
+    let rows: [(u32, u64, usize, Result<(), Missing>); 7] = [
+        (0, 4, 4, Ok(())),
+        (0, 9, 5, Err(Missing::Ended)),
+        (0, 3, 4, Err(Missing::Limit)),
+        (0, 4, 5, Err(Missing::Ended)),
+        (1, 3, 4, Err(Missing::Limit)),
+        (1, 9, 4, Ok(())),
+        (1, 9, 5, Err(Missing::Failed)),
+    ];
+    for (failures, room, n, want) in rows {
+        let mut reader = Pieces::new(b"mask", 3);
+        reader.failures = failures;
+        let mut buffer: Buffer<8> = Buffer::new();
+        assert_eq!(rt; buffer.want(&mut reader, room, n), want);
+    }
 }

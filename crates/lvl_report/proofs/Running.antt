@@ -3,7 +3,14 @@ use Rattle.std.proofs.Common.{◌≡◌, ℕ, List, Option, Result, Ok, Err, IfO
 use Rattle.std.specs.Io.KnownBytes.{Appends}
 use Rattle.lvl_report.specs.declared.status.Status.{Status}
 use Rattle.lvl_report.specs.declared.status.RunFault.{RunFault}
-use Rattle.lvl_report.specs.Runs.{IsWritten, IsBegun}
+use Rattle.lvl_view.specs.Views.{IsWhole, PlainView}
+use Rattle.lvl.specs.Answers.{IsCompared}
+use Rattle.lvl.specs.Layouts.{File}
+use Rattle.lvl.specs.Views.{IsComparedIn}
+use Rattle.lvl.specs.declared.verdict.Comparison.{Comparison}
+use Rattle.lvl.specs.declared.verdict.Refusal.{Refusal}
+use Rattle.lvl.proofs.Viewing.{whole_verdict}
+use Rattle.lvl_report.specs.Runs.{Input, IsComparedBy, IsViewedBy, IsWritten, IsBegun}
 use Rattle.lvl_report.specs.Writing.{AppendsBeginning}
 
 pub was_written : {X : Type 0} (Allowed : X → Type 0) (text : X → List ℕ) (status : X → Status)
@@ -26,4 +33,48 @@ was_begun Allowed text old new answer (Err fault) allowed begun = record {
   answer = answer;
   allowed = allowed;
   begun = begun;
+}
+
+-- what is written of the answers that one set allows is written of those that a larger one does
+pub written_as : {X : Type 0} {Allowed Others : X → Type 0} (text : X → List ℕ) (status : X → Status)
+    (old new : Option (List ℕ)) (r : Result Status RunFault) → ((answer : X) → Allowed answer → Others answer)
+    → IfOk r (IsWritten Allowed text status old new) → IfOk r (IsWritten Others text status old new)
+written_as text status old new (Ok told) also w = record {
+  answer = w.answer;
+  allowed = also w.answer w.allowed;
+  whole = w.whole;
+  status_is = w.status_is;
+}
+written_as text status old new (Err fault) also w = tt
+
+pub begun_as : {X : Type 0} {Allowed Others : X → Type 0} (text : X → List ℕ) (old new : Option (List ℕ))
+    (r : Result Status RunFault) → ((answer : X) → Allowed answer → Others answer)
+    → OnErr r (IsBegun Allowed text old new) → OnErr r (IsBegun Others text old new)
+begun_as text old new (Ok told) also b = tt
+begun_as text old new (Err fault) also b = record {
+  answer = b.answer;
+  allowed = also b.answer b.allowed;
+  begun = b.begun;
+}
+
+whole_said : (view : PlainView) → IsWhole view → (a b : File) (answer : Result Comparison Refusal)
+    → IfOk answer (IsComparedIn view a b) → IfOk answer (IsCompared a b)
+whole_said view whole a b (Ok c) h = record {
+  first = h.first;
+  second = h.second;
+  verdict = whole_verdict view whole a b c.verdict h.verdict;
+}
+whole_said view whole a b (Err r) h = tt
+
+-- an answer without a map and a window is one of the plain comparison
+pub whole_answer : (view : PlainView) → IsWhole view → (a b : Input) (answer : Result Comparison Refusal)
+    → IsViewedBy view a b answer → IsComparedBy a b answer
+whole_answer view whole a b answer h = record {
+  compared = λ xs ys first second. whole_said view whole _ _ answer (h.compared xs ys first second);
+  first_refused = h.first_refused;
+  second_refused = h.second_refused;
+  first_early = h.first_early;
+  second_early = h.second_early;
+  first_reads = h.first_reads;
+  second_reads = h.second_reads;
 }

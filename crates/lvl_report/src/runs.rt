@@ -9,7 +9,7 @@ ghost use Rattle.lvl_report.specs.Writing.{status_of, shown_status, is_output};
 
 use crate::status::{RunFault, Status};
 use crate::tell::{tell, tell_shown};
-use lvl::{Tops, compare_files, compare_files_in, show_file};
+use lvl::{Tops, compare_files, show_file};
 use lvl_io::{Read, Write};
 use lvl_view::View;
 use std::alloc::Global;
@@ -17,7 +17,8 @@ use std::alloc::Global;
 /// Compares two files and writes the answer: what each says of itself and the verdict, on a line
 /// each, or the refusal, on one line. Its text is formed whole before any of it is written.
 ///
-/// What it writes is what [`compare_files`](lvl::compare_files) may answer of these files.
+/// What it writes is what [`compare_files`](lvl::compare_files) may answer of these files without a map
+/// and a window.
 pub fn run<A: Read, B: Read, W: Write>(
     alloc: Global,
     first: &mut A,
@@ -41,14 +42,13 @@ pub fn run<A: Read, B: Read, W: Write>(
     ensures errors { CountsFailure (W.write_errors out.old) (W.write_errors out.new) (is_output result) }
     ensures same { W.lent out.new ≡ W.lent out.old }
 {
-    let answer = compare_files(alloc, first, second, tops);
-    tell(alloc, &answer, out)
+    run_view(alloc, first, second, tops, &View::whole(alloc), out)
 }
 
 /// Compares two files under a view, the second with its Layers mapped and in the window alone, and
 /// writes the answer as [`run`] does.
 ///
-/// What it writes is what [`compare_files_in`](lvl::compare_files_in) may answer of these files.
+/// What it writes is what [`compare_files`](lvl::compare_files) may answer of these files.
 pub fn run_view<A: Read, B: Read, W: Write>(
     alloc: Global,
     first: &mut A,
@@ -73,7 +73,7 @@ pub fn run_view<A: Read, B: Read, W: Write>(
     ensures errors { CountsFailure (W.write_errors out.old) (W.write_errors out.new) (is_output result) }
     ensures same { W.lent out.new ≡ W.lent out.old }
 {
-    let answer = compare_files_in(alloc, first, second, tops, view);
+    let answer = compare_files(alloc, first, second, tops, view);
     tell(alloc, &answer, out)
 }
 

@@ -10,6 +10,7 @@ mod each_byte;
 mod failing;
 mod growths;
 mod large;
+mod reads;
 mod refusals;
 mod refused;
 mod show;

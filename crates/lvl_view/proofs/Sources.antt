@@ -15,17 +15,17 @@ use Rattle.std.proofs.lemmas.Bool.{false≢true}
 use Rattle.std.proofs.lemmas.Bool.Decides.{Decides-eqb}
 use Rattle.std.proofs.lemmas.Map.Keys.{IsDistinct-push}
 use Rattle.std.proofs.lemmas.List.{take_more, take-append-drop}
-use Rattle.lvl_cells.specs.Layers.{same_layer}
-use Rattle.lvl_cells.specs.declared.layer.Layer.{Layer}
-use Rattle.lvl_cells.specs.contracts.layer.LayerOrd.TheImpl as layer_ord
+use Rattle.lvl_names.specs.Layers.{same_layer}
+use Rattle.lvl_names.specs.declared.layer.Layer.{Layer}
+use Rattle.lvl_names.specs.contracts.layer.LayerOrd.TheImpl as layer_ord
 use Rattle.lvl_view.specs.Views.{sources, target_in, IsFirstTwice, IsMapOf, IsWindowOf, IsFaultOf}
 use Rattle.lvl_grid.specs.declared.point.Window.{Window}
 use Rattle.lvl_view.specs.declared.fault.ViewFault.{ViewFault}
 use Rattle.lvl_view.specs.declared.fault.ViewFault.TheVariants.{MapText, WindowText, MapTwice, EmptyWindow}
 use Rattle.lvl_view.specs.inside.Reading.{AreTargets, IsAlone, IsTwiceFault}
 use Rattle.lvl_view.specs.declared.map.LayerPair.{LayerPair}
-use Rattle.lvl_cells.proofs.Layers.{is_same}
-use Rattle.lvl_cells.proofs.Indexes.{same_answer}
+use Rattle.lvl_names.proofs.Layers.{is_same}
+use Rattle.lvl_names.proofs.Elements.{same_answer}
 
 then_is_eq : (o p : Ordering) → is_eq (ordering_then o p) ≡ (is_eq o && is_eq p)
 then_is_eq Less p = refl

@@ -1,3 +1,4 @@
 pub mod Texts
 pub mod Views
+pub mod Moved
 pub mod inside

@@ -4,7 +4,7 @@ use Rattle.std.specs.Prelude.{Option, Some, FitsSigned}
 use Rattle.std.specs.Int.{w64}
 use Rattle.std.specs.List.{slice_split, AllZip}
 use Rattle.std.specs.Str.Parse.{digits_value}
-use Rattle.lvl_cells.specs.declared.layer.Layer.{Layer}
+use Rattle.lvl_names.specs.declared.layer.Layer.{Layer}
 use Rattle.lvl_grid.specs.declared.point.Window.{Window}
 use Rattle.lvl_view.specs.declared.map.LayerPair.{LayerPair}
 

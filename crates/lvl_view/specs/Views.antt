@@ -4,9 +4,9 @@ use Rattle.std.specs.Prelude.{option_map, if◌then◌else◌}
 use denote.Ref.{Bor}
 use Rattle.std.specs.List.{IsDistinct}
 use Rattle.std.specs.BTreeMap as tree
-use Rattle.lvl_cells.specs.Layers.{same_layer}
-use Rattle.lvl_cells.specs.declared.layer.Layer.{Layer}
-use Rattle.lvl_cells.specs.contracts.layer.LayerOrd.TheImpl as layer_ord
+use Rattle.lvl_names.specs.Layers.{same_layer}
+use Rattle.lvl_names.specs.declared.layer.Layer.{Layer}
+use Rattle.lvl_names.specs.contracts.layer.LayerOrd.TheImpl as layer_ord
 use Rattle.lvl_grid.specs.declared.point.Window.{Window}
 use Rattle.lvl_view.specs.Texts.{IsMapText, IsWindowText}
 use Rattle.lvl_view.specs.declared.map.LayerPair.{LayerPair}
@@ -17,6 +17,11 @@ use Rattle.lvl_view.specs.declared.fault.ViewFault.TheVariants.{MapText, WindowT
 pub record PlainView : Type 0 where
   pub pairs : List LayerPair
   pub window : Option Window
+
+-- the view has no pairs and no window
+pub record IsWhole (view : PlainView) : Type 0 where
+  pub no_pairs : view.pairs ≡ []
+  pub no_window : view.window ≡ None
 
 -- the target of the pair whose source is the Layer
 abbrev pub target_in : List LayerPair → Layer → Option Layer

@@ -1,5 +1,5 @@
 //! Why the texts of a view are refused.
-use lvl_cells::Layer;
+use lvl_names::Layer;
 use thiserror::Error;
 
 /// Why the texts of a view are refused (own rule). Of several faults the first in this order is

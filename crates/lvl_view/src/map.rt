@@ -8,7 +8,7 @@ ghost use Rattle.lvl_refusal.specs.Refused.{Says};
 
 use crate::fault::ViewFault;
 use crate::number::number_of;
-use lvl_cells::Layer;
+use lvl_names::Layer;
 use lvl_refusal::Refusal;
 use std::alloc::{AllocError, Global};
 

@@ -1,17 +1,18 @@
 //! A map of layers and a window.
 ghost use Rattle.std.specs.Prelude.{◌≡◌, ◌↔◌, IsTrue, IfOk, IfErr, Some, SomeIff, option_map, MatchOption, None};
+ghost use Rattle.std.specs.Prelude.{[], false};
 ghost use Rattle.std.specs.List.{IsDistinct};
-ghost use Rattle.lvl_cells.specs.Layers.{same_layer};
+ghost use Rattle.lvl_names.specs.Layers.{same_layer};
 ghost use Rattle.lvl_view.specs.Views.{IsEmptyWindow, IsFaultOf, IsReadingOf, IsViewOf, PlainView, sources, target_of};
-ghost use Rattle.lvl_view.specs.Views.{text_of};
+ghost use Rattle.lvl_view.specs.Views.{IsWhole, text_of};
 ghost use Rattle.lvl_view.specs.inside.Reading.{AreTargets, IsTwiceFault};
 ghost use Rattle.lvl_refusal.specs.Refused.{Says};
 
 use crate::fault::ViewFault;
 use crate::map::{LayerPair, pairs_of};
 use crate::window::window_of;
-use lvl_cells::Layer;
 use lvl_grid::Window;
+use lvl_names::Layer;
 use lvl_refusal::Refusal;
 use std::alloc::Global;
 use std::collections::BTreeMap;
@@ -98,6 +99,24 @@ impl View {
             targets,
             window,
         })
+    }
+
+    /// No map and no window. It takes no memory.
+    pub fn whole(alloc: Global) -> View
+        ensures { IsWhole result }
+    {
+        View {
+            pairs: Vec::new(alloc),
+            targets: BTreeMap::new(alloc),
+            window: None,
+        }
+    }
+
+    /// Whether there is a map: some Layer may count as another.
+    pub fn has_map(&self) -> bool
+        ensures { result ≡ false → self.now.pairs ≡ [] }
+    {
+        !self.pairs.is_empty()
     }
 
     /// The window, if there is one.

@@ -8,8 +8,8 @@ use Rattle.lvl_grid.specs.declared.map.Turn.{Turn}
 use Rattle.lvl_grid.specs.declared.map.Turn.TheVariants.{R0, R90, R180, R270}
 use Rattle.lvl_path.specs.Figure.{Figure, rings, path, figure_rings}
 use Rattle.lvl_cells.specs.Cells.{PlainShape, Rings as PlainRings}
-use Rattle.lvl_cells.specs.Shifts.{one_place}
-use Rattle.lvl_cells.specs.declared.layer.Layer.{Layer}
+use Rattle.lvl_names.specs.Shifts.{one_place}
+use Rattle.lvl_names.specs.declared.layer.Layer.{Layer}
 use Rattle.oasis_values.specs.Deltas.{to}
 use Rattle.oasis_values.specs.declared.repetition.Repetition.{Repetition}
 use Rattle.oasis_records.specs.declared.record.Record.{Record}
@@ -96,7 +96,7 @@ is_number n (Reciprocal k) = n * k == 1
 is_number n (Ratio k m) = k == n * m
 is_number n r = false
 
--- the turn by so many degrees, none but by right angles
+-- the turn by an angle in degrees, none but by right angles
 abbrev pub turn_by : Real → Option Turn
 turn_by a =
     if is_number 0 a then Some R0

@@ -1,6 +1,6 @@
 -- What the modal variables are after records, the latest first.
 use Rattle.std.specs.Prelude.{◌≡◌, Bool, false, pos, is_some, List, [], ◌∷◌, option_map}
-use Rattle.lvl_cells.specs.Shifts.{one_place}
+use Rattle.lvl_names.specs.Shifts.{one_place}
 use Rattle.oasis_records.specs.declared.record.Record.{Record}
 use Rattle.oasis_figures.specs.Modal.{modal, cell_set, layer_set, datatype_set, width_set, height_set, polygon_set}
 use Rattle.oasis_figures.specs.Modal.{half_width_set, path_set, start_set, end_set, repetition_set, repetition_of}

@@ -1,6 +1,6 @@
 //! What a record draws.
-use lvl_cells::Layer;
 use lvl_grid::{Map, Ring};
+use lvl_names::Layer;
 
 /// What a record draws, at each of the shifts of its repetition ([`crate::Modal::shifts`]).
 #[derive(Debug, Drop)]

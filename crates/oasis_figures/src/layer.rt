@@ -3,7 +3,7 @@ ghost use Rattle.std.specs.Prelude.{◌≡◌, ◌<◌, ◌^◌, SomeIff};
 ghost use Rattle.oasis_figures.specs.Rules.{AreNarrow};
 ghost use Rattle.oasis_figures.specs.Figures.{layer_by};
 
-use lvl_cells::Layer;
+use lvl_names::Layer;
 
 /// The Layer of these numbers, or None where one of them is 2^32 or more.
 pub(crate) fn layer_of(layer: u64, datatype: u64) -> Option<Layer>

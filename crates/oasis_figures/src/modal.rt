@@ -11,8 +11,8 @@ ghost use Rattle.oasis_figures.specs.inside.Taking.{mode, IsOther, Takes};
 
 use crate::drawn::Drawn;
 use crate::rule::FigureRule;
-use lvl_cells::Offsets;
 use lvl_grid::Point;
+use lvl_names::Offsets;
 use lvl_refusal::Refusal;
 use oasis_records::{CellRef, Record};
 use std::alloc::Global;

@@ -30,7 +30,7 @@ fn is_number(number: u64, real: Real) -> bool
     }
 }
 
-/// The turn by so many degrees, or None where that is another than 0, 90, 180 or 270.
+/// The turn by an angle in degrees, or None where that is another than 0, 90, 180 or 270.
 fn turn_by(angle: Real) -> Option<Turn>
     ensures { result ≡ turn_by angle }
 {

@@ -6,8 +6,8 @@ ghost use Rattle.oasis_figures.specs.Figures.{shifts_by};
 ghost use Rattle.oasis_figures.specs.Modal.{listed};
 ghost use Rattle.oasis_figures.specs.inside.Repeating.{is_known};
 
-use lvl_cells::Offsets;
 use lvl_grid::Point;
+use lvl_names::Offsets;
 use oasis_values::Repetition;
 
 /// Whether the shifts of this repetition are known, where the modal one has these.

@@ -17,7 +17,8 @@ use Rattle.std.proofs.lemmas.List.Folds.{list_any-append}
 use Rattle.std.proofs.lemmas.Map.Text.{is_eq-slice_cmp}
 use Rattle.std.proofs.lemmas.Map.Views.{list_any-from_Contains, Contains-from_any}
 use Rattle.std.proofs.lemmas.Slice.Eq.{bytes_eq-Decides}
-use Rattle.lvl_cells.proofs.Indexes.{bytes_eq_laws, same_answer}
+use Rattle.lvl_names.proofs.Elements.{same_answer}
+use Rattle.lvl_cells.proofs.Indexes.{bytes_eq_laws}
 use Rattle.oasis_records.specs.declared.cell.CellName.{CellName}
 use Rattle.oasis_stream.specs.Names.{number_by, number_after, name_from, name_of, RepeatsNumber, RepeatsName}
 use Rattle.oasis_stream.specs.Rules.{NameBreaches}

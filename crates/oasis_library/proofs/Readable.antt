@@ -7,6 +7,7 @@ use Rattle.lvl_refusal.specs.declared.Refusal.TheVariants.{Breach, OutOfMemory}
 use Rattle.lvl_grammar.specs.Front.{SpellsNothing, SpellsWhole}
 use Rattle.lvl_grammar.specs.Refused.{IsHopeless}
 use Rattle.lvl_grammar.proofs.Laws.{one_whole}
+use Rattle.lvl_grammar.proofs.Reading.{unread_front}
 use Rattle.lvl_grammar.proofs.Stuck.{seen_stuck, seen_hopeless, stuck_none, truncated_none}
 use Rattle.lvl_path.specs.Figure.{Figure}
 use Rattle.lvl_cells.specs.Cells.{PlainCell, Rings}
@@ -20,7 +21,7 @@ use Rattle.oasis_stream.specs.declared.fault.OasisKind.{OasisKind}
 use Rattle.oasis_stream.specs.declared.fault.OasisKind.TheVariants.{Value}
 use Rattle.oasis_stream.proofs.Instance.{is_grammar}
 use Rattle.oasis_library.specs.Cells.{drawings, with_rings}
-use Rattle.oasis_library.specs.Ends.{Tells, TellsUnresolved, IsExcused, IsEarly}
+use Rattle.oasis_library.specs.Ends.{Tells, TellsUnread, TellsUnresolved, IsExcused, IsEarly}
 use Rattle.oasis_library.specs.Head.{head_of}
 use Rattle.oasis_library.specs.Library.{SpellsLibrary, SpellsNone, IsRead}
 use Rattle.oasis_library.specs.Names.{AreCells, numbers_used, IsUnnamed}
@@ -85,7 +86,7 @@ none_resolved xs n t cells h p =
 -- what a refusal says
 tells_at : (xs : List ℕ) (left : Option (List ℕ)) (at : ℕ) (k : OasisKind) → RefusesAt xs left at k → TellsAt xs at k
 tells_at xs left at (Value Truncated) x = x
-tells_at xs left at (Value Read) x = x
+tells_at xs left at (Value Read) x = unread_front oasis xs left at x
 tells_at xs left at other x = seen_stuck oasis is_grammar xs at left other x
 
 tells : (xs : List ℕ) (left : Option (List ℕ)) (f : OasisFault) → Refuses xs left f → Tells xs f
@@ -116,6 +117,15 @@ early_of : (xs : List ℕ) (left : Option (List ℕ)) (f : OasisFault) → Refus
 early_of xs left (At at k) x i = early_at xs left at k x i
 early_of xs left (Unresolved n) x i = absurd i
 
+unread_at : (xs : List ℕ) (left : Option (List ℕ)) (at : ℕ) (k : OasisKind) → RefusesAt xs left at k
+    → TellsUnread xs left (At at k)
+unread_at xs left at (Value Read) x = x
+unread_at xs left at other x = tt
+
+unread_of : (xs : List ℕ) (left : Option (List ℕ)) (f : OasisFault) → Refuses xs left f → TellsUnread xs left f
+unread_of xs left (At at k) x = unread_at xs left at k x
+unread_of xs left (Unresolved n) x = tt
+
 -- of an answer
 refused : {A : Type 0} (xs : List ℕ) (left : Option (List ℕ)) (P : OasisFault → Type 0)
     → ((f : OasisFault) → Refuses xs left f → P f) → (r : Result A (Refusal OasisFault))
@@ -136,7 +146,16 @@ pub refused_early : {A : Type 0} (xs : List ℕ) (left : Option (List ℕ)) (r :
     → IfErr r (λ e. Says e (Refuses xs left)) → IfErr r (λ e. Says e (λ f. IsEarly f → IsHopeless oasis xs left))
 refused_early xs left = refused xs left (λ f. IsEarly f → IsHopeless oasis xs left) (early_of xs left)
 
+refused_unread : {A : Type 0} (xs : List ℕ) (left : Option (List ℕ)) (r : Result A (Refusal OasisFault))
+    → IfErr r (λ e. Says e (Refuses xs left)) → IfErr r (λ e. Says e (TellsUnread xs left))
+refused_unread xs left = refused xs left (TellsUnread xs left) (unread_of xs left)
+
 -- of the bytes that are left in the end
+pub unread_left : {A : Type 0} (xs : List ℕ) (left left' : Option (List ℕ)) (r : Result A (Refusal OasisFault))
+    → IfErr r (λ e. Says e (Refuses xs left)) → left ≡ left' → IfErr r (λ e. Says e (TellsUnread xs left'))
+unread_left xs left left' r h e =
+    subst (λ l. IfErr r (λ e. Says e (TellsUnread xs l))) e (refused_unread xs left r h)
+
 pub early_left : {A : Type 0} (xs : List ℕ) (left left' : Option (List ℕ)) (r : Result A (Refusal OasisFault))
     → IfErr r (λ e. Says e (Refuses xs left)) → left ≡ left'
     → IfErr r (λ e. Says e (λ f. IsEarly f → IsHopeless oasis xs left'))

@@ -1,8 +1,9 @@
 -- What a refusal says of the input.
-use Rattle.std.specs.Prelude.{ℕ, Bool, false, List, Result, Ok, Err}
+use Rattle.std.specs.Prelude.{ℕ, Bool, false, List, Option, Result, Ok, Err}
 use Rattle.lvl_refusal.specs.declared.Refusal.{Refusal}
 use Rattle.lvl_refusal.specs.declared.Refusal.TheVariants.{Breach, OutOfMemory}
 use Rattle.lvl_grammar.specs.Front.{SpellsWhole}
+use Rattle.lvl_grammar.specs.Refused.{IsUnread}
 use Rattle.oasis_values.specs.declared.fault.ValueFault.TheVariants.{Truncated, Read}
 use Rattle.oasis_stream.specs.Ends.{TellsAt, is_read_kind}
 use Rattle.oasis_stream.specs.Front.{oasis}
@@ -28,6 +29,12 @@ Tells xs (Unresolved n) = TellsUnresolved xs n
 abbrev pub IsExcused : OasisFault → Type 0
 IsExcused (At at (Value Read)) = Unit {0}
 IsExcused f = ⊥
+
+-- where the reader failed, the bytes before the offset are a front, and those from it on that it gave are none or an
+-- unfinished beginning of a record; the others are left
+abbrev pub TellsUnread : List ℕ → Option (List ℕ) → OasisFault → Type 0
+TellsUnread xs left (At at (Value Read)) = IsUnread oasis xs left at
+TellsUnread xs left f = Unit {0}
 
 -- the fault is reported as soon as it is seen, whatever may still come: the input needn't have ended, and the reader
 -- didn't fail

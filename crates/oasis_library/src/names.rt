@@ -8,7 +8,7 @@ ghost use Rattle.oasis_stream.specs.Rules.{NameBreaches, NamingBreaches};
 ghost use Rattle.oasis_stream.specs.declared.fault.NameRule.{NameRule as Rule};
 ghost use Rattle.oasis_library.specs.inside.Holds.{HoldsNames};
 
-use lvl_cells::Name;
+use lvl_names::Name;
 use lvl_refusal::Refusal;
 use oasis_records::{CellName, Record};
 use oasis_stream::NameRule;

@@ -3,8 +3,8 @@ ghost use Rattle.std.specs.Prelude.{◌≡◌, IfOk, IsTrue, All};
 ghost use Rattle.lvl_grid.specs.Turn.{FitsPoint, shifted};
 ghost use Rattle.oasis_library.specs.inside.Kept.{target_ref};
 
-use lvl_cells::{Name, Offsets};
 use lvl_grid::Map;
+use lvl_names::{Name, Offsets};
 use oasis_records::CellRef;
 use std::alloc::{AllocError, Global};
 use std::marker::Model;

@@ -9,7 +9,7 @@ ghost use Rattle.lvl_grammar.specs.Front.{SpellsWhole};
 ghost use Rattle.oasis_stream.specs.Front.{oasis};
 ghost use Rattle.oasis_stream.specs.Items.{IsEnded};
 ghost use Rattle.oasis_library.specs.inside.Holds.{is_end};
-ghost use Rattle.oasis_library.specs.Ends.{Tells, IsExcused, IsEarly, is_read};
+ghost use Rattle.oasis_library.specs.Ends.{Tells, TellsUnread, IsExcused, IsEarly, is_read};
 ghost use Rattle.oasis_library.specs.Library.{IsRead, SpellsNone};
 ghost use Rattle.oasis_library.specs.inside.Holds.{is_end, HasWhole};
 ghost use Rattle.oasis_library.specs.inside.Ended.{is_truncated};
@@ -51,6 +51,10 @@ pub fn read_oasis<R: Read>(
         → IfErr result (λ refusal. Says refusal (Tells xs)) }
     ensures none { (xs : List ℕ) → R.remaining reader.old ≡ Some xs
         → IfErr result (λ refusal. Says refusal (λ fault. (¬ IsExcused fault) → SpellsNone xs)) }
+
+    // Where the reader failed, it had given no whole record from the offset on.
+    ensures unread { (xs : List ℕ) → R.remaining reader.old ≡ Some xs
+        → IfErr result (λ refusal. Says refusal (TellsUnread xs (R.remaining reader.new))) }
 
     // Unless the input ended, nothing is spelled whatever comes after the bytes taken.
     ensures early { (xs : List ℕ) → R.remaining reader.old ≡ Some xs

@@ -12,7 +12,8 @@ ghost use Rattle.oasis_library.specs.inside.Kept.{target_ref};
 use crate::drawing::Drawing;
 use crate::names::Names;
 use crate::placement::{Placement, Target};
-use lvl_cells::{Cell, Name, Reference};
+use lvl_cells::{Cell, Reference};
+use lvl_names::Name;
 use lvl_refusal::Refusal;
 use std::alloc::Global;
 

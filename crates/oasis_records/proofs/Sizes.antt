@@ -64,6 +64,7 @@ sized_fails S room had xs f p =
     record {
       truncated = λ e. let q = p.truncated e in (q.0, sized_begun S xs q.1);
       too_long = λ e. let q = p.too_long e in (q.0, q.1, sized_begun S (take room xs) q.2);
+      unread = λ e. let q = p.unread e in (q.0, sized_begun S (take had xs) q.1);
       breached = λ e.
           let q = p.breached e in
           record {

@@ -60,7 +60,7 @@ is_whole id_len p v = id_len + p.len + p.value + 1 + validation_len v == 256
 abbrev pub IsEndOf : ℕ → Measured → List ℕ → Result (Result Record RecordRule) ValueFault → Type 0
 IsEndOf id_len p = AndThen (IsEnding p.value) (λ v. Must (is_whole id_len p v) (End v) EndLength)
 
--- after an id of so many bytes
+-- after an id of that many bytes
 abbrev pub IsEnd : Bool → ℕ → List ℕ → Result (Result Record RecordRule) ValueFault → Type 0
 IsEnd has_offsets id_len =
     Then (Sized (IsPaddingLength has_offsets)) (λ p. AndThen (Must (fits id_len p) p EndLength) (IsEndOf id_len))

@@ -57,7 +57,7 @@ look_up (t ∷ ts) n = if n == t.0 then Ok t.1 else look_up ts n
 abbrev pub record_type : ℕ → Result RecordType RecordRule
 record_type = look_up types
 
--- the fields of a record of that type, after an id of so many bytes. The offsets of tables are in END where START
+-- the fields of a record of that type, after an id of that many bytes. The offsets of tables are in END where START
 -- says so
 abbrev pub AreFields : Bool → ℕ → RecordType → List ℕ → Result (Result Record RecordRule) ValueFault → Type 0
 AreFields at_end id_len OfPad = Gives (Ok (Ok Pad))

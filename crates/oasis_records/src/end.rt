@@ -91,7 +91,7 @@ fn read_padding<R: Read>(input: &mut Input<R>, has_offsets: bool) -> Result<Meas
     })
 }
 
-// So many bytes.
+// `count` bytes.
 fn skip_padding<R: Read>(input: &mut Input<R>, count: u64) -> Result<u64, ValueFault>
     requires { has_failed input.old ≡ false }
     ensures reads { Reads R.remaining R.read_errors R.lent

@@ -7,7 +7,7 @@ use Rattle.std.specs.Borrow.{GName}
 use Rattle.lvl_io.specs.Spelling.{IsBegun}
 use Rattle.lvl_grammar.specs.Front.{SpellsWhole, IsFront as IsFrontOf}
 use Rattle.lvl_grammar.specs.inside.ReadTo.{ReadTo, IsSeenWrong}
-use Rattle.lvl_grammar.proofs.Reading.{reads_front}
+use Rattle.lvl_grammar.proofs.Reading.{reads_unread}
 use Rattle.oasis_values.specs.Faults.{is_rule}
 use Rattle.oasis_values.specs.Input.{file_limit, bytes_left, input_offset, has_failed, input_reader}
 use Rattle.oasis_values.specs.Numbers.{IsByte}
@@ -87,7 +87,10 @@ pub after_refuses : {Has : List Item → Type 0} {was left : Option (List ℕ)} 
     → ¬ (f ≡ Truncated) → ¬ (f ≡ Failed) → IsSeen (drop at xs) had left
     → Fails IsByte (file_limit - at) had (drop at xs) f → RefusesAt xs left at (Value f)
 after_refuses xs at had to Truncated t n s p = absurd (t refl)
-after_refuses {Has = Has} {was = was} xs at had to Read t n s p = reads_front oasis xs at Has was to
+after_refuses {Has = Has} {was = was} {left = left} xs at had to Read t n s p =
+    let none : length (take had (drop at xs)) ≡ 0 = begun_byte (take had (drop at xs)) (p.unread refl).1 in
+    reads_unread oasis xs at Has was left to (take had (drop at xs)) s.rest s.parts s.left_is
+    (λ some. absurd (omega (arith, none, some)))
 after_refuses xs at had to TooLong t n s p = long_after xs at had to s p
 after_refuses xs at had to Failed t n s p = absurd (n refl)
 after_refuses xs at had to _ t n s p = byte_rule _ _ _ _ refl p

@@ -15,7 +15,7 @@ use Rattle.oasis_records.proofs.Codes.{IsCode, gives_code, then_code, seen_code,
 use Rattle.oasis_records.proofs.Sizes.{sized_code}
 use Rattle.oasis_records.proofs.Whole.{magic_code, fields_code}
 use Rattle.oasis_stream.specs.Items.{Item, magic, item, records}
-use Rattle.lvl_cells.specs.Names.{cell_limit}
+use Rattle.lvl_cells.specs.Building.{cell_limit}
 use Rattle.oasis_stream.specs.Order.{at_end, cells_in, opens_cell, mixes, is_expected, allowed, type_after}
 use Rattle.oasis_stream.specs.Front.{of_magic, of_record, IsTyped, IsItem}
 use Rattle.oasis_stream.specs.declared.fault.NameRule.TheVariants.{Mixed}

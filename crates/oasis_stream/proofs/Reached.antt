@@ -9,7 +9,7 @@ use Rattle.oasis_records.specs.declared.cell.CellName.{CellName as AName}
 use Rattle.oasis_records.specs.declared.record.Record.{Record}
 use Rattle.oasis_records.specs.declared.record.Record.TheVariants.{Pad, Start, End, CellName, Cell, XyAbsolute}
 use Rattle.oasis_records.specs.declared.record.Record.TheVariants.{XyRelative, Placement, Rectangle, Polygon, Path}
-use Rattle.lvl_cells.specs.Names.{cell_limit}
+use Rattle.lvl_cells.specs.Building.{cell_limit}
 use Rattle.oasis_stream.specs.Order.{last_or, opens, flags, name_in, names_in, cell_in, cells_in, in_cell}
 use Rattle.oasis_stream.specs.Order.{at_end, any_numbered, any_unnumbered}
 use Rattle.oasis_stream.specs.declared.order.Order.{Order}

@@ -15,7 +15,7 @@ use Rattle.oasis_values.specs.declared.fault.ValueFault.{ValueFault}
 use Rattle.oasis_values.specs.declared.input.Input.{Input}
 use Rattle.std.specs.Prelude.{Result}
 
--- so many bytes were read, and the others are left
+-- the first bytes were read, and the others are left
 pub record IsSeen (ys : List ℕ) (had : ℕ) (left : Option (List ℕ)) : Type 0 where
   pub rest : List ℕ
   pub parts : ys ≡ take had ys ++ rest

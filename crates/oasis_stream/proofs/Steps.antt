@@ -6,7 +6,7 @@ use Rattle.std.specs.Borrow.{GName}
 use Rattle.lvl_io.specs.Spelling.{IsBegun}
 use Rattle.lvl_grammar.specs.Refused.{IsTruncated}
 use Rattle.lvl_grammar.specs.inside.ReadTo.{ReadTo, IsSeenWrong}
-use Rattle.lvl_grammar.proofs.Reading.{reads_on, reads_front}
+use Rattle.lvl_grammar.proofs.Reading.{reads_on, reads_unread}
 use Rattle.lvl_refusal.specs.declared.Refusal.TheVariants.{Breach}
 use Rattle.oasis_values.specs.Faults.{is_rule}
 use Rattle.oasis_values.specs.Input.{file_limit, bytes_left, input_offset, has_failed, input_reader}
@@ -174,7 +174,9 @@ fault_refuses : {Has : List Item → Type 0} {was left : Option (List ℕ)} (xs 
     → ¬ (f ≡ Failed) → IsSeen (drop at xs) had left → Fails (IsItem to.records) (file_limit - at) had (drop at xs) f
     → RefusesAt xs left at (Value f)
 fault_refuses xs at had to Truncated u n s p = cut_refuses xs at to u p
-fault_refuses {Has = Has} {was = was} xs at had to Read u n s p = reads_front oasis xs at Has was to
+fault_refuses {Has = Has} {was = was} {left = left} xs at had to Read u n s p =
+    reads_unread oasis xs at Has was left to (take had (drop at xs)) s.rest s.parts s.left_is
+    (λ some. ((λ e. absurd (u e)), (p.unread refl).1))
 fault_refuses xs at had to TooLong u n s p = long_refuses xs at had to u s p
 fault_refuses xs at had to Failed u n s p = absurd (n refl)
 fault_refuses xs at had to IntegerTooLarge u n s p = value_refuses xs at had to IntegerTooLarge u refl s p

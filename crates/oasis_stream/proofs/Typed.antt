@@ -22,7 +22,7 @@ use Rattle.oasis_records.specs.declared.measured.Measured.{Measured}
 use Rattle.oasis_records.specs.declared.record.Record.{Record}
 use Rattle.oasis_records.specs.declared.record_type.RecordType.{RecordType}
 use Rattle.oasis_stream.specs.Items.{Item}
-use Rattle.lvl_cells.specs.Names.{cell_limit}
+use Rattle.lvl_cells.specs.Building.{cell_limit}
 use Rattle.oasis_stream.specs.Order.{at_end, cells_in, opens_cell, mixes, is_expected, allowed, type_after}
 use Rattle.oasis_stream.specs.Front.{of_magic, of_record, IsTyped, IsNext, IsItem}
 use Rattle.oasis_stream.specs.Told.{of_kind, told_record, of_fault, told_magic, of_magic_fault}

@@ -30,7 +30,7 @@ abbrev pub of_record : Result Record RecordRule → Result Item OasisKind
 of_record (Ok r) = Ok (item r)
 of_record (Err k) = Err (OfRecord k)
 
--- the fields of a record of that type, after an id of so many bytes; where the id breaches a rule nothing more is read
+-- the fields of a record of that type, after an id of n bytes; where the id breaches a rule nothing more is read
 abbrev pub IsTyped : Bool → ℕ → Result RecordType OasisKind → List ℕ → Result (Result Item OasisKind) ValueFault
     → Type 0
 IsTyped has_offsets id_len (Ok t) = Seen of_record (AreFields has_offsets id_len t)
@@ -71,7 +71,7 @@ BreaksRule before room ys k =
     × (IsFront (IsItem before) ys n (Ok (Err k)) ⊎ ((i : Item) × IsFront (IsItem before) ys n (Ok (Ok i))
     × Breaches before i k))
 
--- what is wrong with the front of the bytes, with room for so many
+-- what is wrong with the front of the bytes, with room for a number of them
 abbrev pub IsWrong : List Item → ℕ → List ℕ → OasisKind → Type 0
 IsWrong before room ys (Value f) = ((f ≡ TooLong) × IsTooLong before room ys) ⊎ BreaksValue before room ys f
 IsWrong before room ys AfterEnd = IsEnded before × (0 < room) × (0 < length ys)

@@ -5,7 +5,7 @@ use Rattle.oasis_records.specs.declared.cell.CellName.{CellName}
 use Rattle.oasis_records.specs.declared.cell.CellRef.{CellRef}
 use Rattle.oasis_records.specs.declared.cell.CellRef.TheVariants.{Number, Name}
 
--- the number of a name that comes after so many others: its own, or theirs
+-- the number of a name that comes after n others: its own, or n
 abbrev pub number_by : ℕ → Option ℕ → ℕ
 number_by n None = n
 number_by n (Some k) = k
@@ -13,7 +13,7 @@ number_by n (Some k) = k
 abbrev pub number_after : ℕ → CellName → ℕ
 number_after n c = number_by n c.number
 
--- the first name that has the number, of those that come after so many others
+-- the first name that has the number, of those that come after n others
 abbrev pub name_from : ℕ → List CellName → ℕ → Option (List ℕ)
 name_from i [] n = None
 name_from i (c ∷ cs) n = if number_after i c == n then Some c.name else name_from (i + 1) cs n

@@ -12,6 +12,8 @@ mod library;
 #[cfg(test)]
 mod library_faults;
 #[cfg(test)]
+mod memory;
+#[cfg(test)]
 mod records;
 #[cfg(test)]
 mod values;

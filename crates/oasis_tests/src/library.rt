@@ -1,8 +1,9 @@
 //! Files read whole: what each spells, and that it doesn't matter how a reader cuts the bytes.
 
-use lvl_cells::{Layer, Library};
+use lvl_cells::Library;
 use lvl_grid::{Point, Turn};
 use lvl_io::fake::Pieces;
+use lvl_names::Layer;
 use lvl_refusal::Refusal;
 use oasis_library::{OasisFault, OasisHead, Real, read_oasis};
 use std::alloc::{AllocError, Global};

@@ -40,6 +40,7 @@ stop_fails S n room had xs Truncated h i s b =
     record {
       truncated = λ e. (omega (arith, s), subst (IsBegun S) (take_all n xs (omega (arith, s))) b);
       too_long = λ e. absurd (cc);
+      unread = λ e. absurd (cc);
       breached = λ e. absurd (cc);
     }
 stop_fails S n room had xs TooLong h i s b =
@@ -50,12 +51,14 @@ stop_fails S n room had xs TooLong h i s b =
         omega (arith, s.0, s.2),
         subst (λ k. IsBegun S (take k xs)) (sym s.0) b,
       );
+      unread = λ e. absurd (cc);
       breached = λ e. absurd (cc);
     }
 stop_fails S n room had xs Read h i s b =
     record {
       truncated = λ e. absurd (cc);
       too_long = λ e. absurd (cc);
+      unread = λ e. (omega (arith, s), subst (λ k. IsBegun S (take k xs)) (sym s) b);
       breached = λ e. absurd (cc);
     }
 stop_fails S n room had xs f h i s b = absurd i
@@ -103,7 +106,7 @@ hand_begun new b xs k e h c few =
 front_length : {A : Type 0} (S : List ℕ → A → Type 0) (xs : List ℕ) (n : ℕ) (x : A) → IsFront S xs n x → n ≤ length xs
 front_length S xs n x f = omega (arith, f.count, ap length f.whole, length-append f.bytes f.rest)
 
--- so many bytes of those in hand that may be taken
+-- as many bytes of those in hand as may be taken
 pub front_within : {A : Type 0} (S : List ℕ → A → Type 0) (xs : List ℕ) (k n : ℕ) (x : A) → IsFront S (take k xs) n x
     → (n ≤ k) × (n ≤ length xs)
 front_within S xs k n x f =
@@ -117,6 +120,7 @@ breach_fails S room had n xs f rule h seen front =
     record {
       truncated = λ e. absurd (let r = ap is_rule e in let k : true ≡ false = sym rule ∙ r in cc);
       too_long = λ e. absurd (let r = ap is_rule e in let k : true ≡ false = sym rule ∙ r in cc);
+      unread = λ e. absurd (let r = ap is_rule e in let k : true ≡ false = sym rule ∙ r in cc);
       breached = λ e. record { count = n; within = h; seen = seen; front = front };
     }
 

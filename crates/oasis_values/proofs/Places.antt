@@ -9,7 +9,7 @@ use Rattle.lvl_io.specs.Spelling.{IsPrefixFree, CanSay, Then, Chain}
 use Rattle.lvl_io.proofs.Spelling.{gives_free, gives_said, then_free, then_said, chain_free, chain_said}
 use Rattle.lvl_grid.specs.declared.point.Point.{Point}
 use Rattle.lvl_grid.specs.Turn.{FitsPoint}
-use Rattle.lvl_cells.specs.Shifts.{lattice, IsLattice, StartsAtZero}
+use Rattle.lvl_names.specs.Shifts.{lattice, IsLattice, StartsAtZero}
 use Rattle.oasis_values.specs.Deltas.{IsGDelta}
 use Rattle.oasis_values.specs.Known.{among, Known, Seen}
 use Rattle.oasis_values.specs.Numbers.{IsUnsigned}

@@ -34,6 +34,7 @@ fails_first S T room had xs f can p =
     record {
       truncated = λ e. let q = p.truncated e in (q.0, then_begun S T xs q.1 can);
       too_long = λ e. let q = p.too_long e in (q.0, q.1, then_begun S T (take room xs) q.2 can);
+      unread = λ e. let q = p.unread e in (q.0, then_begun S T (take had xs) q.1 can);
       breached = λ e.
           let q = p.breached e in
           record {
@@ -91,6 +92,13 @@ fails_second S T room n had xs x f p h q =
           let goes_on = then_goes_on S T p.bytes (take (room - n) (drop n xs)) x p.says t.2 in
           let past = take_past S xs n room (Ok x) p h in
           (omega (arith, t.0), omega (arith, t.1), subst (IsBegun (Then S T)) past goes_on);
+      unread = λ e.
+          let t = q.unread e in
+          let goes_on = then_goes_on S T p.bytes (take had (drop n xs)) x p.says t.1 in
+          let past = take_past S xs n (n + had) (Ok x) p (omega arith) in
+          let left : (n + had) - n ≡ had = omega arith in
+          let same = ap (λ k. p.bytes ++ take k (drop n xs)) (sym left) ∙ past in
+          (omega (arith, t.0), subst (IsBegun (Then S T)) same goes_on);
       breached = λ e.
           let t = q.breached e in
           record {
@@ -256,6 +264,7 @@ reads_refused {remaining = remaining} {errors = errors} {lent = lent} {old = old
           record {
             truncated = λ e. absurd (rule_not f Truncated rule refl e);
             too_long = λ e. absurd (rule_not f TooLong rule refl e);
+            unread = λ e. absurd (rule_not f Read rule refl e);
             breached = λ e. record {
               count = 0;
               within = omega arith;

@@ -116,7 +116,7 @@ closed for kind ps = (origin ∷ ps) ++ if_any (implied for kind (last_of origin
 abbrev pub AreVertices : Use → ListType → ℕ → List ℕ → Result (List Point) ValueFault → Type 0
 AreVertices for kind n = Seen (closed for kind) (Chain (IsNext kind) (λ w. w.at) n (start_of kind))
 
--- a count, and so many vertices
+-- a count, and as many vertices
 abbrev pub IsListOf : Use → ListType → List ℕ → Result (List Point) ValueFault → Type 0
 IsListOf for kind = Then IsUnsigned (λ n. Then (Known (point_count for kind n) PointCount) (AreVertices for kind))
 

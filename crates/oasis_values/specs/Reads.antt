@@ -11,7 +11,7 @@ use Rattle.lvl_refusal.specs.declared.Refusal.TheVariants.{Breach, OutOfMemory}
 use Rattle.oasis_values.specs.Faults.{is_rule, reader_failed}
 use Rattle.oasis_values.specs.Input.{bytes_left, in_hand, input_offset, has_failed, input_reader, room_left}
 use Rattle.oasis_values.specs.declared.fault.ValueFault.{ValueFault}
-use Rattle.oasis_values.specs.declared.fault.ValueFault.TheVariants.{Truncated, TooLong, Failed}
+use Rattle.oasis_values.specs.declared.fault.ValueFault.TheVariants.{Truncated, TooLong, Read, Failed}
 use Rattle.oasis_values.specs.declared.input.Input.{Input}
 
 -- a rule is breached by bytes at the front, of which there are few enough, and all were read
@@ -29,6 +29,8 @@ pub record Fails {A : Type 0} (S : List ℕ → Result A ValueFault → Type 0)
   pub truncated : f ≡ Truncated → (length xs ≤ room) × IsBegun S xs
   -- the bytes that may be taken are an unfinished beginning, others follow, and at least one of them was read
   pub too_long : f ≡ TooLong → (room < length xs) × (room < had) × IsBegun S (take room xs)
+  -- the bytes that were read are an unfinished beginning, and they may all be taken
+  pub unread : f ≡ Read → (had ≤ room) × IsBegun S (take had xs)
   -- any other fault is the rule that is breached
   pub breached : is_rule f ≡ true → Breaks S room had xs f
 

@@ -5,7 +5,7 @@ use Rattle.std.specs.Prelude.{Some, None, Result, Ok, pos, ℤ, ◌+ℤ◌, ◌*
 use Rattle.std.specs.List.{list_all}
 use Rattle.lvl_io.specs.Spelling.{Gives, Then, Chain}
 use Rattle.lvl_grid.specs.declared.point.Point.{Point}
-use Rattle.lvl_cells.specs.Shifts.{lattice, most_places}
+use Rattle.lvl_names.specs.Shifts.{lattice, most_places}
 use Rattle.oasis_values.specs.Deltas.{to, IsGDelta}
 use Rattle.oasis_values.specs.Known.{among, Known, Seen}
 use Rattle.oasis_values.specs.Numbers.{IsUnsigned}
@@ -56,7 +56,7 @@ most_listed = 1048576
 abbrev pub list_size : ℕ → Option ℕ
 list_size n = if nat_le (n + 2) most_listed then Some (n + 1) else None
 
--- so many times a space after a coordinate
+-- n times a space after a coordinate
 abbrev pub stepped : ℤ → ℤ → ℕ → Option ℤ
 stepped before by times = let z = before +ℤ (pos times *ℤ by) in if is_in_range z then Some z else None
 

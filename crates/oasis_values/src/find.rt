@@ -8,10 +8,9 @@ ghost use Rattle.oasis_values.specs.Faults.{reader_failed, as_breach};
 ghost use Rattle.oasis_values.specs.Numbers.{IsByte, IsUnsigned};
 ghost use Rattle.oasis_values.specs.inside.Leading.{IsStop, Stops, Finds};
 
-use crate::buffer::Buffer;
 use crate::fault::ValueFault;
 use crate::integer::{Leading, scan_integer};
-use lvl_io::Read;
+use lvl_io::{Buffer, Missing, Read};
 
 /// What was found, and how many bytes it has.
 #[derive(Clone, Copy)]
@@ -23,7 +22,7 @@ pub struct Found<T> {
 // Reads until one byte more than `n` is ahead, of which only `room` may be taken.
 fn want_more<R: Read>(
     reader: &mut R,
-    ahead: &mut Buffer,
+    ahead: &mut Buffer<4096>,
     room: u64,
     n: usize,
 ) -> Result<(), ValueFault>
@@ -41,23 +40,18 @@ fn want_more<R: Read>(
         (reader_failed (as_breach result)) }
     ensures same { R.lent reader.new ≡ R.lent reader.old }
 {
-    if ahead.ahead().len() <= n {
-        match ahead.pull(reader) {
-            Ok(0) => return Err(ValueFault::Truncated),
-            Ok(_) => {}
-            Err(_) => return Err(ValueFault::Read),
-        }
+    match ahead.want(reader, room, n + 1) {
+        Ok(()) => Ok(()),
+        Err(Missing::Ended) => Err(ValueFault::Truncated),
+        Err(Missing::Limit) => Err(ValueFault::TooLong),
+        Err(Missing::Failed) => Err(ValueFault::Read),
     }
-    if n as u64 == room {
-        return Err(ValueFault::TooLong);
-    }
-    Ok(())
 }
 
 // Finds the byte at the front.
 pub(crate) fn find_byte<R: Read>(
     reader: &mut R,
-    ahead: &mut Buffer,
+    ahead: &mut Buffer<4096>,
     room: u64,
 ) -> Result<Found<u8>, ValueFault>
     ensures bytes { Stays (prepend_known ahead.old (R.remaining reader.old))
@@ -79,7 +73,7 @@ pub(crate) fn find_byte<R: Read>(
 // Finds the unsigned integer at the front.
 pub(crate) fn find_integer<R: Read>(
     reader: &mut R,
-    ahead: &mut Buffer,
+    ahead: &mut Buffer<4096>,
     room: u64,
 ) -> Result<Found<u64>, ValueFault>
     requires { room < 2 ^ 32 }

@@ -1,20 +1,16 @@
 //! The input: single bytes and unsigned integers, of which all other values are made.
-ghost use Rattle.std.specs.Prelude.{◌≡◌, ◌-◌, ◌≤◌, false, true, Some, IfOk};
+ghost use Rattle.std.specs.Prelude.{◌≡◌, ◌-◌, ◌≤◌, false, true, Some, IfOk, OnErr};
 
-use crate::buffer::Buffer;
 use crate::fault::ValueFault;
 use crate::find::{find_byte, find_integer};
-use lvl_io::Read;
-
-/// The greatest length of an input, in bytes (own rule).
-const FILE_LIMIT: u64 = 4_294_967_295;
+use lvl_io::{Buffer, FILE_LIMIT, Read};
 
 /// The values in the bytes of a reader, one at a time. It asks its reader for bytes only where one is
 /// needed and none is left.
 #[derive(Drop)]
 pub struct Input<R> {
     reader: R,
-    ahead: Buffer,
+    ahead: Buffer<4096>,
     offset: u64,
     failed: bool,
     ghost within: { offset ≤ 4294967295 },
@@ -68,6 +64,7 @@ impl<R: Read> Input<R> {
     pub fn byte(&mut self) -> Result<u8, ValueFault>
         ensures reads { Reads R.remaining R.read_errors R.lent IsByte self.old self.new (as_breach result) }
         ensures none { Refutes R.remaining IsByte self.old (as_breach result) }
+        ensures at { OnErr result (input_offset self.new ≡ input_offset self.old) }
     {
         if self.failed {
             return Err(ValueFault::Failed);
@@ -90,6 +87,7 @@ impl<R: Read> Input<R> {
     pub fn unsigned(&mut self) -> Result<u64, ValueFault>
         ensures reads { Reads R.remaining R.read_errors R.lent IsUnsigned self.old self.new (as_breach result) }
         ensures none { Refutes R.remaining IsUnsigned self.old (as_breach result) }
+        ensures at { OnErr result (input_offset self.new ≡ input_offset self.old) }
     {
         if self.failed {
             return Err(ValueFault::Failed);

@@ -3,7 +3,7 @@
 ghost use Rattle.std.specs.Prelude.{◌≡◌, ◌<◌, ◌≤◌, length};
 ghost use Rattle.oasis_values.specs.inside.Leading.{Leads};
 
-/// An unsigned integer has at most so many bytes (own rule).
+/// The most bytes of an unsigned integer (own rule).
 const MOST_BYTES: usize = 10;
 
 /// Each byte but the last is this or more.

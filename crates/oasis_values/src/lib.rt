@@ -19,7 +19,6 @@ pub use point_list::Use;
 pub use repetition::Repetition;
 pub use text::Text;
 
-mod buffer;
 mod delta;
 mod fault;
 mod find;

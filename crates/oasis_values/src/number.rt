@@ -157,7 +157,7 @@ impl<R: Read> Input<R> {
         }
     }
 
-    // So many bytes, of any value.
+    // `N` bytes, of any value.
     fn bytes_of<const N: usize>(&mut self) -> Result<[u8; N], ValueFault>
         requires { has_failed self.old ≡ false }
         ensures reads { Reads R.remaining R.read_errors R.lent (IsBytes N) self.old self.new (as_breach result) }

@@ -1,4 +1,4 @@
-//! Point lists: a type, a count and so many deltas, each from the vertex before.
+//! Point lists: a type, a count and as many deltas, each from the vertex before.
 ghost use Rattle.std.specs.Prelude.{◌≡◌, ◌<◌, ◌≤◌, ◌++◌, false, IfSome, vec_len, vec_capacity};
 ghost use Rattle.oasis_values.specs.Known.{among};
 ghost use Rattle.oasis_values.specs.Ranges.{sum};

@@ -3,15 +3,15 @@ ghost use Rattle.std.specs.Prelude.{◌≡◌, ◌<◌, ◌≤◌, ◌^◌, fals
 ghost use Rattle.oasis_values.specs.Known.{among};
 ghost use Rattle.oasis_values.specs.Repetitions.{kinds, line_size, matrix_size, list_size, modal};
 ghost use Rattle.oasis_values.specs.Repetitions.{lattice_in_range};
-ghost use Rattle.lvl_cells.specs.Shifts.{StartsAtZero};
+ghost use Rattle.lvl_names.specs.Shifts.{StartsAtZero};
 ghost use Rattle.oasis_values.specs.inside.Sizes.{IsFew, IsSmall};
 
 use crate::fault::ValueFault;
 use crate::input::Input;
 use crate::shift::Spacing;
-use lvl_cells::Offsets;
 use lvl_grid::Point;
 use lvl_io::Read;
+use lvl_names::Offsets;
 use lvl_refusal::Refusal;
 use std::alloc::{AllocError, Global};
 

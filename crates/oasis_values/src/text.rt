@@ -72,7 +72,7 @@ impl<R: Read> Input<R> {
         self.characters(alloc, kind, len)
     }
 
-    // So many characters of that kind.
+    // `len` characters of that kind.
     fn characters(
         &mut self,
         alloc: Global,

@@ -33,7 +33,7 @@ pub record IsArefRead (a : Aref) (piece : List Rec) : Type 0 where
   pub columns : a.counts.columns ≡ columns_in (last_of colrow piece)
   pub rows : a.counts.rows ≡ rows_in (last_of colrow piece)
 
--- why points give no array of so many columns and rows
+-- why points give no array of these columns and rows
 abbrev pub IsArrayFault : List Point → ℕ → ℕ → ElementRule → Type 0
 IsArrayFault ps m n PointsFault = length ps ≢ 3
 IsArrayFault ps m n ArrayStep = (length ps ≡ 3) × ¬ HasSteps ps m n

@@ -4,7 +4,7 @@ use Rattle.lvl_grid.specs.declared.map.Turn.{Turn}
 use Rattle.gds_elements.specs.Types.{sname, strans, mag, angle}
 use Rattle.gds_elements.specs.Rec.{Rec, field}
 use Rattle.gds_elements.specs.Values.{bits, name, flips, turn, one_real, degrees}
-use Rattle.lvl_cells.specs.Names.{IsName}
+use Rattle.lvl_names.specs.Names.{IsName}
 use Rattle.gds_elements.specs.declared.fault.ElementRule.{ElementRule}
 use Rattle.gds_elements.specs.declared.fault.ElementRule.TheVariants.{Strans, Magnification, Angle, Name}
 use Rattle.gds_elements.specs.declared.placing.Placing.{Placing}

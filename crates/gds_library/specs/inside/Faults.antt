@@ -2,13 +2,13 @@
 use Rattle.std.specs.Prelude.{◌≡◌, ◌≢◌, ℕ, ◌<◌, ◌≤◌, List, length, None}
 use Rattle.gds_elements.specs.Types.{header, units, bgnstr, strname}
 use Rattle.gds_elements.specs.Values.{name}
-use Rattle.lvl_cells.specs.Names.{IsName}
+use Rattle.lvl_names.specs.Names.{IsName}
 use Rattle.gds_elements.specs.inside.Misplaced.{IsMisplacement}
 use Rattle.gds_elements.specs.declared.fault.ElementFault.{ElementFault}
 use Rattle.gds_elements.specs.declared.fault.ElementFault.TheVariants.{Misplaced as MisplacedInElement, Rule}
 use Rattle.lvl_refusal.specs.declared.Refusal.{Refusal}
 use Rattle.lvl_refusal.specs.declared.Refusal.TheVariants.{Breach, OutOfMemory}
-use Rattle.lvl_cells.specs.Names.{cell_limit}
+use Rattle.lvl_cells.specs.Building.{cell_limit}
 use Rattle.gds_library.specs.inside.Place.{after}
 use Rattle.gds_library.specs.declared.fault.GdsKind.{GdsKind}
 use Rattle.gds_library.specs.declared.fault.GdsKind.TheVariants.{Misplaced, Element, Name, TooManyCells}
@@ -29,7 +29,7 @@ abbrev pub lifted_refusal : Refusal ElementFault → Refusal GdsKind
 lifted_refusal (Breach f) = Breach (lifted f)
 lifted_refusal OutOfMemory = OutOfMemory
 
--- at a place, after so many cells, the first rule that a record breaches
+-- at a place, after a number of cells, the first rule that a record breaches
 abbrev pub IsFault : Place → ℕ → ℕ → List ℕ → GdsKind → Type 0
 IsFault p n k payload (Misplaced m) = IsMisplacement k m × (after p k ≡ None)
 IsFault p n k payload Name = (k ≡ strname) × (after p k ≢ None) × ¬ IsName (name payload)

@@ -4,7 +4,7 @@ use Rattle.lvl_grid.specs.declared.point.Point.{Point}
 use Rattle.lvl_grid.specs.Pieces.{Rising}
 use Rattle.lvl_cells.specs.declared.shapes.Span.{Span}
 use Rattle.lvl_cells.specs.Cells.{PlainShape, Rings}
-use Rattle.lvl_cells.specs.Shifts.{one_place}
+use Rattle.lvl_names.specs.Shifts.{one_place}
 
 -- the shifts of a number: zero for the zero shift alone, then those that are kept
 abbrev pub numbered : List (List Point) → ℕ → List Point

@@ -2,7 +2,7 @@
 use Rattle.std.specs.Prelude.{◌≡◌, ◌↔◌, ℕ, List, map, slice_get, Option, Some, Any, Contains, IsSomeAnd}
 use Rattle.lvl_grid.specs.declared.point.Square.{Square}
 use Rattle.lvl_grid.specs.Turn.{image_square}
-use Rattle.lvl_cells.specs.declared.layer.Layer.{Layer}
+use Rattle.lvl_names.specs.declared.layer.Layer.{Layer}
 use Rattle.lvl_cells.specs.Cells.{PlainCell, PlainReference, Rings, placing}
 use Rattle.lvl_cells.specs.Coverage.{RingsCover, CellCovers}
 use Rattle.lvl_flat.specs.inside.Visits.{picks, PickCovers}

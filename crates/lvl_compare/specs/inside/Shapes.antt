@@ -1,7 +1,7 @@
 -- What two cells have alike: their own shapes, and their references.
 use Rattle.std.specs.Prelude.{◌≡◌, ◌↔◌, ℕ, List, slice_get, Some, Any}
 use Rattle.lvl_grid.specs.declared.point.Square.{Square}
-use Rattle.lvl_cells.specs.declared.layer.Layer.{Layer}
+use Rattle.lvl_names.specs.declared.layer.Layer.{Layer}
 use Rattle.lvl_cells.specs.Cells.{PlainCell, PlainShape, Rings}
 use Rattle.lvl_cells.specs.Coverage.{RingsCover, ShapeCovers}
 use Rattle.lvl_flat.specs.inside.Visits.{picks, PickCovers}

@@ -1,35 +1,19 @@
--- Boxes of points, and what is in them.
-use Rattle.std.specs.Prelude.{◌≡◌, ℕ, List, slice_get, Option, Some, All, Contains, ◌≤ℤ◌}
+-- Boxes of points as they grow, and as they are placed.
+use Rattle.std.specs.Prelude.{◌≡◌, ℕ, List, slice_get, Option, Some, All, Contains, ◌+ℤ◌, pos}
 use Rattle.lvl_grid.specs.declared.point.Point.{Point}
+use Rattle.lvl_grid.specs.declared.point.Square.{Square}
+use Rattle.lvl_grid.specs.declared.point.Window.{Window}
+use Rattle.lvl_grid.specs.Clip.{IsWithin as IsInWindow}
 use Rattle.lvl_grid.specs.declared.map.Map.{Map}
-use Rattle.lvl_grid.specs.Turn.{image, shifted, FitsPoint}
+use Rattle.lvl_grid.specs.Turn.{image, shifted}
 use Rattle.lvl_cells.specs.Cells.{PlainCell, PlainShape, PlainReference, Rings, placing, cell_named}
 use Rattle.lvl_cells.specs.Chains.{Chain, IsComposed}
 use Rattle.lvl_flat.specs.declared.bounds.Bounds.{Bounds}
-
--- the point is between the corners
-pub record IsWithin (b : Bounds) (p : Point) : Type 0 where
-  pub left : b.low.x ≤ℤ p.x
-  pub right : p.x ≤ℤ b.high.x
-  pub below : b.low.y ≤ℤ p.y
-  pub above : p.y ≤ℤ b.high.y
+use Rattle.lvl_flat.specs.Boxes.{IsWithin, HoldsCell, Fits}
 
 -- what is in the first is in the second
 pub record Widens (a b : Bounds) : Type 0 where
   pub holds : (p : Point) → IsWithin a p → IsWithin b p
-
--- all vertices of the shape are in it, placed by the map
-abbrev pub HoldsShape : Bounds → Map → PlainShape Rings → Type 0
-HoldsShape b m h = All (λ e. All (λ ring. All (λ v. IsWithin b (image m (shifted e v))) ring) h.figure) h.shifts
-
--- the shift of the map, and all vertices that the cell places by it, are in it
-pub record HoldsCell (b : Bounds) (m : Map) (d : PlainCell Rings) : Type 0 where
-  pub shift : IsWithin b m.at
-  pub vertices : All (HoldsShape b m) d.shapes
-
--- and so for all chains from the cell
-pub record HoldsChains (cells : List (PlainCell Rings)) (b : Bounds) (c : PlainCell Rings) : Type 0 where
-  pub chains : (n : ℕ) (m : Map) (d : PlainCell Rings) → Chain cells c n m d → HoldsCell b m d
 
 -- the points of the ring are in it, moved by whatever is in the shifts' box
 abbrev pub HoldsRing : Bounds → Bounds → List Point → Type 0
@@ -48,13 +32,24 @@ HoldsPick cells b r e =
 abbrev pub HoldsPicks : List (PlainCell Rings) → Bounds → List PlainReference → Type 0
 HoldsPicks cells b references = All (λ r. (e : Point) → Contains r.shifts e → HoldsPick cells b r e) references
 
--- its corners are within 64 signed bits
-pub record Fits (b : Bounds) : Type 0 where
-  pub low : FitsPoint b.low
-  pub high : FitsPoint b.high
+-- both corners of the square are in it
+pub record HasSquare (b : Bounds) (s : Square) : Type 0 where
+  pub low : IsWithin b (record { x = s.x; y = s.y })
+  pub high : IsWithin b (record { x = s.x +ℤ pos 1; y = s.y +ℤ pos 1 })
 
--- the boxes that are known are within 64 bits and hold all that their cells place
-abbrev pub AreBounds : List (PlainCell Rings) → List (Option Bounds) → Type 0
-AreBounds cells known =
-    (k : ℕ) (b : Bounds) (c : PlainCell Rings) → slice_get known k ≡ Some (Some b) → slice_get cells k ≡ Some c
-    → Fits b × HoldsChains cells b c
+-- no square in it is one of the window's
+pub record IsOutside (b : Bounds) (w : Window) : Type 0 where
+  pub none : (s : Square) → HasSquare b s → ¬ IsInWindow w s
+
+-- each square in it is one of the window's
+pub record IsInside (b : Bounds) (w : Window) : Type 0 where
+  pub all : (s : Square) → HasSquare b s → IsInWindow w s
+
+-- the box of cell k is known; placed by the map, it is within 64 bits and outside of the window
+pub record IsPlacedOutside (known : List (Option Bounds)) (k : ℕ) (m : Map) (w : Window) : Type 0 where
+  pub box : Bounds
+  pub there : slice_get known k ≡ Some (Some box)
+  pub placed : Bounds
+  pub holds : (p : Point) → IsWithin box p → IsWithin placed (image m p)
+  pub fits : Fits placed
+  pub outside : IsOutside placed w

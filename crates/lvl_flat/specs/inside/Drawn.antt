@@ -1,13 +1,13 @@
 -- The rings that a cell's own shapes give under a map.
-use Rattle.std.specs.Prelude.{◌↔◌, List, [], map, flat_map, All, if◌then◌else◌}
+use Rattle.std.specs.Prelude.{◌≡◌, ◌↔◌, List, [], map, flat_map, All, Any, if◌then◌else◌}
 use Rattle.lvl_grid.specs.declared.point.Point.{Point}
 use Rattle.lvl_grid.specs.declared.point.Square.{Square}
 use Rattle.lvl_grid.specs.declared.map.Map.{Map}
 use Rattle.lvl_grid.specs.Placed.{placed_point, IsPlaceOfCovered}
 use Rattle.lvl_grid.specs.Winding.{Covers}
-use Rattle.lvl_cells.specs.declared.layer.Layer.{Layer}
+use Rattle.lvl_names.specs.declared.layer.Layer.{Layer}
 use Rattle.lvl_cells.specs.Cells.{PlainShape, Rings}
-use Rattle.lvl_cells.specs.Layers.{same_layer}
+use Rattle.lvl_names.specs.Layers.{same_layer}
 use Rattle.lvl_flat.specs.Flattened.{FitsRing}
 
 -- a ring, moved by a shift and placed
@@ -32,3 +32,19 @@ pub record IsPlaced (m : Map) (e : Point) (ring : List Point) : Type 0 where
 
 abbrev pub AreFiguresPlaced : Map → List (PlainShape Rings) → Type 0
 AreFiguresPlaced m shapes = All (λ h. All (λ e. All (IsPlaced m e) h.figure) h.shifts) shapes
+
+-- the ring fits at each of the shifts
+abbrev pub FitsAtEach : Map → List Point → List Point → Type 0
+FitsAtEach m shifts ring = All (λ e. FitsRing m e ring) shifts
+
+-- at one of the shifts the ring covers the square, once it is placed
+abbrev pub RingPlacesCover : Map → List Point → Square → List Point → Type 0
+RingPlacesCover m shifts q ring = Any (λ e. IsPlaceOfCovered m e ring q) shifts
+
+-- some ring of the shape does
+abbrev pub ShapePlacesCover : Map → Square → PlainShape Rings → Type 0
+ShapePlacesCover m q h = Any (RingPlacesCover m h.shifts q) h.figure
+
+-- some shape on the Layer does
+abbrev pub ShapesPlaceCover : Layer → Map → Square → List (PlainShape Rings) → Type 0
+ShapesPlaceCover layer m q shapes = Any (λ h. (h.layer ≡ layer) × ShapePlacesCover m q h) shapes

@@ -1,19 +1,23 @@
 -- A cell that is entered: its shapes are drawn, and a visit is put on the stack.
-use Rattle.std.specs.Prelude.{◌≡◌, ◌++◌, ℕ, List, map, slice_get, Some}
+use Rattle.std.specs.Prelude.{◌≡◌, ◌↔◌, ◌⊎◌, ◌++◌, ℕ, List, map, slice_get, Some}
 use Rattle.lvl_grid.specs.declared.map.Map.{Map}
-use Rattle.lvl_cells.specs.declared.layer.Layer.{Layer}
+use Rattle.lvl_grid.specs.declared.point.Square.{Square}
+use Rattle.lvl_grid.specs.declared.point.Window.{Window}
+use Rattle.lvl_grid.specs.Clip.{IsWithin}
+use Rattle.lvl_names.specs.declared.layer.Layer.{Layer}
 use Rattle.lvl_cells.specs.Cells.{PlainCell, Rings}
+use Rattle.lvl_cells.specs.Coverage.{RingsCover}
 use Rattle.lvl_flat.specs.declared.fault.FlatFault.{FlatFault}
 use Rattle.lvl_flat.specs.declared.fault.FlatFault.TheVariants.{OutOfRange}
 use Rattle.lvl_flat.specs.declared.visit.Visit.{Visit}
-use Rattle.lvl_flat.specs.inside.Drawn.{drawn_on, AreFiguresPlaced}
+use Rattle.lvl_flat.specs.inside.Drawn.{drawn_on, AreFiguresPlaced, ShapesPlaceCover}
 use Rattle.lvl_flat.specs.Flattened.{FitShapes}
 use Rattle.lvl_flat.specs.Sheet.{PlainSheet}
 use Rattle.lvl_flat.specs.Sheets.{rings_on}
 
 -- a visit that has all still to do
 abbrev pub begun : ℕ → Map → Visit
-begun i m = record { cell = i; map = m; reference = 0; place = 0 }
+begun i m = record { cell = i; map = m; reference = 0; place = 0; row = 0 }
 
 -- the shapes of cell i are drawn under the map, for the same Layers
 pub record IsDrawn (cells : List (PlainCell Rings)) (i : ℕ) (m : Map) (old new : List PlainSheet) : Type 0 where
@@ -21,6 +25,17 @@ pub record IsDrawn (cells : List (PlainCell Rings)) (i : ℕ) (m : Map) (old new
   pub there : slice_get cells i ≡ Some cell
   pub drawn : (layer : Layer) → rings_on layer new ≡ rings_on layer old ++ drawn_on layer m cell.shapes
   pub placed : AreFiguresPlaced m cell.shapes
+  pub layers : map (λ s. s.layer) new ≡ map (λ s. s.layer) old
+
+-- of the window's squares the sheets also cover those that the shapes of cell i cover under the map, for the same
+-- Layers
+pub record IsDrawnWithin (cells : List (PlainCell Rings)) (i : ℕ) (m : Map) (window : Window)
+    (old new : List PlainSheet) : Type 0 where
+  pub cell : PlainCell Rings
+  pub there : slice_get cells i ≡ Some cell
+  pub covers : (layer : Layer) (q : Square) → RingsCover (rings_on layer new) q
+      ↔ (RingsCover (rings_on layer old) q ⊎ (IsWithin window q × ShapesPlaceCover layer m q cell.shapes))
+  pub fits : FitShapes m cell.shapes
   pub layers : map (λ s. s.layer) new ≡ map (λ s. s.layer) old
 
 -- the shapes of cell i, whose name it gives, are out of range under the map

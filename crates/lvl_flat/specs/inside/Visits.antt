@@ -6,7 +6,7 @@ use Rattle.lvl_grid.specs.declared.point.Point.{Point}
 use Rattle.lvl_grid.specs.declared.point.Square.{Square}
 use Rattle.lvl_grid.specs.declared.map.Map.{Map}
 use Rattle.lvl_grid.specs.Turn.{image_square}
-use Rattle.lvl_cells.specs.declared.layer.Layer.{Layer}
+use Rattle.lvl_names.specs.declared.layer.Layer.{Layer}
 use Rattle.lvl_cells.specs.Cells.{PlainCell, PlainReference, Rings, each_ring, placing, cell_named}
 use Rattle.lvl_cells.specs.Chains.{Chain, IsComposed, IsInRange, over_chains}
 use Rattle.lvl_cells.specs.Coverage.{RingsCover, CellCovers, PullsBack}

@@ -2,7 +2,9 @@
 use Rattle.std.specs.Prelude.{◌≡◌, ◌+◌, ◌-◌, ◌↔◌, ◌⊎◌, ℕ, List, length, sum_by, slice_get, Some, Any, Contains}
 use Rattle.std.specs.Option.{option_map_or}
 use Rattle.lvl_grid.specs.declared.point.Square.{Square}
-use Rattle.lvl_cells.specs.declared.layer.Layer.{Layer}
+use Rattle.lvl_grid.specs.declared.point.Window.{Window}
+use Rattle.lvl_grid.specs.Clip.{IsWithin}
+use Rattle.lvl_names.specs.declared.layer.Layer.{Layer}
 use Rattle.lvl_cells.specs.Cells.{PlainCell, Rings, each_ring}
 use Rattle.lvl_cells.specs.Chains.{own_rings_on, placed_rings_on}
 use Rattle.lvl_cells.specs.Coverage.{RingsCover, CellCovers}
@@ -17,20 +19,41 @@ use Rattle.lvl_flat.specs.inside.Visits.{pending, visit_weight, VisitCovers, Pic
 abbrev pub AllHaveSheets : List PlainSheet → List (PlainCell Rings) → Type 0
 AllHaveSheets sheets cells = (k : ℕ) (c : PlainCell Rings) → slice_get cells k ≡ Some c → HaveSheets sheets c.shapes
 
--- what the top covers is drawn or is covered by a visit, and what it counts alike; once all visits fit, all does
+-- of the squares that count, those that the top covers are drawn or covered by a visit; once all visits fit, all does
+pub record IsUnderWay (s : Settled) (top : PlainCell Rings) (counts : Square → Type 0)
+    (drawn : Layer → Square → Type 0) (stack : List Visit) : Type 0 where
+  pub is_top : slice_get s.cells s.top ≡ Some top
+  pub covers : (layer : Layer) (q : Square) → counts q
+      → CellCovers RingsCover s.cells layer top q ↔ (drawn layer q ⊎ Any (VisitCovers s.cells layer q) stack)
+  pub fits : ((v : Visit) → Contains stack v → PicksFit s.cells v.map (pending s.cells v)) → AllInRange s.cells top
+  pub visits : (v : Visit) → Contains stack v → IsVisit s.cells top v
+
+-- the sheets cover the square on the Layer
+abbrev pub SheetsCover : List PlainSheet → Layer → Square → Type 0
+SheetsCover sheets layer q = RingsCover (rings_on layer sheets) q
+
+-- every square counts
+abbrev pub Everywhere : Square → Type 0
+Everywhere q = Unit {0}
+
+-- the walk over all that the top places, each placed ring of which is drawn or still to come
 pub record IsWalking (s : Settled) (sheets : List PlainSheet) (stack : List Visit) : Type 0 where
   pub top : PlainCell Rings
-  pub is_top : slice_get s.cells s.top ≡ Some top
+  pub way : IsUnderWay s top Everywhere (SheetsCover sheets) stack
   pub sorted : AreSorted sheets
   pub layers : AllHaveSheets sheets s.cells
-  pub covers : (layer : Layer) (q : Square)
-      → CellCovers RingsCover s.cells layer top q
-      ↔ (RingsCover (rings_on layer sheets) q ⊎ Any (VisitCovers s.cells layer q) stack)
   pub counts : (layer : Layer)
       → length (rings_on layer sheets) + sum_by (visit_weight (own_rings_on each_ring layer) s.cells) stack
       ≡ placed_rings_on each_ring layer s.cells top
-  pub fits : ((v : Visit) → Contains stack v → PicksFit s.cells v.map (pending s.cells v)) → AllInRange s.cells top
-  pub visits : (v : Visit) → Contains stack v → IsVisit s.cells top v
+
+-- the walk over what reaches into a window; nothing is drawn outside of it
+pub record IsWalkingWithin (s : Settled) (window : Window) (sheets : List PlainSheet) (stack : List Visit)
+    : Type 0 where
+  pub top : PlainCell Rings
+  pub way : IsUnderWay s top (IsWithin window) (SheetsCover sheets) stack
+  pub sorted : AreSorted sheets
+  pub layers : AllHaveSheets sheets s.cells
+  pub within : (layer : Layer) (q : Square) → SheetsCover sheets layer q → IsWithin window q
 
 -- the references of its cell that the visit has not begun
 abbrev pub references_left : List (PlainCell Rings) → Visit → ℕ

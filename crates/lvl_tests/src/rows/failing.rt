@@ -95,15 +95,16 @@ fn failed(alloc: Global, bytes: &[u8], side: &str) -> Result<Vec<u8>, Fail> {
     Ok(out.taken)
 }
 
-/// A failure after each number of bytes is reported at the record that isn't whole.
-fn check_reads(
+/// A failure after each number of bytes from `from` on is reported at the record that isn't whole.
+pub fn check_reads(
     rt: &impl Abort,
     alloc: Global,
     bytes: &[u8],
     starts: &[usize],
     step: &str,
+    from: usize,
 ) -> Result<(), Fail> {
-    for k in 0..=bytes.len() {
+    for k in from..=bytes.len() {
         let step = if k == 0 { "gds 6" } else { step };
         let start = begun(starts, k);
         let first = format!(in alloc; "refused: first: {step} Read at {start}\n")?;
@@ -119,8 +120,15 @@ fn check_reads(
 #[test]
 fn failing_read(rt: HostRuntime) -> Result<(), Fail> {
     let alloc = rt.alloc();
-    check_reads(&rt, alloc, &file(alloc, "square.gds")?, &GDS, "gds 6")?;
-    check_reads(&rt, alloc, &file(alloc, "square.oas")?, &OASIS, "oasis 12")
+    check_reads(&rt, alloc, &file(alloc, "square.gds")?, &GDS, "gds 6", 0)?;
+    check_reads(
+        &rt,
+        alloc,
+        &file(alloc, "square.oas")?,
+        &OASIS,
+        "oasis 12",
+        0,
+    )
 }
 
 /// A reader of std's that is interrupted at the end of its bytes, each time that it is asked.

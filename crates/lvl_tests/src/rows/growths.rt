@@ -1,10 +1,12 @@
 //! Rows with each allocation refused in turn: what is written is the row's own text, or that memory is
 //! out, or nothing at all.
 
+use super::view::{given, viewed};
 use super::words::{cut, file};
 use super::{Answer, is_answer, no_tops, shown, written};
 use lvl::Tops;
 use lvl_report::{RunFault, Status};
+use lvl_view::View;
 use std::alloc::AllocError;
 use std::process::Abort;
 use std::test::Fail;
@@ -12,13 +14,21 @@ use std::test::Fail;
 /// What is written where memory is out.
 const NO_MEMORY: &[u8] = b"refused: out of memory\n";
 
-/// Whether memory was out: that is written, or there was none for the text and nothing is.
-fn is_out_of_memory(answer: &Answer) -> bool {
-    match answer {
-        (text, Ok(Status::Refused)) => text.as_slice() == NO_MEMORY,
-        (text, Err(RunFault::OutOfMemory)) => text.is_empty(),
-        _ => false,
+/// Memory was out, and that is written: the test ends by `AllocError`. There was none for the text, and
+/// nothing is written: it ends by the run's own fault, so that `.ci/growths` can tell them apart. The exit
+/// status is 2 for both.
+fn end_out_of_memory(rt: &impl Abort, answer: &Answer) -> Result<(), Fail> {
+    let (text, ran) = answer;
+    if *ran == Ok(Status::Refused) && text.as_slice() == NO_MEMORY {
+        assert_eq!(rt; Status::Refused.code(), 2);
+        return Err(AllocError.into());
     }
+    if *ran == Err(RunFault::OutOfMemory) {
+        assert_eq!(rt; RunFault::OutOfMemory.code(), 2);
+        assert!(rt; text.is_empty());
+        return Err(RunFault::OutOfMemory.into());
+    }
+    Ok(())
 }
 
 /// What a row is, its files, and the last line.
@@ -42,10 +52,8 @@ spaces | oasis 14 7F 01 00 0A 0A 00 00 04 01 0C 14 | gds 0,0..10,10 12,0..22,10 
 ";
 
 /// The answer is the row's own, or the test ends since memory is out.
-fn settle(rt: &impl Abort, answer: &Answer, line: &str) -> Result<(), AllocError> {
-    if is_out_of_memory(answer) {
-        return Err(AllocError);
-    }
+fn settle(rt: &impl Abort, answer: &Answer, line: &str) -> Result<(), Fail> {
+    end_out_of_memory(rt, answer)?;
     assert!(rt; is_answer(answer, line), "{line}");
     Ok(())
 }
@@ -73,7 +81,29 @@ fn growths_of_tops(rt: HostRuntime) -> Result<(), Fail> {
         second: Some(Vec::from_slice(alloc, b"X")?),
     };
     let answer = written(alloc, &square, &square, &tops, 1000)?;
-    settle(&rt, &answer, "refused: second: cells 5 TopMissing")?;
+    settle(&rt, &answer, "refused: second: cells 5 TopMissing")
+}
+
+/// The files of a view, its map and its window, and the last line.
+const VIEWS: &str = "\
+square.gds | oasis 14 7B 02 00 0A 09 00 00 | 2/0=1/0 | x=0..10,y=0..9 | same
+square.gds | oasis 14 7B 02 00 0A 09 00 00 | 2/0=1/0 | - | differ: layer 1 datatype 0 square 0 9 only in first
+square.gds | oasis 14 7B 01 00 0A 09 00 00 | - | x=3..4,y=-5..20 | differ: layer 1 datatype 0 square 3 9 only in first
+square.gds <99 | square.oas | - | x=90..91,y=0..1 | refused: first: gds 1 Truncated at 96
+";
+
+#[test]
+fn growths_of_a_view(rt: HostRuntime) -> Result<(), Fail> {
+    let alloc = rt.alloc();
+    for row in VIEWS.lines() {
+        let (first, row) = cut(row);
+        let (second, row) = cut(row);
+        let (map, row) = cut(row);
+        let (window, line) = cut(row);
+        let view = View::read(alloc, given(map), given(window))?;
+        let answer = viewed(alloc, &file(alloc, first)?, &file(alloc, second)?, &view)?;
+        settle(&rt, &answer, line)?;
+    }
     Ok(())
 }
 
@@ -86,12 +116,9 @@ fn growths_of_a_show(rt: HostRuntime) -> Result<(), Fail> {
     let alloc = rt.alloc();
     let square = file(alloc, "square.oas")?;
     let answer = shown(alloc, &square, None, 1000)?;
-    if is_out_of_memory(&answer) {
-        return Err(AllocError.into());
-    }
+    end_out_of_memory(&rt, &answer)?;
     assert!(rt; answer.0.as_slice() == SHOWN);
     assert_eq!(rt; answer.1, Ok(Status::Shown));
     let answer = shown(alloc, &square, Some(b"X"), 1000)?;
-    settle(&rt, &answer, "refused: first: cells 5 TopMissing")?;
-    Ok(())
+    settle(&rt, &answer, "refused: first: cells 5 TopMissing")
 }

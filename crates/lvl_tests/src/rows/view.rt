@@ -9,7 +9,12 @@ use std::alloc::{AllocError, Global};
 use std::test::Fail;
 
 /// What is written of two files under a view.
-fn viewed(alloc: Global, first: &[u8], second: &[u8], view: &View) -> Result<Answer, AllocError> {
+pub fn viewed(
+    alloc: Global,
+    first: &[u8],
+    second: &[u8],
+    view: &View,
+) -> Result<Answer, AllocError> {
     let mut out = sink(alloc, 1000)?;
     let mut first = Pieces::new(first, 1000);
     let mut second = Pieces::new(second, 1000);
@@ -18,7 +23,7 @@ fn viewed(alloc: Global, first: &[u8], second: &[u8], view: &View) -> Result<Ans
 }
 
 /// An option's value; a dash where the option is not given.
-fn given(text: &str) -> Option<&str> {
+pub fn given(text: &str) -> Option<&str> {
     if text == "-" { None } else { Some(text) }
 }
 

@@ -2,8 +2,8 @@
 use Rattle.std.specs.Prelude.{◌≡◌, ◌↔◌, ℕ, List, Option}
 use Rattle.std.specs.BTreeMap.{BTreeMap}
 use Rattle.std.specs.BTreeMap as tree
-use Rattle.lvl_cells.specs.declared.layer.Layer.{Layer}
-use Rattle.lvl_cells.specs.contracts.layer.LayerOrd.TheImpl as layer_ord
+use Rattle.lvl_names.specs.declared.layer.Layer.{Layer}
+use Rattle.lvl_names.specs.contracts.layer.LayerOrd.TheImpl as layer_ord
 use Rattle.lvl_grid.specs.declared.point.Window.{Window}
 use Rattle.lvl_view.specs.Views.{IsMapOf, IsWindowOf, IsFirstTwice, sources, target_in}
 use Rattle.lvl_view.specs.declared.map.LayerPair.{LayerPair}

@@ -3,7 +3,7 @@ use Rattle.std.specs.Prelude.{◌≡◌, ℕ, ◌+◌, nat_lt, min, Bool, true, 
 use Rattle.std.specs.Prelude.{[], ◌∷◌, length}
 use Rattle.oasis_records.specs.declared.record.Record.{Record}
 use Rattle.oasis_records.specs.declared.record.Record.TheVariants.{Start, CellName, Cell}
-use Rattle.lvl_cells.specs.Names.{cell_limit}
+use Rattle.lvl_cells.specs.Building.{cell_limit}
 use Rattle.oasis_stream.specs.Order.{in_cell, at_end, names_in, cells_in, any_numbered, any_unnumbered}
 use Rattle.oasis_stream.specs.declared.order.Order.{Order}
 

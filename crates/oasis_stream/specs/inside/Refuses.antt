@@ -1,6 +1,6 @@
 -- What a refusal says of the input while it is being read.
 use Rattle.std.specs.Prelude.{ℕ, List, Option}
-use Rattle.lvl_grammar.specs.Refused.{IsFrontAt, IsTruncated}
+use Rattle.lvl_grammar.specs.Refused.{IsTruncated, IsUnread}
 use Rattle.lvl_grammar.specs.inside.ReadTo.{IsSeenWrong}
 use Rattle.oasis_values.specs.declared.fault.ValueFault.TheVariants.{Truncated, Read}
 use Rattle.oasis_stream.specs.Front.{oasis}
@@ -10,5 +10,5 @@ use Rattle.oasis_stream.specs.declared.fault.OasisKind.TheVariants.{Value}
 -- where the reader has these bytes left
 abbrev pub RefusesAt : List ℕ → Option (List ℕ) → ℕ → OasisKind → Type 0
 RefusesAt xs left at (Value Truncated) = IsTruncated oasis xs at
-RefusesAt xs left at (Value Read) = IsFrontAt oasis xs at
+RefusesAt xs left at (Value Read) = IsUnread oasis xs left at
 RefusesAt xs left at k = IsSeenWrong oasis xs at left k

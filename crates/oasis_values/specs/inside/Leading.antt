@@ -22,10 +22,12 @@ IsStop TooLong = Unit {0}
 IsStop Read = Unit {0}
 IsStop f = ⊥
 
--- where n bytes were had and one more was wanted, and then had are in hand: there is none, or it may not be taken
+-- where n bytes were had and one more was wanted, and then had are in hand: there is none, it may not be taken, or it
+-- couldn't be read
 abbrev pub Stops : ValueFault → ℕ → ℕ → ℕ → List ℕ → Type 0
 Stops Truncated n room had xs = length xs ≡ n
 Stops TooLong n room had xs = (room ≡ n) × (n < length xs) × (n < had)
+Stops Read n room had xs = had ≡ n
 Stops f n room had xs = Unit {0}
 
 -- what was found at the front of known bytes, of which only room may be taken, and had are in hand

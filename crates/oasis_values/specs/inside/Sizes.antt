@@ -1,6 +1,6 @@
 -- Sizes of lattices that were tested.
 use Rattle.std.specs.Prelude.{ℕ, ◌*◌, ◌<◌, ◌≤◌}
-use Rattle.lvl_cells.specs.Shifts.{most_places}
+use Rattle.lvl_names.specs.Shifts.{most_places}
 use Rattle.oasis_values.specs.declared.repetition.Size.{Size}
 
 -- there are places, and few of them

@@ -2,7 +2,7 @@ use Rattle.std.proofs.Common.{◌≡◌, ◌∙◌, List, All, IfSome, sym, ap, 
 use Rattle.std.specs.Prelude.{Option}
 use Rattle.lvl_grid.specs.declared.point.Point.{Point}
 use Rattle.lvl_grid.specs.Turn.{FitsPoint, shifted}
-use Rattle.lvl_cells.specs.Shifts.{lattice, IsLattice}
+use Rattle.lvl_names.specs.Shifts.{lattice, IsLattice}
 use Rattle.gds_elements.specs.Meaning.{step}
 use Rattle.gds_elements.proofs.Arrays.{array_lattice, array_places}
 use Rattle.gds_elements.proofs.aref.place_all.Goals as goal

@@ -4,7 +4,7 @@ use Rattle.lvl_grammar.specs.inside.ReadTo.{ReadTo}
 use Rattle.lvl_grammar.proofs.Reading.{reads_begin}
 use Rattle.gds_records.specs.Records.{file_limit, room_left, records_offset, bytes_left, bytes_in_hand}
 use Rattle.gds_records.specs.Step.{step}
-use Rattle.gds_records.specs.Spelled.{IsSpelledAt}
+use Rattle.gds_records.specs.Spelled.{IsSpelledAt, IsUnfinished}
 use Rattle.gds_records.specs.declared.records.Record.{Record as Answered}
 use Rattle.gds_records.specs.declared.fault.RecordFault.{RecordFault}
 use Rattle.gds_records.specs.declared.fault.RecordFault.TheVariants.{Truncated}
@@ -83,9 +83,10 @@ returns-in-Err-Fault-clause-refused g c = λ xs k.
     refuses_by xs _ _ _ at (Record f) (rw c.in-Err-Fault.field-0-is at c.refuse-in-Err-Fault.ensures)
     c.offset-offset.ensures
     (reads_fault xs at c.loop.reading _ _ (bytes_in_hand new) f to c.loop.invariant.1
-    (λ t r more. subst (λ i. step i (bytes_in_hand new ++ more) ≡ Err f) room (seen t r more))
+    (λ t r more. subst (λ i. step i (bytes_in_hand new ++ more) ≡ Err f) room (seen.0 t r more))
     (λ e. (c.next.ensures.truncated c.loop.invariant.0 (drop at xs) to.left_is
     (is ∙ ap (λ (i : RecordFault). Err (Fault i)) e)).1.1)
+    (λ e. subst (λ i. IsUnfinished i (bytes_in_hand new)) room (seen.1 e))
     (p.left (drop at xs) to.left_is))
 
 pub loop-preserved : goal.loop-preserved

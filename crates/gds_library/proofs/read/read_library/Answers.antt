@@ -2,6 +2,7 @@ use Rattle.std.proofs.Common.{◌≡◌, ◌∙◌, ◌-◌, ℕ, List, drop, Ok
 use Rattle.std.specs.Prelude.{Option, Result}
 use Rattle.gds_records.specs.Records.{records_offset, file_limit, bytes_in_hand}
 use Rattle.gds_records.specs.Tail.{AnswersTail}
+use Rattle.gds_records.specs.declared.fault.RecordFault.{RecordFault}
 use Rattle.gds_records.specs.declared.fault.Stopped.{Stopped}
 use Rattle.gds_records.specs.declared.fault.Stopped.TheVariants.{Fault}
 use Rattle.gds_library.specs.declared.fault.GdsKind.TheVariants.{Record, AfterEnd}
@@ -50,5 +51,6 @@ returns-in-Err-Fault-clause-refused g c = λ xs k.
     (reads_tail xs at (records_offset c.tail.new.self) c.in_ok-reading.reading.builder _ _
     (bytes_in_hand c.tail.new.self) c.in-Err-Fault.fault (reads_end xs at c.in_ok-reading.reading _ to
     c.in_ok-reading.ensures.whole.0) c.in_ok-reading.ensures.whole.0
-    (omega (arith, to.front.within, length-take at xs, to.within)) z (rw is at c.tail.ensures.decided)
+    (omega (arith, to.front.within, length-take at xs, to.within)) z (rw is at c.tail.ensures.decided).0
+    (λ e. c.tail.ensures.starved (is ∙ ap (λ (i : RecordFault). Err (Fault i)) e))
     c.tail.ensures.moves.left)

@@ -2,7 +2,8 @@ use Rattle.std.proofs.lemmas.Result.{err_from_is_err_and}
 use Rattle.lvl_region.specs.declared.region.Side.TheVariants.{First, Second}
 use Rattle.lvl.specs.Layouts.{File}
 use Rattle.lvl.specs.Sides.{given_name}
-use Rattle.lvl.proofs.Refused.{compared, first_of_second, first_refused, not_early_of, second_refused}
+use Rattle.lvl.proofs.Refused.{first_of_second, first_refused, not_early_of, second_refused}
+use Rattle.lvl.proofs.Viewing.{compared_in, whole_verdict}
 use Rattle.lvl.proofs.compare.compare_files.Goals as goal
 
 pub returns-in_err-theirs-clause-first_refused : goal.returns-in_err-theirs-clause-first_refused
@@ -36,5 +37,10 @@ pub returns-clause-compared : goal.returns-clause-compared
 returns-clause-compared g c xs ys known_first known_second =
     let a : File = record { bytes = xs; top = given_name c.args.tops.now.first } in
     let b : File = record { bytes = ys; top = given_name c.args.tops.now.second } in
-    compared a b _ _ _ _ (c.in_ok-ours.ensures.read xs known_first) (c.in_ok-theirs.ensures.read ys known_second)
+    compared_in c.args.view.now a b _ _ _ _ (c.in_ok-ours.ensures.read xs known_first)
+    (c.in_ok-theirs.ensures.read ys known_second)
     c.in_ok-verdict.verdict c.in_ok-verdict.ensures.verdict
+
+pub returns-clause-whole : goal.returns-clause-whole
+returns-clause-whole g c whole xs ys known_first known_second =
+    whole_verdict c.args.view.now whole _ _ _ (returns-clause-compared g c xs ys known_first known_second).verdict

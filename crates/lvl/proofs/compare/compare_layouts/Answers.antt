@@ -8,16 +8,16 @@ pub returns-in-Ok-clause-same : goal.returns-in-Ok-clause-same
 returns-in-Ok-clause-same g c xs ys known_first known_second e =
     let is : c.in-Ok.compared.verdict ≡ Same = cc in
     subst (IsVerdict (file xs c.args.tops.now.first) (file ys c.args.tops.now.second)) is
-    (c.in-Ok.ensures.compared xs ys known_first known_second).verdict
+    (c.in-Ok.ensures.whole c.whole.ensures xs ys known_first known_second)
 
 pub returns-in-Ok-clause-differ : goal.returns-in-Ok-clause-differ
 returns-in-Ok-clause-differ g c xs ys known_first known_second layer square side e =
     let is : c.in-Ok.compared.verdict ≡ Differ layer square side = cc in
     subst (IsVerdict (file xs c.args.tops.now.first) (file ys c.args.tops.now.second)) is
-    (c.in-Ok.ensures.compared xs ys known_first known_second).verdict
+    (c.in-Ok.ensures.whole c.whole.ensures xs ys known_first known_second)
 
-pub returns-in-Err-clause-first_refused : goal.returns-in-Err-clause-first_refused
-returns-in-Err-clause-first_refused g c xs known = (c.in-Err.ensures.first_refused xs known).unaccepted
+pub returns-clause-first_refused : goal.returns-clause-first_refused
+returns-clause-first_refused g c xs known = (c.in-Err.ensures.first_refused xs known).unaccepted
 
-pub returns-in-Err-clause-second_refused : goal.returns-in-Err-clause-second_refused
-returns-in-Err-clause-second_refused g c ys known = (c.in-Err.ensures.second_refused ys known).unaccepted
+pub returns-clause-second_refused : goal.returns-clause-second_refused
+returns-clause-second_refused g c ys known = (c.in-Err.ensures.second_refused ys known).unaccepted

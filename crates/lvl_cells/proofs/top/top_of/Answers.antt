@@ -7,7 +7,7 @@ use Rattle.lvl_cells.specs.Cells.{names}
 use Rattle.lvl_cells.specs.Soundness.{IsTop}
 use Rattle.lvl_cells.specs.Resolving.{place_in_index}
 use Rattle.lvl_cells.specs.inside.Topping.{HasOtherRoot}
-use Rattle.lvl_cells.proofs.Indexes.{at_contains}
+use Rattle.lvl_names.proofs.Elements.{at_contains}
 use Rattle.lvl_cells.proofs.Orders.{targets_within, names_long}
 use Rattle.lvl_cells.proofs.Roots.{root_within, top_by, two_tops_by}
 use Rattle.lvl_cells.proofs.top.top_of.Goals as goal

@@ -8,16 +8,17 @@ use Rattle.lvl_flat.specs.declared.visit.Visit.{Visit}
 use Rattle.lvl_flat.specs.inside.Entering.{IsDrawn, IsEnterFault}
 use Rattle.lvl_flat.specs.Flattened.{TellsName}
 use Rattle.lvl_flat.specs.inside.Steps.{IsInto, IsOut}
-use Rattle.lvl_flat.specs.inside.Walking.{AllHaveSheets, IsWalking, work}
-use Rattle.lvl_flat.proofs.Walking.{walk_done, walk_past, in_last}
-use Rattle.lvl_flat.proofs.Going.{walk_into, less_into, out_by_shift, out_by_vertex, names_out, entered_out}
+use Rattle.lvl_flat.specs.inside.Walking.{AllHaveSheets, Everywhere, SheetsCover, IsWalking, work}
+use Rattle.lvl_flat.proofs.Walking.{in_last}
+use Rattle.lvl_flat.proofs.Going.{walk_done, walk_past, walk_into, less_into}
+use Rattle.lvl_flat.proofs.UnderWay.{out_by_shift, out_by_vertex, names_out, entered_out}
 use Rattle.lvl_refusal.specs.Refused.{Says}
 use Rattle.lvl_refusal.proofs.Saying.{Says-map}
 use Rattle.lvl_flat.proofs.advance.advance.Goals as goal
 
 pub next_step-requires : goal.next_step-requires
 next_step-requires c =
-    let old = c.requires.visits c.args.visit (in_last c.args.stack.now.items c.args.visit) in
+    let old = c.requires.way.visits c.args.visit (in_last c.args.stack.now.items c.args.visit) in
     slice_get_within c.args.checked.now.cells c.args.visit.cell old.cell old.there
 
 pub draw_cell-requires-clause-there : goal.draw_cell-requires-clause-there
@@ -70,8 +71,9 @@ returns-in_err-draw_cell-in-Into-clause-err c =
     err_from_is_err_and c.from_residual-in_err-draw_cell-in-Into.result
     c.from_residual-in_err-draw_cell-in-Into.ensures.1 in
     rw (p.1, p.2) (Says-map (IsEnterFault s.cells c.in-Into.place c.in-Into.map) _ c.in_err-draw_cell-in-Into.field-0.0
-    (entered_out s c.in-Into.place c.in-Into.map (λ name out. out_by_vertex s c.args.sheets.now.items
-    c.args.stack.now.items c.args.visit c.in-Into.place c.in-Into.map c.in-Into.rest name c.requires into out))
+    (entered_out s c.in-Into.place c.in-Into.map (λ name out. out_by_vertex s c.requires.top Everywhere
+    (SheetsCover c.args.sheets.now.items) c.args.stack.now.items c.args.visit c.in-Into.place c.in-Into.map
+    c.in-Into.rest name c.requires.way into out))
     told)
 
 pub returns-in_ok-push_visit-in-Into-2-clause-walking : goal.returns-in_ok-push_visit-in-Into-2-clause-walking
@@ -130,5 +132,7 @@ returns-in-Out-clause-err c =
     c.deref.ensures.value ∙ ap (λ (b : PlainCell Rings). b.name) (c.cell.view_is ∙ one) in
     Says-map (TellsName out.next.name) _ c.out_of_range.result
     (λ f tells. names_out s out.next.name f tells
-    (out_by_shift s c.args.sheets.now.items c.args.stack.now.items c.args.visit c.in-Out.place c.requires out))
+    (out_by_shift s c.requires.top Everywhere (SheetsCover c.args.sheets.now.items) c.args.stack.now.items
+    c.args.visit c.in-Out.place
+    c.requires.way out))
     (subst (λ n. Says c.out_of_range.result (TellsName n)) name c.out_of_range.ensures)

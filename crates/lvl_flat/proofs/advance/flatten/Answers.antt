@@ -7,7 +7,7 @@ use Rattle.lvl_flat.specs.inside.Entering.{begun, IsDrawn, IsEnterFault}
 use Rattle.lvl_flat.specs.Flattened.{IsFlattened}
 use Rattle.lvl_flat.specs.Sheet.{PlainSheet}
 use Rattle.lvl_flat.specs.inside.Walking.{AllHaveSheets, IsWalking}
-use Rattle.lvl_flat.proofs.Going.{entered_out}
+use Rattle.lvl_flat.proofs.UnderWay.{entered_out}
 use Rattle.lvl_flat.proofs.Ending.{walk_begins, walk_ends, top_out, rings_on_empty}
 use Rattle.lvl_refusal.specs.Refused.{Says}
 use Rattle.lvl_refusal.proofs.Saying.{Says-map}

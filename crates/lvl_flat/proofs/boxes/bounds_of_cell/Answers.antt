@@ -3,7 +3,8 @@ use Rattle.std.specs.Prelude.{IfSome}
 use Rattle.std.proofs.lemmas.Option.{slice_get_read}
 use Rattle.lvl_cells.specs.Cells.{PlainCell, Rings}
 use Rattle.lvl_flat.specs.declared.bounds.Bounds.{Bounds}
-use Rattle.lvl_flat.specs.inside.Bounds.{IsWithin, Widens, HoldsOwn, HoldsPicks, HoldsChains, AreBounds}
+use Rattle.lvl_flat.specs.Boxes.{IsWithin, HoldsChains, AreBoxes}
+use Rattle.lvl_flat.specs.inside.Bounds.{Widens, HoldsOwn, HoldsPicks}
 use Rattle.lvl_flat.proofs.Holding.{own_wider, chains_from}
 use Rattle.lvl_flat.proofs.boxes.bounds_of_cell.Goals as goal
 use Rattle.lvl_grid.proofs.Paths.{origin}
@@ -33,9 +34,9 @@ returns-clause-held c =
     (λ i h li. own_wider own b (get_or cell.shapes i h) wider (shapes i h li)) below) in
     elim c.hold_references.result
     as (λ o. IfSome o (Widens own)
-    → IfSome o (λ held. AreBounds cells c.args.known.now
+    → IfSome o (λ held. AreBoxes cells c.args.known.now
     → IfSome (slice_get cells k) (λ (x : PlainCell Rings). HoldsPicks cells held x.references))
-    → IfSome o (λ held. AreBounds cells c.args.known.now → IfSome (slice_get cells k) (HoldsChains cells held))) [
+    → IfSome o (λ held. AreBoxes cells c.args.known.now → IfSome (slice_get cells k) (HoldsChains cells held))) [
       | Some b ↦ λ wider picks known. from b wider (picks known)
       | None ↦ λ wider picks. tt
     ] c.hold_references.ensures.wider c.hold_references.ensures.held

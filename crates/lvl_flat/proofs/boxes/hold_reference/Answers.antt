@@ -1,20 +1,21 @@
-use Rattle.std.proofs.Common.{All, get_or, subst}
+use Rattle.std.proofs.Common.{All, get_or, refl, subst}
 use Rattle.lvl_grid.specs.declared.point.Point.{Point}
 use Rattle.lvl_grid.specs.declared.map.Map.{Map}
 use Rattle.lvl_grid.specs.Turn.{image, shifted}
 use Rattle.lvl_cells.specs.Cells.{PlainReference}
-use Rattle.lvl_flat.specs.inside.Bounds.{IsWithin}
+use Rattle.lvl_flat.specs.Boxes.{IsWithin}
+use Rattle.lvl_flat.specs.inside.Passing.{before_shifts}
 use Rattle.lvl_flat.proofs.Holding.{moved_place}
 use Rattle.lvl_flat.proofs.boxes.hold_reference.Goals as goal
 
 pub returns-clause-held : goal.returns-clause-held
 returns-clause-held c = λ p within k e lt.
     let r : PlainReference = c.args.reference.now in
-    let m : Map = record { flip = c.flip.result; turn = c.turn.result; at = c.at.result } in
+    let m : Map = before_shifts r in
     let d : Point = get_or r.shifts k e in
     let shifts : All (IsWithin c.bounds_of_shifts.result) r.shifts =
     subst (All (IsWithin c.bounds_of_shifts.result)) c.shifts.ensures.all c.bounds_of_shifts.ensures in
     let there : IsWithin c.joined.result (shifted d (image m p)) =
     c.joined.ensures.second.holds _
     (c.in_ok-everywhere.ensures (image m p) d (c.in_ok-placed.ensures p within) (shifts k e lt)) in
-    subst (IsWithin c.joined.result) (moved_place r m d p c.flip.ensures c.turn.ensures c.at.ensures) there
+    subst (IsWithin c.joined.result) (moved_place r m d p refl refl refl) there

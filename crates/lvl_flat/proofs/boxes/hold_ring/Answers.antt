@@ -4,7 +4,8 @@ use Rattle.std.proofs.lemmas.List.Elements.{All-more}
 use Rattle.lvl_grid.specs.declared.point.Point.{Point}
 use Rattle.lvl_grid.specs.Turn.{shifted}
 use Rattle.lvl_flat.specs.declared.bounds.Bounds.{Bounds}
-use Rattle.lvl_flat.specs.inside.Bounds.{IsWithin, HoldsRing}
+use Rattle.lvl_flat.specs.Boxes.{IsWithin}
+use Rattle.lvl_flat.specs.inside.Bounds.{HoldsRing}
 use Rattle.lvl_flat.proofs.Holding.{widens_itself, widens_further, ring_wider}
 use Rattle.lvl_flat.proofs.boxes.hold_ring.Goals as goal
 

@@ -3,7 +3,7 @@ use Rattle.std.proofs.Common.{slice_get, Some}
 use Rattle.std.proofs.lemmas.List.{get_or_default, take_all}
 use Rattle.std.proofs.lemmas.List.Elements.{All-more}
 use Rattle.std.proofs.lemmas.Option.{slice_get_within, get_or_from_slice_get}
-use Rattle.lvl_cells.specs.declared.layer.Layer.{Layer}
+use Rattle.lvl_names.specs.declared.layer.Layer.{Layer}
 use Rattle.lvl_cells.specs.Cells.{PlainShape, Rings, shape_at}
 use Rattle.lvl_flat.specs.inside.Drawn.{placed_shape, IsPlaced, AreFiguresPlaced}
 use Rattle.lvl_flat.specs.Sheet.{PlainSheet}

@@ -1,5 +1,5 @@
 use Rattle.std.proofs.Common.{◌≡◌, ◌++◌, take, map}
-use Rattle.lvl_cells.specs.declared.layer.Layer.{Layer}
+use Rattle.lvl_names.specs.declared.layer.Layer.{Layer}
 use Rattle.lvl_flat.specs.inside.Drawn.{drawn_on, AreFiguresPlaced}
 use Rattle.lvl_flat.specs.Sheets.{rings_on}
 use Rattle.lvl_flat.proofs.draw.draw_shapes.Given as goal

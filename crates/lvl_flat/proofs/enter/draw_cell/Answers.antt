@@ -1,23 +1,16 @@
-use Rattle.std.proofs.Common.{◌≡◌, List, length, slice_get, Some, Err, sym, ap, subst, ◌∙◌, refl}
+use Rattle.std.proofs.Common.{◌≡◌, length, slice_get, Some, Err, sym, ap, subst, ◌∙◌, refl}
 use Rattle.std.proofs.lemmas.Option.{slice_get_read}
-use Rattle.lvl_cells.specs.declared.layer.Layer.{Layer}
+use Rattle.lvl_names.specs.declared.layer.Layer.{Layer}
 use Rattle.lvl_cells.specs.Cells.{PlainCell, Rings}
-use Rattle.lvl_flat.specs.declared.fault.FlatFault.{FlatFault}
-use Rattle.lvl_flat.specs.declared.fault.FlatFault.TheVariants.{OutOfRange}
 use Rattle.lvl_flat.specs.inside.Drawn.{drawn_on, AreFiguresPlaced}
 use Rattle.lvl_flat.specs.Flattened.{FitShapes}
 use Rattle.lvl_flat.specs.Sheets.{HaveSheets, rings_on}
 use Rattle.lvl_flat.specs.Flattened.{TellsName}
-use Rattle.lvl_flat.specs.inside.Entering.{IsEnterFault}
-use Rattle.lvl_grid.specs.declared.map.Map.{Map}
-use Rattle.std.specs.Prelude.{ℕ, ◌++◌}
+use Rattle.std.specs.Prelude.{◌++◌}
 use Rattle.lvl_refusal.specs.Refused.{Says}
 use Rattle.lvl_refusal.proofs.Saying.{Says-map}
+use Rattle.lvl_flat.proofs.UnderWay.{tells_entered}
 use Rattle.lvl_flat.proofs.enter.draw_cell.Goals as goal
-
-told : (cells : List (PlainCell Rings)) (i : ℕ) (m : Map) (c : PlainCell Rings) → slice_get cells i ≡ Some c
-    → (FitShapes m c.shapes → ⊥) → (fault : FlatFault) → TellsName c.name fault → IsEnterFault cells i m fault
-told cells i m c at out (OutOfRange name) tells = record { cell = c; there = at; named = sym tells; out = out }
 
 pub draw_shapes-requires-clause-layers : goal.draw_shapes-requires-clause-layers
 draw_shapes-requires-clause-layers c =
@@ -63,4 +56,4 @@ returns-in-Err-OutOfRange-clause-err c =
     subst (λ hs. FitShapes c.args.map.now hs → ⊥) shapes
     (c.in-Err-OutOfRange.ensures.out (ap Err c.in-Err-OutOfRange.field-0-is)) in
     Says-map (TellsName cell.name) _ c.out_of_range.result
-    (told c.args.cells.now c.args.place c.args.map.now cell at out) tells
+    (tells_entered c.args.cells.now c.args.place c.args.map.now cell at out) tells

@@ -1,11 +1,11 @@
 use Rattle.std.proofs.Common.{◌≡◌, ◌<◌, ◌≤◌, ◌+◌, ◌-◌, ◌/◌, ℕ, length, slice_get, Some, refl, sym, ap, subst, ◌∙◌}
 use Rattle.std.proofs.Common.{arith, false, IsTrue}
 use Rattle.std.proofs.lemmas.Option.{slice_get_read, slice_get_past}
-use Rattle.lvl_cells.specs.declared.layer.Layer.{Layer}
+use Rattle.lvl_names.specs.declared.layer.Layer.{Layer}
 use Rattle.lvl_flat.specs.Sheet.{PlainSheet}
-use Rattle.lvl_cells.specs.Layers.{ComesBefore}
+use Rattle.lvl_names.specs.Layers.{ComesBefore}
 use Rattle.lvl_flat.proofs.Orders.{up_to, from_on, nowhere}
-use Rattle.lvl_cells.proofs.Layers.{other_layer, tested_layer}
+use Rattle.lvl_names.proofs.Layers.{other_layer, tested_layer}
 use Rattle.lvl_flat.proofs.flat.place_of.Goals as goal
 
 pub loop-low-preserved-then-comes_before : goal.loop-low-preserved-then-comes_before

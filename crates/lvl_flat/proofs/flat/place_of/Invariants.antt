@@ -1,6 +1,6 @@
 use Rattle.std.proofs.Common.{◌≡◌, ◌<◌, ◌≤◌, ◌-◌, ℕ, length, slice_get, Some}
 use Rattle.lvl_flat.specs.Sheet.{PlainSheet}
-use Rattle.lvl_cells.specs.Layers.{ComesBefore}
+use Rattle.lvl_names.specs.Layers.{ComesBefore}
 use Rattle.lvl_flat.proofs.flat.place_of.Given as goal
 
 -- the Layers below low come before the Layer, those from high on do not

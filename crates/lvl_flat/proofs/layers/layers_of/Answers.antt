@@ -1,7 +1,7 @@
 use Rattle.std.proofs.Common.{List, All, Contains, take, ap, subst}
 use Rattle.std.proofs.lemmas.List.{take_all}
 use Rattle.std.proofs.lemmas.List.Elements.{All-more}
-use Rattle.lvl_cells.specs.declared.layer.Layer.{Layer}
+use Rattle.lvl_names.specs.declared.layer.Layer.{Layer}
 use Rattle.lvl_cells.specs.Cells.{PlainCell, Rings}
 use Rattle.lvl_flat.proofs.Listing.{AreListed, still_listed}
 use Rattle.lvl_flat.proofs.layers.layers_of.Goals as goal

@@ -1,7 +1,7 @@
 use Rattle.std.proofs.Common.{◌<◌, List, All, Contains, take, length, subst, arith}
 use Rattle.std.proofs.lemmas.List.{take_all}
 use Rattle.std.proofs.lemmas.List.Elements.{All-contains_itself, All-more}
-use Rattle.lvl_cells.specs.declared.layer.Layer.{Layer}
+use Rattle.lvl_names.specs.declared.layer.Layer.{Layer}
 use Rattle.lvl_cells.specs.Cells.{PlainShape, Rings, shape_at}
 use Rattle.lvl_flat.proofs.Listing.{among, among_those}
 use Rattle.lvl_flat.proofs.layers.push_layers.Goals as goal

@@ -2,7 +2,7 @@ use Rattle.std.proofs.Common.{◌≡◌, ◌∙◌, map, Ok, Err}
 use Rattle.std.specs.Result.{IfOk}
 use Rattle.std.proofs.lemmas.List.Filters.{dedup_is}
 use Rattle.lvl_flat.specs.Sheets.{AreSorted, ContainsAll}
-use Rattle.lvl_cells.specs.Layers.{same_layer}
+use Rattle.lvl_names.specs.Layers.{same_layer}
 use Rattle.lvl_flat.proofs.Listing.{sheets_rise, sheets_there}
 use Rattle.lvl_flat.proofs.layers.sheets_for.Goals as goal
 

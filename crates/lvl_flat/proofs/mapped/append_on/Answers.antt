@@ -1,8 +1,8 @@
 use Rattle.std.proofs.Common.{◌≡◌, ◌≢◌, ◌++◌, [], cond, List, All, set, ap, subst, ◌∙◌, arith, slice_get, Some}
 use Rattle.std.proofs.lemmas.Option.{slice_get_within, get_or_from_slice_get}
-use Rattle.lvl_cells.specs.declared.layer.Layer.{Layer}
+use Rattle.lvl_names.specs.declared.layer.Layer.{Layer}
 use Rattle.lvl_cells.specs.Cells.{Rings}
-use Rattle.lvl_cells.specs.Layers.{same_layer}
+use Rattle.lvl_names.specs.Layers.{same_layer}
 use Rattle.lvl_flat.specs.Sheet.{PlainSheet}
 use Rattle.lvl_flat.specs.Sheets.{rings_on}
 use Rattle.lvl_flat.proofs.Drawing.{layer_of, not_theirs, layers-set, rings_on-set}

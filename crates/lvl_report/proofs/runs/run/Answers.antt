@@ -1,34 +1,14 @@
 use Rattle.lvl_report.specs.Texts.{text_of}
 use Rattle.lvl_report.specs.Writing.{status_of}
-use Rattle.lvl_report.proofs.Running.{was_written, was_begun}
+use Rattle.lvl_report.proofs.Running.{written_as, begun_as, whole_answer}
 use Rattle.lvl_report.proofs.runs.run.Goals as goal
 
 pub returns-clause-written : goal.returns-clause-written
 returns-clause-written g c =
-    let found = c.compare_files-answer.ensures in
-    was_written _ text_of status_of _ _ c.compare_files-answer.result c.tell.result
-    (record {
-      compared = found.compared;
-      first_refused = found.first_refused;
-      second_refused = found.second_refused;
-      first_early = found.first_early;
-      second_early = found.second_early;
-      first_reads = found.first_reads;
-      second_reads = found.second_reads;
-    })
-    c.tell.ensures.whole c.tell.ensures.status
+    written_as text_of status_of _ _ c.run_view-2.result (λ answer. whole_answer _ c.whole.ensures _ _ answer)
+    c.run_view-2.ensures.written
 
 pub returns-clause-begun : goal.returns-clause-begun
 returns-clause-begun g c =
-    let found = c.compare_files-answer.ensures in
-    was_begun _ text_of _ _ c.compare_files-answer.result c.tell.result
-    (record {
-      compared = found.compared;
-      first_refused = found.first_refused;
-      second_refused = found.second_refused;
-      first_early = found.first_early;
-      second_early = found.second_early;
-      first_reads = found.first_reads;
-      second_reads = found.second_reads;
-    })
-    c.tell.ensures.begun
+    begun_as text_of _ _ c.run_view-2.result (λ answer. whole_answer _ c.whole.ensures _ _ answer)
+    c.run_view-2.ensures.begun

@@ -5,8 +5,8 @@ use Rattle.lvl_report.proofs.runs.run_view.Goals as goal
 
 pub returns-clause-written : goal.returns-clause-written
 returns-clause-written g c =
-    let found = c.compare_files_in-answer.ensures in
-    was_written _ text_of status_of _ _ c.compare_files_in-answer.result c.tell.result
+    let found = c.compare_files-answer.ensures in
+    was_written _ text_of status_of _ _ c.compare_files-answer.result c.tell.result
     (record {
       compared = found.compared;
       first_refused = found.first_refused;
@@ -20,8 +20,8 @@ returns-clause-written g c =
 
 pub returns-clause-begun : goal.returns-clause-begun
 returns-clause-begun g c =
-    let found = c.compare_files_in-answer.ensures in
-    was_begun _ text_of _ _ c.compare_files_in-answer.result c.tell.result
+    let found = c.compare_files-answer.ensures in
+    was_begun _ text_of _ _ c.compare_files-answer.result c.tell.result
     (record {
       compared = found.compared;
       first_refused = found.first_refused;

@@ -1,5 +1,5 @@
 use Rattle.std.proofs.Common.{ℕ, arith, refl}
-use Rattle.lvl_cells.specs.declared.layer.Layer.{Layer}
+use Rattle.lvl_names.specs.declared.layer.Layer.{Layer}
 use Rattle.lvl_view.specs.Texts.{IsNumber}
 use Rattle.lvl_view.proofs.Cutting.{none_uncut, none_first, none_second, made, number_lacks}
 use Rattle.lvl_view.proofs.map.layer_of.Goals as goal

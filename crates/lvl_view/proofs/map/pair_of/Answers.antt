@@ -1,5 +1,5 @@
 use Rattle.std.proofs.Common.{ℕ, List, arith, refl}
-use Rattle.lvl_cells.specs.declared.layer.Layer.{Layer}
+use Rattle.lvl_names.specs.declared.layer.Layer.{Layer}
 use Rattle.lvl_view.specs.declared.map.LayerPair.{LayerPair}
 use Rattle.lvl_view.specs.Texts.{IsNumber, IsLayerText}
 use Rattle.lvl_view.proofs.Cutting.{Lacks, none_uncut, none_first, none_second, made, number_lacks, joined_lacks}

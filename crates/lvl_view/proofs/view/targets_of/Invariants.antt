@@ -1,6 +1,6 @@
 use Rattle.std.proofs.Common.{take}
 use Rattle.std.specs.List.{IsDistinct}
-use Rattle.lvl_cells.specs.Layers.{same_layer}
+use Rattle.lvl_names.specs.Layers.{same_layer}
 use Rattle.lvl_view.specs.Views.{sources}
 use Rattle.lvl_view.specs.inside.Reading.{AreTargets}
 use Rattle.lvl_view.proofs.view.targets_of.Given as goal

@@ -1,5 +1,5 @@
 use Rattle.std.proofs.Common.{◌∙◌, rules}
-use Rattle.oasis_library.proofs.Readable.{refused_tells, refused_none, early_left}
+use Rattle.oasis_library.proofs.Readable.{refused_tells, refused_none, unread_left, early_left}
 use Rattle.oasis_library.proofs.read.read_oasis.Goals as goal
 
 pub returns-clause-refused : goal.returns-clause-refused
@@ -15,4 +15,9 @@ returns-clause-none g c =
 pub returns-clause-early : goal.returns-clause-early
 returns-clause-early g c = λ xs k.
     early_left xs _ _ c.read_library-read.result
+    (c.read_library-read.ensures.refused xs (c.new-input.ensures.bytes ∙ k)) (search rules)
+
+pub returns-clause-unread : goal.returns-clause-unread
+returns-clause-unread g c = λ xs k.
+    unread_left xs _ _ c.read_library-read.result
     (c.read_library-read.ensures.refused xs (c.new-input.ensures.bytes ∙ k)) (search rules)

@@ -1,11 +1,11 @@
 use Rattle.std.proofs.Common.{subst}
 use Rattle.lvl_grid.specs.Turn.{image}
-use Rattle.lvl_flat.specs.inside.Bounds.{IsWithin}
+use Rattle.lvl_flat.specs.Boxes.{IsWithin}
 use Rattle.lvl_flat.proofs.Corners.{placed_within}
 use Rattle.lvl_flat.proofs.bounds.Bounds.placed.Goals as goal
 
-pub returns : goal.returns
-returns c = λ p w.
+pub returns-clause-held : goal.returns-clause-held
+returns-clause-held c = λ p w.
     let low : IsWithin c.joined.result (image c.args.map.now c.args.self.low) =
     subst (IsWithin c.joined.result) c.in_ok-low.ensures.1
     (c.joined.ensures.first.holds c.in_ok-low.low c.around.ensures) in

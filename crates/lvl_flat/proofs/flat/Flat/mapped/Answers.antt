@@ -1,13 +1,14 @@
 use Rattle.std.proofs.Common.{◌≡◌, ◌↔◌, ◌++◌, ◌∷◌, [], List, map, cond, Contains, sym, ap, subst, ◌∙◌, append_assoc}
 use Rattle.std.proofs.lemmas.List.{append-nil, nil_from_length}
 use Rattle.std.proofs.lemmas.Result.{IfOk-weaker}
-use Rattle.lvl_cells.specs.declared.layer.Layer.{Layer}
+use Rattle.lvl_names.specs.declared.layer.Layer.{Layer}
 use Rattle.lvl_cells.specs.Cells.{Rings}
 use Rattle.lvl_cells.specs.Coverage.{RingsCover}
-use Rattle.lvl_cells.specs.Layers.{same_layer}
+use Rattle.lvl_names.specs.Layers.{same_layer}
 use Rattle.lvl_view.specs.declared.map.LayerPair.{LayerPair}
 use Rattle.lvl_view.specs.Views.{target_of}
-use Rattle.lvl_flat.specs.Mapped.{IsCoveredFrom, mapped_on}
+use Rattle.lvl_flat.specs.Mapped.{mapped_on}
+use Rattle.lvl_view.specs.Moved.{IsMoved}
 use Rattle.lvl_flat.specs.Sheet.{PlainSheet}
 use Rattle.lvl_flat.specs.Sheets.{ContainsAll, rings_on}
 use Rattle.lvl_flat.proofs.Drawing.{layer_of, sorted_alike}
@@ -80,7 +81,7 @@ returns-clause-covers c =
     ap (rings_on layer) e
     ∙ (rings_on-filled c.loop-sheet.mapped.items c.loop-sheet.invariant.sorted layer
     ∙ (c.loop-sheet.invariant.rings layer ∙ ap (mapped_on pairs layer) all)) in
-    subst (λ (rs : Rings). RingsCover rs s ↔ IsCoveredFrom pairs c.args.self layer s) (sym same)
+    subst (λ (rs : Rings). RingsCover rs s ↔ IsMoved pairs (λ l. RingsCover (rings_on l c.args.self)) layer s) (sym same)
     (mapped_covers pairs c.args.self layer s c.into_sheets-sheets.ensures.in_order.sorted)) c.filled.ensures
 
 pub returns-clause-rings : goal.returns-clause-rings

@@ -1,5 +1,5 @@
 use Rattle.std.proofs.Common.{◌≡◌, ◌++◌, map}
-use Rattle.lvl_cells.specs.declared.layer.Layer.{Layer}
+use Rattle.lvl_names.specs.declared.layer.Layer.{Layer}
 use Rattle.lvl_view.specs.Views.{target_of}
 use Rattle.lvl_flat.specs.Mapped.{mapped_on}
 use Rattle.lvl_flat.specs.Sheets.{AreSorted, ContainsAll, rings_on}

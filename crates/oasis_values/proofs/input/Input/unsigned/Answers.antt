@@ -13,6 +13,7 @@ returns-in-Ok g c = record {
       c.if-self.false c.if-self.false c.skip.ensures refl c.find_integer.ensures.bytes c.in-Ok.ensures.had.0
       c.in-Ok.ensures.had.1 c.in-Ok.ensures.finds c.in-Ok.ensures.errors c.find_integer.ensures.same;
   none = record { none = λ live xs k. tt };
+  at = tt;
 }
 
 pub returns-in-Err : goal.returns-in-Err
@@ -25,4 +26,5 @@ returns-in-Err g c = record {
     none = λ live xs k rule x. let q = (c.in-Err.ensures.finds.1 xs k).breached rule in
         breached_none IsUnsigned xs q.count c.in-Err.fault x unsigned_free q.front;
   };
+  at = refl;
 }

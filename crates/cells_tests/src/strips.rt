@@ -1,0 +1,150 @@
+//! Two libraries compared strip by strip.
+use lvl_cells::{Builder, Reference, check};
+use lvl_compare::difference_by_strips;
+use lvl_flat::Fitted;
+use lvl_grid::{Point, Ring, Square, Turn};
+use lvl_names::{Layer, Name, Offsets};
+use lvl_region::Side;
+use lvl_view::View;
+use std::alloc::Global;
+use std::test::Fail;
+
+const METAL: Layer = Layer {
+    layer: 1,
+    datatype: 0,
+};
+
+const VIA: Layer = Layer {
+    layer: 2,
+    datatype: 0,
+};
+
+/// A square of one step that a top draws beside its array, or none.
+type Extra = Option<(Layer, i64, i64)>;
+
+/// A cell A that draws a rectangle of 4 by 2, and a top that places it 7 by 5 times, 10 apart each
+/// way, and draws these squares.
+fn arrayed(alloc: Global, extras: [Extra; 2]) -> Result<Fitted, Fail> {
+    let ring = Ring::rectangle(alloc, Point { x: 0, y: 0 }, Point { x: 4, y: 2 })?;
+    let mut builder = Builder::new(alloc);
+    builder.open(alloc, Vec::from_slice(alloc, b"A")?);
+    builder.add_ring(METAL, ring.points(), &Offsets::single())?;
+    builder.close(alloc)?;
+    builder.open(alloc, Vec::from_slice(alloc, b"TOP")?);
+    let across = Point { x: 10, y: 0 };
+    let up = Point { x: 0, y: 10 };
+    let shifts = Offsets::lattice(across, 7, up, 5).ok_or("lattice")?;
+    let name = Name::new(Vec::from_slice(alloc, b"A")?)?;
+    let placed = Reference::new(name, false, Turn::R0, Point { x: 0, y: 0 }, shifts);
+    builder.add_reference(placed.ok_or("places")?)?;
+    for (layer, x, y) in extras.into_iter().flatten() {
+        let low = Point { x, y };
+        let high = low.offset(1, 1).ok_or("range")?;
+        let square = Ring::rectangle(alloc, low, high)?;
+        builder.add_ring(layer, square.points(), &Offsets::single())?;
+    }
+    builder.close(alloc)?;
+    Ok(Fitted::new(alloc, check(alloc, builder.finish(), None)?)?)
+}
+
+/// What two such tops differ in, with so many points a strip at most.
+fn difference(
+    alloc: Global,
+    ours: [Extra; 2],
+    theirs: [Extra; 2],
+    view: &View,
+    most: usize,
+) -> Result<Option<(Layer, Square, Side)>, Fail> {
+    let first = arrayed(alloc, ours)?;
+    let second = arrayed(alloc, theirs)?;
+    Ok(difference_by_strips(alloc, &first, &second, view, most)?)
+}
+
+#[test]
+fn differences(rt: HostRuntime) -> Result<(), Fail> {
+    let low = Some((METAL, 5, 5));
+    let right = Some((METAL, 66, 4));
+    let via = Some((VIA, -3, -9));
+    let inside = Some((METAL, 21, 11));
+    let far = Some((VIA, i64::MIN, 0));
+    let none = None;
+    let rows = [
+        ("the same", [low, none], [none, low], none, Side::First),
+        (
+            "covered already",
+            [inside, none],
+            [none, none],
+            none,
+            Side::First,
+        ),
+        ("one more", [none, none], [low, none], low, Side::Second),
+        (
+            "the lower row",
+            [low, right],
+            [none, none],
+            right,
+            Side::First,
+        ),
+        (
+            "the lesser layer",
+            [via, low],
+            [none, none],
+            low,
+            Side::First,
+        ),
+        (
+            "each in one",
+            [low, none],
+            [right, none],
+            right,
+            Side::Second,
+        ),
+        ("far away", [none, none], [none, far], far, Side::Second),
+    ];
+    let whole = View::whole(rt.alloc());
+    for (name, ours, theirs, want, side) in rows {
+        // Strips of one column each, of some, and all at once.
+        for most in [0, 3, 16, 40, usize::MAX] {
+            let found = difference(rt.alloc(), ours, theirs, &whole, most)?;
+            let want = want.map(|(layer, x, y)| (layer, Square { x, y }, side));
+            assert_eq!(rt; found, want, "{name} {most}");
+        }
+    }
+    Ok(())
+}
+
+#[test]
+fn differences_under_views(rt: HostRuntime) -> Result<(), Fail> {
+    let alloc = rt.alloc();
+    let low = Some((METAL, 5, 5));
+    let right = Some((METAL, 66, 4));
+    let via = Some((VIA, 5, 5));
+    // The map and the window of a view, what each side draws beside its array, and what is found.
+    let rows = [
+        (None, Some("x=0..20,y=0..5"), low, None, None),
+        (None, Some("x=5..6,y=5..6"), low, None, low),
+        (None, Some("x=60..70,y=0..9"), low, right, right),
+        (Some("2/0=1/0"), None, low, via, None),
+        (Some("1/0=2/0"), None, low, low, Some((METAL, 0, 0))),
+        (Some("2/0=1/0"), Some("x=60..70,y=0..9"), right, via, right),
+    ];
+    for (map, window, ours, theirs, want) in rows {
+        let view = View::read(alloc, map, window)?;
+        for most in [0, 16, 40, usize::MAX] {
+            let found = difference(alloc, [ours, None], [theirs, None], &view, most)?;
+            let found = found.map(|(layer, square, _)| (layer, square));
+            let want = want.map(|(layer, x, y)| (layer, Square { x, y }));
+            assert_eq!(rt; found, want, "{map:?} {window:?} {most}");
+        }
+    }
+    Ok(())
+}
+
+#[test]
+fn growths_by_strips(rt: HostRuntime) -> Result<(), Fail> {
+    let low = Some((METAL, 5, 5));
+    let whole = View::whole(rt.alloc());
+    let found = difference(rt.alloc(), [low, None], [None, None], &whole, 40)?;
+    assert_eq!(rt; found, Some((METAL, Square { x: 5, y: 5 }, Side::First)));
+    Ok(())
+}

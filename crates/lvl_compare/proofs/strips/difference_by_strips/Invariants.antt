@@ -1,0 +1,20 @@
+use Rattle.std.proofs.Common.{◌≡◌, ◌<◌, ◌≤ℤ◌}
+use Rattle.lvl_flat.specs.Flattened.{TopCovers}
+use Rattle.lvl_view.specs.Moved.{IsMoved}
+use Rattle.lvl_compare.specs.inside.Strips.{IsFoundIn, IsLeftIn, from_on}
+use Rattle.lvl_compare.proofs.InStrips.{columns}
+use Rattle.lvl_compare.proofs.strips.difference_by_strips.Given as goal
+
+-- what is found is the first difference left of what is still to be looked at
+abbrev pub invariant-loop-rest : goal.invariant-loop-rest
+invariant-loop-rest l = record {
+  rest : l.rest ≡ from_on l.rest.x0 l.initial.rest;
+  from : l.initial.rest.x0 ≤ℤ l.rest.x0;
+  wide : 0 < l.pace.width;
+  found : IsFoundIn (TopCovers l.first) (IsMoved l.view.pairs (TopCovers l.second)) (IsLeftIn l.initial.rest l.rest.x0)
+      l.found;
+}
+
+-- fewer columns are left
+abbrev pub decreases-loop-rest : goal.decreases-loop-rest
+decreases-loop-rest l = columns l.rest.x0 l.rest.x1

@@ -1,0 +1,260 @@
+//! Two libraries compared strip by strip, so that only what is drawn in one strip is held.
+ghost use Rattle.std.specs.Prelude.{◌≡◌, ◌<◌, ◌<ℤ◌, ◌≤ℤ◌, ◌↔◌, IsTrue, IfOk, IfSome, IfNone};
+ghost use Rattle.std.specs.Int.{int_min, int_max};
+ghost use Rattle.lvl_grid.specs.declared.point.Square.{Square as GridSquare};
+ghost use Rattle.lvl_grid.specs.Clip.{IsWithin};
+ghost use Rattle.lvl_columns.specs.Windows.{IsShown, window_of};
+ghost use Rattle.lvl_flat.specs.Flattened.{TopCovers};
+ghost use Rattle.lvl_view.specs.Moved.{IsMoved};
+ghost use Rattle.lvl_compare.specs.Tops.{DrawSame, IsFirstDifference};
+ghost use Rattle.lvl_compare.specs.inside.Strips.{Precedes, IsFoundIn, IsLeast, IsLeftIn, seen_of, up_to};
+
+use crate::flats::first_difference;
+use lvl_flat::{Fitted, Flat};
+use lvl_grid::{Square, Window};
+use lvl_names::{Layer, comes_before};
+use lvl_region::Side;
+use lvl_view::View;
+use std::alloc::{AllocError, Global};
+
+/// How many strips are tried with one budget of points. After them the budget is doubled, so that no
+/// layout takes many more strips than it has points.
+const MOST_TRIES: u32 = 256;
+
+/// A Layer, a square that one side alone covers there, and the side.
+type Found = (Layer, Square, Side);
+
+/// How wide the next strip may be, how many points a side's rings may have in it, and how many strips
+/// may be tried with that many.
+#[derive(Clone, Copy, Debug)]
+struct Pace {
+    width: u64,
+    points: usize,
+    tries: u32,
+}
+
+impl Pace {
+    /// After a strip that was as wide and had as many points on a side: as wide again, or twice as wide
+    /// where it had half of what it might at most.
+    fn after(self, width: u64, points: usize) -> Pace
+        ensures { 0 < width → 0 < result.width }
+    {
+        let width = if points <= self.points / 2 {
+            width.saturating_mul(2)
+        } else {
+            width
+        };
+        self.next(width)
+    }
+
+    /// The next strip, of that width at most.
+    fn next(self, width: u64) -> Pace
+        ensures { result.width ≡ width }
+    {
+        if self.tries > 0 {
+            return Pace {
+                width,
+                points: self.points,
+                tries: self.tries - 1,
+            };
+        }
+        Pace {
+            width,
+            points: self.points.saturating_mul(2).saturating_add(1),
+            tries: MOST_TRIES,
+        }
+    }
+}
+
+/// What two layouts differ in within a strip, which ends at an abscissa, and how the next is tried.
+#[derive(Clone, Copy, Debug)]
+struct Strip {
+    found: Option<Found>,
+    end: i64,
+    pace: Pace,
+}
+
+/// Whether the first comes before the second, by Layer and then by square.
+fn precedes(first: &Found, second: &Found) -> bool
+    ensures { IsTrue result ↔ Precedes first.now.0 first.now.1 second.now.0 second.now.1 }
+{
+    comes_before(first.0, second.0) || first.0 == second.0 && first.1.is_before(second.1)
+}
+
+/// The first of the two that are found.
+fn least(first: Option<Found>, second: Option<Found>) -> Option<Found>
+    ensures { IsLeast first second result }
+{
+    match (first, second) {
+        (Some(a), Some(b)) => Some(if precedes(&b, &a) { b } else { a }),
+        (Some(a), None) => Some(a),
+        (None, other) => other,
+    }
+}
+
+/// A window that has the squares of both.
+fn joined(first: Window, second: Window) -> Window
+    ensures { result ≡ record {
+      x0 = int_min first.x0 second.x0;
+      y0 = int_min first.y0 second.y0;
+      x1 = int_max first.x1 second.x1;
+      y1 = int_max first.y1 second.y1;
+    } }
+{
+    Window {
+        x0: first.x0.min(second.x0),
+        y0: first.y0.min(second.y0),
+        x1: first.x1.max(second.x1),
+        y1: first.y1.max(second.y1),
+    }
+}
+
+/// What two windows share, if the second is given; else the first.
+fn shared(first: Window, second: Option<&Window>) -> Window
+    ensures { result ≡ seen_of (window_of second.entry) first }
+{
+    let Some(second) = second else {
+        return first;
+    };
+    Window {
+        x0: first.x0.max(second.x0),
+        y0: first.y0.max(second.y0),
+        x1: first.x1.min(second.x1),
+        y1: first.y1.min(second.y1),
+    }
+}
+
+/// How many points the rings of a flat layout have.
+fn points_of(flat: &Flat) -> usize {
+    let mut points: usize = 0;
+    for place in 0..flat.len() {
+        if let Some(layer) = flat.layer(place) {
+            points = points.saturating_add(flat.rings(layer).points().len());
+        }
+    }
+    points
+}
+
+/// What two layouts differ in within a strip, and how many points of rings the fuller side has there:
+/// `most` at most, else it is out of memory.
+fn difference_of(
+    alloc: Global,
+    first: &Fitted,
+    second: &Fitted,
+    view: &View,
+    strip: &Window,
+    most: usize,
+) -> Result<(Option<Found>, usize), AllocError>
+    ensures { IfOk result (λ parts. IsFoundIn (TopCovers first.now)
+        (IsMoved view.now.pairs (TopCovers second.now)) (IsWithin strip.now) parts.0) }
+{
+    let ours = first.within(alloc, strip, most)?;
+    let theirs = second.within(alloc, strip, most)?;
+    let points = points_of(&ours).max(points_of(&theirs));
+    let mapped = theirs.mapped(alloc, view)?;
+    let found = first_difference(alloc, &ours, &mapped)?;
+    Ok((found, points))
+}
+
+/// Where a strip of that width at most ends that begins where the window does.
+fn end_of(window: &Window, width: u64) -> i64
+    requires wide { 0 < width }
+    requires squares { window.now.x0 <ℤ window.now.x1 }
+    ensures further { window.now.x0 <ℤ result }
+    ensures inside { result ≤ℤ window.now.x1 }
+{
+    window.x0.saturating_add_unsigned(width).min(window.x1)
+}
+
+/// The squares of a window up to an abscissa.
+fn front(window: &Window, end: i64) -> Window
+    ensures { result ≡ up_to end window.now }
+{
+    Window {
+        x0: window.x0,
+        y0: window.y0,
+        x1: end,
+        y1: window.y1,
+    }
+}
+
+/// What two layouts differ in within the first strip of a window that is not too full, as wide as the pace
+/// allows at most. A strip that is one square wide is taken whole.
+fn first_strip(
+    alloc: Global,
+    first: &Fitted,
+    second: &Fitted,
+    view: &View,
+    window: &Window,
+    pace: Pace,
+) -> Result<Strip, AllocError>
+    requires wide { 0 < pace.width }
+    requires squares { window.now.x0 <ℤ window.now.x1 }
+    ensures found { IfOk result (λ strip. IsFoundIn (TopCovers first.now)
+        (IsMoved view.now.pairs (TopCovers second.now)) (IsLeftIn window.now strip.end) strip.found) }
+    ensures further { IfOk result (λ strip. window.now.x0 <ℤ strip.end) }
+    ensures inside { IfOk result (λ strip. strip.end ≤ℤ window.now.x1) }
+    ensures wide { IfOk result (λ strip. 0 < strip.pace.width) }
+{
+    let end = end_of(window, pace.width);
+    let strip = front(window, end);
+    if pace.width == 1 {
+        let (found, points) = difference_of(alloc, first, second, view, &strip, usize::MAX)?;
+        return Ok(Strip {
+            found,
+            end,
+            pace: pace.after(1, points),
+        });
+    }
+    if let Ok((found, points)) = difference_of(alloc, first, second, view, &strip, pace.points) {
+        return Ok(Strip {
+            found,
+            end,
+            pace: pace.after(pace.width, points),
+        });
+    }
+    first_strip(
+        alloc,
+        first,
+        second,
+        view,
+        window,
+        pace.next(pace.width / 2),
+    )
+}
+
+/// The first Layer, and on it the first square, by y and then x, that one of two layouts alone draws,
+/// with its side; None where both draw the same squares on every Layer. The second is seen with its Layers
+/// mapped by the view, and where the view has a window only its squares count.
+///
+/// What is drawn is not held whole: it is looked at in strips along x, so wide that neither side's rings
+/// have more than `most` points in one. After 256 strips that is doubled, so that the strips are never many
+/// more than the points. A strip one square wide is held whole. Fails only when out of memory.
+pub fn difference_by_strips(
+    alloc: Global,
+    first: &Fitted,
+    second: &Fitted,
+    view: &View,
+    most: usize,
+) -> Result<Option<(Layer, Square, Side)>, AllocError>
+    ensures same { IfOk result (λ found. IfNone found
+        (DrawSame (IsShown view.now.window) (TopCovers first.now) (IsMoved view.now.pairs (TopCovers second.now)))) }
+    ensures differ { IfOk result (λ found. IfSome found
+        (λ at. IsFirstDifference (IsShown view.now.window) (TopCovers first.now)
+        (IsMoved view.now.pairs (TopCovers second.now)) at.0 at.1 at.2)) }
+{
+    let mut rest = shared(joined(first.extent(), second.extent()), view.window());
+    let mut pace = Pace {
+        width: u64::MAX,
+        points: most,
+        tries: MOST_TRIES,
+    };
+    let mut found = None;
+    while rest.x0 < rest.x1 {
+        let strip = first_strip(alloc, first, second, view, &rest, pace)?;
+        found = least(found, strip.found);
+        rest.x0 = strip.end;
+        pace = strip.pace;
+    }
+    Ok(found)
+}

@@ -1,0 +1,14 @@
+pub mod IntTests
+pub mod Changes
+pub mod Nets
+pub mod Sums
+pub mod Orders
+pub mod Totals
+pub mod Deciding
+pub mod Spelling
+pub mod Spans
+pub mod Vectors
+pub mod Pairs
+pub mod Heads
+pub mod Lines
+pub mod MaskLines

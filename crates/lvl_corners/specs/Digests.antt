@@ -1,0 +1,29 @@
+-- What is hashed of a mask.
+use Rattle.std.specs.Prelude.{◌≡◌, ◌≢◌, ℕ, ◌-◌, ◌^◌, min, List, [], length, Option, None, Some, All}
+use Rattle.sha2.specs.Hashers.{Holds256}
+use Rattle.sha2.specs.Sha256.{sha256}
+use Rattle.lvl_grid.specs.Winding.{SomeCovers}
+use Rattle.lvl_names.specs.declared.layer.Layer.{Layer}
+use Rattle.lvl_corners.specs.declared.corner.Corner.{Corner}
+use Rattle.lvl_corners.specs.declared.digest.LayerDigest.{LayerDigest}
+use Rattle.lvl_corners.specs.declared.mask.MaskHash.{MaskHash}
+use Rattle.lvl_corners.specs.Corners.{AreCornersOf, FitsCorner}
+use Rattle.lvl_corners.specs.Bytes.{layer_bytes}
+use Rattle.lvl_corners.specs.Masks.{Drawn, AreMaskBytes}
+
+-- the digest is that of the bytes of a Layer with these corners; there is none where there are no corners
+abbrev pub IsDigestFor : Layer → List Corner → Option LayerDigest → Type 0
+IsDigestFor layer corners None = corners ≡ []
+IsDigestFor layer corners (Some d) =
+    (corners ≢ []) × (d.corners ≡ min (length corners) (2 ^ 64 - 1))
+    × (d.sha256 ≡ sha256 (layer_bytes layer.layer layer.datatype corners))
+
+-- the digest of what is drawn on a Layer
+abbrev pub IsDigestOf : Drawn → Option LayerDigest → Type 0
+IsDigestOf d digest =
+    (corners : List Corner) × AreCornersOf (SomeCovers d.rings) corners × All FitsCorner corners
+    × IsDigestFor d.layer corners digest
+
+-- the bytes of this mask are hashed
+abbrev pub HasHashed : MaskHash → List Drawn → Type 0
+HasHashed hash mask = (bytes : List ℕ) × AreMaskBytes mask bytes × Holds256 hash.hasher bytes

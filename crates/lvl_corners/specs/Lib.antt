@@ -1,0 +1,5 @@
+pub mod Corners
+pub mod Bytes
+pub mod Masks
+pub mod Digests
+pub mod inside

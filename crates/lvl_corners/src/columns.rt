@@ -1,0 +1,124 @@
+//! The corners of what rings cover, column by column.
+ghost use Rattle.std.specs.Prelude.{◌≡◌, ◌≤◌, ◌+◌, ◌-◌, ◌*◌, ◌^◌, ◌<ℤ◌, negsuc, true, List, length, flat_map};
+ghost use Rattle.std.specs.Prelude.{OnOk, IfOk, IfSome, IsTrue, All, ◌↔◌};
+ghost use Rattle.lvl_grid.specs.declared.point.Square.{Square as GridSquare};
+ghost use Rattle.lvl_grid.specs.Clip.{IsIn};
+ghost use Rattle.lvl_grid.specs.Winding.{SomeCovers};
+ghost use Rattle.lvl_corners.specs.declared.corner.Corner.{Corner as GridCorner};
+ghost use Rattle.lvl_corners.specs.Corners.{AreCornersOf, FitsCorner};
+ghost use Rattle.lvl_corners.specs.inside.Spans.{AreCornersIn, KeepsBudget, spanned};
+
+use crate::send::send_swept;
+use crate::sink::CornerSink;
+use crate::span::Span;
+use lvl_columns::cut_at;
+use lvl_grid::{Part, Rings};
+use lvl_simplify::simplified;
+use std::alloc::{AllocError, Global};
+
+/// How many columns were made, and how many may be.
+#[derive(Clone, Copy, Debug)]
+pub struct Budget {
+    pub made: u64,
+    pub most: u64,
+}
+
+impl Budget {
+    /// Two columns for each point of the rings.
+    fn of(rings: &Rings) -> Budget
+        ensures none { result.made ≡ 0 }
+        ensures most { result.most ≤ 2 * length (flat_map (λ ring. ring) rings.now) }
+    {
+        Budget {
+            made: 0,
+            most: (rings.points().len() as u64).saturating_mul(2),
+        }
+    }
+
+    /// Whether two columns more may be made.
+    fn has_two(&self) -> bool
+        ensures { IsTrue result → self.now.made + 2 ≤ self.now.most }
+    {
+        self.made < self.most && self.most - self.made >= 2
+    }
+}
+
+/// An abscissa of the span at which the rings are cut that come of a number of cuts, one within the other,
+/// if a cut is worth while. It is not the first one of the span, since the right half would then be as
+/// wide as the column; so there is one before it.
+fn cut_of(alloc: Global, rings: &Rings, span: &Span, depth: u32) -> Result<Option<i64>, AllocError>
+    ensures within { IfOk result (λ cut. IfSome cut (λ at. spanned span.now at ≡ true)) }
+    ensures inner { IfOk result (λ cut. IfSome cut (λ at. negsuc (2 ^ 63 - 1) <ℤ at)) }
+{
+    let nothing = Rings::new(alloc);
+    let Some(at) = cut_at(alloc, rings, &nothing, depth)? else {
+        return Ok(None);
+    };
+    if span.has_around(at) {
+        return Ok(Some(at));
+    }
+    Ok(None)
+}
+
+/// What is left of the rings in a part, joined where it spans the part.
+fn part_of(alloc: Global, rings: &Rings, part: &Part) -> Result<Rings, AllocError>
+    ensures { IfOk result
+        (λ clipped. (s : GridSquare) → SomeCovers clipped s ↔ (IsIn part.now s × SomeCovers rings.now s)) }
+{
+    simplified(alloc, Rings::clipped(alloc, rings, part)?)
+}
+
+/// How many cuts are made, one within the other, at most.
+const DEPTH: u32 = 64;
+
+/// Hands the corners of what some ring covers, at the abscissas of a span, on to a sink, in order of x and
+/// then y. A column that is cut is swept one square wider on the left, since the change at a point depends
+/// on the squares to its left; `depth` is how many cuts made it, one within the other.
+fn send_column<S: CornerSink>(
+    alloc: Global,
+    rings: &Rings,
+    span: Span,
+    depth: u32,
+    budget: &mut Budget,
+    sink: &mut S,
+) -> Result<(), AllocError>
+    requires { budget.old.made ≤ budget.old.most }
+    ensures sent { OnOk result ((corners : List GridCorner)
+        × S.takes sink.old sink.new corners
+        × All FitsCorner corners
+        × AreCornersIn (SomeCovers rings.now) span corners) }
+    ensures budget { OnOk result (KeepsBudget budget.old budget.new) }
+{
+    if depth >= DEPTH || !budget.has_two() {
+        return send_swept(alloc, rings, span, sink);
+    }
+    let Some(at) = cut_of(alloc, rings, &span, depth)? else {
+        return send_swept(alloc, rings, span, sink);
+    };
+    budget.made += 2;
+    let left = part_of(alloc, rings, &Part::Left(at))?;
+    send_column(alloc, &left, span.left_of(at), depth + 1, budget, sink)?;
+    drop(left);
+    let right = part_of(alloc, rings, &Part::Right(at - 1))?;
+    send_column(alloc, &right, span.right_from(at), depth + 1, budget, sink)?;
+    Ok(())
+}
+
+/// Hands the corners of what some ring covers on to a sink, in order of x and then y, and gives how many
+/// columns were made to find them: at most two for each point of the rings. All corners are points of 64
+/// bits. Fails only when out of memory.
+pub fn send_corners<S: CornerSink>(
+    alloc: Global,
+    rings: &Rings,
+    sink: &mut S,
+) -> Result<u64, AllocError>
+    ensures sent { OnOk result ((corners : List GridCorner)
+        × S.takes sink.old sink.new corners
+        × All FitsCorner corners
+        × AreCornersOf (SomeCovers rings.now) corners) }
+    ensures columns { IfOk result (λ columns. columns ≤ 2 * length (flat_map (λ ring. ring) rings.now)) }
+{
+    let mut budget = Budget::of(rings);
+    send_column(alloc, rings, Span::whole(), 0, &mut budget, sink)?;
+    Ok(budget.made)
+}

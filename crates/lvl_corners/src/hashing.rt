@@ -1,0 +1,97 @@
+//! Corners hashed as they come, some at a time.
+ghost use Rattle.std.specs.Prelude.{◌≡◌, ◌++◌, ◌-◌, ◌^◌, [], ℕ, List, min, IfOk, OnOk};
+ghost use Rattle.sha2.specs.Hashers.{Holds256};
+ghost use Rattle.lvl_corners.specs.Bytes.{corner_bytes};
+ghost use Rattle.lvl_corners.specs.inside.Hashing.{HasTaken, HoldsWith, HoldsSame};
+ghost use Rattle.lvl_corners.specs.inside.Sinks.{hasher_takes_none, hasher_takes_both};
+
+use crate::corner::Corner;
+use crate::sink::CornerSink;
+use sha2::{Digest, Sha256};
+use std::alloc::{AllocError, Global};
+
+/// How many bytes are hashed at a time, about: 64 corners, in 17 blocks of the hash.
+const PENDING: usize = 1088;
+
+/// How many more bytes there is room for: the first line of a Layer, or a corner.
+const ROOM: usize = 64;
+
+/// Appends the bytes of a corner.
+fn push_corner(bytes: &mut Vec<u8>, corner: Corner) -> Result<(), AllocError>
+    ensures { OnOk result (bytes.new.items ≡ bytes.old.items ++ corner_bytes corner) }
+{
+    bytes.extend_from_slice(&corner.x.to_be_bytes())?;
+    bytes.extend_from_slice(&corner.y.to_be_bytes())?;
+    bytes.extend_from_slice(&corner.change.to_be_bytes())?;
+    Ok(())
+}
+
+/// The hashers of a Layer and of the mask, the bytes that both have still to take, and the number of
+/// corners.
+#[derive(Drop)]
+pub struct LayerHashing {
+    pub layer: Sha256,
+    pub mask: Sha256,
+    pub pending: Vec<u8>,
+    pub corners: u64,
+}
+
+impl LayerHashing {
+    /// Of a Layer with this first line, in a mask of which a hasher has taken the bytes before.
+    pub(crate) fn new(alloc: Global, head: &[u8], mask: Sha256) -> Result<LayerHashing, AllocError>
+        ensures layer { IfOk result (λ h. HoldsWith h.layer h.pending.items head.now) }
+        ensures mask { IfOk result (λ h. (m : List ℕ) → Holds256 mask m
+            → HoldsWith h.mask h.pending.items (m ++ head.now)) }
+        ensures corners { IfOk result (λ h. h.corners ≡ 0) }
+    {
+        let mut pending = Vec::with_capacity(alloc, PENDING + ROOM)?;
+        pending.extend_from_slice(head)?;
+        Ok(LayerHashing {
+            layer: Sha256::new(),
+            mask,
+            pending,
+            corners: 0,
+        })
+    }
+
+    /// How many corners it has taken; `u64::MAX` where there are more.
+    pub(crate) fn count(&self) -> u64
+        ensures { result ≡ min self.now.corners (2 ^ 64 - 1) }
+    {
+        self.corners
+    }
+
+    /// Hashes the bytes that are pending.
+    pub(crate) fn flush(&mut self)
+        ensures same { HoldsSame self.old self.new }
+        ensures none { self.new.pending.items ≡ [] }
+    {
+        self.layer.update(self.pending.as_slice());
+        self.mask.update(self.pending.as_slice());
+        self.pending.clear();
+    }
+
+    /// Hashes the bytes that are pending where they are many.
+    fn flush_many(&mut self)
+        ensures { HoldsSame self.old self.new }
+    {
+        if self.pending.len() >= PENDING {
+            self.flush();
+        }
+    }
+}
+
+impl CornerSink for LayerHashing {
+    ghost takes = { λ h k taken. HasTaken h k taken };
+
+    ghost takes_none = { hasher_takes_none };
+
+    ghost takes_both = { hasher_takes_both };
+
+    fn take(&mut self, corner: Corner) -> Result<(), AllocError> {
+        push_corner(&mut self.pending, corner)?;
+        self.corners = self.corners.saturating_add(1);
+        self.flush_many();
+        Ok(())
+    }
+}

@@ -1,0 +1,38 @@
+//! The corners of what rings cover: one list for each set of squares.
+//!
+//! A [`Corner`] is a grid point at which the outline of a set of squares turns. The corners of a set,
+//! in order of x and then y, are one list for each set, as long as the set's outline is complex, and
+//! two sets are equal exactly where their lists are. [`send_corners`] hands the corners of what rings
+//! cover to a [`CornerSink`], column by column, and a [`MaskHash`] hashes them, Layer by Layer: two files
+//! draw the same mask exactly where the bytes that are hashed are the same.
+//!
+//! ```
+//! let mut rings = Rings::new(alloc);
+//! rings.push_ring(&Ring::rectangle(alloc, Point { x: 0, y: 0 }, Point { x: 4, y: 2 })?)?;
+//! let corners = corners_of(alloc, &rings)?;
+//! assert_eq!(rt; corners.len(), 4);
+//! assert_eq!(rt; (corners[3].x, corners[3].y, corners[3].change), (4, 2, 1));
+//! ```
+#![tactic(auto)]
+
+pub use columns::send_corners;
+pub use corner::Corner;
+pub use digest::{LayerDigest, bytes_decide};
+pub use mask::{MaskHash, mask_bytes_decide};
+pub use same::{corners_of, cover_same};
+pub use sink::CornerSink;
+
+mod bands;
+mod columns;
+mod corner;
+mod digest;
+mod hashing;
+mod mark;
+mod mask;
+mod same;
+mod send;
+mod sink;
+mod span;
+mod sum;
+#[cfg(test)]
+mod tests;

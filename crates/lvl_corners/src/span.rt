@@ -1,0 +1,80 @@
+//! The abscissas of a column.
+ghost use Rattle.std.specs.Prelude.{◌≡◌, ◌<ℤ◌, negsuc, ◌-◌, ◌^◌, true, Some, IsTrue};
+ghost use Rattle.lvl_sweep.specs.Ahead.{is_from};
+ghost use Rattle.lvl_corners.specs.inside.Spans.{is_below, spanned, whole, left_part, right_part};
+
+/// The abscissas from one on, if it is given, and below another, if that is given.
+#[derive(Clone, Copy, Debug)]
+pub struct Span {
+    pub from: Option<i64>,
+    pub below: Option<i64>,
+}
+
+fn is_from(from: Option<i64>, x: i64) -> bool
+    ensures { result ≡ is_from from x }
+{
+    match from {
+        Some(least) => least <= x,
+        None => true,
+    }
+}
+
+fn is_below(below: Option<i64>, x: i64) -> bool
+    ensures { result ≡ is_below below x }
+{
+    match below {
+        Some(end) => x < end,
+        None => true,
+    }
+}
+
+impl Span {
+    /// All abscissas.
+    pub(crate) fn whole() -> Span
+        ensures { result ≡ whole }
+    {
+        Span {
+            from: None,
+            below: None,
+        }
+    }
+
+    /// Whether the abscissa is one of them.
+    pub(crate) fn has(&self, x: i64) -> bool
+        ensures { result ≡ spanned self.now x }
+    {
+        is_from(self.from, x) && is_below(self.below, x)
+    }
+
+    /// Whether both the abscissa and the one before it are among them: a cut there leaves some on both
+    /// sides.
+    pub(crate) fn has_around(&self, at: i64) -> bool
+        ensures within { IsTrue result → spanned self.now at ≡ true }
+        ensures inner { IsTrue result → negsuc (2 ^ 63 - 1) <ℤ at }
+    {
+        let Some(before) = at.checked_sub(1) else {
+            return false;
+        };
+        self.has(before) && self.has(at)
+    }
+
+    /// Those below an abscissa.
+    pub(crate) fn left_of(self, at: i64) -> Span
+        ensures { result ≡ left_part self at }
+    {
+        Span {
+            from: self.from,
+            below: Some(at),
+        }
+    }
+
+    /// Those from an abscissa on.
+    pub(crate) fn right_from(self, at: i64) -> Span
+        ensures { result ≡ right_part self at }
+    {
+        Span {
+            from: Some(at),
+            below: self.below,
+        }
+    }
+}

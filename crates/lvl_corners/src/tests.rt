@@ -1,0 +1,345 @@
+//! Corners of rings, worked by hand.
+use crate::{Corner, MaskHash, corners_of, cover_same, send_corners};
+use lvl_grid::{Point, Ring, Rings};
+use lvl_names::Layer;
+use std::alloc::Global;
+use std::test::Fail;
+
+#[test]
+fn example(rt: HostRuntime) -> Result<(), Fail> {
+    let alloc = rt.alloc();
+    let mut rings = Rings::new(alloc);
+    rings.push_ring(&Ring::rectangle(alloc, Point { x: 0, y: 0 }, Point { x: 4, y: 2 })?)?;
+    let corners = corners_of(alloc, &rings)?;
+    assert_eq!(rt; corners.len(), 4);
+    assert_eq!(rt; (corners[3].x, corners[3].y, corners[3].change), (4, 2, 1));
+    Ok(())
+}
+
+type Outline<'a> = &'a [(i64, i64)];
+
+/// A corner as it is written down: x, y, and the change.
+type Written = (i64, i64, i8);
+
+const LOW: i64 = i64::MIN;
+
+const HIGH: i64 = i64::MAX;
+
+const SQUARE: [(i64, i64); 4] = [(0, 0), (10, 0), (10, 10), (0, 10)];
+
+const REVERSED: [(i64, i64); 4] = [(0, 0), (0, 10), (10, 10), (10, 0)];
+
+const TWICE: [(i64, i64); 8] = [
+    (0, 0),
+    (10, 0),
+    (10, 10),
+    (0, 10),
+    (0, 0),
+    (10, 0),
+    (10, 10),
+    (0, 10),
+];
+
+const CORNERED: [(i64, i64); 6] = [(0, 0), (20, 0), (20, 10), (10, 10), (10, 20), (0, 20)];
+
+/// A square of 30 with a hole of 10 in the middle, cut open along the hole's lower side.
+const HOLED: [(i64, i64); 10] = [
+    (0, 0),
+    (30, 0),
+    (30, 30),
+    (0, 30),
+    (0, 10),
+    (10, 10),
+    (10, 20),
+    (20, 20),
+    (20, 10),
+    (0, 10),
+];
+
+const NEXT: [(i64, i64); 4] = [(10, 10), (20, 10), (20, 20), (10, 20)];
+
+const OTHER_NEXT: [(i64, i64); 4] = [(-10, 10), (0, 10), (0, 20), (-10, 20)];
+
+const ABOVE: [(i64, i64); 4] = [(0, 10), (10, 10), (10, 20), (0, 20)];
+
+const ALL: [(i64, i64); 4] = [(LOW, LOW), (HIGH, LOW), (HIGH, HIGH), (LOW, HIGH)];
+
+const FIRST: [(i64, i64); 4] = [
+    (LOW, LOW),
+    (LOW + 1, LOW),
+    (LOW + 1, LOW + 1),
+    (LOW, LOW + 1),
+];
+
+const LAST: [(i64, i64); 4] = [
+    (HIGH - 1, HIGH - 1),
+    (HIGH, HIGH - 1),
+    (HIGH, HIGH),
+    (HIGH - 1, HIGH),
+];
+
+const FLAT: [(i64, i64); 3] = [(0, 0), (10, 0), (5, 0)];
+
+fn rings(alloc: Global, outlines: &[Outline]) -> Result<Rings, Fail> {
+    let mut rings = Rings::new(alloc);
+    for outline in outlines {
+        let mut points = Vec::new(alloc);
+        for (x, y) in *outline {
+            points.push(Point { x: *x, y: *y })?;
+        }
+        rings.push_ring(&Ring::new(points)?)?;
+    }
+    Ok(rings)
+}
+
+fn are_written(corners: &[Corner], written: &[Written]) -> bool {
+    corners.len() == written.len()
+        && corners.iter().zip(written).all(|(corner, row)| (corner.x, corner.y, corner.change)
+            == *row)
+}
+
+fn has(alloc: Global, outlines: &[Outline], written: &[Written]) -> Result<bool, Fail> {
+    let mut corners: Vec<Corner> = Vec::new(alloc);
+    send_corners(alloc, &rings(alloc, outlines)?, &mut corners)?;
+    Ok(are_written(&corners, written))
+}
+
+#[test]
+fn corners_of_rings(rt: HostRuntime) -> Result<(), Fail> {
+    let square: [Written; 4] = [(0, 0, 1), (0, 10, -1), (10, 0, -1), (10, 10, 1)];
+    let rows: [(&str, &[Outline], &[Written]); 12] = [
+        ("nothing", &[], &[]),
+        ("no area", &[&FLAT], &[]),
+        ("a square", &[&SQUARE], &square),
+        (
+            "a reversed ring does not cancel",
+            &[&SQUARE, &REVERSED],
+            &square,
+        ),
+        ("a ring wound twice", &[&TWICE], &square),
+        (
+            "an L",
+            &[&CORNERED],
+            &[
+                (0, 0, 1),
+                (0, 20, -1),
+                (10, 10, -1),
+                (10, 20, 1),
+                (20, 0, -1),
+                (20, 10, 1),
+            ],
+        ),
+        (
+            "a hole",
+            &[&HOLED],
+            &[
+                (0, 0, 1),
+                (0, 30, -1),
+                (10, 10, -1),
+                (10, 20, 1),
+                (20, 10, 1),
+                (20, 20, -1),
+                (30, 0, -1),
+                (30, 30, 1),
+            ],
+        ),
+        (
+            "squares that touch at a corner, one right above the other",
+            &[&SQUARE, &NEXT],
+            &[
+                (0, 0, 1),
+                (0, 10, -1),
+                (10, 0, -1),
+                (10, 10, 2),
+                (10, 20, -1),
+                (20, 10, -1),
+                (20, 20, 1),
+            ],
+        ),
+        (
+            "squares that touch at a corner, one left above the other",
+            &[&SQUARE, &OTHER_NEXT],
+            &[
+                (-10, 10, 1),
+                (-10, 20, -1),
+                (0, 0, 1),
+                (0, 10, -2),
+                (0, 20, 1),
+                (10, 0, -1),
+                (10, 10, 1),
+            ],
+        ),
+        (
+            "squares that share a side",
+            &[&SQUARE, &ABOVE],
+            &[(0, 0, 1), (0, 20, -1), (10, 0, -1), (10, 20, 1)],
+        ),
+        (
+            "the whole grid",
+            &[&ALL],
+            &[
+                (LOW, LOW, 1),
+                (LOW, HIGH, -1),
+                (HIGH, LOW, -1),
+                (HIGH, HIGH, 1),
+            ],
+        ),
+        (
+            "both ends of the grid",
+            &[&LAST, &FIRST],
+            &[
+                (LOW, LOW, 1),
+                (LOW, LOW + 1, -1),
+                (LOW + 1, LOW, -1),
+                (LOW + 1, LOW + 1, 1),
+                (HIGH - 1, HIGH - 1, 1),
+                (HIGH - 1, HIGH, -1),
+                (HIGH, HIGH - 1, -1),
+                (HIGH, HIGH, 1),
+            ],
+        ),
+    ];
+    for (name, outlines, written) in rows {
+        assert!(rt; has(rt.alloc(), outlines, written)?, "{name}");
+    }
+    Ok(())
+}
+
+#[test]
+fn lists_that_cover_the_same(rt: HostRuntime) -> Result<(), Fail> {
+    let alloc = rt.alloc();
+    let one = rings(alloc, &[&SQUARE, &ABOVE])?;
+    let other = rings(alloc, &[&[(0, 0), (10, 0), (10, 20), (0, 20)]])?;
+    assert!(rt; cover_same(alloc, &one, &other)?);
+    assert!(rt; !cover_same(alloc, &one, &rings(alloc, &[&SQUARE])?)?);
+    Ok(())
+}
+
+/// A rectangle by its least and its greatest coordinates.
+type Rectangle = (i64, i64, i64, i64);
+
+fn rectangles(alloc: Global, corners: &[Rectangle]) -> Result<Rings, Fail> {
+    let mut rings = Rings::new(alloc);
+    for (x, y, right, top) in corners {
+        let low = Point { x: *x, y: *y };
+        let high = Point { x: *right, y: *top };
+        rings.push_ring(&Ring::rectangle(alloc, low, high)?)?;
+    }
+    Ok(rings)
+}
+
+/// The lower left corner of the bar of this number: bars are side by side, with a space of one square
+/// between them, and each begins at another ordinate.
+fn foot(number: u16) -> Point {
+    let number = i64::from(number);
+    Point {
+        x: 2 * number,
+        y: number * 7919 % 10_007,
+    }
+}
+
+/// How high a bar is.
+const HEIGHT: i64 = 5000;
+
+fn bars(alloc: Global, count: u16) -> Result<Rings, Fail> {
+    let mut rings = Rings::new(alloc);
+    for number in 0..count {
+        let low = foot(number);
+        let high = Point {
+            x: low.x.saturating_add(1),
+            y: low.y.saturating_add(HEIGHT),
+        };
+        rings.push_ring(&Ring::rectangle(alloc, low, high)?)?;
+    }
+    Ok(rings)
+}
+
+/// The corners of a bar.
+fn written_bar(number: u16) -> [Written; 4] {
+    let Point { x, y } = foot(number);
+    let (right, top) = (x.saturating_add(1), y.saturating_add(HEIGHT));
+    [(x, y, 1), (x, top, -1), (right, y, -1), (right, top, 1)]
+}
+
+#[test]
+fn corners_by_columns(rt: HostRuntime) -> Result<(), Fail> {
+    let mut corners: Vec<Corner> = Vec::new(rt.alloc());
+    let columns = send_corners(rt.alloc(), &bars(rt.alloc(), 3000)?, &mut corners)?;
+    assert!(rt; columns > 0);
+    assert_eq!(rt; corners.len(), 12_000);
+    for (number, four) in (0u16..).zip(corners.as_slice().chunks(4)) {
+        assert!(rt; are_written(four, &written_bar(number)), "bar {number}");
+    }
+    Ok(())
+}
+
+fn hex(alloc: Global, bytes: &[u8]) -> Result<String, Fail> {
+    let mut text = String::new(alloc);
+    for byte in bytes {
+        write!(text, "{byte:02x}")?;
+    }
+    Ok(text)
+}
+
+/// The digests of Layers, as `tools/digest_check.py` finds them from a raster; the first Layer is 1, and
+/// all have datatype 0.
+const LAYERS: [(&[Rectangle], u64, &str); 5] = [
+    (
+        &[(0, 0, 10, 10)],
+        4,
+        "c5483bbfa6d27cf601d87a9d6e74b9350c2dcde72a70bab5f8615769e8fc5728",
+    ),
+    (
+        &[(0, 0, 10, 10), (10, 10, 20, 20)],
+        7,
+        "0a9cd4a09b923778c23b8781d814b9aa31701b7fa656a8c942104a49d734239d",
+    ),
+    (
+        &[(0, 0, 4, 9), (2, 3, 7, 5), (2, 3, 7, 5), (-5, -5, 0, 0)],
+        11,
+        "88dd5c008e2d7515cdccd3f65cbe113461c0c02efc7013a25fcc509e19b1b9a2",
+    ),
+    (
+        &[(LOW, LOW, HIGH, HIGH)],
+        4,
+        "0cdee7a55509d2dee77af4e5c28bf13c4acc7e3818f28aa2762aa6abdc14e737",
+    ),
+    (
+        &[(LOW, LOW, LOW + 1, HIGH), (HIGH - 1, LOW, HIGH, LOW + 1)],
+        8,
+        "f771974c1a0ebdd94620e2f4df39a79bac0ec4fe5c3ee5e2be56d00f40ddb3f3",
+    ),
+];
+
+/// The digest of all these Layers together.
+const MASK: &str = "b367464dda2f33f3ecb2b712ead41b8b6346959dc46b75cb26d1d525fa210659";
+
+fn layer(layer: u32) -> Layer {
+    Layer { layer, datatype: 0 }
+}
+
+#[test]
+fn digests_of_layers(rt: HostRuntime) -> Result<(), Fail> {
+    let alloc = rt.alloc();
+    let mut mask = MaskHash::new();
+    let nothing = mask.push(alloc, layer(0), &Rings::new(alloc))?;
+    assert!(rt; nothing.is_none());
+    for (number, (corners, count, sha256)) in (1u32..).zip(LAYERS) {
+        let rings = rectangles(alloc, corners)?;
+        let digest = mask.push(alloc, layer(number), &rings)?.ok_or("nothing")?;
+        assert_eq!(rt; digest.corners, count);
+        assert_eq!(rt; hex(alloc, &digest.sha256)?.as_str(), sha256);
+    }
+    assert_eq!(rt; hex(alloc, &mask.finish())?.as_str(), MASK);
+    Ok(())
+}
+
+#[test]
+fn growths_of_digests(rt: HostRuntime) -> Result<(), Fail> {
+    let alloc = rt.alloc();
+    let mut mask = MaskHash::new();
+    let rings = rings(alloc, &[&CORNERED, &NEXT])?;
+    assert!(rt; mask.push(alloc, layer(1), &rings)?.is_some());
+    assert!(rt; cover_same(alloc, &rings, &rings)?);
+    Ok(())
+}

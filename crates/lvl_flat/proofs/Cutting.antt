@@ -1,0 +1,222 @@
+-- Rings that are drawn in a window, one after another.
+use Rattle.std.proofs.Common.{◌≡◌, ◌<◌, ◌≤◌, ◌++◌, ◌+◌, ◌↔◌, ◌⊎◌, inl, inr, ℕ, zero, suc, true, false, cond, not}
+use Rattle.std.proofs.Common.{List, [], length}
+use Rattle.std.proofs.Common.{◌∷◌, All, Any, take, map, set, slice_get, get_or, Some, refl, sym, ap, subst, ◌∙◌, arith}
+use Rattle.std.proofs.lemmas.List.{take_more, take_all}
+use Rattle.std.proofs.lemmas.List.Elements.{All-contains}
+use Rattle.std.proofs.lemmas.Option.{slice_get_within, get_or_from_slice_get}
+use Rattle.lvl_grid.specs.declared.point.Point.{Point}
+use Rattle.lvl_grid.specs.declared.point.Square.{Square}
+use Rattle.lvl_grid.specs.declared.point.Window.{Window}
+use Rattle.lvl_grid.specs.declared.map.Map.{Map}
+use Rattle.lvl_grid.specs.Clip.{IsWithin as IsInWindow}
+use Rattle.lvl_grid.specs.Placed.{placed_point, IsPlaceOfCovered}
+use Rattle.lvl_grid.specs.Winding.{Covers}
+use Rattle.lvl_grid.proofs.Anyone.{Any-push}
+use Rattle.lvl_names.specs.declared.layer.Layer.{Layer}
+use Rattle.lvl_names.specs.Layers.{ComesBefore, same_layer}
+use Rattle.lvl_names.proofs.Layers.{before_itself, differs_is, same_is, tested_layer}
+use Rattle.lvl_cells.specs.Cells.{PlainShape, Rings}
+use Rattle.lvl_cells.specs.Coverage.{RingsCover}
+use Rattle.lvl_flat.specs.declared.bounds.Bounds.{Bounds}
+use Rattle.lvl_flat.specs.Flattened.{FitsRing}
+use Rattle.lvl_flat.specs.Sheet.{PlainSheet}
+use Rattle.lvl_flat.specs.Sheets.{AreSorted, rings_on}
+use Rattle.lvl_flat.specs.Boxes.{IsWithin, Fits}
+use Rattle.lvl_flat.specs.inside.Bounds.{IsOutside, IsInside}
+use Rattle.lvl_flat.specs.inside.Drawn.{FitsAtEach}
+use Rattle.lvl_flat.specs.inside.Passing.{IsMissed}
+use Rattle.lvl_flat.proofs.Holding.{fits_within}
+use Rattle.lvl_flat.proofs.Orders.{sorted_at, sorted_tail, rings_where}
+use Rattle.lvl_flat.proofs.Outside.{placed_square}
+
+-- a square is covered as before, or is one that counts and that some item so far covers; and so with one item more
+pub covers_more : {X : Type 0} (P : X → Type 0) (W old now new : Type 0) (xs : List X) (k : ℕ) (x : X)
+    → slice_get xs k ≡ Some x → now ↔ (old ⊎ (W × Any P (take k xs))) → new ↔ (now ⊎ (W × P x))
+    → new ↔ (old ⊎ (W × Any P (take (k + 1) xs)))
+covers_more P W old now new xs k x at before step =
+    let there : k < length xs = slice_get_within xs k x at in
+    let more : take (k + 1) xs ≡ take k xs ++ x ∷ [] =
+    take_more xs k x there ∙ ap (λ y. take k xs ++ y ∷ []) (get_or_from_slice_get xs k x x at) in
+    let push = Any-push P (take k xs) x in
+    let grown : Any P (take (k + 1) xs) ↔ (Any P (take k xs) ⊎ P x) = (
+      λ a. push.0 (subst (Any P) more a),
+      λ e. subst (Any P) (sym more) (push.1 e),
+    ) in (
+      λ h.
+          elim (step.0 h) [
+            | inl a ↦
+                elim (before.0 a)
+                [ inl b ↦ inl b | inr b ↦ inr (b.0, grown.1 (inl b.1)) ]
+            | inr a ↦ inr (a.0, grown.1 (inr a.1))
+          ],
+      λ e.
+          step.1 (elim e [
+            | inl a ↦ inl (before.1 (inl a))
+            | inr a ↦
+                elim (grown.0 a.1)
+                [ inl b ↦ inl (before.1 (inr (a.0, b))) | inr b ↦ inr (a.0, b) ]
+          ]),
+    )
+
+-- all items
+pub covers_all : {X : Type 0} (P : X → Type 0) (W old new : Type 0) (xs : List X) (k : ℕ) → length xs ≤ k
+    → new ↔ (old ⊎ (W × Any P (take k xs))) → new ↔ (old ⊎ (W × Any P xs))
+covers_all P W old new xs k past h = subst (λ ys. new ↔ (old ⊎ (W × Any P ys))) (take_all k xs past) h
+
+-- a ring whose box is placed outside of the window adds nothing
+pub outside_adds : (m : Map) (e : Point) (window : Window) (b placed : Bounds) (ring : List Point) (old : Rings)
+    → ((p : Point) → IsWithin b p → IsWithin placed (placed_point m e p)) → All (IsWithin b) ring
+    → IsOutside placed window → (q : Square)
+    → RingsCover old q ↔ (RingsCover old q ⊎ (IsInWindow window q × IsPlaceOfCovered m e ring q))
+outside_adds m e window b placed ring old holds all out q = (
+  λ a. inl a,
+  λ d. elim d [
+    | inl a ↦ a
+    | inr a ↦ absurd (out.none q (placed_square m e b placed ring q holds all a.1) a.0)
+  ],
+)
+
+-- and its points fit
+pub placed_ring_fits : (m : Map) (e : Point) (b placed : Bounds) (ring : List Point) → Fits placed
+    → ((p : Point) → IsWithin b p → IsWithin placed (placed_point m e p)) → All (IsWithin b) ring → FitsRing m e ring
+placed_ring_fits m e b placed ring fits holds all =
+    λ k v lt. fits_within placed (placed_point m e (get_or ring k v)) fits (holds _ (all k v lt))
+
+-- a ring whose box misses at all shifts adds nothing
+pub all_outside : (m : Map) (window : Window) (b : Bounds) (ring shifts : List Point) (old : Rings)
+    → All (IsWithin b) ring → All (IsMissed b m window) shifts → (q : Square)
+    → RingsCover old q
+    ↔ (RingsCover old q ⊎ (IsInWindow window q × Any (λ e. IsPlaceOfCovered m e ring q) shifts))
+all_outside m window b ring shifts old all missed q = (
+  λ a. inl a,
+  λ d. elim d [
+    | inl a ↦ a
+    | inr a ↦
+        let at = a.1 in
+        let out : IsMissed b m window at.1 =
+        All-contains (IsMissed b m window) shifts at.1 missed (at.0, at.2, at.3) in
+        absurd (out.outside.none q (placed_square m at.1 b out.placed ring q out.holds all at.4) a.0)
+  ],
+)
+
+-- and its points fit
+pub all_outside_fits : (m : Map) (window : Window) (b : Bounds) (ring shifts : List Point) → All (IsWithin b) ring
+    → All (IsMissed b m window) shifts → FitsAtEach m shifts ring
+all_outside_fits m window b ring shifts all missed =
+    λ j e lj.
+    let out : IsMissed b m window (get_or shifts j e) = missed j e lj in
+    placed_ring_fits m (get_or shifts j e) b out.placed ring out.fits out.holds all
+
+-- a ring whose box is placed inside of the window adds all of it
+pub inside_adds : (m : Map) (e : Point) (window : Window) (b placed : Bounds) (ring : List Point) (old new : Rings)
+    → ((p : Point) → IsWithin b p → IsWithin placed (placed_point m e p)) → All (IsWithin b) ring
+    → IsInside placed window → new ≡ old ++ map (placed_point m e) ring ∷ []
+    → ((t : Square) → Covers (map (placed_point m e) ring) t ↔ IsPlaceOfCovered m e ring t) → (q : Square)
+    → RingsCover new q ↔ (RingsCover old q ⊎ (IsInWindow window q × IsPlaceOfCovered m e ring q))
+inside_adds m e window b placed ring old new holds all within is covers q =
+    let C : List Point → Type 0 = λ r. Covers r q in
+    let push = Any-push C old (map (placed_point m e) ring) in (
+      λ a.
+          elim (push.0 (subst (Any C) is a)) [
+            | inl c ↦ inl c
+            | inr c ↦
+                let at = (covers q).0 c in
+                inr (within.all q (placed_square m e b placed ring q holds all at), at)
+          ],
+      λ d.
+          subst (Any C) (sym is)
+          (push.1 (elim d [ inl a ↦ inl a | inr a ↦ inr ((covers q).1 a.1) ])),
+    )
+
+-- a ring that is clipped adds what of it is in the window
+pub cut_adds : (m : Map) (e : Point) (window : Window) (ring placed : List Point) (old new : Rings)
+    → placed ≡ map (placed_point m e) ring
+    → ((t : Square) → Covers (map (placed_point m e) ring) t ↔ IsPlaceOfCovered m e ring t)
+    → ((s : Square) → RingsCover new s ↔ (RingsCover old s ⊎ (IsInWindow window s × Covers placed s))) → (q : Square)
+    → RingsCover new q ↔ (RingsCover old q ⊎ (IsInWindow window q × IsPlaceOfCovered m e ring q))
+cut_adds m e window ring placed old new is covers clipped q = (
+  λ a. elim ((clipped q).0 a) [
+    | inl b ↦ inl b
+    | inr b ↦ inr (b.0, (covers q).0 (subst (λ r. Covers r q) is b.1))
+  ],
+  λ d. (clipped q).1 (elim d [
+    | inl a ↦ inl a
+    | inr a ↦ inr (a.0, subst (λ r. Covers r q) (sym is) ((covers q).1 a.1))
+  ]),
+)
+
+-- each ring at each shift, or at each shift each ring
+pub each_shift : (m : Map) (h : PlainShape Rings) → All (FitsAtEach m h.shifts) h.figure
+    → All (λ e. All (FitsRing m e) h.figure) h.shifts
+each_shift m h all = λ j e lj k ring lk. all k ring lk j e lj
+
+-- the rings of one sheet are replaced
+rings_on-put : (sheets : List PlainSheet) (i : ℕ) (s : PlainSheet) (rings : Rings) → AreSorted sheets
+    → slice_get sheets i ≡ Some s → (layer : Layer)
+    → rings_on layer (set sheets i (record { layer = s.layer; rings = rings }))
+    ≡ cond (same_layer s.layer layer) rings (rings_on layer sheets)
+rings_on-put [] i s rings sorted at layer = cc
+rings_on-put (t ∷ sheets) zero s rings sorted at layer =
+    let one : s ≡ t = cc in
+    elim (same_layer s.layer layer)
+    as (λ b. same_layer s.layer layer ≡ b
+    → cond b rings (rings_on layer sheets) ≡ cond b rings (rings_on layer (t ∷ sheets))) [
+      | true ↦ λ e. refl
+      | false ↦ λ e.
+          sym (ap (λ b. cond b t.rings (rings_on layer sheets)) (ap (λ (u : PlainSheet). same_layer u.layer layer)
+          (sym one)
+          ∙ e))
+    ] refl
+rings_on-put (t ∷ sheets) (suc i) s rings sorted at layer =
+    let before : ComesBefore t.layer s.layer = sorted_at (t ∷ sheets) 0 (suc i) t s sorted refl at (omega arith) in
+    ap (cond (same_layer t.layer layer) t.rings)
+    (rings_on-put sheets i s rings (sorted_tail t sheets sorted) at layer)
+    ∙ elim (same_layer t.layer layer)
+    as (λ b. same_layer t.layer layer ≡ b
+    → cond b t.rings (cond (same_layer s.layer layer) rings (rings_on layer sheets))
+    ≡ cond (same_layer s.layer layer) rings (cond b t.rings (rings_on layer sheets))) [
+      | true ↦ λ e.
+          let here : t.layer ≡ layer = tested_layer t.layer layer (ap not e) in
+          let other : s.layer ≡ layer → ⊥ =
+          λ f. before_itself layer (subst (λ (x : Layer). ComesBefore x layer) here
+          (subst (λ (x : Layer). ComesBefore t.layer x) f before)) in
+          sym (ap (λ b. cond b rings t.rings) (differs_is s.layer layer other))
+      | false ↦ λ e. refl
+    ] refl
+
+-- what is added to the rings of one sheet is added on its Layer
+pub sheet_adds : (sheets : List PlainSheet) (i : ℕ) (s new : PlainSheet) (rings : Rings) (W : Type 0) (P : Type 0)
+    (q : Square) → AreSorted sheets → slice_get sheets i ≡ Some s → new ≡ record { layer = s.layer; rings = rings }
+    → RingsCover rings q ↔ (RingsCover s.rings q ⊎ (W × P)) → (layer : Layer)
+    → RingsCover (rings_on layer (set sheets i new)) q
+    ↔ (RingsCover (rings_on layer sheets) q ⊎ (W × ((s.layer ≡ layer) × P)))
+sheet_adds sheets i s new rings W P q sorted at is adds layer =
+    let all : rings_on layer (set sheets i new) ≡ cond (same_layer s.layer layer) rings (rings_on layer sheets) =
+    ap (λ n. rings_on layer (set sheets i n)) is ∙ rings_on-put sheets i s rings sorted at layer in
+    let C : Rings → Type 0 = λ rs. RingsCover rs q in
+    elim (same_layer s.layer layer)
+    as (λ b. same_layer s.layer layer ≡ b
+    → rings_on layer (set sheets i new) ≡ cond b rings (rings_on layer sheets)
+    → RingsCover (rings_on layer (set sheets i new)) q
+    ↔ (RingsCover (rings_on layer sheets) q ⊎ (W × ((s.layer ≡ layer) × P)))) [
+      | true ↦ λ e f.
+          let here : s.layer ≡ layer = tested_layer s.layer layer (ap not e) in
+          let old : rings_on layer sheets ≡ s.rings = rings_where sheets layer i s sorted at here in (
+            λ a. elim (adds.0 (subst C f a)) [
+              | inl b ↦ inl (subst C (sym old) b)
+              | inr b ↦ inr (b.0, (here, b.1))
+            ],
+            λ d. subst C (sym f) (adds.1 (elim d [
+              | inl a ↦ inl (subst C old a)
+              | inr a ↦ inr (a.0, a.1.1)
+            ])),
+          )
+      | false ↦ λ e f. (
+        λ a. inl (subst C f a),
+        λ d. subst C (sym f) (elim d [
+          | inl a ↦ a
+          | inr a ↦ let no : true ≡ false = sym (same_is s.layer layer a.1.0) ∙ e in cc
+        ]),
+      )
+    ] refl all

@@ -1,0 +1,232 @@
+-- The walk within a window.
+use Rattle.std.proofs.Common.{◌≡◌, ◌≤◌, ◌<◌, ◌+◌, ◌-◌, Any, List, Option, Some, [], ap, arith, inl, inr, refl}
+use Rattle.std.proofs.Common.{subst, suc, sym, zero, ℕ, ◌++◌, ◌↔◌, ◌∙◌, ◌∷◌, ◌⊎◌}
+use Rattle.lvl_flat.specs.inside.Drawn.{RingPlacesCover, ShapePlacesCover, ShapesPlaceCover}
+use Rattle.lvl_flat.specs.inside.Walking.{AllHaveSheets, IsWalkingWithin, SheetsCover}
+use Rattle.lvl_grid.proofs.Anyone.{Any-nil}
+use Rattle.lvl_flat.specs.Boxes.{AreBoxes}
+use Rattle.lvl_flat.specs.inside.Bounds.{IsPlacedOutside}
+use Rattle.lvl_flat.specs.Sheets.{AreSorted, rings_on}
+use Rattle.lvl_flat.specs.declared.bounds.Bounds.{Bounds}
+use Rattle.lvl_grid.specs.Winding.{Covers}
+use Rattle.lvl_flat.specs.Flattened.{FitShapes}
+use Rattle.lvl_flat.specs.inside.Entering.{IsDrawnWithin, begun}
+use Rattle.lvl_flat.specs.inside.Steps.{IsInto, IsPast}
+use Rattle.lvl_grid.specs.Placed.{IsPlaceOfCovered, moved_square}
+use Rattle.lvl_names.specs.declared.layer.Layer.{Layer}
+use Rattle.lvl_grid.specs.declared.map.Map.{Map}
+use Rattle.lvl_cells.specs.Cells.{PlainCell, PlainShape, Rings}
+use Rattle.lvl_flat.specs.Sheet.{PlainSheet}
+use Rattle.lvl_grid.specs.declared.point.Point.{Point}
+use Rattle.lvl_cells.specs.Coverage.{RingsCover, ShapeCovers, moved_back}
+use Rattle.lvl_cells.specs.Checks.{Settled}
+use Rattle.lvl_grid.specs.declared.point.Square.{Square}
+use Rattle.lvl_flat.proofs.Covering.{Under, back_and_there, there_and_back}
+use Rattle.lvl_flat.specs.declared.visit.Visit.{Visit}
+use Rattle.lvl_grid.specs.declared.point.Window.{Window}
+use Rattle.lvl_grid.specs.Clip.{IsWithin}
+use Rattle.lvl_grid.specs.Turn.{image_square}
+use Rattle.lvl_flat.proofs.Going.{layers_kept}
+use Rattle.lvl_flat.proofs.Outside.{outside_covers, outside_fits}
+use Rattle.lvl_flat.specs.inside.Visits.{pending}
+use Rattle.std.specs.List.{slice_get}
+use Rattle.lvl_flat.proofs.Drawing.{sorted_alike}
+use Rattle.lvl_cells.specs.Chains.{unmoved}
+use Rattle.lvl_flat.proofs.UnderWay.{way_alike, way_begins, way_done, way_into, way_missed, way_past}
+use Rattle.lvl_flat.proofs.Stepping.{pending_alike}
+use Rattle.lvl_flat.specs.inside.Passing.{at_place, IsMissedAt, IsPassedBy}
+
+-- a ring at its shifts, placed by the map
+ring_place : (m : Map) (q : Square) (shifts : List Point) (ring : List Point)
+    → RingPlacesCover m shifts q ring ↔ Under m q (λ t. Any (λ e. Covers ring (moved_back e t)) shifts)
+ring_place m q shifts ring = (
+  λ a.
+      let at : IsPlaceOfCovered m a.1 ring q = a.4 in (
+        moved_square a.1 at.from,
+        at.place,
+        (a.0, a.1, a.2, a.3, subst (Covers ring) (sym (there_and_back a.1 at.from)) at.covered),
+      ),
+  λ u.
+      let a = u.2 in (
+        a.0,
+        a.1,
+        a.2,
+        a.3,
+        record {
+          from = moved_back a.1 u.0;
+          place = ap (image_square m) (back_and_there a.1 u.0) ∙ u.1;
+          covered = a.4;
+        },
+      ),
+)
+
+-- a shape, whose rings at its shifts are its figure at its shifts
+shape_place : (m : Map) (q : Square) (h : PlainShape Rings)
+    → ShapePlacesCover m q h ↔ Under m q (λ t. Any (λ e. RingsCover h.figure (moved_back e t)) h.shifts)
+shape_place m q h = (
+  λ a.
+      let u = (ring_place m q h.shifts a.1).0 a.4 in
+      let e = u.2 in
+      (u.0, u.1, (e.0, e.1, e.2, e.3, (a.0, a.1, a.2, a.3, e.4))),
+  λ u.
+      let e = u.2 in
+      let a = e.4 in
+      (a.0, a.1, a.2, a.3, (ring_place m q h.shifts a.1).1 (u.0, u.1, (e.0, e.1, e.2, e.3, a.4))),
+)
+
+-- the shapes of a Layer cover, placed by the map, the images of the squares that they cover
+pub shapes_place : (layer : Layer) (m : Map) (q : Square) (shapes : List (PlainShape Rings))
+    → ShapesPlaceCover layer m q shapes ↔ Under m q (λ t. Any (ShapeCovers RingsCover layer t) shapes)
+shapes_place layer m q shapes = (
+  λ a.
+      let u = (shape_place m q a.1).0 a.4.1 in
+      (u.0, u.1, (a.0, a.1, a.2, a.3, (a.4.0, u.2))),
+  λ u.
+      let a = u.2 in
+      (a.0, a.1, a.2, a.3, (a.4.0, (shape_place m q a.1).1 (u.0, u.1, a.4.1))),
+)
+
+pub window_done : (s : Settled) (window : Window) (sheets : List PlainSheet) (front : List Visit) (v : Visit)
+    → IsWalkingWithin s window sheets (front ++ v ∷ []) → pending s.cells v ≡ []
+    → IsWalkingWithin s window sheets front
+window_done s window sheets front v w none = record {
+  top = w.top;
+  way = way_done s w.top (IsWithin window) (SheetsCover sheets) front v w.way none;
+  sorted = w.sorted;
+  layers = w.layers;
+  within = w.within;
+}
+
+pub window_past : (s : Settled) (window : Window) (sheets : List PlainSheet) (front : List Visit) (v rest : Visit)
+    → IsWalkingWithin s window sheets (front ++ v ∷ []) → IsPast s.cells v rest
+    → IsWalkingWithin s window sheets (front ++ rest ∷ [])
+window_past s window sheets front v rest w past = record {
+  top = w.top;
+  way = way_past s w.top (IsWithin window) (SheetsCover sheets) front v rest w.way past;
+  sorted = w.sorted;
+  layers = w.layers;
+  within = w.within;
+}
+
+-- a cell is passed by whose box is placed outside of the window
+pub window_missed : (s : Settled) (known : List (Option Bounds)) (window : Window) (sheets : List PlainSheet)
+    (front : List Visit) (v : Visit) (i : ℕ) (m : Map) (rest : Visit) → AreBoxes s.cells known
+    → IsWalkingWithin s window sheets (front ++ v ∷ []) → IsInto s.cells v i m rest
+    → IsPlacedOutside known i m window → IsWalkingWithin s window sheets (front ++ rest ∷ [])
+window_missed s known window sheets front v i m rest boxes w into out = record {
+  top = w.top;
+  way =
+      way_missed s w.top (IsWithin window) (SheetsCover sheets) front v i m rest w.way into
+      (outside_fits s.cells known i m window into.next boxes into.there out)
+      (outside_covers s.cells known i m window into.next boxes into.there out);
+  sorted = w.sorted;
+  layers = w.layers;
+  within = w.within;
+}
+
+-- and so is a run of cells, one after another
+runs_on : (s : Settled) (known : List (Option Bounds)) (window : Window) (sheets : List PlainSheet)
+    (front : List Visit) (u : Visit) (place n : ℕ) → AreBoxes s.cells known
+    → IsWalkingWithin s window sheets (front ++ at_place u place ∷ [])
+    → ((k : ℕ) → place ≤ k → k < place + n → IsMissedAt s.cells known window u k)
+    → IsWalkingWithin s window sheets (front ++ at_place u (place + n) ∷ [])
+runs_on s known window sheets front u place zero boxes w missed =
+    let none : place ≡ place + 0 = omega arith in
+    subst (λ k. IsWalkingWithin s window sheets (front ++ at_place u k ∷ [])) none w
+runs_on s known window sheets front u place (suc n) boxes w missed =
+    let before = runs_on s known window sheets front u place n boxes w (λ k l b. missed k l (omega (arith, b))) in
+    let at = missed (place + n) (omega arith) (omega arith) in
+    let one : place + n + 1 ≡ place + suc n = omega arith in
+    subst (λ k. IsWalkingWithin s window sheets (front ++ at_place u k ∷ [])) one
+    (window_missed s known window sheets front (at_place u (place + n)) at.index at.map
+    (at_place u (place + n + 1)) boxes before at.into at.out)
+
+pub window_passed : (s : Settled) (known : List (Option Bounds)) (window : Window) (sheets : List PlainSheet)
+    (front : List Visit) (v u : Visit) → AreBoxes s.cells known
+    → IsWalkingWithin s window sheets (front ++ v ∷ []) → IsPassedBy s.cells known window v u
+    → IsWalkingWithin s window sheets (front ++ u ∷ [])
+window_passed s known window sheets front v u boxes w passed =
+    let start : Visit = at_place u v.place in
+    let same : pending s.cells v ≡ pending s.cells start =
+    pending_alike s.cells start v passed.cell_is passed.reference_is refl in
+    let begins : IsWalkingWithin s window sheets (front ++ start ∷ []) = record {
+      top = w.top;
+      way =
+          way_alike s w.top (IsWithin window) (SheetsCover sheets) front v start w.way passed.map_is passed.cell_is
+          same;
+      sorted = w.sorted;
+      layers = w.layers;
+      within = w.within;
+    } in
+    let ends : v.place + (u.place - v.place) ≡ u.place = omega (arith, passed.on) in
+    subst (λ k. IsWalkingWithin s window sheets (front ++ at_place u k ∷ [])) ends
+    (runs_on s known window sheets front u v.place (u.place - v.place) boxes begins
+    (λ k l b. passed.missed k l (omega (arith, b, ends))))
+
+-- no more than the window's squares are covered by what is drawn beside others of them
+still_within : (window : Window) (layer : Layer) (m : Map) (shapes : List (PlainShape Rings))
+    (old new : List PlainSheet)
+    → ((q : Square) → RingsCover (rings_on layer new) q
+    ↔ (RingsCover (rings_on layer old) q ⊎ (IsWithin window q × ShapesPlaceCover layer m q shapes)))
+    → ((q : Square) → SheetsCover old layer q → IsWithin window q) → (q : Square) → SheetsCover new layer q
+    → IsWithin window q
+still_within window layer m shapes old new covers before q a =
+    elim ((covers q).0 a) [ inl b ↦ before q b | inr b ↦ b.0 ]
+
+pub window_into : (s : Settled) (window : Window) (sheets new : List PlainSheet) (front : List Visit) (v : Visit)
+    (i : ℕ) (m : Map) (rest : Visit) → IsWalkingWithin s window sheets (front ++ v ∷ [])
+    → IsInto s.cells v i m rest → IsDrawnWithin s.cells i m window sheets new
+    → IsWalkingWithin s window new ((front ++ rest ∷ []) ++ begun i m ∷ [])
+window_into s window sheets new front v i m rest w into d =
+    let both : Some d.cell ≡ Some into.next = sym d.there ∙ into.there in
+    let one : d.cell ≡ into.next = cc in
+    let shapes : d.cell.shapes ≡ into.next.shapes = ap (λ (b : PlainCell Rings). b.shapes) one in
+    record {
+      top = w.top;
+      way =
+          way_into s w.top (IsWithin window) (SheetsCover sheets) (SheetsCover new) front v i m rest w.way into
+          (subst (FitShapes m) shapes d.fits)
+          (λ layer q counts.
+          let drawn = d.covers layer q in
+          let place = shapes_place layer m q d.cell.shapes in
+          let P : List (PlainShape Rings) → Type 0 =
+          λ hs. Under m q (λ t. Any (ShapeCovers RingsCover layer t) hs) in (
+            λ a. elim (drawn.0 a) [ inl b ↦ inl b | inr b ↦ inr (subst P shapes (place.0 b.1)) ],
+            λ e. drawn.1 (elim e [
+              | inl b ↦ inl b
+              | inr b ↦ inr (counts, place.1 (subst P (sym shapes) b))
+            ]),
+          ));
+      sorted = sorted_alike new sheets d.layers w.sorted;
+      layers = layers_kept s.cells sheets new d.layers w.layers;
+      within = λ layer. still_within window layer m d.cell.shapes sheets new (d.covers layer) (w.within layer);
+    }
+
+pub window_begins : (s : Settled) (window : Window) (c : PlainCell Rings) (empty new : List PlainSheet)
+    → slice_get s.cells s.top ≡ Some c → AreSorted empty → AllHaveSheets empty s.cells
+    → ((layer : Layer) → rings_on layer empty ≡ []) → IsDrawnWithin s.cells s.top unmoved window empty new
+    → IsWalkingWithin s window new (begun s.top unmoved ∷ [])
+window_begins s window c empty new at sorted have none d =
+    let both : Some d.cell ≡ Some c = sym d.there ∙ at in
+    let one : d.cell ≡ c = cc in
+    let shapes : d.cell.shapes ≡ c.shapes = ap (λ (b : PlainCell Rings). b.shapes) one in
+    let nothing : (layer : Layer) (q : Square) → SheetsCover empty layer q → ⊥ =
+    λ layer q a. Any-nil (λ ring. Covers ring q) (subst (λ rs. RingsCover rs q) (none layer) a) in
+    record {
+      top = c;
+      way =
+          way_begins s c (IsWithin window) (SheetsCover new) at (subst (FitShapes unmoved) shapes d.fits)
+          (λ layer q counts.
+          let drawn = d.covers layer q in
+          let place = shapes_place layer unmoved q d.cell.shapes in
+          let P : List (PlainShape Rings) → Type 0 =
+          λ hs. Under unmoved q (λ t. Any (ShapeCovers RingsCover layer t) hs) in (
+            λ a. elim (drawn.0 a) [ inl b ↦ absurd (nothing layer q b) | inr b ↦ subst P shapes (place.0 b.1) ],
+            λ b. drawn.1 (inr (counts, place.1 (subst P (sym shapes) b))),
+          ));
+      sorted = sorted_alike new empty d.layers sorted;
+      layers = layers_kept s.cells empty new d.layers have;
+      within = λ layer.
+          still_within window layer unmoved d.cell.shapes empty new (d.covers layer)
+          (λ q a. absurd (nothing layer q a));
+    }

@@ -1,0 +1,7 @@
+use Rattle.std.proofs.Common.{All, take}
+use Rattle.lvl_flat.specs.Boxes.{IsWithin}
+use Rattle.lvl_flat.proofs.within.bounds_of_ring.Given as goal
+
+-- the points so far are in the box
+abbrev pub invariant-loop-point : goal.invariant-loop-point
+invariant-loop-point l = All (IsWithin l.bounds) (take l.point-index l.ring)

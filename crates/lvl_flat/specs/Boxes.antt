@@ -1,0 +1,39 @@
+-- The box of each cell, in which all that it places lies.
+use Rattle.std.specs.Prelude.{◌≡◌, ℕ, List, slice_get, Option, Some, All, ◌≤ℤ◌}
+use Rattle.lvl_grid.specs.declared.point.Point.{Point}
+use Rattle.lvl_grid.specs.declared.map.Map.{Map}
+use Rattle.lvl_grid.specs.Turn.{image, shifted, FitsPoint}
+use Rattle.lvl_cells.specs.Cells.{PlainCell, PlainShape, Rings}
+use Rattle.lvl_cells.specs.Chains.{Chain}
+use Rattle.lvl_flat.specs.declared.bounds.Bounds.{Bounds}
+
+-- the point is between the corners
+pub record IsWithin (b : Bounds) (p : Point) : Type 0 where
+  pub left : b.low.x ≤ℤ p.x
+  pub right : p.x ≤ℤ b.high.x
+  pub below : b.low.y ≤ℤ p.y
+  pub above : p.y ≤ℤ b.high.y
+
+-- all vertices of the shape are in it, placed by the map
+abbrev pub HoldsShape : Bounds → Map → PlainShape Rings → Type 0
+HoldsShape b m h = All (λ e. All (λ ring. All (λ v. IsWithin b (image m (shifted e v))) ring) h.figure) h.shifts
+
+-- the shift of the map, and all vertices that the cell places by it, are in it
+pub record HoldsCell (b : Bounds) (m : Map) (d : PlainCell Rings) : Type 0 where
+  pub shift : IsWithin b m.at
+  pub vertices : All (HoldsShape b m) d.shapes
+
+-- and so for all chains from the cell
+pub record HoldsChains (cells : List (PlainCell Rings)) (b : Bounds) (c : PlainCell Rings) : Type 0 where
+  pub chains : (n : ℕ) (m : Map) (d : PlainCell Rings) → Chain cells c n m d → HoldsCell b m d
+
+-- its corners are within 64 signed bits
+pub record Fits (b : Bounds) : Type 0 where
+  pub low : FitsPoint b.low
+  pub high : FitsPoint b.high
+
+-- the boxes that are known are within 64 bits and hold all that their cells place
+abbrev pub AreBoxes : List (PlainCell Rings) → List (Option Bounds) → Type 0
+AreBoxes cells known =
+    (k : ℕ) (b : Bounds) (c : PlainCell Rings) → slice_get known k ≡ Some (Some b) → slice_get cells k ≡ Some c
+    → Fits b × HoldsChains cells b c

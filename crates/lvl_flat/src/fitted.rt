@@ -1,0 +1,81 @@
+//! Libraries of which all that the top places is within 64 bits.
+ghost use Rattle.std.specs.Prelude.{◌≡◌, IfOk, IfErr};
+ghost use Rattle.lvl_grid.specs.declared.point.Square.{Square as GridSquare};
+ghost use Rattle.lvl_grid.specs.Clip.{IsWithin};
+ghost use Rattle.lvl_names.specs.declared.layer.Layer.{Layer as PlainLayer};
+ghost use Rattle.lvl_flat.specs.Flattened.{IsFlattenedWithin, IsFlatFault, IsTopInRange, TopCovers};
+ghost use Rattle.lvl_refusal.specs.Refused.{Says};
+
+use crate::boxes::Boxes;
+use crate::fault::FlatFault;
+use crate::flat::Flat;
+use crate::windowed::{check_range, flatten_within};
+use lvl_cells::Checked;
+use lvl_grid::Window;
+use lvl_refusal::Refusal;
+use std::alloc::{AllocError, Global};
+use std::marker::Model;
+
+/// A checked library of which all that the top places is within 64 signed bits, with the box of each of
+/// its cells. What its top draws may be had window by window.
+#[derive(Debug, Drop)]
+pub struct Fitted {
+    checked: Checked,
+    boxes: Boxes,
+}
+
+impl Model for Fitted {
+    ghost use Rattle.lvl_cells.specs.Checks.{Settled};
+    ghost use Rattle.lvl_flat.specs.Boxes.{AreBoxes};
+    ghost use Rattle.lvl_flat.specs.Flattened.{IsTopInRange};
+
+    ghost Value = { Settled };
+
+    ghost view = { λ f. f.checked };
+
+    ghost invariant = { λ f. AreBoxes f.checked.cells f.boxes × IsTopInRange f.checked };
+}
+
+impl Fitted {
+    /// The library with the boxes of its cells. Refused exactly where [`flatten`](crate::flatten) refuses
+    /// it: where a chain of references or a vertex that it places is outside of 64 signed bits.
+    pub fn new(alloc: Global, checked: Checked) -> Result<Fitted, Refusal<FlatFault>>
+        ensures ok { IfOk result (λ fitted. fitted ≡ checked) }
+        ensures in_range { IfOk result IsTopInRange }
+        ensures err { IfErr result (λ refusal. Says refusal (IsFlatFault checked)) }
+    {
+        let boxes = Boxes::new(alloc, &checked)?;
+        check_range(alloc, &checked, &boxes)?;
+        Ok(Fitted { checked, boxes })
+    }
+
+    /// The library.
+    pub fn checked(&self) -> &Checked
+        ensures library { result.now ≡ self.now }
+        ensures in_range { IsTopInRange self.now }
+    {
+        &self.checked
+    }
+
+    /// A window that has every square which the top covers.
+    pub fn extent(&self) -> Window
+        ensures { (layer : PlainLayer) (s : GridSquare) → TopCovers self.now layer s → IsWithin result s }
+    {
+        self.boxes.extent(&self.checked)
+    }
+
+    /// The rings of each Layer that the top places, clipped to a window.
+    ///
+    /// On each Layer the rings together cover exactly the squares of the window that the top covers
+    /// there through all references. Only what is drawn in the window takes memory; where the rings would
+    /// have more than `most` points, it is out of memory.
+    pub fn within(&self, alloc: Global, window: &Window, most: usize) -> Result<Flat, AllocError>
+        ensures { IfOk result (IsFlattenedWithin self.now window.now) }
+    {
+        match flatten_within(alloc, &self.checked, &self.boxes, window, most) {
+            Ok(flat) => Ok(flat),
+            Err(Refusal::OutOfMemory) => Err(AllocError),
+            Err(Refusal::Breach(_)) => unreachable!(),
+        }
+    }
+}

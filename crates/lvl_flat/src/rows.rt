@@ -1,0 +1,66 @@
+//! The rows of a lattice of shifts, as the shifts themselves show them.
+ghost use Rattle.std.specs.Prelude.{◌≡◌, ◌<◌, ◌-◌, ◌%◌, IsTrue};
+ghost use Rattle.lvl_flat.specs.inside.Passing.{HasRows};
+
+use lvl_grid::Point;
+use lvl_names::Offsets;
+
+/// The product, or None where it is outside 64 bits.
+fn times(step: Point, count: u64) -> Option<Point> {
+    let count = i64::try_from(count).ok()?;
+    Some(Point {
+        x: step.x.checked_mul(count)?,
+        y: step.y.checked_mul(count)?,
+    })
+}
+
+/// The index of the first shift that doesn't go on from zero by equal steps, where those that do
+/// all come before those that don't.
+fn first_turn(shifts: &Offsets) -> u64 {
+    let Some(step) = shifts.at(1) else {
+        return 1;
+    };
+    let mut low = 1;
+    let mut high = shifts.len();
+    while high - low > 1 {
+        let middle = low + (high - low) / 2;
+        if shifts.at(middle) == times(step, middle) {
+            low = middle;
+        } else {
+            high = middle;
+        }
+    }
+    high
+}
+
+/// Whether the shifts are a lattice whose rows are of this length. `false` says nothing.
+pub(crate) fn has_rows(shifts: &Offsets, row: u64) -> bool
+    ensures some { IsTrue result → 0 < row }
+    ensures rows { IsTrue result → HasRows row shifts.now }
+{
+    let zero = Point { x: 0, y: 0 };
+    if row == 0 {
+        return false;
+    }
+    let across = shifts.at(1).unwrap_or(zero);
+    let up = shifts.at(row).unwrap_or(zero);
+    match Offsets::lattice(across, row, up, shifts.len() / row) {
+        Some(lattice) => lattice.is_same_lattice(shifts),
+        None => false,
+    }
+}
+
+/// How many shifts there are from an index on to the end of its row.
+pub(crate) fn rest_of_row(from: u64, row: u64) -> u64
+    ensures { result ≡ row - from % row }
+{
+    if row == 0 { 0 } else { row - from % row }
+}
+
+/// How long the rows of the shifts are: 1 where they aren't shown to be a lattice.
+pub(crate) fn row_length(shifts: &Offsets) -> u64
+    ensures { HasRows result shifts.now }
+{
+    let row = first_turn(shifts);
+    if has_rows(shifts, row) { row } else { 1 }
+}

@@ -1,0 +1,218 @@
+//! A cell's own shapes, placed by a map, as far as they reach into a window.
+ghost use Rattle.std.specs.Prelude.{◌≡◌, ◌≢◌, ◌<◌, ◌↔◌, ◌⊎◌, [], length, get_or, map as list_map, All, OnOk, IfSome};
+ghost use Rattle.std.specs.Prelude.{IsTrue};
+ghost use Rattle.lvl_grid.specs.declared.point.Point.{Point as GridPoint};
+ghost use Rattle.lvl_grid.specs.declared.point.Square.{Square as GridSquare};
+ghost use Rattle.lvl_grid.specs.Clip.{IsWithin as IsInWindow};
+ghost use Rattle.lvl_grid.specs.Placed.{placed_point, IsPlaceOfCovered};
+ghost use Rattle.lvl_grid.specs.Winding.{IsRing};
+ghost use Rattle.lvl_names.specs.declared.layer.Layer.{Layer as PlainLayer};
+ghost use Rattle.lvl_cells.specs.Cells.{shape_at};
+ghost use Rattle.lvl_cells.specs.Coverage.{RingsCover};
+ghost use Rattle.lvl_flat.specs.Flattened.{FitsRing, FitShapes};
+ghost use Rattle.lvl_flat.specs.Sheets.{rings_on, AreSorted, HaveSheets};
+ghost use Rattle.lvl_flat.specs.Boxes.{IsWithin, Fits};
+ghost use Rattle.lvl_flat.specs.inside.Passing.{IsMissed};
+ghost use Rattle.lvl_flat.specs.inside.Drawn.{FitsAtEach, RingPlacesCover, ShapePlacesCover, ShapesPlaceCover};
+
+use crate::bounds::Bounds;
+use crate::boxes::bounds_of_shape_shifts;
+use crate::flat::{Sheet, place_of};
+use lvl_cells::Shapes;
+use lvl_grid::{Map, Part, PlaceFault, Point, Rings, Window};
+use std::alloc::Global;
+
+/// Room for what is drawn.
+#[derive(Debug, Drop)]
+pub(crate) struct Room {
+    pub alloc: Global,
+    /// How many points may still be drawn.
+    pub points: usize,
+}
+
+impl Room {
+    /// Takes room for points that are drawn. Where there is less, that is out of memory.
+    fn take(&mut self, points: usize) -> Result<(), PlaceFault>
+        ensures { result ≢ Err PlaceFault.OutOfRange }
+    {
+        if points > self.points {
+            return Err(PlaceFault::OutOfMemory);
+        }
+        self.points -= points;
+        Ok(())
+    }
+}
+
+/// What holds the points of a ring.
+fn bounds_of_ring(ring: &[Point]) -> Bounds
+    requires { IsRing ring.now }
+    ensures { All (IsWithin result) ring.now }
+{
+    let mut bounds = Bounds::around(ring[0]);
+    for point in ring {
+        bounds = bounds.joined(Bounds::around(*point));
+    }
+    bounds
+}
+
+/// What holds the points once they are moved and placed; None where it is outside 64 bits.
+fn placed_bounds(bounds: Bounds, shift: Point, map: &Map) -> Option<Bounds>
+    ensures held { IfSome result
+        (λ placed. (p : GridPoint) → IsWithin bounds p → IsWithin placed (placed_point map.now shift p)) }
+    ensures fits { IfSome result Fits }
+{
+    bounds.moved(Bounds::around(shift))?.placed(map)
+}
+
+/// Adds what is left of a ring in the window, once it is moved by the shift and placed by the map.
+fn draw_cut(
+    alloc: Global,
+    rings: &mut Rings,
+    ring: &[Point],
+    shift: Point,
+    map: &Map,
+    window: &Window,
+) -> Result<(), PlaceFault>
+    requires { IsRing ring.now }
+    ensures covers { OnOk result ((q : GridSquare) → RingsCover rings.new q
+        ↔ (RingsCover rings.old q ⊎ (IsInWindow window.now q × IsPlaceOfCovered map.now shift ring.now q))) }
+    ensures fits { OnOk result (FitsRing map.now shift ring.now) }
+    ensures out { result ≡ Err PlaceFault.OutOfRange → ¬ FitsRing map.now shift ring.now }
+{
+    let mut placed = Rings::new(alloc);
+    placed.push_placed(ring, shift, map)?;
+    let Ok(()) = rings.push_clipped(&Part::Within(*window), placed.ring(0)) else {
+        return Err(PlaceFault::OutOfMemory);
+    };
+    Ok(())
+}
+
+/// Adds a ring whose points are within the bounds, moved by the shift and placed by the map, as far
+/// as it reaches into the window.
+fn draw_ring_at(
+    alloc: Global,
+    rings: &mut Rings,
+    ring: &[Point],
+    bounds: Bounds,
+    shift: Point,
+    map: &Map,
+    window: &Window,
+) -> Result<(), PlaceFault>
+    requires ring { IsRing ring.now }
+    requires bounds { All (IsWithin bounds) ring.now }
+    ensures covers { OnOk result ((q : GridSquare) → RingsCover rings.new q
+        ↔ (RingsCover rings.old q ⊎ (IsInWindow window.now q × IsPlaceOfCovered map.now shift ring.now q))) }
+    ensures fits { OnOk result (FitsRing map.now shift ring.now) }
+    ensures out { result ≡ Err PlaceFault.OutOfRange → ¬ FitsRing map.now shift ring.now }
+{
+    if let Some(placed) = placed_bounds(bounds, shift, map) {
+        if placed.misses(window) {
+            return Ok(());
+        }
+        if placed.is_inside(window) {
+            rings.push_placed(ring, shift, map)?;
+            return Ok(());
+        }
+    }
+    draw_cut(alloc, rings, ring, shift, map, window)
+}
+
+/// Whether the bounds miss the window at all shifts of the shape at an index, of which there are
+/// several. `false` says nothing.
+fn misses_at_all(shapes: &Shapes, i: usize, bounds: Bounds, map: &Map, window: &Window) -> bool
+    requires { i < length shapes.now }
+    ensures { IsTrue result → All (IsMissed bounds map.now window.now) (shape_at shapes.now i).shifts }
+{
+    if shapes.shift_count(i) == 1 {
+        return false;
+    }
+    bounds.misses_moved(bounds_of_shape_shifts(shapes, i), map, window)
+}
+
+/// Adds a ring of the shape at an index, at each of the shape's shifts.
+fn draw_ring(
+    room: &mut Room,
+    rings: &mut Rings,
+    shapes: &Shapes,
+    i: usize,
+    j: usize,
+    map: &Map,
+    window: &Window,
+) -> Result<(), PlaceFault>
+    requires shape { i < length shapes.now }
+    requires ring { j < length (shape_at shapes.now i).figure }
+    ensures covers { OnOk result ((q : GridSquare) → RingsCover rings.new q
+        ↔ (RingsCover rings.old q ⊎ (IsInWindow window.now q × RingPlacesCover map.now (shape_at shapes.now i).shifts q
+        (get_or (shape_at shapes.now i).figure j [])))) }
+    ensures fits { OnOk result
+        (FitsAtEach map.now (shape_at shapes.now i).shifts (get_or (shape_at shapes.now i).figure j [])) }
+    ensures out { result ≡ Err PlaceFault.OutOfRange
+        → ¬ FitsAtEach map.now (shape_at shapes.now i).shifts (get_or (shape_at shapes.now i).figure j []) }
+{
+    let ring = shapes.ring(i, j);
+    let bounds = bounds_of_ring(ring);
+    if misses_at_all(shapes, i, bounds, map, window) {
+        return Ok(());
+    }
+    for k in 0..shapes.shift_count(i) {
+        let Some(shift) = shapes.shift(i, k) else {
+            unreachable!()
+        };
+        let held = rings.points().len();
+        draw_ring_at(room.alloc, rings, ring, bounds, shift, map, window)?;
+        room.take(rings.points().len().saturating_sub(held))?;
+    }
+    Ok(())
+}
+
+/// Adds the rings of the shape at an index, each at each of its shifts.
+fn draw_shape(
+    room: &mut Room,
+    rings: &mut Rings,
+    shapes: &Shapes,
+    i: usize,
+    map: &Map,
+    window: &Window,
+) -> Result<(), PlaceFault>
+    requires { i < length shapes.now }
+    ensures covers { OnOk result ((q : GridSquare) → RingsCover rings.new q
+        ↔ (RingsCover rings.old q ⊎ (IsInWindow window.now q × ShapePlacesCover map.now q (shape_at shapes.now i)))) }
+    ensures fits { OnOk result
+        (All (FitsAtEach map.now (shape_at shapes.now i).shifts) (shape_at shapes.now i).figure) }
+    ensures out { result ≡ Err PlaceFault.OutOfRange
+        → ¬ All (FitsAtEach map.now (shape_at shapes.now i).shifts) (shape_at shapes.now i).figure }
+{
+    for j in 0..shapes.ring_count(i) {
+        draw_ring(room, rings, shapes, i, j, map, window)?;
+    }
+    Ok(())
+}
+
+/// Adds the shapes of a cell, placed by the map, as far as they reach into the window, each to the
+/// sheet of its Layer.
+pub(crate) fn draw_shapes_within(
+    room: &mut Room,
+    sheets: &mut Vec<Sheet>,
+    shapes: &Shapes,
+    map: &Map,
+    window: &Window,
+) -> Result<(), PlaceFault>
+    requires sorted { AreSorted sheets.old.items }
+    requires layers { HaveSheets sheets.old.items shapes.now }
+    ensures covers { OnOk result ((layer : PlainLayer) (q : GridSquare) → RingsCover (rings_on layer sheets.new.items) q
+        ↔ (RingsCover (rings_on layer sheets.old.items) q
+        ⊎ (IsInWindow window.now q × ShapesPlaceCover layer map.now q shapes.now))) }
+    ensures fits { OnOk result (FitShapes map.now shapes.now) }
+    ensures out { result ≡ Err PlaceFault.OutOfRange → ¬ FitShapes map.now shapes.now }
+    ensures layers_stay { OnOk result
+        (list_map (λ s. s.layer) sheets.new.items ≡ list_map (λ s. s.layer) sheets.old.items) }
+{
+    for i in 0..shapes.len() {
+        let Some(place) = place_of(sheets, shapes.layer(i)) else {
+            unreachable!()
+        };
+        let sheet = &mut sheets[place];
+        draw_shape(room, &mut sheet.rings, shapes, i, map, window)?;
+    }
+    Ok(())
+}

@@ -1,0 +1,4 @@
+pub mod Elements
+pub mod Layers
+pub mod Lattices
+pub mod Reaches

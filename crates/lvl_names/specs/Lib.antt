@@ -1,0 +1,4 @@
+pub mod Layers
+pub mod Names
+pub mod Shifts
+pub mod inside

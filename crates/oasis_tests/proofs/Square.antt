@@ -1,0 +1,399 @@
+-- A whole file, computed by the definitions: the 303 bytes of a square of ten steps spell one library and no other.
+use Rattle.std.proofs.Common.{◌≡◌, ◌∙◌, ℕ, ◌^◌, Bool, true, false, List, [], ◌∷◌, ◌++◌}
+use Rattle.std.proofs.Common.{length, map, All, Some, None, Ok, pos, refl, sym, ap, subst}
+use Rattle.std.proofs.lemmas.Bool.{ltb-true, leb-true}
+use Rattle.std.proofs.lemmas.List.{append-nil}
+use Rattle.std.proofs.lemmas.List.Elements.{All-nil, All-cons}
+use Rattle.lvl_grid.specs.declared.point.Point.{Point}
+use Rattle.lvl_grid.specs.Turn.{FitsPoint}
+use Rattle.lvl_path.specs.Figure.{Figure, rings}
+use Rattle.lvl_io.specs.Spelling.{Then, Chain}
+use Rattle.lvl_grammar.specs.Front.{SpellsAll, FollowAll, SpellsWhole}
+use Rattle.lvl_grammar.proofs.Laws.{one_whole}
+use Rattle.lvl_cells.specs.Cells.{PlainCell}
+use Rattle.oasis_values.specs.Known.{among, Known, Seen}
+use Rattle.oasis_values.specs.Input.{file_limit}
+use Rattle.oasis_values.specs.Numbers.{IsByte, IsUnsigned}
+use Rattle.oasis_values.specs.Reals.{with_sign, real_types, IsReal, IsRealOf, IsSigned}
+use Rattle.oasis_values.specs.Repetitions.{IsRepetition}
+use Rattle.oasis_values.specs.Texts.{IsString}
+use Rattle.oasis_values.specs.declared.fault.ValueFault.TheVariants.{RealType as unknown_type}
+use Rattle.oasis_values.specs.declared.number.Real.TheVariants.{Whole}
+use Rattle.oasis_values.specs.declared.number.RealType.TheVariants.{Whole as OfWhole}
+use Rattle.oasis_values.specs.declared.text.Text.TheVariants.{A, N}
+use Rattle.oasis_values.specs.Ranges.{is_in_range}
+use Rattle.oasis_values.proofs.Ranges.{range_fits}
+use Rattle.oasis_records.specs.Cells.{IsCell, IsCellRef}
+use Rattle.oasis_records.specs.Ends.{IsPaddingLength, ArePadding, IsScheme, IsSignature, IsEnding, IsEnd}
+use Rattle.oasis_records.specs.Fields.{If, on_layer, IsOnLayer, position, IsPosition}
+use Rattle.oasis_records.specs.Magic.{magic as magic_string, IsMagic}
+use Rattle.oasis_records.specs.Records.{AreFields}
+use Rattle.oasis_records.specs.Rectangles.{IsRectangleInfo, IsRectangleOf, IsRectangle, rectangle}
+use Rattle.oasis_records.specs.Rules.{Must, UnlessRuled}
+use Rattle.oasis_records.specs.Sizes.{Sized}
+use Rattle.oasis_records.specs.Starts.{is_version, IsVersionText, IsVersion, IsUnit, IsFlag, AreTables, start}
+use Rattle.oasis_records.specs.Starts.{IsStartOf, IsStart}
+use Rattle.oasis_records.specs.declared.cell.CellRef.TheVariants.{Name}
+use Rattle.oasis_records.specs.declared.end.Validation.{Validation}
+use Rattle.oasis_records.specs.declared.end.Validation.TheVariants.{Absent}
+use Rattle.oasis_records.specs.declared.fault.RecordRule.TheVariants.{Version, EndLength}
+use Rattle.oasis_records.specs.declared.record.Record.{Record}
+use Rattle.oasis_records.specs.declared.record.Record.TheVariants.{Start, Cell, Rectangle, End}
+use Rattle.oasis_records.specs.declared.record_type.RecordType.{RecordType}
+use Rattle.oasis_records.specs.declared.record_type.RecordType.TheVariants.{Start as OfStart, End as OfEnd}
+use Rattle.oasis_records.specs.declared.record_type.RecordType.TheVariants.{NamedCell as OfCell}
+use Rattle.oasis_records.specs.declared.record_type.RecordType.TheVariants.{Rectangle as OfRectangle}
+use Rattle.oasis_figures.specs.Rules.{BreachesNone}
+use Rattle.oasis_figures.specs.declared.rule.FigureRule.TheVariants.{Undefined, Layer as WideLayer, OutOfRange}
+use Rattle.oasis_figures.specs.declared.rule.FigureRule.TheVariants.{Magnification, Angle, Extension, Oblique, Path}
+use Rattle.oasis_stream.specs.Items.{Item, magic, item, records, IsEnded}
+use Rattle.oasis_stream.specs.Front.{of_magic, of_record, IsTyped, IsNext, oasis}
+use Rattle.oasis_stream.specs.Order.{at_end, type_after, names_in, last_or}
+use Rattle.oasis_stream.specs.Rules.{since_cell, NamingBreaches, RecordBreaches, MayFollow}
+use Rattle.oasis_stream.specs.declared.fault.NameRule.{NameRule}
+use Rattle.oasis_stream.specs.declared.fault.OasisKind.{OasisKind}
+use Rattle.oasis_stream.specs.declared.fault.OasisKind.TheVariants.{Value, Record as OfRule, Unexpected, Name as OfName}
+use Rattle.oasis_stream.specs.declared.fault.OasisKind.TheVariants.{Figure as OfFigure, AfterEnd, TooManyCells}
+use Rattle.oasis_stream.proofs.Instance.{is_grammar}
+use Rattle.oasis_library.specs.Cells.{drawings}
+use Rattle.oasis_library.specs.Head.{head_of}
+use Rattle.oasis_library.specs.Library.{SpellsLibrary}
+use Rattle.oasis_library.specs.Names.{AreCells}
+use Rattle.oasis_library.specs.declared.head.OasisHead.{OasisHead}
+use Rattle.oasis_library.proofs.Resolving.{same_cells}
+use Rattle.oasis_tests.proofs.Spelled.{zeros, after, alone, seen, small, wide, zero_integers, zero_bytes, magic_said}
+use Rattle.oasis_tests.proofs.Spelled.{three}
+
+abbrev one : List ℕ
+one = 0x31 ∷ 0x2E ∷ 0x30 ∷ []
+
+abbrev name : List ℕ
+name = 0x54 ∷ 0x4F ∷ 0x50 ∷ []
+
+-- the fields of the records, after their ids
+abbrev of_start : List ℕ
+of_start = (3 ∷ one) ++ ((0 ∷ 0xE8 ∷ 7 ∷ []) ++ (0 ∷ []) ++ zeros 12)
+
+abbrev of_cell : List ℕ
+of_cell = 3 ∷ name
+
+abbrev of_rectangle : List ℕ
+of_rectangle = 0x7B ∷ 1 ∷ 0 ∷ 10 ∷ 10 ∷ 0 ∷ 0 ∷ []
+
+abbrev of_end : List ℕ
+of_end = (0xFC ∷ 1 ∷ []) ++ (zeros 252 ++ (0 ∷ []))
+
+-- the file
+abbrev file : List ℕ
+file = magic_string ++ (1 ∷ of_start) ++ (14 ∷ of_cell) ++ (20 ∷ of_rectangle) ++ (2 ∷ of_end)
+
+file_length : length file ≡ 303
+file_length = refl
+
+-- its records
+abbrev starting : Record
+starting = Start (record { unit = Whole 1000; has_offsets_at_end = false })
+
+abbrev cell : Record
+cell = Cell (Name name)
+
+abbrev drawn : Record
+drawn = Rectangle (record {
+  is_square = false;
+  on = record { layer = Some 1; datatype = Some 0 };
+  width = Some 10;
+  height = Some 10;
+  position = record { x = Some (pos 0); y = Some (pos 0); repetition = None };
+})
+
+abbrev ending : Record
+ending = End Absent
+
+abbrev square : List Item
+square = magic ∷ item starting ∷ item cell ∷ item drawn ∷ item ending ∷ []
+
+-- START
+
+version_said : IsVersion (3 ∷ one) (Ok (Ok one))
+version_said =
+    alone IsVersionText (UnlessRuled (λ text. Must (is_version text) text Version)) (3 ∷ one) (Ok one) (Ok (Ok one))
+    (seen Ok (IsString A 255) (3 ∷ one) one (three A one refl refl (refl, (refl, (refl, tt))))) (refl, refl)
+
+unit_said : IsUnit (0 ∷ 0xE8 ∷ 7 ∷ []) (Ok (Ok (Whole 1000)))
+unit_said =
+    alone IsReal _ (0 ∷ 0xE8 ∷ 7 ∷ []) (Whole 1000) (Ok (Ok (Whole 1000)))
+    (after IsUnsigned (λ n. Then (Known (among 0 real_types n) unknown_type) IsRealOf) (0 ∷ []) (0xE8 ∷ 7 ∷ []) 0
+    (Ok (Whole 1000)) (small 0 refl refl refl)
+    (after (Known (Some OfWhole) unknown_type) IsRealOf [] (0xE8 ∷ 7 ∷ []) OfWhole (Ok (Whole 1000)) (refl, refl)
+    (seen Whole IsUnsigned (0xE8 ∷ 7 ∷ []) 1000 (wide 0xE8 7 1000 refl refl refl refl)))) (refl, refl)
+
+flag_said : IsFlag (0 ∷ []) (Ok (Ok 0))
+flag_said = alone IsUnsigned _ (0 ∷ []) 0 (Ok (Ok 0)) (small 0 refl refl refl) (refl, refl)
+
+tables_said : AreTables true (zeros 12) (Ok true)
+tables_said = seen (λ _. true) (Chain (λ _. IsUnsigned) (λ n. n) 12 0) (zeros 12) (zeros 12) (zero_integers 12 0)
+
+start_said : IsStart of_start (Ok (Ok starting))
+start_said =
+    after IsVersion (UnlessRuled (λ _. IsStartOf)) (3 ∷ one) ((0 ∷ 0xE8 ∷ 7 ∷ []) ++ (0 ∷ []) ++ zeros 12) (Ok one)
+    (Ok (Ok starting)) version_said
+    (after IsUnit _ (0 ∷ 0xE8 ∷ 7 ∷ []) ((0 ∷ []) ++ zeros 12) (Ok (Whole 1000)) (Ok (Ok starting)) unit_said
+    (after IsFlag _ (0 ∷ []) (zeros 12) (Ok 0) (Ok (Ok starting)) flag_said
+    (seen (start (Whole 1000)) (AreTables true) (zeros 12) true tables_said)))
+
+-- CELL
+
+cell_said : AreFields false 1 OfCell of_cell (Ok (Ok cell))
+cell_said =
+    seen Ok (IsCell false) of_cell cell
+    (seen Cell (IsCellRef false) of_cell (Name name)
+    (seen Name (IsString N 255) of_cell name (three N name refl refl (refl, (refl, (refl, tt))))))
+
+-- RECTANGLE
+
+given : (n : ℕ) → IsUnsigned (n ∷ []) (Ok n) → If true IsUnsigned (n ∷ []) (Ok (Some n))
+given n u = seen Some IsUnsigned (n ∷ []) n u
+
+origin : If true IsSigned (0 ∷ []) (Ok (Some (pos 0)))
+origin =
+    seen Some IsSigned (0 ∷ []) (pos 0) (seen with_sign IsUnsigned (0 ∷ []) 0 (small 0 refl refl refl))
+
+layer_said : IsOnLayer 0x7B (1 ∷ 0 ∷ []) (Ok (record { layer = Some 1; datatype = Some 0 }))
+layer_said =
+    after (If true IsUnsigned) (λ l. Seen (on_layer l) (If true IsUnsigned)) (1 ∷ []) (0 ∷ []) (Some 1) _
+    (given 1 (small 1 refl refl refl))
+    (seen (on_layer (Some 1)) (If true IsUnsigned) (0 ∷ []) (Some 0) (given 0 (small 0 refl refl refl)))
+
+position_said : IsPosition 0x7B (0 ∷ 0 ∷ []) (Ok (record { x = Some (pos 0); y = Some (pos 0); repetition = None }))
+position_said =
+    after (If true IsSigned) _ (0 ∷ []) (0 ∷ []) (Some (pos 0)) _ origin
+    (after (If true IsSigned) _ (0 ∷ []) [] (Some (pos 0)) _ origin
+    (seen (position (Some (pos 0)) (Some (pos 0))) (If false (IsRepetition true)) [] None
+    (refl, refl)))
+
+rectangle_said : IsRectangle of_rectangle (Ok (Ok drawn))
+rectangle_said =
+    after IsRectangleInfo (UnlessRuled (λ i. Seen Ok (IsRectangleOf i))) (0x7B ∷ []) (1 ∷ 0 ∷ 10 ∷ 10 ∷ 0 ∷ 0 ∷ [])
+    (Ok 0x7B) (Ok (Ok drawn)) (alone IsByte _ (0x7B ∷ []) 0x7B (Ok (Ok 0x7B)) refl (refl, refl))
+    (seen Ok (IsRectangleOf 0x7B) (1 ∷ 0 ∷ 10 ∷ 10 ∷ 0 ∷ 0 ∷ []) drawn
+    (after (IsOnLayer 0x7B) _ (1 ∷ 0 ∷ []) (10 ∷ 10 ∷ 0 ∷ 0 ∷ []) _ (Ok drawn) layer_said
+    (after (If true IsUnsigned) _ (10 ∷ []) (10 ∷ 0 ∷ 0 ∷ []) (Some 10) (Ok drawn) (given 10 (small 10 refl refl refl))
+    (after (If true IsUnsigned) _ (10 ∷ []) (0 ∷ 0 ∷ []) (Some 10) (Ok drawn) (given 10 (small 10 refl refl refl))
+    (seen (rectangle false (record { layer = Some 1; datatype = Some 0 }) (Some 10) (Some 10)) (IsPosition 0x7B)
+    (0 ∷ 0 ∷ []) _ position_said)))))
+
+-- END
+
+padding_said : Sized (IsPaddingLength false) (0xFC ∷ 1 ∷ []) (Ok (record { value = 252; len = 2 }))
+padding_said = (
+  after (AreTables false) (λ _. IsUnsigned) [] (0xFC ∷ 1 ∷ []) false (Ok 252) (refl, refl)
+      (wide 0xFC 1 252 refl refl refl refl),
+  refl,
+)
+
+scheme_said : IsScheme (0 ∷ []) (Ok (Ok 0))
+scheme_said = alone IsByte _ (0 ∷ []) 0 (Ok (Ok 0)) refl (refl, refl)
+
+ending_said : IsEnding 252 (zeros 252 ++ (0 ∷ [])) (Ok (Ok Absent))
+ending_said =
+    after (ArePadding 252) _ (zeros 252) (0 ∷ []) 252 (Ok (Ok Absent))
+    (seen (λ _. 252) (Chain (λ _. IsByte) (λ x. x) 252 0) (zeros 252) (zeros 252) (zero_bytes 252 0))
+    (after IsScheme _ (0 ∷ []) [] (Ok 0) (Ok (Ok Absent)) scheme_said
+    (seen Ok (IsSignature true 0) [] Absent (refl, refl)))
+
+end_said : IsEnd false 1 of_end (Ok (Ok ending))
+end_said =
+    after (Sized (IsPaddingLength false)) _ (0xFC ∷ 1 ∷ []) (zeros 252 ++ (0 ∷ [])) (record { value = 252; len = 2 })
+    (Ok (Ok ending)) padding_said
+    (after (Must true (record { value = 252; len = 2 }) EndLength) _ [] (zeros 252 ++ (0 ∷ []))
+    (Ok (record { value = 252; len = 2 })) (Ok (Ok ending)) (refl, refl)
+    (alone (IsEnding 252) _ (zeros 252 ++ (0 ∷ [])) (Ok Absent) (Ok (Ok ending)) ending_said (refl, refl)))
+
+-- each record is spelled after those before it
+
+next : (rs : List Record) (id : ℕ) (t : RecordType) (r : Record) (fields : List ℕ) → IsUnsigned (id ∷ []) (Ok id)
+    → type_after rs id ≡ Ok t → AreFields (at_end rs) 1 t fields (Ok (Ok r))
+    → IsNext rs (id ∷ fields) (Ok (Ok (item r)))
+next rs id t r fields u e f =
+    after (Sized IsUnsigned) (λ id. IsTyped (at_end rs) id.len (type_after rs id.value)) (id ∷ []) fields
+    (record { value = id; len = 1 }) (Ok (Ok (item r))) (u, refl)
+    (subst (λ x. IsTyped (at_end rs) 1 x fields (Ok (Ok (item r)))) (sym e)
+    (seen of_record (AreFields (at_end rs) 1 t) fields (Ok r) f))
+
+spelled : SpellsAll oasis [] file square
+spelled = (
+  magic_string,
+  (1 ∷ of_start) ++ (14 ∷ of_cell) ++ (20 ∷ of_rectangle) ++ (2 ∷ of_end),
+  seen of_magic IsMagic magic_string (Ok tt) magic_said,
+  (
+    1 ∷ of_start,
+    (14 ∷ of_cell) ++ (20 ∷ of_rectangle) ++ (2 ∷ of_end),
+    next [] 1 OfStart starting of_start (small 1 refl refl refl) refl start_said,
+    (
+      14 ∷ of_cell,
+      (20 ∷ of_rectangle) ++ (2 ∷ of_end),
+      next (starting ∷ []) 14 OfCell cell of_cell (small 14 refl refl refl) refl cell_said,
+      (
+        20 ∷ of_rectangle,
+        2 ∷ of_end,
+        next (starting ∷ cell ∷ []) 20 OfRectangle drawn of_rectangle (small 20 refl refl refl) refl rectangle_said,
+        (
+          2 ∷ of_end,
+          [],
+          next (starting ∷ cell ∷ drawn ∷ []) 2 OfEnd ending of_end (small 2 refl refl refl) refl end_said,
+          refl,
+          sym (append-nil (2 ∷ of_end)),
+        ),
+        refl,
+      ),
+      refl,
+    ),
+    refl,
+  ),
+  refl,
+)
+
+-- each record may follow those before it
+
+abbrev is_end : Item → Bool
+is_end (item (End v)) = true
+is_end i = false
+
+end_last : (d : Bool) (b : List Item) (v : Validation) → last_or d (map is_end (b ++ item (End v) ∷ [])) ≡ true
+end_last d [] v = refl
+end_last d (i ∷ b) v = end_last (is_end i) b v
+
+unended : (is : List Item) → last_or false (map is_end is) ≡ false → ¬ IsEnded is
+unended is e h =
+    let z : false ≡ true = sym e ∙ ap (λ l. last_or false (map is_end l)) h.2 ∙ end_last false h.0 h.1 in cc
+
+none_some : {A : Type 0} {x : A} → None ≡ Some x → ⊥
+none_some h = cc
+
+breached : (before : List Item) (r : Record) → ((k : NameRule) → NamingBreaches (names_in (records before)) r k → ⊥)
+    → BreachesNone (since_cell (records before)) r → (k : OasisKind) → RecordBreaches (records before) r k → ⊥
+breached before r n f (OfName k) b = n k b
+breached before r n f (OfFigure k) b = f k b.broken
+breached before r n f (Value e) b = b
+breached before r n f (OfRule k) b = b
+breached before r n f (Unexpected k) b = b
+breached before r n f AfterEnd b = b
+breached before r n f TooManyCells b = b
+
+follows : (before : List Item) (r : Record) → last_or false (map is_end before) ≡ false
+    → ((k : NameRule) → NamingBreaches (names_in (records before)) r k → ⊥)
+    → BreachesNone (since_cell (records before)) r
+    → MayFollow before (item r)
+follows before r e n f = (unended before e, breached before r n f)
+
+none_of_start : (earlier : List Record) → BreachesNone earlier starting
+none_of_start earlier (Undefined v) b = none_some b
+none_of_start earlier WideLayer b = b
+none_of_start earlier OutOfRange b = b
+none_of_start earlier Magnification b = b
+none_of_start earlier Angle b = b
+none_of_start earlier Extension b = b
+none_of_start earlier Oblique b = b
+none_of_start earlier (Path f) b = b
+
+none_of_cell : (earlier : List Record) → BreachesNone earlier cell
+none_of_cell earlier (Undefined v) b = none_some b
+none_of_cell earlier WideLayer b = b
+none_of_cell earlier OutOfRange b = b
+none_of_cell earlier Magnification b = b
+none_of_cell earlier Angle b = b
+none_of_cell earlier Extension b = b
+none_of_cell earlier Oblique b = b
+none_of_cell earlier (Path f) b = b
+
+none_of_end : (earlier : List Record) → BreachesNone earlier ending
+none_of_end earlier (Undefined v) b = none_some b
+none_of_end earlier WideLayer b = b
+none_of_end earlier OutOfRange b = b
+none_of_end earlier Magnification b = b
+none_of_end earlier Angle b = b
+none_of_end earlier Extension b = b
+none_of_end earlier Oblique b = b
+none_of_end earlier (Path f) b = b
+
+abbrev at : ℕ → ℕ → Point
+at x y = record { x = pos x; y = pos y }
+
+abbrev corners : List Point
+corners = at 0 0 ∷ at 10 0 ∷ at 10 10 ∷ at 0 10 ∷ []
+
+near : (x y : ℕ) → is_in_range (pos x) ≡ true → is_in_range (pos y) ≡ true → FitsPoint (at x y)
+near x y a b = record { x_fits = range_fits (pos x) a; y_fits = range_fits (pos y) b }
+
+all_near : All FitsPoint corners
+all_near =
+    All-cons FitsPoint (at 0 0) (at 10 0 ∷ at 10 10 ∷ at 0 10 ∷ []) (near 0 0 refl refl)
+    (All-cons FitsPoint (at 10 0) (at 10 10 ∷ at 0 10 ∷ []) (near 10 0 refl refl)
+    (All-cons FitsPoint (at 10 10) (at 0 10 ∷ []) (near 10 10 refl refl)
+    (All-cons FitsPoint (at 0 10) [] (near 0 10 refl refl) (All-nil FitsPoint))))
+
+none_of_rectangle : BreachesNone [] drawn
+none_of_rectangle (Undefined v) b = none_some b
+none_of_rectangle WideLayer b = b (ltb-true 1 (2 ^ 32) refl, ltb-true 0 (2 ^ 32) refl)
+none_of_rectangle OutOfRange b = b all_near
+none_of_rectangle Magnification b = b
+none_of_rectangle Angle b = b
+none_of_rectangle Extension b = b
+none_of_rectangle Oblique b = b
+none_of_rectangle (Path f) b = b
+
+followed : FollowAll oasis [] square
+followed = (
+  (unended [] refl, (λ k b. b)),
+  (
+    follows (magic ∷ []) starting refl (λ k b. b) (none_of_start []),
+    (
+      follows (magic ∷ item starting ∷ []) cell refl (λ k b. b) (none_of_cell (starting ∷ [])),
+      (
+        follows (magic ∷ item starting ∷ item cell ∷ []) drawn refl (λ k b. b) none_of_rectangle,
+        (
+          follows (magic ∷ item starting ∷ item cell ∷ item drawn ∷ []) ending refl (λ k b. b)
+              (none_of_end (drawn ∷ [])),
+          tt,
+        ),
+      ),
+    ),
+  ),
+)
+
+whole : SpellsWhole oasis file square
+whole = record {
+  front = record { spelled = spelled; followed = followed; within = leb-true 303 file_limit refl };
+  whole = (magic ∷ item starting ∷ item cell ∷ item drawn ∷ [], Absent, refl);
+}
+
+-- the one cell, TOP: a ring on layer 1, datatype 0
+abbrev top : PlainCell Figure
+top = record {
+  name = name;
+  shapes = record {
+    layer = record { layer = 1; datatype = 0 };
+    figure = rings (corners ∷ []);
+    shifts = at 0 0 ∷ [];
+  } ∷ [];
+  references = [];
+}
+
+abbrev heading : OasisHead
+heading = record { unit = Whole 1000; scheme = 0; signature = 0 ∷ 0 ∷ 0 ∷ 0 ∷ [] }
+
+cells_are : AreCells (names_in (records square)) (drawings (records square)) (top ∷ [])
+cells_are = (record { name = refl; shapes = refl; references = tt }, tt)
+
+square_spells : SpellsLibrary file (top ∷ []) heading
+square_spells = record { items = square; whole = whole; cells_are = cells_are; head_is = refl }
+
+square_only : (cells : List (PlainCell Figure)) (h : OasisHead) → SpellsLibrary file cells h
+    → (cells ≡ top ∷ []) × (h ≡ heading)
+square_only cells h p =
+    let e : p.items ≡ square = one_whole oasis is_grammar file p.items square p.whole whole in
+    let are : AreCells (names_in (records square)) (drawings (records square)) cells =
+    subst (λ is. AreCells (names_in (records is)) (drawings (records is)) cells) e p.cells_are in (
+      same_cells (names_in (records square)) (drawings (records square)) (top ∷ []) cells cells_are are,
+      p.head_is ∙ ap (λ is. head_of (records is)) e,
+    )
