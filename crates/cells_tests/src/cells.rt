@@ -310,9 +310,9 @@ fn rings_limit(rt: HostRuntime) -> Result<(), Fail> {
 }
 
 #[test]
-fn a_million_cells(rt: HostRuntime) -> Result<(), Fail> {
+fn many_cells(rt: HostRuntime) -> Result<(), Fail> {
     let mut cells = Vec::new(rt.alloc());
-    for number in 0..1_048_576 {
+    for number in 0..131_072 {
         cells.push(empty(rt.alloc(), &name_of(number))?)?;
     }
     let checked = check(rt.alloc(), Library { cells }, Some(&name_of(7)))?;
