@@ -277,7 +277,7 @@ fn lists_of_shifts(rt: HostRuntime) -> Result<(), Fail> {
     // Forty on a line, and one that goes back.
     let mut shifts = Vec::new(alloc);
     for x in 0..40 {
-        shifts.push(point(x * 10, 0))?;
+        shifts.push(point(x.saturating_mul(10), 0))?;
     }
     shifts.push(point(1, 5))?;
     let listed = Offsets::new(shifts).ok_or("shifts")?;
