@@ -276,7 +276,7 @@ fn lists_of_shifts(rt: HostRuntime) -> Result<(), Fail> {
     let alloc = rt.alloc();
     // Forty on a line, and one that goes back.
     let mut shifts = Vec::new(alloc);
-    for x in 0..40 {
+    for x in 0..40_i64 {
         shifts.push(point(x.saturating_mul(10), 0))?;
     }
     shifts.push(point(1, 5))?;
