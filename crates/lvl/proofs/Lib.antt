@@ -6,3 +6,4 @@ pub mod Refused
 pub mod Viewing
 pub mod ShownLayers
 pub mod Showing
+pub mod Digesting

@@ -99,6 +99,7 @@ pub record IsTopLifted (file : File) (others : List Drawing) (cells : List (Plai
     (c : PlainCell Rings) : Type 0 where
   pub top : Drawing
   pub accepted : IsAccepted file others top
+  pub kept_as : drawn figure_rings top ≡ c
   pub draws : (layer : Layer) (s : Square) → CellCovers RingsCover cells layer c s ↔ Draws others top layer s
 
 pub top_lifted : (file : File) (cells : List (PlainCell Rings)) (head : Head) (read : IsLayoutOf file.bytes cells head)
@@ -125,6 +126,7 @@ top_lifted file cells head read s r =
         top_is = b.1;
         fits = (fits_kept figure_rings others b.0).1 fits;
       };
+      kept_as = b.2;
       draws = λ layer t.
           let q = draws_kept others layer b.0 t in
           let p =

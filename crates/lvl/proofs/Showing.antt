@@ -134,7 +134,7 @@ show_not_early k (CellsRefusal side f) h e = e
 show_not_early k (FlatRefusal side f) h e = e
 show_not_early k OutOfMemory h e = e
 
-pub show_never_early : (k : Kept) (P : Type 0) (r : Result Shown Refusal) → IfErr r (IsShowRefusal k)
+pub show_never_early : {X : Type 0} (k : Kept) (P : Type 0) (r : Result X Refusal) → IfErr r (IsShowRefusal k)
     → IfErr r (λ e. IsEarlyOf First e → P)
 show_never_early k P (Ok x) h = tt
 show_never_early k P (Err e) h = λ early. absurd (show_not_early k e h early)

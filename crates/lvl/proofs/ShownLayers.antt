@@ -25,7 +25,7 @@ abbrev layer_of : PlainSheet → Layer
 layer_of s = s.layer
 
 -- the sheet whose Layer is at an index
-sheet_at : (flat : List PlainSheet) (n : ℕ) (layer : Layer) → slice_get (map layer_of flat) n ≡ Some layer
+pub sheet_at : (flat : List PlainSheet) (n : ℕ) (layer : Layer) → slice_get (map layer_of flat) n ≡ Some layer
     → (s : PlainSheet) × (slice_get flat n ≡ Some s) × (s.layer ≡ layer)
 sheet_at flat n layer e =
     let at : option_map layer_of (slice_get flat n) ≡ Some layer = sym (slice_get-map layer_of flat n) ∙ e in

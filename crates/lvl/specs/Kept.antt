@@ -1,5 +1,5 @@
 -- The steps after the reading, on libraries with rings alone.
-use Rattle.std.specs.Prelude.{◌≡◌, ⊤, ℕ, List, Option, Some, slice_get}
+use Rattle.std.specs.Prelude.{◌≡◌, ⊤, ℕ, List, length, Option, Some, slice_get}
 use Rattle.lvl_cells.specs.Cells.{PlainCell, Rings}
 use Rattle.lvl_grid.specs.declared.point.Square.{Square}
 use Rattle.lvl_names.specs.declared.layer.Layer.{Layer}
@@ -15,6 +15,7 @@ use Rattle.lvl_region.specs.declared.region.Side.TheVariants.{First, Second}
 use Rattle.lvl_view.specs.Views.{PlainView}
 use Rattle.lvl_view.specs.Moved.{IsMoved}
 use Rattle.lvl.specs.Views.{IsVerdictOf}
+use Rattle.lvl.specs.declared.flattened.FlatLibrary.{FlatLibrary}
 use Rattle.lvl.specs.declared.verdict.Verdict.{Verdict}
 use Rattle.lvl.specs.declared.verdict.Refusal.{Refusal}
 use Rattle.lvl.specs.declared.verdict.Refusal.TheVariants.{File as FileRefusal, Cells as CellsRefusal}
@@ -38,6 +39,14 @@ pub record IsFlattenedAs (k : Kept) (sheets : List PlainSheet) : Type 0 where
   pub settled : Settled
   pub checked : IsCheckedAs k settled
   pub flat : IsFlattened settled sheets
+
+-- and this is the name of its top, how many cells it has, and the rings that the top places
+pub record IsFlatLibrary (k : Kept) (found : FlatLibrary) : Type 0 where
+  pub settled : Settled
+  pub checked : IsCheckedAs k settled
+  pub flat : IsFlattened settled found.flat
+  pub top_is : found.top.items ≡ flat.top.name
+  pub cells_are : found.cells ≡ length settled.cells
 
 -- the fault is why the check refused it
 pub record IsCellFault (k : Kept) (fault : CellFault) : Type 0 where

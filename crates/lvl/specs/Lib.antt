@@ -5,4 +5,5 @@ pub mod Kept
 pub mod Answers
 pub mod Sides
 pub mod Shown
+pub mod Digested
 pub mod Views

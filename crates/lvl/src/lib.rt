@@ -2,8 +2,9 @@
 //!
 //! [`compare_layouts`] reads two files, checks their cells, flattens them and compares what they cover
 //! Layer by Layer. Its answer is a [`Verdict`] or a [`Refusal`]. [`compare_view`] does so with the
-//! second file's Layers mapped, and in a window alone. [`show_file`] says what one file holds. A
-//! format is a variant of [`Layout`], [`Head`] and [`FileFault`], and a row in each match on them.
+//! second file's Layers mapped, and in a window alone. [`show_file`] says what one file holds, and
+//! [`digest_file`] gives a digest of the mask that it draws. A format is a variant of [`Layout`],
+//! [`Head`] and [`FileFault`], and a row in each match on them.
 //!
 //! `one` and `other` are two files in memory that draw the same:
 //!
@@ -20,6 +21,8 @@
 #![tactic(auto)]
 
 pub use compare::{compare_files, compare_layouts, compare_view};
+pub use digest::{digest_file, digests_decide};
+pub use digested::{Digested, DigestedLayer, MaskDigest};
 pub use layout::{FileFault, Head, Layout, read_layout};
 pub use show::show_file;
 pub use shown::{Shown, ShownLayer};
@@ -27,7 +30,10 @@ pub use verdict::{Comparison, Refusal, Tops, Verdict};
 
 mod alike;
 mod compare;
+mod digest;
+mod digested;
 mod fitted;
+mod flattened;
 mod layout;
 mod show;
 mod shown;

@@ -7,9 +7,10 @@ ghost use Rattle.lvl.specs.Shown.{IsShownFile, IsShownKept, IsOfFirst, IsShowRef
 ghost use Rattle.lvl.specs.Sides.{file_named, kept_named};
 ghost use Rattle.lvl.specs.declared.verdict.Refusal.TheVariants.{OutOfMemory};
 
+use crate::flattened::{FlatLibrary, flatten_library};
 use crate::layout::Head;
-use crate::shown::{Shown, layers_of, top_name};
-use crate::side::{check_named, flatten_side, read_side};
+use crate::shown::{Shown, layers_of};
+use crate::side::read_side;
 use crate::verdict::Refusal;
 use lvl_cells::Library;
 use lvl_io::Read;
@@ -27,12 +28,7 @@ fn show_library(
     ensures shown { IfOk result (IsShownKept (kept_named library (option_copied top.entry))) }
     ensures refused { IfErr result (IsShowRefusal (kept_named library (option_copied top.entry))) }
 {
-    let checked = check_named(alloc, Side::First, library, top)?;
-    let Ok(top) = top_name(alloc, &checked) else {
-        return Err(Refusal::OutOfMemory);
-    };
-    let cells = checked.cells().len();
-    let flat = flatten_side(alloc, Side::First, checked)?;
+    let FlatLibrary { top, cells, flat } = flatten_library(alloc, library, top)?;
     let Ok(layers) = layers_of(alloc, &flat) else {
         return Err(Refusal::OutOfMemory);
     };

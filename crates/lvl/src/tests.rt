@@ -1,8 +1,11 @@
 //! Each public call once, on the file of one square, with ample memory.
 
 use crate::{
-    Layout, Tops, Verdict, compare_files, compare_layouts, compare_view, read_layout, show_file,
+    DigestedLayer, Layout, Refusal, Tops, Verdict, compare_files, compare_layouts, compare_view,
+    digest_file, read_layout, show_file,
 };
+use lvl_cells::CellFault;
+use lvl_corners::LayerDigest;
 use lvl_grid::Square;
 use lvl_io::fake::Pieces;
 use lvl_names::Layer;
@@ -23,6 +26,12 @@ const VECTOR: [u8; 168] = [
     0x00, 0x00, 0x00, 0x00, 0x00, 0x00, 0x00, 0x0A, 0x00, 0x00, 0x00, 0x0A, 0x00, 0x00, 0x00, 0x00,
     0x00, 0x00, 0x00, 0x0A, 0x00, 0x00, 0x00, 0x00, 0x00, 0x00, 0x00, 0x00, 0x00, 0x04, 0x11, 0x00,
     0x00, 0x04, 0x07, 0x00, 0x00, 0x04, 0x04, 0x00,
+];
+
+/// The SHA-256 of "layer 1 datatype 0", a line feed, and the four corners of that square.
+const SHA256: [u8; 32] = [
+    0xC5, 0x48, 0x3B, 0xBF, 0xA6, 0xD2, 0x7C, 0xF6, 0x01, 0xD8, 0x7A, 0x9D, 0x6E, 0x74, 0xB9, 0x35,
+    0x0C, 0x2D, 0xCD, 0xE7, 0x2A, 0x70, 0xBA, 0xB5, 0xF8, 0x61, 0x57, 0x69, 0xE8, 0xFC, 0x57, 0x28,
 ];
 
 /// No top named.
@@ -95,5 +104,30 @@ fn one_file(rt: HostRuntime) -> Result<(), Fail> {
     assert_eq!(rt; shown.top.as_slice(), b"TOP".as_slice());
     assert_eq!(rt; shown.cells, 1);
     assert_eq!(rt; shown.layers.len(), 1);
+    Ok(())
+}
+
+#[test]
+fn digests(rt: HostRuntime) -> Result<(), Fail> {
+    let bytes = square(10);
+    let digested = digest_file(rt.alloc(), &mut Pieces::new(&bytes, 50), None);
+    let digested = digested.ok().ok_or("not digested")?;
+    assert_eq!(rt; digested.top.as_slice(), b"TOP".as_slice());
+    let listed = DigestedLayer {
+        layer: Layer {
+            layer: 1,
+            datatype: 0,
+        },
+        digest: LayerDigest {
+            corners: 4,
+            sha256: SHA256,
+        },
+    };
+    assert_eq!(rt; digested.mask.layers.as_slice(), [listed].as_slice());
+    assert_eq!(rt; digested.mask.sha256, SHA256);
+    let refused = digest_file(rt.alloc(), &mut Pieces::new(&bytes, 7), Some(b"OTHER"));
+    let Err(Refusal::Cells(Side::First, CellFault::TopMissing)) = refused else {
+        return Err("not refused".into());
+    };
     Ok(())
 }

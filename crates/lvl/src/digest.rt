@@ -1,0 +1,71 @@
+//! The digest of one layout: read, checked, flattened, and what it draws hashed.
+ghost use Rattle.std.specs.Prelude.{◌≡◌, ◌≢◌, List, ℕ, Some, Err, IfOk, IfErr, option_copied};
+ghost use Rattle.lvl_io.specs.Bytes.{CountsFailure};
+ghost use Rattle.lvl_region.specs.declared.region.Side.TheVariants.{First};
+ghost use Rattle.lvl.specs.Answers.{IsEarlyOf, IsHopeless, IsRefusalOf, is_read_of};
+ghost use Rattle.lvl.specs.Digested.{DigestsDecide, IsDigestedFile, IsDigestedKept};
+ghost use Rattle.lvl.specs.Shown.{IsOfFirst, IsShowRefusal};
+ghost use Rattle.lvl.specs.Sides.{file_named, kept_named};
+ghost use Rattle.lvl.specs.declared.verdict.Refusal.TheVariants.{OutOfMemory};
+
+use crate::digested::{Digested, digest_flat};
+use crate::flattened::{FlatLibrary, flatten_library};
+use crate::layout::Head;
+use crate::side::read_side;
+use crate::verdict::Refusal;
+use lvl_cells::Library;
+use lvl_corners::mask_bytes_decide;
+use lvl_io::Read;
+use lvl_region::Side;
+use std::alloc::Global;
+
+/// The digest of a library that was read with this head.
+fn digest_library(
+    alloc: Global,
+    head: Head,
+    library: Library,
+    top: Option<&[u8]>,
+) -> Result<Digested, Refusal>
+    ensures head { IfOk result (λ digested. digested.head ≡ head) }
+    ensures digested { IfOk result (IsDigestedKept (kept_named library (option_copied top.entry))) }
+    ensures refused { IfErr result (IsShowRefusal (kept_named library (option_copied top.entry))) }
+{
+    let FlatLibrary { top, flat, .. } = flatten_library(alloc, library, top)?;
+    let Ok(mask) = digest_flat(alloc, &flat) else {
+        return Err(Refusal::OutOfMemory);
+    };
+    Ok(Digested { head, top, mask })
+}
+
+/// The digest of a file's mask: what the file says of itself, its top, the digest of each Layer on which
+/// the top covers a square, and that of all of them. It is given where the file is accepted; a refusal
+/// names the first side; one for another cause than memory or a failed read comes only where it isn't.
+///
+/// Two files draw the same mask exactly where the bytes that are hashed are the same, as
+/// [`digests_decide`] says.
+pub fn digest_file<R: Read>(
+    alloc: Global,
+    reader: &mut R,
+    top: Option<&[u8]>,
+) -> Result<Digested, Refusal>
+    ensures digested { (xs : List ℕ) → R.remaining reader.old ≡ Some xs
+        → IfOk result (IsDigestedFile (file_named xs (option_copied top.entry))) }
+    ensures refused { (xs : List ℕ) → R.remaining reader.old ≡ Some xs
+        → IfErr result (IsRefusalOf First (file_named xs (option_copied top.entry))) }
+    ensures early { (xs : List ℕ) → R.remaining reader.old ≡ Some xs
+        → IfErr result (λ r. IsEarlyOf First r → IsHopeless xs (R.remaining reader.new)) }
+    ensures side { IfErr result IsOfFirst }
+    ensures reads { CountsFailure (R.read_errors reader.old) (R.read_errors reader.new) (is_read_of First result) }
+{
+    let (library, head) = read_side(alloc, Side::First, reader)?;
+    digest_library(alloc, head, library, top)
+}
+
+/// The law by which the digests of two files decide whether they draw the same mask, but for a collision
+/// of SHA-256: the bytes that are hashed are the same exactly where on every Layer both tops cover the
+/// same squares. It computes nothing.
+pub fn digests_decide()
+    ensures { DigestsDecide }
+{
+    mask_bytes_decide()
+}

@@ -1,0 +1,42 @@
+//! A library flattened.
+ghost use Rattle.std.specs.Prelude.{◌≢◌, Err, IfOk, IfErr, option_copied};
+ghost use Rattle.lvl.specs.Kept.{IsFlatLibrary};
+ghost use Rattle.lvl.specs.Shown.{IsShowRefusal};
+ghost use Rattle.lvl.specs.Sides.{kept_named};
+
+use crate::shown::top_name;
+use crate::side::{check_named, flatten_side};
+use crate::verdict::Refusal;
+use lvl_cells::Library;
+use lvl_flat::Flat;
+use lvl_region::Side;
+use std::alloc::Global;
+
+/// What the top of a library places.
+#[derive(Debug, Drop)]
+pub(crate) struct FlatLibrary {
+    /// The name of the top.
+    pub top: Vec<u8>,
+    /// How many cells the library has.
+    pub cells: usize,
+    /// The rings that the top places on each Layer.
+    pub flat: Flat,
+}
+
+/// The only library, if it is sound for the top that was named, places few, and all of it is within 64 bits.
+pub(crate) fn flatten_library(
+    alloc: Global,
+    library: Library,
+    top: Option<&[u8]>,
+) -> Result<FlatLibrary, Refusal>
+    ensures flat { IfOk result (IsFlatLibrary (kept_named library (option_copied top.entry))) }
+    ensures refused { IfErr result (IsShowRefusal (kept_named library (option_copied top.entry))) }
+{
+    let checked = check_named(alloc, Side::First, library, top)?;
+    let Ok(top) = top_name(alloc, &checked) else {
+        return Err(Refusal::OutOfMemory);
+    };
+    let cells = checked.cells().len();
+    let flat = flatten_side(alloc, Side::First, checked)?;
+    Ok(FlatLibrary { top, cells, flat })
+}
