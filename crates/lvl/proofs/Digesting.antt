@@ -1,11 +1,11 @@
 -- The digest of a flat layout, Layer by Layer, and from it to what the bytes of the file spell.
 use Rattle.std.proofs.Common.{◌≡◌, ◌↔◌, ℕ, zero, suc, ◌+◌, ◌<◌, ◌≤◌, ◌^◌, Bool, true, false, cond, List, [], ◌∷◌, ◌++◌}
-use Rattle.std.proofs.Common.{length, take, map, get_or, slice_get, Option, Some, None, Result, Ok, Err, IfOk, All, Any}
-use Rattle.std.proofs.Common.{AllPairs, inl, inr, refl, sym, ap, ◌∙◌, subst, arith, rules}
+use Rattle.std.proofs.Common.{length, take, map, get_or, slice_get, Option, Some, Result, Ok, Err, IfOk, All, Any}
+use Rattle.std.proofs.Common.{AllPairs, refl, sym, ap, ◌∙◌, subst, arith, rules}
 use Rattle.std.proofs.Math.ListN.{length-map}
 use Rattle.std.proofs.lemmas.List.{append_assoc, get_or-map, map_more, take_all}
-use Rattle.std.proofs.lemmas.List.Elements.{All-append, All-map, All-nil}
-use Rattle.std.proofs.lemmas.Option.{get_or_from_slice_get, slice_get-get_or, slice_get-map, slice_get_within}
+use Rattle.std.proofs.lemmas.List.Elements.{All-append, All-nil}
+use Rattle.std.proofs.lemmas.Option.{get_or_from_slice_get, slice_get-get_or, slice_get_within}
 use Rattle.lvl_grid.proofs.Anyone.{Any-map, Any-nil, Any-right}
 use Rattle.lvl_grid.specs.declared.point.Square.{Square}
 use Rattle.lvl_names.specs.Layers.{ComesBefore, same_layer}
@@ -14,7 +14,7 @@ use Rattle.lvl_names.proofs.Layers.{is_same}
 use Rattle.lvl_cells.specs.Cells.{PlainCell, Rings}
 use Rattle.lvl_cells.specs.Coverage.{RingsCover}
 use Rattle.lvl_corners.specs.Digests.{HasHashed, IsDigestOf}
-use Rattle.lvl_corners.specs.Masks.{AreMaskBytes, CoversOn, Drawn, IsMask}
+use Rattle.lvl_corners.specs.Masks.{AreMaskBytes, CoversOn, Drawn}
 use Rattle.sha2.specs.Sha256.{sha256}
 use Rattle.lvl_corners.specs.declared.digest.LayerDigest.{LayerDigest}
 use Rattle.lvl_corners.specs.declared.mask.MaskHash.{MaskHash}

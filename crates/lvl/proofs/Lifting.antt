@@ -22,11 +22,10 @@ use Rattle.lvl_flat.specs.declared.fault.FlatFault.TheVariants.{OutOfRange}
 use Rattle.lvl_region.specs.Region.{IsAlone}
 use Rattle.lvl_region.specs.declared.region.Side.{Side}
 use Rattle.lvl_region.specs.declared.region.Side.TheVariants.{First, Second}
-use Rattle.lvl_view.specs.Views.{PlainView}
 use Rattle.lvl.specs.Drawing.{Drawing}
 use Rattle.lvl.specs.declared.layout.Head.{Head}
 use Rattle.lvl.specs.Layouts.{File, Spells, IsLayoutOf}
-use Rattle.lvl.specs.Accepted.{IsAccepted, IsUnaccepted, Draws, AreSame}
+use Rattle.lvl.specs.Accepted.{IsAccepted, IsUnaccepted, Draws}
 use Rattle.lvl.specs.Kept.{Kept, IsCheckedAs, IsFlattenedAs, IsInRangeAs, IsCellFault, IsRangeFault}
 use Rattle.lvl.specs.Answers.{kept_of}
 use Rattle.lvl.proofs.Keeping.{sound_kept, cell_covers_kept, fits_kept, cell_back, cell_kept}

@@ -1,5 +1,5 @@
 -- From a verdict on what tops cover under a view to what the bytes of the files spell.
-use Rattle.std.proofs.Common.{◌≡◌, ◌↔◌, List, [], Option, Some, slice_get, refl, subst, sym}
+use Rattle.std.proofs.Common.{◌≡◌, ◌↔◌, List, [], Some, slice_get, refl, subst, sym}
 use Rattle.std.specs.Prelude.{IfErr, IfSome, IsErr, IsErrAnd, Result, Ok, Err}
 use Rattle.lvl_grid.specs.declared.point.Square.{Square}
 use Rattle.lvl_names.specs.declared.layer.Layer.{Layer}
@@ -10,7 +10,6 @@ use Rattle.lvl_columns.specs.Windows.{IsShown}
 use Rattle.lvl_flat.specs.Flattened.{AllInRange, IsTopInRange, TopCovers}
 use Rattle.lvl_compare.specs.Alike.{AreAlike}
 use Rattle.lvl_compare.specs.Tops.{DrawSame}
-use Rattle.lvl_region.specs.declared.region.Side.{Side}
 use Rattle.lvl_region.specs.declared.region.Side.TheVariants.{First, Second}
 use Rattle.lvl_view.specs.Views.{IsWhole, PlainView}
 use Rattle.lvl_view.specs.Moved.{IsMoved}

@@ -1,8 +1,7 @@
-use Rattle.std.proofs.Common.{◌≡◌, ◌<◌, ◌≤◌, ◌^◌, length, map, slice_get, Some, None, refl, sym, ap, ◌∙◌, subst, arith}
+use Rattle.std.proofs.Common.{◌≡◌, ◌<◌, ◌≤◌, ◌^◌, length, map, slice_get, None, sym, arith}
 use Rattle.lvl_corners.specs.Masks.{Drawn}
 use Rattle.lvl_flat.specs.Sheet.{PlainSheet}
 use Rattle.lvl_names.specs.declared.layer.Layer.{Layer}
-use Rattle.lvl.specs.declared.digested.DigestedLayer.{DigestedLayer}
 use Rattle.lvl.proofs.Digesting.{AddsLayer, all_digested, one_digested}
 use Rattle.lvl.proofs.ShownLayers.{none_left}
 use Rattle.lvl.proofs.digested.digest_flat.Goals.{in-Some+in_ok-push_layer, in_default}
