@@ -3,6 +3,8 @@ use Rattle.std.specs.Prelude.{◌≡◌, ℕ, List, Option, Some, Result, IfOk, 
 use Rattle.std.specs.Io.KnownBytes.{Appends}
 use Rattle.lvl_io.specs.Bytes.{CountsFailure}
 use Rattle.lvl_region.specs.declared.region.Side.TheVariants.{First, Second}
+use Rattle.lvl.specs.Digested.{IsDigestedFile}
+use Rattle.lvl.specs.declared.digested.Digested.{Digested}
 use Rattle.lvl.specs.declared.shown.Shown.{Shown}
 use Rattle.lvl_report.specs.declared.status.Status.{Status}
 use Rattle.lvl.specs.declared.verdict.Comparison.{Comparison}
@@ -47,13 +49,21 @@ IsComparedBy = IsAnswerBy IsCompared
 abbrev pub IsViewedBy : PlainView → Input → Input → Result Comparison Refusal → Type 0
 IsViewedBy view = IsAnswerBy (IsComparedIn view)
 
--- the answer is one that showing a file may give
-pub record IsShownBy (a : Input) (answer : Result Shown Refusal) : Type 0 where
-  pub shown : (xs : List ℕ) → a.bytes ≡ Some xs → IfOk answer (IsShownFile (file_named xs a.top))
+-- the answer is one that the reading of a file may give, where it says that of the file
+pub record IsFoundBy {X : Type 0} (Says : File → X → Type 0) (a : Input) (answer : Result X Refusal) : Type 0 where
+  pub found : (xs : List ℕ) → a.bytes ≡ Some xs → IfOk answer (Says (file_named xs a.top))
   pub refused : (xs : List ℕ) → a.bytes ≡ Some xs → IfErr answer (IsRefusalOf First (file_named xs a.top))
   pub early : (xs : List ℕ) → a.bytes ≡ Some xs → IfErr answer (λ r. IsEarlyOf First r → IsHopeless xs a.left)
   pub side : IfErr answer IsOfFirst
   pub reads : CountsFailure a.before a.after (is_read_of First answer)
+
+-- the answer is one that showing a file may give
+abbrev pub IsShownBy : Input → Result Shown Refusal → Type 0
+IsShownBy = IsFoundBy IsShownFile
+
+-- the answer is one that the digest of a file may give
+abbrev pub IsDigestedBy : Input → Result Digested Refusal → Type 0
+IsDigestedBy = IsFoundBy IsDigestedFile
 
 -- the text of such an answer was written, and nothing else; the status is that of the answer
 pub record IsWritten {X : Type 0} (Allowed : X → Type 0) (text : X → List ℕ) (status : X → Status)

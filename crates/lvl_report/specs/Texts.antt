@@ -1,4 +1,5 @@
--- The text of an answer, as a list of bytes: two heads and a verdict, what a layout holds, or a refusal.
+-- The text of an answer, as a list of bytes: two heads and a verdict, what a layout holds, its digest, or a
+-- refusal.
 use Rattle.std.specs.Prelude.{ℕ, List, [], ◌∷◌, ◌++◌, flat_map, codes, decimal, Result, Ok, Err}
 use Rattle.std.specs.Fmt.{signed_decimal}
 use Rattle.lvl_region.specs.declared.region.Side.{Side}
@@ -12,10 +13,13 @@ use Rattle.lvl.specs.declared.verdict.Verdict.TheVariants.{Same, Differ}
 use Rattle.lvl.specs.declared.verdict.Comparison.{Comparison}
 use Rattle.lvl.specs.declared.verdict.Refusal.{Refusal}
 use Rattle.lvl.specs.declared.verdict.Refusal.TheVariants.{File, Cells, Flat, OutOfMemory}
+use Rattle.lvl.specs.declared.digested.Digested.{Digested}
+use Rattle.lvl.specs.declared.digested.DigestedLayer.{DigestedLayer}
+use Rattle.lvl.specs.declared.digested.MaskDigest.{MaskDigest}
 use Rattle.lvl.specs.declared.shown.Shown.{Shown}
 use Rattle.lvl.specs.declared.shown.ShownLayer.{ShownLayer}
 use Rattle.lvl_report.specs.Faults.{spaced, cell_fault, flat_fault}
-use Rattle.lvl_report.specs.Gds.{gds_fault, gds_head_text}
+use Rattle.lvl_report.specs.Gds.{gds_fault, gds_head_text, hex}
 use Rattle.lvl_report.specs.Oasis.{oasis_fault, oasis_head_text}
 
 -- a line ends with one line feed
@@ -63,12 +67,33 @@ layer_line shown =
     line (codes "layer " ++ decimal shown.layer.layer ++ codes " datatype " ++ decimal shown.layer.datatype
     ++ codes " rings " ++ decimal shown.rings)
 
+-- what a file says of itself, and the name of its top
+abbrev pub front_text : Head → List ℕ → List ℕ
+front_text head top = line (codes "file: " ++ head_text head) ++ line (codes "top:" ++ spaced top)
+
 abbrev pub shown_text : Shown → List ℕ
 shown_text shown =
-    line (codes "file: " ++ head_text shown.head) ++ line (codes "top:" ++ spaced shown.top.items)
-    ++ line (codes "cells: " ++ decimal shown.cells) ++ flat_map layer_line shown.layers.items
+    front_text shown.head shown.top.items ++ line (codes "cells: " ++ decimal shown.cells)
+    ++ flat_map layer_line shown.layers.items
 
 -- what is printed of a layout, whole
 abbrev pub text_of_shown : Result Shown Refusal → List ℕ
 text_of_shown (Ok shown) = shown_text shown
 text_of_shown (Err refusal) = line (refusal_text refusal)
+
+-- what is printed of a Layer that has a digest
+abbrev pub digest_line : DigestedLayer → List ℕ
+digest_line l =
+    line (codes "layer " ++ decimal l.layer.layer ++ codes " datatype " ++ decimal l.layer.datatype
+    ++ codes " corners " ++ decimal l.digest.corners ++ codes " sha256 " ++ hex l.digest.sha256)
+
+abbrev pub mask_text : MaskDigest → List ℕ
+mask_text d = flat_map digest_line d.layers.items ++ line (codes "mask sha256 " ++ hex d.sha256)
+
+abbrev pub digested_text : Digested → List ℕ
+digested_text d = front_text d.head d.top.items ++ mask_text d.mask
+
+-- what is printed of a digest, whole
+abbrev pub text_of_digested : Result Digested Refusal → List ℕ
+text_of_digested (Ok d) = digested_text d
+text_of_digested (Err refusal) = line (refusal_text refusal)

@@ -9,7 +9,6 @@ use Rattle.lvl.specs.declared.verdict.Verdict.{Verdict}
 use Rattle.lvl.specs.declared.verdict.Verdict.TheVariants.{Same as SameVerdict, Differ as DifferVerdict}
 use Rattle.lvl.specs.declared.verdict.Comparison.{Comparison}
 use Rattle.lvl.specs.declared.verdict.Refusal.{Refusal}
-use Rattle.lvl.specs.declared.shown.Shown.{Shown}
 
 -- known bytes grew by a beginning of the text, perhaps by none of it or by all
 pub record AppendsBeginning (old new : Option (List ℕ)) (text : List ℕ) : Type 0 where
@@ -39,8 +38,9 @@ abbrev pub status_of : Result Comparison Refusal → Status
 status_of (Ok comparison) = verdict_status comparison.verdict
 status_of (Err refusal) = Refused
 
-abbrev pub shown_status : Result Shown Refusal → Status
-shown_status (Ok shown) = ShownStatus
+-- the status of what is said of one file
+abbrev pub shown_status : {X : Type 0} → Result X Refusal → Status
+shown_status (Ok x) = ShownStatus
 shown_status (Err refusal) = Refused
 
 -- whether the output failed

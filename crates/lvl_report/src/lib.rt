@@ -1,9 +1,9 @@
-//! The answers of lvl as text: two heads and a verdict, what a layout holds, or a refusal.
+//! The answers of lvl as text: two heads and a verdict, what a layout holds, its digest, or a refusal.
 //!
-//! [`run`] compares two files, [`run_view`] compares them under a view, and [`run_show`] shows one;
-//! each forms the text of the answer whole, writes it, and gives its [`Status`], by which the program
-//! exits. Each format has a module of its own for what its files say of themselves and why they are
-//! refused. [`form`] and [`form_shown`] give the text alone.
+//! [`run`] compares two files, [`run_view`] compares them under a view, [`run_show`] shows one, and
+//! [`run_digest`] gives the digest of one; each forms the text of the answer whole, writes it, and gives
+//! its [`Status`], by which the program exits. Each format has a module of its own for what its files say
+//! of themselves and why they are refused. [`form`], [`form_shown`] and [`form_digest`] give the text alone.
 //!
 //! `bytes` is a file that draws one square:
 //!
@@ -15,11 +15,13 @@
 //! ```
 #![tactic(auto)]
 
+pub use digest::form_digest;
 pub use faults::view_fault;
-pub use runs::{run, run_show, run_view};
+pub use runs::{run, run_digest, run_show, run_view};
 pub use status::{RunFault, Status};
 pub use text::{form, form_shown};
 
+mod digest;
 mod faults;
 mod gds;
 mod oasis;

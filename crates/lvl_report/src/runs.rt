@@ -2,14 +2,14 @@
 ghost use Rattle.std.specs.Prelude.{◌≡◌, OnErr, IfOk, Err, option_copied};
 ghost use Rattle.std.specs.Io.KnownBytes.{Keeps};
 ghost use Rattle.lvl_io.specs.Bytes.{CountsFailure};
-ghost use Rattle.lvl_report.specs.Runs.{IsComparedBy, IsShownBy, IsViewedBy, IsWritten, IsBegun, input};
+ghost use Rattle.lvl_report.specs.Runs.{IsComparedBy, IsDigestedBy, IsShownBy, IsViewedBy, IsWritten, IsBegun, input};
 ghost use Rattle.lvl.specs.Sides.{given_name};
-ghost use Rattle.lvl_report.specs.Texts.{text_of, text_of_shown};
+ghost use Rattle.lvl_report.specs.Texts.{text_of, text_of_digested, text_of_shown};
 ghost use Rattle.lvl_report.specs.Writing.{status_of, shown_status, is_output};
 
 use crate::status::{RunFault, Status};
-use crate::tell::{tell, tell_shown};
-use lvl::{Tops, compare_files, show_file};
+use crate::tell::{tell, tell_digest, tell_shown};
+use lvl::{Tops, compare_files, digest_file, show_file};
 use lvl_io::{Read, Write};
 use lvl_view::View;
 use std::alloc::Global;
@@ -101,4 +101,31 @@ pub fn run_show<R: Read, W: Write>(
 {
     let answer = show_file(alloc, reader, top);
     tell_shown(alloc, &answer, out)
+}
+
+/// Writes the digest of a file: what it says of itself, its top, for each Layer on which the top covers a
+/// square, in their order, how many corners these squares have and the SHA-256 of the Layer's bytes, and
+/// the SHA-256 of the bytes of all Layers; or the refusal, on one line.
+///
+/// What it writes is what [`digest_file`](lvl::digest_file) may answer of this file.
+pub fn run_digest<R: Read, W: Write>(
+    alloc: Global,
+    reader: &mut R,
+    top: Option<&[u8]>,
+    out: &mut W,
+) -> Result<Status, RunFault>
+    ensures written { IfOk result (IsWritten
+        (IsDigestedBy (input (R.remaining reader.old) (R.remaining reader.new)
+        (R.read_errors reader.old) (R.read_errors reader.new) (option_copied top.entry)))
+        text_of_digested shown_status (W.contents out.old) (W.contents out.new)) }
+    ensures begun { OnErr result (IsBegun
+        (IsDigestedBy (input (R.remaining reader.old) (R.remaining reader.new)
+        (R.read_errors reader.old) (R.read_errors reader.new) (option_copied top.entry)))
+        text_of_digested (W.contents out.old) (W.contents out.new)) }
+    ensures nothing { result ≡ Err RunFault.OutOfMemory → Keeps (W.contents out.old) (W.contents out.new) }
+    ensures errors { CountsFailure (W.write_errors out.old) (W.write_errors out.new) (is_output result) }
+    ensures same { W.lent out.new ≡ W.lent out.old }
+{
+    let answer = digest_file(alloc, reader, top);
+    tell_digest(alloc, &answer, out)
 }

@@ -11,15 +11,15 @@ pub enum Status {
     Same,
     /// They differ.
     Differ,
-    /// A layout was shown.
+    /// A layout was shown, or its digest was.
     Shown,
     /// A file was refused, or memory was.
     Refused,
 }
 
 impl Status {
-    /// The exit status of the program: 0 where two layouts are the same or one was shown, 1 where
-    /// two differ, 2 where a refusal was printed.
+    /// The exit status of the program: 0 where two layouts are the same, or one or its digest was
+    /// shown, 1 where two differ, 2 where a refusal was printed.
     pub fn code(&self) -> u8
         ensures { result ≡ status_code self.now }
     {

@@ -1,7 +1,7 @@
 //! The text of an answer: two heads and a verdict, what a layout holds, or a refusal.
 ghost use Rattle.std.specs.Prelude.{◌≡◌, ◌++◌, flat_map, OnOk, IfOk};
 ghost use Rattle.lvl_report.specs.Texts.{layer_line, side_text, verdict_text, head_text, file_fault, refusal_text};
-ghost use Rattle.lvl_report.specs.Texts.{shown_text, text_of, text_of_shown};
+ghost use Rattle.lvl_report.specs.Texts.{front_text, shown_text, text_of, text_of_shown};
 
 use crate::faults::{push_cell_fault, push_flat_fault, push_name};
 use crate::gds::{push_gds_fault, push_gds_head};
@@ -74,7 +74,7 @@ fn push_head(text: &mut Vec<u8>, head: &Head) -> io::Result<()>
 }
 
 /// Appends a refusal.
-fn push_refusal(text: &mut Vec<u8>, refusal: &Refusal) -> io::Result<()>
+pub(crate) fn push_refusal(text: &mut Vec<u8>, refusal: &Refusal) -> io::Result<()>
     ensures { OnOk result (text.new.items ≡ text.old.items ++ refusal_text refusal.now) }
 {
     match refusal {
@@ -119,16 +119,24 @@ fn push_layers(text: &mut Vec<u8>, layers: &[ShownLayer]) -> io::Result<()>
     Ok(())
 }
 
+/// Appends what a file says of itself and the name of its top, a line each.
+pub(crate) fn push_front(text: &mut Vec<u8>, head: &Head, top: &[u8]) -> io::Result<()>
+    ensures { OnOk result (text.new.items ≡ text.old.items ++ front_text head.now top.now) }
+{
+    write!(text, "file: ")?;
+    push_head(text, head)?;
+    write!(text, "\ntop:")?;
+    push_name(text, top)?;
+    writeln!(text)
+}
+
 /// Appends what a layout holds.
 fn push_shown(text: &mut Vec<u8>, shown: &Shown) -> io::Result<()>
     ensures { OnOk result (text.new.items ≡ text.old.items ++ shown_text shown.now) }
 {
-    write!(text, "file: ")?;
-    push_head(text, &shown.head)?;
-    write!(text, "\ntop:")?;
-    push_name(text, &shown.top)?;
+    push_front(text, &shown.head, &shown.top)?;
     let cells = shown.cells;
-    writeln!(text, "\ncells: {cells}")?;
+    writeln!(text, "cells: {cells}")?;
     push_layers(text, &shown.layers)
 }
 

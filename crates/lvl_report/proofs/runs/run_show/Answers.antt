@@ -8,7 +8,7 @@ returns-clause-written g c =
     let found = c.show_file-answer.ensures in
     was_written _ text_of_shown shown_status _ _ c.show_file-answer.result c.tell_shown.result
     (record {
-      shown = found.shown;
+      found = found.shown;
       refused = found.refused;
       early = found.early;
       side = found.side;
@@ -21,7 +21,7 @@ returns-clause-begun g c =
     let found = c.show_file-answer.ensures in
     was_begun _ text_of_shown _ _ c.show_file-answer.result c.tell_shown.result
     (record {
-      shown = found.shown;
+      found = found.shown;
       refused = found.refused;
       early = found.early;
       side = found.side;
