@@ -6,6 +6,7 @@ use lvl_report::{RunFault, Status, run, run_show};
 use std::alloc::{AllocError, Global};
 
 mod compared;
+mod digests;
 mod each_byte;
 mod failing;
 mod growths;
