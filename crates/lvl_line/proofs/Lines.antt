@@ -153,6 +153,9 @@ compare = option_map_or (λ s. s) (slice_get (built line).subs 0) (built line).t
 abbrev show : Shape
 show = option_map_or (λ s. s) (slice_get (built line).subs 1) (built line).top
 
+abbrev digest : Shape
+digest = option_map_or (λ s. s) (slice_get (built line).subs 2) (built line).top
+
 compare_gives : (rows : List Row) → HaveValues rows → misses compare.rules rows ≡ false
     → Gives (codes "A") rows × Gives (codes "B") rows
 compare_gives rows have none =
@@ -160,8 +163,8 @@ compare_gives rows have none =
     let second = given_one (is_given (codes "B") rows) _ first.1 in
     (given_has_first (codes "A") rows have first.0, given_has_first (codes "B") rows have second.0)
 
-show_gives : (rows : List Row) → HaveValues rows → misses show.rules rows ≡ false → Gives (codes "A") rows
-show_gives rows have none = given_has_first (codes "A") rows have (given_one (is_given (codes "A") rows) _ none).0
+one_gives : (rows : List Row) → HaveValues rows → misses show.rules rows ≡ false → Gives (codes "A") rows
+one_gives rows have none = given_has_first (codes "A") rows have (given_one (is_given (codes "A") rows) _ none).0
 
 abbrev IsAJob : Option (Text × List Row) → Type 0
 IsAJob None = Unit {0}
@@ -175,7 +178,8 @@ at_subcommand : (p : Text × List Text) (name : Text) (rows : List Row) → byte
     → entered_fault (built line) (Some p) ≡ []
     → entered (built line) (Some p) ≡ Some (name, rows) → IsJobOf name rows
 at_subcommand p name rows other =
-    go (answers_to p.0 (label_of compare)) (answers_to p.0 (label_of show)) (bytes_eq help p.0) refl
+    go (answers_to p.0 (label_of compare)) (answers_to p.0 (label_of show)) (answers_to p.0 (label_of digest))
+    (bytes_eq help p.0) refl
   where
     no_help : bytes_eq help p.0 ≡ true → ⊥
     no_help e =
@@ -183,23 +187,30 @@ at_subcommand p name rows other =
         let bad : bytes_eq help help ≡ false = rw (← same) at other in
         cc
 
-    go : (a b h : Bool) → bytes_eq help p.0 ≡ h
+    helping : Bool → Option Shape
+    helping h = cond (h || false) (slice_get (built line).subs 3) None
+
+    go : (a b d h : Bool) → bytes_eq help p.0 ≡ h
         → option_map_or (λ (s : Shape). level_fault s [] nothing_held p.1 false [])
-        (cond a (Some compare) (cond b (Some show) (cond (h || false) (slice_get (built line).subs 2) None))) [] ≡ []
+        (cond a (Some compare) (cond b (Some show) (cond d (Some digest) (helping h)))) [] ≡ []
         → option_map (λ (s : Shape). rows_at s p.1)
-        (cond a (Some compare) (cond b (Some show) (cond (h || false) (slice_get (built line).subs 2) None)))
+        (cond a (Some compare) (cond b (Some show) (cond d (Some digest) (helping h))))
         ≡ Some (name, rows)
         → IsJobOf name rows
-    go true b h is none found =
+    go true b d h is none found =
         let given = level_gives compare p.1 refl refl refl refl none in
         job_named name (codes "compare") rows (rows_after compare.rules [] p.1) found
         (inl (refl, (compare_gives _ given.0 given.1).0, (compare_gives _ given.0 given.1).1))
-    go false true h is none found =
+    go false true d h is none found =
         let given = level_gives show p.1 refl refl refl refl none in
         job_named name (codes "show") rows (rows_after show.rules [] p.1) found
-        (inr (refl, show_gives _ given.0 given.1))
-    go false false true is none found = absurd (no_help is)
-    go false false false is none found = cc
+        (inr (inl (refl, one_gives _ given.0 given.1)))
+    go false false true h is none found =
+        let given = level_gives digest p.1 refl refl refl refl none in
+        job_named name (codes "digest") rows (rows_after digest.rules [] p.1) found
+        (inr (inr (refl, one_gives _ given.0 given.1)))
+    go false false false true is none found = absurd (no_help is)
+    go false false false false is none found = cc
 
 at_stop : (o : Option (Text × List Text)) (name : Text) (rows : List Row) → StopsAtNone o
     → entered_fault (built line) o ≡ []

@@ -26,19 +26,18 @@ compare_app = with_rule (with_rule (with_rule (with_rule (with_rule (with_rule (
     (option_rule (codes "top-a"))) (option_rule (codes "top-b")))
     (option_rule (codes "map"))) (option_rule (codes "window"))
 
--- `show A [--top NAME]`
-abbrev pub show_app : App
-show_app = with_rule (with_rule (new_app (codes "show"))
-    (file_rule (codes "A"))) (option_rule (codes "top"))
+-- `NAME A [--top NAME]`
+abbrev pub one_file_app : Text → App
+one_file_app name = with_rule (with_rule (new_app name) (file_rule (codes "A"))) (option_rule (codes "top"))
 
 abbrev pub plain_line : App
 plain_line = new_app (codes "lvl")
 
--- the line: one of the two subcommands
+-- the line: one of the three subcommands
 abbrev pub line : App
-line = with_subcommand (with_subcommand (record plain_line {
+line = with_subcommand (with_subcommand (with_subcommand (record plain_line {
   top = record plain_line.top { has_version = true; subcommand_required = true };
-}) compare_app.top) show_app.top
+}) compare_app.top) (one_file_app (codes "show")).top) (one_file_app (codes "digest")).top
 
 -- the job has the values that clap finds in the words, under the subcommand of that name
 abbrev pub IsNamed : Job → Option (Text × List Row) → Type 0
@@ -52,6 +51,10 @@ IsNamed (job.Compare first second top_a top_b layers window) (Some (name, rows))
     × (first_of (codes "window") rows ≡ option_map string_bytes window)
 IsNamed (job.Show file top) (Some (name, rows)) =
     (name ≡ codes "show")
+    × (first_of (codes "A") rows ≡ Some (string_bytes file))
+    × (first_of (codes "top") rows ≡ option_map string_bytes top)
+IsNamed (job.Digest file top) (Some (name, rows)) =
+    (name ≡ codes "digest")
     × (first_of (codes "A") rows ≡ Some (string_bytes file))
     × (first_of (codes "top") rows ≡ option_map string_bytes top)
 IsNamed _ None = ⊥

@@ -1,10 +1,17 @@
 //! The program's line, as it is described to `clap`.
 ghost use Rattle.std.specs.Prelude.{◌≡◌, IfOk, false};
 ghost use Rattle.clap.specs.Words.{app_of, rule_of};
-ghost use Rattle.lvl_line.specs.Line.{file_rule, option_rule, line};
+ghost use Rattle.lvl_line.specs.Line.{compare_app, file_rule, line, one_file_app, option_rule};
 
 use clap::{Arg, Command};
 use std::alloc::{AllocError, Global};
+
+/// What `show` does.
+const SHOW_HELP: &str = "Shows a layout's top cell, and how many rings it places on each layer";
+
+/// What `digest` does.
+const DIGEST_HELP: &str =
+    "Hashes what a layout draws: layouts of the same mask have the same digest";
 
 /// What `--map` takes.
 const MAP_HELP: &str = "Layers of the second layout, as those of the first: 1/0=2/0,3/1=3/0";
@@ -28,27 +35,39 @@ fn option<'a>(alloc: Global, id: &'a str, value: &'a str, help: &'a str) -> Arg<
     Arg::new(alloc, id).long(id).value_name(value).help(help)
 }
 
-/// The program's line: `compare A B [--top-a NAME] [--top-b NAME] [--map PAIRS] [--window RANGES]`
-/// or `show A [--top NAME]`.
-pub(crate) fn program<'a>(alloc: Global) -> Result<Command<'a>, AllocError>
-    ensures { IfOk result (λ c. app_of c ≡ line) }
+/// `compare A B [--top-a NAME] [--top-b NAME] [--map PAIRS] [--window RANGES]`.
+fn compare<'a>(alloc: Global) -> Result<Command<'a>, AllocError>
+    ensures { IfOk result (λ c. app_of c ≡ compare_app) }
 {
-    let compare = Command::new(alloc, "compare")
+    Command::new(alloc, "compare")
         .about("Says whether two layouts draw the same mask")
         .arg(file(alloc, "A", "The first layout, GDSII or OASIS"))?
         .arg(file(alloc, "B", "The second layout, GDSII or OASIS"))?
         .arg(option(alloc, "top-a", "NAME", "The first layout's top cell"))?
         .arg(option(alloc, "top-b", "NAME", "The second layout's top cell"))?
         .arg(option(alloc, "map", "PAIRS", MAP_HELP))?
-        .arg(option(alloc, "window", "RANGES", WINDOW_HELP))?;
-    let show = Command::new(alloc, "show")
-        .about("Shows a layout's top cell, and how many rings it places on each layer")
+        .arg(option(alloc, "window", "RANGES", WINDOW_HELP))
+}
+
+/// A subcommand of one file: `NAME A [--top NAME]`.
+fn one_file<'a>(alloc: Global, name: &'a str, about: &'a str) -> Result<Command<'a>, AllocError>
+    ensures { IfOk result (λ c. app_of c ≡ one_file_app name.entry.now) }
+{
+    Command::new(alloc, name)
+        .about(about)
         .arg(file(alloc, "A", "The layout, GDSII or OASIS"))?
-        .arg(option(alloc, "top", "NAME", "The layout's top cell"))?;
+        .arg(option(alloc, "top", "NAME", "The layout's top cell"))
+}
+
+/// The program's line: one of the subcommands `compare`, `show` and `digest`.
+pub(crate) fn program<'a>(alloc: Global) -> Result<Command<'a>, AllocError>
+    ensures { IfOk result (λ c. app_of c ≡ line) }
+{
     Command::new(alloc, "lvl")
         .version("1.0.0")
         .about("Compares two chip mask layouts by the mask that they draw")
         .subcommand_required(true)
-        .subcommand(compare)?
-        .subcommand(show)
+        .subcommand(compare(alloc)?)?
+        .subcommand(one_file(alloc, "show", SHOW_HELP)?)?
+        .subcommand(one_file(alloc, "digest", DIGEST_HELP)?)
 }

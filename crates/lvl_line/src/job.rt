@@ -19,6 +19,11 @@ pub enum Job {
         file: String,
         top: Option<String>,
     },
+    /// A file of whose mask the digest is wanted, with the name of its top cell where one is given.
+    Digest {
+        file: String,
+        top: Option<String>,
+    },
 }
 
 /// Why a line asks for nothing that can be done.

@@ -48,10 +48,12 @@ fn job_of(alloc: Global, name: &str, matches: &ArgMatches<'_>) -> Result<Job, Al
             window: value_of(alloc, matches, "window")?,
         });
     }
-    Ok(Job::Show {
-        file: file_of(alloc, matches, "A")?,
-        top: value_of(alloc, matches, "top")?,
-    })
+    let file = file_of(alloc, matches, "A")?;
+    let top = value_of(alloc, matches, "top")?;
+    if name == "show" {
+        return Ok(Job::Show { file, top });
+    }
+    Ok(Job::Digest { file, top })
 }
 
 /// `clap`'s refusal, or a failed allocation.

@@ -10,3 +10,4 @@ Gives id rows = is_some (first_of id rows) ≡ true
 abbrev pub IsJobOf : Text → List Row → Type 0
 IsJobOf name rows = ((name ≡ codes "compare") × Gives (codes "A") rows × Gives (codes "B") rows)
     ⊎ ((name ≡ codes "show") × Gives (codes "A") rows)
+    ⊎ ((name ≡ codes "digest") × Gives (codes "A") rows)
