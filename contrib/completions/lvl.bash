@@ -3,7 +3,7 @@ _lvl() {
     local word=${COMP_WORDS[COMP_CWORD]} before=${COMP_WORDS[COMP_CWORD-1]}
     COMPREPLY=()
     if [ "$COMP_CWORD" -eq 1 ]; then
-        COMPREPLY=($(compgen -W "compare show help --help --version" -- "$word"))
+        COMPREPLY=($(compgen -W "compare show digest help --help --version" -- "$word"))
         return
     fi
     case $before in
@@ -11,7 +11,7 @@ _lvl() {
     esac
     case ${COMP_WORDS[1]}:$word in
     compare:-*) COMPREPLY=($(compgen -W "--top-a --top-b --map --window --help" -- "$word")) ;;
-    show:-*) COMPREPLY=($(compgen -W "--top --help" -- "$word")) ;;
+    show:-* | digest:-*) COMPREPLY=($(compgen -W "--top --help" -- "$word")) ;;
     *) COMPREPLY=($(compgen -f -- "$word")) ;;
     esac
 }

@@ -1,8 +1,8 @@
 # Completion of lvl's command line for fish.
-set -l commands compare show help
+set -l commands compare show digest help
 complete -c lvl -n "not __fish_seen_subcommand_from $commands" -f -a "$commands"
 complete -c lvl -n "__fish_seen_subcommand_from compare" -l top-a -x -d "The first layout's top cell"
 complete -c lvl -n "__fish_seen_subcommand_from compare" -l top-b -x -d "The second layout's top cell"
 complete -c lvl -n "__fish_seen_subcommand_from compare" -l map -x -d "Layers of the second layout"
 complete -c lvl -n "__fish_seen_subcommand_from compare" -l window -x -d "The only squares to be compared"
-complete -c lvl -n "__fish_seen_subcommand_from show" -l top -x -d "The layout's top cell"
+complete -c lvl -n "__fish_seen_subcommand_from show digest" -l top -x -d "The layout's top cell"

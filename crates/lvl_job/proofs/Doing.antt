@@ -4,18 +4,20 @@ use Rattle.std.proofs.Common.{option_map}
 use Rattle.std.specs.Io.KnownBytes.{Keeps}
 use Rattle.std.specs.Global.{Global}
 use Rattle.std.specs.Prelude.{String, string_bytes}
-use Rattle.lvl_line.specs.declared.job.Job.TheVariants.{Compare, Show}
+use Rattle.lvl_line.specs.declared.job.Job.{Job}
+use Rattle.lvl_line.specs.declared.job.Job.TheVariants.{Compare, Digest, Show}
 use Rattle.lvl_report.specs.declared.status.Status.{Status}
 use Rattle.lvl_report.specs.declared.status.RunFault.{RunFault}
 use Rattle.lvl_report.specs.declared.status.RunFault.TheVariants.{Output as RunOutput, OutOfMemory as RunOutOfMemory}
-use Rattle.lvl_report.specs.Runs.{Input, input, IsBegun, IsShownBy, IsWritten}
-use Rattle.lvl_report.specs.Texts.{text_of, text_of_shown}
+use Rattle.lvl_report.specs.Runs.{Input, input, IsBegun, IsDigestedBy, IsShownBy, IsWritten}
+use Rattle.lvl_report.specs.Texts.{text_of, text_of_digested, text_of_shown}
 use Rattle.lvl_report.specs.Writing.{is_output}
 use Rattle.lvl_view.specs.Views.{PlainView}
 use Rattle.lvl_job.specs.declared.fault.JobFault.{JobFault}
 use Rattle.lvl_job.specs.declared.fault.JobFault.TheVariants.{BadView, NotOpened, OutOfMemory, Output}
 use Rattle.lvl_job.specs.Ends.{is_cut}
-use Rattle.lvl_job.specs.Jobs.{IsAnswered, IsComparedUnder, IsFaultOfJob, IsViewAsked, Named, named, OfOne, OfTwo}
+use Rattle.lvl_job.specs.Jobs.{IsAnswered, IsComparedUnder, IsCut, IsFaultOfJob, IsNotOpened, IsViewAsked, Named}
+use Rattle.lvl_job.specs.Jobs.{named, OfOne, OfTwo}
 use Rattle.lvl_job.specs.inside.Parts.{IsOneFault, IsPairAnswered, IsPairFault, IsViewFault, fault_of_run}
 use Rattle.lvl_job.proofs.Saying.{keeps_same}
 
@@ -66,18 +68,37 @@ module _ {S : Type 0} (opens : S → List ℕ → Option (Option (List ℕ)) →
       go RunOutput none = begun
       go RunOutOfMemory none = none refl
 
-  pub one_fault : (a : Named) (old new : S) (from to : Option (List ℕ)) (fault : RunFault)
-      (told : JobFault) → told ≡ fault_of_run fault
-      → OfOne opens old new a (λ x. IsBegun (IsShownBy x) text_of_shown from to)
-      → (failed_run fault ≡ Err RunOutOfMemory → Keeps from to)
-      → IsOneFault opens a old new from to told
-  one_fault a old new from to fault told is begun nothing =
-      subst (IsOneFault opens a old new from to) (sym is) (go fault nothing)
-    where
-      go : (fault : RunFault) → (failed_run fault ≡ Err RunOutOfMemory → Keeps from to)
-          → IsOneFault opens a old new from to (fault_of_run fault)
-      go RunOutput none = begun
-      go RunOutOfMemory none = none refl
+  module _ {X : Type 0} (IsAnswerOf : Input → X → Type 0) (text : X → List ℕ) where
+    pub one_fault : (a : Named) (old new : S) (from to : Option (List ℕ)) (fault : RunFault)
+        (told : JobFault) → told ≡ fault_of_run fault
+        → OfOne opens old new a (λ x. IsBegun (IsAnswerOf x) text from to)
+        → (failed_run fault ≡ Err RunOutOfMemory → Keeps from to)
+        → IsOneFault opens IsAnswerOf text a old new from to told
+    one_fault a old new from to fault told is begun nothing =
+        subst (IsOneFault opens IsAnswerOf text a old new from to) (sym is) (go fault nothing)
+      where
+        go : (fault : RunFault) → (failed_run fault ≡ Err RunOutOfMemory → Keeps from to)
+            → IsOneFault opens IsAnswerOf text a old new from to (fault_of_run fault)
+        go RunOutput none = begun
+        go RunOutOfMemory none = none refl
+
+    -- a job of one file, by what it is that the file isn't opened, and that its answer is cut
+    fault_of_one : (job : Job) (file : String Global) (top : Option (String Global)) (old new : S)
+        (from to : Option (List ℕ))
+        → ((name : List ℕ) → name ≡ string_bytes file → opens old name None new → IsNotOpened opens job old new name)
+        → (OfOne opens old new (named file top) (λ a. IsBegun (IsAnswerOf a) text from to)
+        → IsCut opens job old new from to)
+        → (r : Result Status JobFault) → IfErr r (IsOneFault opens IsAnswerOf text (named file top) old new from to)
+        → IfErr r (IsFaultOfJob opens job old new from to)
+    fault_of_one job file top old new from to missing cut (Ok status) h = tt
+    fault_of_one job file top old new from to missing cut (Err fault) h = go fault h
+      where
+        go : (fault : JobFault) → IsOneFault opens IsAnswerOf text (named file top) old new from to fault
+            → IsFaultOfJob opens job old new from to fault
+        go (BadView fault) h = absurd h
+        go (NotOpened name) h = (missing (string_bytes name) h.0 h.1, h.2)
+        go OutOfMemory h = h
+        go Output h = cut h
 
   module _ (first second : String Global) (top_a top_b map_text window_text : Option (String Global))
       (view : Option PlainView)
@@ -102,17 +123,18 @@ module _ {S : Type 0} (opens : S → List ℕ → Option (Option (List ℕ)) →
         go Output h = record { view = view; asked = asked; holds = h }
 
   pub shown_fault : (file : String Global) (top : Option (String Global)) (old new : S) (from to : Option (List ℕ))
-      (r : Result Status JobFault) → IfErr r (IsOneFault opens (named file top) old new from to)
+      (r : Result Status JobFault)
+      → IfErr r (IsOneFault opens IsShownBy text_of_shown (named file top) old new from to)
       → IfErr r (IsFaultOfJob opens (Show file top) old new from to)
-  shown_fault file top old new from to (Ok status) h = tt
-  shown_fault file top old new from to (Err fault) h = go fault h
-    where
-      go : (fault : JobFault) → IsOneFault opens (named file top) old new from to fault
-          → IsFaultOfJob opens (Show file top) old new from to fault
-      go (BadView fault) h = absurd h
-      go (NotOpened name) h = ((h.0, h.1), h.2)
-      go OutOfMemory h = h
-      go Output h = h
+  shown_fault file top old new from to =
+      fault_of_one IsShownBy text_of_shown (Show file top) file top old new from to (λ name e o. (e, o)) (λ h. h)
+
+  pub digested_fault : (file : String Global) (top : Option (String Global)) (old new : S) (from to : Option (List ℕ))
+      (r : Result Status JobFault)
+      → IfErr r (IsOneFault opens IsDigestedBy text_of_digested (named file top) old new from to)
+      → IfErr r (IsFaultOfJob opens (Digest file top) old new from to)
+  digested_fault file top old new from to =
+      fault_of_one IsDigestedBy text_of_digested (Digest file top) file top old new from to (λ name e o. (e, o)) (λ h. h)
 
   pub view_fault : (first second : String Global) (top_a top_b map_text window_text : Option (String Global)) (old : S)
       (from : Option (List ℕ)) (fault : JobFault)

@@ -7,11 +7,11 @@ use Rattle.std.specs.Io.KnownBytes.{Keeps}
 use Rattle.lvl.specs.declared.verdict.Comparison.{Comparison}
 use Rattle.lvl.specs.declared.verdict.Refusal.{Refusal}
 use Rattle.lvl_line.specs.declared.job.Job.{Job}
-use Rattle.lvl_line.specs.declared.job.Job.TheVariants.{Compare, Show}
+use Rattle.lvl_line.specs.declared.job.Job.TheVariants.{Compare, Digest, Show}
 use Rattle.lvl_report.specs.declared.status.Status.{Status}
-use Rattle.lvl_report.specs.Runs.{Input, input, IsComparedBy, IsViewedBy, IsShownBy, IsWritten, IsBegun}
-use Rattle.lvl_report.specs.Texts.{text_of, text_of_shown}
-use Rattle.lvl_report.specs.Writing.{status_of, shown_status}
+use Rattle.lvl_report.specs.Runs.{Input, input, IsComparedBy, IsDigestedBy, IsViewedBy, IsShownBy, IsWritten, IsBegun}
+use Rattle.lvl_report.specs.Texts.{text_of, text_of_digested, text_of_shown}
+use Rattle.lvl_report.specs.Writing.{digested_status, status_of, shown_status}
 use Rattle.lvl_view.specs.declared.fault.ViewFault.{ViewFault}
 use Rattle.lvl_view.specs.Views.{PlainView, IsViewOf, IsFaultOf}
 use Rattle.lvl_job.specs.declared.fault.JobFault.{JobFault}
@@ -98,6 +98,9 @@ IsAnswered opens (Compare first second top_a top_b map_text window_text) old new
     IsWritten (IsComparedUnder view a b) text_of status_of from to status))
 IsAnswered opens (Show file top) old new from to status =
     OfOne opens old new (named file top) (λ a. IsWritten (IsShownBy a) text_of_shown shown_status from to status)
+IsAnswered opens (Digest file top) old new from to status =
+    OfOne opens old new (named file top) (λ a.
+    IsWritten (IsDigestedBy a) text_of_digested digested_status from to status)
 
 -- a beginning of the answer to a job was written
 abbrev pub IsCut : {S : Type 0} → (S → List ℕ → Option (Option (List ℕ)) → S → Type 0) → Job → S → S
@@ -108,6 +111,8 @@ IsCut opens (Compare first second top_a top_b map_text window_text) old new from
     IsBegun (IsComparedUnder view a b) text_of from to))
 IsCut opens (Show file top) old new from to =
     OfOne opens old new (named file top) (λ a. IsBegun (IsShownBy a) text_of_shown from to)
+IsCut opens (Digest file top) old new from to =
+    OfOne opens old new (named file top) (λ a. IsBegun (IsDigestedBy a) text_of_digested from to)
 
 -- the file of this name is the first of the job that can't be opened
 abbrev pub IsNotOpened : {S : Type 0} → (S → List ℕ → Option (Option (List ℕ)) → S → Type 0) → Job → S → S → List ℕ
@@ -115,12 +120,14 @@ abbrev pub IsNotOpened : {S : Type 0} → (S → List ℕ → Option (Option (Li
 IsNotOpened opens (Compare first second top_a top_b map_text window_text) old new name =
     UnderView map_text window_text (λ _. IsMissing opens old new (string_bytes first) (string_bytes second) name)
 IsNotOpened opens (Show file top) old new name = (name ≡ string_bytes file) × opens old name None new
+IsNotOpened opens (Digest file top) old new name = (name ≡ string_bytes file) × opens old name None new
 
--- why the texts of a map and a window are no view; a job that shows a file has none
+-- why the texts of a map and a window are no view; a job of one file has none
 abbrev pub IsBadView : Job → ViewFault → Type 0
 IsBadView (Compare first second top_a top_b map_text window_text) fault =
     IsFaultOf (option_map string_bytes map_text) (option_map string_bytes window_text) fault
 IsBadView (Show file top) fault = ⊥
+IsBadView (Digest file top) fault = ⊥
 
 -- the fault is so: with a bad view no file was opened, and but where output failed nothing was written
 abbrev pub IsFaultOfJob : {S : Type 0} → (S → List ℕ → Option (Option (List ℕ)) → S → Type 0) → Job → S → S

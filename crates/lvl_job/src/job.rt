@@ -9,9 +9,9 @@ ghost use Rattle.lvl_job.specs.Jobs.{IsAnswered, IsComparedUnder, IsFaultOfJob, 
 ghost use Rattle.lvl_job.specs.Opening.{held};
 ghost use Rattle.lvl_job.specs.inside.Parts.{IsOneAnswered, IsOneFault, IsPairAnswered, IsPairFault, IsViewFault};
 ghost use Rattle.lvl_job.specs.inside.Parts.{fault_of_run};
-ghost use Rattle.lvl_report.specs.Runs.{IsBegun, IsShownBy, IsWritten, input};
-ghost use Rattle.lvl_report.specs.Texts.{text_of, text_of_shown};
-ghost use Rattle.lvl_report.specs.Writing.{is_output, shown_status, status_of};
+ghost use Rattle.lvl_report.specs.Runs.{IsBegun, IsDigestedBy, IsShownBy, IsWritten, input};
+ghost use Rattle.lvl_report.specs.Texts.{text_of, text_of_digested, text_of_shown};
+ghost use Rattle.lvl_report.specs.Writing.{digested_status, is_output, shown_status, status_of};
 
 use crate::fault::JobFault;
 use crate::files::Files;
@@ -20,7 +20,7 @@ use lvl::Tops;
 use lvl_io::{Read, Write};
 use lvl_line::Job;
 use lvl_refusal::Refusal;
-use lvl_report::{RunFault, Status, run, run_show, run_view};
+use lvl_report::{RunFault, Status, run, run_digest, run_show, run_view};
 use lvl_view::View;
 use std::alloc::Global;
 
@@ -142,16 +142,39 @@ fn show<F: Files, O: Write>(
     files: &mut F,
     out: &mut O,
 ) -> Result<Status, JobFault>
-    ensures answered { IfOk result (IsOneAnswered F.opens
+    ensures answered { IfOk result (IsOneAnswered F.opens IsShownBy text_of_shown shown_status
         (record { name = string_bytes name; top = option_copied top.entry })
         files.old files.new (O.contents out.old) (O.contents out.new)) }
-    ensures fault { IfErr result (IsOneFault F.opens
+    ensures fault { IfErr result (IsOneFault F.opens IsShownBy text_of_shown
         (record { name = string_bytes name; top = option_copied top.entry })
         files.old files.new (O.contents out.old) (O.contents out.new)) }
     ensures errors { CountsFailure (O.write_errors out.old) (O.write_errors out.new) (is_cut result) }
 {
     let mut file = open(files, name)?;
     match run_show(alloc, &mut file, top, out) {
+        Ok(status) => Ok(status),
+        Err(fault) => Err(fault_of(fault)),
+    }
+}
+
+/// Hashes what the file of a name draws.
+fn digest<F: Files, O: Write>(
+    alloc: Global,
+    name: String,
+    top: Option<&[u8]>,
+    files: &mut F,
+    out: &mut O,
+) -> Result<Status, JobFault>
+    ensures answered { IfOk result (IsOneAnswered F.opens IsDigestedBy text_of_digested digested_status
+        (record { name = string_bytes name; top = option_copied top.entry })
+        files.old files.new (O.contents out.old) (O.contents out.new)) }
+    ensures fault { IfErr result (IsOneFault F.opens IsDigestedBy text_of_digested
+        (record { name = string_bytes name; top = option_copied top.entry })
+        files.old files.new (O.contents out.old) (O.contents out.new)) }
+    ensures errors { CountsFailure (O.write_errors out.old) (O.write_errors out.new) (is_cut result) }
+{
+    let mut file = open(files, name)?;
+    match run_digest(alloc, &mut file, top, out) {
         Ok(status) => Ok(status),
         Err(fault) => Err(fault_of(fault)),
     }
@@ -190,13 +213,17 @@ fn perform<F: Files, O: Write>(
             let top = top_of(top);
             show(alloc, file, top.as_deref(), files, out)
         }
+        Job::Digest { file, top } => {
+            let top = top_of(top);
+            digest(alloc, file, top.as_deref(), files, out)
+        }
     }
 }
 
 /// Does a job: reads its view, opens its files by `files`, the first before the second, and writes
 /// its answer to `out`. Where there is no answer, it writes why to `err`, on one line.
 ///
-/// The answer is what [`run`], [`run_view`] or [`run_show`] may write of these files.
+/// The answer is what [`run`], [`run_view`], [`run_show`] or [`run_digest`] may write of these files.
 pub fn do_job<F: Files, O: Write, E: Write>(
     alloc: Global,
     job: Job,

@@ -45,7 +45,7 @@ impl Files for Held {
 }
 
 /// The job of a line in order: two files, two tops, a map and a window, each `-` where it is none;
-/// or one file and a top.
+/// or one file and a top, to be shown, or hashed after the word `digest`.
 fn job_of(alloc: Global, line: &str) -> Result<Job, AllocError> {
     let mut words = Vec::new(alloc);
     for word in line.split(' ') {
@@ -64,6 +64,10 @@ fn job_of(alloc: Global, line: &str) -> Result<Job, AllocError> {
             file: String::from_str(alloc, file)?,
             top: given(alloc, top)?,
         }),
+        ["digest", file, top] => Ok(Job::Digest {
+            file: String::from_str(alloc, file)?,
+            top: given(alloc, top)?,
+        }),
         _ => Err(AllocError),
     }
 }
@@ -76,8 +80,12 @@ fn given(alloc: Global, word: &str) -> Result<Option<String>, AllocError> {
     Ok(Some(String::from_str(alloc, word)?))
 }
 
+/// The last line of the digest of `square`, by `tools/digest.py`.
+const SQUARE_DIGEST: &str =
+    "mask sha256 c5483bbfa6d27cf601d87a9d6e74b9350c2dcde72a70bab5f8615769e8fc5728\n";
+
 /// A job, how many files are asked for, the last line of what it writes, what it says, and its status.
-static ROWS: [(&str, u8, &str, &str, u8); 11] = [
+static ROWS: [(&str, u8, &str, &str, u8); 14] = [
     ("square square - - - -", 2, "same\n", "", 0),
     ("square two - A - -", 2, "same\n", "", 0),
     (
@@ -104,6 +112,15 @@ static ROWS: [(&str, u8, &str, &str, u8); 11] = [
     ("square two - B 2/0=1/0 x=0..10,y=0..10", 2, "same\n", "", 0),
     ("two B", 1, "layer 2 datatype 0 rings 1\n", "", 0),
     ("two -", 1, "refused: first: cells 6 ManyTops\n", "", 2),
+    ("digest square -", 1, SQUARE_DIGEST, "", 0),
+    (
+        "digest two -",
+        1,
+        "refused: first: cells 6 ManyTops\n",
+        "",
+        2,
+    ),
+    ("digest none -", 1, "", "lvl: cannot open none\n", 2),
     ("none two - - - -", 1, "", "lvl: cannot open none\n", 2),
     ("two other - - - -", 2, "", "lvl: cannot open other\n", 2),
     ("none two - - 1/0 -", 0, "", "lvl: bad view 1 MapText\n", 3),

@@ -14,6 +14,7 @@ enum Asks<'a> {
     /// Files `a` and `b`, no tops, a map and a window.
     View(Option<&'a str>, Option<&'a str>),
     Show(&'a str, Option<&'a str>),
+    Digest(&'a str, Option<&'a str>),
     Nothing(ErrorKind),
 }
 
@@ -70,6 +71,9 @@ fn is_asked(asks: Asks<'_>, answer: &Result<Job, LineFault>) -> bool {
         (Asks::Show(a, name), Ok(Job::Show { file, top })) => {
             file.as_str() == a && is_text(top, name)
         }
+        (Asks::Digest(a, name), Ok(Job::Digest { file, top })) => {
+            file.as_str() == a && is_text(top, name)
+        }
         (Asks::Nothing(kind), Err(LineFault::Words(error))) => error.kind() == kind,
         _ => false,
     }
@@ -84,7 +88,7 @@ fn words_of(alloc: Global, line: &'static str) -> Result<Vec<&'static str>, Allo
     Ok(words)
 }
 
-static LINES: [(&str, Asks<'static>); 23] = [
+static LINES: [(&str, Asks<'static>); 27] = [
     ("lvl compare a b", Asks::Compare("a", "b", None, None)),
     (
         "lvl compare a b --top-a X --top-b Y",
@@ -121,6 +125,13 @@ static LINES: [(&str, Asks<'static>); 23] = [
     ),
     ("lvl show a", Asks::Show("a", None)),
     ("lvl show --top X a", Asks::Show("a", Some("X"))),
+    ("lvl digest a", Asks::Digest("a", None)),
+    ("lvl digest --top X a", Asks::Digest("a", Some("X"))),
+    (
+        "lvl digest",
+        Asks::Nothing(ErrorKind::MissingRequiredArgument),
+    ),
+    ("lvl digest a b", Asks::Nothing(ErrorKind::UnknownArgument)),
     ("lvl", Asks::Nothing(ErrorKind::MissingSubcommand)),
     (
         "lvl compare a",

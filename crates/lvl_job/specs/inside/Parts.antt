@@ -5,9 +5,9 @@ use Rattle.std.specs.Io.KnownBytes.{Keeps}
 use Rattle.lvl_report.specs.declared.status.Status.{Status}
 use Rattle.lvl_report.specs.declared.status.RunFault.{RunFault}
 use Rattle.lvl_report.specs.declared.status.RunFault.TheVariants.{Output as RunOutput, OutOfMemory as RunOutOfMemory}
-use Rattle.lvl_report.specs.Runs.{IsWritten, IsBegun, IsShownBy}
-use Rattle.lvl_report.specs.Texts.{text_of, text_of_shown}
-use Rattle.lvl_report.specs.Writing.{status_of, shown_status}
+use Rattle.lvl_report.specs.Runs.{Input, IsWritten, IsBegun}
+use Rattle.lvl_report.specs.Texts.{text_of}
+use Rattle.lvl_report.specs.Writing.{status_of}
 use Rattle.lvl_view.specs.Views.{PlainView, IsFaultOf}
 use Rattle.lvl_job.specs.declared.fault.JobFault.{JobFault}
 use Rattle.lvl_job.specs.declared.fault.JobFault.TheVariants.{BadView, NotOpened, OutOfMemory, Output}
@@ -41,18 +41,20 @@ IsPairFault opens view a b old new from to OutOfMemory = Keeps from to
 IsPairFault opens view a b old new from to Output =
     OfTwo opens old new a b (λ x y. IsBegun (IsComparedUnder view x y) text_of from to)
 
--- what is shown of a file was written
-abbrev pub IsOneAnswered : {S : Type 0} → (S → List ℕ → Option (Option (List ℕ)) → S → Type 0)
+-- the answer of a run of one file was written
+abbrev pub IsOneAnswered : {S X : Type 0} → (S → List ℕ → Option (Option (List ℕ)) → S → Type 0)
+    → (Input → X → Type 0) → (X → List ℕ) → (X → Status)
     → Named → S → S → Option (List ℕ) → Option (List ℕ) → Status → Type 0
-IsOneAnswered opens a old new from to status =
-    OfOne opens old new a (λ x. IsWritten (IsShownBy x) text_of_shown shown_status from to status)
+IsOneAnswered opens IsAnswerOf text status a old new from to told =
+    OfOne opens old new a (λ x. IsWritten (IsAnswerOf x) text status from to told)
 
--- why nothing is shown of a file
-abbrev pub IsOneFault : {S : Type 0} → (S → List ℕ → Option (Option (List ℕ)) → S → Type 0)
+-- why a run of one file has no answer
+abbrev pub IsOneFault : {S X : Type 0} → (S → List ℕ → Option (Option (List ℕ)) → S → Type 0)
+    → (Input → X → Type 0) → (X → List ℕ)
     → Named → S → S → Option (List ℕ) → Option (List ℕ) → JobFault → Type 0
-IsOneFault opens a old new from to (BadView fault) = ⊥
-IsOneFault opens a old new from to (NotOpened name) =
+IsOneFault opens IsAnswerOf text a old new from to (BadView fault) = ⊥
+IsOneFault opens IsAnswerOf text a old new from to (NotOpened name) =
     (string_bytes name ≡ a.name) × opens old (string_bytes name) None new × Keeps from to
-IsOneFault opens a old new from to OutOfMemory = Keeps from to
-IsOneFault opens a old new from to Output =
-    OfOne opens old new a (λ x. IsBegun (IsShownBy x) text_of_shown from to)
+IsOneFault opens IsAnswerOf text a old new from to OutOfMemory = Keeps from to
+IsOneFault opens IsAnswerOf text a old new from to Output =
+    OfOne opens old new a (λ x. IsBegun (IsAnswerOf x) text from to)

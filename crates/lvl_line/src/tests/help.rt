@@ -11,6 +11,7 @@ Usage: lvl <COMMAND>
 Commands:
   compare  Says whether two layouts draw the same mask
   show     Shows a layout's top cell, and how many rings it places on each layer
+  digest   Hashes what a layout draws: layouts of the same mask have the same digest
   help     Print this message or the help of the given subcommand(s)
 
 Options:
@@ -48,22 +49,36 @@ Options:
   -h, --help        Print help
 ";
 
+const DIGEST: &str = "\
+Hashes what a layout draws: layouts of the same mask have the same digest
+
+Usage: lvl digest [OPTIONS] <A>
+
+Arguments:
+  <A>  The layout, GDSII or OASIS
+
+Options:
+      --top <NAME>  The layout's top cell
+  -h, --help        Print help
+";
+
 const BARE: &str = "\
 error: 'lvl' requires a subcommand but one was not provided
-  [subcommands: compare, show, help]
+  [subcommands: compare, show, digest, help]
 
 Usage: lvl <COMMAND>
 
 For more information, try '--help'.
 ";
 
-static TEXTS: [(&str, &str); 8] = [
+static TEXTS: [(&str, &str); 9] = [
     ("lvl --help", LVL),
     ("lvl -h", LVL),
     ("lvl help", LVL),
     ("lvl compare --help", COMPARE),
     ("lvl help compare", COMPARE),
     ("lvl show --help", SHOW),
+    ("lvl digest --help", DIGEST),
     ("lvl --version", "lvl 1.0.0\n"),
     ("lvl", BARE),
 ];

@@ -1,3 +1,5 @@
+use Rattle.lvl_report.specs.Runs.{IsShownBy}
+use Rattle.lvl_report.specs.Texts.{text_of_shown}
 use Rattle.lvl_job.proofs.Doing.{of_one, one_fault}
 use Rattle.lvl_job.proofs.job.show.Goals as goal
 
@@ -8,7 +10,7 @@ returns-in-Ok-clause-answered g c =
 
 pub returns-clause-fault : goal.returns-clause-fault
 returns-clause-fault g c =
-    one_fault g.F.Files.opens _ _ _ _ _ _ _ c.fault_of.ensures
+    one_fault g.F.Files.opens IsShownBy text_of_shown _ _ _ _ _ _ _ c.fault_of.ensures
     (of_one g.F.Files.opens _ _ _ _ _ _ _ _ c.in_ok-file.ensures.opened c.in_ok-file.ensures.fresh
     c.in-Err.ensures.begun)
     c.in-Err.ensures.nothing
