@@ -11,7 +11,7 @@ use Rattle.lvl_line.specs.declared.job.Job.TheVariants.{Compare, Digest, Show}
 use Rattle.lvl_report.specs.declared.status.Status.{Status}
 use Rattle.lvl_report.specs.Runs.{Input, input, IsComparedBy, IsDigestedBy, IsViewedBy, IsShownBy, IsWritten, IsBegun}
 use Rattle.lvl_report.specs.Texts.{text_of, text_of_digested, text_of_shown}
-use Rattle.lvl_report.specs.Writing.{digested_status, status_of, shown_status}
+use Rattle.lvl_report.specs.Writing.{shown_status, status_of}
 use Rattle.lvl_view.specs.declared.fault.ViewFault.{ViewFault}
 use Rattle.lvl_view.specs.Views.{PlainView, IsViewOf, IsFaultOf}
 use Rattle.lvl_job.specs.declared.fault.JobFault.{JobFault}
@@ -100,7 +100,7 @@ IsAnswered opens (Show file top) old new from to status =
     OfOne opens old new (named file top) (λ a. IsWritten (IsShownBy a) text_of_shown shown_status from to status)
 IsAnswered opens (Digest file top) old new from to status =
     OfOne opens old new (named file top) (λ a.
-    IsWritten (IsDigestedBy a) text_of_digested digested_status from to status)
+    IsWritten (IsDigestedBy a) text_of_digested shown_status from to status)
 
 -- a beginning of the answer to a job was written
 abbrev pub IsCut : {S : Type 0} → (S → List ℕ → Option (Option (List ℕ)) → S → Type 0) → Job → S → S

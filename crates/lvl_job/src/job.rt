@@ -11,7 +11,7 @@ ghost use Rattle.lvl_job.specs.inside.Parts.{IsOneAnswered, IsOneFault, IsPairAn
 ghost use Rattle.lvl_job.specs.inside.Parts.{fault_of_run};
 ghost use Rattle.lvl_report.specs.Runs.{IsBegun, IsDigestedBy, IsShownBy, IsWritten, input};
 ghost use Rattle.lvl_report.specs.Texts.{text_of, text_of_digested, text_of_shown};
-ghost use Rattle.lvl_report.specs.Writing.{digested_status, is_output, shown_status, status_of};
+ghost use Rattle.lvl_report.specs.Writing.{is_output, shown_status, status_of};
 
 use crate::fault::JobFault;
 use crate::files::Files;
@@ -165,7 +165,7 @@ fn digest<F: Files, O: Write>(
     files: &mut F,
     out: &mut O,
 ) -> Result<Status, JobFault>
-    ensures answered { IfOk result (IsOneAnswered F.opens IsDigestedBy text_of_digested digested_status
+    ensures answered { IfOk result (IsOneAnswered F.opens IsDigestedBy text_of_digested shown_status
         (record { name = string_bytes name; top = option_copied top.entry })
         files.old files.new (O.contents out.old) (O.contents out.new)) }
     ensures fault { IfErr result (IsOneFault F.opens IsDigestedBy text_of_digested
