@@ -166,6 +166,14 @@ fn end_of(window: &Window, width: u64) -> i64
     window.x0.saturating_add_unsigned(width).min(window.x1)
 }
 
+/// How wide a window is, and 1 if it has no square.
+fn width_of(window: &Window) -> u64
+    ensures { 0 < result }
+{
+    let width = window.x0.abs_diff(window.x1);
+    if width > 0 { width } else { 1 }
+}
+
 /// The squares of a window up to an abscissa.
 fn front(window: &Window, end: i64) -> Window
     ensures { result ≡ up_to end window.now }
@@ -245,7 +253,7 @@ pub fn difference_by_strips(
 {
     let mut rest = shared(joined(first.extent(), second.extent()), view.window());
     let mut pace = Pace {
-        width: u64::MAX,
+        width: width_of(&rest),
         points: most,
         tries: MOST_TRIES,
     };
