@@ -2,11 +2,14 @@
 
 A library that `gds_reader` or `oasis_reader` has read is checked, counted, placed and compared, and the text of
 the answer is made. No code of lvl is used, and no sweep: two lists of rings are compared row by row, by their
-windings.
+windings. `ignore` is the set of words of --ignore.
 """
 from collections import namedtuple
 
+import digest as sha
+import hints
 import layout
+from hints import WORDS
 
 LIMIT = 16_777_216
 MOST_RINGS = 1500
@@ -19,14 +22,25 @@ Reference = namedtuple("Reference", "cell flip quarters at shifts")
 Cell = namedtuple("Cell", "name shapes references")
 Library = namedtuple("Library", "head cells")
 # If `allows` is None, the text is the whole answer; else `allows` says whether the words after the text are right.
-Answer = namedtuple("Answer", "statuses text allows")
+# The hint is the text on standard error.
+Answer = namedtuple("Answer", "statuses text allows hint")
+
+NOTHING, EVERYTHING = frozenset(), frozenset(WORDS)
+
+
+def ignored(text):
+    """The set that the text of --ignore names; None if it names none."""
+    words = text.split(",")
+    if not set(words) <= {*WORDS, "all"}:
+        return None
+    return EVERYTHING if "all" in words else frozenset(words)
 
 
 class Refused(Exception):
     def __init__(self, step, number, name, *values, at=None, allows=None):
         words = [step, number, name, *values] + ([] if at is None else ["at", at])
         super().__init__(" ".join(str(word) for word in words))
-        self.allows = allows
+        self.step, self.number, self.values, self.at, self.allows = step, number, values, at, allows
 
 
 class Lattice:
@@ -257,6 +271,17 @@ def first_difference(first, second):
     return None
 
 
+def corners(rings):
+    """The corners of what the rings cover, as (x, y, change), in order of x and then y."""
+    found, below = [], {}
+    for y in sorted({y for ring in rings for _, y in ring}):
+        here = {x: sign for span in intervals(rings, y) for x, sign in zip(span, (1, -1))}
+        changes = [(x, y, here.get(x, 0) - below.get(x, 0)) for x in here.keys() | below.keys()]
+        found += [change for change in changes if change[2]]
+        below = here
+    return sorted(found)
+
+
 def verdict(first, second):
     for layer in sorted(set(first) | set(second)):
         apart = first_difference(first.get(layer, []), second.get(layer, []))
@@ -265,18 +290,14 @@ def verdict(first, second):
     return "same"
 
 
-def refusal(side, refused):
-    return Answer({2}, "refused: %s: %s" % (side, refused), refused.allows)
-
-
 def in_turn(sides, step):
-    """Applies the step to each side in turn: the results, or the first refusal."""
+    """Applies the step to each side in turn: the results and None, or None and the first refusal with its side."""
     given = []
     for side, value in sides:
         try:
             given.append((side, step(value)))
         except Refused as refused:
-            return None, refusal(side, refused)
+            return None, (side, refused)
     return given, None
 
 
@@ -294,38 +315,59 @@ def fitting(value):
     return value
 
 
-def accepted(read, files):
-    """The library, top and counts of each side, or the refusal; each file is a side, its bytes and its top."""
-    sides, refused = in_turn([(side, (data, top)) for side, data, top in files], lambda v: (read(v[0]), v[1]))
+def accepted(read, files, ignore):
+    """The library, top and counts of each side, or the answer that refuses one; each file is a side, its bytes, its
+    top, and the option that names a top."""
+    start = [(side, (data, top)) for side, data, top, _ in files]
+    sides, apart = in_turn(start, lambda value: (read(value[0], ignore), value[1]))
     for step in (checked, fitting):
-        if not refused:
-            sides, refused = in_turn(sides, step)
-    return sides, refused
+        if not apart:
+            sides, apart = in_turn(sides, step)
+    if not apart:
+        return sides, None
+    side, refused = apart
+    data, option = next((data, option) for name, data, _, option in files if name == side)
+    hint = hints.hint(refused, data, option, [word for word in WORDS if word in ignore])
+    return None, Answer({2}, "refused: %s: %s" % (side, refused), refused.allows, hint)
 
 
-def compare(read, first, second, tops):
-    sides, refused = accepted(read, [("first", first, tops[0]), ("second", second, tops[1])])
+def compare(read, first, second, tops, ignore=NOTHING):
+    files = [("first", first, tops[0], "--top-a"), ("second", second, tops[1], "--top-b")]
+    sides, refused = accepted(read, files, ignore)
     if refused:
         return refused
     heads = "".join("%s: %s\n" % (side, library.head) for side, (library, _, _) in sides)
     if any(sum(rings.values()) > MOST_RINGS for _, (_, _, rings) in sides):
-        return Answer({0, 1}, heads.rstrip("\n"), lambda words: True)
+        return Answer({0, 1}, heads.rstrip("\n"), lambda words: True, "")
     text = verdict(*[placed_rings(library.cells, top, {}) for _, (library, top, _) in sides])
-    return Answer({0 if text == "same" else 1}, heads + text, None)
+    return Answer({0 if text == "same" else 1}, heads + text, None, "")
 
 
-def show(read, data, top):
-    sides, refused = accepted(read, [("first", data, top)])
+def show(read, data, top, ignore=NOTHING):
+    sides, refused = accepted(read, [("first", data, top, "--top")], ignore)
     if refused:
         return refused
     library, name, rings = sides[0][1]
     lines = ["file: " + library.head, "top: " + name, "cells: %d" % len(library.cells)]
     lines += ["layer %d datatype %d rings %d" % (*layer, many) for layer, many in rings.items()]
-    return Answer({0}, "\n".join(lines), None)
+    return Answer({0}, "\n".join(lines), None, "")
+
+
+def digest(read, data, top, ignore=NOTHING):
+    sides, refused = accepted(read, [("first", data, top, "--top")], ignore)
+    if refused:
+        return refused
+    library, name, rings = sides[0][1]
+    head = "file: %s\ntop: %s" % (library.head, name)
+    if sum(rings.values()) > MOST_RINGS:
+        return Answer({0}, head, lambda words: True, "")
+    drawn = placed_rings(library.cells, name, {})
+    lines = sha.lines_of({layer: corners(rings) for layer, rings in drawn.items()})
+    return Answer({0}, head + "\n" + lines.rstrip("\n"), None, "")
 
 
 def agrees(answer, status, output, errors):
-    if status not in answer.statuses or errors:
+    if status not in answer.statuses or errors != answer.hint:
         return False
     if answer.allows is None:
         return output == answer.text + "\n"

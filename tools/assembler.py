@@ -81,6 +81,58 @@ def stream_head(name=b"L", units=bytes(16)):
 STREAM_END = record(0x04, 0)
 
 
+# GDSII records that draw nothing.
+def gds_property(attribute, value):
+    """PROPATTR and PROPVALUE, before ENDEL."""
+    return short(0x2B, attribute) + record(0x2C, 6, value)
+
+
+def attribute_table(name):
+    return record(0x23, 6, name)
+
+
+def directory_size(pages):
+    return short(0x39, pages)
+
+
+def spacing_rules(name):
+    return record(0x3A, 6, name)
+
+
+def security(rights):
+    """LIBSECUR; each right is a group, a user and bits."""
+    flat = [number for right in rights for number in right]
+    return record(0x3B, 2, struct.pack(">%dH" % len(flat), *flat))
+
+
+def reference_libraries(names):
+    return record(0x1F, 6, b"".join(name.ljust(44, b"\0") for name in names))
+
+
+def fonts(names):
+    return record(0x20, 6, b"".join(name.ljust(44, b"\0") for name in names))
+
+
+def generations(count):
+    return short(0x22, count)
+
+
+def library_format(number=0):
+    return short(0x36, number)
+
+
+def structure_class(bits):
+    return short(0x34, bits, 1)
+
+
+def element_flags(bits):
+    return short(0x26, bits, 1)
+
+
+def plex(number):
+    return record(0x2F, 3, struct.pack(">i", number))
+
+
 # The first bytes of an OASIS file.
 MAGIC = b"%SEMI-OASIS\r\n"
 
@@ -117,6 +169,12 @@ def end(scheme=b"\0", tables_at_end=False):
     tables = bytes(12) if tables_at_end else b""
     padding = 256 - 1 - len(tables) - 2 - len(scheme)
     return b"\x02" + tables + unsigned(padding) + bytes(padding) + scheme
+
+
+def padded_end(scheme=b"\0", tables=b""):
+    """END as KLayout writes it: an empty padding, whose length has so many groups that END has 256 bytes."""
+    groups = 256 - 1 - len(tables) - len(scheme)
+    return b"\x02" + tables + unsigned(0, fill=groups - 1) + scheme
 
 
 OASIS_END = end()
@@ -179,3 +237,37 @@ def column(n, step):
 def line(n, x, y):
     """A repetition of n places, each moved by x and y from the one before."""
     return b"\x09" + unsigned(n - 2) + g_delta(x, y)
+
+
+# OASIS records that draw nothing.
+def named(id, text, number=None):
+    """A string, or with the next id a string and its number: TEXTSTRING 5, PROPNAME 7 or PROPSTRING 9."""
+    return unsigned(id) + string(text) if number is None else unsigned(id + 1) + string(text) + unsigned(number)
+
+
+def x_name(attribute, text, number=None):
+    if number is None:
+        return b"\x1E" + unsigned(attribute) + string(text)
+    return b"\x1F" + unsigned(attribute) + string(text) + unsigned(number)
+
+
+def layer_name(name, layers, datatypes, of_texts=False):
+    """LAYERNAME; both intervals are the bytes of their types and bounds."""
+    return (b"\x0C" if of_texts else b"\x0B") + string(name) + layers + datatypes
+
+
+def oas_text(characters, layer, at, texttype=0, repetition=b""):
+    fields = string(characters) + unsigned(layer) + unsigned(texttype) + signed(at[0]) + signed(at[1])
+    return b"\x13" + (b"\x5F" if repetition else b"\x5B") + fields + repetition
+
+
+def oas_property(name, *values, standard=False):
+    """PROPERTY with a name, which is a number or bytes, and values, each the bytes of its type and itself."""
+    by = unsigned(name) if isinstance(name, int) else string(name)
+    count = b"" if len(values) < 15 else unsigned(len(values))
+    info = min(len(values), 15) << 4 | 0x04 | (0x02 if isinstance(name, int) else 0) | (0x01 if standard else 0)
+    return b"\x1C" + bytes([info]) + by + count + b"".join(values)
+
+
+# PROPERTY again, with the name and the values of the last one.
+PROPERTY_AGAIN = b"\x1D"

@@ -1,9 +1,13 @@
 #!/usr/bin/env python3
 """Damages files at random, and checks the answers of `lvl` against a second implementation of the rules.
 
-Each damaged file is shown, and compared with the undamaged one. The exit status, the standard output and the
-standard error must be those that `answers.py` gives. The script stops at the first wrong answer and leaves both
-files in the folder that it prints. If more than 1,500 rings are placed, the verdict itself is not checked.
+Each damaged file is shown, hashed, and compared with the undamaged one. The exit status, the standard output and
+the standard error must be those that `answers.py` gives. The script stops at the first wrong answer and leaves both
+files in the folder that it prints. If more than 1,500 rings are placed, the verdict itself and the digest are not
+checked.
+
+With `--decorate` the files have records that draw nothing, and each is answered without --ignore, with some words,
+and with all.
 """
 import collections
 import glob
@@ -21,6 +25,8 @@ import layout
 import oasis
 import oasis_reader
 import options
+import undrawn
+from answers import EVERYTHING, NOTHING, WORDS
 
 WRITERS = {"gds": gds, "oas": oasis}
 LARGE = [2**20 - 2, 2**20 - 1, 2**24 - 1, 2**32 - 1, 2**32, 2**62, 2**62 - 1, 2**63 - 1, 2**63, 2**64 - 2, 2**64 - 1]
@@ -32,7 +38,7 @@ class Traced(oasis_reader.Reader):
     """A reader that keeps the offset of each record."""
 
     def __init__(self, data):
-        super().__init__(data)
+        super().__init__(data, EVERYTHING)
         self.starts = []
 
     def judge(self, id):
@@ -40,8 +46,8 @@ class Traced(oasis_reader.Reader):
         super().judge(id)
 
 
-def read(data):
-    return (oasis_reader if data[:1] == b"%" else gds_reader).read(data)
+def read(data, ignore):
+    return (oasis_reader if data[:1] == b"%" else gds_reader).read(data, ignore)
 
 
 def starts_of(data):
@@ -147,26 +153,42 @@ def number_grown(rng, data):
     return data[:at] + rng.choice(EXTREME) + data[at + 4:] if at + 4 <= len(data) else data
 
 
+def undrawn_added(rng, data):
+    """A record that draws nothing added between two others, where it may come or not."""
+    at = rng.choice(starts_of(data)[1:])
+    made = undrawn.oasis_record if data[:1] == b"%" else undrawn.gds_record
+    return data[:at] + made(rng, EVERYTHING) + data[at:]
+
+
+def groups_added(rng, data):
+    """Zero groups, with or without a last one, added to what may be an integer."""
+    at = rng.randrange(len(data))
+    more = rng.choice([1, 8, 9, 10, 11, 100, 252, 253, 254, 255, 256])
+    last = rng.choice([b"\0", b"\0", b"\0", b"\1", b"\x7F"])
+    return data[:at] + bytes([data[at] | 0x80]) + b"\x80" * more + last + data[at + 1:]
+
+
 DAMAGES = [
     changed_bytes, removed, inserted, swapped, cut, lengthened, records_moved, records_moved,
     heads_changed, heads_changed, values_changed, values_changed, values_changed, values_changed, number_grown,
     number_grown,
 ]
+DECORATED_DAMAGES = [*DAMAGES, undrawn_added, undrawn_added, undrawn_added, groups_added]
 
 
-def source(rng, form):
+def source(rng, form, ignore):
     """A file to damage: an example or a pseudo-random file."""
     kept = sorted(glob.glob(os.path.join(options.ROOT, "examples", "*." + form)))
     if rng.random() < 0.15:
         with open(rng.choice(kept), "rb") as file:
             return file.read()
-    return WRITERS[form].written(rng, layout.made(rng))
+    return WRITERS[form].written(rng, layout.made(rng), ignore)
 
 
-def damaged(rng, data):
+def damaged(rng, data, damages):
     for _ in range(rng.choice([1, 1, 1, 2])):
         try:
-            data = rng.choice(DAMAGES)(rng, data) if data else data
+            data = rng.choice(damages)(rng, data) if data else data
         except answers.Refused:
             pass
     return data
@@ -177,15 +199,23 @@ def answered(program, words):
     return done.returncode, done.stdout.decode("latin-1"), done.stderr.decode("latin-1")
 
 
-def pair_of(rng, form):
+def pair_of(rng, form, decorated):
     """A damaged file and the undamaged one: the options of their comparison, the files, and their tops."""
-    whole = source(rng, form)
-    files = [damaged(rng, whole), whole]
+    whole = source(rng, form, frozenset(word for word in WORDS if rng.random() < 0.7) if decorated else NOTHING)
+    files = [damaged(rng, whole, DECORATED_DAMAGES if decorated else DAMAGES), whole]
     if rng.random() < 0.3:
         files.reverse()
     tops = [rng.choice([None, None, "TOP", "TOP", "A", "X"]), rng.choice([None, "TOP"])]
     words = [word for top, option in zip(tops, ("--top-a", "--top-b")) if top for word in (option, top)]
     return words, files, tops
+
+
+def texts_of(rng, asked):
+    """The texts of --ignore, None without it: none, some words in any order, and all."""
+    if asked.plain or not asked.decorate:
+        return [None]
+    some = rng.sample(WORDS, rng.randint(1, len(WORDS) - 1))
+    return [None, ",".join(some + some[:rng.choice([0, 0, 1])]), "all"]
 
 
 def kind_of(answer):
@@ -196,22 +226,34 @@ def kind_of(answer):
     return words[0].rstrip(":") if len(answer.statuses) == 1 else "not judged"
 
 
-def judged(program, rng, form, names):
-    """The kind of answer for a pair and None; or None and a message if an answer is wrong."""
-    words, files, tops = pair_of(rng, form)
+def runs_of(names, words, files, tops, text):
+    """The command lines, each with the answer that is right, under one text of --ignore."""
+    ignore = answers.ignored(text) if text else NOTHING
+    given = ["--ignore", text] if text else []
+    top = ["--top", tops[0]] if tops[0] else []
+    return [
+        (["compare", *names, *words, *given], answers.compare(read, *files, tops, ignore)),
+        (["show", names[0], *top, *given], answers.show(read, files[0], tops[0], ignore)),
+        (["digest", names[0], *top, *given], answers.digest(read, files[0], tops[0], ignore)),
+    ]
+
+
+def judged(asked, rng, names):
+    """The kinds of the answers for a pair and None; or None and a message if an answer is wrong."""
+    words, files, tops = pair_of(rng, asked.format, asked.decorate)
     for name, data in zip(names, files):
         with open(name, "wb") as out:
             out.write(data)
-    shown = ["--top", tops[0]] if tops[0] else []
-    runs = [
-        (["compare", *names, *words], answers.compare(read, *files, tops)),
-        (["show", names[0], *shown], answers.show(read, files[0], tops[0])),
-    ]
-    for line, expected in runs:
-        answer = answered(program, line)
-        if not answers.agrees(expected, *answer):
-            return None, "%s\n  expected %s\n  answered %s" % (" ".join(line), expected, answer)
-    return kind_of(runs[0][1]), None
+    kinds = []
+    for text in texts_of(rng, asked):
+        runs = runs_of(names, words, files, tops, text)
+        for line, expected in runs:
+            expected = expected._replace(hint="") if not asked.hints else expected
+            answer = answered(asked.program, line)
+            if not answers.agrees(expected, *answer):
+                return None, "%s\n  expected %s\n  answered %s" % (" ".join(line), expected, answer)
+        kinds.append((text if text in (None, "all") else "some", kind_of(runs[0][1])))
+    return kinds, None
 
 
 def main():
@@ -220,19 +262,22 @@ def main():
     line.add_argument("--format", choices=["gds", "oas"], default="gds", help="GDSII (the default) or OASIS")
     line.add_argument("--count", metavar="N", type=int, default=1000, help="the number of files (default: 1000)")
     line.add_argument("--seed", metavar="S", type=int, default=1, help="the first seed (default: 1)")
+    line.add_argument("--decorate", action="store_true", help="add records that draw nothing, and give --ignore")
+    options.add_older(line)
     asked = options.parsed(line)
     folder = tempfile.mkdtemp(prefix="lvl-damage-")
     names = [os.path.join(folder, "a"), os.path.join(folder, "b")]
     outcomes = collections.Counter()
     for seed in range(asked.seed, asked.seed + asked.count):
-        short, wrong = judged(asked.program, random.Random("%s %d" % (asked.format, seed)), asked.format, names)
+        key = "%s %d" % ("decorated " + asked.format if asked.decorate else asked.format, seed)
+        kinds, wrong = judged(asked, random.Random(key), names)
         if wrong:
             sys.exit("seed %d in %s: %s" % (seed, folder, wrong))
-        outcomes[short] += 1
+        outcomes.update(kinds)
     shutil.rmtree(folder)
     print("%d damaged files, all answers right:" % asked.count)
-    for short, many in outcomes.most_common():
-        print("%7d %s" % (many, short))
+    for (text, kind), many in outcomes.most_common():
+        print("%7d %s%s" % (many, "--ignore %s: " % text if text else "", kind))
 
 
 if __name__ == "__main__":

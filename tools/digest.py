@@ -32,9 +32,13 @@ def layer_bytes(layer, datatype, found):
 
 def lines(layers):
     """What `lvl digest` prints after the top of a mask, {(layer, datatype): rectangles}."""
+    return lines_of({layer: list(corners(rectangles)) for layer, rectangles in layers.items()})
+
+
+def lines_of(layers):
+    """The same, of the corners in order, {(layer, datatype): corners}."""
     mask, text = hashlib.sha256(), ""
-    for (layer, datatype), rectangles in sorted(layers.items()):
-        found = list(corners(rectangles))
+    for (layer, datatype), found in sorted(layers.items()):
         if found:
             spelled = layer_bytes(layer, datatype, found)
             mask.update(spelled)

@@ -1,6 +1,11 @@
-"""Writes a layout as GDSII. Where a file can say the same in several ways, one is chosen at random."""
+"""Writes a layout as GDSII. Where a file can say the same in several ways, one is chosen at random.
+
+`ignore` is the set of words that lets in records which draw nothing; these are added at random.
+"""
 import struct
 
+import undrawn
+from answers import NOTHING
 from assembler import ANGLES, REFLECTED, STREAM_END, element, record, short, stream_head, structure, xy
 
 
@@ -62,11 +67,12 @@ def reference_records(rng, reference):
     return [element(0x0A, name, by, xy([(x + dx, y + dy)])) for dx, dy in reference.shifts]
 
 
-def written(rng, cells):
-    out = [stream_head()]
+def written(rng, cells, ignore=NOTHING, units=bytes(16)):
+    out = [stream_head(units=units)]
     for cell in cells:
         elements = [e for s in cell.shapes for e in shape_records(rng, s)]
         elements += [e for r in cell.references for e in reference_records(rng, r)]
         rng.shuffle(elements)
         out.append(structure(cell.name, *elements))
-    return b"".join(out) + STREAM_END + bytes(rng.choice([0, 0, 1, 100]))
+    data = b"".join(out) + STREAM_END + bytes(rng.choice([0, 0, 1, 100]))
+    return undrawn.gds_file(rng, data, ignore)

@@ -1,30 +1,48 @@
 """A second implementation of the GDSII rules: reads bytes as a library, or refuses them with an offset."""
 import struct
 
-from answers import Cell, Lattice, Library, ONCE, Reference, Refused, Shape, band_rings, oblique, path_fault
+from answers import NOTHING, Cell, Lattice, Library, ONCE, Reference, Refused, Shape, band_rings, oblique, path_fault
 
 HEADER, BGNLIB, LIBNAME, UNITS, ENDLIB, BGNSTR, STRNAME, ENDSTR = range(8)
 BOUNDARY, PATH, SREF, AREF, TEXT, LAYER, DATATYPE, WIDTH, XY, ENDEL, SNAME, COLROW = range(0x08, 0x14)
 TEXTTYPE, PRESENTATION, STRING, STRANS, MAG, ANGLE, PATHTYPE = 0x16, 0x17, 0x19, 0x1A, 0x1B, 0x1C, 0x21
+PROPATTR, PROPVALUE, ATTRTABLE = 0x2B, 0x2C, 0x23
+LIBDIRSIZE, SRFNAME, LIBSECUR, REFLIBS, FONTS, GENERATIONS, FORMAT = 0x39, 0x3A, 0x3B, 0x1F, 0x20, 0x22, 0x36
+STRCLASS, ELFLAGS, PLEX = 0x34, 0x26, 0x2F
 
-# The data type of each record type, and the length of its payload in bytes (None: any even number).
+EVEN, POINT_BYTES, SECURITY = range(0, 65_532, 2), range(8, 65_532, 8), range(6, 193, 6)
+# The data type of each record type, and the length of its payload in bytes, or the range of lengths.
 TABLE = {
-    HEADER: (2, 2), BGNLIB: (2, 24), LIBNAME: (6, None), UNITS: (5, 16), ENDLIB: (0, 0), BGNSTR: (2, 24),
-    STRNAME: (6, None), ENDSTR: (0, 0), BOUNDARY: (0, 0), PATH: (0, 0), SREF: (0, 0), AREF: (0, 0), TEXT: (0, 0),
-    LAYER: (2, 2), DATATYPE: (2, 2), WIDTH: (3, 4), XY: (3, None), ENDEL: (0, 0), SNAME: (6, None), COLROW: (2, 4),
-    TEXTTYPE: (2, 2), PRESENTATION: (1, 2), STRING: (6, None), STRANS: (1, 2), MAG: (5, 8), ANGLE: (5, 8),
-    PATHTYPE: (2, 2),
+    HEADER: (2, 2), BGNLIB: (2, 24), LIBNAME: (6, EVEN), UNITS: (5, 16), ENDLIB: (0, 0), BGNSTR: (2, 24),
+    STRNAME: (6, EVEN), ENDSTR: (0, 0), BOUNDARY: (0, 0), PATH: (0, 0), SREF: (0, 0), AREF: (0, 0), TEXT: (0, 0),
+    LAYER: (2, 2), DATATYPE: (2, 2), WIDTH: (3, 4), XY: (3, POINT_BYTES), ENDEL: (0, 0), SNAME: (6, EVEN),
+    COLROW: (2, 4), TEXTTYPE: (2, 2), PRESENTATION: (1, 2), STRING: (6, EVEN), STRANS: (1, 2), MAG: (5, 8),
+    ANGLE: (5, 8), PATHTYPE: (2, 2),
 }
-# The order of records; a list within a list is optional.
-BY = [STRANS, [MAG], [ANGLE]]
+# The same of the records that draw nothing, by the word that lets them in.
+IGNORED = {
+    "properties": {PROPATTR: (2, 2), PROPVALUE: (6, EVEN), ATTRTABLE: (6, EVEN)},
+    "names": {
+        LIBDIRSIZE: (2, 2), SRFNAME: (6, EVEN), LIBSECUR: (2, SECURITY), REFLIBS: (6, EVEN), FONTS: (6, EVEN),
+        GENERATIONS: (2, 2), FORMAT: (2, 2), STRCLASS: (1, 2), ELFLAGS: (1, 2), PLEX: (3, 4),
+    },
+}
+# The order of records; a list within a list is optional, and a tuple may come any number of times.
+LIBRARY = [
+    HEADER, BGNLIB, [LIBDIRSIZE], [SRFNAME], [LIBSECUR], LIBNAME,
+    [REFLIBS], [FONTS], [ATTRTABLE], [GENERATIONS], [FORMAT], UNITS,
+]
+FLAGS, BY, PROPERTIES = [[ELFLAGS], [PLEX]], [STRANS, [MAG], [ANGLE]], (PROPATTR, PROPVALUE)
 ELEMENTS = {
-    BOUNDARY: [LAYER, DATATYPE, XY, ENDEL],
-    PATH: [LAYER, DATATYPE, [PATHTYPE], [WIDTH], XY, ENDEL],
-    SREF: [SNAME, BY, XY, ENDEL],
-    AREF: [SNAME, BY, COLROW, XY, ENDEL],
-    TEXT: [LAYER, TEXTTYPE, [PRESENTATION], [PATHTYPE], [WIDTH], BY, XY, STRING, ENDEL],
+    BOUNDARY: [*FLAGS, LAYER, DATATYPE, XY, PROPERTIES, ENDEL],
+    PATH: [*FLAGS, LAYER, DATATYPE, [PATHTYPE], [WIDTH], XY, PROPERTIES, ENDEL],
+    SREF: [*FLAGS, SNAME, BY, XY, PROPERTIES, ENDEL],
+    AREF: [*FLAGS, SNAME, BY, COLROW, XY, PROPERTIES, ENDEL],
+    TEXT: [
+        *FLAGS, LAYER, TEXTTYPE, [PRESENTATION], [PATHTYPE], [WIDTH], BY, XY, STRING, PROPERTIES, ENDEL,
+    ],
 }
-IN_LIBRARY = {BGNSTR: [STRNAME], ENDLIB: []}
+IN_LIBRARY = {BGNSTR: [STRNAME, [STRCLASS]], ENDLIB: []}
 IN_STRUCTURE = {**ELEMENTS, ENDSTR: []}
 ONE = bytes.fromhex("4110000000000000")
 QUARTERS = [bytes.fromhex(n) for n in ("0000000000000000", "425a000000000000", "42b4000000000000", "4310e00000000000")]
@@ -34,16 +52,23 @@ POINTS = {BOUNDARY: (4, 8191), PATH: (2, 8191), SREF: (1, 1), TEXT: (1, 1), AREF
 def after(order, kind):
     """What may follow a record of the kind that comes next in the order; None if it may not come there."""
     for at, item in enumerate(order):
-        if isinstance(item, list):
-            rest = after(item, kind)
-            if rest is not None:
-                return rest + order[at + 1:]
-        else:
+        if isinstance(item, int):
             return order[at + 1:] if item == kind else None
+        rest = after(list(item), kind)
+        if rest is not None:
+            return rest + order[at + (1 if isinstance(item, list) else 0):]
     return None
 
 
-def record(data, at):
+def table_of(ignore):
+    """The records that are known if these are ignored."""
+    table = dict(TABLE)
+    for word in ignore:
+        table.update(IGNORED.get(word, {}))
+    return table
+
+
+def record(data, at, table):
     """The type and the payload of the record at an offset."""
     def refuse(number, name):
         raise Refused("gds", number, name, at=at)
@@ -55,11 +80,10 @@ def record(data, at):
         refuse(2, "BadLength")
     if kind >= 60:
         refuse(4, "UnknownRecord")
-    known, most = TABLE.get(kind, (data_type, None))
+    known, lengths = table.get(kind, (data_type, EVEN))
     if data_type > 6 or data_type != known:
         refuse(3, "BadDataType")
-    payload = length - 4
-    if (most is not None and payload != most) or (kind == XY and (payload % 8 or payload == 0)):
+    if length - 4 not in (lengths if isinstance(lengths, range) else (lengths,)):
         refuse(2, "BadLength")
     if len(data) - at < length:
         refuse(1, "Truncated")
@@ -72,9 +96,9 @@ def name_of(payload):
 
 
 class Reader:
-    def __init__(self, data):
-        self.data, self.at = data, 0
-        self.order, self.openers = [HEADER, BGNLIB, LIBNAME, UNITS], IN_LIBRARY
+    def __init__(self, data, ignore):
+        self.data, self.at, self.table = data, 0, table_of(ignore)
+        self.order, self.openers = LIBRARY, IN_LIBRARY
         self.cells, self.element, self.values, self.head = [], None, {}, ["", b""]
 
     def refuse(self, number, name, *values):
@@ -87,7 +111,8 @@ class Reader:
     def library(self):
         ended = False
         while not ended:
-            kind, payload = record(self.data, self.at)
+            kind, payload = record(self.data, self.at, self.table)
+            self.refuse_if(not self.is_known(kind, payload), 11, "Unsupported", kind)
             self.place(kind)
             self.value(kind, payload)
             ended = kind == ENDLIB
@@ -99,12 +124,14 @@ class Reader:
         head = "GDSII version %d units %s %s" % (version, units[:8].hex(), units[8:].hex())
         return Library(head, [Cell(*cell) for cell in self.cells])
 
+    def is_known(self, kind, payload):
+        """Whether the record is read: its type is in the table, and a FORMAT is 0."""
+        return kind in self.table and (kind != FORMAT or payload == b"\0\0")
+
     def place(self, kind):
         """Advances the order by the record, which opens an element if it is its first."""
-        self.refuse_if(kind not in TABLE, 11, "Unsupported", kind)
-        if self.order:
-            rest = after(self.order, kind)
-        else:
+        rest = after(self.order, kind)
+        if rest is None and all(isinstance(item, list) for item in self.order):
             rest = self.openers.get(kind)
             if kind in ELEMENTS:
                 self.element, self.values = kind, {}
@@ -202,5 +229,5 @@ class Reader:
         return Lattice(((ax - x) // columns, (ay - y) // columns), columns, ((bx - x) // rows, (by - y) // rows), rows)
 
 
-def read(data):
-    return Reader(data).library()
+def read(data, ignore=NOTHING):
+    return Reader(data, ignore).library()

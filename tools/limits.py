@@ -14,10 +14,12 @@ from collections import namedtuple
 import crafted
 import options
 from assembler import aref, boundary, box, cell_by_number, column, counted_name, lattice, oas_path, path, placement
-from assembler import polygon, rectangle, row, signed, sref, unsigned
+from assembler import element, gds_property, layer_name, named, oas_text, polygon, rectangle, row, security, short
+from assembler import signed, sref, unsigned, x_name, xy
 from crafted import GDS_HEAD, GDS_TEXT, OAS_END, OAS_HEAD, OAS_TEXT, gds_cell, gds_file, oas_cell, oas_file
 
 MOST_BYTES, CELLS, PLACES = 4_294_967_295, 1_048_576, 16_777_216
+LONG, IGNORED = 100_000_000, ["--ignore", "all"]
 # A name, the files (each as pieces), further words of the command line, and the lines of the right answer.
 Case = namedtuple("Case", "what files words answer")
 
@@ -186,12 +188,67 @@ def layers():
     yield refused("gds layer + 1", gds(32_768), "gds 12 Layer at %d" % (len(GDS_HEAD) + 40))
 
 
+def gds_undrawn():
+    """Records that draw nothing, as long and as many as may be."""
+    square = short(0x0D, 1), short(0x0E, 0), xy([(0, 0), (1, 0), (1, 1), (0, 1), (0, 0)])
+    many = b"".join(gds_property(at % 2**16, b"") for at in range(CELLS))
+    file = gds_file(gds_cell("TOP", element(0x08, *square, gds_property(1, b"v" * 65_530), many)))
+    yield shown("gds properties of an element", file, "TOP", 1, [(1, 0, 1)], IGNORED)
+    head = GDS_HEAD[:34], security([(1, 2, 3)] * 32), GDS_HEAD[34:]
+    yield shown("gds rights of a library", [*head, *gds_cell("TOP", box(0, 0, 1, 1)), b"\0\4\4\0"], "TOP", 1,
+                [(1, 0, 1)], IGNORED)
+
+
+def long_strings():
+    """Records that draw nothing, with strings longer than any name may be; they take no memory."""
+    length, characters = unsigned(LONG), lambda: (b"s" * (LONG // 100) for _ in range(100))
+    for what, start, end in (
+        ("PROPNAME", b"\7", b""), ("PROPSTRING", b"\x0A", b"\1"), ("LAYERNAME", b"\x0B", b"\0\0"),
+        ("XNAME", b"\x1F\7", b"\1"), ("TEXTSTRING", b"\6", b"\1"), ("PROPERTY", b"\x1C\4", b""),
+        ("value", b"\x1C\x14\1n\x0B", b""),
+    ):
+        parts = oas_file(start + length, characters(), end, *oas_cell("TOP"))
+        yield shown("oasis string of a " + what, parts, "TOP", 1, [], IGNORED)
+    text = oas_cell("TOP", b"\x13\x40" + length, characters())
+    yield shown("oasis string of a TEXT", oas_file(text), "TOP", 1, [], IGNORED)
+    for what, start in (("string", b"\x0A"), ("count of values", b"\x1C\xF4\1n")):
+        endless = [OAS_HEAD, start + unsigned(2**64 - 1), b"\1" * 1000]
+        yield refused("oasis %s of 2^64 - 1" % what, endless, "oasis 1 Truncated at %d" % len(OAS_HEAD), IGNORED)
+
+
+def oasis_undrawn():
+    """Records that draw nothing, with as many values, places and groups as may be."""
+    many = b"\x1C\xF4\1n" + unsigned(10 * CELLS) + b"\x08\1" * (10 * CELLS)
+    yield shown("oasis values of a PROPERTY", oas_file(many, *oas_cell("TOP")), "TOP", 1, [], IGNORED)
+    tables = b"".join(
+        named(7, b"n") + named(7, b"n", 5) + layer_name(b"n", b"\0", b"\4\7\3") + x_name(1, b"", at)
+        for at in range(CELLS)
+    )
+    yield shown("oasis names of tables", oas_file(tables, *oas_cell("TOP")), "TOP", 1, [], IGNORED)
+    text = oas_text(b"", 1, (0, 0), 0, lattice(4096, 4096, 2, 2))
+    again = b"\x14\x7F\1\0\1\1\0\0\0"
+    yield shown("oasis places of a TEXT", oas_file(oas_cell("TOP", text, again)), "TOP", 1, [(1, 0, PLACES)], IGNORED)
+    text = oas_text(b"", 1, (0, 0), 0, row(PLACES + 1, 1))
+    at = len(OAS_HEAD) + 5
+    yield refused("oasis places of a TEXT + 1", oas_file(oas_cell("TOP", text)), "oasis 9 RepetitionSize at %d" % at,
+                  IGNORED)
+    texts = oas_text(b"", 1, (0, 0), 0, b"\4" + unsigned(1000) + b"\2" * 1001) * 10_000
+    yield shown("oasis repetitions of TEXTs", oas_file(oas_cell("TOP", texts)), "TOP", 1, [], IGNORED)
+    padded = unsigned(3, fill=255)
+    yield shown("oasis groups", oas_file(b"\x0E" + padded + b"TOP"), "TOP", 1, [], IGNORED)
+    padded = unsigned(3, fill=256)
+    yield refused("oasis groups + 1", oas_file(b"\x0E" + padded + b"TOP"),
+                  "oasis 2 IntegerTooLarge at %d" % len(OAS_HEAD), IGNORED)
+
+
 GROUPS = [
     layers, names, points, deltas, places, chains, rings, compared_rings, cells, deep, round_and_round, file_bytes,
 ]
+# Those that give --ignore.
+IGNORING = [gds_undrawn, long_strings, oasis_undrawn]
 
 
-def is_right(program, case, folder):
+def is_right(program, case, folder, has_hints):
     """Whether the program gives the right answer; prints the line of the run."""
     names = [os.path.join(folder, "%s%d" % (case.what.replace(" ", "-"), at)) for at in range(len(case.files))]
     sizes = [crafted.write(name, file) for name, file in zip(names, case.files)]
@@ -200,7 +257,9 @@ def is_right(program, case, folder):
         os.remove(name)
     last = case.answer[-1]
     status = 2 if last.startswith("refused") else 1 if last.startswith("differ") else 0
-    right = (done.status, done.output, done.errors) == (status, "\n".join(case.answer) + "\n", "")
+    hint = "lvl: several cells could be the top: name one by --top\n"
+    errors = hint if last.endswith("ManyTops") and has_hints else ""
+    right = (done.status, done.output, done.errors) == (status, "\n".join(case.answer) + "\n", errors)
     last = done.output.rstrip("\n").split("\n")[-1] if done.output else done.errors.strip()
     figures = "%.2f s, %.0f MB, %s bytes" % (done.seconds, done.megabytes, " and ".join("%d" % n for n in sizes))
     print("%s  %s: %s (%s)" % ("right" if right else "WRONG", case.what, last[:90], figures), flush=True)
@@ -210,10 +269,12 @@ def is_right(program, case, folder):
 def main():
     line = options.parser("Runs lvl on files at each limit and one past it, and checks the answers.")
     line.add_argument("--only", metavar="TEXT", default="", help="only the groups whose name contains TEXT")
+    options.add_older(line)
     asked = options.parsed(line)
     with tempfile.TemporaryDirectory(prefix="lvl-limits-") as folder:
-        groups = [group for group in GROUPS if asked.only in group.__name__]
-        right = [is_right(asked.program, case, folder) for group in groups for case in group()]
+        groups = [each for each in GROUPS + ([] if asked.plain else IGNORING) if asked.only in each.__name__]
+        hints = asked.hints
+        right = [is_right(asked.program, case, folder, hints) for group in groups for case in group()]
     sys.exit(0 if all(right) else 1)
 
 

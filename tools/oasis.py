@@ -1,12 +1,16 @@
 """Writes a layout as OASIS. Where a file can say the same in several ways, one is chosen at random.
 
 These are names or numbers of cells, fields that are left out since the modal variable has the value, absolute or
-relative positions, and the types of repetitions and point lists.
+relative positions, and the types of repetitions and point lists. `ignore` is the set of words that lets in records
+which draw nothing; these are added at random.
 """
 import struct
 
 import assembler
-from assembler import MAGIC, cell_by_name, cell_by_number, column, counted_name, end, lattice, numbered_name, row
+import layout
+import undrawn
+from answers import NOTHING
+from assembler import MAGIC, cell_by_name, cell_by_number, column, counted_name, lattice, numbered_name, row
 from assembler import signed, start, string, unsigned
 
 EAST, NORTH, WEST, SOUTH = range(4)
@@ -126,8 +130,8 @@ def repetition(rng, shifts):
 class Body:
     """The records of one cell, and the modal variables after the last of them."""
 
-    def __init__(self, rng, numbers):
-        self.rng, self.numbers = rng, numbers
+    def __init__(self, rng, numbers, ignore):
+        self.rng, self.numbers, self.ignore = rng, numbers, ignore
         self.out, self.modal, self.relative = b"", {}, False
         self.at = {"geometry": (0, 0), "placement": (0, 0)}
 
@@ -157,6 +161,14 @@ class Body:
             return bits | bit, b"\0"
         self.modal["repetition"] = shifts
         return bits | bit, repetition(self.rng, shifts)
+
+    def add_undrawn(self, shifts):
+        """Now and then a TEXT or a PROPERTY; the TEXT may have the shifts of the item after it."""
+        if "texts" in self.ignore and self.rng.random() < 0.4:
+            bits, repeated = self.repeated(shifts if self.rng.random() < 0.7 else layout.shifts_of(self.rng), 0, 0x04)
+            self.out += undrawn.text(self.rng, bits, repeated)
+        if "properties" in self.ignore and self.rng.random() < 0.4:
+            self.out += undrawn.a_property(self.rng)
 
     def mode(self, which, at):
         """Now and then changes the mode or adds a PAD; leaves relative mode if the position can't be relative."""
@@ -251,33 +263,38 @@ class Body:
         self.out += b"\x12" + bytes([bits | reference.flip]) + cell + by + at + repeated
 
 
-def names(rng, numbers):
+def names(rng, numbers, ignore):
     """The name records, with explicit numbers or with counted ones."""
-    if rng.random() < 0.5:
-        ordered = sorted(numbers, key=numbers.get)
-        return b"".join(counted_name(name.encode()) for name in ordered)
     listed = list(numbers)
-    rng.shuffle(listed)
-    return b"".join(numbered_name(name.encode(), numbers[name]) for name in listed)
+    if rng.random() < 0.5:
+        found = [counted_name(name.encode()) for name in sorted(numbers, key=numbers.get)]
+    else:
+        rng.shuffle(listed)
+        found = [numbered_name(name.encode(), numbers[name]) for name in listed]
+    return b"".join(undrawn.between_cells(rng, ignore) + each for each in found)
 
 
-def cell_records(rng, cell, numbers):
+def cell_records(rng, cell, numbers, ignore):
     by_number = numbers is not None and rng.random() < 0.5
-    body = Body(rng, numbers)
+    body = Body(rng, numbers, ignore)
     items = [("shape", s) for s in cell.shapes] + [("reference", r) for r in cell.references]
     rng.shuffle(items)
     for kind, item in items:
+        body.add_undrawn(item.shifts)
         body.shape(item) if kind == "shape" else body.reference(item)
+    body.add_undrawn(layout.NONE)
     head = cell_by_number(numbers[cell.name]) if by_number else cell_by_name(cell.name.encode())
-    return head + body.out
+    return undrawn.between_cells(rng, ignore) + head + body.out
 
 
-def written(rng, cells):
+def written(rng, cells, ignore=NOTHING):
     numbers = {cell.name: at for at, cell in enumerate(rng.sample(cells, len(cells)))} if rng.random() < 0.7 else None
     tables_at_end = rng.random() < 0.3
     unit = rng.choice([b"\0\xE8\x07", b"\x02\x05", b"\x04\x02\x08", b"\x07" + struct.pack("<d", 1000.0)])
     scheme = rng.choice([b"\0", b"\0", b"\1abcd", b"\2wxyz"])
-    body = [cell_records(rng, cell, numbers) for cell in cells]
-    table = names(rng, numbers) if numbers is not None else b""
+    body = [cell_records(rng, cell, numbers, ignore) for cell in cells]
+    table = names(rng, numbers, ignore) if numbers is not None else b""
     parts = [table, *body] if rng.random() < 0.5 else [*body, table]
-    return MAGIC + start(unit, tables_at_end) + b"".join(parts) + end(scheme, tables_at_end)
+    parts.append(undrawn.between_cells(rng, ignore))
+    last = undrawn.end(rng, scheme, tables_at_end, ignore)
+    return undrawn.padded(rng, MAGIC + start(unit, tables_at_end) + b"".join(parts) + last, ignore)

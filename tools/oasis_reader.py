@@ -1,143 +1,15 @@
 """A second implementation of the OASIS rules: reads bytes as a library, or refuses them with an offset."""
-from answers import LIMIT, Cell, Lattice, Library, Listed, ONCE, Reference, Refused, Shape
+import oasis_ignored
+from answers import NOTHING, ONCE, Cell, Library, Reference, Refused, Shape
 from answers import band_rings, in_range, oblique, path_fault
+from oasis_values import A_STRING, N_STRING, Values, moved
 
 MAGIC = b"%SEMI-OASIS\r\n"
-DIRECTIONS = [(1, 0), (0, 1), (-1, 0), (0, -1), (1, 1), (-1, 1), (-1, -1), (1, -1)]
-LISTED, MOST_DELTAS, LAYERS = 1_048_576, 65_536, 2**32
-IN_CELL = (15, 16, 17, 18, 20, 21, 22)
-KNOWN = (0, 1, 2, 3, 4, 13, 14, *IN_CELL)
-A_STRING, N_STRING, B_STRING = range(0x20, 0x7F), range(0x21, 0x7F), range(256)
+LAYERS = 2**32
+# The records that may be in a cell only, and all that are read whatever is ignored.
+IN_CELL = (15, 16, 17, 18, 19, 20, 21, 22)
+KNOWN = (0, 1, 2, 3, 4, 13, 14, 15, 16, 17, 18, 20, 21, 22)
 GEOMETRY, PLACEMENT = ("geometry-x", "geometry-y"), ("placement-x", "placement-y")
-
-
-def moved(point, step):
-    return point[0] + step[0], point[1] + step[1]
-
-
-def times(step, count):
-    return step[0] * count, step[1] * count
-
-
-class Values:
-    """Reads values one after another; the offset of a refusal is that of the record that was begun."""
-
-    def __init__(self, data):
-        self.data, self.at, self.begun = data, 0, 0
-
-    def refuse(self, number, name, *values):
-        raise Refused("oasis", number, name, *values, at=self.begun)
-
-    def refuse_if(self, breached, number, name, *values):
-        if breached:
-            self.refuse(number, name, *values)
-
-    def byte(self):
-        self.refuse_if(self.at >= len(self.data), 1, "Truncated")
-        self.at += 1
-        return self.data[self.at - 1]
-
-    def unsigned(self):
-        value = 0
-        for group in range(10):
-            byte = self.byte()
-            self.refuse_if(group == 9 and byte > 1, 2, "IntegerTooLarge")
-            value |= (byte & 0x7F) << (7 * group)
-            if byte < 0x80:
-                return value
-
-    def signed(self):
-        value = self.unsigned()
-        return -(value >> 1) if value & 1 else value >> 1
-
-    def string(self, kind, most):
-        length = self.unsigned()
-        self.refuse_if(length > most or (kind is N_STRING and length == 0), 3, "StringByte")
-        out = bytearray()
-        for _ in range(length):
-            out.append(self.byte())
-            self.refuse_if(out[-1] not in kind, 3, "StringByte")
-        return out.decode("latin-1")
-
-    def real(self):
-        """The type of a real, and its integers or its bytes."""
-        kind = self.unsigned()
-        self.refuse_if(kind > 7, 4, "RealType")
-        if kind > 5:
-            return kind, bytes(self.byte() for _ in range(4 if kind == 6 else 8))
-        numbers = [self.unsigned() for _ in range(2 if kind > 3 else 1)]
-        self.refuse_if(kind > 1 and numbers[-1] == 0, 5, "ZeroDenominator")
-        return kind, numbers
-
-    def delta(self, bits):
-        value = self.unsigned()
-        return times(DIRECTIONS[value & ((1 << bits) - 1)], value >> bits)
-
-    def g_delta(self):
-        value = self.unsigned()
-        if value & 1 == 0:
-            return times(DIRECTIONS[value >> 1 & 7], value >> 4)
-        other = self.unsigned()
-        return (-1 if value & 2 else 1) * (value >> 2), (-1 if other & 1 else 1) * (other >> 1)
-
-    def step(self, kind, at, before):
-        """The step that the delta with index `at` of a point list makes."""
-        if kind < 2:
-            length = self.signed()
-            return (length, 0) if (at + kind) % 2 == 0 else (0, length)
-        if kind < 4:
-            return self.delta(kind)
-        step = self.g_delta()
-        return moved(step, before) if kind == 5 else step
-
-    def point_list(self, closed):
-        kind = self.unsigned()
-        self.refuse_if(kind > 5, 6, "PointListType")
-        count = self.unsigned()
-        odd = closed and kind < 2 and count % 2
-        self.refuse_if(odd or not (2 if closed else 1) <= count <= MOST_DELTAS, 7, "PointCount")
-        points, step = [(0, 0)], (0, 0)
-        for at in range(count):
-            step = self.step(kind, at, step)
-            points.append(moved(points[-1], step))
-            self.refuse_if(not in_range(*step, *points[-1]), 10, "OutOfRange")
-        if closed and kind < 2:
-            points.append((0, points[-1][1]) if kind == 0 else (points[-1][0], 0))
-        return points
-
-    def repetition(self, modal):
-        """The shifts; None for type 0 if there is no modal repetition."""
-        kind = self.unsigned()
-        self.refuse_if(kind > 11, 8, "RepetitionType")
-        if kind == 0:
-            return modal
-        if kind in (1, 2, 3, 8, 9):
-            return self.lattice(kind)
-        return self.listed(kind)
-
-    def lattice(self, kind):
-        m = self.unsigned() + 2
-        n = self.unsigned() + 2 if kind in (1, 8) else 1
-        self.refuse_if(m * n > LIMIT, 9, "RepetitionSize")
-        steps = []
-        for count, axis in ((m, 0), (n, 1)) if kind in (1, 8) else ((m, 1 if kind == 3 else 0),):
-            step = self.g_delta() if kind > 7 else times(DIRECTIONS[axis], self.unsigned())
-            self.refuse_if(not in_range(*times(step, count - 1)), 10, "OutOfRange")
-            steps.append(step)
-        lattice = Lattice(steps[0], m, steps[-1] if len(steps) > 1 else (0, 0), n)
-        self.refuse_if(not all(in_range(*corner) for corner in lattice.corners()), 10, "OutOfRange")
-        return lattice
-
-    def listed(self, kind):
-        count = self.unsigned() + 2
-        self.refuse_if(count > LISTED, 9, "RepetitionSize")
-        grid = self.unsigned() if kind in (5, 7, 11) else 1
-        shifts = [(0, 0)]
-        for _ in range(count - 1):
-            step = self.g_delta() if kind > 9 else times(DIRECTIONS[kind // 6], self.unsigned())
-            shifts.append(moved(shifts[-1], times(step, grid)))
-            self.refuse_if(not in_range(*shifts[-1]), 10, "OutOfRange")
-        return Listed(shifts)
 
 
 def unit_text(real):
@@ -157,8 +29,9 @@ def ratio(real):
 
 
 class Reader(Values):
-    def __init__(self, data):
-        super().__init__(data)
+    def __init__(self, data, ignore):
+        super().__init__(data, ignore)
+        self.known = KNOWN + oasis_ignored.ids(ignore)
         self.cells, self.in_cell, self.modal = [], False, {}
         self.names, self.numbers, self.used, self.name_kind = set(), {}, [], None
 
@@ -179,7 +52,7 @@ class Reader(Values):
 
     def judge(self, id):
         """Refuses an id that breaches a rule by itself."""
-        self.refuse_if(id not in KNOWN, 24, "Unsupported", id)
+        self.refuse_if(id not in self.known, 24, "Unsupported", id)
         self.refuse_if(id == 1 or (id in IN_CELL and not self.in_cell), 23, "Unexpected", id)
         self.refuse_if(id in (3, 4) and self.name_kind not in (None, id), 26, "MixedNames")
         self.refuse_if(id in (13, 14) and len(self.cells) == 1_048_576, 39, "TooManyCells")
@@ -231,6 +104,9 @@ class Reader(Values):
             self.modal["relative"] = id == 16
         elif id in (17, 18):
             self.placement(id)
+        elif id in oasis_ignored.RECORDS:
+            self.in_cell = self.in_cell and id not in oasis_ignored.NAMES
+            oasis_ignored.RECORDS[id](self)
         elif id != 0:
             {20: self.rectangle, 21: self.polygon, 22: self.path}[id]()
 
@@ -357,5 +233,5 @@ class Reader(Values):
         self.cells[-1][1].append(Shape(layer, band_rings(points, half, start, end), shifts))
 
 
-def read(data):
-    return Reader(data).library()
+def read(data, ignore=NOTHING):
+    return Reader(data, ignore).library()

@@ -13,6 +13,12 @@ def parser(text):
     return line
 
 
+def add_older(line):
+    """Options for a program that is older than --ignore, or that names a word of it in a hint."""
+    line.add_argument("--plain", action="store_true", help="the program does not know --ignore")
+    line.add_argument("--hints", action="store_true", help="the program writes a hint after a refusal that a word would mend")
+
+
 def parsed(line):
     """The options of the command line; ends the script if the program is missing."""
     options = line.parse_args()

@@ -5,6 +5,10 @@ Each pair is one layout written twice, or a layout and a changed copy of it, in 
 is compared under a map of layers and a window. The script stops at the first wrong answer and leaves both files
 in the folder that it prints.
 
+With `--decorate` the files have records that draw nothing. The answer with `--ignore all`, and with just the words
+that the files need, is that of the raster, which knows nothing of such records. Without --ignore, and without one of
+the words that are needed, a file is refused, as the second reading of the rules refuses it.
+
 With `--far` the coordinates are anywhere in 64 bits, and the right answer is that of `exact.py`. Then the script
 goes on after a wrong or late answer, keeps the files of each in the folder that it prints, and ends with status
 1 if there was one.
@@ -14,16 +18,21 @@ import multiprocessing
 import os
 import random
 import resource
+import shutil
 import subprocess
 import sys
 import tempfile
 
+import answers
 import far
 import gds
+import gds_reader
 import layout
 import oasis
+import oasis_reader
 import options
 import spelling
+from answers import EVERYTHING, NOTHING, WORDS
 
 MOST_BYTES = 4 * 2**30
 
@@ -40,16 +49,46 @@ def view_of(rng):
     return ["--map", said, "--window=x=%d..%d,y=%d..%d" % window], pairs, window
 
 
-def pair_of(rng):
+def pair_of(rng, ignore):
     """Two layouts, each as cells and as the bytes of a file."""
     first = layout.made(rng)
     second = layout.changed(rng, first) if rng.random() < 0.6 else first
-    return [(cells, rng.choice([gds, oasis]).written(rng, cells)) for cells in (first, second)]
+    return [(cells, rng.choice([gds, oasis]).written(rng, cells, ignore)) for cells in (first, second)]
+
+
+def read(data, ignore):
+    return (oasis_reader if data[:1] == b"%" else gds_reader).read(data, ignore)
+
+
+def is_accepted(data, ignore):
+    try:
+        read(data, ignore)
+    except answers.Refused:
+        return False
+    return True
+
+
+def ignoring(rng, words):
+    """The option --ignore with the words in any order; nothing without words."""
+    return ["--ignore", ",".join(rng.sample(sorted(words), len(words)))] if words else []
+
+
+def decorated_runs(rng, pair, expected):
+    """The options that a pair with records that draw nothing is compared with, and the last lines of the answers."""
+    files = [written for _, written in pair]
+    needed = [word for word in WORDS if not all(is_accepted(data, EVERYTHING - {word}) for data in files)]
+    yield ["--ignore", "all"], expected
+    yield ignoring(rng, needed), expected
+    if needed:
+        missing = rng.choice(needed)
+        for ignore in (NOTHING, EVERYTHING - {missing}, frozenset(needed) - {missing}):
+            yield ignoring(rng, ignore), answers.compare(read, *files, (None, None), ignore).text
 
 
 def answer_of(lvl, files, words):
+    """The last line on standard output; if there is none, on standard error."""
     done = subprocess.run([*words_of(lvl, files), *words], capture_output=True, text=True)
-    return (done.stdout + done.stderr).strip().split("\n")[-1]
+    return (done.stdout or done.stderr).strip().split("\n")[-1]
 
 
 def words_of(lvl, files):
@@ -133,25 +172,40 @@ def main():
                       help="with --far: the processor time after which a run is stopped (default: 2)")
     line.add_argument("--jobs", metavar="N", type=int, default=1,
                       help="with --far: the number of processes (default: 1)")
+    line.add_argument("--decorate", action="store_true", help="add records that draw nothing, and give --ignore")
     asked = options.parsed(line)
-    if asked.far:
-        sys.exit(hunt(asked))
+    if asked.far and asked.decorate:
+        line.error("--far has no records that draw nothing")
+    sys.exit(hunt(asked) if asked.far else compared(asked))
+
+
+def runs_of(rng, asked, pair):
+    """The options that a pair is compared with, and the last lines of the answers."""
+    words, pairs, window = view_of(rng)
+    expected = layout.verdict(*[layout.covered(cells, "TOP") for cells, _ in pair], pairs, window)
+    runs = decorated_runs(rng, pair, expected) if asked.decorate else [([], expected)]
+    return [([*words, *more], line) for more, line in runs]
+
+
+def compared(asked):
+    """Compares pairs one after another until an answer is wrong, and returns the exit status."""
     folder = tempfile.mkdtemp(prefix="lvl-pairs-")
-    files = [os.path.join(folder, "a"), os.path.join(folder, "b")]
-    counts = {}
+    files, counts = [os.path.join(folder, "a"), os.path.join(folder, "b")], collections.Counter()
     for at in range(asked.seed, asked.seed + asked.count):
-        rng = random.Random(at)
-        pair = pair_of(rng)
-        words, pairs, window = view_of(rng)
+        rng = random.Random("decorated %d" % at) if asked.decorate else random.Random(at)
+        pair = pair_of(rng, frozenset(word for word in WORDS if rng.random() < 0.7) if asked.decorate else NOTHING)
         for name, (_, written) in zip(files, pair):
             write(name, written)
-        expected = layout.verdict(*[layout.covered(cells, "TOP") for cells, _ in pair], pairs, window)
-        answer = answer_of(asked.program, files, words)
-        if answer != expected:
-            sys.exit("seed %d in %s: %s\n  expected %s\n  answered %s"
-                     % (at, folder, " ".join(words), expected, answer))
-        counts[expected.split(":")[0]] = counts.get(expected.split(":")[0], 0) + 1
-    print("%d pairs, all answers right: %s" % (asked.count, counts))
+        for words, expected in runs_of(rng, asked, pair):
+            answer = answer_of(asked.program, files, words)
+            if answer != expected:
+                print("seed %d in %s: %s\n  expected %s\n  answered %s"
+                      % (at, folder, " ".join(words), expected, answer))
+                return 1
+            counts[expected.split(":")[0]] += 1
+    shutil.rmtree(folder)
+    print("%d pairs, all answers right: %s" % (asked.count, dict(counts)))
+    return 0
 
 
 if __name__ == "__main__":

@@ -2,17 +2,23 @@
 
     klayout -b -r contrib/klayout/write.py -rd gds=OUT.gds -rd oasis=OUT.oas
 
-The options of the OASIS writer are those that lvl needs; docs/FILES.md says why.
+The options are KLayout's defaults, but no compressed blocks are written; docs/FILES.md says why. There are labels,
+names of layers and properties, which draw nothing.
 """
 
 import pya
 
 
 def gate(layout):
-    """A cell of two boxes, a path with square ends and a polygon."""
+    """A cell of two boxes, one of which has properties, a path with square ends, a polygon, and labels."""
     cell = layout.create_cell("GATE")
-    cell.shapes(layout.layer(1, 0)).insert(pya.Box(0, 0, 400, 200))
-    cell.shapes(layout.layer(2, 0)).insert(pya.Box(100, -50, 140, 250))
+    box = cell.shapes(layout.layer(pya.LayerInfo(1, 0, "active"))).insert(pya.Box(0, 0, 400, 200))
+    box.set_property(1, "vdd")
+    box.set_property(2, 77)
+    poly = layout.layer(pya.LayerInfo(2, 0, "poly"))
+    cell.shapes(poly).insert(pya.Box(100, -50, 140, 250))
+    for at in range(4):
+        cell.shapes(poly).insert(pya.Text("in", 100 * at, 20))
     corner = [pya.Point(200, 0), pya.Point(300, 0), pya.Point(300, 200)]
     cell.shapes(layout.layer(3, 0)).insert(pya.Path(corner, 40, 20, 20))
     step = [(0, 210), (0, 300), (90, 300), (90, 250), (50, 250), (50, 210)]
@@ -33,11 +39,7 @@ def chip(layout):
 def save(layout, path, form):
     options = pya.SaveLayoutOptions()
     options.format = form
-    options.oasis_strict_mode = False
     options.oasis_write_cblocks = False
-    options.oasis_write_std_properties_ext = 0
-    options.oasis_compression_level = 2
-    options.write_context_info = False
     layout.write(path, options)
 
 

@@ -1,0 +1,57 @@
+"""The line on standard error that a refusal has if a switch, an option or a tool would mend it.
+
+The table, from a refusal to its hint:
+
+    step   number and name       and                                       hint
+    gds    2 BadLength           at 0, and the file begins with 1F 8B      gzipped: unpack the file first
+    gds    11 Unsupported        43, 44, 35                                try --ignore properties
+    gds    11 Unsupported        57, 58, 59, 31, 32, 34, 54, 52, 38, 47    try --ignore names
+    oasis  2 IntegerTooLarge                                               try --ignore padding
+    oasis  24 Unsupported        7, 8, 9, 10, 28, 29                       try --ignore properties
+    oasis  24 Unsupported        5, 6, 19                                  try --ignore texts
+    oasis  24 Unsupported        11, 12, 30, 31                            try --ignore names
+    oasis  24 Unsupported        34                                        a compressed block: write the file
+                                                                           without CBLOCK compression
+    cells  6 ManyTops                                                      several cells could be the top:
+                                                                           name one by --top-a
+
+Each begins with `lvl: `. The last one names --top-a or --top-b, by the side, and --top for show and digest. If
+other words were given, a hint to --ignore has them too, in the order properties, texts, names, padding, since the
+option can be given only once. If the word itself was given, there is no hint.
+"""
+
+WORDS = ("properties", "texts", "names", "padding")
+# By step and number, the word that lets in each value of the fault; None is any.
+MENDED = {
+    ("gds", 11): {
+        "properties": (0x2B, 0x2C, 0x23),
+        "names": (0x39, 0x3A, 0x3B, 0x1F, 0x20, 0x22, 0x36, 0x34, 0x26, 0x2F),
+    },
+    ("oasis", 24): {"properties": (7, 8, 9, 10, 28, 29), "texts": (5, 6, 19), "names": (11, 12, 30, 31)},
+    ("oasis", 2): {"padding": (None,)},
+}
+
+
+def word_of(step, number, value):
+    """The word of --ignore that mends the refusal, if there is one."""
+    for word, values in MENDED.get((step, number), {}).items():
+        if value in values:
+            return word
+    return None
+
+
+def hint(refused, data, option, given):
+    """The text on standard error, from the refusal of a file, its bytes, the option that names its top, and the
+    words of --ignore that were given."""
+    fault = refused.step, refused.number
+    value = refused.values[0] if refused.values else None
+    word = word_of(*fault, value)
+    if word is not None and word not in given:
+        return "lvl: try --ignore %s\n" % ",".join(each for each in WORDS if each in (*given, word))
+    if fault == ("gds", 2) and refused.at == 0 and data[:2] == b"\x1F\x8B":
+        return "lvl: gzipped: unpack the file first\n"
+    if fault == ("oasis", 24) and value == 34:
+        return "lvl: a compressed block: write the file without CBLOCK compression\n"
+    if fault == ("cells", 6):
+        return "lvl: several cells could be the top: name one by %s\n" % option
+    return ""
