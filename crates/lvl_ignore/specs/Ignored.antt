@@ -1,0 +1,48 @@
+-- What a reader may ignore, and the text that says so (own rule).
+use Rattle.std.specs.Prelude.{◌≡◌, ◌==◌, ◌||◌, ℕ, Bool, true, false, List, [], ◌∷◌, Option, Some, None, codes, option_and_then}
+use Rattle.std.specs.Prelude.{if◌then◌else◌}
+use Rattle.std.specs.List.{slice_split}
+use Rattle.std.specs.Str.{bytes_eq}
+use Rattle.lvl_ignore.specs.declared.ignore.Ignore.{Ignore}
+
+abbrev pub nothing : Ignore
+nothing = record { properties = false; texts = false; names = false; padding = false }
+
+abbrev pub everything : Ignore
+everything = record { properties = true; texts = true; names = true; padding = true }
+
+abbrev pub union : Ignore → Ignore → Ignore
+union a b = record {
+  properties = a.properties || b.properties;
+  texts = a.texts || b.texts;
+  names = a.names || b.names;
+  padding = a.padding || b.padding;
+}
+
+-- what is in one set is in the other
+pub record IsWithin (less more : Ignore) : Type 0 where
+  pub properties : less.properties ≡ true → more.properties ≡ true
+  pub texts : less.texts ≡ true → more.texts ≡ true
+  pub names : less.names ≡ true → more.names ≡ true
+  pub padding : less.padding ≡ true → more.padding ≡ true
+
+-- what a word names
+abbrev pub word_set : List ℕ → Option Ignore
+word_set word =
+    if bytes_eq word (codes "properties") then Some (record nothing { properties = true }) else
+    (if bytes_eq word (codes "texts") then Some (record nothing { texts = true }) else
+    (if bytes_eq word (codes "names") then Some (record nothing { names = true }) else
+    (if bytes_eq word (codes "padding") then Some (record nothing { padding = true }) else
+    (if bytes_eq word (codes "all") then Some everything else None))))
+
+abbrev pub comma : ℕ
+comma = 44
+
+-- what the words name together with what was named before, if each is a word
+abbrev pub union_of : Ignore → List (List ℕ) → Option Ignore
+union_of before [] = Some before
+union_of before (word ∷ words) = option_and_then (λ set. union_of (union before set) words) (word_set word)
+
+-- words joined by commas, each of which adds what it names
+abbrev pub IsText : List ℕ → Ignore → Type 0
+IsText text ignore = union_of nothing (slice_split (λ b. b == comma) text) ≡ Some ignore
