@@ -15,3 +15,4 @@ pub mod Arefs
 pub mod Texts
 pub mod Arrays
 pub mod Elements
+pub mod Ending

@@ -1,6 +1,7 @@
 -- Records, and lists of them.
 use Rattle.std.specs.Prelude.{ℕ, ◌==◌, Bool, List, [], ◌∷◌, map, reverse, find, Option, Some, None}
 use Rattle.gds_elements.specs.Order.{opens}
+use Rattle.gds_elements.specs.Types.{endel}
 
 pub record Rec : Type 0 where
   pub kind : ℕ
@@ -16,6 +17,10 @@ is_type k r = r.kind == k
 -- the record opens an element
 abbrev pub is_opener : Rec → Bool
 is_opener r = opens r.kind
+
+-- the record that ends an element
+abbrev pub an_end : Rec
+an_end = record { kind = endel; data_type = 0; payload = [] }
 
 -- the type of the first record
 abbrev pub opener : List Rec → Option ℕ

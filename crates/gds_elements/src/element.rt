@@ -1,8 +1,9 @@
 //! One element, record by record.
-ghost use Rattle.std.specs.Prelude.{◌≡◌, ◌<◌, ◌∷◌, [], ◌++◌, ℕ, List, IfSome, IfNone, IfOk, IfErr, OnOk, false};
+ghost use Rattle.std.specs.Prelude.{◌≡◌, ◌<◌, ◌∷◌, [], ◌++◌, ◌↔◌, ℕ, List, IsTrue, IfSome, IfNone, IfOk, IfErr, OnOk};
+ghost use Rattle.std.specs.Prelude.{false};
 ghost use Rattle.gds_elements.specs.Order.{opens};
-ghost use Rattle.gds_elements.specs.Rec.{Rec};
-ghost use Rattle.gds_elements.specs.Rules.{ElementBreaches, BreachesOnly, BreachesNone};
+ghost use Rattle.gds_elements.specs.Rec.{Rec, an_end};
+ghost use Rattle.gds_elements.specs.Rules.{InOrder, ElementBreaches, BreachesOnly, BreachesNone};
 ghost use Rattle.gds_elements.specs.inside.Formed.{IsFormed};
 ghost use Rattle.gds_elements.specs.inside.Reading.{IsReading, IsStep, HasRead, IsAtEnd, Takes, Steps, record_of};
 ghost use Rattle.lvl_refusal.specs.Refused.{Says};
@@ -84,6 +85,16 @@ impl Element {
                 state: State::Text(Text::open()),
             }),
             _ => None,
+        }
+    }
+
+    /// Whether ENDEL may come next.
+    pub fn may_end(&self) -> bool
+        ensures { (piece : List Rec) → IsReading self.now piece → IsTrue result ↔ InOrder piece an_end }
+    {
+        match &self.state {
+            State::Drawn(_) => true,
+            _ => false,
         }
     }
 

@@ -1,6 +1,7 @@
 -- GDSII is a grammar: what the laws of streams ask of a format.
+use Rattle.lvl_ignore.specs.declared.ignore.Ignore.{Ignore}
 use Rattle.std.proofs.Common.{◌≡◌, ◌≢◌, ℕ, ◌<◌, ◌≤◌, ◌⊎◌, List, [], ◌∷◌, ◌++◌, length, Err, refl, sym, ap, ◌∙◌, subst}
-use Rattle.std.proofs.Common.{append_assoc, inl, inr, arith, length-append}
+use Rattle.std.proofs.Common.{append_assoc, true, false, inl, inr, arith, length-append}
 use Rattle.std.proofs.lemmas.List.{append-nil}
 use Rattle.lvl_io.specs.Known.{Agree}
 use Rattle.lvl_grammar.specs.Order.{Order, one, many, ◌then◌, Begins}
@@ -17,7 +18,9 @@ use Rattle.gds_elements.proofs.Fields.{kinds-snoc}
 use Rattle.gds_library.specs.Types.{fill}
 use Rattle.gds_library.specs.Order.{a_library, a_structure}
 use Rattle.gds_library.specs.Rec.{Spells}
-use Rattle.gds_library.specs.Rules.{IsWhole, InOrder, Breaches, MayFollow}
+use Rattle.gds_library.specs.Rules.{IsWhole, InOrder}
+use Rattle.gds_library.specs.Ignoring.{essential, IsWholeBy, InOrderBy, BreachesBy, MayFollowBy}
+use Rattle.gds_library.proofs.Passing.{fill_unpassed}
 use Rattle.gds_library.specs.Front.{gds, StartsWith, IsWrong}
 use Rattle.gds_library.specs.declared.fault.GdsKind.{GdsKind}
 use Rattle.gds_library.specs.declared.fault.GdsKind.TheVariants.{Record, Misplaced, Element, Name, AfterEnd}
@@ -35,89 +38,103 @@ in_order : (before : List Rec) (r : Rec) → InOrder before r → Begins a_libra
 in_order before r g = subst (Begins a_library) (kinds-snoc before r) g
 
 -- where a zero byte may come the library is whole
-pub fill_whole : (before : List Rec) → InOrder before a_fill → IsWhole before
-fill_whole before g = fill_ends a_body endlib fill (kinds before) refl no_end (in_order before a_fill g)
+fill_whole_of : (before : List Rec) → InOrder before a_fill → IsWhole before
+fill_whole_of before g =
+    fill_ends a_body endlib fill (kinds before) refl no_end (in_order before a_fill g)
+
+pub fill_whole : (ignore : Ignore) (before : List Rec) → InOrderBy ignore before a_fill → IsWholeBy ignore before
+fill_whole ignore before g = elim g [
+  | inl p ↦ (let z : true ≡ false = sym p.0 ∙ fill_unpassed ignore in cc)
+  | inr e ↦ fill_whole_of (essential ignore before) e.ordered
+]
 
 -- after a whole library no record may come
-pub whole_alone : (before : List Rec) (r : Rec) → IsWhole before → InOrder before r → r.kind ≡ fill
-whole_alone before r w g =
+whole_alone_of : (before : List Rec) (r : Rec) → IsWhole before → InOrder before r → r.kind ≡ fill
+whole_alone_of before r w g =
     fill_alone a_body endlib fill r.kind (kinds before) refl refl no_end (fill_more a_body endlib fill (kinds before) w)
     (in_order before r g)
 
+pub whole_alone : (ignore : Ignore) (before : List Rec) (r : Rec) → IsWholeBy ignore before
+    → InOrderBy ignore before r → r.kind ≡ fill
+whole_alone ignore before r w g = elim g [
+  | inl p ↦ absurd (p.1.unended w)
+  | inr e ↦ whole_alone_of (essential ignore before) r w e.ordered
+]
+
 -- after the same records, bytes that begin alike spell the same record
-same_next : (before : List Rec) (r s : Rec) (a b x y : List ℕ) → Spells a r → Spells b s → MayFollow before r
-    → MayFollow before s → a ++ x ≡ b ++ y → r ≡ s
-same_next before r s a b x y p q f g e = elim p [
+same_next : (ignore : Ignore) (before : List Rec) (r s : Rec) (a b x y : List ℕ) → Spells ignore a r → Spells ignore b s → MayFollowBy ignore before r
+    → MayFollowBy ignore before s → a ++ x ≡ b ++ y → r ≡ s
+same_next ignore before r s a b x y p q f g e = elim p [
   | inl i ↦ elim q [
     | inl j ↦ one_record a b x y r s i.1 j.1 e
-    | inr j ↦ (let z = whole_alone before r (fill_whole before (subst (InOrder before) j.0 g.0)) f.0 in
+    | inr j ↦ (let z = whole_alone ignore before r (fill_whole ignore before (subst (InOrderBy ignore before) j.0 g.0)) f.0 in
         absurd (omega (arith, z, i.0.known)))
   ]
   | inr i ↦ elim q [
-    | inl j ↦ (let z = whole_alone before s (fill_whole before (subst (InOrder before) i.0 f.0)) g.0 in
+    | inl j ↦ (let z = whole_alone ignore before s (fill_whole ignore before (subst (InOrderBy ignore before) i.0 f.0)) g.0 in
         absurd (omega (arith, z, j.0.known)))
     | inr j ↦ i.0 ∙ sym j.0
   ]
 ]
 
 -- no bytes have no fault
-pub some_bytes : (room : ℕ) (ys : List ℕ) (f : RecordFault) → step room ys ≡ Err f → 0 < length ys
+pub some_bytes : (ignore : Ignore) (room : ℕ) (ys : List ℕ) (f : RecordFault) → step ignore room ys ≡ Err f → 0 < length ys
 unfolding step
-some_bytes room [] f e = cc
-some_bytes room (y ∷ ys) f e = omega arith
+some_bytes ignore room [] f e = cc
+some_bytes ignore room (y ∷ ys) f e = omega arith
 
-starts_some : (room : ℕ) (ys : List ℕ) (r : Rec) → StartsWith room ys r → 0 < length ys
-starts_some room ys r s =
+starts_some : (ignore : Ignore) (room : ℕ) (ys : List ℕ) (r : Rec) → StartsWith ignore room ys r → 0 < length ys
+starts_some ignore room ys r s =
     omega (arith, length_spelled s.0 r.payload r.kind r.data_type s.3, ap length s.5, length-append s.0 s.1)
 
-wrong_here : (before : List Rec) (room : ℕ) (ys : List ℕ) (k : GdsKind) → IsWrong before room ys k → 0 < length ys
-wrong_here before room ys (Record f) w = some_bytes room ys f w.2
-wrong_here before room ys AfterEnd w = omega (arith, ap length w.5)
-wrong_here before room ys other w = starts_some room ys w.1 w.2
+wrong_here : (ignore : Ignore) (before : List Rec) (room : ℕ) (ys : List ℕ) (k : GdsKind) → IsWrong ignore before room ys k → 0 < length ys
+wrong_here ignore before room ys (Record f) w = some_bytes ignore room ys f w.2
+wrong_here ignore before room ys AfterEnd w = omega (arith, ap length w.5)
+wrong_here ignore before room ys other w = starts_some ignore room ys w.1 w.2
 
 -- what begins alike is the same record
-pub starts_same : (room : ℕ) (ys text : List ℕ) (r s : Rec) → StartsWith room ys r
+pub starts_same : (ignore : Ignore) (room : ℕ) (ys text : List ℕ) (r s : Rec) → StartsWith ignore room ys r
     → IsSpelling text s.kind s.data_type s.payload → Agree text ys → s ≡ r
-starts_same room ys text r s h p agree =
+starts_same ignore room ys text r s h p agree =
     let q = agree_ends text ys agree in
     one_record text h.0 q.0 (h.1 ++ q.1) s r p h.3 (q.2 ∙ ap (λ l. l ++ q.1) h.5 ∙ append_assoc h.0 h.1 q.1)
 
-stops_record : (before : List Rec) (room : ℕ) (ys text : List ℕ) (s : Rec) (k : GdsKind) → (IsWhole before → ⊥)
-    → (r : Rec) × StartsWith room ys r × Breaches before r k
-    → Spells text s → MayFollow before s → Agree text ys → ⊥
-stops_record before room ys text s k n w p f agree = elim p [
-  | inl i ↦ f.1 k (subst (λ (x : Rec). Breaches before x k) (sym (starts_same room ys text w.0 s w.1 i.1 agree)) w.2)
-  | inr i ↦ n (fill_whole before (subst (InOrder before) i.0 f.0))
+stops_record : (ignore : Ignore) (before : List Rec) (room : ℕ) (ys text : List ℕ) (s : Rec) (k : GdsKind) → (IsWholeBy ignore before → ⊥)
+    → (r : Rec) × StartsWith ignore room ys r × BreachesBy ignore before r k
+    → Spells ignore text s → MayFollowBy ignore before s → Agree text ys → ⊥
+stops_record ignore before room ys text s k n w p f agree = elim p [
+  | inl i ↦ f.1 k (subst (λ (x : Rec). BreachesBy ignore before x k) (sym (starts_same ignore room ys text w.0 s w.1 i.1 agree)) w.2)
+  | inr i ↦ n (fill_whole ignore before (subst (InOrderBy ignore before) i.0 f.0))
 ]
 
 -- where a rule is breached no record may follow
-wrong_stops : (before : List Rec) (room : ℕ) (ys text : List ℕ) (s : Rec) (k : GdsKind) → IsWrong before room ys k
-    → Spells text s → MayFollow before s → Agree text ys → length text ≤ room → ⊥
-wrong_stops before room ys text s (Record f) w p g agree fits = elim p [
-  | inl i ↦ law_malformed room ys f w.2 w.0 s.kind s.data_type s.payload text i.0 i.1
+wrong_stops : (ignore : Ignore) (before : List Rec) (room : ℕ) (ys text : List ℕ) (s : Rec) (k : GdsKind) → IsWrong ignore before room ys k
+    → Spells ignore text s → MayFollowBy ignore before s → Agree text ys → length text ≤ room → ⊥
+wrong_stops ignore before room ys text s (Record f) w p g agree fits = elim p [
+  | inl i ↦ law_malformed ignore room ys f w.2 w.0 s.kind s.data_type s.payload text i.0 i.1
       (omega (arith, fits, length_spelled text s.payload s.kind s.data_type i.1)) agree
-  | inr i ↦ (let z = w.3 (fill_whole before (subst (InOrder before) i.0 g.0)) in omega (arith, z, fits, ap length i.1))
+  | inr i ↦ (let z = w.3 (fill_whole ignore before (subst (InOrderBy ignore before) i.0 g.0)) in omega (arith, z, fits, ap length i.1))
 ]
-wrong_stops before room ys text s AfterEnd w p g agree fits = elim p [
-  | inl i ↦ (let z = whole_alone before s w.0 g.0 in omega (arith, z, i.0.known))
+wrong_stops ignore before room ys text s AfterEnd w p g agree fits = elim p [
+  | inl i ↦ (let z = whole_alone ignore before s w.0 g.0 in omega (arith, z, i.0.known))
   | inr i ↦
       let q = agree_ends text ys agree in
       let z : (0 ∷ []) ++ q.0 ≡ (w.2 ∷ w.3) ++ q.1 = ap (λ l. l ++ q.0) (sym i.1) ∙ q.2 ∙ ap (λ l. l ++ q.1) w.5 in
       w.4 (let h : w.2 ≡ 0 = cc in h)
 ]
-wrong_stops before room ys text s (Misplaced m) w p g agree fits =
-    stops_record before room ys text s (Misplaced m) w.0 (w.1, w.2, w.3) p g agree
-wrong_stops before room ys text s (Element k) w p g agree fits =
-    stops_record before room ys text s (Element k) w.0 (w.1, w.2, w.3) p g agree
-wrong_stops before room ys text s Name w p g agree fits =
-    stops_record before room ys text s Name w.0 (w.1, w.2, w.3) p g agree
-wrong_stops before room ys text s TooManyCells w p g agree fits =
-    stops_record before room ys text s TooManyCells w.0 (w.1, w.2, w.3) p g agree
+wrong_stops ignore before room ys text s (Misplaced m) w p g agree fits =
+    stops_record ignore before room ys text s (Misplaced m) w.0 (w.1, w.2, w.3) p g agree
+wrong_stops ignore before room ys text s (Element k) w p g agree fits =
+    stops_record ignore before room ys text s (Element k) w.0 (w.1, w.2, w.3) p g agree
+wrong_stops ignore before room ys text s Name w p g agree fits =
+    stops_record ignore before room ys text s Name w.0 (w.1, w.2, w.3) p g agree
+wrong_stops ignore before room ys text s TooManyCells w p g agree fits =
+    stops_record ignore before room ys text s TooManyCells w.0 (w.1, w.2, w.3) p g agree
 
 -- no record is where bytes are cut
-cut_none : (ys text rest : List ℕ) (r : Rec) → IsSpelling text r.kind r.data_type r.payload → ys ≡ text ++ rest
-    → (length ys < 4) ⊎ IsBegun ys → ⊥
-cut_none ys text rest r s e cut = elim cut [
+cut_none : (ignore : Ignore) (ys text rest : List ℕ) (r : Rec) → IsSpelling text r.kind r.data_type r.payload → ys ≡ text ++ rest
+    → (length ys < 4) ⊎ IsBegun ignore ys → ⊥
+cut_none ignore ys text rest r s e cut = elim cut [
   | inl l ↦ omega (arith, l, ap length e, length-append text rest, length_spelled text r.payload r.kind r.data_type s)
   | inr b ↦
       let t : Rec = record { kind = b.kind; data_type = b.data_type; payload = b.payload } in
@@ -135,16 +152,16 @@ cut_none ys text rest r s e cut = elim cut [
       )
 ]
 
-pub is_grammar : IsGrammar gds
-is_grammar = record {
+pub is_grammar : (ignore : Ignore) → IsGrammar (gds ignore)
+is_grammar ignore = record {
   decided = λ before r s a b x y p q f g e.
-      let same = same_next before r s a b x y p q f g e in
-      (spells_once a b s (subst (Spells a) same p) q, same);
-  some = λ before a r p. spells_some a r p;
-  here = wrong_here;
-  stops = λ before room ys text r k. wrong_stops before room ys text r k;
+      let same = same_next ignore before r s a b x y p q f g e in
+      (spells_once ignore a b s (subst (Spells ignore a) same p) q, same);
+  some = λ before a r p. spells_some ignore a r p;
+  here = wrong_here ignore;
+  stops = λ before room ys text r k. wrong_stops ignore before room ys text r k;
   cut = λ before ys text rest r c n p f e. elim p [
-    | inl i ↦ cut_none ys text rest r i.1 e c
-    | inr i ↦ n (fill_whole before (subst (InOrder before) i.0 f.0))
+    | inl i ↦ cut_none ignore ys text rest r i.1 e c
+    | inr i ↦ n (fill_whole ignore before (subst (InOrderBy ignore before) i.0 f.0))
   ];
 }

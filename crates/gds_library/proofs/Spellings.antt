@@ -1,4 +1,5 @@
 -- Spellings: a record has one, and bytes spell one record where they begin alike.
+use Rattle.lvl_ignore.specs.declared.ignore.Ignore.{Ignore}
 use Rattle.std.proofs.Common.{◌≡◌, ℕ, ◌<◌, List, [], ◌∷◌, ◌++◌, length, take, refl, sym, ap, ◌∙◌, inl, inr, arith}
 use Rattle.std.proofs.Math.Seq.{take-append_seam}
 use Rattle.gds_records.specs.Spelled.{IsRecord, IsSpelling}
@@ -41,20 +42,20 @@ one_spelling a b k d p s t =
     let l : s.low ≡ t.low = omega (arith, s.len, t.len, s.byte, t.byte) in
     s.bytes_are ∙ ap (λ i. i ∷ s.low ∷ k ∷ d ∷ p) h ∙ ap (λ i. t.high ∷ i ∷ k ∷ d ∷ p) l ∙ sym t.bytes_are
 
-no_fill : (r : Rec) → IsRecord r.kind r.data_type r.payload → r ≡ a_fill → ⊥
-no_fill r p e = let k : r.kind ≡ 256 = ap (λ (x : Rec). x.kind) e in omega (arith, p.known, k)
+no_fill : (ignore : Ignore) (r : Rec) → IsRecord ignore r.kind r.data_type r.payload → r ≡ a_fill → ⊥
+no_fill ignore r p e = let k : r.kind ≡ 256 = ap (λ (x : Rec). x.kind) e in omega (arith, p.known, k)
 
-pub spells_once : (a b : List ℕ) (r : Rec) → Spells a r → Spells b r → a ≡ b
-spells_once a b r p q = elim p [
+pub spells_once : (ignore : Ignore) (a b : List ℕ) (r : Rec) → Spells ignore a r → Spells ignore b r → a ≡ b
+spells_once ignore a b r p q = elim p [
   | inl x ↦ elim q [
     | inl y ↦ one_spelling a b r.kind r.data_type r.payload x.1 y.1
-    | inr y ↦ absurd (no_fill r x.0 y.0)
+    | inr y ↦ absurd (no_fill ignore r x.0 y.0)
   ]
-  | inr x ↦ elim q [ inl y ↦ absurd (no_fill r y.0 x.0) | inr y ↦ x.1 ∙ sym y.1 ]
+  | inr x ↦ elim q [ inl y ↦ absurd (no_fill ignore r y.0 x.0) | inr y ↦ x.1 ∙ sym y.1 ]
 ]
 
-pub spells_some : (b : List ℕ) (r : Rec) → Spells b r → 0 < length b
-spells_some b r p = elim p [
+pub spells_some : (ignore : Ignore) (b : List ℕ) (r : Rec) → Spells ignore b r → 0 < length b
+spells_some ignore b r p = elim p [
   | inl x ↦ omega (arith, ap length x.1.bytes_are)
   | inr y ↦ omega (arith, ap length y.1)
 ]

@@ -12,7 +12,8 @@ use Rattle.lvl_grammar.specs.Front.{SpellsAll, FollowAll}
 use Rattle.lvl_grammar.specs.Order.{IsWord, Begins}
 use Rattle.lvl_names.specs.Names.{IsName}
 use Rattle.lvl_cells.specs.Building.{cell_limit}
-use Rattle.gds_records.specs.Table.{table, form_among}
+use Rattle.lvl_ignore.specs.Ignored.{nothing}
+use Rattle.gds_records.specs.Table.{form_of}
 use Rattle.gds_records.specs.Spelled.{IsOfForm}
 use Rattle.gds_elements.specs.Types.{boundary, strname, bgnstr, layer, datatype, xy}
 use Rattle.gds_elements.specs.Order.{an_element}
@@ -25,6 +26,8 @@ use Rattle.gds_elements.proofs.OneRule.{is_value}
 use Rattle.gds_library.specs.Order.{a_library}
 use Rattle.gds_library.specs.Rec.{Spells, last_piece}
 use Rattle.gds_library.specs.Rules.{MayFollow}
+use Rattle.gds_library.specs.Ignoring.{essential, AwaitsValue, MayFollowBy}
+use Rattle.gds_library.proofs.Passing.{follows_essential}
 use Rattle.gds_library.specs.Drawn.{Drawing}
 use Rattle.gds_library.specs.Front.{gds, SpellsLibrary}
 use Rattle.gds_library.specs.declared.head.GdsHead.{GdsHead}
@@ -80,12 +83,12 @@ record IsShort (r : Rec) : Type 0 where
   even : (4 + length r.payload) % 2 ≡ 0
   kind : nat_lt r.kind 60 ≡ true
   data_type : nat_lt r.data_type 7 ≡ true
-  form : IsOfForm (form_among table r.kind) r.data_type (length r.payload)
+  form : IsOfForm (form_of nothing r.kind) r.data_type (length r.payload)
 
 abbrev spelling : Rec → List ℕ
 spelling r = 0 ∷ (4 + length r.payload) ∷ r.kind ∷ r.data_type ∷ r.payload
 
-short_spelled : (r : Rec) → IsShort r → Spells (spelling r) r
+short_spelled : (r : Rec) → IsShort r → Spells nothing (spelling r) r
 short_spelled r s =
     let few = ltb-true (4 + length r.payload) 256 s.few in
     inl (
@@ -99,14 +102,14 @@ short_spelled r s =
       record { high = 0; low = 4 + length r.payload; byte = few; len = omega arith; bytes_are = refl },
     )
 
-all_spelled : (before rs : List Rec) → AllByRecursion IsShort rs → SpellsAll gds before (flat_map spelling rs) rs
+all_spelled : (before rs : List Rec) → AllByRecursion IsShort rs → SpellsAll (gds nothing) before (flat_map spelling rs) rs
 all_spelled before [] p = refl
 all_spelled before (r ∷ rs) p =
     (spelling r, flat_map spelling rs, short_spelled r p.0, all_spelled (before ++ r ∷ []) rs p.1, refl)
 
 by_form : (r : Rec) → nat_lt (4 + length r.payload) 256 ≡ true → (4 + length r.payload) % 2 ≡ 0
     → nat_lt r.kind 60 ≡ true
-    → nat_lt r.data_type 7 ≡ true → IsOfForm (form_among table r.kind) r.data_type (length r.payload) → IsShort r
+    → nat_lt r.data_type 7 ≡ true → IsOfForm (form_of nothing r.kind) r.data_type (length r.payload) → IsShort r
 by_form r few even kind data_type form =
     record { few = few; even = even; kind = kind; data_type = data_type; form = form }
 
@@ -151,7 +154,7 @@ short_heads = (
   ),
 )
 
-spelled : SpellsAll gds [] file square
+spelled : SpellsAll (gds nothing) [] file square
 spelled = all_spelled [] square short_heads
 
 word : IsWord a_library (kinds square)
@@ -173,6 +176,11 @@ inside : (n : ℕ) (before piece : List Rec) (r : Rec) → last_piece is_opener 
     → IsWord a_library (kinds (before ++ r ∷ []) ++ kinds (drop n square)) → MayFollow before r
 inside n before piece r e o s b g v w =
     may_follow_inside before piece r e (allowed piece r g v) g (kinds (drop n square), w) s b
+
+-- where nothing is ignored, what may follow does
+follows : (before : List Rec) (r : Rec) → MayFollow (essential nothing before) r → (AwaitsValue before → ⊥)
+    → MayFollowBy nothing before r
+follows before r f w = follows_essential nothing before r refl w f
 
 element : IsWord an_element (0x08 ∷ 0x0D ∷ 0x0E ∷ 0x10 ∷ 0x11 ∷ [])
 element =
@@ -226,20 +234,25 @@ points_follow =
     (λ h. absurd (elim h [ inl e ↦ is_not 0x10 layer refl e | inr e ↦ is_not 0x10 datatype refl e ]))
     (λ _. (leb-true 4 5 refl, refl, straight))) word
 
-ends_follow : FollowAll gds (take 10 square) (drop 10 square)
+ends_follow : FollowAll (gds nothing) (take 10 square) (drop 10 square)
 ends_follow = (
-  plain 11 (take 10 square) (rec 0x11 0 []) refl refl refl refl word,
+  follows (take 10 square) (rec 0x11 0 []) (plain 11 (take 10 square) (rec 0x11 0 []) refl refl refl refl word) (λ w. cc),
   (
-    plain 12 (take 11 square) (rec 0x07 0 []) refl
-        refl refl refl word,
-    (plain 13 (take 12 square) (rec 0x04 0 []) refl refl refl refl word, tt),
+    follows (take 11 square) (rec 0x07 0 []) (plain 12 (take 11 square) (rec 0x07 0 []) refl refl refl refl word) (λ w. cc),
+    (follows (take 12 square) (rec 0x04 0 []) (plain 13 (take 12 square) (rec 0x04 0 []) refl refl refl refl word) (λ w. cc), tt),
   ),
 )
 
-element_follows : FollowAll gds (take 6 square) (drop 6 square)
+element_follows : FollowAll (gds nothing) (take 6 square) (drop 6 square)
 element_follows = (
-  plain 7 (take 6 square) (rec 0x08 0 []) refl refl refl refl word,
-  (layer_follows, (datatype_follows, (points_follow, ends_follow))),
+  follows (take 6 square) (rec 0x08 0 []) (plain 7 (take 6 square) (rec 0x08 0 []) refl refl refl refl word) (λ w. cc),
+  (
+    follows (take 7 square) (rec 0x0D 2 (0 ∷ 1 ∷ [])) layer_follows (λ w. cc),
+    (
+      follows (take 8 square) (rec 0x0E 2 (0 ∷ 0 ∷ [])) datatype_follows (λ w. cc),
+      (follows (take 9 square) (rec 0x10 3 corners) points_follow (λ w. cc), ends_follow),
+    ),
+  ),
 )
 
 structure_follows : MayFollow (take 4 square) (rec 0x05 2 dates)
@@ -252,16 +265,22 @@ name_follows =
     may_follow (take 5 square) (rec 0x06 6 (0x54 ∷ 0x4F ∷ 0x50 ∷ 0 ∷ [])) refl (kinds (drop 6 square), word) (λ _. refl)
     (λ _. top_name) (λ e. absurd (is_not 0x06 bgnstr refl e))
 
-followed : FollowAll gds [] square
+followed : FollowAll (gds nothing) [] square
 followed = (
-  plain 1 (take 0 square) (rec 0x00 2 (2 ∷ 0x58 ∷ [])) refl refl refl refl word,
+  follows (take 0 square) (rec 0x00 2 (2 ∷ 0x58 ∷ [])) (plain 1 (take 0 square) (rec 0x00 2 (2 ∷ 0x58 ∷ [])) refl refl refl refl word) (λ w. cc),
   (
-    plain 2 (take 1 square) (rec 0x01 2 dates) refl refl refl refl word,
+    follows (take 1 square) (rec 0x01 2 dates) (plain 2 (take 1 square) (rec 0x01 2 dates) refl refl refl refl word) (λ w. cc),
     (
-      plain 3 (take 2 square) (rec 0x02 6 (0x4C ∷ 0x42 ∷ [])) refl refl refl refl word,
+      follows (take 2 square) (rec 0x02 6 (0x4C ∷ 0x42 ∷ [])) (plain 3 (take 2 square) (rec 0x02 6 (0x4C ∷ 0x42 ∷ [])) refl refl refl refl word) (λ w. cc),
       (
-        plain 4 (take 3 square) (rec 0x03 5 ones) refl refl refl refl word,
-        (structure_follows, (name_follows, element_follows)),
+        follows (take 3 square) (rec 0x03 5 ones) (plain 4 (take 3 square) (rec 0x03 5 ones) refl refl refl refl word) (λ w. cc),
+        (
+          follows (take 4 square) (rec 0x05 2 dates) structure_follows (λ w. cc),
+          (
+            follows (take 5 square) (rec 0x06 6 (0x54 ∷ 0x4F ∷ 0x50 ∷ 0 ∷ [])) name_follows (λ w. cc),
+            element_follows,
+          ),
+        ),
       ),
     ),
   ),
@@ -283,7 +302,7 @@ top = record {
 abbrev heading : GdsHead
 heading = record { version = pos 600; units = take 8 ones ∷ drop 8 ones ∷ [] }
 
-square_spells : SpellsLibrary file (top ∷ []) heading
+square_spells : SpellsLibrary nothing file (top ∷ []) heading
 square_spells = record {
   records = square;
   whole = record {
@@ -294,5 +313,5 @@ square_spells = record {
   head_is = refl;
 }
 
-square_only : (cells : List Drawing) (h : GdsHead) → SpellsLibrary file cells h → (cells ≡ top ∷ []) × (h ≡ heading)
-square_only cells h p = law_only file (top ∷ []) cells heading h square_spells p
+square_only : (cells : List Drawing) (h : GdsHead) → SpellsLibrary nothing file cells h → (cells ≡ top ∷ []) × (h ≡ heading)
+square_only cells h p = law_only nothing file (top ∷ []) cells heading h square_spells p

@@ -2,14 +2,14 @@
 use Rattle.std.proofs.Common.{◌≡◌, ◌==◌, ℕ, ◌<◌, ℤ, Bool, true, false, if◌then◌else◌, List, [], ◌∷◌, ◌++◌, length, Some}
 use Rattle.std.proofs.Common.{None, map, refl, sym, ap, ◌∙◌, subst, arith, append_assoc}
 use Rattle.std.specs.List.{AllByRecursion}
-use Rattle.std.specs.Prelude.{Option, Result, Ok, Err, IsErr, IsErrAnd}
+use Rattle.std.specs.Prelude.{Option, Result, Ok, Err, IsErr, IsErrAnd, IsTrue, ◌↔◌}
 use Rattle.std.proofs.lemmas.List.{append-nil}
 use Rattle.lvl_path.specs.Figure.{figure_rings}
 use Rattle.lvl_cells.specs.Cells.{kept}
 use Rattle.gds_elements.specs.Types.{header, bgnlib, libname, units, bgnstr, strname}
 use Rattle.lvl_grammar.specs.Order.{IsWord, Begins, has}
 use Rattle.gds_elements.specs.Order.{an_element, opens}
-use Rattle.gds_elements.specs.Rec.{Rec, kinds, is_type, is_opener, field}
+use Rattle.gds_elements.specs.Rec.{Rec, kinds, is_type, is_opener, field, an_end}
 use Rattle.gds_elements.specs.Values.{short, name}
 use Rattle.gds_elements.specs.Rules.{IsKnown, ElementBreaches, ValueBreaches as BreachesInElement}
 use Rattle.lvl_names.specs.Names.{IsName}
@@ -48,7 +48,7 @@ use Rattle.gds_library.specs.declared.place.Place.TheVariants.{Header, BgnLib, L
 use Rattle.gds_library.specs.declared.place.Place.TheVariants.{Elements, Fill}
 use Rattle.gds_library.specs.declared.builder.Builder.{Builder}
 use Rattle.gds_library.specs.declared.reading.Reading.{Reading}
-use Rattle.gds_library.proofs.Places.{leads_on, leads_begins}
+use Rattle.gds_library.proofs.Places.{leads_on, leads_begins, leads_nowhere}
 use Rattle.gds_library.proofs.Elements.{IsOpen, begins_open, reading_open, leads_element, begins_inside, open_goes}
 use Rattle.gds_library.proofs.Pieces.{IsPiece, if_ap, reading_piece, word_piece, last_opened, piece_lacks, field_past}
 use Rattle.gds_library.proofs.Outside.{outside_after, known_after, opener_is}
@@ -333,3 +333,24 @@ law_opens b e rs r h at re =
       may_follow rs r o.value (inside_begins b e (rs ++ r ∷ []) next) (λ _. o.known)
           (λ z. absurd (is_not r.kind strname o.strname z)) (λ z. absurd (is_not r.kind bgnstr o.bgnstr z)),
     )
+
+-- an open element may end just where ENDEL may come among the records
+pub end_inside : (b : Builder) (e : OpenElement) (rs : List Rec) (t : Bool)
+    → ((piece : List Rec) → IsReading e piece → IsTrue t ↔ InOrderInElement piece an_end) → IsInside b e rs
+    → IsTrue t ↔ InOrder rs an_end
+end_inside b e rs t h i =
+    let l = subst (λ p. LeadsTo a_library (kinds i.before) (left p)) i.at i.holds.leads in
+    let o = reading_open e i.piece i.reading in (
+      λ x. subst (λ l. InOrder l an_end) (sym i.parts) (order_inside i.before i.piece an_end l ((h i.piece i.reading).0 x)),
+      λ y. (h i.piece i.reading).1 (order_element i.before i.piece an_end l o (subst (λ l. InOrder l an_end) i.parts y)),
+    )
+
+nowhere_ends : (p : Place) → after p an_end.kind ≡ None
+nowhere_ends Header = refl
+nowhere_ends _ = refl
+
+-- where none is open, none ends
+pub end_outside : (b : Builder) (rs : List Rec) → Holds b rs → InOrder rs an_end → ⊥
+end_outside b rs h g =
+    leads_nowhere (kinds rs) b.place an_end.kind h.leads (λ _. refl) (nowhere_ends b.place)
+    (subst (Begins a_library) (kinds-snoc rs an_end) g)

@@ -4,6 +4,7 @@ pub mod Rec
 pub mod Drawn
 pub mod Values
 pub mod Rules
+pub mod Ignoring
 pub mod Front
 pub mod Ends
 pub mod inside

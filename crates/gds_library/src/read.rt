@@ -5,17 +5,20 @@ ghost use Rattle.lvl_refusal.specs.Refused.{Says};
 ghost use Rattle.lvl_grammar.specs.Refused.{IsHopeless};
 ghost use Rattle.lvl_grammar.specs.inside.ReadTo.{ReadTo};
 ghost use Rattle.gds_records.specs.Records.{has_failed, bytes_left, records_offset, records_reader};
+ghost use Rattle.gds_records.specs.Records.{records_ignore};
 ghost use Rattle.gds_library.specs.Front.{gds, IsRead, SpellsNone};
 ghost use Rattle.gds_library.specs.Ends.{Tells, TellsUnread, IsExcused, IsEarly, is_read};
-ghost use Rattle.gds_library.specs.inside.Holds.{HasRead};
+ghost use Rattle.gds_library.specs.inside.Holds.{HasReadBy};
+ghost use Rattle.lvl_ignore.specs.Ignored.{nothing};
 ghost use Rattle.gds_library.specs.inside.Refuses.{Refuses};
 ghost use Rattle.gds_library.specs.declared.place.Place.TheVariants.{Fill};
 
 use crate::fault::{GdsFault, GdsKind};
 use crate::head::GdsHead;
-use crate::reading::Reading;
+use crate::ignoring::WithIgnored;
 use gds_records::{RecordFault, Records, Stopped};
 use lvl_cells::Library;
+use lvl_ignore::Ignore;
 use lvl_io::{Buffer, Read};
 use lvl_refusal::Refusal;
 use std::alloc::Global;
@@ -27,37 +30,76 @@ use std::alloc::Global;
 /// Release 6; own: the optional records of a library are refused). A cell has what its elements draw
 /// ([`gds_elements::Element`]), in their order, and a name loses one zero byte where it ends with one.
 /// The first record that is missing, malformed or breaches a rule is answered with its offset in
-/// bytes.
+/// bytes. It is [`read_gds_by`] where nothing is ignored.
 pub fn read_gds<R: Read>(
     alloc: Global,
     reader: &mut R,
 ) -> Result<(Library, GdsHead), Refusal<GdsFault>>
     // What is read is spelled, and nothing else is.
     ensures spelled { (xs : List ℕ) → R.remaining reader.old ≡ Some xs
-        → IfOk result (λ read. IsRead xs read.0 read.1) }
+        → IfOk result (λ read. IsRead nothing xs read.0 read.1) }
 
     // A refusal names what is wrong, and nothing is spelled, unless an allocation or the reader failed.
     ensures refused { (xs : List ℕ) → R.remaining reader.old ≡ Some xs
-        → IfErr result (λ refusal. Says refusal (Tells xs)) }
+        → IfErr result (λ refusal. Says refusal (Tells nothing xs)) }
     ensures none { (xs : List ℕ) → R.remaining reader.old ≡ Some xs
-        → IfErr result (λ refusal. Says refusal (λ fault. (¬ IsExcused fault) → SpellsNone xs)) }
+        → IfErr result (λ refusal. Says refusal (λ fault. (¬ IsExcused fault) → SpellsNone nothing xs)) }
 
     // Where the reader failed, it had given no whole record from the offset on.
     ensures unread { (xs : List ℕ) → R.remaining reader.old ≡ Some xs
-        → IfErr result (λ refusal. Says refusal (TellsUnread xs (R.remaining reader.new))) }
+        → IfErr result (λ refusal. Says refusal (TellsUnread nothing xs (R.remaining reader.new))) }
 
     // Unless the input ended too early, nothing is spelled whatever comes after the bytes taken.
     ensures early { (xs : List ℕ) → R.remaining reader.old ≡ Some xs
         → IfErr result (λ refusal. Says refusal (λ fault. IsEarly fault
-        → IsHopeless gds xs (R.remaining reader.new))) }
+        → IsHopeless (gds nothing) xs (R.remaining reader.new))) }
+
+    // The reader failed once where `Read` is reported, and else never.
+    ensures reads { CountsFailure (R.read_errors reader.old) (R.read_errors reader.new) (is_read result) }
+    ensures same { R.lent reader.new ≡ R.lent reader.old }
+{
+    read_gds_by(alloc, reader, Ignore::NOTHING)
+}
+
+/// The library that a GDSII stream spells where some records are ignored, and what the stream says of
+/// itself.
+///
+/// An ignored record has the data type and a length of its type, and comes where the manual's stream
+/// syntax has it: `names` are LIBDIRSIZE, SRFNAME and LIBSECUR before LIBNAME; REFLIBS, FONTS,
+/// GENERATIONS and FORMAT 0 before UNITS; STRCLASS after STRNAME; and ELFLAGS and PLEX after the record
+/// that opens an element. `properties` are ATTRTABLE before GENERATIONS, and pairs of PROPATTR and
+/// PROPVALUE before ENDEL. All else is as in [`read_gds`].
+pub fn read_gds_by<R: Read>(
+    alloc: Global,
+    reader: &mut R,
+    ignore: Ignore,
+) -> Result<(Library, GdsHead), Refusal<GdsFault>>
+    // What is read is spelled, and nothing else is.
+    ensures spelled { (xs : List ℕ) → R.remaining reader.old ≡ Some xs
+        → IfOk result (λ read. IsRead ignore xs read.0 read.1) }
+
+    // A refusal names what is wrong, and nothing is spelled, unless an allocation or the reader failed.
+    ensures refused { (xs : List ℕ) → R.remaining reader.old ≡ Some xs
+        → IfErr result (λ refusal. Says refusal (Tells ignore xs)) }
+    ensures none { (xs : List ℕ) → R.remaining reader.old ≡ Some xs
+        → IfErr result (λ refusal. Says refusal (λ fault. (¬ IsExcused fault) → SpellsNone ignore xs)) }
+
+    // Where the reader failed, it had given no whole record from the offset on.
+    ensures unread { (xs : List ℕ) → R.remaining reader.old ≡ Some xs
+        → IfErr result (λ refusal. Says refusal (TellsUnread ignore xs (R.remaining reader.new))) }
+
+    // Unless the input ended too early, nothing is spelled whatever comes after the bytes taken.
+    ensures early { (xs : List ℕ) → R.remaining reader.old ≡ Some xs
+        → IfErr result (λ refusal. Says refusal (λ fault. IsEarly fault
+        → IsHopeless (gds ignore) xs (R.remaining reader.new))) }
 
     // The reader failed once where `Read` is reported, and else never.
     ensures reads { CountsFailure (R.read_errors reader.old) (R.read_errors reader.new) (is_read result) }
     ensures same { R.lent reader.new ≡ R.lent reader.old }
 {
     let buffer = Box::new(alloc, Buffer::new())?;
-    let mut records = Records::with_buffer(buffer, reader);
-    let read = read_library(alloc, &mut records);
+    let mut records = Records::with_buffer(buffer, reader, ignore);
+    let read = read_library(alloc, &mut records, ignore);
     let _reader = records.into_reader();
     read
 }
@@ -66,18 +108,20 @@ pub fn read_gds<R: Read>(
 fn read_library<R: Read>(
     alloc: Global,
     records: &mut Records<R>,
+    ignore: Ignore,
 ) -> Result<(Library, GdsHead), Refusal<GdsFault>>
+    requires ignore { records_ignore records.old ≡ ignore }
     requires fresh { has_failed records.old ≡ false }
     requires start { records_offset records.old ≡ 0 }
     ensures spelled { (xs : List ℕ) → bytes_left R.remaining records.old ≡ Some xs
-        → IfOk result (λ read. IsRead xs read.0 read.1) }
+        → IfOk result (λ read. IsRead ignore xs read.0 read.1) }
     ensures refused { (xs : List ℕ) → bytes_left R.remaining records.old ≡ Some xs
-        → IfErr result (λ refusal. Says refusal (Refuses xs (R.remaining (records_reader records.new)))) }
+        → IfErr result (λ refusal. Says refusal (Refuses ignore xs (R.remaining (records_reader records.new)))) }
     ensures reads { CountsFailure (R.read_errors (records_reader records.old))
         (R.read_errors (records_reader records.new)) (is_read result) }
     ensures same { R.lent (records_reader records.new) ≡ R.lent (records_reader records.old) }
 {
-    let reading = read_all(alloc, records)?;
+    let reading = read_all(alloc, records, ignore)?;
     match records.tail() {
         Ok(None) => Ok(reading.finish()),
         Ok(Some(offset)) => Err(refuse(offset, GdsKind::AfterEnd)),
@@ -93,20 +137,26 @@ fn refuse(offset: u64, kind: GdsKind) -> Refusal<GdsFault>
 }
 
 // Reads records up to the one that ends the library.
-fn read_all<R: Read>(alloc: Global, records: &mut Records<R>) -> Result<Reading, Refusal<GdsFault>>
+fn read_all<R: Read>(
+    alloc: Global,
+    records: &mut Records<R>,
+    ignore: Ignore,
+) -> Result<WithIgnored, Refusal<GdsFault>>
+    requires ignore { records_ignore records.old ≡ ignore }
     requires fresh { has_failed records.old ≡ false }
     requires start { records_offset records.old ≡ 0 }
     ensures refused { (xs : List ℕ) → bytes_left R.remaining records.old ≡ Some xs
-        → IfErr result (λ refusal. Says refusal (Refuses xs (R.remaining (records_reader records.new)))) }
-    ensures whole { IfOk result (λ x. (x.builder.place ≡ Fill)
+        → IfErr result (λ refusal. Says refusal (Refuses ignore xs (R.remaining (records_reader records.new)))) }
+    ensures whole { IfOk result (λ x. (x.reading.builder.place ≡ Fill) × (x.ignore ≡ ignore)
         × ((xs : List ℕ) → bytes_left R.remaining records.old ≡ Some xs
-        → ReadTo gds xs (records_offset records.new) (HasRead x) (bytes_left R.remaining records.new))) }
+        → ReadTo (gds ignore) xs (records_offset records.new) (HasReadBy ignore x) (bytes_left R.remaining records.new))) }
     ensures fresh { OnOk result (has_failed records.new ≡ false) }
+    ensures ignore { OnOk result (records_ignore records.new ≡ ignore) }
     ensures reads { CountsFailure (R.read_errors (records_reader records.old))
         (R.read_errors (records_reader records.new)) (is_read result) }
     ensures same { R.lent (records_reader records.new) ≡ R.lent (records_reader records.old) }
 {
-    let mut reading = Reading::new(alloc);
+    let mut reading = WithIgnored::new(alloc, ignore);
     for _ in 0..u64::MAX {
         let offset = records.offset();
         match records.next() {

@@ -1,6 +1,7 @@
 //! A library that is being read, record by record.
 ghost use Rattle.std.specs.Prelude.{◌≡◌, List, ℕ, [], None, IsTrue, ◌↔◌};
-ghost use Rattle.gds_elements.specs.Rec.{Rec};
+ghost use Rattle.gds_elements.specs.Rec.{Rec, an_end};
+ghost use Rattle.gds_library.specs.Rules.{InOrder};
 ghost use Rattle.gds_elements.specs.inside.Reading.{record_of};
 ghost use Rattle.gds_elements.specs.inside.Formed.{IsFormed as IsFormedInElement};
 ghost use Rattle.gds_library.specs.inside.Faults.{IsFormed, lifted_refusal};
@@ -48,6 +49,16 @@ impl Reading {
         ensures head { result.1 ≡ record { version = self.builder.version; units = self.builder.units } }
     {
         self.builder.finish()
+    }
+
+    /// Whether ENDEL may come next.
+    pub(crate) fn may_end(&self) -> bool
+        ensures { (rs : List Rec) → HasRead self.now rs → IsTrue result ↔ InOrder rs an_end }
+    {
+        match &self.element {
+            Some(element) => element.may_end(),
+            None => false,
+        }
     }
 
     /// Takes the next record, if it breaches no rule.

@@ -1,4 +1,5 @@
 -- Where the bytes end in a record: `Truncated` is answered there, and only there.
+use Rattle.lvl_ignore.specs.declared.ignore.Ignore.{Ignore}
 use Rattle.std.proofs.Common.{◌≡◌, ◌≢◌, ◌==◌, ℕ, ◌+◌, ◌*◌, ◌-◌, ◌<◌, ◌≤◌, ◌⊎◌, inl, inr, Bool, true, false, cond}
 use Rattle.std.proofs.Common.{nat_le, nat_lt, ◌&&◌, ◌||◌, ◌%◌, List, ◌++◌, length, drop, slice_index, Result, Ok, Err}
 use Rattle.std.proofs.Common.{None, Some, refl, sym, ap, ◌∙◌, arith, length-append, length-drop}
@@ -6,7 +7,7 @@ use Rattle.std.proofs.lemmas.List.{length-replicate}
 use Rattle.std.specs.Prelude.{Option, replicate}
 use Rattle.std.proofs.lemmas.Bool.Decides.{nat_tests}
 use Rattle.std.proofs.lemmas.Bool.{cases_Bool}
-use Rattle.gds_records.specs.Table.{table, form_among, form_fault, allows}
+use Rattle.gds_records.specs.Table.{form_of, form_fault, allows}
 use Rattle.gds_records.specs.Step.{want, header, step, ◌>>=◌, header_fault, unless, OfHeader, HasByteLength}
 use Rattle.gds_records.specs.Spelled.{IsBegun, IsCut, IsUnfinished}
 use Rattle.gds_records.proofs.Steps.{header-append, step_end, step_goes, step_no_header, step_wants, want_had}
@@ -34,22 +35,22 @@ of_form None d n = tt
 of_form (Some f) d n =
     of_header_else (f.data_type == d) BadDataType _ (of_header_else (allows f.lengths n) BadLength None tt tt) tt
 
-of_header : (len kind d : ℕ) → OfHeader (header_fault len kind d)
-of_header len kind d =
+of_header : (ignore : Ignore) (len kind d : ℕ) → OfHeader (header_fault ignore len kind d)
+of_header ignore len kind d =
     of_header_cond (nat_lt len 4 || (len % 2 == 1)) BadLength _ tt
     (of_header_cond (nat_le 60 kind) UnknownRecord _ tt
-    (of_header_cond (nat_lt 6 d) BadDataType _ tt (of_form (form_among table kind) d (len - 4))))
+    (of_header_cond (nat_lt 6 d) BadDataType _ tt (of_form (form_of ignore kind) d (len - 4))))
 
 unless_truncated : (o : Option RecordFault) (n : ℕ) → OfHeader o → unless o n ≡ Err Truncated → ⊥
 unless_truncated None n p e = let h : Ok n ≡ Err Truncated = e in cc
 unless_truncated (Some f) n p e = let h : Err f ≡ Err Truncated = e in let k : f ≡ Truncated = cc in rw k at p
 
-header_whole : (xs : List ℕ) → header xs ≡ Err Truncated → ⊥
+header_whole : (ignore : Ignore) (xs : List ℕ) → header ignore xs ≡ Err Truncated → ⊥
 unfolding header
-header_whole xs e =
+header_whole ignore xs e =
     let len = 256 * slice_index xs 0 + slice_index xs 1 in
-    unless_truncated (header_fault len (slice_index xs 2) (slice_index xs 3)) len
-    (of_header len (slice_index xs 2) (slice_index xs 3)) e
+    unless_truncated (header_fault ignore len (slice_index xs 2) (slice_index xs 3)) len
+    (of_header ignore len (slice_index xs 2) (slice_index xs 3)) e
 
 -- where `Truncated` came from
 
@@ -80,9 +81,9 @@ header_stands room xs e is h long =
     omega arith
 
 -- a header that has no fault, and less than its payload
-begun : (n : ℕ) (xs : List ℕ) → header xs ≡ Ok n → HasByteLength xs → 4 ≤ length xs → length xs < n → IsBegun xs
-begun n xs e bytes long short =
-    let says = header_ok xs n e in
+begun : (ignore : Ignore) (n : ℕ) (xs : List ℕ) → header ignore xs ≡ Ok n → HasByteLength xs → 4 ≤ length xs → length xs < n → IsBegun ignore xs
+begun ignore n xs e bytes long short =
+    let says = header_ok ignore xs n e in
     let more = replicate (n - length xs) 0 in
     let p = drop 4 xs ++ more in
     let all : 4 + length p ≡ n = omega (
@@ -96,7 +97,7 @@ begun n xs e bytes long short =
       data_type = slice_index xs 3;
       payload = p;
       more = more;
-      allowed = record_said n xs p says bytes all;
+      allowed = record_said ignore n xs p says bytes all;
       spelled = record {
         high = slice_index xs 0;
         low = slice_index xs 1;
@@ -108,51 +109,51 @@ begun n xs e bytes long short =
     }
 
 -- fewer bytes in hand than a header has
-pub few_unfinished : (room : ℕ) (hand : List ℕ) → length hand < 4 → length hand ≤ room → IsUnfinished room hand
-few_unfinished room hand few fits = (fits, λ some. (some, inl few))
+pub few_unfinished : (ignore : Ignore) (room : ℕ) (hand : List ℕ) → length hand < 4 → length hand ≤ room → IsUnfinished ignore room hand
+few_unfinished ignore room hand few fits = (fits, λ some. (some, inl few))
 
 -- a header in hand that has no fault, and less than its payload
-pub cut_unfinished : (n room : ℕ) (hand : List ℕ) → header hand ≡ Ok n → HasByteLength hand → 4 ≤ length hand
-    → length hand < n → length hand ≤ room → IsUnfinished room hand
-cut_unfinished n room hand e bytes long few fits = (fits, λ some. (some, inr (begun n hand e bytes long few)))
+pub cut_unfinished : (ignore : Ignore) (n room : ℕ) (hand : List ℕ) → header ignore hand ≡ Ok n → HasByteLength hand → 4 ≤ length hand
+    → length hand < n → length hand ≤ room → IsUnfinished ignore room hand
+cut_unfinished ignore n room hand e bytes long few fits = (fits, λ some. (some, inr (begun ignore n hand e bytes long few)))
 
 -- `Truncated` comes only where all bytes left are the beginning of a record
-pub law_truncated : (room : ℕ) (xs : List ℕ) → step room xs ≡ Err Truncated → (4 ≤ length xs → HasByteLength xs)
-    → (length xs ≤ room) × IsCut xs
-law_truncated room xs e bytes = elim (cases_Bool (nat_le 1 (length xs))) [
-  | inr none ↦ absurd (let h : Ok 0 ≡ Err Truncated = sym (step_end room xs (sym none)) ∙ e in cc)
+pub law_truncated : (ignore : Ignore) (room : ℕ) (xs : List ℕ) → step ignore room xs ≡ Err Truncated → (4 ≤ length xs → HasByteLength xs)
+    → (length xs ≤ room) × IsCut ignore xs
+law_truncated ignore room xs e bytes = elim (cases_Bool (nat_le 1 (length xs))) [
+  | inr none ↦ absurd (let h : Ok 0 ≡ Err Truncated = sym (step_end ignore room xs (sym none)) ∙ e in cc)
   | inl some ↦
       let stands : 0 < length xs = grind (arith, nat_tests) in
-      elim (bind_err (want 4 room xs) (λ _. header xs >>= λ n. want n room xs) Truncated
-      (sym (step_goes room xs (sym some)) ∙ e)) [
+      elim (bind_err (want 4 room xs) (λ _. header ignore xs >>= λ n. want n room xs) Truncated
+      (sym (step_goes ignore room xs (sym some)) ∙ e)) [
         | inl w ↦ let s = want_truncated 4 room xs w in (s.1, (stands, inl s.0))
-        | inr p ↦ elim (bind_err (header xs) (λ n. want n room xs) Truncated p.2) [
-          | inl h ↦ absurd (header_whole xs h)
+        | inr p ↦ elim (bind_err (header ignore xs) (λ n. want n room xs) Truncated p.2) [
+          | inl h ↦ absurd (header_whole ignore xs h)
           | inr q ↦
               let s = want_truncated q.0 room xs q.2 in
               let long = (want_ok 4 room p.0 xs p.1).1 in
-              (s.1, (stands, inr (begun q.0 xs q.1 (bytes long) long s.0)))
+              (s.1, (stands, inr (begun ignore q.0 xs q.1 (bytes long) long s.0)))
         ]
       ]
 ]
 
 -- and there it comes
-pub law_cut : (room : ℕ) (xs : List ℕ) → length xs ≤ room → IsCut xs → step room xs ≡ Err Truncated
-law_cut room xs fits cut =
+pub law_cut : (ignore : Ignore) (room : ℕ) (xs : List ℕ) → length xs ≤ room → IsCut ignore xs → step ignore room xs ≡ Err Truncated
+law_cut ignore room xs fits cut =
     let stands = cut.0 in
     let some : true ≡ nat_le 1 (length xs) = grind (arith, nat_tests) in
     let no : false ≡ nat_le (length xs + 1) (length xs) = grind (arith, nat_tests) in
     elim (cases_Bool (nat_le 4 (length xs))) [
       | inr is_short ↦
           let short : length xs < 4 = grind (arith, nat_tests) in
-          step_no_header room xs Truncated some (want_short 4 (length xs + 1) room xs no (omega arith) (omega arith))
+          step_no_header ignore room xs Truncated some (want_short 4 (length xs + 1) room xs no (omega arith) (omega arith))
       | inl is_long ↦
           let long : 4 ≤ length xs = grind (arith, nat_tests) in
           elim cut.1 [
             | inl short ↦ absurd (omega arith)
             | inr b ↦
                 let n = 4 + length b.payload in
-                let head : header xs ≡ Ok n = sym (header-append xs b.more long) ∙ header_spelled (xs ++ b.more)
+                let head : header ignore xs ≡ Ok n = sym (header-append ignore xs b.more long) ∙ header_spelled ignore (xs ++ b.more)
                 b.payload b.kind b.data_type b.allowed b.spelled in
                 let less : length xs < n =
                 omega (
@@ -161,7 +162,7 @@ law_cut room xs fits cut =
                   length_spelled (xs ++ b.more) b.payload b.kind b.data_type b.spelled,
                   length-append xs b.more,
                 ) in
-                step_wants room xs 4 n some (want_had 4 4 room xs (sym is_long) (omega arith) (omega arith)) head
+                step_wants ignore room xs 4 n some (want_had 4 4 room xs (sym is_long) (omega arith) (omega arith)) head
                 ∙ want_short n (length xs + 1) room xs no (omega arith) (omega arith)
           ]
     ]

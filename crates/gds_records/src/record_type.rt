@@ -1,5 +1,5 @@
-//! The record types that are read, by the names and numbers of the GDSII Stream Format Manual,
-//! Release 6.
+//! The record types that are read, and those that may be read and ignored, by the names and numbers of
+//! the GDSII Stream Format Manual, Release 6.
 
 pub const HEADER: u8 = 0x00;
 
@@ -54,3 +54,29 @@ pub const MAG: u8 = 0x1B;
 pub const ANGLE: u8 = 0x1C;
 
 pub const PATHTYPE: u8 = 0x21;
+
+pub const REFLIBS: u8 = 0x1F;
+
+pub const FONTS: u8 = 0x20;
+
+pub const GENERATIONS: u8 = 0x22;
+
+pub const ATTRTABLE: u8 = 0x23;
+
+pub const ELFLAGS: u8 = 0x26;
+
+pub const PROPATTR: u8 = 0x2B;
+
+pub const PROPVALUE: u8 = 0x2C;
+
+pub const PLEX: u8 = 0x2F;
+
+pub const STRCLASS: u8 = 0x34;
+
+pub const FORMAT: u8 = 0x36;
+
+pub const LIBDIRSIZE: u8 = 0x39;
+
+pub const SRFNAME: u8 = 0x3A;
+
+pub const LIBSECUR: u8 = 0x3B;

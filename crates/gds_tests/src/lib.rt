@@ -7,6 +7,8 @@
 #[cfg(test)]
 mod elements;
 #[cfg(test)]
+mod ignored;
+#[cfg(test)]
 mod library;
 #[cfg(test)]
 mod library_elements;

@@ -1,5 +1,6 @@
 -- What a refusal says of the input while it is being read.
 use Rattle.std.specs.Prelude.{ℕ, List, Option}
+use Rattle.lvl_ignore.specs.declared.ignore.Ignore.{Ignore}
 use Rattle.lvl_grammar.specs.Refused.{IsTruncated, IsUnread}
 use Rattle.lvl_grammar.specs.inside.ReadTo.{IsSeenWrong}
 use Rattle.gds_records.specs.declared.fault.RecordFault.TheVariants.{Truncated, Read}
@@ -9,10 +10,10 @@ use Rattle.gds_library.specs.declared.fault.GdsKind.TheVariants.{Record}
 use Rattle.gds_library.specs.declared.fault.GdsFault.{GdsFault}
 
 -- where the reader has these bytes left
-abbrev pub RefusesAt : List ℕ → Option (List ℕ) → ℕ → GdsKind → Type 0
-RefusesAt xs left at (Record Truncated) = IsTruncated gds xs at
-RefusesAt xs left at (Record Read) = IsUnread gds xs left at
-RefusesAt xs left at k = IsSeenWrong gds xs at left k
+abbrev pub RefusesAt : Ignore → List ℕ → Option (List ℕ) → ℕ → GdsKind → Type 0
+RefusesAt ignore xs left at (Record Truncated) = IsTruncated (gds ignore) xs at
+RefusesAt ignore xs left at (Record Read) = IsUnread (gds ignore) xs left at
+RefusesAt ignore xs left at k = IsSeenWrong (gds ignore) xs at left k
 
-abbrev pub Refuses : List ℕ → Option (List ℕ) → GdsFault → Type 0
-Refuses xs left f = RefusesAt xs left f.offset f.kind
+abbrev pub Refuses : Ignore → List ℕ → Option (List ℕ) → GdsFault → Type 0
+Refuses ignore xs left f = RefusesAt ignore xs left f.offset f.kind

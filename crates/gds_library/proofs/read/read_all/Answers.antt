@@ -2,17 +2,21 @@ use Rattle.std.proofs.Common.{[], ◌∷◌, ◌++◌, None, Err, inl, ◌≡◌
 use Rattle.std.proofs.Common.{subst, arith, true, add-zero}
 use Rattle.lvl_grammar.specs.inside.ReadTo.{ReadTo}
 use Rattle.lvl_grammar.proofs.Reading.{reads_begin}
+use Rattle.std.proofs.Common.{ℕ, List, ◌<◌, ◌⊎◌}
+use Rattle.lvl_refusal.specs.Refused.{Says}
 use Rattle.gds_records.specs.Records.{file_limit, room_left, records_offset, bytes_left, bytes_in_hand}
+use Rattle.gds_records.specs.Records.{records_ignore}
+use Rattle.gds_elements.specs.Rec.{Rec}
+use Rattle.gds_library.specs.Ignoring.{BreachesBy, BreachesOnlyBy, MayFollowBy}
 use Rattle.gds_records.specs.Step.{step}
-use Rattle.gds_records.specs.Spelled.{IsSpelledAt, IsUnfinished}
+use Rattle.gds_records.specs.Spelled.{IsSpelledAt, IsUnfinished, IsBegun}
 use Rattle.gds_records.specs.declared.records.Record.{Record as Answered}
 use Rattle.gds_records.specs.declared.fault.RecordFault.{RecordFault}
 use Rattle.gds_records.specs.declared.fault.RecordFault.TheVariants.{Truncated}
 use Rattle.gds_records.specs.declared.fault.Stopped.TheVariants.{Fault}
 use Rattle.gds_elements.specs.inside.Reading.{record_of}
-use Rattle.gds_library.specs.Rules.{Breaches}
 use Rattle.gds_library.specs.Front.{gds}
-use Rattle.gds_library.specs.inside.Holds.{HasRead}
+use Rattle.gds_library.specs.inside.Holds.{HasReadBy}
 use Rattle.gds_library.specs.declared.fault.GdsKind.TheVariants.{Record}
 use Rattle.gds_library.specs.declared.place.Place.TheVariants.{Header, Fill}
 use Rattle.gds_library.proofs.Answered.{next_took, next_stopped, next_said, next_ended, next_seen}
@@ -23,13 +27,15 @@ pub loop-init : goal.loop-init
 loop-init g c = (
   c.requires.fresh,
   λ z. (let y : Header ≡ Fill = sym c.new-reading.ensures.place ∙ z in cc),
-  λ xs k. subst (λ i. ReadTo gds xs i (HasRead c.new-reading.result) (bytes_left g.R.Read.remaining c.args.records.now))
-      (sym c.requires.start) (reads_begin gds xs (HasRead c.new-reading.result) _ k c.new-reading.ensures.none),
+  λ xs k. subst (λ i. ReadTo (gds c.args.ignore) xs i (HasReadBy c.args.ignore c.new-reading.result) (bytes_left g.R.Read.remaining c.args.records.now))
+      (sym c.requires.start) (reads_begin (gds c.args.ignore) xs (HasReadBy c.args.ignore c.new-reading.result) _ k c.new-reading.ensures.none),
   omega arith,
   refl,
   refl,
   [],
   c.new-reading.ensures.none,
+  c.new-reading.ensures.ignore,
+  c.requires.ignore,
 )
 
 pub returns-in-Err-Breach-clause-refused : goal.returns-in-Err-Breach-clause-refused
@@ -38,25 +44,35 @@ returns-in-Err-Breach-clause-refused g c = λ xs k.
     let at = records_offset c.loop.records in
     let new = c.next.follows.lender-at-none in
     let is : c.next.result ≡ Ok (Some c.in-Ok-Some.record) = c.in-Ok-Some.is ∙ ap Ok c.in-Ok-Some.field-0-is in
-    let sp = next_said (λ (r : Answered). IsSpelledAt (room_left c.loop.records) (drop at xs) r.kind r.payload.now)
-    c.next.result c.in-Ok-Some.record is (c.next.ensures.spelled c.loop.invariant.0 (drop at xs) to.left_is) in
+    let sp = subst (λ i. IsSpelledAt i (room_left c.loop.records) (drop at xs) c.in-Ok-Some.record.kind
+    c.in-Ok-Some.record.payload.now) c.loop.invariant.9
+    (next_said (λ (r : Answered). IsSpelledAt (records_ignore c.loop.records) (room_left c.loop.records) (drop at xs)
+    r.kind r.payload.now) c.next.result c.in-Ok-Some.record is
+    (c.next.ensures.spelled c.loop.invariant.0 (drop at xs) to.left_is)) in
     let p = next_took g.R.Read.remaining g.R.Read.read_errors g.R.Read.lent c.loop.records new c.next.result
     c.in-Ok-Some.record is c.next.follows.holds-at-none in
-    refuses_by xs _ _ _ at c.in-Err-Breach.kind (rw c.in-Err-Breach.field-0-is at c.refuse.ensures)
+    refuses_by c.args.ignore xs _ _ _ at c.in-Err-Breach.kind (rw c.in-Err-Breach.field-0-is at c.refuse.ensures)
     c.offset-offset.ensures
-    (reads_refused xs at c.loop.reading _ _ _ _ (bytes_in_hand new) c.in-Err-Breach.kind to c.loop.invariant.1 sp
-    (λ d. rw c.in-Err-Breach.field-0-is at (c.in-Err-Breach.ensures to.records d to.holds))
+    (reads_refused c.args.ignore xs at c.loop.reading _ _ _ _ (bytes_in_hand new) c.in-Err-Breach.kind to c.loop.invariant.1 sp
+    (λ d. rw c.in-Err-Breach.field-0-is at ((subst (λ i. (rs : List Rec) (d : ℕ) → HasReadBy i c.loop.reading rs → Says c.in-Err-Breach.field-0
+    (λ k. BreachesBy i rs (record_of c.in-Ok-Some.record.kind d c.in-Ok-Some.record.payload.now) k
+    × BreachesOnlyBy i rs (record_of c.in-Ok-Some.record.kind d c.in-Ok-Some.record.payload.now) k))
+    c.loop.invariant.8 c.in-Err-Breach.ensures.takes) to.records d to.holds))
     (p.left (drop at xs) to.left_is))
 
 pub returns-in-Err-Breach-clause-reads : goal.returns-in-Err-Breach-clause-reads
 returns-in-Err-Breach-clause-reads g c =
-    let breach : Breaches c.loop.invariant.6 (record_of c.in-Ok-Some.record.kind 0 c.in-Ok-Some.record.payload.now)
+    let breach : BreachesBy c.args.ignore c.loop.invariant.6 (record_of c.in-Ok-Some.record.kind 0 c.in-Ok-Some.record.payload.now)
     c.in-Err-Breach.kind =
-    (rw c.in-Err-Breach.field-0-is at (c.in-Err-Breach.ensures c.loop.invariant.6 0 c.loop.invariant.7)).0 in
+    (rw c.in-Err-Breach.field-0-is at ((subst (λ i. (rs : List Rec) (d : ℕ) → HasReadBy i c.loop.reading rs → Says c.in-Err-Breach.field-0
+    (λ k. BreachesBy i rs (record_of c.in-Ok-Some.record.kind d c.in-Ok-Some.record.payload.now) k
+    × BreachesOnlyBy i rs (record_of c.in-Ok-Some.record.kind d c.in-Ok-Some.record.payload.now) k))
+    c.loop.invariant.8 c.in-Err-Breach.ensures.takes) c.loop.invariant.6 0 c.loop.invariant.7)).0 in
     let is : c.next.result ≡ Ok (Some c.in-Ok-Some.record) = c.in-Ok-Some.is ∙ ap Ok c.in-Ok-Some.field-0-is in
     let p = next_took g.R.Read.remaining g.R.Read.read_errors g.R.Read.lent c.loop.records c.next.follows.lender-at-none
     c.next.result c.in-Ok-Some.record is c.next.follows.holds-at-none in
-    rw (c.refuse.ensures, c.in-Err-Breach.field-0-is, breach_no_read c.loop.invariant.6 _ c.in-Err-Breach.kind breach)
+    rw (c.refuse.ensures, c.in-Err-Breach.field-0-is, breach_no_read c.args.ignore c.loop.invariant.6
+    (record_of c.in-Ok-Some.record.kind 0 c.in-Ok-Some.record.payload.now) c.in-Err-Breach.kind breach)
     (p.counted ∙ c.loop.invariant.4)
 
 pub returns-in-Ok-None-clause-refused : goal.returns-in-Ok-None-clause-refused
@@ -66,8 +82,8 @@ returns-in-Ok-None-clause-refused g c = λ xs k.
     let is : c.next.result ≡ Ok None = c.in-Ok-None.is ∙ ap Ok c.in-Ok-None.field-0-is in
     let none : drop at xs ≡ [] = next_ended (drop at xs ≡ []) c.next.result is
     (c.next.ensures.ended c.loop.invariant.0 (drop at xs) to.left_is) in
-    refuses_by xs _ _ _ at (Record Truncated) c.refuse-in-Ok-None.ensures c.offset-offset.ensures
-    (reads_cut xs at c.loop.reading _ to c.loop.invariant.1 (inl (omega (arith, ap length none))))
+    refuses_by c.args.ignore xs _ _ _ at (Record Truncated) c.refuse-in-Ok-None.ensures c.offset-offset.ensures
+    (reads_cut c.args.ignore xs at c.loop.reading _ to c.loop.invariant.1 (inl (omega (arith, ap length none))))
 
 pub returns-in-Err-Fault-clause-refused : goal.returns-in-Err-Fault-clause-refused
 returns-in-Err-Fault-clause-refused g c = λ xs k.
@@ -79,14 +95,18 @@ returns-in-Err-Fault-clause-refused g c = λ xs k.
     let p = next_stopped g.R.Read.remaining g.R.Read.read_errors g.R.Read.lent c.loop.records new c.next.result
     (Fault f) is c.next.follows.holds-at-none in
     let seen = next_seen c.loop.records new c.next.result f is c.next.follows.holds-at-none.1 in
+    let same = p.ignore ∙ c.loop.invariant.9 in
     let room : room_left new ≡ file_limit - at = ap (λ i. file_limit - i) (p.offset ∙ add-zero at) in
-    refuses_by xs _ _ _ at (Record f) (rw c.in-Err-Fault.field-0-is at c.refuse-in-Err-Fault.ensures)
+    refuses_by c.args.ignore xs _ _ _ at (Record f) (rw c.in-Err-Fault.field-0-is at c.refuse-in-Err-Fault.ensures)
     c.offset-offset.ensures
-    (reads_fault xs at c.loop.reading _ _ (bytes_in_hand new) f to c.loop.invariant.1
-    (λ t r more. subst (λ i. step i (bytes_in_hand new ++ more) ≡ Err f) room (seen.0 t r more))
-    (λ e. (c.next.ensures.truncated c.loop.invariant.0 (drop at xs) to.left_is
+    (reads_fault c.args.ignore xs at c.loop.reading _ _ (bytes_in_hand new) f to c.loop.invariant.1
+    (λ t r more. subst (λ j. step j (file_limit - at) (bytes_in_hand new ++ more) ≡ Err f) same
+    (subst (λ i. step (records_ignore new) i (bytes_in_hand new ++ more) ≡ Err f) room (seen.0 t r more)))
+    (λ e. subst (λ i. (length (drop at xs) < 4) ⊎ IsBegun i (drop at xs)) c.loop.invariant.9
+    (c.next.ensures.truncated c.loop.invariant.0 (drop at xs) to.left_is
     (is ∙ ap (λ (i : RecordFault). Err (Fault i)) e)).1.1)
-    (λ e. subst (λ i. IsUnfinished i (bytes_in_hand new)) room (seen.1 e))
+    (λ e. subst (λ j. IsUnfinished j (file_limit - at) (bytes_in_hand new)) same
+    (subst (λ i. IsUnfinished (records_ignore new) i (bytes_in_hand new)) room (seen.1 e)))
     (p.left (drop at xs) to.left_is))
 
 pub loop-preserved : goal.loop-preserved
@@ -100,22 +120,33 @@ loop-preserved g c =
       λ z. (let t : c.is_whole.result ≡ true = c.is_whole.ensures.1 z in cc),
       λ xs k.
           let to = c.loop.invariant.2 xs k in
-          let sp = next_said (λ (r : Answered). IsSpelledAt (room_left c.loop.records) (drop at xs) r.kind
-          r.payload.now) c.next.result c.in-Ok-Some.record is
-          (c.next.ensures.spelled c.loop.invariant.0 (drop at xs) to.left_is) in
-          subst (λ i. ReadTo gds xs i (HasRead c.take.new.self) (bytes_left g.R.Read.remaining new)) (sym p.offset)
-          (reads_record xs at c.loop.reading c.take.new.self _ (bytes_left g.R.Read.remaining new) _ _ to sp
-          (λ d. c.in-Ok.ensures to.records d to.holds) (p.left (drop at xs) to.left_is)),
+          let sp = subst (λ i. IsSpelledAt i (room_left c.loop.records) (drop at xs) c.in-Ok-Some.record.kind
+    c.in-Ok-Some.record.payload.now) c.loop.invariant.9
+    (next_said (λ (r : Answered). IsSpelledAt (records_ignore c.loop.records) (room_left c.loop.records) (drop at xs)
+    r.kind r.payload.now) c.next.result c.in-Ok-Some.record is
+    (c.next.ensures.spelled c.loop.invariant.0 (drop at xs) to.left_is)) in
+          subst (λ i. ReadTo (gds c.args.ignore) xs i (HasReadBy c.args.ignore c.take.new.self) (bytes_left g.R.Read.remaining new)) (sym p.offset)
+          (reads_record c.args.ignore xs at c.loop.reading c.take.new.self _ (bytes_left g.R.Read.remaining new) _ _ to sp
+          (λ d. (subst (λ i. (rs : List Rec) (d : ℕ) → HasReadBy i c.loop.reading rs
+    → HasReadBy i c.take.new.self (rs ++ record_of c.in-Ok-Some.record.kind d c.in-Ok-Some.record.payload.now ∷ [])
+    × MayFollowBy i rs (record_of c.in-Ok-Some.record.kind d c.in-Ok-Some.record.payload.now))
+    c.loop.invariant.8 c.in-Ok.ensures.takes) to.records d to.holds) (p.left (drop at xs) to.left_is)),
       omega (arith, p.offset, c.loop.invariant.3),
       p.counted ∙ c.loop.invariant.4,
       p.same ∙ c.loop.invariant.5,
       c.loop.invariant.6 ++ record_of c.in-Ok-Some.record.kind 0 c.in-Ok-Some.record.payload.now ∷ [],
-      (c.in-Ok.ensures c.loop.invariant.6 0 c.loop.invariant.7).0,
+      ((subst (λ i. (rs : List Rec) (d : ℕ) → HasReadBy i c.loop.reading rs
+    → HasReadBy i c.take.new.self (rs ++ record_of c.in-Ok-Some.record.kind d c.in-Ok-Some.record.payload.now ∷ [])
+    × MayFollowBy i rs (record_of c.in-Ok-Some.record.kind d c.in-Ok-Some.record.payload.now))
+    c.loop.invariant.8 c.in-Ok.ensures.takes) c.loop.invariant.6 0 c.loop.invariant.7).0,
+      c.in-Ok.ensures.ignore ∙ c.loop.invariant.8,
+      p.ignore ∙ c.loop.invariant.9,
     )
 
 pub returns-then-is_whole-clause-whole : goal.returns-then-is_whole-clause-whole
 returns-then-is_whole-clause-whole g c = (
   c.is_whole.ensures.0 c.if-is_whole.true,
+  c.in-Ok.ensures.ignore ∙ c.loop.invariant.8,
   λ xs k.
       let at = records_offset c.loop.records in
       let new = c.next.follows.lender-at-none in
@@ -123,9 +154,15 @@ returns-then-is_whole-clause-whole g c = (
       let p = next_took g.R.Read.remaining g.R.Read.read_errors g.R.Read.lent c.loop.records new c.next.result
       c.in-Ok-Some.record is c.next.follows.holds-at-none in
       let to = c.loop.invariant.2 xs k in
-      let sp = next_said (λ (r : Answered). IsSpelledAt (room_left c.loop.records) (drop at xs) r.kind r.payload.now)
-      c.next.result c.in-Ok-Some.record is (c.next.ensures.spelled c.loop.invariant.0 (drop at xs) to.left_is) in
-      subst (λ i. ReadTo gds xs i (HasRead c.take.new.self) (bytes_left g.R.Read.remaining new)) (sym p.offset)
-      (reads_record xs at c.loop.reading c.take.new.self _ (bytes_left g.R.Read.remaining new) _ _ to sp
-      (λ d. c.in-Ok.ensures to.records d to.holds) (p.left (drop at xs) to.left_is)),
+      let sp = subst (λ i. IsSpelledAt i (room_left c.loop.records) (drop at xs) c.in-Ok-Some.record.kind
+    c.in-Ok-Some.record.payload.now) c.loop.invariant.9
+    (next_said (λ (r : Answered). IsSpelledAt (records_ignore c.loop.records) (room_left c.loop.records) (drop at xs)
+    r.kind r.payload.now) c.next.result c.in-Ok-Some.record is
+    (c.next.ensures.spelled c.loop.invariant.0 (drop at xs) to.left_is)) in
+      subst (λ i. ReadTo (gds c.args.ignore) xs i (HasReadBy c.args.ignore c.take.new.self) (bytes_left g.R.Read.remaining new)) (sym p.offset)
+      (reads_record c.args.ignore xs at c.loop.reading c.take.new.self _ (bytes_left g.R.Read.remaining new) _ _ to sp
+      (λ d. (subst (λ i. (rs : List Rec) (d : ℕ) → HasReadBy i c.loop.reading rs
+    → HasReadBy i c.take.new.self (rs ++ record_of c.in-Ok-Some.record.kind d c.in-Ok-Some.record.payload.now ∷ [])
+    × MayFollowBy i rs (record_of c.in-Ok-Some.record.kind d c.in-Ok-Some.record.payload.now))
+    c.loop.invariant.8 c.in-Ok.ensures.takes) to.records d to.holds) (p.left (drop at xs) to.left_is)),
 )

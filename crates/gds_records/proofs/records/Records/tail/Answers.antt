@@ -22,4 +22,4 @@ returns-in-Another-clause-too_long g c = λ f xs k p _.
 pub returns-in-Limit-after-clause-decided : goal.returns-in-Limit-after-clause-decided
 returns-in-Limit-after-clause-decided g c =
     let e = c.skip_zeros-zeros.ensures.limit c.in-Limit-after.is in
-    (seen_limit _ _ (omega (arith, e.0)) e.1, λ r. cc)
+    (seen_limit _ _ _ (omega (arith, e.0)) e.1, λ r. cc)

@@ -1,0 +1,89 @@
+-- One record more of a stream in which some are ignored.
+use Rattle.std.proofs.Common.{◌≡◌, ◌≢◌, ◌<◌, inl, inr, ℕ, Bool, true, false, List, [], ◌∷◌, ◌++◌, Some, refl, sym, ap}
+use Rattle.std.proofs.Common.{◌∙◌, subst}
+use Rattle.std.specs.Prelude.{◌↔◌, IsTrue, Result, Ok, Err, IsErr, IsErrAnd}
+use Rattle.lvl_ignore.specs.declared.ignore.Ignore.{Ignore}
+use Rattle.lvl_refusal.specs.declared.Refusal.{Refusal}
+use Rattle.lvl_refusal.specs.Refused.{Says}
+use Rattle.gds_elements.specs.Rec.{Rec, an_end}
+use Rattle.gds_library.specs.Types.{propattr}
+use Rattle.gds_library.specs.Rules.{Breaches, BreachesOnly, MayFollow, InOrder}
+use Rattle.gds_library.specs.Ignoring.{is_passed, essential, last_type, comes_after, AwaitsValue, MayPass}
+use Rattle.gds_library.specs.Ignoring.{BreachesBy, BreachesOnlyBy, MayFollowBy}
+use Rattle.gds_library.specs.inside.Holds.{HasRead, HasReadBy, TakesBy}
+use Rattle.gds_library.specs.declared.fault.GdsKind.{GdsKind}
+use Rattle.gds_library.specs.declared.place.Place.TheVariants.{Fill}
+use Rattle.gds_library.specs.declared.reading.Reading.{Reading}
+use Rattle.gds_library.specs.declared.ignoring.WithIgnored.{WithIgnored}
+use Rattle.gds_library.proofs.Passing.{essential_passed, essential_kept, last_type-snoc, follows_passed, never_waits}
+use Rattle.gds_library.proofs.Passing.{follows_essential, says_essential}
+use Rattle.gds_library.proofs.Streams.{has_unwhole}
+
+-- a PROPATTR comes just where ENDEL may
+pub passes_end : (ignore : Ignore) (x : WithIgnored) (rs : List Rec) (r : Rec) (t : Bool) → HasReadBy ignore x rs
+    → x.reading.builder.place ≢ Fill → r.kind ≡ propattr → (AwaitsValue rs → ⊥)
+    → (IsTrue t ↔ InOrder (essential ignore rs) an_end) → IsTrue t ↔ MayPass ignore rs r
+passes_end ignore x rs r t h p e w o = (
+  λ y. record { unended = has_unwhole ignore x rs h p; there = inl (e, w, o.0 y) },
+  λ m. elim m.there [
+    | inl z ↦ o.1 z.2
+    | inr z ↦ (let y : false ≡ true = subst (λ k. comes_after k z.0 ≡ true) e z.2 in cc)
+  ],
+)
+
+-- an ignored record of another type comes just after its predecessors
+pub passes_after : (ignore : Ignore) (x : WithIgnored) (rs : List Rec) (r : Rec) (t : Bool) (j : ℕ)
+    → HasReadBy ignore x rs → x.reading.builder.place ≢ Fill → (r.kind ≡ propattr → ⊥) → x.last ≡ Some j
+    → t ≡ comes_after r.kind j → IsTrue t ↔ MayPass ignore rs r
+passes_after ignore x rs r t j h p n l e = (
+  λ y. record { unended = has_unwhole ignore x rs h p; there = inr (j, sym h.last ∙ l, sym e ∙ y) },
+  λ m. elim m.there [
+    | inl z ↦ absurd (n z.0)
+    | inr z ↦
+        let i : Some z.0 ≡ Some j = sym z.1 ∙ sym h.last ∙ l in
+        let same : z.0 ≡ j = cc in
+        e ∙ ap (λ k. comes_after r.kind k) (sym same) ∙ z.2
+  ],
+)
+
+-- an ignored record was read
+pub takes_passed : (ignore : Ignore) (x y : WithIgnored) (rs : List Rec) (r : Rec) → HasReadBy ignore x rs
+    → is_passed ignore r ≡ true → x.reading.builder.place ≢ Fill → MayPass ignore rs r → y.reading ≡ x.reading
+    → y.last ≡ Some r.kind → HasReadBy ignore y (rs ++ r ∷ []) × MayFollowBy ignore rs r
+takes_passed ignore x y rs r h e p m same l = (
+  record {
+    essential = subst (HasRead y.reading) (sym (essential_passed ignore rs r e))
+        (subst (λ (q : Reading). HasRead q (essential ignore rs)) (sym same) h.essential);
+    last = l ∙ sym (last_type-snoc rs r);
+    waits = λ w. subst (λ (q : Reading). q.builder.place ≢ Fill) (sym same) p;
+  },
+  follows_passed ignore rs r e m,
+)
+
+-- another record was read
+pub takes_essential : (ignore : Ignore) (y : WithIgnored) (rs : List Rec) (r : Rec) → is_passed ignore r ≡ false
+    → (AwaitsValue rs → ⊥)
+    → HasRead y.reading (essential ignore rs ++ r ∷ []) × MayFollow (essential ignore rs) r
+    → y.last ≡ Some r.kind → HasReadBy ignore y (rs ++ r ∷ []) × MayFollowBy ignore rs r
+takes_essential ignore y rs r e c t l = (
+  record {
+    essential = subst (HasRead y.reading) (sym (essential_kept ignore rs r e)) t.0;
+    last = l ∙ sym (last_type-snoc rs r);
+    waits = λ w.
+        let i : Some r.kind ≡ Some propattr = sym (last_type-snoc rs r) ∙ w in
+        let k : r.kind ≡ propattr = cc in
+        absurd (never_waits (essential ignore rs) r t.1 k);
+  },
+  follows_essential ignore rs r e c t.1,
+)
+
+-- or refused
+pub takes_none : {A : Type 0} (ignore : Ignore) (rs : List Rec) (r : Rec) (x : WithIgnored) (res : Result A (Refusal GdsKind))
+    (e : Refusal GdsKind) → IsErr res × IsErrAnd res (λ f. f ≡ e) → is_passed ignore r ≡ false
+    → (AwaitsValue rs → ⊥)
+    → Says e (λ k. Breaches (essential ignore rs) r k × BreachesOnly (essential ignore rs) r k)
+    → TakesBy ignore rs r x res
+takes_none ignore rs r x (Ok v) e h n c b = absurd h.1
+takes_none ignore rs r x (Err f) e h n c b =
+    subst (λ (i : Refusal GdsKind). Says i (λ k. BreachesBy ignore rs r k × BreachesOnlyBy ignore rs r k)) (sym h.1)
+    (says_essential ignore rs r e n c b)

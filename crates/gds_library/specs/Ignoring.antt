@@ -1,0 +1,99 @@
+-- Streams with records that are read and ignored (GDSII Stream Format Manual, Release 6, "Stream syntax"): they have
+-- the forms of the manual, come only where its syntax has them, and mean nothing.
+use Rattle.std.specs.Prelude.{◌≡◌, ◌≢◌, ◌==◌, ◌&&◌, ◌||◌, ◌⊎◌, ◌<◌, not, ℕ, Bool, true, false, if◌then◌else◌}
+use Rattle.std.specs.Prelude.{List, [], ◌∷◌, Option, Some, None}
+use Rattle.std.specs.Str.{bytes_eq}
+use Rattle.lvl_ignore.specs.declared.ignore.Ignore.{Ignore}
+use Rattle.gds_records.specs.Table.{is_ignored}
+use Rattle.gds_elements.specs.Types.{bgnlib, libname, strname}
+use Rattle.gds_elements.specs.Order.{opens}
+use Rattle.gds_elements.specs.Rec.{Rec, an_end}
+use Rattle.gds_elements.specs.Rules.{IsKnown}
+use Rattle.gds_elements.specs.declared.fault.Misplaced.{Misplaced as Misplacement}
+use Rattle.gds_elements.specs.declared.fault.Misplaced.TheVariants.{Unexpected, Unsupported}
+use Rattle.gds_library.specs.Types.{reflibs, fonts, generations, attrtable, elflags, propattr, propvalue, plex}
+use Rattle.gds_library.specs.Types.{strclass, format, libdirsize, srfname, libsecur}
+use Rattle.gds_library.specs.Rules.{IsWhole, InOrder, Breaches}
+use Rattle.gds_library.specs.declared.fault.GdsKind.{GdsKind}
+use Rattle.gds_library.specs.declared.fault.GdsKind.TheVariants.{Misplaced}
+
+-- the record is read and ignored; a FORMAT that isn't 0 says that the file is no plain archive, so it isn't ignored
+abbrev pub is_passed : Ignore → Rec → Bool
+is_passed ignore r = is_ignored ignore r.kind && (not (r.kind == format) || bytes_eq r.payload (0 ∷ 0 ∷ []))
+
+-- the records that are not ignored: a stream means what they mean
+abbrev pub essential : Ignore → List Rec → List Rec
+essential ignore [] = []
+essential ignore (r ∷ rs) = if is_passed ignore r then essential ignore rs else r ∷ essential ignore rs
+
+-- the type of the last record
+abbrev pub last_type : List Rec → Option ℕ
+last_type [] = None
+last_type (r ∷ []) = Some r.kind
+last_type (r ∷ s ∷ rs) = last_type (s ∷ rs)
+
+-- whether a record of the ignored type k may come directly after one of type j; PROPATTR has a rule of its own
+abbrev pub comes_after : ℕ → ℕ → Bool
+comes_after k j =
+    if k == libdirsize then j == bgnlib else
+    (if k == srfname then (j == bgnlib) || (j == libdirsize) else
+    (if k == libsecur then (j == bgnlib) || (j == libdirsize) || (j == srfname) else
+    (if k == reflibs then j == libname else
+    (if k == fonts then (j == libname) || (j == reflibs) else
+    (if k == attrtable then (j == libname) || (j == reflibs) || (j == fonts) else
+    (if k == generations then (j == libname) || (j == reflibs) || (j == fonts) || (j == attrtable) else
+    (if k == format then
+      (j == libname) || (j == reflibs) || (j == fonts) || (j == attrtable) || (j == generations) else
+    (if k == strclass then j == strname else
+    (if k == elflags then opens j else
+    (if k == plex then opens j || (j == elflags) else
+    (if k == propvalue then j == propattr else false)))))))))))
+
+-- a PROPATTR waits for its PROPVALUE
+abbrev pub AwaitsValue : List Rec → Type 0
+AwaitsValue before = last_type before ≡ Some propattr
+
+-- an ignored record may come there: the library isn't whole, and a PROPATTR comes where ENDEL may, with no other
+-- waiting; a record of another type comes directly after a type that the syntax has before it
+pub record MayPass (ignore : Ignore) (before : List Rec) (r : Rec) : Type 0 where
+  pub unended : ¬ IsWhole (essential ignore before)
+  pub there : ((r.kind ≡ propattr) × ¬ AwaitsValue before × InOrder (essential ignore before) an_end)
+      ⊎ ((j : ℕ) × (last_type before ≡ Some j) × (comes_after r.kind j ≡ true))
+
+-- another record may come there: no PROPVALUE is missing, and it is in order without those that are ignored
+pub record MayCome (ignore : Ignore) (before : List Rec) (r : Rec) : Type 0 where
+  pub unpassed : is_passed ignore r ≡ false
+  pub complete : ¬ AwaitsValue before
+  pub ordered : InOrder (essential ignore before) r
+
+-- the record may come after the others
+abbrev pub InOrderBy : Ignore → List Rec → Rec → Type 0
+InOrderBy ignore before r = ((is_passed ignore r ≡ true) × MayPass ignore before r) ⊎ MayCome ignore before r
+
+-- the record is read, or read and ignored
+abbrev pub IsKnownBy : Ignore → Rec → Type 0
+IsKnownBy ignore r = (is_passed ignore r ≡ true) ⊎ IsKnown r.kind
+
+-- the record may not come where it is, or isn't read
+abbrev pub IsMisplacedBy : Ignore → List Rec → Rec → Misplacement → Type 0
+IsMisplacedBy ignore before r (Unexpected k) = (r.kind ≡ k) × IsKnownBy ignore r × ¬ InOrderBy ignore before r
+IsMisplacedBy ignore before r (Unsupported k) = (r.kind ≡ k) × (k < 60) × ¬ IsKnownBy ignore r
+
+-- the record breaches the rule: it may not come there, or it isn't ignored, and breaches the rule after the records
+-- that aren't
+abbrev pub BreachesBy : Ignore → List Rec → Rec → GdsKind → Type 0
+BreachesBy ignore before r (Misplaced m) = IsMisplacedBy ignore before r m
+BreachesBy ignore before r k =
+    (is_passed ignore r ≡ false) × ¬ AwaitsValue before × Breaches (essential ignore before) r k
+
+-- it breaches no other rule
+abbrev pub BreachesOnlyBy : Ignore → List Rec → Rec → GdsKind → Type 0
+BreachesOnlyBy ignore before r k = (j : GdsKind) → BreachesBy ignore before r j → j ≡ k
+
+-- the record may follow the others: it is in order, and breaches no rule
+abbrev pub MayFollowBy : Ignore → List Rec → Rec → Type 0
+MayFollowBy ignore before r = InOrderBy ignore before r × ((k : GdsKind) → BreachesBy ignore before r k → ⊥)
+
+-- the records are a whole library
+abbrev pub IsWholeBy : Ignore → List Rec → Type 0
+IsWholeBy ignore rs = IsWhole (essential ignore rs)

@@ -1,0 +1,281 @@
+//! Libraries with records that are read and ignored: where each may come, its form, and what is refused.
+
+use gds_library::{GdsFault, GdsKind, Misplaced, RecordFault, read_gds_by};
+use lvl_ignore::Ignore;
+use lvl_io::fake::Pieces;
+use lvl_refusal::Refusal;
+use std::alloc::{AllocError, Global};
+use std::process::Abort;
+use std::test::Fail;
+
+mod records;
+mod rows;
+
+use records::{FORMAT_0, LIBSECUR, PROPATTR, PROPVALUE, RECORDS, REFLIBS};
+use rows::{FORMS, NAMES, PROPERTIES, TOGETHER};
+
+/// What is read of a stream: the library without the records that are ignored, or a refusal at an offset.
+#[derive(Clone, Copy)]
+pub enum Found {
+    Same,
+    Unexpected(u64, u8),
+    Unsupported(u64, u8),
+    BadDataType(u64),
+    BadLength(u64),
+    AfterEnd(u64),
+}
+
+/// Records before the one of `RECORDS` with this index, or after all of them, and what is found.
+pub type Row = (usize, &'static [&'static [u8]], Found);
+
+/// A library and its head as text, or why there is none.
+type Answer = Result<String, Refusal<GdsFault>>;
+
+const PROPERTIES_ALONE: Ignore = Ignore {
+    properties: true,
+    texts: false,
+    names: false,
+    padding: false,
+};
+
+const NAMES_ALONE: Ignore = Ignore {
+    properties: false,
+    texts: false,
+    names: true,
+    padding: false,
+};
+
+/// What only OASIS files have.
+const OF_OASIS: Ignore = Ignore {
+    properties: false,
+    texts: true,
+    names: false,
+    padding: true,
+};
+
+/// The bytes of `RECORDS` with more records before the one with this index.
+fn with(alloc: Global, index: usize, more: &[&[u8]]) -> Result<Vec<u8>, AllocError> {
+    let mut bytes = Vec::new(alloc);
+    for (_, record) in RECORDS.iter().take(index) {
+        bytes.extend_from_slice(record)?;
+    }
+    for record in more {
+        bytes.extend_from_slice(record)?;
+    }
+    for (_, record) in RECORDS.iter().skip(index) {
+        bytes.extend_from_slice(record)?;
+    }
+    Ok(bytes)
+}
+
+/// What is read of these bytes.
+fn read(alloc: Global, bytes: &[u8], ignore: Ignore) -> Result<Answer, AllocError> {
+    match read_gds_by(alloc, &mut Pieces::new(bytes, 50), ignore) {
+        Ok((library, head)) => Ok(Ok(format!(in alloc; "{head:?} {library:?}")?)),
+        Err(Refusal::OutOfMemory) => Err(AllocError),
+        Err(refusal) => Ok(Err(refusal)),
+    }
+}
+
+/// The refusal that is found, if there is one.
+fn refusal_of(found: Found) -> Option<Refusal<GdsFault>> {
+    let (offset, kind) = match found {
+        Found::Same => return None,
+        Found::Unexpected(at, kind) => (at, GdsKind::Misplaced(Misplaced::Unexpected(kind))),
+        Found::Unsupported(at, kind) => (at, GdsKind::Misplaced(Misplaced::Unsupported(kind))),
+        Found::BadDataType(at) => (at, GdsKind::Record(RecordFault::BadDataType)),
+        Found::BadLength(at) => (at, GdsKind::Record(RecordFault::BadLength)),
+        Found::AfterEnd(at) => (at, GdsKind::AfterEnd),
+    };
+    Some(Refusal::Breach(GdsFault { offset, kind }))
+}
+
+/// Whether this is found; `plain` is the text of the library without the records that are ignored.
+fn is_found(found: Found, plain: &str, answer: &Answer) -> bool {
+    match (refusal_of(found), answer) {
+        (None, Ok(text)) => text.as_str() == plain,
+        (Some(refusal), Err(told)) => *told == refusal,
+        _ => false,
+    }
+}
+
+/// The text of `RECORDS` as they are.
+fn plain(alloc: Global) -> Result<String, Fail> {
+    let bytes = with(alloc, 0, &[])?;
+    Ok(read(alloc, &bytes, Ignore::NOTHING)??)
+}
+
+/// Whether in each row is found what it says, where this is ignored.
+fn are_found(rt: &impl Abort, alloc: Global, rows: &[Row], ignore: Ignore) -> Result<(), Fail> {
+    let plain = plain(alloc)?;
+    for (n, (index, more, found)) in rows.iter().enumerate() {
+        let bytes = with(alloc, *index, more)?;
+        let answer = read(alloc, &bytes, ignore)?;
+        assert!(rt; is_found(*found, &plain, &answer), "row {n}: {answer:?}");
+    }
+    Ok(())
+}
+
+#[test]
+fn offsets_are_those_of_the_records(rt: HostRuntime) -> Result<(), Fail> {
+    for (n, (offset, _)) in RECORDS.iter().enumerate() {
+        let mut before = 0u64;
+        for (_, record) in RECORDS.iter().take(n) {
+            before = before.saturating_add(record.len() as u64);
+        }
+        assert_eq!(rt; *offset, before);
+    }
+    Ok(())
+}
+
+/// Another version, name, layer or reference is another text, so equal texts are of equal libraries.
+#[test]
+fn texts_tell_libraries(rt: HostRuntime) -> Result<(), Fail> {
+    let plain = plain(rt.alloc())?;
+    let changes: [(usize, u8); 4] = [(5, 0x59), (92, b'A'), (105, 2), (216, b'A')];
+    for (offset, value) in changes {
+        let mut bytes = with(rt.alloc(), 0, &[])?;
+        if let Some(byte) = bytes.get_mut(offset) {
+            *byte = value;
+        }
+        let text = read(rt.alloc(), &bytes, Ignore::NOTHING)??;
+        assert!(rt; text.as_str() != plain.as_str(), "byte {offset}");
+    }
+    Ok(())
+}
+
+#[test]
+fn names_ignored(rt: HostRuntime) -> Result<(), Fail> {
+    are_found(&rt, rt.alloc(), &NAMES, NAMES_ALONE)
+}
+
+#[test]
+fn properties_ignored(rt: HostRuntime) -> Result<(), Fail> {
+    are_found(&rt, rt.alloc(), &PROPERTIES, PROPERTIES_ALONE)
+}
+
+#[test]
+fn all_ignored(rt: HostRuntime) -> Result<(), Fail> {
+    are_found(&rt, rt.alloc(), &TOGETHER, Ignore::EVERYTHING)
+}
+
+#[test]
+fn forms_of_what_is_ignored(rt: HostRuntime) -> Result<(), Fail> {
+    are_found(&rt, rt.alloc(), &FORMS, Ignore::EVERYTHING)
+}
+
+/// A stream that is read with less is read with more, as the same library.
+#[test]
+fn more_ignored(rt: HostRuntime) -> Result<(), Fail> {
+    let plain = plain(rt.alloc())?;
+    for rows in [NAMES.as_slice(), PROPERTIES.as_slice()] {
+        for (index, more, found) in rows {
+            if let Found::Same = found {
+                let bytes = with(rt.alloc(), *index, more)?;
+                let answer = read(rt.alloc(), &bytes, Ignore::EVERYTHING)?;
+                assert!(rt; is_found(Found::Same, &plain, &answer), "{answer:?}");
+            }
+        }
+    }
+    Ok(())
+}
+
+/// Where nothing is ignored that a GDSII stream has, the first such record is unsupported, whatever its form.
+#[test]
+fn nothing_ignored(rt: HostRuntime) -> Result<(), Fail> {
+    let tables = [
+        NAMES.as_slice(),
+        PROPERTIES.as_slice(),
+        TOGETHER.as_slice(),
+        FORMS.as_slice(),
+    ];
+    for rows in tables {
+        for (index, more, _) in rows {
+            let kind = more
+                .first()
+                .and_then(|record| record.get(2))
+                .ok_or("a type")?;
+            let found = match RECORDS.get(*index) {
+                Some((offset, _)) => Found::Unsupported(*offset, *kind),
+                None => Found::AfterEnd(335),
+            };
+            let bytes = with(rt.alloc(), *index, more)?;
+            for ignore in [Ignore::NOTHING, OF_OASIS] {
+                let answer = read(rt.alloc(), &bytes, ignore)?;
+                assert!(rt; is_found(found, "", &answer), "{index} {kind}: {answer:?}");
+            }
+        }
+    }
+    Ok(())
+}
+
+/// LIBSECUR has 1 to 32 entries of six bytes.
+#[test]
+fn entries_of_security(rt: HostRuntime) -> Result<(), Fail> {
+    let plain = plain(rt.alloc())?;
+    let rows: [(u8, bool); 12] = [
+        (0, false),
+        (2, false),
+        (4, false),
+        (6, true),
+        (8, false),
+        (12, true),
+        (186, true),
+        (190, false),
+        (192, true),
+        (194, false),
+        (198, false),
+        (204, false),
+    ];
+    for (len, is_read) in rows {
+        let mut record = Vec::from_slice(rt.alloc(), &[0, len.saturating_add(4), 0x3B, 2])?;
+        for _ in 0..len {
+            record.push(1)?;
+        }
+        let bytes = with(rt.alloc(), 2, &[&record])?;
+        let found = if is_read {
+            Found::Same
+        } else {
+            Found::BadLength(34)
+        };
+        let answer = read(rt.alloc(), &bytes, NAMES_ALONE)?;
+        assert!(rt; is_found(found, &plain, &answer), "{len}: {answer:?}");
+    }
+    Ok(())
+}
+
+/// A stream is truncated at the record that isn't whole, whether it is ignored or not.
+#[test]
+fn tells_each_cut(rt: HostRuntime) -> Result<(), Fail> {
+    let bytes = with(rt.alloc(), 3, &[REFLIBS, FORMAT_0])?;
+    // REFLIBS from 40 to 48, FORMAT 0 from 48 to 54, UNITS from 54 to 74
+    let starts: [usize; 8] = [0, 6, 34, 40, 48, 54, 74, 102];
+    for k in 0..=102usize {
+        let start = starts
+            .iter()
+            .filter(|start| **start <= k)
+            .last()
+            .ok_or("a start")?;
+        let mut reader = Pieces::new(bytes.get(..k).ok_or("bytes")?, 7);
+        let read = read_gds_by(rt.alloc(), &mut reader, Ignore::EVERYTHING);
+        let told = GdsFault {
+            offset: *start as u64,
+            kind: GdsKind::Record(RecordFault::Truncated),
+        };
+        assert_eq!(rt; read.err(), Some(Refusal::Breach(told)), "cut to {k}");
+    }
+    Ok(())
+}
+
+#[test]
+fn growths_with_ignored(rt: HostRuntime) -> Result<(), Fail> {
+    let bytes = with(rt.alloc(), 10, &[PROPATTR, PROPVALUE])?;
+    let mut reader = Pieces::new(&bytes, usize::MAX);
+    let (library, _) = read_gds_by(rt.alloc(), &mut reader, PROPERTIES_ALONE)?;
+    assert_eq!(rt; library.cells.len(), 1);
+    let bytes = with(rt.alloc(), 2, &[LIBSECUR])?;
+    let mut reader = Pieces::new(&bytes, usize::MAX);
+    let (library, _) = read_gds_by(rt.alloc(), &mut reader, NAMES_ALONE)?;
+    assert_eq!(rt; library.cells.len(), 1);
+    Ok(())
+}
