@@ -6,3 +6,4 @@ pub mod Moved
 pub mod Polygons
 pub mod Paths
 pub mod Bands
+pub mod Texts

@@ -11,7 +11,7 @@ use Rattle.oasis_records.specs.declared.path.Extension.{Extension}
 use Rattle.oasis_records.specs.declared.path.Extension.TheVariants.{Modal as AsBefore, Flush, HalfWidth, Explicit}
 use Rattle.oasis_records.specs.declared.record.Record.{Record}
 use Rattle.oasis_records.specs.declared.record.Record.TheVariants.{Placement, Rectangle, Polygon, Path}
-use Rattle.oasis_records.specs.declared.record.Record.TheVariants.{XyAbsolute, XyRelative}
+use Rattle.oasis_records.specs.declared.record.Record.TheVariants.{Text, XyAbsolute, XyRelative}
 
 -- the value, or another where there is none
 abbrev pub value_or : {A : Type 0} → Option A → A → A
@@ -83,6 +83,7 @@ repetition_of (Placement p) = p.position.repetition
 repetition_of (Rectangle r) = r.position.repetition
 repetition_of (Polygon p) = p.position.repetition
 repetition_of (Path p) = p.position.repetition
+repetition_of (Text r) = r
 repetition_of r = None
 
 -- the shifts that a repetition lists; type 0 lists none

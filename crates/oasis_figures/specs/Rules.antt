@@ -7,7 +7,7 @@ use Rattle.lvl_path.specs.Runs.{IsLowestFault}
 use Rattle.lvl_path.specs.declared.fault.PathFault.{PathFault}
 use Rattle.oasis_values.specs.declared.repetition.Repetition.{Repetition}
 use Rattle.oasis_records.specs.declared.record.Record.{Record}
-use Rattle.oasis_records.specs.declared.record.Record.TheVariants.{Placement, Rectangle, Polygon, Path}
+use Rattle.oasis_records.specs.declared.record.Record.TheVariants.{Placement, Rectangle, Polygon, Path, Text}
 use Rattle.oasis_figures.specs.Figures.{number, rectangle_ring, polygon_ring, path_points, half_of, start_of, end_of}
 use Rattle.oasis_figures.specs.Figures.{shifts_of, turn_of, is_magnified}
 use Rattle.oasis_figures.specs.Modal.{geometry, placement}
@@ -50,6 +50,7 @@ taken (Polygon p) = Layer ∷ Datatype ∷ PolygonPointList ∷ of_repetition p.
 taken (Path p) =
     Layer ∷ Datatype ∷ PathHalfWidth ∷ PathStartExtension ∷ PathEndExtension ∷ PathPointList
     ∷ of_repetition p.position.repetition
+taken (Text r) = of_repetition r
 taken r = []
 
 abbrev pub first_undefined : (Variable → Bool) → List Variable → Option Variable

@@ -29,5 +29,6 @@ mod position;
 mod rectangle;
 mod repetition;
 mod rule;
+mod text;
 mod variable;
 mod vertices;

@@ -94,6 +94,7 @@ impl Modal {
             Record::Polygon(polygon) => self.take_polygon(alloc, polygon),
             Record::Path(path) => self.take_path(alloc, path),
             Record::Placement(placement) => self.take_placement(placement),
+            Record::Text(repetition) => self.take_text(repetition),
             Record::XyAbsolute => self.take_mode(false),
             Record::XyRelative => self.take_mode(true),
             other => self.take_other(other),

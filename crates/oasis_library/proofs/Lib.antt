@@ -6,3 +6,4 @@ pub mod Holding
 pub mod Readable
 pub mod Ends
 pub mod Loop
+pub mod Ignoring

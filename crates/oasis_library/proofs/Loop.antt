@@ -3,10 +3,12 @@ use Rattle.std.proofs.Common.{◌≡◌, ℕ, ◌<◌, true, false, List, [], �
 use Rattle.std.proofs.Common.{sym, ap, ◌∙◌, subst, arith, length-append}
 use Rattle.std.specs.Prelude.{Option, Result}
 use Rattle.lvl_refusal.specs.declared.Refusal.{Refusal}
+use Rattle.lvl_ignore.specs.declared.ignore.Ignore.{Ignore}
+use Rattle.oasis_stream.proofs.Seen.{answers_under}
 use Rattle.oasis_values.specs.declared.fault.ValueFault.{ValueFault}
 use Rattle.std.specs.Borrow.{GName}
 use Rattle.lvl_grammar.specs.inside.ReadTo.{ReadTo}
-use Rattle.oasis_values.specs.Input.{bytes_left, input_offset, has_failed, input_reader}
+use Rattle.oasis_values.specs.Input.{bytes_left, input_offset, has_failed, input_reader, input_ignore}
 use Rattle.oasis_values.specs.Reads.{Reads}
 use Rattle.oasis_values.specs.declared.input.Input.{Input}
 use Rattle.oasis_records.specs.declared.end.Validation.{Validation}
@@ -41,8 +43,8 @@ none_ended e = omega (arith, ap length e.2, length-append e.0 (item (End e.1) �
 abbrev IsNothing : List Item → Type 0
 IsNothing is = is ≡ []
 
-start_to : (xs : List ℕ) (at : ℕ) (left : Option (List ℕ)) → at ≡ 0 → left ≡ Some xs → ReadTo oasis xs at IsNothing left
-start_to xs at left e k = record {
+start_to : (ignore : Ignore) (xs : List ℕ) (at : ℕ) (left : Option (List ℕ)) → at ≡ 0 → left ≡ Some xs → ReadTo (oasis ignore) xs at IsNothing left
+start_to ignore xs at left e k = record {
   records = [];
   front = record {
     spelled = ap (λ i. take i xs) e;
@@ -55,14 +57,14 @@ start_to xs at left e k = record {
 }
 
 -- the magic string was read
-pub first_on : {R : Type 0} {remaining : R → Option (List ℕ)} {errors : R → ℕ} {lent : R → List GName} (xs : List ℕ)
+pub first_on : {R : Type 0} {remaining : R → Option (List ℕ)} {errors : R → ℕ} {lent : R → List GName} (ignore : Ignore) (xs : List ℕ)
     (x : Reading) {old new : Input R}
-    → has_failed old ≡ false → input_offset old ≡ 0 → bytes_left remaining old ≡ Some xs → Holds x []
+    → has_failed old ≡ false → input_ignore old ≡ ignore → input_offset old ≡ 0 → bytes_left remaining old ≡ Some xs → Holds x []
     → Reads remaining errors lent (IsItem []) old new (Ok (Ok magic))
-    → ReadTo oasis xs (input_offset new) (HasBegun x) (bytes_left remaining new)
-first_on {remaining = remaining} {errors = errors} {lent = lent} xs x {old = old} {new = new} live start known h p =
-    let to = start_to xs (input_offset old) (bytes_left remaining old) start known in
-    item_on xs IsNothing (HasBegun x) to magic live
+    → ReadTo (oasis ignore) xs (input_offset new) (HasBegun x) (bytes_left remaining new)
+first_on {remaining = remaining} {errors = errors} {lent = lent} ignore xs x {old = old} {new = new} live under start known h p =
+    let to = start_to ignore xs (input_offset old) (bytes_left remaining old) start known in
+    item_on ignore xs IsNothing (HasBegun x) to magic live under
     (subst (λ is. Reads remaining errors lent (IsItem is) old new (Ok (Ok magic))) (sym to.holds) p)
     ((λ e. none_ended (subst IsEnded to.holds e)), λ k b. b)
     (subst (λ is. HasBegun x (is ++ magic ∷ [])) (sym to.holds)
@@ -70,13 +72,13 @@ first_on {remaining = remaining} {errors = errors} {lent = lent} xs x {old = old
 
 -- or refused
 pub first_refused : {R : Type 0} {remaining : R → Option (List ℕ)} {errors : R → ℕ} {lent : R → List GName}
-    (xs : List ℕ) {old new : Input R} (k : OasisKind)
-    → has_failed old ≡ false → input_offset old ≡ 0 → bytes_left remaining old ≡ Some xs
-    → Reads remaining errors lent (IsItem []) old new (of_kind k) → RefusesAt xs (remaining (input_reader new)) 0 k
-first_refused {remaining = remaining} {errors = errors} {lent = lent} xs {old = old} {new = new} k live start known p =
-    let to = start_to xs (input_offset old) (bytes_left remaining old) start known in
-    subst (λ i. RefusesAt xs (remaining (input_reader new)) i k) start
-    (next_refuses xs to k live (λ e. none_ended (subst IsEnded to.holds e))
+    (ignore : Ignore) (xs : List ℕ) {old new : Input R} (k : OasisKind)
+    → has_failed old ≡ false → input_ignore old ≡ ignore → input_offset old ≡ 0 → bytes_left remaining old ≡ Some xs
+    → Reads remaining errors lent (IsItem []) old new (of_kind k) → RefusesAt ignore xs (remaining (input_reader new)) 0 k
+first_refused {remaining = remaining} {errors = errors} {lent = lent} ignore xs {old = old} {new = new} k live under start known p =
+    let to = start_to ignore xs (input_offset old) (bytes_left remaining old) start known in
+    subst (λ i. RefusesAt ignore xs (remaining (input_reader new)) i k) start
+    (next_refuses ignore xs to k live under (λ e. none_ended (subst IsEnded to.holds e))
     (subst (λ is. Reads remaining errors lent (IsItem is) old new (of_kind k)) (sym to.holds) p))
 
 -- after the magic string, the next item is a record
@@ -92,14 +94,14 @@ as_item {remaining = remaining} {errors = errors} {lent = lent} x is {old = old}
 abbrev pub HasMore : Reading → Record → List Item → Type 0
 HasMore y r js = HasRead y js × (is : List Item) × (js ≡ is ++ item r ∷ []) × (rest : List Item) × (is ≡ magic ∷ rest)
 
-pub record_on : {R : Type 0} {remaining : R → Option (List ℕ)} {errors : R → ℕ} {lent : R → List GName} (xs : List ℕ)
+pub record_on : {R : Type 0} {remaining : R → Option (List ℕ)} {errors : R → ℕ} {lent : R → List GName} (ignore : Ignore) (xs : List ℕ)
     (x y : Reading) (r : Record) {old new : Input R}
-    (to : ReadTo oasis xs (input_offset old) (HasBegun x) (bytes_left remaining old))
-    → has_failed old ≡ false → Reads remaining errors lent (IsNext (records to.records)) old new (Ok (Ok (item r)))
+    (to : ReadTo (oasis ignore) xs (input_offset old) (HasBegun x) (bytes_left remaining old))
+    → has_failed old ≡ false → input_ignore old ≡ ignore → Reads remaining errors lent (IsNext (records to.records)) old new (Ok (Ok (item r)))
     → Holds y (records to.records ++ r ∷ []) → ((k : OasisKind) → RecordBreaches (records to.records) r k → ⊥)
-    → ReadTo oasis xs (input_offset new) (HasMore y r) (bytes_left remaining new)
-record_on {R = R} xs x y r to live p h none =
-    item_on xs (HasBegun x) (HasMore y r) to (item r) live (as_item x to.records to.holds p) (to.holds.1, none)
+    → ReadTo (oasis ignore) xs (input_offset new) (HasMore y r) (bytes_left remaining new)
+record_on {R = R} ignore xs x y r to live under p h none =
+    item_on ignore xs (HasBegun x) (HasMore y r) to (item r) live under (as_item x to.records to.holds p) (to.holds.1, none)
     (subst (Holds y) (sym (records-snoc to.records r)) h, to.records, refl, to.holds.2, to.holds.3)
 
 -- the record is the last, or isn't
@@ -124,9 +126,9 @@ more_whole y r js e m =
     let v = end_is r e in
     (m.0, (m.1, v.0, m.2 ∙ ap (λ (i : Record). m.1 ++ item i ∷ []) v.1))
 
-abbrev pub reads_as : (xs : List ℕ) (at : ℕ) (P Q : List Item → Type 0) (left : Option (List ℕ))
-    → ReadTo oasis xs at P left → ((is : List Item) → P is → Q is) → ReadTo oasis xs at Q left
-reads_as xs at P Q left to h =
+abbrev pub reads_as : (ignore : Ignore) (xs : List ℕ) (at : ℕ) (P Q : List Item → Type 0) (left : Option (List ℕ))
+    → ReadTo (oasis ignore) xs at P left → ((is : List Item) → P is → Q is) → ReadTo (oasis ignore) xs at Q left
+reads_as ignore xs at P Q left to h =
     record {
       records = to.records;
       front = to.front;
@@ -136,41 +138,41 @@ reads_as xs at P Q left to h =
     }
 
 -- a record takes a byte at least
-pub record_takes : {R : Type 0} {remaining : R → Option (List ℕ)} {errors : R → ℕ} {lent : R → List GName} (xs : List ℕ)
+pub record_takes : {R : Type 0} {remaining : R → Option (List ℕ)} {errors : R → ℕ} {lent : R → List GName} (ignore : Ignore) (xs : List ℕ)
     (x : Reading) (i : Item) {old new : Input R}
-    (to : ReadTo oasis xs (input_offset old) (HasBegun x) (bytes_left remaining old))
-    → has_failed old ≡ false → Reads remaining errors lent (IsNext (records to.records)) old new (Ok (Ok i))
+    (to : ReadTo (oasis ignore) xs (input_offset old) (HasBegun x) (bytes_left remaining old))
+    → has_failed old ≡ false → input_ignore old ≡ ignore → Reads remaining errors lent (IsNext (records to.records)) old new (Ok (Ok i))
     → input_offset old < input_offset new
-record_takes {R = R} xs x i {old = old} to live p =
+record_takes {R = R} ignore xs x i {old = old} to live under p =
     let q = as_item x to.records to.holds p in
-    let f = (q.answers live (drop (input_offset old) xs) to.left_is).0 in
-    omega (arith, item_needs to.records f.bytes (Ok (Ok i)) f.says, f.count)
+    let f = (answers_under ignore under q live (drop (input_offset old) xs) to.left_is).0 in
+    omega (arith, item_needs ignore to.records f.bytes (Ok (Ok i)) f.says, f.count)
 
-pub first_takes : {R : Type 0} {remaining : R → Option (List ℕ)} {errors : R → ℕ} {lent : R → List GName} (xs : List ℕ)
+pub first_takes : {R : Type 0} {remaining : R → Option (List ℕ)} {errors : R → ℕ} {lent : R → List GName} (ignore : Ignore) (xs : List ℕ)
     (i : Item) {old new : Input R}
-    → has_failed old ≡ false → bytes_left remaining old ≡ Some xs
+    → has_failed old ≡ false → input_ignore old ≡ ignore → bytes_left remaining old ≡ Some xs
     → Reads remaining errors lent (IsItem []) old new (Ok (Ok i)) → 0 < input_offset new
-first_takes xs i live known p =
-    let f = (p.answers live xs known).0 in
-    omega (arith, item_needs [] f.bytes (Ok (Ok i)) f.says, f.count)
+first_takes ignore xs i live under known p =
+    let f = (answers_under ignore under p live xs known).0 in
+    omega (arith, item_needs ignore [] f.bytes (Ok (Ok i)) f.says, f.count)
 
 -- the next record was refused as it was read
-pub next_refused : {R : Type 0} {remaining : R → Option (List ℕ)} {errors : R → ℕ} {lent : R → List GName} (xs : List ℕ)
+pub next_refused : {R : Type 0} {remaining : R → Option (List ℕ)} {errors : R → ℕ} {lent : R → List GName} (ignore : Ignore) (xs : List ℕ)
     (x : Reading) {old new : Input R}
-    (to : ReadTo oasis xs (input_offset old) (HasBegun x) (bytes_left remaining old)) (e : Refusal OasisKind)
-    → has_failed old ≡ false → Reads remaining errors lent (IsNext (records to.records)) old new (told_record (Err e))
-    → Says (refused_at (input_offset old) e) (Refuses xs (remaining (input_reader new)))
-next_refused xs x to (Breach k) live p = next_refuses xs to k live to.holds.1 (as_item x to.records to.holds p)
-next_refused xs x to OutOfMemory live p = tt
+    (to : ReadTo (oasis ignore) xs (input_offset old) (HasBegun x) (bytes_left remaining old)) (e : Refusal OasisKind)
+    → has_failed old ≡ false → input_ignore old ≡ ignore → Reads remaining errors lent (IsNext (records to.records)) old new (told_record (Err e))
+    → Says (refused_at (input_offset old) e) (Refuses ignore xs (remaining (input_reader new)))
+next_refused ignore xs x to (Breach k) live under p = next_refuses ignore xs to k live under to.holds.1 (as_item x to.records to.holds p)
+next_refused ignore xs x to OutOfMemory live under p = tt
 
 -- a record was refused that was read whole
-pub take_refused : {R : Type 0} {remaining : R → Option (List ℕ)} {errors : R → ℕ} {lent : R → List GName} (xs : List ℕ)
+pub take_refused : {R : Type 0} {remaining : R → Option (List ℕ)} {errors : R → ℕ} {lent : R → List GName} (ignore : Ignore) (xs : List ℕ)
     (x : Reading) (r : Record) {old new : Input R}
-    (to : ReadTo oasis xs (input_offset old) (HasBegun x) (bytes_left remaining old)) (e : Refusal OasisKind)
-    → has_failed old ≡ false → Reads remaining errors lent (IsNext (records to.records)) old new (Ok (Ok (item r)))
+    (to : ReadTo (oasis ignore) xs (input_offset old) (HasBegun x) (bytes_left remaining old)) (e : Refusal OasisKind)
+    → has_failed old ≡ false → input_ignore old ≡ ignore → Reads remaining errors lent (IsNext (records to.records)) old new (Ok (Ok (item r)))
     → Says e (λ k. (rs : List Record) → Holds x rs → RecordBreaches rs r k)
-    → Says (refused_at (input_offset old) e) (Refuses xs (remaining (input_reader new)))
-take_refused xs x r to (Breach k) live p b =
-    breach_refuses xs to (item r) k live to.holds.1 (b (records to.records) to.holds.0)
+    → Says (refused_at (input_offset old) e) (Refuses ignore xs (remaining (input_reader new)))
+take_refused ignore xs x r to (Breach k) live under p b =
+    breach_refuses ignore xs to (item r) k live under to.holds.1 (b (records to.records) to.holds.0)
     (as_item x to.records to.holds p)
-take_refused xs x r to OutOfMemory live p b = tt
+take_refused ignore xs x r to OutOfMemory live under p b = tt

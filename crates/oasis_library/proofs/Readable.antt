@@ -11,6 +11,7 @@ use Rattle.lvl_grammar.proofs.Reading.{unread_front}
 use Rattle.lvl_grammar.proofs.Stuck.{seen_stuck, seen_hopeless, stuck_none, truncated_none}
 use Rattle.lvl_path.specs.Figure.{Figure}
 use Rattle.lvl_cells.specs.Cells.{PlainCell, Rings}
+use Rattle.lvl_ignore.specs.declared.ignore.Ignore.{Ignore}
 use Rattle.oasis_values.specs.declared.fault.ValueFault.TheVariants.{Truncated, Read}
 use Rattle.oasis_stream.specs.Ends.{TellsAt}
 use Rattle.oasis_stream.specs.Front.{oasis}
@@ -31,14 +32,14 @@ use Rattle.oasis_library.specs.declared.fault.OasisFault.TheVariants.{At, Unreso
 use Rattle.oasis_library.specs.declared.head.OasisHead.{OasisHead}
 use Rattle.oasis_library.proofs.Resolving.{cells_named, unnamed_none, same_cells, kept_cells, numbers_kept}
 
-same_items : (xs : List ℕ) (is js : List Item) → SpellsWhole oasis xs is → SpellsWhole oasis xs js → is ≡ js
-same_items xs is js p q = one_whole oasis is_grammar xs is js p q
+same_items : (ignore : Ignore) (xs : List ℕ) (is js : List Item) → SpellsWhole (oasis ignore) xs is → SpellsWhole (oasis ignore) xs js → is ≡ js
+same_items ignore xs is js p q = one_whole (oasis ignore) (is_grammar ignore) xs is js p q
 
 -- bytes spell one library at most
-law_only : (xs : List ℕ) (cells ds : List (PlainCell Figure)) (h g : OasisHead) → SpellsLibrary xs cells h
-    → SpellsLibrary xs ds g → (ds ≡ cells) × (g ≡ h)
-law_only xs cells ds h g p q =
-    let e = same_items xs q.items p.items q.whole p.whole in
+pub law_only : (ignore : Ignore) (xs : List ℕ) (cells ds : List (PlainCell Figure)) (h g : OasisHead) → SpellsLibrary ignore xs cells h
+    → SpellsLibrary ignore xs ds g → (ds ≡ cells) × (g ≡ h)
+law_only ignore xs cells ds h g p q =
+    let e = same_items ignore xs q.items p.items q.whole p.whole in
     let are : AreCells (names_in (records p.items)) (drawings (records p.items)) ds =
     subst (λ is. AreCells (names_in (records is)) (drawings (records is)) ds) e q.cells_are in (
       same_cells (names_in (records p.items)) (drawings (records p.items)) cells ds p.cells_are are,
@@ -47,12 +48,12 @@ law_only xs cells ds h g p q =
     )
 
 -- what was read of a whole file is the library that it spells
-pub law_read : (xs : List ℕ) (is : List Item) (found : List (PlainCell Rings)) (h : OasisHead) → SpellsWhole oasis xs is
+pub law_read : (ignore : Ignore) (xs : List ℕ) (is : List Item) (found : List (PlainCell Rings)) (h : OasisHead) → SpellsWhole (oasis ignore) xs is
     → AreCells (names_in (records is)) (map with_rings (drawings (records is))) found → h ≡ head_of (records is)
-    → IsRead xs found h
-law_read xs is found h whole are head =
+    → IsRead ignore xs found h
+law_read ignore xs is found h whole are head =
     let k = kept_cells (names_in (records is)) (drawings (records is)) found are in
-    let spelled : SpellsLibrary xs k.cells h = record {
+    let spelled : SpellsLibrary ignore xs k.cells h = record {
       items = is;
       whole = whole;
       cells_are = k.are;
@@ -61,103 +62,103 @@ law_read xs is found h whole are head =
     record {
       cells = k.cells;
       spelled = spelled;
-      only = λ others g q. law_only xs k.cells others h g spelled q;
+      only = λ others g q. law_only ignore xs k.cells others h g spelled q;
       kept_as = k.kept_as;
     }
 
 -- a number that no name has, of the cells as they are kept
-pub law_unresolved : (xs : List ℕ) (is : List Item) (n : ℕ) → SpellsWhole oasis xs is
-    → IsUnnamed (names_in (records is)) (numbers_used (map with_rings (drawings (records is)))) n → TellsUnresolved xs n
-law_unresolved xs is n whole u =
+pub law_unresolved : (ignore : Ignore) (xs : List ℕ) (is : List Item) (n : ℕ) → SpellsWhole (oasis ignore) xs is
+    → IsUnnamed (names_in (records is)) (numbers_used (map with_rings (drawings (records is)))) n → TellsUnresolved ignore xs n
+law_unresolved ignore xs is n whole u =
     (is, whole, subst (λ l. IsUnnamed (names_in (records is)) l n) (numbers_kept (drawings (records is))) u)
 
 -- where there is no whole file no library is spelled
-none_spelled : (xs : List ℕ) → SpellsNothing oasis xs → SpellsNone xs
-none_spelled xs n cells h p = n p.items p.whole
+none_spelled : (ignore : Ignore) (xs : List ℕ) → SpellsNothing (oasis ignore) xs → SpellsNone ignore xs
+none_spelled ignore xs n cells h p = n p.items p.whole
 
-none_resolved : (xs : List ℕ) (n : ℕ) → TellsUnresolved xs n → SpellsNone xs
-none_resolved xs n t cells h p =
-    let e = same_items xs p.items t.0 p.whole t.1 in
+none_resolved : (ignore : Ignore) (xs : List ℕ) (n : ℕ) → TellsUnresolved ignore xs n → SpellsNone ignore xs
+none_resolved ignore xs n t cells h p =
+    let e = same_items ignore xs p.items t.0 p.whole t.1 in
     let are : AreCells (names_in (records t.0)) (drawings (records t.0)) cells =
     subst (λ is. AreCells (names_in (records is)) (drawings (records is)) cells) e p.cells_are in
     unnamed_none (names_in (records t.0)) (numbers_used (drawings (records t.0))) n
     (cells_named (names_in (records t.0)) (drawings (records t.0)) cells are) t.2
 
 -- what a refusal says
-tells_at : (xs : List ℕ) (left : Option (List ℕ)) (at : ℕ) (k : OasisKind) → RefusesAt xs left at k → TellsAt xs at k
-tells_at xs left at (Value Truncated) x = x
-tells_at xs left at (Value Read) x = unread_front oasis xs left at x
-tells_at xs left at other x = seen_stuck oasis is_grammar xs at left other x
+tells_at : (ignore : Ignore) (xs : List ℕ) (left : Option (List ℕ)) (at : ℕ) (k : OasisKind) → RefusesAt ignore xs left at k → TellsAt ignore xs at k
+tells_at ignore xs left at (Value Truncated) x = x
+tells_at ignore xs left at (Value Read) x = unread_front (oasis ignore) xs left at x
+tells_at ignore xs left at other x = seen_stuck (oasis ignore) (is_grammar ignore) xs at left other x
 
-tells : (xs : List ℕ) (left : Option (List ℕ)) (f : OasisFault) → Refuses xs left f → Tells xs f
-tells xs left (At at k) x = tells_at xs left at k x
-tells xs left (Unresolved n) x = x
+tells : (ignore : Ignore) (xs : List ℕ) (left : Option (List ℕ)) (f : OasisFault) → Refuses ignore xs left f → Tells ignore xs f
+tells ignore xs left (At at k) x = tells_at ignore xs left at k x
+tells ignore xs left (Unresolved n) x = x
 
-none_at : (xs : List ℕ) (left : Option (List ℕ)) (at : ℕ) (k : OasisKind) → RefusesAt xs left at k
+none_at : (ignore : Ignore) (xs : List ℕ) (left : Option (List ℕ)) (at : ℕ) (k : OasisKind) → RefusesAt ignore xs left at k
     → (IsExcused (At at k) → ⊥)
-    → SpellsNone xs
-none_at xs left at (Value Truncated) x n = none_spelled xs (truncated_none oasis is_grammar xs at x)
-none_at xs left at (Value Read) x n = absurd (n tt)
-none_at xs left at other x n =
-    none_spelled xs (stuck_none oasis xs at (seen_stuck oasis is_grammar xs at left other x).0)
+    → SpellsNone ignore xs
+none_at ignore xs left at (Value Truncated) x n = none_spelled ignore xs (truncated_none (oasis ignore) (is_grammar ignore) xs at x)
+none_at ignore xs left at (Value Read) x n = absurd (n tt)
+none_at ignore xs left at other x n =
+    none_spelled ignore xs (stuck_none (oasis ignore) xs at (seen_stuck (oasis ignore) (is_grammar ignore) xs at left other x).0)
 
-none_of : (xs : List ℕ) (left : Option (List ℕ)) (f : OasisFault) → Refuses xs left f → (IsExcused f → ⊥)
-    → SpellsNone xs
-none_of xs left (At at k) x n = none_at xs left at k x n
-none_of xs left (Unresolved m) x n = none_resolved xs m x
+none_of : (ignore : Ignore) (xs : List ℕ) (left : Option (List ℕ)) (f : OasisFault) → Refuses ignore xs left f → (IsExcused f → ⊥)
+    → SpellsNone ignore xs
+none_of ignore xs left (At at k) x n = none_at ignore xs left at k x n
+none_of ignore xs left (Unresolved m) x n = none_resolved ignore xs m x
 
-early_at : (xs : List ℕ) (left : Option (List ℕ)) (at : ℕ) (k : OasisKind) → RefusesAt xs left at k → IsEarly (At at k)
-    → IsHopeless oasis xs left
-early_at xs left at (Value Truncated) x i = absurd i
-early_at xs left at (Value Read) x i = absurd i
-early_at xs left at other x i = seen_hopeless oasis is_grammar xs at left other x
+early_at : (ignore : Ignore) (xs : List ℕ) (left : Option (List ℕ)) (at : ℕ) (k : OasisKind) → RefusesAt ignore xs left at k → IsEarly (At at k)
+    → IsHopeless (oasis ignore) xs left
+early_at ignore xs left at (Value Truncated) x i = absurd i
+early_at ignore xs left at (Value Read) x i = absurd i
+early_at ignore xs left at other x i = seen_hopeless (oasis ignore) (is_grammar ignore) xs at left other x
 
-early_of : (xs : List ℕ) (left : Option (List ℕ)) (f : OasisFault) → Refuses xs left f → IsEarly f
-    → IsHopeless oasis xs left
-early_of xs left (At at k) x i = early_at xs left at k x i
-early_of xs left (Unresolved n) x i = absurd i
+early_of : (ignore : Ignore) (xs : List ℕ) (left : Option (List ℕ)) (f : OasisFault) → Refuses ignore xs left f → IsEarly f
+    → IsHopeless (oasis ignore) xs left
+early_of ignore xs left (At at k) x i = early_at ignore xs left at k x i
+early_of ignore xs left (Unresolved n) x i = absurd i
 
-unread_at : (xs : List ℕ) (left : Option (List ℕ)) (at : ℕ) (k : OasisKind) → RefusesAt xs left at k
-    → TellsUnread xs left (At at k)
-unread_at xs left at (Value Read) x = x
-unread_at xs left at other x = tt
+unread_at : (ignore : Ignore) (xs : List ℕ) (left : Option (List ℕ)) (at : ℕ) (k : OasisKind) → RefusesAt ignore xs left at k
+    → TellsUnread ignore xs left (At at k)
+unread_at ignore xs left at (Value Read) x = x
+unread_at ignore xs left at other x = tt
 
-unread_of : (xs : List ℕ) (left : Option (List ℕ)) (f : OasisFault) → Refuses xs left f → TellsUnread xs left f
-unread_of xs left (At at k) x = unread_at xs left at k x
-unread_of xs left (Unresolved n) x = tt
+unread_of : (ignore : Ignore) (xs : List ℕ) (left : Option (List ℕ)) (f : OasisFault) → Refuses ignore xs left f → TellsUnread ignore xs left f
+unread_of ignore xs left (At at k) x = unread_at ignore xs left at k x
+unread_of ignore xs left (Unresolved n) x = tt
 
 -- of an answer
-refused : {A : Type 0} (xs : List ℕ) (left : Option (List ℕ)) (P : OasisFault → Type 0)
-    → ((f : OasisFault) → Refuses xs left f → P f) → (r : Result A (Refusal OasisFault))
-    → IfErr r (λ e. Says e (Refuses xs left)) → IfErr r (λ e. Says e P)
-refused xs left P h (Ok x) s = tt
-refused xs left P h (Err (Breach f)) s = h f s
-refused xs left P h (Err OutOfMemory) s = tt
+refused : {A : Type 0} (ignore : Ignore) (xs : List ℕ) (left : Option (List ℕ)) (P : OasisFault → Type 0)
+    → ((f : OasisFault) → Refuses ignore xs left f → P f) → (r : Result A (Refusal OasisFault))
+    → IfErr r (λ e. Says e (Refuses ignore xs left)) → IfErr r (λ e. Says e P)
+refused ignore xs left P h (Ok x) s = tt
+refused ignore xs left P h (Err (Breach f)) s = h f s
+refused ignore xs left P h (Err OutOfMemory) s = tt
 
-pub refused_tells : {A : Type 0} (xs : List ℕ) (left : Option (List ℕ)) (r : Result A (Refusal OasisFault))
-    → IfErr r (λ e. Says e (Refuses xs left)) → IfErr r (λ e. Says e (Tells xs))
-refused_tells xs left = refused xs left (Tells xs) (tells xs left)
+pub refused_tells : {A : Type 0} (ignore : Ignore) (xs : List ℕ) (left : Option (List ℕ)) (r : Result A (Refusal OasisFault))
+    → IfErr r (λ e. Says e (Refuses ignore xs left)) → IfErr r (λ e. Says e (Tells ignore xs))
+refused_tells ignore xs left = refused ignore xs left (Tells ignore xs) (tells ignore xs left)
 
-pub refused_none : {A : Type 0} (xs : List ℕ) (left : Option (List ℕ)) (r : Result A (Refusal OasisFault))
-    → IfErr r (λ e. Says e (Refuses xs left)) → IfErr r (λ e. Says e (λ f. (IsExcused f → ⊥) → SpellsNone xs))
-refused_none xs left = refused xs left (λ f. (IsExcused f → ⊥) → SpellsNone xs) (none_of xs left)
+pub refused_none : {A : Type 0} (ignore : Ignore) (xs : List ℕ) (left : Option (List ℕ)) (r : Result A (Refusal OasisFault))
+    → IfErr r (λ e. Says e (Refuses ignore xs left)) → IfErr r (λ e. Says e (λ f. (IsExcused f → ⊥) → SpellsNone ignore xs))
+refused_none ignore xs left = refused ignore xs left (λ f. (IsExcused f → ⊥) → SpellsNone ignore xs) (none_of ignore xs left)
 
-pub refused_early : {A : Type 0} (xs : List ℕ) (left : Option (List ℕ)) (r : Result A (Refusal OasisFault))
-    → IfErr r (λ e. Says e (Refuses xs left)) → IfErr r (λ e. Says e (λ f. IsEarly f → IsHopeless oasis xs left))
-refused_early xs left = refused xs left (λ f. IsEarly f → IsHopeless oasis xs left) (early_of xs left)
+pub refused_early : {A : Type 0} (ignore : Ignore) (xs : List ℕ) (left : Option (List ℕ)) (r : Result A (Refusal OasisFault))
+    → IfErr r (λ e. Says e (Refuses ignore xs left)) → IfErr r (λ e. Says e (λ f. IsEarly f → IsHopeless (oasis ignore) xs left))
+refused_early ignore xs left = refused ignore xs left (λ f. IsEarly f → IsHopeless (oasis ignore) xs left) (early_of ignore xs left)
 
-refused_unread : {A : Type 0} (xs : List ℕ) (left : Option (List ℕ)) (r : Result A (Refusal OasisFault))
-    → IfErr r (λ e. Says e (Refuses xs left)) → IfErr r (λ e. Says e (TellsUnread xs left))
-refused_unread xs left = refused xs left (TellsUnread xs left) (unread_of xs left)
+refused_unread : {A : Type 0} (ignore : Ignore) (xs : List ℕ) (left : Option (List ℕ)) (r : Result A (Refusal OasisFault))
+    → IfErr r (λ e. Says e (Refuses ignore xs left)) → IfErr r (λ e. Says e (TellsUnread ignore xs left))
+refused_unread ignore xs left = refused ignore xs left (TellsUnread ignore xs left) (unread_of ignore xs left)
 
 -- of the bytes that are left in the end
-pub unread_left : {A : Type 0} (xs : List ℕ) (left left' : Option (List ℕ)) (r : Result A (Refusal OasisFault))
-    → IfErr r (λ e. Says e (Refuses xs left)) → left ≡ left' → IfErr r (λ e. Says e (TellsUnread xs left'))
-unread_left xs left left' r h e =
-    subst (λ l. IfErr r (λ e. Says e (TellsUnread xs l))) e (refused_unread xs left r h)
+pub unread_left : {A : Type 0} (ignore : Ignore) (xs : List ℕ) (left left' : Option (List ℕ)) (r : Result A (Refusal OasisFault))
+    → IfErr r (λ e. Says e (Refuses ignore xs left)) → left ≡ left' → IfErr r (λ e. Says e (TellsUnread ignore xs left'))
+unread_left ignore xs left left' r h e =
+    subst (λ l. IfErr r (λ e. Says e (TellsUnread ignore xs l))) e (refused_unread ignore xs left r h)
 
-pub early_left : {A : Type 0} (xs : List ℕ) (left left' : Option (List ℕ)) (r : Result A (Refusal OasisFault))
-    → IfErr r (λ e. Says e (Refuses xs left)) → left ≡ left'
-    → IfErr r (λ e. Says e (λ f. IsEarly f → IsHopeless oasis xs left'))
-early_left xs left left' r h e =
-    subst (λ l. IfErr r (λ e. Says e (λ f. IsEarly f → IsHopeless oasis xs l))) e (refused_early xs left r h)
+pub early_left : {A : Type 0} (ignore : Ignore) (xs : List ℕ) (left left' : Option (List ℕ)) (r : Result A (Refusal OasisFault))
+    → IfErr r (λ e. Says e (Refuses ignore xs left)) → left ≡ left'
+    → IfErr r (λ e. Says e (λ f. IsEarly f → IsHopeless (oasis ignore) xs left'))
+early_left ignore xs left left' r h e =
+    subst (λ l. IfErr r (λ e. Says e (λ f. IsEarly f → IsHopeless (oasis ignore) xs l))) e (refused_early ignore xs left r h)

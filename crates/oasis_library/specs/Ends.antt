@@ -4,6 +4,7 @@ use Rattle.lvl_refusal.specs.declared.Refusal.{Refusal}
 use Rattle.lvl_refusal.specs.declared.Refusal.TheVariants.{Breach, OutOfMemory}
 use Rattle.lvl_grammar.specs.Front.{SpellsWhole}
 use Rattle.lvl_grammar.specs.Refused.{IsUnread}
+use Rattle.lvl_ignore.specs.declared.ignore.Ignore.{Ignore}
 use Rattle.oasis_values.specs.declared.fault.ValueFault.TheVariants.{Truncated, Read}
 use Rattle.oasis_stream.specs.Ends.{TellsAt, is_read_kind}
 use Rattle.oasis_stream.specs.Front.{oasis}
@@ -16,14 +17,14 @@ use Rattle.oasis_library.specs.declared.fault.OasisFault.{OasisFault}
 use Rattle.oasis_library.specs.declared.fault.OasisFault.TheVariants.{At, Unresolved}
 
 -- the bytes are a whole file, and of the numbers that its cells use this is the first that no name has
-abbrev pub TellsUnresolved : List ℕ → ℕ → Type 0
-TellsUnresolved xs n =
-    (is : List Item) × SpellsWhole oasis xs is × IsUnnamed (names_in (records is))
+abbrev pub TellsUnresolved : Ignore → List ℕ → ℕ → Type 0
+TellsUnresolved ignore xs n =
+    (is : List Item) × SpellsWhole (oasis ignore) xs is × IsUnnamed (names_in (records is))
     (numbers_used (drawings (records is))) n
 
-abbrev pub Tells : List ℕ → OasisFault → Type 0
-Tells xs (At at k) = TellsAt xs at k
-Tells xs (Unresolved n) = TellsUnresolved xs n
+abbrev pub Tells : Ignore → List ℕ → OasisFault → Type 0
+Tells ignore xs (At at k) = TellsAt ignore xs at k
+Tells ignore xs (Unresolved n) = TellsUnresolved ignore xs n
 
 -- the fault says nothing of the input: the reader failed
 abbrev pub IsExcused : OasisFault → Type 0
@@ -32,9 +33,9 @@ IsExcused f = ⊥
 
 -- where the reader failed, the bytes before the offset are a front, and those from it on that it gave are none or an
 -- unfinished beginning of a record; the others are left
-abbrev pub TellsUnread : List ℕ → Option (List ℕ) → OasisFault → Type 0
-TellsUnread xs left (At at (Value Read)) = IsUnread oasis xs left at
-TellsUnread xs left f = Unit {0}
+abbrev pub TellsUnread : Ignore → List ℕ → Option (List ℕ) → OasisFault → Type 0
+TellsUnread ignore xs left (At at (Value Read)) = IsUnread (oasis ignore) xs left at
+TellsUnread ignore xs left f = Unit {0}
 
 -- the fault is reported as soon as it is seen, whatever may still come: the input needn't have ended, and the reader
 -- didn't fail

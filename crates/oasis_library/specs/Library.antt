@@ -3,6 +3,7 @@ use Rattle.std.specs.Prelude.{◌≡◌, ℕ, List}
 use Rattle.lvl_grammar.specs.Front.{SpellsWhole}
 use Rattle.lvl_path.specs.Figure.{Figure, figure_rings}
 use Rattle.lvl_cells.specs.Cells.{PlainCell, Rings, kept}
+use Rattle.lvl_ignore.specs.declared.ignore.Ignore.{Ignore}
 use Rattle.oasis_stream.specs.Front.{oasis}
 use Rattle.oasis_stream.specs.Items.{Item, records}
 use Rattle.oasis_stream.specs.Order.{names_in}
@@ -11,22 +12,23 @@ use Rattle.oasis_library.specs.Head.{head_of}
 use Rattle.oasis_library.specs.Names.{AreCells}
 use Rattle.oasis_library.specs.declared.head.OasisHead.{OasisHead}
 
--- the bytes spell a library and a head: they are a whole file, the cells are those that its records draw, by the names
--- that its
--- CELLNAME records give, and the head is what its START and END say
-pub record SpellsLibrary (bytes : List ℕ) (cells : List (PlainCell Figure)) (h : OasisHead) : Type 0 where
-  pub items : List Item
-  pub whole : SpellsWhole oasis bytes items
-  pub cells_are : AreCells (names_in (records items)) (drawings (records items)) cells
-  pub head_is : h ≡ head_of (records items)
+-- for a reader that ignores these, the bytes spell a library and a head: they are a whole file, the cells are those that
+-- its records draw, by the names that its CELLNAME records give, and the head is what its START and END say
+pub record SpellsLibrary (ignore : Ignore) (bytes : List ℕ) (cells : List (PlainCell Figure)) (h : OasisHead) : Type 0
+  where
+    pub items : List Item
+    pub whole : SpellsWhole (oasis ignore) bytes items
+    pub cells_are : AreCells (names_in (records items)) (drawings (records items)) cells
+    pub head_is : h ≡ head_of (records items)
 
 -- the bytes spell no library
-abbrev pub SpellsNone : List ℕ → Type 0
-SpellsNone xs = (cells : List (PlainCell Figure)) (h : OasisHead) → SpellsLibrary xs cells h → ⊥
+abbrev pub SpellsNone : Ignore → List ℕ → Type 0
+SpellsNone ignore xs = (cells : List (PlainCell Figure)) (h : OasisHead) → SpellsLibrary ignore xs cells h → ⊥
 
 -- what was read is the one library that the bytes spell, as it is kept, and its head
-pub record IsRead (xs : List ℕ) (found : List (PlainCell Rings)) (h : OasisHead) : Type 0 where
+pub record IsRead (ignore : Ignore) (xs : List ℕ) (found : List (PlainCell Rings)) (h : OasisHead) : Type 0 where
   pub cells : List (PlainCell Figure)
-  pub spelled : SpellsLibrary xs cells h
-  pub only : (others : List (PlainCell Figure)) (g : OasisHead) → SpellsLibrary xs others g → (others ≡ cells) × (g ≡ h)
+  pub spelled : SpellsLibrary ignore xs cells h
+  pub only : (others : List (PlainCell Figure)) (g : OasisHead) → SpellsLibrary ignore xs others g
+      → (others ≡ cells) × (g ≡ h)
   pub kept_as : found ≡ kept figure_rings cells

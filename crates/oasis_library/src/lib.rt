@@ -19,7 +19,7 @@ pub use oasis_figures::{FigureRule, Variable};
 pub use oasis_records::RecordRule;
 pub use oasis_stream::{NameRule, OasisKind};
 pub use oasis_values::{Real, ValueFault};
-pub use read::read_oasis;
+pub use read::{read_oasis, read_oasis_by};
 
 mod cells;
 mod drawing;

@@ -4,7 +4,8 @@ ghost use Rattle.lvl_io.specs.Bytes.{CountsFailure};
 ghost use Rattle.lvl_refusal.specs.Refused.{Says};
 ghost use Rattle.lvl_grammar.specs.Refused.{IsHopeless};
 ghost use Rattle.lvl_grammar.specs.inside.ReadTo.{ReadTo};
-ghost use Rattle.oasis_values.specs.Input.{has_failed, bytes_left, input_offset, input_reader};
+ghost use Rattle.lvl_ignore.specs.Ignored.{nothing};
+ghost use Rattle.oasis_values.specs.Input.{has_failed, bytes_left, input_ignore, input_offset, input_reader};
 ghost use Rattle.lvl_grammar.specs.Front.{SpellsWhole};
 ghost use Rattle.oasis_stream.specs.Front.{oasis};
 ghost use Rattle.oasis_stream.specs.Items.{IsEnded};
@@ -19,6 +20,7 @@ use crate::fault::OasisFault;
 use crate::head::OasisHead;
 use crate::reading::Reading;
 use lvl_cells::Library;
+use lvl_ignore::Ignore;
 use lvl_io::Read;
 use lvl_refusal::Refusal;
 use oasis_records::Record;
@@ -44,28 +46,63 @@ pub fn read_oasis<R: Read>(
 ) -> Result<(Library, OasisHead), Refusal<OasisFault>>
     // What is read is spelled, and nothing else is.
     ensures spelled { (xs : List ℕ) → R.remaining reader.old ≡ Some xs
-        → IfOk result (λ read. IsRead xs read.0 read.1) }
+        → IfOk result (λ read. IsRead nothing xs read.0 read.1) }
 
     // A refusal names what is wrong, and nothing is spelled, unless an allocation or the reader failed.
     ensures refused { (xs : List ℕ) → R.remaining reader.old ≡ Some xs
-        → IfErr result (λ refusal. Says refusal (Tells xs)) }
+        → IfErr result (λ refusal. Says refusal (Tells nothing xs)) }
     ensures none { (xs : List ℕ) → R.remaining reader.old ≡ Some xs
-        → IfErr result (λ refusal. Says refusal (λ fault. (¬ IsExcused fault) → SpellsNone xs)) }
+        → IfErr result (λ refusal. Says refusal (λ fault. (¬ IsExcused fault) → SpellsNone nothing xs)) }
 
     // Where the reader failed, it had given no whole record from the offset on.
     ensures unread { (xs : List ℕ) → R.remaining reader.old ≡ Some xs
-        → IfErr result (λ refusal. Says refusal (TellsUnread xs (R.remaining reader.new))) }
+        → IfErr result (λ refusal. Says refusal (TellsUnread nothing xs (R.remaining reader.new))) }
 
     // Unless the input ended, nothing is spelled whatever comes after the bytes taken.
     ensures early { (xs : List ℕ) → R.remaining reader.old ≡ Some xs
         → IfErr result (λ refusal. Says refusal (λ fault. IsEarly fault
-        → IsHopeless oasis xs (R.remaining reader.new))) }
+        → IsHopeless (oasis nothing) xs (R.remaining reader.new))) }
 
     // The reader failed once where `Read` is reported, and else never.
     ensures reads { CountsFailure (R.read_errors reader.old) (R.read_errors reader.new) (is_read result) }
     ensures same { R.lent reader.new ≡ R.lent reader.old }
 {
-    let mut input = Input::new(reader);
+    read_oasis_by(alloc, reader, Ignore::NOTHING)
+}
+
+/// The library that an OASIS file spells, and what the file says of itself, where these records and
+/// this padding are ignored: each is read as the standard lays it out, and draws nothing.
+///
+/// All that [`read_oasis`] says holds with these. What it reads is read in the same way, whatever is ignored.
+pub fn read_oasis_by<R: Read>(
+    alloc: Global,
+    reader: &mut R,
+    ignore: Ignore,
+) -> Result<(Library, OasisHead), Refusal<OasisFault>>
+    // What is read is spelled, and nothing else is.
+    ensures spelled { (xs : List ℕ) → R.remaining reader.old ≡ Some xs
+        → IfOk result (λ read. IsRead ignore xs read.0 read.1) }
+
+    // A refusal names what is wrong, and nothing is spelled, unless an allocation or the reader failed.
+    ensures refused { (xs : List ℕ) → R.remaining reader.old ≡ Some xs
+        → IfErr result (λ refusal. Says refusal (Tells ignore xs)) }
+    ensures none { (xs : List ℕ) → R.remaining reader.old ≡ Some xs
+        → IfErr result (λ refusal. Says refusal (λ fault. (¬ IsExcused fault) → SpellsNone ignore xs)) }
+
+    // Where the reader failed, it had given no whole record from the offset on.
+    ensures unread { (xs : List ℕ) → R.remaining reader.old ≡ Some xs
+        → IfErr result (λ refusal. Says refusal (TellsUnread ignore xs (R.remaining reader.new))) }
+
+    // Unless the input ended, nothing is spelled whatever comes after the bytes taken.
+    ensures early { (xs : List ℕ) → R.remaining reader.old ≡ Some xs
+        → IfErr result (λ refusal. Says refusal (λ fault. IsEarly fault
+        → IsHopeless (oasis ignore) xs (R.remaining reader.new))) }
+
+    // The reader failed once where `Read` is reported, and else never.
+    ensures reads { CountsFailure (R.read_errors reader.old) (R.read_errors reader.new) (is_read result) }
+    ensures same { R.lent reader.new ≡ R.lent reader.old }
+{
+    let mut input = Input::new(reader, ignore);
     let read = read_library(alloc, &mut input);
     let _reader = input.into_reader();
     read
@@ -79,9 +116,10 @@ fn read_library<R: Read>(
     requires fresh { has_failed input.old ≡ false }
     requires start { input_offset input.old ≡ 0 }
     ensures spelled { (xs : List ℕ) → bytes_left R.remaining input.old ≡ Some xs
-        → IfOk result (λ read. IsRead xs read.0 read.1) }
+        → IfOk result (λ read. IsRead (input_ignore input.old) xs read.0 read.1) }
     ensures refused { (xs : List ℕ) → bytes_left R.remaining input.old ≡ Some xs
-        → IfErr result (λ refusal. Says refusal (Refuses xs (R.remaining (input_reader input.new)))) }
+        → IfErr result (λ refusal. Says refusal (Refuses (input_ignore input.old) xs
+            (R.remaining (input_reader input.new)))) }
     ensures reads { CountsFailure (R.read_errors (input_reader input.old))
         (R.read_errors (input_reader input.new)) (is_read result) }
     ensures same { R.lent (input_reader input.new) ≡ R.lent (input_reader input.old) }
@@ -103,10 +141,12 @@ fn read_records<R: Read>(
     requires fresh { has_failed input.old ≡ false }
     requires start { input_offset input.old ≡ 0 }
     ensures refused { (xs : List ℕ) → bytes_left R.remaining input.old ≡ Some xs
-        → IfErr result (λ refusal. Says refusal (Refuses xs (R.remaining (input_reader input.new)))) }
+        → IfErr result (λ refusal. Says refusal (Refuses (input_ignore input.old) xs
+            (R.remaining (input_reader input.new)))) }
     ensures whole { IfOk result (λ x. (xs : List ℕ) → bytes_left R.remaining input.old ≡ Some xs
-        → ReadTo oasis xs (input_offset input.new) (HasWhole x) (bytes_left R.remaining input.new)) }
+        → ReadTo (oasis (input_ignore input.old)) xs (input_offset input.new) (HasWhole x) (bytes_left R.remaining input.new)) }
     ensures fresh { OnOk result (has_failed input.new ≡ false) }
+    ensures ignore { OnOk result (input_ignore input.new ≡ input_ignore input.old) }
     ensures reads { CountsFailure (R.read_errors (input_reader input.old))
         (R.read_errors (input_reader input.new)) (is_read result) }
     ensures same { R.lent (input_reader input.new) ≡ R.lent (input_reader input.old) }
@@ -138,11 +178,11 @@ fn read_records<R: Read>(
 fn read_nothing<R: Read>(input: &mut Input<R>) -> Result<(), Refusal<OasisFault>>
     requires { has_failed input.old ≡ false }
     ensures whole { OnOk result ((xs : List ℕ)
-        (to : ReadTo oasis xs (input_offset input.old) IsEnded (bytes_left R.remaining input.old))
-        → SpellsWhole oasis xs to.records) }
+        (to : ReadTo (oasis (input_ignore input.old)) xs (input_offset input.old) IsEnded (bytes_left R.remaining input.old))
+        → SpellsWhole (oasis (input_ignore input.old)) xs to.records) }
     ensures refused { IfErr result (λ refusal. Says refusal (λ fault. (xs : List ℕ)
-        → ReadTo oasis xs (input_offset input.old) IsEnded (bytes_left R.remaining input.old)
-        → Refuses xs (R.remaining (input_reader input.new)) fault)) }
+        → ReadTo (oasis (input_ignore input.old)) xs (input_offset input.old) IsEnded (bytes_left R.remaining input.old)
+        → Refuses (input_ignore input.old) xs (R.remaining (input_reader input.new)) fault)) }
     ensures reads { CountsFailure (R.read_errors (input_reader input.old))
         (R.read_errors (input_reader input.new)) (is_read result) }
     ensures same { R.lent (input_reader input.new) ≡ R.lent (input_reader input.old) }

@@ -1,9 +1,9 @@
 -- The same of the other records.
 use Rattle.std.proofs.Common.{ℕ, ◌/◌, ◌%◌, Bool, true, false, Ok}
+use Rattle.oasis_values.proofs.Codes.{gives_code, then_code, chain_code, seen_code, IsCode}
+use Rattle.oasis_values.proofs.Integers.{byte_code, unsigned_code}
+use Rattle.oasis_values.proofs.Values.{real_code, string_code}
 use Rattle.oasis_values.specs.declared.text.Text.TheVariants.{A, N}
-use Rattle.oasis_values.proofs.Integers.{unsigned_free, unsigned_said}
-use Rattle.lvl_io.proofs.Spelling.{chain_free, chain_said}
-use Rattle.oasis_values.specs.Numbers.{IsUnsigned}
 use Rattle.oasis_records.specs.Fields.{has}
 use Rattle.oasis_records.specs.Cells.{IsCellRef, IsCell, unnumbered, IsCellName, numbered, IsNumberedName}
 use Rattle.oasis_records.specs.Placements.{turn_of, placement, IsCellIf, IsTurnedOf, IsTurned, IsScaledOf, IsScaled}
@@ -12,8 +12,7 @@ use Rattle.oasis_records.specs.Starts.{IsStartOf, IsStart}
 use Rattle.oasis_records.specs.declared.cell.CellRef.TheVariants.{Number, Name}
 use Rattle.oasis_records.specs.declared.placement.Transform.TheVariants.{Turned, Scaled}
 use Rattle.oasis_records.specs.declared.record.Record.TheVariants.{Cell}
-use Rattle.oasis_records.proofs.Codes.{IsCode, gives_code, then_code, seen_code, if_code, byte_code, unsigned_code}
-use Rattle.oasis_records.proofs.Codes.{real_code, string_code, position_code}
+use Rattle.oasis_records.proofs.Codes.{if_code, position_code}
 use Rattle.oasis_records.proofs.Ruling.{and_then_code}
 
 pub cell_ref_code : (b : Bool) → IsCode (IsCellRef b)
@@ -61,12 +60,7 @@ pub flag_code : IsCode IsFlag
 flag_code = then_code unsigned_code (λ f. gives_code)
 
 pub offsets_code : IsCode AreOffsets
-offsets_code =
-    seen_code (λ _. true)
-    (record {
-      free = chain_free (λ _. IsUnsigned) (λ n. n) 12 0 (λ _. unsigned_free);
-      said = chain_said (λ _. IsUnsigned) (λ n. n) 12 0 (λ _. unsigned_said);
-    })
+offsets_code = seen_code (λ _. true) (chain_code (λ n. n) 12 0 (λ _. unsigned_code))
 
 pub tables_code : (b : Bool) → IsCode (AreTables b)
 tables_code true = offsets_code

@@ -2,13 +2,14 @@
 use Rattle.std.proofs.Common.{◌≡◌, ℕ, Bool, false, List, Result, Ok, Err, sym, subst}
 use Rattle.std.specs.Prelude.{Option}
 use Rattle.std.specs.Borrow.{GName}
-use Rattle.lvl_io.specs.Spelling.{IsPrefixFree}
 use Rattle.lvl_io.proofs.Spelling.{breached_none, front_only}
 use Rattle.lvl_refusal.specs.declared.Refusal.{Refusal}
 use Rattle.lvl_refusal.specs.declared.Refusal.TheVariants.{Breach, OutOfMemory}
 use Rattle.oasis_values.specs.Known.{Seen}
-use Rattle.oasis_values.specs.Input.{has_failed}
+use Rattle.oasis_values.specs.Input.{has_failed, input_ignore}
 use Rattle.oasis_values.specs.Reads.{Reads}
+use Rattle.oasis_values.specs.Spelling.{Spelling}
+use Rattle.oasis_values.proofs.Codes.{gives_code, then_code, IsCode}
 use Rattle.oasis_values.specs.declared.fault.ValueFault.{ValueFault}
 use Rattle.oasis_values.specs.declared.input.Input.{Input}
 use Rattle.oasis_values.proofs.Reading.{reads_err, reads_then, reads_nothing, reads_seen, reads_seen_err}
@@ -16,40 +17,39 @@ use Rattle.oasis_records.specs.Rules.{of_fault, told, told_breach, plain, obeyed
 use Rattle.oasis_records.specs.declared.fault.RecordFault.{RecordFault}
 use Rattle.oasis_records.specs.declared.fault.RecordFault.TheVariants.{Value, Rule}
 use Rattle.oasis_records.specs.declared.fault.RecordRule.{RecordRule}
-use Rattle.oasis_records.proofs.Codes.{IsCode, gives_code, then_code}
 
-pub unless_code : {A B : Type 0} {T : A → List ℕ → Result (Result B RecordRule) ValueFault → Type 0}
+pub unless_code : {A B : Type 0} {T : A → Spelling (Result B RecordRule)}
     → ((x : A) → IsCode (T x)) → (r : Result A RecordRule) → IsCode (UnlessRuled T r)
 unless_code t (Ok x) = t x
 unless_code t (Err k) = gives_code
 
-pub and_then_code : {A B : Type 0} {S : List ℕ → Result (Result A RecordRule) ValueFault → Type 0}
-    {T : A → List ℕ → Result (Result B RecordRule) ValueFault → Type 0}
+pub and_then_code : {A B : Type 0} {S : Spelling (Result A RecordRule)}
+    {T : A → Spelling (Result B RecordRule)}
     → IsCode S → ((x : A) → IsCode (T x)) → IsCode (AndThen S T)
 and_then_code {S = S} {T = T} s t = then_code {S = S} {T = UnlessRuled T} s (unless_code t)
 
 -- a fault of the first is one of the whole
 pub reads_stop : {R A B : Type 0} {remaining : R → Option (List ℕ)} {errors : R → ℕ} {lent : R → List GName}
-    {S : List ℕ → Result (Result A RecordRule) ValueFault → Type 0}
-    (T : A → List ℕ → Result (Result B RecordRule) ValueFault → Type 0) {old new : Input R} (e : RecordFault)
+    {S : Spelling (Result A RecordRule)}
+    (T : A → Spelling (Result B RecordRule)) {old new : Input R} (e : RecordFault)
     → ((x : A) → IsCode (T x)) → Reads remaining errors lent S old new (of_fault e)
     → Reads remaining errors lent (AndThen S T) old new (of_fault e)
-reads_stop T (Value f) can p = reads_err (UnlessRuled T) (λ r. (unless_code can r).said) p
+reads_stop T (Value f) can p = reads_err (UnlessRuled T) (λ r. unless_code can r) p
 reads_stop T (Rule k) can p = reads_then (UnlessRuled T) p (reads_nothing (Err k) p.failed)
 
 pub reads_halt : {R A B : Type 0} {remaining : R → Option (List ℕ)} {errors : R → ℕ} {lent : R → List GName}
-    {S : List ℕ → Result (Result A RecordRule) ValueFault → Type 0}
-    (T : A → List ℕ → Result (Result B RecordRule) ValueFault → Type 0) {old new : Input R}
+    {S : Spelling (Result A RecordRule)}
+    (T : A → Spelling (Result B RecordRule)) {old new : Input R}
     (e : Refusal RecordFault)
     → ((x : A) → IsCode (T x)) → Reads remaining errors lent S old new (told (Err e))
     → Reads remaining errors lent (AndThen S T) old new (told (Err e))
 reads_halt T (Breach f) can p = reads_stop T f can p
-reads_halt T OutOfMemory can p = reads_err (UnlessRuled T) (λ r. (unless_code can r).said) p
+reads_halt T OutOfMemory can p = reads_err (UnlessRuled T) (λ r. unless_code can r) p
 
 -- the first kept its rules
 pub reads_go : {R A B : Type 0} {remaining : R → Option (List ℕ)} {errors : R → ℕ} {lent : R → List GName}
-    {S : List ℕ → Result (Result A RecordRule) ValueFault → Type 0}
-    (T : A → List ℕ → Result (Result B RecordRule) ValueFault → Type 0) {old mid new : Input R} {x : A}
+    {S : Spelling (Result A RecordRule)}
+    (T : A → Spelling (Result B RecordRule)) {old mid new : Input R} {x : A}
     {r : Result (Result B RecordRule) (Refusal ValueFault)}
     → Reads remaining errors lent S old mid (Ok (Ok x)) → Reads remaining errors lent (T x) mid new r
     → Reads remaining errors lent (AndThen S T) old new r
@@ -57,32 +57,32 @@ reads_go T p q = reads_then (UnlessRuled T) p q
 
 -- no rule of records was tested
 pub reads_plain : {R A : Type 0} {remaining : R → Option (List ℕ)} {errors : R → ℕ} {lent : R → List GName}
-    {S : List ℕ → Result A ValueFault → Type 0} {old new : Input R} (r : Result A (Refusal ValueFault))
+    {S : Spelling A} {old new : Input R} (r : Result A (Refusal ValueFault))
     → Reads remaining errors lent S old new r → Reads remaining errors lent (Seen Ok S) old new (plain r)
 reads_plain (Ok x) p = reads_seen Ok p
 reads_plain (Err e) p = reads_seen_err Ok p
 
 -- where a rule is breached, nothing is spelled by bytes that agree
 pub reads_denies : {R A : Type 0} {remaining : R → Option (List ℕ)} {errors : R → ℕ} {lent : R → List GName}
-    {S : List ℕ → Result (Result A RecordRule) ValueFault → Type 0} {old new : Input R}
+    {S : Spelling (Result A RecordRule)} {old new : Input R}
     (r : Result (Result A RecordRule) (Refusal ValueFault))
-    → IsPrefixFree S → Reads remaining errors lent S old new r → Denies remaining S old r
-reads_denies (Ok (Ok y)) free p = record { none = λ live xs k. tt }
-reads_denies {S = S} (Ok (Err j)) free p =
+    → IsCode S → Reads remaining errors lent S old new r → Denies remaining S old r
+reads_denies (Ok (Ok y)) code p = record { none = λ live xs k. tt }
+reads_denies {S = S} {old = old} (Ok (Err j)) code p =
     record {
-      none = λ live xs k x b q agree. let h : Ok (Err j) ≡ Ok (Ok x) = front_only S xs _ (Ok (Err j))
-          (Ok (Ok x)) free (p.answers live xs k).0 b q agree in cc;
+      none = λ live xs k x b q agree. let h : Ok (Err j) ≡ Ok (Ok x) = front_only (S (input_ignore old)) xs _ (Ok (Err j))
+          (Ok (Ok x)) (code.free (input_ignore old)) (p.answers live xs k).0 b q agree in cc;
     }
-reads_denies (Err OutOfMemory) free p = record { none = λ live xs k. tt }
-reads_denies {S = S} (Err (Breach f)) free p =
+reads_denies (Err OutOfMemory) code p = record { none = λ live xs k. tt }
+reads_denies {S = S} {old = old} (Err (Breach f)) code p =
     record {
       none = λ live xs k rule x. let q = (p.answers live xs k).breached rule in
-          breached_none S xs q.count f (Ok x) free q.front;
+          breached_none (S (input_ignore old)) xs q.count f (Ok x) (code.free (input_ignore old)) q.front;
     }
 
 -- a rule that is tested before more is read
 pub reads_must_stop : {R A B : Type 0} {remaining : R → Option (List ℕ)} {errors : R → ℕ} {lent : R → List GName}
-    (b : Bool) (x : A) (k : RecordRule) (T : A → List ℕ → Result (Result B RecordRule) ValueFault → Type 0)
+    (b : Bool) (x : A) (k : RecordRule) (T : A → Spelling (Result B RecordRule))
     {old : Input R} (e : RecordFault)
     → ((y : A) → IsCode (T y)) → has_failed old ≡ false → of_fault {A = A} e ≡ Ok (obeyed b x k)
     → Reads remaining errors lent (AndThen (Must b x k) T) old old (of_fault e)
@@ -91,7 +91,7 @@ reads_must_stop {remaining = remaining} {errors = errors} {lent = lent} b x k T 
     (reads_nothing (obeyed b x k) live))
 
 pub reads_must_go : {R A B : Type 0} {remaining : R → Option (List ℕ)} {errors : R → ℕ} {lent : R → List GName}
-    (b : Bool) (x : A) (k : RecordRule) (T : A → List ℕ → Result (Result B RecordRule) ValueFault → Type 0)
+    (b : Bool) (x : A) (k : RecordRule) (T : A → Spelling (Result B RecordRule))
     {old new : Input R} {y : A} {r : Result (Result B RecordRule) (Refusal ValueFault)}
     → has_failed old ≡ false → told_breach (Ok y) ≡ Ok (obeyed b x k) → Reads remaining errors lent (T y) old new r
     → Reads remaining errors lent (AndThen (Must b x k) T) old new r

@@ -1,5 +1,9 @@
 -- Each spelling of a figure's record is free of prefixes, and can say something.
 use Rattle.std.proofs.Common.{ℕ, Bool, true, false, Ok}
+use Rattle.oasis_values.proofs.Codes.{gives_code, then_code, seen_code, IsCode}
+use Rattle.oasis_values.proofs.Integers.{byte_code, unsigned_code}
+use Rattle.oasis_values.proofs.Lists.{point_list_code}
+use Rattle.oasis_values.proofs.Values.{signed_code}
 use Rattle.oasis_values.specs.declared.point_list.Use.TheVariants.{Polygon as ForPolygon, Path as ForPath}
 use Rattle.oasis_records.specs.Fields.{has, IsInfo}
 use Rattle.oasis_records.specs.Rectangles.{rectangle, IsRectangleOf, IsRectangle}
@@ -11,8 +15,7 @@ use Rattle.oasis_records.specs.declared.path.Kind.{Kind}
 use Rattle.oasis_records.specs.declared.path.Kind.TheVariants.{Modal as OfModal, Flush as OfFlush}
 use Rattle.oasis_records.specs.declared.path.Kind.TheVariants.{HalfWidth as OfHalfWidth, Explicit as OfExplicit}
 use Rattle.oasis_records.specs.declared.path.Stroke.{Stroke}
-use Rattle.oasis_records.proofs.Codes.{IsCode, gives_code, then_code, seen_code, if_code, byte_code, unsigned_code}
-use Rattle.oasis_records.proofs.Codes.{signed_code, points_code, on_layer_code, position_code}
+use Rattle.oasis_records.proofs.Codes.{if_code, on_layer_code, position_code}
 use Rattle.oasis_records.proofs.Ruling.{and_then_code}
 
 pub info_code : (limit : ℕ) → IsCode (IsInfo limit)
@@ -30,7 +33,7 @@ rectangle_code = and_then_code (then_code byte_code (λ i. gives_code)) (λ i. s
 pub polygon_of_code : (i : ℕ) → IsCode (IsPolygonOf i)
 polygon_of_code i =
     then_code (on_layer_code i) (λ on.
-    then_code (if_code (has i 0x20) (points_code ForPolygon)) (λ ps. seen_code (polygon on ps) (position_code i)))
+    then_code (if_code (has i 0x20) (point_list_code ForPolygon)) (λ ps. seen_code (polygon on ps) (position_code i)))
 
 pub polygon_code : IsCode IsPolygon
 polygon_code = and_then_code (info_code 0x40) (λ i. seen_code Ok (polygon_of_code i))
@@ -58,7 +61,7 @@ stroke_of_code i =
 
 pub path_of_code : (s : Stroke) → IsCode (IsPathOf s)
 path_of_code s =
-    then_code (if_code (has s.info 0x20) (points_code ForPath)) (λ ps. seen_code (path s ps) (position_code s.info))
+    then_code (if_code (has s.info 0x20) (point_list_code ForPath)) (λ ps. seen_code (path s ps) (position_code s.info))
 
 pub path_code : IsCode IsPath
 path_code = and_then_code (then_code byte_code stroke_of_code) (λ s. seen_code Ok (path_of_code s))

@@ -1,8 +1,5 @@
 -- Whole records: their spelling is free of prefixes, and they are read by an id and what comes after it.
 use Rattle.std.proofs.Common.{ℕ, ◌==◌, Bool, true, false, List, [], ◌∷◌, Ok}
-use Rattle.lvl_io.proofs.Spelling.{chain_free, chain_said}
-use Rattle.oasis_values.specs.Numbers.{IsByte}
-use Rattle.oasis_values.proofs.Integers.{byte_free, byte_said}
 use Rattle.oasis_records.specs.Ends.{IsPaddingLength, ArePadding, IsScheme, four, AreFour, signed, IsSignature}
 use Rattle.oasis_records.specs.Ends.{IsEnding, IsEndOf, IsEnd}
 use Rattle.oasis_records.specs.Magic.{AreMagicBytes}
@@ -14,29 +11,29 @@ use Rattle.oasis_records.specs.declared.record_type.RecordType.TheVariants.{End 
 use Rattle.oasis_records.specs.declared.record_type.RecordType.TheVariants.{NumberedCellName as OfNumberedCellName}
 use Rattle.oasis_records.specs.declared.record_type.RecordType.TheVariants.{NumberedCell as OfNumberedCell}
 use Rattle.oasis_records.specs.declared.record_type.RecordType.TheVariants.{NamedCell as OfNamedCell}
+use Rattle.oasis_records.specs.declared.record_type.RecordType.TheVariants.{Entry as OfEntry}
+use Rattle.oasis_records.specs.declared.record_type.RecordType.TheVariants.{Text as OfText, Property as OfProperty}
+use Rattle.oasis_records.specs.declared.record_type.RecordType.TheVariants.{LastProperty as OfLastProperty}
 use Rattle.oasis_records.specs.declared.record_type.RecordType.TheVariants.{XyAbsolute as OfXyAbsolute}
 use Rattle.oasis_records.specs.declared.record_type.RecordType.TheVariants.{XyRelative as OfXyRelative}
 use Rattle.oasis_records.specs.declared.record_type.RecordType.TheVariants.{Placement as OfPlacement}
 use Rattle.oasis_records.specs.declared.record_type.RecordType.TheVariants.{ScaledPlacement as OfScaledPlacement}
 use Rattle.oasis_records.specs.declared.record_type.RecordType.TheVariants.{Rectangle as OfRectangle}
 use Rattle.oasis_records.specs.declared.record_type.RecordType.TheVariants.{Polygon as OfPolygon, Path as OfPath}
-use Rattle.oasis_records.proofs.Codes.{IsCode, gives_code, then_code, seen_code, byte_code, unsigned_code}
+use Rattle.oasis_records.proofs.Ignored.{entry_code, label_code, property_code}
 use Rattle.oasis_records.proofs.Others.{cell_code, cell_name_code, numbered_name_code, turned_code, scaled_code}
 use Rattle.oasis_records.proofs.Others.{tables_code, start_code}
 use Rattle.oasis_records.proofs.Ruling.{and_then_code}
 use Rattle.oasis_records.proofs.Shapes.{rectangle_code, polygon_code, path_code}
 use Rattle.oasis_records.proofs.Sizes.{sized_code}
+use Rattle.oasis_values.proofs.Codes.{gives_code, then_code, chain_code, seen_code, IsCode}
+use Rattle.oasis_values.proofs.Integers.{byte_code, unsigned_code}
 
 pub padding_length_code : (b : Bool) → IsCode (IsPaddingLength b)
 padding_length_code b = then_code (tables_code b) (λ t. unsigned_code)
 
 pub padding_code : (n : ℕ) → IsCode (ArePadding n)
-padding_code n =
-    seen_code (λ _. n)
-    (record {
-      free = chain_free (λ _. IsByte) (λ x. x) n 0 (λ _. byte_free);
-      said = chain_said (λ _. IsByte) (λ x. x) n 0 (λ _. byte_said);
-    })
+padding_code n = seen_code (λ _. n) (chain_code (λ x. x) n 0 (λ _. byte_code))
 
 pub scheme_code : IsCode IsScheme
 scheme_code = then_code byte_code (λ s. gives_code)
@@ -71,6 +68,10 @@ fields_code b n OfCellName = seen_code Ok cell_name_code
 fields_code b n OfNumberedCellName = seen_code Ok numbered_name_code
 fields_code b n OfNumberedCell = seen_code Ok (cell_code true)
 fields_code b n OfNamedCell = seen_code Ok (cell_code false)
+fields_code b n (OfEntry kind) = entry_code kind
+fields_code b n OfText = label_code
+fields_code b n OfProperty = property_code
+fields_code b n OfLastProperty = gives_code
 fields_code b n OfXyAbsolute = gives_code
 fields_code b n OfXyRelative = gives_code
 fields_code b n OfPlacement = seen_code Ok turned_code

@@ -1,8 +1,8 @@
 -- CELL and CELLNAME records (SEMI P39 OASIS 1.0, "CELL record", "CELLNAME record"). Own rule: the most bytes of a name.
 use Rattle.std.specs.Prelude.{ℕ, Bool, true, false, List, Option, Some, None, Result}
-use Rattle.lvl_io.specs.Spelling.{Then}
 use Rattle.oasis_values.specs.Known.{Seen}
 use Rattle.oasis_values.specs.Numbers.{IsUnsigned}
+use Rattle.oasis_values.specs.Spelling.{Spelling, Then}
 use Rattle.oasis_values.specs.Texts.{IsString}
 use Rattle.oasis_values.specs.declared.fault.ValueFault.{ValueFault}
 use Rattle.oasis_values.specs.declared.text.Text.TheVariants.{N}
@@ -11,11 +11,11 @@ use Rattle.oasis_records.specs.declared.cell.CellRef.TheVariants.{Number, Name}
 use Rattle.oasis_records.specs.declared.record.Record.{Record}
 use Rattle.oasis_records.specs.declared.record.Record.TheVariants.{Cell, CellName}
 
-abbrev pub IsCellRef : Bool → List ℕ → Result CellRef ValueFault → Type 0
+abbrev pub IsCellRef : Bool → Spelling CellRef
 IsCellRef true = Seen Number IsUnsigned
 IsCellRef false = Seen Name (IsString N 255)
 
-abbrev pub IsCell : Bool → List ℕ → Result Record ValueFault → Type 0
+abbrev pub IsCell : Bool → Spelling Record
 IsCell by_number = Seen Cell (IsCellRef by_number)
 
 abbrev pub cell_name : List ℕ → Option ℕ → Record
@@ -27,8 +27,8 @@ unnumbered name = cell_name name None
 abbrev pub numbered : List ℕ → ℕ → Record
 numbered name number = cell_name name (Some number)
 
-abbrev pub IsCellName : List ℕ → Result Record ValueFault → Type 0
+abbrev pub IsCellName : Spelling Record
 IsCellName = Seen unnumbered (IsString N 255)
 
-abbrev pub IsNumberedName : List ℕ → Result Record ValueFault → Type 0
+abbrev pub IsNumberedName : Spelling Record
 IsNumberedName = Then (IsString N 255) (λ name. Seen (numbered name) IsUnsigned)

@@ -1,8 +1,8 @@
 -- END records (SEMI P39 OASIS 1.0, "END record"): 256 bytes with the id.
 use Rattle.std.specs.Prelude.{ℕ, ◌+◌, ◌==◌, nat_lt, nat_le, Bool, true, false, List, [], ◌∷◌, Result, Ok}
-use Rattle.lvl_io.specs.Spelling.{Gives, Then, Chain}
 use Rattle.oasis_values.specs.Known.{Seen}
 use Rattle.oasis_values.specs.Numbers.{IsByte, IsUnsigned}
+use Rattle.oasis_values.specs.Spelling.{Spelling, Gives, Then, Chain}
 use Rattle.oasis_values.specs.declared.fault.ValueFault.{ValueFault}
 use Rattle.oasis_records.specs.Rules.{Must, AndThen}
 use Rattle.oasis_records.specs.Sizes.{Sized}
@@ -16,20 +16,20 @@ use Rattle.oasis_records.specs.declared.record.Record.{Record}
 use Rattle.oasis_records.specs.declared.record.Record.TheVariants.{End}
 
 -- the offsets of tables, if they are here, and the length of the padding
-abbrev pub IsPaddingLength : Bool → List ℕ → Result ℕ ValueFault → Type 0
+abbrev pub IsPaddingLength : Bool → Spelling ℕ
 IsPaddingLength has_offsets = Then (AreTables has_offsets) (λ _. IsUnsigned)
 
 -- n bytes of any value
-abbrev pub ArePadding : ℕ → List ℕ → Result ℕ ValueFault → Type 0
+abbrev pub ArePadding : ℕ → Spelling ℕ
 ArePadding n = Seen (λ _. n) (Chain (λ _. IsByte) (λ x. x) n 0)
 
-abbrev pub IsScheme : List ℕ → Result (Result ℕ RecordRule) ValueFault → Type 0
+abbrev pub IsScheme : Spelling (Result ℕ RecordRule)
 IsScheme = Then IsByte (λ s. Must (nat_lt s 3) s Scheme)
 
 abbrev pub four : ℕ → ℕ → ℕ → ℕ → List ℕ
 four a b c d = a ∷ b ∷ c ∷ d ∷ []
 
-abbrev pub AreFour : List ℕ → Result (List ℕ) ValueFault → Type 0
+abbrev pub AreFour : Spelling (List ℕ)
 AreFour = Then IsByte (λ a. Then IsByte (λ b. Then IsByte (λ c. Seen (four a b c) IsByte)))
 
 abbrev pub signed : Bool → List ℕ → Validation
@@ -37,7 +37,7 @@ signed true bytes = Crc32 bytes
 signed false bytes = Checksum32 bytes
 
 -- scheme 0 has no signature
-abbrev pub IsSignature : Bool → ℕ → List ℕ → Result Validation ValueFault → Type 0
+abbrev pub IsSignature : Bool → ℕ → Spelling Validation
 IsSignature true s = Gives (Ok Absent)
 IsSignature false s = Seen (signed (s == 1)) AreFour
 
@@ -47,7 +47,7 @@ validation_len (Crc32 b) = 4
 validation_len (Checksum32 b) = 4
 
 -- what comes after the length of the padding
-abbrev pub IsEnding : ℕ → List ℕ → Result (Result Validation RecordRule) ValueFault → Type 0
+abbrev pub IsEnding : ℕ → Spelling (Result Validation RecordRule)
 IsEnding n = Then (ArePadding n) (λ _. AndThen IsScheme (λ s. Seen Ok (IsSignature (s == 0) s)))
 
 -- the padding and the scheme byte are within the record
@@ -57,10 +57,10 @@ fits id_len p = nat_le (id_len + p.len + p.value + 1) 256
 abbrev pub is_whole : ℕ → Measured → Validation → Bool
 is_whole id_len p v = id_len + p.len + p.value + 1 + validation_len v == 256
 
-abbrev pub IsEndOf : ℕ → Measured → List ℕ → Result (Result Record RecordRule) ValueFault → Type 0
+abbrev pub IsEndOf : ℕ → Measured → Spelling (Result Record RecordRule)
 IsEndOf id_len p = AndThen (IsEnding p.value) (λ v. Must (is_whole id_len p v) (End v) EndLength)
 
 -- after an id of that many bytes
-abbrev pub IsEnd : Bool → ℕ → List ℕ → Result (Result Record RecordRule) ValueFault → Type 0
+abbrev pub IsEnd : Bool → ℕ → Spelling (Result Record RecordRule)
 IsEnd has_offsets id_len =
     Then (Sized (IsPaddingLength has_offsets)) (λ p. AndThen (Must (fits id_len p) p EndLength) (IsEndOf id_len))

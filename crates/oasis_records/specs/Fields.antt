@@ -1,10 +1,10 @@
 -- Fields of records that an info byte says are there (SEMI P39 OASIS 1.0, "Info-byte").
 use Rattle.std.specs.Prelude.{ℕ, ◌/◌, ◌%◌, ◌==◌, nat_lt, Bool, true, false, List, Option, Some, None, Result, Ok, ℤ}
-use Rattle.lvl_io.specs.Spelling.{Gives, Then}
 use Rattle.oasis_values.specs.Known.{Seen}
 use Rattle.oasis_values.specs.Numbers.{IsByte, IsUnsigned}
 use Rattle.oasis_values.specs.Reals.{IsSigned}
 use Rattle.oasis_values.specs.Repetitions.{IsRepetition}
+use Rattle.oasis_values.specs.Spelling.{Spelling, Gives, Then}
 use Rattle.oasis_values.specs.declared.fault.ValueFault.{ValueFault}
 use Rattle.oasis_values.specs.declared.repetition.Repetition.{Repetition}
 use Rattle.oasis_records.specs.Rules.{Must}
@@ -18,12 +18,11 @@ abbrev pub has : ℕ → ℕ → Bool
 has info letter = info / letter % 2 == 1
 
 -- a byte whose highest bits are reserved
-abbrev pub IsInfo : ℕ → List ℕ → Result (Result ℕ RecordRule) ValueFault → Type 0
+abbrev pub IsInfo : ℕ → Spelling (Result ℕ RecordRule)
 IsInfo limit = Then IsByte (λ i. Must (nat_lt i limit) i Info)
 
 -- a field that is there, or not
-abbrev pub If : {A : Type 0} → Bool → (List ℕ → Result A ValueFault → Type 0) → List ℕ
-    → Result (Option A) ValueFault → Type 0
+abbrev pub If : {A : Type 0} → Bool → Spelling A → Spelling (Option A)
 If true S = Seen Some S
 If false S = Gives (Ok None)
 
@@ -31,14 +30,14 @@ abbrev pub on_layer : Option ℕ → Option ℕ → OnLayer
 on_layer l d = record { layer = l; datatype = d }
 
 -- the fields of the letters L and D
-abbrev pub IsOnLayer : ℕ → List ℕ → Result OnLayer ValueFault → Type 0
+abbrev pub IsOnLayer : ℕ → Spelling OnLayer
 IsOnLayer info = Then (If (has info 0x01) IsUnsigned) (λ l. Seen (on_layer l) (If (has info 0x02) IsUnsigned))
 
 abbrev pub position : Option ℤ → Option ℤ → Option Repetition → Position
 position x y r = record { x = x; y = y; repetition = r }
 
 -- the fields of the letters X, Y and R
-abbrev pub IsPosition : ℕ → List ℕ → Result Position ValueFault → Type 0
+abbrev pub IsPosition : ℕ → Spelling Position
 IsPosition info =
     Then (If (has info 0x10) IsSigned)
     (λ x. Then (If (has info 0x08) IsSigned) (λ y. Seen (position x y) (If (has info 0x04) (IsRepetition true))))

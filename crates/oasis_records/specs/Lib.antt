@@ -6,6 +6,9 @@ pub mod Polygons
 pub mod Paths
 pub mod Placements
 pub mod Cells
+pub mod Names
+pub mod Labels
+pub mod Properties
 pub mod Starts
 pub mod Ends
 pub mod Magic

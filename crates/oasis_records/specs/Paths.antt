@@ -1,11 +1,11 @@
 -- PATH records (SEMI P39 OASIS 1.0, "PATH record"), with the info byte EWPXYRDL and the scheme byte 0000SSEE.
 use Rattle.std.specs.Prelude.{ℕ, ◌/◌, ◌%◌, Bool, true, false, List, [], ◌∷◌, Option, Some, None, Result, Ok}
-use Rattle.lvl_io.specs.Spelling.{Gives, Then}
 use Rattle.lvl_grid.specs.declared.point.Point.{Point}
 use Rattle.oasis_values.specs.Known.{one_of, Seen}
 use Rattle.oasis_values.specs.Numbers.{IsByte, IsUnsigned}
 use Rattle.oasis_values.specs.PointLists.{IsPointList}
 use Rattle.oasis_values.specs.Reals.{IsSigned}
+use Rattle.oasis_values.specs.Spelling.{Spelling, Gives, Then}
 use Rattle.oasis_values.specs.declared.fault.ValueFault.{ValueFault}
 use Rattle.oasis_values.specs.declared.point_list.Use.TheVariants.{Path as ForPath}
 use Rattle.oasis_records.specs.Fields.{has, If, IsInfo, IsOnLayer, IsPosition}
@@ -27,7 +27,7 @@ use Rattle.oasis_records.specs.declared.record.Record.TheVariants.{Path}
 abbrev pub kind_of : ℕ → Kind
 kind_of = one_of 0 (OfModal ∷ OfFlush ∷ OfHalfWidth ∷ []) OfExplicit
 
-abbrev pub IsExtension : Kind → List ℕ → Result Extension ValueFault → Type 0
+abbrev pub IsExtension : Kind → Spelling Extension
 IsExtension OfModal = Gives (Ok Modal)
 IsExtension OfFlush = Gives (Ok Flush)
 IsExtension OfHalfWidth = Gives (Ok HalfWidth)
@@ -37,17 +37,17 @@ abbrev pub ends : Extension → Extension → Ends
 ends s e = record { start = s; end = e }
 
 -- the start's bits are higher, and its integer is before the end's
-abbrev pub AreEndsOf : ℕ → List ℕ → Result Ends ValueFault → Type 0
+abbrev pub AreEndsOf : ℕ → Spelling Ends
 AreEndsOf scheme = Then (IsExtension (kind_of (scheme / 4))) (λ s. Seen (ends s) (IsExtension (kind_of (scheme % 4))))
 
 abbrev pub some_ends : Ends → Result (Option Ends) RecordRule
 some_ends e = Ok (Some e)
 
 -- the four highest bits of the scheme byte are reserved
-abbrev pub AreEnds : List ℕ → Result (Result (Option Ends) RecordRule) ValueFault → Type 0
+abbrev pub AreEnds : Spelling (Result (Option Ends) RecordRule)
 AreEnds = AndThen (IsInfo 0x10) (λ scheme. Seen some_ends (AreEndsOf scheme))
 
-abbrev pub AreEndsIf : Bool → List ℕ → Result (Result (Option Ends) RecordRule) ValueFault → Type 0
+abbrev pub AreEndsIf : Bool → Spelling (Result (Option Ends) RecordRule)
 AreEndsIf true = AreEnds
 AreEndsIf false = Gives (Ok (Ok None))
 
@@ -55,21 +55,21 @@ abbrev pub stroke : ℕ → OnLayer → Option ℕ → Option Ends → Result St
 stroke i on w e = Ok (record { info = i; on = on; half_width = w; ends = e })
 
 -- the fields after the info byte, before the point list
-abbrev pub IsStrokeOf : ℕ → List ℕ → Result (Result Stroke RecordRule) ValueFault → Type 0
+abbrev pub IsStrokeOf : ℕ → Spelling (Result Stroke RecordRule)
 IsStrokeOf i =
     Then (IsOnLayer i) (λ on.
     Then (If (has i 0x40) IsUnsigned) (λ w.
     AndThen (AreEndsIf (has i 0x80)) (λ e. Gives (Ok (stroke i on w e)))))
 
-abbrev pub IsStroke : List ℕ → Result (Result Stroke RecordRule) ValueFault → Type 0
+abbrev pub IsStroke : Spelling (Result Stroke RecordRule)
 IsStroke = Then IsByte IsStrokeOf
 
 abbrev pub path : Stroke → Option (List Point) → Position → Record
 path s ps p = Path (record { on = s.on; half_width = s.half_width; ends = s.ends; points = ps; position = p })
 
 -- the other fields
-abbrev pub IsPathOf : Stroke → List ℕ → Result Record ValueFault → Type 0
+abbrev pub IsPathOf : Stroke → Spelling Record
 IsPathOf s = Then (If (has s.info 0x20) (IsPointList ForPath)) (λ ps. Seen (path s ps) (IsPosition s.info))
 
-abbrev pub IsPath : List ℕ → Result (Result Record RecordRule) ValueFault → Type 0
+abbrev pub IsPath : Spelling (Result Record RecordRule)
 IsPath = AndThen IsStroke (λ s. Seen Ok (IsPathOf s))

@@ -1,11 +1,11 @@
 -- PLACEMENT records (SEMI P39 OASIS 1.0, "PLACEMENT record"), with the info byte CNXYRAAF or CNXYRMAF.
 use Rattle.std.specs.Prelude.{ℕ, ◌/◌, ◌%◌, List, [], ◌∷◌, Option, Result}
-use Rattle.lvl_io.specs.Spelling.{Then}
 use Rattle.lvl_grid.specs.declared.map.Turn.{Turn}
 use Rattle.lvl_grid.specs.declared.map.Turn.TheVariants.{R0, R90, R180, R270}
 use Rattle.oasis_values.specs.Known.{one_of, Seen}
 use Rattle.oasis_values.specs.Numbers.{IsByte}
 use Rattle.oasis_values.specs.Reals.{IsReal}
+use Rattle.oasis_values.specs.Spelling.{Spelling, Then}
 use Rattle.oasis_values.specs.declared.fault.ValueFault.{ValueFault}
 use Rattle.oasis_records.specs.Cells.{IsCellRef}
 use Rattle.oasis_records.specs.Fields.{has, If, IsPosition}
@@ -24,22 +24,22 @@ abbrev pub placement : ℕ → Option CellRef → Transform → Position → Rec
 placement i cell t p = Placement (record { cell = cell; flip = has i 0x01; transform = t; position = p })
 
 -- the cell, of which N says whether it is a number; own rule: N without C says nothing
-abbrev pub IsCellIf : ℕ → List ℕ → Result (Option CellRef) ValueFault → Type 0
+abbrev pub IsCellIf : ℕ → Spelling (Option CellRef)
 IsCellIf i = If (has i 0x80) (IsCellRef (has i 0x40))
 
 -- the fields after the info byte; X, Y and R are one bit higher than in a figure
-abbrev pub IsTurnedOf : ℕ → List ℕ → Result Record ValueFault → Type 0
+abbrev pub IsTurnedOf : ℕ → Spelling Record
 IsTurnedOf i = Then (IsCellIf i) (λ cell. Seen (placement i cell (Turned (turn_of (i / 2 % 4)))) (IsPosition (i / 2)))
 
-abbrev pub IsScaledOf : ℕ → List ℕ → Result Record ValueFault → Type 0
+abbrev pub IsScaledOf : ℕ → Spelling Record
 IsScaledOf i =
     Then (IsCellIf i) (λ cell.
     Then (If (has i 0x04) IsReal) (λ m.
     Then (If (has i 0x02) IsReal) (λ a.
     Seen (placement i cell (Scaled m a)) (IsPosition (i / 2)))))
 
-abbrev pub IsTurned : List ℕ → Result Record ValueFault → Type 0
+abbrev pub IsTurned : Spelling Record
 IsTurned = Then IsByte IsTurnedOf
 
-abbrev pub IsScaled : List ℕ → Result Record ValueFault → Type 0
+abbrev pub IsScaled : Spelling Record
 IsScaled = Then IsByte IsScaledOf

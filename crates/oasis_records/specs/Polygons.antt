@@ -1,9 +1,9 @@
 -- POLYGON records (SEMI P39 OASIS 1.0, "POLYGON record"), with the info byte 00PXYRDL.
 use Rattle.std.specs.Prelude.{ℕ, List, Option, Result, Ok}
-use Rattle.lvl_io.specs.Spelling.{Then}
 use Rattle.lvl_grid.specs.declared.point.Point.{Point}
 use Rattle.oasis_values.specs.Known.{Seen}
 use Rattle.oasis_values.specs.PointLists.{IsPointList}
+use Rattle.oasis_values.specs.Spelling.{Spelling, Then}
 use Rattle.oasis_values.specs.declared.fault.ValueFault.{ValueFault}
 use Rattle.oasis_values.specs.declared.point_list.Use.TheVariants.{Polygon as ForPolygon}
 use Rattle.oasis_records.specs.Fields.{has, If, IsInfo, IsOnLayer, IsPosition}
@@ -18,12 +18,12 @@ abbrev pub polygon : OnLayer → Option (List Point) → Position → Record
 polygon on ps p = Polygon (record { on = on; points = ps; position = p })
 
 -- the fields after the info byte
-abbrev pub IsPolygonOf : ℕ → List ℕ → Result Record ValueFault → Type 0
+abbrev pub IsPolygonOf : ℕ → Spelling Record
 IsPolygonOf i =
     Then (IsOnLayer i) (λ on.
     Then (If (has i 0x20) (IsPointList ForPolygon)) (λ ps.
     Seen (polygon on ps) (IsPosition i)))
 
 -- the two highest bits are reserved
-abbrev pub IsPolygon : List ℕ → Result (Result Record RecordRule) ValueFault → Type 0
+abbrev pub IsPolygon : Spelling (Result Record RecordRule)
 IsPolygon = AndThen (IsInfo 0x40) (λ i. Seen Ok (IsPolygonOf i))

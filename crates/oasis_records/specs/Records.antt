@@ -1,28 +1,38 @@
 -- Records by their ids (SEMI P39 OASIS 1.0, "Records").
 use Rattle.std.specs.Prelude.{ℕ, ◌==◌, if◌then◌else◌, Bool, true, false, List, [], ◌∷◌, Result, Ok, Err}
-use Rattle.lvl_io.specs.Spelling.{Gives, Then}
+use Rattle.lvl_ignore.specs.declared.ignore.Ignore.{Ignore}
 use Rattle.oasis_values.specs.Known.{Seen}
 use Rattle.oasis_values.specs.Numbers.{IsUnsigned}
+use Rattle.oasis_values.specs.Spelling.{Spelling, Gives, Then}
 use Rattle.oasis_values.specs.declared.fault.ValueFault.{ValueFault}
+use Rattle.oasis_values.specs.declared.text.Text.TheVariants.{A, B, N}
 use Rattle.oasis_records.specs.Cells.{IsCell, IsCellName, IsNumberedName}
 use Rattle.oasis_records.specs.Ends.{IsEnd}
+use Rattle.oasis_records.specs.Labels.{IsLabel}
+use Rattle.oasis_records.specs.Names.{IsEntry}
 use Rattle.oasis_records.specs.Paths.{IsPath}
 use Rattle.oasis_records.specs.Placements.{IsTurned, IsScaled}
 use Rattle.oasis_records.specs.Polygons.{IsPolygon}
+use Rattle.oasis_records.specs.Properties.{IsProperty}
 use Rattle.oasis_records.specs.Rectangles.{IsRectangle}
 use Rattle.oasis_records.specs.Rules.{AndThen}
 use Rattle.oasis_records.specs.Sizes.{Sized}
 use Rattle.oasis_records.specs.Starts.{IsStart}
 use Rattle.oasis_records.specs.declared.fault.RecordRule.{RecordRule}
 use Rattle.oasis_records.specs.declared.fault.RecordRule.TheVariants.{Unsupported}
+use Rattle.oasis_records.specs.declared.names.EntryType.TheVariants.{String, NumberedString, LayerName, XName}
+use Rattle.oasis_records.specs.declared.names.EntryType.TheVariants.{NumberedXName}
 use Rattle.oasis_records.specs.declared.record.Record.{Record}
-use Rattle.oasis_records.specs.declared.record.Record.TheVariants.{Pad, XyAbsolute, XyRelative}
+use Rattle.oasis_records.specs.declared.record.Record.TheVariants.{Pad, Property, XyAbsolute, XyRelative}
 use Rattle.oasis_records.specs.declared.record_type.RecordType.{RecordType}
 use Rattle.oasis_records.specs.declared.record_type.RecordType.TheVariants.{Pad as OfPad, Start as OfStart}
 use Rattle.oasis_records.specs.declared.record_type.RecordType.TheVariants.{End as OfEnd, CellName as OfCellName}
 use Rattle.oasis_records.specs.declared.record_type.RecordType.TheVariants.{NumberedCellName as OfNumberedCellName}
 use Rattle.oasis_records.specs.declared.record_type.RecordType.TheVariants.{NumberedCell as OfNumberedCell}
 use Rattle.oasis_records.specs.declared.record_type.RecordType.TheVariants.{NamedCell as OfNamedCell}
+use Rattle.oasis_records.specs.declared.record_type.RecordType.TheVariants.{Entry as OfEntry}
+use Rattle.oasis_records.specs.declared.record_type.RecordType.TheVariants.{Text as OfText, Property as OfProperty}
+use Rattle.oasis_records.specs.declared.record_type.RecordType.TheVariants.{LastProperty as OfLastProperty}
 use Rattle.oasis_records.specs.declared.record_type.RecordType.TheVariants.{XyAbsolute as OfXyAbsolute}
 use Rattle.oasis_records.specs.declared.record_type.RecordType.TheVariants.{XyRelative as OfXyRelative}
 use Rattle.oasis_records.specs.declared.record_type.RecordType.TheVariants.{Placement as OfPlacement}
@@ -30,36 +40,74 @@ use Rattle.oasis_records.specs.declared.record_type.RecordType.TheVariants.{Scal
 use Rattle.oasis_records.specs.declared.record_type.RecordType.TheVariants.{Rectangle as OfRectangle}
 use Rattle.oasis_records.specs.declared.record_type.RecordType.TheVariants.{Polygon as OfPolygon, Path as OfPath}
 
--- the types of records by their ids
-abbrev pub types : List (ℕ × RecordType)
+-- a type of records: its id, and whether it is read by who ignores these
+pub record Row : Type 0 where
+  pub id : ℕ
+  pub is_read : Ignore → Bool
+  pub kind : RecordType
+
+abbrev pub row : ℕ → (Ignore → Bool) → RecordType → Row
+row id is_read kind = record { id = id; is_read = is_read; kind = kind }
+
+abbrev pub always : Ignore → Bool
+always ignore = true
+
+abbrev pub names : Ignore → Bool
+names ignore = ignore.names
+
+abbrev pub texts : Ignore → Bool
+texts ignore = ignore.texts
+
+abbrev pub properties : Ignore → Bool
+properties ignore = ignore.properties
+
+-- the types of records. Without anything that is ignored those are read that are always
+abbrev pub types : List Row
 types =
-    (0, OfPad)
-    ∷ (1, OfStart)
-    ∷ (2, OfEnd)
-    ∷ (3, OfCellName)
-    ∷ (4, OfNumberedCellName)
-    ∷ (13, OfNumberedCell)
-    ∷ (14, OfNamedCell)
-    ∷ (15, OfXyAbsolute)
-    ∷ (16, OfXyRelative)
-    ∷ (17, OfPlacement)
-    ∷ (18, OfScaledPlacement)
-    ∷ (20, OfRectangle)
-    ∷ (21, OfPolygon)
-    ∷ (22, OfPath)
+    row 0 always OfPad
+    ∷ row 1 always OfStart
+    ∷ row 2 always OfEnd
+    ∷ row 3 always OfCellName
+    ∷ row 4 always OfNumberedCellName
+    ∷ row 5 texts (OfEntry (String A))
+    ∷ row 6 texts (OfEntry (NumberedString A))
+    ∷ row 7 properties (OfEntry (String N))
+    ∷ row 8 properties (OfEntry (NumberedString N))
+    ∷ row 9 properties (OfEntry (String B))
+    ∷ row 10 properties (OfEntry (NumberedString B))
+    ∷ row 11 names (OfEntry LayerName)
+    ∷ row 12 names (OfEntry LayerName)
+    ∷ row 13 always OfNumberedCell
+    ∷ row 14 always OfNamedCell
+    ∷ row 15 always OfXyAbsolute
+    ∷ row 16 always OfXyRelative
+    ∷ row 17 always OfPlacement
+    ∷ row 18 always OfScaledPlacement
+    ∷ row 19 texts OfText
+    ∷ row 20 always OfRectangle
+    ∷ row 21 always OfPolygon
+    ∷ row 22 always OfPath
+    ∷ row 28 properties OfProperty
+    ∷ row 29 properties OfLastProperty
+    ∷ row 30 names (OfEntry XName)
+    ∷ row 31 names (OfEntry NumberedXName)
     ∷ []
 
-abbrev pub look_up : List (ℕ × RecordType) → ℕ → Result RecordType RecordRule
-look_up [] n = Err (Unsupported n)
-look_up (t ∷ ts) n = if n == t.0 then Ok t.1 else look_up ts n
+abbrev pub type_if : Bool → RecordType → ℕ → Result RecordType RecordRule
+type_if true kind n = Ok kind
+type_if false kind n = Err (Unsupported n)
+
+abbrev pub look_up : Ignore → List Row → ℕ → Result RecordType RecordRule
+look_up ignore [] n = Err (Unsupported n)
+look_up ignore (t ∷ ts) n = if n == t.id then type_if (t.is_read ignore) t.kind n else look_up ignore ts n
 
 -- the type of an id; own rule: other records aren't read
-abbrev pub record_type : ℕ → Result RecordType RecordRule
-record_type = look_up types
+abbrev pub record_type : Ignore → ℕ → Result RecordType RecordRule
+record_type ignore = look_up ignore types
 
 -- the fields of a record of that type, after an id of that many bytes. The offsets of tables are in END where START
 -- says so
-abbrev pub AreFields : Bool → ℕ → RecordType → List ℕ → Result (Result Record RecordRule) ValueFault → Type 0
+abbrev pub AreFields : Bool → ℕ → RecordType → Spelling (Result Record RecordRule)
 AreFields at_end id_len OfPad = Gives (Ok (Ok Pad))
 AreFields at_end id_len OfStart = IsStart
 AreFields at_end id_len OfEnd = IsEnd at_end id_len
@@ -67,6 +115,10 @@ AreFields at_end id_len OfCellName = Seen Ok IsCellName
 AreFields at_end id_len OfNumberedCellName = Seen Ok IsNumberedName
 AreFields at_end id_len OfNumberedCell = Seen Ok (IsCell true)
 AreFields at_end id_len OfNamedCell = Seen Ok (IsCell false)
+AreFields at_end id_len (OfEntry kind) = IsEntry kind
+AreFields at_end id_len OfText = IsLabel
+AreFields at_end id_len OfProperty = IsProperty
+AreFields at_end id_len OfLastProperty = Gives (Ok (Ok Property))
 AreFields at_end id_len OfXyAbsolute = Gives (Ok (Ok XyAbsolute))
 AreFields at_end id_len OfXyRelative = Gives (Ok (Ok XyRelative))
 AreFields at_end id_len OfPlacement = Seen Ok IsTurned
@@ -76,5 +128,7 @@ AreFields at_end id_len OfPolygon = IsPolygon
 AreFields at_end id_len OfPath = IsPath
 
 -- an id, and what comes after it
-abbrev pub IsRecord : Bool → List ℕ → Result (Result Record RecordRule) ValueFault → Type 0
-IsRecord at_end = Then (Sized IsUnsigned) (λ id. AndThen (Gives (Ok (record_type id.value))) (AreFields at_end id.len))
+abbrev pub IsRecord : Bool → Spelling (Result Record RecordRule)
+IsRecord at_end =
+    Then (Sized IsUnsigned) (λ id. AndThen (λ ignore. Gives (Ok (record_type ignore id.value)) ignore)
+    (AreFields at_end id.len))

@@ -1,8 +1,8 @@
 -- RECTANGLE records (SEMI P39 OASIS 1.0, "RECTANGLE record"), with the info byte SWHXYRDL.
 use Rattle.std.specs.Prelude.{ℕ, ◌&&◌, not, Bool, List, Option, Result, Ok}
-use Rattle.lvl_io.specs.Spelling.{Then}
 use Rattle.oasis_values.specs.Known.{Seen}
 use Rattle.oasis_values.specs.Numbers.{IsByte, IsUnsigned}
+use Rattle.oasis_values.specs.Spelling.{Spelling, Then}
 use Rattle.oasis_values.specs.declared.fault.ValueFault.{ValueFault}
 use Rattle.oasis_records.specs.Fields.{has, If, IsOnLayer, IsPosition}
 use Rattle.oasis_records.specs.Rules.{Must, AndThen}
@@ -17,19 +17,19 @@ use Rattle.oasis_records.specs.declared.record.Record.TheVariants.{Rectangle}
 abbrev pub is_rectangle_info : ℕ → Bool
 is_rectangle_info i = not (has i 0x80 && has i 0x20)
 
-abbrev pub IsRectangleInfo : List ℕ → Result (Result ℕ RecordRule) ValueFault → Type 0
+abbrev pub IsRectangleInfo : Spelling (Result ℕ RecordRule)
 IsRectangleInfo = Then IsByte (λ i. Must (is_rectangle_info i) i Info)
 
 abbrev pub rectangle : Bool → OnLayer → Option ℕ → Option ℕ → Position → Record
 rectangle s on w h p = Rectangle (record { is_square = s; on = on; width = w; height = h; position = p })
 
 -- the fields after the info byte
-abbrev pub IsRectangleOf : ℕ → List ℕ → Result Record ValueFault → Type 0
+abbrev pub IsRectangleOf : ℕ → Spelling Record
 IsRectangleOf i =
     Then (IsOnLayer i) (λ on.
     Then (If (has i 0x40) IsUnsigned) (λ w.
     Then (If (has i 0x20) IsUnsigned) (λ h.
     Seen (rectangle (has i 0x80) on w h) (IsPosition i))))
 
-abbrev pub IsRectangle : List ℕ → Result (Result Record RecordRule) ValueFault → Type 0
+abbrev pub IsRectangle : Spelling (Result Record RecordRule)
 IsRectangle = AndThen IsRectangleInfo (λ i. Seen Ok (IsRectangleOf i))

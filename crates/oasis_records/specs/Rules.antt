@@ -1,11 +1,12 @@
 -- The rules of records, beside those of values. What bytes say of a record is the record, or the rule that they breach;
 -- so it is a value of the bytes as any other, and the bytes taken are those that spell the record or breach the rule.
 use Rattle.std.specs.Prelude.{◌≡◌, Bool, true, false, ℕ, List, Option, Some, Result, Ok, Err}
-use Rattle.lvl_io.specs.Spelling.{Gives, Then, NoneAgrees}
+use Rattle.lvl_io.specs.Spelling.{NoneAgrees}
 use Rattle.lvl_refusal.specs.declared.Refusal.{Refusal}
 use Rattle.lvl_refusal.specs.declared.Refusal.TheVariants.{Breach, OutOfMemory}
 use Rattle.oasis_values.specs.Faults.{is_rule}
-use Rattle.oasis_values.specs.Input.{has_failed, bytes_left}
+use Rattle.oasis_values.specs.Input.{has_failed, input_ignore, bytes_left}
+use Rattle.oasis_values.specs.Spelling.{Spelling, Gives, Then}
 use Rattle.oasis_values.specs.declared.fault.ValueFault.{ValueFault}
 use Rattle.oasis_values.specs.declared.input.Input.{Input}
 use Rattle.oasis_records.specs.declared.fault.RecordFault.{RecordFault}
@@ -39,19 +40,18 @@ obeyed true x k = Ok x
 obeyed false x k = Err k
 
 -- no byte more is read: the value is given if the rule is kept
-abbrev pub Must : {A : Type 0} → Bool → A → RecordRule → List ℕ → Result (Result A RecordRule) ValueFault → Type 0
+abbrev pub Must : {A : Type 0} → Bool → A → RecordRule → Spelling (Result A RecordRule)
 Must b x k = Gives (Ok (obeyed b x k))
 
 -- after a breach nothing more is read
-abbrev pub UnlessRuled : {A B : Type 0} → (A → List ℕ → Result (Result B RecordRule) ValueFault → Type 0)
-    → Result A RecordRule → List ℕ → Result (Result B RecordRule) ValueFault → Type 0
+abbrev pub UnlessRuled : {A B : Type 0} → (A → Spelling (Result B RecordRule)) → Result A RecordRule
+    → Spelling (Result B RecordRule)
 UnlessRuled T (Ok x) = T x
 UnlessRuled T (Err k) = Gives (Ok (Err k))
 
 -- one after another, where the first has rules of records
-abbrev pub AndThen : {A B : Type 0} → (List ℕ → Result (Result A RecordRule) ValueFault → Type 0)
-    → (A → List ℕ → Result (Result B RecordRule) ValueFault → Type 0) → List ℕ
-    → Result (Result B RecordRule) ValueFault → Type 0
+abbrev pub AndThen : {A B : Type 0} → Spelling (Result A RecordRule) → (A → Spelling (Result B RecordRule))
+    → Spelling (Result B RecordRule)
 AndThen S T = Then S (UnlessRuled T)
 
 -- what an answer says of the records that other bytes could spell: where a rule is breached, none agrees with these
@@ -63,7 +63,7 @@ IsDenied S xs (Err OutOfMemory) = Unit {0}
 IsDenied {A = A} S xs (Err (Breach f)) = is_rule f ≡ true → (x : A) → NoneAgrees S xs (Ok (Ok x))
 
 -- the same of a call
-pub record Denies {R A : Type 0} (remaining : R → Option (List ℕ))
-    (S : List ℕ → Result (Result A RecordRule) ValueFault → Type 0) (old : Input R)
-    (r : Result (Result A RecordRule) (Refusal ValueFault)) : Type 0 where
-  pub none : has_failed old ≡ false → (xs : List ℕ) → bytes_left remaining old ≡ Some xs → IsDenied S xs r
+pub record Denies {R A : Type 0} (remaining : R → Option (List ℕ)) (S : Spelling (Result A RecordRule))
+    (old : Input R) (r : Result (Result A RecordRule) (Refusal ValueFault)) : Type 0 where
+  pub none : has_failed old ≡ false → (xs : List ℕ) → bytes_left remaining old ≡ Some xs
+      → IsDenied (S (input_ignore old)) xs r

@@ -1,10 +1,10 @@
 -- START records (SEMI P39 OASIS 1.0, "START record"). Own rule: the most bytes of a version.
 use Rattle.std.specs.Prelude.{ℕ, ◌==◌, nat_lt, not, Bool, true, false, List, [], ◌∷◌, Result, Ok}
 use Rattle.std.specs.Str.{bytes_eq}
-use Rattle.lvl_io.specs.Spelling.{Gives, Then, Chain}
 use Rattle.oasis_values.specs.Known.{Seen}
 use Rattle.oasis_values.specs.Numbers.{IsUnsigned}
 use Rattle.oasis_values.specs.Reals.{IsReal}
+use Rattle.oasis_values.specs.Spelling.{Spelling, Gives, Then, Chain}
 use Rattle.oasis_values.specs.Texts.{IsString}
 use Rattle.oasis_values.specs.declared.fault.ValueFault.{ValueFault}
 use Rattle.oasis_values.specs.declared.number.Real.{Real}
@@ -20,10 +20,10 @@ use Rattle.oasis_records.specs.declared.record.Record.TheVariants.{Start}
 abbrev pub is_version : List ℕ → Bool
 is_version text = bytes_eq text (0x31 ∷ 0x2E ∷ 0x30 ∷ [])
 
-abbrev pub IsVersionText : List ℕ → Result (Result (List ℕ) RecordRule) ValueFault → Type 0
+abbrev pub IsVersionText : Spelling (Result (List ℕ) RecordRule)
 IsVersionText = Seen Ok (IsString A 255)
 
-abbrev pub IsVersion : List ℕ → Result (Result (List ℕ) RecordRule) ValueFault → Type 0
+abbrev pub IsVersion : Spelling (Result (List ℕ) RecordRule)
 IsVersion = AndThen IsVersionText (λ text. Must (is_version text) text Version)
 
 -- no real of a negative type
@@ -33,19 +33,19 @@ is_unit (NegReciprocal n) = false
 is_unit (NegRatio n m) = false
 is_unit r = true
 
-abbrev pub IsUnit : List ℕ → Result (Result Real RecordRule) ValueFault → Type 0
+abbrev pub IsUnit : Spelling (Result Real RecordRule)
 IsUnit = Then IsReal (λ u. Must (is_unit u) u NoUnit)
 
 -- the offset flag
-abbrev pub IsFlag : List ℕ → Result (Result ℕ RecordRule) ValueFault → Type 0
+abbrev pub IsFlag : Spelling (Result ℕ RecordRule)
 IsFlag = Then IsUnsigned (λ f. Must (nat_lt f 2) f Info)
 
 -- twelve offsets of tables, of any values
-abbrev pub AreOffsets : List ℕ → Result Bool ValueFault → Type 0
+abbrev pub AreOffsets : Spelling Bool
 AreOffsets = Seen (λ _. true) (Chain (λ _. IsUnsigned) (λ n. n) 12 0)
 
 -- the offsets, if they are there
-abbrev pub AreTables : Bool → List ℕ → Result Bool ValueFault → Type 0
+abbrev pub AreTables : Bool → Spelling Bool
 AreTables true = AreOffsets
 AreTables false = Gives (Ok false)
 
@@ -57,8 +57,8 @@ abbrev pub start : Real → Bool → Result Record RecordRule
 start unit here = Ok (Start (record { unit = unit; has_offsets_at_end = not here }))
 
 -- what comes after the version
-abbrev pub IsStartOf : List ℕ → Result (Result Record RecordRule) ValueFault → Type 0
+abbrev pub IsStartOf : Spelling (Result Record RecordRule)
 IsStartOf = AndThen IsUnit (λ u. AndThen IsFlag (λ f. Seen (start u) (AreTables (is_here f))))
 
-abbrev pub IsStart : List ℕ → Result (Result Record RecordRule) ValueFault → Type 0
+abbrev pub IsStart : Spelling (Result Record RecordRule)
 IsStart = AndThen IsVersion (λ _. IsStartOf)

@@ -7,10 +7,12 @@ ghost use Rattle.oasis_values.specs.Reads.{Reads};
 ghost use Rattle.oasis_values.specs.Reals.{IsReal, IsSigned};
 ghost use Rattle.oasis_values.specs.Repetitions.{IsRepetition};
 ghost use Rattle.oasis_records.specs.Fields.{has, If};
+ghost use Rattle.oasis_records.specs.Names.{IsStringRef};
 
+use crate::names::skip_string_ref;
 use lvl_io::Read;
 use lvl_refusal::Refusal;
-use oasis_values::{Input, Real, Repetition, ValueFault};
+use oasis_values::{Input, Real, Repetition, Text, ValueFault};
 use std::alloc::Global;
 
 /// Whether a letter of an info byte is set. A letter is the bit's weight.
@@ -90,6 +92,29 @@ pub(crate) fn real_if<R: Read>(
     if has(info, letter) {
         let number = input.real()?;
         return Ok(Some(number));
+    }
+    Ok(None)
+}
+
+/// A string of which nothing is kept, if its letter is set. Another letter says whether it is given by
+/// the number of its record.
+pub(crate) fn skip_string_if<R: Read>(
+    input: &mut Input<R>,
+    kind: Text,
+    info: u8,
+    letter: u8,
+    number: u8,
+) -> Result<Option<()>, ValueFault>
+    requires live { has_failed input.old ≡ false }
+    requires weight { 0 < letter }
+    requires number_weight { 0 < number }
+    ensures reads { Reads R.remaining R.read_errors R.lent
+        (If (has info letter) (IsStringRef kind (has info number))) input.old input.new (as_breach result) }
+{
+    if has(info, letter) {
+        let by_number = has(info, number);
+        skip_string_ref(input, kind, by_number)?;
+        return Ok(Some(()));
     }
     Ok(None)
 }

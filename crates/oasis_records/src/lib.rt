@@ -8,9 +8,9 @@
 //! The bytes of a RECTANGLE are read:
 //!
 //! ```
-//! let mut input = Input::new(Pieces::new(RECTANGLE, usize::MAX));
+//! let mut input = Input::new(Pieces::new(RECTANGLE, usize::MAX), Ignore::NOTHING);
 //! let id = read_id(&mut input)?;
-//! let kind = RecordType::of(id.value)?;
+//! let kind = RecordType::of(id.value, input.ignore())?;
 //! let record = read_fields(&mut input, alloc, kind, id.len, false)?;
 //! assert!(rt; matches!(record, Record::Rectangle(_)));
 //! ```
@@ -22,6 +22,7 @@ pub use fault::{RecordFault, RecordRule};
 pub use figure::{OnLayer, Position};
 pub use magic::read_magic;
 pub use measured::{Measured, read_id};
+pub use names::EntryType;
 pub use path::{Ends, Extension, Path};
 pub use placement::{Placement, Transform};
 pub use points::Points;
@@ -38,12 +39,15 @@ mod fault;
 mod fields;
 mod figure;
 mod info;
+mod label;
 mod magic;
 mod measured;
+mod names;
 mod path;
 mod placement;
 mod points;
 mod polygon;
+mod property;
 mod record;
 mod record_type;
 mod rectangle;

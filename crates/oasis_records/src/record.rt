@@ -8,16 +8,19 @@ ghost use Rattle.oasis_records.specs.Rules.{told, Denies};
 use crate::cell::{CellName, CellRef, read_cell, read_cell_name, read_numbered_name};
 use crate::end::{Validation, read_end};
 use crate::fault::RecordFault;
+use crate::label::read_label;
+use crate::names::read_entry;
 use crate::path::{Path, read_path};
 use crate::placement::{Placement, read_scaled, read_turned};
 use crate::polygon::{Polygon, read_polygon};
+use crate::property::read_property;
 use crate::record_type::RecordType;
 use crate::rectangle::{Rectangle, read_rectangle};
 use crate::rules::of_values;
 use crate::start::{Start, read_start};
 use lvl_io::Read;
 use lvl_refusal::Refusal;
-use oasis_values::Input;
+use oasis_values::{Input, Repetition};
 use std::alloc::Global;
 
 /// A record, as it is: a field that isn't there is None.
@@ -28,6 +31,12 @@ pub enum Record {
     End(Validation),
     CellName(CellName),
     Cell(CellRef),
+    /// A record that gives a name or a string by its number, but for CELLNAME. Nothing of it is kept.
+    Entry,
+    /// A TEXT, of which its repetition is kept: later records may use it again.
+    Text(Option<Repetition>),
+    /// A PROPERTY. Nothing of it is kept.
+    Property,
     XyAbsolute,
     XyRelative,
     Placement(Placement),
@@ -78,6 +87,16 @@ fn fields_of<R: Read>(
         RecordType::NumberedCellName => of_values(read_numbered_name(input, alloc)),
         RecordType::NumberedCell => of_values(read_cell(input, alloc, true)),
         RecordType::NamedCell => of_values(read_cell(input, alloc, false)),
+        RecordType::Entry(kind) => {
+            let entry = read_entry(input, kind)?;
+            Ok(entry)
+        }
+        RecordType::Text => read_label(input, alloc),
+        RecordType::Property => {
+            let property = read_property(input)?;
+            Ok(property)
+        }
+        RecordType::LastProperty => Ok(Record::Property),
         RecordType::XyAbsolute => Ok(Record::XyAbsolute),
         RecordType::XyRelative => Ok(Record::XyRelative),
         RecordType::Placement => of_values(read_turned(input, alloc)),

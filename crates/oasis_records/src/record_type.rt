@@ -1,10 +1,13 @@
 //! The types of records, by their ids.
 ghost use Rattle.std.specs.Prelude.{◌≡◌};
-ghost use Rattle.oasis_records.specs.Records.{record_type};
+ghost use Rattle.oasis_records.specs.Records.{record_type, type_if};
 
 use crate::fault::RecordRule;
+use crate::names::EntryType;
+use lvl_ignore::Ignore;
+use oasis_values::Text;
 
-/// The types of records that are read.
+/// The types of records that are read, of which some are only read to be ignored.
 #[derive(Clone, Copy, Debug, Drop, PartialEq, Eq)]
 pub enum RecordType {
     Pad,
@@ -18,6 +21,12 @@ pub enum RecordType {
     NumberedCell,
     /// A CELL by its name.
     NamedCell,
+    /// A record that gives a name or a string by its number, but for CELLNAME.
+    Entry(EntryType),
+    Text,
+    Property,
+    /// The last PROPERTY again.
+    LastProperty,
     XyAbsolute,
     XyRelative,
     /// A PLACEMENT that is turned by right angles.
@@ -29,10 +38,23 @@ pub enum RecordType {
     Path,
 }
 
+// The type, if records of it are read.
+fn type_if(is_read: bool, kind: RecordType, id: u64) -> Result<RecordType, RecordRule>
+    ensures { result ≡ type_if is_read kind id }
+{
+    if is_read {
+        Ok(kind)
+    } else {
+        Err(RecordRule::Unsupported(id))
+    }
+}
+
 impl RecordType {
-    /// The type of an id. `Unsupported` is answered of all ids but 0 to 4, 13 to 18 and 20 to 22.
-    pub fn of(id: u64) -> Result<RecordType, RecordRule>
-        ensures { result ≡ record_type id }
+    /// The type of an id. `Unsupported` is reported of an id that isn't read: of all but 0 to 4, 13 to 18
+    /// and 20 to 22, and those that are ignored. These are 11, 12, 30 and 31 as names, 5, 6 and 19 as
+    /// texts, and 7 to 10, 28 and 29 as properties (SEMI P39, "Records").
+    pub fn of(id: u64, ignore: Ignore) -> Result<RecordType, RecordRule>
+        ensures { result ≡ record_type ignore id }
     {
         match id {
             0 => Ok(RecordType::Pad),
@@ -40,15 +62,55 @@ impl RecordType {
             2 => Ok(RecordType::End),
             3 => Ok(RecordType::CellName),
             4 => Ok(RecordType::NumberedCellName),
+            5 => type_if(
+                ignore.texts,
+                RecordType::Entry(EntryType::String(Text::A)),
+                id,
+            ),
+            6 => type_if(
+                ignore.texts,
+                RecordType::Entry(EntryType::NumberedString(Text::A)),
+                id,
+            ),
+            7 => type_if(
+                ignore.properties,
+                RecordType::Entry(EntryType::String(Text::N)),
+                id,
+            ),
+            8 => type_if(
+                ignore.properties,
+                RecordType::Entry(EntryType::NumberedString(Text::N)),
+                id,
+            ),
+            9 => type_if(
+                ignore.properties,
+                RecordType::Entry(EntryType::String(Text::B)),
+                id,
+            ),
+            10 => type_if(
+                ignore.properties,
+                RecordType::Entry(EntryType::NumberedString(Text::B)),
+                id,
+            ),
+            11 | 12 => type_if(ignore.names, RecordType::Entry(EntryType::LayerName), id),
             13 => Ok(RecordType::NumberedCell),
             14 => Ok(RecordType::NamedCell),
             15 => Ok(RecordType::XyAbsolute),
             16 => Ok(RecordType::XyRelative),
             17 => Ok(RecordType::Placement),
             18 => Ok(RecordType::ScaledPlacement),
+            19 => type_if(ignore.texts, RecordType::Text, id),
             20 => Ok(RecordType::Rectangle),
             21 => Ok(RecordType::Polygon),
             22 => Ok(RecordType::Path),
+            28 => type_if(ignore.properties, RecordType::Property, id),
+            29 => type_if(ignore.properties, RecordType::LastProperty, id),
+            30 => type_if(ignore.names, RecordType::Entry(EntryType::XName), id),
+            31 => type_if(
+                ignore.names,
+                RecordType::Entry(EntryType::NumberedXName),
+                id,
+            ),
             _ => Err(RecordRule::Unsupported(id)),
         }
     }

@@ -1,5 +1,6 @@
 //! Rules that are tested of values as they are read.
 ghost use Rattle.std.specs.Prelude.{◌≡◌, Ok};
+ghost use Rattle.oasis_values.specs.Faults.{as_breach};
 ghost use Rattle.oasis_records.specs.Rules.{told, told_breach, plain, obeyed};
 
 use crate::fault::{RecordFault, RecordRule};
@@ -27,5 +28,15 @@ pub(crate) fn of_values<T: Drop>(
         Ok(value) => Ok(value),
         Err(Refusal::Breach(fault)) => Err(Refusal::Breach(RecordFault::Value(fault))),
         Err(Refusal::OutOfMemory) => Err(Refusal::OutOfMemory),
+    }
+}
+
+/// The same of a call that takes no memory.
+pub(crate) fn no_rule<T: Drop>(answer: Result<T, ValueFault>) -> Result<T, RecordFault>
+    ensures { told_breach result ≡ plain (as_breach answer) }
+{
+    match answer {
+        Ok(value) => Ok(value),
+        Err(fault) => Err(RecordFault::Value(fault)),
     }
 }

@@ -9,6 +9,7 @@ use Rattle.lvl_io.specs.Spelling.{IsBegun}
 use Rattle.lvl_io.proofs.Spelling.{front_only, breached_none, begun_open}
 use Rattle.lvl_grammar.proofs.Agreeing.{agree_ends}
 use Rattle.lvl_grammar.proofs.Laws.{IsGrammar}
+use Rattle.lvl_ignore.specs.declared.ignore.Ignore.{Ignore}
 use Rattle.oasis_values.specs.declared.fault.ValueFault.{ValueFault}
 use Rattle.oasis_stream.specs.Items.{Item}
 use Rattle.oasis_stream.specs.Rules.{Breaches, MayFollow}
@@ -16,53 +17,54 @@ use Rattle.oasis_stream.specs.Front.{IsItem, IsTooLong, BreaksRule, IsWrong, oas
 use Rattle.oasis_stream.specs.declared.fault.OasisKind.{OasisKind}
 use Rattle.oasis_stream.specs.declared.fault.OasisKind.TheVariants.{Value, Record, Unexpected, Name, Figure, AfterEnd}
 use Rattle.oasis_stream.specs.declared.fault.OasisKind.TheVariants.{TooManyCells}
-use Rattle.oasis_stream.proofs.Items.{item_code, item_needs, front_needs}
+use Rattle.oasis_stream.proofs.Items.{item_needs, front_needs, item_free}
 
 abbrev said : Item → Result (Result Item OasisKind) ValueFault
 said i = Ok (Ok i)
 
-abbrev Spelled : List Item → List ℕ → Item → Type 0
-Spelled before bytes i = IsItem before bytes (Ok (Ok i))
+abbrev Spelled : Ignore → List Item → List ℕ → Item → Type 0
+Spelled ignore before bytes i = IsItem before ignore bytes (Ok (Ok i))
 
 same_item : (i j : Item) → said i ≡ said j → i ≡ j
 same_item i j e = cc
 
 -- after the same items, bytes that begin alike spell the same item by the same bytes
-one_item : (before : List Item) (i j : Item) (a b x y : List ℕ) → Spelled before a i → Spelled before b j
+one_item : (ignore : Ignore) (before : List Item) (i j : Item) (a b x y : List ℕ) → Spelled ignore before a i → Spelled ignore before b j
     → a ++ x ≡ b ++ y → (a ≡ b) × (i ≡ j)
-one_item before i j a b x y p q e =
-    let o = (item_code before).free.only a b x y (Ok (Ok i)) (Ok (Ok j)) p q e in
+one_item ignore before i j a b x y p q e =
+    let free = item_free before ignore in
+    let o = free.only a b x y (Ok (Ok i)) (Ok (Ok j)) p q e in
     (o.0, same_item i j o.1)
 
-rule_needs : (before : List Item) (room : ℕ) (ys : List ℕ) (k : OasisKind) → BreaksRule before room ys k → 0 < length ys
-rule_needs before room ys k w = elim w.3 [
-  | inl p ↦ front_needs before ys w.1 (Ok (Err k)) p
-  | inr p ↦ front_needs before ys w.1 (Ok (Ok p.0)) p.1
+rule_needs : (ignore : Ignore) (before : List Item) (room : ℕ) (ys : List ℕ) (k : OasisKind) → BreaksRule ignore before room ys k → 0 < length ys
+rule_needs ignore before room ys k w = elim w.3 [
+  | inl p ↦ front_needs ignore before ys w.1 (Ok (Err k)) p
+  | inr p ↦ front_needs ignore before ys w.1 (Ok (Ok p.0)) p.1
 ]
 
 -- a rule is breached by some bytes
-wrong_here : (before : List Item) (room : ℕ) (ys : List ℕ) (k : OasisKind) → IsWrong before room ys k → 0 < length ys
-wrong_here before room ys (Value f) w = elim w [
+wrong_here : (ignore : Ignore) (before : List Item) (room : ℕ) (ys : List ℕ) (k : OasisKind) → IsWrong ignore before room ys k → 0 < length ys
+wrong_here ignore before room ys (Value f) w = elim w [
   | inl p ↦ omega (arith, p.1.0)
-  | inr p ↦ front_needs before ys p.2.count (Err f) p.2.front
+  | inr p ↦ front_needs ignore before ys p.2.count (Err f) p.2.front
 ]
-wrong_here before room ys AfterEnd w = w.2
-wrong_here before room ys (Record k) w = rule_needs before room ys (Record k) w
-wrong_here before room ys (Unexpected id) w = rule_needs before room ys (Unexpected id) w
-wrong_here before room ys (Name k) w = rule_needs before room ys (Name k) w
-wrong_here before room ys (Figure k) w = rule_needs before room ys (Figure k) w
-wrong_here before room ys TooManyCells w = rule_needs before room ys TooManyCells w
+wrong_here ignore before room ys AfterEnd w = w.2
+wrong_here ignore before room ys (Record k) w = rule_needs ignore before room ys (Record k) w
+wrong_here ignore before room ys (Unexpected id) w = rule_needs ignore before room ys (Unexpected id) w
+wrong_here ignore before room ys (Name k) w = rule_needs ignore before room ys (Name k) w
+wrong_here ignore before room ys (Figure k) w = rule_needs ignore before room ys (Figure k) w
+wrong_here ignore before room ys TooManyCells w = rule_needs ignore before room ys TooManyCells w
 
 -- where bytes at the front breach a rule no item may follow
-rule_stops : (before : List Item) (room : ℕ) (ys text : List ℕ) (i : Item) (k : OasisKind) → BreaksRule before room ys k
-    → Spelled before text i → MayFollow before i → Agree text ys → ⊥
-rule_stops before room ys text i k w p g agree = elim w.3 [
-  | inl q ↦ (let e : Ok (Err k) ≡ Ok (Ok i) = front_only (IsItem before) ys w.1 (Ok (Err k)) (Ok (Ok i))
-      (item_code before).free q text p agree in
+rule_stops : (ignore : Ignore) (before : List Item) (room : ℕ) (ys text : List ℕ) (i : Item) (k : OasisKind) → BreaksRule ignore before room ys k
+    → Spelled ignore before text i → MayFollow before i → Agree text ys → ⊥
+rule_stops ignore before room ys text i k w p g agree = elim w.3 [
+  | inl q ↦ (let e : Ok (Err k) ≡ Ok (Ok i) = front_only (IsItem before ignore) ys w.1 (Ok (Err k)) (Ok (Ok i))
+      (item_free before ignore) q text p agree in
       let h : Err k ≡ Ok i = cc in cc)
   | inr q ↦
-      let e : q.0 ≡ i = same_item q.0 i (front_only (IsItem before) ys w.1 (Ok (Ok q.0)) (Ok (Ok i))
-      (item_code before).free q.1 text p agree) in
+      let e : q.0 ≡ i = same_item q.0 i (front_only (IsItem before ignore) ys w.1 (Ok (Ok q.0)) (Ok (Ok i))
+      (item_free before ignore) q.1 text p agree) in
       g.1 k (subst (λ (j : Item). Breaches before j k) e q.2)
 ]
 
@@ -86,42 +88,42 @@ front_in text ys x y e fits =
     (sym e) ∙ take-append_seam text x)
 
 -- an unfinished beginning has no item at its front
-begun_none : (before : List Item) (ys text rest : List ℕ) (i : Item) → IsBegun (IsItem before) ys
-    → Spelled before text i → ys ≡ text ++ rest → ⊥
-begun_none before ys text rest i b p e =
-    begun_open (IsItem before) ys (length text) (Ok (Ok i)) (item_code before).free b
+begun_none : (ignore : Ignore) (before : List Item) (ys text rest : List ℕ) (i : Item) → IsBegun (IsItem before ignore) ys
+    → Spelled ignore before text i → ys ≡ text ++ rest → ⊥
+begun_none ignore before ys text rest i b p e =
+    begun_open (IsItem before ignore) ys (length text) (Ok (Ok i)) (item_free before ignore) b
     (record { bytes = text; rest = rest; says = p; whole = e; count = refl })
 
-long_none : (before : List Item) (room : ℕ) (ys text : List ℕ) (i : Item) → IsTooLong before room ys
-    → Spelled before text i
+long_none : (ignore : Ignore) (before : List Item) (room : ℕ) (ys text : List ℕ) (i : Item) → IsTooLong ignore before room ys
+    → Spelled ignore before text i
     → Agree text ys → length text ≤ room → ⊥
-long_none before room ys text i (more, (ended, begun)) p agree fits =
+long_none ignore before room ys text i (more, (ended, begun)) p agree fits =
     let q = within_room room text ys agree in
     let l : length text ≤ length (take room ys) = omega (arith, fits, more, length-take room ys) in
-    begun_none before (take room ys) text (drop (length text) (take room ys)) i begun p
+    begun_none ignore before (take room ys) text (drop (length text) (take room ys)) i begun p
     (front_in text (take room ys) q.0 q.1 q.2 l)
 
 -- where a rule is breached no item may follow
-wrong_stops : (before : List Item) (room : ℕ) (ys text : List ℕ) (i : Item) (k : OasisKind) → IsWrong before room ys k
-    → Spelled before text i → MayFollow before i → Agree text ys → length text ≤ room → ⊥
-wrong_stops before room ys text i (Value f) w p g agree fits = elim w [
-  | inl q ↦ long_none before room ys text i q.1 p agree fits
-  | inr q ↦ breached_none (IsItem before) ys q.2.count f (Ok i) (item_code before).free q.2.front text p agree
+wrong_stops : (ignore : Ignore) (before : List Item) (room : ℕ) (ys text : List ℕ) (i : Item) (k : OasisKind) → IsWrong ignore before room ys k
+    → Spelled ignore before text i → MayFollow before i → Agree text ys → length text ≤ room → ⊥
+wrong_stops ignore before room ys text i (Value f) w p g agree fits = elim w [
+  | inl q ↦ long_none ignore before room ys text i q.1 p agree fits
+  | inr q ↦ breached_none (IsItem before ignore) ys q.2.count f (Ok i) (item_free before ignore) q.2.front text p agree
 ]
-wrong_stops before room ys text i AfterEnd w p g agree fits = g.0 w.0
-wrong_stops before room ys text i (Record k) w p g agree fits = rule_stops before room ys text i (Record k) w p g agree
-wrong_stops before room ys text i (Unexpected id) w p g agree fits =
-    rule_stops before room ys text i (Unexpected id) w p g agree
-wrong_stops before room ys text i (Name k) w p g agree fits = rule_stops before room ys text i (Name k) w p g agree
-wrong_stops before room ys text i (Figure k) w p g agree fits = rule_stops before room ys text i (Figure k) w p g agree
-wrong_stops before room ys text i TooManyCells w p g agree fits =
-    rule_stops before room ys text i TooManyCells w p g agree
+wrong_stops ignore before room ys text i AfterEnd w p g agree fits = g.0 w.0
+wrong_stops ignore before room ys text i (Record k) w p g agree fits = rule_stops ignore before room ys text i (Record k) w p g agree
+wrong_stops ignore before room ys text i (Unexpected id) w p g agree fits =
+    rule_stops ignore before room ys text i (Unexpected id) w p g agree
+wrong_stops ignore before room ys text i (Name k) w p g agree fits = rule_stops ignore before room ys text i (Name k) w p g agree
+wrong_stops ignore before room ys text i (Figure k) w p g agree fits = rule_stops ignore before room ys text i (Figure k) w p g agree
+wrong_stops ignore before room ys text i TooManyCells w p g agree fits =
+    rule_stops ignore before room ys text i TooManyCells w p g agree
 
-pub is_grammar : IsGrammar oasis
-is_grammar = record {
-  decided = λ before r s a b x y p q f g e. one_item before r s a b x y p q e;
-  some = λ before a r p. item_needs before a (Ok (Ok r)) p;
-  here = wrong_here;
-  stops = wrong_stops;
-  cut = λ before ys text rest r c n p f e. begun_none before ys text rest r c.1 p e;
+pub is_grammar : (ignore : Ignore) → IsGrammar (oasis ignore)
+is_grammar ignore = record {
+  decided = λ before r s a b x y p q f g e. one_item ignore before r s a b x y p q e;
+  some = λ before a r p. item_needs ignore before a (Ok (Ok r)) p;
+  here = wrong_here ignore;
+  stops = wrong_stops ignore;
+  cut = λ before ys text rest r c n p f e. begun_none ignore before ys text rest r c.1 p e;
 }

@@ -1,23 +1,29 @@
 -- What bytes say of the next item of a file: their spelling is free of prefixes, and no item is spelled by no bytes.
 use Rattle.std.proofs.Common.{◌≡◌, ◌≢◌, ℕ, ◌<◌, Bool, true, false, not, ◌&&◌, nat_lt, if◌then◌else◌, List, [], ◌∷◌}
-use Rattle.std.proofs.Common.{length, Result, Ok, Err, sym, ap, arith, length-append}
-use Rattle.lvl_io.specs.Spelling.{Gives, Then, UnlessBreached, IsFront}
-use Rattle.oasis_values.specs.Numbers.{IsByte, IsUnsigned}
+use Rattle.std.proofs.Common.{◌==◌, drop, length, Result, Ok, Err, sym, ap, arith, length-append}
+use Rattle.lvl_io.specs.Spelling.{UnlessBreached, IsFront, IsPrefixFree, CanSay}
+use Rattle.lvl_ignore.specs.declared.ignore.Ignore.{Ignore}
+use Rattle.lvl_io.proofs.Spelling.{then_free, then_said}
+use Rattle.oasis_records.specs.Rules.{UnlessRuled, Must}
+use Rattle.oasis_values.specs.Numbers.{IsOneByte, IsByte, IsUnsigned}
+use Rattle.oasis_values.specs.Spelling.{Spelling, Gives, Then}
+use Rattle.oasis_values.proofs.Codes.{gives_code, seen_code, IsCode}
+use Rattle.oasis_values.proofs.Integers.{unsigned_code}
 use Rattle.oasis_values.specs.declared.fault.ValueFault.{ValueFault}
-use Rattle.oasis_records.specs.Magic.{magic as magic_bytes, IsMagicByte, IsMagic}
+use Rattle.oasis_records.specs.Magic.{magic as magic_bytes, IsMagicByte, IsMagic, AreMagicBytes}
 use Rattle.oasis_records.specs.Records.{record_type}
 use Rattle.oasis_records.specs.Sizes.{Sized}
 use Rattle.oasis_records.specs.declared.fault.RecordRule.{RecordRule}
+use Rattle.oasis_records.specs.declared.fault.RecordRule.TheVariants.{Magic as WrongMagic}
 use Rattle.oasis_records.specs.declared.measured.Measured.{Measured}
 use Rattle.oasis_records.specs.declared.record.Record.{Record}
 use Rattle.oasis_records.specs.declared.record_type.RecordType.{RecordType}
-use Rattle.oasis_records.proofs.Codes.{IsCode, gives_code, then_code, seen_code, unsigned_code}
 use Rattle.oasis_records.proofs.Sizes.{sized_code}
 use Rattle.oasis_records.proofs.Whole.{magic_code, fields_code}
 use Rattle.oasis_stream.specs.Items.{Item, magic, item, records}
 use Rattle.lvl_cells.specs.Building.{cell_limit}
 use Rattle.oasis_stream.specs.Order.{at_end, cells_in, opens_cell, mixes, is_expected, allowed, type_after}
-use Rattle.oasis_stream.specs.Front.{of_magic, of_record, IsTyped, IsItem}
+use Rattle.oasis_stream.specs.Front.{of_magic, of_record, IsTyped, IsItem, IsTypedAfter}
 use Rattle.oasis_stream.specs.declared.fault.NameRule.TheVariants.{Mixed}
 use Rattle.oasis_stream.specs.declared.fault.OasisKind.{OasisKind}
 use Rattle.oasis_stream.specs.declared.fault.OasisKind.TheVariants.{Record as OfRecord, Unexpected, Name, AfterEnd}
@@ -28,63 +34,76 @@ typed_code b n (Ok t) = seen_code of_record (fields_code b n t)
 typed_code b n (Err k) = gives_code
 
 -- what bytes say of the next item is one thing at most
-pub item_code : (before : List Item) → IsCode (IsItem before)
-item_code [] = seen_code of_magic (magic_code magic_bytes)
-item_code (i ∷ is) =
-    then_code (sized_code unsigned_code) (λ id. typed_code (at_end (records (i ∷ is))) id.len
-    (type_after (records (i ∷ is)) id.value))
+pub item_free : (before : List Item) (ignore : Ignore) → IsPrefixFree (IsItem before ignore)
+item_free [] ignore = (seen_code of_magic (magic_code magic_bytes)).free ignore
+item_free (i ∷ is) ignore =
+    let rs = records (i ∷ is) in
+    then_free (Sized IsUnsigned ignore) (λ id. IsTypedAfter rs id ignore) ((sized_code unsigned_code).free ignore)
+    (λ id. (typed_code (at_end rs) id.len (type_after ignore rs id.value)).free ignore)
+
+-- something can be said of it
+pub typed_said : (rs : List Record) (id : Measured) (ignore : Ignore) → CanSay (IsTypedAfter rs id ignore)
+typed_said rs id ignore = (typed_code (at_end rs) id.len (type_after ignore rs id.value)).said ignore
+
+pub item_said : (before : List Item) (ignore : Ignore) → CanSay (IsItem before ignore)
+item_said [] ignore = (seen_code of_magic (magic_code magic_bytes)).said ignore
+item_said (i ∷ is) ignore =
+    let rs = records (i ∷ is) in
+    then_said (Sized IsUnsigned ignore) (λ id. IsTypedAfter rs id ignore) ((sized_code unsigned_code).said ignore)
+    (λ id. typed_said rs id ignore)
 
 -- it takes some bytes to say something
 abbrev NeedsBytes : {A : Type 0} → (List ℕ → A → Type 0) → Type 0
 NeedsBytes {A = A} S = (b : List ℕ) (x : A) → S b x → 0 < length b
 
-byte_needs : NeedsBytes IsByte
+byte_needs : NeedsBytes IsOneByte
 byte_needs b (Ok x) s = omega (arith, ap length s)
 byte_needs b (Err f) s = absurd s
 
-then_needs : {A B F : Type 0} (S : List ℕ → Result A F → Type 0) (T : A → List ℕ → Result B F → Type 0) → NeedsBytes S
-    → NeedsBytes (Then S T)
-then_needs S T s b y p =
+then_needs : {A B : Type 0} (ignore : Ignore) (S : Spelling A) (T : A → Spelling B) → NeedsBytes (S ignore)
+    → NeedsBytes (Then S T ignore)
+then_needs ignore S T s b y p =
     omega (arith, s p.first p.value p.first_says, ap length p.joined, length-append p.first p.second)
 
-sized_needs : NeedsBytes (Sized IsUnsigned)
-sized_needs b (Ok m) s = omega (arith, ap length s.0.bytes, length-append s.0.front (s.0.last ∷ []))
-sized_needs b (Err f) s = omega (arith, ap length s.1.bytes, length-append s.1.front (s.1.tenth ∷ []))
+sized_needs : (ignore : Ignore) → NeedsBytes (Sized IsUnsigned ignore)
+sized_needs ignore b (Ok m) s = omega (arith, ap length s.0.bytes, length-append s.0.front (s.0.last ∷ []))
+sized_needs ignore b (Err f) s = omega (arith, ap length s.1.bytes, length-append s.1.front (s.1.last ∷ []))
 
-pub item_needs : (before : List Item) → NeedsBytes (IsItem before)
-item_needs [] =
-    then_needs IsMagic (λ x. Gives (Ok (of_magic x))) (then_needs (IsMagicByte 0x25) _ (then_needs IsByte _ byte_needs))
-item_needs (i ∷ is) =
-    then_needs (Sized IsUnsigned) (λ id. IsTyped (at_end (records (i ∷ is))) id.len
-    (type_after (records (i ∷ is)) id.value)) sized_needs
+pub item_needs : (ignore : Ignore) (before : List Item) → NeedsBytes (IsItem before ignore)
+item_needs ignore [] =
+    then_needs ignore IsMagic (λ x. Gives (Ok (of_magic x)))
+    (then_needs ignore (IsMagicByte 0x25) (UnlessRuled (λ _. AreMagicBytes (drop 1 magic_bytes)))
+    (then_needs ignore IsByte (λ b. Must (b == 0x25) b WrongMagic) byte_needs))
+item_needs ignore (i ∷ is) =
+    then_needs ignore (Sized IsUnsigned) (IsTypedAfter (records (i ∷ is))) (sized_needs ignore)
 
 -- so where something is said at the front, some bytes are there
-pub front_needs : (before : List Item) (ys : List ℕ) (n : ℕ) (x : Result (Result Item OasisKind) ValueFault)
-    → IsFront (IsItem before) ys n x → 0 < length ys
-front_needs before ys n x p =
-    omega (arith, item_needs before p.bytes x p.says, ap length p.whole, length-append p.bytes p.rest)
+pub front_needs : (ignore : Ignore) (before : List Item) (ys : List ℕ) (n : ℕ)
+    (x : Result (Result Item OasisKind) ValueFault) → IsFront (IsItem before ignore) ys n x → 0 < length ys
+front_needs ignore before ys n x p =
+    omega (arith, item_needs ignore before p.bytes x p.says, ap length p.whole, length-append p.bytes p.rest)
 
 -- that bytes follow END is said of no next item
 
 abbrev AfterEndOf : Result (Result Item OasisKind) ValueFault
 AfterEndOf = Ok (Err AfterEnd)
 
-after_magic : (x : Result (Result (Unit {0}) RecordRule) ValueFault) (b : List ℕ)
-    → UnlessBreached (λ y. Gives (Ok (of_magic y))) x b AfterEndOf → ⊥
-after_magic (Ok (Ok u)) b h = (let e : AfterEndOf ≡ Ok (Ok magic) = h.1 in cc)
-after_magic (Ok (Err k)) b h = (let e : AfterEndOf ≡ Ok (Err (OfRecord k)) = h.1 in cc)
-after_magic (Err f) b h = (let e : AfterEndOf ≡ Err f = h.1 in cc)
+after_magic : (ignore : Ignore) (x : Result (Result (Unit {0}) RecordRule) ValueFault) (b : List ℕ)
+    → UnlessBreached (λ y. Gives (Ok (of_magic y)) ignore) x b AfterEndOf → ⊥
+after_magic ignore (Ok (Ok u)) b h = (let e : AfterEndOf ≡ Ok (Ok magic) = h.1 in cc)
+after_magic ignore (Ok (Err k)) b h = (let e : AfterEndOf ≡ Ok (Err (OfRecord k)) = h.1 in cc)
+after_magic ignore (Err f) b h = (let e : AfterEndOf ≡ Err f = h.1 in cc)
 
-after_record : (x : Result (Result Record RecordRule) ValueFault) (b : List ℕ)
-    → UnlessBreached (λ y. Gives (Ok (of_record y))) x b AfterEndOf → ⊥
-after_record (Ok (Ok r)) b h = (let e : AfterEndOf ≡ Ok (Ok (item r)) = h.1 in cc)
-after_record (Ok (Err k)) b h = (let e : AfterEndOf ≡ Ok (Err (OfRecord k)) = h.1 in cc)
-after_record (Err f) b h = (let e : AfterEndOf ≡ Err f = h.1 in cc)
+after_record : (ignore : Ignore) (x : Result (Result Record RecordRule) ValueFault) (b : List ℕ)
+    → UnlessBreached (λ y. Gives (Ok (of_record y)) ignore) x b AfterEndOf → ⊥
+after_record ignore (Ok (Ok r)) b h = (let e : AfterEndOf ≡ Ok (Ok (item r)) = h.1 in cc)
+after_record ignore (Ok (Err k)) b h = (let e : AfterEndOf ≡ Ok (Err (OfRecord k)) = h.1 in cc)
+after_record ignore (Err f) b h = (let e : AfterEndOf ≡ Err f = h.1 in cc)
 
-after_typed : (has_offsets : Bool) (n : ℕ) (t : Result RecordType OasisKind) (b : List ℕ) → t ≢ Err AfterEnd
-    → IsTyped has_offsets n t b AfterEndOf → ⊥
-after_typed has_offsets n (Ok t) b other h = after_record h.value h.second h.second_says
-after_typed has_offsets n (Err k) b other h =
+after_typed : (ignore : Ignore) (has_offsets : Bool) (n : ℕ) (t : Result RecordType OasisKind) (b : List ℕ)
+    → t ≢ Err AfterEnd → IsTyped has_offsets n t ignore b AfterEndOf → ⊥
+after_typed ignore has_offsets n (Ok t) b other h = after_record ignore h.value h.second h.second_says
+after_typed ignore has_offsets n (Err k) b other h =
     other (let e : AfterEndOf ≡ Ok (Err k) = h.1 in let f : AfterEnd ≡ k = cc in ap (λ (i : OasisKind). Err i) (sym f))
 
 other_if : (b : Bool) (x y : Result RecordType OasisKind) → x ≢ Err AfterEnd → y ≢ Err AfterEnd
@@ -99,16 +118,17 @@ other_allowed rs (Ok t) =
     (other_if full (Err TooManyCells) (Ok t) (λ e. cc) (λ e. cc))
 other_allowed rs (Err k) = λ e. cc
 
-other_type : (rs : List Record) (id : ℕ) → type_after rs id ≢ Err AfterEnd
-other_type rs id =
-    other_if (is_expected rs (record_type id)) (allowed rs (record_type id)) (Err (Unexpected id))
-    (other_allowed rs (record_type id)) (λ e. cc)
+other_type : (ignore : Ignore) (rs : List Record) (id : ℕ) → type_after ignore rs id ≢ Err AfterEnd
+other_type ignore rs id =
+    let t = record_type ignore id in
+    other_if (is_expected rs t) (allowed rs t) (Err (Unexpected id)) (other_allowed rs t) (λ e. cc)
 
-after_id : (rs : List Record) (x : Result Measured ValueFault) (b : List ℕ)
-    → UnlessBreached (λ id. IsTyped (at_end rs) id.len (type_after rs id.value)) x b AfterEndOf → ⊥
-after_id rs (Ok id) b h = after_typed (at_end rs) id.len (type_after rs id.value) b (other_type rs id.value) h
-after_id rs (Err f) b h = (let e : AfterEndOf ≡ Err f = h.1 in cc)
+after_id : (ignore : Ignore) (rs : List Record) (x : Result Measured ValueFault) (b : List ℕ)
+    → UnlessBreached (λ id. IsTypedAfter rs id ignore) x b AfterEndOf → ⊥
+after_id ignore rs (Ok id) b h =
+    after_typed ignore (at_end rs) id.len (type_after ignore rs id.value) b (other_type ignore rs id.value) h
+after_id ignore rs (Err f) b h = (let e : AfterEndOf ≡ Err f = h.1 in cc)
 
-pub never_after : (before : List Item) (b : List ℕ) → IsItem before b (Ok (Err AfterEnd)) → ⊥
-never_after [] b h = after_magic h.value h.second h.second_says
-never_after (i ∷ is) b h = after_id (records (i ∷ is)) h.value h.second h.second_says
+pub never_after : (ignore : Ignore) (before : List Item) (b : List ℕ) → IsItem before ignore b (Ok (Err AfterEnd)) → ⊥
+never_after ignore [] b h = after_magic ignore h.value h.second h.second_says
+never_after ignore (i ∷ is) b h = after_id ignore (records (i ∷ is)) h.value h.second h.second_says

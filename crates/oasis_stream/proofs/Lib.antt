@@ -7,3 +7,4 @@ pub mod Only
 pub mod Seen
 pub mod Steps
 pub mod Ending
+pub mod Growing

@@ -5,6 +5,7 @@ use Rattle.std.proofs.Common.{inl, inr, arith, length-take}
 use Rattle.std.proofs.lemmas.List.{take-append-drop}
 use Rattle.lvl_io.specs.Spelling.{IsFront}
 use Rattle.lvl_io.proofs.Spelling.{front_only, begun_open}
+use Rattle.lvl_ignore.specs.declared.ignore.Ignore.{Ignore}
 use Rattle.oasis_values.specs.declared.fault.ValueFault.{ValueFault}
 use Rattle.oasis_values.specs.declared.fault.ValueFault.TheVariants.{TooLong}
 use Rattle.oasis_stream.specs.Items.{Item, IsEnded}
@@ -13,7 +14,7 @@ use Rattle.oasis_stream.specs.Front.{IsItem, IsTooLong, BreaksRule, IsWrong}
 use Rattle.oasis_stream.specs.declared.fault.OasisKind.{OasisKind}
 use Rattle.oasis_stream.specs.declared.fault.OasisKind.TheVariants.{Value, Record, Unexpected, Name, Figure, AfterEnd}
 use Rattle.oasis_stream.specs.declared.fault.OasisKind.TheVariants.{TooManyCells}
-use Rattle.oasis_stream.proofs.Items.{item_code}
+use Rattle.oasis_stream.proofs.Items.{item_free}
 use Rattle.oasis_stream.proofs.Instance.{front_in}
 use Rattle.oasis_stream.proofs.Once.{breaches_once}
 
@@ -30,17 +31,17 @@ explains_once before (Ok (Err r)) j k p q = p ∙ sym q
 explains_once before (Ok (Ok i)) j k p q = breaches_once before i j k p q
 
 -- bytes at the front that there is room for are why
-record IsExplained (before : List Item) (room : ℕ) (ys : List ℕ) (k : OasisKind) : Type 0 where
+record IsExplained (ignore : Ignore) (before : List Item) (room : ℕ) (ys : List ℕ) (k : OasisKind) : Type 0 where
   unended : ¬ IsEnded before
   count : ℕ
   within : count ≤ room
   said : Result (Result Item OasisKind) ValueFault
-  front : IsFront (IsItem before) ys count said
+  front : IsFront (IsItem before ignore) ys count said
   why : Explains before said k
 
-record IsLong (before : List Item) (room : ℕ) (ys : List ℕ) (k : OasisKind) : Type 0 where
+record IsLong (ignore : Ignore) (before : List Item) (room : ℕ) (ys : List ℕ) (k : OasisKind) : Type 0 where
   kind : k ≡ Value TooLong
-  long : IsTooLong before room ys
+  long : IsTooLong ignore before room ys
 
 record IsAfter (before : List Item) (room : ℕ) (ys : List ℕ) (k : OasisKind) : Type 0 where
   kind : k ≡ AfterEnd
@@ -48,19 +49,19 @@ record IsAfter (before : List Item) (room : ℕ) (ys : List ℕ) (k : OasisKind)
   room_is : 0 < room
   some : 0 < length ys
 
-abbrev Cause : List Item → ℕ → List ℕ → OasisKind → Type 0
-Cause before room ys k = IsExplained before room ys k ⊎ (IsLong before room ys k ⊎ IsAfter before room ys k)
+abbrev Cause : Ignore → List Item → ℕ → List ℕ → OasisKind → Type 0
+Cause ignore before room ys k = IsExplained ignore before room ys k ⊎ (IsLong ignore before room ys k ⊎ IsAfter before room ys k)
 
-by_rule : (before : List Item) (room : ℕ) (ys : List ℕ) (k : OasisKind) → BreaksRule before room ys k
-    → Cause before room ys k
-by_rule before room ys k w = elim w.3 [
+by_rule : (ignore : Ignore) (before : List Item) (room : ℕ) (ys : List ℕ) (k : OasisKind) → BreaksRule ignore before room ys k
+    → Cause ignore before room ys k
+by_rule ignore before room ys k w = elim w.3 [
   | inl p ↦ inl (record { unended = w.0; count = w.1; within = w.2; said = Ok (Err k); front = p; why = refl })
   | inr p ↦ inl (record { unended = w.0; count = w.1; within = w.2; said = Ok (Ok p.0); front = p.1; why = p.2 })
 ]
 
-cause : (before : List Item) (room : ℕ) (ys : List ℕ) (k : OasisKind) → IsWrong before room ys k
-    → Cause before room ys k
-cause before room ys (Value f) w = elim w [
+cause : (ignore : Ignore) (before : List Item) (room : ℕ) (ys : List ℕ) (k : OasisKind) → IsWrong ignore before room ys k
+    → Cause ignore before room ys k
+cause ignore before room ys (Value f) w = elim w [
   | inl p ↦ inr (inl (record { kind = ap Value p.0; long = p.1 }))
   | inr p ↦ inl (record {
     unended = p.0;
@@ -71,21 +72,21 @@ cause before room ys (Value f) w = elim w [
     why = refl;
   })
 ]
-cause before room ys AfterEnd w = inr (inr (record { kind = refl; ended = w.0; room_is = w.1; some = w.2 }))
-cause before room ys (Record k) w = by_rule before room ys (Record k) w
-cause before room ys (Unexpected id) w = by_rule before room ys (Unexpected id) w
-cause before room ys (Name k) w = by_rule before room ys (Name k) w
-cause before room ys (Figure k) w = by_rule before room ys (Figure k) w
-cause before room ys TooManyCells w = by_rule before room ys TooManyCells w
+cause ignore before room ys AfterEnd w = inr (inr (record { kind = refl; ended = w.0; room_is = w.1; some = w.2 }))
+cause ignore before room ys (Record k) w = by_rule ignore before room ys (Record k) w
+cause ignore before room ys (Unexpected id) w = by_rule ignore before room ys (Unexpected id) w
+cause ignore before room ys (Name k) w = by_rule ignore before room ys (Name k) w
+cause ignore before room ys (Figure k) w = by_rule ignore before room ys (Figure k) w
+cause ignore before room ys TooManyCells w = by_rule ignore before room ys TooManyCells w
 
 -- nothing whole is at the front of what there is room for, where that is an unfinished beginning
-long_open : (before : List Item) (room : ℕ) (ys : List ℕ) (n : ℕ) (x : Result (Result Item OasisKind) ValueFault)
-    → IsTooLong before room ys
-    → IsFront (IsItem before) ys n x → n ≤ room → ⊥
-long_open before room ys n x (more, (ended, begun)) f fits =
+long_open : (ignore : Ignore) (before : List Item) (room : ℕ) (ys : List ℕ) (n : ℕ) (x : Result (Result Item OasisKind) ValueFault)
+    → IsTooLong ignore before room ys
+    → IsFront (IsItem before ignore) ys n x → n ≤ room → ⊥
+long_open ignore before room ys n x (more, (ended, begun)) f fits =
     let l : length f.bytes ≤ length (take room ys) = omega (arith, fits, more, f.count, length-take room ys) in
     let e : f.bytes ++ f.rest ≡ take room ys ++ drop room ys = sym f.whole ∙ sym (take-append-drop room ys) in
-    begun_open (IsItem before) (take room ys) n x (item_code before).free begun
+    begun_open (IsItem before ignore) (take room ys) n x (item_free before ignore) begun
     (record {
       bytes = f.bytes;
       rest = drop (length f.bytes) (take room ys);
@@ -95,39 +96,39 @@ long_open before room ys n x (more, (ended, begun)) f fits =
     })
 
 -- nor does a byte follow there after END
-long_after : (before : List Item) (room : ℕ) (ys : List ℕ) → IsTooLong before room ys → IsEnded before → 0 < room → ⊥
-long_after before room ys (more, (ended, begun)) e some =
+long_after : (ignore : Ignore) (before : List Item) (room : ℕ) (ys : List ℕ) → IsTooLong ignore before room ys → IsEnded before → 0 < room → ⊥
+long_after ignore before room ys (more, (ended, begun)) e some =
     omega (arith, some, more, length-take room ys, ap length (ended e))
 
-front_same : (before : List Item) (ys : List ℕ) (n m : ℕ) (x y : Result (Result Item OasisKind) ValueFault)
-    → IsFront (IsItem before) ys n x → IsFront (IsItem before) ys m y → x ≡ y
-front_same before ys n m x y p q =
-    front_only (IsItem before) ys n x y (item_code before).free p q.bytes q.says (q.rest, inr q.whole)
+front_same : (ignore : Ignore) (before : List Item) (ys : List ℕ) (n m : ℕ) (x y : Result (Result Item OasisKind) ValueFault)
+    → IsFront (IsItem before ignore) ys n x → IsFront (IsItem before ignore) ys m y → x ≡ y
+front_same ignore before ys n m x y p q =
+    front_only (IsItem before ignore) ys n x y (item_free before ignore) p q.bytes q.says (q.rest, inr q.whole)
 
-one_cause : (before : List Item) (room : ℕ) (ys : List ℕ) (j k : OasisKind) → Cause before room ys j
-    → Cause before room ys k → j ≡ k
-one_cause before room ys j k p q = elim p [
+one_cause : (ignore : Ignore) (before : List Item) (room : ℕ) (ys : List ℕ) (j k : OasisKind) → Cause ignore before room ys j
+    → Cause ignore before room ys k → j ≡ k
+one_cause ignore before room ys j k p q = elim p [
   | inl a ↦ elim q [
     | inl b ↦ explains_once before a.said j k a.why
-        (subst (λ x. Explains before x k) (sym (front_same before ys a.count b.count a.said b.said a.front b.front))
+        (subst (λ x. Explains before x k) (sym (front_same ignore before ys a.count b.count a.said b.said a.front b.front))
         b.why)
     | inr r ↦ elim r [
-      | inl b ↦ absurd (long_open before room ys a.count a.said b.long a.front a.within)
+      | inl b ↦ absurd (long_open ignore before room ys a.count a.said b.long a.front a.within)
       | inr b ↦ absurd (a.unended b.ended)
     ]
   ]
   | inr s ↦ elim s [
     | inl a ↦ elim q [
-      | inl b ↦ absurd (long_open before room ys b.count b.said a.long b.front b.within)
+      | inl b ↦ absurd (long_open ignore before room ys b.count b.said a.long b.front b.within)
       | inr r ↦ elim r [
         | inl b ↦ a.kind ∙ sym b.kind
-        | inr b ↦ absurd (long_after before room ys a.long b.ended b.room_is)
+        | inr b ↦ absurd (long_after ignore before room ys a.long b.ended b.room_is)
       ]
     ]
     | inr a ↦ elim q [
       | inl b ↦ absurd (b.unended a.ended)
       | inr r ↦ elim r [
-        | inl b ↦ absurd (long_after before room ys b.long a.ended a.room_is)
+        | inl b ↦ absurd (long_after ignore before room ys b.long a.ended a.room_is)
         | inr b ↦ a.kind ∙ sym b.kind
       ]
     ]
@@ -135,6 +136,6 @@ one_cause before room ys j k p q = elim p [
 ]
 
 -- what is wrong with the front of the bytes is one rule
-pub only_wrong : (before : List Item) (room : ℕ) (ys : List ℕ) (j k : OasisKind) → IsWrong before room ys j
-    → IsWrong before room ys k → j ≡ k
-only_wrong before room ys j k p q = one_cause before room ys j k (cause before room ys j p) (cause before room ys k q)
+pub only_wrong : (ignore : Ignore) (before : List Item) (room : ℕ) (ys : List ℕ) (j k : OasisKind) → IsWrong ignore before room ys j
+    → IsWrong ignore before room ys k → j ≡ k
+only_wrong ignore before room ys j k p q = one_cause ignore before room ys j k (cause ignore before room ys j p) (cause ignore before room ys k q)

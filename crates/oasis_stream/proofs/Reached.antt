@@ -9,6 +9,7 @@ use Rattle.oasis_records.specs.declared.cell.CellName.{CellName as AName}
 use Rattle.oasis_records.specs.declared.record.Record.{Record}
 use Rattle.oasis_records.specs.declared.record.Record.TheVariants.{Pad, Start, End, CellName, Cell, XyAbsolute}
 use Rattle.oasis_records.specs.declared.record.Record.TheVariants.{XyRelative, Placement, Rectangle, Polygon, Path}
+use Rattle.oasis_records.specs.declared.record.Record.TheVariants.{Entry, Text, Property}
 use Rattle.lvl_cells.specs.Building.{cell_limit}
 use Rattle.oasis_stream.specs.Order.{last_or, opens, flags, name_in, names_in, cell_in, cells_in, in_cell}
 use Rattle.oasis_stream.specs.Order.{at_end, any_numbered, any_unnumbered}
@@ -128,6 +129,12 @@ law_passed o rs (Cell c) h =
     o.has_unnumbered o.has_offsets_at_end h refl
     (counted (length (cells_in rs)) o.cells h.cells) (sym (or_false o.has_numbered)) (sym (or_false o.has_unnumbered))
     refl
+law_passed o rs Entry h =
+    after_record o rs Entry false o.cells o.has_numbered o.has_unnumbered o.has_offsets_at_end h refl
+    (same_count (length (cells_in rs)) o.cells h.cells) (sym (or_false o.has_numbered))
+    (sym (or_false o.has_unnumbered)) refl
+law_passed o rs (Text p) h = after_other o rs (Text p) h refl refl refl refl
+law_passed o rs Property h = after_other o rs Property h refl refl refl refl
 law_passed o rs Pad h = after_other o rs Pad h refl refl refl refl
 law_passed o rs (End v) h = after_other o rs (End v) h refl refl refl refl
 law_passed o rs XyAbsolute h = after_other o rs XyAbsolute h refl refl refl refl

@@ -1,19 +1,21 @@
 -- The bytes that a call has read: those that were taken, and those in hand. What they say they say whatever comes after
 -- them.
-use Rattle.std.proofs.Common.{◌≡◌, ℕ, ◌+◌, ◌-◌, ◌<◌, ◌≤◌, List, ◌++◌, length, take, drop, Some, sym, ap, ◌∙◌}
+use Rattle.std.proofs.Common.{◌≡◌, ℕ, ◌+◌, ◌-◌, ◌<◌, ◌≤◌, List, ◌++◌, length, take, drop, Some, sym, ap, ◌∙◌, subst, false}
 use Rattle.std.proofs.Common.{append_assoc, arith, length-append, length-take}
 use Rattle.std.proofs.Math.Seq.{take-add, take-append-add, take-append_seam}
 use Rattle.std.proofs.lemmas.List.{take-append-drop, take-append-le, take-take}
 use Rattle.std.specs.Prelude.{Option}
+use Rattle.std.specs.Prelude.{Result}
 use Rattle.std.specs.Borrow.{GName}
 use Rattle.lvl_io.specs.Spelling.{IsFront}
 use Rattle.lvl_io.proofs.Known.{known_parts}
 use Rattle.lvl_refusal.specs.declared.Refusal.{Refusal}
-use Rattle.oasis_values.specs.Input.{bytes_left, input_reader, input_offset}
-use Rattle.oasis_values.specs.Reads.{Reads, bytes_had}
+use Rattle.lvl_ignore.specs.declared.ignore.Ignore.{Ignore}
+use Rattle.oasis_values.specs.Input.{bytes_left, has_failed, input_ignore, input_reader, input_offset, room_left}
+use Rattle.oasis_values.specs.Reads.{Answers, Reads, bytes_had}
+use Rattle.oasis_values.specs.Spelling.{Spelling}
 use Rattle.oasis_values.specs.declared.fault.ValueFault.{ValueFault}
 use Rattle.oasis_values.specs.declared.input.Input.{Input}
-use Rattle.std.specs.Prelude.{Result}
 
 -- the first bytes were read, and the others are left
 pub record IsSeen (ys : List ℕ) (had : ℕ) (left : Option (List ℕ)) : Type 0 where
@@ -22,7 +24,7 @@ pub record IsSeen (ys : List ℕ) (had : ℕ) (left : Option (List ℕ)) : Type 
   pub left_is : left ≡ Some rest
 
 pub law_seen : {R A : Type 0} {remaining : R → Option (List ℕ)} {errors : R → ℕ} {lent : R → List GName}
-    {S : List ℕ → Result A ValueFault → Type 0} {old new : Input R} {r : Result A (Refusal ValueFault)} (ys : List ℕ)
+    {S : Spelling A} {old new : Input R} {r : Result A (Refusal ValueFault)} (ys : List ℕ)
     → Reads remaining errors lent S old new r → bytes_left remaining old ≡ Some ys
     → IsSeen ys (bytes_had old new) (remaining (input_reader new))
 law_seen {remaining = remaining} {old = old} {new = new} ys p known =
@@ -63,3 +65,13 @@ room_seen ys had room more long read =
       take-append-le room (take had ys) more (omega (arith, enough))
           ∙ take-take room had ys (omega (arith, read)),
     )
+
+-- what a call answered of an input that ignores these
+pub answers_under : {R A : Type 0} {remaining : R → Option (List ℕ)} {errors : R → ℕ} {lent : R → List GName}
+    {S : Spelling A} {old new : Input R} {r : Result A (Refusal ValueFault)} (ignore : Ignore)
+    → input_ignore old ≡ ignore → Reads remaining errors lent S old new r → has_failed old ≡ false → (xs : List ℕ)
+    → bytes_left remaining old ≡ Some xs
+    → Answers (S ignore) (room_left old) (bytes_had old new) (input_offset new - input_offset old) xs r
+answers_under {S = S} {old = old} {new = new} {r = r} ignore under p live xs k =
+    subst (λ i. Answers (S i) (room_left old) (bytes_had old new) (input_offset new - input_offset old) xs r) under
+    (p.answers live xs k)

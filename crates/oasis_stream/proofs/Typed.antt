@@ -1,16 +1,19 @@
 -- The next record is read by its id, and then by its type.
 use Rattle.std.proofs.Common.{◌≡◌, ℕ, Bool, true, false, if◌then◌else◌, not, ◌&&◌, nat_lt, length, List, [], Result, Ok}
-use Rattle.std.proofs.Common.{Err, refl, sym, subst}
+use Rattle.std.proofs.Common.{Err, refl, sym, ap, subst, ◌-◌}
 use Rattle.std.specs.Prelude.{Option}
 use Rattle.std.specs.Borrow.{GName}
 use Rattle.lvl_refusal.specs.declared.Refusal.{Refusal}
 use Rattle.lvl_refusal.specs.declared.Refusal.TheVariants.{Breach, OutOfMemory}
+use Rattle.lvl_ignore.specs.declared.ignore.Ignore.{Ignore}
+use Rattle.oasis_values.specs.Input.{input_ignore, room_left, input_offset}
 use Rattle.oasis_values.specs.Known.{Seen}
 use Rattle.oasis_values.specs.Numbers.{IsUnsigned}
-use Rattle.oasis_values.specs.Reads.{Reads}
+use Rattle.oasis_values.specs.Reads.{Reads, bytes_had, Answers}
+use Rattle.oasis_values.specs.Spelling.{Spelling, Gives}
 use Rattle.oasis_values.specs.declared.fault.ValueFault.{ValueFault}
 use Rattle.oasis_values.specs.declared.input.Input.{Input}
-use Rattle.oasis_values.proofs.Reading.{reads_err, reads_then, reads_nothing, reads_seen, reads_seen_err}
+use Rattle.oasis_values.proofs.Reading.{reads_then, reads_nothing, reads_seen, reads_seen_err, reads_fault}
 use Rattle.oasis_records.specs.Records.{record_type}
 use Rattle.oasis_records.specs.Magic.{IsMagic}
 use Rattle.oasis_records.specs.Rules.{told, told_breach}
@@ -24,16 +27,16 @@ use Rattle.oasis_records.specs.declared.record_type.RecordType.{RecordType}
 use Rattle.oasis_stream.specs.Items.{Item}
 use Rattle.lvl_cells.specs.Building.{cell_limit}
 use Rattle.oasis_stream.specs.Order.{at_end, cells_in, opens_cell, mixes, is_expected, allowed, type_after}
-use Rattle.oasis_stream.specs.Front.{of_magic, of_record, IsTyped, IsNext, IsItem}
+use Rattle.oasis_stream.specs.Front.{of_magic, of_record, IsTyped, IsNext, IsItem, IsTypedAfter}
 use Rattle.oasis_stream.specs.Told.{of_kind, told_record, of_fault, told_magic, of_magic_fault}
 use Rattle.oasis_stream.specs.declared.fault.NameRule.TheVariants.{Mixed}
 use Rattle.oasis_stream.specs.declared.fault.OasisKind.{OasisKind}
 use Rattle.oasis_stream.specs.declared.fault.OasisKind.TheVariants.{Unexpected, Name, TooManyCells}
-use Rattle.oasis_stream.proofs.Items.{typed_code}
+use Rattle.oasis_stream.proofs.Items.{typed_said}
 
 -- a record that was read, as an item of the file
 pub reads_recorded : {R : Type 0} {remaining : R → Option (List ℕ)} {errors : R → ℕ} {lent : R → List GName}
-    {S : List ℕ → Result (Result Record RecordRule) ValueFault → Type 0} {old new : Input R}
+    {S : Spelling (Result Record RecordRule)} {old new : Input R}
     (r : Result Record (Refusal RecordFault))
     → Reads remaining errors lent S old new (told r) → Reads remaining errors lent (Seen of_record S) old new
     (told_record (of_fault r))
@@ -58,45 +61,63 @@ judged_allowed rs (Ok t) =
     (judged_if full (Err TooManyCells) (Ok t) refl tt)
 judged_allowed rs (Err k) = refl
 
-judged : (rs : List Record) (id : ℕ) → IsJudged (type_after rs id)
-judged rs id =
-    judged_if (is_expected rs (record_type id)) (allowed rs (record_type id)) (Err (Unexpected id))
-    (judged_allowed rs (record_type id)) refl
+judged : (ignore : Ignore) (rs : List Record) (id : ℕ) → IsJudged (type_after ignore rs id)
+judged ignore rs id =
+    let t = record_type ignore id in
+    judged_if (is_expected rs t) (allowed rs t) (Err (Unexpected id)) (judged_allowed rs t) refl
 
 -- no id is read
 pub next_unread : {R : Type 0} {remaining : R → Option (List ℕ)} {errors : R → ℕ} {lent : R → List GName}
     (rs : List Record) {old new : Input R} {e : Refusal ValueFault}
     → Reads remaining errors lent (Sized IsUnsigned) old new (Err e)
     → Reads remaining errors lent (IsNext rs) old new (Err e)
-next_unread rs p =
-    reads_err (λ id. IsTyped (at_end rs) id.len (type_after rs id.value))
-    (λ id. (typed_code (at_end rs) id.len (type_after rs id.value)).said) p
+next_unread rs p = reads_fault (IsTypedAfter rs) (typed_said rs) p
+
+-- a call by one spelling is one by another that is the same for what the input ignores
+reads_by : {R A : Type 0} {remaining : R → Option (List ℕ)} {errors : R → ℕ} {lent : R → List GName}
+    (S T : Spelling A) {old new : Input R} {r : Result A (Refusal ValueFault)}
+    → S (input_ignore old) ≡ T (input_ignore old) → Reads remaining errors lent T old new r
+    → Reads remaining errors lent S old new r
+reads_by S T {old = old} {new = new} {r = r} e p =
+    record {
+      again = p.again;
+      fresh = p.fresh;
+      answers = λ h xs k. subst (λ P. Answers P (room_left old) (bytes_had old new) (input_offset new - input_offset old) xs r)
+          (sym e) (p.answers h xs k);
+      left = p.left;
+      forward = p.forward;
+      ignores = p.ignores;
+      failed = p.failed;
+      counted = p.counted;
+      same = p.same;
+    }
 
 -- the id breaches a rule
 pub next_refused : {R : Type 0} {remaining : R → Option (List ℕ)} {errors : R → ℕ} {lent : R → List GName}
     (rs : List Record) {old new : Input R} (id : Measured) (k : OasisKind)
-    → type_after rs id.value ≡ Err k → Reads remaining errors lent (Sized IsUnsigned) old new (Ok id)
+    → type_after (input_ignore new) rs id.value ≡ Err k → Reads remaining errors lent (Sized IsUnsigned) old new (Ok id)
     → Reads remaining errors lent (IsNext rs) old new (of_kind k)
 next_refused {remaining = remaining} {errors = errors} {lent = lent} rs {old = old} {new = new} id k e p =
-    let j : of_kind k ≡ Ok (Err k) = subst IsJudged e (judged rs id.value) in
-    let none : Reads remaining errors lent (IsTyped (at_end rs) id.len (type_after rs id.value)) new new (Ok (Err k)) =
-    subst (λ t. Reads remaining errors lent (IsTyped (at_end rs) id.len t) new new (Ok (Err k))) (sym e)
+    let j : of_kind k ≡ Ok (Err k) = subst IsJudged e (judged (input_ignore new) rs id.value) in
+    let none : Reads remaining errors lent (IsTypedAfter rs id) new new (Ok (Err k)) =
+    reads_by (IsTypedAfter rs id) (Gives (Ok (Err k))) (ap (λ t. IsTyped (at_end rs) id.len t (input_ignore new)) e)
     (reads_nothing (Err k) p.failed) in
-    subst (λ r. Reads remaining errors lent (IsNext rs) old new r) (sym j)
-    (reads_then (λ i. IsTyped (at_end rs) i.len (type_after rs i.value)) p none)
+    subst (λ r. Reads remaining errors lent (IsNext rs) old new r) (sym j) (reads_then (IsTypedAfter rs) p none)
 
 -- the id gives the type
 pub next_typed : {R : Type 0} {remaining : R → Option (List ℕ)} {errors : R → ℕ} {lent : R → List GName}
     (rs : List Record) {old mid new : Input R} (id : Measured) (t : RecordType) (b : Bool)
     {r : Result (Result Item OasisKind) (Refusal ValueFault)}
-    → type_after rs id.value ≡ Ok t → b ≡ at_end rs → Reads remaining errors lent (Sized IsUnsigned) old mid (Ok id)
+    → type_after (input_ignore mid) rs id.value ≡ Ok t → b ≡ at_end rs
+    → Reads remaining errors lent (Sized IsUnsigned) old mid (Ok id)
     → Reads remaining errors lent (IsTyped b id.len (Ok t)) mid new r
     → Reads remaining errors lent (IsNext rs) old new r
 next_typed {remaining = remaining} {errors = errors} {lent = lent} rs {mid = mid} {new = new} id t b {r = r} e h p q =
     let here : Reads remaining errors lent (IsTyped (at_end rs) id.len (Ok t)) mid new r =
     subst (λ i. Reads remaining errors lent (IsTyped i id.len (Ok t)) mid new r) h q in
-    reads_then (λ i. IsTyped (at_end rs) i.len (type_after rs i.value)) p
-    (subst (λ i. Reads remaining errors lent (IsTyped (at_end rs) id.len i) mid new r) (sym e) here)
+    reads_then (IsTypedAfter rs) p
+    (reads_by (IsTypedAfter rs id) (IsTyped (at_end rs) id.len (Ok t))
+    (ap (λ i. IsTyped (at_end rs) id.len i (input_ignore mid)) e) here)
 
 -- the magic string that was read, as an item of the file
 pub reads_first : {R : Type 0} {remaining : R → Option (List ℕ)} {errors : R → ℕ} {lent : R → List GName}

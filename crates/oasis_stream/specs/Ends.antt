@@ -1,6 +1,7 @@
 -- What a refusal says of the input where it is refused.
 use Rattle.std.specs.Prelude.{ℕ, Bool, false, List}
 use Rattle.lvl_grammar.specs.Refused.{IsFrontAt, IsStuck, IsBreached, IsTruncated}
+use Rattle.lvl_ignore.specs.declared.ignore.Ignore.{Ignore}
 use Rattle.oasis_values.specs.Faults.{is_read_fault}
 use Rattle.oasis_values.specs.declared.fault.ValueFault.TheVariants.{Truncated, Read}
 use Rattle.oasis_stream.specs.Front.{oasis}
@@ -8,10 +9,10 @@ use Rattle.oasis_stream.specs.declared.fault.OasisKind.{OasisKind}
 use Rattle.oasis_stream.specs.declared.fault.OasisKind.TheVariants.{Value}
 
 -- the bytes before the offset are a front, and why none goes on there
-abbrev pub TellsAt : List ℕ → ℕ → OasisKind → Type 0
-TellsAt xs at (Value Truncated) = IsTruncated oasis xs at
-TellsAt xs at (Value Read) = IsFrontAt oasis xs at
-TellsAt xs at k = IsStuck oasis xs at × IsBreached oasis xs at k
+abbrev pub TellsAt : Ignore → List ℕ → ℕ → OasisKind → Type 0
+TellsAt ignore xs at (Value Truncated) = IsTruncated (oasis ignore) xs at
+TellsAt ignore xs at (Value Read) = IsFrontAt (oasis ignore) xs at
+TellsAt ignore xs at k = IsStuck (oasis ignore) xs at × IsBreached (oasis ignore) xs at k
 
 -- whether the rule is that the reader failed
 abbrev pub is_read_kind : OasisKind → Bool

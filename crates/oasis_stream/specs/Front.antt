@@ -1,11 +1,14 @@
 -- OASIS as a format of streams of records (SEMI P39 OASIS 1.0).
 use Rattle.std.specs.Prelude.{◌≡◌, ℕ, ◌<◌, ◌≤◌, ◌⊎◌, Bool, true, List, [], ◌∷◌, length, take, Result, Ok, Err}
-use Rattle.lvl_io.specs.Spelling.{Gives, Then, IsFront, IsBegun}
+use Rattle.lvl_io.specs.Spelling.{IsFront, IsBegun}
 use Rattle.lvl_grammar.specs.Grammar.{Grammar}
+use Rattle.lvl_ignore.specs.declared.ignore.Ignore.{Ignore}
 use Rattle.oasis_values.specs.Faults.{is_rule}
 use Rattle.oasis_values.specs.Input.{file_limit}
 use Rattle.oasis_values.specs.Known.{Seen}
 use Rattle.oasis_values.specs.Numbers.{IsUnsigned}
+use Rattle.oasis_values.specs.Spelling.{Spelling, Gives, Then}
+use Rattle.oasis_records.specs.declared.measured.Measured.{Measured}
 use Rattle.oasis_values.specs.declared.fault.ValueFault.{ValueFault}
 use Rattle.oasis_values.specs.declared.fault.ValueFault.TheVariants.{TooLong}
 use Rattle.oasis_records.specs.Magic.{IsMagic}
@@ -31,27 +34,30 @@ of_record (Ok r) = Ok (item r)
 of_record (Err k) = Err (OfRecord k)
 
 -- the fields of a record of that type, after an id of n bytes; where the id breaches a rule nothing more is read
-abbrev pub IsTyped : Bool → ℕ → Result RecordType OasisKind → List ℕ → Result (Result Item OasisKind) ValueFault
-    → Type 0
+abbrev pub IsTyped : Bool → ℕ → Result RecordType OasisKind → Spelling (Result Item OasisKind)
 IsTyped has_offsets id_len (Ok t) = Seen of_record (AreFields has_offsets id_len t)
 IsTyped has_offsets id_len (Err k) = Gives (Ok (Err k))
 
+-- the fields of a record with that id, after others
+abbrev pub IsTypedAfter : List Record → Measured → Spelling (Result Item OasisKind)
+IsTypedAfter rs id ignore = IsTyped (at_end rs) id.len (type_after ignore rs id.value) ignore
+
 -- what bytes say of the next record, after others
-abbrev pub IsNext : List Record → List ℕ → Result (Result Item OasisKind) ValueFault → Type 0
-IsNext rs = Then (Sized IsUnsigned) (λ id. IsTyped (at_end rs) id.len (type_after rs id.value))
+abbrev pub IsNext : List Record → Spelling (Result Item OasisKind)
+IsNext rs = Then (Sized IsUnsigned) (IsTypedAfter rs)
 
 -- what bytes say of the next item of a file: the magic string is the first
-abbrev pub IsItem : List Item → List ℕ → Result (Result Item OasisKind) ValueFault → Type 0
+abbrev pub IsItem : List Item → Spelling (Result Item OasisKind)
 IsItem [] = Seen of_magic IsMagic
 IsItem (i ∷ is) = IsNext (records (i ∷ is))
 
 -- the bytes are an unfinished beginning of the next item; after END nothing but the end of the file is
-abbrev pub IsBegunAfter : List Item → List ℕ → Type 0
-IsBegunAfter before ys = (IsEnded before → ys ≡ []) × IsBegun (IsItem before) ys
+abbrev pub IsBegunAfter : Ignore → List Item → List ℕ → Type 0
+IsBegunAfter ignore before ys = (IsEnded before → ys ≡ []) × IsBegun (IsItem before ignore) ys
 
 -- the bytes that there is room for are an unfinished beginning, and others follow
-abbrev pub IsTooLong : List Item → ℕ → List ℕ → Type 0
-IsTooLong before room ys = (room < length ys) × IsBegunAfter before (take room ys)
+abbrev pub IsTooLong : Ignore → List Item → ℕ → List ℕ → Type 0
+IsTooLong ignore before room ys = (room < length ys) × IsBegunAfter ignore before (take room ys)
 
 -- bytes at the front that there is room for breach the rule
 pub record Breaks {A : Type 0} (S : List ℕ → Result A ValueFault → Type 0) (room : ℕ) (xs : List ℕ)
@@ -61,29 +67,30 @@ pub record Breaks {A : Type 0} (S : List ℕ → Result A ValueFault → Type 0)
   pub front : IsFront S xs count (Err f)
 
 -- the same of a rule of values, of the next item
-abbrev pub BreaksValue : List Item → ℕ → List ℕ → ValueFault → Type 0
-BreaksValue before room ys f = (¬ IsEnded before) × (is_rule f ≡ true) × Breaks (IsItem before) room ys f
+abbrev pub BreaksValue : Ignore → List Item → ℕ → List ℕ → ValueFault → Type 0
+BreaksValue ignore before room ys f = (¬ IsEnded before) × (is_rule f ≡ true) × Breaks (IsItem before ignore) room ys f
 
 -- bytes at the front that there is room for breach the rule by themselves, or are an item that breaches it there
-abbrev pub BreaksRule : List Item → ℕ → List ℕ → OasisKind → Type 0
-BreaksRule before room ys k =
+abbrev pub BreaksRule : Ignore → List Item → ℕ → List ℕ → OasisKind → Type 0
+BreaksRule ignore before room ys k =
     (¬ IsEnded before) × (n : ℕ) × (n ≤ room)
-    × (IsFront (IsItem before) ys n (Ok (Err k)) ⊎ ((i : Item) × IsFront (IsItem before) ys n (Ok (Ok i))
-    × Breaches before i k))
+    × (IsFront (IsItem before ignore) ys n (Ok (Err k))
+    ⊎ ((i : Item) × IsFront (IsItem before ignore) ys n (Ok (Ok i)) × Breaches before i k))
 
 -- what is wrong with the front of the bytes, with room for a number of them
-abbrev pub IsWrong : List Item → ℕ → List ℕ → OasisKind → Type 0
-IsWrong before room ys (Value f) = ((f ≡ TooLong) × IsTooLong before room ys) ⊎ BreaksValue before room ys f
-IsWrong before room ys AfterEnd = IsEnded before × (0 < room) × (0 < length ys)
-IsWrong before room ys k = BreaksRule before room ys k
+abbrev pub IsWrong : Ignore → List Item → ℕ → List ℕ → OasisKind → Type 0
+IsWrong ignore before room ys (Value f) =
+    ((f ≡ TooLong) × IsTooLong ignore before room ys) ⊎ BreaksValue ignore before room ys f
+IsWrong ignore before room ys AfterEnd = IsEnded before × (0 < room) × (0 < length ys)
+IsWrong ignore before room ys k = BreaksRule ignore before room ys k
 
--- a file is whole with its END
-abbrev pub oasis : Grammar Item OasisKind
-oasis = record {
-  spells = λ before bytes i. IsItem before bytes (Ok (Ok i));
+-- the format, for a reader that ignores these; a file is whole with its END
+abbrev pub oasis : Ignore → Grammar Item OasisKind
+oasis ignore = record {
+  spells = λ before bytes i. IsItem before ignore bytes (Ok (Ok i));
   follows = MayFollow;
   ends = IsEnded;
-  begun = IsBegunAfter;
-  wrong = IsWrong;
+  begun = IsBegunAfter ignore;
+  wrong = IsWrong ignore;
   limit = file_limit;
 }

@@ -3,19 +3,20 @@
 use Rattle.std.specs.Prelude.{ℕ, Bool, true, false, not, ◌&&◌, ◌||◌, nat_lt, is_some, is_none, if◌then◌else◌}
 use Rattle.std.specs.Prelude.{List, [], ◌∷◌, length, flat_map, Result, Ok, Err}
 use Rattle.lvl_cells.specs.Building.{cell_limit}
+use Rattle.lvl_ignore.specs.declared.ignore.Ignore.{Ignore}
 use Rattle.oasis_records.specs.Records.{record_type}
 use Rattle.oasis_records.specs.declared.cell.CellName.{CellName}
 use Rattle.oasis_records.specs.declared.cell.CellRef.{CellRef}
 use Rattle.oasis_records.specs.declared.fault.RecordRule.{RecordRule}
 use Rattle.oasis_records.specs.declared.record.Record.{Record}
 use Rattle.oasis_records.specs.declared.record.Record.TheVariants.{Start as OfStart, CellName as OfCellName}
-use Rattle.oasis_records.specs.declared.record.Record.TheVariants.{Cell as OfCell}
+use Rattle.oasis_records.specs.declared.record.Record.TheVariants.{Cell as OfCell, Entry as OfEntry}
 use Rattle.oasis_records.specs.declared.record_type.RecordType.{RecordType}
 use Rattle.oasis_records.specs.declared.record_type.RecordType.TheVariants.{Start, CellName as AName, NumberedCellName}
 use Rattle.oasis_records.specs.declared.record_type.RecordType.TheVariants.{NumberedCell, NamedCell, XyAbsolute}
 use Rattle.oasis_records.specs.declared.record_type.RecordType.TheVariants.{XyRelative}
 use Rattle.oasis_records.specs.declared.record_type.RecordType.TheVariants.{Placement, ScaledPlacement, Rectangle}
-use Rattle.oasis_records.specs.declared.record_type.RecordType.TheVariants.{Polygon, Path}
+use Rattle.oasis_records.specs.declared.record_type.RecordType.TheVariants.{Polygon, Path, Text}
 use Rattle.oasis_stream.specs.declared.fault.NameRule.TheVariants.{Mixed}
 use Rattle.oasis_stream.specs.declared.fault.OasisKind.{OasisKind}
 use Rattle.oasis_stream.specs.declared.fault.OasisKind.TheVariants.{Record as OfRecord, Unexpected, Name, TooManyCells}
@@ -25,10 +26,11 @@ abbrev pub last_or : {A : Type 0} → A → List A → A
 last_or d [] = d
 last_or d (x ∷ xs) = last_or x xs
 
--- a CELL opens a cell, and a CELLNAME ends the one that is open
+-- a CELL opens a cell, and a record that gives a name or a string by its number ends the one that is open
 abbrev pub opens : Record → List Bool
 opens (OfCell c) = true ∷ []
 opens (OfCellName n) = false ∷ []
+opens OfEntry = false ∷ []
 opens r = []
 
 -- whether a cell is open after the records
@@ -81,6 +83,7 @@ is_inner (Ok ScaledPlacement) = true
 is_inner (Ok Rectangle) = true
 is_inner (Ok Polygon) = true
 is_inner (Ok Path) = true
+is_inner (Ok Text) = true
 is_inner t = false
 
 -- a file begins with START and has no other, and what belongs in a cell is in one
@@ -106,6 +109,10 @@ allowed rs (Ok t) =
     if mixes rs t then Err (Name Mixed)
     else (if opens_cell t && not (nat_lt (length (cells_in rs)) cell_limit) then Err TooManyCells else Ok t)
 
--- after the records, the type of an id, or the rule that it breaches
-abbrev pub type_after : List Record → ℕ → Result RecordType OasisKind
-type_after rs id = if is_expected rs (record_type id) then allowed rs (record_type id) else Err (Unexpected id)
+-- after the records, the type by an id, or the rule that it breaches
+abbrev pub type_by : List Record → ℕ → Result RecordType RecordRule → Result RecordType OasisKind
+type_by rs id t = if is_expected rs t then allowed rs t else Err (Unexpected id)
+
+-- the same for who ignores these
+abbrev pub type_after : Ignore → List Record → ℕ → Result RecordType OasisKind
+type_after ignore rs id = type_by rs id (record_type ignore id)

@@ -9,7 +9,7 @@
 //! `bytes` is a file:
 //!
 //! ```
-//! let mut input = Input::new(Pieces::new(&bytes, usize::MAX));
+//! let mut input = Input::new(Pieces::new(&bytes, usize::MAX), Ignore::NOTHING);
 //! let mut order = Order::new();
 //! read_first(&mut input)?;
 //! let start = read_next(&mut input, alloc, &order)?;

@@ -59,7 +59,8 @@ pub fn read_next<R: Read>(
         Ok(id) => id,
         Err(fault) => return Err(Refusal::Breach(OasisKind::Value(fault))),
     };
-    match order.type_of(id.value) {
+    let ignore = input.ignore();
+    match order.type_of(id.value, ignore) {
         Ok(kind) => read_typed(input, alloc, kind, id.len, order.has_offsets_at_end()),
         Err(kind) => Err(Refusal::Breach(kind)),
     }

@@ -7,6 +7,7 @@ ghost use Rattle.oasis_stream.specs.inside.Reached.{HasReached, passed};
 
 use crate::fault::{NameRule, OasisKind};
 use lvl_cells::MOST_CELLS;
+use lvl_ignore::Ignore;
 use oasis_records::{Record, RecordRule, RecordType};
 
 /// What the records so far say of those that may come.
@@ -47,7 +48,8 @@ fn is_inner(kind: Result<RecordType, RecordRule>) -> bool
             | RecordType::ScaledPlacement
             | RecordType::Rectangle
             | RecordType::Polygon
-            | RecordType::Path,
+            | RecordType::Path
+            | RecordType::Text,
         ) => true,
         _ => false,
     }
@@ -84,11 +86,11 @@ impl Order {
         self.has_offsets_at_end
     }
 
-    /// The type of the next record by its id, or the rule that the id breaches.
-    pub fn type_of(&self, id: u64) -> Result<RecordType, OasisKind>
-        ensures { (rs : List Read) → HasReached self.now rs → result ≡ type_after rs id }
+    /// The type of the next record by its id, or the rule that the id breaches, where these are ignored.
+    pub fn type_of(&self, id: u64, ignore: Ignore) -> Result<RecordType, OasisKind>
+        ensures { (rs : List Read) → HasReached self.now rs → result ≡ type_after ignore rs id }
     {
-        let kind = RecordType::of(id);
+        let kind = RecordType::of(id, ignore);
         if !self.is_expected(kind) {
             return Err(OasisKind::Unexpected(id));
         }
@@ -112,6 +114,7 @@ impl Order {
                     None => self.has_unnumbered = true,
                 }
             }
+            Record::Entry => self.in_cell = false,
             Record::Cell(_) => {
                 self.in_cell = true;
                 if self.cells < MOST_CELLS {

@@ -7,15 +7,16 @@ use Rattle.std.proofs.lemmas.List.Elements.{All-nil, All-cons}
 use Rattle.lvl_grid.specs.declared.point.Point.{Point}
 use Rattle.lvl_grid.specs.Turn.{FitsPoint}
 use Rattle.lvl_path.specs.Figure.{Figure, rings}
-use Rattle.lvl_io.specs.Spelling.{Then, Chain}
 use Rattle.lvl_grammar.specs.Front.{SpellsAll, FollowAll, SpellsWhole}
 use Rattle.lvl_grammar.proofs.Laws.{one_whole}
 use Rattle.lvl_cells.specs.Cells.{PlainCell}
+use Rattle.lvl_ignore.specs.declared.ignore.Ignore.{Ignore}
 use Rattle.oasis_values.specs.Known.{among, Known, Seen}
 use Rattle.oasis_values.specs.Input.{file_limit}
 use Rattle.oasis_values.specs.Numbers.{IsByte, IsUnsigned}
 use Rattle.oasis_values.specs.Reals.{with_sign, real_types, IsReal, IsRealOf, IsSigned}
 use Rattle.oasis_values.specs.Repetitions.{IsRepetition}
+use Rattle.oasis_values.specs.Spelling.{Then, Chain}
 use Rattle.oasis_values.specs.Texts.{IsString}
 use Rattle.oasis_values.specs.declared.fault.ValueFault.TheVariants.{RealType as unknown_type}
 use Rattle.oasis_values.specs.declared.number.Real.TheVariants.{Whole}
@@ -114,133 +115,133 @@ square = magic ∷ item starting ∷ item cell ∷ item drawn ∷ item ending �
 
 -- START
 
-version_said : IsVersion (3 ∷ one) (Ok (Ok one))
-version_said =
-    alone IsVersionText (UnlessRuled (λ text. Must (is_version text) text Version)) (3 ∷ one) (Ok one) (Ok (Ok one))
-    (seen Ok (IsString A 255) (3 ∷ one) one (three A one refl refl (refl, (refl, (refl, tt))))) (refl, refl)
+version_said : (ignore : Ignore) → IsVersion ignore (3 ∷ one) (Ok (Ok one))
+version_said ignore =
+    alone ignore IsVersionText (UnlessRuled (λ text. Must (is_version text) text Version)) (3 ∷ one) (Ok one) (Ok (Ok one))
+    (seen ignore Ok (IsString A 255) (3 ∷ one) one (three ignore A one refl refl (refl, (refl, (refl, tt))))) (refl, refl)
 
-unit_said : IsUnit (0 ∷ 0xE8 ∷ 7 ∷ []) (Ok (Ok (Whole 1000)))
-unit_said =
-    alone IsReal _ (0 ∷ 0xE8 ∷ 7 ∷ []) (Whole 1000) (Ok (Ok (Whole 1000)))
-    (after IsUnsigned (λ n. Then (Known (among 0 real_types n) unknown_type) IsRealOf) (0 ∷ []) (0xE8 ∷ 7 ∷ []) 0
-    (Ok (Whole 1000)) (small 0 refl refl refl)
-    (after (Known (Some OfWhole) unknown_type) IsRealOf [] (0xE8 ∷ 7 ∷ []) OfWhole (Ok (Whole 1000)) (refl, refl)
-    (seen Whole IsUnsigned (0xE8 ∷ 7 ∷ []) 1000 (wide 0xE8 7 1000 refl refl refl refl)))) (refl, refl)
+unit_said : (ignore : Ignore) → IsUnit ignore (0 ∷ 0xE8 ∷ 7 ∷ []) (Ok (Ok (Whole 1000)))
+unit_said ignore =
+    alone ignore IsReal _ (0 ∷ 0xE8 ∷ 7 ∷ []) (Whole 1000) (Ok (Ok (Whole 1000)))
+    (after ignore IsUnsigned (λ n. Then (Known (among 0 real_types n) unknown_type) IsRealOf) (0 ∷ []) (0xE8 ∷ 7 ∷ []) 0
+    (Ok (Whole 1000)) (small ignore 0 refl refl refl)
+    (after ignore (Known (Some OfWhole) unknown_type) IsRealOf [] (0xE8 ∷ 7 ∷ []) OfWhole (Ok (Whole 1000)) (refl, refl)
+    (seen ignore Whole IsUnsigned (0xE8 ∷ 7 ∷ []) 1000 (wide ignore 0xE8 7 1000 refl refl refl refl)))) (refl, refl)
 
-flag_said : IsFlag (0 ∷ []) (Ok (Ok 0))
-flag_said = alone IsUnsigned _ (0 ∷ []) 0 (Ok (Ok 0)) (small 0 refl refl refl) (refl, refl)
+flag_said : (ignore : Ignore) → IsFlag ignore (0 ∷ []) (Ok (Ok 0))
+flag_said ignore = alone ignore IsUnsigned _ (0 ∷ []) 0 (Ok (Ok 0)) (small ignore 0 refl refl refl) (refl, refl)
 
-tables_said : AreTables true (zeros 12) (Ok true)
-tables_said = seen (λ _. true) (Chain (λ _. IsUnsigned) (λ n. n) 12 0) (zeros 12) (zeros 12) (zero_integers 12 0)
+tables_said : (ignore : Ignore) → AreTables true ignore (zeros 12) (Ok true)
+tables_said ignore = seen ignore (λ _. true) (Chain (λ _. IsUnsigned) (λ n. n) 12 0) (zeros 12) (zeros 12) (zero_integers ignore 12 0)
 
-start_said : IsStart of_start (Ok (Ok starting))
-start_said =
-    after IsVersion (UnlessRuled (λ _. IsStartOf)) (3 ∷ one) ((0 ∷ 0xE8 ∷ 7 ∷ []) ++ (0 ∷ []) ++ zeros 12) (Ok one)
-    (Ok (Ok starting)) version_said
-    (after IsUnit _ (0 ∷ 0xE8 ∷ 7 ∷ []) ((0 ∷ []) ++ zeros 12) (Ok (Whole 1000)) (Ok (Ok starting)) unit_said
-    (after IsFlag _ (0 ∷ []) (zeros 12) (Ok 0) (Ok (Ok starting)) flag_said
-    (seen (start (Whole 1000)) (AreTables true) (zeros 12) true tables_said)))
+start_said : (ignore : Ignore) → IsStart ignore of_start (Ok (Ok starting))
+start_said ignore =
+    after ignore IsVersion (UnlessRuled (λ _. IsStartOf)) (3 ∷ one) ((0 ∷ 0xE8 ∷ 7 ∷ []) ++ (0 ∷ []) ++ zeros 12) (Ok one)
+    (Ok (Ok starting)) (version_said ignore)
+    (after ignore IsUnit _ (0 ∷ 0xE8 ∷ 7 ∷ []) ((0 ∷ []) ++ zeros 12) (Ok (Whole 1000)) (Ok (Ok starting)) (unit_said ignore)
+    (after ignore IsFlag _ (0 ∷ []) (zeros 12) (Ok 0) (Ok (Ok starting)) (flag_said ignore)
+    (seen ignore (start (Whole 1000)) (AreTables true) (zeros 12) true (tables_said ignore))))
 
 -- CELL
 
-cell_said : AreFields false 1 OfCell of_cell (Ok (Ok cell))
-cell_said =
-    seen Ok (IsCell false) of_cell cell
-    (seen Cell (IsCellRef false) of_cell (Name name)
-    (seen Name (IsString N 255) of_cell name (three N name refl refl (refl, (refl, (refl, tt))))))
+cell_said : (ignore : Ignore) → AreFields false 1 OfCell ignore of_cell (Ok (Ok cell))
+cell_said ignore =
+    seen ignore Ok (IsCell false) of_cell cell
+    (seen ignore Cell (IsCellRef false) of_cell (Name name)
+    (seen ignore Name (IsString N 255) of_cell name (three ignore N name refl refl (refl, (refl, (refl, tt))))))
 
 -- RECTANGLE
 
-given : (n : ℕ) → IsUnsigned (n ∷ []) (Ok n) → If true IsUnsigned (n ∷ []) (Ok (Some n))
-given n u = seen Some IsUnsigned (n ∷ []) n u
+given : (ignore : Ignore) (n : ℕ) → IsUnsigned ignore (n ∷ []) (Ok n) → If true IsUnsigned ignore (n ∷ []) (Ok (Some n))
+given ignore n u = seen ignore Some IsUnsigned (n ∷ []) n u
 
-origin : If true IsSigned (0 ∷ []) (Ok (Some (pos 0)))
-origin =
-    seen Some IsSigned (0 ∷ []) (pos 0) (seen with_sign IsUnsigned (0 ∷ []) 0 (small 0 refl refl refl))
+origin : (ignore : Ignore) → If true IsSigned ignore (0 ∷ []) (Ok (Some (pos 0)))
+origin ignore =
+    seen ignore Some IsSigned (0 ∷ []) (pos 0) (seen ignore with_sign IsUnsigned (0 ∷ []) 0 (small ignore 0 refl refl refl))
 
-layer_said : IsOnLayer 0x7B (1 ∷ 0 ∷ []) (Ok (record { layer = Some 1; datatype = Some 0 }))
-layer_said =
-    after (If true IsUnsigned) (λ l. Seen (on_layer l) (If true IsUnsigned)) (1 ∷ []) (0 ∷ []) (Some 1) _
-    (given 1 (small 1 refl refl refl))
-    (seen (on_layer (Some 1)) (If true IsUnsigned) (0 ∷ []) (Some 0) (given 0 (small 0 refl refl refl)))
+layer_said : (ignore : Ignore) → IsOnLayer 0x7B ignore (1 ∷ 0 ∷ []) (Ok (record { layer = Some 1; datatype = Some 0 }))
+layer_said ignore =
+    after ignore (If true IsUnsigned) (λ l. Seen (on_layer l) (If true IsUnsigned)) (1 ∷ []) (0 ∷ []) (Some 1) _
+    (given ignore 1 (small ignore 1 refl refl refl))
+    (seen ignore (on_layer (Some 1)) (If true IsUnsigned) (0 ∷ []) (Some 0) (given ignore 0 (small ignore 0 refl refl refl)))
 
-position_said : IsPosition 0x7B (0 ∷ 0 ∷ []) (Ok (record { x = Some (pos 0); y = Some (pos 0); repetition = None }))
-position_said =
-    after (If true IsSigned) _ (0 ∷ []) (0 ∷ []) (Some (pos 0)) _ origin
-    (after (If true IsSigned) _ (0 ∷ []) [] (Some (pos 0)) _ origin
-    (seen (position (Some (pos 0)) (Some (pos 0))) (If false (IsRepetition true)) [] None
+position_said : (ignore : Ignore) → IsPosition 0x7B ignore (0 ∷ 0 ∷ []) (Ok (record { x = Some (pos 0); y = Some (pos 0); repetition = None }))
+position_said ignore =
+    after ignore (If true IsSigned) _ (0 ∷ []) (0 ∷ []) (Some (pos 0)) _ (origin ignore)
+    (after ignore (If true IsSigned) _ (0 ∷ []) [] (Some (pos 0)) _ (origin ignore)
+    (seen ignore (position (Some (pos 0)) (Some (pos 0))) (If false (IsRepetition true)) [] None
     (refl, refl)))
 
-rectangle_said : IsRectangle of_rectangle (Ok (Ok drawn))
-rectangle_said =
-    after IsRectangleInfo (UnlessRuled (λ i. Seen Ok (IsRectangleOf i))) (0x7B ∷ []) (1 ∷ 0 ∷ 10 ∷ 10 ∷ 0 ∷ 0 ∷ [])
-    (Ok 0x7B) (Ok (Ok drawn)) (alone IsByte _ (0x7B ∷ []) 0x7B (Ok (Ok 0x7B)) refl (refl, refl))
-    (seen Ok (IsRectangleOf 0x7B) (1 ∷ 0 ∷ 10 ∷ 10 ∷ 0 ∷ 0 ∷ []) drawn
-    (after (IsOnLayer 0x7B) _ (1 ∷ 0 ∷ []) (10 ∷ 10 ∷ 0 ∷ 0 ∷ []) _ (Ok drawn) layer_said
-    (after (If true IsUnsigned) _ (10 ∷ []) (10 ∷ 0 ∷ 0 ∷ []) (Some 10) (Ok drawn) (given 10 (small 10 refl refl refl))
-    (after (If true IsUnsigned) _ (10 ∷ []) (0 ∷ 0 ∷ []) (Some 10) (Ok drawn) (given 10 (small 10 refl refl refl))
-    (seen (rectangle false (record { layer = Some 1; datatype = Some 0 }) (Some 10) (Some 10)) (IsPosition 0x7B)
-    (0 ∷ 0 ∷ []) _ position_said)))))
+rectangle_said : (ignore : Ignore) → IsRectangle ignore of_rectangle (Ok (Ok drawn))
+rectangle_said ignore =
+    after ignore IsRectangleInfo (UnlessRuled (λ i. Seen Ok (IsRectangleOf i))) (0x7B ∷ []) (1 ∷ 0 ∷ 10 ∷ 10 ∷ 0 ∷ 0 ∷ [])
+    (Ok 0x7B) (Ok (Ok drawn)) (alone ignore IsByte _ (0x7B ∷ []) 0x7B (Ok (Ok 0x7B)) refl (refl, refl))
+    (seen ignore Ok (IsRectangleOf 0x7B) (1 ∷ 0 ∷ 10 ∷ 10 ∷ 0 ∷ 0 ∷ []) drawn
+    (after ignore (IsOnLayer 0x7B) _ (1 ∷ 0 ∷ []) (10 ∷ 10 ∷ 0 ∷ 0 ∷ []) _ (Ok drawn) (layer_said ignore)
+    (after ignore (If true IsUnsigned) _ (10 ∷ []) (10 ∷ 0 ∷ 0 ∷ []) (Some 10) (Ok drawn) (given ignore 10 (small ignore 10 refl refl refl))
+    (after ignore (If true IsUnsigned) _ (10 ∷ []) (0 ∷ 0 ∷ []) (Some 10) (Ok drawn) (given ignore 10 (small ignore 10 refl refl refl))
+    (seen ignore (rectangle false (record { layer = Some 1; datatype = Some 0 }) (Some 10) (Some 10)) (IsPosition 0x7B)
+    (0 ∷ 0 ∷ []) _ (position_said ignore))))))
 
 -- END
 
-padding_said : Sized (IsPaddingLength false) (0xFC ∷ 1 ∷ []) (Ok (record { value = 252; len = 2 }))
-padding_said = (
-  after (AreTables false) (λ _. IsUnsigned) [] (0xFC ∷ 1 ∷ []) false (Ok 252) (refl, refl)
-      (wide 0xFC 1 252 refl refl refl refl),
+padding_said : (ignore : Ignore) → Sized (IsPaddingLength false) ignore (0xFC ∷ 1 ∷ []) (Ok (record { value = 252; len = 2 }))
+padding_said ignore = (
+  after ignore (AreTables false) (λ _. IsUnsigned) [] (0xFC ∷ 1 ∷ []) false (Ok 252) (refl, refl)
+      (wide ignore 0xFC 1 252 refl refl refl refl),
   refl,
 )
 
-scheme_said : IsScheme (0 ∷ []) (Ok (Ok 0))
-scheme_said = alone IsByte _ (0 ∷ []) 0 (Ok (Ok 0)) refl (refl, refl)
+scheme_said : (ignore : Ignore) → IsScheme ignore (0 ∷ []) (Ok (Ok 0))
+scheme_said ignore = alone ignore IsByte _ (0 ∷ []) 0 (Ok (Ok 0)) refl (refl, refl)
 
-ending_said : IsEnding 252 (zeros 252 ++ (0 ∷ [])) (Ok (Ok Absent))
-ending_said =
-    after (ArePadding 252) _ (zeros 252) (0 ∷ []) 252 (Ok (Ok Absent))
-    (seen (λ _. 252) (Chain (λ _. IsByte) (λ x. x) 252 0) (zeros 252) (zeros 252) (zero_bytes 252 0))
-    (after IsScheme _ (0 ∷ []) [] (Ok 0) (Ok (Ok Absent)) scheme_said
-    (seen Ok (IsSignature true 0) [] Absent (refl, refl)))
+ending_said : (ignore : Ignore) → IsEnding 252 ignore (zeros 252 ++ (0 ∷ [])) (Ok (Ok Absent))
+ending_said ignore =
+    after ignore (ArePadding 252) _ (zeros 252) (0 ∷ []) 252 (Ok (Ok Absent))
+    (seen ignore (λ _. 252) (Chain (λ _. IsByte) (λ x. x) 252 0) (zeros 252) (zeros 252) (zero_bytes ignore 252 0))
+    (after ignore IsScheme _ (0 ∷ []) [] (Ok 0) (Ok (Ok Absent)) (scheme_said ignore)
+    (seen ignore Ok (IsSignature true 0) [] Absent (refl, refl)))
 
-end_said : IsEnd false 1 of_end (Ok (Ok ending))
-end_said =
-    after (Sized (IsPaddingLength false)) _ (0xFC ∷ 1 ∷ []) (zeros 252 ++ (0 ∷ [])) (record { value = 252; len = 2 })
-    (Ok (Ok ending)) padding_said
-    (after (Must true (record { value = 252; len = 2 }) EndLength) _ [] (zeros 252 ++ (0 ∷ []))
+end_said : (ignore : Ignore) → IsEnd false 1 ignore of_end (Ok (Ok ending))
+end_said ignore =
+    after ignore (Sized (IsPaddingLength false)) _ (0xFC ∷ 1 ∷ []) (zeros 252 ++ (0 ∷ [])) (record { value = 252; len = 2 })
+    (Ok (Ok ending)) (padding_said ignore)
+    (after ignore (Must true (record { value = 252; len = 2 }) EndLength) _ [] (zeros 252 ++ (0 ∷ []))
     (Ok (record { value = 252; len = 2 })) (Ok (Ok ending)) (refl, refl)
-    (alone (IsEnding 252) _ (zeros 252 ++ (0 ∷ [])) (Ok Absent) (Ok (Ok ending)) ending_said (refl, refl)))
+    (alone ignore (IsEnding 252) _ (zeros 252 ++ (0 ∷ [])) (Ok Absent) (Ok (Ok ending)) (ending_said ignore) (refl, refl)))
 
 -- each record is spelled after those before it
 
-next : (rs : List Record) (id : ℕ) (t : RecordType) (r : Record) (fields : List ℕ) → IsUnsigned (id ∷ []) (Ok id)
-    → type_after rs id ≡ Ok t → AreFields (at_end rs) 1 t fields (Ok (Ok r))
-    → IsNext rs (id ∷ fields) (Ok (Ok (item r)))
-next rs id t r fields u e f =
-    after (Sized IsUnsigned) (λ id. IsTyped (at_end rs) id.len (type_after rs id.value)) (id ∷ []) fields
+next : (ignore : Ignore) (rs : List Record) (id : ℕ) (t : RecordType) (r : Record) (fields : List ℕ) → IsUnsigned ignore (id ∷ []) (Ok id)
+    → type_after rs id ≡ Ok t → AreFields (at_end rs) 1 t ignore fields (Ok (Ok r))
+    → IsNext rs ignore (id ∷ fields) (Ok (Ok (item r)))
+next ignore rs id t r fields u e f =
+    after ignore (Sized IsUnsigned) (λ id. IsTyped (at_end rs) id.len (type_after rs id.value)) (id ∷ []) fields
     (record { value = id; len = 1 }) (Ok (Ok (item r))) (u, refl)
-    (subst (λ x. IsTyped (at_end rs) 1 x fields (Ok (Ok (item r)))) (sym e)
-    (seen of_record (AreFields (at_end rs) 1 t) fields (Ok r) f))
+    (subst (λ x. IsTyped (at_end rs) 1 x ignore fields (Ok (Ok (item r)))) (sym e)
+    (seen ignore of_record (AreFields (at_end rs) 1 t) fields (Ok r) f))
 
-spelled : SpellsAll oasis [] file square
-spelled = (
+spelled : (ignore : Ignore) → SpellsAll (oasis ignore) [] file square
+spelled ignore = (
   magic_string,
   (1 ∷ of_start) ++ (14 ∷ of_cell) ++ (20 ∷ of_rectangle) ++ (2 ∷ of_end),
-  seen of_magic IsMagic magic_string (Ok tt) magic_said,
+  seen ignore of_magic IsMagic magic_string (Ok tt) (magic_said ignore),
   (
     1 ∷ of_start,
     (14 ∷ of_cell) ++ (20 ∷ of_rectangle) ++ (2 ∷ of_end),
-    next [] 1 OfStart starting of_start (small 1 refl refl refl) refl start_said,
+    next ignore [] 1 OfStart starting of_start (small ignore 1 refl refl refl) refl (start_said ignore),
     (
       14 ∷ of_cell,
       (20 ∷ of_rectangle) ++ (2 ∷ of_end),
-      next (starting ∷ []) 14 OfCell cell of_cell (small 14 refl refl refl) refl cell_said,
+      next ignore (starting ∷ []) 14 OfCell cell of_cell (small ignore 14 refl refl refl) refl (cell_said ignore),
       (
         20 ∷ of_rectangle,
         2 ∷ of_end,
-        next (starting ∷ cell ∷ []) 20 OfRectangle drawn of_rectangle (small 20 refl refl refl) refl rectangle_said,
+        next ignore (starting ∷ cell ∷ []) 20 OfRectangle drawn of_rectangle (small ignore 20 refl refl refl) refl (rectangle_said ignore),
         (
           2 ∷ of_end,
           [],
-          next (starting ∷ cell ∷ drawn ∷ []) 2 OfEnd ending of_end (small 2 refl refl refl) refl end_said,
+          next ignore (starting ∷ cell ∷ drawn ∷ []) 2 OfEnd ending of_end (small ignore 2 refl refl refl) refl (end_said ignore),
           refl,
           sym (append-nil (2 ∷ of_end)),
         ),
@@ -342,8 +343,8 @@ none_of_rectangle Extension b = b
 none_of_rectangle Oblique b = b
 none_of_rectangle (Path f) b = b
 
-followed : FollowAll oasis [] square
-followed = (
+followed : (ignore : Ignore) → FollowAll (oasis ignore) [] square
+followed ignore = (
   (unended [] refl, (λ k b. b)),
   (
     follows (magic ∷ []) starting refl (λ k b. b) (none_of_start []),
@@ -361,9 +362,9 @@ followed = (
   ),
 )
 
-whole : SpellsWhole oasis file square
-whole = record {
-  front = record { spelled = spelled; followed = followed; within = leb-true 303 file_limit refl };
+whole : (ignore : Ignore) → SpellsWhole (oasis ignore) file square
+whole ignore = record {
+  front = record { spelled = spelled ignore; followed = followed ignore; within = leb-true 303 file_limit refl };
   whole = (magic ∷ item starting ∷ item cell ∷ item drawn ∷ [], Absent, refl);
 }
 
@@ -385,13 +386,13 @@ heading = record { unit = Whole 1000; scheme = 0; signature = 0 ∷ 0 ∷ 0 ∷ 
 cells_are : AreCells (names_in (records square)) (drawings (records square)) (top ∷ [])
 cells_are = (record { name = refl; shapes = refl; references = tt }, tt)
 
-square_spells : SpellsLibrary file (top ∷ []) heading
-square_spells = record { items = square; whole = whole; cells_are = cells_are; head_is = refl }
+square_spells : (ignore : Ignore) → SpellsLibrary ignore file (top ∷ []) heading
+square_spells ignore = record { items = square; whole = whole ignore; cells_are = cells_are; head_is = refl }
 
-square_only : (cells : List (PlainCell Figure)) (h : OasisHead) → SpellsLibrary file cells h
+square_only : (ignore : Ignore) (cells : List (PlainCell Figure)) (h : OasisHead) → SpellsLibrary ignore file cells h
     → (cells ≡ top ∷ []) × (h ≡ heading)
-square_only cells h p =
-    let e : p.items ≡ square = one_whole oasis is_grammar file p.items square p.whole whole in
+square_only ignore cells h p =
+    let e : p.items ≡ square = one_whole (oasis ignore) (is_grammar ignore) file p.items square p.whole (whole ignore) in
     let are : AreCells (names_in (records square)) (drawings (records square)) cells =
     subst (λ is. AreCells (names_in (records is)) (drawings (records is)) cells) e p.cells_are in (
       same_cells (names_in (records square)) (drawings (records square)) (top ∷ []) cells cells_are are,

@@ -1,6 +1,7 @@
 //! What the records of a cell draw, one after the other.
 
 use lvl_grid::{Map, Point, Ring, Turn};
+use lvl_ignore::Ignore;
 use lvl_io::Read;
 use lvl_io::fake::Pieces;
 use lvl_path::PathFault;
@@ -28,7 +29,7 @@ fn next<R: Read>(input: &mut Input<R>, alloc: Global) -> Result<Option<Record>, 
     let Ok(id) = read_id(input) else {
         return Ok(None);
     };
-    let Ok(kind) = RecordType::of(id.value) else {
+    let Ok(kind) = RecordType::of(id.value, input.ignore()) else {
         return Ok(None);
     };
     match read_fields(input, alloc, kind, id.len, false) {
@@ -44,7 +45,7 @@ fn take_all(
     alloc: Global,
     bytes: &[u8],
 ) -> Result<Option<Drawn>, Refusal<FigureRule>> {
-    let mut input = Input::new(Pieces::new(bytes, 1));
+    let mut input = Input::new(Pieces::new(bytes, 1), Ignore::NOTHING);
     let mut drawn = None;
     for _ in 0..bytes.len() {
         let Some(record) = next(&mut input, alloc)? else {

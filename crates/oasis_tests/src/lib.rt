@@ -8,6 +8,8 @@
 #[cfg(test)]
 mod figures;
 #[cfg(test)]
+mod ignored;
+#[cfg(test)]
 mod library;
 #[cfg(test)]
 mod library_faults;

@@ -1,5 +1,6 @@
 //! A file with one square in one cell, byte by byte.
 
+use lvl_ignore::Ignore;
 use lvl_io::Read;
 use lvl_io::fake::Pieces;
 use oasis_records::{CellRef, Record, RecordType, Validation, read_fields, read_id, read_magic};
@@ -22,7 +23,7 @@ fn next<R: Read>(input: &mut Input<R>, alloc: Global) -> Option<Record> {
     let Ok(id) = read_id(input) else {
         return None;
     };
-    let Ok(kind) = RecordType::of(id.value) else {
+    let Ok(kind) = RecordType::of(id.value, input.ignore()) else {
         return None;
     };
     read_fields(input, alloc, kind, id.len, false).ok()
@@ -31,7 +32,7 @@ fn next<R: Read>(input: &mut Input<R>, alloc: Global) -> Option<Record> {
 #[test]
 fn records_of_a_square(rt: HostRuntime) -> Result<(), Fail> {
     let bytes = square(rt.alloc())?;
-    let mut input = Input::new(Pieces::new(&bytes, 1));
+    let mut input = Input::new(Pieces::new(&bytes, 1), Ignore::NOTHING);
     assert!(rt; read_magic(&mut input).is_ok());
     let Some(Record::Start(start)) = next(&mut input, rt.alloc()) else {
         return Err(AllocError.into());

@@ -2,6 +2,7 @@
 //! the bytes nor where it fails.
 
 use lvl_grid::Point;
+use lvl_ignore::Ignore;
 use lvl_io::Read;
 use lvl_io::fake::Pieces;
 use lvl_refusal::Refusal;
@@ -11,7 +12,7 @@ use std::process::Abort;
 use std::test::Fail;
 
 fn input(bytes: &[u8]) -> Input<Pieces<'_>> {
-    Input::new(Pieces::new(bytes, usize::MAX))
+    Input::new(Pieces::new(bytes, usize::MAX), Ignore::NOTHING)
 }
 
 /// Appends an unsigned integer.
@@ -298,7 +299,7 @@ fn reads_pieces_of_any_size_alike(rt: HostRuntime) -> Result<(), Fail> {
         bytes.extend_from_slice(GROUP)?;
     }
     for most in [1, 2, 3, 4095, 4096, 65_536, usize::MAX] {
-        let mut values = Input::new(Pieces::new(&bytes, most));
+        let mut values = Input::new(Pieces::new(&bytes, most), Ignore::NOTHING);
         for _ in 0..300u32 {
             assert!(rt;
                 matches!(read_group(rt.alloc(), &mut values), Ok(343_115)),
@@ -332,11 +333,11 @@ fn check_failed<R: Read>(rt: &impl Abort, alloc: Global, values: &mut Input<R>) 
 #[test]
 fn reports_each_cut_and_each_failed_read(rt: HostRuntime) -> Result<(), Fail> {
     for k in 0..GROUP.len() {
-        let mut cut = Input::new(Pieces::new(&GROUP[..k], 3));
+        let mut cut = Input::new(Pieces::new(&GROUP[..k], 3), Ignore::NOTHING);
         let fault = Err(Refusal::Breach(ValueFault::Truncated));
         assert_eq!(rt; read_group(rt.alloc(), &mut cut), fault, "cut to {k}");
         check_failed(&rt, rt.alloc(), &mut cut);
-        let mut failing = Input::new(Pieces::failing(&GROUP[..k], 3));
+        let mut failing = Input::new(Pieces::failing(&GROUP[..k], 3), Ignore::NOTHING);
         let fault = Err(Refusal::Breach(ValueFault::Read));
         assert_eq!(rt; read_group(rt.alloc(), &mut failing), fault, "after {k}");
         check_failed(&rt, rt.alloc(), &mut failing);

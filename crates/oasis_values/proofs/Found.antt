@@ -1,5 +1,5 @@
 -- What is found at the front of known bytes, some of which are in hand.
-use Rattle.std.proofs.Common.{◌≡◌, ◌≢◌, ℕ, ◌+◌, ◌-◌, ◌<◌, ◌≤◌, true, false, List, [], ◌∷◌, ◌++◌, length, take}
+use Rattle.std.proofs.Common.{◌≡◌, ◌≢◌, ℕ, ◌+◌, ◌-◌, ◌^◌, ◌<◌, ◌≤◌, true, false, List, [], ◌∷◌, ◌++◌, length, take}
 use Rattle.std.proofs.Common.{drop, get_or, Some, Result, Ok, Err, refl, sym, ap, ◌∙◌, subst, arith}
 use Rattle.std.proofs.Common.{append_assoc, length-append}
 use Rattle.std.proofs.lemmas.List.{take-append-drop, length-take, take-append-le, take_all, drop-append-le}
@@ -7,17 +7,19 @@ use Rattle.std.specs.Prelude.{Option}
 use Rattle.std.specs.Borrow.{GName}
 use Rattle.lvl_io.specs.Bytes.{CountsFailure}
 use Rattle.lvl_refusal.specs.declared.Refusal.TheVariants.{Breach}
-use Rattle.oasis_values.specs.Input.{in_hand, input_offset, has_failed, room_left}
+use Rattle.oasis_values.specs.Input.{in_hand, input_offset, has_failed, input_ignore, room_left}
 use Rattle.oasis_values.specs.declared.input.Input.{Input}
 use Rattle.std.specs.Io.KnownBytes.{prepend_known}
 use Rattle.lvl_io.specs.Known.{Stays}
 use Rattle.lvl_io.specs.Spelling.{IsFront, IsBegun}
 use Rattle.lvl_io.proofs.Known.{known_parts}
 use Rattle.oasis_values.specs.Faults.{is_rule, is_read_fault}
-use Rattle.oasis_values.specs.Numbers.{IsByte, Continues, IsUnsigned}
+use Rattle.oasis_values.specs.Numbers.{IsOneByte, groups, Continues, most_bytes, IsUnsigned}
 use Rattle.oasis_values.specs.Reads.{Fails, bytes_had, Reads}
 use Rattle.oasis_values.specs.inside.Leading.{IsStop, Stops}
+use Rattle.oasis_values.specs.Spelling.{Spelling}
 use Rattle.oasis_values.proofs.Integers.{continues_begun}
+use Rattle.lvl_ignore.specs.declared.ignore.Ignore.{Ignore}
 use Rattle.oasis_values.specs.declared.fault.ValueFault.{ValueFault}
 use Rattle.oasis_values.specs.declared.fault.ValueFault.TheVariants.{Truncated, TooLong, Read, Failed}
 
@@ -82,26 +84,27 @@ front_known S new b xs n x k f =
       count = f.count;
     }
 
-first_byte : (xs : List ℕ) → 0 < length xs → IsFront IsByte xs 1 (Ok (get_or xs 0 0))
+first_byte : (xs : List ℕ) → 0 < length xs → IsFront IsOneByte xs 1 (Ok (get_or xs 0 0))
 first_byte [] h = absurd (omega arith)
 first_byte (x ∷ xs) h = record { bytes = x ∷ []; rest = xs; says = refl; whole = refl; count = omega arith }
 
 pub byte_front : (new : List ℕ) (b : Option (List ℕ)) (xs : List ℕ) (x : ℕ) → prepend_known new b ≡ Some xs
-    → 0 < length new → x ≡ get_or new 0 0 → IsFront IsByte xs 1 (Ok x)
+    → 0 < length new → x ≡ get_or new 0 0 → IsFront IsOneByte xs 1 (Ok x)
 byte_front new b xs x k h e =
-    subst (λ i. IsFront IsByte xs 1 (Ok i)) (sym e)
-    (front_known IsByte new b xs 1 (Ok (get_or new 0 0)) k (first_byte new h))
+    subst (λ i. IsFront IsOneByte xs 1 (Ok i)) (sym e)
+    (front_known IsOneByte new b xs 1 (Ok (get_or new 0 0)) k (first_byte new h))
 
-pub byte_begun : IsBegun IsByte []
+pub byte_begun : IsBegun IsOneByte []
 byte_begun = record { more = 0 ∷ []; value = Ok 0; short = omega arith; says = refl }
 
 -- bytes in hand that continue begin an integer, also as the first of all
-pub hand_begun : (new : List ℕ) (b : Option (List ℕ)) (xs : List ℕ) (k : ℕ) → prepend_known new b ≡ Some xs
-    → k ≤ length new → Continues (take k new) → length (take k new) < 10 → IsBegun IsUnsigned (take k xs)
-hand_begun new b xs k e h c few =
+pub hand_begun : (i : Ignore) (new : List ℕ) (b : Option (List ℕ)) (xs : List ℕ) (k : ℕ)
+    → prepend_known new b ≡ Some xs → k ≤ length new → Continues (take k new) → length (take k new) < most_bytes i
+    → groups (take k new) < 2 ^ 64 → IsBegun (IsUnsigned i) (take k xs)
+hand_begun i new b xs k e h c few fits =
     let p = known_parts new b xs e in
     let same : take k xs ≡ take k new = ap (take k) (sym p.2) ∙ take-append-le k new p.0 h in
-    subst (IsBegun IsUnsigned) (sym same) (continues_begun (take k new) c few)
+    subst (IsBegun (IsUnsigned i)) (sym same) (continues_begun i (take k new) c few fits)
 
 front_length : {A : Type 0} (S : List ℕ → A → Type 0) (xs : List ℕ) (n : ℕ) (x : A) → IsFront S xs n x → n ≤ length xs
 front_length S xs n x f = omega (arith, f.count, ap length f.whole, length-append f.bytes f.rest)
@@ -133,25 +136,26 @@ known_dropped new b n xs k h =
 
 -- a value was found, and its bytes were skipped
 pub reads_found : {R A : Type 0} (remaining : R → Option (List ℕ)) (errors : R → ℕ) (lent : R → List GName)
-    (S : List ℕ → Result A ValueFault → Type 0)
-    (old new : Input R) (hand : List ℕ) (x : A) (n : ℕ)
+    (S : Spelling A) (old new : Input R) (hand : List ℕ) (x : A) (n : ℕ)
     → has_failed old ≡ false → has_failed new ≡ false → new.ahead ≡ drop n hand → new.offset ≡ old.offset + n
+    → new.ignore ≡ old.ignore
     → Stays (prepend_known old.ahead (remaining old.reader)) (prepend_known hand (remaining new.reader))
     → n ≤ length hand → n ≤ room_left old
-    → ((xs : List ℕ) → prepend_known old.ahead (remaining old.reader) ≡ Some xs → IsFront S xs n (Ok x))
-    → errors new.reader ≡ errors old.reader → lent new.reader ≡ lent old.reader
+    → ((xs : List ℕ) → prepend_known old.ahead (remaining old.reader) ≡ Some xs
+    → IsFront (S (input_ignore old)) xs n (Ok x)) → errors new.reader ≡ errors old.reader → lent new.reader ≡ lent old.reader
     → Reads remaining errors lent S old new (Ok x)
-reads_found remaining errors lent S old new hand x n live lives ahead offset stays had within front counted same =
+reads_found remaining errors lent S old new hand x n live lives ahead offset ignore stays had within front counted same =
     let moved : n ≡ input_offset new - input_offset old = omega (arith, offset) in
     record {
       again = λ h. absurd (let k : true ≡ false = sym h ∙ live in cc);
       fresh = λ h k. cc;
-      answers = λ h xs k. subst (λ i. IsFront S xs i (Ok x) × (i ≤ room_left old)) moved (front xs k, within);
+      answers = λ h xs k. subst (λ i. IsFront (S (input_ignore old)) xs i (Ok x) × (i ≤ room_left old)) moved (front xs k, within);
       left = λ xs k.
           ap (λ l. prepend_known l (remaining new.reader)) ahead
           ∙ known_dropped hand (remaining new.reader) n xs (stays xs k) had
           ∙ ap (λ i. Some (drop i xs)) moved;
       forward = omega (arith, offset);
+      ignores = ignore;
       failed = lives;
       counted = counted;
       same = same;
@@ -159,23 +163,23 @@ reads_found remaining errors lent S old new hand x n live lives ahead offset sta
 
 -- a fault was found, and nothing was skipped
 pub reads_stopped : {R A : Type 0} (remaining : R → Option (List ℕ)) (errors : R → ℕ) (lent : R → List GName)
-    (S : List ℕ → Result A ValueFault → Type 0)
-    (old new : Input R) (f : ValueFault)
-    → has_failed old ≡ false → has_failed new ≡ true → new.offset ≡ old.offset
+    (S : Spelling A) (old new : Input R) (f : ValueFault)
+    → has_failed old ≡ false → has_failed new ≡ true → new.offset ≡ old.offset → new.ignore ≡ old.ignore
     → Stays (prepend_known old.ahead (remaining old.reader)) (prepend_known new.ahead (remaining new.reader))
     → f ≢ Failed → ((xs : List ℕ) → prepend_known old.ahead (remaining old.reader) ≡ Some xs
-    → Fails S (room_left old) (in_hand new) xs f)
+    → Fails (S (input_ignore old)) (room_left old) (in_hand new) xs f)
     → CountsFailure (errors old.reader) (errors new.reader) (is_read_fault f) → lent new.reader ≡ lent old.reader
     → Reads remaining errors lent S old new (Err (Breach f))
-reads_stopped remaining errors lent S old new f live failed offset stays fresh fails counted same =
+reads_stopped remaining errors lent S old new f live failed offset ignore stays fresh fails counted same =
     let none : 0 ≡ input_offset new - input_offset old = omega (arith, offset) in
     let had : in_hand new ≡ bytes_had old new = omega (arith, offset) in
     record {
       again = λ h. absurd (let k : true ≡ false = sym h ∙ live in cc);
       fresh = λ h k. fresh (cc);
-      answers = λ h xs k. subst (λ i. Fails S (room_left old) i xs f) had (fails xs k);
+      answers = λ h xs k. subst (λ i. Fails (S (input_ignore old)) (room_left old) i xs f) had (fails xs k);
       left = λ xs k. stays xs k ∙ ap (λ i. Some (drop i xs)) none;
       forward = omega (arith, offset);
+      ignores = ignore;
       failed = failed;
       counted = counted;
       same = same;

@@ -1,18 +1,22 @@
 -- Integers and their bytes.
 use Rattle.std.proofs.Common.{◌≡◌, ℕ, suc, ◌+◌, ◌*◌, ◌%◌, ◌^◌, ◌<◌, ◌≤◌, ◌⊎◌, inl, inr, List, [], ◌∷◌, ◌++◌, length}
 use Rattle.std.proofs.Common.{Result, Ok, Err, refl, sym, ap, ◌∙◌, subst, arith, append_assoc, take, drop, get_or}
-use Rattle.std.proofs.Common.{mul_assoc, mul-le-mul_left, nat_le}
+use Rattle.std.proofs.Common.{mul_assoc, mul-le-mul_left, nat_le, length-append, Bool, true, false, not, if◌then◌else◌}
+use Rattle.lvl_ignore.specs.Ignored.{IsWithin}
+use Rattle.lvl_ignore.specs.declared.ignore.Ignore.{Ignore}
 use Rattle.std.proofs.lemmas.Bool.Decides.{nat_tests}
 use Rattle.std.proofs.lemmas.List.Elements.{All-append, All-cons, All-nil}
 use Rattle.std.proofs.lemmas.List.{take_more, length-take, take-append-drop}
 use Rattle.std.proofs.Math.Nat.{pow-le-pow_right, pow-suc}
 use Rattle.std.proofs.lemmas.Bool.{cases_Bool}
 use Rattle.lvl_io.specs.Spelling.{IsPrefixFree, IsFront, IsBegun, CanSay}
-use Rattle.oasis_values.specs.Numbers.{IsByte, groups, Continues, IsUnsigned}
+use Rattle.oasis_values.specs.Numbers.{IsOneByte, IsByte, groups, Continues, most_bytes, IsInteger, IsTooLarge}
+use Rattle.oasis_values.specs.Numbers.{IsUnsigned}
+use Rattle.oasis_values.proofs.Codes.{IsCode}
 use Rattle.oasis_values.specs.declared.fault.ValueFault.{ValueFault}
 use Rattle.oasis_values.specs.declared.fault.ValueFault.TheVariants.{IntegerTooLarge}
 
-byte_only : (b c m n : List ℕ) (x y : Result ℕ ValueFault) → IsByte b x → IsByte c y → b ++ m ≡ c ++ n → (b ≡ c)
+byte_only : (b c m n : List ℕ) (x y : Result ℕ ValueFault) → IsOneByte b x → IsOneByte c y → b ++ m ≡ c ++ n → (b ≡ c)
     × (x ≡ y)
 byte_only b c m n (Ok x) (Ok y) p q e =
     let h : x ∷ m ≡ y ∷ n = ap (λ l. l ++ m) (sym p) ∙ e ∙ ap (λ l. l ++ n) q in
@@ -21,11 +25,21 @@ byte_only b c m n (Ok x) (Ok y) p q e =
 byte_only b c m n (Ok x) (Err f) p q e = absurd q
 byte_only b c m n (Err f) y p q e = absurd p
 
-pub byte_free : IsPrefixFree IsByte
-byte_free = record { only = byte_only }
+pub byte_code : IsCode IsByte
+byte_code =
+    record {
+      free = λ i. record { only = byte_only };
+      said = λ i. record { bytes = 0 ∷ []; value = Ok 0; says = refl };
+      grows = λ less more within b x s. s;
+    }
 
-pub byte_said : CanSay IsByte
-byte_said = record { bytes = 0 ∷ []; value = Ok 0; says = refl }
+pub le_or : (i k : ℕ) → (i ≤ k) ⊎ (k < i)
+le_or i k =
+    elim (cases_Bool (nat_le i k)) [ inl a ↦ inl (grind (arith, nat_tests)) | inr b ↦ inr (grind (arith, nat_tests)) ]
+
+most_within : (b : Bool) → (10 ≤ (if b then 256 else 10)) × ((if b then 256 else 10) ≤ 256)
+most_within true = (omega arith, omega arith)
+most_within false = (omega arith, omega arith)
 
 all_tail : (z : ℕ) (g : List ℕ) → Continues (z ∷ g) → Continues g
 all_tail z g c = λ k d h. c (suc k) d (omega (arith, h))
@@ -82,41 +96,116 @@ same_bytes f g m n b c x y p q l e =
     let s = same_front f g m n x y l (fronts f g m n b c x y p q e) in
     p ∙ ap (λ h. h ++ (x ∷ [])) s.0 ∙ ap (λ i. g ++ (i ∷ [])) s.1 ∙ sym q
 
--- ten bytes, the last of which is above 1, make no number below 2^64
-too_large : (b : List ℕ) (f : List ℕ) (x n : ℕ) → b ≡ f ++ (x ∷ []) → length f ≡ 9 → 1 < x → x < 128 → n ≡ groups b
-    → n < 2 ^ 64 → ⊥
-too_large b f x n e l more less v fits =
-    let g = groups_snoc f x in
-    let p : 128 ^ length f ≡ 2 ^ 63 = ap (λ i. 128 ^ i) l in
-    let m : x % 128 ≡ x = omega arith in
-    let h : n ≡ groups f + 2 ^ 63 * x = v ∙ ap groups e ∙ g ∙ rw (p, m) refl in
-    omega (arith, h)
+-- a shorter front and the byte after it are at the beginning of a longer one
+longer_front : (f g m n : List ℕ) (x y : ℕ) → f ++ (x ∷ m) ≡ g ++ (y ∷ n) → length f < length g
+    → (rest : List ℕ) × (g ≡ (f ++ (x ∷ [])) ++ rest)
+longer_front f [] m n x y e h = absurd (omega (arith, h))
+longer_front [] (z ∷ g) m n x y e h =
+    let k : x ∷ m ≡ z ∷ (g ++ (y ∷ n)) = e in
+    let i : z ≡ x = cc in
+    (g, ap (λ j. j ∷ g) i)
+longer_front (a ∷ f) (z ∷ g) m n x y e h =
+    let k : a ∷ (f ++ (x ∷ m)) ≡ z ∷ (g ++ (y ∷ n)) = e in
+    let t : f ++ (x ∷ m) ≡ g ++ (y ∷ n) = cc in
+    let i : z ≡ a = cc in
+    let s = longer_front f g m n x y t (omega (arith, h)) in
+    (s.0, ap (λ j. j ∷ g) i ∙ ap (λ l. a ∷ l) s.1)
 
-unsigned_only : (b c m n : List ℕ) (x y : Result ℕ ValueFault) → IsUnsigned b x → IsUnsigned c y → b ++ m ≡ c ++ n
-    → (b ≡ c) × (x ≡ y)
-unsigned_only b c m n (Ok x) (Ok y) p q e =
+groups_more : (b rest : List ℕ) → groups b ≤ groups (b ++ rest)
+groups_more [] rest = omega arith
+groups_more (z ∷ b) rest = let h = groups_more b rest in omega (arith, h)
+
+-- where bytes tell that no integer begins with them, what is longer doesn't go on from them
+too_large_last : {i : Ignore} (c g m n : List ℕ) (y : ℕ) (q : IsTooLarge i c) → c ++ n ≡ g ++ (y ∷ m)
+    → length q.front < length g → length g < most_bytes i → groups g < 2 ^ 64 → ⊥
+too_large_last c g m n y q e h few fits =
+    let longer = longer_front q.front g n m q.last y (sym (joined q.front n c q.last q.bytes) ∙ e) h in
+    let whole : g ≡ c ++ longer.0 = longer.1 ∙ ap (λ l. l ++ longer.0) (sym q.bytes) in
+    let low : groups c ≤ groups g = subst (λ l. groups c ≤ groups l) (sym whole) (groups_more c longer.0) in
+    let size = ap length q.bytes in
+    elim q.decided [
+      | inl large ↦ omega (arith, large, low, fits)
+      | inr full ↦ omega (arith, full.1, size, length-append q.front (q.last ∷ []), h, few)
+    ]
+
+-- what tells that no integer begins with it begins none
+too_large_none : (i : Ignore) (b c m n : List ℕ) (x : ℕ) → IsInteger i b x → IsTooLarge i c → b ++ m ≡ c ++ n → ⊥
+too_large_none i b c m n x p q e =
+    let h = fronts p.front q.front m n b c p.last q.last p.bytes q.bytes e in
+    let less = short_front p.front q.front m n p.last q.last q.continues p.ends h in
+    let low : groups p.front < 2 ^ 64 =
+    let k = groups_more p.front (p.last ∷ []) in
+    let s = p.value ∙ ap groups p.bytes in omega (arith, k, s, p.fits) in
+    elim (le_or (length p.front) (length q.front)) [
+      | inl same ↦
+          let s = same_front p.front q.front m n p.last q.last (omega (arith, same, less)) h in
+          let bytes = same_bytes p.front q.front m n b c p.last q.last p.bytes q.bytes (omega (arith, same, less)) e in
+          elim q.decided [
+            | inl large ↦ (let v = p.value ∙ ap groups bytes in omega (arith, large, v, p.fits))
+            | inr full ↦ omega (arith, full.0, s.1, p.ends)
+          ]
+      | inr longer ↦
+          too_large_last c p.front m n p.last q (sym e ∙ joined p.front m b p.last p.bytes) longer p.few low
+    ]
+
+too_large_only : (i : Ignore) (b c m n : List ℕ) → IsTooLarge i b → IsTooLarge i c → b ++ m ≡ c ++ n → b ≡ c
+too_large_only i b c m n p q e =
+    elim (le_or (length p.front) (length q.front)) [
+      | inl below ↦ elim (le_or (length q.front) (length p.front)) [
+        | inl above ↦
+            same_bytes p.front q.front m n b c p.last q.last p.bytes q.bytes (omega (arith, below, above)) e
+        | inr longer ↦
+            absurd (too_large_last b q.front n m q.last p (e ∙ joined q.front n c q.last q.bytes) longer q.few q.fits)
+      ]
+      | inr longer ↦
+          absurd (too_large_last c p.front m n p.last q (sym e ∙ joined p.front m b p.last p.bytes) longer p.few p.fits)
+    ]
+
+unsigned_only : (i : Ignore) (b c m n : List ℕ) (x y : Result ℕ ValueFault) → IsUnsigned i b x → IsUnsigned i c y
+    → b ++ m ≡ c ++ n → (b ≡ c) × (x ≡ y)
+unsigned_only i b c m n (Ok x) (Ok y) p q e =
     let h = fronts p.front q.front m n b c p.last q.last p.bytes q.bytes e in
     let less = short_front p.front q.front m n p.last q.last q.continues p.ends h in
     let more = short_front q.front p.front n m q.last p.last p.continues q.ends (sym h) in
     let same = same_bytes p.front q.front m n b c p.last q.last p.bytes q.bytes (omega (arith, less, more)) e in
     (same, ap Ok (p.value ∙ ap groups same ∙ sym q.value))
-unsigned_only b c m n (Ok x) (Err f) p (q0, q) e = absurd (
-    let h = fronts p.front q.front m n b c p.last q.tenth p.bytes q.bytes e in
-    let less = short_front p.front q.front m n p.last q.tenth q.continues p.ends h in
-    let nine : length p.front ≡ 9 = omega (arith, less, p.few, q.nine) in
-    let s = same_front p.front q.front m n p.last q.tenth (nine ∙ sym q.nine) h in
-    too_large b p.front p.last x p.bytes nine (omega (arith, s.1, q.above)) p.ends p.value p.fits)
-unsigned_only b c m n (Err f) (Ok y) (p0, p) q e = absurd (
-    let h = fronts q.front p.front n m c b q.last p.tenth q.bytes p.bytes (sym e) in
-    let less = short_front q.front p.front n m q.last p.tenth p.continues q.ends h in
-    let nine : length q.front ≡ 9 = omega (arith, less, q.few, p.nine) in
-    let s = same_front q.front p.front n m q.last p.tenth (nine ∙ sym p.nine) h in
-    too_large c q.front q.last y q.bytes nine (omega (arith, s.1, p.above)) q.ends q.value q.fits)
-unsigned_only b c m n (Err f) (Err g) (p0, p) (q0, q) e =
-    (same_bytes p.front q.front m n b c p.tenth q.tenth p.bytes q.bytes (p.nine ∙ sym q.nine) e, ap Err (p0 ∙ sym q0))
+unsigned_only i b c m n (Ok x) (Err f) p (q0, q) e = absurd (too_large_none i b c m n x p q e)
+unsigned_only i b c m n (Err f) (Ok y) (p0, p) q e = absurd (too_large_none i c b n m y q p (sym e))
+unsigned_only i b c m n (Err f) (Err g) (p0, p) (q0, q) e =
+    (too_large_only i b c m n p q e, ap Err (p0 ∙ sym q0))
 
-pub unsigned_free : IsPrefixFree IsUnsigned
-unsigned_free = record { only = unsigned_only }
+most_of : (b : Bool) → not b ≡ true → ◌≡◌ {A = ℕ} (if b then 256 else 10) 10
+most_of true h = absurd (let e : false ≡ true = h in cc)
+most_of false h = refl
+
+-- without padding an integer has ten bytes at most
+pub most_plain : (i : Ignore) → not i.padding ≡ true → most_bytes i ≡ 10
+most_plain i h = most_of i.padding h
+
+pub few_bytes : (i : Ignore) → (10 ≤ most_bytes i) × (most_bytes i ≤ 256)
+few_bytes i = most_within i.padding
+
+bytes_grow : (less more : Bool) → (less ≡ true → more ≡ true)
+    → (if less then 256 else 10) ≤ (if more then 256 else 10)
+bytes_grow true true h = omega arith
+bytes_grow true false h = absurd (let e : false ≡ true = h refl in cc)
+bytes_grow false true h = omega arith
+bytes_grow false false h = omega arith
+
+unsigned_grows : (less more : Ignore) → IsWithin less more → (b : List ℕ) (n : ℕ) → IsInteger less b n
+    → IsInteger more b n
+unsigned_grows less more within b n p =
+    let wide : most_bytes less ≤ most_bytes more = bytes_grow less.padding more.padding within.padding in
+    record {
+      front = p.front;
+      last = p.last;
+      bytes = p.bytes;
+      continues = p.continues;
+      ends = p.ends;
+      few = omega (arith, p.few, wide);
+      value = p.value;
+      fits = p.fits;
+    }
 
 -- fewer than ten groups fit
 pub power_fits : (k v : ℕ) → k < 10 → v < 128 ^ k → v < 2 ^ 64
@@ -124,11 +213,11 @@ power_fits k v h lt =
     let most : 128 ^ k ≤ 128 ^ 9 = pow-le-pow_right {n = 128} (omega arith) {i = k} {j = 9} (omega arith) in
     omega (arith, most)
 
--- bytes that continue, fewer than ten, begin an integer: a zero byte more is its end
-pub continues_begun : (xs : List ℕ) → Continues xs → length xs < 10 → IsBegun IsUnsigned xs
-continues_begun xs c few =
+-- bytes that continue, few and with a number that fits, begin an integer: a zero byte more is its end
+pub continues_begun : (i : Ignore) (xs : List ℕ) → Continues xs → length xs < most_bytes i → groups xs < 2 ^ 64
+    → IsBegun (IsUnsigned i) xs
+continues_begun i xs c few fits =
     let g = groups_snoc xs 0 in
-    let lt = groups_lt xs in
     let all : groups (xs ++ (0 ∷ [])) ≡ groups xs = g ∙ omega arith in
     record {
       more = 0 ∷ [];
@@ -142,12 +231,12 @@ continues_begun xs c few =
         ends = omega arith;
         few = few;
         value = sym all;
-        fits = power_fits (length xs) (groups xs) few lt;
+        fits = fits;
       };
     }
 
-pub unsigned_said : CanSay IsUnsigned
-unsigned_said =
+unsigned_said : (i : Ignore) → CanSay (IsUnsigned i)
+unsigned_said i =
     record {
       bytes = 0 ∷ [];
       value = Ok 0;
@@ -157,24 +246,29 @@ unsigned_said =
         bytes = refl;
         continues = λ k d h. absurd (omega (arith, h));
         ends = omega arith;
-        few = omega arith;
+        few = omega (arith, (few_bytes i).0);
         value = refl;
         fits = omega arith;
       };
     }
 
-le_or : (i k : ℕ) → i ≤ k + 1 → (i ≤ k) ⊎ (i ≡ k + 1)
-le_or i k h =
-    elim (cases_Bool (nat_le i k)) [ inl a ↦ inl (grind (arith, nat_tests)) | inr b ↦ inr (grind (arith, nat_tests)) ]
+pub unsigned_code : IsCode IsUnsigned
+unsigned_code =
+    record {
+      free = λ i. record { only = unsigned_only i };
+      said = unsigned_said;
+      grows = unsigned_grows;
+    }
 
 -- a tenth byte adds 2^63 at most, and each before it less than the next unit
-pub sum_fits : (i v x : ℕ) → i ≤ 9 → (i ≡ 9 → x ≤ 1) → v < 128 ^ i → v + 128 ^ i * (x % 128) < 2 ^ 64
-sum_fits i v x le tenth lt = elim (le_or i 8 le) [
+pub sum_fits : (i v x : ℕ) → i ≤ 9 → (i ≡ 9 → x % 128 ≤ 1) → v < 128 ^ i → v + 128 ^ i * (x % 128) < 2 ^ 64
+sum_fits i v x le tenth lt = elim (le_or i 8) [
   | inl low ↦
       let most : 128 ^ i ≤ 128 ^ 8 = pow-le-pow_right {n = 128} (omega arith) {i = i} {j = 8} low in
       let digit : 128 ^ i * (x % 128) ≤ 128 ^ i * 127 = mul-le-mul_left (128 ^ i) (omega arith) in
       omega (arith, most, digit, lt)
-  | inr nine ↦
+  | inr more ↦
+      let nine : i ≡ 9 = omega (arith, le, more) in
       let p : 128 ^ i ≡ 2 ^ 63 = ap (λ k. 128 ^ k) nine in
       let few = tenth nine in
       let digit : 128 ^ i * (x % 128) ≤ 128 ^ i * 1 = mul-le-mul_left (128 ^ i) (omega arith) in
@@ -203,7 +297,7 @@ pub more_groups : (xs : List ℕ) (i v u : ℕ) (x : ℕ) → i < length xs → 
 more_groups xs i v u x h e p g =
     ap (λ k. v + k * x) p ∙ ap (λ k. v + 128 ^ i * k) g ∙ one_more xs i v (get_or xs i 0) h e refl
 
-pub next_fits : (xs : List ℕ) (i v u x : ℕ) → i < length xs → i ≤ 9 → (i ≡ 9 → get_or xs i 0 ≤ 1)
+pub next_fits : (xs : List ℕ) (i v u x : ℕ) → i < length xs → i ≤ 9 → (i ≡ 9 → get_or xs i 0 % 128 ≤ 1)
     → v ≡ groups (take i xs) → u ≡ 128 ^ i → x ≡ get_or xs i 0 % 128 → v + u * x < 2 ^ 64
 next_fits xs i v u x h le tenth e p g =
     let fits = sum_fits i v (get_or xs i 0) le tenth (value_lt xs i v h e) in
@@ -221,45 +315,74 @@ more_continues xs i h c b =
     let one = All-append P (take i xs) (get_or xs i 0 ∷ []) c (All-cons P (get_or xs i 0) [] b (All-nil P)) in
     subst Continues (sym (take_more xs i 0 h)) one
 
--- the byte at i is the last of an integer
-pub whole_front : (xs : List ℕ) (i v : ℕ) → i < length xs → i ≤ 9 → Continues (take i xs)
-    → v ≡ groups (take (i + 1) xs) → v < 2 ^ 64 → get_or xs i 0 < 128 → IsFront IsUnsigned xs (i + 1) (Ok v)
-whole_front xs i v h le c e fits ends =
-    let l : length (take i xs) ≡ i = omega (arith, length-take {A = ℕ}) in
+-- the byte at n is the last of an integer
+pub whole_front : (i : Ignore) (xs : List ℕ) (n v : ℕ) → n < length xs → n < most_bytes i → Continues (take n xs)
+    → v ≡ groups (take (n + 1) xs) → v < 2 ^ 64 → get_or xs n 0 < 128 → IsFront (IsUnsigned i) xs (n + 1) (Ok v)
+whole_front i xs n v h few c e fits ends =
+    let l : length (take n xs) ≡ n = omega (arith, length-take {A = ℕ}) in
     record {
-      bytes = take (i + 1) xs;
-      rest = drop (i + 1) xs;
+      bytes = take (n + 1) xs;
+      rest = drop (n + 1) xs;
       says = record {
-        front = take i xs;
-        last = get_or xs i 0;
-        bytes = take_more xs i 0 h;
+        front = take n xs;
+        last = get_or xs n 0;
+        bytes = take_more xs n 0 h;
         continues = c;
         ends = ends;
-        few = omega (arith, l);
+        few = omega (arith, l, few);
         value = e;
         fits = fits;
       };
-      whole = sym (take-append-drop (i + 1) xs);
+      whole = sym (take-append-drop (n + 1) xs);
       count = omega (arith, length-take {A = ℕ});
     }
 
-pub too_large_front : (xs : List ℕ) → 9 < length xs → Continues (take 9 xs) → 1 < get_or xs 9 0
-    → IsFront IsUnsigned xs 10 (Err IntegerTooLarge)
-too_large_front xs h c above =
+-- with the byte at n no integer begins
+pub too_large_front : (i : Ignore) (xs : List ℕ) (n : ℕ) → n < length xs → n < most_bytes i → Continues (take n xs)
+    → groups (take n xs) < 2 ^ 64
+    → ((2 ^ 64 ≤ groups (take (n + 1) xs)) ⊎ ((128 ≤ get_or xs n 0) × (n + 1 ≡ most_bytes i)))
+    → IsFront (IsUnsigned i) xs (n + 1) (Err IntegerTooLarge)
+too_large_front i xs n h few c fits decided =
+    let l : length (take n xs) ≡ n = omega (arith, length-take {A = ℕ}) in
+    let all : length (take (n + 1) xs) ≡ n + 1 = omega (arith, length-take {A = ℕ}) in
     record {
-      bytes = take 10 xs;
-      rest = drop 10 xs;
+      bytes = take (n + 1) xs;
+      rest = drop (n + 1) xs;
       says = (
         refl,
         record {
-          front = take 9 xs;
-          tenth = get_or xs 9 0;
-          bytes = take_more xs 9 0 h;
+          front = take n xs;
+          last = get_or xs n 0;
+          bytes = take_more xs n 0 h;
           continues = c;
-          nine = omega (arith, length-take {A = ℕ});
-          above = above;
+          few = omega (arith, l, few);
+          fits = fits;
+          decided = elim decided [ inl large ↦ inl large | inr full ↦ inr (full.0, all ∙ full.1) ];
         },
       );
-      whole = sym (take-append-drop 10 xs);
-      count = omega (arith, length-take {A = ℕ});
+      whole = sym (take-append-drop (n + 1) xs);
+      count = all;
     }
+
+-- a tenth group that isn't 0 or 1 is too large
+pub tenth_large : (xs : List ℕ) → 9 < length xs → 1 < get_or xs 9 0 % 128 → 2 ^ 64 ≤ groups (take 10 xs)
+tenth_large xs h above =
+    let s = one_more xs 9 (groups (take 9 xs)) (get_or xs 9 0) h refl refl in
+    omega (arith, s, above)
+
+-- after ten groups one that isn't zero is
+pub later_large : (xs : List ℕ) (n : ℕ) → n < length xs → 10 ≤ n → 0 < get_or xs n 0 % 128
+    → 2 ^ 64 ≤ groups (take (n + 1) xs)
+later_large xs n h late above =
+    let s = one_more xs n (groups (take n xs)) (get_or xs n 0) h refl refl in
+    let high : 128 ^ 10 ≤ 128 ^ n = pow-le-pow_right {n = 128} (omega arith) {i = 10} {j = n} late in
+    let some : 128 ^ n * 1 ≤ 128 ^ n * (get_or xs n 0 % 128) = mul-le-mul_left (128 ^ n) (omega (arith, above)) in
+    omega (arith, s, high, some)
+
+-- and one that is zero adds nothing
+pub zero_group : (xs : List ℕ) (n v : ℕ) → n < length xs → v ≡ groups (take n xs) → get_or xs n 0 % 128 ≡ 0
+    → v ≡ groups (take (n + 1) xs)
+zero_group xs n v h e zero =
+    let s = one_more xs n v (get_or xs n 0) h e refl in
+    let none : 128 ^ n * (get_or xs n 0 % 128) ≡ 0 = rw zero (omega arith) in
+    omega (arith, s, none)

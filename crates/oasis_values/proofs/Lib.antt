@@ -1,3 +1,4 @@
+pub mod Codes
 pub mod Reading
 pub mod Integers
 pub mod Found
@@ -6,3 +7,4 @@ pub mod Values
 pub mod Ranges
 pub mod Lists
 pub mod Places
+pub mod Plain

@@ -3,12 +3,12 @@ use Rattle.std.proofs.Common.{◌≡◌, ℕ, suc, false, List, [], ◌∷◌, �
 use Rattle.std.proofs.Common.{Result, Ok, Err, refl, sym, ap, subst, append_assoc, append-nil}
 use Rattle.std.specs.Prelude.{Option}
 use Rattle.std.specs.Borrow.{GName}
-use Rattle.lvl_io.specs.Spelling.{CanSay, Gives, Then, Chain}
-use Rattle.lvl_io.proofs.Spelling.{gives_said, then_said, chain_said}
 use Rattle.lvl_refusal.specs.declared.Refusal.{Refusal}
 use Rattle.oasis_values.specs.Input.{has_failed}
 use Rattle.oasis_values.specs.Reads.{Reads}
 use Rattle.oasis_values.proofs.Reading.{reads_err, reads_then, reads_nothing, reads_seen, reads_seen_err}
+use Rattle.oasis_values.specs.Spelling.{Spelling, Gives, Then, Chain}
+use Rattle.oasis_values.proofs.Codes.{IsCode, gives_code, then_code, chain_code}
 use Rattle.oasis_values.specs.declared.fault.ValueFault.{ValueFault}
 use Rattle.oasis_values.specs.declared.input.Input.{Input}
 
@@ -20,7 +20,7 @@ behind said (Err e) = Err e
 -- n were wanted, the first as a says. The input was `first` then and is `now`; left are still to come, the next of them
 -- as b says, and said was said: whatever reads the rest reads the whole
 pub record Going {R A B : Type 0} (remaining : R → Option (List ℕ)) (errors : R → ℕ) (lent : R → List GName)
-    (S : A → List ℕ → Result A ValueFault → Type 0) (show : A → B) (n : ℕ) (a : A) (first now : Input R) (left : ℕ)
+    (S : A → Spelling A) (show : A → B) (n : ℕ) (a : A) (first now : Input R) (left : ℕ)
     (b : A) (said : List B) : Type 0 where
   pub live : has_failed now ≡ false
   pub goes : (new : Input R) (r : Result (List B) (Refusal ValueFault))
@@ -32,7 +32,7 @@ behind_nothing (Ok ys) = refl
 behind_nothing (Err e) = refl
 
 pub going_start : {R A B : Type 0} {remaining : R → Option (List ℕ)} {errors : R → ℕ} {lent : R → List GName}
-    (S : A → List ℕ → Result A ValueFault → Type 0) (show : A → B) (n : ℕ) (a : A) (first : Input R)
+    (S : A → Spelling A) (show : A → B) (n : ℕ) (a : A) (first : Input R)
     → has_failed first ≡ false → Going remaining errors lent S show n a first first n a []
 going_start {remaining = remaining} {errors = errors} {lent = lent} S show n a first live =
     record {
@@ -42,7 +42,7 @@ going_start {remaining = remaining} {errors = errors} {lent = lent} S show n a f
     }
 
 reads_after : {R A B : Type 0} {remaining : R → Option (List ℕ)} {errors : R → ℕ} {lent : R → List GName}
-    (S : A → List ℕ → Result A ValueFault → Type 0) (show : A → B) (k : ℕ) (x : A) (old new : Input R)
+    (S : A → Spelling A) (show : A → B) (k : ℕ) (x : A) (old new : Input R)
     (r : Result (List B) (Refusal ValueFault))
     → Reads remaining errors lent (Chain S show k x) old new r
     → Reads remaining errors lent (Then (Chain S show k x) (λ ys. Gives (Ok (show x ∷ ys)))) old new
@@ -56,7 +56,7 @@ behind_more said y (Ok ys) = ap Ok (sym (append_assoc said (y ∷ []) ys))
 behind_more said y (Err e) = refl
 
 going_next : {R A B : Type 0} {remaining : R → Option (List ℕ)} {errors : R → ℕ} {lent : R → List GName}
-    (S : A → List ℕ → Result A ValueFault → Type 0) (show : A → B) (n : ℕ) (a : A) (first now mid : Input R) (k : ℕ)
+    (S : A → Spelling A) (show : A → B) (n : ℕ) (a : A) (first now mid : Input R) (k : ℕ)
     (b x : A) (said : List B)
     → Going remaining errors lent S show n a first now (suc k) b said → Reads remaining errors lent (S b) now mid (Ok x)
     → Going remaining errors lent S show n a first mid k x (said ++ (show x ∷ []))
@@ -72,7 +72,7 @@ going_next {remaining = remaining} {errors = errors} {lent = lent} S show n a fi
 
 -- one more was read
 pub going_on : {R A B : Type 0} {remaining : R → Option (List ℕ)} {errors : R → ℕ} {lent : R → List GName}
-    {S : A → List ℕ → Result A ValueFault → Type 0} {show : A → B} {n : ℕ} {a : A} {first now mid : Input R}
+    {S : A → Spelling A} {show : A → B} {n : ℕ} {a : A} {first now mid : Input R}
     {left : ℕ} {b x : A} {said : List B} (k : ℕ)
     → Going remaining errors lent S show n a first now left b said → left ≡ suc k
     → Reads remaining errors lent (S b) now mid (Ok x)
@@ -84,21 +84,20 @@ going_on {remaining = remaining} {errors = errors} {lent = lent} {S = S} {show =
 
 -- the next could not be read
 pub going_err : {R A B : Type 0} {remaining : R → Option (List ℕ)} {errors : R → ℕ} {lent : R → List GName}
-    {S : A → List ℕ → Result A ValueFault → Type 0} {show : A → B} {n : ℕ} {a : A} {first now new : Input R}
+    {S : A → Spelling A} {show : A → B} {n : ℕ} {a : A} {first now new : Input R}
     {left : ℕ} {b : A} {said : List B} {e : Refusal ValueFault} (k : ℕ)
-    → ((x : A) → CanSay (S x)) → Going remaining errors lent S show n a first now left b said → left ≡ suc k
+    → ((x : A) → IsCode (S x)) → Going remaining errors lent S show n a first now left b said → left ≡ suc k
     → Reads remaining errors lent (S b) now new (Err e)
     → Reads remaining errors lent (Chain S show n a) first new (Err e)
 going_err {remaining = remaining} {errors = errors} {lent = lent} {S = S} {show = show} {n = n} {a = a}
     {first = first} {now = now} {new = new} {b = b} {said = said} {e = e} k can g h p =
     let next = subst (λ i. Going remaining errors lent S show n a first now i b said) h g in
     next.goes new (Err e) (reads_err (λ x. Then (Chain S show k x) (λ ys. Gives (Ok (show x ∷ ys))))
-    (λ x. then_said (Chain S show k x) (λ ys. Gives (Ok (show x ∷ ys))) (chain_said S show k x can)
-    (λ ys. gives_said (Ok (show x ∷ ys)))) p)
+    (λ x. then_code (chain_code {S = S} show k x can) (λ ys. gives_code)) p)
 
 -- all were read
 pub going_end : {R A B : Type 0} {remaining : R → Option (List ℕ)} {errors : R → ℕ} {lent : R → List GName}
-    {S : A → List ℕ → Result A ValueFault → Type 0} {show : A → B} {n : ℕ} {a : A} {first now : Input R} {left : ℕ}
+    {S : A → Spelling A} {show : A → B} {n : ℕ} {a : A} {first now : Input R} {left : ℕ}
     {b : A} {said : List B}
     → Going remaining errors lent S show n a first now left b said → left ≡ 0
     → Reads remaining errors lent (Chain S show n a) first now (Ok said)
@@ -109,14 +108,14 @@ going_end {remaining = remaining} {errors = errors} {lent = lent} {S = S} {show 
     (last.goes now (Ok []) (reads_nothing [] last.live))
 
 pub going_from : {R A B : Type 0} {remaining : R → Option (List ℕ)} {errors : R → ℕ} {lent : R → List GName}
-    (S : A → List ℕ → Result A ValueFault → Type 0) (show : A → B) (n : ℕ) (a : A) (first : Input R) {left : ℕ}
+    (S : A → Spelling A) (show : A → B) (n : ℕ) (a : A) (first : Input R) {left : ℕ}
     → n ≡ left → has_failed first ≡ false → Going remaining errors lent S show n a first first left a []
 going_from {remaining = remaining} {errors = errors} {lent = lent} S show n a first e live =
     subst (λ i. Going remaining errors lent S show n a first first i a []) e (going_start S show n a first live)
 
 -- what was said, in other words
 pub going_as : {R A B : Type 0} {remaining : R → Option (List ℕ)} {errors : R → ℕ} {lent : R → List GName}
-    {S : A → List ℕ → Result A ValueFault → Type 0} {show : A → B} {n : ℕ} {a : A} {first now : Input R} {left : ℕ}
+    {S : A → Spelling A} {show : A → B} {n : ℕ} {a : A} {first now : Input R} {left : ℕ}
     {b : A} {said : List B} {words : List B}
     → said ≡ words → Going remaining errors lent S show n a first now left b said
     → Going remaining errors lent S show n a first now left b words
@@ -126,7 +125,7 @@ going_as {remaining = remaining} {errors = errors} {lent = lent} {S = S} {show =
 
 -- where the next one is read from, in other words
 pub going_at : {R A B : Type 0} {remaining : R → Option (List ℕ)} {errors : R → ℕ} {lent : R → List GName}
-    {S : A → List ℕ → Result A ValueFault → Type 0} {show : A → B} {n : ℕ} {a : A} {first now : Input R} {left : ℕ}
+    {S : A → Spelling A} {show : A → B} {n : ℕ} {a : A} {first now : Input R} {left : ℕ}
     {b c : A} {said : List B}
     → c ≡ b → Going remaining errors lent S show n a first now left b said
     → Going remaining errors lent S show n a first now left c said

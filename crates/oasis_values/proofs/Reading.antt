@@ -6,16 +6,19 @@ use Rattle.std.proofs.Math.Seq.{drop-append_seam, take-append-add}
 use Rattle.std.specs.Prelude.{Option}
 use Rattle.std.specs.Borrow.{GName}
 use Rattle.lvl_io.specs.Bytes.{CountsFailure}
-use Rattle.lvl_io.specs.Spelling.{IsPrefixFree, IsFront, IsBegun, CanSay, Gives, Then}
-use Rattle.lvl_io.proofs.Spelling.{gives_said, then_begun, then_goes_on, then_both, then_breached, breached_none}
+use Rattle.lvl_io.specs.Spelling.{IsFront, IsBegun, CanSay, Then as ThenAlways}
+use Rattle.lvl_io.proofs.Spelling.{then_begun, then_goes_on, then_both, then_breached, breached_none}
 use Rattle.lvl_refusal.specs.declared.Refusal.{Refusal}
 use Rattle.lvl_refusal.specs.declared.Refusal.TheVariants.{Breach, OutOfMemory}
+use Rattle.lvl_ignore.specs.declared.ignore.Ignore.{Ignore}
 use Rattle.oasis_values.specs.Faults.{is_rule, is_read_fault, reader_failed}
-use Rattle.oasis_values.specs.Input.{input_offset, has_failed, input_reader, room_left}
+use Rattle.oasis_values.specs.Input.{input_offset, has_failed, input_ignore, input_reader, room_left}
 use Rattle.std.specs.Io.KnownBytes.{prepend_known}
 use Rattle.oasis_values.specs.Known.{Seen}
 use Rattle.oasis_values.specs.inside.Stopped.{HasStopped}
 use Rattle.oasis_values.specs.Reads.{Fails, Answers, bytes_had, Reads, Refutes}
+use Rattle.oasis_values.specs.Spelling.{Spelling, Gives, Then}
+use Rattle.oasis_values.proofs.Codes.{IsCode, gives_code}
 use Rattle.oasis_values.specs.declared.fault.ValueFault.{ValueFault}
 use Rattle.oasis_values.specs.declared.fault.ValueFault.TheVariants.{Truncated, TooLong, Read, Failed}
 use Rattle.oasis_values.specs.declared.input.Input.{Input}
@@ -29,7 +32,7 @@ front_rest S xs n x f =
 -- a fault of the first is one of the whole
 pub fails_first : {A B : Type 0} (S : List ℕ → Result A ValueFault → Type 0)
     (T : A → List ℕ → Result B ValueFault → Type 0) (room had : ℕ) (xs : List ℕ) (f : ValueFault)
-    → ((x : A) → CanSay (T x)) → Fails S room had xs f → Fails (Then S T) room had xs f
+    → ((x : A) → CanSay (T x)) → Fails S room had xs f → Fails (ThenAlways S T) room had xs f
 fails_first S T room had xs f can p =
     record {
       truncated = λ e. let q = p.truncated e in (q.0, then_begun S T xs q.1 can);
@@ -55,7 +58,7 @@ fails_first S T room had xs f can p =
 -- a value of the first, and what the second is after it
 pub front_second : {A B : Type 0} (S : List ℕ → Result A ValueFault → Type 0)
     (T : A → List ℕ → Result B ValueFault → Type 0) (xs : List ℕ) (n m : ℕ) (x : A) (r : Result B ValueFault)
-    → IsFront S xs n (Ok x) → IsFront (T x) (drop n xs) m r → IsFront (Then S T) xs (n + m) r
+    → IsFront S xs n (Ok x) → IsFront (T x) (drop n xs) m r → IsFront (ThenAlways S T) xs (n + m) r
 front_second S T xs n m x r p q =
     let rest : p.rest ≡ q.bytes ++ q.rest = sym (front_rest S xs n (Ok x) p) ∙ q.whole in
     record {
@@ -78,7 +81,7 @@ take_past S xs n room x p h =
 -- a fault of the second is one of the whole
 pub fails_second : {A B : Type 0} (S : List ℕ → Result A ValueFault → Type 0)
     (T : A → List ℕ → Result B ValueFault → Type 0) (room n had : ℕ) (xs : List ℕ) (x : A) (f : ValueFault)
-    → IsFront S xs n (Ok x) → n ≤ room → Fails (T x) (room - n) had (drop n xs) f → Fails (Then S T) room (n + had) xs f
+    → IsFront S xs n (Ok x) → n ≤ room → Fails (T x) (room - n) had (drop n xs) f → Fails (ThenAlways S T) room (n + had) xs f
 fails_second S T room n had xs x f p h q =
     let whole : p.bytes ++ drop n xs ≡ xs = ap (λ l. p.bytes ++ l) (front_rest S xs n (Ok x) p) ∙ sym p.whole in
     let len : n + length (drop n xs) ≡ length xs =
@@ -86,19 +89,19 @@ fails_second S T room n had xs x f p h q =
     record {
       truncated = λ e.
           let t = q.truncated e in
-          (omega (arith, t.0), subst (IsBegun (Then S T)) whole (then_goes_on S T p.bytes (drop n xs) x p.says t.1));
+          (omega (arith, t.0), subst (IsBegun (ThenAlways S T)) whole (then_goes_on S T p.bytes (drop n xs) x p.says t.1));
       too_long = λ e.
           let t = q.too_long e in
           let goes_on = then_goes_on S T p.bytes (take (room - n) (drop n xs)) x p.says t.2 in
           let past = take_past S xs n room (Ok x) p h in
-          (omega (arith, t.0), omega (arith, t.1), subst (IsBegun (Then S T)) past goes_on);
+          (omega (arith, t.0), omega (arith, t.1), subst (IsBegun (ThenAlways S T)) past goes_on);
       unread = λ e.
           let t = q.unread e in
           let goes_on = then_goes_on S T p.bytes (take had (drop n xs)) x p.says t.1 in
           let past = take_past S xs n (n + had) (Ok x) p (omega arith) in
           let left : (n + had) - n ≡ had = omega arith in
           let same = ap (λ k. p.bytes ++ take k (drop n xs)) (sym left) ∙ past in
-          (omega (arith, t.0), subst (IsBegun (Then S T)) same goes_on);
+          (omega (arith, t.0), subst (IsBegun (ThenAlways S T)) same goes_on);
       breached = λ e.
           let t = q.breached e in
           record {
@@ -115,49 +118,58 @@ err_as B (Err e) = Err e
 err_as B (Ok x) = Err OutOfMemory
 
 -- a call that answered a fault, or that memory ran out, ends the whole
-pub reads_err : {R A B : Type 0} {remaining : R → Option (List ℕ)} {errors : R → ℕ} {lent : R → List GName}
-    {S : List ℕ → Result A ValueFault → Type 0} (T : A → List ℕ → Result B ValueFault → Type 0) {old new : Input R}
-    {e : Refusal ValueFault}
-    → ((x : A) → CanSay (T x)) → Reads remaining errors lent S old new (Err e)
+pub reads_fault : {R A B : Type 0} {remaining : R → Option (List ℕ)} {errors : R → ℕ} {lent : R → List GName}
+    {S : Spelling A} (T : A → Spelling B) {old new : Input R} {e : Refusal ValueFault}
+    → ((x : A) (i : Ignore) → CanSay (T x i)) → Reads remaining errors lent S old new (Err e)
     → Reads remaining errors lent (Then S T) old new (Err e)
-reads_err {A = A} {B = B} {S = S} T {old = old} {new = new} {e = Breach f} can p =
+reads_fault {A = A} {B = B} {S = S} T {old = old} {new = new} {e = Breach f} can p =
+    let i = input_ignore old in
     record {
       again = λ h. ap (err_as B) (p.again h);
       fresh = λ h k. p.fresh h (ap (err_as A) k);
-      answers = λ h xs k. fails_first S T (room_left old) (bytes_had old new) xs f can (p.answers h xs k);
+      answers = λ h xs k. fails_first (S i) (λ x. T x i) (room_left old) (bytes_had old new) xs f
+          (λ x. can x i) (p.answers h xs k);
       left = p.left;
       forward = p.forward;
+      ignores = p.ignores;
       failed = p.failed;
       counted = p.counted;
       same = p.same;
     }
-reads_err {A = A} {B = B} {S = S} T {old = old} {e = OutOfMemory} can p =
+reads_fault {A = A} {B = B} {S = S} T {old = old} {e = OutOfMemory} can p =
     record {
       again = λ h. ap (err_as B) (p.again h);
       fresh = λ h k. p.fresh h (ap (err_as A) k);
       answers = λ h xs k. tt;
       left = p.left;
       forward = p.forward;
+      ignores = p.ignores;
       failed = p.failed;
       counted = p.counted;
       same = p.same;
     }
 
+pub reads_err : {R A B : Type 0} {remaining : R → Option (List ℕ)} {errors : R → ℕ} {lent : R → List GName}
+    {S : Spelling A} (T : A → Spelling B) {old new : Input R} {e : Refusal ValueFault}
+    → ((x : A) → IsCode (T x)) → Reads remaining errors lent S old new (Err e)
+    → Reads remaining errors lent (Then S T) old new (Err e)
+reads_err T can p = reads_fault T (λ x. (can x).said) p
+
 answers_second : {A B : Type 0} (S : List ℕ → Result A ValueFault → Type 0)
     (T : A → List ℕ → Result B ValueFault → Type 0) (room n had m : ℕ) (xs : List ℕ) (x : A)
     (r : Result B (Refusal ValueFault)) → IsFront S xs n (Ok x) → n ≤ room
-    → Answers (T x) (room - n) had m (drop n xs) r → Answers (Then S T) room (n + had) (n + m) xs r
+    → Answers (T x) (room - n) had m (drop n xs) r → Answers (ThenAlways S T) room (n + had) (n + m) xs r
 answers_second S T room n had m xs x (Ok y) p h q = (front_second S T xs n m x (Ok y) p q.0, omega (arith, q.1))
 answers_second S T room n had m xs x (Err OutOfMemory) p h q = tt
 answers_second S T room n had m xs x (Err (Breach f)) p h q = fails_second S T room n had xs x f p h q
 
 -- a call that answered a value, and what the next call answered
 pub reads_then : {R A B : Type 0} {remaining : R → Option (List ℕ)} {errors : R → ℕ} {lent : R → List GName}
-    {S : List ℕ → Result A ValueFault → Type 0} (T : A → List ℕ → Result B ValueFault → Type 0)
-    {old mid new : Input R} {x : A} {r : Result B (Refusal ValueFault)}
+    {S : Spelling A} (T : A → Spelling B) {old mid new : Input R} {x : A} {r : Result B (Refusal ValueFault)}
     → Reads remaining errors lent S old mid (Ok x) → Reads remaining errors lent (T x) mid new r
     → Reads remaining errors lent (Then S T) old new r
 reads_then {errors = errors} {S = S} T {old = old} {mid = mid} {new = new} {x = x} {r = r} p q =
+    let i = input_ignore old in
     let n = input_offset mid - input_offset old in
     let m = input_offset new - input_offset mid in
     let later = bytes_had mid new in
@@ -169,14 +181,16 @@ reads_then {errors = errors} {S = S} T {old = old} {mid = mid} {new = new} {x = 
       fresh = λ h. q.fresh p.failed;
       answers = λ h xs k.
           let a = p.answers h xs k in
-          let b = q.answers p.failed (drop n xs) (p.left xs k) in
-          let both = answers_second S T (room_left old) n later m xs x r a.0 a.1
-          (subst (λ i. Answers (T x) i later m (drop n xs) r) room b) in
-          subst (λ i. Answers (Then S T) (room_left old) (bytes_had old new) i xs r) all
-          (subst (λ i. Answers (Then S T) (room_left old) i (n + m) xs r) had both);
+          let b = subst (λ g. Answers (T x g) (room_left mid) later m (drop n xs) r) p.ignores
+          (q.answers p.failed (drop n xs) (p.left xs k)) in
+          let both = answers_second (S i) (λ y. T y i) (room_left old) n later m xs x r a.0 a.1
+          (subst (λ j. Answers (T x i) j later m (drop n xs) r) room b) in
+          subst (λ j. Answers (Then S T i) (room_left old) (bytes_had old new) j xs r) all
+          (subst (λ j. Answers (Then S T i) (room_left old) j (n + m) xs r) had both);
       left = λ xs k. q.left (drop n xs) (p.left xs k)
           ∙ ap Some (drop-drop m n xs ∙ ap (λ i. drop i xs) (omega (arith, all)));
       forward = omega (arith, p.forward, q.forward);
+      ignores = q.ignores ∙ p.ignores;
       failed = q.failed;
       counted = subst (λ i. CountsFailure i (errors (input_reader new)) (reader_failed r)) p.counted q.counted;
       same = q.same ∙ p.same;
@@ -200,6 +214,7 @@ reads_nothing {old = old} x live =
       );
       left = λ xs k. k ∙ ap Some (drop_none xs (input_offset old) (input_offset old) refl);
       forward = omega arith;
+      ignores = refl;
       failed = live;
       counted = refl;
       same = refl;
@@ -220,18 +235,18 @@ rule_read f r = refl
 
 -- what was read, seen as g of it
 pub reads_seen : {R A B : Type 0} {remaining : R → Option (List ℕ)} {errors : R → ℕ} {lent : R → List GName}
-    {S : List ℕ → Result A ValueFault → Type 0} (g : A → B) {old new : Input R} {x : A}
+    {S : Spelling A} (g : A → B) {old new : Input R} {x : A}
     → Reads remaining errors lent S old new (Ok x) → Reads remaining errors lent (Seen g S) old new (Ok (g x))
 reads_seen g {x = x} p = reads_then (λ y. Gives (Ok (g y))) p (reads_nothing (g x) p.failed)
 
 pub reads_seen_err : {R A B : Type 0} {remaining : R → Option (List ℕ)} {errors : R → ℕ} {lent : R → List GName}
-    {S : List ℕ → Result A ValueFault → Type 0} (g : A → B) {old new : Input R} {e : Refusal ValueFault}
+    {S : Spelling A} (g : A → B) {old new : Input R} {e : Refusal ValueFault}
     → Reads remaining errors lent S old new (Err e) → Reads remaining errors lent (Seen g S) old new (Err e)
-reads_seen_err g p = reads_err (λ y. Gives (Ok (g y))) (λ y. gives_said (Ok (g y))) p
+reads_seen_err g p = reads_err (λ y. Gives (Ok (g y))) (λ y. gives_code) p
 
 -- a value was read, and an allocation failed after it
 pub reads_stopped : {R A : Type 0} {remaining : R → Option (List ℕ)} {errors : R → ℕ} {lent : R → List GName}
-    {S : List ℕ → Result A ValueFault → Type 0} {old now new : Input R} {x : A}
+    {S : Spelling A} {old now new : Input R} {x : A}
     → has_failed old ≡ false → Reads remaining errors lent S old now (Ok x) → HasStopped now new
     → Reads remaining errors lent S old new (Err OutOfMemory)
 reads_stopped {remaining = remaining} {errors = errors} {lent = lent} {old = old} {now = now} {new = new} live p stop =
@@ -243,6 +258,7 @@ reads_stopped {remaining = remaining} {errors = errors} {lent = lent} {old = old
           ∙ ap (λ r. prepend_known now.ahead (remaining r)) stop.reader ∙ p.left xs k
           ∙ ap (λ i. Some (drop (i - input_offset old) xs)) (sym stop.offset);
       forward = omega (arith, p.forward, stop.offset);
+      ignores = stop.ignore ∙ p.ignores;
       failed = stop.failed;
       counted = subst (λ r. CountsFailure (errors (input_reader old)) (errors r) false) (sym stop.reader) p.counted;
       same = ap lent stop.reader ∙ p.same;
@@ -252,10 +268,10 @@ reads_stopped {remaining = remaining} {errors = errors} {lent = lent} {old = old
 pub reads_refused : {R A : Type 0} {remaining : R → Option (List ℕ)} {errors : R → ℕ} {lent : R → List GName}
     {old new : Input R} (f : ValueFault)
     → has_failed old ≡ false → has_failed new ≡ true → is_rule f ≡ true → new.ahead ≡ old.ahead
-    → new.offset ≡ old.offset → new.reader ≡ old.reader
+    → new.offset ≡ old.offset → new.ignore ≡ old.ignore → new.reader ≡ old.reader
     → Reads {A = A} remaining errors lent (Gives (Err f)) old new (Err (Breach f))
 reads_refused {remaining = remaining} {errors = errors} {lent = lent} {old = old} {new = new}
-    f live failed rule ahead offset reader =
+    f live failed rule ahead offset ignore reader =
     let none : 0 ≡ input_offset new - input_offset old = omega (arith, offset) in
     record {
       again = λ h. absurd (let k : true ≡ false = sym h ∙ live in cc);
@@ -275,6 +291,7 @@ reads_refused {remaining = remaining} {errors = errors} {lent = lent} {old = old
       left = λ xs k. ap (λ l. prepend_known l (remaining new.reader)) ahead
           ∙ ap (λ r. prepend_known old.ahead (remaining r)) reader ∙ k ∙ ap (λ i. Some (drop i xs)) none;
       forward = omega (arith, offset);
+      ignores = ignore;
       failed = failed;
       counted = subst (λ b. CountsFailure (errors old.reader) (errors new.reader) b) (rule_read f rule)
           (ap errors reader);
@@ -282,7 +299,7 @@ reads_refused {remaining = remaining} {errors = errors} {lent = lent} {old = old
     }
 
 pub reads_seen_as : {R A B : Type 0} {remaining : R → Option (List ℕ)} {errors : R → ℕ} {lent : R → List GName}
-    {S : List ℕ → Result A ValueFault → Type 0} (g : A → B) {old new : Input R} {x : A} {y : B}
+    {S : Spelling A} (g : A → B) {old new : Input R} {x : A} {y : B}
     → Reads remaining errors lent S old new (Ok x) → g x ≡ y → Reads remaining errors lent (Seen g S) old new (Ok y)
 reads_seen_as {remaining = remaining} {errors = errors} {lent = lent} {S = S} g {old = old} {new = new} p e =
     subst (λ z. Reads remaining errors lent (Seen g S) old new (Ok z)) e (reads_seen g p)
@@ -290,19 +307,19 @@ reads_seen_as {remaining = remaining} {errors = errors} {lent = lent} {S = S} g 
 -- what is read by one of several cases
 pub reads_case : {R A K : Type 0} {remaining : R → Option (List ℕ)} {errors : R → ℕ} {lent : R → List GName}
     {old new : Input R} {r : Result A (Refusal ValueFault)}
-    (T : K → List ℕ → Result A ValueFault → Type 0) (k j : K) → k ≡ j → Reads remaining errors lent (T j) old new r
+    (T : K → Spelling A) (k j : K) → k ≡ j → Reads remaining errors lent (T j) old new r
     → Reads remaining errors lent (T k) old new r
 reads_case {remaining = remaining} {errors = errors} {lent = lent} {old = old} {new = new} {r = r} T k j e p =
     subst (λ i. Reads remaining errors lent (T i) old new r) (sym e) p
 
 -- where a rule is breached, nothing is spelled by bytes that agree
 pub reads_refutes : {R A : Type 0} {remaining : R → Option (List ℕ)} {errors : R → ℕ} {lent : R → List GName}
-    {S : List ℕ → Result A ValueFault → Type 0} {old new : Input R} {r : Result A (Refusal ValueFault)}
-    → IsPrefixFree S → Reads remaining errors lent S old new r → Refutes remaining S old r
-reads_refutes {r = Ok y} free p = record { none = λ live xs k. tt }
-reads_refutes {r = Err OutOfMemory} free p = record { none = λ live xs k. tt }
-reads_refutes {S = S} {r = Err (Breach f)} free p =
+    {S : Spelling A} {old new : Input R} {r : Result A (Refusal ValueFault)}
+    → IsCode S → Reads remaining errors lent S old new r → Refutes remaining S old r
+reads_refutes {r = Ok y} code p = record { none = λ live xs k. tt }
+reads_refutes {r = Err OutOfMemory} code p = record { none = λ live xs k. tt }
+reads_refutes {S = S} {old = old} {r = Err (Breach f)} code p =
     record {
       none = λ live xs k rule x. let q = (p.answers live xs k).breached rule in
-          breached_none S xs q.count f x free q.front;
+          breached_none (S (input_ignore old)) xs q.count f x (code.free (input_ignore old)) q.front;
     }

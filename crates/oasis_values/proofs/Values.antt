@@ -1,18 +1,16 @@
--- Each spelling of a value is free of prefixes, and can say something.
-use Rattle.std.proofs.Common.{ℕ, ◌/◌, ◌%◌, ◌==◌, Bool, true, false, List, Result, Ok, Err}
-use Rattle.std.specs.Prelude.{Option, Some, None}
-use Rattle.lvl_io.specs.Spelling.{IsPrefixFree, CanSay, Gives, Then}
-use Rattle.lvl_io.proofs.Spelling.{gives_free, gives_said, then_free, then_said, chain_free, chain_said}
-use Rattle.oasis_values.specs.Known.{Known, Seen, among}
-use Rattle.oasis_values.specs.Numbers.{IsByte, IsUnsigned}
+-- The laws of each spelling of a value.
+use Rattle.std.proofs.Common.{ℕ, ◌/◌, ◌%◌, ◌==◌, Bool, true, false, Ok}
+use Rattle.oasis_values.specs.Known.{Known, among}
 use Rattle.oasis_values.specs.Deltas.{direction_of, toward, free, two_delta, three_delta, IsTwoDelta, IsThreeDelta}
 use Rattle.oasis_values.specs.Deltas.{IsRestOfGDelta, IsGDelta}
-use Rattle.oasis_values.specs.Texts.{character, text_length, IsCharacter, AreCharacters, IsString}
-use Rattle.oasis_values.specs.declared.text.Text.{Text}
+use Rattle.oasis_values.specs.Texts.{character, text_length, any_length, IsCharacter, AreCharacters, IsString}
+use Rattle.oasis_values.specs.Texts.{AreUnkeptCharacters, IsUnkeptString}
+use Rattle.oasis_values.specs.Properties.{value_types, IsValueOf, IsValue}
+use Rattle.oasis_values.specs.Spelling.{Then}
 use Rattle.oasis_values.specs.Reals.{with_sign, IsSigned, not_zero, IsDenominator, IsBytes, real_types, IsRealOf}
 use Rattle.oasis_values.specs.Reals.{IsReal}
-use Rattle.oasis_values.proofs.Integers.{byte_free, byte_said, unsigned_free, unsigned_said}
-use Rattle.oasis_values.specs.declared.fault.ValueFault.{ValueFault}
+use Rattle.oasis_values.proofs.Codes.{IsCode, gives_code, then_code, chain_code, known_code, seen_code}
+use Rattle.oasis_values.proofs.Integers.{byte_code, unsigned_code}
 use Rattle.oasis_values.specs.declared.fault.ValueFault.TheVariants.{RealType as unknown_type, ZeroDenominator}
 use Rattle.oasis_values.specs.declared.fault.ValueFault.TheVariants.{StringByte}
 use Rattle.oasis_values.specs.declared.number.Real.TheVariants.{Whole, NegWhole, Reciprocal, NegReciprocal, Ratio}
@@ -23,135 +21,81 @@ use Rattle.oasis_values.specs.declared.number.RealType.TheVariants.{Reciprocal a
 use Rattle.oasis_values.specs.declared.number.RealType.TheVariants.{NegReciprocal as OfNegReciprocal, Ratio as OfRatio}
 use Rattle.oasis_values.specs.declared.number.RealType.TheVariants.{NegRatio as OfNegRatio, Four as OfFour}
 use Rattle.oasis_values.specs.declared.number.RealType.TheVariants.{Eight as OfEight}
+use Rattle.oasis_values.specs.declared.property.ValueType.{ValueType}
+use Rattle.oasis_values.specs.declared.property.ValueType.TheVariants.{Real, Unsigned, Signed, String, Reference}
+use Rattle.oasis_values.specs.declared.text.Text.{Text}
 
-pub known_free : {A : Type 0} (o : Option A) (f : ValueFault) → IsPrefixFree (Known o f)
-known_free (Some x) f = gives_free (Ok x)
-known_free None f = gives_free (Err f)
+pub signed_code : IsCode IsSigned
+signed_code = seen_code with_sign unsigned_code
 
-pub known_said : {A : Type 0} (o : Option A) (f : ValueFault) → CanSay (Known o f)
-known_said (Some x) f = gives_said (Ok x)
-known_said None f = gives_said (Err f)
+pub denominator_code : IsCode IsDenominator
+denominator_code = then_code unsigned_code (λ n. known_code (not_zero n) ZeroDenominator)
 
-pub seen_free : {A B : Type 0} (g : A → B) (S : List ℕ → Result A ValueFault → Type 0) → IsPrefixFree S
-    → IsPrefixFree (Seen g S)
-seen_free g S s = then_free S (λ x. Gives (Ok (g x))) s (λ x. gives_free (Ok (g x)))
+pub bytes_code : (n : ℕ) → IsCode (IsBytes n)
+bytes_code n = chain_code (λ x. x) n 0 (λ _. byte_code)
 
-pub seen_said : {A B : Type 0} (g : A → B) (S : List ℕ → Result A ValueFault → Type 0) → CanSay S → CanSay (Seen g S)
-seen_said g S s = then_said S (λ x. Gives (Ok (g x))) s (λ x. gives_said (Ok (g x)))
+pub real_of_code : (k : RealType) → IsCode (IsRealOf k)
+real_of_code OfWhole = seen_code Whole unsigned_code
+real_of_code OfNegWhole = seen_code NegWhole unsigned_code
+real_of_code OfReciprocal = seen_code Reciprocal denominator_code
+real_of_code OfNegReciprocal = seen_code NegReciprocal denominator_code
+real_of_code OfRatio = then_code unsigned_code (λ n. seen_code (Ratio n) denominator_code)
+real_of_code OfNegRatio = then_code unsigned_code (λ n. seen_code (NegRatio n) denominator_code)
+real_of_code OfFour = seen_code Four (bytes_code 4)
+real_of_code OfEight = seen_code Eight (bytes_code 8)
 
-pub signed_free : IsPrefixFree IsSigned
-signed_free = seen_free with_sign IsUnsigned unsigned_free
+pub after_type_code : (n : ℕ) → IsCode (Then (Known (among 0 real_types n) unknown_type) IsRealOf)
+after_type_code n = then_code (known_code (among 0 real_types n) unknown_type) real_of_code
 
-pub signed_said : CanSay IsSigned
-signed_said = seen_said with_sign IsUnsigned unsigned_said
+pub real_code : IsCode IsReal
+real_code = then_code unsigned_code after_type_code
 
-pub denominator_free : IsPrefixFree IsDenominator
-denominator_free =
-    then_free IsUnsigned (λ n. Known (not_zero n) ZeroDenominator) unsigned_free
-    (λ n. known_free (not_zero n) ZeroDenominator)
+pub two_delta_code : IsCode IsTwoDelta
+two_delta_code = seen_code two_delta unsigned_code
 
-pub denominator_said : CanSay IsDenominator
-denominator_said =
-    then_said IsUnsigned (λ n. Known (not_zero n) ZeroDenominator) unsigned_said
-    (λ n. known_said (not_zero n) ZeroDenominator)
+pub three_delta_code : IsCode IsThreeDelta
+three_delta_code = seen_code three_delta unsigned_code
 
-pub bytes_free : (n : ℕ) → IsPrefixFree (IsBytes n)
-bytes_free n = chain_free (λ _. IsByte) (λ x. x) n 0 (λ _. byte_free)
+pub rest_of_g_delta_code : (b : Bool) (n : ℕ) → IsCode (IsRestOfGDelta b n)
+rest_of_g_delta_code true n = gives_code
+rest_of_g_delta_code false n = seen_code (free (n / 2)) unsigned_code
 
-pub bytes_said : (n : ℕ) → CanSay (IsBytes n)
-bytes_said n = chain_said (λ _. IsByte) (λ x. x) n 0 (λ _. byte_said)
+pub g_delta_code : IsCode IsGDelta
+g_delta_code = then_code unsigned_code (λ n. rest_of_g_delta_code (n % 2 == 0) n)
 
-pub real_of_free : (k : RealType) → IsPrefixFree (IsRealOf k)
-real_of_free OfWhole = seen_free Whole IsUnsigned unsigned_free
-real_of_free OfNegWhole = seen_free NegWhole IsUnsigned unsigned_free
-real_of_free OfReciprocal = seen_free Reciprocal IsDenominator denominator_free
-real_of_free OfNegReciprocal = seen_free NegReciprocal IsDenominator denominator_free
-real_of_free OfRatio =
-    then_free IsUnsigned (λ n. Seen (Ratio n) IsDenominator) unsigned_free
-    (λ n. seen_free (Ratio n) IsDenominator denominator_free)
-real_of_free OfNegRatio =
-    then_free IsUnsigned (λ n. Seen (NegRatio n) IsDenominator) unsigned_free
-    (λ n. seen_free (NegRatio n) IsDenominator denominator_free)
-real_of_free OfFour = seen_free Four (IsBytes 4) (bytes_free 4)
-real_of_free OfEight = seen_free Eight (IsBytes 8) (bytes_free 8)
+pub character_code : (kind : Text) → IsCode (IsCharacter kind)
+character_code kind = then_code byte_code (λ c. known_code (character kind c) StringByte)
 
-pub real_of_said : (k : RealType) → CanSay (IsRealOf k)
-real_of_said OfWhole = seen_said Whole IsUnsigned unsigned_said
-real_of_said OfNegWhole = seen_said NegWhole IsUnsigned unsigned_said
-real_of_said OfReciprocal = seen_said Reciprocal IsDenominator denominator_said
-real_of_said OfNegReciprocal = seen_said NegReciprocal IsDenominator denominator_said
-real_of_said OfRatio =
-    then_said IsUnsigned (λ n. Seen (Ratio n) IsDenominator) unsigned_said
-    (λ n. seen_said (Ratio n) IsDenominator denominator_said)
-real_of_said OfNegRatio =
-    then_said IsUnsigned (λ n. Seen (NegRatio n) IsDenominator) unsigned_said
-    (λ n. seen_said (NegRatio n) IsDenominator denominator_said)
-real_of_said OfFour = seen_said Four (IsBytes 4) (bytes_said 4)
-real_of_said OfEight = seen_said Eight (IsBytes 8) (bytes_said 8)
+pub characters_code : (kind : Text) (n : ℕ) → IsCode (AreCharacters kind n)
+characters_code kind n = chain_code (λ c. c) n 0 (λ _. character_code kind)
 
-pub real_free : IsPrefixFree IsReal
-real_free =
-    then_free IsUnsigned (λ n. Then (Known (among 0 real_types n) unknown_type) IsRealOf) unsigned_free
-    (λ n. then_free (Known (among 0 real_types n) unknown_type) IsRealOf
-    (known_free (among 0 real_types n) unknown_type) real_of_free)
+pub after_length_code : (kind : Text) (most n : ℕ)
+    → IsCode (Then (Known (text_length kind most n) StringByte) (AreCharacters kind))
+after_length_code kind most n =
+    then_code (known_code (text_length kind most n) StringByte) (characters_code kind)
 
-pub after_type_said : (n : ℕ) → CanSay (Then (Known (among 0 real_types n) unknown_type) IsRealOf)
-after_type_said n =
-    then_said (Known (among 0 real_types n) unknown_type) IsRealOf (known_said (among 0 real_types n) unknown_type)
-    real_of_said
+pub string_code : (kind : Text) (most : ℕ) → IsCode (IsString kind most)
+string_code kind most = then_code unsigned_code (after_length_code kind most)
 
-pub two_delta_free : IsPrefixFree IsTwoDelta
-two_delta_free = seen_free two_delta IsUnsigned unsigned_free
+pub unkept_characters_code : (kind : Text) (n : ℕ) → IsCode (AreUnkeptCharacters kind n)
+unkept_characters_code kind n = seen_code (λ _. tt) (characters_code kind n)
 
-pub two_delta_said : CanSay IsTwoDelta
-two_delta_said = seen_said two_delta IsUnsigned unsigned_said
+pub after_any_length_code : (kind : Text) (n : ℕ)
+    → IsCode (Then (Known (any_length kind n) StringByte) (AreUnkeptCharacters kind))
+after_any_length_code kind n = then_code (known_code (any_length kind n) StringByte) (unkept_characters_code kind)
 
-pub three_delta_free : IsPrefixFree IsThreeDelta
-three_delta_free = seen_free three_delta IsUnsigned unsigned_free
+pub unkept_string_code : (kind : Text) → IsCode (IsUnkeptString kind)
+unkept_string_code kind = then_code unsigned_code (after_any_length_code kind)
 
-pub three_delta_said : CanSay IsThreeDelta
-three_delta_said = seen_said three_delta IsUnsigned unsigned_said
+pub value_of_code : (k : ValueType) → IsCode (IsValueOf k)
+value_of_code (Real kind) = seen_code (λ _. tt) (real_of_code kind)
+value_of_code Unsigned = seen_code (λ _. tt) unsigned_code
+value_of_code Signed = seen_code (λ _. tt) signed_code
+value_of_code (String kind) = unkept_string_code kind
+value_of_code Reference = seen_code (λ _. tt) unsigned_code
 
-rest_of_g_delta_free : (b : Bool) (n : ℕ) → IsPrefixFree (IsRestOfGDelta b n)
-rest_of_g_delta_free true n = gives_free (Ok (toward (direction_of (n / 2 % 8)) (n / 16)))
-rest_of_g_delta_free false n = seen_free (free (n / 2)) IsUnsigned unsigned_free
+pub after_value_type_code : (n : ℕ) → IsCode (Then (Known (among 0 value_types n) unknown_type) IsValueOf)
+after_value_type_code n = then_code (known_code (among 0 value_types n) unknown_type) value_of_code
 
-pub rest_of_g_delta_said : (b : Bool) (n : ℕ) → CanSay (IsRestOfGDelta b n)
-rest_of_g_delta_said true n = gives_said (Ok (toward (direction_of (n / 2 % 8)) (n / 16)))
-rest_of_g_delta_said false n = seen_said (free (n / 2)) IsUnsigned unsigned_said
-
-pub g_delta_free : IsPrefixFree IsGDelta
-g_delta_free =
-    then_free IsUnsigned (λ n. IsRestOfGDelta (n % 2 == 0) n) unsigned_free (λ n. rest_of_g_delta_free (n % 2 == 0) n)
-
-pub g_delta_said : CanSay IsGDelta
-g_delta_said =
-    then_said IsUnsigned (λ n. IsRestOfGDelta (n % 2 == 0) n) unsigned_said (λ n. rest_of_g_delta_said (n % 2 == 0) n)
-
-character_free : (kind : Text) → IsPrefixFree (IsCharacter kind)
-character_free kind =
-    then_free IsByte (λ c. Known (character kind c) StringByte) byte_free
-    (λ c. known_free (character kind c) StringByte)
-
-pub character_said : (kind : Text) → CanSay (IsCharacter kind)
-character_said kind =
-    then_said IsByte (λ c. Known (character kind c) StringByte) byte_said
-    (λ c. known_said (character kind c) StringByte)
-
-pub characters_free : (kind : Text) (n : ℕ) → IsPrefixFree (AreCharacters kind n)
-characters_free kind n = chain_free (λ _. IsCharacter kind) (λ c. c) n 0 (λ _. character_free kind)
-
-pub characters_said : (kind : Text) (n : ℕ) → CanSay (AreCharacters kind n)
-characters_said kind n = chain_said (λ _. IsCharacter kind) (λ c. c) n 0 (λ _. character_said kind)
-
-pub after_length_said : (kind : Text) (most n : ℕ)
-    → CanSay (Then (Known (text_length kind most n) StringByte) (AreCharacters kind))
-after_length_said kind most n =
-    then_said (Known (text_length kind most n) StringByte) (AreCharacters kind)
-    (known_said (text_length kind most n) StringByte) (characters_said kind)
-
-pub string_free : (kind : Text) (most : ℕ) → IsPrefixFree (IsString kind most)
-string_free kind most =
-    then_free IsUnsigned (λ n. Then (Known (text_length kind most n) StringByte) (AreCharacters kind)) unsigned_free
-    (λ n. then_free (Known (text_length kind most n) StringByte) (AreCharacters kind)
-    (known_free (text_length kind most n) StringByte) (characters_free kind))
+pub value_code : IsCode IsValue
+value_code = then_code unsigned_code after_value_type_code

@@ -1,10 +1,10 @@
 -- Deltas (SEMI P39 OASIS 1.0, "Deltas"). A 1-delta is a signed integer.
 use Rattle.std.specs.Prelude.{ℕ, ◌/◌, ◌%◌, ◌==◌, Bool, true, false, List, [], ◌∷◌, Result, Ok, pos, neg_ℤ, ℤ}
-use Rattle.lvl_io.specs.Spelling.{Gives, Then}
 use Rattle.lvl_grid.specs.declared.point.Point.{Point}
 use Rattle.oasis_values.specs.Known.{one_of, Seen}
 use Rattle.oasis_values.specs.Numbers.{IsUnsigned}
 use Rattle.oasis_values.specs.Reals.{with_sign}
+use Rattle.oasis_values.specs.Spelling.{Spelling, Gives, Then}
 use Rattle.oasis_values.specs.declared.fault.ValueFault.{ValueFault}
 use Rattle.oasis_values.specs.declared.delta.Direction.{Direction}
 use Rattle.oasis_values.specs.declared.delta.Direction.TheVariants.{East, North, West, South, Northeast, Northwest}
@@ -38,16 +38,16 @@ two_delta n = toward (direction_of (n % 4)) (n / 4)
 abbrev pub three_delta : ℕ → Point
 three_delta n = toward (direction_of (n % 8)) (n / 8)
 
-abbrev pub IsTwoDelta : List ℕ → Result Point ValueFault → Type 0
+abbrev pub IsTwoDelta : Spelling Point
 IsTwoDelta = Seen two_delta IsUnsigned
 
-abbrev pub IsThreeDelta : List ℕ → Result Point ValueFault → Type 0
+abbrev pub IsThreeDelta : Spelling Point
 IsThreeDelta = Seen three_delta IsUnsigned
 
 -- what follows the first integer, by whether its lowest bit is 0
-abbrev pub IsRestOfGDelta : Bool → ℕ → List ℕ → Result Point ValueFault → Type 0
+abbrev pub IsRestOfGDelta : Bool → ℕ → Spelling Point
 IsRestOfGDelta true n = Gives (Ok (toward (direction_of (n / 2 % 8)) (n / 16)))
 IsRestOfGDelta false n = Seen (free (n / 2)) IsUnsigned
 
-abbrev pub IsGDelta : List ℕ → Result Point ValueFault → Type 0
+abbrev pub IsGDelta : Spelling Point
 IsGDelta = Then IsUnsigned (λ n. IsRestOfGDelta (n % 2 == 0) n)

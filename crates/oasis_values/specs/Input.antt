@@ -1,6 +1,7 @@
 -- What a clause reads of an `Input`.
 use Rattle.std.specs.Prelude.{ℕ, ◌-◌, Bool, List, length, Option}
 use Rattle.std.specs.Io.KnownBytes.{prepend_known}
+use Rattle.lvl_ignore.specs.declared.ignore.Ignore.{Ignore}
 use Rattle.oasis_values.specs.declared.input.Input.{Input}
 
 -- how long a file may be, in bytes (own rule)
@@ -22,6 +23,10 @@ input_offset i = i.offset
 -- whether a call met a fault
 abbrev pub has_failed : {R : Type 0} → Input R → Bool
 has_failed i = i.failed
+
+-- what is ignored
+abbrev pub input_ignore : {R : Type 0} → Input R → Ignore
+input_ignore i = i.ignore
 
 -- the reader
 abbrev pub input_reader : {R : Type 0} → Input R → R

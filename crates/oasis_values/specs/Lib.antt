@@ -1,10 +1,12 @@
 pub mod Faults
 pub mod Input
+pub mod Spelling
 pub mod Known
 pub mod Numbers
 pub mod Reals
 pub mod Deltas
 pub mod Texts
+pub mod Properties
 pub mod Ranges
 pub mod PointLists
 pub mod Repetitions

@@ -1,12 +1,17 @@
 -- Bytes and unsigned integers (SEMI P39 OASIS 1.0, "Unsigned-integer"): seven bits a byte, the lowest group first, the
 -- high bit set where another byte follows.
-use Rattle.std.specs.Prelude.{◌≡◌, ℕ, ◌+◌, ◌*◌, ◌%◌, ◌^◌, ◌<◌, ◌≤◌, List, [], ◌∷◌, ◌++◌, length, All, Result, Ok, Err}
+use Rattle.std.specs.Prelude.{◌≡◌, ℕ, ◌+◌, ◌*◌, ◌%◌, ◌^◌, ◌<◌, ◌≤◌, ◌⊎◌, if◌then◌else◌, List, [], ◌∷◌, ◌++◌, length}
+use Rattle.std.specs.Prelude.{All, Result, Ok, Err}
+use Rattle.lvl_ignore.specs.declared.ignore.Ignore.{Ignore}
 use Rattle.oasis_values.specs.declared.fault.ValueFault.{ValueFault}
 use Rattle.oasis_values.specs.declared.fault.ValueFault.TheVariants.{IntegerTooLarge}
 
-abbrev pub IsByte : List ℕ → Result ℕ ValueFault → Type 0
-IsByte b (Ok x) = b ≡ x ∷ []
-IsByte b (Err f) = ⊥
+abbrev pub IsOneByte : List ℕ → Result ℕ ValueFault → Type 0
+IsOneByte b (Ok x) = b ≡ x ∷ []
+IsOneByte b (Err f) = ⊥
+
+abbrev pub IsByte : Ignore → List ℕ → Result ℕ ValueFault → Type 0
+IsByte ignore = IsOneByte
 
 -- the number that groups of seven bits make, the lowest first
 abbrev pub groups : List ℕ → ℕ
@@ -17,26 +22,33 @@ groups (b ∷ bs) = b % 128 + 128 * groups bs
 abbrev pub Continues : List ℕ → Type 0
 Continues bs = All (λ b. 128 ≤ b) bs
 
--- bytes that continue, and a last one that doesn't; own rule: at most ten, and a number below 2^64
-pub record IsInteger (b : List ℕ) (n : ℕ) : Type 0 where
+-- own rule: an integer has at most ten bytes; where padding is ignored, also more groups than it needs, in at most 256
+-- bytes. Those beyond the tenth are zero, since the number is below 2^64
+abbrev pub most_bytes : Ignore → ℕ
+most_bytes ignore = if ignore.padding then 256 else 10
+
+-- bytes that continue, and a last one that doesn't; own rule: few enough, and a number below 2^64
+pub record IsInteger (ignore : Ignore) (b : List ℕ) (n : ℕ) : Type 0 where
   pub front : List ℕ
   pub last : ℕ
   pub bytes : b ≡ front ++ (last ∷ [])
   pub continues : Continues front
   pub ends : last < 128
-  pub few : length front < 10
+  pub few : length front < most_bytes ignore
   pub value : n ≡ groups b
   pub fits : n < 2 ^ 64
 
--- nine bytes that continue, and a tenth above 1
-pub record IsTooLarge (b : List ℕ) : Type 0 where
+-- bytes that an integer may begin with, and a last one with which none does: the number is 2^64 or more, or there are
+-- as many bytes as an integer may have, and none ends it
+pub record IsTooLarge (ignore : Ignore) (b : List ℕ) : Type 0 where
   pub front : List ℕ
-  pub tenth : ℕ
-  pub bytes : b ≡ front ++ (tenth ∷ [])
+  pub last : ℕ
+  pub bytes : b ≡ front ++ (last ∷ [])
   pub continues : Continues front
-  pub nine : length front ≡ 9
-  pub above : 1 < tenth
+  pub few : length front < most_bytes ignore
+  pub fits : groups front < 2 ^ 64
+  pub decided : (2 ^ 64 ≤ groups b) ⊎ ((128 ≤ last) × (length b ≡ most_bytes ignore))
 
-abbrev pub IsUnsigned : List ℕ → Result ℕ ValueFault → Type 0
-IsUnsigned b (Ok n) = IsInteger b n
-IsUnsigned b (Err f) = (f ≡ IntegerTooLarge) × IsTooLarge b
+abbrev pub IsUnsigned : Ignore → List ℕ → Result ℕ ValueFault → Type 0
+IsUnsigned ignore b (Ok n) = IsInteger ignore b n
+IsUnsigned ignore b (Err f) = (f ≡ IntegerTooLarge) × IsTooLarge ignore b

@@ -2,13 +2,13 @@
 -- step of a list of double deltas, is within 64 signed bits.
 use Rattle.std.specs.Prelude.{ℕ, ◌%◌, ◌==◌, ◌&&◌, ◌||◌, not, nat_le, Bool, true, false, if◌then◌else◌, List, []}
 use Rattle.std.specs.Prelude.{◌∷◌, ◌++◌, Option, Some, None, option_map, Result, pos, ℤ}
-use Rattle.lvl_io.specs.Spelling.{Then, Chain}
 use Rattle.lvl_grid.specs.declared.point.Point.{Point}
 use Rattle.oasis_values.specs.Deltas.{to, IsTwoDelta, IsThreeDelta, IsGDelta}
 use Rattle.oasis_values.specs.Known.{among, Known, Seen}
 use Rattle.oasis_values.specs.Numbers.{IsUnsigned}
 use Rattle.oasis_values.specs.Ranges.{sum}
 use Rattle.oasis_values.specs.Reals.{IsSigned}
+use Rattle.oasis_values.specs.Spelling.{Spelling, Then, Chain}
 use Rattle.oasis_values.specs.declared.fault.ValueFault.{ValueFault}
 use Rattle.oasis_values.specs.declared.fault.ValueFault.TheVariants.{PointListType, PointCount, OutOfRange}
 use Rattle.oasis_values.specs.declared.point_list.ListType.{ListType}
@@ -55,15 +55,15 @@ abbrev pub along : Bool → ℤ → Point
 along true far = to far (pos 0)
 along false far = to (pos 0) far
 
-abbrev pub IsAlong : Bool → List ℕ → Result Point ValueFault → Type 0
+abbrev pub IsAlong : Bool → Spelling Point
 IsAlong along_x = Seen (along along_x) IsSigned
 
 -- the step before and a g-delta
-abbrev pub IsMore : Point → List ℕ → Result Point ValueFault → Type 0
+abbrev pub IsMore : Point → Spelling Point
 IsMore before = Then IsGDelta (λ d. Known (sum before d) OutOfRange)
 
 -- the step from a vertex to the next
-abbrev pub IsStep : ListType → Walk → List ℕ → Result Point ValueFault → Type 0
+abbrev pub IsStep : ListType → Walk → Spelling Point
 IsStep HorizontalFirst w = IsAlong w.along_x
 IsStep VerticalFirst w = IsAlong w.along_x
 IsStep Manhattan w = IsTwoDelta
@@ -87,7 +87,7 @@ abbrev pub walked : Walk → Point → Option Walk
 walked w by = option_map (λ p. record { at = p; by = by; along_x = not w.along_x }) (sum w.at by)
 
 -- a vertex is the one before it, moved by a step
-abbrev pub IsNext : ListType → Walk → List ℕ → Result Walk ValueFault → Type 0
+abbrev pub IsNext : ListType → Walk → Spelling Walk
 IsNext kind w = Then (IsStep kind w) (λ by. Known (walked w by) OutOfRange)
 
 -- the vertex that closes a polygon with both of its edges along the axes: the list goes on along the other axis than
@@ -113,13 +113,13 @@ if_any (Some p) = p ∷ []
 abbrev pub closed : Use → ListType → List Point → List Point
 closed for kind ps = (origin ∷ ps) ++ if_any (implied for kind (last_of origin ps))
 
-abbrev pub AreVertices : Use → ListType → ℕ → List ℕ → Result (List Point) ValueFault → Type 0
+abbrev pub AreVertices : Use → ListType → ℕ → Spelling (List Point)
 AreVertices for kind n = Seen (closed for kind) (Chain (IsNext kind) (λ w. w.at) n (start_of kind))
 
 -- a count, and as many vertices
-abbrev pub IsListOf : Use → ListType → List ℕ → Result (List Point) ValueFault → Type 0
+abbrev pub IsListOf : Use → ListType → Spelling (List Point)
 IsListOf for kind = Then IsUnsigned (λ n. Then (Known (point_count for kind n) PointCount) (AreVertices for kind))
 
 -- a type, and what it says
-abbrev pub IsPointList : Use → List ℕ → Result (List Point) ValueFault → Type 0
+abbrev pub IsPointList : Use → Spelling (List Point)
 IsPointList for = Then IsUnsigned (λ n. Then (Known (among 0 list_types n) PointListType) (IsListOf for))

@@ -1,5 +1,6 @@
 -- What a call of an `Input` answers, and where it leaves the input. Each call is an instance, by what its value's bytes
--- are: a spelling S, in which bytes say `Ok x` where they spell x, and `Err f` where they breach the rule f.
+-- are: a spelling S, in which bytes say `Ok x` where they spell x, and `Err f` where they breach the rule f. What is
+-- ignored is what the input says.
 use Rattle.std.specs.Prelude.{◌≡◌, ◌≢◌, ℕ, ◌+◌, ◌-◌, ◌<◌, ◌≤◌, true, false, List, length, take, drop}
 use Rattle.std.specs.Prelude.{Option, Some, Result, Ok, Err}
 use Rattle.std.specs.Result.{is_err}
@@ -9,7 +10,9 @@ use Rattle.lvl_io.specs.Spelling.{IsFront, IsBegun, NoneAgrees}
 use Rattle.lvl_refusal.specs.declared.Refusal.{Refusal}
 use Rattle.lvl_refusal.specs.declared.Refusal.TheVariants.{Breach, OutOfMemory}
 use Rattle.oasis_values.specs.Faults.{is_rule, reader_failed}
-use Rattle.oasis_values.specs.Input.{bytes_left, in_hand, input_offset, has_failed, input_reader, room_left}
+use Rattle.oasis_values.specs.Input.{bytes_left, in_hand, input_offset, has_failed, input_ignore, input_reader}
+use Rattle.oasis_values.specs.Input.{room_left}
+use Rattle.oasis_values.specs.Spelling.{Spelling}
 use Rattle.oasis_values.specs.declared.fault.ValueFault.{ValueFault}
 use Rattle.oasis_values.specs.declared.fault.ValueFault.TheVariants.{Truncated, TooLong, Read, Failed}
 use Rattle.oasis_values.specs.declared.input.Input.{Input}
@@ -47,17 +50,19 @@ bytes_had old new = (input_offset new - input_offset old) + in_hand new
 
 -- a call that found the input old, left it new and answered r, for a reader that has `remaining`, `errors` and `lent`
 pub record Reads {R A : Type 0} (remaining : R → Option (List ℕ)) (errors : R → ℕ) (lent : R → List GName)
-    (S : List ℕ → Result A ValueFault → Type 0) (old new : Input R) (r : Result A (Refusal ValueFault)) : Type 0 where
+    (S : Spelling A) (old new : Input R) (r : Result A (Refusal ValueFault)) : Type 0 where
   -- after a fault every call answers `Failed`, and no other call does
   pub again : has_failed old ≡ true → r ≡ Err (Breach Failed)
   pub fresh : has_failed old ≡ false → r ≢ Err (Breach Failed)
   -- a value is spelled by exactly the bytes taken, and a fault is one of the bytes left, of those that were read
   pub answers : has_failed old ≡ false → (xs : List ℕ) → bytes_left remaining old ≡ Some xs
-      → Answers S (room_left old) (bytes_had old new) (input_offset new - input_offset old) xs r
+      → Answers (S (input_ignore old)) (room_left old) (bytes_had old new) (input_offset new - input_offset old) xs r
   -- the bytes left are those after the bytes taken, also after a fault
   pub left : (xs : List ℕ) → bytes_left remaining old ≡ Some xs
       → bytes_left remaining new ≡ Some (drop (input_offset new - input_offset old) xs)
   pub forward : input_offset old ≤ input_offset new
+  -- what is ignored stays the same
+  pub ignores : input_ignore new ≡ input_ignore old
   -- the input has failed exactly where the call answered a fault, or that memory ran out
   pub failed : has_failed new ≡ is_err r
   -- the reader answered an error in this call exactly where `Read` was answered
@@ -73,6 +78,7 @@ IsRefuted S xs (Err OutOfMemory) = Unit {0}
 IsRefuted {A = A} S xs (Err (Breach f)) = is_rule f ≡ true → (x : A) → NoneAgrees S xs (Ok x)
 
 -- the same of a call
-pub record Refutes {R A : Type 0} (remaining : R → Option (List ℕ)) (S : List ℕ → Result A ValueFault → Type 0)
-    (old : Input R) (r : Result A (Refusal ValueFault)) : Type 0 where
-  pub none : has_failed old ≡ false → (xs : List ℕ) → bytes_left remaining old ≡ Some xs → IsRefuted S xs r
+pub record Refutes {R A : Type 0} (remaining : R → Option (List ℕ)) (S : Spelling A) (old : Input R)
+    (r : Result A (Refusal ValueFault)) : Type 0 where
+  pub none : has_failed old ≡ false → (xs : List ℕ) → bytes_left remaining old ≡ Some xs
+      → IsRefuted (S (input_ignore old)) xs r

@@ -1,9 +1,9 @@
 -- Signed integers and reals (SEMI P39 OASIS 1.0, "Signed-integer", "Real").
 use Rattle.std.specs.Prelude.{ℕ, ◌/◌, ◌%◌, ◌==◌, if◌then◌else◌, List, [], ◌∷◌, Option, Some, None, Result}
 use Rattle.std.specs.Prelude.{pos, neg_ℤ, ℤ}
-use Rattle.lvl_io.specs.Spelling.{Then, Chain}
 use Rattle.oasis_values.specs.Known.{among, Known, Seen}
 use Rattle.oasis_values.specs.Numbers.{IsByte, IsUnsigned}
+use Rattle.oasis_values.specs.Spelling.{Spelling, Then, Chain}
 use Rattle.oasis_values.specs.declared.fault.ValueFault.{ValueFault}
 use Rattle.oasis_values.specs.declared.fault.ValueFault.TheVariants.{RealType as unknown_type, ZeroDenominator}
 use Rattle.oasis_values.specs.declared.number.Real.{Real}
@@ -20,18 +20,18 @@ use Rattle.oasis_values.specs.declared.number.RealType.TheVariants.{Eight as OfE
 abbrev pub with_sign : ℕ → ℤ
 with_sign n = if n % 2 == 0 then pos (n / 2) else neg_ℤ (pos (n / 2))
 
-abbrev pub IsSigned : List ℕ → Result ℤ ValueFault → Type 0
+abbrev pub IsSigned : Spelling ℤ
 IsSigned = Seen with_sign IsUnsigned
 
 -- own rule: a denominator isn't zero
 abbrev pub not_zero : ℕ → Option ℕ
 not_zero n = if n == 0 then None else Some n
 
-abbrev pub IsDenominator : List ℕ → Result ℕ ValueFault → Type 0
+abbrev pub IsDenominator : Spelling ℕ
 IsDenominator = Then IsUnsigned (λ n. Known (not_zero n) ZeroDenominator)
 
 -- n bytes, of any value
-abbrev pub IsBytes : ℕ → List ℕ → Result (List ℕ) ValueFault → Type 0
+abbrev pub IsBytes : ℕ → Spelling (List ℕ)
 IsBytes n = Chain (λ _. IsByte) (λ x. x) n 0
 
 -- the types of reals, numbered from 0
@@ -39,7 +39,7 @@ abbrev pub real_types : List RealType
 real_types = OfWhole ∷ OfNegWhole ∷ OfReciprocal ∷ OfNegReciprocal ∷ OfRatio ∷ OfNegRatio ∷ OfFour ∷ OfEight ∷ []
 
 -- what follows the type
-abbrev pub IsRealOf : RealType → List ℕ → Result Real ValueFault → Type 0
+abbrev pub IsRealOf : RealType → Spelling Real
 IsRealOf OfWhole = Seen Whole IsUnsigned
 IsRealOf OfNegWhole = Seen NegWhole IsUnsigned
 IsRealOf OfReciprocal = Seen Reciprocal IsDenominator
@@ -50,5 +50,5 @@ IsRealOf OfFour = Seen Four (IsBytes 4)
 IsRealOf OfEight = Seen Eight (IsBytes 8)
 
 -- a type, and what it says
-abbrev pub IsReal : List ℕ → Result Real ValueFault → Type 0
+abbrev pub IsReal : Spelling Real
 IsReal = Then IsUnsigned (λ n. Then (Known (among 0 real_types n) unknown_type) IsRealOf)

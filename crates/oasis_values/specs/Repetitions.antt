@@ -3,7 +3,6 @@
 use Rattle.std.specs.Prelude.{ℕ, ◌+◌, ◌*◌, nat_le, Bool, true, false, if◌then◌else◌, List, [], ◌∷◌, Option}
 use Rattle.std.specs.Prelude.{Some, None, Result, Ok, pos, ℤ, ◌+ℤ◌, ◌*ℤ◌}
 use Rattle.std.specs.List.{list_all}
-use Rattle.lvl_io.specs.Spelling.{Gives, Then, Chain}
 use Rattle.lvl_grid.specs.declared.point.Point.{Point}
 use Rattle.lvl_names.specs.Shifts.{lattice, most_places}
 use Rattle.oasis_values.specs.Deltas.{to, IsGDelta}
@@ -11,6 +10,7 @@ use Rattle.oasis_values.specs.Known.{among, Known, Seen}
 use Rattle.oasis_values.specs.Numbers.{IsUnsigned}
 use Rattle.oasis_values.specs.PointLists.{origin}
 use Rattle.oasis_values.specs.Ranges.{in_range, is_in_range, is_point_in_range}
+use Rattle.oasis_values.specs.Spelling.{Spelling, Gives, Then, Chain}
 use Rattle.oasis_values.specs.declared.fault.ValueFault.{ValueFault}
 use Rattle.oasis_values.specs.declared.fault.ValueFault.TheVariants.{RepetitionType, RepetitionSize, OutOfRange}
 use Rattle.oasis_values.specs.declared.fault.ValueFault.TheVariants.{NoModal}
@@ -71,19 +71,19 @@ space false far = record { x = pos 0; y = pos far }
 abbrev pub widened : Point → Far
 widened d = record { x = d.x; y = d.y }
 
-abbrev pub IsSpaceAlong : Bool → List ℕ → Result Far ValueFault → Type 0
+abbrev pub IsSpaceAlong : Bool → Spelling Far
 IsSpaceAlong along_x = Seen (space along_x) IsUnsigned
 
-abbrev pub IsSpaceFree : List ℕ → Result Far ValueFault → Type 0
+abbrev pub IsSpaceFree : Spelling Far
 IsSpaceFree = Seen widened IsGDelta
 
-abbrev pub IsSpace : Spacing → List ℕ → Result Far ValueFault → Type 0
+abbrev pub IsSpace : Spacing → Spelling Far
 IsSpace AlongX = IsSpaceAlong true
 IsSpace AlongY = IsSpaceAlong false
 IsSpace Free = IsSpaceFree
 
 -- a shift is the one before it, moved by a space as many times as the grid says
-abbrev pub IsShift : Spacing → ℕ → Point → List ℕ → Result Point ValueFault → Type 0
+abbrev pub IsShift : Spacing → ℕ → Point → Spelling Point
 IsShift spacing grid before = Then (IsSpace spacing) (λ by. Known (moved before by grid) OutOfRange)
 
 -- the lattice of two steps, where all its shifts are in range
@@ -95,54 +95,54 @@ abbrev pub modal : Bool → Option Repetition
 modal true = Some TheModal
 modal false = None
 
-abbrev pub IsModal : Bool → List ℕ → Result Repetition ValueFault → Type 0
+abbrev pub IsModal : Bool → Spelling Repetition
 IsModal has_modal = Known (modal has_modal) NoModal
 
 -- n places along a step
-abbrev pub IsLineOf : Spacing → ℕ → List ℕ → Result Repetition ValueFault → Type 0
+abbrev pub IsLineOf : Spacing → ℕ → Spelling Repetition
 IsLineOf spacing n = Then (IsShift spacing 1 origin) (λ a. Seen New (Known (lattice_in_range a n origin 1) OutOfRange))
 
-abbrev pub IsLine : Spacing → List ℕ → Result Repetition ValueFault → Type 0
+abbrev pub IsLine : Spacing → Spelling Repetition
 IsLine spacing = Then IsUnsigned (λ d. Then (Known (line_size d) RepetitionSize) (IsLineOf spacing))
 
 -- the first of two steps, with its places in range
-abbrev pub IsColumns : Spacing → ℕ → List ℕ → Result Point ValueFault → Type 0
+abbrev pub IsColumns : Spacing → ℕ → Spelling Point
 IsColumns spacing n =
     Then (IsShift spacing 1 origin) (λ a. Seen (λ _. a) (Known (lattice_in_range a n origin 1) OutOfRange))
 
 -- places along two steps
-abbrev pub IsMatrixOf : Spacing → Spacing → Size → List ℕ → Result Repetition ValueFault → Type 0
+abbrev pub IsMatrixOf : Spacing → Spacing → Size → Spelling Repetition
 IsMatrixOf first second s =
     Then (IsColumns first s.columns)
     (λ a. Then (IsShift second 1 origin) (λ b. Seen New (Known (lattice_in_range a s.columns b s.rows) OutOfRange)))
 
-abbrev pub IsMatrix : Spacing → Spacing → List ℕ → Result Repetition ValueFault → Type 0
+abbrev pub IsMatrix : Spacing → Spacing → Spelling Repetition
 IsMatrix first second =
     Then IsUnsigned
     (λ d. Then IsUnsigned (λ e. Then (Known (matrix_size d e) RepetitionSize) (IsMatrixOf first second)))
 
 -- the grid that spaces are multiplied by, if there is one
-abbrev pub IsGrid : Bool → List ℕ → Result ℕ ValueFault → Type 0
+abbrev pub IsGrid : Bool → Spelling ℕ
 IsGrid true = IsUnsigned
 IsGrid false = Gives (Ok 1)
 
 -- n shifts after the zero shift
-abbrev pub AreShifts : Spacing → ℕ → ℕ → List ℕ → Result Repetition ValueFault → Type 0
+abbrev pub AreShifts : Spacing → ℕ → ℕ → Spelling Repetition
 AreShifts spacing n grid = Seen (λ ps. New (origin ∷ ps)) (Chain (IsShift spacing grid) (λ p. p) n origin)
 
-abbrev pub IsSpreadOf : Spacing → Bool → ℕ → List ℕ → Result Repetition ValueFault → Type 0
+abbrev pub IsSpreadOf : Spacing → Bool → ℕ → Spelling Repetition
 IsSpreadOf spacing gridded n = Then (IsGrid gridded) (AreShifts spacing n)
 
-abbrev pub IsSpread : Spacing → Bool → List ℕ → Result Repetition ValueFault → Type 0
+abbrev pub IsSpread : Spacing → Bool → Spelling Repetition
 IsSpread spacing gridded = Then IsUnsigned (λ d. Then (Known (list_size d) RepetitionSize) (IsSpreadOf spacing gridded))
 
 -- what follows the type
-abbrev pub IsKind : Bool → Kind → List ℕ → Result Repetition ValueFault → Type 0
+abbrev pub IsKind : Bool → Kind → Spelling Repetition
 IsKind has_modal Modal = IsModal has_modal
 IsKind has_modal (Matrix first second) = IsMatrix first second
 IsKind has_modal (Line spacing) = IsLine spacing
 IsKind has_modal (Listed spacing gridded) = IsSpread spacing gridded
 
 -- a type, and what it says
-abbrev pub IsRepetition : Bool → List ℕ → Result Repetition ValueFault → Type 0
+abbrev pub IsRepetition : Bool → Spelling Repetition
 IsRepetition has_modal = Then IsUnsigned (λ n. Then (Known (among 0 kinds n) RepetitionType) (IsKind has_modal))

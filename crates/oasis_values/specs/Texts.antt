@@ -1,9 +1,9 @@
 -- Strings (SEMI P39 OASIS 1.0, "Strings"): a length and that many bytes, each of the string's kind. The most bytes that
 -- a string may have is own rule.
 use Rattle.std.specs.Prelude.{ℕ, ◌&&◌, nat_le, Bool, true, if◌then◌else◌, List, Option, Some, None, Result}
-use Rattle.lvl_io.specs.Spelling.{Then, Chain}
-use Rattle.oasis_values.specs.Known.{Known}
+use Rattle.oasis_values.specs.Known.{Known, Unkept}
 use Rattle.oasis_values.specs.Numbers.{IsByte, IsUnsigned}
+use Rattle.oasis_values.specs.Spelling.{Spelling, Then, Chain}
 use Rattle.oasis_values.specs.declared.fault.ValueFault.{ValueFault}
 use Rattle.oasis_values.specs.declared.fault.ValueFault.TheVariants.{StringByte}
 use Rattle.oasis_values.specs.declared.text.Text.{Text}
@@ -27,11 +27,22 @@ has_character N c = nat_le 0x21 c && nat_le c 0x7E
 abbrev pub character : Text → ℕ → Option ℕ
 character kind c = if has_character kind c then Some c else None
 
-abbrev pub IsCharacter : Text → List ℕ → Result ℕ ValueFault → Type 0
+abbrev pub IsCharacter : Text → Spelling ℕ
 IsCharacter kind = Then IsByte (λ c. Known (character kind c) StringByte)
 
-abbrev pub AreCharacters : Text → ℕ → List ℕ → Result (List ℕ) ValueFault → Type 0
+abbrev pub AreCharacters : Text → ℕ → Spelling (List ℕ)
 AreCharacters kind n = Chain (λ _. IsCharacter kind) (λ c. c) n 0
 
-abbrev pub IsString : Text → ℕ → List ℕ → Result (List ℕ) ValueFault → Type 0
+abbrev pub IsString : Text → ℕ → Spelling (List ℕ)
 IsString kind most = Then IsUnsigned (λ n. Then (Known (text_length kind most n) StringByte) (AreCharacters kind))
+
+-- a string of any length, of which nothing is kept
+
+abbrev pub any_length : Text → ℕ → Option ℕ
+any_length kind n = if nat_le (least_length kind) n then Some n else None
+
+abbrev pub AreUnkeptCharacters : Text → ℕ → Spelling (Unit {0})
+AreUnkeptCharacters kind n = Unkept (AreCharacters kind n)
+
+abbrev pub IsUnkeptString : Text → Spelling (Unit {0})
+IsUnkeptString kind = Then IsUnsigned (λ n. Then (Known (any_length kind n) StringByte) (AreUnkeptCharacters kind))

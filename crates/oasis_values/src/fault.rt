@@ -10,7 +10,8 @@ pub enum ValueFault {
     /// The input ends in the value.
     #[error("the input ends in a value")]
     Truncated,
-    /// A tenth byte of an unsigned integer is above 1, so that the integer isn't below 2^64 (own rule).
+    /// An unsigned integer isn't below 2^64: its tenth byte is above 1 (own rule). Where padding is
+    /// ignored, its tenth group or a later one is too large, or its 256th byte doesn't end it.
     #[error("an integer is 2^64 or more")]
     IntegerTooLarge,
     /// A string is empty where it may not be, or too long, or has a byte that its kind doesn't allow.

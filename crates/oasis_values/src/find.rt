@@ -5,11 +5,12 @@ ghost use Rattle.std.specs.Io.KnownBytes.{prepend_known};
 ghost use Rattle.lvl_io.specs.Known.{Stays};
 ghost use Rattle.lvl_io.specs.Bytes.{CountsFailure};
 ghost use Rattle.oasis_values.specs.Faults.{reader_failed, as_breach};
-ghost use Rattle.oasis_values.specs.Numbers.{IsByte, IsUnsigned};
+ghost use Rattle.oasis_values.specs.Numbers.{IsOneByte, IsUnsigned};
 ghost use Rattle.oasis_values.specs.inside.Leading.{IsStop, Stops, Finds};
 
 use crate::fault::ValueFault;
 use crate::integer::{Leading, scan_integer};
+use lvl_ignore::Ignore;
 use lvl_io::{Buffer, Missing, Read};
 
 /// What was found, and how many bytes it has.
@@ -57,7 +58,7 @@ pub(crate) fn find_byte<R: Read>(
     ensures bytes { Stays (prepend_known ahead.old (R.remaining reader.old))
         (prepend_known ahead.new (R.remaining reader.new)) }
     ensures had { IfOk result (λ found. (found.len ≤ length ahead.new) × (found.len ≤ room)) }
-    ensures finds { Finds IsByte room (length ahead.new)
+    ensures finds { Finds IsOneByte room (length ahead.new)
         (prepend_known ahead.old (R.remaining reader.old)) result }
     ensures errors { CountsFailure (R.read_errors reader.old) (R.read_errors reader.new)
         (reader_failed (as_breach result)) }
@@ -75,12 +76,13 @@ pub(crate) fn find_integer<R: Read>(
     reader: &mut R,
     ahead: &mut Buffer<4096>,
     room: u64,
+    ignore: Ignore,
 ) -> Result<Found<u64>, ValueFault>
     requires { room < 2 ^ 32 }
     ensures bytes { Stays (prepend_known ahead.old (R.remaining reader.old))
         (prepend_known ahead.new (R.remaining reader.new)) }
     ensures had { IfOk result (λ found. (found.len ≤ length ahead.new) × (found.len ≤ room)) }
-    ensures finds { Finds IsUnsigned room (length ahead.new)
+    ensures finds { Finds (IsUnsigned ignore) room (length ahead.new)
         (prepend_known ahead.old (R.remaining reader.old)) result }
     ensures errors { CountsFailure (R.read_errors reader.old) (R.read_errors reader.new)
         (reader_failed (as_breach result)) }
@@ -89,9 +91,9 @@ pub(crate) fn find_integer<R: Read>(
     'integer: loop {
         let hand = ahead.ahead();
         let most = hand.len().min(room as usize);
-        match scan_integer(&hand[..most]) {
+        match scan_integer(ignore, &hand[..most]) {
             Leading::Whole(value, len) => return Ok(Found { value, len }),
-            Leading::TooLarge => return Err(ValueFault::IntegerTooLarge),
+            Leading::TooLarge(_) => return Err(ValueFault::IntegerTooLarge),
             Leading::Unfinished => want_more(reader, ahead, room, most)?,
         }
     }

@@ -3,6 +3,7 @@ ghost use Rattle.std.specs.Prelude.{◌≡◌, ◌-◌, ◌≤◌, false, true, 
 
 use crate::fault::ValueFault;
 use crate::find::{find_byte, find_integer};
+use lvl_ignore::Ignore;
 use lvl_io::{Buffer, FILE_LIMIT, Read};
 
 /// The values in the bytes of a reader, one at a time. It asks its reader for bytes only where one is
@@ -12,29 +13,32 @@ pub struct Input<R> {
     reader: R,
     ahead: Buffer<4096>,
     offset: u64,
+    ignore: Ignore,
     failed: bool,
     ghost within: { offset ≤ 4294967295 },
 }
 
 impl<R: Read> Input<R> {
-    ghost use Rattle.oasis_values.specs.Input.{bytes_left, input_offset, has_failed, input_reader};
+    ghost use Rattle.oasis_values.specs.Input.{bytes_left, input_offset, has_failed, input_ignore, input_reader};
     ghost use Rattle.oasis_values.specs.Reads.{Reads, Refutes};
     ghost use Rattle.oasis_values.specs.Faults.{as_breach, is_rule};
     ghost use Rattle.oasis_values.specs.Numbers.{IsByte, IsUnsigned};
     ghost use Rattle.oasis_values.specs.Known.{Known};
     ghost use Rattle.oasis_values.specs.inside.Stopped.{HasStopped};
 
-    /// The values of a reader's bytes, from its next byte on. It takes no memory.
-    pub fn new(reader: R) -> Input<R>
+    /// The values of a reader's bytes, from its next byte on, where these are ignored. It takes no memory.
+    pub fn new(reader: R, ignore: Ignore) -> Input<R>
         ensures reader { input_reader result ≡ reader }
         ensures bytes { bytes_left R.remaining result ≡ R.remaining reader }
         ensures offset { input_offset result ≡ 0 }
+        ensures ignore { input_ignore result ≡ ignore }
         ensures failed { has_failed result ≡ false }
     {
         Input {
             reader,
             ahead: Buffer::new(),
             offset: 0,
+            ignore,
             failed: false,
         }
     }
@@ -46,6 +50,13 @@ impl<R: Read> Input<R> {
         self.offset
     }
 
+    /// What is ignored.
+    pub fn ignore(&self) -> Ignore
+        ensures { result ≡ input_ignore self.now }
+    {
+        self.ignore
+    }
+
     /// The reader. What was read ahead is lost.
     pub fn into_reader(self) -> R
         ensures { result ≡ input_reader self }
@@ -54,6 +65,7 @@ impl<R: Read> Input<R> {
             reader,
             ahead,
             offset: _,
+            ignore: _,
             failed: _,
         } = self;
         drop(ahead);
@@ -83,7 +95,8 @@ impl<R: Read> Input<R> {
     }
 
     /// An unsigned integer of at most ten bytes, below 2^64. `IntegerTooLarge` comes at a tenth byte
-    /// above 1 (own rule).
+    /// above 1 (own rule). Where padding is ignored it has at most 256 bytes, and `IntegerTooLarge` comes
+    /// at the first byte with which it isn't below 2^64, or at a 256th that doesn't end it.
     pub fn unsigned(&mut self) -> Result<u64, ValueFault>
         ensures reads { Reads R.remaining R.read_errors R.lent IsUnsigned self.old self.new (as_breach result) }
         ensures none { Refutes R.remaining IsUnsigned self.old (as_breach result) }
@@ -92,7 +105,12 @@ impl<R: Read> Input<R> {
         if self.failed {
             return Err(ValueFault::Failed);
         }
-        match find_integer(&mut self.reader, &mut self.ahead, FILE_LIMIT - self.offset) {
+        match find_integer(
+            &mut self.reader,
+            &mut self.ahead,
+            FILE_LIMIT - self.offset,
+            self.ignore,
+        ) {
             Ok(found) => {
                 self.ahead.skip(found.len);
                 self.offset += found.len as u64;

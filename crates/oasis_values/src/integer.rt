@@ -1,41 +1,92 @@
 //! An unsigned integer at the front of some bytes: seven bits a byte, the lowest first, and the high
-//! bit where another byte follows.
-ghost use Rattle.std.specs.Prelude.{◌≡◌, ◌<◌, ◌≤◌, length};
+//! bit set where another byte follows.
+ghost use Rattle.std.specs.Prelude.{◌≡◌, ◌<◌, ◌≤◌, length, take, get_or};
+ghost use Rattle.oasis_values.specs.Numbers.{groups, most_bytes, Continues};
 ghost use Rattle.oasis_values.specs.inside.Leading.{Leads};
 
-/// The most bytes of an unsigned integer (own rule).
+use lvl_ignore::Ignore;
+
+/// The most bytes of an unsigned integer (own rule): a number below 2^64 needs no more.
 const MOST_BYTES: usize = 10;
+
+/// The most bytes of an unsigned integer where padding is ignored (own rule).
+const MOST_PADDED_BYTES: usize = 256;
 
 /// Each byte but the last is this or more.
 const CONTINUES: u8 = 128;
+
+/// What the lowest bit of a tenth byte counts.
+const HIGHEST_UNIT: u64 = 1 << 63;
 
 /// What is at the front of some bytes.
 #[derive(Clone, Copy, Debug, PartialEq, Eq)]
 pub enum Leading {
     /// An integer, and of how many bytes.
     Whole(u64, usize),
-    /// Ten bytes that would make an integer of 2^64 or more.
-    TooLarge,
+    /// As many bytes as tell that no integer begins with them.
+    TooLarge(usize),
     /// The beginning of an integer.
     Unfinished,
 }
 
 // What the bytes begin with.
-pub(crate) fn scan_integer(bytes: &[u8]) -> Leading
-    ensures { Leads result bytes.now }
+pub(crate) fn scan_integer(ignore: Ignore, bytes: &[u8]) -> Leading
+    ensures { Leads ignore result bytes.now }
 {
     let mut value = 0_u64;
     let mut unit = 1_u64;
     for (at, byte) in bytes.iter().enumerate() {
         let digit = u64::from(*byte % CONTINUES);
         if at + 1 == MOST_BYTES && *byte > 1 {
-            return Leading::TooLarge;
+            return scan_long(ignore, bytes, value);
         }
         value += unit * digit;
         if *byte < CONTINUES {
             return Leading::Whole(value, at + 1);
         }
         unit *= u64::from(CONTINUES);
+    }
+    Leading::Unfinished
+}
+
+// The same, where nine bytes that continue make `value`, and the tenth isn't 0 or 1: with padding it
+// may still be an integer.
+fn scan_long(ignore: Ignore, bytes: &[u8], value: u64) -> Leading
+    requires long { 9 < length bytes.now }
+    requires continues { Continues (take 9 bytes.now) }
+    requires value { value ≡ groups (take 9 bytes.now) }
+    requires above { 1 < get_or bytes.now 9 0 }
+    ensures { Leads ignore result bytes.now }
+{
+    let digit = bytes[MOST_BYTES - 1] % CONTINUES;
+    if digit > 1 {
+        return Leading::TooLarge(MOST_BYTES);
+    }
+    if !ignore.padding {
+        return Leading::TooLarge(MOST_BYTES);
+    }
+    scan_padding(ignore, bytes, value + HIGHEST_UNIT * u64::from(digit))
+}
+
+// The same, where ten bytes that continue make `value`: only zeros may follow.
+fn scan_padding(ignore: Ignore, bytes: &[u8], value: u64) -> Leading
+    requires padded { most_bytes ignore ≡ 256 }
+    requires long { 10 ≤ length bytes.now }
+    requires continues { Continues (take 10 bytes.now) }
+    requires value { value ≡ groups (take 10 bytes.now) }
+    ensures { Leads ignore result bytes.now }
+{
+    for at in MOST_BYTES..bytes.len() {
+        let byte = bytes[at];
+        if byte % CONTINUES > 0 {
+            return Leading::TooLarge(at + 1);
+        }
+        if byte < CONTINUES {
+            return Leading::Whole(value, at + 1);
+        }
+        if at + 1 == MOST_PADDED_BYTES {
+            return Leading::TooLarge(at + 1);
+        }
     }
     Leading::Unfinished
 }

@@ -1,11 +1,11 @@
 //! The values of OASIS, one at a time, over any reader: numbers, strings, deltas, point lists and
 //! repetitions (SEMI P39 OASIS 1.0).
 //!
-//! [`Input`] reads a value where its caller knows what has to come. What records are made of these
-//! values is for the crates above.
+//! [`Input`] reads a value where its caller knows what has to come, and keeps what is ignored: where
+//! padding is, it may be in any number. What records are made of these values is for the crates above.
 //!
 //! ```
-//! let mut input = Input::new(Pieces::new(b"\xE8\x07\x0B", usize::MAX));
+//! let mut input = Input::new(Pieces::new(b"\xE8\x07\x0B", usize::MAX), Ignore::NOTHING);
 //! assert_eq!(rt; input.unsigned(), Ok(1000));
 //! assert_eq!(rt; input.signed(), Ok(-5));
 //! assert_eq!(rt; input.offset(), 3);
@@ -26,6 +26,7 @@ mod input;
 mod integer;
 mod number;
 mod point_list;
+mod property;
 mod repetition;
 mod shift;
 mod text;

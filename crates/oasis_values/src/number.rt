@@ -115,7 +115,7 @@ impl<R: Read> Input<R> {
     }
 
     // A real of that type, after its type.
-    fn real_of(&mut self, kind: RealType) -> Result<Real, ValueFault>
+    pub(crate) fn real_of(&mut self, kind: RealType) -> Result<Real, ValueFault>
         requires { has_failed self.old ≡ false }
         ensures reads { Reads R.remaining R.read_errors R.lent (IsRealOf kind) self.old self.new (as_breach result) }
     {

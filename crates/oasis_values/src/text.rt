@@ -1,6 +1,6 @@
 //! Strings: a length and that many bytes.
 ghost use Rattle.std.specs.Prelude.{◌≡◌, false};
-ghost use Rattle.oasis_values.specs.Texts.{character, text_length};
+ghost use Rattle.oasis_values.specs.Texts.{any_length, character, least_length, text_length};
 
 use crate::fault::ValueFault;
 use crate::input::Input;
@@ -19,16 +19,33 @@ pub enum Text {
     N,
 }
 
+// How many bytes a string of this kind has at least.
+fn least_length(kind: Text) -> u64
+    ensures { result ≡ least_length kind }
+{
+    match kind {
+        Text::A | Text::B => 0,
+        Text::N => 1,
+    }
+}
+
 // The length, if a string of this kind may have it.
 fn text_length(kind: Text, most: usize, len: u64) -> Option<usize>
     ensures { result ≡ text_length kind most len }
 {
-    let least = match kind {
-        Text::A | Text::B => 0,
-        Text::N => 1,
-    };
-    if least <= len && len <= most as u64 {
+    if least_length(kind) <= len && len <= most as u64 {
         Some(len as usize)
+    } else {
+        None
+    }
+}
+
+// The length, if a string of this kind that isn't kept may have it.
+fn any_length(kind: Text, len: u64) -> Option<u64>
+    ensures { result ≡ any_length kind len }
+{
+    if least_length(kind) <= len {
+        Some(len)
     } else {
         None
     }
@@ -54,7 +71,7 @@ impl<R: Read> Input<R> {
     ghost use Rattle.oasis_values.specs.Input.{has_failed};
     ghost use Rattle.oasis_values.specs.Reads.{Reads, Refutes};
     ghost use Rattle.oasis_values.specs.Faults.{as_breach, items};
-    ghost use Rattle.oasis_values.specs.Texts.{IsCharacter, IsString, AreCharacters};
+    ghost use Rattle.oasis_values.specs.Texts.{IsCharacter, IsString, AreCharacters, AreUnkeptCharacters, IsUnkeptString};
 
     /// A string of `most` bytes at most. Its length is tested before memory is taken for it, and each
     /// byte as it is read.
@@ -92,6 +109,28 @@ impl<R: Read> Input<R> {
             text.push_reserved(byte);
         }
         Ok(text)
+    }
+
+    /// A string of any length, of which nothing is kept. It takes no memory.
+    pub fn skip_string(&mut self, kind: Text) -> Result<(), ValueFault>
+        ensures reads { Reads R.remaining R.read_errors R.lent (IsUnkeptString kind) self.old self.new (as_breach result) }
+        ensures none { Refutes R.remaining (IsUnkeptString kind) self.old (as_breach result) }
+    {
+        let number = self.unsigned()?;
+        let len = self.known(any_length(kind, number), ValueFault::StringByte)?;
+        self.skip_characters(kind, len)
+    }
+
+    // `len` characters of that kind, of which none is kept.
+    fn skip_characters(&mut self, kind: Text, len: u64) -> Result<(), ValueFault>
+        requires { has_failed self.old ≡ false }
+        ensures reads { Reads R.remaining R.read_errors R.lent
+            (AreUnkeptCharacters kind len) self.old self.new (as_breach result) }
+    {
+        for n in 0..len {
+            let _character = self.character(kind)?;
+        }
+        Ok(())
     }
 
     // A character of that kind.

@@ -2,9 +2,10 @@
 use Rattle.std.specs.Prelude.{◌≡◌, Bool, true, false, ◌∷◌, List, Option, Result, IfOk, IfErr, OnOk, OnErr}
 use Rattle.lvl_refusal.specs.Refused.{Says}
 use Rattle.lvl_refusal.specs.declared.Refusal.{Refusal}
+use Rattle.oasis_values.specs.declared.repetition.Repetition.{Repetition}
 use Rattle.oasis_records.specs.declared.record.Record.{Record}
 use Rattle.oasis_records.specs.declared.record.Record.TheVariants.{Placement, Rectangle, Polygon, Path, XyAbsolute}
-use Rattle.oasis_records.specs.declared.record.Record.TheVariants.{XyRelative}
+use Rattle.oasis_records.specs.declared.record.Record.TheVariants.{XyRelative, Text}
 use Rattle.oasis_figures.specs.Figures.{IsDrawn, PlacesFit, shifts_of}
 use Rattle.oasis_figures.specs.Keeping.{StandsFor}
 use Rattle.oasis_figures.specs.Rules.{Breaches, BreachesNone}
@@ -29,6 +30,10 @@ abbrev pub mode : Bool → Record
 mode true = XyRelative
 mode false = XyAbsolute
 
+-- a TEXT with that repetition
+abbrev pub a_text : Option Repetition → Record
+a_text r = Text r
+
 -- the record sets nothing
 abbrev pub IsOther : Record → Type 0
 IsOther (Placement p) = ⊥
@@ -37,4 +42,5 @@ IsOther (Polygon p) = ⊥
 IsOther (Path p) = ⊥
 IsOther XyAbsolute = ⊥
 IsOther XyRelative = ⊥
+IsOther (Text r) = ⊥
 IsOther r = Unit {0}

@@ -2,6 +2,7 @@
 use Rattle.std.specs.Prelude.{ℕ, List, Option}
 use Rattle.lvl_refusal.specs.declared.Refusal.{Refusal}
 use Rattle.lvl_refusal.specs.declared.Refusal.TheVariants.{Breach, OutOfMemory}
+use Rattle.lvl_ignore.specs.declared.ignore.Ignore.{Ignore}
 use Rattle.oasis_stream.specs.declared.fault.OasisKind.{OasisKind}
 use Rattle.oasis_stream.specs.inside.Refuses.{RefusesAt}
 use Rattle.oasis_library.specs.Ends.{TellsUnresolved}
@@ -9,9 +10,9 @@ use Rattle.oasis_library.specs.declared.fault.OasisFault.{OasisFault}
 use Rattle.oasis_library.specs.declared.fault.OasisFault.TheVariants.{At, Unresolved}
 
 -- where the reader has these bytes left
-abbrev pub Refuses : List ℕ → Option (List ℕ) → OasisFault → Type 0
-Refuses xs left (At at k) = RefusesAt xs left at k
-Refuses xs left (Unresolved n) = TellsUnresolved xs n
+abbrev pub Refuses : Ignore → List ℕ → Option (List ℕ) → OasisFault → Type 0
+Refuses ignore xs left (At at k) = RefusesAt ignore xs left at k
+Refuses ignore xs left (Unresolved n) = TellsUnresolved ignore xs n
 
 -- the same refusal, at that offset
 abbrev pub refused_at : ℕ → Refusal OasisKind → Refusal OasisFault

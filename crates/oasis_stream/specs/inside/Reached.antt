@@ -2,7 +2,7 @@
 use Rattle.std.specs.Prelude.{◌≡◌, ℕ, ◌+◌, nat_lt, min, Bool, true, false, ◌||◌, if◌then◌else◌, is_some, is_none, List}
 use Rattle.std.specs.Prelude.{[], ◌∷◌, length}
 use Rattle.oasis_records.specs.declared.record.Record.{Record}
-use Rattle.oasis_records.specs.declared.record.Record.TheVariants.{Start, CellName, Cell}
+use Rattle.oasis_records.specs.declared.record.Record.TheVariants.{Start, CellName, Cell, Entry}
 use Rattle.lvl_cells.specs.Building.{cell_limit}
 use Rattle.oasis_stream.specs.Order.{in_cell, at_end, names_in, cells_in, any_numbered, any_unnumbered}
 use Rattle.oasis_stream.specs.declared.order.Order.{Order}
@@ -40,4 +40,5 @@ passed o (CellName c) =
 passed o (Cell c) =
     order true (if nat_lt o.cells cell_limit then o.cells + 1 else o.cells) o.has_numbered o.has_unnumbered
     o.has_offsets_at_end
+passed o Entry = order false o.cells o.has_numbered o.has_unnumbered o.has_offsets_at_end
 passed o r = order o.in_cell o.cells o.has_numbered o.has_unnumbered o.has_offsets_at_end

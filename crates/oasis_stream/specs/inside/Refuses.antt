@@ -2,13 +2,14 @@
 use Rattle.std.specs.Prelude.{ℕ, List, Option}
 use Rattle.lvl_grammar.specs.Refused.{IsTruncated, IsUnread}
 use Rattle.lvl_grammar.specs.inside.ReadTo.{IsSeenWrong}
+use Rattle.lvl_ignore.specs.declared.ignore.Ignore.{Ignore}
 use Rattle.oasis_values.specs.declared.fault.ValueFault.TheVariants.{Truncated, Read}
 use Rattle.oasis_stream.specs.Front.{oasis}
 use Rattle.oasis_stream.specs.declared.fault.OasisKind.{OasisKind}
 use Rattle.oasis_stream.specs.declared.fault.OasisKind.TheVariants.{Value}
 
 -- where the reader has these bytes left
-abbrev pub RefusesAt : List ℕ → Option (List ℕ) → ℕ → OasisKind → Type 0
-RefusesAt xs left at (Value Truncated) = IsTruncated oasis xs at
-RefusesAt xs left at (Value Read) = IsUnread oasis xs left at
-RefusesAt xs left at k = IsSeenWrong oasis xs at left k
+abbrev pub RefusesAt : Ignore → List ℕ → Option (List ℕ) → ℕ → OasisKind → Type 0
+RefusesAt ignore xs left at (Value Truncated) = IsTruncated (oasis ignore) xs at
+RefusesAt ignore xs left at (Value Read) = IsUnread (oasis ignore) xs left at
+RefusesAt ignore xs left at k = IsSeenWrong (oasis ignore) xs at left k

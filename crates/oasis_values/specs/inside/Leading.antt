@@ -1,7 +1,8 @@
 -- How integers and bytes are found in the bytes in hand.
-use Rattle.std.specs.Prelude.{◌≡◌, ◌≢◌, ℕ, ◌<◌, List, length, Option, Some, Result, Ok, Err}
+use Rattle.std.specs.Prelude.{◌≡◌, ◌≢◌, ℕ, ◌^◌, ◌<◌, List, length, Option, Some, Result, Ok, Err}
+use Rattle.lvl_ignore.specs.declared.ignore.Ignore.{Ignore}
 use Rattle.lvl_io.specs.Spelling.{IsFront}
-use Rattle.oasis_values.specs.Numbers.{Continues, IsUnsigned}
+use Rattle.oasis_values.specs.Numbers.{groups, Continues, most_bytes, IsUnsigned}
 use Rattle.oasis_values.specs.Reads.{Fails}
 use Rattle.oasis_values.specs.declared.fault.ValueFault.{ValueFault}
 use Rattle.oasis_values.specs.declared.fault.ValueFault.TheVariants.{Truncated, IntegerTooLarge, TooLong, Read, Failed}
@@ -10,10 +11,10 @@ use Rattle.oasis_values.specs.declared.integer.Leading.{Leading}
 use Rattle.oasis_values.specs.declared.integer.Leading.TheVariants.{Whole, TooLarge, Unfinished}
 
 -- what bytes begin with
-abbrev pub Leads : Leading → List ℕ → Type 0
-Leads (Whole value len) xs = IsFront IsUnsigned xs len (Ok value)
-Leads TooLarge xs = IsFront IsUnsigned xs 10 (Err IntegerTooLarge)
-Leads Unfinished xs = Continues xs × (length xs < 10)
+abbrev pub Leads : Ignore → Leading → List ℕ → Type 0
+Leads ignore (Whole value len) xs = IsFront (IsUnsigned ignore) xs len (Ok value)
+Leads ignore (TooLarge len) xs = IsFront (IsUnsigned ignore) xs len (Err IntegerTooLarge)
+Leads ignore Unfinished xs = Continues xs × (length xs < most_bytes ignore) × (groups xs < 2 ^ 64)
 
 -- the faults that can come where another byte is wanted
 abbrev pub IsStop : ValueFault → Type 0

@@ -1,5 +1,6 @@
-use Rattle.oasis_records.proofs.Codes.{seen_code, unsigned_code}
 use Rattle.oasis_records.specs.Cells.{numbered}
+use Rattle.oasis_values.proofs.Codes.{seen_code}
+use Rattle.oasis_values.proofs.Integers.{unsigned_code}
 use Rattle.oasis_values.proofs.Reading.{reads_err, reads_seen, reads_seen_err, reads_then}
 use Rattle.std.proofs.lemmas.Result.{err_from_is_err_and}
 use Rattle.oasis_records.proofs.cell.read_numbered_name.Goals as goal
@@ -8,7 +9,7 @@ pub returns-in_err-name : goal.returns-in_err-name
 returns-in_err-name g c =
     let p = err_from_is_err_and c.from_residual.result c.from_residual.ensures.1 in
     rw (p.1, p.2) (record {
-      reads = reads_err _ (λ n. (seen_code (numbered n) unsigned_code).said)
+      reads = reads_err _ (λ n. seen_code (numbered n) unsigned_code)
           c.in_err-name.ensures.reads;
     })
 

@@ -1,6 +1,6 @@
-use Rattle.oasis_records.proofs.Codes.{seen_code}
 use Rattle.oasis_records.proofs.Ruling.{and_then_code, reads_go, reads_stop}
 use Rattle.oasis_records.proofs.Whole.{scheme_code, signature_code}
+use Rattle.oasis_values.proofs.Codes.{seen_code}
 use Rattle.oasis_values.proofs.Reading.{reads_err, reads_seen, reads_seen_err, reads_then}
 use Rattle.std.proofs.Common.{Ok}
 use Rattle.std.proofs.lemmas.Result.{err_from_is_err_and}
@@ -11,7 +11,7 @@ returns-in_err-_padding g c =
     let p = err_from_is_err_and c.from_residual.result c.from_residual.ensures.1 in
     rw (p.1, p.2) (record {
       reads = reads_err _
-          (λ p. (and_then_code scheme_code (λ s. seen_code Ok (signature_code _ s))).said)
+          (λ p. and_then_code scheme_code (λ s. seen_code Ok (signature_code _ s)))
           c.in_err-_padding.ensures.reads;
     })
 

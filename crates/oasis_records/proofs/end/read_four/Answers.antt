@@ -1,5 +1,6 @@
-use Rattle.oasis_records.proofs.Codes.{byte_code, seen_code, then_code}
 use Rattle.oasis_records.specs.Ends.{four}
+use Rattle.oasis_values.proofs.Codes.{then_code, seen_code}
+use Rattle.oasis_values.proofs.Integers.{byte_code}
 use Rattle.oasis_values.proofs.Reading.{reads_err, reads_seen, reads_seen_err, reads_then}
 use Rattle.std.proofs.lemmas.Result.{err_from_is_err_and}
 use Rattle.oasis_records.proofs.end.read_four.Goals as goal
@@ -9,7 +10,7 @@ returns-in_err-first g c =
     let p = err_from_is_err_and c.from_residual.result c.from_residual.ensures.1 in
     rw (p.1, p.2) (record {
       reads = reads_err _
-          (λ a. (then_code byte_code (λ b. then_code byte_code (λ d. seen_code (four a b d) byte_code))).said)
+          (λ a. then_code byte_code (λ b. then_code byte_code (λ d. seen_code (four a b d) byte_code)))
           c.in_err-first.ensures.reads;
     })
 
@@ -18,7 +19,7 @@ returns-in_err-second g c =
     let p = err_from_is_err_and c.from_residual-in_err-second.result c.from_residual-in_err-second.ensures.1 in
     rw (p.1, p.2) (record {
       reads = reads_then _ c.in_ok-first.ensures.reads
-          (reads_err _ (λ b. (then_code byte_code (λ d. seen_code (four c.in_ok-first.first b d) byte_code)).said)
+          (reads_err _ (λ b. then_code byte_code (λ d. seen_code (four c.in_ok-first.first b d) byte_code))
           c.in_err-second.ensures.reads);
     })
 
@@ -28,7 +29,7 @@ returns-in_err-third g c =
     rw (p.1, p.2) (record {
       reads = reads_then _ c.in_ok-first.ensures.reads
           (reads_then _ c.in_ok-second.ensures.reads
-          (reads_err _ (λ d. (seen_code (four c.in_ok-first.first c.in_ok-second.second d) byte_code).said)
+          (reads_err _ (λ d. seen_code (four c.in_ok-first.first c.in_ok-second.second d) byte_code)
           c.in_err-third.ensures.reads));
     })
 

@@ -2,7 +2,7 @@ use Rattle.oasis_values.proofs.Reading.{reads_seen, reads_seen_err}
 use Rattle.std.proofs.lemmas.Result.{err_from_is_err_and}
 use Rattle.std.proofs.Common.{◌≡◌, ◌+◌, ◌-◌, suc, [], arith}
 use Rattle.oasis_values.specs.Numbers.{IsByte}
-use Rattle.oasis_values.proofs.Integers.{byte_said}
+use Rattle.oasis_values.proofs.Integers.{byte_code}
 use Rattle.oasis_values.proofs.Loops.{going_from, going_on, going_err, going_end}
 use Rattle.oasis_records.proofs.end.skip_padding.Goals as goal
 
@@ -25,7 +25,7 @@ returns-in_err-_byte g c =
     let left : c.args.count - c.loop-n.n ≡ suc (c.args.count - (c.loop-n.n + 1)) = omega (arith, c.loop-n-test.true) in
     rw (p.1, p.2) (record {
       reads = reads_seen_err (λ _. c.args.count)
-          (going_err (c.args.count - (c.loop-n.n + 1)) (λ _. byte_said) c.loop-n.invariant.2 left
+          (going_err (c.args.count - (c.loop-n.n + 1)) (λ _. byte_code) c.loop-n.invariant.2 left
           c.in_err-_byte.ensures.reads);
     })
 

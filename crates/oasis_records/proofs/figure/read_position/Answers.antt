@@ -1,8 +1,11 @@
 use Rattle.std.proofs.Common.{true}
 use Rattle.std.proofs.lemmas.Result.{err_from_is_err_and}
+use Rattle.oasis_values.proofs.Codes.{then_code, seen_code}
+use Rattle.oasis_values.proofs.Places.{repetition_code}
 use Rattle.oasis_values.proofs.Reading.{reads_err, reads_then, reads_seen, reads_seen_err}
 use Rattle.oasis_records.specs.Fields.{position}
-use Rattle.oasis_records.proofs.Codes.{then_code, seen_code, if_code, signed_code, repetition_code}
+use Rattle.oasis_records.proofs.Codes.{if_code}
+use Rattle.oasis_values.proofs.Values.{signed_code}
 use Rattle.oasis_records.proofs.figure.read_position.Goals as goal
 
 pub returns-in_err-x : goal.returns-in_err-x
@@ -10,8 +13,8 @@ returns-in_err-x g c =
     let p = err_from_is_err_and c.from_residual.result c.from_residual.ensures.1 in
     rw (p.1, p.2) (record {
       reads = reads_err _
-          (λ x. (then_code (if_code _ signed_code)
-          (λ y. seen_code (position x y) (if_code _ (repetition_code true)))).said) c.in_err-x.ensures.reads;
+          (λ x. then_code (if_code _ signed_code)
+          (λ y. seen_code (position x y) (if_code _ (repetition_code true)))) c.in_err-x.ensures.reads;
     })
 
 pub returns-in_err-y : goal.returns-in_err-y
@@ -19,7 +22,7 @@ returns-in_err-y g c =
     let p = err_from_is_err_and c.from_residual-in_err-y.result c.from_residual-in_err-y.ensures.1 in
     rw (p.1, p.2) (record {
       reads = reads_then _ c.in_ok-x.ensures.reads
-          (reads_err _ (λ y. (seen_code (position c.in_ok-x.x y) (if_code _ (repetition_code true))).said)
+          (reads_err _ (λ y. seen_code (position c.in_ok-x.x y) (if_code _ (repetition_code true)))
           c.in_err-y.ensures.reads);
     })
 

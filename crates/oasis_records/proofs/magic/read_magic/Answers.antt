@@ -37,7 +37,7 @@ returns-in_err-_byte g c =
     (subst (λ l. Reads g.R.Read.remaining g.R.Read.read_errors g.R.Read.lent (AreMagicBytes l) c.loop-n.input
     c.read_magic_byte.new.input (of_fault e)) (sym (drop_at n magic c.loop-n-test.true))
     (reads_stop (λ _. AreMagicBytes (drop (suc n) magic)) e (λ _. magic_code (drop (suc n) magic)) q)) in
-    rw (p.1, p.2) (record { reads = all; none = reads_denies (of_fault e) (magic_code magic).free all })
+    rw (p.1, p.2) (record { reads = all; none = reads_denies (of_fault e) (magic_code magic) all })
 
 pub returns : goal.returns
 returns g c =
@@ -47,4 +47,4 @@ returns g c =
     (subst (λ l. Reads g.R.Read.remaining g.R.Read.read_errors g.R.Read.lent (AreMagicBytes l) c.loop-n.input
     c.loop-n.input (Ok (Ok tt))) (sym (drop_end n magic long))
     (reads_nothing (Ok tt) (c.loop-n.invariant.0 (omega (arith, long))))) in
-    record { reads = all; none = reads_denies (Ok (Ok tt)) (magic_code magic).free all }
+    record { reads = all; none = reads_denies (Ok (Ok tt)) (magic_code magic) all }

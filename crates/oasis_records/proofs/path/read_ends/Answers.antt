@@ -1,7 +1,7 @@
-use Rattle.oasis_records.proofs.Codes.{seen_code}
 use Rattle.oasis_records.proofs.Ruling.{reads_go, reads_stop}
 use Rattle.oasis_records.proofs.Shapes.{ends_of_code}
 use Rattle.oasis_records.specs.Paths.{some_ends}
+use Rattle.oasis_values.proofs.Codes.{seen_code}
 use Rattle.oasis_values.proofs.Reading.{reads_seen, reads_seen_err}
 use Rattle.std.proofs.lemmas.Result.{err_from_is_err_and}
 use Rattle.oasis_records.proofs.path.read_ends.Goals as goal

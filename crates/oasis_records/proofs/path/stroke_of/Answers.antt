@@ -1,6 +1,8 @@
-use Rattle.oasis_records.proofs.Codes.{gives_code, if_code, then_code, unsigned_code}
+use Rattle.oasis_records.proofs.Codes.{if_code}
 use Rattle.oasis_records.proofs.Ruling.{and_then_code, reads_go, reads_stop}
 use Rattle.oasis_records.proofs.Shapes.{ends_if_code}
+use Rattle.oasis_values.proofs.Codes.{gives_code, then_code}
+use Rattle.oasis_values.proofs.Integers.{unsigned_code}
 use Rattle.oasis_values.proofs.Reading.{reads_err, reads_nothing, reads_then}
 use Rattle.std.proofs.lemmas.Result.{err_from_is_err_and}
 use Rattle.oasis_records.proofs.path.stroke_of.Goals as goal
@@ -10,7 +12,7 @@ returns-in_err-on g c =
     let p = err_from_is_err_and c.from_residual.result c.from_residual.ensures.1 in
     rw (p.1, p.2) (record {
       reads = reads_err _
-          (λ on. (then_code (if_code _ unsigned_code) (λ w. and_then_code (ends_if_code _) (λ e. gives_code))).said)
+          (λ on. then_code (if_code _ unsigned_code) (λ w. and_then_code (ends_if_code _) (λ e. gives_code)))
           c.in_err-on.ensures.reads;
     })
 
@@ -19,7 +21,7 @@ returns-in_err-half_width g c =
     let p = err_from_is_err_and c.from_residual-in_err-half_width.result c.from_residual-in_err-half_width.ensures.1 in
     rw (p.1, p.2) (record {
       reads = reads_then _ c.in_ok-on.ensures.reads
-          (reads_err _ (λ w. (and_then_code (ends_if_code _) (λ e. gives_code)).said)
+          (reads_err _ (λ w. and_then_code (ends_if_code _) (λ e. gives_code))
           c.in_err-half_width.ensures.reads);
     })
 

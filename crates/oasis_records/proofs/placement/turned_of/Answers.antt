@@ -1,6 +1,7 @@
-use Rattle.oasis_records.proofs.Codes.{position_code, seen_code}
+use Rattle.oasis_records.proofs.Codes.{position_code}
 use Rattle.oasis_records.specs.Placements.{placement, turn_of}
 use Rattle.oasis_records.specs.declared.placement.Transform.TheVariants.{Turned}
+use Rattle.oasis_values.proofs.Codes.{seen_code}
 use Rattle.oasis_values.proofs.Reading.{reads_err, reads_seen, reads_seen_err, reads_then}
 use Rattle.std.proofs.Common.{◌%◌, ◌/◌}
 use Rattle.std.proofs.lemmas.Result.{err_from_is_err_and}
@@ -11,8 +12,8 @@ returns-in_err-cell g c =
     let p = err_from_is_err_and c.from_residual.result c.from_residual.ensures.1 in
     rw (p.1, p.2) (record {
       reads = reads_err _
-          (λ d. (seen_code (placement c.args.info d (Turned (turn_of (c.args.info / 2 % 4))))
-          (position_code (c.args.info / 2))).said) c.in_err-cell.ensures.reads;
+          (λ d. seen_code (placement c.args.info d (Turned (turn_of (c.args.info / 2 % 4))))
+          (position_code (c.args.info / 2))) c.in_err-cell.ensures.reads;
     })
 
 pub returns-in_err-position : goal.returns-in_err-position

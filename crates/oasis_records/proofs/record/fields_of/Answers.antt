@@ -60,3 +60,28 @@ returns-in_err-end-in-End g c =
 
 pub returns-in_ok-end-in-End : goal.returns-in_ok-end-in-End
 returns-in_ok-end-in-End g c = rw c.in-End.is (record { reads = c.in_ok-end-in-End.ensures.reads })
+
+pub returns-in_err-entry-in-Entry : goal.returns-in_err-entry-in-Entry
+returns-in_err-entry-in-Entry g c =
+    let p = err_from_is_err_and c.from_residual-in_err-entry-in-Entry.result
+    c.from_residual-in_err-entry-in-Entry.ensures.1 in
+    rw (p.1, p.2, c.in-Entry.is) (record { reads = c.in_err-entry-in-Entry.ensures.reads })
+
+pub returns-in_ok-entry-in-Entry : goal.returns-in_ok-entry-in-Entry
+returns-in_ok-entry-in-Entry g c = rw c.in-Entry.is (record { reads = c.in_ok-entry-in-Entry.ensures.reads })
+
+pub returns-in-Text : goal.returns-in-Text
+returns-in-Text g c = rw c.in-Text.is (record { reads = c.read_label.ensures.reads })
+
+pub returns-in_err-property-in-Property : goal.returns-in_err-property-in-Property
+returns-in_err-property-in-Property g c =
+    let p = err_from_is_err_and c.from_residual-in_err-property-in-Property.result
+    c.from_residual-in_err-property-in-Property.ensures.1 in
+    rw (p.1, p.2, c.in-Property.is) (record { reads = c.in_err-property-in-Property.ensures.reads })
+
+pub returns-in_ok-property-in-Property : goal.returns-in_ok-property-in-Property
+returns-in_ok-property-in-Property g c =
+    rw c.in-Property.is (record { reads = c.in_ok-property-in-Property.ensures.reads })
+
+pub returns-in-LastProperty : goal.returns-in-LastProperty
+returns-in-LastProperty g c = rw c.in-LastProperty.is (record { reads = reads_nothing _ c.requires })

@@ -6,6 +6,6 @@ pub returns : goal.returns
 returns g c =
     record {
       reads = c.fields_of.ensures.reads;
-      none = reads_denies _ (fields_code c.args.has_offsets_at_end c.args.id_len c.args.kind).free
+      none = reads_denies _ (fields_code c.args.has_offsets_at_end c.args.id_len c.args.kind)
           c.fields_of.ensures.reads;
     }

@@ -1,8 +1,8 @@
-use Rattle.oasis_records.proofs.Codes.{seen_code}
 use Rattle.oasis_records.proofs.Ruling.{reads_go, reads_plain, reads_stop}
 use Rattle.oasis_records.proofs.Shapes.{rectangle_of_code}
 use Rattle.std.proofs.Common.{Ok}
 use Rattle.std.proofs.lemmas.Result.{err_from_is_err_and}
+use Rattle.oasis_values.proofs.Codes.{seen_code}
 use Rattle.oasis_records.proofs.rectangle.read_rectangle.Goals as goal
 
 pub returns-in_err-info : goal.returns-in_err-info

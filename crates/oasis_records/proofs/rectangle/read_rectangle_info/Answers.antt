@@ -1,4 +1,4 @@
-use Rattle.oasis_records.proofs.Codes.{gives_code}
+use Rattle.oasis_values.proofs.Codes.{gives_code}
 use Rattle.oasis_values.proofs.Reading.{reads_err}
 use Rattle.std.proofs.lemmas.Result.{err_from_is_err_and}
 use Rattle.oasis_records.proofs.rectangle.read_rectangle_info.Goals as goal
@@ -6,4 +6,4 @@ use Rattle.oasis_records.proofs.rectangle.read_rectangle_info.Goals as goal
 pub returns-in_err-info : goal.returns-in_err-info
 returns-in_err-info g c =
     let p = err_from_is_err_and c.from_residual.result c.from_residual.ensures.1 in
-    rw (p.1, p.2) (record { reads = reads_err _ (λ x. gives_code.said) c.in_err-info.ensures.reads })
+    rw (p.1, p.2) (record { reads = reads_err _ (λ x. gives_code) c.in_err-info.ensures.reads })

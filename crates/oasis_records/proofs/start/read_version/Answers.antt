@@ -1,5 +1,5 @@
-use Rattle.oasis_records.proofs.Codes.{gives_code}
 use Rattle.oasis_records.proofs.Ruling.{reads_go, reads_halt}
+use Rattle.oasis_values.proofs.Codes.{gives_code}
 use Rattle.oasis_values.proofs.Reading.{reads_nothing}
 use Rattle.std.proofs.lemmas.Result.{err_from_is_err_and}
 use Rattle.oasis_records.proofs.start.read_version.Goals as goal

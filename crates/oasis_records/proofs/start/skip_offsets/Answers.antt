@@ -2,7 +2,7 @@ use Rattle.oasis_values.proofs.Reading.{reads_seen, reads_seen_err}
 use Rattle.std.proofs.Common.{true, ◌≡◌, ◌+◌, ◌-◌, suc, [], arith}
 use Rattle.std.proofs.lemmas.Result.{err_from_is_err_and}
 use Rattle.oasis_values.specs.Numbers.{IsUnsigned}
-use Rattle.oasis_values.proofs.Integers.{unsigned_said}
+use Rattle.oasis_values.proofs.Integers.{unsigned_code}
 use Rattle.oasis_values.proofs.Loops.{going_from, going_on, going_err, going_end}
 use Rattle.oasis_records.proofs.start.skip_offsets.Goals as goal
 
@@ -24,7 +24,7 @@ returns-in_err-_offset g c =
     let left : 12 - c.loop-n.n ≡ suc (12 - (c.loop-n.n + 1)) = omega (arith, c.loop-n-test.true) in
     rw (p.1, p.2) (record {
       reads = reads_seen_err (λ _. true)
-          (going_err (12 - (c.loop-n.n + 1)) (λ _. unsigned_said) c.loop-n.invariant.2 left
+          (going_err (12 - (c.loop-n.n + 1)) (λ _. unsigned_code) c.loop-n.invariant.2 left
           c.in_err-_offset.ensures.reads);
     })
 

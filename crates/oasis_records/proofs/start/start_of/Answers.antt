@@ -1,7 +1,7 @@
-use Rattle.oasis_records.proofs.Codes.{seen_code}
 use Rattle.oasis_records.proofs.Others.{flag_code, tables_code}
 use Rattle.oasis_records.proofs.Ruling.{and_then_code, reads_go, reads_stop}
 use Rattle.oasis_records.specs.Starts.{is_here, start}
+use Rattle.oasis_values.proofs.Codes.{seen_code}
 use Rattle.oasis_values.proofs.Reading.{reads_seen, reads_seen_err}
 use Rattle.std.proofs.lemmas.Result.{err_from_is_err_and}
 use Rattle.oasis_records.proofs.start.start_of.Goals as goal

@@ -1,6 +1,6 @@
 use Rattle.std.proofs.Common.{ap, arith, get_or}
 use Rattle.std.proofs.lemmas.Result.{err_from_is_err_and}
-use Rattle.oasis_values.specs.Numbers.{IsByte}
+use Rattle.oasis_values.specs.Numbers.{IsOneByte}
 use Rattle.oasis_values.proofs.Found.{stop_fails, stop_live, byte_front, byte_begun}
 use Rattle.oasis_values.proofs.find.find_byte.Goals as goal
 
@@ -10,7 +10,7 @@ returns-in_err-want_more-clause-finds g c =
     let stops = c.in_err-want_more.ensures.stops in
     rw (p.1, p.2) (
       stop_live c.in_err-want_more.field-0.0 stops.0,
-      λ xs k. stop_fails IsByte 0 c.args.room _ xs
+      λ xs k. stop_fails IsOneByte 0 c.args.room _ xs
           c.in_err-want_more.field-0.0 (omega arith) stops.0 (stops.1 xs k) byte_begun,
     )
 

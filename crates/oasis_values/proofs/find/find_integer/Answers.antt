@@ -1,21 +1,21 @@
-use Rattle.std.proofs.Common.{◌<◌, ◌≤◌, List, ℕ, length, take, Ok, Err, refl, ap, subst, arith}
+use Rattle.std.proofs.Common.{◌<◌, ◌≤◌, ◌^◌, List, ℕ, length, take, Ok, Err, refl, ap, subst, arith}
 use Rattle.std.proofs.lemmas.Result.{err_from_is_err_and}
-use Rattle.oasis_values.specs.Numbers.{IsUnsigned, Continues}
+use Rattle.oasis_values.specs.Numbers.{IsUnsigned, groups, Continues, most_bytes}
 use Rattle.oasis_values.proofs.Found.{hand_front, front_within, breach_fails, stop_fails, stop_live}
 use Rattle.oasis_values.proofs.Found.{hand_begun}
 use Rattle.oasis_values.specs.declared.fault.ValueFault.TheVariants.{IntegerTooLarge}
-use Rattle.oasis_values.proofs.find.find_integer.Goals as goal
 use Rattle.oasis_values.proofs.Reading.{rule_live}
+use Rattle.oasis_values.proofs.find.find_integer.Goals as goal
 
 pub returns-in-Whole-clause-finds : goal.returns-in-Whole-clause-finds
 returns-in-Whole-clause-finds g c = λ xs k.
-    hand_front IsUnsigned c.integer.ahead c.ahead-hand.result.now _ xs c.min-most.result c.in-Whole.len
+    hand_front (IsUnsigned c.args.ignore) c.integer.ahead c.ahead-hand.result.now _ xs c.min-most.result c.in-Whole.len
     (Ok c.in-Whole.value) c.ahead-hand.ensures.value (c.integer.invariant.0 xs k) c.in-Whole.ensures
 
 pub returns-in-Whole-clause-had : goal.returns-in-Whole-clause-had
 returns-in-Whole-clause-had g c =
-    let w = front_within IsUnsigned c.ahead-hand.result.now c.min-most.result c.in-Whole.len (Ok c.in-Whole.value)
-    c.in-Whole.ensures in
+    let w = front_within (IsUnsigned c.args.ignore) c.ahead-hand.result.now c.min-most.result c.in-Whole.len
+    (Ok c.in-Whole.value) c.in-Whole.ensures in
     let l = ap length c.ahead-hand.ensures.value in
     (omega (arith, w.1, l), omega (arith, w.0, c.min-most.ensures))
 
@@ -24,12 +24,14 @@ returns-in-TooLarge-clause-finds g c = (
   rule_live IntegerTooLarge refl,
   λ xs k.
       let f = c.in-TooLarge.ensures in
-      let w = front_within IsUnsigned c.ahead-hand.result.now c.min-most.result 10 (Err IntegerTooLarge) f in
+      let n = c.in-TooLarge.field-0 in
+      let w = front_within (IsUnsigned c.args.ignore) c.ahead-hand.result.now c.min-most.result n
+      (Err IntegerTooLarge) f in
       let l = ap length c.ahead-hand.ensures.value in
-      breach_fails IsUnsigned c.args.room (length c.integer.ahead) 10 xs IntegerTooLarge refl
+      breach_fails (IsUnsigned c.args.ignore) c.args.room (length c.integer.ahead) n xs IntegerTooLarge refl
       (omega (arith, w.0, c.min-most.ensures)) (omega (arith, w.1, l))
-      (hand_front IsUnsigned c.integer.ahead c.ahead-hand.result.now _ xs c.min-most.result 10 (Err IntegerTooLarge)
-      c.ahead-hand.ensures.value (c.integer.invariant.0 xs k) f),
+      (hand_front (IsUnsigned c.args.ignore) c.integer.ahead c.ahead-hand.result.now _ xs c.min-most.result n
+      (Err IntegerTooLarge) c.ahead-hand.ensures.value (c.integer.invariant.0 xs k) f),
 )
 
 pub returns-in_err-want_more-in-Unfinished-clause-finds : goal.returns-in_err-want_more-in-Unfinished-clause-finds
@@ -43,12 +45,14 @@ returns-in_err-want_more-in-Unfinished-clause-finds g c =
     omega (arith, c.min-most.ensures, l) in
     let P : List ℕ → Type 0 = λ l. Continues (take n l) in
     let go = subst P c.ahead-hand.ensures.value c.in-Unfinished.ensures.0 in
-    let Q : List ℕ → Type 0 = λ l. length (take n l) < 10 in
+    let Q : List ℕ → Type 0 = λ l. length (take n l) < most_bytes c.args.ignore in
     let few = subst Q c.ahead-hand.ensures.value c.in-Unfinished.ensures.1 in
+    let G : List ℕ → Type 0 = λ l. groups (take n l) < 2 ^ 64 in
+    let fits = subst G c.ahead-hand.ensures.value c.in-Unfinished.ensures.2 in
     rw (p.1, p.2) (
       stop_live e stops.0,
       λ xs k.
           let known = c.integer.invariant.0 xs k in
-          stop_fails IsUnsigned n c.args.room _ xs e within stops.0 (stops.1 xs known)
-          (hand_begun c.integer.ahead _ xs n known had go few),
+          stop_fails (IsUnsigned c.args.ignore) n c.args.room _ xs e within stops.0 (stops.1 xs known)
+          (hand_begun c.args.ignore c.integer.ahead _ xs n known had go few fits),
     )

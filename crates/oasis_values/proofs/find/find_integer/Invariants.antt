@@ -11,4 +11,4 @@ invariant-integer g l =
     × (g.R.Read.lent l.reader ≡ g.R.Read.lent l.initial.reader)
 
 abbrev pub decreases-integer : goal.decreases-integer
-decreases-integer g l = 10 - min (length l.ahead) l.room
+decreases-integer g l = 256 - min (length l.ahead) l.room

@@ -1,19 +1,11 @@
-use Rattle.std.proofs.Common.{◌≡◌, ◌≤◌, take, get_or, ap, subst, arith}
-use Rattle.oasis_values.specs.Numbers.{Continues}
+use Rattle.std.proofs.Common.{◌≡◌, ◌%◌, ◌≤◌, get_or, arith}
 use Rattle.oasis_values.proofs.Integers.{next_fits, next_unit, more_groups, more_continues, whole_front}
-use Rattle.oasis_values.proofs.Integers.{too_large_front}
+use Rattle.oasis_values.proofs.Integers.{few_bytes}
 use Rattle.oasis_values.proofs.integer.scan_integer.Goals as goal
-
-pub returns-then-byte-gt1 : goal.returns-then-byte-gt1
-returns-then-byte-gt1 c =
-    let nine : c.loop-at.at ≡ 9 = omega arith in
-    too_large_front c.args.bytes.now (omega arith)
-    (subst (λ i. Continues (take i c.args.bytes.now)) nine c.loop-at.invariant.1)
-    (let e = ap (λ i. get_or c.args.bytes.now i 0) nine in omega (arith, e))
 
 pub overflow_add-value : goal.overflow_add-value
 overflow_add-value c =
-    let tenth : c.loop-at.at ≡ 9 → get_or c.args.bytes.now c.loop-at.at 0 ≤ 1 =
+    let tenth : c.loop-at.at ≡ 9 → get_or c.args.bytes.now c.loop-at.at 0 % 128 ≤ 1 =
     λ e. elim c.else-at-eq-MOST_BYTES.branch [
       | goal.else-at-eq-MOST_BYTES-via-then-at-eq-MOST_BYTES+else-byte-gt1 w ↦ omega arith
       | goal.else-at-eq-MOST_BYTES-via-else-at-eq-MOST_BYTES w ↦ absurd (omega arith)
@@ -25,7 +17,7 @@ overflow_add-value c =
 
 pub returns-then-byte-lt-CONTINUES : goal.returns-then-byte-lt-CONTINUES
 returns-then-byte-lt-CONTINUES c =
-    let tenth : c.loop-at.at ≡ 9 → get_or c.args.bytes.now c.loop-at.at 0 ≤ 1 =
+    let tenth : c.loop-at.at ≡ 9 → get_or c.args.bytes.now c.loop-at.at 0 % 128 ≤ 1 =
     λ e. elim c.else-at-eq-MOST_BYTES.branch [
       | goal.else-at-eq-MOST_BYTES-via-then-at-eq-MOST_BYTES+else-byte-gt1 w ↦ omega arith
       | goal.else-at-eq-MOST_BYTES-via-else-at-eq-MOST_BYTES w ↦ absurd (omega arith)
@@ -35,8 +27,8 @@ returns-then-byte-lt-CONTINUES c =
     c.from-digit.ensures in
     let is = more_groups c.args.bytes.now c.loop-at.at c.loop-at.value c.loop-at.unit c.from-digit.result
     c.loop-at-test.true c.loop-at.invariant.2 c.loop-at.invariant.3 c.from-digit.ensures in
-    whole_front c.args.bytes.now c.loop-at.at _ c.loop-at-test.true c.loop-at.invariant.0
-    c.loop-at.invariant.1 is fits c.if-byte-lt-CONTINUES.true
+    whole_front c.args.ignore c.args.bytes.now c.loop-at.at _ c.loop-at-test.true
+    (omega (arith, c.loop-at.invariant.0, (few_bytes c.args.ignore).0)) c.loop-at.invariant.1 is fits c.if-byte-lt-CONTINUES.true
 
 pub loop-at-preserved : goal.loop-at-preserved
 loop-at-preserved c =

@@ -6,7 +6,7 @@ use Rattle.std.proofs.lemmas.List.{take_all, length-replicate}
 use Rattle.oasis_values.specs.Numbers.{IsByte}
 use Rattle.oasis_values.specs.Reals.{IsBytes}
 use Rattle.oasis_values.specs.Reads.{Reads}
-use Rattle.oasis_values.proofs.Integers.{byte_said}
+use Rattle.oasis_values.proofs.Integers.{byte_code}
 use Rattle.oasis_values.proofs.Loops.{Going, going_from, going_on, going_err, going_end}
 use Rattle.oasis_values.proofs.input.Input.bytes_of.Goals as goal
 
@@ -36,7 +36,7 @@ returns-in_err-bytes g c =
     let p = err_from_is_err_and c.from_residual.result c.from_residual.ensures.1 in
     let left : g.row.N - c.loop-n.n ≡ suc (g.row.N - (c.loop-n.n + 1)) = omega (arith, c.loop-n-test.true) in
     rw (p.1, p.2) (record {
-      reads = going_err (g.row.N - (c.loop-n.n + 1)) (λ _. byte_said) c.loop-n.invariant.1 left
+      reads = going_err (g.row.N - (c.loop-n.n + 1)) (λ _. byte_code) c.loop-n.invariant.1 left
           c.in_err-bytes.ensures.reads;
     })
 

@@ -1,7 +1,7 @@
 use Rattle.std.proofs.Common.{◌≡◌, ◌+◌, ◌-◌, suc, sym, ap, ◌∙◌, arith}
 use Rattle.std.proofs.lemmas.Result.{err_from_is_err_and}
 use Rattle.oasis_values.specs.Texts.{IsCharacter}
-use Rattle.oasis_values.proofs.Values.{character_said}
+use Rattle.oasis_values.proofs.Values.{character_code}
 use Rattle.oasis_values.proofs.Loops.{going_as, going_from, going_on, going_err, going_end}
 use Rattle.oasis_values.proofs.input.Input.characters.Goals as goal
 
@@ -29,7 +29,7 @@ returns-in_err-byte g c =
     let p = err_from_is_err_and c.from_residual.result c.from_residual.ensures.1 in
     let left : c.args.len - c.loop-n.n ≡ suc (c.args.len - (c.loop-n.n + 1)) = omega (arith, c.loop-n-test.true) in
     rw (p.1, p.2) (record {
-      reads = going_err (c.args.len - (c.loop-n.n + 1)) (λ _. character_said c.args.kind)
+      reads = going_err (c.args.len - (c.loop-n.n + 1)) (λ _. character_code c.args.kind)
           c.loop-n.invariant.1 left c.in_err-byte.ensures.reads;
     })
 

@@ -3,7 +3,7 @@ use Rattle.oasis_values.specs.Known.{Known, Seen}
 use Rattle.oasis_values.specs.PointLists.{origin}
 use Rattle.oasis_values.specs.Repetitions.{lattice_in_range}
 use Rattle.oasis_values.proofs.Reading.{reads_err, reads_then, reads_seen, reads_seen_err}
-use Rattle.oasis_values.proofs.Places.{placed_said}
+use Rattle.oasis_values.proofs.Places.{placed_code}
 use Rattle.oasis_values.specs.declared.fault.ValueFault.TheVariants.{OutOfRange}
 use Rattle.oasis_values.proofs.input.Input.columns.Goals as goal
 
@@ -13,7 +13,7 @@ returns-in_err-step g c =
     rw (p.1, p.2) (record {
       reads = reads_err
           (λ a. Seen (λ _. a) (Known (lattice_in_range a c.args.count origin 1) OutOfRange))
-          (λ a. placed_said (λ _. a) (lattice_in_range a c.args.count origin 1)) c.in_err-step.ensures.reads;
+          (λ a. placed_code (λ _. a) (lattice_in_range a c.args.count origin 1)) c.in_err-step.ensures.reads;
     })
 
 pub returns-in_err-row : goal.returns-in_err-row

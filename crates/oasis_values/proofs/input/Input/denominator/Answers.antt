@@ -1,8 +1,8 @@
 use Rattle.std.proofs.lemmas.Result.{err_from_is_err_and}
 use Rattle.oasis_values.specs.Known.{Known}
 use Rattle.oasis_values.specs.Reals.{not_zero}
+use Rattle.oasis_values.proofs.Codes.{known_code}
 use Rattle.oasis_values.proofs.Reading.{reads_err, reads_then}
-use Rattle.oasis_values.proofs.Values.{known_said}
 use Rattle.oasis_values.specs.declared.fault.ValueFault.TheVariants.{ZeroDenominator}
 use Rattle.oasis_values.proofs.input.Input.denominator.Goals as goal
 
@@ -11,7 +11,7 @@ returns-in_err-number g c =
     let p = err_from_is_err_and c.from_residual.result c.from_residual.ensures.1 in
     rw (p.1, p.2) (record {
       reads = reads_err (λ n. Known (not_zero n) ZeroDenominator)
-          (λ n. known_said (not_zero n) ZeroDenominator) c.in_err-number.ensures.reads;
+          (λ n. known_code (not_zero n) ZeroDenominator) c.in_err-number.ensures.reads;
     })
 
 pub returns : goal.returns

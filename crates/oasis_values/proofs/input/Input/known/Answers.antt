@@ -8,4 +8,4 @@ returns-in-Some g c = rw c.in-Some.is (record { reads = reads_nothing c.in-Some.
 pub returns-in-None : goal.returns-in-None
 returns-in-None g c =
     rw c.in-None.is
-    (record { reads = reads_refused c.args.rule c.if-self.false refl c.requires refl refl refl; found = tt })
+    (record { reads = reads_refused c.args.rule c.if-self.false refl c.requires refl refl refl refl; found = tt })

@@ -1,9 +1,9 @@
 use Rattle.std.proofs.lemmas.Result.{err_from_is_err_and}
-use Rattle.lvl_io.specs.Spelling.{Then}
 use Rattle.oasis_values.specs.Known.{Known}
 use Rattle.oasis_values.specs.Repetitions.{line_size, IsLineOf}
+use Rattle.oasis_values.specs.Spelling.{Then}
 use Rattle.oasis_values.proofs.Reading.{reads_err, reads_then}
-use Rattle.oasis_values.proofs.Places.{after_line_size_said, line_of_said}
+use Rattle.oasis_values.proofs.Places.{after_line_size_code, line_of_code}
 use Rattle.oasis_values.specs.declared.fault.ValueFault.TheVariants.{RepetitionSize}
 use Rattle.oasis_values.proofs.input.Input.line.Goals as goal
 
@@ -13,7 +13,7 @@ returns-in_err-number g c =
     rw (p.1, p.2) (record {
       reads = reads_err
           (λ d. Then (Known (line_size d) RepetitionSize) (IsLineOf c.args.spacing))
-          (after_line_size_said c.args.spacing) c.in_err-number.ensures.reads;
+          (after_line_size_code c.args.spacing) c.in_err-number.ensures.reads;
     })
 
 pub returns-in_err-count : goal.returns-in_err-count
@@ -23,7 +23,7 @@ returns-in_err-count g c =
     rw (p.1, p.2) (record {
       reads = reads_then
           (λ d. Then (Known (line_size d) RepetitionSize) (IsLineOf c.args.spacing)) c.in_ok-number.ensures.reads
-          (reads_err (IsLineOf c.args.spacing) (line_of_said c.args.spacing) q);
+          (reads_err (IsLineOf c.args.spacing) (line_of_code c.args.spacing) q);
     })
 
 pub returns : goal.returns

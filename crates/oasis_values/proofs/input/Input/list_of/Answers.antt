@@ -1,10 +1,10 @@
 use Rattle.std.proofs.Common.{◌≤◌}
 use Rattle.std.proofs.lemmas.Result.{err_from_is_err_and}
-use Rattle.lvl_io.specs.Spelling.{Then}
 use Rattle.oasis_values.specs.Known.{Known}
 use Rattle.oasis_values.specs.PointLists.{point_count, AreVertices}
+use Rattle.oasis_values.specs.Spelling.{Then}
 use Rattle.oasis_values.proofs.Reading.{reads_err, reads_then}
-use Rattle.oasis_values.proofs.Lists.{after_count_said, vertices_said, some_has}
+use Rattle.oasis_values.proofs.Lists.{after_count_code, vertices_code, some_has}
 use Rattle.oasis_values.specs.declared.fault.ValueFault.TheVariants.{PointCount}
 use Rattle.oasis_values.proofs.input.Input.list_of.Goals as goal
 
@@ -19,7 +19,7 @@ returns-in_err-number g c =
     rw (p.1, p.2) (record {
       reads = reads_err
           (λ n. Then (Known (point_count c.args.purpose c.args.kind n) PointCount)
-          (AreVertices c.args.purpose c.args.kind)) (after_count_said c.args.purpose c.args.kind)
+          (AreVertices c.args.purpose c.args.kind)) (after_count_code c.args.purpose c.args.kind)
           c.in_err-number.ensures.reads;
     })
 
@@ -31,7 +31,7 @@ returns-in_err-count g c =
       reads = reads_then
           (λ n. Then (Known (point_count c.args.purpose c.args.kind n) PointCount)
           (AreVertices c.args.purpose c.args.kind)) c.in_ok-number.ensures.reads
-          (reads_err (AreVertices c.args.purpose c.args.kind) (vertices_said c.args.purpose c.args.kind) q);
+          (reads_err (AreVertices c.args.purpose c.args.kind) (vertices_code c.args.purpose c.args.kind) q);
     })
 
 pub returns : goal.returns

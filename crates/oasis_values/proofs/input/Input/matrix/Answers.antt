@@ -1,10 +1,10 @@
 use Rattle.std.proofs.lemmas.Result.{err_from_is_err_and}
-use Rattle.lvl_io.specs.Spelling.{Then}
 use Rattle.oasis_values.specs.Known.{Known}
 use Rattle.oasis_values.specs.Numbers.{IsUnsigned}
 use Rattle.oasis_values.specs.Repetitions.{matrix_size, IsMatrixOf}
+use Rattle.oasis_values.specs.Spelling.{Then}
 use Rattle.oasis_values.proofs.Reading.{reads_err, reads_then}
-use Rattle.oasis_values.proofs.Places.{after_columns_said, after_rows_said, matrix_of_said}
+use Rattle.oasis_values.proofs.Places.{after_columns_code, after_rows_code, matrix_of_code}
 use Rattle.oasis_values.specs.declared.fault.ValueFault.TheVariants.{RepetitionSize}
 use Rattle.oasis_values.proofs.input.Input.matrix.Goals as goal
 
@@ -15,7 +15,7 @@ returns-in_err-columns g c =
       reads = reads_err
           (λ d. Then IsUnsigned
           (λ e. Then (Known (matrix_size d e) RepetitionSize) (IsMatrixOf c.args.first c.args.second)))
-          (after_columns_said c.args.first c.args.second) c.in_err-columns.ensures.reads;
+          (after_columns_code c.args.first c.args.second) c.in_err-columns.ensures.reads;
     })
 
 pub returns-in_err-rows : goal.returns-in_err-rows
@@ -28,7 +28,7 @@ returns-in_err-rows g c =
           c.in_ok-columns.ensures.reads
           (reads_err
           (λ e. Then (Known (matrix_size c.in_ok-columns.columns e) RepetitionSize)
-          (IsMatrixOf c.args.first c.args.second)) (after_rows_said c.args.first c.args.second c.in_ok-columns.columns)
+          (IsMatrixOf c.args.first c.args.second)) (after_rows_code c.args.first c.args.second c.in_ok-columns.columns)
           c.in_err-rows.ensures.reads);
     })
 
@@ -44,7 +44,7 @@ returns-in_err-size g c =
           (reads_then
           (λ e. Then (Known (matrix_size c.in_ok-columns.columns e) RepetitionSize)
           (IsMatrixOf c.args.first c.args.second)) c.in_ok-rows.ensures.reads
-          (reads_err (IsMatrixOf c.args.first c.args.second) (matrix_of_said c.args.first c.args.second) q));
+          (reads_err (IsMatrixOf c.args.first c.args.second) (matrix_of_code c.args.first c.args.second) q));
     })
 
 pub returns : goal.returns

@@ -1,10 +1,10 @@
 use Rattle.std.proofs.lemmas.Result.{err_from_is_err_and}
-use Rattle.lvl_io.specs.Spelling.{Then}
 use Rattle.oasis_values.specs.Known.{Known, Seen}
 use Rattle.oasis_values.specs.PointLists.{origin}
 use Rattle.oasis_values.specs.Repetitions.{lattice_in_range, IsShift}
+use Rattle.oasis_values.specs.Spelling.{Then}
 use Rattle.oasis_values.proofs.Reading.{reads_err, reads_then, reads_seen, reads_seen_err}
-use Rattle.oasis_values.proofs.Places.{after_across_said, placed_said}
+use Rattle.oasis_values.proofs.Places.{after_across_code, placed_code}
 use Rattle.oasis_values.specs.declared.fault.ValueFault.TheVariants.{OutOfRange}
 use Rattle.oasis_values.specs.declared.repetition.Repetition.TheVariants.{New}
 use Rattle.oasis_values.proofs.input.Input.matrix_of.Goals as goal
@@ -16,7 +16,7 @@ returns-in_err-across g c =
       reads = reads_err
           (λ a. Then (IsShift c.args.second 1 origin)
           (λ b. Seen New (Known (lattice_in_range a c.args.size.columns b c.args.size.rows) OutOfRange)))
-          (after_across_said c.args.second c.args.size) c.in_err-across.ensures.reads;
+          (after_across_code c.args.second c.args.size) c.in_err-across.ensures.reads;
     })
 
 pub returns-in_err-up : goal.returns-in_err-up
@@ -30,7 +30,7 @@ returns-in_err-up g c =
           (reads_err
           (λ b. Seen New
           (Known (lattice_in_range c.in_ok-across.across c.args.size.columns b c.args.size.rows) OutOfRange))
-          (λ b. placed_said New (lattice_in_range c.in_ok-across.across c.args.size.columns b c.args.size.rows))
+          (λ b. placed_code New (lattice_in_range c.in_ok-across.across c.args.size.columns b c.args.size.rows))
           c.in_err-up.ensures.reads);
     })
 

@@ -1,8 +1,8 @@
 use Rattle.std.proofs.lemmas.Result.{err_from_is_err_and}
 use Rattle.oasis_values.specs.Known.{Known}
 use Rattle.oasis_values.specs.PointLists.{walked}
+use Rattle.oasis_values.proofs.Codes.{known_code}
 use Rattle.oasis_values.proofs.Reading.{reads_err, reads_then}
-use Rattle.oasis_values.proofs.Values.{known_said}
 use Rattle.oasis_values.specs.declared.fault.ValueFault.TheVariants.{OutOfRange}
 use Rattle.oasis_values.proofs.input.Input.next_vertex.Goals as goal
 
@@ -11,7 +11,7 @@ returns-in_err-by g c =
     let p = err_from_is_err_and c.from_residual.result c.from_residual.ensures.1 in
     rw (p.1, p.2) (record {
       reads = reads_err (λ d. Known (walked c.args.walk d) OutOfRange)
-          (λ d. known_said (walked c.args.walk d) OutOfRange) c.in_err-by.ensures.reads;
+          (λ d. known_code (walked c.args.walk d) OutOfRange) c.in_err-by.ensures.reads;
     })
 
 pub returns : goal.returns

@@ -1,8 +1,9 @@
 use Rattle.std.proofs.lemmas.Result.{err_from_is_err_and}
 use Rattle.oasis_values.specs.Known.{Seen}
 use Rattle.oasis_values.specs.Reals.{IsDenominator}
+use Rattle.oasis_values.proofs.Codes.{seen_code}
 use Rattle.oasis_values.proofs.Reading.{reads_err, reads_then, reads_seen, reads_seen_err}
-use Rattle.oasis_values.proofs.Values.{seen_said, denominator_said}
+use Rattle.oasis_values.proofs.Values.{denominator_code}
 use Rattle.oasis_values.specs.declared.number.Real.TheVariants.{Whole, NegWhole, Reciprocal, NegReciprocal, Ratio}
 use Rattle.oasis_values.specs.declared.number.Real.TheVariants.{NegRatio, Four, Eight}
 use Rattle.oasis_values.proofs.input.Input.real_of.Goals as goal
@@ -55,7 +56,7 @@ returns-in_err-above-in-Ratio g c =
     c.from_residual-in_err-above-in-Ratio.ensures.1 in
     rw (p.1, p.2, c.in-Ratio.is) (record {
       reads = reads_err (λ n. Seen (Ratio n) IsDenominator)
-          (λ n. seen_said (Ratio n) IsDenominator denominator_said) c.in_err-above-in-Ratio.ensures.reads;
+          (λ n. seen_code (Ratio n) denominator_code) c.in_err-above-in-Ratio.ensures.reads;
     })
 
 pub returns-in_err-below-in-Ratio : goal.returns-in_err-below-in-Ratio
@@ -82,7 +83,7 @@ returns-in_err-above-in-NegRatio g c =
     rw (p.1, p.2, c.in-NegRatio.is)
     (record {
       reads = reads_err (λ n. Seen (NegRatio n) IsDenominator)
-          (λ n. seen_said (NegRatio n) IsDenominator denominator_said) c.in_err-above-in-NegRatio.ensures.reads;
+          (λ n. seen_code (NegRatio n) denominator_code) c.in_err-above-in-NegRatio.ensures.reads;
     })
 
 pub returns-in_err-below-in-NegRatio : goal.returns-in_err-below-in-NegRatio

@@ -3,7 +3,7 @@ use Rattle.std.proofs.lemmas.Result.{err_from_is_err_and}
 use Rattle.oasis_values.specs.PointLists.{origin}
 use Rattle.oasis_values.specs.Repetitions.{IsShift}
 use Rattle.oasis_values.proofs.Reading.{reads_seen_as, reads_seen_err, reads_stopped}
-use Rattle.oasis_values.proofs.Places.{shift_said, after_origin, starts_at_zero}
+use Rattle.oasis_values.proofs.Places.{shift_code, after_origin, starts_at_zero}
 use Rattle.oasis_values.proofs.Loops.{going_from, going_on, going_err, going_end}
 use Rattle.oasis_values.specs.declared.repetition.Repetition.TheVariants.{New}
 use Rattle.oasis_values.proofs.input.Input.shifts.Goals as goal
@@ -35,7 +35,7 @@ returns-in_err-at g c =
     let left : c.args.count - c.loop-n.n ≡ suc (c.args.count - (c.loop-n.n + 1)) = omega (arith, c.loop-n-test.true) in
     rw (p.1, p.2) (record {
       reads = reads_seen_err after_origin
-          (going_err (c.args.count - (c.loop-n.n + 1)) (shift_said c.args.spacing c.args.grid)
+          (going_err (c.args.count - (c.loop-n.n + 1)) (shift_code c.args.spacing c.args.grid)
           c.loop-n.invariant.1 left c.in_err-at.ensures.reads);
     })
 

@@ -1,11 +1,11 @@
 use Rattle.std.proofs.lemmas.Result.{err_from_is_err_and}
-use Rattle.lvl_io.specs.Spelling.{Then}
 use Rattle.std.proofs.Common.{◌≤◌}
 use Rattle.oasis_values.specs.Known.{Known}
 use Rattle.oasis_values.specs.Repetitions.{list_size, IsSpreadOf}
+use Rattle.oasis_values.specs.Spelling.{Then}
 use Rattle.oasis_values.proofs.Reading.{reads_err, reads_then}
 use Rattle.oasis_values.proofs.Lists.{some_has}
-use Rattle.oasis_values.proofs.Places.{after_list_size_said, spread_of_said}
+use Rattle.oasis_values.proofs.Places.{after_list_size_code, spread_of_code}
 use Rattle.oasis_values.specs.declared.fault.ValueFault.TheVariants.{RepetitionSize}
 use Rattle.oasis_values.proofs.input.Input.spread.Goals as goal
 
@@ -20,7 +20,7 @@ returns-in_err-number g c =
     rw (p.1, p.2) (record {
       reads = reads_err
           (λ d. Then (Known (list_size d) RepetitionSize) (IsSpreadOf c.args.spacing c.args.gridded))
-          (after_list_size_said c.args.spacing c.args.gridded) c.in_err-number.ensures.reads;
+          (after_list_size_code c.args.spacing c.args.gridded) c.in_err-number.ensures.reads;
     })
 
 pub returns-in_err-count : goal.returns-in_err-count
@@ -31,7 +31,7 @@ returns-in_err-count g c =
       reads = reads_then
           (λ d. Then (Known (list_size d) RepetitionSize) (IsSpreadOf c.args.spacing c.args.gridded))
           c.in_ok-number.ensures.reads
-          (reads_err (IsSpreadOf c.args.spacing c.args.gridded) (spread_of_said c.args.spacing c.args.gridded) q);
+          (reads_err (IsSpreadOf c.args.spacing c.args.gridded) (spread_of_code c.args.spacing c.args.gridded) q);
     })
 
 pub returns : goal.returns

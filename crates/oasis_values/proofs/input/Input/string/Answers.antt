@@ -1,9 +1,9 @@
 use Rattle.std.proofs.lemmas.Result.{err_from_is_err_and}
-use Rattle.lvl_io.specs.Spelling.{Then}
 use Rattle.oasis_values.specs.Known.{Known}
+use Rattle.oasis_values.specs.Spelling.{Then}
 use Rattle.oasis_values.specs.Texts.{text_length, AreCharacters}
 use Rattle.oasis_values.proofs.Reading.{reads_err, reads_then, reads_refutes}
-use Rattle.oasis_values.proofs.Values.{after_length_said, characters_said, string_free}
+use Rattle.oasis_values.proofs.Values.{after_length_code, characters_code, string_code}
 use Rattle.oasis_values.specs.declared.fault.ValueFault.TheVariants.{StringByte}
 use Rattle.oasis_values.proofs.input.Input.string.Goals as goal
 
@@ -11,8 +11,8 @@ pub returns-in_err-number : goal.returns-in_err-number
 returns-in_err-number g c =
     let p = err_from_is_err_and c.from_residual.result c.from_residual.ensures.1 in
     let read = reads_err (λ n. Then (Known (text_length c.args.kind c.args.most n) StringByte)
-    (AreCharacters c.args.kind)) (after_length_said c.args.kind c.args.most) c.in_err-number.ensures.reads in
-    rw (p.1, p.2) (record { reads = read; none = reads_refutes (string_free c.args.kind c.args.most) read })
+    (AreCharacters c.args.kind)) (after_length_code c.args.kind c.args.most) c.in_err-number.ensures.reads in
+    rw (p.1, p.2) (record { reads = read; none = reads_refutes (string_code c.args.kind c.args.most) read })
 
 pub returns-in_err-len : goal.returns-in_err-len
 returns-in_err-len g c =
@@ -20,8 +20,8 @@ returns-in_err-len g c =
     let q = rw c.text_length.ensures at c.in_err-len.ensures.reads in
     let read = reads_then (λ n. Then (Known (text_length c.args.kind c.args.most n) StringByte)
     (AreCharacters c.args.kind)) c.in_ok-number.ensures.reads
-    (reads_err (AreCharacters c.args.kind) (characters_said c.args.kind) q) in
-    rw (p.1, p.2) (record { reads = read; none = reads_refutes (string_free c.args.kind c.args.most) read })
+    (reads_err (AreCharacters c.args.kind) (characters_code c.args.kind) q) in
+    rw (p.1, p.2) (record { reads = read; none = reads_refutes (string_code c.args.kind c.args.most) read })
 
 pub returns : goal.returns
 returns g c =
@@ -29,4 +29,4 @@ returns g c =
     let read = reads_then (λ n. Then (Known (text_length c.args.kind c.args.most n) StringByte)
     (AreCharacters c.args.kind)) c.in_ok-number.ensures.reads
     (reads_then (AreCharacters c.args.kind) q c.characters.ensures.reads) in
-    record { reads = read; none = reads_refutes (string_free c.args.kind c.args.most) read }
+    record { reads = read; none = reads_refutes (string_code c.args.kind c.args.most) read }

@@ -2,7 +2,7 @@ use Rattle.std.proofs.Common.{◌≡◌, ◌+◌, ◌-◌, suc, [], ◌∷◌, �
 use Rattle.std.proofs.lemmas.Result.{err_from_is_err_and}
 use Rattle.oasis_values.specs.PointLists.{origin, last_of, closed, implied, if_any, start_of, IsNext}
 use Rattle.oasis_values.proofs.Reading.{reads_seen_as, reads_seen_err}
-use Rattle.oasis_values.proofs.Lists.{next_said, last_more}
+use Rattle.oasis_values.proofs.Lists.{next_code, last_more}
 use Rattle.oasis_values.proofs.Loops.{going_from, going_on, going_err, going_end, going_at}
 use Rattle.oasis_values.proofs.input.Input.vertices.Goals as goal
 
@@ -37,7 +37,7 @@ returns-in_err-walk g c =
     let left : c.args.count - c.loop-n.n ≡ suc (c.args.count - (c.loop-n.n + 1)) = omega (arith, c.loop-n-test.true) in
     rw (p.1, p.2) (record {
       reads = reads_seen_err (closed c.args.purpose c.args.kind)
-          (going_err (c.args.count - (c.loop-n.n + 1)) (next_said c.args.kind) c.loop-n.invariant.1 left
+          (going_err (c.args.count - (c.loop-n.n + 1)) (next_code c.args.kind) c.loop-n.invariant.1 left
           c.in_err-walk.ensures.reads);
     })
 

@@ -1,0 +1,42 @@
+//! TEXT: it draws nothing, and sets the modal repetition.
+ghost use Rattle.std.specs.Prelude.{◌≡◌, List, OnOk, IfErr};
+ghost use Rattle.oasis_records.specs.declared.record.Record.{Record as ARecord};
+ghost use Rattle.oasis_figures.specs.Keeping.{StandsFor};
+ghost use Rattle.oasis_figures.specs.Rules.{Breaches, BreachesNone};
+ghost use Rattle.oasis_figures.specs.inside.Taking.{a_text, Takes};
+
+use crate::drawn::Drawn;
+use crate::modal::Modal;
+use crate::repetition::{after, is_known};
+use crate::rule::FigureRule;
+use crate::variable::Variable;
+use lvl_refusal::Refusal;
+use oasis_values::Repetition;
+
+impl Modal {
+    /// Whether a text breaches a rule: it may use a repetition that has no value.
+    fn test_text(&self, repetition: &Option<Repetition>) -> Result<(), FigureRule>
+        ensures ok { OnOk result ((earlier : List ARecord) → StandsFor self.now earlier
+            → BreachesNone earlier (a_text repetition.now)) }
+        ensures err { IfErr result (λ rule. (earlier : List ARecord) → StandsFor self.now earlier
+            → Breaches earlier (a_text repetition.now) rule) }
+    {
+        if !is_known(repetition, &self.repetition) {
+            return Err(FigureRule::Undefined(Variable::Repetition));
+        }
+        Ok(())
+    }
+
+    /// Takes a TEXT. Its own modal variables aren't kept, since nothing that is drawn depends on them.
+    pub(crate) fn take_text(
+        &mut self,
+        repetition: Option<Repetition>,
+    ) -> Result<Option<Drawn>, Refusal<FigureRule>>
+        ensures { Takes self.old (a_text repetition) result self.new }
+    {
+        self.test_text(&repetition)?;
+        self.is_repeated = repetition.is_some();
+        self.repetition = after(repetition, self.repetition.take());
+        Ok(None)
+    }
+}

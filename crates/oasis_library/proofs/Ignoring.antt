@@ -1,0 +1,33 @@
+-- What is ignored changes no answer that was had without it.
+use Rattle.std.proofs.Common.{ℕ, List}
+use Rattle.lvl_path.specs.Figure.{Figure}
+use Rattle.lvl_cells.specs.Cells.{PlainCell, Rings}
+use Rattle.lvl_ignore.specs.Ignored.{IsWithin}
+use Rattle.lvl_ignore.specs.declared.ignore.Ignore.{Ignore}
+use Rattle.oasis_stream.proofs.Growing.{whole_grows}
+use Rattle.oasis_library.specs.Library.{SpellsLibrary, IsRead}
+use Rattle.oasis_library.specs.declared.head.OasisHead.{OasisHead}
+use Rattle.oasis_library.proofs.Readable.{law_only}
+
+-- what is spelled for who ignores less is spelled for who ignores more: the same library and head
+pub library_grows : (less more : Ignore) → IsWithin less more → (bytes : List ℕ) (cells : List (PlainCell Figure))
+    (h : OasisHead) → SpellsLibrary less bytes cells h → SpellsLibrary more bytes cells h
+library_grows less more within bytes cells h p =
+    record {
+      items = p.items;
+      whole = whole_grows less more within bytes p.items p.whole;
+      cells_are = p.cells_are;
+      head_is = p.head_is;
+    }
+
+-- what was read by who ignores less is what who ignores more reads
+pub read_grows : (less more : Ignore) → IsWithin less more → (bytes : List ℕ) (found : List (PlainCell Rings))
+    (h : OasisHead) → IsRead less bytes found h → IsRead more bytes found h
+read_grows less more within bytes found h p =
+    let spelled = library_grows less more within bytes p.cells h p.spelled in
+    record {
+      cells = p.cells;
+      spelled = spelled;
+      only = λ others g q. law_only more bytes p.cells others h g spelled q;
+      kept_as = p.kept_as;
+    }

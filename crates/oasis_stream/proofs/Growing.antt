@@ -1,0 +1,98 @@
+-- What is spelled for who ignores less is spelled for who ignores more.
+use Rattle.std.proofs.Common.{◌≡◌, ℕ, Bool, true, false, if◌then◌else◌, List, [], ◌∷◌, ◌++◌, Result, Ok, Err, refl, sym}
+use Rattle.std.proofs.Common.{subst}
+use Rattle.lvl_io.specs.Spelling.{UnlessBreached}
+use Rattle.lvl_grammar.specs.Front.{SpellsAll, FollowAll, SpellsWhole}
+use Rattle.lvl_ignore.specs.Ignored.{IsWithin}
+use Rattle.lvl_ignore.specs.declared.ignore.Ignore.{Ignore}
+use Rattle.oasis_values.specs.Numbers.{IsUnsigned}
+use Rattle.oasis_values.proofs.Codes.{seen_code}
+use Rattle.oasis_values.proofs.Integers.{unsigned_code}
+use Rattle.oasis_values.specs.declared.fault.ValueFault.{ValueFault}
+use Rattle.oasis_records.specs.Magic.{magic as magic_bytes}
+use Rattle.oasis_records.specs.Sizes.{Sized}
+use Rattle.oasis_records.specs.declared.fault.RecordRule.{RecordRule}
+use Rattle.oasis_records.specs.declared.measured.Measured.{Measured}
+use Rattle.oasis_records.specs.declared.record.Record.{Record}
+use Rattle.oasis_records.specs.declared.record_type.RecordType.{RecordType}
+use Rattle.oasis_records.proofs.Ignored.{type_grows}
+use Rattle.oasis_records.proofs.Sizes.{sized_code}
+use Rattle.oasis_records.proofs.Whole.{magic_code}
+use Rattle.oasis_stream.specs.Items.{Item, records}
+use Rattle.oasis_stream.specs.Order.{at_end, is_expected, type_by, type_after}
+use Rattle.oasis_stream.specs.Front.{of_magic, IsTyped, IsTypedAfter, IsNext, IsItem, oasis}
+use Rattle.oasis_stream.specs.declared.fault.OasisKind.{OasisKind}
+use Rattle.oasis_stream.specs.declared.fault.OasisKind.TheVariants.{Record as OfRecord, Unexpected}
+use Rattle.oasis_stream.proofs.Items.{typed_code}
+
+none_typed : (b : Bool) (x y : OasisKind) (t : RecordType)
+    → ◌≡◌ {A = Result RecordType OasisKind} (if b then Err x else Err y) (Ok t) → ⊥
+none_typed true x y t e = (let h : Err x ≡ Ok t = e in cc)
+none_typed false x y t e = (let h : Err y ≡ Ok t = e in cc)
+
+by_grows : (rs : List Record) (id : ℕ) (r s : Result RecordType RecordRule) (t : RecordType)
+    → ((k : RecordType) → r ≡ Ok k → s ≡ Ok k) → type_by rs id r ≡ Ok t → type_by rs id s ≡ Ok t
+by_grows rs id (Ok k) s t h e = subst (λ u. type_by rs id u ≡ Ok t) (sym (h k refl)) e
+by_grows rs id (Err f) s t h e = absurd (none_typed (is_expected rs (Err f)) (OfRecord f) (Unexpected id) t e)
+
+typed_grows : (less more : Ignore) → IsWithin less more → (b : Bool) (n : ℕ) (r s : Result RecordType OasisKind)
+    → ((k : RecordType) → r ≡ Ok k → s ≡ Ok k) → (bytes : List ℕ) (i : Item)
+    → IsTyped b n r less bytes (Ok (Ok i)) → IsTyped b n s more bytes (Ok (Ok i))
+typed_grows less more within b n (Ok k) s h bytes i p =
+    subst (λ u. IsTyped b n u more bytes (Ok (Ok i))) (sym (h k refl))
+    ((typed_code b n (Ok k)).grows less more within bytes (Ok i) p)
+typed_grows less more within b n (Err k) s h bytes i p = absurd (let e : Ok (Ok i) ≡ Ok (Err k) = p.1 in cc)
+
+next_grows : (less more : Ignore) → IsWithin less more → (rs : List Record) (bytes first second : List ℕ) (i : Item)
+    (m : Result Measured ValueFault) → Sized IsUnsigned less first m
+    → UnlessBreached (λ id. IsTypedAfter rs id less) m second (Ok (Ok i)) → bytes ≡ first ++ second
+    → IsNext rs more bytes (Ok (Ok i))
+next_grows less more within rs bytes first second i (Ok id) p q e =
+    record {
+      value = Ok id;
+      first = first;
+      second = second;
+      first_says = (sized_code unsigned_code).grows less more within first id p;
+      second_says = typed_grows less more within (at_end rs) id.len (type_after less rs id.value)
+          (type_after more rs id.value)
+          (λ k h. by_grows rs id.value _ _ k (type_grows less more within id.value) h) second i q;
+      joined = e;
+    }
+next_grows less more within rs bytes first second i (Err f) p q e = absurd (let h : Ok (Ok i) ≡ Err f = q.1 in cc)
+
+item_grows : (less more : Ignore) → IsWithin less more → (before : List Item) (bytes : List ℕ) (i : Item)
+    → IsItem before less bytes (Ok (Ok i)) → IsItem before more bytes (Ok (Ok i))
+item_grows less more within [] bytes i p =
+    (seen_code of_magic (magic_code magic_bytes)).grows less more within bytes (Ok i) p
+item_grows less more within (j ∷ js) bytes i p =
+    next_grows less more within (records (j ∷ js)) bytes p.first p.second i p.value p.first_says p.second_says p.joined
+
+all_grow : (less more : Ignore) → IsWithin less more → (before is : List Item) (bytes : List ℕ)
+    → SpellsAll (oasis less) before bytes is → SpellsAll (oasis more) before bytes is
+all_grow less more within before [] bytes p = p
+all_grow less more within before (i ∷ is) bytes p = (
+  p.0,
+  p.1,
+  item_grows less more within before p.0 i p.2,
+  all_grow less more within (before ++ i ∷ []) is p.1 p.3,
+  p.4,
+)
+
+-- which item may follow doesn't depend on what is ignored
+follow_all : (less more : Ignore) (before is : List Item) → FollowAll (oasis less) before is
+    → FollowAll (oasis more) before is
+follow_all less more before [] p = p
+follow_all less more before (i ∷ is) p = (p.0, follow_all less more (before ++ i ∷ []) is p.1)
+
+-- a whole file is one for who ignores more, of the same items
+pub whole_grows : (less more : Ignore) → IsWithin less more → (bytes : List ℕ) (is : List Item)
+    → SpellsWhole (oasis less) bytes is → SpellsWhole (oasis more) bytes is
+whole_grows less more within bytes is p =
+    record {
+      front = record {
+        spelled = all_grow less more within [] is bytes p.front.spelled;
+        followed = follow_all less more [] is p.front.followed;
+        within = p.front.within;
+      };
+      whole = p.whole;
+    }

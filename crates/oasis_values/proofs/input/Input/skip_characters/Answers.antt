@@ -1,0 +1,38 @@
+use Rattle.std.proofs.Common.{◌≡◌, ◌+◌, ◌-◌, suc, [], arith}
+use Rattle.std.proofs.lemmas.Result.{err_from_is_err_and}
+use Rattle.oasis_values.specs.Texts.{IsCharacter}
+use Rattle.oasis_values.proofs.Loops.{going_from, going_on, going_err, going_end}
+use Rattle.oasis_values.proofs.Reading.{reads_seen, reads_seen_err}
+use Rattle.oasis_values.proofs.Values.{character_code}
+use Rattle.oasis_values.proofs.input.Input.skip_characters.Goals as goal
+
+pub loop-n-init : goal.loop-n-init
+loop-n-init g c = (
+  0,
+  [],
+  going_from (λ _. IsCharacter c.args.kind) (λ x. x) c.args.len 0 c.args.self.now (omega arith) c.requires,
+)
+
+pub loop-n-preserved : goal.loop-n-preserved
+loop-n-preserved g c =
+    let left : c.args.len - c.loop-n.n ≡ suc (c.args.len - (c.loop-n.n + 1)) = omega (arith, c.loop-n-test.true) in (
+      c.in_ok-_character._character,
+      _,
+      going_on (c.args.len - (c.loop-n.n + 1)) c.loop-n.invariant.2 left c.in_ok-_character.ensures.reads,
+    )
+
+pub returns-in_err-_character : goal.returns-in_err-_character
+returns-in_err-_character g c =
+    let p = err_from_is_err_and c.from_residual.result c.from_residual.ensures.1 in
+    let left : c.args.len - c.loop-n.n ≡ suc (c.args.len - (c.loop-n.n + 1)) = omega (arith, c.loop-n-test.true) in
+    rw (p.1, p.2) (record {
+      reads = reads_seen_err (λ _. tt)
+          (going_err (c.args.len - (c.loop-n.n + 1)) (λ _. character_code c.args.kind) c.loop-n.invariant.2 left
+          c.in_err-_character.ensures.reads);
+    })
+
+pub returns : goal.returns
+returns g c =
+    record {
+      reads = reads_seen (λ _. tt) (going_end c.loop-n.invariant.2 (omega (arith, c.loop-n-test.false)));
+    }
