@@ -317,7 +317,7 @@ hull v w = record {
   y1 = int_max v.y1 w.y1;
 }
 
-hull_first : (v w : Window) (q : Square) → IsWithin v q → IsWithin (hull v w) q
+pub hull_first : (v w : Window) (q : Square) → IsWithin v q → IsWithin (hull v w) q
 hull_first v w q h = record {
   x_from = omega (arith, ints, clamps, h.x_from);
   x_below = omega (arith, ints, clamps, h.x_below);
@@ -325,7 +325,7 @@ hull_first v w q h = record {
   y_below = omega (arith, ints, clamps, h.y_below);
 }
 
-hull_second : (v w : Window) (q : Square) → IsWithin w q → IsWithin (hull v w) q
+pub hull_second : (v w : Window) (q : Square) → IsWithin w q → IsWithin (hull v w) q
 hull_second v w q h = record {
   x_from = omega (arith, ints, clamps, h.x_from);
   x_below = omega (arith, ints, clamps, h.x_below);
@@ -388,7 +388,7 @@ fewer_columns x end last further inside =
     up_rises (last -ℤ end) (last -ℤ x) (omega (arith, ints, inside)) (omega (arith, ints, further))
 
 -- what a window and the one that is seen share is seen, and all that is seen of the window
-seen_shown : (v : Option Window) (w : Window) (q : Square) → IsWithin (seen_of v w) q → IsShown v q
+pub seen_shown : (v : Option Window) (w : Window) (q : Square) → IsWithin (seen_of v w) q → IsShown v q
 seen_shown None w q h = tt
 seen_shown (Some v) w q h = record {
   x_from = omega (arith, ints, clamps, h.x_from);
@@ -397,7 +397,7 @@ seen_shown (Some v) w q h = record {
   y_below = omega (arith, ints, clamps, h.y_below);
 }
 
-shown_seen : (v : Option Window) (w : Window) (q : Square) → IsShown v q → IsWithin w q → IsWithin (seen_of v w) q
+pub shown_seen : (v : Option Window) (w : Window) (q : Square) → IsShown v q → IsWithin w q → IsWithin (seen_of v w) q
 shown_seen None w q seen h = h
 shown_seen (Some v) w q seen h = record {
   x_from = omega (arith, ints, clamps, h.x_from, seen.x_from);

@@ -3,3 +3,4 @@ pub mod Covering
 pub mod Knowing
 pub mod Same
 pub mod InStrips
+pub mod InWindows

@@ -1,4 +1,5 @@
 pub mod Flats
 pub mod Alike
 pub mod Tops
+pub mod Parts
 pub mod inside

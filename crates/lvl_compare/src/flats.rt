@@ -57,7 +57,7 @@ pub fn first_difference_in(
 }
 
 /// The lesser of two Layers, or the one that is there.
-pub(crate) fn lesser(first: Option<Layer>, second: Option<Layer>) -> Option<Layer>
+pub fn lesser(first: Option<Layer>, second: Option<Layer>) -> Option<Layer>
     ensures { IsLesser first second result }
 {
     match (first, second) {
@@ -68,7 +68,7 @@ pub(crate) fn lesser(first: Option<Layer>, second: Option<Layer>) -> Option<Laye
 }
 
 /// The index after the Layer's, if it is at this index.
-pub(crate) fn past(flat: &Flat, place: usize, layer: Layer) -> usize
+pub fn past(flat: &Flat, place: usize, layer: Layer) -> usize
     ensures { drop result flat.now ≡ behind layer (drop place flat.now) }
 {
     if place < flat.len() && stands_at(flat, place, layer) {

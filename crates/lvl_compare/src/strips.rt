@@ -22,7 +22,7 @@ use std::alloc::{AllocError, Global};
 const MOST_TRIES: u32 = 256;
 
 /// A Layer, a square that one side alone covers there, and the side.
-type Found = (Layer, Square, Side);
+pub(crate) type Found = (Layer, Square, Side);
 
 /// How wide the next strip may be, how many points a side's rings may have in it, and how many strips
 /// may be tried with that many.
@@ -82,7 +82,7 @@ fn precedes(first: &Found, second: &Found) -> bool
 }
 
 /// The first of the two that are found.
-fn least(first: Option<Found>, second: Option<Found>) -> Option<Found>
+pub(crate) fn least(first: Option<Found>, second: Option<Found>) -> Option<Found>
     ensures { IsLeast first second result }
 {
     match (first, second) {
@@ -110,7 +110,7 @@ fn joined(first: Window, second: Window) -> Window
 }
 
 /// What two windows share, if the second is given; else the first.
-fn shared(first: Window, second: Option<&Window>) -> Window
+pub(crate) fn shared(first: Window, second: Option<&Window>) -> Window
     ensures { result ≡ seen_of (window_of second.entry) first }
 {
     let Some(second) = second else {
@@ -231,6 +231,34 @@ fn first_strip(
     )
 }
 
+/// What two layouts differ in within a window, which is looked at strip by strip.
+pub(crate) fn difference_within(
+    alloc: Global,
+    first: &Fitted,
+    second: &Fitted,
+    view: &View,
+    window: Window,
+    most: usize,
+) -> Result<Option<Found>, AllocError>
+    ensures { IfOk result (IsFoundIn (TopCovers first.now)
+        (IsMoved view.now.pairs (TopCovers second.now)) (IsWithin window)) }
+{
+    let mut rest = window;
+    let mut pace = Pace {
+        width: width_of(&rest),
+        points: most,
+        tries: MOST_TRIES,
+    };
+    let mut found = None;
+    while rest.x0 < rest.x1 {
+        let strip = first_strip(alloc, first, second, view, &rest, pace)?;
+        found = least(found, strip.found);
+        rest.x0 = strip.end;
+        pace = strip.pace;
+    }
+    Ok(found)
+}
+
 /// The first Layer, and on it the first square, by y and then x, that one of two layouts alone draws,
 /// with its side; None where both draw the same squares on every Layer. The second is seen with its Layers
 /// mapped by the view, and where the view has a window only its squares count.
@@ -251,18 +279,6 @@ pub fn difference_by_strips(
         (λ at. IsFirstDifference (IsShown view.now.window) (TopCovers first.now)
         (IsMoved view.now.pairs (TopCovers second.now)) at.0 at.1 at.2)) }
 {
-    let mut rest = shared(joined(first.extent(), second.extent()), view.window());
-    let mut pace = Pace {
-        width: width_of(&rest),
-        points: most,
-        tries: MOST_TRIES,
-    };
-    let mut found = None;
-    while rest.x0 < rest.x1 {
-        let strip = first_strip(alloc, first, second, view, &rest, pace)?;
-        found = least(found, strip.found);
-        rest.x0 = strip.end;
-        pace = strip.pace;
-    }
-    Ok(found)
+    let window = shared(joined(first.extent(), second.extent()), view.window());
+    difference_within(alloc, first, second, view, window, most)
 }

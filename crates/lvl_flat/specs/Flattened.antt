@@ -34,6 +34,10 @@ AllInRange cells c = (n : ℕ) (m : Map) (d : PlainCell Rings) → Chain cells c
 abbrev pub IsTopInRange : Settled → Type 0
 IsTopInRange s = IfSome (slice_get s.cells s.top) (AllInRange s.cells)
 
+-- the cell at an index covers the square on the Layer
+abbrev pub CoversAt : List (PlainCell Rings) → ℕ → Layer → Square → Type 0
+CoversAt cells i layer q = IsSomeAnd (slice_get cells i) (λ c. CellCovers RingsCover cells layer c q)
+
 -- the top covers the square on the Layer
 abbrev pub TopCovers : Settled → Layer → Square → Type 0
 TopCovers s layer q = IsSomeAnd (slice_get s.cells s.top) (λ top. CellCovers RingsCover s.cells layer top q)

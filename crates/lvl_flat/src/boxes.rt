@@ -6,7 +6,7 @@ ghost use Rattle.lvl_cells.specs.Cells.{PlainCell, Rings, shape_at, placing};
 ghost use Rattle.lvl_grid.specs.declared.point.Square.{Square as GridSquare};
 ghost use Rattle.lvl_grid.specs.Clip.{IsWithin as IsInWindow};
 ghost use Rattle.lvl_names.specs.declared.layer.Layer.{Layer as PlainLayer};
-ghost use Rattle.lvl_flat.specs.Flattened.{IsTopInRange, TopCovers};
+ghost use Rattle.lvl_flat.specs.Flattened.{CoversAt, IsTopInRange, TopCovers};
 ghost use Rattle.lvl_flat.specs.Boxes.{IsWithin, HoldsChains};
 ghost use Rattle.lvl_flat.specs.inside.Bounds.{Widens, HoldsRing, HoldsOwn, HoldsPicks};
 ghost use Rattle.lvl_flat.specs.Boxes.{AreBoxes, Fits};
@@ -200,6 +200,18 @@ impl Boxes {
         match self.get(checked.top()) {
             Some(bounds) => bounds.window(),
             None => Bounds::grid().window(),
+        }
+    }
+
+    /// A window that has every square which the cell at an index covers, if its box is known.
+    pub(crate) fn extent_of(&self, checked: &Checked, cell: usize) -> Option<Window>
+        requires { AreBoxes checked.now.cells self.now }
+        ensures { IfSome result (λ window. (layer : PlainLayer) (s : GridSquare)
+            → CoversAt checked.now.cells cell layer s → IsInWindow window s) }
+    {
+        match self.get(cell) {
+            Some(bounds) => Some(bounds.window()),
+            None => None,
         }
     }
 

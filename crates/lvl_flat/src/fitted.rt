@@ -1,9 +1,9 @@
 //! Libraries of which all that the top places is within 64 bits.
-ghost use Rattle.std.specs.Prelude.{◌≡◌, IfOk, IfErr};
+ghost use Rattle.std.specs.Prelude.{◌≡◌, IfOk, IfErr, IfSome};
 ghost use Rattle.lvl_grid.specs.declared.point.Square.{Square as GridSquare};
 ghost use Rattle.lvl_grid.specs.Clip.{IsWithin};
 ghost use Rattle.lvl_names.specs.declared.layer.Layer.{Layer as PlainLayer};
-ghost use Rattle.lvl_flat.specs.Flattened.{IsFlattenedWithin, IsFlatFault, IsTopInRange, TopCovers};
+ghost use Rattle.lvl_flat.specs.Flattened.{CoversAt, IsFlattenedWithin, IsFlatFault, IsTopInRange, TopCovers};
 ghost use Rattle.lvl_refusal.specs.Refused.{Says};
 
 use crate::boxes::Boxes;
@@ -62,6 +62,15 @@ impl Fitted {
         ensures { (layer : PlainLayer) (s : GridSquare) → TopCovers self.now layer s → IsWithin result s }
     {
         self.boxes.extent(&self.checked)
+    }
+
+    /// A window that has every square which the cell at an index covers through all references, in its own
+    /// coordinates; None if there is no such cell, or its window may leave 64 signed bits.
+    pub fn extent_of(&self, cell: usize) -> Option<Window>
+        ensures { IfSome result (λ window. (layer : PlainLayer) (s : GridSquare)
+            → CoversAt self.now.cells cell layer s → IsWithin window s) }
+    {
+        self.boxes.extent_of(&self.checked, cell)
     }
 
     /// The rings of each Layer that the top places, clipped to a window.

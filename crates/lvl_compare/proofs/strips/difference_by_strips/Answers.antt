@@ -1,50 +1,12 @@
-use Rattle.std.proofs.Common.{◌≡◌, ℤ, ◌≤ℤ◌, ◌<ℤ◌, ap, sym, ◌∙◌, subst, rules, arith, List, Option}
-use Rattle.std.proofs.lemmas.Int.{ints}
-use Rattle.std.specs.Int.{w64}
-use mir.Val.{to_z, of_z}
+use Rattle.std.proofs.Common.{◌≡◌, List, Option, subst}
+use Rattle.std.proofs.lemmas.Result.{IfOk-weaker}
 use Rattle.lvl_grid.specs.declared.point.Window.{Window}
 use Rattle.lvl_flat.specs.Flattened.{TopCovers}
-use Rattle.lvl_view.specs.Moved.{IsMoved}
 use Rattle.lvl_view.specs.declared.map.LayerPair.{LayerPair}
 use Rattle.lvl_compare.specs.Tops.{Draws}
-use Rattle.lvl_compare.specs.inside.Strips.{IsFoundIn, IsLeftIn, from_on, seen_of}
-use Rattle.lvl_compare.proofs.InStrips.{all_left, fewer_columns, hull, not_below, strip_found, whole_apart, whole_same}
+use Rattle.lvl_compare.specs.inside.Strips.{seen_of}
+use Rattle.lvl_compare.proofs.InStrips.{hull, whole_apart, whole_same}
 use Rattle.lvl_compare.proofs.strips.difference_by_strips.Goals as goal
-
--- as it is kept in 64 bits
-abbrev kept : ℤ → ℤ
-kept z = to_z w64 (of_z w64 z)
-
-pub loop-rest-smaller : goal.loop-rest-smaller
-loop-rest-smaller c =
-    let x : ℤ = c.loop-rest.rest.x0 in
-    let end : ℤ = kept c.in_ok-strip.strip.end in
-    let is : end ≡ c.in_ok-strip.strip.end = search rules in
-    fewer_columns x end c.loop-rest.rest.x1 (subst (λ z. x <ℤ z) (sym is) c.in_ok-strip.ensures.further)
-    (subst (λ z. z ≤ℤ c.loop-rest.rest.x1) (sym is) c.in_ok-strip.ensures.inside)
-
-pub loop-rest-preserved : goal.loop-rest-preserved
-loop-rest-preserved c =
-    let a : Draws = TopCovers c.args.first.now in
-    let b : Draws = IsMoved c.args.view.now.pairs (TopCovers c.args.second.now) in
-    let w : Window = c.shared-rest.result in
-    let x : ℤ = c.loop-rest.rest.x0 in
-    let end : ℤ = kept c.in_ok-strip.strip.end in
-    let is : end ≡ c.in_ok-strip.strip.end = search rules in
-    let further : x <ℤ end = subst (λ z. x <ℤ z) (sym is) c.in_ok-strip.ensures.further in
-    let next : IsFoundIn a b (IsLeftIn (from_on x w) end) c.in_ok-strip.strip.found =
-    subst (λ (v : Window). IsFoundIn a b (IsLeftIn v end) c.in_ok-strip.strip.found) c.loop-rest.invariant.rest
-    (subst (λ z. IsFoundIn a b (IsLeftIn c.loop-rest.rest z) c.in_ok-strip.strip.found) (sym is)
-    c.in_ok-strip.ensures.found) in
-    record {
-      rest =
-          ap (λ (r : Window). record { x0 = end; y0 = r.y0; x1 = r.x1; y1 = r.y1 }) c.loop-rest.invariant.rest;
-      from = omega (arith, ints, c.loop-rest.invariant.from, further);
-      wide = c.in_ok-strip.ensures.wide;
-      found =
-          strip_found a b w x end c.loop-rest.found c.in_ok-strip.strip.found c.least-found.result
-          c.loop-rest.invariant.from further c.loop-rest.invariant.found next c.least-found.ensures;
-    }
 
 pub returns-clause-same : goal.returns-clause-same
 returns-clause-same c =
@@ -52,20 +14,13 @@ returns-clause-same c =
     let t : Draws = TopCovers c.args.second.now in
     let pairs : List LayerPair = c.args.view.now.pairs in
     let v : Option Window = c.args.view.now.window in
-    let w : Window = c.shared-rest.result in
-    let rest : Window = c.loop-rest.rest in
+    let w : Window = c.shared-window.result in
     let is : w ≡ seen_of v (hull c.extent.result c.extent-2.result) =
     subst (λ (h : Window). w ≡ seen_of v h) c.joined.ensures
-    (subst (λ (o : Option Window). w ≡ seen_of o c.joined.result) c.window.ensures c.shared-rest.ensures) in
-    let past : kept rest.x1 ≤ℤ kept rest.x0 = not_below (kept rest.x0) (kept rest.x1) c.loop-rest-test.false in
-    let from : kept rest.x0 ≡ rest.x0 = search rules in
-    let to : kept rest.x1 ≡ rest.x1 = search rules in
-    let all : w.x1 ≤ℤ rest.x0 =
-    subst (λ z. z ≤ℤ rest.x0) (to ∙ ap (λ (r : Window). r.x1) c.loop-rest.invariant.rest)
-    (subst (λ z. kept rest.x1 ≤ℤ z) from past) in
-    whole_same a t pairs v c.extent.result c.extent-2.result w c.loop-rest.found is c.extent.ensures
-    c.extent-2.ensures
-    (all_left a (IsMoved pairs t) w rest.x0 c.loop-rest.found all c.loop-rest.invariant.found)
+    (subst (λ (o : Option Window). w ≡ seen_of o c.joined.result) c.window.ensures c.shared-window.ensures) in
+    IfOk-weaker c.difference_within.result _ _
+    (λ found h. whole_same a t pairs v c.extent.result c.extent-2.result w found is c.extent.ensures
+    c.extent-2.ensures h) c.difference_within.ensures
 
 pub returns-clause-differ : goal.returns-clause-differ
 returns-clause-differ c =
@@ -73,17 +28,10 @@ returns-clause-differ c =
     let t : Draws = TopCovers c.args.second.now in
     let pairs : List LayerPair = c.args.view.now.pairs in
     let v : Option Window = c.args.view.now.window in
-    let w : Window = c.shared-rest.result in
-    let rest : Window = c.loop-rest.rest in
+    let w : Window = c.shared-window.result in
     let is : w ≡ seen_of v (hull c.extent.result c.extent-2.result) =
     subst (λ (h : Window). w ≡ seen_of v h) c.joined.ensures
-    (subst (λ (o : Option Window). w ≡ seen_of o c.joined.result) c.window.ensures c.shared-rest.ensures) in
-    let past : kept rest.x1 ≤ℤ kept rest.x0 = not_below (kept rest.x0) (kept rest.x1) c.loop-rest-test.false in
-    let from : kept rest.x0 ≡ rest.x0 = search rules in
-    let to : kept rest.x1 ≡ rest.x1 = search rules in
-    let all : w.x1 ≤ℤ rest.x0 =
-    subst (λ z. z ≤ℤ rest.x0) (to ∙ ap (λ (r : Window). r.x1) c.loop-rest.invariant.rest)
-    (subst (λ z. kept rest.x1 ≤ℤ z) from past) in
-    whole_apart a t pairs v c.extent.result c.extent-2.result w c.loop-rest.found is c.extent.ensures
-    c.extent-2.ensures
-    (all_left a (IsMoved pairs t) w rest.x0 c.loop-rest.found all c.loop-rest.invariant.found)
+    (subst (λ (o : Option Window). w ≡ seen_of o c.joined.result) c.window.ensures c.shared-window.ensures) in
+    IfOk-weaker c.difference_within.result _ _
+    (λ found h. whole_apart a t pairs v c.extent.result c.extent-2.result w found is c.extent.ensures
+    c.extent-2.ensures h) c.difference_within.ensures

@@ -3,7 +3,7 @@ use Rattle.lvl_flat.specs.Flattened.{TopCovers}
 use Rattle.lvl_view.specs.Moved.{IsMoved}
 use Rattle.lvl_compare.specs.inside.Strips.{IsFoundIn, IsLeftIn, from_on}
 use Rattle.lvl_compare.proofs.InStrips.{columns}
-use Rattle.lvl_compare.proofs.strips.difference_by_strips.Given as goal
+use Rattle.lvl_compare.proofs.strips.difference_within.Given as goal
 
 -- what is found is the first difference left of what is still to be looked at
 abbrev pub invariant-loop-rest : goal.invariant-loop-rest

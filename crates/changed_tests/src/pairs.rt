@@ -1,0 +1,187 @@
+//! Pairs of libraries that differ by one change each.
+use crate::layouts::{cut, fitted, library};
+use lvl_changed::{changed, difference_by_changes, pays_by_cells};
+use lvl_compare::difference_by_strips;
+use lvl_flat::{Fitted, fits_by_boxes};
+use lvl_grid::{Square, Window};
+use lvl_names::Layer;
+use lvl_region::Side;
+use lvl_view::View;
+use std::alloc::{AllocError, Global};
+use std::test::Fail;
+
+/// The windows from left to right, each as its four coordinates.
+pub(crate) fn windows_text(alloc: Global, mut windows: Vec<Window>) -> Result<String, AllocError> {
+    windows.sort_unstable_by_key(|window| (window.x0, window.y0));
+    let mut text = String::new(alloc);
+    for window in &windows {
+        let Window { x0, y0, x1, y1 } = *window;
+        let word = format!(in alloc; " {x0},{y0},{x1},{y1}")?;
+        text.push_str(&word)?;
+    }
+    Ok(text)
+}
+
+/// Where both may differ, or `anywhere`.
+fn changed_text(alloc: Global, first: &Fitted, second: &Fitted) -> Result<String, AllocError> {
+    let view = View::whole(alloc);
+    match changed(alloc, first, second, &view)? {
+        Some(windows) => windows_text(alloc, windows),
+        None => String::from_str(alloc, " anywhere"),
+    }
+}
+
+/// The square that differs, as its layer, its coordinates and its side; `-` where none does.
+pub(crate) fn found_text(
+    alloc: Global,
+    found: Option<(Layer, Square, Side)>,
+) -> Result<String, AllocError> {
+    let Some((layer, square, side)) = found else {
+        return String::from_str(alloc, "-");
+    };
+    let side = match side {
+        Side::First => "first",
+        Side::Second => "second",
+    };
+    let (number, x, y) = (layer.layer, square.x, square.y);
+    format!(in alloc; "{number} {x} {y} {side}")
+}
+
+/// What a pair is, both libraries, where they may differ, and the first square that does.
+const PAIRS: &str = "\
+itself | T A,0,8,0; A 0..2 | T A,0,8,0; A 0..2 | | -
+placed one by one | T A,0,3,0; A 0..2 | T A,20,1,0 A,0,1,0 A,10,1,0; A 0..2 | | -
+two boxes for one, a thousand times | T A,0,1000,0; A 0..9 | T A,0,1000,0; A 4..9 0..4 | | -
+tops of different names | T A,0,8,0; A 0..2 | U A,0,8,0; A 0..2 | | -
+cells in another order | T M,0,2,0; M A,0,4,0; A 0..2 | T M,0,2,0; A 0..2; M A,0,4,0 | | -
+a place twice | T A,0,8,0; A 0..2 | T A,0,8,0 A,10,1,0; A 0..2 | | -
+out of reach | T A,0,8,0; A 0..2; X 0..1 | T A,0,8,0; A 0..2; X 7..9 | | -
+out of reach and absent | T A,0,8,0; A 0..2; X 0..1 | T A,0,8,0; A 0..2 | | -
+a cell without shapes removed | T A,0,8,0 X,50,1,0; A 0..2; X | T A,0,8,0; A 0..2 | | -
+a box more in the top | T A,0,8,0; A 0..2 | T A,0,8,0 3..4; A 0..2 | 3,0,4,1 | 1 3 0 second
+a box fewer in the top | T A,0,8,0 5..7; A 0..2 | T A,0,8,0; A 0..2 | 5,0,7,1 | 1 5 0 first
+a box more in a cell | T A,0,8,0; A 0..2 | T A,0,8,0; A 0..2 4..5 | \
+    4,0,5,1 14,0,15,1 24,0,25,1 34,0,35,1 44,0,45,1 54,0,55,1 64,0,65,1 74,0,75,1 | 1 4 0 second
+a place fewer | T A,0,8,0; A 0..2 | T A,0,7,0; A 0..2 | 70,0,72,1 | 1 70 0 first
+a place more | T A,0,8,0; A 0..2 | T A,0,8,0 A,80,1,0; A 0..2 | 80,0,82,1 | 1 80 0 second
+a place moved | T A,0,7,0 A,80,1,0; A 0..2 | T A,0,7,0 A,81,1,0; A 0..2 | 80,0,83,1 | 1 80 0 first
+a place turned | T A,0,7,0 A,80,1,0; A 0..2 | T A,0,7,0 A,80,1,90; A 0..2 | 79,0,80,2 80,0,82,1 | 1 79 0 second
+a place reflected | T A,0,7,0 A,80,1,0; A 0..2 | T A,0,7,0 A,80,1,-0; A 0..2 | 80,-1,82,0 80,0,82,1 | \
+    1 80 -1 second
+a cell turned about | T A,0,8,0 B,100,1,0; A 0..2; B 0..2 | T A,0,8,0 B,102,1,180; A 0..2; B 0..2 | \
+    100,-1,102,0 100,0,102,1 | 1 100 -1 second
+a cell renamed | T A,0,8,0 B,100,1,0; A 0..2; B 0..2 | T A,0,8,0 C,100,1,0; A 0..2; C 0..2 | 100,0,102,1 | -
+a cell renamed and changed | T A,0,8,0 B,100,1,0; A 0..2; B 0..2 | T A,0,8,0 C,100,1,0; A 0..2; C 0..3 | \
+    100,0,103,1 | 1 102 0 second
+a cell exchanged for another | T A,0,8,0 A,100,1,0; A 0..2; B 0..3 | T A,0,8,0 B,100,1,0; A 0..2; B 0..3 | \
+    100,0,103,1 | 1 102 0 second
+a layer changed | T A,0,8,0 B,100,1,0; A 0..2; B 0..2 | T A,0,8,0 B,100,1,0; A 0..2; B 0..2@2 | \
+    100,0,102,1 | 1 100 0 first
+a cell emptied | T A,0,8,0 B,100,1,0; A 0..2; B 0..2 | T A,0,8,0 B,100,1,0; A 0..2; B | 100,0,102,1 | \
+    1 100 0 first
+deep down, turned | T A,0,8,0 M,100,1,90; M B,5,1,0; A 0..2; B 0..2 | \
+    T A,0,8,0 M,100,1,90; M B,5,1,0; A 0..2; B 1..3 | 99,5,100,8 | 1 99 5 first
+under other shapes | T A,0,8,0 B,100,1,0 99..105; A 0..2; B 0..2 | \
+    T A,0,8,0 B,100,1,0 99..105; A 0..2; B 0..3 | 100,0,103,1 | -
+moved within the top | T A,0,8,0 B,100,1,0; A 0..2; B 0..2 | T A,0,8,0 100..102; A 0..2; B 0..2 | \
+    100,0,102,1 | -
+one instead of another, twice | T A,0,8,0 B,90,1,0 C,95,1,0; A 0..2; B 0..2; C 0..2 | \
+    T A,0,8,0 C,90,1,0 B,95,1,0; A 0..2; B 0..2; C 0..2 | 90,0,92,1 95,0,97,1 | -
+a box that leaves 64 bits and returns | \
+    T A,0,8,0 M,-1000,1,0; M B,9223372036854775800,1,0; A 0..2; B 0..9 | \
+    T A,0,8,0 M,-1000,1,0; M B,9223372036854775800,1,0; A 0..2; B 0..9 | | -
+and in a cell renamed | T A,0,8,0 M,-1000,1,0; M B,9223372036854775800,1,0; A 0..2; B 0..9 | \
+    T A,0,8,0 N,-1000,1,0; N B,9223372036854775800,1,0; A 0..2; B 0..9 | anywhere | -
+";
+
+/// The first square that differs, found by `difference_by_changes`, which has to be what strips find.
+fn difference_text(
+    alloc: Global,
+    first: &Fitted,
+    second: &Fitted,
+    most: usize,
+) -> Result<String, Fail> {
+    let view = View::whole(alloc);
+    let found = difference_by_changes(alloc, first, second, &view, most)?;
+    if found != difference_by_strips(alloc, first, second, &view, most)? {
+        return Ok(String::from_str(alloc, "not what strips find")?);
+    }
+    Ok(found_text(alloc, found)?)
+}
+
+#[test]
+fn pairs_of_libraries(rt: HostRuntime) -> Result<(), Fail> {
+    let alloc = rt.alloc();
+    for row in PAIRS.lines() {
+        let (name, row) = cut(row, " | ");
+        let (ours, row) = cut(row, " | ");
+        let (theirs, row) = cut(row, " |");
+        let (windows, want) = cut(row, " | ");
+        let first = fitted(alloc, ours)?;
+        let second = fitted(alloc, theirs)?;
+        let places = changed_text(alloc, &first, &second)?;
+        assert_eq!(rt; places.as_str(), windows, "{name}");
+        let found = difference_text(alloc, &first, &second, 1 << 20)?;
+        assert_eq!(rt; found.as_str(), want, "{name}");
+    }
+    Ok(())
+}
+
+/// Of many windows 64 are kept, and no square is lost.
+#[test]
+fn many_windows(rt: HostRuntime) -> Result<(), Fail> {
+    let alloc = rt.alloc();
+    let view = View::whole(alloc);
+    let first = fitted(alloc, "T A,0,500,0; A 0..2")?;
+    let second = fitted(alloc, "T B,0,500,0; B 0..2 5..6")?;
+    let windows = changed(alloc, &first, &second, &view)?.ok_or("windows")?;
+    assert_eq!(rt; windows.len(), 64);
+    let found = difference_text(alloc, &first, &second, 16)?;
+    assert_eq!(rt; found.as_str(), "1 5 0 second");
+    Ok(())
+}
+
+/// What a library is, the library, whether its boxes fit, and whether it pays to compare it cell by cell.
+const SINGLE: &str = "\
+placed once | T A,0,1,0; A 0..2 | true | false
+placed three times | T A,0,3,0; A 0..2 | true | false
+placed four times | T A,0,4,0; A 0..2 | true | true
+twice in a cell that is placed twice | T M,0,2,0; M A,0,2,0; A 0..2 | true | true
+more shifts out of reach than are placed | T A,0,4,0; A 0..2; X A,0,9,0 | true | false
+up to the right end | T A,9223372036854775805,1,0; A 0..2 | true | false
+past the right end | T A,9223372036854775806,1,0; A 0..2 | false | false
+a last place past the right end | T A,9223372036854775775,4,0; A 0..3 | false | true
+up to the left end, turned | T A,-9223372036854775806,1,180; A 0..2 | true | false
+past the left end, turned | T A,-9223372036854775807,1,180; A 0..2 | false | false
+along the other axis | T A,-9223372036854775807,1,90; A 0..2 | true | false
+";
+
+#[test]
+fn single_libraries(rt: HostRuntime) -> Result<(), Fail> {
+    let alloc = rt.alloc();
+    for row in SINGLE.lines() {
+        let (name, row) = cut(row, " | ");
+        let (text, row) = cut(row, " | ");
+        let (fits, pays) = cut(row, " | ");
+        let library = library(alloc, text)?;
+        assert_eq!(rt; fits_by_boxes(alloc, &library)?, fits == "true", "{name}");
+        assert_eq!(rt; pays_by_cells(alloc, &library)?, pays == "true", "{name}");
+    }
+    Ok(())
+}
+
+/// Run with each allocation refused in turn: it ends with that, or each answer is the libraries' own.
+#[test]
+fn growths_of_changes(rt: HostRuntime) -> Result<(), Fail> {
+    let alloc = rt.alloc();
+    let first = fitted(alloc, "T M,0,3,0 B,90,1,0; M A,5,2,90; A 0..9; B 0..1")?;
+    let second = fitted(
+        alloc,
+        "T M,10,2,0 M,0,1,0 B,90,1,0; M A,5,2,90; A 4..9 0..4; B 0..2",
+    )?;
+    let places = changed_text(alloc, &first, &second)?;
+    assert_eq!(rt; places.as_str(), " 90,0,92,1");
+    let found = difference_text(alloc, &first, &second, 1 << 20)?;
+    assert_eq!(rt; found.as_str(), "1 91 0 second");
+    Ok(())
+}

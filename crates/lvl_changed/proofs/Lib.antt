@@ -1,0 +1,10 @@
+pub mod Widening
+pub mod Moving
+pub mod Placing
+pub mod Same
+pub mod Walked
+pub mod Seeing
+pub mod Finding
+pub mod Own
+pub mod Missing
+pub mod Boxing

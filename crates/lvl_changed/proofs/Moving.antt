@@ -1,0 +1,82 @@
+-- What is alike outside of windows, seen through a map of Layers.
+use Rattle.std.proofs.Common.{◌≡◌, ◌↔◌, ◌⊎◌, ℕ, List, Some, inl, inr, sym, subst, slice_get, IsSomeAnd}
+use Rattle.lvl_grid.specs.declared.point.Square.{Square}
+use Rattle.lvl_names.specs.declared.layer.Layer.{Layer}
+use Rattle.lvl_cells.specs.Cells.{PlainCell, Rings}
+use Rattle.lvl_cells.specs.Coverage.{RingsCover, CellCovers}
+use Rattle.lvl_flat.specs.Flattened.{CoversAt}
+use Rattle.lvl_flat.proofs.Covering.{cell_covers}
+use Rattle.lvl_view.specs.declared.map.LayerPair.{LayerPair}
+use Rattle.lvl_view.specs.Moved.{IsMoved}
+use Rattle.lvl_compare.specs.Tops.{Draws}
+use Rattle.lvl_changed.specs.declared.windows.Windows.{Windows}
+use Rattle.lvl_changed.specs.inside.Windows.{Has, Widens, AlikeOutside}
+use Rattle.lvl_changed.specs.inside.Placements.{ReferencesCover}
+use Rattle.lvl_changed.specs.inside.Shapes.{ShapesCover}
+
+-- what covers less covers less seen through the map
+pub moved_more : (pairs : List LayerPair) (a b : Draws) (s q : Square) → ((l : Layer) → a l s → b l q) → (l : Layer)
+    → IsMoved pairs a l s → IsMoved pairs b l q
+moved_more pairs a b s q more l m = record {
+  source = m.source;
+  is_target = m.is_target;
+  covers = more m.source m.covers;
+}
+
+pub alike_moved : (pairs : List LayerPair) (w : Windows) (a b : Draws) → AlikeOutside w a b
+    → AlikeOutside w (IsMoved pairs a) (IsMoved pairs b)
+alike_moved pairs w a b same l s out = (
+  λ m. moved_more pairs a b s s (λ k x. (same k s out).0 x) l m,
+  λ m. moved_more pairs b a s s (λ k x. (same k s out).1 x) l m,
+)
+
+pub alike_then : (w : Windows) (a b c : Draws) → AlikeOutside w a b → AlikeOutside w b c → AlikeOutside w a c
+alike_then w a b c p q l s out =
+    (λ x. (q l s out).0 ((p l s out).0 x), λ y. (p l s out).1 ((q l s out).1 y))
+
+-- in more windows
+pub alike_wider : (v w : Windows) (a b : Draws) → Widens v w → AlikeOutside v a b → AlikeOutside w a b
+alike_wider v w a b wide same l s out = same l s (λ has. out (wide.has s has))
+
+-- where the windows are the whole plane
+pub alike_anywhere : (w : Windows) (a b : Draws) → ((s : Square) → Has w s) → AlikeOutside w a b
+alike_anywhere w a b all l s out = absurd (out (all s))
+
+-- a cell at an index covers what its shapes and its references do
+pub covers_both : (cells : List (PlainCell Rings)) (i : ℕ) (c : PlainCell Rings) → slice_get cells i ≡ Some c
+    → (l : Layer) (s : Square)
+    → CoversAt cells i l s ↔ (ShapesCover c.shapes l s ⊎ ReferencesCover cells c.references l s)
+covers_both cells i c at l s =
+    let P : PlainCell Rings → Type 0 = λ d. CellCovers RingsCover cells l d s in (
+      λ h. (cell_covers cells l c s).0 (subst (λ o. IsSomeAnd o P) at h),
+      λ e. subst (λ o. IsSomeAnd o P) (sym at) ((cell_covers cells l c s).1 e),
+    )
+
+-- cells whose shapes and references are alike are alike
+pub cells_alike : (ours theirs : List (PlainCell Rings)) (i j : ℕ) (c d : PlainCell Rings) (pairs : List LayerPair)
+    (w : Windows) → slice_get ours i ≡ Some c → slice_get theirs j ≡ Some d
+    → AlikeOutside w (ShapesCover c.shapes) (IsMoved pairs (ShapesCover d.shapes))
+    → AlikeOutside w (ReferencesCover ours c.references) (IsMoved pairs (ReferencesCover theirs d.references))
+    → AlikeOutside w (CoversAt ours i) (IsMoved pairs (CoversAt theirs j))
+cells_alike ours theirs i j c d pairs w here there shapes references l s out =
+    let all : Draws = CoversAt theirs j in
+    let own : Draws = ShapesCover d.shapes in
+    let placed : Draws = ReferencesCover theirs d.references in
+    let mine = covers_both ours i c here l s in (
+      λ x. elim (mine.0 x) [
+        | inl p ↦
+            moved_more pairs own all s s (λ k y. (covers_both theirs j d there k s).1 (inl y)) l
+            ((shapes l s out).0 p)
+        | inr p ↦
+            moved_more pairs placed all s s (λ k y. (covers_both theirs j d there k s).1 (inr y)) l
+            ((references l s out).0 p)
+      ],
+      λ m. elim ((covers_both theirs j d there m.source s).0 m.covers) [
+        | inl y ↦
+            mine.1 (inl ((shapes l s out).1
+            (record { source = m.source; is_target = m.is_target; covers = y })))
+        | inr y ↦
+            mine.1 (inr ((references l s out).1
+            (record { source = m.source; is_target = m.is_target; covers = y })))
+      ],
+    )

@@ -1,0 +1,37 @@
+-- What a cell's own shapes cover, as flat layouts do.
+use Rattle.std.proofs.Common.{◌↔◌, List, Option, Some, None}
+use Rattle.std.specs.Prelude.{IfSome}
+use Rattle.lvl_grid.specs.declared.point.Square.{Square}
+use Rattle.lvl_names.specs.declared.layer.Layer.{Layer}
+use Rattle.lvl_cells.specs.Cells.{PlainShape, Rings}
+use Rattle.lvl_flat.specs.Mapped.{IsMapped}
+use Rattle.lvl_flat.specs.Sheet.{PlainSheet}
+use Rattle.lvl_view.specs.declared.map.LayerPair.{LayerPair}
+use Rattle.lvl_view.specs.Moved.{IsMoved}
+use Rattle.lvl_changed.specs.declared.windows.Windows.{Windows}
+use Rattle.lvl_changed.specs.inside.Shapes.{FlatCovers, ShapesCover}
+use Rattle.lvl_changed.specs.inside.Windows.{AlikeOutside}
+use Rattle.lvl_changed.proofs.Moving.{moved_more}
+
+-- the flat layout covers what the shapes do
+abbrev pub Flattens : List PlainSheet → List (PlainShape Rings) → Type 0
+Flattens flat shapes = (l : Layer) (s : Square) → FlatCovers flat l s ↔ ShapesCover shapes l s
+
+-- where flat layouts are alike outside of windows, the shapes are
+pub shapes_alike : (a b mapped : List PlainSheet) (xs ys : List (PlainShape Rings)) (pairs : List LayerPair)
+    (w : Windows) → Flattens a xs → Flattens b ys → IsMapped pairs b mapped
+    → AlikeOutside w (FlatCovers a) (FlatCovers mapped)
+    → AlikeOutside w (ShapesCover xs) (IsMoved pairs (ShapesCover ys))
+shapes_alike a b mapped xs ys pairs w ours theirs map same l s out = (
+  λ x.
+      moved_more pairs (FlatCovers b) (ShapesCover ys) s s (λ k y. (theirs k s).0 y) l
+      ((map l s).0 ((same l s out).0 ((ours l s).1 x))),
+  λ m.
+      (ours l s).0 ((same l s out).1
+      ((map l s).1 (moved_more pairs (ShapesCover ys) (FlatCovers b) s s (λ k y. (theirs k s).1 y) l m))),
+)
+
+-- what holds of all is so of one that may be there
+pub any_some : {X : Type 0} (P : X → Type 0) (o : Option X) → ((x : X) → P x) → IfSome o P
+any_some P None all = tt
+any_some P (Some x) all = all x

@@ -1,0 +1,276 @@
+-- What references and placements cover, outside of windows.
+use Rattle.std.proofs.Common.{◌≡◌, ◌↔◌, ◌<◌, ◌+◌, ◌++◌, ◌∷◌, [], ℕ, List, Any, Contains, IsSomeAnd, Option, Some, None}
+use Rattle.std.proofs.Common.{◌⊎◌, map, take, length, get_or, slice_get, inl, inr, refl, sym, ap, ◌∙◌, subst}
+use Rattle.std.proofs.lemmas.List.{append-nil, take_more}
+use Rattle.std.proofs.lemmas.List.Concat.{flat_map-append}
+use Rattle.lvl_grid.specs.declared.point.Point.{Point}
+use Rattle.lvl_grid.specs.declared.point.Square.{Square}
+use Rattle.lvl_grid.specs.declared.map.Map.{Map}
+use Rattle.lvl_grid.specs.Turn.{image_square}
+use Rattle.lvl_grid.proofs.Anyone.{some_contained, Any-left, Any-right, Any-sides, Any-same, Any-map, Any-nil}
+use Rattle.lvl_names.specs.declared.layer.Layer.{Layer}
+use Rattle.lvl_cells.specs.Cells.{PlainCell, PlainReference, Rings, placing, cell_named}
+use Rattle.lvl_cells.specs.Coverage.{RingsCover, CellCovers, PullsBack}
+use Rattle.lvl_flat.specs.Flattened.{CoversAt}
+use Rattle.lvl_flat.specs.inside.Visits.{Pick, picks, PickCovers}
+use Rattle.lvl_view.specs.declared.map.LayerPair.{LayerPair}
+use Rattle.lvl_view.specs.Moved.{IsMoved}
+use Rattle.lvl_compare.specs.Tops.{Draws}
+use Rattle.lvl_changed.specs.declared.found.Found.{Found}
+use Rattle.lvl_changed.specs.declared.placements.Placement.{Placement}
+use Rattle.lvl_changed.specs.declared.windows.Windows.{Windows}
+use Rattle.lvl_changed.specs.inside.Finding.{IsFound, PartnerCovers}
+use Rattle.lvl_changed.specs.inside.Placements.{placed, partner_placed, HaveSame, PlacedCover, PlacementCovers}
+use Rattle.lvl_changed.specs.inside.Placements.{ReferencesCover}
+use Rattle.lvl_changed.specs.inside.Windows.{Has, HasPlaced, AlikeOutside, Widens}
+use Rattle.lvl_changed.proofs.Moving.{moved_more}
+
+at_some : {X : Type 0} (P : X → Type 0) (o : Option X) (x : X) → o ≡ Some x → IsSomeAnd o P ↔ P x
+at_some P o x e = (λ h. subst (λ q. IsSomeAnd q P) e h, λ p. subst (λ q. IsSomeAnd q P) (sym e) p)
+
+both_ways : {A B C : Type 0} → A ↔ B → B ↔ C → A ↔ C
+both_ways p q = (λ a. q.0 (p.0 a), λ c. p.1 (q.1 c))
+
+turned_round : {A B : Type 0} → A ↔ B → B ↔ A
+turned_round p = (p.1, p.0)
+
+-- a reference at one of its places covers what its cell does there
+pick_at : (cells : List (PlainCell Rings)) (k : ℕ) (c : PlainCell Rings) (r : PlainReference)
+    → slice_get cells k ≡ Some c → cell_named cells r.cell ≡ Some c → (e : Point) (l : Layer) (s : Square)
+    → PickCovers cells l s (r, e) ↔ PlacementCovers cells l s (record { cell = k; map = placing r e })
+pick_at cells k c r at named e l s =
+    let P : PlainCell Rings → Type 0 = λ d. PullsBack (CellCovers RingsCover cells l d) r s e in
+    let here = at_some P (cell_named cells r.cell) c named in
+    let there : (t : Square) → CoversAt cells k l t ↔ CellCovers RingsCover cells l c t =
+    λ t. at_some (λ d. CellCovers RingsCover cells l d t) (slice_get cells k) c at in (
+      λ h. let u = here.0 h in (u.0, u.1, (there u.0).1 u.2),
+      λ u. here.1 (u.0, u.1, (there u.0).0 u.2),
+    )
+
+-- and at all of its places
+pub reference_at : (cells : List (PlainCell Rings)) (k : ℕ) (c : PlainCell Rings) (r : PlainReference)
+    → slice_get cells k ≡ Some c → cell_named cells r.cell ≡ Some c → (l : Layer) (s : Square)
+    → Any (PickCovers cells l s) (map (λ e. (r, e)) r.shifts) ↔ PlacedCover cells (placed k r) l s
+reference_at cells k c r at named l s =
+    let to : Point → Placement = λ e. record { cell = k; map = placing r e } in
+    let pick : Point → Pick = λ e. (r, e) in
+    both_ways (Any-map (PickCovers cells l s) pick r.shifts)
+    (both_ways (Any-same (λ e. PickCovers cells l s (pick e)) (λ e. PlacementCovers cells l s (to e)) r.shifts
+    (λ e. pick_at cells k c r at named e l s))
+    (turned_round (Any-map (PlacementCovers cells l s) to r.shifts)))
+
+-- a square of a cell that is placed outside of the windows is outside of those of the cell
+inner_out : (m : Map) (held all : Windows) (s t : Square) → HasPlaced m held all → image_square m t ≡ s
+    → (¬ Has all s) → ¬ Has held t
+inner_out m held all s t has is out inner = out (subst (λ q. Has all q) is (has.has t inner))
+
+-- outside of the windows our cell covers at one place what its partner does there
+placement_alike : (pairs : List LayerPair) (ours theirs : List (PlainCell Rings)) (k n : ℕ) (f : Found) (m : Map)
+    (all : Windows) → f.partner ≡ Some n → IsFound pairs ours theirs k f → HasPlaced m f.windows all → (l : Layer)
+    (s : Square) → (¬ Has all s)
+    → PlacementCovers ours l s (record { cell = k; map = m })
+    ↔ IsMoved pairs (λ j q. PlacementCovers theirs j q (record { cell = n; map = m })) l s
+placement_alike pairs ours theirs k n f m all partner found has l s out =
+    let same : (t : Square) → image_square m t ≡ s
+    → CoversAt ours k l t ↔ IsMoved pairs (CoversAt theirs n) l t =
+    λ t is. subst (λ o. CoversAt ours k l t ↔ PartnerCovers pairs theirs o l t) partner
+    (found l t (inner_out m f.windows all s t has is out)) in (
+      λ u. let there = (same u.0 u.1).0 u.2 in
+          record { source = there.source; is_target = there.is_target; covers = (u.0, u.1, there.covers) },
+      λ moved. let u = moved.covers in (
+        u.0,
+        u.1,
+        (same u.0 u.1).1
+            (record { source = moved.source; is_target = moved.is_target; covers = u.2 }),
+      ),
+    )
+
+-- without a partner it covers nothing there
+placement_none : (pairs : List LayerPair) (ours theirs : List (PlainCell Rings)) (k : ℕ) (f : Found) (m : Map)
+    (all : Windows) → f.partner ≡ None → IsFound pairs ours theirs k f → HasPlaced m f.windows all → (l : Layer)
+    (s : Square) → (¬ Has all s) → PlacementCovers ours l s (record { cell = k; map = m }) → ⊥
+placement_none pairs ours theirs k f m all none found has l s out u =
+    subst (λ o. PartnerCovers pairs theirs o l u.0) none
+    ((found l u.0 (inner_out m f.windows all s u.0 has u.1 out)).0 u.2)
+
+-- and so at all places of a reference
+places_alike : (pairs : List LayerPair) (ours theirs : List (PlainCell Rings)) (k n : ℕ) (f : Found)
+    (r : PlainReference) (all : Windows) → f.partner ≡ Some n → IsFound pairs ours theirs k f
+    → ((e : Point) → Contains r.shifts e → HasPlaced (placing r e) f.windows all)
+    → AlikeOutside all (PlacedCover ours (placed k r)) (IsMoved pairs (PlacedCover theirs (placed n r)))
+places_alike pairs ours theirs k n f r all partner found has l s out =
+    let mine : Point → Placement = λ e. record { cell = k; map = placing r e } in
+    let other : Point → Placement = λ e. record { cell = n; map = placing r e } in
+    let each : (e : Point) → Contains r.shifts e
+    → PlacementCovers ours l s (mine e) ↔ IsMoved pairs (λ j q. PlacementCovers theirs j q (other e)) l s =
+    λ e there. placement_alike pairs ours theirs k n f (placing r e) all partner found (has e there) l s out in (
+      λ a.
+          let at = (Any-map (PlacementCovers ours l s) mine r.shifts).0 a in
+          let there : Contains r.shifts at.1 = (at.0, at.2, at.3) in
+          moved_more pairs (λ j q. PlacementCovers theirs j q (other at.1)) (PlacedCover theirs (placed n r)) s s
+          (λ j p. (Any-map (PlacementCovers theirs j s) other r.shifts).1
+          (some_contained (λ e. PlacementCovers theirs j s (other e)) r.shifts at.1 there p)) l
+          ((each at.1 there).0 at.4),
+      λ moved.
+          let at = (Any-map (PlacementCovers theirs moved.source s) other r.shifts).0 moved.covers in
+          let there : Contains r.shifts at.1 = (at.0, at.2, at.3) in
+          (Any-map (PlacementCovers ours l s) mine r.shifts).1
+          (some_contained (λ e. PlacementCovers ours l s (mine e)) r.shifts at.1 there
+          ((each at.1 there).1
+          (record { source = moved.source; is_target = moved.is_target; covers = at.4 }))),
+    )
+
+places_none : (pairs : List LayerPair) (ours theirs : List (PlainCell Rings)) (k : ℕ) (f : Found)
+    (r : PlainReference) (all : Windows) → f.partner ≡ None → IsFound pairs ours theirs k f
+    → ((e : Point) → Contains r.shifts e → HasPlaced (placing r e) f.windows all)
+    → AlikeOutside all (PlacedCover ours (placed k r)) (IsMoved pairs (PlacedCover theirs []))
+places_none pairs ours theirs k f r all none found has l s out =
+    let mine : Point → Placement = λ e. record { cell = k; map = placing r e } in (
+      λ a.
+          let at = (Any-map (PlacementCovers ours l s) mine r.shifts).0 a in
+          absurd (placement_none pairs ours theirs k f (placing r at.1) all none found
+          (has at.1 (at.0, at.2, at.3)) l s out at.4),
+      λ moved. absurd (Any-nil (PlacementCovers theirs moved.source s) moved.covers),
+    )
+
+-- whether there is a partner or not
+partner_alike : (pairs : List LayerPair) (ours theirs : List (PlainCell Rings)) (k : ℕ) (f : Found)
+    (r : PlainReference) (all : Windows) (o : Option ℕ) → f.partner ≡ o → IsFound pairs ours theirs k f
+    → ((e : Point) → Contains r.shifts e → HasPlaced (placing r e) f.windows all)
+    → AlikeOutside all (PlacedCover ours (placed k r)) (IsMoved pairs (PlacedCover theirs (partner_placed o r)))
+partner_alike pairs ours theirs k f r all None is found has =
+    places_none pairs ours theirs k f r all is found has
+partner_alike pairs ours theirs k f r all (Some n) is found has =
+    places_alike pairs ours theirs k n f r all is found has
+
+picks_more : (rs : List PlainReference) (j : ℕ) (r : PlainReference) → j < length rs → r ≡ get_or rs j r
+    → picks (take (j + 1) rs) ≡ picks (take j rs) ++ map (λ e. (r, e)) r.shifts
+picks_more rs j r lt is =
+    let f : PlainReference → List Pick = λ q. map (λ e. (q, e)) q.shifts in
+    ap picks (take_more rs j r lt)
+    ∙ (flat_map-append f (take j rs) (get_or rs j r ∷ [])
+    ∙ (ap (λ xs. picks (take j rs) ++ xs) (append-nil (f (get_or rs j r)))
+    ∙ ap (λ q. picks (take j rs) ++ f q) (sym is)))
+
+-- what one reference more covers
+references_more : (cells : List (PlainCell Rings)) (rs : List PlainReference) (j k : ℕ) (r : PlainReference)
+    (c : PlainCell Rings) → slice_get cells k ≡ Some c → cell_named cells r.cell ≡ Some c → j < length rs
+    → r ≡ get_or rs j r → (l : Layer) (s : Square)
+    → ReferencesCover cells (take (j + 1) rs) l s
+    ↔ (ReferencesCover cells (take j rs) l s ⊎ PlacedCover cells (placed k r) l s)
+references_more cells rs j k r c at named lt is l s =
+    let P : Pick → Type 0 = PickCovers cells l s in
+    let last : List Pick = map (λ e. (r, e)) r.shifts in
+    let here = reference_at cells k c r at named l s in
+    subst (λ xs. Any P xs ↔ (Any P (picks (take j rs)) ⊎ PlacedCover cells (placed k r) l s))
+    (sym (picks_more rs j r lt is)) (
+      λ a. elim (Any-sides P (picks (take j rs)) last a) [ inl b ↦ inl b | inr b ↦ inr (here.0 b) ],
+      λ e. elim e [
+        | inl b ↦ Any-left P (picks (take j rs)) last b
+        | inr b ↦ Any-right P (picks (take j rs)) last (here.1 b)
+      ],
+    )
+
+-- what more placements cover
+placed_more : (cells : List (PlainCell Rings)) (ps qs : List Placement) (l : Layer) (s : Square)
+    → PlacedCover cells (ps ++ qs) l s ↔ (PlacedCover cells ps l s ⊎ PlacedCover cells qs l s)
+placed_more cells ps qs l s =
+    let P : Placement → Type 0 = PlacementCovers cells l s in (
+      λ a. Any-sides P ps qs a,
+      λ e. elim e [ inl b ↦ Any-left P ps qs b | inr b ↦ Any-right P ps qs b ],
+    )
+
+-- with one reference more
+pub partners_more : (pairs : List LayerPair) (ours theirs : List (PlainCell Rings)) (rs : List PlainReference)
+    (ps : List Placement) (j k : ℕ) (r : PlainReference) (c : PlainCell Rings) (f : Found) (all : Windows)
+    → slice_get ours k ≡ Some c → cell_named ours r.cell ≡ Some c → j < length rs → r ≡ get_or rs j r
+    → IsFound pairs ours theirs k f → ((e : Point) → Contains r.shifts e → HasPlaced (placing r e) f.windows all)
+    → AlikeOutside all (ReferencesCover ours (take j rs)) (IsMoved pairs (PlacedCover theirs ps))
+    → AlikeOutside all (ReferencesCover ours (take (j + 1) rs))
+    (IsMoved pairs (PlacedCover theirs (ps ++ partner_placed f.partner r)))
+partners_more pairs ours theirs rs ps j k r c f all at named lt is found has before l s out =
+    let qs : List Placement = partner_placed f.partner r in
+    let whole : Draws = PlacedCover theirs (ps ++ qs) in
+    let mine = references_more ours rs j k r c at named lt is l s in
+    let earlier = before l s out in
+    let last = partner_alike pairs ours theirs k f r all f.partner refl found has l s out in (
+      λ x. elim (mine.0 x) [
+        | inl y ↦
+            moved_more pairs (PlacedCover theirs ps) whole s s (λ i b. (placed_more theirs ps qs i s).1 (inl b)) l
+            (earlier.0 y)
+        | inr y ↦
+            moved_more pairs (PlacedCover theirs qs) whole s s (λ i b. (placed_more theirs ps qs i s).1 (inr b)) l
+            (last.0 y)
+      ],
+      λ m. elim ((placed_more theirs ps qs m.source s).0 m.covers) [
+        | inl b ↦
+            mine.1 (inl (earlier.1 (record { source = m.source; is_target = m.is_target; covers = b })))
+        | inr b ↦
+            mine.1 (inr (last.1 (record { source = m.source; is_target = m.is_target; covers = b })))
+      ],
+    )
+
+-- without references
+pub partners_none : (pairs : List LayerPair) (ours theirs : List (PlainCell Rings)) (all : Windows)
+    → AlikeOutside all (ReferencesCover ours []) (IsMoved pairs (PlacedCover theirs []))
+partners_none pairs ours theirs all l s out = (
+  λ a. absurd (Any-nil (PickCovers ours l s) a),
+  λ m. absurd (Any-nil (PlacementCovers theirs m.source s) m.covers),
+)
+
+-- a cell's placements, by its own indexes
+pub own_more : (cells : List (PlainCell Rings)) (rs : List PlainReference) (ps : List Placement) (j k : ℕ)
+    (r : PlainReference) (c : PlainCell Rings) → slice_get cells k ≡ Some c → cell_named cells r.cell ≡ Some c
+    → j < length rs → r ≡ get_or rs j r
+    → ((l : Layer) (s : Square) → PlacedCover cells ps l s ↔ ReferencesCover cells (take j rs) l s)
+    → (l : Layer) (s : Square)
+    → PlacedCover cells (ps ++ placed k r) l s ↔ ReferencesCover cells (take (j + 1) rs) l s
+own_more cells rs ps j k r c at named lt is before l s =
+    let mine = references_more cells rs j k r c at named lt is l s in
+    let both = placed_more cells ps (placed k r) l s in (
+      λ a. elim (both.0 a) [ inl b ↦ mine.1 (inl ((before l s).0 b)) | inr b ↦ mine.1 (inr b) ],
+      λ a. elim (mine.0 a) [ inl b ↦ both.1 (inl ((before l s).1 b)) | inr b ↦ both.1 (inr b) ],
+    )
+
+pub own_none : (cells : List (PlainCell Rings)) (l : Layer) (s : Square)
+    → PlacedCover cells [] l s ↔ ReferencesCover cells [] l s
+own_none cells l s =
+    (λ a. absurd (Any-nil (PlacementCovers cells l s) a), λ a. absurd (Any-nil (PickCovers cells l s) a))
+
+-- the same placements cover the same
+pub same_cover : (cells : List (PlainCell Rings)) (ps qs : List Placement) → HaveSame ps qs → (l : Layer) (s : Square)
+    → PlacedCover cells ps l s → PlacedCover cells qs l s
+same_cover cells ps qs h l s a =
+    some_contained (PlacementCovers cells l s) qs a.1 ((h a.1).0 (a.0, a.2, a.3)) a.4
+
+-- the windows have what a placement covers, if they have the places of what its cell does
+pub placement_held : (cells : List (PlainCell Rings)) (w : Windows) (p : Placement)
+    → ((l : Layer) (t : Square) → CoversAt cells p.cell l t → Has w (image_square p.map t)) → (l : Layer) (s : Square)
+    → PlacementCovers cells l s p → Has w s
+placement_held cells w p held l s covers = subst (λ q. Has w q) covers.1 (held l covers.0 covers.2)
+
+-- cells whose placements are alike outside of windows refer alike there
+pub refer_alike : (pairs : List LayerPair) (ours theirs : List (PlainCell Rings)) (xs ys : List PlainReference)
+    (ps ps2 qs qs2 : List Placement) (w1 w2 w3 : Windows)
+    → AlikeOutside w1 (ReferencesCover ours xs) (IsMoved pairs (PlacedCover theirs ps))
+    → ((l : Layer) (s : Square) → PlacedCover theirs qs l s ↔ ReferencesCover theirs ys l s)
+    → HaveSame ps ps2 → HaveSame qs qs2 → Widens w1 w2 → Widens w2 w3
+    → ((l : Layer) (s : Square) → (¬ Has w2 s) → PlacedCover theirs ps2 l s → PlacedCover theirs qs2 l s)
+    → ((l : Layer) (s : Square) → (¬ Has w3 s) → PlacedCover theirs qs2 l s → PlacedCover theirs ps2 l s)
+    → AlikeOutside w3 (ReferencesCover ours xs) (IsMoved pairs (ReferencesCover theirs ys))
+refer_alike pairs ours theirs xs ys ps ps2 qs qs2 w1 w2 w3 mine other same_ps same_qs wide wider to back l s out =
+    let out2 : ¬ Has w2 s = λ h. out (wider.has s h) in
+    let both = mine l s (λ h. out2 (wide.has s h)) in
+    let here : Draws = PlacedCover theirs ps in
+    let there : Draws = ReferencesCover theirs ys in (
+      λ x.
+          moved_more pairs here there s s
+          (λ k a.
+          (other k s).0 (same_cover theirs qs2 qs (λ p. ((same_qs p).1, (same_qs p).0)) k s
+          (to k s out2 (same_cover theirs ps ps2 same_ps k s a)))) l (both.0 x),
+      λ m.
+          both.1 (moved_more pairs there here s s
+          (λ k a.
+          same_cover theirs ps2 ps (λ p. ((same_ps p).1, (same_ps p).0)) k s
+          (back k s out (same_cover theirs qs qs2 same_qs k s ((other k s).1 a)))) l m),
+    )

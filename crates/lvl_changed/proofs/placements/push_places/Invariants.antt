@@ -1,0 +1,10 @@
+use Rattle.std.proofs.Common.{◌≡◌, ◌++◌, map, take}
+use Rattle.lvl_cells.specs.Cells.{placing}
+use Rattle.lvl_changed.proofs.placements.push_places.Given as goal
+
+-- the places so far are added
+abbrev pub invariant-loop-k : goal.invariant-loop-k
+invariant-loop-k l =
+    l.placements.items
+    ≡ l.initial.placements.items
+    ++ map (λ e. record { cell = l.cell; map = placing l.reference e }) (take l.k l.reference.shifts)

@@ -1,0 +1,18 @@
+use Rattle.lvl_changed.proofs.Missing.{none_is}
+use Rattle.lvl_changed.proofs.Widening.{widens_further}
+use Rattle.lvl_changed.proofs.rings.hold_rings.Goals as goal
+
+pub returns-then-is_none-clause-held : goal.returns-then-is_none-clause-held
+returns-then-is_none-clause-held c = λ s out.
+    none_is c.in_ok-difference_in.field-0 _ c.if-is_none.ensures c.in_ok-difference_in.ensures.same s tt
+
+pub returns-clause-held : goal.returns-clause-held
+returns-clause-held c = λ s out. (
+  λ a. c.in_ok-hold_missing.ensures.held s (λ h. out (c.in_ok-hold_missing-2.ensures.kept.has s h)) a,
+  λ a. c.in_ok-hold_missing-2.ensures.held s out a,
+)
+
+pub returns-clause-kept : goal.returns-clause-kept
+returns-clause-kept c =
+    widens_further c.args.windows.now c.hold_missing.new.windows c.hold_missing-2.new.windows
+    c.in_ok-hold_missing.ensures.kept c.in_ok-hold_missing-2.ensures.kept

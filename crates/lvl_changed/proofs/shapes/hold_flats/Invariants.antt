@@ -1,0 +1,15 @@
+use Rattle.std.proofs.Common.{◌+◌, drop, length}
+use Rattle.lvl_compare.proofs.Behind.{IsWalked}
+use Rattle.lvl_changed.specs.inside.Shapes.{LayerAlike}
+use Rattle.lvl_changed.specs.inside.Windows.{Widens}
+use Rattle.lvl_changed.proofs.shapes.hold_flats.Given as goal
+
+-- outside of the windows the Layers that were passed are alike
+abbrev pub invariant-loop-layer : goal.invariant-loop-layer
+invariant-loop-layer l = record {
+  walked : IsWalked (LayerAlike l.windows l.ours l.theirs) (drop l.our_place l.ours) (drop l.their_place l.theirs);
+  kept : Widens l.initial.windows l.windows;
+}
+
+abbrev pub decreases-loop-layer : goal.decreases-loop-layer
+decreases-loop-layer l = length (drop l.our_place l.ours) + length (drop l.their_place l.theirs)

@@ -1,0 +1,14 @@
+use Rattle.std.proofs.lemmas.Result.{on_ok_weaker}
+use Rattle.lvl_grid.specs.Turn.{image_square}
+use Rattle.lvl_changed.proofs.windows.Windows.hold_placed_cell.Goals as goal
+
+pub returns-in-Some-clause-held : goal.returns-in-Some-clause-held
+returns-in-Some-clause-held c =
+    on_ok_weaker c.hold_placed.result (λ held layer s h. held s (c.in-Some.ensures layer s h))
+    c.hold_placed.ensures.held
+
+pub returns-in-None-clause-held : goal.returns-in-None-clause-held
+returns-in-None-clause-held c = λ layer s h. c.hold_anywhere.ensures (image_square c.args.map.now s)
+
+pub returns-in-None-clause-kept : goal.returns-in-None-clause-kept
+returns-in-None-clause-kept c = record { has = λ s h. c.hold_anywhere.ensures s }

@@ -1,0 +1,5 @@
+pub mod Partners
+pub mod Windows
+pub mod Placements
+pub mod Finding
+pub mod Shapes

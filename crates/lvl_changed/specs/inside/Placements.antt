@@ -1,0 +1,44 @@
+-- Placements: the cells that references place, each place by itself.
+use Rattle.std.specs.Prelude.{◌≡◌, ◌↔◌, ℕ, List, [], map, slice_get, Option, Some, None, Any, Contains}
+use Rattle.lvl_grid.specs.declared.point.Square.{Square}
+use Rattle.lvl_grid.specs.Turn.{image_square}
+use Rattle.lvl_names.specs.declared.layer.Layer.{Layer}
+use Rattle.lvl_cells.specs.Cells.{PlainCell, PlainReference, Rings, placing}
+use Rattle.lvl_flat.specs.Flattened.{CoversAt}
+use Rattle.lvl_flat.specs.inside.Visits.{picks, PickCovers}
+use Rattle.lvl_view.specs.declared.map.LayerPair.{LayerPair}
+use Rattle.lvl_view.specs.Moved.{IsMoved}
+use Rattle.lvl_changed.specs.declared.placements.Placement.{Placement}
+use Rattle.lvl_changed.specs.declared.windows.Windows.{Windows}
+use Rattle.lvl_changed.specs.inside.Windows.{AlikeOutside}
+
+-- the cell of that index at each place of the reference
+abbrev pub placed : ℕ → PlainReference → List Placement
+placed k r = map (λ e. record { cell = k; map = placing r e }) r.shifts
+
+-- the partner of a cell at each place of the reference; nothing where there is none
+abbrev pub partner_placed : Option ℕ → PlainReference → List Placement
+partner_placed None r = []
+partner_placed (Some n) r = placed n r
+
+-- the placed cell covers the square whose image the square is
+abbrev pub PlacementCovers : List (PlainCell Rings) → Layer → Square → Placement → Type 0
+PlacementCovers cells layer s p = (t : Square) × (image_square p.map t ≡ s) × CoversAt cells p.cell layer t
+
+-- some of the placements does
+abbrev pub PlacedCover : List (PlainCell Rings) → List Placement → Layer → Square → Type 0
+PlacedCover cells placements layer s = Any (PlacementCovers cells layer s) placements
+
+-- what the references place covers the square
+abbrev pub ReferencesCover : List (PlainCell Rings) → List PlainReference → Layer → Square → Type 0
+ReferencesCover cells references layer s = Any (PickCovers cells layer s) (picks references)
+
+-- outside of the windows the references of our cell cover what those of theirs do, seen through the map of Layers
+abbrev pub ReferAlike : Windows → List LayerPair → List (PlainCell Rings) → ℕ → List (PlainCell Rings) → ℕ → Type 0
+ReferAlike w pairs ours i theirs j =
+    (c d : PlainCell Rings) → slice_get ours i ≡ Some c → slice_get theirs j ≡ Some d
+    → AlikeOutside w (ReferencesCover ours c.references) (IsMoved pairs (ReferencesCover theirs d.references))
+
+-- both lists have the same placements
+abbrev pub HaveSame : List Placement → List Placement → Type 0
+HaveSame ps qs = (p : Placement) → Contains ps p ↔ Contains qs p

@@ -1,0 +1,178 @@
+//! Two libraries compared cell by cell, without flattening them.
+ghost use Rattle.std.specs.Prelude.{◌≡◌, ◌<◌, length, List, map, None, Some, IfOk, IfSome, slice_set, vec_len};
+ghost use Rattle.std.specs.List.{range_with_len};
+ghost use Rattle.lvl_grid.specs.declared.point.Square.{Square};
+ghost use Rattle.lvl_names.specs.declared.layer.Layer.{Layer};
+ghost use Rattle.lvl_cells.specs.Cells.{PlainCell, Rings};
+ghost use Rattle.lvl_flat.specs.Flattened.{CoversAt, TopCovers};
+ghost use Rattle.lvl_view.specs.declared.map.LayerPair.{LayerPair};
+ghost use Rattle.lvl_view.specs.Moved.{IsMoved};
+ghost use Rattle.lvl_compare.specs.Tops.{DrawSame};
+ghost use Rattle.lvl_changed.specs.Changed.{IsOutside};
+ghost use Rattle.lvl_changed.specs.inside.Windows.{AlikeOutside, Has};
+ghost use Rattle.lvl_changed.specs.inside.Finding.{AreFound, IsFound};
+
+use crate::found::Found;
+use crate::partners::{index_by_name, placed_partner, times_placed};
+use crate::references::hold_references;
+use crate::shapes::hold_shapes;
+use crate::windows::Windows;
+use lvl_flat::Fitted;
+use lvl_grid::Window;
+use lvl_view::View;
+use std::alloc::{AllocError, Global};
+
+/// The most windows that are kept of a cell.
+const MOST_WINDOWS: u64 = 64;
+
+/// The most windows that are placed of a cell, at all places together, as far as one a place allows.
+const MOST_PLACED: u64 = 4096;
+
+/// How many windows are kept of a cell that is placed so often.
+fn most_windows(times: u64) -> usize {
+    if times <= MOST_PLACED / MOST_WINDOWS {
+        return MOST_WINDOWS as usize;
+    }
+    if times < MOST_PLACED {
+        return (MOST_PLACED / times) as usize;
+    }
+    1
+}
+
+/// Nothing is known of so many cells.
+fn none_known(alloc: Global, count: usize) -> Result<Vec<Option<Found>>, AllocError>
+    ensures { IfOk result (λ known. known.items ≡ map (λ _. None) (range_with_len 0 count)) }
+{
+    (0..count).map(|_| None).collect(alloc)
+}
+
+/// Windows outside of which our cell covers what theirs does.
+fn changes_of(
+    alloc: Global,
+    first: &Fitted,
+    ours: usize,
+    second: &Fitted,
+    theirs: usize,
+    view: &View,
+    known: &[Option<Found>],
+    most: usize,
+) -> Result<Windows, AllocError>
+    requires ours { ours < length first.now.cells }
+    requires theirs { theirs < length second.now.cells }
+    ensures { IfOk result (λ windows. AreFound view.now.pairs first.now.cells second.now.cells known.now
+        → AlikeOutside windows (CoversAt first.now.cells ours)
+        (IsMoved view.now.pairs (CoversAt second.now.cells theirs))) }
+{
+    let mut windows = Windows::none(alloc, most);
+    let our_cell = &first.checked().cells()[ours];
+    let their_cell = &second.checked().cells()[theirs];
+    hold_shapes(&mut windows, alloc, our_cell, their_cell, view)?;
+    hold_references(&mut windows, alloc, first, ours, second, theirs, known)?;
+    Ok(windows)
+}
+
+/// A window that has all that a cell covers.
+fn extent_of(alloc: Global, library: &Fitted, cell: usize) -> Result<Windows, AllocError>
+    ensures { IfOk result (λ windows. (layer : Layer) (s : Square)
+        → CoversAt library.now.cells cell layer s → Has windows s) }
+{
+    let mut windows = Windows::none(alloc, 1);
+    windows.hold_cell(library, cell)?;
+    Ok(windows)
+}
+
+/// Where a cell may not cover what its partner does, or what it covers if it has none.
+fn found_of(
+    alloc: Global,
+    first: &Fitted,
+    cell: usize,
+    second: &Fitted,
+    partner: Option<usize>,
+    view: &View,
+    known: &[Option<Found>],
+    most: usize,
+) -> Result<Found, AllocError>
+    requires cell { cell < length first.now.cells }
+    requires partner { IfSome partner (λ n. n < length second.now.cells) }
+    ensures partner { IfOk result (λ found. found.partner ≡ partner) }
+    ensures found { IfOk result (λ found. AreFound view.now.pairs first.now.cells second.now.cells known.now
+        → IsFound view.now.pairs first.now.cells second.now.cells cell found) }
+{
+    let Some(theirs) = partner else {
+        let windows = extent_of(alloc, first, cell)?;
+        return Ok(Found {
+            partner: None,
+            windows,
+        });
+    };
+    let windows = changes_of(alloc, first, cell, second, theirs, view, known, most)?;
+    Ok(Found {
+        partner: Some(theirs),
+        windows,
+    })
+}
+
+/// Keeps what was found of the cell at an index.
+fn keep(known: &mut Vec<Option<Found>>, cell: usize, found: Found)
+    requires { cell < vec_len known.old }
+    ensures kept { known.new.items ≡ slice_set known.old.items cell (Some found) }
+    ensures long { vec_len known.new ≡ vec_len known.old }
+{
+    known[cell] = Some(found);
+}
+
+/// The windows that were found of a cell, if it was compared with that one of the other library.
+fn windows_of(mut known: Vec<Option<Found>>, cell: usize, partner: usize) -> Option<Vec<Window>>
+    requires { cell < vec_len known }
+    ensures { IfSome result (λ windows. (pairs : List LayerPair) (ours theirs : List (PlainCell Rings))
+        → AreFound pairs ours theirs known.items
+        → DrawSame (IsOutside windows.items) (CoversAt ours cell) (IsMoved pairs (CoversAt theirs partner))) }
+{
+    let Found {
+        partner: compared,
+        windows,
+    } = known.swap_remove(cell)?;
+    if compared? != partner {
+        return None;
+    }
+    windows.into_list()
+}
+
+/// Windows outside of which both tops cover the same squares on every Layer, the second seen with its Layers
+/// mapped by the view; None where nothing was found out. There are at most 64, and none where both are found
+/// to draw the same everywhere.
+///
+/// Nothing is flattened but the own shapes of one cell at a time. The tops are compared, and any other cell
+/// with the cell of its name: own shapes with own shapes, and references place by place. What one side alone
+/// places is in the windows with all that it covers, and what is found of a cell is in those of the cells
+/// that place it, at each place. A cell whose partner is not placed counts as one without a partner, since
+/// nothing bounds how much the partner draws.
+pub fn changed(
+    alloc: Global,
+    first: &Fitted,
+    second: &Fitted,
+    view: &View,
+) -> Result<Option<Vec<Window>>, AllocError>
+    ensures { IfOk result (λ found. IfSome found (λ windows.
+        DrawSame (IsOutside windows.items) (TopCovers first.now) (IsMoved view.now.pairs (TopCovers second.now)))) }
+{
+    let ours = first.checked();
+    let theirs = second.checked();
+    let Some(index) = index_by_name(alloc, theirs)? else {
+        return Ok(None);
+    };
+    let times = times_placed(alloc, ours)?;
+    let their_times = times_placed(alloc, theirs)?;
+    let mut known = none_known(alloc, ours.cells().len())?;
+    for i in (0..ours.order().len()).rev() {
+        let cell = ours.order()[i];
+        if times[cell] == 0 {
+            continue;
+        }
+        let partner = placed_partner(ours, cell, theirs, &index, &their_times);
+        let most = most_windows(times[cell]);
+        let found = found_of(alloc, first, cell, second, partner, view, &known, most)?;
+        keep(&mut known, cell, found);
+    }
+    Ok(windows_of(known, ours.top(), theirs.top()))
+}

@@ -1,0 +1,83 @@
+//! The comparison of two libraries where something changed between them, and nowhere else.
+ghost use Rattle.std.specs.Prelude.{IfOk, IfSome, IfNone};
+ghost use Rattle.lvl_columns.specs.Windows.{IsShown};
+ghost use Rattle.lvl_flat.specs.Flattened.{TopCovers};
+ghost use Rattle.lvl_view.specs.Moved.{IsMoved};
+ghost use Rattle.lvl_compare.specs.Tops.{DrawSame, IsFirstDifference};
+ghost use Rattle.lvl_changed.specs.Changed.{IsOutside};
+
+use crate::cells::changed;
+use crate::partners::pays_by_cells;
+use lvl_compare::{difference_by_strips, difference_in_windows};
+use lvl_flat::Fitted;
+use lvl_grid::{Square, Window};
+use lvl_names::Layer;
+use lvl_region::Side;
+use lvl_view::View;
+use std::alloc::{AllocError, Global};
+
+/// How many squares a window has, up to the greatest number.
+fn area(window: &Window) -> u64 {
+    let width = window.x0.abs_diff(window.x1);
+    width.saturating_mul(window.y0.abs_diff(window.y1))
+}
+
+/// Whether the windows have at most half as many squares as the window of all that the larger layout draws.
+/// It is a matter of cost alone.
+fn are_small(windows: &[Window], first: &Fitted, second: &Fitted) -> bool {
+    let all = area(&first.extent()).max(area(&second.extent()));
+    let mut sum = 0u64;
+    for window in windows {
+        sum = sum.saturating_add(area(window));
+    }
+    sum <= all / 2
+}
+
+/// The windows in which the layouts may differ, if it is likely to pay to look for them and to compare only
+/// what is in them.
+fn windows_to_compare(
+    alloc: Global,
+    first: &Fitted,
+    second: &Fitted,
+    view: &View,
+) -> Result<Option<Vec<Window>>, AllocError>
+    ensures { IfOk result (λ found. IfSome found (λ windows.
+        DrawSame (IsOutside windows.items) (TopCovers first.now) (IsMoved view.now.pairs (TopCovers second.now)))) }
+{
+    if !pays_by_cells(alloc, first.checked())? || !pays_by_cells(alloc, second.checked())? {
+        return Ok(None);
+    }
+    let Some(windows) = changed(alloc, first, second, view)? else {
+        return Ok(None);
+    };
+    if !are_small(&windows, first, second) {
+        return Ok(None);
+    }
+    Ok(Some(windows))
+}
+
+/// The first Layer, and on it the first square, by y and then x, that one of two layouts alone draws,
+/// with its side; None where both draw the same squares on every Layer. The second is seen with its Layers
+/// mapped by the view, and where the view has a window only its squares count.
+///
+/// Where cells are placed often enough for it to pay, only what [`changed`] finds is compared. Otherwise, and
+/// where that is most of the layout, all is: see [`difference_by_strips`], also for `most`. Fails only when
+/// out of memory.
+pub fn difference_by_changes(
+    alloc: Global,
+    first: &Fitted,
+    second: &Fitted,
+    view: &View,
+    most: usize,
+) -> Result<Option<(Layer, Square, Side)>, AllocError>
+    ensures same { IfOk result (λ found. IfNone found
+        (DrawSame (IsShown view.now.window) (TopCovers first.now) (IsMoved view.now.pairs (TopCovers second.now)))) }
+    ensures differ { IfOk result (λ found. IfSome found
+        (λ at. IsFirstDifference (IsShown view.now.window) (TopCovers first.now)
+        (IsMoved view.now.pairs (TopCovers second.now)) at.0 at.1 at.2)) }
+{
+    let Some(windows) = windows_to_compare(alloc, first, second, view)? else {
+        return difference_by_strips(alloc, first, second, view, most);
+    };
+    difference_in_windows(alloc, first, second, view, &windows, most)
+}

@@ -1,0 +1,10 @@
+//! What was found out of a cell.
+use crate::windows::Windows;
+
+/// Outside of the windows a cell covers what its partner in the other library does, or nothing if it has
+/// none.
+#[derive(Debug, Drop)]
+pub(crate) struct Found {
+    pub partner: Option<usize>,
+    pub windows: Windows,
+}

@@ -1,0 +1,134 @@
+//! Which cells of two libraries are compared.
+ghost use Rattle.std.specs.Prelude.{◌≡◌, ◌<◌, length, IfOk, IfSome, vec_len};
+ghost use Rattle.lvl_cells.specs.Cells.{names};
+ghost use Rattle.lvl_cells.specs.Resolving.{IsIndexOf};
+ghost use Rattle.lvl_changed.specs.inside.Partners.{IsPartner};
+
+use lvl_cells::{Cell, Checked, index_of};
+use lvl_refusal::Refusal;
+use std::alloc::{AllocError, Global};
+use std::collections::BTreeMap;
+
+/// The indexes of the cells by their names.
+pub(crate) fn index_by_name(
+    alloc: Global,
+    checked: &Checked,
+) -> Result<Option<BTreeMap<&[u8], usize>>, AllocError>
+    ensures { IfOk result (λ found. IfSome found (IsIndexOf (names checked.now.cells))) }
+{
+    match index_of(alloc, checked.cells()) {
+        Ok(index) => Ok(Some(index)),
+        Err(Refusal::Breach(_)) => Ok(None),
+        Err(Refusal::OutOfMemory) => Err(AllocError),
+    }
+}
+
+/// The index of the cell that a cell is compared with: the tops with one another, any other with the
+/// cell of its name.
+fn partner_of(
+    first: &Checked,
+    cell: usize,
+    second: &Checked,
+    index: &BTreeMap<&[u8], usize>,
+) -> Option<usize>
+    requires cell { cell < length first.now.cells }
+    requires index { IsIndexOf (names second.now.cells) index.now }
+    ensures { IfSome result (IsPartner first.now second.now cell) }
+{
+    if cell == first.top() {
+        return Some(second.top());
+    }
+    let partnered = &first.cells()[cell];
+    index.get(partnered.name.as_slice()).copied()
+}
+
+/// The same, but only if that cell is placed: `times` says how often each cell of the second library is.
+pub(crate) fn placed_partner(
+    first: &Checked,
+    cell: usize,
+    second: &Checked,
+    index: &BTreeMap<&[u8], usize>,
+    times: &[u64],
+) -> Option<usize>
+    requires cell { cell < length first.now.cells }
+    requires index { IsIndexOf (names second.now.cells) index.now }
+    ensures { IfSome result (IsPartner first.now second.now cell) }
+{
+    let partner = partner_of(first, cell, second, index)?;
+    match times.get(partner) {
+        Some(0) => None,
+        _ => Some(partner),
+    }
+}
+
+/// How often each cell is placed from the top, up to the greatest number; zero where it is not
+/// reached. It is a matter of cost alone.
+pub(crate) fn times_placed(alloc: Global, checked: &Checked) -> Result<Vec<u64>, AllocError>
+    ensures { IfOk result (λ times. vec_len times ≡ length checked.now.cells) }
+{
+    let mut times = vec![in alloc; 0; checked.cells().len()]?;
+    times[checked.top()] = 1;
+    for cell in checked.order() {
+        add_places(checked, *cell, &mut times);
+    }
+    Ok(times)
+}
+
+/// Adds how often a cell's references place others.
+fn add_places(checked: &Checked, cell: usize, times: &mut [u64])
+    requires cell { cell < length checked.now.cells }
+    requires long { length times.old ≡ length checked.now.cells }
+{
+    let here = times[cell];
+    let place = &checked.cells()[cell];
+    for (j, reference) in place.references.iter().enumerate() {
+        if let Some(target) = checked.target(cell, j) {
+            if target < times.len() {
+                let more = here.saturating_mul(reference.shifts().len());
+                times[target] = times[target].saturating_add(more);
+            }
+        }
+    }
+}
+
+/// How many rings a cell draws, each at each of its shifts, up to the greatest number.
+fn rings_of(cell: &Cell) -> u64 {
+    let shapes = &cell.shapes;
+    let mut sum = 0u64;
+    for i in 0..shapes.len() {
+        let drawn = (shapes.ring_count(i) as u64).saturating_mul(shapes.shift_count(i));
+        sum = sum.saturating_add(drawn);
+    }
+    sum
+}
+
+/// How many shifts a cell's shapes and references have, up to the greatest number.
+fn shifts_of(cell: &Cell) -> u64 {
+    let mut sum = 0u64;
+    for i in 0..cell.shapes.len() {
+        sum = sum.saturating_add(cell.shapes.shift_count(i));
+    }
+    for reference in &cell.references {
+        sum = sum.saturating_add(reference.shifts().len());
+    }
+    sum
+}
+
+/// Whether a comparison cell by cell is likely to cost less than one of flat layouts: where the cells
+/// that are reached have far fewer rings of their own than are placed, and all cells together not many
+/// more shifts, since boxes look at each of them. The answer is one of cost alone.
+pub fn pays_by_cells(alloc: Global, checked: &Checked) -> Result<bool, AllocError> {
+    let times = times_placed(alloc, checked)?;
+    let mut own = 0u64;
+    let mut placed = 0u64;
+    let mut shifts = 0u64;
+    for (cell, count) in checked.cells().iter().zip(&times) {
+        shifts = shifts.saturating_add(shifts_of(cell));
+        if *count > 0 {
+            let rings = rings_of(cell);
+            own = own.saturating_add(rings);
+            placed = placed.saturating_add(rings.saturating_mul(*count));
+        }
+    }
+    Ok(placed / 4 >= own && shifts / 2 <= placed)
+}

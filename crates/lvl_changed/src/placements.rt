@@ -1,0 +1,129 @@
+//! The cells that a cell places, each place by itself.
+ghost use Rattle.std.specs.Prelude.{◌≡◌, ◌++◌, ◌<◌, ◌↔◌, length, Contains, IsTrue, IfOk, IfSome, OnOk, slice_get};
+ghost use Rattle.lvl_grid.specs.declared.point.Square.{Square};
+ghost use Rattle.lvl_names.specs.declared.layer.Layer.{Layer};
+ghost use Rattle.lvl_changed.specs.inside.Windows.{Has, Widens};
+ghost use Rattle.lvl_changed.specs.inside.Placements.{placed, HaveSame, PlacedCover, ReferencesCover};
+
+use crate::windows::Windows;
+use lvl_cells::{Checked, Reference};
+use lvl_flat::{Fitted, placing_at};
+use lvl_grid::{Map, Turn};
+use std::alloc::{AllocError, Global};
+
+/// By what placements are sorted: no two different ones have the same.
+type Key = (usize, i64, i64, u8, bool);
+
+/// A cell that is placed once, by its index and the map that places it.
+#[derive(Clone, Copy, Debug, PartialEq, Eq)]
+pub(crate) struct Placement {
+    cell: usize,
+    map: Map,
+}
+
+impl Placement {
+    fn key(&self) -> Key {
+        let Map { flip, turn, at } = self.map;
+        (self.cell, at.x, at.y, quarters(turn), flip)
+    }
+}
+
+/// How many right angles the turn is.
+fn quarters(turn: Turn) -> u8 {
+    match turn {
+        Turn::R0 => 0,
+        Turn::R90 => 1,
+        Turn::R180 => 2,
+        Turn::R270 => 3,
+    }
+}
+
+/// Adds the cell of that index at each place of the reference.
+pub(crate) fn push_places(
+    placements: &mut Vec<Placement>,
+    reference: &Reference,
+    cell: usize,
+) -> Result<(), AllocError>
+    ensures { OnOk result (placements.new.items ≡ placements.old.items ++ placed cell reference.now) }
+{
+    for k in 0..reference.shifts().len() {
+        let Some(map) = placing_at(reference, k) else {
+            unreachable!()
+        };
+        placements.push(Placement { cell, map })?;
+    }
+    Ok(())
+}
+
+/// What a cell places, in which each cell goes by its own index.
+pub(crate) fn placements_of(
+    alloc: Global,
+    checked: &Checked,
+    cell: usize,
+) -> Result<Vec<Placement>, AllocError>
+    requires { cell < length checked.now.cells }
+    ensures { IfOk result (λ placements. IfSome (slice_get checked.now.cells cell)
+        (λ c. (layer : Layer) (s : Square)
+        → PlacedCover checked.now.cells placements.items layer s
+        ↔ ReferencesCover checked.now.cells c.references layer s)) }
+{
+    let mut placements = Vec::new(alloc);
+    let place = &checked.cells()[cell];
+    for (j, reference) in place.references.iter().enumerate() {
+        let Some(target) = checked.target(cell, j) else {
+            unreachable!()
+        };
+        push_places(&mut placements, reference, target)?;
+    }
+    Ok(placements)
+}
+
+/// Puts placements in the order of their keys.
+pub(crate) fn sort_places(placements: &mut Vec<Placement>)
+    ensures { HaveSame placements.old.items placements.new.items }
+{
+    placements.sort_unstable_by_key(|placement| placement.key());
+}
+
+/// The index of the first of sorted placements, from an index on, that doesn't come before the key.
+fn skip(placements: &[Placement], from: usize, key: Key) -> usize {
+    for at in from..placements.len() {
+        if placements[at].key() >= key {
+            return at;
+        }
+    }
+    placements.len()
+}
+
+/// Whether the placement is at this index.
+fn is_at(placements: &[Placement], at: usize, placement: &Placement) -> bool
+    ensures { IsTrue result → Contains placements.now placement.now }
+{
+    match placements.get(at) {
+        Some(found) => *found == *placement,
+        None => false,
+    }
+}
+
+/// Adds windows that have all that is covered by those placements which are not among the others. Both
+/// lists are to be sorted, as a matter of cost alone.
+pub(crate) fn hold_alone(
+    windows: &mut Windows,
+    library: &Fitted,
+    placements: &[Placement],
+    others: &[Placement],
+) -> Result<(), AllocError>
+    ensures held { OnOk result ((layer : Layer) (s : Square) → ¬ Has windows.new s
+        → PlacedCover library.now.cells placements.now layer s
+        → PlacedCover library.now.cells others.now layer s) }
+    ensures kept { OnOk result (Widens windows.old windows.new) }
+{
+    let mut at = 0;
+    for placement in placements {
+        at = skip(others, at, placement.key());
+        if !is_at(others, at, placement) {
+            windows.hold_placed_cell(library, placement.cell, &placement.map)?;
+        }
+    }
+    Ok(())
+}

@@ -1,0 +1,116 @@
+//! Where two lists of rings may cover different squares.
+ghost use Rattle.std.specs.Prelude.{◌≡◌, ◌↔◌, Contains, IsTrue, OnOk};
+ghost use Rattle.lvl_grid.specs.declared.point.Square.{Square};
+ghost use Rattle.lvl_grid.specs.Clip.{IsWithin};
+ghost use Rattle.lvl_grid.specs.Winding.{Covers};
+ghost use Rattle.lvl_cells.specs.Coverage.{RingsCover};
+ghost use Rattle.lvl_changed.specs.inside.Windows.{Has, Widens};
+
+use crate::windows::{Windows, joined, spot};
+use lvl_columns::difference_in;
+use lvl_grid::{Point, Rings, Window};
+use std::alloc::{AllocError, Global};
+use std::cmp::Ordering;
+
+/// A window that has all squares which the ring covers.
+fn box_of(ring: &[Point]) -> Window
+    ensures { (s : Square) → Covers ring.now s → IsWithin result s }
+{
+    let mut held = Window {
+        x0: i64::MAX,
+        y0: i64::MAX,
+        x1: i64::MIN,
+        y1: i64::MIN,
+    };
+    for point in ring {
+        held = joined(held, spot(*point));
+    }
+    held
+}
+
+/// The points of the ring at an index; none past the last ring.
+fn points_at(rings: &Rings, i: usize) -> &[Point] {
+    match rings.get(i) {
+        Some(ring) => ring,
+        None => &[],
+    }
+}
+
+/// The order of rings, point by point.
+fn compare_rings(first: &[Point], second: &[Point]) -> Ordering {
+    for (a, b) in first.iter().zip(second) {
+        let order = (a.x, a.y).cmp(&(b.x, b.y));
+        if order != Ordering::Equal {
+            return order;
+        }
+    }
+    first.len().cmp(&second.len())
+}
+
+/// The indexes of the rings, in the order of their points.
+fn order_of(alloc: Global, rings: &Rings) -> Result<Vec<usize>, AllocError> {
+    let mut order: Vec<usize> = (0..rings.len()).collect(alloc)?;
+    order.sort_unstable_by(|i, j| compare_rings(points_at(rings, *i), points_at(rings, *j)));
+    Ok(order)
+}
+
+/// Whether the ring at an index has these points.
+fn is_at(rings: &Rings, i: usize, ring: &[Point]) -> bool
+    ensures { IsTrue result → Contains rings.now ring.now }
+{
+    match rings.get(i) {
+        Some(found) => found == ring,
+        None => false,
+    }
+}
+
+/// Whether the ring is found among others, of which the order is given.
+fn has_ring(rings: &Rings, order: &[usize], ring: &[Point]) -> bool
+    ensures { IsTrue result → Contains rings.now ring.now }
+{
+    match order.binary_search_by(|i| compare_rings(points_at(rings, *i), ring)) {
+        Ok(place) => is_at(rings, order[place], ring),
+        Err(_) => false,
+    }
+}
+
+/// Adds the boxes of the rings that the other list doesn't have.
+fn hold_missing(
+    windows: &mut Windows,
+    alloc: Global,
+    rings: &Rings,
+    others: &Rings,
+) -> Result<(), AllocError>
+    ensures held { OnOk result ((s : Square)
+        → ¬ Has windows.new s → RingsCover rings.now s → RingsCover others.now s) }
+    ensures kept { OnOk result (Widens windows.old windows.new) }
+{
+    let order = order_of(alloc, others)?;
+    for i in 0..rings.len() {
+        let ring = rings.ring(i);
+        if !has_ring(others, &order, ring) {
+            windows.hold(box_of(ring))?;
+        }
+    }
+    Ok(())
+}
+
+/// Adds windows outside of which both lists cover the same squares: none where both cover the same, else
+/// the boxes of the rings that one list alone has.
+pub(crate) fn hold_rings(
+    windows: &mut Windows,
+    alloc: Global,
+    ours: &Rings,
+    theirs: &Rings,
+) -> Result<(), AllocError>
+    ensures held { OnOk result ((s : Square)
+        → ¬ Has windows.new s → RingsCover ours.now s ↔ RingsCover theirs.now s) }
+    ensures kept { OnOk result (Widens windows.old windows.new) }
+{
+    if difference_in(alloc, ours, theirs, None)?.is_none() {
+        return Ok(());
+    }
+    hold_missing(windows, alloc, ours, theirs)?;
+    hold_missing(windows, alloc, theirs, ours)?;
+    Ok(())
+}

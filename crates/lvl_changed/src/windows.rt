@@ -1,0 +1,275 @@
+//! A few windows that together have all squares of some kind.
+ghost use Rattle.std.specs.Prelude.{◌≡◌, ◌<◌, IsTrue, IfSome, OnOk, Contains, vec_len};
+ghost use Rattle.std.specs.Int.{int_min, int_max};
+ghost use Rattle.lvl_grid.specs.declared.point.Point.{Point as GridPoint};
+ghost use Rattle.lvl_grid.specs.declared.point.Square.{Square};
+ghost use Rattle.lvl_grid.specs.Clip.{IsWithin};
+ghost use Rattle.lvl_grid.specs.Turn.{image_square};
+ghost use Rattle.lvl_names.specs.declared.layer.Layer.{Layer};
+ghost use Rattle.lvl_cells.specs.Cells.{placing};
+ghost use Rattle.lvl_flat.specs.Flattened.{CoversAt};
+ghost use Rattle.lvl_compare.specs.Parts.{SomeHas};
+ghost use Rattle.lvl_changed.specs.inside.Windows.{Has, HasPlaced, Widens};
+
+use lvl_cells::Reference;
+use lvl_flat::{Fitted, placing_at};
+use lvl_grid::{Map, Point, Window};
+use std::alloc::{AllocError, Global};
+
+/// Windows of which no two share a square, and as few as they may be; or the whole plane.
+#[derive(Debug, Drop)]
+pub(crate) struct Windows {
+    list: Vec<Window>,
+    most: usize,
+    anywhere: bool,
+}
+
+/// Whether the windows share a square.
+fn meet(first: Window, second: Window) -> bool {
+    let across = first.x0 < second.x1 && second.x0 < first.x1;
+    across && first.y0 < second.y1 && second.y0 < first.y1
+}
+
+/// Whether no square is in the window.
+fn has_no_square(window: Window) -> bool
+    ensures { IsTrue result → (s : Square) → ¬ IsWithin window s }
+{
+    window.x0 >= window.x1 || window.y0 >= window.y1
+}
+
+/// How wide and high a window is, both together, up to the greatest number.
+fn girth(window: Window) -> u64 {
+    let width = window.x0.abs_diff(window.x1);
+    width.saturating_add(window.y0.abs_diff(window.y1))
+}
+
+/// The window at a point, of no squares.
+pub(crate) fn spot(point: Point) -> Window
+    ensures { result ≡ record { x0 = point.x; y0 = point.y; x1 = point.x; y1 = point.y } }
+{
+    Window {
+        x0: point.x,
+        y0: point.y,
+        x1: point.x,
+        y1: point.y,
+    }
+}
+
+/// A window that has the squares of both.
+pub(crate) fn joined(first: Window, second: Window) -> Window
+    ensures { result ≡ record {
+      x0 = int_min first.x0 second.x0;
+      y0 = int_min first.y0 second.y0;
+      x1 = int_max first.x1 second.x1;
+      y1 = int_max first.y1 second.y1;
+    } }
+{
+    Window {
+        x0: first.x0.min(second.x0),
+        y0: first.y0.min(second.y0),
+        x1: first.x1.max(second.x1),
+        y1: first.y1.max(second.y1),
+    }
+}
+
+/// The lower left corner of a window.
+fn low_corner(window: &Window) -> Point
+    ensures { result ≡ record { x = window.now.x0; y = window.now.y0 } }
+{
+    Point {
+        x: window.x0,
+        y: window.y0,
+    }
+}
+
+/// The upper right corner of a window.
+fn high_corner(window: &Window) -> Point
+    ensures { result ≡ record { x = window.now.x1; y = window.now.y1 } }
+{
+    Point {
+        x: window.x1,
+        y: window.y1,
+    }
+}
+
+/// The squares of a window, placed by the map; None where a corner is outside of 64 signed bits.
+fn placed(window: &Window, map: &Map) -> Option<Window>
+    ensures { IfSome result
+        (λ placed. (s : Square) → IsWithin window.now s → IsWithin placed (image_square map.now s)) }
+{
+    let low = map.place(low_corner(window))?;
+    let high = map.place(high_corner(window))?;
+    Some(joined(spot(low), spot(high)))
+}
+
+impl Windows {
+    /// No windows. Of those that are added at most `most` are kept, and at least one.
+    pub(crate) fn none(alloc: Global, most: usize) -> Windows {
+        Windows {
+            list: Vec::new(alloc),
+            most,
+            anywhere: false,
+        }
+    }
+
+    /// Whether no square is in them.
+    fn is_empty(&self) -> bool
+        ensures { IsTrue result → (s : Square) → ¬ Has self.now s }
+    {
+        !self.anywhere && self.list.is_empty()
+    }
+
+    /// The windows, unless they are the whole plane.
+    pub(crate) fn into_list(self) -> Option<Vec<Window>>
+        ensures { IfSome result (λ list. (s : Square) → Has self s → SomeHas list.items s) }
+    {
+        if self.anywhere {
+            return None;
+        }
+        Some(self.list)
+    }
+
+    /// The whole plane from now on.
+    pub(crate) fn hold_anywhere(&mut self)
+        ensures { (s : Square) → Has self.new s }
+    {
+        self.anywhere = true;
+    }
+
+    /// The index of a window that grows least if it is joined with that one; None if there is none.
+    fn nearest(&self, window: Window) -> Option<usize>
+        ensures { IfSome result (λ i. i < vec_len self.now.list) }
+    {
+        let mut nearest = None;
+        let mut least = u64::MAX;
+        for i in 0..self.list.len() {
+            let other = self.list[i];
+            let growth = girth(joined(other, window)).saturating_sub(girth(other));
+            if nearest.is_none() || growth < least {
+                nearest = Some(i);
+                least = growth;
+            }
+        }
+        nearest
+    }
+
+    /// The index of a window that is to be joined with that one before it is added: one that shares a square
+    /// with it, or any if there are as many as there may be.
+    fn to_join(&self, window: Window) -> Option<usize>
+        ensures { IfSome result (λ i. i < vec_len self.now.list) }
+    {
+        for i in 0..self.list.len() {
+            if meet(self.list[i], window) {
+                return Some(i);
+            }
+        }
+        if self.list.len() < self.most {
+            return None;
+        }
+        self.nearest(window)
+    }
+
+    /// Adds a window, unless it has no square. It is joined with those that share a square with it.
+    pub(crate) fn hold(&mut self, window: Window) -> Result<(), AllocError>
+        ensures held { OnOk result ((s : Square) → IsWithin window s → Has self.new s) }
+        ensures kept { OnOk result (Widens self.old self.new) }
+    {
+        if has_no_square(window) {
+            return Ok(());
+        }
+        let mut whole = window;
+        while let Some(i) = self.to_join(whole) {
+            let other = self.list.swap_remove(i);
+            whole = joined(whole, other);
+        }
+        self.list.push(whole)?;
+        Ok(())
+    }
+
+    /// Adds a window as the map places it.
+    fn hold_placed(&mut self, window: &Window, map: &Map) -> Result<(), AllocError>
+        ensures held { OnOk result
+            ((s : Square) → IsWithin window.now s → Has self.new (image_square map.now s)) }
+        ensures kept { OnOk result (Widens self.old self.new) }
+    {
+        match placed(window, map) {
+            Some(window) => self.hold(window),
+            None => {
+                self.hold_anywhere();
+                Ok(())
+            }
+        }
+    }
+
+    /// Adds other windows as the map places them.
+    fn hold_all_placed(&mut self, held: &Windows, map: &Map) -> Result<(), AllocError>
+        ensures held { OnOk result (HasPlaced map.now held.now self.new) }
+        ensures kept { OnOk result (Widens self.old self.new) }
+    {
+        if held.anywhere {
+            self.hold_anywhere();
+            return Ok(());
+        }
+        for window in &held.list {
+            self.hold_placed(window, map)?;
+        }
+        Ok(())
+    }
+
+    /// Adds other windows at each place of a reference.
+    pub(crate) fn hold_places(
+        &mut self,
+        held: &Windows,
+        reference: &Reference,
+    ) -> Result<(), AllocError>
+        ensures held { OnOk result ((e : GridPoint) → Contains reference.now.shifts e
+            → HasPlaced (placing reference.now e) held.now self.new) }
+        ensures kept { OnOk result (Widens self.old self.new) }
+    {
+        if held.is_empty() {
+            return Ok(());
+        }
+        for k in 0..reference.shifts().len() {
+            let Some(map) = placing_at(reference, k) else {
+                unreachable!()
+            };
+            self.hold_all_placed(held, &map)?;
+        }
+        Ok(())
+    }
+
+    /// Adds a window that has all that a cell covers.
+    pub(crate) fn hold_cell(&mut self, library: &Fitted, cell: usize) -> Result<(), AllocError>
+        ensures held { OnOk result
+            ((layer : Layer) (s : Square) → CoversAt library.now.cells cell layer s → Has self.new s) }
+        ensures kept { OnOk result (Widens self.old self.new) }
+    {
+        match library.extent_of(cell) {
+            Some(window) => self.hold(window),
+            None => {
+                self.hold_anywhere();
+                Ok(())
+            }
+        }
+    }
+
+    /// Adds a window that has all that a cell covers as the map places it.
+    pub(crate) fn hold_placed_cell(
+        &mut self,
+        library: &Fitted,
+        cell: usize,
+        map: &Map,
+    ) -> Result<(), AllocError>
+        ensures held { OnOk result ((layer : Layer) (s : Square)
+            → CoversAt library.now.cells cell layer s → Has self.new (image_square map.now s)) }
+        ensures kept { OnOk result (Widens self.old self.new) }
+    {
+        match library.extent_of(cell) {
+            Some(window) => self.hold_placed(&window, map),
+            None => {
+                self.hold_anywhere();
+                Ok(())
+            }
+        }
+    }
+}

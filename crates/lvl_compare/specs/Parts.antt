@@ -1,0 +1,14 @@
+-- The squares of some windows (own rule).
+use Rattle.std.specs.Prelude.{List, Option, Any}
+use Rattle.lvl_grid.specs.declared.point.Square.{Square}
+use Rattle.lvl_grid.specs.declared.point.Window.{Window}
+use Rattle.lvl_grid.specs.Clip.{IsWithin}
+use Rattle.lvl_columns.specs.Windows.{IsShown}
+
+-- one of the windows has the square
+abbrev pub SomeHas : List Window → Square → Type 0
+SomeHas windows s = Any (λ w. IsWithin w s) windows
+
+-- the square is seen, and one of the windows has it
+abbrev pub IsSeenIn : Option Window → List Window → Square → Type 0
+IsSeenIn seen windows s = IsShown seen s × SomeHas windows s

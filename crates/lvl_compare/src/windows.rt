@@ -1,0 +1,43 @@
+//! Two libraries compared in some windows, and nowhere else.
+ghost use Rattle.std.specs.Prelude.{IfOk, IfSome, IfNone};
+ghost use Rattle.lvl_flat.specs.Flattened.{TopCovers};
+ghost use Rattle.lvl_view.specs.Moved.{IsMoved};
+ghost use Rattle.lvl_compare.specs.Parts.{IsSeenIn};
+ghost use Rattle.lvl_compare.specs.Tops.{DrawSame, IsFirstDifference};
+
+use crate::strips::{difference_within, least, shared};
+use lvl_flat::Fitted;
+use lvl_grid::{Square, Window};
+use lvl_names::Layer;
+use lvl_region::Side;
+use lvl_view::View;
+use std::alloc::{AllocError, Global};
+
+/// The first Layer, and on it the first square, by y and then x, that one of two layouts alone draws in
+/// the windows, with its side; None where both draw the same squares of the windows on every Layer. The
+/// second is seen with its Layers mapped by the view, and where the view has a window only its squares count.
+///
+/// Each window is looked at by itself, strip by strip: see [`crate::difference_by_strips`], also for `most`.
+/// Fails only when out of memory.
+pub fn difference_in_windows(
+    alloc: Global,
+    first: &Fitted,
+    second: &Fitted,
+    view: &View,
+    windows: &[Window],
+    most: usize,
+) -> Result<Option<(Layer, Square, Side)>, AllocError>
+    ensures same { IfOk result (λ found. IfNone found (DrawSame (IsSeenIn view.now.window windows.now)
+        (TopCovers first.now) (IsMoved view.now.pairs (TopCovers second.now)))) }
+    ensures differ { IfOk result (λ found. IfSome found
+        (λ at. IsFirstDifference (IsSeenIn view.now.window windows.now) (TopCovers first.now)
+        (IsMoved view.now.pairs (TopCovers second.now)) at.0 at.1 at.2)) }
+{
+    let mut found = None;
+    for window in windows {
+        let part = shared(*window, view.window());
+        let next = difference_within(alloc, first, second, view, part, most)?;
+        found = least(found, next);
+    }
+    Ok(found)
+}
