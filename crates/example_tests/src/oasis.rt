@@ -1,5 +1,6 @@
 //! What the documentation of the crates shows, line by line.
 
+use lvl_ignore::Ignore;
 use lvl_io::fake::Pieces;
 use oasis_figures::{Drawn, Modal};
 use oasis_library::read_oasis;
@@ -25,7 +26,7 @@ fn square(alloc: Global) -> Result<Vec<u8>, AllocError> {
 
 #[test]
 fn values(rt: HostRuntime) {
-    let mut input = Input::new(Pieces::new(b"\xE8\x07\x0B", usize::MAX));
+    let mut input = Input::new(Pieces::new(b"\xE8\x07\x0B", usize::MAX), Ignore::NOTHING);
     assert_eq!(rt; input.unsigned(), Ok(1000));
     assert_eq!(rt; input.signed(), Ok(-5));
     assert_eq!(rt; input.offset(), 3);
@@ -34,9 +35,9 @@ fn values(rt: HostRuntime) {
 #[test]
 fn records(rt: HostRuntime) -> Result<(), Fail> {
     let alloc = rt.alloc();
-    let mut input = Input::new(Pieces::new(RECTANGLE, usize::MAX));
+    let mut input = Input::new(Pieces::new(RECTANGLE, usize::MAX), Ignore::NOTHING);
     let id = read_id(&mut input)?;
-    let kind = RecordType::of(id.value)?;
+    let kind = RecordType::of(id.value, input.ignore())?;
     let record = read_fields(&mut input, alloc, kind, id.len, false)?;
     assert!(rt; matches!(record, Record::Rectangle(_)));
     Ok(())
@@ -45,9 +46,9 @@ fn records(rt: HostRuntime) -> Result<(), Fail> {
 #[test]
 fn figures(rt: HostRuntime) -> Result<(), Fail> {
     let alloc = rt.alloc();
-    let mut input = Input::new(Pieces::new(RECTANGLE, usize::MAX));
+    let mut input = Input::new(Pieces::new(RECTANGLE, usize::MAX), Ignore::NOTHING);
     let id = read_id(&mut input)?;
-    let kind = RecordType::of(id.value)?;
+    let kind = RecordType::of(id.value, input.ignore())?;
     let record = read_fields(&mut input, alloc, kind, id.len, false)?;
     let mut modal = Modal::new();
     let drawn = modal.take(alloc, record)?;
@@ -59,7 +60,7 @@ fn figures(rt: HostRuntime) -> Result<(), Fail> {
 fn streams(rt: HostRuntime) -> Result<(), Fail> {
     let alloc = rt.alloc();
     let bytes = square(alloc)?;
-    let mut input = Input::new(Pieces::new(&bytes, usize::MAX));
+    let mut input = Input::new(Pieces::new(&bytes, usize::MAX), Ignore::NOTHING);
     let mut order = Order::new();
     read_first(&mut input)?;
     let start = read_next(&mut input, alloc, &order)?;

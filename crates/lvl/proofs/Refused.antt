@@ -21,16 +21,16 @@ first_second e = cc
 
 -- a library that was read, checked and flattened
 
-pub passes : (file : File) (cells : List (PlainCell Rings)) (head : Head) → IsLayoutOf file.bytes cells head
+pub passes : (file : File) (cells : List (PlainCell Rings)) (head : Head) → IsLayoutOf file.ignore file.bytes cells head
     → Passes (record { cells = cells; top = file.top }) → PassesCheck file
 passes file cells head read p =
     (read.cells, head, read.spelled, subst (λ c. Passes (record { cells = c; top = file.top })) read.kept_as p)
 
-pub spells : (file : File) (cells : List (PlainCell Rings)) (head : Head) → IsLayoutOf file.bytes cells head
-    → SpellsSome file.bytes
+pub spells : (file : File) (cells : List (PlainCell Rings)) (head : Head) → IsLayoutOf file.ignore file.bytes cells head
+    → SpellsSome file.ignore file.bytes
 spells file cells head read = (read.cells, head, read.spelled)
 
-accepts : (file : File) (cells : List (PlainCell Rings)) (head : Head) → IsLayoutOf file.bytes cells head
+accepts : (file : File) (cells : List (PlainCell Rings)) (head : Head) → IsLayoutOf file.ignore file.bytes cells head
     → IsFitted (record { cells = cells; top = file.top })
     → (others : List Drawing) × (top : Drawing) × IsAccepted file others top
 accepts file cells head read f = let l = top_lifted file cells head read f.0 f.1 in (read.cells, l.top, l.accepted)
@@ -46,7 +46,7 @@ pub no_memory : (side : Side) (file : File) → IsRefusalOf side file OutOfMemor
 no_memory First file = record { unaccepted = λ b. absurd b; told = tt; passed = tt }
 no_memory Second file = record { unaccepted = λ b. absurd b; told = tt; passed = tt }
 
-pub file_refused : (side : Side) (file : File) (r : Refusal) → IsReadRefusal side file.bytes r → IsRefusalOf side file r
+pub file_refused : (side : Side) (file : File) (r : Refusal) → IsReadRefusal side file.ignore file.bytes r → IsRefusalOf side file r
 file_refused side file (FileRefusal s f) h = record {
   unaccepted = λ b cells top accepted. h.1.nothing b.1 cells accepted.head accepted.spelled;
   told = λ e. h.1.told;
@@ -68,7 +68,7 @@ second_of_first file (CellsRefusal s f) h = absurd h
 second_of_first file (FlatRefusal s f) h = absurd h
 second_of_first file OutOfMemory h = no_memory Second file
 
-pub first_of_second : (file : File) (cells : List (PlainCell Rings)) (head : Head) → IsLayoutOf file.bytes cells head
+pub first_of_second : (file : File) (cells : List (PlainCell Rings)) (head : Head) → IsLayoutOf file.ignore file.bytes cells head
     → (r : Refusal) → IsOfFile Second r
     → IsRefusalOf First file r
 first_of_second file cells head read (FileRefusal First f) h = absurd (first_second h)
@@ -83,7 +83,7 @@ first_of_second file cells head read OutOfMemory h = no_memory First file
 
 -- libraries that were not compared
 
-pub first_refused : (a : File) (k : Kept) (cells : List (PlainCell Rings)) (head : Head) → IsLayoutOf a.bytes cells head
+pub first_refused : (a : File) (k : Kept) (cells : List (PlainCell Rings)) (head : Head) → IsLayoutOf a.ignore a.bytes cells head
     → (r : Refusal)
     → IsKeptRefusal (record { cells = cells; top = a.top }) k r → IsRefusalOf First a r
 first_refused a k cells head read (FileRefusal s f) h = absurd h
@@ -110,7 +110,7 @@ first_refused a k cells head read (FlatRefusal Second f) h = record {
 first_refused a k cells head read OutOfMemory h = no_memory First a
 
 pub second_refused : (b : File) (k : Kept) (cells : List (PlainCell Rings)) (head : Head)
-    → IsLayoutOf b.bytes cells head → (r : Refusal)
+    → IsLayoutOf b.ignore b.bytes cells head → (r : Refusal)
     → IsKeptRefusal k (record { cells = cells; top = b.top }) r → IsRefusalOf Second b r
 second_refused b k cells head read (FileRefusal s f) h = absurd h
 second_refused b k cells head read (CellsRefusal First f) h = record {

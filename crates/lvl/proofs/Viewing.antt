@@ -8,8 +8,6 @@ use Rattle.lvl_cells.specs.Checks.{Settled}
 use Rattle.lvl_cells.specs.Coverage.{RingsCover, CellCovers}
 use Rattle.lvl_columns.specs.Windows.{IsShown}
 use Rattle.lvl_flat.specs.Flattened.{AllInRange, IsTopInRange, TopCovers}
-use Rattle.lvl_compare.specs.Alike.{AreAlike}
-use Rattle.lvl_compare.specs.Tops.{DrawSame}
 use Rattle.lvl_region.specs.declared.region.Side.TheVariants.{First, Second}
 use Rattle.lvl_view.specs.Views.{IsWhole, PlainView}
 use Rattle.lvl_view.specs.Moved.{IsMoved}
@@ -52,9 +50,6 @@ moved_same pairs Q Q' q l s = (
 itself : {A : Type 0} → A ↔ A
 itself = (λ a. a, λ a. a)
 
-turned : {A B : Type 0} → A ↔ B → B ↔ A
-turned h = (h.1, h.0)
-
 -- without pairs nothing is moved
 moved_none : (pairs : List LayerPair) → pairs ≡ [] → (Q : Layer → Square → Type 0) (l : Layer) (s : Square)
     → IsMoved pairs Q l s ↔ Q l s
@@ -88,18 +83,9 @@ pub top_places : (s : Settled) (top : PlainCell Rings) → slice_get s.cells s.t
     (q : Square) → TopCovers s l q ↔ CellCovers RingsCover s.cells l top q
 top_places s top is l q = rw is itself
 
--- where nothing is mapped, tops that cover the same squares draw the same under the view
-pub alike_draw : (view : PlainView) (s t : Settled) → view.pairs ≡ [] → AreAlike s.cells s.top t.cells t.top
-    → DrawSame (IsShown view.window) (TopCovers s) (IsMoved view.pairs (TopCovers t))
-alike_draw view s t none h = λ l q seen.
-    let ours = top_places s h.our_cell h.ours_is l q in
-    let theirs = top_places t h.their_cell h.theirs_is l q in
-    both_lifted _ _ _ _ itself (turned (moved_none view.pairs none (TopCovers t) l q))
-    (both_lifted _ _ _ _ (turned ours) (turned theirs) (h.alike l q))
-
 -- a verdict on what both tops cover, as one on what the files draw
 kept_viewed : (view : PlainView) (a b : File) (ours theirs : List (PlainCell Rings)) (g h : Head)
-    → IsLayoutOf a.bytes ours g → IsLayoutOf b.bytes theirs h → (v : Verdict)
+    → IsLayoutOf a.ignore a.bytes ours g → IsLayoutOf b.ignore b.bytes theirs h → (v : Verdict)
     → IsKeptVerdict view (record { cells = ours; top = a.top }) (record { cells = theirs; top = b.top }) v
     → IsViewVerdict view a b v
 kept_viewed view a b ours theirs g h p q v k =
@@ -124,7 +110,7 @@ kept_viewed view a b ours theirs g h p q v k =
 
 -- a whole comparison under a view
 pub compared_in : (view : PlainView) (a b : File) (ours theirs : List (PlainCell Rings)) (g h : Head)
-    → IsLayoutOf a.bytes ours g → IsLayoutOf b.bytes theirs h
+    → IsLayoutOf a.ignore a.bytes ours g → IsLayoutOf b.ignore b.bytes theirs h
     → (v : Verdict)
     → IsKeptVerdict view (record { cells = ours; top = a.top }) (record { cells = theirs; top = b.top }) v
     → IsComparedIn view a b (record { first = g; second = h; verdict = v })

@@ -19,7 +19,7 @@ use Rattle.lvl.specs.Layouts.{File, Spells}
 -- the bytes of the file spell the cells, which are sound for its top, the cell named, and fit
 pub record IsAccepted (file : File) (cells : List Drawing) (top : Drawing) : Type 0 where
   pub head : Head
-  pub spelled : Spells file.bytes cells head
+  pub spelled : Spells file.ignore file.bytes cells head
   pub index : ℕ
   pub sound : IsSound cells file.top index
   pub top_is : slice_get cells index ≡ Some top

@@ -1,5 +1,6 @@
 -- What an answer says of two files: a verdict, or why one of them is refused.
 use Rattle.std.specs.Prelude.{◌≡◌, ◌≢◌, ⊤, ℕ, Bool, false, List, ◌++◌, Option, Some, Result, Ok, Err}
+use Rattle.lvl_ignore.specs.declared.ignore.Ignore.{Ignore}
 use Rattle.lvl_path.specs.Figure.{figure_rings}
 use Rattle.lvl_cells.specs.Cells.{kept}
 use Rattle.lvl_region.specs.declared.region.Side.{Side}
@@ -34,9 +35,9 @@ abbrev pub nothing_read : GdsFault
 nothing_read = record { offset = 0; kind = Record Read }
 
 -- what the reader of the format says of the bytes; the format is that of the first byte, where one was read
-abbrev pub TellsOfFile : List ℕ → FileFault → Type 0
-TellsOfFile bytes (Gds f) = (f ≢ nothing_read → ¬ IsOasis bytes) × TellsGds bytes f
-TellsOfFile bytes (Oasis f) = IsOasis bytes × TellsOasis bytes f
+abbrev pub TellsOfFile : Ignore → List ℕ → FileFault → Type 0
+TellsOfFile ignore bytes (Gds f) = (f ≢ nothing_read → ¬ IsOasis bytes) × TellsGds ignore bytes f
+TellsOfFile ignore bytes (Oasis f) = IsOasis bytes × TellsOasis ignore bytes f
 
 -- the refusal is of that side's file, for another cause than memory or a failed read
 abbrev pub Blames : Side → Refusal → Type 0
@@ -51,31 +52,31 @@ kept_of file cells = record { cells = kept figure_rings cells; top = file.top }
 
 -- what the fault says holds of the bytes, or of every library that they spell
 abbrev pub IsTold : Side → File → Refusal → Type 0
-IsTold side file (FileRefusal s fault) = s ≡ side → TellsOfFile file.bytes fault
+IsTold side file (FileRefusal s fault) = s ≡ side → TellsOfFile file.ignore file.bytes fault
 IsTold side file (CellsRefusal s fault) =
-    s ≡ side → (cells : List Drawing) (head : Head) → Spells file.bytes cells head
+    s ≡ side → (cells : List Drawing) (head : Head) → Spells file.ignore file.bytes cells head
     → IsCellFault (kept_of file cells) fault
 IsTold side file (FlatRefusal s fault) =
-    s ≡ side → (cells : List Drawing) (head : Head) → Spells file.bytes cells head
+    s ≡ side → (cells : List Drawing) (head : Head) → Spells file.ignore file.bytes cells head
     → IsRangeFault (kept_of file cells) fault
 IsTold side file OutOfMemory = ⊤
 
 -- the file's library passes the check of its cells
 abbrev pub PassesCheck : File → Type 0
-PassesCheck file = (cells : List Drawing) × (head : Head) × Spells file.bytes cells head × Passes (kept_of file cells)
+PassesCheck file = (cells : List Drawing) × (head : Head) × Spells file.ignore file.bytes cells head × Passes (kept_of file cells)
 
 -- the steps for the file of that side that come before the one that refused passed: both files are read, then both are
 -- checked, then both are flattened, the first before the second
 abbrev pub HasPassed : Side → File → Refusal → Type 0
 HasPassed First a (FileRefusal First f) = ⊤
-HasPassed First a (FileRefusal Second f) = SpellsSome a.bytes
-HasPassed First a (CellsRefusal First f) = SpellsSome a.bytes
+HasPassed First a (FileRefusal Second f) = SpellsSome a.ignore a.bytes
+HasPassed First a (CellsRefusal First f) = SpellsSome a.ignore a.bytes
 HasPassed First a (CellsRefusal Second f) = PassesCheck a
 HasPassed First a (FlatRefusal First f) = PassesCheck a
 HasPassed First a (FlatRefusal Second f) = (cells : List Drawing) × (top : Drawing) × IsAccepted a cells top
 HasPassed First a OutOfMemory = ⊤
 HasPassed Second b (FileRefusal side f) = ⊤
-HasPassed Second b (CellsRefusal side f) = SpellsSome b.bytes
+HasPassed Second b (CellsRefusal side f) = SpellsSome b.ignore b.bytes
 HasPassed Second b (FlatRefusal side f) = PassesCheck b
 HasPassed Second b OutOfMemory = ⊤
 
@@ -99,17 +100,17 @@ IsEarlyOf side (FlatRefusal s f) = ⊥
 IsEarlyOf side OutOfMemory = ⊥
 
 -- of the input some bytes were taken, which spell no library whatever comes after them, and the others are left
-pub record IsHopeless (xs : List ℕ) (left : Option (List ℕ)) : Type 0 where
+pub record IsHopeless (ignore : Ignore) (xs : List ℕ) (left : Option (List ℕ)) : Type 0 where
   pub taken : List ℕ
   pub rest : List ℕ
   pub parts : xs ≡ taken ++ rest
   pub left_is : left ≡ Some rest
-  pub none : (more : List ℕ) → SpellsSome (taken ++ more) → ⊥
+  pub none : (more : List ℕ) → SpellsSome ignore (taken ++ more) → ⊥
 
 -- the heads are those that the bytes spell, and the verdict holds
 pub record IsCompared (a b : File) (c : Comparison) : Type 0 where
-  pub first : HasHead a.bytes c.first
-  pub second : HasHead b.bytes c.second
+  pub first : HasHead a.ignore a.bytes c.first
+  pub second : HasHead b.ignore b.bytes c.second
   pub verdict : IsVerdict a b c.verdict
 
 -- the fault is a read that failed

@@ -1,5 +1,6 @@
 -- What files spell, by their format.
 use Rattle.std.specs.Prelude.{◌≡◌, ℕ, List, [], ◌∷◌, Option, Some, None}
+use Rattle.lvl_ignore.specs.declared.ignore.Ignore.{Ignore}
 use Rattle.lvl_path.specs.Figure.{figure_rings}
 use Rattle.lvl_cells.specs.Cells.{PlainCell, Rings, kept}
 use Rattle.lvl.specs.Drawing.{Drawing}
@@ -8,15 +9,16 @@ use Rattle.oasis_library.specs.Library.{SpellsLibrary as SpellsOasis}
 use Rattle.lvl.specs.declared.layout.Head.{Head}
 use Rattle.lvl.specs.declared.layout.Head.TheVariants.{Gds, Oasis}
 
--- the bytes of a file, and the name of its top, if one was given
+-- the bytes of a file, which of its records are ignored, and the name of its top, if one was given
 pub record File : Type 0 where
+  pub ignore : Ignore
   pub bytes : List ℕ
   pub top : Option (List ℕ)
 
--- the bytes spell the cells and the head, in the head's format
-abbrev pub Spells : List ℕ → List Drawing → Head → Type 0
-Spells bytes cells (Gds h) = SpellsGds bytes cells h
-Spells bytes cells (Oasis h) = SpellsOasis bytes cells h
+-- the bytes spell the cells and the head, in the head's format, where some records are ignored
+abbrev pub Spells : Ignore → List ℕ → List Drawing → Head → Type 0
+Spells ignore bytes cells (Gds h) = SpellsGds ignore bytes cells h
+Spells ignore bytes cells (Oasis h) = SpellsOasis ignore bytes cells h
 
 -- the bytes begin with that byte
 pub record BeginsWith (byte : ℕ) (bytes : List ℕ) : Type 0 where
@@ -33,17 +35,17 @@ abbrev pub IsOasis : List ℕ → Type 0
 IsOasis bytes = BeginsWith 0x25 bytes
 
 -- the bytes spell some library
-abbrev pub SpellsSome : List ℕ → Type 0
-SpellsSome bytes = (cells : List Drawing) × (head : Head) × Spells bytes cells head
+abbrev pub SpellsSome : Ignore → List ℕ → Type 0
+SpellsSome ignore bytes = (cells : List Drawing) × (head : Head) × Spells ignore bytes cells head
 
 -- the bytes spell a library with that head
-abbrev pub HasHead : List ℕ → Head → Type 0
-HasHead bytes head = (cells : List Drawing) × Spells bytes cells head
+abbrev pub HasHead : Ignore → List ℕ → Head → Type 0
+HasHead ignore bytes head = (cells : List Drawing) × Spells ignore bytes cells head
 
 -- the library with rings alone, and the head, are those of the one library that the bytes spell
-pub record IsLayoutOf (bytes : List ℕ) (found : List (PlainCell Rings)) (head : Head) : Type 0 where
+pub record IsLayoutOf (ignore : Ignore) (bytes : List ℕ) (found : List (PlainCell Rings)) (head : Head) : Type 0 where
   pub cells : List Drawing
-  pub spelled : Spells bytes cells head
+  pub spelled : Spells ignore bytes cells head
   pub kept_as : found ≡ kept figure_rings cells
-  pub alone : (others : List Drawing) (h : Head) → Spells bytes others h
+  pub alone : (others : List Drawing) (h : Head) → Spells ignore bytes others h
       → (found ≡ kept figure_rings others) × (head ≡ h)

@@ -43,7 +43,7 @@ pub record IsShownFile (file : File) (shown : Shown) : Type 0 where
   pub cells : List Drawing
   pub top : Drawing
   pub accepted : IsAccepted file cells top
-  pub head : Spells file.bytes cells shown.head
+  pub head : Spells file.ignore file.bytes cells shown.head
   pub shown_is : IsShownOf figure_rings cells top shown
 
 -- the library with rings alone was checked and flattened, and this is what it holds

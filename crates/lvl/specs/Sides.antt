@@ -1,6 +1,7 @@
 -- What the steps for one side answer.
 use Rattle.std.specs.Prelude.{◌≡◌, ⊤, ℕ, List, Option, option_map, Vec}
 use Rattle.std.specs.Global.{Global}
+use Rattle.lvl_ignore.specs.declared.ignore.Ignore.{Ignore}
 use Rattle.lvl_cells.specs.Cells.{PlainCell, Rings}
 use Rattle.lvl_cells.specs.Checks.{Settled}
 use Rattle.lvl_flat.specs.Flattened.{IsFlatFault}
@@ -23,13 +24,13 @@ layout_parts (GdsLayout library h) = (library, GdsHeadOf h)
 layout_parts (OasisLayout library h) = (library, OasisHeadOf h)
 
 -- the bytes spell no library
-abbrev pub SpellsNothing : List ℕ → Type 0
-SpellsNothing xs = (cells : List Drawing) (head : Head) → Spells xs cells head → ⊥
+abbrev pub SpellsNothing : Ignore → List ℕ → Type 0
+SpellsNothing ignore xs = (cells : List Drawing) (head : Head) → Spells ignore xs cells head → ⊥
 
 -- why the bytes were not read
-pub record IsFileFault (xs : List ℕ) (fault : FileFault) : Type 0 where
-  pub told : TellsOfFile xs fault
-  pub nothing : (¬ IsExcusedFile fault) → SpellsNothing xs
+pub record IsFileFault (ignore : Ignore) (xs : List ℕ) (fault : FileFault) : Type 0 where
+  pub told : TellsOfFile ignore xs fault
+  pub nothing : (¬ IsExcusedFile fault) → SpellsNothing ignore xs
 
 -- the refusal is of that side's file, or out of memory
 abbrev pub IsOfFile : Side → Refusal → Type 0
@@ -38,11 +39,11 @@ IsOfFile side (CellsRefusal s f) = ⊥
 IsOfFile side (FlatRefusal s f) = ⊥
 IsOfFile side OutOfMemory = ⊤
 
-abbrev pub IsReadRefusal : Side → List ℕ → Refusal → Type 0
-IsReadRefusal side xs (FileRefusal s f) = (s ≡ side) × IsFileFault xs f
-IsReadRefusal side xs (CellsRefusal s f) = ⊥
-IsReadRefusal side xs (FlatRefusal s f) = ⊥
-IsReadRefusal side xs OutOfMemory = ⊤
+abbrev pub IsReadRefusal : Side → Ignore → List ℕ → Refusal → Type 0
+IsReadRefusal side ignore xs (FileRefusal s f) = (s ≡ side) × IsFileFault ignore xs f
+IsReadRefusal side ignore xs (CellsRefusal s f) = ⊥
+IsReadRefusal side ignore xs (FlatRefusal s f) = ⊥
+IsReadRefusal side ignore xs OutOfMemory = ⊤
 
 abbrev pub IsCheckRefusal : Side → Kept → Refusal → Type 0
 IsCheckRefusal side k (FileRefusal s f) = ⊥
@@ -61,16 +62,16 @@ abbrev pub given_name : Option (Vec ℕ Global) → Option (List ℕ)
 given_name top = option_map (λ v. v.items) top
 
 -- the bytes of a file with the name that was given for its top
-abbrev pub file : List ℕ → Option (Vec ℕ Global) → File
-file bytes top = record { bytes = bytes; top = given_name top }
+abbrev pub file : Ignore → List ℕ → Option (Vec ℕ Global) → File
+file ignore bytes top = record { ignore = ignore; bytes = bytes; top = given_name top }
 
 -- a library with the name that was given for its top
 abbrev pub library_of : List (PlainCell Rings) → Option (Vec ℕ Global) → Kept
 library_of cells top = record { cells = cells; top = given_name top }
 
 -- the bytes of a file, with the name of its top
-abbrev pub file_named : List ℕ → Option (List ℕ) → File
-file_named bytes top = record { bytes = bytes; top = top }
+abbrev pub file_named : Ignore → List ℕ → Option (List ℕ) → File
+file_named ignore bytes top = record { ignore = ignore; bytes = bytes; top = top }
 
 -- a library with the name of its top
 abbrev pub kept_named : List (PlainCell Rings) → Option (List ℕ) → Kept

@@ -5,6 +5,7 @@ ghost use Rattle.lvl_region.specs.declared.region.Side.TheVariants.{First, Secon
 ghost use Rattle.lvl_names.specs.declared.layer.Layer.{Layer};
 ghost use Rattle.lvl_grid.specs.declared.point.Square.{Square};
 ghost use Rattle.lvl_region.specs.declared.region.Side.{Side as WhichSide};
+ghost use Rattle.lvl_ignore.specs.Ignored.{nothing};
 ghost use Rattle.lvl_view.specs.Views.{IsWhole};
 ghost use Rattle.lvl.specs.declared.layout.FileFault.{FileFault as FaultOfFile};
 ghost use Rattle.lvl.specs.declared.verdict.Verdict.TheVariants.{Same, Differ};
@@ -19,6 +20,7 @@ use crate::fitted::compare_fitted;
 use crate::side::{check_side, fit_side, read_side};
 use crate::verdict::{Comparison, Refusal, Tops, Verdict};
 use lvl_cells::Library;
+use lvl_ignore::Ignore;
 use lvl_io::Read;
 use lvl_region::Side;
 use lvl_view::View;
@@ -63,32 +65,39 @@ pub fn compare_layouts<A: Read, B: Read>(
 ) -> Result<Verdict, Refusal>
     ensures same { (xs ys : List ℕ) → A.remaining first.old ≡ Some xs → B.remaining second.old ≡ Some ys
         → result ≡ Ok Same
-        → AreSame (file xs tops.now.first) (file ys tops.now.second) }
+        → AreSame (file nothing xs tops.now.first) (file nothing ys tops.now.second) }
     ensures differ { (xs ys : List ℕ) → A.remaining first.old ≡ Some xs → B.remaining second.old ≡ Some ys
         → (layer : Layer) (square : Square) (side : WhichSide) → result ≡ Ok (Differ layer square side)
-        → AreDifferent (file xs tops.now.first) (file ys tops.now.second) layer square side }
+        → AreDifferent (file nothing xs tops.now.first) (file nothing ys tops.now.second) layer square side }
     ensures first_refused { (xs : List ℕ) → A.remaining first.old ≡ Some xs
-        → IfErr result (λ r. Blames First r → IsUnaccepted (file xs tops.now.first)) }
+        → IfErr result (λ r. Blames First r → IsUnaccepted (file nothing xs tops.now.first)) }
     ensures second_refused { (ys : List ℕ) → B.remaining second.old ≡ Some ys
-        → IfErr result (λ r. Blames Second r → IsUnaccepted (file ys tops.now.second)) }
+        → IfErr result (λ r. Blames Second r → IsUnaccepted (file nothing ys tops.now.second)) }
     ensures first_told { (xs : List ℕ) → A.remaining first.old ≡ Some xs
-        → IfErr result (IsTold First (file xs tops.now.first)) }
+        → IfErr result (IsTold First (file nothing xs tops.now.first)) }
     ensures second_told { (ys : List ℕ) → B.remaining second.old ≡ Some ys
-        → IfErr result (IsTold Second (file ys tops.now.second)) }
+        → IfErr result (IsTold Second (file nothing ys tops.now.second)) }
     ensures first_passed { (xs : List ℕ) → A.remaining first.old ≡ Some xs
-        → IfErr result (HasPassed First (file xs tops.now.first)) }
+        → IfErr result (HasPassed First (file nothing xs tops.now.first)) }
     ensures second_passed { (ys : List ℕ) → B.remaining second.old ≡ Some ys
-        → IfErr result (HasPassed Second (file ys tops.now.second)) }
+        → IfErr result (HasPassed Second (file nothing ys tops.now.second)) }
     ensures first_early { (xs : List ℕ) → A.remaining first.old ≡ Some xs
-        → IfErr result (λ r. IsEarlyOf First r → IsHopeless xs (A.remaining first.new)) }
+        → IfErr result (λ r. IsEarlyOf First r → IsHopeless nothing xs (A.remaining first.new)) }
     ensures second_early { (ys : List ℕ) → B.remaining second.old ≡ Some ys
-        → IfErr result (λ r. IsEarlyOf Second r → IsHopeless ys (B.remaining second.new)) }
+        → IfErr result (λ r. IsEarlyOf Second r → IsHopeless nothing ys (B.remaining second.new)) }
     ensures second_kept { (fault : FaultOfFile) → result ≡ Err (FileRefused First fault) → second.new ≡ second.old }
     ensures first_reads { CountsFailure (A.read_errors first.old) (A.read_errors first.new) (is_read_of First result) }
     ensures second_reads { CountsFailure (B.read_errors second.old) (B.read_errors second.new)
         (is_read_of Second result) }
 {
-    match compare_files(alloc, first, second, tops, &View::whole(alloc)) {
+    match compare_files(
+        alloc,
+        first,
+        second,
+        tops,
+        &View::whole(alloc),
+        Ignore::NOTHING,
+    ) {
         Ok(compared) => Ok(compared.verdict),
         Err(refusal) => Err(refusal),
     }
@@ -110,59 +119,60 @@ pub fn compare_view<A: Read, B: Read>(
     view: &View,
 ) -> Result<Verdict, Refusal>
     ensures verdict { (xs ys : List ℕ) → A.remaining first.old ≡ Some xs → B.remaining second.old ≡ Some ys
-        → IfOk result (IsViewVerdict view.now (file xs tops.now.first) (file ys tops.now.second)) }
+        → IfOk result (IsViewVerdict view.now (file nothing xs tops.now.first) (file nothing ys tops.now.second)) }
     ensures whole { IsWhole view.now
         → (xs ys : List ℕ) → A.remaining first.old ≡ Some xs → B.remaining second.old ≡ Some ys
-        → IfOk result (IsVerdict (file xs tops.now.first) (file ys tops.now.second)) }
+        → IfOk result (IsVerdict (file nothing xs tops.now.first) (file nothing ys tops.now.second)) }
     ensures first_refused { (xs : List ℕ) → A.remaining first.old ≡ Some xs
-        → IfErr result (IsRefusalOf First (file xs tops.now.first)) }
+        → IfErr result (IsRefusalOf First (file nothing xs tops.now.first)) }
     ensures second_refused { (ys : List ℕ) → B.remaining second.old ≡ Some ys
-        → IfErr result (IsRefusalOf Second (file ys tops.now.second)) }
+        → IfErr result (IsRefusalOf Second (file nothing ys tops.now.second)) }
     ensures first_early { (xs : List ℕ) → A.remaining first.old ≡ Some xs
-        → IfErr result (λ r. IsEarlyOf First r → IsHopeless xs (A.remaining first.new)) }
+        → IfErr result (λ r. IsEarlyOf First r → IsHopeless nothing xs (A.remaining first.new)) }
     ensures second_early { (ys : List ℕ) → B.remaining second.old ≡ Some ys
-        → IfErr result (λ r. IsEarlyOf Second r → IsHopeless ys (B.remaining second.new)) }
+        → IfErr result (λ r. IsEarlyOf Second r → IsHopeless nothing ys (B.remaining second.new)) }
     ensures second_kept { (fault : FaultOfFile) → result ≡ Err (FileRefused First fault) → second.new ≡ second.old }
     ensures first_reads { CountsFailure (A.read_errors first.old) (A.read_errors first.new) (is_read_of First result) }
     ensures second_reads { CountsFailure (B.read_errors second.old) (B.read_errors second.new)
         (is_read_of Second result) }
 {
-    match compare_files(alloc, first, second, tops, view) {
+    match compare_files(alloc, first, second, tops, view, Ignore::NOTHING) {
         Ok(viewed) => Ok(viewed.verdict),
         Err(refusal) => Err(refusal),
     }
 }
 
-/// Two files compared under a view: what each says of itself, and the verdict of [`compare_view`]. The
-/// second file is not read where the first is refused. [`compare_layouts`] and [`compare_view`] are this
-/// call without the heads.
+/// Two files compared under a view, where some of their records are ignored: what each says of itself,
+/// and the verdict of [`compare_view`]. The second file is not read where the first is refused.
+/// [`compare_layouts`] and [`compare_view`] are this call without the heads, where nothing is ignored.
 pub fn compare_files<A: Read, B: Read>(
     alloc: Global,
     first: &mut A,
     second: &mut B,
     tops: &Tops,
     view: &View,
+    ignore: Ignore,
 ) -> Result<Comparison, Refusal>
     ensures compared { (xs ys : List ℕ) → A.remaining first.old ≡ Some xs → B.remaining second.old ≡ Some ys
-        → IfOk result (IsComparedIn view.now (file xs tops.now.first) (file ys tops.now.second)) }
+        → IfOk result (IsComparedIn view.now (file ignore xs tops.now.first) (file ignore ys tops.now.second)) }
     ensures whole { IsWhole view.now
         → (xs ys : List ℕ) → A.remaining first.old ≡ Some xs → B.remaining second.old ≡ Some ys
-        → IfOk result (λ c. IsVerdict (file xs tops.now.first) (file ys tops.now.second) c.verdict) }
+        → IfOk result (λ c. IsVerdict (file ignore xs tops.now.first) (file ignore ys tops.now.second) c.verdict) }
     ensures first_refused { (xs : List ℕ) → A.remaining first.old ≡ Some xs
-        → IfErr result (IsRefusalOf First (file xs tops.now.first)) }
+        → IfErr result (IsRefusalOf First (file ignore xs tops.now.first)) }
     ensures second_refused { (ys : List ℕ) → B.remaining second.old ≡ Some ys
-        → IfErr result (IsRefusalOf Second (file ys tops.now.second)) }
+        → IfErr result (IsRefusalOf Second (file ignore ys tops.now.second)) }
     ensures first_early { (xs : List ℕ) → A.remaining first.old ≡ Some xs
-        → IfErr result (λ r. IsEarlyOf First r → IsHopeless xs (A.remaining first.new)) }
+        → IfErr result (λ r. IsEarlyOf First r → IsHopeless ignore xs (A.remaining first.new)) }
     ensures second_early { (ys : List ℕ) → B.remaining second.old ≡ Some ys
-        → IfErr result (λ r. IsEarlyOf Second r → IsHopeless ys (B.remaining second.new)) }
+        → IfErr result (λ r. IsEarlyOf Second r → IsHopeless ignore ys (B.remaining second.new)) }
     ensures second_kept { (fault : FaultOfFile) → result ≡ Err (FileRefused First fault) → second.new ≡ second.old }
     ensures first_reads { CountsFailure (A.read_errors first.old) (A.read_errors first.new) (is_read_of First result) }
     ensures second_reads { CountsFailure (B.read_errors second.old) (B.read_errors second.new)
         (is_read_of Second result) }
 {
-    let (ours, first_head) = read_side(alloc, Side::First, first)?;
-    let (theirs, second_head) = read_side(alloc, Side::Second, second)?;
+    let (ours, first_head) = read_side(alloc, Side::First, first, ignore)?;
+    let (theirs, second_head) = read_side(alloc, Side::Second, second, ignore)?;
     let verdict = compare_libraries(alloc, ours, theirs, tops, view)?;
     Ok(Comparison {
         first: first_head,

@@ -5,9 +5,8 @@ ghost use Rattle.lvl_flat.specs.Flattened.{TopCovers};
 ghost use Rattle.lvl_view.specs.Moved.{IsMoved};
 ghost use Rattle.lvl.specs.Views.{IsVerdictOf};
 
-use crate::alike::are_alike;
 use crate::verdict::Verdict;
-use lvl_compare::difference_by_strips;
+use lvl_changed::difference_by_changes;
 use lvl_flat::Fitted;
 use lvl_view::View;
 use std::alloc::{AllocError, Global};
@@ -16,7 +15,7 @@ use std::alloc::{AllocError, Global};
 const MOST_POINTS: usize = 1 << 20;
 
 /// The first Layer, and on it the first square of the window, that one of the two alone draws, the
-/// second with its Layers mapped. Nothing is flattened where both are found to draw the same cell by cell.
+/// second with its Layers mapped. Nothing is flattened but what may differ, where cells are placed often enough.
 pub(crate) fn compare_fitted(
     alloc: Global,
     first: &Fitted,
@@ -26,10 +25,7 @@ pub(crate) fn compare_fitted(
     ensures { IfOk result (IsVerdictOf (IsShown view.now.window) (TopCovers first.now)
         (IsMoved view.now.pairs (TopCovers second.now))) }
 {
-    if are_alike(alloc, first.checked(), second.checked(), view)? {
-        return Ok(Verdict::Same);
-    }
-    match difference_by_strips(alloc, first, second, view, MOST_POINTS)? {
+    match difference_by_changes(alloc, first, second, view, MOST_POINTS)? {
         Some((layer, square, side)) => Ok(Verdict::Differ {
             layer,
             square,

@@ -4,15 +4,18 @@ ghost use Rattle.std.specs.Io.KnownBytes.{prepend_known};
 ghost use Rattle.lvl_io.specs.Bytes.{CountsFailure, failed};
 ghost use Rattle.lvl_io.specs.Peeked.{given_again};
 ghost use Rattle.lvl_refusal.specs.Refused.{Says};
+ghost use Rattle.lvl_ignore.specs.Ignored.{nothing};
+ghost use Rattle.lvl_ignore.specs.declared.ignore.Ignore.{Ignore as Ignored};
 ghost use Rattle.lvl.specs.Layouts.{HasFirst, IsLayoutOf, IsOasis};
 ghost use Rattle.lvl.specs.Answers.{IsEarlyFile, IsHopeless, is_failed_read, read_failed};
 ghost use Rattle.lvl.specs.Sides.{layout_parts, IsFileFault};
 
-use gds_library::{GdsFault, GdsHead, GdsKind, RecordFault, read_gds};
+use gds_library::{GdsFault, GdsHead, GdsKind, RecordFault, read_gds_by};
 use lvl_cells::Library;
+use lvl_ignore::Ignore;
 use lvl_io::{Failure, Peeked, Read};
 use lvl_refusal::Refusal;
-use oasis_library::{OasisFault, OasisHead, read_oasis};
+use oasis_library::{OasisFault, OasisHead, read_oasis_by};
 use std::alloc::Global;
 use thiserror::Error;
 
@@ -75,17 +78,21 @@ fn take_first<R: Read>(reader: &mut R) -> Result<Option<u8>, Failure>
 }
 
 /// The layout that a GDSII file spells.
-fn read_as_gds<R: Read>(alloc: Global, reader: &mut R) -> Result<Layout, Refusal<FileFault>>
+fn read_as_gds<R: Read>(
+    alloc: Global,
+    reader: &mut R,
+    ignore: Ignore,
+) -> Result<Layout, Refusal<FileFault>>
     ensures spelled { (xs : List ℕ) → R.remaining reader.old ≡ Some xs
-        → IfOk result (λ layout. IsLayoutOf xs (layout_parts layout).0 (layout_parts layout).1) }
+        → IfOk result (λ layout. IsLayoutOf ignore xs (layout_parts layout).0 (layout_parts layout).1) }
     ensures refused { (xs : List ℕ) → R.remaining reader.old ≡ Some xs → (¬ IsOasis xs)
-        → IfErr result (λ refusal. Says refusal (IsFileFault xs)) }
+        → IfErr result (λ refusal. Says refusal (IsFileFault ignore xs)) }
     ensures early { (xs : List ℕ) → R.remaining reader.old ≡ Some xs → (¬ IsOasis xs)
-        → IfErr result (λ refusal. Says refusal (λ fault. IsEarlyFile fault → IsHopeless xs (R.remaining reader.new))) }
+        → IfErr result (λ refusal. Says refusal (λ fault. IsEarlyFile fault → IsHopeless ignore xs (R.remaining reader.new))) }
     ensures reads { CountsFailure (R.read_errors reader.old) (R.read_errors reader.new) (is_failed_read result) }
     ensures same { R.lent reader.new ≡ R.lent reader.old }
 {
-    match read_gds(alloc, reader) {
+    match read_gds_by(alloc, reader, ignore) {
         Ok((library, head)) => Ok(Layout::Gds(library, head)),
         Err(Refusal::Breach(fault)) => Err(Refusal::Breach(FileFault::Gds(fault))),
         Err(Refusal::OutOfMemory) => Err(Refusal::OutOfMemory),
@@ -93,17 +100,21 @@ fn read_as_gds<R: Read>(alloc: Global, reader: &mut R) -> Result<Layout, Refusal
 }
 
 /// The layout that an OASIS file spells.
-fn read_as_oasis<R: Read>(alloc: Global, reader: &mut R) -> Result<Layout, Refusal<FileFault>>
+fn read_as_oasis<R: Read>(
+    alloc: Global,
+    reader: &mut R,
+    ignore: Ignore,
+) -> Result<Layout, Refusal<FileFault>>
     ensures spelled { (xs : List ℕ) → R.remaining reader.old ≡ Some xs
-        → IfOk result (λ layout. IsLayoutOf xs (layout_parts layout).0 (layout_parts layout).1) }
+        → IfOk result (λ layout. IsLayoutOf ignore xs (layout_parts layout).0 (layout_parts layout).1) }
     ensures refused { (xs : List ℕ) → R.remaining reader.old ≡ Some xs → IsOasis xs
-        → IfErr result (λ refusal. Says refusal (IsFileFault xs)) }
+        → IfErr result (λ refusal. Says refusal (IsFileFault ignore xs)) }
     ensures early { (xs : List ℕ) → R.remaining reader.old ≡ Some xs → IsOasis xs
-        → IfErr result (λ refusal. Says refusal (λ fault. IsEarlyFile fault → IsHopeless xs (R.remaining reader.new))) }
+        → IfErr result (λ refusal. Says refusal (λ fault. IsEarlyFile fault → IsHopeless ignore xs (R.remaining reader.new))) }
     ensures reads { CountsFailure (R.read_errors reader.old) (R.read_errors reader.new) (is_failed_read result) }
     ensures same { R.lent reader.new ≡ R.lent reader.old }
 {
-    match read_oasis(alloc, reader) {
+    match read_oasis_by(alloc, reader, ignore) {
         Ok((library, head)) => Ok(Layout::Oasis(library, head)),
         Err(Refusal::Breach(fault)) => Err(Refusal::Breach(FileFault::Oasis(fault))),
         Err(Refusal::OutOfMemory) => Err(Refusal::OutOfMemory),
@@ -122,25 +133,26 @@ fn read_by<R: Read>(
     alloc: Global,
     first: Option<u8>,
     reader: &mut R,
+    ignore: Ignore,
 ) -> Result<Layout, Refusal<FileFault>>
     ensures spelled { (xs : List ℕ) → R.remaining reader.old ≡ Some xs
-        → IfOk result (λ layout. IsLayoutOf xs (layout_parts layout).0 (layout_parts layout).1) }
+        → IfOk result (λ layout. IsLayoutOf ignore xs (layout_parts layout).0 (layout_parts layout).1) }
     ensures refused { (xs : List ℕ) → R.remaining reader.old ≡ Some xs → HasFirst first xs
-        → IfErr result (λ refusal. Says refusal (IsFileFault xs)) }
+        → IfErr result (λ refusal. Says refusal (IsFileFault ignore xs)) }
     ensures early { (xs : List ℕ) → R.remaining reader.old ≡ Some xs → HasFirst first xs
-        → IfErr result (λ refusal. Says refusal (λ fault. IsEarlyFile fault → IsHopeless xs (R.remaining reader.new))) }
+        → IfErr result (λ refusal. Says refusal (λ fault. IsEarlyFile fault → IsHopeless ignore xs (R.remaining reader.new))) }
     ensures reads { CountsFailure (R.read_errors reader.old) (R.read_errors reader.new) (is_failed_read result) }
     ensures same { R.lent reader.new ≡ R.lent reader.old }
 {
     if is_oasis(first) {
-        return read_as_oasis(alloc, reader);
+        return read_as_oasis(alloc, reader, ignore);
     }
-    read_as_gds(alloc, reader)
+    read_as_gds(alloc, reader, ignore)
 }
 
 /// A read that failed before there was a byte.
 fn unread() -> FileFault
-    ensures told { (xs : List ℕ) → IsFileFault xs result }
+    ensures told { (ignore : Ignored) (xs : List ℕ) → IsFileFault ignore xs result }
     ensures late { IsEarlyFile result → ⊥ }
     ensures read { read_failed result ≡ true }
 {
@@ -154,18 +166,37 @@ fn unread() -> FileFault
 /// one as GDSII (own rule; no file is one of both formats).
 pub fn read_layout<R: Read>(alloc: Global, reader: &mut R) -> Result<Layout, Refusal<FileFault>>
     ensures spelled { (xs : List ℕ) → R.remaining reader.old ≡ Some xs
-        → IfOk result (λ layout. IsLayoutOf xs (layout_parts layout).0 (layout_parts layout).1) }
+        → IfOk result (λ layout. IsLayoutOf nothing xs (layout_parts layout).0 (layout_parts layout).1) }
     ensures refused { (xs : List ℕ) → R.remaining reader.old ≡ Some xs
-        → IfErr result (λ refusal. Says refusal (IsFileFault xs)) }
+        → IfErr result (λ refusal. Says refusal (IsFileFault nothing xs)) }
     ensures early { (xs : List ℕ) → R.remaining reader.old ≡ Some xs
-        → IfErr result (λ refusal. Says refusal (λ fault. IsEarlyFile fault → IsHopeless xs (R.remaining reader.new))) }
+        → IfErr result (λ refusal. Says refusal (λ fault. IsEarlyFile fault → IsHopeless nothing xs (R.remaining reader.new))) }
+    ensures reads { CountsFailure (R.read_errors reader.old) (R.read_errors reader.new) (is_failed_read result) }
+{
+    read_layout_by(alloc, reader, Ignore::NOTHING)
+}
+
+/// The layout that a file spells where some records are ignored: as [`read_layout`], by
+/// [`read_gds_by`](gds_library::read_gds_by) or
+/// [`read_oasis_by`](oasis_library::read_oasis_by).
+pub fn read_layout_by<R: Read>(
+    alloc: Global,
+    reader: &mut R,
+    ignore: Ignore,
+) -> Result<Layout, Refusal<FileFault>>
+    ensures spelled { (xs : List ℕ) → R.remaining reader.old ≡ Some xs
+        → IfOk result (λ layout. IsLayoutOf ignore xs (layout_parts layout).0 (layout_parts layout).1) }
+    ensures refused { (xs : List ℕ) → R.remaining reader.old ≡ Some xs
+        → IfErr result (λ refusal. Says refusal (IsFileFault ignore xs)) }
+    ensures early { (xs : List ℕ) → R.remaining reader.old ≡ Some xs
+        → IfErr result (λ refusal. Says refusal (λ fault. IsEarlyFile fault → IsHopeless ignore xs (R.remaining reader.new))) }
     ensures reads { CountsFailure (R.read_errors reader.old) (R.read_errors reader.new) (is_failed_read result) }
 {
     let Ok(first) = take_first(reader) else {
         return Err(Refusal::Breach(unread()));
     };
     let mut whole = Peeked::new(first, reader);
-    let read = read_by(alloc, first, &mut whole);
+    let read = read_by(alloc, first, &mut whole, ignore);
     let _reader = whole.into_rest();
     read
 }

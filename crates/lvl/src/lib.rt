@@ -23,12 +23,11 @@
 pub use compare::{compare_files, compare_layouts, compare_view};
 pub use digest::{digest_file, digests_decide};
 pub use digested::{Digested, DigestedLayer, MaskDigest};
-pub use layout::{FileFault, Head, Layout, read_layout};
+pub use layout::{FileFault, Head, Layout, read_layout, read_layout_by};
 pub use show::show_file;
 pub use shown::{Shown, ShownLayer};
 pub use verdict::{Comparison, Refusal, Tops, Verdict};
 
-mod alike;
 mod compare;
 mod digest;
 mod digested;

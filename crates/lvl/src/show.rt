@@ -13,6 +13,7 @@ use crate::shown::{Shown, layers_of};
 use crate::side::read_side;
 use crate::verdict::Refusal;
 use lvl_cells::Library;
+use lvl_ignore::Ignore;
 use lvl_io::Read;
 use lvl_region::Side;
 use std::alloc::Global;
@@ -47,16 +48,17 @@ pub fn show_file<R: Read>(
     alloc: Global,
     reader: &mut R,
     top: Option<&[u8]>,
+    ignore: Ignore,
 ) -> Result<Shown, Refusal>
     ensures shown { (xs : List ℕ) → R.remaining reader.old ≡ Some xs
-        → IfOk result (IsShownFile (file_named xs (option_copied top.entry))) }
+        → IfOk result (IsShownFile (file_named ignore xs (option_copied top.entry))) }
     ensures refused { (xs : List ℕ) → R.remaining reader.old ≡ Some xs
-        → IfErr result (IsRefusalOf First (file_named xs (option_copied top.entry))) }
+        → IfErr result (IsRefusalOf First (file_named ignore xs (option_copied top.entry))) }
     ensures early { (xs : List ℕ) → R.remaining reader.old ≡ Some xs
-        → IfErr result (λ r. IsEarlyOf First r → IsHopeless xs (R.remaining reader.new)) }
+        → IfErr result (λ r. IsEarlyOf First r → IsHopeless ignore xs (R.remaining reader.new)) }
     ensures side { IfErr result IsOfFirst }
     ensures reads { CountsFailure (R.read_errors reader.old) (R.read_errors reader.new) (is_read_of First result) }
 {
-    let (library, head) = read_side(alloc, Side::First, reader)?;
+    let (library, head) = read_side(alloc, Side::First, reader, ignore)?;
     show_library(alloc, head, library, top)
 }

@@ -9,10 +9,11 @@ ghost use Rattle.lvl.specs.Sides.{IsOfFile, IsReadRefusal, IsCheckRefusal, IsFla
 ghost use Rattle.lvl.specs.Sides.{kept_named};
 ghost use Rattle.lvl.specs.declared.verdict.Refusal.TheVariants.{OutOfMemory};
 
-use crate::layout::{Head, read_layout};
+use crate::layout::{Head, read_layout_by};
 use crate::verdict::Refusal;
 use lvl_cells::{Checked, Library, check};
 use lvl_flat::{Fitted, Flat, flatten};
+use lvl_ignore::Ignore;
 use lvl_io::Read;
 use lvl_refusal::Refusal as Cause;
 use lvl_region::Side;
@@ -23,17 +24,18 @@ pub(crate) fn read_side<R: Read>(
     alloc: Global,
     side: Side,
     reader: &mut R,
+    ignore: Ignore,
 ) -> Result<(Library, Head), Refusal>
     ensures read { (xs : List ℕ) → R.remaining reader.old ≡ Some xs
-        → IfOk result (λ found. IsLayoutOf xs found.0 found.1) }
+        → IfOk result (λ found. IsLayoutOf ignore xs found.0 found.1) }
     ensures refused { (xs : List ℕ) → R.remaining reader.old ≡ Some xs
-        → IfErr result (IsReadRefusal side xs) }
+        → IfErr result (IsReadRefusal side ignore xs) }
     ensures early { (xs : List ℕ) → R.remaining reader.old ≡ Some xs
-        → IfErr result (λ r. IsEarlyOf side r → IsHopeless xs (R.remaining reader.new)) }
+        → IfErr result (λ r. IsEarlyOf side r → IsHopeless ignore xs (R.remaining reader.new)) }
     ensures own { IfErr result (IsOfFile side) }
     ensures reads { CountsFailure (R.read_errors reader.old) (R.read_errors reader.new) (is_read_of side result) }
 {
-    match read_layout(alloc, reader) {
+    match read_layout_by(alloc, reader, ignore) {
         Ok(layout) => Ok(layout.into_parts()),
         Err(Cause::Breach(fault)) => Err(Refusal::File(side, fault)),
         Err(Cause::OutOfMemory) => Err(Refusal::OutOfMemory),

@@ -1,16 +1,20 @@
 //! Each public call once, on the file of one square, with ample memory.
 
 use crate::{
-    DigestedLayer, Layout, Refusal, Tops, Verdict, compare_files, compare_layouts, compare_view,
-    digest_file, read_layout, show_file,
+    DigestedLayer, FileFault, Layout, Refusal, Tops, Verdict, compare_files, compare_layouts,
+    compare_view, digest_file, read_layout, read_layout_by, show_file,
 };
+use gds_library::{GdsFault, GdsKind, Misplaced};
+use gds_records::record_type;
 use lvl_cells::CellFault;
 use lvl_corners::LayerDigest;
 use lvl_grid::Square;
+use lvl_ignore::Ignore;
 use lvl_io::fake::Pieces;
 use lvl_names::Layer;
 use lvl_region::Side;
 use lvl_view::View;
+use std::alloc::{AllocError, Global};
 use std::test::Fail;
 
 /// 0..10 by 0..10 on 1/0 in the cell TOP, as GDSII.
@@ -75,7 +79,14 @@ fn verdicts(rt: HostRuntime) -> Result<(), Fail> {
         assert_eq!(rt; verdict, Some(want));
         let view = View::whole(rt.alloc());
         let (mut first, mut second) = (Pieces::new(&ours, 168), Pieces::new(&theirs, 1));
-        let compared = compare_files(rt.alloc(), &mut first, &mut second, &NO_TOPS, &view);
+        let compared = compare_files(
+            rt.alloc(),
+            &mut first,
+            &mut second,
+            &NO_TOPS,
+            &view,
+            Ignore::NOTHING,
+        );
         assert_eq!(rt; compared.ok().map(|compared| compared.verdict), Some(want));
         let view = View::read(rt.alloc(), Some("1/0=2/0"), Some("x=0..10,y=0..9"))?;
         let (mut first, mut second) = (Pieces::new(&ours, 168), Pieces::new(&theirs, 168));
@@ -99,7 +110,12 @@ fn one_file(rt: HostRuntime) -> Result<(), Fail> {
     };
     assert_eq!(rt; library.cells.len(), 1);
     assert_eq!(rt; head.version, 600);
-    let shown = show_file(rt.alloc(), &mut Pieces::new(&bytes, 50), None);
+    let shown = show_file(
+        rt.alloc(),
+        &mut Pieces::new(&bytes, 50),
+        None,
+        Ignore::NOTHING,
+    );
     let shown = shown.ok().ok_or("not shown")?;
     assert_eq!(rt; shown.top.as_slice(), b"TOP".as_slice());
     assert_eq!(rt; shown.cells, 1);
@@ -110,7 +126,12 @@ fn one_file(rt: HostRuntime) -> Result<(), Fail> {
 #[test]
 fn digests(rt: HostRuntime) -> Result<(), Fail> {
     let bytes = square(10);
-    let digested = digest_file(rt.alloc(), &mut Pieces::new(&bytes, 50), None);
+    let digested = digest_file(
+        rt.alloc(),
+        &mut Pieces::new(&bytes, 50),
+        None,
+        Ignore::NOTHING,
+    );
     let digested = digested.ok().ok_or("not digested")?;
     assert_eq!(rt; digested.top.as_slice(), b"TOP".as_slice());
     let listed = DigestedLayer {
@@ -125,9 +146,58 @@ fn digests(rt: HostRuntime) -> Result<(), Fail> {
     };
     assert_eq!(rt; digested.mask.layers.as_slice(), [listed].as_slice());
     assert_eq!(rt; digested.mask.sha256, SHA256);
-    let refused = digest_file(rt.alloc(), &mut Pieces::new(&bytes, 7), Some(b"OTHER"));
+    let refused = digest_file(
+        rt.alloc(),
+        &mut Pieces::new(&bytes, 7),
+        Some(b"OTHER"),
+        Ignore::NOTHING,
+    );
     let Err(Refusal::Cells(Side::First, CellFault::TopMissing)) = refused else {
         return Err("not refused".into());
     };
+    Ok(())
+}
+
+/// Where ENDEL of the square begins.
+const END: usize = 156;
+
+/// The square, with PROPATTR 1 and PROPVALUE "ab" before its ENDEL.
+fn tagged(alloc: Global) -> Result<Vec<u8>, AllocError> {
+    let mut bytes = Vec::from_slice(alloc, &VECTOR[..END])?;
+    bytes.extend_from_slice(b"\x00\x06\x2B\x02\x00\x01\x00\x06\x2C\x06ab")?;
+    bytes.extend_from_slice(&VECTOR[END..])?;
+    Ok(bytes)
+}
+
+/// Whether a file is refused at the property of `tagged`.
+fn is_unread(fault: FileFault) -> bool {
+    let kind = GdsKind::Misplaced(Misplaced::Unsupported(record_type::PROPATTR));
+    fault == FileFault::Gds(GdsFault { offset: 156, kind })
+}
+
+#[test]
+fn properties_ignored(rt: HostRuntime) -> Result<(), Fail> {
+    let bytes = tagged(rt.alloc())?;
+    for (ignore, is_read) in [(Ignore::NOTHING, false), (Ignore::EVERYTHING, true)] {
+        let read = read_layout_by(rt.alloc(), &mut Pieces::new(&bytes, 50), ignore);
+        assert_eq!(rt; read.is_ok(), is_read);
+        let (mut first, mut second) = (Pieces::new(&VECTOR, 50), Pieces::new(&bytes, 7));
+        let view = View::whole(rt.alloc());
+        match compare_files(rt.alloc(), &mut first, &mut second, &NO_TOPS, &view, ignore) {
+            Ok(compared) => assert!(rt; is_read && compared.verdict == Verdict::Same),
+            Err(Refusal::File(Side::Second, fault)) => assert!(rt; !is_read && is_unread(fault)),
+            Err(_) => return Err("another refusal".into()),
+        }
+        match show_file(rt.alloc(), &mut Pieces::new(&bytes, 50), None, ignore) {
+            Ok(shown) => assert!(rt; is_read && shown.layers.len() == 1),
+            Err(Refusal::File(Side::First, fault)) => assert!(rt; !is_read && is_unread(fault)),
+            Err(_) => return Err("another refusal".into()),
+        }
+        match digest_file(rt.alloc(), &mut Pieces::new(&bytes, 50), None, ignore) {
+            Ok(digested) => assert!(rt; is_read && digested.mask.sha256 == SHA256),
+            Err(Refusal::File(Side::First, fault)) => assert!(rt; !is_read && is_unread(fault)),
+            Err(_) => return Err("another refusal".into()),
+        }
+    }
     Ok(())
 }

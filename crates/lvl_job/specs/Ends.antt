@@ -4,15 +4,16 @@ use Rattle.std.specs.Io.KnownBytes.{Appends}
 use Rattle.lvl_io.specs.Bytes.{CountsFailure}
 use Rattle.std.specs.Prelude.{string_bytes}
 use Rattle.lvl_report.specs.declared.status.Status.{Status}
-use Rattle.lvl_report.specs.Faults.{view_fault}
+use Rattle.lvl_report.specs.Faults.{ignore_fault, view_fault}
 use Rattle.lvl_report.specs.Texts.{line}
 use Rattle.lvl_report.specs.Writing.{status_code, AppendsBeginning}
 use Rattle.lvl_job.specs.declared.fault.JobFault.{JobFault}
-use Rattle.lvl_job.specs.declared.fault.JobFault.TheVariants.{BadView, NotOpened, OutOfMemory, Output}
+use Rattle.lvl_job.specs.declared.fault.JobFault.TheVariants.{BadView, BadIgnore, NotOpened, OutOfMemory, Output}
 
 -- the exit status of a job that has no answer
 abbrev pub fault_code : JobFault → ℕ
 fault_code (BadView fault) = 3
+fault_code (BadIgnore fault) = 3
 fault_code (NotOpened name) = 2
 fault_code OutOfMemory = 2
 fault_code Output = 4
@@ -25,6 +26,7 @@ end_code (Err fault) = fault_code fault
 -- why a job has no answer, as one line
 abbrev pub fault_text : JobFault → List ℕ
 fault_text (BadView fault) = line (codes "lvl: bad view " ++ view_fault fault)
+fault_text (BadIgnore fault) = line (codes "lvl: bad ignore " ++ ignore_fault fault)
 fault_text (NotOpened name) = line (codes "lvl: cannot open " ++ string_bytes name)
 fault_text OutOfMemory = line (codes "lvl: out of memory")
 fault_text Output = line (codes "lvl: output failed")
@@ -38,6 +40,7 @@ end_text (Err fault) = fault_text fault
 abbrev pub is_cut : Result Status JobFault → Bool
 is_cut (Ok status) = false
 is_cut (Err (BadView fault)) = false
+is_cut (Err (BadIgnore fault)) = false
 is_cut (Err (NotOpened name)) = false
 is_cut (Err OutOfMemory) = false
 is_cut (Err Output) = true

@@ -4,6 +4,8 @@ use Rattle.std.specs.Prelude.{◌⊎◌}
 use Rattle.std.specs.Prelude.{String, string_bytes}
 use Rattle.std.specs.Global.{Global}
 use Rattle.std.specs.Io.KnownBytes.{Keeps}
+use Rattle.lvl_ignore.specs.Ignored.{nothing, IsText}
+use Rattle.lvl_ignore.specs.declared.ignore.Ignore.{Ignore}
 use Rattle.lvl.specs.declared.verdict.Comparison.{Comparison}
 use Rattle.lvl.specs.declared.verdict.Refusal.{Refusal}
 use Rattle.lvl_line.specs.declared.job.Job.{Job}
@@ -15,15 +17,16 @@ use Rattle.lvl_report.specs.Writing.{shown_status, status_of}
 use Rattle.lvl_view.specs.declared.fault.ViewFault.{ViewFault}
 use Rattle.lvl_view.specs.Views.{PlainView, IsViewOf, IsFaultOf}
 use Rattle.lvl_job.specs.declared.fault.JobFault.{JobFault}
-use Rattle.lvl_job.specs.declared.fault.JobFault.TheVariants.{BadView, NotOpened, OutOfMemory, Output}
+use Rattle.lvl_job.specs.declared.fault.JobFault.TheVariants.{BadView, BadIgnore, NotOpened, OutOfMemory, Output}
 
--- a file that a job names, and the name of its top
+-- a file that a job names, which of its records are ignored, and the name of its top
 pub record Named : Type 0 where
+  pub ignore : Ignore
   pub name : List ℕ
   pub top : Option (List ℕ)
 
-abbrev pub named : String Global → Option (String Global) → Named
-named file top = record { name = string_bytes file; top = option_map string_bytes top }
+abbrev pub named : Ignore → String Global → Option (String Global) → Named
+named ignore file top = record { ignore = ignore; name = string_bytes file; top = option_map string_bytes top }
 
 -- what reading a file left: the bytes, where they are known, and the errors that its reader answered
 pub record Left : Type 0 where
@@ -31,8 +34,8 @@ pub record Left : Type 0 where
   pub errors : ℕ
 
 -- a reader of these bytes that had not failed before the run
-abbrev pub reader_of : Option (List ℕ) → Left → Option (List ℕ) → Input
-reader_of bytes left top = input bytes left.bytes 0 left.errors top
+abbrev pub reader_of : Ignore → Option (List ℕ) → Left → Option (List ℕ) → Input
+reader_of ignore bytes left top = input ignore bytes left.bytes 0 left.errors top
 
 -- the file was opened, and this holds of its reader; no other file was opened
 pub record OfOne {S : Type 0} (opens : S → List ℕ → Option (Option (List ℕ)) → S → Type 0) (old new : S) (a : Named)
@@ -40,7 +43,7 @@ pub record OfOne {S : Type 0} (opens : S → List ℕ → Option (Option (List �
   pub bytes : Option (List ℕ)
   pub left : Left
   pub opened : opens old a.name (Some bytes) new
-  pub holds : Holds (reader_of bytes left a.top)
+  pub holds : Holds (reader_of a.ignore bytes left a.top)
 
 -- both files were opened, `a` before `b`, and this holds of their readers; no other file was opened
 pub record OfTwo {S : Type 0} (opens : S → List ℕ → Option (Option (List ℕ)) → S → Type 0) (old new : S) (a b : Named)
@@ -52,7 +55,7 @@ pub record OfTwo {S : Type 0} (opens : S → List ℕ → Option (Option (List �
   pub second_left : Left
   pub first_opened : opens old a.name (Some first) between
   pub second_opened : opens between b.name (Some second) new
-  pub holds : Holds (reader_of first first_left a.top) (reader_of second second_left b.top)
+  pub holds : Holds (reader_of a.ignore first first_left a.top) (reader_of b.ignore second second_left b.top)
 
 -- the first file was opened, and then the second can't be
 pub record IsSecondMissing {S : Type 0} (opens : S → List ℕ → Option (Option (List ℕ)) → S → Type 0) (old new : S)
@@ -84,6 +87,22 @@ pub record UnderView (map_text window_text : Option (String Global)) (Holds : Op
   pub asked : IsViewAsked (option_map string_bytes map_text) (option_map string_bytes window_text) view
   pub holds : Holds view
 
+-- what a text says is ignored; nothing where no text is given
+abbrev pub IsIgnoreAsked : Option (List ℕ) → Ignore → Type 0
+IsIgnoreAsked None ignore = ignore ≡ nothing
+IsIgnoreAsked (Some text) ignore = IsText text ignore
+
+-- this holds of what the text says is ignored
+pub record WithIgnored (ignored : Option (String Global)) (Holds : Ignore → Type 0) : Type 0 where
+  pub ignore : Ignore
+  pub asked : IsIgnoreAsked (option_map string_bytes ignored) ignore
+  pub holds : Holds ignore
+
+-- the text names nothing that can be ignored
+abbrev pub IsIgnoreFault : Option (List ℕ) → Type 0
+IsIgnoreFault None = ⊥
+IsIgnoreFault (Some text) = (ignore : Ignore) → ¬ IsText text ignore
+
 -- the answer is one that a comparison may give of these readers, under the view where there is one
 abbrev pub IsComparedUnder : Option PlainView → Input → Input → Result Comparison Refusal → Type 0
 IsComparedUnder None = IsComparedBy
@@ -92,47 +111,61 @@ IsComparedUnder (Some view) = IsViewedBy view
 -- the answer to a job was written, and this is its status
 abbrev pub IsAnswered : {S : Type 0} → (S → List ℕ → Option (Option (List ℕ)) → S → Type 0) → Job → S → S
     → Option (List ℕ) → Option (List ℕ) → Status → Type 0
-IsAnswered opens (Compare first second top_a top_b map_text window_text) old new from to status =
-    UnderView map_text window_text (λ view.
-    OfTwo opens old new (named first top_a) (named second top_b) (λ a b.
-    IsWritten (IsComparedUnder view a b) text_of status_of from to status))
-IsAnswered opens (Show file top) old new from to status =
-    OfOne opens old new (named file top) (λ a. IsWritten (IsShownBy a) text_of_shown shown_status from to status)
-IsAnswered opens (Digest file top) old new from to status =
-    OfOne opens old new (named file top) (λ a.
-    IsWritten (IsDigestedBy a) text_of_digested shown_status from to status)
+IsAnswered opens (Compare first second top_a top_b map_text window_text ignored) old new from to status =
+    UnderView map_text window_text (λ view. WithIgnored ignored (λ ignore.
+    OfTwo opens old new (named ignore first top_a) (named ignore second top_b) (λ a b.
+    IsWritten (IsComparedUnder view a b) text_of status_of from to status)))
+IsAnswered opens (Show file top ignored) old new from to status =
+    WithIgnored ignored (λ ignore. OfOne opens old new (named ignore file top) (λ a.
+    IsWritten (IsShownBy a) text_of_shown shown_status from to status))
+IsAnswered opens (Digest file top ignored) old new from to status =
+    WithIgnored ignored (λ ignore. OfOne opens old new (named ignore file top) (λ a.
+    IsWritten (IsDigestedBy a) text_of_digested shown_status from to status))
 
 -- a beginning of the answer to a job was written
 abbrev pub IsCut : {S : Type 0} → (S → List ℕ → Option (Option (List ℕ)) → S → Type 0) → Job → S → S
     → Option (List ℕ) → Option (List ℕ) → Type 0
-IsCut opens (Compare first second top_a top_b map_text window_text) old new from to =
-    UnderView map_text window_text (λ view.
-    OfTwo opens old new (named first top_a) (named second top_b) (λ a b.
-    IsBegun (IsComparedUnder view a b) text_of from to))
-IsCut opens (Show file top) old new from to =
-    OfOne opens old new (named file top) (λ a. IsBegun (IsShownBy a) text_of_shown from to)
-IsCut opens (Digest file top) old new from to =
-    OfOne opens old new (named file top) (λ a. IsBegun (IsDigestedBy a) text_of_digested from to)
+IsCut opens (Compare first second top_a top_b map_text window_text ignored) old new from to =
+    UnderView map_text window_text (λ view. WithIgnored ignored (λ ignore.
+    OfTwo opens old new (named ignore first top_a) (named ignore second top_b) (λ a b.
+    IsBegun (IsComparedUnder view a b) text_of from to)))
+IsCut opens (Show file top ignored) old new from to =
+    WithIgnored ignored (λ ignore.
+    OfOne opens old new (named ignore file top) (λ a. IsBegun (IsShownBy a) text_of_shown from to))
+IsCut opens (Digest file top ignored) old new from to =
+    WithIgnored ignored (λ ignore.
+    OfOne opens old new (named ignore file top) (λ a. IsBegun (IsDigestedBy a) text_of_digested from to))
 
 -- the file of this name is the first of the job that can't be opened
 abbrev pub IsNotOpened : {S : Type 0} → (S → List ℕ → Option (Option (List ℕ)) → S → Type 0) → Job → S → S → List ℕ
     → Type 0
-IsNotOpened opens (Compare first second top_a top_b map_text window_text) old new name =
-    UnderView map_text window_text (λ _. IsMissing opens old new (string_bytes first) (string_bytes second) name)
-IsNotOpened opens (Show file top) old new name = (name ≡ string_bytes file) × opens old name None new
-IsNotOpened opens (Digest file top) old new name = (name ≡ string_bytes file) × opens old name None new
+IsNotOpened opens (Compare first second top_a top_b map_text window_text ignored) old new name =
+    UnderView map_text window_text (λ _. WithIgnored ignored (λ _.
+    IsMissing opens old new (string_bytes first) (string_bytes second) name))
+IsNotOpened opens (Show file top ignored) old new name =
+    WithIgnored ignored (λ _. (name ≡ string_bytes file) × opens old name None new)
+IsNotOpened opens (Digest file top ignored) old new name =
+    WithIgnored ignored (λ _. (name ≡ string_bytes file) × opens old name None new)
 
 -- why the texts of a map and a window are no view; a job of one file has none
 abbrev pub IsBadView : Job → ViewFault → Type 0
-IsBadView (Compare first second top_a top_b map_text window_text) fault =
+IsBadView (Compare first second top_a top_b map_text window_text ignored) fault =
     IsFaultOf (option_map string_bytes map_text) (option_map string_bytes window_text) fault
-IsBadView (Show file top) fault = ⊥
-IsBadView (Digest file top) fault = ⊥
+IsBadView (Show file top ignored) fault = ⊥
+IsBadView (Digest file top ignored) fault = ⊥
 
--- the fault is so: with a bad view no file was opened, and but where output failed nothing was written
+-- the text names nothing that can be ignored; the texts of a map and a window are a view
+abbrev pub IsBadIgnore : Job → Type 0
+IsBadIgnore (Compare first second top_a top_b map_text window_text ignored) =
+    UnderView map_text window_text (λ _. IsIgnoreFault (option_map string_bytes ignored))
+IsBadIgnore (Show file top ignored) = IsIgnoreFault (option_map string_bytes ignored)
+IsBadIgnore (Digest file top ignored) = IsIgnoreFault (option_map string_bytes ignored)
+
+-- the fault is so: with a bad text no file was opened, and but where output failed nothing was written
 abbrev pub IsFaultOfJob : {S : Type 0} → (S → List ℕ → Option (Option (List ℕ)) → S → Type 0) → Job → S → S
     → Option (List ℕ) → Option (List ℕ) → JobFault → Type 0
 IsFaultOfJob opens job old new from to (BadView fault) = IsBadView job fault × (new ≡ old) × Keeps from to
+IsFaultOfJob opens job old new from to (BadIgnore fault) = IsBadIgnore job × (new ≡ old) × Keeps from to
 IsFaultOfJob opens job old new from to (NotOpened name) =
     IsNotOpened opens job old new (string_bytes name) × Keeps from to
 IsFaultOfJob opens job old new from to OutOfMemory = Keeps from to

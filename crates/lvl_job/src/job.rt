@@ -5,10 +5,10 @@ ghost use Rattle.std.specs.Prelude.{string_bytes};
 ghost use Rattle.lvl.specs.Sides.{given_name};
 ghost use Rattle.lvl_io.specs.Bytes.{CountsFailure};
 ghost use Rattle.lvl_job.specs.Ends.{IsSaid, end_code, end_text, is_cut};
-ghost use Rattle.lvl_job.specs.Jobs.{IsAnswered, IsComparedUnder, IsFaultOfJob, IsViewAsked};
+ghost use Rattle.lvl_job.specs.Jobs.{IsAnswered, IsComparedUnder, IsFaultOfJob, IsIgnoreAsked, IsViewAsked};
 ghost use Rattle.lvl_job.specs.Opening.{held};
 ghost use Rattle.lvl_job.specs.inside.Parts.{IsOneAnswered, IsOneFault, IsPairAnswered, IsPairFault, IsViewFault};
-ghost use Rattle.lvl_job.specs.inside.Parts.{fault_of_run};
+ghost use Rattle.lvl_job.specs.inside.Parts.{fault_of_run, IsNoIgnore};
 ghost use Rattle.lvl_report.specs.Runs.{IsBegun, IsDigestedBy, IsShownBy, IsWritten, input};
 ghost use Rattle.lvl_report.specs.Texts.{text_of, text_of_digested, text_of_shown};
 ghost use Rattle.lvl_report.specs.Writing.{is_output, shown_status, status_of};
@@ -17,10 +17,11 @@ use crate::fault::JobFault;
 use crate::files::Files;
 use crate::said::say;
 use lvl::Tops;
+use lvl_ignore::Ignore;
 use lvl_io::{Read, Write};
 use lvl_line::Job;
 use lvl_refusal::Refusal;
-use lvl_report::{RunFault, Status, run, run_digest, run_show, run_view};
+use lvl_report::{RunFault, Status, run_by, run_digest, run_show_by, run_view_by};
 use lvl_view::View;
 use std::alloc::Global;
 
@@ -65,6 +66,21 @@ fn view_of(
     }
 }
 
+/// What a text says is ignored; nothing where no text is given.
+fn ignore_of(alloc: Global, text: &Option<String>) -> Result<Ignore, JobFault>
+    ensures asked { IfOk result (IsIgnoreAsked (option_map string_bytes text.now)) }
+    ensures fault { IfErr result (IsNoIgnore (option_map string_bytes text.now)) }
+{
+    let Some(text) = text else {
+        return Ok(Ignore::NOTHING);
+    };
+    match Ignore::read(alloc, text.as_str()) {
+        Ok(ignore) => Ok(ignore),
+        Err(Refusal::Breach(fault)) => Err(JobFault::BadIgnore(fault)),
+        Err(Refusal::OutOfMemory) => Err(JobFault::OutOfMemory),
+    }
+}
+
 /// The fault of a job whose run has no answer.
 fn fault_of(fault: RunFault) -> JobFault
     ensures { result ≡ fault_of_run fault }
@@ -82,28 +98,29 @@ fn run_under<A: Read, B: Read, O: Write>(
     second: &mut B,
     tops: &Tops,
     view: Option<&View>,
+    ignore: Ignore,
     out: &mut O,
 ) -> Result<Status, RunFault>
     ensures written { IfOk result (IsWritten
         (IsComparedUnder (option_map (λ v. v.now) view.entry)
-        (input (A.remaining first.old) (A.remaining first.new)
+        (input ignore (A.remaining first.old) (A.remaining first.new)
         (A.read_errors first.old) (A.read_errors first.new) (given_name tops.now.first))
-        (input (B.remaining second.old) (B.remaining second.new)
+        (input ignore (B.remaining second.old) (B.remaining second.new)
         (B.read_errors second.old) (B.read_errors second.new) (given_name tops.now.second)))
         text_of status_of (O.contents out.old) (O.contents out.new)) }
     ensures begun { OnErr result (IsBegun
         (IsComparedUnder (option_map (λ v. v.now) view.entry)
-        (input (A.remaining first.old) (A.remaining first.new)
+        (input ignore (A.remaining first.old) (A.remaining first.new)
         (A.read_errors first.old) (A.read_errors first.new) (given_name tops.now.first))
-        (input (B.remaining second.old) (B.remaining second.new)
+        (input ignore (B.remaining second.old) (B.remaining second.new)
         (B.read_errors second.old) (B.read_errors second.new) (given_name tops.now.second)))
         text_of (O.contents out.old) (O.contents out.new)) }
     ensures nothing { result ≡ Err RunFault.OutOfMemory → Keeps (O.contents out.old) (O.contents out.new) }
     ensures errors { CountsFailure (O.write_errors out.old) (O.write_errors out.new) (is_output result) }
 {
     match view {
-        Some(view) => run_view(alloc, first, second, tops, view, out),
-        None => run(alloc, first, second, tops, out),
+        Some(view) => run_view_by(alloc, first, second, tops, view, ignore, out),
+        None => run_by(alloc, first, second, tops, ignore, out),
     }
 }
 
@@ -113,22 +130,23 @@ fn compare<F: Files, O: Write>(
     names: (String, String),
     tops: &Tops,
     view: Option<&View>,
+    ignore: Ignore,
     files: &mut F,
     out: &mut O,
 ) -> Result<Status, JobFault>
     ensures answered { IfOk result (IsPairAnswered F.opens (option_map (λ v. v.now) view.entry)
-        (record { name = string_bytes names.0; top = given_name tops.now.first })
-        (record { name = string_bytes names.1; top = given_name tops.now.second })
+        (record { ignore = ignore; name = string_bytes names.0; top = given_name tops.now.first })
+        (record { ignore = ignore; name = string_bytes names.1; top = given_name tops.now.second })
         files.old files.new (O.contents out.old) (O.contents out.new)) }
     ensures fault { IfErr result (IsPairFault F.opens (option_map (λ v. v.now) view.entry)
-        (record { name = string_bytes names.0; top = given_name tops.now.first })
-        (record { name = string_bytes names.1; top = given_name tops.now.second })
+        (record { ignore = ignore; name = string_bytes names.0; top = given_name tops.now.first })
+        (record { ignore = ignore; name = string_bytes names.1; top = given_name tops.now.second })
         files.old files.new (O.contents out.old) (O.contents out.new)) }
     ensures errors { CountsFailure (O.write_errors out.old) (O.write_errors out.new) (is_cut result) }
 {
     let mut first = open(files, names.0)?;
     let mut second = open(files, names.1)?;
-    match run_under(alloc, &mut first, &mut second, tops, view, out) {
+    match run_under(alloc, &mut first, &mut second, tops, view, ignore, out) {
         Ok(status) => Ok(status),
         Err(fault) => Err(fault_of(fault)),
     }
@@ -139,19 +157,20 @@ fn show<F: Files, O: Write>(
     alloc: Global,
     name: String,
     top: Option<&[u8]>,
+    ignore: Ignore,
     files: &mut F,
     out: &mut O,
 ) -> Result<Status, JobFault>
     ensures answered { IfOk result (IsOneAnswered F.opens IsShownBy text_of_shown shown_status
-        (record { name = string_bytes name; top = option_copied top.entry })
+        (record { ignore = ignore; name = string_bytes name; top = option_copied top.entry })
         files.old files.new (O.contents out.old) (O.contents out.new)) }
     ensures fault { IfErr result (IsOneFault F.opens IsShownBy text_of_shown
-        (record { name = string_bytes name; top = option_copied top.entry })
+        (record { ignore = ignore; name = string_bytes name; top = option_copied top.entry })
         files.old files.new (O.contents out.old) (O.contents out.new)) }
     ensures errors { CountsFailure (O.write_errors out.old) (O.write_errors out.new) (is_cut result) }
 {
     let mut file = open(files, name)?;
-    match run_show(alloc, &mut file, top, out) {
+    match run_show_by(alloc, &mut file, top, ignore, out) {
         Ok(status) => Ok(status),
         Err(fault) => Err(fault_of(fault)),
     }
@@ -162,19 +181,20 @@ fn digest<F: Files, O: Write>(
     alloc: Global,
     name: String,
     top: Option<&[u8]>,
+    ignore: Ignore,
     files: &mut F,
     out: &mut O,
 ) -> Result<Status, JobFault>
     ensures answered { IfOk result (IsOneAnswered F.opens IsDigestedBy text_of_digested shown_status
-        (record { name = string_bytes name; top = option_copied top.entry })
+        (record { ignore = ignore; name = string_bytes name; top = option_copied top.entry })
         files.old files.new (O.contents out.old) (O.contents out.new)) }
     ensures fault { IfErr result (IsOneFault F.opens IsDigestedBy text_of_digested
-        (record { name = string_bytes name; top = option_copied top.entry })
+        (record { ignore = ignore; name = string_bytes name; top = option_copied top.entry })
         files.old files.new (O.contents out.old) (O.contents out.new)) }
     ensures errors { CountsFailure (O.write_errors out.old) (O.write_errors out.new) (is_cut result) }
 {
     let mut file = open(files, name)?;
-    match run_digest(alloc, &mut file, top, out) {
+    match run_digest(alloc, &mut file, top, ignore, out) {
         Ok(status) => Ok(status),
         Err(fault) => Err(fault_of(fault)),
     }
@@ -201,29 +221,42 @@ fn perform<F: Files, O: Write>(
             top_b,
             map,
             window,
+            ignore,
         } => {
             let view = view_of(alloc, &map, &window)?;
+            let ignore = ignore_of(alloc, &ignore)?;
             let tops = Tops {
                 first: top_of(top_a),
                 second: top_of(top_b),
             };
-            compare(alloc, (first, second), &tops, view.as_ref(), files, out)
+            compare(
+                alloc,
+                (first, second),
+                &tops,
+                view.as_ref(),
+                ignore,
+                files,
+                out,
+            )
         }
-        Job::Show { file, top } => {
+        Job::Show { file, top, ignore } => {
+            let ignore = ignore_of(alloc, &ignore)?;
             let top = top_of(top);
-            show(alloc, file, top.as_deref(), files, out)
+            show(alloc, file, top.as_deref(), ignore, files, out)
         }
-        Job::Digest { file, top } => {
+        Job::Digest { file, top, ignore } => {
+            let ignore = ignore_of(alloc, &ignore)?;
             let top = top_of(top);
-            digest(alloc, file, top.as_deref(), files, out)
+            digest(alloc, file, top.as_deref(), ignore, files, out)
         }
     }
 }
 
-/// Does a job: reads its view, opens its files by `files`, the first before the second, and writes
-/// its answer to `out`. Where there is no answer, it writes why to `err`, on one line.
+/// Does a job: reads its view and what is ignored, opens its files by `files`, the first before the
+/// second, and writes its answer to `out`. Where there is no answer, it writes why to `err`, on one line.
 ///
-/// The answer is what [`run`], [`run_view`], [`run_show`] or [`run_digest`] may write of these files.
+/// The answer is what [`run_by`], [`run_view_by`], [`run_show_by`] or [`run_digest`] may write of these
+/// files.
 pub fn do_job<F: Files, O: Write, E: Write>(
     alloc: Global,
     job: Job,

@@ -8,7 +8,7 @@ ghost use Rattle.lvl_report.specs.Writing.{AppendsBeginning};
 
 use crate::fault::JobFault;
 use lvl_io::{Failure, Write};
-use lvl_report::view_fault;
+use lvl_report::{ignore_fault, view_fault};
 
 /// Writes all of the text. An error of any kind, or a write that took nothing of some bytes, ends
 /// the work, and what went out is a beginning of the text.
@@ -45,6 +45,7 @@ fn words_of(fault: &JobFault) -> (&str, &str)
 {
     match fault {
         JobFault::BadView(fault) => ("lvl: bad view ", view_fault(*fault)),
+        JobFault::BadIgnore(fault) => ("lvl: bad ignore ", ignore_fault(*fault)),
         JobFault::NotOpened(name) => ("lvl: cannot open ", name.as_str()),
         JobFault::OutOfMemory => ("lvl: out of memory", ""),
         JobFault::Output => ("lvl: output failed", ""),

@@ -1,7 +1,7 @@
 //! Jobs over files that are held in memory.
 ghost use Rattle.std.specs.Prelude.{◌≡◌};
 
-use crate::tests::files::{SQUARE, TWO};
+use crate::tests::files::{SQUARE, TAGGED, TWO};
 use crate::{Files, code_of, do_job, do_line};
 use lvl_io::Failure;
 use lvl_io::fake::{Pieces, Sink};
@@ -23,7 +23,7 @@ fn pieces(bytes: &'static [u8]) -> Pieces<'static>
     }
 }
 
-/// The files `square` and `two`, and how many times one was asked for.
+/// The files `square`, `two` and `tagged`, and how many times one was asked for.
 #[derive(Drop)]
 struct Held {
     asked: u8,
@@ -39,34 +39,38 @@ impl Files for Held {
         match name {
             "square" => Ok(pieces(SQUARE)),
             "two" => Ok(pieces(TWO)),
+            "tagged" => Ok(pieces(TAGGED)),
             _ => Err(Failure),
         }
     }
 }
 
-/// The job of a line in order: two files, two tops, a map and a window, each `-` where it is none;
-/// or one file and a top, to be shown, or hashed after the word `digest`.
+/// The job of a line in order: two files, two tops, a map, a window and what is ignored, each `-` where it
+/// is none; or one file, a top and what is ignored, to be shown, or hashed after the word `digest`.
 fn job_of(alloc: Global, line: &str) -> Result<Job, AllocError> {
     let mut words = Vec::new(alloc);
     for word in line.split(' ') {
         words.push(word)?;
     }
     match words.as_slice() {
-        [first, second, top_a, top_b, map, window] => Ok(Job::Compare {
+        [first, second, top_a, top_b, map, window, ignore] => Ok(Job::Compare {
             first: String::from_str(alloc, first)?,
             second: String::from_str(alloc, second)?,
             top_a: given(alloc, top_a)?,
             top_b: given(alloc, top_b)?,
             map: given(alloc, map)?,
             window: given(alloc, window)?,
+            ignore: given(alloc, ignore)?,
         }),
-        [file, top] => Ok(Job::Show {
+        [file, top, ignore] => Ok(Job::Show {
             file: String::from_str(alloc, file)?,
             top: given(alloc, top)?,
+            ignore: given(alloc, ignore)?,
         }),
-        ["digest", file, top] => Ok(Job::Digest {
+        ["digest", file, top, ignore] => Ok(Job::Digest {
             file: String::from_str(alloc, file)?,
             top: given(alloc, top)?,
+            ignore: given(alloc, ignore)?,
         }),
         _ => Err(AllocError),
     }
@@ -84,46 +88,105 @@ fn given(alloc: Global, word: &str) -> Result<Option<String>, AllocError> {
 const SQUARE_DIGEST: &str =
     "mask sha256 c5483bbfa6d27cf601d87a9d6e74b9350c2dcde72a70bab5f8615769e8fc5728\n";
 
+/// `tagged` where its property is not ignored.
+const UNREAD_FIRST: &str = "refused: first: gds 11 Unsupported 43 at 154\n";
+
+/// The same of the second file.
+const UNREAD_SECOND: &str = "refused: second: gds 11 Unsupported 43 at 154\n";
+
+/// What is said of a bad word.
+const BAD_IGNORE: &str = "lvl: bad ignore 1 IgnoreText\n";
+
 /// A job, how many files are asked for, the last line of what it writes, what it says, and its status.
-static ROWS: [(&str, u8, &str, &str, u8); 14] = [
-    ("square square - - - -", 2, "same\n", "", 0),
-    ("square two - A - -", 2, "same\n", "", 0),
+static ROWS: [(&str, u8, &str, &str, u8); 28] = [
+    ("square square - - - - -", 2, "same\n", "", 0),
+    ("square two - A - - -", 2, "same\n", "", 0),
     (
-        "square two - B - -",
+        "square two - B - - -",
         2,
         "differ: layer 1 datatype 0 square 0 0 only in first\n",
         "",
         1,
     ),
     (
-        "two square B - - -",
+        "two square B - - - -",
         2,
         "differ: layer 1 datatype 0 square 0 0 only in second\n",
         "",
         1,
     ),
     (
-        "square two - B 2/0=1/0 -",
+        "square two - B 2/0=1/0 - -",
         2,
         "differ: layer 1 datatype 0 square 0 10 only in second\n",
         "",
         1,
     ),
-    ("square two - B 2/0=1/0 x=0..10,y=0..10", 2, "same\n", "", 0),
-    ("two B", 1, "layer 2 datatype 0 rings 1\n", "", 0),
-    ("two -", 1, "refused: first: cells 6 ManyTops\n", "", 2),
-    ("digest square -", 1, SQUARE_DIGEST, "", 0),
     (
-        "digest two -",
+        "square two - B 2/0=1/0 x=0..10,y=0..10 -",
+        2,
+        "same\n",
+        "",
+        0,
+    ),
+    ("two B -", 1, "layer 2 datatype 0 rings 1\n", "", 0),
+    ("two - -", 1, "refused: first: cells 6 ManyTops\n", "", 2),
+    ("digest square - -", 1, SQUARE_DIGEST, "", 0),
+    (
+        "digest two - -",
         1,
         "refused: first: cells 6 ManyTops\n",
         "",
         2,
     ),
-    ("digest none -", 1, "", "lvl: cannot open none\n", 2),
-    ("none two - - - -", 1, "", "lvl: cannot open none\n", 2),
-    ("two other - - - -", 2, "", "lvl: cannot open other\n", 2),
-    ("none two - - 1/0 -", 0, "", "lvl: bad view 1 MapText\n", 3),
+    ("digest none - -", 1, "", "lvl: cannot open none\n", 2),
+    ("none two - - - - -", 1, "", "lvl: cannot open none\n", 2),
+    ("two other - - - - -", 2, "", "lvl: cannot open other\n", 2),
+    (
+        "none two - - 1/0 - -",
+        0,
+        "",
+        "lvl: bad view 1 MapText\n",
+        3,
+    ),
+    ("square tagged - - - - properties", 2, "same\n", "", 0),
+    ("tagged square - - - - all", 2, "same\n", "", 0),
+    ("square tagged - - - - -", 2, UNREAD_SECOND, "", 2),
+    (
+        "tagged tagged - - - - texts,names,padding",
+        2,
+        UNREAD_FIRST,
+        "",
+        2,
+    ),
+    (
+        "two tagged B - - x=0..10,y=0..10 names,properties",
+        2,
+        "differ: layer 1 datatype 0 square 0 0 only in second\n",
+        "",
+        1,
+    ),
+    (
+        "tagged - properties",
+        1,
+        "layer 1 datatype 0 rings 1\n",
+        "",
+        0,
+    ),
+    ("tagged - names", 1, UNREAD_FIRST, "", 2),
+    ("digest tagged - all", 1, SQUARE_DIGEST, "", 0),
+    ("digest tagged - -", 1, UNREAD_FIRST, "", 2),
+    ("none two - - - - property", 0, "", BAD_IGNORE, 3),
+    ("square square - - - - all,", 0, "", BAD_IGNORE, 3),
+    (
+        "none two - - 1/0 - property",
+        0,
+        "",
+        "lvl: bad view 1 MapText\n",
+        3,
+    ),
+    ("square - ALL", 0, "", BAD_IGNORE, 3),
+    ("digest square - ,", 0, "", BAD_IGNORE, 3),
 ];
 
 #[test]
@@ -155,7 +218,10 @@ fn growths_of_a_job(rt: HostRuntime) -> Result<(), Fail> {
     out.taken.reserve(1024)?;
     let mut err = Sink::new(rt.alloc(), usize::MAX);
     err.taken.reserve(64)?;
-    let job = job_of(rt.alloc(), "square two - B 2/0=1/0 x=0..10,y=0..10")?;
+    let job = job_of(
+        rt.alloc(),
+        "tagged two - B 2/0=1/0 x=0..10,y=0..10 names,properties",
+    )?;
     let ended = do_job(rt.alloc(), job, &mut files, &mut out, &mut err);
     match code_of(&ended) {
         0 => Ok(()),

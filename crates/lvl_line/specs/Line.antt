@@ -19,16 +19,17 @@ file_rule id = record (new_rule id) { required = true }
 abbrev pub option_rule : Text → Rule
 option_rule id = record (new_rule id) { long = Some id; value_names = 1 }
 
--- `compare A B [--top-a NAME] [--top-b NAME] [--map PAIRS] [--window RANGES]`
+-- `compare A B [--top-a NAME] [--top-b NAME] [--map PAIRS] [--window RANGES] [--ignore WORDS]`
 abbrev pub compare_app : App
-compare_app = with_rule (with_rule (with_rule (with_rule (with_rule (with_rule (new_app (codes "compare"))
+compare_app = with_rule (with_rule (with_rule (with_rule (with_rule (with_rule (with_rule (new_app (codes "compare"))
     (file_rule (codes "A"))) (file_rule (codes "B")))
     (option_rule (codes "top-a"))) (option_rule (codes "top-b")))
-    (option_rule (codes "map"))) (option_rule (codes "window"))
+    (option_rule (codes "map"))) (option_rule (codes "window"))) (option_rule (codes "ignore"))
 
--- `NAME A [--top NAME]`
+-- `NAME A [--top NAME] [--ignore WORDS]`
 abbrev pub one_file_app : Text → App
-one_file_app name = with_rule (with_rule (new_app name) (file_rule (codes "A"))) (option_rule (codes "top"))
+one_file_app name = with_rule (with_rule (with_rule (new_app name) (file_rule (codes "A")))
+    (option_rule (codes "top"))) (option_rule (codes "ignore"))
 
 abbrev pub plain_line : App
 plain_line = new_app (codes "lvl")
@@ -41,7 +42,7 @@ line = with_subcommand (with_subcommand (with_subcommand (record plain_line {
 
 -- the job has the values that clap finds in the words, under the subcommand of that name
 abbrev pub IsNamed : Job → Option (Text × List Row) → Type 0
-IsNamed (job.Compare first second top_a top_b layers window) (Some (name, rows)) =
+IsNamed (job.Compare first second top_a top_b layers window ignored) (Some (name, rows)) =
     (name ≡ codes "compare")
     × (first_of (codes "A") rows ≡ Some (string_bytes first))
     × (first_of (codes "B") rows ≡ Some (string_bytes second))
@@ -49,14 +50,17 @@ IsNamed (job.Compare first second top_a top_b layers window) (Some (name, rows))
     × (first_of (codes "top-b") rows ≡ option_map string_bytes top_b)
     × (first_of (codes "map") rows ≡ option_map string_bytes layers)
     × (first_of (codes "window") rows ≡ option_map string_bytes window)
-IsNamed (job.Show file top) (Some (name, rows)) =
+    × (first_of (codes "ignore") rows ≡ option_map string_bytes ignored)
+IsNamed (job.Show file top ignored) (Some (name, rows)) =
     (name ≡ codes "show")
     × (first_of (codes "A") rows ≡ Some (string_bytes file))
     × (first_of (codes "top") rows ≡ option_map string_bytes top)
-IsNamed (job.Digest file top) (Some (name, rows)) =
+    × (first_of (codes "ignore") rows ≡ option_map string_bytes ignored)
+IsNamed (job.Digest file top ignored) (Some (name, rows)) =
     (name ≡ codes "digest")
     × (first_of (codes "A") rows ≡ Some (string_bytes file))
     × (first_of (codes "top") rows ≡ option_map string_bytes top)
+    × (first_of (codes "ignore") rows ≡ option_map string_bytes ignored)
 IsNamed _ None = ⊥
 
 -- what the words mean by clap

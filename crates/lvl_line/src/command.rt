@@ -19,6 +19,10 @@ const MAP_HELP: &str = "Layers of the second layout, as those of the first: 1/0=
 /// What `--window` takes.
 const WINDOW_HELP: &str = "The only squares to be compared, in grid steps: x=0..100,y=-50..50";
 
+/// What `--ignore` takes.
+const IGNORE_HELP: &str =
+    "Records to read and ignore: properties, texts, names, padding or all, joined by commas";
+
 /// A file, which the line must name.
 fn file<'a>(alloc: Global, id: &'a str, help: &'a str) -> Arg<'a>
     ensures rule { rule_of result ≡ file_rule id.entry.now }
@@ -35,7 +39,7 @@ fn option<'a>(alloc: Global, id: &'a str, value: &'a str, help: &'a str) -> Arg<
     Arg::new(alloc, id).long(id).value_name(value).help(help)
 }
 
-/// `compare A B [--top-a NAME] [--top-b NAME] [--map PAIRS] [--window RANGES]`.
+/// `compare A B [--top-a NAME] [--top-b NAME] [--map PAIRS] [--window RANGES] [--ignore WORDS]`.
 fn compare<'a>(alloc: Global) -> Result<Command<'a>, AllocError>
     ensures { IfOk result (λ c. app_of c ≡ compare_app) }
 {
@@ -46,17 +50,19 @@ fn compare<'a>(alloc: Global) -> Result<Command<'a>, AllocError>
         .arg(option(alloc, "top-a", "NAME", "The first layout's top cell"))?
         .arg(option(alloc, "top-b", "NAME", "The second layout's top cell"))?
         .arg(option(alloc, "map", "PAIRS", MAP_HELP))?
-        .arg(option(alloc, "window", "RANGES", WINDOW_HELP))
+        .arg(option(alloc, "window", "RANGES", WINDOW_HELP))?
+        .arg(option(alloc, "ignore", "WORDS", IGNORE_HELP))
 }
 
-/// A subcommand of one file: `NAME A [--top NAME]`.
+/// A subcommand of one file: `NAME A [--top NAME] [--ignore WORDS]`.
 fn one_file<'a>(alloc: Global, name: &'a str, about: &'a str) -> Result<Command<'a>, AllocError>
     ensures { IfOk result (λ c. app_of c ≡ one_file_app name.entry.now) }
 {
     Command::new(alloc, name)
         .about(about)
         .arg(file(alloc, "A", "The layout, GDSII or OASIS"))?
-        .arg(option(alloc, "top", "NAME", "The layout's top cell"))
+        .arg(option(alloc, "top", "NAME", "The layout's top cell"))?
+        .arg(option(alloc, "ignore", "WORDS", IGNORE_HELP))
 }
 
 /// The program's line: one of the subcommands `compare`, `show` and `digest`.

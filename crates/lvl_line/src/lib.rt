@@ -4,7 +4,7 @@
 //! that `clap` finds in them, or `clap`'s refusal with its text.
 //!
 //! ```
-//! let Ok(Job::Show { file, top }) = parse_line(alloc, &["lvl", "show", "chip.gds"]) else {
+//! let Ok(Job::Show { file, top, .. }) = parse_line(alloc, &["lvl", "show", "chip.gds"]) else {
 //!     return Err(Fail::from("the line is refused"));
 //! };
 //! assert_eq!(rt; file.as_str(), "chip.gds");

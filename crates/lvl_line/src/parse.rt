@@ -46,14 +46,16 @@ fn job_of(alloc: Global, name: &str, matches: &ArgMatches<'_>) -> Result<Job, Al
             top_b: value_of(alloc, matches, "top-b")?,
             map: value_of(alloc, matches, "map")?,
             window: value_of(alloc, matches, "window")?,
+            ignore: value_of(alloc, matches, "ignore")?,
         });
     }
     let file = file_of(alloc, matches, "A")?;
     let top = value_of(alloc, matches, "top")?;
+    let ignore = value_of(alloc, matches, "ignore")?;
     if name == "show" {
-        return Ok(Job::Show { file, top });
+        return Ok(Job::Show { file, top, ignore });
     }
-    Ok(Job::Digest { file, top })
+    Ok(Job::Digest { file, top, ignore })
 }
 
 /// `clap`'s refusal, or a failed allocation.

@@ -9,12 +9,14 @@ mod help;
 /// What a line asks for, or the kind of its refusal.
 #[derive(Clone, Copy)]
 enum Asks<'a> {
-    /// Two files and the tops of both; neither a map nor a window.
+    /// Two files and the tops of both; no map, no window, and nothing ignored.
     Compare(&'a str, &'a str, Option<&'a str>, Option<&'a str>),
-    /// Files `a` and `b`, no tops, a map and a window.
-    View(Option<&'a str>, Option<&'a str>),
-    Show(&'a str, Option<&'a str>),
-    Digest(&'a str, Option<&'a str>),
+    /// Files `a` and `b`, no tops, a map, a window and what is ignored.
+    View(Option<&'a str>, Option<&'a str>, Option<&'a str>),
+    /// A file, its top and what is ignored.
+    Show(&'a str, Option<&'a str>, Option<&'a str>),
+    /// A file, its top and what is ignored.
+    Digest(&'a str, Option<&'a str>, Option<&'a str>),
     Nothing(ErrorKind),
 }
 
@@ -38,6 +40,7 @@ fn is_asked(asks: Asks<'_>, answer: &Result<Job, LineFault>) -> bool {
                     top_b,
                     map,
                     window,
+                    ignore,
                 },
             ),
         ) => {
@@ -47,9 +50,10 @@ fn is_asked(asks: Asks<'_>, answer: &Result<Job, LineFault>) -> bool {
                 && is_text(top_b, other)
                 && is_text(map, None)
                 && is_text(window, None)
+                && is_text(ignore, None)
         }
         (
-            Asks::View(pairs, ranges),
+            Asks::View(pairs, ranges, words),
             Ok(
                 Job::Compare {
                     first,
@@ -58,6 +62,7 @@ fn is_asked(asks: Asks<'_>, answer: &Result<Job, LineFault>) -> bool {
                     top_b,
                     map,
                     window,
+                    ignore,
                 },
             ),
         ) => {
@@ -67,12 +72,13 @@ fn is_asked(asks: Asks<'_>, answer: &Result<Job, LineFault>) -> bool {
                 && is_text(top_b, None)
                 && is_text(map, pairs)
                 && is_text(window, ranges)
+                && is_text(ignore, words)
         }
-        (Asks::Show(a, name), Ok(Job::Show { file, top })) => {
-            file.as_str() == a && is_text(top, name)
+        (Asks::Show(a, name, words), Ok(Job::Show { file, top, ignore })) => {
+            file.as_str() == a && is_text(top, name) && is_text(ignore, words)
         }
-        (Asks::Digest(a, name), Ok(Job::Digest { file, top })) => {
-            file.as_str() == a && is_text(top, name)
+        (Asks::Digest(a, name, words), Ok(Job::Digest { file, top, ignore })) => {
+            file.as_str() == a && is_text(top, name) && is_text(ignore, words)
         }
         (Asks::Nothing(kind), Err(LineFault::Words(error))) => error.kind() == kind,
         _ => false,
@@ -88,7 +94,7 @@ fn words_of(alloc: Global, line: &'static str) -> Result<Vec<&'static str>, Allo
     Ok(words)
 }
 
-static LINES: [(&str, Asks<'static>); 27] = [
+static LINES: [(&str, Asks<'static>); 36] = [
     ("lvl compare a b", Asks::Compare("a", "b", None, None)),
     (
         "lvl compare a b --top-a X --top-b Y",
@@ -108,13 +114,37 @@ static LINES: [(&str, Asks<'static>); 27] = [
     ),
     (
         "lvl compare a b --map 1/0=2/0 --window x=0..1,y=-5..5",
-        Asks::View(Some("1/0=2/0"), Some("x=0..1,y=-5..5")),
+        Asks::View(Some("1/0=2/0"), Some("x=0..1,y=-5..5"), None),
     ),
     (
         "lvl compare --window=x=0..1,y=0..1 a b",
-        Asks::View(None, Some("x=0..1,y=0..1")),
+        Asks::View(None, Some("x=0..1,y=0..1"), None),
     ),
-    ("lvl compare a --map= b", Asks::View(Some(""), None)),
+    ("lvl compare a --map= b", Asks::View(Some(""), None, None)),
+    (
+        "lvl compare a b --ignore properties,texts",
+        Asks::View(None, None, Some("properties,texts")),
+    ),
+    (
+        "lvl compare --ignore=all --map 1/0=2/0 a b",
+        Asks::View(Some("1/0=2/0"), None, Some("all")),
+    ),
+    (
+        "lvl compare a b --ignore=",
+        Asks::View(None, None, Some("")),
+    ),
+    (
+        "lvl compare a b --ignore texts --ignore names",
+        Asks::Nothing(ErrorKind::ArgumentConflict),
+    ),
+    (
+        "lvl compare a b --ignore",
+        Asks::Nothing(ErrorKind::InvalidValue),
+    ),
+    (
+        "lvl --ignore all compare a b",
+        Asks::Nothing(ErrorKind::UnknownArgument),
+    ),
     (
         "lvl compare a b --map 1/0=2/0 --map 2/0=1/0",
         Asks::Nothing(ErrorKind::ArgumentConflict),
@@ -123,10 +153,22 @@ static LINES: [(&str, Asks<'static>); 27] = [
         "lvl show a --window x=0..1,y=0..1",
         Asks::Nothing(ErrorKind::UnknownArgument),
     ),
-    ("lvl show a", Asks::Show("a", None)),
-    ("lvl show --top X a", Asks::Show("a", Some("X"))),
-    ("lvl digest a", Asks::Digest("a", None)),
-    ("lvl digest --top X a", Asks::Digest("a", Some("X"))),
+    ("lvl show a", Asks::Show("a", None, None)),
+    ("lvl show --top X a", Asks::Show("a", Some("X"), None)),
+    (
+        "lvl show a --ignore texts",
+        Asks::Show("a", None, Some("texts")),
+    ),
+    (
+        "lvl show --ignore=X --top=all a",
+        Asks::Show("a", Some("all"), Some("X")),
+    ),
+    ("lvl digest a", Asks::Digest("a", None, None)),
+    ("lvl digest --top X a", Asks::Digest("a", Some("X"), None)),
+    (
+        "lvl digest a --top X --ignore all",
+        Asks::Digest("a", Some("X"), Some("all")),
+    ),
     (
         "lvl digest",
         Asks::Nothing(ErrorKind::MissingRequiredArgument),
@@ -166,7 +208,7 @@ static LINES: [(&str, Asks<'static>); 27] = [
 #[test]
 fn one_line(rt: HostRuntime) -> Result<(), Fail> {
     let alloc = rt.alloc();
-    let Ok(Job::Show { file, top }) = parse_line(alloc, &["lvl", "show", "chip.gds"]) else {
+    let Ok(Job::Show { file, top, .. }) = parse_line(alloc, &["lvl", "show", "chip.gds"]) else {
         return Err(Fail::from("the line is refused"));
     };
     assert_eq!(rt; file.as_str(), "chip.gds");

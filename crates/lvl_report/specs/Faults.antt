@@ -8,6 +8,8 @@ use Rattle.lvl_cells.specs.declared.fault.CellFault.TheVariants.{NoCell, Duplica
 use Rattle.lvl_cells.specs.declared.fault.CellFault.TheVariants.{ManyTops, TooManyPlacements, TooManyRings}
 use Rattle.lvl_view.specs.declared.fault.ViewFault.{ViewFault}
 use Rattle.lvl_view.specs.declared.fault.ViewFault.TheVariants.{MapText, WindowText, MapTwice, EmptyWindow}
+use Rattle.lvl_ignore.specs.declared.ignore.IgnoreFault.{IgnoreFault}
+use Rattle.lvl_ignore.specs.declared.ignore.IgnoreFault.TheVariants.{IgnoreText}
 use Rattle.lvl_flat.specs.declared.fault.FlatFault.{FlatFault}
 use Rattle.lvl_flat.specs.declared.fault.FlatFault.TheVariants.{OutOfRange}
 
@@ -31,6 +33,10 @@ view_fault MapText = codes "1 MapText"
 view_fault WindowText = codes "2 WindowText"
 view_fault (MapTwice layer) = codes "3 MapTwice"
 view_fault EmptyWindow = codes "4 EmptyWindow"
+
+-- why a text names nothing that can be ignored
+abbrev pub ignore_fault : IgnoreFault → List ℕ
+ignore_fault IgnoreText = codes "1 IgnoreText"
 
 -- a fault of a library's cells; cells are named by their names
 abbrev pub cell_fault : CellFault → List ℕ

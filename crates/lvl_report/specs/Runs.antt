@@ -1,6 +1,7 @@
 -- What a run may write: the text of an answer, whole or its beginning.
 use Rattle.std.specs.Prelude.{◌≡◌, ℕ, List, Option, Some, Result, IfOk, IfErr}
 use Rattle.std.specs.Io.KnownBytes.{Appends}
+use Rattle.lvl_ignore.specs.declared.ignore.Ignore.{Ignore}
 use Rattle.lvl_io.specs.Bytes.{CountsFailure}
 use Rattle.lvl_region.specs.declared.region.Side.TheVariants.{First, Second}
 use Rattle.lvl.specs.Digested.{IsDigestedFile}
@@ -17,27 +18,29 @@ use Rattle.lvl.specs.Answers.{IsCompared, IsEarlyOf, IsHopeless, IsRefusalOf, is
 use Rattle.lvl.specs.Shown.{IsShownFile, IsOfFirst}
 use Rattle.lvl_report.specs.Writing.{AppendsBeginning}
 
--- a reader in a run: the bytes that it had and those that are left, where they are known, its errors before and after,
+-- a reader in a run: which of its records are ignored, the bytes that it had and those that are left, where they are known, its errors before and after,
 -- and the name of the top
 pub record Input : Type 0 where
+  pub ignore : Ignore
   pub bytes : Option (List ℕ)
   pub left : Option (List ℕ)
   pub before : ℕ
   pub after : ℕ
   pub top : Option (List ℕ)
 
-abbrev pub input : Option (List ℕ) → Option (List ℕ) → ℕ → ℕ → Option (List ℕ) → Input
-input bytes left before after top = record { bytes = bytes; left = left; before = before; after = after; top = top }
+abbrev pub input : Ignore → Option (List ℕ) → Option (List ℕ) → ℕ → ℕ → Option (List ℕ) → Input
+input ignore bytes left before after top =
+    record { ignore = ignore; bytes = bytes; left = left; before = before; after = after; top = top }
 
 -- the answer is one that a comparison of two files may give, where it says that of them
 pub record IsAnswerBy (Says : File → File → Comparison → Type 0) (a b : Input)
     (answer : Result Comparison Refusal) : Type 0 where
   pub compared : (xs ys : List ℕ) → a.bytes ≡ Some xs → b.bytes ≡ Some ys
-      → IfOk answer (Says (file_named xs a.top) (file_named ys b.top))
-  pub first_refused : (xs : List ℕ) → a.bytes ≡ Some xs → IfErr answer (IsRefusalOf First (file_named xs a.top))
-  pub second_refused : (ys : List ℕ) → b.bytes ≡ Some ys → IfErr answer (IsRefusalOf Second (file_named ys b.top))
-  pub first_early : (xs : List ℕ) → a.bytes ≡ Some xs → IfErr answer (λ r. IsEarlyOf First r → IsHopeless xs a.left)
-  pub second_early : (ys : List ℕ) → b.bytes ≡ Some ys → IfErr answer (λ r. IsEarlyOf Second r → IsHopeless ys b.left)
+      → IfOk answer (Says (file_named a.ignore xs a.top) (file_named b.ignore ys b.top))
+  pub first_refused : (xs : List ℕ) → a.bytes ≡ Some xs → IfErr answer (IsRefusalOf First (file_named a.ignore xs a.top))
+  pub second_refused : (ys : List ℕ) → b.bytes ≡ Some ys → IfErr answer (IsRefusalOf Second (file_named b.ignore ys b.top))
+  pub first_early : (xs : List ℕ) → a.bytes ≡ Some xs → IfErr answer (λ r. IsEarlyOf First r → IsHopeless a.ignore xs a.left)
+  pub second_early : (ys : List ℕ) → b.bytes ≡ Some ys → IfErr answer (λ r. IsEarlyOf Second r → IsHopeless b.ignore ys b.left)
   pub first_reads : CountsFailure a.before a.after (is_read_of First answer)
   pub second_reads : CountsFailure b.before b.after (is_read_of Second answer)
 
@@ -51,9 +54,9 @@ IsViewedBy view = IsAnswerBy (IsComparedIn view)
 
 -- the answer is one that the reading of a file may give, where it says that of the file
 pub record IsFoundBy {X : Type 0} (Says : File → X → Type 0) (a : Input) (answer : Result X Refusal) : Type 0 where
-  pub found : (xs : List ℕ) → a.bytes ≡ Some xs → IfOk answer (Says (file_named xs a.top))
-  pub refused : (xs : List ℕ) → a.bytes ≡ Some xs → IfErr answer (IsRefusalOf First (file_named xs a.top))
-  pub early : (xs : List ℕ) → a.bytes ≡ Some xs → IfErr answer (λ r. IsEarlyOf First r → IsHopeless xs a.left)
+  pub found : (xs : List ℕ) → a.bytes ≡ Some xs → IfOk answer (Says (file_named a.ignore xs a.top))
+  pub refused : (xs : List ℕ) → a.bytes ≡ Some xs → IfErr answer (IsRefusalOf First (file_named a.ignore xs a.top))
+  pub early : (xs : List ℕ) → a.bytes ≡ Some xs → IfErr answer (λ r. IsEarlyOf First r → IsHopeless a.ignore xs a.left)
   pub side : IfErr answer IsOfFirst
   pub reads : CountsFailure a.before a.after (is_read_of First answer)
 

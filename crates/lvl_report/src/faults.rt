@@ -1,9 +1,10 @@
 //! The number and the name of each fault that no format has alone, and what it carries, as text.
 ghost use Rattle.std.specs.Prelude.{◌≡◌, ◌++◌, flat_map, OnOk};
-ghost use Rattle.lvl_report.specs.Faults.{spaced, path_fault, cell_fault, flat_fault, view_fault};
+ghost use Rattle.lvl_report.specs.Faults.{spaced, path_fault, cell_fault, flat_fault, ignore_fault, view_fault};
 
 use lvl_cells::CellFault;
 use lvl_flat::FlatFault;
+use lvl_ignore::IgnoreFault;
 use lvl_path::PathFault;
 use lvl_view::ViewFault;
 use std::io;
@@ -33,6 +34,15 @@ pub fn view_fault(fault: ViewFault) -> &'static str
         ViewFault::WindowText => "2 WindowText",
         ViewFault::MapTwice(_) => "3 MapTwice",
         ViewFault::EmptyWindow => "4 EmptyWindow",
+    }
+}
+
+/// Why a text names nothing that can be ignored: the number and the name of the fault.
+pub fn ignore_fault(fault: IgnoreFault) -> &'static str
+    ensures { result.now ≡ ignore_fault fault }
+{
+    match fault {
+        IgnoreFault::IgnoreText => "1 IgnoreText",
     }
 }
 

@@ -16,8 +16,8 @@
 #![tactic(auto)]
 
 pub use digest::form_digest;
-pub use faults::view_fault;
-pub use runs::{run, run_digest, run_show, run_view};
+pub use faults::{ignore_fault, view_fault};
+pub use runs::{run, run_by, run_digest, run_show, run_show_by, run_view, run_view_by};
 pub use status::{RunFault, Status};
 pub use text::{form, form_shown};
 

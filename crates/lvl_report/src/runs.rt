@@ -4,12 +4,14 @@ ghost use Rattle.std.specs.Io.KnownBytes.{Keeps};
 ghost use Rattle.lvl_io.specs.Bytes.{CountsFailure};
 ghost use Rattle.lvl_report.specs.Runs.{IsComparedBy, IsDigestedBy, IsShownBy, IsViewedBy, IsWritten, IsBegun, input};
 ghost use Rattle.lvl.specs.Sides.{given_name};
+ghost use Rattle.lvl_ignore.specs.Ignored.{nothing};
 ghost use Rattle.lvl_report.specs.Texts.{text_of, text_of_digested, text_of_shown};
 ghost use Rattle.lvl_report.specs.Writing.{status_of, shown_status, is_output};
 
 use crate::status::{RunFault, Status};
 use crate::tell::{tell, tell_digest, tell_shown};
 use lvl::{Tops, compare_files, digest_file, show_file};
+use lvl_ignore::Ignore;
 use lvl_io::{Read, Write};
 use lvl_view::View;
 use std::alloc::Global;
@@ -27,22 +29,53 @@ pub fn run<A: Read, B: Read, W: Write>(
     out: &mut W,
 ) -> Result<Status, RunFault>
     ensures written { IfOk result (IsWritten
-        (IsComparedBy (input (A.remaining first.old) (A.remaining first.new)
+        (IsComparedBy (input nothing (A.remaining first.old) (A.remaining first.new)
         (A.read_errors first.old) (A.read_errors first.new) (given_name tops.now.first))
-        (input (B.remaining second.old) (B.remaining second.new)
+        (input nothing (B.remaining second.old) (B.remaining second.new)
         (B.read_errors second.old) (B.read_errors second.new) (given_name tops.now.second)))
         text_of status_of (W.contents out.old) (W.contents out.new)) }
     ensures begun { OnErr result (IsBegun
-        (IsComparedBy (input (A.remaining first.old) (A.remaining first.new)
+        (IsComparedBy (input nothing (A.remaining first.old) (A.remaining first.new)
         (A.read_errors first.old) (A.read_errors first.new) (given_name tops.now.first))
-        (input (B.remaining second.old) (B.remaining second.new)
+        (input nothing (B.remaining second.old) (B.remaining second.new)
         (B.read_errors second.old) (B.read_errors second.new) (given_name tops.now.second)))
         text_of (W.contents out.old) (W.contents out.new)) }
     ensures nothing { result ≡ Err RunFault.OutOfMemory → Keeps (W.contents out.old) (W.contents out.new) }
     ensures errors { CountsFailure (W.write_errors out.old) (W.write_errors out.new) (is_output result) }
     ensures same { W.lent out.new ≡ W.lent out.old }
 {
-    run_view(alloc, first, second, tops, &View::whole(alloc), out)
+    run_by(alloc, first, second, tops, Ignore::NOTHING, out)
+}
+
+/// Compares two files where some of their records are ignored, and writes the answer as [`run`] does.
+///
+/// What it writes is what [`compare_files`](lvl::compare_files) may answer of these files without a map
+/// and a window.
+pub fn run_by<A: Read, B: Read, W: Write>(
+    alloc: Global,
+    first: &mut A,
+    second: &mut B,
+    tops: &Tops,
+    ignore: Ignore,
+    out: &mut W,
+) -> Result<Status, RunFault>
+    ensures written { IfOk result (IsWritten
+        (IsComparedBy (input ignore (A.remaining first.old) (A.remaining first.new)
+        (A.read_errors first.old) (A.read_errors first.new) (given_name tops.now.first))
+        (input ignore (B.remaining second.old) (B.remaining second.new)
+        (B.read_errors second.old) (B.read_errors second.new) (given_name tops.now.second)))
+        text_of status_of (W.contents out.old) (W.contents out.new)) }
+    ensures begun { OnErr result (IsBegun
+        (IsComparedBy (input ignore (A.remaining first.old) (A.remaining first.new)
+        (A.read_errors first.old) (A.read_errors first.new) (given_name tops.now.first))
+        (input ignore (B.remaining second.old) (B.remaining second.new)
+        (B.read_errors second.old) (B.read_errors second.new) (given_name tops.now.second)))
+        text_of (W.contents out.old) (W.contents out.new)) }
+    ensures nothing { result ≡ Err RunFault.OutOfMemory → Keeps (W.contents out.old) (W.contents out.new) }
+    ensures errors { CountsFailure (W.write_errors out.old) (W.write_errors out.new) (is_output result) }
+    ensures same { W.lent out.new ≡ W.lent out.old }
+{
+    run_view_by(alloc, first, second, tops, &View::whole(alloc), ignore, out)
 }
 
 /// Compares two files under a view, the second with its Layers mapped and in the window alone, and
@@ -58,22 +91,54 @@ pub fn run_view<A: Read, B: Read, W: Write>(
     out: &mut W,
 ) -> Result<Status, RunFault>
     ensures written { IfOk result (IsWritten
-        (IsViewedBy view.now (input (A.remaining first.old) (A.remaining first.new)
+        (IsViewedBy view.now (input nothing (A.remaining first.old) (A.remaining first.new)
         (A.read_errors first.old) (A.read_errors first.new) (given_name tops.now.first))
-        (input (B.remaining second.old) (B.remaining second.new)
+        (input nothing (B.remaining second.old) (B.remaining second.new)
         (B.read_errors second.old) (B.read_errors second.new) (given_name tops.now.second)))
         text_of status_of (W.contents out.old) (W.contents out.new)) }
     ensures begun { OnErr result (IsBegun
-        (IsViewedBy view.now (input (A.remaining first.old) (A.remaining first.new)
+        (IsViewedBy view.now (input nothing (A.remaining first.old) (A.remaining first.new)
         (A.read_errors first.old) (A.read_errors first.new) (given_name tops.now.first))
-        (input (B.remaining second.old) (B.remaining second.new)
+        (input nothing (B.remaining second.old) (B.remaining second.new)
         (B.read_errors second.old) (B.read_errors second.new) (given_name tops.now.second)))
         text_of (W.contents out.old) (W.contents out.new)) }
     ensures nothing { result ≡ Err RunFault.OutOfMemory → Keeps (W.contents out.old) (W.contents out.new) }
     ensures errors { CountsFailure (W.write_errors out.old) (W.write_errors out.new) (is_output result) }
     ensures same { W.lent out.new ≡ W.lent out.old }
 {
-    let answer = compare_files(alloc, first, second, tops, view);
+    run_view_by(alloc, first, second, tops, view, Ignore::NOTHING, out)
+}
+
+/// Compares two files under a view where some of their records are ignored, and writes the answer as
+/// [`run`] does.
+///
+/// What it writes is what [`compare_files`](lvl::compare_files) may answer of these files.
+pub fn run_view_by<A: Read, B: Read, W: Write>(
+    alloc: Global,
+    first: &mut A,
+    second: &mut B,
+    tops: &Tops,
+    view: &View,
+    ignore: Ignore,
+    out: &mut W,
+) -> Result<Status, RunFault>
+    ensures written { IfOk result (IsWritten
+        (IsViewedBy view.now (input ignore (A.remaining first.old) (A.remaining first.new)
+        (A.read_errors first.old) (A.read_errors first.new) (given_name tops.now.first))
+        (input ignore (B.remaining second.old) (B.remaining second.new)
+        (B.read_errors second.old) (B.read_errors second.new) (given_name tops.now.second)))
+        text_of status_of (W.contents out.old) (W.contents out.new)) }
+    ensures begun { OnErr result (IsBegun
+        (IsViewedBy view.now (input ignore (A.remaining first.old) (A.remaining first.new)
+        (A.read_errors first.old) (A.read_errors first.new) (given_name tops.now.first))
+        (input ignore (B.remaining second.old) (B.remaining second.new)
+        (B.read_errors second.old) (B.read_errors second.new) (given_name tops.now.second)))
+        text_of (W.contents out.old) (W.contents out.new)) }
+    ensures nothing { result ≡ Err RunFault.OutOfMemory → Keeps (W.contents out.old) (W.contents out.new) }
+    ensures errors { CountsFailure (W.write_errors out.old) (W.write_errors out.new) (is_output result) }
+    ensures same { W.lent out.new ≡ W.lent out.old }
+{
+    let answer = compare_files(alloc, first, second, tops, view, ignore);
     tell(alloc, &answer, out)
 }
 
@@ -88,44 +153,70 @@ pub fn run_show<R: Read, W: Write>(
     out: &mut W,
 ) -> Result<Status, RunFault>
     ensures written { IfOk result (IsWritten
-        (IsShownBy (input (R.remaining reader.old) (R.remaining reader.new)
+        (IsShownBy (input nothing (R.remaining reader.old) (R.remaining reader.new)
         (R.read_errors reader.old) (R.read_errors reader.new) (option_copied top.entry)))
         text_of_shown shown_status (W.contents out.old) (W.contents out.new)) }
     ensures begun { OnErr result (IsBegun
-        (IsShownBy (input (R.remaining reader.old) (R.remaining reader.new)
+        (IsShownBy (input nothing (R.remaining reader.old) (R.remaining reader.new)
         (R.read_errors reader.old) (R.read_errors reader.new) (option_copied top.entry)))
         text_of_shown (W.contents out.old) (W.contents out.new)) }
     ensures nothing { result ≡ Err RunFault.OutOfMemory → Keeps (W.contents out.old) (W.contents out.new) }
     ensures errors { CountsFailure (W.write_errors out.old) (W.write_errors out.new) (is_output result) }
     ensures same { W.lent out.new ≡ W.lent out.old }
 {
-    let answer = show_file(alloc, reader, top);
+    run_show_by(alloc, reader, top, Ignore::NOTHING, out)
+}
+
+/// Shows a file where some of its records are ignored, and writes the answer as [`run_show`] does.
+///
+/// What it writes is what [`show_file`](lvl::show_file) may answer of this file.
+pub fn run_show_by<R: Read, W: Write>(
+    alloc: Global,
+    reader: &mut R,
+    top: Option<&[u8]>,
+    ignore: Ignore,
+    out: &mut W,
+) -> Result<Status, RunFault>
+    ensures written { IfOk result (IsWritten
+        (IsShownBy (input ignore (R.remaining reader.old) (R.remaining reader.new)
+        (R.read_errors reader.old) (R.read_errors reader.new) (option_copied top.entry)))
+        text_of_shown shown_status (W.contents out.old) (W.contents out.new)) }
+    ensures begun { OnErr result (IsBegun
+        (IsShownBy (input ignore (R.remaining reader.old) (R.remaining reader.new)
+        (R.read_errors reader.old) (R.read_errors reader.new) (option_copied top.entry)))
+        text_of_shown (W.contents out.old) (W.contents out.new)) }
+    ensures nothing { result ≡ Err RunFault.OutOfMemory → Keeps (W.contents out.old) (W.contents out.new) }
+    ensures errors { CountsFailure (W.write_errors out.old) (W.write_errors out.new) (is_output result) }
+    ensures same { W.lent out.new ≡ W.lent out.old }
+{
+    let answer = show_file(alloc, reader, top, ignore);
     tell_shown(alloc, &answer, out)
 }
 
 /// Writes the digest of a file: what it says of itself, its top, for each Layer on which the top covers a
 /// square, in their order, how many corners these squares have and the SHA-256 of the Layer's bytes, and
-/// the SHA-256 of the bytes of all Layers; or the refusal, on one line.
+/// the SHA-256 of the bytes of all Layers; or the refusal, on one line. Some records may be ignored.
 ///
 /// What it writes is what [`digest_file`](lvl::digest_file) may answer of this file.
 pub fn run_digest<R: Read, W: Write>(
     alloc: Global,
     reader: &mut R,
     top: Option<&[u8]>,
+    ignore: Ignore,
     out: &mut W,
 ) -> Result<Status, RunFault>
     ensures written { IfOk result (IsWritten
-        (IsDigestedBy (input (R.remaining reader.old) (R.remaining reader.new)
+        (IsDigestedBy (input ignore (R.remaining reader.old) (R.remaining reader.new)
         (R.read_errors reader.old) (R.read_errors reader.new) (option_copied top.entry)))
         text_of_digested shown_status (W.contents out.old) (W.contents out.new)) }
     ensures begun { OnErr result (IsBegun
-        (IsDigestedBy (input (R.remaining reader.old) (R.remaining reader.new)
+        (IsDigestedBy (input ignore (R.remaining reader.old) (R.remaining reader.new)
         (R.read_errors reader.old) (R.read_errors reader.new) (option_copied top.entry)))
         text_of_digested (W.contents out.old) (W.contents out.new)) }
     ensures nothing { result ≡ Err RunFault.OutOfMemory → Keeps (W.contents out.old) (W.contents out.new) }
     ensures errors { CountsFailure (W.write_errors out.old) (W.write_errors out.new) (is_output result) }
     ensures same { W.lent out.new ≡ W.lent out.old }
 {
-    let answer = digest_file(alloc, reader, top);
+    let answer = digest_file(alloc, reader, top, ignore);
     tell_digest(alloc, &answer, out)
 }

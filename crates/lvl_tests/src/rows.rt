@@ -10,6 +10,7 @@ mod digests;
 mod each_byte;
 mod failing;
 mod growths;
+mod ignored;
 mod large;
 mod reads;
 mod refusals;

@@ -3,6 +3,7 @@
 use crate::fence::fence;
 use gds_records::Records;
 use gds_records::fake::{SQUARE, Stream};
+use lvl_ignore::Ignore;
 use lvl_io::fake::Pieces;
 use oasis_values::{Input, Real};
 use std::test::Fail;
@@ -38,7 +39,7 @@ const VALUES: &[u8] = b"\x07\xE8\x07\x0B\x02\x05\x29\x2F\xA8\x01\x02";
 #[test]
 fn no_growths_of_values(rt: HostRuntime) -> Result<(), Fail> {
     let alloc = rt.alloc();
-    let mut values = Input::new(Pieces::new(VALUES, 3));
+    let mut values = Input::new(Pieces::new(VALUES, 3), Ignore::NOTHING);
     fence(alloc)?;
     let (byte, unsigned) = (values.byte(), values.unsigned());
     let (signed, real) = (values.signed(), values.real());

@@ -6,6 +6,7 @@
 #![tactic(auto)]
 
 use anyhow::{Context, Result, ensure};
+use lvl_ignore::Ignore;
 use lvl_io::fake::Pieces;
 use oasis_values::{Input, Repetition};
 use std::alloc::Global;
@@ -27,7 +28,7 @@ fn integers(alloc: Global, count: u32, len: u32) -> Result<Vec<u8>> {
 
 /// The sum of so many integers.
 fn read_values(bytes: &[u8], count: u32) -> Result<u64> {
-    let mut values = Input::new(Pieces::new(bytes, usize::MAX));
+    let mut values = Input::new(Pieces::new(bytes, usize::MAX), Ignore::NOTHING);
     let mut sum = 0_u64;
     for _ in 0..count {
         let value = values.unsigned().ok().context("no integer")?;
@@ -72,7 +73,7 @@ fn repetition(alloc: Global, count: u32) -> Result<Vec<u8>> {
 }
 
 fn read_repetition(alloc: Global, bytes: &[u8]) -> Result<u64> {
-    let mut values = Input::new(Pieces::new(bytes, usize::MAX));
+    let mut values = Input::new(Pieces::new(bytes, usize::MAX), Ignore::NOTHING);
     match values.repetition(alloc, false) {
         Ok(Repetition::New(places)) => Ok(places.len()),
         _ => anyhow::bail!("no repetition"),

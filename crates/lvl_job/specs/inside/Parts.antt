@@ -10,15 +10,24 @@ use Rattle.lvl_report.specs.Texts.{text_of}
 use Rattle.lvl_report.specs.Writing.{status_of}
 use Rattle.lvl_view.specs.Views.{PlainView, IsFaultOf}
 use Rattle.lvl_job.specs.declared.fault.JobFault.{JobFault}
-use Rattle.lvl_job.specs.declared.fault.JobFault.TheVariants.{BadView, NotOpened, OutOfMemory, Output}
-use Rattle.lvl_job.specs.Jobs.{IsComparedUnder, IsMissing, Named, OfOne, OfTwo}
+use Rattle.lvl_job.specs.declared.fault.JobFault.TheVariants.{BadView, BadIgnore, NotOpened, OutOfMemory, Output}
+use Rattle.lvl_job.specs.Jobs.{IsComparedUnder, IsIgnoreFault, IsMissing, Named, OfOne, OfTwo}
 
 -- why two texts gave no view
 abbrev pub IsViewFault : Option (List ℕ) → Option (List ℕ) → JobFault → Type 0
 IsViewFault map_text window_text (BadView fault) = IsFaultOf map_text window_text fault
+IsViewFault map_text window_text (BadIgnore fault) = ⊥
 IsViewFault map_text window_text (NotOpened name) = ⊥
 IsViewFault map_text window_text OutOfMemory = ⊤
 IsViewFault map_text window_text Output = ⊥
+
+-- why a text gave no set of what is ignored
+abbrev pub IsNoIgnore : Option (List ℕ) → JobFault → Type 0
+IsNoIgnore text (BadView fault) = ⊥
+IsNoIgnore text (BadIgnore fault) = IsIgnoreFault text
+IsNoIgnore text (NotOpened name) = ⊥
+IsNoIgnore text OutOfMemory = ⊤
+IsNoIgnore text Output = ⊥
 
 -- the fault of a job whose run has no answer
 abbrev pub fault_of_run : RunFault → JobFault
@@ -35,6 +44,7 @@ IsPairAnswered opens view a b old new from to status =
 abbrev pub IsPairFault : {S : Type 0} → (S → List ℕ → Option (Option (List ℕ)) → S → Type 0) → Option PlainView
     → Named → Named → S → S → Option (List ℕ) → Option (List ℕ) → JobFault → Type 0
 IsPairFault opens view a b old new from to (BadView fault) = ⊥
+IsPairFault opens view a b old new from to (BadIgnore fault) = ⊥
 IsPairFault opens view a b old new from to (NotOpened name) =
     IsMissing opens old new a.name b.name (string_bytes name) × Keeps from to
 IsPairFault opens view a b old new from to OutOfMemory = Keeps from to
@@ -53,6 +63,7 @@ abbrev pub IsOneFault : {S X : Type 0} → (S → List ℕ → Option (Option (L
     → (Input → X → Type 0) → (X → List ℕ)
     → Named → S → S → Option (List ℕ) → Option (List ℕ) → JobFault → Type 0
 IsOneFault opens IsAnswerOf text a old new from to (BadView fault) = ⊥
+IsOneFault opens IsAnswerOf text a old new from to (BadIgnore fault) = ⊥
 IsOneFault opens IsAnswerOf text a old new from to (NotOpened name) =
     (string_bytes name ≡ a.name) × opens old (string_bytes name) None new × Keeps from to
 IsOneFault opens IsAnswerOf text a old new from to OutOfMemory = Keeps from to

@@ -33,6 +33,7 @@ Options:
       --top-b <NAME>     The second layout's top cell
       --map <PAIRS>      Layers of the second layout, as those of the first: 1/0=2/0,3/1=3/0
       --window <RANGES>  The only squares to be compared, in grid steps: x=0..100,y=-50..50
+      --ignore <WORDS>   Records to read and ignore: properties, texts, names, padding or all, joined by commas
   -h, --help             Print help
 ";
 
@@ -45,8 +46,9 @@ Arguments:
   <A>  The layout, GDSII or OASIS
 
 Options:
-      --top <NAME>  The layout's top cell
-  -h, --help        Print help
+      --top <NAME>      The layout's top cell
+      --ignore <WORDS>  Records to read and ignore: properties, texts, names, padding or all, joined by commas
+  -h, --help            Print help
 ";
 
 const DIGEST: &str = "\
@@ -58,8 +60,9 @@ Arguments:
   <A>  The layout, GDSII or OASIS
 
 Options:
-      --top <NAME>  The layout's top cell
-  -h, --help        Print help
+      --top <NAME>      The layout's top cell
+      --ignore <WORDS>  Records to read and ignore: properties, texts, names, padding or all, joined by commas
+  -h, --help            Print help
 ";
 
 const BARE: &str = "\

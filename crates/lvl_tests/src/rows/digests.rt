@@ -4,6 +4,7 @@ use super::compared::{PIECES, name_of};
 use super::show::lines;
 use super::words::{cut, file};
 use super::{Answer, sink};
+use lvl_ignore::Ignore;
 use lvl_io::fake::Pieces;
 use lvl_report::{Status, run_digest};
 use std::alloc::{AllocError, Global};
@@ -67,7 +68,7 @@ fn digested(
 ) -> Result<Answer, AllocError> {
     let mut out = sink(alloc, most)?;
     let mut file = Pieces::new(file, most);
-    let ran = run_digest(alloc, &mut file, top, &mut out);
+    let ran = run_digest(alloc, &mut file, top, Ignore::NOTHING, &mut out);
     Ok((out.taken, ran))
 }
 

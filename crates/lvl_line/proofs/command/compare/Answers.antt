@@ -22,6 +22,9 @@ with_tops = with_rule with_top_a (option_rule (codes "top-b"))
 abbrev with_map : App
 with_map = with_rule with_tops (option_rule (codes "map"))
 
+abbrev with_window : App
+with_window = with_rule with_map (option_rule (codes "window"))
+
 pub returns : goal.returns
 returns c =
     let compare_new : app_of c.about.result ≡ new_app (codes "compare") =
@@ -36,5 +39,7 @@ returns c =
     c.in_ok-arg-4.ensures.shape c.option-2.ensures.local ∙ ap₂ with_rule top_a c.option-2.ensures.rule in
     let layers : app_of c.in_ok-arg-5.field-0 ≡ with_map =
     c.in_ok-arg-5.ensures.shape c.option-3.ensures.local ∙ ap₂ with_rule tops c.option-3.ensures.rule in
-    IfOk-weaker c.arg-6.result _ _
-    (λ r h. h.shape c.option-4.ensures.local ∙ ap₂ with_rule layers c.option-4.ensures.rule) c.arg-6.ensures
+    let window : app_of c.in_ok-arg-6.field-0 ≡ with_window =
+    c.in_ok-arg-6.ensures.shape c.option-4.ensures.local ∙ ap₂ with_rule layers c.option-4.ensures.rule in
+    IfOk-weaker c.arg-7.result _ _
+    (λ r h. h.shape c.option-5.ensures.local ∙ ap₂ with_rule window c.option-5.ensures.rule) c.arg-7.ensures

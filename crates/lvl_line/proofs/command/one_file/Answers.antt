@@ -2,7 +2,7 @@ use Rattle.std.proofs.Common.{◌≡◌, ◌∙◌, ap, ap₂, codes}
 use Rattle.std.proofs.lemmas.Result.{IfOk-weaker}
 use Rattle.clap.specs.Words.{app_of, new_app, with_rule}
 use Rattle.clap.specs.Simple.{app_of_fields}
-use Rattle.lvl_line.specs.Line.{file_rule}
+use Rattle.lvl_line.specs.Line.{file_rule, option_rule}
 use Rattle.lvl_line.proofs.command.one_file.Goals as goal
 
 pub returns : goal.returns
@@ -11,5 +11,8 @@ returns c =
     ap app_of_fields c.about.ensures ∙ c.new.ensures.app in
     let filed : app_of c.in_ok-arg.field-0 ≡ with_rule (new_app c.args.name.now) (file_rule (codes "A")) =
     c.in_ok-arg.ensures.shape c.file.ensures.local ∙ ap₂ with_rule fresh c.file.ensures.rule in
-    IfOk-weaker c.arg-2.result _ _
-    (λ r h. h.shape c.option.ensures.local ∙ ap₂ with_rule filed c.option.ensures.rule) c.arg-2.ensures
+    let topped : app_of c.in_ok-arg-2.field-0
+    ≡ with_rule (with_rule (new_app c.args.name.now) (file_rule (codes "A"))) (option_rule (codes "top")) =
+    c.in_ok-arg-2.ensures.shape c.option.ensures.local ∙ ap₂ with_rule filed c.option.ensures.rule in
+    IfOk-weaker c.arg-3.result _ _
+    (λ r h. h.shape c.option-2.ensures.local ∙ ap₂ with_rule topped c.option-2.ensures.rule) c.arg-3.ensures

@@ -1,11 +1,11 @@
 use Rattle.std.proofs.Common.{rules}
 use Rattle.lvl.proofs.Spelling.{early_rest}
-use Rattle.lvl.proofs.layout.read_layout.Goals as goal
+use Rattle.lvl.proofs.layout.read_layout_by.Goals as goal
 
 pub returns-in_default-clause-refused : goal.returns-in_default-clause-refused
-returns-in_default-clause-refused g c xs known = c.unread.ensures.told xs
+returns-in_default-clause-refused g c xs known = c.unread.ensures.told c.args.ignore xs
 
 pub returns-clause-early : goal.returns-clause-early
 returns-clause-early g c xs known =
-    early_rest xs _ _ _ c.read_by-read.result
+    early_rest c.args.ignore xs _ _ _ c.read_by-read.result
     (c.read_by-read.ensures.early xs (search rules) (c.in-Ok.ensures.first xs known)) (search rules)
