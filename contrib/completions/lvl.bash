@@ -1,4 +1,11 @@
 # Completion of lvl's command line for bash.
+# The words of --ignore, after those before the last comma.
+_lvl_words() {
+    local given=
+    [[ $1 == *,* ]] && given=${1%,*},
+    COMPREPLY=($(compgen -P "$given" -W "properties texts names padding all" -- "${1##*,}"))
+}
+
 _lvl() {
     local word=${COMP_WORDS[COMP_CWORD]} before=${COMP_WORDS[COMP_CWORD-1]}
     COMPREPLY=()
@@ -8,10 +15,11 @@ _lvl() {
     fi
     case $before in
     --top | --top-a | --top-b | --map | --window) return ;;
+    --ignore) _lvl_words "$word"; return ;;
     esac
     case ${COMP_WORDS[1]}:$word in
-    compare:-*) COMPREPLY=($(compgen -W "--top-a --top-b --map --window --help" -- "$word")) ;;
-    show:-* | digest:-*) COMPREPLY=($(compgen -W "--top --help" -- "$word")) ;;
+    compare:-*) COMPREPLY=($(compgen -W "--top-a --top-b --map --window --ignore --help" -- "$word")) ;;
+    show:-* | digest:-*) COMPREPLY=($(compgen -W "--top --ignore --help" -- "$word")) ;;
     *) COMPREPLY=($(compgen -f -- "$word")) ;;
     esac
 }
