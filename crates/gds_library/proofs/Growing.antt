@@ -138,10 +138,14 @@ sorted : (less : Ignore) (before : List Rec) (r : Rec) (bytes : List ℕ) → Sp
     → MayFollowBy less before r → IsSorted less r
 sorted less before r bytes s f = elim s [
   | inl i ↦ go (is_passed less r) refl (is_some (form_among table r.kind)) refl
-      (λ n m. f.1 (Misplaced (Unsupported r.kind)) (refl, i.0.known, λ k. elim k [
-        | inl p ↦ (let z : true ≡ false = sym p ∙ n in cc)
-        | inr q ↦ (let z : true ≡ false = sym q ∙ m in cc)
-      ]))
+      (λ n m. f.1 (Misplaced (Unsupported r.kind)) (
+        refl,
+        i.0.known,
+        λ k. elim k [
+          | inl p ↦ (let z : true ≡ false = sym p ∙ n in cc)
+          | inr q ↦ (let z : true ≡ false = sym q ∙ m in cc)
+        ],
+      ))
   | inr j ↦ inr (inr j.0)
 ]
   where
@@ -169,25 +173,28 @@ same_form : (less more : Ignore) → IsWithin less more → (r : Rec) (bytes : L
     → IsSorted less r → Spells more bytes r
 same_form less more w r bytes s t = elim s [
   | inr j ↦ inr j
-  | inl i ↦ inl (record {
-    fits = i.0.fits;
-    even = i.0.even;
-    known = i.0.known;
-    data_type = i.0.data_type;
-    form = elim t [
-      | inl e ↦
-          let p = and_left (is_ignored less r.kind) _ e in
-          let f = some_form (form_among (ignored_rows less) r.kind) p.0 in
-          subst (λ o. IsOfForm o r.data_type (length r.payload)) (ignored_same r.kind f.0 f.1) i.0.form
-      | inr u ↦ elim u [
-        | inl k ↦
-            let f = some_form (form_among table r.kind) k in
-            subst (λ o. IsOfForm o r.data_type (length r.payload))
-            (table_form less r.kind f.0 f.1 ∙ sym (table_form more r.kind f.0 f.1)) i.0.form
-        | inr z ↦ absurd (omega (arith, i.0.known, ap (λ (x : Rec). x.kind) z))
-      ]
-    ];
-  }, i.1)
+  | inl i ↦ inl (
+    record {
+      fits = i.0.fits;
+      even = i.0.even;
+      known = i.0.known;
+      data_type = i.0.data_type;
+      form = elim t [
+        | inl e ↦
+            let p = and_left (is_ignored less r.kind) _ e in
+            let f = some_form (form_among (ignored_rows less) r.kind) p.0 in
+            subst (λ o. IsOfForm o r.data_type (length r.payload)) (ignored_same r.kind f.0 f.1) i.0.form
+        | inr u ↦ elim u [
+          | inl k ↦
+              let f = some_form (form_among table r.kind) k in
+              subst (λ o. IsOfForm o r.data_type (length r.payload))
+              (table_form less r.kind f.0 f.1 ∙ sym (table_form more r.kind f.0 f.1)) i.0.form
+          | inr z ↦ absurd (omega (arith, i.0.known, ap (λ (x : Rec). x.kind) z))
+        ]
+      ];
+    },
+    i.1,
+  )
 ]
   where
     ignored_same : (k : ℕ) (f : Form) → form_among (ignored_rows less) k ≡ Some f → form_of less k ≡ form_of more k

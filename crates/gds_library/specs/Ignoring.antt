@@ -43,7 +43,7 @@ comes_after k j =
     (if k == attrtable then (j == libname) || (j == reflibs) || (j == fonts) else
     (if k == generations then (j == libname) || (j == reflibs) || (j == fonts) || (j == attrtable) else
     (if k == format then
-      (j == libname) || (j == reflibs) || (j == fonts) || (j == attrtable) || (j == generations) else
+    (j == libname) || (j == reflibs) || (j == fonts) || (j == attrtable) || (j == generations) else
     (if k == strclass then j == strname else
     (if k == elflags then opens j else
     (if k == plex then opens j || (j == elflags) else

@@ -166,9 +166,7 @@ fn comes_after(kind: u8, last: u8) -> bool
         REFLIBS => last == LIBNAME,
         FONTS => last == LIBNAME || last == REFLIBS,
         ATTRTABLE => last == LIBNAME || last == REFLIBS || last == FONTS,
-        GENERATIONS => {
-            last == LIBNAME || last == REFLIBS || last == FONTS || last == ATTRTABLE
-        }
+        GENERATIONS => { last == LIBNAME || last == REFLIBS || last == FONTS || last == ATTRTABLE }
         FORMAT => {
             last == LIBNAME
                 || last == REFLIBS

@@ -119,7 +119,7 @@ fn read_library<R: Read>(
         → IfOk result (λ read. IsRead (input_ignore input.old) xs read.0 read.1) }
     ensures refused { (xs : List ℕ) → bytes_left R.remaining input.old ≡ Some xs
         → IfErr result (λ refusal. Says refusal (Refuses (input_ignore input.old) xs
-            (R.remaining (input_reader input.new)))) }
+        (R.remaining (input_reader input.new)))) }
     ensures reads { CountsFailure (R.read_errors (input_reader input.old))
         (R.read_errors (input_reader input.new)) (is_read result) }
     ensures same { R.lent (input_reader input.new) ≡ R.lent (input_reader input.old) }
@@ -142,7 +142,7 @@ fn read_records<R: Read>(
     requires start { input_offset input.old ≡ 0 }
     ensures refused { (xs : List ℕ) → bytes_left R.remaining input.old ≡ Some xs
         → IfErr result (λ refusal. Says refusal (Refuses (input_ignore input.old) xs
-            (R.remaining (input_reader input.new)))) }
+        (R.remaining (input_reader input.new)))) }
     ensures whole { IfOk result (λ x. (xs : List ℕ) → bytes_left R.remaining input.old ≡ Some xs
         → ReadTo (oasis (input_ignore input.old)) xs (input_offset input.new) (HasWhole x) (bytes_left R.remaining input.new)) }
     ensures fresh { OnOk result (has_failed input.new ≡ false) }

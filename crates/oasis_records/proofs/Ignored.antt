@@ -118,6 +118,82 @@ type_grows less more within n t e =
     let s = within.texts in
     let p = within.properties in
     let m = within.names in
-    look_up_grows less more types n t
-    (a, (a, (a, (a, (a, (s, (s, (p, (p, (p, (p, (m, (m, (a, (a, (a, (a, (a, (a, (s, (a, (a, (a, (p, (p, (m,
-    (m, tt))))))))))))))))))))))))))) e
+    look_up_grows less more types n t (
+      a,
+      (
+        a,
+        (
+          a,
+          (
+            a,
+            (
+              a,
+              (
+                s,
+                (
+                  s,
+                  (
+                    p,
+                    (
+                      p,
+                      (
+                        p,
+                        (
+                          p,
+                          (
+                            m,
+                            (
+                              m,
+                              (
+                                a,
+                                (
+                                  a,
+                                  (
+                                    a,
+                                    (
+                                      a,
+                                      (
+                                        a,
+                                        (
+                                          a,
+                                          (
+                                            s,
+                                            (
+                                              a,
+                                              (
+                                                a,
+                                                (
+                                                  a,
+                                                  (
+                                                    p,
+                                                    (
+                                                      p,
+                                                      (
+                                                        m,
+                                                        (m, tt),
+                                                      ),
+                                                    ),
+                                                  ),
+                                                ),
+                                              ),
+                                            ),
+                                          ),
+                                        ),
+                                      ),
+                                    ),
+                                  ),
+                                ),
+                              ),
+                            ),
+                          ),
+                        ),
+                      ),
+                    ),
+                  ),
+                ),
+              ),
+            ),
+          ),
+        ),
+      ),
+    ) e

@@ -136,8 +136,14 @@ fn record(
 #[test]
 fn records_that_are_ignored(rt: HostRuntime) -> Result<(), Fail> {
     let nothing = Ignore::NOTHING;
-    let names = Ignore { names: true, ..nothing };
-    let texts = Ignore { texts: true, ..nothing };
+    let names = Ignore {
+        names: true,
+        ..nothing
+    };
+    let texts = Ignore {
+        texts: true,
+        ..nothing
+    };
     let properties = Ignore {
         properties: true,
         ..nothing
@@ -179,14 +185,19 @@ fn records_that_are_ignored(rt: HostRuntime) -> Result<(), Fail> {
             names: !ignore.names,
             padding: true,
         };
-        assert!(rt; matches!(
+        assert!(rt;
+            matches!(
             record(rt.alloc(), bytes, without),
             Err(Refusal::Breach(RecordFault::Rule(RecordRule::Unsupported(found)))) if found == id
-        ), "{bytes:?}");
+        ),
+            "{bytes:?}"
+        );
     }
-    let Ok(Some(Record::Text(Some(Repetition::New(shifts))))) =
-        record(rt.alloc(), b"\x13\x04\x02\x01\x05", texts)
-    else {
+    let Ok(Some(Record::Text(Some(Repetition::New(shifts))))) = record(
+        rt.alloc(),
+        b"\x13\x04\x02\x01\x05",
+        texts,
+    ) else {
         return Err(AllocError.into());
     };
     assert_eq!(rt; shifts.len(), 3);

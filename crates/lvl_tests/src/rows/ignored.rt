@@ -43,7 +43,8 @@ all | oasis 22 00 00 00 | oasis 24 Unsupported 34 at 39
 ";
 
 /// The last line of the digest of the square; the sum was computed by another program.
-const MASK: &[u8] = b"\nmask sha256 c5483bbfa6d27cf601d87a9d6e74b9350c2dcde72a70bab5f8615769e8fc5728\n";
+const MASK: &[u8] =
+    b"\nmask sha256 c5483bbfa6d27cf601d87a9d6e74b9350c2dcde72a70bab5f8615769e8fc5728\n";
 
 /// What a row says is ignored.
 fn ignored(alloc: Global, text: &str) -> Result<Ignore, Fail> {
@@ -97,8 +98,14 @@ fn files_with_ignored_records(rt: HostRuntime) -> Result<(), Fail> {
         let shown = shown(alloc, &bytes, ignore)?;
         let digested = digested(alloc, &bytes, ignore)?;
         if found == "same" {
-            assert!(rt; is_answer(&ours, "same") && is_answer(&theirs, "same"), "{row}");
-            assert!(rt; is_shown(&shown, b"\nlayer 1 datatype 0 rings 1\n"), "{row}");
+            assert!(rt;
+                is_answer(&ours, "same") && is_answer(&theirs, "same"),
+                "{row}"
+            );
+            assert!(rt;
+                is_shown(&shown, b"\nlayer 1 datatype 0 rings 1\n"),
+                "{row}"
+            );
             assert!(rt; is_shown(&digested, MASK), "{row}");
         } else {
             let first = format!(in alloc; "refused: first: {found}")?;

@@ -71,8 +71,12 @@ returns-in-Err-Breach-clause-reads g c =
     let is : c.next.result ≡ Ok (Some c.in-Ok-Some.record) = c.in-Ok-Some.is ∙ ap Ok c.in-Ok-Some.field-0-is in
     let p = next_took g.R.Read.remaining g.R.Read.read_errors g.R.Read.lent c.loop.records c.next.follows.lender-at-none
     c.next.result c.in-Ok-Some.record is c.next.follows.holds-at-none in
-    rw (c.refuse.ensures, c.in-Err-Breach.field-0-is, breach_no_read c.args.ignore c.loop.invariant.6
-    (record_of c.in-Ok-Some.record.kind 0 c.in-Ok-Some.record.payload.now) c.in-Err-Breach.kind breach)
+    rw (
+      c.refuse.ensures,
+      c.in-Err-Breach.field-0-is,
+      breach_no_read c.args.ignore c.loop.invariant.6
+          (record_of c.in-Ok-Some.record.kind 0 c.in-Ok-Some.record.payload.now) c.in-Err-Breach.kind breach,
+    )
     (p.counted ∙ c.loop.invariant.4)
 
 pub returns-in-Ok-None-clause-refused : goal.returns-in-Ok-None-clause-refused
@@ -121,24 +125,24 @@ loop-preserved g c =
       λ xs k.
           let to = c.loop.invariant.2 xs k in
           let sp = subst (λ i. IsSpelledAt i (room_left c.loop.records) (drop at xs) c.in-Ok-Some.record.kind
-    c.in-Ok-Some.record.payload.now) c.loop.invariant.9
-    (next_said (λ (r : Answered). IsSpelledAt (records_ignore c.loop.records) (room_left c.loop.records) (drop at xs)
-    r.kind r.payload.now) c.next.result c.in-Ok-Some.record is
-    (c.next.ensures.spelled c.loop.invariant.0 (drop at xs) to.left_is)) in
+          c.in-Ok-Some.record.payload.now) c.loop.invariant.9
+          (next_said (λ (r : Answered). IsSpelledAt (records_ignore c.loop.records) (room_left c.loop.records) (drop at xs)
+          r.kind r.payload.now) c.next.result c.in-Ok-Some.record is
+          (c.next.ensures.spelled c.loop.invariant.0 (drop at xs) to.left_is)) in
           subst (λ i. ReadTo (gds c.args.ignore) xs i (HasReadBy c.args.ignore c.take.new.self) (bytes_left g.R.Read.remaining new)) (sym p.offset)
           (reads_record c.args.ignore xs at c.loop.reading c.take.new.self _ (bytes_left g.R.Read.remaining new) _ _ to sp
           (λ d. (subst (λ i. (rs : List Rec) (d : ℕ) → HasReadBy i c.loop.reading rs
-    → HasReadBy i c.take.new.self (rs ++ record_of c.in-Ok-Some.record.kind d c.in-Ok-Some.record.payload.now ∷ [])
-    × MayFollowBy i rs (record_of c.in-Ok-Some.record.kind d c.in-Ok-Some.record.payload.now))
-    c.loop.invariant.8 c.in-Ok.ensures.takes) to.records d to.holds) (p.left (drop at xs) to.left_is)),
+          → HasReadBy i c.take.new.self (rs ++ record_of c.in-Ok-Some.record.kind d c.in-Ok-Some.record.payload.now ∷ [])
+          × MayFollowBy i rs (record_of c.in-Ok-Some.record.kind d c.in-Ok-Some.record.payload.now))
+          c.loop.invariant.8 c.in-Ok.ensures.takes) to.records d to.holds) (p.left (drop at xs) to.left_is)),
       omega (arith, p.offset, c.loop.invariant.3),
       p.counted ∙ c.loop.invariant.4,
       p.same ∙ c.loop.invariant.5,
       c.loop.invariant.6 ++ record_of c.in-Ok-Some.record.kind 0 c.in-Ok-Some.record.payload.now ∷ [],
       ((subst (λ i. (rs : List Rec) (d : ℕ) → HasReadBy i c.loop.reading rs
-    → HasReadBy i c.take.new.self (rs ++ record_of c.in-Ok-Some.record.kind d c.in-Ok-Some.record.payload.now ∷ [])
-    × MayFollowBy i rs (record_of c.in-Ok-Some.record.kind d c.in-Ok-Some.record.payload.now))
-    c.loop.invariant.8 c.in-Ok.ensures.takes) c.loop.invariant.6 0 c.loop.invariant.7).0,
+          → HasReadBy i c.take.new.self (rs ++ record_of c.in-Ok-Some.record.kind d c.in-Ok-Some.record.payload.now ∷ [])
+          × MayFollowBy i rs (record_of c.in-Ok-Some.record.kind d c.in-Ok-Some.record.payload.now))
+          c.loop.invariant.8 c.in-Ok.ensures.takes) c.loop.invariant.6 0 c.loop.invariant.7).0,
       c.in-Ok.ensures.ignore ∙ c.loop.invariant.8,
       p.ignore ∙ c.loop.invariant.9,
     )
@@ -155,14 +159,14 @@ returns-then-is_whole-clause-whole g c = (
       c.in-Ok-Some.record is c.next.follows.holds-at-none in
       let to = c.loop.invariant.2 xs k in
       let sp = subst (λ i. IsSpelledAt i (room_left c.loop.records) (drop at xs) c.in-Ok-Some.record.kind
-    c.in-Ok-Some.record.payload.now) c.loop.invariant.9
-    (next_said (λ (r : Answered). IsSpelledAt (records_ignore c.loop.records) (room_left c.loop.records) (drop at xs)
-    r.kind r.payload.now) c.next.result c.in-Ok-Some.record is
-    (c.next.ensures.spelled c.loop.invariant.0 (drop at xs) to.left_is)) in
+      c.in-Ok-Some.record.payload.now) c.loop.invariant.9
+      (next_said (λ (r : Answered). IsSpelledAt (records_ignore c.loop.records) (room_left c.loop.records) (drop at xs)
+      r.kind r.payload.now) c.next.result c.in-Ok-Some.record is
+      (c.next.ensures.spelled c.loop.invariant.0 (drop at xs) to.left_is)) in
       subst (λ i. ReadTo (gds c.args.ignore) xs i (HasReadBy c.args.ignore c.take.new.self) (bytes_left g.R.Read.remaining new)) (sym p.offset)
       (reads_record c.args.ignore xs at c.loop.reading c.take.new.self _ (bytes_left g.R.Read.remaining new) _ _ to sp
       (λ d. (subst (λ i. (rs : List Rec) (d : ℕ) → HasReadBy i c.loop.reading rs
-    → HasReadBy i c.take.new.self (rs ++ record_of c.in-Ok-Some.record.kind d c.in-Ok-Some.record.payload.now ∷ [])
-    × MayFollowBy i rs (record_of c.in-Ok-Some.record.kind d c.in-Ok-Some.record.payload.now))
-    c.loop.invariant.8 c.in-Ok.ensures.takes) to.records d to.holds) (p.left (drop at xs) to.left_is)),
+      → HasReadBy i c.take.new.self (rs ++ record_of c.in-Ok-Some.record.kind d c.in-Ok-Some.record.payload.now ∷ [])
+      × MayFollowBy i rs (record_of c.in-Ok-Some.record.kind d c.in-Ok-Some.record.payload.now))
+      c.loop.invariant.8 c.in-Ok.ensures.takes) to.records d to.holds) (p.left (drop at xs) to.left_is)),
 )
