@@ -1,6 +1,6 @@
 -- A whole file, computed by the definitions: the 303 bytes of a square of ten steps spell one library and no other.
 use Rattle.std.proofs.Common.{◌≡◌, ◌∙◌, ℕ, ◌^◌, Bool, true, false, List, [], ◌∷◌, ◌++◌}
-use Rattle.std.proofs.Common.{length, map, All, Some, None, Ok, pos, refl, sym, ap, subst}
+use Rattle.std.proofs.Common.{length, map, All, Option, Some, None, Result, Ok, pos, refl, sym, ap, subst, nat_lt, ◌==◌}
 use Rattle.std.proofs.lemmas.Bool.{ltb-true, leb-true}
 use Rattle.std.proofs.lemmas.List.{append-nil}
 use Rattle.std.proofs.lemmas.List.Elements.{All-nil, All-cons}
@@ -16,7 +16,7 @@ use Rattle.oasis_values.specs.Input.{file_limit}
 use Rattle.oasis_values.specs.Numbers.{IsByte, IsUnsigned}
 use Rattle.oasis_values.specs.Reals.{with_sign, real_types, IsReal, IsRealOf, IsSigned}
 use Rattle.oasis_values.specs.Repetitions.{IsRepetition}
-use Rattle.oasis_values.specs.Spelling.{Then, Chain}
+use Rattle.oasis_values.specs.Spelling.{Spelling, Then, Chain}
 use Rattle.oasis_values.specs.Texts.{IsString}
 use Rattle.oasis_values.specs.declared.fault.ValueFault.TheVariants.{RealType as unknown_type}
 use Rattle.oasis_values.specs.declared.number.Real.TheVariants.{Whole}
@@ -26,18 +26,21 @@ use Rattle.oasis_values.specs.Ranges.{is_in_range}
 use Rattle.oasis_values.proofs.Ranges.{range_fits}
 use Rattle.oasis_records.specs.Cells.{IsCell, IsCellRef}
 use Rattle.oasis_records.specs.Ends.{IsPaddingLength, ArePadding, IsScheme, IsSignature, IsEnding, IsEnd}
+use Rattle.oasis_records.specs.Ends.{fits, is_whole, IsEndOf}
 use Rattle.oasis_records.specs.Fields.{If, on_layer, IsOnLayer, position, IsPosition}
 use Rattle.oasis_records.specs.Magic.{magic as magic_string, IsMagic}
 use Rattle.oasis_records.specs.Records.{AreFields}
-use Rattle.oasis_records.specs.Rectangles.{IsRectangleInfo, IsRectangleOf, IsRectangle, rectangle}
-use Rattle.oasis_records.specs.Rules.{Must, UnlessRuled}
+use Rattle.oasis_records.specs.Rectangles.{is_rectangle_info, IsRectangleInfo, IsRectangleOf, IsRectangle, rectangle}
+use Rattle.oasis_records.specs.Rules.{AndThen, Must, UnlessRuled}
 use Rattle.oasis_records.specs.Sizes.{Sized}
-use Rattle.oasis_records.specs.Starts.{is_version, IsVersionText, IsVersion, IsUnit, IsFlag, AreTables, start}
-use Rattle.oasis_records.specs.Starts.{IsStartOf, IsStart}
+use Rattle.oasis_records.specs.Starts.{is_version, IsVersionText, IsVersion, is_unit, IsUnit, IsFlag, is_here, AreTables}
+use Rattle.oasis_records.specs.Starts.{start, IsStartOf, IsStart}
 use Rattle.oasis_records.specs.declared.cell.CellRef.TheVariants.{Name}
 use Rattle.oasis_records.specs.declared.end.Validation.{Validation}
 use Rattle.oasis_records.specs.declared.end.Validation.TheVariants.{Absent}
-use Rattle.oasis_records.specs.declared.fault.RecordRule.TheVariants.{Version, EndLength}
+use Rattle.oasis_records.specs.declared.fault.RecordRule.{RecordRule}
+use Rattle.oasis_records.specs.declared.fault.RecordRule.TheVariants.{Version, Unit as NoUnit, Info, EndLength, Scheme}
+use Rattle.oasis_records.specs.declared.figure.OnLayer.{OnLayer}
 use Rattle.oasis_records.specs.declared.record.Record.{Record}
 use Rattle.oasis_records.specs.declared.record.Record.TheVariants.{Start, Cell, Rectangle, End}
 use Rattle.oasis_records.specs.declared.record_type.RecordType.{RecordType}
@@ -48,7 +51,7 @@ use Rattle.oasis_figures.specs.Rules.{BreachesNone}
 use Rattle.oasis_figures.specs.declared.rule.FigureRule.TheVariants.{Undefined, Layer as WideLayer, OutOfRange}
 use Rattle.oasis_figures.specs.declared.rule.FigureRule.TheVariants.{Magnification, Angle, Extension, Oblique, Path}
 use Rattle.oasis_stream.specs.Items.{Item, magic, item, records, IsEnded}
-use Rattle.oasis_stream.specs.Front.{of_magic, of_record, IsTyped, IsNext, oasis}
+use Rattle.oasis_stream.specs.Front.{of_magic, of_record, IsTyped, IsTypedAfter, IsNext, oasis}
 use Rattle.oasis_stream.specs.Order.{at_end, type_after, names_in, last_or}
 use Rattle.oasis_stream.specs.Rules.{since_cell, NamingBreaches, RecordBreaches, MayFollow}
 use Rattle.oasis_stream.specs.declared.fault.NameRule.{NameRule}
@@ -122,14 +125,15 @@ version_said ignore =
 
 unit_said : (ignore : Ignore) → IsUnit ignore (0 ∷ 0xE8 ∷ 7 ∷ []) (Ok (Ok (Whole 1000)))
 unit_said ignore =
-    alone ignore IsReal _ (0 ∷ 0xE8 ∷ 7 ∷ []) (Whole 1000) (Ok (Ok (Whole 1000)))
+    alone ignore IsReal (λ u. Must (is_unit u) u NoUnit) (0 ∷ 0xE8 ∷ 7 ∷ []) (Whole 1000) (Ok (Ok (Whole 1000)))
     (after ignore IsUnsigned (λ n. Then (Known (among 0 real_types n) unknown_type) IsRealOf) (0 ∷ []) (0xE8 ∷ 7 ∷ []) 0
     (Ok (Whole 1000)) (small ignore 0 refl refl refl)
     (after ignore (Known (Some OfWhole) unknown_type) IsRealOf [] (0xE8 ∷ 7 ∷ []) OfWhole (Ok (Whole 1000)) (refl, refl)
     (seen ignore Whole IsUnsigned (0xE8 ∷ 7 ∷ []) 1000 (wide ignore 0xE8 7 1000 refl refl refl refl)))) (refl, refl)
 
 flag_said : (ignore : Ignore) → IsFlag ignore (0 ∷ []) (Ok (Ok 0))
-flag_said ignore = alone ignore IsUnsigned _ (0 ∷ []) 0 (Ok (Ok 0)) (small ignore 0 refl refl refl) (refl, refl)
+flag_said ignore =
+    alone ignore IsUnsigned (λ f. Must (nat_lt f 2) f Info) (0 ∷ []) 0 (Ok (Ok 0)) (small ignore 0 refl refl refl) (refl, refl)
 
 tables_said : (ignore : Ignore) → AreTables true ignore (zeros 12) (Ok true)
 tables_said ignore = seen ignore (λ _. true) (Chain (λ _. IsUnsigned) (λ n. n) 12 0) (zeros 12) (zeros 12) (zero_integers ignore 12 0)
@@ -138,8 +142,8 @@ start_said : (ignore : Ignore) → IsStart ignore of_start (Ok (Ok starting))
 start_said ignore =
     after ignore IsVersion (UnlessRuled (λ _. IsStartOf)) (3 ∷ one) ((0 ∷ 0xE8 ∷ 7 ∷ []) ++ (0 ∷ []) ++ zeros 12) (Ok one)
     (Ok (Ok starting)) (version_said ignore)
-    (after ignore IsUnit _ (0 ∷ 0xE8 ∷ 7 ∷ []) ((0 ∷ []) ++ zeros 12) (Ok (Whole 1000)) (Ok (Ok starting)) (unit_said ignore)
-    (after ignore IsFlag _ (0 ∷ []) (zeros 12) (Ok 0) (Ok (Ok starting)) (flag_said ignore)
+    (after ignore IsUnit (UnlessRuled (λ u. AndThen IsFlag (λ f. Seen (start u) (AreTables (is_here f))))) (0 ∷ 0xE8 ∷ 7 ∷ []) ((0 ∷ []) ++ zeros 12) (Ok (Whole 1000)) (Ok (Ok starting)) (unit_said ignore)
+    (after ignore IsFlag (UnlessRuled (λ f. Seen (start (Whole 1000)) (AreTables (is_here f)))) (0 ∷ []) (zeros 12) (Ok 0) (Ok (Ok starting)) (flag_said ignore)
     (seen ignore (start (Whole 1000)) (AreTables true) (zeros 12) true (tables_said ignore))))
 
 -- CELL
@@ -161,27 +165,44 @@ origin ignore =
 
 layer_said : (ignore : Ignore) → IsOnLayer 0x7B ignore (1 ∷ 0 ∷ []) (Ok (record { layer = Some 1; datatype = Some 0 }))
 layer_said ignore =
-    after ignore (If true IsUnsigned) (λ l. Seen (on_layer l) (If true IsUnsigned)) (1 ∷ []) (0 ∷ []) (Some 1) _
+    after ignore (If true IsUnsigned) (λ l. Seen (on_layer l) (If true IsUnsigned)) (1 ∷ []) (0 ∷ []) (Some 1)
+    (Ok (record { layer = Some 1; datatype = Some 0 }))
     (given ignore 1 (small ignore 1 refl refl refl))
     (seen ignore (on_layer (Some 1)) (If true IsUnsigned) (0 ∷ []) (Some 0) (given ignore 0 (small ignore 0 refl refl refl)))
 
 position_said : (ignore : Ignore) → IsPosition 0x7B ignore (0 ∷ 0 ∷ []) (Ok (record { x = Some (pos 0); y = Some (pos 0); repetition = None }))
 position_said ignore =
-    after ignore (If true IsSigned) _ (0 ∷ []) (0 ∷ []) (Some (pos 0)) _ (origin ignore)
-    (after ignore (If true IsSigned) _ (0 ∷ []) [] (Some (pos 0)) _ (origin ignore)
+    after ignore (If true IsSigned)
+    (λ x. Then (If true IsSigned) (λ y. Seen (position x y) (If false (IsRepetition true))))
+    (0 ∷ []) (0 ∷ []) (Some (pos 0)) (Ok (position (Some (pos 0)) (Some (pos 0)) None)) (origin ignore)
+    (after ignore (If true IsSigned) (λ y. Seen (position (Some (pos 0)) y) (If false (IsRepetition true)))
+    (0 ∷ []) [] (Some (pos 0)) (Ok (position (Some (pos 0)) (Some (pos 0)) None)) (origin ignore)
     (seen ignore (position (Some (pos 0)) (Some (pos 0))) (If false (IsRepetition true)) [] None
     (refl, refl)))
+
+abbrev on : OnLayer
+on = record { layer = Some 1; datatype = Some 0 }
+
+-- the fields after the layer and the datatype, after the width, and after the height
+abbrev with_height : OnLayer → Option ℕ → Option ℕ → Spelling Record
+with_height on w h = Seen (rectangle false on w h) (IsPosition 0x7B)
+
+abbrev with_width : OnLayer → Option ℕ → Spelling Record
+with_width on w = Then (If true IsUnsigned) (with_height on w)
+
+abbrev with_layer : OnLayer → Spelling Record
+with_layer on = Then (If true IsUnsigned) (with_width on)
 
 rectangle_said : (ignore : Ignore) → IsRectangle ignore of_rectangle (Ok (Ok drawn))
 rectangle_said ignore =
     after ignore IsRectangleInfo (UnlessRuled (λ i. Seen Ok (IsRectangleOf i))) (0x7B ∷ []) (1 ∷ 0 ∷ 10 ∷ 10 ∷ 0 ∷ 0 ∷ [])
-    (Ok 0x7B) (Ok (Ok drawn)) (alone ignore IsByte _ (0x7B ∷ []) 0x7B (Ok (Ok 0x7B)) refl (refl, refl))
+    (Ok 0x7B) (Ok (Ok drawn)) (alone ignore IsByte (λ i. Must (is_rectangle_info i) i Info) (0x7B ∷ []) 0x7B (Ok (Ok 0x7B)) refl (refl, refl))
     (seen ignore Ok (IsRectangleOf 0x7B) (1 ∷ 0 ∷ 10 ∷ 10 ∷ 0 ∷ 0 ∷ []) drawn
-    (after ignore (IsOnLayer 0x7B) _ (1 ∷ 0 ∷ []) (10 ∷ 10 ∷ 0 ∷ 0 ∷ []) _ (Ok drawn) (layer_said ignore)
-    (after ignore (If true IsUnsigned) _ (10 ∷ []) (10 ∷ 0 ∷ 0 ∷ []) (Some 10) (Ok drawn) (given ignore 10 (small ignore 10 refl refl refl))
-    (after ignore (If true IsUnsigned) _ (10 ∷ []) (0 ∷ 0 ∷ []) (Some 10) (Ok drawn) (given ignore 10 (small ignore 10 refl refl refl))
-    (seen ignore (rectangle false (record { layer = Some 1; datatype = Some 0 }) (Some 10) (Some 10)) (IsPosition 0x7B)
-    (0 ∷ 0 ∷ []) _ (position_said ignore))))))
+    (after ignore (IsOnLayer 0x7B) with_layer (1 ∷ 0 ∷ []) (10 ∷ 10 ∷ 0 ∷ 0 ∷ []) on (Ok drawn) (layer_said ignore)
+    (after ignore (If true IsUnsigned) (with_width on) (10 ∷ []) (10 ∷ 0 ∷ 0 ∷ []) (Some 10) (Ok drawn) (given ignore 10 (small ignore 10 refl refl refl))
+    (after ignore (If true IsUnsigned) (with_height on (Some 10)) (10 ∷ []) (0 ∷ 0 ∷ []) (Some 10) (Ok drawn) (given ignore 10 (small ignore 10 refl refl refl))
+    (seen ignore (rectangle false on (Some 10) (Some 10)) (IsPosition 0x7B)
+    (0 ∷ 0 ∷ []) (position (Some (pos 0)) (Some (pos 0)) None) (position_said ignore))))))
 
 -- END
 
@@ -193,30 +214,35 @@ padding_said ignore = (
 )
 
 scheme_said : (ignore : Ignore) → IsScheme ignore (0 ∷ []) (Ok (Ok 0))
-scheme_said ignore = alone ignore IsByte _ (0 ∷ []) 0 (Ok (Ok 0)) refl (refl, refl)
+scheme_said ignore = alone ignore IsByte (λ s. Must (nat_lt s 3) s Scheme) (0 ∷ []) 0 (Ok (Ok 0)) refl (refl, refl)
+
+abbrev of_scheme : ℕ → Spelling (Result Validation RecordRule)
+of_scheme s = Seen Ok (IsSignature (s == 0) s)
 
 ending_said : (ignore : Ignore) → IsEnding 252 ignore (zeros 252 ++ (0 ∷ [])) (Ok (Ok Absent))
 ending_said ignore =
-    after ignore (ArePadding 252) _ (zeros 252) (0 ∷ []) 252 (Ok (Ok Absent))
+    after ignore (ArePadding 252) (λ _. AndThen IsScheme of_scheme) (zeros 252) (0 ∷ []) 252 (Ok (Ok Absent))
     (seen ignore (λ _. 252) (Chain (λ _. IsByte) (λ x. x) 252 0) (zeros 252) (zeros 252) (zero_bytes ignore 252 0))
-    (after ignore IsScheme _ (0 ∷ []) [] (Ok 0) (Ok (Ok Absent)) (scheme_said ignore)
+    (after ignore IsScheme (UnlessRuled of_scheme) (0 ∷ []) [] (Ok 0) (Ok (Ok Absent)) (scheme_said ignore)
     (seen ignore Ok (IsSignature true 0) [] Absent (refl, refl)))
 
 end_said : (ignore : Ignore) → IsEnd false 1 ignore of_end (Ok (Ok ending))
 end_said ignore =
-    after ignore (Sized (IsPaddingLength false)) _ (0xFC ∷ 1 ∷ []) (zeros 252 ++ (0 ∷ [])) (record { value = 252; len = 2 })
+    after ignore (Sized (IsPaddingLength false)) (λ p. AndThen (Must (fits 1 p) p EndLength) (IsEndOf 1))
+    (0xFC ∷ 1 ∷ []) (zeros 252 ++ (0 ∷ [])) (record { value = 252; len = 2 })
     (Ok (Ok ending)) (padding_said ignore)
-    (after ignore (Must true (record { value = 252; len = 2 }) EndLength) _ [] (zeros 252 ++ (0 ∷ []))
+    (after ignore (Must true (record { value = 252; len = 2 }) EndLength) (UnlessRuled (IsEndOf 1)) [] (zeros 252 ++ (0 ∷ []))
     (Ok (record { value = 252; len = 2 })) (Ok (Ok ending)) (refl, refl)
-    (alone ignore (IsEnding 252) _ (zeros 252 ++ (0 ∷ [])) (Ok Absent) (Ok (Ok ending)) (ending_said ignore) (refl, refl)))
+    (alone ignore (IsEnding 252)
+    (UnlessRuled (λ v. Must (is_whole 1 (record { value = 252; len = 2 }) v) (End v) EndLength)) (zeros 252 ++ (0 ∷ [])) (Ok Absent) (Ok (Ok ending)) (ending_said ignore) (refl, refl)))
 
 -- each record is spelled after those before it
 
 next : (ignore : Ignore) (rs : List Record) (id : ℕ) (t : RecordType) (r : Record) (fields : List ℕ) → IsUnsigned ignore (id ∷ []) (Ok id)
-    → type_after rs id ≡ Ok t → AreFields (at_end rs) 1 t ignore fields (Ok (Ok r))
+    → type_after ignore rs id ≡ Ok t → AreFields (at_end rs) 1 t ignore fields (Ok (Ok r))
     → IsNext rs ignore (id ∷ fields) (Ok (Ok (item r)))
 next ignore rs id t r fields u e f =
-    after ignore (Sized IsUnsigned) (λ id. IsTyped (at_end rs) id.len (type_after rs id.value)) (id ∷ []) fields
+    after ignore (Sized IsUnsigned) (IsTypedAfter rs) (id ∷ []) fields
     (record { value = id; len = 1 }) (Ok (Ok (item r))) (u, refl)
     (subst (λ x. IsTyped (at_end rs) 1 x ignore fields (Ok (Ok (item r)))) (sym e)
     (seen ignore of_record (AreFields (at_end rs) 1 t) fields (Ok r) f))
