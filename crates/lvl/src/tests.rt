@@ -169,35 +169,38 @@ fn tagged(alloc: Global) -> Result<Vec<u8>, AllocError> {
     Ok(bytes)
 }
 
-/// Whether a file is refused at the property of `tagged`.
-fn is_unread(fault: FileFault) -> bool {
+/// Whether the file of that side is refused at the property of `tagged`.
+fn is_unread<T>(answer: &Result<T, Refusal>, at: Side) -> bool {
     let kind = GdsKind::Misplaced(Misplaced::Unsupported(record_type::PROPATTR));
-    fault == FileFault::Gds(GdsFault { offset: 156, kind })
+    let unread = FileFault::Gds(GdsFault { offset: 156, kind });
+    match answer {
+        Err(Refusal::File(side, fault)) => *side == at && *fault == unread,
+        _ => false,
+    }
 }
 
 #[test]
 fn properties_ignored(rt: HostRuntime) -> Result<(), Fail> {
     let bytes = tagged(rt.alloc())?;
+    let view = View::whole(rt.alloc());
     for (ignore, is_read) in [(Ignore::NOTHING, false), (Ignore::EVERYTHING, true)] {
         let read = read_layout_by(rt.alloc(), &mut Pieces::new(&bytes, 50), ignore);
         assert_eq!(rt; read.is_ok(), is_read);
         let (mut first, mut second) = (Pieces::new(&VECTOR, 50), Pieces::new(&bytes, 7));
-        let view = View::whole(rt.alloc());
-        match compare_files(rt.alloc(), &mut first, &mut second, &NO_TOPS, &view, ignore) {
-            Ok(compared) => assert!(rt; is_read && compared.verdict == Verdict::Same),
-            Err(Refusal::File(Side::Second, fault)) => assert!(rt; !is_read && is_unread(fault)),
-            Err(_) => return Err("another refusal".into()),
-        }
-        match show_file(rt.alloc(), &mut Pieces::new(&bytes, 50), None, ignore) {
-            Ok(shown) => assert!(rt; is_read && shown.layers.len() == 1),
-            Err(Refusal::File(Side::First, fault)) => assert!(rt; !is_read && is_unread(fault)),
-            Err(_) => return Err("another refusal".into()),
-        }
-        match digest_file(rt.alloc(), &mut Pieces::new(&bytes, 50), None, ignore) {
-            Ok(digested) => assert!(rt; is_read && digested.mask.sha256 == SHA256),
-            Err(Refusal::File(Side::First, fault)) => assert!(rt; !is_read && is_unread(fault)),
-            Err(_) => return Err("another refusal".into()),
-        }
+        let compared = compare_files(rt.alloc(), &mut first, &mut second, &NO_TOPS, &view, ignore);
+        assert_eq!(rt; is_unread(&compared, Side::Second), !is_read);
+        let same = compared.ok().map(|compared| compared.verdict) == Some(Verdict::Same);
+        assert_eq!(rt; same, is_read);
+        let shown = show_file(rt.alloc(), &mut Pieces::new(&bytes, 50), None, ignore);
+        assert_eq!(rt; is_unread(&shown, Side::First), !is_read);
+        assert_eq!(rt;
+            shown.ok().map(|shown| shown.layers.len()) == Some(1),
+            is_read
+        );
+        let digested = digest_file(rt.alloc(), &mut Pieces::new(&bytes, 50), None, ignore);
+        assert_eq!(rt; is_unread(&digested, Side::First), !is_read);
+        let sha256 = digested.ok().map(|digested| digested.mask.sha256);
+        assert_eq!(rt; sha256 == Some(SHA256), is_read);
     }
     Ok(())
 }
