@@ -1,6 +1,6 @@
 //! Pairs of libraries that differ by one change each.
 use crate::layouts::{cut, fitted, library};
-use lvl_changed::{changed, difference_by_changes, pays_by_cells};
+use lvl_changed::{changed, difference_by_changes, pays_by_cells, same_by_cells};
 use lvl_compare::difference_by_strips;
 use lvl_flat::{Fitted, fits_by_boxes};
 use lvl_grid::{Square, Window};
@@ -121,6 +121,8 @@ fn pairs_of_libraries(rt: HostRuntime) -> Result<(), Fail> {
         let second = fitted(alloc, theirs)?;
         let places = changed_text(alloc, &first, &second)?;
         assert_eq!(rt; places.as_str(), windows, "{name}");
+        let same = same_by_cells(alloc, &first, &second)?;
+        assert_eq!(rt; same, windows.is_empty(), "{name}");
         let found = difference_text(alloc, &first, &second, 1 << 20)?;
         assert_eq!(rt; found.as_str(), want, "{name}");
     }

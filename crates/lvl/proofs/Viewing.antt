@@ -9,6 +9,7 @@ use Rattle.lvl_cells.specs.Coverage.{RingsCover, CellCovers}
 use Rattle.lvl_columns.specs.Windows.{IsShown}
 use Rattle.lvl_flat.specs.Flattened.{AllInRange, IsTopInRange, TopCovers}
 use Rattle.lvl_region.specs.declared.region.Side.TheVariants.{First, Second}
+use Rattle.lvl_changed.proofs.Alike.{moved_none}
 use Rattle.lvl_view.specs.Views.{IsWhole, PlainView}
 use Rattle.lvl_view.specs.Moved.{IsMoved}
 use Rattle.lvl_view.specs.declared.map.LayerPair.{LayerPair}
@@ -49,14 +50,6 @@ moved_same pairs Q Q' q l s = (
 
 itself : {A : Type 0} → A ↔ A
 itself = (λ a. a, λ a. a)
-
--- without pairs nothing is moved
-moved_none : (pairs : List LayerPair) → pairs ≡ [] → (Q : Layer → Square → Type 0) (l : Layer) (s : Square)
-    → IsMoved pairs Q l s ↔ Q l s
-moved_none pairs none Q l s = (
-  λ m. subst (λ layer. Q layer s) (rw none at m.is_target) m.covers,
-  λ h. record { source = l; is_target = rw none refl; covers = h },
-)
 
 -- under a view without pairs and without a window the verdict is that on the whole files
 pub whole_verdict : (view : PlainView) → IsWhole view → (a b : File) (v : Verdict) → IsViewVerdict view a b v

@@ -1,6 +1,7 @@
 //! Where two libraries may draw differently, found cell by cell, and their comparison there alone.
 //!
-//! [`changed`] gives a few windows outside of which both draw the same, without flattening either.
+//! [`changed`] gives a few windows outside of which both draw the same, without flattening either, and
+//! [`same_by_cells`] whether there is none.
 //! [`difference_by_changes`] finds the first square that one of them alone draws, and looks for it in
 //! those windows only, so that it costs what changed between the two.
 //!
@@ -16,10 +17,12 @@
 //! ```
 #![tactic(auto)]
 
+pub use alike::same_by_cells;
 pub use cells::changed;
 pub use difference::difference_by_changes;
 pub use partners::pays_by_cells;
 
+mod alike;
 mod cells;
 mod difference;
 mod found;

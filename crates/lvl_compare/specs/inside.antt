@@ -1,4 +1,1 @@
-pub mod Partners
 pub mod Strips
-pub mod Placements
-pub mod Shapes

@@ -1,0 +1,28 @@
+-- Two layouts between which nothing changed.
+use Rattle.std.proofs.Common.{◌≡◌, ◌↔◌, List, [], refl, subst}
+use Rattle.lvl_grid.specs.declared.point.Square.{Square}
+use Rattle.lvl_grid.specs.declared.point.Window.{Window}
+use Rattle.lvl_grid.specs.Clip.{IsWithin}
+use Rattle.lvl_grid.proofs.Anyone.{Any-nil}
+use Rattle.lvl_names.specs.declared.layer.Layer.{Layer}
+use Rattle.lvl_view.specs.Moved.{IsMoved}
+use Rattle.lvl_view.specs.declared.map.LayerPair.{LayerPair}
+use Rattle.lvl_compare.specs.Tops.{Draws, DrawSame}
+use Rattle.lvl_changed.specs.Changed.{IsOutside}
+
+-- without pairs nothing is moved
+pub moved_none : (pairs : List LayerPair) → pairs ≡ [] → (Q : Layer → Square → Type 0) (l : Layer) (s : Square)
+    → IsMoved pairs Q l s ↔ Q l s
+moved_none pairs none Q l s = (
+  λ m. subst (λ layer. Q layer s) (rw none at m.is_target) m.covers,
+  λ h. record { source = l; is_target = rw none refl; covers = h },
+)
+
+-- without a window, too, both draw the same everywhere
+pub same_everywhere : (pairs : List LayerPair) (windows : List Window) (a b : Draws) → pairs ≡ [] → windows ≡ []
+    → DrawSame (IsOutside windows) a (IsMoved pairs b) → (l : Layer) (s : Square) → a l s ↔ b l s
+same_everywhere pairs windows a b none empty h l s =
+    let outside : IsOutside windows s = rw empty (λ any. Any-nil (λ w. IsWithin w s) any) in
+    let same = h l s outside in
+    let moved = moved_none pairs none b l s in
+    (λ x. moved.0 (same.0 x), λ x. same.1 (moved.1 x))

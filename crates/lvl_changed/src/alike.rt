@@ -1,0 +1,22 @@
+//! Whether two libraries draw the same, so far as their cells show it.
+ghost use Rattle.std.specs.Prelude.{◌↔◌, IfOk, IsTrue};
+ghost use Rattle.lvl_flat.specs.Flattened.{TopCovers};
+ghost use Rattle.lvl_grid.specs.declared.point.Square.{Square as GridSquare};
+ghost use Rattle.lvl_names.specs.declared.layer.Layer.{Layer};
+
+use crate::cells::changed;
+use lvl_flat::Fitted;
+use lvl_view::View;
+use std::alloc::{AllocError, Global};
+
+/// Whether both tops cover the same squares on every Layer, so far as that can be seen cell by cell: whether
+/// [`changed`] finds no window. `false` says nothing of what they cover.
+pub fn same_by_cells(alloc: Global, first: &Fitted, second: &Fitted) -> Result<bool, AllocError>
+    ensures { IfOk result (λ same. IsTrue same → (layer : Layer) (s : GridSquare)
+        → TopCovers first.now layer s ↔ TopCovers second.now layer s) }
+{
+    match changed(alloc, first, second, &View::whole(alloc))? {
+        Some(windows) => Ok(windows.is_empty()),
+        None => Ok(false),
+    }
+}
