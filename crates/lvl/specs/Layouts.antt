@@ -1,5 +1,6 @@
 -- What files spell, by their format.
 use Rattle.std.specs.Prelude.{◌≡◌, ℕ, List, [], ◌∷◌, Option, Some, None}
+use Rattle.lvl_ignore.specs.Ignored.{IsWithin}
 use Rattle.lvl_ignore.specs.declared.ignore.Ignore.{Ignore}
 use Rattle.lvl_path.specs.Figure.{figure_rings}
 use Rattle.lvl_cells.specs.Cells.{PlainCell, Rings, kept}
@@ -49,3 +50,9 @@ pub record IsLayoutOf (ignore : Ignore) (bytes : List ℕ) (found : List (PlainC
   pub kept_as : found ≡ kept figure_rings cells
   pub alone : (others : List Drawing) (h : Head) → Spells ignore bytes others h
       → (found ≡ kept figure_rings others) × (head ≡ h)
+
+-- bytes that spell a library where less is ignored spell the same one where more is, with the same head
+abbrev pub IgnoringKeeps : Type 0
+IgnoringKeeps =
+    (less more : Ignore) → IsWithin less more → (bytes : List ℕ) (found : List (PlainCell Rings)) (head : Head)
+    → IsLayoutOf less bytes found head → IsLayoutOf more bytes found head

@@ -6,7 +6,7 @@ ghost use Rattle.lvl_io.specs.Peeked.{given_again};
 ghost use Rattle.lvl_refusal.specs.Refused.{Says};
 ghost use Rattle.lvl_ignore.specs.Ignored.{nothing};
 ghost use Rattle.lvl_ignore.specs.declared.ignore.Ignore.{Ignore as Ignored};
-ghost use Rattle.lvl.specs.Layouts.{HasFirst, IsLayoutOf, IsOasis};
+ghost use Rattle.lvl.specs.Layouts.{HasFirst, IgnoringKeeps, IsLayoutOf, IsOasis};
 ghost use Rattle.lvl.specs.Answers.{IsEarlyFile, IsHopeless, is_failed_read, read_failed};
 ghost use Rattle.lvl.specs.Sides.{layout_parts, IsFileFault};
 
@@ -200,3 +200,9 @@ pub fn read_layout_by<R: Read>(
     let _reader = whole.into_rest();
     read
 }
+
+/// The law by which ignoring more changes no layout that is read: bytes that spell a library where less is
+/// ignored spell the same one where more is, with the same head. It computes nothing.
+pub fn ignoring_keeps()
+    ensures { IgnoringKeeps }
+{}
