@@ -9,7 +9,7 @@ use Rattle.lvl_cells.specs.Coverage.{RingsCover, CellCovers}
 use Rattle.lvl_columns.specs.Windows.{IsShown}
 use Rattle.lvl_flat.specs.Flattened.{AllInRange, IsTopInRange, TopCovers}
 use Rattle.lvl_region.specs.declared.region.Side.TheVariants.{First, Second}
-use Rattle.lvl_changed.proofs.Alike.{moved_none}
+use Rattle.lvl_changed.proofs.Unchanged.{moved_none}
 use Rattle.lvl_view.specs.Views.{IsWhole, PlainView}
 use Rattle.lvl_view.specs.Moved.{IsMoved}
 use Rattle.lvl_view.specs.declared.map.LayerPair.{LayerPair}

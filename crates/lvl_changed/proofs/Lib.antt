@@ -8,4 +8,4 @@ pub mod Finding
 pub mod Own
 pub mod Missing
 pub mod Boxing
-pub mod Alike
+pub mod Unchanged
