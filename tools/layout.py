@@ -195,3 +195,78 @@ def changed(rng, cells):
     moved = shape._replace(points=[(x + dx, y + dy) for x, y in shape.points])
     shapes = cell.shapes[:which] + ([moved] if rng.random() < 0.7 else []) + cell.shapes[which + 1:]
     return cells[:at] + [cell._replace(shapes=shapes)] + cells[at + 1:]
+
+
+def hierarchy(rng):
+    """Cells of which the top places others many times and far apart, as arrays and one by one."""
+    names = ["A", "B", "C", "D", "TOP"][rng.randint(0, 2):]
+    cells = []
+    for at, name in enumerate(names):
+        shapes = [shape_of(rng) for _ in range(rng.randint(0 if at else 1, 2))]
+        references = [placed(rng, rng.choice(names[:at]), name == "TOP") for _ in range(rng.randint(0, 2) if at else 0)]
+        if name == "TOP":
+            references += [placed(rng, target, True) for target in names[:at]]
+        cells.append(Cell(name, shapes, references))
+    rng.shuffle(cells)
+    return cells
+
+
+def placed(rng, cell, far):
+    """A reference to the cell; far apart from others, or near."""
+    reach = 40 if far else 15
+    step = (rng.randint(5, 15), 0) if rng.random() < 0.5 else (0, rng.randint(5, 15))
+    shifts = [(i * step[0], i * step[1]) for i in range(rng.choice([1, 2, 3, 5]))]
+    at = rng.randint(-reach, reach), rng.randint(-reach, reach)
+    return Reference(cell, rng.random() < 0.5, rng.randint(0, 3), at, shifts)
+
+
+def replaced(items, at, *others):
+    return items[:at] + list(others) + items[at + 1:]
+
+
+def mutated(rng, cells):
+    """Two hierarchies that differ by one mutation. Now and then the first top has a shape besides that hides all
+    of it, so that both draw the same."""
+    at = rng.randrange(len(cells))
+    kind = rng.choice(["more", "fewer", "renamed", "moved", "turned", "shorter", "layer", "reordered"])
+    cell, other = cells[at], None
+    if kind == "more":
+        x, y, w, h = rng.randint(-9, 9), rng.randint(-9, 9), rng.randint(1, 3), rng.randint(1, 3)
+        ring = [(x, y), (x + w, y), (x + w, y + h), (x, y + h)]
+        other = cell._replace(shapes=cell.shapes + [Shape(rng.choice(LAYERS), "ring", ring, 0, (0, 0), NONE)])
+    elif kind in ("fewer", "layer") and cell.shapes:
+        which = rng.randrange(len(cell.shapes))
+        kept = [cell.shapes[which]._replace(layer=rng.choice(LAYERS))] if kind == "layer" else []
+        other = cell._replace(shapes=replaced(cell.shapes, which, *kept))
+    elif kind in ("moved", "turned", "shorter") and cell.references:
+        which = rng.randrange(len(cell.references))
+        reference = cell.references[which]
+        changes = {
+            "moved": {"at": (reference.at[0] + rng.choice([-1, 1]), reference.at[1] + rng.randint(-1, 1))},
+            "turned": {"quarters": (reference.quarters + rng.randint(1, 3)) % 4},
+            "shorter": {"shifts": reference.shifts[:-1] or reference.shifts},
+        }
+        other = cell._replace(references=replaced(cell.references, which, reference._replace(**changes[kind])))
+    elif kind == "reordered":
+        other = cell._replace(shapes=rng.sample(cell.shapes, len(cell.shapes)),
+                              references=rng.sample(cell.references, len(cell.references)))
+    second = replaced(cells, at, other or cell)
+    if kind == "renamed" and cell.name != "TOP":
+        second = renamed(cells, cell.name, "OTHER")
+    return (hidden(cells), hidden(second)) if rng.random() < 0.2 else (cells, second)
+
+
+def renamed(cells, old, new):
+    """The cells with one of another name, wherever it is placed."""
+    return [
+        Cell(new if cell.name == old else cell.name, cell.shapes,
+             [r._replace(cell=new) if r.cell == old else r for r in cell.references])
+        for cell in cells
+    ]
+
+
+def hidden(cells):
+    """The cells with squares of the top that cover most of what is placed, on each Layer."""
+    wide = [(-60, -60), (60, -60), (60, 60), (-60, 60)]
+    covers = [Shape(layer, "ring", wide, 0, (0, 0), NONE) for layer in LAYERS]
+    return [cell._replace(shapes=cell.shapes + covers) if cell.name == "TOP" else cell for cell in cells]

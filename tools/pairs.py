@@ -9,6 +9,10 @@ With `--decorate` the files have records that draw nothing. The answer with `--i
 that the files need, is that of the raster, which knows nothing of such records. Without --ignore, and without one of
 the words that are needed, a file is refused, as the second reading of the rules refuses it.
 
+With `--mutate` the pairs are hierarchies that place cells many times, and differ by one mutation: a shape more or less,
+or on another layer, a cell renamed, a placement moved or turned, an array with one place less, another order. Of one
+pair in five the top hides most of it.
+
 With `--far` the coordinates are anywhere in 64 bits, and the right answer is that of `exact.py`. Then the script
 goes on after a wrong or late answer, keeps the files of each in the folder that it prints, and ends with status
 1 if there was one.
@@ -49,10 +53,13 @@ def view_of(rng):
     return ["--map", said, "--window=x=%d..%d,y=%d..%d" % window], pairs, window
 
 
-def pair_of(rng, ignore):
+def pair_of(rng, ignore, mutate):
     """Two layouts, each as cells and as the bytes of a file."""
-    first = layout.made(rng)
-    second = layout.changed(rng, first) if rng.random() < 0.6 else first
+    if mutate:
+        first, second = layout.mutated(rng, layout.hierarchy(rng))
+    else:
+        first = layout.made(rng)
+        second = layout.changed(rng, first) if rng.random() < 0.6 else first
     return [(cells, rng.choice([gds, oasis]).written(rng, cells, ignore)) for cells in (first, second)]
 
 
@@ -173,9 +180,10 @@ def main():
     line.add_argument("--jobs", metavar="N", type=int, default=1,
                       help="with --far: the number of processes (default: 1)")
     line.add_argument("--decorate", action="store_true", help="add records that draw nothing, and give --ignore")
+    line.add_argument("--mutate", action="store_true", help="make hierarchies that differ by one mutation")
     asked = options.parsed(line)
-    if asked.far and asked.decorate:
-        line.error("--far has no records that draw nothing")
+    if asked.far and (asked.decorate or asked.mutate):
+        line.error("--far has no records that draw nothing, and no mutations")
     sys.exit(hunt(asked) if asked.far else compared(asked))
 
 
@@ -193,7 +201,8 @@ def compared(asked):
     files, counts = [os.path.join(folder, "a"), os.path.join(folder, "b")], collections.Counter()
     for at in range(asked.seed, asked.seed + asked.count):
         rng = random.Random("decorated %d" % at) if asked.decorate else random.Random(at)
-        pair = pair_of(rng, frozenset(word for word in WORDS if rng.random() < 0.7) if asked.decorate else NOTHING)
+        ignore = frozenset(word for word in WORDS if rng.random() < 0.7) if asked.decorate else NOTHING
+        pair = pair_of(rng, ignore, asked.mutate)
         for name, (_, written) in zip(files, pair):
             write(name, written)
         for words, expected in runs_of(rng, asked, pair):
