@@ -1,7 +1,7 @@
 -- What a run wrote, from what it had to say.
-use Rattle.std.proofs.Common.{◌≡◌, ℕ, List, Option, Result, Ok, Err, IfOk, OnOk, OnErr}
+use Rattle.std.proofs.Common.{◌≡◌, ◌∙◌, ℕ, List, Option, Result, Ok, Err, IfOk, OnOk, OnErr, refl, ap}
 use Rattle.std.specs.Io.KnownBytes.{Appends}
-use Rattle.lvl_report.specs.declared.outcome.Outcome.{Outcome}
+use Rattle.lvl_ignore.specs.declared.ignore.Ignore.{Ignore}
 use Rattle.lvl_report.specs.declared.status.RunFault.{RunFault}
 use Rattle.lvl_view.specs.Views.{IsWhole, PlainView}
 use Rattle.lvl.specs.Answers.{IsCompared}
@@ -11,7 +11,8 @@ use Rattle.lvl.specs.declared.verdict.Comparison.{Comparison}
 use Rattle.lvl.specs.declared.verdict.Refusal.{Refusal}
 use Rattle.lvl.proofs.Viewing.{whole_verdict}
 use Rattle.lvl_report.specs.Runs.{Input, IsComparedBy, IsViewedBy, IsWritten, IsBegun}
-use Rattle.lvl_report.specs.Writing.{AppendsBeginning}
+use Rattle.lvl_report.specs.Hints.{outcome_of, shown_outcome}
+use Rattle.lvl_report.specs.Writing.{AppendsBeginning, status_of, shown_status}
 
 pub was_written : {X T : Type 0} (Allowed : X → Type 0) (text : X → List ℕ) (end_of : X → T)
     (old new : Option (List ℕ)) (answer : X) (r : Result T RunFault) → Allowed answer
@@ -56,6 +57,27 @@ begun_as text old new (Err fault) also b = record {
   allowed = also b.answer b.allowed;
   begun = b.begun;
 }
+
+-- what a run gives that gives a part of how another ends
+pub ends_as : {X T U : Type 0} {Allowed : X → Type 0} (text : X → List ℕ) (end_of : X → T) (part : T → U) (then_of : X → U)
+    (old new : Option (List ℕ)) → ((answer : X) → part (end_of answer) ≡ then_of answer) → (ended : T)
+    → IsWritten Allowed text end_of old new ended → IsWritten Allowed text then_of old new (part ended)
+ends_as text end_of part then_of old new is ended w = record {
+  answer = w.answer;
+  allowed = w.allowed;
+  whole = w.whole;
+  ends = ap part w.ends ∙ is w.answer;
+}
+
+pub status_is : (ignore : Ignore) (answer : Result Comparison Refusal)
+    → (outcome_of ignore answer).status ≡ status_of answer
+status_is ignore (Ok comparison) = refl
+status_is ignore (Err refusal) = refl
+
+pub shown_status_is : {X : Type 0} (ignore : Ignore) (answer : Result X Refusal)
+    → (shown_outcome ignore answer).status ≡ shown_status answer
+shown_status_is ignore (Ok x) = refl
+shown_status_is ignore (Err refusal) = refl
 
 whole_said : (view : PlainView) → IsWhole view → (a b : File) (answer : Result Comparison Refusal)
     → IfOk answer (IsComparedIn view a b) → IfOk answer (IsCompared a b)
