@@ -326,8 +326,8 @@ def accepted(read, files, ignore):
     if not apart:
         return sides, None
     side, refused = apart
-    data, option = next((data, option) for name, data, _, option in files if name == side)
-    hint = hints.hint(refused, data, option, [word for word in WORDS if word in ignore])
+    option = next(option for name, _, _, option in files if name == side)
+    hint = hints.hint(refused, option, [word for word in WORDS if word in ignore])
     return None, Answer({2}, "refused: %s: %s" % (side, refused), refused.allows, hint)
 
 

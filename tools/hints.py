@@ -2,15 +2,17 @@
 
 The table, from a refusal to its hint:
 
-    step   number and name       and                                       hint
-    gds    2 BadLength           at 0, and the file begins with 1F 8B      gzipped: unpack the file first
-    gds    11 Unsupported        43, 44, 35                                try --ignore properties
-    gds    11 Unsupported        57, 58, 59, 31, 32, 34, 54, 52, 38, 47    try --ignore names
+    step   number and name              and                                hint
+    gds    2 BadLength, 3 BadDataType,  at 0                               neither GDSII nor OASIS: if the file
+           4 UnknownRecord                                                 is compressed (gzip), unpack it first
+    gds    11 Unsupported               43, 44, 35                         try --ignore properties
+    gds    11 Unsupported               57, 58, 59, 31, 32, 34, 54, 52,    try --ignore names
+                                        38, 47
     oasis  2 IntegerTooLarge                                               try --ignore padding
-    oasis  24 Unsupported        7, 8, 9, 10, 28, 29                       try --ignore properties
-    oasis  24 Unsupported        5, 6, 19                                  try --ignore texts
-    oasis  24 Unsupported        11, 12, 30, 31                            try --ignore names
-    oasis  24 Unsupported        34                                        a compressed block: write the file
+    oasis  24 Unsupported               7, 8, 9, 10, 28, 29                try --ignore properties
+    oasis  24 Unsupported               5, 6, 19                           try --ignore texts
+    oasis  24 Unsupported               11, 12, 30, 31                     try --ignore names
+    oasis  24 Unsupported               34                                 a compressed block: write the file
                                                                            without CBLOCK compression
     cells  6 ManyTops                                                      several cells could be the top:
                                                                            name one by --top-a
@@ -40,16 +42,16 @@ def word_of(step, number, value):
     return None
 
 
-def hint(refused, data, option, given):
-    """The text on standard error, from the refusal of a file, its bytes, the option that names its top, and the
-    words of --ignore that were given."""
+def hint(refused, option, given):
+    """The text on standard error, from the refusal of a file, the option that names its top, and the words of
+    --ignore that were given."""
     fault = refused.step, refused.number
     value = refused.values[0] if refused.values else None
     word = word_of(*fault, value)
     if word is not None and word not in given:
         return "lvl: try --ignore %s\n" % ",".join(each for each in WORDS if each in (*given, word))
-    if fault == ("gds", 2) and refused.at == 0 and data[:2] == b"\x1F\x8B":
-        return "lvl: gzipped: unpack the file first\n"
+    if refused.step == "gds" and refused.number in (2, 3, 4) and refused.at == 0:
+        return "lvl: neither GDSII nor OASIS: if the file is compressed (gzip), unpack it first\n"
     if fault == ("oasis", 24) and value == 34:
         return "lvl: a compressed block: write the file without CBLOCK compression\n"
     if fault == ("cells", 6):

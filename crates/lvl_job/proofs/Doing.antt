@@ -6,12 +6,13 @@ use Rattle.std.specs.Global.{Global}
 use Rattle.std.specs.Prelude.{String, string_bytes}
 use Rattle.lvl_line.specs.declared.job.Job.{Job}
 use Rattle.lvl_line.specs.declared.job.Job.TheVariants.{Compare, Digest, Show}
-use Rattle.lvl_report.specs.declared.status.Status.{Status}
+use Rattle.lvl_report.specs.declared.outcome.Outcome.{Outcome}
 use Rattle.lvl_report.specs.declared.status.RunFault.{RunFault}
 use Rattle.lvl_report.specs.declared.status.RunFault.TheVariants.{Output as RunOutput, OutOfMemory as RunOutOfMemory}
 use Rattle.lvl_report.specs.Runs.{Input, input, IsBegun, IsDigestedBy, IsShownBy, IsWritten}
 use Rattle.lvl_report.specs.Texts.{text_of, text_of_digested, text_of_shown}
-use Rattle.lvl_report.specs.Writing.{is_output, shown_status}
+use Rattle.lvl_report.specs.Hints.{shown_outcome}
+use Rattle.lvl_report.specs.Writing.{is_output}
 use Rattle.lvl_view.specs.Views.{PlainView}
 use Rattle.lvl_job.specs.declared.fault.JobFault.{JobFault}
 use Rattle.lvl_job.specs.declared.fault.JobFault.TheVariants.{BadView, BadIgnore, NotOpened, OutOfMemory, Output}
@@ -25,7 +26,7 @@ use Rattle.lvl_job.specs.inside.Parts.{fault_of_run}
 use Rattle.lvl_job.proofs.Saying.{keeps_same}
 
 -- a run with this fault
-abbrev pub failed_run : RunFault → Result Status RunFault
+abbrev pub failed_run : RunFault → Result Outcome RunFault
 failed_run fault = Err fault
 
 module _ {S : Type 0} (opens : S → List ℕ → Option (Option (List ℕ)) → S → Type 0) where
@@ -91,7 +92,7 @@ module _ {S : Type 0} (opens : S → List ℕ → Option (Option (List ℕ)) →
         → ((name : List ℕ) → name ≡ string_bytes file → opens old name None new → IsNotOpened opens job old new name)
         → (OfOne opens old new (named ignore file top) (λ a. IsBegun (IsAnswerOf a) text from to)
         → IsCut opens job old new from to)
-        → (r : Result Status JobFault) → IfErr r (IsOneFault opens IsAnswerOf text (named ignore file top) old new from to)
+        → (r : Result Outcome JobFault) → IfErr r (IsOneFault opens IsAnswerOf text (named ignore file top) old new from to)
         → IfErr r (IsFaultOfJob opens job old new from to)
     fault_of_one job ignore file top old new from to missing cut (Ok status) h = tt
     fault_of_one job ignore file top old new from to missing cut (Err fault) h = go fault h
@@ -111,7 +112,7 @@ module _ {S : Type 0} (opens : S → List ℕ → Option (Option (List ℕ)) →
     abbrev both : {Holds : Type 0} → Holds → UnderView map_text window_text (λ _. WithIgnored ignored (λ _. Holds))
     both h = record { view = view; asked = asked; holds = record { ignore = ignore; asked = given; holds = h } }
 
-    pub job_answered : (old new : S) (from to : Option (List ℕ)) (r : Result Status JobFault)
+    pub job_answered : (old new : S) (from to : Option (List ℕ)) (r : Result Outcome JobFault)
         → IfOk r (IsPairAnswered opens view (named ignore first top_a) (named ignore second top_b) old new from to)
         → IfOk r (IsAnswered opens (Compare first second top_a top_b map_text window_text ignored) old new from to)
     job_answered old new from to (Ok status) h = record {
@@ -121,7 +122,7 @@ module _ {S : Type 0} (opens : S → List ℕ → Option (Option (List ℕ)) →
     }
     job_answered old new from to (Err fault) h = tt
 
-    pub job_fault : (old new : S) (from to : Option (List ℕ)) (r : Result Status JobFault)
+    pub job_fault : (old new : S) (from to : Option (List ℕ)) (r : Result Outcome JobFault)
         → IfErr r (IsPairFault opens view (named ignore first top_a) (named ignore second top_b) old new from to)
         → IfErr r (IsFaultOfJob opens (Compare first second top_a top_b map_text window_text ignored) old new from to)
     job_fault old new from to (Ok status) h = tt
@@ -142,20 +143,20 @@ module _ {S : Type 0} (opens : S → List ℕ → Option (Option (List ℕ)) →
 
   module _ (file : String Global) (top ignored : Option (String Global)) (ignore : Ignore)
       (given : IsIgnoreAsked (option_map string_bytes ignored) ignore) where
-    pub shown_answered : (old new : S) (from to : Option (List ℕ)) (r : Result Status JobFault)
-        → IfOk r (IsOneAnswered opens IsShownBy text_of_shown shown_status (named ignore file top) old new from to)
+    pub shown_answered : (old new : S) (from to : Option (List ℕ)) (r : Result Outcome JobFault)
+        → IfOk r (IsOneAnswered opens IsShownBy text_of_shown (shown_outcome ignore) (named ignore file top) old new from to)
         → IfOk r (IsAnswered opens (Show file top ignored) old new from to)
     shown_answered old new from to (Ok status) h = record { ignore = ignore; asked = given; holds = h }
     shown_answered old new from to (Err fault) h = tt
 
-    pub digested_answered : (old new : S) (from to : Option (List ℕ)) (r : Result Status JobFault)
+    pub digested_answered : (old new : S) (from to : Option (List ℕ)) (r : Result Outcome JobFault)
         → IfOk r
-        (IsOneAnswered opens IsDigestedBy text_of_digested shown_status (named ignore file top) old new from to)
+        (IsOneAnswered opens IsDigestedBy text_of_digested (shown_outcome ignore) (named ignore file top) old new from to)
         → IfOk r (IsAnswered opens (Digest file top ignored) old new from to)
     digested_answered old new from to (Ok status) h = record { ignore = ignore; asked = given; holds = h }
     digested_answered old new from to (Err fault) h = tt
 
-    pub shown_fault : (old new : S) (from to : Option (List ℕ)) (r : Result Status JobFault)
+    pub shown_fault : (old new : S) (from to : Option (List ℕ)) (r : Result Outcome JobFault)
         → IfErr r (IsOneFault opens IsShownBy text_of_shown (named ignore file top) old new from to)
         → IfErr r (IsFaultOfJob opens (Show file top ignored) old new from to)
     shown_fault old new from to =
@@ -163,7 +164,7 @@ module _ {S : Type 0} (opens : S → List ℕ → Option (Option (List ℕ)) →
         (λ name e o. record { ignore = ignore; asked = given; holds = (e, o) })
         (λ h. record { ignore = ignore; asked = given; holds = h })
 
-    pub digested_fault : (old new : S) (from to : Option (List ℕ)) (r : Result Status JobFault)
+    pub digested_fault : (old new : S) (from to : Option (List ℕ)) (r : Result Outcome JobFault)
         → IfErr r (IsOneFault opens IsDigestedBy text_of_digested (named ignore file top) old new from to)
         → IfErr r (IsFaultOfJob opens (Digest file top ignored) old new from to)
     digested_fault old new from to =
@@ -213,6 +214,6 @@ module _ {S : Type 0} (opens : S → List ℕ → Option (Option (List ℕ)) →
   digested_ignore_fault file top ignored old from fault =
       no_ignore (Digest file top ignored) (option_map string_bytes ignored) old from fault (λ h. h)
 
-pub cut_is : (fault : RunFault) → is_cut (Err (fault_of_run fault)) ≡ is_output {A = Status} (Err fault)
+pub cut_is : (fault : RunFault) → is_cut (Err (fault_of_run fault)) ≡ is_output {A = Outcome} (Err fault)
 cut_is RunOutput = refl
 cut_is RunOutOfMemory = refl

@@ -1,9 +1,16 @@
 -- How a job ends: its exit status, and what it says on standard error.
-use Rattle.std.specs.Prelude.{ℕ, List, [], ◌++◌, codes, Option, Result, Ok, Err, Bool, true, false, ◌⊎◌}
+use Rattle.std.specs.Prelude.{ℕ, List, [], ◌∷◌, ◌++◌, codes, Option, Some, None, Result, Ok, Err, Bool, true, false}
+use Rattle.std.specs.Prelude.{◌||◌, ◌⊎◌, if◌then◌else◌}
 use Rattle.std.specs.Io.KnownBytes.{Appends}
 use Rattle.lvl_io.specs.Bytes.{CountsFailure}
 use Rattle.std.specs.Prelude.{string_bytes}
-use Rattle.lvl_report.specs.declared.status.Status.{Status}
+use Rattle.lvl_ignore.specs.Ignored.{comma}
+use Rattle.lvl_ignore.specs.declared.ignore.Ignore.{Ignore}
+use Rattle.lvl_region.specs.declared.region.Side.{Side}
+use Rattle.lvl_region.specs.declared.region.Side.TheVariants.{First, Second}
+use Rattle.lvl_report.specs.declared.hint.Hint.{Hint}
+use Rattle.lvl_report.specs.declared.hint.Hint.TheVariants.{IgnoreMore, Unpack, WithoutBlocks, NameTop, NameTopOf}
+use Rattle.lvl_report.specs.declared.outcome.Outcome.{Outcome}
 use Rattle.lvl_report.specs.Faults.{ignore_fault, view_fault}
 use Rattle.lvl_report.specs.Texts.{line}
 use Rattle.lvl_report.specs.Writing.{status_code, AppendsBeginning}
@@ -19,8 +26,8 @@ fault_code OutOfMemory = 2
 fault_code Output = 4
 
 -- the exit status of a job
-abbrev pub end_code : Result Status JobFault → ℕ
-end_code (Ok status) = status_code status
+abbrev pub end_code : Result Outcome JobFault → ℕ
+end_code (Ok outcome) = status_code outcome.status
 end_code (Err fault) = fault_code fault
 
 -- why a job has no answer, as one line
@@ -31,14 +38,45 @@ fault_text (NotOpened name) = line (codes "lvl: cannot open " ++ string_bytes na
 fault_text OutOfMemory = line (codes "lvl: out of memory")
 fault_text Output = line (codes "lvl: output failed")
 
--- what a job says on standard error: nothing where it has an answer
-abbrev pub end_text : Result Status JobFault → List ℕ
-end_text (Ok status) = []
+-- a word of a list, after a comma where one came before it
+abbrev pub listed : Bool → Bool → List ℕ → List ℕ
+listed before given word = if given then (if before then comma ∷ word else word) else []
+
+-- what is ignored, as words joined by commas
+abbrev pub ignore_words : Ignore → List ℕ
+ignore_words i =
+    listed false i.properties (codes "properties") ++ listed i.properties i.texts (codes "texts")
+    ++ listed (i.properties || i.texts) i.names (codes "names")
+    ++ listed (i.properties || i.texts || i.names) i.padding (codes "padding")
+
+-- the option that names the top of one of two files
+abbrev pub top_option : Side → List ℕ
+top_option First = codes "--top-a"
+top_option Second = codes "--top-b"
+
+-- what would mend a refusal, as one line
+abbrev pub hint_text : Hint → List ℕ
+hint_text (IgnoreMore more) = line (codes "lvl: try --ignore " ++ ignore_words more)
+hint_text Unpack =
+    line (codes "lvl: neither GDSII nor OASIS: " ++ codes "if the file is compressed (gzip), unpack it first")
+hint_text WithoutBlocks =
+    line (codes "lvl: a compressed block: " ++ codes "write the file without CBLOCK compression")
+hint_text NameTop = line (codes "lvl: several cells could be the top: name one by " ++ codes "--top")
+hint_text (NameTopOf side) = line (codes "lvl: several cells could be the top: name one by " ++ top_option side)
+
+-- what is said of an answer
+abbrev pub said_of : Option Hint → List ℕ
+said_of None = []
+said_of (Some hint) = hint_text hint
+
+-- what a job says on standard error: where it has an answer, what would mend a refusal
+abbrev pub end_text : Result Outcome JobFault → List ℕ
+end_text (Ok outcome) = said_of outcome.hint
 end_text (Err fault) = fault_text fault
 
 -- whether the output of a job failed
-abbrev pub is_cut : Result Status JobFault → Bool
-is_cut (Ok status) = false
+abbrev pub is_cut : Result Outcome JobFault → Bool
+is_cut (Ok outcome) = false
 is_cut (Err (BadView fault)) = false
 is_cut (Err (BadIgnore fault)) = false
 is_cut (Err (NotOpened name)) = false

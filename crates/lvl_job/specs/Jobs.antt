@@ -10,10 +10,10 @@ use Rattle.lvl.specs.declared.verdict.Comparison.{Comparison}
 use Rattle.lvl.specs.declared.verdict.Refusal.{Refusal}
 use Rattle.lvl_line.specs.declared.job.Job.{Job}
 use Rattle.lvl_line.specs.declared.job.Job.TheVariants.{Compare, Digest, Show}
-use Rattle.lvl_report.specs.declared.status.Status.{Status}
+use Rattle.lvl_report.specs.declared.outcome.Outcome.{Outcome}
 use Rattle.lvl_report.specs.Runs.{Input, input, IsComparedBy, IsDigestedBy, IsViewedBy, IsShownBy, IsWritten, IsBegun}
 use Rattle.lvl_report.specs.Texts.{text_of, text_of_digested, text_of_shown}
-use Rattle.lvl_report.specs.Writing.{shown_status, status_of}
+use Rattle.lvl_report.specs.Hints.{outcome_of, shown_outcome}
 use Rattle.lvl_view.specs.declared.fault.ViewFault.{ViewFault}
 use Rattle.lvl_view.specs.Views.{PlainView, IsViewOf, IsFaultOf}
 use Rattle.lvl_job.specs.declared.fault.JobFault.{JobFault}
@@ -108,19 +108,19 @@ abbrev pub IsComparedUnder : Option PlainView → Input → Input → Result Com
 IsComparedUnder None = IsComparedBy
 IsComparedUnder (Some view) = IsViewedBy view
 
--- the answer to a job was written, and this is its status
+-- the answer to a job was written, and the job ends so
 abbrev pub IsAnswered : {S : Type 0} → (S → List ℕ → Option (Option (List ℕ)) → S → Type 0) → Job → S → S
-    → Option (List ℕ) → Option (List ℕ) → Status → Type 0
-IsAnswered opens (Compare first second top_a top_b map_text window_text ignored) old new from to status =
+    → Option (List ℕ) → Option (List ℕ) → Outcome → Type 0
+IsAnswered opens (Compare first second top_a top_b map_text window_text ignored) old new from to outcome =
     UnderView map_text window_text (λ view. WithIgnored ignored (λ ignore.
     OfTwo opens old new (named ignore first top_a) (named ignore second top_b) (λ a b.
-    IsWritten (IsComparedUnder view a b) text_of status_of from to status)))
-IsAnswered opens (Show file top ignored) old new from to status =
+    IsWritten (IsComparedUnder view a b) text_of (outcome_of ignore) from to outcome)))
+IsAnswered opens (Show file top ignored) old new from to outcome =
     WithIgnored ignored (λ ignore. OfOne opens old new (named ignore file top) (λ a.
-    IsWritten (IsShownBy a) text_of_shown shown_status from to status))
-IsAnswered opens (Digest file top ignored) old new from to status =
+    IsWritten (IsShownBy a) text_of_shown (shown_outcome ignore) from to outcome))
+IsAnswered opens (Digest file top ignored) old new from to outcome =
     WithIgnored ignored (λ ignore. OfOne opens old new (named ignore file top) (λ a.
-    IsWritten (IsDigestedBy a) text_of_digested shown_status from to status))
+    IsWritten (IsDigestedBy a) text_of_digested (shown_outcome ignore) from to outcome))
 
 -- a beginning of the answer to a job was written
 abbrev pub IsCut : {S : Type 0} → (S → List ℕ → Option (Option (List ℕ)) → S → Type 0) → Job → S → S

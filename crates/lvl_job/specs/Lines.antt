@@ -5,7 +5,7 @@ use Rattle.lvl_line.specs.Line.{IsJob, IsRefusal}
 use Rattle.lvl_line.specs.declared.job.Job.{Job}
 use Rattle.lvl_line.specs.declared.job.LineFault.{LineFault}
 use Rattle.lvl_line.specs.declared.job.LineFault.TheVariants as line_fault
-use Rattle.lvl_report.specs.declared.status.Status.{Status}
+use Rattle.lvl_report.specs.declared.outcome.Outcome.{Outcome}
 use Rattle.lvl_job.specs.declared.fault.JobFault.{JobFault}
 use Rattle.lvl_job.specs.declared.fault.JobFault.TheVariants.{OutOfMemory}
 use Rattle.lvl_job.specs.Ends.{IsSaid, end_code, end_text, fault_text}
@@ -23,7 +23,7 @@ pub record IsLineDone {S : Type 0} (opens : S → List ℕ → Option (Option (L
     (words : List (List ℕ)) (old new : S) (out err : Change) (code : ℕ) : Type 0 where
   pub job : Job
   pub asked : IsJob words job
-  pub ended : Result Status JobFault
+  pub ended : Result Outcome JobFault
   pub answered : IfOk ended (IsAnswered opens job old new out.old out.new)
   pub fault : IfErr ended (IsFaultOfJob opens job old new out.old out.new)
   pub said : IsSaid (end_text ended) err.old err.new err.before err.after

@@ -11,17 +11,18 @@ ghost use Rattle.lvl_job.specs.inside.Parts.{IsOneAnswered, IsOneFault, IsPairAn
 ghost use Rattle.lvl_job.specs.inside.Parts.{fault_of_run, IsNoIgnore};
 ghost use Rattle.lvl_report.specs.Runs.{IsBegun, IsDigestedBy, IsShownBy, IsWritten, input};
 ghost use Rattle.lvl_report.specs.Texts.{text_of, text_of_digested, text_of_shown};
-ghost use Rattle.lvl_report.specs.Writing.{is_output, shown_status, status_of};
+ghost use Rattle.lvl_report.specs.Hints.{outcome_of, shown_outcome};
+ghost use Rattle.lvl_report.specs.Writing.{is_output};
 
 use crate::fault::JobFault;
 use crate::files::Files;
-use crate::said::say;
+use crate::said::{say, say_hint};
 use lvl::Tops;
 use lvl_ignore::Ignore;
 use lvl_io::{Read, Write};
 use lvl_line::Job;
 use lvl_refusal::Refusal;
-use lvl_report::{RunFault, Status, run_by, run_digest, run_show_by, run_view_by};
+use lvl_report::{Outcome, RunFault, run_by, run_digest, run_show_by, run_view_by};
 use lvl_view::View;
 use std::alloc::Global;
 
@@ -100,14 +101,14 @@ fn run_under<A: Read, B: Read, O: Write>(
     view: Option<&View>,
     ignore: Ignore,
     out: &mut O,
-) -> Result<Status, RunFault>
+) -> Result<Outcome, RunFault>
     ensures written { IfOk result (IsWritten
         (IsComparedUnder (option_map (λ v. v.now) view.entry)
         (input ignore (A.remaining first.old) (A.remaining first.new)
         (A.read_errors first.old) (A.read_errors first.new) (given_name tops.now.first))
         (input ignore (B.remaining second.old) (B.remaining second.new)
         (B.read_errors second.old) (B.read_errors second.new) (given_name tops.now.second)))
-        text_of status_of (O.contents out.old) (O.contents out.new)) }
+        text_of (outcome_of ignore) (O.contents out.old) (O.contents out.new)) }
     ensures begun { OnErr result (IsBegun
         (IsComparedUnder (option_map (λ v. v.now) view.entry)
         (input ignore (A.remaining first.old) (A.remaining first.new)
@@ -133,7 +134,7 @@ fn compare<F: Files, O: Write>(
     ignore: Ignore,
     files: &mut F,
     out: &mut O,
-) -> Result<Status, JobFault>
+) -> Result<Outcome, JobFault>
     ensures answered { IfOk result (IsPairAnswered F.opens (option_map (λ v. v.now) view.entry)
         (record { ignore = ignore; name = string_bytes names.0; top = given_name tops.now.first })
         (record { ignore = ignore; name = string_bytes names.1; top = given_name tops.now.second })
@@ -147,7 +148,7 @@ fn compare<F: Files, O: Write>(
     let mut first = open(files, names.0)?;
     let mut second = open(files, names.1)?;
     match run_under(alloc, &mut first, &mut second, tops, view, ignore, out) {
-        Ok(status) => Ok(status),
+        Ok(outcome) => Ok(outcome),
         Err(fault) => Err(fault_of(fault)),
     }
 }
@@ -160,8 +161,8 @@ fn show<F: Files, O: Write>(
     ignore: Ignore,
     files: &mut F,
     out: &mut O,
-) -> Result<Status, JobFault>
-    ensures answered { IfOk result (IsOneAnswered F.opens IsShownBy text_of_shown shown_status
+) -> Result<Outcome, JobFault>
+    ensures answered { IfOk result (IsOneAnswered F.opens IsShownBy text_of_shown (shown_outcome ignore)
         (record { ignore = ignore; name = string_bytes name; top = option_copied top.entry })
         files.old files.new (O.contents out.old) (O.contents out.new)) }
     ensures fault { IfErr result (IsOneFault F.opens IsShownBy text_of_shown
@@ -171,7 +172,7 @@ fn show<F: Files, O: Write>(
 {
     let mut file = open(files, name)?;
     match run_show_by(alloc, &mut file, top, ignore, out) {
-        Ok(status) => Ok(status),
+        Ok(outcome) => Ok(outcome),
         Err(fault) => Err(fault_of(fault)),
     }
 }
@@ -184,8 +185,8 @@ fn digest<F: Files, O: Write>(
     ignore: Ignore,
     files: &mut F,
     out: &mut O,
-) -> Result<Status, JobFault>
-    ensures answered { IfOk result (IsOneAnswered F.opens IsDigestedBy text_of_digested shown_status
+) -> Result<Outcome, JobFault>
+    ensures answered { IfOk result (IsOneAnswered F.opens IsDigestedBy text_of_digested (shown_outcome ignore)
         (record { ignore = ignore; name = string_bytes name; top = option_copied top.entry })
         files.old files.new (O.contents out.old) (O.contents out.new)) }
     ensures fault { IfErr result (IsOneFault F.opens IsDigestedBy text_of_digested
@@ -195,7 +196,7 @@ fn digest<F: Files, O: Write>(
 {
     let mut file = open(files, name)?;
     match run_digest(alloc, &mut file, top, ignore, out) {
-        Ok(status) => Ok(status),
+        Ok(outcome) => Ok(outcome),
         Err(fault) => Err(fault_of(fault)),
     }
 }
@@ -206,7 +207,7 @@ fn perform<F: Files, O: Write>(
     job: Job,
     files: &mut F,
     out: &mut O,
-) -> Result<Status, JobFault>
+) -> Result<Outcome, JobFault>
     ensures answered { IfOk result
         (IsAnswered F.opens job files.old files.new (O.contents out.old) (O.contents out.new)) }
     ensures fault { IfErr result
@@ -253,7 +254,8 @@ fn perform<F: Files, O: Write>(
 }
 
 /// Does a job: reads its view and what is ignored, opens its files by `files`, the first before the
-/// second, and writes its answer to `out`. Where there is no answer, it writes why to `err`, on one line.
+/// second, and writes its answer to `out`. Where there is no answer, it writes why to `err`, on one line;
+/// where the answer is a refusal that something would mend, what that is.
 ///
 /// The answer is what [`run_by`], [`run_view_by`], [`run_show_by`] or [`run_digest`] may write of these
 /// files.
@@ -263,7 +265,7 @@ pub fn do_job<F: Files, O: Write, E: Write>(
     files: &mut F,
     out: &mut O,
     err: &mut E,
-) -> Result<Status, JobFault>
+) -> Result<Outcome, JobFault>
     ensures answered { IfOk result
         (IsAnswered F.opens job files.old files.new (O.contents out.old) (O.contents out.new)) }
     ensures fault { IfErr result
@@ -273,18 +275,19 @@ pub fn do_job<F: Files, O: Write, E: Write>(
         (E.write_errors err.old) (E.write_errors err.new) }
 {
     let ended = perform(alloc, job, files, out);
-    if let Err(fault) = &ended {
-        say(err, fault);
+    match &ended {
+        Ok(outcome) => say_hint(err, outcome.hint),
+        Err(fault) => say(err, fault),
     }
     ended
 }
 
 /// The exit status of a job that ended so.
-pub fn code_of(ended: &Result<Status, JobFault>) -> u8
+pub fn code_of(ended: &Result<Outcome, JobFault>) -> u8
     ensures { result ≡ end_code ended.now }
 {
     match ended {
-        Ok(status) => status.code(),
+        Ok(outcome) => outcome.status.code(),
         Err(fault) => fault.code(),
     }
 }

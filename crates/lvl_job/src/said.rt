@@ -2,13 +2,15 @@
 ghost use Rattle.std.specs.Prelude.{◌≡◌, ◌++◌, OnOk, OnErr};
 ghost use Rattle.std.specs.Io.KnownBytes.{Appends};
 ghost use Rattle.lvl_io.specs.Bytes.{CountsFailure, failed};
-ghost use Rattle.lvl_job.specs.Ends.{IsSaid, fault_text};
+ghost use Rattle.lvl_job.specs.Ends.{IsSaid, fault_text, hint_text, ignore_words, said_of, top_option};
 ghost use Rattle.lvl_report.specs.Texts.{line};
 ghost use Rattle.lvl_report.specs.Writing.{AppendsBeginning};
 
 use crate::fault::JobFault;
+use lvl_ignore::Ignore;
 use lvl_io::{Failure, Write};
-use lvl_report::{ignore_fault, view_fault};
+use lvl_region::Side;
+use lvl_report::{Hint, ignore_fault, view_fault};
 
 /// Writes all of the text. An error of any kind, or a write that took nothing of some bytes, ends
 /// the work, and what went out is a beginning of the text.
@@ -67,4 +69,78 @@ pub(crate) fn say<E: Write>(err: &mut E, fault: &JobFault)
 {
     let (why, what) = words_of(fault);
     let _ = write_line(err, why, what);
+}
+
+/// What is ignored, as words joined by commas.
+fn ignore_words(ignore: Ignore) -> &'static str
+    ensures { result.now ≡ ignore_words ignore }
+{
+    let Ignore {
+        properties,
+        texts,
+        names,
+        padding,
+    } = ignore;
+    match (properties, texts, names, padding) {
+        (false, false, false, false) => "",
+        (false, false, false, true) => "padding",
+        (false, false, true, false) => "names",
+        (false, false, true, true) => "names,padding",
+        (false, true, false, false) => "texts",
+        (false, true, false, true) => "texts,padding",
+        (false, true, true, false) => "texts,names",
+        (false, true, true, true) => "texts,names,padding",
+        (true, false, false, false) => "properties",
+        (true, false, false, true) => "properties,padding",
+        (true, false, true, false) => "properties,names",
+        (true, false, true, true) => "properties,names,padding",
+        (true, true, false, false) => "properties,texts",
+        (true, true, false, true) => "properties,texts,padding",
+        (true, true, true, false) => "properties,texts,names",
+        (true, true, true, true) => "properties,texts,names,padding",
+    }
+}
+
+/// The option that names the top of one of two files.
+fn top_option(side: Side) -> &'static str
+    ensures { result.now ≡ top_option side }
+{
+    match side {
+        Side::First => "--top-a",
+        Side::Second => "--top-b",
+    }
+}
+
+/// The text of a hint in two parts.
+fn words_of_hint(hint: Hint) -> (&'static str, &'static str)
+    ensures { hint_text hint ≡ line (result.0.now ++ result.1.now) }
+{
+    match hint {
+        Hint::IgnoreMore(more) => ("lvl: try --ignore ", ignore_words(more)),
+        Hint::Unpack => (
+            "lvl: neither GDSII nor OASIS: ",
+            "if the file is compressed (gzip), unpack it first",
+        ),
+        Hint::WithoutBlocks => (
+            "lvl: a compressed block: ",
+            "write the file without CBLOCK compression",
+        ),
+        Hint::NameTop => ("lvl: several cells could be the top: name one by ", "--top"),
+        Hint::NameTopOf(side) => (
+            "lvl: several cells could be the top: name one by ",
+            top_option(side),
+        ),
+    }
+}
+
+/// Writes what would mend a refusal, on one line, if there is something. Where that fails there is nothing
+/// left to say.
+pub(crate) fn say_hint<E: Write>(err: &mut E, hint: Option<Hint>)
+    ensures { IsSaid (said_of hint) (E.contents err.old) (E.contents err.new)
+        (E.write_errors err.old) (E.write_errors err.new) }
+{
+    if let Some(hint) = hint {
+        let (why, what) = words_of_hint(hint);
+        let _ = write_line(err, why, what);
+    }
 }

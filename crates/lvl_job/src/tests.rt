@@ -1,7 +1,7 @@
 //! Jobs over files that are held in memory.
 ghost use Rattle.std.specs.Prelude.{◌≡◌};
 
-use crate::tests::files::{SQUARE, TAGGED, TWO};
+use crate::tests::files::{BLOCK, LABEL, PACKED, SQUARE, TAGGED, TWO};
 use crate::{Files, code_of, do_job, do_line};
 use lvl_io::Failure;
 use lvl_io::fake::{Pieces, Sink};
@@ -23,7 +23,7 @@ fn pieces(bytes: &'static [u8]) -> Pieces<'static>
     }
 }
 
-/// The files `square`, `two` and `tagged`, and how many times one was asked for.
+/// The files `square`, `two`, `tagged`, `packed`, `block` and `label`, and how many times one was asked for.
 #[derive(Drop)]
 struct Held {
     asked: u8,
@@ -40,6 +40,9 @@ impl Files for Held {
             "square" => Ok(pieces(SQUARE)),
             "two" => Ok(pieces(TWO)),
             "tagged" => Ok(pieces(TAGGED)),
+            "packed" => Ok(pieces(PACKED)),
+            "block" => Ok(pieces(BLOCK)),
+            "label" => Ok(pieces(LABEL)),
             _ => Err(Failure),
         }
     }
@@ -94,11 +97,17 @@ const UNREAD_FIRST: &str = "refused: first: gds 11 Unsupported 43 at 154\n";
 /// The same of the second file.
 const UNREAD_SECOND: &str = "refused: second: gds 11 Unsupported 43 at 154\n";
 
+/// What is said of both.
+const TRY_PROPERTIES: &str = "lvl: try --ignore properties\n";
+
+/// What is said of several cells that could be the top of the only file.
+const NAME_TOP: &str = "lvl: several cells could be the top: name one by --top\n";
+
 /// What is said of a bad word.
 const BAD_IGNORE: &str = "lvl: bad ignore 1 IgnoreText\n";
 
 /// A job, how many files are asked for, the last line of what it writes, what it says, and its status.
-static ROWS: [(&str, u8, &str, &str, u8); 28] = [
+static ROWS: [(&str, u8, &str, &str, u8); 33] = [
     ("square square - - - - -", 2, "same\n", "", 0),
     ("square two - A - - -", 2, "same\n", "", 0),
     (
@@ -130,13 +139,54 @@ static ROWS: [(&str, u8, &str, &str, u8); 28] = [
         0,
     ),
     ("two B -", 1, "layer 2 datatype 0 rings 1\n", "", 0),
-    ("two - -", 1, "refused: first: cells 6 ManyTops\n", "", 2),
+    (
+        "two - -",
+        1,
+        "refused: first: cells 6 ManyTops\n",
+        NAME_TOP,
+        2,
+    ),
+    (
+        "square two - - - - -",
+        2,
+        "refused: second: cells 6 ManyTops\n",
+        "lvl: several cells could be the top: name one by --top-b\n",
+        2,
+    ),
+    (
+        "two square - - - - all",
+        2,
+        "refused: first: cells 6 ManyTops\n",
+        "lvl: several cells could be the top: name one by --top-a\n",
+        2,
+    ),
+    (
+        "packed - -",
+        1,
+        "refused: first: gds 2 BadLength at 0\n",
+        "lvl: neither GDSII nor OASIS: if the file is compressed (gzip), unpack it first\n",
+        2,
+    ),
+    (
+        "block - padding",
+        1,
+        "refused: first: oasis 24 Unsupported 34 at 36\n",
+        "lvl: a compressed block: write the file without CBLOCK compression\n",
+        2,
+    ),
+    (
+        "label - padding",
+        1,
+        "refused: first: oasis 24 Unsupported 19 at 36\n",
+        "lvl: try --ignore texts,padding\n",
+        2,
+    ),
     ("digest square - -", 1, SQUARE_DIGEST, "", 0),
     (
         "digest two - -",
         1,
         "refused: first: cells 6 ManyTops\n",
-        "",
+        NAME_TOP,
         2,
     ),
     ("digest none - -", 1, "", "lvl: cannot open none\n", 2),
@@ -151,12 +201,18 @@ static ROWS: [(&str, u8, &str, &str, u8); 28] = [
     ),
     ("square tagged - - - - properties", 2, "same\n", "", 0),
     ("tagged square - - - - all", 2, "same\n", "", 0),
-    ("square tagged - - - - -", 2, UNREAD_SECOND, "", 2),
+    (
+        "square tagged - - - - -",
+        2,
+        UNREAD_SECOND,
+        TRY_PROPERTIES,
+        2,
+    ),
     (
         "tagged tagged - - - - texts,names,padding",
         2,
         UNREAD_FIRST,
-        "",
+        "lvl: try --ignore properties,texts,names,padding\n",
         2,
     ),
     (
@@ -173,9 +229,15 @@ static ROWS: [(&str, u8, &str, &str, u8); 28] = [
         "",
         0,
     ),
-    ("tagged - names", 1, UNREAD_FIRST, "", 2),
+    (
+        "tagged - names",
+        1,
+        UNREAD_FIRST,
+        "lvl: try --ignore properties,names\n",
+        2,
+    ),
     ("digest tagged - all", 1, SQUARE_DIGEST, "", 0),
-    ("digest tagged - -", 1, UNREAD_FIRST, "", 2),
+    ("digest tagged - -", 1, UNREAD_FIRST, TRY_PROPERTIES, 2),
     ("none two - - - - property", 0, "", BAD_IGNORE, 3),
     ("square square - - - - all,", 0, "", BAD_IGNORE, 3),
     (

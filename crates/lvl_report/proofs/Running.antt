@@ -1,7 +1,7 @@
 -- What a run wrote, from what it had to say.
-use Rattle.std.proofs.Common.{◌≡◌, ℕ, List, Option, Result, Ok, Err, IfOk, OnOk, OnErr}
+use Rattle.std.proofs.Common.{◌≡◌, ◌∙◌, ℕ, List, Option, Result, Ok, Err, IfOk, OnOk, OnErr, refl, ap}
 use Rattle.std.specs.Io.KnownBytes.{Appends}
-use Rattle.lvl_report.specs.declared.status.Status.{Status}
+use Rattle.lvl_ignore.specs.declared.ignore.Ignore.{Ignore}
 use Rattle.lvl_report.specs.declared.status.RunFault.{RunFault}
 use Rattle.lvl_view.specs.Views.{IsWhole, PlainView}
 use Rattle.lvl.specs.Answers.{IsCompared}
@@ -11,22 +11,23 @@ use Rattle.lvl.specs.declared.verdict.Comparison.{Comparison}
 use Rattle.lvl.specs.declared.verdict.Refusal.{Refusal}
 use Rattle.lvl.proofs.Viewing.{whole_verdict}
 use Rattle.lvl_report.specs.Runs.{Input, IsComparedBy, IsViewedBy, IsWritten, IsBegun}
-use Rattle.lvl_report.specs.Writing.{AppendsBeginning}
+use Rattle.lvl_report.specs.Hints.{outcome_of, shown_outcome}
+use Rattle.lvl_report.specs.Writing.{AppendsBeginning, status_of, shown_status}
 
-pub was_written : {X : Type 0} (Allowed : X → Type 0) (text : X → List ℕ) (status : X → Status)
-    (old new : Option (List ℕ)) (answer : X) (r : Result Status RunFault) → Allowed answer
-    → OnOk r (Appends old new (text answer)) → IfOk r (λ told. told ≡ status answer)
-    → IfOk r (IsWritten Allowed text status old new)
-was_written Allowed text status old new answer (Ok told) allowed whole is = record {
+pub was_written : {X T : Type 0} (Allowed : X → Type 0) (text : X → List ℕ) (end_of : X → T)
+    (old new : Option (List ℕ)) (answer : X) (r : Result T RunFault) → Allowed answer
+    → OnOk r (Appends old new (text answer)) → IfOk r (λ ended. ended ≡ end_of answer)
+    → IfOk r (IsWritten Allowed text end_of old new)
+was_written Allowed text end_of old new answer (Ok ended) allowed whole is = record {
   answer = answer;
   allowed = allowed;
   whole = whole;
-  status_is = is;
+  ends = is;
 }
-was_written Allowed text status old new answer (Err fault) allowed whole is = tt
+was_written Allowed text end_of old new answer (Err fault) allowed whole is = tt
 
-pub was_begun : {X : Type 0} (Allowed : X → Type 0) (text : X → List ℕ) (old new : Option (List ℕ)) (answer : X)
-    (r : Result Status RunFault) → Allowed answer
+pub was_begun : {X T : Type 0} (Allowed : X → Type 0) (text : X → List ℕ) (old new : Option (List ℕ)) (answer : X)
+    (r : Result T RunFault) → Allowed answer
     → OnErr r (AppendsBeginning old new (text answer)) → OnErr r (IsBegun Allowed text old new)
 was_begun Allowed text old new answer (Ok told) allowed begun = tt
 was_begun Allowed text old new answer (Err fault) allowed begun = record {
@@ -36,19 +37,19 @@ was_begun Allowed text old new answer (Err fault) allowed begun = record {
 }
 
 -- what is written of the answers that one set allows is written of those that a larger one does
-pub written_as : {X : Type 0} {Allowed Others : X → Type 0} (text : X → List ℕ) (status : X → Status)
-    (old new : Option (List ℕ)) (r : Result Status RunFault) → ((answer : X) → Allowed answer → Others answer)
-    → IfOk r (IsWritten Allowed text status old new) → IfOk r (IsWritten Others text status old new)
-written_as text status old new (Ok told) also w = record {
+pub written_as : {X T : Type 0} {Allowed Others : X → Type 0} (text : X → List ℕ) (end_of : X → T)
+    (old new : Option (List ℕ)) (r : Result T RunFault) → ((answer : X) → Allowed answer → Others answer)
+    → IfOk r (IsWritten Allowed text end_of old new) → IfOk r (IsWritten Others text end_of old new)
+written_as text end_of old new (Ok ended) also w = record {
   answer = w.answer;
   allowed = also w.answer w.allowed;
   whole = w.whole;
-  status_is = w.status_is;
+  ends = w.ends;
 }
-written_as text status old new (Err fault) also w = tt
+written_as text end_of old new (Err fault) also w = tt
 
-pub begun_as : {X : Type 0} {Allowed Others : X → Type 0} (text : X → List ℕ) (old new : Option (List ℕ))
-    (r : Result Status RunFault) → ((answer : X) → Allowed answer → Others answer)
+pub begun_as : {X T : Type 0} {Allowed Others : X → Type 0} (text : X → List ℕ) (old new : Option (List ℕ))
+    (r : Result T RunFault) → ((answer : X) → Allowed answer → Others answer)
     → OnErr r (IsBegun Allowed text old new) → OnErr r (IsBegun Others text old new)
 begun_as text old new (Ok told) also b = tt
 begun_as text old new (Err fault) also b = record {
@@ -56,6 +57,27 @@ begun_as text old new (Err fault) also b = record {
   allowed = also b.answer b.allowed;
   begun = b.begun;
 }
+
+-- what a run gives that gives a part of how another ends
+pub ends_as : {X T U : Type 0} {Allowed : X → Type 0} (text : X → List ℕ) (end_of : X → T) (part : T → U) (then_of : X → U)
+    (old new : Option (List ℕ)) → ((answer : X) → part (end_of answer) ≡ then_of answer) → (ended : T)
+    → IsWritten Allowed text end_of old new ended → IsWritten Allowed text then_of old new (part ended)
+ends_as text end_of part then_of old new is ended w = record {
+  answer = w.answer;
+  allowed = w.allowed;
+  whole = w.whole;
+  ends = ap part w.ends ∙ is w.answer;
+}
+
+pub status_is : (ignore : Ignore) (answer : Result Comparison Refusal)
+    → (outcome_of ignore answer).status ≡ status_of answer
+status_is ignore (Ok comparison) = refl
+status_is ignore (Err refusal) = refl
+
+pub shown_status_is : {X : Type 0} (ignore : Ignore) (answer : Result X Refusal)
+    → (shown_outcome ignore answer).status ≡ shown_status answer
+shown_status_is ignore (Ok x) = refl
+shown_status_is ignore (Err refusal) = refl
 
 whole_said : (view : PlainView) → IsWhole view → (a b : File) (answer : Result Comparison Refusal)
     → IfOk answer (IsComparedIn view a b) → IfOk answer (IsCompared a b)

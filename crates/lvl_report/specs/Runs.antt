@@ -7,7 +7,6 @@ use Rattle.lvl_region.specs.declared.region.Side.TheVariants.{First, Second}
 use Rattle.lvl.specs.Digested.{IsDigestedFile}
 use Rattle.lvl.specs.declared.digested.Digested.{Digested}
 use Rattle.lvl.specs.declared.shown.Shown.{Shown}
-use Rattle.lvl_report.specs.declared.status.Status.{Status}
 use Rattle.lvl.specs.declared.verdict.Comparison.{Comparison}
 use Rattle.lvl.specs.declared.verdict.Refusal.{Refusal}
 use Rattle.lvl.specs.Sides.{file_named}
@@ -18,8 +17,8 @@ use Rattle.lvl.specs.Answers.{IsCompared, IsEarlyOf, IsHopeless, IsRefusalOf, is
 use Rattle.lvl.specs.Shown.{IsShownFile, IsOfFirst}
 use Rattle.lvl_report.specs.Writing.{AppendsBeginning}
 
--- a reader in a run: which of its records are ignored, the bytes that it had and those that are left, where they are known, its errors before and after,
--- and the name of the top
+-- a reader in a run: which of its records are ignored, the bytes that it had and those that are left, where they are
+-- known, its errors before and after, and the name of the top
 pub record Input : Type 0 where
   pub ignore : Ignore
   pub bytes : Option (List ℕ)
@@ -68,13 +67,13 @@ IsShownBy = IsFoundBy IsShownFile
 abbrev pub IsDigestedBy : Input → Result Digested Refusal → Type 0
 IsDigestedBy = IsFoundBy IsDigestedFile
 
--- the text of such an answer was written, and nothing else; the status is that of the answer
-pub record IsWritten {X : Type 0} (Allowed : X → Type 0) (text : X → List ℕ) (status : X → Status)
-    (old new : Option (List ℕ)) (told : Status) : Type 0 where
+-- the text of such an answer was written, and nothing else; what the run gives is that of the answer
+pub record IsWritten {X T : Type 0} (Allowed : X → Type 0) (text : X → List ℕ) (end_of : X → T)
+    (old new : Option (List ℕ)) (ended : T) : Type 0 where
   pub answer : X
   pub allowed : Allowed answer
   pub whole : Appends old new (text answer)
-  pub status_is : told ≡ status answer
+  pub ends : ended ≡ end_of answer
 
 -- a beginning of the text of such an answer was written, perhaps nothing or all of it
 pub record IsBegun {X : Type 0} (Allowed : X → Type 0) (text : X → List ℕ) (old new : Option (List ℕ)) : Type 0 where

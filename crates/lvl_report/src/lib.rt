@@ -2,7 +2,8 @@
 //!
 //! [`run`] compares two files, [`run_view`] compares them under a view, [`run_show`] shows one, and
 //! [`run_digest`] gives the digest of one; each forms the text of the answer whole, writes it, and gives
-//! its [`Status`], by which the program exits. Each format has a module of its own for what its files say
+//! its [`Status`], by which the program exits; with a set of what is ignored, an [`Outcome`], which also has
+//! a [`Hint`] where something would mend a refusal. Each format has a module of its own for what its files say
 //! of themselves and why they are refused. [`form`], [`form_shown`] and [`form_digest`] give the text alone.
 //!
 //! `bytes` is a file that draws one square:
@@ -17,6 +18,8 @@
 
 pub use digest::form_digest;
 pub use faults::{ignore_fault, view_fault};
+pub use hint::Hint;
+pub use outcome::Outcome;
 pub use runs::{run, run_by, run_digest, run_show, run_show_by, run_view, run_view_by};
 pub use status::{RunFault, Status};
 pub use text::{form, form_shown};
@@ -24,7 +27,9 @@ pub use text::{form, form_shown};
 mod digest;
 mod faults;
 mod gds;
+mod hint;
 mod oasis;
+mod outcome;
 mod output;
 mod runs;
 mod status;

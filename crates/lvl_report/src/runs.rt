@@ -6,8 +6,10 @@ ghost use Rattle.lvl_report.specs.Runs.{IsComparedBy, IsDigestedBy, IsShownBy, I
 ghost use Rattle.lvl.specs.Sides.{given_name};
 ghost use Rattle.lvl_ignore.specs.Ignored.{nothing};
 ghost use Rattle.lvl_report.specs.Texts.{text_of, text_of_digested, text_of_shown};
+ghost use Rattle.lvl_report.specs.Hints.{outcome_of, shown_outcome};
 ghost use Rattle.lvl_report.specs.Writing.{status_of, shown_status, is_output};
 
+use crate::outcome::Outcome;
 use crate::status::{RunFault, Status};
 use crate::tell::{tell, tell_digest, tell_shown};
 use lvl::{Tops, compare_files, digest_file, show_file};
@@ -44,7 +46,8 @@ pub fn run<A: Read, B: Read, W: Write>(
     ensures errors { CountsFailure (W.write_errors out.old) (W.write_errors out.new) (is_output result) }
     ensures same { W.lent out.new ≡ W.lent out.old }
 {
-    run_by(alloc, first, second, tops, Ignore::NOTHING, out)
+    let outcome = run_by(alloc, first, second, tops, Ignore::NOTHING, out)?;
+    Ok(outcome.status)
 }
 
 /// Compares two files where some of their records are ignored, and writes the answer as [`run`] does.
@@ -58,13 +61,13 @@ pub fn run_by<A: Read, B: Read, W: Write>(
     tops: &Tops,
     ignore: Ignore,
     out: &mut W,
-) -> Result<Status, RunFault>
+) -> Result<Outcome, RunFault>
     ensures written { IfOk result (IsWritten
         (IsComparedBy (input ignore (A.remaining first.old) (A.remaining first.new)
         (A.read_errors first.old) (A.read_errors first.new) (given_name tops.now.first))
         (input ignore (B.remaining second.old) (B.remaining second.new)
         (B.read_errors second.old) (B.read_errors second.new) (given_name tops.now.second)))
-        text_of status_of (W.contents out.old) (W.contents out.new)) }
+        text_of (outcome_of ignore) (W.contents out.old) (W.contents out.new)) }
     ensures begun { OnErr result (IsBegun
         (IsComparedBy (input ignore (A.remaining first.old) (A.remaining first.new)
         (A.read_errors first.old) (A.read_errors first.new) (given_name tops.now.first))
@@ -106,7 +109,8 @@ pub fn run_view<A: Read, B: Read, W: Write>(
     ensures errors { CountsFailure (W.write_errors out.old) (W.write_errors out.new) (is_output result) }
     ensures same { W.lent out.new ≡ W.lent out.old }
 {
-    run_view_by(alloc, first, second, tops, view, Ignore::NOTHING, out)
+    let outcome = run_view_by(alloc, first, second, tops, view, Ignore::NOTHING, out)?;
+    Ok(outcome.status)
 }
 
 /// Compares two files under a view where some of their records are ignored, and writes the answer as
@@ -121,13 +125,13 @@ pub fn run_view_by<A: Read, B: Read, W: Write>(
     view: &View,
     ignore: Ignore,
     out: &mut W,
-) -> Result<Status, RunFault>
+) -> Result<Outcome, RunFault>
     ensures written { IfOk result (IsWritten
         (IsViewedBy view.now (input ignore (A.remaining first.old) (A.remaining first.new)
         (A.read_errors first.old) (A.read_errors first.new) (given_name tops.now.first))
         (input ignore (B.remaining second.old) (B.remaining second.new)
         (B.read_errors second.old) (B.read_errors second.new) (given_name tops.now.second)))
-        text_of status_of (W.contents out.old) (W.contents out.new)) }
+        text_of (outcome_of ignore) (W.contents out.old) (W.contents out.new)) }
     ensures begun { OnErr result (IsBegun
         (IsViewedBy view.now (input ignore (A.remaining first.old) (A.remaining first.new)
         (A.read_errors first.old) (A.read_errors first.new) (given_name tops.now.first))
@@ -139,7 +143,7 @@ pub fn run_view_by<A: Read, B: Read, W: Write>(
     ensures same { W.lent out.new ≡ W.lent out.old }
 {
     let answer = compare_files(alloc, first, second, tops, view, ignore);
-    tell(alloc, &answer, out)
+    tell(alloc, ignore, &answer, out)
 }
 
 /// Shows a file: writes what it says of itself, its top, how many cells it has, and for each Layer,
@@ -164,7 +168,8 @@ pub fn run_show<R: Read, W: Write>(
     ensures errors { CountsFailure (W.write_errors out.old) (W.write_errors out.new) (is_output result) }
     ensures same { W.lent out.new ≡ W.lent out.old }
 {
-    run_show_by(alloc, reader, top, Ignore::NOTHING, out)
+    let outcome = run_show_by(alloc, reader, top, Ignore::NOTHING, out)?;
+    Ok(outcome.status)
 }
 
 /// Shows a file where some of its records are ignored, and writes the answer as [`run_show`] does.
@@ -176,11 +181,11 @@ pub fn run_show_by<R: Read, W: Write>(
     top: Option<&[u8]>,
     ignore: Ignore,
     out: &mut W,
-) -> Result<Status, RunFault>
+) -> Result<Outcome, RunFault>
     ensures written { IfOk result (IsWritten
         (IsShownBy (input ignore (R.remaining reader.old) (R.remaining reader.new)
         (R.read_errors reader.old) (R.read_errors reader.new) (option_copied top.entry)))
-        text_of_shown shown_status (W.contents out.old) (W.contents out.new)) }
+        text_of_shown (shown_outcome ignore) (W.contents out.old) (W.contents out.new)) }
     ensures begun { OnErr result (IsBegun
         (IsShownBy (input ignore (R.remaining reader.old) (R.remaining reader.new)
         (R.read_errors reader.old) (R.read_errors reader.new) (option_copied top.entry)))
@@ -190,7 +195,7 @@ pub fn run_show_by<R: Read, W: Write>(
     ensures same { W.lent out.new ≡ W.lent out.old }
 {
     let answer = show_file(alloc, reader, top, ignore);
-    tell_shown(alloc, &answer, out)
+    tell_shown(alloc, ignore, &answer, out)
 }
 
 /// Writes the digest of a file: what it says of itself, its top, for each Layer on which the top covers a
@@ -204,11 +209,11 @@ pub fn run_digest<R: Read, W: Write>(
     top: Option<&[u8]>,
     ignore: Ignore,
     out: &mut W,
-) -> Result<Status, RunFault>
+) -> Result<Outcome, RunFault>
     ensures written { IfOk result (IsWritten
         (IsDigestedBy (input ignore (R.remaining reader.old) (R.remaining reader.new)
         (R.read_errors reader.old) (R.read_errors reader.new) (option_copied top.entry)))
-        text_of_digested shown_status (W.contents out.old) (W.contents out.new)) }
+        text_of_digested (shown_outcome ignore) (W.contents out.old) (W.contents out.new)) }
     ensures begun { OnErr result (IsBegun
         (IsDigestedBy (input ignore (R.remaining reader.old) (R.remaining reader.new)
         (R.read_errors reader.old) (R.read_errors reader.new) (option_copied top.entry)))
@@ -218,5 +223,5 @@ pub fn run_digest<R: Read, W: Write>(
     ensures same { W.lent out.new ≡ W.lent out.old }
 {
     let answer = digest_file(alloc, reader, top, ignore);
-    tell_digest(alloc, &answer, out)
+    tell_digest(alloc, ignore, &answer, out)
 }

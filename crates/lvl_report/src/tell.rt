@@ -1,38 +1,30 @@
-//! An answer as it is printed: its text written whole, and its status.
+//! An answer as it is printed: its text written whole, and how it ends.
 ghost use Rattle.std.specs.Prelude.{◌≡◌, OnOk, OnErr, IfOk, Err};
 ghost use Rattle.std.specs.Io.KnownBytes.{Appends, Keeps};
 ghost use Rattle.lvl_io.specs.Bytes.{CountsFailure};
 ghost use Rattle.lvl_report.specs.Texts.{text_of, text_of_digested, text_of_shown};
-ghost use Rattle.lvl_report.specs.Writing.{AppendsBeginning, status_of, shown_status, is_output};
+ghost use Rattle.lvl_report.specs.Hints.{outcome_of, shown_outcome};
+ghost use Rattle.lvl_report.specs.Writing.{AppendsBeginning, is_output};
 
 use crate::digest::form_digest;
+use crate::outcome::{Outcome, outcome_of, shown_outcome};
 use crate::output::put;
-use crate::status::{RunFault, Status};
+use crate::status::RunFault;
 use crate::text::{form, form_shown};
-use lvl::{Comparison, Digested, Refusal, Shown, Verdict};
+use lvl::{Comparison, Digested, Refusal, Shown};
+use lvl_ignore::Ignore;
 use lvl_io::Write;
 use std::alloc::Global;
 
-fn status_of(answer: &Result<Comparison, Refusal>) -> Status
-    ensures { result ≡ status_of answer.now }
-{
-    match answer {
-        Ok(comparison) => match comparison.verdict {
-            Verdict::Same => Status::Same,
-            Verdict::Differ { .. } => Status::Differ,
-        },
-        Err(_) => Status::Refused,
-    }
-}
-
-/// Writes the text of an answer, and gives its status.
+/// Writes the text of an answer where this is ignored, and gives how it ends.
 pub(crate) fn tell<W: Write>(
     alloc: Global,
+    ignore: Ignore,
     answer: &Result<Comparison, Refusal>,
     out: &mut W,
-) -> Result<Status, RunFault>
+) -> Result<Outcome, RunFault>
     ensures whole { OnOk result (Appends (W.contents out.old) (W.contents out.new) (text_of answer.now)) }
-    ensures status { IfOk result (λ status. status ≡ status_of answer.now) }
+    ensures outcome { IfOk result (λ outcome. outcome ≡ outcome_of ignore answer.now) }
     ensures begun { OnErr result (AppendsBeginning (W.contents out.old) (W.contents out.new) (text_of answer.now)) }
     ensures nothing { result ≡ Err RunFault.OutOfMemory → Keeps (W.contents out.old) (W.contents out.new) }
     ensures errors { CountsFailure (W.write_errors out.old) (W.write_errors out.new) (is_output result) }
@@ -42,17 +34,18 @@ pub(crate) fn tell<W: Write>(
         return Err(RunFault::OutOfMemory);
     };
     put(out, &text)?;
-    Ok(status_of(answer))
+    Ok(outcome_of(ignore, answer))
 }
 
-/// Writes the text of what is shown, and gives its status.
+/// Writes the text of what is shown where this is ignored, and gives how it ends.
 pub(crate) fn tell_shown<W: Write>(
     alloc: Global,
+    ignore: Ignore,
     answer: &Result<Shown, Refusal>,
     out: &mut W,
-) -> Result<Status, RunFault>
+) -> Result<Outcome, RunFault>
     ensures whole { OnOk result (Appends (W.contents out.old) (W.contents out.new) (text_of_shown answer.now)) }
-    ensures status { IfOk result (λ status. status ≡ shown_status answer.now) }
+    ensures outcome { IfOk result (λ outcome. outcome ≡ shown_outcome ignore answer.now) }
     ensures begun { OnErr result
         (AppendsBeginning (W.contents out.old) (W.contents out.new) (text_of_shown answer.now)) }
     ensures nothing { result ≡ Err RunFault.OutOfMemory → Keeps (W.contents out.old) (W.contents out.new) }
@@ -63,20 +56,18 @@ pub(crate) fn tell_shown<W: Write>(
         return Err(RunFault::OutOfMemory);
     };
     put(out, &text)?;
-    match answer {
-        Ok(_) => Ok(Status::Shown),
-        Err(_) => Ok(Status::Refused),
-    }
+    Ok(shown_outcome(ignore, answer))
 }
 
-/// Writes the text of a digest, and gives its status.
+/// Writes the text of a digest where this is ignored, and gives how it ends.
 pub(crate) fn tell_digest<W: Write>(
     alloc: Global,
+    ignore: Ignore,
     answer: &Result<Digested, Refusal>,
     out: &mut W,
-) -> Result<Status, RunFault>
+) -> Result<Outcome, RunFault>
     ensures whole { OnOk result (Appends (W.contents out.old) (W.contents out.new) (text_of_digested answer.now)) }
-    ensures status { IfOk result (λ status. status ≡ shown_status answer.now) }
+    ensures outcome { IfOk result (λ outcome. outcome ≡ shown_outcome ignore answer.now) }
     ensures begun { OnErr result
         (AppendsBeginning (W.contents out.old) (W.contents out.new) (text_of_digested answer.now)) }
     ensures nothing { result ≡ Err RunFault.OutOfMemory → Keeps (W.contents out.old) (W.contents out.new) }
@@ -87,8 +78,5 @@ pub(crate) fn tell_digest<W: Write>(
         return Err(RunFault::OutOfMemory);
     };
     put(out, &text)?;
-    match answer {
-        Ok(_) => Ok(Status::Shown),
-        Err(_) => Ok(Status::Refused),
-    }
+    Ok(shown_outcome(ignore, answer))
 }

@@ -2,7 +2,7 @@
 
 use lvl::Tops;
 use lvl_io::fake::{Pieces, Sink};
-use lvl_report::{RunFault, Status, run, run_show};
+use lvl_report::{Outcome, RunFault, Status, run, run_show};
 use std::alloc::{AllocError, Global};
 
 mod compared;
@@ -21,6 +21,11 @@ mod words;
 
 /// What was written, and how the run ended.
 type Answer = (Vec<u8>, Result<Status, RunFault>);
+
+/// The status of a run that also gives a hint.
+fn status_of(ran: Result<Outcome, RunFault>) -> Result<Status, RunFault> {
+    Ok(ran?.status)
+}
 
 /// No top named.
 fn no_tops() -> Tops {

@@ -2,12 +2,12 @@
 use Rattle.std.specs.Prelude.{◌≡◌, ⊤, ℕ, List, Option, None}
 use Rattle.std.specs.Prelude.{string_bytes}
 use Rattle.std.specs.Io.KnownBytes.{Keeps}
-use Rattle.lvl_report.specs.declared.status.Status.{Status}
+use Rattle.lvl_report.specs.declared.outcome.Outcome.{Outcome}
 use Rattle.lvl_report.specs.declared.status.RunFault.{RunFault}
 use Rattle.lvl_report.specs.declared.status.RunFault.TheVariants.{Output as RunOutput, OutOfMemory as RunOutOfMemory}
 use Rattle.lvl_report.specs.Runs.{Input, IsWritten, IsBegun}
 use Rattle.lvl_report.specs.Texts.{text_of}
-use Rattle.lvl_report.specs.Writing.{status_of}
+use Rattle.lvl_report.specs.Hints.{outcome_of}
 use Rattle.lvl_view.specs.Views.{PlainView, IsFaultOf}
 use Rattle.lvl_job.specs.declared.fault.JobFault.{JobFault}
 use Rattle.lvl_job.specs.declared.fault.JobFault.TheVariants.{BadView, BadIgnore, NotOpened, OutOfMemory, Output}
@@ -36,9 +36,10 @@ fault_of_run RunOutOfMemory = OutOfMemory
 
 -- the answer of a comparison under a view was written
 abbrev pub IsPairAnswered : {S : Type 0} → (S → List ℕ → Option (Option (List ℕ)) → S → Type 0) → Option PlainView
-    → Named → Named → S → S → Option (List ℕ) → Option (List ℕ) → Status → Type 0
-IsPairAnswered opens view a b old new from to status =
-    OfTwo opens old new a b (λ x y. IsWritten (IsComparedUnder view x y) text_of status_of from to status)
+    → Named → Named → S → S → Option (List ℕ) → Option (List ℕ) → Outcome → Type 0
+IsPairAnswered opens view a b old new from to outcome =
+    OfTwo opens old new a b
+    (λ x y. IsWritten (IsComparedUnder view x y) text_of (outcome_of a.ignore) from to outcome)
 
 -- why a comparison under a view has no answer
 abbrev pub IsPairFault : {S : Type 0} → (S → List ℕ → Option (Option (List ℕ)) → S → Type 0) → Option PlainView
@@ -53,10 +54,10 @@ IsPairFault opens view a b old new from to Output =
 
 -- the answer of a run of one file was written
 abbrev pub IsOneAnswered : {S X : Type 0} → (S → List ℕ → Option (Option (List ℕ)) → S → Type 0)
-    → (Input → X → Type 0) → (X → List ℕ) → (X → Status)
-    → Named → S → S → Option (List ℕ) → Option (List ℕ) → Status → Type 0
-IsOneAnswered opens IsAnswerOf text status a old new from to told =
-    OfOne opens old new a (λ x. IsWritten (IsAnswerOf x) text status from to told)
+    → (Input → X → Type 0) → (X → List ℕ) → (X → Outcome)
+    → Named → S → S → Option (List ℕ) → Option (List ℕ) → Outcome → Type 0
+IsOneAnswered opens IsAnswerOf text end_of a old new from to outcome =
+    OfOne opens old new a (λ x. IsWritten (IsAnswerOf x) text end_of from to outcome)
 
 -- why a run of one file has no answer
 abbrev pub IsOneFault : {S X : Type 0} → (S → List ℕ → Option (Option (List ℕ)) → S → Type 0)

@@ -25,3 +25,14 @@ pub const TWO: &[u8] = b"\
     \0\0\x04\x07\0\0\x1C\x05\x02\0\0\0\0\0\0\0\0\0\0\0\0\0\0\0\0\0\0\0\0\0\0\0\0\0\x06\x06\x06B\0\0\
     \x04\x08\0\0\x06\x0D\x02\0\x02\0\x06\x0E\x02\0\0\0\x2C\x10\x03\0\0\0\0\0\0\0\0\0\0\0\x0A\0\0\0\0\
     \0\0\0\x0A\0\0\0\x0C\0\0\0\0\0\0\0\x0C\0\0\0\0\0\0\0\0\0\x04\x11\0\0\x04\x07\0\0\x04\x04\0";
+
+/// How a gzip file begins.
+pub const PACKED: &[u8] = b"\x1F\x8B\x08\0\0\0\0\0\0\x03";
+
+/// An OASIS file with a CBLOCK in the cell T.
+pub const BLOCK: &[u8] =
+    b"%SEMI-OASIS\r\n\x01\x031.0\0\x01\0\0\0\0\0\0\0\0\0\0\0\0\0\x0E\x01T\x22\0\0\0";
+
+/// An OASIS file with a TEXT in the cell T.
+pub const LABEL: &[u8] =
+    b"%SEMI-OASIS\r\n\x01\x031.0\0\x01\0\0\0\0\0\0\0\0\0\0\0\0\0\x0E\x01T\x13\x5B\x02hi\x01\0\x0A\x0A";

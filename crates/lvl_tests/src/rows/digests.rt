@@ -3,7 +3,7 @@
 use super::compared::{PIECES, name_of};
 use super::show::lines;
 use super::words::{cut, file};
-use super::{Answer, sink};
+use super::{Answer, sink, status_of};
 use lvl_ignore::Ignore;
 use lvl_io::fake::Pieces;
 use lvl_report::{Status, run_digest};
@@ -69,7 +69,7 @@ fn digested(
     let mut out = sink(alloc, most)?;
     let mut file = Pieces::new(file, most);
     let ran = run_digest(alloc, &mut file, top, Ignore::NOTHING, &mut out);
-    Ok((out.taken, ran))
+    Ok((out.taken, status_of(ran)))
 }
 
 /// How a run ends that has written this.

@@ -2,7 +2,7 @@
 
 use super::compared::exchanged;
 use super::words::{cut, file};
-use super::{Answer, is_answer, no_tops, sink};
+use super::{Answer, is_answer, no_tops, sink, status_of};
 use lvl_ignore::Ignore;
 use lvl_io::fake::Pieces;
 use lvl_report::{Status, run_by, run_digest, run_show_by};
@@ -63,19 +63,19 @@ fn compared(
     let mut out = sink(alloc, 100)?;
     let (mut first, mut second) = (Pieces::new(first, 7), Pieces::new(second, 50));
     let ran = run_by(alloc, &mut first, &mut second, &no_tops(), ignore, &mut out);
-    Ok((out.taken, ran))
+    Ok((out.taken, status_of(ran)))
 }
 
 fn shown(alloc: Global, file: &[u8], ignore: Ignore) -> Result<Answer, AllocError> {
     let mut out = sink(alloc, 100)?;
     let ran = run_show_by(alloc, &mut Pieces::new(file, 7), None, ignore, &mut out);
-    Ok((out.taken, ran))
+    Ok((out.taken, status_of(ran)))
 }
 
 fn digested(alloc: Global, file: &[u8], ignore: Ignore) -> Result<Answer, AllocError> {
     let mut out = sink(alloc, 100)?;
     let ran = run_digest(alloc, &mut Pieces::new(file, 7), None, ignore, &mut out);
-    Ok((out.taken, ran))
+    Ok((out.taken, status_of(ran)))
 }
 
 /// Whether a file was shown or hashed with this at the end of its text.

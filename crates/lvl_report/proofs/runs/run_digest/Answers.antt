@@ -1,12 +1,12 @@
 use Rattle.lvl_report.specs.Texts.{text_of_digested}
-use Rattle.lvl_report.specs.Writing.{shown_status}
+use Rattle.lvl_report.specs.Hints.{shown_outcome}
 use Rattle.lvl_report.proofs.Running.{was_written, was_begun}
 use Rattle.lvl_report.proofs.runs.run_digest.Goals as goal
 
 pub returns-clause-written : goal.returns-clause-written
 returns-clause-written g c =
     let found = c.digest_file-answer.ensures in
-    was_written _ text_of_digested shown_status _ _ c.digest_file-answer.result c.tell_digest.result
+    was_written _ text_of_digested (shown_outcome c.args.ignore) _ _ c.digest_file-answer.result c.tell_digest.result
     (record {
       found = found.digested;
       refused = found.refused;
@@ -14,7 +14,7 @@ returns-clause-written g c =
       side = found.side;
       reads = found.reads;
     })
-    c.tell_digest.ensures.whole c.tell_digest.ensures.status
+    c.tell_digest.ensures.whole c.tell_digest.ensures.outcome
 
 pub returns-clause-begun : goal.returns-clause-begun
 returns-clause-begun g c =

@@ -1,12 +1,12 @@
 use Rattle.lvl_report.specs.Texts.{text_of}
-use Rattle.lvl_report.specs.Writing.{status_of}
+use Rattle.lvl_report.specs.Hints.{outcome_of}
 use Rattle.lvl_report.proofs.Running.{was_written, was_begun}
 use Rattle.lvl_report.proofs.runs.run_view_by.Goals as goal
 
 pub returns-clause-written : goal.returns-clause-written
 returns-clause-written g c =
     let found = c.compare_files-answer.ensures in
-    was_written _ text_of status_of _ _ c.compare_files-answer.result c.tell.result
+    was_written _ text_of (outcome_of c.args.ignore) _ _ c.compare_files-answer.result c.tell.result
     (record {
       compared = found.compared;
       first_refused = found.first_refused;
@@ -16,7 +16,7 @@ returns-clause-written g c =
       first_reads = found.first_reads;
       second_reads = found.second_reads;
     })
-    c.tell.ensures.whole c.tell.ensures.status
+    c.tell.ensures.whole c.tell.ensures.outcome
 
 pub returns-clause-begun : goal.returns-clause-begun
 returns-clause-begun g c =

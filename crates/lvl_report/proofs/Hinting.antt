@@ -1,0 +1,14 @@
+-- Sets of what is ignored, tried one after another.
+use Rattle.std.proofs.Common.{◌≡◌, ◌<◌, ◌∙◌, ℕ, ◌+◌, List, Bool, false, length, get_or, drop, ap, sym, refl}
+use Rattle.std.proofs.lemmas.List.{drop_more}
+use Rattle.lvl_ignore.specs.declared.ignore.Ignore.{Ignore}
+use Rattle.lvl.specs.declared.layout.FileFault.{FileFault}
+use Rattle.lvl_report.specs.Hints.{is_read_by, first_that_reads}
+
+-- if the file isn't read by a set, the first by which it is is among those after it
+pub passed_by : (fault : FileFault) (sets : List Ignore) (i : ℕ) (d : Ignore) (reads : Bool) → i < length sets
+    → reads ≡ is_read_by (get_or sets i d) fault → reads ≡ false
+    → first_that_reads fault (drop i sets) ≡ first_that_reads fault (drop (i + 1) sets)
+passed_by fault sets i d reads low is none =
+    let no : is_read_by (get_or sets i d) fault ≡ false = sym is ∙ none in
+    ap (first_that_reads fault) (drop_more sets i d low) ∙ rw no refl

@@ -1,0 +1,119 @@
+-- What would mend a refusal: a wider set of what is ignored, an option, or another program (own rule).
+use Rattle.std.specs.Prelude.{ℕ, ◌==◌, ◌&&◌, if◌then◌else◌, Bool, true, false, List, [], ◌∷◌, Option, Some, None}
+use Rattle.std.specs.Prelude.{Result, Ok, Err, is_ok}
+use Rattle.lvl_cells.specs.declared.fault.CellFault.{CellFault}
+use Rattle.lvl_cells.specs.declared.fault.CellFault.TheVariants.{ManyTops}
+use Rattle.lvl_ignore.specs.declared.ignore.Ignore.{Ignore}
+use Rattle.lvl_region.specs.declared.region.Side.{Side}
+use Rattle.gds_records.specs.Table.{is_ignored}
+use Rattle.gds_records.specs.declared.fault.RecordFault.{RecordFault}
+use Rattle.gds_records.specs.declared.fault.RecordFault.TheVariants.{BadLength, BadDataType, UnknownRecord}
+use Rattle.gds_elements.specs.declared.fault.Misplaced.TheVariants.{Unsupported as UnsupportedType}
+use Rattle.gds_library.specs.declared.fault.GdsKind.{GdsKind}
+use Rattle.gds_library.specs.declared.fault.GdsKind.TheVariants.{Record as GdsRecord, Misplaced}
+use Rattle.oasis_values.specs.declared.fault.ValueFault.TheVariants.{IntegerTooLarge}
+use Rattle.oasis_records.specs.Records.{record_type}
+use Rattle.oasis_records.specs.declared.fault.RecordRule.TheVariants.{Unsupported as UnsupportedId}
+use Rattle.oasis_stream.specs.declared.fault.OasisKind.{OasisKind}
+use Rattle.oasis_stream.specs.declared.fault.OasisKind.TheVariants.{Value, Record}
+use Rattle.oasis_library.specs.declared.fault.OasisFault.TheVariants.{At, Unresolved}
+use Rattle.lvl.specs.declared.layout.FileFault.{FileFault}
+use Rattle.lvl.specs.declared.layout.FileFault.TheVariants.{Gds, Oasis}
+use Rattle.lvl.specs.declared.verdict.Refusal.{Refusal}
+use Rattle.lvl.specs.declared.verdict.Refusal.TheVariants.{File, Cells, Flat, OutOfMemory}
+use Rattle.lvl.specs.declared.verdict.Comparison.{Comparison}
+use Rattle.lvl_report.specs.Writing.{verdict_status}
+use Rattle.lvl_report.specs.declared.status.Status.TheVariants.{Shown as ShownStatus, Refused}
+use Rattle.lvl_report.specs.declared.outcome.Outcome.{Outcome}
+use Rattle.lvl_report.specs.declared.hint.Hint.{Hint}
+use Rattle.lvl_report.specs.declared.hint.Hint.TheVariants.{IgnoreMore, Unpack, WithoutBlocks, NameTop, NameTopOf}
+
+-- whether what a GDSII file is refused for is read where this is ignored
+abbrev pub reads_record : Ignore → GdsKind → Bool
+reads_record ignore (Misplaced (UnsupportedType kind)) = is_ignored ignore kind
+reads_record ignore kind = false
+
+-- whether what an OASIS file is refused for is read where this is ignored
+abbrev pub reads_spelling : Ignore → OasisKind → Bool
+reads_spelling ignore (Value IntegerTooLarge) = ignore.padding
+reads_spelling ignore (Record (UnsupportedId id)) = is_ok (record_type ignore id)
+reads_spelling ignore kind = false
+
+-- whether what a file is refused for is read where this is ignored
+abbrev pub is_read_by : Ignore → FileFault → Bool
+is_read_by ignore (Gds fault) = reads_record ignore fault.kind
+is_read_by ignore (Oasis (At offset kind)) = reads_spelling ignore kind
+is_read_by ignore (Oasis (Unresolved number)) = false
+
+-- the sets with one word more, in the order of the words
+abbrev pub with_one_more : Ignore → List Ignore
+with_one_more given =
+    record given { properties = true } ∷ record given { texts = true } ∷ record given { names = true }
+    ∷ record given { padding = true } ∷ []
+
+-- the first of the sets by which the file is read on
+abbrev pub first_that_reads : FileFault → List Ignore → Option Ignore
+first_that_reads fault [] = None
+first_that_reads fault (more ∷ others) =
+    if is_read_by more fault then Some more else first_that_reads fault others
+
+-- what to ignore so that the file is read on, where that isn't ignored already
+abbrev pub to_ignore : Ignore → FileFault → Option Ignore
+to_ignore given fault =
+    if is_read_by given fault then None else first_that_reads fault (with_one_more given)
+
+-- whether the first record has no header of GDSII
+abbrev pub is_headless : RecordFault → Bool
+is_headless BadLength = true
+is_headless BadDataType = true
+is_headless UnknownRecord = true
+is_headless fault = false
+
+-- the id of a CBLOCK (SEMI P39, "CBLOCK record")
+abbrev pub cblock : ℕ
+cblock = 34
+
+-- the first record of a file of another format
+abbrev pub of_first : ℕ → GdsKind → Option Hint
+of_first offset (GdsRecord fault) = if (offset == 0) && is_headless fault then Some Unpack else None
+of_first offset kind = None
+
+-- a compressed block
+abbrev pub of_block : OasisKind → Option Hint
+of_block (Record (UnsupportedId id)) = if id == cblock then Some WithoutBlocks else None
+of_block kind = None
+
+-- what another program would mend
+abbrev pub other_program : FileFault → Option Hint
+other_program (Gds fault) = of_first fault.offset fault.kind
+other_program (Oasis (At offset kind)) = of_block kind
+other_program (Oasis (Unresolved number)) = None
+
+-- what to ignore, where there is something, else the other hint
+abbrev pub ignore_or : Option Ignore → Option Hint → Option Hint
+ignore_or (Some more) other = Some (IgnoreMore more)
+ignore_or None other = other
+
+-- what would mend the refusal of a file
+abbrev pub hint_of_file : Ignore → FileFault → Option Hint
+hint_of_file given fault = ignore_or (to_ignore given fault) (other_program fault)
+
+-- what would mend the refusal of the only file
+abbrev pub hint_of_one : Ignore → Refusal → Option Hint
+hint_of_one given (File side fault) = hint_of_file given fault
+hint_of_one given (Cells side ManyTops) = Some NameTop
+hint_of_one given refusal = None
+
+-- what would mend the refusal of one of two files
+abbrev pub hint_of_two : Ignore → Refusal → Option Hint
+hint_of_two given (Cells side ManyTops) = Some (NameTopOf side)
+hint_of_two given refusal = hint_of_one given refusal
+
+-- how an answer of two files ends, and how one of the only file does
+abbrev pub outcome_of : Ignore → Result Comparison Refusal → Outcome
+outcome_of given (Ok comparison) = record { status = verdict_status comparison.verdict; hint = None }
+outcome_of given (Err refusal) = record { status = Refused; hint = hint_of_two given refusal }
+
+abbrev pub shown_outcome : {X : Type 0} → Ignore → Result X Refusal → Outcome
+shown_outcome given (Ok x) = record { status = ShownStatus; hint = None }
+shown_outcome given (Err refusal) = record { status = Refused; hint = hint_of_one given refusal }
