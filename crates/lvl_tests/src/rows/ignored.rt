@@ -84,6 +84,13 @@ fn is_shown(answer: &Answer, end: &[u8]) -> bool {
     *ran == Ok(Status::Shown) && text.ends_with(end)
 }
 
+/// How a file is refused as the first, and as the second.
+fn refusals(alloc: Global, found: &str) -> Result<(String, String), AllocError> {
+    let first = format!(in alloc; "refused: first: {found}")?;
+    let second = exchanged(alloc, first.as_str())?;
+    Ok((first, second))
+}
+
 #[test]
 fn files_with_ignored_records(rt: HostRuntime) -> Result<(), Fail> {
     let alloc = rt.alloc();
@@ -108,8 +115,7 @@ fn files_with_ignored_records(rt: HostRuntime) -> Result<(), Fail> {
             );
             assert!(rt; is_shown(&digested, MASK), "{row}");
         } else {
-            let first = format!(in alloc; "refused: first: {found}")?;
-            let second = exchanged(alloc, first.as_str())?;
+            let (first, second) = refusals(alloc, found)?;
             assert!(rt; is_answer(&ours, first.as_str()), "{row}");
             assert!(rt; is_answer(&theirs, second.as_str()), "{row}");
             assert!(rt; is_answer(&shown, first.as_str()), "{row}");
