@@ -248,7 +248,7 @@ def judged(asked, rng, names):
     for text in texts_of(rng, asked):
         runs = runs_of(names, words, files, tops, text)
         for line, expected in runs:
-            expected = expected._replace(hint="") if not asked.hints else expected
+            expected = expected._replace(hint="") if asked.plain else expected
             answer = answered(asked.program, line)
             if not answers.agrees(expected, *answer):
                 return None, "%s\n  expected %s\n  answered %s" % (" ".join(line), expected, answer)

@@ -273,8 +273,7 @@ def main():
     asked = options.parsed(line)
     with tempfile.TemporaryDirectory(prefix="lvl-limits-") as folder:
         groups = [each for each in GROUPS + ([] if asked.plain else IGNORING) if asked.only in each.__name__]
-        hints = asked.hints
-        right = [is_right(asked.program, case, folder, hints) for group in groups for case in group()]
+        right = [is_right(asked.program, case, folder, not asked.plain) for group in groups for case in group()]
     sys.exit(0 if all(right) else 1)
 
 

@@ -14,9 +14,8 @@ def parser(text):
 
 
 def add_older(line):
-    """Options for a program that is older than --ignore, or that names a word of it in a hint."""
-    line.add_argument("--plain", action="store_true", help="the program does not know --ignore")
-    line.add_argument("--hints", action="store_true", help="the program writes a hint after a refusal that a word would mend")
+    """The option for a program that is older than --ignore and hints."""
+    line.add_argument("--plain", action="store_true", help="the program knows neither --ignore nor hints")
 
 
 def parsed(line):

@@ -36,6 +36,7 @@ OASIS = {
 }
 ALL = "properties,texts,names,padding"
 
+PACKED = "neither GDSII nor OASIS: if the file is compressed (gzip), unpack it first"
 # What is added before which record, the words of --ignore, and the answer. The offsets are by docs/FORMATS.md: in
 # square.gds BGNLIB 6, LIBNAME 34, UNITS 40, BGNSTR 60, STRNAME 88, BOUNDARY 96, LAYER 100, XY 112, ENDEL 156,
 # ENDSTR 160, ENDLIB 164; in square.oas START 13, CELL 34, RECTANGLE 39, END 47.
@@ -260,10 +261,10 @@ HINTS = [
     ("gds", "00063602 0001", "UNITS", "", "try --ignore names"),
     ("gds", "00063602 0001", "UNITS", "names", None),
     ("gds", "00041500", "ENDSTR", "", None),
-    ("gds", "1F8B0800", "HEADER", "", "gzipped: unpack the file first"),
-    ("gds", "1F8B0800", "HEADER", "all", "gzipped: unpack the file first"),
+    ("gds", "1F8B0800", "HEADER", "", PACKED),
+    ("gds", "1F8B0800", "HEADER", "all", PACKED),
     ("gds", "1F8B0800", "ENDEL", "", None),
-    ("gds", "1F8D0800", "HEADER", "", None),
+    ("gds", "1F8D0800", "HEADER", "", PACKED),
     ("gds", "00040700 001C0502" + "00" * 24 + "00060606 4100", "ENDSTR", "",
      "several cells could be the top: name one by --top"),
     ("oasis", "1D", "CELL", "", "try --ignore properties"),
@@ -357,8 +358,7 @@ def main():
     if asked.program and not os.path.exists(asked.program):
         line.error("%s is missing" % asked.program)
     newer = None if asked.plain else asked.program
-    hints = newer if asked.hints else None
-    found = [*lines(asked.program, not asked.plain), *hinted(hints), *texts(newer)]
+    found = [*lines(asked.program, not asked.plain), *hinted(newer), *texts(newer)]
     print("undrawn_check: %d of %d are right" % (sum(found), len(found)))
     return 0 if all(found) else 1
 
