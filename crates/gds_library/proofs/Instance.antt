@@ -62,23 +62,27 @@ whole_alone ignore before r w g = elim g [
 ]
 
 -- after the same records, bytes that begin alike spell the same record
-same_next : (ignore : Ignore) (before : List Rec) (r s : Rec) (a b x y : List ℕ) → Spells ignore a r → Spells ignore b s → MayFollowBy ignore before r
+same_next : (ignore : Ignore) (before : List Rec) (r s : Rec) (a b x y : List ℕ) → Spells ignore a r → Spells ignore b s
+    → MayFollowBy ignore before r
     → MayFollowBy ignore before s → a ++ x ≡ b ++ y → r ≡ s
 same_next ignore before r s a b x y p q f g e = elim p [
   | inl i ↦ elim q [
     | inl j ↦ one_record a b x y r s i.1 j.1 e
-    | inr j ↦ (let z = whole_alone ignore before r (fill_whole ignore before (subst (InOrderBy ignore before) j.0 g.0)) f.0 in
+    | inr j ↦ (let z = whole_alone ignore before r (fill_whole ignore before (subst (InOrderBy ignore before) j.0 g.0))
+        f.0 in
         absurd (omega (arith, z, i.0.known)))
   ]
   | inr i ↦ elim q [
-    | inl j ↦ (let z = whole_alone ignore before s (fill_whole ignore before (subst (InOrderBy ignore before) i.0 f.0)) g.0 in
+    | inl j ↦ (let z = whole_alone ignore before s (fill_whole ignore before (subst (InOrderBy ignore before) i.0 f.0))
+        g.0 in
         absurd (omega (arith, z, j.0.known)))
     | inr j ↦ i.0 ∙ sym j.0
   ]
 ]
 
 -- no bytes have no fault
-pub some_bytes : (ignore : Ignore) (room : ℕ) (ys : List ℕ) (f : RecordFault) → step ignore room ys ≡ Err f → 0 < length ys
+pub some_bytes : (ignore : Ignore) (room : ℕ) (ys : List ℕ) (f : RecordFault) → step ignore room ys ≡ Err f
+    → 0 < length ys
 unfolding step
 some_bytes ignore room [] f e = cc
 some_bytes ignore room (y ∷ ys) f e = omega arith
@@ -87,7 +91,8 @@ starts_some : (ignore : Ignore) (room : ℕ) (ys : List ℕ) (r : Rec) → Start
 starts_some ignore room ys r s =
     omega (arith, length_spelled s.0 r.payload r.kind r.data_type s.3, ap length s.5, length-append s.0 s.1)
 
-wrong_here : (ignore : Ignore) (before : List Rec) (room : ℕ) (ys : List ℕ) (k : GdsKind) → IsWrong ignore before room ys k → 0 < length ys
+wrong_here : (ignore : Ignore) (before : List Rec) (room : ℕ) (ys : List ℕ) (k : GdsKind)
+    → IsWrong ignore before room ys k → 0 < length ys
 wrong_here ignore before room ys (Record f) w = some_bytes ignore room ys f w.2
 wrong_here ignore before room ys AfterEnd w = omega (arith, ap length w.5)
 wrong_here ignore before room ys other w = starts_some ignore room ys w.1 w.2
@@ -99,21 +104,25 @@ starts_same ignore room ys text r s h p agree =
     let q = agree_ends text ys agree in
     one_record text h.0 q.0 (h.1 ++ q.1) s r p h.3 (q.2 ∙ ap (λ l. l ++ q.1) h.5 ∙ append_assoc h.0 h.1 q.1)
 
-stops_record : (ignore : Ignore) (before : List Rec) (room : ℕ) (ys text : List ℕ) (s : Rec) (k : GdsKind) → (IsWholeBy ignore before → ⊥)
+stops_record : (ignore : Ignore) (before : List Rec) (room : ℕ) (ys text : List ℕ) (s : Rec) (k : GdsKind)
+    → (IsWholeBy ignore before → ⊥)
     → (r : Rec) × StartsWith ignore room ys r × BreachesBy ignore before r k
     → Spells ignore text s → MayFollowBy ignore before s → Agree text ys → ⊥
 stops_record ignore before room ys text s k n w p f agree = elim p [
-  | inl i ↦ f.1 k (subst (λ (x : Rec). BreachesBy ignore before x k) (sym (starts_same ignore room ys text w.0 s w.1 i.1 agree)) w.2)
+  | inl i ↦ f.1 k (subst (λ (x : Rec). BreachesBy ignore before x k)
+      (sym (starts_same ignore room ys text w.0 s w.1 i.1 agree)) w.2)
   | inr i ↦ n (fill_whole ignore before (subst (InOrderBy ignore before) i.0 f.0))
 ]
 
 -- where a rule is breached no record may follow
-wrong_stops : (ignore : Ignore) (before : List Rec) (room : ℕ) (ys text : List ℕ) (s : Rec) (k : GdsKind) → IsWrong ignore before room ys k
+wrong_stops : (ignore : Ignore) (before : List Rec) (room : ℕ) (ys text : List ℕ) (s : Rec) (k : GdsKind)
+    → IsWrong ignore before room ys k
     → Spells ignore text s → MayFollowBy ignore before s → Agree text ys → length text ≤ room → ⊥
 wrong_stops ignore before room ys text s (Record f) w p g agree fits = elim p [
   | inl i ↦ law_malformed ignore room ys f w.2 w.0 s.kind s.data_type s.payload text i.0 i.1
       (omega (arith, fits, length_spelled text s.payload s.kind s.data_type i.1)) agree
-  | inr i ↦ (let z = w.3 (fill_whole ignore before (subst (InOrderBy ignore before) i.0 g.0)) in omega (arith, z, fits, ap length i.1))
+  | inr i ↦ (let z = w.3 (fill_whole ignore before (subst (InOrderBy ignore before) i.0 g.0)) in
+      omega (arith, z, fits, ap length i.1))
 ]
 wrong_stops ignore before room ys text s AfterEnd w p g agree fits = elim p [
   | inl i ↦ (let z = whole_alone ignore before s w.0 g.0 in omega (arith, z, i.0.known))
@@ -132,7 +141,8 @@ wrong_stops ignore before room ys text s TooManyCells w p g agree fits =
     stops_record ignore before room ys text s TooManyCells w.0 (w.1, w.2, w.3) p g agree
 
 -- no record is where bytes are cut
-cut_none : (ignore : Ignore) (ys text rest : List ℕ) (r : Rec) → IsSpelling text r.kind r.data_type r.payload → ys ≡ text ++ rest
+cut_none : (ignore : Ignore) (ys text rest : List ℕ) (r : Rec) → IsSpelling text r.kind r.data_type r.payload
+    → ys ≡ text ++ rest
     → (length ys < 4) ⊎ IsBegun ignore ys → ⊥
 cut_none ignore ys text rest r s e cut = elim cut [
   | inl l ↦ omega (arith, l, ap length e, length-append text rest, length_spelled text r.payload r.kind r.data_type s)

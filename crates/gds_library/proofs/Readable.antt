@@ -31,35 +31,44 @@ none_in_hand hand None left e h = e
 none_in_hand hand (Some ys) left e h = rw h at e
 
 -- bytes spell one library at most
-pub law_only : (ignore : Ignore) (xs : List ℕ) (cells ds : List Drawing) (h g : GdsHead) → SpellsLibrary ignore xs cells h
+pub law_only : (ignore : Ignore) (xs : List ℕ) (cells ds : List Drawing) (h g : GdsHead)
+    → SpellsLibrary ignore xs cells h
     → SpellsLibrary ignore xs ds g → (ds ≡ cells) × (g ≡ h)
 law_only ignore xs cells ds h g p q =
-    let e = one_whole (gds ignore) (is_grammar ignore) xs q.records p.records q.whole p.whole in
-    (q.cells_are ∙ ap (λ l. drawings (essential ignore l)) e ∙ sym p.cells_are, q.head_is ∙ ap (λ l. head (essential ignore l)) e ∙ sym p.head_is)
+    let e = one_whole (gds ignore) (is_grammar ignore) xs q.records p.records q.whole p.whole in (
+      q.cells_are ∙ ap (λ l. drawings (essential ignore l)) e ∙ sym p.cells_are,
+      q.head_is ∙ ap (λ l. head (essential ignore l)) e ∙ sym p.head_is,
+    )
 
 -- where there is no whole file no library is spelled
 none_spelled : (ignore : Ignore) (xs : List ℕ) → SpellsNothing (gds ignore) xs → SpellsNone ignore xs
 none_spelled ignore xs n cells h p = n p.records p.whole
 
 -- what a refusal says
-tells_at : (ignore : Ignore) (xs : List ℕ) (left : Option (List ℕ)) (at : ℕ) (k : GdsKind) → RefusesAt ignore xs left at k → TellsAt ignore xs at k
+tells_at : (ignore : Ignore) (xs : List ℕ) (left : Option (List ℕ)) (at : ℕ) (k : GdsKind)
+    → RefusesAt ignore xs left at k → TellsAt ignore xs at k
 tells_at ignore xs left at (Record Truncated) x = x
 tells_at ignore xs left at (Record Read) x = unread_front (gds ignore) xs left at x
 tells_at ignore xs left at other x = seen_stuck (gds ignore) (is_grammar ignore) xs at left other x
 
-none_at : (ignore : Ignore) (xs : List ℕ) (left : Option (List ℕ)) (at : ℕ) (k : GdsKind) → RefusesAt ignore xs left at k → (IsExcusedKind k → ⊥)
+none_at : (ignore : Ignore) (xs : List ℕ) (left : Option (List ℕ)) (at : ℕ) (k : GdsKind)
+    → RefusesAt ignore xs left at k → (IsExcusedKind k → ⊥)
     → SpellsNone ignore xs
-none_at ignore xs left at (Record Truncated) x n = none_spelled ignore xs (truncated_none (gds ignore) (is_grammar ignore) xs at x)
+none_at ignore xs left at (Record Truncated) x n = none_spelled ignore xs
+    (truncated_none (gds ignore) (is_grammar ignore) xs at x)
 none_at ignore xs left at (Record Read) x n = absurd (n tt)
-none_at ignore xs left at other x n = none_spelled ignore xs (stuck_none (gds ignore) xs at (seen_stuck (gds ignore) (is_grammar ignore) xs at left other x).0)
+none_at ignore xs left at other x n = none_spelled ignore xs
+    (stuck_none (gds ignore) xs at (seen_stuck (gds ignore) (is_grammar ignore) xs at left other x).0)
 
-early_at : (ignore : Ignore) (xs : List ℕ) (left : Option (List ℕ)) (at : ℕ) (k : GdsKind) → RefusesAt ignore xs left at k → IsEarlyKind k
+early_at : (ignore : Ignore) (xs : List ℕ) (left : Option (List ℕ)) (at : ℕ) (k : GdsKind)
+    → RefusesAt ignore xs left at k → IsEarlyKind k
     → IsHopeless (gds ignore) xs left
 early_at ignore xs left at (Record Truncated) x i = absurd i
 early_at ignore xs left at (Record Read) x i = absurd i
 early_at ignore xs left at other x i = seen_hopeless (gds ignore) (is_grammar ignore) xs at left other x
 
-unread_at : (ignore : Ignore) (xs : List ℕ) (left : Option (List ℕ)) (at : ℕ) (k : GdsKind) → RefusesAt ignore xs left at k → IsExcusedKind k
+unread_at : (ignore : Ignore) (xs : List ℕ) (left : Option (List ℕ)) (at : ℕ) (k : GdsKind)
+    → RefusesAt ignore xs left at k → IsExcusedKind k
     → IsUnread (gds ignore) xs left at
 unread_at ignore xs left at (Record Read) x e = x
 unread_at ignore xs left at other x e = absurd e
@@ -72,32 +81,45 @@ refused ignore xs left P h (Ok x) s = tt
 refused ignore xs left P h (Err (Breach f)) s = h f s
 refused ignore xs left P h (Err OutOfMemory) s = tt
 
-pub refused_tells : (ignore : Ignore) {A : Type 0} (xs : List ℕ) (left : Option (List ℕ)) (r : Result A (Refusal GdsFault))
+pub refused_tells : (ignore : Ignore) {A : Type 0} (xs : List ℕ) (left : Option (List ℕ))
+    (r : Result A (Refusal GdsFault))
     → IfErr r (λ e. Says e (Refuses ignore xs left)) → IfErr r (λ e. Says e (Tells ignore xs))
-refused_tells ignore xs left = refused ignore xs left (Tells ignore xs) (λ f x. tells_at ignore xs left f.offset f.kind x)
+refused_tells ignore xs left = refused ignore xs left (Tells ignore xs)
+    (λ f x. tells_at ignore xs left f.offset f.kind x)
 
-pub refused_none : (ignore : Ignore) {A : Type 0} (xs : List ℕ) (left : Option (List ℕ)) (r : Result A (Refusal GdsFault))
-    → IfErr r (λ e. Says e (Refuses ignore xs left)) → IfErr r (λ e. Says e (λ f. (IsExcused f → ⊥) → SpellsNone ignore xs))
+pub refused_none : (ignore : Ignore) {A : Type 0} (xs : List ℕ) (left : Option (List ℕ))
+    (r : Result A (Refusal GdsFault))
+    → IfErr r (λ e. Says e (Refuses ignore xs left))
+    → IfErr r (λ e. Says e (λ f. (IsExcused f → ⊥) → SpellsNone ignore xs))
 refused_none ignore xs left =
-    refused ignore xs left (λ f. (IsExcused f → ⊥) → SpellsNone ignore xs) (λ f x. none_at ignore xs left f.offset f.kind x)
+    refused ignore xs left (λ f. (IsExcused f → ⊥) → SpellsNone ignore xs)
+    (λ f x. none_at ignore xs left f.offset f.kind x)
 
-pub refused_early : (ignore : Ignore) {A : Type 0} (xs : List ℕ) (left : Option (List ℕ)) (r : Result A (Refusal GdsFault))
-    → IfErr r (λ e. Says e (Refuses ignore xs left)) → IfErr r (λ e. Says e (λ f. IsEarly f → IsHopeless (gds ignore) xs left))
+pub refused_early : (ignore : Ignore) {A : Type 0} (xs : List ℕ) (left : Option (List ℕ))
+    (r : Result A (Refusal GdsFault))
+    → IfErr r (λ e. Says e (Refuses ignore xs left))
+    → IfErr r (λ e. Says e (λ f. IsEarly f → IsHopeless (gds ignore) xs left))
 refused_early ignore xs left =
-    refused ignore xs left (λ f. IsEarly f → IsHopeless (gds ignore) xs left) (λ f x. early_at ignore xs left f.offset f.kind x)
+    refused ignore xs left (λ f. IsEarly f → IsHopeless (gds ignore) xs left)
+    (λ f x. early_at ignore xs left f.offset f.kind x)
 
 refused_unread : (ignore : Ignore) {A : Type 0} (xs : List ℕ) (left : Option (List ℕ)) (r : Result A (Refusal GdsFault))
     → IfErr r (λ e. Says e (Refuses ignore xs left)) → IfErr r (λ e. Says e (TellsUnread ignore xs left))
-refused_unread ignore xs left = refused ignore xs left (TellsUnread ignore xs left) (λ f x. unread_at ignore xs left f.offset f.kind x)
+refused_unread ignore xs left = refused ignore xs left (TellsUnread ignore xs left)
+    (λ f x. unread_at ignore xs left f.offset f.kind x)
 
 -- of the bytes that are left in the end
-pub unread_left : (ignore : Ignore) {A : Type 0} (xs : List ℕ) (left left' : Option (List ℕ)) (r : Result A (Refusal GdsFault))
-    → IfErr r (λ e. Says e (Refuses ignore xs left)) → left ≡ left' → IfErr r (λ e. Says e (TellsUnread ignore xs left'))
+pub unread_left : (ignore : Ignore) {A : Type 0} (xs : List ℕ) (left left' : Option (List ℕ))
+    (r : Result A (Refusal GdsFault))
+    → IfErr r (λ e. Says e (Refuses ignore xs left)) → left ≡ left'
+    → IfErr r (λ e. Says e (TellsUnread ignore xs left'))
 unread_left ignore xs left left' r h e =
     subst (λ l. IfErr r (λ e. Says e (TellsUnread ignore xs l))) e (refused_unread ignore xs left r h)
 
-pub early_left : (ignore : Ignore) {A : Type 0} (xs : List ℕ) (left left' : Option (List ℕ)) (r : Result A (Refusal GdsFault))
+pub early_left : (ignore : Ignore) {A : Type 0} (xs : List ℕ) (left left' : Option (List ℕ))
+    (r : Result A (Refusal GdsFault))
     → IfErr r (λ e. Says e (Refuses ignore xs left)) → left ≡ left'
     → IfErr r (λ e. Says e (λ f. IsEarly f → IsHopeless (gds ignore) xs left'))
 early_left ignore xs left left' r h e =
-    subst (λ l. IfErr r (λ e. Says e (λ f. IsEarly f → IsHopeless (gds ignore) xs l))) e (refused_early ignore xs left r h)
+    subst (λ l. IfErr r (λ e. Says e (λ f. IsEarly f → IsHopeless (gds ignore) xs l))) e
+    (refused_early ignore xs left r h)

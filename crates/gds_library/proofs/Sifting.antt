@@ -78,7 +78,8 @@ takes_essential ignore y rs r e c t l = (
 )
 
 -- or refused
-pub takes_none : {A : Type 0} (ignore : Ignore) (rs : List Rec) (r : Rec) (x : WithIgnored) (res : Result A (Refusal GdsKind))
+pub takes_none : {A : Type 0} (ignore : Ignore) (rs : List Rec) (r : Rec) (x : WithIgnored)
+    (res : Result A (Refusal GdsKind))
     (e : Refusal GdsKind) → IsErr res × IsErrAnd res (λ f. f ≡ e) → is_passed ignore r ≡ false
     → (AwaitsValue rs → ⊥)
     → Says e (λ k. Breaches (essential ignore rs) r k × BreachesOnly (essential ignore rs) r k)

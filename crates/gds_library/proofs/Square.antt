@@ -102,7 +102,8 @@ short_spelled r s =
       record { high = 0; low = 4 + length r.payload; byte = few; len = omega arith; bytes_are = refl },
     )
 
-all_spelled : (before rs : List Rec) → AllByRecursion IsShort rs → SpellsAll (gds nothing) before (flat_map spelling rs) rs
+all_spelled : (before rs : List Rec) → AllByRecursion IsShort rs
+    → SpellsAll (gds nothing) before (flat_map spelling rs) rs
 all_spelled before [] p = refl
 all_spelled before (r ∷ rs) p =
     (spelling r, flat_map spelling rs, short_spelled r p.0, all_spelled (before ++ r ∷ []) rs p.1, refl)
@@ -236,10 +237,16 @@ points_follow =
 
 ends_follow : FollowAll (gds nothing) (take 10 square) (drop 10 square)
 ends_follow = (
-  follows (take 10 square) (rec 0x11 0 []) (plain 11 (take 10 square) (rec 0x11 0 []) refl refl refl refl word) (λ w. cc),
+  follows (take 10 square) (rec 0x11 0 []) (plain 11 (take 10 square) (rec 0x11 0 []) refl refl refl refl word)
+      (λ w. cc),
   (
-    follows (take 11 square) (rec 0x07 0 []) (plain 12 (take 11 square) (rec 0x07 0 []) refl refl refl refl word) (λ w. cc),
-    (follows (take 12 square) (rec 0x04 0 []) (plain 13 (take 12 square) (rec 0x04 0 []) refl refl refl refl word) (λ w. cc), tt),
+    follows (take 11 square) (rec 0x07 0 []) (plain 12 (take 11 square) (rec 0x07 0 []) refl refl refl refl word)
+        (λ w. cc),
+    (
+      follows (take 12 square) (rec 0x04 0 []) (plain 13 (take 12 square) (rec 0x04 0 []) refl refl refl refl word)
+          (λ w. cc),
+      tt,
+    ),
   ),
 )
 
@@ -267,13 +274,17 @@ name_follows =
 
 followed : FollowAll (gds nothing) [] square
 followed = (
-  follows (take 0 square) (rec 0x00 2 (2 ∷ 0x58 ∷ [])) (plain 1 (take 0 square) (rec 0x00 2 (2 ∷ 0x58 ∷ [])) refl refl refl refl word) (λ w. cc),
+  follows (take 0 square) (rec 0x00 2 (2 ∷ 0x58 ∷ []))
+      (plain 1 (take 0 square) (rec 0x00 2 (2 ∷ 0x58 ∷ [])) refl refl refl refl word) (λ w. cc),
   (
-    follows (take 1 square) (rec 0x01 2 dates) (plain 2 (take 1 square) (rec 0x01 2 dates) refl refl refl refl word) (λ w. cc),
+    follows (take 1 square) (rec 0x01 2 dates) (plain 2 (take 1 square) (rec 0x01 2 dates) refl refl refl refl word)
+        (λ w. cc),
     (
-      follows (take 2 square) (rec 0x02 6 (0x4C ∷ 0x42 ∷ [])) (plain 3 (take 2 square) (rec 0x02 6 (0x4C ∷ 0x42 ∷ [])) refl refl refl refl word) (λ w. cc),
+      follows (take 2 square) (rec 0x02 6 (0x4C ∷ 0x42 ∷ []))
+          (plain 3 (take 2 square) (rec 0x02 6 (0x4C ∷ 0x42 ∷ [])) refl refl refl refl word) (λ w. cc),
       (
-        follows (take 3 square) (rec 0x03 5 ones) (plain 4 (take 3 square) (rec 0x03 5 ones) refl refl refl refl word) (λ w. cc),
+        follows (take 3 square) (rec 0x03 5 ones) (plain 4 (take 3 square) (rec 0x03 5 ones) refl refl refl refl word)
+            (λ w. cc),
         (
           follows (take 4 square) (rec 0x05 2 dates) structure_follows (λ w. cc),
           (
@@ -313,5 +324,6 @@ square_spells = record {
   head_is = refl;
 }
 
-square_only : (cells : List Drawing) (h : GdsHead) → SpellsLibrary nothing file cells h → (cells ≡ top ∷ []) × (h ≡ heading)
+square_only : (cells : List Drawing) (h : GdsHead) → SpellsLibrary nothing file cells h
+    → (cells ≡ top ∷ []) × (h ≡ heading)
 square_only cells h p = law_only nothing file (top ∷ []) cells heading h square_spells p

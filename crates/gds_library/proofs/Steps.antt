@@ -341,8 +341,10 @@ pub end_inside : (b : Builder) (e : OpenElement) (rs : List Rec) (t : Bool)
 end_inside b e rs t h i =
     let l = subst (λ p. LeadsTo a_library (kinds i.before) (left p)) i.at i.holds.leads in
     let o = reading_open e i.piece i.reading in (
-      λ x. subst (λ l. InOrder l an_end) (sym i.parts) (order_inside i.before i.piece an_end l ((h i.piece i.reading).0 x)),
-      λ y. (h i.piece i.reading).1 (order_element i.before i.piece an_end l o (subst (λ l. InOrder l an_end) i.parts y)),
+      λ x. subst (λ l. InOrder l an_end) (sym i.parts)
+          (order_inside i.before i.piece an_end l ((h i.piece i.reading).0 x)),
+      λ y. (h i.piece i.reading).1 (order_element i.before i.piece an_end l o
+          (subst (λ l. InOrder l an_end) i.parts y)),
     )
 
 nowhere_ends : (p : Place) → after p an_end.kind ≡ None

@@ -75,11 +75,13 @@ with_unwhole (Some e) b rs h go w =
     (subst (IsWord a_library) (ap kinds h.parts ∙ map-append h.before h.piece) w)
 
 -- what was read is no whole library before the place after its end
-pub has_unwhole : (ignore : Ignore) (x : WithIgnored) (rs : List Rec) → HasReadBy ignore x rs → x.reading.builder.place ≢ Fill → IsWholeBy ignore rs → ⊥
+pub has_unwhole : (ignore : Ignore) (x : WithIgnored) (rs : List Rec) → HasReadBy ignore x rs
+    → x.reading.builder.place ≢ Fill → IsWholeBy ignore rs → ⊥
 has_unwhole ignore x rs h go w =
     with_unwhole x.reading.element x.reading.builder (essential ignore rs) h.essential go w
 
-holds_whole : (ignore : Ignore) (b : Builder) (rs : List Rec) → HoldsBy ignore b rs → b.place ≡ Fill → IsWholeBy ignore rs
+holds_whole : (ignore : Ignore) (b : Builder) (rs : List Rec) → HoldsBy ignore b rs → b.place ≡ Fill
+    → IsWholeBy ignore rs
 holds_whole ignore b rs h e =
     let es = kinds (essential ignore rs) in
     leads_whole a_library es (left Fill) (subst (λ p. LeadsTo a_library es (left p)) e h.essential.leads)
@@ -90,7 +92,8 @@ with_ended None b rs h e = h
 with_ended (Some i) b rs h e = (let z : Elements ≡ Fill = sym h.at ∙ e in cc)
 
 -- no element is open after the end
-pub reads_end : (ignore : Ignore) (xs : List ℕ) (at : ℕ) (x : WithIgnored) (was : Option (List ℕ)) → ReadTo (gds ignore) xs at (HasReadBy ignore x) was
+pub reads_end : (ignore : Ignore) (xs : List ℕ) (at : ℕ) (x : WithIgnored) (was : Option (List ℕ))
+    → ReadTo (gds ignore) xs at (HasReadBy ignore x) was
     → x.reading.builder.place ≡ Fill → ReadTo (gds ignore) xs at (HoldsBy ignore x.reading.builder) was
 reads_end ignore xs at x was to e =
     record {
@@ -118,23 +121,29 @@ holds_begin b p s v =
     }
 
 -- the record that is read begins the bytes
-abbrev starts : (ignore : Ignore) (room : ℕ) (ys : List ℕ) (k : ℕ) (payload : List ℕ) (s : IsSpelledAt ignore room ys k payload)
+abbrev starts : (ignore : Ignore) (room : ℕ) (ys : List ℕ) (k : ℕ) (payload : List ℕ)
+    (s : IsSpelledAt ignore room ys k payload)
     → StartsWith ignore room ys (record_of k s.0 payload)
 starts ignore room ys k payload s = (s.1, s.2, s.3, s.4, omega (arith, s.5, length_spelled s.1 payload k s.0 s.4), s.6)
 
 -- one more record
-pub reads_record : (ignore : Ignore) (xs : List ℕ) (at : ℕ) (x x' : WithIgnored) (was left' : Option (List ℕ)) (k : ℕ) (payload : List ℕ)
+pub reads_record : (ignore : Ignore) (xs : List ℕ) (at : ℕ) (x x' : WithIgnored) (was left' : Option (List ℕ)) (k : ℕ)
+    (payload : List ℕ)
     (to : ReadTo (gds ignore) xs at (HasReadBy ignore x) was)
     → IsSpelledAt ignore (file_limit - at) (drop at xs) k payload
-    → ((d : ℕ) → HasReadBy ignore x' (to.records ++ record_of k d payload ∷ []) × MayFollowBy ignore to.records (record_of k d payload))
-    → left' ≡ Some (drop (4 + length payload) (drop at xs)) → ReadTo (gds ignore) xs (at + (4 + length payload)) (HasReadBy ignore x')
+    → ((d : ℕ) → HasReadBy ignore x' (to.records ++ record_of k d payload ∷ [])
+    × MayFollowBy ignore to.records (record_of k d payload))
+    → left' ≡ Some (drop (4 + length payload) (drop at xs))
+    → ReadTo (gds ignore) xs (at + (4 + length payload)) (HasReadBy ignore x')
     left'
 reads_record ignore xs at x x' was left' k payload to s takes e =
     let long = length_spelled s.1 payload k s.0 s.4 in
     let rest = (parts_at (drop at xs) s.1 s.2 (4 + length payload) s.6 (sym long)).1 in
-    let next = reads_on (gds ignore) xs at (HasReadBy ignore x) (HasReadBy ignore x') was to (record_of k s.0 payload) s.1 s.2 s.6 (inl (s.3, s.4))
+    let next = reads_on (gds ignore) xs at (HasReadBy ignore x) (HasReadBy ignore x') was to
+    (record_of k s.0 payload) s.1 s.2 s.6 (inl (s.3, s.4))
     (takes s.0).1 (omega (arith, long, s.5)) (takes s.0).0 in
-    subst (λ i. ReadTo (gds ignore) xs (at + i) (HasReadBy ignore x') left') long (subst (ReadTo (gds ignore) xs (at + length s.1) (HasReadBy ignore x'))
+    subst (λ i. ReadTo (gds ignore) xs (at + i) (HasReadBy ignore x') left') long
+    (subst (ReadTo (gds ignore) xs (at + length s.1) (HasReadBy ignore x'))
     (ap (λ (l : List ℕ). Some l) (sym rest) ∙ sym e) next)
 
 -- the bytes that are left, in hand and in the reader
@@ -148,24 +157,30 @@ left_parts : (bytes hand : List ℕ) (remaining : Option (List ℕ)) → prepend
 left_parts bytes hand remaining e =
     (let p = known_parts hand remaining bytes e in record { rest = p.0; parts = sym p.2; is = p.1 })
 
-same_start : (ignore : Ignore) (room : ℕ) (ys : List ℕ) (r s : Rec) → StartsWith ignore room ys r → StartsWith ignore room ys s → s ≡ r
+same_start : (ignore : Ignore) (room : ℕ) (ys : List ℕ) (r s : Rec) → StartsWith ignore room ys r
+    → StartsWith ignore room ys s → s ≡ r
 same_start ignore room ys r s p q = starts_same ignore room ys q.0 r s p q.3 (q.1, inr q.5)
 
 -- a record that begins the bytes, and breaches one rule, is all that is wrong with them
-only_record : (ignore : Ignore) (before : List Rec) (room : ℕ) (ys : List ℕ) (r : Rec) (k : GdsKind) → (IsWholeBy ignore before → ⊥)
-    → StartsWith ignore room ys r → BreachesOnlyBy ignore before r k → (j : GdsKind) → IsWrong ignore before room ys j → j ≡ k
+only_record : (ignore : Ignore) (before : List Rec) (room : ℕ) (ys : List ℕ) (r : Rec) (k : GdsKind)
+    → (IsWholeBy ignore before → ⊥)
+    → StartsWith ignore room ys r → BreachesOnlyBy ignore before r k → (j : GdsKind) → IsWrong ignore before room ys j
+    → j ≡ k
 only_record ignore before room ys r k n s only (Record f) w =
     absurd (law_malformed ignore room ys f w.2 w.0 r.kind r.data_type r.payload s.0 s.2 s.3
     (omega (arith, s.4, length_spelled s.0 r.payload r.kind r.data_type s.3)) (s.1, inr s.5))
 only_record ignore before room ys r k n s only AfterEnd w = absurd (n w.0)
 only_record ignore before room ys r k n s only (Misplaced m) w =
-    only (Misplaced m) (subst (λ (x : Rec). BreachesBy ignore before x (Misplaced m)) (same_start ignore room ys r w.1 s w.2) w.3)
+    only (Misplaced m) (subst (λ (x : Rec). BreachesBy ignore before x (Misplaced m))
+    (same_start ignore room ys r w.1 s w.2) w.3)
 only_record ignore before room ys r k n s only (Element m) w =
-    only (Element m) (subst (λ (x : Rec). BreachesBy ignore before x (Element m)) (same_start ignore room ys r w.1 s w.2) w.3)
+    only (Element m) (subst (λ (x : Rec). BreachesBy ignore before x (Element m))
+    (same_start ignore room ys r w.1 s w.2) w.3)
 only_record ignore before room ys r k n s only Name w =
     only Name (subst (λ (x : Rec). BreachesBy ignore before x Name) (same_start ignore room ys r w.1 s w.2) w.3)
 only_record ignore before room ys r k n s only TooManyCells w =
-    only TooManyCells (subst (λ (x : Rec). BreachesBy ignore before x TooManyCells) (same_start ignore room ys r w.1 s w.2) w.3)
+    only TooManyCells (subst (λ (x : Rec). BreachesBy ignore before x TooManyCells)
+    (same_start ignore room ys r w.1 s w.2) w.3)
 
 -- a rule that a record breaches
 abbrev OfRecord : GdsKind → Type 0
@@ -178,13 +193,15 @@ of_record ignore before r (Record f) b = b.2
 of_record ignore before r AfterEnd b = b.2
 of_record ignore before r _ b = tt
 
-wrong_record : (ignore : Ignore) (before : List Rec) (room : ℕ) (ys : List ℕ) (r : Rec) (k : GdsKind) → OfRecord k → (IsWholeBy ignore before → ⊥)
+wrong_record : (ignore : Ignore) (before : List Rec) (room : ℕ) (ys : List ℕ) (r : Rec) (k : GdsKind) → OfRecord k
+    → (IsWholeBy ignore before → ⊥)
     → StartsWith ignore room ys r → BreachesBy ignore before r k → IsWrong ignore before room ys k
 wrong_record ignore before room ys r (Record f) o n s b = absurd o
 wrong_record ignore before room ys r AfterEnd o n s b = absurd o
 wrong_record ignore before room ys r _ o n s b = (n, r, s, b)
 
-seen_refuses : (ignore : Ignore) (xs : List ℕ) (at : ℕ) (rest : Option (List ℕ)) (k : GdsKind) → OfRecord k → IsSeenWrong (gds ignore) xs at rest k
+seen_refuses : (ignore : Ignore) (xs : List ℕ) (at : ℕ) (rest : Option (List ℕ)) (k : GdsKind) → OfRecord k
+    → IsSeenWrong (gds ignore) xs at rest k
     → RefusesAt ignore xs rest at k
 seen_refuses ignore xs at rest (Record f) o s = absurd o
 seen_refuses ignore xs at rest AfterEnd o s = absurd o
@@ -195,7 +212,8 @@ pub reads_refused : (ignore : Ignore) (xs : List ℕ) (at : ℕ) (x : WithIgnore
     (payload hand : List ℕ) (f : GdsKind) (to : ReadTo (gds ignore) xs at (HasReadBy ignore x) was)
     → x.reading.builder.place ≢ Fill
     → IsSpelledAt ignore (file_limit - at) (drop at xs) k payload
-    → ((d : ℕ) → BreachesBy ignore to.records (record_of k d payload) f × BreachesOnlyBy ignore to.records (record_of k d payload) f)
+    → ((d : ℕ) → BreachesBy ignore to.records (record_of k d payload) f
+    × BreachesOnlyBy ignore to.records (record_of k d payload) f)
     → prepend_known hand remaining ≡ Some (drop (4 + length payload) (drop at xs)) → RefusesAt ignore xs remaining at f
 reads_refused ignore xs at x was remaining k payload hand f to go s breaches e =
     let room = file_limit - at in
@@ -223,14 +241,16 @@ reads_refused ignore xs at x was remaining k payload hand f to go s breaches e =
 same_fault : (f g : RecordFault) (s : Result ℕ RecordFault) → s ≡ Err f → s ≡ Err g → g ≡ f
 same_fault f g s a b = (let h : Err f ≡ Err g = sym a ∙ b in cc)
 
-no_start : (ignore : Ignore) (before : List Rec) (room : ℕ) (ys : List ℕ) (f : RecordFault) → step ignore room ys ≡ Err f → f ≢ Truncated
+no_start : (ignore : Ignore) (before : List Rec) (room : ℕ) (ys : List ℕ) (f : RecordFault)
+    → step ignore room ys ≡ Err f → f ≢ Truncated
     → (r : Rec) → StartsWith ignore room ys r → ⊥
 no_start ignore before room ys f e t r s =
     law_malformed ignore room ys f e t r.kind r.data_type r.payload s.0 s.2 s.3
     (omega (arith, s.4, length_spelled s.0 r.payload r.kind r.data_type s.3)) (s.1, inr s.5)
 
 -- where no record begins the bytes, that is all that is wrong with them
-only_fault : (ignore : Ignore) (before : List Rec) (room : ℕ) (ys : List ℕ) (f : RecordFault) → step ignore room ys ≡ Err f → f ≢ Truncated
+only_fault : (ignore : Ignore) (before : List Rec) (room : ℕ) (ys : List ℕ) (f : RecordFault)
+    → step ignore room ys ≡ Err f → f ≢ Truncated
     → (IsWholeBy ignore before → room ≡ 0) → (j : GdsKind) → IsWrong ignore before room ys j → j ≡ Record f
 only_fault ignore before room ys f e t z (Record g) w =
     ap (λ (i : RecordFault). Record i) (same_fault f g (step ignore room ys) e w.2)
@@ -238,14 +258,17 @@ only_fault ignore before room ys f e t z AfterEnd w = absurd (omega (arith, z w.
 only_fault ignore before room ys f e t z _ w = absurd (no_start ignore before room ys f e t w.1 w.2)
 
 -- a fault of the bytes in hand
-seen_fault : (ignore : Ignore) (xs : List ℕ) (at : ℕ) (Has : List Rec → Type 0) (was remaining : Option (List ℕ)) (hand : List ℕ)
+seen_fault : (ignore : Ignore) (xs : List ℕ) (at : ℕ) (Has : List Rec → Type 0) (was remaining : Option (List ℕ))
+    (hand : List ℕ)
     (f : RecordFault) (to : ReadTo (gds ignore) xs at Has was)
     → f ≢ Truncated → f ≢ Read
-    → (IsWholeBy ignore to.records → file_limit - at ≡ 0) → ((more : List ℕ) → step ignore (file_limit - at) (hand ++ more) ≡ Err f)
+    → (IsWholeBy ignore to.records → file_limit - at ≡ 0)
+    → ((more : List ℕ) → step ignore (file_limit - at) (hand ++ more) ≡ Err f)
     → prepend_known hand remaining ≡ Some (drop at xs) → IsSeenWrong (gds ignore) xs at remaining (Record f)
 seen_fault ignore xs at Has was remaining hand f to t r z said e =
     let l = left_parts (drop at xs) hand remaining e in
-    let all : step ignore (file_limit - at) (drop at xs) ≡ Err f = subst (λ i. step ignore (file_limit - at) i ≡ Err f) (sym l.parts)
+    let all : step ignore (file_limit - at) (drop at xs) ≡ Err f =
+    subst (λ i. step ignore (file_limit - at) i ≡ Err f) (sym l.parts)
     (said l.rest) in
     record {
       within = to.within;
@@ -260,8 +283,10 @@ seen_fault ignore xs at Has was remaining hand f to t r z said e =
     }
 
 -- where the input ends before the library does
-pub reads_cut : (ignore : Ignore) (xs : List ℕ) (at : ℕ) (x : WithIgnored) (was : Option (List ℕ)) → ReadTo (gds ignore) xs at (HasReadBy ignore x) was
-    → x.reading.builder.place ≢ Fill → (length (drop at xs) < 4) ⊎ IsBegun ignore (drop at xs) → IsTruncated (gds ignore) xs at
+pub reads_cut : (ignore : Ignore) (xs : List ℕ) (at : ℕ) (x : WithIgnored) (was : Option (List ℕ))
+    → ReadTo (gds ignore) xs at (HasReadBy ignore x) was
+    → x.reading.builder.place ≢ Fill → (length (drop at xs) < 4) ⊎ IsBegun ignore (drop at xs)
+    → IsTruncated (gds ignore) xs at
 reads_cut ignore xs at x was to go cut = record {
   within = to.within;
   records = to.records;
@@ -271,7 +296,8 @@ reads_cut ignore xs at x was to go cut = record {
 }
 
 -- what a fault of the records says
-pub reads_fault : (ignore : Ignore) (xs : List ℕ) (at : ℕ) (x : WithIgnored) (was remaining : Option (List ℕ)) (hand : List ℕ)
+pub reads_fault : (ignore : Ignore) (xs : List ℕ) (at : ℕ) (x : WithIgnored) (was remaining : Option (List ℕ))
+    (hand : List ℕ)
     (f : RecordFault)
     → ReadTo (gds ignore) xs at (HasReadBy ignore x) was → x.reading.builder.place ≢ Fill
     → (f ≢ Truncated → f ≢ Read → (more : List ℕ) → step ignore (file_limit - at) (hand ++ more) ≡ Err f)
@@ -309,7 +335,8 @@ reads_zero ignore xs at b was rest to e here limit =
     let es = essential ignore to.records in
     let more : Holds b (es ++ a_fill ∷ []) = law_holds b b es a_fill to.holds.essential stays
     (sym (plain fill [] (shown b) refl refl)) (record { version = refl; units = refl }) in
-    reads_on (gds ignore) xs at (HoldsBy ignore b) (HoldsBy ignore b) was to a_fill (0 ∷ []) rest here (inr (refl, refl))
+    reads_on (gds ignore) xs at (HoldsBy ignore b) (HoldsBy ignore b) was to a_fill (0 ∷ []) rest here
+    (inr (refl, refl))
     (follows_essential ignore to.records a_fill (fill_unpassed ignore) to.holds.complete
     (law_fill es (leads_begins (kinds (es ++ a_fill ∷ [])) b.place more.leads)))
     (omega (arith, limit)) (record {
@@ -319,7 +346,8 @@ reads_zero ignore xs at b was rest to e here limit =
 
 -- zero bytes after the end
 reads_zeros : (ignore : Ignore) (n : ℕ) (xs : List ℕ) (at : ℕ) (b : Builder) (was : Option (List ℕ)) (rest : List ℕ)
-    → ReadTo (gds ignore) xs at (HoldsBy ignore b) was → b.place ≡ Fill → drop at xs ≡ replicate n 0 ++ rest → at + n ≤ file_limit
+    → ReadTo (gds ignore) xs at (HoldsBy ignore b) was → b.place ≡ Fill → drop at xs ≡ replicate n 0 ++ rest
+    → at + n ≤ file_limit
     → (left' : Option (List ℕ)) × ReadTo (gds ignore) xs (at + n) (HoldsBy ignore b) left' × (drop (at + n) xs ≡ rest)
 reads_zeros ignore zero xs at b was rest to e here limit =
     let z : at ≡ at + 0 = omega arith in
@@ -329,11 +357,15 @@ reads_zeros ignore (suc n) xs at b was rest to e here limit =
     let more = reads_zeros ignore n xs (at + 1) b (Some (replicate n 0 ++ rest)) rest one e
     (same_left (drop (at + 1) xs) (replicate n 0 ++ rest) (Some (replicate n 0 ++ rest)) one.left_is refl)
     (omega (arith, limit)) in
-    let z : at + 1 + n ≡ at + suc n = omega arith in
-    (more.0, subst (λ i. ReadTo (gds ignore) xs i (HoldsBy ignore b) more.0) z more.1, subst (λ i. drop i xs ≡ rest) z more.2)
+    let z : at + 1 + n ≡ at + suc n = omega arith in (
+      more.0,
+      subst (λ i. ReadTo (gds ignore) xs i (HoldsBy ignore b) more.0) z more.1,
+      subst (λ i. drop i xs ≡ rest) z more.2,
+    )
 
 -- the end of the input
-pub reads_all : (ignore : Ignore) (xs : List ℕ) (at : ℕ) (b : Builder) (was : Option (List ℕ)) → ReadTo (gds ignore) xs at (HoldsBy ignore b) was
+pub reads_all : (ignore : Ignore) (xs : List ℕ) (at : ℕ) (b : Builder) (was : Option (List ℕ))
+    → ReadTo (gds ignore) xs at (HoldsBy ignore b) was
     → b.place ≡ Fill → drop at xs ≡ replicate (length (drop at xs)) 0 → at + length (drop at xs) ≤ file_limit
     → IsRead ignore xs (done b) (record { version = b.version; units = b.units })
 reads_all ignore xs at b was to e zeros limit =
@@ -351,7 +383,8 @@ reads_all ignore xs at b was to e zeros limit =
         whole = holds_whole ignore b end.records end.holds e;
       };
       cells_are = refl;
-      head_is = ap (λ (i : ℤ). let g : GdsHead = record { version = i; units = b.units } in g) end.holds.essential.version
+      head_is = ap (λ (i : ℤ). let g : GdsHead = record { version = i; units = b.units } in
+          g) end.holds.essential.version
           ∙ ap (λ (i : List (List ℕ)). let g : GdsHead = record {
             version = short (field header (essential ignore end.records));
             units = i;
@@ -374,15 +407,18 @@ some_hand [] rest ys c h e more = absurd (omega (arith, h))
 some_hand (i ∷ hand) rest ys c h e more =
     (let same : c ≡ i = cc in (hand ++ more, ap (λ j. j ∷ (hand ++ more)) (sym same)))
 
-only_other : (ignore : Ignore) (before : List Rec) (room : ℕ) (ys : List ℕ) → IsWholeBy ignore before → 0 < room → (j : GdsKind)
+only_other : (ignore : Ignore) (before : List Rec) (room : ℕ) (ys : List ℕ) → IsWholeBy ignore before → 0 < room
+    → (j : GdsKind)
     → IsWrong ignore before room ys j → j ≡ AfterEnd
 only_other ignore before room ys w l (Record f) x = absurd (omega (arith, l, x.3 w))
 only_other ignore before room ys w l AfterEnd x = refl
 only_other ignore before room ys w l _ x = absurd (x.0 w)
 
 -- another byte after the end
-pub reads_other : (ignore : Ignore) (xs : List ℕ) (at n : ℕ) (b : Builder) (was remaining : Option (List ℕ)) (c : ℕ) (rest hand : List ℕ)
-    → ReadTo (gds ignore) xs at (HoldsBy ignore b) was → b.place ≡ Fill → drop at xs ≡ replicate n 0 ++ (c ∷ rest) → c ≢ 0
+pub reads_other : (ignore : Ignore) (xs : List ℕ) (at n : ℕ) (b : Builder) (was remaining : Option (List ℕ)) (c : ℕ)
+    (rest hand : List ℕ)
+    → ReadTo (gds ignore) xs at (HoldsBy ignore b) was → b.place ≡ Fill → drop at xs ≡ replicate n 0 ++ (c ∷ rest)
+    → c ≢ 0
     → n < file_limit - at
     → 0 < length hand → prepend_known hand remaining ≡ Some (drop n (drop at xs))
     → RefusesAt ignore xs remaining (at + n) AfterEnd
@@ -406,7 +442,8 @@ reads_other ignore xs at n b was remaining c rest hand to e here other room some
     }
 
 -- where the input passes the limit after the end
-pub reads_too_long : (ignore : Ignore) (xs : List ℕ) (at : ℕ) (b : Builder) (was remaining : Option (List ℕ)) (rest hand : List ℕ)
+pub reads_too_long : (ignore : Ignore) (xs : List ℕ) (at : ℕ) (b : Builder) (was remaining : Option (List ℕ))
+    (rest hand : List ℕ)
     → ReadTo (gds ignore) xs at (HoldsBy ignore b) was → b.place ≡ Fill → at ≤ file_limit
     → drop at xs ≡ replicate (file_limit - at) 0 ++ rest
     → ((more : List ℕ) → step ignore (file_limit - (at + (file_limit - at))) (hand ++ more) ≡ Err TooLong)
@@ -420,8 +457,10 @@ reads_too_long ignore xs at b was remaining rest hand to e limit here said known
     (λ w. omega (arith, limit)) said (known ∙ ap (λ (i : List ℕ). Some i) after)
 
 -- where the reader failed after the end, all that it gave was taken
-pub reads_failed : (ignore : Ignore) (xs : List ℕ) (at n : ℕ) (b : Builder) (was remaining : Option (List ℕ)) (rest : List ℕ)
-    → ReadTo (gds ignore) xs at (HoldsBy ignore b) was → b.place ≡ Fill → drop at xs ≡ replicate n 0 ++ rest → n ≤ file_limit - at
+pub reads_failed : (ignore : Ignore) (xs : List ℕ) (at n : ℕ) (b : Builder) (was remaining : Option (List ℕ))
+    (rest : List ℕ)
+    → ReadTo (gds ignore) xs at (HoldsBy ignore b) was → b.place ≡ Fill → drop at xs ≡ replicate n 0 ++ rest
+    → n ≤ file_limit - at
     → at ≤ file_limit → remaining ≡ Some (drop n (drop at xs)) → IsUnread (gds ignore) xs remaining (at + n)
 reads_failed ignore xs at n b was remaining rest to e here room limit left =
     let more = reads_zeros ignore n xs at b was rest to e here (omega (arith, room, limit)) in
@@ -430,20 +469,25 @@ reads_failed ignore xs at n b was remaining rest to e here room limit left =
     (left ∙ ap (λ (i : List ℕ). Some i) after) (λ some. absurd (omega (arith, some)))
 
 -- a rule that a record breaches is no failed read
-pub breach_no_read : (ignore : Ignore) (before : List Rec) (r : Rec) (k : GdsKind) → BreachesBy ignore before r k → is_read_kind k ≡ false
+pub breach_no_read : (ignore : Ignore) (before : List Rec) (r : Rec) (k : GdsKind) → BreachesBy ignore before r k
+    → is_read_kind k ≡ false
 breach_no_read ignore before r (Record f) b = absurd b.2
 breach_no_read ignore before r other b = refl
 
 -- a refusal by a fault and its offset
-pub refuses_by : (ignore : Ignore) (xs : List ℕ) (rest : Option (List ℕ)) (e : Refusal GdsFault) (offset at : ℕ) (k : GdsKind)
+pub refuses_by : (ignore : Ignore) (xs : List ℕ) (rest : Option (List ℕ)) (e : Refusal GdsFault) (offset at : ℕ)
+    (k : GdsKind)
     → e ≡ Breach (record { offset = offset; kind = k }) → offset ≡ at → RefusesAt ignore xs rest at k
     → Says e (Refuses ignore xs rest)
 refuses_by ignore xs rest e offset at k h o x =
-    subst (λ (i : Refusal GdsFault). Says i (Refuses ignore xs rest)) (sym h) (subst (λ i. RefusesAt ignore xs rest i k) (sym o) x)
+    subst (λ (i : Refusal GdsFault). Says i (Refuses ignore xs rest)) (sym h)
+    (subst (λ i. RefusesAt ignore xs rest i k) (sym o) x)
 
 -- what a byte after the end says, once `tail` has answered it
-pub reads_after : (ignore : Ignore) (xs : List ℕ) (at n : ℕ) (b : Builder) (was remaining : Option (List ℕ)) (c : ℕ) (rest hand : List ℕ)
-    → ReadTo (gds ignore) xs at (HoldsBy ignore b) was → b.place ≡ Fill → drop at xs ≡ replicate n 0 ++ (c ∷ rest) → c ≢ 0
+pub reads_after : (ignore : Ignore) (xs : List ℕ) (at n : ℕ) (b : Builder) (was remaining : Option (List ℕ)) (c : ℕ)
+    (rest hand : List ℕ)
+    → ReadTo (gds ignore) xs at (HoldsBy ignore b) was → b.place ≡ Fill → drop at xs ≡ replicate n 0 ++ (c ∷ rest)
+    → c ≢ 0
     → n < file_limit - at
     → 0 < length hand → ((ys : List ℕ) → was ≡ Some ys → prepend_known hand remaining ≡ Some (drop n ys))
     → RefusesAt ignore xs remaining (at + n) AfterEnd
@@ -451,7 +495,8 @@ reads_after ignore xs at n b was remaining c rest hand to e here other room some
     reads_other ignore xs at n b was remaining c rest hand to e here other room some (left (drop at xs) to.left_is)
 
 -- what a fault after the end says
-pub reads_tail : (ignore : Ignore) (xs : List ℕ) (at new : ℕ) (b : Builder) (was remaining : Option (List ℕ)) (hand : List ℕ)
+pub reads_tail : (ignore : Ignore) (xs : List ℕ) (at new : ℕ) (b : Builder) (was remaining : Option (List ℕ))
+    (hand : List ℕ)
     (f : RecordFault)
     → ReadTo (gds ignore) xs at (HoldsBy ignore b) was → b.place ≡ Fill → at ≤ file_limit
     → AnswersTail (Err (Fault f)) at new (file_limit - at) (drop at xs) → Decides ignore f (file_limit - new) hand

@@ -35,7 +35,8 @@ IsWrong ignore before room ys AfterEnd =
 IsWrong ignore before room ys k =
     (¬ IsWholeBy ignore before) × (r : Rec) × StartsWith ignore room ys r × BreachesBy ignore before r k
 
--- a record of GDSII, with some that are ignored; a file is whole with its ENDLIB, after which each zero byte counts as a record
+-- a record of GDSII, with some that are ignored; a file is whole with its ENDLIB, after which each zero byte counts
+-- as a record
 abbrev pub gds : Ignore → Grammar Rec GdsKind
 gds ignore = record {
   spells = λ before bytes r. Spells ignore bytes r;

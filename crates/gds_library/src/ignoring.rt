@@ -109,7 +109,8 @@ impl WithIgnored {
         requires formed { IsFormed kind payload.now }
         requires in_element { IsFormedInElement kind payload.now }
         ensures takes { (rs : List Rec) (d : ℕ) → is_passed self.old.ignore (record_of kind d payload.now) ≡ false
-            → HasReadBy self.old.ignore self.old rs → TakesBy self.old.ignore rs (record_of kind d payload.now) self.new result }
+            → HasReadBy self.old.ignore self.old rs
+            → TakesBy self.old.ignore rs (record_of kind d payload.now) self.new result }
         ensures ignore { self.new.ignore ≡ self.old.ignore }
     {
         if self.awaits_value() {

@@ -149,7 +149,8 @@ fn read_all<R: Read>(
         → IfErr result (λ refusal. Says refusal (Refuses ignore xs (R.remaining (records_reader records.new)))) }
     ensures whole { IfOk result (λ x. (x.reading.builder.place ≡ Fill) × (x.ignore ≡ ignore)
         × ((xs : List ℕ) → bytes_left R.remaining records.old ≡ Some xs
-        → ReadTo (gds ignore) xs (records_offset records.new) (HasReadBy ignore x) (bytes_left R.remaining records.new))) }
+        → ReadTo (gds ignore) xs (records_offset records.new) (HasReadBy ignore x)
+        (bytes_left R.remaining records.new))) }
     ensures fresh { OnOk result (has_failed records.new ≡ false) }
     ensures ignore { OnOk result (records_ignore records.new ≡ ignore) }
     ensures reads { CountsFailure (R.read_errors (records_reader records.old))

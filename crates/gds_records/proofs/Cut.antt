@@ -81,7 +81,8 @@ header_stands room xs e is h long =
     omega arith
 
 -- a header that has no fault, and less than its payload
-begun : (ignore : Ignore) (n : ℕ) (xs : List ℕ) → header ignore xs ≡ Ok n → HasByteLength xs → 4 ≤ length xs → length xs < n → IsBegun ignore xs
+begun : (ignore : Ignore) (n : ℕ) (xs : List ℕ) → header ignore xs ≡ Ok n → HasByteLength xs → 4 ≤ length xs
+    → length xs < n → IsBegun ignore xs
 begun ignore n xs e bytes long short =
     let says = header_ok ignore xs n e in
     let more = replicate (n - length xs) 0 in
@@ -109,16 +110,20 @@ begun ignore n xs e bytes long short =
     }
 
 -- fewer bytes in hand than a header has
-pub few_unfinished : (ignore : Ignore) (room : ℕ) (hand : List ℕ) → length hand < 4 → length hand ≤ room → IsUnfinished ignore room hand
+pub few_unfinished : (ignore : Ignore) (room : ℕ) (hand : List ℕ) → length hand < 4 → length hand ≤ room
+    → IsUnfinished ignore room hand
 few_unfinished ignore room hand few fits = (fits, λ some. (some, inl few))
 
 -- a header in hand that has no fault, and less than its payload
-pub cut_unfinished : (ignore : Ignore) (n room : ℕ) (hand : List ℕ) → header ignore hand ≡ Ok n → HasByteLength hand → 4 ≤ length hand
+pub cut_unfinished : (ignore : Ignore) (n room : ℕ) (hand : List ℕ) → header ignore hand ≡ Ok n → HasByteLength hand
+    → 4 ≤ length hand
     → length hand < n → length hand ≤ room → IsUnfinished ignore room hand
-cut_unfinished ignore n room hand e bytes long few fits = (fits, λ some. (some, inr (begun ignore n hand e bytes long few)))
+cut_unfinished ignore n room hand e bytes long few fits =
+    (fits, λ some. (some, inr (begun ignore n hand e bytes long few)))
 
 -- `Truncated` comes only where all bytes left are the beginning of a record
-pub law_truncated : (ignore : Ignore) (room : ℕ) (xs : List ℕ) → step ignore room xs ≡ Err Truncated → (4 ≤ length xs → HasByteLength xs)
+pub law_truncated : (ignore : Ignore) (room : ℕ) (xs : List ℕ) → step ignore room xs ≡ Err Truncated
+    → (4 ≤ length xs → HasByteLength xs)
     → (length xs ≤ room) × IsCut ignore xs
 law_truncated ignore room xs e bytes = elim (cases_Bool (nat_le 1 (length xs))) [
   | inr none ↦ absurd (let h : Ok 0 ≡ Err Truncated = sym (step_end ignore room xs (sym none)) ∙ e in cc)
@@ -138,7 +143,8 @@ law_truncated ignore room xs e bytes = elim (cases_Bool (nat_le 1 (length xs))) 
 ]
 
 -- and there it comes
-pub law_cut : (ignore : Ignore) (room : ℕ) (xs : List ℕ) → length xs ≤ room → IsCut ignore xs → step ignore room xs ≡ Err Truncated
+pub law_cut : (ignore : Ignore) (room : ℕ) (xs : List ℕ) → length xs ≤ room → IsCut ignore xs
+    → step ignore room xs ≡ Err Truncated
 law_cut ignore room xs fits cut =
     let stands = cut.0 in
     let some : true ≡ nat_le 1 (length xs) = grind (arith, nat_tests) in
@@ -146,14 +152,16 @@ law_cut ignore room xs fits cut =
     elim (cases_Bool (nat_le 4 (length xs))) [
       | inr is_short ↦
           let short : length xs < 4 = grind (arith, nat_tests) in
-          step_no_header ignore room xs Truncated some (want_short 4 (length xs + 1) room xs no (omega arith) (omega arith))
+          step_no_header ignore room xs Truncated some
+          (want_short 4 (length xs + 1) room xs no (omega arith) (omega arith))
       | inl is_long ↦
           let long : 4 ≤ length xs = grind (arith, nat_tests) in
           elim cut.1 [
             | inl short ↦ absurd (omega arith)
             | inr b ↦
                 let n = 4 + length b.payload in
-                let head : header ignore xs ≡ Ok n = sym (header-append ignore xs b.more long) ∙ header_spelled ignore (xs ++ b.more)
+                let head : header ignore xs ≡ Ok n = sym (header-append ignore xs b.more long) ∙ header_spelled ignore
+                (xs ++ b.more)
                 b.payload b.kind b.data_type b.allowed b.spelled in
                 let less : length xs < n =
                 omega (

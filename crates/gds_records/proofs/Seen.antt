@@ -26,7 +26,8 @@ seen_header ignore TooLong room ahead u h = λ t r more.
 seen_header ignore f room ahead u h = absurd u
 
 -- a header with a fault
-pub seen_bad : (ignore : Ignore) (f : RecordFault) (room : ℕ) (ahead : List ℕ) → 4 ≤ length ahead → 4 ≤ room → header ignore ahead ≡ Err f
+pub seen_bad : (ignore : Ignore) (f : RecordFault) (room : ℕ) (ahead : List ℕ) → 4 ≤ length ahead → 4 ≤ room
+    → header ignore ahead ≡ Err f
     → Decides ignore f room ahead
 seen_bad ignore f room ahead long fits h = λ t r more.
     step_bad_header ignore room (ahead ++ more) 4 f (at_least 1 ahead more (omega (arith, long)))
@@ -34,7 +35,8 @@ seen_bad ignore f room ahead long fits h = λ t r more.
     (header-append ignore ahead more long ∙ h)
 
 -- no room for a payload
-seen_payload : (ignore : Ignore) (f : RecordFault) (room n : ℕ) (ahead : List ℕ) → 4 ≤ length ahead → 4 ≤ room → header ignore ahead ≡ Ok n
+seen_payload : (ignore : Ignore) (f : RecordFault) (room n : ℕ) (ahead : List ℕ) → 4 ≤ length ahead → 4 ≤ room
+    → header ignore ahead ≡ Ok n
     → IsUnhad f → (f ≡ TooLong → (room < n) × (room < length ahead)) → Decides ignore f room ahead
 seen_payload ignore Truncated room n ahead long fits e u h = λ t r more. absurd (t refl)
 seen_payload ignore Read room n ahead long fits e u h = λ t r more. absurd (r refl)
@@ -47,7 +49,8 @@ seen_payload ignore TooLong room n ahead long fits e u h = λ t r more.
     (omega (arith, b.0))
 seen_payload ignore f room n ahead long fits e u h = absurd u
 
-pub seen_last : (ignore : Ignore) (res : Result ℕ RecordFault) (room n : ℕ) (old ahead : List ℕ) → take (length old) ahead ≡ old
+pub seen_last : (ignore : Ignore) (res : Result ℕ RecordFault) (room n : ℕ) (old ahead : List ℕ)
+    → take (length old) ahead ≡ old
     → 4 ≤ length old → 4 ≤ room → header ignore ahead ≡ Ok n
     → IfErr res IsUnhad → (res ≡ Err TooLong → (room < n) × (room < length ahead))
     → IfErr res (λ f. Decides ignore f room ahead)
@@ -57,5 +60,7 @@ seen_last ignore (Err f) room n old ahead front long fits e u h =
     (λ t. h (ap Err t))
 
 -- no room at all
-pub seen_limit : (ignore : Ignore) (room : ℕ) (ahead : List ℕ) → room ≡ 0 → 0 < length ahead → Decides ignore TooLong room ahead
-seen_limit ignore room ahead e some = seen_header ignore TooLong room ahead tt (λ _. (omega (arith, e), omega (arith, e, some)))
+pub seen_limit : (ignore : Ignore) (room : ℕ) (ahead : List ℕ) → room ≡ 0 → 0 < length ahead
+    → Decides ignore TooLong room ahead
+seen_limit ignore room ahead e some = seen_header ignore TooLong room ahead tt
+    (λ _. (omega (arith, e), omega (arith, e, some)))

@@ -129,7 +129,11 @@ all_digested flat n hash d end h finish =
     let whole : map drawn_on (take n flat) ≡ map drawn_on flat = ap (map drawn_on) (take_all n flat end) in
     let found = finish (map drawn_on flat) (subst (HasHashed hash) whole h.hashed) in
     record {
-      is_mask = record { rising = rising_of flat (in_order flat end h.sorted); fits = subst (All IsNarrow) whole h.narrow };
+      is_mask = record {
+        rising = rising_of flat (in_order flat end h.sorted);
+        fits =
+            subst (All IsNarrow) whole h.narrow;
+      };
       layers_are = subst (λ ds. AreDigests ds d.layers.items) whole h.listed;
       bytes = found.0;
       bytes_are = found.1;
@@ -188,7 +192,8 @@ kept_digested k found d h named is = record {
   };
 }
 
-digested_lifted : (file : File) (found : List (PlainCell Rings)) (head : Head) → IsLayoutOf file.ignore file.bytes found head
+digested_lifted : (file : File) (found : List (PlainCell Rings)) (head : Head)
+    → IsLayoutOf file.ignore file.bytes found head
     → (d : Digested) → d.head ≡ head → IsDigestedKept (kept_named found file.top) d → IsDigestedFile file d
 digested_lifted file found head read d head_is k =
     let l = top_lifted file found head read k.settled k.in_range in
@@ -205,7 +210,8 @@ digested_lifted file found head read d head_is k =
       };
     }
 
-pub file_digested : (file : File) (found : List (PlainCell Rings)) (head : Head) → IsLayoutOf file.ignore file.bytes found head
+pub file_digested : (file : File) (found : List (PlainCell Rings)) (head : Head)
+    → IsLayoutOf file.ignore file.bytes found head
     → (r : Result Digested Refusal) → IfOk r (λ d. d.head ≡ head)
     → IfOk r (IsDigestedKept (kept_named found file.top)) → IfOk r (IsDigestedFile file)
 file_digested file found head read (Ok d) head_is k = digested_lifted file found head read d head_is k

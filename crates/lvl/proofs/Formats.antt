@@ -35,7 +35,8 @@ goes_on : (byte : ℕ) (bytes first rest : List ℕ) → bytes ≡ first ++ rest
 goes_on byte bytes first rest e b = record { rest = b.rest ++ rest; is = e ∙ ap (λ l. l ++ rest) b.is }
 
 -- a record's first byte is the high one of its length, which is 6 in a header
-header_begins : (ignore : Ignore) (bytes : List ℕ) (r : Rec) → r.kind ≡ header → SpellsRecord ignore bytes r → BeginsWith 0 bytes
+header_begins : (ignore : Ignore) (bytes : List ℕ) (r : Rec) → r.kind ≡ header → SpellsRecord ignore bytes r
+    → BeginsWith 0 bytes
 header_begins ignore bytes r e (inr i) = record { rest = []; is = i.1 }
 header_begins ignore bytes r e (inl i) =
     let form = subst (λ k. IsOfForm (form_of ignore k) r.data_type (length r.payload)) e i.0.form in
@@ -49,7 +50,8 @@ first_is first others [] w = (let z : [] ≡ first ∷ w.1 = w.4 ∙ ap (λ u. u
 first_is first others (r ∷ rs) w =
     (let z : r.kind ∷ kinds rs ≡ first ∷ w.1 = w.4 ∙ ap (λ u. u ++ w.1) w.2 in (r, rs, refl, cc))
 
-records_begin : (ignore : Ignore) (bytes : List ℕ) (r : Rec) (more : List Rec) → r.kind ≡ header → SpellsAll (gds ignore) [] bytes (r ∷ more)
+records_begin : (ignore : Ignore) (bytes : List ℕ) (r : Rec) (more : List Rec) → r.kind ≡ header
+    → SpellsAll (gds ignore) [] bytes (r ∷ more)
     → BeginsWith 0 bytes
 records_begin ignore bytes r more e s = goes_on 0 bytes s.0 s.1 s.4 (header_begins ignore s.0 r e s.2)
 
@@ -80,7 +82,8 @@ gds_begins_at ignore bytes (r ∷ rs) s f w =
     let e = first_is header after_header (r ∷ essential ignore rs) (subst (λ l. IsWord a_library (kinds l)) same w) in
     records_begin ignore bytes r rs (let k : r ≡ e.0 = cc in ap (λ (x : Rec). x.kind) k ∙ e.3) s
 
-pub gds_begins : (ignore : Ignore) (bytes : List ℕ) (cells : List Drawing) (h : GdsHead) → SpellsGds ignore bytes cells h
+pub gds_begins : (ignore : Ignore) (bytes : List ℕ) (cells : List Drawing) (h : GdsHead)
+    → SpellsGds ignore bytes cells h
     → BeginsWith 0 bytes
 gds_begins ignore bytes cells h s =
     gds_begins_at ignore bytes s.records s.whole.front.spelled s.whole.front.followed s.whole.whole
@@ -94,7 +97,8 @@ obeyed_is : (x m : ℕ) (b : Bool) (u : ℕ) → x == m ≡ b → given u ≡ Ok
 obeyed_is x m true u e o = type_same x m e
 obeyed_is x m false u e o = cc
 
-byte_begins : (ignore : Ignore) (m u : ℕ) (bytes first second : List ℕ) (v : Result ℕ ValueFault) → bytes ≡ first ++ second
+byte_begins : (ignore : Ignore) (m u : ℕ) (bytes first second : List ℕ) (v : Result ℕ ValueFault)
+    → bytes ≡ first ++ second
     → IsByte ignore first v
     → UnlessBreached (λ b. Must (b == m) b Magic ignore) v second (Ok (Ok u)) → BeginsWith m bytes
 byte_begins ignore m u bytes first second (Err f) e p q = absurd p
@@ -102,7 +106,8 @@ byte_begins ignore m u bytes first second (Ok x) e p q =
     let is : x ≡ m = obeyed_is x m (x == m) u refl q.1 in
     goes_on m bytes first second e (record { rest = []; is = rw is at p })
 
-magic_first : (ignore : Ignore) (m : ℕ) (ms bytes first second : List ℕ) (u : Unit {0}) (v : Result (Result ℕ RecordRule) ValueFault)
+magic_first : (ignore : Ignore) (m : ℕ) (ms bytes first second : List ℕ) (u : Unit {0})
+    (v : Result (Result ℕ RecordRule) ValueFault)
     → bytes ≡ first ++ second
     → IsMagicByte m ignore first v
     → UnlessBreached (λ x. UnlessRuled (λ b. AreMagicBytes ms) x ignore) v second (Ok (Ok u))
@@ -110,35 +115,42 @@ magic_first : (ignore : Ignore) (m : ℕ) (ms bytes first second : List ℕ) (u 
 magic_first ignore m ms bytes first second u (Err f) e p q = (let z = q.1 in cc)
 magic_first ignore m ms bytes first second u (Ok (Err k)) e p q = (let z = q.1 in cc)
 magic_first ignore m ms bytes first second u (Ok (Ok b)) e p q =
-    goes_on m bytes first second e (byte_begins ignore m b first p.first p.second p.value p.joined p.first_says p.second_says)
+    goes_on m bytes first second e (byte_begins ignore m b first p.first p.second p.value p.joined p.first_says
+    p.second_says)
 
 -- the magic string after its first byte
 abbrev magic_rest : List ℕ
 magic_rest = 0x53 ∷ 0x45 ∷ 0x4D ∷ 0x49 ∷ 0x2D ∷ 0x4F ∷ 0x41 ∷ 0x53 ∷ 0x49 ∷ 0x53 ∷ 0x0D ∷ 0x0A ∷ []
 
-magic_begins : (ignore : Ignore) (bytes : List ℕ) (u : Unit {0}) → IsMagic ignore bytes (Ok (Ok u)) → BeginsWith 0x25 bytes
+magic_begins : (ignore : Ignore) (bytes : List ℕ) (u : Unit {0}) → IsMagic ignore bytes (Ok (Ok u))
+    → BeginsWith 0x25 bytes
 magic_begins ignore bytes u p =
     magic_first ignore 0x25 magic_rest bytes p.first p.second u p.value p.joined p.first_says p.second_says
 
-item_first : (ignore : Ignore) (i : Item) (bytes first second : List ℕ) (v : Result (Result (Unit {0}) RecordRule) ValueFault)
+item_first : (ignore : Ignore) (i : Item) (bytes first second : List ℕ)
+    (v : Result (Result (Unit {0}) RecordRule) ValueFault)
     → bytes ≡ first ++ second
     → IsMagic ignore first v → UnlessBreached (λ x b y. (b ≡ []) × (y ≡ Ok (of_magic x))) v second (Ok (Ok i))
     → BeginsWith 0x25 bytes
 item_first ignore i bytes first second (Err f) e p q = (let z = q.1 in cc)
 item_first ignore i bytes first second (Ok (Err k)) e p q = (let z = q.1 in cc)
-item_first ignore i bytes first second (Ok (Ok u)) e p q = goes_on 0x25 bytes first second e (magic_begins ignore first u p)
+item_first ignore i bytes first second (Ok (Ok u)) e p q = goes_on 0x25 bytes first second e
+    (magic_begins ignore first u p)
 
 ended_nothing : (before : List Item) (x : Item) → [] ≡ before ++ x ∷ [] → ⊥
 ended_nothing [] x e = cc
 ended_nothing (i ∷ is) x e = cc
 
-items_begin : (ignore : Ignore) (bytes : List ℕ) (is : List Item) → SpellsAll (oasis ignore) [] bytes is → IsEnded is → BeginsWith 0x25 bytes
+items_begin : (ignore : Ignore) (bytes : List ℕ) (is : List Item) → SpellsAll (oasis ignore) [] bytes is → IsEnded is
+    → BeginsWith 0x25 bytes
 items_begin ignore bytes [] s e = absurd (ended_nothing e.0 (item (End e.1)) e.2)
 items_begin ignore bytes (i ∷ is) s e =
     let p : IsItem [] ignore s.0 (Ok (Ok i)) = s.2 in
-    goes_on 0x25 bytes s.0 s.1 s.4 (item_first ignore i s.0 p.first p.second p.value p.joined p.first_says p.second_says)
+    goes_on 0x25 bytes s.0 s.1 s.4 (item_first ignore i s.0 p.first p.second p.value p.joined p.first_says
+    p.second_says)
 
-pub oasis_begins : (ignore : Ignore) (bytes : List ℕ) (cells : List Drawing) (h : OasisHead) → SpellsOasis ignore bytes cells h
+pub oasis_begins : (ignore : Ignore) (bytes : List ℕ) (cells : List Drawing) (h : OasisHead)
+    → SpellsOasis ignore bytes cells h
     → BeginsWith 0x25 bytes
 oasis_begins ignore bytes cells h s = items_begin ignore bytes s.items s.whole.front.spelled s.whole.whole
 
@@ -151,8 +163,10 @@ pub not_oasis : (first : Option ℕ) (bytes : List ℕ) → HasFirst first bytes
 not_oasis None bytes p n q = (let e : [] ≡ 0x25 ∷ q.rest = sym p ∙ q.is in cc)
 not_oasis (Some b) bytes p n q = n (ap Some (one_byte b 0x25 bytes p q))
 
-pub one_format : (ignore : Ignore) (bytes : List ℕ) (ours theirs : List Drawing) (g : GdsHead) (o : OasisHead) → SpellsGds ignore bytes ours g
+pub one_format : (ignore : Ignore) (bytes : List ℕ) (ours theirs : List Drawing) (g : GdsHead) (o : OasisHead)
+    → SpellsGds ignore bytes ours g
     → SpellsOasis ignore bytes theirs o → ⊥
 one_format ignore bytes ours theirs g o p q =
-    (let e : 0 ≡ 0x25 = one_byte 0 0x25 bytes (gds_begins ignore bytes ours g p) (oasis_begins ignore bytes theirs o q) in
+    (let e : 0 ≡ 0x25 = one_byte 0 0x25 bytes (gds_begins ignore bytes ours g p)
+    (oasis_begins ignore bytes theirs o q) in
     omega (arith, e))

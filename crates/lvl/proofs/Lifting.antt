@@ -41,19 +41,23 @@ found_as : (file : File) (found : List (PlainCell Rings)) (head : Head) → IsLa
 found_as file found head read cells h s = (read.alone cells h s).0
 
 by_found : (P : List (PlainCell Rings) → Type 0) (file : File) (cells : List (PlainCell Rings)) (head : Head)
-    → IsLayoutOf file.ignore file.bytes cells head → P cells → (others : List Drawing) (h : Head) → Spells file.ignore file.bytes others h
+    → IsLayoutOf file.ignore file.bytes cells head → P cells → (others : List Drawing) (h : Head)
+    → Spells file.ignore file.bytes others h
     → P (kept figure_rings others)
 by_found P file cells head read p others h s = subst P (found_as file cells head read others h s) p
 
 -- the check of cells
 
-pub cell_told : (file : File) (cells : List (PlainCell Rings)) (head : Head) → IsLayoutOf file.ignore file.bytes cells head
+pub cell_told : (file : File) (cells : List (PlainCell Rings)) (head : Head)
+    → IsLayoutOf file.ignore file.bytes cells head
     → (fault : CellFault) → IsCellFault (record { cells = cells; top = file.top }) fault
-    → (others : List Drawing) (h : Head) → Spells file.ignore file.bytes others h → IsCellFault (kept_of file others) fault
+    → (others : List Drawing) (h : Head) → Spells file.ignore file.bytes others h
+    → IsCellFault (kept_of file others) fault
 cell_told file cells head read fault told =
     by_found (λ c. IsCellFault (record { cells = c; top = file.top }) fault) file cells head read told
 
-pub cell_unaccepted : (file : File) (cells : List (PlainCell Rings)) (head : Head) → IsLayoutOf file.ignore file.bytes cells head
+pub cell_unaccepted : (file : File) (cells : List (PlainCell Rings)) (head : Head)
+    → IsLayoutOf file.ignore file.bytes cells head
     → (fault : CellFault) → IsCellFault (record { cells = cells; top = file.top }) fault → IsUnaccepted file
 cell_unaccepted file cells head read fault told others top accepted =
     let here = cell_told file cells head read fault told others accepted.head accepted.spelled in
@@ -101,7 +105,8 @@ pub record IsTopLifted (file : File) (others : List Drawing) (cells : List (Plai
   pub kept_as : drawn figure_rings top ≡ c
   pub draws : (layer : Layer) (s : Square) → CellCovers RingsCover cells layer c s ↔ Draws others top layer s
 
-pub top_lifted : (file : File) (cells : List (PlainCell Rings)) (head : Head) (read : IsLayoutOf file.ignore file.bytes cells head)
+pub top_lifted : (file : File) (cells : List (PlainCell Rings)) (head : Head)
+    (read : IsLayoutOf file.ignore file.bytes cells head)
     (s : Settled) → (r : IsInRangeAs (record { cells = cells; top = file.top }) s)
     → IsTopLifted file read.cells s.cells r.top
 top_lifted file cells head read s r =
@@ -144,7 +149,8 @@ pub record IsLifted (file : File) (others : List Drawing) (sheets : List PlainSh
   pub accepted : IsAccepted file others top
   pub draws : (layer : Layer) (s : Square) → RingsCover (rings_on layer sheets) s ↔ Draws others top layer s
 
-pub lifted : (file : File) (cells : List (PlainCell Rings)) (head : Head) (read : IsLayoutOf file.ignore file.bytes cells head)
+pub lifted : (file : File) (cells : List (PlainCell Rings)) (head : Head)
+    (read : IsLayoutOf file.ignore file.bytes cells head)
     (sheets : List PlainSheet) → IsFlattenedAs (record { cells = cells; top = file.top }) sheets
     → IsLifted file read.cells sheets
 lifted file cells head read sheets f =
@@ -160,9 +166,11 @@ lifted file cells head read sheets f =
           (λ h. r.0 (q.0 h), λ h. q.1 (r.1 h));
     }
 
-pub range_told : (file : File) (cells : List (PlainCell Rings)) (head : Head) → IsLayoutOf file.ignore file.bytes cells head
+pub range_told : (file : File) (cells : List (PlainCell Rings)) (head : Head)
+    → IsLayoutOf file.ignore file.bytes cells head
     → (fault : FlatFault) → IsRangeFault (record { cells = cells; top = file.top }) fault
-    → (others : List Drawing) (h : Head) → Spells file.ignore file.bytes others h → IsRangeFault (kept_of file others) fault
+    → (others : List Drawing) (h : Head) → Spells file.ignore file.bytes others h
+    → IsRangeFault (kept_of file others) fault
 range_told file cells head read fault told =
     by_found (λ c. IsRangeFault (record { cells = c; top = file.top }) fault) file cells head read told
 
@@ -190,7 +198,8 @@ fault_in_range : (file : File) (others : List Drawing) (top : Drawing) (s : Sett
 fault_in_range file others top s (OutOfRange name) accepted checked told =
     out_of_range file others top s name.items accepted checked told
 
-pub range_unaccepted : (file : File) (cells : List (PlainCell Rings)) (head : Head) → IsLayoutOf file.ignore file.bytes cells head
+pub range_unaccepted : (file : File) (cells : List (PlainCell Rings)) (head : Head)
+    → IsLayoutOf file.ignore file.bytes cells head
     → (fault : FlatFault) → IsRangeFault (record { cells = cells; top = file.top }) fault → IsUnaccepted file
 range_unaccepted file cells head read fault told others top accepted =
     let here = range_told file cells head read fault told others accepted.head accepted.spelled in

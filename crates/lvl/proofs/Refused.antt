@@ -46,7 +46,8 @@ pub no_memory : (side : Side) (file : File) → IsRefusalOf side file OutOfMemor
 no_memory First file = record { unaccepted = λ b. absurd b; told = tt; passed = tt }
 no_memory Second file = record { unaccepted = λ b. absurd b; told = tt; passed = tt }
 
-pub file_refused : (side : Side) (file : File) (r : Refusal) → IsReadRefusal side file.ignore file.bytes r → IsRefusalOf side file r
+pub file_refused : (side : Side) (file : File) (r : Refusal) → IsReadRefusal side file.ignore file.bytes r
+    → IsRefusalOf side file r
 file_refused side file (FileRefusal s f) h = record {
   unaccepted = λ b cells top accepted. h.1.nothing b.1 cells accepted.head accepted.spelled;
   told = λ e. h.1.told;
@@ -68,7 +69,8 @@ second_of_first file (CellsRefusal s f) h = absurd h
 second_of_first file (FlatRefusal s f) h = absurd h
 second_of_first file OutOfMemory h = no_memory Second file
 
-pub first_of_second : (file : File) (cells : List (PlainCell Rings)) (head : Head) → IsLayoutOf file.ignore file.bytes cells head
+pub first_of_second : (file : File) (cells : List (PlainCell Rings)) (head : Head)
+    → IsLayoutOf file.ignore file.bytes cells head
     → (r : Refusal) → IsOfFile Second r
     → IsRefusalOf First file r
 first_of_second file cells head read (FileRefusal First f) h = absurd (first_second h)
@@ -83,7 +85,8 @@ first_of_second file cells head read OutOfMemory h = no_memory First file
 
 -- libraries that were not compared
 
-pub first_refused : (a : File) (k : Kept) (cells : List (PlainCell Rings)) (head : Head) → IsLayoutOf a.ignore a.bytes cells head
+pub first_refused : (a : File) (k : Kept) (cells : List (PlainCell Rings)) (head : Head)
+    → IsLayoutOf a.ignore a.bytes cells head
     → (r : Refusal)
     → IsKeptRefusal (record { cells = cells; top = a.top }) k r → IsRefusalOf First a r
 first_refused a k cells head read (FileRefusal s f) h = absurd h

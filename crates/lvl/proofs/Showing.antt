@@ -69,7 +69,8 @@ shown_back rings cells top shown h = record {
   layers_are = layers_back rings cells top shown.layers.items h.layers_are;
 }
 
-shown_lifted : (file : File) (found : List (PlainCell Rings)) (head : Head) → IsLayoutOf file.ignore file.bytes found head
+shown_lifted : (file : File) (found : List (PlainCell Rings)) (head : Head)
+    → IsLayoutOf file.ignore file.bytes found head
     → (shown : Shown) → shown.head ≡ head → IsShownKept (kept_named found file.top) shown → IsShownFile file shown
 shown_lifted file found head read shown head_is k =
     let others : List Drawing = read.cells in
@@ -96,7 +97,8 @@ shown_lifted file found head read shown head_is k =
       shown_is = shown_back figure_rings others l.top shown here;
     }
 
-pub file_shown : (file : File) (found : List (PlainCell Rings)) (head : Head) → IsLayoutOf file.ignore file.bytes found head
+pub file_shown : (file : File) (found : List (PlainCell Rings)) (head : Head)
+    → IsLayoutOf file.ignore file.bytes found head
     → (r : Result Shown Refusal) → IfOk r (λ shown. shown.head ≡ head)
     → IfOk r (IsShownKept (kept_named found file.top)) → IfOk r (IsShownFile file)
 file_shown file found head read (Ok shown) head_is k = shown_lifted file found head read shown head_is k
@@ -112,7 +114,8 @@ passed_flat : (side : Side) (file : File) (f : FlatFault) → side ≡ First →
 passed_flat First file f e p = p
 passed_flat Second file f e p = cc
 
-pub show_refused : (file : File) (found : List (PlainCell Rings)) (head : Head) → IsLayoutOf file.ignore file.bytes found head
+pub show_refused : (file : File) (found : List (PlainCell Rings)) (head : Head)
+    → IsLayoutOf file.ignore file.bytes found head
     → (r : Refusal) → IsShowRefusal (kept_named found file.top) r → IsRefusalOf First file r
 show_refused file found head read (FileRefusal side f) h = absurd h
 show_refused file found head read (CellsRefusal side f) h = record {

@@ -40,22 +40,37 @@ gds_alone ignore xs found h read others (Gds g) s =
     let p = read.only others g s in (read.kept_as ∙ ap (kept figure_rings) (sym p.0), ap Gds (sym p.1))
 gds_alone ignore xs found h read others (Oasis o) s = absurd (one_format ignore xs read.cells others h o read.spelled s)
 
-pub gds_read : (ignore : Ignore) (xs : List ℕ) (found : List (PlainCell Rings)) (h : GdsHead) → IsReadGds ignore xs found h
+pub gds_read : (ignore : Ignore) (xs : List ℕ) (found : List (PlainCell Rings)) (h : GdsHead)
+    → IsReadGds ignore xs found h
     → IsLayoutOf ignore xs found (Gds h)
 gds_read ignore xs found h read =
-    record { cells = read.cells; spelled = read.spelled; kept_as = read.kept_as; alone = gds_alone ignore xs found h read }
+    record {
+      cells = read.cells;
+      spelled = read.spelled;
+      kept_as = read.kept_as;
+      alone =
+          gds_alone ignore xs found h read;
+    }
 
-oasis_alone : (ignore : Ignore) (xs : List ℕ) (found : List (PlainCell Rings)) (h : OasisHead) → IsReadOasis ignore xs found h
+oasis_alone : (ignore : Ignore) (xs : List ℕ) (found : List (PlainCell Rings)) (h : OasisHead)
+    → IsReadOasis ignore xs found h
     → (others : List Drawing) (head : Head)
     → Spells ignore xs others head → (found ≡ kept figure_rings others) × (Oasis h ≡ head)
 oasis_alone ignore xs found h read others (Oasis o) s =
     let p = read.only others o s in (read.kept_as ∙ ap (kept figure_rings) (sym p.0), ap Oasis (sym p.1))
 oasis_alone ignore xs found h read others (Gds g) s = absurd (one_format ignore xs others read.cells g h s read.spelled)
 
-pub oasis_read : (ignore : Ignore) (xs : List ℕ) (found : List (PlainCell Rings)) (h : OasisHead) → IsReadOasis ignore xs found h
+pub oasis_read : (ignore : Ignore) (xs : List ℕ) (found : List (PlainCell Rings)) (h : OasisHead)
+    → IsReadOasis ignore xs found h
     → IsLayoutOf ignore xs found (Oasis h)
 oasis_read ignore xs found h read =
-    record { cells = read.cells; spelled = read.spelled; kept_as = read.kept_as; alone = oasis_alone ignore xs found h read }
+    record {
+      cells = read.cells;
+      spelled = read.spelled;
+      kept_as = read.kept_as;
+      alone =
+          oasis_alone ignore xs found h read;
+    }
 
 -- a file that was not read spells nothing in the other format either, by its first byte
 
@@ -71,7 +86,8 @@ no_oasis ignore xs own none cells (Gds h) s =
 said : {F : Type 0} (P : F → Type 0) (r : Refusal F) (fault : F) → r ≡ Breach fault → Says r P → P fault
 said P r fault is h = subst (λ x. Says x P) is h
 
-pub gds_fault : (ignore : Ignore) (xs : List ℕ) (r : Refusal GdsFault) (fault : GdsFault) → r ≡ Breach fault → (IsOasis xs → ⊥)
+pub gds_fault : (ignore : Ignore) (xs : List ℕ) (r : Refusal GdsFault) (fault : GdsFault) → r ≡ Breach fault
+    → (IsOasis xs → ⊥)
     → Says r (TellsGds ignore xs)
     → Says r (λ f. (¬ IsExcusedGds f) → SpellsNoGds ignore xs) → IsFileFault ignore xs (GdsFile fault)
 gds_fault ignore xs r fault is other told none = record {
@@ -79,7 +95,8 @@ gds_fault ignore xs r fault is other told none = record {
   nothing = λ n. no_gds ignore xs other (said (λ f. (¬ IsExcusedGds f) → SpellsNoGds ignore xs) r fault is none n);
 }
 
-pub oasis_fault : (ignore : Ignore) (xs : List ℕ) (r : Refusal OasisFault) (fault : OasisFault) → r ≡ Breach fault → IsOasis xs
+pub oasis_fault : (ignore : Ignore) (xs : List ℕ) (r : Refusal OasisFault) (fault : OasisFault) → r ≡ Breach fault
+    → IsOasis xs
     → Says r (TellsOasis ignore xs)
     → Says r (λ f. (¬ IsExcusedOasis f) → SpellsNoOasis ignore xs) → IsFileFault ignore xs (OasisFile fault)
 oasis_fault ignore xs r fault is own told none = record {
@@ -104,7 +121,8 @@ hopeless_rest ignore xs byte inner h =
 
 pub early_rest : (ignore : Ignore) {A : Type 0} (xs : List ℕ) (byte : Option ℕ) (inner left : Option (List ℕ))
     (r : Result A (Refusal FileFault))
-    → IfErr r (λ e. Says e (λ f. IsEarlyFile f → IsHopeless ignore xs (prepend_known (given_again byte) inner))) → inner ≡ left
+    → IfErr r (λ e. Says e (λ f. IsEarlyFile f → IsHopeless ignore xs (prepend_known (given_again byte) inner)))
+    → inner ≡ left
     → IfErr r (λ e. Says e (λ f. IsEarlyFile f → IsHopeless ignore xs left))
 early_rest ignore xs byte inner left (Ok x) h e = tt
 early_rest ignore xs byte inner left (Err OutOfMemory) h e = tt
@@ -125,12 +143,14 @@ no_gds_more : (ignore : Ignore) (taken rest more : List ℕ) → 0 < length take
 no_gds_more ignore taken rest more some other none s =
     no_gds ignore (taken ++ more) (λ o. other (begun_so 0x25 taken rest more some o)) none s.0 s.1 s.2
 
-no_oasis_more : (ignore : Ignore) (taken rest more : List ℕ) → 0 < length taken → IsOasis (taken ++ rest) → SpellsNoOasis ignore (taken ++ more)
+no_oasis_more : (ignore : Ignore) (taken rest more : List ℕ) → 0 < length taken → IsOasis (taken ++ rest)
+    → SpellsNoOasis ignore (taken ++ more)
     → SpellsSome ignore (taken ++ more) → ⊥
 no_oasis_more ignore taken rest more some own none s =
     no_oasis ignore (taken ++ more) (begun_so 0x25 taken more rest some own) none s.0 s.1 s.2
 
-pub gds_early : (ignore : Ignore) (xs : List ℕ) (left : Option (List ℕ)) (r : Refusal GdsFault) (fault : GdsFault) → r ≡ Breach fault
+pub gds_early : (ignore : Ignore) (xs : List ℕ) (left : Option (List ℕ)) (r : Refusal GdsFault) (fault : GdsFault)
+    → r ≡ Breach fault
     → (IsOasis xs → ⊥)
     → Says r (λ f. IsEarlyGds f → IsHopelessStream (gds ignore) xs left) → IsEarlyGds fault → IsHopeless ignore xs left
 gds_early ignore xs left r fault is other early soon =
@@ -147,7 +167,8 @@ gds_early ignore xs left r fault is other early soon =
 
 pub oasis_early : (ignore : Ignore) (xs : List ℕ) (left : Option (List ℕ)) (r : Refusal OasisFault) (fault : OasisFault)
     → r ≡ Breach fault → IsOasis xs
-    → Says r (λ f. IsEarlyOasis f → IsHopelessStream (oasis ignore) xs left) → IsEarlyOasis fault → IsHopeless ignore xs left
+    → Says r (λ f. IsEarlyOasis f → IsHopelessStream (oasis ignore) xs left) → IsEarlyOasis fault
+    → IsHopeless ignore xs left
 oasis_early ignore xs left r fault is own early soon =
     let h = said (λ f. IsEarlyOasis f → IsHopelessStream (oasis ignore) xs left) r fault is early soon in
     record {

@@ -149,7 +149,8 @@ second_fault a b s t first checked (FlatRefusal Second f) h =
 second_fault a b s t first checked OutOfMemory h = tt
 
 pub second_told : (a b : Kept) (s u t : Settled) → IsCheckedAs a s → u ≡ s → IsTopInRange u → IsCheckedAs b t
-    → (e : Refusal) → IsFlattenRefusal Second t e → (res : Result Verdict Refusal) → IsErr res × IsErrAnd res (λ r. r ≡ e)
+    → (e : Refusal) → IsFlattenRefusal Second t e → (res : Result Verdict Refusal)
+    → IsErr res × IsErrAnd res (λ r. r ≡ e)
     → IfErr res (IsKeptRefusal a b)
 second_told a b s u t first same in' second e h (Ok v) is = tt
 second_told a b s u t first same in' second e h (Err r) is =

@@ -63,7 +63,8 @@ IsTold side file OutOfMemory = ⊤
 
 -- the file's library passes the check of its cells
 abbrev pub PassesCheck : File → Type 0
-PassesCheck file = (cells : List Drawing) × (head : Head) × Spells file.ignore file.bytes cells head × Passes (kept_of file cells)
+PassesCheck file = (cells : List Drawing) × (head : Head) × Spells file.ignore file.bytes cells head
+    × Passes (kept_of file cells)
 
 -- the steps for the file of that side that come before the one that refused passed: both files are read, then both are
 -- checked, then both are flattened, the first before the second

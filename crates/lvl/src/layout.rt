@@ -88,7 +88,8 @@ fn read_as_gds<R: Read>(
     ensures refused { (xs : List ℕ) → R.remaining reader.old ≡ Some xs → (¬ IsOasis xs)
         → IfErr result (λ refusal. Says refusal (IsFileFault ignore xs)) }
     ensures early { (xs : List ℕ) → R.remaining reader.old ≡ Some xs → (¬ IsOasis xs)
-        → IfErr result (λ refusal. Says refusal (λ fault. IsEarlyFile fault → IsHopeless ignore xs (R.remaining reader.new))) }
+        → IfErr result (λ refusal. Says refusal (λ fault. IsEarlyFile fault
+        → IsHopeless ignore xs (R.remaining reader.new))) }
     ensures reads { CountsFailure (R.read_errors reader.old) (R.read_errors reader.new) (is_failed_read result) }
     ensures same { R.lent reader.new ≡ R.lent reader.old }
 {
@@ -110,7 +111,8 @@ fn read_as_oasis<R: Read>(
     ensures refused { (xs : List ℕ) → R.remaining reader.old ≡ Some xs → IsOasis xs
         → IfErr result (λ refusal. Says refusal (IsFileFault ignore xs)) }
     ensures early { (xs : List ℕ) → R.remaining reader.old ≡ Some xs → IsOasis xs
-        → IfErr result (λ refusal. Says refusal (λ fault. IsEarlyFile fault → IsHopeless ignore xs (R.remaining reader.new))) }
+        → IfErr result (λ refusal. Says refusal (λ fault. IsEarlyFile fault
+        → IsHopeless ignore xs (R.remaining reader.new))) }
     ensures reads { CountsFailure (R.read_errors reader.old) (R.read_errors reader.new) (is_failed_read result) }
     ensures same { R.lent reader.new ≡ R.lent reader.old }
 {
@@ -140,7 +142,8 @@ fn read_by<R: Read>(
     ensures refused { (xs : List ℕ) → R.remaining reader.old ≡ Some xs → HasFirst first xs
         → IfErr result (λ refusal. Says refusal (IsFileFault ignore xs)) }
     ensures early { (xs : List ℕ) → R.remaining reader.old ≡ Some xs → HasFirst first xs
-        → IfErr result (λ refusal. Says refusal (λ fault. IsEarlyFile fault → IsHopeless ignore xs (R.remaining reader.new))) }
+        → IfErr result (λ refusal. Says refusal (λ fault. IsEarlyFile fault
+        → IsHopeless ignore xs (R.remaining reader.new))) }
     ensures reads { CountsFailure (R.read_errors reader.old) (R.read_errors reader.new) (is_failed_read result) }
     ensures same { R.lent reader.new ≡ R.lent reader.old }
 {
@@ -170,7 +173,8 @@ pub fn read_layout<R: Read>(alloc: Global, reader: &mut R) -> Result<Layout, Ref
     ensures refused { (xs : List ℕ) → R.remaining reader.old ≡ Some xs
         → IfErr result (λ refusal. Says refusal (IsFileFault nothing xs)) }
     ensures early { (xs : List ℕ) → R.remaining reader.old ≡ Some xs
-        → IfErr result (λ refusal. Says refusal (λ fault. IsEarlyFile fault → IsHopeless nothing xs (R.remaining reader.new))) }
+        → IfErr result (λ refusal. Says refusal (λ fault. IsEarlyFile fault
+        → IsHopeless nothing xs (R.remaining reader.new))) }
     ensures reads { CountsFailure (R.read_errors reader.old) (R.read_errors reader.new) (is_failed_read result) }
 {
     read_layout_by(alloc, reader, Ignore::NOTHING)
@@ -189,7 +193,8 @@ pub fn read_layout_by<R: Read>(
     ensures refused { (xs : List ℕ) → R.remaining reader.old ≡ Some xs
         → IfErr result (λ refusal. Says refusal (IsFileFault ignore xs)) }
     ensures early { (xs : List ℕ) → R.remaining reader.old ≡ Some xs
-        → IfErr result (λ refusal. Says refusal (λ fault. IsEarlyFile fault → IsHopeless ignore xs (R.remaining reader.new))) }
+        → IfErr result (λ refusal. Says refusal (λ fault. IsEarlyFile fault
+        → IsHopeless ignore xs (R.remaining reader.new))) }
     ensures reads { CountsFailure (R.read_errors reader.old) (R.read_errors reader.new) (is_failed_read result) }
 {
     let Ok(first) = take_first(reader) else {

@@ -49,5 +49,6 @@ box_more held spot next ps i none low at is all =
 pub box_has : (held : Window) (ring : List Point) (i : ℕ) → length ring ≤ i
     → All (IsWithin (corners held)) (take i ring) → (s : Square) → Covers ring s → IsInWindow held s
 box_has held ring i long all s covers =
-    let whole : All (IsWithin (corners held)) ring = subst (λ ps. All (IsWithin (corners held)) ps) (take_all i ring long) all in
+    let whole : All (IsWithin (corners held)) ring = subst (λ ps. All (IsWithin (corners held)) ps)
+    (take_all i ring long) all in
     square_window (corners held) s (ring_square (corners held) ring s whole covers)

@@ -30,7 +30,10 @@ pub into_all : {X : Type 0} (P : Square → X → Type 0) (xs : List X) (i : ℕ
 into_all P xs i Q all long has s out any = has s out (subst (λ ys. Any (P s) ys) (sym (take_all i xs long)) any)
 
 pub widens_to : (first old new all : Windows) → Widens first old → Widens old new → all ≡ new → Widens first all
-widens_to first old new all p q is = record { has = λ s h. subst (λ (w : Windows). Has w s) (sym is) (q.has s (p.has s h)) }
+widens_to first old new all p q is = record {
+  has = λ s h. subst (λ (w : Windows). Has w s) (sym is)
+      (q.has s (p.has s h));
+}
 
 pub none_is : {X : Type 0} (o : Option X) (P : Type 0) → is_some o ≡ false → IfNone o P → P
 none_is None P e h = h

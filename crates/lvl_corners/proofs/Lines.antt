@@ -99,7 +99,8 @@ corners_apart (k ∷ ks) (l ∷ ls) x y f g s t u v h =
     (sym (append_assoc (corner_bytes k) (flat_map corner_bytes ks) x)
     ∙ (h ∙ append_assoc (corner_bytes l) (flat_map corner_bytes ls) y)) in
     let first : k ≡ l = corner_decides k l (All-head FitsCorner k ks f) (All-head FitsCorner l ls g) parts.0 in
-    let rest = corners_apart ks ls x y (All-tail FitsCorner k ks f) (All-tail FitsCorner l ls g) (All-tail IsSmall k ks s)
+    let rest = corners_apart ks ls x y (All-tail FitsCorner k ks f) (All-tail FitsCorner l ls g)
+    (All-tail IsSmall k ks s)
     (All-tail IsSmall l ls t) u v parts.1 in
     (rw (first, rest.0) refl, rest.1)
 

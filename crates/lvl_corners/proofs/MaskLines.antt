@@ -12,7 +12,8 @@ use Rattle.lvl_names.specs.Layers.{ComesBefore}
 use Rattle.lvl_corners.specs.declared.corner.Corner.{Corner}
 use Rattle.lvl_corners.specs.Corners.{change_at, AreCornersOf, FitsCorner}
 use Rattle.lvl_corners.specs.Masks.{Drawn, drawn_bytes, AreMaskBytes, IsMask, CoversOn, MaskBytesDecide}
-use Rattle.lvl_corners.proofs.Pairs.{later_pairs, first_pairs, cons_pairs, in_later, in_first, first_or_later, one_order}
+use Rattle.lvl_corners.proofs.Pairs.{later_pairs, first_pairs, cons_pairs, in_later, in_first, first_or_later}
+use Rattle.lvl_corners.proofs.Pairs.{one_order}
 use Rattle.lvl_corners.proofs.Deciding.{one_list, same_squares}
 use Rattle.lvl_corners.proofs.Lines.{Line, line_bytes, FitsLine, line_is, corners_small, lines_decide}
 
@@ -188,7 +189,8 @@ added d ds bytes later k ks mask are fits rest e =
       }) rest.fit;
       rising = cons_pairs IsEarlier l rest.lines (λ m there.
           let of = rest.each m there in
-          subst (ComesBefore d.layer) of.layer (first_pairs (λ d e. ComesBefore d.layer e.layer) d ds of.drawn mask.rising
+          subst (ComesBefore d.layer) of.layer
+          (first_pairs (λ d e. ComesBefore d.layer e.layer) d ds of.drawn mask.rising
           of.there)) rest.rising;
       each = λ m there. elim (first_or_later l rest.lines m there) [
         | inl same ↦ subst (IsLineOf (d ∷ ds)) same first
@@ -273,7 +275,8 @@ covered_too first second bs cs a b same layer s (i, d, lt, at, both) =
     let l : Line = record { layer = d.layer; corners = has.corners } in
     let other = b.each l (subst (λ (ls : List Line). Contains ls l) same has.there) in
     drawn_covers second other.drawn layer s other.there (other.layer ∙ both.0)
-    ((same_squares (SomeCovers d.rings) (SomeCovers other.drawn.rings) has.corners has.corners has.are other.corners refl
+    ((same_squares (SomeCovers d.rings) (SomeCovers other.drawn.rings) has.corners has.corners has.are other.corners
+    refl
     s).0 both.1)
 
 abbrev CoverAlike : List Drawn → List Drawn → Type 0

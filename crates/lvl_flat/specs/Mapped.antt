@@ -15,7 +15,8 @@ use Rattle.lvl_flat.specs.Sheets.{rings_on}
 -- on each Layer the second cover what the first cover on the Layers whose target it is
 abbrev pub IsMapped : List LayerPair → List PlainSheet → List PlainSheet → Type 0
 IsMapped pairs from to =
-    (layer : Layer) (s : Square) → RingsCover (rings_on layer to) s ↔ IsMoved pairs (λ l. RingsCover (rings_on l from)) layer s
+    (layer : Layer) (s : Square) → RingsCover (rings_on layer to) s
+    ↔ IsMoved pairs (λ l. RingsCover (rings_on l from)) layer s
 
 -- the rings of the Layers whose target is this one, in the order of those Layers
 abbrev pub mapped_on : List LayerPair → Layer → List PlainSheet → Rings

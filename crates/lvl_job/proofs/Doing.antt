@@ -54,7 +54,8 @@ module _ {S : Type 0} (opens : S → List ℕ → Option (Option (List ℕ)) →
     first_opened = first;
     second_opened = second;
     holds =
-        (let P : ℕ → Type 0 = λ n. Holds (input a.ignore xs left n after a.top) (input b.ignore ys rest f later b.top) in
+        (let P : ℕ → Type 0 = λ n. Holds (input a.ignore xs left n after a.top)
+        (input b.ignore ys rest f later b.top) in
         let Q : ℕ → Type 0 = λ n. Holds (input a.ignore xs left 0 after a.top) (input b.ignore ys rest n later b.top) in
         subst Q new_too (subst P fresh holds));
   }
@@ -92,7 +93,8 @@ module _ {S : Type 0} (opens : S → List ℕ → Option (Option (List ℕ)) →
         → ((name : List ℕ) → name ≡ string_bytes file → opens old name None new → IsNotOpened opens job old new name)
         → (OfOne opens old new (named ignore file top) (λ a. IsBegun (IsAnswerOf a) text from to)
         → IsCut opens job old new from to)
-        → (r : Result Outcome JobFault) → IfErr r (IsOneFault opens IsAnswerOf text (named ignore file top) old new from to)
+        → (r : Result Outcome JobFault)
+        → IfErr r (IsOneFault opens IsAnswerOf text (named ignore file top) old new from to)
         → IfErr r (IsFaultOfJob opens job old new from to)
     fault_of_one job ignore file top old new from to missing cut (Ok status) h = tt
     fault_of_one job ignore file top old new from to missing cut (Err fault) h = go fault h
@@ -144,14 +146,16 @@ module _ {S : Type 0} (opens : S → List ℕ → Option (Option (List ℕ)) →
   module _ (file : String Global) (top ignored : Option (String Global)) (ignore : Ignore)
       (given : IsIgnoreAsked (option_map string_bytes ignored) ignore) where
     pub shown_answered : (old new : S) (from to : Option (List ℕ)) (r : Result Outcome JobFault)
-        → IfOk r (IsOneAnswered opens IsShownBy text_of_shown (shown_outcome ignore) (named ignore file top) old new from to)
+        → IfOk r (IsOneAnswered opens IsShownBy text_of_shown (shown_outcome ignore)
+        (named ignore file top) old new from to)
         → IfOk r (IsAnswered opens (Show file top ignored) old new from to)
     shown_answered old new from to (Ok status) h = record { ignore = ignore; asked = given; holds = h }
     shown_answered old new from to (Err fault) h = tt
 
     pub digested_answered : (old new : S) (from to : Option (List ℕ)) (r : Result Outcome JobFault)
         → IfOk r
-        (IsOneAnswered opens IsDigestedBy text_of_digested (shown_outcome ignore) (named ignore file top) old new from to)
+        (IsOneAnswered opens IsDigestedBy text_of_digested (shown_outcome ignore)
+        (named ignore file top) old new from to)
         → IfOk r (IsAnswered opens (Digest file top ignored) old new from to)
     digested_answered old new from to (Ok status) h = record { ignore = ignore; asked = given; holds = h }
     digested_answered old new from to (Err fault) h = tt

@@ -59,7 +59,8 @@ begun_as text old new (Err fault) also b = record {
 }
 
 -- what a run gives that gives a part of how another ends
-pub ends_as : {X T U : Type 0} {Allowed : X → Type 0} (text : X → List ℕ) (end_of : X → T) (part : T → U) (then_of : X → U)
+pub ends_as : {X T U : Type 0} {Allowed : X → Type 0} (text : X → List ℕ) (end_of : X → T) (part : T → U) (then_of : X
+    → U)
     (old new : Option (List ℕ)) → ((answer : X) → part (end_of answer) ≡ then_of answer) → (ended : T)
     → IsWritten Allowed text end_of old new ended → IsWritten Allowed text then_of old new (part ended)
 ends_as text end_of part then_of old new is ended w = record {

@@ -36,10 +36,14 @@ pub record IsAnswerBy (Says : File → File → Comparison → Type 0) (a b : In
     (answer : Result Comparison Refusal) : Type 0 where
   pub compared : (xs ys : List ℕ) → a.bytes ≡ Some xs → b.bytes ≡ Some ys
       → IfOk answer (Says (file_named a.ignore xs a.top) (file_named b.ignore ys b.top))
-  pub first_refused : (xs : List ℕ) → a.bytes ≡ Some xs → IfErr answer (IsRefusalOf First (file_named a.ignore xs a.top))
-  pub second_refused : (ys : List ℕ) → b.bytes ≡ Some ys → IfErr answer (IsRefusalOf Second (file_named b.ignore ys b.top))
-  pub first_early : (xs : List ℕ) → a.bytes ≡ Some xs → IfErr answer (λ r. IsEarlyOf First r → IsHopeless a.ignore xs a.left)
-  pub second_early : (ys : List ℕ) → b.bytes ≡ Some ys → IfErr answer (λ r. IsEarlyOf Second r → IsHopeless b.ignore ys b.left)
+  pub first_refused : (xs : List ℕ) → a.bytes ≡ Some xs
+      → IfErr answer (IsRefusalOf First (file_named a.ignore xs a.top))
+  pub second_refused : (ys : List ℕ) → b.bytes ≡ Some ys
+      → IfErr answer (IsRefusalOf Second (file_named b.ignore ys b.top))
+  pub first_early : (xs : List ℕ) → a.bytes ≡ Some xs
+      → IfErr answer (λ r. IsEarlyOf First r → IsHopeless a.ignore xs a.left)
+  pub second_early : (ys : List ℕ) → b.bytes ≡ Some ys
+      → IfErr answer (λ r. IsEarlyOf Second r → IsHopeless b.ignore ys b.left)
   pub first_reads : CountsFailure a.before a.after (is_read_of First answer)
   pub second_reads : CountsFailure b.before b.after (is_read_of Second answer)
 

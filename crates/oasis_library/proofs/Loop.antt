@@ -43,7 +43,8 @@ none_ended e = omega (arith, ap length e.2, length-append e.0 (item (End e.1) �
 abbrev IsNothing : List Item → Type 0
 IsNothing is = is ≡ []
 
-start_to : (ignore : Ignore) (xs : List ℕ) (at : ℕ) (left : Option (List ℕ)) → at ≡ 0 → left ≡ Some xs → ReadTo (oasis ignore) xs at IsNothing left
+start_to : (ignore : Ignore) (xs : List ℕ) (at : ℕ) (left : Option (List ℕ)) → at ≡ 0 → left ≡ Some xs
+    → ReadTo (oasis ignore) xs at IsNothing left
 start_to ignore xs at left e k = record {
   records = [];
   front = record {
@@ -57,12 +58,15 @@ start_to ignore xs at left e k = record {
 }
 
 -- the magic string was read
-pub first_on : {R : Type 0} {remaining : R → Option (List ℕ)} {errors : R → ℕ} {lent : R → List GName} (ignore : Ignore) (xs : List ℕ)
+pub first_on : {R : Type 0} {remaining : R → Option (List ℕ)} {errors : R → ℕ} {lent : R → List GName} (ignore : Ignore)
+    (xs : List ℕ)
     (x : Reading) {old new : Input R}
-    → has_failed old ≡ false → input_ignore old ≡ ignore → input_offset old ≡ 0 → bytes_left remaining old ≡ Some xs → Holds x []
+    → has_failed old ≡ false → input_ignore old ≡ ignore → input_offset old ≡ 0 → bytes_left remaining old ≡ Some xs
+    → Holds x []
     → Reads remaining errors lent (IsItem []) old new (Ok (Ok magic))
     → ReadTo (oasis ignore) xs (input_offset new) (HasBegun x) (bytes_left remaining new)
-first_on {remaining = remaining} {errors = errors} {lent = lent} ignore xs x {old = old} {new = new} live under start known h p =
+first_on {remaining = remaining} {errors = errors} {lent = lent} ignore xs x {old = old} {new =
+    new} live under start known h p =
     let to = start_to ignore xs (input_offset old) (bytes_left remaining old) start known in
     item_on ignore xs IsNothing (HasBegun x) to magic live under
     (subst (λ is. Reads remaining errors lent (IsItem is) old new (Ok (Ok magic))) (sym to.holds) p)
@@ -74,8 +78,10 @@ first_on {remaining = remaining} {errors = errors} {lent = lent} ignore xs x {ol
 pub first_refused : {R : Type 0} {remaining : R → Option (List ℕ)} {errors : R → ℕ} {lent : R → List GName}
     (ignore : Ignore) (xs : List ℕ) {old new : Input R} (k : OasisKind)
     → has_failed old ≡ false → input_ignore old ≡ ignore → input_offset old ≡ 0 → bytes_left remaining old ≡ Some xs
-    → Reads remaining errors lent (IsItem []) old new (of_kind k) → RefusesAt ignore xs (remaining (input_reader new)) 0 k
-first_refused {remaining = remaining} {errors = errors} {lent = lent} ignore xs {old = old} {new = new} k live under start known p =
+    → Reads remaining errors lent (IsItem []) old new (of_kind k)
+    → RefusesAt ignore xs (remaining (input_reader new)) 0 k
+first_refused {remaining = remaining} {errors = errors} {lent = lent} ignore xs {old = old} {new =
+    new} k live under start known p =
     let to = start_to ignore xs (input_offset old) (bytes_left remaining old) start known in
     subst (λ i. RefusesAt ignore xs (remaining (input_reader new)) i k) start
     (next_refuses ignore xs to k live under (λ e. none_ended (subst IsEnded to.holds e))
@@ -94,14 +100,17 @@ as_item {remaining = remaining} {errors = errors} {lent = lent} x is {old = old}
 abbrev pub HasMore : Reading → Record → List Item → Type 0
 HasMore y r js = HasRead y js × (is : List Item) × (js ≡ is ++ item r ∷ []) × (rest : List Item) × (is ≡ magic ∷ rest)
 
-pub record_on : {R : Type 0} {remaining : R → Option (List ℕ)} {errors : R → ℕ} {lent : R → List GName} (ignore : Ignore) (xs : List ℕ)
+pub record_on : {R : Type 0} {remaining : R → Option (List ℕ)} {errors : R → ℕ} {lent : R → List GName}
+    (ignore : Ignore) (xs : List ℕ)
     (x y : Reading) (r : Record) {old new : Input R}
     (to : ReadTo (oasis ignore) xs (input_offset old) (HasBegun x) (bytes_left remaining old))
-    → has_failed old ≡ false → input_ignore old ≡ ignore → Reads remaining errors lent (IsNext (records to.records)) old new (Ok (Ok (item r)))
+    → has_failed old ≡ false → input_ignore old ≡ ignore
+    → Reads remaining errors lent (IsNext (records to.records)) old new (Ok (Ok (item r)))
     → Holds y (records to.records ++ r ∷ []) → ((k : OasisKind) → RecordBreaches (records to.records) r k → ⊥)
     → ReadTo (oasis ignore) xs (input_offset new) (HasMore y r) (bytes_left remaining new)
 record_on {R = R} ignore xs x y r to live under p h none =
-    item_on ignore xs (HasBegun x) (HasMore y r) to (item r) live under (as_item x to.records to.holds p) (to.holds.1, none)
+    item_on ignore xs (HasBegun x) (HasMore y r) to (item r) live under (as_item x to.records to.holds p)
+    (to.holds.1, none)
     (subst (Holds y) (sym (records-snoc to.records r)) h, to.records, refl, to.holds.2, to.holds.3)
 
 -- the record is the last, or isn't
@@ -138,17 +147,20 @@ reads_as ignore xs at P Q left to h =
     }
 
 -- a record takes a byte at least
-pub record_takes : {R : Type 0} {remaining : R → Option (List ℕ)} {errors : R → ℕ} {lent : R → List GName} (ignore : Ignore) (xs : List ℕ)
+pub record_takes : {R : Type 0} {remaining : R → Option (List ℕ)} {errors : R → ℕ} {lent : R → List GName}
+    (ignore : Ignore) (xs : List ℕ)
     (x : Reading) (i : Item) {old new : Input R}
     (to : ReadTo (oasis ignore) xs (input_offset old) (HasBegun x) (bytes_left remaining old))
-    → has_failed old ≡ false → input_ignore old ≡ ignore → Reads remaining errors lent (IsNext (records to.records)) old new (Ok (Ok i))
+    → has_failed old ≡ false → input_ignore old ≡ ignore
+    → Reads remaining errors lent (IsNext (records to.records)) old new (Ok (Ok i))
     → input_offset old < input_offset new
 record_takes {R = R} ignore xs x i {old = old} to live under p =
     let q = as_item x to.records to.holds p in
     let f = (answers_under ignore under q live (drop (input_offset old) xs) to.left_is).0 in
     omega (arith, item_needs ignore to.records f.bytes (Ok (Ok i)) f.says, f.count)
 
-pub first_takes : {R : Type 0} {remaining : R → Option (List ℕ)} {errors : R → ℕ} {lent : R → List GName} (ignore : Ignore) (xs : List ℕ)
+pub first_takes : {R : Type 0} {remaining : R → Option (List ℕ)} {errors : R → ℕ} {lent : R → List GName}
+    (ignore : Ignore) (xs : List ℕ)
     (i : Item) {old new : Input R}
     → has_failed old ≡ false → input_ignore old ≡ ignore → bytes_left remaining old ≡ Some xs
     → Reads remaining errors lent (IsItem []) old new (Ok (Ok i)) → 0 < input_offset new
@@ -157,19 +169,24 @@ first_takes ignore xs i live under known p =
     omega (arith, item_needs ignore [] f.bytes (Ok (Ok i)) f.says, f.count)
 
 -- the next record was refused as it was read
-pub next_refused : {R : Type 0} {remaining : R → Option (List ℕ)} {errors : R → ℕ} {lent : R → List GName} (ignore : Ignore) (xs : List ℕ)
+pub next_refused : {R : Type 0} {remaining : R → Option (List ℕ)} {errors : R → ℕ} {lent : R → List GName}
+    (ignore : Ignore) (xs : List ℕ)
     (x : Reading) {old new : Input R}
     (to : ReadTo (oasis ignore) xs (input_offset old) (HasBegun x) (bytes_left remaining old)) (e : Refusal OasisKind)
-    → has_failed old ≡ false → input_ignore old ≡ ignore → Reads remaining errors lent (IsNext (records to.records)) old new (told_record (Err e))
+    → has_failed old ≡ false → input_ignore old ≡ ignore
+    → Reads remaining errors lent (IsNext (records to.records)) old new (told_record (Err e))
     → Says (refused_at (input_offset old) e) (Refuses ignore xs (remaining (input_reader new)))
-next_refused ignore xs x to (Breach k) live under p = next_refuses ignore xs to k live under to.holds.1 (as_item x to.records to.holds p)
+next_refused ignore xs x to (Breach k) live under p = next_refuses ignore xs to k live under to.holds.1
+    (as_item x to.records to.holds p)
 next_refused ignore xs x to OutOfMemory live under p = tt
 
 -- a record was refused that was read whole
-pub take_refused : {R : Type 0} {remaining : R → Option (List ℕ)} {errors : R → ℕ} {lent : R → List GName} (ignore : Ignore) (xs : List ℕ)
+pub take_refused : {R : Type 0} {remaining : R → Option (List ℕ)} {errors : R → ℕ} {lent : R → List GName}
+    (ignore : Ignore) (xs : List ℕ)
     (x : Reading) (r : Record) {old new : Input R}
     (to : ReadTo (oasis ignore) xs (input_offset old) (HasBegun x) (bytes_left remaining old)) (e : Refusal OasisKind)
-    → has_failed old ≡ false → input_ignore old ≡ ignore → Reads remaining errors lent (IsNext (records to.records)) old new (Ok (Ok (item r)))
+    → has_failed old ≡ false → input_ignore old ≡ ignore
+    → Reads remaining errors lent (IsNext (records to.records)) old new (Ok (Ok (item r)))
     → Says e (λ k. (rs : List Record) → Holds x rs → RecordBreaches rs r k)
     → Says (refused_at (input_offset old) e) (Refuses ignore xs (remaining (input_reader new)))
 take_refused ignore xs x r to (Breach k) live under p b =

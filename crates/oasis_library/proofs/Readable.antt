@@ -32,11 +32,13 @@ use Rattle.oasis_library.specs.declared.fault.OasisFault.TheVariants.{At, Unreso
 use Rattle.oasis_library.specs.declared.head.OasisHead.{OasisHead}
 use Rattle.oasis_library.proofs.Resolving.{cells_named, unnamed_none, same_cells, kept_cells, numbers_kept}
 
-same_items : (ignore : Ignore) (xs : List ℕ) (is js : List Item) → SpellsWhole (oasis ignore) xs is → SpellsWhole (oasis ignore) xs js → is ≡ js
+same_items : (ignore : Ignore) (xs : List ℕ) (is js : List Item) → SpellsWhole (oasis ignore) xs is
+    → SpellsWhole (oasis ignore) xs js → is ≡ js
 same_items ignore xs is js p q = one_whole (oasis ignore) (is_grammar ignore) xs is js p q
 
 -- bytes spell one library at most
-pub law_only : (ignore : Ignore) (xs : List ℕ) (cells ds : List (PlainCell Figure)) (h g : OasisHead) → SpellsLibrary ignore xs cells h
+pub law_only : (ignore : Ignore) (xs : List ℕ) (cells ds : List (PlainCell Figure)) (h g : OasisHead)
+    → SpellsLibrary ignore xs cells h
     → SpellsLibrary ignore xs ds g → (ds ≡ cells) × (g ≡ h)
 law_only ignore xs cells ds h g p q =
     let e = same_items ignore xs q.items p.items q.whole p.whole in
@@ -48,7 +50,8 @@ law_only ignore xs cells ds h g p q =
     )
 
 -- what was read of a whole file is the library that it spells
-pub law_read : (ignore : Ignore) (xs : List ℕ) (is : List Item) (found : List (PlainCell Rings)) (h : OasisHead) → SpellsWhole (oasis ignore) xs is
+pub law_read : (ignore : Ignore) (xs : List ℕ) (is : List Item) (found : List (PlainCell Rings)) (h : OasisHead)
+    → SpellsWhole (oasis ignore) xs is
     → AreCells (names_in (records is)) (map with_rings (drawings (records is))) found → h ≡ head_of (records is)
     → IsRead ignore xs found h
 law_read ignore xs is found h whole are head =
@@ -68,7 +71,8 @@ law_read ignore xs is found h whole are head =
 
 -- a number that no name has, of the cells as they are kept
 pub law_unresolved : (ignore : Ignore) (xs : List ℕ) (is : List Item) (n : ℕ) → SpellsWhole (oasis ignore) xs is
-    → IsUnnamed (names_in (records is)) (numbers_used (map with_rings (drawings (records is)))) n → TellsUnresolved ignore xs n
+    → IsUnnamed (names_in (records is)) (numbers_used (map with_rings (drawings (records is)))) n
+    → TellsUnresolved ignore xs n
 law_unresolved ignore xs is n whole u =
     (is, whole, subst (λ l. IsUnnamed (names_in (records is)) l n) (numbers_kept (drawings (records is))) u)
 
@@ -85,45 +89,55 @@ none_resolved ignore xs n t cells h p =
     (cells_named (names_in (records t.0)) (drawings (records t.0)) cells are) t.2
 
 -- what a refusal says
-tells_at : (ignore : Ignore) (xs : List ℕ) (left : Option (List ℕ)) (at : ℕ) (k : OasisKind) → RefusesAt ignore xs left at k → TellsAt ignore xs at k
+tells_at : (ignore : Ignore) (xs : List ℕ) (left : Option (List ℕ)) (at : ℕ) (k : OasisKind)
+    → RefusesAt ignore xs left at k → TellsAt ignore xs at k
 tells_at ignore xs left at (Value Truncated) x = x
 tells_at ignore xs left at (Value Read) x = unread_front (oasis ignore) xs left at x
 tells_at ignore xs left at other x = seen_stuck (oasis ignore) (is_grammar ignore) xs at left other x
 
-tells : (ignore : Ignore) (xs : List ℕ) (left : Option (List ℕ)) (f : OasisFault) → Refuses ignore xs left f → Tells ignore xs f
+tells : (ignore : Ignore) (xs : List ℕ) (left : Option (List ℕ)) (f : OasisFault) → Refuses ignore xs left f
+    → Tells ignore xs f
 tells ignore xs left (At at k) x = tells_at ignore xs left at k x
 tells ignore xs left (Unresolved n) x = x
 
-none_at : (ignore : Ignore) (xs : List ℕ) (left : Option (List ℕ)) (at : ℕ) (k : OasisKind) → RefusesAt ignore xs left at k
+none_at : (ignore : Ignore) (xs : List ℕ) (left : Option (List ℕ)) (at : ℕ) (k : OasisKind)
+    → RefusesAt ignore xs left at k
     → (IsExcused (At at k) → ⊥)
     → SpellsNone ignore xs
-none_at ignore xs left at (Value Truncated) x n = none_spelled ignore xs (truncated_none (oasis ignore) (is_grammar ignore) xs at x)
+none_at ignore xs left at (Value Truncated) x n = none_spelled ignore xs
+    (truncated_none (oasis ignore) (is_grammar ignore) xs at x)
 none_at ignore xs left at (Value Read) x n = absurd (n tt)
 none_at ignore xs left at other x n =
-    none_spelled ignore xs (stuck_none (oasis ignore) xs at (seen_stuck (oasis ignore) (is_grammar ignore) xs at left other x).0)
+    none_spelled ignore xs (stuck_none (oasis ignore) xs at
+    (seen_stuck (oasis ignore) (is_grammar ignore) xs at left other x).0)
 
-none_of : (ignore : Ignore) (xs : List ℕ) (left : Option (List ℕ)) (f : OasisFault) → Refuses ignore xs left f → (IsExcused f → ⊥)
+none_of : (ignore : Ignore) (xs : List ℕ) (left : Option (List ℕ)) (f : OasisFault) → Refuses ignore xs left f
+    → (IsExcused f → ⊥)
     → SpellsNone ignore xs
 none_of ignore xs left (At at k) x n = none_at ignore xs left at k x n
 none_of ignore xs left (Unresolved m) x n = none_resolved ignore xs m x
 
-early_at : (ignore : Ignore) (xs : List ℕ) (left : Option (List ℕ)) (at : ℕ) (k : OasisKind) → RefusesAt ignore xs left at k → IsEarly (At at k)
+early_at : (ignore : Ignore) (xs : List ℕ) (left : Option (List ℕ)) (at : ℕ) (k : OasisKind)
+    → RefusesAt ignore xs left at k → IsEarly (At at k)
     → IsHopeless (oasis ignore) xs left
 early_at ignore xs left at (Value Truncated) x i = absurd i
 early_at ignore xs left at (Value Read) x i = absurd i
 early_at ignore xs left at other x i = seen_hopeless (oasis ignore) (is_grammar ignore) xs at left other x
 
-early_of : (ignore : Ignore) (xs : List ℕ) (left : Option (List ℕ)) (f : OasisFault) → Refuses ignore xs left f → IsEarly f
+early_of : (ignore : Ignore) (xs : List ℕ) (left : Option (List ℕ)) (f : OasisFault) → Refuses ignore xs left f
+    → IsEarly f
     → IsHopeless (oasis ignore) xs left
 early_of ignore xs left (At at k) x i = early_at ignore xs left at k x i
 early_of ignore xs left (Unresolved n) x i = absurd i
 
-unread_at : (ignore : Ignore) (xs : List ℕ) (left : Option (List ℕ)) (at : ℕ) (k : OasisKind) → RefusesAt ignore xs left at k
+unread_at : (ignore : Ignore) (xs : List ℕ) (left : Option (List ℕ)) (at : ℕ) (k : OasisKind)
+    → RefusesAt ignore xs left at k
     → TellsUnread ignore xs left (At at k)
 unread_at ignore xs left at (Value Read) x = x
 unread_at ignore xs left at other x = tt
 
-unread_of : (ignore : Ignore) (xs : List ℕ) (left : Option (List ℕ)) (f : OasisFault) → Refuses ignore xs left f → TellsUnread ignore xs left f
+unread_of : (ignore : Ignore) (xs : List ℕ) (left : Option (List ℕ)) (f : OasisFault) → Refuses ignore xs left f
+    → TellsUnread ignore xs left f
 unread_of ignore xs left (At at k) x = unread_at ignore xs left at k x
 unread_of ignore xs left (Unresolved n) x = tt
 
@@ -135,30 +149,42 @@ refused ignore xs left P h (Ok x) s = tt
 refused ignore xs left P h (Err (Breach f)) s = h f s
 refused ignore xs left P h (Err OutOfMemory) s = tt
 
-pub refused_tells : {A : Type 0} (ignore : Ignore) (xs : List ℕ) (left : Option (List ℕ)) (r : Result A (Refusal OasisFault))
+pub refused_tells : {A : Type 0} (ignore : Ignore) (xs : List ℕ) (left : Option (List ℕ))
+    (r : Result A (Refusal OasisFault))
     → IfErr r (λ e. Says e (Refuses ignore xs left)) → IfErr r (λ e. Says e (Tells ignore xs))
 refused_tells ignore xs left = refused ignore xs left (Tells ignore xs) (tells ignore xs left)
 
-pub refused_none : {A : Type 0} (ignore : Ignore) (xs : List ℕ) (left : Option (List ℕ)) (r : Result A (Refusal OasisFault))
-    → IfErr r (λ e. Says e (Refuses ignore xs left)) → IfErr r (λ e. Says e (λ f. (IsExcused f → ⊥) → SpellsNone ignore xs))
-refused_none ignore xs left = refused ignore xs left (λ f. (IsExcused f → ⊥) → SpellsNone ignore xs) (none_of ignore xs left)
+pub refused_none : {A : Type 0} (ignore : Ignore) (xs : List ℕ) (left : Option (List ℕ))
+    (r : Result A (Refusal OasisFault))
+    → IfErr r (λ e. Says e (Refuses ignore xs left))
+    → IfErr r (λ e. Says e (λ f. (IsExcused f → ⊥) → SpellsNone ignore xs))
+refused_none ignore xs left = refused ignore xs left (λ f. (IsExcused f → ⊥) → SpellsNone ignore xs)
+    (none_of ignore xs left)
 
-pub refused_early : {A : Type 0} (ignore : Ignore) (xs : List ℕ) (left : Option (List ℕ)) (r : Result A (Refusal OasisFault))
-    → IfErr r (λ e. Says e (Refuses ignore xs left)) → IfErr r (λ e. Says e (λ f. IsEarly f → IsHopeless (oasis ignore) xs left))
-refused_early ignore xs left = refused ignore xs left (λ f. IsEarly f → IsHopeless (oasis ignore) xs left) (early_of ignore xs left)
+pub refused_early : {A : Type 0} (ignore : Ignore) (xs : List ℕ) (left : Option (List ℕ))
+    (r : Result A (Refusal OasisFault))
+    → IfErr r (λ e. Says e (Refuses ignore xs left))
+    → IfErr r (λ e. Says e (λ f. IsEarly f → IsHopeless (oasis ignore) xs left))
+refused_early ignore xs left = refused ignore xs left (λ f. IsEarly f → IsHopeless (oasis ignore) xs left)
+    (early_of ignore xs left)
 
-refused_unread : {A : Type 0} (ignore : Ignore) (xs : List ℕ) (left : Option (List ℕ)) (r : Result A (Refusal OasisFault))
+refused_unread : {A : Type 0} (ignore : Ignore) (xs : List ℕ) (left : Option (List ℕ))
+    (r : Result A (Refusal OasisFault))
     → IfErr r (λ e. Says e (Refuses ignore xs left)) → IfErr r (λ e. Says e (TellsUnread ignore xs left))
 refused_unread ignore xs left = refused ignore xs left (TellsUnread ignore xs left) (unread_of ignore xs left)
 
 -- of the bytes that are left in the end
-pub unread_left : {A : Type 0} (ignore : Ignore) (xs : List ℕ) (left left' : Option (List ℕ)) (r : Result A (Refusal OasisFault))
-    → IfErr r (λ e. Says e (Refuses ignore xs left)) → left ≡ left' → IfErr r (λ e. Says e (TellsUnread ignore xs left'))
+pub unread_left : {A : Type 0} (ignore : Ignore) (xs : List ℕ) (left left' : Option (List ℕ))
+    (r : Result A (Refusal OasisFault))
+    → IfErr r (λ e. Says e (Refuses ignore xs left)) → left ≡ left'
+    → IfErr r (λ e. Says e (TellsUnread ignore xs left'))
 unread_left ignore xs left left' r h e =
     subst (λ l. IfErr r (λ e. Says e (TellsUnread ignore xs l))) e (refused_unread ignore xs left r h)
 
-pub early_left : {A : Type 0} (ignore : Ignore) (xs : List ℕ) (left left' : Option (List ℕ)) (r : Result A (Refusal OasisFault))
+pub early_left : {A : Type 0} (ignore : Ignore) (xs : List ℕ) (left left' : Option (List ℕ))
+    (r : Result A (Refusal OasisFault))
     → IfErr r (λ e. Says e (Refuses ignore xs left)) → left ≡ left'
     → IfErr r (λ e. Says e (λ f. IsEarly f → IsHopeless (oasis ignore) xs left'))
 early_left ignore xs left left' r h e =
-    subst (λ l. IfErr r (λ e. Says e (λ f. IsEarly f → IsHopeless (oasis ignore) xs l))) e (refused_early ignore xs left r h)
+    subst (λ l. IfErr r (λ e. Says e (λ f. IsEarly f → IsHopeless (oasis ignore) xs l))) e
+    (refused_early ignore xs left r h)

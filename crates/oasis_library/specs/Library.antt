@@ -12,8 +12,8 @@ use Rattle.oasis_library.specs.Head.{head_of}
 use Rattle.oasis_library.specs.Names.{AreCells}
 use Rattle.oasis_library.specs.declared.head.OasisHead.{OasisHead}
 
--- for a reader that ignores these, the bytes spell a library and a head: they are a whole file, the cells are those that
--- its records draw, by the names that its CELLNAME records give, and the head is what its START and END say
+-- for a reader that ignores these, the bytes spell a library and a head: they are a whole file, the cells are those
+-- that its records draw, by the names that its CELLNAME records give, and the head is what its START and END say
 pub record SpellsLibrary (ignore : Ignore) (bytes : List ℕ) (cells : List (PlainCell Figure)) (h : OasisHead) : Type 0
   where
     pub items : List Item

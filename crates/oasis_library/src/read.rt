@@ -144,7 +144,8 @@ fn read_records<R: Read>(
         → IfErr result (λ refusal. Says refusal (Refuses (input_ignore input.old) xs
         (R.remaining (input_reader input.new)))) }
     ensures whole { IfOk result (λ x. (xs : List ℕ) → bytes_left R.remaining input.old ≡ Some xs
-        → ReadTo (oasis (input_ignore input.old)) xs (input_offset input.new) (HasWhole x) (bytes_left R.remaining input.new)) }
+        → ReadTo (oasis (input_ignore input.old)) xs (input_offset input.new) (HasWhole x)
+        (bytes_left R.remaining input.new)) }
     ensures fresh { OnOk result (has_failed input.new ≡ false) }
     ensures ignore { OnOk result (input_ignore input.new ≡ input_ignore input.old) }
     ensures reads { CountsFailure (R.read_errors (input_reader input.old))
@@ -178,7 +179,8 @@ fn read_records<R: Read>(
 fn read_nothing<R: Read>(input: &mut Input<R>) -> Result<(), Refusal<OasisFault>>
     requires { has_failed input.old ≡ false }
     ensures whole { OnOk result ((xs : List ℕ)
-        (to : ReadTo (oasis (input_ignore input.old)) xs (input_offset input.old) IsEnded (bytes_left R.remaining input.old))
+        (to : ReadTo (oasis (input_ignore input.old)) xs (input_offset input.old) IsEnded
+        (bytes_left R.remaining input.old))
         → SpellsWhole (oasis (input_ignore input.old)) xs to.records) }
     ensures refused { IfErr result (λ refusal. Says refusal (λ fault. (xs : List ℕ)
         → ReadTo (oasis (input_ignore input.old)) xs (input_offset input.old) IsEnded (bytes_left R.remaining input.old)

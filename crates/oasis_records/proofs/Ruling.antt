@@ -70,7 +70,8 @@ pub reads_denies : {R A : Type 0} {remaining : R → Option (List ℕ)} {errors 
 reads_denies (Ok (Ok y)) code p = record { none = λ live xs k. tt }
 reads_denies {S = S} {old = old} (Ok (Err j)) code p =
     record {
-      none = λ live xs k x b q agree. let h : Ok (Err j) ≡ Ok (Ok x) = front_only (S (input_ignore old)) xs _ (Ok (Err j))
+      none = λ live xs k x b q agree. let h : Ok (Err j) ≡ Ok (Ok x) =
+          front_only (S (input_ignore old)) xs _ (Ok (Err j))
           (Ok (Ok x)) (code.free (input_ignore old)) (p.answers live xs k).0 b q agree in cc;
     }
 reads_denies (Err OutOfMemory) code p = record { none = λ live xs k. tt }

@@ -28,7 +28,8 @@ use Rattle.oasis_stream.proofs.Steps.{wrong_seen}
 pub byte_refuses : {R : Type 0} {remaining : R → Option (List ℕ)} {errors : R → ℕ} {lent : R → List GName}
     {Has : List Item → Type 0} (ignore : Ignore) (xs : List ℕ) {old new : Input R}
     (to : ReadTo (oasis ignore) xs (input_offset old) Has (bytes_left remaining old)) (b : ℕ)
-    → has_failed old ≡ false → input_ignore old ≡ ignore → IsEnded to.records → Reads remaining errors lent IsByte old new (Ok b)
+    → has_failed old ≡ false → input_ignore old ≡ ignore → IsEnded to.records
+    → Reads remaining errors lent IsByte old new (Ok b)
     → RefusesAt ignore xs (remaining (input_reader new)) (input_offset old) AfterEnd
 byte_refuses ignore xs {old = old} {new = new} to b live under ended p =
     let at = input_offset old in
@@ -78,7 +79,8 @@ long_after ignore xs at had to s p =
     inl (refl, (z.0, ((λ e. z.1 ∙ nil), subst (IsBegun (IsItem to.records ignore)) (sym (z.1 ∙ nil)) begun))))
 
 -- no rule of values is breached by a byte
-byte_rule : {A : Type 0} (room had : ℕ) (ys : List ℕ) (f : ValueFault) → is_rule f ≡ true → Fails IsOneByte room had ys f
+byte_rule : {A : Type 0} (room had : ℕ) (ys : List ℕ) (f : ValueFault) → is_rule f ≡ true
+    → Fails IsOneByte room had ys f
     → A
 byte_rule room had ys f rule p = absurd ((p.breached rule).front.says)
 

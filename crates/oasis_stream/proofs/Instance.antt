@@ -29,21 +29,24 @@ same_item : (i j : Item) → said i ≡ said j → i ≡ j
 same_item i j e = cc
 
 -- after the same items, bytes that begin alike spell the same item by the same bytes
-one_item : (ignore : Ignore) (before : List Item) (i j : Item) (a b x y : List ℕ) → Spelled ignore before a i → Spelled ignore before b j
+one_item : (ignore : Ignore) (before : List Item) (i j : Item) (a b x y : List ℕ) → Spelled ignore before a i
+    → Spelled ignore before b j
     → a ++ x ≡ b ++ y → (a ≡ b) × (i ≡ j)
 one_item ignore before i j a b x y p q e =
     let free = item_free before ignore in
     let o = free.only a b x y (Ok (Ok i)) (Ok (Ok j)) p q e in
     (o.0, same_item i j o.1)
 
-rule_needs : (ignore : Ignore) (before : List Item) (room : ℕ) (ys : List ℕ) (k : OasisKind) → BreaksRule ignore before room ys k → 0 < length ys
+rule_needs : (ignore : Ignore) (before : List Item) (room : ℕ) (ys : List ℕ) (k : OasisKind)
+    → BreaksRule ignore before room ys k → 0 < length ys
 rule_needs ignore before room ys k w = elim w.3 [
   | inl p ↦ front_needs ignore before ys w.1 (Ok (Err k)) p
   | inr p ↦ front_needs ignore before ys w.1 (Ok (Ok p.0)) p.1
 ]
 
 -- a rule is breached by some bytes
-wrong_here : (ignore : Ignore) (before : List Item) (room : ℕ) (ys : List ℕ) (k : OasisKind) → IsWrong ignore before room ys k → 0 < length ys
+wrong_here : (ignore : Ignore) (before : List Item) (room : ℕ) (ys : List ℕ) (k : OasisKind)
+    → IsWrong ignore before room ys k → 0 < length ys
 wrong_here ignore before room ys (Value f) w = elim w [
   | inl p ↦ omega (arith, p.1.0)
   | inr p ↦ front_needs ignore before ys p.2.count (Err f) p.2.front
@@ -56,7 +59,8 @@ wrong_here ignore before room ys (Figure k) w = rule_needs ignore before room ys
 wrong_here ignore before room ys TooManyCells w = rule_needs ignore before room ys TooManyCells w
 
 -- where bytes at the front breach a rule no item may follow
-rule_stops : (ignore : Ignore) (before : List Item) (room : ℕ) (ys text : List ℕ) (i : Item) (k : OasisKind) → BreaksRule ignore before room ys k
+rule_stops : (ignore : Ignore) (before : List Item) (room : ℕ) (ys text : List ℕ) (i : Item) (k : OasisKind)
+    → BreaksRule ignore before room ys k
     → Spelled ignore before text i → MayFollow before i → Agree text ys → ⊥
 rule_stops ignore before room ys text i k w p g agree = elim w.3 [
   | inl q ↦ (let e : Ok (Err k) ≡ Ok (Ok i) = front_only (IsItem before ignore) ys w.1 (Ok (Err k)) (Ok (Ok i))
@@ -88,13 +92,15 @@ front_in text ys x y e fits =
     (sym e) ∙ take-append_seam text x)
 
 -- an unfinished beginning has no item at its front
-begun_none : (ignore : Ignore) (before : List Item) (ys text rest : List ℕ) (i : Item) → IsBegun (IsItem before ignore) ys
+begun_none : (ignore : Ignore) (before : List Item) (ys text rest : List ℕ) (i : Item)
+    → IsBegun (IsItem before ignore) ys
     → Spelled ignore before text i → ys ≡ text ++ rest → ⊥
 begun_none ignore before ys text rest i b p e =
     begun_open (IsItem before ignore) ys (length text) (Ok (Ok i)) (item_free before ignore) b
     (record { bytes = text; rest = rest; says = p; whole = e; count = refl })
 
-long_none : (ignore : Ignore) (before : List Item) (room : ℕ) (ys text : List ℕ) (i : Item) → IsTooLong ignore before room ys
+long_none : (ignore : Ignore) (before : List Item) (room : ℕ) (ys text : List ℕ) (i : Item)
+    → IsTooLong ignore before room ys
     → Spelled ignore before text i
     → Agree text ys → length text ≤ room → ⊥
 long_none ignore before room ys text i (more, (ended, begun)) p agree fits =
@@ -104,18 +110,22 @@ long_none ignore before room ys text i (more, (ended, begun)) p agree fits =
     (front_in text (take room ys) q.0 q.1 q.2 l)
 
 -- where a rule is breached no item may follow
-wrong_stops : (ignore : Ignore) (before : List Item) (room : ℕ) (ys text : List ℕ) (i : Item) (k : OasisKind) → IsWrong ignore before room ys k
+wrong_stops : (ignore : Ignore) (before : List Item) (room : ℕ) (ys text : List ℕ) (i : Item) (k : OasisKind)
+    → IsWrong ignore before room ys k
     → Spelled ignore before text i → MayFollow before i → Agree text ys → length text ≤ room → ⊥
 wrong_stops ignore before room ys text i (Value f) w p g agree fits = elim w [
   | inl q ↦ long_none ignore before room ys text i q.1 p agree fits
   | inr q ↦ breached_none (IsItem before ignore) ys q.2.count f (Ok i) (item_free before ignore) q.2.front text p agree
 ]
 wrong_stops ignore before room ys text i AfterEnd w p g agree fits = g.0 w.0
-wrong_stops ignore before room ys text i (Record k) w p g agree fits = rule_stops ignore before room ys text i (Record k) w p g agree
+wrong_stops ignore before room ys text i (Record k) w p g agree fits =
+    rule_stops ignore before room ys text i (Record k) w p g agree
 wrong_stops ignore before room ys text i (Unexpected id) w p g agree fits =
     rule_stops ignore before room ys text i (Unexpected id) w p g agree
-wrong_stops ignore before room ys text i (Name k) w p g agree fits = rule_stops ignore before room ys text i (Name k) w p g agree
-wrong_stops ignore before room ys text i (Figure k) w p g agree fits = rule_stops ignore before room ys text i (Figure k) w p g agree
+wrong_stops ignore before room ys text i (Name k) w p g agree fits =
+    rule_stops ignore before room ys text i (Name k) w p g agree
+wrong_stops ignore before room ys text i (Figure k) w p g agree fits =
+    rule_stops ignore before room ys text i (Figure k) w p g agree
 wrong_stops ignore before room ys text i TooManyCells w p g agree fits =
     rule_stops ignore before room ys text i TooManyCells w p g agree
 

@@ -50,16 +50,19 @@ record IsAfter (before : List Item) (room : ℕ) (ys : List ℕ) (k : OasisKind)
   some : 0 < length ys
 
 abbrev Cause : Ignore → List Item → ℕ → List ℕ → OasisKind → Type 0
-Cause ignore before room ys k = IsExplained ignore before room ys k ⊎ (IsLong ignore before room ys k ⊎ IsAfter before room ys k)
+Cause ignore before room ys k = IsExplained ignore before room ys k
+    ⊎ (IsLong ignore before room ys k ⊎ IsAfter before room ys k)
 
-by_rule : (ignore : Ignore) (before : List Item) (room : ℕ) (ys : List ℕ) (k : OasisKind) → BreaksRule ignore before room ys k
+by_rule : (ignore : Ignore) (before : List Item) (room : ℕ) (ys : List ℕ) (k : OasisKind)
+    → BreaksRule ignore before room ys k
     → Cause ignore before room ys k
 by_rule ignore before room ys k w = elim w.3 [
   | inl p ↦ inl (record { unended = w.0; count = w.1; within = w.2; said = Ok (Err k); front = p; why = refl })
   | inr p ↦ inl (record { unended = w.0; count = w.1; within = w.2; said = Ok (Ok p.0); front = p.1; why = p.2 })
 ]
 
-cause : (ignore : Ignore) (before : List Item) (room : ℕ) (ys : List ℕ) (k : OasisKind) → IsWrong ignore before room ys k
+cause : (ignore : Ignore) (before : List Item) (room : ℕ) (ys : List ℕ) (k : OasisKind)
+    → IsWrong ignore before room ys k
     → Cause ignore before room ys k
 cause ignore before room ys (Value f) w = elim w [
   | inl p ↦ inr (inl (record { kind = ap Value p.0; long = p.1 }))
@@ -80,7 +83,8 @@ cause ignore before room ys (Figure k) w = by_rule ignore before room ys (Figure
 cause ignore before room ys TooManyCells w = by_rule ignore before room ys TooManyCells w
 
 -- nothing whole is at the front of what there is room for, where that is an unfinished beginning
-long_open : (ignore : Ignore) (before : List Item) (room : ℕ) (ys : List ℕ) (n : ℕ) (x : Result (Result Item OasisKind) ValueFault)
+long_open : (ignore : Ignore) (before : List Item) (room : ℕ) (ys : List ℕ) (n : ℕ)
+    (x : Result (Result Item OasisKind) ValueFault)
     → IsTooLong ignore before room ys
     → IsFront (IsItem before ignore) ys n x → n ≤ room → ⊥
 long_open ignore before room ys n x (more, (ended, begun)) f fits =
@@ -96,21 +100,25 @@ long_open ignore before room ys n x (more, (ended, begun)) f fits =
     })
 
 -- nor does a byte follow there after END
-long_after : (ignore : Ignore) (before : List Item) (room : ℕ) (ys : List ℕ) → IsTooLong ignore before room ys → IsEnded before → 0 < room → ⊥
+long_after : (ignore : Ignore) (before : List Item) (room : ℕ) (ys : List ℕ) → IsTooLong ignore before room ys
+    → IsEnded before → 0 < room → ⊥
 long_after ignore before room ys (more, (ended, begun)) e some =
     omega (arith, some, more, length-take room ys, ap length (ended e))
 
-front_same : (ignore : Ignore) (before : List Item) (ys : List ℕ) (n m : ℕ) (x y : Result (Result Item OasisKind) ValueFault)
+front_same : (ignore : Ignore) (before : List Item) (ys : List ℕ) (n m : ℕ)
+    (x y : Result (Result Item OasisKind) ValueFault)
     → IsFront (IsItem before ignore) ys n x → IsFront (IsItem before ignore) ys m y → x ≡ y
 front_same ignore before ys n m x y p q =
     front_only (IsItem before ignore) ys n x y (item_free before ignore) p q.bytes q.says (q.rest, inr q.whole)
 
-one_cause : (ignore : Ignore) (before : List Item) (room : ℕ) (ys : List ℕ) (j k : OasisKind) → Cause ignore before room ys j
+one_cause : (ignore : Ignore) (before : List Item) (room : ℕ) (ys : List ℕ) (j k : OasisKind)
+    → Cause ignore before room ys j
     → Cause ignore before room ys k → j ≡ k
 one_cause ignore before room ys j k p q = elim p [
   | inl a ↦ elim q [
     | inl b ↦ explains_once before a.said j k a.why
-        (subst (λ x. Explains before x k) (sym (front_same ignore before ys a.count b.count a.said b.said a.front b.front))
+        (subst (λ x. Explains before x k)
+        (sym (front_same ignore before ys a.count b.count a.said b.said a.front b.front))
         b.why)
     | inr r ↦ elim r [
       | inl b ↦ absurd (long_open ignore before room ys a.count a.said b.long a.front a.within)
@@ -136,6 +144,8 @@ one_cause ignore before room ys j k p q = elim p [
 ]
 
 -- what is wrong with the front of the bytes is one rule
-pub only_wrong : (ignore : Ignore) (before : List Item) (room : ℕ) (ys : List ℕ) (j k : OasisKind) → IsWrong ignore before room ys j
+pub only_wrong : (ignore : Ignore) (before : List Item) (room : ℕ) (ys : List ℕ) (j k : OasisKind)
+    → IsWrong ignore before room ys j
     → IsWrong ignore before room ys k → j ≡ k
-only_wrong ignore before room ys j k p q = one_cause ignore before room ys j k (cause ignore before room ys j p) (cause ignore before room ys k q)
+only_wrong ignore before room ys j k p q = one_cause ignore before room ys j k (cause ignore before room ys j p)
+    (cause ignore before room ys k q)

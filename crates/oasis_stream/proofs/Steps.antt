@@ -32,10 +32,12 @@ use Rattle.oasis_stream.proofs.Only.{only_wrong}
 use Rattle.oasis_stream.proofs.Seen.{IsSeen, law_seen, front_seen, room_seen, answers_under}
 
 -- an item that may follow was read: the bytes before the new offset are a front of one item more
-pub item_on : {R : Type 0} {remaining : R → Option (List ℕ)} {errors : R → ℕ} {lent : R → List GName} (ignore : Ignore) (xs : List ℕ)
+pub item_on : {R : Type 0} {remaining : R → Option (List ℕ)} {errors : R → ℕ} {lent : R → List GName} (ignore : Ignore)
+    (xs : List ℕ)
     (Has Has' : List Item → Type 0) {old new : Input R}
     (to : ReadTo (oasis ignore) xs (input_offset old) Has (bytes_left remaining old)) (i : Item)
-    → has_failed old ≡ false → input_ignore old ≡ ignore → Reads remaining errors lent (IsItem to.records) old new (Ok (Ok i))
+    → has_failed old ≡ false → input_ignore old ≡ ignore
+    → Reads remaining errors lent (IsItem to.records) old new (Ok (Ok i))
     → MayFollow to.records i → Has' (to.records ++ i ∷ [])
     → ReadTo (oasis ignore) xs (input_offset new) Has' (bytes_left remaining new)
 item_on {remaining = remaining} ignore xs Has Has' {old = old} {new = new} to i live under p follows has =
@@ -43,13 +45,15 @@ item_on {remaining = remaining} ignore xs Has Has' {old = old} {new = new} to i 
     let n = input_offset new - at in
     let a = answers_under ignore under p live (drop at xs) to.left_is in
     let f = a.0 in
-    let on = reads_on (oasis ignore) xs at Has Has' (bytes_left remaining old) to i f.bytes f.rest f.whole f.says follows
+    let on = reads_on (oasis ignore) xs at Has Has' (bytes_left remaining old) to i f.bytes f.rest f.whole f.says
+    follows
     (omega (arith, f.count, a.1)) has in
     let here : at + length f.bytes ≡ input_offset new = omega (arith, f.count, p.forward) in
     let left : Some f.rest ≡ bytes_left remaining new =
     ap (λ (l : List ℕ). Some l) (sym (front_rest (IsItem to.records ignore) (drop at xs) n (Ok (Ok i)) f))
     ∙ sym (p.left (drop at xs) to.left_is) in
-    subst (λ l. ReadTo (oasis ignore) xs (input_offset new) Has' l) left (subst (λ j. ReadTo (oasis ignore) xs j Has' (Some f.rest)) here
+    subst (λ l. ReadTo (oasis ignore) xs (input_offset new) Has' l) left
+    (subst (λ j. ReadTo (oasis ignore) xs j Has' (Some f.rest)) here
     on)
 
 -- what is wrong with the bytes that were read is wrong whatever comes after them
@@ -87,8 +91,13 @@ rule_refuses {remaining = remaining} ignore xs {old = old} {new = new} to k live
     let had = bytes_had old new in
     let a = answers_under ignore under p live (drop at xs) to.left_is in
     wrong_seen ignore xs at had to k (law_seen (drop at xs) p to.left_is)
-    (λ more. is_wrong (file_limit - at) (take had (drop at xs) ++ more)
-    (unended, n, a.1, inl (front_seen (IsItem to.records ignore) (drop at xs) had n (Ok (Err k)) a.0 (omega arith) more)))
+    (λ more. is_wrong (file_limit - at) (take had (drop at xs) ++ more) (
+      unended,
+      n,
+      a.1,
+      inl (front_seen (IsItem to.records ignore) (drop at xs) had n (Ok (Err k)) a.0
+          (omega arith) more),
+    ))
 
 -- an item was read whole that breaches a rule
 item_refuses : {R : Type 0} {remaining : R → Option (List ℕ)} {errors : R → ℕ} {lent : R → List GName}
@@ -132,7 +141,8 @@ breach_refuses ignore xs to (item r) _ live under unended b p = absurd b
 -- a rule of values is breached
 value_refuses : {Has : List Item → Type 0} {was left : Option (List ℕ)} (ignore : Ignore) (xs : List ℕ) (at had : ℕ)
     (to : ReadTo (oasis ignore) xs at Has was) (f : ValueFault) → ¬ IsEnded to.records
-    → is_rule f ≡ true → IsSeen (drop at xs) had left → Fails (IsItem to.records ignore) (file_limit - at) had (drop at xs) f
+    → is_rule f ≡ true → IsSeen (drop at xs) had left
+    → Fails (IsItem to.records ignore) (file_limit - at) had (drop at xs) f
     → IsSeenWrong (oasis ignore) xs at left (Value f)
 value_refuses ignore xs at had to f unended rule s p =
     let b = p.breached rule in
@@ -172,7 +182,8 @@ cut_refuses ignore xs at to unended p =
 -- no value could be read
 fault_refuses : {Has : List Item → Type 0} {was left : Option (List ℕ)} (ignore : Ignore) (xs : List ℕ) (at had : ℕ)
     (to : ReadTo (oasis ignore) xs at Has was) (f : ValueFault) → ¬ IsEnded to.records
-    → ¬ (f ≡ Failed) → IsSeen (drop at xs) had left → Fails (IsItem to.records ignore) (file_limit - at) had (drop at xs) f
+    → ¬ (f ≡ Failed) → IsSeen (drop at xs) had left
+    → Fails (IsItem to.records ignore) (file_limit - at) had (drop at xs) f
     → RefusesAt ignore xs left at (Value f)
 fault_refuses ignore xs at had to Truncated u n s p = cut_refuses ignore xs at to u p
 fault_refuses {Has = Has} {was = was} {left = left} ignore xs at had to Read u n s p =
@@ -195,18 +206,24 @@ fault_refuses ignore xs at had to NoModal u n s p = value_refuses ignore xs at h
 pub next_refuses : {R : Type 0} {remaining : R → Option (List ℕ)} {errors : R → ℕ} {lent : R → List GName}
     {Has : List Item → Type 0} (ignore : Ignore) (xs : List ℕ) {old new : Input R}
     (to : ReadTo (oasis ignore) xs (input_offset old) Has (bytes_left remaining old)) (k : OasisKind)
-    → has_failed old ≡ false → input_ignore old ≡ ignore → ¬ IsEnded to.records → Reads remaining errors lent (IsItem to.records) old new
+    → has_failed old ≡ false → input_ignore old ≡ ignore → ¬ IsEnded to.records
+    → Reads remaining errors lent (IsItem to.records) old new
     (of_kind k)
     → RefusesAt ignore xs (remaining (input_reader new)) (input_offset old) k
 next_refuses ignore xs {old = old} {new = new} to (Value f) live under u p =
     fault_refuses ignore xs (input_offset old) (bytes_had old new) to f u
     (λ e. p.fresh live (ap (λ (i : ValueFault). Err (Breach i)) e))
-    (law_seen (drop (input_offset old) xs) p to.left_is) (answers_under ignore under p live (drop (input_offset old) xs) to.left_is)
+    (law_seen (drop (input_offset old) xs) p to.left_is)
+    (answers_under ignore under p live (drop (input_offset old) xs) to.left_is)
 next_refuses ignore xs {old = old} to AfterEnd live under u p =
     let f = (answers_under ignore under p live (drop (input_offset old) xs) to.left_is).0 in
     absurd (never_after ignore to.records f.bytes f.says)
-next_refuses ignore xs to (Record k) live under u p = rule_refuses ignore xs to (Record k) live under u (λ room ys w. w) p
-next_refuses ignore xs to (Unexpected id) live under u p = rule_refuses ignore xs to (Unexpected id) live under u (λ room ys w. w) p
+next_refuses ignore xs to (Record k) live under u p = rule_refuses ignore xs to (Record k) live under u
+    (λ room ys w. w) p
+next_refuses ignore xs to (Unexpected id) live under u p = rule_refuses ignore xs to (Unexpected id) live under u
+    (λ room ys w. w) p
 next_refuses ignore xs to (Name k) live under u p = rule_refuses ignore xs to (Name k) live under u (λ room ys w. w) p
-next_refuses ignore xs to (Figure k) live under u p = rule_refuses ignore xs to (Figure k) live under u (λ room ys w. w) p
-next_refuses ignore xs to TooManyCells live under u p = rule_refuses ignore xs to TooManyCells live under u (λ room ys w. w) p
+next_refuses ignore xs to (Figure k) live under u p = rule_refuses ignore xs to (Figure k) live under u
+    (λ room ys w. w) p
+next_refuses ignore xs to TooManyCells live under u p = rule_refuses ignore xs to TooManyCells live under u
+    (λ room ys w. w) p

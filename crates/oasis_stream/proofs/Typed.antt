@@ -82,7 +82,8 @@ reads_by S T {old = old} {new = new} {r = r} e p =
     record {
       again = p.again;
       fresh = p.fresh;
-      answers = λ h xs k. subst (λ P. Answers P (room_left old) (bytes_had old new) (input_offset new - input_offset old) xs r)
+      answers = λ h xs k. subst (λ P. Answers P (room_left old) (bytes_had old new)
+          (input_offset new - input_offset old) xs r)
           (sym e) (p.answers h xs k);
       left = p.left;
       forward = p.forward;

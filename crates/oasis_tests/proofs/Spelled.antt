@@ -27,12 +27,14 @@ zeros (suc n) = 0 ∷ zeros n
 
 -- one after another, and what is said is seen otherwise
 
-pub after : {A B : Type 0} (ignore : Ignore) (S : Spelling A) (T : A → Spelling B) (a b : List ℕ) (x : A) (y : Result B ValueFault)
+pub after : {A B : Type 0} (ignore : Ignore) (S : Spelling A) (T : A → Spelling B) (a b : List ℕ) (x : A)
+    (y : Result B ValueFault)
     → S ignore a (Ok x) → T x ignore b y → Then S T ignore (a ++ b) y
 after ignore S T a b x y s t =
     record { value = Ok x; first = a; second = b; first_says = s; second_says = t; joined = refl }
 
-pub alone : {A B : Type 0} (ignore : Ignore) (S : Spelling A) (T : A → Spelling B) (a : List ℕ) (x : A) (y : Result B ValueFault)
+pub alone : {A B : Type 0} (ignore : Ignore) (S : Spelling A) (T : A → Spelling B) (a : List ℕ) (x : A)
+    (y : Result B ValueFault)
     → S ignore a (Ok x) → T x ignore [] y → Then S T ignore a y
 alone ignore S T a x y s t =
     record { value = Ok x; first = a; second = []; first_says = s; second_says = t; joined = sym (append-nil a) }
@@ -41,7 +43,8 @@ pub seen : {A B : Type 0} (ignore : Ignore) (h : A → B) (S : Spelling A) (a : 
     → Seen h S ignore a (Ok (h x))
 seen ignore h S a x s = alone ignore S (λ x. Gives (Ok (h x))) a x (Ok (h x)) s (refl, refl)
 
-pub chained : {A B : Type 0} (ignore : Ignore) (S : A → Spelling A) (show : A → B) (n : ℕ) (a x : A) (first rest : List ℕ) (ys : List B)
+pub chained : {A B : Type 0} (ignore : Ignore) (S : A → Spelling A) (show : A → B) (n : ℕ) (a x : A)
+    (first rest : List ℕ) (ys : List B)
     → S a ignore first (Ok x) → Chain S show n x ignore rest (Ok ys)
     → Chain S show (suc n) a ignore (first ++ rest) (Ok (show x ∷ ys))
 chained ignore S show n a x first rest ys s c =
@@ -50,7 +53,8 @@ chained ignore S show n a x first rest ys s c =
 
 -- integers of a byte, and of two
 
-pub small : (ignore : Ignore) (n : ℕ) → nat_lt n 128 ≡ true → n ≡ groups (n ∷ []) → nat_lt n (2 ^ 64) ≡ true → IsUnsigned ignore (n ∷ []) (Ok n)
+pub small : (ignore : Ignore) (n : ℕ) → nat_lt n 128 ≡ true → n ≡ groups (n ∷ []) → nat_lt n (2 ^ 64) ≡ true
+    → IsUnsigned ignore (n ∷ []) (Ok n)
 small ignore n low value fits = record {
   front = [];
   last = n;
@@ -79,7 +83,8 @@ wide ignore a b n high low value fits = record {
 pub zero_integers : (ignore : Ignore) (n a : ℕ) → Chain (λ _. IsUnsigned) (λ n. n) n a ignore (zeros n) (Ok (zeros n))
 zero_integers ignore zero a = (refl, refl)
 zero_integers ignore (suc n) a =
-    chained ignore (λ _. IsUnsigned) (λ n. n) n a 0 (0 ∷ []) (zeros n) (zeros n) (small ignore 0 refl refl refl) (zero_integers ignore n 0)
+    chained ignore (λ _. IsUnsigned) (λ n. n) n a 0 (0 ∷ []) (zeros n) (zeros n) (small ignore 0 refl refl refl)
+    (zero_integers ignore n 0)
 
 pub zero_bytes : (ignore : Ignore) (n a : ℕ) → Chain (λ _. IsByte) (λ x. x) n a ignore (zeros n) (Ok (zeros n))
 zero_bytes ignore zero a = (refl, refl)
@@ -93,10 +98,12 @@ magic_byte ignore m e =
     alone ignore IsByte (λ b. Must (b == m) b Magic) (m ∷ []) m (Ok (Ok m)) refl
     (subst (λ c. Must c m Magic ignore [] (Ok (Ok m))) (sym e) (refl, refl))
 
-pub magic_bytes : (ignore : Ignore) (ms : List ℕ) → AllByRecursion (λ m. m == m ≡ true) ms → AreMagicBytes ms ignore ms (Ok (Ok tt))
+pub magic_bytes : (ignore : Ignore) (ms : List ℕ) → AllByRecursion (λ m. m == m ≡ true) ms
+    → AreMagicBytes ms ignore ms (Ok (Ok tt))
 magic_bytes ignore [] p = (refl, refl)
 magic_bytes ignore (m ∷ ms) p =
-    after ignore (IsMagicByte m) (UnlessRuled (λ _. AreMagicBytes ms)) (m ∷ []) ms (Ok m) (Ok (Ok tt)) (magic_byte ignore m p.0)
+    after ignore (IsMagicByte m) (UnlessRuled (λ _. AreMagicBytes ms)) (m ∷ []) ms (Ok m) (Ok (Ok tt))
+    (magic_byte ignore m p.0)
     (magic_bytes ignore ms p.1)
 
 pub magic_said : (ignore : Ignore) → IsMagic ignore magic_string (Ok (Ok tt))
@@ -106,12 +113,14 @@ magic_said ignore =
 
 -- strings
 
-pub one_character : (ignore : Ignore) (kind : Text) (c : ℕ) → has_character kind c ≡ true → IsCharacter kind ignore (c ∷ []) (Ok c)
+pub one_character : (ignore : Ignore) (kind : Text) (c : ℕ) → has_character kind c ≡ true
+    → IsCharacter kind ignore (c ∷ []) (Ok c)
 one_character ignore kind c e =
     alone ignore IsByte (λ c. Known (character kind c) StringByte) (c ∷ []) c (Ok c) refl
     (subst (λ b. Known (if b then Some c else None) StringByte ignore [] (Ok c)) (sym e) (refl, refl))
 
-pub characters : (ignore : Ignore) (kind : Text) (cs : List ℕ) (a : ℕ) → AllByRecursion (λ c. has_character kind c ≡ true) cs
+pub characters : (ignore : Ignore) (kind : Text) (cs : List ℕ) (a : ℕ)
+    → AllByRecursion (λ c. has_character kind c ≡ true) cs
     → Chain (λ _. IsCharacter kind) (λ c. c) (length cs) a ignore cs (Ok cs)
 characters ignore kind [] a p = (refl, refl)
 characters ignore kind (c ∷ cs) a p =
@@ -122,7 +131,8 @@ pub three : (ignore : Ignore) (kind : Text) (cs : List ℕ) → text_length kind
     → AllByRecursion (λ c. has_character kind c ≡ true) cs
     → IsString kind 255 ignore (3 ∷ cs) (Ok cs)
 three ignore kind cs e n p =
-    after ignore IsUnsigned (λ n. Then (Known (text_length kind 255 n) StringByte) (AreCharacters kind)) (3 ∷ []) cs 3 (Ok cs)
+    after ignore IsUnsigned (λ n. Then (Known (text_length kind 255 n) StringByte) (AreCharacters kind)) (3 ∷ []) cs 3
+    (Ok cs)
     (small ignore 3 refl refl refl)
     (after ignore (Known (text_length kind 255 3) StringByte) (AreCharacters kind) [] cs 3 (Ok cs)
     (subst (λ o. Known o StringByte ignore [] (Ok 3)) (sym e) (refl, refl))

@@ -33,7 +33,8 @@ use Rattle.oasis_records.specs.Records.{AreFields}
 use Rattle.oasis_records.specs.Rectangles.{is_rectangle_info, IsRectangleInfo, IsRectangleOf, IsRectangle, rectangle}
 use Rattle.oasis_records.specs.Rules.{AndThen, Must, UnlessRuled}
 use Rattle.oasis_records.specs.Sizes.{Sized}
-use Rattle.oasis_records.specs.Starts.{is_version, IsVersionText, IsVersion, is_unit, IsUnit, IsFlag, is_here, AreTables}
+use Rattle.oasis_records.specs.Starts.{is_version, IsVersionText, IsVersion, is_unit, IsUnit, IsFlag, is_here}
+use Rattle.oasis_records.specs.Starts.{AreTables}
 use Rattle.oasis_records.specs.Starts.{start, IsStartOf, IsStart}
 use Rattle.oasis_records.specs.declared.cell.CellRef.TheVariants.{Name}
 use Rattle.oasis_records.specs.declared.end.Validation.{Validation}
@@ -120,8 +121,10 @@ square = magic ∷ item starting ∷ item cell ∷ item drawn ∷ item ending �
 
 version_said : (ignore : Ignore) → IsVersion ignore (3 ∷ one) (Ok (Ok one))
 version_said ignore =
-    alone ignore IsVersionText (UnlessRuled (λ text. Must (is_version text) text Version)) (3 ∷ one) (Ok one) (Ok (Ok one))
-    (seen ignore Ok (IsString A 255) (3 ∷ one) one (three ignore A one refl refl (refl, (refl, (refl, tt))))) (refl, refl)
+    alone ignore IsVersionText (UnlessRuled (λ text. Must (is_version text) text Version)) (3 ∷ one) (Ok one)
+    (Ok (Ok one))
+    (seen ignore Ok (IsString A 255) (3 ∷ one) one (three ignore A one refl refl (refl, (refl, (refl, tt)))))
+    (refl, refl)
 
 unit_said : (ignore : Ignore) → IsUnit ignore (0 ∷ 0xE8 ∷ 7 ∷ []) (Ok (Ok (Whole 1000)))
 unit_said ignore =
@@ -133,17 +136,22 @@ unit_said ignore =
 
 flag_said : (ignore : Ignore) → IsFlag ignore (0 ∷ []) (Ok (Ok 0))
 flag_said ignore =
-    alone ignore IsUnsigned (λ f. Must (nat_lt f 2) f Info) (0 ∷ []) 0 (Ok (Ok 0)) (small ignore 0 refl refl refl) (refl, refl)
+    alone ignore IsUnsigned (λ f. Must (nat_lt f 2) f Info) (0 ∷ []) 0 (Ok (Ok 0)) (small ignore 0 refl refl refl)
+    (refl, refl)
 
 tables_said : (ignore : Ignore) → AreTables true ignore (zeros 12) (Ok true)
-tables_said ignore = seen ignore (λ _. true) (Chain (λ _. IsUnsigned) (λ n. n) 12 0) (zeros 12) (zeros 12) (zero_integers ignore 12 0)
+tables_said ignore = seen ignore (λ _. true) (Chain (λ _. IsUnsigned) (λ n. n) 12 0) (zeros 12) (zeros 12)
+    (zero_integers ignore 12 0)
 
 start_said : (ignore : Ignore) → IsStart ignore of_start (Ok (Ok starting))
 start_said ignore =
-    after ignore IsVersion (UnlessRuled (λ _. IsStartOf)) (3 ∷ one) ((0 ∷ 0xE8 ∷ 7 ∷ []) ++ (0 ∷ []) ++ zeros 12) (Ok one)
+    after ignore IsVersion (UnlessRuled (λ _. IsStartOf)) (3 ∷ one) ((0 ∷ 0xE8 ∷ 7 ∷ []) ++ (0 ∷ []) ++ zeros 12)
+    (Ok one)
     (Ok (Ok starting)) (version_said ignore)
-    (after ignore IsUnit (UnlessRuled (λ u. AndThen IsFlag (λ f. Seen (start u) (AreTables (is_here f))))) (0 ∷ 0xE8 ∷ 7 ∷ []) ((0 ∷ []) ++ zeros 12) (Ok (Whole 1000)) (Ok (Ok starting)) (unit_said ignore)
-    (after ignore IsFlag (UnlessRuled (λ f. Seen (start (Whole 1000)) (AreTables (is_here f)))) (0 ∷ []) (zeros 12) (Ok 0) (Ok (Ok starting)) (flag_said ignore)
+    (after ignore IsUnit (UnlessRuled (λ u. AndThen IsFlag (λ f. Seen (start u) (AreTables (is_here f)))))
+    (0 ∷ 0xE8 ∷ 7 ∷ []) ((0 ∷ []) ++ zeros 12) (Ok (Whole 1000)) (Ok (Ok starting)) (unit_said ignore)
+    (after ignore IsFlag (UnlessRuled (λ f. Seen (start (Whole 1000)) (AreTables (is_here f)))) (0 ∷ []) (zeros 12)
+    (Ok 0) (Ok (Ok starting)) (flag_said ignore)
     (seen ignore (start (Whole 1000)) (AreTables true) (zeros 12) true (tables_said ignore))))
 
 -- CELL
@@ -161,16 +169,19 @@ given ignore n u = seen ignore Some IsUnsigned (n ∷ []) n u
 
 origin : (ignore : Ignore) → If true IsSigned ignore (0 ∷ []) (Ok (Some (pos 0)))
 origin ignore =
-    seen ignore Some IsSigned (0 ∷ []) (pos 0) (seen ignore with_sign IsUnsigned (0 ∷ []) 0 (small ignore 0 refl refl refl))
+    seen ignore Some IsSigned (0 ∷ []) (pos 0) (seen ignore with_sign IsUnsigned (0 ∷ []) 0
+    (small ignore 0 refl refl refl))
 
 layer_said : (ignore : Ignore) → IsOnLayer 0x7B ignore (1 ∷ 0 ∷ []) (Ok (record { layer = Some 1; datatype = Some 0 }))
 layer_said ignore =
     after ignore (If true IsUnsigned) (λ l. Seen (on_layer l) (If true IsUnsigned)) (1 ∷ []) (0 ∷ []) (Some 1)
     (Ok (record { layer = Some 1; datatype = Some 0 }))
     (given ignore 1 (small ignore 1 refl refl refl))
-    (seen ignore (on_layer (Some 1)) (If true IsUnsigned) (0 ∷ []) (Some 0) (given ignore 0 (small ignore 0 refl refl refl)))
+    (seen ignore (on_layer (Some 1)) (If true IsUnsigned) (0 ∷ []) (Some 0)
+    (given ignore 0 (small ignore 0 refl refl refl)))
 
-position_said : (ignore : Ignore) → IsPosition 0x7B ignore (0 ∷ 0 ∷ []) (Ok (record { x = Some (pos 0); y = Some (pos 0); repetition = None }))
+position_said : (ignore : Ignore) → IsPosition 0x7B ignore (0 ∷ 0 ∷ [])
+    (Ok (record { x = Some (pos 0); y = Some (pos 0); repetition = None }))
 position_said ignore =
     after ignore (If true IsSigned)
     (λ x. Then (If true IsSigned) (λ y. Seen (position x y) (If false (IsRepetition true))))
@@ -195,18 +206,23 @@ with_layer on = Then (If true IsUnsigned) (with_width on)
 
 rectangle_said : (ignore : Ignore) → IsRectangle ignore of_rectangle (Ok (Ok drawn))
 rectangle_said ignore =
-    after ignore IsRectangleInfo (UnlessRuled (λ i. Seen Ok (IsRectangleOf i))) (0x7B ∷ []) (1 ∷ 0 ∷ 10 ∷ 10 ∷ 0 ∷ 0 ∷ [])
-    (Ok 0x7B) (Ok (Ok drawn)) (alone ignore IsByte (λ i. Must (is_rectangle_info i) i Info) (0x7B ∷ []) 0x7B (Ok (Ok 0x7B)) refl (refl, refl))
+    after ignore IsRectangleInfo (UnlessRuled (λ i. Seen Ok (IsRectangleOf i))) (0x7B ∷ [])
+    (1 ∷ 0 ∷ 10 ∷ 10 ∷ 0 ∷ 0 ∷ [])
+    (Ok 0x7B) (Ok (Ok drawn)) (alone ignore IsByte (λ i. Must (is_rectangle_info i) i Info) (0x7B ∷ []) 0x7B
+    (Ok (Ok 0x7B)) refl (refl, refl))
     (seen ignore Ok (IsRectangleOf 0x7B) (1 ∷ 0 ∷ 10 ∷ 10 ∷ 0 ∷ 0 ∷ []) drawn
     (after ignore (IsOnLayer 0x7B) with_layer (1 ∷ 0 ∷ []) (10 ∷ 10 ∷ 0 ∷ 0 ∷ []) on (Ok drawn) (layer_said ignore)
-    (after ignore (If true IsUnsigned) (with_width on) (10 ∷ []) (10 ∷ 0 ∷ 0 ∷ []) (Some 10) (Ok drawn) (given ignore 10 (small ignore 10 refl refl refl))
-    (after ignore (If true IsUnsigned) (with_height on (Some 10)) (10 ∷ []) (0 ∷ 0 ∷ []) (Some 10) (Ok drawn) (given ignore 10 (small ignore 10 refl refl refl))
+    (after ignore (If true IsUnsigned) (with_width on) (10 ∷ []) (10 ∷ 0 ∷ 0 ∷ []) (Some 10) (Ok drawn)
+    (given ignore 10 (small ignore 10 refl refl refl))
+    (after ignore (If true IsUnsigned) (with_height on (Some 10)) (10 ∷ []) (0 ∷ 0 ∷ []) (Some 10) (Ok drawn)
+    (given ignore 10 (small ignore 10 refl refl refl))
     (seen ignore (rectangle false on (Some 10) (Some 10)) (IsPosition 0x7B)
     (0 ∷ 0 ∷ []) (position (Some (pos 0)) (Some (pos 0)) None) (position_said ignore))))))
 
 -- END
 
-padding_said : (ignore : Ignore) → Sized (IsPaddingLength false) ignore (0xFC ∷ 1 ∷ []) (Ok (record { value = 252; len = 2 }))
+padding_said : (ignore : Ignore) → Sized (IsPaddingLength false) ignore (0xFC ∷ 1 ∷ [])
+    (Ok (record { value = 252; len = 2 }))
 padding_said ignore = (
   after ignore (AreTables false) (λ _. IsUnsigned) [] (0xFC ∷ 1 ∷ []) false (Ok 252) (refl, refl)
       (wide ignore 0xFC 1 252 refl refl refl refl),
@@ -231,14 +247,17 @@ end_said ignore =
     after ignore (Sized (IsPaddingLength false)) (λ p. AndThen (Must (fits 1 p) p EndLength) (IsEndOf 1))
     (0xFC ∷ 1 ∷ []) (zeros 252 ++ (0 ∷ [])) (record { value = 252; len = 2 })
     (Ok (Ok ending)) (padding_said ignore)
-    (after ignore (Must true (record { value = 252; len = 2 }) EndLength) (UnlessRuled (IsEndOf 1)) [] (zeros 252 ++ (0 ∷ []))
+    (after ignore (Must true (record { value = 252; len = 2 }) EndLength) (UnlessRuled (IsEndOf 1)) []
+    (zeros 252 ++ (0 ∷ []))
     (Ok (record { value = 252; len = 2 })) (Ok (Ok ending)) (refl, refl)
     (alone ignore (IsEnding 252)
-    (UnlessRuled (λ v. Must (is_whole 1 (record { value = 252; len = 2 }) v) (End v) EndLength)) (zeros 252 ++ (0 ∷ [])) (Ok Absent) (Ok (Ok ending)) (ending_said ignore) (refl, refl)))
+    (UnlessRuled (λ v. Must (is_whole 1 (record { value = 252; len = 2 }) v) (End v) EndLength)) (zeros 252 ++ (0 ∷ []))
+    (Ok Absent) (Ok (Ok ending)) (ending_said ignore) (refl, refl)))
 
 -- each record is spelled after those before it
 
-next : (ignore : Ignore) (rs : List Record) (id : ℕ) (t : RecordType) (r : Record) (fields : List ℕ) → IsUnsigned ignore (id ∷ []) (Ok id)
+next : (ignore : Ignore) (rs : List Record) (id : ℕ) (t : RecordType) (r : Record) (fields : List ℕ)
+    → IsUnsigned ignore (id ∷ []) (Ok id)
     → type_after ignore rs id ≡ Ok t → AreFields (at_end rs) 1 t ignore fields (Ok (Ok r))
     → IsNext rs ignore (id ∷ fields) (Ok (Ok (item r)))
 next ignore rs id t r fields u e f =
@@ -263,11 +282,13 @@ spelled ignore = (
       (
         20 ∷ of_rectangle,
         2 ∷ of_end,
-        next ignore (starting ∷ cell ∷ []) 20 OfRectangle drawn of_rectangle (small ignore 20 refl refl refl) refl (rectangle_said ignore),
+        next ignore (starting ∷ cell ∷ []) 20 OfRectangle drawn of_rectangle (small ignore 20 refl refl refl) refl
+            (rectangle_said ignore),
         (
           2 ∷ of_end,
           [],
-          next ignore (starting ∷ cell ∷ drawn ∷ []) 2 OfEnd ending of_end (small ignore 2 refl refl refl) refl (end_said ignore),
+          next ignore (starting ∷ cell ∷ drawn ∷ []) 2 OfEnd ending of_end (small ignore 2 refl refl refl) refl
+              (end_said ignore),
           refl,
           sym (append-nil (2 ∷ of_end)),
         ),
@@ -418,7 +439,8 @@ square_spells ignore = record { items = square; whole = whole ignore; cells_are 
 square_only : (ignore : Ignore) (cells : List (PlainCell Figure)) (h : OasisHead) → SpellsLibrary ignore file cells h
     → (cells ≡ top ∷ []) × (h ≡ heading)
 square_only ignore cells h p =
-    let e : p.items ≡ square = one_whole (oasis ignore) (is_grammar ignore) file p.items square p.whole (whole ignore) in
+    let e : p.items ≡ square = one_whole (oasis ignore) (is_grammar ignore) file p.items square p.whole
+    (whole ignore) in
     let are : AreCells (names_in (records square)) (drawings (records square)) cells =
     subst (λ is. AreCells (names_in (records is)) (drawings (records is)) cells) e p.cells_are in (
       same_cells (names_in (records square)) (drawings (records square)) (top ∷ []) cells cells_are are,

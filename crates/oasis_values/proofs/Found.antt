@@ -142,14 +142,17 @@ pub reads_found : {R A : Type 0} (remaining : R → Option (List ℕ)) (errors :
     → Stays (prepend_known old.ahead (remaining old.reader)) (prepend_known hand (remaining new.reader))
     → n ≤ length hand → n ≤ room_left old
     → ((xs : List ℕ) → prepend_known old.ahead (remaining old.reader) ≡ Some xs
-    → IsFront (S (input_ignore old)) xs n (Ok x)) → errors new.reader ≡ errors old.reader → lent new.reader ≡ lent old.reader
+    → IsFront (S (input_ignore old)) xs n (Ok x)) → errors new.reader ≡ errors old.reader
+    → lent new.reader ≡ lent old.reader
     → Reads remaining errors lent S old new (Ok x)
-reads_found remaining errors lent S old new hand x n live lives ahead offset ignore stays had within front counted same =
+reads_found remaining errors lent S old new hand x n live lives ahead offset ignore stays had within front counted
+    same =
     let moved : n ≡ input_offset new - input_offset old = omega (arith, offset) in
     record {
       again = λ h. absurd (let k : true ≡ false = sym h ∙ live in cc);
       fresh = λ h k. cc;
-      answers = λ h xs k. subst (λ i. IsFront (S (input_ignore old)) xs i (Ok x) × (i ≤ room_left old)) moved (front xs k, within);
+      answers = λ h xs k. subst (λ i. IsFront (S (input_ignore old)) xs i (Ok x) × (i ≤ room_left old)) moved
+          (front xs k, within);
       left = λ xs k.
           ap (λ l. prepend_known l (remaining new.reader)) ahead
           ∙ known_dropped hand (remaining new.reader) n xs (stays xs k) had

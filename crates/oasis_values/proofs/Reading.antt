@@ -81,15 +81,19 @@ take_past S xs n room x p h =
 -- a fault of the second is one of the whole
 pub fails_second : {A B : Type 0} (S : List ℕ → Result A ValueFault → Type 0)
     (T : A → List ℕ → Result B ValueFault → Type 0) (room n had : ℕ) (xs : List ℕ) (x : A) (f : ValueFault)
-    → IsFront S xs n (Ok x) → n ≤ room → Fails (T x) (room - n) had (drop n xs) f → Fails (ThenAlways S T) room (n + had) xs f
+    → IsFront S xs n (Ok x) → n ≤ room → Fails (T x) (room - n) had (drop n xs) f
+    → Fails (ThenAlways S T) room (n + had) xs f
 fails_second S T room n had xs x f p h q =
     let whole : p.bytes ++ drop n xs ≡ xs = ap (λ l. p.bytes ++ l) (front_rest S xs n (Ok x) p) ∙ sym p.whole in
     let len : n + length (drop n xs) ≡ length xs =
     omega (arith, ap length whole, length-append p.bytes (drop n xs), p.count) in
     record {
       truncated = λ e.
-          let t = q.truncated e in
-          (omega (arith, t.0), subst (IsBegun (ThenAlways S T)) whole (then_goes_on S T p.bytes (drop n xs) x p.says t.1));
+          let t = q.truncated e in (
+            omega (arith, t.0),
+            subst (IsBegun (ThenAlways S T)) whole
+                (then_goes_on S T p.bytes (drop n xs) x p.says t.1),
+          );
       too_long = λ e.
           let t = q.too_long e in
           let goes_on = then_goes_on S T p.bytes (take (room - n) (drop n xs)) x p.says t.2 in

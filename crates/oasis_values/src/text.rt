@@ -71,7 +71,8 @@ impl<R: Read> Input<R> {
     ghost use Rattle.oasis_values.specs.Input.{has_failed};
     ghost use Rattle.oasis_values.specs.Reads.{Reads, Refutes};
     ghost use Rattle.oasis_values.specs.Faults.{as_breach, items};
-    ghost use Rattle.oasis_values.specs.Texts.{IsCharacter, IsString, AreCharacters, AreUnkeptCharacters, IsUnkeptString};
+    ghost use Rattle.oasis_values.specs.Texts.{IsCharacter, IsString, AreCharacters, AreUnkeptCharacters};
+    ghost use Rattle.oasis_values.specs.Texts.{IsUnkeptString};
 
     /// A string of `most` bytes at most. Its length is tested before memory is taken for it, and each
     /// byte as it is read.
@@ -113,7 +114,8 @@ impl<R: Read> Input<R> {
 
     /// A string of any length, of which nothing is kept. It takes no memory.
     pub fn skip_string(&mut self, kind: Text) -> Result<(), ValueFault>
-        ensures reads { Reads R.remaining R.read_errors R.lent (IsUnkeptString kind) self.old self.new (as_breach result) }
+        ensures reads { Reads R.remaining R.read_errors R.lent (IsUnkeptString kind) self.old self.new
+            (as_breach result) }
         ensures none { Refutes R.remaining (IsUnkeptString kind) self.old (as_breach result) }
     {
         let number = self.unsigned()?;

@@ -27,8 +27,10 @@ pub loop-init : goal.loop-init
 loop-init g c = (
   c.requires.fresh,
   λ z. (let y : Header ≡ Fill = sym c.new-reading.ensures.place ∙ z in cc),
-  λ xs k. subst (λ i. ReadTo (gds c.args.ignore) xs i (HasReadBy c.args.ignore c.new-reading.result) (bytes_left g.R.Read.remaining c.args.records.now))
-      (sym c.requires.start) (reads_begin (gds c.args.ignore) xs (HasReadBy c.args.ignore c.new-reading.result) _ k c.new-reading.ensures.none),
+  λ xs k. subst (λ i. ReadTo (gds c.args.ignore) xs i (HasReadBy c.args.ignore c.new-reading.result)
+      (bytes_left g.R.Read.remaining c.args.records.now))
+      (sym c.requires.start) (reads_begin (gds c.args.ignore) xs
+      (HasReadBy c.args.ignore c.new-reading.result) _ k c.new-reading.ensures.none),
   omega arith,
   refl,
   refl,
@@ -53,8 +55,10 @@ returns-in-Err-Breach-clause-refused g c = λ xs k.
     c.in-Ok-Some.record is c.next.follows.holds-at-none in
     refuses_by c.args.ignore xs _ _ _ at c.in-Err-Breach.kind (rw c.in-Err-Breach.field-0-is at c.refuse.ensures)
     c.offset-offset.ensures
-    (reads_refused c.args.ignore xs at c.loop.reading _ _ _ _ (bytes_in_hand new) c.in-Err-Breach.kind to c.loop.invariant.1 sp
-    (λ d. rw c.in-Err-Breach.field-0-is at ((subst (λ i. (rs : List Rec) (d : ℕ) → HasReadBy i c.loop.reading rs → Says c.in-Err-Breach.field-0
+    (reads_refused c.args.ignore xs at c.loop.reading _ _ _ _
+    (bytes_in_hand new) c.in-Err-Breach.kind to c.loop.invariant.1 sp
+    (λ d. rw c.in-Err-Breach.field-0-is at
+    ((subst (λ i. (rs : List Rec) (d : ℕ) → HasReadBy i c.loop.reading rs → Says c.in-Err-Breach.field-0
     (λ k. BreachesBy i rs (record_of c.in-Ok-Some.record.kind d c.in-Ok-Some.record.payload.now) k
     × BreachesOnlyBy i rs (record_of c.in-Ok-Some.record.kind d c.in-Ok-Some.record.payload.now) k))
     c.loop.invariant.8 c.in-Err-Breach.ensures.takes) to.records d to.holds))
@@ -62,9 +66,11 @@ returns-in-Err-Breach-clause-refused g c = λ xs k.
 
 pub returns-in-Err-Breach-clause-reads : goal.returns-in-Err-Breach-clause-reads
 returns-in-Err-Breach-clause-reads g c =
-    let breach : BreachesBy c.args.ignore c.loop.invariant.6 (record_of c.in-Ok-Some.record.kind 0 c.in-Ok-Some.record.payload.now)
+    let breach : BreachesBy c.args.ignore c.loop.invariant.6
+    (record_of c.in-Ok-Some.record.kind 0 c.in-Ok-Some.record.payload.now)
     c.in-Err-Breach.kind =
-    (rw c.in-Err-Breach.field-0-is at ((subst (λ i. (rs : List Rec) (d : ℕ) → HasReadBy i c.loop.reading rs → Says c.in-Err-Breach.field-0
+    (rw c.in-Err-Breach.field-0-is at
+    ((subst (λ i. (rs : List Rec) (d : ℕ) → HasReadBy i c.loop.reading rs → Says c.in-Err-Breach.field-0
     (λ k. BreachesBy i rs (record_of c.in-Ok-Some.record.kind d c.in-Ok-Some.record.payload.now) k
     × BreachesOnlyBy i rs (record_of c.in-Ok-Some.record.kind d c.in-Ok-Some.record.payload.now) k))
     c.loop.invariant.8 c.in-Err-Breach.ensures.takes) c.loop.invariant.6 0 c.loop.invariant.7)).0 in
@@ -126,13 +132,17 @@ loop-preserved g c =
           let to = c.loop.invariant.2 xs k in
           let sp = subst (λ i. IsSpelledAt i (room_left c.loop.records) (drop at xs) c.in-Ok-Some.record.kind
           c.in-Ok-Some.record.payload.now) c.loop.invariant.9
-          (next_said (λ (r : Answered). IsSpelledAt (records_ignore c.loop.records) (room_left c.loop.records) (drop at xs)
+          (next_said (λ (r : Answered). IsSpelledAt (records_ignore c.loop.records) (room_left c.loop.records)
+          (drop at xs)
           r.kind r.payload.now) c.next.result c.in-Ok-Some.record is
           (c.next.ensures.spelled c.loop.invariant.0 (drop at xs) to.left_is)) in
-          subst (λ i. ReadTo (gds c.args.ignore) xs i (HasReadBy c.args.ignore c.take.new.self) (bytes_left g.R.Read.remaining new)) (sym p.offset)
-          (reads_record c.args.ignore xs at c.loop.reading c.take.new.self _ (bytes_left g.R.Read.remaining new) _ _ to sp
+          subst (λ i. ReadTo (gds c.args.ignore) xs i (HasReadBy c.args.ignore c.take.new.self)
+          (bytes_left g.R.Read.remaining new)) (sym p.offset)
+          (reads_record c.args.ignore xs at c.loop.reading c.take.new.self _
+          (bytes_left g.R.Read.remaining new) _ _ to sp
           (λ d. (subst (λ i. (rs : List Rec) (d : ℕ) → HasReadBy i c.loop.reading rs
-          → HasReadBy i c.take.new.self (rs ++ record_of c.in-Ok-Some.record.kind d c.in-Ok-Some.record.payload.now ∷ [])
+          → HasReadBy i c.take.new.self (rs ++ record_of c.in-Ok-Some.record.kind d c.in-Ok-Some.record.payload.now
+          ∷ [])
           × MayFollowBy i rs (record_of c.in-Ok-Some.record.kind d c.in-Ok-Some.record.payload.now))
           c.loop.invariant.8 c.in-Ok.ensures.takes) to.records d to.holds) (p.left (drop at xs) to.left_is)),
       omega (arith, p.offset, c.loop.invariant.3),
@@ -140,7 +150,8 @@ loop-preserved g c =
       p.same ∙ c.loop.invariant.5,
       c.loop.invariant.6 ++ record_of c.in-Ok-Some.record.kind 0 c.in-Ok-Some.record.payload.now ∷ [],
       ((subst (λ i. (rs : List Rec) (d : ℕ) → HasReadBy i c.loop.reading rs
-          → HasReadBy i c.take.new.self (rs ++ record_of c.in-Ok-Some.record.kind d c.in-Ok-Some.record.payload.now ∷ [])
+          → HasReadBy i c.take.new.self (rs ++ record_of c.in-Ok-Some.record.kind d c.in-Ok-Some.record.payload.now
+          ∷ [])
           × MayFollowBy i rs (record_of c.in-Ok-Some.record.kind d c.in-Ok-Some.record.payload.now))
           c.loop.invariant.8 c.in-Ok.ensures.takes) c.loop.invariant.6 0 c.loop.invariant.7).0,
       c.in-Ok.ensures.ignore ∙ c.loop.invariant.8,
@@ -163,7 +174,8 @@ returns-then-is_whole-clause-whole g c = (
       (next_said (λ (r : Answered). IsSpelledAt (records_ignore c.loop.records) (room_left c.loop.records) (drop at xs)
       r.kind r.payload.now) c.next.result c.in-Ok-Some.record is
       (c.next.ensures.spelled c.loop.invariant.0 (drop at xs) to.left_is)) in
-      subst (λ i. ReadTo (gds c.args.ignore) xs i (HasReadBy c.args.ignore c.take.new.self) (bytes_left g.R.Read.remaining new)) (sym p.offset)
+      subst (λ i. ReadTo (gds c.args.ignore) xs i (HasReadBy c.args.ignore c.take.new.self)
+      (bytes_left g.R.Read.remaining new)) (sym p.offset)
       (reads_record c.args.ignore xs at c.loop.reading c.take.new.self _ (bytes_left g.R.Read.remaining new) _ _ to sp
       (λ d. (subst (λ i. (rs : List Rec) (d : ℕ) → HasReadBy i c.loop.reading rs
       → HasReadBy i c.take.new.self (rs ++ record_of c.in-Ok-Some.record.kind d c.in-Ok-Some.record.payload.now ∷ [])

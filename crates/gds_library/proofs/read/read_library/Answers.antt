@@ -21,8 +21,10 @@ returns-in-Ok-None-clause-spelled g c = λ xs k.
     let is : c.tail.result ≡ Ok None = c.in-Ok-None.is ∙ ap Ok c.in-Ok-None.field-0-is in
     let z = subst (says at (records_offset c.tail.new.self) xs) is (c.tail.ensures.exact c.in_ok-reading.ensures.fresh
     (drop at xs) to.left_is) in
-    rw (c.finish.ensures.cells, c.finish.ensures.head) (reads_all c.args.ignore xs at c.in_ok-reading.reading.reading.builder _
-    (reads_end c.args.ignore xs at c.in_ok-reading.reading _ to c.in_ok-reading.ensures.whole.0) c.in_ok-reading.ensures.whole.0
+    rw (c.finish.ensures.cells, c.finish.ensures.head)
+    (reads_all c.args.ignore xs at c.in_ok-reading.reading.reading.builder _
+    (reads_end c.args.ignore xs at c.in_ok-reading.reading _ to c.in_ok-reading.ensures.whole.0)
+    c.in_ok-reading.ensures.whole.0
     z.0 (omega (arith, z.1, to.front.within, length-take at xs, to.within)))
 
 pub returns-in-Ok-Some-clause-refused : goal.returns-in-Ok-Some-clause-refused
@@ -36,7 +38,8 @@ returns-in-Ok-Some-clause-refused g c = λ xs k.
     let moved : records_offset c.tail.new.self - at ≡ z.0 = omega (arith, z.3, z.4) in
     refuses_by c.args.ignore xs _ _ _ _ AfterEnd c.refuse.ensures z.3
     (reads_after c.args.ignore xs at z.0 c.in_ok-reading.reading.reading.builder _ _ z.2.0 z.2.1 hand
-    (reads_end c.args.ignore xs at c.in_ok-reading.reading _ to c.in_ok-reading.ensures.whole.0) c.in_ok-reading.ensures.whole.0
+    (reads_end c.args.ignore xs at c.in_ok-reading.reading _ to c.in_ok-reading.ensures.whole.0)
+    c.in_ok-reading.ensures.whole.0
     z.2.3 z.2.2 z.1
     (rw c.in-Ok-Some.field-0-is at c.in-Ok-Some.ensures.seen) (λ ys y. c.tail.ensures.moves.left ys y
     ∙ ap (λ i. Some (drop i ys)) moved))
@@ -52,7 +55,8 @@ returns-in-Err-Fault-clause-refused g c = λ xs k.
     (reads_tail c.args.ignore xs at (records_offset c.tail.new.self) c.in_ok-reading.reading.reading.builder _ _
     (bytes_in_hand c.tail.new.self) c.in-Err-Fault.fault (reads_end c.args.ignore xs at c.in_ok-reading.reading _ to
     c.in_ok-reading.ensures.whole.0) c.in_ok-reading.ensures.whole.0
-    (omega (arith, to.front.within, length-take at xs, to.within)) z (subst (λ i. Decides i c.in-Err-Fault.fault (file_limit - records_offset c.tail.new.self)
+    (omega (arith, to.front.within, length-take at xs, to.within)) z
+    (subst (λ i. Decides i c.in-Err-Fault.fault (file_limit - records_offset c.tail.new.self)
     (bytes_in_hand c.tail.new.self)) (c.tail.ensures.moves.ignore ∙ c.in_ok-reading.ensures.ignore)
     (rw is at c.tail.ensures.decided).0)
     (λ e. c.tail.ensures.starved (is ∙ ap (λ (i : RecordFault). Err (Fault i)) e))

@@ -18,7 +18,13 @@ loop-index-preserved c =
           let pushed = w.in_ok-push_layer.ensures in
           let adds : AddsLayer d c.loop-index.mask w.push_layer.new.mask c.loop-index.layers.items
           w.push_layer.new.layers.items =
-          record { hashed = pushed.hashed; digest = pushed.listed.0; is = pushed.listed.1; more_are = pushed.listed.2 } in
+          record {
+            hashed = pushed.hashed;
+            digest = pushed.listed.0;
+            is = pushed.listed.1;
+            more_are =
+                pushed.listed.2;
+          } in
           let narrow : (layer.layer < 2 ^ 32) × (layer.datatype < 2 ^ 32) = (omega arith, omega arith) in
           rw (w.mask-is, w.layers-is)
           (one_digested flat index d _ _ _ _ w.in-Some.ensures.in_order.sorted (sym w.in-Some.ensures.layer)

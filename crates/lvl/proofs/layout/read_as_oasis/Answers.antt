@@ -8,7 +8,8 @@ returns-in-Ok-clause-spelled g c xs known =
 pub returns-in-Err-Breach-clause-refused : goal.returns-in-Err-Breach-clause-refused
 returns-in-Err-Breach-clause-refused g c xs known format =
     let e = c.in-Err-Breach in
-    oasis_fault c.args.ignore xs e.field-0 e.fault e.field-0-is format (e.ensures.refused xs known) (e.ensures.none xs known)
+    oasis_fault c.args.ignore xs e.field-0 e.fault e.field-0-is format (e.ensures.refused xs known)
+    (e.ensures.none xs known)
 
 pub returns-in-Err-Breach-clause-early : goal.returns-in-Err-Breach-clause-early
 returns-in-Err-Breach-clause-early g c xs known format soon =

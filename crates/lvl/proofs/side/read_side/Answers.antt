@@ -12,5 +12,6 @@ returns-in-Err-Breach-clause-refused g c xs known =
 pub returns-in-Err-Breach-clause-early : goal.returns-in-Err-Breach-clause-early
 returns-in-Err-Breach-clause-early g c xs known soon =
     let e = c.in-Err-Breach in
-    subst (λ r. Says r (λ f. IsEarlyFile f → IsHopeless c.args.ignore xs (g.R.Read.remaining c.read_layout_by.new.reader))) e.field-0-is
+    subst (λ r. Says r (λ f. IsEarlyFile f → IsHopeless c.args.ignore xs
+    (g.R.Read.remaining c.read_layout_by.new.reader))) e.field-0-is
     (e.ensures.early xs known) soon.1

@@ -22,13 +22,23 @@ returns c = λ known.
     subst (λ (cs : List (PlainCell Rings)). slice_get cs c.args.ours ≡ Some x)
     (c.cells.ensures.value ∙ ap (λ (z : Settled). z.cells) c.checked.ensures.library)
     (slice_get_read c.cells.result.now (length c.cells.result.now) c.args.ours x refl
-    (omega (arith, c.requires.ours, ap length c.cells.ensures.value, ap (λ (z : Settled). length z.cells) c.checked.ensures.library))
+    (omega (
+      arith,
+      c.requires.ours,
+      ap length c.cells.ensures.value,
+      ap (λ (z : Settled). length z.cells) c.checked.ensures.library,
+    ))
     c.index-cells-ours.is) in
     let there : slice_get theirs c.args.theirs ≡ Some y =
     subst (λ (cs : List (PlainCell Rings)). slice_get cs c.args.theirs ≡ Some y)
     (c.cells-2.ensures.value ∙ ap (λ (z : Settled). z.cells) c.checked-2.ensures.library)
     (slice_get_read c.cells-2.result.now (length c.cells-2.result.now) c.args.theirs y refl
-    (omega (arith, c.requires.theirs, ap length c.cells-2.ensures.value, ap (λ (z : Settled). length z.cells) c.checked-2.ensures.library))
+    (omega (
+      arith,
+      c.requires.theirs,
+      ap length c.cells-2.ensures.value,
+      ap (λ (z : Settled). length z.cells) c.checked-2.ensures.library,
+    ))
     c.index-cells-theirs.is) in
     cells_alike ours theirs c.args.ours c.args.theirs x y pairs new at there
     (alike_wider old new (ShapesCover x.shapes) (IsMoved pairs (ShapesCover y.shapes))

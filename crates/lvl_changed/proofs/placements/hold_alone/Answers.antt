@@ -48,7 +48,8 @@ loop-placement-preserved c =
                 into_more (At cells layer) ps c.loop-placement.placement-index none p (PlacedCover cells others layer)
                 old old c.if-not-is_at.windows low refl w.windows-is (widens_itself old)
                 (c.loop-placement.invariant.held layer)
-                (λ s out covers. some_contained (At cells layer s) others p (c.is_at.ensures w.if-not-is_at.false) covers);
+                (λ s out covers. some_contained (At cells layer s) others p
+                (c.is_at.ensures w.if-not-is_at.false) covers);
             kept =
                 widens_to c.args.windows.now old old c.if-not-is_at.windows c.loop-placement.invariant.kept
                 (widens_itself old) w.windows-is;

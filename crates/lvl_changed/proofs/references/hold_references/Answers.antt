@@ -39,7 +39,8 @@ returns-clause-held c = λ pairs known x y at there.
     let mine : AlikeOutside w1 (ReferencesCover ours x.references) (IsMoved pairs (PlacedCover theirs ps)) =
     subst
     (λ o. IfSome o
-    (λ (d : PlainCell Rings). AlikeOutside w1 (ReferencesCover ours d.references) (IsMoved pairs (PlacedCover theirs ps))))
+    (λ (d : PlainCell Rings). AlikeOutside w1 (ReferencesCover ours d.references)
+    (IsMoved pairs (PlacedCover theirs ps))))
     at covers in
     let own : IfSome (slice_get theirs c.args.theirs)
     (λ d. (l : Layer) (s : Square) → PlacedCover theirs qs l s ↔ ReferencesCover theirs d.references l s) =

@@ -39,7 +39,8 @@ returns-then-corners-eq0-clause-hashed c =
       sent.3,
       record {
         digest_is = none;
-        bytes = subst (λ (ks : List Corner). HashesOn c.args.mask.now c.args.mask.now (drawn_bytes c.args.layer ks)) (sym none)
+        bytes = subst (λ (ks : List Corner). HashesOn c.args.mask.now c.args.mask.now (drawn_bytes c.args.layer ks))
+            (sym none)
             (hashes_none c.args.mask.now);
       },
     )
@@ -74,7 +75,8 @@ returns-clause-hashed c =
         bytes = λ m held.
             let cloned : Holds256 c.in_ok-clone.field-0 m = subst (λ (h : Sha256). Holds256 h m) (sym
             c.in_ok-clone.ensures.cases) held in
-            let begun = subst (λ (bs : List ℕ). HoldsWith c.in_ok-hashing.hashing.mask c.in_ok-hashing.hashing.pending.items
+            let begun = subst (λ (bs : List ℕ). HoldsWith c.in_ok-hashing.hashing.mask
+            c.in_ok-hashing.hashing.pending.items
             (m ++ bs)) head_is (c.in_ok-hashing.ensures.mask m cloned) in
             let all : Holds256 c.flush.new.self.mask ((m ++ head) ++ body) = holds_all c.flush.new.self.mask
             c.flush.new.self.pending.items ((m ++ head) ++ body) c.flush.ensures.none (c.flush.ensures.same.mask

@@ -5,7 +5,8 @@ use Rattle.lvl_report.proofs.runs.run_by.Goals as goal
 
 pub returns-clause-written : goal.returns-clause-written
 returns-clause-written g c =
-    written_as text_of (outcome_of c.args.ignore) _ _ c.run_view_by-2.result (λ answer. whole_answer _ c.whole.ensures _ _ answer)
+    written_as text_of (outcome_of c.args.ignore) _ _ c.run_view_by-2.result
+    (λ answer. whole_answer _ c.whole.ensures _ _ answer)
     c.run_view_by-2.ensures.written
 
 pub returns-clause-begun : goal.returns-clause-begun

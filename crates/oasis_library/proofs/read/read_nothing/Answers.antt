@@ -12,7 +12,8 @@ use Rattle.oasis_library.proofs.read.read_nothing.Goals as goal
 
 pub returns-in-Ok-clause-refused : goal.returns-in-Ok-clause-refused
 returns-in-Ok-clause-refused g c =
-    rw (c.refuse.ensures, c.offset-offset.ensures) (λ xs to. byte_refuses (input_ignore c.args.input.now) xs to c.in-Ok.field-0 c.requires refl to.holds
+    rw (c.refuse.ensures, c.offset-offset.ensures) (λ xs to. byte_refuses
+    (input_ignore c.args.input.now) xs to c.in-Ok.field-0 c.requires refl to.holds
     c.in-Ok.ensures.reads)
 
 pub returns-then-is_truncated-clause-whole : goal.returns-then-is_truncated-clause-whole
@@ -26,7 +27,8 @@ pub returns-else-is_truncated-clause-refused : goal.returns-else-is_truncated-cl
 returns-else-is_truncated-clause-refused g c = rw c.refuse-in-Err.ensures (λ xs to.
     let p = c.in-Err.ensures.reads in
     let at = input_offset c.args.input.now in
-    subst (λ i. RefusesAt (input_ignore c.args.input.now) xs (g.R.Read.remaining (input_reader c.byte.new.self)) i (Value c.in-Err.fault))
+    subst (λ i. RefusesAt (input_ignore c.args.input.now) xs (g.R.Read.remaining (input_reader c.byte.new.self)) i
+    (Value c.in-Err.fault))
     (sym c.offset-offset.ensures)
     (after_refuses (input_ignore c.args.input.now) xs at (bytes_had c.args.input.now c.byte.new.self) to c.in-Err.fault
     (other_fault c.in-Err.fault (sym c.is_truncated.ensures ∙ c.if-is_truncated.false))

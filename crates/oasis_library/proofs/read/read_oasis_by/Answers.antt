@@ -15,9 +15,11 @@ returns-clause-none g c =
 pub returns-clause-early : goal.returns-clause-early
 returns-clause-early g c = λ xs k.
     early_left c.args.ignore xs _ _ c.read_library-read.result
-    (rw c.new-input.ensures.ignore at (c.read_library-read.ensures.refused xs (c.new-input.ensures.bytes ∙ k))) (search rules)
+    (rw c.new-input.ensures.ignore at (c.read_library-read.ensures.refused xs (c.new-input.ensures.bytes ∙ k)))
+    (search rules)
 
 pub returns-clause-unread : goal.returns-clause-unread
 returns-clause-unread g c = λ xs k.
     unread_left c.args.ignore xs _ _ c.read_library-read.result
-    (rw c.new-input.ensures.ignore at (c.read_library-read.ensures.refused xs (c.new-input.ensures.bytes ∙ k))) (search rules)
+    (rw c.new-input.ensures.ignore at (c.read_library-read.ensures.refused xs (c.new-input.ensures.bytes ∙ k)))
+    (search rules)

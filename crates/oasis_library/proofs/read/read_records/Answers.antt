@@ -18,7 +18,8 @@ loop-init g c = (
   c.in-Ok.ensures.reads.failed,
   ([], c.new-reading.ensures),
   (λ xs k. (
-    first_on (input_ignore c.args.input.now) xs c.new-reading.result c.requires.fresh refl c.requires.start k c.new-reading.ensures c.in-Ok.ensures.reads,
+    first_on (input_ignore c.args.input.now) xs c.new-reading.result c.requires.fresh refl c.requires.start k
+        c.new-reading.ensures c.in-Ok.ensures.reads,
     first_takes (input_ignore c.args.input.now) xs magic c.requires.fresh refl k c.in-Ok.ensures.reads,
   )),
   c.in-Ok.ensures.reads.counted,
@@ -31,7 +32,8 @@ returns-in-Err-read_next-clause-refused g c = λ xs k.
     let to = (c.loop.invariant.2 xs k).0 in
     let rs = records to.records in
     let p = c.in-Err-read_next.ensures.reads rs (subst (λ o. HasReached o rs) (sym c.order.ensures) to.holds.0.order) in
-    rw (c.refused_at.ensures, c.offset-offset.ensures) (next_refused (input_ignore c.args.input.now) xs c.loop.reading to c.in-Err-read_next.refusal
+    rw (c.refused_at.ensures, c.offset-offset.ensures)
+    (next_refused (input_ignore c.args.input.now) xs c.loop.reading to c.in-Err-read_next.refusal
     c.loop.invariant.0 c.loop.invariant.5 p)
 
 pub returns-in-Err-take-clause-refused : goal.returns-in-Err-take-clause-refused
@@ -40,7 +42,8 @@ returns-in-Err-take-clause-refused g c = λ xs k.
     let rs = records to.records in
     let p = c.in-Ok-read_next.ensures.reads rs (subst (λ o. HasReached o rs) (sym c.order.ensures) to.holds.0.order) in
     rw (c.refused_at-in-Err-take.ensures, c.offset-offset.ensures)
-    (take_refused (input_ignore c.args.input.now) xs c.loop.reading c.in-Ok-read_next.record to c.in-Err-take.refusal c.loop.invariant.0
+    (take_refused (input_ignore c.args.input.now) xs c.loop.reading c.in-Ok-read_next.record to c.in-Err-take.refusal
+    c.loop.invariant.0
     c.loop.invariant.5 p
     c.in-Err-take.ensures.refused)
 
@@ -51,7 +54,8 @@ returns-then-is_end-clause-whole g c = λ xs k.
     let r = c.in-Ok-read_next.record in
     let y = c.take.new.self in
     let p = c.in-Ok-read_next.ensures.reads rs (subst (λ o. HasReached o rs) (sym c.order.ensures) to.holds.0.order) in
-    let on = record_on (input_ignore c.args.input.now) xs c.loop.reading y r to c.loop.invariant.0 c.loop.invariant.5 p (c.in-Ok-take.ensures.kept rs to.holds.0)
+    let on = record_on (input_ignore c.args.input.now) xs c.loop.reading y r to c.loop.invariant.0 c.loop.invariant.5 p
+    (c.in-Ok-take.ensures.kept rs to.holds.0)
     (c.in-Ok-take.ensures.none rs to.holds.0) in
     reads_as (input_ignore c.args.input.now) xs _ (HasMore y r) (HasWhole y) _ on
     (λ is m. more_whole y r is (sym c.is_end-is_end.ensures ∙ c.if-is_end.true) m)
@@ -70,9 +74,11 @@ loop-preserved g c =
           let rs = records to.records in
           let p = c.in-Ok-read_next.ensures.reads rs (subst (λ o. HasReached o rs) (sym c.order.ensures)
           to.holds.0.order) in
-          let on = record_on (input_ignore c.args.input.now) xs c.loop.reading y r to c.loop.invariant.0 c.loop.invariant.5 p (c.in-Ok-take.ensures.kept rs to.holds.0)
+          let on = record_on (input_ignore c.args.input.now) xs c.loop.reading y r to c.loop.invariant.0
+          c.loop.invariant.5 p (c.in-Ok-take.ensures.kept rs to.holds.0)
           (c.in-Ok-take.ensures.none rs to.holds.0) in
-          let more = record_takes (input_ignore c.args.input.now) xs c.loop.reading (item r) to c.loop.invariant.0 c.loop.invariant.5 p in (
+          let more = record_takes (input_ignore c.args.input.now) xs c.loop.reading
+          (item r) to c.loop.invariant.0 c.loop.invariant.5 p in (
             reads_as (input_ignore c.args.input.now) xs _ (HasMore y r) (HasBegun y) _ on
                 (λ is m. more_begun y r is (sym c.is_end-is_end.ensures ∙ c.if-is_end.false) m),
             omega

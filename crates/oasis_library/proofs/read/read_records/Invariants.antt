@@ -11,7 +11,8 @@ invariant-loop g l =
     (has_failed l.input ≡ false)
     × ((rs : List Record) × Holds l.reading rs)
     × ((xs : List ℕ) → bytes_left g.R.Read.remaining l.fn.input ≡ Some xs
-    → ReadTo (oasis (input_ignore l.fn.input)) xs (input_offset l.input) (HasBegun l.reading) (bytes_left g.R.Read.remaining l.input)
+    → ReadTo (oasis (input_ignore l.fn.input)) xs (input_offset l.input) (HasBegun l.reading)
+    (bytes_left g.R.Read.remaining l.input)
     × (l.counter < input_offset l.input))
     × (g.R.Read.read_errors (input_reader l.input) ≡ g.R.Read.read_errors (input_reader l.fn.input))
     × (g.R.Read.lent (input_reader l.input) ≡ g.R.Read.lent (input_reader l.fn.input))

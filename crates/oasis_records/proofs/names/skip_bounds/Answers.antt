@@ -7,7 +7,12 @@ use Rattle.oasis_values.proofs.Reading.{reads_seen, reads_seen_err}
 use Rattle.oasis_records.proofs.names.skip_bounds.Goals as goal
 
 pub loop-n-init : goal.loop-n-init
-loop-n-init g c = (0, [], going_from (λ _. IsUnsigned) (λ x. x) c.args.count 0 c.args.input.now (omega arith) c.requires)
+loop-n-init g c = (
+  0,
+  [],
+  going_from (λ _. IsUnsigned) (λ x. x) c.args.count 0 c.args.input.now
+      (omega arith) c.requires,
+)
 
 pub loop-n-preserved : goal.loop-n-preserved
 loop-n-preserved g c =

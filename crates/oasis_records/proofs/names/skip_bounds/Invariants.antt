@@ -6,5 +6,6 @@ use Rattle.oasis_records.proofs.names.skip_bounds.Given as goal
 -- those so far were read, whichever they were
 abbrev pub invariant-loop-n : goal.invariant-loop-n
 invariant-loop-n g l =
-    (last : ℕ) × (said : List ℕ) × Going g.R.Read.remaining g.R.Read.read_errors g.R.Read.lent (λ _. IsUnsigned) (λ x. x)
+    (last : ℕ) × (said : List ℕ) × Going g.R.Read.remaining g.R.Read.read_errors g.R.Read.lent (λ _. IsUnsigned)
+    (λ x. x)
     l.count 0 l.initial.input l.input (l.count - l.n) last said

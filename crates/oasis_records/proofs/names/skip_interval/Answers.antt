@@ -12,7 +12,8 @@ returns-in_err-kind g c =
 
 pub returns-in_err-skip_bounds : goal.returns-in_err-skip_bounds
 returns-in_err-skip_bounds g c =
-    let p = err_from_is_err_and c.from_residual-in_err-skip_bounds.result c.from_residual-in_err-skip_bounds.ensures.1 in
+    let p = err_from_is_err_and c.from_residual-in_err-skip_bounds.result c.from_residual-in_err-skip_bounds.ensures.1
+    in
     let q = rw c.bounds.ensures at c.in_err-skip_bounds.ensures.reads in
     rw (p.1, p.2) (record { reads = reads_go _ c.in_ok-kind.ensures.reads (reads_seen_err Ok q) })
 

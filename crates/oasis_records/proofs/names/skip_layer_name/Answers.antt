@@ -13,7 +13,8 @@ returns-in_err-skip_string g c =
 
 pub returns-in_err-skip_interval : goal.returns-in_err-skip_interval
 returns-in_err-skip_interval g c =
-    let p = err_from_is_err_and c.from_residual-in_err-skip_interval.result c.from_residual-in_err-skip_interval.ensures.1 in
+    let p = err_from_is_err_and c.from_residual-in_err-skip_interval.result
+    c.from_residual-in_err-skip_interval.ensures.1 in
     rw (p.1, p.2) (record {
       reads = reads_then _ c.in_ok-skip_string.ensures.reads
           (reads_stop _ _ (λ _. interval_code) c.in_err-skip_interval.ensures.reads);

@@ -25,7 +25,8 @@ returns-in_err-count g c =
 
 pub returns-in_err-skip_values : goal.returns-in_err-skip_values
 returns-in_err-skip_values g c =
-    let p = err_from_is_err_and c.from_residual-in_err-skip_values.result c.from_residual-in_err-skip_values.ensures.1 in
+    let p = err_from_is_err_and c.from_residual-in_err-skip_values.result c.from_residual-in_err-skip_values.ensures.1
+    in
     rw (p.1, p.2) (record {
       reads = reads_then _ c.in_ok-_name.ensures.reads
           (reads_then _ c.in_ok-count.ensures.reads

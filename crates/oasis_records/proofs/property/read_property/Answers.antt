@@ -8,7 +8,9 @@ use Rattle.oasis_records.proofs.property.read_property.Goals as goal
 pub returns-in_err-info : goal.returns-in_err-info
 returns-in_err-info g c =
     let p = err_from_is_err_and c.from_residual.result c.from_residual.ensures.1 in
-    rw (p.1, p.2) (record { reads = reads_stop _ _ (λ i. seen_code Ok (property_of_code i)) c.in_err-info.ensures.reads })
+    rw (p.1, p.2) (record {
+      reads = reads_stop _ _ (λ i. seen_code Ok (property_of_code i)) c.in_err-info.ensures.reads;
+    })
 
 pub returns : goal.returns
 returns g c =

@@ -6,5 +6,6 @@ use Rattle.oasis_records.proofs.property.skip_values.Given as goal
 -- those so far were read, whichever they were
 abbrev pub invariant-loop-n : goal.invariant-loop-n
 invariant-loop-n g l =
-    (last : Unit {0}) × (said : List (Unit {0})) × Going g.R.Read.remaining g.R.Read.read_errors g.R.Read.lent (λ _. IsValue) (λ x. x)
+    (last : Unit {0}) × (said : List (Unit {0})) × Going g.R.Read.remaining g.R.Read.read_errors g.R.Read.lent
+    (λ _. IsValue) (λ x. x)
     l.count tt l.initial.input l.input (l.count - l.n) last said

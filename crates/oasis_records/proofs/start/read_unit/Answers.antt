@@ -16,4 +16,7 @@ returns g c =
     let u = c.in_ok-unit.unit in
     let p = c.in_ok-unit.ensures.reads in
     rw (c.must.ensures, c.is_unit.ensures)
-    (record { reads = reads_then (λ r. Must (is_unit r) r NoUnit) p (reads_nothing (obeyed (is_unit u) u NoUnit) p.failed) })
+    (record {
+      reads = reads_then (λ r. Must (is_unit r) r NoUnit) p
+          (reads_nothing (obeyed (is_unit u) u NoUnit) p.failed);
+    })

@@ -7,7 +7,8 @@ pub returns-then-not-awaits_value : goal.returns-then-not-awaits_value
 returns-then-not-awaits_value c = λ rs r k h.
     let x = c.args.self.now in
     passes_end x.ignore x rs r c.may_end.result h c.requires.unended (k ∙ c.if-kind-eq-PROPATTR.true)
-    (λ w. let y = (c.awaits_value.ensures x.ignore rs h).1 w in (let z : true ≡ false = sym y ∙ c.if-not-awaits_value.true in cc))
+    (λ w. let y = (c.awaits_value.ensures x.ignore rs h).1 w in
+    (let z : true ≡ false = sym y ∙ c.if-not-awaits_value.true in cc))
     (c.may_end.ensures (essential x.ignore rs) h.essential)
 
 pub returns-in-Some : goal.returns-in-Some

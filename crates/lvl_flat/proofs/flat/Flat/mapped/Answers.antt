@@ -81,7 +81,8 @@ returns-clause-covers c =
     ap (rings_on layer) e
     ∙ (rings_on-filled c.loop-sheet.mapped.items c.loop-sheet.invariant.sorted layer
     ∙ (c.loop-sheet.invariant.rings layer ∙ ap (mapped_on pairs layer) all)) in
-    subst (λ (rs : Rings). RingsCover rs s ↔ IsMoved pairs (λ l. RingsCover (rings_on l c.args.self)) layer s) (sym same)
+    subst (λ (rs : Rings). RingsCover rs s ↔ IsMoved pairs (λ l. RingsCover (rings_on l c.args.self)) layer s)
+    (sym same)
     (mapped_covers pairs c.args.self layer s c.into_sheets-sheets.ensures.in_order.sorted)) c.filled.ensures
 
 pub returns-clause-rings : goal.returns-clause-rings

@@ -14,7 +14,8 @@ returns-in_ok-_real-in-Real g c =
 
 pub returns-in_err-_number-in-Unsigned : goal.returns-in_err-_number-in-Unsigned
 returns-in_err-_number-in-Unsigned g c =
-    let p = err_from_is_err_and c.from_residual-in_err-_number-in-Unsigned.result c.from_residual-in_err-_number-in-Unsigned.ensures.1 in
+    let p = err_from_is_err_and c.from_residual-in_err-_number-in-Unsigned.result
+    c.from_residual-in_err-_number-in-Unsigned.ensures.1 in
     rw (p.1, p.2, c.in-Unsigned.is)
     (record { reads = reads_seen_err (λ _. tt) c.in_err-_number-in-Unsigned.ensures.reads })
 
@@ -24,7 +25,8 @@ returns-in_ok-_number-in-Unsigned g c =
 
 pub returns-in_err-_number-in-Signed : goal.returns-in_err-_number-in-Signed
 returns-in_err-_number-in-Signed g c =
-    let p = err_from_is_err_and c.from_residual-in_err-_number-in-Signed.result c.from_residual-in_err-_number-in-Signed.ensures.1 in
+    let p = err_from_is_err_and c.from_residual-in_err-_number-in-Signed.result
+    c.from_residual-in_err-_number-in-Signed.ensures.1 in
     rw (p.1, p.2, c.in-Signed.is)
     (record { reads = reads_seen_err (λ _. tt) c.in_err-_number-in-Signed.ensures.reads })
 
@@ -34,7 +36,8 @@ returns-in_ok-_number-in-Signed g c =
 
 pub returns-in_err-_number-in-Reference : goal.returns-in_err-_number-in-Reference
 returns-in_err-_number-in-Reference g c =
-    let p = err_from_is_err_and c.from_residual-in_err-_number-in-Reference.result c.from_residual-in_err-_number-in-Reference.ensures.1 in
+    let p = err_from_is_err_and c.from_residual-in_err-_number-in-Reference.result
+    c.from_residual-in_err-_number-in-Reference.ensures.1 in
     rw (p.1, p.2, c.in-Reference.is)
     (record { reads = reads_seen_err (λ _. tt) c.in_err-_number-in-Reference.ensures.reads })
 
