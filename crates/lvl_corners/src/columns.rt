@@ -1,12 +1,13 @@
 //! The corners of what rings cover, column by column.
-ghost use Rattle.std.specs.Prelude.{◌≡◌, ◌≤◌, ◌+◌, ◌-◌, ◌*◌, ◌^◌, ◌<ℤ◌, negsuc, true, List, length, flat_map};
+ghost use Rattle.std.specs.Prelude.{◌≡◌, ◌<◌, ◌≤◌, ◌+◌, ◌-◌, ◌*◌, ◌^◌, ◌<ℤ◌, negsuc, true, List, length};
+ghost use Rattle.std.specs.Prelude.{flat_map};
 ghost use Rattle.std.specs.Prelude.{OnOk, IfOk, IfSome, IsTrue, All, ◌↔◌};
 ghost use Rattle.lvl_grid.specs.declared.point.Square.{Square as GridSquare};
 ghost use Rattle.lvl_grid.specs.Clip.{IsIn};
 ghost use Rattle.lvl_grid.specs.Winding.{SomeCovers};
 ghost use Rattle.lvl_corners.specs.declared.corner.Corner.{Corner as GridCorner};
 ghost use Rattle.lvl_corners.specs.Corners.{AreCornersOf, FitsCorner};
-ghost use Rattle.lvl_corners.specs.inside.Spans.{AreCornersIn, KeepsBudget, spanned};
+ghost use Rattle.lvl_corners.specs.inside.Spans.{AreCornersIn, KeepsBudget, spanned, whole};
 
 use crate::send::send_swept;
 use crate::sink::CornerSink;
@@ -43,21 +44,37 @@ impl Budget {
     }
 }
 
-/// An abscissa of the span at which the rings are cut that come of a number of cuts, one within the other,
-/// if a cut is worth while. It is not the first one of the span, since the right half would then be as
-/// wide as the column; so there is one before it.
-fn cut_of(alloc: Global, rings: &Rings, span: &Span, depth: u32) -> Result<Option<i64>, AllocError>
+/// How many cuts are made, one within the other, at most.
+const DEPTH: u32 = 64;
+
+/// The abscissa at which the rings of a column that come of `depth` cuts, one within the other, are cut into
+/// two columns more, if that is worth while and the budget has them. It is not the first one of the span,
+/// since the right half would then be as wide as the column; so there is one before it.
+fn cut_of(
+    alloc: Global,
+    rings: &Rings,
+    span: &Span,
+    depth: u32,
+    budget: &mut Budget,
+) -> Result<Option<i64>, AllocError>
+    requires { budget.old.made ≤ budget.old.most }
     ensures within { IfOk result (λ cut. IfSome cut (λ at. spanned span.now at ≡ true)) }
     ensures inner { IfOk result (λ cut. IfSome cut (λ at. negsuc (2 ^ 63 - 1) <ℤ at)) }
+    ensures depth { IfOk result (λ cut. IfSome cut (λ at. depth < 64)) }
+    ensures budget { OnOk result (KeepsBudget budget.old budget.new) }
 {
+    if depth >= DEPTH || !budget.has_two() {
+        return Ok(None);
+    }
     let nothing = Rings::new(alloc);
     let Some(at) = cut_at(alloc, rings, &nothing, depth)? else {
         return Ok(None);
     };
-    if span.has_around(at) {
-        return Ok(Some(at));
+    if !span.has_around(at) {
+        return Ok(None);
     }
-    Ok(None)
+    budget.made += 2;
+    Ok(Some(at))
 }
 
 /// What is left of the rings in a part, joined where it spans the part.
@@ -68,15 +85,13 @@ fn part_of(alloc: Global, rings: &Rings, part: &Part) -> Result<Rings, AllocErro
     simplified(alloc, Rings::clipped(alloc, rings, part)?)
 }
 
-/// How many cuts are made, one within the other, at most.
-const DEPTH: u32 = 64;
-
 /// Hands the corners of what some ring covers, at the abscissas of a span, on to a sink, in order of x and
 /// then y. A column that is cut is swept one square wider on the left, since the change at a point depends
-/// on the squares to its left; `depth` is how many cuts made it, one within the other.
+/// on the squares to its left; `depth` is how many cuts made it, one within the other. Its rings are dropped
+/// as soon as they are cut.
 fn send_column<S: CornerSink>(
     alloc: Global,
-    rings: &Rings,
+    rings: Rings,
     span: Span,
     depth: u32,
     budget: &mut Budget,
@@ -86,21 +101,42 @@ fn send_column<S: CornerSink>(
     ensures sent { OnOk result ((corners : List GridCorner)
         × S.takes sink.old sink.new corners
         × All FitsCorner corners
-        × AreCornersIn (SomeCovers rings.now) span corners) }
+        × AreCornersIn (SomeCovers rings) span corners) }
     ensures budget { OnOk result (KeepsBudget budget.old budget.new) }
 {
-    if depth >= DEPTH || !budget.has_two() {
-        return send_swept(alloc, rings, span, sink);
-    }
-    let Some(at) = cut_of(alloc, rings, &span, depth)? else {
+    let Some(at) = cut_of(alloc, &rings, &span, depth, budget)? else {
+        return send_swept(alloc, &rings, span, sink);
+    };
+    let left = part_of(alloc, &rings, &Part::Left(at))?;
+    let right = part_of(alloc, &rings, &Part::Right(at - 1))?;
+    drop(rings);
+    send_column(alloc, left, span.left_of(at), depth + 1, budget, sink)?;
+    send_column(alloc, right, span.right_from(at), depth + 1, budget, sink)?;
+    Ok(())
+}
+
+/// Hands the corners of what some ring covers on to a sink, as [`send_corners`], within a budget.
+fn send_within<S: CornerSink>(
+    alloc: Global,
+    rings: &Rings,
+    budget: &mut Budget,
+    sink: &mut S,
+) -> Result<(), AllocError>
+    requires { budget.old.made ≤ budget.old.most }
+    ensures sent { OnOk result ((corners : List GridCorner)
+        × S.takes sink.old sink.new corners
+        × All FitsCorner corners
+        × AreCornersIn (SomeCovers rings.now) whole corners) }
+    ensures budget { OnOk result (KeepsBudget budget.old budget.new) }
+{
+    let span = Span::whole();
+    let Some(at) = cut_of(alloc, rings, &span, 0, budget)? else {
         return send_swept(alloc, rings, span, sink);
     };
-    budget.made += 2;
     let left = part_of(alloc, rings, &Part::Left(at))?;
-    send_column(alloc, &left, span.left_of(at), depth + 1, budget, sink)?;
-    drop(left);
+    send_column(alloc, left, span.left_of(at), 1, budget, sink)?;
     let right = part_of(alloc, rings, &Part::Right(at - 1))?;
-    send_column(alloc, &right, span.right_from(at), depth + 1, budget, sink)?;
+    send_column(alloc, right, span.right_from(at), 1, budget, sink)?;
     Ok(())
 }
 
@@ -119,6 +155,6 @@ pub fn send_corners<S: CornerSink>(
     ensures columns { IfOk result (λ columns. columns ≤ 2 * length (flat_map (λ ring. ring) rings.now)) }
 {
     let mut budget = Budget::of(rings);
-    send_column(alloc, rings, Span::whole(), 0, &mut budget, sink)?;
+    send_within(alloc, rings, &mut budget, sink)?;
     Ok(budget.made)
 }

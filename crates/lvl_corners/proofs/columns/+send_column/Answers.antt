@@ -16,10 +16,10 @@ returns-clause-sent g t c =
     let right = c.in_ok-send_column-2.ensures.sent in
     let at_fits : FitsSigned w64 at = search rules in
     let before_fits : FitsSigned w64 (at -ℤ pos 1) = search rules in
-    let on_left : (s : Square) → SomeCovers c.in_ok-left.left s ↔ ((s.x <ℤ at) × SomeCovers c.args.rings.now s) =
+    let on_left : (s : Square) → SomeCovers c.in_ok-left.left s ↔ ((s.x <ℤ at) × SomeCovers c.args.rings s) =
     simp to_z-of_z at c.in_ok-left.ensures in
     let on_right : (s : Square) → SomeCovers c.in_ok-right.right s ↔ (((at -ℤ pos 1) ≤ℤ s.x) × SomeCovers
-    c.args.rings.now s) =
+    c.args.rings s) =
     simp to_z-of_z at c.in_ok-right.ensures in
     let left_corners : AreCornersIn (SomeCovers c.in_ok-left.left) (left_part c.args.span at) left.0 =
     simp to_z-of_z at (rw c.left_of.ensures at left.3) in
@@ -30,7 +30,7 @@ returns-clause-sent g t c =
           left.1
           right.1,
       All-append FitsCorner left.0 right.0 left.2 right.2,
-      corners_of_halves (SomeCovers c.args.rings.now) (SomeCovers c.in_ok-left.left) (SomeCovers c.in_ok-right.right)
+      corners_of_halves (SomeCovers c.args.rings) (SomeCovers c.in_ok-left.left) (SomeCovers c.in_ok-right.right)
           c.args.span at left.0 right.0 (record { left = on_left; right = on_right })
           (rw c.in-Some.is at c.in_ok-at.ensures.within) left_corners right_corners,
     )

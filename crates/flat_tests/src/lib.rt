@@ -1,0 +1,13 @@
+//! Small libraries flattened, whole and within windows, and compared by strips, with each allocation failing
+//! in turn.
+//!
+//! These tests of `lvl_flat` and `lvl_compare` are a crate of their own since a crate with tests is proved
+//! twice.
+#![tactic(auto)]
+
+#[cfg(test)]
+mod flat;
+#[cfg(test)]
+mod strips;
+#[cfg(test)]
+mod within;
