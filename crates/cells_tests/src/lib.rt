@@ -1,7 +1,7 @@
-//! Lists of offsets, and small libraries checked, with each allocation failing in turn.
+//! Lists of offsets, small libraries checked, and views read from texts, with each allocation failing in turn.
 //!
-//! These tests of `lvl_names` and `lvl_cells` are a crate of their own since a crate with tests is proved
-//! twice.
+//! These tests of `lvl_names`, `lvl_cells` and `lvl_view` are a crate of their own since a crate with tests is
+//! proved twice.
 #![tactic(auto)]
 
 #[cfg(test)]
@@ -10,3 +10,7 @@ mod cells;
 mod offsets;
 #[cfg(test)]
 mod shifts;
+#[cfg(test)]
+mod texts;
+#[cfg(test)]
+mod views;

@@ -1,5 +1,5 @@
-//! Small libraries flattened, whole and within windows, and compared by strips, with each allocation failing
-//! in turn.
+//! Small libraries flattened, whole and within windows, and flat layouts compared, by strips and as views say,
+//! with each allocation failing in turn.
 //!
 //! These tests of `lvl_flat` and `lvl_compare` are a crate of their own since a crate with tests is proved
 //! twice.
@@ -9,5 +9,7 @@
 mod flat;
 #[cfg(test)]
 mod strips;
+#[cfg(test)]
+mod view;
 #[cfg(test)]
 mod within;

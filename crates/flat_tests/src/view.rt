@@ -2,11 +2,12 @@
 ghost use Rattle.std.specs.Prelude.{◌<◌, ◌^◌, pos, ◌<ℤ◌, ◌≤ℤ◌};
 
 use lvl_cells::{Cell, Shapes};
-use lvl_compare::first_difference_in;
+use lvl_compare::{difference_by, first_difference_in};
 use lvl_flat::{Flat, flatten_shapes};
 use lvl_grid::{Point, Ring, Square, Window};
 use lvl_names::{Layer, Offsets};
-use lvl_region::Side;
+use lvl_region::{GridRegion, Side};
+use lvl_sweep::SlabRegion;
 use lvl_view::View;
 use std::alloc::Global;
 use std::str;
@@ -118,6 +119,36 @@ fn found_in(
     let second = flat_of(alloc, second)?;
     let found = first_difference_in(alloc, &first, &second, window)?;
     Ok(found.map(|(layer, square, side)| (layer.layer, square.x, square.y, side)))
+}
+
+/// What differs first by regions of both kinds, if they agree.
+fn found_by_regions(alloc: Global, first: &[LayerBox], second: &[LayerBox]) -> Result<Found, Fail> {
+    let first = flat_of(alloc, first)?;
+    let second = flat_of(alloc, second)?;
+    let found = difference_by::<GridRegion>(alloc, &first, &second)?;
+    if difference_by::<SlabRegion>(alloc, &first, &second)? != found {
+        return Err("the kinds of region differ".into());
+    }
+    Ok(found.map(|(layer, square, side)| (layer.layer, square.x, square.y, side)))
+}
+
+#[test]
+fn differences_by_any_region(rt: HostRuntime) -> Result<(), Fail> {
+    let low = placed(1, 0, 0, 4, 2);
+    let up = placed(1, 0, 2, 4, 3);
+    let both = placed(1, 0, 0, 4, 3);
+    let square = placed(2, 7, -5, 8, -4);
+    let rows = [
+        ([low, up], [both, both], None),
+        ([low, square], [low, square], None),
+        ([low, square], [low, low], Some((2, 7, -5, Side::First))),
+        ([low, low], [square, low], Some((2, 7, -5, Side::Second))),
+        ([both, square], [low, low], Some((1, 0, 2, Side::First))),
+    ];
+    for (first, second, want) in rows {
+        assert_eq!(rt; found_by_regions(rt.alloc(), &first, &second)?, want);
+    }
+    Ok(())
 }
 
 #[test]
