@@ -7,7 +7,7 @@ ghost use Rattle.lvl_grid.specs.Clip.{IsIn};
 ghost use Rattle.lvl_grid.specs.Winding.{SomeCovers};
 ghost use Rattle.lvl_corners.specs.declared.corner.Corner.{Corner as GridCorner};
 ghost use Rattle.lvl_corners.specs.Corners.{AreCornersOf, FitsCorner};
-ghost use Rattle.lvl_corners.specs.inside.Spans.{AreCornersIn, KeepsBudget, spanned, whole};
+ghost use Rattle.lvl_corners.specs.inside.Spans.{AreCornersIn, KeepsBudget, paid, spanned, whole};
 
 use crate::send::send_swept;
 use crate::sink::CornerSink;
@@ -62,6 +62,7 @@ fn cut_of(
     ensures inner { IfOk result (λ cut. IfSome cut (λ at. negsuc (2 ^ 63 - 1) <ℤ at)) }
     ensures depth { IfOk result (λ cut. IfSome cut (λ at. depth < 64)) }
     ensures budget { OnOk result (KeepsBudget budget.old budget.new) }
+    ensures paid { IfOk result (λ cut. budget.new ≡ paid cut budget.old) }
 {
     if depth >= DEPTH || !budget.has_two() {
         return Ok(None);

@@ -1,5 +1,5 @@
 -- Corners at some abscissas. These serve the proof alone.
-use Rattle.std.specs.Prelude.{◌≡◌, ◌≢◌, ◌≤◌, Bool, true, ◌&&◌, List, ℤ, pos, int_lt, ◌↔◌, IsTrue, Contains, Option}
+use Rattle.std.specs.Prelude.{◌≡◌, ◌≢◌, ◌≤◌, ◌+◌, Bool, true, ◌&&◌, List, ℤ, pos, int_lt, ◌↔◌, IsTrue, Contains, Option}
 use Rattle.std.specs.Prelude.{None, Some}
 use Rattle.std.specs.List.{AllPairs}
 use Rattle.lvl_grid.specs.declared.point.Square.{Square}
@@ -39,3 +39,8 @@ pub record AreCornersIn (P : Square → Type 0) (span : Span) (corners : List Co
 -- no more columns were made than may be, and the limit is the same
 abbrev pub KeepsBudget : Budget → Budget → Type 0
 KeepsBudget old new = (new.most ≡ old.most) × (new.made ≤ new.most)
+
+-- a cut takes two columns of the budget, and no cut takes none
+abbrev pub paid : Option ℤ → Budget → Budget
+paid None budget = budget
+paid (Some at) budget = record { made = budget.made + 2; most = budget.most }
