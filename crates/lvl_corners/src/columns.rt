@@ -78,12 +78,31 @@ fn cut_of(
     Ok(Some(at))
 }
 
+/// Some more than half of a number.
+fn more_than_half(number: usize) -> usize {
+    number / 2 + number / 8
+}
+
+/// What is left of the rings in a part, in a list that has room for some more than half of them: a list that
+/// grows leaves gaps in memory.
+fn clipped(alloc: Global, rings: &Rings, part: &Part) -> Result<Rings, AllocError>
+    ensures { IfOk result
+        (λ clipped. (s : GridSquare) → SomeCovers clipped s ↔ (IsIn part.now s × SomeCovers rings.now s)) }
+{
+    let points = more_than_half(rings.points().len());
+    let mut clipped = Rings::with_capacity(alloc, points, more_than_half(rings.len()))?;
+    for i in 0..rings.len() {
+        clipped.push_clipped(part, rings.ring(i))?;
+    }
+    Ok(clipped)
+}
+
 /// What is left of the rings in a part, joined where it spans the part.
 fn part_of(alloc: Global, rings: &Rings, part: &Part) -> Result<Rings, AllocError>
     ensures { IfOk result
         (λ clipped. (s : GridSquare) → SomeCovers clipped s ↔ (IsIn part.now s × SomeCovers rings.now s)) }
 {
-    simplified(alloc, Rings::clipped(alloc, rings, part)?)
+    simplified(alloc, clipped(alloc, rings, part)?)
 }
 
 /// Hands the corners of what some ring covers, at the abscissas of a span, on to a sink, in order of x and
