@@ -241,70 +241,79 @@ fn order_and_targets(rt: HostRuntime) -> Result<(), Fail> {
     Ok(())
 }
 
+/// Whether the check passes a library, or which limit it exceeds.
+fn verdict(alloc: Global, library: Library) -> &'static str {
+    match check(alloc, library, None) {
+        Ok(_) => "sound",
+        Err(Refusal::Breach(CellFault::TooManyPlacements)) => "too many placements",
+        Err(Refusal::Breach(CellFault::TooManyRings)) => "too many rings",
+        Err(_) => "another fault",
+    }
+}
+
 #[test]
 fn placements(rt: HostRuntime) -> Result<(), Fail> {
     for (name, length, times, want) in [
-        ("doubling-chain", 24, 2, None),
-        (
-            "doubling-chain",
-            25,
-            2,
-            Some(Refusal::Breach(CellFault::TooManyPlacements)),
-        ),
-        (
-            "doubling-deep",
-            200,
-            2,
-            Some(Refusal::Breach(CellFault::TooManyPlacements)),
-        ),
-        ("deep-chain", 65_536, 1, None),
+        ("doubling-chain", 24, 2, "sound"),
+        ("doubling-chain", 25, 2, "too many placements"),
+        ("doubling-deep", 200, 2, "too many placements"),
+        ("deep-chain", 65_536, 1, "sound"),
     ] {
         let library = chain_of(rt.alloc(), length, times)?;
-        assert_eq!(rt;
-            check(rt.alloc(), library, None).err(),
-            want,
-            "{name} {length}"
-        );
-    }
-    for (last, want) in [
-        (1023, None),
-        (1024, Some(Refusal::Breach(CellFault::TooManyPlacements))),
-    ] {
-        let mut top = empty(rt.alloc(), b"TOP")?;
-        for _ in 0..15 {
-            top.references.push(placing(rt.alloc(), b"A", many()?)?)?;
-        }
-        // 1,048,575 places are 1,025 by 1,023.
-        let columns = if last == 1023 { 1025 } else { 1024 };
-        let shifts = Offsets::lattice(RIGHT, columns, UP, last).ok_or("shifts")?;
-        top.references.push(placing(rt.alloc(), b"A", shifts)?)?;
-        let mut cells = Vec::new(rt.alloc());
-        cells.push(top)?;
-        cells.push(empty(rt.alloc(), b"A")?)?;
-        let answer = check(rt.alloc(), Library { cells }, None);
-        assert_eq!(rt; answer.err(), want, "placements-limit {last}");
+        assert_eq!(rt; verdict(rt.alloc(), library), want, "{name} {length}");
     }
     Ok(())
 }
 
+/// A top that places a cell 15 times at 1,048,576 places, and once more at columns and rows of them.
+fn placed_often(alloc: Global, columns: u64, rows: u64) -> Result<Library, Fail> {
+    let mut top = empty(alloc, b"TOP")?;
+    for _ in 0..15 {
+        top.references.push(placing(alloc, b"A", many()?)?)?;
+    }
+    let shifts = Offsets::lattice(RIGHT, columns, UP, rows).ok_or("shifts")?;
+    top.references.push(placing(alloc, b"A", shifts)?)?;
+    let mut cells = Vec::new(alloc);
+    cells.push(top)?;
+    cells.push(empty(alloc, b"A")?)?;
+    Ok(Library { cells })
+}
+
+#[test]
+fn placements_limit(rt: HostRuntime) -> Result<(), Fail> {
+    // 1,048,575 places are 1,025 by 1,023.
+    for (columns, rows, want) in [(1025, 1023, "sound"), (1024, 1024, "too many placements")] {
+        let library = placed_often(rt.alloc(), columns, rows)?;
+        assert_eq!(rt;
+            verdict(rt.alloc(), library),
+            want,
+            "placements-limit {columns} {rows}"
+        );
+    }
+    Ok(())
+}
+
+/// A cell of 1,048,576 squares that a top places 16 times, and one square more or none.
+fn squares_placed(alloc: Global, has_more: bool) -> Result<Library, Fail> {
+    let sixteen = Offsets::lattice(RIGHT, 16, UP, 1).ok_or("shifts")?;
+    let mut top = empty(alloc, b"TOP")?;
+    top.references.push(placing(alloc, b"A", sixteen)?)?;
+    if has_more {
+        add_square(alloc, &mut top, &Offsets::single())?;
+    }
+    let mut tile = empty(alloc, b"A")?;
+    add_square(alloc, &mut tile, &many()?)?;
+    let mut cells = Vec::new(alloc);
+    cells.push(top)?;
+    cells.push(tile)?;
+    Ok(Library { cells })
+}
+
 #[test]
 fn rings_limit(rt: HostRuntime) -> Result<(), Fail> {
-    for (more, want) in [
-        (false, None),
-        (true, Some(Refusal::Breach(CellFault::TooManyRings))),
-    ] {
-        let sixteen = Offsets::lattice(RIGHT, 16, UP, 1).ok_or("shifts")?;
-        let mut top = empty(rt.alloc(), b"TOP")?;
-        top.references.push(placing(rt.alloc(), b"A", sixteen)?)?;
-        if more {
-            add_square(rt.alloc(), &mut top, &Offsets::single())?;
-        }
-        let mut tile = empty(rt.alloc(), b"A")?;
-        add_square(rt.alloc(), &mut tile, &many()?)?;
-        let mut cells = Vec::new(rt.alloc());
-        cells.push(top)?;
-        cells.push(tile)?;
-        assert_eq!(rt; check(rt.alloc(), Library { cells }, None).err(), want);
+    for (has_more, want) in [(false, "sound"), (true, "too many rings")] {
+        let library = squares_placed(rt.alloc(), has_more)?;
+        assert_eq!(rt; verdict(rt.alloc(), library), want);
     }
     Ok(())
 }
