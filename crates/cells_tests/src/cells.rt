@@ -2,7 +2,7 @@
 use lvl_cells::{Cell, CellFault, Checked, Library, Reference, Shapes, check};
 use lvl_grid::{Point, Ring, Turn};
 use lvl_names::{Layer, Name, Offsets};
-use lvl_refusal::Refusal;
+use lvl_refusal::Cause;
 use std::alloc::{AllocError, Global};
 use std::test::Fail;
 
@@ -101,7 +101,7 @@ fn add_names(text: &mut String, names: &[Vec<u8>]) -> Result<(), Fail> {
 }
 
 /// The top's name, or the fault and the names that it carries.
-fn text_of(alloc: Global, answer: Result<Checked, Refusal<CellFault>>) -> Result<String, Fail> {
+fn text_of(alloc: Global, answer: Result<Checked, Cause<CellFault>>) -> Result<String, Fail> {
     let mut text = String::new(alloc);
     match answer {
         Ok(checked) => {
@@ -112,24 +112,24 @@ fn text_of(alloc: Global, answer: Result<Checked, Refusal<CellFault>>) -> Result
                 }
             }
         }
-        Err(Refusal::Breach(CellFault::NoCell)) => text.push_str("NoCell")?,
-        Err(Refusal::Breach(CellFault::DuplicateCell(name))) => {
+        Err(Cause::Breach(CellFault::NoCell)) => text.push_str("NoCell")?,
+        Err(Cause::Breach(CellFault::DuplicateCell(name))) => {
             text.push_str("DuplicateCell")?;
             add_names(&mut text, &[name])?;
         }
-        Err(Refusal::Breach(CellFault::MissingCell(from, name))) => {
+        Err(Cause::Breach(CellFault::MissingCell(from, name))) => {
             text.push_str("MissingCell")?;
             add_names(&mut text, &[from, name])?;
         }
-        Err(Refusal::Breach(CellFault::Cycle(names))) => {
+        Err(Cause::Breach(CellFault::Cycle(names))) => {
             text.push_str("Cycle")?;
             add_names(&mut text, &names)?;
         }
-        Err(Refusal::Breach(CellFault::TopMissing)) => text.push_str("TopMissing")?,
-        Err(Refusal::Breach(CellFault::ManyTops)) => text.push_str("ManyTops")?,
-        Err(Refusal::Breach(CellFault::TooManyPlacements)) => text.push_str("TooManyPlacements")?,
-        Err(Refusal::Breach(CellFault::TooManyRings)) => text.push_str("TooManyRings")?,
-        Err(Refusal::OutOfMemory) => text.push_str("OutOfMemory")?,
+        Err(Cause::Breach(CellFault::TopMissing)) => text.push_str("TopMissing")?,
+        Err(Cause::Breach(CellFault::ManyTops)) => text.push_str("ManyTops")?,
+        Err(Cause::Breach(CellFault::TooManyPlacements)) => text.push_str("TooManyPlacements")?,
+        Err(Cause::Breach(CellFault::TooManyRings)) => text.push_str("TooManyRings")?,
+        Err(Cause::OutOfMemory) => text.push_str("OutOfMemory")?,
     }
     Ok(text)
 }
@@ -170,7 +170,7 @@ fn soundness(rt: HostRuntime) -> Result<(), Fail> {
             "Cycle A B C",
         ),
         (
-            "behind others",
+            "after others",
             &[
                 ("T", &["U", "B"]),
                 ("U", &[]),
@@ -245,8 +245,8 @@ fn order_and_targets(rt: HostRuntime) -> Result<(), Fail> {
 fn verdict(alloc: Global, library: Library) -> &'static str {
     match check(alloc, library, None) {
         Ok(_) => "sound",
-        Err(Refusal::Breach(CellFault::TooManyPlacements)) => "too many placements",
-        Err(Refusal::Breach(CellFault::TooManyRings)) => "too many rings",
+        Err(Cause::Breach(CellFault::TooManyPlacements)) => "too many placements",
+        Err(Cause::Breach(CellFault::TooManyRings)) => "too many rings",
         Err(_) => "another fault",
     }
 }

@@ -1,6 +1,6 @@
 //! Which texts say a view, and why others are refused.
 use lvl_names::Layer;
-use lvl_refusal::Refusal;
+use lvl_refusal::Cause;
 use lvl_view::{View, ViewFault};
 use std::alloc::{AllocError, Global};
 use std::test::Fail;
@@ -13,8 +13,8 @@ fn fault_of(
 ) -> Result<Option<ViewFault>, AllocError> {
     match View::read(alloc, map, window) {
         Ok(_) => Ok(None),
-        Err(Refusal::Breach(fault)) => Ok(Some(fault)),
-        Err(Refusal::OutOfMemory) => Err(AllocError),
+        Err(Cause::Breach(fault)) => Ok(Some(fault)),
+        Err(Cause::OutOfMemory) => Err(AllocError),
     }
 }
 

@@ -3,7 +3,7 @@ use lvl_cells::{Cell, Library, Reference, Shapes, check};
 use lvl_flat::{Flat, FlatFault, flatten};
 use lvl_grid::{Map, Point, Ring, Square, Turn};
 use lvl_names::{Layer, Name, Offsets};
-use lvl_refusal::Refusal;
+use lvl_refusal::Cause;
 use std::alloc::Global;
 use std::test::Fail;
 
@@ -67,7 +67,7 @@ fn placed_twice(
     high: Point,
     outer: Map,
     inner: Map,
-) -> Result<Result<Vec<Point>, Refusal<FlatFault>>, Fail> {
+) -> Result<Result<Vec<Point>, Cause<FlatFault>>, Fail> {
     let mut cells = Vec::new(alloc);
     cells.push(drawing(alloc, "A", METAL, low, high)?)?;
     cells.push(placing(alloc, "M", "A", inner)?)?;
@@ -159,7 +159,7 @@ fn placed_at_range_edge(rt: HostRuntime) -> Result<(), Fail> {
     assert_eq!(rt; corners(&points), Some((i64::MAX - 1, -1, i64::MAX, 0)));
     let half = turned(false, Turn::R180, 0, 0);
     match placed_twice(rt.alloc(), low, high, half, plain)? {
-        Err(Refusal::Breach(FlatFault::OutOfRange(name))) => assert_eq!(rt;
+        Err(Cause::Breach(FlatFault::OutOfRange(name))) => assert_eq!(rt;
             name.as_slice(),
             b"A".as_slice()
         ),

@@ -3,7 +3,7 @@ use lvl_cells::{Builder, Checked, Reference, check};
 use lvl_flat::{Fitted, Flat, FlatFault};
 use lvl_grid::{Point, Ring, Square, Turn, Window};
 use lvl_names::{Layer, Name, Offsets};
-use lvl_refusal::Refusal;
+use lvl_refusal::Cause;
 use std::alloc::Global;
 use std::test::Fail;
 
@@ -122,7 +122,7 @@ fn range(rt: HostRuntime) -> Result<(), Fail> {
     let near = window(0, 0, 2, 2);
     // What is out of range is refused.
     match Fitted::new(alloc, chained(alloc, ORIGIN, far)?) {
-        Err(Refusal::Breach(FlatFault::OutOfRange(name))) => {
+        Err(Cause::Breach(FlatFault::OutOfRange(name))) => {
             assert_eq!(rt; name.as_slice(), b"A".as_slice());
         }
         _ => return Err("not out of range".into()),

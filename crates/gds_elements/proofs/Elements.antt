@@ -138,10 +138,10 @@ pub reading_unfinished : (e : Element) (piece : List Rec) → IsReading e piece 
 reading_unfinished e piece h = state_unfinished e.state piece h
 
 -- what comes after the first record, in an order that begins with one type or another
-abbrev pub behind_first : Order → Order
-behind_first (next a b) = b
-behind_first (either a b) = either (behind_first a) (behind_first b)
-behind_first a = nothing
+abbrev pub after_first : Order → Order
+after_first (next a b) = b
+after_first (either a b) = either (after_first a) (after_first b)
+after_first a = nothing
 
 begins_with_one : Order → Bool
 begins_with_one (next (one j) b) = true
@@ -149,7 +149,7 @@ begins_with_one (either a b) = begins_with_one a && begins_with_one b
 begins_with_one a = false
 
 stands_in_word : (a : Order) (o k : ℕ) (w : List ℕ) → begins_with_one a ≡ true → IsWord a (o ∷ w) → Stands k w
-    → has (behind_first a) k ≡ true
+    → has (after_first a) k ≡ true
 unfolding begins_with_one
 stands_in_word nothing o k w e h s = cc
 stands_in_word (one j) o k w e h s = cc
@@ -164,21 +164,21 @@ stands_in_word (next (many c) b) o k w e h s = cc
 stands_in_word (either a b) o k w e h s =
     let p = and_parts (begins_with_one a) (begins_with_one b) e in
     elim h [
-      | inl x ↦ or_left (has (behind_first a) k) (has (behind_first b) k) (stands_in_word a o k w p.0 x s)
-      | inr y ↦ or_right (has (behind_first a) k) (has (behind_first b) k) (stands_in_word b o k w p.1 y s)
+      | inl x ↦ or_left (has (after_first a) k) (has (after_first b) k) (stands_in_word a o k w p.0 x s)
+      | inr y ↦ or_right (has (after_first a) k) (has (after_first b) k) (stands_in_word b o k w p.1 y s)
     ]
 stands_in_word (many a) o k w e h s = cc
 
 -- the types after the opener of an element
-abbrev pub behind_opener : Order
-behind_opener = behind_first an_element
+abbrev pub after_opener : Order
+after_opener = after_first an_element
 
-pub stands_behind : (o k : ℕ) (w : List ℕ) → Begins an_element (o ∷ w) → Stands k w → has behind_opener k ≡ true
+pub stands_after : (o k : ℕ) (w : List ℕ) → Begins an_element (o ∷ w) → Stands k w → has after_opener k ≡ true
 unfolding begins_with_one
-stands_behind o k w (more, h) s = stands_in_word an_element o k (w ++ more) refl h (stands_left k w more s)
+stands_after o k w (more, h) s = stands_in_word an_element o k (w ++ more) refl h (stands_left k w more s)
 
 no_opener : ℕ → Type 0
-no_opener k = has behind_opener k ≡ true → opens k ≡ false
+no_opener k = has after_opener k ≡ true → opens k ≡ false
 
 opener_apart : (k j : ℕ) → no_opener j → (k == j ≡ false → no_opener k) → no_opener k
 opener_apart k j = at_type no_opener k j
@@ -190,8 +190,8 @@ opens_first o k w b s =
     opener_apart k boundary (λ e. cc)
     (λ a. opener_apart k path (λ e. cc)
     (λ c. opener_apart k sref (λ e. cc) (λ d. opener_apart k aref (λ e. cc) (λ f. opener_apart k text (λ e. cc)
-    (λ g e. rw (a, c, d, f, g) refl))))) (stands_behind o k w b s)
+    (λ g e. rw (a, c, d, f, g) refl))))) (stands_after o k w b s)
 
 -- nor does a type that is in no element
-pub stands_not : (o k : ℕ) (w : List ℕ) → has behind_opener k ≡ false → Begins an_element (o ∷ w) → Stands k w → ⊥
-stands_not o k w n b s = (let z : false ≡ true = sym n ∙ stands_behind o k w b s in cc)
+pub stands_not : (o k : ℕ) (w : List ℕ) → has after_opener k ≡ false → Begins an_element (o ∷ w) → Stands k w → ⊥
+stands_not o k w n b s = (let z : false ≡ true = sym n ∙ stands_after o k w b s in cc)

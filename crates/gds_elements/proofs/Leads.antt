@@ -8,12 +8,12 @@ use Rattle.gds_elements.specs.Rules.{IsKnown, InOrder, IsMisplacedAs, ElementBre
 use Rattle.lvl_grammar.specs.inside.After.{LeadsTo}
 use Rattle.lvl_refusal.specs.Refused.{Says}
 use Rattle.gds_elements.specs.inside.Misplaced.{IsMisplacement, IsMisplaced}
-use Rattle.lvl_refusal.specs.declared.Refusal.{Refusal}
+use Rattle.lvl_refusal.specs.declared.Cause.{Cause}
 use Rattle.gds_elements.specs.declared.fault.ElementFault.{ElementFault}
 use Rattle.gds_elements.specs.declared.fault.ElementFault.TheVariants.{Misplaced as MisplacedRecord, Rule}
 use Rattle.gds_elements.specs.declared.fault.Misplaced.{Misplaced}
 use Rattle.gds_elements.specs.declared.fault.Misplaced.TheVariants.{Unexpected, Unsupported}
-use Rattle.lvl_refusal.specs.declared.Refusal.TheVariants.{Breach, OutOfMemory}
+use Rattle.lvl_refusal.specs.declared.Cause.TheVariants.{Breach, OutOfMemory}
 use Rattle.lvl_grammar.specs.inside.After.{after_first}
 use Rattle.lvl_grammar.proofs.Orders.{type_same}
 use Rattle.lvl_grammar.proofs.Leads.{leads_begin, leads_on, leads_nowhere, leads_begins as begins_by}
@@ -49,7 +49,7 @@ pub misplaced_carried : (a b : Type 0) (r : Rec) (m : Misplaced) → (b → a) �
 misplaced_carried a b r (Unexpected j) f x = (x.0, x.1, λ g. x.2 (f g))
 misplaced_carried a b r (Unsupported j) f x = x
 
-pub law_misplaced : (piece : List Rec) (r : Rec) (a : Order) (e : Refusal ElementFault)
+pub law_misplaced : (piece : List Rec) (r : Rec) (a : Order) (e : Cause ElementFault)
     → LeadsTo an_element (kinds piece) a → after_first a r.kind ≡ [] → r.kind < 60 → IsMisplaced r.kind e
     → Says e (ElementBreaches piece r)
 law_misplaced piece r a (Breach (MisplacedRecord m)) h t l x =
@@ -59,7 +59,7 @@ law_misplaced piece r a (Breach (Rule k)) h t l x = absurd x
 law_misplaced piece r a OutOfMemory h t l x = absurd x
 
 -- what is said of a breach, carried on
-pub says_carried : {F : Type 0} (e : Refusal F) (P : F → Type 0) (Q : F → Type 0) → ((k : F) → P k → Q k) → Says e P
+pub says_carried : {F : Type 0} (e : Cause F) (P : F → Type 0) (Q : F → Type 0) → ((k : F) → P k → Q k) → Says e P
     → Says e Q
 says_carried (Breach k) P Q f h = f k h
 says_carried OutOfMemory P Q f h = tt

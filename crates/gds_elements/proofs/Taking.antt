@@ -14,7 +14,7 @@ use Rattle.lvl_refusal.specs.Refused.{Says}
 use Rattle.gds_elements.specs.inside.Misplaced.{Broken, breach}
 use Rattle.gds_elements.specs.declared.fault.ElementFault.TheVariants.{Misplaced as MisplacedRecord, Rule}
 use Rattle.gds_elements.specs.inside.Reading.{Takes, Steps, IsStep, IsAtEnd, record_of}
-use Rattle.lvl_refusal.specs.declared.Refusal.{Refusal}
+use Rattle.lvl_refusal.specs.declared.Cause.{Cause}
 use Rattle.gds_elements.specs.declared.fault.ElementFault.{ElementFault}
 use Rattle.gds_elements.specs.declared.fault.ElementRule.{ElementRule}
 use Rattle.gds_elements.specs.declared.element.Drawn.{Drawn}
@@ -27,10 +27,10 @@ use Rattle.gds_elements.proofs.OneRule.{one_rule}
 use Rattle.gds_elements.proofs.Allowed.{law_endel, allowed}
 
 -- a refusal that is passed on
-pub takes_refused : (piece : List Rec) (r : Rec) (res : Result State (Refusal ElementFault)) (e : Refusal ElementFault)
+pub takes_refused : (piece : List Rec) (r : Rec) (res : Result State (Cause ElementFault)) (e : Cause ElementFault)
     → IsErr res × IsErrAnd res (λ x. x ≡ e) → Says e (ElementBreaches piece r) → Takes piece r res
 takes_refused piece r (Ok s) e h b = absurd h.1
-takes_refused piece r (Err x) e h b = subst (λ (i : Refusal ElementFault). Says i (ElementBreaches piece r)) (sym h.1) b
+takes_refused piece r (Err x) e h b = subst (λ (i : Cause ElementFault). Says i (ElementBreaches piece r)) (sym h.1) b
 
 broken_breaches : (piece : List Rec) (r : Rec) (P : ElementRule → Type 0) → InOrder piece r
     → ((k : ElementRule) → P k → ValueBreaches piece r k) → (f : ElementFault) → Broken P f → ElementBreaches piece r f
@@ -38,7 +38,7 @@ broken_breaches piece r P g h (MisplacedRecord m) x = absurd x
 broken_breaches piece r P g h (Rule k) x = (g, h k x)
 
 -- by a value that breaches a rule
-pub takes_broken : (piece : List Rec) (r : Rec) (res : Result State (Refusal ElementFault)) (e : Refusal ElementFault)
+pub takes_broken : (piece : List Rec) (r : Rec) (res : Result State (Cause ElementFault)) (e : Cause ElementFault)
     (P : ElementRule → Type 0)
     → IsErr res × IsErrAnd res (λ x. x ≡ e) → InOrder piece r
     → ((k : ElementRule) → P k → ValueBreaches piece r k) → Says e (Broken P) → Takes piece r res
@@ -46,12 +46,12 @@ takes_broken piece r res e P h g f s =
     takes_refused piece r res e h (says_carried e (Broken P) (ElementBreaches piece r) (broken_breaches piece r P g f)
     s)
 
-pub takes_one : (piece : List Rec) (r : Rec) (res : Result State (Refusal ElementFault)) (e : Refusal ElementFault)
+pub takes_one : (piece : List Rec) (r : Rec) (res : Result State (Cause ElementFault)) (e : Cause ElementFault)
     (k : ElementRule)
     → IsErr res × IsErrAnd res (λ x. x ≡ e) → InOrder piece r
     → e ≡ breach k → ValueBreaches piece r k → Takes piece r res
 takes_one piece r res e k h g f b =
-    takes_refused piece r res e h (subst (λ (i : Refusal ElementFault). Says i (ElementBreaches piece r)) (sym f)
+    takes_refused piece r res e h (subst (λ (i : Cause ElementFault). Says i (ElementBreaches piece r)) (sym f)
     (g, b))
 
 -- the end leaves what was drawn
@@ -105,29 +105,29 @@ law_end piece r d h e =
     )
 
 -- a step of a state is one of the element
-pub takes_steps : (piece : List Rec) (r : Rec) (k : ℕ) (p : List ℕ) (res : Result Step (Refusal ElementFault))
+pub takes_steps : (piece : List Rec) (r : Rec) (k : ℕ) (p : List ℕ) (res : Result Step (Cause ElementFault))
     → r.kind ≡ k → r.payload ≡ p → ((d : ℕ) → Steps piece (record_of k d p) res) → Steps piece r res
 takes_steps piece r k p res e f h =
     let g : record_of k r.data_type p ≡ r = ap (λ i. record_of i r.data_type p) (sym e)
     ∙ ap (λ q. record_of r.kind r.data_type q) (sym f) in
     subst (λ (i : Rec). Steps piece i res) g (h r.data_type)
 
-pub steps_going : (piece : List Rec) (r : Rec) (res : Result Step (Refusal ElementFault)) → Steps piece r res
+pub steps_going : (piece : List Rec) (r : Rec) (res : Result Step (Cause ElementFault)) → Steps piece r res
     → IfOk res (λ s. IsStep s (piece ++ r ∷ []))
 steps_going piece r (Ok s) h = h.0
 steps_going piece r (Err e) h = tt
 
-pub steps_allowed : (piece : List Rec) (r : Rec) (res : Result Step (Refusal ElementFault)) → Steps piece r res
+pub steps_allowed : (piece : List Rec) (r : Rec) (res : Result Step (Cause ElementFault)) → Steps piece r res
     → OnOk res (BreachesNone piece r)
 steps_allowed piece r (Ok s) h = h.1
 steps_allowed piece r (Err e) h = tt
 
-pub steps_refused : (piece : List Rec) (r : Rec) (res : Result Step (Refusal ElementFault)) → Steps piece r res
+pub steps_refused : (piece : List Rec) (r : Rec) (res : Result Step (Cause ElementFault)) → Steps piece r res
     → IfErr res (λ e. Says e (ElementBreaches piece r))
 steps_refused piece r (Ok s) h = tt
 steps_refused piece r (Err e) h = h
 
-pub steps_alone : (piece : List Rec) (r : Rec) (res : Result Step (Refusal ElementFault)) → Steps piece r res
+pub steps_alone : (piece : List Rec) (r : Rec) (res : Result Step (Cause ElementFault)) → Steps piece r res
     → IfErr res (λ e. Says e (BreachesOnly piece r))
 steps_alone piece r (Ok s) h = tt
 steps_alone piece r (Err e) h =

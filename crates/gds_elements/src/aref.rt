@@ -27,7 +27,7 @@ use gds_records::record_type;
 use lvl_cells::Reference;
 use lvl_grid::Point;
 use lvl_names::{Name, Offsets};
-use lvl_refusal::Refusal;
+use lvl_refusal::Cause;
 use std::alloc::Global;
 
 /// What the next record may be, named by the first of them.
@@ -97,7 +97,7 @@ impl Aref {
         alloc: Global,
         kind: u8,
         payload: &[u8],
-    ) -> Result<State, Refusal<ElementFault>>
+    ) -> Result<State, Cause<ElementFault>>
         requires { IsFormed kind payload.now }
         ensures { (piece : List Rec) (d : ℕ) → IsArefRead self piece
             → Takes piece (record_of kind d payload.now) result }
@@ -131,7 +131,7 @@ fn place_all(
     placing: Placing,
     counts: Counts,
     payload: &[u8],
-) -> Result<Reference, Refusal<ElementFault>>
+) -> Result<Reference, Cause<ElementFault>>
     ensures value { IfOk result (λ r. r ≡ record {
       cell = placing.name.items;
       flip = placing.flip;
@@ -157,7 +157,7 @@ fn place_all(
 }
 
 /// One of `count` equal steps from a point to another.
-fn step(from: Point, to: Point, count: u64) -> Result<Point, Refusal<ElementFault>>
+fn step(from: Point, to: Point, count: u64) -> Result<Point, Cause<ElementFault>>
     requires from { IsNarrow from }
     requires to { IsNarrow to }
     requires count { 0 < count }
@@ -171,7 +171,7 @@ fn step(from: Point, to: Point, count: u64) -> Result<Point, Refusal<ElementFaul
 }
 
 /// One of `count` equal steps, along one axis.
-fn step_along(from: i64, to: i64, count: u64) -> Result<i64, Refusal<ElementFault>>
+fn step_along(from: i64, to: i64, count: u64) -> Result<i64, Cause<ElementFault>>
     requires from { FitsSigned w32 from }
     requires to { FitsSigned w32 to }
     requires count { 0 < count }
@@ -185,7 +185,7 @@ fn step_along(from: i64, to: i64, count: u64) -> Result<i64, Refusal<ElementFaul
 }
 
 /// The exact quotient.
-fn divided(distance: i64, count: i64) -> Result<i64, Refusal<ElementFault>>
+fn divided(distance: i64, count: i64) -> Result<i64, Cause<ElementFault>>
     requires { pos 0 <ℤ count }
     ensures value { IfOk result (λ n. (n ≡ int_div distance count) × (int_rem distance count ≡ pos 0)) }
     ensures refused { IfErr result (λ e. (e ≡ breach ElementRule.ArrayStep) × (int_rem distance count ≢ pos 0)) }

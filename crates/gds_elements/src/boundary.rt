@@ -21,7 +21,7 @@ use crate::values::points;
 use gds_records::record_type;
 use lvl_grid::Ring;
 use lvl_names::Layer;
-use lvl_refusal::Refusal;
+use lvl_refusal::Cause;
 use std::alloc::Global;
 
 /// The fewest points of a boundary, the closing one included.
@@ -76,7 +76,7 @@ impl Boundary {
         alloc: Global,
         kind: u8,
         payload: &[u8],
-    ) -> Result<State, Refusal<ElementFault>>
+    ) -> Result<State, Cause<ElementFault>>
         requires { IsFormed kind payload.now }
         ensures { (piece : List Rec) (d : ℕ) → IsBoundary self piece
             → Takes piece (record_of kind d payload.now) result }
@@ -96,7 +96,7 @@ impl Boundary {
 }
 
 /// The ring of a boundary's points but the last.
-fn ring_of(alloc: Global, payload: &[u8]) -> Result<Ring, Refusal<ElementFault>>
+fn ring_of(alloc: Global, payload: &[u8]) -> Result<Ring, Cause<ElementFault>>
     ensures value { IfOk result (λ ring. ring ≡ but_last (points payload.now)) }
     ensures allowed { OnOk result ((4 ≤ length (points payload.now)) × IsClosed (points payload.now)
         × All IsStraight (steps (points payload.now))) }

@@ -10,7 +10,7 @@ ghost use Rattle.gds_elements.specs.inside.Misplaced.{Broken, breach};
 use crate::fault::{ElementFault, ElementRule, breach};
 use crate::values::short;
 use gds_records::record_type;
-use lvl_refusal::Refusal;
+use lvl_refusal::Cause;
 
 /// The most places of an array (own rule).
 const MOST_PLACES: u64 = 1_048_576;
@@ -30,7 +30,7 @@ pub(crate) fn read_counts(
     old: Counts,
     kind: u8,
     payload: &[u8],
-) -> Result<Counts, Refusal<ElementFault>>
+) -> Result<Counts, Cause<ElementFault>>
     requires { IsFormed kind payload.now }
     ensures columns { IfOk result
         (λ n. n.columns ≡ (if kind == colrow then magnitude (columns payload.now) else old.columns)) }
@@ -51,7 +51,7 @@ pub(crate) fn read_counts(
 }
 
 /// A number of columns or rows, at least one.
-fn count(bytes: &[u8]) -> Result<u64, Refusal<ElementFault>>
+fn count(bytes: &[u8]) -> Result<u64, Cause<ElementFault>>
     requires { length bytes.now ≡ 2 }
     ensures value { IfOk result (λ n. (n ≡ magnitude (short bytes.now)) × (0 < n) × (n < 32768)) }
     ensures refused { IfErr result (λ e. (e ≡ breach ElementRule.ColRow) × (short bytes.now <ℤ pos 1)) }

@@ -19,7 +19,7 @@ use gds_records::record_type;
 use lvl_cells::Reference;
 use lvl_grid::Ring;
 use lvl_names::Layer;
-use lvl_refusal::Refusal;
+use lvl_refusal::Cause;
 use std::alloc::Global;
 
 /// What a whole element draws.
@@ -105,12 +105,7 @@ impl Element {
     /// may not come there is refused before what it says is looked at. Then its tests run in the
     /// order of the rules, but `Oblique` after `NotClosed` and `Width` before `Path`, and the first
     /// that fails is reported.
-    pub fn take(
-        self,
-        alloc: Global,
-        kind: u8,
-        payload: &[u8],
-    ) -> Result<Step, Refusal<ElementFault>>
+    pub fn take(self, alloc: Global, kind: u8, payload: &[u8]) -> Result<Step, Cause<ElementFault>>
         requires formed { IsFormed kind payload.now }
         ensures going { (piece : List Rec) (r : Rec) → IsReading self piece → r.kind ≡ kind → r.payload ≡ payload.now
             → IfOk result (λ step. IsStep step (piece ++ r ∷ [])) }
@@ -126,7 +121,7 @@ impl Element {
 }
 
 impl State {
-    fn take(self, alloc: Global, kind: u8, payload: &[u8]) -> Result<Step, Refusal<ElementFault>>
+    fn take(self, alloc: Global, kind: u8, payload: &[u8]) -> Result<Step, Cause<ElementFault>>
         requires { IsFormed kind payload.now }
         ensures { (piece : List Rec) (d : ℕ) → HasRead self piece → Steps piece (record_of kind d payload.now) result }
     {
@@ -142,7 +137,7 @@ impl State {
 }
 
 /// The step to an element that isn't whole yet.
-fn going(read: Result<State, Refusal<ElementFault>>) -> Result<Step, Refusal<ElementFault>>
+fn going(read: Result<State, Cause<ElementFault>>) -> Result<Step, Cause<ElementFault>>
     ensures { (piece : List Rec) (r : Rec) → Takes piece r read → Steps piece r result }
 {
     match read {
@@ -152,7 +147,7 @@ fn going(read: Result<State, Refusal<ElementFault>>) -> Result<Step, Refusal<Ele
 }
 
 /// The step by the last record, of which only ENDEL is left.
-fn end(drawn: Drawn, kind: u8) -> Result<Step, Refusal<ElementFault>>
+fn end(drawn: Drawn, kind: u8) -> Result<Step, Cause<ElementFault>>
     requires { kind < 60 }
     ensures { (piece : List Rec) (d : ℕ) (payload : List ℕ) → IsAtEnd drawn piece
         → Steps piece (record_of kind d payload) result }

@@ -3,7 +3,7 @@ ghost use Rattle.std.specs.Prelude.{◌≡◌};
 ghost use Rattle.gds_elements.specs.inside.Misplaced.{breach};
 
 use lvl_path::PathFault;
-use lvl_refusal::Refusal;
+use lvl_refusal::Cause;
 use thiserror::Error;
 
 /// A record that may not come where it is.
@@ -78,8 +78,8 @@ pub enum ElementFault {
 }
 
 /// The refusal of a record that breaches this rule.
-pub(crate) fn breach(rule: ElementRule) -> Refusal<ElementFault>
+pub(crate) fn breach(rule: ElementRule) -> Cause<ElementFault>
     ensures { result ≡ breach rule }
 {
-    Refusal::Breach(ElementFault::Rule(rule))
+    Cause::Breach(ElementFault::Rule(rule))
 }

@@ -9,14 +9,10 @@ use crate::fault::{ElementFault, ElementRule, breach};
 use crate::values::short;
 use gds_records::record_type;
 use lvl_names::Layer;
-use lvl_refusal::Refusal;
+use lvl_refusal::Cause;
 
 /// The layer and datatype of a shape after one more record.
-pub(crate) fn read_layer(
-    old: Layer,
-    kind: u8,
-    payload: &[u8],
-) -> Result<Layer, Refusal<ElementFault>>
+pub(crate) fn read_layer(old: Layer, kind: u8, payload: &[u8]) -> Result<Layer, Cause<ElementFault>>
     requires { IsFormed kind payload.now }
     ensures layer { IfOk result (λ l. l.layer ≡ (if kind == layer then magnitude (short payload.now) else old.layer)) }
     ensures datatype { IfOk result
@@ -38,7 +34,7 @@ pub(crate) fn read_layer(
     }
 }
 
-fn layer_number(payload: &[u8]) -> Result<u32, Refusal<ElementFault>>
+fn layer_number(payload: &[u8]) -> Result<u32, Cause<ElementFault>>
     requires { length payload.now ≡ 2 }
     ensures value { IfOk result (λ n. (n ≡ magnitude (short payload.now)) × (pos 0 ≤ℤ short payload.now)) }
     ensures negative { IfErr result (λ e. (e ≡ breach ElementRule.Layer) × (short payload.now <ℤ pos 0)) }

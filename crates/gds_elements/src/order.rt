@@ -4,7 +4,7 @@ ghost use Rattle.gds_elements.specs.inside.Misplaced.{IsMisplacement, IsMisplace
 
 use crate::fault::{ElementFault, Misplaced};
 use gds_records::record_type;
-use lvl_refusal::Refusal;
+use lvl_refusal::Cause;
 
 /// What a record of some type is at a place.
 #[derive(Clone, Copy)]
@@ -64,8 +64,8 @@ pub fn misplaced(kind: u8) -> Misplaced
 }
 
 /// The refusal of a record that may not come where it is.
-pub(crate) fn out_of_order(kind: u8) -> Refusal<ElementFault>
+pub(crate) fn out_of_order(kind: u8) -> Cause<ElementFault>
     ensures { IsMisplaced kind result }
 {
-    Refusal::Breach(ElementFault::Misplaced(misplaced(kind)))
+    Cause::Breach(ElementFault::Misplaced(misplaced(kind)))
 }

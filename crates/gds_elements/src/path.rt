@@ -25,7 +25,7 @@ use gds_records::record_type;
 use lvl_grid::Ring;
 use lvl_names::Layer;
 use lvl_path::bands;
-use lvl_refusal::Refusal;
+use lvl_refusal::Cause;
 use std::alloc::Global;
 
 /// The fewest points of a path.
@@ -97,7 +97,7 @@ impl Path {
         alloc: Global,
         kind: u8,
         payload: &[u8],
-    ) -> Result<State, Refusal<ElementFault>>
+    ) -> Result<State, Cause<ElementFault>>
         requires { IsFormed kind payload.now }
         ensures { (piece : List Rec) (d : ℕ) → IsPathRead self piece
             → Takes piece (record_of kind d payload.now) result }
@@ -124,7 +124,7 @@ impl Path {
 }
 
 /// Whether a path reaches half its width beyond its ends, after one more record.
-fn read_ends(old: bool, kind: u8, payload: &[u8]) -> Result<bool, Refusal<ElementFault>>
+fn read_ends(old: bool, kind: u8, payload: &[u8]) -> Result<bool, Cause<ElementFault>>
     requires { IsFormed kind payload.now }
     ensures value { IfOk result
         (λ square. square ≡ (if kind == pathtype then int_eq (short payload.now) (pos 2) else old)) }
@@ -143,11 +143,7 @@ fn read_ends(old: bool, kind: u8, payload: &[u8]) -> Result<bool, Refusal<Elemen
 }
 
 /// Half the width of a path, after one more record.
-fn read_half(
-    old: Option<u64>,
-    kind: u8,
-    payload: &[u8],
-) -> Result<Option<u64>, Refusal<ElementFault>>
+fn read_half(old: Option<u64>, kind: u8, payload: &[u8]) -> Result<Option<u64>, Cause<ElementFault>>
     requires { IsFormed kind payload.now }
     ensures value { IfOk result (λ h. h ≡ (if kind == width then Some (half payload.now) else old)) }
     ensures allowed { OnOk result (kind ≡ width → IsWidth (long payload.now)) }
@@ -172,7 +168,7 @@ fn bands_of(
     half: Option<u64>,
     square: bool,
     payload: &[u8],
-) -> Result<Vec<Ring>, Refusal<ElementFault>>
+) -> Result<Vec<Ring>, Cause<ElementFault>>
     ensures value { (h : ℕ) → half ≡ Some h → IfOk result (λ v.
         v.items ≡ path_rings (points payload.now)
         (record { half = h; start = reach_at square h; end = reach_at square h })) }
@@ -192,8 +188,8 @@ fn bands_of(
     let reach = end_reach(square, half);
     match bands(alloc, &points, half, reach, reach) {
         Ok(rings) => Ok(rings),
-        Err(Refusal::Breach(fault)) => Err(breach(ElementRule::Path(fault))),
-        Err(Refusal::OutOfMemory) => Err(Refusal::OutOfMemory),
+        Err(Cause::Breach(fault)) => Err(breach(ElementRule::Path(fault))),
+        Err(Cause::OutOfMemory) => Err(Cause::OutOfMemory),
     }
 }
 

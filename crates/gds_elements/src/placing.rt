@@ -14,7 +14,7 @@ use crate::values::{bits, name};
 use gds_records::record_type;
 use lvl_grid::Turn;
 use lvl_names::is_name;
-use lvl_refusal::Refusal;
+use lvl_refusal::Cause;
 use std::alloc::Global;
 
 /// The real 1, as it is spelled.
@@ -56,7 +56,7 @@ impl Placing {
         alloc: Global,
         kind: u8,
         payload: &[u8],
-    ) -> Result<Placing, Refusal<ElementFault>>
+    ) -> Result<Placing, Cause<ElementFault>>
         requires { IsFormed kind payload.now }
         ensures name { IfOk result (λ p. p.name.items ≡ (if kind == sname then name payload.now else self.name.items)) }
         ensures flip { IfOk result (λ p. p.flip ≡ (if kind == strans then flips payload.now else self.flip)) }
@@ -78,7 +78,7 @@ fn read_name(
     old: Vec<u8>,
     kind: u8,
     payload: &[u8],
-) -> Result<Vec<u8>, Refusal<ElementFault>>
+) -> Result<Vec<u8>, Cause<ElementFault>>
     ensures value { IfOk result (λ v. v.items ≡ (if kind == sname then name payload.now else old.items)) }
     ensures allowed { OnOk result (kind ≡ sname → IsName (name payload.now)) }
     ensures refused { IfErr result
@@ -94,7 +94,7 @@ fn read_name(
     Ok(Vec::from_slice(alloc, name)?)
 }
 
-fn read_flip(old: bool, kind: u8, payload: &[u8]) -> Result<bool, Refusal<ElementFault>>
+fn read_flip(old: bool, kind: u8, payload: &[u8]) -> Result<bool, Cause<ElementFault>>
     requires { IsFormed kind payload.now }
     ensures value { IfOk result (λ flip. flip ≡ (if kind == strans then flips payload.now else old)) }
     ensures allowed { OnOk result (kind ≡ strans → (bits payload.now ≢ 0) → bits payload.now ≡ 0x8000) }
@@ -111,7 +111,7 @@ fn read_flip(old: bool, kind: u8, payload: &[u8]) -> Result<bool, Refusal<Elemen
     }
 }
 
-fn check_magnification(kind: u8, payload: &[u8]) -> Result<(), Refusal<ElementFault>>
+fn check_magnification(kind: u8, payload: &[u8]) -> Result<(), Cause<ElementFault>>
     ensures allowed { OnOk result (kind ≡ mag → payload.now ≡ one_real) }
     ensures refused { IfErr result (λ e. (e ≡ breach ElementRule.Magnification) × (kind ≡ mag)
         × (payload.now ≢ one_real)) }
@@ -122,7 +122,7 @@ fn check_magnification(kind: u8, payload: &[u8]) -> Result<(), Refusal<ElementFa
     Ok(())
 }
 
-fn read_turn(old: Turn, kind: u8, payload: &[u8]) -> Result<Turn, Refusal<ElementFault>>
+fn read_turn(old: Turn, kind: u8, payload: &[u8]) -> Result<Turn, Cause<ElementFault>>
     ensures value { IfOk result (λ t. t ≡ (if kind == angle then turn payload.now else old)) }
     ensures allowed { OnOk result (kind ≡ angle → payload.now ≡ degrees (turn payload.now)) }
     ensures refused { IfErr result (λ e. (e ≡ breach ElementRule.Angle) × (kind ≡ angle)

@@ -21,7 +21,7 @@ use crate::values::{point_at, point_count};
 use gds_records::record_type;
 use lvl_cells::Reference;
 use lvl_names::{Name, Offsets};
-use lvl_refusal::Refusal;
+use lvl_refusal::Cause;
 use std::alloc::Global;
 
 /// What the next record may be, named by the first of them.
@@ -84,7 +84,7 @@ impl Sref {
         alloc: Global,
         kind: u8,
         payload: &[u8],
-    ) -> Result<State, Refusal<ElementFault>>
+    ) -> Result<State, Cause<ElementFault>>
         requires { IsFormed kind payload.now }
         ensures { (piece : List Rec) (d : ℕ) → IsSrefRead self piece
             → Takes piece (record_of kind d payload.now) result }
@@ -105,7 +105,7 @@ impl Sref {
 }
 
 /// The reference to the cell at the one point.
-fn place_once(placing: Placing, payload: &[u8]) -> Result<Reference, Refusal<ElementFault>>
+fn place_once(placing: Placing, payload: &[u8]) -> Result<Reference, Cause<ElementFault>>
     ensures value { IfOk result (λ r. r ≡ record {
       cell = placing.name.items;
       flip = placing.flip;

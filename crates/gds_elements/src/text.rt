@@ -16,7 +16,7 @@ use crate::fault::{ElementFault, ElementRule, breach};
 use crate::order::{Next, only, out_of_order};
 use crate::values::point_count;
 use gds_records::record_type;
-use lvl_refusal::Refusal;
+use lvl_refusal::Cause;
 
 /// What the next record may be, named by the first of them.
 #[derive(Clone, Copy)]
@@ -117,7 +117,7 @@ impl Text {
     }
 
     /// Takes the next record, if it breaches no rule.
-    pub(crate) fn take(self, kind: u8, payload: &[u8]) -> Result<State, Refusal<ElementFault>>
+    pub(crate) fn take(self, kind: u8, payload: &[u8]) -> Result<State, Cause<ElementFault>>
         requires { IsFormed kind payload.now }
         ensures { (piece : List Rec) (d : ℕ) → IsTextRead self piece
             → Takes piece (record_of kind d payload.now) result }
@@ -133,7 +133,7 @@ impl Text {
     }
 }
 
-fn check_points(kind: u8, payload: &[u8]) -> Result<(), Refusal<ElementFault>>
+fn check_points(kind: u8, payload: &[u8]) -> Result<(), Cause<ElementFault>>
     ensures allowed { OnOk result (kind ≡ xy → length (points payload.now) ≡ 1) }
     ensures refused { IfErr result (λ e. (e ≡ breach ElementRule.Points) × (kind ≡ xy)
         × (length (points payload.now) ≢ 1)) }

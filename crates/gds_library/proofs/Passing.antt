@@ -3,8 +3,8 @@ use Rattle.std.proofs.Common.{◌≡◌, ◌≢◌, ◌==◌, ◌<◌, ◌⊎◌
 use Rattle.std.proofs.Common.{◌++◌}
 use Rattle.std.proofs.Common.{Some, None, refl, sym, ap, ◌∙◌, subst, arith}
 use Rattle.lvl_ignore.specs.declared.ignore.Ignore.{Ignore}
-use Rattle.lvl_refusal.specs.declared.Refusal.{Refusal}
-use Rattle.lvl_refusal.specs.declared.Refusal.TheVariants.{Breach, OutOfMemory}
+use Rattle.lvl_refusal.specs.declared.Cause.{Cause}
+use Rattle.lvl_refusal.specs.declared.Cause.TheVariants.{Breach, OutOfMemory}
 use Rattle.lvl_refusal.specs.Refused.{Says}
 use Rattle.std.specs.Prelude.{is_some}
 use Rattle.gds_records.specs.Table.{form_among, property_rows, name_rows}
@@ -161,7 +161,7 @@ refuses_essential ignore before r k e c b = (
   λ j y. b.1 j (breach_back ignore before r j e c y),
 )
 
-pub says_essential : (ignore : Ignore) (before : List Rec) (r : Rec) (x : Refusal GdsKind) → is_passed ignore r ≡ false
+pub says_essential : (ignore : Ignore) (before : List Rec) (r : Rec) (x : Cause GdsKind) → is_passed ignore r ≡ false
     → (AwaitsValue before → ⊥)
     → Says x (λ k. Breaches (essential ignore before) r k × BreachesOnly (essential ignore before) r k)
     → Says x (λ k. BreachesBy ignore before r k × BreachesOnlyBy ignore before r k)

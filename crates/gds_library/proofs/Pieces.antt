@@ -12,7 +12,7 @@ use Rattle.gds_elements.specs.declared.element.Element.{Element}
 use Rattle.gds_elements.proofs.Fields.{field_there, if_so, if_not}
 use Rattle.lvl_grammar.proofs.Orders.{type_same, empty_word}
 use Rattle.gds_elements.proofs.Words.{Stands}
-use Rattle.gds_elements.proofs.Elements.{opens_first, stands_not, behind_opener}
+use Rattle.gds_elements.proofs.Elements.{opens_first, stands_not, after_opener}
 use Rattle.gds_library.specs.Rec.{until, pieces, last_list, last_piece}
 use Rattle.gds_library.specs.inside.Shown.{on_last}
 use Rattle.gds_library.proofs.Elements.{begins_open, IsOpen, reading_open}
@@ -179,7 +179,7 @@ pub unlike : (k j : ℕ) → (k ≡ j → ⊥) → k == j ≡ false
 unlike k j h = unlike_at (k == j) k j refl h
 
 -- a type that is in no element is in none of its records
-pub piece_lacks : (piece : List Rec) (j : ℕ) → IsPiece piece → opens j ≡ false → has behind_opener j ≡ false
+pub piece_lacks : (piece : List Rec) (j : ℕ) → IsPiece piece → opens j ≡ false → has after_opener j ≡ false
     → AllByRecursion (λ r. r.kind == j ≡ false) piece
 piece_lacks piece j p o n =
     let first : p.first.kind == j ≡ false =

@@ -4,8 +4,8 @@ use Rattle.std.proofs.Common.{◌≡◌, ℕ, List, [], Some, None, sym, ap, ◌
 use Rattle.std.specs.Prelude.{Option}
 use Rattle.std.specs.Io.KnownBytes.{prepend_known}
 use Rattle.lvl_refusal.specs.Refused.{Says}
-use Rattle.lvl_refusal.specs.declared.Refusal.{Refusal}
-use Rattle.lvl_refusal.specs.declared.Refusal.TheVariants.{Breach, OutOfMemory}
+use Rattle.lvl_refusal.specs.declared.Cause.{Cause}
+use Rattle.lvl_refusal.specs.declared.Cause.TheVariants.{Breach, OutOfMemory}
 use Rattle.lvl_grammar.specs.Front.{SpellsNothing}
 use Rattle.lvl_grammar.specs.Refused.{IsHopeless, IsUnread}
 use Rattle.lvl_grammar.proofs.Laws.{one_whole}
@@ -14,7 +14,7 @@ use Rattle.lvl_grammar.proofs.Stuck.{seen_stuck, seen_hopeless, stuck_none, trun
 use Rattle.gds_records.specs.declared.fault.RecordFault.TheVariants.{Truncated, Read}
 use Rattle.gds_library.specs.Drawn.{Drawing}
 use Rattle.gds_library.specs.Front.{gds, SpellsLibrary, SpellsNone}
-use Rattle.gds_library.specs.Ends.{Tells, TellsAt, TellsUnread, IsExcused, IsExcusedKind, IsEarly, IsEarlyKind}
+use Rattle.gds_library.specs.Ends.{Reports, ReportsAt, ReportsUnread, IsExcused, IsExcusedKind, IsEarly, IsEarlyKind}
 use Rattle.gds_library.specs.inside.Refuses.{Refuses, RefusesAt}
 use Rattle.gds_library.specs.Ignoring.{essential}
 use Rattle.gds_library.specs.Values.{drawings, head}
@@ -45,11 +45,11 @@ none_spelled : (ignore : Ignore) (xs : List ℕ) → SpellsNothing (gds ignore) 
 none_spelled ignore xs n cells h p = n p.records p.whole
 
 -- what a refusal says
-tells_at : (ignore : Ignore) (xs : List ℕ) (left : Option (List ℕ)) (at : ℕ) (k : GdsKind)
-    → RefusesAt ignore xs left at k → TellsAt ignore xs at k
-tells_at ignore xs left at (Record Truncated) x = x
-tells_at ignore xs left at (Record Read) x = unread_front (gds ignore) xs left at x
-tells_at ignore xs left at other x = seen_stuck (gds ignore) (is_grammar ignore) xs at left other x
+reports_at : (ignore : Ignore) (xs : List ℕ) (left : Option (List ℕ)) (at : ℕ) (k : GdsKind)
+    → RefusesAt ignore xs left at k → ReportsAt ignore xs at k
+reports_at ignore xs left at (Record Truncated) x = x
+reports_at ignore xs left at (Record Read) x = unread_front (gds ignore) xs left at x
+reports_at ignore xs left at other x = seen_stuck (gds ignore) (is_grammar ignore) xs at left other x
 
 none_at : (ignore : Ignore) (xs : List ℕ) (left : Option (List ℕ)) (at : ℕ) (k : GdsKind)
     → RefusesAt ignore xs left at k → (IsExcusedKind k → ⊥)
@@ -75,20 +75,20 @@ unread_at ignore xs left at other x e = absurd e
 
 -- of an answer
 refused : (ignore : Ignore) {A : Type 0} (xs : List ℕ) (left : Option (List ℕ)) (P : GdsFault → Type 0)
-    → ((f : GdsFault) → Refuses ignore xs left f → P f) → (r : Result A (Refusal GdsFault))
+    → ((f : GdsFault) → Refuses ignore xs left f → P f) → (r : Result A (Cause GdsFault))
     → IfErr r (λ e. Says e (Refuses ignore xs left)) → IfErr r (λ e. Says e P)
 refused ignore xs left P h (Ok x) s = tt
 refused ignore xs left P h (Err (Breach f)) s = h f s
 refused ignore xs left P h (Err OutOfMemory) s = tt
 
-pub refused_tells : (ignore : Ignore) {A : Type 0} (xs : List ℕ) (left : Option (List ℕ))
-    (r : Result A (Refusal GdsFault))
-    → IfErr r (λ e. Says e (Refuses ignore xs left)) → IfErr r (λ e. Says e (Tells ignore xs))
-refused_tells ignore xs left = refused ignore xs left (Tells ignore xs)
-    (λ f x. tells_at ignore xs left f.offset f.kind x)
+pub refused_reports : (ignore : Ignore) {A : Type 0} (xs : List ℕ) (left : Option (List ℕ))
+    (r : Result A (Cause GdsFault))
+    → IfErr r (λ e. Says e (Refuses ignore xs left)) → IfErr r (λ e. Says e (Reports ignore xs))
+refused_reports ignore xs left = refused ignore xs left (Reports ignore xs)
+    (λ f x. reports_at ignore xs left f.offset f.kind x)
 
 pub refused_none : (ignore : Ignore) {A : Type 0} (xs : List ℕ) (left : Option (List ℕ))
-    (r : Result A (Refusal GdsFault))
+    (r : Result A (Cause GdsFault))
     → IfErr r (λ e. Says e (Refuses ignore xs left))
     → IfErr r (λ e. Says e (λ f. (IsExcused f → ⊥) → SpellsNone ignore xs))
 refused_none ignore xs left =
@@ -96,28 +96,28 @@ refused_none ignore xs left =
     (λ f x. none_at ignore xs left f.offset f.kind x)
 
 pub refused_early : (ignore : Ignore) {A : Type 0} (xs : List ℕ) (left : Option (List ℕ))
-    (r : Result A (Refusal GdsFault))
+    (r : Result A (Cause GdsFault))
     → IfErr r (λ e. Says e (Refuses ignore xs left))
     → IfErr r (λ e. Says e (λ f. IsEarly f → IsHopeless (gds ignore) xs left))
 refused_early ignore xs left =
     refused ignore xs left (λ f. IsEarly f → IsHopeless (gds ignore) xs left)
     (λ f x. early_at ignore xs left f.offset f.kind x)
 
-refused_unread : (ignore : Ignore) {A : Type 0} (xs : List ℕ) (left : Option (List ℕ)) (r : Result A (Refusal GdsFault))
-    → IfErr r (λ e. Says e (Refuses ignore xs left)) → IfErr r (λ e. Says e (TellsUnread ignore xs left))
-refused_unread ignore xs left = refused ignore xs left (TellsUnread ignore xs left)
+refused_unread : (ignore : Ignore) {A : Type 0} (xs : List ℕ) (left : Option (List ℕ)) (r : Result A (Cause GdsFault))
+    → IfErr r (λ e. Says e (Refuses ignore xs left)) → IfErr r (λ e. Says e (ReportsUnread ignore xs left))
+refused_unread ignore xs left = refused ignore xs left (ReportsUnread ignore xs left)
     (λ f x. unread_at ignore xs left f.offset f.kind x)
 
 -- of the bytes that are left in the end
 pub unread_left : (ignore : Ignore) {A : Type 0} (xs : List ℕ) (left left' : Option (List ℕ))
-    (r : Result A (Refusal GdsFault))
+    (r : Result A (Cause GdsFault))
     → IfErr r (λ e. Says e (Refuses ignore xs left)) → left ≡ left'
-    → IfErr r (λ e. Says e (TellsUnread ignore xs left'))
+    → IfErr r (λ e. Says e (ReportsUnread ignore xs left'))
 unread_left ignore xs left left' r h e =
-    subst (λ l. IfErr r (λ e. Says e (TellsUnread ignore xs l))) e (refused_unread ignore xs left r h)
+    subst (λ l. IfErr r (λ e. Says e (ReportsUnread ignore xs l))) e (refused_unread ignore xs left r h)
 
 pub early_left : (ignore : Ignore) {A : Type 0} (xs : List ℕ) (left left' : Option (List ℕ))
-    (r : Result A (Refusal GdsFault))
+    (r : Result A (Cause GdsFault))
     → IfErr r (λ e. Says e (Refuses ignore xs left)) → left ≡ left'
     → IfErr r (λ e. Says e (λ f. IsEarly f → IsHopeless (gds ignore) xs left'))
 early_left ignore xs left left' r h e =

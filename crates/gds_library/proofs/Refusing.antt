@@ -13,7 +13,7 @@ use Rattle.gds_elements.specs.declared.fault.ElementRule.{ElementRule}
 use Rattle.gds_elements.proofs.Leads.{misplaced_as, says_carried}
 use Rattle.gds_elements.proofs.OneRule.{one_misplaced, not_misplaced, is_value, value_breaches}
 use Rattle.lvl_refusal.specs.Refused.{Says}
-use Rattle.lvl_refusal.specs.declared.Refusal.{Refusal}
+use Rattle.lvl_refusal.specs.declared.Cause.{Cause}
 use Rattle.gds_library.specs.declared.fault.GdsKind.{GdsKind}
 use Rattle.gds_library.specs.declared.fault.GdsKind.TheVariants.{Record, Misplaced, Element, Name, AfterEnd}
 use Rattle.gds_library.specs.declared.fault.GdsKind.TheVariants.{TooManyCells}
@@ -145,7 +145,7 @@ law_only b rs r AfterEnd h o l x = absurd x
 law_only b rs r TooManyCells h o l x =
     λ i y. elim (value_only b rs r h o l x.1 i y) [ inl z ↦ absurd (omega (arith, x.0, z.1)) | inr z ↦ z.0 ]
 
-pub says_fault : (b : Builder) (rs : List Rec) (r : Rec) (e : Refusal GdsKind) → Holds b rs
+pub says_fault : (b : Builder) (rs : List Rec) (r : Rec) (e : Cause GdsKind) → Holds b rs
     → OpensNothing b.place r.kind → r.kind < 60 → Says e (IsFault b.place (length b.cells.cells) r.kind r.payload)
     → Says e (λ k. Breaches rs r k × BreachesOnly rs r k)
 says_fault b rs r e h o l x =

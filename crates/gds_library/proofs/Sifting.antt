@@ -3,7 +3,7 @@ use Rattle.std.proofs.Common.{◌≡◌, ◌≢◌, ◌<◌, inl, inr, ℕ, Bool
 use Rattle.std.proofs.Common.{◌∙◌, subst}
 use Rattle.std.specs.Prelude.{◌↔◌, IsTrue, Result, Ok, Err, IsErr, IsErrAnd}
 use Rattle.lvl_ignore.specs.declared.ignore.Ignore.{Ignore}
-use Rattle.lvl_refusal.specs.declared.Refusal.{Refusal}
+use Rattle.lvl_refusal.specs.declared.Cause.{Cause}
 use Rattle.lvl_refusal.specs.Refused.{Says}
 use Rattle.gds_elements.specs.Rec.{Rec, an_end}
 use Rattle.gds_library.specs.Types.{propattr}
@@ -79,12 +79,12 @@ takes_essential ignore y rs r e c t l = (
 
 -- or refused
 pub takes_none : {A : Type 0} (ignore : Ignore) (rs : List Rec) (r : Rec) (x : WithIgnored)
-    (res : Result A (Refusal GdsKind))
-    (e : Refusal GdsKind) → IsErr res × IsErrAnd res (λ f. f ≡ e) → is_passed ignore r ≡ false
+    (res : Result A (Cause GdsKind))
+    (e : Cause GdsKind) → IsErr res × IsErrAnd res (λ f. f ≡ e) → is_passed ignore r ≡ false
     → (AwaitsValue rs → ⊥)
     → Says e (λ k. Breaches (essential ignore rs) r k × BreachesOnly (essential ignore rs) r k)
     → TakesBy ignore rs r x res
 takes_none ignore rs r x (Ok v) e h n c b = absurd h.1
 takes_none ignore rs r x (Err f) e h n c b =
-    subst (λ (i : Refusal GdsKind). Says i (λ k. BreachesBy ignore rs r k × BreachesOnlyBy ignore rs r k)) (sym h.1)
+    subst (λ (i : Cause GdsKind). Says i (λ k. BreachesBy ignore rs r k × BreachesOnlyBy ignore rs r k)) (sym h.1)
     (says_essential ignore rs r e n c b)

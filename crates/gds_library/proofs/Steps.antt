@@ -20,7 +20,7 @@ use Rattle.gds_elements.specs.inside.Reading.{IsReading, IsDrawn, shapes_in, ref
 use Rattle.gds_elements.specs.declared.element.Element.{Element as OpenElement}
 use Rattle.gds_elements.specs.declared.element.Drawn.{Drawn}
 use Rattle.gds_elements.proofs.Fields.{field-snoc, kinds-snoc}
-use Rattle.gds_elements.proofs.Elements.{reading_begins, behind_opener}
+use Rattle.gds_elements.proofs.Elements.{reading_begins, after_opener}
 use Rattle.gds_library.specs.Types.{fill}
 use Rattle.gds_library.specs.Order.{a_library}
 use Rattle.gds_library.specs.inside.Place.{after, left, has_units}
@@ -31,8 +31,8 @@ use Rattle.gds_library.specs.Rules.{InOrder, Breaches, BreachesOnly, MayFollow}
 use Rattle.lvl_cells.specs.Building.{cell_limit}
 use Rattle.gds_library.specs.inside.Faults.{IsAllowed, lifted, lifted_refusal}
 use Rattle.lvl_refusal.specs.Refused.{Says}
-use Rattle.lvl_refusal.specs.declared.Refusal.{Refusal}
-use Rattle.lvl_refusal.specs.declared.Refusal.TheVariants.{Breach, OutOfMemory}
+use Rattle.lvl_refusal.specs.declared.Cause.{Cause}
+use Rattle.lvl_refusal.specs.declared.Cause.TheVariants.{Breach, OutOfMemory}
 use Rattle.gds_elements.specs.declared.fault.Misplaced.TheVariants.{Unexpected, Unsupported}
 use Rattle.gds_elements.specs.declared.fault.ElementFault.{ElementFault}
 use Rattle.gds_elements.specs.declared.fault.ElementFault.TheVariants.{Misplaced as MisplacedInElement, Rule}
@@ -114,12 +114,12 @@ last_one P [] r h = h.0
 last_one P (x ∷ xs) r h = last_one P xs r h.1
 
 last_lacks : (piece : List Rec) (r : Rec) (j : ℕ) → IsPiece (piece ++ r ∷ []) → opens j ≡ false
-    → has behind_opener j ≡ false → r.kind == j ≡ false
+    → has after_opener j ≡ false → r.kind == j ≡ false
 last_lacks piece r j p o n = last_one (λ i. i.kind == j ≡ false) piece r (piece_lacks (piece ++ r ∷ []) j p o n)
 
 -- a type that is in no element may not come in an open one
 never_inside : (before piece : List Rec) (r : Rec) (j : ℕ) → LeadsTo a_library (kinds before) (left Elements)
-    → IsOpen (kinds piece) → IsPiece piece → InOrder (before ++ piece) r → opens j ≡ false → has behind_opener j ≡ false
+    → IsOpen (kinds piece) → IsPiece piece → InOrder (before ++ piece) r → opens j ≡ false → has after_opener j ≡ false
     → r.kind ≡ j → ⊥
 never_inside before piece r j h o p g a b e =
     let more : IsPiece (piece ++ r ∷ []) = record {
@@ -166,19 +166,19 @@ breaches_both b e rs r f i x only =
           z.1 ∙ ap lifted (only z.0 z.2),
     )
 
-says_lifted : (b : Builder) (e : OpenElement) (rs : List Rec) (r : Rec) (f : Refusal ElementFault) (i : IsInside b e rs)
+says_lifted : (b : Builder) (e : OpenElement) (rs : List Rec) (r : Rec) (f : Cause ElementFault) (i : IsInside b e rs)
     → Says f (ElementBreaches i.piece r) → Says f (OnlyInElement i.piece r)
     → Says (lifted_refusal f) (λ k. Breaches rs r k × BreachesOnly rs r k)
 says_lifted b e rs r (Breach k) i x only = breaches_both b e rs r k i x only
 says_lifted b e rs r OutOfMemory i x only = tt
 
 -- a record that its element refuses is refused
-pub says_inside : (b : Builder) (e : OpenElement) (rs : List Rec) (r : Rec) (f : Refusal ElementFault)
-    (g : Refusal GdsKind) (i : IsInside b e rs)
+pub says_inside : (b : Builder) (e : OpenElement) (rs : List Rec) (r : Rec) (f : Cause ElementFault)
+    (g : Cause GdsKind) (i : IsInside b e rs)
     → g ≡ lifted_refusal f → Says f (ElementBreaches i.piece r) → Says f (OnlyInElement i.piece r)
     → Says g (λ k. Breaches rs r k × BreachesOnly rs r k)
 says_inside b e rs r f g i h x only =
-    subst (λ (j : Refusal GdsKind). Says j (λ k. Breaches rs r k × BreachesOnly rs r k)) (sym h)
+    subst (λ (j : Cause GdsKind). Says j (λ k. Breaches rs r k × BreachesOnly rs r k)) (sym h)
     (says_lifted b e rs r f i x only)
 
 -- what a builder holds is read where no element is open
@@ -186,12 +186,12 @@ pub none_open : (b : Builder) (e : Option OpenElement) (rs : List Rec) → e ≡
 none_open b e rs none h = subst (λ (o : Option OpenElement). HoldsWith o b rs) (sym none) h
 
 -- what is refused with the same refusal
-pub takes_refused : {A : Type 0} (rs : List Rec) (r : Rec) (x : Reading) (res : Result A (Refusal GdsKind))
-    (e : Refusal GdsKind) → IsErr res × IsErrAnd res (λ f. f ≡ e)
+pub takes_refused : {A : Type 0} (rs : List Rec) (r : Rec) (x : Reading) (res : Result A (Cause GdsKind))
+    (e : Cause GdsKind) → IsErr res × IsErrAnd res (λ f. f ≡ e)
     → Says e (λ k. Breaches rs r k × BreachesOnly rs r k) → Takes rs r x res
 takes_refused rs r x (Ok v) e h b = absurd h.1
 takes_refused rs r x (Err f) e h b =
-    subst (λ (i : Refusal GdsKind). Says i (λ k. Breaches rs r k × BreachesOnly rs r k)) (sym h.1) b
+    subst (λ (i : Cause GdsKind). Says i (λ k. Breaches rs r k × BreachesOnly rs r k)) (sym h.1) b
 
 -- what is known of the units at a place is known before, unless they are there
 units_before : (p q : Place) (k : ℕ) → after p k ≡ Some q → k == units ≡ false → has_units q ≡ true → has_units p ≡ true

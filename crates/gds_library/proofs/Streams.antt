@@ -43,8 +43,8 @@ use Rattle.gds_library.specs.inside.Refuses.{Refuses, RefusesAt}
 use Rattle.gds_library.specs.Ends.{is_read_kind}
 use Rattle.gds_library.specs.declared.fault.GdsFault.{GdsFault}
 use Rattle.lvl_refusal.specs.Refused.{Says}
-use Rattle.lvl_refusal.specs.declared.Refusal.{Refusal}
-use Rattle.lvl_refusal.specs.declared.Refusal.TheVariants.{Breach}
+use Rattle.lvl_refusal.specs.declared.Cause.{Cause}
+use Rattle.lvl_refusal.specs.declared.Cause.TheVariants.{Breach}
 use Rattle.gds_library.specs.declared.fault.GdsKind.{GdsKind}
 use Rattle.gds_library.specs.declared.fault.GdsKind.TheVariants.{Record, Misplaced, Element, Name, AfterEnd}
 use Rattle.gds_library.specs.declared.fault.GdsKind.TheVariants.{TooManyCells}
@@ -475,12 +475,12 @@ breach_no_read ignore before r (Record f) b = absurd b.2
 breach_no_read ignore before r other b = refl
 
 -- a refusal by a fault and its offset
-pub refuses_by : (ignore : Ignore) (xs : List ℕ) (rest : Option (List ℕ)) (e : Refusal GdsFault) (offset at : ℕ)
+pub refuses_by : (ignore : Ignore) (xs : List ℕ) (rest : Option (List ℕ)) (e : Cause GdsFault) (offset at : ℕ)
     (k : GdsKind)
     → e ≡ Breach (record { offset = offset; kind = k }) → offset ≡ at → RefusesAt ignore xs rest at k
     → Says e (Refuses ignore xs rest)
 refuses_by ignore xs rest e offset at k h o x =
-    subst (λ (i : Refusal GdsFault). Says i (Refuses ignore xs rest)) (sym h)
+    subst (λ (i : Cause GdsFault). Says i (Refuses ignore xs rest)) (sym h)
     (subst (λ i. RefusesAt ignore xs rest i k) (sym o) x)
 
 -- what a byte after the end says, once `tail` has answered it

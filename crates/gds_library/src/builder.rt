@@ -16,7 +16,7 @@ use gds_elements::{Drawn, misplaced, name};
 use gds_records::record_type;
 use lvl_cells::{Builder as Cells, Library, MOST_CELLS};
 use lvl_names::{Offsets, is_name};
-use lvl_refusal::Refusal;
+use lvl_refusal::Cause;
 use std::alloc::Global;
 
 /// The library so far: where the reader is in the order of records, the head, and the cells.
@@ -78,7 +78,7 @@ impl Builder {
         alloc: Global,
         kind: u8,
         payload: &[u8],
-    ) -> Result<(), Refusal<GdsKind>>
+    ) -> Result<(), Cause<GdsKind>>
         requires { IsFormed kind payload.now }
         ensures refused { IfErr result
             (λ e. Says e (IsFault self.old.place (length self.old.cells.cells) kind payload.now)) }
@@ -91,20 +91,20 @@ impl Builder {
         ensures shown { OnOk result (shown self.new ≡ grown kind payload.now (shown self.old)) }
     {
         let Some(next) = self.place.after(kind) else {
-            return Err(Refusal::Breach(GdsKind::Misplaced(misplaced(kind))));
+            return Err(Cause::Breach(GdsKind::Misplaced(misplaced(kind))));
         };
         match kind {
             record_type::HEADER => self.version = i16::from_be_bytes([payload[0], payload[1]]),
             record_type::UNITS => self.units = two_reals(payload),
             record_type::BGNSTR => {
                 if self.cells.len() >= MOST_CELLS {
-                    return Err(Refusal::Breach(GdsKind::TooManyCells));
+                    return Err(Cause::Breach(GdsKind::TooManyCells));
                 }
             }
             record_type::STRNAME => {
                 let name = name(payload);
                 if !is_name(name) {
-                    return Err(Refusal::Breach(GdsKind::Name));
+                    return Err(Cause::Breach(GdsKind::Name));
                 }
                 self.cells.open(alloc, Vec::from_slice(alloc, name)?);
             }
@@ -116,8 +116,8 @@ impl Builder {
     }
 
     /// Adds what an element draws to the open cell.
-    pub(crate) fn add(&mut self, drawn: Drawn) -> Result<(), Refusal<GdsKind>>
-        ensures refused { IfErr result (λ e. e ≡ Refusal.OutOfMemory) }
+    pub(crate) fn add(&mut self, drawn: Drawn) -> Result<(), Cause<GdsKind>>
+        ensures refused { IfErr result (λ e. e ≡ Cause.OutOfMemory) }
         ensures place { OnOk result (self.new.place ≡ self.old.place) }
         ensures version { OnOk result (self.new.version ≡ self.old.version) }
         ensures units { OnOk result (self.new.units ≡ self.old.units) }

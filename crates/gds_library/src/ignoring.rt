@@ -16,7 +16,7 @@ use gds_elements::{Misplaced, misplaced};
 use gds_records::{is_ignored, record_type};
 use lvl_cells::Library;
 use lvl_ignore::Ignore;
-use lvl_refusal::Refusal;
+use lvl_refusal::Cause;
 use std::alloc::Global;
 
 /// The payload of FORMAT 0, a plain archive.
@@ -70,7 +70,7 @@ impl WithIgnored {
         alloc: Global,
         kind: u8,
         payload: &[u8],
-    ) -> Result<(), Refusal<GdsKind>>
+    ) -> Result<(), Cause<GdsKind>>
         requires formed { IsFormed kind payload.now }
         requires in_element { IsFormedInElement kind payload.now }
         requires unended { self.old.reading.builder.place ≢ Fill }
@@ -86,14 +86,14 @@ impl WithIgnored {
     }
 
     // Takes a record that is ignored.
-    fn pass(&mut self, kind: u8) -> Result<(), Refusal<GdsKind>>
+    fn pass(&mut self, kind: u8) -> Result<(), Cause<GdsKind>>
         requires unended { self.old.reading.builder.place ≢ Fill }
         ensures takes { (rs : List Rec) (r : Rec) → r.kind ≡ kind → is_passed self.old.ignore r ≡ true
             → HasReadBy self.old.ignore self.old rs → TakesBy self.old.ignore rs r self.new result }
         ensures ignore { self.new.ignore ≡ self.old.ignore }
     {
         if !self.may_pass(kind) {
-            return Err(Refusal::Breach(GdsKind::Misplaced(Misplaced::Unexpected(kind))));
+            return Err(Cause::Breach(GdsKind::Misplaced(Misplaced::Unexpected(kind))));
         }
         self.last = Some(kind);
         Ok(())
@@ -105,7 +105,7 @@ impl WithIgnored {
         alloc: Global,
         kind: u8,
         payload: &[u8],
-    ) -> Result<(), Refusal<GdsKind>>
+    ) -> Result<(), Cause<GdsKind>>
         requires formed { IsFormed kind payload.now }
         requires in_element { IsFormedInElement kind payload.now }
         ensures takes { (rs : List Rec) (d : ℕ) → is_passed self.old.ignore (record_of kind d payload.now) ≡ false
@@ -114,7 +114,7 @@ impl WithIgnored {
         ensures ignore { self.new.ignore ≡ self.old.ignore }
     {
         if self.awaits_value() {
-            return Err(Refusal::Breach(GdsKind::Misplaced(misplaced(kind))));
+            return Err(Cause::Breach(GdsKind::Misplaced(misplaced(kind))));
         }
         self.reading.take(alloc, kind, payload)?;
         self.last = Some(kind);

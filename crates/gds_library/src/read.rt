@@ -7,7 +7,7 @@ ghost use Rattle.lvl_grammar.specs.inside.ReadTo.{ReadTo};
 ghost use Rattle.gds_records.specs.Records.{has_failed, bytes_left, records_offset, records_reader};
 ghost use Rattle.gds_records.specs.Records.{records_ignore};
 ghost use Rattle.gds_library.specs.Front.{gds, IsRead, SpellsNone};
-ghost use Rattle.gds_library.specs.Ends.{Tells, TellsUnread, IsExcused, IsEarly, is_read};
+ghost use Rattle.gds_library.specs.Ends.{Reports, ReportsUnread, IsExcused, IsEarly, is_read};
 ghost use Rattle.gds_library.specs.inside.Holds.{HasReadBy};
 ghost use Rattle.lvl_ignore.specs.Ignored.{nothing};
 ghost use Rattle.gds_library.specs.inside.Refuses.{Refuses};
@@ -20,7 +20,7 @@ use gds_records::{RecordFault, Records, Stopped};
 use lvl_cells::Library;
 use lvl_ignore::Ignore;
 use lvl_io::{Buffer, Read};
-use lvl_refusal::Refusal;
+use lvl_refusal::Cause;
 use std::alloc::Global;
 
 /// The library that a GDSII stream spells, and what the stream says of itself.
@@ -34,20 +34,20 @@ use std::alloc::Global;
 pub fn read_gds<R: Read>(
     alloc: Global,
     reader: &mut R,
-) -> Result<(Library, GdsHead), Refusal<GdsFault>>
+) -> Result<(Library, GdsHead), Cause<GdsFault>>
     // What is read is spelled, and nothing else is.
     ensures spelled { (xs : List ℕ) → R.remaining reader.old ≡ Some xs
         → IfOk result (λ read. IsRead nothing xs read.0 read.1) }
 
     // A refusal names what is wrong, and nothing is spelled, unless an allocation or the reader failed.
     ensures refused { (xs : List ℕ) → R.remaining reader.old ≡ Some xs
-        → IfErr result (λ refusal. Says refusal (Tells nothing xs)) }
+        → IfErr result (λ refusal. Says refusal (Reports nothing xs)) }
     ensures none { (xs : List ℕ) → R.remaining reader.old ≡ Some xs
         → IfErr result (λ refusal. Says refusal (λ fault. (¬ IsExcused fault) → SpellsNone nothing xs)) }
 
     // Where the reader failed, it had given no whole record from the offset on.
     ensures unread { (xs : List ℕ) → R.remaining reader.old ≡ Some xs
-        → IfErr result (λ refusal. Says refusal (TellsUnread nothing xs (R.remaining reader.new))) }
+        → IfErr result (λ refusal. Says refusal (ReportsUnread nothing xs (R.remaining reader.new))) }
 
     // Unless the input ended too early, nothing is spelled whatever comes after the bytes taken.
     ensures early { (xs : List ℕ) → R.remaining reader.old ≡ Some xs
@@ -73,20 +73,20 @@ pub fn read_gds_by<R: Read>(
     alloc: Global,
     reader: &mut R,
     ignore: Ignore,
-) -> Result<(Library, GdsHead), Refusal<GdsFault>>
+) -> Result<(Library, GdsHead), Cause<GdsFault>>
     // What is read is spelled, and nothing else is.
     ensures spelled { (xs : List ℕ) → R.remaining reader.old ≡ Some xs
         → IfOk result (λ read. IsRead ignore xs read.0 read.1) }
 
     // A refusal names what is wrong, and nothing is spelled, unless an allocation or the reader failed.
     ensures refused { (xs : List ℕ) → R.remaining reader.old ≡ Some xs
-        → IfErr result (λ refusal. Says refusal (Tells ignore xs)) }
+        → IfErr result (λ refusal. Says refusal (Reports ignore xs)) }
     ensures none { (xs : List ℕ) → R.remaining reader.old ≡ Some xs
         → IfErr result (λ refusal. Says refusal (λ fault. (¬ IsExcused fault) → SpellsNone ignore xs)) }
 
     // Where the reader failed, it had given no whole record from the offset on.
     ensures unread { (xs : List ℕ) → R.remaining reader.old ≡ Some xs
-        → IfErr result (λ refusal. Says refusal (TellsUnread ignore xs (R.remaining reader.new))) }
+        → IfErr result (λ refusal. Says refusal (ReportsUnread ignore xs (R.remaining reader.new))) }
 
     // Unless the input ended too early, nothing is spelled whatever comes after the bytes taken.
     ensures early { (xs : List ℕ) → R.remaining reader.old ≡ Some xs
@@ -109,7 +109,7 @@ fn read_library<R: Read>(
     alloc: Global,
     records: &mut Records<R>,
     ignore: Ignore,
-) -> Result<(Library, GdsHead), Refusal<GdsFault>>
+) -> Result<(Library, GdsHead), Cause<GdsFault>>
     requires ignore { records_ignore records.old ≡ ignore }
     requires fresh { has_failed records.old ≡ false }
     requires start { records_offset records.old ≡ 0 }
@@ -130,10 +130,10 @@ fn read_library<R: Read>(
     }
 }
 
-fn refuse(offset: u64, kind: GdsKind) -> Refusal<GdsFault>
-    ensures { result ≡ Refusal.Breach (record { offset = offset; kind = kind }) }
+fn refuse(offset: u64, kind: GdsKind) -> Cause<GdsFault>
+    ensures { result ≡ Cause.Breach (record { offset = offset; kind = kind }) }
 {
-    Refusal::Breach(GdsFault { offset, kind })
+    Cause::Breach(GdsFault { offset, kind })
 }
 
 // Reads records up to the one that ends the library.
@@ -141,7 +141,7 @@ fn read_all<R: Read>(
     alloc: Global,
     records: &mut Records<R>,
     ignore: Ignore,
-) -> Result<WithIgnored, Refusal<GdsFault>>
+) -> Result<WithIgnored, Cause<GdsFault>>
     requires ignore { records_ignore records.old ≡ ignore }
     requires fresh { has_failed records.old ≡ false }
     requires start { records_offset records.old ≡ 0 }
@@ -163,8 +163,8 @@ fn read_all<R: Read>(
         match records.next() {
             Ok(Some(record)) => match reading.take(alloc, record.kind, record.payload) {
                 Ok(()) => {}
-                Err(Refusal::Breach(kind)) => return Err(refuse(offset, kind)),
-                Err(Refusal::OutOfMemory) => return Err(Refusal::OutOfMemory),
+                Err(Cause::Breach(kind)) => return Err(refuse(offset, kind)),
+                Err(Cause::OutOfMemory) => return Err(Cause::OutOfMemory),
             },
             Ok(None) => return Err(refuse(offset, GdsKind::Record(RecordFault::Truncated))),
             Err(Stopped::Fault(fault)) => return Err(refuse(offset, GdsKind::Record(fault))),

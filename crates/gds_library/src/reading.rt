@@ -12,7 +12,7 @@ use crate::fault::GdsKind;
 use crate::head::GdsHead;
 use gds_elements::{Element, ElementFault, Step};
 use lvl_cells::Library;
-use lvl_refusal::Refusal;
+use lvl_refusal::Cause;
 use std::alloc::Global;
 
 /// What was read so far: a library, and the element that is open in its last cell.
@@ -67,7 +67,7 @@ impl Reading {
         alloc: Global,
         kind: u8,
         payload: &[u8],
-    ) -> Result<(), Refusal<GdsKind>>
+    ) -> Result<(), Cause<GdsKind>>
         requires formed { IsFormed kind payload.now }
         requires in_element { IsFormedInElement kind payload.now }
         ensures { (rs : List Rec) (d : ℕ) → HasRead self.old rs
@@ -86,7 +86,7 @@ impl Reading {
         alloc: Global,
         kind: u8,
         payload: &[u8],
-    ) -> Result<(), Refusal<GdsKind>>
+    ) -> Result<(), Cause<GdsKind>>
         requires open { self.old.element ≡ None }
         requires in_element { IsFormedInElement kind payload.now }
         ensures { (rs : List Rec) (d : ℕ) → IsInside self.old.builder element rs
@@ -111,7 +111,7 @@ impl Reading {
         alloc: Global,
         kind: u8,
         payload: &[u8],
-    ) -> Result<(), Refusal<GdsKind>>
+    ) -> Result<(), Cause<GdsKind>>
         requires none { self.old.element ≡ None }
         requires formed { IsFormed kind payload.now }
         ensures { (rs : List Rec) (d : ℕ) → Holds self.old.builder rs
@@ -129,14 +129,14 @@ impl Reading {
 }
 
 // A refusal of an element's record, as one of the library's.
-fn lifted(refusal: Refusal<ElementFault>) -> Refusal<GdsKind>
+fn lifted(refusal: Cause<ElementFault>) -> Cause<GdsKind>
     ensures { result ≡ lifted_refusal refusal }
 {
     match refusal {
-        Refusal::Breach(ElementFault::Misplaced(misplaced)) => {
-            Refusal::Breach(GdsKind::Misplaced(misplaced))
+        Cause::Breach(ElementFault::Misplaced(misplaced)) => {
+            Cause::Breach(GdsKind::Misplaced(misplaced))
         }
-        Refusal::Breach(ElementFault::Rule(rule)) => Refusal::Breach(GdsKind::Element(rule)),
-        Refusal::OutOfMemory => Refusal::OutOfMemory,
+        Cause::Breach(ElementFault::Rule(rule)) => Cause::Breach(GdsKind::Element(rule)),
+        Cause::OutOfMemory => Cause::OutOfMemory,
     }
 }

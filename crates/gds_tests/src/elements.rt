@@ -8,7 +8,7 @@ use lvl_cells::Reference;
 use lvl_grid::{Point, Ring, Turn};
 use lvl_names::Layer;
 use lvl_path::PathFault;
-use lvl_refusal::Refusal;
+use lvl_refusal::Cause;
 use std::alloc::{AllocError, Global};
 use std::process::Abort;
 use std::test::Fail;
@@ -96,8 +96,8 @@ fn read(alloc: Global, lines: &[Line]) -> Result<Drawn, Stop> {
         match element.take(alloc, *kind, &payload) {
             Ok(Step::Open(next)) => element = next,
             Ok(Step::Whole(drawn)) => return Ok(drawn),
-            Err(Refusal::Breach(kind)) => return Err(Stop::At(n, kind)),
-            Err(Refusal::OutOfMemory) => return Err(Stop::OutOfMemory),
+            Err(Cause::Breach(kind)) => return Err(Stop::At(n, kind)),
+            Err(Cause::OutOfMemory) => return Err(Stop::OutOfMemory),
         }
     }
     Err(Stop::Incomplete)

@@ -3,7 +3,7 @@
 use gds_library::{GdsFault, GdsKind, Misplaced, RecordFault, read_gds_by};
 use lvl_ignore::Ignore;
 use lvl_io::fake::Pieces;
-use lvl_refusal::Refusal;
+use lvl_refusal::Cause;
 use std::alloc::{AllocError, Global};
 use std::process::Abort;
 use std::test::Fail;
@@ -29,7 +29,7 @@ pub enum Found {
 pub type Row = (usize, &'static [&'static [u8]], Found);
 
 /// A library and its head as text, or why there is none.
-type Answer = Result<String, Refusal<GdsFault>>;
+type Answer = Result<String, Cause<GdsFault>>;
 
 const PROPERTIES_ALONE: Ignore = Ignore {
     properties: true,
@@ -72,13 +72,13 @@ fn with(alloc: Global, index: usize, more: &[&[u8]]) -> Result<Vec<u8>, AllocErr
 fn read(alloc: Global, bytes: &[u8], ignore: Ignore) -> Result<Answer, AllocError> {
     match read_gds_by(alloc, &mut Pieces::new(bytes, 50), ignore) {
         Ok((library, head)) => Ok(Ok(format!(in alloc; "{head:?} {library:?}")?)),
-        Err(Refusal::OutOfMemory) => Err(AllocError),
+        Err(Cause::OutOfMemory) => Err(AllocError),
         Err(refusal) => Ok(Err(refusal)),
     }
 }
 
 /// The refusal that is found, if there is one.
-fn refusal_of(found: Found) -> Option<Refusal<GdsFault>> {
+fn refusal_of(found: Found) -> Option<Cause<GdsFault>> {
     let (offset, kind) = match found {
         Found::Same => return None,
         Found::Unexpected(at, kind) => (at, GdsKind::Misplaced(Misplaced::Unexpected(kind))),
@@ -87,14 +87,14 @@ fn refusal_of(found: Found) -> Option<Refusal<GdsFault>> {
         Found::BadLength(at) => (at, GdsKind::Record(RecordFault::BadLength)),
         Found::AfterEnd(at) => (at, GdsKind::AfterEnd),
     };
-    Some(Refusal::Breach(GdsFault { offset, kind }))
+    Some(Cause::Breach(GdsFault { offset, kind }))
 }
 
 /// Whether this is found; `plain` is the text of the library without the records that are ignored.
 fn is_found(found: Found, plain: &str, answer: &Answer) -> bool {
     match (refusal_of(found), answer) {
         (None, Ok(text)) => text.as_str() == plain,
-        (Some(refusal), Err(told)) => *told == refusal,
+        (Some(refusal), Err(reported)) => *reported == refusal,
         _ => false,
     }
 }
@@ -246,7 +246,7 @@ fn entries_of_security(rt: HostRuntime) -> Result<(), Fail> {
 
 /// A stream is truncated at the record that isn't whole, whether it is ignored or not.
 #[test]
-fn tells_each_cut(rt: HostRuntime) -> Result<(), Fail> {
+fn reports_each_cut(rt: HostRuntime) -> Result<(), Fail> {
     let bytes = with(rt.alloc(), 3, &[REFLIBS, FORMAT_0])?;
     // REFLIBS from 40 to 48, FORMAT 0 from 48 to 54, UNITS from 54 to 74
     let starts: [usize; 8] = [0, 6, 34, 40, 48, 54, 74, 102];
@@ -258,11 +258,11 @@ fn tells_each_cut(rt: HostRuntime) -> Result<(), Fail> {
             .ok_or("a start")?;
         let mut reader = Pieces::new(bytes.get(..k).ok_or("bytes")?, 7);
         let read = read_gds_by(rt.alloc(), &mut reader, Ignore::EVERYTHING);
-        let told = GdsFault {
+        let reported = GdsFault {
             offset: *start as u64,
             kind: GdsKind::Record(RecordFault::Truncated),
         };
-        assert_eq!(rt; read.err(), Some(Refusal::Breach(told)), "cut to {k}");
+        assert_eq!(rt; read.err(), Some(Cause::Breach(reported)), "cut to {k}");
     }
     Ok(())
 }

@@ -8,7 +8,7 @@ use lvl_cells::Library;
 use lvl_grid::Point;
 use lvl_io::fake::Pieces;
 use lvl_names::Layer;
-use lvl_refusal::Refusal;
+use lvl_refusal::Cause;
 use std::alloc::{AllocError, Global};
 use std::test::Fail;
 
@@ -41,13 +41,13 @@ fn begun(k: usize) -> u64 {
 }
 
 /// What is read of these bytes, at most `most` at a read.
-fn read(alloc: Global, bytes: &[u8], most: usize) -> Result<(Library, GdsHead), Refusal<GdsFault>> {
+fn read(alloc: Global, bytes: &[u8], most: usize) -> Result<(Library, GdsHead), Cause<GdsFault>> {
     let mut reader = Pieces::new(bytes, most);
     read_gds(alloc, &mut reader)
 }
 
-fn at(offset: u64, kind: GdsKind) -> Option<Refusal<GdsFault>> {
-    Some(Refusal::Breach(GdsFault { offset, kind }))
+fn at(offset: u64, kind: GdsKind) -> Option<Cause<GdsFault>> {
+    Some(Cause::Breach(GdsFault { offset, kind }))
 }
 
 #[test]
@@ -185,7 +185,7 @@ fn tests_points_in_order(rt: HostRuntime) -> Result<(), Fail> {
     let least: [(i32, i32); 4] = [(0, 0), (1, 0), (0, 0), (0, 0)];
     let lowest = i32::MIN;
     let far: [(i32, i32); 4] = [(lowest, 0), (0, 0), (lowest, 0), (lowest, 0)];
-    let rows: [(&[(i32, i32)], Option<Refusal<GdsFault>>); 5] = [
+    let rows: [(&[(i32, i32)], Option<Cause<GdsFault>>); 5] = [
         (&three, at(112, GdsKind::Element(ElementRule::Points))),
         (&unclosed, at(112, GdsKind::Element(ElementRule::NotClosed))),
         (&oblique, at(112, GdsKind::Element(ElementRule::Oblique))),
@@ -233,7 +233,7 @@ fn names_have_up_to_255_bytes(rt: HostRuntime) -> Result<(), Fail> {
 }
 
 #[test]
-fn tells_each_cut(rt: HostRuntime) -> Result<(), Fail> {
+fn reports_each_cut(rt: HostRuntime) -> Result<(), Fail> {
     let bytes = square(rt.alloc())?;
     for k in 0..bytes.len() {
         let fault = at(begun(k), GdsKind::Record(RecordFault::Truncated));
@@ -249,8 +249,8 @@ fn tells_each_cut(rt: HostRuntime) -> Result<(), Fail> {
 }
 
 #[test]
-fn takes_zero_bytes_alone_behind_the_end(rt: HostRuntime) -> Result<(), Fail> {
-    let rows: [(usize, &[u8], Option<Refusal<GdsFault>>); 4] = [
+fn takes_zero_bytes_alone_after_the_end(rt: HostRuntime) -> Result<(), Fail> {
+    let rows: [(usize, &[u8], Option<Cause<GdsFault>>); 4] = [
         (1880, b"", None),
         (0, b"\x01", at(168, GdsKind::AfterEnd)),
         (70_000, b"\x01\0", at(70_168, GdsKind::AfterEnd)),
@@ -296,9 +296,9 @@ fn reads_pieces_of_any_size_alike(rt: HostRuntime) -> Result<(), Fail> {
     Ok(())
 }
 
-/// Whether this is what is told of `square` with the byte at a place set to another value: the fault
+/// Whether this is what is reported of `square` with the byte at a place set to another value: the fault
 /// that its payload's rule names, and of a header some fault no earlier than its record.
-fn is_told(place: usize, value: u8, fault: Option<Refusal<GdsFault>>) -> bool {
+fn is_reported(place: usize, value: u8, fault: Option<Cause<GdsFault>>) -> bool {
     match place {
         // a version, times, the library's name and units, a number's lowest byte: they are free
         4..=5 | 10..=33 | 38..=39 | 44..=59 | 64..=87 | 105 | 111 => fault.is_none(),
@@ -323,7 +323,7 @@ fn is_told(place: usize, value: u8, fault: Option<Refusal<GdsFault>>) -> bool {
         116..=155 => fault == at(112, GdsKind::Element(ElementRule::NotClosed))
             || fault == at(112, GdsKind::Element(ElementRule::Oblique)),
         _ => match fault {
-            Some(Refusal::Breach(GdsFault { offset, kind: _ })) => begun(place) <= offset
+            Some(Cause::Breach(GdsFault { offset, kind: _ })) => begun(place) <= offset
                 && offset <= 168,
             _ => false,
         },
@@ -331,7 +331,7 @@ fn is_told(place: usize, value: u8, fault: Option<Refusal<GdsFault>>) -> bool {
 }
 
 #[test]
-fn tells_each_byte_that_is_set(rt: HostRuntime) -> Result<(), Fail> {
+fn reports_each_byte_that_is_set(rt: HostRuntime) -> Result<(), Fail> {
     let square = square(rt.alloc())?;
     for (place, kept) in square.iter().enumerate() {
         let mut bytes = Vec::from_slice(rt.alloc(), &square)?;
@@ -344,7 +344,7 @@ fn tells_each_byte_that_is_set(rt: HostRuntime) -> Result<(), Fail> {
                 assert_eq!(rt; fault, None);
             } else {
                 assert!(rt;
-                    is_told(place, value, fault),
+                    is_reported(place, value, fault),
                     "byte {place} is {value}: {fault:?}"
                 );
             }
@@ -354,7 +354,7 @@ fn tells_each_byte_that_is_set(rt: HostRuntime) -> Result<(), Fail> {
 }
 
 #[test]
-fn tells_a_failed_read(rt: HostRuntime) -> Result<(), Fail> {
+fn reports_a_failed_read(rt: HostRuntime) -> Result<(), Fail> {
     let bytes = square(rt.alloc())?;
     for k in 0..=bytes.len() {
         let mut reader = Pieces::failing(&bytes[..k], 100);

@@ -7,7 +7,7 @@ use lvl_cells::{CellFault, Library, Reference, check};
 use lvl_grid::{Point, Turn};
 use lvl_io::fake::Pieces;
 use lvl_path::PathFault;
-use lvl_refusal::Refusal;
+use lvl_refusal::Cause;
 use std::alloc::{AllocError, Global};
 use std::test::Fail;
 
@@ -16,14 +16,14 @@ const CORNER: [(i32, i32); 3] = [(0, 0), (10, 0), (10, 10)];
 const ANGLE_90: [u8; 8] = [0x42, 0x5A, 0, 0, 0, 0, 0, 0];
 
 /// The cells of a stream, which is cut into pieces of seven bytes.
-fn read(alloc: Global, bytes: &[u8]) -> Result<Library, Refusal<GdsFault>> {
+fn read(alloc: Global, bytes: &[u8]) -> Result<Library, Cause<GdsFault>> {
     let mut reader = Pieces::new(bytes, 7);
     let (library, _) = read_gds(alloc, &mut reader)?;
     Ok(library)
 }
 
-fn at(offset: u64, kind: GdsKind) -> Option<Refusal<GdsFault>> {
-    Some(Refusal::Breach(GdsFault { offset, kind }))
+fn at(offset: u64, kind: GdsKind) -> Option<Cause<GdsFault>> {
+    Some(Cause::Breach(GdsFault { offset, kind }))
 }
 
 /// A library whose structure TOP is open: its first element begins at 96.
@@ -111,7 +111,7 @@ fn array_tiles(rt: HostRuntime) -> Result<(), Fail> {
 /// Rows array-tiles and array-limits: which arrays are refused, and where.
 #[test]
 fn array_limits(rt: HostRuntime) -> Result<(), Fail> {
-    let rows: [(i16, i16, [(i32, i32); 3], Option<Refusal<GdsFault>>); 5] = [
+    let rows: [(i16, i16, [(i32, i32); 3], Option<Cause<GdsFault>>); 5] = [
         (
             3,
             2,
@@ -165,7 +165,7 @@ fn flip_then_turn(rt: HostRuntime) -> Result<(), Fail> {
 #[test]
 fn short_run(rt: HostRuntime) -> Result<(), Fail> {
     let short: [(i32, i32); 3] = [(0, 0), (10, 0), (10, 1)];
-    let rows: [(i32, Option<Refusal<GdsFault>>); 4] = [
+    let rows: [(i32, Option<Cause<GdsFault>>); 4] = [
         (
             4,
             at(
@@ -239,7 +239,7 @@ fn cycle(rt: HostRuntime) -> Result<(), Fail> {
     let library = read(rt.alloc(), &stream.end()?)?;
     assert_eq!(rt; library.cells.len(), 3);
     match check(rt.alloc(), library, None) {
-        Err(Refusal::Breach(CellFault::Cycle(names))) => {
+        Err(Cause::Breach(CellFault::Cycle(names))) => {
             assert_eq!(rt; names.len(), 2);
             let first = names.first().ok_or("a name")?;
             assert_eq!(rt; first.as_slice(), b"A".as_slice());

@@ -65,7 +65,7 @@ struct Walk {
     offset: u64,
 }
 
-/// Reads records up to the end or to a fault, behind which every call has to answer `Failed`.
+/// Reads records up to the end or to a fault, after which every call has to answer `Failed`.
 fn read_on<R: Read>(rt: &impl Abort, records: &mut Records<R>) -> Walk {
     let mut count = 0u32;
     let mut checksum = 0u64;
@@ -162,7 +162,7 @@ fn tests_a_header_in_order(rt: HostRuntime) -> Result<(), Fail> {
 }
 
 #[test]
-fn tells_each_cut(rt: HostRuntime) -> Result<(), Fail> {
+fn reports_each_cut(rt: HostRuntime) -> Result<(), Fail> {
     let bytes = square(rt.alloc())?;
     for k in 0..bytes.len() {
         let mut records = Records::new(rt.alloc(), Pieces::new(&bytes[..k], 100))?;
@@ -180,7 +180,7 @@ fn tells_each_cut(rt: HostRuntime) -> Result<(), Fail> {
 }
 
 #[test]
-fn takes_zero_bytes_alone_behind_the_end(rt: HostRuntime) -> Result<(), Fail> {
+fn takes_zero_bytes_alone_after_the_end(rt: HostRuntime) -> Result<(), Fail> {
     let rows: [(usize, &[u8], Option<u64>); 5] = [
         (0, b"", None),
         (1880, b"", None),
@@ -248,7 +248,7 @@ fn reads_pieces_of_any_size_alike(rt: HostRuntime) -> Result<(), Fail> {
 }
 
 #[test]
-fn tells_a_failed_read_once(rt: HostRuntime) -> Result<(), Fail> {
+fn reports_a_failed_read_once(rt: HostRuntime) -> Result<(), Fail> {
     let bytes = square(rt.alloc())?;
     for k in 0..=bytes.len() {
         let mut records = Records::new(rt.alloc(), Pieces::failing(&bytes[..k], 100))?;

@@ -85,12 +85,10 @@ fn halves_find(
     at: i64,
     want: Found,
 ) -> Result<bool, AllocError> {
-    let mut left = (Rings::new(alloc), Rings::new(alloc));
-    let mut right = (Rings::new(alloc), Rings::new(alloc));
-    a.split_into(at, &mut left.0, &mut right.0)?;
-    b.split_into(at, &mut left.1, &mut right.1)?;
-    let first = difference_by_columns(alloc, &left.0, &left.1)?;
-    let second = difference_by_columns(alloc, &right.0, &right.1)?;
+    let (a_left, a_right) = a.split_at(alloc, at)?;
+    let (b_left, b_right) = b.split_at(alloc, at)?;
+    let first = difference_by_columns(alloc, &a_left, &b_left)?;
+    let second = difference_by_columns(alloc, &a_right, &b_right)?;
     Ok(lesser(first, second) == want)
 }
 

@@ -104,9 +104,7 @@ fn rings_are_clipped_and_tidied(rt: HostRuntime) -> Result<(), Fail> {
 
 /// Whether the rings on both sides of an abscissa cover, together, what the rings cover.
 fn splits(alloc: Global, rings: &Rings, at: i64) -> Result<bool, AllocError> {
-    let mut left = Rings::new(alloc);
-    let mut right = Rings::new(alloc);
-    rings.split_into(at, &mut left, &mut right)?;
+    let (left, right) = rings.split_at(alloc, at)?;
     for y in -2..10 {
         for x in -2..10 {
             let square = Square { x, y };
@@ -211,9 +209,7 @@ fn growths_in_one_piece(rt: HostRuntime) -> Result<(), Fail> {
     let many = if pushed.is_ok() { 20 } else { before };
     assert!(rt; rings.points().len() == many);
     pushed?;
-    let mut left = Rings::new(alloc);
-    let mut right = Rings::new(alloc);
-    rings.split_into(3, &mut left, &mut right)?;
+    let (left, right) = rings.split_at(alloc, 3)?;
     assert!(rt; left.len() == 3 && right.len() == 3);
     Ok(())
 }

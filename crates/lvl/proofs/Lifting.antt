@@ -48,19 +48,19 @@ by_found P file cells head read p others h s = subst P (found_as file cells head
 
 -- the check of cells
 
-pub cell_told : (file : File) (cells : List (PlainCell Rings)) (head : Head)
+pub cell_reported : (file : File) (cells : List (PlainCell Rings)) (head : Head)
     → IsLayoutOf file.ignore file.bytes cells head
     → (fault : CellFault) → IsCellFault (record { cells = cells; top = file.top }) fault
     → (others : List Drawing) (h : Head) → Spells file.ignore file.bytes others h
     → IsCellFault (kept_of file others) fault
-cell_told file cells head read fault told =
-    by_found (λ c. IsCellFault (record { cells = c; top = file.top }) fault) file cells head read told
+cell_reported file cells head read fault reported =
+    by_found (λ c. IsCellFault (record { cells = c; top = file.top }) fault) file cells head read reported
 
 pub cell_unaccepted : (file : File) (cells : List (PlainCell Rings)) (head : Head)
     → IsLayoutOf file.ignore file.bytes cells head
     → (fault : CellFault) → IsCellFault (record { cells = cells; top = file.top }) fault → IsUnaccepted file
-cell_unaccepted file cells head read fault told others top accepted =
-    let here = cell_told file cells head read fault told others accepted.head accepted.spelled in
+cell_unaccepted file cells head read fault reported others top accepted =
+    let here = cell_reported file cells head read fault reported others accepted.head accepted.spelled in
     let fits = (fits_kept figure_rings others top).0 accepted.fits in
     here.unsound (record {
       index = accepted.index;
@@ -166,44 +166,46 @@ lifted file cells head read sheets f =
           (λ h. r.0 (q.0 h), λ h. q.1 (r.1 h));
     }
 
-pub range_told : (file : File) (cells : List (PlainCell Rings)) (head : Head)
+pub range_reported : (file : File) (cells : List (PlainCell Rings)) (head : Head)
     → IsLayoutOf file.ignore file.bytes cells head
     → (fault : FlatFault) → IsRangeFault (record { cells = cells; top = file.top }) fault
     → (others : List Drawing) (h : Head) → Spells file.ignore file.bytes others h
     → IsRangeFault (kept_of file others) fault
-range_told file cells head read fault told =
-    by_found (λ c. IsRangeFault (record { cells = c; top = file.top }) fault) file cells head read told
+range_reported file cells head read fault reported =
+    by_found (λ c. IsRangeFault (record { cells = c; top = file.top }) fault) file cells head read reported
 
 out_of_range : (file : File) (others : List Drawing) (top : Drawing) (s : Settled) (name : List ℕ)
     → IsAccepted file others top → IsCheckedAs (kept_of file others) s → IsOutOfRange s name → ⊥
-out_of_range file others top s name accepted checked told =
+out_of_range file others top s name accepted checked reported =
     let e : s.cells ≡ kept figure_rings others = checked.cells in
     let same : accepted.index ≡ s.top =
     one_top (kept figure_rings others) file.top accepted.index s.top
     ((sound_kept figure_rings others file.top accepted.index).0 accepted.sound)
     (subst (λ (c : List (PlainCell Rings)). IsSound c file.top s.top) e checked.sound.sound) in
-    let at : slice_get (kept figure_rings others) s.top ≡ Some told.top =
-    subst (λ (c : List (PlainCell Rings)). slice_get c s.top ≡ Some told.top) e told.is_top in
-    let cell : drawn figure_rings top ≡ told.top =
-    one_cell (kept figure_rings others) accepted.index s.top (drawn figure_rings top) told.top
+    let at : slice_get (kept figure_rings others) s.top ≡ Some reported.top =
+    subst (λ (c : List (PlainCell Rings)). slice_get c s.top ≡ Some reported.top) e reported.is_top in
+    let cell : drawn figure_rings top ≡ reported.top =
+    one_cell (kept figure_rings others) accepted.index s.top (drawn figure_rings top) reported.top
     (cell_kept figure_rings others accepted.index top accepted.top_is) at same in
     let fits = (fits_kept figure_rings others top).0 accepted.fits in
-    let chain : Chain (kept figure_rings others) (drawn figure_rings top) told.steps told.map told.cell =
-    subst (λ (c : PlainCell Rings). Chain (kept figure_rings others) c told.steps told.map told.cell) (sym cell)
-    (subst (λ (c : List (PlainCell Rings)). Chain c told.top told.steps told.map told.cell) e told.chain) in
-    told.out (fits.in_range told.steps told.map told.cell chain)
+    let chain : Chain (kept figure_rings others) (drawn figure_rings top) reported.steps reported.map reported.cell =
+    subst
+    (λ (c : PlainCell Rings). Chain (kept figure_rings others) c reported.steps reported.map reported.cell) (sym cell)
+    (subst (λ (c : List (PlainCell Rings)). Chain c reported.top reported.steps reported.map reported.cell) e
+    reported.chain) in
+    reported.out (fits.in_range reported.steps reported.map reported.cell chain)
 
 fault_in_range : (file : File) (others : List Drawing) (top : Drawing) (s : Settled) (fault : FlatFault)
     → IsAccepted file others top → IsCheckedAs (kept_of file others) s → IsFlatFault s fault → ⊥
-fault_in_range file others top s (OutOfRange name) accepted checked told =
-    out_of_range file others top s name.items accepted checked told
+fault_in_range file others top s (OutOfRange name) accepted checked reported =
+    out_of_range file others top s name.items accepted checked reported
 
 pub range_unaccepted : (file : File) (cells : List (PlainCell Rings)) (head : Head)
     → IsLayoutOf file.ignore file.bytes cells head
     → (fault : FlatFault) → IsRangeFault (record { cells = cells; top = file.top }) fault → IsUnaccepted file
-range_unaccepted file cells head read fault told others top accepted =
-    let here = range_told file cells head read fault told others accepted.head accepted.spelled in
-    fault_in_range file others top here.settled fault accepted here.checked here.told
+range_unaccepted file cells head read fault reported others top accepted =
+    let here = range_reported file cells head read fault reported others accepted.head accepted.spelled in
+    fault_in_range file others top here.settled fault accepted here.checked here.reported
 
 -- the verdict
 

@@ -14,7 +14,7 @@ use Rattle.lvl.specs.Kept.{Kept, Passes, IsFitted, IsKeptRefusal}
 use Rattle.lvl.specs.Answers.{HasPassed, IsEarlyOf, IsRefusalOf, PassesCheck}
 use Rattle.lvl.specs.declared.layout.FileFault.{FileFault}
 use Rattle.lvl.specs.Sides.{IsOfFile, IsReadRefusal}
-use Rattle.lvl.proofs.Lifting.{cell_told, cell_unaccepted, range_told, range_unaccepted, top_lifted}
+use Rattle.lvl.proofs.Lifting.{cell_reported, cell_unaccepted, range_reported, range_unaccepted, top_lifted}
 
 first_second : First ≡ Second → ⊥
 first_second e = cc
@@ -43,14 +43,14 @@ none_before First file Second f e = absurd (first_second (sym e))
 none_before Second file s f e = tt
 
 pub no_memory : (side : Side) (file : File) → IsRefusalOf side file OutOfMemory
-no_memory First file = record { unaccepted = λ b. absurd b; told = tt; passed = tt }
-no_memory Second file = record { unaccepted = λ b. absurd b; told = tt; passed = tt }
+no_memory First file = record { unaccepted = λ b. absurd b; reported = tt; passed = tt }
+no_memory Second file = record { unaccepted = λ b. absurd b; reported = tt; passed = tt }
 
 pub file_refused : (side : Side) (file : File) (r : Refusal) → IsReadRefusal side file.ignore file.bytes r
     → IsRefusalOf side file r
 file_refused side file (FileRefusal s f) h = record {
   unaccepted = λ b cells top accepted. h.1.nothing b.1 cells accepted.head accepted.spelled;
-  told = λ e. h.1.told;
+  reported = λ e. h.1.reported;
   passed = none_before side file s f h.0;
 }
 file_refused side file (CellsRefusal s f) h = absurd h
@@ -62,7 +62,7 @@ file_refused side file OutOfMemory h = no_memory side file
 pub second_of_first : (file : File) (r : Refusal) → IsOfFile First r → IsRefusalOf Second file r
 second_of_first file (FileRefusal s f) h = record {
   unaccepted = λ b. absurd (first_second (sym h ∙ b.0));
-  told = λ e. absurd (first_second (sym h ∙ e));
+  reported = λ e. absurd (first_second (sym h ∙ e));
   passed = tt;
 }
 second_of_first file (CellsRefusal s f) h = absurd h
@@ -76,7 +76,7 @@ pub first_of_second : (file : File) (cells : List (PlainCell Rings)) (head : Hea
 first_of_second file cells head read (FileRefusal First f) h = absurd (first_second h)
 first_of_second file cells head read (FileRefusal Second f) h = record {
   unaccepted = λ b. absurd (first_second (sym b.0));
-  told = λ e. absurd (first_second (sym e));
+  reported = λ e. absurd (first_second (sym e));
   passed = spells file cells head read;
 }
 first_of_second file cells head read (CellsRefusal s f) h = absurd h
@@ -92,22 +92,22 @@ pub first_refused : (a : File) (k : Kept) (cells : List (PlainCell Rings)) (head
 first_refused a k cells head read (FileRefusal s f) h = absurd h
 first_refused a k cells head read (CellsRefusal First f) h = record {
   unaccepted = λ b. cell_unaccepted a cells head read f h;
-  told = λ e. cell_told a cells head read f h;
+  reported = λ e. cell_reported a cells head read f h;
   passed = spells a cells head read;
 }
 first_refused a k cells head read (CellsRefusal Second f) h = record {
   unaccepted = λ b. absurd (first_second (sym b));
-  told = λ e. absurd (first_second (sym e));
+  reported = λ e. absurd (first_second (sym e));
   passed = passes a cells head read h.0;
 }
 first_refused a k cells head read (FlatRefusal First f) h = record {
   unaccepted = λ b. range_unaccepted a cells head read f h.0;
-  told = λ e. range_told a cells head read f h.0;
+  reported = λ e. range_reported a cells head read f h.0;
   passed = passes a cells head read (h.0.settled, h.0.checked);
 }
 first_refused a k cells head read (FlatRefusal Second f) h = record {
   unaccepted = λ b. absurd (first_second (sym b));
-  told = λ e. absurd (first_second (sym e));
+  reported = λ e. absurd (first_second (sym e));
   passed = accepts a cells head read h.0;
 }
 first_refused a k cells head read OutOfMemory h = no_memory First a
@@ -118,22 +118,22 @@ pub second_refused : (b : File) (k : Kept) (cells : List (PlainCell Rings)) (hea
 second_refused b k cells head read (FileRefusal s f) h = absurd h
 second_refused b k cells head read (CellsRefusal First f) h = record {
   unaccepted = λ b. absurd (first_second b);
-  told = λ e. absurd (first_second e);
+  reported = λ e. absurd (first_second e);
   passed = spells b cells head read;
 }
 second_refused b k cells head read (CellsRefusal Second f) h = record {
   unaccepted = λ e. cell_unaccepted b cells head read f h.1;
-  told = λ e. cell_told b cells head read f h.1;
+  reported = λ e. cell_reported b cells head read f h.1;
   passed = spells b cells head read;
 }
 second_refused b k cells head read (FlatRefusal First f) h = record {
   unaccepted = λ b. absurd (first_second b);
-  told = λ e. absurd (first_second e);
+  reported = λ e. absurd (first_second e);
   passed = passes b cells head read h.1;
 }
 second_refused b k cells head read (FlatRefusal Second f) h = record {
   unaccepted = λ e. range_unaccepted b cells head read f h.1;
-  told = λ e. range_told b cells head read f h.1;
+  reported = λ e. range_reported b cells head read f h.1;
   passed = passes b cells head read (h.1.settled, h.1.checked);
 }
 second_refused b k cells head read OutOfMemory h = no_memory Second b

@@ -25,7 +25,8 @@ use Rattle.lvl.specs.Answers.{HasPassed, IsEarlyOf, IsRefusalOf, PassesCheck}
 use Rattle.lvl.specs.Sides.{kept_named}
 use Rattle.lvl.specs.Shown.{AreShownLayers, IsShownOf, IsShownFile, IsShownKept, IsShowRefusal}
 use Rattle.lvl.proofs.Keeping.{over_kept, length_kept, sound_kept, cell_kept}
-use Rattle.lvl.proofs.Lifting.{lifted, one_top, one_cell, cell_told, cell_unaccepted, range_told, range_unaccepted}
+use Rattle.lvl.proofs.Lifting.{lifted, one_top, one_cell, cell_reported, cell_unaccepted, range_reported}
+use Rattle.lvl.proofs.Lifting.{range_unaccepted}
 use Rattle.lvl.proofs.Refused.{no_memory, passes, spells}
 
 sum_by-map : {X Y : Type 0} (f : X → Y) (g : Y → ℕ) (xs : List X) → sum_by g (map f xs) ≡ sum_by (λ x. g (f x)) xs
@@ -120,12 +121,12 @@ pub show_refused : (file : File) (found : List (PlainCell Rings)) (head : Head)
 show_refused file found head read (FileRefusal side f) h = absurd h
 show_refused file found head read (CellsRefusal side f) h = record {
   unaccepted = λ b. cell_unaccepted file found head read f h.1;
-  told = λ e. cell_told file found head read f h.1;
+  reported = λ e. cell_reported file found head read f h.1;
   passed = passed_cells side file f h.0 (spells file found head read);
 }
 show_refused file found head read (FlatRefusal side f) h = record {
   unaccepted = λ b. range_unaccepted file found head read f h.1;
-  told = λ e. range_told file found head read f h.1;
+  reported = λ e. range_reported file found head read f h.1;
   passed = passed_flat side file f h.0 (passes file found head read (h.1.settled, h.1.checked));
 }
 show_refused file found head read OutOfMemory h = no_memory First file

@@ -8,17 +8,17 @@ use Rattle.lvl_io.specs.Peeked.{given_again}
 use Rattle.lvl_io.proofs.Known.{known_parts}
 use Rattle.lvl_path.specs.Figure.{figure_rings}
 use Rattle.lvl_cells.specs.Cells.{PlainCell, Rings, kept}
-use Rattle.lvl_refusal.specs.declared.Refusal.{Refusal}
-use Rattle.lvl_refusal.specs.declared.Refusal.TheVariants.{Breach, OutOfMemory}
+use Rattle.lvl_refusal.specs.declared.Cause.{Cause}
+use Rattle.lvl_refusal.specs.declared.Cause.TheVariants.{Breach, OutOfMemory}
 use Rattle.lvl_refusal.specs.Refused.{Says}
 use Rattle.lvl_grammar.specs.Refused.{IsHopeless as IsHopelessStream}
 use Rattle.gds_library.specs.Front.{IsRead as IsReadGds, SpellsNone as SpellsNoGds, gds}
-use Rattle.gds_library.specs.Ends.{Tells as TellsGds, IsEarly as IsEarlyGds, IsExcused as IsExcusedGds}
+use Rattle.gds_library.specs.Ends.{Reports as ReportsGds, IsEarly as IsEarlyGds, IsExcused as IsExcusedGds}
 use Rattle.gds_library.specs.declared.fault.GdsFault.{GdsFault}
 use Rattle.gds_library.specs.declared.head.GdsHead.{GdsHead}
 use Rattle.oasis_stream.specs.Front.{oasis}
 use Rattle.oasis_library.specs.Library.{IsRead as IsReadOasis, SpellsNone as SpellsNoOasis}
-use Rattle.oasis_library.specs.Ends.{Tells as TellsOasis, IsEarly as IsEarlyOasis, IsExcused as IsExcusedOasis}
+use Rattle.oasis_library.specs.Ends.{Reports as ReportsOasis, IsEarly as IsEarlyOasis, IsExcused as IsExcusedOasis}
 use Rattle.oasis_library.specs.declared.fault.OasisFault.{OasisFault}
 use Rattle.oasis_library.specs.declared.head.OasisHead.{OasisHead}
 use Rattle.lvl.specs.Drawing.{Drawing}
@@ -83,24 +83,24 @@ no_oasis ignore xs own none cells (Oasis h) s = none cells h s
 no_oasis ignore xs own none cells (Gds h) s =
     (let e : 0 ≡ 0x25 = one_byte 0 0x25 xs (gds_begins ignore xs cells h s) own in omega (arith, e))
 
-said : {F : Type 0} (P : F → Type 0) (r : Refusal F) (fault : F) → r ≡ Breach fault → Says r P → P fault
+said : {F : Type 0} (P : F → Type 0) (r : Cause F) (fault : F) → r ≡ Breach fault → Says r P → P fault
 said P r fault is h = subst (λ x. Says x P) is h
 
-pub gds_fault : (ignore : Ignore) (xs : List ℕ) (r : Refusal GdsFault) (fault : GdsFault) → r ≡ Breach fault
+pub gds_fault : (ignore : Ignore) (xs : List ℕ) (r : Cause GdsFault) (fault : GdsFault) → r ≡ Breach fault
     → (IsOasis xs → ⊥)
-    → Says r (TellsGds ignore xs)
+    → Says r (ReportsGds ignore xs)
     → Says r (λ f. (¬ IsExcusedGds f) → SpellsNoGds ignore xs) → IsFileFault ignore xs (GdsFile fault)
-gds_fault ignore xs r fault is other told none = record {
-  told = (λ read. other, said (TellsGds ignore xs) r fault is told);
+gds_fault ignore xs r fault is other reported none = record {
+  reported = (λ read. other, said (ReportsGds ignore xs) r fault is reported);
   nothing = λ n. no_gds ignore xs other (said (λ f. (¬ IsExcusedGds f) → SpellsNoGds ignore xs) r fault is none n);
 }
 
-pub oasis_fault : (ignore : Ignore) (xs : List ℕ) (r : Refusal OasisFault) (fault : OasisFault) → r ≡ Breach fault
+pub oasis_fault : (ignore : Ignore) (xs : List ℕ) (r : Cause OasisFault) (fault : OasisFault) → r ≡ Breach fault
     → IsOasis xs
-    → Says r (TellsOasis ignore xs)
+    → Says r (ReportsOasis ignore xs)
     → Says r (λ f. (¬ IsExcusedOasis f) → SpellsNoOasis ignore xs) → IsFileFault ignore xs (OasisFile fault)
-oasis_fault ignore xs r fault is own told none = record {
-  told = (own, said (TellsOasis ignore xs) r fault is told);
+oasis_fault ignore xs r fault is own reported none = record {
+  reported = (own, said (ReportsOasis ignore xs) r fault is reported);
   nothing = λ n. no_oasis ignore xs own (said (λ f. (¬ IsExcusedOasis f) → SpellsNoOasis ignore xs) r fault is none n);
 }
 
@@ -120,7 +120,7 @@ hopeless_rest ignore xs byte inner h =
     }
 
 pub early_rest : (ignore : Ignore) {A : Type 0} (xs : List ℕ) (byte : Option ℕ) (inner left : Option (List ℕ))
-    (r : Result A (Refusal FileFault))
+    (r : Result A (Cause FileFault))
     → IfErr r (λ e. Says e (λ f. IsEarlyFile f → IsHopeless ignore xs (prepend_known (given_again byte) inner)))
     → inner ≡ left
     → IfErr r (λ e. Says e (λ f. IsEarlyFile f → IsHopeless ignore xs left))
@@ -149,7 +149,7 @@ no_oasis_more : (ignore : Ignore) (taken rest more : List ℕ) → 0 < length ta
 no_oasis_more ignore taken rest more some own none s =
     no_oasis ignore (taken ++ more) (begun_so 0x25 taken more rest some own) none s.0 s.1 s.2
 
-pub gds_early : (ignore : Ignore) (xs : List ℕ) (left : Option (List ℕ)) (r : Refusal GdsFault) (fault : GdsFault)
+pub gds_early : (ignore : Ignore) (xs : List ℕ) (left : Option (List ℕ)) (r : Cause GdsFault) (fault : GdsFault)
     → r ≡ Breach fault
     → (IsOasis xs → ⊥)
     → Says r (λ f. IsEarlyGds f → IsHopelessStream (gds ignore) xs left) → IsEarlyGds fault → IsHopeless ignore xs left
@@ -165,7 +165,7 @@ gds_early ignore xs left r fault is other early soon =
           (λ cells g p. h.none more p.records p.whole) s;
     }
 
-pub oasis_early : (ignore : Ignore) (xs : List ℕ) (left : Option (List ℕ)) (r : Refusal OasisFault) (fault : OasisFault)
+pub oasis_early : (ignore : Ignore) (xs : List ℕ) (left : Option (List ℕ)) (r : Cause OasisFault) (fault : OasisFault)
     → r ≡ Breach fault → IsOasis xs
     → Says r (λ f. IsEarlyOasis f → IsHopelessStream (oasis ignore) xs left) → IsEarlyOasis fault
     → IsHopeless ignore xs left

@@ -145,13 +145,13 @@ second_fault a b s t first checked (FileRefusal side f) h = absurd h
 second_fault a b s t first checked (CellsRefusal side f) h = absurd h
 second_fault a b s t first checked (FlatRefusal First f) h = cc
 second_fault a b s t first checked (FlatRefusal Second f) h =
-    ((s, first), record { settled = t; checked = checked; told = h.1 })
+    ((s, first), record { settled = t; checked = checked; reported = h.1 })
 second_fault a b s t first checked OutOfMemory h = tt
 
-pub second_told : (a b : Kept) (s u t : Settled) → IsCheckedAs a s → u ≡ s → IsTopInRange u → IsCheckedAs b t
+pub second_reported : (a b : Kept) (s u t : Settled) → IsCheckedAs a s → u ≡ s → IsTopInRange u → IsCheckedAs b t
     → (e : Refusal) → IsFlattenRefusal Second t e → (res : Result Verdict Refusal)
     → IsErr res × IsErrAnd res (λ r. r ≡ e)
     → IfErr res (IsKeptRefusal a b)
-second_told a b s u t first same in' second e h (Ok v) is = tt
-second_told a b s u t first same in' second e h (Err r) is =
+second_reported a b s u t first same in' second e h (Ok v) is = tt
+second_reported a b s u t first same in' second e h (Err r) is =
     subst (IsKeptRefusal a b) (sym is.1) (second_fault a b u t (in_range_as a s u first same in') second e h)

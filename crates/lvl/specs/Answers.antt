@@ -6,13 +6,14 @@ use Rattle.lvl_cells.specs.Cells.{kept}
 use Rattle.lvl_region.specs.declared.region.Side.{Side}
 use Rattle.lvl_region.specs.declared.region.Side.TheVariants.{First, Second}
 use Rattle.lvl.specs.Drawing.{Drawing}
-use Rattle.lvl_refusal.specs.declared.Refusal.{Refusal as Cause}
-use Rattle.lvl_refusal.specs.declared.Refusal.TheVariants.{Breach, OutOfMemory as NoMemory}
-use Rattle.gds_library.specs.Ends.{Tells as TellsGds, IsExcused as IsExcusedGds, IsEarly as IsEarlyGds, is_read_kind}
+use Rattle.lvl_refusal.specs.declared.Cause.{Cause}
+use Rattle.lvl_refusal.specs.declared.Cause.TheVariants.{Breach, OutOfMemory as NoMemory}
+use Rattle.gds_library.specs.Ends.{Reports as ReportsGds, IsExcused as IsExcusedGds, IsEarly as IsEarlyGds}
+use Rattle.gds_library.specs.Ends.{is_read_kind}
 use Rattle.gds_records.specs.declared.fault.RecordFault.TheVariants.{Read}
 use Rattle.gds_library.specs.declared.fault.GdsFault.{GdsFault}
 use Rattle.gds_library.specs.declared.fault.GdsKind.TheVariants.{Record}
-use Rattle.oasis_library.specs.Ends.{Tells as TellsOasis, IsExcused as IsExcusedOasis, IsEarly as IsEarlyOasis}
+use Rattle.oasis_library.specs.Ends.{Reports as ReportsOasis, IsExcused as IsExcusedOasis, IsEarly as IsEarlyOasis}
 use Rattle.oasis_library.specs.Ends.{is_read_error}
 use Rattle.lvl.specs.declared.layout.Head.{Head}
 use Rattle.lvl.specs.declared.layout.FileFault.{FileFault}
@@ -35,9 +36,9 @@ abbrev pub nothing_read : GdsFault
 nothing_read = record { offset = 0; kind = Record Read }
 
 -- what the reader of the format says of the bytes; the format is that of the first byte, where one was read
-abbrev pub TellsOfFile : Ignore → List ℕ → FileFault → Type 0
-TellsOfFile ignore bytes (Gds f) = (f ≢ nothing_read → ¬ IsOasis bytes) × TellsGds ignore bytes f
-TellsOfFile ignore bytes (Oasis f) = IsOasis bytes × TellsOasis ignore bytes f
+abbrev pub ReportsOfFile : Ignore → List ℕ → FileFault → Type 0
+ReportsOfFile ignore bytes (Gds f) = (f ≢ nothing_read → ¬ IsOasis bytes) × ReportsGds ignore bytes f
+ReportsOfFile ignore bytes (Oasis f) = IsOasis bytes × ReportsOasis ignore bytes f
 
 -- the refusal is of that side's file, for another cause than memory or a failed read
 abbrev pub Blames : Side → Refusal → Type 0
@@ -51,15 +52,15 @@ abbrev pub kept_of : File → List Drawing → Kept
 kept_of file cells = record { cells = kept figure_rings cells; top = file.top }
 
 -- what the fault says holds of the bytes, or of every library that they spell
-abbrev pub IsTold : Side → File → Refusal → Type 0
-IsTold side file (FileRefusal s fault) = s ≡ side → TellsOfFile file.ignore file.bytes fault
-IsTold side file (CellsRefusal s fault) =
+abbrev pub IsReported : Side → File → Refusal → Type 0
+IsReported side file (FileRefusal s fault) = s ≡ side → ReportsOfFile file.ignore file.bytes fault
+IsReported side file (CellsRefusal s fault) =
     s ≡ side → (cells : List Drawing) (head : Head) → Spells file.ignore file.bytes cells head
     → IsCellFault (kept_of file cells) fault
-IsTold side file (FlatRefusal s fault) =
+IsReported side file (FlatRefusal s fault) =
     s ≡ side → (cells : List Drawing) (head : Head) → Spells file.ignore file.bytes cells head
     → IsRangeFault (kept_of file cells) fault
-IsTold side file OutOfMemory = ⊤
+IsReported side file OutOfMemory = ⊤
 
 -- the file's library passes the check of its cells
 abbrev pub PassesCheck : File → Type 0
@@ -85,7 +86,7 @@ HasPassed Second b OutOfMemory = ⊤
 -- the file of this side that come before it passed
 pub record IsRefusalOf (side : Side) (file : File) (r : Refusal) : Type 0 where
   pub unaccepted : Blames side r → IsUnaccepted file
-  pub told : IsTold side file r
+  pub reported : IsReported side file r
   pub passed : HasPassed side file r
 
 -- the fault is reported before the input has ended, and not because a read failed

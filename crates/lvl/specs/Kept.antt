@@ -50,14 +50,14 @@ pub record IsFlatLibrary (k : Kept) (found : FlatLibrary) : Type 0 where
 
 -- the fault is why the check refused it
 pub record IsCellFault (k : Kept) (fault : CellFault) : Type 0 where
-  pub told : IsFaultOf k.cells k.top fault
+  pub reported : IsFaultOf k.cells k.top fault
   pub unsound : ¬ IsSoundWith k.cells k.top (PlacesFew k.cells)
 
 -- the fault is why it was not flattened
 pub record IsRangeFault (k : Kept) (fault : FlatFault) : Type 0 where
   pub settled : Settled
   pub checked : IsCheckedAs k settled
-  pub told : IsFlatFault settled fault
+  pub reported : IsFlatFault settled fault
 
 -- it was checked, and all that its top places is in range
 pub record IsInRangeAs (k : Kept) (s : Settled) : Type 0 where

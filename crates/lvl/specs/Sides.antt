@@ -17,7 +17,7 @@ use Rattle.lvl.specs.declared.verdict.Refusal.TheVariants.{File as FileRefusal, 
 use Rattle.lvl.specs.declared.verdict.Refusal.TheVariants.{Flat as FlatRefusal, OutOfMemory}
 use Rattle.lvl.specs.Layouts.{File, Spells}
 use Rattle.lvl.specs.Kept.{Kept, IsCellFault}
-use Rattle.lvl.specs.Answers.{TellsOfFile, IsExcusedFile}
+use Rattle.lvl.specs.Answers.{ReportsOfFile, IsExcusedFile}
 
 abbrev pub layout_parts : Layout → List (PlainCell Rings) × Head
 layout_parts (GdsLayout library h) = (library, GdsHeadOf h)
@@ -29,7 +29,7 @@ SpellsNothing ignore xs = (cells : List Drawing) (head : Head) → Spells ignore
 
 -- why the bytes were not read
 pub record IsFileFault (ignore : Ignore) (xs : List ℕ) (fault : FileFault) : Type 0 where
-  pub told : TellsOfFile ignore xs fault
+  pub reported : ReportsOfFile ignore xs fault
   pub nothing : (¬ IsExcusedFile fault) → SpellsNothing ignore xs
 
 -- the refusal is of that side's file, or out of memory

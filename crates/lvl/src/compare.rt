@@ -12,7 +12,7 @@ ghost use Rattle.lvl.specs.declared.verdict.Verdict.TheVariants.{Same, Differ};
 ghost use Rattle.lvl.specs.declared.verdict.Refusal.TheVariants.{File as FileRefused};
 ghost use Rattle.lvl.specs.Accepted.{AreSame, AreDifferent, IsUnaccepted, IsVerdict};
 ghost use Rattle.lvl.specs.Kept.{IsKeptVerdict, IsKeptRefusal};
-ghost use Rattle.lvl.specs.Answers.{Blames, HasPassed, IsEarlyOf, IsHopeless, IsRefusalOf, IsTold, is_read_of};
+ghost use Rattle.lvl.specs.Answers.{Blames, HasPassed, IsEarlyOf, IsHopeless, IsRefusalOf, IsReported, is_read_of};
 ghost use Rattle.lvl.specs.Sides.{file, library_of};
 ghost use Rattle.lvl.specs.Views.{IsComparedIn, IsViewVerdict};
 
@@ -73,10 +73,10 @@ pub fn compare_layouts<A: Read, B: Read>(
         → IfErr result (λ r. Blames First r → IsUnaccepted (file nothing xs tops.now.first)) }
     ensures second_refused { (ys : List ℕ) → B.remaining second.old ≡ Some ys
         → IfErr result (λ r. Blames Second r → IsUnaccepted (file nothing ys tops.now.second)) }
-    ensures first_told { (xs : List ℕ) → A.remaining first.old ≡ Some xs
-        → IfErr result (IsTold First (file nothing xs tops.now.first)) }
-    ensures second_told { (ys : List ℕ) → B.remaining second.old ≡ Some ys
-        → IfErr result (IsTold Second (file nothing ys tops.now.second)) }
+    ensures first_reported { (xs : List ℕ) → A.remaining first.old ≡ Some xs
+        → IfErr result (IsReported First (file nothing xs tops.now.first)) }
+    ensures second_reported { (ys : List ℕ) → B.remaining second.old ≡ Some ys
+        → IfErr result (IsReported Second (file nothing ys tops.now.second)) }
     ensures first_passed { (xs : List ℕ) → A.remaining first.old ≡ Some xs
         → IfErr result (HasPassed First (file nothing xs tops.now.first)) }
     ensures second_passed { (ys : List ℕ) → B.remaining second.old ≡ Some ys

@@ -14,7 +14,7 @@ use gds_library::{GdsFault, GdsHead, GdsKind, RecordFault, read_gds_by};
 use lvl_cells::Library;
 use lvl_ignore::Ignore;
 use lvl_io::{Failure, Peeked, Read};
-use lvl_refusal::Refusal;
+use lvl_refusal::Cause;
 use oasis_library::{OasisFault, OasisHead, read_oasis_by};
 use std::alloc::Global;
 use thiserror::Error;
@@ -82,7 +82,7 @@ fn read_as_gds<R: Read>(
     alloc: Global,
     reader: &mut R,
     ignore: Ignore,
-) -> Result<Layout, Refusal<FileFault>>
+) -> Result<Layout, Cause<FileFault>>
     ensures spelled { (xs : List ℕ) → R.remaining reader.old ≡ Some xs
         → IfOk result (λ layout. IsLayoutOf ignore xs (layout_parts layout).0 (layout_parts layout).1) }
     ensures refused { (xs : List ℕ) → R.remaining reader.old ≡ Some xs → (¬ IsOasis xs)
@@ -95,8 +95,8 @@ fn read_as_gds<R: Read>(
 {
     match read_gds_by(alloc, reader, ignore) {
         Ok((library, head)) => Ok(Layout::Gds(library, head)),
-        Err(Refusal::Breach(fault)) => Err(Refusal::Breach(FileFault::Gds(fault))),
-        Err(Refusal::OutOfMemory) => Err(Refusal::OutOfMemory),
+        Err(Cause::Breach(fault)) => Err(Cause::Breach(FileFault::Gds(fault))),
+        Err(Cause::OutOfMemory) => Err(Cause::OutOfMemory),
     }
 }
 
@@ -105,7 +105,7 @@ fn read_as_oasis<R: Read>(
     alloc: Global,
     reader: &mut R,
     ignore: Ignore,
-) -> Result<Layout, Refusal<FileFault>>
+) -> Result<Layout, Cause<FileFault>>
     ensures spelled { (xs : List ℕ) → R.remaining reader.old ≡ Some xs
         → IfOk result (λ layout. IsLayoutOf ignore xs (layout_parts layout).0 (layout_parts layout).1) }
     ensures refused { (xs : List ℕ) → R.remaining reader.old ≡ Some xs → IsOasis xs
@@ -118,8 +118,8 @@ fn read_as_oasis<R: Read>(
 {
     match read_oasis_by(alloc, reader, ignore) {
         Ok((library, head)) => Ok(Layout::Oasis(library, head)),
-        Err(Refusal::Breach(fault)) => Err(Refusal::Breach(FileFault::Oasis(fault))),
-        Err(Refusal::OutOfMemory) => Err(Refusal::OutOfMemory),
+        Err(Cause::Breach(fault)) => Err(Cause::Breach(FileFault::Oasis(fault))),
+        Err(Cause::OutOfMemory) => Err(Cause::OutOfMemory),
     }
 }
 
@@ -136,7 +136,7 @@ fn read_by<R: Read>(
     first: Option<u8>,
     reader: &mut R,
     ignore: Ignore,
-) -> Result<Layout, Refusal<FileFault>>
+) -> Result<Layout, Cause<FileFault>>
     ensures spelled { (xs : List ℕ) → R.remaining reader.old ≡ Some xs
         → IfOk result (λ layout. IsLayoutOf ignore xs (layout_parts layout).0 (layout_parts layout).1) }
     ensures refused { (xs : List ℕ) → R.remaining reader.old ≡ Some xs → HasFirst first xs
@@ -155,7 +155,7 @@ fn read_by<R: Read>(
 
 /// A read that failed before there was a byte.
 fn unread() -> FileFault
-    ensures told { (ignore : Ignored) (xs : List ℕ) → IsFileFault ignore xs result }
+    ensures reported { (ignore : Ignored) (xs : List ℕ) → IsFileFault ignore xs result }
     ensures late { IsEarlyFile result → ⊥ }
     ensures read { read_failed result ≡ true }
 {
@@ -167,7 +167,7 @@ fn unread() -> FileFault
 
 /// The layout that a file spells. A file whose first byte is 0x25 is read as OASIS, and every other
 /// one as GDSII (own rule; no file is one of both formats).
-pub fn read_layout<R: Read>(alloc: Global, reader: &mut R) -> Result<Layout, Refusal<FileFault>>
+pub fn read_layout<R: Read>(alloc: Global, reader: &mut R) -> Result<Layout, Cause<FileFault>>
     ensures spelled { (xs : List ℕ) → R.remaining reader.old ≡ Some xs
         → IfOk result (λ layout. IsLayoutOf nothing xs (layout_parts layout).0 (layout_parts layout).1) }
     ensures refused { (xs : List ℕ) → R.remaining reader.old ≡ Some xs
@@ -187,7 +187,7 @@ pub fn read_layout_by<R: Read>(
     alloc: Global,
     reader: &mut R,
     ignore: Ignore,
-) -> Result<Layout, Refusal<FileFault>>
+) -> Result<Layout, Cause<FileFault>>
     ensures spelled { (xs : List ℕ) → R.remaining reader.old ≡ Some xs
         → IfOk result (λ layout. IsLayoutOf ignore xs (layout_parts layout).0 (layout_parts layout).1) }
     ensures refused { (xs : List ℕ) → R.remaining reader.old ≡ Some xs
@@ -198,7 +198,7 @@ pub fn read_layout_by<R: Read>(
     ensures reads { CountsFailure (R.read_errors reader.old) (R.read_errors reader.new) (is_failed_read result) }
 {
     let Ok(first) = take_first(reader) else {
-        return Err(Refusal::Breach(unread()));
+        return Err(Cause::Breach(unread()));
     };
     let mut whole = Peeked::new(first, reader);
     let read = read_by(alloc, first, &mut whole, ignore);

@@ -15,7 +15,7 @@ use lvl_cells::{Checked, Library, check};
 use lvl_flat::{Fitted, Flat, flatten};
 use lvl_ignore::Ignore;
 use lvl_io::Read;
-use lvl_refusal::Refusal as Cause;
+use lvl_refusal::Cause;
 use lvl_region::Side;
 use std::alloc::Global;
 

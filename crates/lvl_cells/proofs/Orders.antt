@@ -132,7 +132,7 @@ walk_none targets marks long new = record {
   apart = none_apart;
   once = none_apart;
   arcs = λ k v u h g. cc;
-  behind = λ k v j b h. cc;
+  later = λ k v j b h. cc;
   falls = λ i k j b h. cc;
 }
 

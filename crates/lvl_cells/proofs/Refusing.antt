@@ -19,9 +19,9 @@ use Rattle.lvl_cells.proofs.Arcs.{once_named}
 use Rattle.lvl_cells.proofs.Orders.{names_long}
 use Rattle.lvl_cells.proofs.Sequences.{one_answer, item_there, slice_get-front}
 
-slice_get-behind : {X : Type 0} (xs : List X) (y : X) (ys : List X) → slice_get (xs ++ y ∷ ys) (length xs) ≡ Some y
-slice_get-behind [] y ys = refl
-slice_get-behind (x ∷ xs) y ys = slice_get-behind xs y ys
+slice_get-later : {X : Type 0} (xs : List X) (y : X) (ys : List X) → slice_get (xs ++ y ∷ ys) (length xs) ≡ Some y
+slice_get-later [] y ys = refl
+slice_get-later (x ∷ xs) y ys = slice_get-later xs y ys
 
 not_repeated : (all : List (List ℕ)) (name : List ℕ) → IsDistinct bytes_eq all → IsFirstRepeat all name → ⊥
 not_repeated all name d r =
@@ -31,7 +31,7 @@ not_repeated all name d r =
     (slice_get-front r.before (name ∷ r.after) at.0 name at.1) in
     let again : slice_get all (length r.before) ≡ Some name =
     subst (λ (l : List (List ℕ)). slice_get l (length r.before) ≡ Some name) (sym r.there)
-    (slice_get-behind r.before name r.after) in
+    (slice_get-later r.before name r.after) in
     absurd (omega (
       arith,
       once_named all at.0 (length r.before) name d first again,
@@ -44,7 +44,7 @@ not_missing cells from name l m =
     let link : List ℕ × List ℕ = (from, name) in
     let at : slice_get (links cells) (length m.before) ≡ Some link =
     subst (λ (t : List (List ℕ × List ℕ)). slice_get t (length m.before) ≡ Some link) (sym m.there)
-    (slice_get-behind m.before link m.after) in
+    (slice_get-later m.before link m.after) in
     m.missing (All-contains (λ (p : List ℕ × List ℕ). Contains (names cells) p.1) (links cells) link l.named
     (contains_at (links cells) (length m.before) link at))
 

@@ -187,9 +187,9 @@ summed_more w cells targets order sums i k c ts new l t o hi hk ht low inv e =
     let here : slice_get (names cells) k ≡ Some c.name = slice_get-map name_of cells k ∙ ap (option_map name_of) hk in
     let place = o.there q (slice_get_within cells q d hq) in
     let at : slice_get order place.0 ≡ Some q = slice_get-get_or order place.0 q place.1 ∙ ap Some place.2 in
-    let behind : i < place.0 =
+    let later : i < place.0 =
     o.falls i place.0 k q c.name from.0.cell hi at here from.2 (is_link cells k c j from.0 hk from.1) in
-    inv place.0 q d (omega (arith, behind)) at hq in
+    inv place.0 q d (omega (arith, later)) at hq in
     let is : new ≡ min most (over_chains w cells (length cells) c) =
     e
     ∙ (placed_is w cells (length cells) sums c.references ts.items (w c) l.distinct names_row later

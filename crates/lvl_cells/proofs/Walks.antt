@@ -120,8 +120,8 @@ walk_into targets marks front v b finished w arc new =
           (λ x. x.1) (push_cases front v k p last) in
           subst (λ (r : Visit). IsArc targets p.cell p.done r.cell) e.1
           (subst (λ (r : Visit). IsArc targets r.cell r.done b) top arc)) (push_cases path next (k + 1) q hq);
-      behind =
-          λ k r j c at lt arc_c. ⊎_elim (λ x. w.behind k r j c x lt arc_c)
+      later =
+          λ k r j c at lt arc_c. ⊎_elim (λ x. w.later k r j c x lt arc_c)
           (λ x. let none : r.done ≡ 0 = ap (λ (q : Visit). q.done) (sym x.1) in absurd (omega (arith, lt, none)))
           (push_cases path next k r at);
       falls = w.falls;
@@ -163,9 +163,9 @@ walk_past targets marks front v b finished w arc is_done =
           let to : v.cell ≡ q.cell = ap cell_of x.1 in
           subst (λ c. IsArc targets p.cell p.done c) to (w.arcs k p v (push_front front v k p first) old))
           (push_cases front after (k + 1) q hq);
-      behind =
+      later =
           λ k r j c at lt arc_c.
-          ⊎_elim (λ x. w.behind k r j c (push_front front v k r x) lt arc_c)
+          ⊎_elim (λ x. w.later k r j c (push_front front v k r x) lt arc_c)
           (λ x.
           let cell : r.cell ≡ v.cell = ap cell_of (sym x.1) in
           let count : r.done ≡ v.done + 1 = ap (λ (q : Visit). q.done) (sym x.1) in
@@ -175,7 +175,7 @@ walk_past targets marks front v b finished w arc is_done =
           (arc_once targets v.cell v.done b c arc (subst (λ i. IsArc targets v.cell i c) e here))
           ((w.done_ones b).0 is_done))
           (λ n. let less : j < v.done = omega (arith, below, n) in
-          w.behind (length front) v j c (push_last front v) less here) (same_or_not j v.done))
+          w.later (length front) v j c (push_last front v) less here) (same_or_not j v.done))
           (push_cases front after k r at);
       falls = w.falls;
     }
@@ -242,8 +242,8 @@ walk_out targets marks front v finished ts w at all =
       apart = distinct_front (map cell_of front) v.cell spread;
       once = IsDistinct-push nat_eq_equiv finished v.cell w.once (absent_number finished v.cell fresh);
       arcs = λ k p q hp hq. w.arcs k p q (push_front front v k p hp) (push_front front v (k + 1) q hq);
-      behind =
-          λ k r j c h lt arc. contains_front finished v.cell c (w.behind k r j c (push_front front v k r h) lt arc);
+      later =
+          λ k r j c h lt arc. contains_front finished v.cell c (w.later k r j c (push_front front v k r h) lt arc);
       falls =
           λ i k j b h arc.
           ⊎_elim (λ x. let r = w.falls i k j b x arc in (r.0, r.1, push_front finished v.cell r.0 b r.2))
@@ -252,7 +252,7 @@ walk_out targets marks front v finished ts w at all =
           let row : ts ≡ here.0 = one_answer at here.1 in
           let in_row : j < length here.0.items = slice_get_within here.0.items j b here.2 in
           let in_ts : j < length ts.items = subst (λ (u : Vec ℕ Global). j < length u.items) (sym row) in_row in
-          let c = w.behind (length front) v j b (push_last front v) (omega (arith, in_ts, all)) here in
+          let c = w.later (length front) v j b (push_last front v) (omega (arith, in_ts, all)) here in
           let p = at_contains finished b c in
           (p.0, omega (arith, x.0, slice_get_within finished p.0 b p.1), push_front finished v.cell p.0 b p.1))
           (push_cases finished v.cell i k h);
@@ -300,7 +300,7 @@ walk_begin targets marks root finished w new =
       apart = one_apart root;
       once = w.once;
       arcs = λ k p q hp hq. absurd (omega (arith, slice_get_within (first ∷ []) (k + 1) q hq));
-      behind =
+      later =
           λ k v j b at lt arc.
           let none : v.done ≡ 0 =
           ⊎_elim (λ x. absurd (omega (arith, slice_get_within [] k v x)))

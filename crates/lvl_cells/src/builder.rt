@@ -122,13 +122,15 @@ impl Builder {
         Ok(())
     }
 
-    /// Makes the open cell the last of the library's.
+    /// Makes the open cell the last of the library's; without memory for it, it stays open.
     pub fn close(&mut self, alloc: Global) -> Result<(), AllocError>
-        ensures { OnOk result
+        ensures closed { OnOk result
             (self.new ≡ record { cells = self.old.cells ++ self.old.current ∷ []; current = no_cell }) }
+        ensures kept { OnErr result (self.new ≡ self.old) }
     {
+        self.cells.reserve(1)?;
         let cell = mem::replace(&mut self.current, empty_cell(alloc));
-        self.cells.push(cell)?;
+        self.cells.push_reserved(cell);
         Ok(())
     }
 

@@ -13,7 +13,7 @@ use crate::names::index_of;
 use crate::order::order_of;
 use crate::targets::all_targets;
 use crate::top::top_of;
-use lvl_refusal::Refusal;
+use lvl_refusal::Cause;
 use std::alloc::Global;
 use std::marker::Model;
 
@@ -46,7 +46,7 @@ fn examine(
     alloc: Global,
     cells: &[Cell],
     given: Option<&[u8]>,
-) -> Result<(usize, Vec<usize>, Vec<Vec<usize>>), Refusal<CellFault>>
+) -> Result<(usize, Vec<usize>, Vec<Vec<usize>>), Cause<CellFault>>
     requires { 0 < length cells.now }
     ensures ok { IfOk result
         (λ found. IsSettled (option_copied given.entry)
@@ -60,11 +60,11 @@ fn examine(
     let top = top_of(alloc, cells, &index, &targets, &order, given)?;
     let chains = count_from(alloc, Weight::One, cells, &targets, &order, top)?;
     if chains > MOST_PLACED {
-        return Err(Refusal::Breach(CellFault::TooManyPlacements));
+        return Err(Cause::Breach(CellFault::TooManyPlacements));
     }
     let rings = count_from(alloc, Weight::OwnRings, cells, &targets, &order, top)?;
     if rings > MOST_PLACED {
-        return Err(Refusal::Breach(CellFault::TooManyRings));
+        return Err(Cause::Breach(CellFault::TooManyRings));
     }
     Ok((top, order, targets))
 }
@@ -80,7 +80,7 @@ pub fn check(
     alloc: Global,
     library: Library,
     top: Option<&[u8]>,
-) -> Result<Checked, Refusal<CellFault>>
+) -> Result<Checked, Cause<CellFault>>
     ensures same { IfOk result (λ checked. checked.cells ≡ library) }
     ensures sound { IfOk result (λ checked. IsSettled (option_copied top.entry) checked) }
     ensures fault { IfErr result (λ refusal. Says refusal (IsFaultOf library (option_copied top.entry))) }
@@ -89,7 +89,7 @@ pub fn check(
 {
     let Library { cells } = library;
     if cells.is_empty() {
-        return Err(Refusal::Breach(CellFault::NoCell));
+        return Err(Cause::Breach(CellFault::NoCell));
     }
     let (place, order, targets) = examine(alloc, &cells, top)?;
     Ok(Checked {

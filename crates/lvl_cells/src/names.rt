@@ -8,7 +8,7 @@ ghost use Rattle.lvl_refusal.specs.Refused.{Says};
 
 use crate::fault::CellFault;
 use crate::library::Cell;
-use lvl_refusal::Refusal;
+use lvl_refusal::Cause;
 use std::alloc::Global;
 use std::collections::BTreeMap;
 
@@ -16,7 +16,7 @@ use std::collections::BTreeMap;
 pub fn index_of<'a>(
     alloc: Global,
     cells: &'a [Cell],
-) -> Result<BTreeMap<&'a [u8], usize>, Refusal<CellFault>>
+) -> Result<BTreeMap<&'a [u8], usize>, Cause<CellFault>>
     ensures distinct { IfOk result (λ index. IsDistinct bytes_eq (names cells.now)) }
     ensures index { IfOk result (λ index. IsIndexOf (names cells.now) index) }
     ensures err { IfErr result (λ refusal. Says refusal (IsRepeatFault (names cells.now))) }
@@ -26,7 +26,7 @@ pub fn index_of<'a>(
         let name = cell.name.as_slice();
         let earlier = index.insert(name, i)?;
         if earlier.is_some() {
-            return Err(Refusal::Breach(CellFault::DuplicateCell(Vec::from_slice(alloc, name)?)));
+            return Err(Cause::Breach(CellFault::DuplicateCell(Vec::from_slice(alloc, name)?)));
         }
     }
     Ok(index)

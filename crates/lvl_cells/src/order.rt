@@ -8,7 +8,7 @@ use crate::fault::CellFault;
 use crate::library::Cell;
 use crate::round::{cycle_of, round_from};
 use crate::walk::{Mark, walk_from};
-use lvl_refusal::Refusal;
+use lvl_refusal::Cause;
 use std::alloc::Global;
 
 /// The cells, each before those that it refers to, or a round of references.
@@ -16,7 +16,7 @@ pub(crate) fn order_of(
     alloc: Global,
     cells: &[Cell],
     targets: &[Vec<usize>],
-) -> Result<Vec<usize>, Refusal<CellFault>>
+) -> Result<Vec<usize>, Cause<CellFault>>
     requires linked { AreLinked cells.now }
     requires targets { AreAllTargets cells.now targets.now }
     ensures ok { IfOk result (λ order. IsOrder cells.now order.items) }
@@ -32,7 +32,7 @@ pub(crate) fn order_of(
         };
         if let Some(start) = walk_from(targets, root, &mut marks, &mut path, &mut finished)? {
             let round = round_from(&path, start);
-            return Err(Refusal::Breach(CellFault::Cycle(cycle_of(alloc, cells, round)?)));
+            return Err(Cause::Breach(CellFault::Cycle(cycle_of(alloc, cells, round)?)));
         }
     }
     finished.reverse();

@@ -8,7 +8,7 @@ ghost use Rattle.lvl_refusal.specs.Refused.{Says};
 
 use crate::fault::CellFault;
 use crate::library::Cell;
-use lvl_refusal::Refusal;
+use lvl_refusal::Cause;
 use std::alloc::Global;
 use std::collections::BTreeMap;
 
@@ -18,7 +18,7 @@ pub(crate) fn targets_of(
     cells: &[Cell],
     index: &BTreeMap<&[u8], usize>,
     cell: &Cell,
-) -> Result<Vec<usize>, Refusal<CellFault>>
+) -> Result<Vec<usize>, Cause<CellFault>>
     requires { IsIndexOf (names cells.now) index.now }
     ensures ok { IfOk result (λ targets. AreTargets (names cells.now) cell.now.references targets.items) }
     ensures err { IfErr result (λ refusal. Says refusal (IsMissingFault (names cells.now) cell.now)) }
@@ -29,7 +29,7 @@ pub(crate) fn targets_of(
         let Some(target) = index.get(name) else {
             let from = Vec::from_slice(alloc, &cell.name)?;
             let missing = Vec::from_slice(alloc, name)?;
-            return Err(Refusal::Breach(CellFault::MissingCell(from, missing)));
+            return Err(Cause::Breach(CellFault::MissingCell(from, missing)));
         };
         targets.push(*target)?;
     }
@@ -41,7 +41,7 @@ pub(crate) fn all_targets(
     alloc: Global,
     cells: &[Cell],
     index: &BTreeMap<&[u8], usize>,
-) -> Result<Vec<Vec<usize>>, Refusal<CellFault>>
+) -> Result<Vec<Vec<usize>>, Cause<CellFault>>
     requires { IsIndexOf (names cells.now) index.now }
     ensures ok { IfOk result (λ targets. AreAllTargets cells.now targets.items) }
     ensures err { IfErr result (λ refusal. Says refusal (IsFirstMissingFault cells.now)) }

@@ -11,7 +11,7 @@ ghost use Rattle.lvl_refusal.specs.Refused.{Says};
 
 use crate::fault::CellFault;
 use crate::library::Cell;
-use lvl_refusal::Refusal;
+use lvl_refusal::Cause;
 use std::alloc::{AllocError, Global};
 use std::collections::BTreeMap;
 
@@ -61,7 +61,7 @@ pub(crate) fn top_of(
     targets: &[Vec<usize>],
     order: &[usize],
     given: Option<&[u8]>,
-) -> Result<usize, Refusal<CellFault>>
+) -> Result<usize, Cause<CellFault>>
     requires linked { AreLinked cells.now }
     requires index { IsIndexOf (names cells.now) index.now }
     requires targets { AreAllTargets cells.now targets.now }
@@ -73,12 +73,12 @@ pub(crate) fn top_of(
     let Some(name) = given else {
         let root = order[0];
         if has_other_root(alloc, targets, root)? {
-            return Err(Refusal::Breach(CellFault::ManyTops));
+            return Err(Cause::Breach(CellFault::ManyTops));
         }
         return Ok(root);
     };
     match index.get(name) {
         Some(place) => Ok(*place),
-        None => Err(Refusal::Breach(CellFault::TopMissing)),
+        None => Err(Cause::Breach(CellFault::TopMissing)),
     }
 }

@@ -1,7 +1,7 @@
 -- Two flat layouts walked Layer by Layer, as windows are added.
 use Rattle.std.proofs.Common.{inl, inr, List}
 use Rattle.lvl_flat.specs.Sheet.{PlainSheet}
-use Rattle.lvl_compare.proofs.Behind.{IsWalked}
+use Rattle.lvl_compare.proofs.After.{IsWalked}
 use Rattle.lvl_changed.specs.declared.windows.Windows.{Windows}
 use Rattle.lvl_changed.specs.inside.Shapes.{LayerAlike}
 use Rattle.lvl_changed.specs.inside.Windows.{Widens}

@@ -5,7 +5,7 @@ ghost use Rattle.lvl_cells.specs.Resolving.{IsIndexOf};
 ghost use Rattle.lvl_changed.specs.inside.Partners.{IsPartner};
 
 use lvl_cells::{Cell, Checked, index_of};
-use lvl_refusal::Refusal;
+use lvl_refusal::Cause;
 use std::alloc::{AllocError, Global};
 use std::collections::BTreeMap;
 
@@ -18,8 +18,8 @@ pub(crate) fn index_by_name(
 {
     match index_of(alloc, checked.cells()) {
         Ok(index) => Ok(Some(index)),
-        Err(Refusal::Breach(_)) => Ok(None),
-        Err(Refusal::OutOfMemory) => Err(AllocError),
+        Err(Cause::Breach(_)) => Ok(None),
+        Err(Cause::OutOfMemory) => Err(AllocError),
     }
 }
 

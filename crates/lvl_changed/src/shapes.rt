@@ -13,7 +13,7 @@ use crate::windows::Windows;
 use lvl_cells::Cell;
 use lvl_compare::{lesser, past};
 use lvl_flat::{Flat, flatten_shapes};
-use lvl_refusal::Refusal;
+use lvl_refusal::Cause;
 use lvl_view::View;
 use std::alloc::{AllocError, Global};
 
@@ -24,8 +24,8 @@ fn shapes_of(alloc: Global, cell: &Cell) -> Result<Option<Flat>, AllocError>
 {
     match flatten_shapes(alloc, cell) {
         Ok(flat) => Ok(Some(flat)),
-        Err(Refusal::Breach(_)) => Ok(None),
-        Err(Refusal::OutOfMemory) => Err(AllocError),
+        Err(Cause::Breach(_)) => Ok(None),
+        Err(Cause::OutOfMemory) => Err(AllocError),
     }
 }
 

@@ -23,17 +23,6 @@ all_last : {X : Type 0} (P : X → Type 0) (xs : List X) (x : X) → All P (xs +
 all_last P xs x h =
     All-head P x [] (subst (All P) (drop_at xs (x ∷ []) (length xs) refl) (All-drop P (length xs) (xs ++ x ∷ []) h))
 
--- clipped into a list that was empty
-pub of_nothing : (s : Square) (old new : List (List Point)) (P : Type 0) → old ≡ []
-    → (SomeCovers new s ↔ (SomeCovers old s ⊎ P)) → SomeCovers new s ↔ P
-of_nothing s old new P e h = (
-  λ a. elim (h.0 a) [
-    | inl o ↦ absurd (Any-nil (λ r. Covers r s) (subst (λ (rs : List (List Point)). SomeCovers rs s) e o))
-    | inr p ↦ p
-  ],
-  λ p. h.1 (inr p),
-)
-
 covers_in_part : (P : Square → Type 0) (whole l part : Lists) (s : Square) → IsPartOf P l part → P s
     → CoversAs whole s l → CoversAs whole s part
 covers_in_part P whole l part s h i t = (
@@ -50,14 +39,14 @@ true_part P whole l part h t s Second a = let p = (h s).1.0 a.0 in t s Second (p
 pub open_by_parts : (whole : Lists) (xs : List Lists) (c l r : Lists) (at : ℤ) (found : Found)
     → IsPartOf (λ s. s.x <ℤ at) c l → IsPartOf (λ s. at ≤ℤ s.x) c r
     → IsOpen whole (xs ++ c ∷ []) found → IsOpen whole ((xs ++ r ∷ []) ++ l ∷ []) found
-open_by_parts whole xs c l r at found hl hr told =
-    let t : IsTrueTo whole c = all_last (IsTrueTo whole) xs c told.faithful in
+open_by_parts whole xs c l r at found hl hr reported =
+    let t : IsTrueTo whole c = all_last (IsTrueTo whole) xs c reported.faithful in
     record {
-      alone = told.alone;
+      alone = reported.alone;
       each = λ s.
           let rest = Any-push (CoversAs whole s) (xs ++ r ∷ []) l in
           let first = Any-push (CoversAs whole s) xs r in
-          elim (told.each s) [
+          elim (reported.each s) [
             | inl a ↦ inl a
             | inr b ↦ elim b [
               | inl n ↦ inr (inl n)
@@ -71,7 +60,7 @@ open_by_parts whole xs c l r at found hl hr told =
             ]
           ];
       faithful = All-push (IsTrueTo whole) (xs ++ r ∷ []) l
-          (All-push (IsTrueTo whole) xs r (all_but_last (IsTrueTo whole) xs c told.faithful)
+          (All-push (IsTrueTo whole) xs r (all_but_last (IsTrueTo whole) xs c reported.faithful)
           (true_part (λ s. at ≤ℤ s.x) whole c r hr t))
           (true_part (λ s. s.x <ℤ at) whole c l hl t);
     }
@@ -113,15 +102,15 @@ pub open_by_one : (whole : Lists) (xs : List Lists) (c : Lists) (best found resu
     → ((result ≡ best) ⊎ (result ≡ found))
     → ((s : Square) → (NotBefore s best ⊎ NotBefore s found) → NotBefore s result) → IsOpen whole (xs ++ c ∷ []) best
     → IsOpen whole xs result
-open_by_one whole xs c best found result up one bound told =
-    let t : IsTrueTo whole c = all_last (IsTrueTo whole) xs c told.faithful in
+open_by_one whole xs c best found result up one bound reported =
+    let t : IsTrueTo whole c = all_last (IsTrueTo whole) xs c reported.faithful in
     record {
       alone =
           elim one [
-            | inl e ↦ subst (IsFoundIn whole) (sym e) told.alone
+            | inl e ↦ subst (IsFoundIn whole) (sym e) reported.alone
             | inr e ↦ subst (IsFoundIn whole) (sym e) (found_alone whole c found t up.alone)
           ];
-      each = λ s. elim (told.each s) [
+      each = λ s. elim (reported.each s) [
         | inl a ↦ inl a
         | inr b ↦ elim b [
           | inl n ↦ inr (inl (bound s (inl n)))
@@ -131,19 +120,19 @@ open_by_one whole xs c best found result up one bound told =
           ]
         ]
       ];
-      faithful = all_but_last (IsTrueTo whole) xs c told.faithful;
+      faithful = all_but_last (IsTrueTo whole) xs c reported.faithful;
     }
 
 -- a column whose lists are the same is done
 pub open_by_none : (whole : Lists) (xs : List Lists) (f g : List (List Point)) (best : Found) → f ≡ g
     → IsOpen whole (xs ++ (f, g) ∷ []) best → IsOpen whole xs best
-open_by_none whole xs f g best e told =
+open_by_none whole xs f g best e reported =
     open_by_one whole xs (f, g) best None best
     (record {
       alone = tt;
       least = λ s. inl (subst (λ (h : List (List Point)). SomeCovers f s ↔ SomeCovers h s) e (λ a. a, λ a. a));
     }) (inl refl)
-    (λ s either. elim either [ inl n ↦ n | inr n ↦ absurd n ]) told
+    (λ s either. elim either [ inl n ↦ n | inr n ↦ absurd n ]) reported
 
 -- at the start the whole is one column
 pub open_at_first : (f g : List (List Point)) → IsOpen (f, g) ((f, g) ∷ []) None
@@ -157,10 +146,10 @@ open_at_first f g =
 
 -- at the end no column is left
 pub first_at_last : (whole : Lists) (found : Found) → IsOpen whole [] found → IsFirst whole found
-first_at_last whole found told = record {
-  alone = told.alone;
+first_at_last whole found reported = record {
+  alone = reported.alone;
   least =
-      λ s. elim (told.each s)
+      λ s. elim (reported.each s)
       [ inl a ↦ inl a | inr b ↦ elim b [ inl n ↦ inr n | inr any ↦ absurd (Any-nil (CoversAs whole s) any) ] ];
 }
 

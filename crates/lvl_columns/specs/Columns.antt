@@ -78,7 +78,7 @@ IsPartOf P l part =
 pub record IsComparedPart (P : Square → Type 0) (l : Lists) (old new : Progress) : Type 0 where
   pub column : Lists
   pub is_part : IsPartOf P l column
-  pub told : (whole : Lists) (others : List Lists) → IsOpen whole (others ++ column ∷ []) old.best
+  pub reported : (whole : Lists) (others : List Lists) → IsOpen whole (others ++ column ∷ []) old.best
       → IsOpen whole others new.best
 
 -- the lists of both halves cover what the column's lists do left of the cut, and what they do right of it

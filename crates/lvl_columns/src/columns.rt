@@ -82,7 +82,7 @@ fn clipped(alloc: Global, rings: &Rings, part: &Part) -> Result<Rings, AllocErro
 impl Progress {
     /// Compares a column as it is.
     fn sweep(&mut self, alloc: Global, first: &Rings, second: &Rings) -> Result<(), AllocError>
-        ensures told { OnOk result (GoesOn first.now second.now self.old self.new) }
+        ensures reported { OnOk result (GoesOn first.now second.now self.old self.new) }
         ensures limit { OnOk result ((self.new.columns ≡ self.old.columns) × (self.new.most ≡ self.old.most)) }
         ensures pending { OnOk result (self.new.pending.items ≡ self.old.pending.items) }
     {
@@ -114,7 +114,7 @@ impl Progress {
 
     /// Compares a column, or cuts it in two.
     fn step(&mut self, alloc: Global, column: Column) -> Result<(), AllocError>
-        ensures told { OnOk result (GoesOn column.first column.second self.old self.new) }
+        ensures reported { OnOk result (GoesOn column.first column.second self.old self.new) }
         ensures limit { OnOk result (self.old.columns ≤ self.old.most → KeepsLimit self.old self.new) }
         ensures work { OnOk result (work_left self.new ≤ work_left self.old) }
     {
@@ -134,7 +134,7 @@ impl Progress {
     /// Compares the columns that are pending, the last one first.
     fn finish(&mut self, alloc: Global) -> Result<(), AllocError>
         requires { self.old.columns ≤ self.old.most }
-        ensures told { OnOk result (EndsWith self.old self.new) }
+        ensures reported { OnOk result (EndsWith self.old self.new) }
         ensures limit { OnOk result (KeepsLimit self.old self.new) }
         ensures done { OnOk result (self.new.pending.items ≡ []) }
     {
@@ -154,7 +154,7 @@ impl Progress {
     ) -> Result<(), AllocError>
         requires none { self.old.pending.items ≡ [] }
         requires limit { self.old.columns ≤ self.old.most }
-        ensures told { OnOk result (IsComparedPart (IsIn part.now) (first.now, second.now) self.old self.new) }
+        ensures reported { OnOk result (IsComparedPart (IsIn part.now) (first.now, second.now) self.old self.new) }
         ensures limit { OnOk result (KeepsLimit self.old self.new) }
         ensures done { OnOk result (self.new.pending.items ≡ []) }
     {

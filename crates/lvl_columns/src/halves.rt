@@ -9,15 +9,6 @@ use lvl_grid::Rings;
 use lvl_simplify::simplified;
 use std::alloc::{AllocError, Global};
 
-/// No rings, with room for three quarters of those of a list: about what a half has.
-fn half_room(alloc: Global, rings: &Rings) -> Result<Rings, AllocError>
-    ensures { IfOk result (λ half. half ≡ []) }
-{
-    let points = rings.points().len();
-    let many = rings.len();
-    Rings::with_capacity(alloc, points - points / 4, many - many / 4)
-}
-
 /// What is left of the rings on both sides of an abscissa, joined where it spans a side.
 fn split(alloc: Global, rings: Rings, at: i64) -> Result<(Rings, Rings), AllocError>
     ensures left { IfOk result
@@ -25,9 +16,7 @@ fn split(alloc: Global, rings: Rings, at: i64) -> Result<(Rings, Rings), AllocEr
     ensures right { IfOk result
         (λ parts. (s : GridSquare) → SomeCovers parts.1 s ↔ ((at ≤ℤ s.x) × SomeCovers rings s)) }
 {
-    let mut left = half_room(alloc, &rings)?;
-    let mut right = half_room(alloc, &rings)?;
-    rings.split_into(at, &mut left, &mut right)?;
+    let (left, right) = rings.split_at(alloc, at)?;
     drop(rings);
     let left = simplified(alloc, left)?;
     let right = simplified(alloc, right)?;

@@ -1,3 +1,3 @@
-pub mod Behind
+pub mod After
 pub mod InStrips
 pub mod InWindows

@@ -48,9 +48,9 @@ head_layer [] = None
 head_layer (sheet ∷ sheets) = Some sheet.layer
 
 -- the sheets without the first, if that is for the Layer
-abbrev pub behind : Layer → List PlainSheet → List PlainSheet
-behind layer [] = []
-behind layer (sheet ∷ sheets) = if same_layer sheet.layer layer then sheets else sheet ∷ sheets
+abbrev pub later : Layer → List PlainSheet → List PlainSheet
+later layer [] = []
+later layer (sheet ∷ sheets) = if same_layer sheet.layer layer then sheets else sheet ∷ sheets
 
 -- the one of two Layers that does not come after the other, or the one that is there
 abbrev pub IsLesser : Option Layer → Option Layer → Option Layer → Type 0

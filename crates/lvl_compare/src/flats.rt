@@ -2,7 +2,7 @@
 ghost use Rattle.std.specs.Prelude.{◌≡◌, ◌↔◌, drop, Some, IfOk, IfNone, IfSome, IsTrue};
 ghost use Rattle.lvl_names.specs.declared.layer.Layer.{Layer as PlainLayer};
 ghost use Rattle.lvl_columns.specs.Windows.{window_of};
-ghost use Rattle.lvl_compare.specs.Flats.{AlikeIn, AlikeOn, IsFirstApart, IsFirstApartIn, IsLesser, behind, head_layer};
+ghost use Rattle.lvl_compare.specs.Flats.{AlikeIn, AlikeOn, IsFirstApart, IsFirstApartIn, IsLesser, later, head_layer};
 
 use lvl_columns::difference_in;
 use lvl_flat::Flat;
@@ -69,7 +69,7 @@ pub fn lesser(first: Option<Layer>, second: Option<Layer>) -> Option<Layer>
 
 /// The index after the Layer's, if it is at this index.
 pub fn past(flat: &Flat, place: usize, layer: Layer) -> usize
-    ensures { drop result flat.now ≡ behind layer (drop place flat.now) }
+    ensures { drop result flat.now ≡ later layer (drop place flat.now) }
 {
     if place < flat.len() && stands_at(flat, place, layer) {
         place + 1

@@ -22,7 +22,7 @@ use Rattle.lvl_flat.specs.inside.Visits.{visit_weight, VisitCovers, PicksFit, pe
 use Rattle.lvl_flat.specs.inside.Walking.{AllHaveSheets, IsWalking, Everywhere, IsUnderWay, IsWalkingWithin}
 use Rattle.lvl_flat.specs.inside.Walking.{SheetsCover}
 use Rattle.lvl_flat.specs.inside.Entering.{begun, IsDrawn, IsCellOut, IsEnterFault}
-use Rattle.lvl_flat.specs.Flattened.{TellsName}
+use Rattle.lvl_flat.specs.Flattened.{ReportsName}
 use Rattle.lvl_flat.specs.declared.fault.FlatFault.{FlatFault}
 use Rattle.lvl_flat.specs.declared.fault.FlatFault.TheVariants.{OutOfRange}
 use Rattle.lvl_flat.proofs.Orders.{sorted_tail, rings_nowhere}
@@ -169,7 +169,7 @@ own_covers c empty new sorted none d layer s =
 
 -- whose vertices are out of range
 pub own_out : (c : PlainCell Rings) (fault : FlatFault) → IsEnterFault (c ∷ []) 0 unmoved fault
-    → TellsName c.name fault × (¬ FitShapes unmoved c.shapes)
+    → ReportsName c.name fault × (¬ FitShapes unmoved c.shapes)
 own_out c (OutOfRange name) o =
     let both : Some c ≡ Some o.cell = o.there in
     let one : o.cell ≡ c = cc in (

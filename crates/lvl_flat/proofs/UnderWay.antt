@@ -17,7 +17,7 @@ use Rattle.lvl_cells.specs.Coverage.{RingsCover, ShapeCovers, CellCovers}
 use Rattle.lvl_flat.specs.declared.visit.Visit.{Visit}
 use Rattle.lvl_flat.specs.declared.fault.FlatFault.{FlatFault}
 use Rattle.lvl_flat.specs.declared.fault.FlatFault.TheVariants.{OutOfRange}
-use Rattle.lvl_flat.specs.Flattened.{IsOutOfRange, IsFlatFault, FitShapes, TellsName}
+use Rattle.lvl_flat.specs.Flattened.{IsOutOfRange, IsFlatFault, FitShapes, ReportsName}
 use Rattle.lvl_flat.specs.inside.Entering.{begun, IsCellOut, IsEnterFault}
 use Rattle.lvl_flat.specs.inside.Steps.{IsPast, IsInto, IsOut}
 use Rattle.lvl_flat.specs.inside.Visits.{Pick, picks, pending, PickCovers, VisitCovers, FitsUnder, PicksFit, IsVisit}
@@ -391,16 +391,16 @@ out_by_vertex s top W C front v i m rest name way into o =
     }
 
 -- the name of a cell that is out of range
-pub names_out : (s : Settled) (name : List ℕ) (fault : FlatFault) → TellsName name fault → IsOutOfRange s name
+pub names_out : (s : Settled) (name : List ℕ) (fault : FlatFault) → ReportsName name fault → IsOutOfRange s name
     → IsFlatFault s fault
-names_out s name (OutOfRange told) tells out = subst (IsOutOfRange s) (sym tells) out
+names_out s name (OutOfRange reported) reports out = subst (IsOutOfRange s) (sym reports) out
 
 pub entered_out : (s : Settled) (i : ℕ) (m : Map) → ((name : List ℕ) → IsCellOut s.cells i m name → IsOutOfRange s name)
     → (fault : FlatFault) → IsEnterFault s.cells i m fault → IsFlatFault s fault
 entered_out s i m out (OutOfRange name) h = out name.items h
 
-pub tells_entered : (cells : List (PlainCell Rings)) (i : ℕ) (m : Map) (c : PlainCell Rings)
-    → slice_get cells i ≡ Some c → (FitShapes m c.shapes → ⊥) → (fault : FlatFault) → TellsName c.name fault
+pub reports_entered : (cells : List (PlainCell Rings)) (i : ℕ) (m : Map) (c : PlainCell Rings)
+    → slice_get cells i ≡ Some c → (FitShapes m c.shapes → ⊥) → (fault : FlatFault) → ReportsName c.name fault
     → IsEnterFault cells i m fault
-tells_entered cells i m c at out (OutOfRange name) tells =
-    record { cell = c; there = at; named = sym tells; out = out }
+reports_entered cells i m c at out (OutOfRange name) reports =
+    record { cell = c; there = at; named = sym reports; out = out }

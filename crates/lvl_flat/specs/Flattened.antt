@@ -82,5 +82,5 @@ abbrev pub FitShapes : Map → List (PlainShape Rings) → Type 0
 FitShapes m shapes = All (λ h. All (λ e. All (FitsRing m e) h.figure) h.shifts) shapes
 
 -- the fault names the cell
-abbrev pub TellsName : List ℕ → FlatFault → Type 0
-TellsName name (OutOfRange told) = told.items ≡ name
+abbrev pub ReportsName : List ℕ → FlatFault → Type 0
+ReportsName name (OutOfRange reported) = reported.items ≡ name

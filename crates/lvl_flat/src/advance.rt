@@ -12,7 +12,7 @@ use crate::visit::Visit;
 use crate::walk::{Step, next_step};
 use lvl_cells::Checked;
 use lvl_grid::{Map, Point, Turn};
-use lvl_refusal::Refusal;
+use lvl_refusal::Cause;
 use std::alloc::Global;
 
 /// The map that leaves all as it is.
@@ -29,7 +29,7 @@ pub(crate) fn advance(
     sheets: &mut Vec<Sheet>,
     stack: &mut Vec<Visit>,
     visit: Visit,
-) -> Result<(), Refusal<FlatFault>>
+) -> Result<(), Cause<FlatFault>>
     requires { IsWalking checked.now sheets.old.items (stack.old.items ++ visit ∷ []) }
     ensures walking { OnOk result (IsWalking checked.now sheets.new.items stack.new.items) }
     ensures nearer { OnOk result
@@ -58,7 +58,7 @@ pub(crate) fn advance(
 /// all references, and are as many as it places there. Only the shifts of whole chains and the
 /// placed vertices are tested for 64 signed bits: a coordinate on the way that is outside and
 /// comes back is not refused (own rule).
-pub fn flatten(alloc: Global, checked: &Checked) -> Result<Flat, Refusal<FlatFault>>
+pub fn flatten(alloc: Global, checked: &Checked) -> Result<Flat, Cause<FlatFault>>
     ensures ok { IfOk result (IsFlattened checked.now) }
     ensures err { IfErr result (λ refusal. Says refusal (IsFlatFault checked.now)) }
 {

@@ -1,7 +1,7 @@
 //! Entering a cell: its shapes are drawn, and it is visited.
 ghost use Rattle.std.specs.Prelude.{◌≡◌, ◌++◌, ◌∷◌, ◌<◌, [], length, IfErr, OnOk};
 ghost use Rattle.lvl_flat.specs.inside.Entering.{begun, IsDrawn, IsEnterFault};
-ghost use Rattle.lvl_flat.specs.Flattened.{TellsName};
+ghost use Rattle.lvl_flat.specs.Flattened.{ReportsName};
 ghost use Rattle.lvl_flat.specs.Sheets.{AreSorted};
 ghost use Rattle.lvl_flat.specs.inside.Walking.{AllHaveSheets};
 ghost use Rattle.lvl_refusal.specs.Refused.{Says};
@@ -12,16 +12,16 @@ use crate::flat::Sheet;
 use crate::visit::Visit;
 use lvl_cells::Cell;
 use lvl_grid::{Map, PlaceFault};
-use lvl_refusal::Refusal;
+use lvl_refusal::Cause;
 use std::alloc::{AllocError, Global};
 
 /// That a cell of this name is out of range.
-pub(crate) fn out_of_range(alloc: Global, name: &[u8]) -> Refusal<FlatFault>
-    ensures { Says result (TellsName name.now) }
+pub(crate) fn out_of_range(alloc: Global, name: &[u8]) -> Cause<FlatFault>
+    ensures { Says result (ReportsName name.now) }
 {
     match Vec::from_slice(alloc, name) {
-        Ok(name) => Refusal::Breach(FlatFault::OutOfRange(name)),
-        Err(_) => Refusal::OutOfMemory,
+        Ok(name) => Cause::Breach(FlatFault::OutOfRange(name)),
+        Err(_) => Cause::OutOfMemory,
     }
 }
 
@@ -40,7 +40,7 @@ pub(crate) fn draw_cell(
     sheets: &mut Vec<Sheet>,
     place: usize,
     map: &Map,
-) -> Result<(), Refusal<FlatFault>>
+) -> Result<(), Cause<FlatFault>>
     requires there { place < length cells.now }
     requires sorted { AreSorted sheets.old.items }
     requires layers { AllHaveSheets sheets.old.items cells.now }
@@ -51,6 +51,6 @@ pub(crate) fn draw_cell(
     match draw_shapes(sheets, &cell.shapes, map) {
         Ok(()) => Ok(()),
         Err(PlaceFault::OutOfRange) => Err(out_of_range(alloc, &cell.name)),
-        Err(PlaceFault::OutOfMemory) => Err(Refusal::OutOfMemory),
+        Err(PlaceFault::OutOfMemory) => Err(Cause::OutOfMemory),
     }
 }

@@ -12,7 +12,7 @@ use crate::flat::Flat;
 use crate::windowed::{check_range, flatten_within};
 use lvl_cells::Checked;
 use lvl_grid::Window;
-use lvl_refusal::Refusal;
+use lvl_refusal::Cause;
 use std::alloc::{AllocError, Global};
 use std::marker::Model;
 
@@ -39,7 +39,7 @@ impl Model for Fitted {
 impl Fitted {
     /// The library with the boxes of its cells. Refused exactly where [`flatten`](crate::flatten) refuses
     /// it: where a chain of references or a vertex that it places is outside of 64 signed bits.
-    pub fn new(alloc: Global, checked: Checked) -> Result<Fitted, Refusal<FlatFault>>
+    pub fn new(alloc: Global, checked: Checked) -> Result<Fitted, Cause<FlatFault>>
         ensures ok { IfOk result (λ fitted. fitted ≡ checked) }
         ensures in_range { IfOk result IsTopInRange }
         ensures err { IfErr result (λ refusal. Says refusal (IsFlatFault checked)) }
@@ -83,8 +83,8 @@ impl Fitted {
     {
         match flatten_within(alloc, &self.checked, &self.boxes, window, most) {
             Ok(flat) => Ok(flat),
-            Err(Refusal::OutOfMemory) => Err(AllocError),
-            Err(Refusal::Breach(_)) => unreachable!(),
+            Err(Cause::OutOfMemory) => Err(AllocError),
+            Err(Cause::Breach(_)) => unreachable!(),
         }
     }
 }

@@ -6,7 +6,7 @@ ghost use Rattle.lvl_cells.specs.Chains.{unmoved};
 ghost use Rattle.lvl_cells.specs.Coverage.{RingsCover, ShapeCovers};
 ghost use Rattle.lvl_flat.specs.Sheets.{rings_on};
 ghost use Rattle.lvl_flat.specs.Flattened.{FitShapes};
-ghost use Rattle.lvl_flat.specs.Flattened.{TellsName};
+ghost use Rattle.lvl_flat.specs.Flattened.{ReportsName};
 ghost use Rattle.lvl_refusal.specs.Refused.{Says};
 
 use crate::advance::UNMOVED;
@@ -15,17 +15,17 @@ use crate::fault::FlatFault;
 use crate::flat::Flat;
 use crate::layers::sheets_of;
 use lvl_cells::Cell;
-use lvl_refusal::Refusal;
+use lvl_refusal::Cause;
 use std::alloc::Global;
 use std::slice;
 
 /// The rings of a cell's own shapes at all their shifts, Layer by Layer; its references are left
 /// out. It is refused as out of range where one of these vertices is outside 64 signed bits.
-pub fn flatten_shapes(alloc: Global, cell: &Cell) -> Result<Flat, Refusal<FlatFault>>
+pub fn flatten_shapes(alloc: Global, cell: &Cell) -> Result<Flat, Cause<FlatFault>>
     ensures covers { IfOk result (λ flat. (layer : Layer) (s : Square)
         → RingsCover (rings_on layer flat) s ↔ Any (ShapeCovers RingsCover layer s) cell.now.shapes) }
     ensures err { IfErr result (λ refusal. Says refusal
-        (λ fault. TellsName cell.now.name fault × ¬ FitShapes unmoved cell.now.shapes)) }
+        (λ fault. ReportsName cell.now.name fault × ¬ FitShapes unmoved cell.now.shapes)) }
 {
     let alone = slice::from_ref(cell);
     let mut sheets = sheets_of(alloc, alone)?;

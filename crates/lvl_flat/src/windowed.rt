@@ -19,7 +19,7 @@ use crate::walk::{Step, next_step};
 use crate::within::{Room, draw_shapes_within};
 use lvl_cells::{Cell, Checked};
 use lvl_grid::{Map, PlaceFault, Window};
-use lvl_refusal::Refusal;
+use lvl_refusal::Cause;
 use std::alloc::Global;
 
 /// Draws the shapes of the cell at an index, as far as they reach into the window.
@@ -30,7 +30,7 @@ fn draw_cell_within(
     index: usize,
     map: &Map,
     window: &Window,
-) -> Result<(), Refusal<FlatFault>>
+) -> Result<(), Cause<FlatFault>>
     requires there { index < length cells.now }
     requires sorted { AreSorted sheets.old.items }
     requires layers { AllHaveSheets sheets.old.items cells.now }
@@ -42,7 +42,7 @@ fn draw_cell_within(
     match draw_shapes_within(room, sheets, &cell.shapes, map, window) {
         Ok(()) => Ok(()),
         Err(PlaceFault::OutOfRange) => Err(out_of_range(room.alloc, &cell.name)),
-        Err(PlaceFault::OutOfMemory) => Err(Refusal::OutOfMemory),
+        Err(PlaceFault::OutOfMemory) => Err(Cause::OutOfMemory),
     }
 }
 
@@ -56,7 +56,7 @@ fn advance_within(
     sheets: &mut Vec<Sheet>,
     stack: &mut Vec<Visit>,
     visit: Visit,
-) -> Result<(), Refusal<FlatFault>>
+) -> Result<(), Cause<FlatFault>>
     requires boxes { AreBoxes checked.now.cells boxes.now }
     requires walking { IsWalkingWithin checked.now window.now sheets.old.items (stack.old.items ++ visit ∷ []) }
     ensures walking { OnOk result (IsWalkingWithin checked.now window.now sheets.new.items stack.new.items) }
@@ -97,7 +97,7 @@ pub(crate) fn flatten_within(
     boxes: &Boxes,
     window: &Window,
     most: usize,
-) -> Result<Flat, Refusal<FlatFault>>
+) -> Result<Flat, Cause<FlatFault>>
     requires { AreBoxes checked.now.cells boxes.now }
     ensures ok { IfOk result (IsFlattenedWithin checked.now window.now) }
     ensures err { IfErr result (λ refusal. Says refusal (IsFlatFault checked.now)) }
@@ -138,7 +138,7 @@ pub(crate) fn check_range(
     alloc: Global,
     checked: &Checked,
     boxes: &Boxes,
-) -> Result<(), Refusal<FlatFault>>
+) -> Result<(), Cause<FlatFault>>
     requires { AreBoxes checked.now.cells boxes.now }
     ensures ok { IfOk result (λ _. IsTopInRange checked.now) }
     ensures err { IfErr result (λ refusal. Says refusal (IsFlatFault checked.now)) }

@@ -89,18 +89,18 @@ first_once e (i ∷ x) (j ∷ x') y y' p q h =
     (let g : x ++ (e ∷ y) ≡ x' ++ (e ∷ y') = cc in first_once e x x' y y' p.1 q.1 g)
 
 -- an f comes after the e that ends the list before
-behind : (e f : ℕ) (w more u v : List ℕ) → f ≢ e → Lacks f u → w ++ (f ∷ more) ≡ u ++ (e ∷ v)
+later : (e f : ℕ) (w more u v : List ℕ) → f ≢ e → Lacks f u → w ++ (f ∷ more) ≡ u ++ (e ∷ v)
     → (z : List ℕ) × (w ≡ u ++ (e ∷ z)) × (v ≡ z ++ (f ∷ more))
-behind e f [] more [] v n p h = absurd (n (let g : f ≡ e = cc in g))
-behind e f (i ∷ w) more [] v n p h =
+later e f [] more [] v n p h = absurd (n (let g : f ≡ e = cc in g))
+later e f (i ∷ w) more [] v n p h =
     let g : i ≡ e = cc in
     let t : w ++ (f ∷ more) ≡ v = cc in
     (w, ap (λ k. k ∷ w) g, sym t)
-behind e f [] more (j ∷ u) v n p h = absurd (p.0 (let g : j ≡ f = cc in g))
-behind e f (i ∷ w) more (j ∷ u) v n p h =
+later e f [] more (j ∷ u) v n p h = absurd (p.0 (let g : j ≡ f = cc in g))
+later e f (i ∷ w) more (j ∷ u) v n p h =
     let g : i ≡ j = cc in
     let t : w ++ (f ∷ more) ≡ u ++ (e ∷ v) = cc in
-    let q = behind e f w more u v n p.1 t in
+    let q = later e f w more u v n p.1 t in
     (q.0, ap (λ k. k ∷ w) g ∙ ap (λ l. j ∷ l) q.1, q.2)
 
 -- where f may come, what comes before is a word, in parts
@@ -108,7 +108,7 @@ before_fill : (a : Order) (e f : ℕ) (w : List ℕ) → has a f ≡ false → f
     → Parts a e f w
 before_fill a e f w nf n g =
     let p = parts_of a e f (w ++ (f ∷ g.0)) (subst (IsWord (ends a e f)) (append_assoc w (f ∷ []) g.0) g.1) in
-    let q = behind e f w g.0 p.0 p.1 n (word_lacks a f p.0 nf p.2) p.4 in
+    let q = later e f w g.0 p.0 p.1 n (word_lacks a f p.0 nf p.2) p.4 in
     (p.0, q.0, p.2, all_left (λ x. x ≡ f) q.0 (f ∷ g.0) (subst (Repeats f) q.2 p.3), q.1)
 
 -- where f may come, no other type may

@@ -24,8 +24,8 @@ middle s = record { x = s.x +ℤ s.x +ℤ pos 1; y = s.y +ℤ s.y +ℤ pos 1 }
 half : (a b : ℤ) → a +ℤ a +ℤ pos 1 ≡ b +ℤ b +ℤ pos 1 → a ≡ b
 half a b e = omega (arith, ints)
 
-middle_tells : (s t : Square) → middle s ≡ middle t → s ≡ t
-middle_tells s t e =
+middle_reports : (s t : Square) → middle s ≡ middle t → s ≡ t
+middle_reports s t e =
     same_square s t (half s.x t.x (ap (λ (p : Point). p.x) e)) (half s.y t.y (ap (λ (p : Point). p.y) e))
 
 -- the map that does to middles what the map does to squares: its shift counts twice
@@ -83,7 +83,7 @@ image_square-composed m n w each s =
     ≡ shifted m.at (shifted (turned_only m n.at) (image m (image n p))) =
     middle-image m (image_square n s)
     ∙ ap (shifted m.at) (ap (image m) (middle-image n s) ∙ image-shifted m n.at (image n p)) in
-    middle_tells _ _ (left ∙ (sym (shifted_twice m.at (turned_only m n.at) (image m (image n p))) ∙ sym right))
+    middle_reports _ _ (left ∙ (sym (shifted_twice m.at (turned_only m n.at) (image m (image n p))) ∙ sym right))
 
 -- the square whose image is t
 abbrev pub unplaced : Map → Square → Square

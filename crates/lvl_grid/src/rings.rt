@@ -120,7 +120,7 @@ impl Rings {
         }
     }
 
-    /// No rings, with room for so many points and so many rings.
+    /// No rings, with room for `points` points and `rings` rings.
     pub fn with_capacity(alloc: Global, points: usize, rings: usize) -> Result<Rings, AllocError>
         ensures { IfOk result (λ rings. rings ≡ []) }
     {
@@ -308,18 +308,30 @@ impl Rings {
         Ok(clipped)
     }
 
-    /// Appends to `left` what is left of the rings in the squares with `x < at`, and to `right`
-    /// what is left of them in the others, in one pass.
-    pub fn split_into(&self, at: i64, left: &mut Rings, right: &mut Rings) -> Result<(), AllocError>
-        ensures left { OnOk result ((s : GridSquare)
-            → SomeCovers left.new s ↔ (SomeCovers left.old s ⊎ ((s.x <ℤ at) × SomeCovers self.now s))) }
-        ensures right { OnOk result ((s : GridSquare)
-            → SomeCovers right.new s ↔ (SomeCovers right.old s ⊎ ((at ≤ℤ s.x) × SomeCovers self.now s))) }
+    /// No rings, with room for three quarters of the points and of the rings: half of a list seldom
+    /// has more.
+    fn half_room(&self, alloc: Global) -> Result<Rings, AllocError>
+        ensures { IfOk result (λ half. half ≡ []) }
     {
+        let points = self.points.len();
+        let rings = self.len();
+        Rings::with_capacity(alloc, points - points / 4, rings - rings / 4)
+    }
+
+    /// What is left of the rings in the squares with `x < at`, and what is left of them in the
+    /// others, in one pass.
+    pub fn split_at(&self, alloc: Global, at: i64) -> Result<(Rings, Rings), AllocError>
+        ensures left { IfOk result
+            (λ parts. (s : GridSquare) → SomeCovers parts.0 s ↔ ((s.x <ℤ at) × SomeCovers self.now s)) }
+        ensures right { IfOk result
+            (λ parts. (s : GridSquare) → SomeCovers parts.1 s ↔ ((at ≤ℤ s.x) × SomeCovers self.now s)) }
+    {
+        let mut left = self.half_room(alloc)?;
+        let mut right = self.half_room(alloc)?;
         for i in 0..self.len() {
-            push_split(self.ring(i), at, left, right)?;
+            push_split(self.ring(i), at, &mut left, &mut right)?;
         }
-        Ok(())
+        Ok((left, right))
     }
 }
 

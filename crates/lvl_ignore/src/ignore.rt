@@ -5,7 +5,7 @@ ghost use Rattle.lvl_ignore.specs.Ignored.{comma, everything, nothing, union, un
 ghost use Rattle.lvl_ignore.specs.declared.ignore.Ignore.{Ignore as Ignored};
 ghost use Rattle.lvl_refusal.specs.Refused.{Says};
 
-use lvl_refusal::Refusal;
+use lvl_refusal::Cause;
 use std::alloc::{AllocError, Global};
 use thiserror::Error;
 
@@ -52,14 +52,14 @@ impl Ignore {
 
     /// What a text says: words joined by commas, each of which adds what it names. A word may come
     /// again. `all` names everything (own rule).
-    pub fn read(alloc: Global, text: &str) -> Result<Ignore, Refusal<IgnoreFault>>
+    pub fn read(alloc: Global, text: &str) -> Result<Ignore, Cause<IgnoreFault>>
         ensures ok { IfOk result (IsText text.now) }
         ensures err { IfErr result (λ refusal. Says refusal (λ fault. (ignore : Ignored) → ¬ IsText text.now ignore)) }
     {
         let words = words_of(alloc, text)?;
         match union_of(&words) {
             Some(ignore) => Ok(ignore),
-            None => Err(Refusal::Breach(IgnoreFault::IgnoreText)),
+            None => Err(Cause::Breach(IgnoreFault::IgnoreText)),
         }
     }
 

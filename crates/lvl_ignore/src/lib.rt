@@ -8,7 +8,7 @@
 //! let ignore = Ignore::read(alloc, "properties,names")?;
 //! assert!(rt; ignore.properties && ignore.names && !ignore.texts);
 //! let refused = Ignore::read(alloc, "property");
-//! assert_eq!(rt; refused, Err(Refusal::Breach(IgnoreFault::IgnoreText)));
+//! assert_eq!(rt; refused, Err(Cause::Breach(IgnoreFault::IgnoreText)));
 //! ```
 #![tactic(auto)]
 

@@ -1,7 +1,7 @@
 //! Texts, and what they name.
 
 use crate::{Ignore, IgnoreFault};
-use lvl_refusal::Refusal;
+use lvl_refusal::Cause;
 use std::alloc::AllocError;
 use std::test::Fail;
 
@@ -67,8 +67,8 @@ fn texts_name_what_they_say(rt: HostRuntime) -> Result<(), Fail> {
                 ignore.names,
                 ignore.padding,
             ]),
-            Err(Refusal::Breach(IgnoreFault::IgnoreText)) => None,
-            Err(Refusal::OutOfMemory) => return Err(AllocError.into()),
+            Err(Cause::Breach(IgnoreFault::IgnoreText)) => None,
+            Err(Cause::OutOfMemory) => return Err(AllocError.into()),
         };
         assert_eq!(rt; found, *named, "{text}");
     }
@@ -81,7 +81,7 @@ fn one_text(rt: HostRuntime) -> Result<(), Fail> {
     let ignore = Ignore::read(alloc, "properties,names")?;
     assert!(rt; ignore.properties && ignore.names && !ignore.texts);
     let refused = Ignore::read(alloc, "property");
-    assert_eq!(rt; refused, Err(Refusal::Breach(IgnoreFault::IgnoreText)));
+    assert_eq!(rt; refused, Err(Cause::Breach(IgnoreFault::IgnoreText)));
     Ok(())
 }
 
@@ -92,7 +92,7 @@ fn growths_of_a_text(rt: HostRuntime) -> Result<(), Fail> {
             assert_eq!(rt; ignore, Ignore::EVERYTHING);
             Ok(())
         }
-        Err(Refusal::OutOfMemory) => Err(AllocError.into()),
-        Err(Refusal::Breach(_)) => Err("another refusal".into()),
+        Err(Cause::OutOfMemory) => Err(AllocError.into()),
+        Err(Cause::Breach(_)) => Err("another refusal".into()),
     }
 }

@@ -53,7 +53,7 @@ fn writes_to_a_vec_of_std(rt: HostRuntime) -> Result<(), Fail> {
 }
 
 #[test]
-fn tells_a_failed_write(rt: HostRuntime) {
+fn reports_a_failed_write(rt: HostRuntime) {
     let mut writer = Counted::new(Full {
         room: 2,
         fails: true,

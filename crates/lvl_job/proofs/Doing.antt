@@ -61,11 +61,11 @@ module _ {S : Type 0} (opens : S → List ℕ → Option (Option (List ℕ)) →
   }
 
   pub pair_fault : (view : Option PlainView) (a b : Named) (old new : S) (from to : Option (List ℕ)) (fault : RunFault)
-      (told : JobFault) → told ≡ fault_of_run fault
+      (reported : JobFault) → reported ≡ fault_of_run fault
       → OfTwo opens old new a b (λ x y. IsBegun (IsComparedUnder view x y) text_of from to)
       → (failed_run fault ≡ Err RunOutOfMemory → Keeps from to)
-      → IsPairFault opens view a b old new from to told
-  pair_fault view a b old new from to fault told is begun nothing =
+      → IsPairFault opens view a b old new from to reported
+  pair_fault view a b old new from to fault reported is begun nothing =
       subst (IsPairFault opens view a b old new from to) (sym is) (go fault nothing)
     where
       go : (fault : RunFault) → (failed_run fault ≡ Err RunOutOfMemory → Keeps from to)
@@ -75,11 +75,11 @@ module _ {S : Type 0} (opens : S → List ℕ → Option (Option (List ℕ)) →
 
   module _ {X : Type 0} (IsAnswerOf : Input → X → Type 0) (text : X → List ℕ) where
     pub one_fault : (a : Named) (old new : S) (from to : Option (List ℕ)) (fault : RunFault)
-        (told : JobFault) → told ≡ fault_of_run fault
+        (reported : JobFault) → reported ≡ fault_of_run fault
         → OfOne opens old new a (λ x. IsBegun (IsAnswerOf x) text from to)
         → (failed_run fault ≡ Err RunOutOfMemory → Keeps from to)
-        → IsOneFault opens IsAnswerOf text a old new from to told
-    one_fault a old new from to fault told is begun nothing =
+        → IsOneFault opens IsAnswerOf text a old new from to reported
+    one_fault a old new from to fault reported is begun nothing =
         subst (IsOneFault opens IsAnswerOf text a old new from to) (sym is) (go fault nothing)
       where
         go : (fault : RunFault) → (failed_run fault ≡ Err RunOutOfMemory → Keeps from to)

@@ -21,7 +21,7 @@ use lvl::Tops;
 use lvl_ignore::Ignore;
 use lvl_io::{Read, Write};
 use lvl_line::Job;
-use lvl_refusal::Refusal;
+use lvl_refusal::Cause;
 use lvl_report::{Outcome, RunFault, run_by, run_digest, run_show_by, run_view_by};
 use lvl_view::View;
 use std::alloc::Global;
@@ -62,8 +62,8 @@ fn view_of(
     }
     match View::read(alloc, map.as_deref(), window.as_deref()) {
         Ok(view) => Ok(Some(view)),
-        Err(Refusal::Breach(fault)) => Err(JobFault::BadView(fault)),
-        Err(Refusal::OutOfMemory) => Err(JobFault::OutOfMemory),
+        Err(Cause::Breach(fault)) => Err(JobFault::BadView(fault)),
+        Err(Cause::OutOfMemory) => Err(JobFault::OutOfMemory),
     }
 }
 
@@ -77,8 +77,8 @@ fn ignore_of(alloc: Global, text: &Option<String>) -> Result<Ignore, JobFault>
     };
     match Ignore::read(alloc, text.as_str()) {
         Ok(ignore) => Ok(ignore),
-        Err(Refusal::Breach(fault)) => Err(JobFault::BadIgnore(fault)),
-        Err(Refusal::OutOfMemory) => Err(JobFault::OutOfMemory),
+        Err(Cause::Breach(fault)) => Err(JobFault::BadIgnore(fault)),
+        Err(Cause::OutOfMemory) => Err(JobFault::OutOfMemory),
     }
 }
 

@@ -10,8 +10,8 @@ use Rattle.lvl_grid.specs.Winding.{last_or, path_edges}
 use Rattle.lvl_path.specs.declared.band.Reach.{Reach}
 use Rattle.lvl_path.specs.declared.fault.PathFault.{PathFault}
 use Rattle.lvl_path.specs.declared.fault.PathFault.TheVariants.{OutOfRange}
-use Rattle.lvl_refusal.specs.declared.Refusal.{Refusal}
-use Rattle.lvl_refusal.specs.declared.Refusal.TheVariants.{Breach, OutOfMemory}
+use Rattle.lvl_refusal.specs.declared.Cause.{Cause}
+use Rattle.lvl_refusal.specs.declared.Cause.TheVariants.{Breach, OutOfMemory}
 use Rattle.lvl_refusal.specs.Refused.{Says}
 use Rattle.lvl_path.specs.Bands.{FitsBand}
 use Rattle.lvl_path.specs.Runs.{is_corner, run_band, HasFault}
@@ -115,7 +115,7 @@ far_run ps w k from h there more out =
 -- a refusal of such a run's band is a refusal of the path
 pub far_refusal : (ps : List Point) (w : Reach) (k from : ℕ) → 0 < k → k < length ps
     → runs_to ps (k + 1) ≡ runs_to ps k ++ (from, k) ∷ []
-    → (refusal : Refusal PathFault) → Says refusal (λ fault. (fault ≡ OutOfRange)
+    → (refusal : Cause PathFault) → Says refusal (λ fault. (fault ≡ OutOfRange)
     × ¬ FitsBand (run_band ps w (from, k)))
     → Says refusal (λ fault. (fault ≡ OutOfRange) × HasFault ps w fault)
 far_refusal ps w k from h there more (Breach fault) (is, out) =

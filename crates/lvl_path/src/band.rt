@@ -7,7 +7,7 @@ ghost use Rattle.lvl_refusal.specs.Refused.{Says};
 use crate::PathFault;
 use crate::way::Way;
 use lvl_grid::{Point, Ring};
-use lvl_refusal::Refusal;
+use lvl_refusal::Cause;
 use std::alloc::{AllocError, Global};
 
 /// Half the width of a path, and how far it reaches beyond its start and its end.
@@ -66,17 +66,17 @@ impl Band {
 
     /// The band as a ring, from its lower left corner over lower right and upper right to upper
     /// left.
-    pub(crate) fn ring(self, alloc: Global) -> Result<Ring, Refusal<PathFault>>
+    pub(crate) fn ring(self, alloc: Global) -> Result<Ring, Cause<PathFault>>
         ensures ok { IfOk result (λ ring. ring ≡ band_ring self) }
         ensures fits { IfOk result (λ _. FitsBand self) }
         ensures err { IfErr result
             (λ refusal. Says refusal (λ fault. (fault ≡ PathFault.OutOfRange) × ¬ FitsBand self)) }
     {
         let (Ok(x0), Ok(y0)) = (i64::try_from(self.x0), i64::try_from(self.y0)) else {
-            return Err(Refusal::Breach(PathFault::OutOfRange));
+            return Err(Cause::Breach(PathFault::OutOfRange));
         };
         let (Ok(x1), Ok(y1)) = (i64::try_from(self.x1), i64::try_from(self.y1)) else {
-            return Err(Refusal::Breach(PathFault::OutOfRange));
+            return Err(Cause::Breach(PathFault::OutOfRange));
         };
         Ok(ring_between(alloc, Point { x: x0, y: y0 }, Point { x: x1, y: y1 })?)
     }

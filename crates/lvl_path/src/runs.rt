@@ -9,7 +9,7 @@ use crate::PathFault;
 use crate::band::Reach;
 use crate::steps::{has_oblique_step, has_repeated_point, is_corner, turns_back};
 use lvl_grid::{Point, Ring};
-use lvl_refusal::Refusal;
+use lvl_refusal::Cause;
 use std::alloc::Global;
 
 /// The bands of a path's runs, in the order of the runs, each a ring from its lower left corner
@@ -22,7 +22,7 @@ pub fn bands(
     half: u64,
     start: u64,
     end: u64,
-) -> Result<Vec<Ring>, Refusal<PathFault>>
+) -> Result<Vec<Ring>, Cause<PathFault>>
     ensures rings { IfOk result (λ rings.
         rings.items ≡ path_rings points.now (record { half = half; start = start; end = end })) }
     ensures covers { IfOk result (λ rings. (s : GridSquare) → Any (λ ring. Covers ring s) rings.items
@@ -32,23 +32,23 @@ pub fn bands(
         Says refusal (IsLowestFault points.now (record { half = half; start = start; end = end }))) }
 {
     if half == 0 {
-        return Err(Refusal::Breach(PathFault::NoWidth));
+        return Err(Cause::Breach(PathFault::NoWidth));
     }
     if points.len() < 2 {
-        return Err(Refusal::Breach(PathFault::FewPoints));
+        return Err(Cause::Breach(PathFault::FewPoints));
     }
     if has_oblique_step(points) {
-        return Err(Refusal::Breach(PathFault::Oblique));
+        return Err(Cause::Breach(PathFault::Oblique));
     }
     if has_repeated_point(points) {
-        return Err(Refusal::Breach(PathFault::RepeatedPoint));
+        return Err(Cause::Breach(PathFault::RepeatedPoint));
     }
     if turns_back(points) {
-        return Err(Refusal::Breach(PathFault::TurnsBack));
+        return Err(Cause::Breach(PathFault::TurnsBack));
     }
     let runs = measure_runs(points, half);
     if runs.count > 1 && runs.some_short {
-        return Err(Refusal::Breach(PathFault::ShortRun));
+        return Err(Cause::Breach(PathFault::ShortRun));
     }
     run_bands(alloc, points, &Reach { half, start, end }, runs.count)
 }
@@ -96,7 +96,7 @@ fn run_bands(
     points: &[Point],
     reach: &Reach,
     count: usize,
-) -> Result<Vec<Ring>, Refusal<PathFault>>
+) -> Result<Vec<Ring>, Cause<PathFault>>
     requires { 2 ≤ length points.now }
     ensures ok { IfOk result (λ rings. rings.items ≡ path_rings points.now reach.now) }
     ensures fits { IfOk result (λ _. ¬ HasFault points.now reach.now PathFault.OutOfRange) }

@@ -1,7 +1,7 @@
 //! Worked paths, and each growth refused in turn.
 use crate::{PathFault, bands};
 use lvl_grid::{Point, Ring};
-use lvl_refusal::Refusal;
+use lvl_refusal::Cause;
 use std::alloc::{AllocError, Global};
 use std::test::Fail;
 
@@ -158,7 +158,7 @@ fn faults_by_their_number(rt: HostRuntime) -> Result<(), Fail> {
         let points = path(rt.alloc(), points)?;
         assert_eq!(rt;
             bands(rt.alloc(), &points, half, 0, 0).err(),
-            Some(Refusal::Breach(want)),
+            Some(Cause::Breach(want)),
             "{name}"
         );
     }

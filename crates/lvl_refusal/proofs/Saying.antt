@@ -1,8 +1,8 @@
 -- What a refusal says, in other words.
-use Rattle.lvl_refusal.specs.declared.Refusal.{Refusal}
-use Rattle.lvl_refusal.specs.declared.Refusal.TheVariants.{Breach, OutOfMemory}
+use Rattle.lvl_refusal.specs.declared.Cause.{Cause}
+use Rattle.lvl_refusal.specs.declared.Cause.TheVariants.{Breach, OutOfMemory}
 use Rattle.lvl_refusal.specs.Refused.{Says}
 
-pub Says-map : {F : Type 0} (P Q : F → Type 0) (r : Refusal F) → ((f : F) → P f → Q f) → Says r P → Says r Q
+pub Says-map : {F : Type 0} (P Q : F → Type 0) (r : Cause F) → ((f : F) → P f → Q f) → Says r P → Says r Q
 Says-map P Q (Breach f) step h = step f h
 Says-map P Q OutOfMemory step h = tt

@@ -1,7 +1,7 @@
 //! Why something was refused, where memory may be refused too.
 //!
 //! A call that takes memory can fail in two ways: what it was given breaches a rule, or an
-//! allocation failed. [`Refusal`] keeps the two apart once for all crates, so that the enum of
+//! allocation failed. [`Cause`] keeps the two apart once for all crates, so that the enum of
 //! rules of each layer names rules alone, and `?` serves both.
 //!
 //! A caller who wants the fault of a text, if it has one:
@@ -9,8 +9,8 @@
 //! ```
 //! match View::read(alloc, map, window) {
 //!     Ok(_) => Ok(None),
-//!     Err(Refusal::Breach(fault)) => Ok(Some(fault)),
-//!     Err(Refusal::OutOfMemory) => Err(AllocError),
+//!     Err(Cause::Breach(fault)) => Ok(Some(fault)),
+//!     Err(Cause::OutOfMemory) => Err(AllocError),
 //! }
 //! ```
 #![tactic(auto)]
@@ -23,40 +23,40 @@ use std::fmt;
 
 /// Why something was refused.
 #[derive(Clone, Copy, Debug, Drop, PartialEq, Eq)]
-pub enum Refusal<F> {
+pub enum Cause<F> {
     /// This rule is breached.
     Breach(F),
     /// An allocation failed. It says nothing of what was given.
     OutOfMemory,
 }
 
-impl<F> From<AllocError> for Refusal<F> {
-    ghost use Rattle.lvl_refusal.specs.declared.Refusal.TheVariants.{OutOfMemory};
+impl<F> From<AllocError> for Cause<F> {
+    ghost use Rattle.lvl_refusal.specs.declared.Cause.TheVariants.{OutOfMemory};
 
     ghost from_gives = { λ _ e. e ≡ OutOfMemory };
 
-    fn from(_e: AllocError) -> Refusal<F> {
-        Refusal::OutOfMemory
+    fn from(_e: AllocError) -> Cause<F> {
+        Cause::OutOfMemory
     }
 }
 
-impl<F, T: Drop> From<AllocFailed<T>> for Refusal<F> {
-    ghost use Rattle.lvl_refusal.specs.declared.Refusal.TheVariants.{OutOfMemory};
+impl<F, T: Drop> From<AllocFailed<T>> for Cause<F> {
+    ghost use Rattle.lvl_refusal.specs.declared.Cause.TheVariants.{OutOfMemory};
 
     ghost from_gives = { λ _ e. e ≡ OutOfMemory };
 
-    fn from(_e: AllocFailed<T>) -> Refusal<F> {
-        Refusal::OutOfMemory
+    fn from(_e: AllocFailed<T>) -> Cause<F> {
+        Cause::OutOfMemory
     }
 }
 
-impl<F: fmt::Display> fmt::Display for Refusal<F> {
+impl<F: fmt::Display> fmt::Display for Cause<F> {
     fn fmt<W: fmt::Write>(&self, f: &mut fmt::Formatter<W>) -> fmt::Result {
         match self {
-            Refusal::Breach(rule) => rule.fmt(f),
-            Refusal::OutOfMemory => f.write_str("out of memory"),
+            Cause::Breach(rule) => rule.fmt(f),
+            Cause::OutOfMemory => f.write_str("out of memory"),
         }
     }
 }
 
-impl<F: Error> Error for Refusal<F> {}
+impl<F: Error> Error for Cause<F> {}

@@ -32,9 +32,9 @@ pub row_step : (rings : List (List Point)) (xs : List ℤ) (cells new : List Boo
     → i < length xs → IsRowOf rings (take i xs) y cells → new ≡ cells ++ b ∷ [] → x ≡ get_or xs i (pos 0)
     → (IsTrue b ↔ SomeCovers rings (record { x = x; y = y })) → IsRowOf rings (take (i + 1) xs) y new
 unfolding IsRowOf
-row_step rings xs cells new i x y b lt before e same told =
+row_step rings xs cells new i x y b lt before e same reported =
     let R : ℤ → Bool → Type 0 = λ v cell. IsTrue cell ↔ SomeCovers rings (record { x = v; y = y }) in
-    let here : R (get_or xs i (pos 0)) b = subst (λ (v : ℤ). R v b) same told in
+    let here : R (get_or xs i (pos 0)) b = subst (λ (v : ℤ). R v b) same reported in
     rw e (zip_more R xs cells i (pos 0) b lt before here)
 
 pub row_done : (rings : List (List Point)) (xs : List ℤ) (y y' : ℤ) (cells : List Bool) (i : ℕ) → length xs ≤ i → y' ≡ y
@@ -123,9 +123,9 @@ pub built_step : (rings : List (List Point)) (xs ys : List ℤ) (rows new : List
     (row : Vec Bool) → i < length ys → AreRowsOf rings xs (take i ys) rows → new ≡ rows ++ row ∷ []
     → y ≡ get_or ys i (pos 0) → IsRowOf rings xs y row.items → AreRowsOf rings xs (take (i + 1) ys) new
 unfolding AreRowsOf
-built_step rings xs ys rows new i y row lt before e same told =
+built_step rings xs ys rows new i y row lt before e same reported =
     let R : ℤ → Vec Bool → Type 0 = λ v r. IsRowOf rings xs v r.items in
-    let here : R (get_or ys i (pos 0)) row = subst (λ (v : ℤ). R v row) same told in
+    let here : R (get_or ys i (pos 0)) row = subst (λ (v : ℤ). R v row) same reported in
     rw e (zip_more R ys rows i (pos 0) row lt before here)
 
 pub built_done : (rings : List (List Point)) (xs ys : List ℤ) (rows : List (Vec Bool)) (i : ℕ) → length ys ≤ i

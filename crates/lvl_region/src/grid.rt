@@ -38,7 +38,7 @@ fn row_of(alloc: Global, rings: &[Ring], xs: &[i64], y: i64) -> Result<Vec<bool>
 }
 
 /// The cell after `passed` lines.
-fn cell_behind(cells: &[bool], passed: usize) -> bool
+fn cell_after(cells: &[bool], passed: usize) -> bool
     ensures { result ≡ slice_index_or (false ∷ cells.now) passed false }
 {
     if passed == 0 || cells.len() < passed {
@@ -48,7 +48,7 @@ fn cell_behind(cells: &[bool], passed: usize) -> bool
 }
 
 /// The row after `passed` lines.
-fn row_behind(rows: &[Vec<bool>], passed: usize) -> &[bool]
+fn row_after(rows: &[Vec<bool>], passed: usize) -> &[bool]
     ensures { result.now ≡ slice_index_or ([] ∷ map (λ row. row.items) rows.now) passed [] }
 {
     if passed == 0 || rows.len() < passed {
@@ -71,8 +71,8 @@ impl Region for GridRegion {
     }
 
     fn covers(&self, square: Square) -> bool {
-        let row = row_behind(&self.rows, count_passed(&self.ys, square.y));
-        cell_behind(row, count_passed(&self.xs, square.x))
+        let row = row_after(&self.rows, count_passed(&self.ys, square.y));
+        cell_after(row, count_passed(&self.xs, square.x))
     }
 
     /// The one on the least line of either, and there the least, which no contract promises.

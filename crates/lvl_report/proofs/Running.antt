@@ -29,7 +29,7 @@ was_written Allowed text end_of old new answer (Err fault) allowed whole is = tt
 pub was_begun : {X T : Type 0} (Allowed : X → Type 0) (text : X → List ℕ) (old new : Option (List ℕ)) (answer : X)
     (r : Result T RunFault) → Allowed answer
     → OnErr r (AppendsBeginning old new (text answer)) → OnErr r (IsBegun Allowed text old new)
-was_begun Allowed text old new answer (Ok told) allowed begun = tt
+was_begun Allowed text old new answer (Ok reported) allowed begun = tt
 was_begun Allowed text old new answer (Err fault) allowed begun = record {
   answer = answer;
   allowed = allowed;
@@ -51,7 +51,7 @@ written_as text end_of old new (Err fault) also w = tt
 pub begun_as : {X T : Type 0} {Allowed Others : X → Type 0} (text : X → List ℕ) (old new : Option (List ℕ))
     (r : Result T RunFault) → ((answer : X) → Allowed answer → Others answer)
     → OnErr r (IsBegun Allowed text old new) → OnErr r (IsBegun Others text old new)
-begun_as text old new (Ok told) also b = tt
+begun_as text old new (Ok reported) also b = tt
 begun_as text old new (Err fault) also b = record {
   answer = b.answer;
   allowed = also b.answer b.allowed;

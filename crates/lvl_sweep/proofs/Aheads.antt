@@ -11,7 +11,7 @@ use Rattle.lvl_sweep.specs.declared.rows.Ahead.{Ahead}
 use Rattle.lvl_sweep.specs.declared.rows.Ahead.TheVariants.{Differ, Alike, Nothing}
 use Rattle.lvl_sweep.specs.Slab.{Slab, holds, AreSteps, spans, AreIntervals, IsSlabList, slabs_cover}
 use Rattle.lvl_sweep.specs.Ahead.{is_from, IsBefore, IsLeastAlone}
-use Rattle.lvl_sweep.specs.inside.InStep.{IsLeastIn, IsMet, FirstIs, IsTold, IsToldByTwo, higher_of, left_end}
+use Rattle.lvl_sweep.specs.inside.InStep.{IsLeastIn, IsMet, FirstIs, IsReported, IsReportedByTwo, higher_of, left_end}
 use Rattle.lvl_sweep.proofs.BandLists.{cover_is, in_value}
 use Rattle.lvl_sweep.proofs.Firsts.{Stands, stands, early, here, other_side, or_false, flip_on}
 use Rattle.lvl_sweep.proofs.Slabs.{early_rest, inside, left_of, right_of}
@@ -108,9 +108,9 @@ below_high : (from : Option ℤ) (d : Slab) (h : ℤ) (t : Square) → IsHigh fr
 below_high from d h t high past lt = cover_below d t (high.under t.y past lt)
 
 -- our band has the lower first row
-pub told_lower : (from : Option ℤ) (b d : Slab) (s : Square) (o : ℤ) → IsMet from b → IsHigh from b s.y
-    → IsHigh from d o → s.x ≡ left_end b.value → s.y <ℤ o → IsToldByTwo from b d (Differ s First)
-told_lower from b d s o met high other at lt = (
+pub reported_lower : (from : Option ℤ) (b d : Slab) (s : Square) (o : ℤ) → IsMet from b → IsHigh from b s.y
+    → IsHigh from d o → s.x ≡ left_end b.value → s.y <ℤ o → IsReportedByTwo from b d (Differ s First)
+reported_lower from b d s o met high other at lt = (
   high.lt,
   omega (arith, ints, lt, other.lt),
   first_alone from b (d ∷ []) s met
@@ -118,9 +118,9 @@ told_lower from b d s o met high other at lt = (
 )
 
 -- theirs has
-pub told_upper : (from : Option ℤ) (b d : Slab) (s : Square) (o : ℤ) → IsMet from d → IsHigh from d s.y
-    → IsHigh from b o → s.x ≡ left_end d.value → s.y <ℤ o → IsToldByTwo from b d (Differ s Second)
-told_upper from b d s o met high other at lt = (
+pub reported_upper : (from : Option ℤ) (b d : Slab) (s : Square) (o : ℤ) → IsMet from d → IsHigh from d s.y
+    → IsHigh from b o → s.x ≡ left_end d.value → s.y <ℤ o → IsReportedByTwo from b d (Differ s Second)
+reported_upper from b d s o met high other at lt = (
   omega (arith, ints, lt, other.lt),
   high.lt,
   exchanged from (d ∷ []) (b ∷ []) s First
@@ -129,9 +129,9 @@ told_upper from b d s o met high other at lt = (
 )
 
 -- both have one first row, and differ in it
-pub told_row : (from : Option ℤ) (b d : Slab) (x h : ℤ) (side : Side) → IsHigh from b h → IsHigh from d h
-    → IsLeastIn b.value d.value x side → IsToldByTwo from b d (Differ (record { x = x; y = h }) side)
-told_row from b d x h side ours theirs row =
+pub reported_row : (from : Option ℤ) (b d : Slab) (x h : ℤ) (side : Side) → IsHigh from b h → IsHigh from d h
+    → IsLeastIn b.value d.value x side → IsReportedByTwo from b d (Differ (record { x = x; y = h }) side)
+reported_row from b d x h side ours theirs row =
     let s : Square = record { x = x; y = h } in (
       ours.lt,
       theirs.lt,
@@ -152,10 +152,10 @@ later_on None h y k lt = refl
 later_on (Some a) h y k lt = grind (arith, ints)
 
 -- both have one first row and the same intervals
-pub told_alike : (from : Option ℤ) (b d : Slab) (h y : ℤ) → IsHigh from b h → IsHigh from d h
+pub reported_alike : (from : Option ℤ) (b d : Slab) (h y : ℤ) → IsHigh from b h → IsHigh from d h
     → ((z : ℤ) → list_any (spans z) b.value ≡ list_any (spans z) d.value) → y ≤ℤ b.to → y ≤ℤ d.to
-    → (b.to ≡ y) ⊎ (d.to ≡ y) → IsToldByTwo from b d (Alike y)
-told_alike from b d h y ours theirs same le le' ends =
+    → (b.to ≡ y) ⊎ (d.to ≡ y) → IsReportedByTwo from b d (Alike y)
+reported_alike from b d h y ours theirs same le le' ends =
     let lt : h <ℤ y = elim ends [ inl e ↦ omega (arith, ints, ours.lt, e) | inr e ↦ omega (arith, ints, theirs.lt, e) ]
     in
     record {
@@ -175,9 +175,9 @@ up_to t s (inl lt) = omega (arith, ints, lt)
 up_to t s (inr h) = omega (arith, ints, h.0)
 
 -- what two bands say their lists say
-told_lists : (from : Option ℤ) (b d : Slab) (bs ds : List Slab) (r : Ahead) → AreSteps (b ∷ bs) → AreSteps (d ∷ ds)
-    → IsToldByTwo from b d r → IsTold from (b ∷ bs) (d ∷ ds) r
-told_lists from b d bs ds (Differ s side) us vs h = record {
+reported_lists : (from : Option ℤ) (b d : Slab) (bs ds : List Slab) (r : Ahead) → AreSteps (b ∷ bs) → AreSteps (d ∷ ds)
+    → IsReportedByTwo from b d r → IsReported from (b ∷ bs) (d ∷ ds) r
+reported_lists from b d bs ds (Differ s side) us vs h = record {
   there = h.2.there;
   on = rw (cover_first b bs s us h.0, cover_first d ds s vs h.1) h.2.on;
   least = λ t past before.
@@ -185,7 +185,7 @@ told_lists from b d bs ds (Differ s side) us vs h = record {
       cover_first b bs t us (omega (arith, ints, le, h.0))
       ∙ (h.2.least t past before ∙ sym (cover_first d ds t vs (omega (arith, ints, le, h.1))));
 }
-told_lists from b d bs ds (Alike y) us vs h = record {
+reported_lists from b d bs ds (Alike y) us vs h = record {
   there = h.there;
   ours = h.ours;
   theirs = h.theirs;
@@ -193,15 +193,15 @@ told_lists from b d bs ds (Alike y) us vs h = record {
   same = λ t past lt. cover_first b bs t us (omega (arith, ints, lt, h.ours))
       ∙ (h.same t past lt ∙ sym (cover_first d ds t vs (omega (arith, ints, lt, h.theirs))));
 }
-told_lists from b d bs ds Nothing us vs h = absurd h
+reported_lists from b d bs ds Nothing us vs h = absurd h
 
-pub told_both : (from : Option ℤ) (us vs bs ds : List Slab) (b d : Slab) (r : Ahead) → us ≡ b ∷ bs → vs ≡ d ∷ ds
-    → IsSlabList us → IsSlabList vs → IsToldByTwo from b d r → IsTold from us vs r
-told_both from us vs bs ds b d r e f ours theirs h =
-    let told : IsTold from (b ∷ bs) (d ∷ ds) r = told_lists from b d bs ds r (subst AreSteps e ours.steps)
+pub reported_both : (from : Option ℤ) (us vs bs ds : List Slab) (b d : Slab) (r : Ahead) → us ≡ b ∷ bs → vs ≡ d ∷ ds
+    → IsSlabList us → IsSlabList vs → IsReportedByTwo from b d r → IsReported from us vs r
+reported_both from us vs bs ds b d r e f ours theirs h =
+    let reported : IsReported from (b ∷ bs) (d ∷ ds) r = reported_lists from b d bs ds r (subst AreSteps e ours.steps)
     (subst AreSteps f theirs.steps) h in
-    subst (λ (l : List Slab). IsTold from l vs r) (sym e) (subst (λ (l : List Slab). IsTold from (b ∷ bs) l r) (sym f)
-    told)
+    subst (λ (l : List Slab). IsReported from l vs r) (sym e)
+    (subst (λ (l : List Slab). IsReported from (b ∷ bs) l r) (sym f) reported)
 
 one_list : (from : Option ℤ) (b : Slab) (bs : List Slab) (s : Square) → AreSteps (b ∷ bs) → s.y <ℤ b.to
     → IsLeastAlone from (b ∷ []) [] s First → IsLeastAlone from (b ∷ bs) [] s First
@@ -223,15 +223,15 @@ left_alone from us vs bs b s e f ours met x y =
     (subst (λ (l : List Slab). IsLeastAlone from (b ∷ bs) l s First) (sym f) one)
 
 -- only one side has a band
-pub told_first : (from : Option ℤ) (us vs bs : List Slab) (b : Slab) (s : Square) → us ≡ b ∷ bs → vs ≡ []
+pub reported_first : (from : Option ℤ) (us vs bs : List Slab) (b : Slab) (s : Square) → us ≡ b ∷ bs → vs ≡ []
     → IsSlabList us → IsMet from b → s.x ≡ left_end b.value → s.y ≡ higher_of b.from from
-    → IsTold from us vs (Differ s First)
-told_first from us vs bs b s e f ours met x y = left_alone from us vs bs b s e f ours met x y
+    → IsReported from us vs (Differ s First)
+reported_first from us vs bs b s e f ours met x y = left_alone from us vs bs b s e f ours met x y
 
-pub told_second : (from : Option ℤ) (us vs ds : List Slab) (d : Slab) (s : Square) → us ≡ [] → vs ≡ d ∷ ds
+pub reported_second : (from : Option ℤ) (us vs ds : List Slab) (d : Slab) (s : Square) → us ≡ [] → vs ≡ d ∷ ds
     → IsSlabList vs → IsMet from d → s.x ≡ left_end d.value → s.y ≡ higher_of d.from from
-    → IsTold from us vs (Differ s Second)
-told_second from us vs ds d s e f theirs met x y =
+    → IsReported from us vs (Differ s Second)
+reported_second from us vs ds d s e f theirs met x y =
     exchanged from vs us s First (left_alone from vs us ds d s f e theirs met x y)
 
 pub met_first : (from : Option ℤ) (us bs : List Slab) (b : Slab) → us ≡ b ∷ bs → FirstIs (IsMet from) (Unit {0}) us

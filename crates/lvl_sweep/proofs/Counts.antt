@@ -320,7 +320,7 @@ intervals_few rings slabs y fr i [] of row order =
 intervals_few rings slabs y fr i (j ∷ js) of row order =
     let ends = ends_of rings slabs y fr i (j ∷ js) of row order in
     let s : Stands fr i (j ∷ js) = stands fr i (j ∷ js) order in
-    let next : i.1 <ℤ j.0 = All-head (λ (k : ℤ × ℤ). i.1 <ℤ k.0) j js s.behind in
+    let next : i.1 <ℤ j.0 = All-head (λ (k : ℤ × ℤ). i.1 <ℤ k.0) j js s.later in
     let same : fr ++ i ∷ j ∷ js ≡ (fr ++ i ∷ []) ++ j ∷ js = sym (append_assoc fr (i ∷ []) (j ∷ js)) in
     let rest : 2 * length (j ∷ js) ≤ count_by (from_on j.0) (all_edges rings) =
     intervals_few rings slabs y (fr ++ i ∷ []) j js of (λ x. row x ∙ ap (list_any (spans x)) same)

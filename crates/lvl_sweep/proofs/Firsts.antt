@@ -32,7 +32,7 @@ inside_of z i h k = grind (arith, ints)
 pub record Stands (fr : List (ℤ × ℤ)) (a : ℤ × ℤ) (rest : List (ℤ × ℤ)) : Type 0 where
   pub full : a.0 <ℤ a.1
   pub before : All (λ i. i.1 <ℤ a.0) fr
-  pub behind : All (λ i. a.1 <ℤ i.0) rest
+  pub later : All (λ i. a.1 <ℤ i.0) rest
 
 pub stands : (fr : List (ℤ × ℤ)) (a : ℤ × ℤ) (rest : List (ℤ × ℤ)) → AreIntervals (fr ++ a ∷ rest) → Stands fr a rest
 stands fr a rest h =
@@ -41,7 +41,7 @@ stands fr a rest h =
       full = rw (get_or-append_seam fr a rest a) at (h.each (length fr) a (omega (arith, long)));
       before = λ k d lt. rw (get_or-append_seam fr a rest d, get_or_append_left fr (a ∷ rest) d k lt)
           at (h.apart k (length fr) d lt (omega (arith, long)));
-      behind = λ k d lt. rw (get_or-append_seam fr a rest d, get_or-append-add fr (a ∷ rest) (suc k) d)
+      later = λ k d lt. rw (get_or-append_seam fr a rest d, get_or-append-add fr (a ∷ rest) (suc k) d)
           at (h.apart (length fr) (length fr + suc k) d (omega arith) (omega (arith, long, lt)));
     }
 
@@ -49,9 +49,9 @@ row_at_split : (z : ℤ) (fr : List (ℤ × ℤ)) (a : ℤ × ℤ) (rest : List 
     → spans z a ≡ q → list_any (spans z) rest ≡ r → list_any (spans z) (fr ++ a ∷ rest) ≡ (p || (q || r))
 row_at_split z fr a rest p q r e f g = list_any-append (spans z) fr (a ∷ rest) ∙ rw (e, f, g) refl
 
-none_behind : (z : ℤ) (a : ℤ × ℤ) (rest : List (ℤ × ℤ)) → All (λ i. a.1 <ℤ i.0) rest → z ≤ℤ a.1
+none_after : (z : ℤ) (a : ℤ × ℤ) (rest : List (ℤ × ℤ)) → All (λ i. a.1 <ℤ i.0) rest → z ≤ℤ a.1
     → list_any (spans z) rest ≡ false
-none_behind z a rest h le =
+none_after z a rest h le =
     list_any_none (spans z) rest (All-weaker (λ i. a.1 <ℤ i.0) (λ i. spans z i ≡ false)
     (λ i k. left_of z i (omega (arith, ints, k, le))) rest h)
 
@@ -74,7 +74,7 @@ pub early : (z : ℤ) (fr : List (ℤ × ℤ)) (a : ℤ × ℤ) (rest : List (�
     → list_any (spans z) (fr ++ a ∷ rest) ≡ list_any (spans z) fr
 early z fr a rest s lt =
     row_at_split z fr a rest (list_any (spans z) fr) false false refl (left_of z a lt)
-    (none_behind z a rest s.behind (omega (arith, ints, lt, s.full))) ∙ or_false (list_any (spans z) fr)
+    (none_after z a rest s.later (omega (arith, ints, lt, s.full))) ∙ or_false (list_any (spans z) fr)
 
 pub here : (z : ℤ) (fr : List (ℤ × ℤ)) (a : ℤ × ℤ) (rest : List (ℤ × ℤ)) → Stands fr a rest → a.0 ≤ℤ z → z <ℤ a.1
     → list_any (spans z) (fr ++ a ∷ rest) ≡ true
@@ -86,7 +86,7 @@ pub at_end : (fr : List (ℤ × ℤ)) (a : ℤ × ℤ) (rest : List (ℤ × ℤ)
     → list_any (spans a.1) (fr ++ a ∷ rest) ≡ false
 at_end fr a rest s =
     row_at_split a.1 fr a rest false false false (none_before a.1 a fr s.before (omega (arith, ints, s.full)))
-    (right_of a.1 a (omega (arith, ints))) (none_behind a.1 a rest s.behind (omega (arith, ints)))
+    (right_of a.1 a (omega (arith, ints))) (none_after a.1 a rest s.later (omega (arith, ints)))
 
 abbrev pub other_side : Side → Side
 other_side First = Second
@@ -176,11 +176,12 @@ row_differs is js k d e h g lt lt' same differ =
     in
     let t : Stands (take k is) b (drop (k + 1) js) = stands (take k is) b (drop (k + 1) js) (subst AreIntervals right g)
     in
-    let told : IsLeastIn (take k is ++ a ∷ drop (k + 1) is) (take k is ++ b ∷ drop (k + 1) js) (end_difference a b).0
+    let reported
+    : IsLeastIn (take k is ++ a ∷ drop (k + 1) is) (take k is ++ b ∷ drop (k + 1) js) (end_difference a b).0
     (end_difference a b).1 = differ_at (take k is) a b (drop (k + 1) is) (drop (k + 1) js) s t differ in
     subst (λ (l : List (ℤ × ℤ)). IsLeastIn l js (end_difference a b).0 (end_difference a b).1) (sym left)
     (subst (λ (l : List (ℤ × ℤ)). IsLeastIn (take k is ++ a ∷ drop (k + 1) is) l (end_difference a b).0
-    (end_difference a b).1) (sym right) told)
+    (end_difference a b).1) (sym right) reported)
 
 -- the second row ends where the first has an interval more
 pub row_longer : (is js : List (ℤ × ℤ)) (k : ℕ) (d : ℤ × ℤ) → AreIntervals is → k < length is → length js ≤ k
@@ -191,10 +192,10 @@ row_longer is js k d h lt far same =
     let right : js ≡ take k is = sym (take_all k js far) ∙ sym same in
     let s : Stands (take k is) a (drop (k + 1) is) = stands (take k is) a (drop (k + 1) is) (subst AreIntervals left h)
     in
-    let told : IsLeastIn (take k is ++ a ∷ drop (k + 1) is) (take k is) a.0 First =
+    let reported : IsLeastIn (take k is ++ a ∷ drop (k + 1) is) (take k is) a.0 First =
     one_more (take k is) a (drop (k + 1) is) s in
     subst (λ (l : List (ℤ × ℤ)). IsLeastIn l js a.0 First) (sym left)
-    (subst (λ (l : List (ℤ × ℤ)). IsLeastIn (take k is ++ a ∷ drop (k + 1) is) l a.0 First) (sym right) told)
+    (subst (λ (l : List (ℤ × ℤ)). IsLeastIn (take k is ++ a ∷ drop (k + 1) is) l a.0 First) (sym right) reported)
 
 pub row_shorter : (is js : List (ℤ × ℤ)) (k : ℕ) (d : ℤ × ℤ) → AreIntervals js → k < length js → length is ≤ k
     → take k is ≡ take k js → IsLeastIn is js (get_or js k d).0 Second

@@ -45,8 +45,8 @@ all_before P es n h k d lt =
     let near : k < n = omega (arith, length-take n es, lt) in
     rw (get_or-take n es k d near) (h k d (omega arith) near)
 
-all_behind : (P : Edge → Type 0) (es : List Edge) (n : ℕ) → AllWithin P es n (length es) → All P (drop n es)
-all_behind P es n h k d lt = rw (get_or-drop n es k d) (h (n + k) d (omega arith) (omega (arith, length-drop n es, lt)))
+all_after : (P : Edge → Type 0) (es : List Edge) (n : ℕ) → AllWithin P es n (length es) → All P (drop n es)
+all_after P es n h k d lt = rw (get_or-drop n es k d) (h (n + k) d (omega arith) (omega (arith, length-drop n es, lt)))
 
 pub dead_low : (y : ℤ) (e : Edge) → e.high ≤ℤ y → alive y e ≡ false
 dead_low y e h =
@@ -82,7 +82,7 @@ run_alive es i j y le ended begun high coming f =
     (coming (i + k) d (omega (arith, low, le)) (omega (arith, length-drop i es, lt))) in
     let third : sum_by g (drop (j - i) (drop i es)) ≡ 0 = sum_none g (drop (j - i) (drop i es))
     (All-weaker (λ e. y <ℤ e.low) (λ e. g e ≡ 0) (λ e k. rw (dead_high y e k) refl) (drop (j - i) (drop i es))
-    (all_behind (λ e. y <ℤ e.low) (drop i es) (j - i) late)) in
+    (all_after (λ e. y <ℤ e.low) (drop i es) (j - i) late)) in
     omega (
       arith,
       first,
@@ -185,12 +185,12 @@ pub loaded : (s : Strips) (new : Vec Edge) (first end : ℕ) (begins top : Optio
     → AllWithin (λ e. y <ℤ e.high) new.items first end
     → RiseWithin new.items first end → IsEndOf new.items first end begins top
     → IsAt (record { edges = new; from = first; next = end; top = top; windings = s.windings; y = y })
-loaded s new first end begins top y h le within next begin moved fits behind ended begun high rising ends =
+loaded s new first end begins top y h le within next begin moved fits later ended begun high rising ends =
     let long : length new.items ≡ length s.edges.items = omega (arith, length_permutation s.edges.items new.items moved)
     in
     record {
       strips = record {
-        order = λ i j d low on lt. rw (behind i d low, behind j d (omega (arith, low, on)))
+        order = λ i j d low on lt. rw (later i d low, later j d (omega (arith, low, on)))
             (h.strips.order i j d (omega (arith, low, le)) on (omega (arith, lt, long)));
         full = All-permutation (λ e. e.low <ℤ e.high) s.edges.items new.items moved h.strips.full;
         numbers = All-permutation (λ e. e.ring < length s.windings.counts.items) s.edges.items new.items moved
@@ -205,7 +205,7 @@ loaded s new first end begins top y h le within next begin moved fits behind end
       ended = ended;
       begun = begun;
       alive = high;
-      coming = λ k d low lt. rw (behind k d low) (still_coming s end y h.strips le next k d low
+      coming = λ k d low lt. rw (later k d low) (still_coming s end y h.strips le next k d low
           (omega (arith, lt, long)));
-      top = λ b is. rw (one_begin s.edges.items new.items end begins b long behind begin is) ends;
+      top = λ b is. rw (one_begin s.edges.items new.items end begins b long later begin is) ends;
     }

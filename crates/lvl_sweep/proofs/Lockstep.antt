@@ -62,10 +62,10 @@ list_on : (y : ℤ) (us : List Slab) → IsSlabList us → IsSlabList (ended_by 
 list_on y [] h = h
 list_on y (b ∷ bs) h = list_by b bs (int_le b.to y) h
 
-met_behind : (y : ℤ) (b : Slab) (bs : List Slab) → y ≤ℤ b.to → IsSlabList (b ∷ bs)
+met_after : (y : ℤ) (b : Slab) (bs : List Slab) → y ≤ℤ b.to → IsSlabList (b ∷ bs)
     → FirstIs (IsMet (Some y)) (Unit {0}) bs
-met_behind y b [] le h = tt
-met_behind y b (c ∷ cs) le h =
+met_after y b [] le h = tt
+met_after y b (c ∷ cs) le h =
     let row = All-head (λ (d : Slab). (d.value ≢ []) × AreIntervals d.value) c cs (rest_is b (c ∷ cs) h).rows in
     let after : b.to ≤ℤ c.from = h.steps.1.0 in
     let full : c.from <ℤ c.to = h.steps.2.0 in
@@ -94,7 +94,7 @@ met_on : (from : Option ℤ) (y : ℤ) (us : List Slab) → IsSlabList us → Fi
 met_on from y [] h met le = tt
 met_on from y (b ∷ bs) h met le =
     elim (int_le b.to y) as (λ t. int_le b.to y ≡ t → FirstIs (IsMet (Some y)) (Unit {0}) (cond t bs (b ∷ bs))) [
-      | true ↦ λ e. met_behind y b bs le h
+      | true ↦ λ e. met_after y b bs le h
       | false ↦ λ e. met_still from y b met e
     ] refl
 

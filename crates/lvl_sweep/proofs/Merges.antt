@@ -148,12 +148,12 @@ put_fresh es fs y m n h last s long low fresh from alive first end =
           (omega arith) (omega (arith, first, h.first)) h.begun);
       ended = rw low (all_kept (λ e. e.high ≤ℤ y) es fs 0 m.low lows h.ended);
       ended_between = rw from (λ k d le lt. elim (cases_eq k p) [
-        | inl at ↦ rw (at, s.0 d) (h.ended_behind q d room (omega (arith, first)))
+        | inl at ↦ rw (at, s.0 d) (h.ended_after q d room (omega (arith, first)))
         | inr off ↦ rw (s.2 k d off (omega (arith, lt, h.from, room)))
             (h.ended_between k d (omega (arith, le, off, fresh)) lt)
       ]);
-      ended_behind = rw alive (λ k d le lt. rw (s.2 k d (omega (arith, le, there)) (omega (arith, lt)))
-          (h.ended_behind k d le (omega (arith, lt, first))));
+      ended_after = rw alive (λ k d le lt. rw (s.2 k d (omega (arith, le, there)) (omega (arith, lt)))
+          (h.ended_after k d le (omega (arith, lt, first))));
       fresh_alive =
           rw low (all_kept (λ e. y <ℤ e.high) es fs m.low p news (part_of (λ e. y <ℤ e.high) es m.low m.fresh m.low p
           (omega arith) (omega (arith, one)) h.fresh_alive));
@@ -214,9 +214,9 @@ put_active es fs y m n h last s long up low fresh from alive first end =
       ended_between =
           rw (fresh, from) (λ k d le lt. rw (s.2 k d (omega (arith, lt, inner)) (omega (arith, lt, inner, on)))
           (h.ended_between k d le lt));
-      ended_behind = (λ k d le lt. elim (cases_eq k p) [
-        | inl at ↦ rw (at, s.0 d) (h.ended_behind q d (omega (arith, at, lt, alive)) (omega (arith, first)))
-        | inr off ↦ rw (s.2 k d off (omega (arith, lt))) (h.ended_behind k d (omega (arith, le, off, alive))
+      ended_after = (λ k d le lt. elim (cases_eq k p) [
+        | inl at ↦ rw (at, s.0 d) (h.ended_after q d (omega (arith, at, lt, alive)) (omega (arith, first)))
+        | inr off ↦ rw (s.2 k d off (omega (arith, lt))) (h.ended_after k d (omega (arith, le, off, alive))
             (omega (arith, lt, first)))
       ]);
       fresh_alive = rw (low, fresh) (all_kept (λ e. y <ℤ e.high) es fs m.low m.fresh news h.fresh_alive);
@@ -235,11 +235,11 @@ put_active es fs y m n h last s long up low fresh from alive first end =
     }
 
 -- one that has ended is left where it is
-pub left_behind : (es : List Edge) (y : ℤ) (m n : Merge) → IsMerging es y m → AreActive es m
+pub left_after : (es : List Edge) (y : ℤ) (m n : Merge) → IsMerging es y m → AreActive es m
     → ((d : Edge) → (get_or es n.alive d).high ≤ℤ y)
     → n.low ≡ m.low → n.fresh ≡ m.fresh → n.from ≡ m.from → n.alive + 1 ≡ m.alive → n.first ≡ m.first → n.end ≡ m.end
     → IsMerging es y n
-left_behind es y m n h last down low fresh from alive first end =
+left_after es y m n h last down low fresh from alive first end =
     let some : m.from < m.alive = last.0 in
     let one : n.alive ≤ m.alive = omega (arith, alive) in
     record {
@@ -252,9 +252,9 @@ left_behind es y m n h last down low fresh from alive first end =
       begun = rw end h.begun;
       ended = rw low h.ended;
       ended_between = rw (fresh, from) h.ended_between;
-      ended_behind = rw first (λ k d le lt. elim (cases_eq k n.alive) [
+      ended_after = rw first (λ k d le lt. elim (cases_eq k n.alive) [
         | inl at ↦ rw at (down d)
-        | inr off ↦ h.ended_behind k d (omega (arith, le, off, alive)) lt
+        | inr off ↦ h.ended_after k d (omega (arith, le, off, alive)) lt
       ]);
       fresh_alive = rw (low, fresh) h.fresh_alive;
       put_alive = rw (first, end) h.put_alive;

@@ -86,13 +86,13 @@ all_pairs_cons R x xs h p zero (suc j) d lt far = h j d (omega (arith, far))
 all_pairs_cons R x xs h p (suc i) zero d lt far = absurd (omega arith)
 all_pairs_cons R x xs h p (suc i) (suc j) d lt far = p i j d (omega arith) (omega (arith, far))
 
-behind : (s : Step (Unit {0})) (ss : List (Step (Unit {0}))) → Follows s ss → AreSteps ss
+later : (s : Step (Unit {0})) (ss : List (Step (Unit {0}))) → Follows s ss → AreSteps ss
     → All (λ i. s.to <ℤ i.0) (map ends ss)
-behind s [] f a = All-nil (λ i. s.to <ℤ i.0)
-behind s (t ∷ ts) f a =
+later s [] f a = All-nil (λ i. s.to <ℤ i.0)
+later s (t ∷ ts) f a =
     let apart : ¬ (s.to ≡ t.from) = λ e. f.1 e refl in
     let first : s.to <ℤ t.from = omega (arith, ints, f.0, apart) in
-    let rest : All (λ i. t.to <ℤ i.0) (map ends ts) = behind t ts a.1 a.2 in
+    let rest : All (λ i. t.to <ℤ i.0) (map ends ts) = later t ts a.1 a.2 in
     All-cons (λ i. s.to <ℤ i.0) (ends t) (map ends ts) first (All-weaker (λ i. t.to <ℤ i.0) (λ i. s.to <ℤ i.0)
     (λ i k. omega (arith, ints, first, a.0, k)) (map ends ts) rest)
 
@@ -102,7 +102,7 @@ intervals (s ∷ ss) a =
     let rest : AreIntervals (map ends ss) = intervals ss a.2 in
     record {
       each = All-cons (λ i. i.0 <ℤ i.1) (ends s) (map ends ss) a.0 rest.each;
-      apart = all_pairs_cons (λ i j. i.1 <ℤ j.0) (ends s) (map ends ss) (behind s ss a.1 a.2) rest.apart;
+      apart = all_pairs_cons (λ i j. i.1 <ℤ j.0) (ends s) (map ends ss) (later s ss a.1 a.2) rest.apart;
     }
 
 -- in order, none empty, none that touch

@@ -23,7 +23,7 @@ pub record Exchanged (es fs : List Edge) (to from i : ℕ) : Type 0 where
   pub back : (k : ℕ) (d : Edge) → k < i → get_or fs (from + k) d ≡ get_or es (to + k) d
   pub before : IsSameWithin es fs 0 to
   pub between : IsSameWithin es fs (to + i) from
-  pub behind : IsSameFrom es fs (from + i)
+  pub later : IsSameFrom es fs (from + i)
 
 -- one edge more
 pub exchanged_more : (es fs gs : List Edge) (to from count i : ℕ) → to + count ≤ from → i < count
@@ -34,7 +34,7 @@ exchanged_more es fs gs to from count i apart lt h s long moved = record {
   permutation = IsPermutation-trans es fs gs h.permutation moved;
   there = λ k d near. elim (cases_lt k i) [
     | inl low ↦ s.2 (to + k) d (omega (arith, low)) (omega (arith, low, lt, apart)) ∙ h.there k d low
-    | inr high ↦ let at : k ≡ i = omega arith in rw at (s.0 d ∙ h.behind (from + i) d (omega arith))
+    | inr high ↦ let at : k ≡ i = omega arith in rw at (s.0 d ∙ h.later (from + i) d (omega arith))
   ];
   back = λ k d near. elim (cases_lt k i) [
     | inl low ↦ s.2 (from + k) d (omega (arith, low, lt, apart)) (omega (arith, low)) ∙ h.back k d low
@@ -43,7 +43,7 @@ exchanged_more es fs gs to from count i apart lt h s long moved = record {
   ];
   before = λ k d le near. s.2 k d (omega (arith, near)) (omega (arith, near, apart, lt)) ∙ h.before k d le near;
   between = λ k d le near. s.2 k d (omega (arith, le)) (omega (arith, near)) ∙ h.between k d (omega (arith, le)) near;
-  behind = λ k d le. s.2 k d (omega (arith, le, apart, lt)) (omega (arith, le)) ∙ h.behind k d (omega (arith, le));
+  later = λ k d le. s.2 k d (omega (arith, le, apart, lt)) (omega (arith, le)) ∙ h.later k d (omega (arith, le));
 }
 
 pub none_within : (P : Edge → Type 0) (es : List Edge) (i j : ℕ) → j ≤ i → AllWithin P es i j
@@ -93,7 +93,7 @@ start_exchanged es fs y from next end low m h many is x mlow mfresh mfrom malive
           rw mlow (all_kept (λ e. e.high ≤ℤ y) es fs 0 low lows
           (part_of (λ e. e.high ≤ℤ y) es 0 from 0 low (omega arith) inner h.ended));
       ended_between = none_within (λ e. e.high ≤ℤ y) fs m.fresh m.from (omega (arith, mfresh, mfrom));
-      ended_behind =
+      ended_after =
           rw (malive, mfirst) (λ k d le lt. rw (at_back k d le lt)
           (h.ended (low + (k - next)) d (omega arith) (omega (arith, le, lt, is))));
       fresh_alive =
@@ -209,7 +209,7 @@ start_sorted es fs y from next end m h long moved order mlow mfresh mfrom malive
       begun = rw mend begun;
       ended = rw mlow (all_kept (λ e. e.high ≤ℤ y) es gs 0 from (put_before from (end - from) es fs within) h.ended);
       ended_between = none_within (λ e. e.high ≤ℤ y) gs m.fresh m.from (omega (arith, mfresh, mfrom));
-      ended_behind = none_within (λ e. e.high ≤ℤ y) gs m.alive m.first (omega (arith, malive, mfirst));
+      ended_after = none_within (λ e. e.high ≤ℤ y) gs m.alive m.first (omega (arith, malive, mfirst));
       fresh_alive = none_within (λ e. y <ℤ e.high) gs m.low m.fresh (omega (arith, mlow, mfresh));
       put_alive = none_within (λ e. y <ℤ e.high) gs m.first m.end (omega (arith, mfirst, mend));
       rising_fresh = rw (mlow, mfresh) (λ i j d le on lt. absurd (omega (arith, le, on, lt)));

@@ -179,12 +179,12 @@ from_step {V} s e v f (t ∷ ts) given stops =
     let self : t.from ≤ℤ t.from = omega (arith, ints) in
     let there : value_of (t ∷ ts) t.from ≡ Some t.value = at_head t ts t.from self given.steps.0 in
     let is : from_on (Some e) f t.from ≡ Some t.value = sym (given.values t.from) ∙ there in
-    let behind : e ≤ℤ t.from = by_lt_z t.from e
+    let later : e ≤ℤ t.from = by_lt_z t.from e
     (λ lt. let past : int_le e t.from ≡ false = grind (arith, ints) in
     let none : from_on (Some e) f t.from ≡ None = rw past refl in
     let clash : None ≡ Some t.value = sym none ∙ is in cc)
     (λ ge. ge) in (
-      behind,
+      later,
       λ touch same.
           let past : int_le e t.from ≡ true = grind (arith, ints) in
           let whole : from_on (Some e) f t.from ≡ f t.from = rw past refl in

@@ -32,8 +32,8 @@ same_alive s t v h ends coming le lt k d within =
             let up : s.y <ℤ e.high = h.alive k d on here in
             alive_there v e (omega (arith, ints, low, le)) (omega (arith, ints, far, lt))
             ∙ sym (alive_there s.y e low up)
-        | inr behind ↦
-            let low : t ≤ℤ e.low = coming k d behind within in
+        | inr later ↦
+            let low : t ≤ℤ e.low = coming k d later within in
             dead_high v e (omega (arith, ints, low, lt)) ∙ sym (dead_high s.y e (omega (arith, ints, low, le, lt)))
       ]
     ]

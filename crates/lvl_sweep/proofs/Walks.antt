@@ -79,9 +79,9 @@ left_front r z es i far =
     rw (ups, downs) refl
 
 -- between the edges passed and the others the counts say what is inside
-pub turning_tells : (es : List Edge) (i : ℕ) (w : Windings) (z : ℤ) → All (λ e. e.ring < length w.counts.items) es
+pub turning_reports : (es : List Edge) (i : ℕ) (w : Windings) (z : ℤ) → All (λ e. e.ring < length w.counts.items) es
     → HasPassed es i w → All (λ e. e.x ≤ℤ z) (take i es) → All (λ e. z <ℤ e.x) (drop i es) → inside es z ≡ is_inside w
-turning_tells es i w z numbers passed left right =
+turning_reports es i w z numbers passed left right =
     let front : IsTrue (is_inside w) ↔ IsInside (take i es) z = inside_left (take i es) w.counts.items z w.turning
     (is_inside w) left (All-take (λ e. e.ring < length w.counts.items) i es numbers) passed.counts passed.turning
     refl in
@@ -168,9 +168,9 @@ is_before (Some c) z = int_lt z c
 between : (es : List Edge) (i : ℕ) (o : Option ℤ) (z : ℤ) (d : Edge) → AllPairs (λ d e. d.x ≤ℤ e.x) es → IsParted es i o
     → is_before o z ≡ false → (i < length es → z <ℤ (get_or es i d).x) → All (λ e. e.x ≤ℤ z) (take i es)
     × All (λ e. z <ℤ e.x) (drop i es)
-between es i None z d rising place behind before =
+between es i None z d rising place later before =
     (rw place (All-nil (λ e. e.x ≤ℤ z)), from_on_right es i z d rising before)
-between es i (Some c) z d rising place behind before =
+between es i (Some c) z d rising place later before =
     let past : c ≤ℤ z = grind (arith, ints) in (
       All-weaker (λ e. e.x ≤ℤ c) (λ e. e.x ≤ℤ z) (λ e k. omega (arith, ints, k, past)) (take i es) place.left,
       from_on_right es i z d rising before,
@@ -197,7 +197,7 @@ looked_on es wanted first now w w' d row h z past before =
       | inl t ↦ h.seen z past t
       | inr t ↦
           let both = between es now.at now.x z d row.rising h.parted t before in
-          turning_tells es now.at w' z (numbers_of es (length w.counts.items) (length w'.counts.items) h.rings
+          turning_reports es now.at w' z (numbers_of es (length w.counts.items) (length w'.counts.items) h.rings
           row.numbers) h.passed both.0 both.1 ∙ h.side
     ]
 
@@ -270,7 +270,7 @@ first_interval es n p q r v w s e row numbers t u passed place =
     let first : row_from es p.x ≡ (s, e) ∷ row_from es (Some e) = row_first es p.x s e row.balanced
     (past_place p.x s t.right) (right_at q.x s e t.here u.right) t.before
     (λ z low high. u.before z (rw t.here (let k : int_le s z ≡ true = grind (arith, ints) in k)) high)
-    (turning_tells es r.at w e numbers passed parted.left parted.right ∙ u.side) in
+    (turning_reports es r.at w e numbers passed parted.left parted.right ∙ u.side) in
     rw u.here first
 
 pub no_interval : (es : List Edge) (n : ℕ) (p q : Place) → IsRowOf es n → NeverTurns es true p q → row_from es p.x ≡ []

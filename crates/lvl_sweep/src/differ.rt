@@ -8,7 +8,7 @@ ghost use Rattle.lvl_region.specs.Region.{IsAlone};
 ghost use Rattle.lvl_sweep.specs.Slab.{Slab, IsSlabList, slabs_cover};
 ghost use Rattle.lvl_sweep.specs.Bands.{slab_of};
 ghost use Rattle.lvl_sweep.specs.Ahead.{IsLeastAlone, IsUpTo};
-ghost use Rattle.lvl_sweep.specs.inside.InStep.{IsMet, FirstIs, IsTold, ended_by};
+ghost use Rattle.lvl_sweep.specs.inside.InStep.{IsMet, FirstIs, IsReported, ended_by};
 
 use crate::band::Band;
 use crate::rows::{Ahead, both, least_square};
@@ -50,7 +50,7 @@ fn look_ahead<B: Bands>(first: &B, second: &B, from: Option<i64>) -> Ahead
     requires theirs { IsSlabList (B.left second.now) }
     requires our_band { FirstIs (IsMet from) (Unit {0}) (B.left first.now) }
     requires their_band { FirstIs (IsMet from) (Unit {0}) (B.left second.now) }
-    ensures { IsTold from (B.left first.now) (B.left second.now) result }
+    ensures { IsReported from (B.left first.now) (B.left second.now) result }
 {
     match (first.band(), second.band()) {
         (Some(p), Some(q)) => both(p, q, from),

@@ -55,7 +55,7 @@ fn exchange(edges: &mut [Edge], to: usize, from: usize, count: usize)
         ≡ slice_index_or edges.old (to + k) d }
     ensures before { IsSameWithin edges.old edges.new 0 to }
     ensures between { IsSameWithin edges.old edges.new (to + count) from }
-    ensures behind { IsSameFrom edges.old edges.new (from + count) }
+    ensures later { IsSameFrom edges.old edges.new (from + count) }
 {
     for i in 0..count {
         edges.swap(to + i, from + i);
@@ -122,7 +122,7 @@ impl Merge {
         requires left { self.old.low < self.old.fresh ⊎ self.old.from < self.old.alive }
         ensures merging { IsMerging edges.new y self.new }
         ensures permutation { IsPermutation edges.old edges.new }
-        ensures behind { IsSameFrom edges.old edges.new self.old.end }
+        ensures later { IsSameFrom edges.old edges.new self.old.end }
         ensures fewer { self.new.fresh + self.new.alive < self.old.fresh + self.old.alive }
         ensures end { self.new.end ≡ self.old.end }
         ensures top { (b : Option ℤ) → IsEndOf edges.old self.old.first self.old.end b self.old.top
@@ -145,7 +145,7 @@ impl Merge {
         ensures merging { IsMerging edges.new y self.new }
         ensures over { (self.new.fresh ≤ self.new.low) × (self.new.alive ≤ self.new.from) }
         ensures permutation { IsPermutation edges.old edges.new }
-        ensures behind { IsSameFrom edges.old edges.new self.old.end }
+        ensures later { IsSameFrom edges.old edges.new self.old.end }
         ensures end { self.new.end ≡ self.old.end }
         ensures top { (b : Option ℤ) → IsEndOf edges.old self.old.first self.old.end b self.old.top
             → IsEndOf edges.new self.new.first self.old.end b self.new.top }
@@ -168,7 +168,7 @@ fn start_by_exchange(
     requires order { (from ≤ next) × (next ≤ end) × (end ≤ length edges.old) }
     ensures merging { (y : ℤ) → IsRenewed edges.old y from next end → IsMerging edges.new y result }
     ensures permutation { IsPermutation edges.old edges.new }
-    ensures behind { IsSameFrom edges.old edges.new end }
+    ensures later { IsSameFrom edges.old edges.new end }
     ensures first { result.first ≡ end }
     ensures end { result.end ≡ end }
     ensures top { result.top ≡ top }
@@ -193,7 +193,7 @@ fn start_by_sort(edges: &mut [Edge], from: usize, end: usize, top: Option<i64>) 
     requires order { (from ≤ end) × (end ≤ length edges.old) }
     ensures merging { (y : ℤ) (next : ℕ) → IsRenewed edges.old y from next end → IsMerging edges.new y result }
     ensures permutation { IsPermutation edges.old edges.new }
-    ensures behind { IsSameFrom edges.old edges.new end }
+    ensures later { IsSameFrom edges.old edges.new end }
     ensures first { result.first ≡ end }
     ensures end { result.end ≡ end }
     ensures top { result.top ≡ top }
@@ -215,7 +215,7 @@ fn start(edges: &mut [Edge], from: usize, next: usize, end: usize, top: Option<i
     requires order { (from ≤ next) × (next ≤ end) × (end ≤ length edges.old) }
     ensures merging { (y : ℤ) → IsRenewed edges.old y from next end → IsMerging edges.new y result }
     ensures permutation { IsPermutation edges.old edges.new }
-    ensures behind { IsSameFrom edges.old edges.new end }
+    ensures later { IsSameFrom edges.old edges.new end }
     ensures first { result.first ≡ end }
     ensures end { result.end ≡ end }
     ensures top { result.top ≡ top }
@@ -241,7 +241,7 @@ pub(crate) fn renew(
     requires renewed { IsRenewed edges.old y from next end }
     ensures within { result.first ≤ end }
     ensures permutation { IsPermutation edges.old edges.new }
-    ensures behind { IsSameFrom edges.old edges.new end }
+    ensures later { IsSameFrom edges.old edges.new end }
     ensures ended { AllWithin (λ e. e.high ≤ℤ y) edges.new 0 result.first }
     ensures begun { AllWithin (λ e. e.low ≤ℤ y) edges.new 0 end }
     ensures alive { AllWithin (λ e. y <ℤ e.high) edges.new result.first end }

@@ -3,7 +3,7 @@ ghost use Rattle.std.specs.Prelude.{◌≡◌, ◌≢◌, ℤ, ◌<ℤ◌, IfNon
 ghost use Rattle.std.specs.List.{list_any};
 ghost use Rattle.lvl_sweep.specs.Slab.{spans, AreIntervals};
 ghost use Rattle.lvl_sweep.specs.Bands.{slab_of};
-ghost use Rattle.lvl_sweep.specs.inside.InStep.{IsLeastIn, IsMet, IsToldByTwo, higher_of, left_end, end_difference};
+ghost use Rattle.lvl_sweep.specs.inside.InStep.{IsLeastIn, IsMet, IsReportedByTwo, higher_of, left_end, end_difference};
 
 use crate::band::Band;
 use lvl_grid::Square;
@@ -83,7 +83,7 @@ pub(crate) fn least_square(band: &Band, from: Option<i64>) -> Square
 pub(crate) fn both(first: &Band, second: &Band, from: Option<i64>) -> Ahead
     requires first { IsMet from (slab_of first.now) }
     requires second { IsMet from (slab_of second.now) }
-    ensures { IsToldByTwo from (slab_of first.now) (slab_of second.now) result }
+    ensures { IsReportedByTwo from (slab_of first.now) (slab_of second.now) result }
 {
     let ours = least_square(first, from);
     let theirs = least_square(second, from);

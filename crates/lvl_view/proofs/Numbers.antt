@@ -15,15 +15,15 @@ use Rattle.lvl_view.proofs.Cutting.{only_none}
 abbrev pub AllDigit : List ℕ → Type 0
 AllDigit text = All (λ b. (48 ≤ b) × (b ≤ 57)) text
 
-tells : IsDigitsTest AllDigit
-tells = record {
+reports : IsDigitsTest AllDigit
+reports = record {
   empty = search rules;
   parts = λ c cs h. (All-head (λ b. (48 ≤ b) × (b ≤ 57)) c cs h, All-tail (λ b. (48 ≤ b) × (b ≤ 57)) c cs h);
   more = λ c cs one rest. search (rules, one, rest);
 }
 
 pub own : IsNumeralModel AllDigit (digits_value 10)
-own = numerals_by_value AllDigit tells
+own = numerals_by_value AllDigit reports
 
 pub number_read : {E : Type 0} (text : List ℕ) (r : Result ℕ E) → IsDigits 10 text → ParsesUnsigned 32 10 text r
     → IsOnly (IsNumber text) (result_ok r)

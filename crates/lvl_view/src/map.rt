@@ -9,7 +9,7 @@ ghost use Rattle.lvl_refusal.specs.Refused.{Says};
 use crate::fault::ViewFault;
 use crate::number::number_of;
 use lvl_names::Layer;
-use lvl_refusal::Refusal;
+use lvl_refusal::Cause;
 use std::alloc::{AllocError, Global};
 
 /// What is on the source counts as being on the target.
@@ -49,7 +49,7 @@ fn parts_of<'a>(alloc: Global, text: &'a str) -> Result<Vec<&'a str>, AllocError
 }
 
 /// The pairs of a text, in its order.
-fn read_pairs(alloc: Global, text: &str) -> Result<Vec<LayerPair>, Refusal<ViewFault>>
+fn read_pairs(alloc: Global, text: &str) -> Result<Vec<LayerPair>, Cause<ViewFault>>
     ensures ok { IfOk result (λ pairs. IsAlone (IsMapText text.now) pairs.items) }
     ensures err { IfErr result (λ refusal. Says refusal (IsMapFault (Some text.now))) }
 {
@@ -57,7 +57,7 @@ fn read_pairs(alloc: Global, text: &str) -> Result<Vec<LayerPair>, Refusal<ViewF
     let mut pairs = Vec::with_capacity(alloc, parts.len())?;
     for part in &parts {
         let Some(pair) = pair_of(part) else {
-            return Err(Refusal::Breach(ViewFault::MapText));
+            return Err(Cause::Breach(ViewFault::MapText));
         };
         pairs.push(pair)?;
     }
@@ -68,7 +68,7 @@ fn read_pairs(alloc: Global, text: &str) -> Result<Vec<LayerPair>, Refusal<ViewF
 pub(crate) fn pairs_of(
     alloc: Global,
     text: Option<&str>,
-) -> Result<Vec<LayerPair>, Refusal<ViewFault>>
+) -> Result<Vec<LayerPair>, Cause<ViewFault>>
     ensures ok { IfOk result (λ pairs. IsAlone (IsMapOf (text_of text.entry)) pairs.items) }
     ensures err { IfErr result (λ refusal. Says refusal (IsMapFault (text_of text.entry))) }
 {

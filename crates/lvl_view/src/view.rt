@@ -13,7 +13,7 @@ use crate::map::{LayerPair, pairs_of};
 use crate::window::window_of;
 use lvl_grid::Window;
 use lvl_names::Layer;
-use lvl_refusal::Refusal;
+use lvl_refusal::Cause;
 use std::alloc::Global;
 use std::collections::BTreeMap;
 use std::marker::Model;
@@ -43,7 +43,7 @@ impl Model for View {
 fn targets_of(
     alloc: Global,
     pairs: &[LayerPair],
-) -> Result<BTreeMap<Layer, Layer>, Refusal<ViewFault>>
+) -> Result<BTreeMap<Layer, Layer>, Cause<ViewFault>>
     ensures targets { IfOk result (AreTargets pairs.now) }
     ensures distinct { IfOk result (λ targets. IsDistinct same_layer (sources pairs.now)) }
     ensures err { IfErr result (λ refusal. Says refusal (IsTwiceFault pairs.now)) }
@@ -52,7 +52,7 @@ fn targets_of(
     for pair in pairs {
         let earlier = targets.insert(pair.source, pair.target)?;
         if earlier.is_some() {
-            return Err(Refusal::Breach(ViewFault::MapTwice(pair.source)));
+            return Err(Cause::Breach(ViewFault::MapTwice(pair.source)));
         }
     }
     Ok(targets)
@@ -78,7 +78,7 @@ impl View {
         alloc: Global,
         map: Option<&str>,
         window: Option<&str>,
-    ) -> Result<View, Refusal<ViewFault>>
+    ) -> Result<View, Cause<ViewFault>>
         ensures view { IfOk result (IsViewOf (text_of map.entry) (text_of window.entry)) }
         ensures only { IfOk result (λ view. (other : PlainView)
             → IsReadingOf (text_of map.entry) (text_of window.entry) other → other ≡ view) }
@@ -88,11 +88,11 @@ impl View {
         let pairs = pairs_of(alloc, map)?;
         let window = match window_of(window) {
             Ok(window) => window,
-            Err(fault) => return Err(Refusal::Breach(fault)),
+            Err(fault) => return Err(Cause::Breach(fault)),
         };
         let targets = targets_of(alloc, &pairs)?;
         if is_empty(window) {
-            return Err(Refusal::Breach(ViewFault::EmptyWindow));
+            return Err(Cause::Breach(ViewFault::EmptyWindow));
         }
         Ok(View {
             pairs,

@@ -11,8 +11,8 @@ use Rattle.lvl_grid.specs.declared.point.Point.{Point}
 use Rattle.lvl_path.specs.Runs.{IsPath, IsLowestFault, path_rings}
 use Rattle.lvl_path.specs.declared.fault.PathFault.{PathFault}
 use Rattle.lvl_refusal.specs.Refused.{Says}
-use Rattle.lvl_refusal.specs.declared.Refusal.{Refusal}
-use Rattle.lvl_refusal.specs.declared.Refusal.TheVariants.{Breach, OutOfMemory}
+use Rattle.lvl_refusal.specs.declared.Cause.{Cause}
+use Rattle.lvl_refusal.specs.declared.Cause.TheVariants.{Breach, OutOfMemory}
 use Rattle.oasis_records.specs.declared.path.Path.{Path}
 use Rattle.oasis_records.specs.declared.record.Record.{Record}
 use Rattle.oasis_figures.specs.Figures.{number, reach, path_points, half_of, start_of, end_of, layer_of, shifts_of}
@@ -138,7 +138,7 @@ before_path earlier p v qs s e a h r Extension lt b =
 before_path earlier p v qs s e a h r Oblique lt b = b
 before_path earlier p v qs s e a h r (PathRule f) lt b = omega (arith, lt)
 
-pub vertices_refused : (m : Modal) (p : Path) (v : Resolved) (qs : List Point) (x : Refusal FigureRule)
+pub vertices_refused : (m : Modal) (p : Path) (v : Resolved) (qs : List Point) (x : Cause FigureRule)
     → IsReadAfter m p v qs
     → Says x (λ rule. (rule ≡ OutOfRange) × ¬ All FitsPoint qs) → Says x (BreachesAfter m (a_path p))
 vertices_refused m p v qs (Breach rule) read b = λ earlier s.
@@ -192,7 +192,7 @@ bands_breached earlier p v qs s e (PathRule f) a h r b = record {
 }
 bands_breached earlier p v qs s e _ a h r b = absurd b
 
-pub bands_refused : (m : Modal) (p : Path) (v : Resolved) (qs : List Point) (s e : ℕ) (x : Refusal FigureRule)
+pub bands_refused : (m : Modal) (p : Path) (v : Resolved) (qs : List Point) (s e : ℕ) (x : Cause FigureRule)
     → IsReadAfter m p v qs
     → All FitsPoint qs → reaches v.stroke.start v.stroke.end ≡ Some (s, e) → Says x (BandsBreak qs v.stroke.half s e)
     → Says x (BreachesAfter m (a_path p))

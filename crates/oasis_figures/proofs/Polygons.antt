@@ -8,8 +8,8 @@ use Rattle.lvl_grid.specs.Turn.{FitsPoint, shifted}
 use Rattle.lvl_grid.specs.Winding.{IsRing}
 use Rattle.lvl_grid.specs.declared.point.Point.{Point}
 use Rattle.lvl_refusal.specs.Refused.{Says}
-use Rattle.lvl_refusal.specs.declared.Refusal.{Refusal}
-use Rattle.lvl_refusal.specs.declared.Refusal.TheVariants.{Breach, OutOfMemory}
+use Rattle.lvl_refusal.specs.declared.Cause.{Cause}
+use Rattle.lvl_refusal.specs.declared.Cause.TheVariants.{Breach, OutOfMemory}
 use Rattle.oasis_records.specs.declared.polygon.Polygon.{Polygon}
 use Rattle.oasis_records.specs.declared.record.Record.{Record}
 use Rattle.oasis_figures.specs.Figures.{polygon_ring, layer_of, shifts_of, IsDrawn}
@@ -79,7 +79,7 @@ ring_breached earlier p v qs Oblique a b = record {
 }
 ring_breached earlier p v qs _ a b = absurd b
 
-pub ring_refused : (m : Modal) (p : Polygon) (v : Resolved) (qs : List Point) (x : Refusal FigureRule)
+pub ring_refused : (m : Modal) (p : Polygon) (v : Resolved) (qs : List Point) (x : Cause FigureRule)
     → IsReadAfter m p v qs
     → Says x (RingBreaks qs) → Says x (BreachesAfter m (a_polygon p))
 ring_refused m p v qs (Breach rule) read b = λ earlier s. ring_breached earlier p v qs rule (read earlier s) b

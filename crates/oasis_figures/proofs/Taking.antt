@@ -2,7 +2,7 @@
 use Rattle.std.proofs.Common.{◌≡◌, List, Option, Result, Ok, Err, refl, sym, subst}
 use Rattle.std.specs.Result.{IsErr, IsErrAnd}
 use Rattle.lvl_refusal.specs.Refused.{Says}
-use Rattle.lvl_refusal.specs.declared.Refusal.{Refusal}
+use Rattle.lvl_refusal.specs.declared.Cause.{Cause}
 use Rattle.oasis_records.specs.declared.record.Record.{Record}
 use Rattle.oasis_figures.specs.Keeping.{StandsFor}
 use Rattle.oasis_figures.specs.Rules.{Breaches}
@@ -15,8 +15,8 @@ use Rattle.oasis_figures.specs.inside.Taking.{Takes}
 abbrev pub BreachesAfter : Modal → Record → FigureRule → Type 0
 BreachesAfter m r rule = (earlier : List Record) → StandsFor m earlier → Breaches earlier r rule
 
-pub takes_refused : (m : Modal) (r : Record) (result : Result (Option Drawn) (Refusal FigureRule))
-    (e : Refusal FigureRule)
+pub takes_refused : (m : Modal) (r : Record) (result : Result (Option Drawn) (Cause FigureRule))
+    (e : Cause FigureRule)
     → IsErr result × IsErrAnd result (λ x. x ≡ e) → Says e (BreachesAfter m r) → Takes m r result m
 takes_refused m r (Ok d) e h s = absurd h.1
 takes_refused m r (Err x) e h s = record {
@@ -24,6 +24,6 @@ takes_refused m r (Err x) e h s = record {
   places = tt;
   kept = tt;
   none = tt;
-  refused = subst (λ (y : Refusal FigureRule). Says y (BreachesAfter m r)) (sym h.1) s;
+  refused = subst (λ (y : Cause FigureRule). Says y (BreachesAfter m r)) (sym h.1) s;
   same = refl;
 }

@@ -13,7 +13,7 @@ use crate::drawn::Drawn;
 use crate::rule::FigureRule;
 use lvl_grid::Point;
 use lvl_names::Offsets;
-use lvl_refusal::Refusal;
+use lvl_refusal::Cause;
 use oasis_records::{CellRef, Record};
 use std::alloc::Global;
 
@@ -72,11 +72,7 @@ impl Modal {
     ///
     /// A record that breaches a [`FigureRule`] is refused by the first of them, in their order. After a
     /// refusal, also for memory, the variables are as they were.
-    pub fn take(
-        &mut self,
-        alloc: Global,
-        next: Record,
-    ) -> Result<Option<Drawn>, Refusal<FigureRule>>
+    pub fn take(&mut self, alloc: Global, next: Record) -> Result<Option<Drawn>, Cause<FigureRule>>
         ensures drawn { IfOk result (λ drawn. (earlier : List ARecord) → StandsFor self.old earlier
             → IsDrawn earlier next drawn) }
         ensures places { IfOk result (λ drawn. (earlier : List ARecord) → StandsFor self.old earlier
@@ -123,7 +119,7 @@ impl Modal {
 
     /// Takes an XYRELATIVE or an XYABSOLUTE: from here on a coordinate is added to the one before, or
     /// replaces it.
-    fn take_mode(&mut self, is_relative: bool) -> Result<Option<Drawn>, Refusal<FigureRule>>
+    fn take_mode(&mut self, is_relative: bool) -> Result<Option<Drawn>, Cause<FigureRule>>
         ensures { Takes self.old (mode is_relative) result self.new }
     {
         self.is_relative = is_relative;
@@ -132,7 +128,7 @@ impl Modal {
     }
 
     /// Takes a record that sets nothing.
-    fn take_other(&mut self, next: Record) -> Result<Option<Drawn>, Refusal<FigureRule>>
+    fn take_other(&mut self, next: Record) -> Result<Option<Drawn>, Cause<FigureRule>>
         requires { IsOther next }
         ensures { Takes self.old next result self.new }
     {

@@ -20,7 +20,7 @@ use crate::vertices::{all_shifted, are_known, known, listed};
 use lvl_grid::{Point, Ring};
 use lvl_names::Layer;
 use lvl_path::bands;
-use lvl_refusal::Refusal;
+use lvl_refusal::Cause;
 use oasis_records::Path;
 use std::alloc::Global;
 
@@ -49,7 +49,7 @@ fn bands_of(
     half: u64,
     start: u64,
     end: u64,
-) -> Result<Vec<Ring>, Refusal<FigureRule>>
+) -> Result<Vec<Ring>, Cause<FigureRule>>
     ensures value { IfOk result
         (λ rings. rings.items ≡ path_rings points.now (record { half = half; start = start; end = end })) }
     ensures path { OnOk result (IsPath points.now (record { half = half; start = start; end = end })) }
@@ -57,8 +57,8 @@ fn bands_of(
 {
     match bands(alloc, points, half, start, end) {
         Ok(rings) => Ok(rings),
-        Err(Refusal::Breach(fault)) => Err(Refusal::Breach(FigureRule::Path(fault))),
-        Err(Refusal::OutOfMemory) => Err(Refusal::OutOfMemory),
+        Err(Cause::Breach(fault)) => Err(Cause::Breach(FigureRule::Path(fault))),
+        Err(Cause::OutOfMemory) => Err(Cause::OutOfMemory),
     }
 }
 
@@ -124,14 +124,14 @@ impl Modal {
         &mut self,
         alloc: Global,
         path: Path,
-    ) -> Result<Option<Drawn>, Refusal<FigureRule>>
+    ) -> Result<Option<Drawn>, Cause<FigureRule>>
         ensures { Takes self.old (a_path path) result self.new }
     {
         let Resolved { stroke, on, at } = self.resolve_path(&path)?;
         let points = listed(path.points);
         let vertices = all_shifted(alloc, at, known(&points, &self.path))?;
         let Some((start, end)) = reaches(stroke.start, stroke.end) else {
-            return Err(Refusal::Breach(FigureRule::Extension));
+            return Err(Cause::Breach(FigureRule::Extension));
         };
         let rings = bands_of(alloc, &vertices, stroke.half, start, end)?;
         let repetition = path.position.repetition;

@@ -14,7 +14,7 @@ use crate::repetition::{after, all_fit_at, is_known};
 use crate::rule::FigureRule;
 use crate::variable::Variable;
 use lvl_grid::{Map, Turn};
-use lvl_refusal::Refusal;
+use lvl_refusal::Cause;
 use oasis_records::{Placement, Transform};
 use oasis_values::Real;
 
@@ -114,7 +114,7 @@ impl Modal {
     pub(crate) fn take_placement(
         &mut self,
         placement: Placement,
-    ) -> Result<Option<Drawn>, Refusal<FigureRule>>
+    ) -> Result<Option<Drawn>, Cause<FigureRule>>
         ensures { Takes self.old (a_placement placement) result self.new }
     {
         let by = self.resolve_placement(&placement)?;

@@ -19,7 +19,7 @@ use crate::variable::Variable;
 use crate::vertices::{all_shifted, are_known, known, listed};
 use lvl_grid::{Point, Ring};
 use lvl_names::Layer;
-use lvl_refusal::Refusal;
+use lvl_refusal::Cause;
 use oasis_records::Polygon;
 use std::alloc::Global;
 
@@ -33,7 +33,7 @@ pub(crate) struct Resolved {
 }
 
 /// The ring of the points, moved to where the polygon is.
-fn ring_at(alloc: Global, at: Point, points: &[Point]) -> Result<Ring, Refusal<FigureRule>>
+fn ring_at(alloc: Global, at: Point, points: &[Point]) -> Result<Ring, Cause<FigureRule>>
     ensures value { IfOk result (λ ring. ring ≡ map (shifted at) points.now) }
     ensures fit { OnOk result (All FitsPoint (map (shifted at) points.now)) }
     ensures ring { OnOk result (IsRing (map (shifted at) points.now)) }
@@ -42,7 +42,7 @@ fn ring_at(alloc: Global, at: Point, points: &[Point]) -> Result<Ring, Refusal<F
     let vertices = all_shifted(alloc, at, points)?;
     match Ring::new(vertices) {
         Ok(ring) => Ok(ring),
-        Err(_) => Err(Refusal::Breach(FigureRule::Oblique)),
+        Err(_) => Err(Cause::Breach(FigureRule::Oblique)),
     }
 }
 
@@ -87,7 +87,7 @@ impl Modal {
         &mut self,
         alloc: Global,
         polygon: Polygon,
-    ) -> Result<Option<Drawn>, Refusal<FigureRule>>
+    ) -> Result<Option<Drawn>, Cause<FigureRule>>
         ensures { Takes self.old (a_polygon polygon) result self.new }
     {
         let values = self.resolve_polygon(&polygon)?;

@@ -15,7 +15,7 @@ use crate::rule::FigureRule;
 use crate::variable::Variable;
 use lvl_grid::{Point, Ring};
 use lvl_names::Layer;
-use lvl_refusal::Refusal;
+use lvl_refusal::Cause;
 use oasis_records::Rectangle;
 use std::alloc::Global;
 
@@ -90,7 +90,7 @@ impl Modal {
         &mut self,
         alloc: Global,
         rectangle: Rectangle,
-    ) -> Result<Option<Drawn>, Refusal<FigureRule>>
+    ) -> Result<Option<Drawn>, Cause<FigureRule>>
         ensures { Takes self.old (a_rectangle rectangle) result self.new }
     {
         let values = self.resolve_rectangle(&rectangle)?;

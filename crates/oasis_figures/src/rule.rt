@@ -3,7 +3,7 @@ ghost use Rattle.std.specs.Prelude.{◌≡◌};
 
 use crate::variable::Variable;
 use lvl_path::PathFault;
-use lvl_refusal::Refusal;
+use lvl_refusal::Cause;
 use thiserror::Error;
 
 /// A rule of figures and placements that is breached. They are tested in this order.
@@ -35,12 +35,12 @@ pub enum FigureRule {
     Path(PathFault),
 }
 
-impl From<FigureRule> for Refusal<FigureRule> {
-    ghost use Rattle.lvl_refusal.specs.declared.Refusal.TheVariants.{Breach};
+impl From<FigureRule> for Cause<FigureRule> {
+    ghost use Rattle.lvl_refusal.specs.declared.Cause.TheVariants.{Breach};
 
     ghost from_gives = { λ f e. e ≡ Breach f };
 
-    fn from(rule: FigureRule) -> Refusal<FigureRule> {
-        Refusal::Breach(rule)
+    fn from(rule: FigureRule) -> Cause<FigureRule> {
+        Cause::Breach(rule)
     }
 }

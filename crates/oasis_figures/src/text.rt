@@ -10,7 +10,7 @@ use crate::modal::Modal;
 use crate::repetition::{after, is_known};
 use crate::rule::FigureRule;
 use crate::variable::Variable;
-use lvl_refusal::Refusal;
+use lvl_refusal::Cause;
 use oasis_values::Repetition;
 
 impl Modal {
@@ -31,7 +31,7 @@ impl Modal {
     pub(crate) fn take_text(
         &mut self,
         repetition: Option<Repetition>,
-    ) -> Result<Option<Drawn>, Refusal<FigureRule>>
+    ) -> Result<Option<Drawn>, Cause<FigureRule>>
         ensures { Takes self.old (a_text repetition) result self.new }
     {
         self.test_text(&repetition)?;

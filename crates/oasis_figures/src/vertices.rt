@@ -7,7 +7,7 @@ ghost use Rattle.oasis_figures.specs.Modal.{value_or};
 
 use crate::rule::FigureRule;
 use lvl_grid::Point;
-use lvl_refusal::Refusal;
+use lvl_refusal::Cause;
 use oasis_records::Points;
 use std::alloc::Global;
 
@@ -25,7 +25,7 @@ pub(crate) fn all_shifted(
     alloc: Global,
     by: Point,
     points: &[Point],
-) -> Result<Vec<Point>, Refusal<FigureRule>>
+) -> Result<Vec<Point>, Cause<FigureRule>>
     ensures value { IfOk result (λ vertices. vertices.items ≡ map (shifted by) points.now) }
     ensures fit { OnOk result (All FitsPoint (map (shifted by) points.now)) }
     ensures refused { IfErr result
@@ -34,7 +34,7 @@ pub(crate) fn all_shifted(
     let mut vertices = Vec::with_capacity(alloc, points.len())?;
     for point in points {
         let Some(vertex) = shifted(by, *point) else {
-            return Err(Refusal::Breach(FigureRule::OutOfRange));
+            return Err(Cause::Breach(FigureRule::OutOfRange));
         };
         vertices.push_reserved(vertex);
     }

@@ -2,8 +2,8 @@
 use Rattle.std.proofs.Common.{◌≡◌, false, List, [], ◌∷◌, ◌++◌, map, refl, sym, ap, ◌∙◌, subst, if◌then◌else◌, Result}
 use Rattle.std.proofs.Common.{Ok, Err, IfOk, OnOk}
 use Rattle.std.specs.Prelude.{flat_map, Option}
-use Rattle.lvl_refusal.specs.declared.Refusal.{Refusal}
-use Rattle.lvl_refusal.specs.declared.Refusal.TheVariants.{Breach, OutOfMemory}
+use Rattle.lvl_refusal.specs.declared.Cause.{Cause}
+use Rattle.lvl_refusal.specs.declared.Cause.TheVariants.{Breach, OutOfMemory}
 use Rattle.oasis_records.specs.declared.cell.CellRef.{CellRef}
 use Rattle.oasis_records.specs.declared.record.Record.TheVariants.{Cell}
 use Rattle.oasis_figures.specs.Figures.{shifts_of, IsDrawn, PlacesFit}
@@ -97,21 +97,21 @@ other_goes x y rs next other h order names modal cells unit validation = law_hol
 
 -- what was answered of names and of figures
 
-pub name_ok : {P : Type 0} (r : Result (Unit {0}) (Refusal NameRule)) (q : Result (Unit {0}) (Refusal OasisKind))
+pub name_ok : {P : Type 0} (r : Result (Unit {0}) (Cause NameRule)) (q : Result (Unit {0}) (Cause OasisKind))
     (u : Unit {0}) → q ≡ of_name r → q ≡ Ok u → OnOk r P → P
 name_ok (Ok v) q u e f p = p
 name_ok (Err (Breach k)) q u e f p = (let z : Err (Breach (Name k)) ≡ Ok u = sym e ∙ f in cc)
 name_ok (Err OutOfMemory) q u e f p = (let z : Err OutOfMemory ≡ Ok u = sym e ∙ f in cc)
 
-pub record Takes (old new : Modal) (next : Record) (r : Result (Option Drawn) (Refusal FigureRule)) : Type 0 where
+pub record Takes (old new : Modal) (next : Record) (r : Result (Option Drawn) (Cause FigureRule)) : Type 0 where
   pub drawn : IfOk r (λ drawn. (earlier : List Record) → StandsFor old earlier → IsDrawn earlier next drawn)
   pub places : IfOk r (λ drawn. (earlier : List Record) → StandsFor old earlier → PlacesFit (shifts_of earlier next)
       drawn)
   pub kept : OnOk r ((earlier : List Record) → StandsFor old earlier → StandsFor new (next ∷ earlier))
   pub none : OnOk r ((earlier : List Record) → StandsFor old earlier → BreachesNone earlier next)
 
-pub figure_ok : (old new : Modal) (next : Record) (r : Result (Option Drawn) (Refusal FigureRule))
-    (q : Result (Option Drawn) (Refusal OasisKind)) (d : Option Drawn)
+pub figure_ok : (old new : Modal) (next : Record) (r : Result (Option Drawn) (Cause FigureRule))
+    (q : Result (Option Drawn) (Cause OasisKind)) (d : Option Drawn)
     → q ≡ of_figure r → q ≡ Ok d → Takes old new next r → (earlier : List Record) → StandsFor old earlier
     → IsTaken earlier next d new
 figure_ok old new next (Ok x) q d e f t earlier h =

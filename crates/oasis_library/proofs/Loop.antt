@@ -2,7 +2,7 @@
 use Rattle.std.proofs.Common.{◌≡◌, ℕ, ◌<◌, true, false, List, [], ◌∷◌, ◌++◌, length, take, drop, Ok, Err, Some, refl}
 use Rattle.std.proofs.Common.{sym, ap, ◌∙◌, subst, arith, length-append}
 use Rattle.std.specs.Prelude.{Option, Result}
-use Rattle.lvl_refusal.specs.declared.Refusal.{Refusal}
+use Rattle.lvl_refusal.specs.declared.Cause.{Cause}
 use Rattle.lvl_ignore.specs.declared.ignore.Ignore.{Ignore}
 use Rattle.oasis_stream.proofs.Seen.{answers_under}
 use Rattle.oasis_values.specs.declared.fault.ValueFault.{ValueFault}
@@ -18,7 +18,7 @@ use Rattle.oasis_stream.specs.Items.{Item, magic, item, records, IsEnded}
 use Rattle.oasis_stream.specs.Order.{last_or}
 use Rattle.oasis_stream.specs.Rules.{RecordBreaches}
 use Rattle.oasis_stream.specs.Front.{IsItem, IsNext, oasis}
-use Rattle.oasis_stream.specs.Told.{of_kind, told_record}
+use Rattle.oasis_stream.specs.Reported.{of_kind, reported_record}
 use Rattle.oasis_stream.specs.inside.Refuses.{RefusesAt}
 use Rattle.oasis_stream.specs.declared.fault.OasisKind.{OasisKind}
 use Rattle.oasis_stream.proofs.Items.{item_needs}
@@ -26,7 +26,7 @@ use Rattle.oasis_stream.proofs.Reached.{last_or-append}
 use Rattle.oasis_stream.proofs.Steps.{item_on, next_refuses, breach_refuses}
 use Rattle.oasis_library.specs.inside.Holds.{Holds, HasRead, HasBegun, HasWhole, is_end}
 use Rattle.lvl_refusal.specs.Refused.{Says}
-use Rattle.lvl_refusal.specs.declared.Refusal.TheVariants.{Breach, OutOfMemory}
+use Rattle.lvl_refusal.specs.declared.Cause.TheVariants.{Breach, OutOfMemory}
 use Rattle.oasis_library.specs.inside.Refuses.{Refuses, refused_at}
 use Rattle.oasis_library.specs.declared.reading.Reading.{Reading}
 use Rattle.oasis_library.proofs.Holding.{records-snoc}
@@ -89,7 +89,7 @@ first_refused {remaining = remaining} {errors = errors} {lent = lent} ignore xs 
 
 -- after the magic string, the next item is a record
 pub as_item : {R : Type 0} {remaining : R → Option (List ℕ)} {errors : R → ℕ} {lent : R → List GName} (x : Reading)
-    (is : List Item) {old new : Input R} {r : Result (Result Item OasisKind) (Refusal ValueFault)}
+    (is : List Item) {old new : Input R} {r : Result (Result Item OasisKind) (Cause ValueFault)}
     → HasBegun x is → Reads remaining errors lent (IsNext (records is)) old new r
     → Reads remaining errors lent (IsItem is) old new r
 as_item {remaining = remaining} {errors = errors} {lent = lent} x is {old = old} {new = new} {r = r} h p =
@@ -172,9 +172,9 @@ first_takes ignore xs i live under known p =
 pub next_refused : {R : Type 0} {remaining : R → Option (List ℕ)} {errors : R → ℕ} {lent : R → List GName}
     (ignore : Ignore) (xs : List ℕ)
     (x : Reading) {old new : Input R}
-    (to : ReadTo (oasis ignore) xs (input_offset old) (HasBegun x) (bytes_left remaining old)) (e : Refusal OasisKind)
+    (to : ReadTo (oasis ignore) xs (input_offset old) (HasBegun x) (bytes_left remaining old)) (e : Cause OasisKind)
     → has_failed old ≡ false → input_ignore old ≡ ignore
-    → Reads remaining errors lent (IsNext (records to.records)) old new (told_record (Err e))
+    → Reads remaining errors lent (IsNext (records to.records)) old new (reported_record (Err e))
     → Says (refused_at (input_offset old) e) (Refuses ignore xs (remaining (input_reader new)))
 next_refused ignore xs x to (Breach k) live under p = next_refuses ignore xs to k live under to.holds.1
     (as_item x to.records to.holds p)
@@ -184,7 +184,7 @@ next_refused ignore xs x to OutOfMemory live under p = tt
 pub take_refused : {R : Type 0} {remaining : R → Option (List ℕ)} {errors : R → ℕ} {lent : R → List GName}
     (ignore : Ignore) (xs : List ℕ)
     (x : Reading) (r : Record) {old new : Input R}
-    (to : ReadTo (oasis ignore) xs (input_offset old) (HasBegun x) (bytes_left remaining old)) (e : Refusal OasisKind)
+    (to : ReadTo (oasis ignore) xs (input_offset old) (HasBegun x) (bytes_left remaining old)) (e : Cause OasisKind)
     → has_failed old ≡ false → input_ignore old ≡ ignore
     → Reads remaining errors lent (IsNext (records to.records)) old new (Ok (Ok (item r)))
     → Says e (λ k. (rs : List Record) → Holds x rs → RecordBreaches rs r k)

@@ -2,8 +2,8 @@
 use Rattle.std.proofs.Common.{◌≡◌, ℕ, List, sym, ap, ◌∙◌, subst, Result, Ok, Err, IfErr, map}
 use Rattle.std.specs.Prelude.{Option}
 use Rattle.lvl_refusal.specs.Refused.{Says}
-use Rattle.lvl_refusal.specs.declared.Refusal.{Refusal}
-use Rattle.lvl_refusal.specs.declared.Refusal.TheVariants.{Breach, OutOfMemory}
+use Rattle.lvl_refusal.specs.declared.Cause.{Cause}
+use Rattle.lvl_refusal.specs.declared.Cause.TheVariants.{Breach, OutOfMemory}
 use Rattle.lvl_grammar.specs.Front.{SpellsNothing, SpellsWhole}
 use Rattle.lvl_grammar.specs.Refused.{IsHopeless}
 use Rattle.lvl_grammar.proofs.Laws.{one_whole}
@@ -13,7 +13,7 @@ use Rattle.lvl_path.specs.Figure.{Figure}
 use Rattle.lvl_cells.specs.Cells.{PlainCell, Rings}
 use Rattle.lvl_ignore.specs.declared.ignore.Ignore.{Ignore}
 use Rattle.oasis_values.specs.declared.fault.ValueFault.TheVariants.{Truncated, Read}
-use Rattle.oasis_stream.specs.Ends.{TellsAt}
+use Rattle.oasis_stream.specs.Ends.{ReportsAt}
 use Rattle.oasis_stream.specs.Front.{oasis}
 use Rattle.oasis_stream.specs.Items.{Item, records}
 use Rattle.oasis_stream.specs.Order.{names_in}
@@ -22,7 +22,7 @@ use Rattle.oasis_stream.specs.declared.fault.OasisKind.{OasisKind}
 use Rattle.oasis_stream.specs.declared.fault.OasisKind.TheVariants.{Value}
 use Rattle.oasis_stream.proofs.Instance.{is_grammar}
 use Rattle.oasis_library.specs.Cells.{drawings, with_rings}
-use Rattle.oasis_library.specs.Ends.{Tells, TellsUnread, TellsUnresolved, IsExcused, IsEarly}
+use Rattle.oasis_library.specs.Ends.{Reports, ReportsUnread, ReportsUnresolved, IsExcused, IsEarly}
 use Rattle.oasis_library.specs.Head.{head_of}
 use Rattle.oasis_library.specs.Library.{SpellsLibrary, SpellsNone, IsRead}
 use Rattle.oasis_library.specs.Names.{AreCells, numbers_used, IsUnnamed}
@@ -72,7 +72,7 @@ law_read ignore xs is found h whole are head =
 -- a number that no name has, of the cells as they are kept
 pub law_unresolved : (ignore : Ignore) (xs : List ℕ) (is : List Item) (n : ℕ) → SpellsWhole (oasis ignore) xs is
     → IsUnnamed (names_in (records is)) (numbers_used (map with_rings (drawings (records is)))) n
-    → TellsUnresolved ignore xs n
+    → ReportsUnresolved ignore xs n
 law_unresolved ignore xs is n whole u =
     (is, whole, subst (λ l. IsUnnamed (names_in (records is)) l n) (numbers_kept (drawings (records is))) u)
 
@@ -80,7 +80,7 @@ law_unresolved ignore xs is n whole u =
 none_spelled : (ignore : Ignore) (xs : List ℕ) → SpellsNothing (oasis ignore) xs → SpellsNone ignore xs
 none_spelled ignore xs n cells h p = n p.items p.whole
 
-none_resolved : (ignore : Ignore) (xs : List ℕ) (n : ℕ) → TellsUnresolved ignore xs n → SpellsNone ignore xs
+none_resolved : (ignore : Ignore) (xs : List ℕ) (n : ℕ) → ReportsUnresolved ignore xs n → SpellsNone ignore xs
 none_resolved ignore xs n t cells h p =
     let e = same_items ignore xs p.items t.0 p.whole t.1 in
     let are : AreCells (names_in (records t.0)) (drawings (records t.0)) cells =
@@ -89,16 +89,16 @@ none_resolved ignore xs n t cells h p =
     (cells_named (names_in (records t.0)) (drawings (records t.0)) cells are) t.2
 
 -- what a refusal says
-tells_at : (ignore : Ignore) (xs : List ℕ) (left : Option (List ℕ)) (at : ℕ) (k : OasisKind)
-    → RefusesAt ignore xs left at k → TellsAt ignore xs at k
-tells_at ignore xs left at (Value Truncated) x = x
-tells_at ignore xs left at (Value Read) x = unread_front (oasis ignore) xs left at x
-tells_at ignore xs left at other x = seen_stuck (oasis ignore) (is_grammar ignore) xs at left other x
+reports_at : (ignore : Ignore) (xs : List ℕ) (left : Option (List ℕ)) (at : ℕ) (k : OasisKind)
+    → RefusesAt ignore xs left at k → ReportsAt ignore xs at k
+reports_at ignore xs left at (Value Truncated) x = x
+reports_at ignore xs left at (Value Read) x = unread_front (oasis ignore) xs left at x
+reports_at ignore xs left at other x = seen_stuck (oasis ignore) (is_grammar ignore) xs at left other x
 
-tells : (ignore : Ignore) (xs : List ℕ) (left : Option (List ℕ)) (f : OasisFault) → Refuses ignore xs left f
-    → Tells ignore xs f
-tells ignore xs left (At at k) x = tells_at ignore xs left at k x
-tells ignore xs left (Unresolved n) x = x
+reports : (ignore : Ignore) (xs : List ℕ) (left : Option (List ℕ)) (f : OasisFault) → Refuses ignore xs left f
+    → Reports ignore xs f
+reports ignore xs left (At at k) x = reports_at ignore xs left at k x
+reports ignore xs left (Unresolved n) x = x
 
 none_at : (ignore : Ignore) (xs : List ℕ) (left : Option (List ℕ)) (at : ℕ) (k : OasisKind)
     → RefusesAt ignore xs left at k
@@ -132,57 +132,57 @@ early_of ignore xs left (Unresolved n) x i = absurd i
 
 unread_at : (ignore : Ignore) (xs : List ℕ) (left : Option (List ℕ)) (at : ℕ) (k : OasisKind)
     → RefusesAt ignore xs left at k
-    → TellsUnread ignore xs left (At at k)
+    → ReportsUnread ignore xs left (At at k)
 unread_at ignore xs left at (Value Read) x = x
 unread_at ignore xs left at other x = tt
 
 unread_of : (ignore : Ignore) (xs : List ℕ) (left : Option (List ℕ)) (f : OasisFault) → Refuses ignore xs left f
-    → TellsUnread ignore xs left f
+    → ReportsUnread ignore xs left f
 unread_of ignore xs left (At at k) x = unread_at ignore xs left at k x
 unread_of ignore xs left (Unresolved n) x = tt
 
 -- of an answer
 refused : {A : Type 0} (ignore : Ignore) (xs : List ℕ) (left : Option (List ℕ)) (P : OasisFault → Type 0)
-    → ((f : OasisFault) → Refuses ignore xs left f → P f) → (r : Result A (Refusal OasisFault))
+    → ((f : OasisFault) → Refuses ignore xs left f → P f) → (r : Result A (Cause OasisFault))
     → IfErr r (λ e. Says e (Refuses ignore xs left)) → IfErr r (λ e. Says e P)
 refused ignore xs left P h (Ok x) s = tt
 refused ignore xs left P h (Err (Breach f)) s = h f s
 refused ignore xs left P h (Err OutOfMemory) s = tt
 
-pub refused_tells : {A : Type 0} (ignore : Ignore) (xs : List ℕ) (left : Option (List ℕ))
-    (r : Result A (Refusal OasisFault))
-    → IfErr r (λ e. Says e (Refuses ignore xs left)) → IfErr r (λ e. Says e (Tells ignore xs))
-refused_tells ignore xs left = refused ignore xs left (Tells ignore xs) (tells ignore xs left)
+pub refused_reports : {A : Type 0} (ignore : Ignore) (xs : List ℕ) (left : Option (List ℕ))
+    (r : Result A (Cause OasisFault))
+    → IfErr r (λ e. Says e (Refuses ignore xs left)) → IfErr r (λ e. Says e (Reports ignore xs))
+refused_reports ignore xs left = refused ignore xs left (Reports ignore xs) (reports ignore xs left)
 
 pub refused_none : {A : Type 0} (ignore : Ignore) (xs : List ℕ) (left : Option (List ℕ))
-    (r : Result A (Refusal OasisFault))
+    (r : Result A (Cause OasisFault))
     → IfErr r (λ e. Says e (Refuses ignore xs left))
     → IfErr r (λ e. Says e (λ f. (IsExcused f → ⊥) → SpellsNone ignore xs))
 refused_none ignore xs left = refused ignore xs left (λ f. (IsExcused f → ⊥) → SpellsNone ignore xs)
     (none_of ignore xs left)
 
 pub refused_early : {A : Type 0} (ignore : Ignore) (xs : List ℕ) (left : Option (List ℕ))
-    (r : Result A (Refusal OasisFault))
+    (r : Result A (Cause OasisFault))
     → IfErr r (λ e. Says e (Refuses ignore xs left))
     → IfErr r (λ e. Says e (λ f. IsEarly f → IsHopeless (oasis ignore) xs left))
 refused_early ignore xs left = refused ignore xs left (λ f. IsEarly f → IsHopeless (oasis ignore) xs left)
     (early_of ignore xs left)
 
 refused_unread : {A : Type 0} (ignore : Ignore) (xs : List ℕ) (left : Option (List ℕ))
-    (r : Result A (Refusal OasisFault))
-    → IfErr r (λ e. Says e (Refuses ignore xs left)) → IfErr r (λ e. Says e (TellsUnread ignore xs left))
-refused_unread ignore xs left = refused ignore xs left (TellsUnread ignore xs left) (unread_of ignore xs left)
+    (r : Result A (Cause OasisFault))
+    → IfErr r (λ e. Says e (Refuses ignore xs left)) → IfErr r (λ e. Says e (ReportsUnread ignore xs left))
+refused_unread ignore xs left = refused ignore xs left (ReportsUnread ignore xs left) (unread_of ignore xs left)
 
 -- of the bytes that are left in the end
 pub unread_left : {A : Type 0} (ignore : Ignore) (xs : List ℕ) (left left' : Option (List ℕ))
-    (r : Result A (Refusal OasisFault))
+    (r : Result A (Cause OasisFault))
     → IfErr r (λ e. Says e (Refuses ignore xs left)) → left ≡ left'
-    → IfErr r (λ e. Says e (TellsUnread ignore xs left'))
+    → IfErr r (λ e. Says e (ReportsUnread ignore xs left'))
 unread_left ignore xs left left' r h e =
-    subst (λ l. IfErr r (λ e. Says e (TellsUnread ignore xs l))) e (refused_unread ignore xs left r h)
+    subst (λ l. IfErr r (λ e. Says e (ReportsUnread ignore xs l))) e (refused_unread ignore xs left r h)
 
 pub early_left : {A : Type 0} (ignore : Ignore) (xs : List ℕ) (left left' : Option (List ℕ))
-    (r : Result A (Refusal OasisFault))
+    (r : Result A (Cause OasisFault))
     → IfErr r (λ e. Says e (Refuses ignore xs left)) → left ≡ left'
     → IfErr r (λ e. Says e (λ f. IsEarly f → IsHopeless (oasis ignore) xs left'))
 early_left ignore xs left left' r h e =

@@ -4,8 +4,8 @@ use Rattle.std.proofs.Common.{All}
 use Rattle.std.specs.Prelude.{flat_map, IsSome, is_some, Option, Bool, true, false, Result, Ok, Err, IfErr}
 use Rattle.std.specs.Result.{IsErr, IsErrAnd}
 use Rattle.lvl_refusal.specs.Refused.{Says}
-use Rattle.lvl_refusal.specs.declared.Refusal.{Refusal}
-use Rattle.lvl_refusal.specs.declared.Refusal.TheVariants.{Breach, OutOfMemory}
+use Rattle.lvl_refusal.specs.declared.Cause.{Cause}
+use Rattle.lvl_refusal.specs.declared.Cause.TheVariants.{Breach, OutOfMemory}
 use Rattle.std.specs.List.{AllZip}
 use Rattle.std.proofs.lemmas.List.Elements.{All-nil, All-cons, All-append, All-head, All-tail}
 use Rattle.std.proofs.lemmas.Grind.{flat_map-append}
@@ -199,27 +199,27 @@ unnamed_there f names all came rest after x n e h named u =
     subst (λ l. IsUnnamed names l n) parts (unnamed_after names (flat_map f came) (f x ++ flat_map f after) n named
     (unnamed_before names (f x) (flat_map f after) n u))
 
-says_more : {F : Type 0} (P Q : F → Type 0) (e : Refusal F) → ((f : F) → P f → Q f) → Says e P → Says e Q
+says_more : {F : Type 0} (P Q : F → Type 0) (e : Cause F) → ((f : F) → P f → Q f) → Says e P → Says e Q
 says_more P Q (Breach f) h s = h f s
 says_more P Q OutOfMemory h s = tt
 
 -- whether a refusal is one of the reader's
-abbrev pub is_refusal_read : Refusal OasisFault → Bool
+abbrev pub is_refusal_read : Cause OasisFault → Bool
 is_refusal_read (Breach f) = is_read_error f
 is_refusal_read OutOfMemory = false
 
-is_read_err : (A : Type 0) (e : Refusal OasisFault) → is_read {A = A} (Err e) ≡ is_refusal_read e
+is_read_err : (A : Type 0) (e : Cause OasisFault) → is_read {A = A} (Err e) ≡ is_refusal_read e
 is_read_err A (Breach f) = refl
 is_read_err A OutOfMemory = refl
 
 -- it still is where the refusal is passed on
-pub read_carried : (A : Type 0) (r : Result A (Refusal OasisFault)) (e : Refusal OasisFault)
+pub read_carried : (A : Type 0) (r : Result A (Cause OasisFault)) (e : Cause OasisFault)
     → IsErr r × IsErrAnd r (λ x. x ≡ e) → is_refusal_read e ≡ is_read r
 read_carried A (Ok x) e g = (let z : false ≡ true = g.0 in cc)
 read_carried A (Err x) e g = ap is_refusal_read (sym g.1) ∙ sym (is_read_err A x)
 
 -- a refusal that is passed on
-pub says_carried : {A F : Type 0} (P Q : F → Type 0) (r : Result A (Refusal F)) (e : Refusal F) → ((f : F) → P f → Q f)
+pub says_carried : {A F : Type 0} (P Q : F → Type 0) (r : Result A (Cause F)) (e : Cause F) → ((f : F) → P f → Q f)
     → Says e P
     → IsErr r × IsErrAnd r (λ x. x ≡ e) → IfErr r (λ x. Says x Q)
 says_carried P Q (Ok x) e h s g = (let z : false ≡ true = g.0 in cc)

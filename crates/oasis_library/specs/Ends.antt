@@ -1,12 +1,12 @@
 -- What a refusal says of the input.
 use Rattle.std.specs.Prelude.{ℕ, Bool, false, List, Option, Result, Ok, Err}
-use Rattle.lvl_refusal.specs.declared.Refusal.{Refusal}
-use Rattle.lvl_refusal.specs.declared.Refusal.TheVariants.{Breach, OutOfMemory}
+use Rattle.lvl_refusal.specs.declared.Cause.{Cause}
+use Rattle.lvl_refusal.specs.declared.Cause.TheVariants.{Breach, OutOfMemory}
 use Rattle.lvl_grammar.specs.Front.{SpellsWhole}
 use Rattle.lvl_grammar.specs.Refused.{IsUnread}
 use Rattle.lvl_ignore.specs.declared.ignore.Ignore.{Ignore}
 use Rattle.oasis_values.specs.declared.fault.ValueFault.TheVariants.{Truncated, Read}
-use Rattle.oasis_stream.specs.Ends.{TellsAt, is_read_kind}
+use Rattle.oasis_stream.specs.Ends.{ReportsAt, is_read_kind}
 use Rattle.oasis_stream.specs.Front.{oasis}
 use Rattle.oasis_stream.specs.Items.{Item, records}
 use Rattle.oasis_stream.specs.Order.{names_in}
@@ -17,14 +17,14 @@ use Rattle.oasis_library.specs.declared.fault.OasisFault.{OasisFault}
 use Rattle.oasis_library.specs.declared.fault.OasisFault.TheVariants.{At, Unresolved}
 
 -- the bytes are a whole file, and of the numbers that its cells use this is the first that no name has
-abbrev pub TellsUnresolved : Ignore → List ℕ → ℕ → Type 0
-TellsUnresolved ignore xs n =
+abbrev pub ReportsUnresolved : Ignore → List ℕ → ℕ → Type 0
+ReportsUnresolved ignore xs n =
     (is : List Item) × SpellsWhole (oasis ignore) xs is × IsUnnamed (names_in (records is))
     (numbers_used (drawings (records is))) n
 
-abbrev pub Tells : Ignore → List ℕ → OasisFault → Type 0
-Tells ignore xs (At at k) = TellsAt ignore xs at k
-Tells ignore xs (Unresolved n) = TellsUnresolved ignore xs n
+abbrev pub Reports : Ignore → List ℕ → OasisFault → Type 0
+Reports ignore xs (At at k) = ReportsAt ignore xs at k
+Reports ignore xs (Unresolved n) = ReportsUnresolved ignore xs n
 
 -- the fault says nothing of the input: the reader failed
 abbrev pub IsExcused : OasisFault → Type 0
@@ -33,9 +33,9 @@ IsExcused f = ⊥
 
 -- where the reader failed, the bytes before the offset are a front, and those from it on that it gave are none or an
 -- unfinished beginning of a record; the others are left
-abbrev pub TellsUnread : Ignore → List ℕ → Option (List ℕ) → OasisFault → Type 0
-TellsUnread ignore xs left (At at (Value Read)) = IsUnread (oasis ignore) xs left at
-TellsUnread ignore xs left f = Unit {0}
+abbrev pub ReportsUnread : Ignore → List ℕ → Option (List ℕ) → OasisFault → Type 0
+ReportsUnread ignore xs left (At at (Value Read)) = IsUnread (oasis ignore) xs left at
+ReportsUnread ignore xs left f = Unit {0}
 
 -- the fault is reported as soon as it is seen, whatever may still come: the input needn't have ended, and the reader
 -- didn't fail
@@ -51,7 +51,7 @@ is_read_error (At at k) = is_read_kind k
 is_read_error (Unresolved n) = false
 
 -- whether the answer is that the reader failed
-abbrev pub is_read : {A : Type 0} → Result A (Refusal OasisFault) → Bool
+abbrev pub is_read : {A : Type 0} → Result A (Cause OasisFault) → Bool
 is_read (Ok x) = false
 is_read (Err (Breach f)) = is_read_error f
 is_read (Err OutOfMemory) = false

@@ -9,7 +9,7 @@ ghost use Rattle.oasis_stream.specs.declared.fault.NameRule.{NameRule as Rule};
 ghost use Rattle.oasis_library.specs.inside.Holds.{HoldsNames};
 
 use lvl_names::Name;
-use lvl_refusal::Refusal;
+use lvl_refusal::Cause;
 use oasis_records::{CellName, Record};
 use oasis_stream::NameRule;
 use std::alloc::Global;
@@ -41,7 +41,7 @@ impl Names {
     }
 
     /// Adds the name that the record gives, if it gives one.
-    pub(crate) fn take(&mut self, alloc: Global, taken: &Record) -> Result<(), Refusal<NameRule>>
+    pub(crate) fn take(&mut self, alloc: Global, taken: &Record) -> Result<(), Cause<NameRule>>
         ensures refused { IfErr result (λ e. Says e (λ rule.
             (names : List Given) → HoldsNames self.old names → NamingBreaches names taken.now rule)) }
         ensures kept { OnOk result ((names : List Given) → HoldsNames self.old names
@@ -56,7 +56,7 @@ impl Names {
     }
 
     // Adds a name. Its number is tested before the name itself.
-    fn add(&mut self, alloc: Global, given: &CellName) -> Result<(), Refusal<NameRule>>
+    fn add(&mut self, alloc: Global, given: &CellName) -> Result<(), Cause<NameRule>>
         ensures refused { IfErr result (λ e. Says e (λ rule.
             (names : List Given) → HoldsNames self.old names → NameBreaches names given.now rule)) }
         ensures kept { OnOk result
@@ -66,12 +66,12 @@ impl Names {
     {
         let number = given.number.unwrap_or(self.by_number.len() as u64);
         if self.by_number.contains_key(&number) {
-            return Err(Refusal::Breach(NameRule::NumberTwice));
+            return Err(Cause::Breach(NameRule::NumberTwice));
         }
         let bytes = given.name.as_bytes();
         let is_new = self.seen.insert(Vec::from_slice(alloc, bytes)?)?;
         if !is_new {
-            return Err(Refusal::Breach(NameRule::NameTwice));
+            return Err(Cause::Breach(NameRule::NameTwice));
         }
         let name = Name::new(Vec::from_slice(alloc, bytes)?)?;
         self.by_number.insert(number, name)?;

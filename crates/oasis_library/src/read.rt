@@ -10,7 +10,7 @@ ghost use Rattle.lvl_grammar.specs.Front.{SpellsWhole};
 ghost use Rattle.oasis_stream.specs.Front.{oasis};
 ghost use Rattle.oasis_stream.specs.Items.{IsEnded};
 ghost use Rattle.oasis_library.specs.inside.Holds.{is_end};
-ghost use Rattle.oasis_library.specs.Ends.{Tells, TellsUnread, IsExcused, IsEarly, is_read};
+ghost use Rattle.oasis_library.specs.Ends.{Reports, ReportsUnread, IsExcused, IsEarly, is_read};
 ghost use Rattle.oasis_library.specs.Library.{IsRead, SpellsNone};
 ghost use Rattle.oasis_library.specs.inside.Holds.{is_end, HasWhole};
 ghost use Rattle.oasis_library.specs.inside.Ended.{is_truncated};
@@ -22,7 +22,7 @@ use crate::reading::Reading;
 use lvl_cells::Library;
 use lvl_ignore::Ignore;
 use lvl_io::Read;
-use lvl_refusal::Refusal;
+use lvl_refusal::Cause;
 use oasis_records::Record;
 use oasis_stream::{OasisKind, read_first, read_next};
 use oasis_values::{Input, ValueFault};
@@ -43,20 +43,20 @@ const MOST_RECORDS: u64 = 4_294_967_295;
 pub fn read_oasis<R: Read>(
     alloc: Global,
     reader: &mut R,
-) -> Result<(Library, OasisHead), Refusal<OasisFault>>
+) -> Result<(Library, OasisHead), Cause<OasisFault>>
     // What is read is spelled, and nothing else is.
     ensures spelled { (xs : List ℕ) → R.remaining reader.old ≡ Some xs
         → IfOk result (λ read. IsRead nothing xs read.0 read.1) }
 
     // A refusal names what is wrong, and nothing is spelled, unless an allocation or the reader failed.
     ensures refused { (xs : List ℕ) → R.remaining reader.old ≡ Some xs
-        → IfErr result (λ refusal. Says refusal (Tells nothing xs)) }
+        → IfErr result (λ refusal. Says refusal (Reports nothing xs)) }
     ensures none { (xs : List ℕ) → R.remaining reader.old ≡ Some xs
         → IfErr result (λ refusal. Says refusal (λ fault. (¬ IsExcused fault) → SpellsNone nothing xs)) }
 
     // Where the reader failed, it had given no whole record from the offset on.
     ensures unread { (xs : List ℕ) → R.remaining reader.old ≡ Some xs
-        → IfErr result (λ refusal. Says refusal (TellsUnread nothing xs (R.remaining reader.new))) }
+        → IfErr result (λ refusal. Says refusal (ReportsUnread nothing xs (R.remaining reader.new))) }
 
     // Unless the input ended, nothing is spelled whatever comes after the bytes taken.
     ensures early { (xs : List ℕ) → R.remaining reader.old ≡ Some xs
@@ -78,20 +78,20 @@ pub fn read_oasis_by<R: Read>(
     alloc: Global,
     reader: &mut R,
     ignore: Ignore,
-) -> Result<(Library, OasisHead), Refusal<OasisFault>>
+) -> Result<(Library, OasisHead), Cause<OasisFault>>
     // What is read is spelled, and nothing else is.
     ensures spelled { (xs : List ℕ) → R.remaining reader.old ≡ Some xs
         → IfOk result (λ read. IsRead ignore xs read.0 read.1) }
 
     // A refusal names what is wrong, and nothing is spelled, unless an allocation or the reader failed.
     ensures refused { (xs : List ℕ) → R.remaining reader.old ≡ Some xs
-        → IfErr result (λ refusal. Says refusal (Tells ignore xs)) }
+        → IfErr result (λ refusal. Says refusal (Reports ignore xs)) }
     ensures none { (xs : List ℕ) → R.remaining reader.old ≡ Some xs
         → IfErr result (λ refusal. Says refusal (λ fault. (¬ IsExcused fault) → SpellsNone ignore xs)) }
 
     // Where the reader failed, it had given no whole record from the offset on.
     ensures unread { (xs : List ℕ) → R.remaining reader.old ≡ Some xs
-        → IfErr result (λ refusal. Says refusal (TellsUnread ignore xs (R.remaining reader.new))) }
+        → IfErr result (λ refusal. Says refusal (ReportsUnread ignore xs (R.remaining reader.new))) }
 
     // Unless the input ended, nothing is spelled whatever comes after the bytes taken.
     ensures early { (xs : List ℕ) → R.remaining reader.old ≡ Some xs
@@ -112,7 +112,7 @@ pub fn read_oasis_by<R: Read>(
 fn read_library<R: Read>(
     alloc: Global,
     input: &mut Input<R>,
-) -> Result<(Library, OasisHead), Refusal<OasisFault>>
+) -> Result<(Library, OasisHead), Cause<OasisFault>>
     requires fresh { has_failed input.old ≡ false }
     requires start { input_offset input.old ≡ 0 }
     ensures spelled { (xs : List ℕ) → bytes_left R.remaining input.old ≡ Some xs
@@ -128,16 +128,13 @@ fn read_library<R: Read>(
     read_nothing(input)?;
     match reading.finish(alloc) {
         Ok(read) => Ok(read),
-        Err(Refusal::Breach(number)) => Err(Refusal::Breach(OasisFault::Unresolved(number))),
-        Err(Refusal::OutOfMemory) => Err(Refusal::OutOfMemory),
+        Err(Cause::Breach(number)) => Err(Cause::Breach(OasisFault::Unresolved(number))),
+        Err(Cause::OutOfMemory) => Err(Cause::OutOfMemory),
     }
 }
 
 // Reads the magic string, and records up to END.
-fn read_records<R: Read>(
-    alloc: Global,
-    input: &mut Input<R>,
-) -> Result<Reading, Refusal<OasisFault>>
+fn read_records<R: Read>(alloc: Global, input: &mut Input<R>) -> Result<Reading, Cause<OasisFault>>
     requires fresh { has_failed input.old ≡ false }
     requires start { input_offset input.old ≡ 0 }
     ensures refused { (xs : List ℕ) → bytes_left R.remaining input.old ≡ Some xs
@@ -176,7 +173,7 @@ fn read_records<R: Read>(
 }
 
 // Finds that the input has ended.
-fn read_nothing<R: Read>(input: &mut Input<R>) -> Result<(), Refusal<OasisFault>>
+fn read_nothing<R: Read>(input: &mut Input<R>) -> Result<(), Cause<OasisFault>>
     requires { has_failed input.old ≡ false }
     ensures whole { OnOk result ((xs : List ℕ)
         (to : ReadTo (oasis (input_ignore input.old)) xs (input_offset input.old) IsEnded
@@ -219,18 +216,18 @@ fn is_end(taken: &Record) -> bool
     }
 }
 
-fn refuse(offset: u64, kind: OasisKind) -> Refusal<OasisFault>
-    ensures { result ≡ Refusal.Breach (OasisFault.At offset kind) }
+fn refuse(offset: u64, kind: OasisKind) -> Cause<OasisFault>
+    ensures { result ≡ Cause.Breach (OasisFault.At offset kind) }
 {
-    Refusal::Breach(OasisFault::At { offset, kind })
+    Cause::Breach(OasisFault::At { offset, kind })
 }
 
 // The same refusal, at that offset.
-fn refused_at(offset: u64, refusal: Refusal<OasisKind>) -> Refusal<OasisFault>
+fn refused_at(offset: u64, refusal: Cause<OasisKind>) -> Cause<OasisFault>
     ensures { result ≡ refused_at offset refusal }
 {
     match refusal {
-        Refusal::Breach(kind) => refuse(offset, kind),
-        Refusal::OutOfMemory => Refusal::OutOfMemory,
+        Cause::Breach(kind) => refuse(offset, kind),
+        Cause::OutOfMemory => Cause::OutOfMemory,
     }
 }

@@ -16,7 +16,7 @@ use crate::head::{HeadRecords, OasisHead};
 use crate::names::Names;
 use crate::resolve::resolve_cells;
 use lvl_cells::Library;
-use lvl_refusal::Refusal;
+use lvl_refusal::Cause;
 use oasis_figures::{Drawn, FigureRule, Modal};
 use oasis_records::Record;
 use oasis_stream::{NameRule, OasisKind, Order};
@@ -34,26 +34,26 @@ pub(crate) struct Reading {
 }
 
 // The same answer, where a rule of names is one of the file's.
-fn of_name(answer: Result<(), Refusal<NameRule>>) -> Result<(), Refusal<OasisKind>>
+fn of_name(answer: Result<(), Cause<NameRule>>) -> Result<(), Cause<OasisKind>>
     ensures { result ≡ of_name answer }
 {
     match answer {
         Ok(()) => Ok(()),
-        Err(Refusal::Breach(rule)) => Err(Refusal::Breach(OasisKind::Name(rule))),
-        Err(Refusal::OutOfMemory) => Err(Refusal::OutOfMemory),
+        Err(Cause::Breach(rule)) => Err(Cause::Breach(OasisKind::Name(rule))),
+        Err(Cause::OutOfMemory) => Err(Cause::OutOfMemory),
     }
 }
 
 // The same answer, where a rule of figures is one of the file's.
 fn of_figure(
-    answer: Result<Option<Drawn>, Refusal<FigureRule>>,
-) -> Result<Option<Drawn>, Refusal<OasisKind>>
+    answer: Result<Option<Drawn>, Cause<FigureRule>>,
+) -> Result<Option<Drawn>, Cause<OasisKind>>
     ensures { result ≡ of_figure answer }
 {
     match answer {
         Ok(drawn) => Ok(drawn),
-        Err(Refusal::Breach(rule)) => Err(Refusal::Breach(OasisKind::Figure(rule))),
-        Err(Refusal::OutOfMemory) => Err(Refusal::OutOfMemory),
+        Err(Cause::Breach(rule)) => Err(Cause::Breach(OasisKind::Figure(rule))),
+        Err(Cause::OutOfMemory) => Err(Cause::OutOfMemory),
     }
 }
 
@@ -79,7 +79,7 @@ impl Reading {
     }
 
     /// Takes the next record, if it breaches no rule.
-    pub(crate) fn take(&mut self, alloc: Global, next: Record) -> Result<(), Refusal<OasisKind>>
+    pub(crate) fn take(&mut self, alloc: Global, next: Record) -> Result<(), Cause<OasisKind>>
         requires { (rs : List ARecord) × Holds self.old rs }
         ensures refused { IfErr result (λ e. Says e (λ kind.
             (rs : List ARecord) → Holds self.old rs → RecordBreaches rs next kind)) }
@@ -102,7 +102,7 @@ impl Reading {
     }
 
     /// The library and the head of the file, or the first number that is used and that no name has.
-    pub(crate) fn finish(self, alloc: Global) -> Result<(Library, OasisHead), Refusal<u64>>
+    pub(crate) fn finish(self, alloc: Global) -> Result<(Library, OasisHead), Cause<u64>>
         ensures cells { IfOk result (λ read. (rs : List ARecord) → Holds self rs
             → AreCells (names_in rs) (map with_rings (drawings rs)) read.0) }
         ensures head { IfOk result (λ read. (rs : List ARecord) → Holds self rs → read.1 ≡ head_of rs) }

@@ -14,11 +14,11 @@ use crate::names::Names;
 use crate::placement::{Placement, Target};
 use lvl_cells::{Cell, Reference};
 use lvl_names::Name;
-use lvl_refusal::Refusal;
+use lvl_refusal::Cause;
 use std::alloc::Global;
 
 // The name of that cell, or the number that no name has.
-fn name_of_target(names: &Names, target: Target) -> Result<Name, Refusal<u64>>
+fn name_of_target(names: &Names, target: Target) -> Result<Name, Cause<u64>>
     ensures ok { IfOk result (λ name. (given : List Given) → HoldsNames names.now given
         → meant given (target_ref target) ≡ Some name) }
     ensures err { IfErr result (λ e. Says e (λ number. (given : List Given) → HoldsNames names.now given
@@ -30,14 +30,14 @@ fn name_of_target(names: &Names, target: Target) -> Result<Name, Refusal<u64>>
                 let name = name.clone()?;
                 Ok(name)
             }
-            None => Err(Refusal::Breach(number)),
+            None => Err(Cause::Breach(number)),
         },
         Target::Name(name) => Ok(name),
     }
 }
 
 // A reference to the cell that is placed.
-fn reference_of(names: &Names, placement: Placement) -> Result<Reference, Refusal<u64>>
+fn reference_of(names: &Names, placement: Placement) -> Result<Reference, Cause<u64>>
     ensures ok { IfOk result (λ reference. (given : List Given) → HoldsNames names.now given
         → IsReference given placement reference) }
     ensures err { IfErr result (λ e. Says e (λ number. (given : List Given) → HoldsNames names.now given
@@ -56,7 +56,7 @@ fn references_of(
     alloc: Global,
     names: &Names,
     placements: Vec<Placement>,
-) -> Result<Vec<Reference>, Refusal<u64>>
+) -> Result<Vec<Reference>, Cause<u64>>
     ensures ok { IfOk result (λ references. (given : List Given) → HoldsNames names.now given
         → AllZip (IsReference given) placements.items references.items) }
     ensures err { IfErr result (λ e. Says e (λ number. (given : List Given) → HoldsNames names.now given
@@ -71,7 +71,7 @@ fn references_of(
 }
 
 // A cell by its name. Its own number comes before those of the cells that it places.
-fn cell_of(alloc: Global, names: &Names, drawing: Drawing) -> Result<Cell, Refusal<u64>>
+fn cell_of(alloc: Global, names: &Names, drawing: Drawing) -> Result<Cell, Cause<u64>>
     ensures ok { IfOk result (λ cell. (given : List Given) → HoldsNames names.now given → IsCell given drawing cell) }
     ensures err { IfErr result (λ e. Says e (λ number. (given : List Given) → HoldsNames names.now given
         → IsUnnamed given (numbers_in drawing) number)) }
@@ -95,7 +95,7 @@ pub(crate) fn resolve_cells(
     alloc: Global,
     names: &Names,
     drawings: Vec<Drawing>,
-) -> Result<Vec<Cell>, Refusal<u64>>
+) -> Result<Vec<Cell>, Cause<u64>>
     ensures ok { IfOk result (λ cells. (given : List Given) → HoldsNames names.now given
         → AreCells given drawings.items cells.items) }
     ensures err { IfErr result (λ e. Says e (λ number. (given : List Given) → HoldsNames names.now given

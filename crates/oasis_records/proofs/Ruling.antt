@@ -3,8 +3,8 @@ use Rattle.std.proofs.Common.{◌≡◌, ℕ, Bool, false, List, Result, Ok, Err
 use Rattle.std.specs.Prelude.{Option}
 use Rattle.std.specs.Borrow.{GName}
 use Rattle.lvl_io.proofs.Spelling.{breached_none, front_only}
-use Rattle.lvl_refusal.specs.declared.Refusal.{Refusal}
-use Rattle.lvl_refusal.specs.declared.Refusal.TheVariants.{Breach, OutOfMemory}
+use Rattle.lvl_refusal.specs.declared.Cause.{Cause}
+use Rattle.lvl_refusal.specs.declared.Cause.TheVariants.{Breach, OutOfMemory}
 use Rattle.oasis_values.specs.Known.{Seen}
 use Rattle.oasis_values.specs.Input.{has_failed, input_ignore}
 use Rattle.oasis_values.specs.Reads.{Reads}
@@ -13,7 +13,8 @@ use Rattle.oasis_values.proofs.Codes.{gives_code, then_code, IsCode}
 use Rattle.oasis_values.specs.declared.fault.ValueFault.{ValueFault}
 use Rattle.oasis_values.specs.declared.input.Input.{Input}
 use Rattle.oasis_values.proofs.Reading.{reads_err, reads_then, reads_nothing, reads_seen, reads_seen_err}
-use Rattle.oasis_records.specs.Rules.{of_fault, told, told_breach, plain, obeyed, Must, UnlessRuled, AndThen, Denies}
+use Rattle.oasis_records.specs.Rules.{of_fault, reported, reported_breach, plain, obeyed, Must, UnlessRuled, AndThen}
+use Rattle.oasis_records.specs.Rules.{Denies}
 use Rattle.oasis_records.specs.declared.fault.RecordFault.{RecordFault}
 use Rattle.oasis_records.specs.declared.fault.RecordFault.TheVariants.{Value, Rule}
 use Rattle.oasis_records.specs.declared.fault.RecordRule.{RecordRule}
@@ -40,9 +41,9 @@ reads_stop T (Rule k) can p = reads_then (UnlessRuled T) p (reads_nothing (Err k
 pub reads_halt : {R A B : Type 0} {remaining : R → Option (List ℕ)} {errors : R → ℕ} {lent : R → List GName}
     {S : Spelling (Result A RecordRule)}
     (T : A → Spelling (Result B RecordRule)) {old new : Input R}
-    (e : Refusal RecordFault)
-    → ((x : A) → IsCode (T x)) → Reads remaining errors lent S old new (told (Err e))
-    → Reads remaining errors lent (AndThen S T) old new (told (Err e))
+    (e : Cause RecordFault)
+    → ((x : A) → IsCode (T x)) → Reads remaining errors lent S old new (reported (Err e))
+    → Reads remaining errors lent (AndThen S T) old new (reported (Err e))
 reads_halt T (Breach f) can p = reads_stop T f can p
 reads_halt T OutOfMemory can p = reads_err (UnlessRuled T) (λ r. unless_code can r) p
 
@@ -50,14 +51,14 @@ reads_halt T OutOfMemory can p = reads_err (UnlessRuled T) (λ r. unless_code ca
 pub reads_go : {R A B : Type 0} {remaining : R → Option (List ℕ)} {errors : R → ℕ} {lent : R → List GName}
     {S : Spelling (Result A RecordRule)}
     (T : A → Spelling (Result B RecordRule)) {old mid new : Input R} {x : A}
-    {r : Result (Result B RecordRule) (Refusal ValueFault)}
+    {r : Result (Result B RecordRule) (Cause ValueFault)}
     → Reads remaining errors lent S old mid (Ok (Ok x)) → Reads remaining errors lent (T x) mid new r
     → Reads remaining errors lent (AndThen S T) old new r
 reads_go T p q = reads_then (UnlessRuled T) p q
 
 -- no rule of records was tested
 pub reads_plain : {R A : Type 0} {remaining : R → Option (List ℕ)} {errors : R → ℕ} {lent : R → List GName}
-    {S : Spelling A} {old new : Input R} (r : Result A (Refusal ValueFault))
+    {S : Spelling A} {old new : Input R} (r : Result A (Cause ValueFault))
     → Reads remaining errors lent S old new r → Reads remaining errors lent (Seen Ok S) old new (plain r)
 reads_plain (Ok x) p = reads_seen Ok p
 reads_plain (Err e) p = reads_seen_err Ok p
@@ -65,7 +66,7 @@ reads_plain (Err e) p = reads_seen_err Ok p
 -- where a rule is breached, nothing is spelled by bytes that agree
 pub reads_denies : {R A : Type 0} {remaining : R → Option (List ℕ)} {errors : R → ℕ} {lent : R → List GName}
     {S : Spelling (Result A RecordRule)} {old new : Input R}
-    (r : Result (Result A RecordRule) (Refusal ValueFault))
+    (r : Result (Result A RecordRule) (Cause ValueFault))
     → IsCode S → Reads remaining errors lent S old new r → Denies remaining S old r
 reads_denies (Ok (Ok y)) code p = record { none = λ live xs k. tt }
 reads_denies {S = S} {old = old} (Ok (Err j)) code p =
@@ -93,8 +94,8 @@ reads_must_stop {remaining = remaining} {errors = errors} {lent = lent} b x k T 
 
 pub reads_must_go : {R A B : Type 0} {remaining : R → Option (List ℕ)} {errors : R → ℕ} {lent : R → List GName}
     (b : Bool) (x : A) (k : RecordRule) (T : A → Spelling (Result B RecordRule))
-    {old new : Input R} {y : A} {r : Result (Result B RecordRule) (Refusal ValueFault)}
-    → has_failed old ≡ false → told_breach (Ok y) ≡ Ok (obeyed b x k) → Reads remaining errors lent (T y) old new r
+    {old new : Input R} {y : A} {r : Result (Result B RecordRule) (Cause ValueFault)}
+    → has_failed old ≡ false → reported_breach (Ok y) ≡ Ok (obeyed b x k) → Reads remaining errors lent (T y) old new r
     → Reads remaining errors lent (AndThen (Must b x k) T) old new r
 reads_must_go {remaining = remaining} {errors = errors} {lent = lent} b x k T {old = old} live h p =
     reads_go T (subst (λ r. Reads remaining errors lent (Must b x k) old old r) (sym h)

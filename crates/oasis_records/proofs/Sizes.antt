@@ -3,7 +3,7 @@ use Rattle.std.proofs.Common.{◌≡◌, ℕ, List, ◌++◌, length, take, Resu
 use Rattle.std.specs.Prelude.{Option}
 use Rattle.std.specs.Borrow.{GName}
 use Rattle.lvl_io.specs.Spelling.{IsPrefixFree, CanSay, IsBegun}
-use Rattle.lvl_refusal.specs.declared.Refusal.TheVariants.{Breach}
+use Rattle.lvl_refusal.specs.declared.Cause.TheVariants.{Breach}
 use Rattle.lvl_ignore.specs.declared.ignore.Ignore.{Ignore}
 use Rattle.oasis_values.specs.Input.{input_ignore, room_left}
 use Rattle.oasis_values.specs.Reads.{Fails, bytes_had, Reads}

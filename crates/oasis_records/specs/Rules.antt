@@ -2,8 +2,8 @@
 -- so it is a value of the bytes as any other, and the bytes taken are those that spell the record or breach the rule.
 use Rattle.std.specs.Prelude.{◌≡◌, Bool, true, false, ℕ, List, Option, Some, Result, Ok, Err}
 use Rattle.lvl_io.specs.Spelling.{NoneAgrees}
-use Rattle.lvl_refusal.specs.declared.Refusal.{Refusal}
-use Rattle.lvl_refusal.specs.declared.Refusal.TheVariants.{Breach, OutOfMemory}
+use Rattle.lvl_refusal.specs.declared.Cause.{Cause}
+use Rattle.lvl_refusal.specs.declared.Cause.TheVariants.{Breach, OutOfMemory}
 use Rattle.oasis_values.specs.Faults.{is_rule}
 use Rattle.oasis_values.specs.Input.{has_failed, input_ignore, bytes_left}
 use Rattle.oasis_values.specs.Spelling.{Spelling, Gives, Then}
@@ -14,23 +14,23 @@ use Rattle.oasis_records.specs.declared.fault.RecordFault.TheVariants.{Value, Ru
 use Rattle.oasis_records.specs.declared.fault.RecordRule.{RecordRule}
 
 -- a fault as an answer of the input: a rule of records is breached by what was read
-abbrev pub of_fault : {A : Type 0} → RecordFault → Result (Result A RecordRule) (Refusal ValueFault)
+abbrev pub of_fault : {A : Type 0} → RecordFault → Result (Result A RecordRule) (Cause ValueFault)
 of_fault (Value f) = Err (Breach f)
 of_fault (Rule k) = Ok (Err k)
 
 -- what a call answered, as an answer of the input
-abbrev pub told : {A : Type 0} → Result A (Refusal RecordFault) → Result (Result A RecordRule) (Refusal ValueFault)
-told (Ok x) = Ok (Ok x)
-told (Err OutOfMemory) = Err OutOfMemory
-told (Err (Breach f)) = of_fault f
+abbrev pub reported : {A : Type 0} → Result A (Cause RecordFault) → Result (Result A RecordRule) (Cause ValueFault)
+reported (Ok x) = Ok (Ok x)
+reported (Err OutOfMemory) = Err OutOfMemory
+reported (Err (Breach f)) = of_fault f
 
 -- the same of a call that takes no memory
-abbrev pub told_breach : {A : Type 0} → Result A RecordFault → Result (Result A RecordRule) (Refusal ValueFault)
-told_breach (Ok x) = Ok (Ok x)
-told_breach (Err f) = of_fault f
+abbrev pub reported_breach : {A : Type 0} → Result A RecordFault → Result (Result A RecordRule) (Cause ValueFault)
+reported_breach (Ok x) = Ok (Ok x)
+reported_breach (Err f) = of_fault f
 
 -- the same of a call that tests no rule of records
-abbrev pub plain : {A : Type 0} → Result A (Refusal ValueFault) → Result (Result A RecordRule) (Refusal ValueFault)
+abbrev pub plain : {A : Type 0} → Result A (Cause ValueFault) → Result (Result A RecordRule) (Cause ValueFault)
 plain (Ok x) = Ok (Ok x)
 plain (Err e) = Err e
 
@@ -56,7 +56,7 @@ AndThen S T = Then S (UnlessRuled T)
 
 -- what an answer says of the records that other bytes could spell: where a rule is breached, none agrees with these
 abbrev pub IsDenied : {A : Type 0} → (List ℕ → Result (Result A RecordRule) ValueFault → Type 0) → List ℕ
-    → Result (Result A RecordRule) (Refusal ValueFault) → Type 0
+    → Result (Result A RecordRule) (Cause ValueFault) → Type 0
 IsDenied S xs (Ok (Ok x)) = Unit {0}
 IsDenied {A = A} S xs (Ok (Err k)) = (x : A) → NoneAgrees S xs (Ok (Ok x))
 IsDenied S xs (Err OutOfMemory) = Unit {0}
@@ -64,6 +64,6 @@ IsDenied {A = A} S xs (Err (Breach f)) = is_rule f ≡ true → (x : A) → None
 
 -- the same of a call
 pub record Denies {R A : Type 0} (remaining : R → Option (List ℕ)) (S : Spelling (Result A RecordRule))
-    (old : Input R) (r : Result (Result A RecordRule) (Refusal ValueFault)) : Type 0 where
+    (old : Input R) (r : Result (Result A RecordRule) (Cause ValueFault)) : Type 0 where
   pub none : has_failed old ≡ false → (xs : List ℕ) → bytes_left remaining old ≡ Some xs
       → IsDenied (S (input_ignore old)) xs r

@@ -6,7 +6,7 @@ ghost use Rattle.oasis_records.specs.Cells.{IsCellRef, IsCell, IsCellName, IsNum
 use crate::record::Record;
 use crate::text::{Name, read_text};
 use lvl_io::Read;
-use lvl_refusal::Refusal;
+use lvl_refusal::Cause;
 use oasis_values::{Input, Text, ValueFault};
 use std::alloc::Global;
 
@@ -33,7 +33,7 @@ pub(crate) fn read_cell_ref<R: Read>(
     input: &mut Input<R>,
     alloc: Global,
     by_number: bool,
-) -> Result<CellRef, Refusal<ValueFault>>
+) -> Result<CellRef, Cause<ValueFault>>
     ensures reads { Reads R.remaining R.read_errors R.lent (IsCellRef by_number) input.old input.new result }
 {
     if by_number {
@@ -49,7 +49,7 @@ pub(crate) fn read_cell<R: Read>(
     input: &mut Input<R>,
     alloc: Global,
     by_number: bool,
-) -> Result<Record, Refusal<ValueFault>>
+) -> Result<Record, Cause<ValueFault>>
     ensures reads { Reads R.remaining R.read_errors R.lent (IsCell by_number) input.old input.new result }
 {
     let cell = read_cell_ref(input, alloc, by_number)?;
@@ -60,7 +60,7 @@ pub(crate) fn read_cell<R: Read>(
 pub(crate) fn read_cell_name<R: Read>(
     input: &mut Input<R>,
     alloc: Global,
-) -> Result<Record, Refusal<ValueFault>>
+) -> Result<Record, Cause<ValueFault>>
     ensures reads { Reads R.remaining R.read_errors R.lent IsCellName input.old input.new result }
 {
     let name = read_text(input, alloc, Text::N)?;
@@ -71,7 +71,7 @@ pub(crate) fn read_cell_name<R: Read>(
 pub(crate) fn read_numbered_name<R: Read>(
     input: &mut Input<R>,
     alloc: Global,
-) -> Result<Record, Refusal<ValueFault>>
+) -> Result<Record, Cause<ValueFault>>
     ensures reads { Reads R.remaining R.read_errors R.lent IsNumberedName input.old input.new result }
 {
     let name = read_text(input, alloc, Text::N)?;

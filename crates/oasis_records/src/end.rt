@@ -6,7 +6,7 @@ ghost use Rattle.oasis_values.specs.Reads.{Reads};
 ghost use Rattle.oasis_records.specs.Ends.{fits, is_whole, validation_len, signed, IsPaddingLength, ArePadding};
 ghost use Rattle.oasis_records.specs.Ends.{AreFour};
 ghost use Rattle.oasis_records.specs.Ends.{IsScheme, IsSignature, IsEnding, IsEndOf, IsEnd};
-ghost use Rattle.oasis_records.specs.Rules.{told_breach};
+ghost use Rattle.oasis_records.specs.Rules.{reported_breach};
 ghost use Rattle.oasis_records.specs.Sizes.{Sized};
 
 use crate::fault::{RecordFault, RecordRule};
@@ -105,7 +105,7 @@ fn skip_padding<R: Read>(input: &mut Input<R>, count: u64) -> Result<u64, ValueF
 
 // The scheme, which is 0, 1 or 2.
 fn read_scheme<R: Read>(input: &mut Input<R>) -> Result<u8, RecordFault>
-    ensures reads { Reads R.remaining R.read_errors R.lent IsScheme input.old input.new (told_breach result) }
+    ensures reads { Reads R.remaining R.read_errors R.lent IsScheme input.old input.new (reported_breach result) }
 {
     let scheme = input.byte()?;
     must(is_scheme(scheme), scheme, RecordRule::Scheme)
@@ -166,7 +166,7 @@ fn is_absent(scheme: u8) -> bool
 fn read_ending<R: Read>(input: &mut Input<R>, padding: u64) -> Result<Validation, RecordFault>
     requires { has_failed input.old ≡ false }
     ensures reads { Reads R.remaining R.read_errors R.lent
-        (IsEnding padding) input.old input.new (told_breach result) }
+        (IsEnding padding) input.old input.new (reported_breach result) }
 {
     let _padding = skip_padding(input, padding)?;
     let scheme = read_scheme(input)?;
@@ -183,7 +183,7 @@ fn end_of<R: Read>(
 ) -> Result<Record, RecordFault>
     requires { has_failed input.old ≡ false }
     ensures reads { Reads R.remaining R.read_errors R.lent
-        (IsEndOf id_len padding) input.old input.new (told_breach result) }
+        (IsEndOf id_len padding) input.old input.new (reported_breach result) }
 {
     let validation = read_ending(input, padding.value)?;
     let whole = is_whole(id_len, padding, validation);
@@ -199,7 +199,7 @@ pub(crate) fn read_end<R: Read>(
 ) -> Result<Record, RecordFault>
     requires { has_failed input.old ≡ false }
     ensures reads { Reads R.remaining R.read_errors R.lent
-        (IsEnd has_offsets id_len) input.old input.new (told_breach result) }
+        (IsEnd has_offsets id_len) input.old input.new (reported_breach result) }
 {
     let padding = read_padding(input, has_offsets)?;
     let within = must(fits(id_len, padding), padding, RecordRule::EndLength)?;

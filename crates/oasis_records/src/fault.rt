@@ -1,7 +1,7 @@
 //! Why no record was given.
 ghost use Rattle.std.specs.Prelude.{◌≡◌};
 
-use lvl_refusal::Refusal;
+use lvl_refusal::Cause;
 use oasis_values::ValueFault;
 use thiserror::Error;
 
@@ -52,12 +52,12 @@ impl From<ValueFault> for RecordFault {
     }
 }
 
-impl From<RecordFault> for Refusal<RecordFault> {
-    ghost use Rattle.lvl_refusal.specs.declared.Refusal.TheVariants.{Breach};
+impl From<RecordFault> for Cause<RecordFault> {
+    ghost use Rattle.lvl_refusal.specs.declared.Cause.TheVariants.{Breach};
 
     ghost from_gives = { λ f e. e ≡ Breach f };
 
-    fn from(fault: RecordFault) -> Refusal<RecordFault> {
-        Refusal::Breach(fault)
+    fn from(fault: RecordFault) -> Cause<RecordFault> {
+        Cause::Breach(fault)
     }
 }

@@ -11,7 +11,7 @@ ghost use Rattle.oasis_records.specs.Names.{IsStringRef};
 
 use crate::names::skip_string_ref;
 use lvl_io::Read;
-use lvl_refusal::Refusal;
+use lvl_refusal::Cause;
 use oasis_values::{Input, Real, Repetition, Text, ValueFault};
 use std::alloc::Global;
 
@@ -65,7 +65,7 @@ pub(crate) fn repetition_if<R: Read>(
     alloc: Global,
     info: u8,
     letter: u8,
-) -> Result<Option<Repetition>, Refusal<ValueFault>>
+) -> Result<Option<Repetition>, Cause<ValueFault>>
     requires live { has_failed input.old ≡ false }
     requires weight { 0 < letter }
     ensures reads { Reads R.remaining R.read_errors R.lent

@@ -7,7 +7,7 @@ ghost use Rattle.oasis_records.specs.Fields.{IsOnLayer, IsPosition};
 
 use crate::fields::{repetition_if, signed_if, unsigned_if};
 use lvl_io::Read;
-use lvl_refusal::Refusal;
+use lvl_refusal::Cause;
 use oasis_values::{Input, Repetition, ValueFault};
 use std::alloc::Global;
 
@@ -51,7 +51,7 @@ pub(crate) fn read_position<R: Read>(
     input: &mut Input<R>,
     alloc: Global,
     info: u8,
-) -> Result<Position, Refusal<ValueFault>>
+) -> Result<Position, Cause<ValueFault>>
     requires { has_failed input.old ≡ false }
     ensures reads { Reads R.remaining R.read_errors R.lent (IsPosition info) input.old input.new result }
 {

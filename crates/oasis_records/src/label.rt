@@ -7,7 +7,7 @@ ghost use Rattle.oasis_values.specs.declared.text.Text.TheVariants.{A};
 ghost use Rattle.oasis_records.specs.Fields.{has, If};
 ghost use Rattle.oasis_records.specs.Labels.{IsLabel, IsLabelOf};
 ghost use Rattle.oasis_records.specs.Names.{IsStringRef};
-ghost use Rattle.oasis_records.specs.Rules.{told};
+ghost use Rattle.oasis_records.specs.Rules.{reported};
 
 use crate::fault::RecordFault;
 use crate::fields::skip_string_if;
@@ -16,7 +16,7 @@ use crate::info::read_info;
 use crate::record::Record;
 use crate::rules::of_values;
 use lvl_io::Read;
-use lvl_refusal::Refusal;
+use lvl_refusal::Cause;
 use oasis_values::{Input, Text, ValueFault};
 use std::alloc::Global;
 
@@ -32,7 +32,7 @@ fn label_of<R: Read>(
     input: &mut Input<R>,
     alloc: Global,
     info: u8,
-) -> Result<Record, Refusal<ValueFault>>
+) -> Result<Record, Cause<ValueFault>>
     requires { has_failed input.old ≡ false }
     ensures reads { Reads R.remaining R.read_errors R.lent (IsLabelOf info) input.old input.new result }
 {
@@ -46,8 +46,8 @@ fn label_of<R: Read>(
 pub(crate) fn read_label<R: Read>(
     input: &mut Input<R>,
     alloc: Global,
-) -> Result<Record, Refusal<RecordFault>>
-    ensures reads { Reads R.remaining R.read_errors R.lent IsLabel input.old input.new (told result) }
+) -> Result<Record, Cause<RecordFault>>
+    ensures reads { Reads R.remaining R.read_errors R.lent IsLabel input.old input.new (reported result) }
 {
     let info = read_info(input, INFO_LIMIT)?;
     of_values(label_of(input, alloc, info))

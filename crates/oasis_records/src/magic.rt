@@ -2,7 +2,7 @@
 ghost use Rattle.std.specs.Prelude.{◌≡◌, ◌<◌, ◌==◌, get_or};
 ghost use Rattle.oasis_values.specs.Reads.{Reads};
 ghost use Rattle.oasis_records.specs.Magic.{magic, IsMagicByte, IsMagic};
-ghost use Rattle.oasis_records.specs.Rules.{told_breach, Denies};
+ghost use Rattle.oasis_records.specs.Rules.{reported_breach, Denies};
 
 use crate::fault::{RecordFault, RecordRule};
 use crate::rules::must;
@@ -34,7 +34,7 @@ fn is_byte(byte: u8, wanted: u8) -> bool
 // That byte.
 fn read_magic_byte<R: Read>(input: &mut Input<R>, wanted: u8) -> Result<u8, RecordFault>
     ensures reads { Reads R.remaining R.read_errors R.lent
-        (IsMagicByte wanted) input.old input.new (told_breach result) }
+        (IsMagicByte wanted) input.old input.new (reported_breach result) }
 {
     let byte = input.byte()?;
     must(is_byte(byte, wanted), byte, RecordRule::Magic)
@@ -42,8 +42,8 @@ fn read_magic_byte<R: Read>(input: &mut Input<R>, wanted: u8) -> Result<u8, Reco
 
 /// The magic string that a file begins with. `Magic` is reported at the first byte that differs.
 pub fn read_magic<R: Read>(input: &mut Input<R>) -> Result<(), RecordFault>
-    ensures reads { Reads R.remaining R.read_errors R.lent IsMagic input.old input.new (told_breach result) }
-    ensures none { Denies R.remaining IsMagic input.old (told_breach result) }
+    ensures reads { Reads R.remaining R.read_errors R.lent IsMagic input.old input.new (reported_breach result) }
+    ensures none { Denies R.remaining IsMagic input.old (reported_breach result) }
 {
     for n in 0..LEN {
         let _byte = read_magic_byte(input, magic_byte(n))?;

@@ -5,7 +5,7 @@ ghost use Rattle.oasis_values.specs.Input.{has_failed};
 ghost use Rattle.oasis_values.specs.Reads.{Reads};
 ghost use Rattle.oasis_records.specs.Names.{bounds, AreBounds, IsEntry, IsEntryOf, IsInterval, IsIntervalType};
 ghost use Rattle.oasis_records.specs.Names.{IsLayerName, IsNumberedString, IsNumberedXName, IsStringRef, IsXName};
-ghost use Rattle.oasis_records.specs.Rules.{told_breach};
+ghost use Rattle.oasis_records.specs.Rules.{reported_breach};
 
 use crate::fault::{RecordFault, RecordRule};
 use crate::record::Record;
@@ -73,7 +73,7 @@ fn is_interval_type(kind: u64) -> bool
 
 // The type of an interval, which is below 5.
 fn read_interval_type<R: Read>(input: &mut Input<R>) -> Result<u64, RecordFault>
-    ensures reads { Reads R.remaining R.read_errors R.lent IsIntervalType input.old input.new (told_breach result) }
+    ensures reads { Reads R.remaining R.read_errors R.lent IsIntervalType input.old input.new (reported_breach result) }
 {
     let kind = input.unsigned()?;
     must(is_interval_type(kind), kind, RecordRule::Info)
@@ -92,7 +92,7 @@ fn skip_bounds<R: Read>(input: &mut Input<R>, count: u64) -> Result<(), ValueFau
 
 // An interval of layers, datatypes or text types.
 fn skip_interval<R: Read>(input: &mut Input<R>) -> Result<(), RecordFault>
-    ensures reads { Reads R.remaining R.read_errors R.lent IsInterval input.old input.new (told_breach result) }
+    ensures reads { Reads R.remaining R.read_errors R.lent IsInterval input.old input.new (reported_breach result) }
 {
     let kind = read_interval_type(input)?;
     skip_bounds(input, bounds(kind))?;
@@ -101,7 +101,7 @@ fn skip_interval<R: Read>(input: &mut Input<R>) -> Result<(), RecordFault>
 
 // A name and two intervals.
 fn skip_layer_name<R: Read>(input: &mut Input<R>) -> Result<(), RecordFault>
-    ensures reads { Reads R.remaining R.read_errors R.lent IsLayerName input.old input.new (told_breach result) }
+    ensures reads { Reads R.remaining R.read_errors R.lent IsLayerName input.old input.new (reported_breach result) }
 {
     input.skip_string(Text::N)?;
     skip_interval(input)?;
@@ -111,7 +111,7 @@ fn skip_layer_name<R: Read>(input: &mut Input<R>) -> Result<(), RecordFault>
 // The fields of a record of that type.
 fn skip_entry<R: Read>(input: &mut Input<R>, kind: EntryType) -> Result<(), RecordFault>
     ensures reads { Reads R.remaining R.read_errors R.lent
-        (IsEntryOf kind) input.old input.new (told_breach result) }
+        (IsEntryOf kind) input.old input.new (reported_breach result) }
 {
     match kind {
         EntryType::String(kind) => no_rule(input.skip_string(kind)),
@@ -127,7 +127,7 @@ pub(crate) fn read_entry<R: Read>(
     input: &mut Input<R>,
     kind: EntryType,
 ) -> Result<Record, RecordFault>
-    ensures reads { Reads R.remaining R.read_errors R.lent (IsEntry kind) input.old input.new (told_breach result) }
+    ensures reads { Reads R.remaining R.read_errors R.lent (IsEntry kind) input.old input.new (reported_breach result) }
 {
     skip_entry(input, kind)?;
     Ok(Record::Entry)

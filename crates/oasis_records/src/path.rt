@@ -6,7 +6,7 @@ ghost use Rattle.oasis_values.specs.Reads.{Reads};
 ghost use Rattle.oasis_records.specs.Paths.{kind_of, IsExtension, AreEndsOf, AreEnds, AreEndsIf, IsStrokeOf};
 ghost use Rattle.oasis_records.specs.Paths.{IsStroke, IsPathOf, IsPath};
 ghost use Rattle.oasis_records.specs.Fields.{has};
-ghost use Rattle.oasis_records.specs.Rules.{told, told_breach};
+ghost use Rattle.oasis_records.specs.Rules.{reported, reported_breach};
 
 use crate::fault::RecordFault;
 use crate::fields::{has, unsigned_if};
@@ -16,7 +16,7 @@ use crate::points::{Points, points_if};
 use crate::record::Record;
 use crate::rules::of_values;
 use lvl_io::Read;
-use lvl_refusal::Refusal;
+use lvl_refusal::Cause;
 use oasis_values::{Input, Use, ValueFault};
 use std::alloc::Global;
 
@@ -120,7 +120,7 @@ fn ends_of<R: Read>(input: &mut Input<R>, scheme: u8) -> Result<Ends, ValueFault
 
 // The scheme byte and the extensions.
 fn read_ends<R: Read>(input: &mut Input<R>) -> Result<Option<Ends>, RecordFault>
-    ensures reads { Reads R.remaining R.read_errors R.lent AreEnds input.old input.new (told_breach result) }
+    ensures reads { Reads R.remaining R.read_errors R.lent AreEnds input.old input.new (reported_breach result) }
 {
     let scheme = read_info(input, RESERVED)?;
     let ends = ends_of(input, scheme)?;
@@ -131,7 +131,7 @@ fn read_ends<R: Read>(input: &mut Input<R>) -> Result<Option<Ends>, RecordFault>
 fn ends_if<R: Read>(input: &mut Input<R>, info: u8) -> Result<Option<Ends>, RecordFault>
     requires { has_failed input.old ≡ false }
     ensures reads { Reads R.remaining R.read_errors R.lent
-        (AreEndsIf (has info 0x80)) input.old input.new (told_breach result) }
+        (AreEndsIf (has info 0x80)) input.old input.new (reported_breach result) }
 {
     if has(info, ENDS) {
         return read_ends(input);
@@ -143,7 +143,7 @@ fn ends_if<R: Read>(input: &mut Input<R>, info: u8) -> Result<Option<Ends>, Reco
 fn stroke_of<R: Read>(input: &mut Input<R>, info: u8) -> Result<Stroke, RecordFault>
     requires { has_failed input.old ≡ false }
     ensures reads { Reads R.remaining R.read_errors R.lent
-        (IsStrokeOf info) input.old input.new (told_breach result) }
+        (IsStrokeOf info) input.old input.new (reported_breach result) }
 {
     let on = read_on_layer(input, info)?;
     let half_width = unsigned_if(input, info, HALF_WIDTH)?;
@@ -158,7 +158,7 @@ fn stroke_of<R: Read>(input: &mut Input<R>, info: u8) -> Result<Stroke, RecordFa
 
 // The info byte, and what comes before the point list.
 fn read_stroke<R: Read>(input: &mut Input<R>) -> Result<Stroke, RecordFault>
-    ensures reads { Reads R.remaining R.read_errors R.lent IsStroke input.old input.new (told_breach result) }
+    ensures reads { Reads R.remaining R.read_errors R.lent IsStroke input.old input.new (reported_breach result) }
 {
     let info = input.byte()?;
     stroke_of(input, info)
@@ -169,7 +169,7 @@ fn path_of<R: Read>(
     input: &mut Input<R>,
     alloc: Global,
     stroke: Stroke,
-) -> Result<Record, Refusal<ValueFault>>
+) -> Result<Record, Cause<ValueFault>>
     requires { has_failed input.old ≡ false }
     ensures reads { Reads R.remaining R.read_errors R.lent (IsPathOf stroke) input.old input.new result }
 {
@@ -188,8 +188,8 @@ fn path_of<R: Read>(
 pub(crate) fn read_path<R: Read>(
     input: &mut Input<R>,
     alloc: Global,
-) -> Result<Record, Refusal<RecordFault>>
-    ensures reads { Reads R.remaining R.read_errors R.lent IsPath input.old input.new (told result) }
+) -> Result<Record, Cause<RecordFault>>
+    ensures reads { Reads R.remaining R.read_errors R.lent IsPath input.old input.new (reported result) }
 {
     let stroke = read_stroke(input)?;
     of_values(path_of(input, alloc, stroke))

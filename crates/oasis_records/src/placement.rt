@@ -12,7 +12,7 @@ use crate::figure::{Position, read_position};
 use crate::record::Record;
 use lvl_grid::Turn;
 use lvl_io::Read;
-use lvl_refusal::Refusal;
+use lvl_refusal::Cause;
 use oasis_values::{Input, Real, ValueFault};
 use std::alloc::Global;
 
@@ -65,7 +65,7 @@ fn cell_if<R: Read>(
     input: &mut Input<R>,
     alloc: Global,
     info: u8,
-) -> Result<Option<CellRef>, Refusal<ValueFault>>
+) -> Result<Option<CellRef>, Cause<ValueFault>>
     requires { has_failed input.old ≡ false }
     ensures reads { Reads R.remaining R.read_errors R.lent
         (If (has info 0x80) (IsCellRef (has info 0x40))) input.old input.new result }
@@ -83,7 +83,7 @@ fn turned_of<R: Read>(
     input: &mut Input<R>,
     alloc: Global,
     info: u8,
-) -> Result<Record, Refusal<ValueFault>>
+) -> Result<Record, Cause<ValueFault>>
     requires { has_failed input.old ≡ false }
     ensures reads { Reads R.remaining R.read_errors R.lent (IsTurnedOf info) input.old input.new result }
 {
@@ -102,7 +102,7 @@ fn scaled_of<R: Read>(
     input: &mut Input<R>,
     alloc: Global,
     info: u8,
-) -> Result<Record, Refusal<ValueFault>>
+) -> Result<Record, Cause<ValueFault>>
     requires { has_failed input.old ≡ false }
     ensures reads { Reads R.remaining R.read_errors R.lent (IsScaledOf info) input.old input.new result }
 {
@@ -125,7 +125,7 @@ fn scaled_of<R: Read>(
 pub(crate) fn read_turned<R: Read>(
     input: &mut Input<R>,
     alloc: Global,
-) -> Result<Record, Refusal<ValueFault>>
+) -> Result<Record, Cause<ValueFault>>
     ensures reads { Reads R.remaining R.read_errors R.lent IsTurned input.old input.new result }
 {
     let info = input.byte()?;
@@ -136,7 +136,7 @@ pub(crate) fn read_turned<R: Read>(
 pub(crate) fn read_scaled<R: Read>(
     input: &mut Input<R>,
     alloc: Global,
-) -> Result<Record, Refusal<ValueFault>>
+) -> Result<Record, Cause<ValueFault>>
     ensures reads { Reads R.remaining R.read_errors R.lent IsScaled input.old input.new result }
 {
     let info = input.byte()?;

@@ -8,7 +8,7 @@ ghost use Rattle.oasis_records.specs.Fields.{has, If};
 use crate::fields::has;
 use lvl_grid::Point;
 use lvl_io::Read;
-use lvl_refusal::Refusal;
+use lvl_refusal::Cause;
 use oasis_values::{Input, Use, ValueFault};
 use std::alloc::Global;
 use std::marker::Model;
@@ -46,7 +46,7 @@ fn read_points<R: Read>(
     input: &mut Input<R>,
     alloc: Global,
     purpose: Use,
-) -> Result<Points, Refusal<ValueFault>>
+) -> Result<Points, Cause<ValueFault>>
     ensures reads { Reads R.remaining R.read_errors R.lent (IsPointList purpose) input.old input.new result }
 {
     let vertices = input.point_list(alloc, purpose)?;
@@ -59,7 +59,7 @@ pub(crate) fn points_if<R: Read>(
     alloc: Global,
     info: u8,
     purpose: Use,
-) -> Result<Option<Points>, Refusal<ValueFault>>
+) -> Result<Option<Points>, Cause<ValueFault>>
     requires { has_failed input.old ≡ false }
     ensures reads { Reads R.remaining R.read_errors R.lent
         (If (has info 0x20) (IsPointList purpose)) input.old input.new result }

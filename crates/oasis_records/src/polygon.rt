@@ -3,7 +3,7 @@ ghost use Rattle.std.specs.Prelude.{◌≡◌, false};
 ghost use Rattle.oasis_values.specs.Input.{has_failed};
 ghost use Rattle.oasis_values.specs.Reads.{Reads};
 ghost use Rattle.oasis_records.specs.Polygons.{IsPolygonOf, IsPolygon};
-ghost use Rattle.oasis_records.specs.Rules.{told};
+ghost use Rattle.oasis_records.specs.Rules.{reported};
 
 use crate::fault::RecordFault;
 use crate::figure::{OnLayer, Position, read_on_layer, read_position};
@@ -12,7 +12,7 @@ use crate::points::{Points, points_if};
 use crate::record::Record;
 use crate::rules::of_values;
 use lvl_io::Read;
-use lvl_refusal::Refusal;
+use lvl_refusal::Cause;
 use oasis_values::{Input, Use, ValueFault};
 use std::alloc::Global;
 
@@ -33,7 +33,7 @@ fn polygon_of<R: Read>(
     input: &mut Input<R>,
     alloc: Global,
     info: u8,
-) -> Result<Record, Refusal<ValueFault>>
+) -> Result<Record, Cause<ValueFault>>
     requires { has_failed input.old ≡ false }
     ensures reads { Reads R.remaining R.read_errors R.lent (IsPolygonOf info) input.old input.new result }
 {
@@ -51,8 +51,8 @@ fn polygon_of<R: Read>(
 pub(crate) fn read_polygon<R: Read>(
     input: &mut Input<R>,
     alloc: Global,
-) -> Result<Record, Refusal<RecordFault>>
-    ensures reads { Reads R.remaining R.read_errors R.lent IsPolygon input.old input.new (told result) }
+) -> Result<Record, Cause<RecordFault>>
+    ensures reads { Reads R.remaining R.read_errors R.lent IsPolygon input.old input.new (reported result) }
 {
     let info = read_info(input, RESERVED)?;
     of_values(polygon_of(input, alloc, info))

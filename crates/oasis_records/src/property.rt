@@ -6,7 +6,7 @@ ghost use Rattle.oasis_values.specs.Reads.{Reads};
 ghost use Rattle.oasis_records.specs.Fields.{has};
 ghost use Rattle.oasis_records.specs.Properties.{is_property_info, AreValues, IsCount, IsProperty, IsPropertyInfo};
 ghost use Rattle.oasis_records.specs.Properties.{IsPropertyOf};
-ghost use Rattle.oasis_records.specs.Rules.{told_breach};
+ghost use Rattle.oasis_records.specs.Rules.{reported_breach};
 
 use crate::fault::{RecordFault, RecordRule};
 use crate::fields::{has, skip_string_if};
@@ -33,7 +33,7 @@ fn is_info(info: u8) -> bool
 
 // The info byte UUUUVCNS.
 fn read_property_info<R: Read>(input: &mut Input<R>) -> Result<u8, RecordFault>
-    ensures reads { Reads R.remaining R.read_errors R.lent IsPropertyInfo input.old input.new (told_breach result) }
+    ensures reads { Reads R.remaining R.read_errors R.lent IsPropertyInfo input.old input.new (reported_breach result) }
 {
     let info = input.byte()?;
     must(is_info(info), info, RecordRule::Info)
@@ -75,7 +75,7 @@ fn property_of<R: Read>(input: &mut Input<R>, info: u8) -> Result<Record, ValueF
 
 /// A PROPERTY record after its id.
 pub(crate) fn read_property<R: Read>(input: &mut Input<R>) -> Result<Record, RecordFault>
-    ensures reads { Reads R.remaining R.read_errors R.lent IsProperty input.old input.new (told_breach result) }
+    ensures reads { Reads R.remaining R.read_errors R.lent IsProperty input.old input.new (reported_breach result) }
 {
     let info = read_property_info(input)?;
     no_rule(property_of(input, info))

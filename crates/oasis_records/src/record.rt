@@ -3,7 +3,7 @@ ghost use Rattle.std.specs.Prelude.{◌≡◌, false};
 ghost use Rattle.oasis_values.specs.Input.{has_failed};
 ghost use Rattle.oasis_values.specs.Reads.{Reads};
 ghost use Rattle.oasis_records.specs.Records.{AreFields};
-ghost use Rattle.oasis_records.specs.Rules.{told, Denies};
+ghost use Rattle.oasis_records.specs.Rules.{reported, Denies};
 
 use crate::cell::{CellName, CellRef, read_cell, read_cell_name, read_numbered_name};
 use crate::end::{Validation, read_end};
@@ -19,7 +19,7 @@ use crate::rectangle::{Rectangle, read_rectangle};
 use crate::rules::of_values;
 use crate::start::{Start, read_start};
 use lvl_io::Read;
-use lvl_refusal::Refusal;
+use lvl_refusal::Cause;
 use oasis_values::{Input, Repetition};
 use std::alloc::Global;
 
@@ -55,11 +55,11 @@ pub fn read_fields<R: Read>(
     kind: RecordType,
     id_len: u64,
     has_offsets_at_end: bool,
-) -> Result<Record, Refusal<RecordFault>>
+) -> Result<Record, Cause<RecordFault>>
     requires { has_failed input.old ≡ false }
     ensures reads { Reads R.remaining R.read_errors R.lent
-        (AreFields has_offsets_at_end id_len kind) input.old input.new (told result) }
-    ensures none { Denies R.remaining (AreFields has_offsets_at_end id_len kind) input.old (told result) }
+        (AreFields has_offsets_at_end id_len kind) input.old input.new (reported result) }
+    ensures none { Denies R.remaining (AreFields has_offsets_at_end id_len kind) input.old (reported result) }
 {
     fields_of(input, alloc, kind, id_len, has_offsets_at_end)
 }
@@ -71,10 +71,10 @@ fn fields_of<R: Read>(
     kind: RecordType,
     id_len: u64,
     has_offsets_at_end: bool,
-) -> Result<Record, Refusal<RecordFault>>
+) -> Result<Record, Cause<RecordFault>>
     requires { has_failed input.old ≡ false }
     ensures reads { Reads R.remaining R.read_errors R.lent
-        (AreFields has_offsets_at_end id_len kind) input.old input.new (told result) }
+        (AreFields has_offsets_at_end id_len kind) input.old input.new (reported result) }
 {
     match kind {
         RecordType::Pad => Ok(Record::Pad),

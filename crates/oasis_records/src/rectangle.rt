@@ -4,7 +4,7 @@ ghost use Rattle.oasis_values.specs.Input.{has_failed};
 ghost use Rattle.oasis_values.specs.Reads.{Reads};
 ghost use Rattle.oasis_records.specs.Fields.{has};
 ghost use Rattle.oasis_records.specs.Rectangles.{IsRectangleInfo, IsRectangleOf, IsRectangle};
-ghost use Rattle.oasis_records.specs.Rules.{told, told_breach};
+ghost use Rattle.oasis_records.specs.Rules.{reported, reported_breach};
 
 use crate::fault::{RecordFault, RecordRule};
 use crate::fields::{has, unsigned_if};
@@ -12,7 +12,7 @@ use crate::figure::{OnLayer, Position, read_on_layer, read_position};
 use crate::record::Record;
 use crate::rules::{must, of_values};
 use lvl_io::Read;
-use lvl_refusal::Refusal;
+use lvl_refusal::Cause;
 use oasis_values::{Input, ValueFault};
 use std::alloc::Global;
 
@@ -44,7 +44,7 @@ fn is_info(info: u8) -> bool
 // The info byte SWHXYRDL.
 fn read_rectangle_info<R: Read>(input: &mut Input<R>) -> Result<u8, RecordFault>
     ensures reads { Reads R.remaining R.read_errors R.lent
-        IsRectangleInfo input.old input.new (told_breach result) }
+        IsRectangleInfo input.old input.new (reported_breach result) }
 {
     let info = input.byte()?;
     must(is_info(info), info, RecordRule::Info)
@@ -55,7 +55,7 @@ fn rectangle_of<R: Read>(
     input: &mut Input<R>,
     alloc: Global,
     info: u8,
-) -> Result<Record, Refusal<ValueFault>>
+) -> Result<Record, Cause<ValueFault>>
     requires { has_failed input.old ≡ false }
     ensures reads { Reads R.remaining R.read_errors R.lent (IsRectangleOf info) input.old input.new result }
 {
@@ -76,8 +76,8 @@ fn rectangle_of<R: Read>(
 pub(crate) fn read_rectangle<R: Read>(
     input: &mut Input<R>,
     alloc: Global,
-) -> Result<Record, Refusal<RecordFault>>
-    ensures reads { Reads R.remaining R.read_errors R.lent IsRectangle input.old input.new (told result) }
+) -> Result<Record, Cause<RecordFault>>
+    ensures reads { Reads R.remaining R.read_errors R.lent IsRectangle input.old input.new (reported result) }
 {
     let info = read_rectangle_info(input)?;
     of_values(rectangle_of(input, alloc, info))

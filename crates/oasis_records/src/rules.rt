@@ -1,15 +1,15 @@
 //! Rules that are tested of values as they are read.
 ghost use Rattle.std.specs.Prelude.{◌≡◌, Ok};
 ghost use Rattle.oasis_values.specs.Faults.{as_breach};
-ghost use Rattle.oasis_records.specs.Rules.{told, told_breach, plain, obeyed};
+ghost use Rattle.oasis_records.specs.Rules.{reported, reported_breach, plain, obeyed};
 
 use crate::fault::{RecordFault, RecordRule};
-use lvl_refusal::Refusal;
+use lvl_refusal::Cause;
 use oasis_values::ValueFault;
 
 /// The value, where the rule is kept.
 pub(crate) fn must<T: Drop>(is_kept: bool, value: T, rule: RecordRule) -> Result<T, RecordFault>
-    ensures { told_breach result ≡ Ok (obeyed is_kept value rule) }
+    ensures { reported_breach result ≡ Ok (obeyed is_kept value rule) }
 {
     if is_kept {
         Ok(value)
@@ -20,20 +20,20 @@ pub(crate) fn must<T: Drop>(is_kept: bool, value: T, rule: RecordRule) -> Result
 
 /// The same answer, where no rule of records was tested.
 pub(crate) fn of_values<T: Drop>(
-    answer: Result<T, Refusal<ValueFault>>,
-) -> Result<T, Refusal<RecordFault>>
-    ensures { told result ≡ plain answer }
+    answer: Result<T, Cause<ValueFault>>,
+) -> Result<T, Cause<RecordFault>>
+    ensures { reported result ≡ plain answer }
 {
     match answer {
         Ok(value) => Ok(value),
-        Err(Refusal::Breach(fault)) => Err(Refusal::Breach(RecordFault::Value(fault))),
-        Err(Refusal::OutOfMemory) => Err(Refusal::OutOfMemory),
+        Err(Cause::Breach(fault)) => Err(Cause::Breach(RecordFault::Value(fault))),
+        Err(Cause::OutOfMemory) => Err(Cause::OutOfMemory),
     }
 }
 
 /// The same of a call that takes no memory.
 pub(crate) fn no_rule<T: Drop>(answer: Result<T, ValueFault>) -> Result<T, RecordFault>
-    ensures { told_breach result ≡ plain (as_breach answer) }
+    ensures { reported_breach result ≡ plain (as_breach answer) }
 {
     match answer {
         Ok(value) => Ok(value),

@@ -3,7 +3,7 @@ ghost use Rattle.std.specs.Prelude.{◌≡◌, nat_lt, false};
 ghost use Rattle.oasis_values.specs.Faults.{as_breach};
 ghost use Rattle.oasis_values.specs.Input.{has_failed};
 ghost use Rattle.oasis_values.specs.Reads.{Reads};
-ghost use Rattle.oasis_records.specs.Rules.{told, told_breach};
+ghost use Rattle.oasis_records.specs.Rules.{reported, reported_breach};
 ghost use Rattle.oasis_records.specs.Starts.{is_version, is_unit, is_here, AreOffsets, AreTables, IsVersion};
 ghost use Rattle.oasis_records.specs.Starts.{IsVersionText, IsUnit, IsFlag, IsStartOf, IsStart};
 
@@ -12,7 +12,7 @@ use crate::record::Record;
 use crate::rules::{must, of_values};
 use crate::text::{Name, read_text};
 use lvl_io::Read;
-use lvl_refusal::Refusal;
+use lvl_refusal::Cause;
 use oasis_values::{Input, Real, Text, ValueFault};
 use std::alloc::Global;
 
@@ -61,15 +61,15 @@ fn is_here(flag: u64) -> bool
 fn read_version_text<R: Read>(
     input: &mut Input<R>,
     alloc: Global,
-) -> Result<Name, Refusal<RecordFault>>
-    ensures reads { Reads R.remaining R.read_errors R.lent IsVersionText input.old input.new (told result) }
+) -> Result<Name, Cause<RecordFault>>
+    ensures reads { Reads R.remaining R.read_errors R.lent IsVersionText input.old input.new (reported result) }
 {
     of_values(read_text(input, alloc, Text::A))
 }
 
 // The version, which is `1.0`.
-fn read_version<R: Read>(input: &mut Input<R>, alloc: Global) -> Result<Name, Refusal<RecordFault>>
-    ensures reads { Reads R.remaining R.read_errors R.lent IsVersion input.old input.new (told result) }
+fn read_version<R: Read>(input: &mut Input<R>, alloc: Global) -> Result<Name, Cause<RecordFault>>
+    ensures reads { Reads R.remaining R.read_errors R.lent IsVersion input.old input.new (reported result) }
 {
     let text = read_version_text(input, alloc)?;
     let is_known = is_version(&text);
@@ -79,7 +79,7 @@ fn read_version<R: Read>(input: &mut Input<R>, alloc: Global) -> Result<Name, Re
 
 // The unit, which isn't negative.
 fn read_unit<R: Read>(input: &mut Input<R>) -> Result<Real, RecordFault>
-    ensures reads { Reads R.remaining R.read_errors R.lent IsUnit input.old input.new (told_breach result) }
+    ensures reads { Reads R.remaining R.read_errors R.lent IsUnit input.old input.new (reported_breach result) }
 {
     let unit = input.real()?;
     must(is_unit(unit), unit, RecordRule::Unit)
@@ -87,7 +87,7 @@ fn read_unit<R: Read>(input: &mut Input<R>) -> Result<Real, RecordFault>
 
 // The flag, which is 0 or 1.
 fn read_flag<R: Read>(input: &mut Input<R>) -> Result<u64, RecordFault>
-    ensures reads { Reads R.remaining R.read_errors R.lent IsFlag input.old input.new (told_breach result) }
+    ensures reads { Reads R.remaining R.read_errors R.lent IsFlag input.old input.new (reported_breach result) }
 {
     let flag = input.unsigned()?;
     must(is_flag(flag), flag, RecordRule::Info)
@@ -121,7 +121,7 @@ pub(crate) fn read_offsets<R: Read>(
 
 // What comes after the version.
 fn start_of<R: Read>(input: &mut Input<R>) -> Result<Record, RecordFault>
-    ensures reads { Reads R.remaining R.read_errors R.lent IsStartOf input.old input.new (told_breach result) }
+    ensures reads { Reads R.remaining R.read_errors R.lent IsStartOf input.old input.new (reported_breach result) }
 {
     let unit = read_unit(input)?;
     let flag = read_flag(input)?;
@@ -137,8 +137,8 @@ fn start_of<R: Read>(input: &mut Input<R>) -> Result<Record, RecordFault>
 pub(crate) fn read_start<R: Read>(
     input: &mut Input<R>,
     alloc: Global,
-) -> Result<Record, Refusal<RecordFault>>
-    ensures reads { Reads R.remaining R.read_errors R.lent IsStart input.old input.new (told result) }
+) -> Result<Record, Cause<RecordFault>>
+    ensures reads { Reads R.remaining R.read_errors R.lent IsStart input.old input.new (reported result) }
 {
     let version = read_version(input, alloc)?;
     drop(version);

@@ -4,7 +4,7 @@ ghost use Rattle.oasis_values.specs.Reads.{Reads};
 ghost use Rattle.oasis_values.specs.Texts.{IsString};
 
 use lvl_io::Read;
-use lvl_refusal::Refusal;
+use lvl_refusal::Cause;
 use oasis_values::{Input, Text, ValueFault};
 use std::alloc::Global;
 use std::marker::Model;
@@ -48,7 +48,7 @@ pub(crate) fn read_text<R: Read>(
     input: &mut Input<R>,
     alloc: Global,
     kind: Text,
-) -> Result<Name, Refusal<ValueFault>>
+) -> Result<Name, Cause<ValueFault>>
     ensures reads { Reads R.remaining R.read_errors R.lent (IsString kind 255) input.old input.new result }
 {
     let bytes = input.string(alloc, kind, MOST_BYTES)?;

@@ -49,13 +49,13 @@ record IsAfter (before : List Item) (room : ℕ) (ys : List ℕ) (k : OasisKind)
   room_is : 0 < room
   some : 0 < length ys
 
-abbrev Cause : Ignore → List Item → ℕ → List ℕ → OasisKind → Type 0
-Cause ignore before room ys k = IsExplained ignore before room ys k
+abbrev Explained : Ignore → List Item → ℕ → List ℕ → OasisKind → Type 0
+Explained ignore before room ys k = IsExplained ignore before room ys k
     ⊎ (IsLong ignore before room ys k ⊎ IsAfter before room ys k)
 
 by_rule : (ignore : Ignore) (before : List Item) (room : ℕ) (ys : List ℕ) (k : OasisKind)
     → BreaksRule ignore before room ys k
-    → Cause ignore before room ys k
+    → Explained ignore before room ys k
 by_rule ignore before room ys k w = elim w.3 [
   | inl p ↦ inl (record { unended = w.0; count = w.1; within = w.2; said = Ok (Err k); front = p; why = refl })
   | inr p ↦ inl (record { unended = w.0; count = w.1; within = w.2; said = Ok (Ok p.0); front = p.1; why = p.2 })
@@ -63,7 +63,7 @@ by_rule ignore before room ys k w = elim w.3 [
 
 cause : (ignore : Ignore) (before : List Item) (room : ℕ) (ys : List ℕ) (k : OasisKind)
     → IsWrong ignore before room ys k
-    → Cause ignore before room ys k
+    → Explained ignore before room ys k
 cause ignore before room ys (Value f) w = elim w [
   | inl p ↦ inr (inl (record { kind = ap Value p.0; long = p.1 }))
   | inr p ↦ inl (record {
@@ -112,8 +112,8 @@ front_same ignore before ys n m x y p q =
     front_only (IsItem before ignore) ys n x y (item_free before ignore) p q.bytes q.says (q.rest, inr q.whole)
 
 one_cause : (ignore : Ignore) (before : List Item) (room : ℕ) (ys : List ℕ) (j k : OasisKind)
-    → Cause ignore before room ys j
-    → Cause ignore before room ys k → j ≡ k
+    → Explained ignore before room ys j
+    → Explained ignore before room ys k → j ≡ k
 one_cause ignore before room ys j k p q = elim p [
   | inl a ↦ elim q [
     | inl b ↦ explains_once before a.said j k a.why

@@ -10,7 +10,7 @@ use Rattle.std.specs.Prelude.{Result}
 use Rattle.std.specs.Borrow.{GName}
 use Rattle.lvl_io.specs.Spelling.{IsFront}
 use Rattle.lvl_io.proofs.Known.{known_parts}
-use Rattle.lvl_refusal.specs.declared.Refusal.{Refusal}
+use Rattle.lvl_refusal.specs.declared.Cause.{Cause}
 use Rattle.lvl_ignore.specs.declared.ignore.Ignore.{Ignore}
 use Rattle.oasis_values.specs.Input.{bytes_left, has_failed, input_ignore, input_reader, input_offset, room_left}
 use Rattle.oasis_values.specs.Reads.{Answers, Reads, bytes_had}
@@ -25,7 +25,7 @@ pub record IsSeen (ys : List ℕ) (had : ℕ) (left : Option (List ℕ)) : Type 
   pub left_is : left ≡ Some rest
 
 pub law_seen : {R A : Type 0} {remaining : R → Option (List ℕ)} {errors : R → ℕ} {lent : R → List GName}
-    {S : Spelling A} {old new : Input R} {r : Result A (Refusal ValueFault)} (ys : List ℕ)
+    {S : Spelling A} {old new : Input R} {r : Result A (Cause ValueFault)} (ys : List ℕ)
     → Reads remaining errors lent S old new r → bytes_left remaining old ≡ Some ys
     → IsSeen ys (bytes_had old new) (remaining (input_reader new))
 law_seen {remaining = remaining} {old = old} {new = new} ys p known =
@@ -69,7 +69,7 @@ room_seen ys had room more long read =
 
 -- what a call answered of an input that ignores these
 pub answers_under : {R A : Type 0} {remaining : R → Option (List ℕ)} {errors : R → ℕ} {lent : R → List GName}
-    {S : Spelling A} {old new : Input R} {r : Result A (Refusal ValueFault)} (ignore : Ignore)
+    {S : Spelling A} {old new : Input R} {r : Result A (Cause ValueFault)} (ignore : Ignore)
     → input_ignore old ≡ ignore → Reads remaining errors lent S old new r → has_failed old ≡ false → (xs : List ℕ)
     → bytes_left remaining old ≡ Some xs
     → Answers (S ignore) (room_left old) (bytes_had old new) (input_offset new - input_offset old) xs r

@@ -7,7 +7,7 @@ use Rattle.lvl_io.specs.Spelling.{IsBegun}
 use Rattle.lvl_grammar.specs.Refused.{IsTruncated}
 use Rattle.lvl_grammar.specs.inside.ReadTo.{ReadTo, IsSeenWrong}
 use Rattle.lvl_grammar.proofs.Reading.{reads_on, reads_unread}
-use Rattle.lvl_refusal.specs.declared.Refusal.TheVariants.{Breach}
+use Rattle.lvl_refusal.specs.declared.Cause.TheVariants.{Breach}
 use Rattle.lvl_ignore.specs.declared.ignore.Ignore.{Ignore}
 use Rattle.oasis_values.specs.Faults.{is_rule}
 use Rattle.oasis_values.specs.Input.{file_limit, bytes_left, input_offset, has_failed, input_reader, input_ignore}
@@ -22,7 +22,7 @@ use Rattle.oasis_values.proofs.Reading.{front_rest}
 use Rattle.oasis_stream.specs.Items.{Item, magic, item, records, IsEnded}
 use Rattle.oasis_stream.specs.Rules.{Breaches, MayFollow}
 use Rattle.oasis_stream.specs.Front.{IsItem, BreaksRule, IsWrong, oasis}
-use Rattle.oasis_stream.specs.Told.{of_kind}
+use Rattle.oasis_stream.specs.Reported.{of_kind}
 use Rattle.oasis_stream.specs.inside.Refuses.{RefusesAt}
 use Rattle.oasis_stream.specs.declared.fault.OasisKind.{OasisKind}
 use Rattle.oasis_stream.specs.declared.fault.OasisKind.TheVariants.{Value, Record, Unexpected, Name, Figure, AfterEnd}

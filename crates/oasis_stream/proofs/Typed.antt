@@ -3,8 +3,8 @@ use Rattle.std.proofs.Common.{◌≡◌, ℕ, Bool, true, false, if◌then◌els
 use Rattle.std.proofs.Common.{Err, refl, sym, ap, subst, ◌-◌}
 use Rattle.std.specs.Prelude.{Option}
 use Rattle.std.specs.Borrow.{GName}
-use Rattle.lvl_refusal.specs.declared.Refusal.{Refusal}
-use Rattle.lvl_refusal.specs.declared.Refusal.TheVariants.{Breach, OutOfMemory}
+use Rattle.lvl_refusal.specs.declared.Cause.{Cause}
+use Rattle.lvl_refusal.specs.declared.Cause.TheVariants.{Breach, OutOfMemory}
 use Rattle.lvl_ignore.specs.declared.ignore.Ignore.{Ignore}
 use Rattle.oasis_values.specs.Input.{input_ignore, room_left, input_offset}
 use Rattle.oasis_values.specs.Known.{Seen}
@@ -16,7 +16,7 @@ use Rattle.oasis_values.specs.declared.input.Input.{Input}
 use Rattle.oasis_values.proofs.Reading.{reads_then, reads_nothing, reads_seen, reads_seen_err, reads_fault}
 use Rattle.oasis_records.specs.Records.{record_type}
 use Rattle.oasis_records.specs.Magic.{IsMagic}
-use Rattle.oasis_records.specs.Rules.{told, told_breach}
+use Rattle.oasis_records.specs.Rules.{reported, reported_breach}
 use Rattle.oasis_records.specs.Sizes.{Sized}
 use Rattle.oasis_records.specs.declared.fault.RecordFault.{RecordFault}
 use Rattle.oasis_records.specs.declared.fault.RecordFault.TheVariants.{Value, Rule}
@@ -28,7 +28,7 @@ use Rattle.oasis_stream.specs.Items.{Item}
 use Rattle.lvl_cells.specs.Building.{cell_limit}
 use Rattle.oasis_stream.specs.Order.{at_end, cells_in, opens_cell, mixes, is_expected, allowed, type_after}
 use Rattle.oasis_stream.specs.Front.{of_magic, of_record, IsTyped, IsNext, IsItem, IsTypedAfter}
-use Rattle.oasis_stream.specs.Told.{of_kind, told_record, of_fault, told_magic, of_magic_fault}
+use Rattle.oasis_stream.specs.Reported.{of_kind, reported_record, of_fault, reported_magic, of_magic_fault}
 use Rattle.oasis_stream.specs.declared.fault.NameRule.TheVariants.{Mixed}
 use Rattle.oasis_stream.specs.declared.fault.OasisKind.{OasisKind}
 use Rattle.oasis_stream.specs.declared.fault.OasisKind.TheVariants.{Unexpected, Name, TooManyCells}
@@ -37,9 +37,9 @@ use Rattle.oasis_stream.proofs.Items.{typed_said}
 -- a record that was read, as an item of the file
 pub reads_recorded : {R : Type 0} {remaining : R → Option (List ℕ)} {errors : R → ℕ} {lent : R → List GName}
     {S : Spelling (Result Record RecordRule)} {old new : Input R}
-    (r : Result Record (Refusal RecordFault))
-    → Reads remaining errors lent S old new (told r) → Reads remaining errors lent (Seen of_record S) old new
-    (told_record (of_fault r))
+    (r : Result Record (Cause RecordFault))
+    → Reads remaining errors lent S old new (reported r) → Reads remaining errors lent (Seen of_record S) old new
+    (reported_record (of_fault r))
 reads_recorded (Ok x) p = reads_seen of_record p
 reads_recorded (Err OutOfMemory) p = reads_seen_err of_record p
 reads_recorded (Err (Breach (Value f))) p = reads_seen_err of_record p
@@ -68,14 +68,14 @@ judged ignore rs id =
 
 -- no id is read
 pub next_unread : {R : Type 0} {remaining : R → Option (List ℕ)} {errors : R → ℕ} {lent : R → List GName}
-    (rs : List Record) {old new : Input R} {e : Refusal ValueFault}
+    (rs : List Record) {old new : Input R} {e : Cause ValueFault}
     → Reads remaining errors lent (Sized IsUnsigned) old new (Err e)
     → Reads remaining errors lent (IsNext rs) old new (Err e)
 next_unread rs p = reads_fault (IsTypedAfter rs) (typed_said rs) p
 
 -- a call by one spelling is one by another that is the same for what the input ignores
 reads_by : {R A : Type 0} {remaining : R → Option (List ℕ)} {errors : R → ℕ} {lent : R → List GName}
-    (S T : Spelling A) {old new : Input R} {r : Result A (Refusal ValueFault)}
+    (S T : Spelling A) {old new : Input R} {r : Result A (Cause ValueFault)}
     → S (input_ignore old) ≡ T (input_ignore old) → Reads remaining errors lent T old new r
     → Reads remaining errors lent S old new r
 reads_by S T {old = old} {new = new} {r = r} e p =
@@ -108,7 +108,7 @@ next_refused {remaining = remaining} {errors = errors} {lent = lent} rs {old = o
 -- the id gives the type
 pub next_typed : {R : Type 0} {remaining : R → Option (List ℕ)} {errors : R → ℕ} {lent : R → List GName}
     (rs : List Record) {old mid new : Input R} (id : Measured) (t : RecordType) (b : Bool)
-    {r : Result (Result Item OasisKind) (Refusal ValueFault)}
+    {r : Result (Result Item OasisKind) (Cause ValueFault)}
     → type_after (input_ignore mid) rs id.value ≡ Ok t → b ≡ at_end rs
     → Reads remaining errors lent (Sized IsUnsigned) old mid (Ok id)
     → Reads remaining errors lent (IsTyped b id.len (Ok t)) mid new r
@@ -123,8 +123,8 @@ next_typed {remaining = remaining} {errors = errors} {lent = lent} rs {mid = mid
 -- the magic string that was read, as an item of the file
 pub reads_first : {R : Type 0} {remaining : R → Option (List ℕ)} {errors : R → ℕ} {lent : R → List GName}
     {old new : Input R} (r : Result (Unit {0}) RecordFault)
-    → Reads remaining errors lent IsMagic old new (told_breach r)
-    → Reads remaining errors lent (IsItem []) old new (told_magic (of_magic_fault r))
+    → Reads remaining errors lent IsMagic old new (reported_breach r)
+    → Reads remaining errors lent (IsItem []) old new (reported_magic (of_magic_fault r))
 reads_first (Ok u) p = reads_seen of_magic p
 reads_first (Err (Value f)) p = reads_seen_err of_magic p
 reads_first (Err (Rule k)) p = reads_seen of_magic p

@@ -9,10 +9,10 @@ use Rattle.oasis_stream.specs.declared.fault.OasisKind.{OasisKind}
 use Rattle.oasis_stream.specs.declared.fault.OasisKind.TheVariants.{Value}
 
 -- the bytes before the offset are a front, and why none goes on there
-abbrev pub TellsAt : Ignore → List ℕ → ℕ → OasisKind → Type 0
-TellsAt ignore xs at (Value Truncated) = IsTruncated (oasis ignore) xs at
-TellsAt ignore xs at (Value Read) = IsFrontAt (oasis ignore) xs at
-TellsAt ignore xs at k = IsStuck (oasis ignore) xs at × IsBreached (oasis ignore) xs at k
+abbrev pub ReportsAt : Ignore → List ℕ → ℕ → OasisKind → Type 0
+ReportsAt ignore xs at (Value Truncated) = IsTruncated (oasis ignore) xs at
+ReportsAt ignore xs at (Value Read) = IsFrontAt (oasis ignore) xs at
+ReportsAt ignore xs at k = IsStuck (oasis ignore) xs at × IsBreached (oasis ignore) xs at k
 
 -- whether the rule is that the reader failed
 abbrev pub is_read_kind : OasisKind → Bool

@@ -3,6 +3,6 @@ pub mod Order
 pub mod Names
 pub mod Rules
 pub mod Front
-pub mod Told
+pub mod Reported
 pub mod Ends
 pub mod inside

@@ -4,30 +4,30 @@ ghost use Rattle.oasis_values.specs.Input.{has_failed};
 ghost use Rattle.oasis_values.specs.Reads.{Reads};
 ghost use Rattle.oasis_records.specs.declared.record.Record.{Record as Item};
 ghost use Rattle.oasis_stream.specs.Front.{IsTyped, IsNext, IsItem};
-ghost use Rattle.oasis_stream.specs.Told.{told_record, of_fault, told_magic, of_magic_fault};
+ghost use Rattle.oasis_stream.specs.Reported.{reported_record, of_fault, reported_magic, of_magic_fault};
 ghost use Rattle.oasis_stream.specs.inside.Reached.{HasReached};
 
 use crate::fault::OasisKind;
 use crate::order::Order;
 use lvl_io::Read;
-use lvl_refusal::Refusal;
+use lvl_refusal::Cause;
 use oasis_records::{Record, RecordFault, RecordType, read_fields, read_id, read_magic};
 use oasis_values::Input;
 use std::alloc::Global;
 
 // The same answer, where a fault is one of the file's.
-fn of_record(answer: Result<Record, Refusal<RecordFault>>) -> Result<Record, Refusal<OasisKind>>
+fn of_record(answer: Result<Record, Cause<RecordFault>>) -> Result<Record, Cause<OasisKind>>
     ensures { result ≡ of_fault answer }
 {
     match answer {
         Ok(record) => Ok(record),
-        Err(Refusal::Breach(RecordFault::Value(fault))) => {
-            Err(Refusal::Breach(OasisKind::Value(fault)))
+        Err(Cause::Breach(RecordFault::Value(fault))) => {
+            Err(Cause::Breach(OasisKind::Value(fault)))
         }
-        Err(Refusal::Breach(RecordFault::Rule(rule))) => {
-            Err(Refusal::Breach(OasisKind::Record(rule)))
+        Err(Cause::Breach(RecordFault::Rule(rule))) => {
+            Err(Cause::Breach(OasisKind::Record(rule)))
         }
-        Err(Refusal::OutOfMemory) => Err(Refusal::OutOfMemory),
+        Err(Cause::OutOfMemory) => Err(Cause::OutOfMemory),
     }
 }
 
@@ -38,10 +38,10 @@ fn read_typed<R: Read>(
     kind: RecordType,
     id_len: u64,
     has_offsets_at_end: bool,
-) -> Result<Record, Refusal<OasisKind>>
+) -> Result<Record, Cause<OasisKind>>
     requires { has_failed input.old ≡ false }
     ensures reads { Reads R.remaining R.read_errors R.lent
-        (IsTyped has_offsets_at_end id_len (Ok kind)) input.old input.new (told_record result) }
+        (IsTyped has_offsets_at_end id_len (Ok kind)) input.old input.new (reported_record result) }
 {
     of_record(read_fields(input, alloc, kind, id_len, has_offsets_at_end))
 }
@@ -51,18 +51,18 @@ pub fn read_next<R: Read>(
     input: &mut Input<R>,
     alloc: Global,
     order: &Order,
-) -> Result<Record, Refusal<OasisKind>>
+) -> Result<Record, Cause<OasisKind>>
     ensures reads { (rs : List Item) → HasReached order.now rs
-        → Reads R.remaining R.read_errors R.lent (IsNext rs) input.old input.new (told_record result) }
+        → Reads R.remaining R.read_errors R.lent (IsNext rs) input.old input.new (reported_record result) }
 {
     let id = match read_id(input) {
         Ok(id) => id,
-        Err(fault) => return Err(Refusal::Breach(OasisKind::Value(fault))),
+        Err(fault) => return Err(Cause::Breach(OasisKind::Value(fault))),
     };
     let ignore = input.ignore();
     match order.type_of(id.value, ignore) {
         Ok(kind) => read_typed(input, alloc, kind, id.len, order.has_offsets_at_end()),
-        Err(kind) => Err(Refusal::Breach(kind)),
+        Err(kind) => Err(Cause::Breach(kind)),
     }
 }
 
@@ -79,7 +79,7 @@ fn of_magic(answer: Result<(), RecordFault>) -> Result<(), OasisKind>
 
 /// The magic string, which a file begins with.
 pub fn read_first<R: Read>(input: &mut Input<R>) -> Result<(), OasisKind>
-    ensures reads { Reads R.remaining R.read_errors R.lent (IsItem []) input.old input.new (told_magic result) }
+    ensures reads { Reads R.remaining R.read_errors R.lent (IsItem []) input.old input.new (reported_magic result) }
 {
     of_magic(read_magic(input))
 }

@@ -5,7 +5,7 @@ use lvl_ignore::Ignore;
 use lvl_io::Read;
 use lvl_io::fake::Pieces;
 use lvl_path::PathFault;
-use lvl_refusal::Refusal;
+use lvl_refusal::Cause;
 use oasis_figures::{Drawn, FigureRule, Modal, Variable};
 use oasis_records::{Record, RecordType, read_fields, read_id};
 use oasis_values::Input;
@@ -34,8 +34,8 @@ fn next<R: Read>(input: &mut Input<R>, alloc: Global) -> Result<Option<Record>, 
     };
     match read_fields(input, alloc, kind, id.len, false) {
         Ok(record) => Ok(Some(record)),
-        Err(Refusal::OutOfMemory) => Err(AllocError),
-        Err(Refusal::Breach(_)) => Ok(None),
+        Err(Cause::OutOfMemory) => Err(AllocError),
+        Err(Cause::Breach(_)) => Ok(None),
     }
 }
 
@@ -44,7 +44,7 @@ fn take_all(
     modal: &mut Modal,
     alloc: Global,
     bytes: &[u8],
-) -> Result<Option<Drawn>, Refusal<FigureRule>> {
+) -> Result<Option<Drawn>, Cause<FigureRule>> {
     let mut input = Input::new(Pieces::new(bytes, 1), Ignore::NOTHING);
     let mut drawn = None;
     for _ in 0..bytes.len() {
@@ -81,7 +81,7 @@ fn are_bands(rings: &[Ring], want: &[(i64, i64, i64, i64)]) -> bool {
 }
 
 /// Whether that is wanted, of shapes on Layer 1/0.
-fn is_wanted(got: &Result<Option<Drawn>, Refusal<FigureRule>>, want: &Want) -> bool {
+fn is_wanted(got: &Result<Option<Drawn>, Cause<FigureRule>>, want: &Want) -> bool {
     match (got, want) {
         (Ok(Some(Drawn::Ring(on, ring))), Want::Ring(vertices)) => {
             on.layer == 1 && on.datatype == 0 && has_vertices(ring.points(), vertices)
@@ -91,7 +91,7 @@ fn is_wanted(got: &Result<Option<Drawn>, Refusal<FigureRule>>, want: &Want) -> b
         }
         (Ok(Some(Drawn::Placement(by))), Want::Cell(map)) => by == map,
         (Ok(None), Want::Nothing) => true,
-        (Err(Refusal::Breach(rule)), Want::Rule(broken)) => rule == broken,
+        (Err(Cause::Breach(rule)), Want::Rule(broken)) => rule == broken,
         _ => false,
     }
 }
@@ -109,7 +109,7 @@ fn check(rt: &impl Abort, alloc: Global, rows: &[(&str, &[u8], Want, u64)]) -> R
     for (name, bytes, want, shifts) in rows {
         let mut modal = Modal::new();
         let got = take_all(&mut modal, alloc, bytes);
-        if let Err(Refusal::OutOfMemory) = &got {
+        if let Err(Cause::OutOfMemory) = &got {
             return Err(AllocError.into());
         }
         assert!(rt; is_wanted(&got, want), "{name}");
@@ -259,7 +259,7 @@ fn growths(rt: HostRuntime) -> Result<(), Fail> {
     let bytes = b"\x15\x3B\x01\x00\x00\x02\x14\x14\x00\x00\x11\x80\x01A";
     match take_all(&mut modal, rt.alloc(), bytes) {
         Ok(Some(Drawn::Placement(_))) => assert!(rt; modal.cell().is_some()),
-        Err(Refusal::OutOfMemory) => {
+        Err(Cause::OutOfMemory) => {
             assert!(rt; modal.cell().is_none());
             return Err(AllocError.into());
         }

@@ -3,7 +3,7 @@
 use crate::library::{SQUARE, START, TOP, file};
 use lvl_ignore::Ignore;
 use lvl_io::fake::Pieces;
-use lvl_refusal::Refusal;
+use lvl_refusal::Cause;
 use oasis_library::{
     FigureRule, OasisFault, OasisKind, RecordRule, ValueFault, Variable, read_oasis, read_oasis_by,
 };
@@ -114,15 +114,15 @@ fn record(
     alloc: Global,
     bytes: &[u8],
     ignore: Ignore,
-) -> Result<Option<Record>, Refusal<RecordFault>> {
+) -> Result<Option<Record>, Cause<RecordFault>> {
     let mut input = Input::new(Pieces::new(bytes, 2), ignore);
     let id = match read_id(&mut input) {
         Ok(id) => id,
-        Err(fault) => return Err(Refusal::Breach(RecordFault::Value(fault))),
+        Err(fault) => return Err(Cause::Breach(RecordFault::Value(fault))),
     };
     let kind = match RecordType::of(id.value, ignore) {
         Ok(kind) => kind,
-        Err(rule) => return Err(Refusal::Breach(RecordFault::Rule(rule))),
+        Err(rule) => return Err(Cause::Breach(RecordFault::Rule(rule))),
     };
     let record = read_fields(&mut input, alloc, kind, id.len, false)?;
     if input.offset() == bytes.len() as u64 {
@@ -188,7 +188,7 @@ fn records_that_are_ignored(rt: HostRuntime) -> Result<(), Fail> {
         assert!(rt;
             matches!(
             record(rt.alloc(), bytes, without),
-            Err(Refusal::Breach(RecordFault::Rule(RecordRule::Unsupported(found)))) if found == id
+            Err(Cause::Breach(RecordFault::Rule(RecordRule::Unsupported(found)))) if found == id
         ),
             "{bytes:?}"
         );
@@ -229,7 +229,7 @@ fn malformed_records(rt: HostRuntime) -> Result<(), Fail> {
     ];
     for (bytes, want) in rows {
         let found = record(rt.alloc(), bytes, Ignore::EVERYTHING);
-        let Err(Refusal::Breach(fault)) = found else {
+        let Err(Cause::Breach(fault)) = found else {
             return Err(AllocError.into());
         };
         assert_eq!(rt; fault, want, "{bytes:?}");
@@ -257,7 +257,7 @@ fn reads_a_square_among_what_is_ignored(rt: HostRuntime) -> Result<(), Fail> {
         kind: OasisKind::Record(RecordRule::Unsupported(5)),
     };
     let plain = read_oasis(rt.alloc(), &mut Pieces::new(&bytes, 5));
-    assert_eq!(rt; plain.err(), Some(Refusal::Breach(fault)));
+    assert_eq!(rt; plain.err(), Some(Cause::Breach(fault)));
     let mut reader = Pieces::new(&bytes, 5);
     let (library, _) = read_oasis_by(rt.alloc(), &mut reader, Ignore::EVERYTHING)?;
     assert_eq!(rt; library.cells.len(), 1);
@@ -318,7 +318,7 @@ fn refuses_what_is_out_of_order(rt: HostRuntime) -> Result<(), Fail> {
         let mut reader = Pieces::new(&bytes, 100);
         let read = read_oasis_by(rt.alloc(), &mut reader, Ignore::EVERYTHING);
         let fault = OasisFault::At { offset, kind };
-        assert_eq!(rt; read.err(), Some(Refusal::Breach(fault)), "{records:?}");
+        assert_eq!(rt; read.err(), Some(Cause::Breach(fault)), "{records:?}");
     }
     Ok(())
 }
@@ -336,7 +336,7 @@ fn reads_an_end_with_a_padded_length(rt: HostRuntime) -> Result<(), Fail> {
         kind: OasisKind::Value(ValueFault::IntegerTooLarge),
     };
     let plain = read_oasis(rt.alloc(), &mut Pieces::new(&bytes, 9));
-    assert_eq!(rt; plain.err(), Some(Refusal::Breach(fault)));
+    assert_eq!(rt; plain.err(), Some(Cause::Breach(fault)));
     let mut reader = Pieces::new(&bytes, 9);
     let (library, _) = read_oasis_by(rt.alloc(), &mut reader, padding())?;
     assert_eq!(rt; library.cells.len(), 1);

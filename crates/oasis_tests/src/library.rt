@@ -4,7 +4,7 @@ use lvl_cells::Library;
 use lvl_grid::{Point, Turn};
 use lvl_io::fake::Pieces;
 use lvl_names::Layer;
-use lvl_refusal::Refusal;
+use lvl_refusal::Cause;
 use oasis_library::{OasisFault, OasisHead, Real, read_oasis};
 use std::alloc::{AllocError, Global};
 use std::test::Fail;
@@ -47,7 +47,7 @@ pub fn read(
     alloc: Global,
     bytes: &[u8],
     most: usize,
-) -> Result<(Library, OasisHead), Refusal<OasisFault>> {
+) -> Result<(Library, OasisHead), Cause<OasisFault>> {
     let mut reader = Pieces::new(bytes, most);
     read_oasis(alloc, &mut reader)
 }
@@ -312,8 +312,8 @@ fn growths(rt: HostRuntime) -> Result<(), Fail> {
             assert_eq!(rt; head, HEAD);
             assert_eq!(rt; boxes(rt.alloc(), &library)?.len(), 4);
         }
-        Err(Refusal::Breach(_)) => assert!(rt; false, "no library"),
-        Err(Refusal::OutOfMemory) => return Err(AllocError.into()),
+        Err(Cause::Breach(_)) => assert!(rt; false, "no library"),
+        Err(Cause::OutOfMemory) => return Err(AllocError.into()),
     }
     Ok(())
 }

@@ -3,17 +3,17 @@
 use crate::library::{START, TOP, file, read, square};
 use lvl_io::fake::Pieces;
 use lvl_path::PathFault;
-use lvl_refusal::Refusal;
+use lvl_refusal::Cause;
 use oasis_library::{
     FigureRule, NameRule, OasisFault, OasisKind, RecordRule, ValueFault, Variable, read_oasis,
 };
 use std::test::Fail;
 
-fn at(offset: u64, kind: OasisKind) -> Option<Refusal<OasisFault>> {
-    Some(Refusal::Breach(OasisFault::At { offset, kind }))
+fn at(offset: u64, kind: OasisKind) -> Option<Cause<OasisFault>> {
+    Some(Cause::Breach(OasisFault::At { offset, kind }))
 }
 
-fn value(offset: u64, fault: ValueFault) -> Option<Refusal<OasisFault>> {
+fn value(offset: u64, fault: ValueFault) -> Option<Cause<OasisFault>> {
     at(offset, OasisKind::Value(fault))
 }
 
@@ -172,7 +172,7 @@ fn names_faults_of_files(rt: HostRuntime) -> Result<(), Fail> {
     ];
     for (records, number) in rows {
         let bytes = file(rt.alloc(), &[records])?;
-        let want = Some(Refusal::Breach(OasisFault::Unresolved(number)));
+        let want = Some(Cause::Breach(OasisFault::Unresolved(number)));
         assert_eq!(rt; read(rt.alloc(), &bytes, 9).err(), want);
     }
     Ok(())

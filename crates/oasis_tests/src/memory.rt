@@ -1,7 +1,7 @@
 //! What is read by few bytes takes little memory: `.ci/growths` holds it against `.ci/memory`.
 
 use crate::library::{TOP, file, read};
-use lvl_refusal::Refusal;
+use lvl_refusal::Cause;
 use std::alloc::Global;
 use std::process::Abort;
 use std::test::Fail;
@@ -57,7 +57,7 @@ fn memory_of_names(rt: HostRuntime) -> Result<(), Fail> {
 /// A length, a count or a size that is refused before memory is taken for it.
 fn check_refused(rt: &impl Abort, alloc: Global, record: &[u8]) -> Result<(), Fail> {
     let bytes = file(alloc, &[TOP, record])?;
-    let is_refused = matches!(read(alloc, &bytes, 65_536), Err(Refusal::Breach(_)));
+    let is_refused = matches!(read(alloc, &bytes, 65_536), Err(Cause::Breach(_)));
     assert!(rt; is_refused);
     Ok(())
 }

@@ -5,7 +5,7 @@ use lvl_grid::Point;
 use lvl_ignore::Ignore;
 use lvl_io::Read;
 use lvl_io::fake::Pieces;
-use lvl_refusal::Refusal;
+use lvl_refusal::Cause;
 use oasis_values::{Input, Real, Repetition, Text, Use, ValueFault};
 use std::alloc::{AllocError, Global};
 use std::process::Abort;
@@ -126,8 +126,8 @@ fn strings(rt: HostRuntime) -> Result<(), Fail> {
                 assert_eq!(rt; fault, None);
                 assert!(rt; text.as_slice() == &bytes[1..]);
             }
-            Err(Refusal::Breach(found)) => assert_eq!(rt; Some(found), fault),
-            Err(Refusal::OutOfMemory) => return Err(AllocError.into()),
+            Err(Cause::Breach(found)) => assert_eq!(rt; Some(found), fault),
+            Err(Cause::OutOfMemory) => return Err(AllocError.into()),
         }
     }
     Ok(())
@@ -192,8 +192,8 @@ fn point_lists(rt: HostRuntime) -> Result<(), Fail> {
                     assert_eq!(rt; (point.x, point.y), (*x, *y));
                 }
             }
-            Err(Refusal::Breach(fault)) => assert_eq!(rt; Some(fault), want.err()),
-            Err(Refusal::OutOfMemory) => return Err(AllocError.into()),
+            Err(Cause::Breach(fault)) => assert_eq!(rt; Some(fault), want.err()),
+            Err(Cause::OutOfMemory) => return Err(AllocError.into()),
         }
     }
     Ok(())
@@ -223,7 +223,7 @@ fn repetitions(rt: HostRuntime) -> Result<(), Fail> {
                     assert_eq!(rt; places.at(k as u64), Some(Point { x: *x, y: *y }));
                 }
             }
-            Err(Refusal::OutOfMemory) => return Err(AllocError.into()),
+            Err(Cause::OutOfMemory) => return Err(AllocError.into()),
             _ => assert!(rt; false, "no places"),
         }
     }
@@ -254,8 +254,8 @@ fn repetition_limits(rt: HostRuntime) -> Result<(), Fail> {
         match input(bytes).repetition(rt.alloc(), false) {
             Ok(Repetition::New(places)) => assert_eq!(rt; Ok(places.len()), want),
             Ok(Repetition::Modal) => assert!(rt; false, "nothing to use again"),
-            Err(Refusal::Breach(fault)) => assert_eq!(rt; Err(fault), want),
-            Err(Refusal::OutOfMemory) => return Err(AllocError.into()),
+            Err(Cause::Breach(fault)) => assert_eq!(rt; Err(fault), want),
+            Err(Cause::OutOfMemory) => return Err(AllocError.into()),
         }
     }
     Ok(())
@@ -273,7 +273,7 @@ fn places_in(places: &Repetition) -> u64 {
 }
 
 /// Reads a group, and gives a sum over its values.
-fn read_group<R: Read>(alloc: Global, values: &mut Input<R>) -> Result<u64, Refusal<ValueFault>> {
+fn read_group<R: Read>(alloc: Global, values: &mut Input<R>) -> Result<u64, Cause<ValueFault>> {
     let number = values.unsigned()?;
     let signed = values.signed()?;
     let ratio = values.real()? == Real::Ratio(2, 8);
@@ -316,7 +316,7 @@ fn reads_pieces_of_any_size_alike(rt: HostRuntime) -> Result<(), Fail> {
 fn check_failed<R: Read>(rt: &impl Abort, alloc: Global, values: &mut Input<R>) {
     let at = values.offset();
     let failed = ValueFault::Failed;
-    let refused = Err(Refusal::Breach(failed));
+    let refused = Err(Cause::Breach(failed));
     assert_eq!(rt; values.byte(), Err(failed));
     assert_eq!(rt; values.unsigned(), Err(failed));
     assert_eq!(rt; values.signed(), Err(failed));
@@ -334,11 +334,11 @@ fn check_failed<R: Read>(rt: &impl Abort, alloc: Global, values: &mut Input<R>) 
 fn reports_each_cut_and_each_failed_read(rt: HostRuntime) -> Result<(), Fail> {
     for k in 0..GROUP.len() {
         let mut cut = Input::new(Pieces::new(&GROUP[..k], 3), Ignore::NOTHING);
-        let fault = Err(Refusal::Breach(ValueFault::Truncated));
+        let fault = Err(Cause::Breach(ValueFault::Truncated));
         assert_eq!(rt; read_group(rt.alloc(), &mut cut), fault, "cut to {k}");
         check_failed(&rt, rt.alloc(), &mut cut);
         let mut failing = Input::new(Pieces::failing(&GROUP[..k], 3), Ignore::NOTHING);
-        let fault = Err(Refusal::Breach(ValueFault::Read));
+        let fault = Err(Cause::Breach(ValueFault::Read));
         assert_eq!(rt; read_group(rt.alloc(), &mut failing), fault, "after {k}");
         check_failed(&rt, rt.alloc(), &mut failing);
         assert_eq!(rt; failing.into_reader().errors, 1);
@@ -351,8 +351,8 @@ fn growths(rt: HostRuntime) -> Result<(), Fail> {
     let mut values = input(GROUP);
     match read_group(rt.alloc(), &mut values) {
         Ok(sum) => assert_eq!(rt; sum, 343_115),
-        Err(Refusal::Breach(_)) => assert!(rt; false, "no group"),
-        Err(Refusal::OutOfMemory) => {
+        Err(Cause::Breach(_)) => assert!(rt; false, "no group"),
+        Err(Cause::OutOfMemory) => {
             check_failed(&rt, rt.alloc(), &mut values);
             return Err(AllocError.into());
         }

@@ -6,7 +6,7 @@ use Rattle.std.proofs.lemmas.List.{take-append-drop, length-take, take-append-le
 use Rattle.std.specs.Prelude.{Option}
 use Rattle.std.specs.Borrow.{GName}
 use Rattle.lvl_io.specs.Bytes.{CountsFailure}
-use Rattle.lvl_refusal.specs.declared.Refusal.TheVariants.{Breach}
+use Rattle.lvl_refusal.specs.declared.Cause.TheVariants.{Breach}
 use Rattle.oasis_values.specs.Input.{in_hand, input_offset, has_failed, input_ignore, room_left}
 use Rattle.oasis_values.specs.declared.input.Input.{Input}
 use Rattle.std.specs.Io.KnownBytes.{prepend_known}

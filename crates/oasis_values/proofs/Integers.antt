@@ -115,7 +115,7 @@ groups_more : (b rest : List ℕ) → groups b ≤ groups (b ++ rest)
 groups_more [] rest = omega arith
 groups_more (z ∷ b) rest = let h = groups_more b rest in omega (arith, h)
 
--- where bytes tell that no integer begins with them, what is longer doesn't go on from them
+-- where bytes show that no integer begins with them, what is longer doesn't go on from them
 too_large_last : {i : Ignore} (c g m n : List ℕ) (y : ℕ) (q : IsTooLarge i c) → c ++ n ≡ g ++ (y ∷ m)
     → length q.front < length g → length g < most_bytes i → groups g < 2 ^ 64 → ⊥
 too_large_last c g m n y q e h few fits =
@@ -128,7 +128,7 @@ too_large_last c g m n y q e h few fits =
       | inr full ↦ omega (arith, full.1, size, length-append q.front (q.last ∷ []), h, few)
     ]
 
--- what tells that no integer begins with it begins none
+-- what shows that no integer begins with it begins none
 too_large_none : (i : Ignore) (b c m n : List ℕ) (x : ℕ) → IsInteger i b x → IsTooLarge i c → b ++ m ≡ c ++ n → ⊥
 too_large_none i b c m n x p q e =
     let h = fronts p.front q.front m n b c p.last q.last p.bytes q.bytes e in

@@ -3,7 +3,7 @@ use Rattle.std.proofs.Common.{◌≡◌, ℕ, suc, false, List, [], ◌∷◌, �
 use Rattle.std.proofs.Common.{Result, Ok, Err, refl, sym, ap, subst, append_assoc, append-nil}
 use Rattle.std.specs.Prelude.{Option}
 use Rattle.std.specs.Borrow.{GName}
-use Rattle.lvl_refusal.specs.declared.Refusal.{Refusal}
+use Rattle.lvl_refusal.specs.declared.Cause.{Cause}
 use Rattle.oasis_values.specs.Input.{has_failed}
 use Rattle.oasis_values.specs.Reads.{Reads}
 use Rattle.oasis_values.proofs.Reading.{reads_err, reads_then, reads_nothing, reads_seen, reads_seen_err}
@@ -13,9 +13,9 @@ use Rattle.oasis_values.specs.declared.fault.ValueFault.{ValueFault}
 use Rattle.oasis_values.specs.declared.input.Input.{Input}
 
 -- what the rest says, after what was said before it
-abbrev pub behind : {B E : Type 0} → List B → Result (List B) E → Result (List B) E
-behind said (Ok ys) = Ok (said ++ ys)
-behind said (Err e) = Err e
+abbrev pub later : {B E : Type 0} → List B → Result (List B) E → Result (List B) E
+later said (Ok ys) = Ok (said ++ ys)
+later said (Err e) = Err e
 
 -- n were wanted, the first as a says. The input was `first` then and is `now`; left are still to come, the next of them
 -- as b says, and said was said: whatever reads the rest reads the whole
@@ -23,13 +23,13 @@ pub record Going {R A B : Type 0} (remaining : R → Option (List ℕ)) (errors 
     (S : A → Spelling A) (show : A → B) (n : ℕ) (a : A) (first now : Input R) (left : ℕ)
     (b : A) (said : List B) : Type 0 where
   pub live : has_failed now ≡ false
-  pub goes : (new : Input R) (r : Result (List B) (Refusal ValueFault))
+  pub goes : (new : Input R) (r : Result (List B) (Cause ValueFault))
       → Reads remaining errors lent (Chain S show left b) now new r
-      → Reads remaining errors lent (Chain S show n a) first new (behind said r)
+      → Reads remaining errors lent (Chain S show n a) first new (later said r)
 
-behind_nothing : {B E : Type 0} (r : Result (List B) E) → behind [] r ≡ r
-behind_nothing (Ok ys) = refl
-behind_nothing (Err e) = refl
+after_nothing : {B E : Type 0} (r : Result (List B) E) → later [] r ≡ r
+after_nothing (Ok ys) = refl
+after_nothing (Err e) = refl
 
 pub going_start : {R A B : Type 0} {remaining : R → Option (List ℕ)} {errors : R → ℕ} {lent : R → List GName}
     (S : A → Spelling A) (show : A → B) (n : ℕ) (a : A) (first : Input R)
@@ -38,22 +38,22 @@ going_start {remaining = remaining} {errors = errors} {lent = lent} S show n a f
     record {
       live = live;
       goes = λ new r p. subst (λ q. Reads remaining errors lent (Chain S show n a) first new q)
-          (sym (behind_nothing r)) p;
+          (sym (after_nothing r)) p;
     }
 
 reads_after : {R A B : Type 0} {remaining : R → Option (List ℕ)} {errors : R → ℕ} {lent : R → List GName}
     (S : A → Spelling A) (show : A → B) (k : ℕ) (x : A) (old new : Input R)
-    (r : Result (List B) (Refusal ValueFault))
+    (r : Result (List B) (Cause ValueFault))
     → Reads remaining errors lent (Chain S show k x) old new r
     → Reads remaining errors lent (Then (Chain S show k x) (λ ys. Gives (Ok (show x ∷ ys)))) old new
-    (behind (show x ∷ []) r)
+    (later (show x ∷ []) r)
 reads_after S show k x old new (Ok ys) p = reads_seen (λ ys. show x ∷ ys) p
 reads_after S show k x old new (Err e) p = reads_seen_err (λ ys. show x ∷ ys) p
 
-behind_more : {B E : Type 0} (said : List B) (y : B) (r : Result (List B) E)
-    → behind said (behind (y ∷ []) r) ≡ behind (said ++ (y ∷ [])) r
-behind_more said y (Ok ys) = ap Ok (sym (append_assoc said (y ∷ []) ys))
-behind_more said y (Err e) = refl
+after_more : {B E : Type 0} (said : List B) (y : B) (r : Result (List B) E)
+    → later said (later (y ∷ []) r) ≡ later (said ++ (y ∷ [])) r
+after_more said y (Ok ys) = ap Ok (sym (append_assoc said (y ∷ []) ys))
+after_more said y (Err e) = refl
 
 going_next : {R A B : Type 0} {remaining : R → Option (List ℕ)} {errors : R → ℕ} {lent : R → List GName}
     (S : A → Spelling A) (show : A → B) (n : ℕ) (a : A) (first now mid : Input R) (k : ℕ)
@@ -64,8 +64,8 @@ going_next {remaining = remaining} {errors = errors} {lent = lent} S show n a fi
     record {
       live = p.failed;
       goes = λ new r q.
-          subst (λ s. Reads remaining errors lent (Chain S show n a) first new s) (behind_more said (show x) r)
-          (g.goes new (behind (show x ∷ []) r)
+          subst (λ s. Reads remaining errors lent (Chain S show n a) first new s) (after_more said (show x) r)
+          (g.goes new (later (show x ∷ []) r)
           (reads_then (λ y. Then (Chain S show k y) (λ ys. Gives (Ok (show y ∷ ys)))) p
           (reads_after S show k x mid new r q)));
     }
@@ -85,7 +85,7 @@ going_on {remaining = remaining} {errors = errors} {lent = lent} {S = S} {show =
 -- the next could not be read
 pub going_err : {R A B : Type 0} {remaining : R → Option (List ℕ)} {errors : R → ℕ} {lent : R → List GName}
     {S : A → Spelling A} {show : A → B} {n : ℕ} {a : A} {first now new : Input R}
-    {left : ℕ} {b : A} {said : List B} {e : Refusal ValueFault} (k : ℕ)
+    {left : ℕ} {b : A} {said : List B} {e : Cause ValueFault} (k : ℕ)
     → ((x : A) → IsCode (S x)) → Going remaining errors lent S show n a first now left b said → left ≡ suc k
     → Reads remaining errors lent (S b) now new (Err e)
     → Reads remaining errors lent (Chain S show n a) first new (Err e)

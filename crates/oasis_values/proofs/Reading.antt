@@ -8,8 +8,8 @@ use Rattle.std.specs.Borrow.{GName}
 use Rattle.lvl_io.specs.Bytes.{CountsFailure}
 use Rattle.lvl_io.specs.Spelling.{IsFront, IsBegun, CanSay, Then as ThenAlways}
 use Rattle.lvl_io.proofs.Spelling.{then_begun, then_goes_on, then_both, then_breached, breached_none}
-use Rattle.lvl_refusal.specs.declared.Refusal.{Refusal}
-use Rattle.lvl_refusal.specs.declared.Refusal.TheVariants.{Breach, OutOfMemory}
+use Rattle.lvl_refusal.specs.declared.Cause.{Cause}
+use Rattle.lvl_refusal.specs.declared.Cause.TheVariants.{Breach, OutOfMemory}
 use Rattle.lvl_ignore.specs.declared.ignore.Ignore.{Ignore}
 use Rattle.oasis_values.specs.Faults.{is_rule, is_read_fault, reader_failed}
 use Rattle.oasis_values.specs.Input.{input_offset, has_failed, input_ignore, input_reader, room_left}
@@ -117,13 +117,13 @@ fails_second S T room n had xs x f p h q =
     }
 
 -- the same error, of an answer of another type
-abbrev pub err_as : {A : Type 0} (B : Type 0) → Result A (Refusal ValueFault) → Result B (Refusal ValueFault)
+abbrev pub err_as : {A : Type 0} (B : Type 0) → Result A (Cause ValueFault) → Result B (Cause ValueFault)
 err_as B (Err e) = Err e
 err_as B (Ok x) = Err OutOfMemory
 
 -- a call that answered a fault, or that memory ran out, ends the whole
 pub reads_fault : {R A B : Type 0} {remaining : R → Option (List ℕ)} {errors : R → ℕ} {lent : R → List GName}
-    {S : Spelling A} (T : A → Spelling B) {old new : Input R} {e : Refusal ValueFault}
+    {S : Spelling A} (T : A → Spelling B) {old new : Input R} {e : Cause ValueFault}
     → ((x : A) (i : Ignore) → CanSay (T x i)) → Reads remaining errors lent S old new (Err e)
     → Reads remaining errors lent (Then S T) old new (Err e)
 reads_fault {A = A} {B = B} {S = S} T {old = old} {new = new} {e = Breach f} can p =
@@ -154,14 +154,14 @@ reads_fault {A = A} {B = B} {S = S} T {old = old} {e = OutOfMemory} can p =
     }
 
 pub reads_err : {R A B : Type 0} {remaining : R → Option (List ℕ)} {errors : R → ℕ} {lent : R → List GName}
-    {S : Spelling A} (T : A → Spelling B) {old new : Input R} {e : Refusal ValueFault}
+    {S : Spelling A} (T : A → Spelling B) {old new : Input R} {e : Cause ValueFault}
     → ((x : A) → IsCode (T x)) → Reads remaining errors lent S old new (Err e)
     → Reads remaining errors lent (Then S T) old new (Err e)
 reads_err T can p = reads_fault T (λ x. (can x).said) p
 
 answers_second : {A B : Type 0} (S : List ℕ → Result A ValueFault → Type 0)
     (T : A → List ℕ → Result B ValueFault → Type 0) (room n had m : ℕ) (xs : List ℕ) (x : A)
-    (r : Result B (Refusal ValueFault)) → IsFront S xs n (Ok x) → n ≤ room
+    (r : Result B (Cause ValueFault)) → IsFront S xs n (Ok x) → n ≤ room
     → Answers (T x) (room - n) had m (drop n xs) r → Answers (ThenAlways S T) room (n + had) (n + m) xs r
 answers_second S T room n had m xs x (Ok y) p h q = (front_second S T xs n m x (Ok y) p q.0, omega (arith, q.1))
 answers_second S T room n had m xs x (Err OutOfMemory) p h q = tt
@@ -169,7 +169,7 @@ answers_second S T room n had m xs x (Err (Breach f)) p h q = fails_second S T r
 
 -- a call that answered a value, and what the next call answered
 pub reads_then : {R A B : Type 0} {remaining : R → Option (List ℕ)} {errors : R → ℕ} {lent : R → List GName}
-    {S : Spelling A} (T : A → Spelling B) {old mid new : Input R} {x : A} {r : Result B (Refusal ValueFault)}
+    {S : Spelling A} (T : A → Spelling B) {old mid new : Input R} {x : A} {r : Result B (Cause ValueFault)}
     → Reads remaining errors lent S old mid (Ok x) → Reads remaining errors lent (T x) mid new r
     → Reads remaining errors lent (Then S T) old new r
 reads_then {errors = errors} {S = S} T {old = old} {mid = mid} {new = new} {x = x} {r = r} p q =
@@ -244,7 +244,7 @@ pub reads_seen : {R A B : Type 0} {remaining : R → Option (List ℕ)} {errors 
 reads_seen g {x = x} p = reads_then (λ y. Gives (Ok (g y))) p (reads_nothing (g x) p.failed)
 
 pub reads_seen_err : {R A B : Type 0} {remaining : R → Option (List ℕ)} {errors : R → ℕ} {lent : R → List GName}
-    {S : Spelling A} (g : A → B) {old new : Input R} {e : Refusal ValueFault}
+    {S : Spelling A} (g : A → B) {old new : Input R} {e : Cause ValueFault}
     → Reads remaining errors lent S old new (Err e) → Reads remaining errors lent (Seen g S) old new (Err e)
 reads_seen_err g p = reads_err (λ y. Gives (Ok (g y))) (λ y. gives_code) p
 
@@ -310,7 +310,7 @@ reads_seen_as {remaining = remaining} {errors = errors} {lent = lent} {S = S} g 
 
 -- what is read by one of several cases
 pub reads_case : {R A K : Type 0} {remaining : R → Option (List ℕ)} {errors : R → ℕ} {lent : R → List GName}
-    {old new : Input R} {r : Result A (Refusal ValueFault)}
+    {old new : Input R} {r : Result A (Cause ValueFault)}
     (T : K → Spelling A) (k j : K) → k ≡ j → Reads remaining errors lent (T j) old new r
     → Reads remaining errors lent (T k) old new r
 reads_case {remaining = remaining} {errors = errors} {lent = lent} {old = old} {new = new} {r = r} T k j e p =
@@ -318,7 +318,7 @@ reads_case {remaining = remaining} {errors = errors} {lent = lent} {old = old} {
 
 -- where a rule is breached, nothing is spelled by bytes that agree
 pub reads_refutes : {R A : Type 0} {remaining : R → Option (List ℕ)} {errors : R → ℕ} {lent : R → List GName}
-    {S : Spelling A} {old new : Input R} {r : Result A (Refusal ValueFault)}
+    {S : Spelling A} {old new : Input R} {r : Result A (Cause ValueFault)}
     → IsCode S → Reads remaining errors lent S old new r → Refutes remaining S old r
 reads_refutes {r = Ok y} code p = record { none = λ live xs k. tt }
 reads_refutes {r = Err OutOfMemory} code p = record { none = λ live xs k. tt }

@@ -1,13 +1,13 @@
 -- The faults of values, and what each says of the call that answered it.
 use Rattle.std.specs.Prelude.{Bool, true, false, List, Result, Ok, Err}
 use Rattle.std.specs.Global.{Vec}
-use Rattle.lvl_refusal.specs.declared.Refusal.{Refusal}
-use Rattle.lvl_refusal.specs.declared.Refusal.TheVariants.{Breach, OutOfMemory}
+use Rattle.lvl_refusal.specs.declared.Cause.{Cause}
+use Rattle.lvl_refusal.specs.declared.Cause.TheVariants.{Breach, OutOfMemory}
 use Rattle.oasis_values.specs.declared.fault.ValueFault.{ValueFault}
 use Rattle.oasis_values.specs.declared.fault.ValueFault.TheVariants.{Truncated, TooLong, Read, Failed}
 
 -- an answer of a call that takes no memory
-abbrev pub as_breach : {A : Type 0} → Result A ValueFault → Result A (Refusal ValueFault)
+abbrev pub as_breach : {A : Type 0} → Result A ValueFault → Result A (Cause ValueFault)
 as_breach (Ok x) = Ok x
 as_breach (Err f) = Err (Breach f)
 
@@ -24,12 +24,12 @@ is_read_fault Read = true
 is_read_fault f = false
 
 -- whether a call answered that the reader failed
-abbrev pub reader_failed : {A : Type 0} → Result A (Refusal ValueFault) → Bool
+abbrev pub reader_failed : {A : Type 0} → Result A (Cause ValueFault) → Bool
 reader_failed (Ok x) = false
 reader_failed (Err OutOfMemory) = false
 reader_failed (Err (Breach f)) = is_read_fault f
 
 -- what a list that was read holds
-abbrev pub items : {A : Type 0} → Result (Vec A) (Refusal ValueFault) → Result (List A) (Refusal ValueFault)
+abbrev pub items : {A : Type 0} → Result (Vec A) (Cause ValueFault) → Result (List A) (Cause ValueFault)
 items (Ok v) = Ok v.items
 items (Err e) = Err e

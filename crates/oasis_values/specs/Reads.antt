@@ -7,8 +7,8 @@ use Rattle.std.specs.Result.{is_err}
 use Rattle.std.specs.Borrow.{GName}
 use Rattle.lvl_io.specs.Bytes.{CountsFailure}
 use Rattle.lvl_io.specs.Spelling.{IsFront, IsBegun, NoneAgrees}
-use Rattle.lvl_refusal.specs.declared.Refusal.{Refusal}
-use Rattle.lvl_refusal.specs.declared.Refusal.TheVariants.{Breach, OutOfMemory}
+use Rattle.lvl_refusal.specs.declared.Cause.{Cause}
+use Rattle.lvl_refusal.specs.declared.Cause.TheVariants.{Breach, OutOfMemory}
 use Rattle.oasis_values.specs.Faults.{is_rule, reader_failed}
 use Rattle.oasis_values.specs.Input.{bytes_left, in_hand, input_offset, has_failed, input_ignore, input_reader}
 use Rattle.oasis_values.specs.Input.{room_left}
@@ -39,7 +39,7 @@ pub record Fails {A : Type 0} (S : List ℕ → Result A ValueFault → Type 0)
 
 -- what an answer says of the bytes left, where n of them were taken, had were read, and only room may be taken
 abbrev pub Answers : {A : Type 0} → (List ℕ → Result A ValueFault → Type 0) → ℕ → ℕ → ℕ → List ℕ
-    → Result A (Refusal ValueFault) → Type 0
+    → Result A (Cause ValueFault) → Type 0
 Answers S room had n xs (Ok x) = IsFront S xs n (Ok x) × (n ≤ room)
 Answers S room had n xs (Err OutOfMemory) = Unit {0}
 Answers S room had n xs (Err (Breach f)) = Fails S room had xs f
@@ -50,7 +50,7 @@ bytes_had old new = (input_offset new - input_offset old) + in_hand new
 
 -- a call that found the input old, left it new and answered r, for a reader that has `remaining`, `errors` and `lent`
 pub record Reads {R A : Type 0} (remaining : R → Option (List ℕ)) (errors : R → ℕ) (lent : R → List GName)
-    (S : Spelling A) (old new : Input R) (r : Result A (Refusal ValueFault)) : Type 0 where
+    (S : Spelling A) (old new : Input R) (r : Result A (Cause ValueFault)) : Type 0 where
   -- after a fault every call answers `Failed`, and no other call does
   pub again : has_failed old ≡ true → r ≡ Err (Breach Failed)
   pub fresh : has_failed old ≡ false → r ≢ Err (Breach Failed)
@@ -72,13 +72,13 @@ pub record Reads {R A : Type 0} (remaining : R → Option (List ℕ)) (errors : 
 
 -- what an answer says of the values that other bytes could spell: where a rule is breached, none agrees with these
 abbrev pub IsRefuted : {A : Type 0} → (List ℕ → Result A ValueFault → Type 0) → List ℕ
-    → Result A (Refusal ValueFault) → Type 0
+    → Result A (Cause ValueFault) → Type 0
 IsRefuted S xs (Ok x) = Unit {0}
 IsRefuted S xs (Err OutOfMemory) = Unit {0}
 IsRefuted {A = A} S xs (Err (Breach f)) = is_rule f ≡ true → (x : A) → NoneAgrees S xs (Ok x)
 
 -- the same of a call
 pub record Refutes {R A : Type 0} (remaining : R → Option (List ℕ)) (S : Spelling A) (old : Input R)
-    (r : Result A (Refusal ValueFault)) : Type 0 where
+    (r : Result A (Cause ValueFault)) : Type 0 where
   pub none : has_failed old ≡ false → (xs : List ℕ) → bytes_left remaining old ≡ Some xs
       → IsRefuted (S (input_ignore old)) xs r

@@ -1,7 +1,7 @@
 //! Why no value was given.
 ghost use Rattle.std.specs.Prelude.{◌≡◌};
 
-use lvl_refusal::Refusal;
+use lvl_refusal::Cause;
 use thiserror::Error;
 
 /// Why no value was given. After any of these every call but `offset` answers `Failed`.
@@ -52,12 +52,12 @@ pub enum ValueFault {
     NoModal,
 }
 
-impl From<ValueFault> for Refusal<ValueFault> {
-    ghost use Rattle.lvl_refusal.specs.declared.Refusal.TheVariants.{Breach};
+impl From<ValueFault> for Cause<ValueFault> {
+    ghost use Rattle.lvl_refusal.specs.declared.Cause.TheVariants.{Breach};
 
     ghost from_gives = { λ f e. e ≡ Breach f };
 
-    fn from(fault: ValueFault) -> Refusal<ValueFault> {
-        Refusal::Breach(fault)
+    fn from(fault: ValueFault) -> Cause<ValueFault> {
+        Cause::Breach(fault)
     }
 }

@@ -23,7 +23,7 @@ const HIGHEST_UNIT: u64 = 1 << 63;
 pub enum Leading {
     /// An integer, and of how many bytes.
     Whole(u64, usize),
-    /// As many bytes as tell that no integer begins with them.
+    /// How many bytes are enough to see that no integer begins with them.
     TooLarge(usize),
     /// The beginning of an integer.
     Unfinished,

@@ -9,7 +9,7 @@ use crate::fault::ValueFault;
 use crate::input::Input;
 use lvl_grid::Point;
 use lvl_io::Read;
-use lvl_refusal::Refusal;
+use lvl_refusal::Cause;
 use std::alloc::Global;
 
 /// What a point list is for.
@@ -176,7 +176,7 @@ impl<R: Read> Input<R> {
         &mut self,
         alloc: Global,
         purpose: Use,
-    ) -> Result<Vec<Point>, Refusal<ValueFault>>
+    ) -> Result<Vec<Point>, Cause<ValueFault>>
         ensures reads { Reads R.remaining R.read_errors R.lent (IsPointList purpose) self.old self.new (items result) }
         ensures none { Refutes R.remaining (IsPointList purpose) self.old (items result) }
     {
@@ -191,7 +191,7 @@ impl<R: Read> Input<R> {
         alloc: Global,
         purpose: Use,
         kind: ListType,
-    ) -> Result<Vec<Point>, Refusal<ValueFault>>
+    ) -> Result<Vec<Point>, Cause<ValueFault>>
         ensures reads { Reads R.remaining R.read_errors R.lent
             (IsListOf purpose kind) self.old self.new (items result) }
     {
@@ -207,7 +207,7 @@ impl<R: Read> Input<R> {
         purpose: Use,
         kind: ListType,
         count: usize,
-    ) -> Result<Vec<Point>, Refusal<ValueFault>>
+    ) -> Result<Vec<Point>, Cause<ValueFault>>
         requires live { has_failed self.old ≡ false }
         requires few { count ≤ 65536 }
         ensures reads { Reads R.remaining R.read_errors R.lent
@@ -215,7 +215,7 @@ impl<R: Read> Input<R> {
     {
         let Ok(mut points) = Vec::with_capacity(alloc, count + 2) else {
             self.stop();
-            return Err(Refusal::OutOfMemory);
+            return Err(Cause::OutOfMemory);
         };
         points.push_reserved(ORIGIN);
         let mut walk = start_of(kind);

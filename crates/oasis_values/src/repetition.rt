@@ -12,7 +12,7 @@ use crate::shift::Spacing;
 use lvl_grid::Point;
 use lvl_io::Read;
 use lvl_names::Offsets;
-use lvl_refusal::Refusal;
+use lvl_refusal::Cause;
 use std::alloc::{AllocError, Global};
 
 /// A repetition, as a record has it.
@@ -152,7 +152,7 @@ impl<R: Read> Input<R> {
         &mut self,
         alloc: Global,
         has_modal: bool,
-    ) -> Result<Repetition, Refusal<ValueFault>>
+    ) -> Result<Repetition, Cause<ValueFault>>
         ensures reads { Reads R.remaining R.read_errors R.lent (IsRepetition has_modal) self.old self.new result }
         ensures none { Refutes R.remaining (IsRepetition has_modal) self.old result }
     {
@@ -167,7 +167,7 @@ impl<R: Read> Input<R> {
     }
 
     // The modal repetition, if there is one.
-    fn modal(&mut self, has_modal: bool) -> Result<Repetition, Refusal<ValueFault>>
+    fn modal(&mut self, has_modal: bool) -> Result<Repetition, Cause<ValueFault>>
         ensures reads { Reads R.remaining R.read_errors R.lent (IsModal has_modal) self.old self.new result }
     {
         let again = self.known(modal(has_modal), ValueFault::NoModal)?;
@@ -175,7 +175,7 @@ impl<R: Read> Input<R> {
     }
 
     // Places along one step.
-    fn line(&mut self, spacing: Spacing) -> Result<Repetition, Refusal<ValueFault>>
+    fn line(&mut self, spacing: Spacing) -> Result<Repetition, Cause<ValueFault>>
         ensures reads { Reads R.remaining R.read_errors R.lent (IsLine spacing) self.old self.new result }
     {
         let number = self.unsigned()?;
@@ -184,7 +184,7 @@ impl<R: Read> Input<R> {
     }
 
     // So many places along one step.
-    fn line_of(&mut self, spacing: Spacing, count: u64) -> Result<Repetition, Refusal<ValueFault>>
+    fn line_of(&mut self, spacing: Spacing, count: u64) -> Result<Repetition, Cause<ValueFault>>
         requires some { 0 < count }
         requires few { count ≤ 16777216 }
         ensures reads { Reads R.remaining R.read_errors R.lent (IsLineOf spacing count) self.old self.new result }
@@ -195,7 +195,7 @@ impl<R: Read> Input<R> {
     }
 
     // Places along two steps.
-    fn matrix(&mut self, first: Spacing, second: Spacing) -> Result<Repetition, Refusal<ValueFault>>
+    fn matrix(&mut self, first: Spacing, second: Spacing) -> Result<Repetition, Cause<ValueFault>>
         ensures reads { Reads R.remaining R.read_errors R.lent (IsMatrix first second) self.old self.new result }
     {
         let columns = self.unsigned()?;
@@ -210,7 +210,7 @@ impl<R: Read> Input<R> {
         first: Spacing,
         second: Spacing,
         size: Size,
-    ) -> Result<Repetition, Refusal<ValueFault>>
+    ) -> Result<Repetition, Cause<ValueFault>>
         requires { IsSmall size }
         ensures reads { Reads R.remaining R.read_errors R.lent (IsMatrixOf first second size) self.old self.new result }
     {
@@ -240,7 +240,7 @@ impl<R: Read> Input<R> {
         alloc: Global,
         spacing: Spacing,
         gridded: bool,
-    ) -> Result<Repetition, Refusal<ValueFault>>
+    ) -> Result<Repetition, Cause<ValueFault>>
         ensures reads { Reads R.remaining R.read_errors R.lent (IsSpread spacing gridded) self.old self.new result }
     {
         let number = self.unsigned()?;
@@ -255,7 +255,7 @@ impl<R: Read> Input<R> {
         spacing: Spacing,
         gridded: bool,
         count: usize,
-    ) -> Result<Repetition, Refusal<ValueFault>>
+    ) -> Result<Repetition, Cause<ValueFault>>
         requires live { has_failed self.old ≡ false }
         requires few { count ≤ 1048576 }
         ensures reads { Reads R.remaining R.read_errors R.lent
@@ -283,14 +283,14 @@ impl<R: Read> Input<R> {
         spacing: Spacing,
         grid: u64,
         count: usize,
-    ) -> Result<Repetition, Refusal<ValueFault>>
+    ) -> Result<Repetition, Cause<ValueFault>>
         requires live { has_failed self.old ≡ false }
         requires few { count ≤ 1048576 }
         ensures reads { Reads R.remaining R.read_errors R.lent (AreShifts spacing count grid) self.old self.new result }
     {
         let Ok(mut shifts) = Vec::with_capacity(alloc, count + 1) else {
             self.stop();
-            return Err(Refusal::OutOfMemory);
+            return Err(Cause::OutOfMemory);
         };
         shifts.push_reserved(ORIGIN);
         let mut at = ORIGIN;
@@ -300,7 +300,7 @@ impl<R: Read> Input<R> {
         }
         let Ok(places) = listed(shifts) else {
             self.stop();
-            return Err(Refusal::OutOfMemory);
+            return Err(Cause::OutOfMemory);
         };
         Ok(Repetition::New(places))
     }

@@ -5,7 +5,7 @@ ghost use Rattle.oasis_values.specs.Texts.{any_length, character, least_length, 
 use crate::fault::ValueFault;
 use crate::input::Input;
 use lvl_io::Read;
-use lvl_refusal::Refusal;
+use lvl_refusal::Cause;
 use std::alloc::Global;
 
 /// The kinds of strings.
@@ -81,7 +81,7 @@ impl<R: Read> Input<R> {
         alloc: Global,
         kind: Text,
         most: usize,
-    ) -> Result<Vec<u8>, Refusal<ValueFault>>
+    ) -> Result<Vec<u8>, Cause<ValueFault>>
         ensures reads { Reads R.remaining R.read_errors R.lent (IsString kind most) self.old self.new (items result) }
         ensures none { Refutes R.remaining (IsString kind most) self.old (items result) }
     {
@@ -96,14 +96,14 @@ impl<R: Read> Input<R> {
         alloc: Global,
         kind: Text,
         len: usize,
-    ) -> Result<Vec<u8>, Refusal<ValueFault>>
+    ) -> Result<Vec<u8>, Cause<ValueFault>>
         requires { has_failed self.old ≡ false }
         ensures reads { Reads R.remaining R.read_errors R.lent
             (AreCharacters kind len) self.old self.new (items result) }
     {
         let Ok(mut text) = Vec::with_capacity(alloc, len) else {
             self.stop();
-            return Err(Refusal::OutOfMemory);
+            return Err(Cause::OutOfMemory);
         };
         for n in 0..len {
             let byte = self.character(kind)?;

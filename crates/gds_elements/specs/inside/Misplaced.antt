@@ -1,7 +1,7 @@
 -- What is said of a record that may not come where it is, and of one that breaches a rule.
 use Rattle.std.specs.Prelude.{◌≡◌, ℕ}
-use Rattle.lvl_refusal.specs.declared.Refusal.{Refusal}
-use Rattle.lvl_refusal.specs.declared.Refusal.TheVariants.{Breach, OutOfMemory}
+use Rattle.lvl_refusal.specs.declared.Cause.{Cause}
+use Rattle.lvl_refusal.specs.declared.Cause.TheVariants.{Breach, OutOfMemory}
 use Rattle.gds_elements.specs.Rules.{IsKnown}
 use Rattle.gds_elements.specs.declared.fault.Misplaced.{Misplaced}
 use Rattle.gds_elements.specs.declared.fault.Misplaced.TheVariants.{Unexpected, Unsupported}
@@ -14,7 +14,7 @@ abbrev pub IsMisplacement : ℕ → Misplaced → Type 0
 IsMisplacement k (Unexpected j) = (j ≡ k) × IsKnown k
 IsMisplacement k (Unsupported j) = (j ≡ k) × ¬ IsKnown k
 
-abbrev pub IsMisplaced : ℕ → Refusal ElementFault → Type 0
+abbrev pub IsMisplaced : ℕ → Cause ElementFault → Type 0
 IsMisplaced k (Breach (MisplacedRecord m)) = IsMisplacement k m
 IsMisplaced k (Breach (Rule r)) = ⊥
 IsMisplaced k OutOfMemory = ⊥
@@ -25,5 +25,5 @@ Broken P (MisplacedRecord m) = ⊥
 Broken P (Rule k) = P k
 
 -- the refusal by a rule
-abbrev pub breach : ElementRule → Refusal ElementFault
+abbrev pub breach : ElementRule → Cause ElementFault
 breach k = Breach (Rule k)

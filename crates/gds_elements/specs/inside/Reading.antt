@@ -14,7 +14,7 @@ use Rattle.gds_elements.specs.inside.Path.{IsPathRead}
 use Rattle.gds_elements.specs.inside.Sref.{IsSrefRead}
 use Rattle.gds_elements.specs.inside.Aref.{IsArefRead}
 use Rattle.gds_elements.specs.inside.Text.{IsTextRead}
-use Rattle.lvl_refusal.specs.declared.Refusal.{Refusal}
+use Rattle.lvl_refusal.specs.declared.Cause.{Cause}
 use Rattle.gds_elements.specs.declared.fault.ElementFault.{ElementFault}
 use Rattle.gds_elements.specs.declared.element.Drawn.{Drawn}
 use Rattle.gds_elements.specs.declared.element.Drawn.TheVariants.{Ring, Rings, Reference, Nothing}
@@ -69,10 +69,10 @@ IsStep (Open e) piece = IsReading e piece
 IsStep (Whole d) piece = IsWord an_element (kinds piece) × IsDrawn d piece
 
 -- the record is read after the others and breaches no rule, or is refused by one that it breaches
-abbrev pub Takes : List Rec → Rec → Result State (Refusal ElementFault) → Type 0
+abbrev pub Takes : List Rec → Rec → Result State (Cause ElementFault) → Type 0
 Takes piece r (Ok s) = HasRead s (piece ++ r ∷ []) × BreachesNone piece r
 Takes piece r (Err e) = Says e (ElementBreaches piece r)
 
-abbrev pub Steps : List Rec → Rec → Result Step (Refusal ElementFault) → Type 0
+abbrev pub Steps : List Rec → Rec → Result Step (Cause ElementFault) → Type 0
 Steps piece r (Ok s) = IsStep s (piece ++ r ∷ []) × BreachesNone piece r
 Steps piece r (Err e) = Says e (ElementBreaches piece r)

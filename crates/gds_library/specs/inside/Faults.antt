@@ -6,8 +6,8 @@ use Rattle.lvl_names.specs.Names.{IsName}
 use Rattle.gds_elements.specs.inside.Misplaced.{IsMisplacement}
 use Rattle.gds_elements.specs.declared.fault.ElementFault.{ElementFault}
 use Rattle.gds_elements.specs.declared.fault.ElementFault.TheVariants.{Misplaced as MisplacedInElement, Rule}
-use Rattle.lvl_refusal.specs.declared.Refusal.{Refusal}
-use Rattle.lvl_refusal.specs.declared.Refusal.TheVariants.{Breach, OutOfMemory}
+use Rattle.lvl_refusal.specs.declared.Cause.{Cause}
+use Rattle.lvl_refusal.specs.declared.Cause.TheVariants.{Breach, OutOfMemory}
 use Rattle.lvl_cells.specs.Building.{cell_limit}
 use Rattle.gds_library.specs.inside.Place.{after}
 use Rattle.gds_library.specs.declared.fault.GdsKind.{GdsKind}
@@ -25,7 +25,7 @@ abbrev pub lifted : ElementFault → GdsKind
 lifted (MisplacedInElement m) = Misplaced m
 lifted (Rule k) = Element k
 
-abbrev pub lifted_refusal : Refusal ElementFault → Refusal GdsKind
+abbrev pub lifted_refusal : Cause ElementFault → Cause GdsKind
 lifted_refusal (Breach f) = Breach (lifted f)
 lifted_refusal OutOfMemory = OutOfMemory
 

@@ -137,7 +137,7 @@ fn array_limits(rt: HostRuntime) -> Result<(), Fail> {
 }
 
 #[test]
-fn the_first_rule_is_told(rt: HostRuntime) -> Result<(), Fail> {
+fn the_first_rule_is_reported(rt: HostRuntime) -> Result<(), Fail> {
     let boundary: Line = (ty::BOUNDARY, Says::Nothing);
     let path: Line = (ty::PATH, Says::Nothing);
     let sref: Line = (ty::SREF, Says::Nothing);

@@ -27,7 +27,7 @@ pub record IsWalk (targets : List (Vec ℕ Global)) (marks : List Mark) (path : 
   pub once : IsDistinct nat_eq finished
   pub arcs : (k : ℕ) (v w : Visit) → slice_get path k ≡ Some v → slice_get path (k + 1) ≡ Some w
       → IsArc targets v.cell v.done w.cell
-  pub behind : (k : ℕ) (v : Visit) (j b : ℕ) → slice_get path k ≡ Some v → j < v.done → IsArc targets v.cell j b
+  pub later : (k : ℕ) (v : Visit) (j b : ℕ) → slice_get path k ≡ Some v → j < v.done → IsArc targets v.cell j b
       → Contains finished b
   pub falls : (i k j b : ℕ) → slice_get finished i ≡ Some k → IsArc targets k j b
       → (l : ℕ) × (l < i) × (slice_get finished l ≡ Some b)

@@ -37,16 +37,16 @@ pub record IsAlike (from : Option ℤ) (us vs : List Slab) (y : ℤ) : Type 0 wh
   pub same : (t : Square) → is_from from t.y ≡ true → t.y <ℤ y → slabs_cover us t ≡ slabs_cover vs t
 
 -- what the first bands on both sides say of the rows from one on
-abbrev pub IsTold : Option ℤ → List Slab → List Slab → Ahead → Type 0
-IsTold from us vs (Differ s side) = IsLeastAlone from us vs s side
-IsTold from us vs (Alike y) = IsAlike from us vs y
-IsTold from us vs Nothing = (us ≡ []) × (vs ≡ [])
+abbrev pub IsReported : Option ℤ → List Slab → List Slab → Ahead → Type 0
+IsReported from us vs (Differ s side) = IsLeastAlone from us vs s side
+IsReported from us vs (Alike y) = IsAlike from us vs y
+IsReported from us vs Nothing = (us ≡ []) × (vs ≡ [])
 
 -- the same of two bands alone, whose rows go on above the square
-abbrev pub IsToldByTwo : Option ℤ → Slab → Slab → Ahead → Type 0
-IsToldByTwo from b d (Differ s side) = (s.y <ℤ b.to) × (s.y <ℤ d.to) × IsLeastAlone from (b ∷ []) (d ∷ []) s side
-IsToldByTwo from b d (Alike y) = IsAlike from (b ∷ []) (d ∷ []) y
-IsToldByTwo from b d Nothing = ⊥
+abbrev pub IsReportedByTwo : Option ℤ → Slab → Slab → Ahead → Type 0
+IsReportedByTwo from b d (Differ s side) = (s.y <ℤ b.to) × (s.y <ℤ d.to) × IsLeastAlone from (b ∷ []) (d ∷ []) s side
+IsReportedByTwo from b d (Alike y) = IsAlike from (b ∷ []) (d ∷ []) y
+IsReportedByTwo from b d Nothing = ⊥
 
 -- the list without its first band, if that ends by row y
 abbrev pub ended_by : ℤ → List Slab → List Slab

@@ -51,7 +51,7 @@ pub record IsMerging (es : List Edge) (y : ℤ) (m : Merge) : Type 0 where
   pub begun : AllWithin (λ e. e.low ≤ℤ y) es 0 m.end
   pub ended : AllWithin (λ e. e.high ≤ℤ y) es 0 m.low
   pub ended_between : AllWithin (λ e. e.high ≤ℤ y) es m.fresh m.from
-  pub ended_behind : AllWithin (λ e. e.high ≤ℤ y) es m.alive m.first
+  pub ended_after : AllWithin (λ e. e.high ≤ℤ y) es m.alive m.first
   pub fresh_alive : AllWithin (λ e. y <ℤ e.high) es m.low m.fresh
   pub put_alive : AllWithin (λ e. y <ℤ e.high) es m.first m.end
   pub rising_fresh : RiseWithin es m.low m.fresh

@@ -9,17 +9,17 @@ use lvl_report::form;
 use std::alloc::{AllocError, Global};
 use std::test::Fail;
 
-fn told(alloc: Global, refusal: Refusal) -> Result<Vec<u8>, AllocError> {
+fn reported(alloc: Global, refusal: Refusal) -> Result<Vec<u8>, AllocError> {
     let answer: Result<Comparison, Refusal> = Err(refusal);
     form(alloc, &answer)
 }
 
 /// A path's fault in the second file, at the last offset of all.
-fn told_of_path(alloc: Global, fault: PathFault) -> Result<Vec<u8>, AllocError> {
+fn reported_of_path(alloc: Global, fault: PathFault) -> Result<Vec<u8>, AllocError> {
     let offset = 4_294_967_295;
     let kind = GdsKind::Element(ElementRule::Path(fault));
     let fault = FileFault::Gds(GdsFault { offset, kind });
-    told(alloc, Refusal::File(Side::Second, fault))
+    reported(alloc, Refusal::File(Side::Second, fault))
 }
 
 #[test]
@@ -29,7 +29,7 @@ fn faults_of_paths(rt: HostRuntime) -> Result<(), Fail> {
         (PathFault::FewPoints, "2 FewPoints"),
         (PathFault::OutOfRange, "7 OutOfRange"),
     ] {
-        let text = told_of_path(rt.alloc(), fault)?;
+        let text = reported_of_path(rt.alloc(), fault)?;
         let line = format!(in rt.alloc(); "refused: second: gds 21 Path {name} at 4294967295\n")?;
         assert_eq!(rt; text.as_slice(), line.as_bytes());
     }
@@ -41,9 +41,9 @@ fn names_as_bytes_and_memory(rt: HostRuntime) -> Result<(), Fail> {
     let from = Vec::from_slice(rt.alloc(), b"B")?;
     let name = Vec::from_slice(rt.alloc(), b"X\xFF")?;
     let missing = Refusal::Cells(Side::First, CellFault::MissingCell(from, name));
-    let text = told(rt.alloc(), missing)?;
+    let text = reported(rt.alloc(), missing)?;
     assert!(rt; text.as_slice() == b"refused: first: cells 3 MissingCell B X\xFF\n".as_slice());
-    let text = told(rt.alloc(), Refusal::OutOfMemory)?;
+    let text = reported(rt.alloc(), Refusal::OutOfMemory)?;
     assert!(rt; text.as_slice() == b"refused: out of memory\n".as_slice());
     Ok(())
 }

@@ -1,7 +1,7 @@
 -- What taking a record promises.
 use Rattle.std.specs.Prelude.{◌≡◌, Bool, true, false, ◌∷◌, List, Option, Result, IfOk, IfErr, OnOk, OnErr}
 use Rattle.lvl_refusal.specs.Refused.{Says}
-use Rattle.lvl_refusal.specs.declared.Refusal.{Refusal}
+use Rattle.lvl_refusal.specs.declared.Cause.{Cause}
 use Rattle.oasis_values.specs.declared.repetition.Repetition.{Repetition}
 use Rattle.oasis_records.specs.declared.record.Record.{Record}
 use Rattle.oasis_records.specs.declared.record.Record.TheVariants.{Placement, Rectangle, Polygon, Path, XyAbsolute}
@@ -15,7 +15,7 @@ use Rattle.oasis_figures.specs.declared.rule.FigureRule.{FigureRule}
 
 -- after each list of records that the variables stand for, the record draws this and breaches nothing, or breaches
 -- the rule
-pub record Takes (m : Modal) (r : Record) (result : Result (Option Drawn) (Refusal FigureRule)) (after : Modal)
+pub record Takes (m : Modal) (r : Record) (result : Result (Option Drawn) (Cause FigureRule)) (after : Modal)
     : Type 0 where
   pub drawn : IfOk result (λ d. (earlier : List Record) → StandsFor m earlier → IsDrawn earlier r d)
   pub places : IfOk result (λ d. (earlier : List Record) → StandsFor m earlier → PlacesFit (shifts_of earlier r) d)

@@ -1,20 +1,20 @@
 -- What a refusal says of the input while it is being read.
 use Rattle.std.specs.Prelude.{ℕ, List, Option}
-use Rattle.lvl_refusal.specs.declared.Refusal.{Refusal}
-use Rattle.lvl_refusal.specs.declared.Refusal.TheVariants.{Breach, OutOfMemory}
+use Rattle.lvl_refusal.specs.declared.Cause.{Cause}
+use Rattle.lvl_refusal.specs.declared.Cause.TheVariants.{Breach, OutOfMemory}
 use Rattle.lvl_ignore.specs.declared.ignore.Ignore.{Ignore}
 use Rattle.oasis_stream.specs.declared.fault.OasisKind.{OasisKind}
 use Rattle.oasis_stream.specs.inside.Refuses.{RefusesAt}
-use Rattle.oasis_library.specs.Ends.{TellsUnresolved}
+use Rattle.oasis_library.specs.Ends.{ReportsUnresolved}
 use Rattle.oasis_library.specs.declared.fault.OasisFault.{OasisFault}
 use Rattle.oasis_library.specs.declared.fault.OasisFault.TheVariants.{At, Unresolved}
 
 -- where the reader has these bytes left
 abbrev pub Refuses : Ignore → List ℕ → Option (List ℕ) → OasisFault → Type 0
 Refuses ignore xs left (At at k) = RefusesAt ignore xs left at k
-Refuses ignore xs left (Unresolved n) = TellsUnresolved ignore xs n
+Refuses ignore xs left (Unresolved n) = ReportsUnresolved ignore xs n
 
 -- the same refusal, at that offset
-abbrev pub refused_at : ℕ → Refusal OasisKind → Refusal OasisFault
+abbrev pub refused_at : ℕ → Cause OasisKind → Cause OasisFault
 refused_at at (Breach k) = Breach (At at k)
 refused_at at OutOfMemory = OutOfMemory

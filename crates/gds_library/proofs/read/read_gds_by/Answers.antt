@@ -1,10 +1,10 @@
 use Rattle.std.proofs.Common.{◌∙◌, rules}
-use Rattle.gds_library.proofs.Readable.{none_in_hand, refused_tells, refused_none, unread_left, early_left}
+use Rattle.gds_library.proofs.Readable.{none_in_hand, refused_reports, refused_none, unread_left, early_left}
 use Rattle.gds_library.proofs.read.read_gds_by.Goals as goal
 
 pub returns-clause-refused : goal.returns-clause-refused
 returns-clause-refused g c =
-    λ xs k. refused_tells c.args.ignore xs _ c.read_library-read.result
+    λ xs k. refused_reports c.args.ignore xs _ c.read_library-read.result
     (c.read_library-read.ensures.refused xs (none_in_hand _ _ _ c.with_buffer-records.ensures.bytes
     (c.in_ok-buffer.ensures.ok ∙ c.new.ensures) ∙ k))
 

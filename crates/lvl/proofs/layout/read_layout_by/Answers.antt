@@ -3,7 +3,7 @@ use Rattle.lvl.proofs.Spelling.{early_rest}
 use Rattle.lvl.proofs.layout.read_layout_by.Goals as goal
 
 pub returns-in_default-clause-refused : goal.returns-in_default-clause-refused
-returns-in_default-clause-refused g c xs known = c.unread.ensures.told c.args.ignore xs
+returns-in_default-clause-refused g c xs known = c.unread.ensures.reported c.args.ignore xs
 
 pub returns-clause-early : goal.returns-clause-early
 returns-clause-early g c xs known =

@@ -5,7 +5,7 @@ use Rattle.lvl_cells.specs.Coverage.{RingsCover}
 use Rattle.lvl_flat.specs.Sheet.{PlainSheet}
 use Rattle.lvl_flat.specs.Sheets.{rings_on}
 use Rattle.lvl_compare.specs.Flats.{IsLesser, head_layer}
-use Rattle.lvl_compare.proofs.Behind.{alike_absent, walked_none, walked_more, walked_all, walked_less, lesser_heads}
+use Rattle.lvl_compare.proofs.After.{alike_absent, walked_none, walked_more, walked_all, walked_less, lesser_heads}
 use Rattle.lvl_changed.specs.declared.windows.Windows.{Windows}
 use Rattle.lvl_changed.specs.inside.Shapes.{LayerAlike}
 use Rattle.lvl_changed.specs.inside.Windows.{Has}

@@ -1,5 +1,5 @@
 use Rattle.std.proofs.Common.{◌+◌, drop, length}
-use Rattle.lvl_compare.proofs.Behind.{IsWalked}
+use Rattle.lvl_compare.proofs.After.{IsWalked}
 use Rattle.lvl_changed.specs.inside.Shapes.{LayerAlike}
 use Rattle.lvl_changed.specs.inside.Windows.{Widens}
 use Rattle.lvl_changed.proofs.shapes.hold_flats.Given as goal

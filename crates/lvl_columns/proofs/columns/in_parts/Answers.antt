@@ -7,8 +7,8 @@ pub returns-clause-found : goal.returns-clause-found
 returns-clause-found c =
     let whole : Lists = (c.args.first.now, c.args.second.now) in
     let start : IsOpen whole (whole ∷ []) None = open_at_first c.args.first.now c.args.second.now in
-    let left = c.in_ok-part.ensures.told in
-    let right = c.in_ok-part-2.ensures.told in
-    first_at_last whole _ (right.told whole []
-    (left.told whole (right.column ∷ [])
+    let left = c.in_ok-part.ensures.reported in
+    let right = c.in_ok-part-2.ensures.reported in
+    first_at_last whole _ (right.reported whole []
+    (left.reported whole (right.column ∷ [])
     (open_by_parts whole [] whole left.column right.column _ None left.is_part right.is_part start)))

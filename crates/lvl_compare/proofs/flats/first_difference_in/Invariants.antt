@@ -1,7 +1,7 @@
 use Rattle.std.proofs.Common.{drop, length, ◌+◌}
 use Rattle.lvl_columns.specs.Windows.{window_of}
 use Rattle.lvl_compare.specs.Flats.{AlikeIn}
-use Rattle.lvl_compare.proofs.Behind.{IsWalked}
+use Rattle.lvl_compare.proofs.After.{IsWalked}
 use Rattle.lvl_compare.proofs.flats.first_difference_in.Given as goal
 
 -- the Layers that were passed are alike in the window

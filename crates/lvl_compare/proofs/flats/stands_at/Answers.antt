@@ -1,6 +1,6 @@
 use Rattle.std.proofs.Common.{◌≡◌, drop, Some, None, sym, ◌∙◌}
 use Rattle.lvl_compare.specs.Flats.{head_layer}
-use Rattle.lvl_compare.proofs.Behind.{head_is, tested_at}
+use Rattle.lvl_compare.proofs.After.{head_is, tested_at}
 use Rattle.lvl_compare.proofs.flats.stands_at.Goals as goal
 
 pub returns-in-Some : goal.returns-in-Some

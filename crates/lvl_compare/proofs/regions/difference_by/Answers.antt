@@ -6,8 +6,8 @@ use Rattle.lvl_region.specs.declared.region.Side.{Side}
 use Rattle.lvl_region.specs.Region.{SomeCovers, IsAlone}
 use Rattle.lvl_flat.specs.Sheets.{rings_on}
 use Rattle.lvl_compare.specs.Flats.{AlikeOn, IsLesser, head_layer}
-use Rattle.lvl_compare.proofs.Behind.{alike_absent, sorted_drop, walked_none, walked_more, walked_all, walked_before}
-use Rattle.lvl_compare.proofs.Behind.{walked_less, lesser_heads}
+use Rattle.lvl_compare.proofs.After.{alike_absent, sorted_drop, walked_none, walked_more, walked_all, walked_before}
+use Rattle.lvl_compare.proofs.After.{walked_less, lesser_heads}
 use Rattle.lvl_compare.proofs.regions.difference_by.Goals as goal
 
 pub loop-layer-init : goal.loop-layer-init

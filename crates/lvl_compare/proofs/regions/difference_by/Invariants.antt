@@ -1,6 +1,6 @@
 use Rattle.std.proofs.Common.{drop, length, ◌+◌}
 use Rattle.lvl_compare.specs.Flats.{AlikeOn}
-use Rattle.lvl_compare.proofs.Behind.{IsWalked}
+use Rattle.lvl_compare.proofs.After.{IsWalked}
 use Rattle.lvl_compare.proofs.regions.difference_by.Given as goal
 
 -- the Layers that were passed are alike

@@ -6,7 +6,7 @@ use Rattle.lvl_cells.specs.Cells.{PlainCell, Rings}
 use Rattle.lvl_cells.specs.Checks.{Settled}
 use Rattle.lvl_flat.specs.declared.visit.Visit.{Visit}
 use Rattle.lvl_flat.specs.inside.Entering.{IsDrawn, IsEnterFault}
-use Rattle.lvl_flat.specs.Flattened.{TellsName}
+use Rattle.lvl_flat.specs.Flattened.{ReportsName}
 use Rattle.lvl_flat.specs.inside.Steps.{IsInto, IsOut}
 use Rattle.lvl_flat.specs.inside.Walking.{AllHaveSheets, Everywhere, SheetsCover, IsWalking, work}
 use Rattle.lvl_flat.proofs.Walking.{in_last}
@@ -64,7 +64,7 @@ pub returns-in_err-draw_cell-in-Into-clause-err : goal.returns-in_err-draw_cell-
 returns-in_err-draw_cell-in-Into-clause-err c =
     let s : Settled = c.args.checked.now in
     let into : IsInto s.cells c.args.visit c.in-Into.place c.in-Into.map c.in-Into.rest = c.in-Into.ensures in
-    let told : Says c.in_err-draw_cell-in-Into.field-0.0 (IsEnterFault s.cells c.in-Into.place c.in-Into.map) =
+    let reported : Says c.in_err-draw_cell-in-Into.field-0.0 (IsEnterFault s.cells c.in-Into.place c.in-Into.map) =
     subst (λ cs. Says c.in_err-draw_cell-in-Into.field-0.0 (IsEnterFault cs c.in-Into.place c.in-Into.map))
     c.cells-cells.ensures.value c.in_err-draw_cell-in-Into.ensures.err in
     let p =
@@ -74,7 +74,7 @@ returns-in_err-draw_cell-in-Into-clause-err c =
     (entered_out s c.in-Into.place c.in-Into.map (λ name out. out_by_vertex s c.requires.top Everywhere
     (SheetsCover c.args.sheets.now.items) c.args.stack.now.items c.args.visit c.in-Into.place c.in-Into.map
     c.in-Into.rest name c.requires.way into out))
-    told)
+    reported)
 
 pub returns-in_ok-push_visit-in-Into-2-clause-walking : goal.returns-in_ok-push_visit-in-Into-2-clause-walking
 returns-in_ok-push_visit-in-Into-2-clause-walking c =
@@ -130,9 +130,9 @@ returns-in-Out-clause-err c =
     let one : cell ≡ out.next = cc in
     let name : c.deref.result.now ≡ out.next.name =
     c.deref.ensures.value ∙ ap (λ (b : PlainCell Rings). b.name) (c.cell.view_is ∙ one) in
-    Says-map (TellsName out.next.name) _ c.out_of_range.result
-    (λ f tells. names_out s out.next.name f tells
+    Says-map (ReportsName out.next.name) _ c.out_of_range.result
+    (λ f reports. names_out s out.next.name f reports
     (out_by_shift s c.requires.top Everywhere (SheetsCover c.args.sheets.now.items) c.args.stack.now.items
     c.args.visit c.in-Out.place
     c.requires.way out))
-    (subst (λ n. Says c.out_of_range.result (TellsName n)) name c.out_of_range.ensures)
+    (subst (λ n. Says c.out_of_range.result (ReportsName n)) name c.out_of_range.ensures)

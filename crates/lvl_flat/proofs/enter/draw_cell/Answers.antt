@@ -5,11 +5,11 @@ use Rattle.lvl_cells.specs.Cells.{PlainCell, Rings}
 use Rattle.lvl_flat.specs.inside.Drawn.{drawn_on, AreFiguresPlaced}
 use Rattle.lvl_flat.specs.Flattened.{FitShapes}
 use Rattle.lvl_flat.specs.Sheets.{HaveSheets, rings_on}
-use Rattle.lvl_flat.specs.Flattened.{TellsName}
+use Rattle.lvl_flat.specs.Flattened.{ReportsName}
 use Rattle.std.specs.Prelude.{◌++◌}
 use Rattle.lvl_refusal.specs.Refused.{Says}
 use Rattle.lvl_refusal.proofs.Saying.{Says-map}
-use Rattle.lvl_flat.proofs.UnderWay.{tells_entered}
+use Rattle.lvl_flat.proofs.UnderWay.{reports_entered}
 use Rattle.lvl_flat.proofs.enter.draw_cell.Goals as goal
 
 pub draw_shapes-requires-clause-layers : goal.draw_shapes-requires-clause-layers
@@ -50,10 +50,10 @@ returns-in-Err-OutOfRange-clause-err c =
     let shapes : c.cell.inside.shapes ≡ cell.shapes = ap (λ (b : PlainCell Rings). b.shapes) c.cell.view_is in
     let name : c.deref.result.now ≡ cell.name =
     c.deref.ensures.value ∙ ap (λ (b : PlainCell Rings). b.name) c.cell.view_is in
-    let tells : Says c.out_of_range.result (TellsName cell.name) =
-    subst (λ n. Says c.out_of_range.result (TellsName n)) name c.out_of_range.ensures in
+    let reports : Says c.out_of_range.result (ReportsName cell.name) =
+    subst (λ n. Says c.out_of_range.result (ReportsName n)) name c.out_of_range.ensures in
     let out : FitShapes c.args.map.now cell.shapes → ⊥ =
     subst (λ hs. FitShapes c.args.map.now hs → ⊥) shapes
     (c.in-Err-OutOfRange.ensures.out (ap Err c.in-Err-OutOfRange.field-0-is)) in
-    Says-map (TellsName cell.name) _ c.out_of_range.result
-    (tells_entered c.args.cells.now c.args.place c.args.map.now cell at out) tells
+    Says-map (ReportsName cell.name) _ c.out_of_range.result
+    (reports_entered c.args.cells.now c.args.place c.args.map.now cell at out) reports

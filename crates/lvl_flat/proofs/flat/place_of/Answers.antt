@@ -41,7 +41,7 @@ loop-low-preserved c =
     c.index-sheets-middle.is in
     let layer : c.sheet.inside.layer ≡ sheet.layer = ap (λ (s : PlainSheet). s.layer) c.sheet.view_is in
     let late : ComesBefore sheet.layer c.args.layer → ⊥ = λ b.
-    let told : IsTrue false =
+    let reported : IsTrue false =
     subst IsTrue c.if-comes_before.false
     (c.comes_before.ensures.1 (subst (λ (x : Layer). ComesBefore x c.args.layer) (sym layer) b)) in
     cc in

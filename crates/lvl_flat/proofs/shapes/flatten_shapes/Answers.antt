@@ -34,8 +34,8 @@ pub returns-in_err-draw_cell-clause-err : goal.returns-in_err-draw_cell-clause-e
 returns-in_err-draw_cell-clause-err c =
     let cell : PlainCell Rings = c.args.cell.now in
     let fault = c.in_err-draw_cell.field-0.0 in
-    let told : Says fault (IsEnterFault (cell ∷ []) 0 unmoved) =
+    let reported : Says fault (IsEnterFault (cell ∷ []) 0 unmoved) =
     subst (λ cs. Says fault (IsEnterFault cs 0 unmoved)) c.from_ref-alone.ensures.value
     c.in_err-draw_cell.ensures.err in
     let p = err_from_is_err_and c.from_residual-in_err-draw_cell.result c.from_residual-in_err-draw_cell.ensures.1 in
-    rw (p.1, p.2) (Says-map (IsEnterFault (cell ∷ []) 0 unmoved) _ fault (own_out cell) told)
+    rw (p.1, p.2) (Says-map (IsEnterFault (cell ∷ []) 0 unmoved) _ fault (own_out cell) reported)

@@ -7,7 +7,7 @@ use Rattle.lvl_cells.specs.Cells.{PlainCell, Rings}
 use Rattle.lvl_cells.specs.Checks.{Settled}
 use Rattle.lvl_flat.specs.declared.visit.Visit.{Visit}
 use Rattle.lvl_flat.specs.inside.Entering.{IsDrawnWithin, IsEnterFault}
-use Rattle.lvl_flat.specs.Flattened.{TellsName}
+use Rattle.lvl_flat.specs.Flattened.{ReportsName}
 use Rattle.lvl_flat.specs.inside.Steps.{IsInto, IsOut}
 use Rattle.lvl_flat.specs.inside.Walking.{AllHaveSheets, SheetsCover, IsWalkingWithin, work}
 use Rattle.lvl_flat.proofs.Walking.{in_last}
@@ -100,7 +100,8 @@ pub returns-in_err-draw_cell_within-in-Into-clause-err : goal.returns-in_err-dra
 returns-in_err-draw_cell_within-in-Into-clause-err c =
     let s : Settled = c.args.checked.now in
     let into : IsInto s.cells c.args.visit c.in-Into.index c.in-Into.map c.in-Into.rest = c.in-Into.ensures in
-    let told : Says c.in_err-draw_cell_within-in-Into.field-0.0 (IsEnterFault s.cells c.in-Into.index c.in-Into.map) =
+    let reported
+    : Says c.in_err-draw_cell_within-in-Into.field-0.0 (IsEnterFault s.cells c.in-Into.index c.in-Into.map) =
     subst (λ cs. Says c.in_err-draw_cell_within-in-Into.field-0.0 (IsEnterFault cs c.in-Into.index c.in-Into.map))
     c.cells-cells.ensures.value c.in_err-draw_cell_within-in-Into.ensures.err in
     let p =
@@ -112,7 +113,7 @@ returns-in_err-draw_cell_within-in-Into-clause-err c =
     c.args.window.now)
     (SheetsCover c.args.sheets.now.items) c.args.stack.now.items c.args.visit c.in-Into.index c.in-Into.map
     c.in-Into.rest name c.requires.walking.way into out))
-    told)
+    reported)
 
 pub returns-in_ok-push_visit-in-Into-3-clause-walking : goal.returns-in_ok-push_visit-in-Into-3-clause-walking
 returns-in_ok-push_visit-in-Into-3-clause-walking c =
@@ -169,9 +170,9 @@ returns-in-Out-clause-err c =
     let one : cell ≡ out.next = cc in
     let name : c.deref.result.now ≡ out.next.name =
     c.deref.ensures.value ∙ ap (λ (b : PlainCell Rings). b.name) (c.cell.view_is ∙ one) in
-    Says-map (TellsName out.next.name) _ c.out_of_range.result
-    (λ f tells. names_out s out.next.name f tells
+    Says-map (ReportsName out.next.name) _ c.out_of_range.result
+    (λ f reports. names_out s out.next.name f reports
     (out_by_shift s c.requires.walking.top (IsWithin c.args.window.now) (SheetsCover c.args.sheets.now.items)
     c.args.stack.now.items c.args.visit c.in-Out.index
     c.requires.walking.way out))
-    (subst (λ n. Says c.out_of_range.result (TellsName n)) name c.out_of_range.ensures)
+    (subst (λ n. Says c.out_of_range.result (ReportsName n)) name c.out_of_range.ensures)

@@ -28,12 +28,12 @@ returns-in_err-draw_cell_within-clause-err c =
     let at_top : Says fault (IsEnterFault c.cells-2.result.now s.top unmoved) =
     subst (λ i. Says fault (IsEnterFault c.cells-2.result.now i unmoved)) c.top-top.ensures.value
     c.in_err-draw_cell_within.ensures.err in
-    let told : Says fault (IsEnterFault s.cells s.top unmoved) =
+    let reported : Says fault (IsEnterFault s.cells s.top unmoved) =
     subst (λ cs. Says fault (IsEnterFault cs s.top unmoved)) c.cells-2.ensures.value at_top in
     let p = err_from_is_err_and c.from_residual-in_err-draw_cell_within.result
     c.from_residual-in_err-draw_cell_within.ensures.1 in
     rw (p.1, p.2) (Says-map (IsEnterFault s.cells s.top unmoved) _ fault
-    (entered_out s s.top unmoved (λ name out. top_out s settled.cell name settled.is out)) told)
+    (entered_out s s.top unmoved (λ name out. top_out s settled.cell name settled.is out)) reported)
 
 pub loop-visit-init : goal.loop-visit-init
 loop-visit-init c =

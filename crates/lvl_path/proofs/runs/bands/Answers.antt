@@ -5,8 +5,8 @@ use Rattle.lvl_path.specs.declared.band.Reach.{Reach}
 use Rattle.lvl_path.specs.declared.fault.PathFault.{PathFault}
 use Rattle.lvl_path.specs.declared.fault.PathFault.TheVariants.{NoWidth, FewPoints, Oblique, RepeatedPoint, TurnsBack}
 use Rattle.lvl_path.specs.declared.fault.PathFault.TheVariants.{ShortRun, OutOfRange}
-use Rattle.lvl_refusal.specs.declared.Refusal.{Refusal}
-use Rattle.lvl_refusal.specs.declared.Refusal.TheVariants.{Breach, OutOfMemory}
+use Rattle.lvl_refusal.specs.declared.Cause.{Cause}
+use Rattle.lvl_refusal.specs.declared.Cause.TheVariants.{Breach, OutOfMemory}
 use Rattle.lvl_refusal.specs.Refused.{Says}
 use Rattle.lvl_path.specs.Runs.{PathCovers, HasFault, IsLowestFault, IsPath, number}
 use Rattle.lvl_path.proofs.Covering.{rings_cover}
@@ -61,7 +61,7 @@ returns-clause-ok c =
     c.run_bands.ensures.fits
 
 lowest : (ps : List Point) (w : Reach) → ((fault : PathFault) → number fault < 7 → ¬ HasFault ps w fault)
-    → (refusal : Refusal PathFault) → Says refusal (λ fault. (fault ≡ OutOfRange) × HasFault ps w fault)
+    → (refusal : Cause PathFault) → Says refusal (λ fault. (fault ≡ OutOfRange) × HasFault ps w fault)
     → Says refusal (IsLowestFault ps w)
 lowest ps w none (Breach fault) (is, has) =
     record { breached = has; lowest = λ lower l. none lower (omega (arith, l, ap number is)) }

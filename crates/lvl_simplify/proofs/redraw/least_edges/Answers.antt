@@ -20,7 +20,7 @@ returns c =
     omega (arith, ints, c.in-Some.ensures, c.in-Ok.ensures, c.len.ensures) in
     let least : c.in-Some-checked_sub.least ≡ negsuc 0 -ℤ pos (length c.args.edges.inner.items) =
     omega (arith, ints, c.in-Some-checked_sub.ensures, c.in-Ok.ensures, c.len.ensures) in
-    let told : (y : ℤ) → ends_turning y c.in-Some-2.ends
+    let reported : (y : ℤ) → ends_turning y c.in-Some-2.ends
     ≡ within c.in-Some-checked_sub.least c.in-Some.most (turning y c.deref.result.now) =
     subst (λ (o : Option Ends). IfSome o (λ ends. (y : ℤ) → ends_turning y ends
     ≡ within c.in-Some-checked_sub.least c.in-Some.most (turning y c.deref.result.now))) c.in-Some-2.is
@@ -33,5 +33,5 @@ returns c =
     (λ o paired. IfSome_then o paired (λ us winds s.
     enough_edges s c.args.right c.in-Some-checked_sub.least c.in-Some.most us.items c.args.edges.inner.items
     (ends_turning s.y c.in-Some-2.ends) (turning s.y c.args.edges.turns.items) (winds s)
-    (told s.y ∙ ap (within c.in-Some-checked_sub.least c.in-Some.most) (same s.y)) most least))
+    (reported s.y ∙ ap (within c.in-Some-checked_sub.least c.in-Some.most) (same s.y)) most least))
     (rw r at c.paired.ensures)

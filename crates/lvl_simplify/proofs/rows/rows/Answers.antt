@@ -14,7 +14,7 @@ returns c =
     let at : All (IsAtBorder c.args.left c.args.right) c.args.ring.now =
     rw (l, r) at (c.is_at_borders.ensures (search rules)) in
     IfOk-weaker c.rows_between.result _ _
-    (λ o told. IfSome_then o told (λ windows within s.
+    (λ o reported. IfSome_then o reported (λ windows within s.
     covers_rows c.args.left c.args.right c.args.ring.now s c.in_ok-turns.turns.items c.deref.result.now windows.items
     wide at (rw (l, r) at (c.in_ok-turns.ensures s))
     (rw c.deref.ensures.value c.sort_unstable_by_key.ensures.permutation) (within s)))

@@ -10,12 +10,13 @@ use Rattle.lvl_simplify.proofs.simplify.push_shorter.Goals as goal
 
 pub returns-in-Some : goal.returns-in-Some
 returns-in-Some c =
-    let told : (s : Square) → Covers c.args.ring.now s ↔ Covers c.in-Some.shorter s =
+    let reported : (s : Square) → Covers c.args.ring.now s ↔ Covers c.in-Some.shorter s =
     subst (λ (o : Option Ring). IfSome o (λ other. (s : Square) → Covers c.args.ring.now s ↔ Covers other s))
     c.in-Some.is c.in_ok-shorter.ensures in
     on_ok_weaker c.push_ring.result
     (λ e s.
-    same_pushed (any_pushed (λ ring. Covers ring s) c.args.rings.now c.push_ring.new.self c.in-Some.shorter e) (told s))
+    same_pushed (any_pushed (λ ring. Covers ring s) c.args.rings.now c.push_ring.new.self c.in-Some.shorter e)
+    (reported s))
     c.push_ring.ensures.ok
 
 pub returns : goal.returns

@@ -4,8 +4,8 @@ use Rattle.lvl_simplify.proofs.simplify.simplified.Goals as goal
 pub returns : goal.returns
 returns c =
     IfOk-weaker c.joined.result _ _
-    (λ list told s. (
-      λ a. (c.in_ok-all_shorter.ensures s).0 ((told s).0 a),
-      λ a. (told s).1 ((c.in_ok-all_shorter.ensures s).1 a),
+    (λ list reported s. (
+      λ a. (c.in_ok-all_shorter.ensures s).0 ((reported s).0 a),
+      λ a. (reported s).1 ((c.in_ok-all_shorter.ensures s).1 a),
     ))
     c.joined.ensures

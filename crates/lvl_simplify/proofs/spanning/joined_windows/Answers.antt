@@ -19,11 +19,11 @@ returns c = λ s.
     let all : take c.loop-window.window-index c.deref-window-items.result.now ≡ sorted =
     take_all c.loop-window.window-index c.deref-window-items.result.now c.loop-window-test.false
     ∙ c.deref-window-items.ensures.value in
-    let told : IsWithinSome c.loop-window.joined.items s ↔ IsWithinSome sorted s =
+    let reported : IsWithinSome c.loop-window.joined.items s ↔ IsWithinSome sorted s =
     subst (λ (ws : List Window). IsWithinSome c.loop-window.joined.items s ↔ IsWithinSome ws s) all
     (c.loop-window.invariant s) in
     let moved = c.sort_unstable_by_key.ensures.permutation in (
       λ a. any_permuted (λ window. IsWithin window s) sorted c.args.windows.items
-          (IsPermutation-sym c.args.windows.items sorted moved) (told.0 a),
-      λ a. told.1 (any_permuted (λ window. IsWithin window s) c.args.windows.items sorted moved a),
+          (IsPermutation-sym c.args.windows.items sorted moved) (reported.0 a),
+      λ a. reported.1 (any_permuted (λ window. IsWithin window s) c.args.windows.items sorted moved a),
     )

@@ -17,12 +17,13 @@ returns-in-Some c = λ s.
 
 pub returns-in-Some-2 : goal.returns-in-Some-2
 returns-in-Some-2 c = λ s.
-    let told : (s : Square) → Covers c.args.ring.now s ↔ IsWithinSome c.in-Some-2.rows.items s =
+    let reported : (s : Square) → Covers c.args.ring.now s ↔ IsWithinSome c.in-Some-2.rows.items s =
     subst (λ (o : Option (Vec Window Global)). IfSome o (λ windows. (s : Square) → Covers c.args.ring.now s
     ↔ IsWithinSome windows.items s)) c.in-Some-2.is c.in_ok-rows.ensures in
     rows_more
     (any_appended (λ window. IsWithin window s) c.args.windows.now.items c.in-Some-2.rows.items
-    c.extend_from_slice.new.self.items (rw c.deref.ensures.value at c.in_ok-extend_from_slice.ensures.items)) (told s)
+    c.extend_from_slice.new.self.items (rw c.deref.ensures.value at c.in_ok-extend_from_slice.ensures.items))
+    (reported s)
 
 pub returns : goal.returns
 returns c =

@@ -14,6 +14,6 @@ returns-clause-merging c =
       back = c.exchange.ensures.back;
       before = c.exchange.ensures.before;
       between = c.exchange.ensures.between;
-      behind = c.exchange.ensures.behind;
+      later = c.exchange.ensures.later;
     })
     refl refl refl refl refl refl

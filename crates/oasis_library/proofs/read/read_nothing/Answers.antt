@@ -1,5 +1,5 @@
 use Rattle.std.proofs.Common.{drop, refl, sym, ◌∙◌, ap, subst, Err}
-use Rattle.lvl_refusal.specs.declared.Refusal.TheVariants.{Breach}
+use Rattle.lvl_refusal.specs.declared.Cause.TheVariants.{Breach}
 use Rattle.oasis_values.specs.Input.{input_ignore, input_offset, input_reader}
 use Rattle.oasis_values.specs.Reads.{bytes_had}
 use Rattle.oasis_values.specs.declared.fault.ValueFault.{ValueFault}

@@ -1,10 +1,10 @@
 use Rattle.std.proofs.Common.{◌∙◌, rules}
-use Rattle.oasis_library.proofs.Readable.{refused_tells, refused_none, unread_left, early_left}
+use Rattle.oasis_library.proofs.Readable.{refused_reports, refused_none, unread_left, early_left}
 use Rattle.oasis_library.proofs.read.read_oasis_by.Goals as goal
 
 pub returns-clause-refused : goal.returns-clause-refused
 returns-clause-refused g c =
-    λ xs k. refused_tells c.args.ignore xs _ c.read_library-read.result
+    λ xs k. refused_reports c.args.ignore xs _ c.read_library-read.result
     (rw c.new-input.ensures.ignore at (c.read_library-read.ensures.refused xs (c.new-input.ensures.bytes ∙ k)))
 
 pub returns-clause-none : goal.returns-clause-none

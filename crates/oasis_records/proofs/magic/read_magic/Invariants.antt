@@ -1,5 +1,5 @@
 use Rattle.std.proofs.Common.{◌≡◌, ◌<◌, false, drop, Result}
-use Rattle.lvl_refusal.specs.declared.Refusal.{Refusal}
+use Rattle.lvl_refusal.specs.declared.Cause.{Cause}
 use Rattle.oasis_values.specs.Input.{has_failed}
 use Rattle.oasis_values.specs.Reads.{Reads}
 use Rattle.oasis_values.specs.declared.fault.ValueFault.{ValueFault}
@@ -12,6 +12,6 @@ use Rattle.oasis_records.proofs.magic.read_magic.Given as goal
 abbrev pub invariant-loop-n : goal.invariant-loop-n
 invariant-loop-n g l =
     (0 < l.n → has_failed l.input ≡ false)
-    × ((new : Input g.row.R.Denot) (r : Result (Result (Unit {0}) RecordRule) (Refusal ValueFault))
+    × ((new : Input g.row.R.Denot) (r : Result (Result (Unit {0}) RecordRule) (Cause ValueFault))
     → Reads g.R.Read.remaining g.R.Read.read_errors g.R.Read.lent (AreMagicBytes (drop l.n magic)) l.input new r
     → Reads g.R.Read.remaining g.R.Read.read_errors g.R.Read.lent (AreMagicBytes magic) l.initial.input new r)

@@ -4,7 +4,7 @@ use Rattle.lvl_columns.proofs.columns.Progress.finish.Given as goal
 
 abbrev pub invariant-loop-column : goal.invariant-loop-column
 invariant-loop-column l = record {
-  told : (whole : Lists) (others : List Lists)
+  reported : (whole : Lists) (others : List Lists)
       → IsOpen whole (others ++ map lists_of l.fn.self.pending.items) l.fn.self.best
       → IsOpen whole (others ++ map lists_of l.self.pending.items) l.self.best;
   limit : KeepsLimit l.fn.self l.self;

@@ -5,16 +5,16 @@ use Rattle.lvl_columns.specs.Columns.{lists_of, IsOpen}
 use Rattle.lvl_columns.proofs.columns.Progress.part.Goals as goal
 
 -- src/columns.rt:112:5
-pub returns-clause-told : goal.returns-clause-told
-returns-clause-told c =
+pub returns-clause-reported : goal.returns-clause-reported
+returns-clause-reported c =
     let column : Column = record { first = c.in_ok-clipped.field-0; second = c.in_ok-clipped-2.field-0; depth = 1 } in
     let pushed : c.push.new.self.items ≡ column ∷ [] = rw c.requires.none at c.in_ok-push.ensures.items in
     on_ok_weaker c.finish.result
     (λ h. record {
       column = lists_of column;
       is_part = λ s. (c.in_ok-clipped.ensures s, c.in_ok-clipped-2.ensures s);
-      told = λ whole others told. h whole others
+      reported = λ whole others reported. h whole others
           (subst (λ (cs : List Column). IsOpen whole (others ++ map lists_of cs) c.args.self.now.best) (sym pushed)
-          told);
+          reported);
     })
-    c.finish.ensures.told
+    c.finish.ensures.reported

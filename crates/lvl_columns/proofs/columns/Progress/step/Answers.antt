@@ -4,14 +4,14 @@ use Rattle.lvl_columns.specs.Columns.{Lists, lists_of}
 use Rattle.lvl_columns.proofs.Halving.{one_more, open_by_none, open_by_halves}
 use Rattle.lvl_columns.proofs.columns.Progress.step.Goals as goal
 
-pub returns-then-is_same-clause-told : goal.returns-then-is_same-clause-told
-returns-then-is_same-clause-told c = λ whole others told.
+pub returns-then-is_same-clause-reported : goal.returns-then-is_same-clause-reported
+returns-then-is_same-clause-reported c = λ whole others reported.
     open_by_none whole (others ++ map lists_of c.args.self.now.pending.items) c.args.column.first c.args.column.second
     c.args.self.now.best
-    (c.if-is_same.ensures.0 cc) told
+    (c.if-is_same.ensures.0 cc) reported
 
-pub returns-in-Some-clause-told : goal.returns-in-Some-clause-told
-returns-in-Some-clause-told c = λ whole others told.
+pub returns-in-Some-clause-reported : goal.returns-in-Some-clause-reported
+returns-in-Some-clause-reported c = λ whole others reported.
     let left : Column = c.in_ok-left.left in
     let right : Column = c.in_ok-left.right in
     let old : List Column = c.args.self.now.pending.items in
@@ -22,4 +22,4 @@ returns-in-Some-clause-told c = λ whole others told.
     ∙ ap (λ (ls : List Lists). ls ++ lists_of left ∷ []) (one_more others old right) in
     rw (items, c.in_ok-cut.ensures.best)
     (open_by_halves whole (others ++ map lists_of old) c.args.column.first c.args.column.second left right _
-    c.args.self.now.best c.in_ok-left.ensures told)
+    c.args.self.now.best c.in_ok-left.ensures reported)

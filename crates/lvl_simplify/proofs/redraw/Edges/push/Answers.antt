@@ -17,10 +17,10 @@ returns-then-from-right c =
     let old = c.args.self.now in
     let at : c.args.from.x ≡ c.args.right = grind (arith, ints) in
     on_ok_weaker c.push_turns.result
-    (λ told s le.
+    (λ reported s le.
     more_first (winding_by s old.inner.items) _ _ (winds s c.args.from.x c.args.from.y c.args.to.y)
     (border_pushed s c.args.right c.args.from c.args.to (turning s.y old.turns.items)
-    (turning s.y c.push_turns.new.turns.items) at (told s.y)))
+    (turning s.y c.push_turns.new.turns.items) at (reported s.y)))
     (rw (to_z-of_z w64 _ c.ranges.right) at c.push_turns.ensures)
 
 pub returns : goal.returns
@@ -30,7 +30,8 @@ returns c =
     let from_fits : FitsSigned w64 c.args.from.y = search rules in
     let to_fits : FitsSigned w64 c.args.to.y = search rules in
     on_ok_weaker c.push_upright.result
-    (λ told s le.
+    (λ reported s le.
     added_inside (winding_by s c.push_upright.new.uprights.items) (winding_by s old.inner.items)
-    (if_right s c.args.right (turning s.y old.turns.items)) (winds s c.args.from.x c.args.from.y c.args.to.y) (told s))
+    (if_right s c.args.right (turning s.y old.turns.items)) (winds s c.args.from.x c.args.from.y c.args.to.y)
+    (reported s))
     (rw (to_z-of_z w64 _ x_fits, to_z-of_z w64 _ from_fits, to_z-of_z w64 _ to_fits) at c.push_upright.ensures)

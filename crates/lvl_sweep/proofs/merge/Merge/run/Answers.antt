@@ -7,7 +7,7 @@ loop-self-preserved c = record {
   merging = c.step.ensures.merging;
   permutation = IsPermutation-trans c.args.edges.now c.loop-self.edges c.step.new.edges
       c.loop-self.invariant.permutation c.step.ensures.permutation;
-  behind = λ k d le. c.step.ensures.behind k d (rw c.loop-self.invariant.end le) ∙ c.loop-self.invariant.behind k d le;
+  later = λ k d le. c.step.ensures.later k d (rw c.loop-self.invariant.end le) ∙ c.loop-self.invariant.later k d le;
   end = c.step.ensures.end ∙ c.loop-self.invariant.end;
   top =
       λ b h. rw c.loop-self.invariant.end at (c.step.ensures.top b

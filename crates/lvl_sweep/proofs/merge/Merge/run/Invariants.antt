@@ -7,7 +7,7 @@ abbrev pub invariant-loop-self : goal.invariant-loop-self
 invariant-loop-self l = record {
   merging : IsMerging l.edges l.y l.self;
   permutation : IsPermutation l.fn.edges l.edges;
-  behind : IsSameFrom l.fn.edges l.edges l.fn.self.end;
+  later : IsSameFrom l.fn.edges l.edges l.fn.self.end;
   end : l.self.end ≡ l.fn.self.end;
   top : (b : Option ℤ) → IsEndOf l.fn.edges l.fn.self.first l.fn.self.end b l.fn.self.top
       → IsEndOf l.edges l.self.first l.fn.self.end b l.self.top;

@@ -1,7 +1,7 @@
 use Rattle.std.proofs.Common.{◌≡◌, length, w64, arith, refl}
 use Rattle.std.proofs.lemmas.Int.{to_z-of_z}
 use Rattle.std.proofs.lemmas.List.Sorted.{length_permutation}
-use Rattle.lvl_sweep.proofs.Merges.{put_fresh, put_active, left_behind, end_front}
+use Rattle.lvl_sweep.proofs.Merges.{put_fresh, put_active, left_after, end_front}
 use Rattle.lvl_sweep.proofs.merge.Merge.step.Goals as goal
 
 pub returns-then-is_fresh_last-clause-merging : goal.returns-then-is_fresh_last-clause-merging
@@ -49,6 +49,6 @@ returns-then-reaches_above-clause-top c = λ b h.
 pub returns-else-reaches_above-clause-merging : goal.returns-else-reaches_above-clause-merging
 returns-else-reaches_above-clause-merging c =
     let last = c.is_fresh_last.ensures.active c.if-is_fresh_last.false in
-    left_behind c.args.edges.now c.args.y c.args.self.now _ c.requires.merging last
+    left_after c.args.edges.now c.args.y c.args.self.now _ c.requires.merging last
     (rw (to_z-of_z w64 c.args.y c.ranges.y) at (c.reaches_above.ensures.ended c.if-reaches_above.false)) refl refl
     refl (omega (arith, last.0)) refl refl

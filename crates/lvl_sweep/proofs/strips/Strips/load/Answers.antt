@@ -29,7 +29,7 @@ returns-clause-at c =
     (rw c.deref-2.ensures.value at c.begins_at-begins.ensures)
     (rw is moved)
     c.renew-merge.ensures.within
-    (rw is (rw c.deref_mut.ensures.value at c.renew-merge.ensures.behind))
+    (rw is (rw c.deref_mut.ensures.value at c.renew-merge.ensures.later))
     (rw is (rw (to_z-of_z w64 _ c.ranges.y) at c.renew-merge.ensures.ended))
     (rw is (rw (to_z-of_z w64 _ c.ranges.y) at c.renew-merge.ensures.begun))
     (rw is (rw (to_z-of_z w64 _ c.ranges.y) at c.renew-merge.ensures.alive))

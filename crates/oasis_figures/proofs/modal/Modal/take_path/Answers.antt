@@ -2,7 +2,7 @@ use Rattle.std.proofs.Common.{◌≡◌, ◌∙◌, List, Some, Err, refl, sym, 
 use Rattle.std.specs.Prelude.{All}
 use Rattle.lvl_grid.specs.Turn.{FitsPoint, shifted}
 use Rattle.lvl_grid.specs.declared.point.Point.{Point}
-use Rattle.lvl_refusal.specs.declared.Refusal.TheVariants.{Breach}
+use Rattle.lvl_refusal.specs.declared.Cause.TheVariants.{Breach}
 use Rattle.oasis_figures.specs.Modal.{modal, path_set, repetition_set}
 use Rattle.oasis_figures.specs.declared.rule.FigureRule.TheVariants.{Extension}
 use Rattle.oasis_figures.specs.inside.Extents.{reaches}

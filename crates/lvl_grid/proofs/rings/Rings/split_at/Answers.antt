@@ -5,8 +5,8 @@ use Rattle.std.proofs.lemmas.List.{take_more, take_all}
 use Rattle.lvl_grid.specs.declared.point.Point.{Point}
 use Rattle.lvl_grid.specs.declared.part.Part.TheVariants.{Left, Right}
 use Rattle.lvl_grid.specs.Winding.{SomeCovers}
-use Rattle.lvl_grid.proofs.Clipped.{clip_more, WithOthers}
-use Rattle.lvl_grid.proofs.rings.Rings.split_into.Goals as goal
+use Rattle.lvl_grid.proofs.Clipped.{clip_more, of_none, WithOthers}
+use Rattle.lvl_grid.proofs.rings.Rings.split_at.Goals as goal
 
 pub loop-i-preserved : goal.loop-i-preserved
 loop-i-preserved c =
@@ -21,14 +21,14 @@ loop-i-preserved c =
       left = λ s.
           subst
           (λ (rs : List (List Point)).
-          SomeCovers c.push_split.new.left s ↔ WithOthers (Left at) c.args.left.now rs s) (sym done)
-          (clip_more (Left at) c.args.left.now (take i all) c.loop-i.left c.push_split.new.left ring s
+          SomeCovers c.push_split.new.left s ↔ WithOthers (Left at) [] rs s) (sym done)
+          (clip_more (Left at) [] (take i all) c.loop-i.left c.push_split.new.left ring s
           (c.loop-i.invariant.left s) (c.in_ok-push_split.ensures.left s));
       right = λ s.
           subst
           (λ (rs : List (List Point)).
-          SomeCovers c.push_split.new.right s ↔ WithOthers (Right at) c.args.right.now rs s) (sym done)
-          (clip_more (Right at) c.args.right.now (take i all) c.loop-i.right c.push_split.new.right ring s
+          SomeCovers c.push_split.new.right s ↔ WithOthers (Right at) [] rs s) (sym done)
+          (clip_more (Right at) [] (take i all) c.loop-i.right c.push_split.new.right ring s
           (c.loop-i.invariant.right s) (c.in_ok-push_split.ensures.right s));
     }
 
@@ -38,11 +38,13 @@ all_seen c = take_all c.loop-i.i c.args.self.now (omega (arith, c.loop-i-test.fa
 pub returns-clause-left : goal.returns-clause-left
 returns-clause-left c = λ s.
     let fits : FitsSigned w64 c.args.at = c.ranges.at in
-    subst (λ (rs : List (List Point)). SomeCovers c.loop-i.left s ↔ WithOthers (Left c.args.at) c.args.left.now rs s)
-    (all_seen c) (rw (to_z-of_z w64 _ fits) at (c.loop-i.invariant.left s))
+    of_none (Left c.args.at) c.args.self.now c.loop-i.left s
+    (subst (λ (rs : List (List Point)). SomeCovers c.loop-i.left s ↔ WithOthers (Left c.args.at) [] rs s) (all_seen c)
+    (rw (to_z-of_z w64 _ fits) at (c.loop-i.invariant.left s)))
 
 pub returns-clause-right : goal.returns-clause-right
 returns-clause-right c = λ s.
     let fits : FitsSigned w64 c.args.at = c.ranges.at in
-    subst (λ (rs : List (List Point)). SomeCovers c.loop-i.right s ↔ WithOthers (Right c.args.at) c.args.right.now rs s)
-    (all_seen c) (rw (to_z-of_z w64 _ fits) at (c.loop-i.invariant.right s))
+    of_none (Right c.args.at) c.args.self.now c.loop-i.right s
+    (subst (λ (rs : List (List Point)). SomeCovers c.loop-i.right s ↔ WithOthers (Right c.args.at) [] rs s) (all_seen c)
+    (rw (to_z-of_z w64 _ fits) at (c.loop-i.invariant.right s)))

@@ -1,7 +1,7 @@
 -- What a call says of the next item of a file.
 use Rattle.std.specs.Prelude.{Result, Ok, Err}
-use Rattle.lvl_refusal.specs.declared.Refusal.{Refusal}
-use Rattle.lvl_refusal.specs.declared.Refusal.TheVariants.{Breach, OutOfMemory}
+use Rattle.lvl_refusal.specs.declared.Cause.{Cause}
+use Rattle.lvl_refusal.specs.declared.Cause.TheVariants.{Breach, OutOfMemory}
 use Rattle.oasis_values.specs.declared.fault.ValueFault.{ValueFault}
 use Rattle.oasis_records.specs.declared.fault.RecordFault.{RecordFault}
 use Rattle.oasis_records.specs.declared.fault.RecordFault.TheVariants.{Value as OfValue, Rule}
@@ -11,30 +11,30 @@ use Rattle.oasis_stream.specs.declared.fault.OasisKind.{OasisKind}
 use Rattle.oasis_stream.specs.declared.fault.OasisKind.TheVariants.{Value, Record as OfRecord}
 
 -- a fault of values is one of the input; any other is a rule that is breached by what was read
-abbrev pub of_kind : OasisKind → Result (Result Item OasisKind) (Refusal ValueFault)
+abbrev pub of_kind : OasisKind → Result (Result Item OasisKind) (Cause ValueFault)
 of_kind (Value f) = Err (Breach f)
 of_kind k = Ok (Err k)
 
 -- what a call answered that reads a record, as an answer of the input
-abbrev pub told_record : Result Record (Refusal OasisKind) → Result (Result Item OasisKind) (Refusal ValueFault)
-told_record (Ok r) = Ok (Ok (item r))
-told_record (Err OutOfMemory) = Err OutOfMemory
-told_record (Err (Breach k)) = of_kind k
+abbrev pub reported_record : Result Record (Cause OasisKind) → Result (Result Item OasisKind) (Cause ValueFault)
+reported_record (Ok r) = Ok (Ok (item r))
+reported_record (Err OutOfMemory) = Err OutOfMemory
+reported_record (Err (Breach k)) = of_kind k
 
 -- the same answer, with a fault of a record as one of the file
 abbrev pub kind_of : RecordFault → OasisKind
 kind_of (OfValue f) = Value f
 kind_of (Rule k) = OfRecord k
 
-abbrev pub of_fault : Result Record (Refusal RecordFault) → Result Record (Refusal OasisKind)
+abbrev pub of_fault : Result Record (Cause RecordFault) → Result Record (Cause OasisKind)
 of_fault (Ok r) = Ok r
 of_fault (Err OutOfMemory) = Err OutOfMemory
 of_fault (Err (Breach f)) = Err (Breach (kind_of f))
 
 -- what a call answered that reads the magic string
-abbrev pub told_magic : Result (Unit {0}) OasisKind → Result (Result Item OasisKind) (Refusal ValueFault)
-told_magic (Ok u) = Ok (Ok magic)
-told_magic (Err k) = of_kind k
+abbrev pub reported_magic : Result (Unit {0}) OasisKind → Result (Result Item OasisKind) (Cause ValueFault)
+reported_magic (Ok u) = Ok (Ok magic)
+reported_magic (Err k) = of_kind k
 
 abbrev pub of_magic_fault : Result (Unit {0}) RecordFault → Result (Unit {0}) OasisKind
 of_magic_fault (Ok u) = Ok u

@@ -11,7 +11,7 @@ use Rattle.lvl_flat.specs.Sheets.{rings_on, AreSorted}
 use Rattle.lvl_names.specs.Layers.{same_layer, ComesBefore}
 use Rattle.lvl_flat.proofs.Orders.{sorted_tail}
 use Rattle.lvl_names.proofs.Layers.{before_trans, before_itself, layers_equal, tested_layer, same_is, differs_is}
-use Rattle.lvl_compare.specs.Flats.{AlikeOn, head_layer, behind, IsLesser}
+use Rattle.lvl_compare.specs.Flats.{AlikeOn, head_layer, later, IsLesser}
 
 pub head_is : (flat : List PlainSheet) (n : ℕ) → slice_get (map (λ s. s.layer) flat) n ≡ head_layer (drop n flat)
 head_is [] zero = refl
@@ -19,23 +19,23 @@ head_is [] (suc n) = refl
 head_is (s ∷ flat) zero = refl
 head_is (s ∷ flat) (suc n) = head_is flat n
 
-behind_head : (us : List PlainSheet) (l : Layer) → head_layer us ≡ Some l → behind l us ≡ drop 1 us
-behind_head [] l e = refl
-behind_head (s ∷ us) l e = let same : s.layer ≡ l = cc in rw (same_is s.layer l same) refl
+after_head : (us : List PlainSheet) (l : Layer) → head_layer us ≡ Some l → later l us ≡ drop 1 us
+after_head [] l e = refl
+after_head (s ∷ us) l e = let same : s.layer ≡ l = cc in rw (same_is s.layer l same) refl
 
-pub behind_other : (us : List PlainSheet) (l : Layer) → (head_layer us ≡ Some l → ⊥) → behind l us ≡ us
-behind_other [] l e = refl
-behind_other (s ∷ us) l e = rw (differs_is s.layer l (λ same. e (ap Some same))) refl
+pub after_other : (us : List PlainSheet) (l : Layer) → (head_layer us ≡ Some l → ⊥) → later l us ≡ us
+after_other [] l e = refl
+after_other (s ∷ us) l e = rw (differs_is s.layer l (λ same. e (ap Some same))) refl
 
 drop_none : (n : ℕ) → drop {A = PlainSheet} n [] ≡ []
 drop_none zero = refl
 drop_none (suc n) = refl
 
-pub drop_behind : (flat : List PlainSheet) (n : ℕ) (l : Layer) → head_layer (drop n flat) ≡ Some l
-    → drop (n + 1) flat ≡ behind l (drop n flat)
-drop_behind flat n l e = sym (drop-drop 1 n flat) ∙ sym (behind_head (drop n flat) l e)
+pub drop_after : (flat : List PlainSheet) (n : ℕ) (l : Layer) → head_layer (drop n flat) ≡ Some l
+    → drop (n + 1) flat ≡ later l (drop n flat)
+drop_after flat n l e = sym (drop-drop 1 n flat) ∙ sym (after_head (drop n flat) l e)
 
-pub past_all : (flat : List PlainSheet) (n : ℕ) (l : Layer) → length flat ≤ n → drop n flat ≡ behind l (drop n flat)
+pub past_all : (flat : List PlainSheet) (n : ℕ) (l : Layer) → length flat ≤ n → drop n flat ≡ later l (drop n flat)
 past_all [] n l h = rw (drop_none n) refl
 past_all (s ∷ flat) zero l h = absurd (omega (arith, h))
 past_all (s ∷ flat) (suc n) l h = past_all flat n l (omega (arith, h))
@@ -66,10 +66,10 @@ among_or_none l (s ∷ us) =
     ] refl
 
 -- what is among the sheets is among those after a Layer, or is that Layer
-among_behind : (l m : Layer) (us : List PlainSheet) → Among l us → Among l (behind m us) ⊎ (l ≡ m)
-among_behind l m [] a = absurd a
-among_behind l m (s ∷ us) a =
-    elim (same_layer s.layer m) as (λ t. same_layer s.layer m ≡ t → Among l (behind m (s ∷ us)) ⊎ (l ≡ m)) [
+among_after : (l m : Layer) (us : List PlainSheet) → Among l us → Among l (later m us) ⊎ (l ≡ m)
+among_after l m [] a = absurd a
+among_after l m (s ∷ us) a =
+    elim (same_layer s.layer m) as (λ t. same_layer s.layer m ≡ t → Among l (later m (s ∷ us)) ⊎ (l ≡ m)) [
       | true ↦ λ e. rw e (elim a [ inl h ↦ inr (sym h ∙ tested_layer s.layer m (rw e refl)) | inr b ↦ inl b ])
       | false ↦ λ e. rw e (inl a)
     ] refl
@@ -123,14 +123,14 @@ sorted_drop (suc n) (s ∷ us) p = sorted_drop n us (sorted_tail s us p)
 
 -- one Layer further, where both are alike on it
 pub walked_more : (alike : Layer → Type 0) (us vs : List PlainSheet) (m : Layer) → IsWalked alike us vs → alike m
-    → IsWalked alike (behind m us) (behind m vs)
+    → IsWalked alike (later m us) (later m vs)
 walked_more alike us vs m w passed l =
     let here : l ≡ m → alike l = λ e. subst alike (sym e) passed in
     elim (w l) [
       | inl x ↦ inl x
       | inr x ↦ elim x [
-        | inl y ↦ elim (among_behind l m us y) [ inl z ↦ inr (inl z) | inr z ↦ inl (here z) ]
-        | inr y ↦ elim (among_behind l m vs y) [ inl z ↦ inr (inr z) | inr z ↦ inl (here z) ]
+        | inl y ↦ elim (among_after l m us y) [ inl z ↦ inr (inl z) | inr z ↦ inl (here z) ]
+        | inr y ↦ elim (among_after l m vs y) [ inl z ↦ inr (inr z) | inr z ↦ inl (here z) ]
       ]
     ]
 
@@ -216,28 +216,28 @@ walked_before alike (s ∷ us) (t ∷ vs) m l ours theirs w e before =
       ]
     ]
 
-behind_shorter : (m : Layer) (us : List PlainSheet) → length (behind m us) ≤ length us
-behind_shorter m [] = omega arith
-behind_shorter m (s ∷ us) =
-    elim (same_layer s.layer m) as (λ t. same_layer s.layer m ≡ t → length (behind m (s ∷ us)) ≤ length (s ∷ us)) [
+after_shorter : (m : Layer) (us : List PlainSheet) → length (later m us) ≤ length us
+after_shorter m [] = omega arith
+after_shorter m (s ∷ us) =
+    elim (same_layer s.layer m) as (λ t. same_layer s.layer m ≡ t → length (later m (s ∷ us)) ≤ length (s ∷ us)) [
       | true ↦ λ e. rw e (omega arith)
       | false ↦ λ e. rw e (omega arith)
     ] refl
 
-behind_less : (m : Layer) (s : PlainSheet) (us : List PlainSheet) → s.layer ≡ m
-    → length (behind m (s ∷ us)) < length (s ∷ us)
-behind_less m s us e = rw (same_is s.layer m e) (omega arith)
+after_less : (m : Layer) (s : PlainSheet) (us : List PlainSheet) → s.layer ≡ m
+    → length (later m (s ∷ us)) < length (s ∷ us)
+after_less m s us e = rw (same_is s.layer m e) (omega arith)
 
 -- and less is left
 pub walked_less : (us vs : List PlainSheet) (m : Layer) → IsLesser (head_layer us) (head_layer vs) (Some m)
-    → length (behind m us) + length (behind m vs) < length us + length vs
+    → length (later m us) + length (later m vs) < length us + length vs
 walked_less [] [] m e = cc
-walked_less [] (t ∷ vs) m e = let at : t.layer ≡ m = cc in omega (arith, behind_less m t vs at)
-walked_less (s ∷ us) [] m e = let at : s.layer ≡ m = cc in omega (arith, behind_less m s us at)
+walked_less [] (t ∷ vs) m e = let at : t.layer ≡ m = cc in omega (arith, after_less m t vs at)
+walked_less (s ∷ us) [] m e = let at : s.layer ≡ m = cc in omega (arith, after_less m s us at)
 walked_less (s ∷ us) (t ∷ vs) m (inl e) =
-    let f = e.0 in let at : s.layer ≡ m = cc in omega (arith, behind_less m s us at, behind_shorter m (t ∷ vs))
+    let f = e.0 in let at : s.layer ≡ m = cc in omega (arith, after_less m s us at, after_shorter m (t ∷ vs))
 walked_less (s ∷ us) (t ∷ vs) m (inr e) =
-    let f = e.0 in let at : t.layer ≡ m = cc in omega (arith, behind_less m t vs at, behind_shorter m (s ∷ us))
+    let f = e.0 in let at : t.layer ≡ m = cc in omega (arith, after_less m t vs at, after_shorter m (s ∷ us))
 
 -- what the lesser of the Layers at two places says of the sheets from there on
 pub lesser_heads : (a b : List PlainSheet) (i j : ℕ) (p q r m : Option Layer) → p ≡ slice_get (map (λ s. s.layer) a) i
