@@ -6,6 +6,8 @@
 #[cfg(test)]
 mod layouts;
 #[cfg(test)]
+mod made;
+#[cfg(test)]
 mod pairs;
 #[cfg(test)]
 mod views;

@@ -109,6 +109,26 @@ fn difference_text(
     Ok(found_text(alloc, found)?)
 }
 
+/// Whether these are the windows in which both libraries may differ.
+fn changes_within(alloc: Global, [ours, theirs]: [&str; 2], windows: &str) -> Result<bool, Fail> {
+    let first = fitted(alloc, ours)?;
+    let second = fitted(alloc, theirs)?;
+    Ok(changed_text(alloc, &first, &second)?.as_str() == windows)
+}
+
+fn are_same_by_cells(alloc: Global, [ours, theirs]: [&str; 2]) -> Result<bool, Fail> {
+    let first = fitted(alloc, ours)?;
+    let second = fitted(alloc, theirs)?;
+    Ok(same_by_cells(alloc, &first, &second)?)
+}
+
+/// Whether this is the first square that differs.
+fn differs_by(alloc: Global, [ours, theirs]: [&str; 2], want: &str) -> Result<bool, Fail> {
+    let first = fitted(alloc, ours)?;
+    let second = fitted(alloc, theirs)?;
+    Ok(difference_text(alloc, &first, &second, 1 << 20)?.as_str() == want)
+}
+
 #[test]
 fn pairs_of_libraries(rt: HostRuntime) -> Result<(), Fail> {
     let alloc = rt.alloc();
@@ -117,14 +137,14 @@ fn pairs_of_libraries(rt: HostRuntime) -> Result<(), Fail> {
         let (ours, row) = cut(row, " | ");
         let (theirs, row) = cut(row, " |");
         let (windows, want) = cut(row, " | ");
-        let first = fitted(alloc, ours)?;
-        let second = fitted(alloc, theirs)?;
-        let places = changed_text(alloc, &first, &second)?;
-        assert_eq!(rt; places.as_str(), windows, "{name}");
-        let same = same_by_cells(alloc, &first, &second)?;
-        assert_eq!(rt; same, windows.is_empty(), "{name}");
-        let found = difference_text(alloc, &first, &second, 1 << 20)?;
-        assert_eq!(rt; found.as_str(), want, "{name}");
+        let pair = [ours, theirs];
+        assert!(rt; changes_within(alloc, pair, windows)?, "{name}");
+        assert_eq!(rt;
+            are_same_by_cells(alloc, pair)?,
+            windows.is_empty(),
+            "{name}"
+        );
+        assert!(rt; differs_by(alloc, pair, want)?, "{name}");
     }
     Ok(())
 }

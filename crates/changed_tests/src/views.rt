@@ -8,7 +8,7 @@ use lvl_grid::{Square, Window};
 use lvl_names::Layer;
 use lvl_region::Side;
 use lvl_view::View;
-use std::alloc::Global;
+use std::alloc::{AllocError, Global};
 use std::test::Fail;
 
 const METAL: Layer = Layer {
@@ -27,11 +27,56 @@ two layers joined, one box less | T A,0,8,0 B,90,1,0; A 0..2; B 0..2 2..4 | \
 two layers exchanged | T A,0,8,0; A 0..2@2 4..5 | T A,0,8,0; A 0..2 4..5@2 | 1/0=2/0,2/0=1/0 | | -
 ";
 
-fn under(alloc: Global, first: &Fitted, second: &Fitted, view: &View) -> Result<String, Fail> {
+fn changed_text(
+    alloc: Global,
+    first: &Fitted,
+    second: &Fitted,
+    view: &View,
+) -> Result<String, AllocError> {
     match changed(alloc, first, second, view)? {
-        Some(windows) => Ok(windows_text(alloc, windows)?),
-        None => Ok(String::from_str(alloc, " anywhere")?),
+        Some(windows) => windows_text(alloc, windows),
+        None => String::from_str(alloc, " anywhere"),
     }
+}
+
+/// Whether these are the windows in which both libraries may differ under the view.
+fn changes_within(
+    alloc: Global,
+    ours: &str,
+    theirs: &str,
+    view: &View,
+    windows: &str,
+) -> Result<bool, Fail> {
+    let first = fitted(alloc, ours)?;
+    let second = fitted(alloc, theirs)?;
+    Ok(changed_text(alloc, &first, &second, view)?.as_str() == windows)
+}
+
+/// What is found by changes, if strips of the plane find the same.
+fn found_under(
+    alloc: Global,
+    first: &Fitted,
+    second: &Fitted,
+    view: &View,
+) -> Result<String, AllocError> {
+    let found = difference_by_changes(alloc, first, second, view, 1 << 20)?;
+    if found != difference_by_strips(alloc, first, second, view, 1 << 20)? {
+        return String::from_str(alloc, "not what strips find");
+    }
+    found_text(alloc, found)
+}
+
+/// Whether this is the first square that differs under the view.
+fn differs_by(
+    alloc: Global,
+    ours: &str,
+    theirs: &str,
+    view: &View,
+    want: &str,
+) -> Result<bool, Fail> {
+    let first = fitted(alloc, ours)?;
+    let second = fitted(alloc, theirs)?;
+    Ok(found_under(alloc, &first, &second, view)?.as_str() == want)
 }
 
 #[test]
@@ -43,18 +88,12 @@ fn maps_of_layers(rt: HostRuntime) -> Result<(), Fail> {
         let (theirs, row) = cut(row, " | ");
         let (map, row) = cut(row, " |");
         let (windows, want) = cut(row, " | ");
-        let first = fitted(alloc, ours)?;
-        let second = fitted(alloc, theirs)?;
         let view = View::read(alloc, Some(map), None)?;
-        let places = under(alloc, &first, &second, &view)?;
-        assert_eq!(rt; places.as_str(), windows, "{name}");
-        let found = difference_by_changes(alloc, &first, &second, &view, 1 << 20)?;
-        assert_eq!(rt;
-            found,
-            difference_by_strips(alloc, &first, &second, &view, 1 << 20)?,
+        assert!(rt;
+            changes_within(alloc, ours, theirs, &view, windows)?,
             "{name}"
         );
-        assert_eq!(rt; found_text(alloc, found)?.as_str(), want, "{name}");
+        assert!(rt; differs_by(alloc, ours, theirs, &view, want)?, "{name}");
     }
     Ok(())
 }
