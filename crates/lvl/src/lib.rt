@@ -37,6 +37,4 @@ mod layout;
 mod show;
 mod shown;
 mod side;
-#[cfg(test)]
-mod tests;
 mod verdict;

@@ -33,6 +33,24 @@ corners_in_all P ks h = record {
   };
 }
 
+-- the corners are those of all sets of the same squares
+pub corners_same : (P Q : Square → Type 0) (span : Span) (ks : List Corner) → ((s : Square) → P s ↔ Q s)
+    → AreCornersIn P span ks → AreCornersIn Q span ks
+corners_same P Q span ks same h = record {
+  covered = h.covered;
+  is_covered = λ s. (λ t. (same s).0 ((h.is_covered s).0 t), λ q. (h.is_covered s).1 ((same s).1 q));
+  bounded = h.bounded;
+  rising = h.rising;
+  each = h.each;
+}
+
+-- a half of a column is a half of what the column covers
+pub half_of : (A C P H : Type 0) → (H ↔ (A × C)) → (C ↔ P) → H ↔ (A × P)
+half_of A C P H half column = (
+  λ h. ((half.0 h).0, column.0 (half.0 h).1),
+  λ both. half.1 (both.0, column.1 both.1),
+)
+
 -- the squares left of an abscissa, and those from one before it on
 pub record AreHalves (P L R : Square → Type 0) (at : ℤ) : Type 0 where
   pub left : (s : Square) → L s ↔ ((s.x <ℤ at) × P s)

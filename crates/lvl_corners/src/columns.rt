@@ -9,10 +9,10 @@ ghost use Rattle.lvl_corners.specs.declared.corner.Corner.{Corner as GridCorner}
 ghost use Rattle.lvl_corners.specs.Corners.{AreCornersOf, FitsCorner};
 ghost use Rattle.lvl_corners.specs.inside.Spans.{AreCornersIn, KeepsBudget, paid, spanned, whole};
 
+use crate::cut::column_cut;
 use crate::send::send_swept;
 use crate::sink::CornerSink;
 use crate::span::Span;
-use lvl_columns::cut_at;
 use lvl_grid::{Part, Rings};
 use lvl_simplify::simplified;
 use std::alloc::{AllocError, Global};
@@ -67,8 +67,7 @@ fn cut_of(
     if depth >= DEPTH || !budget.has_two() {
         return Ok(None);
     }
-    let nothing = Rings::new(alloc);
-    let Some(at) = cut_at(alloc, rings, &nothing, depth)? else {
+    let Some(at) = column_cut(alloc, rings, depth)? else {
         return Ok(None);
     };
     if !span.has_around(at) {
@@ -135,6 +134,38 @@ fn send_column<S: CornerSink>(
     Ok(())
 }
 
+/// Hands on the corners of what some ring covers in a part, at the abscissas of a span, as [`send_column`].
+/// The rings stay, so the part is clipped once more for its right half: no more is held at a time than the
+/// rings, the part, and half of it.
+fn send_part<S: CornerSink>(
+    alloc: Global,
+    rings: &Rings,
+    part: &Part,
+    span: Span,
+    budget: &mut Budget,
+    sink: &mut S,
+) -> Result<(), AllocError>
+    requires { budget.old.made ≤ budget.old.most }
+    ensures sent { OnOk result ((corners : List GridCorner)
+        × S.takes sink.old sink.new corners
+        × All FitsCorner corners
+        × AreCornersIn (λ s. IsIn part.now s × SomeCovers rings.now s) span corners) }
+    ensures budget { OnOk result (KeepsBudget budget.old budget.new) }
+{
+    let column = part_of(alloc, rings, part)?;
+    let Some(at) = cut_of(alloc, &column, &span, 1, budget)? else {
+        return send_swept(alloc, &column, span, sink);
+    };
+    let left = part_of(alloc, &column, &Part::Left(at))?;
+    drop(column);
+    send_column(alloc, left, span.left_of(at), 2, budget, sink)?;
+    let column = part_of(alloc, rings, part)?;
+    let right = part_of(alloc, &column, &Part::Right(at - 1))?;
+    drop(column);
+    send_column(alloc, right, span.right_from(at), 2, budget, sink)?;
+    Ok(())
+}
+
 /// Hands the corners of what some ring covers on to a sink, as [`send_corners`], within a budget.
 fn send_within<S: CornerSink>(
     alloc: Global,
@@ -153,10 +184,16 @@ fn send_within<S: CornerSink>(
     let Some(at) = cut_of(alloc, rings, &span, 0, budget)? else {
         return send_swept(alloc, rings, span, sink);
     };
-    let left = part_of(alloc, rings, &Part::Left(at))?;
-    send_column(alloc, left, span.left_of(at), 1, budget, sink)?;
-    let right = part_of(alloc, rings, &Part::Right(at - 1))?;
-    send_column(alloc, right, span.right_from(at), 1, budget, sink)?;
+    send_part(
+        alloc,
+        rings,
+        &Part::Left(at),
+        span.left_of(at),
+        budget,
+        sink,
+    )?;
+    let right = Part::Right(at - 1);
+    send_part(alloc, rings, &right, span.right_from(at), budget, sink)?;
     Ok(())
 }
 

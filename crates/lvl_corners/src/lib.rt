@@ -25,6 +25,7 @@ pub use sink::CornerSink;
 mod bands;
 mod columns;
 mod corner;
+mod cut;
 mod digest;
 mod hashing;
 mod mark;
@@ -34,5 +35,3 @@ mod send;
 mod sink;
 mod span;
 mod sum;
-#[cfg(test)]
-mod tests;

@@ -23,5 +23,3 @@ mod files;
 mod job;
 mod line;
 mod said;
-#[cfg(test)]
-mod tests;

@@ -11,28 +11,24 @@ use Rattle.lvl_corners.proofs.columns.send_within.Goals as goal
 
 pub returns-clause-sent : goal.returns-clause-sent
 returns-clause-sent g c =
+    let P : Square → Type 0 = SomeCovers c.args.rings.now in
     let at : ℤ = c.in-Some.at in
-    let left = c.in_ok-send_column.ensures.sent in
-    let right = c.in_ok-send_column-2.ensures.sent in
+    let L : Square → Type 0 = λ s. (s.x <ℤ at) × P s in
+    let R : Square → Type 0 = λ s. ((at -ℤ pos 1) ≤ℤ s.x) × P s in
+    let left = c.in_ok-send_part.ensures.sent in
+    let right = c.in_ok-send_part-2.ensures.sent in
     let at_fits : FitsSigned w64 at = search rules in
     let before_fits : FitsSigned w64 (at -ℤ pos 1) = search rules in
-    let on_left : (s : Square) → SomeCovers c.in_ok-left.left s ↔ ((s.x <ℤ at) × SomeCovers c.args.rings.now s) =
-    simp to_z-of_z at c.in_ok-left.ensures in
-    let on_right : (s : Square) → SomeCovers c.in_ok-right.right s ↔ (((at -ℤ pos 1) ≤ℤ s.x) × SomeCovers
-    c.args.rings.now s) =
-    simp to_z-of_z at c.in_ok-right.ensures in
-    let left_corners : AreCornersIn (SomeCovers c.in_ok-left.left) (left_part c.whole-span.result at) left.0 =
+    let left_corners : AreCornersIn L (left_part c.whole-span.result at) left.0 =
     simp to_z-of_z at (rw c.left_of.ensures at left.3) in
-    let right_corners : AreCornersIn (SomeCovers c.in_ok-right.right) (right_part c.whole-span.result at) right.0 =
+    let right_corners : AreCornersIn R (right_part c.whole-span.result at) right.0 =
     simp to_z-of_z at (rw c.right_from.ensures at right.3) in (
       left.0 ++ right.0,
-      g.met.S.CornerSink.takes_both c.args.sink.now c.send_column.new.sink c.send_column-2.new.sink left.0 right.0
-          left.1
+      g.met.S.CornerSink.takes_both c.args.sink.now c.send_part.new.sink c.send_part-2.new.sink left.0 right.0 left.1
           right.1,
       All-append FitsCorner left.0 right.0 left.2 right.2,
-      subst (λ span. AreCornersIn (SomeCovers c.args.rings.now) span (left.0 ++ right.0)) c.whole-span.ensures
-          (corners_of_halves (SomeCovers c.args.rings.now) (SomeCovers c.in_ok-left.left)
-          (SomeCovers c.in_ok-right.right) c.whole-span.result at left.0 right.0
-          (record { left = on_left; right = on_right })
+      subst (λ span. AreCornersIn P span (left.0 ++ right.0)) c.whole-span.ensures
+          (corners_of_halves P L R c.whole-span.result at left.0 right.0
+          (record { left = λ s. (λ h. h, λ h. h); right = λ s. (λ h. h, λ h. h) })
           (rw c.in-Some.is at c.in_ok-at.ensures.within) left_corners right_corners),
     )

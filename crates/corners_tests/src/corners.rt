@@ -1,5 +1,5 @@
 //! Corners of rings, worked by hand.
-use crate::{Corner, MaskHash, corners_of, cover_same, send_corners};
+use lvl_corners::{Corner, MaskHash, corners_of, cover_same, send_corners};
 use lvl_grid::{Point, Ring, Rings};
 use lvl_names::Layer;
 use std::alloc::Global;

@@ -1,0 +1,9 @@
+//! Each public call of `lvl` once, and the jobs of `lvl_job` on files that are held in memory.
+//!
+//! A crate of its own, since a crate with tests is proved twice.
+#![tactic(auto)]
+
+#[cfg(test)]
+mod jobs;
+#[cfg(test)]
+mod layouts;
