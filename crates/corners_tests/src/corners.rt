@@ -1,5 +1,5 @@
 //! Corners of rings, worked by hand.
-use lvl_corners::{Corner, MaskHash, corners_of, cover_same, send_corners};
+use lvl_corners::{Corner, LayerDigest, MaskHash, corners_of, cover_same, send_corners};
 use lvl_grid::{Point, Ring, Rings};
 use lvl_names::Layer;
 use std::alloc::Global;
@@ -273,6 +273,49 @@ fn corners_by_columns(rt: HostRuntime) -> Result<(), Fail> {
     Ok(())
 }
 
+/// Squares of which each is right above the one before: no sweep of them is much work.
+fn stair(alloc: Global, count: u16) -> Result<Rings, Fail> {
+    let mut rings = Rings::new(alloc);
+    for number in 0..count {
+        let at = 2 * i64::from(number);
+        let low = Point { x: at, y: at };
+        let high = Point {
+            x: at.saturating_add(1),
+            y: at.saturating_add(1),
+        };
+        rings.push_ring(&Ring::rectangle(alloc, low, high)?)?;
+    }
+    Ok(rings)
+}
+
+/// The corners of a square of the stair.
+fn written_stair(number: u16) -> [Written; 4] {
+    let low = 2 * i64::from(number);
+    let high = low.saturating_add(1);
+    [
+        (low, low, 1),
+        (low, high, -1),
+        (high, low, -1),
+        (high, high, 1),
+    ]
+}
+
+/// A column of many points is cut though a sweep of it is little work.
+#[test]
+fn corners_of_many_squares(rt: HostRuntime) -> Result<(), Fail> {
+    let mut corners: Vec<Corner> = Vec::new(rt.alloc());
+    let columns = send_corners(rt.alloc(), &stair(rt.alloc(), 40_000)?, &mut corners)?;
+    assert!(rt; columns > 0);
+    assert_eq!(rt; corners.len(), 160_000);
+    for (number, four) in (0u16..).zip(corners.as_slice().chunks(4)) {
+        assert!(rt;
+            are_written(four, &written_stair(number)),
+            "square {number}"
+        );
+    }
+    Ok(())
+}
+
 fn hex(alloc: Global, bytes: &[u8]) -> Result<String, Fail> {
     let mut text = String::new(alloc);
     for byte in bytes {
@@ -318,6 +361,21 @@ fn layer(layer: u32) -> Layer {
     Layer { layer, datatype: 0 }
 }
 
+/// The digest of a Layer of these rectangles, which are hashed.
+fn pushed(
+    alloc: Global,
+    mask: &mut MaskHash,
+    layer: Layer,
+    corners: &[Rectangle],
+) -> Result<LayerDigest, Fail> {
+    let rings = rectangles(alloc, corners)?;
+    Ok(mask.push(alloc, layer, &rings)?.ok_or("nothing")?)
+}
+
+fn is_hex(alloc: Global, bytes: &[u8], text: &str) -> Result<bool, Fail> {
+    Ok(hex(alloc, bytes)?.as_str() == text)
+}
+
 #[test]
 fn digests_of_layers(rt: HostRuntime) -> Result<(), Fail> {
     let alloc = rt.alloc();
@@ -325,12 +383,11 @@ fn digests_of_layers(rt: HostRuntime) -> Result<(), Fail> {
     let nothing = mask.push(alloc, layer(0), &Rings::new(alloc))?;
     assert!(rt; nothing.is_none());
     for (number, (corners, count, sha256)) in (1u32..).zip(LAYERS) {
-        let rings = rectangles(alloc, corners)?;
-        let digest = mask.push(alloc, layer(number), &rings)?.ok_or("nothing")?;
+        let digest = pushed(alloc, &mut mask, layer(number), corners)?;
         assert_eq!(rt; digest.corners, count);
-        assert_eq!(rt; hex(alloc, &digest.sha256)?.as_str(), sha256);
+        assert!(rt; is_hex(alloc, &digest.sha256, sha256)?);
     }
-    assert_eq!(rt; hex(alloc, &mask.finish())?.as_str(), MASK);
+    assert!(rt; is_hex(alloc, &mask.finish(), MASK)?);
     Ok(())
 }
 
