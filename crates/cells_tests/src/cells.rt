@@ -330,28 +330,46 @@ fn many_cells(rt: HostRuntime) -> Result<(), Fail> {
 }
 
 /// Shapes of one ring and of two, at one place, at a lattice that two of them have, and at a list.
-#[test]
-fn shapes(rt: HostRuntime) -> Result<(), Fail> {
-    let alloc = rt.alloc();
-    let far = Ring::rectangle(alloc, UP, Point { x: 5, y: 7 })?;
-    let both = vec![in alloc; square(alloc)?, far]?;
+fn four_shapes(alloc: Global) -> Result<Shapes, Fail> {
     let lattice = Offsets::lattice(RIGHT, 2, UP, 3).ok_or("shifts")?;
     let listed = Offsets::new([ORIGIN, RIGHT].to_vec(alloc)?).ok_or("shifts")?;
     let mut cell = empty(alloc, b"A")?;
     add_square(alloc, &mut cell, &Offsets::single())?;
-    cell.shapes.push_rings(METAL, &both, &lattice)?;
+    cell.shapes
+        .push_rings(METAL, &two_squares(alloc)?, &lattice)?;
     add_square(alloc, &mut cell, &lattice)?;
     add_square(alloc, &mut cell, &listed)?;
-    let shapes = cell.shapes;
+    Ok(cell.shapes)
+}
+
+/// A square, and a rectangle far up.
+fn two_squares(alloc: Global) -> Result<Vec<Ring>, Fail> {
+    let far = Ring::rectangle(alloc, UP, Point { x: 5, y: 7 })?;
+    Ok(vec![in alloc; square(alloc)?, far]?)
+}
+
+/// How many rings and how many shifts a shape has, if there is one and it is on METAL.
+fn counts(shapes: &Shapes, i: usize) -> Option<(usize, u64)> {
+    if i >= shapes.len() || shapes.layer(i) != METAL {
+        return None;
+    }
+    Some((shapes.ring_count(i), shapes.shift_count(i)))
+}
+
+#[test]
+fn shapes(rt: HostRuntime) -> Result<(), Fail> {
+    let shapes = four_shapes(rt.alloc())?;
     assert_eq!(rt; shapes.len(), 4);
     for (i, rings, shifts) in [(0, 1, 1), (1, 2, 6), (2, 1, 6), (3, 1, 2)] {
-        if i < shapes.len() {
-            assert_eq!(rt; shapes.layer(i), METAL);
-            assert_eq!(rt; shapes.ring_count(i), rings, "{i}");
-            assert_eq!(rt; shapes.shift_count(i), shifts, "{i}");
-        }
+        assert_eq!(rt; counts(&shapes, i), Some((rings, shifts)), "{i}");
     }
-    assert_eq!(rt; shapes.ring_count(1), 2);
+    Ok(())
+}
+
+#[test]
+fn points_and_shifts_of_shapes(rt: HostRuntime) -> Result<(), Fail> {
+    let shapes = four_shapes(rt.alloc())?;
+    assert!(rt; shapes.len() == 4 && shapes.ring_count(1) == 2);
     assert_eq!(rt; shapes.ring(1, 1).get(2), Some(&Point { x: 5, y: 7 }));
     assert_eq!(rt; shapes.shift(2, 5), Some(Point { x: 1, y: 2 }));
     assert_eq!(rt; shapes.shift(0, 1), None);

@@ -2,6 +2,7 @@
 use lvl_cells::Reference;
 use lvl_grid::{Point, Turn};
 use lvl_names::{Name, Offsets};
+use std::alloc::Global;
 use std::test::Fail;
 
 const ORIGIN: Point = Point { x: 0, y: 0 };
@@ -71,6 +72,11 @@ fn reaches(rt: HostRuntime) -> Result<(), Fail> {
         let want = (point(low.0, low.1), point(high.0, high.1));
         assert_eq!(rt; shifts.reach(), want, "{a:?} {b:?}");
     }
+    Ok(())
+}
+
+#[test]
+fn reaches_of_lists(rt: HostRuntime) -> Result<(), Fail> {
     let listed = [ORIGIN, point(5, -2), point(-1, 7)].to_vec(rt.alloc())?;
     let mut shifts = Offsets::new(listed).ok_or("shifts")?;
     assert_eq!(rt; shifts.reach(), (point(-1, -2), point(5, 7)));
@@ -79,29 +85,42 @@ fn reaches(rt: HostRuntime) -> Result<(), Fail> {
     Ok(())
 }
 
+/// Where the last place of a lattice of 4 by 3 still fits, and no further one.
+const LAST_CORNER: Point = Point {
+    x: i64::MAX - 3,
+    y: i64::MIN + 2,
+};
+
+/// Whether a reference kept what it was made of, if it was made.
+fn placed(alloc: Global, columns: u64, rows: u64) -> Result<Option<bool>, Fail> {
+    let name = Name::new(Vec::from_slice(alloc, b"A")?)?;
+    let shifts = Offsets::lattice(RIGHT, columns, Point { x: 0, y: -1 }, rows).ok_or("shifts")?;
+    let made = Reference::new(name, true, Turn::R90, LAST_CORNER, shifts);
+    Ok(made.map(|reference| is_kept(&reference)))
+}
+
+fn is_kept(reference: &Reference) -> bool {
+    reference.cell() == b"A".as_slice()
+        && reference.flip()
+        && reference.turn() == Turn::R90
+        && reference.at() == LAST_CORNER
+        && reference.shifts().len() == 12
+}
+
 #[test]
 fn references(rt: HostRuntime) -> Result<(), Fail> {
-    let at = Point {
-        x: i64::MAX - 3,
-        y: i64::MIN + 2,
-    };
-    let down = Point { x: 0, y: -1 };
-    for (m, n, want) in [(4, 3, true), (5, 3, false), (4, 4, false), (5, 4, false)] {
-        let name = Name::new(Vec::from_slice(rt.alloc(), b"A")?)?;
-        let shifts = Offsets::lattice(RIGHT, m, down, n).ok_or("shifts")?;
-        let made = Reference::new(name, true, Turn::R90, at, shifts);
-        assert_eq!(rt; made.is_some(), want, "{m} {n}");
-        if let Some(reference) = made {
-            assert_eq!(rt; reference.cell(), b"A".as_slice());
-            assert!(rt; reference.flip());
-            assert_eq!(rt; reference.turn(), Turn::R90);
-            assert_eq!(rt; reference.at(), at);
-            assert_eq!(rt; reference.shifts().len(), 12);
-        }
+    let rows = [(4, 3, Some(true)), (5, 3, None), (4, 4, None), (5, 4, None)];
+    for (m, n, want) in rows {
+        assert_eq!(rt; placed(rt.alloc(), m, n)?, want, "{m} {n}");
     }
+    Ok(())
+}
+
+#[test]
+fn references_of_a_list(rt: HostRuntime) -> Result<(), Fail> {
     let listed = [ORIGIN, Point { x: 4, y: 0 }].to_vec(rt.alloc())?;
     let shifts = Offsets::new(listed).ok_or("shifts")?;
     let name = Name::new(Vec::new(rt.alloc()))?;
-    assert!(rt; Reference::new(name, false, Turn::R0, at, shifts).is_none());
+    assert!(rt; Reference::new(name, false, Turn::R0, LAST_CORNER, shifts).is_none());
     Ok(())
 }

@@ -31,20 +31,36 @@ fn cut(text: &str) -> (&str, &str) {
 /// A list that is shared answers as the list itself.
 #[test]
 fn shared_lists(rt: HostRuntime) -> Result<(), Fail> {
-    let listed = shifts(rt.alloc())?;
-    let mut shared = shifts(rt.alloc())?;
-    shared.share()?;
-    let again = shared.clone()?;
+    let lists = (shifts(rt.alloc())?, shared_twice(rt.alloc())?);
     for row in PLACES.lines() {
         let (x, rest) = cut(row);
         let (y, want) = cut(rest);
-        let at = Point {
-            x: x.parse::<i64>()?,
-            y: y.parse::<i64>()?,
-        };
-        assert_eq!(rt; listed.all_fit_at(at), want == "true", "{row}");
-        assert_eq!(rt; again.all_fit_at(at), want == "true", "{row}, shared");
+        let at = point(x, y)?;
+        assert_eq!(rt; lists.0.all_fit_at(at), want == "true", "{row}");
+        assert_eq!(rt; lists.1.all_fit_at(at), want == "true", "{row}, shared");
     }
+    Ok(())
+}
+
+/// The list after it was shared with another.
+fn shared_twice(alloc: Global) -> Result<Offsets, Fail> {
+    let mut shared = shifts(alloc)?;
+    shared.share()?;
+    Ok(shared.clone()?)
+}
+
+fn point(x: &str, y: &str) -> Result<Point, Fail> {
+    Ok(Point {
+        x: x.parse::<i64>()?,
+        y: y.parse::<i64>()?,
+    })
+}
+
+#[test]
+fn places_of_a_shared_list(rt: HostRuntime) -> Result<(), Fail> {
+    let mut shared = shifts(rt.alloc())?;
+    shared.share()?;
+    let again = shared.clone()?;
     assert_eq!(rt; again.len(), 3);
     assert_eq!(rt; again.at(2), shared.at(2));
     Ok(())

@@ -1,11 +1,12 @@
 //! Lists of shifts, references, checked libraries, flat layouts and views.
 
 use crate::fence::fence;
-use lvl_cells::{Builder, Reference, check};
-use lvl_flat::flatten;
+use lvl_cells::{Builder, Checked, Library, Reference, check};
+use lvl_flat::{Flat, flatten};
 use lvl_grid::{Point, Ring, Turn};
 use lvl_names::{Layer, Name, Offsets};
 use lvl_view::View;
+use std::alloc::Global;
 use std::test::Fail;
 
 const ORIGIN: Point = Point { x: 0, y: 0 };
@@ -15,54 +16,85 @@ const METAL: Layer = Layer {
     datatype: 0,
 };
 
+/// The last place of a list of shifts.
+fn last_place(shifts: Vec<Point>) -> Option<Point> {
+    let list = Offsets::new(shifts)?;
+    list.at(list.len().saturating_sub(1))
+}
+
+/// A reference that places at a lattice of a million places, if the lattice is right.
+fn placed_a_million_times(name: Name) -> Option<Reference> {
+    let lattice = Offsets::lattice(Point { x: 2, y: 0 }, 1000, Point { x: 0, y: 3 }, 1000)?;
+    let far = lattice.at(999_999)?;
+    if lattice.len() != 1_000_000 || far != (Point { x: 1998, y: 2997 }) {
+        return None;
+    }
+    Reference::new(name, true, Turn::R90, ORIGIN, lattice)
+}
+
+fn is_kept(reference: &Reference) -> bool {
+    let is_placed = reference.turn() == Turn::R90 && reference.at() == ORIGIN;
+    let is_named = reference.cell().len() == 25 && reference.shifts().len() == 1_000_000;
+    reference.flip() && is_placed && is_named
+}
+
 #[test]
-fn no_growths_of_lists_and_references(rt: HostRuntime) -> Result<(), Fail> {
+fn no_growths_of_lists(rt: HostRuntime) -> Result<(), Fail> {
     let alloc = rt.alloc();
     let shifts = Vec::from_slice(alloc, &[ORIGIN, Point { x: 5, y: 0 }])?;
-    let name = Name::new(Vec::from_slice(alloc, b"A CELL WITH A LONGER NAME")?)?;
     fence(alloc)?;
-    let list = Offsets::new(shifts).ok_or("a list")?;
-    let last = list.at(list.len().saturating_sub(1));
-    let lattice = Offsets::lattice(Point { x: 2, y: 0 }, 1000, Point { x: 0, y: 3 }, 1000);
-    let lattice = lattice.ok_or("a lattice")?;
-    let places = lattice.len();
-    let far = lattice.at(999_999);
-    let reference = Reference::new(name, true, Turn::R90, ORIGIN, lattice).ok_or("a reference")?;
-    let is_kept = reference.flip() && reference.turn() == Turn::R90 && reference.at() == ORIGIN;
-    let is_named = reference.cell().len() == 25 && reference.shifts().len() == 1_000_000;
+    let last = last_place(shifts);
     fence(alloc)?;
     assert_eq!(rt; last, Some(Point { x: 5, y: 0 }));
-    assert_eq!(rt;
-        (places, far),
-        (1_000_000, Some(Point { x: 1998, y: 2997 }))
-    );
-    assert!(rt; is_kept && is_named);
     Ok(())
 }
 
 #[test]
-fn no_growths_of_libraries(rt: HostRuntime) -> Result<(), Fail> {
+fn no_growths_of_references(rt: HostRuntime) -> Result<(), Fail> {
     let alloc = rt.alloc();
+    let name = Name::new(Vec::from_slice(alloc, b"A CELL WITH A LONGER NAME")?)?;
+    fence(alloc)?;
+    let is_kept = placed_a_million_times(name).map(|reference| is_kept(&reference));
+    fence(alloc)?;
+    assert_eq!(rt; is_kept, Some(true));
+    Ok(())
+}
+
+/// The cell A with a rectangle, and the cell TOP that places it.
+fn library(alloc: Global) -> Result<Library, Fail> {
     let ring = Ring::rectangle(alloc, ORIGIN, Point { x: 4, y: 2 })?;
     let mut builder = Builder::new(alloc);
     builder.open(alloc, Vec::from_slice(alloc, b"A")?);
     builder.add_ring(METAL, ring.points(), &Offsets::single())?;
     builder.close(alloc)?;
     builder.open(alloc, Vec::from_slice(alloc, b"TOP")?);
-    let placed = Name::new(Vec::from_slice(alloc, b"A")?)?;
-    let placed = Reference::new(placed, false, Turn::R0, ORIGIN, Offsets::single());
-    builder.add_reference(placed.ok_or("a reference")?)?;
+    builder.add_reference(placing_of_a(alloc)?)?;
     builder.close(alloc)?;
-    let checked = check(alloc, builder.finish(), None)?;
+    Ok(builder.finish())
+}
+
+fn placing_of_a(alloc: Global) -> Result<Reference, Fail> {
+    let name = Name::new(Vec::from_slice(alloc, b"A")?)?;
+    let placing = Reference::new(name, false, Turn::R0, ORIGIN, Offsets::single());
+    Ok(placing.ok_or("a reference")?)
+}
+
+/// Whether a checked library, its flat layout and a view answer as they should.
+fn are_read(checked: &Checked, flat: &Flat, view: &View) -> bool {
+    let is_checked = checked.top() == 1 && checked.cells().len() == 2 && checked.order().len() == 2;
+    let is_flat = flat.layer(0) == Some(METAL) && flat.rings(METAL).len() == 1;
+    is_checked && is_flat && checked.target(1, 0) == Some(0) && view.window().is_some()
+}
+
+#[test]
+fn no_growths_of_libraries(rt: HostRuntime) -> Result<(), Fail> {
+    let alloc = rt.alloc();
+    let checked = check(alloc, library(alloc)?, None)?;
     let flat = flatten(alloc, &checked)?;
     let view = View::read(alloc, Some("1/0=2/0"), Some("x=0..10,y=0..10"))?;
     fence(alloc)?;
-    let is_checked = checked.top() == 1 && checked.cells().len() == 2 && checked.order().len() == 2;
-    let target = checked.target(1, 0);
-    let is_flat = flat.layer(0) == Some(METAL) && flat.rings(METAL).len() == 1;
-    let has_window = view.window().is_some();
+    let are_read = are_read(&checked, &flat, &view);
     fence(alloc)?;
-    assert!(rt; is_checked && is_flat && has_window);
-    assert_eq!(rt; target, Some(0));
+    assert!(rt; are_read);
     Ok(())
 }
