@@ -1,5 +1,5 @@
 //! Which rule is reported, and of which record.
-use super::{DEGREES_45, DEGREES_90, END, Line, Says, Stop, TWICE, array, read};
+use super::{DEGREES_45, DEGREES_90, END, Line, Says, Stop, TWICE, array, stop_of};
 use gds_elements::{ElementFault, ElementRule, Misplaced};
 use gds_records::record_type as ty;
 use lvl_path::PathFault;
@@ -58,7 +58,7 @@ fn short_run(rt: HostRuntime) -> Result<(), Fail> {
             (ty::XY, points),
             END,
         ];
-        assert_eq!(rt; read(rt.alloc(), &lines).err(), Some(stop), "{name}");
+        assert_eq!(rt; stop_of(rt.alloc(), &lines), Some(stop), "{name}");
     }
     Ok(())
 }
@@ -248,7 +248,7 @@ fn the_first_rule_is_reported(rt: HostRuntime) -> Result<(), Fail> {
         ),
     ];
     for (lines, stop) in rows {
-        assert_eq!(rt; read(rt.alloc(), lines).err(), Some(stop));
+        assert_eq!(rt; stop_of(rt.alloc(), lines), Some(stop));
     }
     Ok(())
 }
