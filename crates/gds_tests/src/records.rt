@@ -9,21 +9,29 @@ use std::alloc::{AllocError, Global};
 use std::process::Abort;
 use std::test::Fail;
 
-/// A library with one structure TOP, in it the boundary of a square. Each line is a record.
+/// The records of a library with one structure TOP, in it the boundary of a square.
+static RECORDS: [&[u8]; 13] = [
+    b"\x00\x06\x00\x02\x02\x58",
+    b"\x00\x1C\x01\x02\0\0\0\0\0\0\0\0\0\0\0\0\0\0\0\0\0\0\0\0\0\0\0\0",
+    b"\x00\x06\x02\x06LB",
+    b"\x00\x14\x03\x05A\x10\0\0\0\0\0\0A\x10\0\0\0\0\0\0",
+    b"\x00\x1C\x05\x02\0\0\0\0\0\0\0\0\0\0\0\0\0\0\0\0\0\0\0\0\0\0\0\0",
+    b"\x00\x08\x06\x06TOP\0",
+    b"\x00\x04\x08\x00",
+    b"\x00\x06\x0D\x02\x00\x01",
+    b"\x00\x06\x0E\x02\x00\x00",
+    b"\x00\x2C\x10\x03\0\0\0\0\0\0\0\0\0\0\0\x0A\0\0\0\0\0\0\0\x0A\0\0\0\x0A\0\0\0\0\0\0\0\x0A\0\0\0\0\0\0\0\0",
+    b"\x00\x04\x11\x00",
+    b"\x00\x04\x07\x00",
+    b"\x00\x04\x04\x00",
+];
+
+/// The bytes of these records.
 fn square(alloc: Global) -> Result<Vec<u8>, AllocError> {
     let mut bytes = Vec::with_capacity(alloc, 168)?;
-    bytes.extend_from_slice(b"\x00\x06\x00\x02\x02\x58")?;
-    bytes.extend_from_slice(b"\x00\x1C\x01\x02")?;
-    bytes.extend_from_slice(&[0; 24])?;
-    bytes.extend_from_slice(b"\x00\x06\x02\x06LB")?;
-    bytes.extend_from_slice(b"\x00\x14\x03\x05A\x10\0\0\0\0\0\0A\x10\0\0\0\0\0\0")?;
-    bytes.extend_from_slice(b"\x00\x1C\x05\x02")?;
-    bytes.extend_from_slice(&[0; 24])?;
-    bytes.extend_from_slice(b"\x00\x08\x06\x06TOP\0")?;
-    bytes.extend_from_slice(b"\x00\x04\x08\x00\x00\x06\x0D\x02\x00\x01\x00\x06\x0E\x02\x00\x00")?;
-    bytes.extend_from_slice(b"\x00\x2C\x10\x03\0\0\0\0\0\0\0\0\0\0\0\x0A\0\0\0\0")?;
-    bytes.extend_from_slice(b"\0\0\0\x0A\0\0\0\x0A\0\0\0\0\0\0\0\x0A\0\0\0\0\0\0\0\0")?;
-    bytes.extend_from_slice(b"\x00\x04\x11\x00\x00\x04\x07\x00\x00\x04\x04\x00")?;
+    for record in RECORDS.iter() {
+        bytes.extend_from_slice(record)?;
+    }
     Ok(bytes)
 }
 
