@@ -73,6 +73,23 @@ struct Walk {
     offset: u64,
 }
 
+/// The checksum after a record of this type and with this payload.
+fn mixed(checksum: u64, kind: u8, payload: &[u8]) -> u64 {
+    let mut mixed = checksum.wrapping_mul(31).wrapping_add(kind as u64);
+    for byte in payload {
+        mixed = mixed.wrapping_mul(31).wrapping_add(*byte as u64);
+    }
+    mixed
+}
+
+/// Every call answers `Failed`, and the offset stays.
+fn check_failed<R: Read>(rt: &impl Abort, records: &mut Records<R>) {
+    let offset = records.offset();
+    assert!(rt; matches!(records.next(), Err(Stopped::Failed)));
+    assert!(rt; matches!(records.tail(), Err(Stopped::Failed)));
+    assert_eq!(rt; records.offset(), offset);
+}
+
 /// Reads records up to the end or to a fault, after which every call has to answer `Failed`.
 fn read_on<R: Read>(rt: &impl Abort, records: &mut Records<R>) -> Walk {
     let mut count = 0u32;
@@ -82,10 +99,7 @@ fn read_on<R: Read>(rt: &impl Abort, records: &mut Records<R>) -> Walk {
         match records.next() {
             Ok(Some(record)) => {
                 count = count.wrapping_add(1);
-                checksum = checksum.wrapping_mul(31).wrapping_add(record.kind as u64);
-                for byte in record.payload {
-                    checksum = checksum.wrapping_mul(31).wrapping_add(*byte as u64);
-                }
+                checksum = mixed(checksum, record.kind, record.payload);
             }
             Ok(None) => break,
             Err(Stopped::Fault(fault)) => {
@@ -97,9 +111,7 @@ fn read_on<R: Read>(rt: &impl Abort, records: &mut Records<R>) -> Walk {
     }
     let offset = records.offset();
     if found.is_some() {
-        assert!(rt; matches!(records.next(), Err(Stopped::Failed)));
-        assert!(rt; matches!(records.tail(), Err(Stopped::Failed)));
-        assert_eq!(rt; records.offset(), offset);
+        check_failed(rt, records);
     }
     Walk {
         records: count,
