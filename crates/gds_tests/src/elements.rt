@@ -78,6 +78,26 @@ fn is_formed(kind: u8, payload: &[u8]) -> bool
     }
 }
 
+/// What an open element does with the next record, which stands at this place.
+fn take(
+    alloc: Global,
+    element: Element,
+    place: usize,
+    (kind, says): (u8, Says),
+) -> Result<Step, Stop> {
+    let Ok(payload) = says.payload(alloc) else {
+        return Err(Stop::OutOfMemory);
+    };
+    if !is_formed(kind, &payload) {
+        return Err(Stop::Incomplete);
+    }
+    match element.take(alloc, kind, &payload) {
+        Ok(step) => Ok(step),
+        Err(Cause::Breach(fault)) => Err(Stop::At(place, fault)),
+        Err(Cause::OutOfMemory) => Err(Stop::OutOfMemory),
+    }
+}
+
 /// What the element of these records draws.
 fn read(alloc: Global, lines: &[Line]) -> Result<Drawn, Stop> {
     let Some((first, _)) = lines.first() else {
@@ -86,18 +106,10 @@ fn read(alloc: Global, lines: &[Line]) -> Result<Drawn, Stop> {
     let Some(mut element) = Element::open(alloc, *first) else {
         return Err(Stop::Incomplete);
     };
-    for (n, (kind, says)) in lines.iter().enumerate().skip(1) {
-        let Ok(payload) = says.payload(alloc) else {
-            return Err(Stop::OutOfMemory);
-        };
-        if !is_formed(*kind, &payload) {
-            return Err(Stop::Incomplete);
-        }
-        match element.take(alloc, *kind, &payload) {
-            Ok(Step::Open(next)) => element = next,
-            Ok(Step::Whole(drawn)) => return Ok(drawn),
-            Err(Cause::Breach(kind)) => return Err(Stop::At(n, kind)),
-            Err(Cause::OutOfMemory) => return Err(Stop::OutOfMemory),
+    for (n, line) in lines.iter().enumerate().skip(1) {
+        match take(alloc, element, n, *line)? {
+            Step::Open(next) => element = next,
+            Step::Whole(drawn) => return Ok(drawn),
         }
     }
     Err(Stop::Incomplete)
@@ -122,6 +134,11 @@ fn reference(drawn: Result<Drawn, Stop>) -> Result<Reference, Fail> {
         Drawn::Reference(reference) => Ok(reference),
         _ => Err(Fail::from("a reference")),
     }
+}
+
+/// Why no element is read of these records.
+fn stop_of(alloc: Global, lines: &[Line]) -> Option<Stop> {
+    read(alloc, lines).err()
 }
 
 /// Whether the ring has these points.
@@ -168,26 +185,46 @@ fn a_boundary_is_its_ring(rt: HostRuntime) -> Result<(), Fail> {
     Ok(())
 }
 
+/// The rings of a path along a corner, four wide, with these ends.
+fn path(alloc: Global, ends: i16) -> Result<Vec<Ring>, Fail> {
+    let lines = [
+        (ty::PATH, Says::Nothing),
+        (ty::LAYER, Says::Short(1)),
+        (ty::DATATYPE, Says::Short(0)),
+        (ty::PATHTYPE, Says::Short(ends)),
+        (ty::WIDTH, Says::Long(4)),
+        (ty::XY, Says::Points(&CORNER)),
+        END,
+    ];
+    rings(read(alloc, &lines))
+}
+
+/// The two rings of that path reach out this far to the left and to the top.
+fn check_ends(rt: &impl Abort, rings: &[Ring], left: i64, top: i64) -> Result<(), Fail> {
+    assert_eq!(rt; rings.len(), 2);
+    let first = rings.first().ok_or("a ring")?;
+    assert!(rt; goes_along(first, &[(left, -2), (12, -2), (12, 2), (left, 2)]));
+    let second = rings.get(1).ok_or("a ring")?;
+    assert!(rt; goes_along(second, &[(8, -2), (12, -2), (12, top), (8, top)]));
+    Ok(())
+}
+
 #[test]
 fn square_ends(rt: HostRuntime) -> Result<(), Fail> {
     for (ends, left, top) in [(0, 0, 10), (2, -2, 12)] {
-        let lines = [
-            (ty::PATH, Says::Nothing),
-            (ty::LAYER, Says::Short(1)),
-            (ty::DATATYPE, Says::Short(0)),
-            (ty::PATHTYPE, Says::Short(ends)),
-            (ty::WIDTH, Says::Long(4)),
-            (ty::XY, Says::Points(&CORNER)),
-            END,
-        ];
-        let rings = rings(read(rt.alloc(), &lines))?;
-        assert_eq!(rt; rings.len(), 2);
-        let first = rings.first().ok_or("a ring")?;
-        assert!(rt; goes_along(first, &[(left, -2), (12, -2), (12, 2), (left, 2)]));
-        let second = rings.get(1).ok_or("a ring")?;
-        assert!(rt; goes_along(second, &[(8, -2), (12, -2), (12, top), (8, top)]));
+        let rings = path(rt.alloc(), ends)?;
+        check_ends(&rt, &rings, left, top)?;
     }
     Ok(())
+}
+
+/// The reference is to A, reflected and turned, at one place.
+fn check_turned(rt: &impl Abort, reference: &Reference) {
+    assert_eq!(rt; reference.cell(), b"A".as_slice());
+    assert!(rt; reference.flip());
+    assert_eq!(rt; reference.turn(), Turn::R90);
+    assert_eq!(rt; reference.at(), Point { x: -7, y: 5 });
+    assert_eq!(rt; reference.shifts().len(), 1);
 }
 
 #[test]
@@ -202,11 +239,7 @@ fn flip_then_turn(rt: HostRuntime) -> Result<(), Fail> {
         END,
     ];
     let reference = reference(read(rt.alloc(), &lines))?;
-    assert_eq!(rt; reference.cell(), b"A".as_slice());
-    assert!(rt; reference.flip());
-    assert_eq!(rt; reference.turn(), Turn::R90);
-    assert_eq!(rt; reference.at(), Point { x: -7, y: 5 });
-    assert_eq!(rt; reference.shifts().len(), 1);
+    check_turned(&rt, &reference);
     Ok(())
 }
 
@@ -222,14 +255,25 @@ fn array(alloc: Global, columns: i16, rows: i16, points: &[(i32, i32)]) -> Resul
     read(alloc, &lines)
 }
 
-#[test]
-fn array_tiles(rt: HostRuntime) -> Result<(), Fail> {
-    let tiles = reference(array(rt.alloc(), 3, 2, &[(0, 0), (30, 0), (0, 20)]))?;
+/// Three columns by two rows, columns first.
+fn check_tiles(rt: &impl Abort, tiles: &Reference) {
     let shifts = [(0, 0), (10, 0), (20, 0), (0, 10), (10, 10), (20, 10)];
     assert_eq!(rt; tiles.shifts().len(), 6);
     for (k, (x, y)) in shifts.iter().enumerate() {
         assert_eq!(rt; tiles.shifts().at(k as u64), Some(Point { x: *x, y: *y }));
     }
+}
+
+#[test]
+fn array_tiles(rt: HostRuntime) -> Result<(), Fail> {
+    let tiles = reference(array(rt.alloc(), 3, 2, &[(0, 0), (30, 0), (0, 20)]))?;
+    check_tiles(&rt, &tiles);
+    Ok(())
+}
+
+/// Columns to the left, and rows down.
+#[test]
+fn array_tiles_back(rt: HostRuntime) -> Result<(), Fail> {
     let back = reference(array(rt.alloc(), 3, 2, &[(5, 5), (-25, 5), (5, -15)]))?;
     assert_eq!(rt; back.at(), Point { x: 5, y: 5 });
     assert_eq!(rt; back.shifts().at(5), Some(Point { x: -20, y: -10 }));
@@ -253,6 +297,16 @@ fn text_covers_nothing(rt: HostRuntime) -> Result<(), Fail> {
     Ok(())
 }
 
+/// Whether these are the rings of a path, or there was no memory for them.
+fn is_path(drawn: Result<Drawn, Stop>) -> bool {
+    matches!(drawn, Ok(Drawn::Rings(..)) | Err(Stop::OutOfMemory))
+}
+
+/// Whether this is a reference, or there was no memory for it.
+fn is_array(drawn: Result<Drawn, Stop>) -> bool {
+    matches!(drawn, Ok(Drawn::Reference(_)) | Err(Stop::OutOfMemory))
+}
+
 #[test]
 fn growths(rt: HostRuntime) -> Result<(), Fail> {
     let lines = [
@@ -263,9 +317,7 @@ fn growths(rt: HostRuntime) -> Result<(), Fail> {
         (ty::XY, Says::Points(&CORNER)),
         END,
     ];
-    let drawn = read(rt.alloc(), &lines);
-    assert!(rt; matches!(drawn, Ok(Drawn::Rings(..)) | Err(Stop::OutOfMemory)));
-    let drawn = array(rt.alloc(), 3, 2, &[(0, 0), (30, 0), (0, 20)]);
-    assert!(rt; matches!(drawn, Ok(Drawn::Reference(_)) | Err(Stop::OutOfMemory)));
+    assert!(rt; is_path(read(rt.alloc(), &lines)));
+    assert!(rt; is_array(array(rt.alloc(), 3, 2, &[(0, 0), (30, 0), (0, 20)])));
     Ok(())
 }

@@ -77,6 +77,17 @@ fn read(alloc: Global, bytes: &[u8], ignore: Ignore) -> Result<Answer, AllocErro
     }
 }
 
+/// What is read of `RECORDS` with more records before the one with this index.
+fn read_with(
+    alloc: Global,
+    index: usize,
+    more: &[&[u8]],
+    ignore: Ignore,
+) -> Result<Answer, AllocError> {
+    let bytes = with(alloc, index, more)?;
+    read(alloc, &bytes, ignore)
+}
+
 /// The refusal that is found, if there is one.
 fn refusal_of(found: Found) -> Option<Cause<GdsFault>> {
     let (offset, kind) = match found {
@@ -101,16 +112,14 @@ fn is_found(found: Found, plain: &str, answer: &Answer) -> bool {
 
 /// The text of `RECORDS` as they are.
 fn plain(alloc: Global) -> Result<String, Fail> {
-    let bytes = with(alloc, 0, &[])?;
-    Ok(read(alloc, &bytes, Ignore::NOTHING)??)
+    Ok(read_with(alloc, 0, &[], Ignore::NOTHING)??)
 }
 
 /// Whether in each row is found what it says, where this is ignored.
 fn are_found(rt: &impl Abort, alloc: Global, rows: &[Row], ignore: Ignore) -> Result<(), Fail> {
     let plain = plain(alloc)?;
     for (n, (index, more, found)) in rows.iter().enumerate() {
-        let bytes = with(alloc, *index, more)?;
-        let answer = read(alloc, &bytes, ignore)?;
+        let answer = read_with(alloc, *index, more, ignore)?;
         assert!(rt; is_found(*found, &plain, &answer), "row {n}: {answer:?}");
     }
     Ok(())
@@ -128,17 +137,22 @@ fn offsets_are_those_of_the_records(rt: HostRuntime) -> Result<(), Fail> {
     Ok(())
 }
 
+/// The text of `RECORDS` with this value in one byte.
+fn changed(alloc: Global, offset: usize, value: u8) -> Result<String, Fail> {
+    let mut bytes = with(alloc, 0, &[])?;
+    if let Some(byte) = bytes.get_mut(offset) {
+        *byte = value;
+    }
+    Ok(read(alloc, &bytes, Ignore::NOTHING)??)
+}
+
 /// Another version, name, layer or reference is another text, so equal texts are of equal libraries.
 #[test]
 fn texts_tell_libraries(rt: HostRuntime) -> Result<(), Fail> {
     let plain = plain(rt.alloc())?;
     let changes: [(usize, u8); 4] = [(5, 0x59), (92, b'A'), (105, 2), (216, b'A')];
     for (offset, value) in changes {
-        let mut bytes = with(rt.alloc(), 0, &[])?;
-        if let Some(byte) = bytes.get_mut(offset) {
-            *byte = value;
-        }
-        let text = read(rt.alloc(), &bytes, Ignore::NOTHING)??;
+        let text = changed(rt.alloc(), offset, value)?;
         assert!(rt; text.as_str() != plain.as_str(), "byte {offset}");
     }
     Ok(())
@@ -164,18 +178,41 @@ fn forms_of_what_is_ignored(rt: HostRuntime) -> Result<(), Fail> {
     are_found(&rt, rt.alloc(), &FORMS, Ignore::EVERYTHING)
 }
 
+/// Whether the rows that are read where less is ignored are read alike where all is.
+fn are_same(rt: &impl Abort, alloc: Global, plain: &str, rows: &[Row]) -> Result<(), Fail> {
+    for (index, more, found) in rows {
+        if let Found::Same = found {
+            let answer = read_with(alloc, *index, more, Ignore::EVERYTHING)?;
+            assert!(rt; is_found(Found::Same, plain, &answer), "{answer:?}");
+        }
+    }
+    Ok(())
+}
+
 /// A stream that is read with less is read with more, as the same library.
 #[test]
 fn more_ignored(rt: HostRuntime) -> Result<(), Fail> {
     let plain = plain(rt.alloc())?;
     for rows in [NAMES.as_slice(), PROPERTIES.as_slice()] {
-        for (index, more, found) in rows {
-            if let Found::Same = found {
-                let bytes = with(rt.alloc(), *index, more)?;
-                let answer = read(rt.alloc(), &bytes, Ignore::EVERYTHING)?;
-                assert!(rt; is_found(Found::Same, &plain, &answer), "{answer:?}");
-            }
-        }
+        are_same(&rt, rt.alloc(), &plain, rows)?;
+    }
+    Ok(())
+}
+
+/// Whether the first record of a row is unsupported where nothing is ignored.
+fn is_unsupported(rt: &impl Abort, alloc: Global, row: &Row) -> Result<(), Fail> {
+    let (index, more, _) = row;
+    let kind = more
+        .first()
+        .and_then(|record| record.get(2))
+        .ok_or("a type")?;
+    let found = match RECORDS.get(*index) {
+        Some((offset, _)) => Found::Unsupported(*offset, *kind),
+        None => Found::AfterEnd(335),
+    };
+    for ignore in [Ignore::NOTHING, OF_OASIS] {
+        let answer = read_with(alloc, *index, more, ignore)?;
+        assert!(rt; is_found(found, "", &answer), "{index} {kind}: {answer:?}");
     }
     Ok(())
 }
@@ -190,23 +227,26 @@ fn nothing_ignored(rt: HostRuntime) -> Result<(), Fail> {
         FORMS.as_slice(),
     ];
     for rows in tables {
-        for (index, more, _) in rows {
-            let kind = more
-                .first()
-                .and_then(|record| record.get(2))
-                .ok_or("a type")?;
-            let found = match RECORDS.get(*index) {
-                Some((offset, _)) => Found::Unsupported(*offset, *kind),
-                None => Found::AfterEnd(335),
-            };
-            let bytes = with(rt.alloc(), *index, more)?;
-            for ignore in [Ignore::NOTHING, OF_OASIS] {
-                let answer = read(rt.alloc(), &bytes, ignore)?;
-                assert!(rt; is_found(found, "", &answer), "{index} {kind}: {answer:?}");
-            }
+        for row in rows {
+            is_unsupported(&rt, rt.alloc(), row)?;
         }
     }
     Ok(())
+}
+
+/// A record LIBSECUR with a payload of this length.
+fn security(alloc: Global, len: u8) -> Result<Vec<u8>, AllocError> {
+    let mut record = Vec::from_slice(alloc, &[0, len.saturating_add(4), 0x3B, 2])?;
+    for _ in 0..len {
+        record.push(1)?;
+    }
+    Ok(record)
+}
+
+/// What is read with that record before LIBNAME.
+fn read_security(alloc: Global, len: u8) -> Result<Answer, AllocError> {
+    let record = security(alloc, len)?;
+    read_with(alloc, 2, &[&record], NAMES_ALONE)
 }
 
 /// LIBSECUR has 1 to 32 entries of six bytes.
@@ -228,19 +268,33 @@ fn entries_of_security(rt: HostRuntime) -> Result<(), Fail> {
         (204, false),
     ];
     for (len, is_read) in rows {
-        let mut record = Vec::from_slice(rt.alloc(), &[0, len.saturating_add(4), 0x3B, 2])?;
-        for _ in 0..len {
-            record.push(1)?;
-        }
-        let bytes = with(rt.alloc(), 2, &[&record])?;
         let found = if is_read {
             Found::Same
         } else {
             Found::BadLength(34)
         };
-        let answer = read(rt.alloc(), &bytes, NAMES_ALONE)?;
+        let answer = read_security(rt.alloc(), len)?;
         assert!(rt; is_found(found, &plain, &answer), "{len}: {answer:?}");
     }
+    Ok(())
+}
+
+/// The first `k` of these bytes are truncated at the record that isn't whole.
+fn check_cut(rt: &impl Abort, alloc: Global, bytes: &[u8], k: usize) -> Result<(), Fail> {
+    // REFLIBS from 40 to 48, FORMAT 0 from 48 to 54, UNITS from 54 to 74
+    let starts: [usize; 8] = [0, 6, 34, 40, 48, 54, 74, 102];
+    let start = starts
+        .iter()
+        .filter(|start| **start <= k)
+        .last()
+        .ok_or("a start")?;
+    let mut reader = Pieces::new(bytes.get(..k).ok_or("bytes")?, 7);
+    let reported = read_gds_by(alloc, &mut reader, Ignore::EVERYTHING).err();
+    let fault = GdsFault {
+        offset: *start as u64,
+        kind: GdsKind::Record(RecordFault::Truncated),
+    };
+    assert_eq!(rt; reported, Some(Cause::Breach(fault)), "cut to {k}");
     Ok(())
 }
 
@@ -248,34 +302,30 @@ fn entries_of_security(rt: HostRuntime) -> Result<(), Fail> {
 #[test]
 fn reports_each_cut(rt: HostRuntime) -> Result<(), Fail> {
     let bytes = with(rt.alloc(), 3, &[REFLIBS, FORMAT_0])?;
-    // REFLIBS from 40 to 48, FORMAT 0 from 48 to 54, UNITS from 54 to 74
-    let starts: [usize; 8] = [0, 6, 34, 40, 48, 54, 74, 102];
     for k in 0..=102usize {
-        let start = starts
-            .iter()
-            .filter(|start| **start <= k)
-            .last()
-            .ok_or("a start")?;
-        let mut reader = Pieces::new(bytes.get(..k).ok_or("bytes")?, 7);
-        let read = read_gds_by(rt.alloc(), &mut reader, Ignore::EVERYTHING);
-        let reported = GdsFault {
-            offset: *start as u64,
-            kind: GdsKind::Record(RecordFault::Truncated),
-        };
-        assert_eq!(rt; read.err(), Some(Cause::Breach(reported)), "cut to {k}");
+        check_cut(&rt, rt.alloc(), &bytes, k)?;
     }
     Ok(())
 }
 
+/// How many cells are read of `RECORDS` with more records before the one with this index.
+fn cells_with(
+    alloc: Global,
+    index: usize,
+    more: &[&[u8]],
+    ignore: Ignore,
+) -> Result<usize, Cause<GdsFault>> {
+    let bytes = with(alloc, index, more)?;
+    let mut reader = Pieces::new(&bytes, usize::MAX);
+    let (library, _) = read_gds_by(alloc, &mut reader, ignore)?;
+    Ok(library.cells.len())
+}
+
 #[test]
 fn growths_with_ignored(rt: HostRuntime) -> Result<(), Fail> {
-    let bytes = with(rt.alloc(), 10, &[PROPATTR, PROPVALUE])?;
-    let mut reader = Pieces::new(&bytes, usize::MAX);
-    let (library, _) = read_gds_by(rt.alloc(), &mut reader, PROPERTIES_ALONE)?;
-    assert_eq!(rt; library.cells.len(), 1);
-    let bytes = with(rt.alloc(), 2, &[LIBSECUR])?;
-    let mut reader = Pieces::new(&bytes, usize::MAX);
-    let (library, _) = read_gds_by(rt.alloc(), &mut reader, NAMES_ALONE)?;
-    assert_eq!(rt; library.cells.len(), 1);
+    let count = cells_with(rt.alloc(), 10, &[PROPATTR, PROPVALUE], PROPERTIES_ALONE)?;
+    assert_eq!(rt; count, 1);
+    let count = cells_with(rt.alloc(), 2, &[LIBSECUR], NAMES_ALONE)?;
+    assert_eq!(rt; count, 1);
     Ok(())
 }

@@ -4,13 +4,16 @@ ghost use Rattle.std.specs.Prelude.{Some, None};
 
 use gds_library::{ElementRule, GdsFault, GdsHead, GdsKind, Misplaced, RecordFault, read_gds};
 use gds_records::fake::{ONE, SQUARE, Stream};
-use lvl_cells::Library;
+use lvl_cells::{Cell, Library, Shapes};
 use lvl_grid::Point;
 use lvl_io::fake::Pieces;
 use lvl_names::Layer;
 use lvl_refusal::Cause;
 use std::alloc::{AllocError, Global};
+use std::process::Abort;
 use std::test::Fail;
+
+mod bytes;
 
 /// A library with one structure TOP, in it the boundary of a square.
 fn square(alloc: Global) -> Result<Vec<u8>, AllocError> {
@@ -46,24 +49,36 @@ fn read(alloc: Global, bytes: &[u8], most: usize) -> Result<(Library, GdsHead), 
     read_gds(alloc, &mut reader)
 }
 
+/// Why these bytes are refused, if they are.
+fn fault_of(alloc: Global, bytes: &[u8], most: usize) -> Option<Cause<GdsFault>> {
+    read(alloc, bytes, most).err()
+}
+
 fn at(offset: u64, kind: GdsKind) -> Option<Cause<GdsFault>> {
     Some(Cause::Breach(GdsFault { offset, kind }))
 }
 
-#[test]
-fn reads_a_square(rt: HostRuntime) -> Result<(), Fail> {
-    let bytes = square(rt.alloc())?;
-    assert_eq!(rt; bytes.len(), 168);
-    let (library, head) = read(rt.alloc(), &bytes, 1000)?;
-    assert_eq!(rt;
-        head,
-        GdsHead {
-            version: 600,
-            units: [ONE, ONE]
+/// Appends so many bytes of this value.
+fn add_many(bytes: &mut Vec<u8>, count: usize, value: u8) -> Result<(), AllocError> {
+    for _ in 0..count {
+        bytes.push(value)?;
+    }
+    Ok(())
+}
+
+/// The bytes of `square` with this value at these places.
+fn changed(alloc: Global, places: &[usize], value: u8) -> Result<Vec<u8>, AllocError> {
+    let mut bytes = square(alloc)?;
+    for place in places {
+        if let Some(byte) = bytes.get_mut(*place) {
+            *byte = value;
         }
-    );
-    assert_eq!(rt; library.cells.len(), 1);
-    let cell = library.cells.first().ok_or("a cell")?;
+    }
+    Ok(bytes)
+}
+
+/// The shape is one square of the cell TOP.
+fn check_square(rt: &impl Abort, cell: &Cell) {
     assert_eq!(rt; cell.name.as_slice(), b"TOP".as_slice());
     assert_eq!(rt; cell.references.len(), 0);
     let shapes = &cell.shapes;
@@ -79,41 +94,70 @@ fn reads_a_square(rt: HostRuntime) -> Result<(), Fail> {
     assert_eq!(rt; shapes.ring_count(0), 1);
     assert_eq!(rt; shapes.ring(0, 0).len(), 4);
     assert_eq!(rt; shapes.ring(0, 0).get(3), Some(&Point { x: 0, y: 10 }));
+}
+
+/// The library is one cell TOP with a square.
+fn check_library(rt: &impl Abort, library: &Library) -> Result<(), Fail> {
+    assert_eq!(rt; library.cells.len(), 1);
+    check_square(rt, library.cells.first().ok_or("a cell")?);
     Ok(())
+}
+
+#[test]
+fn reads_a_square(rt: HostRuntime) -> Result<(), Fail> {
+    let bytes = square(rt.alloc())?;
+    assert_eq!(rt; bytes.len(), 168);
+    let (library, head) = read(rt.alloc(), &bytes, 1000)?;
+    assert_eq!(rt;
+        head,
+        GdsHead {
+            version: 600,
+            units: [ONE, ONE]
+        }
+    );
+    check_library(&rt, &library)
+}
+
+/// The only shape is one ring with these points.
+fn check_ring(rt: &impl Abort, shapes: &Shapes, points: &[(i64, i64)]) {
+    assert_eq!(rt; shapes.len(), 1);
+    assert_eq!(rt; shapes.ring_count(0), 1);
+    for (k, (x, y)) in points.iter().enumerate() {
+        assert_eq!(rt; shapes.ring(0, 0).get(k), Some(&Point { x: *x, y: *y }));
+    }
 }
 
 /// Row boundary-height: two bytes are heights.
 #[test]
 fn boundary_height(rt: HostRuntime) -> Result<(), Fail> {
-    let mut bytes = square(rt.alloc())?;
-    for k in [139, 147] {
-        if let Some(byte) = bytes.get_mut(k) {
-            *byte = 9;
-        }
-    }
+    let bytes = changed(rt.alloc(), &[139, 147], 9)?;
     let (library, _) = read(rt.alloc(), &bytes, 1000)?;
-    let shapes = &library.cells.first().ok_or("a cell")?.shapes;
-    assert_eq!(rt; shapes.len(), 1);
-    assert_eq!(rt; shapes.ring_count(0), 1);
-    let points: [(i64, i64); 4] = [(0, 0), (10, 0), (10, 9), (0, 9)];
-    for (k, (x, y)) in points.iter().enumerate() {
-        assert_eq!(rt; shapes.ring(0, 0).get(k), Some(&Point { x: *x, y: *y }));
-    }
+    let cell = library.cells.first().ok_or("a cell")?;
+    check_ring(&rt, &cell.shapes, &[(0, 0), (10, 0), (10, 9), (0, 9)]);
     Ok(())
 }
 
-#[test]
-fn reads_structures_in_file_order(rt: HostRuntime) -> Result<(), Fail> {
-    let mut stream = Stream::new(rt.alloc())?;
+/// Appends a structure of this name with so many boundaries.
+fn add_structure(stream: &mut Stream, name: &[u8], count: usize) -> Result<(), AllocError> {
+    stream.structure(name)?;
+    for _ in 0..count {
+        stream.boundary(2, 32_767, &SQUARE)?;
+    }
+    stream.end_structure()
+}
+
+/// Four structures with none, one, two and three boundaries.
+fn structures(alloc: Global) -> Result<Vec<u8>, AllocError> {
+    let mut stream = Stream::new(alloc)?;
     let names: [&[u8]; 4] = [b"B\0", b"AB", b"C\0", b"B\0"];
     for (n, name) in names.iter().enumerate() {
-        stream.structure(name)?;
-        for _ in 0..n {
-            stream.boundary(2, 32_767, &SQUARE)?;
-        }
-        stream.end_structure()?;
+        add_structure(&mut stream, name, n)?;
     }
-    let (library, _) = read(rt.alloc(), &stream.end()?, 7)?;
+    stream.end()
+}
+
+/// The cells are those of `structures`, in their order.
+fn check_order(rt: &impl Abort, library: &Library) -> Result<(), Fail> {
     assert_eq!(rt; library.cells.len(), 4);
     for (n, cell) in library.cells.iter().enumerate() {
         assert_eq!(rt; cell.shapes.len(), n);
@@ -121,6 +165,13 @@ fn reads_structures_in_file_order(rt: HostRuntime) -> Result<(), Fail> {
     let second = library.cells.get(1).ok_or("a cell")?;
     assert_eq!(rt; second.name.as_slice(), b"AB".as_slice());
     Ok(())
+}
+
+#[test]
+fn reads_structures_in_file_order(rt: HostRuntime) -> Result<(), Fail> {
+    let bytes = structures(rt.alloc())?;
+    let (library, _) = read(rt.alloc(), &bytes, 7)?;
+    check_order(&rt, &library)
 }
 
 #[test]
@@ -164,15 +215,9 @@ fn names_the_first_fault(rt: HostRuntime) -> Result<(), Fail> {
         ),
     ];
     for (k, value, offset, kind) in rows {
-        let mut bytes = square(rt.alloc())?;
-        if let Some(byte) = bytes.get_mut(k) {
-            *byte = value;
-        }
-        assert_eq!(rt;
-            read(rt.alloc(), &bytes, 1000).err(),
-            at(offset, kind),
-            "byte {k}"
-        );
+        let bytes = changed(rt.alloc(), &[k], value)?;
+        let fault = fault_of(rt.alloc(), &bytes, 1000);
+        assert_eq!(rt; fault, at(offset, kind), "byte {k}");
     }
     Ok(())
 }
@@ -194,9 +239,17 @@ fn tests_points_in_order(rt: HostRuntime) -> Result<(), Fail> {
     ];
     for (points, fault) in rows {
         let bytes = with_boundary(rt.alloc(), b"TOP\0", points)?;
-        assert_eq!(rt; read(rt.alloc(), &bytes, 1000).err(), fault);
+        assert_eq!(rt; fault_of(rt.alloc(), &bytes, 1000), fault);
     }
     Ok(())
+}
+
+/// A library whose structure has a name of so many letters and, after them, so many zeros.
+fn named(alloc: Global, letters: usize, zeros: usize) -> Result<Vec<u8>, AllocError> {
+    let mut name = Vec::new(alloc);
+    add_many(&mut name, letters, b'~')?;
+    add_many(&mut name, zeros, 0)?;
+    with_boundary(alloc, &name, &SQUARE)
 }
 
 #[test]
@@ -210,21 +263,14 @@ fn names_have_up_to_255_bytes(rt: HostRuntime) -> Result<(), Fail> {
         (0, 0, false),
     ];
     for (letters, zeros, accepted) in rows {
-        let mut name = Vec::new(rt.alloc());
-        for _ in 0..letters {
-            name.push(b'~')?;
-        }
-        for _ in 0..zeros {
-            name.push(0)?;
-        }
-        let bytes = with_boundary(rt.alloc(), &name, &SQUARE)?;
+        let bytes = named(rt.alloc(), letters, zeros)?;
         let fault = if accepted {
             None
         } else {
             at(88, GdsKind::Name)
         };
         assert_eq!(rt;
-            read(rt.alloc(), &bytes, 1000).err(),
+            fault_of(rt.alloc(), &bytes, 1000),
             fault,
             "{letters} {zeros}"
         );
@@ -239,13 +285,21 @@ fn reports_each_cut(rt: HostRuntime) -> Result<(), Fail> {
         let fault = at(begun(k), GdsKind::Record(RecordFault::Truncated));
         for most in [1, 1000] {
             assert_eq!(rt;
-                read(rt.alloc(), &bytes[..k], most).err(),
+                fault_of(rt.alloc(), &bytes[..k], most),
                 fault,
                 "cut to {k}"
             );
         }
     }
     Ok(())
+}
+
+/// The bytes of `square`, so many zeros, and the rest.
+fn padded(alloc: Global, zeros: usize, rest: &[u8]) -> Result<Vec<u8>, AllocError> {
+    let mut bytes = square(alloc)?;
+    add_many(&mut bytes, zeros, 0)?;
+    bytes.extend_from_slice(rest)?;
+    Ok(bytes)
 }
 
 #[test]
@@ -257,110 +311,29 @@ fn takes_zero_bytes_alone_after_the_end(rt: HostRuntime) -> Result<(), Fail> {
         (0, b"\0\x04\x04\0", at(169, GdsKind::AfterEnd)),
     ];
     for (zeros, rest, fault) in rows {
-        let mut bytes = square(rt.alloc())?;
-        for _ in 0..zeros {
-            bytes.push(0)?;
-        }
-        bytes.extend_from_slice(rest)?;
+        let bytes = padded(rt.alloc(), zeros, rest)?;
         for most in [1, 65_536] {
-            assert_eq!(rt; read(rt.alloc(), &bytes, most).err(), fault);
+            assert_eq!(rt; fault_of(rt.alloc(), &bytes, most), fault);
         }
     }
     Ok(())
 }
 
-/// Whichever bit is another, it matters not how a reader cuts the bytes.
-#[test]
-fn reads_pieces_of_any_size_alike(rt: HostRuntime) -> Result<(), Fail> {
-    let mut bytes = square(rt.alloc())?;
-    for k in 0..bytes.len() {
-        let kept = bytes.get(k).copied().unwrap_or(0);
-        for bit in [1, 2, 4, 8, 16, 32, 64, 128] {
-            let value = kept ^ bit;
-            if let Some(byte) = bytes.get_mut(k) {
-                *byte = value;
-            }
-            let fault = read(rt.alloc(), &bytes, 1000).err();
-            for most in [1, 2, 3] {
-                assert_eq!(rt;
-                    read(rt.alloc(), &bytes, most).err(),
-                    fault,
-                    "byte {k} is {value}"
-                );
-            }
-        }
-        if let Some(byte) = bytes.get_mut(k) {
-            *byte = kept;
-        }
-    }
-    Ok(())
-}
-
-/// Whether this is what is reported of `square` with the byte at a place set to another value: the fault
-/// that its payload's rule names, and of a header some fault no earlier than its record.
-fn is_reported(place: usize, value: u8, fault: Option<Cause<GdsFault>>) -> bool {
-    match place {
-        // a version, times, the library's name and units, a number's lowest byte: they are free
-        4..=5 | 10..=33 | 38..=39 | 44..=59 | 64..=87 | 105 | 111 => fault.is_none(),
-        // a name: its last byte may be the zero that fills it
-        92..=95 => {
-            let is_name = 0x21 <= value && value <= 0x7E;
-            fault == if is_name { None } else { at(88, GdsKind::Name) }
-        }
-        // the sign of a layer and of a datatype
-        104 => fault
-            == if value < 0x80 {
-                None
-            } else {
-                at(100, GdsKind::Element(ElementRule::Layer))
-            },
-        110 => fault
-            == if value < 0x80 {
-                None
-            } else {
-                at(106, GdsKind::Element(ElementRule::Layer))
-            },
-        116..=155 => fault == at(112, GdsKind::Element(ElementRule::NotClosed))
-            || fault == at(112, GdsKind::Element(ElementRule::Oblique)),
-        _ => match fault {
-            Some(Cause::Breach(GdsFault { offset, kind: _ })) => begun(place) <= offset
-                && offset <= 168,
-            _ => false,
-        },
-    }
-}
-
-#[test]
-fn reports_each_byte_that_is_set(rt: HostRuntime) -> Result<(), Fail> {
-    let square = square(rt.alloc())?;
-    for (place, kept) in square.iter().enumerate() {
-        let mut bytes = Vec::from_slice(rt.alloc(), &square)?;
-        for value in 0..=255u8 {
-            if let Some(byte) = bytes.get_mut(place) {
-                *byte = value;
-            }
-            let fault = read(rt.alloc(), &bytes, 1000).err();
-            if value == *kept {
-                assert_eq!(rt; fault, None);
-            } else {
-                assert!(rt;
-                    is_reported(place, value, fault),
-                    "byte {place} is {value}: {fault:?}"
-                );
-            }
-        }
-    }
-    Ok(())
+/// Why no library is read where a reader fails after these bytes, and how often it failed.
+fn failing(alloc: Global, bytes: &[u8]) -> (Option<Cause<GdsFault>>, u64) {
+    let mut reader = Pieces::failing(bytes, 100);
+    let fault = read_gds(alloc, &mut reader).err();
+    (fault, reader.errors)
 }
 
 #[test]
 fn reports_a_failed_read(rt: HostRuntime) -> Result<(), Fail> {
     let bytes = square(rt.alloc())?;
     for k in 0..=bytes.len() {
-        let mut reader = Pieces::failing(&bytes[..k], 100);
+        let (reported, errors) = failing(rt.alloc(), &bytes[..k]);
         let fault = at(begun(k), GdsKind::Record(RecordFault::Read));
-        assert_eq!(rt; read_gds(rt.alloc(), &mut reader).err(), fault, "after {k}");
-        assert_eq!(rt; reader.errors, 1);
+        assert_eq!(rt; reported, fault, "after {k}");
+        assert_eq!(rt; errors, 1);
     }
     Ok(())
 }

@@ -3,20 +3,24 @@
 use gds_library::{ElementRule, GdsFault, GdsKind, Misplaced, read_gds};
 use gds_records::fake::{SQUARE, Stream};
 use gds_records::record_type;
-use lvl_cells::{CellFault, Library, Reference, check};
+use lvl_cells::{CellFault, Library, Reference, Shapes, check};
 use lvl_grid::{Point, Turn};
 use lvl_io::fake::Pieces;
 use lvl_path::PathFault;
 use lvl_refusal::Cause;
 use std::alloc::{AllocError, Global};
+use std::process::Abort;
 use std::test::Fail;
 
 const CORNER: [(i32, i32); 3] = [(0, 0), (10, 0), (10, 10)];
 
 const ANGLE_90: [u8; 8] = [0x42, 0x5A, 0, 0, 0, 0, 0, 0];
 
+/// The cells of a stream, or why they aren't read.
+type Answer = Result<Library, Cause<GdsFault>>;
+
 /// The cells of a stream, which is cut into pieces of seven bytes.
-fn read(alloc: Global, bytes: &[u8]) -> Result<Library, Cause<GdsFault>> {
+fn read(alloc: Global, bytes: &[u8]) -> Answer {
     let mut reader = Pieces::new(bytes, 7);
     let (library, _) = read_gds(alloc, &mut reader)?;
     Ok(library)
@@ -46,6 +50,12 @@ fn with_path(
     stream.end()
 }
 
+/// What is read of `with_path`.
+fn path(alloc: Global, ends: Option<i16>, width: i32, points: &[(i32, i32)]) -> Answer {
+    let stream = with_path(alloc, ends, width, points)?;
+    read(alloc, &stream)
+}
+
 /// A structure A with a square, and a structure TOP with an array of it.
 fn with_array(
     alloc: Global,
@@ -61,6 +71,12 @@ fn with_array(
     stream.array(b"A\0", columns, rows, points)?;
     stream.end_structure()?;
     stream.end()
+}
+
+/// What is read of `with_array`.
+fn array(alloc: Global, columns: i16, rows: i16, points: &[(i32, i32)]) -> Answer {
+    let stream = with_array(alloc, columns, rows, points)?;
+    read(alloc, &stream)
 }
 
 /// Where COLROW begins in `with_array`, and where XY does.
@@ -90,21 +106,24 @@ fn shifts_by(reference: &Reference, want: &[(i64, i64)]) -> bool {
     true
 }
 
-/// Row array-tiles: three columns by two rows of a square that touch, columns first.
-#[test]
-fn array_tiles(rt: HostRuntime) -> Result<(), Fail> {
-    let stream = with_array(rt.alloc(), 3, 2, &[(0, 0), (30, 0), (0, 20)])?;
-    let library = read(rt.alloc(), &stream)?;
-    let cell = library.cells.get(1).ok_or("a cell")?;
-    assert_eq!(rt; cell.shapes.len(), 0);
-    assert_eq!(rt; cell.references.len(), 1);
-    let reference = cell.references.first().ok_or("a reference")?;
+/// The reference is to A, at the origin and as it is, three columns by two rows.
+fn check_tiles(rt: &impl Abort, reference: &Reference) {
     assert_eq!(rt; reference.cell(), b"A".as_slice());
     assert_eq!(rt; reference.at(), Point { x: 0, y: 0 });
     assert_eq!(rt; reference.flip(), false);
     assert_eq!(rt; reference.turn(), Turn::R0);
     let shifts: [(i64, i64); 6] = [(0, 0), (10, 0), (20, 0), (0, 10), (10, 10), (20, 10)];
     assert!(rt; shifts_by(reference, &shifts));
+}
+
+/// Row array-tiles: three columns by two rows of a square that touch, columns first.
+#[test]
+fn array_tiles(rt: HostRuntime) -> Result<(), Fail> {
+    let library = array(rt.alloc(), 3, 2, &[(0, 0), (30, 0), (0, 20)])?;
+    let cell = library.cells.get(1).ok_or("a cell")?;
+    assert_eq!(rt; cell.shapes.len(), 0);
+    assert_eq!(rt; cell.references.len(), 1);
+    check_tiles(&rt, cell.references.first().ok_or("a reference")?);
     Ok(())
 }
 
@@ -134,30 +153,45 @@ fn array_limits(rt: HostRuntime) -> Result<(), Fail> {
         (2, 1, [(0, 0), (-8, 0), (0, 2)], None),
     ];
     for (columns, rows, points, fault) in rows {
-        let stream = with_array(rt.alloc(), columns, rows, &points)?;
-        assert_eq!(rt; read(rt.alloc(), &stream).err(), fault, "{columns} {rows}");
+        let read = array(rt.alloc(), columns, rows, &points);
+        assert_eq!(rt; read.err(), fault, "{columns} {rows}");
     }
     Ok(())
 }
 
-/// Row flip-then-turn: a reference that is reflected and turned.
-#[test]
-fn flip_then_turn(rt: HostRuntime) -> Result<(), Fail> {
-    let mut stream = top(rt.alloc())?;
+/// Appends a reference to AB that is reflected and turned.
+fn add_turned(stream: &mut Stream) -> Result<(), AllocError> {
     stream.record(record_type::SREF, 0, b"")?;
     stream.record(record_type::SNAME, 6, b"AB")?;
     stream.record(record_type::STRANS, 1, &[0x80, 0])?;
     stream.record(record_type::ANGLE, 5, &ANGLE_90)?;
     stream.points(&[(0, 0)])?;
-    stream.end_element()?;
+    stream.end_element()
+}
+
+/// The library of a structure TOP with that reference.
+fn with_turned(alloc: Global) -> Result<Vec<u8>, AllocError> {
+    let mut stream = top(alloc)?;
+    add_turned(&mut stream)?;
     stream.end_structure()?;
-    let library = read(rt.alloc(), &stream.end()?)?;
-    let cell = library.cells.first().ok_or("a cell")?;
-    let reference = cell.references.first().ok_or("a reference")?;
+    stream.end()
+}
+
+/// The reference is to AB, reflected and turned, at one place.
+fn check_turned(rt: &impl Abort, reference: &Reference) {
     assert_eq!(rt; reference.cell(), b"AB".as_slice());
     assert_eq!(rt; reference.flip(), true);
     assert_eq!(rt; reference.turn(), Turn::R90);
     assert!(rt; shifts_by(reference, &[(0, 0)]));
+}
+
+/// Row flip-then-turn: a reference that is reflected and turned.
+#[test]
+fn flip_then_turn(rt: HostRuntime) -> Result<(), Fail> {
+    let stream = with_turned(rt.alloc())?;
+    let library = read(rt.alloc(), &stream)?;
+    let cell = library.cells.first().ok_or("a cell")?;
+    check_turned(&rt, cell.references.first().ok_or("a reference")?);
     Ok(())
 }
 
@@ -178,75 +212,123 @@ fn short_run(rt: HostRuntime) -> Result<(), Fail> {
         (2, None),
     ];
     for (width, fault) in rows {
-        let stream = with_path(rt.alloc(), None, width, &short)?;
-        assert_eq!(rt; read(rt.alloc(), &stream).err(), fault, "width {width}");
+        let read = path(rt.alloc(), None, width, &short);
+        assert_eq!(rt; read.err(), fault, "width {width}");
     }
-    let stream = with_path(rt.alloc(), Some(1), 4, &short)?;
+    let read = path(rt.alloc(), Some(1), 4, &short);
     assert_eq!(rt;
-        read(rt.alloc(), &stream).err(),
+        read.err(),
         at(112, GdsKind::Element(ElementRule::PathType))
     );
     Ok(())
 }
 
-/// Row square-ends: a path that reaches out by half its width at both ends.
-#[test]
-fn square_ends(rt: HostRuntime) -> Result<(), Fail> {
-    let stream = with_path(rt.alloc(), Some(2), 4, &CORNER)?;
-    let library = read(rt.alloc(), &stream)?;
-    let shapes = &library.cells.first().ok_or("a cell")?.shapes;
+/// The only shape is the two rings of a path that reaches out at both ends.
+fn check_ends(rt: &impl Abort, shapes: &Shapes) {
     assert_eq!(rt; shapes.len(), 1);
     assert_eq!(rt; shapes.ring_count(0), 2);
     let first: [(i64, i64); 4] = [(-2, -2), (12, -2), (12, 2), (-2, 2)];
     let second: [(i64, i64); 4] = [(8, -2), (12, -2), (12, 12), (8, 12)];
     assert!(rt; goes_along(shapes.ring(0, 0), &first));
     assert!(rt; goes_along(shapes.ring(0, 1), &second));
+}
+
+/// Row square-ends: a path that reaches out by half its width at both ends.
+#[test]
+fn square_ends(rt: HostRuntime) -> Result<(), Fail> {
+    let library = path(rt.alloc(), Some(2), 4, &CORNER)?;
+    let cell = library.cells.first().ok_or("a cell")?;
+    check_ends(&rt, &cell.shapes);
     Ok(())
 }
 
-/// Row text-covers-nothing: a text between other elements leaves no trace.
-#[test]
-fn text_covers_nothing(rt: HostRuntime) -> Result<(), Fail> {
-    let mut stream = top(rt.alloc())?;
-    stream.boundary(1, 0, &SQUARE)?;
+/// Appends a text.
+fn add_text(stream: &mut Stream) -> Result<(), AllocError> {
     stream.record(record_type::TEXT, 0, b"")?;
     stream.record(record_type::LAYER, 2, &[0xFF, 0xFF])?;
     stream.record(record_type::TEXTTYPE, 2, &[0, 0])?;
     stream.points(&[(0, 0)])?;
     stream.record(record_type::STRING, 6, b"HI")?;
-    stream.end_element()?;
+    stream.end_element()
+}
+
+/// The library of a structure TOP with a text between two squares.
+fn with_text(alloc: Global) -> Result<Vec<u8>, AllocError> {
+    let mut stream = top(alloc)?;
+    stream.boundary(1, 0, &SQUARE)?;
+    add_text(&mut stream)?;
     stream.boundary(2, 0, &SQUARE)?;
     stream.end_structure()?;
-    let library = read(rt.alloc(), &stream.end()?)?;
+    stream.end()
+}
+
+/// Row text-covers-nothing: a text between other elements leaves no trace.
+#[test]
+fn text_covers_nothing(rt: HostRuntime) -> Result<(), Fail> {
+    let stream = with_text(rt.alloc())?;
+    let library = read(rt.alloc(), &stream)?;
     let cell = library.cells.first().ok_or("a cell")?;
     assert_eq!(rt; cell.shapes.len(), 2);
     assert_eq!(rt; cell.references.len(), 0);
     Ok(())
 }
 
+/// Appends a structure that places another.
+fn add_placing(stream: &mut Stream, name: &[u8], placed: &[u8]) -> Result<(), AllocError> {
+    stream.structure(name)?;
+    stream.reference(placed, (0, 0))?;
+    stream.end_structure()
+}
+
+/// The library of A and B, which place one another, and C.
+fn with_cycle(alloc: Global) -> Result<Vec<u8>, AllocError> {
+    let mut stream = Stream::new(alloc)?;
+    add_placing(&mut stream, b"A\0", b"B\0")?;
+    add_placing(&mut stream, b"B\0", b"A\0")?;
+    stream.structure(b"C\0")?;
+    stream.end_structure()?;
+    stream.end()
+}
+
+/// The names of the cycle for which the library is refused.
+fn cycle_of(alloc: Global, library: Library) -> Result<Vec<Vec<u8>>, Fail> {
+    match check(alloc, library, None) {
+        Err(Cause::Breach(CellFault::Cycle(names))) => Ok(names),
+        _ => Err(Fail::from("a cycle")),
+    }
+}
+
+/// There are two names, and A is the first.
+fn check_names(rt: &impl Abort, names: &[Vec<u8>]) -> Result<(), Fail> {
+    assert_eq!(rt; names.len(), 2);
+    let first = names.first().ok_or("a name")?;
+    assert_eq!(rt; first.as_slice(), b"A".as_slice());
+    Ok(())
+}
+
 /// Row cycle: cells that place one another are read, and refused as a library.
 #[test]
 fn cycle(rt: HostRuntime) -> Result<(), Fail> {
-    let mut stream = Stream::new(rt.alloc())?;
-    let cells: [(&[u8], &[u8]); 2] = [(b"A\0", b"B\0"), (b"B\0", b"A\0")];
-    for (name, placed) in cells {
-        stream.structure(name)?;
-        stream.reference(placed, (0, 0))?;
-        stream.end_structure()?;
-    }
-    stream.structure(b"C\0")?;
-    stream.end_structure()?;
-    let library = read(rt.alloc(), &stream.end()?)?;
+    let stream = with_cycle(rt.alloc())?;
+    let library = read(rt.alloc(), &stream)?;
     assert_eq!(rt; library.cells.len(), 3);
-    match check(rt.alloc(), library, None) {
-        Err(Cause::Breach(CellFault::Cycle(names))) => {
-            assert_eq!(rt; names.len(), 2);
-            let first = names.first().ok_or("a name")?;
-            assert_eq!(rt; first.as_slice(), b"A".as_slice());
-        }
-        _ => return Err(Fail::from("a cycle")),
-    }
-    Ok(())
+    let names = cycle_of(rt.alloc(), library)?;
+    check_names(&rt, &names)
+}
+
+/// Where a record begins that comes after SREF and SNAME, and how this stream is refused.
+fn refused(
+    alloc: Global,
+    kind: u8,
+    data_type: u8,
+    payload: &[u8],
+) -> Result<(u64, Option<Cause<GdsFault>>), AllocError> {
+    let mut stream = top(alloc)?;
+    stream.record(record_type::SREF, 0, b"")?;
+    stream.record(record_type::SNAME, 6, b"AB")?;
+    let offset = stream.offset();
+    stream.record(kind, data_type, payload)?;
+    Ok((offset, read(alloc, &stream.into_bytes()).err()))
 }
 
 /// A rule is named at the record that breaches it, whichever element it is in.
@@ -297,27 +379,17 @@ fn names_each_fault_where_it_stands(rt: HostRuntime) -> Result<(), Fail> {
         ),
     ];
     for (kind, data_type, payload, fault) in rows {
-        let mut stream = top(rt.alloc())?;
-        stream.record(record_type::SREF, 0, b"")?;
-        stream.record(record_type::SNAME, 6, b"AB")?;
-        let offset = stream.offset();
-        stream.record(kind, data_type, payload)?;
-        assert_eq!(rt;
-            read(rt.alloc(), &stream.into_bytes()).err(),
-            at(offset, fault),
-            "type {kind}"
-        );
+        let (offset, reported) = refused(rt.alloc(), kind, data_type, payload)?;
+        assert_eq!(rt; reported, at(offset, fault), "type {kind}");
     }
     Ok(())
 }
 
 #[test]
 fn growths(rt: HostRuntime) -> Result<(), Fail> {
-    let stream = with_path(rt.alloc(), Some(2), 4, &CORNER)?;
-    let library = read(rt.alloc(), &stream)?;
+    let library = path(rt.alloc(), Some(2), 4, &CORNER)?;
     assert_eq!(rt; library.cells.len(), 1);
-    let stream = with_array(rt.alloc(), 3, 2, &[(0, 0), (30, 0), (0, 20)])?;
-    let library = read(rt.alloc(), &stream)?;
+    let library = array(rt.alloc(), 3, 2, &[(0, 0), (30, 0), (0, 20)])?;
     assert_eq!(rt; library.cells.len(), 2);
     Ok(())
 }

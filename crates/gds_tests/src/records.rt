@@ -9,21 +9,29 @@ use std::alloc::{AllocError, Global};
 use std::process::Abort;
 use std::test::Fail;
 
-/// A library with one structure TOP, in it the boundary of a square. Each line is a record.
+/// The records of a library with one structure TOP, in it the boundary of a square.
+static RECORDS: [&[u8]; 13] = [
+    b"\x00\x06\x00\x02\x02\x58",
+    b"\x00\x1C\x01\x02\0\0\0\0\0\0\0\0\0\0\0\0\0\0\0\0\0\0\0\0\0\0\0\0",
+    b"\x00\x06\x02\x06LB",
+    b"\x00\x14\x03\x05A\x10\0\0\0\0\0\0A\x10\0\0\0\0\0\0",
+    b"\x00\x1C\x05\x02\0\0\0\0\0\0\0\0\0\0\0\0\0\0\0\0\0\0\0\0\0\0\0\0",
+    b"\x00\x08\x06\x06TOP\0",
+    b"\x00\x04\x08\x00",
+    b"\x00\x06\x0D\x02\x00\x01",
+    b"\x00\x06\x0E\x02\x00\x00",
+    b"\x00\x2C\x10\x03\0\0\0\0\0\0\0\0\0\0\0\x0A\0\0\0\0\0\0\0\x0A\0\0\0\x0A\0\0\0\0\0\0\0\x0A\0\0\0\0\0\0\0\0",
+    b"\x00\x04\x11\x00",
+    b"\x00\x04\x07\x00",
+    b"\x00\x04\x04\x00",
+];
+
+/// The bytes of these records.
 fn square(alloc: Global) -> Result<Vec<u8>, AllocError> {
     let mut bytes = Vec::with_capacity(alloc, 168)?;
-    bytes.extend_from_slice(b"\x00\x06\x00\x02\x02\x58")?;
-    bytes.extend_from_slice(b"\x00\x1C\x01\x02")?;
-    bytes.extend_from_slice(&[0; 24])?;
-    bytes.extend_from_slice(b"\x00\x06\x02\x06LB")?;
-    bytes.extend_from_slice(b"\x00\x14\x03\x05A\x10\0\0\0\0\0\0A\x10\0\0\0\0\0\0")?;
-    bytes.extend_from_slice(b"\x00\x1C\x05\x02")?;
-    bytes.extend_from_slice(&[0; 24])?;
-    bytes.extend_from_slice(b"\x00\x08\x06\x06TOP\0")?;
-    bytes.extend_from_slice(b"\x00\x04\x08\x00\x00\x06\x0D\x02\x00\x01\x00\x06\x0E\x02\x00\x00")?;
-    bytes.extend_from_slice(b"\x00\x2C\x10\x03\0\0\0\0\0\0\0\0\0\0\0\x0A\0\0\0\0")?;
-    bytes.extend_from_slice(b"\0\0\0\x0A\0\0\0\x0A\0\0\0\0\0\0\0\x0A\0\0\0\0\0\0\0\0")?;
-    bytes.extend_from_slice(b"\x00\x04\x11\x00\x00\x04\x07\x00\x00\x04\x04\x00")?;
+    for record in RECORDS.iter() {
+        bytes.extend_from_slice(record)?;
+    }
     Ok(bytes)
 }
 
@@ -65,6 +73,23 @@ struct Walk {
     offset: u64,
 }
 
+/// The checksum after a record of this type and with this payload.
+fn mixed(checksum: u64, kind: u8, payload: &[u8]) -> u64 {
+    let mut mixed = checksum.wrapping_mul(31).wrapping_add(kind as u64);
+    for byte in payload {
+        mixed = mixed.wrapping_mul(31).wrapping_add(*byte as u64);
+    }
+    mixed
+}
+
+/// Every call answers `Failed`, and the offset stays.
+fn check_failed<R: Read>(rt: &impl Abort, records: &mut Records<R>) {
+    let offset = records.offset();
+    assert!(rt; matches!(records.next(), Err(Stopped::Failed)));
+    assert!(rt; matches!(records.tail(), Err(Stopped::Failed)));
+    assert_eq!(rt; records.offset(), offset);
+}
+
 /// Reads records up to the end or to a fault, after which every call has to answer `Failed`.
 fn read_on<R: Read>(rt: &impl Abort, records: &mut Records<R>) -> Walk {
     let mut count = 0u32;
@@ -74,10 +99,7 @@ fn read_on<R: Read>(rt: &impl Abort, records: &mut Records<R>) -> Walk {
         match records.next() {
             Ok(Some(record)) => {
                 count = count.wrapping_add(1);
-                checksum = checksum.wrapping_mul(31).wrapping_add(record.kind as u64);
-                for byte in record.payload {
-                    checksum = checksum.wrapping_mul(31).wrapping_add(*byte as u64);
-                }
+                checksum = mixed(checksum, record.kind, record.payload);
             }
             Ok(None) => break,
             Err(Stopped::Fault(fault)) => {
@@ -89,9 +111,7 @@ fn read_on<R: Read>(rt: &impl Abort, records: &mut Records<R>) -> Walk {
     }
     let offset = records.offset();
     if found.is_some() {
-        assert!(rt; matches!(records.next(), Err(Stopped::Failed)));
-        assert!(rt; matches!(records.tail(), Err(Stopped::Failed)));
-        assert_eq!(rt; records.offset(), offset);
+        check_failed(rt, records);
     }
     Walk {
         records: count,
@@ -101,21 +121,42 @@ fn read_on<R: Read>(rt: &impl Abort, records: &mut Records<R>) -> Walk {
     }
 }
 
+/// How it goes to read these bytes, at most `most` at a read.
+fn walk_of(rt: &impl Abort, alloc: Global, bytes: &[u8], most: usize) -> Result<Walk, AllocError> {
+    let mut records = Records::new(alloc, Pieces::new(bytes, most))?;
+    Ok(read_on(rt, &mut records))
+}
+
+/// The next record begins there, and has this type and a payload of this length.
+fn read_next<R: Read>(
+    rt: &impl Abort,
+    records: &mut Records<R>,
+    (offset, kind, len): (u64, u8, u64),
+) -> Result<(), Fail> {
+    assert_eq!(rt; records.offset(), offset);
+    let record = records.next()?.ok_or("a record stands here")?;
+    assert_eq!(rt; record.offset, offset);
+    assert_eq!(rt; record.kind, kind);
+    assert_eq!(rt; record.payload.len() as u64, len);
+    Ok(())
+}
+
+/// The records are those of `square`, and no more.
+fn read_square<R: Read>(rt: &impl Abort, records: &mut Records<R>) -> Result<(), Fail> {
+    for row in SQUARE {
+        read_next(rt, records, row)?;
+    }
+    assert!(rt; matches!(records.next(), Ok(None)));
+    assert_eq!(rt; records.offset(), 168);
+    Ok(())
+}
+
 #[test]
 fn reads_a_square(rt: HostRuntime) -> Result<(), Fail> {
     let bytes = square(rt.alloc())?;
     assert_eq!(rt; bytes.len(), 168);
     let mut records = Records::new(rt.alloc(), Pieces::new(&bytes, 168))?;
-    for (offset, kind, len) in SQUARE {
-        assert_eq!(rt; records.offset(), offset);
-        let record = records.next()?.ok_or("a record stands here")?;
-        assert_eq!(rt; record.offset, offset);
-        assert_eq!(rt; record.kind, kind);
-        assert_eq!(rt; record.payload.len() as u64, len);
-    }
-    assert!(rt; matches!(records.next(), Ok(None)));
-    assert_eq!(rt; records.offset(), 168);
-    Ok(())
+    read_square(&rt, &mut records)
 }
 
 #[test]
@@ -146,8 +187,7 @@ fn tests_a_header_in_order(rt: HostRuntime) -> Result<(), Fail> {
         (b"\x00\x0C\x10\x03\0\0\0\0\0\0\0\0", None),
     ];
     for (bytes, fault) in rows {
-        let mut records = Records::new(rt.alloc(), Pieces::new(bytes, 100))?;
-        let walk = read_on(&rt, &mut records);
+        let walk = walk_of(&rt, rt.alloc(), bytes, 100)?;
         assert_eq!(rt; walk.fault, fault);
         assert_eq!(rt;
             walk.offset,
@@ -161,22 +201,46 @@ fn tests_a_header_in_order(rt: HostRuntime) -> Result<(), Fail> {
     Ok(())
 }
 
+/// What is reported of the first `k` bytes of `square`.
+fn check_cut(rt: &impl Abort, alloc: Global, bytes: &[u8], k: usize) -> Result<(), Fail> {
+    let walk = walk_of(rt, alloc, bytes, 100)?;
+    let start = begun(k as u64);
+    let fault = if start < k as u64 {
+        Some(RecordFault::Truncated)
+    } else {
+        None
+    };
+    assert_eq!(rt; walk.fault, fault, "cut to {k}");
+    assert_eq!(rt; walk.offset, start, "cut to {k}");
+    Ok(())
+}
+
 #[test]
 fn reports_each_cut(rt: HostRuntime) -> Result<(), Fail> {
     let bytes = square(rt.alloc())?;
     for k in 0..bytes.len() {
-        let mut records = Records::new(rt.alloc(), Pieces::new(&bytes[..k], 100))?;
-        let walk = read_on(&rt, &mut records);
-        let start = begun(k as u64);
-        let fault = if start < k as u64 {
-            Some(RecordFault::Truncated)
-        } else {
-            None
-        };
-        assert_eq!(rt; walk.fault, fault, "cut to {k}");
-        assert_eq!(rt; walk.offset, start, "cut to {k}");
+        check_cut(&rt, rt.alloc(), &bytes[..k], k)?;
     }
     Ok(())
+}
+
+/// The bytes of `square`, so many zeros, and the rest.
+fn padded(alloc: Global, zeros: usize, rest: &[u8]) -> Result<Vec<u8>, AllocError> {
+    let mut bytes = square(alloc)?;
+    for _ in 0..zeros {
+        bytes.push(0)?;
+    }
+    bytes.extend_from_slice(rest)?;
+    Ok(bytes)
+}
+
+/// After the records of `square` the tail is this, and the reader is at this offset.
+fn read_tail<R: Read>(rt: &impl Abort, records: &mut Records<R>, other: Option<u64>, end: u64) {
+    for _ in SQUARE {
+        assert!(rt; matches!(records.next(), Ok(Some(_))));
+    }
+    assert_eq!(rt; records.tail(), Ok(other));
+    assert_eq!(rt; records.offset(), end);
 }
 
 #[test]
@@ -189,20 +253,21 @@ fn takes_zero_bytes_alone_after_the_end(rt: HostRuntime) -> Result<(), Fail> {
         (70_000, b"\x01\x00", Some(70_168)),
     ];
     for (zeros, rest, other) in rows {
+        let bytes = padded(rt.alloc(), zeros, rest)?;
         for most in [1, 3, 65_536] {
-            let mut bytes = square(rt.alloc())?;
-            for _ in 0..zeros {
-                bytes.push(0)?;
-            }
-            bytes.extend_from_slice(rest)?;
             let mut records = Records::new(rt.alloc(), Pieces::new(&bytes, most))?;
-            for _ in SQUARE {
-                assert!(rt; matches!(records.next(), Ok(Some(_))));
-            }
-            assert_eq!(rt; records.tail(), Ok(other));
-            assert_eq!(rt; records.offset(), 168 + zeros as u64);
+            read_tail(&rt, &mut records, other, 168 + zeros as u64);
         }
     }
+    Ok(())
+}
+
+/// These bytes, of which one was changed, are records up to the end or to a fault of their own.
+fn check_changed(rt: &impl Abort, alloc: Global, bytes: &[u8]) -> Result<(), Fail> {
+    let walk = walk_of(rt, alloc, bytes, 1000)?;
+    assert!(rt; walk.fault != Some(RecordFault::Read));
+    assert!(rt; walk.fault != Some(RecordFault::TooLong));
+    assert!(rt; walk.fault.is_some() || walk.offset == 168);
     Ok(())
 }
 
@@ -213,66 +278,93 @@ fn gives_each_byte_a_record_or_a_fault(rt: HostRuntime) -> Result<(), Fail> {
     for k in 0..bytes.len().min(changed.len()) {
         for value in 0..=255u8 {
             changed[k] = value;
-            let mut records = Records::new(rt.alloc(), Pieces::new(&changed, 1000))?;
-            let walk = read_on(&rt, &mut records);
-            assert!(rt; walk.fault != Some(RecordFault::Read));
-            assert!(rt; walk.fault != Some(RecordFault::TooLong));
-            assert!(rt; walk.fault.is_some() || walk.offset == 168);
+            check_changed(&rt, rt.alloc(), &changed)?;
         }
         changed[k] = bytes[k];
     }
     Ok(())
 }
 
+/// A record that fills its payload with this number, and the records of `square`.
+fn add_long_and_square(alloc: Global, bytes: &mut Vec<u8>, number: u8) -> Result<(), AllocError> {
+    bytes.extend_from_slice(b"\xFF\xFE\x19\x06")?;
+    for _ in 0..65_530 {
+        bytes.push(number)?;
+    }
+    bytes.append(&mut square(alloc)?)
+}
+
+/// Three times a long record and the records of `square`.
+fn long(alloc: Global) -> Result<Vec<u8>, AllocError> {
+    let mut bytes = Vec::new(alloc);
+    for n in 0..3u8 {
+        add_long_and_square(alloc, &mut bytes, n)?;
+    }
+    Ok(bytes)
+}
+
 #[test]
 fn reads_pieces_of_any_size_alike(rt: HostRuntime) -> Result<(), Fail> {
-    let mut bytes = Vec::new(rt.alloc());
-    for n in 0..3u8 {
-        bytes.extend_from_slice(b"\xFF\xFE\x19\x06")?;
-        for _ in 0..65_530 {
-            bytes.push(n)?;
-        }
-        bytes.extend_from_slice(square(rt.alloc())?.as_slice())?;
-    }
-    let mut whole = Records::new(rt.alloc(), Pieces::new(&bytes, 1_000_000))?;
-    let want = read_on(&rt, &mut whole);
+    let bytes = long(rt.alloc())?;
+    let want = walk_of(&rt, rt.alloc(), &bytes, 1_000_000)?;
     assert_eq!(rt;
         (want.records, want.fault, want.offset),
         (42, None, 3 * 65_702)
     );
     for most in [1, 2, 3, 65_535, 65_536] {
-        let mut records = Records::new(rt.alloc(), Pieces::new(&bytes, most))?;
-        assert_eq!(rt; read_on(&rt, &mut records), want, "pieces of {most}");
+        let walk = walk_of(&rt, rt.alloc(), &bytes, most)?;
+        assert_eq!(rt; walk, want, "pieces of {most}");
     }
     Ok(())
+}
+
+/// How it goes to read these bytes from a reader that then fails, and how often it has failed.
+fn walk_failing(rt: &impl Abort, alloc: Global, bytes: &[u8]) -> Result<(Walk, u64), AllocError> {
+    let mut records = Records::new(alloc, Pieces::failing(bytes, 100))?;
+    let walk = read_on(rt, &mut records);
+    Ok((walk, records.into_reader().errors))
 }
 
 #[test]
 fn reports_a_failed_read_once(rt: HostRuntime) -> Result<(), Fail> {
     let bytes = square(rt.alloc())?;
     for k in 0..=bytes.len() {
-        let mut records = Records::new(rt.alloc(), Pieces::failing(&bytes[..k], 100))?;
-        let walk = read_on(&rt, &mut records);
+        let (walk, errors) = walk_failing(&rt, rt.alloc(), &bytes[..k])?;
         assert_eq!(rt; walk.fault, Some(RecordFault::Read), "after {k}");
         assert_eq!(rt; walk.offset, begun(k as u64), "after {k}");
-        assert_eq!(rt; records.into_reader().errors, 1);
+        assert_eq!(rt; errors, 1);
     }
+    Ok(())
+}
+
+/// The tail fails after so many zero bytes, and again at once.
+fn fail_tail<R: Read>(rt: &impl Abort, records: &mut Records<R>, zeros: usize) {
+    assert_eq!(rt; records.tail(), Err(Stopped::Fault(RecordFault::Read)));
+    assert_eq!(rt; records.offset(), zeros as u64);
+    assert_eq!(rt; records.tail(), Err(Stopped::Failed));
+}
+
+#[test]
+fn reports_a_failed_read_of_the_tail_once(rt: HostRuntime) -> Result<(), Fail> {
     for k in 0..100usize {
         let zeros = [0; 100];
         let mut records = Records::new(rt.alloc(), Pieces::failing(&zeros[..k], 7))?;
-        assert_eq!(rt; records.tail(), Err(Stopped::Fault(RecordFault::Read)));
-        assert_eq!(rt; records.offset(), k as u64);
-        assert_eq!(rt; records.tail(), Err(Stopped::Failed));
+        fail_tail(&rt, &mut records, k);
         assert_eq!(rt; records.into_reader().errors, 1);
     }
     Ok(())
 }
 
+/// The type of the first record.
+fn first_kind(alloc: Global, bytes: &[u8]) -> Result<Option<u8>, Fail> {
+    let mut records = Records::new(alloc, Pieces::new(bytes, usize::MAX))?;
+    Ok(records.next()?.map(|record| record.kind))
+}
+
 #[test]
 fn growths(rt: HostRuntime) -> Result<(), Fail> {
     let bytes = square(rt.alloc())?;
-    let mut records = Records::new(rt.alloc(), Pieces::new(&bytes, usize::MAX))?;
-    let found = records.next()?.map(|record| record.kind);
+    let found = first_kind(rt.alloc(), &bytes)?;
     assert_eq!(rt; found, Some(record_type::HEADER));
     Ok(())
 }

@@ -1,5 +1,5 @@
 //! Which rule is reported, and of which record.
-use super::{DEGREES_45, DEGREES_90, END, Line, Says, Stop, TWICE, array, read};
+use super::{DEGREES_45, DEGREES_90, END, Line, Says, Stop, TWICE, array, stop_of};
 use gds_elements::{ElementFault, ElementRule, Misplaced};
 use gds_records::record_type as ty;
 use lvl_path::PathFault;
@@ -58,7 +58,7 @@ fn short_run(rt: HostRuntime) -> Result<(), Fail> {
             (ty::XY, points),
             END,
         ];
-        assert_eq!(rt; read(rt.alloc(), &lines).err(), Some(stop), "{name}");
+        assert_eq!(rt; stop_of(rt.alloc(), &lines), Some(stop), "{name}");
     }
     Ok(())
 }
@@ -136,119 +136,131 @@ fn array_limits(rt: HostRuntime) -> Result<(), Fail> {
     Ok(())
 }
 
+const BOUNDARY: Line<'static> = (ty::BOUNDARY, Says::Nothing);
+
+const PATH: Line<'static> = (ty::PATH, Says::Nothing);
+
+const SREF: Line<'static> = (ty::SREF, Says::Nothing);
+
+const TEXT: Line<'static> = (ty::TEXT, Says::Nothing);
+
+const LAYER: Line<'static> = (ty::LAYER, Says::Short(1));
+
+const DATATYPE: Line<'static> = (ty::DATATYPE, Says::Short(0));
+
+const NAME: Line<'static> = (ty::SNAME, Says::Bytes(b"A\0"));
+
+const TWO: Line<'static> = (ty::XY, Says::Points(&[(0, 0), (4, 0)]));
+
+const OPEN: Line<'static> = (ty::XY, Says::Points(&[(0, 0), (1, 1), (2, 0), (0, 1)]));
+
+const OBLIQUE: Line<'static> = (ty::XY, Says::Points(&[(0, 0), (1, 1), (1, 0), (0, 0)]));
+
+/// The records of elements, and which rule is reported of which record.
+static REFUSALS: [(&[Line<'static>], Stop); 18] = [
+    (
+        &[BOUNDARY, DATATYPE],
+        Stop::At(
+            1,
+            ElementFault::Misplaced(Misplaced::Unexpected(ty::DATATYPE)),
+        ),
+    ),
+    (
+        &[BOUNDARY, (0x2D, Says::Nothing)],
+        Stop::At(1, ElementFault::Misplaced(Misplaced::Unsupported(0x2D))),
+    ),
+    (
+        &[BOUNDARY, LAYER, DATATYPE, TWO],
+        Stop::At(3, ElementFault::Rule(ElementRule::Points)),
+    ),
+    (
+        &[BOUNDARY, LAYER, DATATYPE, OPEN],
+        Stop::At(3, ElementFault::Rule(ElementRule::NotClosed)),
+    ),
+    (
+        &[BOUNDARY, LAYER, DATATYPE, OBLIQUE],
+        Stop::At(3, ElementFault::Rule(ElementRule::Oblique)),
+    ),
+    (
+        &[BOUNDARY, (ty::LAYER, Says::Short(-1))],
+        Stop::At(1, ElementFault::Rule(ElementRule::Layer)),
+    ),
+    (
+        &[PATH, LAYER, (ty::DATATYPE, Says::Short(-1))],
+        Stop::At(2, ElementFault::Rule(ElementRule::Layer)),
+    ),
+    (
+        &[PATH, LAYER, DATATYPE, TWO],
+        Stop::At(3, ElementFault::Rule(ElementRule::Width)),
+    ),
+    (
+        &[PATH, LAYER, DATATYPE, (ty::PATHTYPE, Says::Short(1))],
+        Stop::At(3, ElementFault::Rule(ElementRule::PathType)),
+    ),
+    (
+        &[
+            PATH,
+            LAYER,
+            DATATYPE,
+            (ty::WIDTH, Says::Long(2)),
+            (ty::PATHTYPE, Says::Short(0)),
+        ],
+        Stop::At(
+            4,
+            ElementFault::Misplaced(Misplaced::Unexpected(ty::PATHTYPE)),
+        ),
+    ),
+    (
+        &[SREF, (ty::SNAME, Says::Bytes(b"\0"))],
+        Stop::At(1, ElementFault::Rule(ElementRule::Name)),
+    ),
+    (
+        &[SREF, NAME, (ty::STRANS, Says::Short(0x0004))],
+        Stop::At(2, ElementFault::Rule(ElementRule::Strans)),
+    ),
+    (
+        &[
+            SREF,
+            NAME,
+            (ty::STRANS, Says::Short(0)),
+            (ty::MAG, Says::Bytes(&TWICE)),
+        ],
+        Stop::At(3, ElementFault::Rule(ElementRule::Magnification)),
+    ),
+    (
+        &[
+            SREF,
+            NAME,
+            (ty::STRANS, Says::Short(0)),
+            (ty::ANGLE, Says::Bytes(&DEGREES_45)),
+        ],
+        Stop::At(3, ElementFault::Rule(ElementRule::Angle)),
+    ),
+    (
+        &[SREF, NAME, (ty::ANGLE, Says::Bytes(&DEGREES_90))],
+        Stop::At(2, ElementFault::Misplaced(Misplaced::Unexpected(ty::ANGLE))),
+    ),
+    (
+        &[SREF, NAME, TWO],
+        Stop::At(2, ElementFault::Rule(ElementRule::Points)),
+    ),
+    (
+        &[TEXT, LAYER, (ty::TEXTTYPE, Says::Short(-1)), TWO],
+        Stop::At(3, ElementFault::Rule(ElementRule::Points)),
+    ),
+    (
+        &[TEXT, LAYER, BOUNDARY],
+        Stop::At(
+            2,
+            ElementFault::Misplaced(Misplaced::Unexpected(ty::BOUNDARY)),
+        ),
+    ),
+];
+
 #[test]
 fn the_first_rule_is_reported(rt: HostRuntime) -> Result<(), Fail> {
-    let boundary: Line = (ty::BOUNDARY, Says::Nothing);
-    let path: Line = (ty::PATH, Says::Nothing);
-    let sref: Line = (ty::SREF, Says::Nothing);
-    let text: Line = (ty::TEXT, Says::Nothing);
-    let layer: Line = (ty::LAYER, Says::Short(1));
-    let datatype: Line = (ty::DATATYPE, Says::Short(0));
-    let name: Line = (ty::SNAME, Says::Bytes(b"A\0"));
-    let two: Line = (ty::XY, Says::Points(&[(0, 0), (4, 0)]));
-    let open: Line = (ty::XY, Says::Points(&[(0, 0), (1, 1), (2, 0), (0, 1)]));
-    let oblique: Line = (ty::XY, Says::Points(&[(0, 0), (1, 1), (1, 0), (0, 0)]));
-    let rows: [(&[Line], Stop); 18] = [
-        (
-            &[boundary, datatype],
-            Stop::At(
-                1,
-                ElementFault::Misplaced(Misplaced::Unexpected(ty::DATATYPE)),
-            ),
-        ),
-        (
-            &[boundary, (0x2D, Says::Nothing)],
-            Stop::At(1, ElementFault::Misplaced(Misplaced::Unsupported(0x2D))),
-        ),
-        (
-            &[boundary, layer, datatype, two],
-            Stop::At(3, ElementFault::Rule(ElementRule::Points)),
-        ),
-        (
-            &[boundary, layer, datatype, open],
-            Stop::At(3, ElementFault::Rule(ElementRule::NotClosed)),
-        ),
-        (
-            &[boundary, layer, datatype, oblique],
-            Stop::At(3, ElementFault::Rule(ElementRule::Oblique)),
-        ),
-        (
-            &[boundary, (ty::LAYER, Says::Short(-1))],
-            Stop::At(1, ElementFault::Rule(ElementRule::Layer)),
-        ),
-        (
-            &[path, layer, (ty::DATATYPE, Says::Short(-1))],
-            Stop::At(2, ElementFault::Rule(ElementRule::Layer)),
-        ),
-        (
-            &[path, layer, datatype, two],
-            Stop::At(3, ElementFault::Rule(ElementRule::Width)),
-        ),
-        (
-            &[path, layer, datatype, (ty::PATHTYPE, Says::Short(1))],
-            Stop::At(3, ElementFault::Rule(ElementRule::PathType)),
-        ),
-        (
-            &[
-                path,
-                layer,
-                datatype,
-                (ty::WIDTH, Says::Long(2)),
-                (ty::PATHTYPE, Says::Short(0)),
-            ],
-            Stop::At(
-                4,
-                ElementFault::Misplaced(Misplaced::Unexpected(ty::PATHTYPE)),
-            ),
-        ),
-        (
-            &[sref, (ty::SNAME, Says::Bytes(b"\0"))],
-            Stop::At(1, ElementFault::Rule(ElementRule::Name)),
-        ),
-        (
-            &[sref, name, (ty::STRANS, Says::Short(0x0004))],
-            Stop::At(2, ElementFault::Rule(ElementRule::Strans)),
-        ),
-        (
-            &[
-                sref,
-                name,
-                (ty::STRANS, Says::Short(0)),
-                (ty::MAG, Says::Bytes(&TWICE)),
-            ],
-            Stop::At(3, ElementFault::Rule(ElementRule::Magnification)),
-        ),
-        (
-            &[
-                sref,
-                name,
-                (ty::STRANS, Says::Short(0)),
-                (ty::ANGLE, Says::Bytes(&DEGREES_45)),
-            ],
-            Stop::At(3, ElementFault::Rule(ElementRule::Angle)),
-        ),
-        (
-            &[sref, name, (ty::ANGLE, Says::Bytes(&DEGREES_90))],
-            Stop::At(2, ElementFault::Misplaced(Misplaced::Unexpected(ty::ANGLE))),
-        ),
-        (
-            &[sref, name, two],
-            Stop::At(2, ElementFault::Rule(ElementRule::Points)),
-        ),
-        (
-            &[text, layer, (ty::TEXTTYPE, Says::Short(-1)), two],
-            Stop::At(3, ElementFault::Rule(ElementRule::Points)),
-        ),
-        (
-            &[text, layer, boundary],
-            Stop::At(
-                2,
-                ElementFault::Misplaced(Misplaced::Unexpected(ty::BOUNDARY)),
-            ),
-        ),
-    ];
-    for (lines, stop) in rows {
-        assert_eq!(rt; read(rt.alloc(), lines).err(), Some(stop));
+    for (lines, stop) in REFUSALS.iter() {
+        assert_eq!(rt; stop_of(rt.alloc(), lines), Some(*stop));
     }
     Ok(())
 }
