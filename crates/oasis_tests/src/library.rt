@@ -1,12 +1,13 @@
 //! Files read whole: what each spells, and that it doesn't matter how a reader cuts the bytes.
 
-use lvl_cells::Library;
+use lvl_cells::{Cell, Library, Reference, Shapes};
 use lvl_grid::{Point, Turn};
 use lvl_io::fake::Pieces;
 use lvl_names::Layer;
 use lvl_refusal::Cause;
 use oasis_library::{OasisFault, OasisHead, Real, read_oasis};
 use std::alloc::{AllocError, Global};
+use std::process::Abort;
 use std::test::Fail;
 
 /// The magic string and START, but its offset flag.
@@ -52,6 +53,23 @@ pub fn read(
     read_oasis(alloc, &mut reader)
 }
 
+/// The fault of these bytes, at most `most` at a read.
+pub fn fault_of(alloc: Global, bytes: &[u8], most: usize) -> Option<Cause<OasisFault>> {
+    read(alloc, bytes, most).err()
+}
+
+/// The library of a file of these records, at most `most` bytes at a read.
+pub fn library_of(alloc: Global, records: &[&[u8]], most: usize) -> Result<Library, Fail> {
+    let bytes = file(alloc, records)?;
+    let (library, _) = read(alloc, &bytes, most)?;
+    Ok(library)
+}
+
+/// The first cell.
+fn first_of(library: &Library) -> Result<&Cell, Fail> {
+    Ok(library.cells.first().ok_or("a cell")?)
+}
+
 /// The first box of a shape: least and greatest coordinates.
 fn box_of(points: &[Point]) -> [i64; 4] {
     let mut sides = [i64::MAX, i64::MAX, i64::MIN, i64::MIN];
@@ -78,17 +96,8 @@ fn boxes(alloc: Global, library: &Library) -> Result<Vec<([i64; 4], usize)>, All
     Ok(boxes)
 }
 
-#[test]
-fn reads_a_square(rt: HostRuntime) -> Result<(), Fail> {
-    let bytes = square(rt.alloc())?;
-    assert_eq!(rt; bytes.len(), 303);
-    let (library, head) = read(rt.alloc(), &bytes, 1000)?;
-    assert_eq!(rt; head, HEAD);
-    assert_eq!(rt; library.cells.len(), 1);
-    let cell = library.cells.first().ok_or("a cell")?;
-    assert_eq!(rt; cell.name.as_slice(), b"TOP".as_slice());
-    assert_eq!(rt; cell.references.len(), 0);
-    let shapes = &cell.shapes;
+/// One square on 1/0, at one place.
+fn check_square(rt: &impl Abort, shapes: &Shapes) {
     assert_eq!(rt; shapes.len(), 1);
     let layer = Layer {
         layer: 1,
@@ -101,7 +110,33 @@ fn reads_a_square(rt: HostRuntime) -> Result<(), Fail> {
     for (k, (x, y)) in points.iter().enumerate() {
         assert_eq!(rt; shapes.ring(0, 0).get(k), Some(&Point { x: *x, y: *y }));
     }
+}
+
+/// One cell, TOP, with the square.
+fn check_top(rt: &impl Abort, library: &Library) -> Result<(), Fail> {
+    assert_eq!(rt; library.cells.len(), 1);
+    let cell = first_of(library)?;
+    assert_eq!(rt; cell.name.as_slice(), b"TOP".as_slice());
+    assert_eq!(rt; cell.references.len(), 0);
+    check_square(rt, &cell.shapes);
     Ok(())
+}
+
+#[test]
+fn reads_a_square(rt: HostRuntime) -> Result<(), Fail> {
+    let bytes = square(rt.alloc())?;
+    assert_eq!(rt; bytes.len(), 303);
+    let (library, head) = read(rt.alloc(), &bytes, 1000)?;
+    assert_eq!(rt; head, HEAD);
+    check_top(&rt, &library)
+}
+
+/// The boxes of all rings of the first cell, each of four points.
+fn check_boxes(rt: &impl Abort, found: &[([i64; 4], usize)], want: &[[i64; 4]], records: &[u8]) {
+    assert_eq!(rt; found.len(), want.len(), "{records:?}");
+    for (k, sides) in want.iter().enumerate() {
+        assert_eq!(rt; found.get(k), Some(&(*sides, 4)), "{records:?}");
+    }
 }
 
 /// Rows square-flag, names-by-number, implied-vertex, path-ends, relative-mode, negative-x and
@@ -161,37 +196,65 @@ fn draws_boxes(rt: HostRuntime) -> Result<(), Fail> {
         (TOP, b"\x14\x7B\x01\x00\x00\x05\x00\x00", &[[0, 0, 0, 5]]),
     ];
     for (cell, records, want) in rows {
-        let bytes = file(rt.alloc(), &[cell, records])?;
-        let (library, _) = read(rt.alloc(), &bytes, 5)?;
+        let library = library_of(rt.alloc(), &[cell, records], 5)?;
         let found = boxes(rt.alloc(), &library)?;
-        assert_eq!(rt; found.len(), want.len(), "{records:?}");
-        for (k, sides) in want.iter().enumerate() {
-            assert_eq!(rt; found.get(k), Some(&(*sides, 4)), "{records:?}");
-        }
-        let cell = library.cells.first().ok_or("a cell")?;
-        assert_eq!(rt; cell.name.as_slice(), b"TOP".as_slice());
+        check_boxes(&rt, &found, want, records);
+        assert_eq!(rt; first_of(&library)?.name.as_slice(), b"TOP".as_slice());
     }
     Ok(())
 }
 
-/// Rows spaces and long-repetition: the shifts of a rectangle.
-#[test]
-fn repeats_shapes(rt: HostRuntime) -> Result<(), Fail> {
-    let spaces = b"\x14\x7F\x01\x00\x0A\x0A\x00\x00\x04\x01\x0C\x14";
-    let (library, _) = read(rt.alloc(), &file(rt.alloc(), &[TOP, spaces])?, 1)?;
-    let shapes = &library.cells.first().ok_or("a cell")?.shapes;
+/// One shape at three places along x.
+fn check_spaces(rt: &impl Abort, shapes: &Shapes) {
     assert_eq!(rt; shapes.len(), 1);
     assert_eq!(rt; shapes.shift_count(0), 3);
     for (k, x) in [(0, 0), (1, 12), (2, 32)] {
         assert_eq!(rt; shapes.shift(0, k), Some(Point { x, y: 0 }));
     }
-    let long = b"\x14\x7F\x01\x00\x01\x01\x00\x00\x02\xFE\xFF\xFF\x07\x01\x14\x00\x14\x04\x00";
-    let (library, _) = read(rt.alloc(), &file(rt.alloc(), &[TOP, long])?, 1000)?;
-    let shapes = &library.cells.first().ok_or("a cell")?.shapes;
+}
+
+/// Row spaces: the shifts of a rectangle.
+#[test]
+fn repeats_shapes(rt: HostRuntime) -> Result<(), Fail> {
+    let spaces = b"\x14\x7F\x01\x00\x0A\x0A\x00\x00\x04\x01\x0C\x14";
+    let library = library_of(rt.alloc(), &[TOP, spaces], 1)?;
+    check_spaces(&rt, &first_of(&library)?.shapes);
+    Ok(())
+}
+
+/// Three shapes: the second is at one place.
+fn check_long(rt: &impl Abort, shapes: &Shapes) {
     assert_eq!(rt; shapes.len(), 3);
     assert_eq!(rt; shapes.shift_count(0), 16_777_216);
     assert_eq!(rt; shapes.shift_count(1), 1);
     assert_eq!(rt; shapes.shift_count(2), 16_777_216);
+}
+
+/// Row long-repetition.
+#[test]
+fn repeats_shapes_at_many_places(rt: HostRuntime) -> Result<(), Fail> {
+    let long = b"\x14\x7F\x01\x00\x01\x01\x00\x00\x02\xFE\xFF\xFF\x07\x01\x14\x00\x14\x04\x00";
+    let library = library_of(rt.alloc(), &[TOP, long], 1000)?;
+    check_long(&rt, &first_of(&library)?.shapes);
+    Ok(())
+}
+
+/// Each reference places a cell of that name once, at that place on the x-axis.
+fn check_references(rt: &impl Abort, references: &[Reference], name: &[u8], x: i64) {
+    for reference in references {
+        assert_eq!(rt; reference.cell(), name);
+        assert_eq!(rt; reference.at(), Point { x, y: 0 });
+        assert_eq!(rt; reference.shifts().len(), 1);
+    }
+}
+
+/// The cell TOP with two references: how the first is turned, and whether it is reflected.
+fn check_placing(rt: &impl Abort, cell: &Cell, turn: Turn, flip: bool) -> Result<(), Fail> {
+    assert_eq!(rt; cell.name.as_slice(), b"TOP".as_slice());
+    assert_eq!(rt; cell.references.len(), 2);
+    let first = cell.references.first().ok_or("a reference")?;
+    assert_eq!(rt; first.turn(), turn);
+    assert_eq!(rt; first.flip(), flip);
     Ok(())
 }
 
@@ -207,25 +270,33 @@ fn places_cells(rt: HostRuntime) -> Result<(), Fail> {
     ];
     for (record, name, turn, x) in rows {
         let names = b"\x04\x01B\x07\x04\x01A\x00\x04\x03TOP\x05";
-        let bytes = file(rt.alloc(), &[b"\x0D\x05", record, b"\x11\x00", names])?;
-        let (library, _) = read(rt.alloc(), &bytes, 2)?;
-        let cell = library.cells.first().ok_or("a cell")?;
-        assert_eq!(rt; cell.name.as_slice(), b"TOP".as_slice());
-        assert_eq!(rt; cell.references.len(), 2);
-        for reference in &cell.references {
-            assert_eq!(rt; reference.cell(), name);
-            assert_eq!(rt; reference.at(), Point { x, y: 0 });
-            assert_eq!(rt; reference.shifts().len(), 1);
-        }
-        let first = cell.references.first().ok_or("a reference")?;
-        assert_eq!(rt; first.turn(), turn);
-        assert_eq!(rt; first.flip(), x == 2);
+        let records: [&[u8]; 4] = [b"\x0D\x05", record, b"\x11\x00", names];
+        let library = library_of(rt.alloc(), &records, 2)?;
+        let cell = first_of(&library)?;
+        check_placing(&rt, cell, turn, x == 2)?;
+        check_references(&rt, &cell.references, name, x);
     }
     Ok(())
 }
 
-/// Rows tables-in-end, signature-shown and units-shown: what a file says of itself. Each file is bytes,
-/// zeros, bytes, zeros and bytes.
+/// These bytes, each followed by so many zeros.
+fn with_zeros(alloc: Global, parts: &[(&[u8], usize)]) -> Result<Vec<u8>, AllocError> {
+    let mut bytes = Vec::new(alloc);
+    for (part, zeros) in parts {
+        bytes.extend_from_slice(part)?;
+        let long = bytes.len().saturating_add(*zeros);
+        bytes.resize(long, 0)?;
+    }
+    Ok(bytes)
+}
+
+/// What a file says of itself, and how many cells it has.
+fn head_of(alloc: Global, bytes: &[u8]) -> Result<(OasisHead, usize), Cause<OasisFault>> {
+    let (library, head) = read(alloc, bytes, 1000)?;
+    Ok((head, library.cells.len()))
+}
+
+/// Rows tables-in-end, signature-shown and units-shown: what a file says of itself.
 #[test]
 fn reads_heads(rt: HostRuntime) -> Result<(), Fail> {
     let ratio = OasisHead {
@@ -244,54 +315,59 @@ fn reads_heads(rt: HostRuntime) -> Result<(), Fail> {
     let flagged =
         b"%SEMI-OASIS\r\n\x01\x031.0\x00\xE8\x07\x01\x0E\x03TOP\x14\x7B\x01\x00\x0A\x0A\x00\x00\x02";
     let ieee = b"%SEMI-OASIS\r\n\x01\x031.0\x07\x00\x00\x00\x00\x00\x40\x8F\x40\x00";
-    let rows: [(&[u8], usize, &[u8], usize, &[u8], OasisHead, usize); 4] = [
-        (flagged, 12, b"\xF0\x01", 241, b"", HEAD, 1),
+    let two_by_eight = b"%SEMI-OASIS\r\n\x01\x031.0\x04\x02\x08\x00";
+    let rows: [([(&[u8], usize); 3], OasisHead, usize); 4] = [
+        ([(flagged, 12), (b"\xF0\x01", 241), (b"", 0)], HEAD, 1),
         (
-            b"%SEMI-OASIS\r\n\x01\x031.0\x04\x02\x08\x00",
-            12,
-            b"\x02\xFC\x01",
-            253,
-            b"",
+            [(two_by_eight, 12), (b"\x02\xFC\x01", 253), (b"", 0)],
             ratio,
             0,
         ),
-        (ieee, 12, b"\x02\xFC\x01", 253, b"", eight, 0),
+        ([(ieee, 12), (b"\x02\xFC\x01", 253), (b"", 0)], eight, 0),
         (
-            START,
-            13,
-            b"\x0E\x03TOP\x02\xF8\x01",
-            248,
-            b"\x01\x01\x02\x03\x04",
+            [
+                (START, 13),
+                (b"\x0E\x03TOP\x02\xF8\x01", 248),
+                (b"\x01\x01\x02\x03\x04", 0),
+            ],
             signed,
             1,
         ),
     ];
-    for (first, few, then, many, last, want, cells) in rows {
-        let mut bytes = Vec::from_slice(rt.alloc(), first)?;
-        bytes.resize(first.len() + few, 0)?;
-        bytes.extend_from_slice(then)?;
-        let long = bytes.len() + many;
-        bytes.resize(long, 0)?;
-        bytes.extend_from_slice(last)?;
-        let (library, head) = read(rt.alloc(), &bytes, 1000)?;
-        assert_eq!(rt; head, want);
-        assert_eq!(rt; library.cells.len(), cells);
+    for (parts, want, cells) in rows {
+        let bytes = with_zeros(rt.alloc(), &parts)?;
+        assert_eq!(rt; head_of(rt.alloc(), &bytes)?, (want, cells));
     }
     Ok(())
+}
+
+/// What a file says of itself, and the box of its first ring with the number of points.
+fn head_and_box(
+    alloc: Global,
+    bytes: &[u8],
+    most: usize,
+) -> Result<(OasisHead, Option<([i64; 4], usize)>), Cause<OasisFault>> {
+    let (library, head) = read(alloc, bytes, most)?;
+    let boxes = boxes(alloc, &library)?;
+    Ok((head, boxes.first().copied()))
 }
 
 #[test]
 fn reads_pieces_of_any_size_alike(rt: HostRuntime) -> Result<(), Fail> {
     let bytes = square(rt.alloc())?;
     for most in [1, 2, 3, 4095, 4096, 65_536, usize::MAX] {
-        let (library, head) = read(rt.alloc(), &bytes, most)?;
+        let (head, first) = head_and_box(rt.alloc(), &bytes, most)?;
         assert_eq!(rt; head, HEAD);
-        assert_eq!(rt;
-            boxes(rt.alloc(), &library)?.first(),
-            Some(&([0, 0, 10, 10], 4))
-        );
+        assert_eq!(rt; first, Some(([0, 0, 10, 10], 4)));
     }
     Ok(())
+}
+
+/// What a file says of itself, and how many rings its first cell has.
+fn head_and_rings(alloc: Global, bytes: &[u8]) -> Result<(OasisHead, usize), Cause<OasisFault>> {
+    let (library, head) = read(alloc, bytes, 1000)?;
+    let boxes = boxes(alloc, &library)?;
+    Ok((head, boxes.len()))
 }
 
 #[test]
@@ -307,11 +383,8 @@ fn growths(rt: HostRuntime) -> Result<(), Fail> {
         names,
     ];
     let bytes = file(rt.alloc(), records)?;
-    match read(rt.alloc(), &bytes, 1000) {
-        Ok((library, head)) => {
-            assert_eq!(rt; head, HEAD);
-            assert_eq!(rt; boxes(rt.alloc(), &library)?.len(), 4);
-        }
+    match head_and_rings(rt.alloc(), &bytes) {
+        Ok(answer) => assert_eq!(rt; answer, (HEAD, 4)),
         Err(Cause::Breach(_)) => assert!(rt; false, "no library"),
         Err(Cause::OutOfMemory) => return Err(AllocError.into()),
     }
