@@ -5,6 +5,7 @@ use lvl_grid::Point;
 use lvl_ignore::Ignore;
 use lvl_io::Read;
 use lvl_io::fake::Pieces;
+use lvl_names::Offsets;
 use lvl_refusal::Cause;
 use oasis_values::{Input, Real, Repetition, Text, Use, ValueFault};
 use std::alloc::{AllocError, Global};
@@ -29,6 +30,13 @@ fn put(bytes: &mut Vec<u8>, number: u64) -> Result<(), AllocError> {
     Ok(())
 }
 
+/// The bytes of an unsigned integer.
+fn spelled(alloc: Global, number: u64) -> Result<Vec<u8>, AllocError> {
+    let mut bytes = Vec::new(alloc);
+    put(&mut bytes, number)?;
+    Ok(bytes)
+}
+
 const LARGE: Result<u64, ValueFault> = Err(ValueFault::IntegerTooLarge);
 
 #[test]
@@ -48,6 +56,11 @@ fn small_values(rt: HostRuntime) -> Result<(), Fail> {
     for (bytes, want) in unsigned {
         assert_eq!(rt; input(bytes).unsigned(), want);
     }
+    Ok(())
+}
+
+#[test]
+fn small_signed_values(rt: HostRuntime) -> Result<(), Fail> {
     let signed: [(&[u8], i64); 6] = [
         (b"\x0B", -5),
         (b"\x03", -1),
@@ -60,6 +73,11 @@ fn small_values(rt: HostRuntime) -> Result<(), Fail> {
         assert_eq!(rt; input(bytes).signed(), Ok(want));
         assert_eq!(rt; input(bytes).one_delta(), Ok(want));
     }
+    Ok(())
+}
+
+#[test]
+fn small_deltas(rt: HostRuntime) -> Result<(), Fail> {
     assert_eq!(rt; input(b"\x29").two_delta(), Ok(Point { x: 0, y: 10 }));
     assert_eq!(rt; input(b"\x2F").three_delta(), Ok(Point { x: 5, y: -5 }));
     assert_eq!(rt; input(b"\xA8\x01").g_delta(), Ok(Point { x: 10, y: 10 }));
@@ -92,18 +110,40 @@ fn reals(rt: HostRuntime) -> Result<(), Fail> {
     Ok(())
 }
 
+/// What the unsigned integer is with which these bytes begin, and how many of them it takes.
+fn unsigned(bytes: &[u8]) -> (Result<u64, ValueFault>, u64) {
+    let mut values = input(bytes);
+    let read = values.unsigned();
+    (read, values.offset())
+}
+
 #[test]
 fn integers_near_powers(rt: HostRuntime) -> Result<(), Fail> {
     let mut power = 1u64;
     for _ in 0..10 {
         for near in [power.wrapping_sub(1), power, power.wrapping_add(1)] {
-            let mut bytes = Vec::new(rt.alloc());
-            put(&mut bytes, near)?;
-            let mut values = input(&bytes);
-            assert_eq!(rt; values.unsigned(), Ok(near));
-            assert_eq!(rt; values.offset(), bytes.len() as u64);
+            let bytes = spelled(rt.alloc(), near)?;
+            assert_eq!(rt; unsigned(&bytes), (Ok(near), bytes.len() as u64));
         }
         power = power.wrapping_mul(128);
+    }
+    Ok(())
+}
+
+/// The string is the rest of the bytes after the first, or that fault.
+fn check_string(
+    rt: &impl Abort,
+    bytes: &[u8],
+    read: &Result<Vec<u8>, Cause<ValueFault>>,
+    fault: Option<ValueFault>,
+) -> Result<(), Fail> {
+    match read {
+        Ok(text) => {
+            assert_eq!(rt; fault, None);
+            assert!(rt; Some(text.as_slice()) == bytes.get(1..));
+        }
+        Err(Cause::Breach(found)) => assert_eq!(rt; Some(*found), fault),
+        Err(Cause::OutOfMemory) => return Err(AllocError.into()),
     }
     Ok(())
 }
@@ -121,14 +161,29 @@ fn strings(rt: HostRuntime) -> Result<(), Fail> {
         (Text::B, b"\x02a", 2, Some(ValueFault::Truncated)),
     ];
     for (kind, bytes, most, fault) in rows {
-        match input(bytes).string(rt.alloc(), kind, most) {
-            Ok(text) => {
-                assert_eq!(rt; fault, None);
-                assert!(rt; text.as_slice() == &bytes[1..]);
-            }
-            Err(Cause::Breach(found)) => assert_eq!(rt; Some(found), fault),
-            Err(Cause::OutOfMemory) => return Err(AllocError.into()),
-        }
+        let read = input(bytes).string(rt.alloc(), kind, most);
+        check_string(&rt, bytes, &read, fault)?;
+    }
+    Ok(())
+}
+
+fn check_points(rt: &impl Abort, points: &[Point], want: &[(i64, i64)]) {
+    assert_eq!(rt; points.len(), want.len());
+    for (point, (x, y)) in points.iter().zip(want) {
+        assert_eq!(rt; (point.x, point.y), (*x, *y));
+    }
+}
+
+/// These points, or the fault.
+fn check_point_list(
+    rt: &impl Abort,
+    read: &Result<Vec<Point>, Cause<ValueFault>>,
+    want: Result<&[(i64, i64)], ValueFault>,
+) -> Result<(), Fail> {
+    match read {
+        Ok(points) => check_points(rt, points, want.unwrap_or(&[])),
+        Err(Cause::Breach(fault)) => assert_eq!(rt; Some(*fault), want.err()),
+        Err(Cause::OutOfMemory) => return Err(AllocError.into()),
     }
     Ok(())
 }
@@ -184,17 +239,29 @@ fn point_lists(rt: HostRuntime) -> Result<(), Fail> {
         ),
     ];
     for (purpose, bytes, want) in rows {
-        match input(bytes).point_list(rt.alloc(), purpose) {
-            Ok(points) => {
-                let listed = want.unwrap_or(&[]);
-                assert_eq!(rt; points.len(), listed.len());
-                for (point, (x, y)) in points.iter().zip(listed) {
-                    assert_eq!(rt; (point.x, point.y), (*x, *y));
-                }
-            }
-            Err(Cause::Breach(fault)) => assert_eq!(rt; Some(fault), want.err()),
-            Err(Cause::OutOfMemory) => return Err(AllocError.into()),
-        }
+        let read = input(bytes).point_list(rt.alloc(), purpose);
+        check_point_list(&rt, &read, want)?;
+    }
+    Ok(())
+}
+
+fn check_places(rt: &impl Abort, places: &Offsets, want: &[(i64, i64)]) {
+    assert_eq!(rt; places.len(), want.len() as u64);
+    for (k, (x, y)) in want.iter().enumerate() {
+        assert_eq!(rt; places.at(k as u64), Some(Point { x: *x, y: *y }));
+    }
+}
+
+/// A repetition at these places.
+fn check_repetition(
+    rt: &impl Abort,
+    read: &Result<Repetition, Cause<ValueFault>>,
+    want: &[(i64, i64)],
+) -> Result<(), Fail> {
+    match read {
+        Ok(Repetition::New(places)) => check_places(rt, places, want),
+        Err(Cause::OutOfMemory) => return Err(AllocError.into()),
+        _ => assert!(rt; false, "no places"),
     }
     Ok(())
 }
@@ -216,19 +283,31 @@ fn repetitions(rt: HostRuntime) -> Result<(), Fail> {
         (b"\x0B\x01\x05\x28\x17\x08", &[(0, 0), (10, 10), (-15, 30)]),
     ];
     for (bytes, want) in rows {
-        match input(bytes).repetition(rt.alloc(), false) {
-            Ok(Repetition::New(places)) => {
-                assert_eq!(rt; places.len(), want.len() as u64);
-                for (k, (x, y)) in want.iter().enumerate() {
-                    assert_eq!(rt; places.at(k as u64), Some(Point { x: *x, y: *y }));
-                }
-            }
-            Err(Cause::OutOfMemory) => return Err(AllocError.into()),
-            _ => assert!(rt; false, "no places"),
-        }
+        let read = input(bytes).repetition(rt.alloc(), false);
+        check_repetition(&rt, &read, want)?;
     }
+    Ok(())
+}
+
+#[test]
+fn the_modal_repetition(rt: HostRuntime) -> Result<(), Fail> {
     let again = input(b"\x00").repetition(rt.alloc(), true);
     assert!(rt; matches!(again, Ok(Repetition::Modal)));
+    Ok(())
+}
+
+/// A repetition at so many places, or the fault.
+fn check_count(
+    rt: &impl Abort,
+    read: &Result<Repetition, Cause<ValueFault>>,
+    want: Result<u64, ValueFault>,
+) -> Result<(), Fail> {
+    match read {
+        Ok(Repetition::New(places)) => assert_eq!(rt; Ok(places.len()), want),
+        Ok(Repetition::Modal) => assert!(rt; false, "nothing to use again"),
+        Err(Cause::Breach(fault)) => assert_eq!(rt; Err(*fault), want),
+        Err(Cause::OutOfMemory) => return Err(AllocError.into()),
+    }
     Ok(())
 }
 
@@ -251,12 +330,8 @@ fn repetition_limits(rt: HostRuntime) -> Result<(), Fail> {
         (b"\x01\xFF\xFF\xFF\x07", Err(ValueFault::Truncated)),
     ];
     for (bytes, want) in rows {
-        match input(bytes).repetition(rt.alloc(), false) {
-            Ok(Repetition::New(places)) => assert_eq!(rt; Ok(places.len()), want),
-            Ok(Repetition::Modal) => assert!(rt; false, "nothing to use again"),
-            Err(Cause::Breach(fault)) => assert_eq!(rt; Err(fault), want),
-            Err(Cause::OutOfMemory) => return Err(AllocError.into()),
-        }
+        let read = input(bytes).repetition(rt.alloc(), false);
+        check_count(&rt, &read, want)?;
     }
     Ok(())
 }
@@ -292,22 +367,32 @@ fn read_group<R: Read>(alloc: Global, values: &mut Input<R>) -> Result<u64, Caus
     )
 }
 
-#[test]
-fn reads_pieces_of_any_size_alike(rt: HostRuntime) -> Result<(), Fail> {
-    let mut bytes = Vec::new(rt.alloc());
+fn groups(alloc: Global) -> Result<Vec<u8>, AllocError> {
+    let mut bytes = Vec::new(alloc);
     for _ in 0..300u32 {
         bytes.extend_from_slice(GROUP)?;
     }
+    Ok(bytes)
+}
+
+/// All the groups and then the end, at most `most` bytes at a read.
+fn check_groups(rt: &impl Abort, alloc: Global, bytes: &[u8], most: usize) {
+    let mut values = Input::new(Pieces::new(bytes, most), Ignore::NOTHING);
+    for _ in 0..300u32 {
+        assert!(rt;
+            matches!(read_group(alloc, &mut values), Ok(343_115)),
+            "pieces of {most}"
+        );
+    }
+    assert_eq!(rt; values.offset(), bytes.len() as u64);
+    assert_eq!(rt; values.byte(), Err(ValueFault::Truncated));
+}
+
+#[test]
+fn reads_pieces_of_any_size_alike(rt: HostRuntime) -> Result<(), Fail> {
+    let bytes = groups(rt.alloc())?;
     for most in [1, 2, 3, 4095, 4096, 65_536, usize::MAX] {
-        let mut values = Input::new(Pieces::new(&bytes, most), Ignore::NOTHING);
-        for _ in 0..300u32 {
-            assert!(rt;
-                matches!(read_group(rt.alloc(), &mut values), Ok(343_115)),
-                "pieces of {most}"
-            );
-        }
-        assert_eq!(rt; values.offset(), bytes.len() as u64);
-        assert_eq!(rt; values.byte(), Err(ValueFault::Truncated));
+        check_groups(&rt, rt.alloc(), &bytes, most);
     }
     Ok(())
 }
@@ -330,18 +415,28 @@ fn check_failed<R: Read>(rt: &impl Abort, alloc: Global, values: &mut Input<R>) 
     assert_eq!(rt; values.offset(), at);
 }
 
+fn check_cut(rt: &impl Abort, alloc: Global, bytes: &[u8]) {
+    let mut cut = Input::new(Pieces::new(bytes, 3), Ignore::NOTHING);
+    let fault = Err(Cause::Breach(ValueFault::Truncated));
+    let k = bytes.len();
+    assert_eq!(rt; read_group(alloc, &mut cut), fault, "cut to {k}");
+    check_failed(rt, alloc, &mut cut);
+}
+
+fn check_failed_read(rt: &impl Abort, alloc: Global, bytes: &[u8]) {
+    let mut failing = Input::new(Pieces::failing(bytes, 3), Ignore::NOTHING);
+    let fault = Err(Cause::Breach(ValueFault::Read));
+    let k = bytes.len();
+    assert_eq!(rt; read_group(alloc, &mut failing), fault, "after {k}");
+    check_failed(rt, alloc, &mut failing);
+    assert_eq!(rt; failing.into_reader().errors, 1);
+}
+
 #[test]
 fn reports_each_cut_and_each_failed_read(rt: HostRuntime) -> Result<(), Fail> {
     for k in 0..GROUP.len() {
-        let mut cut = Input::new(Pieces::new(&GROUP[..k], 3), Ignore::NOTHING);
-        let fault = Err(Cause::Breach(ValueFault::Truncated));
-        assert_eq!(rt; read_group(rt.alloc(), &mut cut), fault, "cut to {k}");
-        check_failed(&rt, rt.alloc(), &mut cut);
-        let mut failing = Input::new(Pieces::failing(&GROUP[..k], 3), Ignore::NOTHING);
-        let fault = Err(Cause::Breach(ValueFault::Read));
-        assert_eq!(rt; read_group(rt.alloc(), &mut failing), fault, "after {k}");
-        check_failed(&rt, rt.alloc(), &mut failing);
-        assert_eq!(rt; failing.into_reader().errors, 1);
+        check_cut(&rt, rt.alloc(), &GROUP[..k]);
+        check_failed_read(&rt, rt.alloc(), &GROUP[..k]);
     }
     Ok(())
 }
