@@ -117,8 +117,8 @@ fn drawn(alloc: Global, bytes: &[u8], want: &Want) -> Result<(bool, u64), AllocE
 /// Each row: what the last of its records draws, and at how many shifts.
 fn check(rt: &impl Abort, alloc: Global, rows: &[(&str, &[u8], Want, u64)]) -> Result<(), Fail> {
     for (name, bytes, want, shifts) in rows {
-        let (is_wanted, count) = drawn(alloc, bytes, want)?;
-        assert!(rt; is_wanted, "{name}");
+        let (is_drawn, count) = drawn(alloc, bytes, want)?;
+        assert!(rt; is_drawn, "{name}");
         assert_eq!(rt; count, *shifts, "{name}");
     }
     Ok(())
@@ -273,8 +273,8 @@ fn growths(rt: HostRuntime) -> Result<(), Fail> {
     let mut modal = Modal::new();
     let bytes = b"\x15\x3B\x01\x00\x00\x02\x14\x14\x00\x00\x11\x80\x01A";
     match is_placing(&mut modal, rt.alloc(), bytes) {
-        Ok(is_placing) => {
-            assert!(rt; is_placing, "no placement");
+        Ok(is_placed) => {
+            assert!(rt; is_placed, "no placement");
             assert!(rt; modal.cell().is_some());
         }
         Err(refused) => {

@@ -131,7 +131,7 @@ fn reads_a_square(rt: HostRuntime) -> Result<(), Fail> {
     check_top(&rt, &library)
 }
 
-/// The boxes of all rings of the first cell, each of four points.
+/// Those boxes, each of a ring of four points.
 fn check_boxes(rt: &impl Abort, found: &[([i64; 4], usize)], want: &[[i64; 4]], records: &[u8]) {
     assert_eq!(rt; found.len(), want.len(), "{records:?}");
     for (k, sides) in want.iter().enumerate() {
@@ -348,8 +348,8 @@ fn head_and_box(
     most: usize,
 ) -> Result<(OasisHead, Option<([i64; 4], usize)>), Cause<OasisFault>> {
     let (library, head) = read(alloc, bytes, most)?;
-    let boxes = boxes(alloc, &library)?;
-    Ok((head, boxes.first().copied()))
+    let found = boxes(alloc, &library)?;
+    Ok((head, found.first().copied()))
 }
 
 #[test]
@@ -366,8 +366,8 @@ fn reads_pieces_of_any_size_alike(rt: HostRuntime) -> Result<(), Fail> {
 /// What a file says of itself, and how many rings its first cell has.
 fn head_and_rings(alloc: Global, bytes: &[u8]) -> Result<(OasisHead, usize), Cause<OasisFault>> {
     let (library, head) = read(alloc, bytes, 1000)?;
-    let boxes = boxes(alloc, &library)?;
-    Ok((head, boxes.len()))
+    let found = boxes(alloc, &library)?;
+    Ok((head, found.len()))
 }
 
 #[test]

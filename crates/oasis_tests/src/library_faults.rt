@@ -211,9 +211,9 @@ fn begun(k: usize) -> u64 {
 
 /// The fault of these bytes and then one failure, and how many errors there were.
 fn failing(alloc: Global, bytes: &[u8]) -> (Option<Cause<OasisFault>>, u64) {
-    let mut failing = Pieces::failing(bytes, 7);
-    let fault = read_oasis(alloc, &mut failing).err();
-    (fault, failing.errors)
+    let mut reader = Pieces::failing(bytes, 7);
+    let fault = read_oasis(alloc, &mut reader).err();
+    (fault, reader.errors)
 }
 
 /// Rows oasis-cuts and failing-read: the first bytes alone, and then the end or one failure.

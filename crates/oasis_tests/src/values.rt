@@ -5,14 +5,14 @@ use lvl_grid::Point;
 use lvl_ignore::Ignore;
 use lvl_io::Read;
 use lvl_io::fake::Pieces;
-use lvl_names::Offsets;
 use lvl_refusal::Cause;
 use oasis_values::{Input, Real, Repetition, Text, Use, ValueFault};
 use std::alloc::{AllocError, Global};
 use std::process::Abort;
 use std::test::Fail;
 
-fn input(bytes: &[u8]) -> Input<Pieces<'_>> {
+/// The values in these bytes.
+pub fn input(bytes: &[u8]) -> Input<Pieces<'_>> {
     Input::new(Pieces::new(bytes, usize::MAX), Ignore::NOTHING)
 }
 
@@ -111,20 +111,26 @@ fn reals(rt: HostRuntime) -> Result<(), Fail> {
 }
 
 /// What the unsigned integer is with which these bytes begin, and how many of them it takes.
-fn unsigned(bytes: &[u8]) -> (Result<u64, ValueFault>, u64) {
+fn unsigned_in(bytes: &[u8]) -> (Result<u64, ValueFault>, u64) {
     let mut values = input(bytes);
     let read = values.unsigned();
     (read, values.offset())
+}
+
+/// That number, the one before and the one after, each spelled and read.
+fn check_near(rt: &impl Abort, alloc: Global, power: u64) -> Result<(), Fail> {
+    for near in [power.wrapping_sub(1), power, power.wrapping_add(1)] {
+        let bytes = spelled(alloc, near)?;
+        assert_eq!(rt; unsigned_in(&bytes), (Ok(near), bytes.len() as u64));
+    }
+    Ok(())
 }
 
 #[test]
 fn integers_near_powers(rt: HostRuntime) -> Result<(), Fail> {
     let mut power = 1u64;
     for _ in 0..10 {
-        for near in [power.wrapping_sub(1), power, power.wrapping_add(1)] {
-            let bytes = spelled(rt.alloc(), near)?;
-            assert_eq!(rt; unsigned(&bytes), (Ok(near), bytes.len() as u64));
-        }
+        check_near(&rt, rt.alloc(), power)?;
         power = power.wrapping_mul(128);
     }
     Ok(())
@@ -163,175 +169,6 @@ fn strings(rt: HostRuntime) -> Result<(), Fail> {
     for (kind, bytes, most, fault) in rows {
         let read = input(bytes).string(rt.alloc(), kind, most);
         check_string(&rt, bytes, &read, fault)?;
-    }
-    Ok(())
-}
-
-fn check_points(rt: &impl Abort, points: &[Point], want: &[(i64, i64)]) {
-    assert_eq!(rt; points.len(), want.len());
-    for (point, (x, y)) in points.iter().zip(want) {
-        assert_eq!(rt; (point.x, point.y), (*x, *y));
-    }
-}
-
-/// These points, or the fault.
-fn check_point_list(
-    rt: &impl Abort,
-    read: &Result<Vec<Point>, Cause<ValueFault>>,
-    want: Result<&[(i64, i64)], ValueFault>,
-) -> Result<(), Fail> {
-    match read {
-        Ok(points) => check_points(rt, points, want.unwrap_or(&[])),
-        Err(Cause::Breach(fault)) => assert_eq!(rt; Some(*fault), want.err()),
-        Err(Cause::OutOfMemory) => return Err(AllocError.into()),
-    }
-    Ok(())
-}
-
-#[test]
-fn point_lists(rt: HostRuntime) -> Result<(), Fail> {
-    let square: [(i64, i64); 4] = [(0, 0), (10, 0), (10, 10), (0, 10)];
-    let rows: [(Use, &[u8], Result<&[(i64, i64)], ValueFault>); 13] = [
-        (Use::Polygon, b"\x02\x03\x28\x29\x2A", Ok(&square)),
-        (
-            Use::Polygon,
-            b"\x05\x03\xA0\x01\xAA\x01\xAC\x01",
-            Ok(&square),
-        ),
-        (Use::Polygon, b"\x00\x02\x14\x14", Ok(&square)),
-        (
-            Use::Polygon,
-            b"\x01\x02\x14\x14",
-            Ok(&[(0, 0), (0, 10), (10, 10), (10, 0)]),
-        ),
-        (
-            Use::Polygon,
-            b"\x00\x02\x03\x02",
-            Ok(&[(0, 0), (-1, 0), (-1, 1), (0, 1)]),
-        ),
-        (
-            Use::Polygon,
-            b"\x00\x03\x14\x14\x14",
-            Err(ValueFault::PointCount),
-        ),
-        (Use::Polygon, b"\x02\x01\x14", Err(ValueFault::PointCount)),
-        (
-            Use::Polygon,
-            b"\x02\x81\x80\x04",
-            Err(ValueFault::PointCount),
-        ),
-        (Use::Polygon, b"\x06", Err(ValueFault::PointListType)),
-        (Use::Path, b"\x00\x01\x14", Ok(&[(0, 0), (10, 0)])),
-        (
-            Use::Path,
-            b"\x03\x02\x54\x55",
-            Ok(&[(0, 0), (10, 10), (0, 20)]),
-        ),
-        (
-            Use::Path,
-            b"\x01\x03\xFF\xFF\xFF\xFF\xFF\xFF\xFF\xFF\xFF\x01\x00\x03",
-            Ok(&[(0, 0), (0, -i64::MAX), (0, -i64::MAX), (0, i64::MIN)]),
-        ),
-        (
-            Use::Path,
-            b"\x01\x03\xFF\xFF\xFF\xFF\xFF\xFF\xFF\xFF\xFF\x01\x00\x05",
-            Err(ValueFault::OutOfRange),
-        ),
-    ];
-    for (purpose, bytes, want) in rows {
-        let read = input(bytes).point_list(rt.alloc(), purpose);
-        check_point_list(&rt, &read, want)?;
-    }
-    Ok(())
-}
-
-fn check_places(rt: &impl Abort, places: &Offsets, want: &[(i64, i64)]) {
-    assert_eq!(rt; places.len(), want.len() as u64);
-    for (k, (x, y)) in want.iter().enumerate() {
-        assert_eq!(rt; places.at(k as u64), Some(Point { x: *x, y: *y }));
-    }
-}
-
-/// A repetition at these places.
-fn check_repetition(
-    rt: &impl Abort,
-    read: &Result<Repetition, Cause<ValueFault>>,
-    want: &[(i64, i64)],
-) -> Result<(), Fail> {
-    match read {
-        Ok(Repetition::New(places)) => check_places(rt, places, want),
-        Err(Cause::OutOfMemory) => return Err(AllocError.into()),
-        _ => assert!(rt; false, "no places"),
-    }
-    Ok(())
-}
-
-#[test]
-fn repetitions(rt: HostRuntime) -> Result<(), Fail> {
-    let rows: [(&[u8], &[(i64, i64)]); 6] = [
-        (
-            b"\x01\x00\x00\x0A\x14",
-            &[(0, 0), (10, 0), (0, 20), (10, 20)],
-        ),
-        (b"\x03\x01\x0A", &[(0, 0), (0, 10), (0, 20)]),
-        (b"\x04\x01\x0C\x14", &[(0, 0), (12, 0), (32, 0)]),
-        (b"\x05\x01\x03\x02\x04", &[(0, 0), (6, 0), (18, 0)]),
-        (
-            b"\x08\x00\x01\x20\x22",
-            &[(0, 0), (2, 0), (0, 2), (2, 2), (0, 4), (2, 4)],
-        ),
-        (b"\x0B\x01\x05\x28\x17\x08", &[(0, 0), (10, 10), (-15, 30)]),
-    ];
-    for (bytes, want) in rows {
-        let read = input(bytes).repetition(rt.alloc(), false);
-        check_repetition(&rt, &read, want)?;
-    }
-    Ok(())
-}
-
-#[test]
-fn the_modal_repetition(rt: HostRuntime) -> Result<(), Fail> {
-    let again = input(b"\x00").repetition(rt.alloc(), true);
-    assert!(rt; matches!(again, Ok(Repetition::Modal)));
-    Ok(())
-}
-
-/// A repetition at so many places, or the fault.
-fn check_count(
-    rt: &impl Abort,
-    read: &Result<Repetition, Cause<ValueFault>>,
-    want: Result<u64, ValueFault>,
-) -> Result<(), Fail> {
-    match read {
-        Ok(Repetition::New(places)) => assert_eq!(rt; Ok(places.len()), want),
-        Ok(Repetition::Modal) => assert!(rt; false, "nothing to use again"),
-        Err(Cause::Breach(fault)) => assert_eq!(rt; Err(*fault), want),
-        Err(Cause::OutOfMemory) => return Err(AllocError.into()),
-    }
-    Ok(())
-}
-
-#[test]
-fn repetition_limits(rt: HostRuntime) -> Result<(), Fail> {
-    let rows: [(&[u8], Result<u64, ValueFault>); 8] = [
-        (b"\x02\xFE\xFF\xFF\x07\x01", Ok(16_777_216)),
-        (b"\x02\xFF\xFF\xFF\x07\x01", Err(ValueFault::RepetitionSize)),
-        (b"\x04\xFF\xFF\x3F", Err(ValueFault::RepetitionSize)),
-        (
-            b"\x02\x00\x80\x80\x80\x80\x80\x80\x80\x80\x80\x01",
-            Err(ValueFault::OutOfRange),
-        ),
-        (b"\x00", Err(ValueFault::NoModal)),
-        (b"\x0C", Err(ValueFault::RepetitionType)),
-        (
-            b"\x01\xFF\xFF\xFF\xFF\xFF\xFF\xFF\xFF\xFF\x01\x00",
-            Err(ValueFault::RepetitionSize),
-        ),
-        (b"\x01\xFF\xFF\xFF\x07", Err(ValueFault::Truncated)),
-    ];
-    for (bytes, want) in rows {
-        let read = input(bytes).repetition(rt.alloc(), false);
-        check_count(&rt, &read, want)?;
     }
     Ok(())
 }
@@ -397,11 +234,9 @@ fn reads_pieces_of_any_size_alike(rt: HostRuntime) -> Result<(), Fail> {
     Ok(())
 }
 
-/// After a fault each call answers `Failed`, and the offset stays.
-fn check_failed<R: Read>(rt: &impl Abort, alloc: Global, values: &mut Input<R>) {
-    let at = values.offset();
+/// After a fault each call for a number or a delta answers `Failed`.
+fn check_numbers_failed<R: Read>(rt: &impl Abort, values: &mut Input<R>) {
     let failed = ValueFault::Failed;
-    let refused = Err(Cause::Breach(failed));
     assert_eq!(rt; values.byte(), Err(failed));
     assert_eq!(rt; values.unsigned(), Err(failed));
     assert_eq!(rt; values.signed(), Err(failed));
@@ -409,9 +244,21 @@ fn check_failed<R: Read>(rt: &impl Abort, alloc: Global, values: &mut Input<R>) 
     assert_eq!(rt; values.two_delta(), Err(failed));
     assert_eq!(rt; values.three_delta(), Err(failed));
     assert_eq!(rt; values.g_delta(), Err(failed));
+}
+
+/// After a fault each call for a list answers `Failed`.
+fn check_lists_failed<R: Read>(rt: &impl Abort, alloc: Global, values: &mut Input<R>) {
+    let refused = Err(Cause::Breach(ValueFault::Failed));
     assert_eq!(rt; values.string(alloc, Text::B, 9).map(|_| 0), refused);
     assert_eq!(rt; values.point_list(alloc, Use::Path).map(|_| 0), refused);
     assert_eq!(rt; values.repetition(alloc, true).map(|_| 0), refused);
+}
+
+/// After a fault each call answers `Failed`, and the offset stays.
+fn check_failed<R: Read>(rt: &impl Abort, alloc: Global, values: &mut Input<R>) {
+    let at = values.offset();
+    check_numbers_failed(rt, values);
+    check_lists_failed(rt, alloc, values);
     assert_eq!(rt; values.offset(), at);
 }
 
