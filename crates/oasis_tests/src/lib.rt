@@ -14,6 +14,8 @@ mod library;
 #[cfg(test)]
 mod library_faults;
 #[cfg(test)]
+mod library_shapes;
+#[cfg(test)]
 mod lists;
 #[cfg(test)]
 mod memory;
