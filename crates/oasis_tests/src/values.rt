@@ -190,17 +190,17 @@ fn read_group<R: Read>(alloc: Global, values: &mut Input<R>) -> Result<u64, Caus
     let signed = values.signed()?;
     let ratio = values.real()? == Real::Ratio(2, 8);
     let eight = values.real()? == Real::Eight([0; 8]);
-    let text = values.string(alloc, Text::A, 3)?;
-    let points = values.point_list(alloc, Use::Polygon)?;
-    let places = values.repetition(alloc, false)?;
+    let letters = values.string(alloc, Text::A, 3)?.len() as u64;
+    let points = values.point_list(alloc, Use::Polygon)?.len() as u64;
+    let places = places_in(&values.repetition(alloc, false)?);
     Ok(
         number
             .wrapping_add(signed.unsigned_abs())
             .wrapping_add(u64::from(ratio) * 10)
             .wrapping_add(u64::from(eight) * 100)
-            .wrapping_add((text.len() as u64).wrapping_mul(1000))
-            .wrapping_add((points.len() as u64).wrapping_mul(10_000))
-            .wrapping_add(places_in(&places).wrapping_mul(100_000)),
+            .wrapping_add(letters.wrapping_mul(1000))
+            .wrapping_add(points.wrapping_mul(10_000))
+            .wrapping_add(places.wrapping_mul(100_000)),
     )
 }
 
