@@ -104,16 +104,22 @@ fn placed(flip: bool, turn: Turn, x: i64, y: i64) -> Want {
     })
 }
 
+/// Whether the last of these records draws what is wanted, and at how many shifts it draws.
+fn drawn(alloc: Global, bytes: &[u8], want: &Want) -> Result<(bool, u64), AllocError> {
+    let mut modal = Modal::new();
+    let got = take_all(&mut modal, alloc, bytes);
+    match &got {
+        Err(Cause::OutOfMemory) => Err(AllocError),
+        _ => Ok((is_wanted(&got, want), modal.shifts().len())),
+    }
+}
+
 /// Each row: what the last of its records draws, and at how many shifts.
 fn check(rt: &impl Abort, alloc: Global, rows: &[(&str, &[u8], Want, u64)]) -> Result<(), Fail> {
     for (name, bytes, want, shifts) in rows {
-        let mut modal = Modal::new();
-        let got = take_all(&mut modal, alloc, bytes);
-        if let Err(Cause::OutOfMemory) = &got {
-            return Err(AllocError.into());
-        }
-        assert!(rt; is_wanted(&got, want), "{name}");
-        assert_eq!(rt; modal.shifts().len(), *shifts, "{name}");
+        let (is_drawn, count) = drawn(alloc, bytes, want)?;
+        assert!(rt; is_drawn, "{name}");
+        assert_eq!(rt; count, *shifts, "{name}");
     }
     Ok(())
 }
@@ -253,17 +259,28 @@ fn placements(rt: HostRuntime) -> Result<(), Fail> {
     )
 }
 
+/// Whether the last of these records places a cell.
+fn is_placing(modal: &mut Modal, alloc: Global, bytes: &[u8]) -> Result<bool, AllocError> {
+    match take_all(modal, alloc, bytes) {
+        Ok(Some(Drawn::Placement(_))) => Ok(true),
+        Err(Cause::OutOfMemory) => Err(AllocError),
+        _ => Ok(false),
+    }
+}
+
 #[test]
 fn growths(rt: HostRuntime) -> Result<(), Fail> {
     let mut modal = Modal::new();
     let bytes = b"\x15\x3B\x01\x00\x00\x02\x14\x14\x00\x00\x11\x80\x01A";
-    match take_all(&mut modal, rt.alloc(), bytes) {
-        Ok(Some(Drawn::Placement(_))) => assert!(rt; modal.cell().is_some()),
-        Err(Cause::OutOfMemory) => {
-            assert!(rt; modal.cell().is_none());
-            return Err(AllocError.into());
+    match is_placing(&mut modal, rt.alloc(), bytes) {
+        Ok(is_placed) => {
+            assert!(rt; is_placed, "no placement");
+            assert!(rt; modal.cell().is_some());
         }
-        _ => assert!(rt; false, "no placement"),
+        Err(refused) => {
+            assert!(rt; modal.cell().is_none());
+            return Err(refused.into());
+        }
     }
     Ok(())
 }

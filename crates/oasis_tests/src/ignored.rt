@@ -1,15 +1,17 @@
 //! What is only read to be ignored: padding of integers, and records of names, texts and properties.
 
-use crate::library::{SQUARE, START, TOP, file};
+use crate::library::{SQUARE, START, TOP, fault_of, file};
+use lvl_cells::Library;
 use lvl_ignore::Ignore;
 use lvl_io::fake::Pieces;
 use lvl_refusal::Cause;
 use oasis_library::{
-    FigureRule, OasisFault, OasisKind, RecordRule, ValueFault, Variable, read_oasis, read_oasis_by,
+    FigureRule, OasisFault, OasisKind, RecordRule, ValueFault, Variable, read_oasis_by,
 };
 use oasis_records::{Record, RecordFault, RecordType, read_fields, read_id};
 use oasis_values::{Input, Repetition, Text};
 use std::alloc::{AllocError, Global};
+use std::process::Abort;
 use std::test::Fail;
 
 /// Padding alone.
@@ -20,22 +22,22 @@ fn padding() -> Ignore {
     }
 }
 
-/// What an integer of some bytes `0x80` between two others is, with padding ignored.
-fn integer(
-    alloc: Global,
-    first: &[u8],
-    zeros: usize,
-    last: &[u8],
-) -> Result<Result<u64, ValueFault>, AllocError> {
+/// Some bytes `0x80` between two others.
+fn padded(alloc: Global, first: &[u8], zeros: usize, last: &[u8]) -> Result<Vec<u8>, AllocError> {
     let mut bytes = Vec::from_slice(alloc, first)?;
     bytes.resize(first.len().saturating_add(zeros), 0x80)?;
     bytes.extend_from_slice(last)?;
-    let mut input = Input::new(Pieces::new(&bytes, 3), padding());
+    Ok(bytes)
+}
+
+/// What an integer of all these bytes is, with padding ignored.
+fn integer(bytes: &[u8]) -> Result<u64, ValueFault> {
+    let mut input = Input::new(Pieces::new(bytes, 3), padding());
     let read = input.unsigned();
     if read.is_ok() && input.offset() != bytes.len() as u64 {
-        return Ok(Err(ValueFault::TooLong));
+        return Err(ValueFault::TooLong);
     }
-    Ok(read)
+    read
 }
 
 #[test]
@@ -60,13 +62,17 @@ fn padding_of_integers(rt: HostRuntime) -> Result<(), Fail> {
         (b"", 10, b"\x81", large),
     ];
     for (first, zeros, last, want) in rows {
-        assert_eq!(rt;
-            integer(rt.alloc(), first, zeros, last)?,
-            want,
-            "{first:?}, {zeros} and {last:?}"
-        );
+        let bytes = padded(rt.alloc(), first, zeros, last)?;
+        assert_eq!(rt; integer(&bytes), want, "{first:?}, {zeros} and {last:?}");
     }
     Ok(())
+}
+
+/// The fault of a value that isn't kept, and where the reader is after it.
+fn skipped(bytes: &[u8]) -> (Option<ValueFault>, u64) {
+    let mut input = Input::new(Pieces::new(bytes, 1), Ignore::NOTHING);
+    let fault = input.skip_value().err();
+    (fault, input.offset())
 }
 
 /// Rows of what is read and not kept: bytes that are a value by themselves, or the fault.
@@ -95,14 +101,25 @@ fn values_that_are_not_kept(rt: HostRuntime) -> Result<(), Fail> {
         (b"\x0A\x02a", Some(ValueFault::Truncated)),
     ];
     for (bytes, fault) in rows {
-        let mut input = Input::new(Pieces::new(bytes, 1), Ignore::NOTHING);
-        assert_eq!(rt; input.skip_value().err(), fault, "{bytes:?}");
+        let (found, offset) = skipped(bytes);
+        assert_eq!(rt; found, fault, "{bytes:?}");
         if fault.is_none() {
-            assert_eq!(rt; input.offset(), bytes.len() as u64, "{bytes:?}");
+            assert_eq!(rt; offset, bytes.len() as u64, "{bytes:?}");
         }
     }
-    let mut long = Vec::from_slice(rt.alloc(), b"\xAC\x02")?;
+    Ok(())
+}
+
+/// A string of 300 letters, after its length.
+fn long_string(alloc: Global) -> Result<Vec<u8>, AllocError> {
+    let mut long = Vec::from_slice(alloc, b"\xAC\x02")?;
     long.resize(302, b'a')?;
+    Ok(long)
+}
+
+#[test]
+fn a_long_string_that_is_not_kept(rt: HostRuntime) -> Result<(), Fail> {
+    let long = long_string(rt.alloc())?;
     let mut input = Input::new(Pieces::new(&long, 7), Ignore::NOTHING);
     assert_eq!(rt; input.skip_string(Text::N), Ok(()));
     assert_eq!(rt; input.offset(), 302);
@@ -129,6 +146,31 @@ fn record(
         Ok(Some(record))
     } else {
         Ok(None)
+    }
+}
+
+/// Whether a record of all these bytes is a text; None where it is none that is ignored.
+fn is_text(alloc: Global, bytes: &[u8], ignore: Ignore) -> Option<bool> {
+    match record(alloc, bytes, ignore) {
+        Ok(Some(Record::Text(_))) => Some(true),
+        Ok(Some(Record::Entry | Record::Property)) => Some(false),
+        _ => None,
+    }
+}
+
+/// The rule or the value that a record of these bytes breaches.
+fn breach(alloc: Global, bytes: &[u8], ignore: Ignore) -> Option<RecordFault> {
+    match record(alloc, bytes, ignore) {
+        Err(Cause::Breach(fault)) => Some(fault),
+        _ => None,
+    }
+}
+
+/// How many places the repetition of a text of these bytes has.
+fn places(alloc: Global, bytes: &[u8], ignore: Ignore) -> Option<u64> {
+    match record(alloc, bytes, ignore) {
+        Ok(Some(Record::Text(Some(Repetition::New(shifts))))) => Some(shifts.len()),
+        _ => None,
     }
 }
 
@@ -173,34 +215,31 @@ fn records_that_are_ignored(rt: HostRuntime) -> Result<(), Fail> {
         (b"\x1F\x07\x00\x80\x01", names, 31),
     ];
     for (bytes, ignore, id) in rows {
-        let is_text = id == 19;
-        match record(rt.alloc(), bytes, ignore) {
-            Ok(Some(Record::Text(_))) => assert!(rt; is_text, "{bytes:?}"),
-            Ok(Some(Record::Entry | Record::Property)) => assert!(rt; !is_text, "{bytes:?}"),
-            _ => assert!(rt; false, "{bytes:?}"),
-        }
+        let found = is_text(rt.alloc(), bytes, ignore);
+        assert_eq!(rt; found, Some(id == 19), "{bytes:?}");
         let without = Ignore {
             properties: !ignore.properties,
             texts: !ignore.texts,
             names: !ignore.names,
             padding: true,
         };
-        assert!(rt;
-            matches!(
-            record(rt.alloc(), bytes, without),
-            Err(Cause::Breach(RecordFault::Rule(RecordRule::Unsupported(found)))) if found == id
-        ),
+        let refused = RecordFault::Rule(RecordRule::Unsupported(id));
+        assert_eq!(rt;
+            breach(rt.alloc(), bytes, without),
+            Some(refused),
             "{bytes:?}"
         );
     }
-    let Ok(Some(Record::Text(Some(Repetition::New(shifts))))) = record(
-        rt.alloc(),
-        b"\x13\x04\x02\x01\x05",
-        texts,
-    ) else {
-        return Err(AllocError.into());
+    Ok(())
+}
+
+#[test]
+fn a_text_keeps_its_repetition(rt: HostRuntime) -> Result<(), Fail> {
+    let texts = Ignore {
+        texts: true,
+        ..Ignore::NOTHING
     };
-    assert_eq!(rt; shifts.len(), 3);
+    assert_eq!(rt; places(rt.alloc(), b"\x13\x04\x02\x01\x05", texts), Some(3));
     Ok(())
 }
 
@@ -228,11 +267,8 @@ fn malformed_records(rt: HostRuntime) -> Result<(), Fail> {
         (b"\x1E\x07", value(ValueFault::Truncated)),
     ];
     for (bytes, want) in rows {
-        let found = record(rt.alloc(), bytes, Ignore::EVERYTHING);
-        let Err(Cause::Breach(fault)) = found else {
-            return Err(AllocError.into());
-        };
-        assert_eq!(rt; fault, want, "{bytes:?}");
+        let found = breach(rt.alloc(), bytes, Ignore::EVERYTHING);
+        assert_eq!(rt; found, Some(want), "{bytes:?}");
     }
     Ok(())
 }
@@ -249,6 +285,28 @@ const AROUND: [&[u8]; 8] = [
     b"\x1C\x06\x00\x00\x03\x01Z",
 ];
 
+/// What is read of these bytes where that is ignored, at most `most` at a read.
+fn read_by(
+    alloc: Global,
+    bytes: &[u8],
+    most: usize,
+    ignore: Ignore,
+) -> Result<Library, Cause<OasisFault>> {
+    let mut reader = Pieces::new(bytes, most);
+    let (library, _) = read_oasis_by(alloc, &mut reader, ignore)?;
+    Ok(library)
+}
+
+/// One cell with one shape, which is one ring at so many places.
+fn check_shape(rt: &impl Abort, library: &Library, places: u64) -> Result<(), Fail> {
+    assert_eq!(rt; library.cells.len(), 1);
+    let shapes = &library.cells.first().ok_or("a cell")?.shapes;
+    assert_eq!(rt; shapes.len(), 1);
+    assert_eq!(rt; shapes.ring_count(0), 1);
+    assert_eq!(rt; shapes.shift_count(0), places);
+    Ok(())
+}
+
 #[test]
 fn reads_a_square_among_what_is_ignored(rt: HostRuntime) -> Result<(), Fail> {
     let bytes = file(rt.alloc(), &AROUND)?;
@@ -256,16 +314,9 @@ fn reads_a_square_among_what_is_ignored(rt: HostRuntime) -> Result<(), Fail> {
         offset: 34,
         kind: OasisKind::Record(RecordRule::Unsupported(5)),
     };
-    let plain = read_oasis(rt.alloc(), &mut Pieces::new(&bytes, 5));
-    assert_eq!(rt; plain.err(), Some(Cause::Breach(fault)));
-    let mut reader = Pieces::new(&bytes, 5);
-    let (library, _) = read_oasis_by(rt.alloc(), &mut reader, Ignore::EVERYTHING)?;
-    assert_eq!(rt; library.cells.len(), 1);
-    let shapes = &library.cells.first().ok_or("a cell")?.shapes;
-    assert_eq!(rt; shapes.len(), 1);
-    assert_eq!(rt; shapes.ring_count(0), 1);
-    assert_eq!(rt; shapes.shift_count(0), 1);
-    Ok(())
+    assert_eq!(rt; fault_of(rt.alloc(), &bytes, 5), Some(Cause::Breach(fault)));
+    let library = read_by(rt.alloc(), &bytes, 5, Ignore::EVERYTHING)?;
+    check_shape(&rt, &library, 1)
 }
 
 /// A text sets the repetition that a later rectangle uses again, and draws nothing.
@@ -274,12 +325,14 @@ fn a_text_sets_the_repetition(rt: HostRuntime) -> Result<(), Fail> {
     let text: &[u8] = b"\x13\x5F\x02hi\x01\x02\x03\x04\x02\x01\x14";
     let again: &[u8] = b"\x14\x7F\x01\x00\x0A\x0A\x00\x00\x00\x13\x04\x00";
     let bytes = file(rt.alloc(), &[TOP, text, again])?;
-    let mut reader = Pieces::new(&bytes, 100);
-    let (library, _) = read_oasis_by(rt.alloc(), &mut reader, Ignore::EVERYTHING)?;
-    let shapes = &library.cells.first().ok_or("a cell")?.shapes;
-    assert_eq!(rt; shapes.len(), 1);
-    assert_eq!(rt; shapes.shift_count(0), 3);
-    Ok(())
+    let library = read_by(rt.alloc(), &bytes, 100, Ignore::EVERYTHING)?;
+    check_shape(&rt, &library, 3)
+}
+
+/// The fault of a file of these records, with everything ignored.
+fn fault_in(alloc: Global, records: &[u8]) -> Result<Option<Cause<OasisFault>>, AllocError> {
+    let bytes = file(alloc, &[records])?;
+    Ok(read_by(alloc, &bytes, 100, Ignore::EVERYTHING).err())
 }
 
 /// Where they may not come, and what they leave undefined.
@@ -314,31 +367,32 @@ fn refuses_what_is_out_of_order(rt: HostRuntime) -> Result<(), Fail> {
         ),
     ];
     for (records, offset, kind) in rows {
-        let bytes = file(rt.alloc(), &[records])?;
-        let mut reader = Pieces::new(&bytes, 100);
-        let read = read_oasis_by(rt.alloc(), &mut reader, Ignore::EVERYTHING);
+        let found = fault_in(rt.alloc(), records)?;
         let fault = OasisFault::At { offset, kind };
-        assert_eq!(rt; read.err(), Some(Cause::Breach(fault)), "{records:?}");
+        assert_eq!(rt; found, Some(Cause::Breach(fault)), "{records:?}");
     }
     Ok(())
 }
 
 /// END with the length of its padding, 0, spelled in 254 bytes.
-#[test]
-fn reads_an_end_with_a_padded_length(rt: HostRuntime) -> Result<(), Fail> {
-    let mut bytes = Vec::from_slice(rt.alloc(), START)?;
+fn padded_end(alloc: Global) -> Result<Vec<u8>, AllocError> {
+    let mut bytes = Vec::from_slice(alloc, START)?;
     bytes.extend_from_slice(&[0; 13])?;
     bytes.extend_from_slice(b"\x0E\x03TOP\x02")?;
     bytes.extend_from_slice(&[0x80; 253])?;
     bytes.extend_from_slice(b"\x00\x00")?;
+    Ok(bytes)
+}
+
+#[test]
+fn reads_an_end_with_a_padded_length(rt: HostRuntime) -> Result<(), Fail> {
+    let bytes = padded_end(rt.alloc())?;
     let fault = OasisFault::At {
         offset: 39,
         kind: OasisKind::Value(ValueFault::IntegerTooLarge),
     };
-    let plain = read_oasis(rt.alloc(), &mut Pieces::new(&bytes, 9));
-    assert_eq!(rt; plain.err(), Some(Cause::Breach(fault)));
-    let mut reader = Pieces::new(&bytes, 9);
-    let (library, _) = read_oasis_by(rt.alloc(), &mut reader, padding())?;
+    assert_eq!(rt; fault_of(rt.alloc(), &bytes, 9), Some(Cause::Breach(fault)));
+    let library = read_by(rt.alloc(), &bytes, 9, padding())?;
     assert_eq!(rt; library.cells.len(), 1);
     Ok(())
 }

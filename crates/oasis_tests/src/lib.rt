@@ -14,6 +14,10 @@ mod library;
 #[cfg(test)]
 mod library_faults;
 #[cfg(test)]
+mod library_shapes;
+#[cfg(test)]
+mod lists;
+#[cfg(test)]
 mod memory;
 #[cfg(test)]
 mod records;

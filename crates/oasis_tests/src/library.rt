@@ -1,12 +1,13 @@
 //! Files read whole: what each spells, and that it doesn't matter how a reader cuts the bytes.
 
-use lvl_cells::Library;
-use lvl_grid::{Point, Turn};
+use lvl_cells::{Cell, Library, Shapes};
+use lvl_grid::Point;
 use lvl_io::fake::Pieces;
 use lvl_names::Layer;
 use lvl_refusal::Cause;
 use oasis_library::{OasisFault, OasisHead, Real, read_oasis};
 use std::alloc::{AllocError, Global};
+use std::process::Abort;
 use std::test::Fail;
 
 /// The magic string and START, but its offset flag.
@@ -52,6 +53,23 @@ pub fn read(
     read_oasis(alloc, &mut reader)
 }
 
+/// The fault of these bytes, at most `most` at a read.
+pub fn fault_of(alloc: Global, bytes: &[u8], most: usize) -> Option<Cause<OasisFault>> {
+    read(alloc, bytes, most).err()
+}
+
+/// The library of a file of these records, at most `most` bytes at a read.
+pub fn library_of(alloc: Global, records: &[&[u8]], most: usize) -> Result<Library, Fail> {
+    let bytes = file(alloc, records)?;
+    let (library, _) = read(alloc, &bytes, most)?;
+    Ok(library)
+}
+
+/// The first cell.
+pub fn first_of(library: &Library) -> Result<&Cell, Fail> {
+    Ok(library.cells.first().ok_or("a cell")?)
+}
+
 /// The first box of a shape: least and greatest coordinates.
 fn box_of(points: &[Point]) -> [i64; 4] {
     let mut sides = [i64::MAX, i64::MAX, i64::MIN, i64::MIN];
@@ -65,7 +83,7 @@ fn box_of(points: &[Point]) -> [i64; 4] {
 }
 
 /// The boxes of all rings of the first cell, each with its number of points.
-fn boxes(alloc: Global, library: &Library) -> Result<Vec<([i64; 4], usize)>, AllocError> {
+pub fn boxes(alloc: Global, library: &Library) -> Result<Vec<([i64; 4], usize)>, AllocError> {
     let mut boxes = Vec::new(alloc);
     if let Some(cell) = library.cells.first() {
         for i in 0..cell.shapes.len() {
@@ -78,17 +96,8 @@ fn boxes(alloc: Global, library: &Library) -> Result<Vec<([i64; 4], usize)>, All
     Ok(boxes)
 }
 
-#[test]
-fn reads_a_square(rt: HostRuntime) -> Result<(), Fail> {
-    let bytes = square(rt.alloc())?;
-    assert_eq!(rt; bytes.len(), 303);
-    let (library, head) = read(rt.alloc(), &bytes, 1000)?;
-    assert_eq!(rt; head, HEAD);
-    assert_eq!(rt; library.cells.len(), 1);
-    let cell = library.cells.first().ok_or("a cell")?;
-    assert_eq!(rt; cell.name.as_slice(), b"TOP".as_slice());
-    assert_eq!(rt; cell.references.len(), 0);
-    let shapes = &cell.shapes;
+/// One square on 1/0, at one place.
+fn check_square(rt: &impl Abort, shapes: &Shapes) {
     assert_eq!(rt; shapes.len(), 1);
     let layer = Layer {
         layer: 1,
@@ -101,131 +110,50 @@ fn reads_a_square(rt: HostRuntime) -> Result<(), Fail> {
     for (k, (x, y)) in points.iter().enumerate() {
         assert_eq!(rt; shapes.ring(0, 0).get(k), Some(&Point { x: *x, y: *y }));
     }
+}
+
+/// One cell, TOP, with the square.
+fn check_top(rt: &impl Abort, library: &Library) -> Result<(), Fail> {
+    assert_eq!(rt; library.cells.len(), 1);
+    let cell = first_of(library)?;
+    assert_eq!(rt; cell.name.as_slice(), b"TOP".as_slice());
+    assert_eq!(rt; cell.references.len(), 0);
+    check_square(rt, &cell.shapes);
     Ok(())
 }
 
-/// Rows square-flag, names-by-number, implied-vertex, path-ends, relative-mode, negative-x and
-/// edge-of-range: the boxes of what is drawn on 1/0.
+/// The file with the square, and what it says of itself.
+fn check_file(rt: &impl Abort, alloc: Global, bytes: &[u8]) -> Result<(), Fail> {
+    let (library, head) = read(alloc, bytes, 1000)?;
+    assert_eq!(rt; head, HEAD);
+    check_top(rt, &library)
+}
+
 #[test]
-fn draws_boxes(rt: HostRuntime) -> Result<(), Fail> {
-    let ten = [0, 0, 10, 10];
-    let rows: [(&[u8], &[u8], &[[i64; 4]]); 13] = [
-        (TOP, b"\x14\xDB\x01\x00\x0A\x00\x00", &[ten]),
-        (
-            TOP,
-            b"\x14\xDB\x01\x00\x0A\x00\x00\x14\x10\x14",
-            &[ten, [10, 0, 20, 10]],
-        ),
-        (
-            b"\x0D\x00",
-            b"\x14\x7B\x01\x00\x0A\x0A\x00\x00\x03\x03TOP",
-            &[ten],
-        ),
-        (TOP, b"\x15\x3B\x01\x00\x00\x02\x14\x14\x00\x00", &[ten]),
-        (
-            TOP,
-            b"\x16\xFB\x01\x00\x02\x09\x00\x02\x14\x14\x00\x00",
-            &[[-2, -2, 12, 2], [8, -2, 12, 10]],
-        ),
-        (
-            TOP,
-            b"\x16\xFB\x01\x00\x02\x0F\x04\x00\x00\x02\x14\x14\x00\x00",
-            &[[-2, -2, 12, 2], [8, -2, 12, 10]],
-        ),
-        (
-            TOP,
-            b"\x16\xFB\x01\x00\x02\x0F\x04\x02\x00\x02\x14\x14\x00\x00",
-            &[[-2, -2, 12, 2], [8, -2, 12, 11]],
-        ),
-        (
-            TOP,
-            b"\x16\xFB\x01\x00\x02\x0F\x0A\x02\x00\x02\x14\x14\x00\x00",
-            &[[-5, -2, 12, 2], [8, -2, 12, 11]],
-        ),
-        (
-            TOP,
-            b"\x10\x14\x7B\x01\x00\x02\x02\x0A\x00\x14\x10\x0A",
-            &[[5, 0, 7, 2], [10, 0, 12, 2]],
-        ),
-        (TOP, b"\x14\x7B\x01\x00\x0A\x14\x0B\x00", &[[-5, 0, 5, 20]]),
-        (
-            TOP,
-            b"\x15\x3B\x01\x00\x00\x02\x03\x02\xFF\xFF\xFF\xFF\xFF\xFF\xFF\xFF\xFF\x01\x00",
-            &[[i64::MIN, 0, -i64::MAX, 1]],
-        ),
-        (
-            TOP,
-            b"\x00\x14\x7B\x01\x00\x0A\x0A\x00\x00\x00\x0F\x00",
-            &[ten],
-        ),
-        (TOP, b"\x14\x7B\x01\x00\x00\x05\x00\x00", &[[0, 0, 0, 5]]),
-    ];
-    for (cell, records, want) in rows {
-        let bytes = file(rt.alloc(), &[cell, records])?;
-        let (library, _) = read(rt.alloc(), &bytes, 5)?;
-        let found = boxes(rt.alloc(), &library)?;
-        assert_eq!(rt; found.len(), want.len(), "{records:?}");
-        for (k, sides) in want.iter().enumerate() {
-            assert_eq!(rt; found.get(k), Some(&(*sides, 4)), "{records:?}");
-        }
-        let cell = library.cells.first().ok_or("a cell")?;
-        assert_eq!(rt; cell.name.as_slice(), b"TOP".as_slice());
-    }
-    Ok(())
+fn reads_a_square(rt: HostRuntime) -> Result<(), Fail> {
+    let bytes = square(rt.alloc())?;
+    assert_eq!(rt; bytes.len(), 303);
+    check_file(&rt, rt.alloc(), &bytes)
 }
 
-/// Rows spaces and long-repetition: the shifts of a rectangle.
-#[test]
-fn repeats_shapes(rt: HostRuntime) -> Result<(), Fail> {
-    let spaces = b"\x14\x7F\x01\x00\x0A\x0A\x00\x00\x04\x01\x0C\x14";
-    let (library, _) = read(rt.alloc(), &file(rt.alloc(), &[TOP, spaces])?, 1)?;
-    let shapes = &library.cells.first().ok_or("a cell")?.shapes;
-    assert_eq!(rt; shapes.len(), 1);
-    assert_eq!(rt; shapes.shift_count(0), 3);
-    for (k, x) in [(0, 0), (1, 12), (2, 32)] {
-        assert_eq!(rt; shapes.shift(0, k), Some(Point { x, y: 0 }));
+/// These bytes, each followed by so many zeros.
+fn with_zeros(alloc: Global, parts: &[(&[u8], usize)]) -> Result<Vec<u8>, AllocError> {
+    let mut bytes = Vec::new(alloc);
+    for (part, zeros) in parts {
+        bytes.extend_from_slice(part)?;
+        let long = bytes.len().saturating_add(*zeros);
+        bytes.resize(long, 0)?;
     }
-    let long = b"\x14\x7F\x01\x00\x01\x01\x00\x00\x02\xFE\xFF\xFF\x07\x01\x14\x00\x14\x04\x00";
-    let (library, _) = read(rt.alloc(), &file(rt.alloc(), &[TOP, long])?, 1000)?;
-    let shapes = &library.cells.first().ok_or("a cell")?.shapes;
-    assert_eq!(rt; shapes.len(), 3);
-    assert_eq!(rt; shapes.shift_count(0), 16_777_216);
-    assert_eq!(rt; shapes.shift_count(1), 1);
-    assert_eq!(rt; shapes.shift_count(2), 16_777_216);
-    Ok(())
+    Ok(bytes)
 }
 
-/// Row placement-fields, and cells by numbers: a name of number n isn't that of the n-th CELL.
-#[test]
-fn places_cells(rt: HostRuntime) -> Result<(), Fail> {
-    let rows: [(&[u8], &[u8], Turn, i64); 5] = [
-        (b"\x12\xB2\x01A\x00\x5A\x00\x00", b"A", Turn::R90, 0),
-        (b"\x12\x84\x01A\x04\x02\x02", b"A", Turn::R0, 0),
-        (b"\x11\xB4\x01A\x03\x00", b"A", Turn::R180, -1),
-        (b"\x11\xF4\x07\x03\x00", b"B", Turn::R180, -1),
-        (b"\x11\xF1\x05\x04\x00", b"TOP", Turn::R0, 2),
-    ];
-    for (record, name, turn, x) in rows {
-        let names = b"\x04\x01B\x07\x04\x01A\x00\x04\x03TOP\x05";
-        let bytes = file(rt.alloc(), &[b"\x0D\x05", record, b"\x11\x00", names])?;
-        let (library, _) = read(rt.alloc(), &bytes, 2)?;
-        let cell = library.cells.first().ok_or("a cell")?;
-        assert_eq!(rt; cell.name.as_slice(), b"TOP".as_slice());
-        assert_eq!(rt; cell.references.len(), 2);
-        for reference in &cell.references {
-            assert_eq!(rt; reference.cell(), name);
-            assert_eq!(rt; reference.at(), Point { x, y: 0 });
-            assert_eq!(rt; reference.shifts().len(), 1);
-        }
-        let first = cell.references.first().ok_or("a reference")?;
-        assert_eq!(rt; first.turn(), turn);
-        assert_eq!(rt; first.flip(), x == 2);
-    }
-    Ok(())
+/// What a file says of itself, and how many cells it has.
+fn head_of(alloc: Global, bytes: &[u8]) -> Result<(OasisHead, usize), Cause<OasisFault>> {
+    let (library, head) = read(alloc, bytes, 1000)?;
+    Ok((head, library.cells.len()))
 }
 
-/// Rows tables-in-end, signature-shown and units-shown: what a file says of itself. Each file is bytes,
-/// zeros, bytes, zeros and bytes.
+/// Rows tables-in-end, signature-shown and units-shown: what a file says of itself.
 #[test]
 fn reads_heads(rt: HostRuntime) -> Result<(), Fail> {
     let ratio = OasisHead {
@@ -244,54 +172,59 @@ fn reads_heads(rt: HostRuntime) -> Result<(), Fail> {
     let flagged =
         b"%SEMI-OASIS\r\n\x01\x031.0\x00\xE8\x07\x01\x0E\x03TOP\x14\x7B\x01\x00\x0A\x0A\x00\x00\x02";
     let ieee = b"%SEMI-OASIS\r\n\x01\x031.0\x07\x00\x00\x00\x00\x00\x40\x8F\x40\x00";
-    let rows: [(&[u8], usize, &[u8], usize, &[u8], OasisHead, usize); 4] = [
-        (flagged, 12, b"\xF0\x01", 241, b"", HEAD, 1),
+    let two_by_eight = b"%SEMI-OASIS\r\n\x01\x031.0\x04\x02\x08\x00";
+    let rows: [([(&[u8], usize); 3], OasisHead, usize); 4] = [
+        ([(flagged, 12), (b"\xF0\x01", 241), (b"", 0)], HEAD, 1),
         (
-            b"%SEMI-OASIS\r\n\x01\x031.0\x04\x02\x08\x00",
-            12,
-            b"\x02\xFC\x01",
-            253,
-            b"",
+            [(two_by_eight, 12), (b"\x02\xFC\x01", 253), (b"", 0)],
             ratio,
             0,
         ),
-        (ieee, 12, b"\x02\xFC\x01", 253, b"", eight, 0),
+        ([(ieee, 12), (b"\x02\xFC\x01", 253), (b"", 0)], eight, 0),
         (
-            START,
-            13,
-            b"\x0E\x03TOP\x02\xF8\x01",
-            248,
-            b"\x01\x01\x02\x03\x04",
+            [
+                (START, 13),
+                (b"\x0E\x03TOP\x02\xF8\x01", 248),
+                (b"\x01\x01\x02\x03\x04", 0),
+            ],
             signed,
             1,
         ),
     ];
-    for (first, few, then, many, last, want, cells) in rows {
-        let mut bytes = Vec::from_slice(rt.alloc(), first)?;
-        bytes.resize(first.len() + few, 0)?;
-        bytes.extend_from_slice(then)?;
-        let long = bytes.len() + many;
-        bytes.resize(long, 0)?;
-        bytes.extend_from_slice(last)?;
-        let (library, head) = read(rt.alloc(), &bytes, 1000)?;
-        assert_eq!(rt; head, want);
-        assert_eq!(rt; library.cells.len(), cells);
+    for (parts, want, cells) in rows {
+        let bytes = with_zeros(rt.alloc(), &parts)?;
+        assert_eq!(rt; head_of(rt.alloc(), &bytes)?, (want, cells));
     }
     Ok(())
+}
+
+/// What a file says of itself, and the box of its first ring with the number of points.
+fn head_and_box(
+    alloc: Global,
+    bytes: &[u8],
+    most: usize,
+) -> Result<(OasisHead, Option<([i64; 4], usize)>), Cause<OasisFault>> {
+    let (library, head) = read(alloc, bytes, most)?;
+    let found = boxes(alloc, &library)?;
+    Ok((head, found.first().copied()))
 }
 
 #[test]
 fn reads_pieces_of_any_size_alike(rt: HostRuntime) -> Result<(), Fail> {
     let bytes = square(rt.alloc())?;
     for most in [1, 2, 3, 4095, 4096, 65_536, usize::MAX] {
-        let (library, head) = read(rt.alloc(), &bytes, most)?;
+        let (head, first) = head_and_box(rt.alloc(), &bytes, most)?;
         assert_eq!(rt; head, HEAD);
-        assert_eq!(rt;
-            boxes(rt.alloc(), &library)?.first(),
-            Some(&([0, 0, 10, 10], 4))
-        );
+        assert_eq!(rt; first, Some(([0, 0, 10, 10], 4)));
     }
     Ok(())
+}
+
+/// What a file says of itself, and how many rings its first cell has.
+fn head_and_rings(alloc: Global, bytes: &[u8]) -> Result<(OasisHead, usize), Cause<OasisFault>> {
+    let (library, head) = read(alloc, bytes, 1000)?;
+    let found = boxes(alloc, &library)?;
+    Ok((head, found.len()))
 }
 
 #[test]
@@ -307,11 +240,8 @@ fn growths(rt: HostRuntime) -> Result<(), Fail> {
         names,
     ];
     let bytes = file(rt.alloc(), records)?;
-    match read(rt.alloc(), &bytes, 1000) {
-        Ok((library, head)) => {
-            assert_eq!(rt; head, HEAD);
-            assert_eq!(rt; boxes(rt.alloc(), &library)?.len(), 4);
-        }
+    match head_and_rings(rt.alloc(), &bytes) {
+        Ok(answer) => assert_eq!(rt; answer, (HEAD, 4)),
         Err(Cause::Breach(_)) => assert!(rt; false, "no library"),
         Err(Cause::OutOfMemory) => return Err(AllocError.into()),
     }

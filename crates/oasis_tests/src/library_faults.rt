@@ -1,12 +1,13 @@
 //! Files read whole: which fault comes first, and where a file is cut or a reader fails.
 
-use crate::library::{START, TOP, file, read, square};
+use crate::library::{fault_of, file, square};
 use lvl_io::fake::Pieces;
 use lvl_path::PathFault;
 use lvl_refusal::Cause;
 use oasis_library::{
     FigureRule, NameRule, OasisFault, OasisKind, RecordRule, ValueFault, Variable, read_oasis,
 };
+use std::alloc::{AllocError, Global};
 use std::test::Fail;
 
 fn at(offset: u64, kind: OasisKind) -> Option<Cause<OasisFault>> {
@@ -15,6 +16,12 @@ fn at(offset: u64, kind: OasisKind) -> Option<Cause<OasisFault>> {
 
 fn value(offset: u64, fault: ValueFault) -> Option<Cause<OasisFault>> {
     at(offset, OasisKind::Value(fault))
+}
+
+/// The faults of a file of these records, read at once and byte by byte.
+fn faults_in(alloc: Global, records: &[u8]) -> Result<[Option<Cause<OasisFault>>; 2], AllocError> {
+    let bytes = file(alloc, &[records])?;
+    Ok([fault_of(alloc, &bytes, 1000), fault_of(alloc, &bytes, 1)])
 }
 
 /// Rows name-faults, modal-ends-at-cell, names-by-number and those of values and figures: the records
@@ -134,17 +141,22 @@ fn names_the_first_fault(rt: HostRuntime) -> Result<(), Fail> {
         ),
     ];
     for (records, offset, kind) in rows {
-        let bytes = file(rt.alloc(), &[records])?;
-        assert_eq!(rt; read(rt.alloc(), &bytes, 1000).err(), at(offset, kind));
-        assert_eq!(rt; read(rt.alloc(), &bytes, 1).err(), at(offset, kind));
+        let want = at(offset, kind);
+        assert_eq!(rt; faults_in(rt.alloc(), records)?, [want, want]);
     }
     Ok(())
 }
 
-/// A byte of the head that is changed, a byte after END, and numbers that no name has: the first that
-/// is used.
+/// The fault of `square` with that byte changed.
+fn fault_with(alloc: Global, k: usize, byte: u8) -> Result<Option<Cause<OasisFault>>, Fail> {
+    let mut bytes = square(alloc)?;
+    *bytes.get_mut(k).ok_or("a byte")? = byte;
+    Ok(fault_of(alloc, &bytes, 9))
+}
+
+/// A byte of the head that is changed.
 #[test]
-fn names_faults_of_files(rt: HostRuntime) -> Result<(), Fail> {
+fn names_faults_of_heads(rt: HostRuntime) -> Result<(), Fail> {
     let rows: [(usize, u8, u64, RecordRule); 4] = [
         (0, b'&', 0, RecordRule::Magic),
         (12, b'\r', 0, RecordRule::Magic),
@@ -152,19 +164,24 @@ fn names_faults_of_files(rt: HostRuntime) -> Result<(), Fail> {
         (18, 1, 13, RecordRule::Unit),
     ];
     for (k, byte, offset, rule) in rows {
-        let mut bytes = square(rt.alloc())?;
-        *bytes.get_mut(k).ok_or("a byte")? = byte;
-        assert_eq!(rt;
-            read(rt.alloc(), &bytes, 9).err(),
-            at(offset, OasisKind::Record(rule))
-        );
+        let found = fault_with(rt.alloc(), k, byte)?;
+        assert_eq!(rt; found, at(offset, OasisKind::Record(rule)));
     }
+    Ok(())
+}
+
+#[test]
+fn names_a_byte_after_the_end(rt: HostRuntime) -> Result<(), Fail> {
     let mut bytes = square(rt.alloc())?;
     bytes.push(0)?;
-    assert_eq!(rt;
-        read(rt.alloc(), &bytes, 9).err(),
-        at(303, OasisKind::AfterEnd)
-    );
+    let found = fault_of(rt.alloc(), &bytes, 9);
+    assert_eq!(rt; found, at(303, OasisKind::AfterEnd));
+    Ok(())
+}
+
+/// Numbers that no name has: the first that is used.
+#[test]
+fn names_numbers_without_a_name(rt: HostRuntime) -> Result<(), Fail> {
     let rows: [(&[u8], u64); 3] = [
         (b"\x0D\x00\x14\x7B\x01\x00\x0A\x0A\x00\x00", 0),
         (b"\x0D\x01\x11\xC0\x09\x11\xC0\x08\x03\x01A\x03\x01B", 9),
@@ -173,7 +190,7 @@ fn names_faults_of_files(rt: HostRuntime) -> Result<(), Fail> {
     for (records, number) in rows {
         let bytes = file(rt.alloc(), &[records])?;
         let want = Some(Cause::Breach(OasisFault::Unresolved(number)));
-        assert_eq!(rt; read(rt.alloc(), &bytes, 9).err(), want);
+        assert_eq!(rt; fault_of(rt.alloc(), &bytes, 9), want);
     }
     Ok(())
 }
@@ -192,29 +209,27 @@ fn begun(k: usize) -> u64 {
     start as u64
 }
 
+/// The fault of these bytes and then one failure, and how many errors there were.
+fn failing(alloc: Global, bytes: &[u8]) -> (Option<Cause<OasisFault>>, u64) {
+    let mut reader = Pieces::failing(bytes, 7);
+    let fault = read_oasis(alloc, &mut reader).err();
+    (fault, reader.errors)
+}
+
 /// Rows oasis-cuts and failing-read: the first bytes alone, and then the end or one failure.
 #[test]
 fn refuses_each_cut_and_each_failed_read(rt: HostRuntime) -> Result<(), Fail> {
     let bytes = square(rt.alloc())?;
     for k in 0..=bytes.len() {
-        let cut = read(rt.alloc(), &bytes[..k], 7);
-        if k < bytes.len() {
-            assert_eq!(rt;
-                cut.err(),
-                value(begun(k), ValueFault::Truncated),
-                "cut to {k}"
-            );
+        let want = if k < bytes.len() {
+            value(begun(k), ValueFault::Truncated)
         } else {
-            assert!(rt; cut.is_ok());
-        }
-        let mut failing = Pieces::failing(&bytes[..k], 7);
-        let failed = read_oasis(rt.alloc(), &mut failing);
-        assert_eq!(rt;
-            failed.err(),
-            value(begun(k), ValueFault::Read),
-            "after {k}"
-        );
-        assert_eq!(rt; failing.errors, 1);
+            None
+        };
+        assert_eq!(rt; fault_of(rt.alloc(), &bytes[..k], 7), want, "cut to {k}");
+        let (failed, errors) = failing(rt.alloc(), &bytes[..k]);
+        assert_eq!(rt; failed, value(begun(k), ValueFault::Read), "after {k}");
+        assert_eq!(rt; errors, 1);
     }
     Ok(())
 }

@@ -1,8 +1,8 @@
 //! What is read by few bytes takes little memory: `.ci/growths` holds it against `.ci/memory`.
 
-use crate::library::{TOP, file, read};
+use crate::library::{TOP, file, library_of, read};
 use lvl_refusal::Cause;
-use std::alloc::Global;
+use std::alloc::{AllocError, Global};
 use std::process::Abort;
 use std::test::Fail;
 
@@ -12,16 +12,26 @@ const LISTED: &[u8] = b"\x14\x7F\x01\x00\x01\x01\x00\x00\x04\x9E\x8D\x06";
 /// A polygon with a point list of its own, and the same again by the modal list.
 const POLYGON: &[u8] = b"\x15\x3B\x01\x00\x00\x02\x14\x14\x00\x00";
 
-/// How many shapes a file of these records `count` times after a first one has.
-fn shapes_of(alloc: Global, first: &[u8], spaces: usize, again: &[u8]) -> Result<usize, Fail> {
+/// A first record with so many spaces of 2 at its end, and 1,000 times the other one.
+fn repeated(
+    alloc: Global,
+    first: &[u8],
+    spaces: usize,
+    again: &[u8],
+) -> Result<Vec<u8>, AllocError> {
     let mut records = Vec::from_slice(alloc, first)?;
     let long = first.len().saturating_add(spaces);
     records.resize(long, 2)?;
     for _ in 0..1000u32 {
         records.extend_from_slice(again)?;
     }
-    let bytes = file(alloc, &[TOP, &records])?;
-    let (library, _) = read(alloc, &bytes, 65_536)?;
+    Ok(records)
+}
+
+/// How many shapes a file of those records has.
+fn shapes_of(alloc: Global, first: &[u8], spaces: usize, again: &[u8]) -> Result<usize, Fail> {
+    let records = repeated(alloc, first, spaces, again)?;
+    let library = library_of(alloc, &[TOP, &records], 65_536)?;
     Ok(library.cells.first().ok_or("a cell")?.shapes.len())
 }
 
@@ -40,16 +50,20 @@ fn memory_of_point_lists(rt: HostRuntime) -> Result<(), Fail> {
     Ok(())
 }
 
-/// A thousand names of 127 bytes.
-#[test]
-fn memory_of_names(rt: HostRuntime) -> Result<(), Fail> {
-    let alloc = rt.alloc();
+/// A thousand cells with names of 127 bytes.
+fn long_names(alloc: Global) -> Result<Vec<u8>, Fail> {
     let mut records = Vec::new(alloc);
     for number in 0..1000u32 {
         let name = format!(in alloc; "\x0E\x7F{number:0127}")?;
         records.extend_from_slice(name.as_bytes())?;
     }
-    let (library, _) = read(alloc, &file(alloc, &[&records])?, 65_536)?;
+    Ok(records)
+}
+
+#[test]
+fn memory_of_names(rt: HostRuntime) -> Result<(), Fail> {
+    let records = long_names(rt.alloc())?;
+    let library = library_of(rt.alloc(), &[&records], 65_536)?;
     assert_eq!(rt; library.cells.len(), 1000);
     Ok(())
 }

@@ -3,9 +3,12 @@
 use lvl_ignore::Ignore;
 use lvl_io::Read;
 use lvl_io::fake::Pieces;
-use oasis_records::{CellRef, Record, RecordType, Validation, read_fields, read_id, read_magic};
+use oasis_records::{
+    CellRef, Record, RecordType, Rectangle, Start, Validation, read_fields, read_id, read_magic,
+};
 use oasis_values::{Input, Real};
 use std::alloc::{AllocError, Global};
+use std::process::Abort;
 use std::test::Fail;
 
 /// The magic string, START, CELL, RECTANGLE and END.
@@ -29,23 +32,12 @@ fn next<R: Read>(input: &mut Input<R>, alloc: Global) -> Option<Record> {
     read_fields(input, alloc, kind, id.len, false).ok()
 }
 
-#[test]
-fn records_of_a_square(rt: HostRuntime) -> Result<(), Fail> {
-    let bytes = square(rt.alloc())?;
-    let mut input = Input::new(Pieces::new(&bytes, 1), Ignore::NOTHING);
-    assert!(rt; read_magic(&mut input).is_ok());
-    let Some(Record::Start(start)) = next(&mut input, rt.alloc()) else {
-        return Err(AllocError.into());
-    };
+fn check_start(rt: &impl Abort, start: &Start) {
     assert_eq!(rt; start.unit, Real::Whole(1000));
     assert_eq!(rt; start.has_offsets_at_end, false);
-    let Some(Record::Cell(CellRef::Name(name))) = next(&mut input, rt.alloc()) else {
-        return Err(AllocError.into());
-    };
-    assert!(rt; name.as_bytes() == b"TOP".as_slice());
-    let Some(Record::Rectangle(rectangle)) = next(&mut input, rt.alloc()) else {
-        return Err(AllocError.into());
-    };
+}
+
+fn check_rectangle(rt: &impl Abort, rectangle: &Rectangle) {
     assert_eq!(rt; rectangle.on.layer, Some(1));
     assert_eq!(rt; rectangle.on.datatype, Some(0));
     assert_eq!(rt; rectangle.width, Some(10));
@@ -53,10 +45,36 @@ fn records_of_a_square(rt: HostRuntime) -> Result<(), Fail> {
     assert_eq!(rt; rectangle.position.x, Some(0));
     assert_eq!(rt; rectangle.position.y, Some(0));
     assert!(rt; rectangle.position.repetition.is_none());
-    let Some(Record::End(validation)) = next(&mut input, rt.alloc()) else {
-        return Err(AllocError.into());
-    };
-    assert_eq!(rt; validation, Validation::Absent);
+}
+
+/// The record of that number, counted from START.
+fn check_record(rt: &impl Abort, number: u32, record: &Record) -> Result<(), Fail> {
+    match (number, record) {
+        (0, Record::Start(start)) => check_start(rt, start),
+        (1, Record::Cell(CellRef::Name(name))) => {
+            assert!(rt; name.as_bytes() == b"TOP".as_slice());
+        }
+        (2, Record::Rectangle(rectangle)) => check_rectangle(rt, rectangle),
+        (3, Record::End(validation)) => assert_eq!(rt; *validation, Validation::Absent),
+        _ => return Err(AllocError.into()),
+    }
+    Ok(())
+}
+
+/// The magic string and the four records.
+fn check_square(rt: &impl Abort, alloc: Global, bytes: &[u8]) -> Result<(), Fail> {
+    let mut input = Input::new(Pieces::new(bytes, 1), Ignore::NOTHING);
+    assert!(rt; read_magic(&mut input).is_ok());
+    for number in 0..4 {
+        let record = next(&mut input, alloc).ok_or("a record")?;
+        check_record(rt, number, &record)?;
+    }
     assert_eq!(rt; input.offset(), 303);
     Ok(())
+}
+
+#[test]
+fn records_of_a_square(rt: HostRuntime) -> Result<(), Fail> {
+    let bytes = square(rt.alloc())?;
+    check_square(&rt, rt.alloc(), &bytes)
 }

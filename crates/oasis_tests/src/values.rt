@@ -11,7 +11,8 @@ use std::alloc::{AllocError, Global};
 use std::process::Abort;
 use std::test::Fail;
 
-fn input(bytes: &[u8]) -> Input<Pieces<'_>> {
+/// The values in these bytes.
+pub fn input(bytes: &[u8]) -> Input<Pieces<'_>> {
     Input::new(Pieces::new(bytes, usize::MAX), Ignore::NOTHING)
 }
 
@@ -27,6 +28,13 @@ fn put(bytes: &mut Vec<u8>, number: u64) -> Result<(), AllocError> {
     }
     bytes.push((rest % 128) as u8)?;
     Ok(())
+}
+
+/// The bytes of an unsigned integer.
+fn spelled(alloc: Global, number: u64) -> Result<Vec<u8>, AllocError> {
+    let mut bytes = Vec::new(alloc);
+    put(&mut bytes, number)?;
+    Ok(bytes)
 }
 
 const LARGE: Result<u64, ValueFault> = Err(ValueFault::IntegerTooLarge);
@@ -48,6 +56,11 @@ fn small_values(rt: HostRuntime) -> Result<(), Fail> {
     for (bytes, want) in unsigned {
         assert_eq!(rt; input(bytes).unsigned(), want);
     }
+    Ok(())
+}
+
+#[test]
+fn small_signed_values(rt: HostRuntime) -> Result<(), Fail> {
     let signed: [(&[u8], i64); 6] = [
         (b"\x0B", -5),
         (b"\x03", -1),
@@ -60,6 +73,11 @@ fn small_values(rt: HostRuntime) -> Result<(), Fail> {
         assert_eq!(rt; input(bytes).signed(), Ok(want));
         assert_eq!(rt; input(bytes).one_delta(), Ok(want));
     }
+    Ok(())
+}
+
+#[test]
+fn small_deltas(rt: HostRuntime) -> Result<(), Fail> {
     assert_eq!(rt; input(b"\x29").two_delta(), Ok(Point { x: 0, y: 10 }));
     assert_eq!(rt; input(b"\x2F").three_delta(), Ok(Point { x: 5, y: -5 }));
     assert_eq!(rt; input(b"\xA8\x01").g_delta(), Ok(Point { x: 10, y: 10 }));
@@ -92,18 +110,46 @@ fn reals(rt: HostRuntime) -> Result<(), Fail> {
     Ok(())
 }
 
+/// What the unsigned integer is with which these bytes begin, and how many of them it takes.
+fn unsigned_in(bytes: &[u8]) -> (Result<u64, ValueFault>, u64) {
+    let mut values = input(bytes);
+    let read = values.unsigned();
+    (read, values.offset())
+}
+
+/// That number, the one before and the one after, each spelled and read.
+fn check_near(rt: &impl Abort, alloc: Global, power: u64) -> Result<(), Fail> {
+    for near in [power.wrapping_sub(1), power, power.wrapping_add(1)] {
+        let bytes = spelled(alloc, near)?;
+        assert_eq!(rt; unsigned_in(&bytes), (Ok(near), bytes.len() as u64));
+    }
+    Ok(())
+}
+
 #[test]
 fn integers_near_powers(rt: HostRuntime) -> Result<(), Fail> {
     let mut power = 1u64;
     for _ in 0..10 {
-        for near in [power.wrapping_sub(1), power, power.wrapping_add(1)] {
-            let mut bytes = Vec::new(rt.alloc());
-            put(&mut bytes, near)?;
-            let mut values = input(&bytes);
-            assert_eq!(rt; values.unsigned(), Ok(near));
-            assert_eq!(rt; values.offset(), bytes.len() as u64);
-        }
+        check_near(&rt, rt.alloc(), power)?;
         power = power.wrapping_mul(128);
+    }
+    Ok(())
+}
+
+/// The string is the rest of the bytes after the first, or that fault.
+fn check_string(
+    rt: &impl Abort,
+    bytes: &[u8],
+    read: &Result<Vec<u8>, Cause<ValueFault>>,
+    fault: Option<ValueFault>,
+) -> Result<(), Fail> {
+    match read {
+        Ok(text) => {
+            assert_eq!(rt; fault, None);
+            assert!(rt; Some(text.as_slice()) == bytes.get(1..));
+        }
+        Err(Cause::Breach(found)) => assert_eq!(rt; Some(*found), fault),
+        Err(Cause::OutOfMemory) => return Err(AllocError.into()),
     }
     Ok(())
 }
@@ -121,142 +167,8 @@ fn strings(rt: HostRuntime) -> Result<(), Fail> {
         (Text::B, b"\x02a", 2, Some(ValueFault::Truncated)),
     ];
     for (kind, bytes, most, fault) in rows {
-        match input(bytes).string(rt.alloc(), kind, most) {
-            Ok(text) => {
-                assert_eq!(rt; fault, None);
-                assert!(rt; text.as_slice() == &bytes[1..]);
-            }
-            Err(Cause::Breach(found)) => assert_eq!(rt; Some(found), fault),
-            Err(Cause::OutOfMemory) => return Err(AllocError.into()),
-        }
-    }
-    Ok(())
-}
-
-#[test]
-fn point_lists(rt: HostRuntime) -> Result<(), Fail> {
-    let square: [(i64, i64); 4] = [(0, 0), (10, 0), (10, 10), (0, 10)];
-    let rows: [(Use, &[u8], Result<&[(i64, i64)], ValueFault>); 13] = [
-        (Use::Polygon, b"\x02\x03\x28\x29\x2A", Ok(&square)),
-        (
-            Use::Polygon,
-            b"\x05\x03\xA0\x01\xAA\x01\xAC\x01",
-            Ok(&square),
-        ),
-        (Use::Polygon, b"\x00\x02\x14\x14", Ok(&square)),
-        (
-            Use::Polygon,
-            b"\x01\x02\x14\x14",
-            Ok(&[(0, 0), (0, 10), (10, 10), (10, 0)]),
-        ),
-        (
-            Use::Polygon,
-            b"\x00\x02\x03\x02",
-            Ok(&[(0, 0), (-1, 0), (-1, 1), (0, 1)]),
-        ),
-        (
-            Use::Polygon,
-            b"\x00\x03\x14\x14\x14",
-            Err(ValueFault::PointCount),
-        ),
-        (Use::Polygon, b"\x02\x01\x14", Err(ValueFault::PointCount)),
-        (
-            Use::Polygon,
-            b"\x02\x81\x80\x04",
-            Err(ValueFault::PointCount),
-        ),
-        (Use::Polygon, b"\x06", Err(ValueFault::PointListType)),
-        (Use::Path, b"\x00\x01\x14", Ok(&[(0, 0), (10, 0)])),
-        (
-            Use::Path,
-            b"\x03\x02\x54\x55",
-            Ok(&[(0, 0), (10, 10), (0, 20)]),
-        ),
-        (
-            Use::Path,
-            b"\x01\x03\xFF\xFF\xFF\xFF\xFF\xFF\xFF\xFF\xFF\x01\x00\x03",
-            Ok(&[(0, 0), (0, -i64::MAX), (0, -i64::MAX), (0, i64::MIN)]),
-        ),
-        (
-            Use::Path,
-            b"\x01\x03\xFF\xFF\xFF\xFF\xFF\xFF\xFF\xFF\xFF\x01\x00\x05",
-            Err(ValueFault::OutOfRange),
-        ),
-    ];
-    for (purpose, bytes, want) in rows {
-        match input(bytes).point_list(rt.alloc(), purpose) {
-            Ok(points) => {
-                let listed = want.unwrap_or(&[]);
-                assert_eq!(rt; points.len(), listed.len());
-                for (point, (x, y)) in points.iter().zip(listed) {
-                    assert_eq!(rt; (point.x, point.y), (*x, *y));
-                }
-            }
-            Err(Cause::Breach(fault)) => assert_eq!(rt; Some(fault), want.err()),
-            Err(Cause::OutOfMemory) => return Err(AllocError.into()),
-        }
-    }
-    Ok(())
-}
-
-#[test]
-fn repetitions(rt: HostRuntime) -> Result<(), Fail> {
-    let rows: [(&[u8], &[(i64, i64)]); 6] = [
-        (
-            b"\x01\x00\x00\x0A\x14",
-            &[(0, 0), (10, 0), (0, 20), (10, 20)],
-        ),
-        (b"\x03\x01\x0A", &[(0, 0), (0, 10), (0, 20)]),
-        (b"\x04\x01\x0C\x14", &[(0, 0), (12, 0), (32, 0)]),
-        (b"\x05\x01\x03\x02\x04", &[(0, 0), (6, 0), (18, 0)]),
-        (
-            b"\x08\x00\x01\x20\x22",
-            &[(0, 0), (2, 0), (0, 2), (2, 2), (0, 4), (2, 4)],
-        ),
-        (b"\x0B\x01\x05\x28\x17\x08", &[(0, 0), (10, 10), (-15, 30)]),
-    ];
-    for (bytes, want) in rows {
-        match input(bytes).repetition(rt.alloc(), false) {
-            Ok(Repetition::New(places)) => {
-                assert_eq!(rt; places.len(), want.len() as u64);
-                for (k, (x, y)) in want.iter().enumerate() {
-                    assert_eq!(rt; places.at(k as u64), Some(Point { x: *x, y: *y }));
-                }
-            }
-            Err(Cause::OutOfMemory) => return Err(AllocError.into()),
-            _ => assert!(rt; false, "no places"),
-        }
-    }
-    let again = input(b"\x00").repetition(rt.alloc(), true);
-    assert!(rt; matches!(again, Ok(Repetition::Modal)));
-    Ok(())
-}
-
-#[test]
-fn repetition_limits(rt: HostRuntime) -> Result<(), Fail> {
-    let rows: [(&[u8], Result<u64, ValueFault>); 8] = [
-        (b"\x02\xFE\xFF\xFF\x07\x01", Ok(16_777_216)),
-        (b"\x02\xFF\xFF\xFF\x07\x01", Err(ValueFault::RepetitionSize)),
-        (b"\x04\xFF\xFF\x3F", Err(ValueFault::RepetitionSize)),
-        (
-            b"\x02\x00\x80\x80\x80\x80\x80\x80\x80\x80\x80\x01",
-            Err(ValueFault::OutOfRange),
-        ),
-        (b"\x00", Err(ValueFault::NoModal)),
-        (b"\x0C", Err(ValueFault::RepetitionType)),
-        (
-            b"\x01\xFF\xFF\xFF\xFF\xFF\xFF\xFF\xFF\xFF\x01\x00",
-            Err(ValueFault::RepetitionSize),
-        ),
-        (b"\x01\xFF\xFF\xFF\x07", Err(ValueFault::Truncated)),
-    ];
-    for (bytes, want) in rows {
-        match input(bytes).repetition(rt.alloc(), false) {
-            Ok(Repetition::New(places)) => assert_eq!(rt; Ok(places.len()), want),
-            Ok(Repetition::Modal) => assert!(rt; false, "nothing to use again"),
-            Err(Cause::Breach(fault)) => assert_eq!(rt; Err(fault), want),
-            Err(Cause::OutOfMemory) => return Err(AllocError.into()),
-        }
+        let read = input(bytes).string(rt.alloc(), kind, most);
+        check_string(&rt, bytes, &read, fault)?;
     }
     Ok(())
 }
@@ -278,45 +190,53 @@ fn read_group<R: Read>(alloc: Global, values: &mut Input<R>) -> Result<u64, Caus
     let signed = values.signed()?;
     let ratio = values.real()? == Real::Ratio(2, 8);
     let eight = values.real()? == Real::Eight([0; 8]);
-    let text = values.string(alloc, Text::A, 3)?;
-    let points = values.point_list(alloc, Use::Polygon)?;
-    let places = values.repetition(alloc, false)?;
+    let letters = values.string(alloc, Text::A, 3)?.len() as u64;
+    let points = values.point_list(alloc, Use::Polygon)?.len() as u64;
+    let places = places_in(&values.repetition(alloc, false)?);
     Ok(
         number
             .wrapping_add(signed.unsigned_abs())
             .wrapping_add(u64::from(ratio) * 10)
             .wrapping_add(u64::from(eight) * 100)
-            .wrapping_add((text.len() as u64).wrapping_mul(1000))
-            .wrapping_add((points.len() as u64).wrapping_mul(10_000))
-            .wrapping_add(places_in(&places).wrapping_mul(100_000)),
+            .wrapping_add(letters.wrapping_mul(1000))
+            .wrapping_add(points.wrapping_mul(10_000))
+            .wrapping_add(places.wrapping_mul(100_000)),
     )
+}
+
+fn groups(alloc: Global) -> Result<Vec<u8>, AllocError> {
+    let mut bytes = Vec::new(alloc);
+    for _ in 0..300u32 {
+        bytes.extend_from_slice(GROUP)?;
+    }
+    Ok(bytes)
+}
+
+/// All the groups and then the end, at most `most` bytes at a read.
+fn check_groups(rt: &impl Abort, alloc: Global, bytes: &[u8], most: usize) {
+    let mut values = Input::new(Pieces::new(bytes, most), Ignore::NOTHING);
+    for _ in 0..300u32 {
+        assert!(rt;
+            matches!(read_group(alloc, &mut values), Ok(343_115)),
+            "pieces of {most}"
+        );
+    }
+    assert_eq!(rt; values.offset(), bytes.len() as u64);
+    assert_eq!(rt; values.byte(), Err(ValueFault::Truncated));
 }
 
 #[test]
 fn reads_pieces_of_any_size_alike(rt: HostRuntime) -> Result<(), Fail> {
-    let mut bytes = Vec::new(rt.alloc());
-    for _ in 0..300u32 {
-        bytes.extend_from_slice(GROUP)?;
-    }
+    let bytes = groups(rt.alloc())?;
     for most in [1, 2, 3, 4095, 4096, 65_536, usize::MAX] {
-        let mut values = Input::new(Pieces::new(&bytes, most), Ignore::NOTHING);
-        for _ in 0..300u32 {
-            assert!(rt;
-                matches!(read_group(rt.alloc(), &mut values), Ok(343_115)),
-                "pieces of {most}"
-            );
-        }
-        assert_eq!(rt; values.offset(), bytes.len() as u64);
-        assert_eq!(rt; values.byte(), Err(ValueFault::Truncated));
+        check_groups(&rt, rt.alloc(), &bytes, most);
     }
     Ok(())
 }
 
-/// After a fault each call answers `Failed`, and the offset stays.
-fn check_failed<R: Read>(rt: &impl Abort, alloc: Global, values: &mut Input<R>) {
-    let at = values.offset();
+/// After a fault each call for a number or a delta answers `Failed`.
+fn check_numbers_failed<R: Read>(rt: &impl Abort, values: &mut Input<R>) {
     let failed = ValueFault::Failed;
-    let refused = Err(Cause::Breach(failed));
     assert_eq!(rt; values.byte(), Err(failed));
     assert_eq!(rt; values.unsigned(), Err(failed));
     assert_eq!(rt; values.signed(), Err(failed));
@@ -324,24 +244,46 @@ fn check_failed<R: Read>(rt: &impl Abort, alloc: Global, values: &mut Input<R>) 
     assert_eq!(rt; values.two_delta(), Err(failed));
     assert_eq!(rt; values.three_delta(), Err(failed));
     assert_eq!(rt; values.g_delta(), Err(failed));
+}
+
+/// After a fault each call for a list answers `Failed`.
+fn check_lists_failed<R: Read>(rt: &impl Abort, alloc: Global, values: &mut Input<R>) {
+    let refused = Err(Cause::Breach(ValueFault::Failed));
     assert_eq!(rt; values.string(alloc, Text::B, 9).map(|_| 0), refused);
     assert_eq!(rt; values.point_list(alloc, Use::Path).map(|_| 0), refused);
     assert_eq!(rt; values.repetition(alloc, true).map(|_| 0), refused);
+}
+
+/// After a fault each call answers `Failed`, and the offset stays.
+fn check_failed<R: Read>(rt: &impl Abort, alloc: Global, values: &mut Input<R>) {
+    let at = values.offset();
+    check_numbers_failed(rt, values);
+    check_lists_failed(rt, alloc, values);
     assert_eq!(rt; values.offset(), at);
+}
+
+fn check_cut(rt: &impl Abort, alloc: Global, bytes: &[u8]) {
+    let mut cut = Input::new(Pieces::new(bytes, 3), Ignore::NOTHING);
+    let fault = Err(Cause::Breach(ValueFault::Truncated));
+    let k = bytes.len();
+    assert_eq!(rt; read_group(alloc, &mut cut), fault, "cut to {k}");
+    check_failed(rt, alloc, &mut cut);
+}
+
+fn check_failed_read(rt: &impl Abort, alloc: Global, bytes: &[u8]) {
+    let mut failing = Input::new(Pieces::failing(bytes, 3), Ignore::NOTHING);
+    let fault = Err(Cause::Breach(ValueFault::Read));
+    let k = bytes.len();
+    assert_eq!(rt; read_group(alloc, &mut failing), fault, "after {k}");
+    check_failed(rt, alloc, &mut failing);
+    assert_eq!(rt; failing.into_reader().errors, 1);
 }
 
 #[test]
 fn reports_each_cut_and_each_failed_read(rt: HostRuntime) -> Result<(), Fail> {
     for k in 0..GROUP.len() {
-        let mut cut = Input::new(Pieces::new(&GROUP[..k], 3), Ignore::NOTHING);
-        let fault = Err(Cause::Breach(ValueFault::Truncated));
-        assert_eq!(rt; read_group(rt.alloc(), &mut cut), fault, "cut to {k}");
-        check_failed(&rt, rt.alloc(), &mut cut);
-        let mut failing = Input::new(Pieces::failing(&GROUP[..k], 3), Ignore::NOTHING);
-        let fault = Err(Cause::Breach(ValueFault::Read));
-        assert_eq!(rt; read_group(rt.alloc(), &mut failing), fault, "after {k}");
-        check_failed(&rt, rt.alloc(), &mut failing);
-        assert_eq!(rt; failing.into_reader().errors, 1);
+        check_cut(&rt, rt.alloc(), &GROUP[..k]);
+        check_failed_read(&rt, rt.alloc(), &GROUP[..k]);
     }
     Ok(())
 }
