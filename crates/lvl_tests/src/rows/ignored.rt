@@ -91,35 +91,52 @@ fn refusals(alloc: Global, found: &str) -> Result<(String, String), AllocError> 
     Ok((first, second))
 }
 
+/// Whether the file is the same as the square, as the first file and as the second.
+fn is_the_square(alloc: Global, bytes: &[u8], ignore: Ignore) -> Result<bool, Fail> {
+    let square = file(alloc, "square.gds")?;
+    let ours = compared(alloc, bytes, &square, ignore)?;
+    let theirs = compared(alloc, &square, bytes, ignore)?;
+    Ok(is_answer(&ours, "same") && is_answer(&theirs, "same"))
+}
+
+/// Whether the file is shown and hashed as the square is.
+fn is_shown_as_the_square(alloc: Global, bytes: &[u8], ignore: Ignore) -> Result<bool, Fail> {
+    let shown = shown(alloc, bytes, ignore)?;
+    let digested = digested(alloc, bytes, ignore)?;
+    Ok(is_shown(&shown, b"\nlayer 1 datatype 0 rings 1\n") && is_shown(&digested, MASK))
+}
+
+/// Whether the file is refused so, beside the square, as the first file and as the second.
+fn is_refused(alloc: Global, bytes: &[u8], ignore: Ignore, found: &str) -> Result<bool, Fail> {
+    let square = file(alloc, "square.gds")?;
+    let (first, second) = refusals(alloc, found)?;
+    let ours = compared(alloc, bytes, &square, ignore)?;
+    let theirs = compared(alloc, &square, bytes, ignore)?;
+    Ok(is_answer(&ours, first.as_str()) && is_answer(&theirs, second.as_str()))
+}
+
+/// Whether the file is refused so when it is to be shown and to be hashed.
+fn is_not_shown(alloc: Global, bytes: &[u8], ignore: Ignore, found: &str) -> Result<bool, Fail> {
+    let (first, _) = refusals(alloc, found)?;
+    let shown = shown(alloc, bytes, ignore)?;
+    let digested = digested(alloc, bytes, ignore)?;
+    Ok(is_answer(&shown, first.as_str()) && is_answer(&digested, first.as_str()))
+}
+
 #[test]
 fn files_with_ignored_records(rt: HostRuntime) -> Result<(), Fail> {
     let alloc = rt.alloc();
-    let square = file(alloc, "square.gds")?;
     for row in ROWS.lines() {
         let (text, parts) = cut(row);
         let (words, found) = cut(parts);
         let ignore = ignored(alloc, text)?;
         let bytes = file(alloc, words)?;
-        let ours = compared(alloc, &bytes, &square, ignore)?;
-        let theirs = compared(alloc, &square, &bytes, ignore)?;
-        let shown = shown(alloc, &bytes, ignore)?;
-        let digested = digested(alloc, &bytes, ignore)?;
         if found == "same" {
-            assert!(rt;
-                is_answer(&ours, "same") && is_answer(&theirs, "same"),
-                "{row}"
-            );
-            assert!(rt;
-                is_shown(&shown, b"\nlayer 1 datatype 0 rings 1\n"),
-                "{row}"
-            );
-            assert!(rt; is_shown(&digested, MASK), "{row}");
+            assert!(rt; is_the_square(alloc, &bytes, ignore)?, "{row}");
+            assert!(rt; is_shown_as_the_square(alloc, &bytes, ignore)?, "{row}");
         } else {
-            let (first, second) = refusals(alloc, found)?;
-            assert!(rt; is_answer(&ours, first.as_str()), "{row}");
-            assert!(rt; is_answer(&theirs, second.as_str()), "{row}");
-            assert!(rt; is_answer(&shown, first.as_str()), "{row}");
-            assert!(rt; is_answer(&digested, first.as_str()), "{row}");
+            assert!(rt; is_refused(alloc, &bytes, ignore, found)?, "{row}");
+            assert!(rt; is_not_shown(alloc, &bytes, ignore, found)?, "{row}, shown");
         }
     }
     Ok(())

@@ -134,7 +134,35 @@ oasis 14 7B 80*4 10 00 0A 0A 00 00 00*100000 | 51 | refused
 oasis-begin 05 00*100000 | 35 | refused
 ";
 
-/// The file is shown, and compared with the square as the first and as the second file.
+/// Whether the file is shown with that status, and asked for at most so often.
+fn is_shown_by(alloc: Global, bytes: &[u8], most: u64, end: Status) -> Result<bool, Fail> {
+    let mut out = sink(alloc, 1000)?;
+    let mut shown = Asked::new(bytes);
+    let status = run_show(alloc, &mut shown, None, &mut out);
+    Ok(status == Ok(end) && shown.is_asked_little(most))
+}
+
+/// Whether two files that are compared are asked for at most so often.
+fn are_asked(alloc: Global, ours: &[u8], theirs: &[u8], most: [u64; 2]) -> Result<bool, Fail> {
+    let mut out = sink(alloc, 1000)?;
+    let mut first = Asked::new(ours);
+    let mut second = Asked::new(theirs);
+    run(alloc, &mut first, &mut second, &no_tops(), &mut out)?;
+    Ok(first.is_asked_little(most[0]) && second.is_asked_little(most[1]))
+}
+
+/// The same in a view that shows all.
+fn are_asked_in_a_view(alloc: Global, bytes: &[u8], most: [u64; 2]) -> Result<bool, Fail> {
+    let view = View::read(alloc, None, None)?;
+    let mut out = sink(alloc, 1000)?;
+    let mut first = Asked::new(bytes);
+    let mut second = Asked::new(bytes);
+    run_view(alloc, &mut first, &mut second, &no_tops(), &view, &mut out)?;
+    Ok(first.is_asked_little(most[0]) && second.is_asked_little(most[1]))
+}
+
+/// The file is shown, and compared with the square as the first and as the second file. A second file is not
+/// read where the first is refused.
 fn check_asked(
     rt: &impl Abort,
     alloc: Global,
@@ -144,36 +172,13 @@ fn check_asked(
 ) -> Result<(), Fail> {
     let bytes = file(alloc, words)?;
     let square = file(alloc, "square.gds")?;
-    let mut out = sink(alloc, 1000)?;
-    let mut shown = Asked::new(&bytes);
-    assert_eq!(rt; run_show(alloc, &mut shown, None, &mut out), Ok(end));
-    assert!(rt; shown.is_asked_little(most), "{words}, shown");
-    let view = View::read(alloc, None, None)?;
-    for is_first in [true, false] {
-        let mut ours = Asked::new(if is_first { &bytes } else { &square });
-        let mut theirs = Asked::new(if is_first { &square } else { &bytes });
-        run(alloc, &mut ours, &mut theirs, &no_tops(), &mut out)?;
-        let (asked, other) = if is_first {
-            (&ours, &theirs)
-        } else {
-            (&theirs, &ours)
-        };
-        assert!(rt; asked.is_asked_little(most), "{words}");
-        let few = if is_first && end == Status::Refused {
-            0
-        } else {
-            3
-        };
-        assert!(rt; other.is_asked_little(few), "{words}, the square");
-    }
-    let mut ours = Asked::new(&bytes);
-    let mut theirs = Asked::new(&bytes);
-    run_view(alloc, &mut ours, &mut theirs, &no_tops(), &view, &mut out)?;
-    assert!(rt; ours.is_asked_little(most), "{words}, in a view");
-    assert!(rt;
-        theirs.is_asked_little(if end == Status::Refused { 0 } else { most }),
-        "{words}, in a view"
-    );
+    let is_read = end != Status::Refused;
+    let few = if is_read { 3 } else { 0 };
+    let next = if is_read { most } else { 0 };
+    assert!(rt; is_shown_by(alloc, &bytes, most, end)?, "{words}, shown");
+    assert!(rt; are_asked(alloc, &bytes, &square, [most, few])?, "{words}");
+    assert!(rt; are_asked(alloc, &square, &bytes, [3, most])?, "{words}, second");
+    assert!(rt; are_asked_in_a_view(alloc, &bytes, [most, next])?, "{words}, in a view");
     Ok(())
 }
 
