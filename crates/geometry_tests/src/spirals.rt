@@ -67,14 +67,18 @@ fn found_with(alloc: Global, rings: &Rings, more: &[Sides]) -> Result<Found, All
     difference_by_columns(alloc, rings, &mask_with(alloc, more)?)
 }
 
+/// What differs first in the whole mask and in the rings.
+fn found_from_mask(alloc: Global, rings: &Rings) -> Result<Found, AllocError> {
+    difference_by_columns(alloc, &mask_with(alloc, &[LAST])?, rings)
+}
+
 #[test]
 fn a_ring_that_winds(rt: HostRuntime) -> Result<(), Fail> {
     let alloc = rt.alloc();
     let spiral = winding(alloc, 600)?;
     assert!(rt; found_with(alloc, &spiral, &[])? == at(599, -600, Side::First));
     assert!(rt; found_with(alloc, &spiral, &[LAST])?.is_none());
-    let mask = mask_with(alloc, &[LAST])?;
-    assert!(rt; difference_by_columns(alloc, &mask, &spiral)?.is_none());
+    assert!(rt; found_from_mask(alloc, &spiral)?.is_none());
     let found = found_with(alloc, &spiral, &[LAST, BEYOND])?;
     assert!(rt; found == at(-600, -2, Side::Second));
     Ok(())
