@@ -1,7 +1,7 @@
 //! What small libraries flatten to.
-use lvl_cells::{Cell, Library, Reference, Shapes, check};
+use lvl_cells::{Cell, Checked, Library, Reference, Shapes, check};
 use lvl_flat::{Flat, FlatFault, flatten};
-use lvl_grid::{Map, Point, Ring, Square, Turn};
+use lvl_grid::{Map, Point, Ring, Rings, Square, Turn};
 use lvl_names::{Layer, Name, Offsets};
 use lvl_refusal::Cause;
 use std::alloc::Global;
@@ -47,12 +47,17 @@ fn drawing(alloc: Global, name: &str, layer: Layer, low: Point, high: Point) -> 
     with_ring(alloc, name, layer, &rectangle(alloc, low, high)?)
 }
 
-/// A cell that places another by the map.
-fn placing(alloc: Global, name: &str, placed: &str, map: Map) -> Result<Cell, Fail> {
+/// What places a cell by the map.
+fn reference(alloc: Global, placed: &str, map: Map) -> Result<Reference, Fail> {
     let placed = Name::new(Vec::from_slice(alloc, placed.as_bytes())?)?;
     let reference = Reference::new(placed, map.flip, map.turn, map.at, Offsets::single());
+    Ok(reference.ok_or("places")?)
+}
+
+/// A cell that places another by the map.
+fn placing(alloc: Global, name: &str, placed: &str, map: Map) -> Result<Cell, Fail> {
     let mut references = Vec::new(alloc);
-    references.push(reference.ok_or("places")?)?;
+    references.push(reference(alloc, placed, map)?)?;
     Ok(Cell {
         name: Vec::from_slice(alloc, name.as_bytes())?,
         shapes: Shapes::new(alloc),
@@ -60,25 +65,25 @@ fn placing(alloc: Global, name: &str, placed: &str, map: Map) -> Result<Cell, Fa
     })
 }
 
-/// The rectangle of a cell A, as two maps one above the other place it.
-fn placed_twice(
+/// A library in which two maps one above the other place this cell A.
+fn placed_twice(alloc: Global, drawn: Cell, outer: Map, inner: Map) -> Result<Checked, Fail> {
+    let mut cells = Vec::new(alloc);
+    cells.push(drawn)?;
+    cells.push(placing(alloc, "M", "A", inner)?)?;
+    cells.push(placing(alloc, "TOP", "M", outer)?)?;
+    Ok(check(alloc, Library { cells }, None)?)
+}
+
+/// A library in which two maps one above the other place a rectangle.
+fn rectangle_placed(
     alloc: Global,
     low: Point,
     high: Point,
     outer: Map,
     inner: Map,
-) -> Result<Result<Vec<Point>, Cause<FlatFault>>, Fail> {
-    let mut cells = Vec::new(alloc);
-    cells.push(drawing(alloc, "A", METAL, low, high)?)?;
-    cells.push(placing(alloc, "M", "A", inner)?)?;
-    cells.push(placing(alloc, "TOP", "M", outer)?)?;
-    let checked = check(alloc, Library { cells }, None)?;
-    let flat = match flatten(alloc, &checked) {
-        Ok(flat) => flat,
-        Err(fault) => return Ok(Err(fault)),
-    };
-    let ring = flat.rings(METAL).get(0).ok_or("no ring")?;
-    Ok(Ok(Vec::from_slice(alloc, ring)?))
+) -> Result<Checked, Fail> {
+    let drawn = drawing(alloc, "A", METAL, low, high)?;
+    placed_twice(alloc, drawn, outer, inner)
 }
 
 /// The least and the greatest corner of the points.
@@ -94,6 +99,13 @@ fn corners(points: &[Point]) -> Option<(i64, i64, i64, i64)> {
         );
     }
     Some(found)
+}
+
+/// The least and the greatest corner of the first ring to which the library flattens.
+fn flat_corners(alloc: Global, checked: &Checked) -> Result<Option<(i64, i64, i64, i64)>, Fail> {
+    let flat = flatten(alloc, checked).ok().ok_or("refused")?;
+    let ring = flat.rings(METAL).get(0).ok_or("no ring")?;
+    Ok(corners(ring))
 }
 
 fn turned(flip: bool, turn: Turn, x: i64, y: i64) -> Map {
@@ -138,27 +150,39 @@ fn maps_two_levels_deep(rt: HostRuntime) -> Result<(), Fail> {
         ("shifted", turned(false, Turn::R0, 5, -2), (11, 25, 12, 28)),
     ];
     for (name, inner, want) in rows {
-        let points = placed_twice(rt.alloc(), low, high, outer, inner)?;
-        let points = points.ok().ok_or("refused")?;
-        assert_eq!(rt; corners(&points), Some(want), "{name}");
+        let checked = rectangle_placed(rt.alloc(), low, high, outer, inner)?;
+        assert_eq!(rt; flat_corners(rt.alloc(), &checked)?, Some(want), "{name}");
     }
     Ok(())
 }
 
-#[test]
-fn placed_at_range_edge(rt: HostRuntime) -> Result<(), Fail> {
+/// A library in which half a turn moves a square from the lower end of the range to its upper end, or
+/// so far beside it.
+fn turned_at_edge(alloc: Global, beside: i64) -> Result<Checked, Fail> {
     let low = Point { x: i64::MIN, y: 0 };
     let high = Point {
         x: i64::MIN + 1,
         y: 1,
     };
     let plain = turned(false, Turn::R0, 0, 0);
-    let back = turned(false, Turn::R180, -1, 0);
-    let points = placed_twice(rt.alloc(), low, high, back, plain)?;
-    let points = points.ok().ok_or("refused")?;
-    assert_eq!(rt; corners(&points), Some((i64::MAX - 1, -1, i64::MAX, 0)));
-    let half = turned(false, Turn::R180, 0, 0);
-    match placed_twice(rt.alloc(), low, high, half, plain)? {
+    let half = turned(false, Turn::R180, beside, 0);
+    rectangle_placed(alloc, low, high, half, plain)
+}
+
+#[test]
+fn placed_at_range_edge(rt: HostRuntime) -> Result<(), Fail> {
+    let checked = turned_at_edge(rt.alloc(), -1)?;
+    assert_eq!(rt;
+        flat_corners(rt.alloc(), &checked)?,
+        Some((i64::MAX - 1, -1, i64::MAX, 0))
+    );
+    Ok(())
+}
+
+#[test]
+fn refused_at_range_edge(rt: HostRuntime) -> Result<(), Fail> {
+    let checked = turned_at_edge(rt.alloc(), 0)?;
+    match flatten(rt.alloc(), &checked) {
         Err(Cause::Breach(FlatFault::OutOfRange(name))) => assert_eq!(rt;
             name.as_slice(),
             b"A".as_slice()
@@ -168,9 +192,14 @@ fn placed_at_range_edge(rt: HostRuntime) -> Result<(), Fail> {
     Ok(())
 }
 
-#[test]
-fn layers_in_order(rt: HostRuntime) -> Result<(), Fail> {
-    let alloc = rt.alloc();
+/// A Layer that only a cell out of reach draws on.
+const FAR: Layer = Layer {
+    layer: 3,
+    datatype: 3,
+};
+
+/// A top that draws a square on four Layers, on one of them twice.
+fn layered_top(alloc: Global) -> Result<Cell, Fail> {
     let mut top = drawing(alloc, "TOP", METAL, ORIGIN, Point { x: 1, y: 1 })?;
     for (layer, datatype) in [(7, 1), (0, 9), (7, 0), (1, 0)] {
         let ring = rectangle(alloc, ORIGIN, Point { x: 1, y: 1 })?;
@@ -178,16 +207,21 @@ fn layers_in_order(rt: HostRuntime) -> Result<(), Fail> {
         top.shapes
             .push_ring(layer, ring.points(), &Offsets::single())?;
     }
-    // A Layer that only a cell out of reach draws on is absent.
-    let far = Layer {
-        layer: 3,
-        datatype: 3,
-    };
+    Ok(top)
+}
+
+/// The library of that top and of a cell out of reach.
+fn layered(alloc: Global) -> Result<Checked, Fail> {
     let mut cells = Vec::new(alloc);
-    cells.push(top)?;
-    cells.push(drawing(alloc, "FAR", far, ORIGIN, Point { x: 1, y: 1 })?)?;
-    let checked = check(alloc, Library { cells }, Some(b"TOP"))?;
-    let flat = flatten(alloc, &checked)?;
+    cells.push(layered_top(alloc)?)?;
+    cells.push(drawing(alloc, "FAR", FAR, ORIGIN, Point { x: 1, y: 1 })?)?;
+    Ok(check(alloc, Library { cells }, Some(b"TOP"))?)
+}
+
+#[test]
+fn layers_in_order(rt: HostRuntime) -> Result<(), Fail> {
+    let checked = layered(rt.alloc())?;
+    let flat = flatten(rt.alloc(), &checked)?;
     for (place, want) in [
         (0, Some((0, 9))),
         (1, Some((1, 0))),
@@ -199,7 +233,8 @@ fn layers_in_order(rt: HostRuntime) -> Result<(), Fail> {
         assert_eq!(rt; found, want, "{place}");
     }
     assert_eq!(rt; flat.rings(METAL).len(), 2);
-    assert_eq!(rt; flat.rings(far).len(), 0);
+    // It is absent.
+    assert_eq!(rt; flat.rings(FAR).len(), 0);
     Ok(())
 }
 
@@ -243,12 +278,26 @@ fn l_placed_twice(alloc: Global, outer: Map, inner: Map) -> Result<Flat, Fail> {
     for (x, y) in L {
         points.push(Point { x, y })?;
     }
-    let mut cells = Vec::new(alloc);
-    cells.push(with_ring(alloc, "A", METAL, &Ring::new(points)?)?)?;
-    cells.push(placing(alloc, "M", "A", inner)?)?;
-    cells.push(placing(alloc, "TOP", "M", outer)?)?;
-    let checked = check(alloc, Library { cells }, None)?;
-    Ok(flatten(alloc, &checked)?)
+    let drawn = with_ring(alloc, "A", METAL, &Ring::new(points)?)?;
+    Ok(flatten(alloc, &placed_twice(alloc, drawn, outer, inner)?)?)
+}
+
+/// The first square that the rings cover and the maps do not send the L to, or the other way round.
+fn astray(rings: &Rings, outer: Map, inner: Map) -> Option<(i64, i64)> {
+    for y in -9..9 {
+        for x in -9..9 {
+            if rings.covers(Square { x, y }) != is_drawn(inner, outer, x, y) {
+                return Some((x, y));
+            }
+        }
+    }
+    None
+}
+
+/// The same of what the L flattens to.
+fn flat_astray(alloc: Global, outer: Map, inner: Map) -> Result<Option<(i64, i64)>, Fail> {
+    let flat = l_placed_twice(alloc, outer, inner)?;
+    Ok(astray(flat.rings(METAL), outer, inner))
 }
 
 #[test]
@@ -259,15 +308,8 @@ fn all_maps_of_an_l(rt: HostRuntime) -> Result<(), Fail> {
                 for outer_turn in TURNS {
                     let inner = turned(inner_flip, inner_turn, 2, -1);
                     let outer = turned(outer_flip, outer_turn, -3, 1);
-                    let flat = l_placed_twice(rt.alloc(), outer, inner)?;
-                    let rings = flat.rings(METAL);
-                    for y in -9..9 {
-                        for x in -9..9 {
-                            let covered = rings.covers(Square { x, y });
-                            let want = is_drawn(inner, outer, x, y);
-                            assert_eq!(rt; covered, want, "{inner:?} {outer:?} {x} {y}");
-                        }
-                    }
+                    let found = flat_astray(rt.alloc(), outer, inner)?;
+                    assert_eq!(rt; found, None, "{inner:?} {outer:?}");
                 }
             }
         }

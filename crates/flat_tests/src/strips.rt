@@ -22,26 +22,40 @@ const VIA: Layer = Layer {
 /// A square of one step that a top draws beside its array, or none.
 type Extra = Option<(Layer, i64, i64)>;
 
-/// A cell A that draws a rectangle of 4 by 2, and a top that places it 7 by 5 times, 10 apart each
-/// way, and draws these squares.
-fn arrayed(alloc: Global, extras: [Extra; 2]) -> Result<Fitted, Fail> {
+/// Adds a cell A that draws a rectangle of 4 by 2.
+fn add_cell(alloc: Global, builder: &mut Builder) -> Result<(), Fail> {
     let ring = Ring::rectangle(alloc, Point { x: 0, y: 0 }, Point { x: 4, y: 2 })?;
-    let mut builder = Builder::new(alloc);
     builder.open(alloc, Vec::from_slice(alloc, b"A")?);
     builder.add_ring(METAL, ring.points(), &Offsets::single())?;
     builder.close(alloc)?;
-    builder.open(alloc, Vec::from_slice(alloc, b"TOP")?);
+    Ok(())
+}
+
+/// What places A 7 by 5 times, 10 apart each way.
+fn array(alloc: Global) -> Result<Reference, Fail> {
     let across = Point { x: 10, y: 0 };
     let up = Point { x: 0, y: 10 };
     let shifts = Offsets::lattice(across, 7, up, 5).ok_or("lattice")?;
     let name = Name::new(Vec::from_slice(alloc, b"A")?)?;
     let placed = Reference::new(name, false, Turn::R0, Point { x: 0, y: 0 }, shifts);
-    builder.add_reference(placed.ok_or("places")?)?;
+    Ok(placed.ok_or("places")?)
+}
+
+fn add_square(alloc: Global, builder: &mut Builder, layer: Layer, low: Point) -> Result<(), Fail> {
+    let high = low.offset(1, 1).ok_or("range")?;
+    let square = Ring::rectangle(alloc, low, high)?;
+    builder.add_ring(layer, square.points(), &Offsets::single())?;
+    Ok(())
+}
+
+/// A cell A, and a top that places it 7 by 5 times and draws these squares.
+fn arrayed(alloc: Global, extras: [Extra; 2]) -> Result<Fitted, Fail> {
+    let mut builder = Builder::new(alloc);
+    add_cell(alloc, &mut builder)?;
+    builder.open(alloc, Vec::from_slice(alloc, b"TOP")?);
+    builder.add_reference(array(alloc)?)?;
     for (layer, x, y) in extras.into_iter().flatten() {
-        let low = Point { x, y };
-        let high = low.offset(1, 1).ok_or("range")?;
-        let square = Ring::rectangle(alloc, low, high)?;
-        builder.add_ring(layer, square.points(), &Offsets::single())?;
+        add_square(alloc, &mut builder, layer, Point { x, y })?;
     }
     builder.close(alloc)?;
     Ok(Fitted::new(alloc, check(alloc, builder.finish(), None)?)?)

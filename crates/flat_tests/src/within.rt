@@ -30,19 +30,48 @@ fn to_a(
     Ok(Reference::new(name, flip, turn, at, shifts).ok_or("places")?)
 }
 
-/// A cell A that draws a rectangle of 4 by 2, and a top that places it six times in a lattice, and
-/// once more turned, from (48, 0) to (50, 4).
-fn arrayed(alloc: Global) -> Result<Checked, Fail> {
+/// Adds a cell that draws a rectangle of 4 by 2 at these shifts.
+fn add_drawing(
+    alloc: Global,
+    builder: &mut Builder,
+    name: &[u8],
+    shifts: &Offsets,
+) -> Result<(), Fail> {
     let ring = Ring::rectangle(alloc, ORIGIN, Point { x: 4, y: 2 })?;
-    let mut builder = Builder::new(alloc);
-    builder.open(alloc, Vec::from_slice(alloc, b"A")?);
-    builder.add_ring(METAL, ring.points(), &Offsets::single())?;
+    builder.open(alloc, Vec::from_slice(alloc, name)?);
+    builder.add_ring(METAL, ring.points(), shifts)?;
     builder.close(alloc)?;
-    builder.open(alloc, Vec::from_slice(alloc, b"TOP")?);
+    Ok(())
+}
+
+/// Adds a cell that places another so.
+fn add_placing(
+    alloc: Global,
+    builder: &mut Builder,
+    name: &[u8],
+    reference: Reference,
+) -> Result<(), Fail> {
+    builder.open(alloc, Vec::from_slice(alloc, name)?);
+    builder.add_reference(reference)?;
+    builder.close(alloc)?;
+    Ok(())
+}
+
+/// What places A six times in a lattice.
+fn six_of_a(alloc: Global) -> Result<Reference, Fail> {
     let across = Point { x: 10, y: 0 };
     let up = Point { x: 0, y: 10 };
     let shifts = Offsets::lattice(across, 3, up, 2).ok_or("lattice")?;
-    builder.add_reference(to_a(alloc, false, Turn::R0, ORIGIN, shifts)?)?;
+    to_a(alloc, false, Turn::R0, ORIGIN, shifts)
+}
+
+/// A cell A that draws a rectangle of 4 by 2, and a top that places it six times in a lattice, and
+/// once more turned, from (48, 0) to (50, 4).
+fn arrayed(alloc: Global) -> Result<Checked, Fail> {
+    let mut builder = Builder::new(alloc);
+    add_drawing(alloc, &mut builder, b"A", &Offsets::single())?;
+    builder.open(alloc, Vec::from_slice(alloc, b"TOP")?);
+    builder.add_reference(six_of_a(alloc)?)?;
     let at = Point { x: 50, y: 0 };
     builder.add_reference(to_a(alloc, false, Turn::R90, at, Offsets::single())?)?;
     builder.close(alloc)?;
@@ -61,6 +90,12 @@ fn count(flat: &Flat) -> u64 {
         }
     }
     count
+}
+
+/// How many squares are covered in the window, and how many rings are held.
+fn counts(alloc: Global, fitted: &Fitted, window: &Window) -> Result<(u64, usize), Fail> {
+    let flat = fitted.within(alloc, window, usize::MAX)?;
+    Ok((count(&flat), flat.rings(METAL).len()))
 }
 
 #[test]
@@ -85,52 +120,56 @@ fn windows(rt: HostRuntime) -> Result<(), Fail> {
         ("turned round", window(4, 2, 0, 0), 0, 0),
     ];
     for (name, window, squares, rings) in rows {
-        let flat = fitted.within(alloc, &window, usize::MAX)?;
-        assert_eq!(rt; count(&flat), squares, "{name}");
-        assert_eq!(rt; flat.rings(METAL).len(), rings, "{name}");
+        let (covered, held) = counts(alloc, &fitted, &window)?;
+        assert_eq!(rt; covered, squares, "{name}");
+        assert_eq!(rt; held, rings, "{name}");
     }
     Ok(())
+}
+
+/// What places the cell M.
+fn to_m(alloc: Global, at: Point) -> Result<Reference, Fail> {
+    let name = Name::new(Vec::from_slice(alloc, b"M")?)?;
+    let placed = Reference::new(name, false, Turn::R0, at, Offsets::single());
+    Ok(placed.ok_or("places")?)
 }
 
 /// A top that places A, which draws a rectangle of 4 by 2, at `outer` by way of a cell that places it
 /// at `inner`.
 fn chained(alloc: Global, outer: Point, inner: Point) -> Result<Checked, Fail> {
-    let ring = Ring::rectangle(alloc, ORIGIN, Point { x: 4, y: 2 })?;
     let mut builder = Builder::new(alloc);
-    builder.open(alloc, Vec::from_slice(alloc, b"A")?);
-    builder.add_ring(METAL, ring.points(), &Offsets::single())?;
-    builder.close(alloc)?;
-    builder.open(alloc, Vec::from_slice(alloc, b"M")?);
-    builder.add_reference(to_a(alloc, false, Turn::R0, inner, Offsets::single())?)?;
-    builder.close(alloc)?;
-    builder.open(alloc, Vec::from_slice(alloc, b"TOP")?);
-    let name = Name::new(Vec::from_slice(alloc, b"M")?)?;
-    let placed = Reference::new(name, false, Turn::R0, outer, Offsets::single());
-    builder.add_reference(placed.ok_or("places")?)?;
-    builder.close(alloc)?;
+    add_drawing(alloc, &mut builder, b"A", &Offsets::single())?;
+    let placed = to_a(alloc, false, Turn::R0, inner, Offsets::single())?;
+    add_placing(alloc, &mut builder, b"M", placed)?;
+    add_placing(alloc, &mut builder, b"TOP", to_m(alloc, outer)?)?;
     Ok(check(alloc, builder.finish(), None)?)
 }
 
+const FAR: Point = Point { x: i64::MAX, y: 0 };
+
+/// What is out of range is refused.
 #[test]
-fn range(rt: HostRuntime) -> Result<(), Fail> {
-    let alloc = rt.alloc();
-    let far = Point { x: i64::MAX, y: 0 };
-    let back = Point {
-        x: i64::MIN + 1,
-        y: 0,
-    };
-    let near = window(0, 0, 2, 2);
-    // What is out of range is refused.
-    match Fitted::new(alloc, chained(alloc, ORIGIN, far)?) {
+fn out_of_range(rt: HostRuntime) -> Result<(), Fail> {
+    let checked = chained(rt.alloc(), ORIGIN, FAR)?;
+    match Fitted::new(rt.alloc(), checked) {
         Err(Cause::Breach(FlatFault::OutOfRange(name))) => {
             assert_eq!(rt; name.as_slice(), b"A".as_slice());
         }
         _ => return Err("not out of range".into()),
     }
-    // A box that leaves 64 bits on the way decides nothing.
-    let returned = Fitted::new(alloc, chained(alloc, back, far)?)?;
-    let flat = returned.within(alloc, &near, usize::MAX)?;
-    assert_eq!(rt; count(&flat), 4);
+    Ok(())
+}
+
+/// A box that leaves 64 bits on the way decides nothing.
+#[test]
+fn back_in_range(rt: HostRuntime) -> Result<(), Fail> {
+    let back = Point {
+        x: i64::MIN + 1,
+        y: 0,
+    };
+    let returned = Fitted::new(rt.alloc(), chained(rt.alloc(), back, FAR)?)?;
+    let (covered, _) = counts(rt.alloc(), &returned, &window(0, 0, 2, 2))?;
+    assert_eq!(rt; covered, 4);
     Ok(())
 }
 
@@ -143,6 +182,14 @@ fn growths_of_a_window(rt: HostRuntime) -> Result<(), Fail> {
     Ok(())
 }
 
+/// Whether four rectangles are held in the window, with so many points at most.
+fn holds_four(alloc: Global, fitted: &Fitted, window: &Window, most: usize) -> bool {
+    match fitted.within(alloc, window, most) {
+        Ok(flat) => flat.rings(METAL).len() == 4,
+        Err(_) => false,
+    }
+}
+
 #[test]
 fn points_at_most(rt: HostRuntime) -> Result<(), Fail> {
     let alloc = rt.alloc();
@@ -150,35 +197,24 @@ fn points_at_most(rt: HostRuntime) -> Result<(), Fail> {
     let four = window(2, 1, 12, 11);
     // Four rectangles, of four points each.
     for (most, want) in [(0, false), (15, false), (16, true), (17, true)] {
-        let held = match fitted.within(alloc, &four, most) {
-            Ok(flat) => flat.rings(METAL).len() == 4,
-            Err(_) => false,
-        };
-        assert_eq!(rt; held, want, "{most}");
+        assert_eq!(rt; holds_four(alloc, &fitted, &four, most), want, "{most}");
     }
     Ok(())
 }
 
 /// A top that places A, which draws a rectangle of 4 by 2, at these shifts.
 fn spread(alloc: Global, shifts: Offsets) -> Result<Checked, Fail> {
-    let ring = Ring::rectangle(alloc, ORIGIN, Point { x: 4, y: 2 })?;
+    let placed = to_a(alloc, false, Turn::R0, ORIGIN, shifts)?;
     let mut builder = Builder::new(alloc);
-    builder.open(alloc, Vec::from_slice(alloc, b"A")?);
-    builder.add_ring(METAL, ring.points(), &Offsets::single())?;
-    builder.close(alloc)?;
-    builder.open(alloc, Vec::from_slice(alloc, b"TOP")?);
-    builder.add_reference(to_a(alloc, false, Turn::R0, ORIGIN, shifts)?)?;
-    builder.close(alloc)?;
+    add_drawing(alloc, &mut builder, b"A", &Offsets::single())?;
+    add_placing(alloc, &mut builder, b"TOP", placed)?;
     Ok(check(alloc, builder.finish(), None)?)
 }
 
 /// The same, but the top draws the rectangle itself at the shifts.
 fn drawn(alloc: Global, shifts: &Offsets) -> Result<Checked, Fail> {
-    let ring = Ring::rectangle(alloc, ORIGIN, Point { x: 4, y: 2 })?;
     let mut builder = Builder::new(alloc);
-    builder.open(alloc, Vec::from_slice(alloc, b"TOP")?);
-    builder.add_ring(METAL, ring.points(), shifts)?;
-    builder.close(alloc)?;
+    add_drawing(alloc, &mut builder, b"TOP", shifts)?;
     Ok(check(alloc, builder.finish(), None)?)
 }
 
@@ -196,22 +232,31 @@ fn drawn_in(alloc: Global, shifts: &Offsets, window: &Window) -> Result<usize, F
     Ok(flat.rings(METAL).len())
 }
 
+/// How many rings there are in the window, where the shifts are those of a shape and of a reference.
+fn both_in(alloc: Global, shifts: &Offsets, window: &Window) -> Result<(usize, usize), Fail> {
+    let drawn = drawn_in(alloc, shifts, window)?;
+    let placed = placed_in(alloc, shifts.clone()?, window)?;
+    Ok((drawn, placed))
+}
+
 fn point(x: i64, y: i64) -> Point {
     Point { x, y }
 }
 
+/// How many of 1,000 by 1,000 rectangles that are 10 apart reach into the window.
+fn million_in(alloc: Global, window: &Window) -> Result<usize, Fail> {
+    let shifts = Offsets::lattice(point(10, 0), 1000, point(0, 10), 1000);
+    placed_in(alloc, shifts.ok_or("lattice")?, window)
+}
+
 #[test]
 fn million_places(rt: HostRuntime) -> Result<(), Fail> {
-    let alloc = rt.alloc();
-    // How many rectangles of 4 by 2 reach into the window, of 1,000 by 1,000 that are 10 apart.
     for (window, want) in [
         (window(5000, 0, 5024, 2), 3),
         (window(9990, 9990, 9994, 9992), 1),
         (window(10_000, 0, 10_010, 10), 0),
     ] {
-        let shifts = Offsets::lattice(point(10, 0), 1000, point(0, 10), 1000);
-        let count = placed_in(alloc, shifts.ok_or("lattice")?, &window)?;
-        assert_eq!(rt; count, want, "{window:?}");
+        assert_eq!(rt; million_in(rt.alloc(), &window)?, want, "{window:?}");
     }
     Ok(())
 }
@@ -257,32 +302,33 @@ fn lattices(rt: HostRuntime) -> Result<(), Fail> {
     ];
     for (a, m, b, n, window, want) in rows {
         let shifts = Offsets::lattice(a, m, b, n).ok_or("lattice")?;
-        assert_eq!(rt;
-            drawn_in(alloc, &shifts, &window)?,
-            want,
-            "{a:?} {m} {b:?} {n}"
-        );
-        assert_eq!(rt;
-            placed_in(alloc, shifts, &window)?,
-            want,
-            "{a:?} {m} {b:?} {n}"
-        );
+        let (drawn, placed) = both_in(alloc, &shifts, &window)?;
+        assert_eq!(rt; drawn, want, "{a:?} {m} {b:?} {n}");
+        assert_eq!(rt; placed, want, "{a:?} {m} {b:?} {n}");
     }
     Ok(())
 }
 
-#[test]
-fn lists_of_shifts(rt: HostRuntime) -> Result<(), Fail> {
-    let alloc = rt.alloc();
-    // Forty on a line, and one that goes back.
+/// Forty shifts on a line, and one that goes back.
+fn listed(alloc: Global) -> Result<Offsets, Fail> {
     let mut shifts = Vec::new(alloc);
     for x in 0..40_i64 {
         shifts.push(point(x.saturating_mul(10), 0))?;
     }
     shifts.push(point(1, 5))?;
-    let listed = Offsets::new(shifts).ok_or("shifts")?;
+    Ok(Offsets::new(shifts).ok_or("shifts")?)
+}
+
+fn shared(listed: &Offsets) -> Result<Offsets, Fail> {
     let mut shared = listed.clone()?;
     shared.share()?;
+    Ok(shared)
+}
+
+#[test]
+fn lists_of_shifts(rt: HostRuntime) -> Result<(), Fail> {
+    let listed = listed(rt.alloc())?;
+    let shared = shared(&listed)?;
     for shifts in [&listed, &shared] {
         for (window, want) in [
             (window(0, 0, 5, 8), 2),
@@ -291,12 +337,9 @@ fn lists_of_shifts(rt: HostRuntime) -> Result<(), Fail> {
             (window(5, 0, 10, 8), 0),
             (window(-9, -9, 0, 0), 0),
         ] {
-            assert_eq!(rt; drawn_in(alloc, shifts, &window)?, want, "{window:?}");
-            assert_eq!(rt;
-                placed_in(alloc, shifts.clone()?, &window)?,
-                want,
-                "{window:?}"
-            );
+            let (drawn, placed) = both_in(rt.alloc(), shifts, &window)?;
+            assert_eq!(rt; drawn, want, "{window:?}");
+            assert_eq!(rt; placed, want, "{window:?}");
         }
     }
     Ok(())

@@ -19,21 +19,30 @@ fn is_written(band: &Band, written: Written) -> bool {
     band.y0 == written.0.0 && band.y1 == written.0.1 && band.intervals.as_slice() == written.1
 }
 
-/// Whether a sweep of the rings gives these bands one at a time, and then none.
-fn sweeps(alloc: Global, outlines: &[Outline], bands: &[Written]) -> Result<bool, Fail> {
-    let mut sweep = Sweep::new(alloc, &Rings::from_slice(alloc, &rings(alloc, outlines)?)?)?;
+fn in_one_piece(alloc: Global, outlines: &[Outline]) -> Result<Rings, Fail> {
+    Ok(Rings::from_slice(alloc, &rings(alloc, outlines)?)?)
+}
+
+/// Whether the sweep gives these bands one at a time, and then none.
+fn gives(sweep: &mut Sweep, bands: &[Written]) -> bool {
     for written in bands {
         match sweep.band() {
             Some(band) if is_written(band, *written) => {}
-            _ => return Ok(false),
+            _ => return false,
         }
         sweep.advance();
     }
     if sweep.band().is_some() {
-        return Ok(false);
+        return false;
     }
     sweep.advance();
-    Ok(sweep.band().is_none())
+    sweep.band().is_none()
+}
+
+/// Whether a sweep of the rings gives these bands one at a time, and then none.
+fn sweeps(alloc: Global, outlines: &[Outline], bands: &[Written]) -> Result<bool, Fail> {
+    let mut sweep = Sweep::new(alloc, &in_one_piece(alloc, outlines)?)?;
+    Ok(gives(&mut sweep, bands))
 }
 
 /// Whether the region of the rings has these bands.

@@ -1,9 +1,9 @@
 //! Made lists on which columns, halves, windows, the sweep and the grid agree.
 ghost use Rattle.std.specs.Prelude.{◌<◌, ◌^◌, pos, ◌<ℤ◌, ◌≤ℤ◌};
 
-use crate::outlines::{Found, differ_at, next_made, rectangle, ring};
+use crate::outlines::{Found, at, differ_at, next_made, rectangle, ring};
 use lvl_columns::{difference_by_columns, first_difference_in};
-use lvl_grid::{Ring, Rings, Square, Window};
+use lvl_grid::{Ring, Rings, Window};
 use lvl_region::{GridRegion, Side, difference};
 use lvl_sweep::first_difference_of;
 use std::alloc::{AllocError, Global};
@@ -77,6 +77,17 @@ fn lesser(a: Found, b: Found) -> Found {
     }
 }
 
+/// The lesser of the least differences of the left halves and of the right ones.
+fn found_in_halves(
+    alloc: Global,
+    a: &(Rings, Rings),
+    b: &(Rings, Rings),
+) -> Result<Found, AllocError> {
+    let first = difference_by_columns(alloc, &a.0, &b.0)?;
+    let second = difference_by_columns(alloc, &a.1, &b.1)?;
+    Ok(lesser(first, second))
+}
+
 /// Whether both halves, cut there, have the lesser of their least differences there.
 fn halves_find(
     alloc: Global,
@@ -85,11 +96,25 @@ fn halves_find(
     at: i64,
     want: Found,
 ) -> Result<bool, AllocError> {
-    let (a_left, a_right) = a.split_at(alloc, at)?;
-    let (b_left, b_right) = b.split_at(alloc, at)?;
-    let first = difference_by_columns(alloc, &a_left, &b_left)?;
-    let second = difference_by_columns(alloc, &a_right, &b_right)?;
-    Ok(lesser(first, second) == want)
+    let a = a.split_at(alloc, at)?;
+    let b = b.split_at(alloc, at)?;
+    Ok(found_in_halves(alloc, &a, &b)? == want)
+}
+
+/// The same for each of nine cuts.
+fn cuts_find(
+    alloc: Global,
+    a: &Rings,
+    b: &Rings,
+    from: i64,
+    want: Found,
+) -> Result<bool, AllocError> {
+    for step in 0..9 {
+        if !halves_find(alloc, a, b, from.wrapping_add(step), want)? {
+            return Ok(false);
+        }
+    }
+    Ok(true)
 }
 
 /// Whether the least difference is that of the grids, however it is looked for.
@@ -97,12 +122,7 @@ fn all_find(alloc: Global, first: &[Ring], second: &[Ring], from: i64) -> Result
     let want = difference::<GridRegion>(alloc, first, second)?;
     let a = Rings::from_slice(alloc, first)?;
     let b = Rings::from_slice(alloc, second)?;
-    for step in 0..9 {
-        if !halves_find(alloc, &a, &b, from.wrapping_add(step), want)? {
-            return Ok(false);
-        }
-    }
-    differ_at(alloc, first, second, want)
+    Ok(cuts_find(alloc, &a, &b, from, want)? && differ_at(alloc, first, second, want)?)
 }
 
 /// Made lists: about 0, and at both ends of the range.
@@ -136,21 +156,40 @@ fn narrow(alloc: Global, many: u64, moved: Option<u64>) -> Result<Vec<Ring>, All
     Ok(rings)
 }
 
+/// Two thousand of them, one of which may be moved, in one piece.
+fn in_order(alloc: Global, moved: Option<u64>) -> Result<Rings, AllocError> {
+    Rings::from_slice(alloc, &narrow(alloc, 2000, moved)?)
+}
+
+/// The same from the last to the first, where none is moved.
+fn turned(alloc: Global) -> Result<Rings, AllocError> {
+    let mut rings = narrow(alloc, 2000, None)?;
+    rings.reverse();
+    Rings::from_slice(alloc, &rings)
+}
+
+/// What differs first where one is moved, as a sweep of all says.
+fn moved_by_sweep(alloc: Global) -> Result<Found, AllocError> {
+    let first = narrow(alloc, 2000, None)?;
+    let moved = narrow(alloc, 2000, Some(1234))?;
+    first_difference_of(alloc, &first, &moved)
+}
+
+/// The same by columns.
+fn moved_by_columns(alloc: Global, first: &Rings) -> Result<Found, AllocError> {
+    difference_by_columns(alloc, first, &in_order(alloc, Some(1234))?)
+}
+
 #[test]
 fn lists_that_are_cut(rt: HostRuntime) -> Result<(), Fail> {
     let alloc = rt.alloc();
-    let first = narrow(alloc, 2000, None)?;
-    let mut turned = narrow(alloc, 2000, None)?;
-    turned.reverse();
-    let moved = narrow(alloc, 2000, Some(1234))?;
-    let a = Rings::from_slice(alloc, &first)?;
-    let b = Rings::from_slice(alloc, &turned)?;
-    let c = Rings::from_slice(alloc, &moved)?;
-    assert!(rt; difference_by_columns(alloc, &a, &b)?.is_none());
-    let want = first_difference_of(alloc, &first, &moved)?;
+    let first = in_order(alloc, None)?;
+    let second = turned(alloc)?;
+    assert!(rt; difference_by_columns(alloc, &first, &second)?.is_none());
+    let want = moved_by_sweep(alloc)?;
     assert!(rt; want.is_some());
-    assert!(rt; difference_by_columns(alloc, &a, &c)? == want);
-    assert!(rt; difference_by_columns(alloc, &b, &c)? == want);
+    assert!(rt; moved_by_columns(alloc, &first)? == want);
+    assert!(rt; moved_by_columns(alloc, &second)? == want);
     Ok(())
 }
 
@@ -174,48 +213,84 @@ fn push_bracket(alloc: Global, rings: &mut Rings, at: i64) -> Result<(), Fail> {
     Ok(())
 }
 
+/// A thousand brackets, those before the least one at its place.
+fn brackets(alloc: Global, least: i64) -> Result<Rings, Fail> {
+    let mut rings = Rings::new(alloc);
+    for at in 0..1000 {
+        push_bracket(alloc, &mut rings, at.max(least))?;
+    }
+    Ok(rings)
+}
+
+/// The brackets within the outermost one, perhaps that one too, and perhaps a square between two.
+fn inner_brackets(alloc: Global, has_outermost: bool, has_square: bool) -> Result<Rings, Fail> {
+    let mut inner = brackets(alloc, 1)?;
+    if has_outermost {
+        push_bracket(alloc, &mut inner, 0)?;
+    }
+    if has_square {
+        inner.push_ring(&rectangle(alloc, (2500, 2501), (3000, 3001))?)?;
+    }
+    Ok(inner)
+}
+
 #[test]
 fn nested_brackets(rt: HostRuntime) -> Result<(), Fail> {
     let alloc = rt.alloc();
-    let mut all = Rings::new(alloc);
-    let mut inner = Rings::new(alloc);
-    for at in 0..1000 {
-        push_bracket(alloc, &mut all, at)?;
-        push_bracket(alloc, &mut inner, at.max(1))?;
+    let all = brackets(alloc, 0)?;
+    for (has_outermost, has_square, want) in [
+        (false, false, at(0, 0, Side::First)),
+        (true, false, None),
+        (true, true, at(2500, 3000, Side::Second)),
+    ] {
+        let inner = inner_brackets(alloc, has_outermost, has_square)?;
+        assert!(rt; difference_by_columns(alloc, &all, &inner)? == want);
     }
-    let found = difference_by_columns(alloc, &all, &inner)?;
-    assert!(rt; found == Some((Square { x: 0, y: 0 }, Side::First)));
-    push_bracket(alloc, &mut inner, 0)?;
-    assert!(rt; difference_by_columns(alloc, &all, &inner)?.is_none());
-    inner.push_ring(&rectangle(alloc, (2500, 2501), (3000, 3001))?)?;
-    let found = difference_by_columns(alloc, &all, &inner)?;
-    assert!(rt; found == Some((Square { x: 2500, y: 3000 }, Side::Second)));
     Ok(())
+}
+
+/// What differs first in two rectangles of these heights in the window.
+fn heights_differ(
+    alloc: Global,
+    first: i64,
+    second: i64,
+    window: Option<&Window>,
+) -> Result<Found, AllocError> {
+    let first = vec![in alloc; rectangle(alloc, (0, 10), (0, first))?]?;
+    let second = vec![in alloc; rectangle(alloc, (0, 10), (0, second))?]?;
+    first_difference_in(alloc, &first, &second, window)
 }
 
 #[test]
 fn a_window(rt: HostRuntime) -> Result<(), Fail> {
     let alloc = rt.alloc();
-    let high = vec![in alloc; rectangle(alloc, (0, 10), (0, 10))?]?;
-    let low = vec![in alloc; rectangle(alloc, (0, 10), (0, 9))?]?;
     let mut window = Window {
         x0: 0,
         y0: 0,
         x1: 10,
         y1: 9,
     };
-    assert!(rt; first_difference_in(alloc, &high, &low, Some(&window))?.is_none());
+    assert!(rt; heights_differ(alloc, 10, 9, Some(&window))?.is_none());
     window = Window {
         x0: 3,
         y0: -5,
         x1: 4,
         y1: 20,
     };
-    let found = first_difference_in(alloc, &high, &low, Some(&window))?;
-    assert!(rt; found == Some((Square { x: 3, y: 9 }, Side::First)));
-    let found = first_difference_in(alloc, &low, &high, None)?;
-    assert!(rt; found == Some((Square { x: 0, y: 9 }, Side::Second)));
+    assert!(rt; heights_differ(alloc, 10, 9, Some(&window))? == at(3, 9, Side::First));
+    assert!(rt; heights_differ(alloc, 9, 10, None)? == at(0, 9, Side::Second));
     Ok(())
+}
+
+/// Whether the lists differ in the window, and first where a sweep of all says.
+fn finds_as_a_sweep(
+    alloc: Global,
+    first: &[Ring],
+    second: &[Ring],
+    window: &Window,
+) -> Result<bool, AllocError> {
+    let found = first_difference_in(alloc, first, second, Some(window))?;
+    Ok(found.is_some() && found == first_difference_of(alloc, first, second)?)
 }
 
 #[test]
@@ -229,7 +304,6 @@ fn growths_of_columns(rt: HostRuntime) -> Result<(), Fail> {
         x1: 1000,
         y1: 900,
     };
-    let found = first_difference_in(alloc, &first, &moved, Some(&window))?;
-    assert!(rt; found.is_some() && found == first_difference_of(alloc, &first, &moved)?);
+    assert!(rt; finds_as_a_sweep(alloc, &first, &moved, &window)?);
     Ok(())
 }

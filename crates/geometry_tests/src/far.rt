@@ -1,6 +1,6 @@
 //! Lists at the ends of the grid, and lists that an estimate of their work takes for what they are not.
-use crate::outlines::{Found, Outline, at, differ_at, grids_differ_at, rectangle, ring, rings};
-use lvl_columns::compare_by_columns;
+use crate::outlines::{Found, Outline, at, outlines_differ_at, rectangle, ring};
+use lvl_columns::{Comparison, compare_by_columns};
 use lvl_grid::{Ring, Rings};
 use lvl_region::Side;
 use std::alloc::{AllocError, Global};
@@ -90,10 +90,9 @@ fn ends_of_the_grid(rt: HostRuntime) -> Result<(), Fail> {
         (&[&ALL, &TOWER], &[&ALL], None),
     ];
     for (first, second, found) in rows {
-        let first = rings(alloc, first)?;
-        let second = rings(alloc, second)?;
-        assert!(rt; differ_at(alloc, &first, &second, found)?);
-        assert!(rt; grids_differ_at(alloc, &first, &second, found)?);
+        let (differ, grids_differ) = outlines_differ_at(alloc, first, second, found)?;
+        assert!(rt; differ);
+        assert!(rt; grids_differ);
     }
     Ok(())
 }
@@ -123,17 +122,29 @@ fn stair(alloc: Global, many: i64, pieces: i64) -> Result<Vec<Ring>, AllocError>
     Ok(rings)
 }
 
+/// The bars in two pieces each, and perhaps a square beside them.
+fn stair_in_two(alloc: Global, has_square: bool) -> Result<Rings, AllocError> {
+    let mut rings = Rings::from_slice(alloc, &stair(alloc, 2000, 2)?)?;
+    if has_square {
+        rings.push_ring(&rectangle(alloc, (3, 4), (0, 1))?)?;
+    }
+    Ok(rings)
+}
+
+/// What comparing the bars in one piece each with those in two gives.
+fn stairs_compared(alloc: Global, has_square: bool) -> Result<Comparison, AllocError> {
+    let first = Rings::from_slice(alloc, &stair(alloc, 2000, 1)?)?;
+    let second = stair_in_two(alloc, has_square)?;
+    compare_by_columns(alloc, &first, &second)
+}
+
 /// Shapes far above the others do not make their work look small.
 #[test]
 fn a_stair_below_far_squares(rt: HostRuntime) -> Result<(), Fail> {
-    let alloc = rt.alloc();
-    let first = Rings::from_slice(alloc, &stair(alloc, 2000, 1)?)?;
-    let mut second = Rings::from_slice(alloc, &stair(alloc, 2000, 2)?)?;
-    let compared = compare_by_columns(alloc, &first, &second)?;
+    let compared = stairs_compared(rt.alloc(), false)?;
     assert!(rt; compared.found.is_none());
     assert!(rt; compared.columns > 0);
-    second.push_ring(&rectangle(alloc, (3, 4), (0, 1))?)?;
-    let compared = compare_by_columns(alloc, &first, &second)?;
+    let compared = stairs_compared(rt.alloc(), true)?;
     assert!(rt; compared.found == at(3, 0, Side::Second));
     Ok(())
 }
@@ -150,16 +161,22 @@ fn ladder(alloc: Global, many: i64, is_upward: bool) -> Result<Rings, Fail> {
     Ok(rings)
 }
 
+/// What comparing them upwards and downwards gives, where the latter may have one more above.
+fn ladders_compared(alloc: Global, has_more: bool) -> Result<Comparison, Fail> {
+    let first = ladder(alloc, 3000, true)?;
+    let mut second = ladder(alloc, 3000, false)?;
+    if has_more {
+        second.push_ring(&rectangle(alloc, (MIN, MAX), (9001, 9002))?)?;
+    }
+    Ok(compare_by_columns(alloc, &first, &second)?)
+}
+
 /// Where all corners lie at two abscissas, there is nothing to cut.
 #[test]
 fn rings_that_share_two_abscissas(rt: HostRuntime) -> Result<(), Fail> {
-    let alloc = rt.alloc();
-    let first = ladder(alloc, 3000, true)?;
-    let mut second = ladder(alloc, 3000, false)?;
-    let compared = compare_by_columns(alloc, &first, &second)?;
+    let compared = ladders_compared(rt.alloc(), false)?;
     assert!(rt; compared.found.is_none() && compared.columns == 0);
-    second.push_ring(&rectangle(alloc, (MIN, MAX), (9001, 9002))?)?;
-    let compared = compare_by_columns(alloc, &first, &second)?;
+    let compared = ladders_compared(rt.alloc(), true)?;
     assert!(rt; compared.found == at(MIN, 9001, Side::Second) && compared.columns == 0);
     Ok(())
 }
@@ -174,15 +191,20 @@ fn needles(alloc: Global, many: i64) -> Result<Rings, Fail> {
     Ok(needles)
 }
 
+/// What differs first in the rings and in a square or nothing.
+fn found_beside(alloc: Global, rings: &Rings, has_square: bool) -> Result<Found, AllocError> {
+    let mut second = Rings::new(alloc);
+    if has_square {
+        second.push_ring(&rectangle(alloc, (0, 1), (5, 6))?)?;
+    }
+    Ok(compare_by_columns(alloc, rings, &second)?.found)
+}
+
 /// A sweep of these alone would take minutes.
 #[test]
 fn rings_on_one_line(rt: HostRuntime) -> Result<(), Fail> {
-    let alloc = rt.alloc();
-    let first = needles(alloc, 100_000)?;
-    let mut second = Rings::new(alloc);
-    assert!(rt; compare_by_columns(alloc, &first, &second)?.found.is_none());
-    second.push_ring(&rectangle(alloc, (0, 1), (5, 6))?)?;
-    let compared = compare_by_columns(alloc, &first, &second)?;
-    assert!(rt; compared.found == at(0, 5, Side::Second));
+    let first = needles(rt.alloc(), 100_000)?;
+    assert!(rt; found_beside(rt.alloc(), &first, false)?.is_none());
+    assert!(rt; found_beside(rt.alloc(), &first, true)? == at(0, 5, Side::Second));
     Ok(())
 }

@@ -14,10 +14,12 @@ pub fn ring_of(alloc: Global, vertices: &[(i64, i64)]) -> Result<Option<Ring>, A
     Ok(Ring::new(points).ok())
 }
 
-/// How many squares of the rows and columns -2 to 9 the ring covers, and the least and the
+/// How many squares of the rows and columns -2 to 9 a ring covers, and the least and the
 /// greatest of them.
-fn covered(ring: &Ring) -> Option<(u32, Square, Square)> {
-    let mut found: Option<(u32, Square, Square)> = None;
+type Covered = Option<(u32, Square, Square)>;
+
+fn covered(ring: &Ring) -> Covered {
+    let mut found: Covered = None;
     for y in -2..10 {
         for x in -2..10 {
             let here = Square { x, y };
@@ -32,7 +34,7 @@ fn covered(ring: &Ring) -> Option<(u32, Square, Square)> {
     found
 }
 
-fn squares(n: u32, first: (i64, i64), last: (i64, i64)) -> Option<(u32, Square, Square)> {
+fn squares(n: u32, first: (i64, i64), last: (i64, i64)) -> Covered {
     let first = Square {
         x: first.0,
         y: first.1,
@@ -45,6 +47,12 @@ fn squares(n: u32, first: (i64, i64), last: (i64, i64)) -> Option<(u32, Square, 
             y: last.1,
         },
     ))
+}
+
+/// What the ring of these vertices covers, and how many points it has.
+fn drawn(alloc: Global, vertices: &[(i64, i64)]) -> Result<(Covered, usize), Fail> {
+    let ring = ring_of(alloc, vertices)?.ok_or("a ring")?;
+    Ok((covered(&ring), ring.points().len()))
 }
 
 #[test]
@@ -63,7 +71,7 @@ fn covers_by_nonzero_winding(rt: HostRuntime) -> Result<(), Fail> {
     let repeated: [(i64, i64); 6] = [(0, 0), (4, 0), (4, 0), (4, 4), (4, 4), (0, 4)];
     let corner: [(i64, i64); 6] = [(0, 0), (4, 0), (4, 2), (2, 2), (2, 4), (0, 4)];
     let no_area: [(i64, i64); 3] = [(0, 0), (0, 4), (0, 0)];
-    let rows: [(&str, &[(i64, i64)], Option<(u32, Square, Square)>); 5] = [
+    let rows: [(&str, &[(i64, i64)], Covered); 5] = [
         ("once-round", &once, squares(16, (0, 0), (3, 3))),
         ("twice-round", &twice, squares(16, (0, 0), (3, 3))),
         ("repeated-points", &repeated, squares(16, (0, 0), (3, 3))),
@@ -71,9 +79,9 @@ fn covers_by_nonzero_winding(rt: HostRuntime) -> Result<(), Fail> {
         ("no-area", &no_area, None),
     ];
     for (name, vertices, want) in rows {
-        let ring = ring_of(rt.alloc(), vertices)?.ok_or("a ring")?;
-        assert_eq!(rt; covered(&ring), want, "{name}");
-        assert_eq!(rt; ring.points().len(), vertices.len(), "{name}");
+        let (covered, points) = drawn(rt.alloc(), vertices)?;
+        assert_eq!(rt; covered, want, "{name}");
+        assert_eq!(rt; points, vertices.len(), "{name}");
     }
     Ok(())
 }
@@ -106,6 +114,13 @@ const TURN_AND_GO: Map = Map {
     at: Point { x: 10, y: 0 },
 };
 
+/// What a rectangle of 3 by 1 covers where the map places it.
+fn covered_by_placed(alloc: Global, by: &Map) -> Result<Covered, Fail> {
+    let rectangle = ring_of(alloc, &[(0, 0), (3, 0), (3, 1), (0, 1)])?.ok_or("a ring")?;
+    let placed = rectangle.placed(alloc, ORIGIN, by)?;
+    Ok(covered(&placed))
+}
+
 #[test]
 fn map_composition(rt: HostRuntime) -> Result<(), Fail> {
     let both = FLIP_AND_RISE.then(&TURN_AND_GO).ok_or("a map")?;
@@ -121,9 +136,10 @@ fn map_composition(rt: HostRuntime) -> Result<(), Fail> {
         both.place(Point { x: 3, y: 1 }),
         Some(Point { x: 9, y: 2 })
     );
-    let rectangle = ring_of(rt.alloc(), &[(0, 0), (3, 0), (3, 1), (0, 1)])?.ok_or("a ring")?;
-    let placed = rectangle.placed(rt.alloc(), ORIGIN, &both)?;
-    assert_eq!(rt; covered(&placed), squares(3, (9, 2), (9, 4)));
+    assert_eq!(rt;
+        covered_by_placed(rt.alloc(), &both)?,
+        squares(3, (9, 2), (9, 4))
+    );
     let far = Map {
         flip: false,
         turn: Turn::R0,
@@ -141,32 +157,63 @@ pub const EDGE: [(i64, i64); 4] = [
     (-9223372036854775807, 1),
 ];
 
+fn edge(alloc: Global) -> Result<Ring, Fail> {
+    Ok(ring_of(alloc, &EDGE)?.ok_or("a ring")?)
+}
+
+/// The first point of the ring at the edge, and of the ring that it is placed as.
+fn first_points(
+    alloc: Global,
+    shift: Point,
+    by: &Map,
+) -> Result<(Option<Point>, Option<Point>), Fail> {
+    let ring = edge(alloc)?;
+    let placed = ring.placed(alloc, shift, by)?;
+    Ok((
+        ring.points().first().copied(),
+        placed.points().first().copied(),
+    ))
+}
+
+/// Whether the ring at the edge covers the square where the map places it.
+fn placed_covers(alloc: Global, by: &Map, square: Square) -> Result<bool, Fail> {
+    let placed = edge(alloc)?.placed(alloc, ORIGIN, by)?;
+    Ok(placed.covers(square))
+}
+
+/// Why the map cannot place the ring at the edge.
+fn refusal(alloc: Global, by: &Map) -> Result<Option<PlaceFault>, Fail> {
+    Ok(edge(alloc)?.placed(alloc, ORIGIN, by).err())
+}
+
 #[test]
 fn edge_of_range(rt: HostRuntime) -> Result<(), Fail> {
-    let ring = ring_of(rt.alloc(), &EDGE)?.ok_or("a ring")?;
     let half_turn = Map {
         flip: false,
         turn: Turn::R180,
         at: Point { x: -1, y: 0 },
     };
-    let placed = ring.placed(rt.alloc(), ORIGIN, &half_turn)?;
+    let (_, first) = first_points(rt.alloc(), ORIGIN, &half_turn)?;
     assert_eq!(rt;
-        placed.points().first(),
-        Some(&Point {
+        first,
+        Some(Point {
             x: 9223372036854775806,
             y: 0
         })
     );
     let last = 9223372036854775806;
     for (x, y, want) in [(last, -1, true), (last, 0, false), (last - 1, -1, false)] {
-        assert_eq!(rt; placed.covers(Square { x, y }), want, "{x} {y}");
+        let covers = placed_covers(rt.alloc(), &half_turn, Square { x, y })?;
+        assert_eq!(rt; covers, want, "{x} {y}");
     }
     let at_origin = Map {
         at: ORIGIN,
         ..half_turn
     };
-    let refused = ring.placed(rt.alloc(), ORIGIN, &at_origin);
-    assert_eq!(rt; refused.err(), Some(PlaceFault::OutOfRange));
+    assert_eq!(rt;
+        refusal(rt.alloc(), &at_origin)?,
+        Some(PlaceFault::OutOfRange)
+    );
     // The moved vertices are outside 64 bits, and their images are not.
     let there = Point { x: -1, y: 0 };
     let back = Map {
@@ -174,8 +221,8 @@ fn edge_of_range(rt: HostRuntime) -> Result<(), Fail> {
         turn: Turn::R0,
         at: Point { x: 1, y: 0 },
     };
-    let same = ring.placed(rt.alloc(), there, &back)?;
-    assert_eq!(rt; same.points().first(), ring.points().first());
+    let (before, after) = first_points(rt.alloc(), there, &back)?;
+    assert_eq!(rt; after, before);
     Ok(())
 }
 

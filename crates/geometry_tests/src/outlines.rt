@@ -44,6 +44,20 @@ pub fn rectangle(alloc: Global, xs: (i64, i64), ys: (i64, i64)) -> Result<Ring, 
     Ring::rectangle(alloc, low, high)
 }
 
+/// A rectangle, by its abscissas and its ordinates.
+pub type Sides = ((i64, i64), (i64, i64));
+
+pub fn push_rectangles(
+    alloc: Global,
+    rings: &mut Rings,
+    rectangles: &[Sides],
+) -> Result<(), AllocError> {
+    for (xs, ys) in rectangles {
+        rings.push_ring(&rectangle(alloc, *xs, *ys)?)?;
+    }
+    Ok(())
+}
+
 pub fn at(x: i64, y: i64, side: Side) -> Found {
     Some((Square { x, y }, side))
 }
@@ -96,6 +110,21 @@ pub fn grids_differ_at(
             && difference::<GridRegion>(alloc, second, first)? == exchanged(found)
             && difference::<GridRegion>(alloc, first, first)?.is_none(),
     )
+}
+
+/// Whether the rings of these outlines differ first there, as `differ_at` and as grids say.
+pub fn outlines_differ_at(
+    alloc: Global,
+    first: &[Outline],
+    second: &[Outline],
+    found: Found,
+) -> Result<(bool, bool), Fail> {
+    let first = rings(alloc, first)?;
+    let second = rings(alloc, second)?;
+    Ok((
+        differ_at(alloc, &first, &second, found)?,
+        grids_differ_at(alloc, &first, &second, found)?,
+    ))
 }
 
 /// The next of a row of made numbers.

@@ -1,10 +1,11 @@
 //! Pairs of lists of rings, and the least square in which they differ, worked by hand.
 use crate::outlines::{
-    CORNERED, FLAT, Found, LARGE, Outline, REVERSED, SQUARE, at, differ_at, grids_differ_at,
+    CORNERED, FLAT, Found, LARGE, Outline, REVERSED, SQUARE, at, differ_at, outlines_differ_at,
     rectangle, rings,
 };
-use lvl_grid::Square;
+use lvl_grid::{Ring, Square};
 use lvl_region::{GridRegion, Region, Side};
+use std::alloc::{AllocError, Global};
 use std::test::Fail;
 
 const TWICE: [(i64, i64); 8] = [
@@ -129,40 +130,52 @@ fn pairs_of_lists(rt: HostRuntime) -> Result<(), Fail> {
         ("a square alone", &[&SQUARE], &[], at(0, 0, Side::First)),
     ];
     for (name, first, second, found) in rows {
-        let first = rings(alloc, first)?;
-        let second = rings(alloc, second)?;
-        assert!(rt; differ_at(alloc, &first, &second, found)?, "{name}");
-        assert!(rt; grids_differ_at(alloc, &first, &second, found)?, "{name}");
+        let (differ, grids_differ) = outlines_differ_at(alloc, first, second, found)?;
+        assert!(rt; differ, "{name}");
+        assert!(rt; grids_differ, "{name}");
     }
     Ok(())
 }
 
+/// Whether the grid of these outlines covers each of two squares.
+fn grid_covers(
+    alloc: Global,
+    outlines: &[Outline],
+    squares: (Square, Square),
+) -> Result<(bool, bool), Fail> {
+    let region = GridRegion::build(alloc, &rings(alloc, outlines)?)?;
+    Ok((region.covers(squares.0), region.covers(squares.1)))
+}
+
 #[test]
 fn squares_of_a_grid(rt: HostRuntime) -> Result<(), Fail> {
-    let alloc = rt.alloc();
-    let nothing = GridRegion::build(alloc, &[])?;
-    let square = GridRegion::build(alloc, &rings(alloc, &[&SQUARE])?)?;
     let far = Square {
         x: i64::MIN,
         y: i64::MAX,
     };
-    assert!(rt; !nothing.covers(Square { x: 0, y: 0 }) && !nothing.covers(far));
-    assert!(rt; square.covers(Square { x: 9, y: 9 }) && !square.covers(Square { x: 10, y: 9 }));
+    let nothing = grid_covers(rt.alloc(), &[], (Square { x: 0, y: 0 }, far))?;
+    assert_eq!(rt; nothing, (false, false));
+    let ends = (Square { x: 9, y: 9 }, Square { x: 10, y: 9 });
+    let square = grid_covers(rt.alloc(), &[&SQUARE], ends)?;
+    assert_eq!(rt; square, (true, false));
     Ok(())
+}
+
+/// So many squares above each other.
+fn column(alloc: Global, many: i64) -> Result<Vec<Ring>, AllocError> {
+    let mut rings = Vec::new(alloc);
+    for k in 0..many {
+        let y = k.wrapping_mul(2);
+        rings.push(rectangle(alloc, (0, 1), (y, y.wrapping_add(1)))?)?;
+    }
+    Ok(rings)
 }
 
 #[test]
 fn the_last_rectangle_missing(rt: HostRuntime) -> Result<(), Fail> {
     let alloc = rt.alloc();
-    let mut all = Vec::new(alloc);
-    let mut most = Vec::new(alloc);
-    for k in 0..1000i64 {
-        let y = k.wrapping_mul(2);
-        all.push(rectangle(alloc, (0, 1), (y, y.wrapping_add(1)))?)?;
-        if k < 999 {
-            most.push(rectangle(alloc, (0, 1), (y, y.wrapping_add(1)))?)?;
-        }
-    }
+    let all = column(alloc, 1000)?;
+    let most = column(alloc, 999)?;
     assert!(rt; differ_at(alloc, &all, &most, at(0, 1998, Side::First))?);
     assert!(rt; differ_at(alloc, &all, &all, None)?);
     Ok(())
@@ -170,11 +183,9 @@ fn the_last_rectangle_missing(rt: HostRuntime) -> Result<(), Fail> {
 
 #[test]
 fn growths_of_pairs(rt: HostRuntime) -> Result<(), Fail> {
-    let alloc = rt.alloc();
-    let first = rings(alloc, &[&CORNERED])?;
-    let second = rings(alloc, &[&LARGE])?;
     let found = at(10, 10, Side::Second);
-    assert!(rt; differ_at(alloc, &first, &second, found)?);
-    assert!(rt; grids_differ_at(alloc, &first, &second, found)?);
+    let (differ, grids_differ) = outlines_differ_at(rt.alloc(), &[&CORNERED], &[&LARGE], found)?;
+    assert!(rt; differ);
+    assert!(rt; grids_differ);
     Ok(())
 }

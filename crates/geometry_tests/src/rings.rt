@@ -44,24 +44,35 @@ fn is_in(part: &Part, at: Square) -> bool {
     }
 }
 
-/// Whether what is left of the rings in the part covers what it is to cover.
-fn clips(alloc: Global, rings: &Rings, part: Part, left: &[usize]) -> Result<bool, AllocError> {
-    let clipped = Rings::clipped(alloc, rings, &part)?;
+/// How many points each of the rings has.
+fn lengths(alloc: Global, rings: &Rings) -> Result<Vec<usize>, AllocError> {
     let mut lengths = Vec::new(alloc);
-    for i in 0..clipped.len() {
-        if let Some(ring) = clipped.get(i) {
+    for i in 0..rings.len() {
+        if let Some(ring) = rings.get(i) {
             lengths.push(ring.len())?;
         }
     }
+    Ok(lengths)
+}
+
+/// Whether the clipped rings cover what the rings cover in the part.
+fn is_clipped(clipped: &Rings, rings: &Rings, part: &Part) -> bool {
     for y in -2..10 {
         for x in -2..10 {
             let at = Square { x, y };
-            if clipped.covers(at) != (is_in(&part, at) && rings.covers(at)) {
-                return Ok(false);
+            if clipped.covers(at) != (is_in(part, at) && rings.covers(at)) {
+                return false;
             }
         }
     }
-    Ok(lengths.as_slice() == left)
+    true
+}
+
+/// Whether what is left of the rings in the part covers what it is to cover.
+fn clips(alloc: Global, rings: &Rings, part: Part, left: &[usize]) -> Result<bool, AllocError> {
+    let clipped = Rings::clipped(alloc, rings, &part)?;
+    let has_lengths = lengths(alloc, &clipped)?.as_slice() == left;
+    Ok(has_lengths && is_clipped(&clipped, rings, &part))
 }
 
 #[test]
@@ -80,31 +91,35 @@ fn rings_in_one_piece(rt: HostRuntime) -> Result<(), Fail> {
 fn rings_are_clipped_and_tidied(rt: HostRuntime) -> Result<(), Fail> {
     let alloc = rt.alloc();
     let rings = ell_and_comb(alloc)?;
-    assert!(rt; clips(alloc, &rings, Part::Left(8), &[6, 8])?);
-    assert!(rt; clips(alloc, &rings, Part::Left(3), &[4, 6])?);
-    assert!(rt; clips(alloc, &rings, Part::Left(0), &[])?);
-    assert!(rt; clips(alloc, &rings, Part::Right(3), &[4, 6])?);
-    assert!(rt; clips(alloc, &rings, Part::Right(7), &[4, 4])?);
     let window = Window {
         x0: 3,
         y0: 2,
         x1: 6,
         y1: 6,
     };
-    assert!(rt; clips(alloc, &rings, Part::Within(window), &[4])?);
     let none = Window {
         x0: 6,
         y0: 6,
         x1: 3,
         y1: 2,
     };
-    assert!(rt; clips(alloc, &rings, Part::Within(none), &[])?);
+    let rows: [(Part, &[usize]); 7] = [
+        (Part::Left(8), &[6, 8]),
+        (Part::Left(3), &[4, 6]),
+        (Part::Left(0), &[]),
+        (Part::Right(3), &[4, 6]),
+        (Part::Right(7), &[4, 4]),
+        (Part::Within(window), &[4]),
+        (Part::Within(none), &[]),
+    ];
+    for (part, left) in rows {
+        assert!(rt; clips(alloc, &rings, part, left)?, "{part:?}");
+    }
     Ok(())
 }
 
-/// Whether the rings on both sides of an abscissa cover, together, what the rings cover.
-fn splits(alloc: Global, rings: &Rings, at: i64) -> Result<bool, AllocError> {
-    let (left, right) = rings.split_at(alloc, at)?;
+/// Whether these halves, on both sides of an abscissa, cover together what the rings cover.
+fn are_halves(left: &Rings, right: &Rings, rings: &Rings, at: i64) -> bool {
     for y in -2..10 {
         for x in -2..10 {
             let square = Square { x, y };
@@ -112,11 +127,17 @@ fn splits(alloc: Global, rings: &Rings, at: i64) -> Result<bool, AllocError> {
             if left.covers(square) != (here && x < at)
                 || right.covers(square) != (here && x >= at)
             {
-                return Ok(false);
+                return false;
             }
         }
     }
-    Ok(true)
+    true
+}
+
+/// Whether the rings are split there into such halves.
+fn splits(alloc: Global, rings: &Rings, at: i64) -> Result<bool, AllocError> {
+    let (left, right) = rings.split_at(alloc, at)?;
+    Ok(are_halves(&left, &right, rings, at))
 }
 
 #[test]
@@ -129,23 +150,51 @@ fn rings_are_split(rt: HostRuntime) -> Result<(), Fail> {
     Ok(())
 }
 
+const LOW: Point = Point { x: -3, y: 2 };
+
+/// A rectangle from `LOW` on and one from the origin on, up to the same corner.
+fn two_rectangles(alloc: Global) -> Result<Vec<Ring>, Fail> {
+    let high = LOW.offset(5, 7).ok_or("a corner")?;
+    let one = Ring::rectangle(alloc, LOW, high)?;
+    Ok(vec![in alloc; one, Ring::rectangle(alloc, ORIGIN, high)?]?)
+}
+
 #[test]
 fn a_slice_of_rings(rt: HostRuntime) -> Result<(), Fail> {
-    let alloc = rt.alloc();
-    let low = Point { x: -3, y: 2 };
-    let high = low.offset(5, 7).ok_or("a corner")?;
-    let one = Ring::rectangle(alloc, low, high)?;
-    assert_eq!(rt; one.points().get(2), Some(&Point { x: 2, y: 9 }));
-    let slice = vec![in alloc; one, Ring::rectangle(alloc, ORIGIN, high)?]?;
-    let rings = Rings::from_slice(alloc, &slice)?;
+    let slice = two_rectangles(rt.alloc())?;
+    let rings = Rings::from_slice(rt.alloc(), &slice)?;
     let listed: &[Ring] = &slice;
     assert!(rt; RingList::len(&rings) == 2 && RingList::len(&listed) == 2);
     assert!(rt; RingList::ring(&rings, 1) == RingList::ring(&listed, 1));
     assert!(rt; rings.points().len() == 8 && !rings.is_empty());
-    assert!(rt; rings.is_same(&Rings::from_slice(alloc, &slice)?));
+    Ok(())
+}
+
+fn two_in_one_piece(alloc: Global) -> Result<Rings, Fail> {
+    Ok(Rings::from_slice(alloc, &two_rectangles(alloc)?)?)
+}
+
+#[test]
+fn rings_that_are_the_same(rt: HostRuntime) -> Result<(), Fail> {
+    let alloc = rt.alloc();
+    let rings = two_in_one_piece(alloc)?;
+    assert!(rt; rings.is_same(&two_in_one_piece(alloc)?));
     assert!(rt; !rings.is_same(&ell_and_comb(alloc)?));
     assert!(rt; !rings.is_same(&Rings::new(alloc)));
-    assert!(rt; low.offset(u64::MAX, 0).is_some() == false);
+    Ok(())
+}
+
+/// The third point of the rectangle from `LOW` on.
+fn third_point(alloc: Global) -> Result<Option<Point>, Fail> {
+    let high = LOW.offset(5, 7).ok_or("a corner")?;
+    let one = Ring::rectangle(alloc, LOW, high)?;
+    Ok(one.points().get(2).copied())
+}
+
+#[test]
+fn corners_of_rectangles(rt: HostRuntime) -> Result<(), Fail> {
+    assert_eq!(rt; third_point(rt.alloc())?, Some(Point { x: 2, y: 9 }));
+    assert!(rt; LOW.offset(u64::MAX, 0).is_some() == false);
     let lowest = Point {
         x: i64::MIN,
         y: i64::MIN,
@@ -173,31 +222,55 @@ fn squares_in_order(rt: HostRuntime) -> Result<(), Fail> {
     Ok(())
 }
 
+/// The L and the comb, and the L once more, flipped and risen.
+fn with_ell_placed(alloc: Global) -> Result<Rings, Fail> {
+    let mut rings = ell_and_comb(alloc)?;
+    rings.push_placed(&ELL_POINTS, Point { x: 1, y: 0 }, &FLIP_AND_RISE)?;
+    Ok(rings)
+}
+
+fn half_turn(at: Point) -> Map {
+    Map {
+        flip: false,
+        turn: Turn::R180,
+        at,
+    }
+}
+
+/// Pushes the ring at the edge as the map places it, if it can be placed.
+fn push_edge(alloc: Global, rings: &mut Rings, by: &Map) -> Result<Result<(), PlaceFault>, Fail> {
+    let ring = ring_of(alloc, &EDGE)?.ok_or("a ring")?;
+    Ok(rings.push_placed(ring.points(), ORIGIN, by))
+}
+
+/// Whether the fourth of the rings is the one at the edge, as the map places it.
+fn ends_with_edge(alloc: Global, rings: &Rings, by: &Map) -> Result<bool, Fail> {
+    let ring = ring_of(alloc, &EDGE)?.ok_or("a ring")?;
+    let placed = ring.placed(alloc, ORIGIN, by)?;
+    Ok(rings.get(3) == Some(placed.points()))
+}
+
 #[test]
 fn a_ring_is_placed_in_one_piece(rt: HostRuntime) -> Result<(), Fail> {
     let alloc = rt.alloc();
-    let ring = ring_of(alloc, &EDGE)?.ok_or("a ring")?;
-    let mut rings = ell_and_comb(alloc)?;
-    rings.push_placed(&ELL_POINTS, Point { x: 1, y: 0 }, &FLIP_AND_RISE)?;
+    let mut rings = with_ell_placed(alloc)?;
     let alone = Rings::len(&rings);
     let kept = rings.points().len();
     assert!(rt; alone == 3 && kept == 20);
-    let half_turn = Map {
-        flip: false,
-        turn: Turn::R180,
-        at: ORIGIN,
-    };
-    let refused = rings.push_placed(ring.points(), ORIGIN, &half_turn);
+    let refused = push_edge(alloc, &mut rings, &half_turn(ORIGIN))?;
     assert_eq!(rt; refused.err(), Some(PlaceFault::OutOfRange));
     assert!(rt; Rings::len(&rings) == 3 && rings.points().len() == kept);
-    let half_turn = Map {
-        at: Point { x: -1, y: 0 },
-        ..half_turn
-    };
-    rings.push_placed(ring.points(), ORIGIN, &half_turn)?;
-    let placed = ring.placed(alloc, ORIGIN, &half_turn)?;
-    assert!(rt; rings.get(3) == Some(placed.points()));
+    let by = half_turn(Point { x: -1, y: 0 });
+    let pushed = push_edge(alloc, &mut rings, &by)?;
+    pushed?;
+    assert!(rt; ends_with_edge(alloc, &rings, &by)?);
     Ok(())
+}
+
+/// How many rings each half has, where the rings are split at 3.
+fn halves_at_three(alloc: Global, rings: &Rings) -> Result<(usize, usize), AllocError> {
+    let (left, right) = rings.split_at(alloc, 3)?;
+    Ok((left.len(), right.len()))
 }
 
 #[test]
@@ -209,7 +282,6 @@ fn growths_in_one_piece(rt: HostRuntime) -> Result<(), Fail> {
     let many = if pushed.is_ok() { 20 } else { before };
     assert!(rt; rings.points().len() == many);
     pushed?;
-    let (left, right) = rings.split_at(alloc, 3)?;
-    assert!(rt; left.len() == 3 && right.len() == 3);
+    assert_eq!(rt; halves_at_three(alloc, &rings)?, (3, 3));
     Ok(())
 }

@@ -1,6 +1,6 @@
 //! Rings made simpler, and what their outlines are.
 
-use crate::outlines::rectangle;
+use crate::outlines::{Found, push_rectangles, rectangle};
 use crate::spirals::winding;
 use lvl_columns::difference_by_columns;
 use lvl_grid::{Part, Point, Rings, Window};
@@ -17,6 +17,18 @@ fn rows(alloc: Global, ordinates: &[(i64, i64)]) -> Result<Rings, Fail> {
     Ok(rings)
 }
 
+/// How many rings the rows become, how many are wanted, and what differs first in the two.
+fn rows_compared(
+    alloc: Global,
+    given: &[(i64, i64)],
+    joined: &[(i64, i64)],
+) -> Result<(usize, usize, Found), Fail> {
+    let simpler = simplified(alloc, rows(alloc, given)?)?;
+    let wanted = rows(alloc, joined)?;
+    let found = difference_by_columns(alloc, &simpler, &wanted)?;
+    Ok((simpler.len(), wanted.len(), found))
+}
+
 #[test]
 fn rows_that_overlap_or_touch(rt: HostRuntime) -> Result<(), Fail> {
     let alloc = rt.alloc();
@@ -28,41 +40,54 @@ fn rows_that_overlap_or_touch(rt: HostRuntime) -> Result<(), Fail> {
         (&[(3, 5), (0, 2)], &[(0, 2), (3, 5)]),
     ];
     for (given, joined) in table {
-        let simpler = simplified(alloc, rows(alloc, given)?)?;
-        let wanted = rows(alloc, joined)?;
-        assert_eq!(rt; simpler.len(), wanted.len());
-        assert!(rt; difference_by_columns(alloc, &simpler, &wanted)?.is_none());
+        let (many, wanted, found) = rows_compared(alloc, given, joined)?;
+        assert_eq!(rt; many, wanted);
+        assert!(rt; found.is_none());
     }
     Ok(())
 }
 
+/// A row, a square within it, and a rectangle that reaches above it.
+fn row_and_two(alloc: Global) -> Result<Rings, Fail> {
+    let mut rings = rows(alloc, &[(0, 9)])?;
+    push_rectangles(alloc, &mut rings, &[((2, 4), (2, 4)), ((2, 4), (8, 12))])?;
+    Ok(rings)
+}
+
 #[test]
 fn what_lies_within_a_row_is_dropped(rt: HostRuntime) -> Result<(), Fail> {
-    let alloc = rt.alloc();
-    let mut rings = rows(alloc, &[(0, 9)])?;
-    rings.push_ring(&rectangle(alloc, (2, 4), (2, 4))?)?;
-    rings.push_ring(&rectangle(alloc, (2, 4), (8, 12))?)?;
-    assert_eq!(rt; simplified(alloc, rings)?.len(), 2);
+    let rings = row_and_two(rt.alloc())?;
+    assert_eq!(rt; simplified(rt.alloc(), rings)?.len(), 2);
     Ok(())
 }
 
-/// A ring that winds 600 times, in a column in which it has ten vertical edges: with these and eleven
-/// at the right border it covers the same, and four points for each edge are enough.
-#[test]
-fn a_ring_that_winds_in_a_column(rt: HostRuntime) -> Result<(), Fail> {
-    let alloc = rt.alloc();
+/// A ring that winds 600 times, in a column in which it has ten vertical edges.
+fn winding_in_a_column(alloc: Global) -> Result<Rings, Fail> {
     let column = Part::Within(Window {
         x0: 0,
         y0: -600,
         x1: 11,
         y1: 600,
     });
-    let clipped = Rings::clipped(alloc, &winding(alloc, 600)?, &column)?;
+    Ok(Rings::clipped(alloc, &winding(alloc, 600)?, &column)?)
+}
+
+/// What differs first in the rings and in the ring that winds in the column.
+fn found_in_column(alloc: Global, simpler: &Rings) -> Result<Found, Fail> {
+    let clipped = winding_in_a_column(alloc)?;
+    Ok(difference_by_columns(alloc, simpler, &clipped)?)
+}
+
+/// With the ten edges and eleven at the right border it covers the same, and four points for each edge
+/// are enough.
+#[test]
+fn a_ring_that_winds_in_a_column(rt: HostRuntime) -> Result<(), Fail> {
+    let alloc = rt.alloc();
+    let clipped = winding_in_a_column(alloc)?;
     assert!(rt; clipped.points().len() > 1000);
     let simpler = simplified(alloc, clipped)?;
     assert!(rt; simpler.points().len() <= 84);
-    let clipped = Rings::clipped(alloc, &winding(alloc, 600)?, &column)?;
-    assert!(rt; difference_by_columns(alloc, &simpler, &clipped)?.is_none());
+    assert!(rt; found_in_column(alloc, &simpler)?.is_none());
     Ok(())
 }
 

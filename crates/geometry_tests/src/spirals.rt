@@ -1,6 +1,6 @@
 //! Long rings that go round and round, against the same masks drawn by rectangles.
 
-use crate::outlines::{at, rectangle};
+use crate::outlines::{Found, Sides, at, push_rectangles, rectangle};
 use lvl_columns::difference_by_columns;
 use lvl_grid::{Point, Ring, Rings};
 use lvl_region::Side;
@@ -12,42 +12,74 @@ fn push(points: &mut Vec<Point>, x: i64, y: i64) -> Result<(), AllocError> {
     Ok(())
 }
 
-/// A ring that goes so many times round the origin, further out each time: it covers all within.
-pub(crate) fn winding(alloc: Global, many: i64) -> Result<Rings, Fail> {
+/// Goes once round the origin, from the lower right to so far below the lower left.
+fn push_round(points: &mut Vec<Point>, radius: i64, below: i64) -> Result<(), AllocError> {
+    let low = radius.wrapping_neg();
+    push(points, radius, low)?;
+    push(points, radius, radius)?;
+    push(points, low, radius)?;
+    push(points, low, low.wrapping_sub(below))
+}
+
+/// The ring of these points alone.
+fn alone(alloc: Global, points: Vec<Point>) -> Result<Rings, Fail> {
+    let ring = Ring::new(points).ok().ok_or("no ring")?;
+    let mut rings = Rings::new(alloc);
+    rings.push_ring(&ring)?;
+    Ok(rings)
+}
+
+fn winding_points(alloc: Global, many: i64) -> Result<Vec<Point>, AllocError> {
     let mut points = Vec::new(alloc);
     push(&mut points, many.wrapping_neg(), -1)?;
     for radius in 1..many {
-        let low = radius.wrapping_neg();
-        push(&mut points, radius, low)?;
-        push(&mut points, radius, radius)?;
-        push(&mut points, low, radius)?;
-        push(&mut points, low, low.wrapping_sub(1))?;
+        push_round(&mut points, radius, 1)?;
     }
-    let low = many.wrapping_neg();
-    push(&mut points, many, low)?;
-    push(&mut points, many, many)?;
-    push(&mut points, low, many)?;
-    push(&mut points, low, low)?;
-    let mut rings = Rings::new(alloc);
-    rings.push_ring(&Ring::new(points).ok().ok_or("no ring")?)?;
-    Ok(rings)
+    push_round(&mut points, many, 0)?;
+    Ok(points)
+}
+
+/// A ring that goes so many times round the origin, further out each time: it covers all within.
+pub(crate) fn winding(alloc: Global, many: i64) -> Result<Rings, Fail> {
+    alone(alloc, winding_points(alloc, many)?)
+}
+
+/// All that the ring that winds 600 times covers but a square.
+const MASK: [Sides; 3] = [
+    ((-600, 600), (-1, 600)),
+    ((-599, 600), (-599, -1)),
+    ((-599, 599), (-600, -599)),
+];
+
+const LAST: Sides = ((599, 600), (-600, -599));
+
+const BEYOND: Sides = ((-600, -599), (-2, -1));
+
+fn mask_with(alloc: Global, more: &[Sides]) -> Result<Rings, AllocError> {
+    let mut mask = Rings::new(alloc);
+    push_rectangles(alloc, &mut mask, &MASK)?;
+    push_rectangles(alloc, &mut mask, more)?;
+    Ok(mask)
+}
+
+/// What differs first in the rings and in the mask with these rectangles.
+fn found_with(alloc: Global, rings: &Rings, more: &[Sides]) -> Result<Found, AllocError> {
+    difference_by_columns(alloc, rings, &mask_with(alloc, more)?)
+}
+
+/// What differs first in the whole mask and in the rings.
+fn found_from_mask(alloc: Global, rings: &Rings) -> Result<Found, AllocError> {
+    difference_by_columns(alloc, &mask_with(alloc, &[LAST])?, rings)
 }
 
 #[test]
 fn a_ring_that_winds(rt: HostRuntime) -> Result<(), Fail> {
     let alloc = rt.alloc();
     let spiral = winding(alloc, 600)?;
-    let mut mask = Rings::new(alloc);
-    mask.push_ring(&rectangle(alloc, (-600, 600), (-1, 600))?)?;
-    mask.push_ring(&rectangle(alloc, (-599, 600), (-599, -1))?)?;
-    mask.push_ring(&rectangle(alloc, (-599, 599), (-600, -599))?)?;
-    let found = difference_by_columns(alloc, &spiral, &mask)?;
-    assert!(rt; found == at(599, -600, Side::First));
-    mask.push_ring(&rectangle(alloc, (599, 600), (-600, -599))?)?;
-    assert!(rt; difference_by_columns(alloc, &spiral, &mask)?.is_none());
-    assert!(rt; difference_by_columns(alloc, &mask, &spiral)?.is_none());
-    mask.push_ring(&rectangle(alloc, (-600, -599), (-2, -1))?)?;
-    let found = difference_by_columns(alloc, &spiral, &mask)?;
+    assert!(rt; found_with(alloc, &spiral, &[])? == at(599, -600, Side::First));
+    assert!(rt; found_with(alloc, &spiral, &[LAST])?.is_none());
+    assert!(rt; found_from_mask(alloc, &spiral)?.is_none());
+    let found = found_with(alloc, &spiral, &[LAST, BEYOND])?;
     assert!(rt; found == at(-600, -2, Side::Second));
     Ok(())
 }
@@ -58,17 +90,13 @@ fn side_of_wire(alloc: Global, many: i64, out: i64) -> Result<Vec<Point>, AllocE
     push(&mut points, 0, (-2i64).wrapping_sub(out))?;
     for turn in 1..many {
         let radius = turn.wrapping_mul(2).wrapping_add(out);
-        let low = radius.wrapping_neg();
-        push(&mut points, radius, low)?;
-        push(&mut points, radius, radius)?;
-        push(&mut points, low, radius)?;
-        push(&mut points, low, low.wrapping_sub(2))?;
+        push_round(&mut points, radius, 2)?;
     }
     Ok(points)
 }
 
-/// The wire, as one ring.
-fn wire(alloc: Global, many: i64) -> Result<Rings, Fail> {
+/// The points of the wire: out along one side, and back along the other.
+fn wire_points(alloc: Global, many: i64) -> Result<Vec<Point>, AllocError> {
     let mut points = side_of_wire(alloc, many, 0)?;
     let mut back = side_of_wire(alloc, many, 1)?;
     if let (Some(here), Some(there)) = (points.last().copied(), back.pop()) {
@@ -76,9 +104,12 @@ fn wire(alloc: Global, many: i64) -> Result<Rings, Fail> {
     }
     back.reverse();
     points.extend_from_slice(&back)?;
-    let mut rings = Rings::new(alloc);
-    rings.push_ring(&Ring::new(points).ok().ok_or("no ring")?)?;
-    Ok(rings)
+    Ok(points)
+}
+
+/// The wire, as one ring.
+fn wire(alloc: Global, many: i64) -> Result<Rings, Fail> {
+    alone(alloc, wire_points(alloc, many)?)
 }
 
 /// Appends the rectangles of one turn of the wire: below, on the right, above and on the left.
@@ -88,26 +119,39 @@ fn push_turn(alloc: Global, rings: &mut Rings, turn: i64) -> Result<(), AllocErr
     let below = low.wrapping_sub(1);
     let above = radius.wrapping_add(1);
     let left = if turn == 1 { 0 } else { low.wrapping_add(1) };
-    rings.push_ring(&rectangle(alloc, (left, above), (below, low))?)?;
-    rings.push_ring(&rectangle(alloc, (radius, above), (below, above))?)?;
-    rings.push_ring(&rectangle(alloc, (below, above), (radius, above))?)?;
-    rings.push_ring(&rectangle(alloc, (below, low), (low.wrapping_sub(2), above))?)?;
-    Ok(())
+    let sides = [
+        ((left, above), (below, low)),
+        ((radius, above), (below, above)),
+        ((below, above), (radius, above)),
+        ((below, low), (low.wrapping_sub(2), above)),
+    ];
+    push_rectangles(alloc, rings, &sides)
+}
+
+/// All turns of the wire, by rectangles.
+fn turns(alloc: Global) -> Result<Rings, AllocError> {
+    let mut mask = Rings::new(alloc);
+    for turn in 1..200 {
+        push_turn(alloc, &mut mask, turn)?;
+    }
+    Ok(mask)
+}
+
+/// What differs first in the wire and in its turns with a square between two of them.
+fn found_with_square(alloc: Global, spiral: &Rings) -> Result<Found, AllocError> {
+    let mut mask = turns(alloc)?;
+    mask.push_ring(&rectangle(alloc, (101, 102), (0, 1))?)?;
+    difference_by_columns(alloc, spiral, &mask)
 }
 
 #[test]
 fn a_wire_that_winds(rt: HostRuntime) -> Result<(), Fail> {
     let alloc = rt.alloc();
     let spiral = wire(alloc, 200)?;
-    let mut mask = Rings::new(alloc);
-    for turn in 1..200 {
-        push_turn(alloc, &mut mask, turn)?;
-    }
+    let mask = turns(alloc)?;
     assert!(rt; difference_by_columns(alloc, &spiral, &mask)?.is_none());
     assert!(rt; difference_by_columns(alloc, &mask, &spiral)?.is_none());
-    mask.push_ring(&rectangle(alloc, (101, 102), (0, 1))?)?;
-    let found = difference_by_columns(alloc, &spiral, &mask)?;
-    assert!(rt; found == at(101, 0, Side::Second));
+    assert!(rt; found_with_square(alloc, &spiral)? == at(101, 0, Side::Second));
     Ok(())
 }
 
