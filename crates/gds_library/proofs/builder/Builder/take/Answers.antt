@@ -41,7 +41,7 @@ returns-clause-shown c =
           (w.in_ok-from_slice-in-6.ensures.items ∙ w.name-name.ensures))) a
       | in-7+in_ok-close-in-7 w ↦ by_kind _ endstr p q b b' payload w.in-7.is
           (λ e. shown_endstr p q b b' payload e (ap (λ (x : Builder). x.cells.cells) w.self-is
-          ∙ ap (λ (x : Built). x.cells) w.in_ok-close-in-7.ensures)) a
+          ∙ ap (λ (x : Built). x.cells) w.in_ok-close-in-7.ensures.closed)) a
       | in_default-kind w ↦ (
           let z : IsOther c.args.kind = record {
             bgnstr = other _ _ (λ e. absurd (search rules));
