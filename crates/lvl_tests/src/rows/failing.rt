@@ -27,6 +27,23 @@ fn begun(starts: &[usize], k: usize) -> usize {
         .unwrap_or(0)
 }
 
+/// Whether the file is refused so as the first, and when it is shown.
+fn is_first_cut(alloc: Global, cut: &[u8], fault: &str) -> Result<bool, Fail> {
+    let square = file(alloc, "square.gds")?;
+    let line = format!(in alloc; "refused: first: {fault}")?;
+    let (text, _) = written(alloc, cut, &square, &no_tops(), 1000)?;
+    let (shown, _) = shown(alloc, cut, None, 1000)?;
+    Ok(text.as_slice() == line.as_bytes() && shown.as_slice() == line.as_bytes())
+}
+
+/// Whether the file is refused so as the second.
+fn is_second_cut(alloc: Global, cut: &[u8], fault: &str) -> Result<bool, Fail> {
+    let square = file(alloc, "square.gds")?;
+    let line = format!(in alloc; "refused: second: {fault}")?;
+    let (text, _) = written(alloc, &square, cut, &no_tops(), 1000)?;
+    Ok(text.as_slice() == line.as_bytes())
+}
+
 /// Each beginning of the file is refused as cut, at the record that isn't whole. Without a first byte a
 /// file is read as GDSII.
 fn check_cuts(
@@ -36,22 +53,17 @@ fn check_cuts(
     starts: &[usize],
     format: &str,
 ) -> Result<(), Fail> {
-    let square = file(alloc, "square.gds")?;
     for k in 0..bytes.len() {
         let format = if k == 0 { "gds" } else { format };
         let start = begun(starts, k);
-        let first = format!(in alloc; "refused: first: {format} 1 Truncated at {start}\n")?;
-        let (text, _) = written(alloc, &bytes[..k], &square, &no_tops(), 1000)?;
-        assert!(rt; text.as_slice() == first.as_bytes(), "{format} cut to {k}");
-        let (text, _) = shown(alloc, &bytes[..k], None, 1000)?;
+        let fault = format!(in alloc; "{format} 1 Truncated at {start}\n")?;
+        let cut = &bytes[..k];
         assert!(rt;
-            text.as_slice() == first.as_bytes(),
-            "{format} cut to {k}, shown"
+            is_first_cut(alloc, cut, fault.as_str())?,
+            "{format} cut to {k}"
         );
-        let second = format!(in alloc; "refused: second: {format} 1 Truncated at {start}\n")?;
-        let (text, _) = written(alloc, &square, &bytes[..k], &no_tops(), 1000)?;
         assert!(rt;
-            text.as_slice() == second.as_bytes(),
+            is_second_cut(alloc, cut, fault.as_str())?,
             "{format} cut to {k}, second"
         );
     }
@@ -211,9 +223,12 @@ fn failing_write(rt: HostRuntime) -> Result<(), Fail> {
                 out.room = k;
                 out.takes_nothing = takes_nothing;
                 let ran = ran(alloc, first, second, &mut out)?;
-                assert_eq!(rt; ran, Err(RunFault::Output), "room for {k}");
+                assert_eq!(rt;
+                    (ran, out.errors),
+                    (Err(RunFault::Output), 1),
+                    "room for {k}"
+                );
                 assert_eq!(rt; Some(out.taken.as_slice()), text.as_bytes().get(..k));
-                assert_eq!(rt; out.errors, 1);
             }
         }
     }

@@ -59,6 +59,12 @@ array-limits, one column more | gds-cells A{ 0,0..1,1 } TOP{ 00 04 0B 00 00 06 1
     differ: layer 1 datatype 0 square 1024 0 only in second
 ";
 
+/// Whether this is the last line of what is said of two files.
+fn answers(alloc: Global, [first, second]: [&str; 2], line: &str) -> Result<bool, Fail> {
+    let (first, second) = (file(alloc, first)?, file(alloc, second)?);
+    Ok(is_answer(&written(alloc, &first, &second, &no_tops(), 65_536)?, line))
+}
+
 #[test]
 fn a_million_places(rt: HostRuntime) -> Result<(), Fail> {
     let alloc = rt.alloc();
@@ -66,12 +72,12 @@ fn a_million_places(rt: HostRuntime) -> Result<(), Fail> {
         let (name, row) = cut(row);
         let (first, row) = cut(row);
         let (second, line) = cut(row);
-        let (first, second) = (file(alloc, first)?, file(alloc, second)?);
-        let answer = written(alloc, &first, &second, &no_tops(), 65_536)?;
-        assert!(rt; is_answer(&answer, line), "{name}");
         let turned = exchanged(alloc, line)?;
-        let answer = written(alloc, &second, &first, &no_tops(), 65_536)?;
-        assert!(rt; is_answer(&answer, turned.as_str()), "{name}, exchanged");
+        assert!(rt; answers(alloc, [first, second], line)?, "{name}");
+        assert!(rt;
+            answers(alloc, [second, first], turned.as_str())?,
+            "{name}, exchanged"
+        );
     }
     Ok(())
 }

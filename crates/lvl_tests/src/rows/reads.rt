@@ -177,8 +177,14 @@ fn check_asked(
     let next = if is_read { most } else { 0 };
     assert!(rt; is_shown_by(alloc, &bytes, most, end)?, "{words}, shown");
     assert!(rt; are_asked(alloc, &bytes, &square, [most, few])?, "{words}");
-    assert!(rt; are_asked(alloc, &square, &bytes, [3, most])?, "{words}, second");
-    assert!(rt; are_asked_in_a_view(alloc, &bytes, [most, next])?, "{words}, in a view");
+    assert!(rt;
+        are_asked(alloc, &square, &bytes, [3, most])?,
+        "{words}, second"
+    );
+    assert!(rt;
+        are_asked_in_a_view(alloc, &bytes, [most, next])?,
+        "{words}, in a view"
+    );
     Ok(())
 }
 

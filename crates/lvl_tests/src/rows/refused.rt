@@ -1,6 +1,5 @@
 //! Every refusal by its number, as the first file, as the second and shown.
 
-use super::compared::exchanged;
 use super::words::{cut, file};
 use super::{is_answer, no_tops, shown, written};
 use std::alloc::Global;
@@ -189,7 +188,10 @@ fn check(rt: &impl Abort, alloc: Global, table: &str) -> Result<(), Fail> {
         let refused = file(alloc, words)?;
         for most in [1, 65_536] {
             assert!(rt; is_first_refused(alloc, &refused, fault, most)?, "{row}");
-            assert!(rt; is_second_refused(alloc, &refused, fault, most)?, "{row}, exchanged");
+            assert!(rt;
+                is_second_refused(alloc, &refused, fault, most)?,
+                "{row}, exchanged"
+            );
         }
     }
     Ok(())

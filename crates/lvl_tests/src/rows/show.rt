@@ -82,26 +82,38 @@ oasis-begin 0E 03 TOP 14 7B 01 00 0A 0A 00 00 02 F8 01 00*248 02 FF 00 A0 0B | \
 /// What the square in GDSII says of itself.
 const GDS: &str = "GDSII version 600 units 4110000000000000 4110000000000000";
 
+/// Whether the file and the square are the same, and each says this of itself.
+fn says_first(alloc: Global, bytes: &[u8], head: &str) -> Result<bool, Fail> {
+    let square = file(alloc, "square.gds")?;
+    let want = format!(in alloc; "first: {head}\nsecond: {GDS}\nsame\n")?;
+    let (text, status) = written(alloc, bytes, &square, &no_tops(), 1000)?;
+    Ok(text.as_slice() == want.as_bytes() && status == Ok(Status::Same))
+}
+
+/// The same with the file as the second.
+fn says_second(alloc: Global, bytes: &[u8], head: &str) -> Result<bool, Fail> {
+    let square = file(alloc, "square.gds")?;
+    let want = format!(in alloc; "first: {GDS}\nsecond: {head}\nsame\n")?;
+    let (text, status) = written(alloc, &square, bytes, &no_tops(), 1000)?;
+    Ok(text.as_slice() == want.as_bytes() && status == Ok(Status::Same))
+}
+
+/// Whether the file is shown with this head.
+fn shows(alloc: Global, bytes: &[u8], head: &str) -> Result<bool, Fail> {
+    let want = format!(in alloc; "file: {head}\ntop: TOP\ncells: 1\nlayer 1 datatype 0 rings 1\n")?;
+    let (text, status) = shown(alloc, bytes, None, 1000)?;
+    Ok(text.as_slice() == want.as_bytes() && status == Ok(Status::Shown))
+}
+
 #[test]
 fn heads(rt: HostRuntime) -> Result<(), Fail> {
     let alloc = rt.alloc();
-    let square = file(alloc, "square.gds")?;
     for row in HEADS.lines() {
         let (words, head) = cut(row);
         let bytes = file(alloc, words)?;
-        let want = format!(in alloc; "first: {head}\nsecond: {GDS}\nsame\n")?;
-        let (text, status) = written(alloc, &bytes, &square, &no_tops(), 1000)?;
-        assert!(rt; text.as_slice() == want.as_bytes(), "{head}");
-        assert_eq!(rt; status, Ok(Status::Same));
-        let want = format!(in alloc; "first: {GDS}\nsecond: {head}\nsame\n")?;
-        let (text, _) = written(alloc, &square, &bytes, &no_tops(), 1000)?;
-        assert!(rt; text.as_slice() == want.as_bytes(), "{head}, exchanged");
-        let want = format!(in alloc;
-            "file: {head}\ntop: TOP\ncells: 1\nlayer 1 datatype 0 rings 1\n"
-        )?;
-        let (text, status) = shown(alloc, &bytes, None, 1000)?;
-        assert!(rt; text.as_slice() == want.as_bytes(), "{head}, shown");
-        assert_eq!(rt; status, Ok(Status::Shown));
+        assert!(rt; says_first(alloc, &bytes, head)?, "{head}");
+        assert!(rt; says_second(alloc, &bytes, head)?, "{head}, exchanged");
+        assert!(rt; shows(alloc, &bytes, head)?, "{head}, shown");
     }
     Ok(())
 }
