@@ -2,6 +2,7 @@ use Rattle.std.proofs.Common.{◌++◌, rules, FitsSigned, ◌-ℤ◌, ◌<ℤ�
 use Rattle.std.specs.Int.{w64}
 use Rattle.std.proofs.lemmas.Int.{to_z-of_z}
 use Rattle.std.proofs.lemmas.List.Elements.{All-append}
+use Rattle.std.proofs.lemmas.Result.{on_ok_weaker}
 use Rattle.lvl_grid.specs.declared.point.Square.{Square}
 use Rattle.lvl_grid.specs.Winding.{SomeCovers}
 use Rattle.lvl_grid.specs.Clip.{IsIn}
@@ -40,3 +41,14 @@ returns-clause-sent g c =
           })
           (rw c.in-Some.is at c.in_ok-at.ensures.within) left_corners right_corners,
     )
+
+pub returns-in_default-clause-sent : goal.returns-in_default-clause-sent
+returns-in_default-clause-sent g c =
+    let P : Square → Type 0 = λ s. IsIn c.args.part.now s × SomeCovers c.args.rings.now s in
+    on_ok_weaker c.send_swept.result
+    (λ sent. (
+      sent.0,
+      sent.1,
+      sent.2,
+      corners_same (SomeCovers c.in_ok-column.column) P c.args.span sent.0 c.in_ok-column.ensures sent.3,
+    )) c.send_swept.ensures

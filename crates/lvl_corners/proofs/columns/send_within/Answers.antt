@@ -1,4 +1,4 @@
-use Rattle.std.proofs.Common.{◌++◌, rules, subst, FitsSigned, ◌-ℤ◌, ◌<ℤ◌, ◌≤ℤ◌, pos, ℤ, ◌↔◌}
+use Rattle.std.proofs.Common.{◌++◌, rules, subst, FitsSigned, ◌-ℤ◌, ◌<ℤ◌, ◌≤ℤ◌, pos, ℤ}
 use Rattle.std.specs.Int.{w64}
 use Rattle.std.proofs.lemmas.Int.{to_z-of_z}
 use Rattle.std.proofs.lemmas.List.Elements.{All-append}
