@@ -6,6 +6,7 @@ ghost use Rattle.lvl_grid.specs.declared.point.Point.{Point as GridPoint};
 ghost use Rattle.lvl_grid.specs.Turn.{image, turned, reflected, shifted, turn_after, mirrored, FitsPoint};
 ghost use Rattle.lvl_grid.specs.Placed.{placed_point};
 ghost use Rattle.lvl_grid.specs.Wide.{as_point, IsSmall};
+ghost use Rattle.lvl_grid.specs.Squares.{KeepsCorners};
 
 use crate::point::Point;
 
@@ -57,6 +58,12 @@ impl Map {
         Wide::from_point(point).moved(shift).place(self)
     }
 }
+
+/// The law by which a map takes squares to squares: the corners of a square's image are the images of
+/// its corners, and of no other points. It computes nothing.
+pub fn corners_keep()
+    ensures { KeepsCorners }
+{}
 
 impl Turn {
     /// The turn that makes `first`, then `self`.
