@@ -1,15 +1,18 @@
 -- One step of each loop over lines.
 use Rattle.std.proofs.Common.{◌≡◌, ◌↔◌, Contains, map, true, ℕ, ◌+◌, inl, inr, arith, ◌<◌, ◌≤◌, Bool, List, [], ◌∷◌}
 use Rattle.std.proofs.Common.{◌++◌, length, get_or, take, ℤ, All, IsTrue, refl, subst, pos}
-use Rattle.std.proofs.lemmas.List.Elements.{All-more, All-nil}
-use Rattle.std.proofs.lemmas.List.{take_all}
+use Rattle.std.proofs.Common.{Any}
+use Rattle.std.proofs.lemmas.List.Elements.{All-more, All-nil, All-append, All-map, All-contains_itself}
+use Rattle.std.proofs.lemmas.List.{take_all, take_more}
+use Rattle.lvl_grid.proofs.Anyone.{Any-left, Any-push, some_contained}
 use Rattle.lvl_grid.specs.declared.point.Point.{Point}
 use Rattle.lvl_region.specs.declared.grid.GridRegion.{GridRegion}
 use Rattle.lvl_region.specs.Region.{SomeCovers}
 use Rattle.std.proofs.lemmas.List.Elements.{All-weaker, Contains-append_left, Contains-append_right}
 use Rattle.std.proofs.lemmas.List.{get_or-map}
 use Rattle.std.proofs.Math.ListN.{length-map}
-use Rattle.std.proofs.lemmas.List.Sorted.{Contains-permutation}
+use Rattle.std.proofs.lemmas.List.Filters.{All-dedup}
+use Rattle.std.proofs.lemmas.List.Sorted.{Contains-permutation, All-permutation}
 use Rattle.std.proofs.lemmas.List.Kept.{Contains-dedup, IsStrictlySortedBy-dedup}
 use Rattle.std.specs.List.{dedup}
 use Rattle.std.specs.List.Sorted.{IsPermutation, IsSorted}
@@ -17,7 +20,7 @@ use Rattle.std.specs.Ordering.{int_cmp, int_eq}
 use Rattle.std.specs.Cmp.{int_cmp_total, int_eq_equiv, signed_Decides}
 use Rattle.std.specs.Global.{Vec}
 use Rattle.lvl_region.specs.declared.lines.Axis.{Axis}
-use Rattle.lvl_region.specs.Grid.{IsRowOf, HasPlaces, AreLinesOf, AreRowsOf, along}
+use Rattle.lvl_region.specs.Grid.{IsRowOf, HasPlaces, HasVertexAt, AreLinesOf, AreRowsOf, along}
 use Rattle.lvl_region.specs.Agree.{AgreeAt, AgreeOn, AgreeOnRows}
 use Rattle.lvl_region.specs.Joined.{IsNext}
 use Rattle.lvl_region.proofs.Between.{zip_more}
@@ -95,12 +98,33 @@ places_step axis old new rings i ring lt before e is =
     (λ p c. Contains-append_left old (map (along axis) ring) (along axis p) c) r h) (take i rings) before in
     rw e (All-more Q rings i ring lt kept (subst Q is here))
 
+-- each line of one ring more is a vertex's
+pub vertices_step : (axis : Axis) (old new : List ℤ) (rings : List (List Point)) (i : ℕ) (ring : List Point)
+    → i < length rings → All (HasVertexAt axis (take i rings)) old → new ≡ old ++ map (along axis) ring
+    → ring ≡ get_or rings i ring → All (HasVertexAt axis (take (i + 1) rings)) new
+vertices_step axis old new rings i ring lt before e is =
+    let At : ℤ → List Point → Type 0 = λ v r. Any (λ p. along axis p ≡ v) r in
+    let longer : take (i + 1) rings ≡ take i rings ++ ring ∷ [] = rw (← is) at (take_more rings i ring lt) in
+    let kept : All (HasVertexAt axis (take i rings ++ ring ∷ [])) old =
+    All-weaker (HasVertexAt axis (take i rings)) (HasVertexAt axis (take i rings ++ ring ∷ []))
+    (λ v a. Any-left (At v) (take i rings) (ring ∷ []) a) old before in
+    let here : (p : Point) → Contains ring p → HasVertexAt axis (take i rings ++ ring ∷ []) (along axis p) =
+    λ p c. (Any-push (At (along axis p)) (take i rings) ring).1
+    (inr (some_contained (λ q. along axis q ≡ along axis p) ring p c refl)) in
+    let added : All (HasVertexAt axis (take i rings ++ ring ∷ [])) (map (along axis) ring) =
+    All-map (HasVertexAt axis (take i rings ++ ring ∷ [])) (along axis) ring
+    (All-weaker (Contains ring) (λ p. HasVertexAt axis (take i rings ++ ring ∷ []) (along axis p)) here ring
+    (All-contains_itself ring)) in
+    rw (e, longer)
+    (All-append (HasVertexAt axis (take i rings ++ ring ∷ [])) old (map (along axis) ring) kept added)
+
 -- sorted and freed of repetition, the places of all vertices are the lines
 pub lines_done : (axis : Axis) (places sorted lines : List ℤ) (rings : List (List Point)) (i : ℕ) → length rings ≤ i
-    → HasPlaces axis places (take i rings) → IsPermutation places sorted → IsSorted int_cmp sorted
-    → lines ≡ dedup int_eq sorted → AreLinesOf rings axis lines
+    → HasPlaces axis places (take i rings) → All (HasVertexAt axis (take i rings)) places
+    → IsPermutation places sorted → IsSorted int_cmp sorted → lines ≡ dedup int_eq sorted
+    → AreLinesOf rings axis lines
 unfolding HasPlaces
-lines_done axis places sorted lines rings i far h moved rising e =
+lines_done axis places sorted lines rings i far h seen moved rising e =
     let P : List Point → Type 0 = λ r. All (λ p. Contains places (along axis p)) r in
     let Q : List Point → Type 0 = λ r. All (λ p. Contains (dedup int_eq sorted) (along axis p)) r in
     let all : All P rings = rw (take_all i rings far) at h in
@@ -112,6 +136,9 @@ lines_done axis places sorted lines rings i far h moved rising e =
       through =
           All-weaker P Q (λ r c. All-weaker (λ p. Contains places (along axis p))
           (λ p. Contains (dedup int_eq sorted) (along axis p)) (λ p k. keeps (along axis p) k) r c) rings all;
+      only =
+          All-dedup int_eq (HasVertexAt axis rings) sorted
+          (All-permutation (HasVertexAt axis rings) places sorted moved (rw (take_all i rings far) at seen));
     })
 
 pub built_none : (rings : List (List Point)) (xs ys : List ℤ) (rows : List (Vec Bool)) → rows ≡ []

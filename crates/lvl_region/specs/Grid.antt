@@ -1,6 +1,6 @@
 -- A grid of lines, with a truth value for each cell.
 use Rattle.std.specs.Prelude.{ℕ, Bool, false, List, [], ◌∷◌, map, ℤ, int_le, count_by, slice_index_or, IsTrue, ◌↔◌, All}
-use Rattle.std.specs.Prelude.{Contains}
+use Rattle.std.specs.Prelude.{◌≡◌, Contains, Any}
 use Rattle.std.specs.Global.{Vec}
 use Rattle.std.specs.List.{AllZip}
 use Rattle.std.specs.Ordering.{int_cmp}
@@ -32,10 +32,15 @@ along Y p = p.y
 unfoldable pub HasPlaces : Axis → List ℤ → List (List Point) → Type 0
 HasPlaces axis lines rings = All (λ ring. All (λ p. Contains lines (along axis p)) ring) rings
 
--- rising lines, one through each vertex
+-- some vertex of the rings is at v along the axis
+abbrev pub HasVertexAt : Axis → List (List Point) → ℤ → Type 0
+HasVertexAt axis rings v = Any (λ ring. Any (λ p. along axis p ≡ v) ring) rings
+
+-- rising lines, one through each vertex, and no others
 pub record AreLinesOf (rings : List (List Point)) (axis : Axis) (lines : List ℤ) : Type 0 where
   pub rising : IsStrictlySortedBy int_cmp lines
   pub through : HasPlaces axis lines rings
+  pub only : All (HasVertexAt axis rings) lines
 
 -- the cells of a row say what some ring covers at their lower left squares
 unfoldable pub IsRowOf : List (List Point) → List ℤ → ℤ → List Bool → Type 0

@@ -7,7 +7,7 @@ use lvl_grid::{Point, Ring};
 use std::alloc::{AllocError, Global};
 
 /// One of the two axes.
-#[derive(Clone, Copy, Debug, PartialEq, Eq)]
+#[derive(Clone, Copy)]
 pub(crate) enum Axis {
     X,
     Y,
