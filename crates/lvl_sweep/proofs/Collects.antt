@@ -23,7 +23,7 @@ pub record Collected (es : List Edge) (w w' : Windings) (old new : Vec (ℤ × �
   pub outside : is_inside w' ≡ false
   pub row : row es ≡ new.items ++ row_from es p.x
   pub few : 2 * vec_len new ≤ p.at
-  pub capacity : vec_capacity old ≤ vec_capacity new
+  pub capacity : vec_capacity new ≡ vec_capacity old
 
 -- the first intervals of the list and those from the place on are the row's
 pub record Matched (es : List Edge) (w w' : Windings) (is : List (ℤ × ℤ)) (seen : ℕ) (p : Place) : Type 0 where

@@ -1,17 +1,19 @@
 -- The edges of one ring more.
 use Rattle.std.proofs.Common.{◌≡◌, ℕ, ◌+◌, ◌<◌, ◌≤◌, Bool, true, false, ◌&&◌, not, eqb, cond, List, [], length, get_or}
-use Rattle.std.proofs.Common.{take, ◌<ℤ◌, int_lt, All, count_by, refl, sym, ◌∙◌, ap, arith, inl, inr}
+use Rattle.std.proofs.Common.{◌∷◌, ◌++◌, take, ◌<ℤ◌, int_lt, All, count_by, refl, sym, ◌∙◌, ap, arith, inl, inr}
+use Rattle.std.proofs.lemmas.Grind.{common_steps}
 use Rattle.std.specs.List.Sorted.{IsPermutation}
 use Rattle.std.proofs.lemmas.Bool.{cases_lt, eqb-true, eq-eqb}
-use Rattle.std.proofs.lemmas.List.{take_all, length-take, get_or-take}
+use Rattle.std.proofs.lemmas.List.{take_all, take_more, length-take, get_or-take}
 use Rattle.std.proofs.lemmas.List.Elements.{All-weaker}
 use Rattle.std.proofs.lemmas.List.Sorted.{sum_by-IsPermutation, All-permutation}
 use Rattle.lvl_grid.specs.declared.point.Point.{Point}
 use Rattle.lvl_grid.specs.declared.point.Square.{Square}
 use Rattle.lvl_grid.specs.Winding.{edges, goes_up, goes_down}
 use Rattle.lvl_sweep.specs.declared.edge.Edge.{Edge}
-use Rattle.lvl_sweep.specs.inside.Alive.{alive, rises, falls, AreEdgesOf}
-use Rattle.lvl_sweep.proofs.Winds.{count_none, other}
+use Rattle.lvl_sweep.specs.Bands.{is_vertical, all_edges}
+use Rattle.lvl_sweep.specs.inside.Alive.{any_edge, alive, rises, falls, AreEdgesOf, HasSame}
+use Rattle.lvl_sweep.proofs.Winds.{count_cons, count_none, other}
 
 not_same_by : (a b : ℕ) (t : Bool) → eqb a b ≡ t → b < a → t ≡ false
 not_same_by a b false e h = refl
@@ -95,3 +97,42 @@ all_gathered rings i es sorted far old moved =
       numbers = All-permutation (λ e. e.ring < length rings) es sorted moved whole.numbers;
       full = All-permutation (λ e. e.low <ℤ e.high) es sorted moved whole.full;
     }
+
+count_app : {A : Type 0} (p : A → Bool) (xs ys : List A) → count_by p (xs ++ ys) ≡ count_by p xs + count_by p ys
+count_app p [] ys = omega arith
+count_app p (x ∷ xs) ys =
+    omega (arith, count_cons p x (xs ++ ys), count_cons p x xs, count_app p xs ys)
+
+edges_app : (as' bs : List (List Point)) → all_edges (as' ++ bs) ≡ all_edges as' ++ all_edges bs
+edges_app [] bs = refl
+edges_app (a ∷ as') bs = grind (arith, common_steps, edges_app as' bs)
+
+count_each : (es : List Edge) → count_by any_edge es ≡ length es
+count_each [] = refl
+count_each (e ∷ es) = omega (arith, count_cons any_edge e es, count_each es)
+
+pub length_same : (es fs : List Edge) → HasSame es fs → length fs ≡ length es
+length_same es fs same =
+    let counted : count_by any_edge fs ≡ count_by any_edge es = same (λ e. cond (any_edge e) 1 0) in
+    omega (arith, counted, count_each es, count_each fs)
+
+-- the vertical edges of one ring more
+pub one_counted : (rings : List (List Point)) (ring : List Point) (i : ℕ) (es new : List Edge) → i < length rings
+    → ring ≡ get_or rings i [] → count_by any_edge es ≡ count_by is_vertical (all_edges (take i rings))
+    → count_by any_edge new ≡ count_by any_edge es + count_by is_vertical (edges ring)
+    → count_by any_edge new ≡ count_by is_vertical (all_edges (take (i + 1) rings))
+one_counted rings ring i es new lt is old more =
+    let longer : take (i + 1) rings ≡ take i rings ++ ring ∷ [] = rw (← is) at (take_more rings i [] lt) in
+    let last : count_by is_vertical (all_edges (ring ∷ [])) ≡ count_by is_vertical (edges ring) =
+    count_app is_vertical (edges ring) [] ∙ omega arith in
+    rw (longer, edges_app (take i rings) (ring ∷ []))
+    (omega (arith, count_app is_vertical (all_edges (take i rings)) (all_edges (ring ∷ [])), old, more, last))
+
+pub all_counted : (rings : List (List Point)) (i : ℕ) (es sorted : List Edge) → length rings ≤ i
+    → count_by any_edge es ≡ count_by is_vertical (all_edges (take i rings)) → IsPermutation es sorted
+    → length sorted ≡ count_by is_vertical (all_edges rings)
+all_counted rings i es sorted far old moved =
+    let whole : count_by any_edge es ≡ count_by is_vertical (all_edges rings) = rw (take_all i rings far) at old in
+    let same : count_by any_edge es ≡ count_by any_edge sorted =
+    sym (sum_by-IsPermutation (λ e. cond (any_edge e) 1 0) es sorted moved) in
+    omega (arith, whole, same, count_each sorted)

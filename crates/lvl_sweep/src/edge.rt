@@ -3,13 +3,14 @@ ghost use Rattle.std.specs.Prelude.{◌≡◌, ◌<◌, ◌+◌, ◌&&◌, ◌==
 ghost use Rattle.std.specs.Prelude.{if◌then◌else◌};
 ghost use Rattle.lvl_grid.specs.declared.point.Square.{Square as GridSquare};
 ghost use Rattle.lvl_grid.specs.Winding.{goes_up, goes_down, edges as steps_round};
-ghost use Rattle.lvl_sweep.specs.inside.Alive.{edge_is, rises, falls, AreEdgesOf, AreInOrder};
+ghost use Rattle.lvl_sweep.specs.inside.Alive.{any_edge, edge_is, rises, falls, AreEdgesOf, AreInOrder};
+ghost use Rattle.lvl_sweep.specs.Bands.{is_vertical, all_edges};
 
 use lvl_grid::{Point, RingList};
 use std::alloc::{AllocError, Global};
 
 /// A vertical edge of a ring: the rows that it crosses, its abscissa, and whether it goes up.
-#[derive(Clone, Copy, Debug, PartialEq, Eq)]
+#[derive(Clone, Copy, Debug)]
 pub struct Edge {
     pub low: i64,
     pub x: i64,
@@ -22,6 +23,7 @@ pub struct Edge {
 fn edge_between(ring: usize, from: Point, to: Point) -> Option<Edge>
     ensures rising { (r : ℕ) (s : GridSquare) → edge_is (rises r s) result ≡ ((ring == r) && goes_up s (from, to)) }
     ensures falling { (r : ℕ) (s : GridSquare) → edge_is (falls r s) result ≡ ((ring == r) && goes_down s (from, to)) }
+    ensures vertical { edge_is any_edge result ≡ is_vertical (from, to) }
     ensures number { IfSome result (λ e. (e.ring ≡ ring) × (e.low <ℤ e.high)) }
 {
     if from.y < to.y {
@@ -51,6 +53,8 @@ fn push_edge(edges: &mut Vec<Edge>, ring: usize, from: Point, to: Point) -> Resu
         ≡ count_by (rises r s) edges.old.items + (if (ring == r) && goes_up s (from, to) then 1 else 0)) }
     ensures falling { IfOk result (λ _. (r : ℕ) (s : GridSquare) → count_by (falls r s) edges.new.items
         ≡ count_by (falls r s) edges.old.items + (if (ring == r) && goes_down s (from, to) then 1 else 0)) }
+    ensures many { IfOk result (λ _. count_by any_edge edges.new.items
+        ≡ count_by any_edge edges.old.items + (if is_vertical (from, to) then 1 else 0)) }
     ensures numbers { IfOk result (λ _. (n : ℕ) → ring < n → All (λ e. e.ring < n) edges.old.items
         → All (λ e. e.ring < n) edges.new.items) }
     ensures full { IfOk result (λ _. All (λ e. e.low <ℤ e.high) edges.old.items
@@ -71,6 +75,8 @@ fn push_edges(edges: &mut Vec<Edge>, ring: usize, points: &[Point]) -> Result<()
     ensures falling { IfOk result (λ _. (r : ℕ) (s : GridSquare) → count_by (falls r s) edges.new.items
         ≡ count_by (falls r s) edges.old.items
         + (if ring == r then count_by (goes_down s) (steps_round points.now) else 0)) }
+    ensures many { IfOk result (λ _. count_by any_edge edges.new.items
+        ≡ count_by any_edge edges.old.items + count_by is_vertical (steps_round points.now)) }
     ensures numbers { IfOk result (λ _. (n : ℕ) → ring < n → All (λ e. e.ring < n) edges.old.items
         → All (λ e. e.ring < n) edges.new.items) }
     ensures full { IfOk result (λ _. All (λ e. e.low <ℤ e.high) edges.old.items
@@ -109,6 +115,7 @@ fn how_many<R: RingList>(rings: &R) -> usize {
 /// The vertical edges of all rings, by the ordinate at which they begin, then by abscissa.
 pub(crate) fn edges_of<R: RingList>(alloc: Global, rings: &R) -> Result<Vec<Edge>, AllocError>
     ensures edges { IfOk result (λ edges. AreEdgesOf (R.rings rings.now) edges.items) }
+    ensures many { IfOk result (λ edges. length edges.items ≡ count_by is_vertical (all_edges (R.rings rings.now))) }
     ensures order { IfOk result (λ edges. AreInOrder edges.items) }
 {
     let mut edges = Vec::with_capacity(alloc, how_many(rings))?;

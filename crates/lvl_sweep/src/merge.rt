@@ -13,7 +13,7 @@ use crate::edge::Edge;
 /// How far a merge has come. The edges still to be put are those that begin, from index `low` up to
 /// `fresh`, and those that were alive, from `from` up to `alive`. Those that are put lie from
 /// `first` up to `end`. All others below `end` have ended.
-#[derive(Clone, Copy, Debug, PartialEq, Eq)]
+#[derive(Clone, Copy)]
 pub struct Merge {
     pub low: usize,
     pub fresh: usize,
@@ -44,7 +44,7 @@ fn reaches_above(edges: &[Edge], i: usize, y: i64) -> bool
     y < edges[i].high
 }
 
-/// Exchanges so many edges from `to` on with those from `from` on, which lie after them.
+/// Exchanges `count` edges from `to` on with those from `from` on, which lie after them.
 fn exchange(edges: &mut [Edge], to: usize, from: usize, count: usize)
     requires apart { to + count ≤ from }
     requires within { from + count ≤ length edges.old }

@@ -47,7 +47,7 @@ pub(crate) fn row_difference(first: &[(i64, i64)], second: &[(i64, i64)]) -> Opt
 }
 
 /// What the first bands on two sides, from a row on, say of the rows there.
-#[derive(Clone, Copy, Debug, PartialEq, Eq)]
+#[derive(Clone, Copy)]
 pub enum Ahead {
     /// The least square that one side alone covers.
     Differ(Square, Side),

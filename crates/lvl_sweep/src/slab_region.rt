@@ -34,7 +34,7 @@ impl Model for SlabRegion {
 }
 
 /// Bands of a list, one at a time.
-#[derive(Debug, Drop)]
+#[derive(Drop)]
 struct Listed<'a> {
     bands: &'a [Band],
 }

@@ -1,8 +1,9 @@
 //! The strips of rows between the ordinates at which edges begin or end, from the lowest on.
 ghost use Rattle.std.specs.Prelude.{◌≡◌, ◌<◌, ◌≤◌, ◌+◌, ◌*◌, length, [], ℤ, ◌<ℤ◌, ◌≤ℤ◌, slice_index_or, IsTrue, ◌↔◌};
-ghost use Rattle.std.specs.Prelude.{IfOk, IfSome, IfNone};
+ghost use Rattle.std.specs.Prelude.{IfOk, IfSome, IfNone, count_by};
 ghost use Rattle.std.specs.List.{AllWithin};
 ghost use Rattle.std.specs.Vec.{vec_len, vec_capacity};
+ghost use Rattle.lvl_sweep.specs.Bands.{is_vertical, all_edges};
 ghost use Rattle.lvl_sweep.specs.inside.Alive.{AreEdgesOf, HasSame};
 ghost use Rattle.lvl_sweep.specs.inside.Edges.{IsBeginOf};
 ghost use Rattle.lvl_sweep.specs.inside.Rows.{row_at};
@@ -62,6 +63,8 @@ impl Strips {
     pub(crate) fn new<R: RingList>(alloc: Global, rings: &R) -> Result<Strips, AllocError>
         ensures at { IfOk result (λ s. IsAt s) }
         ensures edges { IfOk result (λ s. AreEdgesOf (R.rings rings.now) s.edges.items) }
+        ensures many { IfOk result (λ s. length s.edges.items ≡ count_by is_vertical (all_edges (R.rings rings.now))) }
+        ensures counts { IfOk result (λ s. length s.windings.counts.items ≡ length (R.rings rings.now)) }
         ensures lowest { IfOk result (λ s. (v : ℤ) → v <ℤ s.y → row_at s.edges.items v ≡ []) }
     {
         let edges = edges_of(alloc, rings)?;
@@ -94,6 +97,7 @@ impl Strips {
         ensures at { IsAt self.new }
         ensures here { self.new.y ≡ y }
         ensures edges { HasSame self.old.edges.items self.new.edges.items }
+        ensures windings { self.new.windings ≡ self.old.windings }
     {
         let end = end_of_start(&self.edges, self.next, y);
         let begins = begins_at(&self.edges, end);
@@ -113,7 +117,7 @@ impl Strips {
         ensures edges { self.new.edges.items ≡ self.old.edges.items }
         ensures row { intervals.new.items ≡ row_at self.old.edges.items self.old.y }
         ensures few { 2 * vec_len intervals.new ≤ length self.old.edges.items }
-        ensures capacity { vec_capacity intervals.old ≤ vec_capacity intervals.new }
+        ensures capacity { vec_capacity intervals.new ≡ vec_capacity intervals.old }
     {
         collect_row(
             &self.edges[self.from..self.next],

@@ -50,7 +50,7 @@ fn find_row(strips: &mut Strips, intervals: &mut Vec<(i64, i64)>) -> Option<i64>
     ensures over { IfNone result (IsOver strips.new) }
     ensures row { intervals.new.items ≡ row_at strips.new.edges.items strips.new.y }
     ensures few { 2 * vec_len intervals.new ≤ length strips.new.edges.items }
-    ensures capacity { vec_capacity intervals.old ≤ vec_capacity intervals.new }
+    ensures capacity { vec_capacity intervals.new ≡ vec_capacity intervals.old }
 {
     loop {
         strips.collect(intervals);
@@ -94,6 +94,7 @@ fn settle(strips: &mut Strips, band: &mut Band) -> bool
     ensures none { result ≡ false → bands_from strips.old.edges.items (Some strips.old.y) ≡ [] }
     ensures few { 2 * vec_len band.new.intervals ≤ length strips.new.edges.items }
     ensures room { length strips.new.edges.items ≤ 2 * vec_capacity band.new.intervals + 1 }
+    ensures capacity { vec_capacity band.new.intervals ≡ vec_capacity band.old.intervals }
 {
     let Some(top) = find_row(strips, &mut band.intervals) else {
         return false;

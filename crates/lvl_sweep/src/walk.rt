@@ -12,7 +12,7 @@ use crate::edge::Edge;
 use crate::windings::Windings;
 
 /// How far a walk has come: past `at` edges, the last of them at abscissa `x`.
-#[derive(Clone, Copy, Debug, PartialEq, Eq)]
+#[derive(Clone, Copy)]
 pub struct Place {
     pub at: usize,
     pub x: Option<i64>,
@@ -108,18 +108,6 @@ fn forget(active: &[Edge], at: usize, windings: &mut Windings)
     windings.turning = 0;
 }
 
-/// Appends the interval, for which there is room.
-fn put_interval(intervals: &mut Vec<(i64, i64)>, interval: (i64, i64))
-    requires { vec_len intervals.old < vec_capacity intervals.old }
-    ensures items { intervals.new.items ≡ intervals.old.items ++ interval ∷ [] }
-    ensures len { vec_len intervals.new ≡ vec_len intervals.old + 1 }
-    ensures capacity { vec_capacity intervals.old ≤ vec_capacity intervals.new }
-{
-    if intervals.push(interval).is_err() {
-        unreachable!()
-    }
-}
-
 /// The intervals that the edges of a row cover.
 pub(crate) fn collect_row(active: &[Edge], windings: &mut Windings, intervals: &mut Vec<(i64, i64)>)
     requires row { IsRowOf active.now (length windings.old.counts.items) }
@@ -129,12 +117,12 @@ pub(crate) fn collect_row(active: &[Edge], windings: &mut Windings, intervals: &
     ensures few { 2 * vec_len intervals.new ≤ length active.now }
     ensures rest { AreAtRest windings.new }
     ensures rings { length windings.new.counts.items ≡ length windings.old.counts.items }
-    ensures capacity { vec_capacity intervals.old ≤ vec_capacity intervals.new }
+    ensures capacity { vec_capacity intervals.new ≡ vec_capacity intervals.old }
 {
     intervals.clear();
     let mut place = Place { at: 0, x: None };
     while let Some(interval) = next_interval(active, &mut place, windings) {
-        put_interval(intervals, interval);
+        intervals.push_reserved(interval);
     }
 }
 

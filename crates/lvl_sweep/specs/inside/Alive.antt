@@ -1,6 +1,6 @@
 -- The edges that cross a row, and what they say of the rings.
 use Rattle.std.specs.Prelude.{◌≡◌, ℕ, ◌<◌, Bool, ◌&&◌, ◌==◌, not, List, [], length, ℤ, ◌<ℤ◌, ◌≤ℤ◌, int_lt, int_le}
-use Rattle.std.specs.Prelude.{count_by, slice_index_or, All, Option, None, Some, false}
+use Rattle.std.specs.Prelude.{count_by, slice_index_or, All, Option, None, Some, false, true}
 use Rattle.std.specs.List.{sum_by, AllPairs}
 use Rattle.lvl_grid.specs.declared.point.Point.{Point}
 use Rattle.lvl_grid.specs.declared.point.Square.{Square}
@@ -30,6 +30,10 @@ pub record AreEdgesOf (rings : List (List Point)) (es : List Edge) : Type 0 wher
       → count_by (goes_down s) (edges (slice_index_or rings r [])) ≡ count_by (falls r s) es
   pub numbers : All (λ e. e.ring < length rings) es
   pub full : All (λ e. e.low <ℤ e.high) es
+
+-- the test that each edge passes
+abbrev pub any_edge : Edge → Bool
+any_edge e = true
 
 -- the edge, if there is one, passes the test
 abbrev pub edge_is : (Edge → Bool) → Option Edge → Bool

@@ -1,7 +1,8 @@
 use Rattle.std.proofs.Common.{◌≡◌, ◌+◌, ◌<◌, ◌<ℤ◌, ◌==◌, ℕ, All, drop, count_by, cond}
 use Rattle.lvl_grid.specs.declared.point.Square.{Square}
 use Rattle.lvl_grid.specs.Winding.{edges, path_edges, goes_up, goes_down}
-use Rattle.lvl_sweep.specs.inside.Alive.{rises, falls}
+use Rattle.lvl_sweep.specs.Bands.{is_vertical}
+use Rattle.lvl_sweep.specs.inside.Alive.{any_edge, rises, falls}
 use Rattle.lvl_sweep.proofs.edge.push_edges.Given as goal
 
 -- the edges put and those that are left are all
@@ -13,6 +14,9 @@ invariant-loop-point l = record {
   falling : (r : ℕ) (s : Square) → count_by (falls r s) l.edges.items + cond (l.ring == r)
       (count_by (goes_down s) (path_edges l.previous (drop l.point-index l.points))) 0 ≡ count_by (falls r s)
       l.fn.edges.items + cond (l.ring == r) (count_by (goes_down s) (edges l.points)) 0;
+  many : count_by any_edge l.edges.items
+      + count_by is_vertical (path_edges l.previous (drop l.point-index l.points)) ≡ count_by any_edge l.fn.edges.items
+      + count_by is_vertical (edges l.points);
   numbers : (n : ℕ) → l.ring < n → All (λ e. e.ring < n) l.fn.edges.items → All (λ e. e.ring < n) l.edges.items;
   full : All (λ e. e.low <ℤ e.high) l.fn.edges.items → All (λ e. e.low <ℤ e.high) l.edges.items;
 }

@@ -1,4 +1,4 @@
-use Rattle.std.proofs.Common.{◌≡◌, ◌≤◌, Some}
+use Rattle.std.proofs.Common.{◌≡◌, Some}
 use Rattle.std.specs.Vec.{vec_capacity}
 use Rattle.lvl_sweep.specs.inside.Alive.{HasSame}
 use Rattle.lvl_sweep.specs.inside.Rows.{bands_from}
@@ -11,7 +11,7 @@ invariant-loop-top l = record {
   at : IsAt l.strips;
   edges : HasSame l.fn.strips.edges.items l.strips.edges.items;
   skipped : bands_from l.fn.strips.edges.items (Some l.fn.strips.y) ≡ bands_from l.strips.edges.items (Some l.strips.y);
-  capacity : vec_capacity l.fn.intervals ≤ vec_capacity l.intervals;
+  capacity : vec_capacity l.intervals ≡ vec_capacity l.fn.intervals;
 }
 
 abbrev pub decreases-loop-top : goal.decreases-loop-top

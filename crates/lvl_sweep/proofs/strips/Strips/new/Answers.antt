@@ -2,6 +2,7 @@ use Rattle.std.proofs.Common.{w64, FitsSigned, rules, arith, refl, ◌∙◌, �
 use Rattle.std.proofs.lemmas.Int.{to_z-of_z}
 use Rattle.lvl_sweep.specs.declared.strips.Strips.{Strips}
 use Rattle.lvl_sweep.proofs.Alikes.{edges_of_alike, row_at_alike}
+use Rattle.lvl_sweep.proofs.Gathered.{length_same}
 use Rattle.lvl_sweep.proofs.Starts.{rings_close, start_strips, can_start, no_start, none_below, none_anywhere}
 use Rattle.lvl_sweep.proofs.strips.Strips.new.Goals.{in-Some, in_default}
 use Rattle.lvl_sweep.proofs.strips.Strips.new.Goals as goal
@@ -64,4 +65,11 @@ returns-clause-lowest g c = elim c.match-begins_at.branch [
   | in_default w ↦
       λ v lt. rw w.strips-is (none_anywhere c.in_ok-edges.edges.items v
       (rw c.deref.ensures.value at w.in_default.ensures))
+]
+
+pub returns-clause-many : goal.returns-clause-many
+returns-clause-many g c = elim c.match-begins_at.branch [
+  | in-Some w ↦ rw w.strips-is (length_same c.in_ok-edges.edges.items w.load.new.self.edges.items w.load.ensures.edges
+      ∙ c.in_ok-edges.ensures.many)
+  | in_default w ↦ rw w.strips-is c.in_ok-edges.ensures.many
 ]
