@@ -16,3 +16,4 @@ pub mod Outside
 pub mod WindowWalk
 pub mod Cutting
 pub mod Runs
+pub mod Summing

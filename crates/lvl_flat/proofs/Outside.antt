@@ -278,7 +278,8 @@ abbrev seen_from : Map → Bounds → Bounds
 seen_from m b = pulled m.flip m.turn m.at b
 
 -- a chain goes on from a cell whose reference is placed before it
-chain_after : (cells : List (PlainCell Rings)) (c d : PlainCell Rings) (k : ℕ) (r : PlainReference) (j : ℕ) (e : Point)
+pub chain_after : (cells : List (PlainCell Rings)) (c d : PlainCell Rings) (k : ℕ) (r : PlainReference) (j : ℕ)
+    (e : Point)
     → k < length c.references → get_or c.references k r ≡ r → j < length r.shifts → get_or r.shifts j e ≡ e
     → cell_named cells r.cell ≡ Some d → (n : ℕ) (w : Map) (f : PlainCell Rings) → Chain cells d n w f
     → Chain cells c (suc n) (composed (placing r e) w) f

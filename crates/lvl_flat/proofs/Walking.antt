@@ -29,7 +29,7 @@ use Rattle.lvl_flat.proofs.Picks.{picks_from_start, picks_sum}
 use Rattle.lvl_flat.proofs.Covering.{Under, under_either, under_same, cell_covers, pick_covers}
 use Rattle.lvl_flat.proofs.Stepping.{pending_at}
 
--- so many rings are drawn as the cell has of its own
+-- as many rings are drawn as the cell has of its own
 figure_length : (m : Map) (rings : Rings) (shifts : List Point)
     → length (flat_map (placed_figure m rings) shifts) ≡ length rings * length shifts
 figure_length m rings [] = sym (mul-zero (length rings))

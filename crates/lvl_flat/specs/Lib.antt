@@ -4,4 +4,5 @@ pub mod Flattened
 pub mod Mapped
 pub mod Placing
 pub mod Boxes
+pub mod Ends
 pub mod inside

@@ -22,7 +22,7 @@ pub use fault::FlatFault;
 pub use fitted::Fitted;
 pub use flat::Flat;
 pub use shapes::flatten_shapes;
-pub use walk::placing_at;
+pub use walk::{chains_add_up, placing_at};
 
 mod advance;
 mod bounds;

@@ -7,7 +7,7 @@ use lvl_grid::Map;
 /// A placed cell, of whose references those before `reference`, and of that one's places those
 /// before `place`, are done with. Its places come in rows of `row`, so far as has been seen: 0 where
 /// nobody has looked.
-#[derive(Clone, Copy, Debug)]
+#[derive(Clone, Copy)]
 pub(crate) struct Visit {
     pub cell: usize,
     pub map: Map,

@@ -1,5 +1,7 @@
 //! The walk over the chains of references from the top, one step at a time.
-ghost use Rattle.std.specs.Prelude.{◌≡◌, ◌<◌, length, None, IfSome, IfNone, slice_get};
+ghost use Rattle.std.specs.Prelude.{◌≡◌, ◌<◌, ℕ, List, length, None, IfSome, IfNone, slice_get};
+ghost use Rattle.lvl_cells.specs.Cells.{PlainCell, Rings};
+ghost use Rattle.lvl_flat.specs.Ends.{AddsUp};
 ghost use Rattle.lvl_flat.specs.Placing.{IsPlacing};
 ghost use Rattle.lvl_flat.specs.inside.Steps.{IsStep};
 
@@ -35,6 +37,12 @@ pub fn placing_at(reference: &Reference, place: u64) -> Option<Map>
         },
     })
 }
+
+/// The law by which chains are counted: a weight added up over all chains is its sum over a list of their
+/// last cells, one for each chain, and these are the cells that some chain leads to. It computes nothing.
+pub fn chains_add_up()
+    ensures { (cells : List (PlainCell Rings)) (n : ℕ) (c : PlainCell Rings) → AddsUp cells n c }
+{}
 
 /// The step of a visit.
 pub(crate) fn next_step(checked: &Checked, visit: &Visit) -> Step

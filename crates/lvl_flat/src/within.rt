@@ -23,7 +23,7 @@ use lvl_grid::{Map, Part, PlaceFault, Point, Rings, Window};
 use std::alloc::Global;
 
 /// Room for what is drawn.
-#[derive(Debug, Drop)]
+#[derive(Drop)]
 pub(crate) struct Room {
     pub alloc: Global,
     /// How many points may still be drawn.
