@@ -1,5 +1,6 @@
 pub mod Formats
 pub mod Spelling
+pub mod Unbegun
 pub mod Growing
 pub mod Keeping
 pub mod Lifting

@@ -74,7 +74,7 @@ oasis_read ignore xs found h read =
 
 -- a file that was not read spells nothing in the other format either, by its first byte
 
-no_gds : (ignore : Ignore) (xs : List ℕ) → (IsOasis xs → ⊥) → SpellsNoGds ignore xs → SpellsNothing ignore xs
+pub no_gds : (ignore : Ignore) (xs : List ℕ) → (IsOasis xs → ⊥) → SpellsNoGds ignore xs → SpellsNothing ignore xs
 no_gds ignore xs other none cells (Gds h) s = none cells h s
 no_gds ignore xs other none cells (Oasis h) s = other (oasis_begins ignore xs cells h s)
 

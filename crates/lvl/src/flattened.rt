@@ -13,7 +13,7 @@ use lvl_region::Side;
 use std::alloc::Global;
 
 /// What the top of a library places.
-#[derive(Debug, Drop)]
+#[derive(Drop)]
 pub(crate) struct FlatLibrary {
     /// The name of the top.
     pub top: Vec<u8>,

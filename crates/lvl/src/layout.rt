@@ -1,5 +1,5 @@
 //! A file read by its format.
-ghost use Rattle.std.specs.Prelude.{◌≡◌, ◌↔◌, List, ℕ, true, Some, IsTrue, IfOk, IfErr};
+ghost use Rattle.std.specs.Prelude.{◌≡◌, ◌↔◌, List, [], ℕ, true, false, Some, IsTrue, IfOk, IfErr};
 ghost use Rattle.std.specs.Io.KnownBytes.{prepend_known};
 ghost use Rattle.lvl_io.specs.Bytes.{CountsFailure, failed};
 ghost use Rattle.lvl_io.specs.Peeked.{given_again};
@@ -165,6 +165,18 @@ fn unread() -> FileFault
     })
 }
 
+/// A file without a byte: it ends before its first record. As its end was met, it is read no further.
+fn empty() -> FileFault
+    ensures reported { (ignore : Ignored) → IsFileFault ignore [] result }
+    ensures late { IsEarlyFile result → ⊥ }
+    ensures read { read_failed result ≡ false }
+{
+    FileFault::Gds(GdsFault {
+        offset: 0,
+        kind: GdsKind::Record(RecordFault::Truncated),
+    })
+}
+
 /// The layout that a file spells. A file whose first byte is 0x25 is read as OASIS, and every other
 /// one as GDSII (own rule; no file is one of both formats).
 pub fn read_layout<R: Read>(alloc: Global, reader: &mut R) -> Result<Layout, Cause<FileFault>>
@@ -200,6 +212,9 @@ pub fn read_layout_by<R: Read>(
     let Ok(first) = take_first(reader) else {
         return Err(Cause::Breach(unread()));
     };
+    if first.is_none() {
+        return Err(Cause::Breach(empty()));
+    }
     let mut whole = Peeked::new(first, reader);
     let read = read_by(alloc, first, &mut whole, ignore);
     let _reader = whole.into_rest();

@@ -1,9 +1,17 @@
-use Rattle.std.proofs.Common.{rules}
+use Rattle.std.proofs.Common.{rules, sym, subst, ap, not, ◌∙◌}
+use Rattle.lvl.specs.Sides.{IsFileFault}
 use Rattle.lvl.proofs.Spelling.{early_rest}
+use Rattle.lvl.proofs.Unbegun.{no_bytes}
 use Rattle.lvl.proofs.layout.read_layout_by.Goals as goal
 
 pub returns-in_default-clause-refused : goal.returns-in_default-clause-refused
 returns-in_default-clause-refused g c xs known = c.unread.ensures.reported c.args.ignore xs
+
+pub returns-then-is_none-clause-refused : goal.returns-then-is_none-clause-refused
+returns-then-is_none-clause-refused g c xs known =
+    subst (λ ys. IsFileFault c.args.ignore ys c.empty.result)
+    (sym (no_bytes c.in-Ok.first xs (c.in-Ok.ensures.first xs known) (c.is_none.ensures ∙ ap not c.if-is_none.true)))
+    (c.empty.ensures.reported c.args.ignore)
 
 pub returns-clause-early : goal.returns-clause-early
 returns-clause-early g c xs known =

@@ -1,0 +1,43 @@
+-- A file without a byte: it ends before its first record, as GDSII has it, and spells nothing in either format.
+use Rattle.std.proofs.Common.{◌≡◌, [], ℕ, List, Option, None, Some, refl, sym, arith, inl, false, true≢false}
+use Rattle.std.specs.Option.{is_some}
+use Rattle.lvl_ignore.specs.declared.ignore.Ignore.{Ignore}
+use Rattle.lvl_grammar.specs.Refused.{IsTruncated}
+use Rattle.lvl_grammar.proofs.Orders.{empty_word}
+use Rattle.lvl_grammar.proofs.Stuck.{truncated_none}
+use Rattle.gds_library.specs.Front.{SpellsNone as SpellsNoGds, gds}
+use Rattle.gds_library.specs.Order.{a_library}
+use Rattle.gds_library.proofs.Instance.{is_grammar}
+use Rattle.gds_records.specs.declared.fault.RecordFault.TheVariants.{Truncated}
+use Rattle.gds_library.specs.declared.fault.GdsKind.TheVariants.{Record}
+use Rattle.lvl.specs.declared.layout.FileFault.TheVariants.{Gds as GdsFile}
+use Rattle.lvl.specs.Layouts.{HasFirst, IsOasis}
+use Rattle.lvl.specs.Sides.{IsFileFault}
+use Rattle.lvl.proofs.Spelling.{no_gds}
+
+cut_at_once : (ignore : Ignore) → IsTruncated (gds ignore) [] 0
+cut_at_once ignore = record {
+  within = omega arith;
+  records = [];
+  front = record { spelled = refl; followed = tt; within = omega arith };
+  unended = λ whole. true≢false (sym (empty_word a_library whole));
+  cut = inl (omega arith);
+}
+
+no_library : (ignore : Ignore) → SpellsNoGds ignore []
+no_library ignore cells h s =
+    truncated_none (gds ignore) (is_grammar ignore) [] 0 (cut_at_once ignore) s.records s.whole
+
+no_magic : IsOasis [] → ⊥
+no_magic own = cc
+
+pub empty_file : (ignore : Ignore) → IsFileFault ignore [] (GdsFile (record { offset = 0; kind = Record Truncated }))
+empty_file ignore = record {
+  reported = (λ read. no_magic, cut_at_once ignore);
+  nothing = λ n. no_gds ignore [] no_magic (no_library ignore);
+}
+
+-- an input without a first byte has none
+pub no_bytes : (first : Option ℕ) (xs : List ℕ) → HasFirst first xs → is_some first ≡ false → xs ≡ []
+no_bytes None xs h none = h
+no_bytes (Some byte) xs h none = absurd (true≢false none)
