@@ -71,7 +71,7 @@ fn name_of(number: u32) -> [u8; 4] {
     (u32::MAX - number).to_be_bytes()
 }
 
-/// A chain of so many cells, each placing the next so often and the last with one square.
+/// A chain of `length` cells, each placing the next `times` times, and the last with one square.
 fn chain_of(alloc: Global, length: u32, times: u32) -> Result<Library, Fail> {
     let mut cells = Vec::new(alloc);
     for number in 0..length {

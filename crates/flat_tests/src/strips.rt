@@ -61,7 +61,7 @@ fn arrayed(alloc: Global, extras: [Extra; 2]) -> Result<Fitted, Fail> {
     Ok(Fitted::new(alloc, check(alloc, builder.finish(), None)?)?)
 }
 
-/// What two such tops differ in, with so many points a strip at most.
+/// What two such tops differ in, with at most `most` points a strip.
 fn difference(
     alloc: Global,
     ours: [Extra; 2],

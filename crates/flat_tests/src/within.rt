@@ -182,7 +182,7 @@ fn growths_of_a_window(rt: HostRuntime) -> Result<(), Fail> {
     Ok(())
 }
 
-/// Whether four rectangles are held in the window, with so many points at most.
+/// Whether four rectangles are held in the window, with at most `most` points.
 fn holds_four(alloc: Global, fitted: &Fitted, window: &Window, most: usize) -> bool {
     match fitted.within(alloc, window, most) {
         Ok(flat) => flat.rings(METAL).len() == 4,

@@ -5,7 +5,7 @@ ghost use Rattle.gds_library.specs.inside.Place.{after};
 use gds_records::record_type;
 
 /// What the next record may be, named by it.
-#[derive(Clone, Copy, Debug, PartialEq, Eq)]
+#[derive(Clone, Copy)]
 pub(crate) enum Place {
     Header,
     BgnLib,

@@ -8,7 +8,7 @@ ghost use Rattle.gds_records.specs.Tail.{IsNoZeroFirst, TakesZeros, is_failure};
 use lvl_io::{Buffer, Read};
 
 /// What comes after zero bytes.
-#[derive(Clone, Copy, Debug, PartialEq, Eq)]
+#[derive(Clone, Copy)]
 pub enum After {
     /// Nothing: the input ends.
     Nothing,

@@ -243,7 +243,7 @@ fn flip_then_turn(rt: HostRuntime) -> Result<(), Fail> {
     Ok(())
 }
 
-/// An array of so many columns and rows, with these points.
+/// An array of the given numbers of columns and rows, with these points.
 fn array(alloc: Global, columns: i16, rows: i16, points: &[(i32, i32)]) -> Result<Drawn, Stop> {
     let lines = [
         (ty::AREF, Says::Nothing),

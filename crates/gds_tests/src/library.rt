@@ -58,7 +58,7 @@ fn at(offset: u64, kind: GdsKind) -> Option<Cause<GdsFault>> {
     Some(Cause::Breach(GdsFault { offset, kind }))
 }
 
-/// Appends so many bytes of this value.
+/// Appends `count` bytes of this value.
 fn add_many(bytes: &mut Vec<u8>, count: usize, value: u8) -> Result<(), AllocError> {
     for _ in 0..count {
         bytes.push(value)?;
@@ -137,7 +137,7 @@ fn boundary_height(rt: HostRuntime) -> Result<(), Fail> {
     Ok(())
 }
 
-/// Appends a structure of this name with so many boundaries.
+/// Appends a structure of this name with `count` boundaries.
 fn add_structure(stream: &mut Stream, name: &[u8], count: usize) -> Result<(), AllocError> {
     stream.structure(name)?;
     for _ in 0..count {
@@ -244,7 +244,7 @@ fn tests_points_in_order(rt: HostRuntime) -> Result<(), Fail> {
     Ok(())
 }
 
-/// A library whose structure has a name of so many letters and, after them, so many zeros.
+/// A library whose structure has a name of the given number of letters, with zeros after them.
 fn named(alloc: Global, letters: usize, zeros: usize) -> Result<Vec<u8>, AllocError> {
     let mut name = Vec::new(alloc);
     add_many(&mut name, letters, b'~')?;
@@ -294,7 +294,7 @@ fn reports_each_cut(rt: HostRuntime) -> Result<(), Fail> {
     Ok(())
 }
 
-/// The bytes of `square`, so many zeros, and the rest.
+/// The bytes of `square`, a number of zeros, and the rest.
 fn padded(alloc: Global, zeros: usize, rest: &[u8]) -> Result<Vec<u8>, AllocError> {
     let mut bytes = square(alloc)?;
     add_many(&mut bytes, zeros, 0)?;

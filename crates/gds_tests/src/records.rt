@@ -224,7 +224,7 @@ fn reports_each_cut(rt: HostRuntime) -> Result<(), Fail> {
     Ok(())
 }
 
-/// The bytes of `square`, so many zeros, and the rest.
+/// The bytes of `square`, a number of zeros, and the rest.
 fn padded(alloc: Global, zeros: usize, rest: &[u8]) -> Result<Vec<u8>, AllocError> {
     let mut bytes = square(alloc)?;
     for _ in 0..zeros {
@@ -337,7 +337,7 @@ fn reports_a_failed_read_once(rt: HostRuntime) -> Result<(), Fail> {
     Ok(())
 }
 
-/// The tail fails after so many zero bytes, and again at once.
+/// The tail fails after the given number of zero bytes, and again at once.
 fn fail_tail<R: Read>(rt: &impl Abort, records: &mut Records<R>, zeros: usize) {
     assert_eq!(rt; records.tail(), Err(Stopped::Fault(RecordFault::Read)));
     assert_eq!(rt; records.offset(), zeros as u64);

@@ -39,7 +39,7 @@ fn winding_points(alloc: Global, many: i64) -> Result<Vec<Point>, AllocError> {
     Ok(points)
 }
 
-/// A ring that goes so many times round the origin, further out each time: it covers all within.
+/// A ring that goes `many` times round the origin, further out each time: it covers all within.
 pub(crate) fn winding(alloc: Global, many: i64) -> Result<Rings, Fail> {
     alone(alloc, winding_points(alloc, many)?)
 }
@@ -84,7 +84,7 @@ fn a_ring_that_winds(rt: HostRuntime) -> Result<(), Fail> {
     Ok(())
 }
 
-/// One side of a wire, one unit wide, that goes round so many times, two units further out each time.
+/// One side of a wire, one unit wide, that goes round `many` times, two units further out each time.
 fn side_of_wire(alloc: Global, many: i64, out: i64) -> Result<Vec<Point>, AllocError> {
     let mut points = Vec::new(alloc);
     push(&mut points, 0, (-2i64).wrapping_sub(out))?;

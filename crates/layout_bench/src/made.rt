@@ -13,7 +13,7 @@ fn square(x: i32, y: i32) -> [(i32, i32); 4] {
     [(x, y), (right, y), (right, top), (x, top)]
 }
 
-/// A stream of one structure with so many boundaries.
+/// A stream of one structure with `count` boundaries.
 pub fn stream(alloc: Global, count: i32) -> Result<Vec<u8>> {
     let mut stream = Stream::new(alloc)?;
     stream.structure(b"TOP\0")?;

@@ -12,7 +12,7 @@ use std::alloc::{AllocError, Global};
 const PAST_MOST: u64 = 16_777_217;
 
 /// What is added up over the chains of a cell.
-#[derive(Clone, Copy, Debug, PartialEq, Eq)]
+#[derive(Clone, Copy)]
 pub(crate) enum Weight {
     One,
     OwnRings,

@@ -8,14 +8,14 @@ ghost use Rattle.lvl_cells.specs.inside.Walking.{EachTargetWithin, IsStepFrom, I
 use std::alloc::AllocError;
 
 /// A cell on the path from a root, and how many of its references are done with.
-#[derive(Clone, Copy, Debug, PartialEq, Eq)]
+#[derive(Clone, Copy)]
 pub(crate) struct Visit {
     pub(crate) cell: usize,
     done: usize,
 }
 
 /// How far a cell is looked at.
-#[derive(Clone, Copy, Debug, PartialEq, Eq)]
+#[derive(Clone, Copy)]
 pub(crate) enum Mark {
     New,
     Open,
@@ -24,7 +24,7 @@ pub(crate) enum Mark {
 
 /// A step of a walk: where the last cell on the path goes, or how many of its references are done
 /// with once it is past one.
-#[derive(Clone, Copy, Debug, PartialEq, Eq)]
+#[derive(Clone, Copy)]
 enum Move {
     Into(usize),
     Past(usize),

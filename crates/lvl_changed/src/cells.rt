@@ -39,7 +39,7 @@ fn most_windows(times: u64) -> usize {
     1
 }
 
-/// Nothing is known of so many cells.
+/// Nothing is known of any of `count` cells.
 fn none_known(alloc: Global, count: usize) -> Result<Vec<Option<Found>>, AllocError>
     ensures { IfOk result (λ known. known.items ≡ map (λ _. None) (range_with_len 0 count)) }
 {

@@ -3,7 +3,7 @@ use crate::windows::Windows;
 
 /// Outside of the windows a cell covers what its partner in the other library does, or nothing if it has
 /// none.
-#[derive(Debug, Drop)]
+#[derive(Drop)]
 pub(crate) struct Found {
     pub partner: Option<usize>,
     pub windows: Windows,

@@ -15,7 +15,7 @@ use std::alloc::{AllocError, Global};
 type Key = (usize, i64, i64, u8, bool);
 
 /// A cell that is placed once, by its index and the map that places it.
-#[derive(Clone, Copy, Debug, PartialEq, Eq)]
+#[derive(Clone, Copy, PartialEq, Eq)]
 pub(crate) struct Placement {
     cell: usize,
     map: Map,

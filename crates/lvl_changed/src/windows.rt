@@ -17,7 +17,7 @@ use lvl_grid::{Map, Point, Window};
 use std::alloc::{AllocError, Global};
 
 /// Windows of which no two share a square, and as few as they may be; or the whole plane.
-#[derive(Debug, Drop)]
+#[derive(Drop)]
 pub(crate) struct Windows {
     list: Vec<Window>,
     most: usize,

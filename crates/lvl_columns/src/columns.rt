@@ -20,7 +20,7 @@ use std::alloc::{AllocError, Global};
 
 /// What is left of two lists of rings in a column of the grid, and how many cuts made it, one within the
 /// other.
-#[derive(Debug, Drop)]
+#[derive(Drop)]
 pub struct Column {
     pub first: Rings,
     pub second: Rings,
@@ -29,7 +29,7 @@ pub struct Column {
 
 /// How far a comparison has come: the columns still to be compared, the least difference in the
 /// others, how many columns were made, and how many may be.
-#[derive(Debug, Drop)]
+#[derive(Drop)]
 pub struct Progress {
     pub pending: Vec<Column>,
     pub best: Option<(Square, Side)>,

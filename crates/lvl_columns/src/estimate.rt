@@ -9,7 +9,7 @@ use crate::sample::{Sample, over};
 use lvl_simplify::Outline;
 
 /// The vertical edges of sampled rings, cut to columns.
-#[derive(Clone, Copy, Debug)]
+#[derive(Clone, Copy)]
 struct Load {
     edges: u128,
     heights: u128,
@@ -69,7 +69,7 @@ impl Load {
 
 /// How many spanning pieces lie over each other on average, in sixteenths. They begin anywhere, one
 /// independent of the others, so `e` to the power of their number is about how many are joined to one.
-#[derive(Clone, Copy, Debug)]
+#[derive(Clone, Copy)]
 struct Layers(u128);
 
 impl Layers {
@@ -118,7 +118,7 @@ impl Layers {
 }
 
 /// The work of a sweep, counted in edges that are passed in a row.
-#[derive(Clone, Copy, Debug)]
+#[derive(Clone, Copy)]
 pub struct Work {
     /// How many edges there are.
     pub edges: u128,

@@ -11,7 +11,7 @@ const FEW: usize = 4096;
 const OFTEN: u128 = 64;
 
 /// The ordinates at which vertical edges begin, and those at which they end, both rising.
-#[derive(Debug, Drop)]
+#[derive(Drop)]
 struct Ends {
     lows: Vec<i64>,
     highs: Vec<i64>,

@@ -7,7 +7,7 @@ use std::alloc::{AllocError, Global};
 
 /// A Lehmer generator of pseudo-random numbers with a fixed seed, so that a comparison takes the same
 /// steps each time.
-#[derive(Debug, Drop)]
+#[derive(Drop)]
 struct Random(u64);
 
 impl Random {
@@ -19,7 +19,7 @@ impl Random {
 }
 
 /// Some rings of a list, taken at random; all of them where there are few.
-#[derive(Debug, Drop)]
+#[derive(Drop)]
 pub struct Sample {
     outlines: Vec<Outline>,
     points: Vec<Point>,

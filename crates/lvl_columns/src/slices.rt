@@ -7,14 +7,14 @@ use std::alloc::{AllocError, Global};
 const BITS: u32 = 18;
 
 /// How many edges begin in a slice, and how many end there.
-#[derive(Clone, Copy, Debug)]
+#[derive(Clone, Copy)]
 struct Slice {
     begun: usize,
     ended: usize,
 }
 
 /// Slices of the height of a list, from the lowest on, about as many as it has edges.
-#[derive(Debug, Drop)]
+#[derive(Drop)]
 pub struct Slices {
     slices: Vec<Slice>,
     low: i64,

@@ -26,7 +26,7 @@ pub(crate) type Found = (Layer, Square, Side);
 
 /// How wide the next strip may be, how many points a side's rings may have in it, and how many strips
 /// may be tried with that many.
-#[derive(Clone, Copy, Debug)]
+#[derive(Clone, Copy)]
 struct Pace {
     width: u64,
     points: usize,
@@ -67,7 +67,7 @@ impl Pace {
 }
 
 /// What two layouts differ in within a strip, which ends at an abscissa, and how the next is tried.
-#[derive(Clone, Copy, Debug)]
+#[derive(Clone, Copy)]
 struct Strip {
     found: Option<Found>,
     end: i64,

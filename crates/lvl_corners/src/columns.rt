@@ -18,7 +18,7 @@ use lvl_simplify::simplified;
 use std::alloc::{AllocError, Global};
 
 /// How many columns were made, and how many may be.
-#[derive(Clone, Copy, Debug)]
+#[derive(Clone, Copy)]
 pub struct Budget {
     pub made: u64,
     pub most: u64,

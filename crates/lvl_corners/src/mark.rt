@@ -2,7 +2,7 @@
 
 /// A corner of a rectangle. Where rectangles share no square, the change of what they cover at a
 /// point is the sum of those of the rectangles' own corners.
-#[derive(Clone, Copy, Debug, PartialEq, Eq)]
+#[derive(Clone, Copy)]
 pub struct Mark {
     pub x: i64,
     pub y: i64,

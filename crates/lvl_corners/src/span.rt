@@ -4,7 +4,7 @@ ghost use Rattle.lvl_sweep.specs.Ahead.{is_from};
 ghost use Rattle.lvl_corners.specs.inside.Spans.{is_below, spanned, whole, left_part, right_part};
 
 /// The abscissas from one on, if it is given, and below another, if that is given.
-#[derive(Clone, Copy, Debug)]
+#[derive(Clone, Copy)]
 pub struct Span {
     pub from: Option<i64>,
     pub below: Option<i64>,

@@ -11,7 +11,7 @@ use crate::sink::CornerSink;
 use std::alloc::AllocError;
 
 /// A point, and the sum of the changes of some marks there.
-#[derive(Clone, Copy, Debug, PartialEq, Eq)]
+#[derive(Clone, Copy)]
 pub struct Sum {
     pub x: i64,
     pub y: i64,

@@ -19,7 +19,7 @@ pub(crate) struct Reach {
 }
 
 /// The squares with `x0 <= x < x1` and `y0 <= y < y1`, in whole numbers that hold any band.
-#[derive(Clone, Copy, Debug, PartialEq, Eq)]
+#[derive(Clone, Copy)]
 pub(crate) struct Band {
     pub x0: i128,
     pub y0: i128,

@@ -6,7 +6,7 @@ use lvl_grid::Point;
 
 /// The way in which a step goes. One that is not straight has no way of its own, and counts as
 /// one along y.
-#[derive(Clone, Copy, Debug, PartialEq, Eq)]
+#[derive(Clone, Copy)]
 pub(crate) enum Way {
     East,
     North,

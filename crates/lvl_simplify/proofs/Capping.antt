@@ -110,7 +110,7 @@ unit_bounds true false true = (omega (arith, ints), omega (arith, ints))
 unit_bounds true false false = (omega (arith, ints), omega (arith, ints))
 unit_bounds false b c = (omega (arith, ints), omega (arith, ints))
 
--- so many edges wind so often at most, one way or the other
+-- n edges wind at most n times, one way or the other
 pub winding_bounds : (s : Square) (us : List Upright)
     → ((pos 0 -ℤ pos (length us)) ≤ℤ winding_by s us) × (winding_by s us ≤ℤ pos (length us))
 winding_bounds s [] = (omega (arith, ints), omega (arith, ints))

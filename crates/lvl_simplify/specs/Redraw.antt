@@ -12,7 +12,7 @@ use Rattle.lvl_simplify.specs.declared.redraw.Ends.{Ends}
 abbrev pub NotLeftOf : ℤ → Point → Type 0
 NotLeftOf left p = left ≤ℤ p.x
 
--- so many windings, if an abscissa is right of the square
+-- the number of windings, if an abscissa is right of the square
 abbrev pub if_right : Square → ℤ → ℤ → ℤ
 if_right s x windings = cond (int_lt s.x x) windings (pos 0)
 

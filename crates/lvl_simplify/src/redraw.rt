@@ -16,7 +16,7 @@ use lvl_grid::{Point, Ring};
 use std::alloc::{AllocError, Global};
 
 /// A vertical edge.
-#[derive(Clone, Copy, Debug)]
+#[derive(Clone, Copy)]
 pub struct Upright {
     pub x: i64,
     pub from: i64,
@@ -24,14 +24,14 @@ pub struct Upright {
 }
 
 /// The vertical edges of a ring; of those at the right border, the turns.
-#[derive(Debug, Drop)]
+#[derive(Drop)]
 pub struct Edges {
     pub inner: Vec<Upright>,
     pub turns: Vec<Turn>,
 }
 
 /// The ordinates where edges at the right border begin and where they end.
-#[derive(Debug, Drop)]
+#[derive(Drop)]
 pub struct Ends {
     pub begins: Vec<i64>,
     pub ends: Vec<i64>,
@@ -98,7 +98,7 @@ impl Ends {
     }
 }
 
-/// Whether a turn from so many windings to so many changes them where they are capped.
+/// Whether a turn from one number of windings to another changes them where they are capped.
 fn is_kept(windings: i64, counted: i64, least: i64, most: i64) -> bool
     ensures { IsTrue result ↔ (((least ≤ℤ windings) × (windings ≤ℤ most)) × (least ≤ℤ counted) × (counted ≤ℤ most)) }
 {

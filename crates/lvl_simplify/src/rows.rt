@@ -10,7 +10,7 @@ use std::alloc::{AllocError, Global};
 
 /// An ordinate from which on upwards a ring winds once more, or once less, round the squares of a
 /// column.
-#[derive(Clone, Copy, Debug)]
+#[derive(Clone, Copy)]
 pub struct Turn {
     pub y: i64,
     pub more: bool,

@@ -42,7 +42,7 @@ pub record IsHeaded {A : Type 0} (character : ℕ) (P : List ℕ → A → Type 
   pub headed : text ≡ character ∷ rest
   pub rest_is : P rest a
 
--- 1 to so many decimal digits
+-- decimal digits: one, and no more than the most
 pub record IsDigits (most : ℕ) (text : List ℕ) : Type 0 where
   pub some : 1 ≤ length text
   pub few : length text ≤ most

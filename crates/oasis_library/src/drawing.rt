@@ -14,7 +14,7 @@ use std::alloc::{AllocError, Global};
 use std::marker::Model;
 
 /// A cell by its number or its name, with the shapes and the placements of its records so far.
-#[derive(Debug, Drop)]
+#[derive(Drop)]
 pub(crate) struct Drawing {
     pub(crate) name: Target,
     pub(crate) shapes: Shapes,

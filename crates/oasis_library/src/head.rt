@@ -21,7 +21,7 @@ pub struct OasisHead {
 }
 
 /// What START and END said so far.
-#[derive(Clone, Copy, Debug, Drop)]
+#[derive(Clone, Copy, Drop)]
 pub(crate) struct HeadRecords {
     unit: Real,
     validation: Validation,

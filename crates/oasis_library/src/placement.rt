@@ -10,7 +10,7 @@ use std::alloc::{AllocError, Global};
 use std::marker::Model;
 
 /// The cell that is placed.
-#[derive(Debug, Drop)]
+#[derive(Drop)]
 pub(crate) enum Target {
     /// By the number of its name.
     Number(u64),
@@ -58,7 +58,7 @@ impl Target {
 }
 
 /// A cell that is placed by a map, at each of the shifts. Every place is within 64 signed bits.
-#[derive(Debug, Drop)]
+#[derive(Drop)]
 pub(crate) struct Placement {
     pub(crate) target: Target,
     pub(crate) by: Map,

@@ -190,7 +190,7 @@ fn end_of<R: Read>(
     must(whole, Record::End(validation), RecordRule::EndLength)
 }
 
-/// An END record after its id, which has so many bytes. Its length is tested before the padding is read,
+/// An END record after its id, which has `id_len` bytes. Its length is tested before the padding is read,
 /// and at its end.
 pub(crate) fn read_end<R: Read>(
     input: &mut Input<R>,

@@ -59,7 +59,7 @@ pub struct Path {
 }
 
 /// What comes before the point list.
-#[derive(Clone, Copy, Debug, Drop, PartialEq, Eq)]
+#[derive(Clone, Copy, Drop)]
 pub struct Stroke {
     info: u8,
     on: OnLayer,
@@ -68,7 +68,7 @@ pub struct Stroke {
 }
 
 /// The kinds of extensions.
-#[derive(Clone, Copy, Debug, Drop, PartialEq, Eq)]
+#[derive(Clone, Copy, Drop)]
 pub enum Kind {
     Modal,
     Flush,

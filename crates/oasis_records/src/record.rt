@@ -45,7 +45,7 @@ pub enum Record {
     Path(Path),
 }
 
-/// The fields of a record of that type, after its id, which has so many bytes. END has the offsets of
+/// The fields of a record of that type, after its id, which has `id_len` bytes. END has the offsets of
 /// tables where START says so.
 ///
 /// Each field is tested as it is read. The id has to be read before, so that the input hasn't failed.

@@ -297,7 +297,7 @@ fn read_by(
     Ok(library)
 }
 
-/// One cell with one shape, which is one ring at so many places.
+/// One cell with one shape, which is one ring at the given number of places.
 fn check_shape(rt: &impl Abort, library: &Library, places: u64) -> Result<(), Fail> {
     assert_eq!(rt; library.cells.len(), 1);
     let shapes = &library.cells.first().ok_or("a cell")?.shapes;

@@ -136,7 +136,7 @@ fn reads_a_square(rt: HostRuntime) -> Result<(), Fail> {
     check_file(&rt, rt.alloc(), &bytes)
 }
 
-/// These bytes, each followed by so many zeros.
+/// These bytes, each followed by a number of zeros.
 fn with_zeros(alloc: Global, parts: &[(&[u8], usize)]) -> Result<Vec<u8>, AllocError> {
     let mut bytes = Vec::new(alloc);
     for (part, zeros) in parts {

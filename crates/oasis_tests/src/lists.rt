@@ -138,7 +138,7 @@ fn the_modal_repetition(rt: HostRuntime) -> Result<(), Fail> {
     Ok(())
 }
 
-/// A repetition at so many places, or the fault.
+/// A repetition at the given number of places, or the fault.
 fn check_count(
     rt: &impl Abort,
     read: &Result<Repetition, Cause<ValueFault>>,

@@ -12,7 +12,7 @@ const LISTED: &[u8] = b"\x14\x7F\x01\x00\x01\x01\x00\x00\x04\x9E\x8D\x06";
 /// A polygon with a point list of its own, and the same again by the modal list.
 const POLYGON: &[u8] = b"\x15\x3B\x01\x00\x00\x02\x14\x14\x00\x00";
 
-/// A first record with so many spaces of 2 at its end, and 1,000 times the other one.
+/// A first record with a number of spaces of 2 at its end, and 1,000 times the other one.
 fn repeated(
     alloc: Global,
     first: &[u8],

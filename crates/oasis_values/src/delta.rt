@@ -9,7 +9,7 @@ use lvl_grid::Point;
 use lvl_io::Read;
 
 /// The directions of deltas.
-#[derive(Clone, Copy, Debug, Drop, PartialEq, Eq)]
+#[derive(Clone, Copy, Drop)]
 pub enum Direction {
     East,
     North,

@@ -19,7 +19,7 @@ const CONTINUES: u8 = 128;
 const HIGHEST_UNIT: u64 = 1 << 63;
 
 /// What is at the front of some bytes.
-#[derive(Clone, Copy, Debug, PartialEq, Eq)]
+#[derive(Clone, Copy)]
 pub enum Leading {
     /// An integer, and of how many bytes.
     Whole(u64, usize),

@@ -29,7 +29,7 @@ pub enum Real {
 }
 
 /// The types of reals.
-#[derive(Clone, Copy, Debug, Drop, PartialEq, Eq)]
+#[derive(Clone, Copy, Drop)]
 pub enum RealType {
     Whole,
     NegWhole,

@@ -22,7 +22,7 @@ pub enum Use {
 }
 
 /// The types of point lists.
-#[derive(Clone, Copy, Debug, Drop, PartialEq, Eq)]
+#[derive(Clone, Copy, Drop)]
 pub enum ListType {
     /// 1-deltas, along x and along y in turn.
     HorizontalFirst,
@@ -40,7 +40,7 @@ pub enum ListType {
 
 /// Where a list of vertices is: at this vertex, after this step, and along which axis a 1-delta goes
 /// from here.
-#[derive(Clone, Copy, Debug, Drop, PartialEq, Eq)]
+#[derive(Clone, Copy, Drop)]
 pub struct Walk {
     at: Point,
     by: Point,

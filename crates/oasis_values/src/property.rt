@@ -10,7 +10,7 @@ use crate::text::Text;
 use lvl_io::Read;
 
 /// The types of values.
-#[derive(Clone, Copy, Debug, Drop, PartialEq, Eq)]
+#[derive(Clone, Copy, Drop)]
 pub enum ValueType {
     Real(RealType),
     Unsigned,

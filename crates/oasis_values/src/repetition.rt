@@ -25,7 +25,7 @@ pub enum Repetition {
 }
 
 /// What repetitions of a type are made of.
-#[derive(Clone, Copy, Debug, Drop, PartialEq, Eq)]
+#[derive(Clone, Copy, Drop)]
 pub enum Kind {
     /// Nothing: the modal repetition.
     Modal,
@@ -38,7 +38,7 @@ pub enum Kind {
 }
 
 /// How many places a repetition along two steps has.
-#[derive(Clone, Copy, Debug, Drop, PartialEq, Eq)]
+#[derive(Clone, Copy, Drop)]
 pub struct Size {
     columns: u64,
     rows: u64,
@@ -248,7 +248,7 @@ impl<R: Read> Input<R> {
         self.spread_of(alloc, spacing, gridded, count)
     }
 
-    // A list of so many places after the first.
+    // A list of places after the first, by their number.
     fn spread_of(
         &mut self,
         alloc: Global,

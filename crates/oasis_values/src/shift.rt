@@ -8,7 +8,7 @@ use lvl_grid::Point;
 use lvl_io::Read;
 
 /// Along what the spaces of a repetition go.
-#[derive(Clone, Copy, Debug, Drop, PartialEq, Eq)]
+#[derive(Clone, Copy, Drop)]
 pub enum Spacing {
     /// Unsigned spaces along x.
     AlongX,
@@ -19,7 +19,7 @@ pub enum Spacing {
 }
 
 /// A space, which may be greater than any coordinate.
-#[derive(Clone, Copy, Debug, Drop, PartialEq, Eq)]
+#[derive(Clone, Copy, Drop)]
 pub struct Far {
     x: i128,
     y: i128,

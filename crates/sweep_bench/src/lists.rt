@@ -162,7 +162,7 @@ fn nth_shape(kind: Kind, count: i64, number: i64, seed: u64) -> Shape {
 }
 
 impl Pair {
-    /// The mask of so many rectangles of this kind, drawn in two ways.
+    /// The mask of `count` rectangles of this kind, drawn in two ways.
     pub fn new(alloc: Global, kind: Kind, count: i64, seed: u64) -> Result<Pair, AllocError> {
         match kind {
             Kind::Combs => polygons(alloc, count, 2000, seed),
@@ -217,7 +217,7 @@ fn in_order(alloc: Global, kind: Kind, count: i64, seed: u64) -> Result<Pair, Al
     })
 }
 
-/// Polygons of so many teeth of different heights, with gaps between them where there are many, and
+/// Polygons of many teeth of different heights, with gaps between them where there are many, and
 /// the rectangles that they are made of: `count` teeth in all.
 fn polygons(alloc: Global, count: i64, teeth: i64, seed: u64) -> Result<Pair, AllocError> {
     let mut first = Rings::new(alloc);

@@ -2,7 +2,7 @@
 //!
 //! `sweep_bench WAY KIND COUNT`, with the way `columns` or `sweep`, prints how long it took to make
 //! the lists, to compare them, and to sort their vertical edges once; with a number of layers after that,
-//! for so many such pairs. Without words it compares a few small lists of each kind both ways, and
+//! for that number of such pairs. Without words it compares a few small lists of each kind both ways, and
 //! prints nothing.
 #![tactic(auto)]
 
@@ -121,7 +121,7 @@ fn time_pair(
     })
 }
 
-/// Times so many pairs of lists, one after another.
+/// Times `count` pairs of lists, one after another.
 fn time(
     rt: &(impl Clock + Print),
     alloc: Global,

@@ -26,7 +26,7 @@ fn integers(alloc: Global, count: u32, len: u32) -> Result<Vec<u8>> {
     Ok(bytes)
 }
 
-/// The sum of so many integers.
+/// The sum of `count` integers.
 fn read_values(bytes: &[u8], count: u32) -> Result<u64> {
     let mut values = Input::new(Pieces::new(bytes, usize::MAX), Ignore::NOTHING);
     let mut sum = 0_u64;
@@ -53,7 +53,7 @@ fn read_plainly(bytes: &[u8]) -> u64 {
     sum
 }
 
-/// A repetition of so many places by g-deltas, after its type.
+/// A repetition of `count` places by g-deltas, after its type.
 fn repetition(alloc: Global, count: u32) -> Result<Vec<u8>> {
     let mut bytes = Vec::new(alloc);
     bytes.push(10)?;
