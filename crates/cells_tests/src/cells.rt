@@ -100,122 +100,97 @@ fn add_names(text: &mut String, names: &[Vec<u8>]) -> Result<(), Fail> {
     Ok(())
 }
 
+/// What happened, and the names that belong to it.
+fn named(alloc: Global, what: &str, names: &[Vec<u8>]) -> Result<String, Fail> {
+    let mut text = String::from_str(alloc, what)?;
+    add_names(&mut text, names)?;
+    Ok(text)
+}
+
+fn fault_text(alloc: Global, fault: CellFault) -> Result<String, Fail> {
+    match fault {
+        CellFault::DuplicateCell(name) => named(alloc, "DuplicateCell", &[name]),
+        CellFault::MissingCell(from, name) => named(alloc, "MissingCell", &[from, name]),
+        CellFault::Cycle(names) => named(alloc, "Cycle", &names),
+        other => Ok(format!(in alloc; "{other:?}")?),
+    }
+}
+
+fn top_text(alloc: Global, checked: &Checked) -> Result<String, Fail> {
+    let top = checked.cells().get(checked.top()).ok_or("a top")?;
+    let name = Vec::from_slice(alloc, &top.name)?;
+    named(alloc, "top", &[name])
+}
+
 /// The top's name, or the fault and the names that it carries.
 fn text_of(alloc: Global, answer: Result<Checked, Cause<CellFault>>) -> Result<String, Fail> {
-    let mut text = String::new(alloc);
     match answer {
-        Ok(checked) => {
-            text.push_str("top ")?;
-            for cell in checked.cells().iter().skip(checked.top()).take(1) {
-                for byte in &cell.name {
-                    text.push(char::from(*byte))?;
-                }
-            }
-        }
-        Err(Cause::Breach(CellFault::NoCell)) => text.push_str("NoCell")?,
-        Err(Cause::Breach(CellFault::DuplicateCell(name))) => {
-            text.push_str("DuplicateCell")?;
-            add_names(&mut text, &[name])?;
-        }
-        Err(Cause::Breach(CellFault::MissingCell(from, name))) => {
-            text.push_str("MissingCell")?;
-            add_names(&mut text, &[from, name])?;
-        }
-        Err(Cause::Breach(CellFault::Cycle(names))) => {
-            text.push_str("Cycle")?;
-            add_names(&mut text, &names)?;
-        }
-        Err(Cause::Breach(CellFault::TopMissing)) => text.push_str("TopMissing")?,
-        Err(Cause::Breach(CellFault::ManyTops)) => text.push_str("ManyTops")?,
-        Err(Cause::Breach(CellFault::TooManyPlacements)) => text.push_str("TooManyPlacements")?,
-        Err(Cause::Breach(CellFault::TooManyRings)) => text.push_str("TooManyRings")?,
-        Err(Cause::OutOfMemory) => text.push_str("OutOfMemory")?,
+        Ok(checked) => top_text(alloc, &checked),
+        Err(Cause::Breach(fault)) => fault_text(alloc, fault),
+        Err(Cause::OutOfMemory) => Ok(String::from_str(alloc, "OutOfMemory")?),
     }
-    Ok(text)
+}
+
+/// What a library is, each of its cells with those that it places, the top that is named, and what the check
+/// says.
+const SOUNDNESS: &str = "\
+no cell | | | NoCell
+cell-fault-order | A; A; B X | | DuplicateCell A
+cell-fault-order | A; B X | | MissingCell B X
+cycle | A B; B A; C | | Cycle A B
+itself | A A | | Cycle A
+aside | TOP; A B; B C; C A | | Cycle A B C
+entered late | T C; A B; B C; C A | | Cycle A B C
+after others | T U B; U; B U C; C U B | | Cycle B C
+top missing | A | X | TopMissing
+many tops | A; B | | ManyTops
+a top below | A B; B | B | top B
+the only top | B; A B | | top A
+a diamond | D; B D; C D B; A B C | | top A
+a cycle before the top | A A; B | X | Cycle A
+a missing cell before a cycle | A A; B X | | MissingCell B X
+";
+
+/// What is before the mark, and what is after it.
+fn cut<'a>(text: &'a str, mark: &str) -> (&'a str, &'a str) {
+    text.split_once(mark).unwrap_or((text, ""))
+}
+
+/// A cell and the names of those that it places.
+fn cell_of(alloc: Global, words: &str) -> Result<Cell, Fail> {
+    let mut words = words.split_whitespace();
+    let mut cell = empty(alloc, words.next().ok_or("a name")?.as_bytes())?;
+    for other in words {
+        let reference = placing(alloc, other.as_bytes(), Offsets::single())?;
+        cell.references.push(reference)?;
+    }
+    Ok(cell)
+}
+
+fn library_of_text(alloc: Global, text: &str) -> Result<Library, Fail> {
+    let mut cells = Vec::new(alloc);
+    for words in text.split(';') {
+        if !words.trim().is_empty() {
+            cells.push(cell_of(alloc, words)?)?;
+        }
+    }
+    Ok(Library { cells })
+}
+
+/// What the check says of the library, with that top if it isn't empty.
+fn checked_text(alloc: Global, cells: &str, top: &str) -> Result<String, Fail> {
+    let library = library_of_text(alloc, cells)?;
+    let top = (!top.is_empty()).then_some(top.as_bytes());
+    text_of(alloc, check(alloc, library, top))
 }
 
 #[test]
 fn soundness(rt: HostRuntime) -> Result<(), Fail> {
-    let rows: [(&str, &[(&str, &[&str])], Option<&[u8]>, &str); 15] = [
-        ("no cell", &[], None, "NoCell"),
-        (
-            "cell-fault-order",
-            &[("A", &[]), ("A", &[]), ("B", &["X"])],
-            None,
-            "DuplicateCell A",
-        ),
-        (
-            "cell-fault-order",
-            &[("A", &[]), ("B", &["X"])],
-            None,
-            "MissingCell B X",
-        ),
-        (
-            "cycle",
-            &[("A", &["B"]), ("B", &["A"]), ("C", &[])],
-            None,
-            "Cycle A B",
-        ),
-        ("itself", &[("A", &["A"])], None, "Cycle A"),
-        (
-            "aside",
-            &[("TOP", &[]), ("A", &["B"]), ("B", &["C"]), ("C", &["A"])],
-            None,
-            "Cycle A B C",
-        ),
-        (
-            "entered late",
-            &[("T", &["C"]), ("A", &["B"]), ("B", &["C"]), ("C", &["A"])],
-            None,
-            "Cycle A B C",
-        ),
-        (
-            "after others",
-            &[
-                ("T", &["U", "B"]),
-                ("U", &[]),
-                ("B", &["U", "C"]),
-                ("C", &["U", "B"]),
-            ],
-            None,
-            "Cycle B C",
-        ),
-        ("top missing", &[("A", &[])], Some(b"X"), "TopMissing"),
-        ("many tops", &[("A", &[]), ("B", &[])], None, "ManyTops"),
-        (
-            "a top below",
-            &[("A", &["B"]), ("B", &[])],
-            Some(b"B"),
-            "top B",
-        ),
-        ("the only top", &[("B", &[]), ("A", &["B"])], None, "top A"),
-        (
-            "a diamond",
-            &[
-                ("D", &[]),
-                ("B", &["D"]),
-                ("C", &["D", "B"]),
-                ("A", &["B", "C"]),
-            ],
-            None,
-            "top A",
-        ),
-        (
-            "a cycle before the top",
-            &[("A", &["A"]), ("B", &[])],
-            Some(b"X"),
-            "Cycle A",
-        ),
-        (
-            "a missing cell before a cycle",
-            &[("A", &["A"]), ("B", &["X"])],
-            None,
-            "MissingCell B X",
-        ),
-    ];
-    for (name, cells, top, want) in rows {
-        let library = library_of(rt.alloc(), cells)?;
-        let text = text_of(rt.alloc(), check(rt.alloc(), library, top))?;
+    for row in SOUNDNESS.lines() {
+        let (name, row) = cut(row, " |");
+        let (cells, row) = cut(row, " |");
+        let (top, want) = cut(row, "| ");
+        let text = checked_text(rt.alloc(), cells, top.trim())?;
         assert_eq!(rt; text.as_str(), want, "{name}");
     }
     Ok(())

@@ -90,3 +90,16 @@ pub(crate) fn library(alloc: Global, text: &str) -> Result<Checked, Fail> {
 pub(crate) fn fitted(alloc: Global, text: &str) -> Result<Fitted, Fail> {
     Ok(Fitted::new(alloc, library(alloc, text)?)?)
 }
+
+/// Two libraries that are compared.
+#[derive(Drop)]
+pub(crate) struct Pair {
+    pub(crate) first: Fitted,
+    pub(crate) second: Fitted,
+}
+
+pub(crate) fn fitted_pair(alloc: Global, ours: &str, theirs: &str) -> Result<Pair, Fail> {
+    let first = fitted(alloc, ours)?;
+    let second = fitted(alloc, theirs)?;
+    Ok(Pair { first, second })
+}

@@ -1,8 +1,7 @@
 //! Made pairs of libraries: the second is the first with one part exchanged, and written in another order.
-use crate::layouts::fitted;
+use crate::layouts::{Pair, fitted};
 use lvl_changed::{difference_by_changes, same_by_cells};
 use lvl_compare::difference_by_strips;
-use lvl_flat::Fitted;
 use lvl_view::View;
 use std::alloc::{AllocError, Global};
 use std::test::Fail;
@@ -140,35 +139,41 @@ fn made_view(alloc: Global, seed: u64) -> Result<View, Fail> {
 }
 
 /// Whether both comparisons find the same, and whether something was found.
-fn compared(
-    alloc: Global,
-    first: &Fitted,
-    second: &Fitted,
-    view: &View,
-) -> Result<(bool, bool), AllocError> {
-    let found = difference_by_changes(alloc, first, second, view, 64)?;
-    let plain = difference_by_strips(alloc, first, second, view, 1 << 20)?;
+fn compared(alloc: Global, pair: &Pair, view: &View) -> Result<(bool, bool), AllocError> {
+    let found = difference_by_changes(alloc, &pair.first, &pair.second, view, 64)?;
+    let plain = difference_by_strips(alloc, &pair.first, &pair.second, view, 1 << 20)?;
     Ok((found == plain, found.is_some()))
 }
 
 /// Whether the plane is the same where the cells are.
-fn cells_agree(alloc: Global, first: &Fitted, second: &Fitted) -> Result<bool, AllocError> {
-    if !same_by_cells(alloc, first, second)? {
+fn cells_agree(alloc: Global, pair: &Pair) -> Result<bool, AllocError> {
+    if !same_by_cells(alloc, &pair.first, &pair.second)? {
         return Ok(true);
     }
     let view = View::whole(alloc);
-    Ok(difference_by_strips(alloc, first, second, &view, 1 << 20)?.is_none())
+    let found = difference_by_strips(alloc, &pair.first, &pair.second, &view, 1 << 20)?;
+    Ok(found.is_none())
 }
 
-/// Whether every comparison of a made pair agrees, and whether it differs.
+/// Whether every comparison of a pair agrees, and whether it differs under the view.
+fn judged(alloc: Global, pair: &Pair, view: &View) -> Result<(bool, bool), AllocError> {
+    let (agrees, differs) = compared(alloc, pair, view)?;
+    Ok((agrees && cells_agree(alloc, pair)?, differs))
+}
+
+/// The library of these parts, and that of the others in another order.
+fn pair_of(alloc: Global, parts: Parts, others: Parts) -> Result<Pair, Fail> {
+    let first = fitted(alloc, &library_text(alloc, parts)?)?;
+    let second = fitted(alloc, &text_in_another_order(alloc, others)?)?;
+    Ok(Pair { first, second })
+}
+
+/// The same of a made pair.
 fn made_pair(alloc: Global, seed: u64) -> Result<(bool, bool), Fail> {
     let parts = made(seed);
-    let changed = with_one_changed(parts, next_made(seed));
-    let first = fitted(alloc, library_text(alloc, parts)?.as_str())?;
-    let second = fitted(alloc, text_in_another_order(alloc, changed)?.as_str())?;
+    let pair = pair_of(alloc, parts, with_one_changed(parts, next_made(seed)))?;
     let view = made_view(alloc, next_made(next_made(seed)))?;
-    let (agrees, differs) = compared(alloc, &first, &second, &view)?;
-    Ok((agrees && cells_agree(alloc, &first, &second)?, differs))
+    Ok(judged(alloc, &pair, &view)?)
 }
 
 #[test]

@@ -1,14 +1,19 @@
 //! Pairs of libraries that differ by one change each.
-use crate::layouts::{cut, fitted, library};
+use crate::layouts::{Pair, cut, fitted_pair, library};
 use lvl_changed::{changed, difference_by_changes, pays_by_cells, same_by_cells};
 use lvl_compare::difference_by_strips;
-use lvl_flat::{Fitted, fits_by_boxes};
+use lvl_flat::fits_by_boxes;
 use lvl_grid::{Square, Window};
 use lvl_names::Layer;
 use lvl_region::Side;
 use lvl_view::View;
 use std::alloc::{AllocError, Global};
 use std::test::Fail;
+
+const METAL: Layer = Layer {
+    layer: 1,
+    datatype: 0,
+};
 
 /// The windows from left to right, each as its four coordinates.
 pub(crate) fn windows_text(alloc: Global, mut windows: Vec<Window>) -> Result<String, AllocError> {
@@ -23,9 +28,9 @@ pub(crate) fn windows_text(alloc: Global, mut windows: Vec<Window>) -> Result<St
 }
 
 /// Where both may differ, or `anywhere`.
-fn changed_text(alloc: Global, first: &Fitted, second: &Fitted) -> Result<String, AllocError> {
+fn changed_text(alloc: Global, pair: &Pair) -> Result<String, AllocError> {
     let view = View::whole(alloc);
-    match changed(alloc, first, second, &view)? {
+    match changed(alloc, &pair.first, &pair.second, &view)? {
         Some(windows) => windows_text(alloc, windows),
         None => String::from_str(alloc, " anywhere"),
     }
@@ -94,72 +99,91 @@ and in a cell renamed | T A,0,8,0 M,-1000,1,0; M B,9223372036854775800,1,0; A 0.
     T A,0,8,0 N,-1000,1,0; N B,9223372036854775800,1,0; A 0..2; B 0..9 | anywhere | -
 ";
 
-/// The first square that differs, found by `difference_by_changes`, which has to be what strips find.
-fn difference_text(
+/// What changes find, and whether strips find the same.
+fn found_twice(
     alloc: Global,
-    first: &Fitted,
-    second: &Fitted,
+    pair: &Pair,
     most: usize,
-) -> Result<String, Fail> {
+) -> Result<(Option<(Layer, Square, Side)>, bool), Fail> {
     let view = View::whole(alloc);
-    let found = difference_by_changes(alloc, first, second, &view, most)?;
-    if found != difference_by_strips(alloc, first, second, &view, most)? {
+    let found = difference_by_changes(alloc, &pair.first, &pair.second, &view, most)?;
+    let plain = difference_by_strips(alloc, &pair.first, &pair.second, &view, most)?;
+    Ok((found, found == plain))
+}
+
+/// The first square that differs, found by `difference_by_changes`, which has to be what strips find.
+fn difference_text(alloc: Global, pair: &Pair, most: usize) -> Result<String, Fail> {
+    let (found, is_plain) = found_twice(alloc, pair, most)?;
+    if !is_plain {
         return Ok(String::from_str(alloc, "not what strips find")?);
     }
     Ok(found_text(alloc, found)?)
 }
 
 /// Whether these are the windows in which both libraries may differ.
-fn changes_within(alloc: Global, [ours, theirs]: [&str; 2], windows: &str) -> Result<bool, Fail> {
-    let first = fitted(alloc, ours)?;
-    let second = fitted(alloc, theirs)?;
-    Ok(changed_text(alloc, &first, &second)?.as_str() == windows)
-}
-
-fn are_same_by_cells(alloc: Global, [ours, theirs]: [&str; 2]) -> Result<bool, Fail> {
-    let first = fitted(alloc, ours)?;
-    let second = fitted(alloc, theirs)?;
-    Ok(same_by_cells(alloc, &first, &second)?)
+fn changes_within(alloc: Global, pair: &Pair, windows: &str) -> Result<bool, Fail> {
+    Ok(changed_text(alloc, pair)?.as_str() == windows)
 }
 
 /// Whether this is the first square that differs.
-fn differs_by(alloc: Global, [ours, theirs]: [&str; 2], want: &str) -> Result<bool, Fail> {
-    let first = fitted(alloc, ours)?;
-    let second = fitted(alloc, theirs)?;
-    Ok(difference_text(alloc, &first, &second, 1 << 20)?.as_str() == want)
+fn differs_by(alloc: Global, pair: &Pair, want: &str) -> Result<bool, Fail> {
+    Ok(difference_text(alloc, pair, 1 << 20)?.as_str() == want)
+}
+
+/// What is wrong of a pair, if something is.
+fn first_wrong(
+    alloc: Global,
+    pair: &Pair,
+    windows: &str,
+    want: &str,
+) -> Result<Option<&'static str>, Fail> {
+    if !changes_within(alloc, pair, windows)? {
+        return Ok(Some("windows"));
+    }
+    if same_by_cells(alloc, &pair.first, &pair.second)? != windows.is_empty() {
+        return Ok(Some("cells"));
+    }
+    let is_right = differs_by(alloc, pair, want)?;
+    Ok((!is_right).then_some("difference"))
+}
+
+/// The same, of the libraries of a row.
+fn wrong_in_row(alloc: Global, row: &str) -> Result<Option<&'static str>, Fail> {
+    let (ours, row) = cut(row, " | ");
+    let (theirs, row) = cut(row, " |");
+    let (windows, want) = cut(row, " | ");
+    let pair = fitted_pair(alloc, ours, theirs)?;
+    first_wrong(alloc, &pair, windows, want)
 }
 
 #[test]
 fn pairs_of_libraries(rt: HostRuntime) -> Result<(), Fail> {
-    let alloc = rt.alloc();
     for row in PAIRS.lines() {
         let (name, row) = cut(row, " | ");
-        let (ours, row) = cut(row, " | ");
-        let (theirs, row) = cut(row, " |");
-        let (windows, want) = cut(row, " | ");
-        let pair = [ours, theirs];
-        assert!(rt; changes_within(alloc, pair, windows)?, "{name}");
-        assert_eq!(rt;
-            are_same_by_cells(alloc, pair)?,
-            windows.is_empty(),
-            "{name}"
-        );
-        assert!(rt; differs_by(alloc, pair, want)?, "{name}");
+        assert_eq!(rt; wrong_in_row(rt.alloc(), row)?, None, "{name}");
     }
     Ok(())
+}
+
+fn many_changed(alloc: Global) -> Result<Pair, Fail> {
+    fitted_pair(alloc, "T A,0,500,0; A 0..2", "T B,0,500,0; B 0..2 5..6")
+}
+
+/// How many windows there are outside of which both cover the same.
+fn windows_of(alloc: Global, pair: &Pair) -> Result<usize, Fail> {
+    let view = View::whole(alloc);
+    let windows = changed(alloc, &pair.first, &pair.second, &view)?;
+    Ok(windows.ok_or("windows")?.len())
 }
 
 /// Of many windows 64 are kept, and no square is lost.
 #[test]
 fn many_windows(rt: HostRuntime) -> Result<(), Fail> {
-    let alloc = rt.alloc();
-    let view = View::whole(alloc);
-    let first = fitted(alloc, "T A,0,500,0; A 0..2")?;
-    let second = fitted(alloc, "T B,0,500,0; B 0..2 5..6")?;
-    let windows = changed(alloc, &first, &second, &view)?.ok_or("windows")?;
-    assert_eq!(rt; windows.len(), 64);
-    let found = difference_text(alloc, &first, &second, 16)?;
-    assert_eq!(rt; found.as_str(), "1 5 0 second");
+    let pair = many_changed(rt.alloc())?;
+    assert_eq!(rt; windows_of(rt.alloc(), &pair)?, 64);
+    let (found, is_plain) = found_twice(rt.alloc(), &pair, 16)?;
+    assert!(rt; is_plain);
+    assert_eq!(rt; found, Some((METAL, Square { x: 5, y: 0 }, Side::Second)));
     Ok(())
 }
 
@@ -178,32 +202,36 @@ past the left end, turned | T A,-9223372036854775807,1,180; A 0..2 | false | fal
 along the other axis | T A,-9223372036854775807,1,90; A 0..2 | true | false
 ";
 
+/// Whether its boxes fit, and whether it pays to compare it cell by cell.
+fn judged(alloc: Global, text: &str) -> Result<(bool, bool), Fail> {
+    let library = library(alloc, text)?;
+    let fits = fits_by_boxes(alloc, &library)?;
+    Ok((fits, pays_by_cells(alloc, &library)?))
+}
+
 #[test]
 fn single_libraries(rt: HostRuntime) -> Result<(), Fail> {
-    let alloc = rt.alloc();
     for row in SINGLE.lines() {
         let (name, row) = cut(row, " | ");
         let (text, row) = cut(row, " | ");
         let (fits, pays) = cut(row, " | ");
-        let library = library(alloc, text)?;
-        assert_eq!(rt; fits_by_boxes(alloc, &library)?, fits == "true", "{name}");
-        assert_eq!(rt; pays_by_cells(alloc, &library)?, pays == "true", "{name}");
+        let want = (fits == "true", pays == "true");
+        assert_eq!(rt; judged(rt.alloc(), text)?, want, "{name}");
     }
     Ok(())
+}
+
+fn growing(alloc: Global) -> Result<Pair, Fail> {
+    let ours = "T M,0,3,0 B,90,1,0; M A,5,2,90; A 0..9; B 0..1";
+    let theirs = "T M,10,2,0 M,0,1,0 B,90,1,0; M A,5,2,90; A 4..9 0..4; B 0..2";
+    fitted_pair(alloc, ours, theirs)
 }
 
 /// Run with each allocation refused in turn: it ends with that, or each answer is the libraries' own.
 #[test]
 fn growths_of_changes(rt: HostRuntime) -> Result<(), Fail> {
-    let alloc = rt.alloc();
-    let first = fitted(alloc, "T M,0,3,0 B,90,1,0; M A,5,2,90; A 0..9; B 0..1")?;
-    let second = fitted(
-        alloc,
-        "T M,10,2,0 M,0,1,0 B,90,1,0; M A,5,2,90; A 4..9 0..4; B 0..2",
-    )?;
-    let places = changed_text(alloc, &first, &second)?;
-    assert_eq!(rt; places.as_str(), " 90,0,92,1");
-    let found = difference_text(alloc, &first, &second, 1 << 20)?;
-    assert_eq!(rt; found.as_str(), "1 91 0 second");
+    let pair = growing(rt.alloc())?;
+    assert!(rt; changes_within(rt.alloc(), &pair, " 90,0,92,1")?);
+    assert!(rt; differs_by(rt.alloc(), &pair, "1 91 0 second")?);
     Ok(())
 }

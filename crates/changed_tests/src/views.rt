@@ -1,5 +1,5 @@
 //! Changes seen under a view.
-use crate::layouts::{cut, fitted};
+use crate::layouts::{Pair, cut, fitted_pair};
 use crate::pairs::{found_text, windows_text};
 use lvl_changed::{changed, difference_by_changes};
 use lvl_compare::{difference_by_strips, difference_in_windows};
@@ -9,6 +9,8 @@ use lvl_names::Layer;
 use lvl_region::Side;
 use lvl_view::View;
 use std::alloc::{AllocError, Global};
+use std::process::Abort;
+use std::str::SplitWhitespace;
 use std::test::Fail;
 
 const METAL: Layer = Layer {
@@ -27,73 +29,55 @@ two layers joined, one box less | T A,0,8,0 B,90,1,0; A 0..2; B 0..2 2..4 | \
 two layers exchanged | T A,0,8,0; A 0..2@2 4..5 | T A,0,8,0; A 0..2 4..5@2 | 1/0=2/0,2/0=1/0 | | -
 ";
 
-fn changed_text(
-    alloc: Global,
-    first: &Fitted,
-    second: &Fitted,
-    view: &View,
-) -> Result<String, AllocError> {
-    match changed(alloc, first, second, view)? {
+fn changed_text(alloc: Global, pair: &Pair, view: &View) -> Result<String, AllocError> {
+    match changed(alloc, &pair.first, &pair.second, view)? {
         Some(windows) => windows_text(alloc, windows),
         None => String::from_str(alloc, " anywhere"),
     }
 }
 
-/// Whether these are the windows in which both libraries may differ under the view.
-fn changes_within(
+/// What changes find under the view, and whether strips of the plane find the same.
+fn found_twice(
     alloc: Global,
-    ours: &str,
-    theirs: &str,
+    pair: &Pair,
+    view: &View,
+) -> Result<(Option<(Layer, Square, Side)>, bool), AllocError> {
+    let found = difference_by_changes(alloc, &pair.first, &pair.second, view, 1 << 20)?;
+    let plain = difference_by_strips(alloc, &pair.first, &pair.second, view, 1 << 20)?;
+    Ok((found, found == plain))
+}
+
+/// Whether these are the windows in which both libraries may differ, and this is the first square that does.
+fn is_right(
+    alloc: Global,
+    pair: &Pair,
     view: &View,
     windows: &str,
-) -> Result<bool, Fail> {
-    let first = fitted(alloc, ours)?;
-    let second = fitted(alloc, theirs)?;
-    Ok(changed_text(alloc, &first, &second, view)?.as_str() == windows)
-}
-
-/// What is found by changes, if strips of the plane find the same.
-fn found_under(
-    alloc: Global,
-    first: &Fitted,
-    second: &Fitted,
-    view: &View,
-) -> Result<String, AllocError> {
-    let found = difference_by_changes(alloc, first, second, view, 1 << 20)?;
-    if found != difference_by_strips(alloc, first, second, view, 1 << 20)? {
-        return String::from_str(alloc, "not what strips find");
-    }
-    found_text(alloc, found)
-}
-
-/// Whether this is the first square that differs under the view.
-fn differs_by(
-    alloc: Global,
-    ours: &str,
-    theirs: &str,
-    view: &View,
     want: &str,
-) -> Result<bool, Fail> {
-    let first = fitted(alloc, ours)?;
-    let second = fitted(alloc, theirs)?;
-    Ok(found_under(alloc, &first, &second, view)?.as_str() == want)
+) -> Result<bool, AllocError> {
+    if changed_text(alloc, pair, view)?.as_str() != windows {
+        return Ok(false);
+    }
+    let (found, is_plain) = found_twice(alloc, pair, view)?;
+    Ok(is_plain && found_text(alloc, found)?.as_str() == want)
+}
+
+/// The same, of the libraries and the map of a row.
+fn is_row_right(alloc: Global, row: &str) -> Result<bool, Fail> {
+    let (ours, row) = cut(row, " | ");
+    let (theirs, row) = cut(row, " | ");
+    let (map, row) = cut(row, " |");
+    let (windows, want) = cut(row, " | ");
+    let view = View::read(alloc, Some(map), None)?;
+    let pair = fitted_pair(alloc, ours, theirs)?;
+    Ok(is_right(alloc, &pair, &view, windows, want)?)
 }
 
 #[test]
 fn maps_of_layers(rt: HostRuntime) -> Result<(), Fail> {
-    let alloc = rt.alloc();
     for row in MAPPED.lines() {
         let (name, row) = cut(row, " | ");
-        let (ours, row) = cut(row, " | ");
-        let (theirs, row) = cut(row, " | ");
-        let (map, row) = cut(row, " |");
-        let (windows, want) = cut(row, " | ");
-        let view = View::read(alloc, Some(map), None)?;
-        assert!(rt;
-            changes_within(alloc, ours, theirs, &view, windows)?,
-            "{name}"
-        );
-        assert!(rt; differs_by(alloc, ours, theirs, &view, want)?, "{name}");
+        assert!(rt; is_row_right(rt.alloc(), row)?, "{name}");
     }
     Ok(())
 }
@@ -107,57 +91,103 @@ x=0..3,y=0..9 | -
 x=4..100,y=-9..9 | -
 ";
 
+fn with_one_moved(alloc: Global) -> Result<Pair, Fail> {
+    let ours = "T A,0,8,0 B,100,1,0; A 0..2; B 0..2";
+    fitted_pair(alloc, ours, "T A,0,8,0 3..4; A 0..2; B 0..2")
+}
+
+/// Whether this is the first square of the window that differs.
+fn differs_in(alloc: Global, pair: &Pair, window: &str, want: &str) -> Result<bool, Fail> {
+    let view = View::read(alloc, None, Some(window))?;
+    let found = difference_by_changes(alloc, &pair.first, &pair.second, &view, 1 << 20)?;
+    Ok(found_text(alloc, found)?.as_str() == want)
+}
+
 #[test]
 fn windows_of_views(rt: HostRuntime) -> Result<(), Fail> {
-    let alloc = rt.alloc();
-    let first = fitted(alloc, "T A,0,8,0 B,100,1,0; A 0..2; B 0..2")?;
-    let second = fitted(alloc, "T A,0,8,0 3..4; A 0..2; B 0..2")?;
+    let pair = with_one_moved(rt.alloc())?;
     for row in SHOWN.lines() {
         let (window, want) = cut(row, " | ");
-        let view = View::read(alloc, None, Some(window))?;
-        let found = difference_by_changes(alloc, &first, &second, &view, 1 << 20)?;
-        assert_eq!(rt; found_text(alloc, found)?.as_str(), want, "{window}");
+        assert!(rt; differs_in(rt.alloc(), &pair, window, want)?, "{window}");
     }
     Ok(())
 }
 
-/// The first square that differs in some windows alone.
-#[test]
-fn windows_alone(rt: HostRuntime) -> Result<(), Fail> {
-    let alloc = rt.alloc();
-    let view = View::whole(alloc);
-    let first = fitted(alloc, "T A,0,8,0; A 0..2")?;
-    let second = fitted(alloc, "T A,0,8,0; A 0..2 4..5 7..8@2")?;
-    let row = |x0: i64, x1: i64| Window {
+/// Two windows of one row of squares, from where to where along it, and the first square that differs in them
+/// alone.
+const ALONE: &str = "\
+60 70 20 30 | 1 24 0 second
+55 64 66 70 | 2 57 0 second
+55 57 65 67 | -
+0 4 5 14 | 2 7 0 second
+0 4 5 15 | 1 14 0 second
+";
+
+/// The window between two abscissas, which are the next words.
+fn next_window(words: &mut SplitWhitespace<'_>) -> Result<Window, Fail> {
+    let x0 = words.next().ok_or("a begin")?.parse::<i64>()?;
+    let x1 = words.next().ok_or("an end")?.parse::<i64>()?;
+    Ok(Window {
         x0,
         y0: 0,
         x1,
         y1: 1,
-    };
-    let cases = [
-        ([row(60, 70), row(20, 30)], "1 24 0 second"),
-        ([row(55, 64), row(66, 70)], "2 57 0 second"),
-        ([row(55, 57), row(65, 67)], "-"),
-        ([row(0, 4), row(5, 14)], "2 7 0 second"),
-        ([row(0, 4), row(5, 15)], "1 14 0 second"),
-    ];
-    for (windows, want) in cases {
-        let found = difference_in_windows(alloc, &first, &second, &view, &windows, 1 << 20)?;
-        assert_eq!(rt; found_text(alloc, found)?.as_str(), want);
+    })
+}
+
+fn two_windows(text: &str) -> Result<[Window; 2], Fail> {
+    let mut words = text.split_whitespace();
+    Ok([next_window(&mut words)?, next_window(&mut words)?])
+}
+
+fn with_more(alloc: Global) -> Result<Pair, Fail> {
+    fitted_pair(alloc, "T A,0,8,0; A 0..2", "T A,0,8,0; A 0..2 4..5 7..8@2")
+}
+
+/// Whether this is the first square that differs in the windows alone.
+fn differs_alone(
+    alloc: Global,
+    pair: &Pair,
+    windows: &[Window],
+    want: &str,
+) -> Result<bool, AllocError> {
+    let view = View::whole(alloc);
+    let found = difference_in_windows(alloc, &pair.first, &pair.second, &view, windows, 1 << 20)?;
+    Ok(found_text(alloc, found)?.as_str() == want)
+}
+
+#[test]
+fn windows_alone(rt: HostRuntime) -> Result<(), Fail> {
+    let pair = with_more(rt.alloc())?;
+    for row in ALONE.lines() {
+        let (windows, want) = cut(row, " | ");
+        let windows = two_windows(windows)?;
+        assert!(rt; differs_alone(rt.alloc(), &pair, &windows, want)?, "{row}");
     }
     Ok(())
 }
 
+fn edited(alloc: Global) -> Result<Pair, Fail> {
+    fitted_pair(alloc, "T A,0,1000,0; A 0..2", "T A,0,1000,0 3..4; A 0..2")
+}
+
 /// What the documentation of `lvl_changed` shows, line by line.
-#[test]
-fn changes(rt: HostRuntime) -> Result<(), Fail> {
-    let alloc = rt.alloc();
-    let kept = fitted(alloc, "T A,0,1000,0; A 0..2")?;
-    let edited = fitted(alloc, "T A,0,1000,0 3..4; A 0..2")?;
+fn check_changes(
+    rt: &impl Abort,
+    alloc: Global,
+    kept: &Fitted,
+    edited: &Fitted,
+) -> Result<(), Fail> {
     let view = View::whole(alloc);
     let windows = changed(alloc, &kept, &edited, &view)?.ok_or("windows")?;
     assert_eq!(rt; windows.len(), 1);
     let found = difference_by_changes(alloc, &kept, &edited, &view, 1 << 20)?;
     assert_eq!(rt; found, Some((METAL, Square { x: 3, y: 0 }, Side::Second)));
     Ok(())
+}
+
+#[test]
+fn changes(rt: HostRuntime) -> Result<(), Fail> {
+    let pair = edited(rt.alloc())?;
+    check_changes(&rt, rt.alloc(), &pair.first, &pair.second)
 }

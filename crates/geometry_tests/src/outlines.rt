@@ -112,6 +112,17 @@ pub fn grids_differ_at(
     )
 }
 
+/// The answers of `differ_at` and `grids_differ_at`.
+pub fn both_differ_at(
+    alloc: Global,
+    first: &[Ring],
+    second: &[Ring],
+    found: Found,
+) -> Result<(bool, bool), AllocError> {
+    let differ = differ_at(alloc, first, second, found)?;
+    Ok((differ, grids_differ_at(alloc, first, second, found)?))
+}
+
 /// Whether the rings of these outlines differ first there, as `differ_at` and as grids say.
 pub fn outlines_differ_at(
     alloc: Global,
@@ -121,10 +132,7 @@ pub fn outlines_differ_at(
 ) -> Result<(bool, bool), Fail> {
     let first = rings(alloc, first)?;
     let second = rings(alloc, second)?;
-    Ok((
-        differ_at(alloc, &first, &second, found)?,
-        grids_differ_at(alloc, &first, &second, found)?,
-    ))
+    Ok(both_differ_at(alloc, &first, &second, found)?)
 }
 
 /// The next of a row of made numbers.

@@ -1,138 +1,100 @@
 //! Pairs of lists of rings, and the least square in which they differ, worked by hand.
 use crate::outlines::{
-    CORNERED, FLAT, Found, LARGE, Outline, REVERSED, SQUARE, at, differ_at, outlines_differ_at,
-    rectangle, rings,
+    CORNERED, Found, LARGE, Outline, SQUARE, at, both_differ_at, differ_at, outlines_differ_at,
+    rectangle, ring, rings,
 };
 use lvl_grid::{Ring, Square};
 use lvl_region::{GridRegion, Region, Side};
 use std::alloc::{AllocError, Global};
 use std::test::Fail;
 
-const TWICE: [(i64, i64); 8] = [
-    (0, 0),
-    (4, 0),
-    (4, 4),
-    (0, 4),
-    (0, 0),
-    (4, 0),
-    (4, 4),
-    (0, 4),
-];
+/// What a pair is, the corners of each ring of both lists, and the least square that one alone covers.
+const PAIRS: &str = "\
+two rings make one | 0,0 5,0 5,5 0,5; 5,0 10,0 10,5 5,5 | 0,0 10,0 10,5 0,5 | -
+a flat ring covers nothing | | 0,0 0,5 0,0 | -
+a flat ring is no square | 0,0 0,5 0,0 | 0,0 10,0 10,5 0,5 | second 0,0
+a reversed ring does not cancel | 0,0 10,0 10,10 0,10; 0,0 0,10 10,10 10,0 | 0,0 10,0 10,10 0,10 | -
+twice round | 0,0 4,0 4,4 0,4 0,0 4,0 4,4 0,4 | 0,0 4,0 4,4 0,4 | -
+a missing corner | 0,0 20,0 20,10 10,10 10,20 0,20 | 0,0 20,0 20,20 0,20 | second 10,10
+the lower of two | -3,1 1,1 1,5 -3,5 | 0,0 4,0 4,4 0,4 | second 0,0
+bands that touch | 0,0 4,0 4,10 0,10; 0,10 4,10 4,20 0,20 | 0,0 4,0 4,20 0,20 | -
+bands with a gap | 0,0 4,0 4,10 0,10; 0,11 4,11 4,21 0,21 | 0,0 4,0 4,20 0,20 | second 0,10
+large halves | 0,0 4294967296,0 4294967296,4294967296 0,4294967296 | \
+    0,0 2147483648,0 2147483648,4294967296 0,4294967296; \
+    2147483648,0 4294967296,0 4294967296,4294967296 2147483648,4294967296 | -
+one row short | 0,0 4294967296,0 4294967296,4294967296 0,4294967296 | \
+    0,0 4294967296,0 4294967296,4294967295 0,4294967295 | first 0,4294967295
+the whole range but a row | -9223372036854775808,-9223372036854775808 9223372036854775807,-9223372036854775808 \
+    9223372036854775807,9223372036854775807 -9223372036854775808,9223372036854775807 | \
+    -9223372036854775808,-9223372036854775808 9223372036854775807,-9223372036854775808 \
+    9223372036854775807,9223372036854775806 -9223372036854775808,9223372036854775806 | \
+    first -9223372036854775808,9223372036854775806
+the whole range | -9223372036854775808,-9223372036854775808 9223372036854775807,-9223372036854775808 \
+    9223372036854775807,9223372036854775807 -9223372036854775808,9223372036854775807 | | \
+    first -9223372036854775808,-9223372036854775808
+no rings | | | -
+a square alone | 0,0 10,0 10,10 0,10 | | first 0,0
+";
 
-const ONCE: [(i64, i64); 4] = [(0, 0), (4, 0), (4, 4), (0, 4)];
+/// What is before the mark, and what is after it.
+fn cut<'a>(text: &'a str, mark: &str) -> (&'a str, &'a str) {
+    text.split_once(mark).unwrap_or((text, ""))
+}
 
-const LEFT: [(i64, i64); 4] = [(0, 0), (5, 0), (5, 5), (0, 5)];
+fn point(word: &str) -> Result<(i64, i64), Fail> {
+    let (x, y) = cut(word, ",");
+    Ok((x.parse::<i64>()?, y.parse::<i64>()?))
+}
 
-const RIGHT: [(i64, i64); 4] = [(5, 0), (10, 0), (10, 5), (5, 5)];
+fn ring_of(alloc: Global, corners: &str) -> Result<Ring, Fail> {
+    let mut outline = Vec::new(alloc);
+    for word in corners.split_whitespace() {
+        outline.push(point(word)?)?;
+    }
+    ring(alloc, &outline)
+}
 
-const WHOLE: [(i64, i64); 4] = [(0, 0), (10, 0), (10, 5), (0, 5)];
+fn rings_of(alloc: Global, text: &str) -> Result<Vec<Ring>, Fail> {
+    let mut rings = Vec::new(alloc);
+    for corners in text.split(';') {
+        if !corners.trim().is_empty() {
+            rings.push(ring_of(alloc, corners)?)?;
+        }
+    }
+    Ok(rings)
+}
 
-const HIGHER: [(i64, i64); 4] = [(-3, 1), (1, 1), (1, 5), (-3, 5)];
+fn found_of(text: &str) -> Result<Found, Fail> {
+    let (side, place) = cut(text, " ");
+    if side == "-" {
+        return Ok(None);
+    }
+    let (x, y) = point(place)?;
+    Ok(at(
+        x,
+        y,
+        if side == "first" {
+            Side::First
+        } else {
+            Side::Second
+        },
+    ))
+}
 
-const TALL: [(i64, i64); 4] = [(0, 0), (4, 0), (4, 20), (0, 20)];
-
-const LOWER_HALF: [(i64, i64); 4] = [(0, 0), (4, 0), (4, 10), (0, 10)];
-
-const UPPER_HALF: [(i64, i64); 4] = [(0, 10), (4, 10), (4, 20), (0, 20)];
-
-const RAISED_HALF: [(i64, i64); 4] = [(0, 11), (4, 11), (4, 21), (0, 21)];
-
-const HALF: i64 = 2_147_483_648;
-
-const FULL: i64 = 4_294_967_296;
-
-const HUGE: [(i64, i64); 4] = [(0, 0), (FULL, 0), (FULL, FULL), (0, FULL)];
-
-const HUGE_LEFT: [(i64, i64); 4] = [(0, 0), (HALF, 0), (HALF, FULL), (0, FULL)];
-
-const HUGE_RIGHT: [(i64, i64); 4] = [(HALF, 0), (FULL, 0), (FULL, FULL), (HALF, FULL)];
-
-const SHORT: [(i64, i64); 4] = [(0, 0), (FULL, 0), (FULL, 4_294_967_295), (0, 4_294_967_295)];
-
-const ALL: [(i64, i64); 4] = [
-    (i64::MIN, i64::MIN),
-    (i64::MAX, i64::MIN),
-    (i64::MAX, i64::MAX),
-    (i64::MIN, i64::MAX),
-];
-
-const MOST: [(i64, i64); 4] = [
-    (i64::MIN, i64::MIN),
-    (i64::MAX, i64::MIN),
-    (i64::MAX, 9_223_372_036_854_775_806),
-    (i64::MIN, 9_223_372_036_854_775_806),
-];
+/// Whether the lists of a row differ where it says, as `differ_at` and as grids say.
+fn row_differs_at(alloc: Global, row: &str) -> Result<(bool, bool), Fail> {
+    let (first, row) = cut(row, " |");
+    let (second, found) = cut(row, " | ");
+    let first = rings_of(alloc, first)?;
+    let second = rings_of(alloc, second)?;
+    Ok(both_differ_at(alloc, &first, &second, found_of(found)?)?)
+}
 
 #[test]
 fn pairs_of_lists(rt: HostRuntime) -> Result<(), Fail> {
-    let alloc = rt.alloc();
-    let last = 9_223_372_036_854_775_806;
-    let rows: [(&str, &[Outline], &[Outline], Found); 15] = [
-        ("two rings make one", &[&LEFT, &RIGHT], &[&WHOLE], None),
-        ("a flat ring covers nothing", &[], &[&FLAT], None),
-        (
-            "a flat ring is no square",
-            &[&FLAT],
-            &[&WHOLE],
-            at(0, 0, Side::Second),
-        ),
-        (
-            "a reversed ring does not cancel",
-            &[&SQUARE, &REVERSED],
-            &[&SQUARE],
-            None,
-        ),
-        ("twice round", &[&TWICE], &[&ONCE], None),
-        (
-            "a missing corner",
-            &[&CORNERED],
-            &[&LARGE],
-            at(10, 10, Side::Second),
-        ),
-        (
-            "the lower of two",
-            &[&HIGHER],
-            &[&ONCE],
-            at(0, 0, Side::Second),
-        ),
-        (
-            "bands that touch",
-            &[&LOWER_HALF, &UPPER_HALF],
-            &[&TALL],
-            None,
-        ),
-        (
-            "bands with a gap",
-            &[&LOWER_HALF, &RAISED_HALF],
-            &[&TALL],
-            at(0, 10, Side::Second),
-        ),
-        ("large halves", &[&HUGE], &[&HUGE_LEFT, &HUGE_RIGHT], None),
-        (
-            "one row short",
-            &[&HUGE],
-            &[&SHORT],
-            at(0, FULL - 1, Side::First),
-        ),
-        (
-            "the whole range but a row",
-            &[&ALL],
-            &[&MOST],
-            at(i64::MIN, last, Side::First),
-        ),
-        (
-            "the whole range",
-            &[&ALL],
-            &[],
-            at(i64::MIN, i64::MIN, Side::First),
-        ),
-        ("no rings", &[], &[], None),
-        ("a square alone", &[&SQUARE], &[], at(0, 0, Side::First)),
-    ];
-    for (name, first, second, found) in rows {
-        let (differ, grids_differ) = outlines_differ_at(alloc, first, second, found)?;
-        assert!(rt; differ, "{name}");
-        assert!(rt; grids_differ, "{name}");
+    for row in PAIRS.lines() {
+        let (name, row) = cut(row, " |");
+        assert_eq!(rt; row_differs_at(rt.alloc(), row)?, (true, true), "{name}");
     }
     Ok(())
 }

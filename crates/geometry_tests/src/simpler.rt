@@ -105,22 +105,23 @@ fn comb(alloc: Global, teeth: i64) -> Result<Vec<Point>, AllocError> {
     Ok(points)
 }
 
+/// A comb's left and right end, its edges, heights, widths and folds, and whether it is folded.
+fn measured(alloc: Global, teeth: i64) -> Result<String, AllocError> {
+    let outline = Outline::of(&comb(alloc, teeth)?);
+    let (left, right, edges) = (outline.left, outline.right, outline.edges);
+    let (heights, widths) = (outline.heights, outline.widths);
+    let (folds, is_folded) = (outline.folds(), outline.is_folded());
+    format!(in alloc; "{left} {right} {edges} {heights} {widths} {folds} {is_folded}")
+}
+
 #[test]
 fn outlines_of_combs(rt: HostRuntime) -> Result<(), Fail> {
-    let alloc = rt.alloc();
-    for (teeth, edges, heights, widths, is_folded) in [
-        (1, 2, 2, 20, false),
-        (15, 30, 58, 300, false),
-        (16, 32, 62, 320, true),
+    for (teeth, want) in [
+        (1, "0 10 2 2 20 1 false"),
+        (15, "0 10 30 58 300 15 false"),
+        (16, "0 10 32 62 320 16 true"),
     ] {
-        let outline = Outline::of(&comb(alloc, teeth)?);
-        assert_eq!(rt; (outline.left, outline.right), (0, 10));
-        assert_eq!(rt;
-            (outline.edges, outline.heights, outline.widths),
-            (edges, heights, widths)
-        );
-        assert_eq!(rt; outline.folds(), u128::try_from(teeth).unwrap_or(0));
-        assert_eq!(rt; outline.is_folded(), is_folded);
+        assert_eq!(rt; measured(rt.alloc(), teeth)?.as_str(), want);
     }
     Ok(())
 }

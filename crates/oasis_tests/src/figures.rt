@@ -1,28 +1,18 @@
 //! What the records of a cell draw, one after the other.
 
-use lvl_grid::{Map, Point, Ring, Turn};
+use crate::library_faults::bytes_of;
+use lvl_grid::{Map, Point, Ring};
 use lvl_ignore::Ignore;
 use lvl_io::Read;
 use lvl_io::fake::Pieces;
-use lvl_path::PathFault;
+use lvl_names::Layer;
 use lvl_refusal::Cause;
-use oasis_figures::{Drawn, FigureRule, Modal, Variable};
+use oasis_figures::{Drawn, FigureRule, Modal};
 use oasis_records::{Record, RecordType, read_fields, read_id};
 use oasis_values::Input;
 use std::alloc::{AllocError, Global};
-use std::process::Abort;
+use std::slice;
 use std::test::Fail;
-
-/// What the last of some records draws: a ring by its vertices, bands by their corners (left, low,
-/// right, high), or how a cell is placed.
-#[derive(Drop)]
-enum Want {
-    Ring(&'static [(i64, i64)]),
-    Bands(&'static [(i64, i64, i64, i64)]),
-    Cell(Map),
-    Nothing,
-    Rule(FigureRule),
-}
 
 /// The next record, if there is one.
 fn next<R: Read>(input: &mut Input<R>, alloc: Global) -> Result<Option<Record>, AllocError> {
@@ -56,207 +46,93 @@ fn take_all(
     Ok(drawn)
 }
 
-fn has_vertices(points: &[Point], want: &[(i64, i64)]) -> bool {
-    points.len() == want.len()
-        && points
-            .iter()
-            .zip(want)
-            .all(|(p, (x, y))| p.x == *x && p.y == *y)
-}
-
-fn is_band(ring: &Ring, corners: (i64, i64, i64, i64)) -> bool {
-    let (left, low, right, high) = corners;
-    has_vertices(
-        ring.points(),
-        &[(left, low), (right, low), (right, high), (left, high)],
-    )
-}
-
-fn are_bands(rings: &[Ring], want: &[(i64, i64, i64, i64)]) -> bool {
-    rings.len() == want.len()
-        && rings
-            .iter()
-            .zip(want)
-            .all(|(ring, corners)| is_band(ring, *corners))
-}
-
-/// Whether that is wanted, of shapes on Layer 1/0.
-fn is_wanted(got: &Result<Option<Drawn>, Cause<FigureRule>>, want: &Want) -> bool {
-    match (got, want) {
-        (Ok(Some(Drawn::Ring(on, ring))), Want::Ring(vertices)) => {
-            on.layer == 1 && on.datatype == 0 && has_vertices(ring.points(), vertices)
+/// The Layer of rings, and their points.
+fn rings_text(alloc: Global, on: Layer, rings: &[Ring]) -> Result<String, AllocError> {
+    let mut text = format!(in alloc; "{}/{}", on.layer, on.datatype)?;
+    for (number, ring) in rings.iter().enumerate() {
+        if 0 < number {
+            text.push_str(";")?;
         }
-        (Ok(Some(Drawn::Rings(on, rings))), Want::Bands(bands)) => {
-            on.layer == 1 && on.datatype == 0 && are_bands(rings, bands)
-        }
-        (Ok(Some(Drawn::Placement(by))), Want::Cell(map)) => by == map,
-        (Ok(None), Want::Nothing) => true,
-        (Err(Cause::Breach(rule)), Want::Rule(broken)) => rule == broken,
-        _ => false,
+        push_points(alloc, &mut text, ring.points())?;
     }
+    Ok(text)
 }
 
-fn placed(flip: bool, turn: Turn, x: i64, y: i64) -> Want {
-    Want::Cell(Map {
-        flip,
-        turn,
-        at: Point { x, y },
-    })
-}
-
-/// Whether the last of these records draws what is wanted, and at how many shifts it draws.
-fn drawn(alloc: Global, bytes: &[u8], want: &Want) -> Result<(bool, u64), AllocError> {
-    let mut modal = Modal::new();
-    let got = take_all(&mut modal, alloc, bytes);
-    match &got {
-        Err(Cause::OutOfMemory) => Err(AllocError),
-        _ => Ok((is_wanted(&got, want), modal.shifts().len())),
-    }
-}
-
-/// Each row: what the last of its records draws, and at how many shifts.
-fn check(rt: &impl Abort, alloc: Global, rows: &[(&str, &[u8], Want, u64)]) -> Result<(), Fail> {
-    for (name, bytes, want, shifts) in rows {
-        let (is_drawn, count) = drawn(alloc, bytes, want)?;
-        assert!(rt; is_drawn, "{name}");
-        assert_eq!(rt; count, *shifts, "{name}");
+fn push_points(alloc: Global, text: &mut String, points: &[Point]) -> Result<(), AllocError> {
+    for point in points {
+        let (x, y) = (point.x, point.y);
+        text.push_str(&format!(in alloc; " {x},{y}")?)?;
     }
     Ok(())
 }
 
-#[test]
-fn figures(rt: HostRuntime) -> Result<(), Fail> {
-    check(
-        &rt,
-        rt.alloc(),
-        &[
-            (
-                "square-flag",
-                b"\x14\xDB\x01\x00\x0A\x00\x00",
-                Want::Ring(&[(0, 0), (10, 0), (10, 10), (0, 10)]),
-                1,
-            ),
-            (
-                "square-flag, the second",
-                b"\x14\xDB\x01\x00\x0A\x00\x00\x14\x10\x14",
-                Want::Ring(&[(10, 0), (20, 0), (20, 10), (10, 10)]),
-                1,
-            ),
-            (
-                "relative coordinates",
-                b"\x14\x7B\x01\x00\x01\x01\x02\x04\x10\x14\x18\x02\x02",
-                Want::Ring(&[(2, 3), (3, 3), (3, 4), (2, 4)]),
-                1,
-            ),
-            (
-                "the modal repetition",
-                b"\x14\x7F\x01\x00\x01\x01\x00\x00\x02\x00\x05\x14\x04\x00",
-                Want::Ring(&[(0, 0), (1, 0), (1, 1), (0, 1)]),
-                2,
-            ),
-            (
-                "implied-vertex",
-                b"\x15\x3B\x01\x00\x00\x02\x14\x14\x00\x00",
-                Want::Ring(&[(0, 0), (10, 0), (10, 10), (0, 10)]),
-                1,
-            ),
-            (
-                "the modal point list",
-                b"\x15\x3B\x01\x00\x00\x02\x14\x14\x00\x00\x15\x18\x0A\x06",
-                Want::Ring(&[(5, 3), (15, 3), (15, 13), (5, 13)]),
-                1,
-            ),
-            (
-                "path-ends",
-                b"\x16\xFB\x01\x00\x02\x0F\x04\x02\x00\x02\x14\x14\x00\x00",
-                Want::Bands(&[(-2, -2, 12, 2), (8, -2, 12, 11)]),
-                1,
-            ),
-            (
-                "extensions stay, the half-width changes",
-                b"\x16\xFB\x01\x00\x02\x0A\x00\x02\x14\x14\x00\x00\x16\x40\x01",
-                Want::Bands(&[(-2, -1, 11, 1), (9, -1, 11, 12)]),
-                1,
-            ),
-            ("a mode draws nothing", b"\x0F", Want::Nothing, 1),
-            (
-                "modal-ends-at-cell",
-                b"\x14\x7A\x00\x0A\x0A\x00\x00",
-                Want::Rule(FigureRule::Undefined(Variable::Layer)),
-                1,
-            ),
-            (
-                "layer-range",
-                b"\x14\x7B\x80\x80\x80\x80\x10\x00\x0A\x0A\x00\x00",
-                Want::Rule(FigureRule::Layer),
-                1,
-            ),
-            (
-                "path-ends, negative",
-                b"\x16\xFB\x01\x00\x02\x0F\x04\x03\x00\x02\x14\x14\x00\x00",
-                Want::Rule(FigureRule::Extension),
-                1,
-            ),
-            (
-                "no width",
-                b"\x16\xFB\x01\x00\x00\x05\x00\x02\x14\x14\x00\x00",
-                Want::Rule(FigureRule::Path(PathFault::NoWidth)),
-                1,
-            ),
-            (
-                "a step to the northeast",
-                b"\x15\x3B\x01\x00\x03\x02\x54\x50\x00\x00",
-                Want::Rule(FigureRule::Oblique),
-                1,
-            ),
-            (
-                "right of all",
-                b"\x14\x7B\x01\x00\x01\x01\xFE\xFF\xFF\xFF\xFF\xFF\xFF\xFF\xFF\x01\x00",
-                Want::Rule(FigureRule::OutOfRange),
-                1,
-            ),
-        ],
-    )
+fn map_text(alloc: Global, map: &Map) -> Result<String, AllocError> {
+    let Map { flip, turn, at } = *map;
+    let (x, y) = (at.x, at.y);
+    format!(in alloc; "cell {flip} {turn:?} {x},{y}")
+}
+
+/// What was drawn: rings by their points, how a cell is placed, nothing, or the rule that was breached.
+fn drawn_text(
+    alloc: Global,
+    got: &Result<Option<Drawn>, Cause<FigureRule>>,
+) -> Result<String, AllocError> {
+    match got {
+        Ok(Some(Drawn::Ring(on, ring))) => rings_text(alloc, *on, slice::from_ref(ring)),
+        Ok(Some(Drawn::Rings(on, rings))) => rings_text(alloc, *on, rings),
+        Ok(Some(Drawn::Placement(map))) => map_text(alloc, map),
+        Ok(None) => String::from_str(alloc, "nothing"),
+        Err(Cause::Breach(rule)) => format!(in alloc; "{rule:?}"),
+        Err(Cause::OutOfMemory) => Err(AllocError),
+    }
+}
+
+/// At how many shifts the last of these records draws, and what.
+fn drawn(alloc: Global, bytes: &[u8]) -> Result<String, AllocError> {
+    let mut modal = Modal::new();
+    let got = take_all(&mut modal, alloc, bytes);
+    let shifts = modal.shifts().len();
+    let text = drawn_text(alloc, &got)?;
+    format!(in alloc; "{shifts} {text}")
+}
+
+/// What the records are, their bytes, at how many shifts the last draws, and what.
+const DRAWN: &str = "\
+square-flag | 14 DB 01 00 0A 00 00 | 1 1/0 0,0 10,0 10,10 0,10
+square-flag, the second | 14 DB 01 00 0A 00 00 14 10 14 | 1 1/0 10,0 20,0 20,10 10,10
+relative coordinates | 14 7B 01 00 01 01 02 04 10 14 18 02 02 | 1 1/0 2,3 3,3 3,4 2,4
+the modal repetition | 14 7F 01 00 01 01 00 00 02 00 05 14 04 00 | 2 1/0 0,0 1,0 1,1 0,1
+implied-vertex | 15 3B 01 00 00 02 14 14 00 00 | 1 1/0 0,0 10,0 10,10 0,10
+the modal point list | 15 3B 01 00 00 02 14 14 00 00 15 18 0A 06 | 1 1/0 5,3 15,3 15,13 5,13
+path-ends | 16 FB 01 00 02 0F 04 02 00 02 14 14 00 00 | 1 1/0 -2,-2 12,-2 12,2 -2,2; 8,-2 12,-2 12,11 8,11
+extensions stay, the half-width changes | 16 FB 01 00 02 0A 00 02 14 14 00 00 16 40 01 | 1 1/0 -2,-1 11,-1 11,1 -2,1; 9,-1 11,-1 11,12 9,12
+a mode draws nothing | 0F | 1 nothing
+modal-ends-at-cell | 14 7A 00 0A 0A 00 00 | 1 Undefined(Layer)
+layer-range | 14 7B 80 80 80 80 10 00 0A 0A 00 00 | 1 Layer
+path-ends, negative | 16 FB 01 00 02 0F 04 03 00 02 14 14 00 00 | 1 Extension
+no width | 16 FB 01 00 00 05 00 02 14 14 00 00 | 1 Path(NoWidth)
+a step to the northeast | 15 3B 01 00 03 02 54 50 00 00 | 1 Oblique
+right of all | 14 7B 01 00 01 01 FE FF FF FF FF FF FF FF FF 01 00 | 1 OutOfRange
+placement-fields | 12 B2 01 41 00 5A 00 00 | 1 cell false R90 0,0
+placement-fields, a ratio | 12 84 01 41 04 02 02 | 1 cell false R0 0,0
+reflected, and turned by 180 degrees | 11 B5 01 41 02 04 | 1 cell true R180 1,2
+placement-fields, 45 degrees | 12 B2 01 41 00 2D 00 00 | 1 Angle
+placement-fields, magnified | 12 84 01 41 04 02 01 | 1 Magnification
+";
+
+fn drawn_of_words(alloc: Global, words: &str) -> Result<String, Fail> {
+    let records = bytes_of(alloc, words)?;
+    Ok(drawn(alloc, &records)?)
 }
 
 #[test]
-fn placements(rt: HostRuntime) -> Result<(), Fail> {
-    check(
-        &rt,
-        rt.alloc(),
-        &[
-            (
-                "placement-fields",
-                b"\x12\xB2\x01A\x00\x5A\x00\x00",
-                placed(false, Turn::R90, 0, 0),
-                1,
-            ),
-            (
-                "placement-fields, a ratio",
-                b"\x12\x84\x01A\x04\x02\x02",
-                placed(false, Turn::R0, 0, 0),
-                1,
-            ),
-            (
-                "reflected, and turned by 180 degrees",
-                b"\x11\xB5\x01A\x02\x04",
-                placed(true, Turn::R180, 1, 2),
-                1,
-            ),
-            (
-                "placement-fields, 45 degrees",
-                b"\x12\xB2\x01A\x00\x2D\x00\x00",
-                Want::Rule(FigureRule::Angle),
-                1,
-            ),
-            (
-                "placement-fields, magnified",
-                b"\x12\x84\x01A\x04\x02\x01",
-                Want::Rule(FigureRule::Magnification),
-                1,
-            ),
-        ],
-    )
+fn figures(rt: HostRuntime) -> Result<(), Fail> {
+    for row in DRAWN.lines() {
+        let (name, row) = row.split_once(" | ").unwrap_or((row, ""));
+        let (words, want) = row.split_once(" | ").unwrap_or((row, ""));
+        assert_eq!(rt; drawn_of_words(rt.alloc(), words)?.as_str(), want, "{name}");
+    }
+    Ok(())
 }
 
 /// Whether the last of these records places a cell.

@@ -2,11 +2,8 @@
 
 use crate::library::{fault_of, file, square};
 use lvl_io::fake::Pieces;
-use lvl_path::PathFault;
 use lvl_refusal::Cause;
-use oasis_library::{
-    FigureRule, NameRule, OasisFault, OasisKind, RecordRule, ValueFault, Variable, read_oasis,
-};
+use oasis_library::{OasisFault, OasisKind, RecordRule, ValueFault, read_oasis};
 use std::alloc::{AllocError, Global};
 use std::test::Fail;
 
@@ -24,125 +21,69 @@ fn faults_in(alloc: Global, records: &[u8]) -> Result<[Option<Cause<OasisFault>>
     Ok([fault_of(alloc, &bytes, 1000), fault_of(alloc, &bytes, 1)])
 }
 
-/// Rows name-faults, modal-ends-at-cell, names-by-number and those of values and figures: the records
-/// after START, and the fault.
+/// Rows name-faults, modal-ends-at-cell, names-by-number and those of values and figures: the bytes of the
+/// records after START, and the offset and kind of the fault.
+const FAULTS: &str = "\
+03 01 41 04 01 42 00 | 37 Name(Mixed)
+04 01 41 00 04 01 42 00 | 38 Name(NumberTwice)
+03 01 41 03 01 41 | 37 Name(NameTwice)
+0E 01 41 14 7B 01 00 0A 0A 00 00 0E 01 42 14 7A 00 0A 0A 00 00 | 48 Figure(Undefined(Layer))
+0D 00 03 03 54 4F 50 14 7B 01 00 0A 0A 00 00 | 41 Unexpected(20)
+14 7B 01 00 0A 0A 00 00 | 34 Unexpected(20)
+01 03 31 2E 30 | 34 Unexpected(1)
+05 00 | 34 Record(Unsupported(5))
+0E 80 02 | 34 Value(StringByte)
+0D 80 80 80 80 80 80 80 80 80 80 00 | 34 Value(IntegerTooLarge)
+0E 03 54 4F 50 14 E3 01 00 0A 0A | 39 Record(Info)
+0E 03 54 4F 50 15 3B 01 00 00 03 14 14 14 00 00 | 39 Value(PointCount)
+0E 03 54 4F 50 15 3B 01 00 00 FF FF FF FF FF FF FF FF FF 01 | 39 Value(PointCount)
+0E 03 54 4F 50 14 7F 01 00 01 01 00 00 02 FF FF FF 07 01 | 39 Value(RepetitionSize)
+0E 03 54 4F 50 14 7B 80 80 80 80 10 00 0A 0A 00 00 | 39 Figure(Layer)
+0E 03 54 4F 50 16 FB 01 00 02 0F 04 03 00 02 14 14 00 00 | 39 Figure(Extension)
+0E 03 54 4F 50 16 FB 01 00 00 05 00 02 14 14 00 00 | 39 Figure(Path(NoWidth))
+0E 03 54 4F 50 15 3B 01 00 03 02 54 2C 00 00 | 39 Figure(Oblique)
+0E 03 54 4F 50 12 B2 01 41 00 2D 00 00 | 39 Figure(Angle)
+0E 03 54 4F 50 12 84 01 41 04 02 01 | 39 Figure(Magnification)
+0E 03 54 4F 50 11 40 | 39 Figure(Undefined(PlacementCell))
+0E 03 54 4F 50 14 7F 01 00 0A 0A 00 00 00 | 39 Figure(Undefined(Repetition))
+0E 03 54 4F 50 02 FF FF FF FF 0F | 39 Record(EndLength)
+0E 03 54 4F 50 02 FB 01 | 39 Record(EndLength)
+";
+
+/// The bytes of these hexadecimal words.
+pub(crate) fn bytes_of(alloc: Global, words: &str) -> Result<Vec<u8>, Fail> {
+    let mut bytes = Vec::new(alloc);
+    for word in words.split_whitespace() {
+        bytes.push(u8::from_str_radix(word, 16)?)?;
+    }
+    Ok(bytes)
+}
+
+/// Where a fault is, and its kind.
+fn fault_text(alloc: Global, fault: Option<Cause<OasisFault>>) -> Result<String, AllocError> {
+    match fault {
+        Some(Cause::Breach(OasisFault::At { offset, kind })) => {
+            format!(in alloc; "{offset} {kind:?}")
+        }
+        _ => String::from_str(alloc, "no fault at an offset"),
+    }
+}
+
+/// The fault of the records of a row, if it is the same byte by byte.
+fn fault_in(alloc: Global, words: &str) -> Result<String, Fail> {
+    let records = bytes_of(alloc, words)?;
+    let [at_once, bytewise] = faults_in(alloc, &records)?;
+    if at_once != bytewise {
+        return Ok(String::from_str(alloc, "another fault byte by byte")?);
+    }
+    Ok(fault_text(alloc, at_once)?)
+}
+
 #[test]
 fn names_the_first_fault(rt: HostRuntime) -> Result<(), Fail> {
-    let name = |rule: NameRule| OasisKind::Name(rule);
-    let figure = |rule: FigureRule| OasisKind::Figure(rule);
-    let rows: [(&[u8], u64, OasisKind); 24] = [
-        (b"\x03\x01A\x04\x01B\x00", 37, name(NameRule::Mixed)),
-        (
-            b"\x04\x01A\x00\x04\x01B\x00",
-            38,
-            name(NameRule::NumberTwice),
-        ),
-        (b"\x03\x01A\x03\x01A", 37, name(NameRule::NameTwice)),
-        (
-            b"\x0E\x01A\x14\x7B\x01\x00\x0A\x0A\x00\x00\x0E\x01B\x14\x7A\x00\x0A\x0A\x00\x00",
-            48,
-            figure(FigureRule::Undefined(Variable::Layer)),
-        ),
-        (
-            b"\x0D\x00\x03\x03TOP\x14\x7B\x01\x00\x0A\x0A\x00\x00",
-            41,
-            OasisKind::Unexpected(20),
-        ),
-        (
-            b"\x14\x7B\x01\x00\x0A\x0A\x00\x00",
-            34,
-            OasisKind::Unexpected(20),
-        ),
-        (b"\x01\x031.0", 34, OasisKind::Unexpected(1)),
-        (
-            b"\x05\x00",
-            34,
-            OasisKind::Record(RecordRule::Unsupported(5)),
-        ),
-        (
-            b"\x0E\x80\x02",
-            34,
-            OasisKind::Value(ValueFault::StringByte),
-        ),
-        (
-            b"\x0D\x80\x80\x80\x80\x80\x80\x80\x80\x80\x80\x00",
-            34,
-            OasisKind::Value(ValueFault::IntegerTooLarge),
-        ),
-        (
-            b"\x0E\x03TOP\x14\xE3\x01\x00\x0A\x0A",
-            39,
-            OasisKind::Record(RecordRule::Info),
-        ),
-        (
-            b"\x0E\x03TOP\x15\x3B\x01\x00\x00\x03\x14\x14\x14\x00\x00",
-            39,
-            OasisKind::Value(ValueFault::PointCount),
-        ),
-        (
-            b"\x0E\x03TOP\x15\x3B\x01\x00\x00\xFF\xFF\xFF\xFF\xFF\xFF\xFF\xFF\xFF\x01",
-            39,
-            OasisKind::Value(ValueFault::PointCount),
-        ),
-        (
-            b"\x0E\x03TOP\x14\x7F\x01\x00\x01\x01\x00\x00\x02\xFF\xFF\xFF\x07\x01",
-            39,
-            OasisKind::Value(ValueFault::RepetitionSize),
-        ),
-        (
-            b"\x0E\x03TOP\x14\x7B\x80\x80\x80\x80\x10\x00\x0A\x0A\x00\x00",
-            39,
-            figure(FigureRule::Layer),
-        ),
-        (
-            b"\x0E\x03TOP\x16\xFB\x01\x00\x02\x0F\x04\x03\x00\x02\x14\x14\x00\x00",
-            39,
-            figure(FigureRule::Extension),
-        ),
-        (
-            b"\x0E\x03TOP\x16\xFB\x01\x00\x00\x05\x00\x02\x14\x14\x00\x00",
-            39,
-            figure(FigureRule::Path(PathFault::NoWidth)),
-        ),
-        (
-            b"\x0E\x03TOP\x15\x3B\x01\x00\x03\x02\x54\x2C\x00\x00",
-            39,
-            figure(FigureRule::Oblique),
-        ),
-        (
-            b"\x0E\x03TOP\x12\xB2\x01A\x00\x2D\x00\x00",
-            39,
-            figure(FigureRule::Angle),
-        ),
-        (
-            b"\x0E\x03TOP\x12\x84\x01A\x04\x02\x01",
-            39,
-            figure(FigureRule::Magnification),
-        ),
-        (
-            b"\x0E\x03TOP\x11\x40",
-            39,
-            figure(FigureRule::Undefined(Variable::PlacementCell)),
-        ),
-        (
-            b"\x0E\x03TOP\x14\x7F\x01\x00\x0A\x0A\x00\x00\x00",
-            39,
-            figure(FigureRule::Undefined(Variable::Repetition)),
-        ),
-        (
-            b"\x0E\x03TOP\x02\xFF\xFF\xFF\xFF\x0F",
-            39,
-            OasisKind::Record(RecordRule::EndLength),
-        ),
-        (
-            b"\x0E\x03TOP\x02\xFB\x01",
-            39,
-            OasisKind::Record(RecordRule::EndLength),
-        ),
-    ];
-    for (records, offset, kind) in rows {
-        let want = at(offset, kind);
-        assert_eq!(rt; faults_in(rt.alloc(), records)?, [want, want]);
+    for row in FAULTS.lines() {
+        let (words, want) = row.split_once(" | ").unwrap_or((row, ""));
+        assert_eq!(rt; fault_in(rt.alloc(), words)?.as_str(), want, "{row}");
     }
     Ok(())
 }

@@ -1,88 +1,63 @@
 //! Files read whole: what is drawn, how often, and which cells are placed.
 
 use crate::library::{TOP, boxes, first_of, library_of};
+use crate::library_faults::bytes_of;
 use lvl_cells::{Cell, Library, Reference, Shapes};
 use lvl_grid::{Point, Turn};
 use std::alloc::Global;
 use std::process::Abort;
 use std::test::Fail;
 
-/// The cell TOP with rings of these boxes, each of four points.
-fn check_boxes(
-    rt: &impl Abort,
-    alloc: Global,
-    library: &Library,
-    want: &[[i64; 4]],
-    records: &[u8],
-) -> Result<(), Fail> {
-    assert_eq!(rt; first_of(library)?.name.as_slice(), b"TOP".as_slice());
-    let found = boxes(alloc, library)?;
-    assert_eq!(rt; found.len(), want.len(), "{records:?}");
-    for (k, sides) in want.iter().enumerate() {
-        assert_eq!(rt; found.get(k), Some(&(*sides, 4)), "{records:?}");
+/// Rows square-flag, names-by-number, implied-vertex, path-ends, relative-mode, negative-x and
+/// edge-of-range: the records of a file, and the boxes of what its cell TOP draws on 1/0, each by its least and
+/// greatest coordinates.
+const BOXES: &str = "\
+0E 03 54 4F 50 14 DB 01 00 0A 00 00 | 0,0,10,10
+0E 03 54 4F 50 14 DB 01 00 0A 00 00 14 10 14 | 0,0,10,10; 10,0,20,10
+0D 00 14 7B 01 00 0A 0A 00 00 03 03 54 4F 50 | 0,0,10,10
+0E 03 54 4F 50 15 3B 01 00 00 02 14 14 00 00 | 0,0,10,10
+0E 03 54 4F 50 16 FB 01 00 02 09 00 02 14 14 00 00 | -2,-2,12,2; 8,-2,12,10
+0E 03 54 4F 50 16 FB 01 00 02 0F 04 00 00 02 14 14 00 00 | -2,-2,12,2; 8,-2,12,10
+0E 03 54 4F 50 16 FB 01 00 02 0F 04 02 00 02 14 14 00 00 | -2,-2,12,2; 8,-2,12,11
+0E 03 54 4F 50 16 FB 01 00 02 0F 0A 02 00 02 14 14 00 00 | -5,-2,12,2; 8,-2,12,11
+0E 03 54 4F 50 10 14 7B 01 00 02 02 0A 00 14 10 0A | 5,0,7,2; 10,0,12,2
+0E 03 54 4F 50 14 7B 01 00 0A 14 0B 00 | -5,0,5,20
+0E 03 54 4F 50 15 3B 01 00 00 02 03 02 FF FF FF FF FF FF FF FF FF 01 00 | -9223372036854775808,0,-9223372036854775807,1
+0E 03 54 4F 50 00 14 7B 01 00 0A 0A 00 00 00 0F 00 | 0,0,10,10
+0E 03 54 4F 50 14 7B 01 00 00 05 00 00 | 0,0,0,5
+";
+
+/// The boxes of the cell TOP, each of which is to be that of four points.
+fn boxes_text(alloc: Global, library: &Library) -> Result<String, Fail> {
+    let mut text = String::new(alloc);
+    for (sides, points) in &boxes(alloc, library)? {
+        let [x0, y0, x1, y1] = *sides;
+        text.push_str(if text.is_empty() { "" } else { "; " })?;
+        text.push_str(&format!(in alloc; "{x0},{y0},{x1},{y1}")?)?;
+        text.push_str(if *points == 4 {
+            ""
+        } else {
+            " not of four points"
+        })?;
     }
-    Ok(())
+    Ok(text)
 }
 
-/// Rows square-flag, names-by-number, implied-vertex, path-ends, relative-mode, negative-x and
-/// edge-of-range: the boxes of what is drawn on 1/0.
+/// What the cell TOP of a file of these records draws.
+fn drawn_boxes(alloc: Global, words: &str) -> Result<String, Fail> {
+    let records = bytes_of(alloc, words)?;
+    let library = library_of(alloc, &[&records], 5)?;
+    if first_of(&library)?.name.as_slice() != b"TOP".as_slice() {
+        return Ok(String::from_str(alloc, "another cell")?);
+    }
+    boxes_text(alloc, &library)
+}
+
 #[test]
 fn draws_boxes(rt: HostRuntime) -> Result<(), Fail> {
-    let ten = [0, 0, 10, 10];
-    let rows: [(&[u8], &[u8], &[[i64; 4]]); 13] = [
-        (TOP, b"\x14\xDB\x01\x00\x0A\x00\x00", &[ten]),
-        (
-            TOP,
-            b"\x14\xDB\x01\x00\x0A\x00\x00\x14\x10\x14",
-            &[ten, [10, 0, 20, 10]],
-        ),
-        (
-            b"\x0D\x00",
-            b"\x14\x7B\x01\x00\x0A\x0A\x00\x00\x03\x03TOP",
-            &[ten],
-        ),
-        (TOP, b"\x15\x3B\x01\x00\x00\x02\x14\x14\x00\x00", &[ten]),
-        (
-            TOP,
-            b"\x16\xFB\x01\x00\x02\x09\x00\x02\x14\x14\x00\x00",
-            &[[-2, -2, 12, 2], [8, -2, 12, 10]],
-        ),
-        (
-            TOP,
-            b"\x16\xFB\x01\x00\x02\x0F\x04\x00\x00\x02\x14\x14\x00\x00",
-            &[[-2, -2, 12, 2], [8, -2, 12, 10]],
-        ),
-        (
-            TOP,
-            b"\x16\xFB\x01\x00\x02\x0F\x04\x02\x00\x02\x14\x14\x00\x00",
-            &[[-2, -2, 12, 2], [8, -2, 12, 11]],
-        ),
-        (
-            TOP,
-            b"\x16\xFB\x01\x00\x02\x0F\x0A\x02\x00\x02\x14\x14\x00\x00",
-            &[[-5, -2, 12, 2], [8, -2, 12, 11]],
-        ),
-        (
-            TOP,
-            b"\x10\x14\x7B\x01\x00\x02\x02\x0A\x00\x14\x10\x0A",
-            &[[5, 0, 7, 2], [10, 0, 12, 2]],
-        ),
-        (TOP, b"\x14\x7B\x01\x00\x0A\x14\x0B\x00", &[[-5, 0, 5, 20]]),
-        (
-            TOP,
-            b"\x15\x3B\x01\x00\x00\x02\x03\x02\xFF\xFF\xFF\xFF\xFF\xFF\xFF\xFF\xFF\x01\x00",
-            &[[i64::MIN, 0, -i64::MAX, 1]],
-        ),
-        (
-            TOP,
-            b"\x00\x14\x7B\x01\x00\x0A\x0A\x00\x00\x00\x0F\x00",
-            &[ten],
-        ),
-        (TOP, b"\x14\x7B\x01\x00\x00\x05\x00\x00", &[[0, 0, 0, 5]]),
-    ];
-    for (cell, records, want) in rows {
-        let library = library_of(rt.alloc(), &[cell, records], 5)?;
-        check_boxes(&rt, rt.alloc(), &library, want, records)?;
+    for row in BOXES.lines() {
+        let (words, want) = row.split_once(" | ").unwrap_or((row, ""));
+        assert_eq!(rt; drawn_boxes(rt.alloc(), words)?.as_str(), want, "{row}");
     }
     Ok(())
 }
