@@ -1,4 +1,5 @@
-//! Each public call of `lvl` once, and the jobs of `lvl_job` on files that are held in memory.
+//! Each public call of `lvl` once, the lines that `lvl_line` reads, and the jobs of `lvl_job` on files that are
+//! held in memory.
 //!
 //! A crate of its own, since a crate with tests is proved twice.
 #![tactic(auto)]
@@ -7,3 +8,5 @@
 mod jobs;
 #[cfg(test)]
 mod layouts;
+#[cfg(test)]
+mod lines;

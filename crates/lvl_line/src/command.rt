@@ -2,6 +2,7 @@
 ghost use Rattle.std.specs.Prelude.{◌≡◌, IfOk, false};
 ghost use Rattle.clap.specs.Words.{app_of, rule_of};
 ghost use Rattle.lvl_line.specs.Line.{compare_app, file_rule, line, one_file_app, option_rule};
+ghost use Rattle.lvl_line.specs.inside.Begun.{comparing_line, tops_app};
 
 use clap::{Arg, Command};
 use std::alloc::{AllocError, Global};
@@ -39,16 +40,23 @@ fn option<'a>(alloc: Global, id: &'a str, value: &'a str, help: &'a str) -> Arg<
     Arg::new(alloc, id).long(id).value_name(value).help(help)
 }
 
-/// `compare A B [--top-a NAME] [--top-b NAME] [--map PAIRS] [--window RANGES] [--ignore WORDS]`.
-fn compare<'a>(alloc: Global) -> Result<Command<'a>, AllocError>
-    ensures { IfOk result (λ c. app_of c ≡ compare_app) }
+/// `compare A B [--top-a NAME] [--top-b NAME]`.
+fn compare_tops<'a>(alloc: Global) -> Result<Command<'a>, AllocError>
+    ensures { IfOk result (λ c. app_of c ≡ tops_app) }
 {
     Command::new(alloc, "compare")
         .about("Says whether two layouts draw the same mask")
         .arg(file(alloc, "A", "The first layout, GDSII or OASIS"))?
         .arg(file(alloc, "B", "The second layout, GDSII or OASIS"))?
         .arg(option(alloc, "top-a", "NAME", "The first layout's top cell"))?
-        .arg(option(alloc, "top-b", "NAME", "The second layout's top cell"))?
+        .arg(option(alloc, "top-b", "NAME", "The second layout's top cell"))
+}
+
+/// The same with `[--map PAIRS] [--window RANGES] [--ignore WORDS]`.
+fn compare<'a>(alloc: Global) -> Result<Command<'a>, AllocError>
+    ensures { IfOk result (λ c. app_of c ≡ compare_app) }
+{
+    compare_tops(alloc)?
         .arg(option(alloc, "map", "PAIRS", MAP_HELP))?
         .arg(option(alloc, "window", "RANGES", WINDOW_HELP))?
         .arg(option(alloc, "ignore", "WORDS", IGNORE_HELP))
@@ -65,15 +73,22 @@ fn one_file<'a>(alloc: Global, name: &'a str, about: &'a str) -> Result<Command<
         .arg(option(alloc, "ignore", "WORDS", IGNORE_HELP))
 }
 
-/// The program's line: one of the subcommands `compare`, `show` and `digest`.
-pub(crate) fn program<'a>(alloc: Global) -> Result<Command<'a>, AllocError>
-    ensures { IfOk result (λ c. app_of c ≡ line) }
+/// A line with the subcommand `compare` alone.
+fn comparing<'a>(alloc: Global) -> Result<Command<'a>, AllocError>
+    ensures { IfOk result (λ c. app_of c ≡ comparing_line) }
 {
     Command::new(alloc, "lvl")
         .version("1.0.0")
         .about("Compares two chip mask layouts by the mask that they draw")
         .subcommand_required(true)
-        .subcommand(compare(alloc)?)?
+        .subcommand(compare(alloc)?)
+}
+
+/// The program's line: one of the subcommands `compare`, `show` and `digest`.
+pub(crate) fn program<'a>(alloc: Global) -> Result<Command<'a>, AllocError>
+    ensures { IfOk result (λ c. app_of c ≡ line) }
+{
+    comparing(alloc)?
         .subcommand(one_file(alloc, "show", SHOW_HELP)?)?
         .subcommand(one_file(alloc, "digest", DIGEST_HELP)?)
 }

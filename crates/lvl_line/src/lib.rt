@@ -18,5 +18,3 @@ pub use parse::parse_line;
 mod command;
 mod job;
 mod parse;
-#[cfg(test)]
-mod tests;

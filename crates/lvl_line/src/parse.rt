@@ -1,5 +1,5 @@
 //! The words of a line, as a job.
-ghost use Rattle.std.specs.Prelude.{◌≡◌, ◌≢◌, ◌⊎◌, Some, true, map, option_map, IfOk, IfErr};
+ghost use Rattle.std.specs.Prelude.{◌≡◌, ◌≢◌, ◌⊎◌, Some, true, codes, map, option_map, IfOk, IfErr};
 ghost use Rattle.std.specs.String.{string_bytes};
 ghost use Rattle.clap.specs.Words.{first_of, found_of, kind_of, rows_of, takes};
 ghost use Rattle.lvl_line.specs.Line.{line, IsJob, IsNamed, IsRefusal};
@@ -33,21 +33,30 @@ fn file_of(alloc: Global, matches: &ArgMatches<'_>, id: &str) -> Result<String, 
     String::from_str(alloc, text)
 }
 
+/// The job of `compare`.
+fn compare_of(alloc: Global, matches: &ArgMatches<'_>) -> Result<Job, AllocError>
+    requires first { Gives (codes "A") (rows_of (found_of matches.now)) }
+    requires second { Gives (codes "B") (rows_of (found_of matches.now)) }
+    ensures { IfOk result (λ job. IsNamed job (Some (codes "compare", rows_of (found_of matches.now)))) }
+{
+    Ok(Job::Compare {
+        first: file_of(alloc, matches, "A")?,
+        second: file_of(alloc, matches, "B")?,
+        top_a: value_of(alloc, matches, "top-a")?,
+        top_b: value_of(alloc, matches, "top-b")?,
+        map: value_of(alloc, matches, "map")?,
+        window: value_of(alloc, matches, "window")?,
+        ignore: value_of(alloc, matches, "ignore")?,
+    })
+}
+
 /// The job of a subcommand that `clap` found in the line.
 fn job_of(alloc: Global, name: &str, matches: &ArgMatches<'_>) -> Result<Job, AllocError>
     requires { IsJobOf name.now (rows_of (found_of matches.now)) }
     ensures { IfOk result (λ job. IsNamed job (Some (name.now, rows_of (found_of matches.now)))) }
 {
     if name == "compare" {
-        return Ok(Job::Compare {
-            first: file_of(alloc, matches, "A")?,
-            second: file_of(alloc, matches, "B")?,
-            top_a: value_of(alloc, matches, "top-a")?,
-            top_b: value_of(alloc, matches, "top-b")?,
-            map: value_of(alloc, matches, "map")?,
-            window: value_of(alloc, matches, "window")?,
-            ignore: value_of(alloc, matches, "ignore")?,
-        });
+        return compare_of(alloc, matches);
     }
     let file = file_of(alloc, matches, "A")?;
     let top = value_of(alloc, matches, "top")?;

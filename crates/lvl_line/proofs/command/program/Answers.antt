@@ -1,21 +1,11 @@
 use Rattle.std.proofs.Common.{◌≡◌, ◌∙◌, ◌&&◌, Bool, ap, ap₂, codes, false, not, true}
 use Rattle.std.proofs.lemmas.Result.{IfOk-weaker}
 use Rattle.clap.specs.Words.{App, app_of, with_subcommand}
-use Rattle.clap.specs.Simple.{app_of_fields}
 use Rattle.clap.proofs.SimpleLemmas.{is_false}
 use Rattle.clap.proofs.WalkLemmas.{both}
-use Rattle.lvl_line.specs.Line.{compare_app, one_file_app, plain_line}
+use Rattle.lvl_line.specs.Line.{one_file_app}
+use Rattle.lvl_line.specs.inside.Begun.{comparing_line}
 use Rattle.lvl_line.proofs.command.program.Goals as goal
-
-must : App → App
-must a = record a { top = record a.top { subcommand_required = true } }
-
-versioned : App → App
-versioned a = record a { top = record a.top { has_version = true } }
-
--- the line before it has a subcommand
-abbrev bare_line : App
-bare_line = record plain_line { top = record plain_line.top { has_version = true; subcommand_required = true } }
 
 -- where all of them are true, what is negated isn't
 third_is_false : (a b c d : Bool) → (a && (b && (not c && d))) ≡ true → c ≡ false
@@ -25,19 +15,11 @@ plain : App → Bool
 plain a = a.top.is_plain
 
 pub returns : goal.returns
-unfolding versioned must plain
+unfolding plain
 returns c =
-    let line_new : app_of c.subcommand_required.result ≡ bare_line =
-    ap app_of_fields c.subcommand_required.ensures
-    ∙ ap must
-    (ap app_of_fields c.about.ensures ∙ ap app_of_fields c.version.ensures ∙ ap versioned c.new.ensures.app) in
-    let compared : app_of c.in_ok-subcommand.field-0 ≡ with_subcommand bare_line compare_app.top =
-    c.in_ok-subcommand.ensures.shape (third_is_false _ _ _ _ (ap plain c.in_ok-compare.ensures))
-    ∙ ap₂ with_subcommand line_new (ap (λ (a : App). a.top) c.in_ok-compare.ensures) in
-    let shown : app_of c.in_ok-subcommand-2.field-0
-    ≡ with_subcommand (with_subcommand bare_line compare_app.top) (one_file_app (codes "show")).top =
-    c.in_ok-subcommand-2.ensures.shape (third_is_false _ _ _ _ (ap plain c.in_ok-one_file.ensures))
-    ∙ ap₂ with_subcommand compared (ap (λ (a : App). a.top) c.in_ok-one_file.ensures) in
-    IfOk-weaker c.subcommand-3.result _ _
+    let shown : app_of c.in_ok-subcommand.field-0 ≡ with_subcommand comparing_line (one_file_app (codes "show")).top =
+    c.in_ok-subcommand.ensures.shape (third_is_false _ _ _ _ (ap plain c.in_ok-one_file.ensures))
+    ∙ ap₂ with_subcommand c.in_ok-comparing.ensures (ap (λ (a : App). a.top) c.in_ok-one_file.ensures) in
+    IfOk-weaker c.subcommand-2.result _ _
     (λ r h. h.shape (third_is_false _ _ _ _ (ap plain c.in_ok-one_file-2.ensures))
-    ∙ ap₂ with_subcommand shown (ap (λ (a : App). a.top) c.in_ok-one_file-2.ensures)) c.subcommand-3.ensures
+    ∙ ap₂ with_subcommand shown (ap (λ (a : App). a.top) c.in_ok-one_file-2.ensures)) c.subcommand-2.ensures

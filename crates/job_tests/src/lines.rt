@@ -1,6 +1,6 @@
 //! Lines, and what they ask for.
-use crate::{Job, LineFault, parse_line};
 use clap::error::ErrorKind;
+use lvl_line::{Job, LineFault, parse_line};
 use std::alloc::{AllocError, Global};
 use std::test::Fail;
 

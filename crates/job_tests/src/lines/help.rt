@@ -1,6 +1,6 @@
 //! The texts of help and of the version, which `clap` writes in its usual form.
-use crate::tests::words_of;
-use crate::{LineFault, parse_line};
+use crate::lines::words_of;
+use lvl_line::{LineFault, parse_line};
 use std::test::Fail;
 
 const LVL: &str = "\

@@ -1,0 +1,36 @@
+use Rattle.std.proofs.Common.{◌≡◌, ◌∙◌, ◌&&◌, Bool, ap, ap₂, false, not, true}
+use Rattle.std.proofs.lemmas.Result.{IfOk-weaker}
+use Rattle.clap.specs.Words.{App, app_of, with_subcommand}
+use Rattle.clap.specs.Simple.{app_of_fields}
+use Rattle.clap.proofs.SimpleLemmas.{is_false}
+use Rattle.clap.proofs.WalkLemmas.{both}
+use Rattle.lvl_line.specs.Line.{plain_line}
+use Rattle.lvl_line.proofs.command.comparing.Goals as goal
+
+must : App → App
+must a = record a { top = record a.top { subcommand_required = true } }
+
+versioned : App → App
+versioned a = record a { top = record a.top { has_version = true } }
+
+-- the line before it has a subcommand
+abbrev bare_line : App
+bare_line = record plain_line { top = record plain_line.top { has_version = true; subcommand_required = true } }
+
+-- where all of them are true, what is negated isn't
+third_is_false : (a b c d : Bool) → (a && (b && (not c && d))) ≡ true → c ≡ false
+third_is_false a b c d e = is_false _ (both _ _ (both _ _ (both _ _ e).1).1).0
+
+plain : App → Bool
+plain a = a.top.is_plain
+
+pub returns : goal.returns
+unfolding versioned must plain
+returns c =
+    let line_new : app_of c.subcommand_required.result ≡ bare_line =
+    ap app_of_fields c.subcommand_required.ensures
+    ∙ ap must
+    (ap app_of_fields c.about.ensures ∙ ap app_of_fields c.version.ensures ∙ ap versioned c.new.ensures.app) in
+    IfOk-weaker c.subcommand.result _ _
+    (λ r h. h.shape (third_is_false _ _ _ _ (ap plain c.in_ok-compare.ensures))
+    ∙ ap₂ with_subcommand line_new (ap (λ (a : App). a.top) c.in_ok-compare.ensures)) c.subcommand.ensures
