@@ -15,5 +15,3 @@
 pub use ignore::{Ignore, IgnoreFault};
 
 mod ignore;
-#[cfg(test)]
-mod tests;

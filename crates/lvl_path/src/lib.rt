@@ -19,6 +19,4 @@ mod band;
 mod fault;
 mod runs;
 mod steps;
-#[cfg(test)]
-mod tests;
 mod way;

@@ -1,6 +1,6 @@
 //! Worked paths, and each growth refused in turn.
-use crate::{PathFault, bands};
 use lvl_grid::{Point, Ring};
+use lvl_path::{PathFault, bands};
 use lvl_refusal::Cause;
 use std::alloc::{AllocError, Global};
 use std::test::Fail;

@@ -1,8 +1,8 @@
 //! The readers and writers of std, counted.
 ghost use Rattle.std.specs.Prelude.{None};
 
-use crate::fake::Pieces;
-use crate::{Buffer, Counted, Failure, Missing, Peeked, Read, Write};
+use lvl_io::fake::Pieces;
+use lvl_io::{Buffer, Counted, Failure, Missing, Peeked, Read, Write};
 use std::io;
 use std::test::Fail;
 
