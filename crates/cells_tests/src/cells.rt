@@ -89,21 +89,22 @@ fn chain_of(alloc: Global, length: u32, times: u32) -> Result<Library, Fail> {
     Ok(Library { cells })
 }
 
-/// The names, each after a space.
-fn add_names(text: &mut String, names: &[Vec<u8>]) -> Result<(), Fail> {
-    for name in names {
-        text.push_str(" ")?;
-        for byte in name {
-            text.push(char::from(*byte))?;
-        }
+/// A name, after a space.
+fn add_name(text: &mut String, name: &[u8]) -> Result<(), AllocError> {
+    text.push_str(" ")?;
+    for byte in name {
+        text.push(char::from(*byte))?;
     }
     Ok(())
 }
 
 /// What happened, and the names that belong to it.
 fn named(alloc: Global, what: &str, names: &[Vec<u8>]) -> Result<String, Fail> {
-    let mut text = String::from_str(alloc, what)?;
-    add_names(&mut text, names)?;
+    let mut text = String::new(alloc);
+    text.push_str(what)?;
+    for name in names {
+        add_name(&mut text, name)?;
+    }
     Ok(text)
 }
 
@@ -118,8 +119,10 @@ fn fault_text(alloc: Global, fault: CellFault) -> Result<String, Fail> {
 
 fn top_text(alloc: Global, checked: &Checked) -> Result<String, Fail> {
     let top = checked.cells().get(checked.top()).ok_or("a top")?;
-    let name = Vec::from_slice(alloc, &top.name)?;
-    named(alloc, "top", &[name])
+    let mut text = String::new(alloc);
+    text.push_str("top")?;
+    add_name(&mut text, &top.name)?;
+    Ok(text)
 }
 
 /// The top's name, or the fault and the names that it carries.

@@ -1,7 +1,6 @@
 //! Corners of rings, worked by hand.
-use lvl_corners::{Corner, LayerDigest, MaskHash, corners_of, cover_same, send_corners};
+use lvl_corners::{Corner, corners_of, cover_same, send_corners};
 use lvl_grid::{Point, Ring, Rings};
-use lvl_names::Layer;
 use std::alloc::Global;
 use std::test::Fail;
 
@@ -16,14 +15,14 @@ fn example(rt: HostRuntime) -> Result<(), Fail> {
     Ok(())
 }
 
-type Outline<'a> = &'a [(i64, i64)];
+pub(crate) type Outline<'a> = &'a [(i64, i64)];
 
 /// A corner as it is written down: x, y, and the change.
 type Written = (i64, i64, i8);
 
-const LOW: i64 = i64::MIN;
+pub(crate) const LOW: i64 = i64::MIN;
 
-const HIGH: i64 = i64::MAX;
+pub(crate) const HIGH: i64 = i64::MAX;
 
 const SQUARE: [(i64, i64); 4] = [(0, 0), (10, 0), (10, 10), (0, 10)];
 
@@ -40,7 +39,14 @@ const TWICE: [(i64, i64); 8] = [
     (0, 10),
 ];
 
-const CORNERED: [(i64, i64); 6] = [(0, 0), (20, 0), (20, 10), (10, 10), (10, 20), (0, 20)];
+pub(crate) const CORNERED: [(i64, i64); 6] = [
+    (0, 0),
+    (20, 0),
+    (20, 10),
+    (10, 10),
+    (10, 20),
+    (0, 20),
+];
 
 /// A square of 30 with a hole of 10 in the middle, cut open along the hole's lower side.
 const HOLED: [(i64, i64); 10] = [
@@ -56,7 +62,7 @@ const HOLED: [(i64, i64); 10] = [
     (0, 10),
 ];
 
-const NEXT: [(i64, i64); 4] = [(10, 10), (20, 10), (20, 20), (10, 20)];
+pub(crate) const NEXT: [(i64, i64); 4] = [(10, 10), (20, 10), (20, 20), (10, 20)];
 
 const OTHER_NEXT: [(i64, i64); 4] = [(-10, 10), (0, 10), (0, 20), (-10, 20)];
 
@@ -80,7 +86,7 @@ const LAST: [(i64, i64); 4] = [
 
 const FLAT: [(i64, i64); 3] = [(0, 0), (10, 0), (5, 0)];
 
-fn rings(alloc: Global, outlines: &[Outline]) -> Result<Rings, Fail> {
+pub(crate) fn rings(alloc: Global, outlines: &[Outline]) -> Result<Rings, Fail> {
     let mut rings = Rings::new(alloc);
     for outline in outlines {
         let mut points = Vec::new(alloc);
@@ -215,19 +221,6 @@ fn lists_that_cover_the_same(rt: HostRuntime) -> Result<(), Fail> {
     Ok(())
 }
 
-/// A rectangle by its least and its greatest coordinates.
-type Rectangle = (i64, i64, i64, i64);
-
-fn rectangles(alloc: Global, corners: &[Rectangle]) -> Result<Rings, Fail> {
-    let mut rings = Rings::new(alloc);
-    for (x, y, right, top) in corners {
-        let low = Point { x: *x, y: *y };
-        let high = Point { x: *right, y: *top };
-        rings.push_ring(&Ring::rectangle(alloc, low, high)?)?;
-    }
-    Ok(rings)
-}
-
 /// The lower left corner of the bar of this number: bars are side by side, with a space of one square
 /// between them, and each begins at another ordinate.
 fn foot(number: u16) -> Point {
@@ -313,90 +306,5 @@ fn corners_of_many_squares(rt: HostRuntime) -> Result<(), Fail> {
             "square {number}"
         );
     }
-    Ok(())
-}
-
-fn hex(alloc: Global, bytes: &[u8]) -> Result<String, Fail> {
-    let mut text = String::new(alloc);
-    for byte in bytes {
-        write!(text, "{byte:02x}")?;
-    }
-    Ok(text)
-}
-
-/// The digests of Layers, as `tools/digest_check.py` finds them from a raster; the first Layer is 1, and
-/// all have datatype 0.
-const LAYERS: [(&[Rectangle], u64, &str); 5] = [
-    (
-        &[(0, 0, 10, 10)],
-        4,
-        "c5483bbfa6d27cf601d87a9d6e74b9350c2dcde72a70bab5f8615769e8fc5728",
-    ),
-    (
-        &[(0, 0, 10, 10), (10, 10, 20, 20)],
-        7,
-        "0a9cd4a09b923778c23b8781d814b9aa31701b7fa656a8c942104a49d734239d",
-    ),
-    (
-        &[(0, 0, 4, 9), (2, 3, 7, 5), (2, 3, 7, 5), (-5, -5, 0, 0)],
-        11,
-        "88dd5c008e2d7515cdccd3f65cbe113461c0c02efc7013a25fcc509e19b1b9a2",
-    ),
-    (
-        &[(LOW, LOW, HIGH, HIGH)],
-        4,
-        "0cdee7a55509d2dee77af4e5c28bf13c4acc7e3818f28aa2762aa6abdc14e737",
-    ),
-    (
-        &[(LOW, LOW, LOW + 1, HIGH), (HIGH - 1, LOW, HIGH, LOW + 1)],
-        8,
-        "f771974c1a0ebdd94620e2f4df39a79bac0ec4fe5c3ee5e2be56d00f40ddb3f3",
-    ),
-];
-
-/// The digest of all these Layers together.
-const MASK: &str = "b367464dda2f33f3ecb2b712ead41b8b6346959dc46b75cb26d1d525fa210659";
-
-fn layer(layer: u32) -> Layer {
-    Layer { layer, datatype: 0 }
-}
-
-/// The digest of a Layer of these rectangles, which are hashed.
-fn pushed(
-    alloc: Global,
-    mask: &mut MaskHash,
-    layer: Layer,
-    corners: &[Rectangle],
-) -> Result<LayerDigest, Fail> {
-    let rings = rectangles(alloc, corners)?;
-    Ok(mask.push(alloc, layer, &rings)?.ok_or("nothing")?)
-}
-
-fn is_hex(alloc: Global, bytes: &[u8], text: &str) -> Result<bool, Fail> {
-    Ok(hex(alloc, bytes)?.as_str() == text)
-}
-
-#[test]
-fn digests_of_layers(rt: HostRuntime) -> Result<(), Fail> {
-    let alloc = rt.alloc();
-    let mut mask = MaskHash::new();
-    let nothing = mask.push(alloc, layer(0), &Rings::new(alloc))?;
-    assert!(rt; nothing.is_none());
-    for (number, (corners, count, sha256)) in (1u32..).zip(LAYERS) {
-        let digest = pushed(alloc, &mut mask, layer(number), corners)?;
-        assert_eq!(rt; digest.corners, count);
-        assert!(rt; is_hex(alloc, &digest.sha256, sha256)?);
-    }
-    assert!(rt; is_hex(alloc, &mask.finish(), MASK)?);
-    Ok(())
-}
-
-#[test]
-fn growths_of_digests(rt: HostRuntime) -> Result<(), Fail> {
-    let alloc = rt.alloc();
-    let mut mask = MaskHash::new();
-    let rings = rings(alloc, &[&CORNERED, &NEXT])?;
-    assert!(rt; mask.push(alloc, layer(1), &rings)?.is_some());
-    assert!(rt; cover_same(alloc, &rings, &rings)?);
     Ok(())
 }

@@ -5,3 +5,5 @@
 
 #[cfg(test)]
 mod corners;
+#[cfg(test)]
+mod digests;

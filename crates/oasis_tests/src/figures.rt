@@ -105,7 +105,8 @@ the modal repetition | 14 7F 01 00 01 01 00 00 02 00 05 14 04 00 | 2 1/0 0,0 1,0
 implied-vertex | 15 3B 01 00 00 02 14 14 00 00 | 1 1/0 0,0 10,0 10,10 0,10
 the modal point list | 15 3B 01 00 00 02 14 14 00 00 15 18 0A 06 | 1 1/0 5,3 15,3 15,13 5,13
 path-ends | 16 FB 01 00 02 0F 04 02 00 02 14 14 00 00 | 1 1/0 -2,-2 12,-2 12,2 -2,2; 8,-2 12,-2 12,11 8,11
-extensions stay, the half-width changes | 16 FB 01 00 02 0A 00 02 14 14 00 00 16 40 01 | 1 1/0 -2,-1 11,-1 11,1 -2,1; 9,-1 11,-1 11,12 9,12
+extensions stay, the half-width changes | 16 FB 01 00 02 0A 00 02 14 14 00 00 16 40 01 | \
+    1 1/0 -2,-1 11,-1 11,1 -2,1; 9,-1 11,-1 11,12 9,12
 a mode draws nothing | 0F | 1 nothing
 modal-ends-at-cell | 14 7A 00 0A 0A 00 00 | 1 Undefined(Layer)
 layer-range | 14 7B 80 80 80 80 10 00 0A 0A 00 00 | 1 Layer
