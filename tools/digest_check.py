@@ -1,5 +1,5 @@
 #!/usr/bin/env python3
-"""Computes the digests of the table LAYERS in crates/lvl_corners/src/tests.rt by hashlib, and checks the table."""
+"""Computes the digests of the table LAYERS in crates/corners_tests/src/digests.rt by hashlib, and checks the table."""
 
 import argparse
 import hashlib
@@ -11,7 +11,7 @@ sys.dont_write_bytecode = True
 
 from digest import corners, layer_bytes
 
-TESTS = pathlib.Path(__file__).parent.parent / "crates/lvl_corners/src/tests.rt"
+TESTS = pathlib.Path(__file__).parent.parent / "crates/corners_tests/src/digests.rt"
 NAMES = {"LOW": -(2**63), "HIGH": 2**63 - 1}
 
 
