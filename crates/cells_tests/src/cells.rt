@@ -348,7 +348,7 @@ fn shapes(rt: HostRuntime) -> Result<(), Fail> {
 fn points_and_shifts_of_shapes(rt: HostRuntime) -> Result<(), Fail> {
     let shapes = four_shapes(rt.alloc())?;
     assert!(rt; shapes.len() == 4 && shapes.ring_count(1) == 2);
-    assert_eq!(rt; shapes.ring(1, 1).get(2), Some(&Point { x: 5, y: 7 }));
+    assert_eq!(rt; shapes.ring(1, 1).get(2), Some(Point { x: 5, y: 7 }));
     assert_eq!(rt; shapes.shift(2, 5), Some(Point { x: 1, y: 2 }));
     assert_eq!(rt; shapes.shift(0, 1), None);
     Ok(())

@@ -9,6 +9,8 @@ mod cells;
 #[cfg(test)]
 mod offsets;
 #[cfg(test)]
+mod shared;
+#[cfg(test)]
 mod shifts;
 #[cfg(test)]
 mod texts;

@@ -192,6 +192,53 @@ fn refused_at_range_edge(rt: HostRuntime) -> Result<(), Fail> {
     Ok(())
 }
 
+/// A quarter of the range.
+const QUARTER: i64 = 1 << 62;
+
+/// A library of a square at the lower end of the range, and of the same square moved by a quarter of it, at two
+/// shifts: the second and that displacement are outside 64 bits together, where no square comes to lie.
+fn moved_far(alloc: Global) -> Result<Checked, Fail> {
+    let low = Point { x: i64::MIN, y: 0 };
+    let high = Point {
+        x: i64::MIN + 1,
+        y: 1,
+    };
+    let far = Point { x: i64::MAX, y: 0 };
+    let shifts = Offsets::new([ORIGIN, far].to_vec(alloc)?).ok_or("shifts")?;
+    let mut cell = drawing(alloc, "A", METAL, low, high)?;
+    let moved = rectangle(
+        alloc,
+        Point {
+            x: low.x + QUARTER,
+            y: 0,
+        },
+        Point {
+            x: high.x + QUARTER,
+            y: 1,
+        },
+    )?;
+    cell.shapes.push_ring(METAL, moved.points(), &shifts)?;
+    let mut cells = Vec::new(alloc);
+    cells.push(cell)?;
+    Ok(check(alloc, Library { cells }, None)?)
+}
+
+#[test]
+fn moved_outside_and_back(rt: HostRuntime) -> Result<(), Fail> {
+    let checked = moved_far(rt.alloc())?;
+    let flat = flatten(rt.alloc(), &checked).ok().ok_or("refused")?;
+    let rings = flat.rings(METAL);
+    assert_eq!(rt; rings.len(), 3);
+    for (i, left) in [i64::MIN, i64::MIN + QUARTER, QUARTER - 1]
+        .iter()
+        .enumerate()
+    {
+        let want = (*left, 0, left + 1, 1);
+        assert_eq!(rt; rings.get(i).and_then(corners), Some(want), "{i}");
+    }
+    Ok(())
+}
+
 /// A Layer that only a cell out of reach draws on.
 const FAR: Layer = Layer {
     layer: 3,

@@ -93,7 +93,7 @@ fn check_square(rt: &impl Abort, cell: &Cell) {
     assert_eq!(rt; shapes.shift_count(0), 1);
     assert_eq!(rt; shapes.ring_count(0), 1);
     assert_eq!(rt; shapes.ring(0, 0).len(), 4);
-    assert_eq!(rt; shapes.ring(0, 0).get(3), Some(&Point { x: 0, y: 10 }));
+    assert_eq!(rt; shapes.ring(0, 0).get(3), Some(Point { x: 0, y: 10 }));
 }
 
 /// The library is one cell TOP with a square.
@@ -123,7 +123,7 @@ fn check_ring(rt: &impl Abort, shapes: &Shapes, points: &[(i64, i64)]) {
     assert_eq!(rt; shapes.len(), 1);
     assert_eq!(rt; shapes.ring_count(0), 1);
     for (k, (x, y)) in points.iter().enumerate() {
-        assert_eq!(rt; shapes.ring(0, 0).get(k), Some(&Point { x: *x, y: *y }));
+        assert_eq!(rt; shapes.ring(0, 0).get(k), Some(Point { x: *x, y: *y }));
     }
 }
 

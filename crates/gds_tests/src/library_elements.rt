@@ -3,7 +3,7 @@
 use gds_library::{ElementRule, GdsFault, GdsKind, Misplaced, read_gds};
 use gds_records::fake::{SQUARE, Stream};
 use gds_records::record_type;
-use lvl_cells::{CellFault, Library, Reference, Shapes, check};
+use lvl_cells::{CellFault, Library, MovedRing, Reference, Shapes, check};
 use lvl_grid::{Point, Turn};
 use lvl_io::fake::Pieces;
 use lvl_path::PathFault;
@@ -85,12 +85,12 @@ const COLROW_AT: u64 = 208;
 const XY_AT: u64 = 216;
 
 /// Whether the ring has these points.
-fn goes_along(points: &[Point], want: &[(i64, i64)]) -> bool {
-    points.len() == want.len()
-        && points
+fn goes_along(ring: &MovedRing<'_>, want: &[(i64, i64)]) -> bool {
+    ring.len() == want.len()
+        && want
             .iter()
-            .zip(want)
-            .all(|(p, (x, y))| p.x == *x && p.y == *y)
+            .enumerate()
+            .all(|(k, (x, y))| ring.get(k) == Some(Point { x: *x, y: *y }))
 }
 
 /// Whether these are the shifts of the reference.
@@ -229,8 +229,8 @@ fn check_ends(rt: &impl Abort, shapes: &Shapes) {
     assert_eq!(rt; shapes.ring_count(0), 2);
     let first: [(i64, i64); 4] = [(-2, -2), (12, -2), (12, 2), (-2, 2)];
     let second: [(i64, i64); 4] = [(8, -2), (12, -2), (12, 12), (8, 12)];
-    assert!(rt; goes_along(shapes.ring(0, 0), &first));
-    assert!(rt; goes_along(shapes.ring(0, 1), &second));
+    assert!(rt; goes_along(&shapes.ring(0, 0), &first));
+    assert!(rt; goes_along(&shapes.ring(0, 1), &second));
 }
 
 /// Row square-ends: a path that reaches out by half its width at both ends.

@@ -13,4 +13,5 @@ pub mod Roots
 pub mod Summing
 pub mod Refusing
 pub mod Looking
+pub mod Moving
 pub mod Spanned

@@ -1,248 +1,298 @@
 -- The shapes of a cell in one piece: the one at an index, and one more.
-use Rattle.std.proofs.Common.{◌≡◌, ◌≢◌, ◌≤◌, ◌<◌, ◌-◌, ◌+◌, ◌^◌, ℕ, zero, suc, get_or, List, [], ◌∷◌, ◌++◌, take, drop}
-use Rattle.std.proofs.Common.{length, All, Result, Ok, Err, OnErr, refl, sym, ap, arith, subst, ◌∙◌}
+use Rattle.std.proofs.Common.{◌≡◌, ◌≢◌, ◌≤◌, ◌<◌, ◌-◌, ◌+◌, ◌^◌, ℕ, zero, suc, get_or, List, [], ◌∷◌, ◌++◌, take, drop, map}
+use Rattle.std.proofs.Common.{length, All, inl, inr, Result, Ok, Err, OnErr, refl, sym, ap, arith, subst, ◌∙◌}
 use Rattle.std.proofs.lemmas.List.{drop-append-le, drop_at, get_or_default, get_or-map, get_or-take, get_or-drop}
-use Rattle.std.proofs.lemmas.List.{length-drop, length-append, length-map, length-take, length-take-le, map-append}
-use Rattle.std.proofs.lemmas.List.{take-append-le, take_all}
-use Rattle.std.proofs.lemmas.List.Elements.{All-get_or, All-head, All-push, All-tail, All-weaker}
+use Rattle.std.proofs.lemmas.List.{length-drop, length-append, length-map, length-take-le, map-append, same_lists}
+use Rattle.std.proofs.lemmas.List.{take-append-drop, take-append-le, take_all}
+use Rattle.std.proofs.lemmas.List.Elements.{All-from_get_or, All-get_or, All-head, All-push, All-tail, All-weaker}
 use Rattle.lvl_grid.specs.declared.point.Point.{Point}
-use Rattle.lvl_grid.specs.Pieces.{Rising, begin_of}
-use Rattle.lvl_grid.proofs.Pieces.{begin-next, piece_bounds, rising-first, rising-push}
+use Rattle.lvl_grid.specs.Turn.{FitsPoint, shifted}
+use Rattle.lvl_names.specs.Shifts.{one_place}
 use Rattle.lvl_cells.specs.declared.shapes.Span.{Span}
+use Rattle.lvl_cells.specs.declared.shared.KeptFigure.{KeptFigure}
 use Rattle.lvl_cells.specs.Cells.{PlainShape, Rings, shape_at}
-use Rattle.lvl_cells.specs.inside.Spans.{numbered, shapes_from, ends, AreShapes, GoesOn, HasNumber}
+use Rattle.lvl_cells.specs.inside.Spans.{numbered, displaced, origin, figure_in, shape_in, FitsMoved, IsAgain}
+use Rattle.lvl_cells.proofs.Moving.{unmoved_rings}
+use Rattle.lvl_cells.specs.inside.Spans.{IsFigure, IsSpan, GoesOn, HasNumber, HasMove}
 
-pub shapes-length : (start : ℕ) (spans : List Span) (rings : Rings) (kept : List (List Point))
-    → length (shapes_from start spans rings kept) ≡ length spans
-shapes-length start [] rings kept = refl
-shapes-length start (s ∷ spans) rings kept = ap suc (shapes-length s.end spans rings kept)
+-- the shapes of the spans
+abbrev pub shapes_in : Rings → List Point → List (List Point) → List Span → List (PlainShape Rings)
+shapes_in rings moves kept spans = map (shape_in rings moves kept) spans
 
--- where the rings of the span before end
-pub begin_after : (spans : List Span) (i : ℕ) (d : Span) → i ≢ 0 → i < length spans
-    → (get_or spans (i - 1) d).end ≡ begin_of 0 (ends spans) i
-begin_after spans i d some h =
-    let one : i - 1 + 1 ≡ i = omega (arith, some) in
-    let long : length (ends spans) ≡ length spans = length-map spans (λ (t : Span). t.end) in
-    let at : i - 1 + 1 < length (ends spans) = omega (arith, one, h, long) in
-    sym (get_or-map (λ (t : Span). t.end) spans (i - 1) d d.end (omega (arith, one, h)))
-    ∙ sym (rw one at (begin-next 0 (ends spans) (i - 1) d.end at))
+abbrev pub AreSpans : Rings → List Point → List (List Point) → List Span → Type 0
+AreSpans rings moves kept spans = All (IsSpan rings moves kept) spans
 
-shape_is : (start : ℕ) (spans : List Span) (rings : Rings) (kept : List (List Point)) (i : ℕ) (s : Span)
-    → i < length spans → s ≡ get_or spans i s
-    → shape_at (shapes_from start spans rings kept) i
-    ≡ record {
-      layer = s.layer;
-      figure = take (s.end - begin_of start (ends spans) i) (drop (begin_of start (ends spans) i) rings);
-      shifts = numbered kept s.shifts;
-    }
-shape_is start [] rings kept i s h e = absurd (omega (arith, h))
-shape_is start (t ∷ spans) rings kept zero s h e =
-    let of : Span → PlainShape Rings =
-    λ u. record {
-      layer = u.layer;
-      figure = take (u.end - start) (drop start rings);
-      shifts = numbered kept u.shifts;
-    } in
-    let same : s ≡ t = e in
-    ap of (sym same)
-shape_is start (t ∷ spans) rings kept (suc i) s h e = shape_is t.end spans rings kept i s (omega (arith, h)) e
+pub in_spans : (rings : Rings) (moves : List Point) (kept : List (List Point)) (spans : List Span)
+    (shapes : List (PlainShape Rings)) (i : ℕ)
+    → shapes_in rings moves kept spans ≡ shapes → i < length shapes → i < length spans
+in_spans rings moves kept spans shapes i e h =
+    omega (arith, h, ap length e, length-map spans (shape_in rings moves kept))
 
 -- what a span says of the shape at its index
-pub record SpanOf (shapes : List (PlainShape Rings)) (rings : Rings) (kept : List (List Point)) (i start : ℕ)
-    (s : Span) : Type 0 where
-  pub rising : start ≤ s.end
-  pub inside : s.end ≤ length rings
-  pub number : s.shifts < length kept + 1
-  pub layer : s.layer ≡ (shape_at shapes i).layer
-  pub figure : take (s.end - start) (drop start rings) ≡ (shape_at shapes i).figure
-  pub shifts : numbered kept s.shifts ≡ (shape_at shapes i).shifts
+pub record SpanOf (shapes : List (PlainShape Rings)) (rings : Rings) (moves : List Point) (kept : List (List Point))
+    (i : ℕ) (s : Span) : Type 0 where
+  pub is : IsSpan rings moves kept s
+  pub shape : shape_in rings moves kept s ≡ shape_at shapes i
 
-pub in_spans : (spans : List Span) (rings : Rings) (kept : List (List Point)) (shapes : List (PlainShape Rings)) (i : ℕ)
-    → shapes_from 0 spans rings kept ≡ shapes → i < length shapes → i < length spans
-in_spans spans rings kept shapes i e h = omega (arith, h, ap length e, shapes-length 0 spans rings kept)
-
-pub span_read : (spans : List Span) (rings : Rings) (kept : List (List Point)) (shapes : List (PlainShape Rings))
-    (i : ℕ) (s : Span)
-    → AreShapes spans rings kept → shapes_from 0 spans rings kept ≡ shapes → i < length shapes → s ≡ get_or spans i s
-    → SpanOf shapes rings kept i (begin_of 0 (ends spans) i) s
-span_read spans rings kept shapes i s h e l is =
-    let there : i < length spans = in_spans spans rings kept shapes i e l in
-    let long : length (ends spans) ≡ length spans = length-map spans (λ (t : Span). t.end) in
-    let end : get_or (ends spans) i s.end ≡ s.end =
-    get_or-map (λ (t : Span). t.end) spans i s s.end there ∙ ap (λ (t : Span). t.end) (sym is) in
-    let bounds = piece_bounds 0 (ends spans) (length rings) i s.end h.rising (omega (arith, there, long)) in
-    let shape = sym (ap (λ hs. shape_at hs i) (sym e) ∙ shape_is 0 spans rings kept i s there is) in
+pub span_read : (rings : Rings) (moves : List Point) (kept : List (List Point)) (spans : List Span)
+    (shapes : List (PlainShape Rings)) (i : ℕ) (s : Span)
+    → AreSpans rings moves kept spans → shapes_in rings moves kept spans ≡ shapes → i < length shapes
+    → s ≡ get_or spans i s → SpanOf shapes rings moves kept i s
+span_read rings moves kept spans shapes i s h e l is =
+    let there : i < length spans = in_spans rings moves kept spans shapes i e l in
+    let of : Span → PlainShape Rings = shape_in rings moves kept in
     record {
-      rising = omega (arith, bounds.0, end);
-      inside = omega (arith, bounds.1, end);
-      number =
-          subst (λ (t : Span). t.shifts < length kept + 1) (sym is)
-          (All-get_or (λ (t : Span). t.shifts < length kept + 1) spans i s there h.within);
-      layer = ap (λ (g : PlainShape Rings). g.layer) shape;
-      figure = ap (λ (g : PlainShape Rings). g.figure) shape;
-      shifts = ap (λ (g : PlainShape Rings). g.shifts) shape;
+      is = subst (IsSpan rings moves kept) (sym is) (All-get_or (IsSpan rings moves kept) spans i s there h);
+      shape = ap of is ∙ (sym (get_or-map of spans i s _ there) ∙ ap (λ hs. shape_at hs i) e);
     }
 
-pub shifts_read : (spans : List Span) (rings : Rings) (kept : List (List Point)) (shapes : List (PlainShape Rings))
-    (i : ℕ) (s : Span)
-    → AreShapes spans rings kept → shapes_from 0 spans rings kept ≡ shapes → i < length shapes → s ≡ get_or spans i s
-    → (s.shifts < length kept + 1) × (numbered kept s.shifts ≡ (shape_at shapes i).shifts)
-shifts_read spans rings kept shapes i s h e l is =
-    let span = span_read spans rings kept shapes i s h e l is in (span.number, span.shifts)
+pub shifts_read : (rings : Rings) (moves : List Point) (kept : List (List Point)) (spans : List Span)
+    (shapes : List (PlainShape Rings)) (i : ℕ) (s : Span)
+    → AreSpans rings moves kept spans → shapes_in rings moves kept spans ≡ shapes → i < length shapes
+    → s ≡ get_or spans i s → (s.shifts < length kept + 1) × (numbered kept s.shifts ≡ (shape_at shapes i).shifts)
+shifts_read rings moves kept spans shapes i s h e l is =
+    let span = span_read rings moves kept spans shapes i s h e l is in
+    (span.is.shifts, ap (λ (g : PlainShape Rings). g.shifts) span.shape)
 
--- the shifts of a number that is not zero
-pub numbered_is : (kept : List (List Point)) (n : ℕ) (d : List Point) → n ≢ 0 → n < length kept + 1
-    → numbered kept n ≡ get_or kept (n - 1) d
-numbered_is kept zero d some h = absurd (some refl)
-numbered_is kept (suc n) d some h =
+-- an item of a number that is not zero
+pub item_is : {X : Type 0} (first : X) (kept : List X) (n : ℕ) (d e : X) → n ≢ 0 → n < length kept + 1
+    → get_or (first ∷ kept) n d ≡ get_or kept (n - 1) e
+item_is first kept zero d e some h = absurd (some refl)
+item_is first kept (suc n) d e some h =
     let low : n < length kept = omega (arith, h) in
     let at : suc n - 1 ≡ n = omega arith in
-    rw at (get_or_default kept n [] d low)
+    rw at (get_or_default kept n d e low)
+
+pub numbered_is : (kept : List (List Point)) (n : ℕ) (d : List Point) → n ≢ 0 → n < length kept + 1
+    → numbered kept n ≡ get_or kept (n - 1) d
+numbered_is kept n d some h = item_is one_place kept n [] d some h
 
 -- as many rings as lie between
-pub rings_between : (rings : Rings) (start end : ℕ) → start ≤ end → end ≤ length rings
-    → length (take (end - start) (drop start rings)) ≡ end - start
-rings_between rings start end h k =
-    length-take-le (end - start) (drop start rings) (omega (arith, length-drop start rings, h, k))
+pub figure_length : (rings : Rings) (begin end : ℕ) (by : Point) → begin ≤ end → end ≤ length rings
+    → length (figure_in rings begin end by) ≡ end - begin
+figure_length rings begin end by h k =
+    length-map (take (end - begin) (drop begin rings)) (map (shifted by))
+    ∙ length-take-le (end - begin) (drop begin rings) (omega (arith, length-drop begin rings, h, k))
 
-pub ring_between : (rings : Rings) (start end j : ℕ) → j < end - start
-    → get_or (take (end - start) (drop start rings)) j [] ≡ get_or rings (start + j) []
-ring_between rings start end j h = get_or-take (end - start) (drop start rings) j [] h ∙ get_or-drop start rings j []
+ring_between : (rings : Rings) (begin end j : ℕ) → j < end - begin
+    → get_or (take (end - begin) (drop begin rings)) j [] ≡ get_or rings (begin + j) []
+ring_between rings begin end j h = get_or-take (end - begin) (drop begin rings) j [] h ∙ get_or-drop begin rings j []
+
+-- a ring of a figure is one that is kept, moved
+pub ring_of_figure : (rings : Rings) (begin end j : ℕ) (by : Point) → begin ≤ end → end ≤ length rings
+    → j < end - begin
+    → get_or (figure_in rings begin end by) j [] ≡ map (shifted by) (get_or rings (begin + j) [])
+ring_of_figure rings begin end j by h k low =
+    let count : length (take (end - begin) (drop begin rings)) ≡ end - begin =
+    length-take-le (end - begin) (drop begin rings) (omega (arith, length-drop begin rings, h, k)) in
+    get_or-map (map (shifted by)) (take (end - begin) (drop begin rings)) j [] [] (omega (arith, low, count))
+    ∙ ap (map (shifted by)) (ring_between rings begin end j low)
 
 -- where a ring of a shape is among all rings
-pub record RingOf (shapes : List (PlainShape Rings)) (rings : Rings) (i j start : ℕ) : Type 0 where
-  pub inside : start + j < length rings
-  pub value : get_or rings (start + j) [] ≡ get_or (shape_at shapes i).figure j []
+pub record RingOf (shapes : List (PlainShape Rings)) (rings : Rings) (i j : ℕ) (s : Span) (by : Point)
+    : Type 0 where
+  pub before : (s.begin + j < s.end) × (s.end < 2 ^ 32)
+  pub inside : s.begin + j < length rings
+  pub value : map (shifted by) (get_or rings (s.begin + j) []) ≡ get_or (shape_at shapes i).figure j []
+  pub fits : FitsMoved by (map (shifted by) (get_or rings (s.begin + j) []) ∷ [])
 
-ring_read : (spans : List Span) (rings : Rings) (kept : List (List Point)) (shapes : List (PlainShape Rings)) (i j : ℕ)
-    → AreShapes spans rings kept → shapes_from 0 spans rings kept ≡ shapes → i < length shapes
-    → j < length (shape_at shapes i).figure → RingOf shapes rings i j (begin_of 0 (ends spans) i)
-ring_read spans rings kept shapes i j h e l m =
-    let none : Span = record { layer = record { layer = 0; datatype = 0 }; end = 0; shifts = 0 } in
-    let s : Span = get_or spans i none in
-    let there = in_spans spans rings kept shapes i e l in
-    let span = span_read spans rings kept shapes i s h e l (get_or_default spans i none s there) in
-    let start : ℕ = begin_of 0 (ends spans) i in
-    let count = rings_between rings start s.end span.rising span.inside in
-    let low : j < s.end - start = omega (arith, m, count, ap length span.figure) in
+ring_read : (shapes : List (PlainShape Rings)) (rings : Rings) (moves : List Point) (kept : List (List Point))
+    (i j : ℕ) (s : Span)
+    → SpanOf shapes rings moves kept i s → j < length (shape_at shapes i).figure
+    → RingOf shapes rings i j s (displaced moves s.moved)
+ring_read shapes rings moves kept i j s h l =
+    let by : Point = displaced moves s.moved in
+    let figure = ap (λ (g : PlainShape Rings). g.figure) h.shape in
+    let count = figure_length rings s.begin s.end by h.is.stretch.order h.is.stretch.inside in
+    let low : j < s.end - s.begin = omega (arith, l, count, ap length figure) in
+    let one = ring_of_figure rings s.begin s.end j by h.is.stretch.order h.is.stretch.inside low in
     record {
-      inside = omega (arith, low, span.inside);
-      value = sym (ring_between rings start s.end j low) ∙ ap (λ (figure : Rings). get_or figure j []) span.figure;
+      before = (omega (arith, low), h.is.stretch.few);
+      inside = omega (arith, low, h.is.stretch.inside);
+      value = sym one ∙ ap (λ (rs : Rings). get_or rs j []) figure;
+      fits =
+          elim h.is.fits [
+            | inl none ↦ inl none
+            | inr fit ↦
+                inr (All-push (All FitsPoint) [] (map (shifted by) (get_or rings (s.begin + j) []))
+                (λ k d none. absurd (omega (arith, none)))
+                (subst (All FitsPoint) one
+                (All-get_or (All FitsPoint) (figure_in rings s.begin s.end by) j [] (omega (arith, low, count)) fit)))
+          ];
     }
 
--- the same by the start that was read, from a copy of the spans
-start_is : (spans copy : List Span) (i start : ℕ) → copy ≡ spans → start ≡ begin_of 0 (ends copy) i
-    → start ≡ begin_of 0 (ends spans) i
-start_is spans copy i start c e = e ∙ ap (λ (ss : List Span). begin_of 0 (ends ss) i) c
+pub ring_from : (rings : Rings) (moves : List Point) (kept : List (List Point)) (spans : List Span)
+    (shapes : List (PlainShape Rings)) (i j : ℕ) (s : Span)
+    → AreSpans rings moves kept spans → shapes_in rings moves kept spans ≡ shapes → i < length shapes
+    → s ≡ get_or spans i s → j < length (shape_at shapes i).figure
+    → RingOf shapes rings i j s (displaced moves s.moved)
+ring_from rings moves kept spans shapes i j s h e l is m =
+    ring_read shapes rings moves kept i j s (span_read rings moves kept spans shapes i s h e l is) m
 
-pub span_from : (spans copy : List Span) (rings : Rings) (kept : List (List Point)) (shapes : List (PlainShape Rings))
-    (i start : ℕ) (s : Span)
-    → AreShapes spans rings kept → shapes_from 0 spans rings kept ≡ shapes → i < length shapes → s ≡ get_or spans i s
-    → copy ≡ spans → start ≡ begin_of 0 (ends copy) i → SpanOf shapes rings kept i start s
-span_from spans copy rings kept shapes i start s h e l is c b =
-    rw (start_is spans copy i start c b) (span_read spans rings kept shapes i s h e l is)
+-- where a list goes on, the new one is the old one and more
+grown : {X : Type 0} (old new : List X) → GoesOn old new → new ≡ old ++ drop (length old) new
+grown old new g = sym (take-append-drop (length old) new) ∙ ap (λ xs. xs ++ drop (length old) new) g
 
-pub ring_from : (spans copy : List Span) (rings : Rings) (kept : List (List Point)) (shapes : List (PlainShape Rings))
-    (i j start : ℕ)
-    → AreShapes spans rings kept → shapes_from 0 spans rings kept ≡ shapes → i < length shapes
-    → j < length (shape_at shapes i).figure → copy ≡ spans → start ≡ begin_of 0 (ends copy) i
-    → RingOf shapes rings i j start
-ring_from spans copy rings kept shapes i j start h e l m c b =
-    rw (start_is spans copy i start c b) (ring_read spans rings kept shapes i j h e l m)
+stretch_same : (old new : Rings) (begin end : ℕ) → GoesOn old new → begin ≤ end → end ≤ length old
+    → take (end - begin) (drop begin new) ≡ take (end - begin) (drop begin old)
+stretch_same old new begin end g h k =
+    let more = drop (length old) new in
+    let fits : end - begin ≤ length (drop begin old) = omega (arith, length-drop begin old, h, k) in
+    ap (λ rs. take (end - begin) (drop begin rs)) (grown old new g)
+    ∙ (ap (take (end - begin)) (drop-append-le begin old more (omega (arith, h, k)))
+    ∙ take-append-le (end - begin) (drop begin old) more fits)
 
--- one shape more, with the shifts that are kept
-shapes-push : (start : ℕ) (spans : List Span) (rings more : Rings) (kept : List (List Point)) (s : Span)
-    → Rising start (ends spans) (length rings) → s.end ≡ length rings + length more
-    → shapes_from start (spans ++ s ∷ []) (rings ++ more) kept
-    ≡ shapes_from start spans rings kept
-    ++ record { layer = s.layer; figure = more; shifts = numbered kept s.shifts } ∷ []
-shapes-push start [] rings more kept s h e =
-    let all : length more ≤ s.end - start = omega (arith, h, e) in
-    rw (drop_at rings more start (sym h), take_all (s.end - start) more all) refl
-shapes-push start (t ∷ spans) rings more kept s h e =
-    let up = rising-first t.end (ends spans) (length rings) h.1 in
-    let at : start ≤ length rings = omega (arith, h.0, up) in
-    let fits : t.end - start ≤ length (drop start rings) = omega (arith, length-drop start rings, up, h.0) in
+-- a number that is kept has the same item when more are kept
+number_same : {X : Type 0} (first : X) (old new : List X) (n : ℕ) (d : X) → GoesOn old new → n < length old + 1
+    → get_or (first ∷ new) n d ≡ get_or (first ∷ old) n d
+number_same first old new zero d g h = refl
+number_same first old new (suc n) d g h =
+    let low : n < length old = omega (arith, h) in
+    sym (get_or-take (length old) new n d low) ∙ ap (λ ks. get_or ks n d) g
+
+no_fewer : {X : Type 0} (old new : List X) → GoesOn old new → length old ≤ length new
+no_fewer old new g = omega (arith, ap length (grown old new g), length-append old (drop (length old) new))
+
+-- the three lists of what is kept go on
+pub record AllGoOn (rings rings' : Rings) (moves moves' : List Point) (kept kept' : List (List Point)) : Type 0 where
+  pub rings_on : GoesOn rings rings'
+  pub moves_on : GoesOn moves moves'
+  pub kept_on : GoesOn kept kept'
+
+-- a span is still one, and says the same
+record IsStill (rings rings' : Rings) (moves moves' : List Point) (kept kept' : List (List Point)) (s : Span)
+    : Type 0 where
+  pub is : IsSpan rings' moves' kept' s
+  pub same : shape_in rings' moves' kept' s ≡ shape_in rings moves kept s
+
+span_same : (rings rings' : Rings) (moves moves' : List Point) (kept kept' : List (List Point)) (s : Span)
+    → AllGoOn rings rings' moves moves' kept kept' → IsSpan rings moves kept s
+    → IsStill rings rings' moves moves' kept kept' s
+span_same rings rings' moves moves' kept kept' s on h =
+    let by : displaced moves' s.moved ≡ displaced moves s.moved =
+    number_same origin moves moves' s.moved origin on.moves_on h.moved in
+    let figure : figure_in rings' s.begin s.end (displaced moves' s.moved)
+    ≡ figure_in rings s.begin s.end (displaced moves s.moved) =
+    rw by (ap (map (map (shifted (displaced moves s.moved))))
+    (stretch_same rings rings' s.begin s.end on.rings_on h.stretch.order h.stretch.inside)) in
+    let shifts : numbered kept' s.shifts ≡ numbered kept s.shifts =
+    number_same _ kept kept' s.shifts [] on.kept_on h.shifts in
+    record {
+      is = record {
+        stretch = record {
+          order = h.stretch.order;
+          inside = omega (arith, h.stretch.inside, no_fewer rings rings' on.rings_on);
+          few = h.stretch.few;
+        };
+        moved = omega (arith, h.moved, no_fewer moves moves' on.moves_on);
+        shifts = omega (arith, h.shifts, no_fewer kept kept' on.kept_on);
+        fits = rw (figure, by) h.fits;
+      };
+      same = rw (figure, shifts) refl;
+    }
+
+shapes_same : (rings rings' : Rings) (moves moves' : List Point) (kept kept' : List (List Point)) (spans : List Span)
+    → AllGoOn rings rings' moves moves' kept kept' → AreSpans rings moves kept spans
+    → shapes_in rings' moves' kept' spans ≡ shapes_in rings moves kept spans
+shapes_same rings rings' moves moves' kept kept' [] on h = refl
+shapes_same rings rings' moves moves' kept kept' (s ∷ spans) on h =
     rw (
-      drop-append-le start rings more at,
-      take-append-le (t.end - start) (drop start rings) more fits,
-      shapes-push t.end spans rings more kept s h.1 e,
+      (span_same rings rings' moves moves' kept kept' s on (All-head (IsSpan rings moves kept) s spans h)).same,
+      shapes_same rings rings' moves moves' kept kept' spans on (All-tail (IsSpan rings moves kept) s spans h),
     ) refl
 
--- a number that is kept has the same shifts when more are kept
-numbered_same : (kept new : List (List Point)) (n : ℕ) → GoesOn kept new → n < length kept + 1
-    → numbered new n ≡ numbered kept n
-numbered_same kept new zero g h = refl
-numbered_same kept new (suc n) g h =
-    let low : n < length kept = omega (arith, h) in
-    sym (get_or-take (length kept) new n [] low) ∙ ap (λ (ks : List (List Point)). get_or ks n []) g
-
-no_fewer : (kept new : List (List Point)) → GoesOn kept new → length kept ≤ length new
-no_fewer kept new g = omega (arith, ap length g, length-take (length kept) new)
-
-shapes_same : (start : ℕ) (spans : List Span) (rings : Rings) (kept new : List (List Point)) → GoesOn kept new
-    → All (λ s. s.shifts < length kept + 1) spans
-    → shapes_from start spans rings new ≡ shapes_from start spans rings kept
-shapes_same start [] rings kept new g h = refl
-shapes_same start (s ∷ spans) rings kept new g h =
-    let within : Span → Type 0 = λ t. t.shifts < length kept + 1 in
-    rw (
-      numbered_same kept new s.shifts g (All-head within s spans h),
-      shapes_same s.end spans rings kept new g (All-tail within s spans h),
-    ) refl
-
--- the same shapes, with more shifts kept
-pub record AreStill (spans : List Span) (rings : Rings) (kept new : List (List Point)) : Type 0 where
-  pub are : AreShapes spans rings new
-  pub same : shapes_from 0 spans rings new ≡ shapes_from 0 spans rings kept
-
-pub still : (spans : List Span) (rings : Rings) (kept new : List (List Point)) → AreShapes spans rings kept
-    → GoesOn kept new → AreStill spans rings kept new
-still spans rings kept new h g =
-    let long = no_fewer kept new g in
-    record {
-      are = record {
-        few = h.few;
-        rising = h.rising;
-        within =
-            All-weaker {X = Span} (λ (s : Span). s.shifts < length kept + 1) (λ (s : Span). s.shifts < length new + 1)
-            (λ s low. omega (arith, low, long)) spans h.within;
-      };
-      same = shapes_same 0 spans rings kept new g h.within;
-    }
-
--- one shape more, after the others
-pub record AreMore (spans : List Span) (rings more : Rings) (kept new : List (List Point)) (s : Span)
-    (shifts : List Point) : Type 0 where
-  pub are : AreShapes (spans ++ s ∷ []) (rings ++ more) new
-  pub is : shapes_from 0 (spans ++ s ∷ []) (rings ++ more) new
-      ≡ shapes_from 0 spans rings kept ++ record { layer = s.layer; figure = more; shifts = shifts } ∷ []
-
-pub one_more : (spans : List Span) (rings more : Rings) (kept new : List (List Point)) (s : Span) (shifts : List Point)
-    → AreShapes spans rings kept → GoesOn kept new → HasNumber new s.shifts shifts → s.end ≡ length rings + length more
-    → s.end < 2 ^ 32 → AreMore spans rings more kept new s shifts
-one_more spans rings more kept new s shifts h g n e small =
-    let now = still spans rings kept new h g in
-    let up : length rings ≤ s.end = omega (arith, e) in
-    let all : length (rings ++ more) ≡ s.end = length-append rings more ∙ sym e in
-    let tops : ends (spans ++ s ∷ []) ≡ ends spans ++ s.end ∷ [] = map-append (λ (t : Span). t.end) spans (s ∷ []) in
-    let last : List Point → List (PlainShape Rings) =
-    λ ps. record { layer = s.layer; figure = more; shifts = ps } ∷ [] in
-    record {
-      are = record {
-        few = omega (arith, all, small);
-        rising = rw (all, tops) (rising-push 0 (ends spans) (length rings) s.end h.rising up);
-        within = All-push (λ (t : Span). t.shifts < length new + 1) spans s now.are.within n.within;
-      };
-      is = shapes-push 0 spans rings more new s h.rising e
-          ∙ (ap (λ hs. hs ++ last (numbered new s.shifts)) now.same
-          ∙ ap (λ ps. shapes_from 0 spans rings kept ++ last ps) n.is);
-    }
+-- the same shapes, with more kept
+pub still : (rings rings' : Rings) (moves moves' : List Point) (kept kept' : List (List Point)) (spans : List Span)
+    → AllGoOn rings rings' moves moves' kept kept' → AreSpans rings moves kept spans
+    → AreSpans rings' moves' kept' spans
+still rings rings' moves moves' kept kept' spans on h =
+    All-weaker {X = Span} (IsSpan rings moves kept) (IsSpan rings' moves' kept')
+    (λ s is. (span_same rings rings' moves moves' kept kept' s on is).is) spans h
 
 -- after a refusal the shapes are as before
-pub refused : {T E : Type 0} (r : Result T E) (spans : List Span) (rings : Rings) (kept new : List (List Point))
+pub refused : (rings rings' : Rings) (moves moves' : List Point) (kept kept' : List (List Point)) (spans : List Span)
     (shapes : List (PlainShape Rings))
-    → AreShapes spans rings kept → GoesOn kept new → shapes_from 0 spans rings kept ≡ shapes
-    → OnErr r (shapes_from 0 spans rings new ≡ shapes)
-refused (Ok x) spans rings kept new shapes h g e = tt
-refused (Err x) spans rings kept new shapes h g e = (still spans rings kept new h g).same ∙ e
+    → AllGoOn rings rings' moves moves' kept kept' → AreSpans rings moves kept spans
+    → shapes_in rings moves kept spans ≡ shapes → shapes_in rings' moves' kept' spans ≡ shapes
+refused rings rings' moves moves' kept kept' spans shapes on h e =
+    shapes_same rings rings' moves moves' kept kept' spans on h ∙ e
+
+-- one shape more, after the others
+pub record AreMore (rings' : Rings) (moves' : List Point) (kept' : List (List Point)) (spans : List Span) (s : Span)
+    (figure : Rings) (shifts : List Point) (shapes : List (PlainShape Rings)) : Type 0 where
+  pub are : AreSpans rings' moves' kept' (spans ++ s ∷ [])
+  pub is : shapes_in rings' moves' kept' (spans ++ s ∷ [])
+      ≡ shapes ++ record { layer = s.layer; figure = figure; shifts = shifts } ∷ []
+
+pub one_more : (rings rings' : Rings) (moves moves' : List Point) (kept kept' : List (List Point)) (spans : List Span)
+    (s : Span) (f : KeptFigure) (figure : Rings) (shifts : List Point) (shapes : List (PlainShape Rings))
+    → AllGoOn rings rings' moves moves' kept kept' → AreSpans rings moves kept spans
+    → shapes_in rings moves kept spans ≡ shapes → s.begin ≡ f.begin → s.end ≡ f.end
+    → IsFigure rings' f figure → HasMove moves' s.moved f.by → HasNumber kept' s.shifts shifts
+    → AreMore rings' moves' kept' spans s figure shifts shapes
+one_more rings rings' moves moves' kept kept' spans s f figure shifts shapes on h e b d is by n =
+    let drawn : figure_in rings' s.begin s.end (displaced moves' s.moved) ≡ figure = rw (b, d, by.is) is.is in
+    let last : shape_in rings' moves' kept' s ≡ record { layer = s.layer; figure = figure; shifts = shifts } =
+    rw (drawn, n.is) refl in
+    record {
+      are =
+          All-push (IsSpan rings' moves' kept') spans s (still rings rings' moves moves' kept kept' spans on h)
+          (record {
+            stretch = record { order = rw (b, d) is.order; inside = rw d is.inside; few = rw d is.few };
+            moved = by.within;
+            shifts = n.within;
+            fits = rw (drawn, by.is) is.fits;
+          });
+      is =
+          map-append (shape_in rings' moves' kept') spans (s ∷ [])
+          ∙ (ap (λ hs. hs ++ shape_in rings' moves' kept' s ∷ [])
+          (refused rings rings' moves moves' kept kept' spans shapes on h e)
+          ∙ ap (λ h. shapes ++ h ∷ []) last);
+    }
+
+-- rings that are those from one index up to another, moved, are a figure
+pub again : (rings figure : Rings) (f : KeptFigure) → f.begin ≤ f.end → f.end ≤ length rings → f.end < 2 ^ 32
+    → f.end - f.begin ≡ length figure
+    → ((i : ℕ) → i < length figure → IsAgain (get_or rings (f.begin + i) []) f.by (get_or figure i []))
+    → IsFigure rings f figure
+again rings figure f order inside few count each =
+    let long = figure_length rings f.begin f.end f.by order inside in
+    record {
+      order = order;
+      inside = inside;
+      few = few;
+      is =
+          same_lists (figure_in rings f.begin f.end f.by) figure (long ∙ count)
+          (λ k d within.
+          let low : k < length figure = omega (arith, within, long, count) in
+          get_or_default (figure_in rings f.begin f.end f.by) k d [] within
+          ∙ (ring_of_figure rings f.begin f.end k f.by order inside (omega (arith, low, count))
+          ∙ ((each k low).is ∙ get_or_default figure k [] d low)));
+      fits =
+          inr (All-from_get_or (All FitsPoint) figure [] (λ i low. (each i low).fits));
+    }
+
+-- rings that are added are a figure that isn't moved
+pub added : (rings more : Rings) (f : KeptFigure) → f.begin ≡ length rings → f.end ≡ length rings + length more
+    → f.end < 2 ^ 32 → f.by ≡ origin → IsFigure (rings ++ more) f more
+added rings more f b e few by =
+    let all : length more ≤ f.end - f.begin = omega (arith, b, e) in
+    let those : take (f.end - f.begin) (drop f.begin (rings ++ more)) ≡ more =
+    ap (take (f.end - f.begin)) (drop_at rings more f.begin (sym b)) ∙ take_all (f.end - f.begin) more all in
+    record {
+      order = omega (arith, b, e);
+      inside = omega (arith, e, length-append rings more);
+      few = few;
+      is = rw (those, by) (unmoved_rings more);
+      fits = inl by;
+    }
+
+pub goes_on_same : {X : Type 0} (xs : List X) → GoesOn xs xs
+goes_on_same xs = take_all (length xs) xs (omega arith)
+
+pub goes_on_more : {X : Type 0} (xs more : List X) → GoesOn xs (xs ++ more)
+goes_on_more xs more = take-append-le (length xs) xs more (omega arith) ∙ take_all (length xs) xs (omega arith)
+
+pub always_err : {T E P : Type 0} (r : Result T E) → P → OnErr r P
+always_err (Ok x) p = tt
+always_err (Err x) p = p

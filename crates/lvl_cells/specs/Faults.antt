@@ -48,7 +48,7 @@ pub record HasTwoTops (cells : List (PlainCell Rings)) : Type 0 where
   pub first_free : ¬ IsReferred cells first_name
   pub second_free : ¬ IsReferred cells second_name
 
--- the library is sound for the top, and this number is placed from it
+-- the library is sound for a top, of which P holds
 pub record IsSoundWith (cells : List (PlainCell Rings)) (given : Option (List ℕ))
     (P : PlainCell Rings → Type 0) : Type 0 where
   pub index : ℕ

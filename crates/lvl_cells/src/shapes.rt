@@ -1,73 +1,68 @@
 //! The shapes of a cell in one piece: the rings of all of them in one list, and for each shape
-//! where its rings end.
+//! which of them it has.
 ghost use Rattle.std.specs.Prelude.{◌≡◌, ◌<◌, ◌+◌, ◌^◌, ◌++◌, ◌∷◌, [], length, get_or, slice_get, IsTrue, ◌↔◌, IfOk};
 ghost use Rattle.std.specs.Prelude.{All, OnOk, OnErr};
 ghost use Rattle.lvl_grid.specs.Winding.{IsRing};
-ghost use Rattle.lvl_grid.specs.Pieces.{begin_of};
 ghost use Rattle.lvl_names.specs.Shifts.{IsBetween};
 ghost use Rattle.lvl_cells.specs.Cells.{shape_at};
-ghost use Rattle.lvl_cells.specs.inside.Spans.{ends, GoesOn, HasNumber};
+ghost use Rattle.lvl_cells.specs.inside.Spans.{GoesOn, HasNumber};
 
+use crate::moved::MovedRing;
+use crate::shared::{figure_of_ring, figure_of_rings, move_of, number_of_move};
 use lvl_grid::{Point, Ring, Rings};
 use lvl_names::{Layer, Offsets};
 use std::alloc::{AllocError, Global};
 use std::marker::Model;
 
-/// A shape: its Layer, the index after its last ring, and the number of its shifts, which is zero
-/// for the zero shift alone and else one more than their index.
+/// A shape: its Layer, the indexes of its first ring and after its last, the number of its displacement
+/// and that of its shifts. A number is zero for none, or for the zero shift alone, and else one more than an
+/// index.
 #[derive(Clone, Copy, Debug)]
-struct Span {
-    layer: Layer,
-    end: u32,
-    shifts: u32,
+pub(crate) struct Span {
+    pub layer: Layer,
+    pub begin: u32,
+    pub end: u32,
+    pub moved: u32,
+    pub shifts: u32,
 }
 
 /// The shapes of a cell, in file order: each is rings on a Layer, at each of a list of shifts.
 ///
 /// A boundary, a polygon or a rectangle is a shape of one ring, a path a shape of the rings of its
-/// bands. A shape takes no allocation of its own: a boundary at one place takes 24 bytes and its
-/// points. A list of shifts is kept once where shapes one after another have the same lattice; one
-/// that is shared is never copied.
+/// bands. A shape takes no allocation of its own: a boundary at one place takes 32 bytes and its
+/// points, or 40 bytes if these are the points of the shape before it, moved: then they are kept once. A list
+/// of shifts is kept once where shapes one after another have the same lattice; one that is shared is never
+/// copied.
 #[derive(Debug, Drop)]
 pub struct Shapes {
     rings: Rings,
     spans: Vec<Span>,
+    moves: Vec<Point>,
     shifts: Vec<Offsets>,
 }
 
 impl Model for Shapes {
-    ghost use Rattle.std.specs.Prelude.{List};
+    ghost use Rattle.std.specs.Prelude.{List, map, All};
     ghost use Rattle.lvl_cells.specs.Cells.{PlainShape, Rings as Figure};
-    ghost use Rattle.lvl_cells.specs.inside.Spans.{shapes_from, AreShapes};
+    ghost use Rattle.lvl_cells.specs.inside.Spans.{shape_in, IsSpan};
 
     ghost Value = { List (PlainShape Figure) };
 
-    ghost view = { λ s. shapes_from 0 s.spans.items s.rings s.shifts.items };
+    ghost view = { λ s. map (shape_in s.rings s.moves.items s.shifts.items) s.spans.items };
 
-    ghost invariant = { λ s. AreShapes s.spans.items s.rings s.shifts.items };
-}
-
-/// How many rings the shapes before this index have.
-fn first_ring(spans: &[Span], i: usize) -> usize
-    requires { i < length spans.now }
-    ensures { result ≡ begin_of 0 (ends spans.now) i }
-{
-    if i == 0 {
-        return 0;
-    }
-    spans[i - 1].end as usize
+    ghost invariant = { λ s. All (IsSpan s.rings s.moves.items s.shifts.items) s.spans.items };
 }
 
 /// A count as a span keeps it. No cell has 2^32 rings or lists of shifts: there is no memory for
 /// them (own rule).
-fn kept_count(count: usize) -> Result<u32, AllocError>
+pub(crate) fn kept_count(count: usize) -> Result<u32, AllocError>
     ensures { IfOk result (λ kept. (kept ≡ count) × (kept < 2 ^ 32)) }
 {
     u32::try_from(count).map_err(|_| AllocError)
 }
 
 /// The sum of two counts, as a span keeps it.
-fn kept_sum(count: usize, more: usize) -> Result<u32, AllocError>
+pub(crate) fn kept_sum(count: usize, more: usize) -> Result<u32, AllocError>
     ensures { IfOk result (λ kept. (kept ≡ count + more) × (kept < 2 ^ 32)) }
 {
     match count.checked_add(more) {
@@ -101,6 +96,7 @@ impl Shapes {
         Shapes {
             rings: Rings::new(alloc),
             spans: Vec::new(alloc),
+            moves: Vec::new(alloc),
             shifts: Vec::new(alloc),
         }
     }
@@ -132,19 +128,20 @@ impl Shapes {
         requires { i < length self.now }
         ensures { result ≡ length (shape_at self.now i).figure }
     {
-        let start = first_ring(&self.spans, i);
-        self.spans[i].end as usize - start
+        let span = &self.spans[i];
+        (span.end - span.begin) as usize
     }
 
     /// The points of a ring of the shape at this index, both by their indexes.
-    pub fn ring(&self, i: usize, j: usize) -> &[Point]
+    pub fn ring(&self, i: usize, j: usize) -> MovedRing<'_>
         requires shape { i < length self.now }
         requires ring { j < length (shape_at self.now i).figure }
-        ensures value { result.now ≡ get_or (shape_at self.now i).figure j [] }
-        ensures ring { IsRing result.now }
+        ensures value { result ≡ get_or (shape_at self.now i).figure j [] }
+        ensures ring { IsRing result }
     {
-        let start = first_ring(&self.spans, i);
-        self.rings.ring(start + j)
+        let span = &self.spans[i];
+        let points = self.rings.ring(span.begin as usize + j);
+        MovedRing::new(points, move_of(&self.moves, span.moved))
     }
 
     /// At how many shifts the shape at this index is drawn.
@@ -192,15 +189,16 @@ impl Shapes {
             ++ record { layer = layer; figure = ring.now ∷ []; shifts = shifts.now } ∷ []) }
         ensures kept { OnErr result (self.new ≡ self.old) }
     {
+        let figure = figure_of_ring(&mut self.rings, self.spans.last(), ring)?;
+        let moved = number_of_move(&mut self.moves, figure.by)?;
         let number = number_of(&mut self.shifts, shifts)?;
-        let end = kept_sum(self.rings.len(), 1)?;
-        self.spans.reserve(1)?;
-        self.rings.push(ring)?;
-        self.spans.push_reserved(Span {
+        self.spans.push(Span {
             layer,
-            end,
+            begin: figure.begin,
+            end: figure.end,
+            moved,
             shifts: number,
-        });
+        })?;
         Ok(())
     }
 
@@ -215,15 +213,16 @@ impl Shapes {
             ++ record { layer = layer; figure = rings.now; shifts = shifts.now } ∷ []) }
         ensures kept { OnErr result (self.new ≡ self.old) }
     {
+        let figure = figure_of_rings(&mut self.rings, self.spans.last(), rings)?;
+        let moved = number_of_move(&mut self.moves, figure.by)?;
         let number = number_of(&mut self.shifts, shifts)?;
-        let end = kept_sum(self.rings.len(), rings.len())?;
-        self.spans.reserve(1)?;
-        self.rings.push_all(rings)?;
-        self.spans.push_reserved(Span {
+        self.spans.push(Span {
             layer,
-            end,
+            begin: figure.begin,
+            end: figure.end,
+            moved,
             shifts: number,
-        });
+        })?;
         Ok(())
     }
 }

@@ -14,7 +14,7 @@ ghost use Rattle.lvl_flat.specs.inside.Bounds.{IsPlacedOutside};
 ghost use Rattle.lvl_flat.specs.inside.Passing.{before_shifts};
 
 use crate::bounds::Bounds;
-use lvl_cells::{Checked, Reference, Shapes};
+use lvl_cells::{Checked, MovedRing, Reference, Shapes};
 use lvl_grid::{Map, Point, Window};
 use lvl_names::Offsets;
 use std::alloc::{AllocError, Global};
@@ -41,13 +41,16 @@ pub(crate) fn bounds_of_shape_shifts(shapes: &Shapes, i: usize) -> Bounds
 }
 
 /// What also holds the points of a ring at all of the shifts.
-fn hold_ring(bounds: Bounds, ring: &[Point], shifts: Bounds) -> Option<Bounds>
+fn hold_ring(bounds: Bounds, ring: &MovedRing<'_>, shifts: Bounds) -> Option<Bounds>
     ensures wider { IfSome result (Widens bounds) }
     ensures held { IfSome result (λ held. HoldsRing held shifts ring.now) }
 {
     let mut held = bounds;
-    for point in ring {
-        held = held.joined(Bounds::around(*point).moved(shifts)?);
+    for k in 0..ring.len() {
+        let Some(point) = ring.get(k) else {
+            unreachable!()
+        };
+        held = held.joined(Bounds::around(point).moved(shifts)?);
     }
     Some(held)
 }
@@ -61,7 +64,7 @@ fn hold_shape(bounds: Bounds, shapes: &Shapes, i: usize) -> Option<Bounds>
     let shifts = bounds_of_shape_shifts(shapes, i);
     let mut held = bounds;
     for j in 0..shapes.ring_count(i) {
-        held = hold_ring(held, shapes.ring(i, j), shifts)?;
+        held = hold_ring(held, &shapes.ring(i, j), shifts)?;
     }
     Some(held)
 }

@@ -10,9 +10,11 @@ ghost use Rattle.lvl_flat.specs.Sheets.{rings_on, AreSorted, HaveSheets};
 use crate::flat::{Sheet, place_of};
 use lvl_cells::Shapes;
 use lvl_grid::{Map, PlaceFault, Point, Rings};
+use std::alloc::Global;
 
 /// Adds the rings of the shape at an index, each moved by the shift and placed by the map.
 fn draw_figure(
+    alloc: Global,
     rings: &mut Rings,
     shapes: &Shapes,
     i: usize,
@@ -25,13 +27,19 @@ fn draw_figure(
     ensures out { result ≡ Err PlaceFault.OutOfRange → ¬ All (FitsRing map.now shift) (shape_at shapes.now i).figure }
 {
     for j in 0..shapes.ring_count(i) {
-        rings.push_placed(shapes.ring(i, j), shift, map)?;
+        shapes.ring(i, j).push_placed(alloc, rings, shift, map)?;
     }
     Ok(())
 }
 
 /// Adds the rings of the shape at an index at each of its shifts, placed by the map.
-fn draw_shape(rings: &mut Rings, shapes: &Shapes, i: usize, map: &Map) -> Result<(), PlaceFault>
+fn draw_shape(
+    alloc: Global,
+    rings: &mut Rings,
+    shapes: &Shapes,
+    i: usize,
+    map: &Map,
+) -> Result<(), PlaceFault>
     requires { i < length shapes.now }
     ensures drawn { OnOk result (rings.new ≡ rings.old ++ placed_shape map.now (shape_at shapes.now i)) }
     ensures placed { OnOk result
@@ -43,13 +51,14 @@ fn draw_shape(rings: &mut Rings, shapes: &Shapes, i: usize, map: &Map) -> Result
         let Some(shift) = shapes.shift(i, k) else {
             unreachable!()
         };
-        draw_figure(rings, shapes, i, shift, map)?;
+        draw_figure(alloc, rings, shapes, i, shift, map)?;
     }
     Ok(())
 }
 
 /// Adds the shapes of a cell, placed by the map, each to the sheet of its Layer.
 pub(crate) fn draw_shapes(
+    alloc: Global,
     sheets: &mut Vec<Sheet>,
     shapes: &Shapes,
     map: &Map,
@@ -68,7 +77,7 @@ pub(crate) fn draw_shapes(
             unreachable!()
         };
         let sheet = &mut sheets[place];
-        draw_shape(&mut sheet.rings, shapes, i, map)?;
+        draw_shape(alloc, &mut sheet.rings, shapes, i, map)?;
     }
     Ok(())
 }

@@ -48,7 +48,7 @@ pub(crate) fn draw_cell(
     ensures err { IfErr result (λ refusal. Says refusal (IsEnterFault cells.now place map.now)) }
 {
     let cell = &cells[place];
-    match draw_shapes(sheets, &cell.shapes, map) {
+    match draw_shapes(alloc, sheets, &cell.shapes, map) {
         Ok(()) => Ok(()),
         Err(PlaceFault::OutOfRange) => Err(out_of_range(alloc, &cell.name)),
         Err(PlaceFault::OutOfMemory) => Err(Cause::OutOfMemory),

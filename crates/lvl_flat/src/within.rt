@@ -18,7 +18,7 @@ ghost use Rattle.lvl_flat.specs.inside.Drawn.{FitsAtEach, RingPlacesCover, Shape
 use crate::bounds::Bounds;
 use crate::boxes::bounds_of_shape_shifts;
 use crate::flat::{Sheet, place_of};
-use lvl_cells::Shapes;
+use lvl_cells::{MovedRing, Shapes};
 use lvl_grid::{Map, Part, PlaceFault, Point, Rings, Window};
 use std::alloc::Global;
 
@@ -44,13 +44,19 @@ impl Room {
 }
 
 /// What holds the points of a ring.
-fn bounds_of_ring(ring: &[Point]) -> Bounds
+fn bounds_of_ring(ring: &MovedRing<'_>) -> Bounds
     requires { IsRing ring.now }
     ensures { All (IsWithin result) ring.now }
 {
-    let mut bounds = Bounds::around(ring[0]);
-    for point in ring {
-        bounds = bounds.joined(Bounds::around(*point));
+    let Some(first) = ring.get(0) else {
+        unreachable!()
+    };
+    let mut bounds = Bounds::around(first);
+    for k in 0..ring.len() {
+        let Some(point) = ring.get(k) else {
+            unreachable!()
+        };
+        bounds = bounds.joined(Bounds::around(point));
     }
     bounds
 }
@@ -68,7 +74,7 @@ fn placed_bounds(bounds: Bounds, shift: Point, map: &Map) -> Option<Bounds>
 fn draw_cut(
     alloc: Global,
     rings: &mut Rings,
-    ring: &[Point],
+    ring: &MovedRing<'_>,
     shift: Point,
     map: &Map,
     window: &Window,
@@ -80,7 +86,7 @@ fn draw_cut(
     ensures out { result ≡ Err PlaceFault.OutOfRange → ¬ FitsRing map.now shift ring.now }
 {
     let mut placed = Rings::new(alloc);
-    placed.push_placed(ring, shift, map)?;
+    ring.push_placed(alloc, &mut placed, shift, map)?;
     let Ok(()) = rings.push_clipped(&Part::Within(*window), placed.ring(0)) else {
         return Err(PlaceFault::OutOfMemory);
     };
@@ -92,7 +98,7 @@ fn draw_cut(
 fn draw_ring_at(
     alloc: Global,
     rings: &mut Rings,
-    ring: &[Point],
+    ring: &MovedRing<'_>,
     bounds: Bounds,
     shift: Point,
     map: &Map,
@@ -110,7 +116,7 @@ fn draw_ring_at(
             return Ok(());
         }
         if placed.is_inside(window) {
-            rings.push_placed(ring, shift, map)?;
+            ring.push_placed(alloc, rings, shift, map)?;
             return Ok(());
         }
     }
@@ -150,7 +156,7 @@ fn draw_ring(
         → ¬ FitsAtEach map.now (shape_at shapes.now i).shifts (get_or (shape_at shapes.now i).figure j []) }
 {
     let ring = shapes.ring(i, j);
-    let bounds = bounds_of_ring(ring);
+    let bounds = bounds_of_ring(&ring);
     if misses_at_all(shapes, i, bounds, map, window) {
         return Ok(());
     }
@@ -159,7 +165,7 @@ fn draw_ring(
             unreachable!()
         };
         let held = rings.points().len();
-        draw_ring_at(room.alloc, rings, ring, bounds, shift, map, window)?;
+        draw_ring_at(room.alloc, rings, &ring, bounds, shift, map, window)?;
         room.take(rings.points().len().saturating_sub(held))?;
     }
     Ok(())

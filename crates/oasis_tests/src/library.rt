@@ -1,6 +1,6 @@
 //! Files read whole: what each spells, and that it doesn't matter how a reader cuts the bytes.
 
-use lvl_cells::{Cell, Library, Shapes};
+use lvl_cells::{Cell, Library, MovedRing, Shapes};
 use lvl_grid::Point;
 use lvl_io::fake::Pieces;
 use lvl_names::Layer;
@@ -71,13 +71,15 @@ pub fn first_of(library: &Library) -> Result<&Cell, Fail> {
 }
 
 /// The first box of a shape: least and greatest coordinates.
-fn box_of(points: &[Point]) -> [i64; 4] {
+fn box_of(ring: &MovedRing<'_>) -> [i64; 4] {
     let mut sides = [i64::MAX, i64::MAX, i64::MIN, i64::MIN];
-    for point in points {
-        sides[0] = sides[0].min(point.x);
-        sides[1] = sides[1].min(point.y);
-        sides[2] = sides[2].max(point.x);
-        sides[3] = sides[3].max(point.y);
+    for k in 0..ring.len() {
+        if let Some(point) = ring.get(k) {
+            sides[0] = sides[0].min(point.x);
+            sides[1] = sides[1].min(point.y);
+            sides[2] = sides[2].max(point.x);
+            sides[3] = sides[3].max(point.y);
+        }
     }
     sides
 }
@@ -89,7 +91,7 @@ pub fn boxes(alloc: Global, library: &Library) -> Result<Vec<([i64; 4], usize)>,
         for i in 0..cell.shapes.len() {
             for j in 0..cell.shapes.ring_count(i) {
                 let ring = cell.shapes.ring(i, j);
-                boxes.push((box_of(ring), ring.len()))?;
+                boxes.push((box_of(&ring), ring.len()))?;
             }
         }
     }
@@ -108,7 +110,7 @@ fn check_square(rt: &impl Abort, shapes: &Shapes) {
     assert_eq!(rt; shapes.ring_count(0), 1);
     let points: [(i64, i64); 4] = [(0, 0), (10, 0), (10, 10), (0, 10)];
     for (k, (x, y)) in points.iter().enumerate() {
-        assert_eq!(rt; shapes.ring(0, 0).get(k), Some(&Point { x: *x, y: *y }));
+        assert_eq!(rt; shapes.ring(0, 0).get(k), Some(Point { x: *x, y: *y }));
     }
 }
 

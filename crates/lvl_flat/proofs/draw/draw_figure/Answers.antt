@@ -13,12 +13,12 @@ loop-j-preserved c =
     let xs : List (List Point) = (shape_at c.args.shapes.now c.args.i).figure in
     let j : ℕ = c.loop-j.j in
     let there : j < length xs = omega (arith, c.loop-j-test.true, c.ring_count-j-end.ensures) in
-    let one : c.ring.result.now ≡ get_or xs j [] = c.ring.ensures.value in
+    let one : c.ring.result ≡ get_or xs j [] = c.ring.ensures.value in
     record {
       drawn =
           c.in_ok-push_placed.ensures.ok
-          ∙ (ap (λ rings. rings ++ f c.ring.result.now ∷ []) c.loop-j.invariant.drawn
-          ∙ (append_assoc c.args.rings.now (map f (take j xs)) (f c.ring.result.now ∷ [])
+          ∙ (ap (λ rings. rings ++ f c.ring.result ∷ []) c.loop-j.invariant.drawn
+          ∙ (append_assoc c.args.rings.now (map f (take j xs)) (f c.ring.result ∷ [])
           ∙ ap (λ rings. c.args.rings.now ++ rings)
           (ap (λ p. map f (take j xs) ++ f p ∷ []) one ∙ sym (map_more f xs j [] there))));
       placed = All-more (IsPlaced c.args.map.now c.args.shift) xs j [] there c.loop-j.invariant.placed

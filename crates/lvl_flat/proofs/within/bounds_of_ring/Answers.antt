@@ -1,22 +1,26 @@
-use Rattle.std.proofs.Common.{ℕ, List, All, take, subst}
+use Rattle.std.proofs.Common.{ℕ, ◌≡◌, ◌≤◌, List, Some, All, length, slice_get, take, sym, subst, arith, ◌∙◌}
 use Rattle.std.proofs.lemmas.List.{take_all}
 use Rattle.std.proofs.lemmas.List.Elements.{All-more, All-weaker}
+use Rattle.std.proofs.lemmas.Option.{slice_get_within, get_or_from_slice_get}
 use Rattle.lvl_grid.specs.declared.point.Point.{Point}
 use Rattle.lvl_flat.specs.declared.bounds.Bounds.{Bounds}
 use Rattle.lvl_flat.specs.Boxes.{IsWithin}
 use Rattle.lvl_flat.proofs.within.bounds_of_ring.Goals as goal
 
-pub loop-point-preserved : goal.loop-point-preserved
-loop-point-preserved c =
+pub loop-k-preserved : goal.loop-k-preserved
+loop-k-preserved c =
     let ring : List Point = c.args.ring.now in
-    let k : ℕ = c.loop-point.point-index in
+    let k : ℕ = c.loop-k.k in
     let b : Bounds = c.joined-bounds.result in
-    All-more (IsWithin b) ring k _ c.loop-point-test.true
-    (All-weaker (IsWithin c.loop-point.bounds) (IsWithin b) (λ p w. c.joined-bounds.ensures.first.holds p w)
-    (take k ring) c.loop-point.invariant)
-    (c.joined-bounds.ensures.second.holds _ c.around.ensures)
+    let p : Point = c.in-Some-2.point in
+    let seen : slice_get ring k ≡ Some p = sym c.get-2.ensures ∙ c.in-Some-2.is in
+    All-more (IsWithin b) ring k p (slice_get_within ring k p seen)
+    (All-weaker (IsWithin c.loop-k.bounds) (IsWithin b) (λ q w. c.joined-bounds.ensures.first.holds q w)
+    (take k ring) c.loop-k.invariant)
+    (subst (IsWithin b) (sym (get_or_from_slice_get ring k p p seen))
+    (c.joined-bounds.ensures.second.holds p c.around-2.ensures))
 
 pub returns : goal.returns
 returns c =
-    subst (All (IsWithin c.loop-point.bounds))
-    (take_all c.loop-point.point-index c.args.ring.now c.loop-point-test.false) c.loop-point.invariant
+    let long : length c.args.ring.now ≤ c.loop-k.k = omega (arith, c.loop-k-test.false, c.len-k-end.ensures) in
+    subst (All (IsWithin c.loop-k.bounds)) (take_all c.loop-k.k c.args.ring.now long) c.loop-k.invariant

@@ -3,5 +3,5 @@ use Rattle.lvl_flat.specs.Boxes.{IsWithin}
 use Rattle.lvl_flat.proofs.within.bounds_of_ring.Given as goal
 
 -- the points so far are in the box
-abbrev pub invariant-loop-point : goal.invariant-loop-point
-invariant-loop-point l = All (IsWithin l.bounds) (take l.point-index l.ring)
+abbrev pub invariant-loop-k : goal.invariant-loop-k
+invariant-loop-k l = All (IsWithin l.bounds) (take l.k l.ring)

@@ -15,5 +15,5 @@ returns-then-misses-clause-fits c =
 pub returns-then-is_inside-clause-covers : goal.returns-then-is_inside-clause-covers
 returns-then-is_inside-clause-covers c =
     inside_adds c.args.map.now c.args.shift c.args.window.now c.args.bounds c.in-Some.placed c.args.ring.now
-    c.args.rings.now c.push_placed.new.self c.in-Some.ensures.held c.requires.bounds (c.if-is_inside.ensures refl)
+    c.args.rings.now c.push_placed.new.rings c.in-Some.ensures.held c.requires.bounds (c.if-is_inside.ensures refl)
     c.in_ok-push_placed.ensures.ok c.in_ok-push_placed.ensures.covers

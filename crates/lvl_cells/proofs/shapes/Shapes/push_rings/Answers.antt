@@ -1,47 +1,132 @@
-use Rattle.std.proofs.Common.{◌≡◌, ◌++◌, ◌∷◌, [], arith, ◌∙◌, ap}
+use Rattle.std.proofs.Common.{refl, sym, subst, ap, ◌∙◌}
 use Rattle.lvl_cells.specs.declared.shapes.Span.{Span}
-use Rattle.lvl_cells.proofs.Spanned.{AreMore, one_more, refused}
+use Rattle.lvl_cells.proofs.Spanned.{AllGoOn, AreMore, AreSpans, shapes_in, one_more, refused, still, goes_on_same}
+use Rattle.lvl_cells.proofs.Spanned.{always_err}
 use Rattle.lvl_cells.proofs.shapes.Shapes.push_rings.Goals as goal
+use Rattle.lvl_cells.proofs.shapes.Shapes.push_rings.Goals.{In_ok-push}
+
+pub invariant_of-self : goal.invariant_of-self
+invariant_of-self c =
+    still _ _ _ _ _ _ c.self.inside.spans.items
+    (record {
+      rings_on = c.figure_of_rings.ensures.before;
+      moves_on = goes_on_same c.self.inside.moves.items;
+      kept_on = goes_on_same c.self.inside.shifts.items;
+    })
+    c.self.invariant
+
+pub returns-in_err-figure-clause-kept : goal.returns-in_err-figure-clause-kept
+returns-in_err-figure-clause-kept c =
+    always_err c.from_residual.result
+    (refused _ _ _ _ _ _ c.self.inside.spans.items c.args.self.now
+    (record {
+      rings_on = c.figure_of_rings.ensures.before;
+      moves_on = goes_on_same c.self.inside.moves.items;
+      kept_on = goes_on_same c.self.inside.shifts.items;
+    })
+    c.self.invariant c.self.view_is)
+
+pub invariant_of-self-in_err-moved : goal.invariant_of-self-in_err-moved
+invariant_of-self-in_err-moved c =
+    still _ _ _ _ _ _ c.self.inside.spans.items
+    (record {
+      rings_on = c.figure_of_rings.ensures.before;
+      moves_on = c.number_of_move.ensures.before;
+      kept_on = goes_on_same c.self.inside.shifts.items;
+    })
+    c.self.invariant
+
+pub returns-in_err-moved-clause-kept : goal.returns-in_err-moved-clause-kept
+returns-in_err-moved-clause-kept c =
+    always_err c.from_residual-in_err-moved.result
+    (refused _ _ _ _ _ _ c.self.inside.spans.items c.args.self.now
+    (record {
+      rings_on = c.figure_of_rings.ensures.before;
+      moves_on = c.number_of_move.ensures.before;
+      kept_on = goes_on_same c.self.inside.shifts.items;
+    })
+    c.self.invariant c.self.view_is)
+
+pub invariant_of-self-in_err-number : goal.invariant_of-self-in_err-number
+invariant_of-self-in_err-number c =
+    still _ _ _ _ _ _ c.self.inside.spans.items
+    (record {
+      rings_on = c.figure_of_rings.ensures.before;
+      moves_on = c.number_of_move.ensures.before;
+      kept_on = c.number_of.ensures.before;
+    })
+    c.self.invariant
 
 pub returns-in_err-number-clause-kept : goal.returns-in_err-number-clause-kept
 returns-in_err-number-clause-kept c =
-    refused _ c.self.inside.spans.items c.self.inside.rings c.self.inside.shifts.items c.number_of.new.kept.items
-    c.args.self.now c.self.invariant c.number_of.ensures.before c.self.view_is
+    always_err c.from_residual-in_err-number.result
+    (refused _ _ _ _ _ _ c.self.inside.spans.items c.args.self.now
+    (record {
+      rings_on = c.figure_of_rings.ensures.before;
+      moves_on = c.number_of_move.ensures.before;
+      kept_on = c.number_of.ensures.before;
+    })
+    c.self.invariant c.self.view_is)
 
-pub returns-in_err-end-clause-kept : goal.returns-in_err-end-clause-kept
-returns-in_err-end-clause-kept c =
-    refused _ c.self.inside.spans.items c.self.inside.rings c.self.inside.shifts.items c.number_of.new.kept.items
-    c.args.self.now c.self.invariant c.number_of.ensures.before c.self.view_is
+pub invariant_of-self-in_err-push : goal.invariant_of-self-in_err-push
+invariant_of-self-in_err-push c =
+    let on : AllGoOn c.self.inside.rings c.figure_of_rings.new.rings c.self.inside.moves.items
+    c.number_of_move.new.moves.items c.self.inside.shifts.items c.number_of.new.kept.items =
+    record {
+      rings_on = c.figure_of_rings.ensures.before;
+      moves_on = c.number_of_move.ensures.before;
+      kept_on = c.number_of.ensures.before;
+    } in
+    subst
+    (AreSpans c.figure_of_rings.new.rings c.number_of_move.new.moves.items c.number_of.new.kept.items)
+    (sym c.in_err-push.ensures.items) (still _ _ _ _ _ _ c.self.inside.spans.items on c.self.invariant)
 
-pub returns-in_err-reserve-clause-kept : goal.returns-in_err-reserve-clause-kept
-returns-in_err-reserve-clause-kept c =
-    rw c.reserve.ensures.items
-    (refused _ c.self.inside.spans.items c.self.inside.rings c.self.inside.shifts.items c.number_of.new.kept.items
-    c.args.self.now c.self.invariant c.number_of.ensures.before c.self.view_is)
+pub returns-in_err-push-clause-kept : goal.returns-in_err-push-clause-kept
+returns-in_err-push-clause-kept c =
+    let on : AllGoOn c.self.inside.rings c.figure_of_rings.new.rings c.self.inside.moves.items
+    c.number_of_move.new.moves.items c.self.inside.shifts.items c.number_of.new.kept.items =
+    record {
+      rings_on = c.figure_of_rings.ensures.before;
+      moves_on = c.number_of_move.ensures.before;
+      kept_on = c.number_of.ensures.before;
+    } in
+    always_err c.from_residual-in_err-push.result
+    (ap (shapes_in c.figure_of_rings.new.rings c.number_of_move.new.moves.items c.number_of.new.kept.items)
+    c.in_err-push.ensures.items
+    ∙ refused _ _ _ _ _ _ c.self.inside.spans.items c.args.self.now on c.self.invariant c.self.view_is)
 
-pub returns-in_err-push_all-clause-kept : goal.returns-in_err-push_all-clause-kept
-returns-in_err-push_all-clause-kept c =
-    rw (c.reserve.ensures.items, c.in_err-push_all.ensures.err)
-    (refused _ c.self.inside.spans.items c.self.inside.rings c.self.inside.shifts.items c.number_of.new.kept.items
-    c.args.self.now c.self.invariant c.number_of.ensures.before c.self.view_is)
+abbrev span : (c : In_ok-push) → Span
+span c = record {
+  layer = c.args.layer;
+  begin = c.in_ok-figure.figure.begin;
+  end = c.in_ok-figure.figure.end;
+  moved = c.in_ok-moved.moved;
+  shifts = c.in_ok-number.number;
+}
 
-abbrev span : (c : goal.After-push_reserved) → Span
-span c = record { layer = c.args.layer; end = c.in_ok-end.end; shifts = c.in_ok-number.number }
-
-spans_are : (c : goal.After-push_reserved) → c.push_reserved.new.self.items ≡ c.self.inside.spans.items ++ span c ∷ []
-spans_are c = c.push_reserved.ensures.items ∙ ap (λ ss. ss ++ span c ∷ []) c.reserve.ensures.items
-
-more : (c : goal.After-push_reserved)
-    → AreMore c.self.inside.spans.items c.self.inside.rings (c.args.rings.now) c.self.inside.shifts.items
-    c.number_of.new.kept.items (span c) c.args.shifts.now
+more : (c : In_ok-push)
+    → AreMore c.figure_of_rings.new.rings c.number_of_move.new.moves.items c.number_of.new.kept.items
+    c.self.inside.spans.items (span c) (c.args.rings.now) c.args.shifts.now c.args.self.now
 more c =
-    one_more c.self.inside.spans.items c.self.inside.rings (c.args.rings.now) c.self.inside.shifts.items
-    c.number_of.new.kept.items (span c) c.args.shifts.now
-    c.self.invariant c.number_of.ensures.before c.in_ok-number.ensures.number
-    (omega (arith, c.in_ok-end.ensures.0, c.len.ensures)) c.in_ok-end.ensures.1
+    one_more c.self.inside.rings c.figure_of_rings.new.rings c.self.inside.moves.items c.number_of_move.new.moves.items
+    c.self.inside.shifts.items c.number_of.new.kept.items c.self.inside.spans.items (span c) c.in_ok-figure.figure
+    (c.args.rings.now) c.args.shifts.now c.args.self.now
+    (record {
+      rings_on = c.figure_of_rings.ensures.before;
+      moves_on = c.number_of_move.ensures.before;
+      kept_on = c.number_of.ensures.before;
+    })
+    c.self.invariant c.self.view_is refl refl c.in_ok-figure.ensures.figure c.in_ok-moved.ensures.number
+    c.in_ok-number.ensures.number
 
 pub invariant_of-self-2 : goal.invariant_of-self-2
-invariant_of-self-2 c = rw (spans_are c, c.in_ok-push_all.ensures.ok) (more c).are
+invariant_of-self-2 c =
+    subst
+    (AreSpans c.figure_of_rings.new.rings c.number_of_move.new.moves.items c.number_of.new.kept.items)
+    (sym c.in_ok-push.ensures.items) (more c).are
 
 pub returns-clause-added : goal.returns-clause-added
-returns-clause-added c = rw (spans_are c, c.in_ok-push_all.ensures.ok, ← c.self.view_is) (more c).is
+returns-clause-added c =
+    ap (shapes_in c.figure_of_rings.new.rings c.number_of_move.new.moves.items c.number_of.new.kept.items)
+    c.in_ok-push.ensures.items
+    ∙ (more c).is

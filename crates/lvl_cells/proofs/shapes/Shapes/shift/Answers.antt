@@ -7,13 +7,13 @@ use Rattle.lvl_cells.proofs.shapes.Shapes.shift.Goals as goal
 
 pub index-requires : goal.index-requires
 index-requires c =
-    let there : c.args.i < length c.self.inside.spans.items = in_spans _ _ _ _ c.args.i c.self.view_is c.requires in
+    let there : c.args.i < length c.self.inside.spans.items = in_spans _ _ _ _ _ c.args.i c.self.view_is c.requires in
     omega (arith, there, c.self.inside.spans.ok.0)
 
 pub index-requires-in_default : goal.index-requires-in_default
 index-requires-in_default c =
     let number =
-    (shifts_read _ _ _ _ c.args.i c.index.result.now c.self.invariant c.self.view_is c.requires
+    (shifts_read _ _ _ _ _ c.args.i c.index.result.now c.self.invariant c.self.view_is c.requires
     c.index.ensures).0 in
     omega (arith, number, c.in_default, c.self.inside.shifts.ok.0)
 
@@ -21,7 +21,7 @@ pub returns-in-0 : goal.returns-in-0
 returns-in-0 c =
     let shifts : numbered c.self.inside.shifts.items c.index.result.now.shifts
     ≡ (shape_at c.args.self.now c.args.i).shifts =
-    (shifts_read _ _ _ _ c.args.i c.index.result.now c.self.invariant c.self.view_is c.requires c.index.ensures).1 in
+    (shifts_read _ _ _ _ _ c.args.i c.index.result.now c.self.invariant c.self.view_is c.requires c.index.ensures).1 in
     c.at-in-0.ensures
     ∙ ap (λ (es : List Point). slice_get es c.args.k)
     (c.single.ensures ∙ (ap (λ n. numbered c.self.inside.shifts.items n) (sym c.in-0.is) ∙ shifts))
@@ -30,7 +30,7 @@ pub returns-in_default : goal.returns-in_default
 returns-in_default c =
     let some : c.index.result.now.shifts ≢ 0 = omega (arith, c.in_default) in
     let read =
-    shifts_read _ _ _ _ c.args.i c.index.result.now c.self.invariant c.self.view_is c.requires c.index.ensures in
+    shifts_read _ _ _ _ _ c.args.i c.index.result.now c.self.invariant c.self.view_is c.requires c.index.ensures in
     let shifts : c.index-in_default.result.now ≡ (shape_at c.args.self.now c.args.i).shifts =
     c.index-in_default.ensures
     ∙ (sym (numbered_is c.self.inside.shifts.items c.index.result.now.shifts c.index-in_default.result.now some

@@ -1,0 +1,114 @@
+//! A ring where a shape has it: points that are kept once, moved.
+ghost use Rattle.std.specs.Prelude.{◌≡◌, ◌↔◌, length, map, slice_get, All, Any, OnOk, OnErr, IfOk, Err};
+ghost use Rattle.std.specs.Prelude.{SomeIff, ◌++◌, ◌∷◌, []};
+ghost use Rattle.lvl_grid.specs.declared.point.Square.{Square as GridSquare};
+ghost use Rattle.lvl_grid.specs.Placed.{placed_point, IsPlaceOfCovered};
+ghost use Rattle.lvl_grid.specs.Turn.{FitsPoint, shifted};
+ghost use Rattle.lvl_grid.specs.Winding.{Covers};
+ghost use Rattle.lvl_cells.specs.inside.Spans.{IsMovable};
+
+use lvl_grid::{Map, PlaceFault, Point, Rings};
+use std::alloc::{AllocError, Global};
+use std::marker::Model;
+
+/// Not moved.
+pub(crate) const ORIGIN: Point = Point { x: 0, y: 0 };
+
+/// The points of a ring, each moved by the same displacement. They are not copied, so shapes that
+/// draw the same points at several places keep them once.
+#[derive(Debug, Drop)]
+pub struct MovedRing<'a> {
+    points: &'a [Point],
+    by: Point,
+}
+
+impl<'a> Model for MovedRing<'a> {
+    ghost use Rattle.std.specs.Prelude.{List, map};
+    ghost use Rattle.lvl_grid.specs.declared.point.Point.{Point};
+    ghost use Rattle.lvl_grid.specs.Turn.{shifted};
+    ghost use Rattle.lvl_cells.specs.inside.Spans.{IsMovable};
+
+    ghost Value = { List Point };
+
+    ghost view = { λ r. map (shifted r.by) r.points.now };
+
+    ghost invariant = { λ r. IsMovable r.by r.points.now };
+}
+
+/// The point moved by another, or None where that is outside 64 bits.
+pub(crate) fn moved(point: Point, by: Point) -> Option<Point>
+    ensures { SomeIff result (FitsPoint (shifted by point)) (shifted by point) }
+{
+    let x = point.x.checked_add(by.x)?;
+    let y = point.y.checked_add(by.y)?;
+    Some(Point { x, y })
+}
+
+impl<'a> MovedRing<'a> {
+    /// These points, moved.
+    pub(crate) fn new(points: &'a [Point], by: Point) -> MovedRing<'a>
+        requires { IsMovable by points.now }
+        ensures { result ≡ map (shifted by) points.now }
+    {
+        MovedRing { points, by }
+    }
+
+    /// How many points it has.
+    pub fn len(&self) -> usize
+        ensures { result ≡ length self.now }
+    {
+        self.points.len()
+    }
+
+    /// The point at this index; None past the last.
+    pub fn get(&self, k: usize) -> Option<Point>
+        ensures { result ≡ slice_get self.now k }
+    {
+        let point = self.points.get(k)?;
+        if self.by == ORIGIN {
+            return Some(*point);
+        }
+        moved(*point, self.by)
+    }
+
+    /// A copy of its points.
+    pub fn to_points(&self, alloc: Global) -> Result<Vec<Point>, AllocError>
+        ensures { IfOk result (λ points. points.items ≡ self.now) }
+    {
+        let mut points = Vec::with_capacity(alloc, self.len())?;
+        for k in 0..self.len() {
+            let Some(point) = self.get(k) else {
+                unreachable!()
+            };
+            points.push_reserved(point);
+        }
+        Ok(points)
+    }
+
+    /// Appends the image of the ring to others, each of its points moved by `shift` before it is mapped,
+    /// as [`Rings::push_placed`] does. It copies the ring only where both displacements together are outside
+    /// 64 bits.
+    pub fn push_placed(
+        &self,
+        alloc: Global,
+        rings: &mut Rings,
+        shift: Point,
+        by: &Map,
+    ) -> Result<(), PlaceFault>
+        ensures ok { OnOk result (rings.new ≡ rings.old ++ map (placed_point by.now shift) self.now ∷ []) }
+        ensures covers { OnOk result ((t : GridSquare)
+            → Covers (map (placed_point by.now shift) self.now) t ↔ IsPlaceOfCovered by.now shift self.now t) }
+        ensures in_range { OnOk result (All (λ v. FitsPoint (placed_point by.now shift v)) self.now) }
+        ensures err { OnErr result (rings.new ≡ rings.old) }
+        ensures out_of_range { result ≡ Err PlaceFault.OutOfRange
+            → Any (λ v. ¬ FitsPoint (placed_point by.now shift v)) self.now }
+    {
+        if let Some(both) = moved(shift, self.by) {
+            return rings.push_placed(self.points, both, by);
+        }
+        let Ok(points) = self.to_points(alloc) else {
+            return Err(PlaceFault::OutOfMemory);
+        };
+        rings.push_placed(&points, shift, by)
+    }
+}

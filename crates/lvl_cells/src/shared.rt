@@ -1,0 +1,187 @@
+//! Figures that are kept once: rings that are those of the shape before, moved.
+ghost use Rattle.std.specs.Prelude.{◌≡◌, ◌<◌, ◌+◌, ◌∷◌, [], length, IsTrue, IfOk, IfSome};
+ghost use Rattle.lvl_grid.specs.Winding.{IsRing};
+ghost use Rattle.lvl_cells.specs.inside.Spans.{displaced, GoesOn, HasMove, IsAgain, IsFigure, IsStretch};
+
+use crate::moved::{ORIGIN, moved};
+use crate::shapes::{Span, kept_count, kept_sum};
+use lvl_grid::{Point, Ring, Rings};
+use std::alloc::AllocError;
+
+/// Which of the rings that are kept a figure is, and by how much they are moved.
+#[derive(Clone, Copy, Debug)]
+pub(crate) struct KeptFigure {
+    pub begin: u32,
+    pub end: u32,
+    pub by: Point,
+}
+
+/// How far the second point is from the first, or None where that is outside 64 bits.
+fn distance(from: Point, to: Point) -> Option<Point> {
+    let x = to.x.checked_sub(from.x)?;
+    let y = to.y.checked_sub(from.y)?;
+    Some(Point { x, y })
+}
+
+/// Whether a ring is the one that is kept, moved.
+fn is_again(kept: &[Point], by: Point, ring: &[Point]) -> bool
+    ensures { IsTrue result → IsAgain kept.now by ring.now }
+{
+    if kept.len() != ring.len() {
+        return false;
+    }
+    for (k, point) in kept.iter().enumerate() {
+        let Some(point) = moved(*point, by) else {
+            return false;
+        };
+        if point != ring[k] {
+            return false;
+        }
+    }
+    true
+}
+
+/// By how much a ring is the one that is kept, moved, if it is.
+fn displacement(kept: &[Point], ring: &[Point]) -> Option<Point>
+    ensures { IfSome result (λ by. IsAgain kept.now by ring.now) }
+{
+    let by = distance(*kept.first()?, *ring.first()?)?;
+    if !is_again(kept, by, ring) {
+        return None;
+    }
+    Some(by)
+}
+
+/// The figure of one ring, if that is the ring of the last shape, moved.
+fn ring_again(rings: &Rings, last: &Span, ring: &[Point]) -> Option<KeptFigure>
+    requires { IsStretch rings.now last.now }
+    ensures { IfSome result (λ f. IsFigure rings.now f (ring.now ∷ [])) }
+{
+    if last.end - last.begin != 1 {
+        return None;
+    }
+    let by = displacement(rings.ring(last.begin as usize), ring)?;
+    Some(KeptFigure {
+        begin: last.begin,
+        end: last.end,
+        by,
+    })
+}
+
+/// The figure of several rings, if they are those of the last shape, all moved alike.
+fn rings_again(rings: &Rings, last: &Span, figure: &[Ring]) -> Option<KeptFigure>
+    requires { IsStretch rings.now last.now }
+    ensures { IfSome result (λ f. IsFigure rings.now f figure.now) }
+{
+    let begin = last.begin as usize;
+    if last.end as usize - begin != figure.len() {
+        return None;
+    }
+    let first = figure.first()?;
+    let by = displacement(rings.ring(begin), first.points())?;
+    for (j, ring) in figure.iter().enumerate() {
+        if !is_again(rings.ring(begin + j), by, ring.points()) {
+            return None;
+        }
+    }
+    Some(KeptFigure {
+        begin: last.begin,
+        end: last.end,
+        by,
+    })
+}
+
+/// The figure of one ring: that of the last shape, moved, or else one that is added to those that are kept.
+pub(crate) fn figure_of_ring(
+    rings: &mut Rings,
+    last: Option<&Span>,
+    ring: &[Point],
+) -> Result<KeptFigure, AllocError>
+    requires last { IfSome last (λ s. IsStretch rings.old s.now) }
+    requires ring { IsRing ring.now }
+    ensures figure { IfOk result (λ f. IsFigure rings.new f (ring.now ∷ [])) }
+    ensures before { GoesOn rings.old rings.new }
+{
+    if let Some(last) = last {
+        if let Some(figure) = ring_again(rings, last, ring) {
+            return Ok(figure);
+        }
+    }
+    keep_ring(rings, ring)
+}
+
+/// The figure of several rings: that of the last shape, moved, or else one that is added to those that
+/// are kept.
+pub(crate) fn figure_of_rings(
+    rings: &mut Rings,
+    last: Option<&Span>,
+    figure: &[Ring],
+) -> Result<KeptFigure, AllocError>
+    requires { IfSome last (λ s. IsStretch rings.old s.now) }
+    ensures figure { IfOk result (λ f. IsFigure rings.new f figure.now) }
+    ensures before { GoesOn rings.old rings.new }
+{
+    if let Some(last) = last {
+        if let Some(again) = rings_again(rings, last, figure) {
+            return Ok(again);
+        }
+    }
+    keep_rings(rings, figure)
+}
+
+/// The figure of one ring, which is added to those that are kept.
+fn keep_ring(rings: &mut Rings, ring: &[Point]) -> Result<KeptFigure, AllocError>
+    requires { IsRing ring.now }
+    ensures figure { IfOk result (λ f. IsFigure rings.new f (ring.now ∷ [])) }
+    ensures before { GoesOn rings.old rings.new }
+{
+    let begin = kept_count(rings.len())?;
+    let end = kept_sum(rings.len(), 1)?;
+    rings.push(ring)?;
+    Ok(KeptFigure {
+        begin,
+        end,
+        by: ORIGIN,
+    })
+}
+
+/// The figure of several rings, which are added to those that are kept.
+fn keep_rings(rings: &mut Rings, figure: &[Ring]) -> Result<KeptFigure, AllocError>
+    ensures figure { IfOk result (λ f. IsFigure rings.new f figure.now) }
+    ensures before { GoesOn rings.old rings.new }
+{
+    let begin = kept_count(rings.len())?;
+    let end = kept_sum(rings.len(), figure.len())?;
+    rings.push_all(figure)?;
+    Ok(KeptFigure {
+        begin,
+        end,
+        by: ORIGIN,
+    })
+}
+
+/// The displacement of a number.
+pub(crate) fn move_of(moves: &[Point], number: u32) -> Point
+    requires { number < length moves.now + 1 }
+    ensures { result ≡ displaced moves.now number }
+{
+    match number {
+        0 => ORIGIN,
+        number => moves[number as usize - 1],
+    }
+}
+
+/// The number of the displacement among those that are kept, to which it is added if need be.
+pub(crate) fn number_of_move(moves: &mut Vec<Point>, by: Point) -> Result<u32, AllocError>
+    ensures number { IfOk result (λ number. HasMove moves.new.items number by) }
+    ensures before { GoesOn moves.old.items moves.new.items }
+{
+    if by == ORIGIN {
+        return Ok(0);
+    }
+    if moves.last() == Some(&by) {
+        return kept_count(moves.len());
+    }
+    moves.push(by)?;
+    kept_count(moves.len())
+}
