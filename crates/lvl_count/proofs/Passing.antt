@@ -1,17 +1,17 @@
 -- The placements of one cell, passed on along its references.
-use Rattle.std.proofs.Common.{◌≡◌, ℕ, zero, suc, ◌+◌, ◌*◌, ◌<◌, ◌≤◌, List, [], ◌∷◌, length, get_or, set, drop, sum_by}
+use Rattle.std.proofs.Common.{◌≡◌, ℕ, zero, suc, ◌+◌, ◌*◌, ◌<◌, ◌≤◌, List, [], length, get_or, set, drop, sum_by}
 use Rattle.std.proofs.Common.{replicate, Option, Some, refl, sym, ap, ◌∙◌, subst, arith}
 use Rattle.std.specs.List.{slice_get}
 use Rattle.std.specs.Option.{option_map, option_map_or}
 use Rattle.std.proofs.Math.ListN.{length-set}
 use Rattle.std.proofs.lemmas.List.{get_or-set_same, get_or-replicate, length-replicate}
-use Rattle.std.proofs.lemmas.List.Sums.{sum_by-cons, sum_by-drop_more}
+use Rattle.std.proofs.lemmas.List.Sums.{sum_by-drop_more}
 use Rattle.std.proofs.lemmas.Option.{slice_get-map, slice_get_within, slice_get-get_or, slice_get_read}
 use Rattle.std.proofs.lemmas.Option.{get_or_from_slice_get}
 use Rattle.lvl_cells.specs.Cells.{PlainCell, PlainReference, Rings, names, cell_named}
-use Rattle.lvl_cells.specs.Chains.{over_chains, chains, most_placed}
+use Rattle.lvl_cells.specs.Chains.{over_chains, most_placed}
 use Rattle.lvl_cells.specs.Checks.{Settled, IsSettled, IsTargetOf}
-use Rattle.lvl_cells.specs.Soundness.{links, AreLinked, IsOrder}
+use Rattle.lvl_cells.specs.Soundness.{AreLinked, IsOrder}
 use Rattle.std.proofs.lemmas.List.Elements.{All-contains}
 use Rattle.lvl_names.proofs.Elements.{contains_at}
 use Rattle.lvl_cells.proofs.Arcs.{is_link}
@@ -143,7 +143,8 @@ one_at_least : (cells : List (PlainCell Rings)) (n : ℕ) (c : PlainCell Rings) 
 one_at_least cells zero c = omega arith
 one_at_least cells (suc n) c = omega arith
 
-le_product : (a m : ℕ) → 1 ≤ m → a ≤ a * m
+-- a product with a factor that is not zero
+pub le_product : (a m : ℕ) → 1 ≤ m → a ≤ a * m
 le_product a zero h = absurd (omega (arith, h))
 le_product a (suc m) h = omega arith
 

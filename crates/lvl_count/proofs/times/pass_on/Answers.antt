@@ -1,8 +1,7 @@
-use Rattle.std.proofs.Common.{◌≡◌, ◌<◌, ◌≤◌, ℕ, List, length, get_or, drop, ◌+◌, refl, sym, ap, ◌∙◌, subst, arith}
+use Rattle.std.proofs.Common.{◌≡◌, ◌<◌, length, get_or, drop, ◌+◌, refl, sym, ap, ◌∙◌, subst, arith}
 use Rattle.std.proofs.lemmas.Option.{slice_get_within}
-use Rattle.lvl_cells.specs.Cells.{PlainCell, PlainReference, Rings}
-use Rattle.lvl_cells.specs.Checks.{Settled}
-use Rattle.lvl_count.proofs.Passing.{IsPassing, cell_read, step_along, passing_begins, passing_ends}
+use Rattle.lvl_cells.specs.Cells.{PlainCell, Rings}
+use Rattle.lvl_count.proofs.Passing.{IsPassing, cell_read, step_along, passing_begins}
 use Rattle.lvl_count.proofs.times.pass_on.Goals.{in-Some, in_default}
 use Rattle.lvl_count.proofs.times.pass_on.Goals as goal
 
@@ -67,14 +66,14 @@ loop-j-preserved c =
     elim c.match-target.branch [
       | in-Some w ↦
           let step =
-    step_along c.args.checked.now c.cells.ensures.checked.0 c.args.i
-    (get_or c.args.times.now (get_or c.order.result.now c.args.i 0) 0) c.loop-j.j w.in-Some.target w.len.result
-    c.order.result.now c.cells.result.now c.deref-reference-items.result.now c.index-cells-place.result
-    c.reference-item.result c.loop-j.times c.cells.ensures.checked.1 c.order.ensures.value c.cells.ensures.value
-    c.requires.within c.index-cells-place.is
-    (c.deref-reference-items.ensures.value ∙ ap (λ (d : PlainCell Rings). d.references) c.cell.view_is)
-    c.loop-j-test.true c.reference-item.is (w.len.ensures.count ∙ ap length w.shifts.ensures.all)
-    w.in-Some.ensures.target c.loop-j.invariant in
+          step_along c.args.checked.now c.cells.ensures.checked.0 c.args.i
+          (get_or c.args.times.now (get_or c.order.result.now c.args.i 0) 0) c.loop-j.j w.in-Some.target w.len.result
+          c.order.result.now c.cells.result.now c.deref-reference-items.result.now c.index-cells-place.result
+          c.reference-item.result c.loop-j.times c.cells.ensures.checked.1 c.order.ensures.value c.cells.ensures.value
+          c.requires.within c.index-cells-place.is
+          (c.deref-reference-items.ensures.value ∙ ap (λ (d : PlainCell Rings). d.references) c.cell.view_is)
+          c.loop-j-test.true c.reference-item.is (w.len.ensures.count ∙ ap length w.shifts.ensures.all)
+          w.in-Some.ensures.target c.loop-j.invariant in
           subst
           (λ ts. IsPassing c.args.checked.now c.args.i
           (get_or c.args.times.now (get_or c.order.result.now c.args.i 0) 0)

@@ -1,4 +1,4 @@
-use Rattle.std.proofs.Common.{◌≡◌, ◌≤◌, ℕ, length, set, sym, ap, ◌∙◌, subst, arith}
+use Rattle.std.proofs.Common.{length, set, sym, ap, subst, arith}
 use Rattle.lvl_count.specs.inside.Times.{IsUnderWay}
 use Rattle.lvl_count.proofs.Passing.{under_way_begins, under_way_ends}
 use Rattle.lvl_count.proofs.times.times_of.Goals as goal
