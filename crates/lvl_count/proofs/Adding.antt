@@ -49,7 +49,8 @@ parted counts layer sorted i j d le low h =
 -- where the counts for earlier Layers end there is that of the Layer
 pub found_at : (counts : List LayerRings) (layer : Layer) (place : ℕ) → AreSorted counts
     → Contains (map (λ c. c.layer) counts) layer
-    → IsPartitionPoint (λ (c : LayerRings). comes c.layer layer ≡ true) (λ (c : LayerRings). comes c.layer layer ≡ false)
+    → IsPartitionPoint (λ (c : LayerRings). comes c.layer layer ≡ true)
+    (λ (c : LayerRings). comes c.layer layer ≡ false)
     counts place
     → IsCountOf counts layer place
 found_at counts layer place sorted (k, within, is) (before, after) =
@@ -96,7 +97,8 @@ added_at counts layer n place d sorted at =
     (λ k within.
     let low : k < length counts =
     omega (arith, within, length-set counts place (with_more (get_or counts place d) n)) in
-    let changed : get_or (map (more f) counts) k d ≡ more f (get_or counts k d) = get_or-map (more f) counts k d d low in
+    let changed : get_or (map (more f) counts) k d ≡ more f (get_or counts k d) =
+    get_or-map (more f) counts k d d low in
     elim (order_of_two k place) [
       | inl e ↦
           let one : cond (same_layer layer (get_or counts place d).layer) n 0 ≡ n =
@@ -121,5 +123,6 @@ added_at counts layer n place d sorted at =
           let kept : (get_or counts k d).rings + cond (same_layer layer (get_or counts k d).layer) n 0
           ≡ (get_or counts k d).rings = omega (arith, none) in
           let of : ℕ → LayerRings = λ m. record { layer = (get_or counts k d).layer; rings = m } in
-          get_or-set_other counts place k (with_more (get_or counts place d) n) d other ∙ (ap of (sym kept) ∙ sym changed)
+          get_or-set_other counts place k (with_more (get_or counts place d) n) d other
+          ∙ (ap of (sym kept) ∙ sym changed)
     ])

@@ -1,5 +1,6 @@
 -- The rings of all cells, each as often as it is placed, are those that the top places.
-use Rattle.std.proofs.Common.{◌≡◌, ◌<◌, ◌≤◌, ◌+◌, ◌*◌, ◌⊎◌, inl, inr, ℕ, zero, suc, Bool, true, false, cond, nat_lt, List, []}
+use Rattle.std.proofs.Common.{◌≡◌, ◌<◌, ◌≤◌, ◌+◌, ◌*◌, ◌⊎◌, inl, inr, ℕ, zero, suc, Bool, true, false, cond, nat_lt}
+use Rattle.std.proofs.Common.{List, []}
 use Rattle.std.proofs.Common.{◌∷◌, length, get_or, map, take, filter, sum_by, Option, Some, None, All, Contains, refl}
 use Rattle.std.proofs.Common.{ap, ◌∙◌, subst, arith}
 use Rattle.std.specs.List.{slice_get}
@@ -197,7 +198,8 @@ still_there f (c ∷ cs) layer some (suc k, within, is) =
     elim (nat_lt 0 (c.rings + f c.layer))
     as (λ b.
     Contains
-    (map layer_of (cond b (more f c ∷ filter is_filled (map (more f) cs)) (filter is_filled (map (more f) cs)))) layer) [
+    (map layer_of (cond b (more f c ∷ filter is_filled (map (more f) cs)) (filter is_filled (map (more f) cs))))
+    layer) [
       | true ↦ (suc rest.0, omega (arith, rest.1), rest.2)
       | false ↦ rest
     ]
@@ -205,7 +207,8 @@ still_there f (c ∷ cs) layer some (suc k, within, is) =
 -- counts from zero to which the rings of all cells are added, without those that are zero still, are all that the top
 -- places
 pub all_counted : (s : Settled) (times : List ℕ) (old : List LayerRings) (top : PlainCell Rings) → AreTimes s times
-    → slice_get s.cells s.top ≡ Some top → AreSorted old → All (AreListed s.cells times (map (λ c. c.layer) old)) s.order
+    → slice_get s.cells s.top ≡ Some top → AreSorted old
+    → All (AreListed s.cells times (map (λ c. c.layer) old)) s.order
     → All (λ c. c.rings ≡ 0) old
     → AreCounted each_ring s.cells top
     (filter is_filled (map (more (λ l. placed_on l s.cells times s.order)) old))
@@ -217,7 +220,8 @@ all_counted s times old top t is_top sorted listed none =
     t.whole (own_rings_on each_ring layer) ∙ ap (placed_rings_on each_ring layer s.cells) same in
     let is_right : LayerRings → Type 0 = λ c. c.rings ≡ placed_rings_on each_ring c.layer s.cells top in
     record {
-      sorted = AllPairs-filter (λ (a b : LayerRings). ComesBefore a.layer b.layer) is_filled all (sorted_kept f old sorted);
+      sorted =
+          AllPairs-filter (λ (a b : LayerRings). ComesBefore a.layer b.layer) is_filled all (sorted_kept f old sorted);
       filled =
           All-weaker (λ (c : LayerRings). is_filled c ≡ true) (λ (c : LayerRings). 0 < c.rings)
           (λ c yes. ltb-true 0 c.rings yes) (filter is_filled all) (filter_passes is_filled all);

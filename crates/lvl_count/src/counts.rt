@@ -1,5 +1,6 @@
 //! The counts of the rings on each Layer.
-ghost use Rattle.std.specs.Prelude.{◌≡◌, ◌+◌, ◌*◌, ◌<◌, ◌≤◌, if◌then◌else◌, map, slice_get, All, Contains, IfOk, IfSome};
+ghost use Rattle.std.specs.Prelude.{◌≡◌, ◌+◌, ◌*◌, ◌<◌, ◌≤◌, if◌then◌else◌, map, slice_get, All, Contains};
+ghost use Rattle.std.specs.Prelude.{IfOk, IfSome};
 ghost use Rattle.lvl_cells.specs.Cells.{each_ring};
 ghost use Rattle.lvl_cells.specs.Chains.{most_placed};
 ghost use Rattle.lvl_count.specs.Counted.{AreCounted};

@@ -1,6 +1,6 @@
 -- Counts of rings as they grow.
-use Rattle.std.specs.Prelude.{◌≡◌, ℕ, ◌+◌, ◌*◌, ◌<◌, List, length, sum_by, slice_get, slice_index, slice_index_or, Some, All, AllPairs}
-use Rattle.std.specs.Prelude.{Contains, if◌then◌else◌}
+use Rattle.std.specs.Prelude.{◌≡◌, ℕ, ◌+◌, ◌*◌, ◌<◌, List, length, sum_by, All, AllPairs}
+use Rattle.std.specs.Prelude.{slice_get, slice_index, slice_index_or, Some, Contains, if◌then◌else◌}
 use Rattle.lvl_names.specs.declared.layer.Layer.{Layer}
 use Rattle.lvl_names.specs.Layers.{ComesBefore, same_layer}
 use Rattle.lvl_cells.specs.Cells.{PlainCell, PlainShape, Rings, each_ring}

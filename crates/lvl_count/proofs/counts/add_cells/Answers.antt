@@ -1,4 +1,5 @@
-use Rattle.std.proofs.Common.{◌≡◌, ◌<◌, ◌≤◌, ◌+◌, ◌*◌, ℕ, List, Some, length, get_or, map, take, All, Contains, refl, sym, ap, ◌∙◌}
+use Rattle.std.proofs.Common.{◌≡◌, ◌<◌, ◌≤◌, ◌+◌, ◌*◌, ℕ, List, Some, length, get_or, map, take, All, Contains, refl}
+use Rattle.std.proofs.Common.{sym, ap, ◌∙◌}
 use Rattle.std.proofs.Common.{subst, arith}
 use Rattle.std.specs.List.{slice_get}
 use Rattle.std.proofs.lemmas.List.{take_all}
@@ -84,10 +85,12 @@ loop-place-preserved c =
     let h : Layer → ℕ = λ l. placed_on l s.cells times (take (i + 1) places) in
     elim c.if-here-gt0.branch [
       | then-here-gt0 w ↦
-          let low : i < length s.order = omega (arith, c.loop-place-test.true, ap length c.order-place-items.ensures.value) in
+          let low : i < length s.order =
+          omega (arith, c.loop-place-test.true, ap length c.order-place-items.ensures.value) in
           let at =
           cell_read s w.cells.ensures.checked.0 places w.cells.result.now i w.index-cells-place.result
-          w.cells.ensures.checked.1 c.order-place-items.ensures.value w.cells.ensures.value low w.index-cells-place.is in
+          w.cells.ensures.checked.1 c.order-place-items.ensures.value w.cells.ensures.value low
+          w.index-cells-place.is in
           let g : Layer → ℕ = λ l. get_or times k 0 * rings_on l w.cell.inside.shapes in
           w.counts-is
           ∙ (w.add_shapes.ensures

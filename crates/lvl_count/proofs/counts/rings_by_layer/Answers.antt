@@ -1,4 +1,5 @@
-use Rattle.std.proofs.Common.{◌≡◌, ℕ, List, Some, None, IfSome, map, filter, All, Contains, ap, ◌∙◌, sym, subst, rules, refl}
+use Rattle.std.proofs.Common.{◌≡◌, ℕ, List, Some, None, IfSome, map, filter, All, Contains, ap, ◌∙◌, sym}
+use Rattle.std.proofs.Common.{subst, rules, refl}
 use Rattle.std.proofs.Common.{length, drop}
 use Rattle.std.proofs.lemmas.List.{take_at}
 use Rattle.std.proofs.Math.ListN.{length-map}

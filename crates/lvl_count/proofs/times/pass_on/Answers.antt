@@ -21,12 +21,14 @@ overflow_mul-times c =
 pub offset_bounds-times-target : goal.offset_bounds-times-target
 offset_bounds-times-target c =
     let t = c.in-Some.ensures.target in
-    omega (arith, slice_get_within c.args.checked.now.cells c.in-Some.target t.target t.target_is, c.loop-j.invariant.long)
+    omega
+    (arith, slice_get_within c.args.checked.now.cells c.in-Some.target t.target t.target_is, c.loop-j.invariant.long)
 
 pub bounds-times-target : goal.bounds-times-target
 bounds-times-target c =
     let t = c.in-Some.ensures.target in
-    omega (arith, slice_get_within c.args.checked.now.cells c.in-Some.target t.target t.target_is, c.loop-j.invariant.long)
+    omega
+    (arith, slice_get_within c.args.checked.now.cells c.in-Some.target t.target t.target_is, c.loop-j.invariant.long)
 
 pub overflow_add-times : goal.overflow_add-times
 overflow_add-times c =
@@ -44,7 +46,8 @@ overflow_add-times c =
 pub bounds-times-target-in-Some : goal.bounds-times-target-in-Some
 bounds-times-target-in-Some c =
     let t = c.in-Some.ensures.target in
-    omega (arith, slice_get_within c.args.checked.now.cells c.in-Some.target t.target t.target_is, c.loop-j.invariant.long)
+    omega
+    (arith, slice_get_within c.args.checked.now.cells c.in-Some.target t.target t.target_is, c.loop-j.invariant.long)
 
 pub loop-j-init : goal.loop-j-init
 loop-j-init c =
