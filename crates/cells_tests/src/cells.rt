@@ -23,13 +23,13 @@ fn many() -> Result<Offsets, Fail> {
 }
 
 /// The cell of that name, placed once for each shift.
-fn placing(alloc: Global, name: &[u8], shifts: Offsets) -> Result<Reference, Fail> {
+pub(crate) fn placing(alloc: Global, name: &[u8], shifts: Offsets) -> Result<Reference, Fail> {
     let name = Name::new(Vec::from_slice(alloc, name)?)?;
     Ok(Reference::new(name, false, Turn::R0, ORIGIN, shifts).ok_or("places")?)
 }
 
 /// A unit square.
-fn square(alloc: Global) -> Result<Ring, Fail> {
+pub(crate) fn square(alloc: Global) -> Result<Ring, Fail> {
     let corners = [ORIGIN, RIGHT, Point { x: 1, y: 1 }, UP];
     Ok(Ring::new(corners.to_vec(alloc)?)?)
 }
@@ -42,7 +42,7 @@ fn add_square(alloc: Global, cell: &mut Cell, shifts: &Offsets) -> Result<(), Fa
 }
 
 /// A cell without shapes and references.
-fn empty(alloc: Global, name: &[u8]) -> Result<Cell, AllocError> {
+pub(crate) fn empty(alloc: Global, name: &[u8]) -> Result<Cell, AllocError> {
     Ok(Cell {
         name: Vec::from_slice(alloc, name)?,
         shapes: Shapes::new(alloc),
@@ -155,7 +155,7 @@ a missing cell before a cycle | A A; B X | | MissingCell B X
 ";
 
 /// What is before the mark, and what is after it.
-fn cut<'a>(text: &'a str, mark: &str) -> (&'a str, &'a str) {
+pub(crate) fn cut<'a>(text: &'a str, mark: &str) -> (&'a str, &'a str) {
     text.split_once(mark).unwrap_or((text, ""))
 }
 

@@ -1,11 +1,14 @@
-//! Lists of offsets, small libraries checked, and views read from texts, with each allocation failing in turn.
+//! Lists of offsets, small libraries checked and counted, and views read from texts, with each allocation failing
+//! in turn.
 //!
-//! These tests of `lvl_names`, `lvl_cells` and `lvl_view` are a crate of their own since a crate with tests is
-//! proved twice.
+//! These tests of `lvl_names`, `lvl_cells`, `lvl_view` and `lvl_count` are a crate of their own since a crate with
+//! tests is proved twice.
 #![tactic(auto)]
 
 #[cfg(test)]
 mod cells;
+#[cfg(test)]
+mod counts;
 #[cfg(test)]
 mod offsets;
 #[cfg(test)]

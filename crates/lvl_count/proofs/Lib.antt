@@ -1,0 +1,6 @@
+pub mod Weighing
+pub mod Passing
+pub mod Listing
+pub mod Adding
+pub mod Growing
+pub mod Totals
