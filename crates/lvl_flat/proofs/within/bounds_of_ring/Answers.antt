@@ -12,13 +12,13 @@ loop-k-preserved c =
     let ring : List Point = c.args.ring.now in
     let k : ℕ = c.loop-k.k in
     let b : Bounds = c.joined-bounds.result in
-    let p : Point = c.in-Some-2.point in
-    let seen : slice_get ring k ≡ Some p = sym c.get-2.ensures ∙ c.in-Some-2.is in
+    let p : Point = c.in-Some-get.point in
+    let seen : slice_get ring k ≡ Some p = sym c.get-in-loop-k.ensures ∙ c.in-Some-get.is in
     All-more (IsWithin b) ring k p (slice_get_within ring k p seen)
     (All-weaker (IsWithin c.loop-k.bounds) (IsWithin b) (λ q w. c.joined-bounds.ensures.first.holds q w)
     (take k ring) c.loop-k.invariant)
     (subst (IsWithin b) (sym (get_or_from_slice_get ring k p p seen))
-    (c.joined-bounds.ensures.second.holds p c.around-2.ensures))
+    (c.joined-bounds.ensures.second.holds p c.around.ensures))
 
 pub returns : goal.returns
 returns c =
