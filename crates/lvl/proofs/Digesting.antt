@@ -1,11 +1,13 @@
 -- The digest of a flat layout, Layer by Layer, and from it to what the bytes of the file spell.
 use Rattle.std.proofs.Common.{◌≡◌, ◌↔◌, ℕ, zero, suc, ◌+◌, ◌<◌, ◌≤◌, ◌^◌, Bool, true, false, cond, List, [], ◌∷◌, ◌++◌}
 use Rattle.std.proofs.Common.{length, take, map, get_or, slice_get, Option, Some, Result, Ok, Err, IfOk, All, Any}
-use Rattle.std.proofs.Common.{AllPairs, refl, sym, ap, ◌∙◌, subst, arith, rules}
+use Rattle.std.proofs.Common.{AllPairs, None, inl, inr, refl, sym, ap, ◌∙◌, subst, arith, rules}
+use Rattle.std.specs.Option.{option_map}
 use Rattle.std.proofs.Math.ListN.{length-map}
 use Rattle.std.proofs.lemmas.List.{append_assoc, get_or-map, map_more, take_all}
 use Rattle.std.proofs.lemmas.List.Elements.{All-append, All-nil}
-use Rattle.std.proofs.lemmas.Option.{get_or_from_slice_get, slice_get-get_or, slice_get_within}
+use Rattle.std.proofs.lemmas.Option.{get_or_from_slice_get, slice_get-get_or, slice_get-map, slice_get_cases}
+use Rattle.std.proofs.lemmas.Option.{slice_get_within}
 use Rattle.lvl_grid.proofs.Anyone.{Any-map, Any-nil, Any-right}
 use Rattle.lvl_grid.specs.declared.point.Square.{Square}
 use Rattle.lvl_names.specs.Layers.{ComesBefore, same_layer}
@@ -32,7 +34,30 @@ use Rattle.lvl.specs.declared.verdict.Refusal.{Refusal}
 use Rattle.lvl.specs.Kept.{IsFlatLibrary, Kept}
 use Rattle.lvl.specs.declared.flattened.FlatLibrary.{FlatLibrary}
 use Rattle.lvl.proofs.Lifting.{top_lifted}
-use Rattle.lvl.proofs.ShownLayers.{sheet_at}
+
+abbrev layer_of : PlainSheet → Layer
+layer_of s = s.layer
+
+-- the sheet whose Layer is at an index
+pub sheet_at : (flat : List PlainSheet) (n : ℕ) (layer : Layer) → slice_get (map layer_of flat) n ≡ Some layer
+    → (s : PlainSheet) × (slice_get flat n ≡ Some s) × (s.layer ≡ layer)
+sheet_at flat n layer e =
+    let at : option_map layer_of (slice_get flat n) ≡ Some layer = sym (slice_get-map layer_of flat n) ∙ e in
+    elim (slice_get flat n)
+    as (λ o. slice_get flat n ≡ o → option_map layer_of o ≡ Some layer
+    → (s : PlainSheet) × (slice_get flat n ≡ Some s) × (s.layer ≡ layer)) [
+      | None ↦ λ p h. cc
+      | Some s ↦ λ p h. (s, p, cc)
+    ] refl at
+
+-- past the last sheet there is no Layer
+pub none_left : (flat : List PlainSheet) (n : ℕ) → slice_get (map (λ (s : PlainSheet). s.layer) flat) n ≡ None
+    → length flat ≤ n
+none_left flat n e =
+    elim (slice_get_cases (map layer_of flat) n).1 [
+      | inl (layer, within, at, same) ↦ cc
+      | inr (past, at) ↦ omega (arith, past, length-map {A = PlainSheet} {B = Layer})
+    ]
 
 -- a Layer more is digested
 pub digests_push : (ds : List Drawn) (layers : List DigestedLayer) (d : Drawn) (digest : Option LayerDigest)

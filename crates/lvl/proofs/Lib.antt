@@ -6,6 +6,5 @@ pub mod Keeping
 pub mod Lifting
 pub mod Refused
 pub mod Viewing
-pub mod ShownLayers
 pub mod Showing
 pub mod Digesting

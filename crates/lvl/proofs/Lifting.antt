@@ -14,8 +14,6 @@ use Rattle.std.proofs.lemmas.List.{length-map}
 use Rattle.std.proofs.lemmas.Option.{slice_get-get_or}
 use Rattle.lvl_cells.specs.Checks.{Settled, IsSettled}
 use Rattle.lvl_cells.specs.declared.fault.CellFault.{CellFault}
-use Rattle.lvl_flat.specs.Sheet.{PlainSheet}
-use Rattle.lvl_flat.specs.Sheets.{rings_on}
 use Rattle.lvl_flat.specs.Flattened.{IsFlatFault, IsOutOfRange}
 use Rattle.lvl_flat.specs.declared.fault.FlatFault.{FlatFault}
 use Rattle.lvl_flat.specs.declared.fault.FlatFault.TheVariants.{OutOfRange}
@@ -26,7 +24,7 @@ use Rattle.lvl.specs.Drawing.{Drawing}
 use Rattle.lvl.specs.declared.layout.Head.{Head}
 use Rattle.lvl.specs.Layouts.{File, Spells, IsLayoutOf}
 use Rattle.lvl.specs.Accepted.{IsAccepted, IsUnaccepted, Draws}
-use Rattle.lvl.specs.Kept.{Kept, IsCheckedAs, IsFlattenedAs, IsInRangeAs, IsCellFault, IsRangeFault}
+use Rattle.lvl.specs.Kept.{Kept, IsCheckedAs, IsInRangeAs, IsCellFault, IsRangeFault}
 use Rattle.lvl.specs.Answers.{kept_of}
 use Rattle.lvl.proofs.Keeping.{sound_kept, cell_covers_kept, fits_kept, cell_back, cell_kept}
 
@@ -141,29 +139,6 @@ top_lifted file cells head read s r =
           subst (λ (c : List (PlainCell Rings)). Draws others b.0 layer t ↔ CellCovers RingsCover c layer r.top t)
           (sym e) p in
           (u.1, u.0);
-    }
-
--- what was flattened is accepted, and draws what the rings cover
-pub record IsLifted (file : File) (others : List Drawing) (sheets : List PlainSheet) : Type 0 where
-  pub top : Drawing
-  pub accepted : IsAccepted file others top
-  pub draws : (layer : Layer) (s : Square) → RingsCover (rings_on layer sheets) s ↔ Draws others top layer s
-
-pub lifted : (file : File) (cells : List (PlainCell Rings)) (head : Head)
-    (read : IsLayoutOf file.ignore file.bytes cells head)
-    (sheets : List PlainSheet) → IsFlattenedAs (record { cells = cells; top = file.top }) sheets
-    → IsLifted file read.cells sheets
-lifted file cells head read sheets f =
-    let p =
-    top_lifted file cells head read f.settled
-    (record { checked = f.checked; top = f.flat.top; is_top = f.flat.is_top; in_range = f.flat.in_range }) in
-    record {
-      top = p.top;
-      accepted = p.accepted;
-      draws = λ layer t.
-          let q = f.flat.covers layer t in
-          let r = p.draws layer t in
-          (λ h. r.0 (q.0 h), λ h. q.1 (r.1 h));
     }
 
 pub range_reported : (file : File) (cells : List (PlainCell Rings)) (head : Head)

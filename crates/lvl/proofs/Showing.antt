@@ -12,7 +12,6 @@ use Rattle.lvl.specs.Drawing.{Drawing}
 use Rattle.lvl_region.specs.declared.region.Side.TheVariants.{First, Second}
 use Rattle.lvl.specs.declared.layout.Head.{Head}
 use Rattle.lvl.specs.declared.shown.Shown.{Shown}
-use Rattle.lvl.specs.declared.shown.ShownLayer.{ShownLayer}
 use Rattle.lvl.specs.declared.verdict.Refusal.{Refusal}
 use Rattle.lvl.specs.declared.verdict.Refusal.TheVariants.{File as FileRefusal, Cells as CellsRefusal}
 use Rattle.lvl.specs.declared.verdict.Refusal.TheVariants.{Flat as FlatRefusal, OutOfMemory}
@@ -23,9 +22,11 @@ use Rattle.lvl_region.specs.declared.region.Side.{Side}
 use Rattle.lvl.specs.Kept.{Kept}
 use Rattle.lvl.specs.Answers.{HasPassed, IsEarlyOf, IsRefusalOf, PassesCheck}
 use Rattle.lvl.specs.Sides.{kept_named}
-use Rattle.lvl.specs.Shown.{AreShownLayers, IsShownOf, IsShownFile, IsShownKept, IsShowRefusal}
+use Rattle.lvl_count.specs.Counted.{AreCounted}
+use Rattle.lvl_count.specs.declared.counts.LayerRings.{LayerRings}
+use Rattle.lvl.specs.Shown.{IsShownOf, IsShownFile, IsShownKept, IsShowRefusal}
 use Rattle.lvl.proofs.Keeping.{over_kept, length_kept, sound_kept, cell_kept}
-use Rattle.lvl.proofs.Lifting.{lifted, one_top, one_cell, cell_reported, cell_unaccepted, range_reported}
+use Rattle.lvl.proofs.Lifting.{top_lifted, one_top, one_cell, cell_reported, cell_unaccepted, range_reported}
 use Rattle.lvl.proofs.Lifting.{range_unaccepted}
 use Rattle.lvl.proofs.Refused.{no_memory, passes, spells}
 
@@ -53,8 +54,8 @@ placed_on_kept rings layer cells c =
     (sym (length_kept rings cells))
 
 layers_back : {F : Type 0} (rings : F → Rings) (cells : List (PlainCell F)) (top : PlainCell F)
-    (layers : List ShownLayer) → AreShownLayers each_ring (kept rings cells) (drawn rings top) layers
-    → AreShownLayers rings cells top layers
+    (layers : List LayerRings) → AreCounted each_ring (kept rings cells) (drawn rings top) layers
+    → AreCounted rings cells top layers
 layers_back rings cells top layers h = record {
   sorted = h.sorted;
   filled = h.filled;
@@ -76,16 +77,17 @@ shown_lifted : (file : File) (found : List (PlainCell Rings)) (head : Head)
 shown_lifted file found head read shown head_is k =
     let others : List Drawing = read.cells in
     let s = k.settled in
-    let e : s.cells ≡ kept figure_rings others = k.checked.cells ∙ read.kept_as in
-    let l = lifted file found head read k.sheets (record { settled = s; checked = k.checked; flat = k.flat }) in
+    let top : PlainCell Rings = k.in_range.top in
+    let e : s.cells ≡ kept figure_rings others = k.in_range.checked.cells ∙ read.kept_as in
+    let l = top_lifted file found head read s k.in_range in
     let same : l.accepted.index ≡ s.top =
     one_top (kept figure_rings others) file.top l.accepted.index s.top
     ((sound_kept figure_rings others file.top l.accepted.index).0 l.accepted.sound)
-    (subst (λ (c : List (PlainCell Rings)). IsSound c file.top s.top) e k.checked.sound.sound) in
-    let at : slice_get (kept figure_rings others) s.top ≡ Some k.flat.top =
-    subst (λ (c : List (PlainCell Rings)). slice_get c s.top ≡ Some k.flat.top) e k.flat.is_top in
-    let cell : drawn figure_rings l.top ≡ k.flat.top =
-    one_cell (kept figure_rings others) l.accepted.index s.top (drawn figure_rings l.top) k.flat.top
+    (subst (λ (c : List (PlainCell Rings)). IsSound c file.top s.top) e k.in_range.checked.sound.sound) in
+    let at : slice_get (kept figure_rings others) s.top ≡ Some top =
+    subst (λ (c : List (PlainCell Rings)). slice_get c s.top ≡ Some top) e k.in_range.is_top in
+    let cell : drawn figure_rings l.top ≡ top =
+    one_cell (kept figure_rings others) l.accepted.index s.top (drawn figure_rings l.top) top
     (cell_kept figure_rings others l.accepted.index l.top l.accepted.top_is) at same in
     let here : IsShownOf each_ring (kept figure_rings others) (drawn figure_rings l.top) shown =
     subst (λ (c : List (PlainCell Rings)). IsShownOf each_ring c (drawn figure_rings l.top) shown) e

@@ -1,5 +1,5 @@
 -- The steps after the reading, on libraries with rings alone.
-use Rattle.std.specs.Prelude.{◌≡◌, ⊤, ℕ, List, length, Option, Some, slice_get}
+use Rattle.std.specs.Prelude.{◌≡◌, ⊤, ℕ, List, Option, Some, slice_get}
 use Rattle.lvl_cells.specs.Cells.{PlainCell, Rings}
 use Rattle.lvl_grid.specs.declared.point.Square.{Square}
 use Rattle.lvl_names.specs.declared.layer.Layer.{Layer}
@@ -9,7 +9,6 @@ use Rattle.lvl_cells.specs.Checks.{Settled, IsSettled, PlacesFew}
 use Rattle.lvl_cells.specs.Faults.{IsFaultOf, IsSoundWith}
 use Rattle.lvl_cells.specs.declared.fault.CellFault.{CellFault}
 use Rattle.lvl_flat.specs.Flattened.{AllInRange, IsFlattened, IsFlatFault}
-use Rattle.lvl_flat.specs.Sheet.{PlainSheet}
 use Rattle.lvl_flat.specs.declared.fault.FlatFault.{FlatFault}
 use Rattle.lvl_region.specs.declared.region.Side.TheVariants.{First, Second}
 use Rattle.lvl_view.specs.Views.{PlainView}
@@ -34,19 +33,12 @@ pub record IsCheckedAs (k : Kept) (s : Settled) : Type 0 where
 abbrev pub Passes : Kept → Type 0
 Passes k = (s : Settled) × IsCheckedAs k s
 
--- and flattened
-pub record IsFlattenedAs (k : Kept) (sheets : List PlainSheet) : Type 0 where
-  pub settled : Settled
-  pub checked : IsCheckedAs k settled
-  pub flat : IsFlattened settled sheets
-
--- and this is the name of its top, how many cells it has, and the rings that the top places
+-- the library was checked and flattened, and this is the name of its top and the rings that it places
 pub record IsFlatLibrary (k : Kept) (found : FlatLibrary) : Type 0 where
   pub settled : Settled
   pub checked : IsCheckedAs k settled
   pub flat : IsFlattened settled found.flat
   pub top_is : found.top.items ≡ flat.top.name
-  pub cells_are : found.cells ≡ length settled.cells
 
 -- the fault is why the check refused it
 pub record IsCellFault (k : Kept) (fault : CellFault) : Type 0 where

@@ -31,7 +31,7 @@ fn digest_library(
     ensures digested { IfOk result (IsDigestedKept (kept_named library (option_copied top.entry))) }
     ensures refused { IfErr result (IsShowRefusal (kept_named library (option_copied top.entry))) }
 {
-    let FlatLibrary { top, flat, .. } = flatten_library(alloc, library, top)?;
+    let FlatLibrary { top, flat } = flatten_library(alloc, library, top)?;
     let Ok(mask) = digest_flat(alloc, &flat) else {
         return Err(Refusal::OutOfMemory);
     };

@@ -17,8 +17,6 @@ use std::alloc::Global;
 pub(crate) struct FlatLibrary {
     /// The name of the top.
     pub top: Vec<u8>,
-    /// How many cells the library has.
-    pub cells: usize,
     /// The rings that the top places on each Layer.
     pub flat: Flat,
 }
@@ -36,7 +34,6 @@ pub(crate) fn flatten_library(
     let Ok(top) = top_name(alloc, &checked) else {
         return Err(Refusal::OutOfMemory);
     };
-    let cells = checked.cells().len();
     let flat = flatten_side(alloc, Side::First, checked)?;
-    Ok(FlatLibrary { top, cells, flat })
+    Ok(FlatLibrary { top, flat })
 }

@@ -1,4 +1,4 @@
-//! One layout shown: read, checked, flattened, and what it holds.
+//! One layout shown: read, checked, and what it holds.
 ghost use Rattle.std.specs.Prelude.{◌≡◌, ◌≢◌, List, ℕ, Some, Err, IfOk, IfErr, option_copied};
 ghost use Rattle.lvl_io.specs.Bytes.{CountsFailure};
 ghost use Rattle.lvl_region.specs.declared.region.Side.TheVariants.{First};
@@ -7,12 +7,12 @@ ghost use Rattle.lvl.specs.Shown.{IsShownFile, IsShownKept, IsOfFirst, IsShowRef
 ghost use Rattle.lvl.specs.Sides.{file_named, kept_named};
 ghost use Rattle.lvl.specs.declared.verdict.Refusal.TheVariants.{OutOfMemory};
 
-use crate::flattened::{FlatLibrary, flatten_library};
 use crate::layout::Head;
-use crate::shown::{Shown, layers_of};
-use crate::side::read_side;
+use crate::shown::{Shown, top_name};
+use crate::side::{check_named, fit_side, read_side};
 use crate::verdict::Refusal;
 use lvl_cells::Library;
+use lvl_count::rings_by_layer;
 use lvl_ignore::Ignore;
 use lvl_io::Read;
 use lvl_region::Side;
@@ -29,14 +29,19 @@ fn show_library(
     ensures shown { IfOk result (IsShownKept (kept_named library (option_copied top.entry))) }
     ensures refused { IfErr result (IsShowRefusal (kept_named library (option_copied top.entry))) }
 {
-    let FlatLibrary { top, cells, flat } = flatten_library(alloc, library, top)?;
-    let Ok(layers) = layers_of(alloc, &flat) else {
+    let checked = check_named(alloc, Side::First, library, top)?;
+    let Ok(top) = top_name(alloc, &checked) else {
+        return Err(Refusal::OutOfMemory);
+    };
+    let fitted = fit_side(alloc, Side::First, checked)?;
+    let checked = fitted.checked();
+    let Ok(layers) = rings_by_layer(alloc, checked) else {
         return Err(Refusal::OutOfMemory);
     };
     Ok(Shown {
         head,
         top,
-        cells,
+        cells: checked.cells().len(),
         layers,
     })
 }

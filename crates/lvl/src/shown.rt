@@ -1,21 +1,11 @@
 //! What a layout holds.
-ghost use Rattle.std.specs.Prelude.{◌≡◌, map, slice_get, Some, IfOk, OnOk};
+ghost use Rattle.std.specs.Prelude.{◌≡◌, slice_get, Some, IfOk};
 ghost use Rattle.lvl_cells.specs.Cells.{PlainCell, Rings};
-ghost use Rattle.lvl_flat.specs.Sheets.{IsInOrder};
-ghost use Rattle.lvl.specs.Shown.{shown_layer};
 
 use crate::layout::Head;
 use lvl_cells::Checked;
-use lvl_flat::Flat;
-use lvl_names::Layer;
+use lvl_count::LayerRings;
 use std::alloc::{AllocError, Global};
-
-/// A Layer, and how many rings are placed on it.
-#[derive(Clone, Copy, Debug, PartialEq, Eq)]
-pub struct ShownLayer {
-    pub layer: Layer,
-    pub rings: usize,
-}
 
 /// What a layout holds.
 #[derive(Debug, Drop)]
@@ -27,20 +17,7 @@ pub struct Shown {
     /// How many cells it has.
     pub cells: usize,
     /// Each Layer on which the top places rings, in the order of the Layers.
-    pub layers: Vec<ShownLayer>,
-}
-
-/// The Layers of a flat layout, each with the number of its rings.
-pub(crate) fn layers_of(alloc: Global, flat: &Flat) -> Result<Vec<ShownLayer>, AllocError>
-    ensures layers { IfOk result (λ layers. layers.items ≡ map shown_layer flat.now) }
-    ensures in_order { OnOk result (IsInOrder flat.now) }
-{
-    let mut layers = Vec::new(alloc);
-    while let Some(layer) = flat.layer(layers.len()) {
-        let rings = flat.rings(layer).len();
-        layers.push(ShownLayer { layer, rings })?;
-    }
-    Ok(layers)
+    pub layers: Vec<LayerRings>,
 }
 
 /// The name of the top.

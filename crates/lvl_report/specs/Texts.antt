@@ -17,7 +17,7 @@ use Rattle.lvl.specs.declared.digested.Digested.{Digested}
 use Rattle.lvl.specs.declared.digested.DigestedLayer.{DigestedLayer}
 use Rattle.lvl.specs.declared.digested.MaskDigest.{MaskDigest}
 use Rattle.lvl.specs.declared.shown.Shown.{Shown}
-use Rattle.lvl.specs.declared.shown.ShownLayer.{ShownLayer}
+use Rattle.lvl_count.specs.declared.counts.LayerRings.{LayerRings}
 use Rattle.lvl_report.specs.Faults.{spaced, cell_fault, flat_fault}
 use Rattle.lvl_report.specs.Gds.{gds_fault, gds_head_text, hex}
 use Rattle.lvl_report.specs.Oasis.{oasis_fault, oasis_head_text}
@@ -62,7 +62,7 @@ text_of (Ok c) =
 text_of (Err refusal) = line (refusal_text refusal)
 
 -- what is printed of a Layer that is shown
-abbrev pub layer_line : ShownLayer → List ℕ
+abbrev pub layer_line : LayerRings → List ℕ
 layer_line shown =
     line (codes "layer " ++ decimal shown.layer.layer ++ codes " datatype " ++ decimal shown.layer.datatype
     ++ codes " rings " ++ decimal shown.rings)

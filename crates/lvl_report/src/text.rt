@@ -6,7 +6,8 @@ ghost use Rattle.lvl_report.specs.Texts.{front_text, shown_text, text_of, text_o
 use crate::faults::{push_cell_fault, push_flat_fault, push_name};
 use crate::gds::{push_gds_fault, push_gds_head};
 use crate::oasis::{push_oasis_fault, push_oasis_head};
-use lvl::{Comparison, FileFault, Head, Refusal, Shown, ShownLayer, Verdict};
+use lvl::{Comparison, FileFault, Head, Refusal, Shown, Verdict};
+use lvl_count::LayerRings;
 use lvl_grid::Square;
 use lvl_names::Layer;
 use lvl_region::Side;
@@ -108,7 +109,7 @@ fn push_comparison(text: &mut Vec<u8>, comparison: &Comparison) -> io::Result<()
 }
 
 /// Appends a line for each Layer.
-fn push_layers(text: &mut Vec<u8>, layers: &[ShownLayer]) -> io::Result<()>
+fn push_layers(text: &mut Vec<u8>, layers: &[LayerRings]) -> io::Result<()>
     ensures { OnOk result (text.new.items ≡ text.old.items ++ flat_map layer_line layers.now) }
 {
     for shown in layers {

@@ -2,8 +2,7 @@ use Rattle.std.proofs.Common.{◌≡◌, ◌<◌, ◌≤◌, ◌^◌, length, ma
 use Rattle.lvl_corners.specs.Masks.{Drawn}
 use Rattle.lvl_flat.specs.Sheet.{PlainSheet}
 use Rattle.lvl_names.specs.declared.layer.Layer.{Layer}
-use Rattle.lvl.proofs.Digesting.{AddsLayer, all_digested, one_digested}
-use Rattle.lvl.proofs.ShownLayers.{none_left}
+use Rattle.lvl.proofs.Digesting.{AddsLayer, all_digested, none_left, one_digested}
 use Rattle.lvl.proofs.digested.digest_flat.Goals.{in-Some+in_ok-push_layer, in_default}
 use Rattle.lvl.proofs.digested.digest_flat.Goals as goal
 
