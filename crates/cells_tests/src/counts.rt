@@ -64,11 +64,7 @@ fn library(alloc: Global, text: &str) -> Result<Checked, Fail> {
     for words in text.split(';') {
         cells.push(cell_of(alloc, words)?)?;
     }
-    Ok(
-        check(alloc, Library { cells }, Some(b"T"))
-            .ok()
-            .ok_or("a sound library")?,
-    )
+    Ok(check(alloc, Library { cells }, Some(b"T"))?)
 }
 
 /// Each Layer and the number of its rings, as `1/0=6`.
