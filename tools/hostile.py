@@ -2,8 +2,9 @@
 """Measures what the worst files of each kind cost, and prints a table of it.
 
 Each case makes its files and runs `lvl compare` on two of them or `lvl show` on one. Its row has the size of
-the files in bytes, the placed rings, seconds of processor time, peak memory in MB, bytes of memory for each
-byte of the files, and the last line of the answer (`shown` for a file that was shown).
+the files in bytes, the placed rings, seconds of processor time, peak memory in MB, that peak in percent of the
+bound that it should keep, and the last line of the answer (`shown` for a file that was shown). The bound is
+64 MB and 12 bytes for each byte of the files.
 """
 import os
 import random
@@ -456,7 +457,8 @@ def measure(program, each, folder, most):
     done = crafted.run(program, ["show" if len(names) == 1 else "compare", *names, *each.words], most)
     what = re.sub(r"\d{4,}", lambda digits: f"{int(digits[0]):,}", each.what)
     cells = [what, f"{size:,}", f"{each.rings:,}", f"{done.seconds:.1f}", f"{done.megabytes:,.0f}"]
-    print("| %s |" % " | ".join([*cells, f"{done.megabytes * 2**20 / size:,.1f}", answer_of(done)]), flush=True)
+    share = done.megabytes / (64 + 12 * size / 2**20)
+    print("| %s |" % " | ".join([*cells, f"{100 * share:,.0f} %", answer_of(done)]), flush=True)
 
 
 def main():
@@ -465,7 +467,7 @@ def main():
     parser.add_argument("--most", metavar="SECONDS", type=float, default=120,
                         help="the elapsed seconds after which a run is stopped (default: 120)")
     asked = options.parsed(parser)
-    print("| What | Bytes | Placed rings | Seconds | Peak MB | Memory per byte | Answer |")
+    print("| What | Bytes | Placed rings | Seconds | Peak MB | Of the bound | Answer |")
     print("|---|---|---|---|---|---|---|")
     with tempfile.TemporaryDirectory(prefix="lvl-hostile-") as folder:
         for group in GROUPS:
