@@ -1,7 +1,8 @@
 //! What the documentation of the crates shows, line by line.
 
 use gds_records::fake::{SQUARE, Stream};
-use lvl::{Tops, Verdict, compare_layouts};
+use lvl::{Tops, Verdict, compare_layouts, digest_file, read_layout, show_file};
+use lvl_ignore::Ignore;
 use lvl_io::fake::{Pieces, Sink};
 use lvl_report::{Status, run_show};
 use std::alloc::{AllocError, Global};
@@ -28,6 +29,36 @@ fn verdicts(rt: HostRuntime) -> Result<(), Fail> {
     let mut second = Pieces::new(&other, usize::MAX);
     let verdict = compare_layouts(alloc, &mut first, &mut second, &tops)?;
     assert_eq!(rt; verdict, Verdict::Same);
+    Ok(())
+}
+
+#[test]
+fn layouts(rt: HostRuntime) -> Result<(), Fail> {
+    let alloc = rt.alloc();
+    let bytes = square(alloc, b"TOP\0")?;
+    let layout = read_layout(alloc, &mut Pieces::new(&bytes, usize::MAX))?;
+    let (library, _) = layout.into_parts();
+    assert_eq!(rt; library.cells.len(), 1);
+    Ok(())
+}
+
+#[test]
+fn shown(rt: HostRuntime) -> Result<(), Fail> {
+    let alloc = rt.alloc();
+    let bytes = square(alloc, b"TOP\0")?;
+    let mut reader = Pieces::new(&bytes, usize::MAX);
+    let shown = show_file(alloc, &mut reader, None, Ignore::NOTHING)?;
+    assert_eq!(rt; shown.layers.first().map(|layer| layer.rings), Some(1));
+    Ok(())
+}
+
+#[test]
+fn digested(rt: HostRuntime) -> Result<(), Fail> {
+    let alloc = rt.alloc();
+    let bytes = square(alloc, b"TOP\0")?;
+    let mut reader = Pieces::new(&bytes, usize::MAX);
+    let digested = digest_file(alloc, &mut reader, None, Ignore::NOTHING)?;
+    assert_eq!(rt; digested.mask.layers.len(), 1);
     Ok(())
 }
 
