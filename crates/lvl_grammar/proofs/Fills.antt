@@ -88,7 +88,8 @@ first_once e (i ∷ x) [] y y' p q h = absurd (p.0 (let g : i ≡ e = cc in g))
 first_once e (i ∷ x) (j ∷ x') y y' p q h =
     (let g : x ++ (e ∷ y) ≡ x' ++ (e ∷ y') = cc in first_once e x x' y y' p.1 q.1 g)
 
--- an f that comes after the e leaves the list before it in parts
+-- if an f comes after w in a list with one e, that e is in w, and what follows it in w is part of what follows it in
+-- all
 later : (e f : ℕ) (w more u v : List ℕ) → f ≢ e → Lacks f u → w ++ (f ∷ more) ≡ u ++ (e ∷ v)
     → (z : List ℕ) × (w ≡ u ++ (e ∷ z)) × (v ≡ z ++ (f ∷ more))
 later e f [] more [] v n p h = absurd (n (let g : f ≡ e = cc in g))
