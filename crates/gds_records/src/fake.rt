@@ -9,7 +9,7 @@ pub const ONE: [u8; 8] = [0x41, 0x10, 0, 0, 0, 0, 0, 0];
 /// The corners of 0..10 by 0..10, the first again at the end.
 pub const SQUARE: [(i32, i32); 5] = [(0, 0), (10, 0), (10, 10), (0, 10), (0, 0)];
 
-/// A stream to which records are appended. Whether they are in order is the caller's matter.
+/// A stream to which records are appended, in any order.
 #[derive(Drop)]
 pub struct Stream {
     alloc: Global,
