@@ -76,7 +76,7 @@ impl Stream {
         self.end_element()
     }
 
-    /// A boundary on 1/0 along these corners, with the first again at its end.
+    /// A boundary on 1/0 along these corners, with the first repeated at the end.
     pub fn ring(&mut self, corners: &[(i32, i32)]) -> Result<(), AllocError> {
         let mut points = Vec::from_slice(self.alloc, corners)?;
         points.extend_from_slice(corners.get(..1).unwrap_or(&[]))?;
