@@ -31,6 +31,6 @@ abbrev pub IsWordOfOne : List Order → List ℕ → Type 0
 IsWordOfOne [] w = ⊥
 IsWordOfOne (r ∷ rs) w = IsWord r w ⊎ IsWordOfOne rs w
 
--- what completes the types to a word of the order is a word of what is left
+-- after the types w, the words of `left` are exactly what completes them to a word of `whole`
 abbrev pub LeadsTo : Order → List ℕ → Order → Type 0
 LeadsTo whole w left = (v : List ℕ) → IsWord whole (w ++ v) ↔ IsWord left v
