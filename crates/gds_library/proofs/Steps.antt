@@ -193,7 +193,7 @@ takes_refused rs r x (Ok v) e h b = absurd h.1
 takes_refused rs r x (Err f) e h b =
     subst (λ (i : Cause GdsKind). Says i (λ k. Breaches rs r k × BreachesOnly rs r k)) (sym h.1) b
 
--- UNITS comes before a place if it comes before the place before, or is the record between them
+-- if UNITS comes before the place after another record, it comes before that record
 units_before : (p q : Place) (k : ℕ) → after p k ≡ Some q → k == units ≡ false → has_units q ≡ true → has_units p ≡ true
 units_before Header q k e n h =
     (let z : has_units BgnLib ≡ true = subst (λ i. has_units i ≡ true) (same_place (k == header) BgnLib q e) h in cc)
