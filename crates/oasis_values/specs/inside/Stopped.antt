@@ -1,4 +1,4 @@
--- An input in which an allocation failed: nothing else changed.
+-- An input after a failed allocation: later calls fail, and nothing else has changed.
 use Rattle.std.specs.Prelude.{◌≡◌, true}
 use Rattle.oasis_values.specs.declared.input.Input.{Input}
 
