@@ -17,8 +17,8 @@ abbrev pub later : {B E : Type 0} → List B → Result (List B) E → Result (L
 later said (Ok ys) = Ok (said ++ ys)
 later said (Err e) = Err e
 
--- n were wanted, the first as a says. The input was `first` then and is `now`; left are still to come, the next of them
--- as b says, and said was said: whatever reads the rest reads the whole
+-- n values are to be read, the first by S for a. The state of the input was `first` and is `now`; `left` values are
+-- still to be read, the next by S for b, and `said` was said so far: whatever reads the rest reads the whole
 pub record Going {R A B : Type 0} (remaining : R → Option (List ℕ)) (errors : R → ℕ) (lent : R → List GName)
     (S : A → Spelling A) (show : A → B) (n : ℕ) (a : A) (first now : Input R) (left : ℕ)
     (b : A) (said : List B) : Type 0 where

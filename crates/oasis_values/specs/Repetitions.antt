@@ -86,7 +86,7 @@ IsSpace AlongX = IsSpaceAlong true
 IsSpace AlongY = IsSpaceAlong false
 IsSpace Free = IsSpaceFree
 
--- a shift is the one before it, moved by a space as many times as the grid says
+-- the next shift: the one before it, moved by a space times the grid
 abbrev pub IsShift : Spacing → ℕ → Point → Spelling Point
 IsShift spacing grid before = Then (IsSpace spacing) (λ by. Known (moved before by grid) OutOfRange)
 
