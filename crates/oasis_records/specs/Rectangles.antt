@@ -13,7 +13,7 @@ use Rattle.oasis_records.specs.declared.figure.Position.{Position}
 use Rattle.oasis_records.specs.declared.record.Record.{Record}
 use Rattle.oasis_records.specs.declared.record.Record.TheVariants.{Rectangle}
 
--- a square has no height
+-- a square (S) has no height (H)
 abbrev pub is_rectangle_info : ℕ → Bool
 is_rectangle_info i = not (has i 0x80 && has i 0x20)
 
