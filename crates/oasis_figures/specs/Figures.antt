@@ -27,7 +27,7 @@ use Rattle.oasis_figures.specs.Modal.{cell_set, polygon_set, half_width_set, pat
 use Rattle.oasis_figures.specs.declared.drawn.Drawn.{Drawn}
 use Rattle.oasis_figures.specs.declared.drawn.Drawn.TheVariants.{Ring, Rings, Placement as Placing}
 
--- a number that a variable has
+-- the value of a variable; 0 if it is undefined
 abbrev pub number : Option ℕ → ℕ
 number n = value_or n 0
 
@@ -105,7 +105,7 @@ turn_by a =
     else (if is_number 180 a then Some R180
     else (if is_number 270 a then Some R270 else None)))
 
--- without an angle the turn is none, and without a magnification there is none
+-- without an angle there is no turn, and without a magnification it is 1
 
 abbrev pub turn_of : Transform → Option Turn
 turn_of (Turned t) = Some t
