@@ -6,8 +6,9 @@ use thiserror::Error;
 /// Why no library was read.
 #[derive(Clone, Copy, Debug, PartialEq, Eq, Error)]
 pub enum OasisFault {
-    /// A record is missing, malformed, or breaches a rule. The offset, in bytes, is that of the record, or
-    /// of the byte after END; 0 in the magic string, and the length of the input if a record is missing.
+    /// A record is missing, malformed, or breaches a rule. The offset, in bytes, is that of the
+    /// record, or of the byte after END; 0 in the magic string, and the length of the input if a
+    /// record is missing.
     #[error("the file is refused")]
     At {
         offset: u64,
