@@ -88,11 +88,13 @@ abbrev pub shifts_of : List Rec → List Point
 shifts_of piece =
     array_shifts (points (field xy piece)) (columns_in (last_of colrow piece)) (rows_in (last_of colrow piece))
 
+-- the shapes of an element that opens with this type
 abbrev pub shapes_by : Option ℕ → List Rec → List (PlainShape Figure)
 shapes_by None piece = []
 shapes_by (Some k) piece =
     if k == boundary then boundary_shape piece ∷ [] else (if k == path then path_shape piece ∷ [] else [])
 
+-- the references of an element that opens with this type
 abbrev pub references_by : Option ℕ → List Rec → List PlainReference
 references_by None piece = []
 references_by (Some k) piece =

@@ -3,6 +3,7 @@ use Rattle.std.specs.Prelude.{ℕ, ◌==◌, Bool, List, [], ◌∷◌, map, rev
 use Rattle.gds_elements.specs.Order.{opens}
 use Rattle.gds_elements.specs.Types.{endel}
 
+-- a record: its type, its data type and its payload
 pub record Rec : Type 0 where
   pub kind : ℕ
   pub data_type : ℕ

@@ -19,6 +19,7 @@ long p = cast_signed w32 (from_be_bytes w32 p)
 abbrev pub bits : List ℕ → ℕ
 bits p = from_be_bytes w16 p
 
+-- a point: x and y, of four bytes each
 abbrev pub point : List ℕ → Point
 point p = record { x = long (take 4 p); y = long (take 4 (drop 4 p)) }
 
@@ -27,6 +28,7 @@ abbrev pub points_of : ℕ → List ℕ → List Point
 points_of zero p = []
 points_of (suc n) p = point (take 8 p) ∷ points_of n (drop 8 p)
 
+-- all points of a payload
 abbrev pub points : List ℕ → List Point
 points p = points_of (length p / 8) p
 

@@ -51,6 +51,7 @@ pub record IsAtEnd (d : Drawn) (piece : List Rec) : Type 0 where
   pub leads : LeadsTo an_element (kinds piece) (one endel)
   pub drawn : IsDrawn d piece
 
+-- the state is that after the records `piece`
 abbrev pub HasRead : State → List Rec → Type 0
 HasRead (Boundary b) piece = IsBoundary b piece
 HasRead (Path p) piece = IsPathRead p piece
