@@ -53,5 +53,6 @@ abbrev pub IsRestOfGDelta : Bool → ℕ → Spelling Point
 IsRestOfGDelta true n = Gives (Ok (toward (direction_of (n / 2 % 8)) (n / 16)))
 IsRestOfGDelta false n = Seen (free (n / 2)) IsUnsigned
 
+-- a g-delta, of one or two integers
 abbrev pub IsGDelta : Spelling Point
 IsGDelta = Then IsUnsigned (λ n. IsRestOfGDelta (n % 2 == 0) n)

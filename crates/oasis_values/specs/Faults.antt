@@ -20,6 +20,7 @@ is_rule Read = false
 is_rule Failed = false
 is_rule f = true
 
+-- whether the fault is that the reader failed
 abbrev pub is_read_fault : ValueFault → Bool
 is_read_fault Read = true
 is_read_fault f = false

@@ -10,6 +10,7 @@ abbrev pub IsOneByte : List ℕ → Result ℕ ValueFault → Type 0
 IsOneByte b (Ok x) = b ≡ x ∷ []
 IsOneByte b (Err f) = ⊥
 
+-- a byte, which breaches no rule
 abbrev pub IsByte : Ignore → List ℕ → Result ℕ ValueFault → Type 0
 IsByte ignore = IsOneByte
 
@@ -49,6 +50,7 @@ pub record IsTooLarge (ignore : Ignore) (b : List ℕ) : Type 0 where
   pub fits : groups front < 2 ^ 64
   pub decided : (2 ^ 64 ≤ groups b) ⊎ ((128 ≤ last) × (length b ≡ most_bytes ignore))
 
+-- an unsigned integer; the only rule that it can breach is IntegerTooLarge
 abbrev pub IsUnsigned : Ignore → List ℕ → Result ℕ ValueFault → Type 0
 IsUnsigned ignore b (Ok n) = IsInteger ignore b n
 IsUnsigned ignore b (Err f) = (f ≡ IntegerTooLarge) × IsTooLarge ignore b

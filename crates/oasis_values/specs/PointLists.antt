@@ -93,8 +93,8 @@ walked w by = option_map (λ p. record { at = p; by = by; along_x = not w.along_
 abbrev pub IsNext : ListType → Walk → Spelling Walk
 IsNext kind w = Then (IsStep kind w) (λ by. Known (walked w by) OutOfRange)
 
--- the implied vertex: from the last vertex the outline goes along the other axis than the last delta, until it is level
--- with the origin, where the list starts
+-- the implied vertex: from the last vertex the outline goes along the other axis than the last delta, up to the
+-- coordinate of the origin, where the list starts
 abbrev pub implied : Use → ListType → Point → Option Point
 implied Polygon HorizontalFirst last = Some (to (pos 0) last.y)
 implied Polygon VerticalFirst last = Some (to last.x (pos 0))
@@ -104,6 +104,7 @@ implied Polygon AllAngle last = None
 implied Polygon DoubleDelta last = None
 implied Path kind last = None
 
+-- the last point of a list; d if the list is empty
 abbrev pub last_of : Point → List Point → Point
 last_of d [] = d
 last_of d (p ∷ ps) = last_of p ps

@@ -3,6 +3,7 @@ use Rattle.std.specs.Prelude.{◌&&◌, ◌^◌, nat_lt, Bool, if◌then◌else�
 use Rattle.lvl_grid.specs.declared.point.Point.{Point}
 use Rattle.oasis_values.specs.Deltas.{to}
 
+-- whether the coordinate fits in 64 signed bits
 abbrev pub is_in_range : ℤ → Bool
 is_in_range (pos n) = nat_lt n (2 ^ 63)
 is_in_range (negsuc n) = nat_lt n (2 ^ 63)

@@ -20,6 +20,7 @@ use Rattle.oasis_values.specs.declared.number.RealType.TheVariants.{Eight as OfE
 abbrev pub with_sign : ℕ → ℤ
 with_sign n = if n % 2 == 0 then pos (n / 2) else neg_ℤ (pos (n / 2))
 
+-- a signed integer
 abbrev pub IsSigned : Spelling ℤ
 IsSigned = Seen with_sign IsUnsigned
 

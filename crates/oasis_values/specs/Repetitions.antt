@@ -41,11 +41,11 @@ kinds =
     ∷ Listed Free true
     ∷ []
 
--- the number of places along a step, which is the dimension n and two; None if there are too many
+-- n + 2 places along a step, for the dimension n; None if there are too many
 abbrev pub line_size : ℕ → Option ℕ
 line_size n = if nat_le (n + 2) most_places then Some (n + 2) else None
 
--- the same along two steps
+-- n + 2 by m + 2 places along two steps; None if there are too many
 abbrev pub matrix_size : ℕ → ℕ → Option Size
 matrix_size n m =
     if nat_le ((n + 2) * (m + 2)) most_places then Some (record { columns = n + 2; rows = m + 2 }) else None
@@ -54,7 +54,7 @@ matrix_size n m =
 abbrev pub most_listed : ℕ
 most_listed = 1048576
 
--- the number of spaces in a list, one less than its places; None if there are too many
+-- n + 1 spaces between n + 2 places, for the dimension n; None if there are too many
 abbrev pub list_size : ℕ → Option ℕ
 list_size n = if nat_le (n + 2) most_listed then Some (n + 1) else None
 
@@ -81,6 +81,7 @@ IsSpaceAlong along_x = Seen (space along_x) IsUnsigned
 abbrev pub IsSpaceFree : Spelling Far
 IsSpaceFree = Seen widened IsGDelta
 
+-- a space: an unsigned integer along an axis, or a g-delta
 abbrev pub IsSpace : Spacing → Spelling Far
 IsSpace AlongX = IsSpaceAlong true
 IsSpace AlongY = IsSpaceAlong false
@@ -106,6 +107,7 @@ IsModal has_modal = Known (modal has_modal) NoModal
 abbrev pub IsLineOf : Spacing → ℕ → Spelling Repetition
 IsLineOf spacing n = Then (IsShift spacing 1 origin) (λ a. Seen New (Known (lattice_in_range a n origin 1) OutOfRange))
 
+-- a dimension, and places along one step
 abbrev pub IsLine : Spacing → Spelling Repetition
 IsLine spacing = Then IsUnsigned (λ d. Then (Known (line_size d) RepetitionSize) (IsLineOf spacing))
 
@@ -120,6 +122,7 @@ IsMatrixOf first second s =
     Then (IsColumns first s.columns)
     (λ a. Then (IsShift second 1 origin) (λ b. Seen New (Known (lattice_in_range a s.columns b s.rows) OutOfRange)))
 
+-- two dimensions, which are read before they are tested, and places along two steps
 abbrev pub IsMatrix : Spacing → Spacing → Spelling Repetition
 IsMatrix first second =
     Then IsUnsigned
@@ -134,9 +137,11 @@ IsGrid false = Gives (Ok 1)
 abbrev pub AreShifts : Spacing → ℕ → ℕ → Spelling Repetition
 AreShifts spacing n grid = Seen (λ ps. New (origin ∷ ps)) (Chain (IsShift spacing grid) (λ p. p) n origin)
 
+-- a grid if there is one, and n spaces
 abbrev pub IsSpreadOf : Spacing → Bool → ℕ → Spelling Repetition
 IsSpreadOf spacing gridded n = Then (IsGrid gridded) (AreShifts spacing n)
 
+-- a dimension, and places at successive spaces
 abbrev pub IsSpread : Spacing → Bool → Spelling Repetition
 IsSpread spacing gridded = Then IsUnsigned (λ d. Then (Known (list_size d) RepetitionSize) (IsSpreadOf spacing gridded))
 

@@ -5,6 +5,7 @@ use Rattle.lvl_io.specs.Spelling.{Gives as GivesAlways, Then as ThenAlways}
 use Rattle.lvl_ignore.specs.declared.ignore.Ignore.{Ignore}
 use Rattle.oasis_values.specs.declared.fault.ValueFault.{ValueFault}
 
+-- what bytes say, by what is ignored
 abbrev pub Spelling : Type 0 → Type 1
 Spelling A = Ignore → List ℕ → Result A ValueFault → Type 0
 

@@ -15,6 +15,7 @@ least_length A = 0
 least_length B = 0
 least_length N = 1
 
+-- the length n, if a string of that kind may have it and it is at most `most`
 abbrev pub text_length : Text → ℕ → ℕ → Option ℕ
 text_length kind most n = if nat_le (least_length kind) n && nat_le n most then Some n else None
 
@@ -33,6 +34,7 @@ IsCharacter kind = Then IsByte (λ c. Known (character kind c) StringByte)
 abbrev pub AreCharacters : Text → ℕ → Spelling (List ℕ)
 AreCharacters kind n = Chain (λ _. IsCharacter kind) (λ c. c) n 0
 
+-- a string of at most `most` bytes, which are kept
 abbrev pub IsString : Text → ℕ → Spelling (List ℕ)
 IsString kind most = Then IsUnsigned (λ n. Then (Known (text_length kind most n) StringByte) (AreCharacters kind))
 

@@ -73,7 +73,7 @@ fn kind_of(number: u64) -> Option<Kind>
     }
 }
 
-// The number of places along a step, which is the dimension and two; `None` if there are too many.
+// The dimension and two, as the number of places along a step; `None` if there are too many.
 fn line_size(dimension: u64) -> Option<u64>
     ensures { result ≡ line_size dimension }
 {
