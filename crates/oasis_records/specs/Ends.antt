@@ -60,6 +60,7 @@ fits id_len p = nat_le (id_len + p.len + p.value + 1) 256
 abbrev pub is_whole : ℕ → Measured → Validation → Bool
 is_whole id_len p v = id_len + p.len + p.value + 1 + validation_len v == 256
 
+-- the fields after the length of the padding, and the test that the record has 256 bytes
 abbrev pub IsEndOf : ℕ → Measured → Spelling (Result Record RecordRule)
 IsEndOf id_len p = AndThen (IsEnding p.value) (λ v. Must (is_whole id_len p v) (End v) EndLength)
 

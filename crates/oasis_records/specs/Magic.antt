@@ -19,5 +19,6 @@ abbrev pub AreMagicBytes : List ℕ → Spelling (Result (Unit {0}) RecordRule)
 AreMagicBytes [] = Gives (Ok (Ok tt))
 AreMagicBytes (m ∷ ms) = AndThen (IsMagicByte m) (λ _. AreMagicBytes ms)
 
+-- the magic string
 abbrev pub IsMagic : Spelling (Result (Unit {0}) RecordRule)
 IsMagic = AreMagicBytes magic

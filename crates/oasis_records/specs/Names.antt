@@ -34,6 +34,7 @@ IsIntervalType = Then IsUnsigned (λ t. Must (nat_lt t 5) t Info)
 abbrev pub IsIntervalOf : ℕ → Spelling (Result (Unit {0}) RecordRule)
 IsIntervalOf t = Seen Ok (AreBounds (bounds t))
 
+-- an interval: its type, and its bounds
 abbrev pub IsInterval : Spelling (Result (Unit {0}) RecordRule)
 IsInterval = AndThen IsIntervalType IsIntervalOf
 
@@ -55,6 +56,7 @@ IsEntryOf LayerName = IsLayerName
 IsEntryOf XName = Seen Ok IsXName
 IsEntryOf NumberedXName = Seen Ok IsNumberedXName
 
+-- the fields of a record of that type
 abbrev pub IsEntry : EntryType → Spelling (Result Record RecordRule)
 IsEntry kind = AndThen (IsEntryOf kind) (λ _. Gives (Ok (Ok Entry)))
 

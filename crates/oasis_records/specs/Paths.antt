@@ -61,6 +61,7 @@ IsStrokeOf i =
     Then (If (has i 0x40) IsUnsigned) (λ w.
     AndThen (AreEndsIf (has i 0x80)) (λ e. Gives (Ok (stroke i on w e)))))
 
+-- the info byte, and the fields before the point list
 abbrev pub IsStroke : Spelling (Result Stroke RecordRule)
 IsStroke = Then IsByte IsStrokeOf
 
@@ -71,5 +72,6 @@ path s ps p = Path (record { on = s.on; half_width = s.half_width; ends = s.ends
 abbrev pub IsPathOf : Stroke → Spelling Record
 IsPathOf s = Then (If (has s.info 0x20) (IsPointList ForPath)) (λ ps. Seen (path s ps) (IsPosition s.info))
 
+-- the fields of a PATH
 abbrev pub IsPath : Spelling (Result Record RecordRule)
 IsPath = AndThen IsStroke (λ s. Seen Ok (IsPathOf s))

@@ -39,8 +39,10 @@ IsScaledOf i =
     Then (If (has i 0x02) IsReal) (λ a.
     Seen (placement i cell (Scaled m a)) (IsPosition (i / 2)))))
 
+-- the fields of a PLACEMENT with a turn
 abbrev pub IsTurned : Spelling Record
 IsTurned = Then IsByte IsTurnedOf
 
+-- the fields of a PLACEMENT with a magnification and an angle
 abbrev pub IsScaled : Spelling Record
 IsScaled = Then IsByte IsScaledOf

@@ -38,5 +38,6 @@ IsPropertyOf i =
     Then (IsCount i) (λ n.
     Seen (λ _. Property) (AreValues n)))
 
+-- the fields of a PROPERTY
 abbrev pub IsProperty : Spelling (Result Record RecordRule)
 IsProperty = AndThen IsPropertyInfo (λ i. Seen Ok (IsPropertyOf i))

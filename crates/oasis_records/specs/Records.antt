@@ -49,6 +49,7 @@ pub record Row : Type 0 where
 abbrev pub row : ℕ → (Ignore → Bool) → RecordType → Row
 row id is_read kind = record { id = id; is_read = is_read; kind = kind }
 
+-- when a type is read: always, or if names, texts or properties are ignored
 abbrev pub always : Ignore → Bool
 always ignore = true
 

@@ -31,5 +31,6 @@ IsRectangleOf i =
     Then (If (has i 0x20) IsUnsigned) (λ h.
     Seen (rectangle (has i 0x80) on w h) (IsPosition i))))
 
+-- the fields of a RECTANGLE
 abbrev pub IsRectangle : Spelling (Result Record RecordRule)
 IsRectangle = AndThen IsRectangleInfo (λ i. Seen Ok (IsRectangleOf i))

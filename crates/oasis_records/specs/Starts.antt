@@ -23,6 +23,7 @@ is_version text = bytes_eq text (0x31 ∷ 0x2E ∷ 0x30 ∷ [])
 abbrev pub IsVersionText : Spelling (Result (List ℕ) RecordRule)
 IsVersionText = Seen Ok (IsString A 255)
 
+-- the version, which must be "1.0"
 abbrev pub IsVersion : Spelling (Result (List ℕ) RecordRule)
 IsVersion = AndThen IsVersionText (λ text. Must (is_version text) text Version)
 
@@ -60,5 +61,6 @@ start unit here = Ok (Start (record { unit = unit; has_offsets_at_end = not here
 abbrev pub IsStartOf : Spelling (Result Record RecordRule)
 IsStartOf = AndThen IsUnit (λ u. AndThen IsFlag (λ f. Seen (start u) (AreTables (is_here f))))
 
+-- the fields of a START
 abbrev pub IsStart : Spelling (Result Record RecordRule)
 IsStart = AndThen IsVersion (λ _. IsStartOf)
