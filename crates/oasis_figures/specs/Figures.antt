@@ -34,6 +34,7 @@ number n = value_or n 0
 abbrev pub layer_by : ℕ → ℕ → Layer
 layer_by layer datatype = record { layer = layer; datatype = datatype }
 
+-- the Layer of the latest figure
 abbrev pub layer_of : List Record → Layer
 layer_of records = layer_by (number (modal layer_set records)) (number (modal datatype_set records))
 
@@ -47,9 +48,11 @@ rectangle_ring records =
 abbrev pub vertices : List Record → Option (List Point) → List Point
 vertices records points = map (shifted (geometry records)) (value_or points [])
 
+-- the ring of the latest polygon
 abbrev pub polygon_ring : List Record → List Point
 polygon_ring records = vertices records (modal polygon_set records)
 
+-- the points of the latest path
 abbrev pub path_points : List Record → List Point
 path_points records = vertices records (modal path_set records)
 
@@ -58,6 +61,7 @@ abbrev pub reach : Option ℤ → ℕ
 reach (Some (pos n)) = n
 reach z = 0
 
+-- half the width of the latest path, and how far it reaches beyond its ends
 abbrev pub half_of : List Record → ℕ
 half_of records = number (modal half_width_set records)
 
@@ -67,6 +71,7 @@ start_of records = reach (modal start_set records)
 abbrev pub end_of : List Record → ℕ
 end_of records = reach (modal end_set records)
 
+-- the latest path
 abbrev pub path_figure : List Record → Figure
 path_figure records =
     path (path_points records) (record { half = half_of records; start = start_of records; end = end_of records })
@@ -76,9 +81,11 @@ abbrev pub shifts_by : Option Repetition → Option (List Point) → List Point
 shifts_by None shifts = one_place
 shifts_by (Some r) shifts = value_or shifts one_place
 
+-- the shifts of the record r
 abbrev pub shifts_of : List Record → Record → List Point
 shifts_of earlier r = shifts_by (repetition_of r) (modal repetition_set (r ∷ earlier))
 
+-- the shape of the record r with this figure
 abbrev pub shape : List Record → Record → Figure → PlainShape Figure
 shape earlier r figure = record { layer = layer_of (r ∷ earlier); figure = figure; shifts = shifts_of earlier r }
 

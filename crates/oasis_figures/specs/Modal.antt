@@ -103,6 +103,7 @@ mode_set earlier XyAbsolute = Some false
 mode_set earlier XyRelative = Some true
 mode_set earlier r = None
 
+-- whether the mode is relative
 abbrev pub is_relative : List Record → Bool
 is_relative records = value_or (modal mode_set records) false
 
@@ -118,6 +119,7 @@ abbrev pub coordinate : (Record → Option ℤ) → List Record → ℤ
 coordinate given [] = pos 0
 coordinate given (r ∷ earlier) = stepped (given r) (is_relative earlier) (coordinate given earlier)
 
+-- the x and the y in the record of a figure
 abbrev pub geometry_x : Record → Option ℤ
 geometry_x (Rectangle r) = r.position.x
 geometry_x (Polygon p) = p.position.x
@@ -130,6 +132,7 @@ geometry_y (Polygon p) = p.position.y
 geometry_y (Path p) = p.position.y
 geometry_y r = None
 
+-- the x and the y in the record of a placement
 abbrev pub placement_x : Record → Option ℤ
 placement_x (Placement p) = p.position.x
 placement_x r = None

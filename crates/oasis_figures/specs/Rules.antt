@@ -54,6 +54,7 @@ taken (Path p) =
 taken (Text r) = of_repetition r
 taken r = []
 
+-- the first of the variables that has no value
 abbrev pub first_undefined : (Variable → Bool) → List Variable → Option Variable
 first_undefined defined [] = None
 first_undefined defined (v ∷ vs) = if defined v then first_undefined defined vs else Some v
@@ -65,6 +66,7 @@ AreNarrow layer datatype = (layer < 2 ^ 32) × (datatype < 2 ^ 32)
 abbrev pub IsWide : List Record → Type 0
 IsWide records = ¬ AreNarrow (number (modal layer_set records)) (number (modal datatype_set records))
 
+-- a figure has a layer or a datatype of 2^32 or more
 abbrev pub HasWideLayer : List Record → Record → Type 0
 HasWideLayer earlier (Rectangle r) = IsWide (Rectangle r ∷ earlier)
 HasWideLayer earlier (Polygon p) = IsWide (Polygon p ∷ earlier)
@@ -83,10 +85,12 @@ LeavesRange earlier (Placement p) =
     × All (λ e. FitsPoint (shifted (placement (Placement p ∷ earlier)) e)) (shifts_of earlier (Placement p)))
 LeavesRange earlier r = ⊥
 
+-- a placement has a magnification other than 1 (own rule)
 abbrev pub IsMagnified : Record → Type 0
 IsMagnified (Placement p) = is_magnified p.transform ≡ true
 IsMagnified r = ⊥
 
+-- a placement has an angle other than 0, 90, 180 and 270 (own rule)
 abbrev pub IsTurnedOtherwise : Record → Type 0
 IsTurnedOtherwise (Placement p) = turn_of p.transform ≡ None
 IsTurnedOtherwise r = ⊥
@@ -95,6 +99,7 @@ abbrev pub is_negative : Option ℤ → Bool
 is_negative (Some (negsuc n)) = true
 is_negative z = false
 
+-- a path has a negative extension (own rule)
 abbrev pub HasNegativeEnd : List Record → Record → Type 0
 HasNegativeEnd earlier (Path p) =
     is_negative (modal start_set (Path p ∷ earlier)) || is_negative (modal end_set (Path p ∷ earlier)) ≡ true
@@ -106,6 +111,7 @@ abbrev pub HasObliqueEdge : List Record → Record → Type 0
 HasObliqueEdge earlier (Polygon p) = ¬ IsRing (polygon_ring (Polygon p ∷ earlier))
 HasObliqueEdge earlier r = ⊥
 
+-- the latest path breaches this rule of paths, and none with a lower number (own rule)
 abbrev pub IsPathFault : List Record → PathFault → Type 0
 IsPathFault records f =
     IsLowestFault (path_points records)
