@@ -4,6 +4,7 @@ use Rattle.oasis_records.specs.declared.end.Validation.{Validation}
 use Rattle.oasis_records.specs.declared.record.Record.{Record}
 use Rattle.oasis_records.specs.declared.record.Record.TheVariants.{End}
 
+-- the magic string, or a record
 pub data Item : Type 0 where
   magic : Item
   item : Record → Item

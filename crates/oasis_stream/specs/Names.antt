@@ -18,6 +18,7 @@ abbrev pub name_from : ℕ → List CellName → ℕ → Option (List ℕ)
 name_from i [] n = None
 name_from i (c ∷ cs) n = if number_after i c == n then Some c.name else name_from (i + 1) cs n
 
+-- the name that the number n stands for
 abbrev pub name_of : List CellName → ℕ → Option (List ℕ)
 name_of names n = name_from 0 names n
 

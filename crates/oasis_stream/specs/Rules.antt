@@ -16,11 +16,12 @@ abbrev pub is_cell : Record → Bool
 is_cell (OfCell c) = true
 is_cell r = false
 
--- the records since the last CELL, the latest first; `earlier` are those if there is no CELL among the others
+-- the records of rs after their last CELL, the latest first; if they have no CELL, all of them and then `earlier`
 abbrev pub since : List Record → List Record → List Record
 since earlier [] = earlier
 since earlier (r ∷ rs) = since (if is_cell r then [] else r ∷ earlier) rs
 
+-- the records after the last CELL, the latest first; all of them if there is no CELL
 abbrev pub since_cell : List Record → List Record
 since_cell rs = since [] rs
 
@@ -40,6 +41,7 @@ RecordBreaches rs r (Name k) = NamingBreaches (names_in rs) r k
 RecordBreaches rs r (Figure k) = FigureBreaches (since_cell rs) r k
 RecordBreaches rs r k = ⊥
 
+-- the item breaches the rule after the others
 abbrev pub Breaches : List Item → Item → OasisKind → Type 0
 Breaches before magic k = ⊥
 Breaches before (item r) k = RecordBreaches (records before) r k
