@@ -23,6 +23,7 @@ pub record IsCell {F : Type 0} (names : List CellName) (d : PlainDrawing F) (c :
   pub shapes : c.shapes ≡ d.shapes
   pub references : AllZip (IsReference names) d.placements c.references
 
+-- the cells are the drawings, in the same order, with numbers replaced by names
 abbrev pub AreCells : {F : Type 0} → List CellName → List (PlainDrawing F) → List (PlainCell F) → Type 0
 AreCells names ds cs = AllZip (IsCell names) ds cs
 
@@ -38,6 +39,7 @@ numbers_in d = number_in d.name ++ flat_map (λ p. number_in p.cell) d.placement
 abbrev pub numbers_used : {F : Type 0} → List (PlainDrawing F) → List ℕ
 numbers_used ds = flat_map numbers_in ds
 
+-- some name has the number n
 abbrev pub IsNamed : List CellName → ℕ → Type 0
 IsNamed names n = IsSome (name_of names n)
 
