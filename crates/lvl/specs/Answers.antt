@@ -120,6 +120,7 @@ abbrev pub read_failed : FileFault → Bool
 read_failed (Gds f) = is_read_kind f.kind
 read_failed (Oasis f) = is_read_error f
 
+-- the result is a failed read
 abbrev pub is_failed_read : {A : Type 0} → Result A (Cause FileFault) → Bool
 is_failed_read (Ok x) = false
 is_failed_read (Err (Breach f)) = read_failed f
