@@ -35,6 +35,7 @@ abbrev pub side_text : Side → List ℕ
 side_text First = codes "first"
 side_text Second = codes "second"
 
+-- the verdict; if it is a difference, with the Layer, the square and the side that covers it
 abbrev pub verdict_text : Verdict → List ℕ
 verdict_text Same = codes "same"
 verdict_text (Differ layer square side) =
@@ -71,6 +72,7 @@ layer_line shown =
 abbrev pub front_text : Head → List ℕ → List ℕ
 front_text head top = line (codes "file: " ++ head_text head) ++ line (codes "top:" ++ spaced top)
 
+-- what is shown of a layout: its head, its top, the number of its cells, and a line for each Layer
 abbrev pub shown_text : Shown → List ℕ
 shown_text shown =
     front_text shown.head shown.top.items ++ line (codes "cells: " ++ decimal shown.cells)
@@ -87,6 +89,7 @@ digest_line l =
     line (codes "layer " ++ decimal l.layer.layer ++ codes " datatype " ++ decimal l.layer.datatype
     ++ codes " corners " ++ decimal l.digest.corners ++ codes " sha256 " ++ hex l.digest.sha256)
 
+-- a line for each Layer that has a digest, and one for the whole mask
 abbrev pub mask_text : MaskDigest → List ℕ
 mask_text d = flat_map digest_line d.layers.items ++ line (codes "mask sha256 " ++ hex d.sha256)
 
