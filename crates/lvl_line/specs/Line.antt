@@ -31,6 +31,7 @@ abbrev pub one_file_app : Text → App
 one_file_app name = with_rule (with_rule (with_rule (new_app name) (file_rule (codes "A")))
     (option_rule (codes "top"))) (option_rule (codes "ignore"))
 
+-- the line without subcommands
 abbrev pub plain_line : App
 plain_line = new_app (codes "lvl")
 
