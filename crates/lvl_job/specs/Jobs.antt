@@ -25,6 +25,7 @@ pub record Named : Type 0 where
   pub name : List ℕ
   pub top : Option (List ℕ)
 
+-- a file by its words in the command line
 abbrev pub named : Ignore → String Global → Option (String Global) → Named
 named ignore file top = record { ignore = ignore; name = string_bytes file; top = option_map string_bytes top }
 
