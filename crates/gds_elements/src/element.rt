@@ -101,10 +101,10 @@ impl Element {
     /// Takes the next record, unless it breaches a rule.
     ///
     /// The order of an element's records and their values are those of the GDSII Stream Format
-    /// Manual, Release 6; a rule that [`ElementRule`] marks as own is this project's. A record that
-    /// is out of order is refused before its payload is looked at. Then the rules of its type are
-    /// tested in the order of [`ElementRule`], except that `Oblique` comes after `NotClosed` and
-    /// `Width` before `Path`, and the first that it breaches is reported.
+    /// Manual, Release 6; a rule that [`crate::ElementRule`] marks as own is this project's. A record
+    /// that is out of order is refused before its payload is looked at. Then the rules of its type are
+    /// tested in the order of that list, except that `Oblique` comes after `NotClosed` and `Width`
+    /// before `Path`, and the first that it breaches is reported.
     pub fn take(self, alloc: Global, kind: u8, payload: &[u8]) -> Result<Step, Cause<ElementFault>>
         requires formed { IsFormed kind payload.now }
         ensures going { (piece : List Rec) (r : Rec) → IsReading self piece → r.kind ≡ kind → r.payload ≡ payload.now
