@@ -20,7 +20,7 @@ pub struct Found<T> {
     pub len: usize,
 }
 
-// Reads until more than `n` bytes are ahead, if `room` bytes are left within the limit.
+// Reads until more than `n` bytes are ahead, with `room` bytes left within the limit.
 fn want_more<R: Read>(
     reader: &mut R,
     ahead: &mut Buffer<4096>,

@@ -73,7 +73,7 @@ fn kind_of(number: u64) -> Option<Kind>
     }
 }
 
-// The dimension and two, as the number of places along a step; `None` if there are too many.
+// The number of places along a step, `dimension + 2`; `None` if there are too many.
 fn line_size(dimension: u64) -> Option<u64>
     ensures { result ≡ line_size dimension }
 {
@@ -95,7 +95,7 @@ fn matrix_size(columns: u64, rows: u64) -> Option<Size>
     Some(Size { columns, rows })
 }
 
-// The number of spaces in a list, one less than its places; `None` if there are too many.
+// The number of spaces in a list, `dimension + 1`; `None` if its places are too many.
 fn list_size(dimension: u64) -> Option<usize>
     ensures value { result ≡ list_size dimension }
     ensures few { IfSome result (λ n. n ≤ 1048576) }
