@@ -16,8 +16,8 @@ use Rattle.lvl.specs.declared.verdict.Verdict.{Verdict}
 use Rattle.lvl.specs.declared.verdict.Verdict.TheVariants.{Same, Differ}
 use Rattle.lvl.specs.Layouts.{File, Spells}
 
--- a file is accepted: its bytes spell the cells, and these are sound for the top that its name asks for, and within the
--- limits
+-- the file is accepted with these cells and this top: its bytes spell the cells, they are sound for the name of the top
+-- that the file asks for, if any, and what the top places is within the limits
 pub record IsAccepted (file : File) (cells : List Drawing) (top : Drawing) : Type 0 where
   pub head : Head
   pub spelled : Spells file.ignore file.bytes cells head
