@@ -51,13 +51,13 @@ with_one_more given =
     record given { properties = true } ∷ record given { texts = true } ∷ record given { names = true }
     ∷ record given { padding = true } ∷ []
 
--- the first of the sets with which that is read
+-- the first of the sets with which the record or integer is read
 abbrev pub first_that_reads : FileFault → List Ignore → Option Ignore
 first_that_reads fault [] = None
 first_that_reads fault (more ∷ others) =
     if is_read_by more fault then Some more else first_that_reads fault others
 
--- what to ignore so that it is read; None if no word would change that
+-- what to ignore so that it is read; None if it is read already, or if no word would change that
 abbrev pub to_ignore : Ignore → FileFault → Option Ignore
 to_ignore given fault =
     if is_read_by given fault then None else first_that_reads fault (with_one_more given)

@@ -89,7 +89,7 @@ fn with_one_more(given: Ignore) -> [Ignore; 4]
     ]
 }
 
-/// The first of the sets with which that is read.
+/// The first of the sets with which the record or integer is read.
 fn first_that_reads(fault: &FileFault, sets: &[Ignore]) -> Option<Ignore>
     ensures { result ≡ first_that_reads fault.now sets.now }
 {
@@ -101,7 +101,7 @@ fn first_that_reads(fault: &FileFault, sets: &[Ignore]) -> Option<Ignore>
     None
 }
 
-/// What to ignore so that it is read; `None` if no word would change that.
+/// What to ignore so that it is read; `None` if it is read already, or if no word would change that.
 fn to_ignore(given: Ignore, fault: &FileFault) -> Option<Ignore>
     ensures { result ≡ to_ignore given fault.now }
 {
