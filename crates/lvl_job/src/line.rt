@@ -10,7 +10,7 @@ use lvl_io::Write;
 use lvl_line::{LineFault, parse_line};
 use std::alloc::Global;
 
-/// The exit status if a command line is refused.
+/// The exit status if a command line is refused, or if memory runs out while it is read.
 const BAD_LINE: u8 = 3;
 
 /// Writes why a command line is refused: `clap`'s text, or that it is out of memory.
@@ -33,7 +33,8 @@ fn refuse<E: Write>(alloc: Global, fault: &LineFault, err: &mut E)
 
 /// Does what the words of a command line ask for, as [`do_job`] does, and returns the exit status.
 /// The first word is the name of the program. If the words are refused, or ask for help or the
-/// version, it opens no file, writes `clap`'s text to `err`, and returns 3.
+/// version, it opens no file, writes `clap`'s text to `err`, and returns 3; the same if memory runs
+/// out while they are read, when it writes that it is out of memory.
 pub fn do_line<'a, F: Files, O: Write, E: Write>(
     alloc: Global,
     words: &'a [&'a str],
