@@ -6,8 +6,8 @@
 //!
 //! The exit status is 0 if both layouts draw the same mask, or if one was shown or hashed; 1 if
 //! they differ; 2 if a file is refused or can't be opened, or for out of memory; 3 if the command
-//! line, a map, a window or the text of `--ignore` is invalid, or for help; and 4 if the output
-//! failed.
+//! line, a map, a window or the text of `--ignore` is invalid, for help, or if memory runs out
+//! while the command line is read; and 4 if the output failed.
 #![tactic(auto)]
 
 use lvl_io::{Counted, Failure};
@@ -17,7 +17,7 @@ use std::io::{BufWriter, ErrorKind};
 use std::process::ExitCode;
 use std::{env, io};
 
-/// The exit status if the words of the command line can't be read.
+/// The exit status if the words of the command line can't be read, also for lack of memory.
 const BAD_LINE: u8 = 3;
 
 /// The exit status if there is no memory for the buffer of the output.
