@@ -25,7 +25,7 @@ use Rattle.gds_elements.specs.declared.fault.ElementRule.TheVariants.{PathType, 
 use Rattle.gds_elements.proofs.Fields.{kinds-snoc}
 use Rattle.gds_elements.proofs.Words.{begun_known}
 
--- a list has one opener
+-- a list of records has one first type
 pub one_opener : (piece : List Rec) (k j : ℕ) → opener piece ≡ Some k → opener piece ≡ Some j → k ≡ j
 one_opener piece k j e f = (let g : Some k ≡ Some j = sym e ∙ f in cc)
 
@@ -41,7 +41,7 @@ shape_refers piece k e s a h = elim (refers piece k e h) [ inl x ↦ s x | inr y
 reference_draws : (piece : List Rec) (k : ℕ) → opener piece ≡ Some k → k ≢ boundary → k ≢ path → DrawsShape piece → ⊥
 reference_draws piece k e b p h = elim (draws piece k e h) [ inl x ↦ b x | inr y ↦ p y ]
 
--- what is wrong with the number of points, by the opener
+-- a wrong number of points, by the type of the element
 miscounted : (piece : List Rec) (k n : ℕ) → opener piece ≡ Some k → IsMiscounted piece n
     → ((k ≡ boundary) × (n < 4)) ⊎ ((k ≡ path) × (n < 2)) ⊎ ((k ≡ aref) × (n ≢ 3))
     ⊎ (((k ≡ sref) ⊎ (k ≡ text)) × (n ≢ 1))
@@ -60,7 +60,7 @@ miscounted piece k n e h = elim h [
   ]
 ]
 
--- the points of an element are as many as they have to be
+-- the number of points is right
 abbrev CountOk : ℕ → ℕ → Type 0
 CountOk k n = (k ≡ boundary → 4 ≤ n) × (k ≡ path → 2 ≤ n) × (k ≡ aref → n ≡ 3) × (k ≡ sref → n ≡ 1) × (k ≡ text → n ≡ 1)
 
@@ -200,7 +200,7 @@ law_text piece r o p PathType x = (let z = one_opener piece text path o x.1 in o
 law_text piece r o p Oblique x = (let z = one_opener piece text boundary o x.1 in omega (arith, z))
 law_text piece r o p Repetition x = (let z = one_opener piece text aref o x.1 in omega (arith, z))
 
--- points say nothing of how a cell is placed
+-- an XY breaches no rule of placing
 pub placing_at_points : (k : ℕ) (p : List ℕ) → k ≡ xy → IsPlacingAllowed k p
 placing_at_points k p x = record {
   strans = λ e. absurd (omega (arith, e, x));
@@ -209,13 +209,13 @@ placing_at_points k p x = record {
   name = λ e. absurd (omega (arith, e, x));
 }
 
--- the end breaches no rule
+-- ENDEL breaches no rule
 pub law_endel : (piece : List Rec) (r : Rec) → r.kind ≡ endel → (k : ElementRule) → ValueBreaches piece r k → ⊥
 law_endel piece r e Layer x = elim x.0 [ inl y ↦ omega (arith, y, e) | inr y ↦ omega (arith, y, e) ]
 law_endel piece r e Width x = elim x.1 [ inl y ↦ omega (arith, y.0, e) | inr y ↦ omega (arith, y.0, e) ]
 law_endel piece r e other x = omega (arith, x.0, e)
 
--- what is wrong with the points of a boundary breaches a rule
+-- a fault of the points of a boundary is a breach
 pub ring_fault : (piece : List Rec) (r : Rec) → opener piece ≡ Some boundary → r.kind ≡ xy → (k : ElementRule)
     → IsRingFault (points r.payload) k → ValueBreaches piece r k
 ring_fault piece r o x Points b = (x, inl (o, b))
@@ -223,7 +223,7 @@ ring_fault piece r o x NotClosed b = (x, o, b.0, b.1)
 ring_fault piece r o x Oblique b = (x, o, b.0, b.1, b.2)
 ring_fault piece r o x other b = absurd b
 
--- so does what is wrong with how a cell is placed
+-- so is a fault of the placing
 pub placing_fault : (piece : List Rec) (r : Rec) → RefersToCell piece → (k : ElementRule)
     → IsPlacingFault r.kind r.payload k → ValueBreaches piece r k
 placing_fault piece r o Strans b = (b.0, o, b.1, b.2)
@@ -232,7 +232,7 @@ placing_fault piece r o Angle b = (b.0, o, b.1)
 placing_fault piece r o Name b = (b.0, o, b.1)
 placing_fault piece r o other b = absurd b
 
--- and what is wrong with columns and rows
+-- and one of the columns and rows
 pub count_fault : (piece : List Rec) (r : Rec) → opener piece ≡ Some aref → (k : ElementRule)
     → (r.kind ≡ colrow) × IsCountFault r.payload k → ValueBreaches piece r k
 count_fault piece r o ColRow b = (b.0, o, b.1)

@@ -37,7 +37,7 @@ aref_goes s s' piece r h a n f t m w = record {
   rows = last_read rows_in colrow piece r s.counts.rows s'.counts.rows h.rows w;
 }
 
--- the shifts after the points are those of the records
+-- the shifts after the XY are those of the records
 shifts_is : (s : Aref) (piece : List Rec) (r : Rec) → IsArefRead s piece → r.kind ≡ xy
     → array_shifts (points r.payload) s.counts.columns s.counts.rows ≡ shifts_of (piece ++ r ∷ [])
 shifts_is s piece r h x =
@@ -85,7 +85,7 @@ steps_of s piece ps h k = (
       (subst (λ m. HasSteps ps m s.counts.rows) h.columns k.1),
 )
 
--- what is wrong with the points of an array breaches a rule
+-- a fault of the points of an array is a breach
 pub array_fault : (s : Aref) (piece : List Rec) (r : Rec) → IsArefRead s piece → r.kind ≡ xy → (k : ElementRule)
     → IsArrayFault (points r.payload) s.counts.columns s.counts.rows k → ValueBreaches piece r k
 array_fault s piece r h x PointsFault b = (x, inr (inr (inl (h.opened, b))))

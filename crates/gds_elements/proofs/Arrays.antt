@@ -1,4 +1,4 @@
--- The places of an array of points in 32 bits fit 64 bits.
+-- The places of an array whose points fit in 32 bits fit in 64 bits.
 use Rattle.std.proofs.Common.{◌≡◌, ℕ, ◌-◌, ◌*◌, ◌^◌, ◌<◌, ◌≤◌, ℤ, pos, negsuc, ◌+ℤ◌, ◌-ℤ◌, ◌*ℤ◌, All, refl, sym, ap}
 use Rattle.std.proofs.Common.{◌∙◌, arith}
 use Rattle.std.specs.Prelude.{unsigned_abs, FitsSigned}
@@ -21,14 +21,14 @@ pub record IsSmall (z : ℤ) : Type 0 where
 add_none : (x z : ℤ) → x +ℤ pos 0 ≡ z → x ≡ z
 add_none x z e = omega (arith, ints, e)
 
--- an exact quotient, and its divisor
+-- an exact quotient times its divisor
 divided_abs : (z : ℤ) (m : ℕ) → int_rem z (pos m) ≡ pos 0 → unsigned_abs (int_div z (pos m)) * m ≡ unsigned_abs z
 divided_abs z m e =
     let q : int_div z (pos m) *ℤ pos m +ℤ pos 0 ≡ z = ap (λ r. int_div z (pos m) *ℤ pos m +ℤ r) (sym e)
     ∙ quot-rem z (pos m) in
     sym (unsigned_abs-mul (int_div z (pos m)) (pos m)) ∙ ap unsigned_abs (add_none (int_div z (pos m) *ℤ pos m) z q)
 
--- no more steps than there are in all lead no farther
+-- a number of steps up to m leads no farther than m steps
 small_steps : (i m : ℕ) (a z : ℤ) → i ≤ m → unsigned_abs a * m ≡ unsigned_abs z → IsSmall z → IsSmall (pos i *ℤ a)
 small_steps i m a z h e s =
     let k : unsigned_abs a * i ≤ unsigned_abs a * m = mul-le-mul_left (unsigned_abs a) h in

@@ -1,4 +1,4 @@
--- A list of points that ends where it begins, and the ring of the others.
+-- Closed lists of points, and the ring of the points without the last.
 use Rattle.std.proofs.Common.{◌≡◌, ◌&&◌, ◌<◌, ◌≤◌, Bool, true, false, not, List, [], ◌∷◌, ◌++◌, All, length, get_or}
 use Rattle.std.proofs.Common.{refl, sym, ◌∙◌, subst, arith}
 use Rattle.std.proofs.Common.{int_eq, Some, ap, ℤ}
@@ -20,7 +20,7 @@ path_edges-snoc : (p : Point) (qs : List Point) (z : Point)
 path_edges-snoc p [] z = refl
 path_edges-snoc p (q ∷ qs) z = ap (λ l. (p, q) ∷ l) (path_edges-snoc q qs z)
 
--- the last point is the first where the list is closed
+-- in a closed list the last point is the first
 pub closed_last : (ps qs : List Point) (z d : Point) → ps ≡ qs ++ z ∷ [] → 0 < length qs → IsClosed ps
     → z ≡ get_or qs 0 d
 closed_last ps [] z d e h c = absurd (omega arith)

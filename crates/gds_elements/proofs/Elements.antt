@@ -1,4 +1,4 @@
--- Where elements begin and end among other records.
+-- Where elements begin and end in a list of records.
 use Rattle.std.proofs.Common.{◌≡◌, ◌==◌, ◌&&◌, ℕ, inl, inr, Bool, true, false, not, List, [], ◌∷◌, ◌++◌, refl, sym, ap}
 use Rattle.std.proofs.Common.{◌∙◌, subst, append_assoc}
 use Rattle.std.proofs.lemmas.Bool.{and_parts, or_left, or_right}
@@ -31,7 +31,7 @@ use Rattle.lvl_grammar.proofs.Leads.{leads_unwhole}
 use Rattle.gds_elements.proofs.Leads.{leads_begins}
 use Rattle.gds_elements.proofs.Words.{Stands, stands_append, stands_left, has_all}
 
--- an order whose words end with a type, which is nowhere before
+-- the words of the order end with the type, and have it nowhere else
 ends_with : ℕ → Order → Bool
 ends_with k nothing = false
 ends_with k (one j) = j == k
@@ -39,7 +39,7 @@ ends_with k (next a b) = not (has a k) && ends_with k b
 ends_with k (either a b) = ends_with k a && ends_with k b
 ends_with k (many a) = false
 
--- a word with the type at its end alone
+-- the list ends with the type and has it nowhere else
 record EndsOnce (k : ℕ) (w : List ℕ) : Type 0 where
   before : List ℕ
   is : w ≡ before ++ k ∷ []
@@ -79,7 +79,7 @@ one_end k [] (y ∷ v) x n e = (let h : k ≡ y = cc in absurd (n (inl h)))
 one_end k (a ∷ u) [] x n e = (let t : (u ++ k ∷ []) ++ x ≡ [] = cc in absurd (no_end k u x t))
 one_end k (a ∷ u) (y ∷ v) x n e = (let t : (u ++ k ∷ []) ++ x ≡ v ++ k ∷ [] = cc in one_end k u v x (λ s. n (inr s)) t)
 
--- nothing follows in a whole element
+-- nothing follows a complete element
 pub nothing_follows : (w u : List ℕ) → IsWord an_element w → IsWord an_element (w ++ u) → u ≡ []
 unfolding ends_with
 nothing_follows w u h g =
@@ -87,7 +87,7 @@ nothing_follows w u h g =
     let q = ends_once endel an_element (w ++ u) refl g in
     one_end endel p.before q.before u q.nowhere (ap (λ l. l ++ u) (sym p.is) ∙ q.is)
 
--- at each place something is left
+-- before each record that may come next, something is missing
 boundary_more : (p : BoundaryPlace) → can_be_empty (boundary_left p) ≡ false
 boundary_more Layer = refl
 boundary_more _ = refl
@@ -129,11 +129,11 @@ state_unfinished (Text t) piece h =
     leads_unwhole an_element (kinds piece) (text_left t.place) (text_more t.place) h.leads
 state_unfinished (AtEnd d) piece h = leads_unwhole an_element (kinds piece) (one endel) refl h.leads
 
--- what an element has read begins an element
+-- the records that an element has read begin an element
 pub reading_begins : (e : Element) (piece : List Rec) → IsReading e piece → Begins an_element (kinds piece)
 reading_begins e piece h = state_begins e.state piece h
 
--- and isn't a whole one
+-- and aren't a complete one
 pub reading_unfinished : (e : Element) (piece : List Rec) → IsReading e piece → IsWord an_element (kinds piece) → ⊥
 reading_unfinished e piece h = state_unfinished e.state piece h
 
@@ -169,7 +169,7 @@ stands_in_word (either a b) o k w e h s =
     ]
 stands_in_word (many a) o k w e h s = cc
 
--- the types after the opener of an element
+-- what comes after the first record of an element
 abbrev pub after_opener : Order
 after_opener = after_first an_element
 
@@ -183,7 +183,7 @@ no_opener k = has after_opener k ≡ true → opens k ≡ false
 opener_apart : (k j : ℕ) → no_opener j → (k == j ≡ false → no_opener k) → no_opener k
 opener_apart k j = at_type no_opener k j
 
--- no opener is in an element after its first record
+-- no type that opens an element is in one after its first record
 pub opens_first : (o k : ℕ) (w : List ℕ) → Begins an_element (o ∷ w) → Stands k w → opens k ≡ false
 unfolding no_opener
 opens_first o k w b s =
@@ -192,6 +192,6 @@ opens_first o k w b s =
     (λ c. opener_apart k sref (λ e. cc) (λ d. opener_apart k aref (λ e. cc) (λ f. opener_apart k text (λ e. cc)
     (λ g e. rw (a, c, d, f, g) refl))))) (stands_after o k w b s)
 
--- nor does a type that is in no element
+-- nor is a type that no element has
 pub stands_not : (o k : ℕ) (w : List ℕ) → has after_opener k ≡ false → Begins an_element (o ∷ w) → Stands k w → ⊥
 stands_not o k w n b s = (let z : false ≡ true = sym n ∙ stands_after o k w b s in cc)

@@ -29,11 +29,11 @@ use Rattle.lvl_grammar.proofs.Leads.{leads_nowhere}
 use Rattle.gds_elements.proofs.Fields.{kinds-snoc}
 use Rattle.gds_elements.proofs.Leads.{in_order}
 
--- where only the end is missing, it may come
+-- if only ENDEL is missing, it may come
 pub ends_there : (d : Drawn) (piece : List Rec) → IsAtEnd d piece → InOrder piece an_end
 ends_there d piece h = in_order piece an_end (one endel) nothing h.leads refl
 
--- at no place does it come next
+-- before no other record may it come
 boundary_none : (p : BoundaryPlace) → after_first (boundary_left p) endel ≡ []
 boundary_none Layer = refl
 boundary_none _ = refl
@@ -59,7 +59,7 @@ nowhere : (piece : List Rec) (a : Order) → LeadsTo an_element (kinds piece) a 
 nowhere piece a h t g =
     leads_nowhere an_element (kinds piece) a endel h t (subst (Begins an_element) (kinds-snoc piece an_end) g)
 
--- where more is missing, it may not come
+-- if more is missing, it may not come
 pub ends_nowhere : (s : State) (piece : List Rec) → HasRead s piece → ((d : Drawn) → s ≡ AtEnd d → ⊥)
     → InOrder piece an_end → ⊥
 ends_nowhere (Boundary b) piece h n = nowhere piece (boundary_left b.place) h.leads (boundary_none b.place)

@@ -27,7 +27,7 @@ carried : {X A : Type 0} (g : X → A) (b : Bool) (p x : X) (old new : A) → ol
 carried g true p x old new h e = e
 carried g false p x old new h e = e ∙ h
 
--- a value that follows the records of a type
+-- a value that changes as the records of a type do
 pub field_read : {A : Type 0} (f : List ℕ → A) (j : ℕ) (rs : List Rec) (r : Rec) (old new : A) → old ≡ f (field j rs)
     → new ≡ (if r.kind == j then f r.payload else old) → new ≡ f (field j (rs ++ r ∷ []))
 field_read f j rs r old new h e =

@@ -1,4 +1,4 @@
--- A record breaches one rule at most.
+-- A record breaches at most one rule.
 use Rattle.std.proofs.Common.{Bool, true, ◌||◌, ◌≡◌, ◌≢◌, ◌==◌, ℕ, inl, inr, List, length, Some, refl, sym, ap, ◌∙◌}
 use Rattle.std.proofs.Common.{subst, arith}
 use Rattle.std.proofs.lemmas.Int.{ints}
@@ -26,7 +26,7 @@ use Rattle.lvl_path.proofs.Lowest.{one_lowest}
 two_openers : (piece : List Rec) (k j : ℕ) → opener piece ≡ Some k → opener piece ≡ Some j → k ≢ j → ⊥
 two_openers piece k j o p n = n (one_opener piece k j o p)
 
--- the values of a record breach one rule at most
+-- the values of a record breach at most one rule
 pub one_value : (piece : List Rec) (r : Rec) (j k : ElementRule) → ValueBreaches piece r j → ValueBreaches piece r k
     → j ≡ k
 one_value piece r Layer Layer x y = refl
@@ -112,13 +112,13 @@ one_misplaced ordered r (Unsupported i) (Unsupported j) x y = ap (λ (n : ℕ). 
 one_misplaced ordered r (Unexpected i) (Unsupported j) x y = absurd (y.2 (subst IsKnown (sym x.0 ∙ y.0) x.1))
 one_misplaced ordered r (Unsupported i) (Unexpected j) x y = absurd (x.2 (subst IsKnown (sym y.0 ∙ x.0) y.1))
 
--- a known record in order isn't misplaced
+-- a record of a known type in order isn't misplaced
 pub not_misplaced : (ordered : Type 0) (r : Rec) (m : Misplaced) → ordered → IsKnown r.kind → IsMisplacedAs ordered r m
     → ⊥
 not_misplaced ordered r (Unexpected j) g i x = x.2 g
 not_misplaced ordered r (Unsupported j) g i x = x.2 (subst IsKnown x.0 i)
 
--- a record breaches one rule at most
+-- a record breaches at most one rule
 pub one_rule : (piece : List Rec) (r : Rec) (f g : ElementFault) → ElementBreaches piece r f → ElementBreaches piece r g
     → f ≡ g
 one_rule piece r (MisplacedRecord m) (MisplacedRecord n) x y =
@@ -138,7 +138,7 @@ is_value k =
 at_value : (k j : ℕ) → is_value j ≡ true → k ≡ j → is_value k ≡ true
 at_value k j h e = subst (λ i. is_value i ≡ true) (sym e) h
 
--- a rule is breached by such a type alone
+-- only such a type breaches a rule
 pub value_breaches : (piece : List Rec) (r : Rec) (k : ElementRule) → ValueBreaches piece r k → is_value r.kind ≡ true
 value_breaches piece r Layer x =
     elim x.0 [ inl e ↦ at_value r.kind layer refl e | inr e ↦ at_value r.kind datatype refl e ]

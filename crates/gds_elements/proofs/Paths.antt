@@ -64,7 +64,7 @@ pub none_half : (o : Option Rec) → half_in o ≡ None → o ≡ None
 none_half None e = refl
 none_half (Some r) e = cc
 
--- without a width there is no half of it
+-- without a WIDTH there is no half of one
 pub width_read : (p : Path) (piece : List Rec) → IsPathRead p piece → p.half ≢ None → last_of width piece ≢ None
 width_read p piece r n e = n (r.half ∙ half_none (last_of width piece) e)
 
@@ -72,7 +72,7 @@ pub some_of : {A : Type 0} (o : Option A) → o ≢ None → (x : A) × (o ≡ S
 some_of None n = absurd (n refl)
 some_of (Some x) n = (x, refl)
 
--- the width and the ends of a path after its points
+-- an XY changes neither the width nor the ends of a path
 half_kept : (piece : List Rec) (r : Rec) → r.kind ≡ xy → half_of (piece ++ r ∷ []) ≡ half_of piece
 half_kept piece r x = ap half (field_there width piece r (subst (λ k. k == width ≡ false) (sym x) refl))
 
@@ -111,7 +111,7 @@ path_ends p piece r h rings i a x w e =
       };
     }
 
--- why the points give no bands is a rule that they breach
+-- a fault of the points of a path is a breach
 pub bands_fault : (p : Path) (piece : List Rec) (r : Rec) → IsPathRead p piece → r.kind ≡ xy → (k : ElementRule)
     → IsBandsFault (points r.payload) p.half p.square k → ValueBreaches piece r k
 bands_fault p piece r h x PointsFault b = (x, inr (inl (h.opened, b)))

@@ -1,4 +1,4 @@
--- How a cell is placed, with one more record, and references by their parts.
+-- The placing of a reference with one more record, and references by their parts.
 use Rattle.std.proofs.Common.{◌≡◌, ◌==◌, ℕ, Bool, false, if◌then◌else◌, List, [], ◌∷◌, ◌++◌, refl, sym, ap, ◌∙◌, subst}
 use Rattle.lvl_grid.specs.declared.point.Point.{Point}
 use Rattle.lvl_grid.specs.declared.map.Turn.{Turn}
@@ -23,7 +23,7 @@ placed_more p p' piece r h n f t = record {
   turn = field_read turn angle piece r p.turn p'.turn h.turn t;
 }
 
--- points change nothing of it
+-- an XY doesn't change the placing
 placed_kept : (p : Placing) (piece : List Rec) (r : Rec) → IsPlaced p piece → r.kind ≡ xy → IsPlaced p (piece ++ r ∷ [])
 placed_kept p piece r h x = record {
   name = h.name ∙ sym (ap name (field_there sname piece r (subst (λ k. k == sname ≡ false) (sym x) refl)));
@@ -34,7 +34,7 @@ placed_kept p piece r h x = record {
 reference_from : List ℕ → Bool → Turn → Point → List Point → PlainReference
 reference_from n f t a s = record { cell = n; flip = f; turn = t; at = a; shifts = s }
 
--- the reference after the points is that of the records
+-- the reference after the XY is that of the records
 pub reference_is : (p : Placing) (piece : List Rec) (r : Rec) (shifts shifts' : List Point) → IsPlaced p piece
     → r.kind ≡ xy → shifts ≡ shifts'
     → record {

@@ -5,7 +5,7 @@ use Rattle.std.proofs.lemmas.List.{drop-drop}
 use Rattle.lvl_grid.specs.declared.point.Point.{Point}
 use Rattle.gds_elements.specs.Values.{point, points_of, points, nth}
 
--- one point more
+-- one more point
 pub points_more : (m n : ℕ) (ps : List Point) (xs : List ℕ) (all : List Point) → n ≡ m + 1 → ps ++ points_of n xs ≡ all
     → (ps ++ point (take 8 xs) ∷ []) ++ points_of m (drop 8 xs) ≡ all
 points_more m n ps xs all e h =
@@ -17,7 +17,7 @@ length-points_of : (n : ℕ) (p : List ℕ) → length (points_of n p) ≡ n
 length-points_of zero p = refl
 length-points_of (suc n) p = ap suc (length-points_of n (drop 8 p))
 
--- as many points as there are eights of bytes
+-- a payload has a point for every eight bytes
 pub length-points : (p : List ℕ) → length (points p) ≡ length p / 8
 length-points p = length-points_of (length p / 8) p
 
@@ -31,6 +31,6 @@ nth-points_of (suc n) zero p d h = refl
 nth-points_of (suc n) (suc k) p d h =
     nth-points_of n k (drop 8 p) d (omega arith) ∙ ap (λ q. point (take 8 q)) (drop_more k p)
 
--- the point at a place comes after as many eights of bytes
+-- the point at an index k comes after 8 k bytes
 pub nth-points : (k : ℕ) (p : List ℕ) → 8 * k + 8 ≤ length p → nth (points p) k ≡ point (take 8 (drop (8 * k) p))
 nth-points k p h = nth-points_of (length p / 8) k p _ (omega (arith, h))

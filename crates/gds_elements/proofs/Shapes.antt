@@ -26,7 +26,7 @@ layer_more piece r old new h e f =
     (field_read (λ p. magnitude (short p)) datatype piece r old.datatype new.datatype
     (ap (λ (l : LayerOf). l.datatype) h) f)
 
--- the layer and datatype after the points
+-- an XY doesn't change the layer and datatype
 pub layer_kept : (piece : List Rec) (r : Rec) → r.kind ≡ xy → layer_of (piece ++ r ∷ []) ≡ layer_of piece
 layer_kept piece r x =
     layer_from _ _ (layer_of (piece ++ r ∷ []))

@@ -1,4 +1,4 @@
--- What is answered of a record.
+-- What the result of a record says.
 use Rattle.std.proofs.Common.{◌≡◌, ◌==◌, ℕ, false, List, [], ◌∷◌, ◌++◌, map, Some, refl, sym, ap, ◌∙◌, subst, Result}
 use Rattle.std.proofs.Common.{Ok, Err, IfOk, IfErr}
 use Rattle.std.specs.Prelude.{OnOk}
@@ -37,7 +37,7 @@ broken_breaches : (piece : List Rec) (r : Rec) (P : ElementRule → Type 0) → 
 broken_breaches piece r P g h (MisplacedRecord m) x = absurd x
 broken_breaches piece r P g h (Rule k) x = (g, h k x)
 
--- by a value that breaches a rule
+-- a refusal by a value that breaches a rule
 pub takes_broken : (piece : List Rec) (r : Rec) (res : Result State (Cause ElementFault)) (e : Cause ElementFault)
     (P : ElementRule → Type 0)
     → IsErr res × IsErrAnd res (λ x. x ≡ e) → InOrder piece r
@@ -54,7 +54,7 @@ takes_one piece r res e k h g f b =
     takes_refused piece r res e h (subst (λ (i : Cause ElementFault). Says i (ElementBreaches piece r)) (sym f)
     (g, b))
 
--- the end leaves what was drawn
+-- ENDEL changes nothing of what was drawn
 same_kinds : (piece : List Rec) (r : Rec) (j : ℕ) → r.kind ≡ endel → endel == j ≡ false
     → last_of j (piece ++ r ∷ []) ≡ last_of j piece
 same_kinds piece r j e n = last_there j piece r (subst (λ k. k == j ≡ false) (sym e) n)

@@ -40,7 +40,7 @@ text_ends t piece r h a =
       };
     }
 
--- the opener alone
+-- the state after the TEXT record
 pub text_opens : (t : Text) (r : Rec) → t.place ≡ Layer → r.kind ≡ text → IsTextRead t (r ∷ [])
 text_opens t r p e = record {
   opened = ap Some e;

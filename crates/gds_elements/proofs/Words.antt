@@ -1,4 +1,4 @@
--- The types that a word of an order has.
+-- The types that are in a word of an order.
 use Rattle.std.proofs.Common.{◌≡◌, ◌==◌, ℕ, ◌⊎◌, inl, inr, true, false, List, [], ◌∷◌, ◌++◌, refl, subst}
 use Rattle.std.proofs.lemmas.Bool.{or_left, or_right}
 use Rattle.std.specs.List.{AllByRecursion, flat_map}
@@ -9,7 +9,7 @@ use Rattle.gds_elements.specs.Order.{an_element}
 use Rattle.gds_elements.specs.Rules.{IsKnown}
 use Rattle.lvl_grammar.proofs.Orders.{at_type, same_type}
 
--- a type is in a list
+-- the type is in the list
 abbrev pub Stands : ℕ → List ℕ → Type 0
 Stands k [] = ⊥
 Stands k (x ∷ xs) = (k ≡ x) ⊎ Stands k xs
@@ -72,7 +72,7 @@ element_known k =
     (let z : false ≡ true = rw (e0, e1, e2, e3, e4, e5, e6, e7, e8, e9, e10, e11, e12, e13, e14, e15, e16, e17, e18)
     at h in cc))))))))))))))))))))
 
--- a record that goes on to an element is of a known type
+-- a record that goes on from the beginning of an element is of a known type
 pub begun_known : (w : List ℕ) (k : ℕ) → Begins an_element (w ++ k ∷ []) → IsKnown k
 begun_known w k (v, x) =
     element_known k (has_all an_element k ((w ++ k ∷ []) ++ v) x

@@ -1,10 +1,10 @@
--- The order of the records of the five elements.
+-- The order of the records of the five elements (GDSII Stream Release 6).
 use Rattle.std.specs.Prelude.{◌==◌, ◌||◌, Bool, ℕ}
 use Rattle.lvl_grammar.specs.Order.{Order, ◌then◌, ◌or◌, one, maybe}
 use Rattle.gds_elements.specs.Types.{boundary, path, sref, aref, text, layer, datatype, width, xy, endel, sname, colrow}
 use Rattle.gds_elements.specs.Types.{texttype, presentation, string, strans, mag, angle, pathtype}
 
--- how a cell or a text is reflected, scaled and turned
+-- how a cell or a text is reflected, magnified and turned
 abbrev pub a_transform : Order
 a_transform = one strans then maybe (one mag) then maybe (one angle)
 

@@ -1,8 +1,9 @@
--- Records, and lists of them.
+-- Records, and lists of records.
 use Rattle.std.specs.Prelude.{ℕ, ◌==◌, Bool, List, [], ◌∷◌, map, reverse, find, Option, Some, None}
 use Rattle.gds_elements.specs.Order.{opens}
 use Rattle.gds_elements.specs.Types.{endel}
 
+-- a record: its type, its data type and its payload
 pub record Rec : Type 0 where
   pub kind : ℕ
   pub data_type : ℕ
@@ -18,7 +19,7 @@ is_type k r = r.kind == k
 abbrev pub is_opener : Rec → Bool
 is_opener r = opens r.kind
 
--- the record that ends an element
+-- the ENDEL record
 abbrev pub an_end : Rec
 an_end = record { kind = endel; data_type = 0; payload = [] }
 
@@ -36,6 +37,6 @@ payload_of (Some r) = r.payload
 abbrev pub last_of : ℕ → List Rec → Option Rec
 last_of k rs = find (is_type k) (reverse rs)
 
--- its payload, or nothing
+-- the payload of the last record of a type; empty if there is none
 abbrev pub field : ℕ → List Rec → List ℕ
 field k rs = payload_of (last_of k rs)

@@ -1,4 +1,5 @@
--- The rules that a record of an element may breach.
+-- The rules that a record of an element may breach. Own rules: Layer, Strans, Magnification, Angle, Name, Path, Width,
+-- PathType, Oblique and Repetition; the others are of GDSII Stream Release 6.
 use Rattle.std.specs.Prelude.{true, ◌≡◌, ◌≢◌, ℕ, ◌*◌, ◌<◌, ◌≤◌, ◌<ℤ◌, ◌≤ℤ◌, ◌-ℤ◌, ◌⊎◌, ℤ, pos, List, [], ◌∷◌, ◌++◌}
 use Rattle.std.specs.Prelude.{length, Some, None, All, is_some}
 use Rattle.std.specs.Int.RustNames.{int_rem}
@@ -24,32 +25,33 @@ use Rattle.gds_elements.specs.declared.fault.ElementRule.TheVariants.{Layer, Poi
 use Rattle.gds_elements.specs.declared.fault.ElementRule.TheVariants.{Angle, ColRow, ArrayStep, Name, Path, Width}
 use Rattle.gds_elements.specs.declared.fault.ElementRule.TheVariants.{PathType, Oblique, Repetition}
 
--- the most places of an array
+-- the greatest number of places of an array (own rule)
 abbrev pub place_limit : ℕ
 place_limit = 1048576
 
--- the type is one of the table of record types
+-- the type is one of those that are always read
 abbrev pub IsKnown : ℕ → Type 0
 IsKnown k = is_some (form_among table k) ≡ true
 
--- the steps from each point to the next
+-- each point with the next
 abbrev pub steps : List Point → List (Point × Point)
 steps [] = []
 steps (p ∷ ps) = path_edges p ps
 
--- the points end where they begin
+-- the last point is the first
 abbrev pub IsClosed : List Point → Type 0
 IsClosed [] = Unit {0}
 IsClosed (p ∷ ps) = last_or p ps ≡ p
 
--- a width is positive and even
+-- a width is positive and even (own rule)
 abbrev pub IsWidth : ℤ → Type 0
 IsWidth z = (h : ℕ) × (0 < h) × (z ≡ pos (2 * h))
 
--- n steps in whole numbers lead from p to q
+-- n divides both coordinates of the distance from p to q
 abbrev pub IsDivided : Point → Point → ℕ → Type 0
 IsDivided p q n = (int_rem (q.x -ℤ p.x) (pos n) ≡ pos 0) × (int_rem (q.y -ℤ p.y) (pos n) ≡ pos 0)
 
+-- m columns and n rows divide the points of an array into whole steps
 abbrev pub HasSteps : List Point → ℕ → ℕ → Type 0
 HasSteps ps m n = IsDivided (nth ps 0) (nth ps 1) m × IsDivided (nth ps 0) (nth ps 2) n
 
@@ -60,14 +62,15 @@ DrawsShape piece = (opener piece ≡ Some boundary) ⊎ (opener piece ≡ Some p
 abbrev pub RefersToCell : List Rec → Type 0
 RefersToCell piece = (opener piece ≡ Some sref) ⊎ (opener piece ≡ Some aref)
 
--- a boundary has at least four points, a path at least two, an array three, the others one
+-- the number of points is wrong: under four in a boundary, under two in a path, not three in an array, not one in a
+-- reference or a text
 abbrev pub IsMiscounted : List Rec → ℕ → Type 0
 IsMiscounted piece n =
     ((opener piece ≡ Some boundary) × (n < 4)) ⊎ ((opener piece ≡ Some path) × (n < 2))
     ⊎ ((opener piece ≡ Some aref) × (n ≢ 3))
     ⊎ (((opener piece ≡ Some sref) ⊎ (opener piece ≡ Some text)) × (n ≢ 1))
 
--- what a record says, after the records of its element so far, breaches the rule
+-- the record r breaches the rule by its payload, if `piece` are the records of its element so far
 abbrev pub ValueBreaches : List Rec → Rec → ElementRule → Type 0
 ValueBreaches piece r Layer = ((r.kind ≡ layer) ⊎ (r.kind ≡ datatype)) × DrawsShape piece × (short r.payload <ℤ pos 0)
 ValueBreaches piece r Points = (r.kind ≡ xy) × IsMiscounted piece (length (points r.payload))
@@ -98,16 +101,16 @@ ValueBreaches piece r Repetition =
     (r.kind ≡ colrow) × (opener piece ≡ Some aref) × (pos 1 ≤ℤ columns r.payload) × (pos 1 ≤ℤ rows r.payload)
     × (place_limit < magnitude (columns r.payload) * magnitude (rows r.payload))
 
--- the record may come after the others
+-- the record may come next in the element
 abbrev pub InOrder : List Rec → Rec → Type 0
 InOrder piece r = Begins an_element (kinds (piece ++ r ∷ []))
 
--- a record that may not come where it is: its type is one of those that are read, or not
+-- the record may not come next: its type is one that is always read (Unexpected), or it isn't (Unsupported)
 abbrev pub IsMisplacedAs : Type 0 → Rec → Misplaced → Type 0
 IsMisplacedAs ordered r (Unexpected k) = (r.kind ≡ k) × IsKnown k × ¬ ordered
 IsMisplacedAs ordered r (Unsupported k) = (r.kind ≡ k) × (k < 60) × ¬ IsKnown k
 
--- the record may not come where it is, or what it says breaches a rule
+-- the record may not come next, or its payload breaches a rule
 abbrev pub ElementBreaches : List Rec → Rec → ElementFault → Type 0
 ElementBreaches piece r (MisplacedRecord m) = IsMisplacedAs (InOrder piece r) r m
 ElementBreaches piece r (Rule k) = InOrder piece r × ValueBreaches piece r k

@@ -1,4 +1,4 @@
--- The names of the record types.
+-- The numbers of the record types, by their names in GDSII Stream Release 6.
 use Rattle.std.specs.Prelude.{ℕ}
 
 abbrev pub header : ℕ

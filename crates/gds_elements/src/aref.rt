@@ -30,7 +30,7 @@ use lvl_names::{Name, Offsets};
 use lvl_refusal::Cause;
 use std::alloc::Global;
 
-/// What the next record may be, named by the first of them.
+/// Which record comes next. If several may, the first of them gives the name.
 #[derive(Clone, Copy)]
 pub(crate) enum Place {
     Name,
@@ -42,7 +42,7 @@ pub(crate) enum Place {
 }
 
 impl Place {
-    /// What a record of this type is here.
+    /// What a record of this type leads to, if it comes next.
     fn after(self, kind: u8) -> Next<Place>
         ensures order { after_first (left self) kind ≡ left_after left result }
         ensures last { EndsBy xy kind result }
@@ -68,7 +68,7 @@ impl Place {
     }
 }
 
-/// An array that is being read.
+/// The state of an array that is being read.
 #[derive(Drop)]
 pub(crate) struct Aref {
     place: Place,
@@ -77,7 +77,7 @@ pub(crate) struct Aref {
 }
 
 impl Aref {
-    /// An array of which the opener was read.
+    /// The state after the AREF record.
     pub(crate) fn open(alloc: Global) -> Aref
         ensures { (r : Rec) → r.kind ≡ aref → IsArefRead result (r ∷ []) }
     {
@@ -91,7 +91,7 @@ impl Aref {
         }
     }
 
-    /// Takes the next record, if it breaches no rule.
+    /// The state after the next record, unless the record breaches a rule.
     pub(crate) fn take(
         self,
         alloc: Global,
@@ -126,7 +126,7 @@ impl Aref {
     }
 }
 
-/// The reference to the cell at all places of the array.
+/// The reference to the cell at all places of the array. `payload` has its three points.
 fn place_all(
     placing: Placing,
     counts: Counts,
@@ -156,7 +156,7 @@ fn place_all(
     Ok(Reference::new(name, flip, turn, origin, shifts).unwrap())
 }
 
-/// One of `count` equal steps from a point to another.
+/// The step from one point to another, divided by `count`; refused if it isn't whole.
 fn step(from: Point, to: Point, count: u64) -> Result<Point, Cause<ElementFault>>
     requires from { IsNarrow from }
     requires to { IsNarrow to }
@@ -170,7 +170,7 @@ fn step(from: Point, to: Point, count: u64) -> Result<Point, Cause<ElementFault>
     Ok(Point { x, y })
 }
 
-/// One of `count` equal steps, along one axis.
+/// The step along one axis, divided by `count`; refused if it isn't whole.
 fn step_along(from: i64, to: i64, count: u64) -> Result<i64, Cause<ElementFault>>
     requires from { FitsSigned w32 from }
     requires to { FitsSigned w32 to }
@@ -184,7 +184,7 @@ fn step_along(from: i64, to: i64, count: u64) -> Result<i64, Cause<ElementFault>
     divided(to - from, count as i64)
 }
 
-/// The exact quotient.
+/// The quotient; refused if there is a remainder.
 fn divided(distance: i64, count: i64) -> Result<i64, Cause<ElementFault>>
     requires { pos 0 <ℤ count }
     ensures value { IfOk result (λ n. (n ≡ int_div distance count) × (int_rem distance count ≡ pos 0)) }

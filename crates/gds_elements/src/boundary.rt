@@ -1,4 +1,4 @@
-//! BOUNDARY LAYER DATATYPE XY ENDEL: the ring of its points but the last.
+//! BOUNDARY LAYER DATATYPE XY ENDEL: the ring of its points without the last.
 ghost use Rattle.std.specs.Prelude.{◌≡◌, ◌∷◌, [], ◌≤◌, List, ℕ, IfOk, IfErr, OnOk, length, All};
 ghost use Rattle.lvl_grid.specs.Winding.{IsStraight};
 ghost use Rattle.gds_elements.specs.Types.{boundary, xy};
@@ -24,10 +24,10 @@ use lvl_names::Layer;
 use lvl_refusal::Cause;
 use std::alloc::Global;
 
-/// The fewest points of a boundary, the closing one included.
+/// The least number of points of a boundary, with the last, which closes it.
 const FEWEST_POINTS: usize = 4;
 
-/// What the next record may be, named by it.
+/// Which record comes next.
 #[derive(Clone, Copy)]
 pub(crate) enum Place {
     Layer,
@@ -36,7 +36,7 @@ pub(crate) enum Place {
 }
 
 impl Place {
-    /// What a record of this type is here.
+    /// What a record of this type leads to, if it comes next.
     fn after(self, kind: u8) -> Next<Place>
         ensures order { after_first (left self) kind ≡ left_after left result }
         ensures last { EndsBy xy kind result }
@@ -49,7 +49,7 @@ impl Place {
     }
 }
 
-/// A boundary that is being read.
+/// The state of a boundary that is being read.
 #[derive(Drop)]
 pub(crate) struct Boundary {
     place: Place,
@@ -57,7 +57,7 @@ pub(crate) struct Boundary {
 }
 
 impl Boundary {
-    /// A boundary of which the opener was read.
+    /// The state after the BOUNDARY record.
     pub(crate) fn open() -> Boundary
         ensures { (r : Rec) → r.kind ≡ boundary → IsBoundary result (r ∷ []) }
     {
@@ -70,7 +70,7 @@ impl Boundary {
         }
     }
 
-    /// Takes the next record, if it breaches no rule.
+    /// The state after the next record, unless the record breaches a rule.
     pub(crate) fn take(
         self,
         alloc: Global,
@@ -95,7 +95,7 @@ impl Boundary {
     }
 }
 
-/// The ring of a boundary's points but the last.
+/// The ring of a boundary's points without the last, unless they breach a rule.
 fn ring_of(alloc: Global, payload: &[u8]) -> Result<Ring, Cause<ElementFault>>
     ensures value { IfOk result (λ ring. ring ≡ but_last (points payload.now)) }
     ensures allowed { OnOk result ((4 ≤ length (points payload.now)) × IsClosed (points payload.now)

@@ -12,7 +12,7 @@ use crate::values::short;
 use gds_records::record_type;
 use lvl_refusal::Cause;
 
-/// The most places of an array (own rule).
+/// The greatest number of places of an array (own rule).
 const MOST_PLACES: u64 = 1_048_576;
 
 /// How many columns and rows an array has, at least one of each.
@@ -25,7 +25,7 @@ pub(crate) struct Counts {
     ghost few: { columns * rows ≤ 1048576 },
 }
 
-/// How many columns and rows, after one more record.
+/// How many columns and rows, after one more record. Only a COLROW changes them.
 pub(crate) fn read_counts(
     old: Counts,
     kind: u8,
@@ -50,7 +50,7 @@ pub(crate) fn read_counts(
     Ok(Counts { columns, rows })
 }
 
-/// A number of columns or rows, at least one.
+/// A number of columns or of rows; refused if it is below one.
 fn count(bytes: &[u8]) -> Result<u64, Cause<ElementFault>>
     requires { length bytes.now ≡ 2 }
     ensures value { IfOk result (λ n. (n ≡ magnitude (short bytes.now)) × (0 < n) × (n < 32768)) }

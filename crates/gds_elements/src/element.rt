@@ -1,4 +1,4 @@
-//! One element, record by record.
+//! Reads one element, record by record.
 ghost use Rattle.std.specs.Prelude.{◌≡◌, ◌<◌, ◌∷◌, [], ◌++◌, ◌↔◌, ℕ, List, IsTrue, IfSome, IfNone, IfOk, IfErr, OnOk};
 ghost use Rattle.std.specs.Prelude.{false};
 ghost use Rattle.gds_elements.specs.Order.{opens};
@@ -22,20 +22,20 @@ use lvl_names::Layer;
 use lvl_refusal::Cause;
 use std::alloc::Global;
 
-/// What a whole element draws.
+/// What a complete element draws.
 #[derive(Debug, Drop)]
 pub enum Drawn {
-    /// A boundary: its ring, on a Layer.
+    /// The ring of a boundary, on a Layer.
     Ring(Layer, Ring),
-    /// A path: the rings of its bands, on a Layer.
+    /// The rings of the bands of a path, on a Layer.
     Rings(Layer, Vec<Ring>),
-    /// An SREF or an AREF.
+    /// The reference of an SREF or an AREF.
     Reference(Reference),
     /// A text.
     Nothing,
 }
 
-/// Which element is read, and how far.
+/// Which element is read, and what was read of it.
 #[derive(Drop)]
 pub(crate) enum State {
     Boundary(Boundary),
@@ -53,17 +53,17 @@ pub struct Element {
     state: State,
 }
 
-/// What an element is after one more record.
+/// The result of one more record.
 #[derive(Drop)]
 pub enum Step {
-    /// It isn't whole yet.
+    /// The element isn't complete yet.
     Open(Element),
-    /// The record was its ENDEL.
+    /// The record was ENDEL, and this is what the element draws.
     Whole(Drawn),
 }
 
 impl Element {
-    /// The element that a record of this type opens; None where it opens none.
+    /// The element that a record of this type opens; `None` if it opens none.
     pub fn open(alloc: Global, kind: u8) -> Option<Element>
         ensures opened { IfSome result (λ e. (r : Rec) → r.kind ≡ kind → IsReading e (r ∷ [])) }
         ensures none { IfNone result (opens kind ≡ false) }
@@ -98,13 +98,13 @@ impl Element {
         }
     }
 
-    /// Takes the next record, if it breaches no rule.
+    /// Takes the next record, unless it breaches a rule.
     ///
     /// The order of an element's records and their values are those of the GDSII Stream Format
-    /// Manual, Release 6; a rule that [`crate::GdsKind`] marks own is this project's. A record that
-    /// may not come there is refused before what it says is looked at. Then its tests run in the
-    /// order of the rules, but `Oblique` after `NotClosed` and `Width` before `Path`, and the first
-    /// that fails is reported.
+    /// Manual, Release 6; a rule that [`crate::ElementRule`] marks as own is this project's. A record
+    /// that is out of order is refused before its payload is looked at. Then the rules of its type are
+    /// tested in the order of that list, except that `Oblique` comes after `NotClosed` and `Width`
+    /// before `Path`, and the first that it breaches is reported.
     pub fn take(self, alloc: Global, kind: u8, payload: &[u8]) -> Result<Step, Cause<ElementFault>>
         requires formed { IsFormed kind payload.now }
         ensures going { (piece : List Rec) (r : Rec) → IsReading self piece → r.kind ≡ kind → r.payload ≡ payload.now
@@ -136,7 +136,7 @@ impl State {
     }
 }
 
-/// The step to an element that isn't whole yet.
+/// The result of a record that doesn't end the element.
 fn going(read: Result<State, Cause<ElementFault>>) -> Result<Step, Cause<ElementFault>>
     ensures { (piece : List Rec) (r : Rec) → Takes piece r read → Steps piece r result }
 {
@@ -146,7 +146,7 @@ fn going(read: Result<State, Cause<ElementFault>>) -> Result<Step, Cause<Element
     }
 }
 
-/// The step by the last record, of which only ENDEL is left.
+/// The result of ENDEL; any other record is out of order.
 fn end(drawn: Drawn, kind: u8) -> Result<Step, Cause<ElementFault>>
     requires { kind < 60 }
     ensures { (piece : List Rec) (d : ℕ) (payload : List ℕ) → IsAtEnd drawn piece

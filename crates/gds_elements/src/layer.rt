@@ -11,7 +11,7 @@ use gds_records::record_type;
 use lvl_names::Layer;
 use lvl_refusal::Cause;
 
-/// The layer and datatype of a shape after one more record.
+/// The layer and datatype of a shape after one more record. Only LAYER and DATATYPE change them.
 pub(crate) fn read_layer(old: Layer, kind: u8, payload: &[u8]) -> Result<Layer, Cause<ElementFault>>
     requires { IsFormed kind payload.now }
     ensures layer { IfOk result (λ l. l.layer ≡ (if kind == layer then magnitude (short payload.now) else old.layer)) }

@@ -1,15 +1,14 @@
 //! Elements of GDSII structures, read record by record.
 //!
-//! An element begins with its opener, BOUNDARY, PATH, SREF, AREF or TEXT, and ends with ENDEL
-//! (GDSII Stream Format Manual, Release 6). [`Element::open`] takes the opener, and
-//! [`Element::take`] the next record, until the element is whole: then it is what it draws, a shape
-//! or a reference to a cell, or nothing. [`name`] and [`misplaced`] serve the records outside of
-//! elements too.
+//! An element begins with BOUNDARY, PATH, SREF, AREF or TEXT, and ends with ENDEL (GDSII Stream
+//! Format Manual, Release 6). [`Element::open`] takes the first record, and [`Element::take`] each
+//! further one. At ENDEL the element becomes what it draws: a shape, a reference to a cell, or
+//! nothing. [`name`] and [`misplaced`] are also used for records outside of elements.
 //!
-//! A sixth element takes a file of its own beside `boundary.rt`: its places, with what a record is
-//! at each of them, the values that it keeps, and what it draws. `element.rt` opens it and has a
-//! `State` for it; in `specs/` its order joins `an_element` and its type `opens`, and what it means
-//! joins `shapes_of` or `references_of`.
+//! To add an element, write a file beside `boundary.rt`, with the records that may come next in
+//! each of its states, the values that it keeps, and what it draws. In `element.rt`, open it and
+//! add a `State` for it. In `specs/`, add its order to `an_element`, its type to `opens`, and its
+//! meaning to `shapes_of` or `references_of`.
 //!
 //! ```
 //! let element = Element::open(alloc, record_type::BOUNDARY).ok_or("no element")?;

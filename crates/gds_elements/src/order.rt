@@ -1,4 +1,4 @@
-//! What a record is at a place of an element.
+//! Which record may come next in an element.
 ghost use Rattle.std.specs.Prelude.{◌≡◌, ◌==◌, ◌<◌, if◌then◌else◌};
 ghost use Rattle.gds_elements.specs.inside.Misplaced.{IsMisplacement, IsMisplaced};
 
@@ -6,18 +6,18 @@ use crate::fault::{ElementFault, Misplaced};
 use gds_records::record_type;
 use lvl_refusal::Cause;
 
-/// What a record of some type is at a place.
+/// What a record leads to.
 #[derive(Clone, Copy)]
 pub(crate) enum Next<P> {
-    /// It may come there and leads to this place.
+    /// It may come next, and this comes after it.
     Goes(P),
-    /// It may come there, and only ENDEL after it.
+    /// It may come next, and only ENDEL may come after it.
     Ends,
-    /// It may not come there.
+    /// It may not come next.
     Nowhere,
 }
 
-/// The one type that may come at a place.
+/// `next` if the record has the only type that may come, else `Nowhere`.
 pub(crate) fn only<P>(kind: u8, wanted: u8, next: Next<P>) -> Next<P>
 where
     P: Copy,
@@ -26,8 +26,8 @@ where
     if kind == wanted { next } else { Next::Nowhere }
 }
 
-/// Why a record may not come where it is: `Unexpected` where its type is one of those that are
-/// read, else `Unsupported`.
+/// Why a record may not come next: `Unexpected` if its type is one of those that are always read,
+/// else `Unsupported`.
 pub fn misplaced(kind: u8) -> Misplaced
     ensures { IsMisplacement kind result }
 {
@@ -63,7 +63,7 @@ pub fn misplaced(kind: u8) -> Misplaced
     }
 }
 
-/// The refusal of a record that may not come where it is.
+/// The refusal of a record that may not come next.
 pub(crate) fn out_of_order(kind: u8) -> Cause<ElementFault>
     ensures { IsMisplaced kind result }
 {

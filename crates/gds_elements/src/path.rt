@@ -28,10 +28,10 @@ use lvl_path::bands;
 use lvl_refusal::Cause;
 use std::alloc::Global;
 
-/// The fewest points of a path.
+/// The least number of points of a path.
 const FEWEST_POINTS: usize = 2;
 
-/// What the next record may be, named by the first of them.
+/// Which record comes next. If several may, the first of them gives the name.
 #[derive(Clone, Copy)]
 pub(crate) enum Place {
     Layer,
@@ -42,7 +42,7 @@ pub(crate) enum Place {
 }
 
 impl Place {
-    /// What a record of this type is here.
+    /// What a record of this type leads to, if it comes next.
     fn after(self, kind: u8) -> Next<Place>
         ensures order { after_first (left self) kind ≡ left_after left result }
         ensures last { EndsBy xy kind result }
@@ -64,19 +64,19 @@ impl Place {
     }
 }
 
-/// A path that is being read.
+/// The state of a path that is being read.
 #[derive(Drop)]
 pub(crate) struct Path {
     place: Place,
     layer: Layer,
-    /// Whether it reaches half its width beyond its ends.
+    /// Whether the path reaches half its width beyond its ends.
     square: bool,
-    /// Half its width, where its WIDTH was read.
+    /// Half the width in grid steps, once WIDTH was read.
     half: Option<u64>,
 }
 
 impl Path {
-    /// A path of which the opener was read.
+    /// The state after the PATH record.
     pub(crate) fn open() -> Path
         ensures { (r : Rec) → r.kind ≡ path → IsPathRead result (r ∷ []) }
     {
@@ -91,7 +91,7 @@ impl Path {
         }
     }
 
-    /// Takes the next record, if it breaches no rule.
+    /// The state after the next record, unless the record breaches a rule.
     pub(crate) fn take(
         self,
         alloc: Global,
@@ -123,7 +123,8 @@ impl Path {
     }
 }
 
-/// Whether a path reaches half its width beyond its ends, after one more record.
+/// Whether a path reaches half its width beyond its ends, after one more record. Only a PATHTYPE
+/// changes this.
 fn read_ends(old: bool, kind: u8, payload: &[u8]) -> Result<bool, Cause<ElementFault>>
     requires { IsFormed kind payload.now }
     ensures value { IfOk result
@@ -142,7 +143,7 @@ fn read_ends(old: bool, kind: u8, payload: &[u8]) -> Result<bool, Cause<ElementF
     }
 }
 
-/// Half the width of a path, after one more record.
+/// Half the width of a path, after one more record. Only a WIDTH changes it.
 fn read_half(old: Option<u64>, kind: u8, payload: &[u8]) -> Result<Option<u64>, Cause<ElementFault>>
     requires { IsFormed kind payload.now }
     ensures value { IfOk result (λ h. h ≡ (if kind == width then Some (half payload.now) else old)) }
@@ -162,7 +163,7 @@ fn read_half(old: Option<u64>, kind: u8, payload: &[u8]) -> Result<Option<u64>, 
     Ok(Some(u64::from(width / 2)))
 }
 
-/// The rings of the bands of a path with these points.
+/// The rings of the bands of a path, unless its points and width breach a rule.
 fn bands_of(
     alloc: Global,
     half: Option<u64>,

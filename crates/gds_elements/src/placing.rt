@@ -1,4 +1,4 @@
-//! How a cell is placed: SNAME [STRANS [MAG] [ANGLE]], in an SREF and an AREF.
+//! The cell of a reference and its placing: SNAME [STRANS [MAG] [ANGLE]], in an SREF and an AREF.
 ghost use Rattle.std.specs.Prelude.{◌≡◌, ◌≢◌, ◌==◌, [], false, IfOk, IfErr, OnOk, IfSome, IfNone, if◌then◌else◌};
 ghost use Rattle.lvl_grid.specs.declared.map.Turn.{Turn as GridTurn};
 ghost use Rattle.gds_elements.specs.Types.{sname, strans, mag, angle};
@@ -17,10 +17,10 @@ use lvl_names::is_name;
 use lvl_refusal::Cause;
 use std::alloc::Global;
 
-/// The real 1, as it is spelled.
+/// The eight-byte real 1.
 const ONE: [u8; 8] = [0x41, 0x10, 0, 0, 0, 0, 0, 0];
 
-/// The degrees of the four turns, as they are spelled.
+/// The degrees of the four turns as eight-byte reals.
 const DEGREES_0: [u8; 8] = [0, 0, 0, 0, 0, 0, 0, 0];
 
 const DEGREES_90: [u8; 8] = [0x42, 0x5A, 0, 0, 0, 0, 0, 0];
@@ -50,7 +50,7 @@ impl Placing {
         }
     }
 
-    /// What is known after one more record.
+    /// The placing after one more record, unless the record breaches a rule.
     pub(crate) fn read(
         self,
         alloc: Global,
@@ -137,7 +137,7 @@ fn read_turn(old: Turn, kind: u8, payload: &[u8]) -> Result<Turn, Cause<ElementF
     }
 }
 
-/// The turn by an angle in degrees.
+/// The turn by an angle in degrees; `None` for any other payload.
 fn turn(payload: &[u8]) -> Option<Turn>
     ensures some { IfSome result (λ t. (payload.now ≡ degrees t) × (t ≡ turn payload.now)) }
     ensures none { IfNone result ((t : GridTurn) → payload.now ≢ degrees t) }

@@ -24,7 +24,7 @@ use lvl_names::{Name, Offsets};
 use lvl_refusal::Cause;
 use std::alloc::Global;
 
-/// What the next record may be, named by the first of them.
+/// Which record comes next. If several may, the first of them gives the name.
 #[derive(Clone, Copy)]
 pub(crate) enum Place {
     Name,
@@ -35,7 +35,7 @@ pub(crate) enum Place {
 }
 
 impl Place {
-    /// What a record of this type is here.
+    /// What a record of this type leads to, if it comes next.
     fn after(self, kind: u8) -> Next<Place>
         ensures order { after_first (left self) kind ≡ left_after left result }
         ensures last { EndsBy xy kind result }
@@ -60,7 +60,7 @@ impl Place {
     }
 }
 
-/// A reference that is being read.
+/// The state of a reference that is being read.
 #[derive(Drop)]
 pub(crate) struct Sref {
     place: Place,
@@ -68,7 +68,7 @@ pub(crate) struct Sref {
 }
 
 impl Sref {
-    /// A reference of which the opener was read.
+    /// The state after the SREF record.
     pub(crate) fn open(alloc: Global) -> Sref
         ensures { (r : Rec) → r.kind ≡ sref → IsSrefRead result (r ∷ []) }
     {
@@ -78,7 +78,7 @@ impl Sref {
         }
     }
 
-    /// Takes the next record, if it breaches no rule.
+    /// The state after the next record, unless the record breaches a rule.
     pub(crate) fn take(
         self,
         alloc: Global,
@@ -104,7 +104,7 @@ impl Sref {
     }
 }
 
-/// The reference to the cell at the one point.
+/// The reference to the cell at one point.
 fn place_once(placing: Placing, payload: &[u8]) -> Result<Reference, Cause<ElementFault>>
     ensures value { IfOk result (λ r. r ≡ record {
       cell = placing.name.items;

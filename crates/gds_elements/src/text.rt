@@ -1,5 +1,5 @@
 //! TEXT LAYER TEXTTYPE [PRESENTATION] [PATHTYPE] [WIDTH] [STRANS [MAG] [ANGLE]] XY STRING ENDEL: it
-//! covers nothing, and its values are free but for the one point.
+//! covers nothing. Its values aren't checked, except that it has one point.
 ghost use Rattle.std.specs.Prelude.{◌≡◌, [], ◌∷◌, ◌≢◌, List, ℕ, OnOk, IfErr, length};
 ghost use Rattle.gds_elements.specs.Types.{text, xy, string};
 ghost use Rattle.gds_elements.specs.Values.{points};
@@ -18,7 +18,7 @@ use crate::values::point_count;
 use gds_records::record_type;
 use lvl_refusal::Cause;
 
-/// What the next record may be, named by the first of them.
+/// Which record comes next. If several may, the first of them gives the name.
 #[derive(Clone, Copy)]
 pub(crate) enum Place {
     Layer,
@@ -34,7 +34,7 @@ pub(crate) enum Place {
 }
 
 impl Place {
-    /// What a record of this type is here.
+    /// What a record of this type leads to, if it comes next.
     fn after(self, kind: u8) -> Next<Place>
         ensures order { after_first (left self) kind ≡ left_after left result }
         ensures last { EndsBy string kind result }
@@ -100,14 +100,14 @@ fn after_magnification(kind: u8) -> Next<Place>
     }
 }
 
-/// A text that is being read.
+/// The state of a text that is being read.
 #[derive(Drop)]
 pub(crate) struct Text {
     place: Place,
 }
 
 impl Text {
-    /// A text of which the opener was read.
+    /// The state after the TEXT record.
     pub(crate) fn open() -> Text
         ensures { (r : Rec) → r.kind ≡ text → IsTextRead result (r ∷ []) }
     {
@@ -116,7 +116,7 @@ impl Text {
         }
     }
 
-    /// Takes the next record, if it breaches no rule.
+    /// The state after the next record, unless the record breaches a rule.
     pub(crate) fn take(self, kind: u8, payload: &[u8]) -> Result<State, Cause<ElementFault>>
         requires { IsFormed kind payload.now }
         ensures { (piece : List Rec) (d : ℕ) → IsTextRead self piece

@@ -5,7 +5,8 @@ ghost use Rattle.gds_elements.specs.Values.{short, long, bits, point, points, nt
 use lvl_grid::Point;
 use std::alloc::{AllocError, Global};
 
-/// A number of two bytes, in two's complement (GDSII Stream Format Manual, Release 6).
+/// A number of two bytes, the highest first, in two's complement (GDSII Stream Format Manual,
+/// Release 6).
 pub(crate) fn short(payload: &[u8]) -> i16
     requires { length payload.now ≡ 2 }
     ensures { result ≡ short payload.now }
@@ -13,7 +14,7 @@ pub(crate) fn short(payload: &[u8]) -> i16
     i16::from_be_bytes([payload[0], payload[1]])
 }
 
-/// Two bytes as bits.
+/// Two bytes as a bit array.
 pub(crate) fn bits(payload: &[u8]) -> u16
     requires { length payload.now ≡ 2 }
     ensures { result ≡ bits payload.now }
@@ -21,7 +22,7 @@ pub(crate) fn bits(payload: &[u8]) -> u16
     u16::from_be_bytes([payload[0], payload[1]])
 }
 
-/// A number of four bytes.
+/// A number of four bytes, the highest first, in two's complement.
 pub(crate) fn long(bytes: &[u8]) -> i32
     requires { length bytes.now ≡ 4 }
     ensures { result ≡ long bytes.now }
@@ -29,7 +30,7 @@ pub(crate) fn long(bytes: &[u8]) -> i32
     i32::from_be_bytes([bytes[0], bytes[1], bytes[2], bytes[3]])
 }
 
-/// A point of eight bytes.
+/// A point: x and y, of four bytes each.
 pub(crate) fn point(bytes: &[u8]) -> Point
     requires { length bytes.now ≡ 8 }
     ensures value { result ≡ point bytes.now }
@@ -42,7 +43,7 @@ pub(crate) fn point(bytes: &[u8]) -> Point
     }
 }
 
-/// The points of a payload, of eight bytes each.
+/// All points of a payload, of eight bytes each.
 pub(crate) fn points(alloc: Global, payload: &[u8]) -> Result<Vec<Point>, AllocError>
     ensures { IfOk result (λ ps. ps.items ≡ points payload.now) }
 {
@@ -56,8 +57,7 @@ pub(crate) fn points(alloc: Global, payload: &[u8]) -> Result<Vec<Point>, AllocE
     Ok(points)
 }
 
-/// The name that a STRNAME or an SNAME spells: without the zero byte that fills it, where it ends
-/// with one.
+/// The name in a STRNAME or an SNAME, without the zero byte that may pad it.
 pub fn name(payload: &[u8]) -> &[u8]
     ensures { result.now ≡ name payload.now }
 {
@@ -75,7 +75,7 @@ pub(crate) fn point_count(payload: &[u8]) -> usize
     payload.len() / 8
 }
 
-/// The point at a place of a payload.
+/// The point of a payload at an index from 0.
 pub(crate) fn point_at(payload: &[u8], k: usize) -> Point
     requires { 8 * k + 8 ≤ length payload.now }
     ensures value { result ≡ nth (points payload.now) k }

@@ -23,7 +23,7 @@ use Rattle.gds_library.proofs.Elements.{opens_none}
 use Rattle.gds_library.proofs.Pieces.{IsPiece, map-snoc, map_on_last, pieces-snoc, opener_piece, structure_piece}
 use Rattle.gds_library.proofs.Pieces.{field_past, piece_lacks}
 
--- what records mean, with one more that is outside of elements
+-- the shapes of an element stay the same with one more record that is outside of elements
 shapes_same : (piece : List Rec) (r : Rec) → IsOutside r.kind → shapes_of (piece ++ r ∷ []) ≡ shapes_of piece
 shapes_same [] r o = rw ((opens_none r.kind o.opens).boundary, (opens_none r.kind o.opens).path) refl
 shapes_same (x ∷ xs) r o =
@@ -61,7 +61,7 @@ rings_append : (xs ys : List (PlainShape Figure)) → map in_rings (xs ++ ys) �
 rings_append [] ys = refl
 rings_append (x ∷ xs) ys = ap (λ l. in_rings x ∷ l) (rings_append xs ys)
 
--- a structure's cell as it is kept
+-- the cell of a structure as it is kept
 cell_from : List ℕ → List (PlainShape Figure) → List PlainReference → KeptCell
 cell_from n shapes references = record { name = name n; shapes = map in_rings shapes; references = references }
 

@@ -1,4 +1,4 @@
--- How an element is among the records of a structure: where it begins, and where it ends.
+-- Where an element begins and ends among the records of a structure.
 use Rattle.std.proofs.Common.{◌≡◌, ◌==◌, ◌||◌, ◌⊎◌, ℕ, Bool, true, false, List, [], ◌∷◌, ◌++◌, Some, refl, sym, ap, ◌∙◌}
 use Rattle.std.proofs.Common.{subst, append_assoc, inl, inr}
 use Rattle.std.proofs.lemmas.List.{append-nil}
@@ -42,11 +42,11 @@ opens_at false k w e h =
     let z : after_first an_element k ≡ [] = rw (n.boundary, n.path, n.sref, n.aref, n.text) refl in
     absurd (subst (λ l. IsWordOfOne l w) z (first_taken an_element k w h))
 
--- an element begins with an opener
+-- an element begins with a type that opens one
 pub begins_open : (k : ℕ) (w : List ℕ) → Begins an_element (k ∷ w) → opens k ≡ true
 begins_open k w (more, h) = opens_at (opens k) k (w ++ more) refl h
 
--- types that go on to an element, and are none yet
+-- types that begin an element and aren't a complete one
 pub record IsOpen (p : List ℕ) : Type 0 where
   pub first : ℕ
   pub rest : List ℕ
@@ -73,7 +73,7 @@ reading_open e piece h =
     let o = state_opened e.state piece h in
     open_by o.0 piece o.1 (reading_begins e piece h) (reading_unfinished e piece h)
 
--- of two beginnings of a list one is the beginning of the other
+-- if two lists begin the same list, one of them begins the other
 comparable : (a b x y : List ℕ) → a ++ x ≡ b ++ y
     → ((t : List ℕ) × (b ≡ a ++ t) × (x ≡ t ++ y)) ⊎ ((t : List ℕ) × (a ≡ b ++ t) × (y ≡ t ++ x))
 comparable [] b x y e = inl (b, refl, e)
@@ -90,7 +90,7 @@ left_nil : (t m : List ℕ) → t ++ m ≡ [] → t ≡ []
 left_nil [] m e = refl
 left_nil (i ∷ t) m e = cc
 
--- one more element before the end of a structure
+-- an element followed by the end of a structure
 pub join_element : (a w : List ℕ) → IsWord an_element a → IsWord to_end_of_structure w
     → IsWord to_end_of_structure (a ++ w)
 join_element a w x h = (
@@ -102,7 +102,7 @@ join_element a w x h = (
       ∙ sym (append_assoc a h.0 h.1),
 )
 
--- a list that begins with an opener goes on to the end of a structure by an element
+-- if a type that opens an element comes next in a structure, so does an element
 first_element : (k : ℕ) (w : List ℕ) → opens k ≡ true → IsWord to_end_of_structure (k ∷ w)
     → (x y : List ℕ) × IsWord an_element x × IsWord to_end_of_structure y × (k ∷ w ≡ x ++ y)
 first_element k w o (u, v, ([], all, e), h, f) =
@@ -119,7 +119,7 @@ first_element k w o (u, v, (x ∷ ws, all, e), h, f) = (
       ∙ append_assoc x (flat_map (λ u. u) ws) v,
 )
 
--- an open element goes on to its end, and then to the end of the structure
+-- what comes after an open element in a structure is the rest of the element, and then the rest of the structure
 pub split_open : (p v : List ℕ) → IsOpen p → IsWord to_end_of_structure (p ++ v)
     → (u w : List ℕ) × (v ≡ u ++ w) × IsWord an_element (p ++ u) × IsWord to_end_of_structure w
 split_open p v o h =
@@ -136,7 +136,7 @@ split_open p v o h =
           (sym (t.1 ∙ ap (λ l. z.0 ++ l) (left_nil t.0 more none) ∙ append-nil z.0)) z.2))
     ]
 
--- after a whole element comes the end of the structure
+-- what comes after a complete element in a structure is the rest of the structure
 pub split_whole : (k : ℕ) (a v : List ℕ) → IsWord an_element (k ∷ a) → IsWord to_end_of_structure ((k ∷ a) ++ v)
     → IsWord to_end_of_structure v
 split_whole k a v w h =
@@ -148,7 +148,7 @@ split_whole k a v w h =
           subst (IsWord to_end_of_structure) (t.2 ∙ ap (λ l. l ++ v) none) z.3)
     ]
 
--- a whole element leads on to the next
+-- after a complete element, the next may come
 leads_past : (b a : List ℕ) (v : List ℕ) → IsWord an_element a → IsWord to_end_of_structure (a ++ v)
     → IsWord to_end_of_structure v
 leads_past b [] v w h = h
@@ -161,7 +161,7 @@ leads_element b a h w v = (
   λ y. subst (IsWord a_library) (sym (append_assoc b a v)) ((h (a ++ v)).1 (join_element a v w y)),
 )
 
--- what begins an element begins a library, after what leads to one
+-- within a structure, the beginning of an element begins a library
 pub begins_inside : (b p : List ℕ) → LeadsTo a_library b (left Elements) → Begins an_element p
     → Begins a_library (b ++ p)
 begins_inside b p h g =
@@ -179,7 +179,7 @@ first_goes p (i ∷ u) w more k n e h =
     let g : i ≡ k = cc in
     (u, subst (IsWord an_element) (ap (λ j. p ++ (j ∷ u)) g ∙ sym (append_assoc p (k ∷ []) u)) h)
 
--- what goes on to a library after an open element goes on to an element
+-- what continues a library in an open element continues the element
 pub open_goes : (b p : List ℕ) (k : ℕ) → LeadsTo a_library b (left Elements) → IsOpen p
     → Begins a_library ((b ++ p) ++ k ∷ []) → Begins an_element (p ++ k ∷ [])
 open_goes b p k h o (more, x) =
@@ -193,7 +193,7 @@ some_left [] w e h =
     (let z : false ≡ true = empty_word to_end_of_structure (subst (IsWord to_end_of_structure) (sym e) h) in cc)
 some_left (i ∷ u) w e h = cc
 
--- where an element is open, the library isn't whole
+-- while an element is open, the library isn't whole
 pub open_unwhole : (b p : List ℕ) → LeadsTo a_library b (left Elements) → IsOpen p → IsWord a_library (b ++ p) → ⊥
 open_unwhole b p h o x =
     let z = split_open p [] o ((h (p ++ [])).0 (subst (λ i. IsWord a_library (b ++ i)) (sym (append-nil p)) x)) in

@@ -1,4 +1,4 @@
--- What is spelled where less is ignored is spelled where more is, and means the same.
+-- A stream that is accepted when less is ignored is accepted when more is, with the same meaning.
 use Rattle.std.proofs.Common.{◌≡◌, ◌==◌, ◌<◌, inl, inr, ℕ, Bool, true, false, if◌then◌else◌, List, [], ◌∷◌, ◌++◌, Some}
 use Rattle.std.proofs.Common.{None, refl, sym, ap, ◌∙◌, subst, arith, length, append_assoc, ◌⊎◌}
 use Rattle.std.proofs.lemmas.List.{append-nil}
@@ -49,7 +49,7 @@ form_right (x ∷ xs) ys k e = go (k == x.kind) (form_right xs ys k) e
     go true more h = (let z : Some x.form ≡ None = h in cc)
     go false more h = more h
 
--- a type that names files and fonts concerns no property
+-- a type that `names` ignores isn't one that `properties` ignores
 apart : (k : ℕ) (f : Form) → form_among name_rows k ≡ Some f → form_among property_rows k ≡ None
 apart k f =
     by_test (λ i. form_among name_rows i ≡ Some f → form_among property_rows i ≡ None) k attrtable (k == attrtable) refl
@@ -59,7 +59,7 @@ apart k f =
     (λ b. by_test (λ i. form_among name_rows i ≡ Some f → form_among property_rows i ≡ None) k propvalue
     (k == propvalue) refl (λ e. (let z : None ≡ Some f = e in cc)) (λ c e. rw (a, b, c) refl)))
 
--- the rows of two sets of which one is within the other
+-- the rows of two sets, of which one is within the other
 grown_rows : (p p' n n' : Bool) (k : ℕ) (f : Form) → (p ≡ true → p' ≡ true) → (n ≡ true → n' ≡ true)
     → form_among ((if p then property_rows else []) ++ (if n then name_rows else [])) k ≡ Some f
     → form_among ((if p' then property_rows else []) ++ (if n' then name_rows else [])) k ≡ Some f
@@ -84,7 +84,7 @@ grown_form : (less more : Ignore) → IsWithin less more → (k : ℕ) (f : Form
 grown_form less more w k f =
     grown_rows less.properties more.properties less.names more.names k f w.properties w.names
 
--- a type of the table that draws or orders isn't ignored
+-- a type that is always read isn't ignored
 known_kept : (p n : Bool) (k : ℕ) → IsKnown k
     → form_among ((if p then property_rows else []) ++ (if n then name_rows else [])) k ≡ None
 known_kept p n k =
@@ -123,14 +123,14 @@ and_left : (a b : Bool) → a && b ≡ true → (a ≡ true) × (b ≡ true)
 and_left true b e = (refl, e)
 and_left false b e = (let z : false ≡ true = e in cc)
 
--- what is ignored still is where more is
+-- what is ignored is ignored when more is
 passed_grows : (less more : Ignore) → IsWithin less more → (r : Rec) → is_passed less r ≡ true → is_passed more r ≡ true
 passed_grows less more w r e =
     let p = and_left (is_ignored less r.kind) _ e in
     let f = some_form (form_among (ignored_rows less) r.kind) p.0 in
     rw (grown_form less more w r.kind f.0 f.1) p.1
 
--- a record that may follow is ignored, or is one that draws or orders, or is a zero byte
+-- a record that may follow is ignored, or of a type that is always read, or a zero byte
 abbrev IsSorted : Ignore → Rec → Type 0
 IsSorted less r = (is_passed less r ≡ true) ⊎ (IsKnown r.kind ⊎ (r ≡ a_fill))
 
@@ -155,7 +155,7 @@ sorted less before r bytes s f = elim s [
     go false e true g none = inr (inl g)
     go false e false g none = absurd (none e g)
 
--- and as such where more is ignored
+-- and stays so when more is ignored
 same_passed : (less more : Ignore) → IsWithin less more → (r : Rec) → IsSorted less r
     → is_passed more r ≡ is_passed less r
 same_passed less more w r s = elim s [
@@ -205,7 +205,7 @@ same_form less more w r bytes s t = elim s [
         go None h = form_right table (ignored_rows less) k h ∙ e ∙ sym (grown_form less more w k f e)
             ∙ sym (form_right table (ignored_rows more) k h)
 
--- where the same records are left, the same may follow
+-- if the same records aren't ignored, the same may follow
 follows_grows : (less more : Ignore) → IsWithin less more → (before : List Rec) (r : Rec)
     → essential more before ≡ essential less before → IsSorted less r → MayFollowBy less before r
     → MayFollowBy more before r
@@ -222,7 +222,7 @@ follows_grows less more w before r same s f = elim f.0 [
       (e.ordered, λ k b. f.1 k (breach_by less before r k e.unpassed e.complete b)))
 ]
 
--- one record more is left in both, or in none
+-- one more record is ignored in both cases, or in neither
 same_more : (less more : Ignore) → IsWithin less more → (before : List Rec) (r : Rec)
     → essential more before ≡ essential less before → IsSorted less r
     → essential more (before ++ r ∷ []) ≡ essential less (before ++ r ∷ [])
@@ -234,7 +234,7 @@ same_more less more w before r same s = go (is_passed less r) refl (same_passed 
     go false e t = essential_kept more before r (t ∙ e) ∙ ap (λ l. l ++ r ∷ []) same
         ∙ sym (essential_kept less before r e)
 
--- the same bytes spell the same records, of which the same are left
+-- the same bytes spell the same records, and the same of them aren't ignored
 pub record Grows (less more : Ignore) (before : List Rec) (bytes : List ℕ) (rs : List Rec) : Type 0 where
   pub spelled : SpellsAll (gds more) before bytes rs
   pub followed : FollowAll (gds more) before rs
@@ -257,7 +257,7 @@ all_grow less more w before (r ∷ rs) bytes same s f =
       same = subst (λ l. essential more l ≡ essential less l) (append_assoc before (r ∷ []) rs) next.same;
     }
 
--- a library that is spelled where less is ignored is spelled where more is
+-- a library that is spelled when less is ignored is spelled when more is
 pub library_grows : (less more : Ignore) → IsWithin less more → (bytes : List ℕ) (cells : List Drawing) (h : GdsHead)
     → SpellsLibrary less bytes cells h → SpellsLibrary more bytes cells h
 library_grows less more w bytes cells h p =

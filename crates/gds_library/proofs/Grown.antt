@@ -1,4 +1,4 @@
--- What one more record does to what a builder shows.
+-- What one more record does to the library of a builder.
 use Rattle.std.proofs.Common.{◌≡◌, ◌==◌, ℕ, Bool, true, false, if◌then◌else◌, List, [], ◌∷◌, ◌++◌, Some, None, refl}
 use Rattle.std.proofs.Common.{sym, ap, ◌∙◌, subst}
 use Rattle.std.specs.Prelude.{Option}
@@ -51,7 +51,7 @@ pub by_kind : (k j : ℕ) (p q : Place) (b b' : Builder) (payload : List ℕ) �
 by_kind k j p q b b' payload e h a =
     subst (λ i. shown_at q b' ≡ grown i payload (shown_at p b)) (sym e) (h (subst (λ i. after p i ≡ Some q) e a))
 
--- a type of records that begin, name or end no structure
+-- a type whose records neither begin nor name nor end a structure
 pub record IsOther (k : ℕ) : Type 0 where
   pub bgnstr : k == 0x05 ≡ false
   pub strname : k == 0x06 ≡ false
@@ -78,7 +78,7 @@ structures_rest k q b b' payload o c true e =
 structures_rest k q b b' payload o c false e =
     (let z : None ≡ Some q = none_some (k == bgnstr) StrName q None o.bgnstr e in cc)
 
--- after such a record as much is shown as before
+-- such a record doesn't change the library so far
 pub shown_other : (k : ℕ) (p q : Place) (b b' : Builder) (payload : List ℕ) → IsOther k → done b' ≡ done b
     → after p k ≡ Some q → shown_at q b' ≡ grown k payload (shown_at p b)
 shown_other k Header q b b' payload o c e =
@@ -97,7 +97,7 @@ shown_other k Elements q b b' payload o c e =
 shown_other k Fill q b b' payload o c e =
     (let z = same_place (k == fill) Fill q e in rw z (other_plain k Fill Fill b b' payload o c))
 
--- what an element draws is last in the open cell
+-- what an element draws is added at the end of the open cell
 pub shown_drawn : (p : Place) (b b' : Builder) (shapes : List KeptShape) (references : List PlainReference)
     → p ≡ Elements → b'.cells ≡ record { cells = b.cells.cells; current = with_drawn shapes references b.cells.current }
     → shown_at p b' ≡ on_last (with_drawn shapes references) (shown_at p b)
@@ -107,7 +107,7 @@ shown_drawn p b b' shapes references e c =
 cell_of : List ℕ → List KeptShape → List PlainReference → KeptCell
 cell_of n s r = record { name = n; shapes = s; references = r }
 
--- one shape more, one reference more, and nothing
+-- one more shape, one more reference, and nothing
 pub one_shape : (c : KeptCell) (s : KeptShape) → with_shape c s ≡ with_drawn (s ∷ []) [] c
 unfolding cell_of
 one_shape c s = ap (λ r. cell_of c.name (c.shapes ++ s ∷ []) r) (sym (append-nil c.references))

@@ -1,4 +1,4 @@
--- GDSII is a grammar: what the laws of streams ask of a format.
+-- GDSII has the properties that the laws of streams need of a format.
 use Rattle.lvl_ignore.specs.declared.ignore.Ignore.{Ignore}
 use Rattle.std.proofs.Common.{◌≡◌, ◌≢◌, ℕ, ◌<◌, ◌≤◌, ◌⊎◌, List, [], ◌∷◌, ◌++◌, length, Err, refl, sym, ap, ◌∙◌, subst}
 use Rattle.std.proofs.Common.{append_assoc, true, false, inl, inr, arith, length-append}
@@ -37,7 +37,7 @@ no_end e = omega (arith, e)
 in_order : (before : List Rec) (r : Rec) → InOrder before r → Begins a_library (kinds before ++ r.kind ∷ [])
 in_order before r g = subst (Begins a_library) (kinds-snoc before r) g
 
--- where a zero byte may come the library is whole
+-- if a zero byte may come, the library is whole
 fill_whole_of : (before : List Rec) → InOrder before a_fill → IsWhole before
 fill_whole_of before g =
     fill_ends a_body endlib fill (kinds before) refl no_end (in_order before a_fill g)
@@ -48,7 +48,7 @@ fill_whole ignore before g = elim g [
   | inr e ↦ fill_whole_of (essential ignore before) e.ordered
 ]
 
--- after a whole library no record may come
+-- after a whole library only zero bytes may come
 whole_alone_of : (before : List Rec) (r : Rec) → IsWhole before → InOrder before r → r.kind ≡ fill
 whole_alone_of before r w g =
     fill_alone a_body endlib fill r.kind (kinds before) refl refl no_end (fill_more a_body endlib fill (kinds before) w)
@@ -80,7 +80,7 @@ same_next ignore before r s a b x y p q f g e = elim p [
   ]
 ]
 
--- no bytes have no fault
+-- an empty list of bytes has no fault
 pub some_bytes : (ignore : Ignore) (room : ℕ) (ys : List ℕ) (f : RecordFault) → step ignore room ys ≡ Err f
     → 0 < length ys
 unfolding step
@@ -97,7 +97,7 @@ wrong_here ignore before room ys (Record f) w = some_bytes ignore room ys f w.2
 wrong_here ignore before room ys AfterEnd w = omega (arith, ap length w.5)
 wrong_here ignore before room ys other w = starts_some ignore room ys w.1 w.2
 
--- what begins alike is the same record
+-- two records that begin the same bytes are the same
 pub starts_same : (ignore : Ignore) (room : ℕ) (ys text : List ℕ) (r s : Rec) → StartsWith ignore room ys r
     → IsSpelling text s.kind s.data_type s.payload → Agree text ys → s ≡ r
 starts_same ignore room ys text r s h p agree =
@@ -114,7 +114,7 @@ stops_record ignore before room ys text s k n w p f agree = elim p [
   | inr i ↦ n (fill_whole ignore before (subst (InOrderBy ignore before) i.0 f.0))
 ]
 
--- where a rule is breached no record may follow
+-- if a rule is breached, no record may follow
 wrong_stops : (ignore : Ignore) (before : List Rec) (room : ℕ) (ys text : List ℕ) (s : Rec) (k : GdsKind)
     → IsWrong ignore before room ys k
     → Spells ignore text s → MayFollowBy ignore before s → Agree text ys → length text ≤ room → ⊥
@@ -140,7 +140,7 @@ wrong_stops ignore before room ys text s Name w p g agree fits =
 wrong_stops ignore before room ys text s TooManyCells w p g agree fits =
     stops_record ignore before room ys text s TooManyCells w.0 (w.1, w.2, w.3) p g agree
 
--- no record is where bytes are cut
+-- bytes that end within a record begin with no record
 cut_none : (ignore : Ignore) (ys text rest : List ℕ) (r : Rec) → IsSpelling text r.kind r.data_type r.payload
     → ys ≡ text ++ rest
     → (length ys < 4) ⊎ IsBegun ignore ys → ⊥

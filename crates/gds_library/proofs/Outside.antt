@@ -1,4 +1,4 @@
--- Types that are outside of elements, and types that carry no value of an element.
+-- Types of records outside of elements, and types whose value no rule of an element tests.
 use Rattle.std.proofs.Common.{◌≡◌, ◌==◌, ◌||◌, ◌<◌, ℕ, true, false, Some, None, refl, arith}
 use Rattle.std.proofs.lemmas.Bool.{or_parts}
 use Rattle.gds_elements.specs.Types.{header, bgnlib, libname, units, endlib, bgnstr, strname, endstr, boundary, path}
@@ -58,7 +58,7 @@ no_value k e =
       pathtype = p9.1;
     }
 
--- a type that opens no element and carries no value of one
+-- a type that opens no element, and whose value no rule of an element tests
 pub record IsOutside (k : ℕ) : Type 0 where
   pub opens : opens k ≡ false
   pub value : is_value k ≡ false
@@ -67,7 +67,7 @@ pub record IsOutside (k : ℕ) : Type 0 where
 outside_by : (k : ℕ) → opens k ≡ false → is_value k ≡ false → IsOutside k
 outside_by k o v = record { opens = o; value = v; no_value = no_value k v }
 
--- what holds of a type where it may come
+-- a property of the types that may come next
 outside_one : (p q : Place) (k j : ℕ) → IsOutside j → (k == j ≡ false → after p k ≡ Some q → IsOutside k)
     → after p k ≡ Some q → IsOutside k
 outside_one p q k j here there = by_test (λ i. after p i ≡ Some q → IsOutside i) k j (k == j) refl (λ e. here) there
@@ -92,7 +92,7 @@ outside_after Elements q k =
 outside_after Fill q k =
     outside_one Fill q k fill (outside_by fill refl refl) (λ a e. (let z : None ≡ Some q = rw a at e in cc))
 
--- a type that may come is known
+-- a type that may come next is known
 known_one : (p q : Place) (k j : ℕ) → (j < 60 → IsKnown j) → (k == j ≡ false → k < 60 → after p k ≡ Some q → IsKnown k)
     → k < 60 → after p k ≡ Some q → IsKnown k
 known_one p q k j here there =
@@ -112,7 +112,7 @@ known_after Elements q k =
 known_after Fill q k =
     known_one Fill q k fill (λ l. absurd (omega arith)) (λ a l e. (let z : None ≡ Some q = rw a at e in cc))
 
--- an opener carries no value, and is known
+-- a type that opens an element is known, and no rule of an element tests its value
 pub record IsOpener (k : ℕ) : Type 0 where
   pub known : IsKnown k
   pub value : is_value k ≡ false

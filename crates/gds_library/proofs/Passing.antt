@@ -22,7 +22,7 @@ use Rattle.gds_library.specs.declared.fault.GdsKind.TheVariants.{Record, Misplac
 use Rattle.gds_library.specs.declared.fault.GdsKind.TheVariants.{TooManyCells}
 use Rattle.gds_library.proofs.Spellings.{a_fill}
 
--- one ignored record more leaves the others as they are
+-- one more ignored record doesn't change the others
 pub essential_passed : (ignore : Ignore) (rs : List Rec) (r : Rec) → is_passed ignore r ≡ true
     → essential ignore (rs ++ r ∷ []) ≡ essential ignore rs
 essential_passed ignore [] r e = rw e refl
@@ -34,7 +34,7 @@ pushed : (b : Bool) (x r : Rec) (l : List Rec)
 pushed true x r l = refl
 pushed false x r l = refl
 
--- another is one more of them
+-- one more record of another kind is added to them
 pub essential_kept : (ignore : Ignore) (rs : List Rec) (r : Rec) → is_passed ignore r ≡ false
     → essential ignore (rs ++ r ∷ []) ≡ essential ignore rs ++ r ∷ []
 essential_kept ignore [] r e = rw e refl
@@ -42,7 +42,7 @@ essential_kept ignore (x ∷ xs) r e =
     ap (λ l. if is_passed ignore x then l else x ∷ l) (essential_kept ignore xs r e)
     ∙ pushed (is_passed ignore x) x r (essential ignore xs)
 
--- the last record's type
+-- the type of the last record
 pub last_type-snoc : (rs : List Rec) (r : Rec) → last_type (rs ++ r ∷ []) ≡ Some r.kind
 last_type-snoc [] r = refl
 last_type-snoc (x ∷ []) r = refl
@@ -59,14 +59,14 @@ unpassed_by false false = refl
 pub fill_unpassed : (ignore : Ignore) → is_passed ignore a_fill ≡ false
 fill_unpassed ignore = rw (unpassed_by ignore.properties ignore.names) refl
 
--- nor does it wait for a value
+-- nor does a PROPVALUE have to come after it
 pub fill_waits : (rs : List Rec) → AwaitsValue (rs ++ a_fill ∷ []) → ⊥
 fill_waits rs w =
     let e : Some a_fill.kind ≡ Some propattr = sym (last_type-snoc rs a_fill) ∙ w in
     let k : a_fill.kind ≡ propattr = cc in
     omega (arith, k)
 
--- a record that is ignored breaches no other rule than that of its place
+-- an ignored record can only breach the rule of order
 passed_only : (ignore : Ignore) (before : List Rec) (r : Rec) (k : GdsKind) → is_passed ignore r ≡ true
     → BreachesBy ignore before r k → (m : Misplacement) × (k ≡ Misplaced m) × IsMisplacedBy ignore before r m
 passed_only ignore before r (Misplaced m) e b = (m, refl, b)
@@ -77,7 +77,7 @@ misplaced_not : (ignore : Ignore) (before : List Rec) (r : Rec) (m : Misplacemen
 misplaced_not ignore before r (Unexpected j) o k x = x.2 o
 misplaced_not ignore before r (Unsupported j) o k x = x.2 k
 
--- it may follow where it may come
+-- it may follow if it is in order
 pub follows_passed : (ignore : Ignore) (before : List Rec) (r : Rec) → is_passed ignore r ≡ true
     → MayPass ignore before r → MayFollowBy ignore before r
 follows_passed ignore before r e p =
@@ -91,7 +91,7 @@ unexpected : (ignore : Ignore) (before : List Rec) (r : Rec) (m : Misplacement) 
 unexpected ignore before r (Unexpected j) k x = ap (λ (i : ℕ). Unexpected i) (sym x.0)
 unexpected ignore before r (Unsupported j) k x = absurd (x.2 k)
 
--- and is refused where it may not, by that rule alone
+-- if not, it is refused by that rule alone
 pub refuses_passed : (ignore : Ignore) (before : List Rec) (r : Rec) → is_passed ignore r ≡ true
     → (MayPass ignore before r → ⊥)
     → BreachesBy ignore before r (Misplaced (Unexpected r.kind))
@@ -143,7 +143,7 @@ breach_back ignore before r (Misplaced (Unsupported j)) e c b = (
 )
 breach_back ignore before r other e c b = b.2
 
--- a record that isn't ignored may follow where it may without those that are
+-- a record that isn't ignored may follow if it may do so after the others that aren't ignored
 pub follows_essential : (ignore : Ignore) (before : List Rec) (r : Rec) → is_passed ignore r ≡ false
     → (AwaitsValue before → ⊥) → MayFollow (essential ignore before) r → MayFollowBy ignore before r
 follows_essential ignore before r e c f = (
@@ -197,7 +197,7 @@ waiting_only ignore before r m (Misplaced n) e w x b =
     ap (λ (i : Misplacement). Misplaced i) (one_misplaced ignore before r m n e x b)
 waiting_only ignore before r m other e w x b = absurd (b.1 w)
 
--- where a PROPVALUE is missing, another record is refused for its place alone
+-- if a PROPVALUE is missing, any other record is refused by the rule of order alone
 pub refuses_waiting : (ignore : Ignore) (before : List Rec) (r : Rec) (m : Misplacement) → is_passed ignore r ≡ false
     → AwaitsValue before → IsMisplacement r.kind m → r.kind < 60
     → BreachesBy ignore before r (Misplaced m) × BreachesOnlyBy ignore before r (Misplaced m)
@@ -206,7 +206,7 @@ refuses_waiting ignore before r m e w x l = (
   λ k b. waiting_only ignore before r m k e w x b,
 )
 
--- a PROPATTR that isn't ignored may not follow
+-- a PROPATTR that isn't ignored is never in order
 pub never_waits : (es : List Rec) (r : Rec) → MayFollow es r → r.kind ≡ propattr → ⊥
 never_waits es r f e =
     f.1 (Misplaced (Unsupported propattr)) (e, omega arith, λ k. (let z : false ≡ true = k in cc))

@@ -1,4 +1,4 @@
--- Pieces of a list that grows.
+-- Pieces of a growing list.
 use Rattle.std.proofs.Common.{◌≡◌, ◌==◌, ℕ, Bool, true, false, if◌then◌else◌, List, [], ◌∷◌, ◌++◌, map, inl, inr, refl}
 use Rattle.std.proofs.Common.{sym, ap, ◌∙◌, subst, append_assoc}
 use Rattle.std.proofs.lemmas.List.{append-nil}
@@ -50,7 +50,7 @@ until_all_at test x xs y h true t e = (let z : (x ∷ until test xs) ∷ pieces 
 until_all_at test x xs y h false t e =
     rw t (ap (λ l. x ∷ l) (h (rw t at e)) ∙ if_ap (λ l. x ∷ l) (test y) xs (xs ++ y ∷ []))
 
--- up to the first that passes the test, with one item more
+-- what comes before the first element that passes the test, with one more element
 until_stop : {A : Type 0} (test : A → Bool) (xs : List A) (y : A) (p : List A) (ps : List (List A))
     → pieces test xs ≡ p ∷ ps → until test (xs ++ y ∷ []) ≡ until test xs
 until_stop test [] y p ps e = cc
@@ -67,7 +67,7 @@ until_none_at : {A : Type 0} (test : A → Bool) (x : A) (xs : List A) → (piec
 until_none_at test x xs h true t e = (let z : (x ∷ until test xs) ∷ pieces test xs ≡ [] = rw t at e in cc)
 until_none_at test x xs h false t e = rw t (ap (λ l. x ∷ l) (h (rw t at e)))
 
--- where no item passes the test, none stops
+-- if no element passes the test, all come before the first that does
 until_none : {A : Type 0} (test : A → Bool) (xs : List A) → pieces test xs ≡ [] → until test xs ≡ xs
 until_none test [] e = refl
 until_none test (x ∷ xs) e = until_none_at test x xs (until_none test xs) (test x) refl e
@@ -80,7 +80,7 @@ by_last : {A : Type 0} (b : Bool) (test : A → Bool) (x : A) (xs : List A) (y :
 by_last true test x xs y u n h = rw (u, n, h) refl
 by_last false test x xs y u n h = rw (u, n, h) refl
 
--- the piece that begins at x takes the item where no other piece begins after it
+-- the piece that begins at x takes the new element, if no other piece begins after it
 last_grown : {A : Type 0} (test : A → Bool) (x : A) (xs : List A) (y : A) (ps : List (List A)) → pieces test xs ≡ ps
     → pieces test (xs ++ y ∷ []) ≡ (if test y then ps ++ (y ∷ []) ∷ [] else on_last (λ p. p ++ y ∷ []) ps)
     → (x ∷ until test (xs ++ y ∷ [])) ∷ pieces test
@@ -118,7 +118,7 @@ on_last_twice f g h e (x ∷ []) = ap (λ i. i ∷ []) (e x)
 on_last_twice f g h e (x ∷ y ∷ []) = ap (λ l. x ∷ l) (on_last_twice f g h e (y ∷ []))
 on_last_twice f g h e (x ∷ y ∷ z ∷ zs) = ap (λ l. x ∷ l) (on_last_twice f g h e (y ∷ z ∷ zs))
 
--- items that don't pass the test go to the last piece
+-- elements that don't pass the test go to the last piece
 pub pieces_within : {A : Type 0} (test : A → Bool) (xs ys : List A) → AllByRecursion (λ y. test y ≡ false) ys
     → pieces test (xs ++ ys) ≡ on_last (λ p. p ++ ys) (pieces test xs)
 pieces_within test xs [] h =
@@ -129,7 +129,7 @@ pieces_within test xs (y ∷ ys) h =
     ∙ on_last_twice (λ p. p ++ y ∷ []) (λ p. p ++ ys) (λ p. p ++ (y ∷ ys)) (λ p. append_assoc p (y ∷ []) ys)
     (pieces test xs)
 
--- an item that passes it begins a piece
+-- an element that passes it begins a piece
 pub pieces_next : {A : Type 0} (test : A → Bool) (xs : List A) (y : A) (ys : List A) → test y ≡ true
     → AllByRecursion (λ y. test y ≡ false) ys → pieces test (xs ++ (y ∷ ys)) ≡ pieces test xs ++ (y ∷ ys) ∷ []
 pieces_next test xs y ys t h =
@@ -178,7 +178,7 @@ unlike_at false k j e h = e
 pub unlike : (k j : ℕ) → (k ≡ j → ⊥) → k == j ≡ false
 unlike k j h = unlike_at (k == j) k j refl h
 
--- a type that is in no element is in none of its records
+-- a type that no element has isn't among its records
 pub piece_lacks : (piece : List Rec) (j : ℕ) → IsPiece piece → opens j ≡ false → has after_opener j ≡ false
     → AllByRecursion (λ r. r.kind == j ≡ false) piece
 piece_lacks piece j p o n =
@@ -190,7 +190,7 @@ piece_lacks piece j p o n =
     (subst (λ i. Stands i (kinds p.rest)) e s))) in
     subst (AllByRecursion (λ r. r.kind == j ≡ false)) (sym p.parts) (first, rest)
 
--- an element's records are a piece by its opener
+-- the records of an element are the last piece by their opener
 pub opener_piece : (before piece : List Rec) → IsPiece piece
     → pieces is_opener (before ++ piece) ≡ pieces is_opener before ++ piece ∷ []
 opener_piece before piece p =
@@ -203,12 +203,12 @@ pub last_opened : (before piece : List Rec) → IsPiece piece → last_piece is_
 last_opened before piece p =
     ap last_list (opener_piece before piece p) ∙ last_list-append (pieces is_opener before) piece
 
--- and are in the last structure
+-- and are within the last structure
 pub structure_piece : (before piece : List Rec) → IsPiece piece
     → pieces (is_type bgnstr) (before ++ piece) ≡ on_last (λ s. s ++ piece) (pieces (is_type bgnstr) before)
 structure_piece before piece p = pieces_within (is_type bgnstr) before piece (piece_lacks piece bgnstr p refl refl)
 
--- what is looked up after records that lack a type
+-- records of other types don't change what is looked up
 pub field_past : (j : ℕ) (rs ys : List Rec) → AllByRecursion (λ r. r.kind == j ≡ false) ys
     → field j (rs ++ ys) ≡ field j rs
 field_past j rs [] h = ap (field j) (append-nil rs)

@@ -1,4 +1,4 @@
--- What a whole reading and a refusal say of every reading.
+-- What a library that was read, and a refusal, say about every reading of the bytes.
 use Rattle.lvl_ignore.specs.declared.ignore.Ignore.{Ignore}
 use Rattle.std.proofs.Common.{◌≡◌, ℕ, List, [], Some, None, sym, ap, ◌∙◌, subst, Result, Ok, Err, IfErr}
 use Rattle.std.specs.Prelude.{Option}
@@ -24,13 +24,13 @@ use Rattle.gds_library.specs.declared.fault.GdsKind.{GdsKind}
 use Rattle.gds_library.specs.declared.fault.GdsKind.TheVariants.{Record}
 use Rattle.gds_library.proofs.Instance.{is_grammar}
 
--- what is left of a reader with no bytes in hand
+-- if no bytes are in hand, the reader has all that are left
 pub none_in_hand : (hand : List ℕ) (remaining left : Option (List ℕ)) → left ≡ prepend_known hand remaining → hand ≡ []
     → left ≡ remaining
 none_in_hand hand None left e h = e
 none_in_hand hand (Some ys) left e h = rw h at e
 
--- bytes spell one library at most
+-- bytes spell at most one library
 pub law_only : (ignore : Ignore) (xs : List ℕ) (cells ds : List Drawing) (h g : GdsHead)
     → SpellsLibrary ignore xs cells h
     → SpellsLibrary ignore xs ds g → (ds ≡ cells) × (g ≡ h)
@@ -40,7 +40,7 @@ law_only ignore xs cells ds h g p q =
       q.head_is ∙ ap (λ l. head (essential ignore l)) e ∙ sym p.head_is,
     )
 
--- where there is no whole file no library is spelled
+-- if the bytes aren't a whole file, they spell no library
 none_spelled : (ignore : Ignore) (xs : List ℕ) → SpellsNothing (gds ignore) xs → SpellsNone ignore xs
 none_spelled ignore xs n cells h p = n p.records p.whole
 
@@ -73,7 +73,7 @@ unread_at : (ignore : Ignore) (xs : List ℕ) (left : Option (List ℕ)) (at : �
 unread_at ignore xs left at (Record Read) x e = x
 unread_at ignore xs left at other x e = absurd e
 
--- of an answer
+-- the same for a result
 refused : (ignore : Ignore) {A : Type 0} (xs : List ℕ) (left : Option (List ℕ)) (P : GdsFault → Type 0)
     → ((f : GdsFault) → Refuses ignore xs left f → P f) → (r : Result A (Cause GdsFault))
     → IfErr r (λ e. Says e (Refuses ignore xs left)) → IfErr r (λ e. Says e P)
@@ -108,7 +108,7 @@ refused_unread : (ignore : Ignore) {A : Type 0} (xs : List ℕ) (left : Option (
 refused_unread ignore xs left = refused ignore xs left (ReportsUnread ignore xs left)
     (λ f x. unread_at ignore xs left f.offset f.kind x)
 
--- of the bytes that are left in the end
+-- the same for the bytes that are left in the end
 pub unread_left : (ignore : Ignore) {A : Type 0} (xs : List ℕ) (left left' : Option (List ℕ))
     (r : Result A (Cause GdsFault))
     → IfErr r (λ e. Says e (Refuses ignore xs left)) → left ≡ left'

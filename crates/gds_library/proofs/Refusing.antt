@@ -1,4 +1,4 @@
--- Why a record is refused outside of elements: the one rule that it breaches.
+-- Why a record outside of elements is refused: the one rule that it breaches.
 use Rattle.std.proofs.Common.{◌≡◌, ◌==◌, ℕ, ◌<◌, ◌≤◌, ◌⊎◌, true, false, List, [], ◌∷◌, ◌++◌, length, Some, None, map}
 use Rattle.std.proofs.Common.{refl, sym, ap, ◌∙◌, subst, inl, inr, arith, length-append}
 use Rattle.std.specs.Prelude.{◌≢◌, Option}
@@ -41,13 +41,13 @@ length-map f (x ∷ xs) = omega (arith, length-map f xs)
 pub kept_many : (rs : List Rec) → length (kept figure_rings (drawings rs)) ≡ length (pieces (is_type bgnstr) rs)
 kept_many rs = length-map (drawn figure_rings) (drawings rs) ∙ length-map drawing (pieces (is_type bgnstr) rs)
 
--- as many cells are shown as were read, and one more where one is open
+-- the library so far has the complete cells, and at most one more
 shown_many : (p : Place) (b : Builder) → length b.cells.cells ≤ length (shown_at p b)
 shown_many StrName b = omega (arith, length-append {A = KeptCell})
 shown_many Elements b = omega (arith, length-append {A = KeptCell})
 shown_many _ b = omega arith
 
--- where a cell may begin, as many are shown as were read
+-- if a cell may begin, the library so far has the complete cells only
 pub cells_shown : (p q : Place) (b : Builder) → after p bgnstr ≡ Some q → length (shown_at p b) ≡ length b.cells.cells
 cells_shown Structures q b e = refl
 cells_shown _ q b e = cc
@@ -60,17 +60,17 @@ stands_at b rs r (Some q) h e n =
     (leads_begins (kinds rs ++ r.kind ∷ []) q (leads_on (kinds rs) b.place q r.kind h.leads
     (λ _. (outside_after b.place q r.kind e).opens) e))
 
--- where the place has a place after the record, it may come there
+-- if the table has a place after the record, the record may come next
 stands : (b : Builder) (rs : List Rec) (r : Rec) → Holds b rs → after b.place r.kind ≢ None → InOrder rs r
 stands b rs r h n = stands_at b rs r (after b.place r.kind) h refl n
 
--- where it has none, it may not
+-- if it has none, the record may not
 nowhere : (b : Builder) (rs : List Rec) (r : Rec) → Holds b rs → OpensNothing b.place r.kind
     → after b.place r.kind ≡ None → InOrder rs r → ⊥
 nowhere b rs r h o e g =
     leads_nowhere (kinds rs) b.place r.kind h.leads o e (subst (Begins a_library) (kinds-snoc rs r) g)
 
--- what is a fault at a place breaches a rule after the records that lead there
+-- a fault by the table is a breach after the records that lead there
 pub law_fault : (b : Builder) (rs : List Rec) (r : Rec) (f : GdsKind) → Holds b rs → OpensNothing b.place r.kind
     → r.kind < 60 → IsFault b.place (length b.cells.cells) r.kind r.payload f → Breaches rs r f
 law_fault b rs r (Record f) h o l x = absurd x
@@ -89,16 +89,16 @@ known_at : (b : Builder) (rs : List Rec) (r : Rec) (t : Option Place) → Holds 
 known_at b rs r None h o l g e = absurd (nowhere b rs r h o e g)
 known_at b rs r (Some q) h o l g e = known_after b.place q r.kind l e
 
--- what may come is known
+-- a record that may come next is of a known type
 order_known : (b : Builder) (rs : List Rec) (r : Rec) → Holds b rs → OpensNothing b.place r.kind → r.kind < 60
     → InOrder rs r → IsKnown r.kind
 order_known b rs r h o l g = known_at b rs r (after b.place r.kind) h o l g refl
 
--- a type that carries no value of an element breaches no rule of one
+-- a record breaches no rule of an element if none tests its type
 pub no_rule : (piece : List Rec) (r : Rec) (k : ElementRule) → is_value r.kind ≡ false → ValueBreaches piece r k → ⊥
 no_rule piece r k v x = (let z : true ≡ false = sym (value_breaches piece r k x) ∙ v in cc)
 
--- a record that may not come breaches no other rule
+-- a record that may not come next breaches no other rule
 misplaced_only : (rs : List Rec) (r : Rec) (m : Misplacement) → (InOrder rs r → ⊥) → IsMisplacedAs (InOrder rs r) r m
     → BreachesOnly rs r (Misplaced m)
 misplaced_only rs r m n x (Record f) y = absurd y
@@ -109,7 +109,7 @@ misplaced_only rs r m n x Name y = absurd (n y.0)
 misplaced_only rs r m n x AfterEnd y = absurd y
 misplaced_only rs r m n x TooManyCells y = absurd (n y.0)
 
--- one that may come, and carries no value of an element, breaches the rule of names or that of their number
+-- one that may come next, and whose value no rule of an element tests, can only breach Name and TooManyCells
 one_value : (rs : List Rec) (r : Rec) → is_value r.kind ≡ false → InOrder rs r → IsKnown r.kind → (k : GdsKind)
     → Breaches rs r k → ((k ≡ Name) × (r.kind ≡ strname)) ⊎ ((k ≡ TooManyCells) × (r.kind ≡ bgnstr))
 one_value rs r v g i (Record f) x = absurd x
@@ -132,7 +132,7 @@ value_only : (b : Builder) (rs : List Rec) (r : Rec) → Holds b rs → OpensNot
     → (k : GdsKind) → Breaches rs r k → ((k ≡ Name) × (r.kind ≡ strname)) ⊎ ((k ≡ TooManyCells) × (r.kind ≡ bgnstr))
 value_only b rs r h o l n = value_at b rs r (after b.place r.kind) h o l refl n
 
--- what is a fault at a place is the only one
+-- a fault by the table is the only breach
 law_only : (b : Builder) (rs : List Rec) (r : Rec) (f : GdsKind) → Holds b rs → OpensNothing b.place r.kind
     → r.kind < 60 → IsFault b.place (length b.cells.cells) r.kind r.payload f → BreachesOnly rs r f
 law_only b rs r (Record f) h o l x = absurd x

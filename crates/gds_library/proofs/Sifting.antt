@@ -1,4 +1,4 @@
--- One record more of a stream in which some are ignored.
+-- One more record of a stream in which some are ignored.
 use Rattle.std.proofs.Common.{◌≡◌, ◌≢◌, ◌<◌, inl, inr, ℕ, Bool, true, false, List, [], ◌∷◌, ◌++◌, Some, refl, sym, ap}
 use Rattle.std.proofs.Common.{◌∙◌, subst}
 use Rattle.std.specs.Prelude.{◌↔◌, IsTrue, Result, Ok, Err, IsErr, IsErrAnd}
@@ -19,7 +19,7 @@ use Rattle.gds_library.proofs.Passing.{essential_passed, essential_kept, last_ty
 use Rattle.gds_library.proofs.Passing.{follows_essential, says_essential}
 use Rattle.gds_library.proofs.Streams.{has_unwhole}
 
--- a PROPATTR comes just where ENDEL may
+-- an ignored PROPATTR may come exactly where ENDEL may, if no PROPVALUE is missing
 pub passes_end : (ignore : Ignore) (x : WithIgnored) (rs : List Rec) (r : Rec) (t : Bool) → HasReadBy ignore x rs
     → x.reading.builder.place ≢ Fill → r.kind ≡ propattr → (AwaitsValue rs → ⊥)
     → (IsTrue t ↔ InOrder (essential ignore rs) an_end) → IsTrue t ↔ MayPass ignore rs r
@@ -31,7 +31,7 @@ passes_end ignore x rs r t h p e w o = (
   ],
 )
 
--- an ignored record of another type comes just after its predecessors
+-- an ignored record of another type may come exactly after those that the syntax allows before it
 pub passes_after : (ignore : Ignore) (x : WithIgnored) (rs : List Rec) (r : Rec) (t : Bool) (j : ℕ)
     → HasReadBy ignore x rs → x.reading.builder.place ≢ Fill → (r.kind ≡ propattr → ⊥) → x.last ≡ Some j
     → t ≡ comes_after r.kind j → IsTrue t ↔ MayPass ignore rs r

@@ -1,4 +1,4 @@
--- Spellings: a record has one, and bytes spell one record where they begin alike.
+-- A record has one spelling, and bytes begin with the spelling of at most one record.
 use Rattle.lvl_ignore.specs.declared.ignore.Ignore.{Ignore}
 use Rattle.std.proofs.Common.{◌≡◌, ℕ, ◌<◌, List, [], ◌∷◌, ◌++◌, length, take, refl, sym, ap, ◌∙◌, inl, inr, arith}
 use Rattle.std.proofs.Math.Seq.{take-append_seam}
@@ -20,7 +20,7 @@ same_record r s a b c =
     ∙ ap (λ (d : ℕ). let x : Rec = record { kind = s.kind; data_type = d; payload = r.payload } in x) b
     ∙ ap (λ (p : List ℕ). let x : Rec = record { kind = s.kind; data_type = s.data_type; payload = p } in x) c
 
--- two records that are spelled by bytes with a common beginning are the same
+-- two records whose spellings begin the same bytes are the same
 pub one_record : (a b x y : List ℕ) (r s : Rec) → IsSpelling a r.kind r.data_type r.payload
     → IsSpelling b s.kind s.data_type s.payload → a ++ x ≡ b ++ y → r ≡ s
 one_record a b x y r s p q e =

@@ -1,4 +1,4 @@
--- A whole file, computed by the definitions: the 168 bytes of a square of ten steps spell one library and no other.
+-- A whole file, by the definitions: the 168 bytes of a square of ten steps spell one library and no other.
 use Rattle.std.proofs.Common.{◌≡◌, ◌==◌, ℕ, ◌≤◌, ◌%◌, false, List, [], ◌∷◌, ◌++◌, length, take, drop, All}
 use Rattle.std.proofs.Common.{◌+◌, Some, true, nat_lt, nat_le, pos, inl, inr, refl, arith}
 use Rattle.std.specs.List.{AllByRecursion, flat_map}
@@ -37,7 +37,7 @@ use Rattle.gds_library.proofs.Refusing.{is_not}
 use Rattle.gds_library.proofs.Steps.{may_follow, may_follow_inside}
 use Rattle.gds_library.proofs.Vectors.{rec, accepted}
 
--- twelve numbers of two bytes, which are all 0
+-- twelve numbers of two bytes, all of them 0
 abbrev dates : List ℕ
 dates = 0 ∷ 0 ∷ 0 ∷ 0 ∷ 0 ∷ 0 ∷ 0 ∷ 0 ∷ 0 ∷ 0 ∷ 0 ∷ 0 ∷ 0 ∷ 0 ∷ 0 ∷ 0 ∷ 0 ∷ 0 ∷ 0 ∷ 0 ∷ 0 ∷ 0 ∷ 0 ∷ 0 ∷ []
 
@@ -77,7 +77,7 @@ square =
     ∷ rec 0x06 6 (0x54 ∷ 0x4F ∷ 0x50 ∷ 0 ∷ []) ∷ rec 0x08 0 [] ∷ rec 0x0D 2 (0 ∷ 1 ∷ []) ∷ rec 0x0E 2 (0 ∷ 0 ∷ [])
     ∷ rec 0x10 3 corners ∷ rec 0x11 0 [] ∷ rec 0x07 0 [] ∷ rec 0x04 0 [] ∷ []
 
--- a record of fewer than 256 bytes, as the table allows it
+-- a record of fewer than 256 bytes with an allowed form
 record IsShort (r : Rec) : Type 0 where
   few : nat_lt (4 + length r.payload) 256 ≡ true
   even : (4 + length r.payload) % 2 ≡ 0
@@ -161,7 +161,7 @@ spelled = all_spelled [] square short_heads
 word : IsWord a_library (kinds square)
 word = elim (accepted (a_library ∷ []) (kinds square) refl) [ inl x ↦ x | inr y ↦ absurd y ]
 
--- a record that carries no value of an element, and neither begins nor names a structure
+-- a record whose value no rule of an element tests, and which neither begins nor names a structure
 plain : (n : ℕ) (before : List Rec) (r : Rec) → is_value r.kind ≡ false → IsKnown r.kind → r.kind == strname ≡ false
     → r.kind == bgnstr ≡ false → IsWord a_library (kinds (before ++ r ∷ []) ++ kinds (drop n square))
     → MayFollow before r
@@ -178,7 +178,7 @@ inside : (n : ℕ) (before piece : List Rec) (r : Rec) → last_piece is_opener 
 inside n before piece r e o s b g v w =
     may_follow_inside before piece r e (allowed piece r g v) g (kinds (drop n square), w) s b
 
--- where nothing is ignored, what may follow does
+-- if nothing is ignored, what may follow is what may follow among the essential records
 follows : (before : List Rec) (r : Rec) → MayFollow (essential nothing before) r → (AwaitsValue before → ⊥)
     → MayFollowBy nothing before r
 follows before r f w = follows_essential nothing before r refl w f

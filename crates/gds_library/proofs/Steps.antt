@@ -1,4 +1,4 @@
--- One record more, or one more element, after a front.
+-- One more record, or one more element, after a front.
 use Rattle.std.proofs.Common.{◌≡◌, ◌==◌, ℕ, ◌<◌, ℤ, Bool, true, false, if◌then◌else◌, List, [], ◌∷◌, ◌++◌, length, Some}
 use Rattle.std.proofs.Common.{None, map, refl, sym, ap, ◌∙◌, subst, arith, append_assoc}
 use Rattle.std.specs.List.{AllByRecursion}
@@ -57,7 +57,7 @@ use Rattle.gds_library.proofs.Grown.{same_place, none_some}
 use Rattle.gds_library.proofs.Spellings.{a_fill, map-append}
 use Rattle.gds_library.proofs.Refusing.{kept_many, cells_shown, is_not, no_rule}
 
--- a record that carries no value of an element may follow where the order, its name and the number of cells allow it
+-- a record whose value no rule of an element tests may follow if the order, its name and the number of cells allow it
 pub may_follow : (rs : List Rec) (r : Rec) → is_value r.kind ≡ false → InOrder rs r → (r.kind < 60 → IsKnown r.kind)
     → (r.kind ≡ strname → IsName (name r.payload))
     → (r.kind ≡ bgnstr → length (pieces (is_type bgnstr) rs) < cell_limit) → MayFollow rs r
@@ -72,7 +72,7 @@ may_follow rs r v g i m c = (g, none)
     none AfterEnd x = x
     none TooManyCells x = omega (arith, x.2, c x.1)
 
--- a record of an element may follow where it breaches none of the element's rules
+-- a record of an element may follow if it breaches no rule of the element
 pub may_follow_inside : (rs piece : List Rec) (r : Rec) → last_piece is_opener rs ≡ piece → KeepsElement piece r
     → InOrderInElement piece r → InOrder rs r → r.kind == strname ≡ false → r.kind == bgnstr ≡ false → MayFollow rs r
 may_follow_inside rs piece r e n o g s b = (g, none)
@@ -86,7 +86,7 @@ may_follow_inside rs piece r e n o g s b = (g, none)
     none AfterEnd x = x
     none TooManyCells x = is_not r.kind bgnstr b x.1
 
--- a record may come in an open element just where it may come among the records
+-- a record may come next in an open element exactly if it may come next in the library
 order_inside : (before piece : List Rec) (r : Rec) → LeadsTo a_library (kinds before) (left Elements)
     → InOrderInElement piece r → InOrder (before ++ piece) r
 order_inside before piece r h g =
@@ -100,7 +100,7 @@ order_element before piece r h o g =
     (subst (Begins a_library) (kinds-snoc (before ++ piece) r ∙ ap (λ l. l ++ r.kind ∷ []) (map-append before piece))
     g))
 
--- a record that breaches a rule of the open element breaches a rule
+-- a record that breaches a rule of the open element breaches a rule of the library
 breach_inside : (before piece : List Rec) (r : Rec) (f : ElementFault)
     → LeadsTo a_library (kinds before) (left Elements) → IsOpen (kinds piece) → IsPiece piece
     → ElementBreaches piece r f → Breaches (before ++ piece) r (lifted f)
@@ -130,7 +130,7 @@ never_inside before piece r j h o p g a b e =
     } in
     is_not r.kind j (last_lacks piece r j more a b) e
 
--- and only where it breaches one
+-- and conversely
 breach_back : (before piece : List Rec) (r : Rec) (k : GdsKind) → LeadsTo a_library (kinds before) (left Elements)
     → IsOpen (kinds piece) → IsPiece piece → Breaches (before ++ piece) r k
     → (f : ElementFault) × (k ≡ lifted f) × ElementBreaches piece r f
@@ -172,7 +172,7 @@ says_lifted : (b : Builder) (e : OpenElement) (rs : List Rec) (r : Rec) (f : Cau
 says_lifted b e rs r (Breach k) i x only = breaches_both b e rs r k i x only
 says_lifted b e rs r OutOfMemory i x only = tt
 
--- a record that its element refuses is refused
+-- a record that its element refuses is refused in the library
 pub says_inside : (b : Builder) (e : OpenElement) (rs : List Rec) (r : Rec) (f : Cause ElementFault)
     (g : Cause GdsKind) (i : IsInside b e rs)
     → g ≡ lifted_refusal f → Says f (ElementBreaches i.piece r) → Says f (OnlyInElement i.piece r)
@@ -181,11 +181,11 @@ says_inside b e rs r f g i h x only =
     subst (λ (j : Cause GdsKind). Says j (λ k. Breaches rs r k × BreachesOnly rs r k)) (sym h)
     (says_lifted b e rs r f i x only)
 
--- what a builder holds is read where no element is open
+-- a builder has read the records, if no element is open
 pub none_open : (b : Builder) (e : Option OpenElement) (rs : List Rec) → e ≡ None → Holds b rs → HoldsWith e b rs
 none_open b e rs none h = subst (λ (o : Option OpenElement). HoldsWith o b rs) (sym none) h
 
--- what is refused with the same refusal
+-- a refusal that is passed on
 pub takes_refused : {A : Type 0} (rs : List Rec) (r : Rec) (x : Reading) (res : Result A (Cause GdsKind))
     (e : Cause GdsKind) → IsErr res × IsErrAnd res (λ f. f ≡ e)
     → Says e (λ k. Breaches rs r k × BreachesOnly rs r k) → Takes rs r x res
@@ -193,7 +193,7 @@ takes_refused rs r x (Ok v) e h b = absurd h.1
 takes_refused rs r x (Err f) e h b =
     subst (λ (i : Cause GdsKind). Says i (λ k. Breaches rs r k × BreachesOnly rs r k)) (sym h.1) b
 
--- what is known of the units at a place is known before, unless they are there
+-- if UNITS comes before the place after another record, it comes before that record
 units_before : (p q : Place) (k : ℕ) → after p k ≡ Some q → k == units ≡ false → has_units q ≡ true → has_units p ≡ true
 units_before Header q k e n h =
     (let z : has_units BgnLib ≡ true = subst (λ i. has_units i ≡ true) (same_place (k == header) BgnLib q e) h in cc)
@@ -209,12 +209,12 @@ units_kept : (t : Bool) (p x y : List ℕ) (old new : List (List ℕ)) → new �
 units_kept true p x y old new e h f = e ∙ ap two_reals (sym f)
 units_kept false p x y old new e h f = e ∙ h refl ∙ ap two_reals (sym f)
 
--- what a record leaves in the head of a builder
+-- what a record does to the head of a builder
 pub record KeepsHead (b b' : Builder) (k : ℕ) (payload : List ℕ) : Type 0 where
   pub version : b'.version ≡ (if k == header then short payload else b.version)
   pub units : b'.units ≡ (if k == units then two_reals payload else b.units)
 
--- a record outside of elements that may come leads on
+-- a record outside of elements that may come next leads to the next place
 pub law_holds : (b b' : Builder) (rs : List Rec) (r : Rec) → Holds b rs → after b.place r.kind ≡ Some b'.place
     → shown b' ≡ grown r.kind r.payload (shown b) → KeepsHead b b' r.kind r.payload → Holds b' (rs ++ r ∷ [])
 law_holds b b' rs r h e s k =
@@ -238,13 +238,13 @@ law_allowed b b' rs r h h' l e a =
     (λ k. (let n = cells_shown b.place b'.place b (subst (λ i. after b.place i ≡ Some b'.place) k e) in
     omega (arith, a.cells k, n, ap (λ ds. length ds) h.shown, kept_many rs)))
 
--- a zero byte after the end breaches no rule
+-- a zero byte after ENDLIB breaches no rule
 pub law_fill : (rs : List Rec) → Begins a_library (kinds (rs ++ a_fill ∷ [])) → MayFollow rs a_fill
 law_fill rs g =
     may_follow rs a_fill (outside_after Fill Fill fill refl).value g (λ l. absurd (omega (arith, l)))
     (λ e. absurd (omega (arith, e))) (λ e. absurd (omega (arith, e)))
 
--- a builder that has read the records of whole elements alone, and those after them
+-- a builder after the records of one more complete element
 law_element : (b b' : Builder) (before piece : List Rec) (d : Drawn) → Holds b before → b.place ≡ Elements
     → IsWord an_element (kinds piece) → IsDrawn d piece → b'.place ≡ b.place → b'.version ≡ b.version
     → b'.units ≡ b.units
@@ -267,7 +267,7 @@ law_element b b' before piece d h at w dr p v u s =
           ∙ sym (ap two_reals (field_past units before piece (piece_lacks piece units pc refl refl)));
     }
 
--- what begins with the records of an open element begins a library
+-- the records before and in an open element begin a library
 pub inside_begins : (b : Builder) (e : OpenElement) (rs : List Rec) → IsInside b e rs → Begins a_library (kinds rs)
 inside_begins b e rs i =
     subst (Begins a_library) (sym (ap kinds i.parts ∙ map-append i.before i.piece))
@@ -295,7 +295,7 @@ law_inside b e e' rs r i re n =
           (last_lacks i.piece r bgnstr pc refl refl),
     )
 
--- the record that ends an open element
+-- the ENDEL of an open element
 pub law_whole : (b b' : Builder) (e : OpenElement) (rs : List Rec) (r : Rec) (d : Drawn) (i : IsInside b e rs)
     → IsWord an_element (kinds (i.piece ++ r ∷ [])) × IsDrawn d (i.piece ++ r ∷ []) → KeepsElement i.piece r
     → b'.place ≡ b.place → b'.version ≡ b.version → b'.units ≡ b.units
@@ -334,7 +334,7 @@ law_opens b e rs r h at re =
           (λ z. absurd (is_not r.kind strname o.strname z)) (λ z. absurd (is_not r.kind bgnstr o.bgnstr z)),
     )
 
--- an open element may end just where ENDEL may come among the records
+-- an open element may end exactly if ENDEL may come next in the library
 pub end_inside : (b : Builder) (e : OpenElement) (rs : List Rec) (t : Bool)
     → ((piece : List Rec) → IsReading e piece → IsTrue t ↔ InOrderInElement piece an_end) → IsInside b e rs
     → IsTrue t ↔ InOrder rs an_end
@@ -351,7 +351,7 @@ nowhere_ends : (p : Place) → after p an_end.kind ≡ None
 nowhere_ends Header = refl
 nowhere_ends _ = refl
 
--- where none is open, none ends
+-- if none is open, ENDEL may not come
 pub end_outside : (b : Builder) (rs : List Rec) → Holds b rs → InOrder rs an_end → ⊥
 end_outside b rs h g =
     leads_nowhere (kinds rs) b.place an_end.kind h.leads (λ _. refl) (nowhere_ends b.place)

@@ -1,4 +1,4 @@
--- How a stream is read: record by record, then the zero bytes after the end, or up to what is wrong.
+-- How a stream is read: record by record up to ENDLIB, then the zero bytes after it, or up to a fault.
 use Rattle.lvl_ignore.specs.declared.ignore.Ignore.{Ignore}
 use Rattle.std.proofs.Common.{append_assoc, ◌≡◌, ◌≢◌, ◌⊎◌, ℕ, ◌+◌, ◌-◌, ◌<◌, ◌≤◌, List, [], ◌∷◌, ◌++◌, length, take}
 use Rattle.std.proofs.Common.{drop, Some, None, refl, sym, ap, ◌∙◌, subst, arith, inl, inr, ℤ, pos, zero, suc, true}
@@ -61,7 +61,7 @@ use Rattle.gds_library.proofs.Spellings.{a_fill, map-append}
 use Rattle.gds_library.proofs.Instance.{starts_same}
 use Rattle.gds_library.proofs.Readable.{law_only}
 
--- before the place after the end something has to come
+-- at each place but the last, something has to come
 not_ended : (p : Place) → p ≢ Fill → can_be_empty (left p) ≡ false
 not_ended Fill h = absurd (h refl)
 not_ended _ h = refl
@@ -74,7 +74,7 @@ with_unwhole (Some e) b rs h go w =
     h.holds.leads) (reading_open e h.piece h.reading)
     (subst (IsWord a_library) (ap kinds h.parts ∙ map-append h.before h.piece) w)
 
--- what was read is no whole library before the place after its end
+-- before ENDLIB was read, the library isn't whole
 pub has_unwhole : (ignore : Ignore) (x : WithIgnored) (rs : List Rec) → HasReadBy ignore x rs
     → x.reading.builder.place ≢ Fill → IsWholeBy ignore rs → ⊥
 has_unwhole ignore x rs h go w =
@@ -91,7 +91,7 @@ with_ended : (o : Option OpenElement) (b : Builder) (rs : List Rec) → HoldsWit
 with_ended None b rs h e = h
 with_ended (Some i) b rs h e = (let z : Elements ≡ Fill = sym h.at ∙ e in cc)
 
--- no element is open after the end
+-- after ENDLIB no element is open
 pub reads_end : (ignore : Ignore) (xs : List ℕ) (at : ℕ) (x : WithIgnored) (was : Option (List ℕ))
     → ReadTo (gds ignore) xs at (HasReadBy ignore x) was
     → x.reading.builder.place ≡ Fill → ReadTo (gds ignore) xs at (HoldsBy ignore x.reading.builder) was
@@ -110,7 +110,7 @@ reads_end ignore xs at x was to e =
 same_left : (a b : List ℕ) (was : Option (List ℕ)) → was ≡ Some a → was ≡ Some b → a ≡ b
 same_left a b was e f = (let g : Some a ≡ Some b = sym e ∙ f in cc)
 
--- nothing was read yet
+-- nothing has been read
 pub holds_begin : (b : Builder) → b.place ≡ Header → shown b ≡ [] → b.version ≡ pos 0 → Holds b []
 holds_begin b p s v =
     record {
@@ -120,7 +120,7 @@ holds_begin b p s v =
       units = λ z. (let y : has_units Header ≡ true = subst (λ i. has_units i ≡ true) p z in cc);
     }
 
--- the record that is read begins the bytes
+-- the record that was read begins the bytes
 abbrev starts : (ignore : Ignore) (room : ℕ) (ys : List ℕ) (k : ℕ) (payload : List ℕ)
     (s : IsSpelledAt ignore room ys k payload)
     → StartsWith ignore room ys (record_of k s.0 payload)
@@ -146,7 +146,7 @@ reads_record ignore xs at x x' was left' k payload to s takes e =
     (subst (ReadTo (gds ignore) xs (at + length s.1) (HasReadBy ignore x'))
     (ap (λ (l : List ℕ). Some l) (sym rest) ∙ sym e) next)
 
--- the bytes that are left, in hand and in the reader
+-- the bytes that are left: those in hand, and those of the reader
 record IsLeft (bytes : List ℕ) (hand : List ℕ) (remaining : Option (List ℕ)) : Type 0 where
   rest : List ℕ
   parts : bytes ≡ hand ++ rest
@@ -161,7 +161,7 @@ same_start : (ignore : Ignore) (room : ℕ) (ys : List ℕ) (r s : Rec) → Star
     → StartsWith ignore room ys s → s ≡ r
 same_start ignore room ys r s p q = starts_same ignore room ys q.0 r s p q.3 (q.1, inr q.5)
 
--- a record that begins the bytes, and breaches one rule, is all that is wrong with them
+-- a record that begins the bytes and breaches one rule is the only fault of the bytes
 only_record : (ignore : Ignore) (before : List Rec) (room : ℕ) (ys : List ℕ) (r : Rec) (k : GdsKind)
     → (IsWholeBy ignore before → ⊥)
     → StartsWith ignore room ys r → BreachesOnlyBy ignore before r k → (j : GdsKind) → IsWrong ignore before room ys j
@@ -207,7 +207,7 @@ seen_refuses ignore xs at rest (Record f) o s = absurd o
 seen_refuses ignore xs at rest AfterEnd o s = absurd o
 seen_refuses ignore xs at rest _ o s = s
 
--- where a record is refused
+-- a record is refused
 pub reads_refused : (ignore : Ignore) (xs : List ℕ) (at : ℕ) (x : WithIgnored) (was remaining : Option (List ℕ)) (k : ℕ)
     (payload hand : List ℕ) (f : GdsKind) (to : ReadTo (gds ignore) xs at (HasReadBy ignore x) was)
     → x.reading.builder.place ≢ Fill
@@ -248,7 +248,7 @@ no_start ignore before room ys f e t r s =
     law_malformed ignore room ys f e t r.kind r.data_type r.payload s.0 s.2 s.3
     (omega (arith, s.4, length_spelled s.0 r.payload r.kind r.data_type s.3)) (s.1, inr s.5)
 
--- where no record begins the bytes, that is all that is wrong with them
+-- if no record begins the bytes, that is their only fault
 only_fault : (ignore : Ignore) (before : List Rec) (room : ℕ) (ys : List ℕ) (f : RecordFault)
     → step ignore room ys ≡ Err f → f ≢ Truncated
     → (IsWholeBy ignore before → room ≡ 0) → (j : GdsKind) → IsWrong ignore before room ys j → j ≡ Record f
@@ -282,7 +282,7 @@ seen_fault ignore xs at Has was remaining hand f to t r z said e =
       only = only_fault ignore to.records (file_limit - at) (drop at xs) f all t z;
     }
 
--- where the input ends before the library does
+-- the input ends before ENDLIB
 pub reads_cut : (ignore : Ignore) (xs : List ℕ) (at : ℕ) (x : WithIgnored) (was : Option (List ℕ))
     → ReadTo (gds ignore) xs at (HasReadBy ignore x) was
     → x.reading.builder.place ≢ Fill → (length (drop at xs) < 4) ⊎ IsBegun ignore (drop at xs)
@@ -295,7 +295,7 @@ reads_cut ignore xs at x was to go cut = record {
   cut = cut;
 }
 
--- what a fault of the records says
+-- what a fault of the bytes of a record says
 pub reads_fault : (ignore : Ignore) (xs : List ℕ) (at : ℕ) (x : WithIgnored) (was remaining : Option (List ℕ))
     (hand : List ℕ)
     (f : RecordFault)
@@ -326,7 +326,7 @@ reads_fault ignore xs at x was remaining hand f to go said cut unread e = by f r
     by TooLong i = subst (λ (h : RecordFault). IsSeenWrong (gds ignore) xs at remaining (Record h)) (sym i)
         (known (λ z. (let y : TooLong ≡ Truncated = i ∙ z in cc)) (λ z. (let y : TooLong ≡ Read = i ∙ z in cc)))
 
--- one zero byte more after the end
+-- one more zero byte after ENDLIB
 reads_zero : (ignore : Ignore) (xs : List ℕ) (at : ℕ) (b : Builder) (was : Option (List ℕ)) (rest : List ℕ)
     → ReadTo (gds ignore) xs at (HoldsBy ignore b) was → b.place ≡ Fill → drop at xs ≡ 0 ∷ rest → at + 1 ≤ file_limit
     → ReadTo (gds ignore) xs (at + 1) (HoldsBy ignore b) (Some rest)
@@ -344,7 +344,7 @@ reads_zero ignore xs at b was rest to e here limit =
       complete = λ w. fill_waits to.records w;
     })
 
--- zero bytes after the end
+-- zero bytes after ENDLIB
 reads_zeros : (ignore : Ignore) (n : ℕ) (xs : List ℕ) (at : ℕ) (b : Builder) (was : Option (List ℕ)) (rest : List ℕ)
     → ReadTo (gds ignore) xs at (HoldsBy ignore b) was → b.place ≡ Fill → drop at xs ≡ replicate n 0 ++ rest
     → at + n ≤ file_limit
@@ -414,7 +414,7 @@ only_other ignore before room ys w l (Record f) x = absurd (omega (arith, l, x.3
 only_other ignore before room ys w l AfterEnd x = refl
 only_other ignore before room ys w l _ x = absurd (x.0 w)
 
--- another byte after the end
+-- another byte after ENDLIB
 pub reads_other : (ignore : Ignore) (xs : List ℕ) (at n : ℕ) (b : Builder) (was remaining : Option (List ℕ)) (c : ℕ)
     (rest hand : List ℕ)
     → ReadTo (gds ignore) xs at (HoldsBy ignore b) was → b.place ≡ Fill → drop at xs ≡ replicate n 0 ++ (c ∷ rest)
@@ -441,7 +441,7 @@ reads_other ignore xs at n b was remaining c rest hand to e here other room some
       only = only_other ignore end.records (file_limit - (at + n)) (drop (at + n) xs) w space;
     }
 
--- where the input passes the limit after the end
+-- the input passes the limit after ENDLIB
 pub reads_too_long : (ignore : Ignore) (xs : List ℕ) (at : ℕ) (b : Builder) (was remaining : Option (List ℕ))
     (rest hand : List ℕ)
     → ReadTo (gds ignore) xs at (HoldsBy ignore b) was → b.place ≡ Fill → at ≤ file_limit
@@ -456,7 +456,7 @@ reads_too_long ignore xs at b was remaining rest hand to e limit here said known
     seen_fault ignore xs (at + n) (HoldsBy ignore b) more.0 remaining hand TooLong more.1 (λ z. cc) (λ z. cc)
     (λ w. omega (arith, limit)) said (known ∙ ap (λ (i : List ℕ). Some i) after)
 
--- where the reader failed after the end, all that it gave was taken
+-- the reader failed after ENDLIB, and all that it gave was taken
 pub reads_failed : (ignore : Ignore) (xs : List ℕ) (at n : ℕ) (b : Builder) (was remaining : Option (List ℕ))
     (rest : List ℕ)
     → ReadTo (gds ignore) xs at (HoldsBy ignore b) was → b.place ≡ Fill → drop at xs ≡ replicate n 0 ++ rest
@@ -468,7 +468,7 @@ reads_failed ignore xs at n b was remaining rest to e here room limit left =
     reads_unread (gds ignore) xs (at + n) (HoldsBy ignore b) more.0 remaining more.1 [] (drop (at + n) xs) refl
     (left ∙ ap (λ (i : List ℕ). Some i) after) (λ some. absurd (omega (arith, some)))
 
--- a rule that a record breaches is no failed read
+-- a rule that a record breaches isn't a failed read
 pub breach_no_read : (ignore : Ignore) (before : List Rec) (r : Rec) (k : GdsKind) → BreachesBy ignore before r k
     → is_read_kind k ≡ false
 breach_no_read ignore before r (Record f) b = absurd b.2
@@ -483,7 +483,7 @@ refuses_by ignore xs rest e offset at k h o x =
     subst (λ (i : Cause GdsFault). Says i (Refuses ignore xs rest)) (sym h)
     (subst (λ i. RefusesAt ignore xs rest i k) (sym o) x)
 
--- what a byte after the end says, once `tail` has answered it
+-- what another byte after ENDLIB says, once `tail` has returned its offset
 pub reads_after : (ignore : Ignore) (xs : List ℕ) (at n : ℕ) (b : Builder) (was remaining : Option (List ℕ)) (c : ℕ)
     (rest hand : List ℕ)
     → ReadTo (gds ignore) xs at (HoldsBy ignore b) was → b.place ≡ Fill → drop at xs ≡ replicate n 0 ++ (c ∷ rest)
@@ -494,7 +494,7 @@ pub reads_after : (ignore : Ignore) (xs : List ℕ) (at n : ℕ) (b : Builder) (
 reads_after ignore xs at n b was remaining c rest hand to e here other room some left =
     reads_other ignore xs at n b was remaining c rest hand to e here other room some (left (drop at xs) to.left_is)
 
--- what a fault after the end says
+-- what a fault after ENDLIB says
 pub reads_tail : (ignore : Ignore) (xs : List ℕ) (at new : ℕ) (b : Builder) (was remaining : Option (List ℕ))
     (hand : List ℕ)
     (f : RecordFault)

@@ -1,4 +1,4 @@
--- The definitions at small examples.
+-- The definitions, applied to small examples.
 use Rattle.std.proofs.Common.{◌||◌, ◌≡◌, ℕ, ◌⊎◌, inl, inr, Bool, true, false, List, [], ◌∷◌, refl}
 use Rattle.std.specs.Prelude.{pos, negsuc}
 use Rattle.std.specs.List.{flat_map}
@@ -11,7 +11,7 @@ use Rattle.lvl_grammar.specs.inside.After.{after_first, can_be_empty, IsWordOfOn
 use Rattle.lvl_grammar.proofs.Orders.{first_put, empty_back, of_one-append}
 use Rattle.gds_library.specs.Values.{drawings}
 
--- whether what is left of some orders is a word of one of them
+-- whether the list is a word of one of the orders
 abbrev accepts : List Order → List ℕ → Bool
 accepts [] [] = false
 accepts (a ∷ rs) [] = can_be_empty a || accepts rs []
@@ -34,7 +34,7 @@ put_back (a ∷ rs) k w h = elim (of_one-append (after_first a k) (flat_map (λ 
   | inr y ↦ inr (put_back rs k w y)
 ]
 
--- what is accepted is a word
+-- a list that is accepted is a word
 pub accepted : (rs : List Order) (w : List ℕ) → accepts rs w ≡ true → IsWordOfOne rs w
 accepted rs [] e = one_empty rs e
 accepted rs (k ∷ w) e = put_back rs k w (accepted (flat_map (λ a. after_first a k) rs) w e)
@@ -51,7 +51,7 @@ no_angle_alone = refl
 abbrev pub rec : ℕ → ℕ → List ℕ → Rec
 rec k d p = record { kind = k; data_type = d; payload = p }
 
--- a structure with a path with ends that reach out, a reference reflected and turned, and a text
+-- a structure with a path with square ends, a reference that is reflected and turned, and a text
 abbrev elements : List Rec
 elements =
     rec 0x05 2 [] ∷ rec 0x06 6 (0x41 ∷ 0x42 ∷ []) ∷ rec 0x09 0 [] ∷ rec 0x0D 2 (0 ∷ 3 ∷ []) ∷ rec 0x0E 2

@@ -1,4 +1,4 @@
--- Cells as a stream spells them, cells of figures, and as they are kept, cells of rings.
+-- Cells of figures, as a stream spells them, and cells of rings, as they are kept.
 use Rattle.lvl_path.specs.Figure.{Figure}
 use Rattle.lvl_cells.specs.Cells.{PlainShape, PlainCell, Rings}
 

@@ -1,4 +1,4 @@
--- GDSII as a format of streams of records, and what its files spell.
+-- GDSII (Stream Release 6) as a format of streams of records, and what its files spell.
 use Rattle.std.specs.Prelude.{◌≡◌, ◌≢◌, ℕ, ◌<◌, ◌≤◌, ◌⊎◌, List, ◌∷◌, ◌++◌, length, Err}
 use Rattle.lvl_ignore.specs.declared.ignore.Ignore.{Ignore}
 use Rattle.gds_records.specs.Records.{file_limit}
@@ -18,15 +18,15 @@ use Rattle.gds_library.specs.declared.fault.GdsKind.{GdsKind}
 use Rattle.gds_library.specs.declared.fault.GdsKind.TheVariants.{Record, AfterEnd}
 use Rattle.gds_library.specs.declared.head.GdsHead.{GdsHead}
 
--- the bytes begin with the record, which is within the limit
+-- the bytes begin with the record, and there is room for it
 abbrev pub StartsWith : Ignore → ℕ → List ℕ → Rec → Type 0
 StartsWith ignore room ys r =
     (text rest : List ℕ) × IsRecord ignore r.kind r.data_type r.payload × IsSpelling text r.kind r.data_type r.payload
     × (length text ≤ room) × (ys ≡ text ++ rest)
 
--- what is wrong with the front of the bytes, with room for some of them: the tests of a record, in their order, give
--- the fault, after the whole library only that of the limit; a byte after the whole library isn't zero; or the record
--- breaches the rule
+-- what is wrong at the front of the bytes, with room for some before the limit: a fault that the tests of a record find
+-- in their order (after the whole library only that the limit is passed); a byte after the whole library that isn't
+-- zero; or the next record, which breaches the rule
 abbrev pub IsWrong : Ignore → List Rec → ℕ → List ℕ → GdsKind → Type 0
 IsWrong ignore before room ys (Record f) =
     (f ≢ Truncated) × (f ≢ Read) × (step ignore room ys ≡ Err f) × (IsWholeBy ignore before → room ≡ 0)
@@ -35,8 +35,8 @@ IsWrong ignore before room ys AfterEnd =
 IsWrong ignore before room ys k =
     (¬ IsWholeBy ignore before) × (r : Rec) × StartsWith ignore room ys r × BreachesBy ignore before r k
 
--- a record of GDSII, with some that are ignored; a file is whole with its ENDLIB, after which each zero byte counts
--- as a record
+-- GDSII as a format, with some records ignored: a file is whole from its ENDLIB on, and each zero byte after that
+-- counts as a record
 abbrev pub gds : Ignore → Grammar Rec GdsKind
 gds ignore = record {
   spells = λ before bytes r. Spells ignore bytes r;
@@ -47,8 +47,7 @@ gds ignore = record {
   limit = file_limit;
 }
 
--- the bytes spell a library and a head: they are a whole file, and these are what its records mean, without those
--- that are ignored
+-- the bytes are a whole file, and this library and this head are what its records mean without those that are ignored
 pub record SpellsLibrary (ignore : Ignore) (bytes : List ℕ) (cells : List Drawing) (h : GdsHead) : Type 0 where
   pub records : List Rec
   pub whole : SpellsWhole (gds ignore) bytes records
@@ -59,7 +58,8 @@ pub record SpellsLibrary (ignore : Ignore) (bytes : List ℕ) (cells : List Draw
 abbrev pub SpellsNone : Ignore → List ℕ → Type 0
 SpellsNone ignore xs = (cells : List Drawing) (h : GdsHead) → SpellsLibrary ignore xs cells h → ⊥
 
--- what was read is the one library that the bytes spell, as it is kept, and its head
+-- the bytes spell exactly one library and one head; what was found is that head, and that library with its figures as
+-- rings
 pub record IsRead (ignore : Ignore) (xs : List ℕ) (found : List KeptCell) (h : GdsHead) : Type 0 where
   pub cells : List Drawing
   pub spelled : SpellsLibrary ignore xs cells h

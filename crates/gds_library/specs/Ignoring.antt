@@ -1,5 +1,5 @@
--- Streams with records that are read and ignored (GDSII Stream Format Manual, Release 6, "Stream syntax"): they have
--- the forms of the manual, come only where its syntax has them, and mean nothing.
+-- Records that are read and ignored (GDSII Stream Format Manual, Release 6, "Stream syntax"): they have the manual's
+-- forms, come only where its syntax allows them, and mean nothing.
 use Rattle.std.specs.Prelude.{◌≡◌, ◌≢◌, ◌==◌, ◌&&◌, ◌||◌, ◌⊎◌, ◌<◌, not, ℕ, Bool, true, false, if◌then◌else◌}
 use Rattle.std.specs.Prelude.{List, [], ◌∷◌, Option, Some, None}
 use Rattle.std.specs.Str.{bytes_eq}
@@ -17,11 +17,11 @@ use Rattle.gds_library.specs.Rules.{IsWhole, InOrder, Breaches}
 use Rattle.gds_library.specs.declared.fault.GdsKind.{GdsKind}
 use Rattle.gds_library.specs.declared.fault.GdsKind.TheVariants.{Misplaced}
 
--- the record is read and ignored; a FORMAT that isn't 0 says that the file is no plain archive, so it isn't ignored
+-- whether the record is ignored; a FORMAT other than 0 never is, since such a file isn't a plain archive
 abbrev pub is_passed : Ignore → Rec → Bool
 is_passed ignore r = is_ignored ignore r.kind && (not (r.kind == format) || bytes_eq r.payload (0 ∷ 0 ∷ []))
 
--- the records that are not ignored: a stream means what they mean
+-- the records that aren't ignored, which alone give a stream its meaning
 abbrev pub essential : Ignore → List Rec → List Rec
 essential ignore [] = []
 essential ignore (r ∷ rs) = if is_passed ignore r then essential ignore rs else r ∷ essential ignore rs
@@ -49,38 +49,39 @@ comes_after k j =
     (if k == plex then opens j || (j == elflags) else
     (if k == propvalue then j == propattr else false)))))))))))
 
--- a PROPATTR waits for its PROPVALUE
+-- the last record is a PROPATTR, so a PROPVALUE must come next
 abbrev pub AwaitsValue : List Rec → Type 0
 AwaitsValue before = last_type before ≡ Some propattr
 
--- an ignored record may come there: the library isn't whole, and a PROPATTR comes where ENDEL may, with no other
--- waiting; a record of another type comes directly after a type that the syntax has before it
+-- an ignored record may come next: the library isn't whole, and the record is a PROPATTR where ENDEL may come and no
+-- PROPVALUE is missing, or it comes directly after a type that the syntax allows before it
 pub record MayPass (ignore : Ignore) (before : List Rec) (r : Rec) : Type 0 where
   pub unended : ¬ IsWhole (essential ignore before)
   pub there : ((r.kind ≡ propattr) × ¬ AwaitsValue before × InOrder (essential ignore before) an_end)
       ⊎ ((j : ℕ) × (last_type before ≡ Some j) × (comes_after r.kind j ≡ true))
 
--- another record may come there: no PROPVALUE is missing, and it is in order without those that are ignored
+-- a record that isn't ignored may come next: no PROPVALUE is missing, and the record is in order after the others that
+-- aren't ignored
 pub record MayCome (ignore : Ignore) (before : List Rec) (r : Rec) : Type 0 where
   pub unpassed : is_passed ignore r ≡ false
   pub complete : ¬ AwaitsValue before
   pub ordered : InOrder (essential ignore before) r
 
--- the record may come after the others
+-- the record may come next
 abbrev pub InOrderBy : Ignore → List Rec → Rec → Type 0
 InOrderBy ignore before r = ((is_passed ignore r ≡ true) × MayPass ignore before r) ⊎ MayCome ignore before r
 
--- the record is read, or read and ignored
+-- the record is always read, or ignored
 abbrev pub IsKnownBy : Ignore → Rec → Type 0
 IsKnownBy ignore r = (is_passed ignore r ≡ true) ⊎ IsKnown r.kind
 
--- the record may not come where it is, or isn't read
+-- the record may not come next: it is one that is read or ignored (Unexpected), or it isn't (Unsupported)
 abbrev pub IsMisplacedBy : Ignore → List Rec → Rec → Misplacement → Type 0
 IsMisplacedBy ignore before r (Unexpected k) = (r.kind ≡ k) × IsKnownBy ignore r × ¬ InOrderBy ignore before r
 IsMisplacedBy ignore before r (Unsupported k) = (r.kind ≡ k) × (k < 60) × ¬ IsKnownBy ignore r
 
--- the record breaches the rule: it may not come there, or it isn't ignored, and breaches the rule after the records
--- that aren't
+-- the record breaches the rule: it may not come next; or it isn't ignored, and breaches the rule after the others that
+-- aren't
 abbrev pub BreachesBy : Ignore → List Rec → Rec → GdsKind → Type 0
 BreachesBy ignore before r (Misplaced m) = IsMisplacedBy ignore before r m
 BreachesBy ignore before r k =
@@ -90,10 +91,10 @@ BreachesBy ignore before r k =
 abbrev pub BreachesOnlyBy : Ignore → List Rec → Rec → GdsKind → Type 0
 BreachesOnlyBy ignore before r k = (j : GdsKind) → BreachesBy ignore before r j → j ≡ k
 
--- the record may follow the others: it is in order, and breaches no rule
+-- the record may follow the others: it may come next, and breaches no rule
 abbrev pub MayFollowBy : Ignore → List Rec → Rec → Type 0
 MayFollowBy ignore before r = InOrderBy ignore before r × ((k : GdsKind) → BreachesBy ignore before r k → ⊥)
 
--- the records are a whole library
+-- the records are a whole library, apart from those that are ignored
 abbrev pub IsWholeBy : Ignore → List Rec → Type 0
 IsWholeBy ignore rs = IsWhole (essential ignore rs)

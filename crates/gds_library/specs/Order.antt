@@ -1,4 +1,4 @@
--- The order of records in a library.
+-- The order of records in a library (GDSII Stream Release 6; zero bytes after it: own rule).
 use Rattle.gds_elements.specs.Types.{header, bgnlib, libname, units, endlib, bgnstr, strname, endstr}
 use Rattle.lvl_grammar.specs.Order.{Order, ◌then◌, one, many}
 use Rattle.gds_elements.specs.Order.{an_element}

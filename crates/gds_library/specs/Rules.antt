@@ -1,4 +1,4 @@
--- The rules that a record may breach.
+-- The rules that a record may breach, if no record is ignored.
 use Rattle.std.specs.Prelude.{◌≡◌, ◌≤◌, List, [], ◌∷◌, ◌++◌, length}
 use Rattle.lvl_grammar.specs.Order.{IsWord, Begins}
 use Rattle.gds_elements.specs.Types.{bgnstr, strname}
@@ -17,12 +17,12 @@ use Rattle.gds_library.specs.declared.fault.GdsKind.TheVariants.{TooManyCells}
 abbrev pub IsWhole : List Rec → Type 0
 IsWhole rs = IsWord a_library (kinds rs)
 
--- the record may come after the others
+-- the record may come next
 abbrev pub InOrder : List Rec → Rec → Type 0
 InOrder before r = Begins a_library (kinds (before ++ r ∷ []))
 
--- the record breaches the rule: it may not come there, or what it says, after the records of its element, or of the
--- library, may not
+-- the record breaches the rule: it may not come next; or its payload breaches the rule, after the records of its
+-- element (Element), by itself (Name), or after the structures before it (TooManyCells)
 abbrev pub Breaches : List Rec → Rec → GdsKind → Type 0
 Breaches before r (Record f) = ⊥
 Breaches before r (Misplaced m) = IsMisplacedAs (InOrder before r) r m
@@ -36,6 +36,6 @@ Breaches before r TooManyCells =
 abbrev pub BreachesOnly : List Rec → Rec → GdsKind → Type 0
 BreachesOnly before r k = (j : GdsKind) → Breaches before r j → j ≡ k
 
--- the record may follow the others: it is in order, and breaches no rule
+-- the record may follow the others: it may come next, and breaches no rule
 abbrev pub MayFollow : List Rec → Rec → Type 0
 MayFollow before r = InOrder before r × ((k : GdsKind) → Breaches before r k → ⊥)

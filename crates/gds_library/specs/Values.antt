@@ -1,4 +1,4 @@
--- The library of a list of records.
+-- The library that a list of records means.
 use Rattle.std.specs.Prelude.{ℕ, List, [], ◌∷◌, map, take, drop}
 use Rattle.std.specs.List.{flat_map}
 use Rattle.gds_elements.specs.Types.{header, units, bgnstr, strname}
@@ -9,7 +9,7 @@ use Rattle.gds_library.specs.Drawn.{Drawing}
 use Rattle.gds_library.specs.Rec.{pieces}
 use Rattle.gds_library.specs.declared.head.GdsHead.{GdsHead}
 
--- a cell has its structure's name, and what its elements mean: shapes and references, in the order of the elements
+-- the cell of a structure's records: its name, and the shapes and references of its elements, in their order
 abbrev pub drawing : List Rec → Drawing
 drawing rs = record {
   name = name (field strname rs);
@@ -17,14 +17,14 @@ drawing rs = record {
   references = flat_map references_of (pieces is_opener rs);
 }
 
--- a library has a cell for each structure
+-- the library has a cell for each structure, in their order
 abbrev pub drawings : List Rec → List Drawing
 drawings rs = map drawing (pieces (is_type bgnstr) rs)
 
--- the two reals of the units, of eight bytes each
+-- the two eight-byte reals of UNITS
 abbrev pub two_reals : List ℕ → List (List ℕ)
 two_reals p = take 8 p ∷ drop 8 p ∷ []
 
--- the head is the header's number, and the two reals of the units
+-- the version in HEADER, and the two reals of UNITS
 abbrev pub head : List Rec → GdsHead
 head rs = record { version = short (field header rs); units = two_reals (field units rs) }

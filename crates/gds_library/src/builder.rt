@@ -1,4 +1,4 @@
-//! The library of the records that are outside of elements, and of what elements draw.
+//! Builds the library from the records outside of elements and from what elements draw.
 ghost use Rattle.std.specs.Prelude.{◌≡◌, ◌==◌, if◌then◌else◌, ◌<◌, [], pos, Some, None, IsTrue, ◌↔◌, OnOk, IfOk, IfErr};
 ghost use Rattle.std.specs.Prelude.{length};
 ghost use Rattle.gds_elements.specs.Types.{header, units};
@@ -19,7 +19,7 @@ use lvl_names::{Offsets, is_name};
 use lvl_refusal::Cause;
 use std::alloc::Global;
 
-/// The library so far: where the reader is in the order of records, the head, and the cells.
+/// The library so far: the place in the order of records, the head, and the cells.
 #[derive(Drop)]
 pub(crate) struct Builder {
     place: Place,
@@ -51,14 +51,14 @@ impl Builder {
         self.place == Place::Elements
     }
 
-    /// Whether the library's end was read.
+    /// Whether ENDLIB was read.
     pub(crate) fn is_whole(&self) -> bool
         ensures { IsTrue result ↔ (self.now.place ≡ Place.Fill) }
     {
         self.place == Place::Fill
     }
 
-    /// The cells that were read whole, and the head.
+    /// The complete cells, and the head.
     pub(crate) fn finish(self) -> (Library, GdsHead)
         ensures cells { result.0 ≡ done self }
         ensures head { result.1 ≡ record { version = self.version; units = self.units } }
@@ -72,7 +72,7 @@ impl Builder {
         (cells.finish(), GdsHead { version, units })
     }
 
-    /// Takes the next record, if it opens no element and breaches no rule.
+    /// Takes the next record, unless it opens an element or breaches a rule.
     pub(crate) fn take(
         &mut self,
         alloc: Global,
@@ -115,7 +115,7 @@ impl Builder {
         Ok(())
     }
 
-    /// Adds what an element draws to the open cell.
+    /// Adds what an element draws to the cell that is open. It fails only if it is out of memory.
     pub(crate) fn add(&mut self, drawn: Drawn) -> Result<(), Cause<GdsKind>>
         ensures refused { IfErr result (λ e. e ≡ Cause.OutOfMemory) }
         ensures place { OnOk result (self.new.place ≡ self.old.place) }

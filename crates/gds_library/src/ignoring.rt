@@ -1,4 +1,4 @@
-//! A library that is being read from a stream in which some records are ignored.
+//! Reads a library from a stream in which some records are ignored.
 ghost use Rattle.std.specs.Prelude.{◌≡◌, ◌≢◌, List, ℕ, [], IsTrue, ◌↔◌, true, false};
 ghost use Rattle.gds_elements.specs.Order.{opens};
 ghost use Rattle.gds_elements.specs.Rec.{Rec};
@@ -19,10 +19,10 @@ use lvl_ignore::Ignore;
 use lvl_refusal::Cause;
 use std::alloc::Global;
 
-/// The payload of FORMAT 0, a plain archive.
+/// The payload of FORMAT 0, which is a plain archive.
 const ARCHIVE: [u8; 2] = [0, 0];
 
-/// What was read so far, and the type of the last record, ignored or not.
+/// What was read so far, and the type of the last record, whether it is ignored or not.
 #[derive(Drop)]
 pub(crate) struct WithIgnored {
     ignore: Ignore,
@@ -46,14 +46,14 @@ impl WithIgnored {
         }
     }
 
-    /// Whether the library's end was read.
+    /// Whether ENDLIB was read.
     pub(crate) fn is_whole(&self) -> bool
         ensures { IsTrue result ↔ (self.now.reading.builder.place ≡ Fill) }
     {
         self.reading.is_whole()
     }
 
-    /// The cells that were read whole, and the head.
+    /// The complete cells, and the head.
     pub(crate) fn finish(self) -> (Library, GdsHead)
         ensures cells { result.0 ≡ done self.reading.builder }
         ensures head { result.1 ≡ record {
@@ -64,7 +64,7 @@ impl WithIgnored {
         self.reading.finish()
     }
 
-    /// Takes the next record, if it breaches no rule.
+    /// Takes the next record, unless it breaches a rule.
     pub(crate) fn take(
         &mut self,
         alloc: Global,
@@ -121,7 +121,7 @@ impl WithIgnored {
         Ok(())
     }
 
-    // Whether the last record is a PROPATTR, which waits for its PROPVALUE.
+    // Whether the last record is a PROPATTR, so that a PROPVALUE must come next.
     fn awaits_value(&self) -> bool
         ensures { (ignore : PlainIgnore) (rs : List Rec) → HasReadBy ignore self.now rs
             → IsTrue result ↔ AwaitsValue rs }

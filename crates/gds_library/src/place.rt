@@ -4,7 +4,7 @@ ghost use Rattle.gds_library.specs.inside.Place.{after};
 
 use gds_records::record_type;
 
-/// What the next record may be, named by it.
+/// Which record comes next. If several may, one of them gives the name.
 #[derive(Clone, Copy)]
 pub(crate) enum Place {
     Header,
@@ -18,7 +18,7 @@ pub(crate) enum Place {
 }
 
 impl Place {
-    /// The place after a record of this type, if one may come here and opens no element.
+    /// The place after a record of this type, if it may come here and opens no element.
     pub(crate) fn after(self, kind: u8) -> Option<Place>
         ensures { result ≡ after self kind }
     {

@@ -1,4 +1,4 @@
-//! A library read from records.
+//! Reads a library from a reader.
 ghost use Rattle.std.specs.Prelude.{◌≡◌, ◌≢◌, List, ℕ, OnOk, Some, Err, IfErr, IfOk, false};
 ghost use Rattle.lvl_io.specs.Bytes.{CountsFailure};
 ghost use Rattle.lvl_refusal.specs.Refused.{Says};
@@ -23,77 +23,79 @@ use lvl_io::{Buffer, Read};
 use lvl_refusal::Cause;
 use std::alloc::Global;
 
-/// The library that a GDSII stream spells, and what the stream says of itself.
+/// The library that a GDSII stream spells, and its head. Nothing is ignored.
 ///
-/// The order of records is HEADER BGNLIB LIBNAME UNITS, the structures, ENDLIB, then zero bytes alone
-/// up to the end; a structure is BGNSTR STRNAME, its elements, ENDSTR (GDSII Stream Format Manual,
-/// Release 6; own: the optional records of a library are refused). A cell has what its elements draw
-/// ([`gds_elements::Element`]), in their order, and a name loses one zero byte where it ends with one.
-/// The first record that is missing, malformed or breaches a rule is answered with its offset in
-/// bytes. It is [`read_gds_by`] where nothing is ignored.
+/// The order of records is HEADER BGNLIB LIBNAME UNITS, the structures, ENDLIB, and then only zero bytes up
+/// to the end; a structure is BGNSTR STRNAME, its elements, ENDSTR (GDSII Stream Format Manual, Release 6;
+/// own: the optional records of a library are refused). A cell has what its elements draw
+/// ([`gds_elements::Element`]), in their order. One zero byte at the end of a name is dropped. The first
+/// record that is missing, malformed or breaches a rule is reported with its offset in bytes.
 pub fn read_gds<R: Read>(
     alloc: Global,
     reader: &mut R,
 ) -> Result<(Library, GdsHead), Cause<GdsFault>>
-    // What is read is spelled, and nothing else is.
+    // A library is returned only if the bytes spell it, and they spell no other.
     ensures spelled { (xs : List ℕ) → R.remaining reader.old ≡ Some xs
         → IfOk result (λ read. IsRead nothing xs read.0 read.1) }
 
-    // A refusal names what is wrong, and nothing is spelled, unless an allocation or the reader failed.
+    // A refusal names what is wrong, and the bytes spell no library, unless an allocation or the reader
+    // failed.
     ensures refused { (xs : List ℕ) → R.remaining reader.old ≡ Some xs
         → IfErr result (λ refusal. Says refusal (Reports nothing xs)) }
     ensures none { (xs : List ℕ) → R.remaining reader.old ≡ Some xs
         → IfErr result (λ refusal. Says refusal (λ fault. (¬ IsExcused fault) → SpellsNone nothing xs)) }
 
-    // Where the reader failed, it had given no whole record from the offset on.
+    // If the reader failed, it had given no whole record from the offset on.
     ensures unread { (xs : List ℕ) → R.remaining reader.old ≡ Some xs
         → IfErr result (λ refusal. Says refusal (ReportsUnread nothing xs (R.remaining reader.new))) }
 
-    // Unless the input ended too early, nothing is spelled whatever comes after the bytes taken.
+    // Unless the input ended or the reader failed, no file that begins with the bytes taken spells
+    // a library.
     ensures early { (xs : List ℕ) → R.remaining reader.old ≡ Some xs
         → IfErr result (λ refusal. Says refusal (λ fault. IsEarly fault
         → IsHopeless (gds nothing) xs (R.remaining reader.new))) }
 
-    // The reader failed once where `Read` is reported, and else never.
+    // The reader failed exactly once if `Read` is reported, and otherwise never.
     ensures reads { CountsFailure (R.read_errors reader.old) (R.read_errors reader.new) (is_read result) }
     ensures same { R.lent reader.new ≡ R.lent reader.old }
 {
     read_gds_by(alloc, reader, Ignore::NOTHING)
 }
 
-/// The library that a GDSII stream spells where some records are ignored, and what the stream says of
-/// itself.
+/// The library that a GDSII stream spells, and its head, with some records ignored.
 ///
-/// An ignored record has the data type and a length of its type, and comes where the manual's stream
-/// syntax has it: `names` are LIBDIRSIZE, SRFNAME and LIBSECUR before LIBNAME; REFLIBS, FONTS,
-/// GENERATIONS and FORMAT 0 before UNITS; STRCLASS after STRNAME; and ELFLAGS and PLEX after the record
-/// that opens an element. `properties` are ATTRTABLE before GENERATIONS, and pairs of PROPATTR and
-/// PROPVALUE before ENDEL. All else is as in [`read_gds`].
+/// An ignored record has the data type and a length that the manual gives its type, and comes where the
+/// manual's stream syntax allows it. `names` are LIBDIRSIZE, SRFNAME and LIBSECUR before LIBNAME; REFLIBS,
+/// FONTS, GENERATIONS and FORMAT 0 before UNITS; STRCLASS after STRNAME; and ELFLAGS and PLEX after the
+/// record that opens an element. `properties` are ATTRTABLE before GENERATIONS, and pairs of PROPATTR and
+/// PROPVALUE before ENDEL. Everything else is as in [`read_gds`].
 pub fn read_gds_by<R: Read>(
     alloc: Global,
     reader: &mut R,
     ignore: Ignore,
 ) -> Result<(Library, GdsHead), Cause<GdsFault>>
-    // What is read is spelled, and nothing else is.
+    // A library is returned only if the bytes spell it, and they spell no other.
     ensures spelled { (xs : List ℕ) → R.remaining reader.old ≡ Some xs
         → IfOk result (λ read. IsRead ignore xs read.0 read.1) }
 
-    // A refusal names what is wrong, and nothing is spelled, unless an allocation or the reader failed.
+    // A refusal names what is wrong, and the bytes spell no library, unless an allocation or the reader
+    // failed.
     ensures refused { (xs : List ℕ) → R.remaining reader.old ≡ Some xs
         → IfErr result (λ refusal. Says refusal (Reports ignore xs)) }
     ensures none { (xs : List ℕ) → R.remaining reader.old ≡ Some xs
         → IfErr result (λ refusal. Says refusal (λ fault. (¬ IsExcused fault) → SpellsNone ignore xs)) }
 
-    // Where the reader failed, it had given no whole record from the offset on.
+    // If the reader failed, it had given no whole record from the offset on.
     ensures unread { (xs : List ℕ) → R.remaining reader.old ≡ Some xs
         → IfErr result (λ refusal. Says refusal (ReportsUnread ignore xs (R.remaining reader.new))) }
 
-    // Unless the input ended too early, nothing is spelled whatever comes after the bytes taken.
+    // Unless the input ended or the reader failed, no file that begins with the bytes taken spells
+    // a library.
     ensures early { (xs : List ℕ) → R.remaining reader.old ≡ Some xs
         → IfErr result (λ refusal. Says refusal (λ fault. IsEarly fault
         → IsHopeless (gds ignore) xs (R.remaining reader.new))) }
 
-    // The reader failed once where `Read` is reported, and else never.
+    // The reader failed exactly once if `Read` is reported, and otherwise never.
     ensures reads { CountsFailure (R.read_errors reader.old) (R.read_errors reader.new) (is_read result) }
     ensures same { R.lent reader.new ≡ R.lent reader.old }
 {
@@ -136,7 +138,7 @@ fn refuse(offset: u64, kind: GdsKind) -> Cause<GdsFault>
     Cause::Breach(GdsFault { offset, kind })
 }
 
-// Reads records up to the one that ends the library.
+// Reads records up to ENDLIB.
 fn read_all<R: Read>(
     alloc: Global,
     records: &mut Records<R>,

@@ -1,4 +1,4 @@
-//! A library that is being read, record by record.
+//! Reads a library, record by record.
 ghost use Rattle.std.specs.Prelude.{◌≡◌, List, ℕ, [], None, IsTrue, ◌↔◌};
 ghost use Rattle.gds_elements.specs.Rec.{Rec, an_end};
 ghost use Rattle.gds_library.specs.Rules.{InOrder};
@@ -15,7 +15,7 @@ use lvl_cells::Library;
 use lvl_refusal::Cause;
 use std::alloc::Global;
 
-/// What was read so far: a library, and the element that is open in its last cell.
+/// What was read so far: a library, and the open element of its last cell.
 #[derive(Drop)]
 pub(crate) struct Reading {
     builder: Builder,
@@ -36,14 +36,14 @@ impl Reading {
         }
     }
 
-    /// Whether the library's end was read.
+    /// Whether ENDLIB was read.
     pub(crate) fn is_whole(&self) -> bool
         ensures { IsTrue result ↔ (self.now.builder.place ≡ Fill) }
     {
         self.builder.is_whole()
     }
 
-    /// The cells that were read whole, and the head.
+    /// The complete cells, and the head.
     pub(crate) fn finish(self) -> (Library, GdsHead)
         ensures cells { result.0 ≡ done self.builder }
         ensures head { result.1 ≡ record { version = self.builder.version; units = self.builder.units } }
@@ -61,7 +61,7 @@ impl Reading {
         }
     }
 
-    /// Takes the next record, if it breaches no rule.
+    /// Takes the next record, unless it breaches a rule.
     pub(crate) fn take(
         &mut self,
         alloc: Global,
@@ -105,7 +105,7 @@ impl Reading {
         }
     }
 
-    // Takes a record where no element is open.
+    // Takes a record when no element is open.
     fn take_outside(
         &mut self,
         alloc: Global,
@@ -128,7 +128,7 @@ impl Reading {
     }
 }
 
-// A refusal of an element's record, as one of the library's.
+// The refusal of a record of an element, as one of the library.
 fn lifted(refusal: Cause<ElementFault>) -> Cause<GdsKind>
     ensures { result ≡ lifted_refusal refusal }
 {

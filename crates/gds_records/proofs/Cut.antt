@@ -1,4 +1,4 @@
--- Where the bytes end in a record: `Truncated` is answered there, and only there.
+-- The bytes end within a record if and only if `Truncated` is returned.
 use Rattle.lvl_ignore.specs.declared.ignore.Ignore.{Ignore}
 use Rattle.std.proofs.Common.{◌≡◌, ◌≢◌, ◌==◌, ℕ, ◌+◌, ◌*◌, ◌-◌, ◌<◌, ◌≤◌, ◌⊎◌, inl, inr, Bool, true, false, cond}
 use Rattle.std.proofs.Common.{nat_le, nat_lt, ◌&&◌, ◌||◌, ◌%◌, List, ◌++◌, length, drop, slice_index, Result, Ok, Err}
@@ -52,7 +52,7 @@ header_whole ignore xs e =
     unless_truncated (header_fault ignore len (slice_index xs 2) (slice_index xs 3)) len
     (of_header ignore len (slice_index xs 2) (slice_index xs 3)) e
 
--- where `Truncated` came from
+-- where `Truncated` comes from
 
 bind_err : {A B : Type 0} (r : Result A RecordFault) (f : A → Result B RecordFault) (g : RecordFault)
     → (r >>= f) ≡ Err g
@@ -80,7 +80,7 @@ header_stands room xs e is h long =
     let w = want_truncated 4 room xs (h (λ r. let k : Truncated ≡ Read = sym is ∙ r in cc) ∙ ap Err is) in
     omega arith
 
--- a header that has no fault, and less than its payload
+-- a header without a fault, and less than its payload
 begun : (ignore : Ignore) (n : ℕ) (xs : List ℕ) → header ignore xs ≡ Ok n → HasByteLength xs → 4 ≤ length xs
     → length xs < n → IsBegun ignore xs
 begun ignore n xs e bytes long short =
@@ -114,14 +114,14 @@ pub few_unfinished : (ignore : Ignore) (room : ℕ) (hand : List ℕ) → length
     → IsUnfinished ignore room hand
 few_unfinished ignore room hand few fits = (fits, λ some. (some, inl few))
 
--- a header in hand that has no fault, and less than its payload
+-- a header in hand without a fault, and less than its payload
 pub cut_unfinished : (ignore : Ignore) (n room : ℕ) (hand : List ℕ) → header ignore hand ≡ Ok n → HasByteLength hand
     → 4 ≤ length hand
     → length hand < n → length hand ≤ room → IsUnfinished ignore room hand
 cut_unfinished ignore n room hand e bytes long few fits =
     (fits, λ some. (some, inr (begun ignore n hand e bytes long few)))
 
--- `Truncated` comes only where all bytes left are the beginning of a record
+-- `Truncated` is returned only if all bytes left are the beginning of a record
 pub law_truncated : (ignore : Ignore) (room : ℕ) (xs : List ℕ) → step ignore room xs ≡ Err Truncated
     → (4 ≤ length xs → HasByteLength xs)
     → (length xs ≤ room) × IsCut ignore xs
@@ -142,7 +142,7 @@ law_truncated ignore room xs e bytes = elim (cases_Bool (nat_le 1 (length xs))) 
       ]
 ]
 
--- and there it comes
+-- and if they are, it is returned
 pub law_cut : (ignore : Ignore) (room : ℕ) (xs : List ℕ) → length xs ≤ room → IsCut ignore xs
     → step ignore room xs ≡ Err Truncated
 law_cut ignore room xs fits cut =

@@ -1,4 +1,4 @@
--- Zero bytes at the front: how far they go, and that they add up while more bytes are read.
+-- Zero bytes at the front: how many there are, and that the numbers add up while more bytes are read.
 use Rattle.std.proofs.Common.{◌≡◌, ◌≢◌, ◌==◌, ℕ, zero, suc, ◌+◌, ◌<◌, ◌≤◌, inl, inr, Bool, true, false, cond, nat_le}
 use Rattle.std.proofs.Common.{List, [], ◌∷◌, ◌++◌, length, drop, Some, refl, sym, ap, ◌∙◌, subst, arith, append_assoc}
 use Rattle.std.proofs.Common.{one-add, length-append}
@@ -14,7 +14,7 @@ use Rattle.lvl_io.proofs.Known.{known_parts}
 use Rattle.gds_records.specs.declared.zeros.After.{After}
 use Rattle.gds_records.specs.declared.zeros.After.TheVariants.{Nothing, Another, Limit}
 
--- as many as there are at the front, or fewer, are split off
+-- a number of zero bytes at the front, at most all of them, are split off
 pub zeros_front : (n : ℕ) (xs : List ℕ) → n ≤ prefix_len (λ b. b == 0) xs → xs ≡ replicate n 0 ++ drop n xs
 zeros_front zero xs h = refl
 zeros_front (suc n) [] h = absurd (omega arith)
@@ -28,7 +28,7 @@ zeros_front (suc n) (x ∷ xs) h = elim (cases_Bool (x == 0)) [
   | inr other ↦ absurd (let h2 : suc n ≤ 0 = (rw other at h) in omega arith)
 ]
 
--- after all of them no zero byte is first
+-- after all of them, the next byte isn't zero
 pub zeros_stop : (xs : List ℕ) → IsNoZeroFirst (drop (prefix_len (λ b. b == 0) xs) xs)
 zeros_stop [] = tt
 zeros_stop (x ∷ xs) = stop_at (x == 0) x xs refl (zeros_stop xs)
@@ -46,7 +46,7 @@ Takes n old new = (xs : List ℕ) → old ≡ Some xs → (left : List ℕ) × (
 pub takes_read : (n : ℕ) (a b c : Option (List ℕ)) → Takes n a b → Stays b c → Takes n a c
 takes_read n a b c t s = λ xs k. let p = t xs k in (p.0, s p.0 p.1, p.2)
 
--- m more that were ahead
+-- m more zero bytes, which were ahead
 pub takes_more : (n m : ℕ) (a rest : Option (List ℕ)) (old new : List ℕ) → Takes n a (prepend_known old rest)
     → old ≡ replicate m 0 ++ new
     → Takes (n + m) a (prepend_known new rest)
@@ -103,7 +103,7 @@ takes_too_long n room a rest ahead t some is = λ xs k.
     let q = known_parts ahead rest p.0 p.1 in
     (p.0, p.1, p.2, (is, omega (arith, ap length q.2, length-append ahead q.0)))
 
--- zero bytes up to the limit and beyond leave one answer
+-- if the bytes pass the limit after zero bytes, only one result is possible
 
 other_within : (n room b : ℕ) (rest more : List ℕ) → n < room → b ≢ 0
     → replicate n 0 ++ (b ∷ rest) ≡ replicate room 0 ++ more → ⊥
@@ -113,7 +113,7 @@ other_within (suc n) (suc room) b rest more less ne e =
     other_within n room b rest more (omega arith) ne
     (let k : 0 ∷ (replicate n 0 ++ (b ∷ rest)) ≡ 0 ∷ (replicate room 0 ++ more) = e in cc)
 
--- where the bytes pass the limit and those within it are zero, zero bytes don't stop before it
+-- then zero bytes don't stop before the limit
 pub nothing_passes : (a : After) (n room : ℕ) (old new : Option (List ℕ)) (xs : List ℕ) → a ≡ Nothing
     → TakesZeros a n room old new → old ≡ Some xs → n ≤ room → PassesLimit room xs → ⊥
 nothing_passes a n room old new xs e t k fits p =

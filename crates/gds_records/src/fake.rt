@@ -9,7 +9,7 @@ pub const ONE: [u8; 8] = [0x41, 0x10, 0, 0, 0, 0, 0, 0];
 /// The corners of 0..10 by 0..10, the first again at the end.
 pub const SQUARE: [(i32, i32); 5] = [(0, 0), (10, 0), (10, 10), (0, 10), (0, 0)];
 
-/// A stream to which records are appended. Whether they are in order is the caller's matter.
+/// A stream to which records are appended, in any order.
 #[derive(Drop)]
 pub struct Stream {
     alloc: Global,
@@ -76,7 +76,7 @@ impl Stream {
         self.end_element()
     }
 
-    /// A boundary on 1/0 along these corners, with the first again at its end.
+    /// A boundary on 1/0 along these corners, with the first repeated at the end.
     pub fn ring(&mut self, corners: &[(i32, i32)]) -> Result<(), AllocError> {
         let mut points = Vec::from_slice(self.alloc, corners)?;
         points.extend_from_slice(corners.get(..1).unwrap_or(&[]))?;

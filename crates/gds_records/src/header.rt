@@ -1,4 +1,4 @@
-//! What the four bytes of a header say: a length, a record type and a data type.
+//! The four bytes of a header: a length, a record type and a data type.
 ghost use Rattle.std.specs.Prelude.{◌≡◌, ◌<◌, ◌≤◌, IfOk, length, false};
 ghost use Rattle.gds_records.specs.Table.{table, form_among, form_of, allows, form_fault, property_rows, name_rows};
 ghost use Rattle.gds_records.specs.Table.{ignored_rows, is_ignored};
@@ -10,7 +10,7 @@ use crate::record_type::*;
 use byteorder::{BigEndian, ByteOrder};
 use lvl_ignore::Ignore;
 
-/// No payload.
+/// The data type of records without payload.
 const NO_DATA: u8 = 0;
 /// Sixteen bits.
 const BIT_ARRAY: u8 = 1;
@@ -26,7 +26,7 @@ const ASCII: u8 = 6;
 /// Record types are below this (own rule).
 const TYPES: u8 = 60;
 
-// The form of a record type that draws something, or orders what does.
+// The form of a record type that is always read.
 fn read_form(kind: u8) -> Option<Form>
     ensures { result ≡ form_among table kind }
 {
@@ -48,7 +48,7 @@ fn read_form(kind: u8) -> Option<Form>
     Some(Form { data_type, lengths })
 }
 
-// The form of a record type that concerns properties.
+// The form of a record type of properties.
 fn property_form(kind: u8) -> Option<Form>
     ensures { result ≡ form_among property_rows kind }
 {
@@ -94,7 +94,7 @@ pub fn is_ignored(ignore: Ignore, kind: u8) -> bool
     ignored_form(ignore, kind).is_some()
 }
 
-// The form of a record type that is read, or read and ignored.
+// The form of a record type that is read, or read and ignored; `None` for other types.
 fn form_of(ignore: Ignore, kind: u8) -> Option<Form>
     ensures { result ≡ form_of ignore kind }
 {
@@ -116,7 +116,7 @@ fn allows(lengths: Lengths, n: u16) -> bool
     }
 }
 
-// The fault of a data type and of a payload of `n` bytes. A type that has no form takes any.
+// The fault of a data type and of a payload of `n` bytes. If the type has no form, any are allowed.
 fn form_fault(form: Option<Form>, data_type: u8, n: u16) -> Option<RecordFault>
     ensures exact { result ≡ form_fault form data_type n }
     ensures kind { OfHeader result }
@@ -148,7 +148,7 @@ fn header_fault(ignore: Ignore, len: u16, kind: u8, data_type: u8) -> Option<Rec
     form_fault(form_of(ignore, kind), data_type, len - 4)
 }
 
-// The length of the record whose header is at the front.
+// The length of the record whose header is at the front, or the header's fault.
 pub(crate) fn record_len(ignore: Ignore, bytes: &[u8]) -> Result<usize, RecordFault>
     requires { 4 ≤ length bytes.now }
     ensures exact { Gives result (header ignore bytes.now) }

@@ -1,5 +1,5 @@
-//! The record types that are read, and those that may be read and ignored, by the names and numbers of
-//! the GDSII Stream Format Manual, Release 6.
+//! The record types that are read, or that can be ignored, by their names and numbers in the GDSII
+//! Stream Format Manual, Release 6.
 
 pub const HEADER: u8 = 0x00;
 

@@ -1,4 +1,4 @@
-//! The zero bytes at the front.
+//! Skips zero bytes at the front.
 ghost use Rattle.std.specs.Prelude.{◌≡◌, ◌==◌, ◌^◌, ◌<◌, ◌≤◌, ◌++◌, [], length, replicate};
 ghost use Rattle.std.specs.List.{prefix_len};
 ghost use Rattle.std.specs.Io.KnownBytes.{prepend_known};
@@ -16,7 +16,7 @@ pub enum After {
     Another,
     /// A byte beyond the limit.
     Limit,
-    /// The reader answered an error.
+    /// The reader returned an error.
     Failure,
 }
 
@@ -27,7 +27,7 @@ fn leading_zeros(bytes: &[u8]) -> usize
     bytes.iter().take_while(|b| **b == 0).count()
 }
 
-// Skips the zero bytes that are ahead, `most` at most, and counts them.
+// Skips zero bytes that are ahead, at most `most`, and returns how many.
 fn skip_ahead(ahead: &mut Buffer<65536>, most: u64) -> u64
     requires { most < 2 ^ 32 }
     ensures zeros { ahead.old ≡ replicate result 0 ++ ahead.new }
@@ -39,7 +39,7 @@ fn skip_ahead(ahead: &mut Buffer<65536>, most: u64) -> u64
     n as u64
 }
 
-// Skips zero bytes, `room` at most, counts them, and says what comes after them.
+// Skips at most `room` zero bytes, and returns how many, and what comes after them.
 pub(crate) fn skip_zeros<R: Read>(
     reader: &mut R,
     ahead: &mut Buffer<65536>,

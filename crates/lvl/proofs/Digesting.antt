@@ -1,4 +1,4 @@
--- The digest of a flat layout, Layer by Layer, and from it to what the bytes of the file spell.
+-- The digest of a flat layout, Layer by Layer, and what it says about the bytes of the file.
 use Rattle.std.proofs.Common.{◌≡◌, ◌↔◌, ℕ, zero, suc, ◌+◌, ◌<◌, ◌≤◌, ◌^◌, Bool, true, false, cond, List, [], ◌∷◌, ◌++◌}
 use Rattle.std.proofs.Common.{length, take, map, get_or, slice_get, Option, Some, Result, Ok, Err, IfOk, All, Any}
 use Rattle.std.proofs.Common.{AllPairs, None, inl, inr, refl, sym, ap, ◌∙◌, subst, arith, rules}
@@ -38,7 +38,7 @@ use Rattle.lvl.proofs.Lifting.{top_lifted}
 abbrev layer_of : PlainSheet → Layer
 layer_of s = s.layer
 
--- the sheet whose Layer is at an index
+-- the flat Layer at an index
 pub sheet_at : (flat : List PlainSheet) (n : ℕ) (layer : Layer) → slice_get (map layer_of flat) n ≡ Some layer
     → (s : PlainSheet) × (slice_get flat n ≡ Some s) × (s.layer ≡ layer)
 sheet_at flat n layer e =
@@ -50,7 +50,7 @@ sheet_at flat n layer e =
       | Some s ↦ λ p h. (s, p, cc)
     ] refl at
 
--- past the last sheet there is no Layer
+-- after the last there is none
 pub none_left : (flat : List PlainSheet) (n : ℕ) → slice_get (map (λ (s : PlainSheet). s.layer) flat) n ≡ None
     → length flat ≤ n
 none_left flat n e =
@@ -59,7 +59,7 @@ none_left flat n e =
       | inr (past, at) ↦ omega (arith, past, length-map {A = PlainSheet} {B = Layer})
     ]
 
--- a Layer more is digested
+-- one more Layer is digested
 pub digests_push : (ds : List Drawn) (layers : List DigestedLayer) (d : Drawn) (digest : Option LayerDigest)
     → AreDigests ds layers → IsDigestOf d digest → AreDigests (ds ++ d ∷ []) (layers ++ listed d.layer digest)
 digests_push [] layers d digest are is =
@@ -72,7 +72,7 @@ digests_push (e ∷ ds) layers d digest are is = (
   ap (λ ls. ls ++ listed d.layer digest) are.4 ∙ append_assoc (listed e.layer are.0) are.1 (listed d.layer digest),
 )
 
--- the numbers of the Layer have 32 bits
+-- the layer and the datatype fit in 32 bits
 abbrev pub IsNarrow : Drawn → Type 0
 IsNarrow s = (s.layer.layer < 2 ^ 32) × (s.layer.datatype < 2 ^ 32)
 
@@ -91,14 +91,14 @@ none_digested flat hash h = record {
   listed = refl;
 }
 
--- of a mask, the hash of what comes next goes on, and its digest is listed
+-- the next Layer of a mask is hashed, and its digest is listed if it has one
 pub record AddsLayer (d : Drawn) (hash new : MaskHash) (layers more : List DigestedLayer) : Type 0 where
   pub hashed : (ds : List Drawn) → HasHashed hash ds → HasHashed new (ds ++ d ∷ [])
   pub digest : Option LayerDigest
   pub is : IsDigestOf d digest
   pub more_are : more ≡ layers ++ listed d.layer digest
 
--- a Layer more of a flat layout
+-- one more Layer of a flat layout
 pub one_digested : (flat : List PlainSheet) (n : ℕ) (d : Drawn) (hash new : MaskHash)
     (layers more : List DigestedLayer) → AreSorted flat
     → slice_get (map (λ (s : PlainSheet). s.layer) flat) n ≡ Some d.layer → d.rings ≡ rings_on d.layer flat → IsNarrow d
@@ -169,7 +169,7 @@ all_digested flat n hash d end h finish =
     in_order [] end h = λ i j d lt within. absurd (omega (arith, within))
     in_order (s ∷ flat) end h = h (omega (arith, end))
 
--- the Layer of a sheet on which its rings cover the square
+-- the rings of this Layer cover the square
 abbrev CoversThere : Layer → Square → PlainSheet → Type 0
 CoversThere layer s sheet = (sheet.layer ≡ layer) × RingsCover sheet.rings s
 

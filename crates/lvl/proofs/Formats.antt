@@ -34,7 +34,7 @@ use Rattle.lvl.specs.Layouts.{BeginsWith, HasFirst, IsOasis}
 goes_on : (byte : ℕ) (bytes first rest : List ℕ) → bytes ≡ first ++ rest → BeginsWith byte first → BeginsWith byte bytes
 goes_on byte bytes first rest e b = record { rest = b.rest ++ rest; is = e ∙ ap (λ l. l ++ rest) b.is }
 
--- a record's first byte is the high one of its length, which is 6 in a header
+-- the first byte of a record is the high byte of its length, which is 6 in a HEADER
 header_begins : (ignore : Ignore) (bytes : List ℕ) (r : Rec) → r.kind ≡ header → SpellsRecord ignore bytes r
     → BeginsWith 0 bytes
 header_begins ignore bytes r e (inr i) = record { rest = []; is = i.1 }
@@ -43,7 +43,7 @@ header_begins ignore bytes r e (inl i) =
     let high : i.1.high ≡ 0 = omega (arith, i.1.len, i.1.byte, form.1) in
     record { rest = i.1.low ∷ r.kind ∷ r.data_type ∷ r.payload; is = rw high at i.1.bytes_are }
 
--- a library's first record is a header
+-- the first record of a library is a HEADER
 first_is : (first : ℕ) (others : Order) (rs : List Rec) → IsWord (next (one first) others) (kinds rs)
     → (r : Rec) × (more : List Rec) × (rs ≡ r ∷ more) × (r.kind ≡ first)
 first_is first others [] w = (let z : [] ≡ first ∷ w.1 = w.4 ∙ ap (λ u. u ++ w.1) w.2 in cc)
@@ -55,11 +55,11 @@ records_begin : (ignore : Ignore) (bytes : List ℕ) (r : Rec) (more : List Rec)
     → BeginsWith 0 bytes
 records_begin ignore bytes r more e s = goes_on 0 bytes s.0 s.1 s.4 (header_begins ignore s.0 r e s.2)
 
--- what comes after the header of a library
+-- what comes after the HEADER of a library
 abbrev after_header : Order
 after_header = one bgnlib then one libname then one units then many a_structure then one endlib then many (one fill)
 
--- an ignored record is no first one
+-- the first record isn't ignored
 first_essential : (ignore : Ignore) (r : Rec) → MayFollowBy ignore [] r → is_passed ignore r ≡ false
 first_essential ignore r f = elim f.0 [
   | inl p ↦ elim p.1.there [
@@ -154,7 +154,7 @@ pub oasis_begins : (ignore : Ignore) (bytes : List ℕ) (cells : List Drawing) (
     → BeginsWith 0x25 bytes
 oasis_begins ignore bytes cells h s = items_begin ignore bytes s.items s.whole.front.spelled s.whole.whole
 
--- so a file of one format is none of the other
+-- so no file is of both formats
 
 pub one_byte : (b c : ℕ) (bytes : List ℕ) → BeginsWith b bytes → BeginsWith c bytes → b ≡ c
 one_byte b c bytes p q = (let e : b ∷ p.rest ≡ c ∷ q.rest = sym p.is ∙ q.is in cc)

@@ -1,4 +1,4 @@
--- What is ignored changes no layout that was read without it, in any format.
+-- What is ignored changes no layout that is read without it, in any format.
 use Rattle.std.proofs.Common.{ℕ, List}
 use Rattle.lvl_cells.specs.Cells.{PlainCell, Rings}
 use Rattle.lvl_ignore.specs.Ignored.{IsWithin}
@@ -12,7 +12,7 @@ use Rattle.lvl.specs.declared.layout.Head.{Head}
 use Rattle.lvl.specs.declared.layout.Head.TheVariants.{Gds, Oasis}
 use Rattle.lvl.proofs.Spelling.{gds_read, oasis_read}
 
--- a layout that bytes spell where less is ignored they spell where more is
+-- a layout that bytes spell when less is ignored they spell when more is
 pub layout_grows : (less more : Ignore) → IsWithin less more → (bytes : List ℕ) (found : List (PlainCell Rings))
     (head : Head) → IsLayoutOf less bytes found head → IsLayoutOf more bytes found head
 layout_grows less more within bytes found (Gds h) p =

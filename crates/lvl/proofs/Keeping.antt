@@ -1,5 +1,5 @@
--- A library of figures and the one that keeps it with rings alone: alike in names, references, counts, chains and
--- coverage.
+-- A library of figures and the same library with rings for its figures have the same names, references, counts, chains
+-- and coverage.
 use Rattle.std.proofs.Common.{◌≡◌, ◌↔◌, ◌+◌, ◌*◌, ◌<◌, ◌≤◌, ℕ, zero, suc, Bool, true, false, if◌then◌else◌, List, []}
 use Rattle.std.proofs.Common.{◌∷◌, ◌++◌, Option, Some, None, Any, All, map, length, slice_get, refl, sym, ap, ◌∙◌}
 use Rattle.std.proofs.Common.{subst, inl, inr}
@@ -48,7 +48,7 @@ pub named_kept : {F : Type 0} (rings : F → Rings) (cells : List (PlainCell F))
 named_kept rings [] name = refl
 named_kept rings (c ∷ cells) name = named_by rings (bytes_eq c.name name) c _ _ (named_kept rings cells name)
 
--- whatever is said of names, references and the number of cells
+-- a property of names, references and the number of cells
 alike : {F : Type 0} (rings : F → Rings) (cells : List (PlainCell F))
     (P : List (List ℕ) → List (List ℕ × List ℕ) → ℕ → Type 0)
     → P (names cells) (links cells) (length cells)
@@ -289,7 +289,7 @@ fits_kept rings cells top = (
   },
 )
 
--- the cell at a place
+-- the cell at an index
 pub cell_back : {F : Type 0} (rings : F → Rings) (cells : List (PlainCell F)) (k : ℕ) (d : PlainCell Rings)
     → slice_get (kept rings cells) k ≡ Some d → (b : PlainCell F) × (slice_get cells k ≡ Some b) × (drawn rings b ≡ d)
 cell_back rings cells k d e = named_back rings (slice_get cells k) d (sym (slice_get-map (drawn rings) cells k) ∙ e)

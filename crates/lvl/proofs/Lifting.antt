@@ -1,4 +1,4 @@
--- From what was found of the libraries that are kept to what the bytes of the files spell.
+-- From what was found for the libraries of rings to what the bytes of the files spell.
 use Rattle.std.proofs.Common.{◌≡◌, ◌↔◌, ◌<◌, ◌≤◌, ℕ, List, [], get_or, Option, Some, None, length, slice_get, refl, sym}
 use Rattle.std.proofs.Common.{ap, ◌∙◌, subst}
 use Rattle.lvl_grid.specs.declared.point.Square.{Square}
@@ -28,12 +28,12 @@ use Rattle.lvl.specs.Kept.{Kept, IsCheckedAs, IsInRangeAs, IsCellFault, IsRangeF
 use Rattle.lvl.specs.Answers.{kept_of}
 use Rattle.lvl.proofs.Keeping.{sound_kept, cell_covers_kept, fits_kept, cell_back, cell_kept}
 
--- what a cell of figures draws is what its rings do
+-- a cell of figures draws what its rings cover
 pub draws_kept : (cells : List Drawing) (layer : Layer) (top : Drawing) (s : Square)
     → Draws cells top layer s ↔ CellCovers RingsCover (kept figure_rings cells) layer (drawn figure_rings top) s
 draws_kept cells layer top s = cell_covers_kept figure_rings FigureCovers figure_drawn cells layer top s
 
--- the library that was found is the one kept, whichever the bytes spell
+-- the library that was found is any that the bytes spell, with rings for its figures
 found_as : (file : File) (found : List (PlainCell Rings)) (head : Head) → IsLayoutOf file.ignore file.bytes found head
     → (cells : List Drawing) (h : Head) → Spells file.ignore file.bytes cells h → found ≡ kept figure_rings cells
 found_as file found head read cells h s = (read.alone cells h s).0
@@ -95,7 +95,7 @@ fits_settled file k s settled r =
       in_range = r.in_range;
     }
 
--- what is in range is accepted, and draws what its top covers
+-- a library in range is accepted, and draws what its top covers
 pub record IsTopLifted (file : File) (others : List Drawing) (cells : List (PlainCell Rings))
     (c : PlainCell Rings) : Type 0 where
   pub top : Drawing

@@ -1,4 +1,4 @@
--- What a refusal says of the two files, step by step.
+-- What a refusal says about the two files, step by step.
 use Rattle.std.proofs.Common.{◌≡◌, List, sym, ◌∙◌, subst}
 use Rattle.lvl_cells.specs.Cells.{PlainCell, Rings}
 use Rattle.lvl_region.specs.declared.region.Side.{Side}
@@ -35,7 +35,7 @@ accepts : (file : File) (cells : List (PlainCell Rings)) (head : Head) → IsLay
     → (others : List Drawing) × (top : Drawing) × IsAccepted file others top
 accepts file cells head read f = let l = top_lifted file cells head read f.0 f.1 in (read.cells, l.top, l.accepted)
 
--- a file that was not read
+-- a file that wasn't read
 
 none_before : (side : Side) (file : File) (s : Side) (f : FileFault) → s ≡ side → HasPassed side file (FileRefusal s f)
 none_before First file First f e = tt
@@ -57,7 +57,7 @@ file_refused side file (CellsRefusal s f) h = absurd h
 file_refused side file (FlatRefusal s f) h = absurd h
 file_refused side file OutOfMemory h = no_memory side file
 
--- it says of the first file, where that is read, that it was read, and of the second nothing
+-- a refusal of the second file says that the first was read, and one of the first says nothing about the second
 
 pub second_of_first : (file : File) (r : Refusal) → IsOfFile First r → IsRefusalOf Second file r
 second_of_first file (FileRefusal s f) h = record {
@@ -83,7 +83,7 @@ first_of_second file cells head read (CellsRefusal s f) h = absurd h
 first_of_second file cells head read (FlatRefusal s f) h = absurd h
 first_of_second file cells head read OutOfMemory h = no_memory First file
 
--- libraries that were not compared
+-- libraries that weren't compared
 
 pub first_refused : (a : File) (k : Kept) (cells : List (PlainCell Rings)) (head : Head)
     → IsLayoutOf a.ignore a.bytes cells head
@@ -138,7 +138,7 @@ second_refused b k cells head read (FlatRefusal Second f) h = record {
 }
 second_refused b k cells head read OutOfMemory h = no_memory Second b
 
--- only the file that was not read can have been refused early
+-- only the file that wasn't read can have been refused early
 
 pub not_early : (side : Side) (a b : Kept) (r : Refusal) → IsKeptRefusal a b r → IsEarlyOf side r → ⊥
 not_early side a b (FileRefusal s f) h e = h

@@ -1,4 +1,4 @@
--- From what is shown of a library that is kept to what the bytes of the file spell.
+-- From what is shown of a library of rings to what the bytes of the file spell.
 use Rattle.std.proofs.Common.{◌≡◌, ◌<◌, ◌+◌, ◌*◌, ℕ, List, [], ◌∷◌, Result, Ok, Err, IfErr, IfOk, length, map}
 use Rattle.std.proofs.Common.{slice_get, Some, if◌then◌else◌, ◌==◌, ◌&&◌, refl, sym, ap, ◌∙◌, subst}
 use Rattle.std.specs.Prelude.{sum_by}
@@ -44,7 +44,7 @@ own_on_kept {F = F} rings layer c =
     (λ (h : PlainShape Rings). if (h.layer.layer == layer.layer) && (h.layer.datatype == layer.datatype)
     then length h.figure * length h.shifts else 0) c.shapes)
 
--- a library of figures places as many rings on a Layer as the one that keeps it
+-- a library of figures places as many rings on a Layer as the library of rings
 placed_on_kept : {F : Type 0} (rings : F → Rings) (layer : Layer) (cells : List (PlainCell F)) (c : PlainCell F)
     → placed_rings_on rings layer cells c ≡ placed_rings_on each_ring layer (kept rings cells) (drawn rings c)
 placed_on_kept rings layer cells c =
@@ -133,7 +133,7 @@ show_refused file found head read (FlatRefusal side f) h = record {
 }
 show_refused file found head read OutOfMemory h = no_memory First file
 
--- nothing that was read is refused early
+-- a refusal of a library that was read isn't early
 show_not_early : (k : Kept) (r : Refusal) → IsShowRefusal k r → IsEarlyOf First r → ⊥
 show_not_early k (FileRefusal side f) h e = h
 show_not_early k (CellsRefusal side f) h e = e

@@ -1,4 +1,4 @@
--- What a reader's answer says of what the bytes spell, in any format.
+-- What the result of a reader says about the bytes, in any format.
 use Rattle.lvl_ignore.specs.declared.ignore.Ignore.{Ignore}
 use Rattle.std.proofs.Common.{◌≡◌, ◌∙◌, [], ◌∷◌, ◌++◌, List, ℕ, Option, Ok, Err, IfErr, ap, sym, subst, length, ◌<◌}
 use Rattle.std.proofs.Common.{arith, append_assoc}
@@ -72,7 +72,7 @@ oasis_read ignore xs found h read =
           oasis_alone ignore xs found h read;
     }
 
--- a file that was not read spells nothing in the other format either, by its first byte
+-- the first byte shows that a file that wasn't read is none of the other format either
 
 pub no_gds : (ignore : Ignore) (xs : List ℕ) → (IsOasis xs → ⊥) → SpellsNoGds ignore xs → SpellsNothing ignore xs
 no_gds ignore xs other none cells (Gds h) s = none cells h s
@@ -104,7 +104,7 @@ oasis_fault ignore xs r fault is own reported none = record {
   nothing = λ n. no_oasis ignore xs own (said (λ f. (¬ IsExcusedOasis f) → SpellsNoOasis ignore xs) r fault is none n);
 }
 
--- a byte that was looked at and not given again was taken
+-- a byte that was peeked at and not given again was taken
 hopeless_rest : (ignore : Ignore) (xs : List ℕ) (byte : Option ℕ) (inner : Option (List ℕ))
     → IsHopeless ignore xs (prepend_known (given_again byte) inner)
     → IsHopeless ignore xs inner
@@ -129,7 +129,8 @@ early_rest ignore xs byte inner left (Err OutOfMemory) h e = tt
 early_rest ignore xs byte inner left (Err (Breach f)) h e =
     λ soon. subst (IsHopeless ignore xs) e (hopeless_rest ignore xs byte inner (h soon))
 
--- what is refused early is hopeless in both formats: a byte or more was taken, and the first of these decides
+-- if a file is refused early, no file of either format begins with the bytes taken: at least one was, and it decides
+-- the format
 
 begun_so : (byte : ℕ) (taken rest more : List ℕ) → 0 < length taken → BeginsWith byte (taken ++ more)
     → BeginsWith byte (taken ++ rest)

@@ -1,4 +1,4 @@
--- A file without a byte: it ends before its first record, as GDSII has it, and spells nothing in either format.
+-- An empty file: as GDSII it ends before its first record, and it spells nothing in either format.
 use Rattle.std.proofs.Common.{◌≡◌, [], ℕ, List, Option, None, Some, refl, sym, arith, inl, false, true≢false}
 use Rattle.std.specs.Option.{is_some}
 use Rattle.lvl_ignore.specs.declared.ignore.Ignore.{Ignore}
@@ -37,7 +37,7 @@ empty_file ignore = record {
   nothing = λ n. no_gds ignore [] no_magic (no_library ignore);
 }
 
--- an input without a first byte has none
+-- an input without a first byte is empty
 pub no_bytes : (first : Option ℕ) (xs : List ℕ) → HasFirst first xs → is_some first ≡ false → xs ≡ []
 no_bytes None xs h none = h
 no_bytes (Some byte) xs h none = absurd (true≢false none)

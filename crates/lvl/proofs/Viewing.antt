@@ -1,4 +1,4 @@
--- From a verdict on what tops cover under a view to what the bytes of the files spell.
+-- From a verdict on what the tops cover under a view to what the bytes of the files spell.
 use Rattle.std.proofs.Common.{◌≡◌, ◌↔◌, List, [], Some, slice_get, refl, subst, sym}
 use Rattle.std.specs.Prelude.{IfErr, IfSome, IsErr, IsErrAnd, Result, Ok, Err}
 use Rattle.lvl_grid.specs.declared.point.Square.{Square}
@@ -26,7 +26,7 @@ use Rattle.lvl.specs.Sides.{IsFlattenRefusal}
 use Rattle.lvl.specs.Views.{IsComparedIn, IsVerdictOf, IsViewVerdict}
 use Rattle.lvl.proofs.Lifting.{alone_lifted, both_lifted, top_lifted}
 
--- a verdict on what covers the same squares is the same
+-- a verdict depends only on which squares are covered
 pub verdict_of_same : (Seen Saw : Square → Type 0) (P P' Q Q' : Layer → Square → Type 0)
     → ((s : Square) → Saw s → Seen s)
     → ((s : Square) → Seen s → Saw s)
@@ -40,7 +40,7 @@ verdict_of_same Seen Saw P P' Q Q' f g p q (Differ layer square side) h = record
   least_square = λ s saw before. both_lifted _ _ _ _ (p layer s) (q layer s) (h.least_square s (f s saw) before);
 }
 
--- what covers the same squares covers the same ones mapped
+-- what is covered after mapping depends only on which squares are covered before
 pub moved_same : (pairs : List LayerPair) (Q Q' : Layer → Square → Type 0) → ((l : Layer) (s : Square) → Q l s ↔ Q' l s)
     → (l : Layer) (s : Square) → IsMoved pairs Q l s ↔ IsMoved pairs Q' l s
 moved_same pairs Q Q' q l s = (
@@ -51,7 +51,7 @@ moved_same pairs Q Q' q l s = (
 itself : {A : Type 0} → A ↔ A
 itself = (λ a. a, λ a. a)
 
--- under a view without pairs and without a window the verdict is that on the whole files
+-- under a view without pairs and window the verdict is that on the whole files
 pub whole_verdict : (view : PlainView) → IsWhole view → (a b : File) (v : Verdict) → IsViewVerdict view a b v
     → IsVerdict a b v
 whole_verdict view whole a b v h = go v (verdict_of_same (IsShown view.window) (λ s. Unit {0})
@@ -76,7 +76,7 @@ pub top_places : (s : Settled) (top : PlainCell Rings) → slice_get s.cells s.t
     (q : Square) → TopCovers s l q ↔ CellCovers RingsCover s.cells l top q
 top_places s top is l q = rw is itself
 
--- a verdict on what both tops cover, as one on what the files draw
+-- a verdict on what both tops cover is one on what the files draw
 kept_viewed : (view : PlainView) (a b : File) (ours theirs : List (PlainCell Rings)) (g h : Head)
     → IsLayoutOf a.ignore a.bytes ours g → IsLayoutOf b.ignore b.bytes theirs h → (v : Verdict)
     → IsKeptVerdict view (record { cells = ours; top = a.top }) (record { cells = theirs; top = b.top }) v
@@ -113,7 +113,7 @@ compared_in view a b ours theirs g h p q v k = record {
   verdict = kept_viewed view a b ours theirs g h p q v k;
 }
 
--- a library that was checked and whose top is in range
+-- a library that passed the check, and whose top is in range
 pub in_range_as : (k : Kept) (s t : Settled) → IsCheckedAs k s → t ≡ s → IsTopInRange t → IsInRangeAs k t
 in_range_as k s t checked same h =
     let c : IsCheckedAs k t = subst (IsCheckedAs k) (sym same) checked in
@@ -138,7 +138,7 @@ kept_verdict view a b s t first second v h = record {
       (moved_same view.pairs (TopCovers t) (Places t second.top) (top_places t second.top second.is_top)) v h;
 }
 
--- why the second is refused, where the first is in range
+-- the refusal of the second library, if the first is in range
 pub second_fault : (a b : Kept) (s t : Settled) → IsInRangeAs a s → IsCheckedAs b t → (r : Refusal)
     → IsFlattenRefusal Second t r → IsKeptRefusal a b r
 second_fault a b s t first checked (FileRefusal side f) h = absurd h

@@ -16,7 +16,8 @@ use Rattle.lvl.specs.declared.verdict.Verdict.{Verdict}
 use Rattle.lvl.specs.declared.verdict.Verdict.TheVariants.{Same, Differ}
 use Rattle.lvl.specs.Layouts.{File, Spells}
 
--- the bytes of the file spell the cells, which are sound for its top, the cell named, and fit
+-- the file is accepted with these cells and this top: its bytes spell the cells, they are sound for the name of the top
+-- that the file asks for, if any, and what the top places is within the limits
 pub record IsAccepted (file : File) (cells : List Drawing) (top : Drawing) : Type 0 where
   pub head : Head
   pub spelled : Spells file.ignore file.bytes cells head
@@ -25,7 +26,7 @@ pub record IsAccepted (file : File) (cells : List Drawing) (top : Drawing) : Typ
   pub top_is : slice_get cells index ≡ Some top
   pub fits : Fits figure_rings cells top
 
--- it is accepted with no cells and no top
+-- the file isn't accepted
 abbrev pub IsUnaccepted : File → Type 0
 IsUnaccepted file = (cells : List Drawing) (top : Drawing) → IsAccepted file cells top → ⊥
 
@@ -42,14 +43,14 @@ pub record AreAccepted (a b : File) : Type 0 where
   pub first : IsAccepted a ours our_top
   pub second : IsAccepted b theirs their_top
 
--- and on every Layer their tops cover the same squares
+-- both files are accepted, and on every Layer their tops cover the same squares
 pub record AreSame (a b : File) : Type 0 where
   pub both : AreAccepted a b
   pub alike : (layer : Layer) (s : Square)
       → Draws both.ours both.our_top layer s ↔ Draws both.theirs both.their_top layer s
 
--- and the square on the Layer is covered by the top of that side alone; before it they draw the same: on lesser Layers,
--- and on the Layer at lesser squares, by y and then x
+-- both files are accepted, and only the top of that side covers the square on the Layer. This is the first difference:
+-- on lesser Layers, and at lesser squares (by y, then x) of this Layer, both cover the same squares
 pub record AreDifferent (a b : File) (layer : Layer) (square : Square) (side : Side) : Type 0 where
   pub both : AreAccepted a b
   pub alone : IsAlone (Draws both.ours both.our_top layer) (Draws both.theirs both.their_top layer) square side
@@ -58,7 +59,7 @@ pub record AreDifferent (a b : File) (layer : Layer) (square : Square) (side : S
   pub least_square : (s : Square) → IsBefore s square
       → Draws both.ours both.our_top layer s ↔ Draws both.theirs both.their_top layer s
 
--- what a verdict says
+-- the verdict is true of both files
 abbrev pub IsVerdict : File → File → Verdict → Type 0
 IsVerdict a b Same = AreSame a b
 IsVerdict a b (Differ layer square side) = AreDifferent a b layer square side

@@ -1,4 +1,4 @@
--- What an answer says of two files: a verdict, or why one of them is refused.
+-- What a result says about two files: a verdict, or why one of them is refused.
 use Rattle.std.specs.Prelude.{◌≡◌, ◌≢◌, ⊤, ℕ, Bool, false, List, ◌++◌, Option, Some, Result, Ok, Err}
 use Rattle.lvl_ignore.specs.declared.ignore.Ignore.{Ignore}
 use Rattle.lvl_path.specs.Figure.{figure_rings}
@@ -26,32 +26,32 @@ use Rattle.lvl.specs.Layouts.{File, IsOasis, Spells, SpellsSome, HasHead}
 use Rattle.lvl.specs.Accepted.{IsAccepted, IsUnaccepted, IsVerdict}
 use Rattle.lvl.specs.Kept.{Kept, Passes, IsCellFault, IsRangeFault}
 
--- a read that failed: it says nothing of the file
+-- the fault is a failed read, and says nothing about the file
 abbrev pub IsExcusedFile : FileFault → Type 0
 IsExcusedFile (Gds f) = IsExcusedGds f
 IsExcusedFile (Oasis f) = IsExcusedOasis f
 
--- a first read that failed, before there was a byte: it is reported as one of GDSII
+-- a first read that failed before there was a byte; it is reported as one of GDSII
 abbrev pub nothing_read : GdsFault
 nothing_read = record { offset = 0; kind = Record Read }
 
--- what the reader of the format says of the bytes; the format is that of the first byte, where one was read
+-- the fault is true of the bytes, by the reader of its format; the format is that of the first byte, if one was read
 abbrev pub ReportsOfFile : Ignore → List ℕ → FileFault → Type 0
 ReportsOfFile ignore bytes (Gds f) = (f ≢ nothing_read → ¬ IsOasis bytes) × ReportsGds ignore bytes f
 ReportsOfFile ignore bytes (Oasis f) = IsOasis bytes × ReportsOasis ignore bytes f
 
--- the refusal is of that side's file, for another cause than memory or a failed read
+-- the refusal is of that side's file, and neither out of memory nor a failed read
 abbrev pub Blames : Side → Refusal → Type 0
 Blames side (FileRefusal s f) = (s ≡ side) × (¬ IsExcusedFile f)
 Blames side (CellsRefusal s f) = s ≡ side
 Blames side (FlatRefusal s f) = s ≡ side
 Blames side OutOfMemory = ⊥
 
--- the library as it is kept, with the file's top
+-- the library as it is kept, with its figures as rings, and the name of its top
 abbrev pub kept_of : File → List Drawing → Kept
 kept_of file cells = record { cells = kept figure_rings cells; top = file.top }
 
--- what the fault says holds of the bytes, or of every library that they spell
+-- the fault is true of the bytes, or of every library that they spell
 abbrev pub IsReported : Side → File → Refusal → Type 0
 IsReported side file (FileRefusal s fault) = s ≡ side → ReportsOfFile file.ignore file.bytes fault
 IsReported side file (CellsRefusal s fault) =
@@ -62,13 +62,13 @@ IsReported side file (FlatRefusal s fault) =
     → IsRangeFault (kept_of file cells) fault
 IsReported side file OutOfMemory = ⊤
 
--- the file's library passes the check of its cells
+-- the file spells a library that passes the check of cells
 abbrev pub PassesCheck : File → Type 0
 PassesCheck file = (cells : List Drawing) × (head : Head) × Spells file.ignore file.bytes cells head
     × Passes (kept_of file cells)
 
--- the steps for the file of that side that come before the one that refused passed: both files are read, then both are
--- checked, then both are flattened, the first before the second
+-- the steps for this side's file before the one that refused have passed. The steps are: both files are read, then the
+-- cells of both are checked, then what both place is tested to be in range; always the first file before the second
 abbrev pub HasPassed : Side → File → Refusal → Type 0
 HasPassed First a (FileRefusal First f) = ⊤
 HasPassed First a (FileRefusal Second f) = SpellsSome a.ignore a.bytes
@@ -82,26 +82,26 @@ HasPassed Second b (CellsRefusal side f) = SpellsSome b.ignore b.bytes
 HasPassed Second b (FlatRefusal side f) = PassesCheck b
 HasPassed Second b OutOfMemory = ⊤
 
--- a refusal means that the file of the side that it names is not accepted, what its fault says is so, and the steps for
--- the file of this side that come before it passed
+-- what a refusal says about the file of one side: if it names this side, the file isn't accepted, and the fault is
+-- true; and the earlier steps for this file have passed
 pub record IsRefusalOf (side : Side) (file : File) (r : Refusal) : Type 0 where
   pub unaccepted : Blames side r → IsUnaccepted file
   pub reported : IsReported side file r
   pub passed : HasPassed side file r
 
--- the fault is reported before the input has ended, and not because a read failed
+-- the fault is neither that the input ended nor a failed read, so it is decided by the bytes that were taken
 abbrev pub IsEarlyFile : FileFault → Type 0
 IsEarlyFile (Gds f) = IsEarlyGds f
 IsEarlyFile (Oasis f) = IsEarlyOasis f
 
--- the refusal is such a one of that side's file
+-- the refusal is of that side's file, with such a fault
 abbrev pub IsEarlyOf : Side → Refusal → Type 0
 IsEarlyOf side (FileRefusal s f) = (s ≡ side) × IsEarlyFile f
 IsEarlyOf side (CellsRefusal s f) = ⊥
 IsEarlyOf side (FlatRefusal s f) = ⊥
 IsEarlyOf side OutOfMemory = ⊥
 
--- of the input some bytes were taken, which spell no library whatever comes after them, and the others are left
+-- no library is spelled by bytes that begin with those that were taken from the input; the others are left
 pub record IsHopeless (ignore : Ignore) (xs : List ℕ) (left : Option (List ℕ)) : Type 0 where
   pub taken : List ℕ
   pub rest : List ℕ
@@ -109,23 +109,24 @@ pub record IsHopeless (ignore : Ignore) (xs : List ℕ) (left : Option (List ℕ
   pub left_is : left ≡ Some rest
   pub none : (more : List ℕ) → SpellsSome ignore (taken ++ more) → ⊥
 
--- the heads are those that the bytes spell, and the verdict holds
+-- the heads are those that the bytes spell, and the verdict is true
 pub record IsCompared (a b : File) (c : Comparison) : Type 0 where
   pub first : HasHead a.ignore a.bytes c.first
   pub second : HasHead b.ignore b.bytes c.second
   pub verdict : IsVerdict a b c.verdict
 
--- the fault is a read that failed
+-- the fault is a failed read
 abbrev pub read_failed : FileFault → Bool
 read_failed (Gds f) = is_read_kind f.kind
 read_failed (Oasis f) = is_read_error f
 
+-- the result is a failed read
 abbrev pub is_failed_read : {A : Type 0} → Result A (Cause FileFault) → Bool
 is_failed_read (Ok x) = false
 is_failed_read (Err (Breach f)) = read_failed f
 is_failed_read (Err NoMemory) = false
 
--- the answer is that a read of that side failed
+-- the result is that a read of that side failed
 abbrev pub is_read_of : {A : Type 0} → Side → Result A Refusal → Bool
 is_read_of First (Err (FileRefusal First f)) = read_failed f
 is_read_of Second (Err (FileRefusal Second f)) = read_failed f

@@ -1,4 +1,4 @@
--- The steps after the reading, on libraries with rings alone.
+-- The steps after the reading, on libraries of rings.
 use Rattle.std.specs.Prelude.{◌≡◌, ⊤, ℕ, List, Option, Some, slice_get}
 use Rattle.lvl_cells.specs.Cells.{PlainCell, Rings}
 use Rattle.lvl_grid.specs.declared.point.Square.{Square}
@@ -20,52 +20,55 @@ use Rattle.lvl.specs.declared.verdict.Refusal.{Refusal}
 use Rattle.lvl.specs.declared.verdict.Refusal.TheVariants.{File as FileRefusal, Cells as CellsRefusal}
 use Rattle.lvl.specs.declared.verdict.Refusal.TheVariants.{Flat as FlatRefusal, OutOfMemory}
 
--- a library with rings alone, and the name of its top, if one was given
+-- a library of rings, and the name of its top if one is given
 pub record Kept : Type 0 where
   pub cells : List (PlainCell Rings)
   pub top : Option (List ℕ)
 
--- the library was checked
+-- the library passes the check of cells, as s
 pub record IsCheckedAs (k : Kept) (s : Settled) : Type 0 where
   pub cells : s.cells ≡ k.cells
   pub sound : IsSettled k.top s
 
+-- the same, for some s
 abbrev pub Passes : Kept → Type 0
 Passes k = (s : Settled) × IsCheckedAs k s
 
--- the library was checked and flattened, and this is the name of its top and the rings that it places
+-- the library passes the check of cells, and this is the name of its top and the rings that the top places
 pub record IsFlatLibrary (k : Kept) (found : FlatLibrary) : Type 0 where
   pub settled : Settled
   pub checked : IsCheckedAs k settled
   pub flat : IsFlattened settled found.flat
   pub top_is : found.top.items ≡ flat.top.name
 
--- the fault is why the check refused it
+-- the fault is true, so the check of cells refuses the library
 pub record IsCellFault (k : Kept) (fault : CellFault) : Type 0 where
   pub reported : IsFaultOf k.cells k.top fault
   pub unsound : ¬ IsSoundWith k.cells k.top (PlacesFew k.cells)
 
--- the fault is why it was not flattened
+-- the library passes the check of cells, but what its top places is out of range, as the fault says
 pub record IsRangeFault (k : Kept) (fault : FlatFault) : Type 0 where
   pub settled : Settled
   pub checked : IsCheckedAs k settled
   pub reported : IsFlatFault settled fault
 
--- it was checked, and all that its top places is in range
+-- the library passes the check of cells, and what its top places is in range
 pub record IsInRangeAs (k : Kept) (s : Settled) : Type 0 where
   pub checked : IsCheckedAs k s
   pub top : PlainCell Rings
   pub is_top : slice_get s.cells s.top ≡ Some top
   pub in_range : AllInRange s.cells top
 
+-- the same, for some s
 abbrev pub IsFitted : Kept → Type 0
 IsFitted k = (s : Settled) × IsInRangeAs k s
 
--- what the cell covers on each Layer, through all references
+-- the cell covers the square on the Layer, through all references
 abbrev pub Places : Settled → PlainCell Rings → Layer → Square → Type 0
 Places s top layer q = CellCovers RingsCover s.cells layer top q
 
--- all that both place is in range, and the verdict is that on what their tops cover under the view
+-- both libraries pass the check, what they place is in range, and the verdict is true of what their tops cover under
+-- the view
 pub record IsKeptVerdict (view : PlainView) (a b : Kept) (v : Verdict) : Type 0 where
   pub ours : Settled
   pub theirs : Settled
@@ -74,7 +77,7 @@ pub record IsKeptVerdict (view : PlainView) (a b : Kept) (v : Verdict) : Type 0 
   pub verdict : IsVerdictOf (IsShown view.window) (Places ours first.top)
       (IsMoved view.pairs (Places theirs second.top)) v
 
--- the step that refused, and that those before it passed
+-- the refusal is true, and the steps before it have passed
 abbrev pub IsKeptRefusal : Kept → Kept → Refusal → Type 0
 IsKeptRefusal a b (FileRefusal side fault) = ⊥
 IsKeptRefusal a b (CellsRefusal First fault) = IsCellFault a fault

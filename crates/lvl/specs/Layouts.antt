@@ -1,4 +1,4 @@
--- What files spell, by their format.
+-- What files spell, in either format.
 use Rattle.std.specs.Prelude.{◌≡◌, ℕ, List, [], ◌∷◌, Option, Some, None}
 use Rattle.lvl_ignore.specs.Ignored.{IsWithin}
 use Rattle.lvl_ignore.specs.declared.ignore.Ignore.{Ignore}
@@ -10,13 +10,13 @@ use Rattle.oasis_library.specs.Library.{SpellsLibrary as SpellsOasis}
 use Rattle.lvl.specs.declared.layout.Head.{Head}
 use Rattle.lvl.specs.declared.layout.Head.TheVariants.{Gds, Oasis}
 
--- the bytes of a file, which of its records are ignored, and the name of its top, if one was given
+-- the bytes of a file, what of it is ignored, and the name of its top if one is given
 pub record File : Type 0 where
   pub ignore : Ignore
   pub bytes : List ℕ
   pub top : Option (List ℕ)
 
--- the bytes spell the cells and the head, in the head's format, where some records are ignored
+-- the bytes spell the cells and the head, in the format of the head
 abbrev pub Spells : Ignore → List ℕ → List Drawing → Head → Type 0
 Spells ignore bytes cells (Gds h) = SpellsGds ignore bytes cells h
 Spells ignore bytes cells (Oasis h) = SpellsOasis ignore bytes cells h
@@ -26,12 +26,12 @@ pub record BeginsWith (byte : ℕ) (bytes : List ℕ) : Type 0 where
   pub rest : List ℕ
   pub is : bytes ≡ byte ∷ rest
 
--- its first byte, if it has one
+-- the first byte, or that there is none
 abbrev pub HasFirst : Option ℕ → List ℕ → Type 0
 HasFirst None bytes = bytes ≡ []
 HasFirst (Some byte) bytes = BeginsWith byte bytes
 
--- a file is read as OASIS where it begins with the first byte of its magic string, and else as GDSII
+-- a file is read as OASIS if it begins with the first byte of the magic string, otherwise as GDSII (own rule)
 abbrev pub IsOasis : List ℕ → Type 0
 IsOasis bytes = BeginsWith 0x25 bytes
 
@@ -43,7 +43,8 @@ SpellsSome ignore bytes = (cells : List Drawing) × (head : Head) × Spells igno
 abbrev pub HasHead : Ignore → List ℕ → Head → Type 0
 HasHead ignore bytes head = (cells : List Drawing) × Spells ignore bytes cells head
 
--- the library with rings alone, and the head, are those of the one library that the bytes spell
+-- the bytes spell exactly one library and one head; what was found is that head, and that library with its figures as
+-- rings
 pub record IsLayoutOf (ignore : Ignore) (bytes : List ℕ) (found : List (PlainCell Rings)) (head : Head) : Type 0 where
   pub cells : List Drawing
   pub spelled : Spells ignore bytes cells head
@@ -51,7 +52,7 @@ pub record IsLayoutOf (ignore : Ignore) (bytes : List ℕ) (found : List (PlainC
   pub alone : (others : List Drawing) (h : Head) → Spells ignore bytes others h
       → (found ≡ kept figure_rings others) × (head ≡ h)
 
--- bytes that spell a library where less is ignored spell the same one where more is, with the same head
+-- bytes that spell a library when less is ignored spell the same one, with the same head, when more is
 abbrev pub IgnoringKeeps : Type 0
 IgnoringKeeps =
     (less more : Ignore) → IsWithin less more → (bytes : List ℕ) (found : List (PlainCell Rings)) (head : Head)

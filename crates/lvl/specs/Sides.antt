@@ -1,4 +1,4 @@
--- What the steps for one side answer.
+-- What the steps for one side return.
 use Rattle.std.specs.Prelude.{◌≡◌, ⊤, ℕ, List, Option, option_map, Vec}
 use Rattle.std.specs.Global.{Global}
 use Rattle.lvl_ignore.specs.declared.ignore.Ignore.{Ignore}
@@ -19,6 +19,7 @@ use Rattle.lvl.specs.Layouts.{File, Spells}
 use Rattle.lvl.specs.Kept.{Kept, IsCellFault}
 use Rattle.lvl.specs.Answers.{ReportsOfFile, IsExcusedFile}
 
+-- the library and the head of a layout
 abbrev pub layout_parts : Layout → List (PlainCell Rings) × Head
 layout_parts (GdsLayout library h) = (library, GdsHeadOf h)
 layout_parts (OasisLayout library h) = (library, OasisHeadOf h)
@@ -27,49 +28,52 @@ layout_parts (OasisLayout library h) = (library, OasisHeadOf h)
 abbrev pub SpellsNothing : Ignore → List ℕ → Type 0
 SpellsNothing ignore xs = (cells : List Drawing) (head : Head) → Spells ignore xs cells head → ⊥
 
--- why the bytes were not read
+-- the fault is true, and unless it is a failed read the bytes spell no library
 pub record IsFileFault (ignore : Ignore) (xs : List ℕ) (fault : FileFault) : Type 0 where
   pub reported : ReportsOfFile ignore xs fault
   pub nothing : (¬ IsExcusedFile fault) → SpellsNothing ignore xs
 
--- the refusal is of that side's file, or out of memory
+-- the refusal is that this side's file wasn't read, or out of memory
 abbrev pub IsOfFile : Side → Refusal → Type 0
 IsOfFile side (FileRefusal s f) = s ≡ side
 IsOfFile side (CellsRefusal s f) = ⊥
 IsOfFile side (FlatRefusal s f) = ⊥
 IsOfFile side OutOfMemory = ⊤
 
+-- the refusal of a file that wasn't read is true
 abbrev pub IsReadRefusal : Side → Ignore → List ℕ → Refusal → Type 0
 IsReadRefusal side ignore xs (FileRefusal s f) = (s ≡ side) × IsFileFault ignore xs f
 IsReadRefusal side ignore xs (CellsRefusal s f) = ⊥
 IsReadRefusal side ignore xs (FlatRefusal s f) = ⊥
 IsReadRefusal side ignore xs OutOfMemory = ⊤
 
+-- the refusal by the check of cells is true
 abbrev pub IsCheckRefusal : Side → Kept → Refusal → Type 0
 IsCheckRefusal side k (FileRefusal s f) = ⊥
 IsCheckRefusal side k (CellsRefusal s f) = (s ≡ side) × IsCellFault k f
 IsCheckRefusal side k (FlatRefusal s f) = ⊥
 IsCheckRefusal side k OutOfMemory = ⊤
 
+-- the refusal of what is out of range is true
 abbrev pub IsFlattenRefusal : Side → Settled → Refusal → Type 0
 IsFlattenRefusal side s (FileRefusal t f) = ⊥
 IsFlattenRefusal side s (CellsRefusal t f) = ⊥
 IsFlattenRefusal side s (FlatRefusal t f) = (t ≡ side) × IsFlatFault s f
 IsFlattenRefusal side s OutOfMemory = ⊤
 
--- the name that was given, as bytes
+-- the name that is given, as bytes
 abbrev pub given_name : Option (Vec ℕ Global) → Option (List ℕ)
 given_name top = option_map (λ v. v.items) top
 
--- the bytes of a file with the name that was given for its top
+-- a file with the name that is given for its top
 abbrev pub file : Ignore → List ℕ → Option (Vec ℕ Global) → File
 file ignore bytes top = record { ignore = ignore; bytes = bytes; top = given_name top }
 
--- a library with the name that was given for its top
+-- a library with the name that is given for its top
 abbrev pub library_of : List (PlainCell Rings) → Option (Vec ℕ Global) → Kept
 library_of cells top = record { cells = cells; top = given_name top }
 
--- the bytes of a file, with the name of its top
+-- a file with the name of its top
 abbrev pub file_named : Ignore → List ℕ → Option (List ℕ) → File
 file_named ignore bytes top = record { ignore = ignore; bytes = bytes; top = top }
 

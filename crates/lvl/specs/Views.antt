@@ -1,4 +1,4 @@
--- What a verdict says of two files under a view: a map of Layers for the second file, and a window (own rule).
+-- What a verdict means under a view: a map of Layers for the second file, and a window (own rule).
 use Rattle.lvl_grid.specs.declared.point.Square.{Square}
 use Rattle.lvl_names.specs.declared.layer.Layer.{Layer}
 use Rattle.lvl_columns.specs.Windows.{IsShown}
@@ -11,19 +11,19 @@ use Rattle.lvl.specs.declared.verdict.Comparison.{Comparison}
 use Rattle.lvl.specs.declared.verdict.Verdict.{Verdict}
 use Rattle.lvl.specs.declared.verdict.Verdict.TheVariants.{Same, Differ}
 
--- what a verdict says of the squares seen
+-- the verdict is true of the squares in Seen
 abbrev pub IsVerdictOf : (Square → Type 0) → (Layer → Square → Type 0) → (Layer → Square → Type 0) → Verdict → Type 0
 IsVerdictOf Seen Ours Theirs Same = DrawSame Seen Ours Theirs
 IsVerdictOf Seen Ours Theirs (Differ layer square side) = IsFirstDifference Seen Ours Theirs layer square side
 
--- both files are accepted, whole, and of the squares that the window shows the verdict is that on what the first draws
--- and what the second draws with its Layers mapped
+-- both whole files are accepted, and the verdict is true of the squares in the window, for what the first draws and
+-- what the second draws with its Layers mapped
 pub record IsViewVerdict (view : PlainView) (a b : File) (v : Verdict) : Type 0 where
   pub both : AreAccepted a b
   pub verdict : IsVerdictOf (IsShown view.window) (Draws both.ours both.our_top)
       (IsMoved view.pairs (Draws both.theirs both.their_top)) v
 
--- the heads are those that the bytes spell, and the verdict holds
+-- the heads are those that the bytes spell, and the verdict is true
 pub record IsComparedIn (view : PlainView) (a b : File) (c : Comparison) : Type 0 where
   pub first : HasHead a.ignore a.bytes c.first
   pub second : HasHead b.ignore b.bytes c.second

@@ -1,4 +1,4 @@
-//! The comparison of two files: read, checked, and compared strip by strip under a view.
+//! Compares two files: reads them, checks them, and compares them strip by strip under a view.
 ghost use Rattle.std.specs.Prelude.{◌≡◌, List, ℕ, Some, Ok, Err, IfOk, IfErr};
 ghost use Rattle.lvl_io.specs.Bytes.{CountsFailure};
 ghost use Rattle.lvl_region.specs.declared.region.Side.TheVariants.{First, Second};
@@ -26,7 +26,7 @@ use lvl_region::Side;
 use lvl_view::View;
 use std::alloc::Global;
 
-/// The libraries of both files checked and compared under the view.
+/// Checks the libraries of both files and compares them under the view.
 fn compare_libraries(
     alloc: Global,
     ours: Library,
@@ -51,12 +51,12 @@ fn compare_libraries(
 
 /// Whether two files draw the same mask.
 ///
-/// A file is accepted where its bytes spell a library that is sound for its top and fits: at most
-/// 16,777,216 cells and as many rings are placed, and each coordinate as placed is within 64 signed
-/// bits. `Same` is answered only where both files are accepted and on every Layer both cover the same
-/// unit squares, through all references. `Differ` names the least Layer on which they differ and on it
-/// the least square, by y and then x, that one side alone covers. A refusal other than for memory or a
-/// read that failed names a file that is not accepted (own rule).
+/// A file is accepted if its bytes spell a library that is sound for its top and within the limits: at most
+/// 16,777,216 cells and as many rings are placed, and each coordinate as placed fits in 64 signed bits (own
+/// rule). `Same` is returned only if both files are accepted and cover the same unit squares on every
+/// Layer, through all references. `Differ` names the least Layer on which they differ, and the least square
+/// on it, by y and then x, that only one side covers. A refusal names a file that isn't accepted, unless it
+/// is out of memory or a failed read.
 pub fn compare_layouts<A: Read, B: Read>(
     alloc: Global,
     first: &mut A,
@@ -103,14 +103,13 @@ pub fn compare_layouts<A: Read, B: Read>(
     }
 }
 
-/// Whether two files draw the same mask under a view.
+/// Whether two files draw the same mask under a view (own rule).
 ///
-/// The second file covers a square on a Layer where its top covers it on some Layer whose target that
-/// is; all pairs of the map apply at once, and a Layer that is no source is its own target. Only
-/// squares of the window count. Both whole files must be accepted, whatever the view. `Differ` names
-/// the least target Layer and on it the least square of the window. Refusals are those of
-/// [`compare_layouts`], in the same order; with no pairs and no window the
-/// verdict is, too (own rule).
+/// The second file covers a square on a Layer if its top covers it on some Layer that is mapped to this
+/// one. All pairs of the map apply at once, and a Layer that isn't the source of a pair is mapped to
+/// itself. Only squares in the window count. Both whole files must be accepted, whatever the view. `Differ`
+/// names the least Layer after mapping, and the least square in the window. Without pairs and window the
+/// verdict is that of [`compare_layouts`]. Refusals are the same, in the same order.
 pub fn compare_view<A: Read, B: Read>(
     alloc: Global,
     first: &mut A,
@@ -142,9 +141,9 @@ pub fn compare_view<A: Read, B: Read>(
     }
 }
 
-/// Two files compared under a view, where some of their records are ignored: what each says of itself,
-/// and the verdict of [`compare_view`]. The second file is not read where the first is refused.
-/// [`compare_layouts`] and [`compare_view`] are this call without the heads, where nothing is ignored.
+/// Compares two files under a view, with some records ignored, and returns the head of each and the verdict
+/// of [`compare_view`]. The second file isn't read if the first is refused. [`compare_layouts`] and
+/// [`compare_view`] are this call with nothing ignored and without the heads.
 pub fn compare_files<A: Read, B: Read>(
     alloc: Global,
     first: &mut A,

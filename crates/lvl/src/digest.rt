@@ -1,4 +1,4 @@
-//! The digest of one layout: read, checked, flattened, and what it draws hashed.
+//! The digest of one layout: the file is read, checked and flattened, and what it draws is hashed.
 ghost use Rattle.std.specs.Prelude.{◌≡◌, ◌≢◌, List, ℕ, Some, Err, IfOk, IfErr, option_copied};
 ghost use Rattle.lvl_io.specs.Bytes.{CountsFailure};
 ghost use Rattle.lvl_region.specs.declared.region.Side.TheVariants.{First};
@@ -38,11 +38,11 @@ fn digest_library(
     Ok(Digested { head, top, mask })
 }
 
-/// The digest of a file's mask: what the file says of itself, its top, the digest of each Layer on which
-/// the top covers a square, and that of all of them. It is given where the file is accepted; a refusal
-/// names the first side; one for another cause than memory or a failed read comes only where it isn't.
+/// The digest of what a file draws: its head, the name of its top, the digest of each Layer on which the
+/// top covers a square, and that of all these Layers. A refusal is of [`Side::First`]; unless it is out of
+/// memory or a failed read, the file isn't accepted.
 ///
-/// Two files draw the same mask exactly where the bytes that are hashed are the same, as
+/// Two files draw the same mask exactly if the bytes that are hashed are the same, as
 /// [`digests_decide`] says.
 pub fn digest_file<R: Read>(
     alloc: Global,
@@ -63,9 +63,9 @@ pub fn digest_file<R: Read>(
     digest_library(alloc, head, library, top)
 }
 
-/// The law by which the digests of two files decide whether they draw the same mask, but for a collision
-/// of SHA-256: the bytes that are hashed are the same exactly where on every Layer both tops cover the
-/// same squares. It computes nothing.
+/// Two files draw the same mask if and only if their digests are the same, except for a collision of
+/// SHA-256: the bytes that are hashed are the same if and only if both tops cover the same squares on every
+/// Layer. This function states the law and computes nothing.
 pub fn digests_decide()
     ensures { DigestsDecide }
 {

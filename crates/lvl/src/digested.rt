@@ -1,4 +1,4 @@
-//! What the digest of a layout says.
+//! The digest of a layout.
 ghost use Rattle.std.specs.Prelude.{◌≡◌, ◌++◌, ◌∷◌, [], List, Option, map, IfOk, OnOk};
 ghost use Rattle.lvl_corners.specs.Masks.{Drawn};
 ghost use Rattle.lvl_corners.specs.Digests.{HasHashed, IsDigestOf};
@@ -31,7 +31,7 @@ pub struct MaskDigest {
 /// The digest of a layout.
 #[derive(Debug, Drop)]
 pub struct Digested {
-    /// What its file says of itself.
+    /// What its file says about itself.
     pub head: Head,
     /// The name of its top.
     pub top: Vec<u8>,
@@ -39,7 +39,8 @@ pub struct Digested {
     pub mask: MaskDigest,
 }
 
-/// Hashes what the rings cover on the next Layer of a mask, and lists its digest where it has one.
+/// Hashes what the rings cover on the next Layer of a mask, and lists the Layer's digest if it has
+/// one.
 fn push_layer(
     alloc: Global,
     mask: &mut MaskHash,
@@ -59,7 +60,7 @@ fn push_layer(
     Ok(())
 }
 
-/// The digest of the mask that a flat layout covers.
+/// The digest of the mask that a flat layout draws.
 pub(crate) fn digest_flat(alloc: Global, flat: &Flat) -> Result<MaskDigest, AllocError>
     ensures { IfOk result (IsMaskDigest (map drawn_on flat.now)) }
 {

@@ -1,4 +1,4 @@
-//! Two libraries compared under a view, up to the first square that one of them alone draws.
+//! Compares two libraries under a view, up to the first square that only one of them draws.
 ghost use Rattle.std.specs.Prelude.{IfOk};
 ghost use Rattle.lvl_columns.specs.Windows.{IsShown};
 ghost use Rattle.lvl_flat.specs.Flattened.{TopCovers};
@@ -11,11 +11,12 @@ use lvl_flat::Fitted;
 use lvl_view::View;
 use std::alloc::{AllocError, Global};
 
-/// How many points the rings of one side have in a strip at most: 16 megabytes of them.
+/// The greatest number of points that the rings of one side have in a strip: 16 megabytes of them.
 const MOST_POINTS: usize = 1 << 20;
 
-/// The first Layer, and on it the first square of the window, that one of the two alone draws, the
-/// second with its Layers mapped. Nothing is flattened but what may differ, where cells are placed often enough.
+/// The first Layer, and the first square of the window on it, that only one of the two draws, with the Layers of
+/// the second mapped. If cells are placed often enough, only those parts are flattened in which the two may
+/// differ.
 pub(crate) fn compare_fitted(
     alloc: Global,
     first: &Fitted,

@@ -1,4 +1,4 @@
-//! A library flattened.
+//! Flattens a library.
 ghost use Rattle.std.specs.Prelude.{◌≢◌, Err, IfOk, IfErr, option_copied};
 ghost use Rattle.lvl.specs.Kept.{IsFlatLibrary};
 ghost use Rattle.lvl.specs.Shown.{IsShowRefusal};
@@ -21,7 +21,8 @@ pub(crate) struct FlatLibrary {
     pub flat: Flat,
 }
 
-/// The only library, if it is sound for the top that was named, places few, and all of it is within 64 bits.
+/// The rings of the library, if it is sound for the top of that name and within the limits, and what it
+/// places fits in 64 bits. Refusals are of [`Side::First`].
 pub(crate) fn flatten_library(
     alloc: Global,
     library: Library,

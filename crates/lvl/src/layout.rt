@@ -1,4 +1,4 @@
-//! A file read by its format.
+//! Reads a file by its format.
 ghost use Rattle.std.specs.Prelude.{◌≡◌, ◌↔◌, List, [], ℕ, true, false, Some, IsTrue, IfOk, IfErr};
 ghost use Rattle.std.specs.Io.KnownBytes.{prepend_known};
 ghost use Rattle.lvl_io.specs.Bytes.{CountsFailure, failed};
@@ -22,7 +22,7 @@ use thiserror::Error;
 /// The first byte of an OASIS file.
 const OASIS: u8 = 0x25;
 
-/// What a file says of itself, by its format.
+/// What a file says about itself, by its format.
 #[derive(Clone, Copy, Debug, PartialEq, Eq)]
 pub enum Head {
     /// GDSII Stream Release 6.
@@ -31,7 +31,7 @@ pub enum Head {
     Oasis(OasisHead),
 }
 
-/// The library of a file, with what the file says of itself, by its format.
+/// The library of a file, and what the file says about itself, by its format.
 #[derive(Debug, Drop)]
 pub enum Layout {
     /// GDSII Stream Release 6.
@@ -40,7 +40,7 @@ pub enum Layout {
     Oasis(Library, OasisHead),
 }
 
-/// Why a file was not read, by its format.
+/// Why a file wasn't read, by its format.
 #[derive(Clone, Copy, Debug, PartialEq, Eq, Error)]
 pub enum FileFault {
     /// GDSII Stream Release 6.
@@ -52,7 +52,7 @@ pub enum FileFault {
 }
 
 impl Layout {
-    /// The library, and what the file says of itself.
+    /// The library, and what the file says about itself.
     pub fn into_parts(self) -> (Library, Head)
         ensures { result ≡ layout_parts self }
     {
@@ -63,7 +63,7 @@ impl Layout {
     }
 }
 
-/// The first byte, or None where the input has none.
+/// The first byte; `None` if the input is empty.
 fn take_first<R: Read>(reader: &mut R) -> Result<Option<u8>, Failure>
     ensures first { (xs : List ℕ) → R.remaining reader.old ≡ Some xs → IfOk result (λ byte. HasFirst byte xs) }
     ensures left { (xs : List ℕ) → R.remaining reader.old ≡ Some xs
@@ -77,7 +77,7 @@ fn take_first<R: Read>(reader: &mut R) -> Result<Option<u8>, Failure>
     Ok(Some(bytes[0]))
 }
 
-/// The layout that a GDSII file spells.
+/// Reads a file as GDSII.
 fn read_as_gds<R: Read>(
     alloc: Global,
     reader: &mut R,
@@ -100,7 +100,7 @@ fn read_as_gds<R: Read>(
     }
 }
 
-/// The layout that an OASIS file spells.
+/// Reads a file as OASIS.
 fn read_as_oasis<R: Read>(
     alloc: Global,
     reader: &mut R,
@@ -123,14 +123,14 @@ fn read_as_oasis<R: Read>(
     }
 }
 
-/// Whether this is the first byte of an OASIS file.
+/// Whether this is the first byte of the magic string of OASIS.
 fn is_oasis(first: Option<u8>) -> bool
     ensures { IsTrue result ↔ (first ≡ Some 0x25) }
 {
     first == Some(OASIS)
 }
 
-/// The layout that a file with this first byte spells.
+/// Reads a file that has this first byte.
 fn read_by<R: Read>(
     alloc: Global,
     first: Option<u8>,
@@ -153,7 +153,7 @@ fn read_by<R: Read>(
     read_as_gds(alloc, reader, ignore)
 }
 
-/// A read that failed before there was a byte.
+/// The fault of a read that failed before there was a byte.
 fn unread() -> FileFault
     ensures reported { (ignore : Ignored) (xs : List ℕ) → IsFileFault ignore xs result }
     ensures late { IsEarlyFile result → ⊥ }
@@ -165,7 +165,7 @@ fn unread() -> FileFault
     })
 }
 
-/// A file without a byte: it ends before its first record. As its end was met, it is read no further.
+/// The fault of an empty file: it ends before its first record. It isn't read on, since its end was seen.
 fn empty() -> FileFault
     ensures reported { (ignore : Ignored) → IsFileFault ignore [] result }
     ensures late { IsEarlyFile result → ⊥ }
@@ -177,8 +177,8 @@ fn empty() -> FileFault
     })
 }
 
-/// The layout that a file spells. A file whose first byte is 0x25 is read as OASIS, and every other
-/// one as GDSII (own rule; no file is one of both formats).
+/// Reads a file. If its first byte is 0x25 it is read as OASIS, otherwise as GDSII (own rule; no
+/// file is of both formats).
 pub fn read_layout<R: Read>(alloc: Global, reader: &mut R) -> Result<Layout, Cause<FileFault>>
     ensures spelled { (xs : List ℕ) → R.remaining reader.old ≡ Some xs
         → IfOk result (λ layout. IsLayoutOf nothing xs (layout_parts layout).0 (layout_parts layout).1) }
@@ -192,9 +192,8 @@ pub fn read_layout<R: Read>(alloc: Global, reader: &mut R) -> Result<Layout, Cau
     read_layout_by(alloc, reader, Ignore::NOTHING)
 }
 
-/// The layout that a file spells where some records are ignored: as [`read_layout`], by
-/// [`read_gds_by`](gds_library::read_gds_by) or
-/// [`read_oasis_by`](oasis_library::read_oasis_by).
+/// Reads a file as [`read_layout`] does, with some records ignored, by
+/// [`read_gds_by`](gds_library::read_gds_by) or [`read_oasis_by`](oasis_library::read_oasis_by).
 pub fn read_layout_by<R: Read>(
     alloc: Global,
     reader: &mut R,
@@ -221,8 +220,8 @@ pub fn read_layout_by<R: Read>(
     read
 }
 
-/// The law by which ignoring more changes no layout that is read: bytes that spell a library where less is
-/// ignored spell the same one where more is, with the same head. It computes nothing.
+/// Ignoring more changes no layout that is read with less ignored: bytes that then spell a library still
+/// spell the same one, with the same head. This function states the law and computes nothing.
 pub fn ignoring_keeps()
     ensures { IgnoringKeeps }
 {}

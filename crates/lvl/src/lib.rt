@@ -1,10 +1,9 @@
-//! Two layouts compared: whether they draw the same mask.
+//! Compares two layouts: whether they draw the same mask.
 //!
-//! [`compare_layouts`] reads two files, checks their cells, flattens them and compares what they cover
-//! Layer by Layer. Its answer is a [`Verdict`] or a [`Refusal`]. [`compare_view`] does so with the
-//! second file's Layers mapped, and in a window alone. [`show_file`] says what one file holds, and
-//! [`digest_file`] gives a digest of the mask that it draws. A format is a variant of [`Layout`],
-//! [`Head`] and [`FileFault`], and a row in each match on them.
+//! [`compare_layouts`] reads two files, checks their cells, and compares what they cover on each Layer. It
+//! returns a [`Verdict`] or a [`Refusal`]. [`compare_view`] does the same with the Layers of the second
+//! file mapped, and only within a window. [`show_file`] returns what one file has, and [`digest_file`] a
+//! digest of the mask that it draws. Each format is a variant of [`Layout`], [`Head`] and [`FileFault`].
 //!
 //! `one` and `other` are two files in memory that draw the same:
 //!

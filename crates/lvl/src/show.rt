@@ -1,4 +1,4 @@
-//! One layout shown: read, checked, and what it holds.
+//! Shows one layout: reads it, checks it, and counts its cells and rings.
 ghost use Rattle.std.specs.Prelude.{◌≡◌, ◌≢◌, List, ℕ, Some, Err, IfOk, IfErr, option_copied};
 ghost use Rattle.lvl_io.specs.Bytes.{CountsFailure};
 ghost use Rattle.lvl_region.specs.declared.region.Side.TheVariants.{First};
@@ -18,7 +18,7 @@ use lvl_io::Read;
 use lvl_region::Side;
 use std::alloc::Global;
 
-/// What a library holds that was read with this head.
+/// What is shown of a library that was read with this head.
 fn show_library(
     alloc: Global,
     head: Head,
@@ -46,9 +46,9 @@ fn show_library(
     })
 }
 
-/// What a file's layout holds: what the file says of itself, its top, how many cells it has, and
-/// how many rings the top places on each Layer. It is shown where the file is accepted; a refusal
-/// names the first side; one for another cause than memory or a failed read comes only where it isn't.
+/// What a file has: its head, the name of its top, the number of its cells, and the number of rings that
+/// the top places on each Layer. A refusal is of [`Side::First`]; unless it is out of memory or a failed
+/// read, the file isn't accepted.
 pub fn show_file<R: Read>(
     alloc: Global,
     reader: &mut R,

@@ -1,4 +1,4 @@
-//! What a layout holds.
+//! What is shown of a layout.
 ghost use Rattle.std.specs.Prelude.{◌≡◌, slice_get, Some, IfOk};
 ghost use Rattle.lvl_cells.specs.Cells.{PlainCell, Rings};
 
@@ -7,16 +7,16 @@ use lvl_cells::Checked;
 use lvl_count::LayerRings;
 use std::alloc::{AllocError, Global};
 
-/// What a layout holds.
+/// What is shown of a layout.
 #[derive(Debug, Drop)]
 pub struct Shown {
-    /// What its file says of itself.
+    /// What its file says about itself.
     pub head: Head,
     /// The name of its top.
     pub top: Vec<u8>,
-    /// How many cells it has.
+    /// The number of its cells.
     pub cells: usize,
-    /// Each Layer on which the top places rings, in the order of the Layers.
+    /// Each Layer on which the top places rings, with their number, in the order of the Layers.
     pub layers: Vec<LayerRings>,
 }
 

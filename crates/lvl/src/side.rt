@@ -1,4 +1,5 @@
-//! The steps for one of two files: read, check its cells, flatten.
+//! The steps for one of two files: read it, check its cells, and test or flatten what its top
+//! places.
 ghost use Rattle.std.specs.Prelude.{◌≡◌, ◌≢◌, List, ℕ, Some, Err, IfOk, IfErr, option_copied};
 ghost use Rattle.lvl_io.specs.Bytes.{CountsFailure};
 ghost use Rattle.lvl_flat.specs.Flattened.{IsFlattened, IsTopInRange};
@@ -19,7 +20,7 @@ use lvl_refusal::Cause;
 use lvl_region::Side;
 use std::alloc::Global;
 
-/// The library that a file spells, and what the file says of itself.
+/// Reads a file, and returns its library and what it says about itself.
 pub(crate) fn read_side<R: Read>(
     alloc: Global,
     side: Side,
@@ -42,7 +43,7 @@ pub(crate) fn read_side<R: Read>(
     }
 }
 
-/// The name that was given, as bytes.
+/// The name that is given, as bytes.
 fn name_of(top: &Option<Vec<u8>>) -> Option<&[u8]>
     ensures { option_copied result ≡ given_name top.now }
 {
@@ -52,7 +53,7 @@ fn name_of(top: &Option<Vec<u8>>) -> Option<&[u8]>
     }
 }
 
-/// The library, if it is sound for the top that was named and places few.
+/// The library, if it is sound for the top of that name and within the limits.
 pub(crate) fn check_named(
     alloc: Global,
     side: Side,
@@ -69,7 +70,7 @@ pub(crate) fn check_named(
     }
 }
 
-/// The library, if it is sound for the top that was given and places few.
+/// The library, if it is sound for the top that is given and within the limits.
 pub(crate) fn check_side(
     alloc: Global,
     side: Side,
@@ -82,7 +83,7 @@ pub(crate) fn check_side(
     check_named(alloc, side, library, name_of(top))
 }
 
-/// The library, if all that its top places is within 64 bits.
+/// The library, if what its top places fits in 64 bits.
 pub(crate) fn fit_side(alloc: Global, side: Side, checked: Checked) -> Result<Fitted, Refusal>
     ensures same { IfOk result (λ fitted. fitted ≡ checked) }
     ensures in_range { IfOk result IsTopInRange }
@@ -95,7 +96,7 @@ pub(crate) fn fit_side(alloc: Global, side: Side, checked: Checked) -> Result<Fi
     }
 }
 
-/// The rings of the library, Layer by Layer. The library is let go with it.
+/// The rings of the library, Layer by Layer. The library is dropped.
 pub(crate) fn flatten_side(alloc: Global, side: Side, checked: Checked) -> Result<Flat, Refusal>
     ensures flat { IfOk result (IsFlattened checked) }
     ensures refused { IfErr result (IsFlattenRefusal side checked) }

@@ -1,4 +1,4 @@
-//! What comes of a comparison: a verdict, or a refusal.
+//! The result of a comparison: a verdict or a refusal.
 
 use crate::layout::{FileFault, Head};
 use lvl_cells::CellFault;
@@ -8,7 +8,7 @@ use lvl_names::Layer;
 use lvl_region::Side;
 use thiserror::Error;
 
-/// The names of the top cells of both files. Where none is given, a file's top is the only cell to
+/// The names of the top cells of both files. Without a name, the top of a file is the only cell to
 /// which no other refers.
 #[derive(Debug, Drop)]
 pub struct Tops {
@@ -21,8 +21,8 @@ pub struct Tops {
 pub enum Verdict {
     /// On every Layer both cover the same unit squares.
     Same,
-    /// The first Layer on which they differ, and on it the first square, by y and then x, that one
-    /// side alone covers.
+    /// They differ: this is the first Layer on which they do, and the first square on it, by y and
+    /// then x, that only one side covers.
     Differ {
         layer: Layer,
         square: Square,
@@ -30,7 +30,7 @@ pub enum Verdict {
     },
 }
 
-/// Two layouts that were compared: what each says of itself, and the verdict.
+/// Two layouts that were compared: what each file says about itself, and the verdict.
 #[derive(Clone, Copy, Debug, PartialEq, Eq)]
 pub struct Comparison {
     pub first: Head,
@@ -38,21 +38,21 @@ pub struct Comparison {
     pub verdict: Verdict,
 }
 
-/// Why two layouts were not compared: the first step that failed, of which side, and why. The steps
-/// are to read the first file and the second, to check the cells of the first and the second, and to
-/// flatten the first and the second.
+/// Why two layouts weren't compared: the first step that failed, and for which side. The steps are to read
+/// both files, to check the cells of both, and to test that what both place is in range; always the first
+/// file before the second.
 #[derive(Debug, Drop, Error)]
 pub enum Refusal {
-    /// The file was not read.
+    /// The file wasn't read.
     #[error("a file is refused")]
     File(Side, FileFault),
-    /// Its cells are not sound for the top, or place too much.
+    /// Its cells aren't sound for the top, or they place too much.
     #[error("the cells of a file are refused")]
     Cells(Side, CellFault),
-    /// What its top places leaves 64 signed bits.
+    /// What its top places doesn't fit in 64 signed bits.
     #[error("a file cannot be flattened")]
     Flat(Side, FlatFault),
-    /// Memory was refused, at whatever step.
+    /// An allocation failed, at any step.
     #[error("out of memory")]
     OutOfMemory,
 }

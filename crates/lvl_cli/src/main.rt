@@ -1,11 +1,13 @@
-//! The program `lvl`: compares two layout files, or shows one.
+//! The program `lvl`: compares two layout files, shows one, or hashes what one draws.
 //!
-//!     lvl compare A B [--top-a NAME] [--top-b NAME] [--map PAIRS] [--window RANGES]
-//!     lvl show A [--top NAME]
+//!     lvl compare A B [--top-a NAME] [--top-b NAME] [--map PAIRS] [--window RANGES] [--ignore WORDS]
+//!     lvl show A [--top NAME] [--ignore WORDS]
+//!     lvl digest A [--top NAME] [--ignore WORDS]
 //!
-//! It ends with status 0 where both draw the same mask or one was shown, 1 where they differ, 2
-//! where a file is refused or can't be opened, 3 where the line is not one of these or asks for
-//! help, and 4 where output failed.
+//! The exit status is 0 if both layouts draw the same mask, or if one was shown or hashed; 1 if
+//! they differ; 2 if a file is refused or can't be opened, or for out of memory; 3 if the command
+//! line, a map, a window or the text of `--ignore` is invalid, for help, or if memory runs out
+//! while the command line is read; and 4 if the output failed.
 #![tactic(auto)]
 
 use lvl_io::{Counted, Failure};
@@ -15,13 +17,13 @@ use std::io::{BufWriter, ErrorKind};
 use std::process::ExitCode;
 use std::{env, io};
 
-/// The exit status where the words of the line can't be had.
+/// The exit status if the words of the command line can't be read, also for lack of memory.
 const BAD_LINE: u8 = 3;
 
-/// The exit status where there is no memory for the output's buffer.
+/// The exit status if there is no memory for the buffer of the output.
 const NOT_RUN: u8 = 2;
 
-/// The files of the system. What they hold is not known.
+/// The files of the system. Their bytes aren't known to the proofs.
 #[derive(Drop)]
 struct Disk<'a> {
     rt: &'a HostRuntime,
@@ -40,13 +42,13 @@ impl Files for Disk<'_> {
     }
 }
 
-/// Prints why there is no answer, and gives the status.
+/// Prints why there is no answer, and returns the status.
 fn end(rt: &impl Eprint, why: &str, code: u8) -> u8 {
     let _ = rt.eprintln(why);
     code
 }
 
-/// Standard output, with a buffer.
+/// Standard output with a buffer, or the exit status.
 fn output(rt: &HostRuntime) -> Result<Counted<BufWriter<io::Stdout>>, u8> {
     match BufWriter::new(rt.alloc(), rt.stdout()) {
         Ok(out) => Ok(Counted::new(out)),
@@ -54,7 +56,7 @@ fn output(rt: &HostRuntime) -> Result<Counted<BufWriter<io::Stdout>>, u8> {
     }
 }
 
-/// The words of the line, or the status that the program ends with.
+/// The words of the command line, or the exit status.
 fn words_of(rt: &HostRuntime) -> Result<Vec<String>, u8> {
     let words = match env::args(rt) {
         Ok(words) => words,
@@ -73,7 +75,7 @@ fn words_of(rt: &HostRuntime) -> Result<Vec<String>, u8> {
     }
 }
 
-/// Does what the line asks for, and gives the exit status.
+/// Does what the command line asks for, and returns the exit status.
 fn status_of(rt: &HostRuntime) -> Result<u8, u8> {
     let words = words_of(rt)?;
     let texts = words.iter().map(|word| word.as_str());

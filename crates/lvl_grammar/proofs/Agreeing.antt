@@ -1,9 +1,9 @@
--- Bytes that agree as far as both go.
+-- Bytes of which one list is a prefix of the other.
 use Rattle.std.proofs.Common.{◌≡◌, ℕ, List, [], ◌∷◌, ◌++◌, refl, sym, ap, ◌∙◌, inl, inr}
 use Rattle.std.proofs.lemmas.List.{append-nil}
 use Rattle.lvl_io.specs.Known.{Agree}
 
--- what agrees is the same with something after each
+-- lists that agree are the same with something after each
 pub agree_ends : (a b : List ℕ) → Agree a b → (x y : List ℕ) × (a ++ x ≡ b ++ y)
 agree_ends a b h = elim h.1 [
   | inl e ↦ ([], h.0, append-nil a ∙ e)

@@ -1,4 +1,4 @@
--- Orders that end in a type and then in another alone, as zero bytes after the end of a file.
+-- Orders that end in one type, and then in any number of another, as of zero bytes after the end of a file.
 use Rattle.std.proofs.Common.{◌≡◌, ◌≢◌, ◌==◌, ℕ, true, false, List, [], ◌∷◌, ◌++◌, refl, sym, ap, ◌∙◌, subst}
 use Rattle.std.proofs.Common.{append_assoc, inl, inr}
 use Rattle.std.proofs.lemmas.List.{append-nil}
@@ -8,11 +8,11 @@ use Rattle.lvl_grammar.specs.Order.{Order, nothing, one, next, either, many, IsW
 use Rattle.lvl_grammar.specs.inside.After.{seq}
 use Rattle.lvl_grammar.proofs.Orders.{seq_back, seq_word, same_type}
 
--- a type is nowhere in a list
+-- the type isn't in the list
 abbrev pub Lacks : ℕ → List ℕ → Type 0
 Lacks k w = AllByRecursion (λ x. x ≢ k) w
 
--- a list has one type alone
+-- the list has no other type
 abbrev pub Repeats : ℕ → List ℕ → Type 0
 Repeats k w = AllByRecursion (λ x. x ≡ k) w
 
@@ -36,7 +36,7 @@ all_flat P Q h (w ∷ ws) p = all_append P w (flat_map (λ u. u) ws) (h w p.0) (
 other_type : (k j : ℕ) → k == j ≡ false → j ≢ k
 other_type k j n e = (let t : true ≡ false = sym (same_type k j (sym e)) ∙ n in cc)
 
--- a type that an order doesn't have is in none of its words
+-- a type that isn't in an expression is in none of its words
 pub word_lacks : (a : Order) (k : ℕ) (w : List ℕ) → has a k ≡ false → IsWord a w → Lacks k w
 word_lacks nothing k w n h = subst (Lacks k) (sym h) tt
 word_lacks (one j) k w n h = subst (Lacks k) (sym h) (other_type k j n, tt)
@@ -62,11 +62,11 @@ repeats_word f (x ∷ w) p =
     let q = repeats_word f w p.1 in
     ((x ∷ []) ∷ q.0, (ap (λ i. i ∷ []) p.0, q.1), ap (λ l. x ∷ l) q.2)
 
--- an order that ends in one e, and then in f alone
+-- a, then e once, and then f any number of times
 abbrev pub ends : Order → ℕ → ℕ → Order
 ends a e f = seq a (next (one e) (many (one f)))
 
--- a word of it, in parts
+-- the parts of a word of such an order
 abbrev Parts : Order → ℕ → ℕ → List ℕ → Type 0
 Parts a e f w = (u v : List ℕ) × IsWord a u × Repeats f v × (w ≡ u ++ (e ∷ v))
 
@@ -88,7 +88,8 @@ first_once e (i ∷ x) [] y y' p q h = absurd (p.0 (let g : i ≡ e = cc in g))
 first_once e (i ∷ x) (j ∷ x') y y' p q h =
     (let g : x ++ (e ∷ y) ≡ x' ++ (e ∷ y') = cc in first_once e x x' y y' p.1 q.1 g)
 
--- an f comes after the e that ends the list before
+-- if an f comes after w in a list with one e, that e is in w, and what follows it in w is part of what follows it in
+-- all
 later : (e f : ℕ) (w more u v : List ℕ) → f ≢ e → Lacks f u → w ++ (f ∷ more) ≡ u ++ (e ∷ v)
     → (z : List ℕ) × (w ≡ u ++ (e ∷ z)) × (v ≡ z ++ (f ∷ more))
 later e f [] more [] v n p h = absurd (n (let g : f ≡ e = cc in g))
@@ -103,7 +104,7 @@ later e f (i ∷ w) more (j ∷ u) v n p h =
     let q = later e f w more u v n p.1 t in
     (q.0, ap (λ k. k ∷ w) g ∙ ap (λ l. j ∷ l) q.1, q.2)
 
--- where f may come, what comes before is a word, in parts
+-- if f may come next, the types before it are a whole word, in parts
 before_fill : (a : Order) (e f : ℕ) (w : List ℕ) → has a f ≡ false → f ≢ e → Begins (ends a e f) (w ++ f ∷ [])
     → Parts a e f w
 before_fill a e f w nf n g =
@@ -111,7 +112,7 @@ before_fill a e f w nf n g =
     let q = later e f w g.0 p.0 p.1 n (word_lacks a f p.0 nf p.2) p.4 in
     (p.0, q.0, p.2, all_left (λ x. x ≡ f) q.0 (f ∷ g.0) (subst (Repeats f) q.2 p.3), q.1)
 
--- where f may come, no other type may
+-- if f may come next, no other type may
 pub fill_alone : (a : Order) (e f k : ℕ) (w : List ℕ) → has a e ≡ false → has a f ≡ false → f ≢ e
     → Begins (ends a e f) (w ++ f ∷ []) → Begins (ends a e f) (w ++ k ∷ []) → k ≡ f
 fill_alone a e f k w ne nf n g h =
@@ -123,7 +124,7 @@ fill_alone a e f k w ne nf n g h =
     both in
     (all_right (λ x. x ≡ f) p.1 (k ∷ h.0) (subst (Repeats f) (sym rest) q.3)).0
 
--- where f may come, the word is whole
+-- if f may come next, the types before it are a whole word
 pub fill_ends : (a : Order) (e f : ℕ) (w : List ℕ) → has a f ≡ false → f ≢ e → Begins (ends a e f) (w ++ f ∷ [])
     → IsWord (ends a e f) w
 fill_ends a e f w nf n g =

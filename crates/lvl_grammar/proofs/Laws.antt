@@ -1,4 +1,4 @@
--- What a format has to prove, and one reading: of two fronts that agree one is the other's beginning.
+-- What a format has to prove, and the law of one reading: of two fronts that agree, one begins with the other.
 use Rattle.std.proofs.Common.{◌≡◌, ℕ, ◌<◌, ◌≤◌, ◌⊎◌, List, [], ◌∷◌, ◌++◌, length, refl, sym, ap, ◌∙◌, subst}
 use Rattle.std.proofs.Common.{append_assoc, inl, inr, arith, length-append}
 use Rattle.std.proofs.lemmas.List.{append-nil, append_cancel_left}
@@ -8,21 +8,22 @@ use Rattle.lvl_grammar.specs.Front.{SpellsAll, FollowAll, IsFront, SpellsWhole}
 
 -- what a format has to prove
 pub record IsGrammar {R K : Type 0} (G : Grammar R K) : Type 0 where
-  -- after the same records, bytes that begin alike spell the same record by the same bytes
+  -- after the same records, if two lists of bytes begin alike, they begin with the same record, spelled by the same
+  -- bytes
   pub decided : (before : List R) (r s : R) (a b x y : List ℕ) → G.spells before a r → G.spells before b s
       → G.follows before r → G.follows before s → a ++ x ≡ b ++ y → (a ≡ b) × (r ≡ s)
-  -- a record has some bytes
+  -- a record has at least one byte
   pub some : (before : List R) (a : List ℕ) (r : R) → G.spells before a r → 0 < length a
-  -- a rule is breached by some bytes
+  -- a rule is breached only by bytes that are there
   pub here : (before : List R) (room : ℕ) (ys : List ℕ) (k : K) → G.wrong before room ys k → 0 < length ys
-  -- where a rule is breached there is no record that may follow
+  -- bytes that breach a rule begin with no record that may follow
   pub stops : (before : List R) (room : ℕ) (ys text : List ℕ) (r : R) (k : K) → G.wrong before room ys k
       → G.spells before text r → G.follows before r → Agree text ys → length text ≤ room → ⊥
-  -- nor where a file that isn't whole ends in the beginning of a record
+  -- nor does an unfinished beginning of a record, in a file that isn't whole
   pub cut : (before : List R) (ys text rest : List ℕ) (r : R) → G.begun before ys → ¬ G.ends before
       → G.spells before text r → G.follows before r → ys ≡ text ++ rest → ⊥
 
--- the second front goes on from the first
+-- the second front begins with the first
 pub record GoesOn {R K : Type 0} (G : Grammar R K) (before : List R) (a b : List ℕ) (rs ss : List R) : Type 0 where
   pub more : List R
   pub tail : List ℕ
@@ -54,7 +55,7 @@ one_more G before r first a b a' b' rs ss e f h = record {
   followed = subst (λ l. FollowAll G l h.more) (append_assoc before (r ∷ []) rs) h.followed;
 }
 
--- of two fronts that agree one goes on from the other
+-- of two fronts that agree, one begins with the other
 pub one_reading : {R K : Type 0} (G : Grammar R K) → IsGrammar G → (before : List R) (rs ss : List R) (a b x y : List ℕ)
     → SpellsAll G before a rs → FollowAll G before rs → SpellsAll G before b ss → FollowAll G before ss
     → a ++ x ≡ b ++ y
@@ -77,21 +78,21 @@ one_reading G is before (r ∷ rs) (s ∷ ss) a b x y p f q g e =
       | inr m ↦ inr (one_more G before r p.0 q.1 p.1 b a ss rs b' p.4 m)
     ])
 
--- no bytes spell no record
+-- an empty list of bytes spells no record
 pub spells_empty : {R K : Type 0} (G : Grammar R K) → IsGrammar G → (before : List R) (bytes : List ℕ) (rs : List R)
     → length bytes ≡ 0 → SpellsAll G before bytes rs → rs ≡ []
 spells_empty G is before bytes [] n p = refl
 spells_empty G is before bytes (r ∷ rs) n p =
     absurd (omega (arith, n, is.some before p.0 r p.2, ap length p.4, length-append p.0 p.1))
 
--- a front that goes on from another that is no shorter has the same records
+-- a front that begins with another of at least its length has the same records
 pub goes_same : {R K : Type 0} (G : Grammar R K) → IsGrammar G → (a b : List ℕ) (rs ss : List R) → length b ≤ length a
     → GoesOn G [] a b rs ss → ss ≡ rs
 goes_same G is a b rs ss l h =
     let n : length h.tail ≡ 0 = omega (arith, ap length h.bytes_are, length-append a h.tail, l) in
     h.records_are ∙ ap (λ m. rs ++ m) (spells_empty G is ([] ++ rs) h.tail h.more n h.spelled) ∙ append-nil rs
 
--- the records of a front are known by its bytes
+-- the bytes of a front decide its records
 pub same_records : {R K : Type 0} (G : Grammar R K) → IsGrammar G → (xs : List ℕ) (rs ss : List R) → IsFront G xs rs
     → IsFront G xs ss → rs ≡ ss
 same_records G is xs rs ss p q =

@@ -1,4 +1,4 @@
--- What may still come in an order, after one record more.
+-- What may still come in an order after one more record.
 use Rattle.std.proofs.Common.{◌≡◌, ℕ, inl, inr, true, false, List, [], ◌∷◌, ◌++◌, sym, ◌∙◌, subst, append_assoc}
 use Rattle.std.proofs.lemmas.List.{append-nil}
 use Rattle.lvl_grammar.specs.Order.{Order, IsWord, Begins}
@@ -23,24 +23,24 @@ leads_on whole w a b k h t v =
           ((h (k ∷ v)).1 (first_put a k v (subst (λ rs. IsWordOfOne rs v) (sym t) (inl y)))),
     )
 
--- a type that may not come begins no word
+-- a type that may not come next begins no word
 pub leads_nowhere : (whole : Order) (w : List ℕ) (a : Order) (k : ℕ) → LeadsTo whole w a → after_first a k ≡ []
     → Begins whole (w ++ k ∷ []) → ⊥
 leads_nowhere whole w a k h t (v, x) =
     let g : (w ++ k ∷ []) ++ v ≡ w ++ (k ∷ v) = append_assoc w (k ∷ []) v in
     subst (λ rs. IsWordOfOne rs v) t (first_taken a k v ((h (k ∷ v)).0 (subst (IsWord whole) g x)))
 
--- what leads to an order begins a word
+-- the types before what is left begin a word
 pub leads_begins : (whole : Order) (w : List ℕ) (a : Order) → LeadsTo whole w a → Begins whole w
 leads_begins whole w a h = (some_word a, (h (some_word a)).1 (some_word-is a))
 
--- where something has to come, the word isn't whole
+-- if something has to come, the word isn't whole
 pub leads_unwhole : (whole : Order) (w : List ℕ) (a : Order) → can_be_empty a ≡ false → LeadsTo whole w a
     → IsWord whole w → ⊥
 leads_unwhole whole w a n h x =
     let y : IsWord a [] = (h []).0 (subst (IsWord whole) (sym (append-nil w)) x) in
     (let z : false ≡ true = sym n ∙ empty_word a y in cc)
 
--- where nothing has to come, it is
+-- if nothing has to come, it is
 pub leads_whole : (whole : Order) (w : List ℕ) (a : Order) → LeadsTo whole w a → IsWord a [] → IsWord whole w
 leads_whole whole w a h x = subst (IsWord whole) (append-nil w) ((h []).1 x)

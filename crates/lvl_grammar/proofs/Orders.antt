@@ -139,7 +139,7 @@ taken_many a k w ha ((x ∷ u) ∷ ws) p e =
     (ha u (subst (λ y. IsWord a (y ∷ u)) same p.0)) (ws, p.1, refl) in
     subst (IsWordOfOne (map (λ r. seq r (many a)) (after_first a k))) rest one
 
--- a word that begins with k goes on by what may come after k
+-- if a word begins with k, its rest is a word of what may come after k
 pub first_taken : (a : Order) (k : ℕ) (w : List ℕ) → IsWord a (k ∷ w) → IsWordOfOne (after_first a k) w
 first_taken nothing k w h = cc
 first_taken (one j) k w h =
@@ -153,7 +153,7 @@ first_taken (either a b) k w h = elim h [
 ]
 first_taken (many a) k w h = taken_many a k w (first_taken a k) h.0 h.1 h.2
 
--- and back
+-- and conversely
 pub first_put : (a : Order) (k : ℕ) (w : List ℕ) → IsWordOfOne (after_first a k) w → IsWord a (k ∷ w)
 first_put nothing k w h = absurd h
 first_put (one j) k w h =
@@ -178,6 +178,6 @@ pub by_test : (P : ℕ → Type 0) (k j : ℕ) (b : Bool) → k == j ≡ b → P
 by_test P k j true e here there = subst P (sym (type_same k j e)) here
 by_test P k j false e here there = there e
 
--- a fact of a type holds where it holds of one type, and of the others
+-- a property of all types follows from that of one type and that of the others
 pub at_type : (P : ℕ → Type 0) (k j : ℕ) → P j → (k == j ≡ false → P k) → P k
 at_type P k j here there = by_test P k j (k == j) refl here there

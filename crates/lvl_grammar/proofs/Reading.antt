@@ -1,4 +1,4 @@
--- How a stream is read: from its beginning, a record at a time.
+-- How a stream is read: from its beginning, one record at a time.
 use Rattle.std.proofs.Common.{◌≡◌, ℕ, ◌+◌, ◌-◌, ◌<◌, ◌≤◌, List, [], ◌∷◌, ◌++◌, length, take, drop, refl, sym, ap, ◌∙◌}
 use Rattle.std.proofs.Common.{subst}
 use Rattle.std.proofs.Common.{append_assoc, arith, length-append, length-take}
@@ -11,7 +11,7 @@ use Rattle.lvl_grammar.specs.inside.ReadTo.{ReadTo}
 use Rattle.lvl_grammar.proofs.Spelled.{spells_join, follow_join}
 use Rattle.lvl_grammar.proofs.Stuck.{parts_at}
 
--- at the beginning nothing was read
+-- at the beginning nothing has been read
 pub reads_begin : {R K : Type 0} (G : Grammar R K) (xs : List ℕ) (Has : List R → Type 0) (left : Option (List ℕ))
     → left ≡ Some xs → Has [] → ReadTo G xs 0 Has left
 reads_begin G xs Has left e h = record {
@@ -22,12 +22,12 @@ reads_begin G xs Has left e h = record {
   within = omega arith;
 }
 
--- where a reader failed, what was read before is a front
+-- if the reader failed, what was read before is a front
 pub unread_front : {R K : Type 0} (G : Grammar R K) (xs : List ℕ) (left : Option (List ℕ)) (at : ℕ)
     → IsUnread G xs left at → IsFrontAt G xs at
 unread_front G xs left at u = record { within = u.within; records = u.records; front = u.front }
 
--- a reader that failed after records gave the first of the bytes that come
+-- a reader that fails after some records has given the first of the bytes that follow them
 pub reads_unread : {R K : Type 0} (G : Grammar R K) (xs : List ℕ) (at : ℕ) (Has : List R → Type 0)
     (was left : Option (List ℕ)) (to : ReadTo G xs at Has was) (given rest : List ℕ)
     → drop at xs ≡ given ++ rest → left ≡ Some rest → (0 < length given → G.begun to.records given)
@@ -43,7 +43,7 @@ reads_unread G xs at Has was left to given rest parts is begun = record {
   begun = begun;
 }
 
--- a front with one record more
+-- a front followed by one more record
 pub front_on : {R K : Type 0} (G : Grammar R K) (bytes text : List ℕ) (rs : List R) (r : R) → IsFront G bytes rs
     → G.spells rs text r → G.follows rs r → length (bytes ++ text) ≤ G.limit → IsFront G (bytes ++ text) (rs ++ r ∷ [])
 front_on G bytes text rs r f s g l = record {
@@ -52,7 +52,7 @@ front_on G bytes text rs r f s g l = record {
   within = l;
 }
 
--- one record more
+-- reading one more record
 pub reads_on : {R K : Type 0} (G : Grammar R K) (xs : List ℕ) (at : ℕ) (Has Has' : List R → Type 0)
     (left : Option (List ℕ)) (to : ReadTo G xs at Has left) (r : R) (text rest : List ℕ)
     → drop at xs ≡ text ++ rest → G.spells to.records text r → G.follows to.records r

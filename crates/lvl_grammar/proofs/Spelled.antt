@@ -4,7 +4,7 @@ use Rattle.std.proofs.lemmas.List.{append-nil}
 use Rattle.lvl_grammar.specs.Grammar.{Grammar}
 use Rattle.lvl_grammar.specs.Front.{SpellsAll, FollowAll}
 
--- the spellings of some records, and one more
+-- the spellings of some records, followed by that of one more
 pub spells_join : {R K : Type 0} (G : Grammar R K) (before : List R) (a b : List ℕ) (rs : List R) (r : R)
     → SpellsAll G before a rs → G.spells (before ++ rs) b r → SpellsAll G before (a ++ b) (rs ++ r ∷ [])
 spells_join G before a b [] r p q =

@@ -1,4 +1,4 @@
--- Where a rule is breached, or a file ends in a record, nothing is spelled.
+-- If a rule is breached, or the input ends within a record, it is no whole file.
 use Rattle.std.proofs.Common.{◌≡◌, ℕ, ◌-◌, ◌<◌, ◌≤◌, List, [], ◌∷◌, ◌++◌, length, take, drop, sym, ap, ◌∙◌, subst}
 use Rattle.std.proofs.Common.{append_assoc, inl, inr, arith, length-append, length-take, length-drop}
 use Rattle.std.specs.Prelude.{Option}
@@ -39,7 +39,7 @@ next_of G front ys bytes x y rs ss (r ∷ more) tail p f e l w h =
       within = omega (arith, w, ap length e, length-append front tail, ap length p.4, length-append p.0 p.1);
     }
 
--- a longer front that agrees with the input goes on by a record
+-- a longer front that agrees with the input has a next record
 goes_on : {R K : Type 0} (G : Grammar R K) → IsGrammar G → (xs : List ℕ) (at : ℕ) (rs ss : List R) (bytes : List ℕ)
     → at ≤ length xs → IsFront G (take at xs) rs → IsFront G bytes ss → at < length bytes → Agree bytes xs
     → IsNext G rs (G.limit - at) (drop at xs)
@@ -56,7 +56,7 @@ goes_on G is xs at rs ss bytes within front next long agree =
       | inr m ↦ absurd (omega (arith, ap length m.bytes_are, length-append bytes m.tail, n, long))
     ])
 
--- where a rule is breached the input is stuck
+-- if a rule is breached, the input is stuck
 pub law_stuck : {R K : Type 0} (G : Grammar R K) → IsGrammar G → (xs : List ℕ) (at : ℕ) (rs : List R) (k : K)
     → at ≤ length xs → IsFront G (take at xs) rs → G.wrong rs (G.limit - at) (drop at xs) k → IsStuck G xs at
 law_stuck G is xs at rs k within front wrong = record {
@@ -83,7 +83,7 @@ cut_by G is xs at t records p (r ∷ more) tail e b s f =
     (take-append-drop at xs ∙ b ∙ ap (λ l. take at xs ++ l) s.4) in
     is.cut t.records (drop at xs) s.0 s.1 r t.cut t.unended s.2 f.0 here
 
--- nor is one that is cut
+-- nor is a truncated one
 pub truncated_none : {R K : Type 0} (G : Grammar R K) → IsGrammar G → (xs : List ℕ) (at : ℕ) → IsTruncated G xs at
     → SpellsNothing G xs
 truncated_none G is xs at t records p =
@@ -120,7 +120,7 @@ parts_at xs a b n e h = (
       ∙ drop-append_seam a b,
 )
 
--- and no input that goes on from the bytes that were seen is a whole file
+-- no whole file begins with the bytes that were taken
 pub seen_hopeless : {R K : Type 0} (G : Grammar R K) → IsGrammar G
     → (xs : List ℕ) (at : ℕ) (left : Option (List ℕ)) (k : K) → IsSeenWrong G xs at left k → IsHopeless G xs left
 seen_hopeless G is xs at left k s = record {

@@ -1,8 +1,9 @@
--- The order of records: an expression over record types, and the words that it has.
+-- The order of records: expressions over record types, and the lists of types (words) that each allows.
 use Rattle.std.specs.Prelude.{◌≡◌, ◌==◌, ◌||◌, Bool, false, ℕ, ◌⊎◌, List, [], ◌∷◌, ◌++◌}
 use Rattle.std.specs.List.{AllByRecursion, flat_map}
 
--- record types are numbers
+-- an expression over record types, which are numbers: no type, one type, one expression and then another, either of
+-- two, or any number of one
 pub data Order : Type 0 where
   nothing : Order
   one : ℕ → Order
@@ -18,11 +19,11 @@ infixr 9 ◌or◌
 abbrev pub ◌or◌ : Order → Order → Order
 a or b = either a b
 
--- it may be there or not
+-- a, or nothing
 abbrev pub maybe : Order → Order
 maybe a = either a nothing
 
--- a list of types is a word of an order
+-- the list of types is a word of the expression
 abbrev pub IsWord : Order → List ℕ → Type 0
 IsWord nothing w = w ≡ []
 IsWord (one k) w = w ≡ k ∷ []
@@ -30,11 +31,11 @@ IsWord (next a b) w = (u v : List ℕ) × IsWord a u × IsWord b v × (w ≡ u +
 IsWord (either a b) w = IsWord a w ⊎ IsWord b w
 IsWord (many a) w = (ws : List (List ℕ)) × AllByRecursion (IsWord a) ws × (w ≡ flat_map (λ u. u) ws)
 
--- a list of types begins a word of an order
+-- the list of types is the beginning of a word, or a whole one
 abbrev pub Begins : Order → List ℕ → Type 0
 Begins a w = (more : List ℕ) × IsWord a (w ++ more)
 
--- a type is somewhere in an order
+-- whether the type is somewhere in the expression
 abbrev pub has : Order → ℕ → Bool
 has nothing k = false
 has (one j) k = k == j

@@ -1,8 +1,8 @@
-//! Streams of records, whatever their format.
+//! Streams of records, for any format.
 //!
-//! This crate is definitions and laws. `specs/Grammar.antt` says what a format gives: how a record
-//! is spelled, which may follow which, and when a file is whole. Built on it are fronts, refusals and
-//! whole files, once for all formats: a file has one reading, and where a rule is breached nothing
-//! is spelled, whatever comes after the bytes that were taken. `specs/Order.antt` has expressions
+//! This crate has definitions and laws only. `specs/Grammar.antt` says what a format has to define:
+//! how a record is spelled, which record may follow which, and when a file is whole. From this the
+//! crate defines fronts, refusals and whole files, and proves that a file has at most one reading,
+//! and that no whole file begins with bytes that breach a rule. `specs/Order.antt` has expressions
 //! for the order of records.
 #![tactic(auto)]

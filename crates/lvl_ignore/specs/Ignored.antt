@@ -1,4 +1,4 @@
--- What a reader may ignore, and the text that says so (own rule).
+-- What a reader may ignore, and the text that names it (own rule).
 use Rattle.std.specs.Prelude.{◌≡◌, ◌==◌, ◌||◌, ℕ, Bool, true, false, List, [], ◌∷◌, Option, Some, None, codes}
 use Rattle.std.specs.Prelude.{option_and_then}
 use Rattle.std.specs.Prelude.{if◌then◌else◌}
@@ -6,12 +6,15 @@ use Rattle.std.specs.List.{slice_split}
 use Rattle.std.specs.Str.{bytes_eq}
 use Rattle.lvl_ignore.specs.declared.ignore.Ignore.{Ignore}
 
+-- the empty set
 abbrev pub nothing : Ignore
 nothing = record { properties = false; texts = false; names = false; padding = false }
 
+-- the set of everything that can be ignored
 abbrev pub everything : Ignore
 everything = record { properties = true; texts = true; names = true; padding = true }
 
+-- what is in either set
 abbrev pub union : Ignore → Ignore → Ignore
 union a b = record {
   properties = a.properties || b.properties;
@@ -20,14 +23,14 @@ union a b = record {
   padding = a.padding || b.padding;
 }
 
--- what is in one set is in the other
+-- each kind of records in the first set is in the second
 pub record IsWithin (less more : Ignore) : Type 0 where
   pub properties : less.properties ≡ true → more.properties ≡ true
   pub texts : less.texts ≡ true → more.texts ≡ true
   pub names : less.names ≡ true → more.names ≡ true
   pub padding : less.padding ≡ true → more.padding ≡ true
 
--- what a word names
+-- the set that a word names; None if it is no such word
 abbrev pub word_set : List ℕ → Option Ignore
 word_set word =
     if bytes_eq word (codes "properties") then Some (record nothing { properties = true }) else
@@ -36,14 +39,15 @@ word_set word =
     (if bytes_eq word (codes "padding") then Some (record nothing { padding = true }) else
     (if bytes_eq word (codes "all") then Some everything else None))))
 
+-- the byte `,`
 abbrev pub comma : ℕ
 comma = 44
 
--- what the words name together with what was named before, if each is a word
+-- the union of `before` and what the words name; None if one of them names nothing
 abbrev pub union_of : Ignore → List (List ℕ) → Option Ignore
 union_of before [] = Some before
 union_of before (word ∷ words) = option_and_then (λ set. union_of (union before set) words) (word_set word)
 
--- words joined by commas, each of which adds what it names
+-- the text is one or more words joined by commas, and together they name `ignore`
 abbrev pub IsText : List ℕ → Ignore → Type 0
 IsText text ignore = union_of nothing (slice_split (λ b. b == comma) text) ≡ Some ignore

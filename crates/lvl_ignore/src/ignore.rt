@@ -9,13 +9,13 @@ use lvl_refusal::Cause;
 use std::alloc::{AllocError, Global};
 use thiserror::Error;
 
-/// Which records a reader reads and ignores. None of them draws anything.
+/// Which records a reader reads and ignores instead of refusing them. None of them draws anything.
 #[derive(Clone, Copy, Debug, PartialEq, Eq)]
 pub struct Ignore {
     /// Properties of elements, cells and files. GDSII: PROPATTR with PROPVALUE, and ATTRTABLE. OASIS:
     /// PROPNAME, PROPSTRING and PROPERTY.
     pub properties: bool,
-    /// Texts. OASIS: TEXTSTRING and TEXT. A TEXT of GDSII is read in any case, and draws nothing.
+    /// Texts. OASIS: TEXTSTRING and TEXT. A TEXT of GDSII is always read, and draws nothing.
     pub texts: bool,
     /// Names and attributes that concern no shape. GDSII: LIBDIRSIZE, SRFNAME, LIBSECUR, REFLIBS, FONTS,
     /// GENERATIONS, FORMAT 0, STRCLASS, ELFLAGS and PLEX. OASIS: LAYERNAME and XNAME.
@@ -34,7 +34,7 @@ pub enum IgnoreFault {
 }
 
 impl Ignore {
-    /// Nothing is ignored: each record that isn't read is refused.
+    /// Nothing is ignored: each record that the reader doesn't use is refused.
     pub const NOTHING: Ignore = Ignore {
         properties: false,
         texts: false,
@@ -42,7 +42,7 @@ impl Ignore {
         padding: false,
     };
 
-    /// All that can be ignored is.
+    /// Everything that can be ignored is ignored.
     pub const EVERYTHING: Ignore = Ignore {
         properties: true,
         texts: true,
@@ -50,8 +50,8 @@ impl Ignore {
         padding: true,
     };
 
-    /// What a text says: words joined by commas, each of which adds what it names. A word may come
-    /// again. `all` names everything (own rule).
+    /// Reads words joined by commas, each of which adds what it names; `all` names everything. A word
+    /// may be repeated (own rule).
     pub fn read(alloc: Global, text: &str) -> Result<Ignore, Cause<IgnoreFault>>
         ensures ok { IfOk result (IsText text.now) }
         ensures err { IfErr result (λ refusal. Says refusal (λ fault. (ignore : Ignored) → ¬ IsText text.now ignore)) }
@@ -63,7 +63,7 @@ impl Ignore {
         }
     }
 
-    /// What either set has.
+    /// The union of two sets.
     fn with(self, more: Ignore) -> Ignore
         ensures { result ≡ union self more }
     {
@@ -83,7 +83,7 @@ fn words_of<'a>(alloc: Global, text: &'a str) -> Result<Vec<&'a str>, AllocError
     text.split(',').collect(alloc)
 }
 
-/// What some words name together, if each is a word.
+/// The union of what the words name; `None` if one of them names nothing.
 fn union_of(words: &[&str]) -> Option<Ignore>
     ensures { result ≡ union_of nothing (map (λ w. w.now) words.now) }
 {
@@ -94,7 +94,7 @@ fn union_of(words: &[&str]) -> Option<Ignore>
     Some(ignore)
 }
 
-/// What a word names.
+/// The set that a word names; `None` if it is no such word.
 fn named(word: &str) -> Option<Ignore>
     ensures { result ≡ word_set word.now }
 {

@@ -1,8 +1,8 @@
-//! What a reader may ignore: records that draw nothing, by the words of the format's standard.
+//! What a reader may ignore: records that draw nothing, as the format's standard says.
 //!
-//! A reader refuses each record that it doesn't read, since such a record might draw something. Some
-//! records draw nothing whatever they say: properties, texts, names of layers. [`Ignore`] says which
-//! of these are read and ignored. It is read from words such as `properties,texts`, or `all`.
+//! A reader refuses each record that it doesn't use, since such a record might draw something. Some
+//! records never draw anything: properties, texts, names of layers. [`Ignore`] says which of these
+//! are read and ignored. It is read from words such as `properties,texts`, or `all`.
 //!
 //! ```
 //! let ignore = Ignore::read(alloc, "properties,names")?;

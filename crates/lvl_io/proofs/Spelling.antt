@@ -1,4 +1,4 @@
--- The laws of spellings: which are free of prefixes, which can say something, and where one is begun.
+-- The laws of spellings: which are prefix-free, which can say something, and when a spelling is begun.
 use Rattle.std.proofs.Common.{◌≡◌, ℕ, zero, suc, inl, inr, List, [], ◌∷◌, ◌++◌, length, Result, Ok, Err, refl, sym, ap}
 use Rattle.std.proofs.Common.{◌∙◌, subst, arith, append_assoc, append-nil, length-append}
 use Rattle.std.proofs.lemmas.List.{append_cancel_left}
@@ -6,7 +6,7 @@ use Rattle.lvl_io.specs.Known.{Agree}
 use Rattle.lvl_io.specs.Spelling.{IsPrefixFree, IsFront, IsBegun, NoneAgrees, CanSay, Gives, After, UnlessBreached}
 use Rattle.lvl_io.specs.Spelling.{Then, Chain}
 
--- free of prefixes
+-- prefix-free
 
 pub gives_free : {A : Type 0} (x : A) → IsPrefixFree (Gives x)
 gives_free x = record { only = λ b c m n y z p q e. (p.0 ∙ sym q.0, p.1 ∙ sym q.1) }
@@ -46,7 +46,7 @@ chain_free S show (suc n) a s =
     (λ x. then_free (Chain S show n x) (λ ys. Gives (Ok (show x ∷ ys))) (chain_free S show n x s)
     (λ ys. gives_free (Ok (show x ∷ ys))))
 
--- something can be said
+-- there are bytes that say something
 
 pub gives_said : {A : Type 0} (x : A) → CanSay (Gives x)
 gives_said x = record { bytes = []; value = x; says = (refl, refl) }
@@ -85,7 +85,7 @@ chain_said S show (suc n) a s =
     (λ x. then_said (Chain S show n x) (λ ys. Gives (Ok (show x ∷ ys))) (chain_said S show n x s)
     (λ ys. gives_said (Ok (show x ∷ ys))))
 
--- where the first is begun, and where it is said and the second is begun
+-- a pair is begun if its first part is, or if the first part is said and the second is begun
 
 after_begun : {A B : Type 0} (S : List ℕ → A → Type 0) (T : A → List ℕ → B → Type 0) (xs : List ℕ) → IsBegun S xs
     → ((x : A) → CanSay (T x)) → IsBegun (After S T) xs
@@ -127,7 +127,7 @@ then_goes_on S T b ys x s t =
       };
     }
 
--- the whole is said, by both or by a breach of the first
+-- the whole is said, by both parts or by a breach of the first
 
 pub then_both : {A B F : Type 0} (S : List ℕ → Result A F → Type 0) (T : A → List ℕ → Result B F → Type 0)
     (b c : List ℕ) (x : A) (r : Result B F)
@@ -148,7 +148,7 @@ then_breached S T b f s =
       joined = let e : b ++ [] ≡ b = simp append-nil in sym e;
     }
 
--- what is at the front is all that agrees
+-- if the front says x, nothing that agrees with the bytes says anything else
 
 pub front_only : {A : Type 0} (S : List ℕ → A → Type 0) (xs : List ℕ) (n : ℕ) (x y : A) → IsPrefixFree S
     → IsFront S xs n x → (b : List ℕ) → S b y → Agree b xs → x ≡ y
@@ -160,12 +160,12 @@ front_only S xs n x y s f b p agree = elim agree.1 [
   | inr longer ↦ (s.only f.bytes b f.rest agree.0 x y f.says p (sym f.whole ∙ longer)).1
 ]
 
--- where a rule is breached nothing is spelled
+-- bytes that breach a rule begin with no value's spelling
 pub breached_none : {A F : Type 0} (S : List ℕ → Result A F → Type 0) (xs : List ℕ) (n : ℕ) (f : F) (x : A)
     → IsPrefixFree S → IsFront S xs n (Err f) → NoneAgrees S xs (Ok x)
 breached_none S xs n f x s p = λ b q agree. let h : Err f ≡ Ok x = front_only S xs n (Err f) (Ok x) s p b q agree in cc
 
--- an unfinished beginning has nothing whole at its front
+-- an unfinished beginning has no complete spelling at its front
 pub begun_open : {A : Type 0} (S : List ℕ → A → Type 0) (xs : List ℕ) (n : ℕ) (x : A) → IsPrefixFree S → IsBegun S xs
     → IsFront S xs n x → ⊥
 begun_open S xs n x s p f =

@@ -1,9 +1,9 @@
--- Bytes that are needed and can't be had.
+-- Bytes that are needed but missing.
 use Rattle.std.specs.Prelude.{Bool, true, false, Result, Ok, Err}
 use Rattle.lvl_io.specs.declared.buffer.Missing.{Missing}
 use Rattle.lvl_io.specs.declared.buffer.Missing.TheVariants.{Ended, Limit, Failed}
 
--- whether bytes can't be had since the reader answered an error
+-- whether bytes are missing because the reader returned an error
 abbrev pub reader_failed : {A : Type 0} → Result A Missing → Bool
 reader_failed (Ok x) = false
 reader_failed (Err Failed) = true

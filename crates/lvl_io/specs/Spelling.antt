@@ -1,16 +1,17 @@
--- Spellings: what bytes say, and how spellings are put together. `S b x` is read: the bytes b say x.
+-- Spellings: which bytes stand for which value, and how spellings are combined. `S b x` is read: the bytes b say x.
 --
--- What may be refused is spelled as a `Result`: bytes say `Ok x` where they spell x, and `Err f` where they breach the
--- rule f, of which they are the shortest proof. So that a spelling is free of prefixes says three things in one: bytes
--- spell one value at most, where a rule is breached nothing is spelled, and which rule it is the bytes alone decide.
+-- A value that can be refused is a `Result`: bytes say `Ok x` if they spell x, and `Err f` if they breach the rule f
+-- and no shorter beginning of them does. For such a spelling, to be prefix-free means three things: any bytes begin
+-- with the spelling of at most one value, bytes that breach a rule begin with none, and the bytes alone decide which
+-- rule is breached.
 use Rattle.std.specs.Prelude.{◌≡◌, ℕ, zero, suc, ◌<◌, List, [], ◌∷◌, ◌++◌, length, Result, Ok, Err}
 use Rattle.lvl_io.specs.Known.{Agree}
 
--- bytes say one thing at most, and nothing that says something begins what says another thing
+-- of all beginnings of a list at most one says something, and it says one thing
 pub record IsPrefixFree {A : Type 0} (S : List ℕ → A → Type 0) : Type 0 where
   pub only : (b c m n : List ℕ) (x y : A) → S b x → S c y → b ++ m ≡ c ++ n → (b ≡ c) × (x ≡ y)
 
--- the first n bytes say x
+-- the first n bytes of xs say x
 pub record IsFront {A : Type 0} (S : List ℕ → A → Type 0) (xs : List ℕ) (n : ℕ) (x : A) : Type 0 where
   pub bytes : List ℕ
   pub rest : List ℕ
@@ -18,28 +19,28 @@ pub record IsFront {A : Type 0} (S : List ℕ → A → Type 0) (xs : List ℕ) 
   pub whole : xs ≡ bytes ++ rest
   pub count : length bytes ≡ n
 
--- an unfinished beginning: some bytes more, at least one, say something
+-- xs is an unfinished beginning: followed by more bytes, at least one, it says something
 pub record IsBegun {A : Type 0} (S : List ℕ → A → Type 0) (xs : List ℕ) : Type 0 where
   pub more : List ℕ
   pub value : A
   pub short : 0 < length more
   pub says : S (xs ++ more) value
 
--- nothing that says x agrees with the bytes, as far as both go
+-- no bytes that say x agree with xs: neither is a prefix of the other
 abbrev pub NoneAgrees : {A : Type 0} → (List ℕ → A → Type 0) → List ℕ → A → Type 0
 NoneAgrees S xs x = (b : List ℕ) → S b x → Agree b xs → ⊥
 
--- some bytes spell something
+-- there are bytes that say something
 pub record CanSay {A : Type 0} (S : List ℕ → A → Type 0) : Type 0 where
   pub bytes : List ℕ
   pub value : A
   pub says : S bytes value
 
--- x is said by no bytes at all
+-- the empty list says x, and no other bytes say anything
 abbrev pub Gives : {A : Type 0} → A → List ℕ → A → Type 0
 Gives x b y = (b ≡ []) × (y ≡ x)
 
--- one after another: the first bytes say some x, and those after them are read as x says
+-- one after another: bytes that say some value by S, and then bytes that are read by T for that value
 pub record After {A B : Type 0} (S : List ℕ → A → Type 0) (T : A → List ℕ → B → Type 0) (b : List ℕ) (y : B) : Type 0
   where
     pub value : A
@@ -49,19 +50,19 @@ pub record After {A B : Type 0} (S : List ℕ → A → Type 0) (T : A → List 
     pub second_says : T value second y
     pub joined : b ≡ first ++ second
 
--- after a breach nothing more is read
+-- T for a value; after a breach nothing more is read, and the breach is what is said
 abbrev pub UnlessBreached : {A B F : Type 0} → (A → List ℕ → Result B F → Type 0) → Result A F → List ℕ → Result B F
     → Type 0
 UnlessBreached T (Ok x) = T x
 UnlessBreached T (Err f) = Gives (Err f)
 
--- one after another: a breach of the first is one of the whole; else the bytes after it are read as its value says
+-- S and then T for its value; a breach of S is a breach of the whole
 abbrev pub Then : {A B F : Type 0} → (List ℕ → Result A F → Type 0) → (A → List ℕ → Result B F → Type 0) → List ℕ
     → Result B F → Type 0
 Then S T = After S (UnlessBreached T)
 
--- n of them one after another, the first of which is read as a says, and each other as the one before it says. What is
--- said is the list of what is shown of each
+-- n values one after another: the first is read by S for a, and each other by S for the one before it. The whole says
+-- the list of what `show` makes of each
 abbrev pub Chain : {A B F : Type 0} → (A → List ℕ → Result A F → Type 0) → (A → B) → ℕ → A → List ℕ → Result (List B) F
     → Type 0
 Chain S show zero a = Gives (Ok [])

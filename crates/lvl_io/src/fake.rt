@@ -1,12 +1,12 @@
-//! Readers and writers for tests: they hand out pieces, and fail where a test says.
+//! Readers and writers for tests: they give or take bytes in pieces, and fail on request.
 ghost use Rattle.std.specs.Prelude.{Some, []};
 
 use crate::{Failure, Read, Write};
 use std::alloc::Global;
 use std::io;
 
-/// Gives at most `most` bytes of the rest at a read, and at the end of the rest fails as often as
-/// `failures` says before it reports the end.
+/// Gives at most `most` bytes (at least one) in each read. At the end of `rest` it fails `failures`
+/// times and then reports the end.
 #[derive(Drop)]
 pub struct Pieces<'a> {
     pub rest: &'a [u8],
@@ -61,8 +61,8 @@ impl Read for Pieces<'_> {
     }
 }
 
-/// Takes at most `most` bytes at a write, up to `room` in all, and then answers an error, or
-/// takes nothing where `takes_nothing` is set.
+/// Takes at most `most` bytes in each write, and `room` in all. Then it returns errors, or 0 if
+/// `takes_nothing` is set.
 #[derive(Drop)]
 pub struct Sink {
     pub taken: Vec<u8>,
@@ -74,7 +74,7 @@ pub struct Sink {
 }
 
 impl Sink {
-    /// Takes at most `most` bytes at a write, and any number in all.
+    /// Takes at most `most` bytes in each write, and any number in all.
     pub fn new(alloc: Global, most: usize) -> Sink {
         Sink {
             taken: Vec::new(alloc),

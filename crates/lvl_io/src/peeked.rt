@@ -1,11 +1,11 @@
-//! A reader from which a byte was taken to look at it, and which gives that byte again.
+//! A reader that gives a byte again which was taken from it to look at.
 ghost use Rattle.std.specs.Prelude.{◌≡◌, ◌∷◌, []};
 ghost use Rattle.std.specs.Io.KnownBytes.{prepend_known};
 ghost use Rattle.lvl_io.specs.Peeked.{peeked_byte, peeked_rest, given_again};
 
 use crate::{Failure, Read};
 
-/// A reader with a byte before its own bytes, if there is one.
+/// A reader preceded by one byte, if there is one.
 #[derive(Drop)]
 pub struct Peeked<R> {
     byte: Option<u8>,
@@ -13,7 +13,7 @@ pub struct Peeked<R> {
 }
 
 impl<R> Peeked<R> {
-    /// The reader after the byte.
+    /// First gives the byte, and then what `rest` gives.
     pub fn new(byte: Option<u8>, rest: R) -> Peeked<R>
         ensures byte { peeked_byte result ≡ byte }
         ensures rest { peeked_rest result ≡ rest }
@@ -21,7 +21,7 @@ impl<R> Peeked<R> {
         Peeked { byte, rest }
     }
 
-    /// The reader alone.
+    /// The reader without the byte, which is lost if it wasn't read again.
     pub fn into_rest(self) -> R
         ensures { result ≡ peeked_rest self }
     {

@@ -7,19 +7,19 @@ ghost use Rattle.lvl_io.specs.Bytes.{CountsFailure, failed};
 
 use crate::Failure;
 
-/// Gives bytes, as std's `Read` does, and counts the errors that it answered.
+/// Gives bytes, as std's `Read` does, and counts the errors that it returned.
 pub trait Read {
-    /// The bytes that reads will give from here on, where they are known.
+    /// The bytes that reads will give from here on, if they are known.
     ghost remaining: { Self → Option (List ℕ) };
 
-    /// How many errors the reader answered.
+    /// How many errors the reader has returned.
     ghost read_errors: { Self → ℕ };
 
     /// The references through which it reads, the outermost first. A read keeps them.
     ghost lent: { Self → List GName };
 
-    /// Reads some bytes into the front of `buf` and gives their number, which is 0 only at the
-    /// end of the input or where `buf` is empty.
+    /// Reads some bytes into the front of `buf` and returns how many. This is 0 only at the end of
+    /// the input or if `buf` is empty.
     fn read(&mut self, buf: &mut [u8]) -> Result<usize, Failure>
         ensures bound { ReadsAtMost result buf.new }
         ensures bytes { ReadConsumes (remaining self.old) (remaining self.new) result buf.new }

@@ -7,19 +7,19 @@ ghost use Rattle.lvl_io.specs.Bytes.{CountsFailure, failed, write_failed};
 
 use crate::Failure;
 
-/// Takes bytes, as std's `Write` does, and counts the errors that it answered. A write that took
-/// nothing of a slice that is not empty counts as one.
+/// Takes bytes, as std's `Write` does, and counts the errors that it returned. A write that takes
+/// nothing of a slice that isn't empty counts as one.
 pub trait Write {
-    /// The bytes that the writer holds, where they are known.
+    /// The bytes that the writer has taken, if they are known.
     ghost contents: { Self → Option (List ℕ) };
 
-    /// How many errors the writer answered.
+    /// How many errors the writer has returned.
     ghost write_errors: { Self → ℕ };
 
     /// The references through which it writes, the outermost first. A write and a flush keep them.
     ghost lent: { Self → List GName };
 
-    /// Takes some bytes from the front of `buf` and gives their number.
+    /// Takes some bytes from the front of `buf` and returns how many.
     fn write(&mut self, buf: &[u8]) -> Result<usize, Failure>
         ensures bound { WritesAtMost result buf.now }
         ensures bytes { WriteAppends (contents self.old) (contents self.new) result buf.now }
@@ -27,7 +27,7 @@ pub trait Write {
             (write_failed result buf.now) }
         ensures same { lent self.new ≡ lent self.old };
 
-    /// Passes on what the writer holds back.
+    /// Passes on the bytes that the writer has buffered.
     fn flush(&mut self) -> Result<(), Failure>
         ensures bytes { Keeps (contents self.old) (contents self.new) }
         ensures errors { CountsFailure (write_errors self.old) (write_errors self.new) (failed result) }

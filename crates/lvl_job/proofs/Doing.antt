@@ -1,4 +1,4 @@
--- What a job did, from what its steps did.
+-- What a job did, by what its steps did.
 use Rattle.std.proofs.Common.{◌≡◌, ℕ, List, Option, Some, None, Result, Ok, Err, IfOk, IfErr, refl, sym, subst}
 use Rattle.std.proofs.Common.{option_map}
 use Rattle.std.specs.Io.KnownBytes.{Keeps}
@@ -87,7 +87,7 @@ module _ {S : Type 0} (opens : S → List ℕ → Option (Option (List ℕ)) →
         go RunOutput none = begun
         go RunOutOfMemory none = none refl
 
-    -- a job of one file, by what it is that the file isn't opened, and that its answer is cut
+    -- a job on one file, by why the file isn't opened and how its answer is cut off
     fault_of_one : (job : Job) (ignore : Ignore) (file : String Global) (top : Option (String Global)) (old new : S)
         (from to : Option (List ℕ))
         → ((name : List ℕ) → name ≡ string_bytes file → opens old name None new → IsNotOpened opens job old new name)
@@ -187,7 +187,7 @@ module _ {S : Type 0} (opens : S → List ℕ → Option (Option (List ℕ)) →
   view_fault first second top_a top_b map_text window_text ignored old from OutOfMemory h = keeps_same from
   view_fault first second top_a top_b map_text window_text ignored old from Output h = absurd h
 
-  -- of a job whose text of what is ignored is bad
+  -- a job whose text of what is ignored is bad
   no_ignore : (job : Job) (text : Option (List ℕ)) (old : S) (from : Option (List ℕ)) (fault : JobFault)
       → (IsIgnoreFault text → IsBadIgnore job) → IsNoIgnore text fault
       → IsFaultOfJob opens job old old from from fault

@@ -5,7 +5,7 @@ use Rattle.std.specs.Io.KnownBytes.{Appends, Keeps}
 use Rattle.std.proofs.KnownBytes.{Appends-trans}
 use Rattle.lvl_report.specs.Writing.{AppendsBeginning}
 
--- a beginning of the first part is one of the whole
+-- a beginning of the first part is a beginning of the whole
 pub begins : (old new : Option (List ℕ)) (a b : List ℕ) → AppendsBeginning old new a
     → AppendsBeginning old new (a ++ b)
 begins old new a b h = record {
@@ -25,19 +25,19 @@ begins_later old mid new a b whole h = record {
   appended = Appends-trans _ _ _ _ _ whole h.appended;
 }
 
--- known bytes are those that they are
+-- known bytes stay the same
 pub keeps_same : (a : Option (List ℕ)) → Keeps a a
 keeps_same None = tt
 keeps_same (Some xs) = refl
 
--- of a line in three parts a beginning of the first was written
+-- of a line in three parts, a beginning of the first was written
 pub in_first : (old new : Option (List ℕ)) (x a b c : List ℕ) → x ≡ a → AppendsBeginning old new x
     → AppendsBeginning old new ((a ++ b) ++ c)
 in_first old new x a b c is h =
     let P : List ℕ → Type 0 = λ l. AppendsBeginning old new l in
     subst P (sym (append_assoc a b c)) (begins old new a (b ++ c) (subst P is h))
 
--- the first, and a beginning of the second
+-- the first was written, and a beginning of the second
 pub in_second : (old mid new : Option (List ℕ)) (x y a b c : List ℕ) → x ≡ a → y ≡ b → Appends old mid x
     → AppendsBeginning mid new y → AppendsBeginning old new ((a ++ b) ++ c)
 in_second old mid new x y a b c first second whole h =
@@ -45,7 +45,7 @@ in_second old mid new x y a b c first second whole h =
     let Q : List ℕ → Type 0 = λ l. AppendsBeginning mid new l in
     begins old new (a ++ b) c (begins_later old mid new a b (subst P first whole) (subst Q second h))
 
--- the first and the second, and a beginning of the third
+-- the first and the second were written, and a beginning of the third
 pub in_third : (old mid late new : Option (List ℕ)) (x y a b c : List ℕ) → x ≡ a → y ≡ b → Appends old mid x
     → Appends mid late y → AppendsBeginning late new c → AppendsBeginning old new ((a ++ b) ++ c)
 in_third old mid late new x y a b c first second whole too h =

@@ -1,4 +1,4 @@
--- How a job ends: its exit status, and what it says on standard error.
+-- How a job ends: its exit status, and what it writes to standard error (own rule).
 use Rattle.std.specs.Prelude.{ℕ, List, [], ◌∷◌, ◌++◌, codes, Option, Some, None, Result, Ok, Err, Bool, true, false}
 use Rattle.std.specs.Prelude.{◌||◌, ◌⊎◌, if◌then◌else◌}
 use Rattle.std.specs.Io.KnownBytes.{Appends}
@@ -17,7 +17,7 @@ use Rattle.lvl_report.specs.Writing.{status_code, AppendsBeginning}
 use Rattle.lvl_job.specs.declared.fault.JobFault.{JobFault}
 use Rattle.lvl_job.specs.declared.fault.JobFault.TheVariants.{BadView, BadIgnore, NotOpened, OutOfMemory, Output}
 
--- the exit status of a job that has no answer
+-- the exit status of a job without an answer
 abbrev pub fault_code : JobFault → ℕ
 fault_code (BadView fault) = 3
 fault_code (BadIgnore fault) = 3
@@ -30,7 +30,7 @@ abbrev pub end_code : Result Outcome JobFault → ℕ
 end_code (Ok outcome) = status_code outcome.status
 end_code (Err fault) = fault_code fault
 
--- why a job has no answer, as one line
+-- why a job has no answer, on one line
 abbrev pub fault_text : JobFault → List ℕ
 fault_text (BadView fault) = line (codes "lvl: bad view " ++ view_fault fault)
 fault_text (BadIgnore fault) = line (codes "lvl: bad ignore " ++ ignore_fault fault)
@@ -38,7 +38,7 @@ fault_text (NotOpened name) = line (codes "lvl: cannot open " ++ string_bytes na
 fault_text OutOfMemory = line (codes "lvl: out of memory")
 fault_text Output = line (codes "lvl: output failed")
 
--- a word of a list, after a comma where one came before it
+-- a word of a list if it is given, after a comma if another word comes before it
 abbrev pub listed : Bool → Bool → List ℕ → List ℕ
 listed before given word = if given then (if before then comma ∷ word else word) else []
 
@@ -54,7 +54,7 @@ abbrev pub top_option : Side → List ℕ
 top_option First = codes "--top-a"
 top_option Second = codes "--top-b"
 
--- what would mend a refusal, as one line
+-- what would mend a refusal, on one line
 abbrev pub hint_text : Hint → List ℕ
 hint_text (IgnoreMore more) = line (codes "lvl: try --ignore " ++ ignore_words more)
 hint_text Unpack =
@@ -64,12 +64,12 @@ hint_text WithoutBlocks =
 hint_text NameTop = line (codes "lvl: several cells could be the top: name one by " ++ codes "--top")
 hint_text (NameTopOf side) = line (codes "lvl: several cells could be the top: name one by " ++ top_option side)
 
--- what is said of an answer
+-- what is written for an answer, by its hint
 abbrev pub said_of : Option Hint → List ℕ
 said_of None = []
 said_of (Some hint) = hint_text hint
 
--- what a job says on standard error: where it has an answer, what would mend a refusal
+-- what a job writes to standard error: the hint of its answer if it has one, or why there is no answer
 abbrev pub end_text : Result Outcome JobFault → List ℕ
 end_text (Ok outcome) = said_of outcome.hint
 end_text (Err fault) = fault_text fault
@@ -83,7 +83,7 @@ is_cut (Err (NotOpened name)) = false
 is_cut (Err OutOfMemory) = false
 is_cut (Err Output) = true
 
--- the text was written whole and no write failed, or a beginning of it and one write failed
+-- the whole text was written and no write failed, or a beginning of it was written and one write failed
 abbrev pub IsSaid : List ℕ → Option (List ℕ) → Option (List ℕ) → ℕ → ℕ → Type 0
 IsSaid text old new before after =
     (Appends old new text × CountsFailure before after false)

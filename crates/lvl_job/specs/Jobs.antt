@@ -1,4 +1,4 @@
--- What doing a job is: which files are opened, in which order, and what is written of them.
+-- What a job does: which files it opens, in which order, and what it writes.
 use Rattle.std.specs.Prelude.{◌≡◌, ℕ, List, Option, Some, None, Result, Bool, true, false, ◌||◌, is_some, option_map}
 use Rattle.std.specs.Prelude.{◌⊎◌}
 use Rattle.std.specs.Prelude.{String, string_bytes}
@@ -19,25 +19,26 @@ use Rattle.lvl_view.specs.Views.{PlainView, IsViewOf, IsFaultOf}
 use Rattle.lvl_job.specs.declared.fault.JobFault.{JobFault}
 use Rattle.lvl_job.specs.declared.fault.JobFault.TheVariants.{BadView, BadIgnore, NotOpened, OutOfMemory, Output}
 
--- a file that a job names, which of its records are ignored, and the name of its top
+-- the name of a file in a job, what is ignored in the file, and the name of its top
 pub record Named : Type 0 where
   pub ignore : Ignore
   pub name : List ℕ
   pub top : Option (List ℕ)
 
+-- a file by its words in the command line
 abbrev pub named : Ignore → String Global → Option (String Global) → Named
 named ignore file top = record { ignore = ignore; name = string_bytes file; top = option_map string_bytes top }
 
--- what reading a file left: the bytes, where they are known, and the errors that its reader answered
+-- a file after it was read: the bytes that are left, if they are known, and how many errors its reader returned
 pub record Left : Type 0 where
   pub bytes : Option (List ℕ)
   pub errors : ℕ
 
--- a reader of these bytes that had not failed before the run
+-- a reader of these bytes, which had returned no errors before the run
 abbrev pub reader_of : Ignore → Option (List ℕ) → Left → Option (List ℕ) → Input
 reader_of ignore bytes left top = input ignore bytes left.bytes 0 left.errors top
 
--- the file was opened, and this holds of its reader; no other file was opened
+-- the file was opened, and Holds is true of its reader; no other file was opened
 pub record OfOne {S : Type 0} (opens : S → List ℕ → Option (Option (List ℕ)) → S → Type 0) (old new : S) (a : Named)
     (Holds : Input → Type 0) : Type 0 where
   pub bytes : Option (List ℕ)
@@ -45,7 +46,7 @@ pub record OfOne {S : Type 0} (opens : S → List ℕ → Option (Option (List �
   pub opened : opens old a.name (Some bytes) new
   pub holds : Holds (reader_of a.ignore bytes left a.top)
 
--- both files were opened, `a` before `b`, and this holds of their readers; no other file was opened
+-- both files were opened, `a` before `b`, and Holds is true of their readers; no other file was opened
 pub record OfTwo {S : Type 0} (opens : S → List ℕ → Option (Option (List ℕ)) → S → Type 0) (old new : S) (a b : Named)
     (Holds : Input → Input → Type 0) : Type 0 where
   pub first : Option (List ℕ)
@@ -57,7 +58,7 @@ pub record OfTwo {S : Type 0} (opens : S → List ℕ → Option (Option (List �
   pub second_opened : opens between b.name (Some second) new
   pub holds : Holds (reader_of a.ignore first first_left a.top) (reader_of b.ignore second second_left b.top)
 
--- the first file was opened, and then the second can't be
+-- the first file was opened, but then the second could not be
 pub record IsSecondMissing {S : Type 0} (opens : S → List ℕ → Option (Option (List ℕ)) → S → Type 0) (old new : S)
     (a b : List ℕ) : Type 0 where
   pub first : Option (List ℕ)
@@ -65,7 +66,7 @@ pub record IsSecondMissing {S : Type 0} (opens : S → List ℕ → Option (Opti
   pub first_opened : opens old a (Some first) between
   pub second_missing : opens between b None new
 
--- the file of this name can't be opened; where it is `a`, opening `b` was not tried
+-- the file of this name could not be opened; if it is `a`, the job didn't try to open `b`
 abbrev pub IsMissing : {S : Type 0} → (S → List ℕ → Option (Option (List ℕ)) → S → Type 0) → S → S → List ℕ
     → List ℕ → List ℕ → Type 0
 IsMissing opens old new a b name =
@@ -75,40 +76,40 @@ IsMissing opens old new a b name =
 abbrev pub asks_view : Option (List ℕ) → Option (List ℕ) → Bool
 asks_view map_text window_text = is_some map_text || is_some window_text
 
--- the view that the texts of a map and a window say; none where neither is given
+-- the view that the texts of a map and a window give; None if neither is given
 abbrev pub IsViewAsked : Option (List ℕ) → Option (List ℕ) → Option PlainView → Type 0
 IsViewAsked map_text window_text None = asks_view map_text window_text ≡ false
 IsViewAsked map_text window_text (Some view) =
     (asks_view map_text window_text ≡ true) × IsViewOf map_text window_text view
 
--- this holds of the view that the texts of a map and a window say
+-- Holds is true of the view that the texts of a map and a window give
 pub record UnderView (map_text window_text : Option (String Global)) (Holds : Option PlainView → Type 0) : Type 0 where
   pub view : Option PlainView
   pub asked : IsViewAsked (option_map string_bytes map_text) (option_map string_bytes window_text) view
   pub holds : Holds view
 
--- what a text says is ignored; nothing where no text is given
+-- the set that a text of what is ignored gives; empty if there is no text
 abbrev pub IsIgnoreAsked : Option (List ℕ) → Ignore → Type 0
 IsIgnoreAsked None ignore = ignore ≡ nothing
 IsIgnoreAsked (Some text) ignore = IsText text ignore
 
--- this holds of what the text says is ignored
+-- Holds is true of the set that a text of what is ignored gives
 pub record WithIgnored (ignored : Option (String Global)) (Holds : Ignore → Type 0) : Type 0 where
   pub ignore : Ignore
   pub asked : IsIgnoreAsked (option_map string_bytes ignored) ignore
   pub holds : Holds ignore
 
--- the text names nothing that can be ignored
+-- the text gives no set of what is ignored
 abbrev pub IsIgnoreFault : Option (List ℕ) → Type 0
 IsIgnoreFault None = ⊥
 IsIgnoreFault (Some text) = (ignore : Ignore) → ¬ IsText text ignore
 
--- the answer is one that a comparison may give of these readers, under the view where there is one
+-- the answer is possible for the comparison of these readers, under the view if there is one
 abbrev pub IsComparedUnder : Option PlainView → Input → Input → Result Comparison Refusal → Type 0
 IsComparedUnder None = IsComparedBy
 IsComparedUnder (Some view) = IsViewedBy view
 
--- the answer to a job was written, and the job ends so
+-- the answer to a job was written, and the job ends as it does for this answer
 abbrev pub IsAnswered : {S : Type 0} → (S → List ℕ → Option (Option (List ℕ)) → S → Type 0) → Job → S → S
     → Option (List ℕ) → Option (List ℕ) → Outcome → Type 0
 IsAnswered opens (Compare first second top_a top_b map_text window_text ignored) old new from to outcome =
@@ -136,7 +137,7 @@ IsCut opens (Digest file top ignored) old new from to =
     WithIgnored ignored (λ ignore.
     OfOne opens old new (named ignore file top) (λ a. IsBegun (IsDigestedBy a) text_of_digested from to))
 
--- the file of this name is the first of the job that can't be opened
+-- the file of this name is the first in the job that could not be opened
 abbrev pub IsNotOpened : {S : Type 0} → (S → List ℕ → Option (Option (List ℕ)) → S → Type 0) → Job → S → S → List ℕ
     → Type 0
 IsNotOpened opens (Compare first second top_a top_b map_text window_text ignored) old new name =
@@ -147,21 +148,21 @@ IsNotOpened opens (Show file top ignored) old new name =
 IsNotOpened opens (Digest file top ignored) old new name =
     WithIgnored ignored (λ _. (name ≡ string_bytes file) × opens old name None new)
 
--- why the texts of a map and a window are no view; a job of one file has none
+-- why the texts of a map and a window give no view; a job on one file has no such texts
 abbrev pub IsBadView : Job → ViewFault → Type 0
 IsBadView (Compare first second top_a top_b map_text window_text ignored) fault =
     IsFaultOf (option_map string_bytes map_text) (option_map string_bytes window_text) fault
 IsBadView (Show file top ignored) fault = ⊥
 IsBadView (Digest file top ignored) fault = ⊥
 
--- the text names nothing that can be ignored; the texts of a map and a window are a view
+-- the text of what is ignored gives no set, but the texts of a map and a window give a view
 abbrev pub IsBadIgnore : Job → Type 0
 IsBadIgnore (Compare first second top_a top_b map_text window_text ignored) =
     UnderView map_text window_text (λ _. IsIgnoreFault (option_map string_bytes ignored))
 IsBadIgnore (Show file top ignored) = IsIgnoreFault (option_map string_bytes ignored)
 IsBadIgnore (Digest file top ignored) = IsIgnoreFault (option_map string_bytes ignored)
 
--- the fault is so: with a bad text no file was opened, and but where output failed nothing was written
+-- the fault is true: if a text is bad, no file was opened; and unless the output failed, nothing was written
 abbrev pub IsFaultOfJob : {S : Type 0} → (S → List ℕ → Option (Option (List ℕ)) → S → Type 0) → Job → S → S
     → Option (List ℕ) → Option (List ℕ) → JobFault → Type 0
 IsFaultOfJob opens job old new from to (BadView fault) = IsBadView job fault × (new ≡ old) × Keeps from to

@@ -1,4 +1,4 @@
--- What a line of words comes to: a job that was done, or a refusal.
+-- What is done for a command line: a job, or a refusal.
 use Rattle.std.specs.Prelude.{◌≡◌, ℕ, List, Option, Result, IfOk, IfErr}
 use Rattle.std.specs.Io.KnownBytes.{Keeps}
 use Rattle.lvl_line.specs.Line.{IsJob, IsRefusal}
@@ -11,7 +11,7 @@ use Rattle.lvl_job.specs.declared.fault.JobFault.TheVariants.{OutOfMemory}
 use Rattle.lvl_job.specs.Ends.{IsSaid, end_code, end_text, fault_text}
 use Rattle.lvl_job.specs.Jobs.{IsAnswered, IsFaultOfJob}
 
--- a writer before and after: its bytes, where they are known, and its errors
+-- a writer before and after: its bytes, if they are known, and how many errors it has returned
 pub record Change : Type 0 where
   pub old : Option (List ℕ)
   pub new : Option (List ℕ)
@@ -29,13 +29,14 @@ pub record IsLineDone {S : Type 0} (opens : S → List ℕ → Option (Option (L
   pub said : IsSaid (end_text ended) err.old err.new err.before err.after
   pub status : code ≡ end_code ended
 
--- why a line is refused, on standard error; clap's own text is not said here
+-- what is written to standard error if the line is refused; the text of `clap`'s error is left open
 abbrev pub IsRefusalSaid : LineFault → Change → Type 0
 IsRefusalSaid (line_fault.Words error) err =
     (text : List ℕ) × IsSaid text err.old err.new err.before err.after
 IsRefusalSaid line_fault.OutOfMemory err = IsSaid (fault_text OutOfMemory) err.old err.new err.before err.after
 
--- the words are refused, or memory was: no file was opened, nothing was written, and the exit status is 3
+-- the words are refused, or an allocation failed: no file was opened, nothing was written to the output, and the exit
+-- status is 3
 pub record IsLineRefused {S : Type 0} (words : List (List ℕ)) (old new : S) (out err : Change) (code : ℕ) : Type 0 where
   pub fault : LineFault
   pub refused : IsRefusal words fault

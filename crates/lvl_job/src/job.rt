@@ -1,4 +1,4 @@
-//! A job, done.
+//! Does a job.
 ghost use Rattle.std.specs.Prelude.{◌≡◌, IfOk, IfErr, OnErr, Err, option_map, option_copied};
 ghost use Rattle.std.specs.Io.KnownBytes.{Keeps};
 ghost use Rattle.std.specs.Prelude.{string_bytes};
@@ -26,7 +26,7 @@ use lvl_report::{Outcome, RunFault, run_by, run_digest, run_show_by, run_view_by
 use lvl_view::View;
 use std::alloc::Global;
 
-/// The file of this name, opened.
+/// Opens the file of this name.
 fn open<F: Files>(files: &mut F, name: String) -> Result<F::File, JobFault>
     ensures opened { F.opens files.old (string_bytes name) (held F.File.remaining result) files.new }
     ensures fresh { IfOk result (λ file. F.File.read_errors file ≡ 0) }
@@ -38,7 +38,7 @@ fn open<F: Files>(files: &mut F, name: String) -> Result<F::File, JobFault>
     }
 }
 
-/// A top's name, as its bytes.
+/// The name of a top in bytes.
 fn top_of(name: Option<String>) -> Option<Vec<u8>>
     ensures { given_name result ≡ option_map string_bytes name }
 {
@@ -48,7 +48,7 @@ fn top_of(name: Option<String>) -> Option<Vec<u8>>
     }
 }
 
-/// The view that the texts of a map and a window say, if one of them is given.
+/// The view that the texts of a map and a window give, if one of them is given.
 fn view_of(
     alloc: Global,
     map: &Option<String>,
@@ -67,7 +67,7 @@ fn view_of(
     }
 }
 
-/// What a text says is ignored; nothing where no text is given.
+/// The set that a text of what is ignored gives; empty if there is no text.
 fn ignore_of(alloc: Global, text: &Option<String>) -> Result<Ignore, JobFault>
     ensures asked { IfOk result (IsIgnoreAsked (option_map string_bytes text.now)) }
     ensures fault { IfErr result (IsNoIgnore (option_map string_bytes text.now)) }
@@ -82,7 +82,7 @@ fn ignore_of(alloc: Global, text: &Option<String>) -> Result<Ignore, JobFault>
     }
 }
 
-/// The fault of a job whose run has no answer.
+/// The fault of a run as one of its job.
 fn fault_of(fault: RunFault) -> JobFault
     ensures { result ≡ fault_of_run fault }
 {
@@ -92,7 +92,7 @@ fn fault_of(fault: RunFault) -> JobFault
     }
 }
 
-/// Compares two files that are open, under the view if there is one.
+/// Compares two open files, under the view if there is one.
 fn run_under<A: Read, B: Read, O: Write>(
     alloc: Global,
     first: &mut A,
@@ -201,7 +201,7 @@ fn digest<F: Files, O: Write>(
     }
 }
 
-/// Does a job, and says nothing of why there is no answer.
+/// Does a job, and writes nothing to standard error.
 fn perform<F: Files, O: Write>(
     alloc: Global,
     job: Job,
@@ -253,12 +253,12 @@ fn perform<F: Files, O: Write>(
     }
 }
 
-/// Does a job: reads its view and what is ignored, opens its files by `files`, the first before the
-/// second, and writes its answer to `out`. Where there is no answer, it writes why to `err`, on one line;
-/// where the answer is a refusal that something would mend, what that is.
+/// Does a job: reads the texts of its view and of what is ignored, opens its files by `files`, the first
+/// before the second, and writes its answer to `out`. If there is no answer, it writes one line to `err`
+/// that says why; if the answer is a refusal that something would mend, one line that says what.
 ///
-/// The answer is what [`run_by`], [`run_view_by`], [`run_show_by`] or [`run_digest`] may write of these
-/// files.
+/// It writes an answer that [`run_by`], [`run_view_by`], [`run_show_by`] or [`run_digest`] may write for
+/// these files.
 pub fn do_job<F: Files, O: Write, E: Write>(
     alloc: Global,
     job: Job,
@@ -282,7 +282,7 @@ pub fn do_job<F: Files, O: Write, E: Write>(
     ended
 }
 
-/// The exit status of a job that ended so.
+/// The exit status of a job that ended in this way.
 pub fn code_of(ended: &Result<Outcome, JobFault>) -> u8
     ensures { result ≡ end_code ended.now }
 {

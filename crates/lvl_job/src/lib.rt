@@ -1,9 +1,11 @@
-//! The program's job as one call: its files opened, its answer written, and its exit status.
+//! The program's job as one call: it opens the files, writes the answer, and returns the exit
+//! status.
 //!
-//! [`do_job`] does a job over any [`Files`], which opens readers by name, and two writers, and
-//! [`code_of`] gives the exit status of its end. [`do_line`] does both for the words of a line.
+//! [`do_job`] does a job with any [`Files`], which opens readers by name, and two writers, and
+//! [`code_of`] gives the exit status for its result. [`do_line`] does both for the words of a
+//! command line.
 //!
-//! `Held` holds the file `square`, which draws one square:
+//! `Held` has one file, `square`, which draws one square:
 //!
 //! ```
 //! let words = ["lvl", "show", "square"];

@@ -1,4 +1,4 @@
-//! A line of words, done.
+//! Does what a command line asks for.
 ghost use Rattle.std.specs.Prelude.{◌⊎◌, map};
 ghost use Rattle.lvl_job.specs.Lines.{IsLineDone, IsLineRefused, IsRefusalSaid};
 
@@ -10,10 +10,10 @@ use lvl_io::Write;
 use lvl_line::{LineFault, parse_line};
 use std::alloc::Global;
 
-/// The exit status of a line that asks for nothing that can be done.
+/// The exit status if a command line is refused, or if memory runs out while it is read.
 const BAD_LINE: u8 = 3;
 
-/// Writes why a line asks for nothing that can be done: `clap`'s text, or that memory ran out.
+/// Writes why a command line is refused: `clap`'s text, or that it is out of memory.
 fn refuse<E: Write>(alloc: Global, fault: &LineFault, err: &mut E)
     ensures { IsRefusalSaid fault.now (record {
       old = E.contents err.old;
@@ -31,9 +31,10 @@ fn refuse<E: Write>(alloc: Global, fault: &LineFault, err: &mut E)
     }
 }
 
-/// Does what the words of a line ask for, as [`do_job`] does it, and gives the exit status; the
-/// first word is the program's own name. Words that ask for nothing that can be done open no file,
-/// and `clap`'s text for them goes to `err`, with status 3.
+/// Does what the words of a command line ask for, as [`do_job`] does, and returns the exit status.
+/// The first word is the name of the program. If the words are refused, or ask for help or the
+/// version, it opens no file, writes `clap`'s text to `err`, and returns 3; the same if memory runs
+/// out while they are read, when it writes that it is out of memory.
 pub fn do_line<'a, F: Files, O: Write, E: Write>(
     alloc: Global,
     words: &'a [&'a str],

@@ -1,4 +1,4 @@
-//! What a job says on standard error.
+//! What a job writes to standard error.
 ghost use Rattle.std.specs.Prelude.{◌≡◌, ◌++◌, OnOk, OnErr};
 ghost use Rattle.std.specs.Io.KnownBytes.{Appends};
 ghost use Rattle.lvl_io.specs.Bytes.{CountsFailure, failed};
@@ -12,8 +12,8 @@ use lvl_io::{Failure, Write};
 use lvl_region::Side;
 use lvl_report::{Hint, ignore_fault, view_fault};
 
-/// Writes all of the text. An error of any kind, or a write that took nothing of some bytes, ends
-/// the work, and what went out is a beginning of the text.
+/// Writes the whole text. It fails at the first error of any kind, or if a write takes nothing of
+/// some bytes; a beginning of the text was then written.
 fn write_all<E: Write>(err: &mut E, text: &[u8]) -> Result<(), Failure>
     ensures whole { OnOk result (Appends (E.contents err.old) (E.contents err.new) text.now) }
     ensures begun { OnErr result (AppendsBeginning (E.contents err.old) (E.contents err.new) text.now) }
@@ -29,7 +29,7 @@ fn write_all<E: Write>(err: &mut E, text: &[u8]) -> Result<(), Failure>
     Ok(())
 }
 
-/// Writes a line of two texts.
+/// Writes two texts as one line.
 fn write_line<E: Write>(err: &mut E, why: &str, what: &str) -> Result<(), Failure>
     ensures whole { OnOk result (Appends (E.contents err.old) (E.contents err.new) (line (why.now ++ what.now))) }
     ensures begun { OnErr result
@@ -41,7 +41,7 @@ fn write_line<E: Write>(err: &mut E, why: &str, what: &str) -> Result<(), Failur
     write_all(err, b"\n")
 }
 
-/// The text of a fault in two parts, and the second is what it carries.
+/// The text of a fault in two parts. The second is what the fault carries.
 fn words_of(fault: &JobFault) -> (&str, &str)
     ensures { fault_text fault.now ≡ line (result.0.now ++ result.1.now) }
 {
@@ -54,7 +54,7 @@ fn words_of(fault: &JobFault) -> (&str, &str)
     }
 }
 
-/// Writes a text. Where that fails there is nothing left to say.
+/// Writes a text. If that fails, nothing more is written.
 pub(crate) fn say_text<E: Write>(err: &mut E, text: &str)
     ensures { IsSaid text.now (E.contents err.old) (E.contents err.new)
         (E.write_errors err.old) (E.write_errors err.new) }
@@ -62,7 +62,7 @@ pub(crate) fn say_text<E: Write>(err: &mut E, text: &str)
     let _ = write_all(err, text.as_bytes());
 }
 
-/// Writes why a job has no answer, on one line. Where that fails there is nothing left to say.
+/// Writes on one line why a job has no answer. If that fails, nothing more is written.
 pub(crate) fn say<E: Write>(err: &mut E, fault: &JobFault)
     ensures { IsSaid (fault_text fault.now) (E.contents err.old) (E.contents err.new)
         (E.write_errors err.old) (E.write_errors err.new) }
@@ -133,8 +133,7 @@ fn words_of_hint(hint: Hint) -> (&'static str, &'static str)
     }
 }
 
-/// Writes what would mend a refusal, on one line, if there is something. Where that fails there is nothing
-/// left to say.
+/// Writes on one line what would mend a refusal, if anything would. If that fails, nothing more is written.
 pub(crate) fn say_hint<E: Write>(err: &mut E, hint: Option<Hint>)
     ensures { IsSaid (said_of hint) (E.contents err.old) (E.contents err.new)
         (E.write_errors err.old) (E.write_errors err.new) }

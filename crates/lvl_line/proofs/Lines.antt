@@ -1,4 +1,4 @@
--- What a line gives in which clap finds no fault.
+-- What `clap` finds in a line without a fault.
 use Rattle.std.proofs.Common.{◌≡◌, ◌&&◌, ◌||◌, ℕ, Bool, cond, true, false, not, refl, subst, List, [], ◌∷◌, Option}
 use Rattle.std.proofs.Common.{Some, None, inl, inr, is_some, codes, option_map}
 use Rattle.std.specs.Prelude.{slice_get}
@@ -22,13 +22,13 @@ use Rattle.lvl_line.specs.Line.{line}
 use Rattle.lvl_line.specs.inside.Given.{Gives, IsJobOf}
 use Rattle.lvl_line.proofs.Values.{HaveValues, WantValues, given_has_first, have_finished, neither}
 
--- ---- a level that is left without a fault
+-- ---- a level that ends without a fault
 
 no_check : (x : Bool) → check_kinds false false x ≡ [] → x ≡ false
 no_check true e = cc
 no_check false e = refl
 
--- the last checks, where nothing but an argument may be missing
+-- the last checks, if nothing except an argument can be missing
 unmissed : (helps given required negates x : Bool) → helps ≡ false → required ≡ false → negates ≡ false
     → check_kinds (helps && given) required (not (negates && false) && x) ≡ [] → x ≡ false
 unmissed helps given required negates x h r n e = no_check x (rw (h, r, n) at e)
@@ -54,7 +54,7 @@ given_one : (a b : Bool) → (not a || b) ≡ false → (a ≡ true) × (b ≡ f
 given_one true b e = (refl, e)
 given_one false b e = cc
 
--- ---- `help` ends a walk by a fault
+-- ---- `help` ends a walk with a fault
 
 abbrev help : Text
 help = codes "help"
@@ -218,7 +218,7 @@ at_stop : (o : Option (Text × List Text)) (name : Text) (rows : List Row) → S
 at_stop None name rows fine none found = cc
 at_stop (Some p) name rows fine none found = at_subcommand p name rows fine none found
 
--- a line in which clap finds no fault names a subcommand and its files
+-- a line in which `clap` finds no fault has a subcommand and its files
 pub line_gives : (words : List Text) (name : Text) (rows : List Row) → fault_of line words ≡ []
     → subcommand_of line words ≡ Some (name, rows) → IsJobOf name rows
 line_gives words name rows none found =

@@ -1,4 +1,4 @@
--- Where a level of a parse meets no fault, each argument that was given has a value.
+-- If a level of a parse ends without a fault, each argument that was given has a value.
 use Rattle.std.proofs.Common.{◌≡◌, ◌∙◌, ◌<◌, ◌+◌, min, ◌&&◌, ◌||◌, ◌⊎◌, ℕ, Bool, cond, true, false, zero, suc, refl}
 use Rattle.std.proofs.Common.{sym, ap, arith, List, [], ◌∷◌, ◌++◌, length, drop, Option, Some, None, inl, inr, is_some}
 use Rattle.std.specs.Prelude.{encode_utf8, slice_get, nat_lt, option_and_then}
@@ -73,7 +73,7 @@ have_with_count id how s n rows h =
 
 -- ---- one use of an argument
 
--- a use of the argument asks for help or the version, or has a value at least
+-- a use of the argument asks for help or the version, or needs at least one value
 abbrev pub wants_value : Rule → Bool
 wants_value a = is_request (action_of a) || nat_lt 0 (unwrap_or_range a.range).start_inclusive
 
@@ -88,7 +88,7 @@ either : (a b : Bool) → (a || b) ≡ true → (a ≡ true) ⊎ (b ≡ true)
 either true b e = inl refl
 either false b e = inr e
 
--- where at least one value is wanted and no kind comes, there is one
+-- if at least one value is needed and there is no fault, there is one
 given_some : (least most : ℕ) (values : List Text) → nat_lt 0 least ≡ true → range_kinds least most (length values) ≡ []
     → 0 < length values
 given_some least most [] some none = absurd (go (nat_lt 0 least) some none)

@@ -1,4 +1,4 @@
--- The program's line, as clap reads it, and what its words mean.
+-- The command line of the program, as `clap` reads it, and what its words mean (own rule).
 use Rattle.std.specs.Prelude.{◌≡◌, List, Option, Some, None, true, codes, option_map}
 use Rattle.std.specs.String.{string_bytes}
 use Rattle.clap.specs.Walk.{Row, Rule, Text, first_of}
@@ -11,7 +11,7 @@ use Rattle.lvl_line.specs.declared.job.Job.TheVariants as job
 use Rattle.lvl_line.specs.declared.job.LineFault.{LineFault}
 use Rattle.lvl_line.specs.declared.job.LineFault.TheVariants as fault
 
--- a file that the line must name
+-- a file, which must be given
 abbrev pub file_rule : Text → Rule
 file_rule id = record (new_rule id) { required = true }
 
@@ -31,16 +31,17 @@ abbrev pub one_file_app : Text → App
 one_file_app name = with_rule (with_rule (with_rule (new_app name) (file_rule (codes "A")))
     (option_rule (codes "top"))) (option_rule (codes "ignore"))
 
+-- the line without subcommands
 abbrev pub plain_line : App
 plain_line = new_app (codes "lvl")
 
--- the line: one of the three subcommands
+-- the whole line: one of the three subcommands
 abbrev pub line : App
 line = with_subcommand (with_subcommand (with_subcommand (record plain_line {
   top = record plain_line.top { has_version = true; subcommand_required = true };
 }) compare_app.top) (one_file_app (codes "show")).top) (one_file_app (codes "digest")).top
 
--- the job has the values that clap finds in the words, under the subcommand of that name
+-- the job has the values that `clap` finds in the words, under the subcommand of that name
 abbrev pub IsNamed : Job → Option (Text × List Row) → Type 0
 IsNamed (job.Compare first second top_a top_b layers window ignored) (Some (name, rows)) =
     (name ≡ codes "compare")
@@ -63,11 +64,11 @@ IsNamed (job.Digest file top ignored) (Some (name, rows)) =
     × (first_of (codes "ignore") rows ≡ option_map string_bytes ignored)
 IsNamed _ None = ⊥
 
--- what the words mean by clap
+-- the words mean the job, by `clap`
 abbrev pub IsJob : List Text → Job → Type 0
 IsJob words j = IsNamed j (subcommand_of line words)
 
--- the error is one that clap has for these words
+-- the error is one that `clap` has for these words; out of memory is always possible
 abbrev pub IsRefusal : List Text → LineFault → Type 0
 IsRefusal words (fault.Words e) = IsAmong (kind_of e) (fault_of line words)
 IsRefusal words fault.OutOfMemory = Unit {0}

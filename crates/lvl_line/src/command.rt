@@ -1,4 +1,4 @@
-//! The program's line, as it is described to `clap`.
+//! The command line of the program, as it is described to `clap`.
 ghost use Rattle.std.specs.Prelude.{◌≡◌, IfOk, false};
 ghost use Rattle.clap.specs.Words.{app_of, rule_of};
 ghost use Rattle.lvl_line.specs.Line.{compare_app, file_rule, line, one_file_app, option_rule};
@@ -7,24 +7,24 @@ ghost use Rattle.lvl_line.specs.inside.Begun.{comparing_line, tops_app};
 use clap::{Arg, Command};
 use std::alloc::{AllocError, Global};
 
-/// What `show` does.
+/// The help of `show`.
 const SHOW_HELP: &str = "Shows a layout's top cell, and how many rings it places on each layer";
 
-/// What `digest` does.
+/// The help of `digest`.
 const DIGEST_HELP: &str =
     "Hashes what a layout draws: layouts of the same mask have the same digest";
 
-/// What `--map` takes.
+/// The help of `--map`.
 const MAP_HELP: &str = "Layers of the second layout, as those of the first: 1/0=2/0,3/1=3/0";
 
-/// What `--window` takes.
+/// The help of `--window`.
 const WINDOW_HELP: &str = "The only squares to be compared, in grid steps: x=0..100,y=-50..50";
 
-/// What `--ignore` takes.
+/// The help of `--ignore`.
 const IGNORE_HELP: &str =
     "Records to read and ignore: properties, texts, names, padding or all, joined by commas";
 
-/// A file, which the line must name.
+/// A file, which must be given.
 fn file<'a>(alloc: Global, id: &'a str, help: &'a str) -> Arg<'a>
     ensures rule { rule_of result ≡ file_rule id.entry.now }
     ensures local { result.global ≡ false }
@@ -62,7 +62,7 @@ fn compare<'a>(alloc: Global) -> Result<Command<'a>, AllocError>
         .arg(option(alloc, "ignore", "WORDS", IGNORE_HELP))
 }
 
-/// A subcommand of one file: `NAME A [--top NAME] [--ignore WORDS]`.
+/// A subcommand for one file: `NAME A [--top NAME] [--ignore WORDS]`.
 fn one_file<'a>(alloc: Global, name: &'a str, about: &'a str) -> Result<Command<'a>, AllocError>
     ensures { IfOk result (λ c. app_of c ≡ one_file_app name.entry.now) }
 {
@@ -73,7 +73,7 @@ fn one_file<'a>(alloc: Global, name: &'a str, about: &'a str) -> Result<Command<
         .arg(option(alloc, "ignore", "WORDS", IGNORE_HELP))
 }
 
-/// A line with the subcommand `compare` alone.
+/// A line with the subcommand `compare` only.
 fn comparing<'a>(alloc: Global) -> Result<Command<'a>, AllocError>
     ensures { IfOk result (λ c. app_of c ≡ comparing_line) }
 {
@@ -84,7 +84,7 @@ fn comparing<'a>(alloc: Global) -> Result<Command<'a>, AllocError>
         .subcommand(compare(alloc)?)
 }
 
-/// The program's line: one of the subcommands `compare`, `show` and `digest`.
+/// The whole line: one of the subcommands `compare`, `show` and `digest`.
 pub(crate) fn program<'a>(alloc: Global) -> Result<Command<'a>, AllocError>
     ensures { IfOk result (λ c. app_of c ≡ line) }
 {

@@ -1,12 +1,11 @@
-//! What a line asks for, and why a line asks for nothing.
+//! What a command line asks for, and why one is refused.
 use clap::Error;
 
-/// What a line asks for. Files, names of tops, the map, the window and what is ignored are as they are in
-/// the line.
+/// What a command line asks for. All texts are as they are in the line, not parsed yet.
 #[derive(Debug, Drop, PartialEq, Eq)]
 pub enum Job {
-    /// Two files to be compared, each with the name of its top cell where one is given; and the
-    /// texts of a map of layers, of a window and of what is ignored, where they are given.
+    /// To compare two files, each with the name of its top cell if one is given, with the texts of
+    /// a map of Layers, of a window and of what is ignored if they are given.
     Compare {
         first: String,
         second: String,
@@ -16,15 +15,14 @@ pub enum Job {
         window: Option<String>,
         ignore: Option<String>,
     },
-    /// A file to be shown, with the name of its top cell and the text of what is ignored where they are
-    /// given.
+    /// To show a file, with the name of its top cell and the text of what is ignored if they are given.
     Show {
         file: String,
         top: Option<String>,
         ignore: Option<String>,
     },
-    /// A file of whose mask the digest is wanted, with the name of its top cell and the text of what is
-    /// ignored where they are given.
+    /// To hash what a file draws, with the name of its top cell and the text of what is ignored if they are
+    /// given.
     Digest {
         file: String,
         top: Option<String>,
@@ -32,11 +30,12 @@ pub enum Job {
     },
 }
 
-/// Why a line asks for nothing that can be done.
+/// Why a command line is refused.
 #[derive(Debug, Drop)]
 pub enum LineFault {
-    /// `clap` refuses the words, or was asked for help or the version; the error has its text.
+    /// `clap` refuses the words, or they ask for help or the version. The error has the text to
+    /// print.
     Words(Error),
-    /// A text could not be copied out of the line.
+    /// An allocation failed.
     OutOfMemory,
 }

@@ -1,7 +1,7 @@
-//! The program's command line, read by `clap`.
+//! The command line of the program, read by `clap`.
 //!
-//! [`parse_line`] makes a [`Job`] of the words of a line: the subcommand, the files and the options
-//! that `clap` finds in them, or `clap`'s refusal with its text.
+//! [`parse_line`] makes a [`Job`] of the words of a line: of the subcommand, the files and the
+//! options that `clap` finds in them. If `clap` refuses the words, it returns `clap`'s error.
 //!
 //! ```
 //! let Ok(Job::Show { file, top, .. }) = parse_line(alloc, &["lvl", "show", "chip.gds"]) else {

@@ -1,4 +1,4 @@
-//! The words of a line, as a job.
+//! Makes a job of the words of a command line.
 ghost use Rattle.std.specs.Prelude.{◌≡◌, ◌≢◌, ◌⊎◌, Some, true, codes, map, option_map, IfOk, IfErr};
 ghost use Rattle.std.specs.String.{string_bytes};
 ghost use Rattle.clap.specs.Words.{first_of, found_of, kind_of, rows_of, takes};
@@ -12,7 +12,7 @@ use clap::error::ErrorKind;
 use clap::{ArgMatches, Error};
 use std::alloc::{AllocError, Global};
 
-/// The value of an option, copied out of the line, if it is given.
+/// A copy of the value of an option, if it is given.
 fn value_of(alloc: Global, matches: &ArgMatches<'_>, id: &str) -> Result<Option<String>, AllocError>
     ensures { IfOk result (λ text. first_of id.now (rows_of (found_of matches.now)) ≡ option_map string_bytes text) }
 {
@@ -22,7 +22,7 @@ fn value_of(alloc: Global, matches: &ArgMatches<'_>, id: &str) -> Result<Option<
     }
 }
 
-/// The value of a file, which `clap` found in the line, copied out of it.
+/// A copy of the name of a file, which `clap` has found in the line.
 fn file_of(alloc: Global, matches: &ArgMatches<'_>, id: &str) -> Result<String, AllocError>
     requires { Gives id.now (rows_of (found_of matches.now)) }
     ensures { IfOk result (λ text. first_of id.now (rows_of (found_of matches.now)) ≡ Some (string_bytes text)) }
@@ -50,7 +50,7 @@ fn compare_of(alloc: Global, matches: &ArgMatches<'_>) -> Result<Job, AllocError
     })
 }
 
-/// The job of a subcommand that `clap` found in the line.
+/// The job of the subcommand that `clap` has found in the line.
 fn job_of(alloc: Global, name: &str, matches: &ArgMatches<'_>) -> Result<Job, AllocError>
     requires { IsJobOf name.now (rows_of (found_of matches.now)) }
     ensures { IfOk result (λ job. IsNamed job (Some (name.now, rows_of (found_of matches.now)))) }
@@ -67,7 +67,7 @@ fn job_of(alloc: Global, name: &str, matches: &ArgMatches<'_>) -> Result<Job, Al
     Ok(Job::Digest { file, top, ignore })
 }
 
-/// `clap`'s refusal, or a failed allocation.
+/// The fault for an error of `clap`, which may be a failed allocation.
 fn refused(error: Error) -> LineFault
     ensures { (result ≡ OutOfMemory) ⊎ ((kind_of error ≢ ErrorKind.OutOfMemory) × (result ≡ Words error)) }
 {
@@ -77,11 +77,11 @@ fn refused(error: Error) -> LineFault
     }
 }
 
-/// What a line asks for; its first word is the program's own name.
+/// What the words of a command line ask for. The first word is the name of the program.
 ///
-/// The job is what the words mean by `clap` for the program's line (see [`crate`]), and every file
-/// is there. `Words` has `clap`'s error: the line is not one of the program's, or asks for help or
-/// the version. Where `clap` takes the words, only an allocation that failed is answered.
+/// The job is what the words mean by `clap` (see [`crate`]), and all files are given. `Words` is
+/// returned with `clap`'s error if the words are no line of the program, or ask for help or the
+/// version. If `clap` accepts the words, only a failed allocation is reported.
 pub fn parse_line<'a>(alloc: Global, words: &'a [&'a str]) -> Result<Job, LineFault>
     ensures job { IfOk result (IsJob (map (λ s. s.now) words.entry.now)) }
     ensures refused { IfErr result (IsRefusal (map (λ s. s.now) words.entry.now)) }

@@ -1,4 +1,4 @@
--- What a refusal says, in other words.
+-- Laws of what a refusal means.
 use Rattle.lvl_refusal.specs.declared.Cause.{Cause}
 use Rattle.lvl_refusal.specs.declared.Cause.TheVariants.{Breach, OutOfMemory}
 use Rattle.lvl_refusal.specs.Refused.{Says}

@@ -1,10 +1,10 @@
-//! Why something was refused, where memory may be refused too.
+//! Why something was refused, for calls that also allocate.
 //!
-//! A call that takes memory can fail in two ways: what it was given breaches a rule, or an
-//! allocation failed. [`Cause`] keeps the two apart once for all crates, so that the enum of
-//! rules of each layer names rules alone, and `?` serves both.
+//! A call that allocates can fail in two ways: what it was given breaches a rule, or an allocation
+//! failed. [`Cause`] keeps the two apart for all crates, so that each crate's enum of rules has
+//! rules only, and `?` converts both.
 //!
-//! A caller who wants the fault of a text, if it has one:
+//! A caller that wants the fault of a text, if it has one:
 //!
 //! ```
 //! match View::read(alloc, map, window) {
@@ -24,9 +24,9 @@ use std::fmt;
 /// Why something was refused.
 #[derive(Clone, Copy, Debug, Drop, PartialEq, Eq)]
 pub enum Cause<F> {
-    /// This rule is breached.
+    /// The rule that is breached.
     Breach(F),
-    /// An allocation failed. It says nothing of what was given.
+    /// An allocation failed. Nothing is said about the input.
     OutOfMemory,
 }
 

@@ -5,7 +5,7 @@ use Rattle.lvl_ignore.specs.declared.ignore.Ignore.{Ignore}
 use Rattle.lvl.specs.declared.layout.FileFault.{FileFault}
 use Rattle.lvl_report.specs.Hints.{is_read_by, first_that_reads}
 
--- if the file isn't read by a set, the first by which it is is among those after it
+-- if one set doesn't do, the first that does is among those after it
 pub passed_by : (fault : FileFault) (sets : List Ignore) (i : ℕ) (d : Ignore) (reads : Bool) → i < length sets
     → reads ≡ is_read_by (get_or sets i d) fault → reads ≡ false
     → first_that_reads fault (drop i sets) ≡ first_that_reads fault (drop (i + 1) sets)

@@ -1,4 +1,4 @@
--- What a run wrote, from what it had to say.
+-- What a run wrote, by its answer.
 use Rattle.std.proofs.Common.{◌≡◌, ◌∙◌, ℕ, List, Option, Result, Ok, Err, IfOk, OnOk, OnErr, refl, ap}
 use Rattle.std.specs.Io.KnownBytes.{Appends}
 use Rattle.lvl_ignore.specs.declared.ignore.Ignore.{Ignore}
@@ -36,7 +36,7 @@ was_begun Allowed text old new answer (Err fault) allowed begun = record {
   begun = begun;
 }
 
--- what is written of the answers that one set allows is written of those that a larger one does
+-- what is written of an answer that one set allows is allowed by a larger one
 pub written_as : {X T : Type 0} {Allowed Others : X → Type 0} (text : X → List ℕ) (end_of : X → T)
     (old new : Option (List ℕ)) (r : Result T RunFault) → ((answer : X) → Allowed answer → Others answer)
     → IfOk r (IsWritten Allowed text end_of old new) → IfOk r (IsWritten Others text end_of old new)
@@ -58,7 +58,7 @@ begun_as text old new (Err fault) also b = record {
   begun = b.begun;
 }
 
--- what a run gives that gives a part of how another ends
+-- a run that returns a part of what another returns
 pub ends_as : {X T U : Type 0} {Allowed : X → Type 0} (text : X → List ℕ) (end_of : X → T) (part : T → U) (then_of : X
     → U)
     (old new : Option (List ℕ)) → ((answer : X) → part (end_of answer) ≡ then_of answer) → (ended : T)
@@ -89,7 +89,7 @@ whole_said view whole a b (Ok c) h = record {
 }
 whole_said view whole a b (Err r) h = tt
 
--- an answer without a map and a window is one of the plain comparison
+-- an answer under a view without a map and a window is one of the plain comparison
 pub whole_answer : (view : PlainView) → IsWhole view → (a b : Input) (answer : Result Comparison Refusal)
     → IsViewedBy view a b answer → IsComparedBy a b answer
 whole_answer view whole a b answer h = record {

@@ -1,4 +1,4 @@
--- The number and the name of each fault that no format has alone, and what it carries, as they are printed.
+-- The number and the name of each fault that belongs to no format, and what it carries, as they are printed (own rule).
 use Rattle.std.specs.Prelude.{ℕ, List, ◌∷◌, ◌++◌, flat_map, codes}
 use Rattle.lvl_path.specs.declared.fault.PathFault.{PathFault}
 use Rattle.lvl_path.specs.declared.fault.PathFault.TheVariants.{NoWidth, FewPoints, Oblique, RepeatedPoint, TurnsBack}
@@ -13,11 +13,11 @@ use Rattle.lvl_ignore.specs.declared.ignore.IgnoreFault.TheVariants.{IgnoreText}
 use Rattle.lvl_flat.specs.declared.fault.FlatFault.{FlatFault}
 use Rattle.lvl_flat.specs.declared.fault.FlatFault.TheVariants.{OutOfRange}
 
--- the text after a space
+-- a space and the text
 abbrev pub spaced : List ℕ → List ℕ
 spaced text = 32 ∷ text
 
--- why points are no path
+-- a fault of a path
 abbrev pub path_fault : PathFault → List ℕ
 path_fault NoWidth = codes "1 NoWidth"
 path_fault FewPoints = codes "2 FewPoints"
@@ -27,18 +27,18 @@ path_fault TurnsBack = codes "5 TurnsBack"
 path_fault ShortRun = codes "6 ShortRun"
 path_fault BandOutOfRange = codes "7 OutOfRange"
 
--- why texts are no view; the Layer that is a source twice isn't printed
+-- a fault of the texts of a view; the Layer that is a source twice isn't printed
 abbrev pub view_fault : ViewFault → List ℕ
 view_fault MapText = codes "1 MapText"
 view_fault WindowText = codes "2 WindowText"
 view_fault (MapTwice layer) = codes "3 MapTwice"
 view_fault EmptyWindow = codes "4 EmptyWindow"
 
--- why a text names nothing that can be ignored
+-- a fault of the text of what is ignored
 abbrev pub ignore_fault : IgnoreFault → List ℕ
 ignore_fault IgnoreText = codes "1 IgnoreText"
 
--- a fault of a library's cells; cells are named by their names
+-- a fault of the cells of a library, with the names of the cells concerned
 abbrev pub cell_fault : CellFault → List ℕ
 cell_fault NoCell = codes "1 NoCell"
 cell_fault (DuplicateCell name) = codes "2 DuplicateCell" ++ spaced name.items
@@ -49,6 +49,6 @@ cell_fault ManyTops = codes "6 ManyTops"
 cell_fault TooManyPlacements = codes "7 TooManyPlacements"
 cell_fault TooManyRings = codes "8 TooManyRings"
 
--- a fault of flattening; the cell is named by its name
+-- a fault of what the top places, with the name of the cell concerned
 abbrev pub flat_fault : FlatFault → List ℕ
 flat_fault (OutOfRange name) = codes "1 OutOfRange" ++ spaced name.items

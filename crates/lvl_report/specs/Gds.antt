@@ -1,4 +1,4 @@
--- What a GDSII file says of itself, and why one is refused, as they are printed.
+-- What a GDSII file says about itself, and why one is refused, as they are printed (own rule).
 use Rattle.std.specs.Prelude.{ℕ, ◌/◌, ◌%◌, List, [], ◌∷◌, ◌++◌, flat_map, false, codes, decimal}
 use Rattle.std.specs.Fmt.{signed_decimal, digit_glyph}
 use Rattle.gds_records.specs.declared.fault.RecordFault.{RecordFault}
@@ -16,14 +16,14 @@ use Rattle.gds_library.specs.declared.fault.GdsKind.TheVariants.{TooManyCells}
 use Rattle.gds_library.specs.declared.head.GdsHead.{GdsHead}
 use Rattle.lvl_report.specs.Faults.{spaced, path_fault}
 
--- a byte as two hexadecimal digits, in small letters
+-- a byte as two hexadecimal digits in lower case
 abbrev pub hex_byte : ℕ → List ℕ
 hex_byte byte = digit_glyph false (byte / 16) ∷ digit_glyph false (byte % 16) ∷ []
 
 abbrev pub hex : List ℕ → List ℕ
 hex bytes = flat_map hex_byte bytes
 
--- each of the units is shown by the eight bytes of its real
+-- the version in decimal, and each of the two units as the eight bytes of its real
 abbrev pub gds_head_text : GdsHead → List ℕ
 gds_head_text head =
     codes "GDSII version " ++ signed_decimal head.version ++ codes " units"
@@ -38,7 +38,7 @@ record_fault UnknownRecord = codes "4 UnknownRecord"
 record_fault TooLong = codes "5 TooLong"
 record_fault Read = codes "6 Read"
 
--- a record out of order is named by its type, in decimal
+-- a record that may not come where it is, with its type in decimal
 abbrev pub misplaced_record : MisplacedRecord → List ℕ
 misplaced_record (Unexpected kind) = codes "10 Unexpected " ++ decimal kind
 misplaced_record (Unsupported kind) = codes "11 Unsupported " ++ decimal kind
@@ -60,7 +60,7 @@ element_rule PathType = codes "23 PathType"
 element_rule Oblique = codes "25 Oblique"
 element_rule Repetition = codes "26 Repetition"
 
--- a fault of a GDSII stream
+-- a fault of a GDSII stream, without its offset
 abbrev pub gds_fault : GdsKind → List ℕ
 gds_fault (Record fault) = record_fault fault
 gds_fault (Misplaced found) = misplaced_record found

@@ -1,4 +1,4 @@
--- What would mend a refusal: a wider set of what is ignored, an option, or another program (own rule).
+-- What would mend a refusal: to ignore more, to give an option, or to use another program (own rule).
 use Rattle.std.specs.Prelude.{ℕ, ◌==◌, ◌&&◌, if◌then◌else◌, Bool, true, false, List, [], ◌∷◌, Option, Some, None}
 use Rattle.std.specs.Prelude.{Result, Ok, Err, is_ok}
 use Rattle.lvl_cells.specs.declared.fault.CellFault.{CellFault}
@@ -28,41 +28,41 @@ use Rattle.lvl_report.specs.declared.outcome.Outcome.{Outcome}
 use Rattle.lvl_report.specs.declared.hint.Hint.{Hint}
 use Rattle.lvl_report.specs.declared.hint.Hint.TheVariants.{IgnoreMore, Unpack, WithoutBlocks, NameTop, NameTopOf}
 
--- whether what a GDSII file is refused for is read where this is ignored
+-- whether the record for which a GDSII file is refused is read if `ignore` is ignored
 abbrev pub reads_record : Ignore → GdsKind → Bool
 reads_record ignore (Misplaced (UnsupportedType kind)) = is_ignored ignore kind
 reads_record ignore kind = false
 
--- whether what an OASIS file is refused for is read where this is ignored
+-- whether the record or the integer for which an OASIS file is refused is read if `ignore` is ignored
 abbrev pub reads_spelling : Ignore → OasisKind → Bool
 reads_spelling ignore (Value IntegerTooLarge) = ignore.padding
 reads_spelling ignore (Record (UnsupportedId id)) = is_ok (record_type ignore id)
 reads_spelling ignore kind = false
 
--- whether what a file is refused for is read where this is ignored
+-- the same for a file of either format
 abbrev pub is_read_by : Ignore → FileFault → Bool
 is_read_by ignore (Gds fault) = reads_record ignore fault.kind
 is_read_by ignore (Oasis (At offset kind)) = reads_spelling ignore kind
 is_read_by ignore (Oasis (Unresolved number)) = false
 
--- the sets with one word more, in the order of the words
+-- the sets with one more word than `given`, in the order of the words
 abbrev pub with_one_more : Ignore → List Ignore
 with_one_more given =
     record given { properties = true } ∷ record given { texts = true } ∷ record given { names = true }
     ∷ record given { padding = true } ∷ []
 
--- the first of the sets by which the file is read on
+-- the first of the sets with which the record or integer is read
 abbrev pub first_that_reads : FileFault → List Ignore → Option Ignore
 first_that_reads fault [] = None
 first_that_reads fault (more ∷ others) =
     if is_read_by more fault then Some more else first_that_reads fault others
 
--- what to ignore so that the file is read on, where that isn't ignored already
+-- what to ignore so that it is read; None if it is read already, or if no word would change that
 abbrev pub to_ignore : Ignore → FileFault → Option Ignore
 to_ignore given fault =
     if is_read_by given fault then None else first_that_reads fault (with_one_more given)
 
--- whether the first record has no header of GDSII
+-- whether the fault is one of the header of a record, other than that the input ends
 abbrev pub is_headless : RecordFault → Bool
 is_headless BadLength = true
 is_headless BadDataType = true
@@ -73,43 +73,43 @@ is_headless fault = false
 abbrev pub cblock : ℕ
 cblock = 34
 
--- the first record of a file of another format
+-- a file whose first record has a faulty header is perhaps a compressed file
 abbrev pub of_first : ℕ → GdsKind → Option Hint
 of_first offset (GdsRecord fault) = if (offset == 0) && is_headless fault then Some Unpack else None
 of_first offset kind = None
 
--- a compressed block
+-- an OASIS file with a CBLOCK
 abbrev pub of_block : OasisKind → Option Hint
 of_block (Record (UnsupportedId id)) = if id == cblock then Some WithoutBlocks else None
 of_block kind = None
 
--- what another program would mend
+-- a hint to use another program
 abbrev pub other_program : FileFault → Option Hint
 other_program (Gds fault) = of_first fault.offset fault.kind
 other_program (Oasis (At offset kind)) = of_block kind
 other_program (Oasis (Unresolved number)) = None
 
--- what to ignore, where there is something, else the other hint
+-- the hint to ignore more if there is one, else the other hint
 abbrev pub ignore_or : Option Ignore → Option Hint → Option Hint
 ignore_or (Some more) other = Some (IgnoreMore more)
 ignore_or None other = other
 
--- what would mend the refusal of a file
+-- the hint for a file that is refused
 abbrev pub hint_of_file : Ignore → FileFault → Option Hint
 hint_of_file given fault = ignore_or (to_ignore given fault) (other_program fault)
 
--- what would mend the refusal of the only file
+-- the hint if the only file is refused
 abbrev pub hint_of_one : Ignore → Refusal → Option Hint
 hint_of_one given (File side fault) = hint_of_file given fault
 hint_of_one given (Cells side ManyTops) = Some NameTop
 hint_of_one given refusal = None
 
--- what would mend the refusal of one of two files
+-- the hint if one of two files is refused
 abbrev pub hint_of_two : Ignore → Refusal → Option Hint
 hint_of_two given (Cells side ManyTops) = Some (NameTopOf side)
 hint_of_two given refusal = hint_of_one given refusal
 
--- how an answer of two files ends, and how one of the only file does
+-- how a run on two files ends, and one on a single file
 abbrev pub outcome_of : Ignore → Result Comparison Refusal → Outcome
 outcome_of given (Ok comparison) = record { status = verdict_status comparison.verdict; hint = None }
 outcome_of given (Err refusal) = record { status = Refused; hint = hint_of_two given refusal }

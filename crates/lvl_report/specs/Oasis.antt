@@ -1,4 +1,4 @@
--- What an OASIS file says of itself, and why one is refused, as they are printed.
+-- What an OASIS file says about itself, and why one is refused, as they are printed (own rule).
 use Rattle.std.specs.Prelude.{ℕ, ◌==◌, if◌then◌else◌, List, [], ◌++◌, codes, decimal}
 use Rattle.oasis_values.specs.declared.fault.ValueFault.{ValueFault}
 use Rattle.oasis_values.specs.declared.fault.ValueFault.TheVariants.{Truncated, IntegerTooLarge, StringByte, RealType}
@@ -28,7 +28,7 @@ use Rattle.oasis_library.specs.declared.head.OasisHead.{OasisHead}
 use Rattle.lvl_report.specs.Faults.{spaced, path_fault}
 use Rattle.lvl_report.specs.Gds.{hex}
 
--- a real: a whole number, a fraction as it is given, or the bytes in file order
+-- a real: a whole number or a fraction in decimal, or the bytes of an IEEE number in the order of the file
 abbrev pub real : Real → List ℕ
 real (Whole n) = decimal n
 real (NegWhole n) = codes "-" ++ decimal n
@@ -39,10 +39,11 @@ real (NegRatio n m) = codes "-" ++ decimal n ++ codes "/" ++ decimal m
 real (Four bytes) = codes "hex " ++ hex bytes
 real (Eight bytes) = codes "hex " ++ hex bytes
 
--- the signature is shown where there is one
+-- the signature, unless the scheme is 0
 abbrev pub signature : ℕ → List ℕ → List ℕ
 signature scheme bytes = if scheme == 0 then [] else codes " signature " ++ hex bytes
 
+-- the unit, the scheme and the signature
 abbrev pub oasis_head_text : OasisHead → List ℕ
 oasis_head_text head =
     codes "OASIS 1.0 unit " ++ real head.unit ++ codes " scheme " ++ decimal head.scheme
@@ -65,7 +66,7 @@ value_fault Read = codes "12 Read"
 value_fault Failed = codes "13 Failed"
 value_fault NoModal = codes "14 NoModal"
 
--- a rule of a record by itself
+-- a rule of records that a record breaches by itself
 abbrev pub record_rule : RecordRule → List ℕ
 record_rule Magic = codes "20 Magic"
 record_rule Version = codes "21 Version"
@@ -75,7 +76,7 @@ record_rule Info = codes "29 Info"
 record_rule EndLength = codes "35 EndLength"
 record_rule Scheme = codes "36 Scheme"
 
--- a rule of figures and placements
+-- a rule of figures or placements
 abbrev pub figure_rule : FigureRule → List ℕ
 figure_rule OutsideRange = codes "10 OutOfRange"
 figure_rule (Undefined v) = codes "25 Undefined" ++ spaced (variable_name v)
@@ -86,13 +87,13 @@ figure_rule (Path fault) = codes "33 Path" ++ spaced (path_fault fault)
 figure_rule Oblique = codes "34 Oblique"
 figure_rule Layer = codes "38 Layer"
 
--- a rule of names
+-- a rule of CELLNAME records
 abbrev pub name_rule : NameRule → List ℕ
 name_rule Mixed = codes "26 MixedNames"
 name_rule NumberTwice = codes "27 NumberTwice"
 name_rule NameTwice = codes "28 NameTwice"
 
--- what is wrong with an OASIS file
+-- a fault of an OASIS file, without its offset
 abbrev pub oasis_kind : OasisKind → List ℕ
 oasis_kind (Value fault) = value_fault fault
 oasis_kind (Record rule) = record_rule rule
@@ -102,7 +103,7 @@ oasis_kind (Name rule) = name_rule rule
 oasis_kind AfterEnd = codes "37 AfterEnd"
 oasis_kind TooManyCells = codes "39 TooManyCells"
 
--- the fault, and the offset where there is one
+-- a fault of an OASIS file, with its offset in bytes if it has one
 abbrev pub oasis_fault : OasisFault → List ℕ
 oasis_fault (At offset kind) = oasis_kind kind ++ codes " at " ++ decimal offset
 oasis_fault (Unresolved number) = codes "40 Unresolved " ++ decimal number

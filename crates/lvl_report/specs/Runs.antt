@@ -1,4 +1,4 @@
--- What a run may write: the text of an answer, whole or its beginning.
+-- What a run may write: the text of an answer, or a beginning of it if the output fails.
 use Rattle.std.specs.Prelude.{◌≡◌, ℕ, List, Option, Some, Result, IfOk, IfErr}
 use Rattle.std.specs.Io.KnownBytes.{Appends}
 use Rattle.lvl_ignore.specs.declared.ignore.Ignore.{Ignore}
@@ -17,8 +17,8 @@ use Rattle.lvl.specs.Answers.{IsCompared, IsEarlyOf, IsHopeless, IsRefusalOf, is
 use Rattle.lvl.specs.Shown.{IsShownFile, IsOfFirst}
 use Rattle.lvl_report.specs.Writing.{AppendsBeginning}
 
--- a reader in a run: which of its records are ignored, the bytes that it had and those that are left, where they are
--- known, its errors before and after, and the name of the top
+-- a reader in a run: what of it is ignored, its bytes before the run and those left after it (None if they aren't
+-- known), how many errors it had returned before and after, and the name of the top
 pub record Input : Type 0 where
   pub ignore : Ignore
   pub bytes : Option (List ℕ)
@@ -31,7 +31,8 @@ abbrev pub input : Ignore → Option (List ℕ) → Option (List ℕ) → ℕ �
 input ignore bytes left before after top =
     record { ignore = ignore; bytes = bytes; left = left; before = before; after = after; top = top }
 
--- the answer is one that a comparison of two files may give, where it says that of them
+-- the answer is possible for the comparison of two files: a comparison satisfies `Says`, and a refusal is true of the
+-- files
 pub record IsAnswerBy (Says : File → File → Comparison → Type 0) (a b : Input)
     (answer : Result Comparison Refusal) : Type 0 where
   pub compared : (xs ys : List ℕ) → a.bytes ≡ Some xs → b.bytes ≡ Some ys
@@ -47,15 +48,15 @@ pub record IsAnswerBy (Says : File → File → Comparison → Type 0) (a b : In
   pub first_reads : CountsFailure a.before a.after (is_read_of First answer)
   pub second_reads : CountsFailure b.before b.after (is_read_of Second answer)
 
--- the answer is one that the comparison of two files may give
+-- the answer is possible for the comparison of the two files
 abbrev pub IsComparedBy : Input → Input → Result Comparison Refusal → Type 0
 IsComparedBy = IsAnswerBy IsCompared
 
--- the answer is one that their comparison under the view may give
+-- the answer is possible for their comparison under the view
 abbrev pub IsViewedBy : PlainView → Input → Input → Result Comparison Refusal → Type 0
 IsViewedBy view = IsAnswerBy (IsComparedIn view)
 
--- the answer is one that the reading of a file may give, where it says that of the file
+-- the answer is possible for one file: what was found satisfies `Says`, and a refusal is true of the file
 pub record IsFoundBy {X : Type 0} (Says : File → X → Type 0) (a : Input) (answer : Result X Refusal) : Type 0 where
   pub found : (xs : List ℕ) → a.bytes ≡ Some xs → IfOk answer (Says (file_named a.ignore xs a.top))
   pub refused : (xs : List ℕ) → a.bytes ≡ Some xs → IfErr answer (IsRefusalOf First (file_named a.ignore xs a.top))
@@ -63,15 +64,15 @@ pub record IsFoundBy {X : Type 0} (Says : File → X → Type 0) (a : Input) (an
   pub side : IfErr answer IsOfFirst
   pub reads : CountsFailure a.before a.after (is_read_of First answer)
 
--- the answer is one that showing a file may give
+-- the answer is possible for showing the file
 abbrev pub IsShownBy : Input → Result Shown Refusal → Type 0
 IsShownBy = IsFoundBy IsShownFile
 
--- the answer is one that the digest of a file may give
+-- the answer is possible for the digest of the file
 abbrev pub IsDigestedBy : Input → Result Digested Refusal → Type 0
 IsDigestedBy = IsFoundBy IsDigestedFile
 
--- the text of such an answer was written, and nothing else; what the run gives is that of the answer
+-- the whole text of an answer that is allowed was written, and the run ends as it does for this answer
 pub record IsWritten {X T : Type 0} (Allowed : X → Type 0) (text : X → List ℕ) (end_of : X → T)
     (old new : Option (List ℕ)) (ended : T) : Type 0 where
   pub answer : X
@@ -79,7 +80,7 @@ pub record IsWritten {X T : Type 0} (Allowed : X → Type 0) (text : X → List 
   pub whole : Appends old new (text answer)
   pub ends : ended ≡ end_of answer
 
--- a beginning of the text of such an answer was written, perhaps nothing or all of it
+-- a beginning of the text of an answer that is allowed was written, perhaps nothing or all of it
 pub record IsBegun {X : Type 0} (Allowed : X → Type 0) (text : X → List ℕ) (old new : Option (List ℕ)) : Type 0 where
   pub answer : X
   pub allowed : Allowed answer

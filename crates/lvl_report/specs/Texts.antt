@@ -1,4 +1,4 @@
--- The text of an answer, as a list of bytes: two heads and a verdict, what a layout holds, its digest, or a
+-- The text of an answer in bytes (own rule): two heads and a verdict, what is shown of a layout, its digest, or a
 -- refusal.
 use Rattle.std.specs.Prelude.{ℕ, List, [], ◌∷◌, ◌++◌, flat_map, codes, decimal, Result, Ok, Err}
 use Rattle.std.specs.Fmt.{signed_decimal}
@@ -22,11 +22,11 @@ use Rattle.lvl_report.specs.Faults.{spaced, cell_fault, flat_fault}
 use Rattle.lvl_report.specs.Gds.{gds_fault, gds_head_text, hex}
 use Rattle.lvl_report.specs.Oasis.{oasis_fault, oasis_head_text}
 
--- a line ends with one line feed
+-- a text and one line feed
 abbrev pub line : List ℕ → List ℕ
 line text = text ++ 10 ∷ []
 
--- what a file says of itself
+-- what a file says about itself
 abbrev pub head_text : Head → List ℕ
 head_text (Gds head) = gds_head_text head
 head_text (Oasis head) = oasis_head_text head
@@ -35,6 +35,7 @@ abbrev pub side_text : Side → List ℕ
 side_text First = codes "first"
 side_text Second = codes "second"
 
+-- the verdict; if it is a difference, with the Layer, the square and the side that covers it
 abbrev pub verdict_text : Verdict → List ℕ
 verdict_text Same = codes "same"
 verdict_text (Differ layer square side) =
@@ -42,58 +43,60 @@ verdict_text (Differ layer square side) =
     ++ codes " square " ++ signed_decimal square.x ++ codes " " ++ signed_decimal square.y
     ++ codes " only in " ++ side_text side
 
--- why a file was not read: the format, the fault, and the offset
+-- why a file wasn't read: the format, the fault, and the offset
 abbrev pub file_fault : FileFault → List ℕ
 file_fault (GdsFile fault) = codes "gds " ++ gds_fault fault.kind ++ codes " at " ++ decimal fault.offset
 file_fault (OasisFile fault) = codes "oasis " ++ oasis_fault fault
 
--- the side, the step and the fault; out of memory is alone, whichever step it was
+-- the side, the step and the fault; out of memory names neither a side nor a step
 abbrev pub refusal_text : Refusal → List ℕ
 refusal_text (File side fault) = codes "refused: " ++ side_text side ++ codes ": " ++ file_fault fault
 refusal_text (Cells side fault) = codes "refused: " ++ side_text side ++ codes ": cells " ++ cell_fault fault
 refusal_text (Flat side fault) = codes "refused: " ++ side_text side ++ codes ": flat " ++ flat_fault fault
 refusal_text OutOfMemory = codes "refused: out of memory"
 
--- what is printed of an answer, whole
+-- the text of a comparison or a refusal
 abbrev pub text_of : Result Comparison Refusal → List ℕ
 text_of (Ok c) =
     line (codes "first: " ++ head_text c.first) ++ line (codes "second: " ++ head_text c.second)
     ++ line (verdict_text c.verdict)
 text_of (Err refusal) = line (refusal_text refusal)
 
--- what is printed of a Layer that is shown
+-- the line of a Layer that is shown
 abbrev pub layer_line : LayerRings → List ℕ
 layer_line shown =
     line (codes "layer " ++ decimal shown.layer.layer ++ codes " datatype " ++ decimal shown.layer.datatype
     ++ codes " rings " ++ decimal shown.rings)
 
--- what a file says of itself, and the name of its top
+-- what a file says about itself, and the name of its top
 abbrev pub front_text : Head → List ℕ → List ℕ
 front_text head top = line (codes "file: " ++ head_text head) ++ line (codes "top:" ++ spaced top)
 
+-- what is shown of a layout: its head, its top, the number of its cells, and a line for each Layer
 abbrev pub shown_text : Shown → List ℕ
 shown_text shown =
     front_text shown.head shown.top.items ++ line (codes "cells: " ++ decimal shown.cells)
     ++ flat_map layer_line shown.layers.items
 
--- what is printed of a layout, whole
+-- the text of what is shown, or of a refusal
 abbrev pub text_of_shown : Result Shown Refusal → List ℕ
 text_of_shown (Ok shown) = shown_text shown
 text_of_shown (Err refusal) = line (refusal_text refusal)
 
--- what is printed of a Layer that has a digest
+-- the line of a Layer that has a digest
 abbrev pub digest_line : DigestedLayer → List ℕ
 digest_line l =
     line (codes "layer " ++ decimal l.layer.layer ++ codes " datatype " ++ decimal l.layer.datatype
     ++ codes " corners " ++ decimal l.digest.corners ++ codes " sha256 " ++ hex l.digest.sha256)
 
+-- a line for each Layer that has a digest, and one for the whole mask
 abbrev pub mask_text : MaskDigest → List ℕ
 mask_text d = flat_map digest_line d.layers.items ++ line (codes "mask sha256 " ++ hex d.sha256)
 
 abbrev pub digested_text : Digested → List ℕ
 digested_text d = front_text d.head d.top.items ++ mask_text d.mask
 
--- what is printed of a digest, whole
+-- the text of a digest, or of a refusal
 abbrev pub text_of_digested : Result Digested Refusal → List ℕ
 text_of_digested (Ok d) = digested_text d
 text_of_digested (Err refusal) = line (refusal_text refusal)

@@ -1,4 +1,4 @@
--- What writing a text does to a writer, and the statuses that a run ends with.
+-- What writing a text does to a writer, and the statuses with which a run ends (own rule).
 use Rattle.std.specs.Prelude.{ℕ, List, ◌++◌, ◌≡◌, Option, Bool, true, false, Result, Ok, Err}
 use Rattle.std.specs.Io.KnownBytes.{Appends}
 use Rattle.lvl_report.specs.declared.status.Status.{Status}
@@ -10,40 +10,41 @@ use Rattle.lvl.specs.declared.verdict.Verdict.TheVariants.{Same as SameVerdict, 
 use Rattle.lvl.specs.declared.verdict.Comparison.{Comparison}
 use Rattle.lvl.specs.declared.verdict.Refusal.{Refusal}
 
--- known bytes grew by a beginning of the text, perhaps by none of it or by all
+-- a beginning of the text was added to the known bytes, perhaps nothing or all of it
 pub record AppendsBeginning (old new : Option (List ℕ)) (text : List ℕ) : Type 0 where
   pub front : List ℕ
   pub rest : List ℕ
   pub split : text ≡ front ++ rest
   pub appended : Appends old new front
 
--- the exit status of a program that ended with an answer
+-- the exit status of the program if an answer was written
 abbrev pub status_code : Status → ℕ
 status_code Same = 0
 status_code Differ = 1
 status_code ShownStatus = 0
 status_code Refused = 2
 
--- the exit status of a program whose text wasn't written
+-- the exit status of the program if no answer was written whole
 abbrev pub fault_code : RunFault → ℕ
 fault_code Output = 4
 fault_code OutOfMemory = 2
 
--- the status of an answer
+-- the status of a verdict
 abbrev pub verdict_status : Verdict → Status
 verdict_status SameVerdict = Same
 verdict_status (DifferVerdict layer square side) = Differ
 
+-- the status of an answer about two files
 abbrev pub status_of : Result Comparison Refusal → Status
 status_of (Ok comparison) = verdict_status comparison.verdict
 status_of (Err refusal) = Refused
 
--- the status of what is said of one file
+-- the status of an answer about one file
 abbrev pub shown_status : {X : Type 0} → Result X Refusal → Status
 shown_status (Ok x) = ShownStatus
 shown_status (Err refusal) = Refused
 
--- whether the output failed
+-- whether the run failed in writing its output
 abbrev pub is_output : {A : Type 0} → Result A RunFault → Bool
 is_output (Ok a) = false
 is_output (Err Output) = true

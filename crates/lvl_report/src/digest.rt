@@ -10,7 +10,7 @@ use std::alloc::{AllocError, Global};
 use std::io;
 use std::io::Write;
 
-/// Appends a line for a Layer.
+/// Appends the line of a Layer.
 fn push_layer_digest(text: &mut Vec<u8>, digested: &DigestedLayer) -> io::Result<()>
     ensures { OnOk result (text.new.items ≡ text.old.items ++ digest_line digested.now) }
 {
@@ -24,7 +24,7 @@ fn push_layer_digest(text: &mut Vec<u8>, digested: &DigestedLayer) -> io::Result
     writeln!(text)
 }
 
-/// Appends a line for each Layer.
+/// Appends the line of each Layer.
 fn push_layer_digests(text: &mut Vec<u8>, layers: &[DigestedLayer]) -> io::Result<()>
     ensures { OnOk result (text.new.items ≡ text.old.items ++ flat_map digest_line layers.now) }
 {
@@ -52,7 +52,7 @@ fn push_digested(text: &mut Vec<u8>, digested: &Digested) -> io::Result<()>
     push_mask_digest(text, &digested.mask)
 }
 
-/// Appends a digest, or a refusal.
+/// Appends a digest or a refusal.
 fn push_digest_answer(text: &mut Vec<u8>, answer: &Result<Digested, Refusal>) -> io::Result<()>
     ensures { OnOk result (text.new.items ≡ text.old.items ++ text_of_digested answer.now) }
 {
@@ -65,8 +65,9 @@ fn push_digest_answer(text: &mut Vec<u8>, answer: &Result<Digested, Refusal>) ->
     }
 }
 
-/// What is printed of a digest, whole: what the file says of itself, its top, a line for each Layer
-/// that covers a square, and one for the whole mask. A refusal is one line.
+/// The text of a digest: what the file says about itself, its top, a line for each Layer that
+/// covers a square, and one for the whole mask. A refusal is one line. It fails only if it is out
+/// of memory.
 pub fn form_digest(alloc: Global, answer: &Result<Digested, Refusal>) -> Result<Vec<u8>, AllocError>
     ensures { IfOk result (λ text. text.items ≡ text_of_digested answer.now) }
 {

@@ -1,4 +1,4 @@
-//! The number and the name of each fault that no format has alone, and what it carries, as text.
+//! The number and the name of each fault that belongs to no format, and what it carries, as text.
 ghost use Rattle.std.specs.Prelude.{◌≡◌, ◌++◌, flat_map, OnOk};
 ghost use Rattle.lvl_report.specs.Faults.{spaced, path_fault, cell_fault, flat_fault, ignore_fault, view_fault};
 
@@ -10,7 +10,7 @@ use lvl_view::ViewFault;
 use std::io;
 use std::io::Write;
 
-/// Why points are no path.
+/// The text of a fault of a path.
 pub(crate) fn path_fault(fault: PathFault) -> &'static str
     ensures { result.now ≡ path_fault fault }
 {
@@ -25,7 +25,7 @@ pub(crate) fn path_fault(fault: PathFault) -> &'static str
     }
 }
 
-/// Why texts are no view: the number and the name of the fault, without the Layer that it carries.
+/// The number and the name of a fault of a view, without the Layer that it carries.
 pub fn view_fault(fault: ViewFault) -> &'static str
     ensures { result.now ≡ view_fault fault }
 {
@@ -37,7 +37,7 @@ pub fn view_fault(fault: ViewFault) -> &'static str
     }
 }
 
-/// Why a text names nothing that can be ignored: the number and the name of the fault.
+/// The number and the name of a fault of the text of what is ignored.
 pub fn ignore_fault(fault: IgnoreFault) -> &'static str
     ensures { result.now ≡ ignore_fault fault }
 {
@@ -46,7 +46,7 @@ pub fn ignore_fault(fault: IgnoreFault) -> &'static str
     }
 }
 
-/// Appends the name, after a space.
+/// Appends a space and the name.
 pub(crate) fn push_name(text: &mut Vec<u8>, name: &[u8]) -> io::Result<()>
     ensures { OnOk result (text.new.items ≡ text.old.items ++ spaced name.now) }
 {
@@ -54,7 +54,7 @@ pub(crate) fn push_name(text: &mut Vec<u8>, name: &[u8]) -> io::Result<()>
     text.write_all(name)
 }
 
-/// Appends the names, each after a space.
+/// Appends each name after a space.
 fn push_names(text: &mut Vec<u8>, names: &[Vec<u8>]) -> io::Result<()>
     ensures { OnOk result (text.new.items ≡ text.old.items ++ flat_map (λ name. spaced name.items) names.now) }
 {
@@ -64,7 +64,7 @@ fn push_names(text: &mut Vec<u8>, names: &[Vec<u8>]) -> io::Result<()>
     Ok(())
 }
 
-/// Appends a fault of a library's cells.
+/// Appends a fault of the cells of a library.
 pub(crate) fn push_cell_fault(text: &mut Vec<u8>, fault: &CellFault) -> io::Result<()>
     ensures { OnOk result (text.new.items ≡ text.old.items ++ cell_fault fault.now) }
 {
@@ -90,7 +90,7 @@ pub(crate) fn push_cell_fault(text: &mut Vec<u8>, fault: &CellFault) -> io::Resu
     }
 }
 
-/// Appends a fault of flattening.
+/// Appends a fault of what the top places.
 pub(crate) fn push_flat_fault(text: &mut Vec<u8>, fault: &FlatFault) -> io::Result<()>
     ensures { OnOk result (text.new.items ≡ text.old.items ++ flat_fault fault.now) }
 {

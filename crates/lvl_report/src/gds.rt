@@ -1,4 +1,4 @@
-//! What a GDSII file says of itself, and why one is refused, as text.
+//! What a GDSII file says about itself, and why one is refused, as text.
 ghost use Rattle.std.specs.Prelude.{◌≡◌, ◌++◌, flat_map, OnOk};
 ghost use Rattle.lvl_report.specs.Faults.{spaced};
 ghost use Rattle.lvl_report.specs.Gds.{hex, hex_byte, gds_head_text, record_fault, misplaced_record, element_rule};
@@ -37,7 +37,7 @@ fn push_units(text: &mut Vec<u8>, units: &[[u8; 8]]) -> io::Result<()>
     Ok(())
 }
 
-/// Appends what a GDSII file says of itself.
+/// Appends what a GDSII file says about itself.
 pub(crate) fn push_gds_head(text: &mut Vec<u8>, head: &GdsHead) -> io::Result<()>
     ensures { OnOk result (text.new.items ≡ text.old.items ++ gds_head_text head.now) }
 {
@@ -46,7 +46,7 @@ pub(crate) fn push_gds_head(text: &mut Vec<u8>, head: &GdsHead) -> io::Result<()
     push_units(text, &head.units)
 }
 
-/// A fault of a record.
+/// The text of a fault of a record.
 fn record_fault(fault: RecordFault) -> &'static str
     ensures { result.now ≡ record_fault fault }
 {
@@ -60,7 +60,7 @@ fn record_fault(fault: RecordFault) -> &'static str
     }
 }
 
-/// Appends a record out of order, by its type.
+/// Appends why a record may not come where it is, with its type.
 fn push_misplaced(text: &mut Vec<u8>, found: Misplaced) -> io::Result<()>
     ensures { OnOk result (text.new.items ≡ text.old.items ++ misplaced_record found) }
 {

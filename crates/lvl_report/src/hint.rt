@@ -1,4 +1,4 @@
-//! What would mend a refusal: a wider set of what is ignored, an option, or another program.
+//! What would mend a refusal: to ignore more, to give an option, or to use another program.
 ghost use Rattle.std.specs.Prelude.{◌≡◌};
 ghost use Rattle.lvl_report.specs.Hints.{reads_record, reads_spelling, is_read_by, with_one_more, first_that_reads};
 ghost use Rattle.lvl_report.specs.Hints.{to_ignore, is_headless, of_first, of_block, other_program, ignore_or};
@@ -19,19 +19,20 @@ const CBLOCK: u64 = 34;
 /// What would mend a refusal (own rule).
 #[derive(Clone, Copy, Debug, PartialEq, Eq)]
 pub enum Hint {
-    /// The file is read on where this is ignored: what is ignored already, and one word more.
+    /// To ignore this, one word more than before: then the record that was refused is read.
     IgnoreMore(Ignore),
-    /// The file begins with no record of GDSII, nor as OASIS does: it may be compressed as a whole.
+    /// To unpack the file: it begins neither with a record of GDSII nor as OASIS does, so it may be
+    /// compressed.
     Unpack,
-    /// The OASIS file has a compressed block, a CBLOCK.
+    /// To write the OASIS file without compressed blocks (CBLOCK).
     WithoutBlocks,
-    /// Several cells could be the top of the only file.
+    /// To name the top of the only file, since several cells could be it.
     NameTop,
-    /// Several cells could be the top of this file of two.
+    /// To name the top of this one of two files, since several cells could be it.
     NameTopOf(Side),
 }
 
-/// Whether what a GDSII file is refused for is read where this is ignored.
+/// Whether the record for which a GDSII file is refused is read if `ignore` is ignored.
 fn reads_record(ignore: Ignore, kind: &GdsKind) -> bool
     ensures { result ≡ reads_record ignore kind.now }
 {
@@ -41,7 +42,8 @@ fn reads_record(ignore: Ignore, kind: &GdsKind) -> bool
     }
 }
 
-/// Whether what an OASIS file is refused for is read where this is ignored.
+/// Whether the record or the integer for which an OASIS file is refused is read if `ignore` is
+/// ignored.
 fn reads_spelling(ignore: Ignore, kind: &OasisKind) -> bool
     ensures { result ≡ reads_spelling ignore kind.now }
 {
@@ -52,7 +54,7 @@ fn reads_spelling(ignore: Ignore, kind: &OasisKind) -> bool
     }
 }
 
-/// Whether what a file is refused for is read where this is ignored.
+/// The same for a file of either format.
 fn is_read_by(ignore: Ignore, fault: &FileFault) -> bool
     ensures { result ≡ is_read_by ignore fault.now }
 {
@@ -63,7 +65,7 @@ fn is_read_by(ignore: Ignore, fault: &FileFault) -> bool
     }
 }
 
-/// The sets with one word more, in the order of the words.
+/// The sets with one more word than `given`, in the order of the words.
 fn with_one_more(given: Ignore) -> [Ignore; 4]
     ensures { result ≡ with_one_more given }
 {
@@ -87,7 +89,7 @@ fn with_one_more(given: Ignore) -> [Ignore; 4]
     ]
 }
 
-/// The first of the sets by which the file is read on.
+/// The first of the sets with which the record or integer is read.
 fn first_that_reads(fault: &FileFault, sets: &[Ignore]) -> Option<Ignore>
     ensures { result ≡ first_that_reads fault.now sets.now }
 {
@@ -99,7 +101,7 @@ fn first_that_reads(fault: &FileFault, sets: &[Ignore]) -> Option<Ignore>
     None
 }
 
-/// What to ignore so that the file is read on, where that isn't ignored already.
+/// What to ignore so that it is read; `None` if it is read already, or if no word would change that.
 fn to_ignore(given: Ignore, fault: &FileFault) -> Option<Ignore>
     ensures { result ≡ to_ignore given fault.now }
 {
@@ -109,7 +111,7 @@ fn to_ignore(given: Ignore, fault: &FileFault) -> Option<Ignore>
     first_that_reads(fault, &with_one_more(given))
 }
 
-/// Whether the first record has no header of GDSII.
+/// Whether the fault is one of the header of a record, other than that the input ends.
 fn is_headless(fault: RecordFault) -> bool
     ensures { result ≡ is_headless fault }
 {
@@ -119,7 +121,7 @@ fn is_headless(fault: RecordFault) -> bool
     )
 }
 
-/// What would mend a GDSII file whose first record is malformed.
+/// The hint for a GDSII file whose first record has a faulty header.
 fn of_first(offset: u64, kind: &GdsKind) -> Option<Hint>
     ensures { result ≡ of_first offset kind.now }
 {
@@ -129,7 +131,7 @@ fn of_first(offset: u64, kind: &GdsKind) -> Option<Hint>
     }
 }
 
-/// What would mend an OASIS file that has a compressed block.
+/// The hint for an OASIS file with a CBLOCK.
 fn of_block(kind: &OasisKind) -> Option<Hint>
     ensures { result ≡ of_block kind.now }
 {
@@ -139,7 +141,7 @@ fn of_block(kind: &OasisKind) -> Option<Hint>
     }
 }
 
-/// What another program would mend.
+/// The hint to use another program, if it would mend the refusal.
 fn other_program(fault: &FileFault) -> Option<Hint>
     ensures { result ≡ other_program fault.now }
 {
@@ -150,7 +152,7 @@ fn other_program(fault: &FileFault) -> Option<Hint>
     }
 }
 
-/// What would mend the refusal of a file.
+/// The hint for a file that is refused.
 fn hint_of_file(given: Ignore, fault: &FileFault) -> Option<Hint>
     ensures { result ≡ hint_of_file given fault.now }
 {
@@ -160,7 +162,7 @@ fn hint_of_file(given: Ignore, fault: &FileFault) -> Option<Hint>
     }
 }
 
-/// What would mend the refusal of the only file, where this is ignored.
+/// The hint if the only file is refused. `given` is what was ignored.
 pub(crate) fn hint_of_one(given: Ignore, refusal: &Refusal) -> Option<Hint>
     ensures { result ≡ hint_of_one given refusal.now }
 {
@@ -171,7 +173,7 @@ pub(crate) fn hint_of_one(given: Ignore, refusal: &Refusal) -> Option<Hint>
     }
 }
 
-/// What would mend the refusal of one of two files, where this is ignored.
+/// The hint if one of two files is refused. `given` is what was ignored.
 pub(crate) fn hint_of_two(given: Ignore, refusal: &Refusal) -> Option<Hint>
     ensures { result ≡ hint_of_two given refusal.now }
 {

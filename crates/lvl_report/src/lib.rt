@@ -1,10 +1,12 @@
-//! The answers of lvl as text: two heads and a verdict, what a layout holds, its digest, or a refusal.
+//! The answers of lvl as text: two heads and a verdict, what is shown of a layout, its digest, or a
+//! refusal.
 //!
 //! [`run`] compares two files, [`run_view`] compares them under a view, [`run_show`] shows one, and
-//! [`run_digest`] gives the digest of one; each forms the text of the answer whole, writes it, and gives
-//! its [`Status`], by which the program exits; with a set of what is ignored, an [`Outcome`], which also has
-//! a [`Hint`] where something would mend a refusal. Each format has a module of its own for what its files say
-//! of themselves and why they are refused. [`form`], [`form_shown`] and [`form_digest`] give the text alone.
+//! [`run_digest`] hashes what one draws. Each makes the whole text of the answer, writes it, and returns a
+//! [`Status`], which gives the exit status of the program. The calls that take what is ignored return an
+//! [`Outcome`], which also has a [`Hint`] if something would mend a refusal. Each format has a module for what
+//! its files say about themselves and why they are refused. [`form`], [`form_shown`] and [`form_digest`] only
+//! make the text.
 //!
 //! `bytes` is a file that draws one square:
 //!

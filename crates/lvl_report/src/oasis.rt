@@ -1,4 +1,4 @@
-//! What an OASIS file says of itself, and why one is refused, as text.
+//! What an OASIS file says about itself, and why one is refused, as text.
 ghost use Rattle.std.specs.Prelude.{◌≡◌, ◌++◌, OnOk, codes};
 ghost use Rattle.lvl_report.specs.Oasis.{real, signature, oasis_head_text, value_fault, record_rule};
 ghost use Rattle.lvl_report.specs.Gds.{hex};
@@ -12,7 +12,7 @@ use oasis_library::{
 use std::io;
 use std::io::Write;
 
-/// Appends bytes in file order, as hexadecimal digits.
+/// Appends bytes as hexadecimal digits, in the order of the file.
 fn push_bytes(text: &mut Vec<u8>, bytes: &[u8]) -> io::Result<()>
     ensures { OnOk result (text.new.items ≡ text.old.items ++ codes "hex " ++ hex bytes.now) }
 {
@@ -20,7 +20,7 @@ fn push_bytes(text: &mut Vec<u8>, bytes: &[u8]) -> io::Result<()>
     push_hex(text, bytes)
 }
 
-/// Appends a real: a whole number, a fraction as it is given, or the bytes of an IEEE number.
+/// Appends a real: a whole number, a fraction, or the bytes of an IEEE number.
 fn push_real(text: &mut Vec<u8>, number: &Real) -> io::Result<()>
     ensures { OnOk result (text.new.items ≡ text.old.items ++ real number.now) }
 {
@@ -36,7 +36,7 @@ fn push_real(text: &mut Vec<u8>, number: &Real) -> io::Result<()>
     }
 }
 
-/// Appends the signature, where there is one.
+/// Appends the signature, if there is one.
 fn push_signature(text: &mut Vec<u8>, scheme: u8, bytes: &[u8]) -> io::Result<()>
     ensures { OnOk result (text.new.items ≡ text.old.items ++ signature scheme bytes.now) }
 {
@@ -47,7 +47,7 @@ fn push_signature(text: &mut Vec<u8>, scheme: u8, bytes: &[u8]) -> io::Result<()
     push_hex(text, bytes)
 }
 
-/// Appends what an OASIS file says of itself.
+/// Appends what an OASIS file says about itself.
 pub(crate) fn push_oasis_head(text: &mut Vec<u8>, head: &OasisHead) -> io::Result<()>
     ensures { OnOk result (text.new.items ≡ text.old.items ++ oasis_head_text head.now) }
 {
@@ -58,7 +58,7 @@ pub(crate) fn push_oasis_head(text: &mut Vec<u8>, head: &OasisHead) -> io::Resul
     push_signature(text, scheme, &head.signature)
 }
 
-/// A fault of a value.
+/// The text of a fault of a value.
 fn value_fault(fault: ValueFault) -> &'static str
     ensures { result.now ≡ value_fault fault }
 {
@@ -80,7 +80,7 @@ fn value_fault(fault: ValueFault) -> &'static str
     }
 }
 
-/// Appends a rule of a record by itself.
+/// Appends a rule of records that a record breaches by itself.
 fn push_record_rule(text: &mut Vec<u8>, rule: RecordRule) -> io::Result<()>
     ensures { OnOk result (text.new.items ≡ text.old.items ++ record_rule rule) }
 {
@@ -95,7 +95,7 @@ fn push_record_rule(text: &mut Vec<u8>, rule: RecordRule) -> io::Result<()>
     }
 }
 
-/// Appends a rule of figures and placements.
+/// Appends a rule of figures or placements.
 fn push_figure_rule(text: &mut Vec<u8>, rule: FigureRule) -> io::Result<()>
     ensures { OnOk result (text.new.items ≡ text.old.items ++ figure_rule rule) }
 {
@@ -117,7 +117,7 @@ fn push_figure_rule(text: &mut Vec<u8>, rule: FigureRule) -> io::Result<()>
     }
 }
 
-/// A rule of names.
+/// The text of a rule of CELLNAME records.
 fn name_rule(rule: NameRule) -> &'static str
     ensures { result.now ≡ name_rule rule }
 {
@@ -128,7 +128,7 @@ fn name_rule(rule: NameRule) -> &'static str
     }
 }
 
-/// Appends what is wrong with an OASIS file.
+/// Appends a fault of an OASIS file, without its offset.
 fn push_oasis_kind(text: &mut Vec<u8>, kind: OasisKind) -> io::Result<()>
     ensures { OnOk result (text.new.items ≡ text.old.items ++ oasis_kind kind) }
 {
@@ -143,7 +143,7 @@ fn push_oasis_kind(text: &mut Vec<u8>, kind: OasisKind) -> io::Result<()>
     }
 }
 
-/// Appends a fault of an OASIS file, and its offset in bytes where it has one.
+/// Appends a fault of an OASIS file, with its offset in bytes if it has one.
 pub(crate) fn push_oasis_fault(text: &mut Vec<u8>, fault: OasisFault) -> io::Result<()>
     ensures { OnOk result (text.new.items ≡ text.old.items ++ oasis_fault fault) }
 {

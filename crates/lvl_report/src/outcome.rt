@@ -1,4 +1,4 @@
-//! How a run ends that has an answer.
+//! How a run with an answer ends.
 ghost use Rattle.std.specs.Prelude.{◌≡◌};
 ghost use Rattle.lvl_report.specs.Hints.{outcome_of, shown_outcome};
 ghost use Rattle.lvl_report.specs.Writing.{verdict_status};
@@ -8,7 +8,7 @@ use crate::status::Status;
 use lvl::{Comparison, Refusal, Verdict};
 use lvl_ignore::Ignore;
 
-/// Which answer was written, and what would mend it where it is a refusal.
+/// Which answer was written, and, if it is a refusal, what would mend it.
 #[derive(Clone, Copy, Debug, PartialEq, Eq)]
 pub struct Outcome {
     pub status: Status,
@@ -24,7 +24,7 @@ fn verdict_status(verdict: &Verdict) -> Status
     }
 }
 
-/// How an answer of two files ends, where this is ignored.
+/// How a run on two files ends. `ignore` is what was ignored.
 pub(crate) fn outcome_of(ignore: Ignore, answer: &Result<Comparison, Refusal>) -> Outcome
     ensures { result ≡ outcome_of ignore answer.now }
 {
@@ -40,7 +40,7 @@ pub(crate) fn outcome_of(ignore: Ignore, answer: &Result<Comparison, Refusal>) -
     }
 }
 
-/// How an answer of the only file ends, where this is ignored.
+/// How a run on one file ends. `ignore` is what was ignored.
 pub(crate) fn shown_outcome<X>(ignore: Ignore, answer: &Result<X, Refusal>) -> Outcome
     ensures { result ≡ shown_outcome ignore answer.now }
 {

@@ -1,4 +1,4 @@
-//! A text written whole.
+//! Writes a whole text.
 ghost use Rattle.std.specs.Prelude.{◌≡◌, OnOk, OnErr, IfErr};
 ghost use Rattle.std.specs.Io.KnownBytes.{Appends};
 ghost use Rattle.lvl_io.specs.Bytes.{CountsFailure, failed};
@@ -7,8 +7,9 @@ ghost use Rattle.lvl_report.specs.Writing.{AppendsBeginning};
 use crate::status::RunFault;
 use lvl_io::{Failure, Write};
 
-/// Writes all of the text, and flushes. An error of any kind, or a write that took nothing of some
-/// bytes, ends the work: it is not tried again, and what went out is a beginning of the text.
+/// Writes the whole text, and flushes. It fails with `Output` at the first error of any kind, or if
+/// a write takes nothing of some bytes; nothing is tried again, and a beginning of the text was
+/// written.
 pub(crate) fn put<W: Write>(out: &mut W, text: &[u8]) -> Result<(), RunFault>
     ensures whole { OnOk result (Appends (W.contents out.old) (W.contents out.new) text.now) }
     ensures begun { OnErr result (AppendsBeginning (W.contents out.old) (W.contents out.new) text.now) }

@@ -1,4 +1,4 @@
-//! The runs of the program: an answer found, and its text written.
+//! The runs of the program: each finds an answer and writes its text.
 ghost use Rattle.std.specs.Prelude.{◌≡◌, OnErr, IfOk, Err, option_copied};
 ghost use Rattle.std.specs.Io.KnownBytes.{Keeps};
 ghost use Rattle.lvl_io.specs.Bytes.{CountsFailure};
@@ -18,10 +18,10 @@ use lvl_io::{Read, Write};
 use lvl_view::View;
 use std::alloc::Global;
 
-/// Compares two files and writes the answer: what each says of itself and the verdict, on a line
-/// each, or the refusal, on one line. Its text is formed whole before any of it is written.
+/// Compares two files and writes the answer: what each says about itself and the verdict, each on a line,
+/// or the refusal on one line. The whole text is made before any of it is written.
 ///
-/// What it writes is what [`compare_files`](lvl::compare_files) may answer of these files without a map
+/// It writes an answer that [`compare_files`](lvl::compare_files) may return for these files without a map
 /// and a window.
 pub fn run<A: Read, B: Read, W: Write>(
     alloc: Global,
@@ -50,9 +50,9 @@ pub fn run<A: Read, B: Read, W: Write>(
     Ok(outcome.status)
 }
 
-/// Compares two files where some of their records are ignored, and writes the answer as [`run`] does.
+/// Compares two files with some records ignored, and writes the answer as [`run`] does.
 ///
-/// What it writes is what [`compare_files`](lvl::compare_files) may answer of these files without a map
+/// It writes an answer that [`compare_files`](lvl::compare_files) may return for these files without a map
 /// and a window.
 pub fn run_by<A: Read, B: Read, W: Write>(
     alloc: Global,
@@ -81,10 +81,10 @@ pub fn run_by<A: Read, B: Read, W: Write>(
     run_view_by(alloc, first, second, tops, &View::whole(alloc), ignore, out)
 }
 
-/// Compares two files under a view, the second with its Layers mapped and in the window alone, and
-/// writes the answer as [`run`] does.
+/// Compares two files under a view, with the Layers of the second mapped and only within the
+/// window, and writes the answer as [`run`] does.
 ///
-/// What it writes is what [`compare_files`](lvl::compare_files) may answer of these files.
+/// It writes an answer that [`compare_files`](lvl::compare_files) may return for these files.
 pub fn run_view<A: Read, B: Read, W: Write>(
     alloc: Global,
     first: &mut A,
@@ -113,10 +113,9 @@ pub fn run_view<A: Read, B: Read, W: Write>(
     Ok(outcome.status)
 }
 
-/// Compares two files under a view where some of their records are ignored, and writes the answer as
-/// [`run`] does.
+/// Compares two files under a view with some records ignored, and writes the answer as [`run`] does.
 ///
-/// What it writes is what [`compare_files`](lvl::compare_files) may answer of these files.
+/// It writes an answer that [`compare_files`](lvl::compare_files) may return for these files.
 pub fn run_view_by<A: Read, B: Read, W: Write>(
     alloc: Global,
     first: &mut A,
@@ -146,10 +145,11 @@ pub fn run_view_by<A: Read, B: Read, W: Write>(
     tell(alloc, ignore, &answer, out)
 }
 
-/// Shows a file: writes what it says of itself, its top, how many cells it has, and for each Layer,
-/// in their order, how many rings the top places there; or the refusal, on one line.
+/// Shows a file: writes what it says about itself, the name of its top, the number of its cells,
+/// and for each Layer, in their order, the number of rings that the top places; or the refusal on
+/// one line.
 ///
-/// What it writes is what [`show_file`](lvl::show_file) may answer of this file.
+/// It writes an answer that [`show_file`](lvl::show_file) may return for this file.
 pub fn run_show<R: Read, W: Write>(
     alloc: Global,
     reader: &mut R,
@@ -172,9 +172,9 @@ pub fn run_show<R: Read, W: Write>(
     Ok(outcome.status)
 }
 
-/// Shows a file where some of its records are ignored, and writes the answer as [`run_show`] does.
+/// Shows a file with some records ignored, and writes the answer as [`run_show`] does.
 ///
-/// What it writes is what [`show_file`](lvl::show_file) may answer of this file.
+/// It writes an answer that [`show_file`](lvl::show_file) may return for this file.
 pub fn run_show_by<R: Read, W: Write>(
     alloc: Global,
     reader: &mut R,
@@ -198,11 +198,12 @@ pub fn run_show_by<R: Read, W: Write>(
     tell_shown(alloc, ignore, &answer, out)
 }
 
-/// Writes the digest of a file: what it says of itself, its top, for each Layer on which the top covers a
-/// square, in their order, how many corners these squares have and the SHA-256 of the Layer's bytes, and
-/// the SHA-256 of the bytes of all Layers; or the refusal, on one line. Some records may be ignored.
+/// Writes the digest of a file: what it says about itself; the name of its top; for each Layer on which the
+/// top covers a square, in their order, the number of corners of these squares and the SHA-256 of the
+/// Layer's bytes; and the SHA-256 of the bytes of all Layers. A refusal is one line. Some records may be
+/// ignored.
 ///
-/// What it writes is what [`digest_file`](lvl::digest_file) may answer of this file.
+/// It writes an answer that [`digest_file`](lvl::digest_file) may return for this file.
 pub fn run_digest<R: Read, W: Write>(
     alloc: Global,
     reader: &mut R,

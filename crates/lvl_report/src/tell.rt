@@ -1,4 +1,4 @@
-//! An answer as it is printed: its text written whole, and how it ends.
+//! Writes the whole text of an answer, and returns how the run ends.
 ghost use Rattle.std.specs.Prelude.{◌≡◌, OnOk, OnErr, IfOk, Err};
 ghost use Rattle.std.specs.Io.KnownBytes.{Appends, Keeps};
 ghost use Rattle.lvl_io.specs.Bytes.{CountsFailure};
@@ -16,7 +16,8 @@ use lvl_ignore::Ignore;
 use lvl_io::Write;
 use std::alloc::Global;
 
-/// Writes the text of an answer where this is ignored, and gives how it ends.
+/// Writes the text of an answer about two files, and returns how the run ends. `ignore` is what was
+/// ignored.
 pub(crate) fn tell<W: Write>(
     alloc: Global,
     ignore: Ignore,
@@ -37,7 +38,7 @@ pub(crate) fn tell<W: Write>(
     Ok(outcome_of(ignore, answer))
 }
 
-/// Writes the text of what is shown where this is ignored, and gives how it ends.
+/// Writes the text of what is shown, and returns how the run ends. `ignore` is what was ignored.
 pub(crate) fn tell_shown<W: Write>(
     alloc: Global,
     ignore: Ignore,
@@ -59,7 +60,7 @@ pub(crate) fn tell_shown<W: Write>(
     Ok(shown_outcome(ignore, answer))
 }
 
-/// Writes the text of a digest where this is ignored, and gives how it ends.
+/// Writes the text of a digest, and returns how the run ends. `ignore` is what was ignored.
 pub(crate) fn tell_digest<W: Write>(
     alloc: Global,
     ignore: Ignore,

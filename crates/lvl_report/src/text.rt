@@ -1,4 +1,4 @@
-//! The text of an answer: two heads and a verdict, what a layout holds, or a refusal.
+//! The text of an answer: two heads and a verdict, what is shown of a layout, or a refusal.
 ghost use Rattle.std.specs.Prelude.{◌≡◌, ◌++◌, flat_map, OnOk, IfOk};
 ghost use Rattle.lvl_report.specs.Texts.{layer_line, side_text, verdict_text, head_text, file_fault, refusal_text};
 ghost use Rattle.lvl_report.specs.Texts.{front_text, shown_text, text_of, text_of_shown};
@@ -46,7 +46,7 @@ fn push_verdict(text: &mut Vec<u8>, verdict: &Verdict) -> io::Result<()>
     }
 }
 
-/// Appends why a file was not read: the format, the fault, and the offset in bytes.
+/// Appends why a file wasn't read: the format, the fault, and the offset in bytes.
 fn push_file_fault(text: &mut Vec<u8>, fault: &FileFault) -> io::Result<()>
     ensures { OnOk result (text.new.items ≡ text.old.items ++ file_fault fault.now) }
 {
@@ -64,7 +64,7 @@ fn push_file_fault(text: &mut Vec<u8>, fault: &FileFault) -> io::Result<()>
     }
 }
 
-/// Appends what a file says of itself.
+/// Appends what a file says about itself.
 fn push_head(text: &mut Vec<u8>, head: &Head) -> io::Result<()>
     ensures { OnOk result (text.new.items ≡ text.old.items ++ head_text head.now) }
 {
@@ -95,7 +95,7 @@ pub(crate) fn push_refusal(text: &mut Vec<u8>, refusal: &Refusal) -> io::Result<
     }
 }
 
-/// Appends both heads and the verdict, a line each.
+/// Appends both heads and the verdict, each on a line.
 fn push_comparison(text: &mut Vec<u8>, comparison: &Comparison) -> io::Result<()>
     ensures { OnOk result (text.new.items ≡ text.old.items ++ text_of (Ok comparison.now)) }
 {
@@ -108,7 +108,7 @@ fn push_comparison(text: &mut Vec<u8>, comparison: &Comparison) -> io::Result<()
     writeln!(text)
 }
 
-/// Appends a line for each Layer.
+/// Appends the line of each Layer.
 fn push_layers(text: &mut Vec<u8>, layers: &[LayerRings]) -> io::Result<()>
     ensures { OnOk result (text.new.items ≡ text.old.items ++ flat_map layer_line layers.now) }
 {
@@ -120,7 +120,7 @@ fn push_layers(text: &mut Vec<u8>, layers: &[LayerRings]) -> io::Result<()>
     Ok(())
 }
 
-/// Appends what a file says of itself and the name of its top, a line each.
+/// Appends what a file says about itself and the name of its top, each on a line.
 pub(crate) fn push_front(text: &mut Vec<u8>, head: &Head, top: &[u8]) -> io::Result<()>
     ensures { OnOk result (text.new.items ≡ text.old.items ++ front_text head.now top.now) }
 {
@@ -131,7 +131,7 @@ pub(crate) fn push_front(text: &mut Vec<u8>, head: &Head, top: &[u8]) -> io::Res
     writeln!(text)
 }
 
-/// Appends what a layout holds.
+/// Appends what is shown of a layout.
 fn push_shown(text: &mut Vec<u8>, shown: &Shown) -> io::Result<()>
     ensures { OnOk result (text.new.items ≡ text.old.items ++ shown_text shown.now) }
 {
@@ -154,11 +154,11 @@ fn push_answer(text: &mut Vec<u8>, answer: &Result<Comparison, Refusal>) -> io::
     }
 }
 
-/// What is printed of an answer, whole: each line ends with one line feed.
+/// The text of an answer about two files; each line ends with one line feed.
 ///
-/// Of two layouts that were compared it has three lines: what each says of itself, and the
-/// verdict. A refusal is one line: the side, the step, the number and the name of the fault, what
-/// the fault carries, and the offset where there is one. A refusal for memory names neither side nor step.
+/// A comparison has three lines: what each file says about itself, and the verdict. A refusal is one line:
+/// the side, the step, the number and the name of the fault, what the fault carries, and the offset if
+/// there is one; out of memory names neither a side nor a step. It fails only if it is out of memory.
 pub fn form(alloc: Global, answer: &Result<Comparison, Refusal>) -> Result<Vec<u8>, AllocError>
     ensures { IfOk result (λ text. text.items ≡ text_of answer.now) }
 {
@@ -182,8 +182,8 @@ fn push_shown_answer(text: &mut Vec<u8>, answer: &Result<Shown, Refusal>) -> io:
     }
 }
 
-/// What is printed of a layout, whole: what its file says of itself, its top, how many cells it
-/// has, and a line for each Layer. A refusal is one line.
+/// The text of what is shown: what the file says about itself, its top, the number of its cells,
+/// and a line for each Layer. A refusal is one line. It fails only if it is out of memory.
 pub fn form_shown(alloc: Global, answer: &Result<Shown, Refusal>) -> Result<Vec<u8>, AllocError>
     ensures { IfOk result (λ text. text.items ≡ text_of_shown answer.now) }
 {

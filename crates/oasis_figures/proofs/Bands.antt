@@ -35,12 +35,12 @@ use Rattle.oasis_figures.proofs.Defined.{BreaksNoLater, no_rule, known_first, ra
 use Rattle.oasis_figures.proofs.Figures.{vertices_at, layer_is, shape_is}
 use Rattle.oasis_figures.proofs.Taking.{BreachesAfter}
 
--- the values of a path are known, and the vertices are its points, moved to where it is
+-- the values of a path are known, and the vertices are its points, moved to its position
 pub record IsRead (earlier : List Record) (p : Path) (v : Resolved) (vertices : List Point) : Type 0 where
   pub values : IsResolved earlier p v
   pub points : vertices ≡ path_points (a_path p ∷ earlier)
 
--- so it is after all records that the variables stand for
+-- the same after all records with which the variables agree
 abbrev pub IsReadAfter : Modal → Path → Resolved → List Point → Type 0
 IsReadAfter m p v vertices = (earlier : List Record) → StandsFor m earlier → IsRead earlier p v vertices
 
@@ -56,7 +56,7 @@ read_after m p v list points vertices known f g w = λ earlier s. record {
       (known earlier s).at f s.path g;
 }
 
--- extensions by the extents that they are
+-- an extension that is not negative is the reach
 beyond : (z : Option ℤ) (n : ℕ) → option_map extent z ≡ Some (Beyond n) → z ≡ Some (pos n)
 beyond None n e = cc
 beyond (Some (pos k)) n e = cc
@@ -81,7 +81,7 @@ none_negative a b s e f g h =
     ∙ ap (λ (z : Option ℤ). is_negative z) g) ∙ h in
     cc
 
--- neither extension of a path is negative: they are those numbers
+-- neither extension of a path is negative, and they are these numbers
 pub record HasReaches (earlier : List Record) (p : Path) (s e : ℕ) : Type 0 where
   pub start : modal start_set (a_path p ∷ earlier) ≡ Some (pos s)
   pub end : modal end_set (a_path p ∷ earlier) ≡ Some (pos e)
@@ -107,7 +107,7 @@ has_reaches earlier p v s e a r =
       end = both.1;
     }
 
--- no rule before Extension is breached where the vertices fit
+-- if the vertices fit, no rule before Extension is breached
 before_extension : (earlier : List Record) (p : Path) (v : Resolved) (qs : List Point) → IsRead earlier p v qs
     → All FitsPoint qs
     → (other : FigureRule) → order other < 5 → ¬ Breaks earlier (a_path p) other
@@ -123,7 +123,7 @@ before_extension earlier p v qs a h Extension lt b = omega (arith, lt)
 before_extension earlier p v qs a h Oblique lt b = b
 before_extension earlier p v qs a h (PathRule f) lt b = omega (arith, lt)
 
--- nor one before Path where neither extension is negative
+-- if in addition no extension is negative, no rule before Path is breached
 before_path : (earlier : List Record) (p : Path) (v : Resolved) (qs : List Point) (s e : ℕ) → IsRead earlier p v qs
     → All FitsPoint qs
     → HasReaches earlier p s e → (other : FigureRule) → order other < 7 → ¬ Breaks earlier (a_path p) other
@@ -160,7 +160,7 @@ extension_refused m p v qs read h r = λ earlier s.
       first = before_extension earlier p v qs a h;
     }
 
--- what holds of equal points and numbers
+-- a property of points and numbers holds of equal ones
 carried : (P : List Point → ℕ → ℕ → ℕ → Type 0) (ps qs : List Point) (h i s t e f : ℕ) → ps ≡ qs → h ≡ i → s ≡ t
     → e ≡ f
     → P ps h s e → P qs i t f
@@ -169,7 +169,7 @@ carried P ps qs h i s t e f a b c d x =
     let starts = subst (λ (n : ℕ). P ps h n f) c ends in
     subst (λ (l : List Point). P l i t f) a (subst (λ (n : ℕ). P ps n t f) b starts)
 
--- what holds of the path as it is read holds of the path that the records give
+-- a property of the path as it is read holds of the path that the records give
 as_given : (P : List Point → ℕ → ℕ → ℕ → Type 0) (earlier : List Record) (p : Path) (v : Resolved) (qs : List Point)
     (s e : ℕ)
     → IsRead earlier p v qs → HasReaches earlier p s e → P qs v.stroke.half s e

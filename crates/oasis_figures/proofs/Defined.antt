@@ -1,4 +1,4 @@
--- Which of the variables that a record takes is the first without a value.
+-- Which variable that a record needs is the first undefined one.
 use Rattle.std.proofs.Common.{◌≡◌, ◌∙◌, ◌<◌, ℕ, Bool, true, false, List, [], ◌∷◌, Option, Some, None, refl, sym, ap}
 use Rattle.std.proofs.Common.{subst, arith}
 use Rattle.std.specs.Prelude.{is_some, if◌then◌else◌}
@@ -21,7 +21,7 @@ use Rattle.oasis_figures.specs.declared.variable.Variable.TheVariants.{Repetitio
 use Rattle.oasis_figures.specs.inside.Known.{AreDefined, IsKnown}
 use Rattle.oasis_figures.specs.inside.Repeating.{is_known}
 
--- a variable that the record sets, or an earlier one
+-- a variable that the record sets, or else an earlier one
 pub later : {A : Type 0} (given : Option A) {x y z : Option A} → x ≡ y → option_or given x ≡ z → option_or given y ≡ z
 later given e q = ap (option_or given) (sym e) ∙ q
 
@@ -42,7 +42,7 @@ known d None shifts e k = refl
 known d (Some Same) shifts e k = next d TheRepetition [] (e ∙ k) refl
 known d (Some (New s)) shifts e k = next d TheRepetition [] e refl
 
--- the rules tested after the range
+-- the rules that are tested after OutOfRange
 abbrev pub BreaksNoLater : List Record → Record → Type 0
 BreaksNoLater earlier r = (rule : FigureRule) → 2 < order rule → ¬ Breaks earlier r rule
 
@@ -57,14 +57,14 @@ no_rule earlier r d n m k Extension b = k Extension (omega arith) b
 no_rule earlier r d n m k Oblique b = k Oblique (omega arith) b
 no_rule earlier r d n m k (Path f) b = k (Path f) (omega arith) b
 
--- no rule before the range is breached by a record whose values are known
+-- a record whose values are known breaches no rule before OutOfRange
 pub known_first : (earlier : List Record) (r : Record) → IsKnown earlier r → (other : FigureRule) → order other < 2
     → ¬ Breaks earlier r other
 known_first earlier r k (Undefined v) lt b = none_some (sym k.defined ∙ b)
 known_first earlier r k WideLayer lt b = k.narrow b
 known_first earlier r k _ lt b = omega (arith, lt)
 
--- a repetition that takes the modal one, which has no value
+-- the modal repetition is needed, and undefined
 pub unknown : (d : Variable → Bool) (rep : Option Repetition) (shifts : Option (List Point))
     → d TheRepetition ≡ is_some (option_or (listed rep) shifts)
     → is_known rep shifts ≡ false → first_undefined d (of_repetition rep) ≡ Some TheRepetition
@@ -76,13 +76,13 @@ pub undefined_breached : (earlier : List Record) (r : Record) (v : Variable)
     → first_undefined (is_defined (r ∷ earlier)) (taken r) ≡ Some v → Breaches earlier r (Undefined v)
 undefined_breached earlier r v e = record { broken = e; first = λ other lt. absurd (omega (arith, lt)) }
 
--- what the repetition of a record makes of the variable
+-- what the repetition of a record does to the variable
 pub repeated : (m : Modal) (earlier : List Record) (r : Record) → StandsFor m earlier
     → is_defined (r ∷ earlier) TheRepetition ≡ is_some (option_or (listed (repetition_of r)) m.repetition)
 repeated m earlier r s =
     ap (λ (o : Option (List Point)). is_some (option_or (listed (repetition_of r)) o)) (sym s.repetition)
 
--- where a figure is
+-- the position of a figure
 pub position_after : (m : Modal) (earlier : List Record) (r : Record) → StandsFor m earlier
     → geometry (r ∷ earlier) ≡ moved m.geometry (geometry_x r) (geometry_y r) m.is_relative
 position_after m earlier r s =
@@ -90,7 +90,7 @@ position_after m earlier r s =
     let mode = ap (λ (b : Bool). moved (geometry earlier) (geometry_x r) (geometry_y r) b) s.relative in
     sym (before ∙ mode)
 
--- no variable without a value, but the layer is wide
+-- if all variables are defined, no rule before WideLayer is breached
 wide_first : (earlier : List Record) (r : Record) → AreDefined earlier r → (other : FigureRule) → order other < 1
     → ¬ Breaks earlier r other
 wide_first earlier r d (Undefined v) lt b = none_some (sym d ∙ b)
@@ -104,7 +104,7 @@ pub range_breached : (earlier : List Record) (r : Record) → IsKnown earlier r 
     → Breaches earlier r OutOfRange
 range_breached earlier r k w = record { broken = w; first = known_first earlier r k }
 
--- the layer and the datatype that records give, where they are these
+-- the layer and the datatype that records give, if they are these
 pub narrow_at : (a b : Option ℕ) (l d : ℕ) → a ≡ Some l → b ≡ Some d → AreNarrow l d → AreNarrow (number a) (number b)
 narrow_at a b l d ea eb h =
     subst (λ (o : Option ℕ). AreNarrow (number o) (number b)) (sym ea)

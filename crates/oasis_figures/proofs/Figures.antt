@@ -1,4 +1,4 @@
--- What records draw and keep, by the values that are known.
+-- What records draw and set, by the values that are known.
 use Rattle.std.proofs.Common.{◌≡◌, ◌∙◌, ℕ, List, [], ◌∷◌, Option, Some, None, refl, sym, ap, map}
 use Rattle.std.specs.Prelude.{option_map}
 use Rattle.std.specs.Option.{option_or}
@@ -16,7 +16,7 @@ use Rattle.oasis_figures.specs.Modal.{value_or, modal, listed, layer_set, dataty
 abbrev points_of : Option (Vec Point Global) → Option (List Point)
 points_of list = option_map (λ l. l.items) list
 
--- the points of a record or the modal ones, moved to where the record is
+-- the points of a record, or the modal ones, moved to the position of the record
 pub vertices_at : (place at : Point) (given : Option (List Point)) (list before : Option (Vec Point Global))
     (set : Option (List Point))
     (points : List Point) → place ≡ at → points_of list ≡ given → points_of before ≡ set
@@ -48,7 +48,7 @@ points_or : (a b : Option (Vec Point Global)) → points_of (option_or a b) ≡ 
 points_or None b = refl
 points_or (Some v) b = refl
 
--- the list that a record gives, or else the one before, is kept
+-- the list that a record has, or else the one before, is kept
 pub list_kept : (given set : Option (List Point)) (list before taken after : Option (Vec Point Global))
     → points_of list ≡ given
     → taken ≡ before → after ≡ option_or list taken → points_of before ≡ set → points_of after ≡ option_or given set

@@ -32,14 +32,14 @@ use Rattle.oasis_figures.proofs.Defined.{range_breached, narrow_at, narrow_from,
 abbrev all : List Record → Path → List Record
 all earlier p = a_path p ∷ earlier
 
--- whether the point list is there, or the modal one
+-- whether the record has a point list, or the modal one is defined
 abbrev pub has_list : Modal → Path → Bool
 has_list m p = is_some (option_or p.points (option_map (λ v. v.items) m.path))
 
 abbrev defined : List Record → Path → Variable → Bool
 defined earlier p = is_defined (all earlier p)
 
--- the ends of a record make the extensions those of its ends as they are read
+-- the ends of a record give the extensions of its ends as they are read
 start_of_ends : (half : Option ℕ) (h : ℕ) (ends : Option Ends) → half ≡ Some h
     → option_and_then (λ e. extended half e.start) ends ≡ extended (Some h) (ends_of ends).start
 start_of_ends half h None e = refl
@@ -54,7 +54,7 @@ some_mapped : (o : Option ℤ) (x : Extent) → option_map extent o ≡ Some x �
 some_mapped None x e = cc
 some_mapped (Some z) x e = refl
 
--- what the records give, by what the variables have
+-- what the records give, by the values of the variables
 layer_at : (m : Modal) (earlier : List Record) (p : Path) (t : Stroke) → StandsFor m earlier → IsStroke m p t
     → modal layer_set (all earlier p) ≡ Some t.layer
 layer_at m earlier p t s a = later p.on.layer s.layer a.layer
@@ -83,7 +83,7 @@ end_at m earlier p t s a =
     let before = ap (option_or (extended (Some t.half) (ends_of p.ends).end)) (sym s.end) in
     ap (option_map extent) (here ∙ before) ∙ a.end
 
--- the variables before the point list have values
+-- the variables before the point list are defined
 stroke_known : (m : Modal) (earlier : List Record) (p : Path) (t : Stroke) (vs : List Variable) {o : Option Variable}
     → StandsFor m earlier
     → IsStroke m p t → first_undefined (defined earlier p) vs ≡ o

@@ -27,12 +27,12 @@ use Rattle.oasis_figures.proofs.Defined.{BreaksNoLater, no_rule, known_first}
 use Rattle.oasis_figures.proofs.Figures.{vertices_at, layer_is, shape_is}
 use Rattle.oasis_figures.proofs.Taking.{BreachesAfter}
 
--- the values of a polygon are known, and the vertices are its points, moved to where it is
+-- the values of a polygon are known, and the vertices are its points, moved to its position
 pub record IsRead (earlier : List Record) (p : Polygon) (v : Resolved) (vertices : List Point) : Type 0 where
   pub values : IsResolved earlier p v
   pub points : vertices ≡ polygon_ring (a_polygon p ∷ earlier)
 
--- so it is after all records that the variables stand for
+-- the same after all records with which the variables agree
 abbrev pub IsReadAfter : Modal → Polygon → Resolved → List Point → Type 0
 IsReadAfter m p v vertices = (earlier : List Record) → StandsFor m earlier → IsRead earlier p v vertices
 
@@ -50,7 +50,7 @@ read_after m p v list points vertices known f g w = λ earlier s.
           (known earlier s).at f s.polygon g;
     }
 
--- no rule before Oblique is breached where the vertices fit
+-- if the vertices fit, no rule before Oblique is breached
 before_oblique : (earlier : List Record) (p : Polygon) (v : Resolved) (qs : List Point) → IsRead earlier p v qs
     → All FitsPoint qs
     → (other : FigureRule) → order other < 6 → ¬ Breaks earlier (a_polygon p) other

@@ -24,7 +24,7 @@ use Rattle.oasis_figures.proofs.Defined.{later, next, known, BreaksNoLater, no_r
 use Rattle.oasis_figures.proofs.Defined.{position_after}
 use Rattle.oasis_figures.specs.inside.Known.{AreDefined}
 
--- what is asked for after the layer, the datatype, the width and the height
+-- the variables that are needed after the layer, the datatype, the width and the height
 abbrev tail_4 : Rectangle → List Variable
 tail_4 r = of_repetition r.position.repetition
 
@@ -45,7 +45,7 @@ on_known m earlier r l d vs s a b q =
     next (defined earlier r) TheLayer (Datatype ∷ vs) (ap is_some (later r.on.layer s.layer a))
     (next (defined earlier r) Datatype vs (ap is_some (later r.on.datatype s.datatype b)) q)
 
--- what a rectangle of that width makes the height
+-- the height that a rectangle of that width has
 pub height_after : (m : Modal) (earlier : List Record) (r : Rectangle) (w : ℕ) (z : Option ℕ) → StandsFor m earlier
     → option_or r.width m.width ≡ Some w
     → option_or (if r.is_square then Some w else r.height) m.height ≡ z → modal height_set (all earlier r) ≡ z
@@ -65,7 +65,7 @@ width_known m earlier r l d w vs s a b e q =
     on_known m earlier r l d (GeometryW ∷ vs) s a b
     (next (defined earlier r) GeometryW vs (ap is_some (later r.width s.width e)) q)
 
--- the values that are known before the repetition is asked for
+-- the values that are known before the repetition
 pub record AreValues (m : Modal) (r : Rectangle) (l d w h : ℕ) : Type 0 where
   pub layer : option_or r.on.layer m.layer ≡ Some l
   pub datatype : option_or r.on.datatype m.datatype ≡ Some d

@@ -1,4 +1,4 @@
--- What taking a record promises, where it is refused.
+-- What taking a record ensures if it is refused.
 use Rattle.std.proofs.Common.{◌≡◌, List, Option, Result, Ok, Err, refl, sym, subst}
 use Rattle.std.specs.Result.{IsErr, IsErrAnd}
 use Rattle.lvl_refusal.specs.Refused.{Says}
@@ -11,7 +11,7 @@ use Rattle.oasis_figures.specs.declared.modal.Modal.{Modal}
 use Rattle.oasis_figures.specs.declared.rule.FigureRule.{FigureRule}
 use Rattle.oasis_figures.specs.inside.Taking.{Takes}
 
--- the rule is breached after all records that the variables stand for
+-- the rule is breached after all records with which the variables agree
 abbrev pub BreachesAfter : Modal → Record → FigureRule → Type 0
 BreachesAfter m r rule = (earlier : List Record) → StandsFor m earlier → Breaches earlier r rule
 

@@ -1,4 +1,4 @@
--- A text breaches no rule that is tested after the variables that it takes.
+-- A text breaches no rule that is tested after its variables.
 use Rattle.std.proofs.Common.{List, ◌<◌, arith}
 use Rattle.std.specs.Prelude.{Option}
 use Rattle.oasis_values.specs.declared.repetition.Repetition.{Repetition}

@@ -1,4 +1,5 @@
--- What a record draws after those before it, the latest first.
+-- What a record of a cell draws (SEMI P39 OASIS 1.0, the section of each record). `earlier` are the records of the cell
+-- before it, the latest first.
 use Rattle.std.specs.Prelude.{◌≡◌, ℕ, ◌*◌, ◌==◌, not, ℤ, pos, Bool, false, if◌then◌else◌, List, [], ◌∷◌, map, Option}
 use Rattle.std.specs.Prelude.{Some, None, All}
 use Rattle.lvl_grid.specs.declared.point.Point.{Point}
@@ -26,37 +27,41 @@ use Rattle.oasis_figures.specs.Modal.{cell_set, polygon_set, half_width_set, pat
 use Rattle.oasis_figures.specs.declared.drawn.Drawn.{Drawn}
 use Rattle.oasis_figures.specs.declared.drawn.Drawn.TheVariants.{Ring, Rings, Placement as Placing}
 
--- a number that a variable has
+-- the value of a variable; 0 if it is undefined
 abbrev pub number : Option ℕ → ℕ
 number n = value_or n 0
 
 abbrev pub layer_by : ℕ → ℕ → Layer
 layer_by layer datatype = record { layer = layer; datatype = datatype }
 
+-- the Layer of the latest figure
 abbrev pub layer_of : List Record → Layer
 layer_of records = layer_by (number (modal layer_set records)) (number (modal datatype_set records))
 
--- the corners of the latest rectangle, the lower left one at its position
+-- the corners of the latest rectangle, whose lower left one is at its position
 abbrev pub rectangle_ring : List Record → List Point
 rectangle_ring records =
     let size : Point = to (pos (number (modal width_set records))) (pos (number (modal height_set records))) in
     rectangle_between (geometry records) (shifted size (geometry records))
 
--- the points of a list, the first at the position of the latest figure
+-- the points of a list, moved so that the first is at the position of the latest figure
 abbrev pub vertices : List Record → Option (List Point) → List Point
 vertices records points = map (shifted (geometry records)) (value_or points [])
 
+-- the ring of the latest polygon
 abbrev pub polygon_ring : List Record → List Point
 polygon_ring records = vertices records (modal polygon_set records)
 
+-- the points of the latest path
 abbrev pub path_points : List Record → List Point
 path_points records = vertices records (modal path_set records)
 
--- how far a path reaches beyond an end, where that isn't negative
+-- the reach beyond an end: the extension as a natural number; 0 if it is undefined or negative
 abbrev pub reach : Option ℤ → ℕ
 reach (Some (pos n)) = n
 reach z = 0
 
+-- half the width of the latest path, and how far it reaches beyond its ends
 abbrev pub half_of : List Record → ℕ
 half_of records = number (modal half_width_set records)
 
@@ -66,22 +71,25 @@ start_of records = reach (modal start_set records)
 abbrev pub end_of : List Record → ℕ
 end_of records = reach (modal end_set records)
 
+-- the latest path
 abbrev pub path_figure : List Record → Figure
 path_figure records =
     path (path_points records) (record { half = half_of records; start = start_of records; end = end_of records })
 
--- the shifts of a record: those of its repetition, or the zero shift alone
+-- the shifts of a record: those of its repetition, or only the zero shift
 abbrev pub shifts_by : Option Repetition → Option (List Point) → List Point
 shifts_by None shifts = one_place
 shifts_by (Some r) shifts = value_or shifts one_place
 
+-- the shifts of the record r
 abbrev pub shifts_of : List Record → Record → List Point
 shifts_of earlier r = shifts_by (repetition_of r) (modal repetition_set (r ∷ earlier))
 
+-- the shape of the record r with this figure
 abbrev pub shape : List Record → Record → Figure → PlainShape Figure
 shape earlier r figure = record { layer = layer_of (r ∷ earlier); figure = figure; shifts = shifts_of earlier r }
 
--- the shapes of a record
+-- the shapes that a record draws
 abbrev pub shapes_of : List Record → Record → List (PlainShape Figure)
 shapes_of earlier (Rectangle r) =
     shape earlier (Rectangle r) (rings (rectangle_ring (Rectangle r ∷ earlier) ∷ [])) ∷ []
@@ -89,14 +97,14 @@ shapes_of earlier (Polygon p) = shape earlier (Polygon p) (rings (polygon_ring (
 shapes_of earlier (Path p) = shape earlier (Path p) (path_figure (Path p ∷ earlier)) ∷ []
 shapes_of earlier r = []
 
--- whether a real is that number, as a whole number, a reciprocal or a ratio
+-- whether a real of type 0, 2 or 4 is the number n
 abbrev pub is_number : ℕ → Real → Bool
 is_number n (Whole k) = k == n
 is_number n (Reciprocal k) = n * k == 1
 is_number n (Ratio k m) = k == n * m
 is_number n r = false
 
--- the turn by an angle in degrees, none but by right angles
+-- the turn by an angle in degrees; None if the angle isn't 0, 90, 180 or 270
 abbrev pub turn_by : Real → Option Turn
 turn_by a =
     if is_number 0 a then Some R0
@@ -104,7 +112,7 @@ turn_by a =
     else (if is_number 180 a then Some R180
     else (if is_number 270 a then Some R270 else None)))
 
--- an angle that isn't there is 0, a magnification 1
+-- without an angle there is no turn, and without a magnification it is 1
 
 abbrev pub turn_of : Transform → Option Turn
 turn_of (Turned t) = Some t
@@ -116,11 +124,11 @@ is_magnified (Turned t) = false
 is_magnified (Scaled None a) = false
 is_magnified (Scaled (Some m) a) = not (is_number 1 m)
 
--- the cell of the latest placement
+-- the cell of the latest placement that names one
 abbrev pub cell_of : List Record → CellRef
 cell_of records = value_or (modal cell_set records) (Number 0)
 
--- a cell that is placed, by its number or its name
+-- a placement of a cell that is given by its number or its name
 pub record Placed : Type 0 where
   pub cell : CellRef
   pub flip : Bool
@@ -141,18 +149,18 @@ placements_of earlier (Placement p) =
     ∷ []
 placements_of earlier r = []
 
--- the same shape, with its figure drawn as rings
+-- the same shape, with its figure as rings
 abbrev pub in_rings : PlainShape Figure → PlainShape PlainRings
 in_rings s = record { layer = s.layer; figure = figure_rings s.figure; shifts = s.shifts }
 
--- the shapes that are drawn, at those shifts
+-- the shapes in what `take` returns, at these shifts
 abbrev pub shapes_in : List Point → Option Drawn → List (PlainShape PlainRings)
 shapes_in shifts None = []
 shapes_in shifts (Some (Ring layer ring)) = record { layer = layer; figure = ring ∷ []; shifts = shifts } ∷ []
 shapes_in shifts (Some (Rings layer rs)) = record { layer = layer; figure = rs.items; shifts = shifts } ∷ []
 shapes_in shifts (Some (Placing by)) = []
 
--- the cell that is placed, at those shifts
+-- the placement in what `take` returns, of this cell at these shifts
 abbrev pub placements_in : CellRef → List Point → Option Drawn → List Placed
 placements_in cell shifts None = []
 placements_in cell shifts (Some (Ring layer ring)) = []
@@ -160,12 +168,12 @@ placements_in cell shifts (Some (Rings layer rs)) = []
 placements_in cell shifts (Some (Placing by)) =
     record { cell = cell; flip = by.flip; turn = by.turn; at = by.at; shifts = shifts } ∷ []
 
--- what is drawn is what the record draws, with rings for each figure, and the cells that it places
+-- what `take` returns is what the record draws, with each figure as rings, and what it places
 pub record IsDrawn (earlier : List Record) (r : Record) (d : Option Drawn) : Type 0 where
   pub shapes : shapes_in (shifts_of earlier r) d ≡ map in_rings (shapes_of earlier r)
   pub placements : placements_in (cell_of (r ∷ earlier)) (shifts_of earlier r) d ≡ placements_of earlier r
 
--- each place of a cell that is placed at those shifts fits 64 signed bits
+-- if a cell is placed, its place at each of these shifts fits in 64 signed bits
 abbrev pub PlacesFit : List Point → Option Drawn → Type 0
 PlacesFit shifts None = Unit {0}
 PlacesFit shifts (Some (Ring layer ring)) = Unit {0}

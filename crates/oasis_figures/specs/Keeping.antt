@@ -1,4 +1,4 @@
--- What the modal variables are after records, the latest first.
+-- The values of the modal variables after the records of a cell, the latest first.
 use Rattle.std.specs.Prelude.{◌≡◌, Bool, false, pos, is_some, List, [], ◌∷◌, option_map}
 use Rattle.lvl_names.specs.Shifts.{one_place}
 use Rattle.oasis_records.specs.declared.record.Record.{Record}

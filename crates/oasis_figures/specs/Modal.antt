@@ -1,4 +1,4 @@
--- Modal variables (SEMI P39 OASIS 1.0, "Modal variables"). Lists of records are those of a cell after its CELL record,
+-- Modal variables (SEMI P39 OASIS 1.0, "Modal variables"). Lists of records are the records of a cell after its CELL,
 -- the latest first.
 use Rattle.std.specs.Prelude.{ℕ, ℤ, pos, ◌+ℤ◌, Bool, true, false, if◌then◌else◌, List, [], ◌∷◌, Option, Some, None}
 use Rattle.std.specs.Prelude.{option_map}
@@ -13,18 +13,18 @@ use Rattle.oasis_records.specs.declared.record.Record.{Record}
 use Rattle.oasis_records.specs.declared.record.Record.TheVariants.{Placement, Rectangle, Polygon, Path}
 use Rattle.oasis_records.specs.declared.record.Record.TheVariants.{Text, XyAbsolute, XyRelative}
 
--- the value, or another where there is none
+-- the value; `other` if there is none
 abbrev pub value_or : {A : Type 0} → Option A → A → A
 value_or None other = other
 value_or (Some x) other = x
 
--- the value that the latest record gave that set the variable, none if no record did. f says what a record sets it to
--- after those before it
+-- the value of a variable: that of the latest record which set it, or None. `f earlier r` is what the record r sets it
+-- to after the records `earlier`
 abbrev pub modal : {A : Type 0} → (List Record → Record → Option A) → List Record → Option A
 modal f [] = None
 modal f (r ∷ earlier) = option_or (f earlier r) (modal f earlier)
 
--- fields that are in a record set their variables
+-- a field that is in a record sets its variable
 
 abbrev pub cell_set : List Record → Record → Option CellRef
 cell_set earlier (Placement p) = p.cell
@@ -63,7 +63,7 @@ abbrev pub path_set : List Record → Record → Option (List Point)
 path_set earlier (Path p) = p.points
 path_set earlier r = None
 
--- how far a path reaches beyond an end, as a number, where half its width is known
+-- the extension as a number; None if it is modal, or if it is half of an unknown width
 abbrev pub extended : Option ℕ → Extension → Option ℤ
 extended half AsBefore = None
 extended half Flush = Some (pos 0)
@@ -78,6 +78,7 @@ abbrev pub end_set : List Record → Record → Option ℤ
 end_set earlier (Path p) = option_and_then (λ e. extended (modal half_width_set (Path p ∷ earlier)) e.end) p.ends
 end_set earlier r = None
 
+-- the repetition of a record
 abbrev pub repetition_of : Record → Option Repetition
 repetition_of (Placement p) = p.position.repetition
 repetition_of (Rectangle r) = r.position.repetition
@@ -86,7 +87,7 @@ repetition_of (Path p) = p.position.repetition
 repetition_of (Text r) = r
 repetition_of r = None
 
--- the shifts that a repetition lists; type 0 lists none
+-- the shifts of a repetition; type 0 has none of its own
 abbrev pub listed : Option Repetition → Option (List Point)
 listed (Some (New shifts)) = Some shifts
 listed (Some Same) = None
@@ -95,27 +96,30 @@ listed None = None
 abbrev pub repetition_set : List Record → Record → Option (List Point)
 repetition_set earlier r = listed (repetition_of r)
 
--- the mode is that of the latest XYABSOLUTE or XYRELATIVE, else absolute
+-- the mode is relative (true) after XYRELATIVE and absolute after XYABSOLUTE and at the beginning of a cell
 
 abbrev pub mode_set : List Record → Record → Option Bool
 mode_set earlier XyAbsolute = Some false
 mode_set earlier XyRelative = Some true
 mode_set earlier r = None
 
+-- whether the mode is relative
 abbrev pub is_relative : List Record → Bool
 is_relative records = value_or (modal mode_set records) false
 
--- a coordinate after one that is given: in absolute mode that one, in relative mode the sum
+-- the coordinate after a record: if the record has one, it replaces the one before in absolute mode, and is added to it
+-- in relative mode
 abbrev pub stepped : Option ℤ → Bool → ℤ → ℤ
 stepped None relative before = before
 stepped (Some z) true before = before +ℤ z
 stepped (Some z) false before = z
 
--- the latest coordinate that is given in absolute mode, or 0, and those given in relative mode after it
+-- the latest coordinate given in absolute mode, or 0, and those given in relative mode since then added to it
 abbrev pub coordinate : (Record → Option ℤ) → List Record → ℤ
 coordinate given [] = pos 0
 coordinate given (r ∷ earlier) = stepped (given r) (is_relative earlier) (coordinate given earlier)
 
+-- the x and the y in the record of a figure
 abbrev pub geometry_x : Record → Option ℤ
 geometry_x (Rectangle r) = r.position.x
 geometry_x (Polygon p) = p.position.x
@@ -128,6 +132,7 @@ geometry_y (Polygon p) = p.position.y
 geometry_y (Path p) = p.position.y
 geometry_y r = None
 
+-- the x and the y in the record of a placement
 abbrev pub placement_x : Record → Option ℤ
 placement_x (Placement p) = p.position.x
 placement_x r = None
@@ -136,13 +141,13 @@ abbrev pub placement_y : Record → Option ℤ
 placement_y (Placement p) = p.position.y
 placement_y r = None
 
--- where the latest figure is, and the latest placement
+-- the positions of the latest figure and of the latest placement
 abbrev pub geometry : List Record → Point
 geometry records = record { x = coordinate geometry_x records; y = coordinate geometry_y records }
 
 abbrev pub placement : List Record → Point
 placement records = record { x = coordinate placement_x records; y = coordinate placement_y records }
 
--- a position after coordinates that are given
+-- the position after a record with these coordinates
 abbrev pub moved : Point → Option ℤ → Option ℤ → Bool → Point
 moved before x y relative = record { x = stepped x relative before.x; y = stepped y relative before.y }

@@ -6,7 +6,7 @@ use Rattle.oasis_figures.specs.declared.variable.Variable.TheVariants.{GeometryW
 use Rattle.oasis_figures.specs.declared.variable.Variable.TheVariants.{PolygonPointList, PathHalfWidth, PathPointList}
 use Rattle.oasis_figures.specs.declared.variable.Variable.TheVariants.{PathStartExtension, PathEndExtension, Repetition}
 
--- a modal variable
+-- the name of a modal variable
 abbrev pub variable_name : Variable → List ℕ
 variable_name PlacementCell = codes "placement-cell"
 variable_name Layer = codes "layer"

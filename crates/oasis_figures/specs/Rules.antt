@@ -1,4 +1,4 @@
--- The rules that a record may breach after those before it, the latest first.
+-- The rules that a record of a cell may breach. `earlier` are the records of the cell before it, the latest first.
 use Rattle.std.specs.Prelude.{◌≡◌, ℕ, ◌<◌, ◌^◌, ◌||◌, ℤ, negsuc, Bool, true, false, is_some, if◌then◌else◌, List, []}
 use Rattle.std.specs.Prelude.{◌∷◌, Option, Some, None, All}
 use Rattle.lvl_grid.specs.Turn.{FitsPoint, shifted}
@@ -24,6 +24,7 @@ use Rattle.oasis_figures.specs.declared.variable.Variable.TheVariants.{PolygonPo
 use Rattle.oasis_figures.specs.declared.variable.Variable.TheVariants.{PathStartExtension, PathEndExtension}
 use Rattle.oasis_figures.specs.declared.variable.Variable.TheVariants.{Repetition as TheRepetition}
 
+-- whether the variable has a value
 abbrev pub is_defined : List Record → Variable → Bool
 is_defined records PlacementCell = is_some (modal cell_set records)
 is_defined records Layer = is_some (modal layer_set records)
@@ -37,12 +38,12 @@ is_defined records PathStartExtension = is_some (modal start_set records)
 is_defined records PathEndExtension = is_some (modal end_set records)
 is_defined records TheRepetition = is_some (modal repetition_set records)
 
--- the variable that a repetition takes
+-- the variable whose value a repetition needs
 abbrev pub of_repetition : Option Repetition → List Variable
 of_repetition None = []
 of_repetition (Some r) = TheRepetition ∷ []
 
--- the variables that a record takes, in the order of its fields
+-- the variables whose values a record needs, in the order of its fields
 abbrev pub taken : Record → List Variable
 taken (Rectangle r) = Layer ∷ Datatype ∷ GeometryW ∷ GeometryH ∷ of_repetition r.position.repetition
 taken (Placement p) = PlacementCell ∷ of_repetition p.position.repetition
@@ -53,6 +54,7 @@ taken (Path p) =
 taken (Text r) = of_repetition r
 taken r = []
 
+-- the first of the variables that has no value
 abbrev pub first_undefined : (Variable → Bool) → List Variable → Option Variable
 first_undefined defined [] = None
 first_undefined defined (v ∷ vs) = if defined v then first_undefined defined vs else Some v
@@ -60,16 +62,18 @@ first_undefined defined (v ∷ vs) = if defined v then first_undefined defined v
 abbrev pub AreNarrow : ℕ → ℕ → Type 0
 AreNarrow layer datatype = (layer < 2 ^ 32) × (datatype < 2 ^ 32)
 
+-- the layer or the datatype is 2^32 or more (own rule)
 abbrev pub IsWide : List Record → Type 0
 IsWide records = ¬ AreNarrow (number (modal layer_set records)) (number (modal datatype_set records))
 
+-- a figure has a layer or a datatype of 2^32 or more
 abbrev pub HasWideLayer : List Record → Record → Type 0
 HasWideLayer earlier (Rectangle r) = IsWide (Rectangle r ∷ earlier)
 HasWideLayer earlier (Polygon p) = IsWide (Polygon p ∷ earlier)
 HasWideLayer earlier (Path p) = IsWide (Path p ∷ earlier)
 HasWideLayer earlier r = ⊥
 
--- the position, a vertex at the zero shift or a place of a cell is outside 64 signed bits
+-- a position, a vertex at the zero shift, or a place of a cell doesn't fit in 64 signed bits (own rule)
 abbrev pub LeavesRange : List Record → Record → Type 0
 LeavesRange earlier (Rectangle r) = ¬ All FitsPoint (rectangle_ring (Rectangle r ∷ earlier))
 LeavesRange earlier (Polygon p) =
@@ -81,10 +85,12 @@ LeavesRange earlier (Placement p) =
     × All (λ e. FitsPoint (shifted (placement (Placement p ∷ earlier)) e)) (shifts_of earlier (Placement p)))
 LeavesRange earlier r = ⊥
 
+-- a placement has a magnification other than 1 (own rule)
 abbrev pub IsMagnified : Record → Type 0
 IsMagnified (Placement p) = is_magnified p.transform ≡ true
 IsMagnified r = ⊥
 
+-- a placement has an angle other than 0, 90, 180 and 270 (own rule)
 abbrev pub IsTurnedOtherwise : Record → Type 0
 IsTurnedOtherwise (Placement p) = turn_of p.transform ≡ None
 IsTurnedOtherwise r = ⊥
@@ -93,16 +99,19 @@ abbrev pub is_negative : Option ℤ → Bool
 is_negative (Some (negsuc n)) = true
 is_negative z = false
 
+-- a path has a negative extension (own rule)
 abbrev pub HasNegativeEnd : List Record → Record → Type 0
 HasNegativeEnd earlier (Path p) =
     is_negative (modal start_set (Path p ∷ earlier)) || is_negative (modal end_set (Path p ∷ earlier)) ≡ true
 HasNegativeEnd earlier r = ⊥
 
--- an edge of the polygon is oblique, or the closing one; no POLYGON record has a list of fewer than three points
+-- the polygon isn't a ring: one of its edges, or the closing one, is oblique (own rule); its points are always at least
+-- three
 abbrev pub HasObliqueEdge : List Record → Record → Type 0
 HasObliqueEdge earlier (Polygon p) = ¬ IsRing (polygon_ring (Polygon p ∷ earlier))
 HasObliqueEdge earlier r = ⊥
 
+-- the latest path breaches this rule of paths, and none with a lower number (own rule)
 abbrev pub IsPathFault : List Record → PathFault → Type 0
 IsPathFault records f =
     IsLowestFault (path_points records)
@@ -112,7 +121,7 @@ abbrev pub HasPathFault : List Record → Record → PathFault → Type 0
 HasPathFault earlier (Path p) f = IsPathFault (Path p ∷ earlier) f
 HasPathFault earlier r f = ⊥
 
--- what the record has of each rule by itself
+-- the record breaks the rule, whichever others it breaks
 abbrev pub Breaks : List Record → Record → FigureRule → Type 0
 Breaks earlier r (Undefined v) = first_undefined (is_defined (r ∷ earlier)) (taken r) ≡ Some v
 Breaks earlier r WideLayer = HasWideLayer earlier r
@@ -123,7 +132,7 @@ Breaks earlier r Extension = HasNegativeEnd earlier r
 Breaks earlier r Oblique = HasObliqueEdge earlier r
 Breaks earlier r (PathRule f) = HasPathFault earlier r f
 
--- the order in which rules are tested
+-- the order in which the rules are tested
 abbrev pub order : FigureRule → ℕ
 order (Undefined v) = 0
 order WideLayer = 1
@@ -134,7 +143,7 @@ order Extension = 5
 order Oblique = 6
 order (PathRule f) = 7
 
--- the rule that is tested first of those that are broken
+-- the rule is the first, in the order of tests, that the record breaks
 pub record Breaches (earlier : List Record) (r : Record) (rule : FigureRule) : Type 0 where
   pub broken : Breaks earlier r rule
   pub first : (other : FigureRule) → order other < order rule → ¬ Breaks earlier r other

@@ -5,10 +5,10 @@ use lvl_names::Layer;
 /// What a record draws, at each of the shifts of its repetition ([`crate::Modal::shifts`]).
 #[derive(Debug, Drop)]
 pub enum Drawn {
-    /// A RECTANGLE or a POLYGON: its ring, on a Layer.
+    /// A RECTANGLE or a POLYGON: its ring on a Layer.
     Ring(Layer, Ring),
-    /// A PATH: the rings of its bands, on a Layer.
+    /// A PATH: the rings of its bands on a Layer.
     Rings(Layer, Vec<Ring>),
-    /// A PLACEMENT: how its cell ([`crate::Modal::cell`]) is reflected, turned and moved.
+    /// A PLACEMENT of the cell [`crate::Modal::cell`]: how it is reflected, turned and moved.
     Placement(Map),
 }

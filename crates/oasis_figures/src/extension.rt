@@ -13,7 +13,7 @@ pub(crate) enum Extent {
     Negative,
 }
 
-/// The extensions at both ends; where the field isn't there both are modal.
+/// The extensions at both ends. Without the field both are modal.
 pub(crate) fn ends_of(ends: Option<Ends>) -> Ends
     ensures { result ≡ ends_of ends }
 {
@@ -23,8 +23,8 @@ pub(crate) fn ends_of(ends: Option<Ends>) -> Ends
     })
 }
 
-/// An extension of a path of this half-width, where the modal one is that, or None where it is modal
-/// and has no value.
+/// The extension of a path with this half-width. `modal` is the value of the modal variable; the result is
+/// `None` if that is needed and undefined.
 pub(crate) fn resolve(extension: Extension, half: u64, modal: Option<u64>) -> Option<Extent>
     ensures { result ≡ option_map extent (option_or (extended (Some half) extension) (option_map pos modal)) }
 {
@@ -39,7 +39,7 @@ pub(crate) fn resolve(extension: Extension, half: u64, modal: Option<u64>) -> Op
     }
 }
 
-/// How far a path reaches beyond its ends, or None where an extension is negative.
+/// How far a path reaches beyond its ends; `None` if an extension is negative.
 pub(crate) fn reaches(start: Extent, end: Extent) -> Option<(u64, u64)>
     ensures { result ≡ reaches start end }
 {

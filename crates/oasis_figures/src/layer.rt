@@ -5,7 +5,7 @@ ghost use Rattle.oasis_figures.specs.Figures.{layer_by};
 
 use lvl_names::Layer;
 
-/// The Layer of these numbers, or None where one of them is 2^32 or more.
+/// The Layer with these numbers; `None` if one of them is 2^32 or more.
 pub(crate) fn layer_of(layer: u64, datatype: u64) -> Option<Layer>
     ensures { SomeIff result (AreNarrow layer datatype) (layer_by layer datatype) }
 {

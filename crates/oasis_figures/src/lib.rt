@@ -1,10 +1,10 @@
 //! What a record of an OASIS cell draws, after the records before it (SEMI P39 OASIS 1.0).
 //!
-//! A field that isn't in a record has the value that an earlier record of the cell gave it: its modal
-//! variable. [`Modal`] keeps these variables. It takes the records of a cell one by one and says what
+//! A field that isn't in a record has the value of its modal variable, which an earlier record of the cell
+//! has set. [`Modal`] keeps these variables. It takes the records of a cell one by one, and returns what
 //! each of them draws.
 //!
-//! `record` is a RECTANGLE that gives all its fields:
+//! `record` is a RECTANGLE with all its fields:
 //!
 //! ```
 //! let mut modal = Modal::new();

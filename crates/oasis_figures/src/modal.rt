@@ -1,4 +1,4 @@
-//! Modal variables: what the records of a cell set for those after them.
+//! Modal variables: what the records of a cell set for later ones.
 ghost use Rattle.std.specs.Prelude.{◌≡◌, ◌∷◌, [], List, IfOk, IfErr, OnOk, OnErr};
 ghost use Rattle.std.specs.Option.{option_copied};
 ghost use Rattle.lvl_refusal.specs.Refused.{Says};
@@ -17,7 +17,7 @@ use lvl_refusal::Cause;
 use oasis_records::{CellRef, Record};
 use std::alloc::Global;
 
-/// The modal variables, with the values that the records since CELL set (SEMI P39, "Modal
+/// The modal variables, with the values that the records since CELL have set (SEMI P39, "Modal
 /// variables").
 #[derive(Debug, Drop)]
 pub struct Modal {
@@ -35,9 +35,9 @@ pub struct Modal {
     pub(crate) start: Option<u64>,
     pub(crate) end: Option<u64>,
     pub(crate) repetition: Option<Offsets>,
-    /// Whether the record before has a repetition.
+    /// Whether the last record has a repetition.
     pub(crate) is_repeated: bool,
-    /// The zero shift alone.
+    /// Only the zero shift.
     pub(crate) single: Offsets,
 }
 
@@ -67,11 +67,12 @@ impl Modal {
         }
     }
 
-    /// Takes the next record after CELL and says what it draws, in grid steps, at each of
-    /// [`Modal::shifts`]; None where it draws nothing (SEMI P39, "Modal variables", and each record).
+    /// Takes the next record after CELL, and returns what it draws, in grid steps, at each of
+    /// [`Modal::shifts`]; `None` if it draws nothing (SEMI P39, "Modal variables", and the section of each
+    /// record).
     ///
-    /// A record that breaches a [`FigureRule`] is refused by the first of them, in their order. After a
-    /// refusal, also for memory, the variables are as they were.
+    /// If the record breaches a [`FigureRule`], the first of them in their order is returned. After that,
+    /// and after a failed allocation, the variables are as they were.
     pub fn take(&mut self, alloc: Global, next: Record) -> Result<Option<Drawn>, Cause<FigureRule>>
         ensures drawn { IfOk result (λ drawn. (earlier : List ARecord) → StandsFor self.old earlier
             → IsDrawn earlier next drawn) }
@@ -97,8 +98,8 @@ impl Modal {
         }
     }
 
-    /// The shifts at which the record taken last is drawn, in grid steps: those of its repetition, or
-    /// the zero shift alone. A repetition that it has from an earlier record isn't copied.
+    /// The shifts at which the last record is drawn, in grid steps: those of its repetition, or only the
+    /// zero shift. The shifts of the modal repetition aren't copied.
     pub fn shifts(&self) -> &Offsets
         ensures { (r : ARecord) (earlier : List ARecord) → StandsFor self.now (r ∷ earlier)
             → result.now ≡ shifts_of earlier r }
@@ -109,7 +110,7 @@ impl Modal {
         }
     }
 
-    /// The cell that the latest PLACEMENT places; None where none since CELL has named one.
+    /// The cell of the latest PLACEMENT; `None` if no PLACEMENT since CELL has named one.
     pub fn cell(&self) -> Option<&CellRef>
         ensures { (records : List ARecord) → StandsFor self.now records
             → option_copied result ≡ modal cell_set records }
@@ -117,7 +118,7 @@ impl Modal {
         self.cell.as_ref()
     }
 
-    /// Takes an XYRELATIVE or an XYABSOLUTE: from here on a coordinate is added to the one before, or
+    /// Takes an XYRELATIVE or an XYABSOLUTE: from now on a coordinate is added to the one before it, or
     /// replaces it.
     fn take_mode(&mut self, is_relative: bool) -> Result<Option<Drawn>, Cause<FigureRule>>
         ensures { Takes self.old (mode is_relative) result self.new }
@@ -127,7 +128,7 @@ impl Modal {
         Ok(None)
     }
 
-    /// Takes a record that sets nothing.
+    /// Takes a record that sets no variable.
     fn take_other(&mut self, next: Record) -> Result<Option<Drawn>, Cause<FigureRule>>
         requires { IsOther next }
         ensures { Takes self.old next result self.new }

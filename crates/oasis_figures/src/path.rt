@@ -24,7 +24,7 @@ use lvl_refusal::Cause;
 use oasis_records::Path;
 use std::alloc::Global;
 
-/// The values of a path that come before its points.
+/// The values of a path that are tested before its points.
 #[derive(Clone, Copy)]
 pub(crate) struct Stroke {
     layer: u64,
@@ -34,7 +34,7 @@ pub(crate) struct Stroke {
     end: Extent,
 }
 
-/// A path of which every value but its points is known.
+/// A path whose values are known, except its points.
 #[derive(Clone, Copy)]
 pub(crate) struct Resolved {
     stroke: Stroke,
@@ -42,7 +42,7 @@ pub(crate) struct Resolved {
     at: Point,
 }
 
-/// The rings of the bands of a path.
+/// The rings of the bands of a path, unless it breaches a rule of paths.
 fn bands_of(
     alloc: Global,
     points: &[Point],
@@ -63,7 +63,7 @@ fn bands_of(
 }
 
 impl Modal {
-    /// The values that come before the points of a path, if they are all known.
+    /// The values that are tested before the points, if all of them are known.
     fn stroke_of(&self, path: &Path) -> Result<Stroke, FigureRule>
         ensures ok { IfOk result (IsStroke self.now path.now) }
         ensures err { IfErr result (λ rule. (earlier : List ARecord) → StandsFor self.now earlier
@@ -94,7 +94,7 @@ impl Modal {
         })
     }
 
-    /// The values of a path, if it breaches no rule that is tested before its vertices.
+    /// The values of a path, unless it breaches a rule that is tested before its vertices.
     fn resolve_path(&self, path: &Path) -> Result<Resolved, FigureRule>
         ensures ok { IfOk result (λ v. (earlier : List ARecord) → StandsFor self.now earlier
             → IsResolved earlier path.now v) }

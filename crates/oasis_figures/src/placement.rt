@@ -18,7 +18,7 @@ use lvl_refusal::Cause;
 use oasis_records::{Placement, Transform};
 use oasis_values::Real;
 
-/// Whether a real is that number.
+/// Whether a real of type 0, 2 or 4 is this number.
 fn is_number(number: u64, real: Real) -> bool
     ensures { result ≡ is_number number real }
 {
@@ -30,7 +30,7 @@ fn is_number(number: u64, real: Real) -> bool
     }
 }
 
-/// The turn by an angle in degrees, or None where that is another than 0, 90, 180 or 270.
+/// The turn by an angle in degrees; `None` if the angle isn't 0, 90, 180 or 270.
 fn turn_by(angle: Real) -> Option<Turn>
     ensures { result ≡ turn_by angle }
 {
@@ -49,7 +49,7 @@ fn turn_by(angle: Real) -> Option<Turn>
     None
 }
 
-/// How a cell is turned, or None where that is by another angle.
+/// The turn of a placement; `None` if its angle isn't 0, 90, 180 or 270.
 fn turn_of(transform: Transform) -> Option<Turn>
     ensures { result ≡ turn_of transform }
 {
@@ -63,7 +63,7 @@ fn turn_of(transform: Transform) -> Option<Turn>
     }
 }
 
-/// Whether a cell is larger or smaller than it is drawn.
+/// Whether a placement has a magnification other than 1.
 fn is_magnified(transform: Transform) -> bool
     ensures { result ≡ is_magnified transform }
 {
@@ -77,7 +77,7 @@ fn is_magnified(transform: Transform) -> bool
 }
 
 impl Modal {
-    /// How the cell is placed, if the placement breaches no rule.
+    /// The map of a placement, unless it breaches a rule.
     fn resolve_placement(&self, placement: &Placement) -> Result<Map, FigureRule>
         ensures ok { IfOk result (λ by. (earlier : List ARecord) → StandsFor self.now earlier
             → IsResolved earlier placement.now by) }

@@ -23,7 +23,7 @@ use lvl_refusal::Cause;
 use oasis_records::Polygon;
 use std::alloc::Global;
 
-/// A polygon of which every value but its points is known.
+/// A polygon whose values are known, except its points.
 #[derive(Clone, Copy)]
 pub(crate) struct Resolved {
     layer: u64,
@@ -32,7 +32,7 @@ pub(crate) struct Resolved {
     at: Point,
 }
 
-/// The ring of the points, moved to where the polygon is.
+/// The ring of the points, moved to the position of the polygon.
 fn ring_at(alloc: Global, at: Point, points: &[Point]) -> Result<Ring, Cause<FigureRule>>
     ensures value { IfOk result (λ ring. ring ≡ map (shifted at) points.now) }
     ensures fit { OnOk result (All FitsPoint (map (shifted at) points.now)) }
@@ -47,7 +47,7 @@ fn ring_at(alloc: Global, at: Point, points: &[Point]) -> Result<Ring, Cause<Fig
 }
 
 impl Modal {
-    /// The values of a polygon, if it breaches no rule that is tested before its vertices.
+    /// The values of a polygon, unless it breaches a rule that is tested before its vertices.
     fn resolve_polygon(&self, polygon: &Polygon) -> Result<Resolved, FigureRule>
         ensures ok { IfOk result (λ v. (earlier : List ARecord) → StandsFor self.now earlier
             → IsResolved earlier polygon.now v) }
@@ -81,8 +81,8 @@ impl Modal {
         })
     }
 
-    /// Takes a POLYGON. Its point list is moved into the modal variable, and its vertices are other
-    /// points.
+    /// Takes a POLYGON. Its point list is moved into the modal variable, and the vertices of its
+    /// ring are new points.
     pub(crate) fn take_polygon(
         &mut self,
         alloc: Global,

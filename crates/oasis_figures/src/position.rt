@@ -1,4 +1,4 @@
-//! Positions, as records move them.
+//! Positions, and how records move them.
 ghost use Rattle.std.specs.Prelude.{SomeIff, FitsSigned};
 ghost use Rattle.std.specs.Int.{w64};
 ghost use Rattle.lvl_grid.specs.Turn.{FitsPoint};
@@ -6,7 +6,7 @@ ghost use Rattle.oasis_figures.specs.Modal.{stepped, moved};
 
 use lvl_grid::Point;
 
-/// Where a coordinate goes, or None where that is outside 64 bits.
+/// The coordinate after a record; `None` if it doesn't fit in 64 bits.
 fn step(given: Option<i64>, is_relative: bool, before: i64) -> Option<i64>
     ensures { SomeIff result (FitsSigned w64 (stepped given is_relative before)) (stepped given is_relative before) }
 {
@@ -19,7 +19,7 @@ fn step(given: Option<i64>, is_relative: bool, before: i64) -> Option<i64>
     Some(given)
 }
 
-/// Where a position goes by the coordinates of a record, or None where that is outside 64 bits.
+/// The position after a record with these coordinates; `None` if it doesn't fit in 64 bits.
 pub(crate) fn moved(
     before: Point,
     x: Option<i64>,

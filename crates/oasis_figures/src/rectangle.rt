@@ -19,7 +19,7 @@ use lvl_refusal::Cause;
 use oasis_records::Rectangle;
 use std::alloc::Global;
 
-/// A rectangle of which every value is known.
+/// A rectangle whose values are known.
 #[derive(Clone, Copy)]
 pub(crate) struct Resolved {
     layer: u64,
@@ -31,7 +31,7 @@ pub(crate) struct Resolved {
     high: Point,
 }
 
-/// The height that a rectangle of this width gives.
+/// The height of a rectangle of this width; `None` if the record doesn't give it.
 fn height_of(rectangle: &Rectangle, width: u64) -> Option<u64>
     ensures { result ≡ (if rectangle.now.is_square then Some width else rectangle.now.height) }
 {
@@ -42,7 +42,7 @@ fn height_of(rectangle: &Rectangle, width: u64) -> Option<u64>
 }
 
 impl Modal {
-    /// The values of a rectangle, if it breaches no rule.
+    /// The values of a rectangle, unless it breaches a rule.
     fn resolve_rectangle(&self, rectangle: &Rectangle) -> Result<Resolved, FigureRule>
         ensures ok { IfOk result (λ v. (earlier : List ARecord) → StandsFor self.now earlier
             → IsResolved earlier rectangle.now v) }

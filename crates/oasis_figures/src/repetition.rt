@@ -1,4 +1,4 @@
-//! Repetitions, as records set them.
+//! Repetitions of records, and the modal one.
 ghost use Rattle.std.specs.Prelude.{◌≡◌, ◌↔◌, IsTrue, All};
 ghost use Rattle.lvl_grid.specs.Turn.{FitsPoint, shifted};
 ghost use Rattle.std.specs.Option.{option_or};
@@ -10,7 +10,8 @@ use lvl_grid::Point;
 use lvl_names::Offsets;
 use oasis_values::Repetition;
 
-/// Whether the shifts of this repetition are known, where the modal one has these.
+/// Whether the shifts of a repetition are known: it has its own, or the modal one is defined, or
+/// there is none.
 pub(crate) fn is_known(repetition: &Option<Repetition>, modal: &Option<Offsets>) -> bool
     ensures { result ≡ is_known repetition.now modal.now }
 {
@@ -20,7 +21,7 @@ pub(crate) fn is_known(repetition: &Option<Repetition>, modal: &Option<Offsets>)
     }
 }
 
-/// The modal repetition after one more record, which has this one.
+/// The modal repetition after a record with this repetition.
 pub(crate) fn after(repetition: Option<Repetition>, modal: Option<Offsets>) -> Option<Offsets>
     ensures { result ≡ option_or (listed repetition) modal }
 {
@@ -30,8 +31,8 @@ pub(crate) fn after(repetition: Option<Repetition>, modal: Option<Offsets>) -> O
     }
 }
 
-/// Whether each place of a record that has this repetition is within 64 bits, where the modal one has
-/// these shifts. The position itself is.
+/// Whether each place of a record at `at` with this repetition fits in 64 bits, if the modal one has these
+/// shifts. The position itself does.
 pub(crate) fn all_fit_at(
     at: Point,
     repetition: &Option<Repetition>,

@@ -1,4 +1,4 @@
-//! Why a record draws nothing that is read.
+//! Why a record of a cell is refused.
 ghost use Rattle.std.specs.Prelude.{◌≡◌};
 
 use crate::variable::Variable;
@@ -6,22 +6,22 @@ use lvl_path::PathFault;
 use lvl_refusal::Cause;
 use thiserror::Error;
 
-/// A rule of figures and placements that is breached. They are tested in this order.
+/// The rules of figures and placements. They are tested in this order.
 #[derive(Clone, Copy, Debug, Drop, PartialEq, Eq, Error)]
 pub enum FigureRule {
-    /// A field isn't in the record, and its modal variable has no value (SEMI P39, "Modal variables").
+    /// A field isn't in the record, and its modal variable is undefined (SEMI P39, "Modal variables").
     #[error("a modal variable is undefined")]
     Undefined(Variable),
     /// A layer or datatype is 2^32 or more (own rule).
     #[error("a layer or datatype is 2^32 or more")]
     Layer,
-    /// A position, a vertex or a place is outside 64 signed bits (own rule).
+    /// A position, a vertex or a place doesn't fit in 64 signed bits (own rule).
     #[error("a position, a vertex or a place is outside 64 bits")]
     OutOfRange,
-    /// A cell is magnified (own rule).
+    /// A magnification isn't 1, by a real of type 0, 2 or 4 (own rule).
     #[error("a cell is magnified")]
     Magnification,
-    /// A cell is turned by another than a right angle (own rule).
+    /// An angle isn't 0, 90, 180 or 270 degrees, by a real of type 0, 2 or 4 (own rule).
     #[error("a cell is turned by another than a right angle")]
     Angle,
     /// An extension of a path is negative (own rule).
@@ -30,7 +30,7 @@ pub enum FigureRule {
     /// An edge of a polygon changes both coordinates (own rule).
     #[error("an edge of a polygon is oblique")]
     Oblique,
-    /// The points of a path are none of a path of its width (own rule).
+    /// The points, the half-width and the extensions of a path breach a rule of paths (own rule).
     #[error("invalid path")]
     Path(PathFault),
 }

@@ -14,7 +14,7 @@ use lvl_refusal::Cause;
 use oasis_values::Repetition;
 
 impl Modal {
-    /// Whether a text breaches a rule: it may use a repetition that has no value.
+    /// Tests a text: it may have the modal repetition only if that is defined.
     fn test_text(&self, repetition: &Option<Repetition>) -> Result<(), FigureRule>
         ensures ok { OnOk result ((earlier : List ARecord) → StandsFor self.now earlier
             → BreachesNone earlier (a_text repetition.now)) }

@@ -4,8 +4,8 @@ ghost use Rattle.oasis_figures.specs.Names.{variable_name};
 
 use std::fmt;
 
-/// A modal variable that may have no value (SEMI P39, "Modal variables"). Those of positions always
-/// have one.
+/// A modal variable that can be undefined (SEMI P39, "Modal variables"). Those of positions always
+/// have a value.
 #[derive(Clone, Copy, Debug, Drop, PartialEq, Eq)]
 pub enum Variable {
     PlacementCell,

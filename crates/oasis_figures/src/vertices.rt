@@ -1,4 +1,4 @@
-//! The vertices of polygons and paths: point lists, moved to where a figure is.
+//! The vertices of polygons and paths: point lists, moved to the position of a figure.
 ghost use Rattle.std.specs.Prelude.{◌≡◌, [], map, All, SomeIff, IfOk, IfErr, OnOk, is_some, option_map};
 ghost use Rattle.std.specs.Option.{option_or};
 ghost use Rattle.lvl_refusal.specs.Refused.{Says};
@@ -11,7 +11,7 @@ use lvl_refusal::Cause;
 use oasis_records::Points;
 use std::alloc::Global;
 
-/// The point moved by another, or None where that is outside 64 bits.
+/// The point moved by another; `None` if that doesn't fit in 64 bits.
 fn shifted(by: Point, point: Point) -> Option<Point>
     ensures { SomeIff result (FitsPoint (shifted by point)) (shifted by point) }
 {
@@ -20,7 +20,7 @@ fn shifted(by: Point, point: Point) -> Option<Point>
     Some(Point { x, y })
 }
 
-/// The points, each moved by another, if they all fit 64 bits then.
+/// The points, each moved by another, if all of them then fit in 64 bits.
 pub(crate) fn all_shifted(
     alloc: Global,
     by: Point,
@@ -51,14 +51,14 @@ pub(crate) fn listed(points: Option<Points>) -> Option<Vec<Point>>
     }
 }
 
-/// Whether a point list is known: it is given, or the modal one has a value.
+/// Whether there is a point list: the record has one, or the modal one is defined.
 pub(crate) fn are_known(points: &Option<Points>, modal: &Option<Vec<Point>>) -> bool
     ensures { result ≡ is_some (option_or points.now (option_map (λ v. v.items) modal.now)) }
 {
     points.is_some() || modal.is_some()
 }
 
-/// The points of a list, or those of the modal one; none where there is neither.
+/// The points of the list, or else those of the modal one; empty if there is neither.
 pub(crate) fn known<'a>(
     listed: &'a Option<Vec<Point>>,
     modal: &'a Option<Vec<Point>>,

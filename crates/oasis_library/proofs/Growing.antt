@@ -1,4 +1,4 @@
--- What one record more adds to the cells of records.
+-- What one more record adds to the cells.
 use Rattle.std.proofs.Common.{◌≡◌, ◌⊎◌, Bool, true, false, ◌||◌, if◌then◌else◌, List, [], ◌∷◌, ◌++◌, map, refl, sym, ap}
 use Rattle.std.proofs.Common.{◌∙◌, subst, append_assoc, inl, inr}
 use Rattle.std.proofs.lemmas.List.{append-nil, map-append}
@@ -28,7 +28,7 @@ is_other r h = elim (cell_or r) [
   | inr o ↦ o.0
 ]
 
--- the last item is changed
+-- the list with its last element changed
 pub last_changed : {A : Type 0} (f : A → A) (xs : List A) (x y : A) → y ≡ f x → xs ++ y ∷ [] ≡ on_last f (xs ++ x ∷ [])
 last_changed f [] x y e = ap (λ z. z ∷ []) e
 last_changed f (a ∷ []) x y e = ap (λ z. a ∷ z ∷ []) e
@@ -46,7 +46,7 @@ abbrev has_cell : List Record → Bool
 has_cell [] = false
 has_cell (r ∷ rs) = is_cell r || has_cell rs
 
--- a cell is begun, so that another record adds nothing to the one before it
+-- a later cell has begun, so another record adds nothing to this one
 closed : {A : Type 0} (f : List Record → Record → List A) (e rs : List Record) (r : Record) → has_cell rs ≡ true
     → to_next_cell f e (rs ++ r ∷ []) ≡ to_next_cell f e rs
 closed f e [] r h = cc
@@ -64,7 +64,7 @@ ended : {A : Type 0} (f : List Record → Record → List A) (e rs : List Record
 ended f e [] r h = ap (λ b. if b then [] else f e r ++ []) h
 ended f e (x ∷ rs) r h = ap (λ l. if is_cell x then [] else f e x ++ l) (ended f (x ∷ e) rs r h)
 
--- another record adds to the cell that is open
+-- another record adds to the last cell
 added : {A : Type 0} (f : List Record → Record → List A) (e rs : List Record) (r : Record) → is_cell r ≡ false
     → has_cell rs ≡ false
     → to_next_cell f e (rs ++ r ∷ []) ≡ to_next_cell f e rs ++ f (since e rs) r
@@ -81,7 +81,7 @@ added f e (x ∷ rs) r h n =
 abbrev a_drawing : CellRef → List (PlainShape Figure) → List Placed → PlainDrawing Figure
 a_drawing name shapes placements = record { name = name; shapes = shapes; placements = placements }
 
--- a cell with what a record draws after those before it
+-- a cell with what a record draws added
 abbrev widened : List Record → Record → PlainDrawing Figure → PlainDrawing Figure
 widened earlier r d = a_drawing d.name (d.shapes ++ shapes_of earlier r) (d.placements ++ placements_of earlier r)
 
@@ -167,7 +167,7 @@ drawings-cell (x ∷ rs) c = elim (cell_or x) [
       skip (rs ++ Cell c ∷ []) ∙ drawings-cell rs c ∙ ap (λ l. l ++ drawing [] c ∷ []) (sym (skip rs))
 ]
 
--- the same of the cells as they are kept
+-- the same for the cells as they are kept
 
 on_last-map : {A B : Type 0} (g : A → B) (f : A → A) (k : B → B) → ((x : A) → g (f x) ≡ k (g x)) → (xs : List A)
     → map g (on_last f xs) ≡ on_last k (map g xs)

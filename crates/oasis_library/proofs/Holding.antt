@@ -1,4 +1,4 @@
--- One more record is held.
+-- What was read is updated with one more record.
 use Rattle.std.proofs.Common.{◌≡◌, false, List, [], ◌∷◌, ◌++◌, map, refl, sym, ap, ◌∙◌, subst, if◌then◌else◌, Result}
 use Rattle.std.proofs.Common.{Ok, Err, IfOk, OnOk}
 use Rattle.std.specs.Prelude.{flat_map, Option}
@@ -38,7 +38,7 @@ last-snoc f d x y rs r e h =
     h ∙ ap (λ i. last_or i (f r)) e ∙ sym (last_or-append d (flat_map f rs) (f r)) ∙ ap (last_or d)
     (sym (flat_map-snoc f rs r))
 
--- what a record leaves
+-- what a record changes
 pub record Goes (x y : Reading) (rs : List Record) (r : Record) : Type 0 where
   pub order : y.order ≡ passed x.order r
   pub names : HoldsNames y.names (names_in rs ++ name_in r)
@@ -62,7 +62,7 @@ records-snoc [] r = refl
 records-snoc (magic ∷ is) r = records-snoc is r
 records-snoc (item x ∷ is) r = ap (λ l. x ∷ l) (records-snoc is r)
 
--- what comes after a CELL
+-- after a CELL
 pub cell_goes : (x y : Reading) (rs : List Record) (next : Record) (name : CellRef) → next ≡ Cell name → Holds x rs
     → y.order ≡ passed x.order next → HoldsNames y.names (names_in rs ++ name_in next) → StandsFor y.modal []
     → y.cells ≡ x.cells ++ begun name ∷ []
@@ -80,7 +80,7 @@ cell_goes x y rs next name is h order names modal cells unit validation = law_ho
   validation = validation;
 })
 
--- and after another record
+-- after another record
 pub other_goes : (x y : Reading) (rs : List Record) (next : Record) → is_cell next ≡ false → Holds x rs
     → y.order ≡ passed x.order next → HoldsNames y.names (names_in rs ++ name_in next)
     → StandsFor y.modal (next ∷ since_cell rs) → y.cells ≡ on_last (grown (since_cell rs) next) x.cells
@@ -95,7 +95,7 @@ other_goes x y rs next other h order names modal cells unit validation = law_hol
   validation = validation;
 })
 
--- what was answered of names and of figures
+-- the results for names and for figures
 
 pub name_ok : {P : Type 0} (r : Result (Unit {0}) (Cause NameRule)) (q : Result (Unit {0}) (Cause OasisKind))
     (u : Unit {0}) → q ≡ of_name r → q ≡ Ok u → OnOk r P → P
@@ -127,7 +127,7 @@ figure_ok old new next (Ok x) q d e f t earlier h =
 figure_ok old new next (Err (Breach k)) q d e f t earlier h = (let z : Err (Breach (Figure k)) ≡ Ok d = sym e ∙ f in cc)
 figure_ok old new next (Err OutOfMemory) q d e f t earlier h = (let z : Err OutOfMemory ≡ Ok d = sym e ∙ f in cc)
 
--- neither a rule of names is breached nor one of figures
+-- no rule of names and none of figures is breached
 pub none_breached : (rs : List Record) (r : Record) → ((k : NameRule) → NamingBreaches (names_in rs) r k → ⊥)
     → BreachesNone (since_cell rs) r
     → (k : OasisKind) → RecordBreaches rs r k → ⊥

@@ -1,4 +1,4 @@
--- What is ignored changes no answer that was had without it.
+-- What is ignored changes no answer that was given without it.
 use Rattle.std.proofs.Common.{ℕ, List}
 use Rattle.lvl_path.specs.Figure.{Figure}
 use Rattle.lvl_cells.specs.Cells.{PlainCell, Rings}
@@ -9,7 +9,7 @@ use Rattle.oasis_library.specs.Library.{SpellsLibrary, IsRead}
 use Rattle.oasis_library.specs.declared.head.OasisHead.{OasisHead}
 use Rattle.oasis_library.proofs.Readable.{law_only}
 
--- what is spelled for who ignores less is spelled for who ignores more: the same library and head
+-- a file that spells a library when less is ignored spells the same library, with the same head, when more is
 pub library_grows : (less more : Ignore) → IsWithin less more → (bytes : List ℕ) (cells : List (PlainCell Figure))
     (h : OasisHead) → SpellsLibrary less bytes cells h → SpellsLibrary more bytes cells h
 library_grows less more within bytes cells h p =
@@ -20,7 +20,7 @@ library_grows less more within bytes cells h p =
       head_is = p.head_is;
     }
 
--- what was read by who ignores less is what who ignores more reads
+-- what is read when less is ignored is read when more is
 pub read_grows : (less more : Ignore) → IsWithin less more → (bytes : List ℕ) (found : List (PlainCell Rings))
     (h : OasisHead) → IsRead less bytes found h → IsRead more bytes found h
 read_grows less more within bytes found h p =

@@ -1,4 +1,4 @@
--- A file is read: the magic string, and record by record.
+-- How a file is read: the magic string, and then record by record.
 use Rattle.std.proofs.Common.{◌≡◌, ℕ, ◌<◌, true, false, List, [], ◌∷◌, ◌++◌, length, take, drop, Ok, Err, Some, refl}
 use Rattle.std.proofs.Common.{sym, ap, ◌∙◌, subst, arith, length-append}
 use Rattle.std.specs.Prelude.{Option, Result}
@@ -31,14 +31,14 @@ use Rattle.oasis_library.specs.inside.Refuses.{Refuses, refused_at}
 use Rattle.oasis_library.specs.declared.reading.Reading.{Reading}
 use Rattle.oasis_library.proofs.Holding.{records-snoc}
 
--- the last of two lists that are the same
+-- two equal lists have the same last element
 last_same : {A : Type 0} (a b : List A) (x y : A) → a ++ x ∷ [] ≡ b ++ y ∷ [] → x ≡ y
 last_same a b x y e = sym (last_or-append x a (x ∷ [])) ∙ ap (last_or x) e ∙ last_or-append x b (y ∷ [])
 
 none_ended : IsEnded [] → ⊥
 none_ended e = omega (arith, ap length e.2, length-append e.0 (item (End e.1) ∷ []))
 
--- nothing was read
+-- nothing has been read
 
 abbrev IsNothing : List Item → Type 0
 IsNothing is = is ≡ []
@@ -96,7 +96,7 @@ as_item {remaining = remaining} {errors = errors} {lent = lent} x is {old = old}
     subst (λ js. Reads remaining errors lent (IsItem js) old new r) (sym h.3)
     (subst (λ js. Reads remaining errors lent (IsNext (records js)) old new r) h.3 p)
 
--- a record more, after the magic string
+-- one more record, after the magic string
 abbrev pub HasMore : Reading → Record → List Item → Type 0
 HasMore y r js = HasRead y js × (is : List Item) × (js ≡ is ++ item r ∷ []) × (rest : List Item) × (is ≡ magic ∷ rest)
 
@@ -113,7 +113,7 @@ record_on {R = R} ignore xs x y r to live under p h none =
     (to.holds.1, none)
     (subst (Holds y) (sym (records-snoc to.records r)) h, to.records, refl, to.holds.2, to.holds.3)
 
--- the record is the last, or isn't
+-- the record is END
 end_is : (r : Record) → is_end r ≡ true → (v : Validation) × (r ≡ End v)
 end_is (End v) h = (v, refl)
 end_is _ h = cc
@@ -146,7 +146,7 @@ reads_as ignore xs at P Q left to h =
       within = to.within;
     }
 
--- a record takes a byte at least
+-- a record takes at least one byte
 pub record_takes : {R : Type 0} {remaining : R → Option (List ℕ)} {errors : R → ℕ} {lent : R → List GName}
     (ignore : Ignore) (xs : List ℕ)
     (x : Reading) (i : Item) {old new : Input R}
@@ -168,7 +168,7 @@ first_takes ignore xs i live under known p =
     let f = (answers_under ignore under p live xs known).0 in
     omega (arith, item_needs ignore [] f.bytes (Ok (Ok i)) f.says, f.count)
 
--- the next record was refused as it was read
+-- the next record was refused while it was read
 pub next_refused : {R : Type 0} {remaining : R → Option (List ℕ)} {errors : R → ℕ} {lent : R → List GName}
     (ignore : Ignore) (xs : List ℕ)
     (x : Reading) {old new : Input R}
@@ -180,7 +180,7 @@ next_refused ignore xs x to (Breach k) live under p = next_refuses ignore xs to 
     (as_item x to.records to.holds p)
 next_refused ignore xs x to OutOfMemory live under p = tt
 
--- a record was refused that was read whole
+-- a complete record was refused
 pub take_refused : {R : Type 0} {remaining : R → Option (List ℕ)} {errors : R → ℕ} {lent : R → List GName}
     (ignore : Ignore) (xs : List ℕ)
     (x : Reading) (r : Record) {old new : Input R}

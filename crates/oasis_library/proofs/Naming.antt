@@ -1,4 +1,4 @@
--- What one name more does to the names by their numbers.
+-- What one more name does to the names by their numbers.
 use Rattle.std.proofs.Common.{◌≡◌, ◌==◌, ℕ, ◌+◌, Bool, true, false, ◌||◌, cond, if◌then◌else◌, List, [], ◌∷◌, ◌++◌}
 use Rattle.std.proofs.Common.{length, map, Some, None, refl, sym, ap, ◌∙◌, subst, arith, Contains}
 use Rattle.std.specs.Prelude.{Option, is_some, unwrap_or}
@@ -56,7 +56,7 @@ name_if true number k name f e none =
     ap (λ o. option_or o (Some name)) (ap f (sym same) ∙ none)
 name_if false number k name f e none = or_none (f k)
 
--- the name of a number that no other has
+-- the number of the new name, which no other has, stands for that name
 name_on : (cs : List CellName) (c : CellName) (k : ℕ) → name_of cs (number_after (length cs) c) ≡ None
     → name_of (cs ++ c ∷ []) k ≡ (if number_after (length cs) c == k then Some c.name else name_of cs k)
 name_on cs c k none =
@@ -68,7 +68,7 @@ name_on cs c k none =
 same_key : (a k : ℕ) → is_eq (nat_cmp a k) ≡ (a == k)
 same_key a k = grind (arith, nat_tests)
 
--- one name more, by its number
+-- one more name, by its number
 pub numbered_on : (m n : BTreeMap ℕ (List ℕ)) (cs : List CellName) (c : CellName) (number : ℕ) (name : List ℕ)
     → ((k : ℕ) → get nat_cmp m k ≡ name_of cs k) → number ≡ number_after (length cs) c → name ≡ c.name
     → name_of cs number ≡ None
@@ -95,7 +95,7 @@ cond_or true false = refl
 cond_or false true = refl
 cond_or false false = refl
 
--- one name more, among all
+-- one more name in the set of names
 pub seen_on : (s t : BTreeSet (Vec ℕ)) (cs : List CellName) (c : CellName) (key : Vec ℕ)
     → ((q : Vec ℕ) → contains (λ x y. slice_cmp nat_cmp x.items y.items) s q ≡ list_any (bytes_eq q.items) (names cs))
     → key.items ≡ c.name
@@ -110,7 +110,7 @@ seen_on s t cs c key old is u q =
     ∙ sym (list_any-append (bytes_eq q.items) (names cs) (c.name ∷ []))
     ∙ ap (list_any (bytes_eq q.items)) (sym (map-append (λ (o : CellName). o.name) cs (c ∷ [])))
 
--- a name is among the names where the set has it
+-- the set has exactly the names so far
 pub seen_contains : (cs : List CellName) (name : List ℕ) → list_any (bytes_eq name) (names cs) ≡ true
     → Contains (names cs) name
 seen_contains cs name h = Contains-from_any (λ x y e. (bytes_eq-Decides x y).0 e) name (names cs) h
@@ -127,7 +127,7 @@ number_is : (o : Option ℕ) (n m k : ℕ) → k ≡ unwrap_or o n → n ≡ m �
 number_is None n m k e h = e ∙ h
 number_is (Some j) n m k e h = e
 
--- what is known of a name whose number no other has
+-- a name whose number no other has
 pub record IsFresh (n : Names) (c : CellName) (number : ℕ) (key : Vec ℕ) : Type 0 where
   pub number_of : number ≡ unwrap_or c.number (btree_map_len n.by_number)
   pub free : is_some (get nat_cmp n.by_number number) ≡ false
@@ -149,7 +149,7 @@ unrepeated n cs c number key h f r =
     let e : name_of cs (number_after (length cs) c) ≡ None = subst (λ k. name_of cs k ≡ None) p.0 p.1 in
     let z : false ≡ true = ap is_some (sym e) ∙ r in cc
 
--- the set has the name: an earlier record gave it
+-- if the set has the name, an earlier record has it
 pub name_twice : (n : Names) (cs : List CellName) (c : CellName) (number : ℕ) (key : Vec ℕ) → HoldsNames n cs
     → IsFresh n c number key
     → contains (λ x y. slice_cmp nat_cmp x.items y.items) n.seen key ≡ true
@@ -159,7 +159,7 @@ name_twice n cs c number key h f t = (
   seen_contains cs c.name (ap (λ s. list_any (bytes_eq s) (names cs)) (sym f.key_is) ∙ sym (h.seen key) ∙ t),
 )
 
--- the set hasn't the name: no rule is breached
+-- if the set doesn't have the name, it breaches no rule
 pub name_none : (n : Names) (cs : List CellName) (c : CellName) (number : ℕ) (key : Vec ℕ) → HoldsNames n cs
     → IsFresh n c number key
     → contains (λ x y. slice_cmp nat_cmp x.items y.items) n.seen key ≡ false → (rule : NameRule)

@@ -1,4 +1,4 @@
--- What a whole reading and a refusal say of every reading.
+-- What a library that was read, and a refusal, say about every reading of the bytes.
 use Rattle.std.proofs.Common.{◌≡◌, ℕ, List, sym, ap, ◌∙◌, subst, Result, Ok, Err, IfErr, map}
 use Rattle.std.specs.Prelude.{Option}
 use Rattle.lvl_refusal.specs.Refused.{Says}
@@ -36,7 +36,7 @@ same_items : (ignore : Ignore) (xs : List ℕ) (is js : List Item) → SpellsWho
     → SpellsWhole (oasis ignore) xs js → is ≡ js
 same_items ignore xs is js p q = one_whole (oasis ignore) (is_grammar ignore) xs is js p q
 
--- bytes spell one library at most
+-- bytes spell at most one library
 pub law_only : (ignore : Ignore) (xs : List ℕ) (cells ds : List (PlainCell Figure)) (h g : OasisHead)
     → SpellsLibrary ignore xs cells h
     → SpellsLibrary ignore xs ds g → (ds ≡ cells) × (g ≡ h)
@@ -69,14 +69,14 @@ law_read ignore xs is found h whole are head =
       kept_as = k.kept_as;
     }
 
--- a number that no name has, of the cells as they are kept
+-- a number that no name has, in the cells as they are kept
 pub law_unresolved : (ignore : Ignore) (xs : List ℕ) (is : List Item) (n : ℕ) → SpellsWhole (oasis ignore) xs is
     → IsUnnamed (names_in (records is)) (numbers_used (map with_rings (drawings (records is)))) n
     → ReportsUnresolved ignore xs n
 law_unresolved ignore xs is n whole u =
     (is, whole, subst (λ l. IsUnnamed (names_in (records is)) l n) (numbers_kept (drawings (records is))) u)
 
--- where there is no whole file no library is spelled
+-- if the bytes aren't a whole file, they spell no library
 none_spelled : (ignore : Ignore) (xs : List ℕ) → SpellsNothing (oasis ignore) xs → SpellsNone ignore xs
 none_spelled ignore xs n cells h p = n p.items p.whole
 
@@ -141,7 +141,7 @@ unread_of : (ignore : Ignore) (xs : List ℕ) (left : Option (List ℕ)) (f : Oa
 unread_of ignore xs left (At at k) x = unread_at ignore xs left at k x
 unread_of ignore xs left (Unresolved n) x = tt
 
--- of an answer
+-- the same for a result
 refused : {A : Type 0} (ignore : Ignore) (xs : List ℕ) (left : Option (List ℕ)) (P : OasisFault → Type 0)
     → ((f : OasisFault) → Refuses ignore xs left f → P f) → (r : Result A (Cause OasisFault))
     → IfErr r (λ e. Says e (Refuses ignore xs left)) → IfErr r (λ e. Says e P)
@@ -173,7 +173,7 @@ refused_unread : {A : Type 0} (ignore : Ignore) (xs : List ℕ) (left : Option (
     → IfErr r (λ e. Says e (Refuses ignore xs left)) → IfErr r (λ e. Says e (ReportsUnread ignore xs left))
 refused_unread ignore xs left = refused ignore xs left (ReportsUnread ignore xs left) (unread_of ignore xs left)
 
--- of the bytes that are left in the end
+-- the same for the bytes that are left in the end
 pub unread_left : {A : Type 0} (ignore : Ignore) (xs : List ℕ) (left left' : Option (List ℕ))
     (r : Result A (Cause OasisFault))
     → IfErr r (λ e. Says e (Refuses ignore xs left)) → left ≡ left'

@@ -1,4 +1,4 @@
--- Numbers replaced by names: in one way at most, and all or none.
+-- Numbers are replaced by names in at most one way, for all or for none.
 use Rattle.std.proofs.Common.{◌≡◌, ℕ, List, [], ◌∷◌, ◌++◌, map, Some, None, refl, sym, ap, ◌∙◌, subst, append_assoc}
 use Rattle.std.proofs.Common.{All}
 use Rattle.std.specs.Prelude.{flat_map, IsSome, is_some, Option, Bool, true, false, Result, Ok, Err, IfErr}
@@ -33,7 +33,7 @@ zip-snoc R [] (b ∷ ys) x y p q = absurd p
 zip-snoc R (a ∷ xs) [] x y p q = absurd p
 zip-snoc R (a ∷ xs) (b ∷ ys) x y p q = (p.0, zip-snoc R xs ys x y p.1 q)
 
--- a name that is meant has its number
+-- a number that stands for a name has one
 some_is : {A : Type 0} (o : Option A) (x : A) → o ≡ Some x → IsSome o
 some_is o x e = ap is_some e
 
@@ -67,7 +67,7 @@ cells_named names (d ∷ ds) [] h = absurd h
 cells_named names (d ∷ ds) (c ∷ cs) h =
     All-append (IsNamed names) (numbers_in d) (numbers_used ds) (cell_named names d c h.0) (cells_named names ds cs h.1)
 
--- the first number that no name has, among others
+-- the first number without a name, after numbers with names
 pub unnamed_after : (names : List CellName) (xs ys : List ℕ) (n : ℕ) → All (IsNamed names) xs → IsUnnamed names ys n
     → IsUnnamed names (xs ++ ys) n
 unnamed_after names xs ys n h u = record {
@@ -91,7 +91,7 @@ unnamed_before names xs ys n u = record {
 pub unnamed_one : (names : List CellName) (n : ℕ) → name_of names n ≡ None → IsUnnamed names (n ∷ []) n
 unnamed_one names n e = record { before = []; after = []; there = refl; named = All-nil (IsNamed names); unnamed = e }
 
--- it is none of those that all have names
+-- it isn't one of those that have names
 last_of : (P : ℕ → Type 0) (xs ys : List ℕ) (n : ℕ) → All P (xs ++ n ∷ ys) → P n
 last_of P [] ys n h = All-head P n ys h
 last_of P (x ∷ xs) ys n h = last_of P xs ys n (All-tail P x (xs ++ n ∷ ys) h)
@@ -103,7 +103,7 @@ unnamed_none names used n h u =
     (subst (All (IsNamed names)) u.there h) in
     let z : false ≡ true = ap is_some (sym u.unnamed) ∙ some in cc
 
--- names are meant in one way
+-- numbers stand for names in only one way
 abbrev make_reference : List ℕ → Bool → Turn → Point → List Point → PlainReference
 make_reference cell flip turn at shifts = record { cell = cell; flip = flip; turn = turn; at = at; shifts = shifts }
 
@@ -151,7 +151,7 @@ same_cells {F = F} names (d ∷ ds) (c ∷ cs) (e ∷ es) p q =
     q.0.references) in
     ap (λ (i : PlainCell F). i ∷ es) one ∙ ap (λ l. c ∷ l) (same_cells names ds cs es p.1 q.1)
 
--- cells with rings for figures are cells of figures, as they are kept
+-- cells with rings for their figures are the cells of figures, as they are kept
 pub record AreKept (names : List CellName) (ds : List (PlainDrawing Figure)) (found : List (PlainCell Rings)) : Type 0
   where
     pub cells : List (PlainCell Figure)
@@ -178,11 +178,11 @@ kept_cells names (d ∷ ds) (c ∷ found) h =
           ∙ ap (λ l. ringed c.name (with_rings d).shapes c.references ∷ l) rest.kept_as;
     }
 
--- rings use the numbers that figures use
+-- cells of rings use the same numbers as cells of figures
 pub numbers_kept : (ds : List (PlainDrawing Figure)) → numbers_used (map with_rings ds) ≡ numbers_used ds
 numbers_kept ds = flat_map-map numbers_in with_rings ds
 
--- a list that is gone over item by item: those that came, the one that comes, and those to come
+-- a loop over a list: the elements that it has passed, the next one, and those still to come
 pub rest_goes : {A : Type 0} (all came rest after : List A) (x : A) → came ++ rest ≡ all → rest ≡ x ∷ after
     → (came ++ x ∷ []) ++ after ≡ all
 rest_goes all came rest after x e h = append_assoc came (x ∷ []) after ∙ ap (λ l. came ++ l) (sym h) ∙ e
@@ -203,7 +203,7 @@ says_more : {F : Type 0} (P Q : F → Type 0) (e : Cause F) → ((f : F) → P f
 says_more P Q (Breach f) h s = h f s
 says_more P Q OutOfMemory h s = tt
 
--- whether a refusal is one of the reader's
+-- whether a refusal is that the reader failed
 abbrev pub is_refusal_read : Cause OasisFault → Bool
 is_refusal_read (Breach f) = is_read_error f
 is_refusal_read OutOfMemory = false
@@ -212,7 +212,7 @@ is_read_err : (A : Type 0) (e : Cause OasisFault) → is_read {A = A} (Err e) �
 is_read_err A (Breach f) = refl
 is_read_err A OutOfMemory = refl
 
--- it still is where the refusal is passed on
+-- the same, if the refusal is passed on
 pub read_carried : (A : Type 0) (r : Result A (Cause OasisFault)) (e : Cause OasisFault)
     → IsErr r × IsErrAnd r (λ x. x ≡ e) → is_refusal_read e ≡ is_read r
 read_carried A (Ok x) e g = (let z : false ≡ true = g.0 in cc)

@@ -21,7 +21,7 @@ use Rattle.oasis_figures.specs.declared.variable.Variable.TheVariants.{Placement
 use Rattle.oasis_library.specs.Cells.{PlainDrawing}
 use Rattle.oasis_library.specs.inside.Taken.{IsTaken, grown}
 
--- a PLACEMENT whose cell is unknown breaches a rule
+-- a PLACEMENT whose cell is undefined breaches a rule
 unknown_cell : (earlier : List Record) (r : Record) (x : Placed) (xs : List Placed) → x ∷ xs ≡ placements_of earlier r
     → BreachesNone earlier r → modal cell_set (r ∷ earlier) ≡ None → ⊥
 unknown_cell earlier (Placement p) x xs e none h =
@@ -30,7 +30,7 @@ unknown_cell earlier (Placement p) x xs e none h =
     (of_repetition p.position.repetition) else Some PlacementCell) h)
 unknown_cell earlier _ x xs e none h = cc
 
--- the cell of a placement is known
+-- the cell of a placement is defined
 pub known_cell : (earlier : List Record) (r : Record) (by : Map) (m : Modal) → IsTaken earlier r (Some (Placing by)) m
     → modal cell_set (r ∷ earlier) ≡ None → ⊥
 known_cell earlier r by m t h = unknown_cell earlier r _ [] t.draws.placements t.none h

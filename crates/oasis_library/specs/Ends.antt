@@ -1,4 +1,4 @@
--- What a refusal says of the input.
+-- What a refusal says about the input.
 use Rattle.std.specs.Prelude.{ℕ, Bool, false, List, Option, Result, Ok, Err}
 use Rattle.lvl_refusal.specs.declared.Cause.{Cause}
 use Rattle.lvl_refusal.specs.declared.Cause.TheVariants.{Breach, OutOfMemory}
@@ -16,29 +16,30 @@ use Rattle.oasis_library.specs.Names.{numbers_used, IsUnnamed}
 use Rattle.oasis_library.specs.declared.fault.OasisFault.{OasisFault}
 use Rattle.oasis_library.specs.declared.fault.OasisFault.TheVariants.{At, Unresolved}
 
--- the bytes are a whole file, and of the numbers that its cells use this is the first that no name has
+-- the bytes are a whole file, and n is the first number used in it that no CELLNAME has
 abbrev pub ReportsUnresolved : Ignore → List ℕ → ℕ → Type 0
 ReportsUnresolved ignore xs n =
     (is : List Item) × SpellsWhole (oasis ignore) xs is × IsUnnamed (names_in (records is))
     (numbers_used (drawings (records is))) n
 
+-- the fault and its offset are right
 abbrev pub Reports : Ignore → List ℕ → OasisFault → Type 0
 Reports ignore xs (At at k) = ReportsAt ignore xs at k
 Reports ignore xs (Unresolved n) = ReportsUnresolved ignore xs n
 
--- the fault says nothing of the input: the reader failed
+-- the fault says nothing about the input, since the reader failed
 abbrev pub IsExcused : OasisFault → Type 0
 IsExcused (At at (Value Read)) = Unit {0}
 IsExcused f = ⊥
 
--- where the reader failed, the bytes before the offset are a front, and those from it on that it gave are none or an
--- unfinished beginning of a record; the others are left
+-- if the reader failed, the bytes before the offset are a front; of those from it on, the ones that it gave are none or
+-- an unfinished beginning of a record, and it has the others left
 abbrev pub ReportsUnread : Ignore → List ℕ → Option (List ℕ) → OasisFault → Type 0
 ReportsUnread ignore xs left (At at (Value Read)) = IsUnread (oasis ignore) xs left at
 ReportsUnread ignore xs left f = Unit {0}
 
--- the fault is reported as soon as it is seen, whatever may still come: the input needn't have ended, and the reader
--- didn't fail
+-- the fault is decided by the bytes that were taken, whatever comes after them: it is neither that the input ended nor
+-- that the reader failed
 abbrev pub IsEarly : OasisFault → Type 0
 IsEarly (At at (Value Truncated)) = ⊥
 IsEarly (At at (Value Read)) = ⊥
@@ -50,7 +51,7 @@ abbrev pub is_read_error : OasisFault → Bool
 is_read_error (At at k) = is_read_kind k
 is_read_error (Unresolved n) = false
 
--- whether the answer is that the reader failed
+-- whether the result is that the reader failed
 abbrev pub is_read : {A : Type 0} → Result A (Cause OasisFault) → Bool
 is_read (Ok x) = false
 is_read (Err (Breach f)) = is_read_error f

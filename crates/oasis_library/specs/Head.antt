@@ -1,4 +1,4 @@
--- What a file says of itself (SEMI P39 OASIS 1.0, "START record", "END record").
+-- The head of a file (SEMI P39 OASIS 1.0, "START record", "END record").
 use Rattle.std.specs.Prelude.{ℕ, List, [], ◌∷◌, flat_map}
 use Rattle.oasis_values.specs.declared.number.Real.{Real}
 use Rattle.oasis_values.specs.declared.number.Real.TheVariants.{Whole}
@@ -12,7 +12,7 @@ use Rattle.oasis_library.specs.declared.head.OasisHead.{OasisHead}
 abbrev pub head_with : Real → ℕ → List ℕ → OasisHead
 head_with unit scheme signature = record { unit = unit; scheme = scheme; signature = signature }
 
--- the signature is four zero bytes where there is none
+-- the head by the unit and the validation; without a signature its bytes are four zeros
 abbrev pub head : Real → Validation → OasisHead
 head unit Absent = head_with unit 0 (0 ∷ 0 ∷ 0 ∷ 0 ∷ [])
 head unit (Crc32 bytes) = head_with unit 1 bytes
@@ -26,6 +26,6 @@ abbrev pub validation_in : Record → List Validation
 validation_in (End v) = v ∷ []
 validation_in r = []
 
--- the unit is START's, the validation END's
+-- the head of a file: the unit in START, and the validation in END
 abbrev pub head_of : List Record → OasisHead
 head_of rs = head (last_or (Whole 0) (flat_map unit_in rs)) (last_or Absent (flat_map validation_in rs))

@@ -12,8 +12,8 @@ use Rattle.oasis_library.specs.Head.{head_of}
 use Rattle.oasis_library.specs.Names.{AreCells}
 use Rattle.oasis_library.specs.declared.head.OasisHead.{OasisHead}
 
--- for a reader that ignores these, the bytes spell a library and a head: they are a whole file, the cells are those
--- that its records draw, by the names that its CELLNAME records give, and the head is what its START and END say
+-- the bytes are a whole file; the cells are those that its records draw, with numbers replaced by the names in its
+-- CELLNAME records; and the head is what its START and END say
 pub record SpellsLibrary (ignore : Ignore) (bytes : List ℕ) (cells : List (PlainCell Figure)) (h : OasisHead) : Type 0
   where
     pub items : List Item
@@ -25,7 +25,8 @@ pub record SpellsLibrary (ignore : Ignore) (bytes : List ℕ) (cells : List (Pla
 abbrev pub SpellsNone : Ignore → List ℕ → Type 0
 SpellsNone ignore xs = (cells : List (PlainCell Figure)) (h : OasisHead) → SpellsLibrary ignore xs cells h → ⊥
 
--- what was read is the one library that the bytes spell, as it is kept, and its head
+-- the bytes spell exactly one library and one head; what was found is that head, and that library with its figures as
+-- rings
 pub record IsRead (ignore : Ignore) (xs : List ℕ) (found : List (PlainCell Rings)) (h : OasisHead) : Type 0 where
   pub cells : List (PlainCell Figure)
   pub spelled : SpellsLibrary ignore xs cells h

@@ -1,4 +1,4 @@
--- Cells by their names, where numbers are replaced by names.
+-- Cells with the numbers of cells replaced by names.
 use Rattle.std.specs.Prelude.{◌≡◌, ℕ, List, [], ◌∷◌, ◌++◌, flat_map, All, Some, None, IsSome}
 use Rattle.std.specs.List.{AllZip}
 use Rattle.lvl_cells.specs.Cells.{PlainCell, PlainReference}
@@ -9,7 +9,7 @@ use Rattle.oasis_figures.specs.Figures.{Placed}
 use Rattle.oasis_stream.specs.Names.{name_of, meant}
 use Rattle.oasis_library.specs.Cells.{PlainDrawing}
 
--- the reference is to the cell that is placed, by the name that is meant
+-- the reference is the placement, with the number of its cell replaced by a name
 pub record IsReference (names : List CellName) (p : Placed) (r : PlainReference) : Type 0 where
   pub cell : meant names p.cell ≡ Some r.cell
   pub flip : r.flip ≡ p.flip
@@ -17,16 +17,18 @@ pub record IsReference (names : List CellName) (p : Placed) (r : PlainReference)
   pub at : r.at ≡ p.at
   pub shifts : r.shifts ≡ p.shifts
 
--- the cell is the one that is drawn, by the names that are meant
+-- the cell is the drawing, with numbers replaced by names
 pub record IsCell {F : Type 0} (names : List CellName) (d : PlainDrawing F) (c : PlainCell F) : Type 0 where
   pub name : meant names d.name ≡ Some c.name
   pub shapes : c.shapes ≡ d.shapes
   pub references : AllZip (IsReference names) d.placements c.references
 
+-- the cells are the drawings, in the same order, with numbers replaced by names
 abbrev pub AreCells : {F : Type 0} → List CellName → List (PlainDrawing F) → List (PlainCell F) → Type 0
 AreCells names ds cs = AllZip (IsCell names) ds cs
 
--- the numbers that are used, in file order
+-- the numbers used in a cell and in a file, in the order of the file; the own number of a cell comes before those that
+-- it places
 abbrev pub number_in : CellRef → List ℕ
 number_in (Number n) = n ∷ []
 number_in (Name s) = []
@@ -37,10 +39,11 @@ numbers_in d = number_in d.name ++ flat_map (λ p. number_in p.cell) d.placement
 abbrev pub numbers_used : {F : Type 0} → List (PlainDrawing F) → List ℕ
 numbers_used ds = flat_map numbers_in ds
 
+-- some name has the number n
 abbrev pub IsNamed : List CellName → ℕ → Type 0
 IsNamed names n = IsSome (name_of names n)
 
--- of numbers it is the first that no name has
+-- n is the first of the numbers used that no name has
 pub record IsUnnamed (names : List CellName) (used : List ℕ) (n : ℕ) : Type 0 where
   pub before : List ℕ
   pub after : List ℕ

@@ -1,4 +1,4 @@
-//! The cells of a file while it is read.
+//! The cells of a file that is being read.
 ghost use Rattle.std.specs.Prelude.{◌≡◌, ◌++◌, ◌∷◌, [], OnOk, IfOk, List};
 ghost use Rattle.oasis_records.specs.declared.record.Record.{Record};
 ghost use Rattle.oasis_library.specs.inside.Kept.{begun, on_last};
@@ -11,7 +11,7 @@ use oasis_records::CellRef;
 use std::alloc::{AllocError, Global};
 use std::marker::Model;
 
-/// The cells that other cells follow, and the last one.
+/// The cells that are complete, and the last one.
 #[derive(Drop)]
 pub(crate) struct Cells {
     whole: Vec<Drawing>,
@@ -31,7 +31,7 @@ impl Model for Cells {
 }
 
 impl Cells {
-    /// No cell yet.
+    /// No cells.
     pub(crate) fn new(alloc: Global) -> Cells
         ensures { result ≡ [] }
     {
@@ -53,7 +53,8 @@ impl Cells {
         Ok(())
     }
 
-    /// Adds what the record draws that the modal variables took last to the last cell, if there is one.
+    /// Adds what the last record draws, of which `modal` has the shifts and the cell, to the last cell, if
+    /// there is one.
     pub(crate) fn add(
         &mut self,
         alloc: Global,
@@ -72,7 +73,7 @@ impl Cells {
         Ok(())
     }
 
-    /// All of them, in file order.
+    /// All cells, in the order of the file.
     pub(crate) fn into_drawings(self) -> Result<Vec<Drawing>, AllocError>
         ensures { IfOk result (λ drawings. drawings.items ≡ self) }
     {

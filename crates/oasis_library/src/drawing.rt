@@ -1,4 +1,4 @@
-//! A cell while its records are read.
+//! A cell whose records are being read.
 ghost use Rattle.std.specs.Prelude.{◌≡◌, OnOk, IfOk, List, Some};
 ghost use Rattle.oasis_records.specs.declared.record.Record.{Record};
 ghost use Rattle.oasis_figures.specs.declared.drawn.Drawn.TheVariants.{Placement as APlacement};
@@ -13,7 +13,7 @@ use oasis_records::CellRef;
 use std::alloc::{AllocError, Global};
 use std::marker::Model;
 
-/// A cell by its number or its name, with the shapes and the placements of its records so far.
+/// A cell by its number or its name, with what its records so far draw and place.
 #[derive(Drop)]
 pub(crate) struct Drawing {
     pub(crate) name: Target,
@@ -33,7 +33,7 @@ impl Model for Drawing {
 }
 
 impl Drawing {
-    /// A cell that has nothing yet.
+    /// A cell that has no shapes or placements yet.
     pub(crate) fn new(alloc: Global, name: Target) -> Drawing
         ensures { result ≡ begun (target_ref name) }
     {
@@ -44,7 +44,7 @@ impl Drawing {
         }
     }
 
-    /// Adds what the record draws that the modal variables took last.
+    /// Adds what the last record draws, of which `modal` has the shifts and the cell.
     pub(crate) fn add(
         &mut self,
         alloc: Global,
@@ -84,8 +84,8 @@ impl Drawing {
         Ok(())
     }
 
-    // What a placement of that cell refers to; the name is shared with the last placement where that is
-    // of the same cell.
+    // The target of a placement of that cell. It shares the name of the last placement if that is of the
+    // same cell.
     fn target_for(&self, alloc: Global, cell: &CellRef) -> Result<Target, AllocError>
         ensures { IfOk result (λ target. target_ref target ≡ cell.now) }
     {

@@ -1,4 +1,4 @@
-//! What a file says of itself.
+//! What a file says about itself.
 ghost use Rattle.std.specs.Prelude.{◌≡◌};
 ghost use Rattle.oasis_values.specs.declared.number.Real.TheVariants.{Whole};
 ghost use Rattle.oasis_records.specs.declared.end.Validation.TheVariants.{Absent};
@@ -8,19 +8,19 @@ ghost use Rattle.oasis_library.specs.Head.{head, unit_in, validation_in};
 use oasis_records::{Record, Validation};
 use oasis_values::Real;
 
-/// The unit of START, and how END says that the file may be validated (SEMI P39, "START record", "END
-/// record"). The signature isn't judged.
+/// The unit in START, and the validation in END (SEMI P39, "START record", "END record"). The signature
+/// isn't checked.
 #[derive(Clone, Copy, Debug, PartialEq, Eq)]
 pub struct OasisHead {
-    /// Grid steps in a micrometre.
+    /// The number of grid steps in a micrometre.
     pub unit: Real,
-    /// 0 for none, 1 for CRC32, 2 for checksum32.
+    /// The validation scheme: 0 for none, 1 for CRC32, 2 for checksum32.
     pub scheme: u8,
-    /// The bytes in file order; four zero bytes for scheme 0.
+    /// The bytes of the signature in the order of the file; four zero bytes for scheme 0.
     pub signature: [u8; 4],
 }
 
-/// What START and END said so far.
+/// What START and END have said so far.
 #[derive(Clone, Copy, Drop)]
 pub(crate) struct HeadRecords {
     unit: Real,
@@ -28,7 +28,7 @@ pub(crate) struct HeadRecords {
 }
 
 impl HeadRecords {
-    /// Neither was read.
+    /// Neither has been read.
     pub(crate) fn new() -> HeadRecords
         ensures unit { result.unit ≡ Whole 0 }
         ensures validation { result.validation ≡ Absent }
@@ -39,7 +39,7 @@ impl HeadRecords {
         }
     }
 
-    /// Goes on after that record.
+    /// Takes what the record says, if it is START or END.
     pub(crate) fn pass(&mut self, taken: &Record)
         ensures unit { self.new.unit ≡ last_or self.old.unit (unit_in taken.now) }
         ensures validation { self.new.validation ≡ last_or self.old.validation (validation_in taken.now) }

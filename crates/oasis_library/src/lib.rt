@@ -1,8 +1,8 @@
-//! Libraries read from OASIS files (SEMI P39 OASIS 1.0).
+//! Reads libraries from OASIS files (SEMI P39 OASIS 1.0).
 //!
-//! [`read_oasis`] reads a file record by record: [`oasis_stream`] says which records may come and
-//! [`oasis_figures`] what each of them draws; here they are put together to cells, and the numbers of
-//! cells are replaced by their names once the file is read.
+//! [`read_oasis`] reads a file record by record: [`oasis_stream`] says which records may come, and
+//! [`oasis_figures`] what each of them draws. This crate builds cells from these, and at the end of the
+//! file replaces their numbers by names.
 //!
 //! `bytes` is a file with one cell:
 //!

@@ -1,4 +1,4 @@
-//! The names that CELLNAME records give, by their numbers.
+//! The names in CELLNAME records, by their numbers.
 ghost use Rattle.std.specs.Prelude.{◌≡◌, [], ◌∷◌, ◌++◌, List, IfErr, OnOk, option_copied};
 ghost use Rattle.lvl_refusal.specs.Refused.{Says};
 ghost use Rattle.oasis_records.specs.declared.cell.CellName.{CellName as Given};
@@ -15,7 +15,7 @@ use oasis_stream::NameRule;
 use std::alloc::Global;
 use std::collections::{BTreeMap, BTreeSet};
 
-/// The names so far. A name has its own number, or that of the names before it.
+/// The names so far. A name without a number of its own has the number of names before it.
 #[derive(Drop)]
 pub(crate) struct Names {
     by_number: BTreeMap<u64, Name>,
@@ -23,7 +23,7 @@ pub(crate) struct Names {
 }
 
 impl Names {
-    /// No name yet.
+    /// No names.
     pub(crate) fn new(alloc: Global) -> Names
         ensures { HoldsNames result [] }
     {
@@ -33,14 +33,14 @@ impl Names {
         }
     }
 
-    /// The name of that number, if there is one.
+    /// The name with this number, if there is one.
     pub(crate) fn get(&self, number: u64) -> Option<&Name>
         ensures { (names : List Given) → HoldsNames self.now names → option_copied result ≡ name_of names number }
     {
         self.by_number.get(&number)
     }
 
-    /// Adds the name that the record gives, if it gives one.
+    /// Adds the name in the record, if it is a CELLNAME.
     pub(crate) fn take(&mut self, alloc: Global, taken: &Record) -> Result<(), Cause<NameRule>>
         ensures refused { IfErr result (λ e. Says e (λ rule.
             (names : List Given) → HoldsNames self.old names → NamingBreaches names taken.now rule)) }

@@ -1,4 +1,4 @@
-//! A cell that is placed in another, by the number of its name or by its name.
+//! Placements of cells that are given by the numbers of their names or by their names.
 ghost use Rattle.std.specs.Prelude.{◌≡◌, IfOk, IsTrue, All};
 ghost use Rattle.lvl_grid.specs.Turn.{FitsPoint, shifted};
 ghost use Rattle.oasis_library.specs.inside.Kept.{target_ref};
@@ -18,7 +18,7 @@ pub(crate) enum Target {
 }
 
 impl Target {
-    /// That cell.
+    /// The target that is this cell.
     pub(crate) fn of(alloc: Global, cell: &CellRef) -> Result<Target, AllocError>
         ensures { IfOk result (λ target. target_ref target ≡ cell.now) }
     {
@@ -32,7 +32,7 @@ impl Target {
         }
     }
 
-    /// Whether it is that cell, by the same number or the same name.
+    /// Whether it is this cell, by the same number or the same name.
     pub(crate) fn is(&self, cell: &CellRef) -> bool
         ensures { IsTrue result → target_ref self.now ≡ cell.now }
     {
@@ -43,7 +43,7 @@ impl Target {
         }
     }
 
-    /// The same cell. A name is shared.
+    /// The same target. It shares the name.
     pub(crate) fn share(&self) -> Result<Target, AllocError>
         ensures { IfOk result (λ target. target ≡ self.now) }
     {
@@ -57,7 +57,7 @@ impl Target {
     }
 }
 
-/// A cell that is placed by a map, at each of the shifts. Every place is within 64 signed bits.
+/// A cell that is placed by a map, at each of the shifts. Every place fits in 64 signed bits.
 #[derive(Drop)]
 pub(crate) struct Placement {
     pub(crate) target: Target,
@@ -99,7 +99,7 @@ impl Placement {
         Placement { target, by, shifts }
     }
 
-    /// What a placement of that cell refers to. A name is shared with this one, where it is the same.
+    /// The target of a placement of that cell. It shares the name of this one if that is the same.
     pub(crate) fn target_for(&self, alloc: Global, cell: &CellRef) -> Result<Target, AllocError>
         ensures { IfOk result (λ target. target_ref target ≡ cell.now) }
     {

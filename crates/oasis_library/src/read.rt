@@ -1,4 +1,4 @@
-//! A library read from an input.
+//! Reads a library from a reader.
 ghost use Rattle.std.specs.Prelude.{◌≡◌, ◌≢◌, List, ℕ, OnOk, Some, Err, IfErr, IfOk, false};
 ghost use Rattle.lvl_io.specs.Bytes.{CountsFailure};
 ghost use Rattle.lvl_refusal.specs.Refused.{Says};
@@ -28,77 +28,80 @@ use oasis_stream::{OasisKind, read_first, read_next};
 use oasis_values::{Input, ValueFault};
 use std::alloc::Global;
 
-/// The most records of a file: each has a byte at least.
+/// The greatest number of records of a file: each has at least one byte.
 const MOST_RECORDS: u64 = 4_294_967_295;
 
-/// The library that an OASIS file spells, and what the file says of itself.
+/// The library that an OASIS file spells, and its head. Nothing is ignored.
 ///
-/// A file is the magic string, a START record, records, and an END record of 256 bytes (SEMI P39
-/// OASIS 1.0). A cell has the shapes and the references of the records after its CELL, in their order;
-/// a record that leaves a field out takes it from its modal variable, and at each CELL the modal
-/// variables begin anew. A cell that is given by a number has the name of the CELLNAME of that number,
-/// which may come anywhere in the file. The first record that is missing, malformed or breaches a rule
-/// is answered with its offset in bytes; once the file has ended, the first number that is used and
-/// that no CELLNAME has.
+/// A file is the magic string, a START record, records, and an END record of 256 bytes (SEMI P39 OASIS
+/// 1.0). A cell has the shapes and the references of the records after its CELL, in their order. A field
+/// that isn't in a record has the value of its modal variable; at each CELL the modal variables begin anew.
+/// A cell that is given by a number has the name in the CELLNAME of that number, which may come anywhere in
+/// the file. The first record that is missing, malformed or breaches a rule is reported with its offset in
+/// bytes. If there is none, the first number used that no CELLNAME has is reported.
 pub fn read_oasis<R: Read>(
     alloc: Global,
     reader: &mut R,
 ) -> Result<(Library, OasisHead), Cause<OasisFault>>
-    // What is read is spelled, and nothing else is.
+    // A library is returned only if the bytes spell it, and they spell no other.
     ensures spelled { (xs : List ℕ) → R.remaining reader.old ≡ Some xs
         → IfOk result (λ read. IsRead nothing xs read.0 read.1) }
 
-    // A refusal names what is wrong, and nothing is spelled, unless an allocation or the reader failed.
+    // A refusal names what is wrong, and the bytes spell no library, unless an allocation or the reader
+    // failed.
     ensures refused { (xs : List ℕ) → R.remaining reader.old ≡ Some xs
         → IfErr result (λ refusal. Says refusal (Reports nothing xs)) }
     ensures none { (xs : List ℕ) → R.remaining reader.old ≡ Some xs
         → IfErr result (λ refusal. Says refusal (λ fault. (¬ IsExcused fault) → SpellsNone nothing xs)) }
 
-    // Where the reader failed, it had given no whole record from the offset on.
+    // If the reader failed, it had given no whole record from the offset on.
     ensures unread { (xs : List ℕ) → R.remaining reader.old ≡ Some xs
         → IfErr result (λ refusal. Says refusal (ReportsUnread nothing xs (R.remaining reader.new))) }
 
-    // Unless the input ended, nothing is spelled whatever comes after the bytes taken.
+    // If a record is refused, and neither did the input end nor the reader fail, no file that
+    // begins with the bytes taken spells a library.
     ensures early { (xs : List ℕ) → R.remaining reader.old ≡ Some xs
         → IfErr result (λ refusal. Says refusal (λ fault. IsEarly fault
         → IsHopeless (oasis nothing) xs (R.remaining reader.new))) }
 
-    // The reader failed once where `Read` is reported, and else never.
+    // The reader failed exactly once if `Read` is reported, and otherwise never.
     ensures reads { CountsFailure (R.read_errors reader.old) (R.read_errors reader.new) (is_read result) }
     ensures same { R.lent reader.new ≡ R.lent reader.old }
 {
     read_oasis_by(alloc, reader, Ignore::NOTHING)
 }
 
-/// The library that an OASIS file spells, and what the file says of itself, where these records and
-/// this padding are ignored: each is read as the standard lays it out, and draws nothing.
+/// The library that an OASIS file spells, and its head, with some records and padding ignored. What
+/// is ignored must have the form of the standard.
 ///
-/// All that [`read_oasis`] says holds with these. What it reads is read in the same way, whatever is ignored.
+/// Everything else is as in [`read_oasis`]. What that reads is read in the same way, whatever is ignored.
 pub fn read_oasis_by<R: Read>(
     alloc: Global,
     reader: &mut R,
     ignore: Ignore,
 ) -> Result<(Library, OasisHead), Cause<OasisFault>>
-    // What is read is spelled, and nothing else is.
+    // A library is returned only if the bytes spell it, and they spell no other.
     ensures spelled { (xs : List ℕ) → R.remaining reader.old ≡ Some xs
         → IfOk result (λ read. IsRead ignore xs read.0 read.1) }
 
-    // A refusal names what is wrong, and nothing is spelled, unless an allocation or the reader failed.
+    // A refusal names what is wrong, and the bytes spell no library, unless an allocation or the reader
+    // failed.
     ensures refused { (xs : List ℕ) → R.remaining reader.old ≡ Some xs
         → IfErr result (λ refusal. Says refusal (Reports ignore xs)) }
     ensures none { (xs : List ℕ) → R.remaining reader.old ≡ Some xs
         → IfErr result (λ refusal. Says refusal (λ fault. (¬ IsExcused fault) → SpellsNone ignore xs)) }
 
-    // Where the reader failed, it had given no whole record from the offset on.
+    // If the reader failed, it had given no whole record from the offset on.
     ensures unread { (xs : List ℕ) → R.remaining reader.old ≡ Some xs
         → IfErr result (λ refusal. Says refusal (ReportsUnread ignore xs (R.remaining reader.new))) }
 
-    // Unless the input ended, nothing is spelled whatever comes after the bytes taken.
+    // If a record is refused, and neither did the input end nor the reader fail, no file that
+    // begins with the bytes taken spells a library.
     ensures early { (xs : List ℕ) → R.remaining reader.old ≡ Some xs
         → IfErr result (λ refusal. Says refusal (λ fault. IsEarly fault
         → IsHopeless (oasis ignore) xs (R.remaining reader.new))) }
 
-    // The reader failed once where `Read` is reported, and else never.
+    // The reader failed exactly once if `Read` is reported, and otherwise never.
     ensures reads { CountsFailure (R.read_errors reader.old) (R.read_errors reader.new) (is_read result) }
     ensures same { R.lent reader.new ≡ R.lent reader.old }
 {
@@ -172,7 +175,7 @@ fn read_records<R: Read>(alloc: Global, input: &mut Input<R>) -> Result<Reading,
     Err(refuse(input.offset(), OasisKind::Value(ValueFault::TooLong)))
 }
 
-// Finds that the input has ended.
+// Tests that the input has ended.
 fn read_nothing<R: Read>(input: &mut Input<R>) -> Result<(), Cause<OasisFault>>
     requires { has_failed input.old ≡ false }
     ensures whole { OnOk result ((xs : List ℕ)
@@ -222,7 +225,7 @@ fn refuse(offset: u64, kind: OasisKind) -> Cause<OasisFault>
     Cause::Breach(OasisFault::At { offset, kind })
 }
 
-// The same refusal, at that offset.
+// The same refusal, with an offset.
 fn refused_at(offset: u64, refusal: Cause<OasisKind>) -> Cause<OasisFault>
     ensures { result ≡ refused_at offset refusal }
 {

@@ -1,4 +1,4 @@
-//! A file that is being read, record by record.
+//! Reads a file, record by record.
 ghost use Rattle.std.specs.Prelude.{◌≡◌, [], ◌∷◌, ◌++◌, List, IfErr, IfOk, OnOk, map};
 ghost use Rattle.lvl_refusal.specs.Refused.{Says};
 ghost use Rattle.oasis_records.specs.declared.record.Record.{Record as ARecord};
@@ -22,7 +22,7 @@ use oasis_records::Record;
 use oasis_stream::{NameRule, OasisKind, Order};
 use std::alloc::Global;
 
-/// What was read so far: which records may come, the names, the modal variables of the last cell, the
+/// What was read so far: which records may come next, the names, the modal variables of the last cell, the
 /// cells, and what START and END say.
 #[derive(Drop)]
 pub(crate) struct Reading {
@@ -33,7 +33,7 @@ pub(crate) struct Reading {
     head: HeadRecords,
 }
 
-// The same answer, where a rule of names is one of the file's.
+// The same result, with a rule of names as one of the file.
 fn of_name(answer: Result<(), Cause<NameRule>>) -> Result<(), Cause<OasisKind>>
     ensures { result ≡ of_name answer }
 {
@@ -44,7 +44,7 @@ fn of_name(answer: Result<(), Cause<NameRule>>) -> Result<(), Cause<OasisKind>>
     }
 }
 
-// The same answer, where a rule of figures is one of the file's.
+// The same result, with a rule of figures as one of the file.
 fn of_figure(
     answer: Result<Option<Drawn>, Cause<FigureRule>>,
 ) -> Result<Option<Drawn>, Cause<OasisKind>>
@@ -58,7 +58,7 @@ fn of_figure(
 }
 
 impl Reading {
-    /// No record was read.
+    /// The state before the first record.
     pub(crate) fn new(alloc: Global) -> Reading
         ensures { Holds result [] }
     {
@@ -78,7 +78,7 @@ impl Reading {
         &self.order
     }
 
-    /// Takes the next record, if it breaches no rule.
+    /// Takes the next record, unless it breaches a rule.
     pub(crate) fn take(&mut self, alloc: Global, next: Record) -> Result<(), Cause<OasisKind>>
         requires { (rs : List ARecord) × Holds self.old rs }
         ensures refused { IfErr result (λ e. Says e (λ kind.
@@ -101,7 +101,7 @@ impl Reading {
         Ok(())
     }
 
-    /// The library and the head of the file, or the first number that is used and that no name has.
+    /// The library and the head, or the first number used that no name has.
     pub(crate) fn finish(self, alloc: Global) -> Result<(Library, OasisHead), Cause<u64>>
         ensures cells { IfOk result (λ read. (rs : List ARecord) → Holds self rs
             → AreCells (names_in rs) (map with_rings (drawings rs)) read.0) }

@@ -1,4 +1,4 @@
-//! The numbers of cells are replaced by their names.
+//! Replaces the numbers of cells by their names.
 ghost use Rattle.std.specs.Prelude.{◌≡◌, List, [], ◌∷◌, Some, IfOk, IfErr, flat_map};
 ghost use Rattle.std.specs.List.{AllZip};
 ghost use Rattle.lvl_refusal.specs.Refused.{Says};
@@ -17,7 +17,7 @@ use lvl_names::Name;
 use lvl_refusal::Cause;
 use std::alloc::Global;
 
-// The name of that cell, or the number that no name has.
+// The name of the target, or its number if no name has it.
 fn name_of_target(names: &Names, target: Target) -> Result<Name, Cause<u64>>
     ensures ok { IfOk result (λ name. (given : List Given) → HoldsNames names.now given
         → meant given (target_ref target) ≡ Some name) }
@@ -36,7 +36,7 @@ fn name_of_target(names: &Names, target: Target) -> Result<Name, Cause<u64>>
     }
 }
 
-// A reference to the cell that is placed.
+// The reference that the placement is.
 fn reference_of(names: &Names, placement: Placement) -> Result<Reference, Cause<u64>>
     ensures ok { IfOk result (λ reference. (given : List Given) → HoldsNames names.now given
         → IsReference given placement reference) }
@@ -51,7 +51,7 @@ fn reference_of(names: &Names, placement: Placement) -> Result<Reference, Cause<
     }
 }
 
-// The references of a cell, in their order.
+// The references of a cell, in the order of its placements.
 fn references_of(
     alloc: Global,
     names: &Names,
@@ -70,7 +70,8 @@ fn references_of(
     Ok(references)
 }
 
-// A cell by its name. Its own number comes before those of the cells that it places.
+// The cell that the drawing is. Its own number is looked up before those of the cells that it
+// places.
 fn cell_of(alloc: Global, names: &Names, drawing: Drawing) -> Result<Cell, Cause<u64>>
     ensures ok { IfOk result (λ cell. (given : List Given) → HoldsNames names.now given → IsCell given drawing cell) }
     ensures err { IfErr result (λ e. Says e (λ number. (given : List Given) → HoldsNames names.now given
@@ -90,7 +91,7 @@ fn cell_of(alloc: Global, names: &Names, drawing: Drawing) -> Result<Cell, Cause
     })
 }
 
-/// The cells by their names, or the first number that is used and that no name has.
+/// The cells with numbers replaced by names, or the first number used that no name has.
 pub(crate) fn resolve_cells(
     alloc: Global,
     names: &Names,

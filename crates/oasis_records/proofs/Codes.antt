@@ -1,4 +1,4 @@
--- The laws of fields that are there, or not.
+-- The laws of fields that are there or aren't.
 use Rattle.std.proofs.Common.{ℕ, Bool, true, false}
 use Rattle.std.specs.Prelude.{Some}
 use Rattle.oasis_values.specs.Spelling.{Spelling}

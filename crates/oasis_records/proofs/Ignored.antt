@@ -87,7 +87,7 @@ property_of_code i =
 pub property_code : IsCode IsProperty
 property_code = and_then_code (then_code byte_code (λ i. gives_code)) (λ i. seen_code Ok (property_of_code i))
 
--- who ignores more reads the types that who ignores less reads
+-- if more is ignored, the same types are read, and perhaps more
 
 abbrev AllGrow : Ignore → Ignore → List Row → Type 0
 AllGrow less more [] = Unit {0}

@@ -1,4 +1,4 @@
--- The same of the other records.
+-- The spelling of each other record is prefix-free, and there are bytes that spell it.
 use Rattle.std.proofs.Common.{ℕ, ◌/◌, ◌%◌, Bool, true, false, Ok}
 use Rattle.oasis_values.proofs.Codes.{gives_code, then_code, chain_code, seen_code, IsCode}
 use Rattle.oasis_values.proofs.Integers.{byte_code, unsigned_code}

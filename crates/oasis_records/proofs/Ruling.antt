@@ -1,4 +1,4 @@
--- Calls one after another, of which the first has rules of records.
+-- Calls one after another, if the first has rules of records.
 use Rattle.std.proofs.Common.{◌≡◌, ℕ, Bool, false, List, Result, Ok, Err, sym, subst}
 use Rattle.std.specs.Prelude.{Option}
 use Rattle.std.specs.Borrow.{GName}
@@ -29,7 +29,7 @@ pub and_then_code : {A B : Type 0} {S : Spelling (Result A RecordRule)}
     → IsCode S → ((x : A) → IsCode (T x)) → IsCode (AndThen S T)
 and_then_code {S = S} {T = T} s t = then_code {S = S} {T = UnlessRuled T} s (unless_code t)
 
--- a fault of the first is one of the whole
+-- a fault of the first is a fault of the whole
 pub reads_stop : {R A B : Type 0} {remaining : R → Option (List ℕ)} {errors : R → ℕ} {lent : R → List GName}
     {S : Spelling (Result A RecordRule)}
     (T : A → Spelling (Result B RecordRule)) {old new : Input R} (e : RecordFault)
@@ -47,7 +47,7 @@ pub reads_halt : {R A B : Type 0} {remaining : R → Option (List ℕ)} {errors 
 reads_halt T (Breach f) can p = reads_stop T f can p
 reads_halt T OutOfMemory can p = reads_err (UnlessRuled T) (λ r. unless_code can r) p
 
--- the first kept its rules
+-- the first breached no rule
 pub reads_go : {R A B : Type 0} {remaining : R → Option (List ℕ)} {errors : R → ℕ} {lent : R → List GName}
     {S : Spelling (Result A RecordRule)}
     (T : A → Spelling (Result B RecordRule)) {old mid new : Input R} {x : A}
@@ -63,7 +63,7 @@ pub reads_plain : {R A : Type 0} {remaining : R → Option (List ℕ)} {errors :
 reads_plain (Ok x) p = reads_seen Ok p
 reads_plain (Err e) p = reads_seen_err Ok p
 
--- where a rule is breached, nothing is spelled by bytes that agree
+-- if a rule is breached, no bytes that agree spell a value
 pub reads_denies : {R A : Type 0} {remaining : R → Option (List ℕ)} {errors : R → ℕ} {lent : R → List GName}
     {S : Spelling (Result A RecordRule)} {old new : Input R}
     (r : Result (Result A RecordRule) (Cause ValueFault))

@@ -1,4 +1,4 @@
--- Each spelling of a figure's record is free of prefixes, and can say something.
+-- The spelling of each figure is prefix-free, and there are bytes that spell it.
 use Rattle.std.proofs.Common.{ℕ, Bool, true, false, Ok}
 use Rattle.oasis_values.proofs.Codes.{gives_code, then_code, seen_code, IsCode}
 use Rattle.oasis_values.proofs.Integers.{byte_code, unsigned_code}

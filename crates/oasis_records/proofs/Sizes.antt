@@ -1,4 +1,4 @@
--- Integers of which it is known how many bytes they took.
+-- Integers with the number of bytes that were taken for them.
 use Rattle.std.proofs.Common.{◌≡◌, ℕ, List, ◌++◌, length, take, Result, Ok, Err, refl, sym, ap, ◌∙◌}
 use Rattle.std.specs.Prelude.{Option}
 use Rattle.std.specs.Borrow.{GName}

@@ -1,4 +1,4 @@
--- Whole records: their spelling is free of prefixes, and they are read by an id and what comes after it.
+-- The spelling of a whole record is prefix-free, and a record is read as its id and its fields.
 use Rattle.std.proofs.Common.{ℕ, ◌==◌, Bool, true, false, List, [], ◌∷◌, Ok}
 use Rattle.oasis_records.specs.Ends.{IsPaddingLength, ArePadding, IsScheme, four, AreFour, signed, IsSignature}
 use Rattle.oasis_records.specs.Ends.{IsEnding, IsEndOf, IsEnd}

@@ -1,4 +1,4 @@
--- Fields of records that an info byte says are there (SEMI P39 OASIS 1.0, "Info-byte").
+-- Fields of records that are there if a bit of the info byte is set (SEMI P39 OASIS 1.0, "Info-byte").
 use Rattle.std.specs.Prelude.{ℕ, ◌/◌, ◌%◌, ◌==◌, nat_lt, Bool, true, false, List, Option, Some, None, Result, Ok, ℤ}
 use Rattle.oasis_values.specs.Known.{Seen}
 use Rattle.oasis_values.specs.Numbers.{IsByte, IsUnsigned}
@@ -13,15 +13,15 @@ use Rattle.oasis_records.specs.declared.fault.RecordRule.TheVariants.{Info}
 use Rattle.oasis_records.specs.declared.figure.OnLayer.{OnLayer}
 use Rattle.oasis_records.specs.declared.figure.Position.{Position}
 
--- whether the bit of that weight is set
+-- whether the bit with the weight `letter` is set
 abbrev pub has : ℕ → ℕ → Bool
 has info letter = info / letter % 2 == 1
 
--- a byte whose highest bits are reserved
+-- an info byte below a limit, since its highest bits are reserved
 abbrev pub IsInfo : ℕ → Spelling (Result ℕ RecordRule)
 IsInfo limit = Then IsByte (λ i. Must (nat_lt i limit) i Info)
 
--- a field that is there, or not
+-- a field that is there, or isn't
 abbrev pub If : {A : Type 0} → Bool → Spelling A → Spelling (Option A)
 If true S = Seen Some S
 If false S = Gives (Ok None)
@@ -29,14 +29,14 @@ If false S = Gives (Ok None)
 abbrev pub on_layer : Option ℕ → Option ℕ → OnLayer
 on_layer l d = record { layer = l; datatype = d }
 
--- the fields of the letters L and D
+-- the layer and datatype of a figure, by the letters L and D
 abbrev pub IsOnLayer : ℕ → Spelling OnLayer
 IsOnLayer info = Then (If (has info 0x01) IsUnsigned) (λ l. Seen (on_layer l) (If (has info 0x02) IsUnsigned))
 
 abbrev pub position : Option ℤ → Option ℤ → Option Repetition → Position
 position x y r = record { x = x; y = y; repetition = r }
 
--- the fields of the letters X, Y and R
+-- x, y and the repetition of a figure, by the letters X, Y and R
 abbrev pub IsPosition : ℕ → Spelling Position
 IsPosition info =
     Then (If (has info 0x10) IsSigned)

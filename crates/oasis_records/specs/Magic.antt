@@ -14,10 +14,11 @@ magic = 0x25 ∷ 0x53 ∷ 0x45 ∷ 0x4D ∷ 0x49 ∷ 0x2D ∷ 0x4F ∷ 0x41 ∷ 
 abbrev pub IsMagicByte : ℕ → Spelling (Result ℕ RecordRule)
 IsMagicByte wanted = Then IsByte (λ b. Must (b == wanted) b Magic)
 
--- these bytes, one after another
+-- these bytes, one after another; the rule is breached at the first that differs
 abbrev pub AreMagicBytes : List ℕ → Spelling (Result (Unit {0}) RecordRule)
 AreMagicBytes [] = Gives (Ok (Ok tt))
 AreMagicBytes (m ∷ ms) = AndThen (IsMagicByte m) (λ _. AreMagicBytes ms)
 
+-- the magic string
 abbrev pub IsMagic : Spelling (Result (Unit {0}) RecordRule)
 IsMagic = AreMagicBytes magic

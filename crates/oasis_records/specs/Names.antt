@@ -1,4 +1,4 @@
--- Records that give names and strings by number, but for CELLNAME (SEMI P39 OASIS 1.0, "TEXTSTRING record", "PROPNAME
+-- Records that give names and strings by number, except CELLNAME (SEMI P39 OASIS 1.0, "TEXTSTRING record", "PROPNAME
 -- record", "PROPSTRING record", "LAYERNAME record", "XNAME record"). Nothing of them is kept.
 use Rattle.std.specs.Prelude.{ℕ, nat_lt, Bool, true, false, [], ◌∷◌, Result, Ok}
 use Rattle.oasis_values.specs.Known.{one_of, Seen, Unkept}
@@ -16,12 +16,12 @@ use Rattle.oasis_records.specs.declared.names.EntryType.TheVariants.{NumberedXNa
 use Rattle.oasis_records.specs.declared.record.Record.{Record}
 use Rattle.oasis_records.specs.declared.record.Record.TheVariants.{Entry}
 
--- a string with a number of its own; without one it takes the next
+-- a string and its number
 abbrev pub IsNumberedString : Text → Spelling (Unit {0})
 IsNumberedString kind = Then (IsUnkeptString kind) (λ _. Unkept IsUnsigned)
 
--- how many bounds an interval of that type has: it is all numbers, those up to a bound, those from a bound on, one
--- number, or those from one to another
+-- how many bounds an interval has, by its type: 0 is all numbers, 1 those up to a bound, 2 those from a bound on, 3 one
+-- number, 4 those from one number to another
 abbrev pub bounds : ℕ → ℕ
 bounds = one_of 0 (0 ∷ 1 ∷ 1 ∷ 1 ∷ []) 2
 
@@ -34,14 +34,15 @@ IsIntervalType = Then IsUnsigned (λ t. Must (nat_lt t 5) t Info)
 abbrev pub IsIntervalOf : ℕ → Spelling (Result (Unit {0}) RecordRule)
 IsIntervalOf t = Seen Ok (AreBounds (bounds t))
 
+-- an interval: its type, and its bounds
 abbrev pub IsInterval : Spelling (Result (Unit {0}) RecordRule)
 IsInterval = AndThen IsIntervalType IsIntervalOf
 
--- a name, and the layers and datatypes, or text layers and text types, that it is for
+-- a name, and the two intervals that it is for: of layers and datatypes, or of text layers and text types
 abbrev pub IsLayerName : Spelling (Result (Unit {0}) RecordRule)
 IsLayerName = Then (IsUnkeptString N) (λ _. AndThen IsInterval (λ _. IsInterval))
 
--- an attribute, and a string
+-- an attribute and a string
 abbrev pub IsXName : Spelling (Unit {0})
 IsXName = Then IsUnsigned (λ _. IsUnkeptString B)
 
@@ -55,10 +56,11 @@ IsEntryOf LayerName = IsLayerName
 IsEntryOf XName = Seen Ok IsXName
 IsEntryOf NumberedXName = Seen Ok IsNumberedXName
 
+-- the fields of a record of that type
 abbrev pub IsEntry : EntryType → Spelling (Result Record RecordRule)
 IsEntry kind = AndThen (IsEntryOf kind) (λ _. Gives (Ok (Ok Entry)))
 
--- a string by the number of its record, or as it is
+-- a string by the number of its record, or the string itself
 abbrev pub IsStringRef : Text → Bool → Spelling (Unit {0})
 IsStringRef kind true = Unkept IsUnsigned
 IsStringRef kind false = IsUnkeptString kind

@@ -23,7 +23,7 @@ use Rattle.oasis_records.specs.declared.path.Stroke.{Stroke}
 use Rattle.oasis_records.specs.declared.record.Record.{Record}
 use Rattle.oasis_records.specs.declared.record.Record.TheVariants.{Path}
 
--- the kinds of extensions, numbered from 0
+-- the kinds of extensions by their numbers, from 0
 abbrev pub kind_of : ℕ → Kind
 kind_of = one_of 0 (OfModal ∷ OfFlush ∷ OfHalfWidth ∷ []) OfExplicit
 
@@ -36,14 +36,14 @@ IsExtension OfExplicit = Seen Explicit IsSigned
 abbrev pub ends : Extension → Extension → Ends
 ends s e = record { start = s; end = e }
 
--- the start's bits are higher, and its integer is before the end's
+-- the extensions, by the scheme byte: the start's bits are higher than the end's, and its integer comes first
 abbrev pub AreEndsOf : ℕ → Spelling Ends
 AreEndsOf scheme = Then (IsExtension (kind_of (scheme / 4))) (λ s. Seen (ends s) (IsExtension (kind_of (scheme % 4))))
 
 abbrev pub some_ends : Ends → Result (Option Ends) RecordRule
 some_ends e = Ok (Some e)
 
--- the four highest bits of the scheme byte are reserved
+-- the scheme byte and the extensions; the four highest bits of the byte are reserved
 abbrev pub AreEnds : Spelling (Result (Option Ends) RecordRule)
 AreEnds = AndThen (IsInfo 0x10) (λ scheme. Seen some_ends (AreEndsOf scheme))
 
@@ -61,15 +61,17 @@ IsStrokeOf i =
     Then (If (has i 0x40) IsUnsigned) (λ w.
     AndThen (AreEndsIf (has i 0x80)) (λ e. Gives (Ok (stroke i on w e)))))
 
+-- the info byte, and the fields before the point list
 abbrev pub IsStroke : Spelling (Result Stroke RecordRule)
 IsStroke = Then IsByte IsStrokeOf
 
 abbrev pub path : Stroke → Option (List Point) → Position → Record
 path s ps p = Path (record { on = s.on; half_width = s.half_width; ends = s.ends; points = ps; position = p })
 
--- the other fields
+-- the fields from the point list on
 abbrev pub IsPathOf : Stroke → Spelling Record
 IsPathOf s = Then (If (has s.info 0x20) (IsPointList ForPath)) (λ ps. Seen (path s ps) (IsPosition s.info))
 
+-- the fields of a PATH
 abbrev pub IsPath : Spelling (Result Record RecordRule)
 IsPath = AndThen IsStroke (λ s. Seen Ok (IsPathOf s))

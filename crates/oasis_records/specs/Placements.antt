@@ -16,21 +16,22 @@ use Rattle.oasis_records.specs.declared.placement.Transform.TheVariants.{Turned,
 use Rattle.oasis_records.specs.declared.record.Record.{Record}
 use Rattle.oasis_records.specs.declared.record.Record.TheVariants.{Placement}
 
--- the turns, numbered from 0
+-- the turns by their numbers, from 0
 abbrev pub turn_of : ℕ → Turn
 turn_of = one_of 0 (R0 ∷ R90 ∷ R180 ∷ []) R270
 
 abbrev pub placement : ℕ → Option CellRef → Transform → Position → Record
 placement i cell t p = Placement (record { cell = cell; flip = has i 0x01; transform = t; position = p })
 
--- the cell, of which N says whether it is a number; own rule: N without C says nothing
+-- the cell, if C is set: a number if N is set, else a name. Own rule: N without C is ignored
 abbrev pub IsCellIf : ℕ → Spelling (Option CellRef)
 IsCellIf i = If (has i 0x80) (IsCellRef (has i 0x40))
 
--- the fields after the info byte; X, Y and R are one bit higher than in a figure
+-- the fields after the info byte CNXYRAAF; X, Y and R are one bit higher than in a figure
 abbrev pub IsTurnedOf : ℕ → Spelling Record
 IsTurnedOf i = Then (IsCellIf i) (λ cell. Seen (placement i cell (Turned (turn_of (i / 2 % 4)))) (IsPosition (i / 2)))
 
+-- the fields after the info byte CNXYRMAF
 abbrev pub IsScaledOf : ℕ → Spelling Record
 IsScaledOf i =
     Then (IsCellIf i) (λ cell.
@@ -38,8 +39,10 @@ IsScaledOf i =
     Then (If (has i 0x02) IsReal) (λ a.
     Seen (placement i cell (Scaled m a)) (IsPosition (i / 2)))))
 
+-- the fields of a PLACEMENT with a turn
 abbrev pub IsTurned : Spelling Record
 IsTurned = Then IsByte IsTurnedOf
 
+-- the fields of a PLACEMENT with a magnification and an angle
 abbrev pub IsScaled : Spelling Record
 IsScaled = Then IsByte IsScaledOf

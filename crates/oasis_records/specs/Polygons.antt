@@ -24,6 +24,6 @@ IsPolygonOf i =
     Then (If (has i 0x20) (IsPointList ForPolygon)) (λ ps.
     Seen (polygon on ps) (IsPosition i)))
 
--- the two highest bits are reserved
+-- the fields of a POLYGON; the two highest bits of the info byte are reserved
 abbrev pub IsPolygon : Spelling (Result Record RecordRule)
 IsPolygon = AndThen (IsInfo 0x40) (λ i. Seen Ok (IsPolygonOf i))

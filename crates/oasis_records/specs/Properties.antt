@@ -13,14 +13,14 @@ use Rattle.oasis_records.specs.declared.fault.RecordRule.TheVariants.{Info}
 use Rattle.oasis_records.specs.declared.record.Record.{Record}
 use Rattle.oasis_records.specs.declared.record.Record.TheVariants.{Property}
 
--- V says that the values are those of the last property, so that none are here
+-- V means that the values are those of the last property; then UUUU must be 0
 abbrev pub is_property_info : ℕ → Bool
 is_property_info i = not (has i 0x08) || (i / 16 == 0)
 
 abbrev pub IsPropertyInfo : Spelling (Result ℕ RecordRule)
 IsPropertyInfo = Then IsByte (λ i. Must (is_property_info i) i Info)
 
--- the count of the values: UUUU, or where that is 15 an integer
+-- the number of values: UUUU, or an integer that follows if UUUU is 15
 abbrev pub IsCountBy : Bool → ℕ → Spelling ℕ
 IsCountBy true count = IsUnsigned
 IsCountBy false count = Gives (Ok count)
@@ -31,12 +31,13 @@ IsCount i = IsCountBy (i / 16 == 15) (i / 16)
 abbrev pub AreValues : ℕ → Spelling (Unit {0})
 AreValues n = Unkept (Chain (λ _. IsValue) (λ x. x) n tt)
 
--- the fields after the info byte; where C isn't set, the name is that of the last property
+-- the fields after the info byte; if C isn't set, the name is that of the last property
 abbrev pub IsPropertyOf : ℕ → Spelling Record
 IsPropertyOf i =
     Then (If (has i 0x04) (IsStringRef N (has i 0x02))) (λ _.
     Then (IsCount i) (λ n.
     Seen (λ _. Property) (AreValues n)))
 
+-- the fields of a PROPERTY
 abbrev pub IsProperty : Spelling (Result Record RecordRule)
 IsProperty = AndThen IsPropertyInfo (λ i. Seen Ok (IsPropertyOf i))

@@ -1,4 +1,4 @@
--- Records by their ids (SEMI P39 OASIS 1.0, "Records").
+-- Records by their ids (SEMI P39 OASIS 1.0, "Records"). Own rule: records of other ids aren't read.
 use Rattle.std.specs.Prelude.{ℕ, ◌==◌, if◌then◌else◌, Bool, true, false, List, [], ◌∷◌, Result, Ok, Err}
 use Rattle.lvl_ignore.specs.declared.ignore.Ignore.{Ignore}
 use Rattle.oasis_values.specs.Known.{Seen}
@@ -40,7 +40,7 @@ use Rattle.oasis_records.specs.declared.record_type.RecordType.TheVariants.{Scal
 use Rattle.oasis_records.specs.declared.record_type.RecordType.TheVariants.{Rectangle as OfRectangle}
 use Rattle.oasis_records.specs.declared.record_type.RecordType.TheVariants.{Polygon as OfPolygon, Path as OfPath}
 
--- a type of records: its id, and whether it is read by who ignores these
+-- a type of records: its id, and whether it is read, by what is ignored
 pub record Row : Type 0 where
   pub id : ℕ
   pub is_read : Ignore → Bool
@@ -49,6 +49,7 @@ pub record Row : Type 0 where
 abbrev pub row : ℕ → (Ignore → Bool) → RecordType → Row
 row id is_read kind = record { id = id; is_read = is_read; kind = kind }
 
+-- when a type is read: always, or if names, texts or properties are ignored
 abbrev pub always : Ignore → Bool
 always ignore = true
 
@@ -61,7 +62,7 @@ texts ignore = ignore.texts
 abbrev pub properties : Ignore → Bool
 properties ignore = ignore.properties
 
--- the types of records. Without anything that is ignored those are read that are always
+-- the types of records that are read, always or if they are ignored
 abbrev pub types : List Row
 types =
     row 0 always OfPad
@@ -97,16 +98,17 @@ abbrev pub type_if : Bool → RecordType → ℕ → Result RecordType RecordRul
 type_if true kind n = Ok kind
 type_if false kind n = Err (Unsupported n)
 
+-- the type of the id n in a table; Unsupported if the table doesn't have it, or if it isn't read
 abbrev pub look_up : Ignore → List Row → ℕ → Result RecordType RecordRule
 look_up ignore [] n = Err (Unsupported n)
 look_up ignore (t ∷ ts) n = if n == t.id then type_if (t.is_read ignore) t.kind n else look_up ignore ts n
 
--- the type of an id; own rule: other records aren't read
+-- the type of records with an id
 abbrev pub record_type : Ignore → ℕ → Result RecordType RecordRule
 record_type ignore = look_up ignore types
 
--- the fields of a record of that type, after an id of that many bytes. The offsets of tables are in END where START
--- says so
+-- the fields of a record of that type, after an id of `id_len` bytes; `at_end` says whether the offsets of tables are
+-- in END
 abbrev pub AreFields : Bool → ℕ → RecordType → Spelling (Result Record RecordRule)
 AreFields at_end id_len OfPad = Gives (Ok (Ok Pad))
 AreFields at_end id_len OfStart = IsStart
@@ -127,7 +129,7 @@ AreFields at_end id_len OfRectangle = IsRectangle
 AreFields at_end id_len OfPolygon = IsPolygon
 AreFields at_end id_len OfPath = IsPath
 
--- an id, and what comes after it
+-- an id, and the fields of its record
 abbrev pub IsRecord : Bool → Spelling (Result Record RecordRule)
 IsRecord at_end =
     Then (Sized IsUnsigned) (λ id. AndThen (λ ignore. Gives (Ok (record_type ignore id.value)) ignore)

@@ -13,7 +13,7 @@ use Rattle.oasis_records.specs.declared.figure.Position.{Position}
 use Rattle.oasis_records.specs.declared.record.Record.{Record}
 use Rattle.oasis_records.specs.declared.record.Record.TheVariants.{Rectangle}
 
--- a square has no height
+-- a square (S) has no height (H)
 abbrev pub is_rectangle_info : ℕ → Bool
 is_rectangle_info i = not (has i 0x80 && has i 0x20)
 
@@ -31,5 +31,6 @@ IsRectangleOf i =
     Then (If (has i 0x20) IsUnsigned) (λ h.
     Seen (rectangle (has i 0x80) on w h) (IsPosition i))))
 
+-- the fields of a RECTANGLE
 abbrev pub IsRectangle : Spelling (Result Record RecordRule)
 IsRectangle = AndThen IsRectangleInfo (λ i. Seen Ok (IsRectangleOf i))

@@ -1,5 +1,5 @@
--- The rules of records, beside those of values. What bytes say of a record is the record, or the rule that they breach;
--- so it is a value of the bytes as any other, and the bytes taken are those that spell the record or breach the rule.
+-- The rules of records, besides those of values. What bytes say about a record is a value like any other: the record,
+-- or the rule that they breach. The bytes taken are then those that spell the record, or those that breach the rule.
 use Rattle.std.specs.Prelude.{◌≡◌, Bool, true, false, ℕ, List, Option, Some, Result, Ok, Err}
 use Rattle.lvl_io.specs.Spelling.{NoneAgrees}
 use Rattle.lvl_refusal.specs.declared.Cause.{Cause}
@@ -13,48 +13,49 @@ use Rattle.oasis_records.specs.declared.fault.RecordFault.{RecordFault}
 use Rattle.oasis_records.specs.declared.fault.RecordFault.TheVariants.{Value, Rule}
 use Rattle.oasis_records.specs.declared.fault.RecordRule.{RecordRule}
 
--- a fault as an answer of the input: a rule of records is breached by what was read
+-- a fault as a result of the input: a fault of a value is one of the input, a breached rule of records is a value
 abbrev pub of_fault : {A : Type 0} → RecordFault → Result (Result A RecordRule) (Cause ValueFault)
 of_fault (Value f) = Err (Breach f)
 of_fault (Rule k) = Ok (Err k)
 
--- what a call answered, as an answer of the input
+-- the result of a call, as a result of the input
 abbrev pub reported : {A : Type 0} → Result A (Cause RecordFault) → Result (Result A RecordRule) (Cause ValueFault)
 reported (Ok x) = Ok (Ok x)
 reported (Err OutOfMemory) = Err OutOfMemory
 reported (Err (Breach f)) = of_fault f
 
--- the same of a call that takes no memory
+-- the same for a call that doesn't allocate
 abbrev pub reported_breach : {A : Type 0} → Result A RecordFault → Result (Result A RecordRule) (Cause ValueFault)
 reported_breach (Ok x) = Ok (Ok x)
 reported_breach (Err f) = of_fault f
 
--- the same of a call that tests no rule of records
+-- the same for a call that tests no rule of records
 abbrev pub plain : {A : Type 0} → Result A (Cause ValueFault) → Result (Result A RecordRule) (Cause ValueFault)
 plain (Ok x) = Ok (Ok x)
 plain (Err e) = Err e
 
--- the value, or the rule that isn't kept
+-- the value if the rule is kept, else the rule
 abbrev pub obeyed : {A : Type 0} → Bool → A → RecordRule → Result A RecordRule
 obeyed true x k = Ok x
 obeyed false x k = Err k
 
--- no byte more is read: the value is given if the rule is kept
+-- no further byte is read: the value is given if the rule is kept, else the rule
 abbrev pub Must : {A : Type 0} → Bool → A → RecordRule → Spelling (Result A RecordRule)
 Must b x k = Gives (Ok (obeyed b x k))
 
--- after a breach nothing more is read
+-- T for a value; after a breach of a rule of records nothing more is read
 abbrev pub UnlessRuled : {A B : Type 0} → (A → Spelling (Result B RecordRule)) → Result A RecordRule
     → Spelling (Result B RecordRule)
 UnlessRuled T (Ok x) = T x
 UnlessRuled T (Err k) = Gives (Ok (Err k))
 
--- one after another, where the first has rules of records
+-- S and then T for its value; a breach in S is a breach in the whole
 abbrev pub AndThen : {A B : Type 0} → Spelling (Result A RecordRule) → (A → Spelling (Result B RecordRule))
     → Spelling (Result B RecordRule)
 AndThen S T = Then S (UnlessRuled T)
 
--- what an answer says of the records that other bytes could spell: where a rule is breached, none agrees with these
+-- if the result is a rule that is breached, of records or of values, no bytes that spell a record agree with those at
+-- the front
 abbrev pub IsDenied : {A : Type 0} → (List ℕ → Result (Result A RecordRule) ValueFault → Type 0) → List ℕ
     → Result (Result A RecordRule) (Cause ValueFault) → Type 0
 IsDenied S xs (Ok (Ok x)) = Unit {0}
@@ -62,7 +63,7 @@ IsDenied {A = A} S xs (Ok (Err k)) = (x : A) → NoneAgrees S xs (Ok (Ok x))
 IsDenied S xs (Err OutOfMemory) = Unit {0}
 IsDenied {A = A} S xs (Err (Breach f)) = is_rule f ≡ true → (x : A) → NoneAgrees S xs (Ok (Ok x))
 
--- the same of a call
+-- the same for a call
 pub record Denies {R A : Type 0} (remaining : R → Option (List ℕ)) (S : Spelling (Result A RecordRule))
     (old : Input R) (r : Result (Result A RecordRule) (Cause ValueFault)) : Type 0 where
   pub none : has_failed old ≡ false → (xs : List ℕ) → bytes_left remaining old ≡ Some xs

@@ -1,11 +1,11 @@
--- Integers of which it is known how many bytes they took, with all that came before them.
+-- Integers with the number of bytes that they, and all read before them in S, took.
 use Rattle.std.specs.Prelude.{◌≡◌, ℕ, List, length, Result, Ok, Err}
 use Rattle.lvl_ignore.specs.declared.ignore.Ignore.{Ignore}
 use Rattle.oasis_values.specs.Spelling.{Spelling}
 use Rattle.oasis_values.specs.declared.fault.ValueFault.{ValueFault}
 use Rattle.oasis_records.specs.declared.measured.Measured.{Measured}
 
--- an integer, and the number of all bytes that are there
+-- the integer of S, and the number of all bytes of S
 abbrev pub Sized : Spelling ℕ → Ignore → List ℕ → Result Measured ValueFault → Type 0
 Sized S ignore b (Ok m) = S ignore b (Ok m.value) × (m.len ≡ length b)
 Sized S ignore b (Err f) = S ignore b (Err f)

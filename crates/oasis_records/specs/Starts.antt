@@ -1,4 +1,4 @@
--- START records (SEMI P39 OASIS 1.0, "START record"). Own rule: the most bytes of a version.
+-- START records (SEMI P39 OASIS 1.0, "START record"). Own rule: a version has at most 255 bytes.
 use Rattle.std.specs.Prelude.{ℕ, ◌==◌, nat_lt, not, Bool, true, false, List, [], ◌∷◌, Result, Ok}
 use Rattle.std.specs.Str.{bytes_eq}
 use Rattle.oasis_values.specs.Known.{Seen}
@@ -23,10 +23,11 @@ is_version text = bytes_eq text (0x31 ∷ 0x2E ∷ 0x30 ∷ [])
 abbrev pub IsVersionText : Spelling (Result (List ℕ) RecordRule)
 IsVersionText = Seen Ok (IsString A 255)
 
+-- the version, which must be "1.0"
 abbrev pub IsVersion : Spelling (Result (List ℕ) RecordRule)
 IsVersion = AndThen IsVersionText (λ text. Must (is_version text) text Version)
 
--- no real of a negative type
+-- the unit's type isn't that of a negative whole number, reciprocal or ratio
 abbrev pub is_unit : Real → Bool
 is_unit (NegWhole n) = false
 is_unit (NegReciprocal n) = false
@@ -36,29 +37,30 @@ is_unit r = true
 abbrev pub IsUnit : Spelling (Result Real RecordRule)
 IsUnit = Then IsReal (λ u. Must (is_unit u) u NoUnit)
 
--- the offset flag
+-- the offset flag, 0 or 1
 abbrev pub IsFlag : Spelling (Result ℕ RecordRule)
 IsFlag = Then IsUnsigned (λ f. Must (nat_lt f 2) f Info)
 
--- twelve offsets of tables, of any values
+-- twelve integers of any value, two for each of six tables
 abbrev pub AreOffsets : Spelling Bool
 AreOffsets = Seen (λ _. true) (Chain (λ _. IsUnsigned) (λ n. n) 12 0)
 
--- the offsets, if they are there
+-- the offsets of tables, if they are here
 abbrev pub AreTables : Bool → Spelling Bool
 AreTables true = AreOffsets
 AreTables false = Gives (Ok false)
 
--- they are in START where the flag isn't 1
+-- whether the offsets are in START: the flag is 0
 abbrev pub is_here : ℕ → Bool
 is_here flag = not (flag == 1)
 
 abbrev pub start : Real → Bool → Result Record RecordRule
 start unit here = Ok (Start (record { unit = unit; has_offsets_at_end = not here }))
 
--- what comes after the version
+-- the fields after the version
 abbrev pub IsStartOf : Spelling (Result Record RecordRule)
 IsStartOf = AndThen IsUnit (λ u. AndThen IsFlag (λ f. Seen (start u) (AreTables (is_here f))))
 
+-- the fields of a START
 abbrev pub IsStart : Spelling (Result Record RecordRule)
 IsStart = AndThen IsVersion (λ _. IsStartOf)

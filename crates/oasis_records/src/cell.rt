@@ -10,25 +10,25 @@ use lvl_refusal::Cause;
 use oasis_values::{Input, Text, ValueFault};
 use std::alloc::Global;
 
-/// A cell, by the number of its name or by its name.
+/// A cell by the number of its name, or by its name.
 #[derive(Debug, Drop)]
 pub enum CellRef {
     /// The number of a CELLNAME record.
     Number(u64),
-    /// A name, of 255 bytes at most (own rule).
+    /// A name, of at most 255 bytes (own rule).
     Name(Name),
 }
 
 /// A CELLNAME record.
 #[derive(Debug, Drop)]
 pub struct CellName {
-    /// The name, of 255 bytes at most (own rule).
+    /// The name, of at most 255 bytes (own rule).
     pub name: Name,
-    /// Its number; where there is none, the names are numbered from 0.
+    /// Its number. If it has none, it is the number of such records before it.
     pub number: Option<u64>,
 }
 
-/// A cell, by its number or by its name.
+/// Reads a cell by its number or by its name.
 pub(crate) fn read_cell_ref<R: Read>(
     input: &mut Input<R>,
     alloc: Global,
@@ -44,7 +44,7 @@ pub(crate) fn read_cell_ref<R: Read>(
     Ok(CellRef::Name(name))
 }
 
-/// A CELL record after its id.
+/// Reads a CELL record after its id.
 pub(crate) fn read_cell<R: Read>(
     input: &mut Input<R>,
     alloc: Global,
@@ -56,7 +56,7 @@ pub(crate) fn read_cell<R: Read>(
     Ok(Record::Cell(cell))
 }
 
-/// A CELLNAME record without a number, after its id.
+/// Reads a CELLNAME record without a number, after its id.
 pub(crate) fn read_cell_name<R: Read>(
     input: &mut Input<R>,
     alloc: Global,
@@ -67,7 +67,7 @@ pub(crate) fn read_cell_name<R: Read>(
     Ok(Record::CellName(CellName { name, number: None }))
 }
 
-/// A CELLNAME record with a number, after its id.
+/// Reads a CELLNAME record with a number, after its id.
 pub(crate) fn read_numbered_name<R: Read>(
     input: &mut Input<R>,
     alloc: Global,

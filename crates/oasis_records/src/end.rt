@@ -17,10 +17,11 @@ use crate::start::read_offsets;
 use lvl_io::Read;
 use oasis_values::{Input, ValueFault};
 
-/// How many bytes an END record has, with its id.
+/// The length of an END record in bytes, with its id.
 const LEN: u64 = 256;
 
-/// How a file may be validated, with the bytes of its signature in file order. Signatures aren't judged.
+/// The validation of a file, with the bytes of its signature in the order of the file. Signatures aren't
+/// checked.
 #[derive(Clone, Copy, Debug, Drop, PartialEq, Eq)]
 pub enum Validation {
     /// Scheme 0.
@@ -31,7 +32,7 @@ pub enum Validation {
     Checksum32([u8; 4]),
 }
 
-// How many bytes a signature has.
+// The length of a signature in bytes.
 fn validation_len(validation: Validation) -> u64
     ensures { result ≡ validation_len validation }
 {
@@ -51,7 +52,7 @@ fn fits(id_len: u64, padding: Measured) -> bool
     id_len + padding.len + padding.value + 1 <= LEN
 }
 
-// Whether the record has its 256 bytes.
+// Whether the record has 256 bytes.
 fn is_whole(id_len: u64, padding: Measured, validation: Validation) -> bool
     ensures { result ≡ is_whole id_len padding validation }
 {
@@ -67,7 +68,7 @@ fn is_scheme(byte: u8) -> bool
     byte < 3
 }
 
-// The offsets of tables, if they are here, and the length of the padding.
+// Reads the offsets of tables, if they are here, and the length of the padding.
 fn read_padding_length<R: Read>(input: &mut Input<R>, has_offsets: bool) -> Result<u64, ValueFault>
     requires { has_failed input.old ≡ false }
     ensures reads { Reads R.remaining R.read_errors R.lent
@@ -77,7 +78,7 @@ fn read_padding_length<R: Read>(input: &mut Input<R>, has_offsets: bool) -> Resu
     input.unsigned()
 }
 
-// The same, with the bytes that it took.
+// The same, and the number of bytes that they took.
 fn read_padding<R: Read>(input: &mut Input<R>, has_offsets: bool) -> Result<Measured, ValueFault>
     requires { has_failed input.old ≡ false }
     ensures reads { Reads R.remaining R.read_errors R.lent
@@ -91,7 +92,7 @@ fn read_padding<R: Read>(input: &mut Input<R>, has_offsets: bool) -> Result<Meas
     })
 }
 
-// `count` bytes.
+// Reads `count` bytes and keeps none.
 fn skip_padding<R: Read>(input: &mut Input<R>, count: u64) -> Result<u64, ValueFault>
     requires { has_failed input.old ≡ false }
     ensures reads { Reads R.remaining R.read_errors R.lent
@@ -103,7 +104,7 @@ fn skip_padding<R: Read>(input: &mut Input<R>, count: u64) -> Result<u64, ValueF
     Ok(count)
 }
 
-// The scheme, which is 0, 1 or 2.
+// Reads the validation scheme, which is 0, 1 or 2.
 fn read_scheme<R: Read>(input: &mut Input<R>) -> Result<u8, RecordFault>
     ensures reads { Reads R.remaining R.read_errors R.lent IsScheme input.old input.new (reported_breach result) }
 {
@@ -122,7 +123,7 @@ fn read_four<R: Read>(input: &mut Input<R>) -> Result<[u8; 4], ValueFault>
     Ok([first, second, third, fourth])
 }
 
-// The validation by a signature.
+// The validation with a signature.
 fn signed(is_crc: bool, bytes: [u8; 4]) -> Validation
     ensures { result ≡ signed is_crc bytes }
 {
@@ -133,7 +134,7 @@ fn signed(is_crc: bool, bytes: [u8; 4]) -> Validation
     }
 }
 
-// The signature, if the scheme has one.
+// Reads the signature, if the scheme has one.
 fn read_signature<R: Read>(
     input: &mut Input<R>,
     is_absent: bool,
@@ -162,7 +163,7 @@ fn is_absent(scheme: u8) -> bool
     scheme == 0
 }
 
-// What comes after the length of the padding.
+// Reads what comes after the length of the padding.
 fn read_ending<R: Read>(input: &mut Input<R>, padding: u64) -> Result<Validation, RecordFault>
     requires { has_failed input.old ≡ false }
     ensures reads { Reads R.remaining R.read_errors R.lent
@@ -175,7 +176,7 @@ fn read_ending<R: Read>(input: &mut Input<R>, padding: u64) -> Result<Validation
     Ok(validation)
 }
 
-// The same, where the record has its 256 bytes.
+// The same, and tests that the record has 256 bytes.
 fn end_of<R: Read>(
     input: &mut Input<R>,
     id_len: u64,
@@ -190,8 +191,8 @@ fn end_of<R: Read>(
     must(whole, Record::End(validation), RecordRule::EndLength)
 }
 
-/// An END record after its id, which has `id_len` bytes. Its length is tested before the padding is read,
-/// and at its end.
+/// Reads an END record after its id, which has `id_len` bytes. Its length is tested before the padding is
+/// read, and at its end.
 pub(crate) fn read_end<R: Read>(
     input: &mut Input<R>,
     has_offsets: bool,

@@ -1,29 +1,30 @@
-//! Why no record was given.
+//! Why no record was returned.
 ghost use Rattle.std.specs.Prelude.{◌≡◌};
 
 use lvl_refusal::Cause;
 use oasis_values::ValueFault;
 use thiserror::Error;
 
-/// A rule of records that is breached.
+/// A rule of records that was breached.
 #[derive(Clone, Copy, Debug, Drop, PartialEq, Eq, Error)]
 pub enum RecordRule {
-    /// A byte isn't that of the magic string (SEMI P39, "Magic-bytes").
+    /// A byte differs from that of the magic string (SEMI P39, "Magic-bytes").
     #[error("the file doesn't begin with the magic string")]
     Magic,
     /// The version isn't `1.0` (SEMI P39, "START record").
     #[error("unknown version")]
     Version,
-    /// The unit is a negative real (SEMI P39, "START record").
+    /// The unit is a negative whole number, reciprocal or ratio (SEMI P39, "START record").
     #[error("the unit isn't positive")]
     Unit,
-    /// A record of this id isn't read (own rule: the profile).
+    /// Records of this id aren't read (own rule).
     #[error("a record isn't read")]
     Unsupported(u64),
-    /// A reserved bit of an info byte is set, or one that excludes another; or a flag is over 1.
+    /// An info byte or a scheme byte sets a reserved bit, or two bits that exclude each other; or
+    /// the type of an interval is over 4, or the offset flag over 1.
     #[error("an info byte has bits that it can't have")]
     Info,
-    /// END hasn't 256 bytes (SEMI P39, "END record").
+    /// An END record doesn't have 256 bytes (SEMI P39, "END record").
     #[error("the END record hasn't 256 bytes")]
     EndLength,
     /// The validation scheme is over 2 (SEMI P39, "END record").
@@ -31,13 +32,13 @@ pub enum RecordRule {
     Scheme,
 }
 
-/// Why no record was given.
+/// Why no record was returned.
 #[derive(Clone, Copy, Debug, PartialEq, Eq, Error)]
 pub enum RecordFault {
-    /// No value could be read. After it every call answers that an earlier one failed.
+    /// A value couldn't be read. After this, every call returns `Failed`.
     #[error("a value of a record can't be read")]
     Value(ValueFault),
-    /// A rule of records is breached by the bytes taken. The input goes on after them.
+    /// The bytes taken breach a rule of records. What comes after them can still be read.
     #[error("a record breaches a rule")]
     Rule(RecordRule),
 }

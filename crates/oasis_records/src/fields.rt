@@ -1,4 +1,4 @@
-//! Fields that are there where a letter of the info byte is set (SEMI P39, "Info-byte").
+//! Fields that are there if a letter of the info byte is set (SEMI P39, "Info-byte").
 ghost use Rattle.std.specs.Prelude.{◌≡◌, ◌<◌, false, true};
 ghost use Rattle.oasis_values.specs.Faults.{as_breach};
 ghost use Rattle.oasis_values.specs.Input.{has_failed};
@@ -15,7 +15,7 @@ use lvl_refusal::Cause;
 use oasis_values::{Input, Real, Repetition, Text, ValueFault};
 use std::alloc::Global;
 
-/// Whether a letter of an info byte is set. A letter is the bit's weight.
+/// Whether a letter of an info byte is set. The letter is given as the weight of its bit.
 pub(crate) fn has(info: u8, letter: u8) -> bool
     requires { 0 < letter }
     ensures { result ≡ has info letter }
@@ -23,7 +23,7 @@ pub(crate) fn has(info: u8, letter: u8) -> bool
     info / letter % 2 == 1
 }
 
-/// An unsigned integer, if its letter is set.
+/// Reads an unsigned integer, if its letter is set.
 pub(crate) fn unsigned_if<R: Read>(
     input: &mut Input<R>,
     info: u8,
@@ -41,7 +41,7 @@ pub(crate) fn unsigned_if<R: Read>(
     Ok(None)
 }
 
-/// A signed integer, if its letter is set.
+/// Reads a signed integer, if its letter is set.
 pub(crate) fn signed_if<R: Read>(
     input: &mut Input<R>,
     info: u8,
@@ -59,7 +59,8 @@ pub(crate) fn signed_if<R: Read>(
     Ok(None)
 }
 
-/// A repetition, if its letter is set. Type 0 is [`Repetition::Modal`], whether there is one or not.
+/// Reads a repetition, if its letter is set. Type 0 gives [`Repetition::Modal`], even if there is no modal
+/// one.
 pub(crate) fn repetition_if<R: Read>(
     input: &mut Input<R>,
     alloc: Global,
@@ -78,7 +79,7 @@ pub(crate) fn repetition_if<R: Read>(
     Ok(None)
 }
 
-/// A real, if its letter is set.
+/// Reads a real, if its letter is set.
 pub(crate) fn real_if<R: Read>(
     input: &mut Input<R>,
     info: u8,
@@ -96,8 +97,8 @@ pub(crate) fn real_if<R: Read>(
     Ok(None)
 }
 
-/// A string of which nothing is kept, if its letter is set. Another letter says whether it is given by
-/// the number of its record.
+/// Reads a string and keeps nothing of it, if its letter is set. The letter `number` means that it is given
+/// by the number of its record.
 pub(crate) fn skip_string_if<R: Read>(
     input: &mut Input<R>,
     kind: Text,

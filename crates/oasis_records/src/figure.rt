@@ -1,4 +1,4 @@
-//! What the figures have in common: the layer that they are on, and where they are.
+//! What figures have in common: a layer and datatype, and a position.
 ghost use Rattle.std.specs.Prelude.{◌≡◌, false};
 ghost use Rattle.oasis_values.specs.Faults.{as_breach};
 ghost use Rattle.oasis_values.specs.Input.{has_failed};
@@ -21,14 +21,14 @@ const Y: u8 = 0x08;
 
 const X: u8 = 0x10;
 
-/// The layer and the datatype of a figure.
+/// The layer and datatype in the record of a figure; `None` stands for the modal variable.
 #[derive(Clone, Copy, Debug, Drop, PartialEq, Eq)]
 pub struct OnLayer {
     pub layer: Option<u64>,
     pub datatype: Option<u64>,
 }
 
-/// Where a figure or a placement is, in grid steps.
+/// The position and the repetition in a record, in grid steps; `None` for a field that isn't there.
 #[derive(Debug, Drop)]
 pub struct Position {
     pub x: Option<i64>,
@@ -36,7 +36,7 @@ pub struct Position {
     pub repetition: Option<Repetition>,
 }
 
-// The two fields, by the letters D and L.
+// Reads the layer and the datatype, by the letters L and D.
 pub(crate) fn read_on_layer<R: Read>(input: &mut Input<R>, info: u8) -> Result<OnLayer, ValueFault>
     requires { has_failed input.old ≡ false }
     ensures reads { Reads R.remaining R.read_errors R.lent (IsOnLayer info) input.old input.new (as_breach result) }
@@ -46,7 +46,7 @@ pub(crate) fn read_on_layer<R: Read>(input: &mut Input<R>, info: u8) -> Result<O
     Ok(OnLayer { layer, datatype })
 }
 
-// The three fields, by the letters X, Y and R.
+// Reads x, y and the repetition, by the letters X, Y and R.
 pub(crate) fn read_position<R: Read>(
     input: &mut Input<R>,
     alloc: Global,

@@ -15,7 +15,7 @@ fn is_below(info: u8, limit: u8) -> bool
     info < limit
 }
 
-/// A byte whose highest bits are reserved, so that it is below the limit.
+/// Reads an info byte whose highest bits are reserved, so that it must be below `limit`.
 pub(crate) fn read_info<R: Read>(input: &mut Input<R>, limit: u8) -> Result<u8, RecordFault>
     ensures reads { Reads R.remaining R.read_errors R.lent
         (IsInfo limit) input.old input.new (reported_breach result) }

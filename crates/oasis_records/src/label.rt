@@ -1,4 +1,4 @@
-//! TEXT records. What is kept is the repetition, which later records may use again.
+//! TEXT records. Only the repetition is kept, since later records may use it again.
 ghost use Rattle.std.specs.Prelude.{◌≡◌, false};
 ghost use Rattle.oasis_values.specs.Faults.{as_breach};
 ghost use Rattle.oasis_values.specs.Input.{has_failed};
@@ -20,14 +20,14 @@ use lvl_refusal::Cause;
 use oasis_values::{Input, Text, ValueFault};
 use std::alloc::Global;
 
-/// The info byte is below this.
+/// The info byte is below this: its highest bit is reserved.
 const INFO_LIMIT: u8 = 0x80;
 
 const STRING: u8 = 0x40;
 
 const NUMBER: u8 = 0x20;
 
-// The fields after the info byte 0CNXYRTL.
+// Reads the fields after the info byte 0CNXYRTL.
 fn label_of<R: Read>(
     input: &mut Input<R>,
     alloc: Global,
@@ -42,7 +42,7 @@ fn label_of<R: Read>(
     Ok(Record::Text(position.repetition))
 }
 
-/// A TEXT record after its id.
+/// Reads a TEXT record after its id.
 pub(crate) fn read_label<R: Read>(
     input: &mut Input<R>,
     alloc: Global,

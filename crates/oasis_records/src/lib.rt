@@ -1,11 +1,11 @@
-//! The records of an OASIS file, one at a time (SEMI P39 OASIS 1.0).
+//! Reads the records of an OASIS file, one at a time (SEMI P39 OASIS 1.0).
 //!
-//! A record is read as it is: a field that isn't there is None, and nothing is looked up. What a
-//! record means after others is for the crate above. [`read_magic`] reads what a file begins with,
-//! [`read_id`] the id of a record, of which [`RecordType::of`] gives the type, and [`read_fields`]
-//! what comes after the id.
+//! A record is returned as it is in the file: a field that isn't there is `None`, and no modal
+//! variable is looked up. [`read_magic`] reads the magic string at the beginning of a file,
+//! [`read_id`] the id of a record, and [`read_fields`] its fields; [`RecordType::of`] gives the
+//! type for an id.
 //!
-//! The bytes of a RECTANGLE are read:
+//! Here the bytes of a RECTANGLE are read:
 //!
 //! ```
 //! let mut input = Input::new(Pieces::new(RECTANGLE, usize::MAX), Ignore::NOTHING);

@@ -1,4 +1,4 @@
-//! What a file begins with.
+//! The magic string at the beginning of a file.
 ghost use Rattle.std.specs.Prelude.{◌≡◌, ◌<◌, ◌==◌, get_or};
 ghost use Rattle.oasis_values.specs.Reads.{Reads};
 ghost use Rattle.oasis_records.specs.Magic.{magic, IsMagicByte, IsMagic};
@@ -9,7 +9,7 @@ use crate::rules::must;
 use lvl_io::Read;
 use oasis_values::Input;
 
-/// How many bytes the magic string has.
+/// The length of the magic string in bytes.
 const LEN: usize = 13;
 
 /// `%SEMI-OASIS`, a carriage return and a line feed.
@@ -17,7 +17,7 @@ const MAGIC: [u8; 13] = [
     b'%', b'S', b'E', b'M', b'I', b'-', b'O', b'A', b'S', b'I', b'S', b'\r', b'\n',
 ];
 
-// A byte of the magic string.
+// The byte of the magic string at an index.
 fn magic_byte(at: usize) -> u8
     requires { at < 13 }
     ensures { result ≡ get_or magic at 0 }
@@ -31,7 +31,7 @@ fn is_byte(byte: u8, wanted: u8) -> bool
     byte == wanted
 }
 
-// That byte.
+// Reads one byte of the magic string.
 fn read_magic_byte<R: Read>(input: &mut Input<R>, wanted: u8) -> Result<u8, RecordFault>
     ensures reads { Reads R.remaining R.read_errors R.lent
         (IsMagicByte wanted) input.old input.new (reported_breach result) }
@@ -40,7 +40,8 @@ fn read_magic_byte<R: Read>(input: &mut Input<R>, wanted: u8) -> Result<u8, Reco
     must(is_byte(byte, wanted), byte, RecordRule::Magic)
 }
 
-/// The magic string that a file begins with. `Magic` is reported at the first byte that differs.
+/// Reads the magic string at the beginning of a file. `Magic` is reported at the first byte that
+/// differs.
 pub fn read_magic<R: Read>(input: &mut Input<R>) -> Result<(), RecordFault>
     ensures reads { Reads R.remaining R.read_errors R.lent IsMagic input.old input.new (reported_breach result) }
     ensures none { Denies R.remaining IsMagic input.old (reported_breach result) }

@@ -1,4 +1,4 @@
-//! Records that give names and strings by number, but for CELLNAME. Nothing of them is kept.
+//! Records that give names and strings by number, except CELLNAME. Nothing of them is kept.
 ghost use Rattle.std.specs.Prelude.{◌≡◌, nat_lt, false};
 ghost use Rattle.oasis_values.specs.Faults.{as_breach};
 ghost use Rattle.oasis_values.specs.Input.{has_failed};
@@ -13,22 +13,22 @@ use crate::rules::{must, no_rule};
 use lvl_io::Read;
 use oasis_values::{Input, Text, ValueFault};
 
-/// The types of records that give names and strings by number, but for CELLNAME.
+/// The types of records that give names and strings by number, except CELLNAME.
 #[derive(Clone, Copy, Debug, Drop, PartialEq, Eq)]
 pub enum EntryType {
-    /// A TEXTSTRING, a PROPNAME or a PROPSTRING, with a string of that kind, that takes the next number.
+    /// A TEXTSTRING, a PROPNAME or a PROPSTRING with a string of this kind, which has the next number.
     String(Text),
-    /// The same with its number.
+    /// The same with a number of its own.
     NumberedString(Text),
     /// A LAYERNAME of layers and datatypes, or of text layers and text types.
     LayerName,
-    /// An XNAME that takes the next number.
+    /// An XNAME, which has the next number.
     XName,
-    /// An XNAME with its number.
+    /// An XNAME with a number of its own.
     NumberedXName,
 }
 
-// A string and its number.
+// Reads a string and its number.
 fn skip_numbered_string<R: Read>(input: &mut Input<R>, kind: Text) -> Result<(), ValueFault>
     ensures reads { Reads R.remaining R.read_errors R.lent
         (IsNumberedString kind) input.old input.new (as_breach result) }
@@ -38,7 +38,7 @@ fn skip_numbered_string<R: Read>(input: &mut Input<R>, kind: Text) -> Result<(),
     Ok(())
 }
 
-// An attribute and a string.
+// Reads an attribute and a string.
 fn skip_x_name<R: Read>(input: &mut Input<R>) -> Result<(), ValueFault>
     ensures reads { Reads R.remaining R.read_errors R.lent IsXName input.old input.new (as_breach result) }
 {
@@ -54,7 +54,7 @@ fn skip_numbered_x_name<R: Read>(input: &mut Input<R>) -> Result<(), ValueFault>
     skip_numbered_string(input, Text::B)
 }
 
-// How many bounds an interval of that type has.
+// How many bounds an interval has, by its type.
 fn bounds(kind: u64) -> u64
     ensures { result ≡ bounds kind }
 {
@@ -71,7 +71,7 @@ fn is_interval_type(kind: u64) -> bool
     kind < 5
 }
 
-// The type of an interval, which is below 5.
+// Reads the type of an interval, which must be below 5.
 fn read_interval_type<R: Read>(input: &mut Input<R>) -> Result<u64, RecordFault>
     ensures reads { Reads R.remaining R.read_errors R.lent IsIntervalType input.old input.new (reported_breach result) }
 {
@@ -79,7 +79,7 @@ fn read_interval_type<R: Read>(input: &mut Input<R>) -> Result<u64, RecordFault>
     must(is_interval_type(kind), kind, RecordRule::Info)
 }
 
-// `count` integers.
+// Reads `count` integers and keeps none.
 fn skip_bounds<R: Read>(input: &mut Input<R>, count: u64) -> Result<(), ValueFault>
     requires { has_failed input.old ≡ false }
     ensures reads { Reads R.remaining R.read_errors R.lent (AreBounds count) input.old input.new (as_breach result) }
@@ -90,7 +90,7 @@ fn skip_bounds<R: Read>(input: &mut Input<R>, count: u64) -> Result<(), ValueFau
     Ok(())
 }
 
-// An interval of layers, datatypes or text types.
+// Reads an interval of layers, datatypes, text layers or text types.
 fn skip_interval<R: Read>(input: &mut Input<R>) -> Result<(), RecordFault>
     ensures reads { Reads R.remaining R.read_errors R.lent IsInterval input.old input.new (reported_breach result) }
 {
@@ -99,7 +99,7 @@ fn skip_interval<R: Read>(input: &mut Input<R>) -> Result<(), RecordFault>
     Ok(())
 }
 
-// A name and two intervals.
+// Reads a name and two intervals.
 fn skip_layer_name<R: Read>(input: &mut Input<R>) -> Result<(), RecordFault>
     ensures reads { Reads R.remaining R.read_errors R.lent IsLayerName input.old input.new (reported_breach result) }
 {
@@ -108,7 +108,7 @@ fn skip_layer_name<R: Read>(input: &mut Input<R>) -> Result<(), RecordFault>
     skip_interval(input)
 }
 
-// The fields of a record of that type.
+// Reads the fields of a record of that type.
 fn skip_entry<R: Read>(input: &mut Input<R>, kind: EntryType) -> Result<(), RecordFault>
     ensures reads { Reads R.remaining R.read_errors R.lent
         (IsEntryOf kind) input.old input.new (reported_breach result) }
@@ -122,7 +122,7 @@ fn skip_entry<R: Read>(input: &mut Input<R>, kind: EntryType) -> Result<(), Reco
     }
 }
 
-/// A record of that type after its id.
+/// Reads a record of that type after its id.
 pub(crate) fn read_entry<R: Read>(
     input: &mut Input<R>,
     kind: EntryType,
@@ -133,7 +133,7 @@ pub(crate) fn read_entry<R: Read>(
     Ok(Record::Entry)
 }
 
-/// A string by the number of its record, or as it is.
+/// Reads a string by the number of its record, or the string itself.
 pub(crate) fn skip_string_ref<R: Read>(
     input: &mut Input<R>,
     kind: Text,

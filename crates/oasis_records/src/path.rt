@@ -24,19 +24,19 @@ const HALF_WIDTH: u8 = 0x40;
 
 const ENDS: u8 = 0x80;
 
-/// The four highest bits of the scheme byte are reserved.
+/// A scheme byte is below this: its four highest bits are reserved.
 const RESERVED: u8 = 0x10;
 
 /// How far a path reaches beyond an end.
 #[derive(Clone, Copy, Debug, Drop, PartialEq, Eq)]
 pub enum Extension {
-    /// As the path before.
+    /// As far as the modal variable says.
     Modal,
     /// Not at all.
     Flush,
     /// Half its width.
     HalfWidth,
-    /// So far, in grid steps.
+    /// This far, in grid steps.
     Explicit(i64),
 }
 
@@ -47,18 +47,18 @@ pub struct Ends {
     pub end: Extension,
 }
 
-/// A PATH record, in grid steps.
+/// A PATH record. Lengths are in grid steps, and `None` stands for the modal variable.
 #[derive(Debug, Drop)]
 pub struct Path {
     pub on: OnLayer,
     pub half_width: Option<u64>,
     pub ends: Option<Ends>,
     pub points: Option<Points>,
-    /// Where its first point is.
+    /// The position of its first point.
     pub position: Position,
 }
 
-/// What comes before the point list.
+/// The fields before the point list.
 #[derive(Clone, Copy, Drop)]
 pub struct Stroke {
     info: u8,
@@ -76,7 +76,7 @@ pub enum Kind {
     Explicit,
 }
 
-// The kind of that number, of which there are four.
+// The kind of an extension by its number, from 0 to 3.
 fn kind_of(number: u8) -> Kind
     ensures { result ≡ kind_of number }
 {
@@ -88,7 +88,7 @@ fn kind_of(number: u8) -> Kind
     }
 }
 
-// An extension of that kind.
+// Reads an extension of that kind.
 fn read_extension<R: Read>(input: &mut Input<R>, kind: Kind) -> Result<Extension, ValueFault>
     requires { has_failed input.old ≡ false }
     ensures reads { Reads R.remaining R.read_errors R.lent
@@ -105,7 +105,7 @@ fn read_extension<R: Read>(input: &mut Input<R>, kind: Kind) -> Result<Extension
     }
 }
 
-// The extensions after the scheme byte 0000SSEE.
+// Reads the extensions after the scheme byte 0000SSEE.
 fn ends_of<R: Read>(input: &mut Input<R>, scheme: u8) -> Result<Ends, ValueFault>
     requires { has_failed input.old ≡ false }
     ensures reads { Reads R.remaining R.read_errors R.lent
@@ -118,7 +118,7 @@ fn ends_of<R: Read>(input: &mut Input<R>, scheme: u8) -> Result<Ends, ValueFault
     Ok(Ends { start, end })
 }
 
-// The scheme byte and the extensions.
+// Reads the scheme byte and the extensions.
 fn read_ends<R: Read>(input: &mut Input<R>) -> Result<Option<Ends>, RecordFault>
     ensures reads { Reads R.remaining R.read_errors R.lent AreEnds input.old input.new (reported_breach result) }
 {
@@ -139,7 +139,7 @@ fn ends_if<R: Read>(input: &mut Input<R>, info: u8) -> Result<Option<Ends>, Reco
     Ok(None)
 }
 
-// What comes after the info byte EWPXYRDL, before the point list.
+// Reads the fields after the info byte EWPXYRDL, before the point list.
 fn stroke_of<R: Read>(input: &mut Input<R>, info: u8) -> Result<Stroke, RecordFault>
     requires { has_failed input.old ≡ false }
     ensures reads { Reads R.remaining R.read_errors R.lent
@@ -156,7 +156,7 @@ fn stroke_of<R: Read>(input: &mut Input<R>, info: u8) -> Result<Stroke, RecordFa
     })
 }
 
-// The info byte, and what comes before the point list.
+// Reads the info byte, and the fields before the point list.
 fn read_stroke<R: Read>(input: &mut Input<R>) -> Result<Stroke, RecordFault>
     ensures reads { Reads R.remaining R.read_errors R.lent IsStroke input.old input.new (reported_breach result) }
 {
@@ -164,7 +164,7 @@ fn read_stroke<R: Read>(input: &mut Input<R>) -> Result<Stroke, RecordFault>
     stroke_of(input, info)
 }
 
-// The point list and the position.
+// Reads the point list and the position.
 fn path_of<R: Read>(
     input: &mut Input<R>,
     alloc: Global,
@@ -184,7 +184,7 @@ fn path_of<R: Read>(
     }))
 }
 
-/// A PATH record after its id.
+/// Reads a PATH record after its id.
 pub(crate) fn read_path<R: Read>(
     input: &mut Input<R>,
     alloc: Global,

@@ -26,29 +26,29 @@ const ANGLE: u8 = 0x02;
 
 const FLIP: u8 = 0x01;
 
-/// How a placed cell is turned, counterclockwise, after it is reflected.
+/// How a placed cell is turned after its reflection, counterclockwise, and magnified.
 #[derive(Clone, Copy, Debug, Drop, PartialEq, Eq)]
 pub enum Transform {
-    /// By a right angle or several.
+    /// By a multiple of a right angle, and not magnified.
     Turned(Turn),
-    /// By any angle in degrees, and magnified.
+    /// By an angle in degrees, with a magnification; `None` for a field that isn't there.
     Scaled {
         magnification: Option<Real>,
         angle: Option<Real>,
     },
 }
 
-/// A PLACEMENT record, in grid steps.
+/// A PLACEMENT record. `None` for the cell stands for the modal variable.
 #[derive(Debug, Drop)]
 pub struct Placement {
     pub cell: Option<CellRef>,
-    /// It is reflected about the x axis.
+    /// Whether it is reflected about the x axis.
     pub flip: bool,
     pub transform: Transform,
     pub position: Position,
 }
 
-// The turn of that number, of which there are four.
+// The turn by its number, from 0 to 3.
 fn turn_of(number: u8) -> Turn
     ensures { result ≡ turn_of number }
 {
@@ -60,7 +60,7 @@ fn turn_of(number: u8) -> Turn
     }
 }
 
-// The cell, by the letters C and N. Own rule: N alone says nothing.
+// Reads the cell, by the letters C and N. Own rule: N without C is ignored.
 fn cell_if<R: Read>(
     input: &mut Input<R>,
     alloc: Global,
@@ -78,7 +78,7 @@ fn cell_if<R: Read>(
     Ok(None)
 }
 
-// The fields after the info byte CNXYRAAF. X, Y and R are one bit higher than in a figure.
+// Reads the fields after the info byte CNXYRAAF. X, Y and R are one bit higher than in a figure.
 fn turned_of<R: Read>(
     input: &mut Input<R>,
     alloc: Global,
@@ -97,7 +97,7 @@ fn turned_of<R: Read>(
     }))
 }
 
-// The fields after the info byte CNXYRMAF.
+// Reads the fields after the info byte CNXYRMAF.
 fn scaled_of<R: Read>(
     input: &mut Input<R>,
     alloc: Global,
@@ -121,7 +121,7 @@ fn scaled_of<R: Read>(
     }))
 }
 
-/// A PLACEMENT record by right angles, after its id.
+/// Reads a PLACEMENT record with a turn, after its id.
 pub(crate) fn read_turned<R: Read>(
     input: &mut Input<R>,
     alloc: Global,
@@ -132,7 +132,7 @@ pub(crate) fn read_turned<R: Read>(
     turned_of(input, alloc, info)
 }
 
-/// A PLACEMENT record by any angle, after its id.
+/// Reads a PLACEMENT record with a magnification and an angle, after its id.
 pub(crate) fn read_scaled<R: Read>(
     input: &mut Input<R>,
     alloc: Global,

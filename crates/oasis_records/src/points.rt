@@ -15,8 +15,8 @@ use std::marker::Model;
 
 const POINT_LIST: u8 = 0x20;
 
-/// The vertices of a point list as displacements from its start, in grid steps. The start is first, and
-/// the vertex that a polygon implies is last.
+/// The vertices of a point list as displacements from its start, in grid steps. The first is the start
+/// itself; in a polygon of type 0 or 1 the last is the implied vertex.
 #[derive(Debug, Drop)]
 pub struct Points {
     vertices: Vec<Point>,
@@ -41,7 +41,7 @@ impl Points {
     }
 }
 
-// A point list.
+// Reads a point list.
 fn read_points<R: Read>(
     input: &mut Input<R>,
     alloc: Global,
@@ -53,7 +53,7 @@ fn read_points<R: Read>(
     Ok(Points { vertices })
 }
 
-/// A point list, if the letter P is set.
+/// Reads a point list, if the letter P is set.
 pub(crate) fn points_if<R: Read>(
     input: &mut Input<R>,
     alloc: Global,

@@ -16,19 +16,19 @@ use lvl_refusal::Cause;
 use oasis_values::{Input, Use, ValueFault};
 use std::alloc::Global;
 
-/// The two highest bits of the info byte are reserved.
+/// The info byte is below this: its two highest bits are reserved.
 const RESERVED: u8 = 0x40;
 
-/// A POLYGON record, in grid steps.
+/// A POLYGON record. Lengths are in grid steps, and `None` stands for the modal variable.
 #[derive(Debug, Drop)]
 pub struct Polygon {
     pub on: OnLayer,
     pub points: Option<Points>,
-    /// Where its first vertex is.
+    /// The position of its first vertex.
     pub position: Position,
 }
 
-// The fields after the info byte 00PXYRDL.
+// Reads the fields after the info byte 00PXYRDL.
 fn polygon_of<R: Read>(
     input: &mut Input<R>,
     alloc: Global,
@@ -47,7 +47,7 @@ fn polygon_of<R: Read>(
     }))
 }
 
-/// A POLYGON record after its id.
+/// Reads a POLYGON record after its id.
 pub(crate) fn read_polygon<R: Read>(
     input: &mut Input<R>,
     alloc: Global,

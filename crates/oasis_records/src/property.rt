@@ -21,17 +21,17 @@ const NAME: u8 = 0x04;
 
 const NUMBER: u8 = 0x02;
 
-/// The count in the four highest bits that says that an integer has the count.
+/// The value of the four highest bits that means that an integer has the number of values.
 const COUNTED: u8 = 15;
 
-// Whether such an info byte may be: with the values of the last property it has none of its own.
+// Whether the info byte is allowed: if V is set, the record has no values of its own.
 fn is_info(info: u8) -> bool
     ensures { result ≡ is_property_info info }
 {
     !has(info, LAST_VALUES) || info / 16 == 0
 }
 
-// The info byte UUUUVCNS.
+// Reads the info byte UUUUVCNS.
 fn read_property_info<R: Read>(input: &mut Input<R>) -> Result<u8, RecordFault>
     ensures reads { Reads R.remaining R.read_errors R.lent IsPropertyInfo input.old input.new (reported_breach result) }
 {
@@ -39,7 +39,7 @@ fn read_property_info<R: Read>(input: &mut Input<R>) -> Result<u8, RecordFault>
     must(is_info(info), info, RecordRule::Info)
 }
 
-// How many values come.
+// Reads how many values follow.
 fn read_count<R: Read>(input: &mut Input<R>, info: u8) -> Result<u64, ValueFault>
     requires { has_failed input.old ≡ false }
     ensures reads { Reads R.remaining R.read_errors R.lent (IsCount info) input.old input.new (as_breach result) }
@@ -51,7 +51,7 @@ fn read_count<R: Read>(input: &mut Input<R>, info: u8) -> Result<u64, ValueFault
     Ok(u64::from(count))
 }
 
-// `count` values.
+// Reads `count` values and keeps none.
 fn skip_values<R: Read>(input: &mut Input<R>, count: u64) -> Result<(), ValueFault>
     requires { has_failed input.old ≡ false }
     ensures reads { Reads R.remaining R.read_errors R.lent (AreValues count) input.old input.new (as_breach result) }
@@ -62,7 +62,7 @@ fn skip_values<R: Read>(input: &mut Input<R>, count: u64) -> Result<(), ValueFau
     Ok(())
 }
 
-// The fields after the info byte.
+// Reads the fields after the info byte.
 fn property_of<R: Read>(input: &mut Input<R>, info: u8) -> Result<Record, ValueFault>
     requires { has_failed input.old ≡ false }
     ensures reads { Reads R.remaining R.read_errors R.lent (IsPropertyOf info) input.old input.new (as_breach result) }
@@ -73,7 +73,7 @@ fn property_of<R: Read>(input: &mut Input<R>, info: u8) -> Result<Record, ValueF
     Ok(Record::Property)
 }
 
-/// A PROPERTY record after its id.
+/// Reads a PROPERTY record after its id.
 pub(crate) fn read_property<R: Read>(input: &mut Input<R>) -> Result<Record, RecordFault>
     ensures reads { Reads R.remaining R.read_errors R.lent IsProperty input.old input.new (reported_breach result) }
 {

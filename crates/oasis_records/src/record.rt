@@ -23,7 +23,7 @@ use lvl_refusal::Cause;
 use oasis_values::{Input, Repetition};
 use std::alloc::Global;
 
-/// A record, as it is: a field that isn't there is None.
+/// A record as it is in the file. A field that isn't there is `None`.
 #[derive(Debug, Drop)]
 pub enum Record {
     Pad,
@@ -31,9 +31,9 @@ pub enum Record {
     End(Validation),
     CellName(CellName),
     Cell(CellRef),
-    /// A record that gives a name or a string by its number, but for CELLNAME. Nothing of it is kept.
+    /// A record that gives a name or a string by number, except CELLNAME. Nothing of it is kept.
     Entry,
-    /// A TEXT, of which its repetition is kept: later records may use it again.
+    /// A TEXT. Only its repetition is kept, since later records may use it again.
     Text(Option<Repetition>),
     /// A PROPERTY. Nothing of it is kept.
     Property,
@@ -45,10 +45,10 @@ pub enum Record {
     Path(Path),
 }
 
-/// The fields of a record of that type, after its id, which has `id_len` bytes. END has the offsets of
-/// tables where START says so.
+/// Reads the fields of a record of that type, after its id, which has `id_len` bytes. The offsets of tables
+/// are in END if `has_offsets_at_end` is set, as START says.
 ///
-/// Each field is tested as it is read. The id has to be read before, so that the input hasn't failed.
+/// Each field is tested when it is read. The id must have been read before, so the input hasn't failed.
 pub fn read_fields<R: Read>(
     input: &mut Input<R>,
     alloc: Global,
@@ -64,7 +64,7 @@ pub fn read_fields<R: Read>(
     fields_of(input, alloc, kind, id_len, has_offsets_at_end)
 }
 
-// The fields of a record of that type.
+// Reads the fields of a record of that type.
 fn fields_of<R: Read>(
     input: &mut Input<R>,
     alloc: Global,

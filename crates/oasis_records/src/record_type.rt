@@ -7,29 +7,29 @@ use crate::names::EntryType;
 use lvl_ignore::Ignore;
 use oasis_values::Text;
 
-/// The types of records that are read, of which some are only read to be ignored.
+/// The types of records that are read. Some are only read to be ignored.
 #[derive(Clone, Copy, Debug, Drop, PartialEq, Eq)]
 pub enum RecordType {
     Pad,
     Start,
     End,
-    /// A CELLNAME that is numbered by its place among these.
+    /// A CELLNAME without a number: its number is the number of such records before it.
     CellName,
-    /// A CELLNAME with its number.
+    /// A CELLNAME with a number of its own.
     NumberedCellName,
     /// A CELL by the number of its name.
     NumberedCell,
     /// A CELL by its name.
     NamedCell,
-    /// A record that gives a name or a string by its number, but for CELLNAME.
+    /// A record that gives a name or a string by number, except CELLNAME.
     Entry(EntryType),
     Text,
     Property,
-    /// The last PROPERTY again.
+    /// A PROPERTY that repeats the last one.
     LastProperty,
     XyAbsolute,
     XyRelative,
-    /// A PLACEMENT that is turned by right angles.
+    /// A PLACEMENT with a turn by right angles.
     Placement,
     /// A PLACEMENT with a magnification and an angle.
     ScaledPlacement,
@@ -38,7 +38,7 @@ pub enum RecordType {
     Path,
 }
 
-// The type, if records of it are read.
+// The type, if records of it are read, else `Unsupported`.
 fn type_if(is_read: bool, kind: RecordType, id: u64) -> Result<RecordType, RecordRule>
     ensures { result ≡ type_if is_read kind id }
 {
@@ -50,9 +50,9 @@ fn type_if(is_read: bool, kind: RecordType, id: u64) -> Result<RecordType, Recor
 }
 
 impl RecordType {
-    /// The type of an id. `Unsupported` is reported of an id that isn't read: of all but 0 to 4, 13 to 18
-    /// and 20 to 22, and those that are ignored. These are 11, 12, 30 and 31 as names, 5, 6 and 19 as
-    /// texts, and 7 to 10, 28 and 29 as properties (SEMI P39, "Records").
+    /// The type of records with this id (SEMI P39, "Records"). It is `Unsupported` except for 0 to 4, 13 to
+    /// 18 and 20 to 22, and for those that are ignored: 11, 12, 30 and 31 as names, 5, 6 and 19 as texts, 7
+    /// to 10, 28 and 29 as properties.
     pub fn of(id: u64, ignore: Ignore) -> Result<RecordType, RecordRule>
         ensures { result ≡ record_type ignore id }
     {

@@ -22,26 +22,26 @@ const WIDTH: u8 = 0x40;
 
 const SQUARE: u8 = 0x80;
 
-/// A RECTANGLE record, in grid steps.
+/// A RECTANGLE record. Lengths are in grid steps, and `None` stands for the modal variable.
 #[derive(Debug, Drop)]
 pub struct Rectangle {
-    /// It is as high as wide, and its height isn't there.
+    /// Whether it is a square. Then the record has no height.
     pub is_square: bool,
     pub on: OnLayer,
     pub width: Option<u64>,
     pub height: Option<u64>,
-    /// Where its lower left corner is.
+    /// The position of its lower left corner.
     pub position: Position,
 }
 
-// Whether such an info byte may be: a square has no height.
+// Whether the info byte is allowed: a square has no height.
 fn is_info(info: u8) -> bool
     ensures { result ≡ not (has info 0x80 && has info 0x20) }
 {
     !(has(info, SQUARE) && has(info, HEIGHT))
 }
 
-// The info byte SWHXYRDL.
+// Reads the info byte SWHXYRDL.
 fn read_rectangle_info<R: Read>(input: &mut Input<R>) -> Result<u8, RecordFault>
     ensures reads { Reads R.remaining R.read_errors R.lent
         IsRectangleInfo input.old input.new (reported_breach result) }
@@ -50,7 +50,7 @@ fn read_rectangle_info<R: Read>(input: &mut Input<R>) -> Result<u8, RecordFault>
     must(is_info(info), info, RecordRule::Info)
 }
 
-// The fields after the info byte.
+// Reads the fields after the info byte.
 fn rectangle_of<R: Read>(
     input: &mut Input<R>,
     alloc: Global,
@@ -72,7 +72,7 @@ fn rectangle_of<R: Read>(
     }))
 }
 
-/// A RECTANGLE record after its id.
+/// Reads a RECTANGLE record after its id.
 pub(crate) fn read_rectangle<R: Read>(
     input: &mut Input<R>,
     alloc: Global,

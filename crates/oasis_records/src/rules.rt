@@ -1,4 +1,4 @@
-//! Rules that are tested of values as they are read.
+//! Rules that are tested when a value has been read.
 ghost use Rattle.std.specs.Prelude.{◌≡◌, Ok};
 ghost use Rattle.oasis_values.specs.Faults.{as_breach};
 ghost use Rattle.oasis_records.specs.Rules.{reported, reported_breach, plain, obeyed};
@@ -7,7 +7,7 @@ use crate::fault::{RecordFault, RecordRule};
 use lvl_refusal::Cause;
 use oasis_values::ValueFault;
 
-/// The value, where the rule is kept.
+/// The value if the rule is kept, else the rule as a fault.
 pub(crate) fn must<T: Drop>(is_kept: bool, value: T, rule: RecordRule) -> Result<T, RecordFault>
     ensures { reported_breach result ≡ Ok (obeyed is_kept value rule) }
 {
@@ -18,7 +18,7 @@ pub(crate) fn must<T: Drop>(is_kept: bool, value: T, rule: RecordRule) -> Result
     }
 }
 
-/// The same answer, where no rule of records was tested.
+/// The same result, if no rule of records was tested.
 pub(crate) fn of_values<T: Drop>(
     answer: Result<T, Cause<ValueFault>>,
 ) -> Result<T, Cause<RecordFault>>
@@ -31,7 +31,7 @@ pub(crate) fn of_values<T: Drop>(
     }
 }
 
-/// The same of a call that takes no memory.
+/// The same for a call that doesn't allocate.
 pub(crate) fn no_rule<T: Drop>(answer: Result<T, ValueFault>) -> Result<T, RecordFault>
     ensures { reported_breach result ≡ plain (as_breach answer) }
 {

@@ -16,15 +16,15 @@ use lvl_refusal::Cause;
 use oasis_values::{Input, Real, Text, ValueFault};
 use std::alloc::Global;
 
-/// How many integers the offsets of tables are: six tables, of which each has two.
+/// The number of integers in the offsets of tables: two for each of six tables.
 const OFFSETS: u64 = 12;
 
 /// A START record. Its version is `1.0`.
 #[derive(Clone, Copy, Debug, Drop, PartialEq, Eq)]
 pub struct Start {
-    /// Grid steps in a micrometre.
+    /// The number of grid steps in a micrometre.
     pub unit: Real,
-    /// The offsets of tables are in END.
+    /// Whether the offsets of tables are in END.
     pub has_offsets_at_end: bool,
 }
 
@@ -34,7 +34,7 @@ fn is_version(text: &Name) -> bool
     text.as_bytes() == b"1.0".as_slice()
 }
 
-// Whether the unit may be positive.
+// Whether the unit's type isn't that of a negative whole number, reciprocal or ratio.
 fn is_unit(unit: Real) -> bool
     ensures { result ≡ is_unit unit }
 {
@@ -57,7 +57,7 @@ fn is_here(flag: u64) -> bool
     flag != 1
 }
 
-// A string that may be a version.
+// Reads a string that may be a version.
 fn read_version_text<R: Read>(
     input: &mut Input<R>,
     alloc: Global,
@@ -67,7 +67,7 @@ fn read_version_text<R: Read>(
     of_values(read_text(input, alloc, Text::A))
 }
 
-// The version, which is `1.0`.
+// Reads the version, which must be `1.0`.
 fn read_version<R: Read>(input: &mut Input<R>, alloc: Global) -> Result<Name, Cause<RecordFault>>
     ensures reads { Reads R.remaining R.read_errors R.lent IsVersion input.old input.new (reported result) }
 {
@@ -77,7 +77,7 @@ fn read_version<R: Read>(input: &mut Input<R>, alloc: Global) -> Result<Name, Ca
     Ok(version)
 }
 
-// The unit, which isn't negative.
+// Reads the unit.
 fn read_unit<R: Read>(input: &mut Input<R>) -> Result<Real, RecordFault>
     ensures reads { Reads R.remaining R.read_errors R.lent IsUnit input.old input.new (reported_breach result) }
 {
@@ -85,7 +85,7 @@ fn read_unit<R: Read>(input: &mut Input<R>) -> Result<Real, RecordFault>
     must(is_unit(unit), unit, RecordRule::Unit)
 }
 
-// The flag, which is 0 or 1.
+// Reads the offset flag, which must be 0 or 1.
 fn read_flag<R: Read>(input: &mut Input<R>) -> Result<u64, RecordFault>
     ensures reads { Reads R.remaining R.read_errors R.lent IsFlag input.old input.new (reported_breach result) }
 {
@@ -93,7 +93,7 @@ fn read_flag<R: Read>(input: &mut Input<R>) -> Result<u64, RecordFault>
     must(is_flag(flag), flag, RecordRule::Info)
 }
 
-// The offsets of tables. Their values are free.
+// Reads the offsets of tables. They may have any value.
 fn skip_offsets<R: Read>(input: &mut Input<R>) -> Result<bool, ValueFault>
     requires { has_failed input.old ≡ false }
     ensures reads { Reads R.remaining R.read_errors R.lent AreOffsets input.old input.new (as_breach result) }
@@ -104,7 +104,7 @@ fn skip_offsets<R: Read>(input: &mut Input<R>) -> Result<bool, ValueFault>
     Ok(true)
 }
 
-/// The offsets of tables, if they are there.
+/// Reads the offsets of tables, if they are there.
 pub(crate) fn read_offsets<R: Read>(
     input: &mut Input<R>,
     are_there: bool,
@@ -119,7 +119,7 @@ pub(crate) fn read_offsets<R: Read>(
     Ok(false)
 }
 
-// What comes after the version.
+// Reads the fields after the version.
 fn start_of<R: Read>(input: &mut Input<R>) -> Result<Record, RecordFault>
     ensures reads { Reads R.remaining R.read_errors R.lent IsStartOf input.old input.new (reported_breach result) }
 {
@@ -133,7 +133,7 @@ fn start_of<R: Read>(input: &mut Input<R>) -> Result<Record, RecordFault>
     }))
 }
 
-/// A START record after its id.
+/// Reads a START record after its id.
 pub(crate) fn read_start<R: Read>(
     input: &mut Input<R>,
     alloc: Global,

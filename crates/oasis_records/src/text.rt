@@ -9,10 +9,10 @@ use oasis_values::{Input, Text, ValueFault};
 use std::alloc::Global;
 use std::marker::Model;
 
-/// The most bytes of a name or a version (own rule).
+/// The greatest length of a name or a version in bytes (own rule).
 pub(crate) const MOST_BYTES: usize = 255;
 
-/// A string, as a record has it.
+/// A string in a record.
 #[derive(Debug, Drop)]
 pub struct Name {
     bytes: Vec<u8>,
@@ -43,7 +43,7 @@ impl Name {
     }
 }
 
-/// A string of that kind.
+/// Reads a string of that kind.
 pub(crate) fn read_text<R: Read>(
     input: &mut Input<R>,
     alloc: Global,

@@ -49,7 +49,7 @@ byte_refuses ignore xs {old = old} {new = new} to b live under ended p =
       ),
     ))
 
--- nothing is begun but the byte itself
+-- a single byte has no unfinished beginning but the empty list
 short_byte : (x : Result ℕ ValueFault) (ys more : List ℕ) → 0 < length more → IsOneByte (ys ++ more) x → length ys ≡ 0
 short_byte (Ok x) ys more short says = omega (arith, short, ap length says, length-append ys more)
 short_byte (Err f) ys more short says = absurd says
@@ -78,13 +78,13 @@ long_after ignore xs at had to s p =
     (λ more. let z = room_seen (drop at xs) had (file_limit - at) more q.0 q.1 in
     inl (refl, (z.0, ((λ e. z.1 ∙ nil), subst (IsBegun (IsItem to.records ignore)) (sym (z.1 ∙ nil)) begun))))
 
--- no rule of values is breached by a byte
+-- a byte breaches no rule of values
 byte_rule : {A : Type 0} (room had : ℕ) (ys : List ℕ) (f : ValueFault) → is_rule f ≡ true
     → Fails IsOneByte room had ys f
     → A
 byte_rule room had ys f rule p = absurd ((p.breached rule).front.says)
 
--- no byte could be read, and the input hasn't ended
+-- no byte could be read, but the input hasn't ended
 pub after_refuses : {Has : List Item → Type 0} {was left : Option (List ℕ)} (ignore : Ignore) (xs : List ℕ) (at had : ℕ)
     (to : ReadTo (oasis ignore) xs at Has was) (f : ValueFault)
     → ¬ (f ≡ Truncated) → ¬ (f ≡ Failed) → IsSeen (drop at xs) had left
@@ -98,7 +98,7 @@ after_refuses ignore xs at had to TooLong t n s p = long_after ignore xs at had 
 after_refuses ignore xs at had to Failed t n s p = absurd (n refl)
 after_refuses ignore xs at had to _ t n s p = byte_rule _ _ _ _ refl p
 
--- the input has ended: it is a whole file
+-- the input has ended, and is a whole file
 pub whole_file : {Has : List Item → Type 0} {had : ℕ} {was : Option (List ℕ)} (ignore : Ignore) (xs : List ℕ) (at : ℕ)
     (to : ReadTo (oasis ignore) xs at Has was) → IsEnded to.records
     → Fails IsOneByte (file_limit - at) had (drop at xs) Truncated → SpellsWhole (oasis ignore) xs to.records

@@ -1,4 +1,4 @@
--- What is spelled for who ignores less is spelled for who ignores more.
+-- A file that is accepted when less is ignored is accepted when more is.
 use Rattle.std.proofs.Common.{◌≡◌, ℕ, Bool, true, false, if◌then◌else◌, List, [], ◌∷◌, ◌++◌, Result, Ok, Err, refl, sym}
 use Rattle.std.proofs.Common.{subst}
 use Rattle.lvl_io.specs.Spelling.{UnlessBreached}
@@ -84,7 +84,7 @@ follow_all : (less more : Ignore) (before is : List Item) → FollowAll (oasis l
 follow_all less more before [] p = p
 follow_all less more before (i ∷ is) p = (p.0, follow_all less more (before ++ i ∷ []) is p.1)
 
--- a whole file is one for who ignores more, of the same items
+-- it is then a whole file of the same items
 pub whole_grows : (less more : Ignore) → IsWithin less more → (bytes : List ℕ) (is : List Item)
     → SpellsWhole (oasis less) bytes is → SpellsWhole (oasis more) bytes is
 whole_grows less more within bytes is p =

@@ -1,4 +1,4 @@
--- OASIS is a grammar: what the laws of streams ask of a format.
+-- OASIS has the properties that the laws of streams need of a format.
 use Rattle.std.proofs.Common.{◌≡◌, ℕ, ◌<◌, ◌≤◌, List, ◌++◌, length, take, drop, Result, Ok, Err, refl, sym, ap, ◌∙◌}
 use Rattle.std.proofs.Common.{subst}
 use Rattle.std.proofs.Common.{append_assoc, inl, inr, arith, length-take}
@@ -28,7 +28,7 @@ Spelled ignore before bytes i = IsItem before ignore bytes (Ok (Ok i))
 same_item : (i j : Item) → said i ≡ said j → i ≡ j
 same_item i j e = cc
 
--- after the same items, bytes that begin alike spell the same item by the same bytes
+-- after the same items, if two lists of bytes begin alike, they begin with the same item, spelled by the same bytes
 one_item : (ignore : Ignore) (before : List Item) (i j : Item) (a b x y : List ℕ) → Spelled ignore before a i
     → Spelled ignore before b j
     → a ++ x ≡ b ++ y → (a ≡ b) × (i ≡ j)
@@ -44,7 +44,7 @@ rule_needs ignore before room ys k w = elim w.3 [
   | inr p ↦ front_needs ignore before ys w.1 (Ok (Ok p.0)) p.1
 ]
 
--- a rule is breached by some bytes
+-- a rule is breached only by bytes that are there
 wrong_here : (ignore : Ignore) (before : List Item) (room : ℕ) (ys : List ℕ) (k : OasisKind)
     → IsWrong ignore before room ys k → 0 < length ys
 wrong_here ignore before room ys (Value f) w = elim w [
@@ -58,7 +58,7 @@ wrong_here ignore before room ys (Name k) w = rule_needs ignore before room ys (
 wrong_here ignore before room ys (Figure k) w = rule_needs ignore before room ys (Figure k) w
 wrong_here ignore before room ys TooManyCells w = rule_needs ignore before room ys TooManyCells w
 
--- where bytes at the front breach a rule no item may follow
+-- if bytes at the front breach a rule, no item may follow
 rule_stops : (ignore : Ignore) (before : List Item) (room : ℕ) (ys text : List ℕ) (i : Item) (k : OasisKind)
     → BreaksRule ignore before room ys k
     → Spelled ignore before text i → MayFollow before i → Agree text ys → ⊥
@@ -72,7 +72,7 @@ rule_stops ignore before room ys text i k w p g agree = elim w.3 [
       g.1 k (subst (λ (j : Item). Breaches before j k) e q.2)
 ]
 
--- bytes that agree begin as those do that there is room for
+-- bytes that agree with the input agree with its bytes within the limit
 within_room : (room : ℕ) (text ys : List ℕ) → Agree text ys
     → (x y : List ℕ) × (text ++ x ≡ take room ys ++ y)
 within_room room text ys agree =
@@ -83,7 +83,7 @@ within_room room text ys agree =
           (drop room ys) q.1,
     )
 
--- the shorter of two lists of bytes that begin alike is at the front of the longer one
+-- of two lists that begin alike, the shorter one is at the front of the longer one
 pub front_in : (text ys x y : List ℕ) → text ++ x ≡ ys ++ y → length text ≤ length ys
     → ys ≡ text ++ drop (length text) ys
 front_in text ys x y e fits =
@@ -109,7 +109,7 @@ long_none ignore before room ys text i (more, (ended, begun)) p agree fits =
     begun_none ignore before (take room ys) text (drop (length text) (take room ys)) i begun p
     (front_in text (take room ys) q.0 q.1 q.2 l)
 
--- where a rule is breached no item may follow
+-- if a rule is breached, no item may follow
 wrong_stops : (ignore : Ignore) (before : List Item) (room : ℕ) (ys text : List ℕ) (i : Item) (k : OasisKind)
     → IsWrong ignore before room ys k
     → Spelled ignore before text i → MayFollow before i → Agree text ys → length text ≤ room → ⊥

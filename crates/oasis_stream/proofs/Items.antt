@@ -1,4 +1,4 @@
--- What bytes say of the next item of a file: their spelling is free of prefixes, and no item is spelled by no bytes.
+-- What bytes say about the next item of a file: the spelling is prefix-free, and the empty list spells no item.
 use Rattle.std.proofs.Common.{◌≡◌, ◌≢◌, ℕ, ◌<◌, Bool, true, false, not, ◌&&◌, nat_lt, if◌then◌else◌, List, [], ◌∷◌}
 use Rattle.std.proofs.Common.{◌==◌, drop, length, Result, Ok, Err, sym, ap, arith, length-append}
 use Rattle.lvl_io.specs.Spelling.{UnlessBreached, IsFront, IsPrefixFree, CanSay}
@@ -33,7 +33,7 @@ pub typed_code : (b : Bool) (n : ℕ) (t : Result RecordType OasisKind) → IsCo
 typed_code b n (Ok t) = seen_code of_record (fields_code b n t)
 typed_code b n (Err k) = gives_code
 
--- what bytes say of the next item is one thing at most
+-- bytes begin with at most one item
 pub item_free : (before : List Item) (ignore : Ignore) → IsPrefixFree (IsItem before ignore)
 item_free [] ignore = (seen_code of_magic (magic_code magic_bytes)).free ignore
 item_free (i ∷ is) ignore =
@@ -41,7 +41,7 @@ item_free (i ∷ is) ignore =
     then_free (Sized IsUnsigned ignore) (λ id. IsTypedAfter rs id ignore) ((sized_code unsigned_code).free ignore)
     (λ id. (typed_code (at_end rs) id.len (type_after ignore rs id.value)).free ignore)
 
--- something can be said of it
+-- there are bytes that say something
 pub typed_said : (rs : List Record) (id : Measured) (ignore : Ignore) → CanSay (IsTypedAfter rs id ignore)
 typed_said rs id ignore = (typed_code (at_end rs) id.len (type_after ignore rs id.value)).said ignore
 
@@ -52,7 +52,7 @@ item_said (i ∷ is) ignore =
     then_said (Sized IsUnsigned ignore) (λ id. IsTypedAfter rs id ignore) ((sized_code unsigned_code).said ignore)
     (λ id. typed_said rs id ignore)
 
--- it takes some bytes to say something
+-- the empty list says nothing
 abbrev NeedsBytes : {A : Type 0} → (List ℕ → A → Type 0) → Type 0
 NeedsBytes {A = A} S = (b : List ℕ) (x : A) → S b x → 0 < length b
 
@@ -77,13 +77,13 @@ item_needs ignore [] =
 item_needs ignore (i ∷ is) =
     then_needs ignore (Sized IsUnsigned) (IsTypedAfter (records (i ∷ is))) (sized_needs ignore)
 
--- so where something is said at the front, some bytes are there
+-- if the front says something, there are bytes
 pub front_needs : (ignore : Ignore) (before : List Item) (ys : List ℕ) (n : ℕ)
     (x : Result (Result Item OasisKind) ValueFault) → IsFront (IsItem before ignore) ys n x → 0 < length ys
 front_needs ignore before ys n x p =
     omega (arith, item_needs ignore before p.bytes x p.says, ap length p.whole, length-append p.bytes p.rest)
 
--- that bytes follow END is said of no next item
+-- AfterEnd isn't a rule of an item
 
 abbrev AfterEndOf : Result (Result Item OasisKind) ValueFault
 AfterEndOf = Ok (Err AfterEnd)

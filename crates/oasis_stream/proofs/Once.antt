@@ -1,4 +1,4 @@
--- A record that is read whole breaches one rule at most.
+-- A complete record breaches at most one rule.
 use Rattle.std.proofs.Common.{◌≡◌, ◌<◌, ◌⊎◌, List, ◌∷◌, Some, refl, sym, ap, ◌∙◌, subst, arith, inl, inr}
 use Rattle.lvl_path.specs.declared.fault.PathFault.{PathFault}
 use Rattle.oasis_records.specs.declared.cell.CellName.{CellName as AName}
@@ -26,7 +26,7 @@ path_once earlier (Path p) f g x y =
     one_lowest (path_points rs) _ f g x y
 path_once earlier _ f g x y = absurd x
 
--- rules of one place in the order of tests are one rule
+-- rules with the same position in the order of tests are the same rule
 same_rule : (earlier : List ARecord) (r : ARecord) (f g : FigureRule) → order f ≡ order g → Breaks earlier r f
     → Breaks earlier r g → f ≡ g
 same_rule earlier r (Undefined v) (Undefined w) e x y = (let z : Some v ≡ Some w = sym x ∙ y in cc)
@@ -97,7 +97,7 @@ naming_alone names earlier r k f p q =
     let a = naming names r k p in
     name_draws earlier a.cell_name f (subst (λ (i : ARecord). Breaks earlier i f) a.is q.broken)
 
--- a rule of names is breached, or one of figures
+-- a rule of names or of figures is breached
 abbrev IsEither : List ARecord → ARecord → OasisKind → Type 0
 IsEither rs r k =
     ((j : NameRule) × (k ≡ Name j) × NamingBreaches (names_in rs) r j)
@@ -121,7 +121,7 @@ record_once rs r j k p q = elim (either_rule rs r j p) [
   ]
 ]
 
--- an item breaches one rule at most
+-- an item breaches at most one rule
 pub breaches_once : (before : List Item) (i : Item) (j k : OasisKind) → Breaches before i j → Breaches before i k
     → j ≡ k
 breaches_once before magic j k p q = absurd p

@@ -1,4 +1,4 @@
--- Where a rule is breached no other is.
+-- If a rule is breached, no other is.
 use Rattle.std.proofs.Common.{◌≡◌, ℕ, ◌<◌, ◌≤◌, ◌⊎◌, List, ◌++◌, length, take, drop, Result, Ok, Err, refl, sym, ap}
 use Rattle.std.proofs.Common.{◌∙◌, subst}
 use Rattle.std.proofs.Common.{inl, inr, arith, length-take}
@@ -18,7 +18,7 @@ use Rattle.oasis_stream.proofs.Items.{item_free}
 use Rattle.oasis_stream.proofs.Instance.{front_in}
 use Rattle.oasis_stream.proofs.Once.{breaches_once}
 
--- what bytes say of the next item is why the rule is breached
+-- what bytes say about the next item is why the rule is breached
 abbrev Explains : List Item → Result (Result Item OasisKind) ValueFault → OasisKind → Type 0
 Explains before (Err f) k = k ≡ Value f
 Explains before (Ok (Err r)) k = k ≡ r
@@ -30,7 +30,7 @@ explains_once before (Err f) j k p q = p ∙ sym q
 explains_once before (Ok (Err r)) j k p q = p ∙ sym q
 explains_once before (Ok (Ok i)) j k p q = breaches_once before i j k p q
 
--- bytes at the front that there is room for are why
+-- bytes at the front, within the limit, are why
 record IsExplained (ignore : Ignore) (before : List Item) (room : ℕ) (ys : List ℕ) (k : OasisKind) : Type 0 where
   unended : ¬ IsEnded before
   count : ℕ
@@ -82,7 +82,7 @@ cause ignore before room ys (Name k) w = by_rule ignore before room ys (Name k) 
 cause ignore before room ys (Figure k) w = by_rule ignore before room ys (Figure k) w
 cause ignore before room ys TooManyCells w = by_rule ignore before room ys TooManyCells w
 
--- nothing whole is at the front of what there is room for, where that is an unfinished beginning
+-- if the bytes within the limit are an unfinished beginning, they have no complete item at their front
 long_open : (ignore : Ignore) (before : List Item) (room : ℕ) (ys : List ℕ) (n : ℕ)
     (x : Result (Result Item OasisKind) ValueFault)
     → IsTooLong ignore before room ys
@@ -99,7 +99,7 @@ long_open ignore before room ys n x (more, (ended, begun)) f fits =
       count = f.count;
     })
 
--- nor does a byte follow there after END
+-- nor does a byte follow END there
 long_after : (ignore : Ignore) (before : List Item) (room : ℕ) (ys : List ℕ) → IsTooLong ignore before room ys
     → IsEnded before → 0 < room → ⊥
 long_after ignore before room ys (more, (ended, begun)) e some =
@@ -143,7 +143,7 @@ one_cause ignore before room ys j k p q = elim p [
   ]
 ]
 
--- what is wrong with the front of the bytes is one rule
+-- at the front of the bytes at most one rule is breached
 pub only_wrong : (ignore : Ignore) (before : List Item) (room : ℕ) (ys : List ℕ) (j k : OasisKind)
     → IsWrong ignore before room ys j
     → IsWrong ignore before room ys k → j ≡ k

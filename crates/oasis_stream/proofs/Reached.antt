@@ -1,4 +1,4 @@
--- What is kept of the records before says which may come next, and goes on with each.
+-- The state of a reader of ids decides which record may come next, and can be updated with each record.
 use Rattle.std.proofs.Common.{◌||◌, ◌≡◌, ℕ, ◌+◌, Bool, true, false, List, [], ◌∷◌, ◌++◌, length, refl, sym, ap, ◌∙◌}
 use Rattle.std.proofs.Common.{arith}
 use Rattle.std.proofs.Common.{length-append}
@@ -16,7 +16,7 @@ use Rattle.oasis_stream.specs.Order.{at_end, any_numbered, any_unnumbered}
 use Rattle.oasis_stream.specs.declared.order.Order.{Order}
 use Rattle.oasis_stream.specs.inside.Reached.{are_none, HasReached, order, passed}
 
--- what one record more adds
+-- what one more record adds
 
 pub flat_map-snoc : {A B : Type 0} (f : A → List B) (xs : List A) (x : A)
     → flat_map f (xs ++ x ∷ []) ≡ flat_map f xs ++ f x
@@ -70,7 +70,7 @@ unnumbered_on : (rs : List Record) (r : Record)
     → any_unnumbered (names_in (rs ++ r ∷ [])) ≡ (any_unnumbered (names_in rs) || any_unnumbered (name_in r))
 unnumbered_on rs r = ap any_unnumbered (flat_map-snoc name_in rs r) ∙ unnumbered-append (names_in rs) (name_in r)
 
--- what comes after the records, by what is added
+-- the state after one more record, by what it adds
 after_record : (o : Order) (rs : List Record) (r : Record) (cell : Bool) (cells : ℕ) (numbered unnumbered ends : Bool)
     → HasReached o rs
     → cell ≡ last_or o.in_cell (opens r) → cells ≡ min (length (cells_in rs) + length (cell_in r)) cell_limit
@@ -112,7 +112,7 @@ after_other o rs r h opens_none flags_none no_name no_cell =
     (sym (or_false o.has_unnumbered) ∙ ap (λ l. o.has_unnumbered || any_unnumbered l) (sym no_name))
     (ap (λ l. last_or o.has_offsets_at_end l) (sym flags_none))
 
--- it goes on with each record
+-- the state is that after each record
 pub law_passed : (o : Order) (rs : List Record) (r : Record) → HasReached o rs → HasReached (passed o r) (rs ++ r ∷ [])
 law_passed o rs (Start s) h =
     after_record o rs (Start s) o.in_cell o.cells o.has_numbered o.has_unnumbered s.has_offsets_at_end h refl

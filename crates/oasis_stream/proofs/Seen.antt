@@ -1,5 +1,5 @@
--- The bytes that a call has read: those that were taken, and those in hand. What they say they say whatever comes after
--- them.
+-- The bytes that a call has read: those that were taken, and those in hand. What they say doesn't depend on what comes
+-- after them.
 use Rattle.std.proofs.Common.{◌≡◌, ℕ, ◌+◌, ◌-◌, ◌<◌, ◌≤◌, List, ◌++◌, length, take, drop, Some, sym, ap, ◌∙◌, subst}
 use Rattle.std.proofs.Common.{false}
 use Rattle.std.proofs.Common.{append_assoc, arith, length-append, length-take}
@@ -18,7 +18,7 @@ use Rattle.oasis_values.specs.Spelling.{Spelling}
 use Rattle.oasis_values.specs.declared.fault.ValueFault.{ValueFault}
 use Rattle.oasis_values.specs.declared.input.Input.{Input}
 
--- the first bytes were read, and the others are left
+-- the first `had` bytes were read, and the others are left
 pub record IsSeen (ys : List ℕ) (had : ℕ) (left : Option (List ℕ)) : Type 0 where
   pub rest : List ℕ
   pub parts : ys ≡ take had ys ++ rest
@@ -57,7 +57,7 @@ front_seen S ys had n x f fits more =
       count = f.count;
     }
 
--- the bytes that there is room for, where one more was read
+-- the bytes within the limit, if one more was read
 pub room_seen : (ys : List ℕ) (had room : ℕ) (more : List ℕ) → room < length ys → room < had
     → (room < length (take had ys ++ more)) × (take room (take had ys ++ more) ≡ take room ys)
 room_seen ys had room more long read =
@@ -67,7 +67,7 @@ room_seen ys had room more long read =
           ∙ take-take room had ys (omega (arith, read)),
     )
 
--- what a call answered of an input that ignores these
+-- what a result says, if the input ignores this
 pub answers_under : {R A : Type 0} {remaining : R → Option (List ℕ)} {errors : R → ℕ} {lent : R → List GName}
     {S : Spelling A} {old new : Input R} {r : Result A (Cause ValueFault)} (ignore : Ignore)
     → input_ignore old ≡ ignore → Reads remaining errors lent S old new r → has_failed old ≡ false → (xs : List ℕ)

@@ -1,4 +1,4 @@
--- A file is read item by item: what each call that reads the next item says of the whole input.
+-- A file is read item by item: what each call that reads an item says about the whole input.
 use Rattle.std.proofs.Common.{◌≡◌, ℕ, ◌+◌, ◌-◌, true, false, List, [], ◌∷◌, ◌++◌, length, take, drop, Ok, Err, refl}
 use Rattle.std.proofs.Common.{sym, ap, ◌∙◌, subst, inl, inr, arith}
 use Rattle.std.specs.Prelude.{Option, Some}
@@ -31,7 +31,7 @@ use Rattle.oasis_stream.proofs.Items.{never_after}
 use Rattle.oasis_stream.proofs.Only.{only_wrong}
 use Rattle.oasis_stream.proofs.Seen.{IsSeen, law_seen, front_seen, room_seen, answers_under}
 
--- an item that may follow was read: the bytes before the new offset are a front of one item more
+-- an item that may follow was read: the bytes before the new offset are a front with one more item
 pub item_on : {R : Type 0} {remaining : R → Option (List ℕ)} {errors : R → ℕ} {lent : R → List GName} (ignore : Ignore)
     (xs : List ℕ)
     (Has Has' : List Item → Type 0) {old new : Input R}
@@ -77,7 +77,7 @@ wrong_seen ignore xs at had to k s w =
       only = λ j v. only_wrong ignore to.records (file_limit - at) (drop at xs) j k v here;
     }
 
--- a rule of records, of names or of their order is breached by what was read
+-- a rule of records, of names or of their order is breached by the bytes that were taken
 rule_refuses : {R : Type 0} {remaining : R → Option (List ℕ)} {errors : R → ℕ} {lent : R → List GName}
     {Has : List Item → Type 0} (ignore : Ignore) (xs : List ℕ) {old new : Input R}
     (to : ReadTo (oasis ignore) xs (input_offset old) Has (bytes_left remaining old)) (k : OasisKind)
@@ -99,7 +99,7 @@ rule_refuses {remaining = remaining} ignore xs {old = old} {new = new} to k live
           (omega arith) more),
     ))
 
--- an item was read whole that breaches a rule
+-- a complete item breaches a rule
 item_refuses : {R : Type 0} {remaining : R → Option (List ℕ)} {errors : R → ℕ} {lent : R → List GName}
     {Has : List Item → Type 0} (ignore : Ignore) (xs : List ℕ) {old new : Input R}
     (to : ReadTo (oasis ignore) xs (input_offset old) Has (bytes_left remaining old)) (i : Item) (k : OasisKind)
@@ -179,7 +179,7 @@ cut_refuses ignore xs at to unended p =
       cut = ((λ e. absurd (unended e)), (p.truncated refl).1);
     }
 
--- no value could be read
+-- a value couldn't be read
 fault_refuses : {Has : List Item → Type 0} {was left : Option (List ℕ)} (ignore : Ignore) (xs : List ℕ) (at had : ℕ)
     (to : ReadTo (oasis ignore) xs at Has was) (f : ValueFault) → ¬ IsEnded to.records
     → ¬ (f ≡ Failed) → IsSeen (drop at xs) had left

@@ -45,7 +45,7 @@ reads_recorded (Err OutOfMemory) p = reads_seen_err of_record p
 reads_recorded (Err (Breach (Value f))) p = reads_seen_err of_record p
 reads_recorded (Err (Breach (Rule k))) p = reads_seen of_record p
 
--- an id breaches no rule of values
+-- the rule that an id breaches isn't one of values
 abbrev IsJudged : Result RecordType OasisKind → Type 0
 IsJudged (Ok t) = Unit {0}
 IsJudged (Err k) = of_kind k ≡ Ok (Err k)
@@ -66,14 +66,14 @@ judged ignore rs id =
     let t = record_type ignore id in
     judged_if (is_expected rs t) (allowed rs t) (Err (Unexpected id)) (judged_allowed rs t) refl
 
--- no id is read
+-- the id couldn't be read
 pub next_unread : {R : Type 0} {remaining : R → Option (List ℕ)} {errors : R → ℕ} {lent : R → List GName}
     (rs : List Record) {old new : Input R} {e : Cause ValueFault}
     → Reads remaining errors lent (Sized IsUnsigned) old new (Err e)
     → Reads remaining errors lent (IsNext rs) old new (Err e)
 next_unread rs p = reads_fault (IsTypedAfter rs) (typed_said rs) p
 
--- a call by one spelling is one by another that is the same for what the input ignores
+-- a call that reads by one spelling reads by any other that is the same for what the input ignores
 reads_by : {R A : Type 0} {remaining : R → Option (List ℕ)} {errors : R → ℕ} {lent : R → List GName}
     (S T : Spelling A) {old new : Input R} {r : Result A (Cause ValueFault)}
     → S (input_ignore old) ≡ T (input_ignore old) → Reads remaining errors lent T old new r

@@ -1,4 +1,4 @@
--- What a refusal says of the input where it is refused.
+-- What a refusal says about the input.
 use Rattle.std.specs.Prelude.{ℕ, Bool, false, List}
 use Rattle.lvl_grammar.specs.Refused.{IsFrontAt, IsStuck, IsBreached, IsTruncated}
 use Rattle.lvl_ignore.specs.declared.ignore.Ignore.{Ignore}
@@ -8,13 +8,14 @@ use Rattle.oasis_stream.specs.Front.{oasis}
 use Rattle.oasis_stream.specs.declared.fault.OasisKind.{OasisKind}
 use Rattle.oasis_stream.specs.declared.fault.OasisKind.TheVariants.{Value}
 
--- the bytes before the offset are a front, and why none goes on there
+-- the offset and the kind are right: the bytes before the offset are a front, and the kind says why no longer front
+-- agrees with the input, or that the input ends there, or that the reader failed
 abbrev pub ReportsAt : Ignore → List ℕ → ℕ → OasisKind → Type 0
 ReportsAt ignore xs at (Value Truncated) = IsTruncated (oasis ignore) xs at
 ReportsAt ignore xs at (Value Read) = IsFrontAt (oasis ignore) xs at
 ReportsAt ignore xs at k = IsStuck (oasis ignore) xs at × IsBreached (oasis ignore) xs at k
 
--- whether the rule is that the reader failed
+-- whether the fault is that the reader failed
 abbrev pub is_read_kind : OasisKind → Bool
 is_read_kind (Value f) = is_read_fault f
 is_read_kind k = false

@@ -1,9 +1,10 @@
--- What a file is a list of: the magic string, which counts as a record, and records.
+-- The items of a file: the magic string, which counts as a record, and the records.
 use Rattle.std.specs.Prelude.{◌≡◌, List, [], ◌∷◌, ◌++◌}
 use Rattle.oasis_records.specs.declared.end.Validation.{Validation}
 use Rattle.oasis_records.specs.declared.record.Record.{Record}
 use Rattle.oasis_records.specs.declared.record.Record.TheVariants.{End}
 
+-- the magic string, or a record
 pub data Item : Type 0 where
   magic : Item
   item : Record → Item
@@ -14,6 +15,6 @@ records [] = []
 records (magic ∷ rest) = records rest
 records (item r ∷ rest) = r ∷ records rest
 
--- the last of them is END
+-- the last item is END
 abbrev pub IsEnded : List Item → Type 0
 IsEnded is = (before : List Item) × (v : Validation) × (is ≡ before ++ item (End v) ∷ [])

@@ -1,5 +1,5 @@
--- Which records may come after others, by their ids alone (SEMI P39 OASIS 1.0, "Records", "START record",
--- "CELLNAME record", "CELL record").
+-- Which records may come after others, by their ids only (SEMI P39 OASIS 1.0, "Records", "START record", "CELLNAME
+-- record", "CELL record").
 use Rattle.std.specs.Prelude.{ℕ, Bool, true, false, not, ◌&&◌, ◌||◌, nat_lt, is_some, is_none, if◌then◌else◌}
 use Rattle.std.specs.Prelude.{List, [], ◌∷◌, length, flat_map, Result, Ok, Err}
 use Rattle.lvl_cells.specs.Building.{cell_limit}
@@ -21,12 +21,13 @@ use Rattle.oasis_stream.specs.declared.fault.NameRule.TheVariants.{Mixed}
 use Rattle.oasis_stream.specs.declared.fault.OasisKind.{OasisKind}
 use Rattle.oasis_stream.specs.declared.fault.OasisKind.TheVariants.{Record as OfRecord, Unexpected, Name, TooManyCells}
 
--- the last of the list, or d where there is none
+-- the last element of the list; d if it is empty
 abbrev pub last_or : {A : Type 0} → A → List A → A
 last_or d [] = d
 last_or d (x ∷ xs) = last_or x xs
 
--- a CELL opens a cell, and a record that gives a name or a string by its number ends the one that is open
+-- whether a cell is open after the record, if the record changes this: CELL opens one, and records that give names or
+-- strings by number end it
 abbrev pub opens : Record → List Bool
 opens (OfCell c) = true ∷ []
 opens (OfCellName n) = false ∷ []
@@ -37,7 +38,7 @@ opens r = []
 abbrev pub in_cell : List Record → Bool
 in_cell rs = last_or false (flat_map opens rs)
 
--- the offsets of tables are in END where START says so
+-- whether END has the offsets of tables, as START says
 abbrev pub flags : Record → List Bool
 flags (OfStart s) = s.has_offsets_at_end ∷ []
 flags r = []
@@ -45,7 +46,7 @@ flags r = []
 abbrev pub at_end : List Record → Bool
 at_end rs = last_or false (flat_map flags rs)
 
--- the names that CELLNAME records give, in their order
+-- the names in CELLNAME records, in their order
 abbrev pub name_in : Record → List CellName
 name_in (OfCellName c) = c ∷ []
 name_in r = []
@@ -53,7 +54,7 @@ name_in r = []
 abbrev pub names_in : List Record → List CellName
 names_in rs = flat_map name_in rs
 
--- the cells that CELL records open, in their order
+-- the cells in CELL records, in their order
 abbrev pub cell_in : Record → List CellRef
 cell_in (OfCell c) = c ∷ []
 cell_in r = []
@@ -61,7 +62,7 @@ cell_in r = []
 abbrev pub cells_in : List Record → List CellRef
 cells_in rs = flat_map cell_in rs
 
--- some name has a number of its own, and some has none
+-- whether some name has a number of its own, and whether some name has none
 abbrev pub any_numbered : List CellName → Bool
 any_numbered [] = false
 any_numbered (c ∷ cs) = is_some c.number || any_numbered cs
@@ -74,7 +75,7 @@ abbrev pub is_start : Result RecordType RecordRule → Bool
 is_start (Ok Start) = true
 is_start t = false
 
--- what belongs in a cell
+-- the types of records that belong in a cell
 abbrev pub is_inner : Result RecordType RecordRule → Bool
 is_inner (Ok XyAbsolute) = true
 is_inner (Ok XyRelative) = true
@@ -86,12 +87,12 @@ is_inner (Ok Path) = true
 is_inner (Ok Text) = true
 is_inner t = false
 
--- a file begins with START and has no other, and what belongs in a cell is in one
+-- a file begins with START and has no other; what belongs in a cell comes only while one is open
 abbrev pub is_expected : List Record → Result RecordType RecordRule → Bool
 is_expected [] t = is_start t
 is_expected (r ∷ rs) t = not (is_start t) && (not (is_inner t) || in_cell (r ∷ rs))
 
--- names with numbers of their own, and names without, are not in one file
+-- whether the type would give names both with and without numbers of their own
 abbrev pub mixes : List Record → RecordType → Bool
 mixes rs AName = any_numbered (names_in rs)
 mixes rs NumberedCellName = any_unnumbered (names_in rs)
@@ -102,17 +103,17 @@ opens_cell NumberedCell = true
 opens_cell NamedCell = true
 opens_cell t = false
 
--- the type is given, where the records that are before it allow it
+-- the type, if the records before it allow it
 abbrev pub allowed : List Record → Result RecordType RecordRule → Result RecordType OasisKind
 allowed rs (Err k) = Err (OfRecord k)
 allowed rs (Ok t) =
     if mixes rs t then Err (Name Mixed)
     else (if opens_cell t && not (nat_lt (length (cells_in rs)) cell_limit) then Err TooManyCells else Ok t)
 
--- after the records, the type by an id, or the rule that it breaches
+-- the type by an id after the records rs, or the rule that the id breaches
 abbrev pub type_by : List Record → ℕ → Result RecordType RecordRule → Result RecordType OasisKind
 type_by rs id t = if is_expected rs t then allowed rs t else Err (Unexpected id)
 
--- the same for who ignores these
+-- the same, by what is ignored
 abbrev pub type_after : Ignore → List Record → ℕ → Result RecordType OasisKind
 type_after ignore rs id = type_by rs id (record_type ignore id)

@@ -1,4 +1,4 @@
--- What a call says of the next item of a file.
+-- Results of calls that read the next item of a file.
 use Rattle.std.specs.Prelude.{Result, Ok, Err}
 use Rattle.lvl_refusal.specs.declared.Cause.{Cause}
 use Rattle.lvl_refusal.specs.declared.Cause.TheVariants.{Breach, OutOfMemory}
@@ -10,18 +10,18 @@ use Rattle.oasis_stream.specs.Items.{Item, magic, item}
 use Rattle.oasis_stream.specs.declared.fault.OasisKind.{OasisKind}
 use Rattle.oasis_stream.specs.declared.fault.OasisKind.TheVariants.{Value, Record as OfRecord}
 
--- a fault of values is one of the input; any other is a rule that is breached by what was read
+-- a fault of a value is one of the input; any other rule is breached by the bytes taken
 abbrev pub of_kind : OasisKind → Result (Result Item OasisKind) (Cause ValueFault)
 of_kind (Value f) = Err (Breach f)
 of_kind k = Ok (Err k)
 
--- what a call answered that reads a record, as an answer of the input
+-- the result of a call that reads a record, as a result of the input
 abbrev pub reported_record : Result Record (Cause OasisKind) → Result (Result Item OasisKind) (Cause ValueFault)
 reported_record (Ok r) = Ok (Ok (item r))
 reported_record (Err OutOfMemory) = Err OutOfMemory
 reported_record (Err (Breach k)) = of_kind k
 
--- the same answer, with a fault of a record as one of the file
+-- the fault of a record as one of the file
 abbrev pub kind_of : RecordFault → OasisKind
 kind_of (OfValue f) = Value f
 kind_of (Rule k) = OfRecord k
@@ -31,7 +31,7 @@ of_fault (Ok r) = Ok r
 of_fault (Err OutOfMemory) = Err OutOfMemory
 of_fault (Err (Breach f)) = Err (Breach (kind_of f))
 
--- what a call answered that reads the magic string
+-- the result of a call that reads the magic string, as a result of the input
 abbrev pub reported_magic : Result (Unit {0}) OasisKind → Result (Result Item OasisKind) (Cause ValueFault)
 reported_magic (Ok u) = Ok (Ok magic)
 reported_magic (Err k) = of_kind k

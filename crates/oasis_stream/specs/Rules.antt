@@ -1,4 +1,4 @@
--- The rules that a record may breach that is read whole.
+-- The rules that a complete record may breach after others.
 use Rattle.std.specs.Prelude.{Bool, true, false, if◌then◌else◌, List, [], ◌∷◌}
 use Rattle.oasis_records.specs.declared.cell.CellName.{CellName}
 use Rattle.oasis_records.specs.declared.record.Record.{Record}
@@ -16,15 +16,16 @@ abbrev pub is_cell : Record → Bool
 is_cell (OfCell c) = true
 is_cell r = false
 
--- the records since the last CELL, the latest first, where those given come before
+-- the records of rs after their last CELL, the latest first; if they have no CELL, all of them and then `earlier`
 abbrev pub since : List Record → List Record → List Record
 since earlier [] = earlier
 since earlier (r ∷ rs) = since (if is_cell r then [] else r ∷ earlier) rs
 
+-- the records after the last CELL, the latest first; all of them if there is no CELL
 abbrev pub since_cell : List Record → List Record
 since_cell rs = since [] rs
 
--- the name breaches the rule after others; the number is tested before the name
+-- the name breaches the rule after these names; its number is tested first
 abbrev pub NameBreaches : List CellName → CellName → NameRule → Type 0
 NameBreaches names c NumberTwice = RepeatsNumber names c
 NameBreaches names c NameTwice = (¬ RepeatsNumber names c) × RepeatsName names c
@@ -34,16 +35,17 @@ abbrev pub NamingBreaches : List CellName → Record → NameRule → Type 0
 NamingBreaches names (OfCellName c) k = NameBreaches names c k
 NamingBreaches names r k = ⊥
 
--- after the records, the record breaches the rule: of names, or of what it draws after those of its cell
+-- the record breaches the rule after the records rs: of names, or of what it draws after the records of its cell
 abbrev pub RecordBreaches : List Record → Record → OasisKind → Type 0
 RecordBreaches rs r (Name k) = NamingBreaches (names_in rs) r k
 RecordBreaches rs r (Figure k) = FigureBreaches (since_cell rs) r k
 RecordBreaches rs r k = ⊥
 
+-- the item breaches the rule after the others
 abbrev pub Breaches : List Item → Item → OasisKind → Type 0
 Breaches before magic k = ⊥
 Breaches before (item r) k = RecordBreaches (records before) r k
 
--- it may follow the others: nothing comes after END, and no rule is breached
+-- the item may follow the others: there is no END among them, and it breaches no rule
 abbrev pub MayFollow : List Item → Item → Type 0
 MayFollow before i = (¬ IsEnded before) × ((k : OasisKind) → Breaches before i k → ⊥)

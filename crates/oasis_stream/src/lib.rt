@@ -1,10 +1,10 @@
 //! OASIS files as streams of records (SEMI P39 OASIS 1.0).
 //!
-//! A file is the magic string, a START record, records, and an END record. `specs/Front.antt` says
-//! which bytes are the beginning of a file, as a grammar of streams: `specs/Order.antt` which records
-//! may come after others by their ids, `specs/Rules.antt` which rules a record may breach that is read
-//! whole, and `specs/Names.antt` which name a number means. [`read_first`] reads the magic string, and
-//! [`read_next`] the next record after those that an [`Order`] has passed.
+//! A file is the magic string, a START record, records, and an END record. `specs/Front.antt` defines which
+//! bytes are the beginning of a file, as a grammar of streams; `specs/Order.antt` which records may come
+//! after others, by their ids; `specs/Rules.antt` which rules a complete record may breach; and
+//! `specs/Names.antt` which name a number stands for. [`read_first`] reads the magic string, and
+//! [`read_next`] the next record after those that were passed to an [`Order`].
 //!
 //! `bytes` is a file:
 //!

@@ -1,4 +1,4 @@
-//! The magic string, and the next record of a file, by its id.
+//! Reads the magic string and the next record of a file.
 ghost use Rattle.std.specs.Prelude.{◌≡◌, List, [], Ok, false};
 ghost use Rattle.oasis_values.specs.Input.{has_failed};
 ghost use Rattle.oasis_values.specs.Reads.{Reads};
@@ -15,7 +15,7 @@ use oasis_records::{Record, RecordFault, RecordType, read_fields, read_id, read_
 use oasis_values::Input;
 use std::alloc::Global;
 
-// The same answer, where a fault is one of the file's.
+// The same result, with a fault as one of the file.
 fn of_record(answer: Result<Record, Cause<RecordFault>>) -> Result<Record, Cause<OasisKind>>
     ensures { result ≡ of_fault answer }
 {
@@ -31,7 +31,7 @@ fn of_record(answer: Result<Record, Cause<RecordFault>>) -> Result<Record, Cause
     }
 }
 
-// A record of that type, after its id.
+// Reads a record of that type, after its id.
 fn read_typed<R: Read>(
     input: &mut Input<R>,
     alloc: Global,
@@ -46,7 +46,7 @@ fn read_typed<R: Read>(
     of_record(read_fields(input, alloc, kind, id_len, has_offsets_at_end))
 }
 
-/// The next record. Its id is tested before more is read, each field as it is read.
+/// Reads the next record. Its id is tested before more is read, and each field when it is read.
 pub fn read_next<R: Read>(
     input: &mut Input<R>,
     alloc: Global,
@@ -66,7 +66,7 @@ pub fn read_next<R: Read>(
     }
 }
 
-// The same answer, where a fault is one of the file's.
+// The same result, with a fault as one of the file.
 fn of_magic(answer: Result<(), RecordFault>) -> Result<(), OasisKind>
     ensures { result ≡ of_magic_fault answer }
 {
@@ -77,7 +77,7 @@ fn of_magic(answer: Result<(), RecordFault>) -> Result<(), OasisKind>
     }
 }
 
-/// The magic string, which a file begins with.
+/// Reads the magic string at the beginning of a file.
 pub fn read_first<R: Read>(input: &mut Input<R>) -> Result<(), OasisKind>
     ensures reads { Reads R.remaining R.read_errors R.lent (IsItem []) input.old input.new (reported_magic result) }
 {

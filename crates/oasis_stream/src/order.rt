@@ -1,4 +1,4 @@
-//! Which record may come next, by its id alone.
+//! Which record may come next, by its id only.
 ghost use Rattle.std.specs.Prelude.{◌≡◌, List, [], Ok};
 ghost use Rattle.oasis_records.specs.declared.record.Record.{Record as Read};
 ghost use Rattle.oasis_stream.specs.Order.{is_start, is_inner, opens_cell, is_expected, mixes, allowed};
@@ -10,18 +10,18 @@ use lvl_cells::MOST_CELLS;
 use lvl_ignore::Ignore;
 use oasis_records::{Record, RecordRule, RecordType};
 
-/// What the records so far say of those that may come.
+/// What the records so far say about those that may come next.
 #[derive(Clone, Copy, Debug, Drop)]
 pub struct Order {
-    /// No record was read.
+    /// No record has been read.
     is_fresh: bool,
     /// A cell is open.
     in_cell: bool,
-    /// How many cells there are, up to the limit.
+    /// The number of cells so far, up to the limit.
     cells: usize,
     /// Some name has a number of its own.
     has_numbered: bool,
-    /// Some name has none.
+    /// Some name has no number of its own.
     has_unnumbered: bool,
     /// START says that END has the offsets of tables.
     has_offsets_at_end: bool,
@@ -65,7 +65,7 @@ fn opens_cell(kind: RecordType) -> bool
 }
 
 impl Order {
-    /// Before the first record.
+    /// The state before the first record.
     pub fn new() -> Order
         ensures { HasReached result [] }
     {
@@ -86,7 +86,7 @@ impl Order {
         self.has_offsets_at_end
     }
 
-    /// The type of the next record by its id, or the rule that the id breaches, where these are ignored.
+    /// The type of the next record by its id, or the rule that the id breaches, if `ignore` is ignored.
     pub fn type_of(&self, id: u64, ignore: Ignore) -> Result<RecordType, OasisKind>
         ensures { (rs : List Read) → HasReached self.now rs → result ≡ type_after ignore rs id }
     {
@@ -100,7 +100,7 @@ impl Order {
         }
     }
 
-    /// Goes on after that record.
+    /// Changes the state to that after the record.
     pub fn pass(&mut self, taken: &Record)
         ensures { self.new ≡ passed self.old taken.now }
     {
@@ -125,8 +125,8 @@ impl Order {
         }
     }
 
-    // Whether a record of this type may come: START is the first and the only one, and what belongs
-    // in a cell is in one.
+    // Whether a record of this type may come: START is the first record and comes only there, and a
+    // record that belongs in a cell comes only while one is open.
     fn is_expected(&self, kind: Result<RecordType, RecordRule>) -> bool
         ensures { (rs : List Read) → HasReached self.now rs → result ≡ is_expected rs kind }
     {
@@ -136,7 +136,7 @@ impl Order {
         !is_start(kind) && (!is_inner(kind) || self.in_cell)
     }
 
-    // Whether names would be given in both ways.
+    // Whether names would be given both with and without numbers of their own.
     fn mixes(&self, kind: RecordType) -> bool
         ensures { (rs : List Read) → HasReached self.now rs → result ≡ mixes rs kind }
     {
@@ -147,7 +147,7 @@ impl Order {
         }
     }
 
-    // The type, if the records before allow it.
+    // The type, if the records before it allow it.
     fn allow(&self, kind: RecordType) -> Result<RecordType, OasisKind>
         ensures { (rs : List Read) → HasReached self.now rs → result ≡ allowed rs (Ok kind) }
     {

@@ -1,4 +1,4 @@
--- The laws of spellings, and of what is put together of them.
+-- The laws of spellings, and of those that are combined from others.
 use Rattle.std.proofs.Common.{◌≡◌, ℕ, zero, suc, List, [], ◌∷◌, ◌++◌, Result, Ok, Err}
 use Rattle.std.specs.Prelude.{Option, Some, None}
 use Rattle.lvl_io.specs.Spelling.{IsPrefixFree, CanSay, UnlessBreached, Then as ThenAlways}
@@ -9,8 +9,8 @@ use Rattle.oasis_values.specs.Known.{Known, Seen}
 use Rattle.oasis_values.specs.Spelling.{Spelling, Gives, Then, Chain}
 use Rattle.oasis_values.specs.declared.fault.ValueFault.{ValueFault}
 
--- whatever is ignored, the spelling is free of prefixes, and can say something; and what spells a value spells it too
--- where more is ignored
+-- for any `ignore` the spelling is prefix-free, and there are bytes that say something; and what spells a value still
+-- spells it if more is ignored
 pub record IsCode {A : Type 0} (S : Spelling A) : Type 0 where
   pub free : (i : Ignore) → IsPrefixFree (S i)
   pub said : (i : Ignore) → CanSay (S i)

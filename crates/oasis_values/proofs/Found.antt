@@ -1,4 +1,4 @@
--- What is found at the front of known bytes, some of which are in hand.
+-- What is found at the front of known bytes, of which some are in hand.
 use Rattle.std.proofs.Common.{◌≡◌, ◌≢◌, ℕ, ◌+◌, ◌-◌, ◌^◌, ◌<◌, ◌≤◌, true, false, List, [], ◌∷◌, ◌++◌, length, take}
 use Rattle.std.proofs.Common.{drop, get_or, Some, Result, Ok, Err, refl, sym, ap, ◌∙◌, subst, arith}
 use Rattle.std.proofs.Common.{append_assoc, length-append}
@@ -35,7 +35,7 @@ front_more S xs k n x f =
       count = f.count;
     }
 
--- a stop where the bytes had are an unfinished beginning
+-- another byte is missing while the bytes read are an unfinished beginning
 pub stop_fails : {A : Type 0} (S : List ℕ → Result A ValueFault → Type 0) (n room had : ℕ) (xs : List ℕ)
     (f : ValueFault) → n ≤ room → IsStop f → Stops f n room had xs → IsBegun S (take n xs) → Fails S room had xs f
 stop_fails S n room had xs Truncated h i s b =
@@ -97,7 +97,7 @@ byte_front new b xs x k h e =
 pub byte_begun : IsBegun IsOneByte []
 byte_begun = record { more = 0 ∷ []; value = Ok 0; short = omega arith; says = refl }
 
--- bytes in hand that continue begin an integer, also as the first of all
+-- bytes in hand that continue begin an integer, and so do they as the first of all
 pub hand_begun : (i : Ignore) (new : List ℕ) (b : Option (List ℕ)) (xs : List ℕ) (k : ℕ)
     → prepend_known new b ≡ Some xs → k ≤ length new → Continues (take k new) → length (take k new) < most_bytes i
     → groups (take k new) < 2 ^ 64 → IsBegun (IsUnsigned i) (take k xs)
@@ -109,7 +109,7 @@ hand_begun i new b xs k e h c few fits =
 front_length : {A : Type 0} (S : List ℕ → A → Type 0) (xs : List ℕ) (n : ℕ) (x : A) → IsFront S xs n x → n ≤ length xs
 front_length S xs n x f = omega (arith, f.count, ap length f.whole, length-append f.bytes f.rest)
 
--- as many bytes of those in hand as may be taken
+-- the front is within the limit if it is found among the bytes within it
 pub front_within : {A : Type 0} (S : List ℕ → A → Type 0) (xs : List ℕ) (k n : ℕ) (x : A) → IsFront S (take k xs) n x
     → (n ≤ k) × (n ≤ length xs)
 front_within S xs k n x f =

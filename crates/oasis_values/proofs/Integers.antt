@@ -1,4 +1,4 @@
--- Integers and their bytes.
+-- Unsigned integers and their bytes.
 use Rattle.std.proofs.Common.{◌≡◌, ℕ, suc, ◌+◌, ◌*◌, ◌%◌, ◌^◌, ◌<◌, ◌≤◌, ◌⊎◌, inl, inr, List, [], ◌∷◌, ◌++◌, length}
 use Rattle.std.proofs.Common.{Result, Ok, Err, refl, sym, ap, ◌∙◌, subst, arith, append_assoc, take, drop, get_or}
 use Rattle.std.proofs.Common.{mul_assoc, mul-le-mul_left, nat_le, length-append, Bool, true, false, not, if◌then◌else◌}
@@ -44,7 +44,7 @@ most_within false = (omega arith, omega arith)
 all_tail : (z : ℕ) (g : List ℕ) → Continues (z ∷ g) → Continues g
 all_tail z g c = λ k d h. c (suc k) d (omega (arith, h))
 
--- where a front ends by its last byte, another is no longer
+-- if a front ends with its last byte, another that continues is at least as long
 short_front : (f g m n : List ℕ) (x y : ℕ) → Continues g → x < 128 → f ++ (x ∷ m) ≡ g ++ (y ∷ n) → length g ≤ length f
 short_front [] [] m n x y c h e = omega arith
 short_front [] (z ∷ g) m n x y c h e =
@@ -115,7 +115,7 @@ groups_more : (b rest : List ℕ) → groups b ≤ groups (b ++ rest)
 groups_more [] rest = omega arith
 groups_more (z ∷ b) rest = let h = groups_more b rest in omega (arith, h)
 
--- where bytes show that no integer begins with them, what is longer doesn't go on from them
+-- if bytes show that no integer begins with them, no longer front continues from them
 too_large_last : {i : Ignore} (c g m n : List ℕ) (y : ℕ) (q : IsTooLarge i c) → c ++ n ≡ g ++ (y ∷ m)
     → length q.front < length g → length g < most_bytes i → groups g < 2 ^ 64 → ⊥
 too_large_last c g m n y q e h few fits =
@@ -128,7 +128,7 @@ too_large_last c g m n y q e h few fits =
       | inr full ↦ omega (arith, full.1, size, length-append q.front (q.last ∷ []), h, few)
     ]
 
--- what shows that no integer begins with it begins none
+-- bytes that show that no integer begins with them begin none
 too_large_none : (i : Ignore) (b c m n : List ℕ) (x : ℕ) → IsInteger i b x → IsTooLarge i c → b ++ m ≡ c ++ n → ⊥
 too_large_none i b c m n x p q e =
     let h = fronts p.front q.front m n b c p.last q.last p.bytes q.bytes e in
@@ -178,7 +178,7 @@ most_of : (b : Bool) → not b ≡ true → ◌≡◌ {A = ℕ} (if b then 256 e
 most_of true h = absurd (let e : false ≡ true = h in cc)
 most_of false h = refl
 
--- without padding an integer has ten bytes at most
+-- without padding an integer has at most ten bytes
 pub most_plain : (i : Ignore) → not i.padding ≡ true → most_bytes i ≡ 10
 most_plain i h = most_of i.padding h
 
@@ -213,7 +213,7 @@ power_fits k v h lt =
     let most : 128 ^ k ≤ 128 ^ 9 = pow-le-pow_right {n = 128} (omega arith) {i = k} {j = 9} (omega arith) in
     omega (arith, most)
 
--- bytes that continue, few and with a number that fits, begin an integer: a zero byte more is its end
+-- bytes that continue, of which there are few and whose number fits, begin an integer: a zero byte ends it
 pub continues_begun : (i : Ignore) (xs : List ℕ) → Continues xs → length xs < most_bytes i → groups xs < 2 ^ 64
     → IsBegun (IsUnsigned i) xs
 continues_begun i xs c few fits =
@@ -260,7 +260,7 @@ unsigned_code =
       grows = unsigned_grows;
     }
 
--- a tenth byte adds 2^63 at most, and each before it less than the next unit
+-- a tenth byte adds at most 2^63, and each byte before it less than the next unit
 pub sum_fits : (i v x : ℕ) → i ≤ 9 → (i ≡ 9 → x % 128 ≤ 1) → v < 128 ^ i → v + 128 ^ i * (x % 128) < 2 ^ 64
 sum_fits i v x le tenth lt = elim (le_or i 8) [
   | inl low ↦
@@ -315,7 +315,7 @@ more_continues xs i h c b =
     let one = All-append P (take i xs) (get_or xs i 0 ∷ []) c (All-cons P (get_or xs i 0) [] b (All-nil P)) in
     subst Continues (sym (take_more xs i 0 h)) one
 
--- the byte at n is the last of an integer
+-- an integer ends with the byte at index n
 pub whole_front : (i : Ignore) (xs : List ℕ) (n v : ℕ) → n < length xs → n < most_bytes i → Continues (take n xs)
     → v ≡ groups (take (n + 1) xs) → v < 2 ^ 64 → get_or xs n 0 < 128 → IsFront (IsUnsigned i) xs (n + 1) (Ok v)
 whole_front i xs n v h few c e fits ends =
@@ -337,7 +337,7 @@ whole_front i xs n v h few c e fits ends =
       count = omega (arith, length-take {A = ℕ});
     }
 
--- with the byte at n no integer begins
+-- the byte at index n shows that no integer begins with the bytes
 pub too_large_front : (i : Ignore) (xs : List ℕ) (n : ℕ) → n < length xs → n < most_bytes i → Continues (take n xs)
     → groups (take n xs) < 2 ^ 64
     → ((2 ^ 64 ≤ groups (take (n + 1) xs)) ⊎ ((128 ≤ get_or xs n 0) × (n + 1 ≡ most_bytes i)))
@@ -370,7 +370,7 @@ tenth_large xs h above =
     let s = one_more xs 9 (groups (take 9 xs)) (get_or xs 9 0) h refl refl in
     omega (arith, s, above)
 
--- after ten groups one that isn't zero is
+-- after ten groups, a group that isn't zero is too large
 pub later_large : (xs : List ℕ) (n : ℕ) → n < length xs → 10 ≤ n → 0 < get_or xs n 0 % 128
     → 2 ^ 64 ≤ groups (take (n + 1) xs)
 later_large xs n h late above =

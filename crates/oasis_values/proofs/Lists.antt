@@ -57,7 +57,7 @@ pub last_more : (d : Point) (ps : List Point) (p : Point) → last_of d (ps ++ (
 last_more d [] p = refl
 last_more d (q ∷ ps) p = last_more q ps p
 
--- what holds of a value where there is one
+-- a property of the value, if there is one
 pub some_has : {A : Type 0} (o : Option A) (x : A) (P : A → Type 0) → o ≡ Some x → IfSome o P → P x
 some_has None x P e h = absurd (let k : None ≡ Some x = e in cc)
 some_has (Some y) x P e h = let k : y ≡ x = cc in subst P k h

@@ -1,4 +1,4 @@
--- Loops that read one item after another.
+-- Loops that read one value after another.
 use Rattle.std.proofs.Common.{◌≡◌, ℕ, suc, false, List, [], ◌∷◌, ◌++◌}
 use Rattle.std.proofs.Common.{Result, Ok, Err, refl, sym, ap, subst, append_assoc, append-nil}
 use Rattle.std.specs.Prelude.{Option}
@@ -12,13 +12,13 @@ use Rattle.oasis_values.proofs.Codes.{IsCode, gives_code, then_code, chain_code}
 use Rattle.oasis_values.specs.declared.fault.ValueFault.{ValueFault}
 use Rattle.oasis_values.specs.declared.input.Input.{Input}
 
--- what the rest says, after what was said before it
+-- what the remaining values say, after `before`
 abbrev pub later : {B E : Type 0} → List B → Result (List B) E → Result (List B) E
 later said (Ok ys) = Ok (said ++ ys)
 later said (Err e) = Err e
 
--- n were wanted, the first as a says. The input was `first` then and is `now`; left are still to come, the next of them
--- as b says, and said was said: whatever reads the rest reads the whole
+-- n values are to be read, the first by S for a. The state of the input was `first` and is `now`; `left` values are
+-- still to be read, the next by S for b, and `said` was said so far: whatever reads the rest reads the whole
 pub record Going {R A B : Type 0} (remaining : R → Option (List ℕ)) (errors : R → ℕ) (lent : R → List GName)
     (S : A → Spelling A) (show : A → B) (n : ℕ) (a : A) (first now : Input R) (left : ℕ)
     (b : A) (said : List B) : Type 0 where
@@ -70,7 +70,7 @@ going_next {remaining = remaining} {errors = errors} {lent = lent} S show n a fi
           (reads_after S show k x mid new r q)));
     }
 
--- one more was read
+-- one more value was read
 pub going_on : {R A B : Type 0} {remaining : R → Option (List ℕ)} {errors : R → ℕ} {lent : R → List GName}
     {S : A → Spelling A} {show : A → B} {n : ℕ} {a : A} {first now mid : Input R}
     {left : ℕ} {b x : A} {said : List B} (k : ℕ)
@@ -82,7 +82,7 @@ going_on {remaining = remaining} {errors = errors} {lent = lent} {S = S} {show =
     going_next S show n a first now mid k b x said
     (subst (λ i. Going remaining errors lent S show n a first now i b said) e g) p
 
--- the next could not be read
+-- the next value could not be read
 pub going_err : {R A B : Type 0} {remaining : R → Option (List ℕ)} {errors : R → ℕ} {lent : R → List GName}
     {S : A → Spelling A} {show : A → B} {n : ℕ} {a : A} {first now new : Input R}
     {left : ℕ} {b : A} {said : List B} {e : Cause ValueFault} (k : ℕ)
@@ -95,7 +95,7 @@ going_err {remaining = remaining} {errors = errors} {lent = lent} {S = S} {show 
     next.goes new (Err e) (reads_err (λ x. Then (Chain S show k x) (λ ys. Gives (Ok (show x ∷ ys))))
     (λ x. then_code (chain_code {S = S} show k x can) (λ ys. gives_code)) p)
 
--- all were read
+-- all values were read
 pub going_end : {R A B : Type 0} {remaining : R → Option (List ℕ)} {errors : R → ℕ} {lent : R → List GName}
     {S : A → Spelling A} {show : A → B} {n : ℕ} {a : A} {first now : Input R} {left : ℕ}
     {b : A} {said : List B}
@@ -113,7 +113,7 @@ pub going_from : {R A B : Type 0} {remaining : R → Option (List ℕ)} {errors 
 going_from {remaining = remaining} {errors = errors} {lent = lent} S show n a first e live =
     subst (λ i. Going remaining errors lent S show n a first first i a []) e (going_start S show n a first live)
 
--- what was said, in other words
+-- what was said, by an equal list
 pub going_as : {R A B : Type 0} {remaining : R → Option (List ℕ)} {errors : R → ℕ} {lent : R → List GName}
     {S : A → Spelling A} {show : A → B} {n : ℕ} {a : A} {first now : Input R} {left : ℕ}
     {b : A} {said : List B} {words : List B}
@@ -123,7 +123,7 @@ going_as {remaining = remaining} {errors = errors} {lent = lent} {S = S} {show =
     {first = first} {now = now} {left = left} {b = b} e g =
     subst (λ l. Going remaining errors lent S show n a first now left b l) e g
 
--- where the next one is read from, in other words
+-- the next value is read by an equal start
 pub going_at : {R A B : Type 0} {remaining : R → Option (List ℕ)} {errors : R → ℕ} {lent : R → List GName}
     {S : A → Spelling A} {show : A → B} {n : ℕ} {a : A} {first now : Input R} {left : ℕ}
     {b c : A} {said : List B}

@@ -32,7 +32,7 @@ use Rattle.oasis_values.specs.declared.repetition.Size.{Size}
 use Rattle.oasis_values.specs.declared.shift.Spacing.{Spacing}
 use Rattle.oasis_values.specs.declared.shift.Spacing.TheVariants.{AlongX, AlongY, Free}
 
--- a lattice is in range just where it is one that can be kept
+-- a lattice is in range exactly if it can be kept
 
 point_true : (p : Point) → FitsPoint p → is_point_in_range p ≡ true
 point_true p f = let x = range_true p.x f.x_fits in let y = range_true p.y f.y_fits in rw (x, y) refl

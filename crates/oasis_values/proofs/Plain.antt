@@ -1,4 +1,4 @@
--- Without padding an integer is too large just where a tenth byte is above 1.
+-- Without padding an integer is too large exactly if its tenth byte is above 1.
 use Rattle.std.proofs.Common.{◌≡◌, ◌↔◌, ℕ, ◌+◌, ◌*◌, ◌%◌, ◌^◌, ◌<◌, ◌≤◌, ◌⊎◌, inl, inr, List, [], ◌∷◌, ◌++◌, length}
 use Rattle.std.proofs.Common.{refl, sym, ap, ◌∙◌, subst, arith, length-append, mul-le-mul_left}
 use Rattle.std.proofs.Math.Nat.{pow-le-pow_right}
@@ -15,7 +15,7 @@ pub record IsTenthAbove (b : List ℕ) : Type 0 where
   pub nine : length front ≡ 9
   pub above : 1 < tenth
 
--- the number of nine bytes and a tenth
+-- the number in nine bytes and a tenth
 tenth_adds : (f : List ℕ) (x : ℕ) → length f ≡ 9
     → (groups (f ++ (x ∷ [])) ≡ groups f + 2 ^ 63 * (x % 128)) × (groups f < 2 ^ 63)
 tenth_adds f x e = (
@@ -23,7 +23,7 @@ tenth_adds f x e = (
   subst (λ n. groups f < 128 ^ n) e (groups_lt f),
 )
 
--- what nine bytes make is below 2^63
+-- the number in nine bytes is below 2^63
 few_fit : (b : List ℕ) → length b ≤ 9 → groups b < 2 ^ 63
 few_fit b few =
     let most : 128 ^ length b ≤ 128 ^ 9 = pow-le-pow_right {n = 128} (omega arith) {i = length b} {j = 9} few in
@@ -66,7 +66,7 @@ above_decided b front x e nine above = elim (le_or 2 (x % 128)) [
       inr (omega (arith, low, above), omega (arith, size, length-append front (x ∷ []), nine))
 ]
 
--- with nothing ignored the rule is that of a tenth byte
+-- if nothing is ignored, an integer is too large exactly if its tenth byte is above 1
 pub plain_too_large : (b : List ℕ) → IsTooLarge nothing b ↔ IsTenthAbove b
 plain_too_large b = (
   (λ p. record {

@@ -1,4 +1,4 @@
--- Calls one after another: what two reads say together, and where a call ends the whole.
+-- Calls one after another: what two of them say together, and how a failed one ends the whole.
 use Rattle.std.proofs.Common.{◌≡◌, ◌≢◌, ℕ, ◌+◌, ◌-◌, ◌≤◌, true, false, List, [], ◌++◌, length, take}
 use Rattle.std.proofs.Common.{drop, Some, Result, Ok, Err, refl, sym, ap, ◌∙◌, subst, arith, append_assoc}
 use Rattle.std.proofs.Common.{length-append, drop-drop}
@@ -23,13 +23,13 @@ use Rattle.oasis_values.specs.declared.fault.ValueFault.{ValueFault}
 use Rattle.oasis_values.specs.declared.fault.ValueFault.TheVariants.{Truncated, TooLong, Read, Failed}
 use Rattle.oasis_values.specs.declared.input.Input.{Input}
 
--- what is after the bytes at the front
+-- the bytes after those at the front
 pub front_rest : {A : Type 0} (S : List ℕ → A → Type 0) (xs : List ℕ) (n : ℕ) (x : A) (f : IsFront S xs n x)
     → drop n xs ≡ f.rest
 front_rest S xs n x f =
     ap (λ k. drop k xs) (sym f.count) ∙ ap (drop (length f.bytes)) f.whole ∙ drop-append_seam f.bytes f.rest
 
--- a fault of the first is one of the whole
+-- a fault of the first is a fault of the whole
 pub fails_first : {A B : Type 0} (S : List ℕ → Result A ValueFault → Type 0)
     (T : A → List ℕ → Result B ValueFault → Type 0) (room had : ℕ) (xs : List ℕ) (f : ValueFault)
     → ((x : A) → CanSay (T x)) → Fails S room had xs f → Fails (ThenAlways S T) room had xs f
@@ -55,7 +55,7 @@ fails_first S T room had xs f can p =
           };
     }
 
--- a value of the first, and what the second is after it
+-- a value of the first, and then what the second says after it
 pub front_second : {A B : Type 0} (S : List ℕ → Result A ValueFault → Type 0)
     (T : A → List ℕ → Result B ValueFault → Type 0) (xs : List ℕ) (n m : ℕ) (x : A) (r : Result B ValueFault)
     → IsFront S xs n (Ok x) → IsFront (T x) (drop n xs) m r → IsFront (ThenAlways S T) xs (n + m) r
@@ -78,7 +78,7 @@ take_past S xs n room x p h =
     ∙ ap (λ k. take k (p.bytes ++ p.rest)) whole
     ∙ ap (take room) (sym p.whole)
 
--- a fault of the second is one of the whole
+-- a fault of the second is a fault of the whole
 pub fails_second : {A B : Type 0} (S : List ℕ → Result A ValueFault → Type 0)
     (T : A → List ℕ → Result B ValueFault → Type 0) (room n had : ℕ) (xs : List ℕ) (x : A) (f : ValueFault)
     → IsFront S xs n (Ok x) → n ≤ room → Fails (T x) (room - n) had (drop n xs) f
@@ -116,12 +116,12 @@ fails_second S T room n had xs x f p h q =
           };
     }
 
--- the same error, of an answer of another type
+-- the same error as a result of another type
 abbrev pub err_as : {A : Type 0} (B : Type 0) → Result A (Cause ValueFault) → Result B (Cause ValueFault)
 err_as B (Err e) = Err e
 err_as B (Ok x) = Err OutOfMemory
 
--- a call that answered a fault, or that memory ran out, ends the whole
+-- a call that fails ends the whole
 pub reads_fault : {R A B : Type 0} {remaining : R → Option (List ℕ)} {errors : R → ℕ} {lent : R → List GName}
     {S : Spelling A} (T : A → Spelling B) {old new : Input R} {e : Cause ValueFault}
     → ((x : A) (i : Ignore) → CanSay (T x i)) → Reads remaining errors lent S old new (Err e)
@@ -167,7 +167,7 @@ answers_second S T room n had m xs x (Ok y) p h q = (front_second S T xs n m x (
 answers_second S T room n had m xs x (Err OutOfMemory) p h q = tt
 answers_second S T room n had m xs x (Err (Breach f)) p h q = fails_second S T room n had xs x f p h q
 
--- a call that answered a value, and what the next call answered
+-- a call that returned a value, and then what the next call returned
 pub reads_then : {R A B : Type 0} {remaining : R → Option (List ℕ)} {errors : R → ℕ} {lent : R → List GName}
     {S : Spelling A} (T : A → Spelling B) {old mid new : Input R} {x : A} {r : Result B (Cause ValueFault)}
     → Reads remaining errors lent S old mid (Ok x) → Reads remaining errors lent (T x) mid new r
@@ -237,7 +237,7 @@ rule_read Failed r = refl
 rule_read Read r = absurd (let k : false ≡ true = r in cc)
 rule_read f r = refl
 
--- what was read, seen as g of it
+-- g of what was read
 pub reads_seen : {R A B : Type 0} {remaining : R → Option (List ℕ)} {errors : R → ℕ} {lent : R → List GName}
     {S : Spelling A} (g : A → B) {old new : Input R} {x : A}
     → Reads remaining errors lent S old new (Ok x) → Reads remaining errors lent (Seen g S) old new (Ok (g x))
@@ -248,7 +248,7 @@ pub reads_seen_err : {R A B : Type 0} {remaining : R → Option (List ℕ)} {err
     → Reads remaining errors lent S old new (Err e) → Reads remaining errors lent (Seen g S) old new (Err e)
 reads_seen_err g p = reads_err (λ y. Gives (Ok (g y))) (λ y. gives_code) p
 
--- a value was read, and an allocation failed after it
+-- a value was read, and then an allocation failed
 pub reads_stopped : {R A : Type 0} {remaining : R → Option (List ℕ)} {errors : R → ℕ} {lent : R → List GName}
     {S : Spelling A} {old now new : Input R} {x : A}
     → has_failed old ≡ false → Reads remaining errors lent S old now (Ok x) → HasStopped now new
@@ -268,7 +268,7 @@ reads_stopped {remaining = remaining} {errors = errors} {lent = lent} {old = old
       same = ap lent stop.reader ∙ p.same;
     }
 
--- a rule that was tested of what was read: it is breached
+-- a value was read, and it breaches a rule
 pub reads_refused : {R A : Type 0} {remaining : R → Option (List ℕ)} {errors : R → ℕ} {lent : R → List GName}
     {old new : Input R} (f : ValueFault)
     → has_failed old ≡ false → has_failed new ≡ true → is_rule f ≡ true → new.ahead ≡ old.ahead
@@ -316,7 +316,7 @@ pub reads_case : {R A K : Type 0} {remaining : R → Option (List ℕ)} {errors 
 reads_case {remaining = remaining} {errors = errors} {lent = lent} {old = old} {new = new} {r = r} T k j e p =
     subst (λ i. Reads remaining errors lent (T i) old new r) (sym e) p
 
--- where a rule is breached, nothing is spelled by bytes that agree
+-- if a rule is breached, no bytes that agree spell a value
 pub reads_refutes : {R A : Type 0} {remaining : R → Option (List ℕ)} {errors : R → ℕ} {lent : R → List GName}
     {S : Spelling A} {old new : Input R} {r : Result A (Cause ValueFault)}
     → IsCode S → Reads remaining errors lent S old new r → Refutes remaining S old r

@@ -1,4 +1,4 @@
--- What a clause reads of an `Input`.
+-- The parts of an `Input`, for contracts.
 use Rattle.std.specs.Prelude.{ℕ, ◌-◌, Bool, List, length, Option}
 use Rattle.std.specs.Io.KnownBytes.{prepend_known}
 use Rattle.lvl_ignore.specs.declared.ignore.Ignore.{Ignore}
@@ -8,7 +8,7 @@ use Rattle.oasis_values.specs.declared.input.Input.{Input}
 abbrev pub file_limit : ℕ
 file_limit = 4294967295
 
--- the bytes still to come, where they are known, for a reader that has `remaining`
+-- the bytes still to come, if they are known; `remaining` gives those that the reader has left
 abbrev pub bytes_left : {R : Type 0} → (R → Option (List ℕ)) → Input R → Option (List ℕ)
 bytes_left remaining i = prepend_known i.ahead (remaining i.reader)
 
@@ -16,11 +16,11 @@ bytes_left remaining i = prepend_known i.ahead (remaining i.reader)
 abbrev pub in_hand : {R : Type 0} → Input R → ℕ
 in_hand i = length i.ahead
 
--- how many bytes were taken
+-- how many bytes of the input were taken
 abbrev pub input_offset : {R : Type 0} → Input R → ℕ
 input_offset i = i.offset
 
--- whether a call met a fault
+-- whether an earlier call failed
 abbrev pub has_failed : {R : Type 0} → Input R → Bool
 has_failed i = i.failed
 
@@ -32,6 +32,6 @@ input_ignore i = i.ignore
 abbrev pub input_reader : {R : Type 0} → Input R → R
 input_reader i = i.reader
 
--- how many bytes may still be taken
+-- how many bytes may still be taken within the limit
 abbrev pub room_left : {R : Type 0} → Input R → ℕ
 room_left i = file_limit - i.offset

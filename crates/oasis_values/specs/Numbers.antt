@@ -1,5 +1,5 @@
--- Bytes and unsigned integers (SEMI P39 OASIS 1.0, "Unsigned-integer"): seven bits a byte, the lowest group first, the
--- high bit set where another byte follows.
+-- Bytes and unsigned integers (SEMI P39 OASIS 1.0, "Unsigned-integer"): seven bits in each byte, the lowest group
+-- first; the high bit is set if another byte follows.
 use Rattle.std.specs.Prelude.{◌≡◌, ℕ, ◌+◌, ◌*◌, ◌%◌, ◌^◌, ◌<◌, ◌≤◌, ◌⊎◌, if◌then◌else◌, List, [], ◌∷◌, ◌++◌, length}
 use Rattle.std.specs.Prelude.{All, Result, Ok, Err}
 use Rattle.lvl_ignore.specs.declared.ignore.Ignore.{Ignore}
@@ -10,24 +10,25 @@ abbrev pub IsOneByte : List ℕ → Result ℕ ValueFault → Type 0
 IsOneByte b (Ok x) = b ≡ x ∷ []
 IsOneByte b (Err f) = ⊥
 
+-- a byte, which breaches no rule
 abbrev pub IsByte : Ignore → List ℕ → Result ℕ ValueFault → Type 0
 IsByte ignore = IsOneByte
 
--- the number that groups of seven bits make, the lowest first
+-- the number in groups of seven bits, the lowest first
 abbrev pub groups : List ℕ → ℕ
 groups [] = 0
 groups (b ∷ bs) = b % 128 + 128 * groups bs
 
--- each byte says that another follows
+-- the high bit of each byte is set
 abbrev pub Continues : List ℕ → Type 0
 Continues bs = All (λ b. 128 ≤ b) bs
 
--- own rule: an integer has at most ten bytes; where padding is ignored, also more groups than it needs, in at most 256
--- bytes. Those beyond the tenth are zero, since the number is below 2^64
+-- own rule: an integer has at most ten bytes. If padding is ignored, it may have more groups than it needs, in at most
+-- 256 bytes; those after the tenth are zero, since the number is below 2^64
 abbrev pub most_bytes : Ignore → ℕ
 most_bytes ignore = if ignore.padding then 256 else 10
 
--- bytes that continue, and a last one that doesn't; own rule: few enough, and a number below 2^64
+-- bytes with the high bit set and a last one without it; own rule: there are few enough, and the number is below 2^64
 pub record IsInteger (ignore : Ignore) (b : List ℕ) (n : ℕ) : Type 0 where
   pub front : List ℕ
   pub last : ℕ
@@ -38,8 +39,8 @@ pub record IsInteger (ignore : Ignore) (b : List ℕ) (n : ℕ) : Type 0 where
   pub value : n ≡ groups b
   pub fits : n < 2 ^ 64
 
--- bytes that an integer may begin with, and a last one with which none does: the number is 2^64 or more, or there are
--- as many bytes as an integer may have, and none ends it
+-- bytes of which the last shows that no integer begins with them: with it the number is 2^64 or more, or there are as
+-- many bytes as an integer may have and it doesn't end them
 pub record IsTooLarge (ignore : Ignore) (b : List ℕ) : Type 0 where
   pub front : List ℕ
   pub last : ℕ
@@ -49,6 +50,7 @@ pub record IsTooLarge (ignore : Ignore) (b : List ℕ) : Type 0 where
   pub fits : groups front < 2 ^ 64
   pub decided : (2 ^ 64 ≤ groups b) ⊎ ((128 ≤ last) × (length b ≡ most_bytes ignore))
 
+-- an unsigned integer; the only rule that it can breach is IntegerTooLarge
 abbrev pub IsUnsigned : Ignore → List ℕ → Result ℕ ValueFault → Type 0
 IsUnsigned ignore b (Ok n) = IsInteger ignore b n
 IsUnsigned ignore b (Err f) = (f ≡ IntegerTooLarge) × IsTooLarge ignore b

@@ -16,10 +16,11 @@ use Rattle.oasis_values.specs.declared.number.RealType.TheVariants.{NegReciproca
 use Rattle.oasis_values.specs.declared.number.RealType.TheVariants.{NegRatio as OfNegRatio, Four as OfFour}
 use Rattle.oasis_values.specs.declared.number.RealType.TheVariants.{Eight as OfEight}
 
--- the lowest bit is the sign, and the rest the magnitude
+-- the lowest bit is the sign (1 is negative), the others are the magnitude
 abbrev pub with_sign : ℕ → ℤ
 with_sign n = if n % 2 == 0 then pos (n / 2) else neg_ℤ (pos (n / 2))
 
+-- a signed integer
 abbrev pub IsSigned : Spelling ℤ
 IsSigned = Seen with_sign IsUnsigned
 
@@ -30,15 +31,15 @@ not_zero n = if n == 0 then None else Some n
 abbrev pub IsDenominator : Spelling ℕ
 IsDenominator = Then IsUnsigned (λ n. Known (not_zero n) ZeroDenominator)
 
--- n bytes, of any value
+-- n bytes of any value
 abbrev pub IsBytes : ℕ → Spelling (List ℕ)
 IsBytes n = Chain (λ _. IsByte) (λ x. x) n 0
 
--- the types of reals, numbered from 0
+-- the types of reals by their numbers, from 0
 abbrev pub real_types : List RealType
 real_types = OfWhole ∷ OfNegWhole ∷ OfReciprocal ∷ OfNegReciprocal ∷ OfRatio ∷ OfNegRatio ∷ OfFour ∷ OfEight ∷ []
 
--- what follows the type
+-- the real after its type
 abbrev pub IsRealOf : RealType → Spelling Real
 IsRealOf OfWhole = Seen Whole IsUnsigned
 IsRealOf OfNegWhole = Seen NegWhole IsUnsigned
@@ -49,6 +50,6 @@ IsRealOf OfNegRatio = Then IsUnsigned (λ n. Seen (NegRatio n) IsDenominator)
 IsRealOf OfFour = Seen Four (IsBytes 4)
 IsRealOf OfEight = Seen Eight (IsBytes 8)
 
--- a type, and what it says
+-- a type, and a real of that type
 abbrev pub IsReal : Spelling Real
 IsReal = Then IsUnsigned (λ n. Then (Known (among 0 real_types n) unknown_type) IsRealOf)

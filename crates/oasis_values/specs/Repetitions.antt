@@ -1,5 +1,5 @@
--- Repetitions (SEMI P39 OASIS 1.0, "Repetition"). Own rules: the most places of a lattice and of a list, and that each
--- shift is within 64 signed bits.
+-- Repetitions (SEMI P39 OASIS 1.0, "Repetition"). Own rules: the greatest numbers of places of a lattice and of a list,
+-- and that each shift fits in 64 signed bits.
 use Rattle.std.specs.Prelude.{ℕ, ◌+◌, ◌*◌, nat_le, Bool, true, false, if◌then◌else◌, List, [], ◌∷◌, Option}
 use Rattle.std.specs.Prelude.{Some, None, Result, Ok, pos, ℤ, ◌+ℤ◌, ◌*ℤ◌}
 use Rattle.std.specs.List.{list_all}
@@ -23,7 +23,8 @@ use Rattle.oasis_values.specs.declared.repetition.Size.{Size}
 use Rattle.oasis_values.specs.declared.shift.Spacing.{Spacing}
 use Rattle.oasis_values.specs.declared.shift.Spacing.TheVariants.{AlongX, AlongY, Free}
 
--- the types of repetitions, numbered from 0: what each is made of, and whether its spaces are multiplied by a grid
+-- the types of repetitions by their numbers, from 0: how the places lie, and for a list whether its spaces are
+-- multiplied by a grid
 abbrev pub kinds : List Kind
 kinds =
     Modal
@@ -40,26 +41,28 @@ kinds =
     ∷ Listed Free true
     ∷ []
 
--- a repetition has two places more than a dimension says
+-- n + 2 places along a step, for the dimension n; None if there are too many
 abbrev pub line_size : ℕ → Option ℕ
 line_size n = if nat_le (n + 2) most_places then Some (n + 2) else None
 
+-- n + 2 by m + 2 places along two steps; None if there are too many
 abbrev pub matrix_size : ℕ → ℕ → Option Size
 matrix_size n m =
     if nat_le ((n + 2) * (m + 2)) most_places then Some (record { columns = n + 2; rows = m + 2 }) else None
 
--- the most places of a list
+-- the greatest number of places of a list (own rule)
 abbrev pub most_listed : ℕ
 most_listed = 1048576
 
--- and one space more
+-- n + 1 spaces between n + 2 places, for the dimension n; None if there are too many
 abbrev pub list_size : ℕ → Option ℕ
 list_size n = if nat_le (n + 2) most_listed then Some (n + 1) else None
 
--- n times a space after a coordinate
+-- a coordinate moved by `times` times a space; None if it doesn't fit in 64 signed bits
 abbrev pub stepped : ℤ → ℤ → ℕ → Option ℤ
 stepped before by times = let z = before +ℤ (pos times *ℤ by) in if is_in_range z then Some z else None
 
+-- the same for a point
 abbrev pub moved : Point → Far → ℕ → Option Point
 moved p by times = in_range (to (p.x +ℤ (pos times *ℤ by.x)) (p.y +ℤ (pos times *ℤ by.y)))
 
@@ -68,6 +71,7 @@ abbrev pub space : Bool → ℕ → Far
 space true far = record { x = pos far; y = pos 0 }
 space false far = record { x = pos 0; y = pos far }
 
+-- a g-delta as a space
 abbrev pub widened : Point → Far
 widened d = record { x = d.x; y = d.y }
 
@@ -77,20 +81,21 @@ IsSpaceAlong along_x = Seen (space along_x) IsUnsigned
 abbrev pub IsSpaceFree : Spelling Far
 IsSpaceFree = Seen widened IsGDelta
 
+-- a space: an unsigned integer along an axis, or a g-delta
 abbrev pub IsSpace : Spacing → Spelling Far
 IsSpace AlongX = IsSpaceAlong true
 IsSpace AlongY = IsSpaceAlong false
 IsSpace Free = IsSpaceFree
 
--- a shift is the one before it, moved by a space as many times as the grid says
+-- the next shift: the one before it, moved by a space times the grid
 abbrev pub IsShift : Spacing → ℕ → Point → Spelling Point
 IsShift spacing grid before = Then (IsSpace spacing) (λ by. Known (moved before by grid) OutOfRange)
 
--- the lattice of two steps, where all its shifts are in range
+-- the lattice of m steps by a and n steps by b, if all its shifts fit in 64 signed bits
 abbrev pub lattice_in_range : Point → ℕ → Point → ℕ → Option (List Point)
 lattice_in_range a m b n = if list_all is_point_in_range (lattice a m b n) then Some (lattice a m b n) else None
 
--- type 0: there is a modal repetition
+-- type 0 is the modal repetition, if there is one
 abbrev pub modal : Bool → Option Repetition
 modal true = Some TheModal
 modal false = None
@@ -98,14 +103,15 @@ modal false = None
 abbrev pub IsModal : Bool → Spelling Repetition
 IsModal has_modal = Known (modal has_modal) NoModal
 
--- n places along a step
+-- n places along one step
 abbrev pub IsLineOf : Spacing → ℕ → Spelling Repetition
 IsLineOf spacing n = Then (IsShift spacing 1 origin) (λ a. Seen New (Known (lattice_in_range a n origin 1) OutOfRange))
 
+-- a dimension, and places along one step
 abbrev pub IsLine : Spacing → Spelling Repetition
 IsLine spacing = Then IsUnsigned (λ d. Then (Known (line_size d) RepetitionSize) (IsLineOf spacing))
 
--- the first of two steps, with its places in range
+-- the first of two steps, whose n places must be in range
 abbrev pub IsColumns : Spacing → ℕ → Spelling Point
 IsColumns spacing n =
     Then (IsShift spacing 1 origin) (λ a. Seen (λ _. a) (Known (lattice_in_range a n origin 1) OutOfRange))
@@ -116,33 +122,36 @@ IsMatrixOf first second s =
     Then (IsColumns first s.columns)
     (λ a. Then (IsShift second 1 origin) (λ b. Seen New (Known (lattice_in_range a s.columns b s.rows) OutOfRange)))
 
+-- two dimensions, which are read before they are tested, and places along two steps
 abbrev pub IsMatrix : Spacing → Spacing → Spelling Repetition
 IsMatrix first second =
     Then IsUnsigned
     (λ d. Then IsUnsigned (λ e. Then (Known (matrix_size d e) RepetitionSize) (IsMatrixOf first second)))
 
--- the grid that spaces are multiplied by, if there is one
+-- the grid by which spaces are multiplied; 1 if there is none
 abbrev pub IsGrid : Bool → Spelling ℕ
 IsGrid true = IsUnsigned
 IsGrid false = Gives (Ok 1)
 
--- n shifts after the zero shift
+-- the zero shift, and n shifts after it
 abbrev pub AreShifts : Spacing → ℕ → ℕ → Spelling Repetition
 AreShifts spacing n grid = Seen (λ ps. New (origin ∷ ps)) (Chain (IsShift spacing grid) (λ p. p) n origin)
 
+-- a grid if there is one, and n spaces
 abbrev pub IsSpreadOf : Spacing → Bool → ℕ → Spelling Repetition
 IsSpreadOf spacing gridded n = Then (IsGrid gridded) (AreShifts spacing n)
 
+-- a dimension, and places at successive spaces
 abbrev pub IsSpread : Spacing → Bool → Spelling Repetition
 IsSpread spacing gridded = Then IsUnsigned (λ d. Then (Known (list_size d) RepetitionSize) (IsSpreadOf spacing gridded))
 
--- what follows the type
+-- the repetition after its type
 abbrev pub IsKind : Bool → Kind → Spelling Repetition
 IsKind has_modal Modal = IsModal has_modal
 IsKind has_modal (Matrix first second) = IsMatrix first second
 IsKind has_modal (Line spacing) = IsLine spacing
 IsKind has_modal (Listed spacing gridded) = IsSpread spacing gridded
 
--- a type, and what it says
+-- a type, and a repetition of that type
 abbrev pub IsRepetition : Bool → Spelling Repetition
 IsRepetition has_modal = Then IsUnsigned (λ n. Then (Known (among 0 kinds n) RepetitionType) (IsKind has_modal))

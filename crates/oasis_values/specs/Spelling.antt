@@ -1,23 +1,24 @@
--- Spellings of values: what bytes say, where something is ignored (own rule). `S ignore b r` is read: for a reader that
--- ignores these, the bytes b say r.
+-- Spellings of values, which depend on what is ignored (own rule). `S ignore b r` is read: for a reader that ignores
+-- this, the bytes b say r.
 use Rattle.std.specs.Prelude.{ℕ, zero, suc, List, [], ◌∷◌, Result, Ok}
 use Rattle.lvl_io.specs.Spelling.{Gives as GivesAlways, Then as ThenAlways}
 use Rattle.lvl_ignore.specs.declared.ignore.Ignore.{Ignore}
 use Rattle.oasis_values.specs.declared.fault.ValueFault.{ValueFault}
 
+-- what bytes say, by what is ignored
 abbrev pub Spelling : Type 0 → Type 1
 Spelling A = Ignore → List ℕ → Result A ValueFault → Type 0
 
--- r is said by no bytes at all
+-- the empty list says r, and no other bytes say anything
 abbrev pub Gives : {A : Type 0} → Result A ValueFault → Ignore → List ℕ → Result A ValueFault → Type 0
 Gives r ignore = GivesAlways r
 
--- one after another: a breach of the first is one of the whole; else the bytes after it are read as its value says
+-- S and then T for its value; a breach of S is a breach of the whole
 abbrev pub Then : {A B : Type 0} → Spelling A → (A → Spelling B) → Ignore → List ℕ → Result B ValueFault → Type 0
 Then S T ignore = ThenAlways (S ignore) (λ x. T x ignore)
 
--- n of them one after another, the first of which is read as a says, and each other as the one before it says. What is
--- said is the list of what is shown of each
+-- n values one after another: the first is read by S for a, and each other by S for the one before it. The whole says
+-- the list of what `show` makes of each
 abbrev pub Chain : {A B : Type 0} → (A → Spelling A) → (A → B) → ℕ → A → Spelling (List B)
 Chain S show zero a = Gives (Ok [])
 Chain S show (suc n) a = Then (S a) (λ x. Then (Chain S show n x) (λ ys. Gives (Ok (show x ∷ ys))))

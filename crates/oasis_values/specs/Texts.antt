@@ -1,5 +1,5 @@
--- Strings (SEMI P39 OASIS 1.0, "Strings"): a length and that many bytes, each of the string's kind. The most bytes that
--- a string may have is own rule.
+-- Strings (SEMI P39 OASIS 1.0, "Strings"): a length and that many bytes, each allowed by the string's kind. Own rule:
+-- the greatest length.
 use Rattle.std.specs.Prelude.{ℕ, ◌&&◌, nat_le, Bool, true, if◌then◌else◌, List, Option, Some, None, Result}
 use Rattle.oasis_values.specs.Known.{Known, Unkept}
 use Rattle.oasis_values.specs.Numbers.{IsByte, IsUnsigned}
@@ -9,16 +9,17 @@ use Rattle.oasis_values.specs.declared.fault.ValueFault.TheVariants.{StringByte}
 use Rattle.oasis_values.specs.declared.text.Text.{Text}
 use Rattle.oasis_values.specs.declared.text.Text.TheVariants.{A, B, N}
 
--- the fewest bytes: an n-string isn't empty
+-- the least length: an n-string isn't empty
 abbrev pub least_length : Text → ℕ
 least_length A = 0
 least_length B = 0
 least_length N = 1
 
+-- the length n, if a string of that kind may have it and it is at most `most`
 abbrev pub text_length : Text → ℕ → ℕ → Option ℕ
 text_length kind most n = if nat_le (least_length kind) n && nat_le n most then Some n else None
 
--- printable characters, of which the space is only an a-string's; in a b-string any byte
+-- an a-string has printable characters and spaces, an n-string printable characters, a b-string any bytes
 abbrev pub has_character : Text → ℕ → Bool
 has_character A c = nat_le 0x20 c && nat_le c 0x7E
 has_character B c = true
@@ -33,10 +34,11 @@ IsCharacter kind = Then IsByte (λ c. Known (character kind c) StringByte)
 abbrev pub AreCharacters : Text → ℕ → Spelling (List ℕ)
 AreCharacters kind n = Chain (λ _. IsCharacter kind) (λ c. c) n 0
 
+-- a string of at most `most` bytes, which are kept
 abbrev pub IsString : Text → ℕ → Spelling (List ℕ)
 IsString kind most = Then IsUnsigned (λ n. Then (Known (text_length kind most n) StringByte) (AreCharacters kind))
 
--- a string of any length, of which nothing is kept
+-- strings of any length that are read but not kept
 
 abbrev pub any_length : Text → ℕ → Option ℕ
 any_length kind n = if nat_le (least_length kind) n then Some n else None

@@ -1,4 +1,4 @@
-//! Deltas: displacements by a direction and a magnitude, or by two signed coordinates.
+//! Deltas: displacements given by a direction and a magnitude, or by two signed coordinates.
 ghost use Rattle.std.specs.Prelude.{◌≡◌, ◌<◌, ◌^◌};
 ghost use Rattle.oasis_values.specs.Deltas.{direction_of, toward, free};
 
@@ -21,7 +21,7 @@ pub enum Direction {
     Southeast,
 }
 
-// The direction by its number, of which there are eight.
+// The direction by its number, from 0 to 7.
 fn direction_of(number: u64) -> Direction
     ensures { result ≡ direction_of number }
 {
@@ -37,7 +37,7 @@ fn direction_of(number: u64) -> Direction
     }
 }
 
-// So far in that direction, along both axes in one between them.
+// The displacement by the magnitude in a direction; in a diagonal one, along each axis.
 fn toward(direction: Direction, magnitude: u64) -> Point
     requires { magnitude < 2 ^ 63 }
     ensures { result ≡ toward direction magnitude }
@@ -55,7 +55,7 @@ fn toward(direction: Direction, magnitude: u64) -> Point
     }
 }
 
-// A displacement by two signed coordinates.
+// The displacement by two numbers, for x and y; the lowest bit of each is its sign.
 fn free(across: u64, up: u64) -> Point
     ensures { result ≡ free across up }
 {
@@ -79,7 +79,8 @@ impl<R: Read> Input<R> {
         self.signed()
     }
 
-    /// A 2-delta: the low two bits are a direction along an axis, and the rest is the magnitude.
+    /// A 2-delta: the lowest two bits are a direction along an axis, and the others are the
+    /// magnitude.
     pub fn two_delta(&mut self) -> Result<Point, ValueFault>
         ensures reads { Reads R.remaining R.read_errors R.lent IsTwoDelta self.old self.new (as_breach result) }
         ensures none { Refutes R.remaining IsTwoDelta self.old (as_breach result) }
@@ -88,7 +89,7 @@ impl<R: Read> Input<R> {
         Ok(toward(direction_of(number % 4), number / 4))
     }
 
-    /// A 3-delta: the low three bits are a direction, and the rest is the magnitude.
+    /// A 3-delta: the lowest three bits are a direction, and the others are the magnitude.
     pub fn three_delta(&mut self) -> Result<Point, ValueFault>
         ensures reads { Reads R.remaining R.read_errors R.lent IsThreeDelta self.old self.new (as_breach result) }
         ensures none { Refutes R.remaining IsThreeDelta self.old (as_breach result) }
@@ -97,8 +98,8 @@ impl<R: Read> Input<R> {
         Ok(toward(direction_of(number % 8), number / 8))
     }
 
-    /// A g-delta: where the lowest bit is 0, a 3-delta of the bits above it; where it is 1, the rest
-    /// is the displacement to the east with its sign, and a second integer that to the north.
+    /// A g-delta. If the lowest bit is 0, the others are a 3-delta. If it is 1, the others are x, with the
+    /// sign in their lowest bit, and a second integer is y in the same form.
     pub fn g_delta(&mut self) -> Result<Point, ValueFault>
         ensures reads { Reads R.remaining R.read_errors R.lent IsGDelta self.old self.new (as_breach result) }
         ensures none { Refutes R.remaining IsGDelta self.old (as_breach result) }

@@ -1,5 +1,5 @@
-//! A byte and an unsigned integer at the front of an input: the only values that are read from the
-//! reader's bytes themselves.
+//! Finds a byte and an unsigned integer at the front of an input. These are the only values that
+//! are read from the bytes directly.
 ghost use Rattle.std.specs.Prelude.{◌≡◌, ◌^◌, ◌<◌, ◌≤◌, ◌+◌, List, ℕ, Some, Ok, Err, IfOk, IfErr, length, take};
 ghost use Rattle.std.specs.Io.KnownBytes.{prepend_known};
 ghost use Rattle.lvl_io.specs.Known.{Stays};
@@ -13,14 +13,14 @@ use crate::integer::{Leading, scan_integer};
 use lvl_ignore::Ignore;
 use lvl_io::{Buffer, Missing, Read};
 
-/// What was found, and how many bytes it has.
+/// What was found, and how many bytes it takes.
 #[derive(Clone, Copy)]
 pub struct Found<T> {
     pub value: T,
     pub len: usize,
 }
 
-// Reads until one byte more than `n` is ahead, of which only `room` may be taken.
+// Reads until more than `n` bytes are ahead, with `room` bytes left within the limit.
 fn want_more<R: Read>(
     reader: &mut R,
     ahead: &mut Buffer<4096>,

@@ -1,4 +1,4 @@
-//! The input: single bytes and unsigned integers, of which all other values are made.
+//! The input: single bytes and unsigned integers, of which all other values consist.
 ghost use Rattle.std.specs.Prelude.{◌≡◌, ◌-◌, ◌≤◌, false, true, Some, IfOk, OnErr};
 
 use crate::fault::ValueFault;
@@ -6,8 +6,8 @@ use crate::find::{find_byte, find_integer};
 use lvl_ignore::Ignore;
 use lvl_io::{Buffer, FILE_LIMIT, Read};
 
-/// The values in the bytes of a reader, one at a time. It asks its reader for bytes only where one is
-/// needed and none is left.
+/// Reads values from a reader, one at a time. It reads from the reader only when it needs a byte and has
+/// none ahead.
 #[derive(Drop)]
 pub struct Input<R> {
     reader: R,
@@ -26,7 +26,8 @@ impl<R: Read> Input<R> {
     ghost use Rattle.oasis_values.specs.Known.{Known};
     ghost use Rattle.oasis_values.specs.inside.Stopped.{HasStopped};
 
-    /// The values of a reader's bytes, from its next byte on, where these are ignored. It takes no memory.
+    /// The values in the bytes that the reader gives from now on, if `ignore` is ignored. It doesn't
+    /// allocate.
     pub fn new(reader: R, ignore: Ignore) -> Input<R>
         ensures reader { input_reader result ≡ reader }
         ensures bytes { bytes_left R.remaining result ≡ R.remaining reader }
@@ -43,7 +44,7 @@ impl<R: Read> Input<R> {
         }
     }
 
-    /// How many bytes of the input were taken. It is reported after a fault too.
+    /// How many bytes of the input were taken. It is available after a fault too.
     pub fn offset(&self) -> u64
         ensures { result ≡ input_offset self.now }
     {
@@ -57,7 +58,7 @@ impl<R: Read> Input<R> {
         self.ignore
     }
 
-    /// The reader. What was read ahead is lost.
+    /// The reader. Bytes that were read ahead are lost.
     pub fn into_reader(self) -> R
         ensures { result ≡ input_reader self }
     {
@@ -94,9 +95,10 @@ impl<R: Read> Input<R> {
         }
     }
 
-    /// An unsigned integer of at most ten bytes, below 2^64. `IntegerTooLarge` comes at a tenth byte
-    /// above 1 (own rule). Where padding is ignored it has at most 256 bytes, and `IntegerTooLarge` comes
-    /// at the first byte with which it isn't below 2^64, or at a 256th that doesn't end it.
+    /// An unsigned integer of at most ten bytes, below 2^64. It fails with `IntegerTooLarge` at a tenth
+    /// byte above 1 (own rule). If padding is ignored, the integer may have 256 bytes, and
+    /// `IntegerTooLarge` is reported at the first byte with which it is 2^64 or more, or at the 256th if
+    /// that doesn't end it.
     pub fn unsigned(&mut self) -> Result<u64, ValueFault>
         ensures reads { Reads R.remaining R.read_errors R.lent IsUnsigned self.old self.new (as_breach result) }
         ensures none { Refutes R.remaining IsUnsigned self.old (as_breach result) }
@@ -123,7 +125,7 @@ impl<R: Read> Input<R> {
         }
     }
 
-    /// What is known of what was read; where there is none, the rule is breached, and the input fails.
+    /// The value, if there is one; if not, the rule is breached, and later calls fail.
     pub(crate) fn known<T: Drop>(
         &mut self,
         found: Option<T>,
@@ -145,7 +147,7 @@ impl<R: Read> Input<R> {
         }
     }
 
-    /// An allocation failed, and so has the input.
+    /// After a failed allocation: later calls fail.
     pub(crate) fn stop(&mut self)
         ensures { HasStopped self.old self.new }
     {

@@ -1,31 +1,32 @@
-//! An unsigned integer at the front of some bytes: seven bits a byte, the lowest first, and the high
-//! bit set where another byte follows.
+//! An unsigned integer at the front of some bytes: seven bits in each byte, the lowest group first; the
+//! high bit is set if another byte follows.
 ghost use Rattle.std.specs.Prelude.{◌≡◌, ◌<◌, ◌≤◌, length, take, get_or};
 ghost use Rattle.oasis_values.specs.Numbers.{groups, most_bytes, Continues};
 ghost use Rattle.oasis_values.specs.inside.Leading.{Leads};
 
 use lvl_ignore::Ignore;
 
-/// The most bytes of an unsigned integer (own rule): a number below 2^64 needs no more.
+/// The greatest number of bytes of an unsigned integer (own rule): a number below 2^64 needs no
+/// more.
 const MOST_BYTES: usize = 10;
 
-/// The most bytes of an unsigned integer where padding is ignored (own rule).
+/// The greatest number of bytes of an unsigned integer if padding is ignored (own rule).
 const MOST_PADDED_BYTES: usize = 256;
 
-/// Each byte but the last is this or more.
+/// The high bit, which is set in each byte but the last.
 const CONTINUES: u8 = 128;
 
-/// What the lowest bit of a tenth byte counts.
+/// The value of the lowest bit of a tenth byte.
 const HIGHEST_UNIT: u64 = 1 << 63;
 
 /// What is at the front of some bytes.
 #[derive(Clone, Copy)]
 pub enum Leading {
-    /// An integer, and of how many bytes.
+    /// An integer, and how many bytes it takes.
     Whole(u64, usize),
-    /// How many bytes are enough to see that no integer begins with them.
+    /// No integer begins with the bytes, and how many of them show it.
     TooLarge(usize),
-    /// The beginning of an integer.
+    /// The bytes are the beginning of an integer.
     Unfinished,
 }
 
@@ -49,8 +50,8 @@ pub(crate) fn scan_integer(ignore: Ignore, bytes: &[u8]) -> Leading
     Leading::Unfinished
 }
 
-// The same, where nine bytes that continue make `value`, and the tenth isn't 0 or 1: with padding it
-// may still be an integer.
+// The same, if nine bytes that continue make `value` and the tenth isn't 0 or 1: with padding it may still
+// be an integer.
 fn scan_long(ignore: Ignore, bytes: &[u8], value: u64) -> Leading
     requires long { 9 < length bytes.now }
     requires continues { Continues (take 9 bytes.now) }
@@ -68,7 +69,7 @@ fn scan_long(ignore: Ignore, bytes: &[u8], value: u64) -> Leading
     scan_padding(ignore, bytes, value + HIGHEST_UNIT * u64::from(digit))
 }
 
-// The same, where ten bytes that continue make `value`: only zeros may follow.
+// The same, if ten bytes that continue make `value`: only zero groups may follow.
 fn scan_padding(ignore: Ignore, bytes: &[u8], value: u64) -> Leading
     requires padded { most_bytes ignore ≡ 256 }
     requires long { 10 ≤ length bytes.now }

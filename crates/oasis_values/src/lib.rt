@@ -1,8 +1,8 @@
-//! The values of OASIS, one at a time, over any reader: numbers, strings, deltas, point lists and
-//! repetitions (SEMI P39 OASIS 1.0).
+//! Reads the values of OASIS, one at a time, from any reader: numbers, strings, deltas, point lists
+//! and repetitions (SEMI P39 OASIS 1.0).
 //!
-//! [`Input`] reads a value where its caller knows what has to come, and keeps what is ignored: where
-//! padding is, it may be in any number. What records are made of these values is for the crates above.
+//! [`Input`] reads the value that its caller expects. It also knows what is ignored, since any number may
+//! have padding. The crates above make records of the values.
 //!
 //! ```
 //! let mut input = Input::new(Pieces::new(b"\xE8\x07\x0B", usize::MAX), Ignore::NOTHING);

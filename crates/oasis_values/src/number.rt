@@ -7,24 +7,24 @@ use crate::fault::ValueFault;
 use crate::input::Input;
 use lvl_io::Read;
 
-/// A real, as the file has it.
+/// A real, as it is in the file.
 #[derive(Clone, Copy, Debug, Drop, PartialEq, Eq)]
 pub enum Real {
     /// A whole number.
     Whole(u64),
     /// A negative whole number.
     NegWhole(u64),
-    /// One divided by a whole number.
+    /// One divided by a whole number, which isn't zero.
     Reciprocal(u64),
-    /// The negative of that.
+    /// The negative of such a number.
     NegReciprocal(u64),
-    /// A whole number divided by another.
+    /// A whole number divided by another, which isn't zero.
     Ratio(u64, u64),
-    /// The negative of that.
+    /// The negative of such a number.
     NegRatio(u64, u64),
-    /// The bytes of an IEEE number of four bytes, in file order.
+    /// The four bytes of an IEEE number, in the order of the file.
     Four([u8; 4]),
-    /// The bytes of an IEEE number of eight bytes, in file order.
+    /// The eight bytes of an IEEE number, in the order of the file.
     Eight([u8; 8]),
 }
 
@@ -58,7 +58,7 @@ fn real_type(number: u64) -> Option<RealType>
     }
 }
 
-// A denominator, which isn't zero.
+// The number, if it isn't zero.
 fn not_zero(number: u64) -> Option<u64>
     ensures { result ≡ not_zero number }
 {
@@ -68,7 +68,7 @@ fn not_zero(number: u64) -> Option<u64>
     Some(number)
 }
 
-// The number whose lowest bit is the sign, and the rest the magnitude.
+// The number with the lowest bit as its sign and the others as its magnitude.
 pub(crate) fn with_sign(number: u64) -> i64
     ensures { result ≡ with_sign number }
 {
@@ -86,8 +86,8 @@ impl<R: Read> Input<R> {
     ghost use Rattle.oasis_values.specs.Faults.{as_breach};
     ghost use Rattle.oasis_values.specs.Reals.{IsSigned, IsReal, IsRealOf, IsDenominator, IsBytes};
 
-    /// A signed integer: an unsigned one whose lowest bit is the sign and the rest the magnitude, so
-    /// that minus zero is 0.
+    /// A signed integer: an unsigned one whose lowest bit is the sign and whose other bits are the
+    /// magnitude. Minus zero is 0.
     pub fn signed(&mut self) -> Result<i64, ValueFault>
         ensures reads { Reads R.remaining R.read_errors R.lent IsSigned self.old self.new (as_breach result) }
         ensures none { Refutes R.remaining IsSigned self.old (as_breach result) }
@@ -104,7 +104,7 @@ impl<R: Read> Input<R> {
         self.known(not_zero(number), ValueFault::ZeroDenominator)
     }
 
-    /// A real: its type from 0 to 7, and what the type says.
+    /// A real: its type from 0 to 7, and then a value of that type.
     pub fn real(&mut self) -> Result<Real, ValueFault>
         ensures reads { Reads R.remaining R.read_errors R.lent IsReal self.old self.new (as_breach result) }
         ensures none { Refutes R.remaining IsReal self.old (as_breach result) }
@@ -114,7 +114,7 @@ impl<R: Read> Input<R> {
         self.real_of(kind)
     }
 
-    // A real of that type, after its type.
+    // A real of that type, after the type was read.
     pub(crate) fn real_of(&mut self, kind: RealType) -> Result<Real, ValueFault>
         requires { has_failed self.old ≡ false }
         ensures reads { Reads R.remaining R.read_errors R.lent (IsRealOf kind) self.old self.new (as_breach result) }
@@ -157,7 +157,7 @@ impl<R: Read> Input<R> {
         }
     }
 
-    // `N` bytes, of any value.
+    // `N` bytes of any value.
     fn bytes_of<const N: usize>(&mut self) -> Result<[u8; N], ValueFault>
         requires { has_failed self.old ≡ false }
         ensures reads { Reads R.remaining R.read_errors R.lent (IsBytes N) self.old self.new (as_breach result) }

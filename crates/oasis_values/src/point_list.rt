@@ -1,4 +1,5 @@
-//! Point lists: a type, a count and as many deltas, each from the vertex before.
+//! Point lists: a type, a count and that many deltas. Each vertex is the one before it, moved by a
+//! delta.
 ghost use Rattle.std.specs.Prelude.{◌≡◌, ◌<◌, ◌≤◌, ◌++◌, false, IfSome, vec_len, vec_capacity};
 ghost use Rattle.oasis_values.specs.Known.{among};
 ghost use Rattle.oasis_values.specs.Ranges.{sum};
@@ -15,9 +16,9 @@ use std::alloc::Global;
 /// What a point list is for.
 #[derive(Clone, Copy, Debug, Drop, PartialEq, Eq)]
 pub enum Use {
-    /// A closed outline, whose last vertex is implied in types 0 and 1.
+    /// A closed outline. In types 0 and 1 its last vertex is implied.
     Polygon,
-    /// An open path, in which nothing is implied.
+    /// An open path. No vertex is implied.
     Path,
 }
 
@@ -38,8 +39,7 @@ pub enum ListType {
     DoubleDelta,
 }
 
-/// Where a list of vertices is: at this vertex, after this step, and along which axis a 1-delta goes
-/// from here.
+/// How far a list was read: the last vertex, the last step, and the axis of the next 1-delta.
 #[derive(Clone, Copy, Drop)]
 pub struct Walk {
     at: Point,
@@ -49,7 +49,7 @@ pub struct Walk {
 
 const ORIGIN: Point = Point { x: 0, y: 0 };
 
-/// The most points that a list may have (own rule).
+/// The greatest number of deltas of a list (own rule).
 const MOST_POINTS: u64 = 65_536;
 
 // The type of a list by its number.
@@ -67,7 +67,7 @@ fn list_type(number: u64) -> Option<ListType>
     }
 }
 
-// Whether a list for that use has its last vertex implied, so that its deltas come in pairs.
+// Whether the last vertex of such a list is implied, so that the number of its deltas is even.
 fn comes_in_pairs(purpose: Use, kind: ListType) -> bool
     ensures { result ≡ comes_in_pairs purpose kind }
 {
@@ -95,7 +95,7 @@ fn point_count(purpose: Use, kind: ListType, count: u64) -> Option<usize>
     Some(count as usize)
 }
 
-// So far along x or along y.
+// The step by a distance along x or along y.
 fn along(along_x: bool, far: i64) -> Point
     ensures { result ≡ along along_x far }
 {
@@ -106,7 +106,7 @@ fn along(along_x: bool, far: i64) -> Point
     }
 }
 
-// The sum, or None where it is outside 64 bits.
+// The sum; `None` if it doesn't fit in 64 bits.
 fn sum(point: Point, by: Point) -> Option<Point>
     ensures { result ≡ sum point by }
 {
@@ -115,7 +115,7 @@ fn sum(point: Point, by: Point) -> Option<Point>
     Some(Point { x, y })
 }
 
-// Where a list begins.
+// The start of a list.
 fn start_of(kind: ListType) -> Walk
     ensures { result ≡ start_of kind }
 {
@@ -127,7 +127,7 @@ fn start_of(kind: ListType) -> Walk
 }
 
 impl Walk {
-    // After a step; None where the vertex is outside 64 bits.
+    // The walk after a step; `None` if the vertex doesn't fit in 64 bits.
     fn walked(self, by: Point) -> Option<Walk>
         ensures { result ≡ walked self by }
     {
@@ -140,7 +140,7 @@ impl Walk {
     }
 }
 
-// The vertex that is implied after the last one.
+// The vertex that is implied after the last one, if any.
 fn implied(purpose: Use, kind: ListType, last: Point) -> Option<Point>
     ensures { result ≡ implied purpose kind last }
 {
@@ -168,10 +168,10 @@ impl<R: Read> Input<R> {
     ghost use Rattle.oasis_values.specs.PointLists.{IsAlong, IsMore, IsStep, IsNext};
     ghost use Rattle.oasis_values.specs.PointLists.{AreVertices, IsListOf, IsPointList};
 
-    /// The vertices of a point list, as displacements from its start, which is first; a vertex that is
-    /// implied is last.
+    /// The vertices of a point list, as displacements from its start. The first is the start itself, and
+    /// the last is the implied vertex if there is one.
     ///
-    /// The type and the count are tested before memory is taken, and each step and vertex as it is read.
+    /// The type and the count are tested before it allocates, and each step and vertex when it is read.
     pub fn point_list(
         &mut self,
         alloc: Global,
@@ -185,7 +185,7 @@ impl<R: Read> Input<R> {
         self.list_of(alloc, purpose, kind)
     }
 
-    // A list of that type, after its type.
+    // A list of that type, after the type was read.
     fn list_of(
         &mut self,
         alloc: Global,
@@ -200,7 +200,7 @@ impl<R: Read> Input<R> {
         self.vertices(alloc, purpose, kind, count)
     }
 
-    // So many vertices, after the start and before the implied one.
+    // The start, `count` vertices after it, and the implied one if there is one.
     fn vertices(
         &mut self,
         alloc: Global,
@@ -256,7 +256,7 @@ impl<R: Read> Input<R> {
         Ok(along(along_x, far))
     }
 
-    // The step before and a g-delta.
+    // The sum of the step before and a g-delta.
     fn step_more(&mut self, before: Point) -> Result<Point, ValueFault>
         ensures reads { Reads R.remaining R.read_errors R.lent (IsMore before) self.old self.new (as_breach result) }
     {

@@ -1,4 +1,4 @@
-//! Values of properties, of which nothing is kept.
+//! Values of properties, which are read but not kept.
 ghost use Rattle.std.specs.Prelude.{◌≡◌, false};
 ghost use Rattle.oasis_values.specs.Known.{among};
 ghost use Rattle.oasis_values.specs.Properties.{value_types};
@@ -16,7 +16,7 @@ pub enum ValueType {
     Unsigned,
     Signed,
     String(Text),
-    /// The number of a PROPSTRING record.
+    /// The number of a PROPSTRING record, which stands for its string.
     Reference,
 }
 
@@ -49,8 +49,8 @@ impl<R: Read> Input<R> {
     ghost use Rattle.oasis_values.specs.Faults.{as_breach};
     ghost use Rattle.oasis_values.specs.Properties.{IsValueOf, IsValue};
 
-    /// A value of a property: its type from 0 to 15, and what the type says. Nothing of it is kept, so it
-    /// takes no memory. `RealType` is reported of a type over 15.
+    /// Reads a value of a property, its type from 0 to 15 and then a value of that type, and keeps nothing
+    /// of it. It doesn't allocate. A type over 15 is reported as `RealType`.
     pub fn skip_value(&mut self) -> Result<(), ValueFault>
         ensures reads { Reads R.remaining R.read_errors R.lent IsValue self.old self.new (as_breach result) }
         ensures none { Refutes R.remaining IsValue self.old (as_breach result) }
@@ -60,7 +60,7 @@ impl<R: Read> Input<R> {
         self.skip_value_of(kind)
     }
 
-    // A value of that type, after its type.
+    // Reads a value of that type, after the type was read.
     fn skip_value_of(&mut self, kind: ValueType) -> Result<(), ValueFault>
         requires { has_failed self.old ≡ false }
         ensures reads { Reads R.remaining R.read_errors R.lent (IsValueOf kind) self.old self.new (as_breach result) }

@@ -18,26 +18,26 @@ use std::alloc::{AllocError, Global};
 /// A repetition, as a record has it.
 #[derive(Debug, Drop)]
 pub enum Repetition {
-    /// That of the record before. Nothing of it is copied.
+    /// The modal repetition. It isn't copied.
     Modal,
-    /// These shifts. A list of them is one that its clones share.
+    /// These shifts. If they are a list, all clones share it.
     New(Offsets),
 }
 
-/// What repetitions of a type are made of.
+/// How the places of a repetition lie, by its type.
 #[derive(Clone, Copy, Drop)]
 pub enum Kind {
-    /// Nothing: the modal repetition.
+    /// They are those of the modal repetition.
     Modal,
-    /// Places along two steps.
+    /// Along two steps, by a spacing for each.
     Matrix(Spacing, Spacing),
-    /// Places along one step.
+    /// Along one step.
     Line(Spacing),
-    /// A list of spaces, each taken as many times as a grid says, if there is one.
+    /// At successive spaces, each multiplied by a grid if the flag is set.
     List(Spacing, bool),
 }
 
-/// How many places a repetition along two steps has.
+/// The numbers of places along two steps.
 #[derive(Clone, Copy, Drop)]
 pub struct Size {
     columns: u64,
@@ -46,13 +46,13 @@ pub struct Size {
 
 const ORIGIN: Point = Point { x: 0, y: 0 };
 
-/// The most places of a lattice (own rule).
+/// The greatest number of places of a lattice (own rule).
 const MOST_PLACES: u64 = 16_777_216;
 
-/// The most places of a list (own rule).
+/// The greatest number of places of a list (own rule).
 const MOST_LISTED: u64 = 1_048_576;
 
-// What repetitions of that number are made of.
+// How the places of a repetition lie, by the number of its type.
 fn kind_of(number: u64) -> Option<Kind>
     ensures { result ≡ among 0 kinds number }
 {
@@ -73,7 +73,7 @@ fn kind_of(number: u64) -> Option<Kind>
     }
 }
 
-// Two places more than a dimension says, if they are few enough.
+// The number of places along a step, `dimension + 2`; `None` if there are too many.
 fn line_size(dimension: u64) -> Option<u64>
     ensures { result ≡ line_size dimension }
 {
@@ -95,7 +95,7 @@ fn matrix_size(columns: u64, rows: u64) -> Option<Size>
     Some(Size { columns, rows })
 }
 
-// How many spaces a list has, if its places are few enough.
+// The number of spaces in a list, `dimension + 1`; `None` if its places are too many.
 fn list_size(dimension: u64) -> Option<usize>
     ensures value { result ≡ list_size dimension }
     ensures few { IfSome result (λ n. n ≤ 1048576) }
@@ -117,7 +117,7 @@ fn modal(has_modal: bool) -> Option<Repetition>
     }
 }
 
-// The lattice of two steps, or None where a shift is outside 64 bits.
+// The lattice of two steps; `None` if a shift doesn't fit in 64 bits.
 fn lattice(a: Point, m: u64, b: Point, n: u64) -> Option<Offsets>
     requires { IsFew m n }
     ensures { result ≡ lattice_in_range a m b n }
@@ -125,7 +125,7 @@ fn lattice(a: Point, m: u64, b: Point, n: u64) -> Option<Offsets>
     Offsets::lattice(a, m, b, n)
 }
 
-// The shifts, of which the first is zero, as a list that its clones share.
+// The shifts, of which the first is zero, as a list that all clones share.
 fn listed(shifts: Vec<Point>) -> Result<Offsets, AllocError>
     requires { StartsAtZero shifts.items }
     ensures { IfOk result (λ offsets. offsets ≡ shifts.items) }
@@ -143,11 +143,11 @@ impl<R: Read> Input<R> {
     ghost use Rattle.oasis_values.specs.Repetitions.{IsLineOf, IsLine, IsColumns, IsMatrixOf, IsMatrix};
     ghost use Rattle.oasis_values.specs.Repetitions.{IsGrid, AreShifts, IsSpreadOf, IsSpread, IsRepetition};
 
-    /// A repetition. Type 0 takes the modal one, which has to be there.
+    /// A repetition. Type 0 is the modal repetition, if there is one.
     ///
-    /// Sizes are tested once all dimensions are read, before two of them are multiplied and before
-    /// memory is taken, and the shifts of a step or a space as it is read. Types 1, 2, 3, 8 and 9 are
-    /// lattices, which are never written out.
+    /// The dimensions are tested after all of them were read, and before it allocates. The shifts of a step
+    /// or a space are tested when it is read. Types 1, 2, 3, 8 and 9 are kept as lattices, which are never
+    /// written out.
     pub fn repetition(
         &mut self,
         alloc: Global,
@@ -183,7 +183,7 @@ impl<R: Read> Input<R> {
         self.line_of(spacing, count)
     }
 
-    // So many places along one step.
+    // `count` places along one step.
     fn line_of(&mut self, spacing: Spacing, count: u64) -> Result<Repetition, Cause<ValueFault>>
         requires some { 0 < count }
         requires few { count ≤ 16777216 }
@@ -204,7 +204,7 @@ impl<R: Read> Input<R> {
         self.matrix_of(first, second, size)
     }
 
-    // So many places along two steps.
+    // Places along two steps, `size` of them.
     fn matrix_of(
         &mut self,
         first: Spacing,
@@ -221,7 +221,7 @@ impl<R: Read> Input<R> {
         Ok(Repetition::New(places))
     }
 
-    // The first of two steps.
+    // The first of two steps, whose `count` places must be in range.
     fn columns(&mut self, spacing: Spacing, count: u64) -> Result<Point, ValueFault>
         requires some { 0 < count }
         requires few { count ≤ 16777216 }
@@ -248,7 +248,7 @@ impl<R: Read> Input<R> {
         self.spread_of(alloc, spacing, gridded, count)
     }
 
-    // A list of places after the first, by their number.
+    // A list of places: the first, and `count` after it.
     fn spread_of(
         &mut self,
         alloc: Global,
@@ -265,7 +265,7 @@ impl<R: Read> Input<R> {
         self.shifts(alloc, spacing, grid, count)
     }
 
-    // The grid, if there is one.
+    // The grid by which spaces are multiplied; 1 if there is none.
     fn grid(&mut self, gridded: bool) -> Result<u64, ValueFault>
         requires { has_failed self.old ≡ false }
         ensures reads { Reads R.remaining R.read_errors R.lent (IsGrid gridded) self.old self.new (as_breach result) }
@@ -276,7 +276,7 @@ impl<R: Read> Input<R> {
         Ok(1)
     }
 
-    // So many shifts after the zero shift.
+    // The zero shift, and `count` shifts after it.
     fn shifts(
         &mut self,
         alloc: Global,

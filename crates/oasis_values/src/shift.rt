@@ -1,4 +1,4 @@
-//! The shifts of a repetition, each of them a space after the one before.
+//! The shifts of a repetition: each is the one before it, moved by a space.
 ghost use Rattle.std.specs.Prelude.{◌≡◌};
 ghost use Rattle.oasis_values.specs.Repetitions.{stepped, moved, space, widened};
 
@@ -7,25 +7,25 @@ use crate::input::Input;
 use lvl_grid::Point;
 use lvl_io::Read;
 
-/// Along what the spaces of a repetition go.
+/// How the spaces of a repetition are given.
 #[derive(Clone, Copy, Drop)]
 pub enum Spacing {
     /// Unsigned spaces along x.
     AlongX,
     /// Unsigned spaces along y.
     AlongY,
-    /// g-deltas.
+    /// g-deltas, in any direction.
     Free,
 }
 
-/// A space, which may be greater than any coordinate.
+/// A space, which may be greater than a coordinate.
 #[derive(Clone, Copy, Drop)]
 pub struct Far {
     x: i128,
     y: i128,
 }
 
-// So many spaces of `by` on, or None where that is outside 64 bits.
+// The coordinate moved by `times` times a space; `None` if it doesn't fit in 64 bits.
 fn stepped(before: i64, by: i128, times: u64) -> Option<i64>
     ensures { result ≡ stepped before by times }
 {
@@ -34,7 +34,7 @@ fn stepped(before: i64, by: i128, times: u64) -> Option<i64>
     i64::try_from(at).ok()
 }
 
-// So many spaces of `by` on from a shift, or None where that is outside 64 bits.
+// The shift moved by `times` times a space; `None` if it doesn't fit in 64 bits.
 fn moved(before: Point, by: Far, times: u64) -> Option<Point>
     ensures { result ≡ moved before by times }
 {
@@ -98,7 +98,7 @@ impl<R: Read> Input<R> {
         Ok(widened(delta))
     }
 
-    // The shift after a space, taken as many times as the grid says.
+    // The next shift: the one before it, moved by a space times the grid.
     pub(crate) fn shift(
         &mut self,
         spacing: Spacing,

@@ -11,15 +11,15 @@ use std::alloc::Global;
 /// The kinds of strings.
 #[derive(Clone, Copy, Debug, Drop, PartialEq, Eq)]
 pub enum Text {
-    /// Printable characters and spaces, 0x20 to 0x7E.
+    /// 0x20 to 0x7E: printable characters and spaces.
     A,
     /// Any bytes.
     B,
-    /// Printable characters, 0x21 to 0x7E, at least one.
+    /// 0x21 to 0x7E: printable characters, at least one.
     N,
 }
 
-// How many bytes a string of this kind has at least.
+// The least length of a string of this kind.
 fn least_length(kind: Text) -> u64
     ensures { result ≡ least_length kind }
 {
@@ -29,7 +29,7 @@ fn least_length(kind: Text) -> u64
     }
 }
 
-// The length, if a string of this kind may have it.
+// The length, if a string of this kind may have it and it is at most `most`.
 fn text_length(kind: Text, most: usize, len: u64) -> Option<usize>
     ensures { result ≡ text_length kind most len }
 {
@@ -40,7 +40,7 @@ fn text_length(kind: Text, most: usize, len: u64) -> Option<usize>
     }
 }
 
-// The length, if a string of this kind that isn't kept may have it.
+// The length, if a string of this kind may have it.
 fn any_length(kind: Text, len: u64) -> Option<u64>
     ensures { result ≡ any_length kind len }
 {
@@ -74,8 +74,8 @@ impl<R: Read> Input<R> {
     ghost use Rattle.oasis_values.specs.Texts.{IsCharacter, IsString, AreCharacters, AreUnkeptCharacters};
     ghost use Rattle.oasis_values.specs.Texts.{IsUnkeptString};
 
-    /// A string of `most` bytes at most. Its length is tested before memory is taken for it, and each
-    /// byte as it is read.
+    /// A string of at most `most` bytes. The length is tested before it allocates, and each byte when it is
+    /// read.
     pub fn string(
         &mut self,
         alloc: Global,
@@ -112,7 +112,7 @@ impl<R: Read> Input<R> {
         Ok(text)
     }
 
-    /// A string of any length, of which nothing is kept. It takes no memory.
+    /// Reads a string of any length, and keeps nothing of it. It doesn't allocate.
     pub fn skip_string(&mut self, kind: Text) -> Result<(), ValueFault>
         ensures reads { Reads R.remaining R.read_errors R.lent (IsUnkeptString kind) self.old self.new
             (as_breach result) }
@@ -123,7 +123,7 @@ impl<R: Read> Input<R> {
         self.skip_characters(kind, len)
     }
 
-    // `len` characters of that kind, of which none is kept.
+    // Reads `len` characters of that kind, and keeps none of them.
     fn skip_characters(&mut self, kind: Text, len: u64) -> Result<(), ValueFault>
         requires { has_failed self.old ≡ false }
         ensures reads { Reads R.remaining R.read_errors R.lent

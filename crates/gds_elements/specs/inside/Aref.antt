@@ -1,4 +1,4 @@
--- What an array has that is being read.
+-- The state of an array that is being read.
 use Rattle.std.specs.Prelude.{◌≡◌, ◌≢◌, ℕ, List, length, Some}
 use Rattle.lvl_grid.specs.declared.point.Point.{Point}
 use Rattle.gds_elements.specs.Types.{aref, colrow}
@@ -16,7 +16,7 @@ use Rattle.gds_elements.specs.declared.aref.Place.{Place}
 use Rattle.gds_elements.specs.declared.aref.Place.TheVariants.{Name, Strans, Magnification, Angle, Columns, Points}
 use Rattle.gds_elements.specs.declared.aref.Aref.{Aref}
 
--- what may still come at a place
+-- what may still come, by the next record
 abbrev pub left : Place → Order
 left Name = rest 1 an_array
 left Strans = rest 2 an_array
@@ -25,7 +25,7 @@ left Angle = seq (rest 2 a_transform) (rest 3 an_array)
 left Columns = rest 3 an_array
 left Points = rest 4 an_array
 
--- the array is where its records lead, and has their values
+-- the state is that after the records `piece`, in their order and with their values
 pub record IsArefRead (a : Aref) (piece : List Rec) : Type 0 where
   pub opened : opener piece ≡ Some aref
   pub leads : LeadsTo an_element (kinds piece) (left a.place)
@@ -33,7 +33,7 @@ pub record IsArefRead (a : Aref) (piece : List Rec) : Type 0 where
   pub columns : a.counts.columns ≡ columns_in (last_of colrow piece)
   pub rows : a.counts.rows ≡ rows_in (last_of colrow piece)
 
--- why points give no array of these columns and rows
+-- the rule that these points breach in an array of m columns and n rows
 abbrev pub IsArrayFault : List Point → ℕ → ℕ → ElementRule → Type 0
 IsArrayFault ps m n PointsFault = length ps ≢ 3
 IsArrayFault ps m n ArrayStep = (length ps ≡ 3) × ¬ HasSteps ps m n

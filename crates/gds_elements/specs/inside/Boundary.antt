@@ -1,4 +1,4 @@
--- What a boundary has that is being read.
+-- The state of a boundary that is being read.
 use Rattle.std.specs.Prelude.{◌≡◌, ◌<◌, ◌≤◌, List, length, All, Some}
 use Rattle.lvl_grid.specs.declared.point.Point.{Point}
 use Rattle.lvl_grid.specs.Winding.{IsStraight}
@@ -16,19 +16,19 @@ use Rattle.gds_elements.specs.declared.boundary.Place.{Place}
 use Rattle.gds_elements.specs.declared.boundary.Place.TheVariants.{Layer, Datatype, Points}
 use Rattle.gds_elements.specs.declared.boundary.Boundary.{Boundary}
 
--- what may still come at a place
+-- what may still come, by the next record
 abbrev pub left : Place → Order
 left Layer = rest 1 a_boundary
 left Datatype = rest 2 a_boundary
 left Points = rest 3 a_boundary
 
--- the boundary is where its records lead, and has their values
+-- the state is that after the records `piece`, in their order and with their values
 pub record IsBoundary (b : Boundary) (piece : List Rec) : Type 0 where
   pub opened : opener piece ≡ Some boundary
   pub leads : LeadsTo an_element (kinds piece) (left b.place)
   pub layer : b.layer ≡ layer_of piece
 
--- why some points are no ring
+-- the rule that these points breach in a boundary
 abbrev pub IsRingFault : List Point → ElementRule → Type 0
 IsRingFault ps PointsFault = length ps < 4
 IsRingFault ps NotClosed = (4 ≤ length ps) × ¬ IsClosed ps

@@ -1,8 +1,8 @@
--- What the length of a payload is by its record's type.
+-- The lengths of payloads that are numbers or bits, by record type.
 use Rattle.std.specs.Prelude.{◌≡◌, ℕ, ◌<◌, ◌⊎◌, List, length}
 use Rattle.gds_elements.specs.Types.{layer, datatype, width, colrow, strans, mag, angle, pathtype}
 
--- a type below 60, and the payload of a number has that number's length
+-- the type is below 60, and the payload has the length that its type has
 pub record IsFormed (k : ℕ) (payload : List ℕ) : Type 0 where
   pub known : k < 60
   pub layer : k ≡ layer → length payload ≡ 2
@@ -14,5 +14,6 @@ pub record IsFormed (k : ℕ) (payload : List ℕ) : Type 0 where
   pub angle : k ≡ angle → length payload ≡ 8
   pub pathtype : k ≡ pathtype → length payload ≡ 2
 
+-- the type is LAYER or DATATYPE
 abbrev pub IsLayerNumber : ℕ → Type 0
 IsLayerNumber k = (k ≡ layer) ⊎ (k ≡ datatype)

@@ -1,4 +1,4 @@
--- What is said of a record that may not come where it is, and of one that breaches a rule.
+-- Refusals of records that are out of order, and of records that breach a rule.
 use Rattle.std.specs.Prelude.{◌≡◌, ℕ}
 use Rattle.lvl_refusal.specs.declared.Cause.{Cause}
 use Rattle.lvl_refusal.specs.declared.Cause.TheVariants.{Breach, OutOfMemory}
@@ -9,17 +9,18 @@ use Rattle.gds_elements.specs.declared.fault.ElementRule.{ElementRule}
 use Rattle.gds_elements.specs.declared.fault.ElementFault.{ElementFault}
 use Rattle.gds_elements.specs.declared.fault.ElementFault.TheVariants.{Misplaced as MisplacedRecord, Rule}
 
--- a known type is unexpected, another unsupported
+-- a type that is always read is Unexpected, any other Unsupported
 abbrev pub IsMisplacement : ℕ → Misplaced → Type 0
 IsMisplacement k (Unexpected j) = (j ≡ k) × IsKnown k
 IsMisplacement k (Unsupported j) = (j ≡ k) × ¬ IsKnown k
 
+-- the refusal says that a record of type k is out of order
 abbrev pub IsMisplaced : ℕ → Cause ElementFault → Type 0
 IsMisplaced k (Breach (MisplacedRecord m)) = IsMisplacement k m
 IsMisplaced k (Breach (Rule r)) = ⊥
 IsMisplaced k OutOfMemory = ⊥
 
--- the fault is a rule, which is such a one
+-- the fault is a rule with the property P
 abbrev pub Broken : (ElementRule → Type 0) → ElementFault → Type 0
 Broken P (MisplacedRecord m) = ⊥
 Broken P (Rule k) = P k

@@ -1,4 +1,4 @@
--- What a path has that is being read.
+-- The state of a path that is being read.
 use Rattle.std.specs.Prelude.{◌≡◌, ℕ, ◌<◌, ◌≤◌, Bool, pos, if◌then◌else◌, List, length, Option, Some, None}
 use Rattle.std.specs.Ordering.{int_eq}
 use Rattle.lvl_grid.specs.declared.point.Point.{Point}
@@ -18,7 +18,7 @@ use Rattle.gds_elements.specs.declared.path.Place.{Place}
 use Rattle.gds_elements.specs.declared.path.Place.TheVariants.{Layer, Datatype, PathType, Width, Points}
 use Rattle.gds_elements.specs.declared.path.Path.{Path}
 
--- what may still come at a place
+-- what may still come, by the next record
 abbrev pub left : Place → Order
 left Layer = rest 1 a_path
 left Datatype = rest 2 a_path
@@ -26,12 +26,12 @@ left PathType = rest 3 a_path
 left Width = rest 4 a_path
 left Points = rest 5 a_path
 
--- half of the width of a record, if there is one
+-- half the width in a WIDTH, if there is one
 abbrev pub half_in : Option Rec → Option ℕ
 half_in None = None
 half_in (Some r) = Some (half r.payload)
 
--- the path is where its records lead, and has their values
+-- the state is that after the records `piece`, in their order and with their values
 pub record IsPathRead (p : Path) (piece : List Rec) : Type 0 where
   pub opened : opener piece ≡ Some path
   pub leads : LeadsTo an_element (kinds piece) (left p.place)
@@ -43,7 +43,7 @@ pub record IsPathRead (p : Path) (piece : List Rec) : Type 0 where
 abbrev pub reach_at : Bool → ℕ → ℕ
 reach_at square h = if square then h else 0
 
--- why points, half a width and the kind of the ends give no bands
+-- the rule that these points breach in a path, with half a width and with square ends or not
 abbrev pub IsBandsFault : List Point → Option ℕ → Bool → ElementRule → Type 0
 IsBandsFault ps half square PointsFault = length ps < 2
 IsBandsFault ps half square WidthFault = (2 ≤ length ps) × (half ≡ None)

@@ -1,4 +1,4 @@
--- What an element has of the records that were read.
+-- The state of an element after the records that were read.
 use Rattle.std.specs.Prelude.{◌≡◌, ℕ, List, [], ◌∷◌, ◌++◌, map, Some, Result, Ok, Err}
 use Rattle.lvl_cells.specs.Cells.{PlainShape, PlainReference, Rings as PlainRings}
 use Rattle.gds_elements.specs.Types.{endel}
@@ -27,7 +27,7 @@ use Rattle.gds_elements.specs.declared.element.Step.TheVariants.{Open, Whole}
 abbrev pub record_of : ℕ → ℕ → List ℕ → Rec
 record_of k d p = record { kind = k; data_type = d; payload = p }
 
--- the shapes and the references that are drawn
+-- the shapes and the references of what an element draws
 abbrev pub shapes_in : Drawn → List (PlainShape PlainRings)
 shapes_in (Ring layer ring) = record { layer = layer; figure = ring ∷ []; shifts = one_place } ∷ []
 shapes_in (Rings layer rings) = record { layer = layer; figure = rings.items; shifts = one_place } ∷ []
@@ -40,17 +40,18 @@ references_in (Rings layer rings) = []
 references_in (Reference r) = r ∷ []
 references_in Nothing = []
 
--- what is drawn is what the records mean, with rings for each figure
+-- what is drawn is what the records mean, with each figure as rings
 pub record IsDrawn (d : Drawn) (piece : List Rec) : Type 0 where
   pub shapes : shapes_in d ≡ map in_rings (shapes_of piece)
   pub references : references_in d ≡ references_of piece
 
--- only the end is missing
+-- only ENDEL is missing
 pub record IsAtEnd (d : Drawn) (piece : List Rec) : Type 0 where
   pub opened : (k : ℕ) × (opener piece ≡ Some k)
   pub leads : LeadsTo an_element (kinds piece) (one endel)
   pub drawn : IsDrawn d piece
 
+-- the state is that after the records `piece`
 abbrev pub HasRead : State → List Rec → Type 0
 HasRead (Boundary b) piece = IsBoundary b piece
 HasRead (Path p) piece = IsPathRead p piece
@@ -59,16 +60,16 @@ HasRead (Aref a) piece = IsArefRead a piece
 HasRead (Text t) piece = IsTextRead t piece
 HasRead (AtEnd d) piece = IsAtEnd d piece
 
--- the element has read these records, and no other
+-- the state of the element is that after these records, and no others
 abbrev pub IsReading : Element → List Rec → Type 0
 IsReading e piece = HasRead e.state piece
 
--- an open element has read the records; a whole one is what they mean
+-- an open element has read the records; a whole one draws what they mean
 abbrev pub IsStep : Step → List Rec → Type 0
 IsStep (Open e) piece = IsReading e piece
 IsStep (Whole d) piece = IsWord an_element (kinds piece) × IsDrawn d piece
 
--- the record is read after the others and breaches no rule, or is refused by one that it breaches
+-- the record was read after the others and breaches no rule, or it is refused by a rule that it breaches
 abbrev pub Takes : List Rec → Rec → Result State (Cause ElementFault) → Type 0
 Takes piece r (Ok s) = HasRead s (piece ++ r ∷ []) × BreachesNone piece r
 Takes piece r (Err e) = Says e (ElementBreaches piece r)

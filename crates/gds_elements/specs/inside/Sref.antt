@@ -1,4 +1,4 @@
--- What a reference has that is being read.
+-- The state of a reference that is being read.
 use Rattle.std.specs.Prelude.{◌≡◌, List, Some}
 use Rattle.gds_elements.specs.Types.{sref}
 use Rattle.lvl_grammar.specs.Order.{Order}
@@ -11,7 +11,7 @@ use Rattle.gds_elements.specs.declared.sref.Place.{Place}
 use Rattle.gds_elements.specs.declared.sref.Place.TheVariants.{Name, Strans, Magnification, Angle, Points}
 use Rattle.gds_elements.specs.declared.sref.Sref.{Sref}
 
--- what may still come at a place
+-- what may still come, by the next record
 abbrev pub left : Place → Order
 left Name = rest 1 a_reference
 left Strans = rest 2 a_reference
@@ -19,7 +19,7 @@ left Magnification = seq (rest 1 a_transform) (rest 3 a_reference)
 left Angle = seq (rest 2 a_transform) (rest 3 a_reference)
 left Points = rest 3 a_reference
 
--- the reference is where its records lead, and has their values
+-- the state is that after the records `piece`, in their order and with their values
 pub record IsSrefRead (s : Sref) (piece : List Rec) : Type 0 where
   pub opened : opener piece ≡ Some sref
   pub leads : LeadsTo an_element (kinds piece) (left s.place)

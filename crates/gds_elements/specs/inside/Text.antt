@@ -1,4 +1,4 @@
--- What a text has that is being read.
+-- The state of a text that is being read.
 use Rattle.std.specs.Prelude.{◌≡◌, List, Some}
 use Rattle.gds_elements.specs.Types.{text}
 use Rattle.lvl_grammar.specs.Order.{Order}
@@ -11,7 +11,7 @@ use Rattle.gds_elements.specs.declared.text.Place.TheVariants.{Layer, TextType, 
 use Rattle.gds_elements.specs.declared.text.Place.TheVariants.{Magnification, Angle, Points, Letters}
 use Rattle.gds_elements.specs.declared.text.Text.{Text}
 
--- what may still come at a place
+-- what may still come, by the next record
 abbrev pub left : Place → Order
 left Layer = rest 1 a_text
 left TextType = rest 2 a_text
@@ -24,7 +24,7 @@ left Angle = seq (rest 2 a_transform) (rest 7 a_text)
 left Points = rest 7 a_text
 left Letters = rest 8 a_text
 
--- the text is where its records lead
+-- the state is that after the records `piece`, in their order
 pub record IsTextRead (t : Text) (piece : List Rec) : Type 0 where
   pub opened : opener piece ≡ Some text
   pub leads : LeadsTo an_element (kinds piece) (left t.place)

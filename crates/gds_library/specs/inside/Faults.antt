@@ -1,4 +1,4 @@
--- Why a record is refused outside of elements.
+-- Why a record outside of elements is refused.
 use Rattle.std.specs.Prelude.{◌≡◌, ◌≢◌, ℕ, ◌<◌, ◌≤◌, List, length, None}
 use Rattle.gds_elements.specs.Types.{header, units, bgnstr, strname}
 use Rattle.gds_elements.specs.Values.{name}
@@ -14,7 +14,7 @@ use Rattle.gds_library.specs.declared.fault.GdsKind.{GdsKind}
 use Rattle.gds_library.specs.declared.fault.GdsKind.TheVariants.{Misplaced, Element, Name, TooManyCells}
 use Rattle.gds_library.specs.declared.place.Place.{Place}
 
--- a type below 60, and the payload of a number has that number's length
+-- the type is below 60, and the payload has the length that its type has
 pub record IsFormed (k : ℕ) (payload : List ℕ) : Type 0 where
   pub known : k < 60
   pub header : k ≡ header → length payload ≡ 2
@@ -29,14 +29,14 @@ abbrev pub lifted_refusal : Cause ElementFault → Cause GdsKind
 lifted_refusal (Breach f) = Breach (lifted f)
 lifted_refusal OutOfMemory = OutOfMemory
 
--- at a place, after a number of cells, the first rule that a record breaches
+-- the rule that a record of type k breaches at a place, after n cells
 abbrev pub IsFault : Place → ℕ → ℕ → List ℕ → GdsKind → Type 0
 IsFault p n k payload (Misplaced m) = IsMisplacement k m × (after p k ≡ None)
 IsFault p n k payload Name = (k ≡ strname) × (after p k ≢ None) × ¬ IsName (name payload)
 IsFault p n k payload TooManyCells = (k ≡ bgnstr) × (after p k ≢ None) × (cell_limit ≤ n)
 IsFault p n k payload f = ⊥
 
--- a record may come there
+-- the record breaches no rule there, if it may come
 pub record IsAllowed (n k : ℕ) (payload : List ℕ) : Type 0 where
   pub name : k ≡ strname → IsName (name payload)
   pub cells : k ≡ bgnstr → n < cell_limit

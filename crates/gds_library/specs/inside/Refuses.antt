@@ -1,4 +1,4 @@
--- What a refusal says of the input while it is being read.
+-- What a refusal says about the input while it is being read.
 use Rattle.std.specs.Prelude.{ℕ, List, Option}
 use Rattle.lvl_ignore.specs.declared.ignore.Ignore.{Ignore}
 use Rattle.lvl_grammar.specs.Refused.{IsTruncated, IsUnread}
@@ -9,7 +9,7 @@ use Rattle.gds_library.specs.declared.fault.GdsKind.{GdsKind}
 use Rattle.gds_library.specs.declared.fault.GdsKind.TheVariants.{Record}
 use Rattle.gds_library.specs.declared.fault.GdsFault.{GdsFault}
 
--- where the reader has these bytes left
+-- the fault and its offset are right, if the reader has these bytes left
 abbrev pub RefusesAt : Ignore → List ℕ → Option (List ℕ) → ℕ → GdsKind → Type 0
 RefusesAt ignore xs left at (Record Truncated) = IsTruncated (gds ignore) xs at
 RefusesAt ignore xs left at (Record Read) = IsUnread (gds ignore) xs left at

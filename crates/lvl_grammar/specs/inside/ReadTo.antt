@@ -3,7 +3,7 @@ use Rattle.std.specs.Prelude.{◌≡◌, ◌-◌, ℕ, ◌≤◌, List, ◌++◌
 use Rattle.lvl_grammar.specs.Grammar.{Grammar}
 use Rattle.lvl_grammar.specs.Front.{IsFront}
 
--- the bytes before the offset are a front of records that are had, and the others are left
+-- the bytes before the offset are a front whose records have a property, and the reader has the others left
 pub record ReadTo {R K : Type 0} (G : Grammar R K) (xs : List ℕ) (at : ℕ) (Has : List R → Type 0)
     (left : Option (List ℕ)) : Type 0 where
   pub records : List R
@@ -12,7 +12,7 @@ pub record ReadTo {R K : Type 0} (G : Grammar R K) (xs : List ℕ) (at : ℕ) (H
   pub left_is : left ≡ Some (drop at xs)
   pub within : at ≤ length xs
 
--- at the offset the bytes seen breach the rule, and no other, whatever comes after them
+-- at the offset the bytes that were seen breach this rule, whatever comes after them, and the input breaches no other
 pub record IsSeenWrong {R K : Type 0} (G : Grammar R K) (xs : List ℕ) (at : ℕ) (left : Option (List ℕ)) (k : K) : Type 0
   where
     pub within : at ≤ length xs

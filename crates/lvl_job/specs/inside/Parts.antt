@@ -1,4 +1,4 @@
--- What the steps of a job answer.
+-- What the steps of a job return.
 use Rattle.std.specs.Prelude.{◌≡◌, ⊤, ℕ, List, Option, None}
 use Rattle.std.specs.Prelude.{string_bytes}
 use Rattle.std.specs.Io.KnownBytes.{Keeps}
@@ -13,7 +13,7 @@ use Rattle.lvl_job.specs.declared.fault.JobFault.{JobFault}
 use Rattle.lvl_job.specs.declared.fault.JobFault.TheVariants.{BadView, BadIgnore, NotOpened, OutOfMemory, Output}
 use Rattle.lvl_job.specs.Jobs.{IsComparedUnder, IsIgnoreFault, IsMissing, Named, OfOne, OfTwo}
 
--- why two texts gave no view
+-- why two texts give no view
 abbrev pub IsViewFault : Option (List ℕ) → Option (List ℕ) → JobFault → Type 0
 IsViewFault map_text window_text (BadView fault) = IsFaultOf map_text window_text fault
 IsViewFault map_text window_text (BadIgnore fault) = ⊥
@@ -21,7 +21,7 @@ IsViewFault map_text window_text (NotOpened name) = ⊥
 IsViewFault map_text window_text OutOfMemory = ⊤
 IsViewFault map_text window_text Output = ⊥
 
--- why a text gave no set of what is ignored
+-- why a text gives no set of what is ignored
 abbrev pub IsNoIgnore : Option (List ℕ) → JobFault → Type 0
 IsNoIgnore text (BadView fault) = ⊥
 IsNoIgnore text (BadIgnore fault) = IsIgnoreFault text
@@ -29,12 +29,12 @@ IsNoIgnore text (NotOpened name) = ⊥
 IsNoIgnore text OutOfMemory = ⊤
 IsNoIgnore text Output = ⊥
 
--- the fault of a job whose run has no answer
+-- the fault of a run as one of its job
 abbrev pub fault_of_run : RunFault → JobFault
 fault_of_run RunOutput = Output
 fault_of_run RunOutOfMemory = OutOfMemory
 
--- the answer of a comparison under a view was written
+-- the answer to a comparison under a view was written
 abbrev pub IsPairAnswered : {S : Type 0} → (S → List ℕ → Option (Option (List ℕ)) → S → Type 0) → Option PlainView
     → Named → Named → S → S → Option (List ℕ) → Option (List ℕ) → Outcome → Type 0
 IsPairAnswered opens view a b old new from to outcome =
@@ -52,14 +52,14 @@ IsPairFault opens view a b old new from to OutOfMemory = Keeps from to
 IsPairFault opens view a b old new from to Output =
     OfTwo opens old new a b (λ x y. IsBegun (IsComparedUnder view x y) text_of from to)
 
--- the answer of a run of one file was written
+-- the answer of a run on one file was written
 abbrev pub IsOneAnswered : {S X : Type 0} → (S → List ℕ → Option (Option (List ℕ)) → S → Type 0)
     → (Input → X → Type 0) → (X → List ℕ) → (X → Outcome)
     → Named → S → S → Option (List ℕ) → Option (List ℕ) → Outcome → Type 0
 IsOneAnswered opens IsAnswerOf text end_of a old new from to outcome =
     OfOne opens old new a (λ x. IsWritten (IsAnswerOf x) text end_of from to outcome)
 
--- why a run of one file has no answer
+-- why a run on one file has no answer
 abbrev pub IsOneFault : {S X : Type 0} → (S → List ℕ → Option (Option (List ℕ)) → S → Type 0)
     → (Input → X → Type 0) → (X → List ℕ)
     → Named → S → S → Option (List ℕ) → Option (List ℕ) → JobFault → Type 0

@@ -1,15 +1,15 @@
--- The line on the way to being described.
+-- Parts of the command line while it is described to `clap`.
 use Rattle.std.specs.Prelude.{codes, true}
 use Rattle.clap.specs.Simple.{App, new_app, with_rule, with_subcommand}
 use Rattle.lvl_line.specs.Line.{compare_app, file_rule, option_rule, plain_line}
 
--- `compare` with its files and the options for their tops
+-- `compare` with its files and the options that name their tops
 abbrev pub tops_app : App
 tops_app = with_rule (with_rule (with_rule (with_rule (new_app (codes "compare"))
     (file_rule (codes "A"))) (file_rule (codes "B")))
     (option_rule (codes "top-a"))) (option_rule (codes "top-b"))
 
--- the line with the subcommand `compare` alone
+-- a line with the subcommand `compare` only
 abbrev pub comparing_line : App
 comparing_line = with_subcommand (record plain_line {
   top = record plain_line.top { has_version = true; subcommand_required = true };

@@ -13,7 +13,7 @@ abbrev pub ends_of : Option Ends → Ends
 ends_of None = record { start = Modal; end = Modal }
 ends_of (Some e) = e
 
--- both, where neither is negative
+-- both extensions, if neither is negative
 abbrev pub reaches : Extent → Extent → Option (ℕ × ℕ)
 reaches (Beyond s) (Beyond e) = Some (s, e)
 reaches (Beyond s) Negative = None

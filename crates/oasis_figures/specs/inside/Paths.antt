@@ -1,4 +1,4 @@
--- What is known of a path once its values are.
+-- What is known of a path when its values are.
 use Rattle.std.specs.Prelude.{◌≡◌, ◌∷◌, ℕ, pos, List, Some, option_map}
 use Rattle.std.specs.Option.{option_or}
 use Rattle.lvl_grid.specs.Turn.{FitsPoint}
@@ -33,7 +33,7 @@ pub record IsStroke (m : Modal) (p : Path) (t : Stroke) : Type 0 where
   pub end : option_map extent (option_or (extended (Some t.half) (ends_of p.ends).end) (option_map pos m.end))
       ≡ Some t.end
 
--- the values are those that the records give, and no rule is breached up to the position
+-- the values are those that the records give, and no rule is breached that is tested before the vertices
 pub record IsResolved (earlier : List Record) (p : Path) (v : Resolved) : Type 0 where
   pub layer : modal layer_set (APath p ∷ earlier) ≡ Some v.stroke.layer
   pub datatype : modal datatype_set (APath p ∷ earlier) ≡ Some v.stroke.datatype
@@ -45,7 +45,7 @@ pub record IsResolved (earlier : List Record) (p : Path) (v : Resolved) : Type 0
   pub fits : FitsPoint v.at
   pub known : IsKnown earlier (APath p)
 
--- the rule that keeps these points from being a path of that half-width and with those reaches
+-- the rule that these points, half-width and reaches breach in a path
 abbrev pub BandsBreak : List Point → ℕ → ℕ → ℕ → FigureRule → Type 0
 BandsBreak ps half start end (PathRule f) = IsLowestFault ps (record { half = half; start = start; end = end }) f
 BandsBreak ps half start end (Undefined v) = ⊥

@@ -1,4 +1,4 @@
--- What is known of a placement once its values are.
+-- What is known of a placement when its values are.
 use Rattle.std.specs.Prelude.{◌≡◌, ◌∷◌, List, Some, All}
 use Rattle.lvl_grid.specs.Turn.{FitsPoint, shifted}
 use Rattle.lvl_grid.specs.declared.map.Map.{Map}

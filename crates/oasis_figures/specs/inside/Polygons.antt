@@ -1,4 +1,4 @@
--- What is known of a polygon once its values are.
+-- What is known of a polygon when its values are.
 use Rattle.std.specs.Prelude.{◌≡◌, ◌∷◌, List, Some, All}
 use Rattle.lvl_grid.specs.Turn.{FitsPoint}
 use Rattle.lvl_grid.specs.Winding.{IsRing}
@@ -18,7 +18,7 @@ use Rattle.oasis_figures.specs.inside.Known.{IsKnown}
 abbrev pub a_polygon : Polygon → Record
 a_polygon p = APolygon p
 
--- the values are those that the records give, and no rule is breached up to the position
+-- the values are those that the records give, and no rule is breached that is tested before the vertices
 pub record IsResolved (earlier : List Record) (p : Polygon) (v : Resolved) : Type 0 where
   pub layer : modal layer_set (APolygon p ∷ earlier) ≡ Some v.layer
   pub datatype : modal datatype_set (APolygon p ∷ earlier) ≡ Some v.datatype
@@ -27,7 +27,7 @@ pub record IsResolved (earlier : List Record) (p : Polygon) (v : Resolved) : Typ
   pub fits : FitsPoint v.at
   pub known : IsKnown earlier (APolygon p)
 
--- the rule that keeps these vertices from being a ring
+-- the rule that these vertices breach in a polygon
 abbrev pub RingBreaks : List Point → FigureRule → Type 0
 RingBreaks ps OutOfRange = ¬ All FitsPoint ps
 RingBreaks ps Oblique = All FitsPoint ps × ¬ IsRing ps

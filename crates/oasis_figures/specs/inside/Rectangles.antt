@@ -1,4 +1,4 @@
--- What is known of a rectangle once its values are.
+-- What is known of a rectangle when its values are.
 use Rattle.std.specs.Prelude.{◌≡◌, pos, ◌∷◌, List, Some}
 use Rattle.lvl_grid.specs.Turn.{shifted}
 use Rattle.oasis_values.specs.Deltas.{to}

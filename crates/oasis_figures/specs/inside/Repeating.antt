@@ -1,4 +1,4 @@
--- Repetitions whose shifts are known.
+-- Repetitions whose shifts are known, because they have their own or the modal one is defined.
 use Rattle.std.specs.Prelude.{Bool, true, is_some, List, Option, Some, None}
 use Rattle.lvl_grid.specs.declared.point.Point.{Point}
 use Rattle.oasis_values.specs.declared.repetition.Repetition.{Repetition}

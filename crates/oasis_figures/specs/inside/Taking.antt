@@ -1,4 +1,4 @@
--- What taking a record promises.
+-- What taking a record ensures.
 use Rattle.std.specs.Prelude.{◌≡◌, Bool, true, false, ◌∷◌, List, Option, Result, IfOk, IfErr, OnOk, OnErr}
 use Rattle.lvl_refusal.specs.Refused.{Says}
 use Rattle.lvl_refusal.specs.declared.Cause.{Cause}
@@ -13,8 +13,8 @@ use Rattle.oasis_figures.specs.declared.drawn.Drawn.{Drawn}
 use Rattle.oasis_figures.specs.declared.modal.Modal.{Modal}
 use Rattle.oasis_figures.specs.declared.rule.FigureRule.{FigureRule}
 
--- after each list of records that the variables stand for, the record draws this and breaches nothing, or breaches
--- the rule
+-- for every list of records after which the variables have these values: the record draws what is returned and breaches
+-- no rule, or it breaches the rule that is returned
 pub record Takes (m : Modal) (r : Record) (result : Result (Option Drawn) (Cause FigureRule)) (after : Modal)
     : Type 0 where
   pub drawn : IfOk result (λ d. (earlier : List Record) → StandsFor m earlier → IsDrawn earlier r d)
@@ -34,7 +34,7 @@ mode false = XyAbsolute
 abbrev pub a_text : Option Repetition → Record
 a_text r = Text r
 
--- the record sets nothing
+-- the record sets no variable
 abbrev pub IsOther : Record → Type 0
 IsOther (Placement p) = ⊥
 IsOther (Rectangle r) = ⊥

@@ -1,4 +1,4 @@
--- Answers of names and of figures, as answers of the file.
+-- Results with rules of names or of figures, as results with rules of the file.
 use Rattle.std.specs.Prelude.{Result, Ok, Err}
 use Rattle.lvl_refusal.specs.declared.Cause.{Cause}
 use Rattle.lvl_refusal.specs.declared.Cause.TheVariants.{Breach, OutOfMemory}

@@ -1,4 +1,4 @@
--- Whether the input ended.
+-- Whether a fault is that the input ended.
 use Rattle.std.specs.Prelude.{Bool, true, false}
 use Rattle.oasis_values.specs.declared.fault.ValueFault.{ValueFault}
 use Rattle.oasis_values.specs.declared.fault.ValueFault.TheVariants.{Truncated}

@@ -23,7 +23,7 @@ use Rattle.oasis_library.specs.Head.{unit_in, validation_in}
 use Rattle.oasis_library.specs.declared.names.Names.{Names}
 use Rattle.oasis_library.specs.declared.reading.Reading.{Reading}
 
--- the names are those of the records, by their numbers
+-- the names are those in the records, by their numbers
 pub record HoldsNames (n : Names) (cs : List CellName) : Type 0 where
   pub numbered : (k : ℕ) → get nat_cmp n.by_number k ≡ name_of cs k
   pub counted : btree_map_len n.by_number ≡ length cs
@@ -42,7 +42,7 @@ pub record Holds (x : Reading) (rs : List Record) : Type 0 where
 abbrev pub HasRead : Reading → List Item → Type 0
 HasRead x is = Holds x (records is)
 
--- the magic string was read, and records that are no whole file
+-- the magic string was read, and records without END
 abbrev pub HasBegun : Reading → List Item → Type 0
 HasBegun x is = HasRead x is × (¬ IsEnded is) × (rest : List Item) × (is ≡ magic ∷ rest)
 

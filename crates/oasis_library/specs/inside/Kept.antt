@@ -7,16 +7,16 @@ use Rattle.oasis_library.specs.Cells.{PlainDrawing}
 use Rattle.oasis_library.specs.declared.placement.Target.{Target}
 use Rattle.oasis_library.specs.declared.placement.Target.TheVariants.{Number as ByNumber, Name as ByName}
 
--- the cell that is referred to
+-- the cell that a target is
 abbrev pub target_ref : Target → CellRef
 target_ref (ByNumber n) = Number n
 target_ref (ByName s) = Name s
 
--- a cell that has nothing yet
+-- a cell that has no shapes or placements yet
 abbrev pub begun : CellRef → PlainDrawing Rings
 begun name = record { name = name; shapes = []; placements = [] }
 
--- the last item, changed
+-- the list with its last element changed
 abbrev pub on_last : {A : Type 0} → (A → A) → List A → List A
 on_last f [] = []
 on_last f (x ∷ []) = f x ∷ []

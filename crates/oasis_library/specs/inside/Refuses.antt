@@ -1,4 +1,4 @@
--- What a refusal says of the input while it is being read.
+-- What a refusal says about the input while it is being read.
 use Rattle.std.specs.Prelude.{ℕ, List, Option}
 use Rattle.lvl_refusal.specs.declared.Cause.{Cause}
 use Rattle.lvl_refusal.specs.declared.Cause.TheVariants.{Breach, OutOfMemory}
@@ -9,12 +9,12 @@ use Rattle.oasis_library.specs.Ends.{ReportsUnresolved}
 use Rattle.oasis_library.specs.declared.fault.OasisFault.{OasisFault}
 use Rattle.oasis_library.specs.declared.fault.OasisFault.TheVariants.{At, Unresolved}
 
--- where the reader has these bytes left
+-- the fault and its offset are right, if the reader has these bytes left
 abbrev pub Refuses : Ignore → List ℕ → Option (List ℕ) → OasisFault → Type 0
 Refuses ignore xs left (At at k) = RefusesAt ignore xs left at k
 Refuses ignore xs left (Unresolved n) = ReportsUnresolved ignore xs n
 
--- the same refusal, at that offset
+-- the same refusal, with an offset
 abbrev pub refused_at : ℕ → Cause OasisKind → Cause OasisFault
 refused_at at (Breach k) = Breach (At at k)
 refused_at at OutOfMemory = OutOfMemory

@@ -9,14 +9,14 @@ use Rattle.oasis_figures.specs.declared.drawn.Drawn.{Drawn}
 use Rattle.oasis_figures.specs.declared.modal.Modal.{Modal}
 use Rattle.oasis_library.specs.Cells.{PlainDrawing}
 
--- the modal variables have taken the record after those before it in its cell, and this is what it draws
+-- the modal variables are those after the record, and `drawn` is what it draws after the records before it in its cell
 pub record IsTaken (earlier : List Record) (r : Record) (drawn : Option Drawn) (m : Modal) : Type 0 where
   pub stands : StandsFor m (r ∷ earlier)
   pub draws : IsDrawn earlier r drawn
   pub fits : PlacesFit (shifts_of earlier r) drawn
   pub none : BreachesNone earlier r
 
--- a cell with what the record draws after those before it
+-- a cell with what the record draws added
 abbrev pub grown : List Record → Record → PlainDrawing Rings → PlainDrawing Rings
 grown earlier r d = record {
   name = d.name;

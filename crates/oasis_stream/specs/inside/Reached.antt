@@ -1,4 +1,4 @@
--- How far a reader of ids is: what it keeps of the records before.
+-- The state of a reader of ids: what it keeps of the records so far.
 use Rattle.std.specs.Prelude.{◌≡◌, ℕ, ◌+◌, nat_lt, min, Bool, true, false, ◌||◌, if◌then◌else◌, is_some, is_none, List}
 use Rattle.std.specs.Prelude.{[], ◌∷◌, length}
 use Rattle.oasis_records.specs.declared.record.Record.{Record}
@@ -7,12 +7,12 @@ use Rattle.lvl_cells.specs.Building.{cell_limit}
 use Rattle.oasis_stream.specs.Order.{in_cell, at_end, names_in, cells_in, any_numbered, any_unnumbered}
 use Rattle.oasis_stream.specs.declared.order.Order.{Order}
 
--- no record is among them
+-- whether there are no records
 abbrev pub are_none : List Record → Bool
 are_none [] = true
 are_none (r ∷ rs) = false
 
--- it is after these records
+-- the state is that after these records
 pub record HasReached (o : Order) (rs : List Record) : Type 0 where
   pub fresh : o.is_fresh ≡ are_none rs
   pub in_cell : o.in_cell ≡ in_cell rs
@@ -21,7 +21,7 @@ pub record HasReached (o : Order) (rs : List Record) : Type 0 where
   pub unnumbered : o.has_unnumbered ≡ any_unnumbered (names_in rs)
   pub at_end : o.has_offsets_at_end ≡ at_end rs
 
--- after a record it isn't fresh
+-- a state after at least one record
 abbrev pub order : Bool → ℕ → Bool → Bool → Bool → Order
 order in_cell cells numbered unnumbered at_end = record {
   is_fresh = false;
@@ -32,7 +32,7 @@ order in_cell cells numbered unnumbered at_end = record {
   has_offsets_at_end = at_end;
 }
 
--- after one record more
+-- the state after one more record
 abbrev pub passed : Order → Record → Order
 passed o (Start s) = order o.in_cell o.cells o.has_numbered o.has_unnumbered s.has_offsets_at_end
 passed o (CellName c) =

@@ -1,4 +1,4 @@
--- What a refusal says of the input while it is being read.
+-- What a refusal says about the input while it is being read.
 use Rattle.std.specs.Prelude.{ℕ, List, Option}
 use Rattle.lvl_grammar.specs.Refused.{IsTruncated, IsUnread}
 use Rattle.lvl_grammar.specs.inside.ReadTo.{IsSeenWrong}
@@ -8,7 +8,7 @@ use Rattle.oasis_stream.specs.Front.{oasis}
 use Rattle.oasis_stream.specs.declared.fault.OasisKind.{OasisKind}
 use Rattle.oasis_stream.specs.declared.fault.OasisKind.TheVariants.{Value}
 
--- where the reader has these bytes left
+-- the offset and the kind are right, if the reader has these bytes left
 abbrev pub RefusesAt : Ignore → List ℕ → Option (List ℕ) → ℕ → OasisKind → Type 0
 RefusesAt ignore xs left at (Value Truncated) = IsTruncated (oasis ignore) xs at
 RefusesAt ignore xs left at (Value Read) = IsUnread (oasis ignore) xs left at

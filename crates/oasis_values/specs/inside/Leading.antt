@@ -1,4 +1,4 @@
--- How integers and bytes are found in the bytes in hand.
+-- How integers and bytes are found among the bytes in hand.
 use Rattle.std.specs.Prelude.{◌≡◌, ◌≢◌, ℕ, ◌^◌, ◌<◌, List, length, Option, Some, Result, Ok, Err}
 use Rattle.lvl_ignore.specs.declared.ignore.Ignore.{Ignore}
 use Rattle.lvl_io.specs.Spelling.{IsFront}
@@ -10,28 +10,29 @@ use Rattle.oasis_values.specs.declared.find.Found.{Found}
 use Rattle.oasis_values.specs.declared.integer.Leading.{Leading}
 use Rattle.oasis_values.specs.declared.integer.Leading.TheVariants.{Whole, TooLarge, Unfinished}
 
--- what bytes begin with
+-- what the bytes begin with
 abbrev pub Leads : Ignore → Leading → List ℕ → Type 0
 Leads ignore (Whole value len) xs = IsFront (IsUnsigned ignore) xs len (Ok value)
 Leads ignore (TooLarge len) xs = IsFront (IsUnsigned ignore) xs len (Err IntegerTooLarge)
 Leads ignore Unfinished xs = Continues xs × (length xs < most_bytes ignore) × (groups xs < 2 ^ 64)
 
--- the faults that can come where another byte is wanted
+-- the faults that are possible when another byte is needed
 abbrev pub IsStop : ValueFault → Type 0
 IsStop Truncated = Unit {0}
 IsStop TooLong = Unit {0}
 IsStop Read = Unit {0}
 IsStop f = ⊥
 
--- where n bytes were had and one more was wanted, and then had are in hand: there is none, it may not be taken, or it
--- couldn't be read
+-- n bytes of xs were there and one more was needed; now `had` are in hand: xs has no more, or the limit allows no more,
+-- or no more could be read
 abbrev pub Stops : ValueFault → ℕ → ℕ → ℕ → List ℕ → Type 0
 Stops Truncated n room had xs = length xs ≡ n
 Stops TooLong n room had xs = (room ≡ n) × (n < length xs) × (n < had)
 Stops Read n room had xs = had ≡ n
 Stops f n room had xs = Unit {0}
 
--- what was found at the front of known bytes, of which only room may be taken, and had are in hand
+-- what was found at the front of the bytes, if they are known, `room` of them are within the limit and `had` are in
+-- hand
 abbrev pub Finds : {A : Type 0} → (List ℕ → Result A ValueFault → Type 0) → ℕ → ℕ → Option (List ℕ)
     → Result (Found A) ValueFault → Type 0
 Finds S room had known (Ok found) = (xs : List ℕ) → known ≡ Some xs → IsFront S xs found.len (Ok found.value)

@@ -1,9 +1,9 @@
--- Sizes of lattices that were tested.
+-- Sizes of lattices, after they were tested.
 use Rattle.std.specs.Prelude.{ℕ, ◌*◌, ◌<◌, ◌≤◌}
 use Rattle.lvl_names.specs.Shifts.{most_places}
 use Rattle.oasis_values.specs.declared.repetition.Size.{Size}
 
--- there are places, and few of them
+-- there is at least one place, and no more than a lattice may have
 pub record IsFew (m n : ℕ) : Type 0 where
   pub columns : 0 < m
   pub rows : 0 < n

@@ -10,7 +10,7 @@ use Rattle.gds_library.specs.declared.fault.GdsKind.TheVariants.{Record, AfterEn
 use Rattle.gds_library.proofs.Streams.{reads_end, reads_all, reads_after, reads_tail, refuses_by}
 use Rattle.gds_library.proofs.read.read_library.Goals as goal
 
--- what the answer of `tail` says
+-- what the result of `tail` says
 abbrev says : (old new : ℕ) (xs : List ℕ) → Result (Option ℕ) Stopped → Type 0
 says old new xs r = AnswersTail r old new (file_limit - old) (drop old xs)
 

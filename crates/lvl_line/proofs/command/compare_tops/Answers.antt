@@ -5,7 +5,7 @@ use Rattle.clap.specs.Simple.{app_of_fields}
 use Rattle.lvl_line.specs.Line.{file_rule, option_rule}
 use Rattle.lvl_line.proofs.command.compare_tops.Goals as goal
 
--- compare with its first arguments
+-- `compare` with its first arguments
 
 abbrev with_first : App
 with_first = with_rule (new_app (codes "compare")) (file_rule (codes "A"))

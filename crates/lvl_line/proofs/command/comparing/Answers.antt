@@ -17,7 +17,7 @@ versioned a = record a { top = record a.top { has_version = true } }
 abbrev bare_line : App
 bare_line = record plain_line { top = record plain_line.top { has_version = true; subcommand_required = true } }
 
--- where all of them are true, what is negated isn't
+-- if all of them are true, the one that is negated isn't
 third_is_false : (a b c d : Bool) → (a && (b && (not c && d))) ≡ true → c ≡ false
 third_is_false a b c d e = is_false _ (both _ _ (both _ _ (both _ _ e).1).1).0
 

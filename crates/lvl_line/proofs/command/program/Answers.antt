@@ -7,7 +7,7 @@ use Rattle.lvl_line.specs.Line.{one_file_app}
 use Rattle.lvl_line.specs.inside.Begun.{comparing_line}
 use Rattle.lvl_line.proofs.command.program.Goals as goal
 
--- where all of them are true, what is negated isn't
+-- if all of them are true, the one that is negated isn't
 third_is_false : (a b c d : Bool) → (a && (b && (not c && d))) ≡ true → c ≡ false
 third_is_false a b c d e = is_false _ (both _ _ (both _ _ (both _ _ e).1).1).0
 

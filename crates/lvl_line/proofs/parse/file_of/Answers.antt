@@ -4,7 +4,6 @@ use Rattle.clap.proofs.WalkLemmas.{first_value-rows}
 use Rattle.std.proofs.lemmas.Result.{IfOk-weaker}
 use Rattle.lvl_line.proofs.parse.file_of.Goals as goal
 
--- src/parse.rt:35:9
 pub unreachable-requires : goal.unreachable-requires
 unreachable-requires c =
     let none = c.in_default.ensures in
@@ -13,7 +12,6 @@ unreachable-requires c =
     let bad = rw (← is) at c.requires in
     cc
 
--- src/parse.rt:30:1
 pub returns : goal.returns
 returns c =
     let is = sym (first_value-rows (found_of c.args.matches.now) c.args.id.now) ∙ sym c.in-Some.ensures in

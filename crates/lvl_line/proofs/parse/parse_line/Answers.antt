@@ -8,7 +8,6 @@ use Rattle.lvl_line.specs.Line.{line, IsRefusal}
 use Rattle.lvl_line.proofs.Lines.{line_gives, pair_of}
 use Rattle.lvl_line.proofs.parse.parse_line.Goals as goal
 
--- src/parse.rt:83:23
 pub returns-in-Err-clause-refused : goal.returns-in-Err-clause-refused
 returns-in-Err-clause-refused c =
     let words : List Text = map (λ s. s.now) c.args.words.now in
@@ -22,7 +21,6 @@ returns-in-Err-clause-refused c =
       | inr other ↦ subst (IsRefusal words) (sym other.1) (elim here [ inl m ↦ absurd (other.0 m) | inr among ↦ among ])
     ]
 
--- src/parse.rt:83:23
 pub returns-in-Err-clause-taken : goal.returns-in-Err-clause-taken
 returns-in-Err-clause-taken c = λ taken.
     let words : List Text = map (λ s. s.now) c.args.words.now in
@@ -30,7 +28,6 @@ returns-in-Err-clause-taken c = λ taken.
     let memory = c.in-Err.ensures.passes (ap (λ (a : App). takes a words) app_is ∙ taken) in
     elim c.refused.ensures [ inl m ↦ m | inr other ↦ absurd (other.0 memory) ]
 
--- src/parse.rt:88:11
 pub job_of-requires : goal.job_of-requires
 job_of-requires c =
     let words : List Text = map (λ s. s.now) c.args.words.now in

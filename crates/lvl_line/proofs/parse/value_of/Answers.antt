@@ -3,12 +3,10 @@ use Rattle.clap.specs.Words.{found_of}
 use Rattle.clap.proofs.WalkLemmas.{first_value-rows}
 use Rattle.lvl_line.proofs.parse.value_of.Goals as goal
 
--- src/parse.rt:16:1
 pub returns-in_ok-from_str-in-Some : goal.returns-in_ok-from_str-in-Some
 returns-in_ok-from_str-in-Some c =
     sym (first_value-rows (found_of c.args.matches.now) c.args.id.now) ∙ sym c.in-Some.ensures
     ∙ ap Some (sym c.in_ok-from_str-in-Some.ensures.ok)
 
--- src/parse.rt:16:1
 pub returns-in-None : goal.returns-in-None
 returns-in-None c = sym (first_value-rows (found_of c.args.matches.now) c.args.id.now) ∙ sym c.in-None.ensures

@@ -3,7 +3,7 @@ use Rattle.lvl_grid.specs.declared.point.Point.{Point}
 use Rattle.lvl_grid.specs.Turn.{FitsPoint, shifted}
 use Rattle.oasis_figures.proofs.vertices.all_shifted.Given as goal
 
--- the points so far are moved, in order, and there is room for the others
+-- the points so far are moved, in order, and there is capacity for the others
 abbrev pub invariant-loop-point : goal.invariant-loop-point
 invariant-loop-point l = record {
   room : length l.points ≤ vec_capacity l.vertices;

@@ -4,7 +4,7 @@ use Rattle.oasis_library.specs.Names.{AreCells}
 use Rattle.oasis_library.specs.inside.Holds.{HoldsNames}
 use Rattle.oasis_library.proofs.resolve.resolve_cells.Given as goal
 
--- the cells so far are those of the drawings that came
+-- the cells so far are those of the drawings so far
 abbrev pub invariant-loop-drawing : goal.invariant-loop-drawing
 invariant-loop-drawing l =
     (l.yielded ++ l.drawing-iterator.rest.items ≡ l.fn.drawings.items)

@@ -3,7 +3,7 @@ use Rattle.oasis_values.specs.Properties.{IsValue}
 use Rattle.oasis_values.proofs.Loops.{Going}
 use Rattle.oasis_records.proofs.property.skip_values.Given as goal
 
--- those so far were read, whichever they were
+-- the values so far were read, for any last one
 abbrev pub invariant-loop-n : goal.invariant-loop-n
 invariant-loop-n g l =
     (last : Unit {0}) × (said : List (Unit {0})) × Going g.R.Read.remaining g.R.Read.read_errors g.R.Read.lent

@@ -3,7 +3,7 @@ use Rattle.oasis_values.specs.Numbers.{IsUnsigned}
 use Rattle.oasis_values.proofs.Loops.{Going}
 use Rattle.oasis_records.proofs.start.skip_offsets.Given as goal
 
--- the integers so far were read, whichever they were
+-- the integers so far were read, for any last one
 abbrev pub invariant-loop-n : goal.invariant-loop-n
 invariant-loop-n g l =
     (last : ℕ) × (said : List ℕ) × Going g.R.Read.remaining g.R.Read.read_errors g.R.Read.lent (λ _. IsUnsigned)

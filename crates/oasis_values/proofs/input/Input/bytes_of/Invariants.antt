@@ -3,7 +3,7 @@ use Rattle.oasis_values.specs.Numbers.{IsByte}
 use Rattle.oasis_values.proofs.Loops.{Going}
 use Rattle.oasis_values.proofs.input.Input.bytes_of.Given as goal
 
--- the bytes so far were read, whichever was the last
+-- the bytes so far were read, for any last byte
 abbrev pub invariant-loop-n : goal.invariant-loop-n
 invariant-loop-n g l =
     (last : ℕ) × Going g.R.Read.remaining g.R.Read.read_errors g.R.Read.lent (λ _. IsByte) (λ x. x)

@@ -3,7 +3,7 @@ use Rattle.oasis_values.specs.Texts.{IsCharacter}
 use Rattle.oasis_values.proofs.Loops.{Going}
 use Rattle.oasis_values.proofs.input.Input.characters.Given as goal
 
--- the characters so far were read, whichever was the last, and there is room for the others
+-- the characters so far were read, for any last one, and there is capacity for the others
 abbrev pub invariant-loop-n : goal.invariant-loop-n
 invariant-loop-n g l =
     (last : ℕ) × Going g.R.Read.remaining g.R.Read.read_errors g.R.Read.lent (λ _. IsCharacter l.kind) (λ c. c)

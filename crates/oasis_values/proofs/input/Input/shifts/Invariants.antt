@@ -5,7 +5,7 @@ use Rattle.oasis_values.specs.Repetitions.{IsShift}
 use Rattle.oasis_values.proofs.Loops.{Going}
 use Rattle.oasis_values.proofs.input.Input.shifts.Given as goal
 
--- some shifts were read, which stand after the zero shift, and there is room for the others
+-- some shifts were read, which are after the zero shift, and there is capacity for the others
 abbrev pub invariant-loop-n : goal.invariant-loop-n
 invariant-loop-n g l =
     (said : List Point)

@@ -3,7 +3,7 @@ use Rattle.oasis_values.specs.Texts.{IsCharacter}
 use Rattle.oasis_values.proofs.Loops.{Going}
 use Rattle.oasis_values.proofs.input.Input.skip_characters.Given as goal
 
--- the characters so far were read, whichever they were
+-- the characters so far were read, for any last one
 abbrev pub invariant-loop-n : goal.invariant-loop-n
 invariant-loop-n g l =
     (last : ℕ) × (said : List ℕ) × Going g.R.Read.remaining g.R.Read.read_errors g.R.Read.lent

@@ -4,7 +4,7 @@ use Rattle.oasis_values.specs.PointLists.{origin, last_of, start_of, IsNext}
 use Rattle.oasis_values.proofs.Loops.{Going}
 use Rattle.oasis_values.proofs.input.Input.vertices.Given as goal
 
--- some vertices were read, which stand after the start; the walk is at the last of them, and there is room for the
+-- some vertices were read, which are after the start; the walk is at the last of them, and there is capacity for the
 -- others
 abbrev pub invariant-loop-n : goal.invariant-loop-n
 invariant-loop-n g l =
