@@ -1,4 +1,3 @@
-use Rattle.std.proofs.Common.{length, ap}
 use Rattle.lvl.proofs.flattened.flatten_library.Goals as goal
 
 pub returns-clause-flat : goal.returns-clause-flat
@@ -10,5 +9,4 @@ returns-clause-flat c =
       checked = c.in_ok-checked.ensures.checked;
       flat = flat;
       top_is = c.in-Ok.ensures flat.top flat.is_top;
-      cells_are = ap length c.cells-cells.ensures.value;
     }
