@@ -169,7 +169,8 @@ fn lattice_fits_moved(by: Point, a: Point, m: u64, b: Point, n: u64) -> bool
     fits_moved(by, far)
 }
 
-/// The least and the greatest coordinates of the shifts of a lattice, which are those at its corners.
+/// The least and the greatest coordinates of the shifts of a lattice, which are those at its
+/// corners.
 fn lattice_reach(a: Point, m: u64, b: Point, n: u64) -> (Point, Point)
     requires { HasFarCorner a m b n }
     ensures { All (IsBetween result.0 result.1) (lattice a m b n) }
@@ -197,9 +198,9 @@ impl Offsets {
         })
     }
 
-    /// The shifts `i * a + j * b` with `i < m` and `j < n`, ordered by `j`, then by `i`. None if `m`
-    /// or `n` is 0, if there are more than 16,777,216 shifts, or if one is outside 64 signed bits
-    /// (own rules). Takes constant time.
+    /// The shifts `i * a + j * b` with `i < m` and `j < n`, ordered by `j`, then by `i`. None if
+    /// `m` or `n` is 0, if there are more than 16,777,216 shifts, or if one is outside 64 signed
+    /// bits (own rules). Takes constant time.
     pub fn lattice(a: Point, m: u64, b: Point, n: u64) -> Option<Offsets>
         ensures some { IsSome result ↔ IsLattice a m b n }
         ensures same { IfSome result (λ offsets. offsets ≡ lattice a m b n) }
@@ -271,8 +272,8 @@ impl Offsets {
         }
     }
 
-    /// Whether `at`, moved by any of the shifts, is within 64 signed bits. Takes constant time unless
-    /// it is a list that isn't shared.
+    /// Whether `at`, moved by any of the shifts, is within 64 signed bits. Takes constant time
+    /// unless it is a list that isn't shared.
     pub fn all_fit_at(&self, at: Point) -> bool
         ensures { IsTrue result ↔ All (λ e. FitsPoint (shifted at e)) self.now }
     {
