@@ -11,7 +11,8 @@ use crate::walk::{Mark, walk_from};
 use lvl_refusal::Cause;
 use std::alloc::Global;
 
-/// The cells, each before those that it refers to, or a round of references.
+/// The indexes of the cells, each before those of the cells that it refers to. Refuses with
+/// [`CellFault::Cycle`] if there is no such order.
 pub(crate) fn order_of(
     alloc: Global,
     cells: &[Cell],
