@@ -44,7 +44,7 @@ all_swapped P es fs p q i j s pl ph ql qh h k d le lt =
       ]
     ]
 
--- the edge from index p, put at q before a run
+-- the edge at index p is put at q, in front of a range
 all_front : (P : Edge → Type 0) (es fs : List Edge) (p q first end : ℕ) → SwappedAt es fs p q → q + 1 ≡ first
     → p < first → ((d : Edge) → P (get_or es p d)) → AllWithin P es first end → AllWithin P fs q end
 all_front P es fs p q first end s e near one h k d le lt =

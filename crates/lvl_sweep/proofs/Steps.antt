@@ -149,7 +149,7 @@ steps_give {V} same laws far o f within =
           (λ ge. given.values z ge);
     }
 
--- a function has the same steps from two bounds on if it has no values between them
+-- two functions that agree, each from its bound on, have the same steps
 pub same_from : {V : Type 0} (same : V → V → Bool) → ((x y : V) → Decides (same x y) (x ≡ y))
     → (far far' : ℕ) (o o' : Option ℤ) (f f' : ℤ → Option V) → IsWithin far f → IsWithin far' f'
     → ((z : ℤ) → from_on o f z ≡ from_on o' f' z) → steps_from same far o f ≡ steps_from same far' o' f'
