@@ -28,7 +28,7 @@ pub record PlainCell (F : Type 0) : Type 0 where
   pub shapes : List (PlainShape F)
   pub references : List PlainReference
 
--- a list of rings: the figure of a shape in a library that is kept
+-- a list of rings: what a library in memory has as the figure of a shape
 abbrev pub Rings : Type 0
 Rings = List (List Point)
 
@@ -57,7 +57,7 @@ drawn rings c = record {
   references = c.references;
 }
 
--- the library that is kept: each figure is replaced by its rings
+-- the library as it is kept in memory: each figure is replaced by its rings
 abbrev pub kept : {F : Type 0} → (F → Rings) → List (PlainCell F) → List (PlainCell Rings)
 kept rings cells = map (drawn rings) cells
 

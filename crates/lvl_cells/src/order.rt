@@ -11,8 +11,7 @@ use crate::walk::{Mark, walk_from};
 use lvl_refusal::Cause;
 use std::alloc::Global;
 
-/// The indexes of the cells, each before those of the cells that it refers to. Refuses with
-/// [`CellFault::Cycle`] if there is no such order.
+/// The cells, each before those that it refers to, or a round of references.
 pub(crate) fn order_of(
     alloc: Global,
     cells: &[Cell],

@@ -117,10 +117,10 @@ fn shifts_of(cell: &Cell) -> u64 {
     sum
 }
 
-/// Whether a comparison cell by cell is likely to cost less than one of flat layouts: the cells
-/// that are placed have at most a quarter as many own rings as are placed in all, and all cells
-/// together have at most about twice as many shifts, since each shift is looked at. The answer is
-/// one of cost only.
+/// Whether a comparison cell by cell is likely to cost less than one of flat layouts. It is if the
+/// cells that are placed have at most a quarter as many own rings as are placed in all, and if all
+/// cells together have at most about twice as many shifts as there are placed rings, since each
+/// shift is looked at. The answer is one of cost only.
 pub fn pays_by_cells(alloc: Global, checked: &Checked) -> Result<bool, AllocError> {
     let times = times_placed(alloc, checked)?;
     let mut own = 0u64;

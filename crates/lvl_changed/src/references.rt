@@ -38,7 +38,7 @@ fn place_partner(
 
 /// The placements of a cell's references, with partners in place of the cells; those without a
 /// partner are left out. The windows that were found for each of these cells are added at each
-/// place.
+/// place. If nothing is known for one of them, the windows become the whole grid.
 fn partners_placed(
     windows: &mut Windows,
     alloc: Global,

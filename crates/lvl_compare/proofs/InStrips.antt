@@ -387,7 +387,7 @@ unfolding columns
 fewer_columns x end last further inside =
     up_rises (last -ℤ end) (last -ℤ x) (omega (arith, ints, inside)) (omega (arith, ints, further))
 
--- the intersection with the optional window has exactly the squares of the window that are seen
+-- the intersection with the optional window has exactly those squares of the window that are compared
 pub seen_shown : (v : Option Window) (w : Window) (q : Square) → IsWithin (seen_of v w) q → IsShown v q
 seen_shown None w q h = tt
 seen_shown (Some v) w q h = record {
@@ -406,7 +406,7 @@ shown_seen (Some v) w q seen h = record {
   y_below = omega (arith, ints, clamps, h.y_below, seen.y_below);
 }
 
--- squares that are seen and that either layout draws are in the intersection with the window that has both extents
+-- squares that are compared and that either layout draws are in the intersection with the window of both extents
 ours_within : (a : Draws) (v : Option Window) (one two w : Window) → w ≡ seen_of v (hull one two)
     → ((l : Layer) (q : Square) → a l q → IsWithin one q) → (l : Layer) (q : Square) → IsShown v q → a l q
     → IsWithin w q
@@ -421,7 +421,7 @@ theirs_within t pairs v one two w is h l q seen drawn =
     subst (λ (u : Window). IsWithin u q) (sym is)
     (shown_seen v (hull one two) q seen (hull_second one two q (moved_within pairs t two h l q drawn)))
 
--- what is found in that window is what is found among all squares that are seen
+-- what is found in that window is what is found among all squares that are compared
 pub whole_same : (a t : Draws) (pairs : List LayerPair) (v : Option Window) (one two w : Window)
     (found : Option Found) → w ≡ seen_of v (hull one two) → ((l : Layer) (q : Square) → a l q → IsWithin one q)
     → ((l : Layer) (q : Square) → t l q → IsWithin two q) → IsFoundIn a (IsMoved pairs t) (IsWithin w) found

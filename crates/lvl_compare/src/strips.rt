@@ -190,8 +190,8 @@ fn front(window: &Window, end: i64) -> Window
 }
 
 /// The first difference of two layouts within the first strip of a window. The strip is at most as
-/// wide as the pace allows, and is halved until it doesn't have too many points. A strip of width 1
-/// may have any number.
+/// wide as the pace allows, and is halved until it doesn't have too many points and fits in memory.
+/// A strip of width 1 may have any number of points.
 fn first_strip(
     alloc: Global,
     first: &Fitted,

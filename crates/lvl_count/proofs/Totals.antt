@@ -38,7 +38,7 @@ cell_more layer cells times places i c low at =
     omega
     (arith, own, sum_by_more (λ n. get_or times n 0 * at_place (own_rings_on each_ring layer) cells n) places i 0 low)
 
--- one that is not placed adds nothing
+-- a cell that isn't placed adds nothing
 pub cell_skipped : (layer : Layer) (cells : List (PlainCell Rings)) (times places : List ℕ) (i : ℕ) → i < length places
     → get_or times (get_or places i 0) 0 ≡ 0
     → placed_on layer cells times (take (i + 1) places) ≡ placed_on layer cells times (take i places)

@@ -55,7 +55,7 @@ pub figure_own : (b s : Bounds) (h : PlainShape Rings) → All (IsWithin s) h.sh
     → HoldsOwn b h
 figure_own b s h shifts rings = λ i e li j ring lj k v lk. rings j ring lj k v lk (get_or h.shifts i e) (shifts i e li)
 
--- shapes where they are drawn are placed by the map that moves nothing
+-- the shapes of a cell, unmapped, are placed by the map that moves no point
 shape_unmoved : (b : Bounds) (h : PlainShape Rings) → HoldsOwn b h → HoldsShape b unmoved h
 shape_unmoved b h all =
     λ i e li j ring lj k v lk. subst (IsWithin b) (sym (image-unmoved _)) (all i e li j ring lj k v lk)

@@ -99,7 +99,7 @@ min_not_above x1 a x h = grind (arith, ints)
 max_above : (x0 a x : ℤ) → x <ℤ x0 → int_lt x (int_max a x0) ≡ true
 max_above x0 a x h = grind (arith, ints)
 
--- a square is within the window, or the clamped ring does not wind round it
+-- a square is within the window, or the clamped ring doesn't wind round it
 within_or_level : (w : Window) (ps : List Point) (s : Square) → IsWithin w s ⊎ (winding (map (clamped w) ps) s ≡ pos 0)
 within_or_level w ps s =
     by_lt_z s.x w.x0 (λ a. inr (winding_left s _

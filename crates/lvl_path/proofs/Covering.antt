@@ -99,7 +99,7 @@ pub ring_covers : (b : Band) → b.x0 ≤ℤ b.x1 → b.y0 ≤ℤ b.y1 → (s : 
 ring_covers b wide high s =
     by_tests b s wide high (int_lt s.x b.x1) (int_lt s.x b.x0) (int_le b.y0 s.y) (int_lt s.y b.y1) (tested b s)
 
--- the left side of a band is not right of its right side, nor the lower above the upper
+-- the left side of a band isn't right of its right side, nor its lower side above its upper side
 abbrev IsUpright : Band → Type 0
 IsUpright b = (b.x0 ≤ℤ b.x1) × (b.y0 ≤ℤ b.y1)
 

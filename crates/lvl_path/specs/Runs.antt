@@ -1,4 +1,4 @@
--- The straight runs of a path, and the squares that it covers (own rules). Points of a path are meant by index.
+-- The straight runs of a path, and the squares that it covers (own rules). Points are named by their index.
 use Rattle.std.specs.Prelude.{◌≡◌, ◌<◌, ◌≤◌, ◌+◌, ◌-◌, ◌==◌, ◌||◌, not, Bool, ℕ, pos, List, length, map}
 use Rattle.std.specs.Prelude.{filter, slice_index_or, Any, if◌then◌else◌, unsigned_abs, ◌-ℤ◌}
 use Rattle.std.specs.List.{range_with_len}

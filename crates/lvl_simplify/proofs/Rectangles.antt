@@ -111,7 +111,7 @@ count_round f a b c d =
       count-cons f a [],
     )
 
--- four points cover the same squares whichever of them is the first of the ring
+-- four points cover the same squares with any of them as the first
 pub covers_round : (a b c d : Point) (s : Square)
     → winding (a ∷ b ∷ c ∷ d ∷ []) s ≡ winding (b ∷ c ∷ d ∷ a ∷ []) s
 covers_round a b c d s =

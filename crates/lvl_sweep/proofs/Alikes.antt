@@ -57,7 +57,7 @@ row_alike es fs h balanced = row_same fs es (balanced_alike es fs h balanced) ba
   λ f. (f.0, λ e. f.1 (sym (net_left_alike f.0 z es fs h) ∙ e)),
 ))
 
--- the edges alive in a row give its intervals
+-- the intervals of a row are those of the edges alive in it
 pub row_of_alive : (es active : List Edge) (y : ℤ) → HasSame (alive_at es y) active → Balanced (alive_at es y)
     → row active ≡ row_at es y
 unfolding row_at

@@ -190,7 +190,7 @@ in_as_value : (x : ℤ) (r : List (ℤ × ℤ)) → in_value x (as_value r) ≡ 
 in_as_value x [] = refl
 in_as_value x (i ∷ is) = refl
 
--- the slab list that the edges give
+-- the bands of the edges are a slab list
 pub record AreSlabsOf (es : List Edge) (slabs : List Slab) : Type 0 where
   pub list : IsSlabList slabs
   pub covers : (s : Square) → slabs_cover slabs s ≡ inside (alive_at es s.y) s.x

@@ -1,4 +1,4 @@
--- Rounds: the part of the path of a walk from a cell on to which the last cell of the path refers.
+-- Rounds: if the last cell of a path refers to a cell on the path, the round is the path from that cell on.
 use Rattle.std.specs.Prelude.{◌≡◌, ℕ, suc, ◌-◌, ◌<◌, ◌≤◌, List, [], map, drop, length, All, Contains, slice_get}
 use Rattle.std.specs.Prelude.{slice_index_or, Some}
 use Rattle.std.specs.List.{IsDistinct}

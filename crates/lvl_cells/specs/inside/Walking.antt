@@ -1,4 +1,4 @@
--- A walk over cells along their references: marks, the path, and the finished cells. All cells are meant by index.
+-- A walk over cells along their references: marks, the path, and the finished cells. Cells are named by their index.
 use Rattle.std.specs.Prelude.{◌≡◌, ℕ, suc, ◌+◌, ◌*◌, ◌-◌, ◌<◌, ◌≤◌, List, [], ◌∷◌, map, length, ◌↔◌, sum_by, All}
 use Rattle.std.specs.Prelude.{Contains, slice_get, Option, Some, None}
 use Rattle.std.specs.Option.{option_map_or}

@@ -45,8 +45,8 @@ kept_shifts (ByList shifts) = shifts.items
 kept_shifts (ByShared list) = list.value.shifts.items
 kept_shifts (ByLattice a m b n) = lattice a m b n
 
--- what holds of the shifts however they are stored: the first is zero; the bounds of a shared list are its own; a
--- lattice is within the limits
+-- the invariant of stored shifts: the first of a list is zero, a shared list has the right bounds, and a lattice is
+-- within the limits
 abbrev pub IsKept : Kept → Type 0
 IsKept (ByList shifts) = StartsAtZero shifts.items
 IsKept (ByShared list) = StartsAtZero list.value.shifts.items × IsBounded list.value
