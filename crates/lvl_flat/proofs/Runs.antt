@@ -45,7 +45,7 @@ at_most_between u i j k (negsuc v) r h g p q =
     let more : i * suc v ≤ j * suc v = omega (arith, mul-le-mul_left (suc v) h) in
     omega (arith, ints, p)
 
--- indexes of the same row, in order
+-- increasing indexes of the same row
 record AreInRow (m i j k : ℕ) : Type 0 where
   row : j / m ≡ i / m
   first : i % m ≤ j % m

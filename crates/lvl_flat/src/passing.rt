@@ -15,7 +15,8 @@ use lvl_names::Offsets;
 const LEAST_RUN: u64 = 8;
 
 /// Whether the box misses the window at each of the shifts with an index from `from` up to `end`,
-/// which is excluded. These shifts are in order on a line. `false` says nothing.
+/// which is excluded. Each of these shifts is between any earlier and any later one, along both
+/// axes. `false` says nothing.
 fn misses_run(
     shifts: &Offsets,
     from: u64,
@@ -39,8 +40,8 @@ fn misses_run(
 }
 
 /// The index up to which the box is found to miss the window at all shifts from index `from` on.
-/// The shifts with an index from `from` up to `end` are in order on a line. Tries all of them
-/// first, then searches the longest run that misses by halving.
+/// Each shift with an index from `from` up to `end` is between any earlier and any later one, along
+/// both axes. Tries all of them first, then searches the longest run that misses by halving.
 fn missed_along(
     shifts: &Offsets,
     from: u64,

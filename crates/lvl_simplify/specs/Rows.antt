@@ -31,8 +31,8 @@ takes y t = not t.more && int_le t.y y
 abbrev pub turning : ℤ → List Turn → ℤ
 turning y ts = pos (count_by (adds y) ts) -ℤ pos (count_by (takes y) ts)
 
--- what an edge adds to it if it is at the right border: 1 in the row of its start and all above, less 1 in the row of
--- its end and all above
+-- what an edge that starts at the right border adds to it: 1 in the row of its start and all above, less 1 in the row
+-- of its end and all above; other edges add nothing
 abbrev pub edge_turning : ℤ → ℤ → Edge → ℤ
 edge_turning right y e =
     cond (int_eq e.0.x right) (pos (cond (int_le e.0.y y) 1 0) -ℤ pos (cond (int_le e.1.y y) 1 0)) (pos 0)

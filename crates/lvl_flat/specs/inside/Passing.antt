@@ -40,11 +40,11 @@ pub record IsBetween (shifts : List Point) (i j k : ℕ) : Type 0 where
   pub between : (b : Bounds) (p e q : Point) → slice_get shifts i ≡ Some p → slice_get shifts j ≡ Some e
       → slice_get shifts k ≡ Some q → IsWithin b p → IsWithin b q → IsWithin b e
 
--- the shifts with an index from `from` up to `to`, which is excluded, are in order on a line
+-- of the shifts with an index from `from` up to `to`, which is excluded, each is between any earlier and any later one
 pub record IsRun (shifts : List Point) (from to : ℕ) : Type 0 where
   pub line : (i j k : ℕ) → from ≤ i → i ≤ j → j ≤ k → k < to → IsBetween shifts i j k
 
--- the shifts of each row, `row` of them, are in order on a line
+-- the same for the shifts of each row, which are `row` consecutive ones
 pub record HasRows (row : ℕ) (shifts : List Point) : Type 0 where
   pub line : (i j k : ℕ) → i ≤ j → j ≤ k → i / row ≡ k / row → IsBetween shifts i j k
 

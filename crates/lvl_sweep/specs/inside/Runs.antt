@@ -32,8 +32,8 @@ IsEndOf es low high begins (Some t) =
     × ((b : ℤ) → begins ≡ Some b → t ≤ℤ b)
     × (((k : ℕ) × (low ≤ k) × (k < high) × ((d : Edge) → (slice_index_or es k d).high ≡ t)) ⊎ (begins ≡ Some t))
 
--- by row y the edges below index `from` have ended and all below index `end` have begun; those from `next` up to `end`,
--- which begin at y, are alive
+-- by row y the edges below index `from` have ended, all below index `end` have begun, and those from `next` up to `end`
+-- haven't ended; the edges from `from` up to `next` are in order of abscissa, and so are those from `next` up to `end`
 pub record IsRenewed (es : List Edge) (y : ℤ) (from next end : ℕ) : Type 0 where
   pub order : (from ≤ next) × (next ≤ end) × (end ≤ length es)
   pub ended : AllWithin (λ e. e.high ≤ℤ y) es 0 from

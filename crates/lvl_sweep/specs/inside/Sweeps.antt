@@ -9,14 +9,14 @@ use Rattle.lvl_sweep.specs.Bands.{slab_of}
 use Rattle.lvl_sweep.specs.inside.Rows.{row_at, bands_from}
 use Rattle.lvl_sweep.specs.inside.Strips.{IsAt}
 
--- the band is of the rows up to y, and the edges cover its intervals in each of them
+-- the band ends at row y and has rows and intervals, and in each of its rows the edges cover exactly these intervals
 pub record IsHeld (es : List Edge) (b : Band) (y : ℤ) : Type 0 where
   pub full : b.y0 <ℤ b.y1
   pub top : b.y1 ≡ y
   pub some : b.intervals.items ≢ []
   pub rows : (v : ℤ) → b.y0 ≤ℤ v → v <ℤ b.y1 → row_at es v ≡ b.intervals.items
 
--- the band that is held, if one is, and the bands from the present strip on
+-- the bands that are still to be read: if a band is held, that one and those from the present strip on, else none
 abbrev pub bands_of : Strips → Band → Bool → List Slab
 bands_of strips band held = cond held (slab_of band ∷ bands_from strips.edges.items (Some strips.y)) []
 
