@@ -51,7 +51,7 @@ pub once_numbered : (xs : List ℕ) (i j x : ℕ) → IsDistinct nat_eq xs → s
     → i ≡ j
 once_numbered xs i j x d hi hj = once_in nat_eq (λ y. (Decides-eqb y y).1 refl) xs i j x d hi hj
 
--- names of which each occurs once are distinct
+-- if each name occurs once, the names are distinct
 pub distinct_once : (xs : List (List ℕ))
     → ((i j : ℕ) (x : List ℕ) → slice_get xs i ≡ Some x → slice_get xs j ≡ Some x → i ≡ j) → IsDistinct bytes_eq xs
 distinct_once xs once =
@@ -65,7 +65,7 @@ distinct_once xs once =
     let one : i ≡ j = once i j x at_i at_j in
     absurd (omega (arith, one, lt))))
 
--- the cell of the name at a place
+-- the cell of the name at an index
 pub cell_at : (cells : List (PlainCell Rings)) (t : ℕ) (name : List ℕ) → slice_get (names cells) t ≡ Some name
     → (d : PlainCell Rings) × (slice_get cells t ≡ Some d) × (d.name ≡ name)
 cell_at cells t name h =
@@ -198,7 +198,7 @@ reference_in_row all (u ∷ ts) (q ∷ refs) (suc j) t e h =
     let rest : map (slice_get all) ts ≡ map (λ (p : PlainReference). Some p.cell) refs = cc in
     reference_in_row all ts refs j t rest h
 
--- a link between two cells is an arc between their places
+-- a link between two cells is an arc between their indexes
 pub arc_from_link : (cells : List (PlainCell Rings)) (targets : List (Vec ℕ Global)) (k l : ℕ) (a b : List ℕ)
     → IsDistinct bytes_eq (names cells) → AreAllTargets cells targets → slice_get (names cells) k ≡ Some a
     → slice_get (names cells) l ≡ Some b → Contains (links cells) (a, b) → (j : ℕ) × IsArc targets k j l
@@ -213,7 +213,7 @@ arc_from_link cells targets k l a b d t hk hl h =
     let there : to.0 ≡ l = once_named (names cells) to.0 l b d (to.2 ∙ ap Some w.to_is) hl in
     (w.which, (row.0, subst (λ q. slice_get targets q ≡ Some row.0) here row.1, to.1 ∙ ap Some there))
 
--- an arc between the places of two cells is a link
+-- an arc between the indexes of two cells is a link
 pub link_from_arc : (cells : List (PlainCell Rings)) (targets : List (Vec ℕ Global)) (k j l : ℕ) (a b : List ℕ)
     → AreAllTargets cells targets → slice_get (names cells) k ≡ Some a → slice_get (names cells) l ≡ Some b
     → IsArc targets k j l → Contains (links cells) (a, b)

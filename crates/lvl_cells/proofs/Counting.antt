@@ -1,4 +1,4 @@
--- What is added up over chains no longer grows with more choices than the rank.
+-- A sum over chains from a cell doesn't grow with more references than the rank of the cell.
 use Rattle.std.proofs.Common.{◌≡◌, ℕ, zero, suc, ◌+◌, ◌*◌, ◌<◌, ◌≤◌, min, true, false, cond, List, [], ◌∷◌, length}
 use Rattle.std.proofs.Common.{Some, None, All, sum_by, refl, sym, ap, ◌∙◌, subst, ⊎_elim, arith}
 use Rattle.std.specs.Str.{bytes_eq}
@@ -10,11 +10,11 @@ use Rattle.std.proofs.lemmas.Bool.{cases_lt}
 use Rattle.lvl_cells.specs.Cells.{PlainCell, PlainReference, cell_named, Rings}
 use Rattle.lvl_cells.specs.Chains.{over_chains}
 
--- the rank falls along the references of the cell
+-- the rank decreases along the references of the cell
 abbrev pub FallsFrom : (List ℕ → ℕ) → PlainCell Rings → Type 0
 FallsFrom rank c = All (λ r. rank r.cell < rank c.name) c.references
 
--- a cell that is found by name has the name, and what all cells have
+-- a cell that is found by name has that name, and what holds of all cells holds of it
 pub found : (P : PlainCell Rings → Type 0) (cells : List (PlainCell Rings)) (name : List ℕ) (d : PlainCell Rings)
     → All P cells → cell_named cells name ≡ Some d → (d.name ≡ name) × P d
 found P [] name d all e = cc
@@ -37,7 +37,7 @@ sum_same f g (r ∷ rs) h =
     ∙ (ap (λ s. s + sum_by f rs) (All-head same r rs h)
     ∙ (ap (λ s. g r + s) (sum_same f g rs (All-tail same r rs h)) ∙ sym (sum_by-cons g r rs)))
 
--- one more choice adds nothing from the rank on
+-- from the rank of the cell on, one more reference adds nothing
 pub steady : (w : PlainCell Rings → ℕ) (cells : List (PlainCell Rings)) (rank : List ℕ → ℕ) → All (FallsFrom rank) cells
     → (n : ℕ) (c : PlainCell Rings) → FallsFrom rank c → rank c.name ≤ n
     → over_chains w cells (suc n) c ≡ over_chains w cells n c
@@ -82,7 +82,7 @@ pub over_chains_is : (w : PlainCell Rings → ℕ) (cells : List (PlainCell Ring
     + sum_by (λ r. length r.shifts * option_map_or (over_chains w cells n) (cell_named cells r.cell) 0) c.references
 over_chains_is w cells rank n all c falls h = sym (steady w cells rank all n c falls h)
 
--- sums that stop at a limit
+-- sums that are capped
 pub capped_times : (most a x : ℕ) → min most (a * min most x) ≡ min most (a * x)
 capped_times most zero x = omega arith
 capped_times most (suc a) x =

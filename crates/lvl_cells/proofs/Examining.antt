@@ -1,4 +1,4 @@
--- How the faults of the steps are faults of the library.
+-- The faults of the steps are faults of the library.
 use Rattle.std.proofs.Common.{◌≡◌, ℕ, zero, suc, ◌+◌, ◌<◌, ◌≤◌, min, ◌-◌, true, false, cond, get_or, ◌⊎◌, inl, inr}
 use Rattle.std.proofs.Common.{⊎_elim, List, [], ◌∷◌, map, length, Option, Some, IfSome, All, Contains, refl, ap, ◌∙◌}
 use Rattle.std.proofs.Common.{subst, arith}
@@ -32,7 +32,7 @@ zero_or_more : (n : ℕ) → (n ≡ 0) ⊎ (0 < n)
 zero_or_more zero = inl refl
 zero_or_more (suc n) = inr (omega arith)
 
--- how far from the end of the order the first cell of that name is
+-- the distance of the first cell of that name from the end of the order
 pub height : List (List ℕ) → List ℕ → List ℕ → ℕ
 height all [] name = 0
 height all (k ∷ ks) name = cond (bytes_eq (get_or all k []) name) (suc (length ks)) (height all ks name)
@@ -155,7 +155,7 @@ top_fault cells given TopMissing n l r h =
 top_fault cells given ManyTops n l r h = (l, r, h.0, h.1)
 top_fault cells given _ n l r h = absurd h
 
--- a sum that stops one past the limit is past it, or whole
+-- a sum that is capped at one more than the limit is beyond the limit, or exact
 pub sum_at : (cells : List (PlainCell Rings)) (k : ℕ) (c : PlainCell Rings) (w : PlainCell Rings → ℕ) (sum : ℕ)
     → slice_get cells k ≡ Some c
     → IfSome (slice_get cells k) (λ d. sum ≡ min (most_placed + 1) (over_chains w cells (length cells) d))

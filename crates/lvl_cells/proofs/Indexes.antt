@@ -1,4 +1,4 @@
--- What one more name does to an index, and what a name that is there twice says.
+-- An index with one more name, and the fault of a name that occurs twice.
 use Rattle.std.proofs.Common.{◌≡◌, ℕ, zero, suc, ◌+◌, ◌<◌, Bool, true, false, ◌||◌, cond, List, [], ◌∷◌, ◌++◌, take}
 use Rattle.std.proofs.Common.{drop, length, get_or, ◌⊎◌, inl, inr, ⊎_elim, Option, Some, None, is_some, append_assoc}
 use Rattle.std.proofs.Common.{refl, sym, ap, ◌∙◌, subst, arith, ◌↔◌}
@@ -126,7 +126,7 @@ none_where : {X : Type 0} (o : Option X) → is_some o ≡ false → o ≡ None
 none_where None h = refl
 none_where (Some x) h = absurd (false≢true (sym h))
 
--- one more name, which the index does not have yet
+-- one more name that the index doesn't have yet
 pub index_step : (cells : List (PlainCell Rings)) (i : ℕ) (c : PlainCell Rings) (m n : BTreeMap (Bor (List ℕ)) ℕ)
     (o : Option ℕ) → i < length cells → c ≡ get_or cells i c
     → IsDistinct bytes_eq (take i (names cells)) × IsIndexOf (take i (names cells)) m → is_some o ≡ false

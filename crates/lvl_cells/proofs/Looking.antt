@@ -44,7 +44,7 @@ pub target_found : (cells : List (PlainCell Rings)) (targets : List (Vec ℕ Glo
 target_found cells targets i j ts None d t hi e = tt
 target_found cells targets i j ts (Some k) d t hi e = target_is cells targets i j k ts d t hi (sym e)
 
--- past the row there is no reference
+-- past the end of the row there is no reference
 pub target_past : (cells : List (PlainCell Rings)) (targets : List (Vec ℕ Global)) (i j : ℕ) (ts : Vec ℕ Global)
     (o : Option ℕ) → AreAllTargets cells targets → slice_get targets i ≡ Some ts → o ≡ slice_get ts.items j
     → IfNone o (¬ HasReference cells i j)

@@ -1,4 +1,4 @@
--- What the targets of all cells say, and where the first reference without a cell is.
+-- The targets of all cells, and the first reference that names no cell.
 use Rattle.std.proofs.Common.{◌≡◌, ℕ, ◌+◌, ◌<◌, List, [], ◌∷◌, ◌++◌, map, take, drop, length, get_or, Some}
 use Rattle.std.proofs.Common.{append_assoc, All, Contains, refl, sym, ap, ◌∙◌}
 use Rattle.std.specs.List.{slice_get}
@@ -17,7 +17,7 @@ use Rattle.lvl_cells.specs.declared.fault.CellFault.TheVariants.{MissingCell}
 use Rattle.lvl_names.proofs.Elements.{contains_at}
 use Rattle.lvl_cells.proofs.NamedTargets.{split_here}
 
--- the targets of the first cells, by the names of all
+-- the targets of the first i cells among all cells
 abbrev pub AreTargetsOf : List (List ℕ) → List (PlainCell Rings) → List (Vec ℕ Global) → Type 0
 AreTargetsOf all cells targets =
     map (λ ts. map (slice_get all) ts.items) targets ≡ map (λ c. map (λ r. Some r.cell) c.references) cells

@@ -106,7 +106,7 @@ nearer_past targets marks front v b arc =
     ap (λ n. (2 * new_count marks + n) * all) long in
     omega (arith, same, old, new, some)
 
--- a mark that is set is of no new cell
+-- a cell whose mark is set isn't new
 pub goes_on : (marks : List Mark) (b : ℕ) (o m : Mark) → slice_get marks b ≡ Some o → m ≢ New
     → GoesOn marks (set marks b m)
 goes_on marks b o m at other k h =

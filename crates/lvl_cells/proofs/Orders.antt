@@ -35,7 +35,7 @@ rows_long cells targets t =
 pub names_long : (cells : List (PlainCell Rings)) → length (names cells) ≡ length cells
 names_long cells = let name_of : PlainCell Rings → List ℕ = λ c. c.name in length-map cells name_of
 
--- each target is the place of a cell
+-- each target is the index of a cell
 pub targets_within : (cells : List (PlainCell Rings)) (targets : List (Vec ℕ Global)) → AreAllTargets cells targets
     → EachTargetWithin targets (length targets)
 targets_within cells targets t =
@@ -78,7 +78,7 @@ visit_link cells targets v w t hv hw arc =
     link_from_arc cells targets v.cell v.done w.cell (visited_name cells v) (visited_name cells w) t
     (name_there cells v hv) (name_there cells w hw) arc
 
--- where the walk leads back to its path, the path from there on is a round
+-- if the walk leads back to a cell on its path, the path from there on is a round
 pub round_by : (cells : List (PlainCell Rings)) (targets : List (Vec ℕ Global)) (marks : List Mark) (path : List Visit)
     (finished : List ℕ) (start : ℕ) (round : List Visit) → AreAllTargets cells targets
     → IsWalk targets marks path finished → LeadsBack targets path start → IsFrom path start round
@@ -167,7 +167,7 @@ seen_is_done marks k h new open_ =
       | Done ↦ λ e. e
     ] at.1
 
--- where each cell is seen and the walk is at rest, the finished cells in reverse are an order
+-- if no cell is new and the path is empty, the finished cells in reverse are an order
 pub order_by : (cells : List (PlainCell Rings)) (targets : List (Vec ℕ Global)) (marks : List Mark) (finished : List ℕ)
     → AreLinked cells → AreAllTargets cells targets → IsWalk targets marks [] finished
     → ((k : ℕ) → k < length targets → slice_get marks k ≡ Some New → ⊥) → IsOrder cells (reverse finished)

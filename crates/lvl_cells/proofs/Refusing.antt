@@ -1,4 +1,4 @@
--- A fault other than out of memory is of a library that is not sound with few placed.
+-- A library with a fault isn't sound, or places too much.
 use Rattle.std.proofs.Common.{◌≡◌, ℕ, ◌<◌, ◌≤◌, List, [], ◌∷◌, ◌++◌, map, length, Option, Some, None, All, Contains}
 use Rattle.std.proofs.Common.{refl, sym, ap, ◌∙◌, subst, arith}
 use Rattle.std.specs.List.{slice_get, IsDistinct}
@@ -56,7 +56,7 @@ falls_along rank d (x ∷ xs) h =
     let step : rank x < rank d = All-head falls (d, x) (path_edges x xs) h in
     omega (arith, step, falls_along rank x xs (All-tail falls (d, x) (path_edges x xs) h))
 
--- no rank falls all the way round
+-- no rank decreases all the way round a cycle
 not_round : (rank : List ℕ → ℕ) (p : List ℕ) (ps : List (List ℕ))
     → All (λ (e : List ℕ × List ℕ). rank e.1 < rank e.0) (edges (p ∷ ps)) → ⊥
 not_round rank p ps h =
@@ -74,7 +74,7 @@ not_cyclic cells (p ∷ ps) r c =
     (λ e there. All-contains (λ (q : List ℕ × List ℕ). rank q.1 < rank q.0) (links cells) e r.1 there)
     (edges (p ∷ ps)) c.linked)
 
--- a library has one top
+-- a library has only one top
 pub top_once : (cells : List (PlainCell Rings)) (given : Option (List ℕ)) (i j : ℕ) → AreLinked cells
     → IsTop cells given i → IsTop cells given j → i ≡ j
 top_once cells (Some name) i j l h g = once_named (names cells) i j name l.distinct h g
@@ -88,7 +88,7 @@ same_cell cells given P Q v w =
     let place : v.index ≡ w.index = top_once cells given v.index w.index v.sound.linked v.sound.is_top w.sound.is_top in
     one_answer v.is (subst (λ n. slice_get cells n ≡ Some w.cell) (sym place) w.is)
 
--- a library with the fault is not sound with few placed
+-- a library with the fault isn't sound, or places too much
 pub refused : (cells : List (PlainCell Rings)) (given : Option (List ℕ)) (f : CellFault) → IsFaultOf cells given f
     → IsSoundWith cells given (PlacesFew cells) → ⊥
 refused cells given NoCell h w =

@@ -1,4 +1,4 @@
--- Which cells none refers to.
+-- The cells to which no cell refers.
 use Rattle.std.proofs.Common.{◌≡◌, ℕ, zero, suc, ◌+◌, ◌<◌, ◌≤◌, Bool, true, false, List, [], ◌∷◌, ◌++◌, map, take, drop}
 use Rattle.std.proofs.Common.{length, ◌⊎◌, inl, inr, ⊎_elim, ◌↔◌, Some, None, Contains, refl, sym, ap, ◌∙◌, subst}
 use Rattle.std.proofs.Common.{arith}
@@ -22,7 +22,7 @@ use Rattle.lvl_cells.proofs.Orders.{rows_long, names_long}
 use Rattle.lvl_cells.proofs.Sequences.{one_answer, item_there}
 use Rattle.lvl_cells.proofs.Walks.{same_or_not}
 
--- the places before i are marked, beside those that were
+-- the targets before index i are marked, and those that were marked before
 abbrev pub AreMarked : List Bool → List Bool → List ℕ → ℕ → Type 0
 AreMarked old new places i =
     (k : ℕ)
@@ -35,7 +35,7 @@ drop_past [] (suc n) h = refl
 drop_past (x ∷ xs) zero h = absurd (omega arith)
 drop_past (x ∷ xs) (suc n) h = drop_past xs n (omega arith)
 
--- a slice of a whole list, written back
+-- a list whose slice of all items is replaced
 pub written_whole : (old new : List Bool) (n : ℕ) → length new ≡ length old → n ≡ length old
     → take n (new ++ drop (length new) old) ≡ new
 written_whole old new n h e =
@@ -64,7 +64,7 @@ referred_more old new targets i ts at inv more k = (
       (λ n. inl ((inv k).1 (w.0, w.1, omega (arith, w.2, n), w.3))) (same_or_not w.0 i)),
 )
 
--- a cell is a target exactly where its name is referred to
+-- a cell is a target exactly if some cell refers to its name
 pub referred_from_target : (cells : List (PlainCell Rings)) (targets : List (Vec ℕ Global)) (k : ℕ) (name : List ℕ)
     → AreAllTargets cells targets → slice_get (names cells) k ≡ Some name → IsTarget targets k → IsReferred cells name
 referred_from_target cells targets k name t at w =
@@ -107,7 +107,7 @@ pub root_within : (cells : List (PlainCell Rings)) (order : List ℕ) (root : �
 root_within cells order root o first =
     All-contains (λ k. k < length cells) order root o.within (contains_at order 0 root first)
 
--- none refers to the first cell of an order
+-- no cell refers to the first cell of an order
 pub first_is_free : (cells : List (PlainCell Rings)) (targets : List (Vec ℕ Global)) (order : List ℕ) (root : ℕ)
     → AreAllTargets cells targets → IsOrder cells order → slice_get order 0 ≡ Some root → IsTarget targets root → ⊥
 first_is_free cells targets order root t o first w =
@@ -120,7 +120,7 @@ first_is_free cells targets order root t o first w =
     let place = at_contains order w.0 (o.there w.0 a_low) in
     absurd (omega (arith, o.falls place.0 0 w.0 root a.0 b.0 place.1 first a.1 b.1 link))
 
--- the root, where no other cell is free, is the top
+-- if some cell refers to each cell but the root, the root is the top
 pub top_by : (cells : List (PlainCell Rings)) (targets : List (Vec ℕ Global)) (order : List ℕ) (root : ℕ)
     → AreLinked cells → AreAllTargets cells targets → IsOrder cells order → slice_get order 0 ≡ Some root
     → (HasOtherRoot targets root → ⊥) → IsTop cells None root
@@ -141,7 +141,7 @@ top_by cells targets order root l t o first alone = (
   ),
 )
 
--- two cells that none refers to
+-- two cells to which no cell refers
 pub two_tops_by : (cells : List (PlainCell Rings)) (targets : List (Vec ℕ Global)) (order : List ℕ) (root : ℕ)
     → AreLinked cells → AreAllTargets cells targets → IsOrder cells order → slice_get order 0 ≡ Some root
     → HasOtherRoot targets root → HasTwoTops cells
@@ -177,7 +177,7 @@ two_tops_by cells targets order root l t o first h =
       second_free = a_free;
     }) o2) (order_of_two root h.other)
 
--- where each unmarked cell is the root, no other is free
+-- if only the root is unmarked, some cell refers to each other cell
 pub no_other : (marks : List Bool) (targets : List (Vec ℕ Global)) (root n : ℕ)
     → ((k : ℕ) → (slice_get marks k ≡ Some true) ↔ IsTarget targets k)
     → ((j : ℕ) → j < n → slice_get marks j ≡ Some false → j ≡ root) → length marks ≤ n → length marks ≡ length targets

@@ -56,7 +56,7 @@ visit_there path start h =
     sym (slice_get-map cell_of path at.0 ∙ ap (option_map cell_of) v.1) ∙ at.1 in
     (at.0, v.0, low, v.1, cc)
 
--- a name on the round, by the place of its cell
+-- a name on the round, by the index of its cell
 place_of_name : (cells : List (PlainCell Rings)) (round : List Visit) (i j : ℕ) (v : Visit) (x : List ℕ)
     → IsDistinct bytes_eq (names cells) → All (λ w. w.cell < length cells) round → slice_get round i ≡ Some v
     → visited_name cells v ≡ x → slice_get (names cells) j ≡ Some x → j ≡ v.cell

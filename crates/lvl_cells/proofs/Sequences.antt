@@ -1,4 +1,4 @@
--- Lists, one step after another, and once round.
+-- The steps of a list from each item to the next, and round from the last to the first.
 use Rattle.std.proofs.Common.{◌≡◌, ℕ, zero, suc, ◌+◌, ◌-◌, ◌<◌, List, [], ◌∷◌, ◌++◌, drop, length, Option, Some, All}
 use Rattle.std.proofs.Common.{◌∙◌, refl, sym, ap, subst, arith}
 use Rattle.std.specs.List.{slice_get}
@@ -6,7 +6,7 @@ use Rattle.std.proofs.lemmas.List.{append-nil}
 use Rattle.std.proofs.lemmas.List.Elements.{All-nil, All-cons, All-head, All-tail, All-append}
 use Rattle.lvl_grid.specs.Winding.{last_or, path_edges, edges}
 
--- what is there is one
+-- an option has at most one value
 pub one_answer : {X : Type 0} {o : Option X} {x y : X} → o ≡ Some x → o ≡ Some y → x ≡ y
 one_answer {X} {o} {x} {y} h g = let s : Some x ≡ Some y = sym h ∙ g in cc
 
@@ -27,7 +27,7 @@ slice_get-front [] ys k x h = cc
 slice_get-front (z ∷ zs) ys zero x h = h
 slice_get-front (z ∷ zs) ys (suc k) x h = slice_get-front zs ys k x h
 
--- where each step is in R, from d on, so are all edges
+-- if each step from d on is in R, all edges are
 pub step_edges : {X : Type 0} (R : (X × X) → Type 0) (d : X) (xs : List X)
     → ((a : X) → slice_get xs 0 ≡ Some a → R (d, a))
     → ((k : ℕ) (a b : X) → slice_get xs k ≡ Some a → slice_get xs (suc k) ≡ Some b → R (a, b)) → All R (path_edges d xs)
@@ -40,7 +40,7 @@ pub last_is : {X : Type 0} (p : X) (ps : List X) → slice_get (p ∷ ps) (lengt
 last_is p [] = refl
 last_is p (q ∷ qs) = let e : length (p ∷ q ∷ qs) - 1 ≡ suc (length (q ∷ qs) - 1) = omega arith in rw e (last_is q qs)
 
--- where each step is in R, and that from the last to the first, so are the edges once round
+-- if each step is in R, and that from the last item to the first, all edges of the closed list are
 pub round_edges : {X : Type 0} (R : (X × X) → Type 0) (xs : List X)
     → ((k : ℕ) (a b : X) → slice_get xs k ≡ Some a → slice_get xs (suc k) ≡ Some b → R (a, b))
     → ((a b : X) → slice_get xs 0 ≡ Some a → slice_get xs (length xs - 1) ≡ Some b → R (b, a)) → All R (edges xs)
@@ -65,7 +65,7 @@ All-right : {X : Type 0} (P : X → Type 0) (xs ys : List X) → All P (xs ++ ys
 All-right P [] ys h = h
 All-right P (x ∷ xs) ys h = All-right P xs ys (All-tail P x (xs ++ ys) h)
 
--- the edges once round are the same, wherever the list begins
+-- the edges of a closed list are the same at whatever item it begins
 pub edges_round : {X : Type 0} (R : (X × X) → Type 0) (us vs : List X) → All R (edges (us ++ vs))
     → All R (edges (vs ++ us))
 edges_round R [] vs h = subst (λ l. All R (edges l)) (sym (append-nil vs)) h

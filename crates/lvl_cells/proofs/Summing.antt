@@ -1,4 +1,4 @@
--- Sums over chains, cell after cell, against the order of the cells.
+-- Sums over chains, one cell after another, from the end of the order of the cells.
 use Rattle.std.proofs.Common.{◌≡◌, ◌≢◌, ℕ, zero, suc, ◌+◌, ◌*◌, ◌<◌, ◌≤◌, min, true, false, cond, List, [], ◌∷◌, map}
 use Rattle.std.proofs.Common.{take, length, get_or, set, ⊎_elim, Option, Some, IfSome, All, sum_by, refl, sym, ap, ◌∙◌}
 use Rattle.std.proofs.Common.{subst, arith}
@@ -52,7 +52,7 @@ sum_more w refs ts sums j r t sum placed new h g s p n =
     let e : j + 1 ≡ suc j = omega arith in
     rw e (omega (arith, placed_more refs ts sums j r t h g, s, p, n))
 
--- in a library with distinct names, the cell at a place is the one of its name
+-- in a library with distinct names, the cell at an index is the one of its name
 pub named_at : (cells : List (PlainCell Rings)) (t : ℕ) (d : PlainCell Rings) → IsDistinct bytes_eq (names cells)
     → slice_get cells t ≡ Some d → cell_named cells d.name ≡ Some d
 named_at [] t d u h = cc
@@ -78,7 +78,7 @@ named_at (c ∷ cs) (suc t) d u h =
 capped_swap : (most u v x p : ℕ) → min most u ≡ min most v → min most (x + (u + p)) ≡ min most (x + v + p)
 capped_swap most u v x p h = omega (arith, h)
 
--- where the sums of the targets stand, the references add what the chains through them do
+-- if the sums of the targets are known, the references add what the chains through them do
 pub placed_is : (w : PlainCell Rings → ℕ) (cells : List (PlainCell Rings)) (n : ℕ) (sums : List ℕ)
     (refs : List PlainReference) (ts : List ℕ) (x : ℕ) → IsDistinct bytes_eq (names cells)
     → map (slice_get (names cells)) ts ≡ map (λ r. Some r.cell) refs
@@ -134,7 +134,7 @@ order_long cells order o =
     (λ q h. All-contains (λ k. k < length cells) order q o.within
     (Contains-from_any (λ x y e. (Decides-eqb x y).0 e) q order h))
 
--- the height in the order falls along each reference
+-- the height in the order decreases along each reference
 falls_each : (cells : List (PlainCell Rings)) (order : List ℕ) → AreLinked cells → IsOrder cells order
     → (k : ℕ) (c : PlainCell Rings) → slice_get cells k ≡ Some c → FallsFrom (height (names cells) order) c
 falls_each cells order l o k c h =
@@ -157,7 +157,7 @@ count_step w cells order k c l o h =
     (falls_each cells order l o k c h)
     (omega (arith, height_most (names cells) order c.name, order_long cells order o))
 
--- the sums of the cells from the place i of the order on stand
+-- the sums of the cells from index i of the order on are known
 abbrev pub AreSummed : (PlainCell Rings → ℕ) → List (PlainCell Rings) → List ℕ → List ℕ → ℕ → Type 0
 AreSummed w cells order sums i =
     (q k : ℕ) (c : PlainCell Rings) → i ≤ q → slice_get order q ≡ Some k → slice_get cells k ≡ Some c
@@ -230,7 +230,7 @@ row_fits cells targets k c ts t hk ht =
           omega (arith, slice_get_within (names cells) (get_or ts.items j d) from.0.cell from.2, names_long cells),
     )
 
--- once all sums stand, so does that of the top
+-- if all sums are known, that of the top is
 pub summed_at : (w : PlainCell Rings → ℕ) (cells : List (PlainCell Rings)) (order sums : List ℕ) (i top x : ℕ)
     → IsOrder cells order → AreSummed w cells order sums i → i ≤ 0 → top < length cells → slice_get sums top ≡ Some x
     → IfSome (slice_get cells top) (λ c. x ≡ min (most_placed + 1) (over_chains w cells (length cells) c))

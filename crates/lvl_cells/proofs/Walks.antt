@@ -1,4 +1,4 @@
--- The steps of a walk keep what a walk is.
+-- Each step of a walk keeps its invariant.
 use Rattle.std.proofs.Common.{◌≡◌, ◌≢◌, ℕ, zero, suc, ◌+◌, ◌<◌, ◌≤◌, true, false, ◌||◌, List, [], ◌∷◌, ◌++◌, map}
 use Rattle.std.proofs.Common.{length, get_or, set, ◌⊎◌, inl, inr, ⊎_elim, ◌↔◌, Some, All, Contains, refl, sym, ap, ◌∙◌}
 use Rattle.std.proofs.Common.{subst, arith}
@@ -51,7 +51,7 @@ contains_front xs y x h = let at = at_contains xs x h in contains_at (xs ++ y �
 pub contains_last : {X : Type 0} (xs : List X) (y : X) → Contains (xs ++ y ∷ []) y
 contains_last xs y = contains_at (xs ++ y ∷ []) (length xs) y (push_last xs y)
 
--- what holds exactly of the members of a list holds exactly of one more, where one more is marked so
+-- if the cells with a mark are those of a list, they are still so after one more cell gets the mark and is appended
 marked_more : (marks : List Mark) (xs : List ℕ) (b : ℕ) (o m : Mark) → slice_get marks b ≡ Some o
     → ((k : ℕ) → (slice_get marks k ≡ Some m) ↔ Contains xs k) → (k : ℕ)
     → (slice_get (set marks b m) k ≡ Some m) ↔ Contains (xs ++ b ∷ []) k
@@ -62,7 +62,7 @@ marked_more marks xs b o m at h k =
       λ t. set_elsewhere marks b k m n ∙ (h k).1 (⊎_elim (λ c. c) (λ e. absurd (n (sym e))) (contains_push xs b k t)),
     )) (same_or_not k b)
 
--- another mark on a cell that is not marked so changes nothing
+-- and after a cell without the mark gets another one
 marked_same : (marks : List Mark) (xs : List ℕ) (b : ℕ) (o m w : Mark) → slice_get marks b ≡ Some o → o ≢ m → w ≢ m
     → ((k : ℕ) → (slice_get marks k ≡ Some m) ↔ Contains xs k) → (k : ℕ)
     → (slice_get (set marks b w) k ≡ Some m) ↔ Contains xs k
@@ -85,7 +85,7 @@ absent_number (x ∷ xs) y h =
       | false ↦ λ e. absent_number xs y (λ k. let at = at_contains xs y k in h (contains_at (x ∷ xs) (suc at.0) y at.1))
     ] refl
 
--- the walk goes on into a new cell
+-- the walk goes into a new cell
 pub walk_into : (targets : List (Vec ℕ Global)) (marks : List Mark) (front : List Visit) (v : Visit) (b : ℕ)
     (finished : List ℕ) → IsWalk targets marks (front ++ v ∷ []) finished → IsArc targets v.cell v.done b
     → slice_get marks b ≡ Some New
@@ -133,7 +133,7 @@ arc_once targets a j b c h k =
     let same : h.0 ≡ k.0 = (let e : Some h.0 ≡ Some k.0 = sym h.1 ∙ k.1 in cc) in
     let both : Some b ≡ Some c = sym h.2 ∙ (ap (λ (ts : Vec ℕ Global). slice_get ts.items j) same ∙ k.2) in cc
 
--- the walk is past a cell that is finished
+-- the walk passes a reference to a finished cell
 pub walk_past : (targets : List (Vec ℕ Global)) (marks : List Mark) (front : List Visit) (v : Visit) (b : ℕ)
     (finished : List ℕ) → IsWalk targets marks (front ++ v ∷ []) finished → IsArc targets v.cell v.done b
     → slice_get marks b ≡ Some Done
@@ -206,7 +206,7 @@ distinct_front xs y d =
     rw (ai, aj) at
     (apart_from_distinct nat_eq (xs ++ y ∷ []) i j e d lt (omega (arith, le, length-append xs (y ∷ [])))))
 
--- the walk leaves a cell whose references are all done with
+-- the walk leaves a cell whose references were all followed
 pub walk_out : (targets : List (Vec ℕ Global)) (marks : List Mark) (front : List Visit) (v : Visit) (finished : List ℕ)
     (ts : Vec ℕ Global) → IsWalk targets marks (front ++ v ∷ []) finished → slice_get targets v.cell ≡ Some ts
     → length ts.items ≤ v.done
@@ -309,7 +309,7 @@ walk_begin targets marks root finished w new =
       falls = w.falls;
     }
 
--- at rest no cell is open
+-- if the path is empty, no cell is open
 pub none_open : (targets : List (Vec ℕ Global)) (marks : List Mark) (finished : List ℕ) (k : ℕ)
     → IsWalk targets marks [] finished → slice_get marks k ≡ Some Open → ⊥
 none_open targets marks finished k w h = let c = (w.open_ones k).0 h in absurd (omega (arith, c.1))

@@ -7,13 +7,14 @@ use Rattle.lvl_grid.specs.declared.map.Map.{Map}
 use Rattle.lvl_grid.specs.Turn.{shifted}
 use Rattle.lvl_names.specs.declared.layer.Layer.{Layer}
 
--- a figure on a Layer, at each of the shifts
+-- a shape: a figure on a Layer, drawn at each of the shifts
 pub record PlainShape (F : Type 0) : Type 0 where
   pub layer : Layer
   pub figure : F
   pub shifts : List Point
 
--- the cell of that name, reflected, turned, and placed at each place
+-- a reference to the cell of this name: for each shift, the cell is reflected about the X axis if `flip` is set, then
+-- turned, then moved by `at` and by the shift
 pub record PlainReference : Type 0 where
   pub cell : List ℕ
   pub flip : Bool
@@ -21,33 +22,34 @@ pub record PlainReference : Type 0 where
   pub at : Point
   pub shifts : List Point
 
--- a library is a list of these, in file order
+-- a cell; a library is a list of cells in file order
 pub record PlainCell (F : Type 0) : Type 0 where
   pub name : List ℕ
   pub shapes : List (PlainShape F)
   pub references : List PlainReference
 
--- the figures of a library that is kept: lists of rings
+-- a list of rings: what a library in memory has as the figure of a shape
 abbrev pub Rings : Type 0
 Rings = List (List Point)
 
--- rings are drawn as they stand
+-- the rings of such a figure: all of them
 abbrev pub each_ring : Rings → Rings
 each_ring rings = rings
 
+-- the names of the cells, in order
 abbrev pub names : {F : Type 0} → List (PlainCell F) → List (List ℕ)
 names cells = map (λ c. c.name) cells
 
--- the map of a reference at the place of one of its shifts
+-- the map by which a reference places its cell at one of its shifts
 abbrev pub placing : PlainReference → Point → Map
 placing r e = record { flip = r.flip; turn = r.turn; at = shifted r.at e }
 
--- the first cell of that name
+-- the first cell of that name, if there is one
 abbrev pub cell_named : {F : Type 0} → List (PlainCell F) → List ℕ → Option (PlainCell F)
 cell_named [] name = None
 cell_named (c ∷ cs) name = if bytes_eq c.name name then Some c else cell_named cs name
 
--- the same cell, with each figure drawn as rings
+-- the cell with each figure replaced by its rings
 abbrev pub drawn : {F : Type 0} → (F → Rings) → PlainCell F → PlainCell Rings
 drawn rings c = record {
   name = c.name;
@@ -55,10 +57,10 @@ drawn rings c = record {
   references = c.references;
 }
 
--- a library is kept with rings alone: each figure is kept as its rings
+-- the library as it is kept in memory: each figure is replaced by its rings
 abbrev pub kept : {F : Type 0} → (F → Rings) → List (PlainCell F) → List (PlainCell Rings)
 kept rings cells = map (drawn rings) cells
 
--- the shape at an index; past the end one that draws nothing
+-- the shape at index i, or one that draws nothing if there is none
 abbrev pub shape_at : List (PlainShape Rings) → ℕ → PlainShape Rings
 shape_at shapes i = get_or shapes i (record { layer = record { layer = 0; datatype = 0 }; figure = []; shifts = [] })

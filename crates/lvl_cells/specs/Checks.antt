@@ -1,16 +1,17 @@
--- What a checked library is.
+-- Libraries that were checked.
 use Rattle.std.specs.Prelude.{◌≡◌, ℕ, ◌<◌, ◌≤◌, List, length, Option, Some, slice_get}
 use Rattle.lvl_cells.specs.Cells.{PlainCell, PlainReference, Rings, each_ring, cell_named}
 use Rattle.lvl_cells.specs.Chains.{chains, placed_rings, most_placed}
 use Rattle.lvl_cells.specs.Soundness.{IsSound, IsOrder}
 
--- cells, the top among them, and the order in which each comes before those that it refers to
+-- the cells, the index of the top, and the indexes of all cells in an order
 pub record Settled : Type 0 where
   pub cells : List (PlainCell Rings)
   pub top : ℕ
   pub order : List ℕ
 
--- the library is sound for the top, in that order, and few are placed from it
+-- the library is sound for the given name of a top or for none, in its order each cell is before the cells that it
+-- refers to, and the top has at most `most_placed` chains and placed rings
 pub record IsSettled (given : Option (List ℕ)) (s : Settled) : Type 0 where
   pub cell : PlainCell Rings
   pub sound : IsSound s.cells given s.top
@@ -19,16 +20,16 @@ pub record IsSettled (given : Option (List ℕ)) (s : Settled) : Type 0 where
   pub few_chains : chains s.cells cell ≤ most_placed
   pub few_rings : placed_rings each_ring s.cells cell ≤ most_placed
 
--- few are placed from the cell
+-- the cell has at most `most_placed` chains and placed rings
 pub record PlacesFew (cells : List (PlainCell Rings)) (c : PlainCell Rings) : Type 0 where
   pub few_chains : chains cells c ≤ most_placed
   pub few_rings : placed_rings each_ring cells c ≤ most_placed
 
--- it is sound for some top that was given, or for none
+-- that holds for some given name of a top, or for none
 abbrev pub IsChecked : Settled → Type 0
 IsChecked s = (given : Option (List ℕ)) × IsSettled given s
 
--- reference j of cell i is to cell k
+-- reference j of cell i is to cell k, all three by index
 pub record IsTargetOf (cells : List (PlainCell Rings)) (i j k : ℕ) : Type 0 where
   pub cell : PlainCell Rings
   pub reference : PlainReference

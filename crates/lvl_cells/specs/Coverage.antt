@@ -1,4 +1,4 @@
--- What a cell covers, asked for one square at a time.
+-- What a cell covers, defined for one square at a time.
 use Rattle.std.specs.Prelude.{◌≡◌, ℕ, zero, suc, List, ◌⊎◌, Any, ◌-ℤ◌, IsSomeAnd}
 use Rattle.lvl_grid.specs.declared.point.Point.{Point}
 use Rattle.lvl_grid.specs.declared.point.Square.{Square}
@@ -11,19 +11,20 @@ use Rattle.lvl_cells.specs.Cells.{PlainShape, PlainReference, PlainCell, Rings, 
 abbrev pub moved_back : Point → Square → Square
 moved_back e s = record { x = s.x -ℤ e.x; y = s.y -ℤ e.y }
 
--- some ring covers the square
+-- at least one of the rings covers the square
 abbrev pub RingsCover : Rings → Square → Type 0
 RingsCover rings s = Any (λ ring. Covers ring s) rings
 
--- at one of the shape's shifts its figure covers the square; holds says which squares a figure covers
+-- the shape is on the Layer, and its figure, moved by one of its shifts, covers the square s; `holds` says which
+-- squares a figure covers
 abbrev pub ShapeCovers : {F : Type 0} → (F → Square → Type 0) → Layer → Square → PlainShape F → Type 0
 ShapeCovers holds layer s h = (h.layer ≡ layer) × Any (λ e. holds h.figure (moved_back e s)) h.shifts
 
--- a square whose image is s is in the set
+-- under the reference at the shift e, s is the image of a square for which P holds
 abbrev pub PullsBack : (Square → Type 0) → PlainReference → Square → Point → Type 0
 PullsBack P r s e = (t : Square) × (image_square (placing r e) t ≡ s) × P t
 
--- the cell covers the square on the Layer, through at most n references one after another
+-- the cell covers the square on the Layer, by its own shapes or through a chain of at most n references
 abbrev pub CoversWithin : {F : Type 0} → (F → Square → Type 0) → List (PlainCell F) → Layer → ℕ → PlainCell F → Square
     → Type 0
 CoversWithin holds cells layer zero c s = Any (ShapeCovers holds layer s) c.shapes
@@ -32,7 +33,7 @@ CoversWithin holds cells layer (suc n) c s = Any (ShapeCovers holds layer s) c.s
     (λ r. IsSomeAnd (cell_named cells r.cell)
     (λ d. Any (PullsBack (CoversWithin holds cells layer n d) r s) r.shifts)) c.references
 
--- through however many
+-- the cell covers the square on the Layer, through a chain of any number of references
 abbrev pub CellCovers : {F : Type 0} → (F → Square → Type 0) → List (PlainCell F) → Layer → PlainCell F → Square
     → Type 0
 CellCovers holds cells layer c s = (n : ℕ) × CoversWithin holds cells layer n c s

@@ -1,4 +1,4 @@
--- Which fault a library has.
+-- The faults of a library (own rules), and the names that they report.
 use Rattle.std.specs.Prelude.{◌≡◌, ◌≢◌, ℕ, ◌<◌, ◌≤◌, List, [], ◌∷◌, ◌++◌, map, All, Contains, slice_get, Option, Some}
 use Rattle.std.specs.Prelude.{None}
 use Rattle.std.specs.List.{IsDistinct}
@@ -11,7 +11,7 @@ use Rattle.lvl_cells.specs.declared.fault.CellFault.{CellFault}
 use Rattle.lvl_cells.specs.declared.fault.CellFault.TheVariants.{NoCell, DuplicateCell, MissingCell, Cycle, TopMissing}
 use Rattle.lvl_cells.specs.declared.fault.CellFault.TheVariants.{ManyTops, TooManyPlacements, TooManyRings}
 
--- the first name that an earlier one equals
+-- the name is the first item of the list that equals an earlier one
 pub record IsFirstRepeat (all : List (List ℕ)) (name : List ℕ) : Type 0 where
   pub before : List (List ℕ)
   pub after : List (List ℕ)
@@ -19,7 +19,7 @@ pub record IsFirstRepeat (all : List (List ℕ)) (name : List ℕ) : Type 0 wher
   pub distinct : IsDistinct bytes_eq before
   pub repeated : Contains before name
 
--- the first reference whose cell is not there
+-- in file order, the first reference to a name that no cell has is one of the cell `from` to `name`
 pub record IsFirstMissing (cells : List (PlainCell Rings)) (from name : List ℕ) : Type 0 where
   pub before : List (List ℕ × List ℕ)
   pub after : List (List ℕ × List ℕ)
@@ -27,8 +27,8 @@ pub record IsFirstMissing (cells : List (PlainCell Rings)) (from name : List ℕ
   pub named : AreNamed cells before
   pub missing : ¬ Contains (names cells) name
 
--- distinct cells, each referring to the next and the last to the first; none of them is earlier in the file than the
--- first
+-- the list has the names of distinct cells, each referring to the next and the last to the first; the first of the
+-- list is the one that comes first in the file
 pub record IsCycle (cells : List (PlainCell Rings)) (round : List (List ℕ)) : Type 0 where
   pub some : round ≢ []
   pub distinct : IsDistinct bytes_eq round
@@ -36,7 +36,7 @@ pub record IsCycle (cells : List (PlainCell Rings)) (round : List (List ℕ)) : 
   pub first : (i j : ℕ) (name : List ℕ) → slice_get (names cells) i ≡ slice_get round 0
       → slice_get (names cells) j ≡ Some name → Contains round name → i ≤ j
 
--- two cells to which none refers
+-- there are two cells to which no cell refers
 pub record HasTwoTops (cells : List (PlainCell Rings)) : Type 0 where
   pub first : ℕ
   pub second : ℕ
@@ -48,7 +48,7 @@ pub record HasTwoTops (cells : List (PlainCell Rings)) : Type 0 where
   pub first_free : ¬ IsReferred cells first_name
   pub second_free : ¬ IsReferred cells second_name
 
--- the library is sound for a top, of which P holds
+-- the library is sound for the given name of a top or for none, and P holds of the top
 pub record IsSoundWith (cells : List (PlainCell Rings)) (given : Option (List ℕ))
     (P : PlainCell Rings → Type 0) : Type 0 where
   pub index : ℕ
@@ -57,7 +57,7 @@ pub record IsSoundWith (cells : List (PlainCell Rings)) (given : Option (List �
   pub is : slice_get cells index ≡ Some cell
   pub counts : P cell
 
--- the fault holds, and none before it
+-- the library has the fault, and none of those above it here
 abbrev pub IsFaultOf : List (PlainCell Rings) → Option (List ℕ) → CellFault → Type 0
 IsFaultOf cells given NoCell = cells ≡ []
 IsFaultOf cells given (DuplicateCell name) = IsFirstRepeat (names cells) name.items

@@ -1,4 +1,4 @@
-//! A library under construction, cell by cell. Readers of every format make theirs by it.
+//! A library under construction, cell by cell. The readers of both formats use it.
 ghost use Rattle.std.specs.Prelude.{◌≡◌, [], ◌∷◌, ◌++◌, length, OnOk, OnErr};
 ghost use Rattle.lvl_grid.specs.Winding.{IsRing};
 ghost use Rattle.lvl_cells.specs.Building.{no_cell, with_shape, with_reference};
@@ -11,13 +11,13 @@ use std::alloc::{AllocError, Global};
 use std::marker::Model;
 use std::mem;
 
-/// The most cells that a library may have (own rule).
+/// The greatest number of cells of a library (own rule). [`Builder`] doesn't test it: readers do.
 pub const MOST_CELLS: usize = 1_048_576;
 
-/// The cells that are whole, in file order, and the cell that is open.
+/// The cells that are finished, in file order, and the cell that is open.
 ///
-/// A builder begins with no cell; [`Builder::open`] begins one, [`Builder::close`] makes it one of
-/// the library's. An addition for which there is no memory leaves what was built as it was.
+/// [`Builder::open`] begins a cell, [`Builder::close`] finishes it. If there is no memory for an
+/// addition, the builder stays as it was.
 #[derive(Debug, Drop)]
 pub struct Builder {
     cells: Vec<Cell>,
@@ -43,7 +43,7 @@ fn empty_cell(alloc: Global) -> Cell
 }
 
 impl Builder {
-    /// No cell yet.
+    /// A builder without cells.
     pub fn new(alloc: Global) -> Builder
         ensures { result ≡ record { cells = []; current = no_cell } }
     {
@@ -53,14 +53,14 @@ impl Builder {
         }
     }
 
-    /// How many cells are whole.
+    /// The number of cells that are finished.
     pub fn len(&self) -> usize
         ensures { result ≡ length self.now.cells }
     {
         self.cells.len()
     }
 
-    /// Opens a cell of this name, in place of the one that was open.
+    /// Opens an empty cell of this name. If another cell was open, it is dropped.
     pub fn open(&mut self, alloc: Global, name: Vec<u8>)
         ensures { self.new ≡ record {
           cells = self.old.cells;
@@ -74,7 +74,7 @@ impl Builder {
         };
     }
 
-    /// Adds a shape of one ring to the open cell.
+    /// Adds a shape of one ring to the open cell. The ring is given by its points.
     pub fn add_ring(
         &mut self,
         layer: Layer,
@@ -109,7 +109,8 @@ impl Builder {
         self.current.shapes.push_rings(layer, rings, shifts)
     }
 
-    /// Adds a reference to the open cell. One to the same cell as the reference before shares its name.
+    /// Adds a reference to the open cell. If the reference before is to the same cell, both share
+    /// the name.
     pub fn add_reference(&mut self, mut reference: Reference) -> Result<(), AllocError>
         ensures added { OnOk result
             (self.new ≡ record { cells = self.old.cells; current = with_reference self.old.current reference }) }
@@ -122,7 +123,7 @@ impl Builder {
         Ok(())
     }
 
-    /// Makes the open cell the last of the library's; without memory for it, it stays open.
+    /// Finishes the open cell. If there is no memory for it, it stays open.
     pub fn close(&mut self, alloc: Global) -> Result<(), AllocError>
         ensures closed { OnOk result
             (self.new ≡ record { cells = self.old.cells ++ self.old.current ∷ []; current = no_cell }) }
@@ -134,7 +135,7 @@ impl Builder {
         Ok(())
     }
 
-    /// The cells that are whole, as a library.
+    /// The library of the cells that are finished, without the one that is open.
     pub fn finish(self) -> Library
         ensures { result ≡ self.cells }
     {

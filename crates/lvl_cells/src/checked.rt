@@ -1,4 +1,4 @@
-//! The check that a library is sound for its top, and that few are placed from it.
+//! The check that a library is sound for its top and that the top doesn't place too much.
 ghost use Rattle.std.specs.Prelude.{◌≡◌, ◌≢◌, ◌<◌, length, IfOk, IfErr, IfSome, IfNone, option_copied};
 ghost use Rattle.lvl_cells.specs.Checks.{IsSettled, IsChecked, PlacesFew, IsTargetOf, HasReference};
 ghost use Rattle.lvl_cells.specs.Faults.{IsFaultOf, IsSoundWith};
@@ -17,10 +17,11 @@ use lvl_refusal::Cause;
 use std::alloc::Global;
 use std::marker::Model;
 
-/// The most chains, and the most placed rings.
+/// The greatest number of chains from the top, and of placed rings (own rule).
 const MOST_PLACED: u64 = 16_777_216;
 
-/// A library that is sound for its top, and few are placed from it; [`check`] alone makes one.
+/// A library that is sound for its top and within the limits on what the top places. Only [`check`]
+/// makes one.
 #[derive(Debug, Drop)]
 pub struct Checked {
     cells: Vec<Cell>,
@@ -41,7 +42,7 @@ impl Model for Checked {
     ghost invariant = { IsKeptSettled };
 }
 
-/// The top, the order and the targets of the cells, if they are sound and few are placed.
+/// The top, the order and the targets of the cells, if [`check`] accepts them.
 fn examine(
     alloc: Global,
     cells: &[Cell],
@@ -69,13 +70,13 @@ fn examine(
     Ok((top, order, targets))
 }
 
-/// The library, if it is sound for the top and few are placed from it.
+/// Checks that a library is sound for its top and that the top doesn't place too much (own rules).
 ///
-/// A library is sound where it has a cell, the cells' names are distinct, each reference names a
-/// cell, no cell is placed in itself through any number of references, and there is a top: the
-/// cell of the given name or, with none given, the only one to which none refers. At most
-/// 16,777,216 cells, the top counted once, and as many rings may be placed from the top. Of the
-/// faults the first in the order of [`CellFault`] is answered.
+/// A library is sound if it has a cell, the names of its cells are distinct, each reference names a
+/// cell, no cell is placed in itself through any number of references, and there is a top: the cell
+/// of the given name or, if `top` is None, the only cell to which no cell refers. The top may place
+/// at most 16,777,216 cells, itself included, and at most 16,777,216 rings. If the library has
+/// several faults, the first in the order of [`CellFault`] is reported.
 pub fn check(
     alloc: Global,
     library: Library,
@@ -101,7 +102,7 @@ pub fn check(
 }
 
 impl Checked {
-    /// The place of the top among the cells.
+    /// The index of the top among the cells.
     pub fn top(&self) -> usize
         ensures value { result ≡ self.now.top }
         ensures checked { IsChecked self.now }
@@ -117,7 +118,7 @@ impl Checked {
         &self.cells
     }
 
-    /// The places of the cells, each once and before those that it refers to.
+    /// The indexes of the cells, each once and before those of the cells that it refers to.
     pub fn order(&self) -> &[usize]
         ensures value { result.now ≡ self.now.order }
         ensures sorted { IsOrder self.now.cells self.now.order }
@@ -125,8 +126,8 @@ impl Checked {
         &self.order
     }
 
-    /// The place of the cell that a reference of a cell names, both by their places; None past
-    /// either list.
+    /// The index of the cell to which a reference refers, given the index of the cell that has the
+    /// reference and that of the reference in this cell. None if there is no such reference.
     pub fn target(&self, cell: usize, reference: usize) -> Option<usize>
         ensures target { IfSome result (IsTargetOf self.now.cells cell reference) }
         ensures past { IfNone result (¬ HasReference self.now.cells cell reference) }

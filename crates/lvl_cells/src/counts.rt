@@ -1,4 +1,4 @@
-//! How many cells and rings a top places. Counts stop growing once they pass the limit.
+//! How many cells and rings a top places. Counts are capped at one more than the limit.
 ghost use Rattle.std.specs.Prelude.{◌≡◌, ◌<◌, ◌≤◌, ◌+◌, ◌*◌, length, min, slice_get, All, IfOk, IfSome, OnErr};
 ghost use Rattle.lvl_cells.specs.Cells.{each_ring};
 ghost use Rattle.lvl_cells.specs.Chains.{over_chains, own_rings, most_placed};
@@ -8,24 +8,24 @@ ghost use Rattle.lvl_cells.specs.inside.Steps.{AreAllTargets, weigh, placed_sum}
 use crate::library::Cell;
 use std::alloc::{AllocError, Global};
 
-/// One past the most chains, and the most placed rings.
+/// One more than the greatest number of chains, and of placed rings.
 const PAST_MOST: u64 = 16_777_217;
 
-/// What is added up over the chains of a cell.
+/// What is added up over chains: 1 for each, or the number of rings of its last cell.
 #[derive(Clone, Copy)]
 pub(crate) enum Weight {
     One,
     OwnRings,
 }
 
-/// The product; past the limit it is one more than that.
+/// The product, capped at one more than the limit.
 fn capped_product(a: u64, b: u64) -> u64
     ensures { result ≡ min (most_placed + 1) (a * b) }
 {
     (a.min(PAST_MOST) * b.min(PAST_MOST)).min(PAST_MOST)
 }
 
-/// The sum; past the limit it is one more than that.
+/// The sum, capped at one more than the limit.
 fn capped_sum(a: u64, b: u64) -> u64
     requires left { a ≤ most_placed + 1 }
     requires right { b ≤ most_placed + 1 }
@@ -34,7 +34,7 @@ fn capped_sum(a: u64, b: u64) -> u64
     (a + b).min(PAST_MOST)
 }
 
-/// The rings of the cell, each counted at each of its shape's shifts.
+/// The number of rings that the cell itself draws: each counts once for each shift of its shape.
 fn rings_of(cell: &Cell) -> u64
     ensures { result ≡ min (most_placed + 1) (own_rings each_ring cell.now) }
 {
@@ -47,7 +47,7 @@ fn rings_of(cell: &Cell) -> u64
     sum
 }
 
-/// What one chain that ends in the cell adds.
+/// What a chain that ends in the cell adds.
 fn weight_of(weight: Weight, cell: &Cell) -> u64
     ensures { result ≡ min (most_placed + 1) (weigh weight cell.now) }
 {
@@ -57,7 +57,8 @@ fn weight_of(weight: Weight, cell: &Cell) -> u64
     }
 }
 
-/// The weight, added up over the chains from the cell, by the sums of the cells that it refers to.
+/// The sum of the weights over the chains from the cell, given the sums of the cells that it refers
+/// to.
 fn sum_of(weight: Weight, cell: &Cell, targets: &[usize], sums: &[u64]) -> u64
     requires row { length targets.now ≡ length cell.now.references }
     requires within { All (λ t. t < length sums.now) targets.now }
@@ -72,8 +73,8 @@ fn sum_of(weight: Weight, cell: &Cell, targets: &[usize], sums: &[u64]) -> u64
     sum
 }
 
-/// The weight, added up over the chains from the cell at `top`; past the limit it is one more than
-/// that.
+/// The sum of the weights over the chains from the cell at index `top`, capped at one more than the
+/// limit.
 pub(crate) fn count_from(
     alloc: Global,
     weight: Weight,

@@ -2,12 +2,12 @@
 //! is sound.
 //!
 //! A [`Library`] is what a file draws: named cells in file order. A [`Cell`] has [`Shapes`], each
-//! rings on a layer at a list of shifts, and [`Reference`]s, each of which places another cell by
-//! its name, reflected, turned and at a list of shifts. A [`Builder`] makes a library cell by cell.
-//! [`check`] finds the top, resolves the names and refuses what is not sound or places too much;
-//! what it lets through is a [`Checked`].
+//! a list of rings on a layer at a list of shifts, and [`Reference`]s, each to another cell by its
+//! name, reflected, turned, and placed at a list of shifts. A [`Builder`] makes a library cell by
+//! cell. [`check`] finds the top, resolves the names, and refuses a library that isn't sound or
+//! places too much. What it returns is a [`Checked`].
 //!
-//! `METAL` is the layer 1, datatype 0:
+//! Here `METAL` is layer 1, datatype 0:
 //!
 //! ```
 //! let ring = Ring::rectangle(alloc, Point { x: 0, y: 0 }, Point { x: 4, y: 2 })?;

@@ -1,4 +1,4 @@
-//! A library as it was drawn: cells, with the shapes and the references to cells that each has.
+//! Libraries: cells with their shapes and their references to other cells.
 ghost use Rattle.std.specs.Prelude.{◌≡◌, ◌↔◌, All, IsSome, IfSome};
 ghost use Rattle.lvl_grid.specs.Turn.{shifted, FitsPoint};
 
@@ -8,8 +8,8 @@ use lvl_names::{Name, Offsets};
 use std::alloc::AllocError;
 use std::marker::Model;
 
-/// A cell by its name, reflected, turned, and placed at each of its places: `at`, moved by each
-/// of the shifts.
+/// A reference to a cell by its name. The cell is reflected, then turned, then placed at each place
+/// of the reference: `at` moved by each of the shifts.
 #[derive(Debug, Drop)]
 pub struct Reference {
     cell: Name,
@@ -32,8 +32,8 @@ impl Model for Reference {
 }
 
 impl Reference {
-    /// A reference to the cell of that name, or None where one of its places, each `at` moved by
-    /// one of the shifts, is outside 64 signed bits.
+    /// A reference to the cell of that name, or None if one of its places, each `at` moved by one
+    /// of the shifts, is outside 64 signed bits.
     pub fn new(cell: Name, flip: bool, turn: Turn, at: Point, shifts: Offsets) -> Option<Reference>
         ensures some { IsSome result ↔ All (λ e. FitsPoint (shifted at e)) shifts }
         ensures same { IfSome result
@@ -58,7 +58,7 @@ impl Reference {
         self.cell.as_bytes()
     }
 
-    /// Takes its name from the other, where both name one cell, so that the name is kept once.
+    /// Shares the name of the other if both name the same cell, so that its bytes are kept once.
     pub(crate) fn share_name(&mut self, other: &Reference) -> Result<(), AllocError>
         ensures { self.new ≡ self.old }
     {
@@ -68,14 +68,14 @@ impl Reference {
         Ok(())
     }
 
-    /// Whether the cell is reflected about the X axis, before it is turned.
+    /// Whether the cell is reflected about the X axis before it is turned.
     pub fn flip(&self) -> bool
         ensures { result ≡ self.now.flip }
     {
         self.flip
     }
 
-    /// How the cell is turned, before it is moved to a place.
+    /// How the cell is turned before it is moved to a place.
     pub fn turn(&self) -> Turn
         ensures { result ≡ self.now.turn }
     {
@@ -89,8 +89,8 @@ impl Reference {
         self.at
     }
 
-    /// How far each of its places is from the first; `at` moved by any of them is within 64
-    /// signed bits.
+    /// The displacement of each of its places from the first one. `at` moved by any of them is
+    /// within 64 signed bits.
     pub fn shifts(&self) -> &Offsets
         ensures all { result.now ≡ self.now.shifts }
         ensures in_range { All (λ e. FitsPoint (shifted self.now.at e)) self.now.shifts }

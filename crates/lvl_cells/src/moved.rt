@@ -1,4 +1,4 @@
-//! A ring where a shape has it: points that are kept once, moved.
+//! Rings of shapes: points that shapes can share, with a displacement.
 ghost use Rattle.std.specs.Prelude.{◌≡◌, ◌↔◌, length, map, slice_get, All, Any, OnOk, OnErr, IfOk, Err};
 ghost use Rattle.std.specs.Prelude.{SomeIff, ◌++◌, ◌∷◌, []};
 ghost use Rattle.lvl_grid.specs.declared.point.Square.{Square as GridSquare};
@@ -11,11 +11,11 @@ use lvl_grid::{Map, PlaceFault, Point, Rings};
 use std::alloc::{AllocError, Global};
 use std::marker::Model;
 
-/// Not moved.
+/// No displacement.
 pub(crate) const ORIGIN: Point = Point { x: 0, y: 0 };
 
-/// The points of a ring, each moved by the same displacement. They are not copied, so shapes that
-/// draw the same points at several places keep them once.
+/// A ring as a shape has it: borrowed points, each moved by the same displacement. Shapes that draw
+/// the same points at different places share them.
 #[derive(Debug, Drop)]
 pub struct MovedRing<'a> {
     points: &'a [Point],
@@ -35,7 +35,7 @@ impl<'a> Model for MovedRing<'a> {
     ghost invariant = { λ r. IsMovable r.by r.points.now };
 }
 
-/// The point moved by another, or None where that is outside 64 bits.
+/// The point moved by another, or None if that is outside 64 bits.
 pub(crate) fn moved(point: Point, by: Point) -> Option<Point>
     ensures { SomeIff result (FitsPoint (shifted by point)) (shifted by point) }
 {
@@ -45,7 +45,7 @@ pub(crate) fn moved(point: Point, by: Point) -> Option<Point>
 }
 
 impl<'a> MovedRing<'a> {
-    /// These points, moved.
+    /// The ring of these points, moved.
     pub(crate) fn new(points: &'a [Point], by: Point) -> MovedRing<'a>
         requires { IsMovable by points.now }
         ensures { result ≡ map (shifted by) points.now }
@@ -53,14 +53,14 @@ impl<'a> MovedRing<'a> {
         MovedRing { points, by }
     }
 
-    /// How many points it has.
+    /// The number of points.
     pub fn len(&self) -> usize
         ensures { result ≡ length self.now }
     {
         self.points.len()
     }
 
-    /// The point at this index; None past the last.
+    /// The point at this index, moved, or None if there is none.
     pub fn get(&self, k: usize) -> Option<Point>
         ensures { result ≡ slice_get self.now k }
     {
@@ -71,7 +71,7 @@ impl<'a> MovedRing<'a> {
         moved(*point, self.by)
     }
 
-    /// A copy of its points.
+    /// A copy of its points, moved.
     pub fn to_points(&self, alloc: Global) -> Result<Vec<Point>, AllocError>
         ensures { IfOk result (λ points. points.items ≡ self.now) }
     {
@@ -85,9 +85,9 @@ impl<'a> MovedRing<'a> {
         Ok(points)
     }
 
-    /// Appends the image of the ring to others, each of its points moved by `shift` before it is mapped,
-    /// as [`Rings::push_placed`] does. It copies the ring only where both displacements together are outside
-    /// 64 bits.
+    /// Appends the image of the ring to `rings`, each of its points moved by `shift` before it is
+    /// mapped, as [`Rings::push_placed`] does. Copies the points only if the sum of both
+    /// displacements is outside 64 bits.
     pub fn push_placed(
         &self,
         alloc: Global,

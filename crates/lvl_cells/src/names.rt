@@ -1,4 +1,4 @@
-//! An index of the cells' names.
+//! An index of the names of cells.
 ghost use Rattle.std.specs.Prelude.{IfOk, IfErr};
 ghost use Rattle.std.specs.List.{IsDistinct};
 ghost use Rattle.std.specs.Str.{bytes_eq};
@@ -12,7 +12,8 @@ use lvl_refusal::Cause;
 use std::alloc::Global;
 use std::collections::BTreeMap;
 
-/// The index of each cell by its name, or the first name that an earlier cell has.
+/// A map from the name of each cell to its index. Refuses with [`CellFault::DuplicateCell`] and the
+/// first name that an earlier cell has, if there is one.
 pub fn index_of<'a>(
     alloc: Global,
     cells: &'a [Cell],

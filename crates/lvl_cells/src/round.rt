@@ -1,4 +1,4 @@
-//! A round of references, and its names.
+//! Rounds: cells that refer to one another in a cycle, and their names.
 ghost use Rattle.std.specs.Prelude.{◌≡◌, ◌<◌, ◌++◌, length, map, All, Contains, IfOk, OnOk, OnErr};
 ghost use Rattle.lvl_cells.specs.Faults.{IsCycle};
 ghost use Rattle.lvl_cells.specs.Soundness.{AreLinked};
@@ -8,7 +8,7 @@ use crate::library::Cell;
 use crate::walk::Visit;
 use std::alloc::{AllocError, Global};
 
-/// The path from the cell `start` on.
+/// The path from its visit of the cell `start` on.
 pub(crate) fn round_from(path: &[Visit], start: usize) -> &[Visit]
     requires { Contains (map (λ v. v.cell) path.now) start }
     ensures { IsFrom path.now start result.now }
@@ -21,7 +21,7 @@ pub(crate) fn round_from(path: &[Visit], start: usize) -> &[Visit]
     unreachable!()
 }
 
-/// The place of the visit whose cell comes first in the file.
+/// The index of the visit whose cell comes first in the file.
 fn first_of(round: &[Visit]) -> usize
     requires { 0 < length round.now }
     ensures { IsFirstIn round.now result }
@@ -35,7 +35,7 @@ fn first_of(round: &[Visit]) -> usize
     first
 }
 
-/// Adds the names of the cells that are visited.
+/// Appends the names of the cells that are visited.
 fn add_names(
     alloc: Global,
     cells: &[Cell],

@@ -1,5 +1,5 @@
-//! The shapes of a cell in one piece: the rings of all of them in one list, and for each shape
-//! which of them it has.
+//! The shapes of a cell: the rings of all shapes are in one list, and each shape has a range of its
+//! indexes.
 ghost use Rattle.std.specs.Prelude.{◌≡◌, ◌<◌, ◌+◌, ◌^◌, ◌++◌, ◌∷◌, [], length, get_or, slice_get, IsTrue, ◌↔◌, IfOk};
 ghost use Rattle.std.specs.Prelude.{All, OnOk, OnErr};
 ghost use Rattle.lvl_grid.specs.Winding.{IsRing};
@@ -14,9 +14,9 @@ use lvl_names::{Layer, Offsets};
 use std::alloc::{AllocError, Global};
 use std::marker::Model;
 
-/// A shape: its Layer, the indexes of its first ring and after its last, the number of its displacement
-/// and that of its shifts. A number is zero for none, or for the zero shift alone, and else one more than an
-/// index.
+/// A shape: its Layer, the indexes of its rings (from `begin` up to `end`, which is excluded), and
+/// the numbers of its displacement and of its list of shifts. The number 0 means no displacement,
+/// or the zero shift alone; any other is one more than an index of [`Shapes`]' lists.
 #[derive(Clone, Copy, Debug)]
 pub(crate) struct Span {
     pub layer: Layer,
@@ -26,13 +26,14 @@ pub(crate) struct Span {
     pub shifts: u32,
 }
 
-/// The shapes of a cell, in file order: each is rings on a Layer, at each of a list of shifts.
+/// The shapes of a cell in file order. Each is a list of rings on a Layer, drawn at each of a list
+/// of shifts.
 ///
 /// A boundary, a polygon or a rectangle is a shape of one ring, a path a shape of the rings of its
-/// bands. A shape takes no allocation of its own: a boundary at one place takes 32 bytes and its
-/// points, or 40 bytes if these are the points of the shape before it, moved: then they are kept once. A list
-/// of shifts is kept once where shapes one after another have the same lattice; one that is shared is never
-/// copied.
+/// bands. A shape has no allocation of its own. A boundary at one place takes 32 bytes and its
+/// points, or 40 bytes if its points are those of the shape before, moved: then both shapes share
+/// them. Consecutive shapes with the same lattice share one list of shifts, and a shared list is
+/// never copied.
 #[derive(Debug, Drop)]
 pub struct Shapes {
     rings: Rings,
@@ -53,15 +54,14 @@ impl Model for Shapes {
     ghost invariant = { λ s. All (IsSpan s.rings s.moves.items s.shifts.items) s.spans.items };
 }
 
-/// A count as a span keeps it. No cell has 2^32 rings or lists of shifts: there is no memory for
-/// them (own rule).
+/// A count as a span stores it. 2^32 or more is reported as out of memory (own rule).
 pub(crate) fn kept_count(count: usize) -> Result<u32, AllocError>
     ensures { IfOk result (λ kept. (kept ≡ count) × (kept < 2 ^ 32)) }
 {
     u32::try_from(count).map_err(|_| AllocError)
 }
 
-/// The sum of two counts, as a span keeps it.
+/// The sum of two counts, as a span stores it.
 pub(crate) fn kept_sum(count: usize, more: usize) -> Result<u32, AllocError>
     ensures { IfOk result (λ kept. (kept ≡ count + more) × (kept < 2 ^ 32)) }
 {
@@ -71,7 +71,8 @@ pub(crate) fn kept_sum(count: usize, more: usize) -> Result<u32, AllocError>
     }
 }
 
-/// The number of the shifts among those that are kept, to which they are added if need be.
+/// The number of a list of shifts. Keeps the list, unless it is the zero shift alone or the same
+/// lattice as the last that was kept.
 fn number_of(kept: &mut Vec<Offsets>, shifts: &Offsets) -> Result<u32, AllocError>
     ensures number { IfOk result (λ number. HasNumber kept.new.items number shifts.now) }
     ensures before { GoesOn kept.old.items kept.new.items }
@@ -89,7 +90,7 @@ fn number_of(kept: &mut Vec<Offsets>, shifts: &Offsets) -> Result<u32, AllocErro
 }
 
 impl Shapes {
-    /// No shapes.
+    /// An empty list. Allocates nothing.
     pub fn new(alloc: Global) -> Shapes
         ensures { result ≡ [] }
     {
@@ -101,14 +102,14 @@ impl Shapes {
         }
     }
 
-    /// How many there are.
+    /// The number of shapes.
     pub fn len(&self) -> usize
         ensures { result ≡ length self.now }
     {
         self.spans.len()
     }
 
-    /// Whether there is none.
+    /// Whether there is no shape.
     pub fn is_empty(&self) -> bool
         ensures { IsTrue result ↔ (self.now ≡ []) }
     {
@@ -123,7 +124,7 @@ impl Shapes {
         self.spans[i].layer
     }
 
-    /// How many rings the shape at this index has.
+    /// The number of rings of the shape at this index.
     pub fn ring_count(&self, i: usize) -> usize
         requires { i < length self.now }
         ensures { result ≡ length (shape_at self.now i).figure }
@@ -132,7 +133,7 @@ impl Shapes {
         (span.end - span.begin) as usize
     }
 
-    /// The points of a ring of the shape at this index, both by their indexes.
+    /// Ring `j` of shape `i`.
     pub fn ring(&self, i: usize, j: usize) -> MovedRing<'_>
         requires shape { i < length self.now }
         requires ring { j < length (shape_at self.now i).figure }
@@ -144,7 +145,7 @@ impl Shapes {
         MovedRing::new(points, move_of(&self.moves, span.moved))
     }
 
-    /// At how many shifts the shape at this index is drawn.
+    /// The number of shifts of the shape at this index.
     pub fn shift_count(&self, i: usize) -> u64
         requires { i < length self.now }
         ensures { result ≡ length (shape_at self.now i).shifts }
@@ -155,7 +156,7 @@ impl Shapes {
         }
     }
 
-    /// One of the shifts of the shape at this index, by its own index; None past the last.
+    /// Shift `k` of shape `i`, or None if there is none.
     pub fn shift(&self, i: usize, k: u64) -> Option<Point>
         requires { i < length self.now }
         ensures { result ≡ slice_get (shape_at self.now i).shifts k }
@@ -166,7 +167,7 @@ impl Shapes {
         }
     }
 
-    /// The least and the greatest of the coordinates of the shifts of the shape at this index.
+    /// The least and the greatest coordinates of the shifts of the shape at this index.
     pub fn reach(&self, i: usize) -> (Point, Point)
         requires { i < length self.now }
         ensures { All (IsBetween result.0 result.1) (shape_at self.now i).shifts }
@@ -177,7 +178,7 @@ impl Shapes {
         }
     }
 
-    /// Adds a shape of one ring.
+    /// Adds a shape of one ring. If there is no memory for it, nothing changes.
     pub fn push_ring(
         &mut self,
         layer: Layer,
@@ -202,7 +203,7 @@ impl Shapes {
         Ok(())
     }
 
-    /// Adds a shape of these rings.
+    /// Adds a shape of these rings. If there is no memory for it, nothing changes.
     pub fn push_rings(
         &mut self,
         layer: Layer,

@@ -1,4 +1,4 @@
-//! Figures that are kept once: rings that are those of the shape before, moved.
+//! Shared figures: rings that are those of the shape before, moved, are kept once.
 ghost use Rattle.std.specs.Prelude.{◌≡◌, ◌<◌, ◌+◌, ◌∷◌, [], length, IsTrue, IfOk, IfSome};
 ghost use Rattle.lvl_grid.specs.Winding.{IsRing};
 ghost use Rattle.lvl_cells.specs.inside.Spans.{displaced, GoesOn, HasMove, IsAgain, IsFigure, IsStretch};
@@ -8,7 +8,8 @@ use crate::shapes::{Span, kept_count, kept_sum};
 use lvl_grid::{Point, Ring, Rings};
 use std::alloc::AllocError;
 
-/// Which of the rings that are kept a figure is, and by how much they are moved.
+/// A figure: the kept rings with an index from `begin` up to `end`, which is excluded, moved by
+/// `by`.
 #[derive(Clone, Copy, Debug)]
 pub(crate) struct KeptFigure {
     pub begin: u32,
@@ -16,14 +17,14 @@ pub(crate) struct KeptFigure {
     pub by: Point,
 }
 
-/// How far the second point is from the first, or None where that is outside 64 bits.
+/// The displacement from the first point to the second, or None if it is outside 64 bits.
 fn distance(from: Point, to: Point) -> Option<Point> {
     let x = to.x.checked_sub(from.x)?;
     let y = to.y.checked_sub(from.y)?;
     Some(Point { x, y })
 }
 
-/// Whether a ring is the one that is kept, moved.
+/// Whether a ring is the kept one, moved by `by`.
 fn is_again(kept: &[Point], by: Point, ring: &[Point]) -> bool
     ensures { IsTrue result → IsAgain kept.now by ring.now }
 {
@@ -41,7 +42,7 @@ fn is_again(kept: &[Point], by: Point, ring: &[Point]) -> bool
     true
 }
 
-/// By how much a ring is the one that is kept, moved, if it is.
+/// The displacement from the kept ring to this one, or None if this one isn't the kept one, moved.
 fn displacement(kept: &[Point], ring: &[Point]) -> Option<Point>
     ensures { IfSome result (λ by. IsAgain kept.now by ring.now) }
 {
@@ -52,7 +53,7 @@ fn displacement(kept: &[Point], ring: &[Point]) -> Option<Point>
     Some(by)
 }
 
-/// The figure of one ring, if that is the ring of the last shape, moved.
+/// The figure of one ring, if it is the only ring of the last shape, moved.
 fn ring_again(rings: &Rings, last: &Span, ring: &[Point]) -> Option<KeptFigure>
     requires { IsStretch rings.now last.now }
     ensures { IfSome result (λ f. IsFigure rings.now f (ring.now ∷ [])) }
@@ -68,7 +69,8 @@ fn ring_again(rings: &Rings, last: &Span, ring: &[Point]) -> Option<KeptFigure>
     })
 }
 
-/// The figure of several rings, if they are those of the last shape, all moved alike.
+/// The figure of several rings, if they are those of the last shape, all moved by the same
+/// displacement.
 fn rings_again(rings: &Rings, last: &Span, figure: &[Ring]) -> Option<KeptFigure>
     requires { IsStretch rings.now last.now }
     ensures { IfSome result (λ f. IsFigure rings.now f figure.now) }
@@ -91,7 +93,7 @@ fn rings_again(rings: &Rings, last: &Span, figure: &[Ring]) -> Option<KeptFigure
     })
 }
 
-/// The figure of one ring: that of the last shape, moved, or else one that is added to those that are kept.
+/// The figure of one ring. Keeps the ring, unless it is that of the last shape, moved.
 pub(crate) fn figure_of_ring(
     rings: &mut Rings,
     last: Option<&Span>,
@@ -110,8 +112,7 @@ pub(crate) fn figure_of_ring(
     keep_ring(rings, ring)
 }
 
-/// The figure of several rings: that of the last shape, moved, or else one that is added to those that
-/// are kept.
+/// The figure of several rings. Keeps the rings, unless they are those of the last shape, moved.
 pub(crate) fn figure_of_rings(
     rings: &mut Rings,
     last: Option<&Span>,
@@ -129,7 +130,7 @@ pub(crate) fn figure_of_rings(
     keep_rings(rings, figure)
 }
 
-/// The figure of one ring, which is added to those that are kept.
+/// Keeps a ring, and returns its figure.
 fn keep_ring(rings: &mut Rings, ring: &[Point]) -> Result<KeptFigure, AllocError>
     requires { IsRing ring.now }
     ensures figure { IfOk result (λ f. IsFigure rings.new f (ring.now ∷ [])) }
@@ -145,7 +146,7 @@ fn keep_ring(rings: &mut Rings, ring: &[Point]) -> Result<KeptFigure, AllocError
     })
 }
 
-/// The figure of several rings, which are added to those that are kept.
+/// Keeps several rings, and returns their figure.
 fn keep_rings(rings: &mut Rings, figure: &[Ring]) -> Result<KeptFigure, AllocError>
     ensures figure { IfOk result (λ f. IsFigure rings.new f figure.now) }
     ensures before { GoesOn rings.old rings.new }
@@ -160,7 +161,7 @@ fn keep_rings(rings: &mut Rings, figure: &[Ring]) -> Result<KeptFigure, AllocErr
     })
 }
 
-/// The displacement of a number.
+/// The displacement with a number.
 pub(crate) fn move_of(moves: &[Point], number: u32) -> Point
     requires { number < length moves.now + 1 }
     ensures { result ≡ displaced moves.now number }
@@ -171,7 +172,8 @@ pub(crate) fn move_of(moves: &[Point], number: u32) -> Point
     }
 }
 
-/// The number of the displacement among those that are kept, to which it is added if need be.
+/// The number of a displacement. Keeps the displacement, unless it is zero or the last that was
+/// kept.
 pub(crate) fn number_of_move(moves: &mut Vec<Point>, by: Point) -> Result<u32, AllocError>
     ensures number { IfOk result (λ number. HasMove moves.new.items number by) }
     ensures before { GoesOn moves.old.items moves.new.items }

@@ -1,4 +1,4 @@
-//! The cells that references name.
+//! The targets of references: the indexes of the cells that they name.
 ghost use Rattle.std.specs.Prelude.{IfOk, IfErr};
 ghost use Rattle.lvl_cells.specs.Cells.{names};
 ghost use Rattle.lvl_cells.specs.Resolving.{IsIndexOf};
@@ -12,7 +12,8 @@ use lvl_refusal::Cause;
 use std::alloc::Global;
 use std::collections::BTreeMap;
 
-/// The places of the cells that the cell refers to, or its first reference whose cell is not there.
+/// The index of the target of each reference of a cell. Refuses with [`CellFault::MissingCell`] and
+/// the first reference that names no cell, if there is one.
 pub(crate) fn targets_of(
     alloc: Global,
     cells: &[Cell],
@@ -36,7 +37,8 @@ pub(crate) fn targets_of(
     Ok(targets)
 }
 
-/// The places of the cells that each cell refers to, or the first reference whose cell is not there.
+/// The targets of the references of each cell. Refuses with [`CellFault::MissingCell`] and the
+/// first reference in file order that names no cell, if there is one.
 pub(crate) fn all_targets(
     alloc: Global,
     cells: &[Cell],

@@ -15,7 +15,7 @@ use lvl_refusal::Cause;
 use std::alloc::{AllocError, Global};
 use std::collections::BTreeMap;
 
-/// Marks these places.
+/// Sets the marks at these indexes.
 fn mark_all(marks: &mut [bool], places: &[usize])
     requires { All (λ k. k < length marks.old) places.now }
     ensures { (k : ℕ)
@@ -26,7 +26,7 @@ fn mark_all(marks: &mut [bool], places: &[usize])
     }
 }
 
-/// For each cell whether some cell refers to it.
+/// For each cell, whether some cell refers to it.
 fn referred_cells(alloc: Global, targets: &[Vec<usize>]) -> Result<Vec<bool>, AllocError>
     requires { EachTargetWithin targets.now (length targets.now) }
     ensures long { IfOk result (λ marks. vec_len marks ≡ length targets.now) }
@@ -39,7 +39,7 @@ fn referred_cells(alloc: Global, targets: &[Vec<usize>]) -> Result<Vec<bool>, Al
     Ok(referred)
 }
 
-/// Whether none refers to some cell beside the root.
+/// Whether there is another cell than `root` to which no cell refers.
 fn has_other_root(alloc: Global, targets: &[Vec<usize>], root: usize) -> Result<bool, AllocError>
     requires { EachTargetWithin targets.now (length targets.now) }
     ensures { IfOk result (λ other. IsTrue other ↔ HasOtherRoot targets.now root) }
@@ -53,7 +53,9 @@ fn has_other_root(alloc: Global, targets: &[Vec<usize>], root: usize) -> Result<
     Ok(false)
 }
 
-/// The cell of the given name, or the only one to which none refers.
+/// The index of the cell of the given name or, if none is given, of the only cell to which no cell
+/// refers. Refuses with [`CellFault::TopMissing`] or [`CellFault::ManyTops`] if there is no such
+/// cell.
 pub(crate) fn top_of(
     alloc: Global,
     cells: &[Cell],

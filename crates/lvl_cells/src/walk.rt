@@ -1,20 +1,20 @@
 //! A walk over the cells along their references, one step at a time.
 //!
-//! Every cell is new at first, open while it is on the path from a root, and done once all that it
-//! refers to is done. A reference to an open cell closes a round.
+//! Every cell is new at first, open while it is on the path from a root, and done once all cells
+//! that it refers to are done. A reference to an open cell closes a round: there is a cycle.
 ghost use Rattle.std.specs.Prelude.{◌≡◌, ◌<◌, [], length, vec_len, slice_get, All, Some, IfOk, IfNone, IfSome};
 ghost use Rattle.lvl_cells.specs.inside.Walking.{EachTargetWithin, IsStepFrom, IsWalk, GoesOn, LeadsBack, work_left};
 
 use std::alloc::AllocError;
 
-/// A cell on the path from a root, and how many of its references are done with.
+/// A cell on the path from a root, and how many of its references were followed.
 #[derive(Clone, Copy)]
 pub(crate) struct Visit {
     pub(crate) cell: usize,
     done: usize,
 }
 
-/// How far a cell is looked at.
+/// The state of a cell: not seen yet, on the path, or finished.
 #[derive(Clone, Copy)]
 pub(crate) enum Mark {
     New,
@@ -22,8 +22,9 @@ pub(crate) enum Mark {
     Done,
 }
 
-/// A step of a walk: where the last cell on the path goes, or how many of its references are done
-/// with once it is past one.
+/// A step of a walk: into a new cell, past a reference to a cell that is done (then this many of
+/// its references were followed), out of a cell without further references, or round to an open
+/// cell.
 #[derive(Clone, Copy)]
 enum Move {
     Into(usize),
@@ -32,7 +33,7 @@ enum Move {
     Round(usize),
 }
 
-/// Where the walk goes from the visit.
+/// The next step of the walk, from the last visit on its path.
 fn next_step(targets: &[Vec<usize>], marks: &[Mark], visit: Visit) -> Move
     requires cell { visit.cell < length targets.now }
     requires targets { EachTargetWithin targets.now (length marks.now) }
@@ -50,7 +51,7 @@ fn next_step(targets: &[Vec<usize>], marks: &[Mark], visit: Visit) -> Move
     }
 }
 
-/// One step of the walk; a cell on the path if the step leads back to it.
+/// Makes one step of the walk. Returns a cell on the path if the step leads back to it.
 fn advance(
     targets: &[Vec<usize>],
     marks: &mut [Mark],
@@ -94,8 +95,8 @@ fn advance(
     Ok(None)
 }
 
-/// Walks on from a new root until all that it leads to is done; a cell on the path if a reference
-/// leads back to it.
+/// Walks from a new root until all cells that it leads to are done. Returns a cell on the path if a
+/// reference leads back to it.
 pub(crate) fn walk_from(
     targets: &[Vec<usize>],
     root: usize,

@@ -14,7 +14,7 @@ use Rattle.lvl_compare.proofs.InStrips.{hull}
 use Rattle.lvl_changed.specs.inside.Shapes.{corners}
 use Rattle.lvl_changed.proofs.Widening.{at_point}
 
--- what is between the corners of one window is between those of both joined
+-- a point between the corners of one of two windows is between those of the joined one
 hull_points : (v w : Window) (p : Point) → IsWithin (corners v) p → IsWithin (corners (hull v w)) p
 hull_points v w p h = record {
   left = omega (arith, ints, clamps, h.left);
@@ -31,7 +31,7 @@ hull_point v p = record {
   above = omega (arith, ints, clamps);
 }
 
--- with one point more
+-- with one more point
 pub box_more : (held spot next : Window) (ps : List Point) (i : ℕ) (none : Point) → i < length ps
     → spot ≡ at_point (get_or ps i none) → next ≡ hull held spot → All (IsWithin (corners held)) (take i ps)
     → All (IsWithin (corners next)) (take (i + 1) ps)

@@ -1,4 +1,4 @@
--- What is found of cells, as more is found.
+-- What is known for cells, while more is found.
 use Rattle.std.proofs.Common.{◌≡◌, ◌≢◌, ℕ, List, Option, Some, None, map, set, slice_get, inl, inr, sym, ap, ◌∙◌}
 use Rattle.std.proofs.Common.{subst, arith}
 use Rattle.std.specs.List.{range_with_len}
@@ -24,7 +24,7 @@ pub none_found : (pairs : List LayerPair) (ours theirs : List (PlainCell Rings))
 none_found pairs ours theirs n i f h =
     absurd (nothing (slice_get (range_with_len 0 n) i) f (sym (slice_get-map unknown (range_with_len 0 n) i) ∙ h))
 
--- one more
+-- one more cell
 pub found_more : (pairs : List LayerPair) (ours theirs : List (PlainCell Rings)) (known : List (Option Found)) (k : ℕ)
     (f : Found) (old : Option Found) → AreFound pairs ours theirs known → slice_get known k ≡ Some old
     → IsFound pairs ours theirs k f → AreFound pairs ours theirs (set known k (Some f))

@@ -1,4 +1,4 @@
--- What one list covers outside of windows, and another covers too.
+-- What one list covers outside of windows is covered by another too.
 use Rattle.std.proofs.Common.{◌≡◌, ◌<◌, ◌≤◌, ◌+◌, ℕ, List, Option, Some, None, false, Any, take}
 use Rattle.std.proofs.Common.{length, get_or, inl, inr, sym, subst}
 use Rattle.std.specs.Prelude.{IfNone, is_some}
@@ -12,7 +12,7 @@ use Rattle.lvl_changed.specs.inside.Windows.{Has, Widens}
 abbrev pub GoesInto : {X : Type 0} → Windows → (Square → X → Type 0) → List X → (Square → Type 0) → Type 0
 GoesInto w P xs Q = (s : Square) → (¬ Has w s) → Any (P s) xs → Q s
 
--- with one element more, which may be held
+-- with one more element, whose squares the windows may have
 pub into_more : {X : Type 0} (P : Square → X → Type 0) (xs : List X) (i : ℕ) (d x : X) (Q : Square → Type 0)
     (old new all : Windows) → i < length xs → x ≡ get_or xs i d → all ≡ new → Widens old new
     → GoesInto old P (take i xs) Q → ((s : Square) → (¬ Has new s) → P s x → Q s)

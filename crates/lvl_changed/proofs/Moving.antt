@@ -1,4 +1,4 @@
--- What is alike outside of windows, seen through a map of Layers.
+-- Layouts that cover the same outside of windows, under a map of Layers.
 use Rattle.std.proofs.Common.{◌≡◌, ◌↔◌, ◌⊎◌, ℕ, List, Some, inl, inr, sym, subst, slice_get, IsSomeAnd}
 use Rattle.lvl_grid.specs.declared.point.Square.{Square}
 use Rattle.lvl_names.specs.declared.layer.Layer.{Layer}
@@ -14,7 +14,7 @@ use Rattle.lvl_changed.specs.inside.Windows.{Has, Widens, AlikeOutside}
 use Rattle.lvl_changed.specs.inside.Placements.{ReferencesCover}
 use Rattle.lvl_changed.specs.inside.Shapes.{ShapesCover}
 
--- what covers less covers less seen through the map
+-- what covers a part of another layout does so under the map too
 pub moved_more : (pairs : List LayerPair) (a b : Draws) (s q : Square) → ((l : Layer) → a l s → b l q) → (l : Layer)
     → IsMoved pairs a l s → IsMoved pairs b l q
 moved_more pairs a b s q more l m = record {
@@ -34,11 +34,11 @@ pub alike_then : (w : Windows) (a b c : Draws) → AlikeOutside w a b → AlikeO
 alike_then w a b c p q l s out =
     (λ x. (q l s out).0 ((p l s out).0 x), λ y. (p l s out).1 ((q l s out).1 y))
 
--- in more windows
+-- with more windows
 pub alike_wider : (v w : Windows) (a b : Draws) → Widens v w → AlikeOutside v a b → AlikeOutside w a b
 alike_wider v w a b wide same l s out = same l s (λ has. out (wide.has s has))
 
--- where the windows are the whole plane
+-- with the whole grid as windows
 pub alike_anywhere : (w : Windows) (a b : Draws) → ((s : Square) → Has w s) → AlikeOutside w a b
 alike_anywhere w a b all l s out = absurd (out (all s))
 
@@ -52,7 +52,7 @@ covers_both cells i c at l s =
       λ e. subst (λ o. IsSomeAnd o P) (sym at) ((cell_covers cells l c s).1 e),
     )
 
--- cells whose shapes and references are alike are alike
+-- cells whose shapes and references cover the same do so themselves
 pub cells_alike : (ours theirs : List (PlainCell Rings)) (i j : ℕ) (c d : PlainCell Rings) (pairs : List LayerPair)
     (w : Windows) → slice_get ours i ≡ Some c → slice_get theirs j ≡ Some d
     → AlikeOutside w (ShapesCover c.shapes) (IsMoved pairs (ShapesCover d.shapes))

@@ -1,4 +1,4 @@
--- What a cell's own shapes cover, as flat layouts do.
+-- What the own shapes of a cell cover, in terms of flat layouts.
 use Rattle.std.proofs.Common.{◌↔◌, List, Option, Some, None}
 use Rattle.std.specs.Prelude.{IfSome}
 use Rattle.lvl_grid.specs.declared.point.Square.{Square}
@@ -17,7 +17,7 @@ use Rattle.lvl_changed.proofs.Moving.{moved_more}
 abbrev pub Flattens : List PlainSheet → List (PlainShape Rings) → Type 0
 Flattens flat shapes = (l : Layer) (s : Square) → FlatCovers flat l s ↔ ShapesCover shapes l s
 
--- where flat layouts are alike outside of windows, the shapes are
+-- if flat layouts cover the same outside of windows, the shapes do
 pub shapes_alike : (a b mapped : List PlainSheet) (xs ys : List (PlainShape Rings)) (pairs : List LayerPair)
     (w : Windows) → Flattens a xs → Flattens b ys → IsMapped pairs b mapped
     → AlikeOutside w (FlatCovers a) (FlatCovers mapped)
@@ -31,7 +31,7 @@ shapes_alike a b mapped xs ys pairs w ours theirs map same l s out = (
       ((map l s).1 (moved_more pairs (ShapesCover ys) (FlatCovers b) s s (λ k y. (theirs k s).1 y) l m))),
 )
 
--- what holds of all is so of one that may be there
+-- what holds of all values holds of the value of an option
 pub any_some : {X : Type 0} (P : X → Type 0) (o : Option X) → ((x : X) → P x) → IfSome o P
 any_some P None all = tt
 any_some P (Some x) all = all x

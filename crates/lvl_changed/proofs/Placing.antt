@@ -59,12 +59,12 @@ reference_at cells k c r at named l s =
     (λ e. pick_at cells k c r at named e l s))
     (turned_round (Any-map (PlacementCovers cells l s) to r.shifts)))
 
--- a square of a cell that is placed outside of the windows is outside of those of the cell
+-- a square whose image is outside of the windows is outside of the windows of the cell that is placed
 inner_out : (m : Map) (held all : Windows) (s t : Square) → HasPlaced m held all → image_square m t ≡ s
     → (¬ Has all s) → ¬ Has held t
 inner_out m held all s t has is out inner = out (subst (λ q. Has all q) is (has.has t inner))
 
--- outside of the windows our cell covers at one place what its partner does there
+-- outside of the windows a cell of the first library covers at one place what its partner does there
 placement_alike : (pairs : List LayerPair) (ours theirs : List (PlainCell Rings)) (k n : ℕ) (f : Found) (m : Map)
     (all : Windows) → f.partner ≡ Some n → IsFound pairs ours theirs k f → HasPlaced m f.windows all → (l : Layer)
     (s : Square) → (¬ Has all s)
@@ -93,7 +93,7 @@ placement_none pairs ours theirs k f m all none found has l s out u =
     subst (λ o. PartnerCovers pairs theirs o l u.0) none
     ((found l u.0 (inner_out m f.windows all s u.0 has u.1 out)).0 u.2)
 
--- and so at all places of a reference
+-- the same at all places of a reference
 places_alike : (pairs : List LayerPair) (ours theirs : List (PlainCell Rings)) (k n : ℕ) (f : Found)
     (r : PlainReference) (all : Windows) → f.partner ≡ Some n → IsFound pairs ours theirs k f
     → ((e : Point) → Contains r.shifts e → HasPlaced (placing r e) f.windows all)
@@ -152,7 +152,7 @@ picks_more rs j r lt is =
     ∙ (ap (λ xs. picks (take j rs) ++ xs) (append-nil (f (get_or rs j r)))
     ∙ ap (λ q. picks (take j rs) ++ f q) (sym is)))
 
--- what one reference more covers
+-- what one more reference covers
 references_more : (cells : List (PlainCell Rings)) (rs : List PlainReference) (j k : ℕ) (r : PlainReference)
     (c : PlainCell Rings) → slice_get cells k ≡ Some c → cell_named cells r.cell ≡ Some c → j < length rs
     → r ≡ get_or rs j r → (l : Layer) (s : Square)
@@ -180,7 +180,7 @@ placed_more cells ps qs l s =
       λ e. elim e [ inl b ↦ Any-left P ps qs b | inr b ↦ Any-right P ps qs b ],
     )
 
--- with one reference more
+-- with one more reference
 pub partners_more : (pairs : List LayerPair) (ours theirs : List (PlainCell Rings)) (rs : List PlainReference)
     (ps : List Placement) (j k : ℕ) (r : PlainReference) (c : PlainCell Rings) (f : Found) (all : Windows)
     → slice_get ours k ≡ Some c → cell_named ours r.cell ≡ Some c → j < length rs → r ≡ get_or rs j r
@@ -218,7 +218,7 @@ partners_none pairs ours theirs all l s out = (
   λ m. absurd (Any-nil (PlacementCovers theirs m.source s) m.covers),
 )
 
--- a cell's placements, by its own indexes
+-- the placements of a cell's references, with the indexes of the cells that these name
 pub own_more : (cells : List (PlainCell Rings)) (rs : List PlainReference) (ps : List Placement) (j k : ℕ)
     (r : PlainReference) (c : PlainCell Rings) → slice_get cells k ≡ Some c → cell_named cells r.cell ≡ Some c
     → j < length rs → r ≡ get_or rs j r
@@ -243,13 +243,13 @@ pub same_cover : (cells : List (PlainCell Rings)) (ps qs : List Placement) → H
 same_cover cells ps qs h l s a =
     some_contained (PlacementCovers cells l s) qs a.1 ((h a.1).0 (a.0, a.2, a.3)) a.4
 
--- the windows have what a placement covers, if they have the places of what its cell does
+-- the windows have what a placement covers, if they have the images of the squares that its cell covers
 pub placement_held : (cells : List (PlainCell Rings)) (w : Windows) (p : Placement)
     → ((l : Layer) (t : Square) → CoversAt cells p.cell l t → Has w (image_square p.map t)) → (l : Layer) (s : Square)
     → PlacementCovers cells l s p → Has w s
 placement_held cells w p held l s covers = subst (λ q. Has w q) covers.1 (held l covers.0 covers.2)
 
--- cells whose placements are alike outside of windows refer alike there
+-- cells whose placements cover the same outside of windows have references that do
 pub refer_alike : (pairs : List LayerPair) (ours theirs : List (PlainCell Rings)) (xs ys : List PlainReference)
     (ps ps2 qs qs2 : List Placement) (w1 w2 w3 : Windows)
     → AlikeOutside w1 (ReferencesCover ours xs) (IsMoved pairs (PlacedCover theirs ps))

@@ -1,4 +1,4 @@
--- Placements that are tested equal are one.
+-- The comparison of two placements.
 use Rattle.std.proofs.Common.{◌≡◌, ℕ, Bool, true, false, ◌&&◌, nat_eq, int_eq, refl, arith, ap, ◌∙◌, subst}
 use Rattle.std.specs.Bool.{Decides}
 use Rattle.std.proofs.lemmas.Int.{ints}
@@ -73,6 +73,6 @@ same p q h =
     let of : ℕ → Map → Placement = λ k m. record { cell = k; map = m } in
     ap (λ k. of k p.map) cell ∙ ap (of q.cell) (maps p.map q.map both.1)
 
--- the test of two placements decides whether they are one
+-- the comparison of two placements decides whether they are equal
 pub placement_decides : (p q : Placement) → Decides (eq-value.it p q) (p ≡ q)
 placement_decides p q = (same p q, λ e. subst (λ r. eq-value.it p r ≡ true) e (itself p))

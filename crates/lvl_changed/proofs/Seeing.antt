@@ -1,4 +1,4 @@
--- What two layouts differ in, where they are known to be alike outside of some windows.
+-- The first difference of two layouts that are known to draw the same outside of some windows.
 use Rattle.std.proofs.Common.{◌≡◌, ◌↔◌, ◌⊎◌, ◌∷◌, [], inl, inr, List, Option, Some, None, ℤ, ◌<ℤ◌, true, int_lt, arith}
 use Rattle.std.specs.Prelude.{IfNone, IfSome}
 use Rattle.std.proofs.lemmas.Bool.{cases_Bool}
@@ -17,7 +17,7 @@ use Rattle.lvl_changed.specs.Changed.{IsOutside}
 below : (a b : ℤ) → int_lt a b ≡ true → a <ℤ b
 below a b h = grind (arith, ints, h)
 
--- a window has a square or not
+-- a window has a square, or it doesn't
 within_or_not : (w : Window) (s : Square) → IsWithin w s ⊎ (IsWithin w s → ⊥)
 within_or_not w s =
     elim (cases_Bool (int_lt s.x w.x0)) [
@@ -62,7 +62,7 @@ both_parts : (ws : List Window) (s : Square) (A B : Type 0) → ((IsOutside ws s
     → A ↔ B
 both_parts ws s A B out within = elim (has_or_not ws s) [ inl a ↦ within a | inr none ↦ out none ]
 
--- what is found in the windows is what is found of all that is seen
+-- what is found in the windows is what is found among all squares that are compared
 pub seen_same : (a b : Draws) (v : Option Window) (ws : List Window) (found : Option Found)
     → DrawSame (IsOutside ws) a b → IfNone found (DrawSame (IsSeenIn v ws) a b)
     → IfNone found (DrawSame (IsShown v) a b)

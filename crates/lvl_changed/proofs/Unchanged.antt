@@ -1,4 +1,4 @@
--- Two layouts between which nothing changed.
+-- Two layouts that don't differ.
 use Rattle.std.proofs.Common.{◌≡◌, ◌↔◌, List, [], refl, subst}
 use Rattle.lvl_grid.specs.declared.point.Square.{Square}
 use Rattle.lvl_grid.specs.declared.point.Window.{Window}
@@ -10,7 +10,7 @@ use Rattle.lvl_view.specs.declared.map.LayerPair.{LayerPair}
 use Rattle.lvl_compare.specs.Tops.{Draws, DrawSame}
 use Rattle.lvl_changed.specs.Changed.{IsOutside}
 
--- without pairs nothing is moved
+-- without pairs no Layer is mapped to another
 pub moved_none : (pairs : List LayerPair) → pairs ≡ [] → (Q : Layer → Square → Type 0) (l : Layer) (s : Square)
     → IsMoved pairs Q l s ↔ Q l s
 moved_none pairs none Q l s = (
@@ -18,7 +18,7 @@ moved_none pairs none Q l s = (
   λ h. record { source = l; is_target = rw none refl; covers = h },
 )
 
--- without a window, too, both draw the same everywhere
+-- and without a window both draw the same everywhere
 pub same_everywhere : (pairs : List LayerPair) (windows : List Window) (a b : Draws) → pairs ≡ [] → windows ≡ []
     → DrawSame (IsOutside windows) a (IsMoved pairs b) → (l : Layer) (s : Square) → a l s ↔ b l s
 same_everywhere pairs windows a b none empty h l s =

@@ -1,4 +1,4 @@
--- Windows as they are placed, joined and added.
+-- Windows that are placed, joined and added.
 use Rattle.std.proofs.Common.{◌≡◌, ◌<◌, ◌++◌, ◌∷◌, [], ℕ, List, Bool, true, false, IsTrue, Any, ◌⊎◌, inl, inr, length}
 use Rattle.std.proofs.Common.{◌+◌, ◌≤◌, Contains, take, get_or, sym, subst, ap, ◌∙◌, arith}
 use Rattle.std.specs.List.{swap_remove}
@@ -93,7 +93,7 @@ placed_has m w s h = placed_turned m.flip m.turn m.at w s h
 flag_is : (from to : Windows) → to.anywhere ≡ from.anywhere → IsTrue from.anywhere → IsTrue to.anywhere
 flag_is from to flag any = subst IsTrue (sym flag) any
 
--- and so has what is joined from those
+-- and so has the window joined from the two images
 pub joined_placed : (m : Map) (w a b j : Window) (p q low high : Point) → p ≡ record { x = w.x0; y = w.y0 }
     → q ≡ record { x = w.x1; y = w.y1 } → low ≡ image m p → high ≡ image m q → a ≡ at_point low → b ≡ at_point high
     → j ≡ hull a b → (s : Square) → IsWithin w s → IsWithin j (image_square m s)
@@ -106,7 +106,7 @@ joined_placed m w a b j p q low high from to placed_from placed_to first second 
     is ∙ (ap (λ u. hull u b) left ∙ ap (hull (at_point (image m one))) right) in
     subst (λ (u : Window). IsWithin u (image_square m s)) (sym whole) (placed_has m w s h)
 
--- with one window more of others that are placed
+-- with the image of one more window
 pub placed_more : (m : Map) (ws xs : List Window) (i : ℕ) (none : Window) (old new : Windows) → xs ≡ ws → i < length xs
     → ((s : Square) → SomeHas (take i ws) s → Has old (image_square m s))
     → ((s : Square) → IsWithin (get_or xs i none) s → Has new (image_square m s)) → Widens old new → (s : Square)
@@ -133,7 +133,7 @@ all_placed m held all xs i flag is long has = record { has = each }
         take_all i held.list.items (subst (λ (us : List Window). length us ≤ i) is long) in
         has s (subst (λ us. Any (λ w. IsWithin w s) us) (sym whole) a)
 
--- with one place more of a reference
+-- with one more place of a reference
 pub places_more : (r : PlainReference) (k : ℕ) (m : Map) (held old new : Windows) → IsPlacing r k m
     → ((e : Point) → Contains (take k r.shifts) e → HasPlaced (placing r e) held old) → HasPlaced m held new
     → Widens old new → (e : Point) → Contains (take (k + 1) r.shifts) e → HasPlaced (placing r e) held new
@@ -151,7 +151,7 @@ places_more r k m held old new at before here wide e there =
           (subst (λ (n : Map). HasPlaced n held new) at.map_is here)
     ]
 
--- one of the windows is taken out and joined with the one that is to be added
+-- one of the windows is removed and joined with the one that is to be added
 pub joined_has : (from to : Windows) (whole other next : Window) (i : ℕ) → i < length from.list.items
     → other ≡ get_or from.list.items i other → to.anywhere ≡ from.anywhere
     → to.list.items ≡ swap_remove from.list.items i other → next ≡ hull whole other → (s : Square)

@@ -1,4 +1,4 @@
--- Where two layouts may differ (own rule).
+-- Squares outside of windows (own rule).
 use Rattle.std.specs.Prelude.{List}
 use Rattle.lvl_grid.specs.declared.point.Square.{Square}
 use Rattle.lvl_grid.specs.declared.point.Window.{Window}

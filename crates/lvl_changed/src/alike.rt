@@ -1,4 +1,4 @@
-//! Whether two libraries draw the same, so far as their cells show it.
+//! Whether two libraries draw the same, as far as a comparison cell by cell can show it.
 ghost use Rattle.std.specs.Prelude.{◌↔◌, IfOk, IsTrue};
 ghost use Rattle.lvl_flat.specs.Flattened.{TopCovers};
 ghost use Rattle.lvl_grid.specs.declared.point.Square.{Square as GridSquare};
@@ -9,8 +9,8 @@ use lvl_flat::Fitted;
 use lvl_view::View;
 use std::alloc::{AllocError, Global};
 
-/// Whether both tops cover the same squares on every Layer, so far as that can be seen cell by cell: whether
-/// [`changed`] finds no window. `false` says nothing of what they cover.
+/// Whether [`changed`] finds no window, so that both tops cover the same squares on every Layer.
+/// `false` says nothing about what they cover. Fails only if out of memory.
 pub fn same_by_cells(alloc: Global, first: &Fitted, second: &Fitted) -> Result<bool, AllocError>
     ensures { IfOk result (λ same. IsTrue same → (layer : Layer) (s : GridSquare)
         → TopCovers first.now layer s ↔ TopCovers second.now layer s) }

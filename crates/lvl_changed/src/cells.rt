@@ -1,4 +1,4 @@
-//! Two libraries compared cell by cell, without flattening them.
+//! Comparison of two libraries cell by cell, without flattening them.
 ghost use Rattle.std.specs.Prelude.{◌≡◌, ◌<◌, length, List, map, None, Some, IfOk, IfSome, slice_set, vec_len};
 ghost use Rattle.std.specs.List.{range_with_len};
 ghost use Rattle.lvl_grid.specs.declared.point.Square.{Square};
@@ -22,13 +22,14 @@ use lvl_grid::Window;
 use lvl_view::View;
 use std::alloc::{AllocError, Global};
 
-/// The most windows that are kept of a cell.
+/// The greatest number of windows that are kept for a cell.
 const MOST_WINDOWS: u64 = 64;
 
-/// The most windows that are placed of a cell, at all places together, as far as one a place allows.
+/// The greatest number of windows of a cell that are placed, at all its places together; but at
+/// least one is kept.
 const MOST_PLACED: u64 = 4096;
 
-/// How many windows are kept of a cell that is placed so often.
+/// The greatest number of windows that are kept for a cell that is placed `times` times.
 fn most_windows(times: u64) -> usize {
     if times <= MOST_PLACED / MOST_WINDOWS {
         return MOST_WINDOWS as usize;
@@ -39,14 +40,15 @@ fn most_windows(times: u64) -> usize {
     1
 }
 
-/// Nothing is known of any of `count` cells.
+/// A list that says that nothing is known for `count` cells.
 fn none_known(alloc: Global, count: usize) -> Result<Vec<Option<Found>>, AllocError>
     ensures { IfOk result (λ known. known.items ≡ map (λ _. None) (range_with_len 0 count)) }
 {
     (0..count).map(|_| None).collect(alloc)
 }
 
-/// Windows outside of which our cell covers what theirs does.
+/// Windows outside of which cell `ours` of the first library covers what cell `theirs` of the
+/// second does.
 fn changes_of(
     alloc: Global,
     first: &Fitted,
@@ -71,7 +73,7 @@ fn changes_of(
     Ok(windows)
 }
 
-/// A window that has all that a cell covers.
+/// A window that has all squares that a cell covers.
 fn extent_of(alloc: Global, library: &Fitted, cell: usize) -> Result<Windows, AllocError>
     ensures { IfOk result (λ windows. (layer : Layer) (s : Square)
         → CoversAt library.now.cells cell layer s → Has windows s) }
@@ -81,7 +83,7 @@ fn extent_of(alloc: Global, library: &Fitted, cell: usize) -> Result<Windows, Al
     Ok(windows)
 }
 
-/// Where a cell may not cover what its partner does, or what it covers if it has none.
+/// Windows outside of which a cell covers what its partner does, or nothing if it has no partner.
 fn found_of(
     alloc: Global,
     first: &Fitted,
@@ -112,7 +114,7 @@ fn found_of(
     })
 }
 
-/// Keeps what was found of the cell at an index.
+/// Stores what was found for the cell at an index.
 fn keep(known: &mut Vec<Option<Found>>, cell: usize, found: Found)
     requires { cell < vec_len known.old }
     ensures kept { known.new.items ≡ slice_set known.old.items cell (Some found) }
@@ -121,7 +123,8 @@ fn keep(known: &mut Vec<Option<Found>>, cell: usize, found: Found)
     known[cell] = Some(found);
 }
 
-/// The windows that were found of a cell, if it was compared with that one of the other library.
+/// The windows that were found for a cell, if it was compared with the cell `partner` and they
+/// aren't the whole grid.
 fn windows_of(mut known: Vec<Option<Found>>, cell: usize, partner: usize) -> Option<Vec<Window>>
     requires { cell < vec_len known }
     ensures { IfSome result (λ windows. (pairs : List LayerPair) (ours theirs : List (PlainCell Rings))
@@ -138,15 +141,15 @@ fn windows_of(mut known: Vec<Option<Found>>, cell: usize, partner: usize) -> Opt
     windows.into_list()
 }
 
-/// Windows outside of which both tops cover the same squares on every Layer, the second seen with its Layers
-/// mapped by the view; None where nothing was found out. There are at most 64, and none where both are found
-/// to draw the same everywhere.
+/// Windows outside of which both tops cover the same squares on every Layer, with the Layers of the
+/// second mapped by the view. None if no such windows are found. There are at most 64, and the list
+/// is empty if both are found to draw the same everywhere. Fails only if out of memory.
 ///
-/// Nothing is flattened but the own shapes of one cell at a time. The tops are compared, and any other cell
-/// with the cell of its name: own shapes with own shapes, and references place by place. What one side alone
-/// places is in the windows with all that it covers, and what is found of a cell is in those of the cells
-/// that place it, at each place. A cell whose partner is not placed counts as one without a partner, since
-/// nothing bounds how much the partner draws.
+/// The tops are compared with each other, and any other cell with the cell of the same name: own
+/// shapes with own shapes, which are flattened for this, and references place by place. If only one
+/// side has a placement, the windows have all that it covers. What is found for a cell is added to
+/// the windows of the cells that place it, at each place. A cell whose partner isn't placed is
+/// treated as one without a partner, since nothing limits how much the partner draws.
 pub fn changed(
     alloc: Global,
     first: &Fitted,

@@ -1,4 +1,4 @@
-//! The comparison of two libraries where something changed between them, and nowhere else.
+//! Comparison of two libraries only where something changed between them.
 ghost use Rattle.std.specs.Prelude.{IfOk, IfSome, IfNone};
 ghost use Rattle.lvl_columns.specs.Windows.{IsShown};
 ghost use Rattle.lvl_flat.specs.Flattened.{TopCovers};
@@ -16,14 +16,14 @@ use lvl_region::Side;
 use lvl_view::View;
 use std::alloc::{AllocError, Global};
 
-/// How many squares a window has, up to the greatest number.
+/// The number of squares of a window, at most `u64::MAX`.
 fn area(window: &Window) -> u64 {
     let width = window.x0.abs_diff(window.x1);
     width.saturating_mul(window.y0.abs_diff(window.y1))
 }
 
-/// Whether the windows have at most half as many squares as the window of all that the larger layout draws.
-/// It is a matter of cost alone.
+/// Whether the windows have at most half as many squares as the extent of the larger layout. The
+/// answer is one of cost only.
 fn are_small(windows: &[Window], first: &Fitted, second: &Fitted) -> bool {
     let all = area(&first.extent()).max(area(&second.extent()));
     let mut sum = 0u64;
@@ -33,8 +33,8 @@ fn are_small(windows: &[Window], first: &Fitted, second: &Fitted) -> bool {
     sum <= all / 2
 }
 
-/// The windows in which the layouts may differ, if it is likely to pay to look for them and to compare only
-/// what is in them.
+/// The windows in which the layouts may differ, or None if it isn't likely to pay to search for
+/// them, or to compare only what is in them.
 fn windows_to_compare(
     alloc: Global,
     first: &Fitted,
@@ -56,13 +56,13 @@ fn windows_to_compare(
     Ok(Some(windows))
 }
 
-/// The first Layer, and on it the first square, by y and then x, that one of two layouts alone draws,
-/// with its side; None where both draw the same squares on every Layer. The second is seen with its Layers
-/// mapped by the view, and where the view has a window only its squares count.
+/// The first Layer, and on it the first square, by `y` and then `x`, that only one of two layouts
+/// draws, with its side; None if both draw the same squares on every Layer. The Layers of the
+/// second are mapped by the view, and if the view has a window, only its squares are compared.
 ///
-/// Where cells are placed often enough for it to pay, only what [`changed`] finds is compared. Otherwise, and
-/// where that is most of the layout, all is: see [`difference_by_strips`], also for `most`. Fails only when
-/// out of memory.
+/// If cells are placed often enough for it to pay, only the windows that [`changed`] finds are
+/// compared. Otherwise, or if these are more than half of the layout, everything is: see
+/// [`difference_by_strips`], which also explains `most`. Fails only if out of memory.
 pub fn difference_by_changes(
     alloc: Global,
     first: &Fitted,

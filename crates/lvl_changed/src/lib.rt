@@ -1,12 +1,13 @@
-//! Where two libraries may draw differently, found cell by cell, and their comparison there alone.
+//! Where two libraries may draw different squares, found cell by cell, and their comparison there
+//! only.
 //!
-//! [`changed`] gives a few windows outside of which both draw the same, without flattening either, and
-//! [`same_by_cells`] whether there is none.
-//! [`difference_by_changes`] finds the first square that one of them alone draws, and looks for it in
-//! those windows only, so that it costs what changed between the two.
+//! [`changed`] finds a few windows outside of which both draw the same, without flattening either.
+//! [`same_by_cells`] says whether there is no such window. [`difference_by_changes`] finds the
+//! first square that only one of both draws. It searches only those windows, so its cost depends on
+//! what changed between the two.
 //!
-//! `kept` and `edited` are two libraries whose tops place one cell a thousand times; in `edited` the top
-//! draws a square at (3, 0) besides, on the layer `METAL`:
+//! Here `kept` and `edited` are two libraries whose tops place the same cell a thousand times; in
+//! `edited` the top also draws a square at (3, 0) on the Layer `METAL`:
 //!
 //! ```
 //! let view = View::whole(alloc);

@@ -1,4 +1,4 @@
-//! Which cells of two libraries are compared.
+//! Which cells of two libraries are compared with each other, and whether that is likely to pay.
 ghost use Rattle.std.specs.Prelude.{◌≡◌, ◌<◌, length, IfOk, IfSome, vec_len};
 ghost use Rattle.lvl_cells.specs.Cells.{names};
 ghost use Rattle.lvl_cells.specs.Resolving.{IsIndexOf};
@@ -9,7 +9,8 @@ use lvl_refusal::Cause;
 use std::alloc::{AllocError, Global};
 use std::collections::BTreeMap;
 
-/// The indexes of the cells by their names.
+/// A map from the names of the cells to their indexes. None doesn't occur, since the names of a
+/// checked library are distinct.
 pub(crate) fn index_by_name(
     alloc: Global,
     checked: &Checked,
@@ -23,8 +24,8 @@ pub(crate) fn index_by_name(
     }
 }
 
-/// The index of the cell that a cell is compared with: the tops with one another, any other with the
-/// cell of its name.
+/// The index of the cell that a cell is compared with: the tops with each other, any other with the
+/// cell of the same name, if there is one.
 fn partner_of(
     first: &Checked,
     cell: usize,
@@ -42,7 +43,8 @@ fn partner_of(
     index.get(partnered.name.as_slice()).copied()
 }
 
-/// The same, but only if that cell is placed: `times` says how often each cell of the second library is.
+/// The partner of a cell, as [`partner_of`] says, but only if it is placed: `times` says how often
+/// each cell of the second library is.
 pub(crate) fn placed_partner(
     first: &Checked,
     cell: usize,
@@ -61,8 +63,8 @@ pub(crate) fn placed_partner(
     }
 }
 
-/// How often each cell is placed from the top, up to the greatest number; zero where it is not
-/// reached. It is a matter of cost alone.
+/// How often the top places each cell, at most `u64::MAX`; 0 if no chain leads to the cell. Used
+/// for questions of cost only.
 pub(crate) fn times_placed(alloc: Global, checked: &Checked) -> Result<Vec<u64>, AllocError>
     ensures { IfOk result (λ times. vec_len times ≡ length checked.now.cells) }
 {
@@ -74,7 +76,7 @@ pub(crate) fn times_placed(alloc: Global, checked: &Checked) -> Result<Vec<u64>,
     Ok(times)
 }
 
-/// Adds how often a cell's references place others.
+/// Adds how often the references of a cell place others.
 fn add_places(checked: &Checked, cell: usize, times: &mut [u64])
     requires cell { cell < length checked.now.cells }
     requires long { length times.old ≡ length checked.now.cells }
@@ -91,7 +93,8 @@ fn add_places(checked: &Checked, cell: usize, times: &mut [u64])
     }
 }
 
-/// How many rings a cell draws, each at each of its shifts, up to the greatest number.
+/// The number of rings that a cell itself draws, at most `u64::MAX`: each counts once for each
+/// shift of its shape.
 fn rings_of(cell: &Cell) -> u64 {
     let shapes = &cell.shapes;
     let mut sum = 0u64;
@@ -102,7 +105,7 @@ fn rings_of(cell: &Cell) -> u64 {
     sum
 }
 
-/// How many shifts a cell's shapes and references have, up to the greatest number.
+/// The number of shifts of the shapes and references of a cell, at most `u64::MAX`.
 fn shifts_of(cell: &Cell) -> u64 {
     let mut sum = 0u64;
     for i in 0..cell.shapes.len() {
@@ -114,9 +117,10 @@ fn shifts_of(cell: &Cell) -> u64 {
     sum
 }
 
-/// Whether a comparison cell by cell is likely to cost less than one of flat layouts: where the cells
-/// that are reached have far fewer rings of their own than are placed, and all cells together not many
-/// more shifts, since boxes look at each of them. The answer is one of cost alone.
+/// Whether a comparison cell by cell is likely to cost less than one of flat layouts. It is if the
+/// cells that are placed have at most a quarter as many own rings as are placed in all, and if all
+/// cells together have at most about twice as many shifts as there are placed rings, since each
+/// shift is looked at. The answer is one of cost only.
 pub fn pays_by_cells(alloc: Global, checked: &Checked) -> Result<bool, AllocError> {
     let times = times_placed(alloc, checked)?;
     let mut own = 0u64;

@@ -1,4 +1,4 @@
-//! The cells that a cell places, each place by itself.
+//! Placements: the cells that a cell places, one for each place.
 ghost use Rattle.std.specs.Prelude.{◌≡◌, ◌++◌, ◌<◌, ◌↔◌, length, Contains, IsTrue, IfOk, IfSome, OnOk, slice_get};
 ghost use Rattle.lvl_grid.specs.declared.point.Square.{Square};
 ghost use Rattle.lvl_names.specs.declared.layer.Layer.{Layer};
@@ -11,10 +11,10 @@ use lvl_flat::{Fitted, placing_at};
 use lvl_grid::{Map, Turn};
 use std::alloc::{AllocError, Global};
 
-/// By what placements are sorted: no two different ones have the same.
+/// What placements are sorted by. Different placements have different keys.
 type Key = (usize, i64, i64, u8, bool);
 
-/// A cell that is placed once, by its index and the map that places it.
+/// A cell, by its index, and a map that places it.
 #[derive(Clone, Copy, PartialEq, Eq)]
 pub(crate) struct Placement {
     cell: usize,
@@ -28,7 +28,7 @@ impl Placement {
     }
 }
 
-/// How many right angles the turn is.
+/// The number of quarter turns.
 fn quarters(turn: Turn) -> u8 {
     match turn {
         Turn::R0 => 0,
@@ -38,7 +38,7 @@ fn quarters(turn: Turn) -> u8 {
     }
 }
 
-/// Adds the cell of that index at each place of the reference.
+/// Appends the cell at the index `cell`, placed at each place of the reference.
 pub(crate) fn push_places(
     placements: &mut Vec<Placement>,
     reference: &Reference,
@@ -55,7 +55,7 @@ pub(crate) fn push_places(
     Ok(())
 }
 
-/// What a cell places, in which each cell goes by its own index.
+/// The placements of a cell's references, with the indexes of the cells that these name.
 pub(crate) fn placements_of(
     alloc: Global,
     checked: &Checked,
@@ -78,14 +78,14 @@ pub(crate) fn placements_of(
     Ok(placements)
 }
 
-/// Puts placements in the order of their keys.
+/// Sorts placements by their keys.
 pub(crate) fn sort_places(placements: &mut Vec<Placement>)
     ensures { HaveSame placements.old.items placements.new.items }
 {
     placements.sort_unstable_by_key(|placement| placement.key());
 }
 
-/// The index of the first of sorted placements, from an index on, that doesn't come before the key.
+/// The index of the first placement, from index `from` on, whose key isn't less than `key`.
 fn skip(placements: &[Placement], from: usize, key: Key) -> usize {
     for at in from..placements.len() {
         if placements[at].key() >= key {
@@ -95,7 +95,7 @@ fn skip(placements: &[Placement], from: usize, key: Key) -> usize {
     placements.len()
 }
 
-/// Whether the placement is at this index.
+/// Whether the placement at this index is `placement`.
 fn is_at(placements: &[Placement], at: usize, placement: &Placement) -> bool
     ensures { IsTrue result → Contains placements.now placement.now }
 {
@@ -105,8 +105,8 @@ fn is_at(placements: &[Placement], at: usize, placement: &Placement) -> bool
     }
 }
 
-/// Adds windows that have all that is covered by those placements which are not among the others. Both
-/// lists are to be sorted, as a matter of cost alone.
+/// Adds windows that have all that is covered by those placements that aren't among the others.
+/// Both lists should be sorted, or more windows are added than need be.
 pub(crate) fn hold_alone(
     windows: &mut Windows,
     library: &Fitted,

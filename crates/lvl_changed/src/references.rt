@@ -15,8 +15,8 @@ use lvl_cells::{Checked, Reference};
 use lvl_flat::Fitted;
 use std::alloc::{AllocError, Global};
 
-/// Adds what was found of the cell of a reference to the windows, at each place, and its partner to the
-/// placements.
+/// Adds the windows that were found for the cell of a reference, at each place of the reference,
+/// and appends the placements of its partner.
 fn place_partner(
     windows: &mut Windows,
     placements: &mut Vec<Placement>,
@@ -36,8 +36,9 @@ fn place_partner(
     Ok(())
 }
 
-/// What a cell places that has a partner, as placements of the partner; what was found of each cell that it
-/// places is added to the windows at each of its places.
+/// The placements of a cell's references, with partners in place of the cells; those without a
+/// partner are left out. The windows that were found for each of these cells are added at each
+/// place. If nothing is known for one of them, the windows become the whole grid.
 fn partners_placed(
     windows: &mut Windows,
     alloc: Global,
@@ -68,7 +69,8 @@ fn partners_placed(
     Ok(placements)
 }
 
-/// Adds windows outside of which the references of our cell cover the same squares as those of theirs.
+/// Adds windows outside of which the references of cell `ours` cover the same squares as those of
+/// cell `theirs`.
 pub(crate) fn hold_references(
     windows: &mut Windows,
     alloc: Global,

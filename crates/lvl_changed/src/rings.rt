@@ -12,7 +12,7 @@ use lvl_grid::{Point, Rings, Window};
 use std::alloc::{AllocError, Global};
 use std::cmp::Ordering;
 
-/// A window that has all squares which the ring covers.
+/// A window that has all squares that the ring covers.
 fn box_of(ring: &[Point]) -> Window
     ensures { (s : Square) → Covers ring.now s → IsWithin result s }
 {
@@ -28,7 +28,7 @@ fn box_of(ring: &[Point]) -> Window
     held
 }
 
-/// The points of the ring at an index; none past the last ring.
+/// The points of the ring at an index, or no points if there is no such ring.
 fn points_at(rings: &Rings, i: usize) -> &[Point] {
     match rings.get(i) {
         Some(ring) => ring,
@@ -36,7 +36,7 @@ fn points_at(rings: &Rings, i: usize) -> &[Point] {
     }
 }
 
-/// The order of rings, point by point.
+/// Compares two rings point by point, then by length.
 fn compare_rings(first: &[Point], second: &[Point]) -> Ordering {
     for (a, b) in first.iter().zip(second) {
         let order = (a.x, a.y).cmp(&(b.x, b.y));
@@ -47,7 +47,7 @@ fn compare_rings(first: &[Point], second: &[Point]) -> Ordering {
     first.len().cmp(&second.len())
 }
 
-/// The indexes of the rings, in the order of their points.
+/// The indexes of the rings, sorted by [`compare_rings`].
 fn order_of(alloc: Global, rings: &Rings) -> Result<Vec<usize>, AllocError> {
     let mut order: Vec<usize> = (0..rings.len()).collect(alloc)?;
     order.sort_unstable_by(|i, j| compare_rings(points_at(rings, *i), points_at(rings, *j)));
@@ -64,7 +64,8 @@ fn is_at(rings: &Rings, i: usize, ring: &[Point]) -> bool
     }
 }
 
-/// Whether the ring is found among others, of which the order is given.
+/// Whether the list has the ring. `order` has the sorted indexes of the list, else `false` says
+/// nothing.
 fn has_ring(rings: &Rings, order: &[usize], ring: &[Point]) -> bool
     ensures { IsTrue result → Contains rings.now ring.now }
 {
@@ -74,7 +75,7 @@ fn has_ring(rings: &Rings, order: &[usize], ring: &[Point]) -> bool
     }
 }
 
-/// Adds the boxes of the rings that the other list doesn't have.
+/// Adds the boxes of those rings that the list `others` doesn't have.
 fn hold_missing(
     windows: &mut Windows,
     alloc: Global,
@@ -95,8 +96,8 @@ fn hold_missing(
     Ok(())
 }
 
-/// Adds windows outside of which both lists cover the same squares: none where both cover the same, else
-/// the boxes of the rings that one list alone has.
+/// Adds windows outside of which both lists cover the same squares: none if both cover the same
+/// everywhere, else the boxes of the rings that only one list has.
 pub(crate) fn hold_rings(
     windows: &mut Windows,
     alloc: Global,

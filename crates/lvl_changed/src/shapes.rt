@@ -17,7 +17,7 @@ use lvl_refusal::Cause;
 use lvl_view::View;
 use std::alloc::{AllocError, Global};
 
-/// The rings of a cell's own shapes, where all of them are within 64 signed bits.
+/// The rings of a cell's own shapes, or None if a vertex is outside 64 signed bits.
 fn shapes_of(alloc: Global, cell: &Cell) -> Result<Option<Flat>, AllocError>
     ensures { IfOk result (λ found. IfSome found (λ flat. (layer : Layer) (s : Square)
         → FlatCovers flat layer s ↔ ShapesCover cell.now.shapes layer s)) }
@@ -50,8 +50,8 @@ fn hold_flats(
     Ok(())
 }
 
-/// Adds windows outside of which the own shapes of our cell cover the same squares as those of theirs, seen
-/// through the view's map of Layers.
+/// Adds windows outside of which the own shapes of cell `ours` cover the same squares as those of
+/// cell `theirs` under the view's map of Layers.
 pub(crate) fn hold_shapes(
     windows: &mut Windows,
     alloc: Global,

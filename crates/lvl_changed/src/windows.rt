@@ -1,4 +1,4 @@
-//! A few windows that together have all squares of some kind.
+//! A few windows that together have all squares of some set, and possibly more.
 ghost use Rattle.std.specs.Prelude.{◌≡◌, ◌<◌, IsTrue, IfSome, OnOk, Contains, vec_len};
 ghost use Rattle.std.specs.Int.{int_min, int_max};
 ghost use Rattle.lvl_grid.specs.declared.point.Point.{Point as GridPoint};
@@ -16,7 +16,8 @@ use lvl_flat::{Fitted, placing_at};
 use lvl_grid::{Map, Point, Window};
 use std::alloc::{AllocError, Global};
 
-/// Windows of which no two share a square, and as few as they may be; or the whole plane.
+/// A set of squares: at most `most` windows, no two of which share a square (one, if `most` is 0),
+/// or the whole grid if `anywhere` is set.
 #[derive(Drop)]
 pub(crate) struct Windows {
     list: Vec<Window>,
@@ -30,20 +31,20 @@ fn meet(first: Window, second: Window) -> bool {
     across && first.y0 < second.y1 && second.y0 < first.y1
 }
 
-/// Whether no square is in the window.
+/// Whether the window has no squares.
 fn has_no_square(window: Window) -> bool
     ensures { IsTrue result → (s : Square) → ¬ IsWithin window s }
 {
     window.x0 >= window.x1 || window.y0 >= window.y1
 }
 
-/// How wide and high a window is, both together, up to the greatest number.
+/// The sum of the width and the height of a window, at most `u64::MAX`.
 fn girth(window: Window) -> u64 {
     let width = window.x0.abs_diff(window.x1);
     width.saturating_add(window.y0.abs_diff(window.y1))
 }
 
-/// The window at a point, of no squares.
+/// The window from a point to the same point, which has no squares.
 pub(crate) fn spot(point: Point) -> Window
     ensures { result ≡ record { x0 = point.x; y0 = point.y; x1 = point.x; y1 = point.y } }
 {
@@ -55,7 +56,7 @@ pub(crate) fn spot(point: Point) -> Window
     }
 }
 
-/// A window that has the squares of both.
+/// The least window between the corners of both, which has the squares of both.
 pub(crate) fn joined(first: Window, second: Window) -> Window
     ensures { result ≡ record {
       x0 = int_min first.x0 second.x0;
@@ -92,7 +93,7 @@ fn high_corner(window: &Window) -> Point
     }
 }
 
-/// The squares of a window, placed by the map; None where a corner is outside of 64 signed bits.
+/// The image of a window, or None if a corner of it is outside 64 signed bits.
 fn placed(window: &Window, map: &Map) -> Option<Window>
     ensures { IfSome result
         (λ placed. (s : Square) → IsWithin window.now s → IsWithin placed (image_square map.now s)) }
@@ -103,7 +104,7 @@ fn placed(window: &Window, map: &Map) -> Option<Window>
 }
 
 impl Windows {
-    /// No windows. Of those that are added at most `most` are kept, and at least one.
+    /// The empty set. At most `most` windows are kept of those that are added, and at least one.
     pub(crate) fn none(alloc: Global, most: usize) -> Windows {
         Windows {
             list: Vec::new(alloc),
@@ -112,14 +113,14 @@ impl Windows {
         }
     }
 
-    /// Whether no square is in them.
+    /// Whether the set has no squares.
     fn is_empty(&self) -> bool
         ensures { IsTrue result → (s : Square) → ¬ Has self.now s }
     {
         !self.anywhere && self.list.is_empty()
     }
 
-    /// The windows, unless they are the whole plane.
+    /// The windows, or None if the set is the whole grid.
     pub(crate) fn into_list(self) -> Option<Vec<Window>>
         ensures { IfSome result (λ list. (s : Square) → Has self s → SomeHas list.items s) }
     {
@@ -129,14 +130,15 @@ impl Windows {
         Some(self.list)
     }
 
-    /// The whole plane from now on.
+    /// Makes the set the whole grid.
     pub(crate) fn hold_anywhere(&mut self)
         ensures { (s : Square) → Has self.new s }
     {
         self.anywhere = true;
     }
 
-    /// The index of a window that grows least if it is joined with that one; None if there is none.
+    /// The index of a window that grows least if it is joined with the given one, or None if there
+    /// are no windows.
     fn nearest(&self, window: Window) -> Option<usize>
         ensures { IfSome result (λ i. i < vec_len self.now.list) }
     {
@@ -153,8 +155,8 @@ impl Windows {
         nearest
     }
 
-    /// The index of a window that is to be joined with that one before it is added: one that shares a square
-    /// with it, or any if there are as many as there may be.
+    /// The index of a window to be joined with the given one before that is added: one that shares
+    /// a square with it, or the nearest if there are as many windows as there may be.
     fn to_join(&self, window: Window) -> Option<usize>
         ensures { IfSome result (λ i. i < vec_len self.now.list) }
     {
@@ -169,7 +171,8 @@ impl Windows {
         self.nearest(window)
     }
 
-    /// Adds a window, unless it has no square. It is joined with those that share a square with it.
+    /// Adds a window, unless it has no squares. It is joined with windows that share a square with
+    /// it.
     pub(crate) fn hold(&mut self, window: Window) -> Result<(), AllocError>
         ensures held { OnOk result ((s : Square) → IsWithin window s → Has self.new s) }
         ensures kept { OnOk result (Widens self.old self.new) }
@@ -186,7 +189,7 @@ impl Windows {
         Ok(())
     }
 
-    /// Adds a window as the map places it.
+    /// Adds the image of a window.
     fn hold_placed(&mut self, window: &Window, map: &Map) -> Result<(), AllocError>
         ensures held { OnOk result
             ((s : Square) → IsWithin window.now s → Has self.new (image_square map.now s)) }
@@ -201,7 +204,7 @@ impl Windows {
         }
     }
 
-    /// Adds other windows as the map places them.
+    /// Adds the images of other windows.
     fn hold_all_placed(&mut self, held: &Windows, map: &Map) -> Result<(), AllocError>
         ensures held { OnOk result (HasPlaced map.now held.now self.new) }
         ensures kept { OnOk result (Widens self.old self.new) }
@@ -216,7 +219,7 @@ impl Windows {
         Ok(())
     }
 
-    /// Adds other windows at each place of a reference.
+    /// Adds the images of other windows at each place of a reference.
     pub(crate) fn hold_places(
         &mut self,
         held: &Windows,
@@ -238,7 +241,7 @@ impl Windows {
         Ok(())
     }
 
-    /// Adds a window that has all that a cell covers.
+    /// Adds a window that has all squares that a cell covers.
     pub(crate) fn hold_cell(&mut self, library: &Fitted, cell: usize) -> Result<(), AllocError>
         ensures held { OnOk result
             ((layer : Layer) (s : Square) → CoversAt library.now.cells cell layer s → Has self.new s) }
@@ -253,7 +256,7 @@ impl Windows {
         }
     }
 
-    /// Adds a window that has all that a cell covers as the map places it.
+    /// Adds a window that has all squares that a cell covers, placed by the map.
     pub(crate) fn hold_placed_cell(
         &mut self,
         library: &Fitted,

@@ -1,4 +1,4 @@
--- A column gives way to its halves, or to what a sweep of it finds.
+-- A column is replaced by its halves, or by what a sweep of it finds.
 use Rattle.std.proofs.Common.{◌≡◌, ℤ, ◌<ℤ◌, ◌≤ℤ◌, List, [], ◌∷◌, ◌++◌, append_assoc, ap, ◌∙◌, map, length, All, Some}
 use Rattle.std.proofs.Common.{None, ◌⊎◌, inl, inr, ◌↔◌, refl, subst, sym, IfNone, IfSome, arith}
 use Rattle.std.proofs.lemmas.Int.{by_lt_z, ints}
@@ -35,7 +35,7 @@ true_part : (P : Square → Type 0) (whole l part : Lists) → IsPartOf P l part
 true_part P whole l part h t s First a = let p = (h s).0.0 a.0 in t s First (p.1, λ q. a.1 ((h s).1.1 (p.0, q)))
 true_part P whole l part h t s Second a = let p = (h s).1.0 a.0 in t s Second (p.1, λ q. a.1 ((h s).0.1 (p.0, q)))
 
--- a column gives way to its parts left and right of an abscissa
+-- a column is replaced by its parts left and right of an abscissa
 pub open_by_parts : (whole : Lists) (xs : List Lists) (c l r : Lists) (at : ℤ) (found : Found)
     → IsPartOf (λ s. s.x <ℤ at) c l → IsPartOf (λ s. at ≤ℤ s.x) c r
     → IsOpen whole (xs ++ c ∷ []) found → IsOpen whole ((xs ++ r ∷ []) ++ l ∷ []) found
@@ -65,7 +65,7 @@ open_by_parts whole xs c l r at found hl hr reported =
           (true_part (λ s. s.x <ℤ at) whole c l hl t);
     }
 
--- a column gives way to its halves
+-- a column is replaced by its halves
 pub open_by_halves : (whole : Lists) (xs : List Lists) (f g : List (List Point)) (left right : Column) (at : ℤ)
     (found : Found) → AreHalvesAt at f g left right
     → IsOpen whole (xs ++ (f, g) ∷ []) found → IsOpen whole ((xs ++ lists_of right ∷ []) ++ lists_of left ∷ []) found
@@ -73,14 +73,14 @@ open_by_halves whole xs f g left right at found halves =
     open_by_parts whole xs (f, g) (lists_of left) (lists_of right) at found
     (λ s. (halves.left_first s, halves.left_second s)) (λ s. (halves.right_first s, halves.right_second s))
 
--- one column more, after others
+-- one more column, after others
 pub one_more : (others : List Lists) (xs : List Column) (c : Column)
     → others ++ map lists_of (xs ++ c ∷ []) ≡ (others ++ map lists_of xs) ++ lists_of c ∷ []
 one_more others xs c =
     ap (λ (ls : List Lists). others ++ ls) (map-append lists_of xs (c ∷ []))
     ∙ sym (append_assoc others (map lists_of xs) (lists_of c ∷ []))
 
--- what a sweep up to a row says of a column, once what was found before it is known
+-- what a sweep up to the row of an earlier difference says of a column
 pub record IsFoundUpTo (l : Lists) (best found : Found) : Type 0 where
   pub alone : IsFoundIn l found
   pub least : (s : Square) → Agree l s ⊎ (NotBefore s best ⊎ NotBefore s found)
@@ -123,7 +123,7 @@ open_by_one whole xs c best found result up one bound reported =
       faithful = all_but_last (IsTrueTo whole) xs c reported.faithful;
     }
 
--- a column whose lists are the same is done
+-- a column whose lists are equal is done
 pub open_by_none : (whole : Lists) (xs : List Lists) (f g : List (List Point)) (best : Found) → f ≡ g
     → IsOpen whole (xs ++ (f, g) ∷ []) best → IsOpen whole xs best
 open_by_none whole xs f g best e reported =
@@ -195,7 +195,7 @@ found_up_to f g best (Some at) same differ least = record {
   least = λ s. elim (before_or_not s at.0) [ inl b ↦ inl (least s b) | inr n ↦ inr (inr n) ];
 }
 
--- the least square, in the words of a comparison
+-- the least square, as the contract of a comparison says it
 pub first_same : (f g : List (List Point)) (found : Found) → IsFirst (f, g) found
     → IfNone found ((s : Square) → SomeCovers f s ↔ SomeCovers g s)
 first_same f g None h = λ s. elim (h.least s) [ inl a ↦ a | inr n ↦ absurd n ]
@@ -211,7 +211,7 @@ pub first_least : (f g : List (List Point)) (found : Found) → IsFirst (f, g) f
 first_least f g None h = tt
 first_least f g (Some at) h = λ s b. elim (h.least s) [ inl a ↦ a | inr n ↦ absurd (n b) ]
 
--- a sweep that goes up to no row finds the least square
+-- a sweep of all rows finds the least square
 pub first_of_sweep : (f g : List (List Point)) (found : Found) → IsFoundUpTo (f, g) None found → IsFirst (f, g) found
 first_of_sweep f g found h = record {
   alone = h.alone;

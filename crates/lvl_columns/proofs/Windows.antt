@@ -1,4 +1,4 @@
--- Lists that cover what two lists cover in a part of the plane differ where those differ in it.
+-- Two lists that cover what two others cover in a part of the grid differ exactly where the others differ in that part.
 use Rattle.std.proofs.Common.{List, Option, None, Some, ◌↔◌, IfNone, IfSome}
 use Rattle.lvl_grid.specs.declared.point.Point.{Point}
 use Rattle.lvl_grid.specs.declared.point.Square.{Square}
@@ -53,6 +53,6 @@ least_there P f g shown_f shown_g None hf hg least = tt
 least_there P f g shown_f shown_g (Some at) hf hg least =
     λ s p before. agree_there P f g shown_f shown_g s hf hg p (least s before)
 
--- where all squares are of the part, rings cover there what they cover
+-- if the part has all squares, rings cover in it what they cover
 pub cover_all : (P : Square → Type 0) → ((s : Square) → P s) → (rings : List (List Point)) → CoverIn P rings rings
 cover_all P all rings s = (λ a. (all s, a), λ a. a.1)

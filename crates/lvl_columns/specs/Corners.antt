@@ -1,13 +1,13 @@
--- The corners of two lists of rings, and where both may be cut.
+-- The corners of two lists of rings, and where both lists may be cut.
 use Rattle.std.specs.Prelude.{◌≡◌, ℤ, ◌<ℤ◌, List, ◌++◌, Any}
 use Rattle.std.specs.List.{flat_map}
 use Rattle.lvl_grid.specs.declared.point.Point.{Point}
 
--- the corners of all rings of both lists, each as often as it is there
+-- the points of all rings of both lists, with duplicates
 abbrev pub corners_of : List (List Point) → List (List Point) → List Point
 corners_of first second = flat_map (λ ring. ring) first ++ flat_map (λ ring. ring) second
 
--- the abscissa is that of a corner, and lies strictly between those of two others
+-- a corner has the abscissa, one is left of it, and one is right of it
 pub record IsInner (at : ℤ) (corners : List Point) : Type 0 where
   pub left : Any (λ p. p.x <ℤ at) corners
   pub one : Any (λ p. p.x ≡ at) corners

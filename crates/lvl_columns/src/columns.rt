@@ -1,4 +1,4 @@
-//! The loop over the columns that are still to be compared.
+//! Columns, and the loop over those that are still to be compared.
 ghost use Rattle.std.specs.Prelude.{◌≡◌, ◌+◌, ◌*◌, ◌<◌, ◌≤◌, ◌⊎◌, ◌↔◌, ◌++◌, ◌∷◌, [], ℤ, Option, IfOk, IfNone};
 ghost use Rattle.std.specs.Prelude.{IfSome, IsTrue, OnOk, length};
 ghost use Rattle.lvl_grid.specs.Clip.{IsIn};
@@ -18,8 +18,8 @@ use lvl_simplify::simplified;
 use lvl_sweep::first_difference_up_to;
 use std::alloc::{AllocError, Global};
 
-/// What is left of two lists of rings in a column of the grid, and how many cuts made it, one within the
-/// other.
+/// Two lists of rings, clipped to a column of the grid. `depth` is the number of cuts, one within
+/// the other, that made the column.
 #[derive(Drop)]
 pub struct Column {
     pub first: Rings,
@@ -27,8 +27,8 @@ pub struct Column {
     pub depth: u32,
 }
 
-/// How far a comparison has come: the columns still to be compared, the least difference in the
-/// others, how many columns were made, and how many may be.
+/// The state of a comparison: the columns still to be compared, the least difference in the others,
+/// the number of columns that were made, and the greatest number that may be.
 #[derive(Drop)]
 pub struct Progress {
     pub pending: Vec<Column>,
@@ -37,17 +37,17 @@ pub struct Progress {
     pub most: u64,
 }
 
-/// What a comparison column by column found, and how much it was cut.
+/// What a comparison by columns found, and how many columns it made.
 #[derive(Clone, Copy, Debug)]
 pub struct Comparison {
-    /// The least square, by y and then x, that the rings of one list alone cover, with its side, or
-    /// None where both lists cover the same squares.
+    /// The least square, by `y` and then `x`, that the rings of only one list cover, with its side,
+    /// or None if both lists cover the same squares.
     pub found: Option<(Square, Side)>,
-    /// How many columns were made: two at each cut.
+    /// The number of columns that were made: two for each cut.
     pub columns: u64,
 }
 
-/// The lesser of two squares with their sides.
+/// The one of two differences whose square is less, or the only one that there is.
 fn lesser(best: Option<(Square, Side)>, found: Option<(Square, Side)>) -> Option<(Square, Side)>
     ensures one { (result ≡ best) ⊎ (result ≡ found) }
     ensures bound { (s : GridSquare) → (NotBefore s best ⊎ NotBefore s found) → NotBefore s result }
@@ -61,7 +61,7 @@ fn lesser(best: Option<(Square, Side)>, found: Option<(Square, Side)>) -> Option
     if new.is_before(old) { found } else { best }
 }
 
-/// The row of the square: no column need be compared above it.
+/// The row of the square, if there is one: no column need be compared above that row.
 fn row_of(best: Option<(Square, Side)>) -> Option<i64>
     ensures { result ≡ last_row best }
 {
@@ -71,7 +71,7 @@ fn row_of(best: Option<(Square, Side)>) -> Option<i64>
     }
 }
 
-/// What is left of the rings of a list in a part, joined where it spans the part.
+/// The rings of a list, clipped to a part and simplified.
 fn clipped(alloc: Global, rings: &Rings, part: &Part) -> Result<Rings, AllocError>
     ensures { IfOk result
         (λ clipped. (s : GridSquare) → SomeCovers clipped s ↔ (IsIn part.now s × SomeCovers rings.now s)) }
@@ -80,7 +80,7 @@ fn clipped(alloc: Global, rings: &Rings, part: &Part) -> Result<Rings, AllocErro
 }
 
 impl Progress {
-    /// Compares a column as it is.
+    /// Compares two lists by a sweep of each.
     fn sweep(&mut self, alloc: Global, first: &Rings, second: &Rings) -> Result<(), AllocError>
         ensures reported { OnOk result (GoesOn first.now second.now self.old self.new) }
         ensures limit { OnOk result ((self.new.columns ≡ self.old.columns) × (self.new.most ≡ self.old.most)) }
@@ -98,7 +98,7 @@ impl Progress {
         self.columns < self.most && self.most - self.columns >= 2
     }
 
-    /// Puts both halves in the column's place, the left one to be compared first.
+    /// Adds both halves of a column to the pending ones. The left half will be compared first.
     fn cut(&mut self, left: Column, right: Column) -> Result<(), AllocError>
         requires { self.old.columns + 2 ≤ self.old.most }
         ensures pending { OnOk result (self.new.pending.items ≡ (self.old.pending.items ++ right ∷ []) ++ left ∷ []) }
@@ -144,7 +144,7 @@ impl Progress {
         Ok(())
     }
 
-    /// Compares a part of two lists, of which it holds a copy until it is done.
+    /// Compares a part of two lists. The copy of the part is freed afterwards.
     fn part(
         &mut self,
         alloc: Global,
@@ -168,7 +168,7 @@ impl Progress {
     }
 }
 
-/// A copy of a list.
+/// A copy of a list of rings.
 fn copied(alloc: Global, rings: &Rings) -> Result<Rings, AllocError>
     ensures { IfOk result (λ copy. copy ≡ rings.now) }
 {
@@ -187,8 +187,8 @@ fn swept(alloc: Global, first: &Rings, second: &Rings) -> Result<Option<(Square,
     Ok(found)
 }
 
-/// The least difference of two lists that are not cut. Where all corners lie at two abscissas, copies
-/// of both are made simpler first, since each of their rings is joined with others.
+/// The least difference of two lists that aren't cut. If all corners are at two abscissas, copies
+/// of both lists are simplified first, since then each ring can be joined with others.
 fn uncut(alloc: Global, first: &Rings, second: &Rings) -> Result<Option<(Square, Side)>, AllocError>
     ensures { IfOk result (IsFirst (first.now, second.now)) }
 {
@@ -200,7 +200,8 @@ fn uncut(alloc: Global, first: &Rings, second: &Rings) -> Result<Option<(Square,
     swept(alloc, &ours, &theirs)
 }
 
-/// The least difference of two lists, that of the part left of an abscissa before that of the other.
+/// The least difference of two lists that are cut at the abscissa `at`: first the part left of it,
+/// then the other, with at most `most` columns in all.
 fn in_parts(
     alloc: Global,
     first: &Rings,
@@ -226,7 +227,8 @@ fn in_parts(
     })
 }
 
-/// How many columns may be made of two lists: two for each corner, at each of which is cut once at most.
+/// The greatest number of columns of two lists: two for each corner, since each cut is at another
+/// corner.
 fn most_columns(first: &Rings, second: &Rings) -> u64
     ensures { result ≤ 2 * length (corners_of first.now second.now) }
 {
@@ -234,7 +236,7 @@ fn most_columns(first: &Rings, second: &Rings) -> u64
     corners.saturating_mul(2)
 }
 
-/// The least difference of two lists, in columns where a cut is worth while.
+/// The least difference of two lists, by columns if a cut pays.
 fn least_difference(alloc: Global, first: &Rings, second: &Rings) -> Result<Comparison, AllocError>
     ensures found { IfOk result (λ it. IsFirst (first.now, second.now) it.found) }
     ensures columns { IfOk result (λ it. it.columns ≤ 2 * length (corners_of first.now second.now)) }
@@ -249,12 +251,12 @@ fn least_difference(alloc: Global, first: &Rings, second: &Rings) -> Result<Comp
     Ok(Comparison { found, columns: 0 })
 }
 
-/// The least square, by y and then x, that the rings of one list alone cover, with its side, or None
-/// where both lists cover the same squares; and how many columns were made to find it, at most two for
-/// each corner of both lists. Fails only when out of memory.
+/// The least square, by `y` and then `x`, that the rings of only one list cover, with its side, or
+/// None if both lists cover the same squares; and the number of columns that were made to find it,
+/// at most two for each corner of both lists. Fails only if out of memory.
 ///
-/// The right half is made when the left one is done, so beside the lists there are copies of about
-/// three quarters of them at most.
+/// The right half is copied after the left one is compared, so in addition to the lists there are
+/// copies of at most about three quarters of them.
 pub fn compare_by_columns(
     alloc: Global,
     first: &Rings,
@@ -278,7 +280,7 @@ pub fn compare_by_columns(
     least_difference(alloc, first, second)
 }
 
-/// What [`compare_by_columns`] finds.
+/// What [`compare_by_columns`] finds, without the number of columns.
 pub fn difference_by_columns(
     alloc: Global,
     first: &Rings,

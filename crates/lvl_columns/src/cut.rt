@@ -1,4 +1,4 @@
-//! Where a column is cut, if it is.
+//! Whether and where a column is cut. The choice is one of cost only.
 ghost use Rattle.std.specs.Prelude.{◌≡◌, ◌<ℤ◌, ◌++◌, Any, IsTrue, IfOk, IfSome};
 ghost use Rattle.lvl_columns.specs.Corners.{IsInner, corners_of};
 
@@ -10,7 +10,7 @@ use lvl_grid::{Point, Rings};
 use lvl_simplify::extent;
 use std::alloc::{AllocError, Global};
 
-/// How many edges a column has where cutting ends, about.
+/// About how many edges a column has at which cutting ends.
 const COLUMN_EDGES: u128 = 500;
 
 /// The least and the greatest abscissa of both lists.
@@ -20,19 +20,19 @@ fn extent_of_both(first: &Rings, second: &Rings) -> (i64, i64) {
     (left.min(other_left), right.max(other_right))
 }
 
-/// Whether an abscissa of the points lies strictly between two.
+/// Whether one of the points is strictly between two abscissas.
 fn has_between(points: &[Point], left: i64, right: i64) -> bool {
     points.iter().any(|point| left < point.x && point.x < right)
 }
 
-/// Whether all corners of both lists lie at two abscissas, the least and the greatest: then each ring is
-/// joined with others by its rows, and there is nothing to cut.
+/// Whether all corners of both lists are at the least or the greatest abscissa. Then there is
+/// nothing to cut, and each ring can be joined with others.
 pub(crate) fn is_narrow(first: &Rings, second: &Rings) -> bool {
     let (left, right) = extent_of_both(first, second);
     !has_between(first.points(), left, right) && !has_between(second.points(), left, right)
 }
 
-/// The sampled abscissas strictly between the least and the greatest of them, which rise.
+/// The sampled abscissas strictly between the least and the greatest of them, sorted.
 fn sampled_abscissas(
     alloc: Global,
     first: &Sample,
@@ -49,7 +49,8 @@ fn sampled_abscissas(
     Ok(abscissas)
 }
 
-/// Some of the abscissas, which cut them into a number of parts.
+/// Those of the sorted abscissas at which they are cut into `parts` parts of about the same size,
+/// without duplicates.
 fn quantiles(alloc: Global, abscissas: &[i64], parts: usize) -> Result<Vec<i64>, AllocError> {
     let mut cuts = Vec::new(alloc);
     for part in 1..parts {
@@ -65,8 +66,8 @@ fn quantiles(alloc: Global, abscissas: &[i64], parts: usize) -> Result<Vec<i64>,
     Ok(cuts)
 }
 
-/// Whether some number of columns makes less work: often the first cut gains nothing, and those that
-/// follow do.
+/// Whether some number of columns is estimated to be less work than the whole. Powers of two up to
+/// 1,024 are tried, since often one cut gains nothing and several do.
 fn is_worth_while(
     alloc: Global,
     samples: (&Sample, &Sample),
@@ -87,7 +88,7 @@ fn is_worth_while(
     Ok(false)
 }
 
-/// The middle one of sampled abscissas, if by the estimate a cut there is worth while.
+/// The middle one of the sampled abscissas, if the estimate says that cutting pays.
 fn sampled_cut(alloc: Global, first: &Rings, second: &Rings) -> Result<Option<i64>, AllocError> {
     let ours = Sample::of(alloc, first)?;
     let theirs = Sample::of(alloc, second)?;
@@ -102,7 +103,7 @@ fn sampled_cut(alloc: Global, first: &Rings, second: &Rings) -> Result<Option<i6
     Ok(None)
 }
 
-/// The middle abscissa of all corners that lie strictly between the least and the greatest.
+/// The median of the abscissas of all corners that are strictly between the least and the greatest.
 fn middle_cut(alloc: Global, first: &Rings, second: &Rings) -> Result<Option<i64>, AllocError> {
     let (left, right) = extent_of_both(first, second);
     let mut abscissas = Vec::new(alloc);
@@ -112,12 +113,12 @@ fn middle_cut(alloc: Global, first: &Rings, second: &Rings) -> Result<Option<i64
     Ok(abscissas.get(abscissas.len() / 2).copied())
 }
 
-/// How many cuts are made of samples alone, one within the other.
+/// How many cuts, one within the other, may be chosen from samples.
 const SAMPLED: u32 = 32;
 
-/// Where two lists are cut, after a number of cuts one within the other. The estimate chooses, from
-/// samples that a file may have been made to deceive: so deep cuts are made in the middle of all corners,
-/// and a sweep that is found to be too much work after all is cut there too.
+/// Where two lists are cut that come from `depth` cuts, one within the other. An estimate from
+/// samples chooses. A file can be made to mislead it, so deep cuts are at the median of all
+/// corners, and a sweep that turns out to be too much work is cut there too.
 fn chosen_cut(
     alloc: Global,
     first: &Rings,
@@ -139,49 +140,49 @@ fn chosen_cut(
     Ok(None)
 }
 
-/// Whether a point lies left of the abscissa.
+/// Whether a point is left of the abscissa.
 fn has_left(points: &[Point], at: i64) -> bool
     ensures { IsTrue result → Any (λ p. p.x <ℤ at) points.now }
 {
     points.iter().any(|point| point.x < at)
 }
 
-/// Whether a point of either slice does.
+/// Whether a point of either slice is left of the abscissa.
 fn either_has_left(first: &[Point], second: &[Point], at: i64) -> bool
     ensures { IsTrue result → Any (λ p. p.x <ℤ at) (first.now ++ second.now) }
 {
     has_left(first, at) || has_left(second, at)
 }
 
-/// Whether a point lies at the abscissa.
+/// Whether a point is at the abscissa.
 fn has_one(points: &[Point], at: i64) -> bool
     ensures { IsTrue result → Any (λ p. p.x ≡ at) points.now }
 {
     points.iter().any(|point| point.x == at)
 }
 
-/// Whether a point of either slice does.
+/// Whether a point of either slice is at the abscissa.
 fn either_has_one(first: &[Point], second: &[Point], at: i64) -> bool
     ensures { IsTrue result → Any (λ p. p.x ≡ at) (first.now ++ second.now) }
 {
     has_one(first, at) || has_one(second, at)
 }
 
-/// Whether a point lies right of the abscissa.
+/// Whether a point is right of the abscissa.
 fn has_right(points: &[Point], at: i64) -> bool
     ensures { IsTrue result → Any (λ p. at <ℤ p.x) points.now }
 {
     points.iter().any(|point| at < point.x)
 }
 
-/// Whether a point of either slice does.
+/// Whether a point of either slice is right of the abscissa.
 fn either_has_right(first: &[Point], second: &[Point], at: i64) -> bool
     ensures { IsTrue result → Any (λ p. at <ℤ p.x) (first.now ++ second.now) }
 {
     has_right(first, at) || has_right(second, at)
 }
 
-/// Whether the abscissa is that of one of the corners, and lies strictly between those of two others.
+/// Whether one of the corners has the abscissa, one is left of it, and one is right of it.
 fn is_inner(first: &[Point], second: &[Point], at: i64) -> bool
     ensures { IsTrue result → IsInner at (first.now ++ second.now) }
 {
@@ -194,10 +195,10 @@ fn is_inner(first: &[Point], second: &[Point], at: i64) -> bool
     either_has_right(first, second, at)
 }
 
-/// The abscissa at which two lists are cut that come of `depth` cuts, one within the other, or None where
-/// a cut isn't worth while: a matter of cost alone. It is a corner's, and lies strictly between those of
-/// two others, so each half has fewer abscissas strictly inside. One list alone is cut with an empty
-/// second one. Fails only when out of memory.
+/// The abscissa at which to cut two lists that come from `depth` cuts, one within the other, or
+/// None if a cut doesn't pay. The choice is one of cost only. The abscissa is that of a corner,
+/// with others left and right of it, so each half has fewer abscissas strictly inside. For a single
+/// list, the second one is empty. Fails only if out of memory.
 pub fn cut_at(
     alloc: Global,
     first: &Rings,

@@ -1,21 +1,21 @@
-//! Estimates of the work that sweeps of a list of rings are, before and after cuts. No contract speaks
-//! of them.
+//! Estimates of the work of sweeps of a list of rings, with and without cuts. They guide a choice
+//! of cost only, so they have no contracts.
 //!
-//! All numbers are in 128 bits. A sample is at most 2^32 units high, and a list of rings has fewer than
-//! 2^40 points on any machine of today, so sums of heights stay below 2^72 and their products with a
-//! number of edges below 2^112; where a list is longer, sums and products stay at the greatest number.
+//! All numbers are in 128 bits. A sample is at most 2^32 units high, and a list of rings has fewer
+//! than 2^40 points on any machine of today, so sums of heights are below 2^72, and their products
+//! with a number of edges below 2^112. For longer lists, sums and products saturate.
 
 use crate::sample::{Sample, over};
 use lvl_simplify::Outline;
 
-/// The vertical edges of sampled rings, cut to columns.
+/// The vertical edges of sampled rings, clipped to columns.
 #[derive(Clone, Copy)]
 struct Load {
     edges: u128,
     heights: u128,
-    /// The rectangles that span a column, which are joined there.
+    /// The number of rectangles that span a column. They are joined there.
     spanning: u128,
-    /// Their heights, each counted once.
+    /// The sum of their heights.
     spanned: u128,
 }
 
@@ -27,8 +27,8 @@ impl Load {
         spanned: 0,
     };
 
-    /// Adds a ring whose edges are that high on average, that a number of cuts go through, and that spans
-    /// a number of columns.
+    /// Adds a ring. Its edges are `height` high on average, `cuts` cuts go through it, and it spans
+    /// `columns` columns.
     fn add(&mut self, outline: &Outline, height: u128, cuts: u128, columns: u128) {
         let folds = outline.folds();
         let spanning = columns.saturating_mul(folds);
@@ -42,7 +42,7 @@ impl Load {
         self.spanned = self.spanned.saturating_add(spanning.saturating_mul(height));
     }
 
-    /// The same for all rings of a list, of which some were sampled.
+    /// The load of all rings of a list, given that of the sampled ones.
     fn scaled(self, rings: u128, sampled: u128) -> Load {
         let scale = |sum: u128| over(sum.saturating_mul(rings), sampled);
         Load {
@@ -53,7 +53,7 @@ impl Load {
         }
     }
 
-    /// With what is left once the spanning pieces are joined, and what lies within them is dropped.
+    /// The load after the spanning pieces are joined and what is within them is dropped.
     fn joined(self, height: u128, columns: u128) -> Load {
         let room = height.saturating_mul(columns);
         let layers = Layers::of(self.spanned, room);
@@ -67,15 +67,16 @@ impl Load {
     }
 }
 
-/// How many spanning pieces lie over each other on average, in sixteenths. They begin anywhere, one
-/// independent of the others, so `e` to the power of their number is about how many are joined to one.
+/// How many spanning pieces overlap each other in a row, on average, in sixteenths. If they begin
+/// at random, about `e` to the power of that number are joined to one.
 #[derive(Clone, Copy)]
 struct Layers(u128);
 
 impl Layers {
     const MOST: u128 = 1 << 20;
 
-    /// Of pieces whose heights add up to one number, in columns whose heights add up to another.
+    /// The overlap of pieces with the sum of heights `spanned` in columns with the sum of heights
+    /// `room`.
     fn of(spanned: u128, room: u128) -> Layers {
         let layers = spanned.saturating_mul(16).checked_div(room).unwrap_or(0);
         Layers(layers.min(Layers::MOST))
@@ -91,7 +92,8 @@ impl Layers {
         )
     }
 
-    /// How many rectangles a number of pieces is joined to: by the first terms of the series of `e`.
+    /// How many rectangles are left of `pieces` pieces after they are joined, by the first terms of
+    /// the series of `e`.
     fn joined(self, pieces: u128) -> u128 {
         let (second, third, fourth) = self.powers();
         let terms = [
@@ -107,7 +109,8 @@ impl Layers {
         over(pieces.saturating_mul(256), sum)
     }
 
-    /// How many edges of a number lie within none of the pieces, where they are about as high.
+    /// How many of `edges` edges aren't within one of the pieces, if they are about as high as
+    /// these.
     fn uncovered(self, edges: u128) -> u128 {
         let (second, _, fourth) = self.powers();
         let sum = (second / 3)
@@ -117,21 +120,22 @@ impl Layers {
     }
 }
 
-/// The work of a sweep, counted in edges that are passed in a row.
+/// The work of sweeps. Its unit is to pass one edge in one row.
 #[derive(Clone, Copy)]
 pub struct Work {
-    /// How many edges there are.
+    /// The number of edges.
     pub edges: u128,
-    /// How many are alive, summed up over the ordinates at which the sweep stops, and weighed.
+    /// The sum of the numbers of edges alive at the ordinates at which a sweep stops, weighted as
+    /// [`weighed`] says.
     pub passes: u128,
-    /// How many pieces of rectangles are joined before.
+    /// The number of pieces that are joined before.
     pub joined: u128,
-    /// How many edges are clipped, summed up over the cuts that halve a column, one after another.
+    /// The sum of the numbers of edges that are clipped when columns are halved again and again.
     pub clipped: u128,
 }
 
 impl Work {
-    /// The work of all sweeps of a list where the plane is cut at these abscissas, which rise.
+    /// The work of all sweeps of a list that is cut at these abscissas, which are sorted.
     pub(crate) fn of(sample: &Sample, cuts: &[i64]) -> Work {
         let columns = (cuts.len() as u128).saturating_add(1);
         let height = sample.height();
@@ -161,8 +165,8 @@ impl Work {
         }
     }
 
-    /// Clipping, joining, sorting and sweeping together, in passes over an edge: what an edge, a joined
-    /// piece and an edge that is clipped cost beside the sweep is measured.
+    /// The cost of clipping, joining, sorting and sweeping in all, in passes of an edge. The
+    /// factors are measured.
     fn cost(&self) -> u128 {
         self.passes
             .saturating_add(self.edges.saturating_mul(2))
@@ -170,28 +174,28 @@ impl Work {
             .saturating_add(self.clipped / 2)
     }
 
-    /// Whether this is less than the other by a tenth.
+    /// Whether this is less than nine tenths of the other.
     pub(crate) fn is_less_than(&self, other: &Work) -> bool {
         self.cost().saturating_mul(10) < other.cost().saturating_mul(9)
     }
 
-    /// Whether a sweep is so little work that no cut can pay.
+    /// Whether the sweep is so little work that no cut can pay.
     pub(crate) fn is_little(&self) -> bool {
         self.passes < self.edges.saturating_mul(4)
     }
 }
 
-/// How many edges alive in a row the nearest caches hold, about.
+/// About how many edges alive in a row fit in the nearest caches.
 const NEAR: u128 = 2_500;
 
-/// Passes with a number of edges alive in a row: each costs more where these don't stay in the nearest
-/// caches, up to nine times as much.
+/// The cost of `passes` passes with `alive` edges alive in a row. If these don't fit in the nearest
+/// caches, each pass costs more, up to nine times as much.
 fn weighed(passes: u128, alive: u128) -> u128 {
     let further = passes.saturating_mul(alive.min(NEAR * 8)) / NEAR;
     passes.saturating_add(further)
 }
 
-/// The edges of the sampled rings where the plane is cut.
+/// The load of the sampled rings, cut at these abscissas.
 fn load_of(sample: &Sample, cuts: &[i64]) -> Load {
     let borders = sample.borders();
     let mut load = Load::NONE;
@@ -204,7 +208,7 @@ fn load_of(sample: &Sample, cuts: &[i64]) -> Load {
     load
 }
 
-/// How many of the cuts go through the ring.
+/// The number of cuts that go through the ring.
 fn cuts_through(cuts: &[i64], outline: &Outline) -> u128 {
     let before = cuts.partition_point(|cut| *cut <= outline.left);
     let after = cuts.partition_point(|cut| *cut < outline.right);
@@ -217,8 +221,9 @@ fn is_cut(cuts: &[i64], x: i64) -> bool {
     cuts.get(at) == Some(&x)
 }
 
-/// How many columns a ring spans that a number of cuts go through: none where nothing is cut, and else
-/// all that it has a piece in, but those within which it ends or has another edge.
+/// How many columns a ring spans, if `through` cuts go through it. It is 0 without cuts, else the
+/// number of columns that it reaches into, less those in which it begins, ends or has a further
+/// edge.
 fn columns_spanned(cuts: &[i64], borders: (i64, i64), outline: &Outline, through: u128) -> u128 {
     if cuts.is_empty() {
         return 0;

@@ -1,17 +1,17 @@
-//! Where a column is cut that has corners of large rings which go in and out many times. No contract
-//! speaks of it.
+//! Where to cut a column that has corners of large rings that go in and out many times. The choice
+//! is one of cost only, so it has no contracts.
 //!
-//! A line through such a ring crosses edges by the thousand, and each goes through every column. A
-//! column without corners of the ring is joined at once, so what counts is how many have some.
+//! A line through such a ring crosses thousands of its edges, and these go through every column. In
+//! a column without corners of the ring they are joined at once, so few columns should have some.
 
 use lvl_grid::{Point, Rings};
 use lvl_simplify::Outline;
 use std::alloc::{AllocError, Global};
 
-/// How many points a ring has at least that is looked at.
+/// The fewest points of a ring that is considered.
 const MANY: usize = 1024;
 
-/// Appends the abscissas of points that lie strictly between two.
+/// Appends the abscissas of the points that are strictly between two abscissas.
 pub(crate) fn push_between(
     abscissas: &mut Vec<i64>,
     points: &[Point],
@@ -26,7 +26,8 @@ pub(crate) fn push_between(
     Ok(())
 }
 
-/// Appends those of all large folded rings that lie between the borders of their ring.
+/// Appends the abscissas of the points of all large folded rings that are strictly between the
+/// borders of their ring.
 fn push_folded(abscissas: &mut Vec<i64>, rings: &Rings) -> Result<(), AllocError> {
     for i in 0..rings.len() {
         let ring = rings.ring(i);
@@ -41,9 +42,9 @@ fn push_folded(abscissas: &mut Vec<i64>, rings: &Rings) -> Result<(), AllocError
     Ok(())
 }
 
-/// The middle abscissa of the corners that large folded rings have within a column, while these are
-/// many. A column costs as much as it has points, and what is left in it the square of its corners:
-/// both together cost least where these are about alike.
+/// The median abscissa of the corners that large folded rings have strictly inside a column, or
+/// None if they are few. A column costs about as much as it has points, and the rest of these rings
+/// in it about the square of the number of those corners. The sum is least if both are about equal.
 pub(crate) fn folded_cut(
     alloc: Global,
     first: &Rings,

@@ -9,7 +9,7 @@ use lvl_grid::Rings;
 use lvl_simplify::simplified;
 use std::alloc::{AllocError, Global};
 
-/// What is left of the rings on both sides of an abscissa, joined where it spans a side.
+/// The rings clipped to both sides of an abscissa, and simplified.
 fn split(alloc: Global, rings: Rings, at: i64) -> Result<(Rings, Rings), AllocError>
     ensures left { IfOk result
         (λ parts. (s : GridSquare) → SomeCovers parts.0 s ↔ ((s.x <ℤ at) × SomeCovers rings s)) }
@@ -23,7 +23,7 @@ fn split(alloc: Global, rings: Rings, at: i64) -> Result<(Rings, Rings), AllocEr
     Ok((left, right))
 }
 
-/// Both halves of a column that is cut at an abscissa. Each list goes as soon as it is split.
+/// Both halves of a column that is cut at an abscissa. Each list is freed as soon as it is split.
 pub(crate) fn halves_at(
     alloc: Global,
     column: Column,

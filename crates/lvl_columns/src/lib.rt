@@ -1,10 +1,11 @@
-//! Two lists of rings compared column by column.
+//! Comparison of two lists of rings, column by column.
 //!
-//! A sweep walks every edge alive in a row at every ordinate, so over scattered shapes its cost grows
-//! as n to the power 1.5. [`difference_by_columns`] cuts the plane into columns first, clips the
-//! rings to them, and sweeps each column by itself. Where to cut and when to stop is a matter of cost
-//! alone: the answer is the same for every choice. Shapes as wide as a column would make work in all
-//! columns that they span, so in each column the rings are made simpler first.
+//! A sweep passes every edge that is alive at every ordinate at which an edge begins or ends, so
+//! for n scattered shapes its cost grows as n to the power 1.5. [`difference_by_columns`] first
+//! cuts the grid into columns, clips the rings to them, and sweeps each column by itself. Where to
+//! cut and when to stop is a question of cost only: the answer is the same for every choice. Shapes
+//! that are wider than a column would be work in all columns that they span, so in each column the
+//! rings are simplified first.
 //!
 //! ```
 //! let mut first = Rings::new(alloc);

@@ -1,16 +1,17 @@
-//! How often a sweep of a list passes its edges, counted before it is made. No contract speaks of it.
+//! How often a sweep of a list would pass its edges. This guides a choice of cost only, so it has
+//! no contracts.
 
 use crate::slices::Slices;
 use lvl_grid::{Point, Rings};
 use std::alloc::{AllocError, Global};
 
-/// Fewer points than these are never too many for a sweep.
+/// A list of fewer points is never too much work for a sweep.
 const FEW: usize = 4096;
 
-/// How often a sweep may pass each edge on average.
+/// How often a sweep may pass each edge, on average.
 const OFTEN: u128 = 64;
 
-/// The ordinates at which vertical edges begin, and those at which they end, both rising.
+/// The ordinates at which vertical edges begin, and those at which they end, both sorted.
 #[derive(Drop)]
 struct Ends {
     lows: Vec<i64>,
@@ -31,7 +32,7 @@ impl Ends {
         Ok(ends)
     }
 
-    /// Appends those of the edges of a ring.
+    /// Appends the ordinates of the edges of a ring.
     fn push(&mut self, ring: &[Point]) -> Result<(), AllocError> {
         let mut y = ring.last().map_or(0, |last| last.y);
         for point in ring {
@@ -44,15 +45,14 @@ impl Ends {
         Ok(())
     }
 
-    /// How many edges are alive at the ordinates at which edges begin, and at those at which edges end,
-    /// summed up: at least the passes of a sweep, and at most twice as many.
+    /// The sum of the numbers of edges alive at the ordinates at which edges begin and at those at
+    /// which edges end: at least the passes of a sweep, and at most twice as many.
     fn passes(&self) -> u128 {
         self.alive_at(&self.lows)
             .saturating_add(self.alive_at(&self.highs))
     }
 
-    /// How many edges are alive at ordinates that rise, summed up. An ordinate that is there several
-    /// times counts once.
+    /// The sum of the numbers of edges alive at sorted ordinates. Repeated ordinates count once.
     fn alive_at(&self, ordinates: &[i64]) -> u128 {
         let mut begun = 0;
         let mut ended = 0;
@@ -70,7 +70,7 @@ impl Ends {
     }
 }
 
-/// How many of the ordinates, which rise, are up to `y`, where the first `count` of them are.
+/// How many of the sorted ordinates are at most `y`, given that the first `count` of them are.
 fn passed(ordinates: &[i64], mut count: usize, y: i64) -> usize {
     while count < ordinates.len() && ordinates[count] <= y {
         count += 1;
@@ -78,8 +78,8 @@ fn passed(ordinates: &[i64], mut count: usize, y: i64) -> usize {
     count
 }
 
-/// Whether a sweep of the rings passes each edge more often, on average, than that of a column should.
-/// Edges are sorted only where slices leave it open.
+/// Whether a sweep of the rings would pass each edge more often, on average, than [`OFTEN`]. The
+/// edges are sorted to find out only if the bound by slices doesn't decide.
 pub(crate) fn are_passed_often(alloc: Global, rings: &Rings) -> Result<bool, AllocError> {
     if rings.points().len() < FEW {
         return Ok(false);

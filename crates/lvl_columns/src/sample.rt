@@ -1,24 +1,25 @@
-//! Some rings of a list, taken at random: what the work of a sweep is estimated from. No contract speaks
-//! of them.
+//! Some rings of a list, taken at random, from which the work of a sweep is estimated. They guide a
+//! choice of cost only, so they have no contracts.
 
 use lvl_grid::{Point, Rings};
 use lvl_simplify::Outline;
 use std::alloc::{AllocError, Global};
 
-/// A Lehmer generator of pseudo-random numbers with a fixed seed, so that a comparison takes the same
-/// steps each time.
+/// A Lehmer generator of pseudo-random numbers. Its seed is fixed, so that a comparison takes the
+/// same steps each time.
 #[derive(Drop)]
 struct Random(u64);
 
 impl Random {
-    /// A number below `most`, or 0. A state is below 2^31, so the product is below 2^47.
+    /// The next number, below `most`, or 0 if `most` is 0. A state is below 2^31, so the product is
+    /// below 2^47.
     fn below(&mut self, most: usize) -> usize {
         self.0 = self.0.saturating_mul(48_271) % 0x7FFF_FFFF;
         (self.0 as usize).checked_rem(most).unwrap_or(0)
     }
 }
 
-/// Some rings of a list, taken at random; all of them where there are few.
+/// Some rings of a list, taken at random, or all of them if there are few.
 #[derive(Drop)]
 pub struct Sample {
     outlines: Vec<Outline>,
@@ -28,21 +29,22 @@ pub struct Sample {
     unit: u128,
 }
 
-/// The quotient, or the greatest number where the divisor is 0.
+/// The quotient, or the greatest number if the divisor is 0.
 pub(crate) fn over(a: u128, b: u128) -> u128 {
     a.checked_div(b).unwrap_or(u128::MAX)
 }
 
-/// How many rings are taken at least, where there are as many.
+/// The least number of rings that are taken, if there are that many.
 const LEAST: usize = 256;
 
-/// How many rings are taken at most.
+/// The greatest number of rings that are taken.
 const MOST: usize = 4096;
 
-/// Of how many points of a ring one is taken: two that are close to each other often lie on one line.
+/// One of that many points of a ring is taken, since points close to each other are often on one
+/// line.
 const APART: usize = 16;
 
-/// Fewer points than these say nothing on how they lie.
+/// Fewer points than this don't show how shapes are scattered.
 const FEW: u128 = 16;
 
 impl Sample {
@@ -73,7 +75,7 @@ impl Sample {
         Ok(sample)
     }
 
-    /// Takes a ring, with at most that many of its points.
+    /// Takes a ring, and at most `most` of its points (one if that is 0).
     fn push(&mut self, ring: &[Point], most: usize, random: &mut Random) -> Result<(), AllocError> {
         self.outlines.push(Outline::of(ring))?;
         for _ in 0..(ring.len() / APART).min(most).max(1) {
@@ -90,17 +92,17 @@ impl Sample {
         &self.outlines
     }
 
-    /// Sampled points, from the left.
+    /// The sampled points, in order of abscissa.
     pub(crate) fn points(&self) -> &[Point] {
         &self.points
     }
 
-    /// How many rings the list has.
+    /// The number of rings of the list.
     pub(crate) fn rings(&self) -> u128 {
         self.rings
     }
 
-    /// From the least to the greatest ordinate of the sampled rings, in grid steps.
+    /// The height of the sampled rings together, in grid steps.
     fn steps(&self) -> u128 {
         let mut low = i64::MAX;
         let mut high = i64::MIN;
@@ -114,8 +116,8 @@ impl Sample {
         u128::from(high.abs_diff(low))
     }
 
-    /// A height in units of which the sampled rings together are at most 2^32 high: products of heights
-    /// and numbers of edges then fit 128 bits.
+    /// A height in units, given in grid steps. The sampled rings together are at most 2^32 units
+    /// high, so products of heights and numbers of edges fit in 128 bits.
     pub(crate) fn scaled(&self, steps: u128) -> u128 {
         if self.unit == 1 {
             return steps;
@@ -128,7 +130,8 @@ impl Sample {
         self.scaled(self.steps())
     }
 
-    /// At how many ordinates points lie, judged by how often two that are sampled lie at one.
+    /// An estimate of the number of distinct ordinates of points, by how often two sampled points
+    /// have the same.
     pub(crate) fn lines(&self) -> u128 {
         let many = self.ordinates.len() as u128;
         let mut meetings: u128 = 0;
@@ -142,8 +145,9 @@ impl Sample {
         over(many.saturating_mul(many), meetings.saturating_mul(2))
     }
 
-    /// How far apart along `y` neighbours along `x` are on average, in 256ths of a third of the height:
-    /// about 256 where shapes are scattered, and less where they lie along a slope.
+    /// How far apart along `y` sampled points are that are neighbors along `x`, on average, in
+    /// 256ths of a third of the height. It is about 256 if shapes are scattered, and less if they
+    /// are along a slope.
     fn scattering(&self) -> u128 {
         let mut apart: u128 = 0;
         let mut before: Option<Point> = None;
@@ -165,8 +169,8 @@ impl Sample {
         .min(256)
     }
 
-    /// How high the part of a column is in which there are shapes, on average, in that many columns, in
-    /// units.
+    /// The height of the part of a column that has shapes, on average, if there are `columns`
+    /// columns, in units.
     pub(crate) fn room(&self, columns: u128) -> u128 {
         let part = self.scattering().max(over(256, columns));
         (self.height().saturating_mul(part) / 256).max(1)

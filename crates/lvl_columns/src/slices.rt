@@ -1,19 +1,21 @@
-//! The height of a list of rings cut into slices, by which passes of a sweep are bounded without sorting.
+//! The height of a list of rings, cut into slices: a bound on the passes of a sweep, without
+//! sorting.
 
 use lvl_grid::{Point, Rings};
 use std::alloc::{AllocError, Global};
 
-/// The binary logarithm of the number of slices, at most.
+/// There are at most 2^(`BITS` + 1) slices.
 const BITS: u32 = 18;
 
-/// How many edges begin in a slice, and how many end there.
+/// The number of edges that begin in a slice, and of those that end there.
 #[derive(Clone, Copy)]
 struct Slice {
     begun: usize,
     ended: usize,
 }
 
-/// Slices of the height of a list, from the lowest on, about as many as it has edges.
+/// Slices of the height of a list, from the lowest on: at most about two for each point of the
+/// list, and at most 524,288.
 #[derive(Drop)]
 pub struct Slices {
     slices: Vec<Slice>,
@@ -54,7 +56,7 @@ impl Slices {
         Ok(slices)
     }
 
-    /// The slice of an ordinate.
+    /// The index of the slice that has an ordinate.
     fn at(&self, y: i64) -> usize {
         y.abs_diff(self.low).checked_shr(self.shift).unwrap_or(0) as usize
     }
@@ -81,13 +83,13 @@ impl Slices {
         self.edges = self.edges.saturating_add(1);
     }
 
-    /// How many vertical edges there are.
+    /// The number of vertical edges.
     pub(crate) fn edges(&self) -> u128 {
         self.edges
     }
 
-    /// The passes of a sweep if all edges of each slice were alive at all of its ordinates: at least as
-    /// many as there are, and close to it where slices have few edges.
+    /// The passes of a sweep if all edges of each slice were alive at all of its ordinates: at
+    /// least the true number, and close to it if slices have few edges.
     pub(crate) fn passes(&self) -> u128 {
         let rows = 1u128.checked_shl(self.shift).unwrap_or(u128::MAX);
         let mut alive: usize = 0;

@@ -1,4 +1,4 @@
-//! Two lists of rings compared in a window.
+//! Comparison of two lists of rings in a window.
 ghost use Rattle.std.specs.Prelude.{◌↔◌, IfOk, IfNone, IfSome};
 ghost use Rattle.lvl_grid.specs.declared.point.Square.{Square as GridSquare};
 ghost use Rattle.lvl_grid.specs.Winding.{SomeCovers};
@@ -11,9 +11,9 @@ use lvl_grid::{Part, Ring, Rings, Square, Window};
 use lvl_region::Side;
 use std::alloc::{AllocError, Global};
 
-/// The least square of the window, by y and then x, that the rings of one list alone cover, with
-/// its side, or None where both lists cover the same squares of it. Where there is no window, all
-/// squares count. Fails only when out of memory.
+/// The least square of the window, by `y` and then `x`, that the rings of only one list cover, with
+/// its side, or None if both lists cover the same squares of the window. Without a window, all
+/// squares are compared. Fails only if out of memory.
 pub fn difference_in(
     alloc: Global,
     first: &Rings,
@@ -44,7 +44,7 @@ pub fn difference_in(
     }
 }
 
-/// The same of two slices of rings.
+/// [`difference_in`] for two slices of rings.
 pub fn first_difference_in(
     alloc: Global,
     first: &[Ring],

@@ -1,4 +1,4 @@
--- Two lists of sheets walked Layer by Layer: the Layers on which they are not alike are still to come.
+-- Two lists of sheets, walked Layer by Layer: the Layers on which they differ are still to come.
 use Rattle.std.proofs.Common.{◌≡◌, ◌↔◌, ◌+◌, ◌<◌, ◌≤◌, ℕ, zero, suc, Bool, true, false, not, IsTrue, List, [], ◌∷◌}
 use Rattle.std.proofs.Common.{Option, Some, None, map, drop, length, slice_get, get_or, refl, sym, ap, ◌∙◌, subst, inl}
 use Rattle.std.proofs.Common.{inr, arith}
@@ -65,7 +65,7 @@ among_or_none l (s ∷ us) =
       | false ↦ λ e. elim (among_or_none l us) [ inl a ↦ inl (inr a) | inr n ↦ inr (rw e n) ]
     ] refl
 
--- what is among the sheets is among those after a Layer, or is that Layer
+-- a Layer of the sheets is one of those after a given Layer, or that Layer
 among_after : (l m : Layer) (us : List PlainSheet) → Among l us → Among l (later m us) ⊎ (l ≡ m)
 among_after l m [] a = absurd a
 among_after l m (s ∷ us) a =
@@ -86,7 +86,7 @@ head_first l s us sorted a =
     let p = among_at l us a in
     subst (ComesBefore s.layer) (p.2 s) (sorted 0 (suc p.0) s (omega arith) (omega (arith, p.1)))
 
--- a Layer that comes before the head, or before what comes before it, is not among the sheets
+-- a Layer that comes before the first sheet, or before a Layer that does, isn't one of the sheets
 not_among : (l m h : Layer) (us : List PlainSheet) → AreSorted us → head_layer us ≡ Some h → (ComesBefore l h)
     → Among l us → ⊥
 not_among l m h [] sorted e b a = absurd a
@@ -97,11 +97,12 @@ not_among l m h (s ∷ us) sorted e b (inr a) =
     let same : s.layer ≡ h = cc in
     before_itself l (before_trans l s.layer l (subst (ComesBefore l) (sym same) b) (head_first l s us sorted a))
 
--- two lists of sheets were walked, and this is left of each: a Layer that is not yet passed as alike is still to come
+-- the state of the walk, with these sheets left of both lists: a Layer on which both aren't yet known to cover the same
+-- is still to come
 abbrev pub IsWalked : (Layer → Type 0) → (us vs : List PlainSheet) → Type 0
 IsWalked alike us vs = (l : Layer) → alike l ⊎ (Among l us ⊎ Among l vs)
 
--- at first only a Layer that neither has is passed
+-- at first only a Layer that neither list has isn't to come
 pub walked_none : (alike : Layer → Type 0) (a b : List PlainSheet)
     → ((l : Layer) → rings_on l a ≡ [] → rings_on l b ≡ [] → alike l) → IsWalked alike a b
 walked_none alike a b none l = elim (among_or_none l a) [
@@ -121,7 +122,7 @@ sorted_drop zero us p = p
 sorted_drop (suc n) [] p = p
 sorted_drop (suc n) (s ∷ us) p = sorted_drop n us (sorted_tail s us p)
 
--- one Layer further, where both are alike on it
+-- one Layer further, if both cover the same on it
 pub walked_more : (alike : Layer → Type 0) (us vs : List PlainSheet) (m : Layer) → IsWalked alike us vs → alike m
     → IsWalked alike (later m us) (later m vs)
 walked_more alike us vs m w passed l =
@@ -134,7 +135,7 @@ walked_more alike us vs m w passed l =
       ]
     ]
 
--- nothing is left: both are alike on all Layers
+-- if no sheet is left, both cover the same on all Layers
 pub walked_all : (alike : Layer → Type 0) (us vs : List PlainSheet) → IsWalked alike us vs
     → IsLesser (head_layer us) (head_layer vs) None → (l : Layer) → alike l
 walked_all alike [] [] w e l = elim (w l) [ inl x ↦ x | inr x ↦ elim x [ inl y ↦ absurd y | inr y ↦ absurd y ] ]
@@ -159,7 +160,7 @@ before_or a b late = elim (cases_lt a.layer b.layer) [
   ]
 ]
 
--- the lesser head comes before no other head
+-- neither first Layer comes before the lesser of both
 lesser_ours : (p q m : Layer) → IsLesser (Some p) (Some q) (Some m) → (m ≡ p) ⊎ ComesBefore m p
 lesser_ours p q m (inl h) = inl (let e = h.0 in cc)
 lesser_ours p q m (inr h) =
@@ -175,7 +176,7 @@ before_head : (l m h : Layer) → ComesBefore l m → (m ≡ h) ⊎ ComesBefore 
 before_head l m h b (inl e) = subst (ComesBefore l) e b
 before_head l m h b (inr c) = before_trans l m h b c
 
--- on a Layer before the lesser head both are alike
+-- on a Layer before the lesser first Layer both cover the same
 pub walked_before : (alike : Layer → Type 0) (us vs : List PlainSheet) (m l : Layer) → AreSorted us → AreSorted vs
     → IsWalked alike us vs → IsLesser (head_layer us) (head_layer vs) (Some m) → ComesBefore l m → alike l
 walked_before alike [] [] m l ours theirs w e before = cc
@@ -228,7 +229,7 @@ after_less : (m : Layer) (s : PlainSheet) (us : List PlainSheet) → s.layer ≡
     → length (later m (s ∷ us)) < length (s ∷ us)
 after_less m s us e = rw (same_is s.layer m e) (omega arith)
 
--- and less is left
+-- and fewer sheets are left
 pub walked_less : (us vs : List PlainSheet) (m : Layer) → IsLesser (head_layer us) (head_layer vs) (Some m)
     → length (later m us) + length (later m vs) < length us + length vs
 walked_less [] [] m e = cc
@@ -239,7 +240,7 @@ walked_less (s ∷ us) (t ∷ vs) m (inl e) =
 walked_less (s ∷ us) (t ∷ vs) m (inr e) =
     let f = e.0 in let at : t.layer ≡ m = cc in omega (arith, after_less m t vs at, after_shorter m (s ∷ us))
 
--- what the lesser of the Layers at two places says of the sheets from there on
+-- the lesser of the Layers at two indexes is the lesser first Layer of the sheets from there on
 pub lesser_heads : (a b : List PlainSheet) (i j : ℕ) (p q r m : Option Layer) → p ≡ slice_get (map (λ s. s.layer) a) i
     → q ≡ slice_get (map (λ s. s.layer) b) j → IsLesser p q r → r ≡ m
     → IsLesser (head_layer (drop i a)) (head_layer (drop j b)) m

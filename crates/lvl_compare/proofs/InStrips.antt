@@ -1,4 +1,4 @@
--- What two layouts differ in, part by part.
+-- The first difference of two layouts, part by part.
 use Rattle.std.proofs.Common.{◌≡◌, ◌↔◌, ◌⊎◌, inl, inr, List, Option, Some, None, IsSomeAnd, ℤ, ◌<ℤ◌, ◌≤ℤ◌}
 use Rattle.std.proofs.Common.{true, false, int_lt, refl, sym, subst, ◌∙◌, arith, ℕ, zero, pos, negsuc, ◌-ℤ◌, ◌<◌}
 use Rattle.std.specs.Prelude.{IfNone, IfSome}
@@ -31,7 +31,7 @@ use Rattle.lvl_columns.specs.Windows.{IsShown}
 use Rattle.lvl_compare.specs.inside.Strips.{Found, Precedes, IsFoundIn, IsLeast, ShowsOf, IsLeftIn, from_on, up_to}
 use Rattle.lvl_compare.specs.inside.Strips.{seen_of}
 
--- what is flattened within a window is what the top covers of it
+-- a layout that is flattened within a window covers the squares of the window that the top covers
 pub shows_top : (s : Settled) (w : Window) (f : List PlainSheet) → IsFlattenedWithin s w f → ShowsOf (TopCovers s) w f
 shows_top s w f flat l q =
     let P : PlainCell Rings → Type 0 = λ top. CellCovers RingsCover s.cells l top q in
@@ -40,7 +40,7 @@ shows_top s w f flat l q =
       λ b. both.1 (b.0, subst (λ o. IsSomeAnd o P) flat.is_top b.1),
     )
 
--- and with its Layers mapped, what it covers seen through the map
+-- and with its Layers mapped, those that the top covers under the map
 pub shows_moved : (pairs : List LayerPair) (a : Draws) (w : Window) (f m : List PlainSheet) → ShowsOf a w f
     → IsMapped pairs f m → ShowsOf (IsMoved pairs a) w m
 shows_moved pairs a w f m shows is l q = (
@@ -62,7 +62,7 @@ alike_there a b w f g ours theirs l q shown same = (
   λ y. ((ours l q).0 (same.1 ((theirs l q).1 (shown, y)))).1,
 )
 
--- one side alone covers it, among what is drawn in a window and among all
+-- only one side draws a square of a window, in the flat layouts of the window and in all
 alone_there : (a b : Draws) (w : Window) (f g : List PlainSheet) → ShowsOf a w f → ShowsOf b w g → (l : Layer)
     (q : Square) (side : Side) → IsAlone (RingsCover (rings_on l f)) (RingsCover (rings_on l g)) q side
     → IsWithin w q × IsAlone (a l) (b l) q side
@@ -73,7 +73,7 @@ alone_there a b w f g ours theirs l q Second h =
     let c = (theirs l q).0 h.0 in
     (c.0, (c.1, λ x. h.1 ((ours l q).1 (c.0, x))))
 
--- what two flat layouts of a window differ in
+-- the first difference of two flat layouts of a window
 pub flats_found : (a b : Draws) (w : Window) (f g : List PlainSheet) (found : Option Found) → ShowsOf a w f
     → ShowsOf b w g → IfNone found ((l : Layer) → AlikeOn f g l)
     → IfSome found (λ at. IsFirstApart f g at.0 at.1 at.2)
@@ -101,7 +101,7 @@ below a b h = grind (arith, ints, h)
 pub not_below : (a b : ℤ) → int_lt a b ≡ false → b ≤ℤ a
 not_below a b h = grind (arith, ints, h)
 
--- the order of Layers, and of squares, is one of three
+-- of two Layers, or two squares, one comes before the other, or they are equal
 layers_order : (a b : Layer) → ComesBefore a b ⊎ ((a ≡ b) ⊎ ComesBefore b a)
 layers_order a b =
     elim (cases_order a.layer b.layer) [
@@ -151,7 +151,7 @@ before_before r s t (inl h) (inr k) = inl (omega (arith, ints, h, k.0))
 before_before r s t (inr h) (inl k) = inl (omega (arith, ints, h.0, k))
 before_before r s t (inr h) (inr k) = inr (h.0 ∙ k.0, omega (arith, ints, h.1, k.1))
 
--- what comes before the first of two comes before the second, which does not come before the first
+-- what comes before the first of two comes before the second, if the second doesn't come before the first
 precedes_second : (l : Layer) (s : Square) (x y : Found) → Precedes l s x.0 x.1 → (Precedes y.0 y.1 x.0 x.1 → ⊥)
     → Precedes l s y.0 y.1
 precedes_second l s x y before late =
@@ -182,7 +182,7 @@ precedes_second l s x y before late =
           ]
     ]
 
--- what comes before one that comes before another comes before that
+-- the order is transitive
 precedes_further : (l : Layer) (s : Square) (x y : Found) → Precedes l s x.0 x.1 → Precedes x.0 x.1 y.0 y.1
     → Precedes l s y.0 y.1
 precedes_further l s x y (inl b) (inl c) = inl (before_trans l x.0 y.0 b c)
@@ -234,7 +234,7 @@ least_found a b V W P (Some x) (Some y) r from too split f g (inr is) =
           ];
     })
 
--- what is found in a part is found in another of the same squares
+-- what is found in a part is found in any part with the same squares
 pub found_alike : (a b : Draws) (V W : Square → Type 0) (found : Option Found) → ((q : Square) → V q → W q)
     → ((q : Square) → W q → V q) → IsFoundIn a b V found → IsFoundIn a b W found
 found_alike a b V W None to back h = λ l q shown. h l q (back q shown)
@@ -244,7 +244,7 @@ found_alike a b V W (Some at) to back h = record {
   least = λ l q shown before. h.least l q (back q shown) before;
 }
 
--- the squares of the front of a window
+-- the squares of the part of a window up to an abscissa
 pub front_left : (w : Window) (x : ℤ) → x ≤ℤ w.x1 → (q : Square) → IsWithin (up_to x w) q → IsLeftIn w x q
 front_left w x inside q h = (
   record {
@@ -259,7 +259,7 @@ front_left w x inside q h = (
 pub left_front : (w : Window) (x : ℤ) (q : Square) → IsLeftIn w x q → IsWithin (up_to x w) q
 left_front w x q h = record { x_from = h.0.x_from; x_below = h.1; y_from = h.0.y_from; y_below = h.0.y_below }
 
--- what is left of a further abscissa is left of the first, or in the strip between them
+-- a square left of a greater abscissa is left of the lesser one, or in the strip between both
 strip_in : (w : Window) (x end : ℤ) → w.x0 ≤ℤ x → (q : Square) → IsLeftIn (from_on x w) end q → IsLeftIn w end q
 strip_in w x end from q h = (
   record {
@@ -298,7 +298,7 @@ strip_found a b w x end found next all from further =
     least_found a b (IsLeftIn w x) (IsLeftIn (from_on x w) end) (IsLeftIn w end) found next all
     (further_left w x end further) (strip_in w x end from) (left_or_strip w x end)
 
--- nothing is left of the window, and all of it is left of its end
+-- no square of the window is left of its left border, and all are left of its right border
 pub none_left : (a b : Draws) (w : Window) → IsFoundIn a b (IsLeftIn w w.x0) None
 none_left a b w l q shown = absurd (omega (arith, ints, shown.0.x_from, shown.1))
 
@@ -333,7 +333,7 @@ hull_second v w q h = record {
   y_below = omega (arith, ints, clamps, h.y_below);
 }
 
--- of the squares that are seen neither draws any outside of the window
+-- neither layout draws a square outside of the window
 nowhere_else : (a b : Draws) (Seen : Square → Type 0) (w : Window)
     → ((l : Layer) (q : Square) → Seen q → a l q → IsWithin w q)
     → ((l : Layer) (q : Square) → Seen q → b l q → IsWithin w q) → (l : Layer) (q : Square) → Seen q
@@ -362,12 +362,12 @@ found_apart a b Seen w (Some at) shown ours theirs h = record {
       nowhere_else a b Seen w ours theirs at.0 q seen (λ in'. h.least at.0 q in' (inr (refl, before)));
 }
 
--- what is drawn is within what holds both, and seen through a map still
+-- what is drawn is in the window that has both extents, under a map too
 moved_within : (pairs : List LayerPair) (a : Draws) (w : Window) → ((l : Layer) (q : Square) → a l q → IsWithin w q)
     → (l : Layer) (q : Square) → IsMoved pairs a l q → IsWithin w q
 moved_within pairs a w h l q m = h m.source q m.covers
 
--- a number that is not below zero, as a natural one
+-- a number that isn't below zero, as a natural number
 up : ℤ → ℕ
 up (pos n) = n
 up (negsuc n) = zero
@@ -378,7 +378,7 @@ up_rises (pos m) (pos n) from less = omega (arith, ints, less)
 up_rises (pos m) (negsuc n) from less = absurd (omega (arith, ints, less))
 up_rises (negsuc m) b from less = absurd (omega (arith, ints, from))
 
--- how many columns there are from an abscissa up to another
+-- the number of columns from an abscissa up to another
 pub columns : ℤ → ℤ → ℕ
 columns x end = up (end -ℤ x)
 
@@ -387,7 +387,7 @@ unfolding columns
 fewer_columns x end last further inside =
     up_rises (last -ℤ end) (last -ℤ x) (omega (arith, ints, inside)) (omega (arith, ints, further))
 
--- what a window and the one that is seen share is seen, and all that is seen of the window
+-- the intersection with the optional window has exactly those squares of the window that are compared
 pub seen_shown : (v : Option Window) (w : Window) (q : Square) → IsWithin (seen_of v w) q → IsShown v q
 seen_shown None w q h = tt
 seen_shown (Some v) w q h = record {
@@ -406,7 +406,7 @@ shown_seen (Some v) w q seen h = record {
   y_below = omega (arith, ints, clamps, h.y_below, seen.y_below);
 }
 
--- of the squares that are seen, what either draws is within what is seen of the window that holds both
+-- squares that are compared and that either layout draws are in the intersection with the window of both extents
 ours_within : (a : Draws) (v : Option Window) (one two w : Window) → w ≡ seen_of v (hull one two)
     → ((l : Layer) (q : Square) → a l q → IsWithin one q) → (l : Layer) (q : Square) → IsShown v q → a l q
     → IsWithin w q
@@ -421,7 +421,7 @@ theirs_within t pairs v one two w is h l q seen drawn =
     subst (λ (u : Window). IsWithin u q) (sym is)
     (shown_seen v (hull one two) q seen (hull_second one two q (moved_within pairs t two h l q drawn)))
 
--- what is found in that window is what is found of all that is seen
+-- what is found in that window is what is found among all squares that are compared
 pub whole_same : (a t : Draws) (pairs : List LayerPair) (v : Option Window) (one two w : Window)
     (found : Option Found) → w ≡ seen_of v (hull one two) → ((l : Layer) (q : Square) → a l q → IsWithin one q)
     → ((l : Layer) (q : Square) → t l q → IsWithin two q) → IsFoundIn a (IsMoved pairs t) (IsWithin w) found

@@ -1,4 +1,4 @@
--- What two layouts differ in, window by window.
+-- The first difference of two layouts, window by window.
 use Rattle.std.proofs.Common.{◌≡◌, ◌++◌, ◌∷◌, [], List, Option, Some, None, inl, inr, refl, sym, subst, arith}
 use Rattle.std.specs.Prelude.{IfNone, IfSome}
 use Rattle.std.proofs.lemmas.Int.{ints, clamps}
@@ -11,7 +11,7 @@ use Rattle.lvl_compare.specs.Tops.{Draws, DrawSame, IsFirstDifference}
 use Rattle.lvl_compare.specs.inside.Strips.{Found, IsFoundIn, IsLeast, seen_of}
 use Rattle.lvl_compare.proofs.InStrips.{least_found, seen_shown, shown_seen}
 
--- what is seen of a window is within it
+-- squares of the intersection with a window are in the window
 seen_within : (v : Option Window) (w : Window) (q : Square) → IsWithin (seen_of v w) q → IsWithin w q
 seen_within None w q h = h
 seen_within (Some v) w q h = record {
@@ -21,11 +21,11 @@ seen_within (Some v) w q h = record {
   y_below = omega (arith, ints, clamps, h.y_below);
 }
 
--- without windows nothing is seen
+-- without windows no square is compared
 pub none_seen : (a b : Draws) (v : Option Window) → IsFoundIn a b (IsSeenIn v []) None
 none_seen a b v l q seen = absurd (Any-nil (λ w. IsWithin w q) seen.1)
 
--- with one window more
+-- with one more window
 pub window_more : (a b : Draws) (v : Option Window) (ws : List Window) (w part : Window)
     (found next all : Option Found) → part ≡ seen_of v w → IsFoundIn a b (IsSeenIn v ws) found
     → IsFoundIn a b (IsWithin part) next → IsLeast found next all → IsFoundIn a b (IsSeenIn v (ws ++ w ∷ [])) all
@@ -41,7 +41,7 @@ window_more a b v ws w part found next all is before here least =
       | inr this ↦ inr (subst (λ (u : Window). IsWithin u q) (sym is) (shown_seen v w q s.0 this))
     ]) before here least
 
--- what is found of some squares is their first difference, or they have none
+-- what is found among some squares is the first difference, or there is none
 pub part_same : (a b : Draws) (part : Square → Type 0) (found : Option Found) → IsFoundIn a b part found
     → IfNone found (DrawSame part a b)
 part_same a b part None h = h

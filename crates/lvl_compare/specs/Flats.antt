@@ -1,4 +1,4 @@
--- Two flat layouts, and where they differ first.
+-- Two flat layouts, and their first difference.
 use Rattle.std.specs.Prelude.{◌≡◌, ◌↔◌, ◌⊎◌, List, [], ◌∷◌, Option, Some, None, if◌then◌else◌}
 use Rattle.lvl_grid.specs.declared.point.Square.{Square}
 use Rattle.lvl_grid.specs.declared.point.Window.{Window}
@@ -12,28 +12,30 @@ use Rattle.lvl_region.specs.declared.region.Side.{Side}
 use Rattle.lvl_grid.specs.Squares.{IsBefore}
 use Rattle.lvl_columns.specs.Windows.{IsShown}
 
--- on the Layer both cover the same squares
+-- both cover the same squares on the Layer
 abbrev pub AlikeOn : List PlainSheet → List PlainSheet → Layer → Type 0
 AlikeOn a b layer = (s : Square) → RingsCover (rings_on layer a) s ↔ RingsCover (rings_on layer b) s
 
--- on lesser Layers both cover the same, and one side alone covers the square
+-- a difference on the first Layer that has one: on lesser Layers both cover the same, and only one side covers the
+-- square
 pub record IsApart (a b : List PlainSheet) (layer : Layer) (square : Square) (side : Side) : Type 0 where
   pub alone : IsAlone (RingsCover (rings_on layer a)) (RingsCover (rings_on layer b)) square side
   pub least_layer : (l : Layer) → ComesBefore l layer → AlikeOn a b l
 
--- the square is the first, on the first Layer, that one side alone covers
+-- the first difference: on lesser Layers, and at lesser squares of this Layer, both cover the same, and only one side
+-- covers the square
 pub record IsFirstApart (a b : List PlainSheet) (layer : Layer) (square : Square) (side : Side) : Type 0 where
   pub alone : IsAlone (RingsCover (rings_on layer a)) (RingsCover (rings_on layer b)) square side
   pub least_layer : (l : Layer) → ComesBefore l layer → AlikeOn a b l
   pub least_square : (s : Square) → IsBefore s square
       → RingsCover (rings_on layer a) s ↔ RingsCover (rings_on layer b) s
 
--- on the Layer both cover the same of the window's squares
+-- both cover the same squares of the optional window on the Layer
 abbrev pub AlikeIn : Option Window → List PlainSheet → List PlainSheet → Layer → Type 0
 AlikeIn window a b layer =
     (s : Square) → IsShown window s → RingsCover (rings_on layer a) s ↔ RingsCover (rings_on layer b) s
 
--- the square is the first of the window's, on the first Layer, that one side alone covers
+-- the first difference among the squares of the optional window
 pub record IsFirstApartIn (window : Option Window) (a b : List PlainSheet) (layer : Layer) (square : Square)
     (side : Side) : Type 0 where
   pub shown : IsShown window square
@@ -52,7 +54,7 @@ abbrev pub later : Layer → List PlainSheet → List PlainSheet
 later layer [] = []
 later layer (sheet ∷ sheets) = if same_layer sheet.layer layer then sheets else sheet ∷ sheets
 
--- the one of two Layers that does not come after the other, or the one that is there
+-- the lesser of two Layers, or the only one that there is
 abbrev pub IsLesser : Option Layer → Option Layer → Option Layer → Type 0
 IsLesser None other result = result ≡ other
 IsLesser (Some a) None result = result ≡ Some a

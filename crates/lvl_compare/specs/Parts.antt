@@ -9,6 +9,6 @@ use Rattle.lvl_columns.specs.Windows.{IsShown}
 abbrev pub SomeHas : List Window → Square → Type 0
 SomeHas windows s = Any (λ w. IsWithin w s) windows
 
--- the square is seen, and one of the windows has it
+-- the optional window has the square, and so does one of the windows of the list
 abbrev pub IsSeenIn : Option Window → List Window → Square → Type 0
 IsSeenIn seen windows s = IsShown seen s × SomeHas windows s

@@ -1,4 +1,4 @@
--- Where two layouts differ, by the squares that they draw.
+-- Where two layouts differ, in terms of the squares that they draw.
 use Rattle.std.specs.Prelude.{◌↔◌}
 use Rattle.lvl_grid.specs.declared.point.Square.{Square}
 use Rattle.lvl_grid.specs.Squares.{IsBefore}
@@ -7,16 +7,16 @@ use Rattle.lvl_names.specs.Layers.{ComesBefore}
 use Rattle.lvl_region.specs.Region.{IsAlone}
 use Rattle.lvl_region.specs.declared.region.Side.{Side}
 
--- the squares that a layout draws on each Layer
+-- what a layout draws: for each Layer, a set of squares
 abbrev pub Draws : Type 1
 Draws = Layer → Square → Type 0
 
--- of the squares that are seen both draw the same on every Layer
+-- on every Layer both draw the same of the squares for which Seen holds
 abbrev pub DrawSame : (Square → Type 0) → Draws → Draws → Type 0
 DrawSame Seen a b = (layer : Layer) (s : Square) → Seen s → a layer s ↔ b layer s
 
--- of the squares that are seen, that one on that Layer is drawn by that side alone; before it both draw the same of
--- them: on lesser Layers, and on the Layer at lesser squares, by y and then x
+-- the first difference of two layouts, among the squares for which Seen holds: only one side draws the square on the
+-- Layer, and on lesser Layers, and at lesser squares of this Layer, both draw the same
 pub record IsFirstDifference (Seen : Square → Type 0) (a b : Draws) (layer : Layer) (square : Square)
     (side : Side) : Type 0 where
   pub seen : Seen square

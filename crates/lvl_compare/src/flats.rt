@@ -1,4 +1,4 @@
-//! Two flat layouts compared Layer by Layer, up to the first square that one of them alone covers.
+//! Comparison of two flat layouts, Layer by Layer, up to their first difference.
 ghost use Rattle.std.specs.Prelude.{◌≡◌, ◌↔◌, drop, Some, IfOk, IfNone, IfSome, IsTrue};
 ghost use Rattle.lvl_names.specs.declared.layer.Layer.{Layer as PlainLayer};
 ghost use Rattle.lvl_columns.specs.Windows.{window_of};
@@ -11,9 +11,9 @@ use lvl_names::{Layer, comes_before};
 use lvl_region::Side;
 use std::alloc::{AllocError, Global};
 
-/// The first Layer, and on it the first square, by y and then x, that one of the two alone covers,
-/// with its side; None where both cover the same squares on every Layer. A Layer that one of them
-/// lacks covers nothing there.
+/// The first difference: the first Layer, and on it the first square, by `y` and then `x`, that
+/// only one of the two covers, with its side. None if both cover the same squares on every Layer. A
+/// Layer that one of them doesn't have covers nothing there. Fails only if out of memory.
 pub fn first_difference(
     alloc: Global,
     first: &Flat,
@@ -27,9 +27,9 @@ pub fn first_difference(
     first_difference_in(alloc, first, second, None)
 }
 
-/// The same of the squares of a window alone: the first Layer, and on it the first square of the
-/// window, that one of the two alone covers; None where both cover the same squares of the window on
-/// every Layer. Where there is no window, all squares count.
+/// The first difference in a window: the first Layer, and on it the first square of the window,
+/// that only one of the two covers, with its side. None if both cover the same squares of the
+/// window on every Layer. Without a window, all squares are compared. Fails only if out of memory.
 pub fn first_difference_in(
     alloc: Global,
     first: &Flat,
@@ -56,7 +56,7 @@ pub fn first_difference_in(
     Ok(None)
 }
 
-/// The lesser of two Layers, or the one that is there.
+/// The lesser of two Layers, or the only one that there is.
 pub fn lesser(first: Option<Layer>, second: Option<Layer>) -> Option<Layer>
     ensures { IsLesser first second result }
 {
@@ -67,7 +67,7 @@ pub fn lesser(first: Option<Layer>, second: Option<Layer>) -> Option<Layer>
     }
 }
 
-/// The index after the Layer's, if it is at this index.
+/// `place + 1` if the Layer at the index `place` is this one, else `place`.
 pub fn past(flat: &Flat, place: usize, layer: Layer) -> usize
     ensures { drop result flat.now ≡ later layer (drop place flat.now) }
 {
@@ -78,7 +78,7 @@ pub fn past(flat: &Flat, place: usize, layer: Layer) -> usize
     }
 }
 
-/// Whether the Layer is at this index.
+/// Whether the Layer at the index `place` is this one.
 fn stands_at(flat: &Flat, place: usize, layer: Layer) -> bool
     ensures { IsTrue result ↔ (head_layer (drop place flat.now) ≡ Some layer) }
 {

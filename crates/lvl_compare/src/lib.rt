@@ -1,10 +1,12 @@
-//! Two layouts compared: flat ones Layer by Layer, and libraries strip by strip.
+//! Comparison of two layouts: of flat ones Layer by Layer, and of libraries strip by strip.
 //!
-//! [`first_difference`] finds the first square that one of two flat layouts alone covers,
-//! [`first_difference_in`] the first of a window, [`difference_by_strips`] the first of two libraries
-//! that are never flattened whole, and [`difference_in_windows`] the first in some windows.
+//! [`first_difference`] finds the first square that only one of two flat layouts covers, and
+//! [`first_difference_in`] the first in a window. [`difference_by_strips`] finds the first that
+//! only one of two libraries draws, without flattening them as a whole, and
+//! [`difference_in_windows`] the first in some windows.
 //!
-//! `wide` and `narrow` are checked libraries, whose tops draw rectangles of 4 by 2 and of 3 by 2:
+//! Here `wide` and `narrow` are checked libraries whose tops draw rectangles of 4 by 2 and of 3 by
+//! 2 squares:
 //!
 //! ```
 //! let first = flatten(alloc, &wide)?;

@@ -1,4 +1,4 @@
-//! Two flat layouts compared Layer by Layer, by any way to keep a region.
+//! Comparison of two flat layouts, Layer by Layer, by any type of region.
 ghost use Rattle.std.specs.Prelude.{◌≡◌, ◌↔◌, IfOk, IfNone, IfSome};
 ghost use Rattle.lvl_names.specs.declared.layer.Layer.{Layer as PlainLayer};
 ghost use Rattle.lvl_grid.specs.Winding.{IsRing};
@@ -13,7 +13,7 @@ use lvl_names::Layer;
 use lvl_region::{Region, Side, difference};
 use std::alloc::{AllocError, Global};
 
-/// A ring of these points.
+/// The ring of these points.
 fn ring_of(alloc: Global, points: &[Point]) -> Result<Ring, AllocError>
     requires { IsRing points.now }
     ensures { IfOk result (λ ring. ring ≡ points.now) }
@@ -24,7 +24,7 @@ fn ring_of(alloc: Global, points: &[Point]) -> Result<Ring, AllocError>
     }
 }
 
-/// The rings, each by itself.
+/// A list of the rings, each with its own points.
 fn each_ring(alloc: Global, rings: &Rings) -> Result<Vec<Ring>, AllocError>
     ensures { IfOk result (λ list. list.items ≡ rings.now) }
 {
@@ -35,7 +35,7 @@ fn each_ring(alloc: Global, rings: &Rings) -> Result<Vec<Ring>, AllocError>
     Ok(list)
 }
 
-/// A square that the rings of one list alone cover, by regions of that kind.
+/// A square that the rings of only one list cover, by regions of this type.
 fn difference_of<R: Region>(
     alloc: Global,
     first: &Rings,
@@ -51,9 +51,10 @@ fn difference_of<R: Region>(
     difference::<R>(alloc, &first, &second)
 }
 
-/// The first Layer on which two flat layouts differ, and a square of it that one of them alone covers,
-/// by regions of any kind; None where both cover the same squares on every Layer. Which square it is
-/// the kind decides: [`crate::first_difference`] has the least.
+/// The first Layer on which two flat layouts differ, and a square of it that only one of them
+/// covers, with its side; None if both cover the same squares on every Layer. Which square it is
+/// depends on the type of region: [`crate::first_difference`] returns the least. Fails only if out
+/// of memory.
 pub fn difference_by<R: Region>(
     alloc: Global,
     first: &Flat,

@@ -1,4 +1,5 @@
-//! Two libraries compared strip by strip, so that only what is drawn in one strip is held.
+//! Comparison of two libraries strip by strip, so that only what is drawn in one strip is in
+//! memory.
 ghost use Rattle.std.specs.Prelude.{◌≡◌, ◌<◌, ◌<ℤ◌, ◌≤ℤ◌, ◌↔◌, IsTrue, IfOk, IfSome, IfNone};
 ghost use Rattle.std.specs.Int.{int_min, int_max};
 ghost use Rattle.lvl_grid.specs.declared.point.Square.{Square as GridSquare};
@@ -17,15 +18,15 @@ use lvl_region::Side;
 use lvl_view::View;
 use std::alloc::{AllocError, Global};
 
-/// How many strips are tried with one budget of points. After them the budget is doubled, so that no
-/// layout takes many more strips than it has points.
+/// How many strips are tried with one budget of points. The budget is then doubled, so no layout
+/// takes many more strips than it has points.
 const MOST_TRIES: u32 = 256;
 
-/// A Layer, a square that one side alone covers there, and the side.
+/// A Layer, a square that only one side draws there, and the side.
 pub(crate) type Found = (Layer, Square, Side);
 
-/// How wide the next strip may be, how many points a side's rings may have in it, and how many strips
-/// may be tried with that many.
+/// How wide the next strip may be, how many points the rings of a side may have in it, and how many
+/// more strips may be tried with this number of points.
 #[derive(Clone, Copy)]
 struct Pace {
     width: u64,
@@ -34,8 +35,9 @@ struct Pace {
 }
 
 impl Pace {
-    /// After a strip that was as wide and had as many points on a side: as wide again, or twice as wide
-    /// where it had half of what it might at most.
+    /// The pace after a strip of this width with at most this number of points on a side. The next
+    /// strip may be as wide, or twice as wide if this one had at most half the points that it might
+    /// have.
     fn after(self, width: u64, points: usize) -> Pace
         ensures { 0 < width → 0 < result.width }
     {
@@ -47,7 +49,7 @@ impl Pace {
         self.next(width)
     }
 
-    /// The next strip, of that width at most.
+    /// The pace of the next strip, of at most this width.
     fn next(self, width: u64) -> Pace
         ensures { result.width ≡ width }
     {
@@ -66,7 +68,8 @@ impl Pace {
     }
 }
 
-/// What two layouts differ in within a strip, which ends at an abscissa, and how the next is tried.
+/// The first difference of two layouts within a strip, the abscissa at which the strip ends, and
+/// the pace of the next one.
 #[derive(Clone, Copy)]
 struct Strip {
     found: Option<Found>,
@@ -74,14 +77,14 @@ struct Strip {
     pace: Pace,
 }
 
-/// Whether the first comes before the second, by Layer and then by square.
+/// Whether the first comes before the second: by Layer, then by square.
 fn precedes(first: &Found, second: &Found) -> bool
     ensures { IsTrue result ↔ Precedes first.now.0 first.now.1 second.now.0 second.now.1 }
 {
     comes_before(first.0, second.0) || first.0 == second.0 && first.1.is_before(second.1)
 }
 
-/// The first of the two that are found.
+/// The lesser of two differences, or the only one that there is.
 pub(crate) fn least(first: Option<Found>, second: Option<Found>) -> Option<Found>
     ensures { IsLeast first second result }
 {
@@ -92,7 +95,7 @@ pub(crate) fn least(first: Option<Found>, second: Option<Found>) -> Option<Found
     }
 }
 
-/// A window that has the squares of both.
+/// The least window that has the squares of both.
 fn joined(first: Window, second: Window) -> Window
     ensures { result ≡ record {
       x0 = int_min first.x0 second.x0;
@@ -109,7 +112,7 @@ fn joined(first: Window, second: Window) -> Window
     }
 }
 
-/// What two windows share, if the second is given; else the first.
+/// The intersection of two windows if the second is given, else the first.
 pub(crate) fn shared(first: Window, second: Option<&Window>) -> Window
     ensures { result ≡ seen_of (window_of second.entry) first }
 {
@@ -124,7 +127,7 @@ pub(crate) fn shared(first: Window, second: Option<&Window>) -> Window
     }
 }
 
-/// How many points the rings of a flat layout have.
+/// The number of points of the rings of a flat layout.
 fn points_of(flat: &Flat) -> usize {
     let mut points: usize = 0;
     for place in 0..flat.len() {
@@ -135,8 +138,8 @@ fn points_of(flat: &Flat) -> usize {
     points
 }
 
-/// What two layouts differ in within a strip, and how many points of rings the fuller side has there:
-/// `most` at most, else it is out of memory.
+/// The first difference of two layouts within a strip, and the greater of the numbers of points of
+/// both sides there. If one is more than `most`, that is reported as out of memory.
 fn difference_of(
     alloc: Global,
     first: &Fitted,
@@ -156,7 +159,7 @@ fn difference_of(
     Ok((found, points))
 }
 
-/// Where a strip of that width at most ends that begins where the window does.
+/// The abscissa at which a strip of at most this width ends that begins where the window does.
 fn end_of(window: &Window, width: u64) -> i64
     requires wide { 0 < width }
     requires squares { window.now.x0 <ℤ window.now.x1 }
@@ -166,7 +169,7 @@ fn end_of(window: &Window, width: u64) -> i64
     window.x0.saturating_add_unsigned(width).min(window.x1)
 }
 
-/// How wide a window is, and 1 if it has no square.
+/// The distance between the left and the right border of a window, or 1 if that is 0.
 fn width_of(window: &Window) -> u64
     ensures { 0 < result }
 {
@@ -174,7 +177,7 @@ fn width_of(window: &Window) -> u64
     if width > 0 { width } else { 1 }
 }
 
-/// The squares of a window up to an abscissa.
+/// The part of a window up to an abscissa, which is excluded.
 fn front(window: &Window, end: i64) -> Window
     ensures { result ≡ up_to end window.now }
 {
@@ -186,8 +189,9 @@ fn front(window: &Window, end: i64) -> Window
     }
 }
 
-/// What two layouts differ in within the first strip of a window that is not too full, as wide as the pace
-/// allows at most. A strip that is one square wide is taken whole.
+/// The first difference of two layouts within the first strip of a window. The strip is at most as
+/// wide as the pace allows, and is halved until it doesn't have too many points and fits in memory.
+/// A strip of width 1 may have any number of points.
 fn first_strip(
     alloc: Global,
     first: &Fitted,
@@ -231,7 +235,7 @@ fn first_strip(
     )
 }
 
-/// What two layouts differ in within a window, which is looked at strip by strip.
+/// The first difference of two layouts within a window, which is searched strip by strip.
 pub(crate) fn difference_within(
     alloc: Global,
     first: &Fitted,
@@ -259,13 +263,14 @@ pub(crate) fn difference_within(
     Ok(found)
 }
 
-/// The first Layer, and on it the first square, by y and then x, that one of two layouts alone draws,
-/// with its side; None where both draw the same squares on every Layer. The second is seen with its Layers
-/// mapped by the view, and where the view has a window only its squares count.
+/// The first Layer, and on it the first square, by `y` and then `x`, that only one of two layouts
+/// draws, with its side; None if both draw the same squares on every Layer. The Layers of the
+/// second are mapped by the view, and if the view has a window, only its squares are compared.
 ///
-/// What is drawn is not held whole: it is looked at in strips along x, so wide that neither side's rings
-/// have more than `most` points in one. After 256 strips that is doubled, so that the strips are never many
-/// more than the points. A strip one square wide is held whole. Fails only when out of memory.
+/// The layouts are searched in strips, from left to right, so wide that neither side has more than
+/// `most` points in one. Only one strip is in memory at a time. After 256 strips `most` is doubled,
+/// so there are never many more strips than points. A strip of width 1 may have any number of
+/// points. Fails only if out of memory.
 pub fn difference_by_strips(
     alloc: Global,
     first: &Fitted,

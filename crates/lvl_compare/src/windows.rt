@@ -1,4 +1,4 @@
-//! Two libraries compared in some windows, and nowhere else.
+//! Comparison of two libraries in some windows only.
 ghost use Rattle.std.specs.Prelude.{IfOk, IfSome, IfNone};
 ghost use Rattle.lvl_flat.specs.Flattened.{TopCovers};
 ghost use Rattle.lvl_view.specs.Moved.{IsMoved};
@@ -13,12 +13,13 @@ use lvl_region::Side;
 use lvl_view::View;
 use std::alloc::{AllocError, Global};
 
-/// The first Layer, and on it the first square, by y and then x, that one of two layouts alone draws in
-/// the windows, with its side; None where both draw the same squares of the windows on every Layer. The
-/// second is seen with its Layers mapped by the view, and where the view has a window only its squares count.
+/// The first Layer, and on it the first square of the windows, by `y` and then `x`, that only one
+/// of two layouts draws, with its side; None if both draw the same squares of the windows on every
+/// Layer. The Layers of the second are mapped by the view, and if the view has a window, only its
+/// squares are compared.
 ///
-/// Each window is looked at by itself, strip by strip: see [`crate::difference_by_strips`], also for `most`.
-/// Fails only when out of memory.
+/// Each window is searched by itself, as [`crate::difference_by_strips`] does, which also explains
+/// `most`. Fails only if out of memory.
 pub fn difference_in_windows(
     alloc: Global,
     first: &Fitted,

@@ -41,7 +41,7 @@ row_bit : (x : ℤ) (i : ℤ × ℤ) (is : List (ℤ × ℤ)) → AreIntervals (
 row_bit x i is h =
     either_bit (spans x i) (list_any (spans x) is) (λ here. none_right x is (later_than x i is h here))
 
--- what a row's intervals cover changes where one begins, and where one ends
+-- what the intervals of a row cover changes where one begins and where one ends
 pub row_change : (x : ℤ) (is : List (ℤ × ℤ)) → AreIntervals is
     → row_step x is ≡ bit (list_any (spans x) is) -ℤ bit (list_any (spans (x -ℤ pos 1)) is)
 row_change x [] h = refl
@@ -56,7 +56,7 @@ with_row : (h p q : Bool) → bit (h && p) -ℤ bit (h && q) ≡ cond h (bit p -
 with_row true p q = refl
 with_row false p q = refl
 
--- what one band covers changes where it begins, and where it ends
+-- what a band covers changes where it begins and where it ends
 band_change : (x y : ℤ) (b : Slab) → b.from <ℤ b.to → AreIntervals b.value
     → band_net x y b ≡ change_at (λ s. slab_covers s b) x y
 band_change x y b full row =
@@ -88,7 +88,7 @@ later_slabs b bs h = record {
 first_row : (b : Slab) (bs : List Slab) → IsSlabList (b ∷ bs) → AreIntervals b.value
 first_row b bs h = (h.rows 0 b (omega arith)).1
 
--- what bands cover changes by what each adds
+-- the change of what bands cover is the sum of what each adds
 pub bands_change : (x y : ℤ) (bs : List Slab) → IsSlabList bs → bands_net x y bs ≡ change_at (slabs_cover bs) x y
 bands_change x y [] h = refl
 bands_change x y (b ∷ bs) h =
@@ -116,7 +116,7 @@ starts_right x (i ∷ is) h = elim (or_cases (spans x i) (list_any (spans x) is)
       omega (arith, ints, clamps, low)
 ]
 
--- bands cover nothing left of some abscissa, or below some ordinate
+-- bands cover nothing left of some abscissa, and nothing below some ordinate
 pub bands_bounded : (bs : List Slab) → IsBounded (slabs_cover bs)
 bands_bounded [] = record { left = pos 0; bottom = pos 0; each = λ s h. cc }
 bands_bounded (b ∷ bs) =

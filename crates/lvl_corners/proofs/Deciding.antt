@@ -1,4 +1,4 @@
--- A set of squares has one list of corners, and the list decides the set.
+-- A set of squares has only one list of corners, and two sets with the same list are equal.
 use Rattle.std.proofs.Common.{◌≡◌, ◌≢◌, ℕ, zero, suc, Bool, true, false, List, ℤ, pos, negsuc}
 use Rattle.std.proofs.Common.{◌+ℤ◌, ◌-ℤ◌, ◌<ℤ◌, ◌↔◌, Contains, refl, sym, ◌∙◌, ap, subst, arith, inl, inr}
 use Rattle.std.specs.Int.{int_min}
@@ -12,7 +12,7 @@ use Rattle.lvl_corners.specs.Corners.{bit, change_at, ComesBefore, AreCorners, I
 use Rattle.lvl_corners.proofs.IntTests.{eq_is}
 use Rattle.lvl_corners.proofs.Pairs.{one_order}
 
--- what is the same from each number to the next, and 0 below one, is 0
+-- a function that is the same at each number and the next, and 0 below some number, is 0
 still_by : (f : ℤ → ℤ) (low : ℤ) (n : ℕ) → ((z : ℤ) → f z ≡ f (z -ℤ pos 1)) → ((z : ℤ) → z <ℤ low → f z ≡ pos 0)
     → (z : ℤ)
     → z <ℤ (low +ℤ pos n) → f z ≡ pos 0
@@ -29,7 +29,7 @@ still f low step below z =
     let far = reached low z (z -ℤ low) refl in
     still_by f low far.0 step below z far.1
 
--- what is 0 far to the left and far below, and changes at no point, is 0
+-- a function that is 0 far to the left and far below, and whose change is 0 at all points, is 0
 flat : (g : ℤ → ℤ → ℤ) (left bottom : ℤ)
     → ((x y : ℤ) → (g x y -ℤ g (x -ℤ pos 1) y) -ℤ (g x (y -ℤ pos 1) -ℤ g (x -ℤ pos 1) (y -ℤ pos 1)) ≡ pos 0)
     → ((x y : ℤ) → x <ℤ left → g x y ≡ pos 0) → ((x y : ℤ) → y <ℤ bottom → g x y ≡ pos 0) → (x y : ℤ) → g x y ≡ pos 0
@@ -60,7 +60,7 @@ none_below c b x y lt =
     let low = (b.each (record { x = x; y = y }) t).1 in absurd (omega (arith, ints, lt, low))) in
     rw none refl
 
--- squares with the same changes are the same
+-- sets of squares with the same changes are equal
 pub same_by_changes : (c e : Square → Bool) → IsBounded c → IsBounded e
     → ((x y : ℤ) → change_at c x y ≡ change_at e x y) → (s : Square) → c s ≡ e s
 same_by_changes c e b d changes s =
@@ -76,7 +76,7 @@ same_by_changes c e b d changes s =
     let q = none_below e d u v (omega (arith, ints, clamps, lt)) in
     omega (arith, ints, p, q)) s.x s.y)
 
--- squares with one list of corners have the same changes
+-- sets of squares with the same list of corners have the same changes
 same_changes : (c e : Square → Bool) (ks : List Corner) → AreCorners c ks → AreCorners e ks → (x y : ℤ)
     → change_at c x y ≡ change_at e x y
 same_changes c e ks h k x y =
@@ -123,7 +123,7 @@ same_tests P Q ks ls h k same s =
     same_from_decides (h.covered s) (k.covered s)
     (Decides-like (h.covered s) (same s).0 (same s).1 (h.is_covered s)) (k.is_covered s)
 
--- sets of the same squares have one list
+-- sets with the same squares have the same list
 pub one_list : (P Q : Square → Type 0) (ks ls : List Corner) → AreCornersOf P ks → AreCornersOf Q ls
     → ((s : Square) → P s ↔ Q s) → ks ≡ ls
 one_list P Q ks ls h k same =
@@ -132,7 +132,7 @@ one_list P Q ks ls h k same =
     (moved h.covered k.covered ks ls h.corners_are k.corners_are changes)
     (moved k.covered h.covered ls ks k.corners_are h.corners_are (λ x y. sym (changes x y)))
 
--- sets with one list have the same squares
+-- sets with the same list have the same squares
 pub same_squares : (P Q : Square → Type 0) (ks ls : List Corner) → AreCornersOf P ks → AreCornersOf Q ls → ks ≡ ls
     → (s : Square) → P s ↔ Q s
 same_squares P Q ks ls h k same s =

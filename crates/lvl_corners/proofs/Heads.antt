@@ -1,4 +1,4 @@
--- The head of a Layer's bytes is read back from what it begins.
+-- The head of a Layer is read back from the bytes that begin with it.
 use Rattle.std.proofs.Common.{◌≡◌, ◌≢◌, ℕ, ◌+◌, ◌%◌, ◌<◌, ◌≤◌, ◌^◌, List, [], ◌∷◌, ◌++◌, length, get_or, codes}
 use Rattle.std.proofs.Common.{All, refl, sym, ◌∙◌, ap, subst, arith}
 use Rattle.std.proofs.Common.{Bool, true, ◌&&◌, leb}
@@ -20,7 +20,7 @@ digits n small =
     (λ m lt. All-cons IsDigit (48 + m) [] (omega arith, omega (arith, lt)) (All-nil IsDigit))
     (λ m ds le h. All-push IsDigit ds (48 + m % 10) h (omega arith, omega arith)) n small
 
--- the lists are the same up to the first c, and so from there on
+-- lists with equal concatenations are equal up to the first c, and from there on
 until_first : (c : ℕ) (p q x y : List ℕ) → All (λ b. b ≢ c) p → All (λ b. b ≢ c) q → p ++ c ∷ x ≡ q ++ c ∷ y
     → (p ≡ q) × (x ≡ y)
 until_first c [] [] x y f g h = (refl, cc)
@@ -73,7 +73,7 @@ printed_digits n small =
 is_printed : ℕ → Bool
 is_printed b = leb 32 b && leb b 126
 
--- text of which a test says so is of printed bytes
+-- a text that the test accepts has only printable bytes
 printed_text : (bs : List ℕ) → list_all is_printed bs ≡ true → All IsPrinted bs
 unfolding is_printed
 printed_text bs h =
@@ -81,7 +81,7 @@ printed_text bs h =
     let both = and_parts (leb 32 b) (leb b 126) t in
     (leb-true 32 b both.0, leb-true b 126 both.1)) bs (AllPass-from_list_all is_printed bs h)
 
--- a head's byte at 16 is a printed one
+-- the byte of a head at index 16 is printable
 pub head_printed : (a b : ℕ) (x : List ℕ) → a < 2 ^ 64 → IsPrinted (get_or (layer_head a b ++ x) 16 0)
 unfolding is_printed
 head_printed a b x small =

@@ -1,4 +1,4 @@
--- What tests of whole numbers say.
+-- Comparisons of integers.
 use Rattle.std.proofs.Common.{◌≡◌, Bool, true, false, ◌&&◌, ◌||◌, cond, ℤ, pos, ◌+ℤ◌, ◌-ℤ◌, ◌<ℤ◌, ◌≤ℤ◌, int_lt, int_le}
 use Rattle.std.proofs.Common.{refl, sym, arith}
 use Rattle.std.specs.Ordering.{int_eq}
@@ -27,7 +27,7 @@ ne_below a b h = eq_no a b (λ e. absurd (omega (arith, ints, h, e)))
 pub ne_above : (a b : ℤ) → b <ℤ a → int_eq a b ≡ false
 ne_above a b h = eq_no a b (λ e. absurd (omega (arith, ints, h, e)))
 
--- what holds from one number up to another changes where it begins, and where it ends
+-- the test of being from one number up to another changes at both of these, and nowhere else
 pub ends_change : (d y a b : ℤ) → a <ℤ b
     → cond (int_eq a y) d (pos 0) -ℤ cond (int_eq b y) d (pos 0)
     ≡ cond (int_le a y && int_lt y b) d (pos 0) -ℤ cond (int_le a (y -ℤ pos 1) && int_lt (y -ℤ pos 1) b) d (pos 0)
@@ -88,7 +88,7 @@ ends_change d y a b full =
     let j : int_lt (y -ℤ pos 1) b ≡ false = grind (arith, ints) in
     rw (e, f, g, i, h, j) refl))
 
--- two tests of which one alone may hold
+-- two tests that aren't both true
 pub either_bit : (p q : Bool) → (p ≡ true → q ≡ false) → bit (p || q) ≡ bit p +ℤ bit q
 either_bit true q h = rw (h refl) refl
 either_bit false true h = refl

@@ -1,4 +1,4 @@
--- The bytes of several Layers are read back from their concatenation.
+-- Several Layers are read back from the concatenation of their bytes.
 use Rattle.std.proofs.Common.{◌≡◌, ℕ, zero, suc, ◌<◌, ◌^◌, Bool, true, false, List, [], ◌∷◌, ◌++◌, length}
 use Rattle.std.proofs.Common.{get_or, flat_map, All, ℤ, pos, negsuc, ◌-ℤ◌, ◌≤ℤ◌, refl, sym, ◌∙◌, ap, subst, arith}
 use Rattle.std.specs.Int.{w8, cast_unsigned}
@@ -51,7 +51,7 @@ corners_small P ks h = λ i d lt.
     let small = change_small h.covered k.x k.y in
     (omega (arith, ints, is, small.0), omega (arith, ints, is, small.1))
 
--- a small change is spelled by no printed byte
+-- the byte of a small change isn't printable
 change_unprinted : (z : ℤ) → negsuc 1 ≤ℤ z → z ≤ℤ pos 2 → IsPrinted (cast_unsigned w8 z) → ⊥
 change_unprinted (pos zero) low high h = let least = h.0 in absurd (omega (arith, least))
 change_unprinted (pos (suc zero)) low high h = let least = h.0 in absurd (omega (arith, least))
@@ -81,7 +81,7 @@ lines_begin (l ∷ ls) f = λ k x small h.
     change_unprinted k.change small.0 small.1 (subst IsPrinted at (head_printed l.layer.layer l.layer.datatype rest
     fits.layer))
 
--- corners, and what comes after them, are read back where no corner begins that
+-- corners and what comes after them are read back, if no corner begins what comes after them
 corners_apart : (ks ls : List Corner) (x y : List ℕ) → All FitsCorner ks → All FitsCorner ls → All IsSmall ks
     → All IsSmall ls → BeginsNoCorner x → BeginsNoCorner y
     → flat_map corner_bytes ks ++ x ≡ flat_map corner_bytes ls ++ y
@@ -116,7 +116,7 @@ layer_is a b e f =
     let whole : build a.layer a.datatype ≡ build b.layer b.datatype = rw (e, f) refl in
     whole
 
--- a Layer has some bytes
+-- a Layer with corners has bytes
 never_empty : (l : Line) (ls : List Line) → FitsLine l → [] ≡ flat_map line_bytes (l ∷ ls) → ⊥
 never_empty l ls fits h =
     let head : List ℕ = layer_head l.layer.layer l.layer.datatype in
@@ -126,7 +126,7 @@ never_empty l ls fits h =
     let least = (head_printed l.layer.layer l.layer.datatype rest fits.layer).0 in
     absurd (omega (arith, at, least))
 
--- lines are decided by their bytes
+-- lines with the same bytes are equal
 pub lines_decide : (ks ls : List Line) → All FitsLine ks → All FitsLine ls
     → flat_map line_bytes ks ≡ flat_map line_bytes ls → ks ≡ ls
 lines_decide [] [] f g h = refl

@@ -1,4 +1,4 @@
--- Two masks have the same bytes exactly where they cover the same squares on every Layer.
+-- Two masks have the same bytes exactly if they cover the same squares on every Layer.
 use Rattle.std.proofs.Common.{◌≡◌, ◌≢◌, ℕ, ◌<◌, ◌^◌, Bool, true, false, List, [], ◌∷◌, ◌++◌, flat_map, All, Contains}
 use Rattle.std.proofs.Common.{ℤ, pos, ◌-ℤ◌, ◌↔◌, inl, inr, refl, sym, ◌∙◌, ap, subst, arith}
 use Rattle.std.specs.List.{AllPairs}
@@ -28,7 +28,7 @@ no_corners = record {
   };
 }
 
--- what has no corner covers nothing
+-- a set without corners is empty
 pub nothing_covered : (P : Square → Type 0) → AreCornersOf P [] → (s : Square) → P s → ⊥
 nothing_covered P h s p = (same_squares P (λ s. ⊥) [] [] h no_corners refl s).0 p
 
@@ -52,7 +52,7 @@ some_near c x y some =
       ]
     ]
 
--- what has a corner covers a square
+-- a set with a corner has a square
 pub some_covered : (P : Square → Type 0) (k : Corner) (ks : List Corner) → AreCornersOf P (k ∷ ks)
     → (s : Square) × P s
 some_covered P k ks h =
@@ -83,7 +83,7 @@ more_bytes (e ∷ es) d bytes ks (ls, later, others, fit, rest, is) are fits = (
       ∙ append_assoc (drawn_bytes e.layer ls) later (drawn_bytes d.layer ks),
 )
 
--- the line is that of a Layer of the mask, on which something is covered
+-- the line is that of a Layer of the mask on which something is covered
 record IsLineOf (mask : List Drawn) (l : Line) : Type 0 where
   pub drawn : Drawn
   pub there : Contains mask drawn
@@ -235,7 +235,7 @@ never_both a b h j = elim h [
 never_before : (a b : Layer) → a ≡ b → ComesBefore a b → ⊥
 never_before a b same h = let back = subst (ComesBefore a) (sym same) h in never_both a a back back
 
--- a Layer of a mask is there once
+-- a Layer occurs at most once in a mask
 one_drawn : (mask : List Drawn) → AllPairs (λ d e. ComesBefore d.layer e.layer) mask → (d e : Drawn)
     → Contains mask d → Contains mask e → d.layer ≡ e.layer
     → d ≡ e
@@ -259,7 +259,7 @@ drawn_covers : (mask : List Drawn) (d : Drawn) (layer : Layer) (s : Square) → 
     → SomeCovers d.rings s → CoversOn mask layer s
 drawn_covers mask d layer s (i, lt, at) is p = (i, d, lt, at, (is, p))
 
--- what a mask covers on a Layer is what is drawn there
+-- a mask covers on a Layer what is drawn on it
 covers_drawn : (mask : List Drawn) → IsMask mask → (d : Drawn) (layer : Layer) (s : Square) → Contains mask d
     → d.layer ≡ layer → CoversOn mask layer s
     → SomeCovers d.rings s

@@ -1,4 +1,4 @@
--- What marks sum up to.
+-- Sums of marks.
 use Rattle.std.proofs.Common.{◌≡◌, ℕ, ◌+◌, ◌<◌, Bool, true, false, ◌&&◌, not, cond, List, [], ◌∷◌, ◌++◌, length, get_or}
 use Rattle.std.proofs.Common.{take, drop, filter, count_by, ℤ, pos, negsuc, ◌+ℤ◌, ◌-ℤ◌, All, refl, ◌∙◌, ap, arith}
 use Rattle.std.specs.List.Sorted.{IsPermutation}
@@ -31,7 +31,7 @@ minuses_push : (x y : ℤ) (ms : List Mark) (m : Mark)
 minuses_push x y ms m =
     let all = sum_by-append (λ m. cond (is_at x y m && not m.is_plus) 1 0) ms (m ∷ []) in omega (arith, all)
 
--- one mark more adds its change at its point
+-- one more mark adds its change at its point
 pub net_push : (x y : ℤ) (ms : List Mark) (m : Mark)
     → net x y (ms ++ m ∷ []) ≡ net x y ms +ℤ cond (is_at x y m) (change_of m) (pos 0)
 net_push x y ms m =
@@ -98,7 +98,7 @@ signed_more f false a b = refl
 signed_more true true a b = omega (arith, ints)
 signed_more false true a b = omega (arith, ints)
 
--- a row's intervals that are put, and those that are left
+-- the intervals of a row so far, and those still to come
 pub row_more : (x y z total : ℤ) (f : Bool) (old new : List Mark) (is : List (ℤ × ℤ)) (i : ℕ) (d : ℤ × ℤ)
     → i < length is
     → net x z new ≡ net x z old +ℤ cond (int_eq y z) (signed f (interval_step x (get_or is i d))) (pos 0)
@@ -121,7 +121,7 @@ minus_cond : (a d : ℤ) (t : Bool) → a +ℤ cond t (pos 0 -ℤ d) (pos 0) ≡
 minus_cond a d true = omega (arith, ints)
 minus_cond a d false = omega (arith, ints)
 
--- a band adds the row where it begins, and the one where it has ended
+-- a band adds its intervals in the row where it begins, and their negatives in the one where it ends
 pub both_rows : (x y from to : ℤ) (old mid new : List Mark) (is : List (ℤ × ℤ))
     → net x y mid ≡ net x y old +ℤ cond (int_eq from y) (row_step x is) (pos 0)
     → net x y new ≡ net x y mid +ℤ cond (int_eq to y) (pos 0 -ℤ row_step x is) (pos 0)
@@ -169,7 +169,7 @@ both_kept : (t : Bool) (p n : ℕ) → pos (cond t p 0) -ℤ pos (cond t n 0) �
 both_kept true p n = refl
 both_kept false p n = refl
 
--- marks whose abscissas pass a test
+-- the marks for whose abscissas a test is true
 pub net_filter : (x y : ℤ) (test : ℤ → Bool) (ms : List Mark)
     → net x y (filter (λ m. test m.x) ms) ≡ cond (test x) (net x y ms) (pos 0)
 net_filter x y test ms =

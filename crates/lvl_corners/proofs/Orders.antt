@@ -24,7 +24,7 @@ first_by a b c d Greater e h =
     let lt : b <ℤ a = int_ranked a b Greater e in
     (omega (arith, ints, lt), λ k. absurd (omega (arith, ints, lt, k)))
 
--- a mark that doesn't come before another by the keys comes no sooner
+-- a mark whose key isn't less than that of another isn't before it
 no_later : (m n : Mark) → is_lt (ordering_then (int_cmp n.x m.x) (int_cmp n.y m.y)) ≡ false → IsNoLater m n
 no_later m n h = first_by n.x m.x n.y m.y (int_cmp n.x m.x) refl h
 
@@ -37,7 +37,7 @@ trans a b c h k = (
       omega (arith, ints, h.1 left, k.1 right),
 )
 
--- an order that holds between neighbours holds between all
+-- an order that holds between consecutive items holds between all
 pairs_by : (ms : List Mark) (n i j : ℕ) (d : Mark)
     → ((k : ℕ) → k + 1 < length ms → IsNoLater (get_or ms k d) (get_or ms (k + 1) d)) → j ≡ i + n + 1 → j < length ms
     → IsNoLater (get_or ms i d) (get_or ms j d)

@@ -1,4 +1,4 @@
--- Lists in which an order holds of each element and each later one.
+-- Lists in which an order holds between each element and each later one.
 use Rattle.std.proofs.Common.{◌≡◌, ℕ, zero, suc, ◌<◌, List, [], ◌∷◌, ◌++◌, length, get_or, Contains, ◌⊎◌, inl, inr}
 use Rattle.std.proofs.Common.{refl, sym, subst, arith}
 use Rattle.std.specs.List.{AllPairs}
@@ -65,7 +65,7 @@ in_rest R not_both k ks ls m up there all = elim (first_or_later k ls m all) [
   | inr later ↦ later
 ]
 
--- lists in a strict order with the same elements are the same
+-- lists in a strict order with the same elements are equal
 pub one_order : {A : Type 0} (R : A → A → Type 0) → ((k l : A) → R k l → R l k → ⊥) → (ks ls : List A)
     → AllPairs R ks → AllPairs R ls → ((m : A) → Contains ks m → Contains ls m)
     → ((m : A) → Contains ls m → Contains ks m) → ks ≡ ls

@@ -1,4 +1,4 @@
--- The corners of two columns, one beside the other.
+-- The corners of two adjacent columns.
 use Rattle.std.proofs.Common.{◌≡◌, Bool, true, ◌||◌, List, ◌++◌}
 use Rattle.std.proofs.Common.{ℤ, pos, ◌-ℤ◌, ◌<ℤ◌, ◌≤ℤ◌, int_lt, int_le, ◌↔◌, inl, inr, Contains, Option, None}
 use Rattle.std.proofs.Common.{Some}
@@ -33,7 +33,7 @@ corners_in_all P ks h = record {
   };
 }
 
--- the corners are those of all sets of the same squares
+-- the corners are those of any set with the same squares
 pub corners_same : (P Q : Square → Type 0) (span : Span) (ks : List Corner) → ((s : Square) → P s ↔ Q s)
     → AreCornersIn P span ks → AreCornersIn Q span ks
 corners_same P Q span ks same h = record {
@@ -66,7 +66,7 @@ bounded_both c e b d = record {
   ];
 }
 
--- the test of one of two halves is the other's too where both are
+-- at a square of one half, a test that decides the set of that half decides the whole set
 half_test : (P H : Square → Type 0) (here : Type 0) (s : Square) (t : Bool) → Decides t (H s)
     → H s ↔ (here × P s) → here
     → Decides t (P s)

@@ -1,4 +1,4 @@
--- The bytes of corners decide them.
+-- Corners with the same bytes are equal.
 use Rattle.std.proofs.Common.{◌≡◌, ℕ, ◌<◌, ◌^◌, List, [], ◌∷◌, ◌++◌, length, take, drop, flat_map, ℤ, pos}
 use Rattle.std.proofs.Common.{negsuc, All, FitsSigned, refl, sym, ◌∙◌, ap, arith}
 use Rattle.std.specs.Int.{w8, w64, to_be_bytes, from_be_bytes, cast_unsigned, cast_signed}
@@ -17,7 +17,7 @@ below : (z : ℤ) → FitsSigned w64 z → cast_unsigned w64 z < 2 ^ 64
 below (pos n) fits = omega (arith, fits)
 below (negsuc n) fits = omega (arith, fits)
 
--- the bits of a number decide it
+-- numbers with the same bits are equal
 bits_decide : (a b : ℤ) → FitsSigned w64 a → FitsSigned w64 b → cast_unsigned w64 a ≡ cast_unsigned w64 b → a ≡ b
 bits_decide a b f g same = sym (to_z-of_z w64 a f) ∙ (ap (cast_signed w64) same ∙ to_z-of_z w64 b g)
 
@@ -33,7 +33,7 @@ eight_decide a b f g same =
 eight_long : (n : ℕ) → length (to_be_bytes w64 n) ≡ 8
 eight_long n = refl
 
--- a part of one length decides both parts
+-- equal concatenations with first parts of the same length have equal parts
 pub parts_decide : (p q r s : List ℕ) (n : ℕ) → length p ≡ n → length r ≡ n → p ++ q ≡ r ++ s → (p ≡ r) × (q ≡ s)
 parts_decide p q r s n h k same = (
   sym (take_at p q n h) ∙ (ap (take n) same ∙ take_at r s n k),
@@ -56,7 +56,7 @@ corner_decides k l f g same =
 pub corner_long : (k : Corner) → length (corner_bytes k) ≡ 17
 corner_long k = refl
 
--- corners that fit are decided by their bytes
+-- corners that fit and have the same bytes are equal
 pub corners_decide : (ks ls : List Corner) → All FitsCorner ks → All FitsCorner ls
     → flat_map corner_bytes ks ≡ flat_map corner_bytes ls → ks ≡ ls
 corners_decide [] [] f g same = refl

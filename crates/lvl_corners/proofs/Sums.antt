@@ -1,4 +1,4 @@
--- Marks summed up point by point.
+-- Sums of marks, point by point.
 use Rattle.std.proofs.Common.{◌≡◌, ◌≢◌, ℕ, zero, suc, add-zero, ◌+◌, ◌<◌, ◌≤◌, Bool, true, false, ◌&&◌, cond, List}
 use Rattle.std.proofs.Common.{[], ◌∷◌, ◌++◌, length}
 use Rattle.std.proofs.Common.{get_or, take, drop, ℤ, pos, negsuc, ◌+ℤ◌, ◌-ℤ◌, ◌<ℤ◌, ◌≤ℤ◌, All, refl, sym, ◌∙◌, ap}
@@ -24,7 +24,7 @@ use Rattle.lvl_corners.specs.inside.Sums.{AreTotals}
 use Rattle.lvl_corners.proofs.IntTests.{eq_yes, eq_is, ne_below, ne_above}
 use Rattle.lvl_corners.proofs.Nets.{net_more, net_append, net_none}
 
--- points of which one is less than the other are not the same
+-- if one point is less than another, they differ
 less_apart : (x y x' y' : ℤ) → IsLess x y x' y' → (int_eq y y' && int_eq x x') ≡ false
 less_apart x y x' y' h = elim h [
   | inl left ↦ and_right (int_eq y y') (int_eq x x') (ne_below x x' left)
@@ -79,7 +79,7 @@ total_push x y (k ∷ ks) l = let rest = total_push x y ks l in omega (arith, in
 corner_of : Sum → Corner
 corner_of s = record { x = s.x; y = s.y; change = s.change }
 
--- a corner is sent where something changes
+-- a corner is sent if the sum isn't 0
 sent_cases : (s : Sum) → ((s.change ≡ pos 0) × (corners_of_sum s ≡ [])) ⊎ ((s.change ≢ pos 0)
     × (corners_of_sum s ≡ corner_of s ∷ []))
 unfolding corner_of
@@ -161,7 +161,7 @@ first_before marks (suc j) d e order far =
     let same : get_or marks 0 d ≡ get_or marks 0 e = same_default marks 0 d e (omega (arith, far)) in
     rw same (order 0 (suc j) e (omega arith) far)
 
--- the sum at the point that is next is that of all marks up to the index that are there
+-- the present sum is that of all of the first i marks that are at its point
 pub change_is : (marks : List Mark) (i : ℕ) (sent : List Corner) (s : Sum) → AreSummed marks i sent s
     → net s.x s.y (take i marks) ≡ s.change
 change_is marks i sent s h =
@@ -172,7 +172,7 @@ change_is marks i sent s h =
     rw (at, at') at (h.totals s.x s.y) in
     omega (arith, ints, none, all)
 
--- where the next mark is at another point, no further one is at this point
+-- if the next mark is at another point, no further one is at this point
 pub change_done : (marks : List Mark) (i : ℕ) (sent : List Corner) (s : Sum) (d : Mark) → AreInOrder marks
     → AreSummed marks i sent s → i < length marks → ¬ IsAt s (get_or marks i d) → net s.x s.y marks ≡ s.change
 change_done marks i sent s d order h lt apart =
@@ -195,7 +195,7 @@ change_done marks i sent s d order h lt apart =
     let now = change_is marks i sent s h in
     omega (arith, ints, whole, none, now)
 
--- one mark more at the point
+-- one more mark at the point
 summed_same : (marks : List Mark) (i : ℕ) (sent : List Corner) (s : Sum) (d : Mark) → AreSummed marks i sent s
     → i < length marks → IsAt s (get_or marks i d) → AreSummed marks (i + 1) sent (added s (get_or marks i d))
 summed_same marks i sent s d h lt at =
@@ -256,7 +256,7 @@ summed_step marks i sent more s t d order h lt steps = elim steps [
       rw (next.1.0, next.1.1) (summed_next marks i sent s d order h lt next.0)
 ]
 
--- at the first mark nothing is summed up
+-- before the first mark the sum is 0
 pub summed_none : (marks : List Mark) (d : Mark) → AreInOrder marks
     → AreSummed marks 0 [] (record { x = (get_or marks 0 d).x; y = (get_or marks 0 d).y; change = pos 0 })
 summed_none marks d order = record {
@@ -294,7 +294,7 @@ fits_between : (z : ℤ) → negsuc (2 ^ 65) ≤ℤ z → z ≤ℤ pos (2 ^ 65) 
 fits_between (pos n) low high = record { sfits = omega (arith, ints, high) }
 fits_between (negsuc n) low high = record { sfits = omega (arith, ints, low) }
 
--- a change more still fits
+-- one more change still fits
 pub change_more : (i : ℕ) (c : ℤ) (t : Bool) → (pos 0 -ℤ pos i) ≤ℤ c → c ≤ℤ pos i → i < 2 ^ 64
     → FitsSigned w128 (c +ℤ cond t (pos 1) (negsuc 0))
 change_more i c t low high lt =

@@ -1,4 +1,4 @@
--- Corners in order are known by what they sum up to.
+-- Corners in order are determined by their sums.
 use Rattle.std.proofs.Common.{◌≡◌, ◌≢◌, ℕ, zero, suc, ◌<◌, Bool, true, false, ◌&&◌, cond, ◌↔◌, List, [], ◌∷◌, length}
 use Rattle.std.proofs.Common.{get_or, ℤ, pos, ◌-ℤ◌, All, Contains, refl, sym, ◌∙◌, subst, arith, inl, inr}
 use Rattle.std.proofs.Common.{FitsSigned, lit<}
@@ -59,7 +59,7 @@ total_at_index (l ∷ ls) (suc i) k up lt at =
     let less : IsLess l.x l.y (get_or ls i k).x (get_or ls i k).y = first_corner l ls up i k (omega (arith, lt)) in
     skipped k.x k.y l ls (rw at at less) ∙ total_at_index ls i k (later_corners l ls up) (omega (arith, lt)) at
 
--- the corner at a point where the corners sum up to something
+-- the corner at a point at which the sum of the corners isn't 0
 pub record IsFound (ks : List Corner) (x y : ℤ) : Type 0 where
   pub corner : Corner
   pub there : Contains ks corner
@@ -109,7 +109,8 @@ contains_by_total ks k up some is =
     let e : f.corner ≡ k = corner_is f.corner k f.at_x f.at_y same in
     rw e at f.there
 
--- a corner is one of those that sum up to the changes of a span exactly where it is there, and its change is that
+-- corners that add up to the changes of a span: a corner is one of them exactly if it has an abscissa of the span, and
+-- its change isn't 0 and is that of the set there
 pub corner_by_totals : (covered : Square → Bool) (span : Span) (marks : List Mark) (ks : List Corner)
     → ((x y : ℤ) → net x y marks ≡ cond (spanned span x) (change_at covered x y) (pos 0)) → AreTotals marks ks
     → (k : Corner)

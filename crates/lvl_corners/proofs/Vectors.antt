@@ -1,4 +1,4 @@
--- The definitions computed on worked rows.
+-- The definitions, computed on examples.
 use Rattle.std.proofs.Common.{◌≡◌, Bool, false, ◌&&◌, ◌||◌, [], ◌∷◌, pos, negsuc, int_le, int_lt, refl, inl}
 use Rattle.std.proofs.Common.{inr}
 use Rattle.std.proofs.Common.{arith, lit<}
@@ -9,7 +9,7 @@ use Rattle.lvl_grid.specs.declared.point.Square.{Square}
 use Rattle.lvl_corners.specs.Corners.{change_at, ComesBefore, AreCorners}
 use Rattle.lvl_corners.specs.Bytes.{corner_bytes, layer_bytes, layer_head}
 
--- the squares of a square of side 10, and of the one that touches it at its upper right corner
+-- the squares of a rectangle of 10 by 10, and of another that touches it at its upper right corner
 abbrev square : Square → Bool
 square s = (int_le (pos 0) s.x && int_lt s.x (pos 10)) && (int_le (pos 0) s.y && int_lt s.y (pos 10))
 
@@ -40,7 +40,7 @@ inside = refl
 where_they_touch : change_at both (pos 10) (pos 10) ≡ pos 2
 where_they_touch = refl
 
--- by x, and then by y
+-- in order of x, then of y
 by_x : ComesBefore (record { x = negsuc 4; y = pos 9; change = pos 1 }) (record {
   x = pos 0;
   y = pos 0;
@@ -57,14 +57,14 @@ by_y : ComesBefore (record { x = pos 0; y = negsuc 0; change = pos 1 }) (record 
 })
 by_y = inr (refl, omega (arith, ints))
 
--- no squares have no corners
+-- the empty set has no corners
 nothing : AreCorners (λ s. false) []
 nothing = record {
   rising = λ i j d lt far. absurd (omega (arith, far));
   each = λ k. (λ there. absurd (omega (arith, there.1)), λ both. absurd (both.0 both.1));
 }
 
--- a corner's bytes at both ends of 64 bits
+-- the bytes of a corner at both ends of 64 bits
 at_both_ends : corner_bytes (record { x = negsuc 0x7FFFFFFFFFFFFFFF; y = pos 0x7FFFFFFFFFFFFFFF; change = negsuc 1 })
     ≡ 128 ∷ 0 ∷ 0 ∷ 0 ∷ 0 ∷ 0 ∷ 0 ∷ 0 ∷ 127 ∷ 255 ∷ 255 ∷ 255 ∷ 255 ∷ 255 ∷ 255 ∷ 255 ∷ 254 ∷ []
 at_both_ends = refl

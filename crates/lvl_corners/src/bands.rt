@@ -1,4 +1,4 @@
-//! The corners of the rectangles of which the bands of a sweep consist.
+//! The corners of the rectangles that the bands of a sweep consist of.
 ghost use Rattle.std.specs.Prelude.{◌≡◌, ◌+ℤ◌, ℤ, pos, cond, IfOk, OnOk};
 ghost use Rattle.std.specs.Ordering.{int_eq};
 ghost use Rattle.lvl_grid.specs.Winding.{SomeCovers};
@@ -12,7 +12,8 @@ use lvl_grid::RingList;
 use lvl_sweep::{Band, Sweep};
 use std::alloc::{AllocError, Global};
 
-/// Appends both ends of an interval in a row, which is the first row of a band or the one after its last.
+/// Appends both ends of an interval, at the ordinate `y` at which its band begins, or ends if
+/// `is_first` is false.
 fn push_interval(
     marks: &mut Vec<Mark>,
     y: i64,
@@ -36,7 +37,7 @@ fn push_interval(
     Ok(())
 }
 
-/// Appends the ends of all intervals in a row.
+/// Appends the ends of all intervals, as [`push_interval`] does.
 fn push_row(
     marks: &mut Vec<Mark>,
     y: i64,
@@ -62,8 +63,8 @@ fn push_band(marks: &mut Vec<Mark>, band: &Band) -> Result<(), AllocError>
     Ok(())
 }
 
-/// The corners, at the abscissas of a span, of all rectangles of what rings cover, by abscissa and then by
-/// ordinate.
+/// The corners, at the abscissas of a span, of all rectangles of the bands of rings, in order of
+/// abscissa and then of ordinate.
 pub(crate) fn marks_of<R: RingList>(
     alloc: Global,
     rings: &R,

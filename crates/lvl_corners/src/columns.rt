@@ -17,7 +17,7 @@ use lvl_grid::{Part, Rings};
 use lvl_simplify::simplified;
 use std::alloc::{AllocError, Global};
 
-/// How many columns were made, and how many may be.
+/// The number of columns that were made, and the greatest number that may be.
 #[derive(Clone, Copy)]
 pub struct Budget {
     pub made: u64,
@@ -25,7 +25,7 @@ pub struct Budget {
 }
 
 impl Budget {
-    /// Two columns for each point of the rings.
+    /// A budget of two columns for each point of the rings.
     fn of(rings: &Rings) -> Budget
         ensures none { result.made ≡ 0 }
         ensures most { result.most ≤ 2 * length (flat_map (λ ring. ring) rings.now) }
@@ -36,7 +36,7 @@ impl Budget {
         }
     }
 
-    /// Whether two columns more may be made.
+    /// Whether two more columns may be made.
     fn has_two(&self) -> bool
         ensures { IsTrue result → self.now.made + 2 ≤ self.now.most }
     {
@@ -44,12 +44,12 @@ impl Budget {
     }
 }
 
-/// How many cuts are made, one within the other, at most.
+/// The greatest number of cuts, one within the other.
 const DEPTH: u32 = 64;
 
-/// The abscissa at which the rings of a column that come of `depth` cuts, one within the other, are cut into
-/// two columns more, if that is worth while and the budget has them. It is not the first one of the span,
-/// since the right half would then be as wide as the column; so there is one before it.
+/// The abscissa at which to cut the rings of a column that comes from `depth` cuts, one within the
+/// other, or None if that doesn't pay or the budget doesn't allow it. It isn't the first abscissa
+/// of the span, since the right half would then be as wide as the column.
 fn cut_of(
     alloc: Global,
     rings: &Rings,
@@ -77,13 +77,13 @@ fn cut_of(
     Ok(Some(at))
 }
 
-/// Some more than half of a number.
+/// Five eighths of a number.
 fn more_than_half(number: usize) -> usize {
     number / 2 + number / 8
 }
 
-/// What is left of the rings in a part, in a list that has room for some more than half of them: a list that
-/// grows leaves gaps in memory.
+/// The rings clipped to a part. There is room for somewhat more than half of them from the start,
+/// since a list that grows leaves gaps in memory.
 fn clipped(alloc: Global, rings: &Rings, part: &Part) -> Result<Rings, AllocError>
     ensures { IfOk result
         (λ clipped. (s : GridSquare) → SomeCovers clipped s ↔ (IsIn part.now s × SomeCovers rings.now s)) }
@@ -96,7 +96,7 @@ fn clipped(alloc: Global, rings: &Rings, part: &Part) -> Result<Rings, AllocErro
     Ok(clipped)
 }
 
-/// What is left of the rings in a part, joined where it spans the part.
+/// The rings clipped to a part, and simplified.
 fn part_of(alloc: Global, rings: &Rings, part: &Part) -> Result<Rings, AllocError>
     ensures { IfOk result
         (λ clipped. (s : GridSquare) → SomeCovers clipped s ↔ (IsIn part.now s × SomeCovers rings.now s)) }
@@ -104,10 +104,10 @@ fn part_of(alloc: Global, rings: &Rings, part: &Part) -> Result<Rings, AllocErro
     simplified(alloc, clipped(alloc, rings, part)?)
 }
 
-/// Hands the corners of what some ring covers, at the abscissas of a span, on to a sink, in order of x and
-/// then y. A column that is cut is swept one square wider on the left, since the change at a point depends
-/// on the squares to its left; `depth` is how many cuts made it, one within the other. Its rings are dropped
-/// as soon as they are cut.
+/// Sends the corners of what the rings cover, at the abscissas of a span, to a sink, in order of
+/// `x` and then `y`. The right half of a column that is cut is swept one square wider on the left,
+/// since the change at a point depends on the squares to its left. `depth` is the number of cuts,
+/// one within the other, that made the column. Its rings are freed as soon as they are cut.
 fn send_column<S: CornerSink>(
     alloc: Global,
     rings: Rings,
@@ -134,9 +134,9 @@ fn send_column<S: CornerSink>(
     Ok(())
 }
 
-/// Hands on the corners of what some ring covers in a part, at the abscissas of a span, as [`send_column`].
-/// The rings stay, so the part is clipped once more for its right half: no more is held at a time than the
-/// rings, the part, and half of it.
+/// Sends the corners of what the rings cover in a part, at the abscissas of a span, as
+/// [`send_column`] does. The rings are kept, and the part is clipped again for its right half: at
+/// most the rings, the part, and half of it are in memory at a time.
 fn send_part<S: CornerSink>(
     alloc: Global,
     rings: &Rings,
@@ -166,7 +166,7 @@ fn send_part<S: CornerSink>(
     Ok(())
 }
 
-/// Hands the corners of what some ring covers on to a sink, as [`send_corners`], within a budget.
+/// Sends the corners of what the rings cover to a sink, as [`send_corners`] does, within a budget.
 fn send_within<S: CornerSink>(
     alloc: Global,
     rings: &Rings,
@@ -197,9 +197,9 @@ fn send_within<S: CornerSink>(
     Ok(())
 }
 
-/// Hands the corners of what some ring covers on to a sink, in order of x and then y, and gives how many
-/// columns were made to find them: at most two for each point of the rings. All corners are points of 64
-/// bits. Fails only when out of memory.
+/// Sends the corners of what the rings cover to a sink, in order of `x` and then `y`. Returns how
+/// many columns were made to find them: at most two for each point of the rings. All corners are
+/// points of 64 bits. Fails only if out of memory.
 pub fn send_corners<S: CornerSink>(
     alloc: Global,
     rings: &Rings,

@@ -1,14 +1,15 @@
 //! Corners of a set of squares.
 
-/// A grid point at which the outline of a set of squares turns, in grid steps.
+/// A point at which the outline of a set of squares turns, in grid steps (own rule).
 ///
-/// A square is covered only within the points of some ring, so the corners of what rings cover are
-/// points of 64 bits themselves, at both ends of the grid.
+/// What a ring covers is between its points, so the corners of what rings cover are points of 64
+/// bits like these.
 #[derive(Clone, Copy, Debug, PartialEq, Eq)]
 pub struct Corner {
     pub x: i64,
     pub y: i64,
-    /// How many of the two squares right above and left below the point are covered, less how many of
-    /// the two left above and right below: -2, -1, 1 or 2.
+    /// Of the four squares around the point, the number of covered ones at its upper right and
+    /// lower left, less the number of covered ones at its upper left and lower right: -2, -1, 1 or
+    /// 2.
     pub change: i8,
 }

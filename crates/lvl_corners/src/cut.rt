@@ -1,27 +1,27 @@
-//! Where a column is cut, if it is: a matter of cost alone. No contract speaks of it.
+//! Whether and where a column is cut. The choice is one of cost only, so it has no contracts.
 
 use lvl_columns::cut_at;
 use lvl_grid::{Point, Rings};
 use std::alloc::{AllocError, Global};
 
-/// How many points are swept in one column, at most, where they can be cut: what a sweep finds takes more
-/// memory than the rings themselves.
+/// The greatest number of points that are swept in one column, unless they can't be cut. What a
+/// sweep finds takes more memory than the rings.
 const MOST_SWEPT: usize = 1 << 17;
 
-/// How many points are looked at, about, to find the middle of all.
+/// About how many points are looked at to estimate the median of all.
 const SAMPLED: usize = 1024;
 
-/// How many of the points lie left of an abscissa.
+/// The number of points left of an abscissa.
 fn count_left(points: &[Point], at: i64) -> usize {
     points.iter().filter(|point| point.x < at).count()
 }
 
-/// How many of the points lie right of an abscissa.
+/// The number of points right of an abscissa.
 fn count_right(points: &[Point], at: i64) -> usize {
     points.iter().filter(|point| at < point.x).count()
 }
 
-/// How many of the rings lie on both sides of an abscissa.
+/// The number of rings with points on both sides of an abscissa.
 fn count_crossing(rings: &Rings, at: i64) -> usize {
     let mut crossing: usize = 0;
     for i in 0..rings.len() {
@@ -33,8 +33,8 @@ fn count_crossing(rings: &Rings, at: i64) -> usize {
     crossing
 }
 
-/// Whether a cut leaves at least a quarter of the points on each side, and goes through an eighth of the
-/// rings at most: then no cut follows another for ever, and the pieces of rings stay few.
+/// Whether a cut leaves at least a quarter of the points on each side and goes through at most an
+/// eighth of the rings. So cuts come to an end, and there are few pieces of rings.
 fn parts_well(rings: &Rings, at: i64) -> bool {
     let points = rings.points();
     let quarter = points.len() / 4;
@@ -43,7 +43,7 @@ fn parts_well(rings: &Rings, at: i64) -> bool {
         && count_crossing(rings, at) <= rings.len() / 8
 }
 
-/// The middle one of some abscissas of the points.
+/// The median of some abscissas of the points, or None if there are no points.
 fn middle(alloc: Global, points: &[Point]) -> Result<Option<i64>, AllocError> {
     let mut abscissas = Vec::new(alloc);
     for some in points.chunks((points.len() / SAMPLED).max(1)) {
@@ -55,8 +55,8 @@ fn middle(alloc: Global, points: &[Point]) -> Result<Option<i64>, AllocError> {
     Ok(abscissas.get(abscissas.len() / 2).copied())
 }
 
-/// The abscissa at which a column that comes of `depth` cuts is cut, if a sweep is less work then, or if it
-/// has many points.
+/// The abscissa at which to cut a column that comes from `depth` cuts, if sweeps are then less
+/// work, or if the column has many points.
 pub(crate) fn column_cut(
     alloc: Global,
     rings: &Rings,

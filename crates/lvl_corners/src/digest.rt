@@ -1,4 +1,4 @@
-//! The digest of what rings cover on a Layer.
+//! The digest of a Layer.
 ghost use Rattle.std.specs.Prelude.{◌≡◌, List, IfOk, OnErr, All};
 ghost use Rattle.std.specs.String.{string_bytes};
 ghost use Rattle.lvl_grid.specs.Winding.{SomeCovers};
@@ -14,12 +14,12 @@ use lvl_names::Layer;
 use sha2::{Digest, Sha256};
 use std::alloc::{AllocError, Global};
 
-/// The digest of a Layer that covers some square.
+/// The digest of a Layer that covers at least one square (own rule).
 #[derive(Clone, Copy, Debug, PartialEq, Eq)]
 pub struct LayerDigest {
-    /// How many corners the squares have; `u64::MAX` where there are more.
+    /// The number of corners, or `u64::MAX` if there are more.
     pub corners: u64,
-    /// The SHA-256 of its bytes.
+    /// The SHA-256 of the bytes of the Layer (see [`crate::MaskHash`]).
     pub sha256: [u8; 32],
 }
 
@@ -30,8 +30,9 @@ fn head_of(alloc: Global, layer: Layer) -> Result<String, AllocError>
     format!(in alloc; "layer {} datatype {}\n", layer.layer, layer.datatype)
 }
 
-/// Hashes what some ring covers on a Layer: `mask` goes on by the Layer's bytes. A Layer that covers
-/// nothing has no digest, and no bytes. Fails only when out of memory.
+/// Hashes what the rings cover on a Layer, by itself and as a further part of `mask`. A Layer that
+/// covers nothing has no digest and no bytes. Fails only if out of memory, and then `mask` is
+/// unchanged.
 pub(crate) fn hash_layer(
     alloc: Global,
     layer: Layer,
@@ -59,9 +60,9 @@ pub(crate) fn hash_layer(
     }))
 }
 
-/// The law by which digests decide whether two masks are the same, but for a collision of SHA-256: the
-/// bytes of two lists of rings on a Layer are the same exactly where they cover the same squares. It
-/// computes nothing.
+/// A law, for proofs: two lists of rings on the same Layer have the same bytes exactly if they
+/// cover the same squares. So, collisions of SHA-256 aside, digests decide that. The call does
+/// nothing.
 pub fn bytes_decide()
     ensures { BytesDecide }
 {}

@@ -1,4 +1,4 @@
-//! Corners hashed as they come, some at a time.
+//! Corners are hashed while they are found, many at a time.
 ghost use Rattle.std.specs.Prelude.{◌≡◌, ◌++◌, ◌-◌, ◌^◌, [], ℕ, List, min, IfOk, OnOk};
 ghost use Rattle.sha2.specs.Hashers.{Holds256};
 ghost use Rattle.lvl_corners.specs.Bytes.{corner_bytes};
@@ -10,10 +10,10 @@ use crate::sink::CornerSink;
 use sha2::{Digest, Sha256};
 use std::alloc::{AllocError, Global};
 
-/// How many bytes are hashed at a time, about: 64 corners, in 17 blocks of the hash.
+/// About how many bytes are hashed at a time: 64 corners, in 17 blocks of the hash.
 const PENDING: usize = 1088;
 
-/// How many more bytes there is room for: the first line of a Layer, or a corner.
+/// How many further bytes there is room for: the head of a Layer, or a corner.
 const ROOM: usize = 64;
 
 /// Appends the bytes of a corner.
@@ -26,8 +26,8 @@ fn push_corner(bytes: &mut Vec<u8>, corner: Corner) -> Result<(), AllocError>
     Ok(())
 }
 
-/// The hashers of a Layer and of the mask, the bytes that both have still to take, and the number of
-/// corners.
+/// The hashers of a Layer and of the mask, the pending bytes that both have still to take, and the
+/// number of corners.
 #[derive(Drop)]
 pub struct LayerHashing {
     pub layer: Sha256,
@@ -37,7 +37,7 @@ pub struct LayerHashing {
 }
 
 impl LayerHashing {
-    /// Of a Layer with this first line, in a mask of which a hasher has taken the bytes before.
+    /// The hashing of a Layer with this head, in a mask whose hasher has taken the bytes before.
     pub(crate) fn new(alloc: Global, head: &[u8], mask: Sha256) -> Result<LayerHashing, AllocError>
         ensures layer { IfOk result (λ h. HoldsWith h.layer h.pending.items head.now) }
         ensures mask { IfOk result (λ h. (m : List ℕ) → Holds256 mask m
@@ -54,14 +54,14 @@ impl LayerHashing {
         })
     }
 
-    /// How many corners it has taken; `u64::MAX` where there are more.
+    /// The number of corners that were taken, or `u64::MAX` if there are more.
     pub(crate) fn count(&self) -> u64
         ensures { result ≡ min self.now.corners (2 ^ 64 - 1) }
     {
         self.corners
     }
 
-    /// Hashes the bytes that are pending.
+    /// Hashes the pending bytes.
     pub(crate) fn flush(&mut self)
         ensures same { HoldsSame self.old self.new }
         ensures none { self.new.pending.items ≡ [] }
@@ -71,7 +71,7 @@ impl LayerHashing {
         self.pending.clear();
     }
 
-    /// Hashes the bytes that are pending where they are many.
+    /// Hashes the pending bytes if there are at least [`PENDING`].
     fn flush_many(&mut self)
         ensures { HoldsSame self.old self.new }
     {

@@ -1,10 +1,10 @@
-//! The corners of what rings cover: one list for each set of squares.
+//! The corners of what rings cover, and the digest of a mask.
 //!
-//! A [`Corner`] is a grid point at which the outline of a set of squares turns. The corners of a set,
-//! in order of x and then y, are one list for each set, as long as the set's outline is complex, and
-//! two sets are equal exactly where their lists are. [`send_corners`] hands the corners of what rings
-//! cover to a [`CornerSink`], column by column, and a [`MaskHash`] hashes them, Layer by Layer: two files
-//! draw the same mask exactly where the bytes that are hashed are the same.
+//! A [`Corner`] is a point at which the outline of a set of squares turns. Two sets of squares are
+//! equal exactly if the lists of their corners, in order of `x` and then `y`, are. [`send_corners`]
+//! sends the corners of what rings cover to a [`CornerSink`], column by column. A [`MaskHash`]
+//! hashes them Layer by Layer: two files draw the same mask exactly if the bytes that are hashed
+//! are the same.
 //!
 //! ```
 //! let mut rings = Rings::new(alloc);

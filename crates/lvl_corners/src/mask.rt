@@ -14,17 +14,18 @@ use std::alloc::{AllocError, Global};
 
 /// Hashes what a mask covers, one Layer after another.
 ///
-/// The bytes of a Layer that covers a square are "layer L datatype D", a line feed, and each corner in
-/// order of x and then y, by x and y, eight bytes each, and its change, one byte, in two's complement with
-/// the high byte first. A Layer that covers nothing has no bytes. So two masks with their Layers in order
-/// have the same bytes exactly where they cover the same squares on every Layer.
+/// The bytes of a Layer that covers a square are "layer L datatype D", a line feed, and the corners
+/// in order of `x` and then `y`: for each, `x` and `y`, eight bytes each, and its change, one byte,
+/// in two's complement with the high byte first (own rule). A Layer that covers nothing has no
+/// bytes. So two masks with their Layers in order have the same bytes exactly if they cover the
+/// same squares on every Layer.
 #[derive(Drop)]
 pub struct MaskHash {
     hasher: Sha256,
 }
 
 impl MaskHash {
-    /// The hash of no Layer.
+    /// The hash of a mask without Layers.
     pub fn new() -> MaskHash
         ensures { HasHashed result [] }
     {
@@ -33,8 +34,8 @@ impl MaskHash {
         }
     }
 
-    /// Hashes what some ring covers on the next Layer, and gives the digest of that Layer alone, or None
-    /// where it covers nothing. Fails only when out of memory, and then no more is hashed than before.
+    /// Hashes what the rings cover on the next Layer. Returns the digest of that Layer alone, or
+    /// None if it covers nothing. Fails only if out of memory, and then the hash is unchanged.
     pub fn push(
         &mut self,
         alloc: Global,
@@ -59,8 +60,8 @@ impl MaskHash {
     }
 }
 
-/// The law by which digests decide whether two masks are the same, but for a collision of SHA-256: their
-/// bytes are the same exactly where they cover the same squares on every Layer. It computes nothing.
+/// A law, for proofs: two masks have the same bytes exactly if they cover the same squares on every
+/// Layer. So, collisions of SHA-256 aside, digests decide that. The call does nothing.
 pub fn mask_bytes_decide()
     ensures { MaskBytesDecide }
 {}

@@ -1,4 +1,4 @@
-//! Two lists of rings compared by their corners.
+//! Comparison of two lists of rings by their corners.
 ghost use Rattle.std.specs.Prelude.{◌≡◌, ◌↔◌, IsTrue, IfOk, All};
 ghost use Rattle.lvl_grid.specs.declared.point.Square.{Square as GridSquare};
 ghost use Rattle.lvl_grid.specs.Winding.{SomeCovers};
@@ -9,7 +9,7 @@ use crate::corner::Corner;
 use lvl_grid::Rings;
 use std::alloc::{AllocError, Global};
 
-/// The corners of what some ring covers, in order of x and then y. Fails only when out of memory.
+/// The corners of what the rings cover, in order of `x` and then `y`. Fails only if out of memory.
 pub fn corners_of(alloc: Global, rings: &Rings) -> Result<Vec<Corner>, AllocError>
     ensures corners { IfOk result (λ corners. AreCornersOf (SomeCovers rings.now) corners.items) }
     ensures fits { IfOk result (λ corners. All FitsCorner corners.items) }
@@ -19,8 +19,8 @@ pub fn corners_of(alloc: Global, rings: &Rings) -> Result<Vec<Corner>, AllocErro
     Ok(corners)
 }
 
-/// Whether the rings of both lists cover the same squares: they do exactly where their corners are the
-/// same list. Fails only when out of memory.
+/// Whether the rings of both lists cover the same squares, by comparing the lists of their corners.
+/// Fails only if out of memory.
 pub fn cover_same(alloc: Global, first: &Rings, second: &Rings) -> Result<bool, AllocError>
     ensures { IfOk result (λ same. IsTrue same
         ↔ ((s : GridSquare) → SomeCovers first.now s ↔ SomeCovers second.now s)) }

@@ -1,4 +1,4 @@
-//! The corners of what rings cover, handed on one at a time.
+//! The corners of what rings cover, sent to a sink one at a time.
 ghost use Rattle.std.specs.Prelude.{◌+ℤ◌, ℤ, List, OnOk, IfOk, FitsSigned, All};
 ghost use Rattle.std.specs.Int.{w8, w128};
 ghost use Rattle.lvl_grid.specs.Winding.{SomeCovers};
@@ -16,7 +16,8 @@ use crate::sum::Sum;
 use lvl_grid::RingList;
 use std::alloc::{AllocError, Global};
 
-/// The sum at the point of the next mark, after the corner at the point before has been handed on.
+/// Adds the next mark to the sum. If it is at another point, first sends the corner of the sum, and
+/// then begins a new sum.
 fn step<S: CornerSink>(sum: Sum, mark: Mark, sink: &mut S) -> Result<Sum, AllocError>
     requires small { ¬ IsAt sum mark → FitsSigned w8 sum.change }
     requires few { IsAt sum mark → FitsSigned w128 (sum.change +ℤ change_of mark) }
@@ -32,7 +33,7 @@ fn step<S: CornerSink>(sum: Sum, mark: Mark, sink: &mut S) -> Result<Sum, AllocE
     Ok(Sum::of(mark))
 }
 
-/// Hands on a corner for each point at which the changes of the marks don't sum up to 0.
+/// Sends a corner for each point at which the sum of the changes of the marks isn't 0.
 fn send_sums<S: CornerSink>(marks: &[Mark], sink: &mut S) -> Result<(), AllocError>
     requires order { AreInOrder marks.now }
     requires small { (x y : ℤ) → FitsSigned w8 (net x y marks.now) }
@@ -52,8 +53,8 @@ fn send_sums<S: CornerSink>(marks: &[Mark], sink: &mut S) -> Result<(), AllocErr
     Ok(())
 }
 
-/// Hands the corners of what some ring covers, at the abscissas of a span, on to a sink, in order of x and
-/// then y, by one sweep.
+/// Sends the corners of what the rings cover, at the abscissas of a span, to a sink, in order of
+/// `x` and then `y`, by one sweep.
 pub(crate) fn send_swept<R: RingList, S: CornerSink>(
     alloc: Global,
     rings: &R,

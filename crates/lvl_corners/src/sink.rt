@@ -1,4 +1,4 @@
-//! What takes corners.
+//! Sinks of corners.
 ghost use Rattle.std.specs.Prelude.{◌≡◌, ◌++◌, ◌∷◌, [], List, OnOk};
 ghost use Rattle.lvl_corners.specs.declared.corner.Corner.{Corner as GridCorner};
 ghost use Rattle.lvl_corners.specs.inside.Sinks.{vec_takes_none, vec_takes_both};
@@ -6,19 +6,19 @@ ghost use Rattle.lvl_corners.specs.inside.Sinks.{vec_takes_none, vec_takes_both}
 use crate::corner::Corner;
 use std::alloc::AllocError;
 
-/// Takes the corners of a set of squares, one at a time.
+/// A sink that takes the corners of a set of squares, one at a time.
 pub trait CornerSink {
-    /// Whether it takes these corners, in this order, from its first state to its second.
+    /// Whether it has taken these corners, in this order, from its first state to its second.
     ghost takes: { Self → Self → List GridCorner → Type 0 };
 
-    /// Takes the next corner. Fails only when out of memory.
+    /// Takes the next corner. Fails only if out of memory.
     fn take(&mut self, corner: Corner) -> Result<(), AllocError>
         ensures { OnOk result (takes self.old self.new (corner ∷ [])) };
 
-    /// In one state it takes none.
+    /// If its state is unchanged, it has taken no corners.
     ghost takes_none: { (s : Self) → takes s s [] };
 
-    /// What it takes in two steps, it takes in one.
+    /// Two steps, one after the other, take the corners of both.
     ghost takes_both: { (a b c : Self) (ks ls : List GridCorner)
         → takes a b ks → takes b c ls → takes a c (ks ++ ls) };
 }

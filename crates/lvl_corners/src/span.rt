@@ -1,9 +1,9 @@
-//! The abscissas of a column.
+//! Spans: the abscissas of a column.
 ghost use Rattle.std.specs.Prelude.{◌≡◌, ◌<ℤ◌, negsuc, ◌-◌, ◌^◌, true, Some, IsTrue};
 ghost use Rattle.lvl_sweep.specs.Ahead.{is_from};
 ghost use Rattle.lvl_corners.specs.inside.Spans.{is_below, spanned, whole, left_part, right_part};
 
-/// The abscissas from one on, if it is given, and below another, if that is given.
+/// The abscissas from `from` on, if it is given, and below `below`, if that is given.
 #[derive(Clone, Copy)]
 pub struct Span {
     pub from: Option<i64>,
@@ -39,15 +39,15 @@ impl Span {
         }
     }
 
-    /// Whether the abscissa is one of them.
+    /// Whether the span has the abscissa.
     pub(crate) fn has(&self, x: i64) -> bool
         ensures { result ≡ spanned self.now x }
     {
         is_from(self.from, x) && is_below(self.below, x)
     }
 
-    /// Whether both the abscissa and the one before it are among them: a cut there leaves some on both
-    /// sides.
+    /// Whether the span has both the abscissa and the one before it, so that a cut there leaves
+    /// some on both sides.
     pub(crate) fn has_around(&self, at: i64) -> bool
         ensures within { IsTrue result → spanned self.now at ≡ true }
         ensures inner { IsTrue result → negsuc (2 ^ 63 - 1) <ℤ at }
@@ -58,7 +58,7 @@ impl Span {
         self.has(before) && self.has(at)
     }
 
-    /// Those below an abscissa.
+    /// The abscissas of the span that are below `at`, which is one of the span.
     pub(crate) fn left_of(self, at: i64) -> Span
         ensures { result ≡ left_part self at }
     {
@@ -68,7 +68,7 @@ impl Span {
         }
     }
 
-    /// Those from an abscissa on.
+    /// The abscissas of the span from `at` on, which is one of the span.
     pub(crate) fn right_from(self, at: i64) -> Span
         ensures { result ≡ right_part self at }
     {

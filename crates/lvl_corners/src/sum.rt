@@ -19,7 +19,7 @@ pub struct Sum {
 }
 
 impl Sum {
-    /// The sum of no marks at the point of one.
+    /// The sum of no marks, at the point of this one.
     pub(crate) fn at(mark: Mark) -> Sum
         ensures { result ≡ record { x = mark.x; y = mark.y; change = pos 0 } }
     {
@@ -48,7 +48,7 @@ impl Sum {
         self.x == mark.x && self.y == mark.y
     }
 
-    /// The sum with one mark more.
+    /// The sum with one more mark.
     pub(crate) fn with(self, mark: Mark) -> Sum
         requires { FitsSigned w128 (self.change +ℤ change_of mark) }
         ensures { result ≡ added self mark }
@@ -61,7 +61,7 @@ impl Sum {
         Sum { change, ..self }
     }
 
-    /// Hands the corner at the point on, if there is one.
+    /// Sends the corner at the point to a sink, if the sum isn't 0.
     pub(crate) fn send<S: CornerSink>(self, sink: &mut S) -> Result<(), AllocError>
         requires { FitsSigned w8 self.change }
         ensures received { OnOk result (S.takes sink.old sink.new (corners_of_sum self)) }

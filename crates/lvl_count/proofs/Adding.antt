@@ -28,7 +28,7 @@ before_comes a b (inr h) =
     let two = h.1 in
     grind (arith, nat_tests)
 
--- what tells whether a Layer comes before another is that test
+-- any test of whether a Layer comes before another is that test
 pub comes_if : (a b : Layer) (t : Bool) → IsTrue t ↔ ComesBefore a b → t ≡ comes a b
 comes_if a b t h =
     same_answer t (comes a b) (λ e. before_comes a b (h.0 e)) (λ e. h.1 (comes_before a b e))
@@ -46,7 +46,7 @@ parted counts layer sorted i j d le low h =
       | inr (inr gt) ↦ absurd (omega (arith, gt, le))
     ]
 
--- where the counts for earlier Layers end there is that of the Layer
+-- the first count after those for earlier Layers is that of the Layer
 pub found_at : (counts : List LayerRings) (layer : Layer) (place : ℕ) → AreSorted counts
     → Contains (map (λ c. c.layer) counts) layer
     → IsPartitionPoint (λ (c : LayerRings). comes c.layer layer ≡ true)

@@ -1,4 +1,4 @@
--- Counts as the rings of shapes and of cells are added to them.
+-- Counts, while the rings of shapes and of cells are added to them.
 use Rattle.std.proofs.Common.{◌≡◌, ◌<◌, ◌≤◌, ◌+◌, ◌*◌, ℕ, Bool, true, false, cond, List, [], ◌∷◌, length, get_or}
 use Rattle.std.proofs.Common.{map, take, All, Contains, refl, sym, ap, ◌∙◌, arith}
 use Rattle.std.proofs.Math.ListN.{length-map}
@@ -21,7 +21,7 @@ layer_of c = c.layer
 abbrev of : Layer → ℕ → LayerRings
 of l n = record { layer = l; rings = n }
 
--- where nothing is added, the counts stay
+-- if nothing is added, the counts stay the same
 pub more_none : (f : Layer → ℕ) (counts : List LayerRings) → ((l : Layer) → f l ≡ 0) → counts ≡ map (more f) counts
 more_none f [] none = refl
 more_none f (c ∷ cs) none =
@@ -29,7 +29,7 @@ more_none f (c ∷ cs) none =
     let head : c ≡ more f c = ap (of c.layer) same in
     ap (λ x. x ∷ cs) head ∙ ap (λ l. more f c ∷ l) (more_none f cs none)
 
--- what is added after one another is added together
+-- two additions, one after the other, are one
 pub more_more : (f g h : Layer → ℕ) (counts : List LayerRings) → ((l : Layer) → h l ≡ f l + g l)
     → map (more g) (map (more f) counts) ≡ map (more h) counts
 more_more f g h [] sums = refl
@@ -45,7 +45,7 @@ layers_kept f (c ∷ cs) = ap (λ l. c.layer ∷ l) (layers_kept f cs)
 pub sorted_kept : (f : Layer → ℕ) (counts : List LayerRings) → AreSorted counts → AreSorted (map (more f) counts)
 sorted_kept f counts sorted = pairs-map (λ (a b : LayerRings). ComesBefore a.layer b.layer) (more f) counts sorted
 
--- the count at a place
+-- the count at an index
 pub at_more : (f : Layer → ℕ) (old new : List LayerRings) (k : ℕ) (d : LayerRings) → new ≡ map (more f) old
     → k < length new → (k < length old) × (get_or new k d ≡ more f (get_or old k d))
 at_more f old new k d e within =
@@ -82,7 +82,7 @@ shape_added layer l shapes times i r s low r_is s_is layer_is =
     ap (λ x. times * x) (shape_more l shapes i low ∙ ap (λ x. rings_on l (take i shapes) + x) one) in
     omega (arith, step, times_cond (same_layer layer l) times (r * s))
 
--- no more rings than are allowed for all shapes
+-- a shape has no more rings than all shapes together
 pub shape_few : (old counts : List LayerRings) (layer : Layer) (shapes : List (PlainShape Rings)) (times i r s : ℕ)
     → i < length shapes → r ≡ length (shape_at shapes i).figure → s ≡ length (shape_at shapes i).shifts
     → layer ≡ (shape_at shapes i).layer → counts ≡ map (more (λ l. times * rings_on l (take i shapes))) old
@@ -102,7 +102,7 @@ shape_few old counts layer shapes times i r s low r_is s_is layer_is so_far few 
     mul-le-mul_left times (sum_by-take-le (shape_adds c.layer) shapes (i + 1)) in
     omega (arith, rings, added, full, part, few k d at.0)
 
--- so its rings are few
+-- so its rings are within the limit
 pub product_few : (old counts : List LayerRings) (layer : Layer) (times n : ℕ) (f : Layer → ℕ)
     → counts ≡ map (more f) old → Contains (map (λ c. c.layer) old) layer → 0 < times
     → All (λ c. c.layer ≡ layer → c.rings + times * n ≤ most_placed) counts

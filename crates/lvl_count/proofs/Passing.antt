@@ -21,15 +21,16 @@ use Rattle.lvl_cells.proofs.Summing.{count_step}
 use Rattle.lvl_count.specs.inside.Times.{at_place, chains_at, weighed, IsUnderWay, AreTimes}
 use Rattle.lvl_count.proofs.Weighing.{set_later, weighed_more, weighed_all, weighed_least, weighed_none}
 
--- the weight over all chains from a cell
+-- the sum of the weights over all chains from a cell
 abbrev pub over_all : (PlainCell Rings → ℕ) → List (PlainCell Rings) → PlainCell Rings → ℕ
 over_all w cells c = over_chains w cells (length cells) c
 
--- what a reference adds to the weight of a placement of its cell
+-- what a reference adds to that sum for the cell that has it
 abbrev pub adds : (PlainCell Rings → ℕ) → List (PlainCell Rings) → PlainReference → ℕ
 adds w cells r = length r.shifts * option_map_or (over_all w cells) (cell_named cells r.cell) 0
 
--- the first cells and one more are done with, but for those of its references that are left
+-- the first i cells of the order and the references of the next one, except for those that are left, passed on
+-- their placements
 pub record IsPassing (s : Settled) (i here : ℕ) (left : List PlainReference) (times : List ℕ) : Type 0 where
   pub top : PlainCell Rings
   pub is_top : slice_get s.cells s.top ≡ Some top
@@ -66,7 +67,7 @@ passing_begins s i k here c times linked ordered at cell_is is way = record {
       omega (arith, way.whole w, more, own, all);
 }
 
--- once no reference is left, the cell is done with
+-- once no reference is left, the cell passed on its placements
 pub passing_ends : (s : Settled) (i here : ℕ) (left : List PlainReference) (times : List ℕ)
     → left ≡ [] → IsPassing s i here left times → IsUnderWay s (i + 1) times
 passing_ends s i here left times none p = record {
@@ -79,7 +80,7 @@ passing_ends s i here left times none p = record {
       rw e (omega (arith, p.whole w, empty));
 }
 
--- the cell that a reference is to stands later in the order
+-- the target of a reference is later in the order
 later_in : (s : Settled) (i k j q : ℕ) → IsOrder s.cells s.order → slice_get s.order i ≡ Some k
     → IsTargetOf s.cells k j q → (p : ℕ) × (slice_get s.order p ≡ Some q) × (suc i ≤ p)
 later_in s i k j q ordered at t =
@@ -96,7 +97,7 @@ later_in s i k j q ordered at t =
     let later = ordered.falls i place.0 k q t.cell.name t.reference.cell at there from to link in
     (place.0, there, omega (arith, later))
 
--- a reference is what all that are left begin with
+-- the next reference is the first of those that are left
 first_left : (w : PlainCell Rings → ℕ) (cells : List (PlainCell Rings)) (refs : List PlainReference) (j : ℕ)
     (r : PlainReference) (d : PlainCell Rings) → slice_get refs j ≡ Some r → cell_named cells r.cell ≡ Some d
     → sum_by (adds w cells) (drop j refs)
@@ -143,12 +144,12 @@ one_at_least : (cells : List (PlainCell Rings)) (n : ℕ) (c : PlainCell Rings) 
 one_at_least cells zero c = omega arith
 one_at_least cells (suc n) c = omega arith
 
--- a product with a factor that is not zero
+-- a product with a factor that isn't zero
 pub le_product : (a m : ℕ) → 1 ≤ m → a ≤ a * m
 le_product a zero h = absurd (omega (arith, h))
 le_product a (suc m) h = omega arith
 
--- no more placements of the cell that a reference is to than of all cells
+-- the placements of the target of a reference are within the limit
 pub passing_few : (s : Settled) (given : Option (List ℕ)) (i k here j q : ℕ) (c : PlainCell Rings) (r : PlainReference)
     (times : List ℕ) → IsSettled given s → slice_get s.order i ≡ Some k → slice_get s.cells k ≡ Some c
     → slice_get c.references j ≡ Some r → IsTargetOf s.cells k j q → IsPassing s i here (drop j c.references) times
@@ -172,13 +173,13 @@ passing_few s given i k here j q c r times settled at cell_is reference_is t p =
     subst (λ (d : PlainCell Rings). over_all one cells d ≤ most_placed) same settled.few_chains in
     omega (arith, least, now, le_product new (g q) full, next.whole one, few)
 
--- what a step of the code along a reference does
+-- one step of the code, for one reference
 pub record IsStep (s : Settled) (i here j q x : ℕ) (items : List PlainReference) (times : List ℕ) : Type 0 where
   pub low : q < length times
   pub few : get_or times q 0 + x ≤ most_placed
   pub next : IsPassing s i here (drop (j + 1) items) (set times q (get_or times q 0 + x))
 
--- the cell at a place of the order, as the code reads it
+-- the cell at an index of the order, as the code reads it
 pub cell_read : (s : Settled) (given : Option (List ℕ)) (order : List ℕ) (cells : List (PlainCell Rings)) (i : ℕ)
     (c : PlainCell Rings) → IsSettled given s → order ≡ s.order → cells ≡ s.cells → i < length s.order
     → c ≡ get_or cells (get_or order i 0) c
@@ -244,7 +245,7 @@ under_way_begins s given n settled long =
           omega (arith, grown, same, top, weighed_none f g n 0 s.order);
     }
 
--- once all cells are done with, the times are those of the placements
+-- once all cells passed on their placements, the times are those of all placements
 pub under_way_ends : (s : Settled) (i : ℕ) (times : List ℕ) → length s.order ≤ i → IsUnderWay s i times
     → AreTimes s times
 under_way_ends s i times le way = record {

@@ -1,4 +1,4 @@
--- The rings of all cells, each as often as it is placed, are those that the top places.
+-- The rings of all cells, multiplied by how often each is placed, are those that the top places.
 use Rattle.std.proofs.Common.{◌≡◌, ◌<◌, ◌≤◌, ◌+◌, ◌*◌, ◌⊎◌, inl, inr, ℕ, zero, suc, Bool, true, false, cond, nat_lt}
 use Rattle.std.proofs.Common.{List, []}
 use Rattle.std.proofs.Common.{◌∷◌, length, get_or, map, take, filter, sum_by, Option, Some, None, All, Contains, refl}
@@ -38,7 +38,7 @@ cell_more layer cells times places i c low at =
     omega
     (arith, own, sum_by_more (λ n. get_or times n 0 * at_place (own_rings_on each_ring layer) cells n) places i 0 low)
 
--- one that is not placed adds nothing
+-- a cell that isn't placed adds nothing
 pub cell_skipped : (layer : Layer) (cells : List (PlainCell Rings)) (times places : List ℕ) (i : ℕ) → i < length places
     → get_or times (get_or places i 0) 0 ≡ 0
     → placed_on layer cells times (take (i + 1) places) ≡ placed_on layer cells times (take i places)
@@ -72,7 +72,7 @@ at_place_le v w cells k less =
       | Some c ↦ less c
     ]
 
--- few rings are placed on a Layer
+-- the rings on a Layer are within the limit
 pub placed_few : (s : Settled) (given : Option (List ℕ)) (times : List ℕ) (layer : Layer) → IsSettled given s
     → AreTimes s times → placed_on layer s.cells times s.order ≤ most_placed
 placed_few s given times layer settled t =
@@ -89,7 +89,7 @@ placed_few s given times layer settled t =
           (λ k. mul-le-mul_left (get_or times k 0) (at_place_le on all s.cells k (own_le layer))),
     )
 
--- the rings of a cell that are added are few
+-- the rings of a cell that are added are within the limit
 pub cell_few : (s : Settled) (given : Option (List ℕ)) (times : List ℕ) (old counts : List LayerRings) (i : ℕ)
     (c : PlainCell Rings) → IsSettled given s → AreTimes s times → i < length s.order
     → slice_get s.cells (get_or s.order i 0) ≡ Some c → All (λ n. n.rings ≡ 0) old
@@ -120,7 +120,7 @@ nothing_or_more : (n : ℕ) → (n ≡ 0) ⊎ (0 < n)
 nothing_or_more zero = inl refl
 nothing_or_more (suc n) = inr (omega arith)
 
--- a sum that is not zero has a part that is not
+-- a sum that isn't zero has a summand that isn't
 some_part : {X : Type 0} (f : X → ℕ) (xs : List X) → 0 < sum_by f xs
     → (k : ℕ) × (x : X) × (slice_get xs k ≡ Some x) × (0 < f x)
 some_part f [] h = absurd (omega (arith, h))
@@ -178,14 +178,14 @@ placed_listed cells times places layers layer listed some =
     (All-contains (λ (h : PlainShape Rings). Contains layers h.layer) cell.0.shapes shape.0
     (here both.0 cell.0 cell.1) shape.1)
 
--- the count is not zero
+-- its count isn't zero
 abbrev pub is_filled : LayerRings → Bool
 is_filled c = nat_lt 0 c.rings
 
 filled_if : (n : ℕ) → 0 < n → nat_lt 0 n ≡ true
 filled_if n h = grind (arith, nat_tests)
 
--- a Layer to which rings are added is not left out
+-- a Layer to which rings are added isn't left out
 still_there : (f : Layer → ℕ) (counts : List LayerRings) (layer : Layer) → 0 < f layer
     → Contains (map layer_of counts) layer → Contains (map layer_of (filter is_filled (map (more f) counts))) layer
 still_there f [] layer some (k, within, is) = absurd (omega (arith, within))
@@ -204,8 +204,8 @@ still_there f (c ∷ cs) layer some (suc k, within, is) =
       | false ↦ rest
     ]
 
--- counts from zero to which the rings of all cells are added, without those that are zero still, are all that the top
--- places
+-- counts that begin with zero and to which the rings of all cells are added are those of what the top places, once the
+-- zeros are left out
 pub all_counted : (s : Settled) (times : List ℕ) (old : List LayerRings) (top : PlainCell Rings) → AreTimes s times
     → slice_get s.cells s.top ≡ Some top → AreSorted old
     → All (AreListed s.cells times (map (λ c. c.layer) old)) s.order

@@ -1,4 +1,4 @@
--- The times of places by their weights, added up.
+-- Sums over indexes of their times multiplied by weights.
 use Rattle.std.proofs.Common.{◌≡◌, ◌≢◌, ℕ, zero, suc, ◌+◌, ◌*◌, ◌<◌, ◌≤◌, List, [], ◌∷◌, length, get_or, set, replicate}
 use Rattle.std.proofs.Common.{sum_by, Some, refl, ap, ◌∙◌, arith}
 use Rattle.std.specs.List.{slice_get}
@@ -6,14 +6,14 @@ use Rattle.std.proofs.lemmas.List.{get_or-set_same, get_or-set_other}
 use Rattle.std.proofs.lemmas.List.Sums.{sum_by-cons}
 use Rattle.lvl_count.specs.inside.Times.{weighed}
 
--- no place is there twice
+-- no index occurs twice
 abbrev pub Once : List ℕ → Type 0
 Once ks = (i j k : ℕ) → slice_get ks i ≡ Some k → slice_get ks j ≡ Some k → i ≡ j
 
 once_tail : (k : ℕ) (ks : List ℕ) → Once (k ∷ ks) → Once ks
 once_tail k ks h i j q a b = let one : suc i ≡ suc j = h (suc i) (suc j) q a b in omega (arith, one)
 
--- the times of a place that is not among these do not count
+-- the times of an index that isn't in the list don't count
 set_absent : (f g : ℕ → ℕ) (times : List ℕ) (q x i : ℕ) (ks : List ℕ) → ((p : ℕ) → slice_get ks p ≡ Some q → ⊥)
     → weighed f g (set times q x) i ks ≡ weighed f g times i ks
 set_absent f g times q x i [] h = refl
@@ -28,7 +28,7 @@ set_absent f g times q x (suc i) (k ∷ ks) h =
     let first : get_or (set times q x) k 0 * f k ≡ get_or times k 0 * f k = ap (λ n. n * f k) same in
     omega (arith, first, set_absent f g times q x i ks (λ p e. h (suc p) e))
 
--- more times of a place from i on
+-- an index from the ith item on gets more times
 pub set_later : (f g : ℕ → ℕ) (times : List ℕ) (q x i p : ℕ) (ks : List ℕ) → Once ks → slice_get ks p ≡ Some q → i ≤ p
     → q < length times
     → weighed f g (set times q (get_or times q 0 + x)) i ks ≡ weighed f g times i ks + x * g q
@@ -60,7 +60,7 @@ set_later f g times q x (suc i) (suc p) (k ∷ ks) once at le low =
     let first : get_or new k 0 * f k ≡ get_or times k 0 * f k = ap (λ n. n * f k) same in
     omega (arith, first, set_later f g times q x i p ks (once_tail k ks once) at (omega (arith, le)) low)
 
--- one more place is weighed by f in place of g
+-- one more item is weighed by f instead of g
 pub weighed_more : (f g : ℕ → ℕ) (times : List ℕ) (i k : ℕ) (ks : List ℕ) → slice_get ks i ≡ Some k
     → weighed f g times i ks + get_or times k 0 * f k ≡ weighed f g times (suc i) ks + get_or times k 0 * g k
 weighed_more f g times i k [] at = cc
@@ -71,7 +71,7 @@ weighed_more f g times zero k (q ∷ ks) at =
     omega (arith, by_f, by_g)
 weighed_more f g times (suc i) k (q ∷ ks) at = omega (arith, weighed_more f g times i k ks at)
 
--- all places are weighed by f
+-- all items are weighed by f
 pub weighed_all : (f g : ℕ → ℕ) (times : List ℕ) (i : ℕ) (ks : List ℕ) → length ks ≤ i
     → weighed f g times i ks ≡ sum_by (λ k. get_or times k 0 * f k) ks
 weighed_all f g times i [] le = refl
@@ -79,7 +79,7 @@ weighed_all f g times zero (k ∷ ks) le = absurd (omega (arith, le))
 weighed_all f g times (suc i) (k ∷ ks) le =
     omega (arith, weighed_all f g times i ks (omega (arith, le)), sum_by-cons (λ n. get_or times n 0 * f n) k ks)
 
--- a place from i on counts by g
+-- an item from the ith on is weighed by g
 pub weighed_least : (f g : ℕ → ℕ) (times : List ℕ) (i p q : ℕ) (ks : List ℕ) → slice_get ks p ≡ Some q → i ≤ p
     → get_or times q 0 * g q ≤ weighed f g times i ks
 weighed_least f g times i p q [] at le = cc
@@ -98,7 +98,7 @@ zero_there zero k = refl
 zero_there (suc n) zero = refl
 zero_there (suc n) (suc k) = zero_there n k
 
--- where nothing is placed, nothing is weighed
+-- if all times are zero, the sum is
 pub weighed_none : (f g : ℕ → ℕ) (n i : ℕ) (ks : List ℕ) → weighed f g (replicate n 0) i ks ≡ 0
 weighed_none f g n i [] = refl
 weighed_none f g n zero (k ∷ ks) =

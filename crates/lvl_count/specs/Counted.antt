@@ -1,4 +1,4 @@
--- How many rings are placed on each Layer.
+-- How many rings a cell places on each Layer.
 use Rattle.std.specs.Prelude.{◌≡◌, ◌<◌, List, map, All, AllPairs, Contains}
 use Rattle.lvl_names.specs.declared.layer.Layer.{Layer}
 use Rattle.lvl_names.specs.Layers.{ComesBefore}
@@ -6,7 +6,8 @@ use Rattle.lvl_cells.specs.Cells.{PlainCell, Rings}
 use Rattle.lvl_cells.specs.Chains.{placed_rings_on}
 use Rattle.lvl_count.specs.declared.counts.LayerRings.{LayerRings}
 
--- each Layer on which the cell places rings is there, in their order, with the number of these rings
+-- the list has exactly the Layers on which the cell `top` places rings, in their order, each with the number of these
+-- rings
 pub record AreCounted {F : Type 0} (rings : F → Rings) (cells : List (PlainCell F)) (top : PlainCell F)
     (layers : List LayerRings) : Type 0 where
   pub sorted : AllPairs (λ a b. ComesBefore a.layer b.layer) layers

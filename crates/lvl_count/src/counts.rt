@@ -1,4 +1,4 @@
-//! The counts of the rings on each Layer.
+//! The number of rings on each Layer.
 ghost use Rattle.std.specs.Prelude.{◌≡◌, ◌+◌, ◌*◌, ◌<◌, ◌≤◌, if◌then◌else◌, map, slice_get, All, Contains};
 ghost use Rattle.std.specs.Prelude.{IfOk, IfSome};
 ghost use Rattle.lvl_cells.specs.Cells.{each_ring};
@@ -14,7 +14,7 @@ use lvl_cells::{Checked, Shapes};
 use lvl_names::{Layer, comes_before};
 use std::alloc::{AllocError, Global};
 
-/// A Layer, and how many rings are placed on it.
+/// A Layer and the number of rings that are placed on it.
 #[derive(Clone, Copy, Debug, PartialEq, Eq)]
 pub struct LayerRings {
     pub layer: Layer,
@@ -34,7 +34,7 @@ fn no_counts(alloc: Global, layers: &[Layer]) -> Result<Vec<LayerRings>, AllocEr
         .collect(alloc)
 }
 
-/// A count of 0 for each of the Layers, in their order; one for a Layer that is there twice.
+/// A count of 0 for each of the Layers, in their order, without duplicates.
 fn counts_for(alloc: Global, mut layers: Vec<Layer>) -> Result<Vec<LayerRings>, AllocError>
     ensures sorted { IfOk result (λ counts. AreSorted counts.items) }
     ensures layers { IfOk result (λ counts. All (Contains (map (λ c. c.layer) counts.items)) layers.items) }
@@ -45,7 +45,7 @@ fn counts_for(alloc: Global, mut layers: Vec<Layer>) -> Result<Vec<LayerRings>, 
     no_counts(alloc, &layers)
 }
 
-/// The place of the Layer's count.
+/// The index of the count of a Layer.
 fn place_of(counts: &[LayerRings], layer: Layer) -> usize
     requires sorted { AreSorted counts.now }
     requires there { Contains (map (λ c. c.layer) counts.now) layer }
@@ -65,7 +65,7 @@ fn add_rings(counts: &mut [LayerRings], layer: Layer, rings: usize)
     counts[place].rings += rings;
 }
 
-/// Adds the rings of the shapes of a cell that is placed so many times.
+/// Adds the rings of the shapes of a cell that is placed `times` times.
 fn add_shapes(counts: &mut [LayerRings], shapes: &Shapes, times: u64)
     requires sorted { AreSorted counts.old }
     requires there { All (λ h. Contains (map (λ c. c.layer) counts.old) h.layer) shapes.now }
@@ -79,7 +79,7 @@ fn add_shapes(counts: &mut [LayerRings], shapes: &Shapes, times: u64)
     }
 }
 
-/// Adds the rings of all cells, each as often as it is placed.
+/// Adds the rings of all cells, each multiplied by how often the cell is placed.
 fn add_cells(counts: &mut [LayerRings], checked: &Checked, times: &[u64])
     requires times { AreTimes checked.now times.now }
     requires sorted { AreSorted counts.old }
@@ -96,10 +96,10 @@ fn add_cells(counts: &mut [LayerRings], checked: &Checked, times: &[u64])
     }
 }
 
-/// How many rings the top of a checked library places on each Layer, in the order of the Layers;
-/// a Layer on which it places none is left out.
+/// The number of rings that the top of a checked library places on each Layer, in the order of the
+/// Layers. Layers on which it places none are left out.
 ///
-/// No ring is placed for this: it takes one pass over the cells, whatever they place.
+/// Takes one pass over the cells, however much they place.
 pub fn rings_by_layer(alloc: Global, checked: &Checked) -> Result<Vec<LayerRings>, AllocError>
     ensures { IfOk result (λ layers. IfSome (slice_get checked.now.cells checked.now.top)
         (λ top. AreCounted each_ring checked.now.cells top layers.items)) }

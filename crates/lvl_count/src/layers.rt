@@ -6,7 +6,7 @@ use lvl_cells::{Checked, Shapes};
 use lvl_names::Layer;
 use std::alloc::{AllocError, Global};
 
-/// Adds a Layer, if it is not the last already.
+/// Appends a Layer, unless it is the last one already.
 fn push_layer(layers: &mut Vec<Layer>, layer: Layer) -> Result<(), AllocError>
     ensures kept { OnOk result (All (Contains layers.new.items) layers.old.items) }
     ensures added { OnOk result (Contains layers.new.items layer) }
@@ -18,7 +18,7 @@ fn push_layer(layers: &mut Vec<Layer>, layer: Layer) -> Result<(), AllocError>
     Ok(())
 }
 
-/// Adds the Layers of the shapes; one that several shapes in a row are on is added once.
+/// Appends the Layers of the shapes. A Layer of several consecutive shapes is appended once.
 fn push_layers(layers: &mut Vec<Layer>, shapes: &Shapes) -> Result<(), AllocError>
     ensures kept { OnOk result (All (Contains layers.new.items) layers.old.items) }
     ensures added { OnOk result (All (λ h. Contains layers.new.items h.layer) shapes.now) }
@@ -29,7 +29,7 @@ fn push_layers(layers: &mut Vec<Layer>, shapes: &Shapes) -> Result<(), AllocErro
     Ok(())
 }
 
-/// The Layers of the shapes of all cells that are placed.
+/// The Layers of the shapes of all cells that are placed, in no order and with duplicates.
 pub(crate) fn layers_of(
     alloc: Global,
     checked: &Checked,

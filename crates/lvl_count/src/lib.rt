@@ -1,12 +1,13 @@
 //! How many rings a checked library places on each Layer, counted without placing any.
 //!
-//! A cell is placed as often as the references to it are placed, each as often as it has places:
-//! one pass over the cells, from the top down, says how often each is placed. [`rings_by_layer`]
-//! adds up the rings of the cells, each as often as it is placed. It takes time and memory by
-//! the size of the library, and not by that of what it places.
+//! A reference places its cell once for each of its shifts, each time that the cell with the
+//! reference is placed. So one pass over the cells, from the top down, finds how often each is
+//! placed. [`rings_by_layer`] then adds up the rings of the cells, multiplied by how often each
+//! cell is placed. Time and memory depend on the size of the library, and not on how much it
+//! places.
 //!
-//! `checked` is a library whose top places a cell at 3 by 2 places, and that cell draws a square
-//! on `METAL`:
+//! Here `checked` is a library whose top places a cell at 3 by 2 places, and that cell draws a
+//! square on `METAL`:
 //!
 //! ```
 //! let counts = rings_by_layer(alloc, &checked)?;

@@ -5,7 +5,7 @@ ghost use Rattle.lvl_count.specs.inside.Times.{IsUnderWay, AreTimes};
 use lvl_cells::Checked;
 use std::alloc::{AllocError, Global};
 
-/// Adds the placements that the references of one cell make, the one at this place of the order.
+/// Adds the placements that the references of the cell at index `i` of the order make.
 fn pass_on(checked: &Checked, i: usize, times: &mut [u64])
     requires within { i < length checked.now.order }
     requires way { IsUnderWay checked.now i times.old }
@@ -21,8 +21,8 @@ fn pass_on(checked: &Checked, i: usize, times: &mut [u64])
     }
 }
 
-/// How often each cell is placed: the top once, and each other one as often as the references to
-/// it say.
+/// How often each cell is placed, by the index of the cell: the top once, any other cell as often
+/// as the references to it say.
 pub(crate) fn times_of(alloc: Global, checked: &Checked) -> Result<Vec<u64>, AllocError>
     ensures { IfOk result (λ times. AreTimes checked.now times.items) }
 {

@@ -1,4 +1,4 @@
--- What is in boxes: images of what is in others.
+-- Images of the points of a box.
 use Rattle.std.proofs.Common.{◌≡◌, ℤ, ◌≤ℤ◌, ◌+ℤ◌, neg_ℤ, Bool, true, false, ◌⊎◌, inl, inr, arith}
 use Rattle.std.proofs.lemmas.Int.{ints}
 use Rattle.lvl_grid.specs.declared.point.Point.{Point}
@@ -9,7 +9,7 @@ use Rattle.lvl_grid.specs.Turn.{image}
 use Rattle.lvl_flat.specs.declared.bounds.Bounds.{Bounds}
 use Rattle.lvl_flat.specs.Boxes.{IsWithin}
 
--- z is between x and y, in whichever order they are
+-- z is between x and y, in either order
 record IsBetween (x z y : ℤ) : Type 0 where
   way : ((x ≤ℤ z) × (z ≤ℤ y)) ⊎ ((y ≤ℤ z) × (z ≤ℤ x))
 
@@ -55,7 +55,7 @@ inside l x z y h b p q r s = elim b.way [
   | inr w ↦ (omega (arith, ints, w.0), omega (arith, ints, w.1))
 ]
 
--- where the images of the corners lie, the image of what is between them does
+-- a box that has the images of two corners has the image of each point between them
 pub placed_within : (m : Map) (b r : Bounds) (p : Point) → IsWithin r (image m b.low) → IsWithin r (image m b.high)
     → IsWithin b p → IsWithin r (image m p)
 placed_within m b r p low high w =

@@ -22,7 +22,7 @@ use Rattle.lvl_names.proofs.Layers.{tested_layer, same_is}
 use Rattle.lvl_grid.proofs.Anyone.{Any-nil, Any-head, Any-tail, Any-uncons, Any-left, Any-right, Any-sides}
 use Rattle.lvl_flat.proofs.Picks.{picks_any}
 
--- a square whose image is s is in the set
+-- s is the image of a square of the set
 abbrev pub Under : Map → Square → (Square → Type 0) → Type 0
 Under m s P = (t : Square) × (image_square m t ≡ s) × P t
 

@@ -30,7 +30,8 @@ use Rattle.lvl_flat.proofs.Holding.{fits_within}
 use Rattle.lvl_flat.proofs.Orders.{sorted_at, sorted_tail, rings_where}
 use Rattle.lvl_flat.proofs.Outside.{placed_square}
 
--- a square is covered as before, or is one that counts and that some item so far covers; and so with one item more
+-- the squares covered are those from before and, of those that count, those that some item so far covers; and so with
+-- one more item
 pub covers_more : {X : Type 0} (P : X → Type 0) (W old now new : Type 0) (xs : List X) (k : ℕ) (x : X)
     → slice_get xs k ≡ Some x → now ↔ (old ⊎ (W × Any P (take k xs))) → new ↔ (now ⊎ (W × P x))
     → new ↔ (old ⊎ (W × Any P (take (k + 1) xs)))
@@ -64,7 +65,7 @@ pub covers_all : {X : Type 0} (P : X → Type 0) (W old new : Type 0) (xs : List
     → new ↔ (old ⊎ (W × Any P (take k xs))) → new ↔ (old ⊎ (W × Any P xs))
 covers_all P W old new xs k past h = subst (λ ys. new ↔ (old ⊎ (W × Any P ys))) (take_all k xs past) h
 
--- a ring whose box is placed outside of the window adds nothing
+-- a ring whose placed box is outside of the window adds nothing
 pub outside_adds : (m : Map) (e : Point) (window : Window) (b placed : Bounds) (ring : List Point) (old : Rings)
     → ((p : Point) → IsWithin b p → IsWithin placed (placed_point m e p)) → All (IsWithin b) ring
     → IsOutside placed window → (q : Square)
@@ -83,7 +84,7 @@ pub placed_ring_fits : (m : Map) (e : Point) (b placed : Bounds) (ring : List Po
 placed_ring_fits m e b placed ring fits holds all =
     λ k v lt. fits_within placed (placed_point m e (get_or ring k v)) fits (holds _ (all k v lt))
 
--- a ring whose box misses at all shifts adds nothing
+-- a ring whose box misses the window at all shifts adds nothing
 pub all_outside : (m : Map) (window : Window) (b : Bounds) (ring shifts : List Point) (old : Rings)
     → All (IsWithin b) ring → All (IsMissed b m window) shifts → (q : Square)
     → RingsCover old q
@@ -108,7 +109,7 @@ all_outside_fits m window b ring shifts all missed =
     let out : IsMissed b m window (get_or shifts j e) = missed j e lj in
     placed_ring_fits m (get_or shifts j e) b out.placed ring out.fits out.holds all
 
--- a ring whose box is placed inside of the window adds all of it
+-- a ring whose placed box is inside of the window adds all that it covers
 pub inside_adds : (m : Map) (e : Point) (window : Window) (b placed : Bounds) (ring : List Point) (old new : Rings)
     → ((p : Point) → IsWithin b p → IsWithin placed (placed_point m e p)) → All (IsWithin b) ring
     → IsInside placed window → new ≡ old ++ map (placed_point m e) ring ∷ []
@@ -129,7 +130,7 @@ inside_adds m e window b placed ring old new holds all within is covers q =
           (push.1 (elim d [ inl a ↦ inl a | inr a ↦ inr ((covers q).1 a.1) ])),
     )
 
--- a ring that is clipped adds what of it is in the window
+-- a ring that is clipped adds the squares of the window that it covers
 pub cut_adds : (m : Map) (e : Point) (window : Window) (ring placed : List Point) (old new : Rings)
     → placed ≡ map (placed_point m e) ring
     → ((t : Square) → Covers (map (placed_point m e) ring) t ↔ IsPlaceOfCovered m e ring t)

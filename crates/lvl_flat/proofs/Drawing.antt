@@ -62,7 +62,7 @@ layers-set (t ∷ sheets) zero s new at same =
     let one : s ≡ t = cc in ap (λ (x : Layer). x ∷ map layer_of sheets) (same ∙ ap layer_of one)
 layers-set (t ∷ sheets) (suc i) s new at same = ap (λ xs. t.layer ∷ xs) (layers-set sheets i s new at same)
 
--- sheets for the same Layers are sorted alike
+-- sheets for the same Layers are sorted if the others are
 pub sorted_alike : (xs ys : List PlainSheet) → map layer_of xs ≡ map layer_of ys → AreSorted ys → AreSorted xs
 sorted_alike xs ys same sorted = λ i j d lt in'.
     let long : length xs ≡ length ys = sym (length-map xs layer_of) ∙ (ap length same ∙ length-map ys layer_of) in
@@ -74,14 +74,14 @@ sorted_alike xs ys same sorted = λ i j d lt in'.
     subst (λ (a : Layer). ComesBefore a (get_or xs j d).layer) (sym (at i (omega (arith, lt, in'))))
     (subst (λ (b : Layer). ComesBefore (get_or ys i d).layer b) (sym (at j in')) (sorted i j d lt inside))
 
--- a Layer that is no sheet's is none of their Layers
+-- a Layer without a sheet isn't among the Layers of the sheets
 pub not_theirs : (sheets : List PlainSheet) (layer : Layer) → All (λ s. s.layer ≢ layer) sheets
     → Contains (map layer_of sheets) layer → ⊥
 not_theirs sheets layer none has =
     All-contains (λ (x : Layer). x ≢ layer) (map layer_of sheets) layer
     (All-map (λ (x : Layer). x ≢ layer) layer_of sheets none) has refl
 
--- one shape more
+-- one more shape
 pub drawn_more : (layer : Layer) (m : Map) (shapes : List (PlainShape Rings)) (i : ℕ) (h : PlainShape Rings)
     → i < length shapes → h ≡ get_or shapes i h
     → drawn_on layer m (take (i + 1) shapes)

@@ -36,7 +36,7 @@ use Rattle.lvl_grid.specs.declared.point.Window.{Window}
 use Rattle.lvl_grid.specs.Clip.{IsWithin}
 use Rattle.lvl_flat.proofs.UnderWay.{under_unmoved, way_begins}
 
--- sheets without a ring, and the top drawn on them
+-- empty sheets, and the top drawn on them
 pub walk_begins : (s : Settled) (c : PlainCell Rings) (empty new : List PlainSheet) → AreLinked s.cells
     → IsOrder s.cells s.order → slice_get s.cells s.top ≡ Some c → AreSorted empty → AllHaveSheets empty s.cells
     → ((layer : Layer) → rings_on layer empty ≡ []) → IsDrawn s.cells s.top unmoved empty new
@@ -118,7 +118,7 @@ sorted_filter p (t ∷ ss) sorted =
       | false ↦ rest
     ]
 
--- no ring is lost with the sheets that have none
+-- leaving out the sheets without rings loses no ring
 pub rings_on-filled : (ss : List PlainSheet) → AreSorted ss → (layer : Layer)
     → rings_on layer (filter is_filled ss) ≡ rings_on layer ss
 rings_on-filled [] sorted layer = refl
@@ -167,7 +167,7 @@ own_covers c empty new sorted none d layer s =
       λ h. subst (λ rs. RingsCover rs s) (sym same) (mine.1 (stays.1 h)),
     )
 
--- whose vertices are out of range
+-- one whose vertices are out of range
 pub own_out : (c : PlainCell Rings) (fault : FlatFault) → IsEnterFault (c ∷ []) 0 unmoved fault
     → ReportsName c.name fault × (¬ FitShapes unmoved c.shapes)
 own_out c (OutOfRange name) o =
@@ -193,7 +193,7 @@ filled_if (ring ∷ rings) false e =
     let none : length (ring ∷ rings) ≡ 0 = eqb-true _ 0 e in
     absurd (omega arith)
 
--- one sheet more, kept for its rings or left out where it has none
+-- one more sheet, which is left out if it has no rings
 pub filled_step : (ss filled all rest rest' : List PlainSheet) (s : PlainSheet) (b : Bool)
     → (length s.rings == 0) ≡ not b → (filled ≡ filter is_filled ss) × (ss ++ rest ≡ all) → rest ≡ s ∷ rest'
     → (filled ++ cond b (s ∷ []) [] ≡ filter is_filled (ss ++ s ∷ [])) × ((ss ++ s ∷ []) ++ rest' ≡ all)

@@ -43,7 +43,7 @@ pub layers_kept : (cells : List (PlainCell Rings)) (old new : List PlainSheet) �
 layers_kept cells old new same have =
     λ k c at i h inside. subst (λ ls. Contains ls (get_or c.shapes i h).layer) (sym same) (have k c at i h inside)
 
--- the shapes of a cell are drawn beside what is drawn already
+-- the shapes of a cell are drawn in addition to what is drawn already
 pub drawn_beside : (layer : Layer) (m : Map) (q : Square) (shapes : List (PlainShape Rings)) (old new : Rings)
     → AreFiguresPlaced m shapes → new ≡ old ++ drawn_on layer m shapes
     → RingsCover new q ↔ (RingsCover old q ⊎ Under m q (λ t. Any (ShapeCovers RingsCover layer t) shapes))
@@ -60,7 +60,7 @@ drawn_beside layer m q shapes old new placed same =
           ]),
     )
 
--- a visit that has nothing left to do is taken off
+-- a visit without picks to follow is taken off
 pub walk_done : (s : Settled) (sheets : List PlainSheet) (front : List Visit) (v : Visit)
     → IsWalking s sheets (front ++ v ∷ []) → pending s.cells v ≡ [] → IsWalking s sheets front
 walk_done s sheets front v w none = record {
@@ -89,7 +89,7 @@ walk_past s sheets front v rest w past = record {
       omega (arith, w.counts layer, sum_last weight front v, sum_last weight front rest, same);
 }
 
--- the visit goes into a cell: its shapes are drawn, and it is visited
+-- the visit goes into a cell: the shapes of the cell are drawn, and a visit of it is put on the stack
 pub walk_into : (s : Settled) (sheets new : List PlainSheet) (front : List Visit) (v : Visit) (i : ℕ) (m : Map)
     (rest : Visit) → AreLinked s.cells → IsOrder s.cells s.order
     → IsWalking s sheets (front ++ v ∷ []) → IsInto s.cells v i m rest → IsDrawn s.cells i m sheets new
@@ -167,7 +167,7 @@ less_into s front v i m rest linked ordered into =
       sum_last left (front ++ rest ∷ []) (begun i m),
     )
 
--- a pick that is passed by
+-- a pick that is skipped
 pub less_missed : (s : Settled) (front : List Visit) (v : Visit) (i : ℕ) (m : Map) (rest : Visit) → AreLinked s.cells
     → IsOrder s.cells s.order → IsInto s.cells v i m rest
     → work s.cells (front ++ rest ∷ []) < work s.cells (front ++ v ∷ [])
@@ -176,7 +176,7 @@ less_missed s front v i m rest linked ordered into =
     let less = less_done s.cells (front ++ rest ∷ []) (begun i m) in
     omega (arith, more, less)
 
--- and so for a run of picks
+-- a run of picks that is skipped
 runs_less : (s : Settled) (known : List (Option Bounds)) (window : Window) (front : List Visit) (u : Visit)
     (place n : ℕ) → AreLinked s.cells → IsOrder s.cells s.order
     → ((k : ℕ) → place ≤ k → k < place + n → IsMissedAt s.cells known window u k)

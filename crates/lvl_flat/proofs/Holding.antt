@@ -1,4 +1,4 @@
--- What boxes hold, as they grow.
+-- What boxes have, while they are widened.
 use Rattle.std.proofs.Common.{◌≡◌, ℕ, zero, suc, List, Option, Some, All, Contains, ◌≢◌, ℤ, ◌≤ℤ◌, ◌+ℤ◌, FitsSigned}
 use Rattle.std.proofs.Common.{Bool, set, get_or, slice_get, inl, inr, refl, sym, ap, ◌∙◌, subst, arith}
 use Rattle.std.specs.Int.{w64}
@@ -30,7 +30,7 @@ widens_itself a = record { holds = λ p w. w }
 pub widens_further : (a b c : Bounds) → Widens a b → Widens b c → Widens a c
 widens_further a b c h k = record { holds = λ p w. k.holds p (h.holds p w) }
 
--- what is held stays so in a wider box
+-- a wider box has all that the box has
 pub ring_wider : (a b s : Bounds) (ring : List Point) → Widens a b → HoldsRing a s ring → HoldsRing b s ring
 ring_wider a b s ring h all =
     All-weaker (λ v. (e : Point) → IsWithin s e → IsWithin a (shifted e v))
@@ -50,17 +50,17 @@ pub picks_wider : (cells : List (PlainCell Rings)) (a b : Bounds) (rs : List Pla
 picks_wider cells a b rs w h i r li e has d f n v m named chain whole =
     cell_wider a b m f w (h i r li e has d f n v m named chain whole)
 
--- a figure at the shifts of a box, at the shifts in it
+-- a figure at all displacements of a box is there at the shifts in it
 pub figure_own : (b s : Bounds) (h : PlainShape Rings) → All (IsWithin s) h.shifts → All (HoldsRing b s) h.figure
     → HoldsOwn b h
 figure_own b s h shifts rings = λ i e li j ring lj k v lk. rings j ring lj k v lk (get_or h.shifts i e) (shifts i e li)
 
--- shapes where they are drawn are placed by the map that moves nothing
+-- the shapes of a cell, unmapped, are placed by the map that moves no point
 shape_unmoved : (b : Bounds) (h : PlainShape Rings) → HoldsOwn b h → HoldsShape b unmoved h
 shape_unmoved b h all =
     λ i e li j ring lj k v lk. subst (IsWithin b) (sym (image-unmoved _)) (all i e li j ring lj k v lk)
 
--- what a reference leads to, where what its cell leads to is in the inner box
+-- what a reference places, if all that its cell places is in the inner box
 pub reference_holds : (cells : List (PlainCell Rings)) (b t : Bounds) (r : PlainReference) (d : PlainCell Rings)
     → cell_named cells r.cell ≡ Some d → HoldsChains cells t d
     → ((p : Point) → IsWithin t p → All (λ e. IsWithin b (image (placing r e) p)) r.shifts) → (e : Point)
@@ -125,7 +125,7 @@ box_in_range cells b c f h n m d chain =
       vertices = λ i g li k e lk j ring lj l v ll. fits_within b _ f (held.vertices i g li k e lk j ring lj l v ll);
     }
 
--- one box more is known
+-- one more box is known
 pub known_box : (cells : List (PlainCell Rings)) (known : List (Option Bounds)) (k : ℕ) (old new : Option Bounds)
     → AreBoxes cells known → slice_get known k ≡ Some old
     → ((b : Bounds) (c : PlainCell Rings) → new ≡ Some b → slice_get cells k ≡ Some c → Fits b × HoldsChains cells b c)
@@ -150,7 +150,7 @@ known_box cells known k old new before there here i b c h at =
 swapped : (q a e : ℤ) → (q +ℤ a) +ℤ e ≡ q +ℤ (e +ℤ a)
 swapped q a e = omega (arith, ints)
 
--- an image moved by a shift is that of the reference's map there
+-- an image before the shifts, moved by a shift, is the image under the reference's map at that shift
 pub moved_place : (r : PlainReference) (m : Map) (e p : Point) → m.flip ≡ r.flip → m.turn ≡ r.turn → m.at ≡ r.at
     → shifted e (image m p) ≡ image (placing r e) p
 moved_place r m e p f t a =

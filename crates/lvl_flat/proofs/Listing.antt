@@ -1,4 +1,4 @@
--- The sheets of all Layers: sorted Layers with no Layer twice.
+-- The sheets of all Layers: sorted, and without duplicates.
 use Rattle.std.proofs.Common.{◌≡◌, ◌<◌, ◌⊎◌, ◌==◌, ℕ, Bool, true, false, cond, Ordering, Less, Equal, Greater, List, []}
 use Rattle.std.proofs.Common.{◌∷◌, ◌++◌, length, get_or, map, All, AllPairs, Contains, IsPermutation, nat_cmp, nat_lt}
 use Rattle.std.proofs.Common.{inl, inr, refl, sym, subst, arith}
@@ -89,14 +89,14 @@ sheets_there layers sorted ss moved e =
     (Contains-dedup layer_equiv is_same sorted l (Contains-permutation layers sorted l moved has))) layers
     (All-contains_itself layers)
 
--- Layers that are among these are among those that these are among
+-- Layers that are in a list are in a list that has all of its Layers
 pub among : (fewer more : List Layer) (shapes : List (PlainShape Rings)) → All (Contains more) fewer
     → All (λ h. Contains fewer h.layer) shapes → All (λ h. Contains more h.layer) shapes
 among fewer more shapes wider h =
     All-weaker {X = PlainShape Rings} (λ g. Contains fewer g.layer) (λ g. Contains more g.layer)
     (λ g has. All-contains (Contains more) fewer g.layer wider has) shapes h
 
--- Layers to which others are added are among them all
+-- after others are appended, the Layers are still in the list
 pub still_among : (layers more : List Layer) → All (Contains (layers ++ more)) layers
 still_among layers more =
     All-weaker {X = Layer} (Contains layers) (Contains (layers ++ more))
@@ -108,7 +108,7 @@ among_those first second third h k =
     All-weaker {X = Layer} (Contains second) (Contains third) (λ l has. All-contains (Contains third) second l k has)
     first h
 
--- the Layers of the cell's shapes are among these
+-- the Layers of the cell's shapes are in the list
 abbrev pub AreListed : List Layer → PlainCell Rings → Type 0
 AreListed layers c = All (λ h. Contains layers h.layer) c.shapes
 

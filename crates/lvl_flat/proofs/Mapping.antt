@@ -22,11 +22,11 @@ use Rattle.lvl_flat.specs.Sheets.{AreSorted, rings_on}
 use Rattle.lvl_flat.proofs.Orders.{sorted_tail, rings_nowhere}
 use Rattle.lvl_flat.proofs.Ending.{comes_before_rest}
 
--- the sheet's rings, where its Layer's target is this one
+-- the rings of the sheet if its Layer's target is this one, else none
 abbrev pub moved_on : List LayerPair → Layer → PlainSheet → Rings
 moved_on pairs layer t = cond (same_layer (target_of pairs t.layer) layer) t.rings []
 
--- one sheet more
+-- one more sheet
 pub mapped_more : (pairs : List LayerPair) (layer : Layer) (sheets : List PlainSheet) (t : PlainSheet)
     → mapped_on pairs layer (sheets ++ t ∷ []) ≡ mapped_on pairs layer sheets ++ moved_on pairs layer t
 mapped_more pairs layer sheets t =
@@ -36,7 +36,7 @@ mapped_more pairs layer sheets t =
 none_cover : (s : Square) → RingsCover [] s → ⊥
 none_cover s a = Any-nil (λ (ring : List Point). Covers ring s) a
 
--- what a sheet after the first has on a Layer is there with the first too
+-- rings on a Layer in the sheets after the first are also there with the first
 covered_after : (t : PlainSheet) (ts : List PlainSheet) (layer : Layer) (s : Square) → AreSorted (t ∷ ts)
     → RingsCover (rings_on layer ts) s → RingsCover (rings_on layer (t ∷ ts)) s
 covered_after t ts layer s sorted a =

@@ -20,7 +20,7 @@ sorted_at sheets i j s t sorted at_i at_j lt =
     subst (λ u. P u t) left
     (subst (λ v. P (get_or sheets i s) v) right (sorted i j s lt (slice_get_within sheets j t at_j)))
 
--- a sheet up to one that comes before the Layer does so too
+-- sheets up to one that comes before the Layer come before it too
 pub up_to : (sheets : List PlainSheet) (layer : Layer) (m k : ℕ) (t s : PlainSheet) → AreSorted sheets
     → slice_get sheets m ≡ Some t → ComesBefore t.layer layer → k ≤ m → slice_get sheets k ≡ Some s
     → ComesBefore s.layer layer
@@ -34,14 +34,14 @@ up_to sheets layer m k t s sorted there before low at =
           subst (λ (u : PlainSheet). ComesBefore u.layer layer) here before
     ]
 
--- a sheet from one on that does not come before the Layer does not either
+-- sheets after one that doesn't come before the Layer don't either
 pub from_on : (sheets : List PlainSheet) (layer : Layer) (m k : ℕ) (t s : PlainSheet) → AreSorted sheets
     → slice_get sheets m ≡ Some t → (ComesBefore t.layer layer → ⊥) → m ≤ k → slice_get sheets k ≡ Some s
     → ComesBefore s.layer layer → ⊥
 from_on sheets layer m k t s sorted there late high at before =
     late (up_to sheets layer k m s t sorted at before high there)
 
--- a Layer that is none of those that come before it, of its own place's, nor of those after
+-- a Layer that isn't that of a sheet before an index, at it, or after it has no sheet
 pub nowhere : (sheets : List PlainSheet) (layer : Layer) (low : ℕ) → AreSorted sheets
     → ((k : ℕ) (s : PlainSheet) → k < low → slice_get sheets k ≡ Some s → ComesBefore s.layer layer)
     → ((k : ℕ) (s : PlainSheet) → low ≤ k → slice_get sheets k ≡ Some s → ComesBefore s.layer layer → ⊥)
@@ -69,7 +69,7 @@ nowhere sheets layer low sorted below above other k d in' same =
 pub sorted_tail : (s : PlainSheet) (sheets : List PlainSheet) → AreSorted (s ∷ sheets) → AreSorted sheets
 sorted_tail s sheets sorted = λ i j d lt in'. sorted (suc i) (suc j) d (omega (arith, lt)) (omega (arith, in'))
 
--- the rings on a Layer, where it has a sheet and where it has none
+-- the rings on a Layer that has a sheet, and on one that has none
 pub rings_where : (sheets : List PlainSheet) (layer : Layer) (i : ℕ) (s : PlainSheet) → AreSorted sheets
     → slice_get sheets i ≡ Some s → s.layer ≡ layer → rings_on layer sheets ≡ s.rings
 rings_where [] layer i s sorted at is = cc

@@ -1,4 +1,4 @@
--- The squares that rings and cells cover lie in the boxes that hold their points.
+-- The squares that rings and cells cover are in the boxes that have their points.
 use Rattle.std.proofs.Common.{◌≡◌, ◌<◌, ℕ, zero, suc, List, [], ◌∷◌, map, get_or, length, slice_get, Option, Some}
 use Rattle.std.proofs.Common.{All, Any, ◌⊎◌, inl, inr, ℤ, pos, neg_ℤ, ◌+ℤ◌, ◌-ℤ◌, ◌≤ℤ◌, Bool, true}
 use Rattle.std.proofs.Common.{false, refl, sym, ap, subst, ◌∙◌, arith}
@@ -51,7 +51,7 @@ ring_kept b (p ∷ ring) all =
     ap (λ q. q ∷ map f ring) (point_kept b p (All-head (IsWithin b) p ring all))
     ∙ ap (λ qs. p ∷ qs) (ring_kept b ring (All-tail (IsWithin b) p ring all))
 
--- a box lies in a window where its corners do
+-- a box is in a window if its corners are
 pub inside_by : (b : Bounds) (w : Window) → w.x0 ≤ℤ b.low.x → b.high.x ≤ℤ w.x1 → w.y0 ≤ℤ b.low.y → b.high.y ≤ℤ w.y1
     → IsInside b w
 inside_by b w l r d u = record {
@@ -63,7 +63,7 @@ inside_by b w l r d u = record {
   };
 }
 
--- a square that a ring covers lies in a box that holds the ring's points
+-- a square that a ring covers is in a box that has the ring's points
 pub ring_square : (b : Bounds) (ring : List Point) (s : Square) → All (IsWithin b) ring → Covers ring s → HasSquare b s
 ring_square b ring s all covers =
     let inside : IsInWindow (as_window b) s =
@@ -140,7 +140,7 @@ has_step l a b h next p q r s = elim next.way [
   }
 ]
 
--- where the images of a square's corners lie, its image does
+-- a box that has the images of a square's corners has its image
 pub image_within : (m : Map) (b : Bounds) (s : Square) → IsWithin b (image m (low_corner s))
     → IsWithin b (image m (high_corner s)) → HasSquare b (image_square m s)
 image_within m b s low high =
@@ -161,7 +161,7 @@ image_within m b s low high =
       };
     }
 
--- the image of a square in a box lies where the images of the box's points do
+-- a box that has the images of all points of another has the images of its squares
 pub square_placed : (m : Map) (b r : Bounds) (s : Square) → ((p : Point) → IsWithin b p → IsWithin r (image m p))
     → HasSquare b s → HasSquare r (image_square m s)
 square_placed m b r s holds has = image_within m r s (holds (low_corner s) has.low) (holds (high_corner s) has.high)
@@ -169,7 +169,7 @@ square_placed m b r s holds has = image_within m r s (holds (low_corner s) has.l
 moved_high : (e : Point) (s : Square) → shifted e (high_corner s) ≡ high_corner (moved_square e s)
 moved_high e s = same_point _ _ (omega (arith, ints)) (omega (arith, ints))
 
--- a square that a placed ring covers lies where the images of its box's points do
+-- a box that has the images of all points of a ring's box has the squares that the placed ring covers
 pub placed_square : (m : Map) (e : Point) (b r : Bounds) (ring : List Point) (q : Square)
     → ((p : Point) → IsWithin b p → IsWithin r (placed_point m e p)) → All (IsWithin b) ring
     → IsPlaceOfCovered m e ring q → HasSquare r q
@@ -179,7 +179,7 @@ placed_square m e b r ring q holds all at =
     (image_within m r (moved_square e at.from) (holds (low_corner at.from) has.low)
     (subst (λ p. IsWithin r (image m p)) (moved_high e at.from) (holds (high_corner at.from) has.high)))
 
--- the points whose images are in the box
+-- the box of the points whose images are in a box
 abbrev pulled : Bool → Turn → Point → Bounds → Bounds
 pulled false R0 at b = record {
   low = record { x = b.low.x -ℤ at.x; y = b.low.y -ℤ at.y };
@@ -273,11 +273,11 @@ pulled_in true R270 at b p = (
       (omega (arith, ints, w.left)),
 )
 
--- the box as it is seen from within a placed cell
+-- a box in the coordinates of a placed cell
 abbrev seen_from : Map → Bounds → Bounds
 seen_from m b = pulled m.flip m.turn m.at b
 
--- a chain goes on from a cell whose reference is placed before it
+-- a chain from the cell that a reference names, after that reference, is a chain
 pub chain_after : (cells : List (PlainCell Rings)) (c d : PlainCell Rings) (k : ℕ) (r : PlainReference) (j : ℕ)
     (e : Point)
     → k < length c.references → get_or c.references k r ≡ r → j < length r.shifts → get_or r.shifts j e ≡ e
@@ -333,7 +333,8 @@ chain_after cells c d k r j e lk at lj shift named (suc n) w f chain =
       ),
     )
 
--- what a box of a cell holds, a reference's cell has in the box as it is seen from there
+-- if a box has all that a cell places, then in the coordinates of the cell that a reference names it has all that this
+-- cell places
 seen_chains : (cells : List (PlainCell Rings)) (b : Bounds) (c d : PlainCell Rings) (m : Map)
     → ((n : ℕ) (w : Map) (f : PlainCell Rings) → Chain cells d n w f → Chain cells c (suc n) (composed m w) f)
     → HoldsChains cells b c → HoldsChains cells (seen_from m b) d
@@ -383,7 +384,7 @@ own_square cells layer b c s held a =
     subst (HasSquare b) (moved_there e s)
     (square_placed (moving e) inner b (moved_back e s) (λ p w. (pulled_in false R0 e b p).1 w) has)
 
--- a square that a cell covers lies in a box that holds all that it places
+-- a square that a cell covers is in a box that has all that the cell places
 pub cell_square : (cells : List (PlainCell Rings)) (layer : Layer) (n : ℕ) (b : Bounds) (c : PlainCell Rings)
     (s : Square) → HoldsChains cells b c → CoversWithin RingsCover cells layer n c s → HasSquare b s
 cell_square cells layer zero b c s held a = own_square cells layer b c s held a
@@ -404,7 +405,7 @@ cell_square cells layer (suc n) b c s held (inr a) =
     subst (HasSquare b) back.1
     (square_placed m (seen_from m b) b back.0 (λ p w. (pulled_in m.flip m.turn m.at b p).1 w) has)
 
--- a cell whose box is placed outside of the window covers none of its squares
+-- a cell whose placed box is outside of the window covers none of its squares
 pub outside_covers : (cells : List (PlainCell Rings)) (known : List (Option Bounds)) (i : ℕ) (m : Map)
     (window : Window) (c : PlainCell Rings) → AreBoxes cells known → slice_get cells i ≡ Some c
     → IsPlacedOutside known i m window → (layer : Layer) (q : Square) → IsInWindow window q
@@ -430,7 +431,7 @@ outside_fits cells known i m window c boxes at out n w d chain v whole =
           (subst (IsWithin out.placed) (sym (whole _)) (out.holds _ (held.vertices k h lk j e lj l ring ll p x lp)));
     }
 
--- a square in a box is one of the window's between the corners
+-- a square in a box is in the window between the corners
 pub square_window : (b : Bounds) (s : Square) → HasSquare b s → IsInWindow (as_window b) s
 square_window b s has = record {
   x_from = has.low.left;
@@ -439,7 +440,7 @@ square_window b s has = record {
   y_below = omega (arith, ints, has.high.above);
 }
 
--- what is in range lies in a box that holds every point
+-- what is in range is in the box of all points of 64 bits
 pub grid_holds : (cells : List (PlainCell Rings)) (c : PlainCell Rings) (b : Bounds)
     → ((p : Point) → FitsPoint p → IsWithin b p) → AllInRange cells c → HoldsChains cells b c
 grid_holds cells c b every all = record {

@@ -1,4 +1,4 @@
--- Picks, one after another.
+-- Lists of picks.
 use Rattle.std.proofs.Common.{◌≡◌, ◌≤◌, ◌++◌, ◌+◌, ◌*◌, ℕ, zero, suc, List, [], ◌∷◌, length, get_or, drop, map, sum_by}
 use Rattle.std.proofs.Common.{slice_get, Some, Any, Contains, ◌↔◌, inl, inr, refl, sym, ap, subst, ◌∙◌, arith, add_comm}
 use Rattle.std.proofs.Math.Nat.{zero-mul, suc-mul}
@@ -21,7 +21,7 @@ pub picks_from_start : (rs : List PlainReference) → picks_from rs 0 ≡ picks 
 picks_from_start [] = refl
 picks_from_start (r ∷ rs) = refl
 
--- the pick at a place, where more of the reference come after it, and where it is the last
+-- the pick at an index: either more of the reference come after it, or it is the last of the reference
 pub pick_next : (rs : List PlainReference) (j place : ℕ) (r : PlainReference) (e : Point) → slice_get rs j ≡ Some r
     → slice_get r.shifts place ≡ Some e → picks_from (drop j rs) place ≡ (r, e) ∷ picks_from (drop j rs) (place + 1)
 pick_next rs j place r e at shift =
@@ -48,7 +48,7 @@ sum_alike f r (e ∷ es) =
     sum_by-cons (λ (p : Pick). f p.0) (r, e) (map (λ d. (r, d)) es)
     ∙ (ap (λ n. f r + n) (sum_alike f r es) ∙ (add_comm (f r) (length es * f r) ∙ sym (suc-mul (length es) (f r))))
 
--- a weight of the references is that of their picks
+-- a sum of weights over references is the sum over their picks
 pub picks_sum : (f : PlainReference → ℕ) (rs : List PlainReference)
     → sum_by (λ r. length r.shifts * f r) rs ≡ sum_by (λ (p : Pick). f p.0) (picks rs)
 picks_sum f [] = refl
@@ -58,7 +58,7 @@ picks_sum f (r ∷ rs) =
     ∙ (ap (λ n. n + sum_by (λ (p : Pick). f p.0) (picks rs)) (sym (sum_alike f r r.shifts))
     ∙ sym (sum_by-append (λ (p : Pick). f p.0) (map (λ e. (r, e)) r.shifts) (picks rs))))
 
--- and some place of some reference is some pick
+-- something holds at some shift of some reference exactly if it holds of some pick
 pub picks_any : (P : PlainReference → Point → Type 0) (rs : List PlainReference)
     → Any (λ r. Any (P r) r.shifts) rs ↔ Any (λ p. P p.0 p.1) (picks rs)
 picks_any P [] = (
@@ -102,7 +102,7 @@ any_skip Q zero rs a = a
 any_skip Q (suc j) [] a = a
 any_skip Q (suc j) (r ∷ rs) a = Any-right Q (map (λ e. (r, e)) r.shifts) (picks rs) (any_skip Q j rs a)
 
--- what is still to do is among the picks of the cell
+-- the picks that are still to be followed are picks of the cell
 pub picks_within : (rs : List PlainReference) (j place : ℕ) (p : Pick) → Contains (picks_from (drop j rs) place) p
     → Contains (picks rs) p
 picks_within rs j place p has =

@@ -1,4 +1,4 @@
--- Chains by their first choice, and what of them is in range.
+-- Chains by their first reference, and which of them are in range.
 use Rattle.std.proofs.Common.{◌≡◌, ℕ, zero, suc, List, Some, Any, Contains, ℤ, pos, ◌+ℤ◌, refl, sym, ap, subst, ◌∙◌}
 use Rattle.std.proofs.Common.{arith}
 use Rattle.std.proofs.lemmas.Int.{ints}
@@ -16,11 +16,11 @@ use Rattle.lvl_flat.proofs.Picks.{picks_any}
 plus_zero : (a : ℤ) → a +ℤ pos 0 ≡ a
 plus_zero a = omega (arith, ints)
 
--- the map of no choice moves nothing
+-- the map of the empty chain moves no point
 pub image-unmoved : (p : Point) → image unmoved p ≡ p
 image-unmoved p = same_point _ _ (plus_zero p.x) (plus_zero p.y)
 
--- the last choice of a chain is a pick of the cell before
+-- the last reference of a chain is a pick of the cell before
 last_pick : (cells : List (PlainCell Rings)) (refs : List PlainReference) (w m : Map) (d : PlainCell Rings)
     → Any (λ r. (cell_named cells r.cell ≡ Some d) × Any (λ e. IsComposed w (placing r e) m) r.shifts) refs
     → Any (λ p. (cell_named cells p.0.cell ≡ Some d) × IsComposed w (placing p.0 p.1) m) (picks refs)
@@ -28,7 +28,7 @@ last_pick cells refs w m d a =
     (picks_any (λ r e. (cell_named cells r.cell ≡ Some d) × IsComposed w (placing r e) m) refs).0
     (a.0, a.1, a.2, a.3, (a.4.1.0, a.4.1.1, a.4.1.2, a.4.1.3, (a.4.0, a.4.1.4)))
 
--- a chain with one pick more
+-- a chain with one more pick
 pub chain_more : (cells : List (PlainCell Rings)) (top : PlainCell Rings) (n : ℕ) (w m : Map) (c d : PlainCell Rings)
     (p : Pick)
     → Chain cells top n w c → Contains (picks c.references) p → cell_named cells p.0.cell ≡ Some d
@@ -40,7 +40,7 @@ chain_more cells top n w m c d p chain has named whole =
     (picks_any P c.references).1 (has.0, p, has.1, has.2, (named, whole)) in
     (w, c, chain, (some.0, some.1, some.2, some.3, (some.4.4.0, (some.4.0, some.4.1, some.4.2, some.4.3, some.4.4.1))))
 
--- the first choice of a chain, and the chain that goes on from there
+-- the first pick of a chain, and the chain that goes on from there
 pub record FirstChoice (cells : List (PlainCell Rings)) (c : PlainCell Rings) (n : ℕ) (m : Map)
     (d : PlainCell Rings) : Type 0 where
   pub pick : Pick
@@ -87,11 +87,11 @@ first_choice cells c (suc n) m d chain =
       whole = λ q. a.4.1 q ∙ (first.whole (image place q) ∙ ap (image begin) (sym (image-composed first.rest place q)));
     }
 
--- where the origin comes to lie under two maps
+-- the image of the origin under two maps
 pub composed_at : (m n w : Map) → IsComposed m n w → w.at ≡ image m n.at
 composed_at m n w whole = sym (image_of_origin w) ∙ (whole origin ∙ ap (image m) (image_of_origin n))
 
--- ranges depend on the images alone
+-- whether a map is in range depends only on the images of points
 in_range_alike : (m v : Map) (d : PlainCell Rings) → ((p : Point) → image m p ≡ image v p) → IsInRange each_ring m d
     → IsInRange each_ring v d
 in_range_alike m v d same h = record {

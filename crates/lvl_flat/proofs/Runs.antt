@@ -1,4 +1,4 @@
--- Runs of shifts that are passed by at once.
+-- Runs of shifts that are skipped at once.
 use Rattle.std.proofs.Common.{◌≡◌, ◌≤◌, ◌<◌, ◌+◌, ◌*◌, ◌/◌, ◌%◌, ℕ, suc, ℤ, pos, negsuc, ◌+ℤ◌, ◌*ℤ◌, ◌≤ℤ◌, List}
 use Rattle.std.proofs.Common.{slice_get, Option, Some, All, refl, sym, ap, subst, ◌∙◌, arith}
 use Rattle.std.proofs.Math.Nat.{mul-le-mul_left, div-eq_of_lt-le, mod-lt}
@@ -25,7 +25,7 @@ use Rattle.lvl_flat.proofs.Holding.{fits_within, moved_place}
 use Rattle.lvl_flat.proofs.Ranging.{composed_at, image-unmoved}
 use Rattle.lvl_flat.proofs.Stepping.{step_into}
 
--- a multiple between two others is at least what both are
+-- a multiple between two others is at least the lesser of them
 at_least_between : (l : ℤ) (i j k : ℕ) (a r : ℤ) → i ≤ j → j ≤ k → l ≤ℤ ((pos i *ℤ a) +ℤ r) → l ≤ℤ ((pos k *ℤ a) +ℤ r)
     → l ≤ℤ ((pos j *ℤ a) +ℤ r)
 at_least_between l i j k (pos u) r h g p q =
@@ -35,7 +35,7 @@ at_least_between l i j k (negsuc u) r h g p q =
     let less : j * suc u ≤ k * suc u = omega (arith, mul-le-mul_left (suc u) g) in
     omega (arith, ints, q)
 
--- and at most
+-- and at most the greater
 at_most_between : (u : ℤ) (i j k : ℕ) (a r : ℤ) → i ≤ j → j ≤ k → ((pos i *ℤ a) +ℤ r) ≤ℤ u → ((pos k *ℤ a) +ℤ r) ≤ℤ u
     → ((pos j *ℤ a) +ℤ r) ≤ℤ u
 at_most_between u i j k (pos v) r h g p q =
@@ -45,7 +45,7 @@ at_most_between u i j k (negsuc v) r h g p q =
     let more : i * suc v ≤ j * suc v = omega (arith, mul-le-mul_left (suc v) h) in
     omega (arith, ints, p)
 
--- indexes of one row, one after another
+-- increasing indexes of the same row
 record AreInRow (m i j k : ℕ) : Type 0 where
   row : j / m ≡ i / m
   first : i % m ≤ j % m
@@ -99,7 +99,7 @@ lattice_rows a m b n some = record {
   };
 }
 
--- every list has rows of one
+-- every list has rows of length one
 pub single_rows : (shifts : List Point) → HasRows 1 shifts
 single_rows shifts = record {
   line = λ i j k h g same. record {
@@ -131,7 +131,7 @@ run_shorter shifts from to less run h = record {
   line = λ i j k l g f below. run.line i j k l g f (omega (arith, below, h));
 }
 
--- what misses at all shifts of a box misses at each
+-- a box that misses the window at all displacements of another box misses it at each of them
 pub spread_missed : (inner by : Bounds) (m : Map) (w : Window) (e : Point) → IsSpreadOutside inner by m w
     → IsWithin by e → IsMissed inner m w e
 spread_missed inner by m w e out within = record {
@@ -141,7 +141,7 @@ spread_missed inner by m w e out within = record {
   outside = out.outside;
 }
 
--- a run misses where the box of its first and its last shift does
+-- a run misses if the box of its first and its last shift does
 pub run_missed : (shifts : List Point) (from last to : ℕ) (inner by : Bounds) (m : Map) (w : Window) (p q : Point)
     → last + 1 ≡ to → IsRun shifts from to → slice_get shifts from ≡ Some p → slice_get shifts last ≡ Some q
     → IsWithin by p → IsWithin by q → IsSpreadOutside inner by m w → AreMissed shifts from to inner m w
@@ -150,14 +150,14 @@ run_missed shifts from last to inner by m w p q ends run atp atq first final out
     ((run.line from j last (omega arith) l (omega (arith, below, ends)) (omega (arith, ends))).between by p e q atp at
     atq first final)
 
--- all shifts miss where their box does
+-- all shifts miss if their box does
 pub all_missed : (shifts : List Point) (from to : ℕ) (inner by : Bounds) (m : Map) (w : Window)
     → All (IsWithin by) shifts → IsSpreadOutside inner by m w → AreMissed shifts from to inner m w
 all_missed shifts from to inner by m w all out j e l below at =
     spread_missed inner by m w e out
     (subst (IsWithin by) (get_or_from_slice_get shifts j e e at) (all j e (slice_get_within shifts j e at)))
 
--- what a visit's reference places at a shift at which the box of its cell misses
+-- a visit places nothing in the window at a shift at which the box of the cell misses
 pub missed_at : (cells : List (PlainCell Rings)) (known : List (Option Bounds)) (w : Window) (v : Visit)
     (c : PlainCell Rings) (r : PlainReference) (t k : ℕ) (box inner : Bounds) (e : Point) → AreBoxes cells known
     → slice_get cells v.cell ≡ Some c → slice_get c.references v.reference ≡ Some r

@@ -16,7 +16,7 @@ use Rattle.lvl_flat.specs.Placing.{IsPlacing}
 use Rattle.lvl_flat.specs.inside.Steps.{IsPast, IsInto, IsOut}
 use Rattle.lvl_flat.proofs.Picks.{pick_next, pick_last, picks_past}
 
--- what a visit to a known cell has still to do
+-- the picks that a visit of a known cell has still to follow
 pub pending_at : (cells : List (PlainCell Rings)) (v : Visit) (c : PlainCell Rings) → slice_get cells v.cell ≡ Some c
     → pending cells v ≡ picks_from (drop v.reference c.references) v.place
 pending_at cells v c at =
@@ -24,7 +24,7 @@ pending_at cells v c at =
     λ o. option_map_or (λ (b : PlainCell Rings). picks_from (drop v.reference b.references) v.place) o [] in
     ap f at
 
--- what a visit has still to do depends on its cell, its reference and its place
+-- the picks that a visit has still to follow depend on its cell, its reference and its place only
 pub pending_alike : (cells : List (PlainCell Rings)) (u v : Visit) → u.cell ≡ v.cell → u.reference ≡ v.reference
     → u.place ≡ v.place → pending cells v ≡ pending cells u
 pending_alike cells u v cell reference place =
@@ -33,7 +33,7 @@ pending_alike cells u v cell reference place =
     sym (ap (λ i. f i u.reference u.place) cell
     ∙ (ap (λ j. f v.cell j u.place) reference ∙ ap (f v.cell v.reference) place))
 
--- and so do the references that it has not begun
+-- and so does the number of references that it hasn't finished
 pub left_alike : (cells : List (PlainCell Rings)) (u v : Visit) → u.cell ≡ v.cell → u.reference ≡ v.reference
     → references_left cells v ≡ references_left cells u
 left_alike cells u v cell reference =
@@ -67,7 +67,7 @@ step_past cells v c r at there past =
       fewer = omega (arith, left_at cells v c at, left_at cells rest c at, inside);
     }
 
--- the target of a reference, and the pick of its place
+-- the target of a reference, and the pick at its place
 record Picked (cells : List (PlainCell Rings)) (v : Visit) (t : ℕ) (inner : Map) : Type 0 where
   pick : Pick
   next : PlainCell Rings

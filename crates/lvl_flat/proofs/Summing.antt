@@ -1,4 +1,4 @@
--- What adds up over chains is a sum over their last cells.
+-- A sum over chains is a sum over their last cells.
 use Rattle.std.proofs.Common.{◌≡◌, ℕ, zero, suc, ◌+◌, ◌<◌, ◌≤◌, List, [], ◌∷◌, flat_map, sum_by}
 use Rattle.std.proofs.Common.{Option, None, Some, Any, Contains, inl, inr, refl, sym, ap, subst, ◌∙◌, arith}
 use Rattle.std.specs.Option.{option_map_or}
@@ -66,7 +66,7 @@ over_ends w cells (suc n) c =
     ap (λ k. w c + k) (picks_sum weigh c.references ∙ (after ∙ sym (sum_flat next w (picks c.references))))
     ∙ sym (sum_by-cons w c (flat_map next (picks c.references)))
 
--- a cell that some chain of at most n choices leads to
+-- a cell to which some chain of at most n references leads
 abbrev Led : List (PlainCell Rings) → ℕ → PlainCell Rings → PlainCell Rings → Type 0
 Led cells n c d = (k : ℕ) × (m : Map) × (k ≤ n) × Chain cells c k m d
 

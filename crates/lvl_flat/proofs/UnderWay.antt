@@ -1,4 +1,4 @@
--- What the steps of a walk keep, whatever is drawn on the way.
+-- The invariant of a walk is kept by its steps, in a window or not.
 use Rattle.std.proofs.Common.{◌≡◌, ◌<◌, ◌++◌, ℕ, zero, suc, List, [], ◌∷◌, slice_get, Some, Any, Contains}
 use Rattle.std.proofs.Common.{◌⊎◌, ◌↔◌, inl, inr, refl, sym, ap, subst, ◌∙◌, arith, rules}
 use Rattle.std.proofs.lemmas.Int.{ints, clamps}
@@ -28,7 +28,7 @@ use Rattle.lvl_flat.proofs.Ranging.{chain_more, fits_alike, fits_under, image-un
 use Rattle.lvl_flat.proofs.Stepping.{pending_at}
 use Rattle.lvl_flat.proofs.Walking.{visit_begun, visit_into, in_front, in_last}
 
--- a visit that has nothing left to do is taken off
+-- a visit without picks to follow is taken off
 pub way_done : (s : Settled) (top : PlainCell Rings) (W : Square → Type 0) (C : Layer → Square → Type 0)
     (front : List Visit) (v : Visit)
     → IsUnderWay s top W C (front ++ v ∷ []) → pending s.cells v ≡ [] → IsUnderWay s top W C front
@@ -64,7 +64,7 @@ way_done s top W C front v way none = record {
   visits = λ u there. way.visits u (in_front front v u there);
 }
 
--- a visit is replaced by one with the same still to do, but for picks that need no more
+-- a visit is replaced by one with the same picks to follow, except for some that need nothing more
 replaced : (s : Settled) (top : PlainCell Rings) (W : Square → Type 0) (C : Layer → Square → Type 0)
     (front : List Visit) (v rest : Visit)
     → (way : IsUnderWay s top W C (front ++ v ∷ [])) → rest.map ≡ v.map → rest.cell ≡ v.cell
@@ -113,7 +113,7 @@ replaced s top W C front v rest way map_is cell_is alike fitting = record {
       ];
 }
 
--- a visit is replaced by one with the same still to do
+-- a visit is replaced by one with the same picks to follow
 pub way_alike : (s : Settled) (top : PlainCell Rings) (W : Square → Type 0) (C : Layer → Square → Type 0)
     (front : List Visit) (v rest : Visit) → IsUnderWay s top W C (front ++ v ∷ []) → rest.map ≡ v.map
     → rest.cell ≡ v.cell → pending s.cells v ≡ pending s.cells rest → IsUnderWay s top W C (front ++ rest ∷ [])
@@ -140,7 +140,7 @@ pub way_past : (s : Settled) (top : PlainCell Rings) (W : Square → Type 0) (C 
 way_past s top W C front v rest way past =
     way_alike s top W C front v rest way past.map_is past.cell_is past.pending_is
 
--- picks fit where the first and the rest do
+-- picks fit if the first and the rest do
 picks_fit_cons : (cells : List (PlainCell Rings)) (m : Map) (p : Pick) (ps : List Pick)
     → ((d : PlainCell Rings) (x : Map) → cell_named cells p.0.cell ≡ Some d → IsComposed m (placing p.0 p.1) x
     → FitsUnder cells x d)
@@ -151,7 +151,7 @@ picks_fit_cons cells m p ps first rest q d x (zero, below, same) named whole =
 picks_fit_cons cells m p ps first rest q d x (suc k, below, same) named whole =
     rest q d x (k, omega arith, same) named whole
 
--- what a visit has still to do fits where its next pick and the rest do
+-- the picks that a visit has still to follow fit if the next and the rest do
 into_fits : (cells : List (PlainCell Rings)) (v : Visit) (i : ℕ) (m : Map) (rest : Visit)
     → (into : IsInto cells v i m rest) → FitsUnder cells m into.next
     → PicksFit cells v.map (pending cells rest) → PicksFit cells v.map (pending cells v)
@@ -165,7 +165,7 @@ into_fits cells v i m rest into under rest_fits =
     subst (PicksFit cells v.map) (sym into.pending_is)
     (picks_fit_cons cells v.map into.pick (pending cells rest) first rest_fits)
 
--- a visit passes by a pick that covers no square that counts, and all of which fits
+-- a visit skips a pick that covers no square that counts and fits
 pub way_missed : (s : Settled) (top : PlainCell Rings) (W : Square → Type 0) (C : Layer → Square → Type 0)
     (front : List Visit) (v : Visit)
     (i : ℕ) (m : Map) (rest : Visit) → IsUnderWay s top W C (front ++ v ∷ []) → (into : IsInto s.cells v i m rest)
@@ -192,14 +192,14 @@ next_chain cells top v m p d old has named whole =
     (subst (λ ps. Contains ps p) (pending_at cells v old.cell old.there) has) in
     chain_more cells top old.steps v.map m old.cell d p old.chain among named whole
 
--- a cell that is visited fits where its shapes and its shift do, and what the visit has still to do
+-- a visited cell fits if its shapes, its shift and the picks of the visit do
 begun_fits : (cells : List (PlainCell Rings)) (i : ℕ) (m : Map) (c : PlainCell Rings) → slice_get cells i ≡ Some c
     → FitsPoint m.at → FitShapes m c.shapes → PicksFit cells m (pending cells (begun i m)) → FitsUnder cells m c
 begun_fits cells i m c at shift vertices each =
     fits_under cells m c (record { shift = shift; vertices = vertices })
     (subst (PicksFit cells m) (pending_at cells (begun i m) c at ∙ picks_from_start c.references) each)
 
--- the visit goes into a cell: its shapes are drawn, and it is visited
+-- the visit goes into a cell: the shapes of the cell are drawn, and a visit of it is put on the stack
 pub way_into : (s : Settled) (top : PlainCell Rings) (W : Square → Type 0) (C D : Layer → Square → Type 0)
     (front : List Visit) (v : Visit)
     (i : ℕ) (m : Map) (rest : Visit) → IsUnderWay s top W C (front ++ v ∷ []) → (into : IsInto s.cells v i m rest)
@@ -299,7 +299,7 @@ way_into s top W C D front v i m rest way into vertices drawn =
 square_stays : (s : Square) → image_square unmoved s ≡ s
 square_stays s = same_square _ _ (omega (arith, ints, clamps)) (omega (arith, ints, clamps))
 
--- a square that is covered where nothing is moved
+-- a square that is covered under the map that moves no point
 pub under_unmoved : (q : Square) (P : Square → Type 0) → Under unmoved q P ↔ P q
 under_unmoved q P = (λ u. subst P (sym (square_stays u.0) ∙ u.1) u.2, λ p. (q, square_stays q, p))
 
@@ -310,7 +310,7 @@ only : (v u : Visit) → Contains (v ∷ []) u → (P : Visit → Type 0) → P 
 only v u (zero, below, same) P p = subst P same p
 only v u (suc k, below, same) P p = absurd (omega arith)
 
--- the top is drawn, and visited
+-- the top is drawn, and a visit of it is put on the stack
 pub way_begins : (s : Settled) (c : PlainCell Rings) (W : Square → Type 0) (D : Layer → Square → Type 0)
     → slice_get s.cells s.top ≡ Some c → FitShapes unmoved c.shapes
     → ((layer : Layer) (q : Square) → W q

@@ -53,7 +53,7 @@ drawn_length layer m (h ∷ shapes) =
     ∙ (ap (λ n. n + length (drawn_on layer m shapes)) mine
     ∙ (ap (λ n. f h + n) (drawn_length layer m shapes) ∙ sym (sum_by-cons f h shapes)))
 
--- a weight over the chains from a cell: its own, and that of a visit that has all still to do
+-- a sum of weights over the chains from a cell: its own, and that of a visit that has followed no reference yet
 pub weight_begun : (w : PlainCell Rings → ℕ) (cells : List (PlainCell Rings)) (order : List ℕ) (i : ℕ) (m : Map)
     (c : PlainCell Rings) → AreLinked cells → IsOrder cells order → slice_get cells i ≡ Some c
     → over_chains w cells (length cells) c ≡ w c + visit_weight w cells (begun i m)
@@ -64,7 +64,7 @@ weight_begun w cells order i m c linked ordered at =
     ∙ ap (sum_by (pick_weight w cells))
     (sym (pending_at cells (begun i m) c at ∙ picks_from_start c.references)))
 
--- a weight of a visit: that of its pick, and that of the rest
+-- a sum of weights of a visit: that of its next pick, and that of the rest
 pub weight_into : (w : PlainCell Rings → ℕ) (cells : List (PlainCell Rings)) (v : Visit) (i : ℕ) (m : Map)
     (rest : Visit) → (into : IsInto cells v i m rest)
     → visit_weight w cells v ≡ over_chains w cells (length cells) into.next + visit_weight w cells rest
@@ -77,7 +77,7 @@ weight_into w cells v i m rest into =
 pub sum_last : {X : Type 0} (f : X → ℕ) (xs : List X) (x : X) → sum_by f (xs ++ x ∷ []) ≡ sum_by f xs + f x
 sum_last f xs x = sum_by-append f xs (x ∷ []) ∙ ap (λ n. sum_by f xs + n) (sum_by-cons f x [] ∙ add-zero (f x))
 
--- a visit that is entered covers what the cell does beyond its own shapes
+-- a visit that has followed no reference yet covers what its cell does through references
 pub visit_begun : (cells : List (PlainCell Rings)) (layer : Layer) (i : ℕ) (m : Map) (q : Square) (c : PlainCell Rings)
     → slice_get cells i ≡ Some c
     → Under m q (CellCovers RingsCover cells layer c)
@@ -99,7 +99,7 @@ visit_begun cells layer i m q c at =
           (elim e [ inl a ↦ inl a | inr b ↦ inr (b.0, b.1, subst (Any (PickCovers cells layer b.0)) all b.2) ])),
     )
 
--- a visit covers what its pick does, and what the rest does
+-- a visit covers what its next pick does, and what the rest does
 pub visit_into : (cells : List (PlainCell Rings)) (layer : Layer) (v : Visit) (i : ℕ) (m : Map) (rest : Visit)
     (q : Square) → (into : IsInto cells v i m rest)
     → VisitCovers cells layer q v

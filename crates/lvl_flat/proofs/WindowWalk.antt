@@ -36,7 +36,7 @@ use Rattle.lvl_flat.proofs.UnderWay.{way_alike, way_begins, way_done, way_into, 
 use Rattle.lvl_flat.proofs.Stepping.{pending_alike}
 use Rattle.lvl_flat.specs.inside.Passing.{at_place, IsMissedAt, IsPassedBy}
 
--- a ring at its shifts, placed by the map
+-- a ring at the shifts, placed by the map
 ring_place : (m : Map) (q : Square) (shifts : List Point) (ring : List Point)
     → RingPlacesCover m shifts q ring ↔ Under m q (λ t. Any (λ e. Covers ring (moved_back e t)) shifts)
 ring_place m q shifts ring = (
@@ -60,7 +60,7 @@ ring_place m q shifts ring = (
       ),
 )
 
--- a shape, whose rings at its shifts are its figure at its shifts
+-- a shape: each ring at each shift, or at each shift each ring
 shape_place : (m : Map) (q : Square) (h : PlainShape Rings)
     → ShapePlacesCover m q h ↔ Under m q (λ t. Any (λ e. RingsCover h.figure (moved_back e t)) h.shifts)
 shape_place m q h = (
@@ -74,7 +74,7 @@ shape_place m q h = (
       (a.0, a.1, a.2, a.3, (ring_place m q h.shifts a.1).1 (u.0, u.1, (e.0, e.1, e.2, e.3, a.4))),
 )
 
--- the shapes of a Layer cover, placed by the map, the images of the squares that they cover
+-- the placed shapes of a Layer cover the images of the squares that the shapes cover
 pub shapes_place : (layer : Layer) (m : Map) (q : Square) (shapes : List (PlainShape Rings))
     → ShapesPlaceCover layer m q shapes ↔ Under m q (λ t. Any (ShapeCovers RingsCover layer t) shapes)
 shapes_place layer m q shapes = (
@@ -108,7 +108,7 @@ window_past s window sheets front v rest w past = record {
   within = w.within;
 }
 
--- a cell is passed by whose box is placed outside of the window
+-- a cell whose placed box is outside of the window is skipped
 pub window_missed : (s : Settled) (known : List (Option Bounds)) (window : Window) (sheets : List PlainSheet)
     (front : List Visit) (v : Visit) (i : ℕ) (m : Map) (rest : Visit) → AreBoxes s.cells known
     → IsWalkingWithin s window sheets (front ++ v ∷ []) → IsInto s.cells v i m rest
@@ -124,7 +124,7 @@ window_missed s known window sheets front v i m rest boxes w into out = record {
   within = w.within;
 }
 
--- and so is a run of cells, one after another
+-- and so is a run of such places
 runs_on : (s : Settled) (known : List (Option Bounds)) (window : Window) (sheets : List PlainSheet)
     (front : List Visit) (u : Visit) (place n : ℕ) → AreBoxes s.cells known
     → IsWalkingWithin s window sheets (front ++ at_place u place ∷ [])
@@ -163,7 +163,7 @@ window_passed s known window sheets front v u boxes w passed =
     (runs_on s known window sheets front u v.place (u.place - v.place) boxes begins
     (λ k l b. passed.missed k l (omega (arith, b, ends))))
 
--- no more than the window's squares are covered by what is drawn beside others of them
+-- if squares of the window are added to others of them, all are squares of the window
 still_within : (window : Window) (layer : Layer) (m : Map) (shapes : List (PlainShape Rings))
     (old new : List PlainSheet)
     → ((q : Square) → RingsCover (rings_on layer new) q

@@ -1,4 +1,4 @@
--- What flattening gives, and when it is refused.
+-- What flattening returns, and when it is refused (own rules).
 use Rattle.std.specs.Prelude.{◌≡◌, ◌↔◌, ℕ, List, length, slice_get, Some, All, IfSome, IsSomeAnd}
 use Rattle.lvl_grid.specs.declared.map.Map.{Map}
 use Rattle.lvl_grid.specs.declared.point.Point.{Point}
@@ -17,20 +17,20 @@ use Rattle.lvl_flat.specs.declared.fault.FlatFault.TheVariants.{OutOfRange}
 use Rattle.lvl_flat.specs.Sheet.{PlainSheet}
 use Rattle.lvl_flat.specs.Sheets.{rings_on}
 
--- on each Layer the rings together cover what the cell covers
+-- on each Layer the rings together cover exactly the squares that the cell covers
 abbrev pub CoverAlike : List (PlainCell Rings) → PlainCell Rings → List PlainSheet → Type 0
 CoverAlike cells c sheets =
     (layer : Layer) (s : Square) → RingsCover (rings_on layer sheets) s ↔ CellCovers RingsCover cells layer c s
 
--- and they are as many as the placed rings there
+-- on each Layer there are as many rings as chains from the cell place
 abbrev pub AreAsMany : List (PlainCell Rings) → PlainCell Rings → List PlainSheet → Type 0
 AreAsMany cells c sheets = (layer : Layer) → length (rings_on layer sheets) ≡ placed_rings_on each_ring layer cells c
 
--- every chain's shift and every placed vertex is within 64 signed bits
+-- the shift of every chain from the cell, and every vertex that it places, fits in 64 signed bits
 abbrev pub AllInRange : List (PlainCell Rings) → PlainCell Rings → Type 0
 AllInRange cells c = (n : ℕ) (m : Map) (d : PlainCell Rings) → Chain cells c n m d → IsInRange each_ring m d
 
--- and so for the top
+-- that holds for the top
 abbrev pub IsTopInRange : Settled → Type 0
 IsTopInRange s = IfSome (slice_get s.cells s.top) (AllInRange s.cells)
 
@@ -42,7 +42,8 @@ CoversAt cells i layer q = IsSomeAnd (slice_get cells i) (λ c. CellCovers Rings
 abbrev pub TopCovers : Settled → Layer → Square → Type 0
 TopCovers s layer q = IsSomeAnd (slice_get s.cells s.top) (λ top. CellCovers RingsCover s.cells layer top q)
 
--- the rings cover, and count, what the top places, and all of it is in range
+-- on each Layer the rings cover exactly what the top covers and are as many as it places, and all that it places is in
+-- range
 pub record IsFlattened (s : Settled) (sheets : List PlainSheet) : Type 0 where
   pub top : PlainCell Rings
   pub is_top : slice_get s.cells s.top ≡ Some top
@@ -50,8 +51,8 @@ pub record IsFlattened (s : Settled) (sheets : List PlainSheet) : Type 0 where
   pub count : AreAsMany s.cells top sheets
   pub in_range : AllInRange s.cells top
 
--- on each Layer the rings cover the squares of the window that the top covers, and no others; and all that the top
--- places is in range
+-- on each Layer the rings cover exactly the squares of the window that the top covers, and all that the top places, in
+-- the window or not, is in range
 pub record IsFlattenedWithin (s : Settled) (window : Window) (sheets : List PlainSheet) : Type 0 where
   pub top : PlainCell Rings
   pub is_top : slice_get s.cells s.top ≡ Some top
@@ -59,7 +60,7 @@ pub record IsFlattenedWithin (s : Settled) (window : Window) (sheets : List Plai
       ↔ (IsWithin window q × CellCovers RingsCover s.cells layer top q)
   pub in_range : AllInRange s.cells top
 
--- a cell of that name is at the end of a chain from the top, and is out of range there
+-- some chain from the top leads to a cell of that name, and the cell is out of range where the chain places it
 pub record IsOutOfRange (s : Settled) (name : List ℕ) : Type 0 where
   pub top : PlainCell Rings
   pub is_top : slice_get s.cells s.top ≡ Some top
@@ -70,17 +71,18 @@ pub record IsOutOfRange (s : Settled) (name : List ℕ) : Type 0 where
   pub named : cell.name ≡ name
   pub out : ¬ IsInRange each_ring map cell
 
+-- the fault reports the name of such a cell
 abbrev pub IsFlatFault : Settled → FlatFault → Type 0
 IsFlatFault s (OutOfRange name) = IsOutOfRange s name.items
 
--- the vertices of the placed ring are within 64 signed bits
+-- the vertices of the ring, moved by e and mapped, fit in 64 signed bits
 abbrev pub FitsRing : Map → Point → List Point → Type 0
 FitsRing m e ring = All (λ v. FitsPoint (placed_point m e v)) ring
 
--- all vertices of the shapes are within 64 signed bits
+-- that holds for each ring of the shapes at each of their shifts
 abbrev pub FitShapes : Map → List (PlainShape Rings) → Type 0
 FitShapes m shapes = All (λ h. All (λ e. All (FitsRing m e) h.figure) h.shifts) shapes
 
--- the fault names the cell
+-- the fault reports this name
 abbrev pub ReportsName : List ℕ → FlatFault → Type 0
 ReportsName name (OutOfRange reported) = reported.items ≡ name

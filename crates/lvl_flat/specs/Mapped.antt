@@ -1,4 +1,4 @@
--- A flat layout seen through a map of Layers.
+-- A flat layout under a map of Layers.
 use Rattle.std.specs.Prelude.{◌≡◌, ◌↔◌, List, [], if◌then◌else◌}
 use Rattle.std.specs.List.{flat_map}
 use Rattle.lvl_grid.specs.declared.point.Square.{Square}
@@ -12,7 +12,7 @@ use Rattle.lvl_view.specs.Moved.{IsMoved}
 use Rattle.lvl_flat.specs.Sheet.{PlainSheet}
 use Rattle.lvl_flat.specs.Sheets.{rings_on}
 
--- on each Layer the second cover what the first cover on the Layers whose target it is
+-- on each Layer, `to` covers exactly what `from` covers on the Layers whose target it is
 abbrev pub IsMapped : List LayerPair → List PlainSheet → List PlainSheet → Type 0
 IsMapped pairs from to =
     (layer : Layer) (s : Square) → RingsCover (rings_on layer to) s

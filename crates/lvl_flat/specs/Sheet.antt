@@ -1,4 +1,4 @@
--- The rings of one Layer.
+-- A sheet: the rings of one Layer.
 use Rattle.lvl_names.specs.declared.layer.Layer.{Layer}
 use Rattle.lvl_cells.specs.Cells.{Rings}
 

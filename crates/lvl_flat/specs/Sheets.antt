@@ -1,4 +1,4 @@
--- Lists of sheets: which rings are on a Layer, and the order of the Layers.
+-- Lists of sheets: the rings on a Layer, and the order of the sheets.
 use Rattle.std.specs.Prelude.{◌≡◌, ◌≢◌, ℕ, List, [], ◌∷◌, All, AllPairs, Bool, true, false, slice_get, Some, map}
 use Rattle.std.specs.Prelude.{Contains, if◌then◌else◌}
 use Rattle.lvl_names.specs.declared.layer.Layer.{Layer}
@@ -6,7 +6,7 @@ use Rattle.lvl_cells.specs.Cells.{PlainShape, Rings}
 use Rattle.lvl_names.specs.Layers.{same_layer, ComesBefore}
 use Rattle.lvl_flat.specs.Sheet.{PlainSheet}
 
--- the rings on a Layer: none where no sheet is for it
+-- the rings of the first sheet for the Layer, or none if there is no such sheet
 abbrev pub rings_on : Layer → List PlainSheet → Rings
 rings_on layer [] = []
 rings_on layer (sheet ∷ sheets) = if same_layer sheet.layer layer then sheet.rings else rings_on layer sheets
@@ -16,19 +16,20 @@ abbrev pub has_rings : Rings → Bool
 has_rings [] = false
 has_rings (ring ∷ rings) = true
 
+-- the sheet has rings
 abbrev pub is_filled : PlainSheet → Bool
 is_filled s = has_rings s.rings
 
--- each sheet comes before those after it
+-- the sheets are in the order of their Layers, and no Layer has two
 abbrev pub AreSorted : List PlainSheet → Type 0
 AreSorted sheets = AllPairs (λ s t. ComesBefore s.layer t.layer) sheets
 
--- each sheet has rings, and comes before those after it
+-- each sheet has rings, they are in the order of their Layers, and no Layer has two
 pub record IsInOrder (sheets : List PlainSheet) : Type 0 where
   pub filled : All (λ s. s.rings ≢ []) sheets
   pub sorted : AreSorted sheets
 
--- the sheet at the place is the Layer's
+-- the sheet at index i is for the Layer
 pub record SheetAt (sheets : List PlainSheet) (i : ℕ) (layer : Layer) : Type 0 where
   pub sheet : PlainSheet
   pub there : slice_get sheets i ≡ Some sheet
@@ -38,6 +39,6 @@ pub record SheetAt (sheets : List PlainSheet) (i : ℕ) (layer : Layer) : Type 0
 abbrev pub HaveSheets : List PlainSheet → List (PlainShape Rings) → Type 0
 HaveSheets sheets shapes = All (λ h. Contains (map (λ s. s.layer) sheets) h.layer) shapes
 
--- each of some Layers is among these
+-- `layers` has each of the Layers in `some`
 abbrev pub ContainsAll : List Layer → List Layer → Type 0
 ContainsAll layers some = All (Contains layers) some

@@ -1,4 +1,4 @@
-//! One step of the walk, and the walk.
+//! The walk over all that the top places, and one step of it.
 ghost use Rattle.std.specs.Prelude.{◌<◌, ◌++◌, ◌∷◌, [], IfOk, IfErr, OnOk};
 ghost use Rattle.lvl_flat.specs.Flattened.{IsFlattened, IsFlatFault};
 ghost use Rattle.lvl_flat.specs.inside.Walking.{IsWalking, work};
@@ -15,14 +15,14 @@ use lvl_grid::{Map, Point, Turn};
 use lvl_refusal::Cause;
 use std::alloc::Global;
 
-/// The map that leaves all as it is.
+/// The map that moves no point.
 pub(crate) const UNMOVED: Map = Map {
     flip: false,
     turn: Turn::R0,
     at: Point { x: 0, y: 0 },
 };
 
-/// Goes one step on with the visit that was taken off the stack.
+/// Makes one step with the visit that was taken off the stack.
 pub(crate) fn advance(
     alloc: Global,
     checked: &Checked,
@@ -55,9 +55,9 @@ pub(crate) fn advance(
 /// All rings that the top places, Layer by Layer.
 ///
 /// On each Layer the rings together cover exactly the squares that the top covers there through
-/// all references, and are as many as it places there. Only the shifts of whole chains and the
-/// placed vertices are tested for 64 signed bits: a coordinate on the way that is outside and
-/// comes back is not refused (own rule).
+/// all references, and there are as many as it places there. The shift of each chain from the top
+/// and each placed vertex must be within 64 signed bits. Other intermediate coordinates may be
+/// outside (own rule).
 pub fn flatten(alloc: Global, checked: &Checked) -> Result<Flat, Cause<FlatFault>>
     ensures ok { IfOk result (IsFlattened checked.now) }
     ensures err { IfErr result (λ refusal. Says refusal (IsFlatFault checked.now)) }

@@ -1,4 +1,4 @@
-//! Boxes of points, in which all that a cell draws lies.
+//! Boxes of points.
 ghost use Rattle.std.specs.Prelude.{◌≡◌, IfSome, IsTrue};
 ghost use Rattle.lvl_grid.specs.declared.point.Point.{Point as GridPoint};
 ghost use Rattle.lvl_grid.specs.Turn.{image, shifted, FitsPoint};
@@ -8,7 +8,7 @@ ghost use Rattle.lvl_flat.specs.inside.Passing.{IsSpreadOutside};
 
 use lvl_grid::{Map, Point, Window};
 
-/// The points from one to another, both included.
+/// A box: the points from the lower left corner to the upper right one, borders included.
 #[derive(Clone, Copy, Debug)]
 pub(crate) struct Bounds {
     pub low: Point,
@@ -16,7 +16,7 @@ pub(crate) struct Bounds {
 }
 
 impl Bounds {
-    /// The point alone.
+    /// The box of one point.
     pub(crate) fn around(point: Point) -> Bounds
         ensures { IsWithin result point }
     {
@@ -26,7 +26,7 @@ impl Bounds {
         }
     }
 
-    /// What holds every point.
+    /// The box of all points of 64 bits.
     pub(crate) fn grid() -> Bounds
         ensures { (p : GridPoint) → FitsPoint p → IsWithin result p }
     {
@@ -42,7 +42,7 @@ impl Bounds {
         }
     }
 
-    /// The squares between the corners.
+    /// The squares in the box.
     pub(crate) fn window(self) -> Window
         ensures { result ≡ record { x0 = self.low.x; y0 = self.low.y; x1 = self.high.x; y1 = self.high.y } }
     {
@@ -54,7 +54,7 @@ impl Bounds {
         }
     }
 
-    /// What holds both.
+    /// A box that has all points of both.
     pub(crate) fn joined(self, other: Bounds) -> Bounds
         ensures first { Widens self result }
         ensures second { Widens other result }
@@ -71,8 +71,8 @@ impl Bounds {
         }
     }
 
-    /// What holds the points when they are moved by shifts that are within others; None where it is
-    /// outside 64 bits.
+    /// A box that has all points of this one after a move by any displacement in `by`, or None if
+    /// it is outside 64 bits.
     pub(crate) fn moved(self, by: Bounds) -> Option<Bounds>
         ensures { IfSome result
             (λ bounds. (p e : GridPoint) → IsWithin self p → IsWithin by e → IsWithin bounds (shifted e p)) }
@@ -89,7 +89,7 @@ impl Bounds {
         })
     }
 
-    /// What holds the images of the points; None where it is outside 64 bits.
+    /// A box that has the images of all points of this one, or None if it is outside 64 bits.
     pub(crate) fn placed(self, map: &Map) -> Option<Bounds>
         ensures held { IfSome result
             (λ bounds. (p : GridPoint) → IsWithin self p → IsWithin bounds (image map.now p)) }
@@ -100,7 +100,7 @@ impl Bounds {
         Some(Bounds::around(low).joined(Bounds::around(high)))
     }
 
-    /// Whether no square between the corners is one of the window's.
+    /// Whether the box and the window don't overlap, so that no square of the box is in the window.
     pub(crate) fn misses(self, window: &Window) -> bool
         ensures { IsTrue result → IsOutside self window.now }
     {
@@ -110,8 +110,8 @@ impl Bounds {
         self.high.y <= window.y0 || window.y1 <= self.low.y
     }
 
-    /// Whether what it holds, moved by shifts that are within others and placed by the map, is within
-    /// 64 bits and covers no square of the window. `false` says nothing.
+    /// Whether the box, after a move by any displacement in `by` and mapped, is within 64 bits and
+    /// has no square of the window. `false` says nothing.
     pub(crate) fn misses_moved(self, by: Bounds, map: &Map, window: &Window) -> bool
         ensures { IsTrue result → IsSpreadOutside self by map.now window.now }
     {
@@ -124,7 +124,7 @@ impl Bounds {
         placed.misses(window)
     }
 
-    /// Whether each square between the corners is one of the window's.
+    /// Whether the box is in the window, so that each of its squares is.
     pub(crate) fn is_inside(self, window: &Window) -> bool
         ensures { IsTrue result → IsInside self window.now }
     {

@@ -1,4 +1,4 @@
-//! The boxes in which all that the cells of a library place lies.
+//! The boxes of the cells of a library, each of which has all that its cell places.
 ghost use Rattle.std.specs.Prelude.{◌≡◌, ◌<◌, length, slice_get, Some, All, IsTrue, IfOk, IfSome};
 ghost use Rattle.lvl_grid.specs.declared.point.Point.{Point as GridPoint};
 ghost use Rattle.lvl_grid.specs.Turn.{image};
@@ -20,10 +20,10 @@ use lvl_names::Offsets;
 use std::alloc::{AllocError, Global};
 use std::marker::Model;
 
-/// What holds the cell's origin.
+/// The origin of a cell, where chains from it begin: every box has it.
 const ORIGIN: Point = Point { x: 0, y: 0 };
 
-/// What holds the shifts.
+/// The box of the shifts.
 pub(crate) fn bounds_of_shifts(shifts: &Offsets) -> Bounds
     ensures { All (IsWithin result) shifts.now }
 {
@@ -31,7 +31,7 @@ pub(crate) fn bounds_of_shifts(shifts: &Offsets) -> Bounds
     Bounds { low, high }
 }
 
-/// What holds the shifts of the shape at an index.
+/// The box of the shifts of the shape at index `i`.
 pub(crate) fn bounds_of_shape_shifts(shapes: &Shapes, i: usize) -> Bounds
     requires { i < length shapes.now }
     ensures { All (IsWithin result) (shape_at shapes.now i).shifts }
@@ -40,7 +40,8 @@ pub(crate) fn bounds_of_shape_shifts(shapes: &Shapes, i: usize) -> Bounds
     Bounds { low, high }
 }
 
-/// What also holds the points of a ring at all of the shifts.
+/// The bounds, widened to have the points of a ring after a move by any displacement in `shifts`,
+/// or None if a corner would be outside 64 bits.
 fn hold_ring(bounds: Bounds, ring: &MovedRing<'_>, shifts: Bounds) -> Option<Bounds>
     ensures wider { IfSome result (Widens bounds) }
     ensures held { IfSome result (λ held. HoldsRing held shifts ring.now) }
@@ -55,7 +56,8 @@ fn hold_ring(bounds: Bounds, ring: &MovedRing<'_>, shifts: Bounds) -> Option<Bou
     Some(held)
 }
 
-/// What also holds the shape at an index.
+/// The bounds, widened to have the shape at index `i` at all of its shifts, or None if a corner
+/// would be outside 64 bits.
 fn hold_shape(bounds: Bounds, shapes: &Shapes, i: usize) -> Option<Bounds>
     requires { i < length shapes.now }
     ensures wider { IfSome result (Widens bounds) }
@@ -69,7 +71,7 @@ fn hold_shape(bounds: Bounds, shapes: &Shapes, i: usize) -> Option<Bounds>
     Some(held)
 }
 
-/// What also holds all shapes.
+/// The bounds, widened to have all shapes, or None if a corner would be outside 64 bits.
 fn hold_shapes(bounds: Bounds, shapes: &Shapes) -> Option<Bounds>
     ensures wider { IfSome result (Widens bounds) }
     ensures held { IfSome result (λ held. All (HoldsOwn held) shapes.now) }
@@ -81,7 +83,7 @@ fn hold_shapes(bounds: Bounds, shapes: &Shapes) -> Option<Bounds>
     Some(held)
 }
 
-/// What holds the points of a box once a reference places them, before they are moved by its shifts.
+/// A box that has all points of `target` as the reference places them, before a move by its shifts.
 pub(crate) fn placed_by(target: Bounds, reference: &Reference) -> Option<Bounds>
     ensures { IfSome result (λ placed. (p : GridPoint) → IsWithin target p
         → IsWithin placed (image (before_shifts reference.now) p)) }
@@ -93,7 +95,8 @@ pub(crate) fn placed_by(target: Bounds, reference: &Reference) -> Option<Bounds>
     })
 }
 
-/// What also holds the places of what a reference's cell has in a box.
+/// The bounds, widened to have all points of `target` as the reference places them at its shifts,
+/// or None if a corner would be outside 64 bits.
 fn hold_reference(bounds: Bounds, reference: &Reference, target: Bounds) -> Option<Bounds>
     ensures wider { IfSome result (Widens bounds) }
     ensures held { IfSome result (λ held. (p : GridPoint) → IsWithin target p
@@ -104,7 +107,9 @@ fn hold_reference(bounds: Bounds, reference: &Reference, target: Bounds) -> Opti
     Some(bounds.joined(everywhere))
 }
 
-/// What also holds all that a cell's references place, by what holds what their cells do.
+/// The bounds, widened to have all that the references of a cell place, given the boxes of the
+/// cells that they name. None if one of those boxes isn't known, or if a corner would be outside 64
+/// bits.
 fn hold_references(
     bounds: Bounds,
     checked: &Checked,
@@ -130,7 +135,8 @@ fn hold_references(
     Some(held)
 }
 
-/// What holds all that a cell places, its own shapes and through all references.
+/// A box that has all that a cell places, by its own shapes and through references, or None if a
+/// corner would be outside 64 bits or a box of a cell that it refers to isn't known.
 fn bounds_of_cell(checked: &Checked, cell: usize, known: &[Option<Bounds>]) -> Option<Bounds>
     requires { cell < length checked.now.cells }
     ensures fits { IfSome result Fits }
@@ -142,8 +148,8 @@ fn bounds_of_cell(checked: &Checked, cell: usize, known: &[Option<Bounds>]) -> O
     hold_references(held, checked, cell, known)
 }
 
-/// For each cell of a checked library the box in which all that it places lies, through all
-/// references; none where the box leaves 64 signed bits.
+/// For each cell of a checked library, by index, a box that has all that the cell places through
+/// all references, or None if the box would leave 64 signed bits.
 #[derive(Debug, Drop)]
 pub(crate) struct Boxes {
     known: Vec<Option<Bounds>>,
@@ -159,8 +165,8 @@ impl Model for Boxes {
 }
 
 impl Boxes {
-    /// The boxes of a library's cells, each from its own shapes and the boxes of the cells that it
-    /// refers to.
+    /// The boxes of the cells of a library. That of each cell is made from its own shapes and from
+    /// the boxes of the cells that it refers to.
     pub(crate) fn new(alloc: Global, checked: &Checked) -> Result<Boxes, AllocError>
         ensures { IfOk result (AreBoxes checked.now.cells) }
     {
@@ -172,7 +178,7 @@ impl Boxes {
         Ok(Boxes { known })
     }
 
-    /// The box of the cell at an index, if one is known.
+    /// The box of the cell at this index, if it is known.
     pub(crate) fn get(&self, cell: usize) -> Option<Bounds>
         ensures { IfSome result (λ bounds. slice_get self.now cell ≡ Some (Some bounds)) }
     {
@@ -182,8 +188,8 @@ impl Boxes {
         }
     }
 
-    /// Whether all that the top places is within 64 signed bits, so far as its box shows: it holds the
-    /// top's shapes and the boxes of the cells that it places. `false` says nothing.
+    /// Whether the box of the top is known, so that all that the top places is within 64 signed
+    /// bits. `false` says nothing.
     pub(crate) fn hold_top(&self, checked: &Checked) -> bool
         requires { AreBoxes checked.now.cells self.now }
         ensures { IsTrue result → IsTopInRange checked.now }
@@ -194,7 +200,7 @@ impl Boxes {
         }
     }
 
-    /// A window that has every square which the top covers.
+    /// A window that has every square that the top covers.
     pub(crate) fn extent(&self, checked: &Checked) -> Window
         requires boxes { AreBoxes checked.now.cells self.now }
         requires in_range { IsTopInRange checked.now }
@@ -206,7 +212,7 @@ impl Boxes {
         }
     }
 
-    /// A window that has every square which the cell at an index covers, if its box is known.
+    /// A window that has every square that the cell at this index covers, if its box is known.
     pub(crate) fn extent_of(&self, checked: &Checked, cell: usize) -> Option<Window>
         requires { AreBoxes checked.now.cells self.now }
         ensures { IfSome result (λ window. (layer : PlainLayer) (s : GridSquare)
@@ -218,8 +224,8 @@ impl Boxes {
         }
     }
 
-    /// Whether what the cell at an index places, itself placed by the map, is within 64 bits and
-    /// covers no square of the window, so far as its box shows. `false` says nothing.
+    /// Whether the box of the cell at this index shows that all that the cell places, itself placed
+    /// by the map, is within 64 bits and covers no square of the window. `false` says nothing.
     pub(crate) fn miss(&self, cell: usize, map: &Map, window: &Window) -> bool
         ensures { IsTrue result → IsPlacedOutside self.now cell map.now window.now }
     {
@@ -233,8 +239,8 @@ impl Boxes {
     }
 }
 
-/// Whether all that the top places is within 64 signed bits, so far as boxes show: each cell's box
-/// holds its shapes and the boxes of the cells that it places. `false` says nothing.
+/// Whether the boxes of the cells show that all that the top places is within 64 signed bits.
+/// `false` says nothing: a box can be larger than what its cell places.
 pub fn fits_by_boxes(alloc: Global, checked: &Checked) -> Result<bool, AllocError>
     ensures { IfOk result (λ fits. IsTrue fits → IsTopInRange checked.now) }
 {

@@ -1,4 +1,4 @@
-//! A cell's own shapes, placed by a map.
+//! The own shapes of a cell, placed by a map.
 ghost use Rattle.std.specs.Prelude.{◌≡◌, ◌<◌, ◌++◌, length, All, OnOk, map as list_map};
 ghost use Rattle.lvl_names.specs.declared.layer.Layer.{Layer as PlainLayer};
 ghost use Rattle.lvl_cells.specs.Cells.{shape_at};
@@ -12,7 +12,7 @@ use lvl_cells::Shapes;
 use lvl_grid::{Map, PlaceFault, Point, Rings};
 use std::alloc::Global;
 
-/// Adds the rings of the shape at an index, each moved by the shift and placed by the map.
+/// Appends the rings of the shape at index `i`, moved by the shift and placed by the map.
 fn draw_figure(
     alloc: Global,
     rings: &mut Rings,
@@ -32,7 +32,7 @@ fn draw_figure(
     Ok(())
 }
 
-/// Adds the rings of the shape at an index at each of its shifts, placed by the map.
+/// Appends the rings of the shape at index `i` at each of its shifts, placed by the map.
 fn draw_shape(
     alloc: Global,
     rings: &mut Rings,
@@ -56,7 +56,7 @@ fn draw_shape(
     Ok(())
 }
 
-/// Adds the shapes of a cell, placed by the map, each to the sheet of its Layer.
+/// Appends the shapes of a cell, placed by the map, each to the sheet of its Layer.
 pub(crate) fn draw_shapes(
     alloc: Global,
     sheets: &mut Vec<Sheet>,

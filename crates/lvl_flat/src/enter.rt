@@ -1,4 +1,4 @@
-//! Entering a cell: its shapes are drawn, and it is visited.
+//! Entering a cell: its shapes are drawn, and a visit of it is put on the stack.
 ghost use Rattle.std.specs.Prelude.{◌≡◌, ◌++◌, ◌∷◌, ◌<◌, [], length, IfErr, OnOk};
 ghost use Rattle.lvl_flat.specs.inside.Entering.{begun, IsDrawn, IsEnterFault};
 ghost use Rattle.lvl_flat.specs.Flattened.{ReportsName};
@@ -15,7 +15,8 @@ use lvl_grid::{Map, PlaceFault};
 use lvl_refusal::Cause;
 use std::alloc::{AllocError, Global};
 
-/// That a cell of this name is out of range.
+/// The refusal of a cell of this name as out of range, or out of memory if the name can't be
+/// copied.
 pub(crate) fn out_of_range(alloc: Global, name: &[u8]) -> Cause<FlatFault>
     ensures { Says result (ReportsName name.now) }
 {
@@ -33,7 +34,7 @@ pub(crate) fn push_visit(stack: &mut Vec<Visit>, visit: Visit) -> Result<(), All
     Ok(())
 }
 
-/// Draws the shapes of the cell at the place.
+/// Draws the shapes of the cell at index `place`, placed by the map.
 pub(crate) fn draw_cell(
     alloc: Global,
     cells: &[Cell],

@@ -1,11 +1,12 @@
-//! Why a library could not be flattened.
+//! Why a library can't be flattened.
 use thiserror::Error;
 
-/// Why a library could not be flattened (own rule).
+/// Why a library can't be flattened (own rule).
 #[derive(Debug, Drop, Error)]
 pub enum FlatFault {
-    /// The cell of that name is at the end of a chain of references whose shift, or one of
-    /// whose placed vertices, is outside 64 signed bits. Which of several is open.
+    /// A chain of references from the top places the cell of this name so that the shift of the
+    /// chain, or a vertex of the cell's own shapes, is outside 64 signed bits. If there are several
+    /// such cells, any of them may be reported.
     #[error("a placed coordinate is outside 64 bits")]
     OutOfRange(Vec<u8>),
 }

@@ -1,4 +1,4 @@
-//! Libraries of which all that the top places is within 64 bits.
+//! Libraries whose top places nothing outside 64 bits.
 ghost use Rattle.std.specs.Prelude.{◌≡◌, IfOk, IfErr, IfSome};
 ghost use Rattle.lvl_grid.specs.declared.point.Square.{Square as GridSquare};
 ghost use Rattle.lvl_grid.specs.Clip.{IsWithin};
@@ -16,8 +16,8 @@ use lvl_refusal::Cause;
 use std::alloc::{AllocError, Global};
 use std::marker::Model;
 
-/// A checked library of which all that the top places is within 64 signed bits, with the box of each of
-/// its cells. What its top draws may be had window by window.
+/// A checked library whose top places nothing outside 64 signed bits, with the box of each of its
+/// cells. It can be flattened window by window.
 #[derive(Debug, Drop)]
 pub struct Fitted {
     checked: Checked,
@@ -37,8 +37,9 @@ impl Model for Fitted {
 }
 
 impl Fitted {
-    /// The library with the boxes of its cells. Refused exactly where [`flatten`](crate::flatten) refuses
-    /// it: where a chain of references or a vertex that it places is outside of 64 signed bits.
+    /// Computes the boxes of the cells. Refuses a library exactly if [`flatten`](crate::flatten)
+    /// does: if the shift of a chain of references, or a vertex that it places, is outside 64
+    /// signed bits (own rule).
     pub fn new(alloc: Global, checked: Checked) -> Result<Fitted, Cause<FlatFault>>
         ensures ok { IfOk result (λ fitted. fitted ≡ checked) }
         ensures in_range { IfOk result IsTopInRange }
@@ -57,15 +58,16 @@ impl Fitted {
         &self.checked
     }
 
-    /// A window that has every square which the top covers.
+    /// A window that has every square that the top covers.
     pub fn extent(&self) -> Window
         ensures { (layer : PlainLayer) (s : GridSquare) → TopCovers self.now layer s → IsWithin result s }
     {
         self.boxes.extent(&self.checked)
     }
 
-    /// A window that has every square which the cell at an index covers through all references, in its own
-    /// coordinates; None if there is no such cell, or its window may leave 64 signed bits.
+    /// A window that has every square that the cell at index `cell` covers, through all references,
+    /// in the coordinates of that cell. None if there is no such cell, or if its box may leave 64
+    /// signed bits.
     pub fn extent_of(&self, cell: usize) -> Option<Window>
         ensures { IfSome result (λ window. (layer : PlainLayer) (s : GridSquare)
             → CoversAt self.now.cells cell layer s → IsWithin window s) }
@@ -76,8 +78,8 @@ impl Fitted {
     /// The rings of each Layer that the top places, clipped to a window.
     ///
     /// On each Layer the rings together cover exactly the squares of the window that the top covers
-    /// there through all references. Only what is drawn in the window takes memory; where the rings would
-    /// have more than `most` points, it is out of memory.
+    /// there through all references. Only what is drawn in the window takes memory. If the rings
+    /// would have more than `most` points, that is reported as out of memory.
     pub fn within(&self, alloc: Global, window: &Window, most: usize) -> Result<Flat, AllocError>
         ensures { IfOk result (IsFlattenedWithin self.now window.now) }
     {

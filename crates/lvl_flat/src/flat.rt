@@ -1,4 +1,4 @@
-//! The rings of each Layer, in the order of the Layers.
+//! Flat layouts: the rings of each Layer, in the order of the Layers.
 ghost use Rattle.std.specs.Prelude.{◌≡◌, ◌≢◌, ◌↔◌, filter, length, map, slice_get, All, IsTrue, IfOk, IfSome, IfNone};
 ghost use Rattle.lvl_flat.specs.Sheets.{rings_on, is_filled, IsInOrder, AreSorted, SheetAt};
 ghost use Rattle.lvl_names.specs.Layers.{ComesBefore};
@@ -27,7 +27,7 @@ impl Model for Sheet {
 #[derive(Debug, Drop)]
 pub struct Flat {
     sheets: Vec<Sheet>,
-    /// What an absent Layer has.
+    /// The rings of a Layer that has none.
     none: Rings,
 }
 
@@ -45,7 +45,7 @@ impl Model for Flat {
 }
 
 impl Flat {
-    /// The sheets that have rings.
+    /// The flat layout of these sheets. Those without rings are left out.
     pub(crate) fn filled(alloc: Global, sheets: Vec<Sheet>) -> Result<Flat, AllocError>
         requires { AreSorted sheets.items }
         ensures { IfOk result (λ flat. flat ≡ filter is_filled sheets.items) }
@@ -62,7 +62,7 @@ impl Flat {
         })
     }
 
-    /// The sheets of all Layers that have a ring.
+    /// The sheets of all Layers that have rings.
     pub(crate) fn into_sheets(self) -> Vec<Sheet>
         ensures sheets { result.items ≡ self }
         ensures in_order { IsInOrder self }
@@ -70,14 +70,15 @@ impl Flat {
         self.sheets
     }
 
-    /// The number of Layers that have a ring.
+    /// The number of Layers that have rings.
     pub fn len(&self) -> usize
         ensures { result ≡ length self.now }
     {
         self.sheets.len()
     }
 
-    /// The Layer at the place, in their order; each has a ring at least.
+    /// The Layer at this index, or None if there is none. Layers are in their order, and each has
+    /// at least one ring.
     pub fn layer(&self, place: usize) -> Option<Layer>
         ensures layer { result ≡ slice_get (map (λ s. s.layer) self.now) place }
         ensures in_order { IsInOrder self.now }
@@ -85,7 +86,7 @@ impl Flat {
         self.sheets.get(place).map(|sheet| sheet.layer)
     }
 
-    /// The rings of the Layer; none where it is absent.
+    /// The rings of the Layer: an empty list if the Layer isn't there.
     pub fn rings(&self, layer: Layer) -> &Rings
         ensures { result.now ≡ rings_on layer self.now }
     {
@@ -99,7 +100,7 @@ impl Flat {
     }
 }
 
-/// The place of the Layer's sheet.
+/// The index of the sheet for the Layer, or None if there is none. A binary search.
 pub(crate) fn place_of(sheets: &[Sheet], layer: Layer) -> Option<usize>
     requires { AreSorted sheets.now }
     ensures found { IfSome result (λ i. SheetAt sheets.now i layer) }

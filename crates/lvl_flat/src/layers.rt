@@ -1,4 +1,4 @@
-//! The Layers of a library, each with an empty sheet.
+//! Empty sheets for the Layers of a library.
 ghost use Rattle.std.specs.Prelude.{◌≡◌, [], All, Contains, OnOk, IfOk, map};
 ghost use Rattle.lvl_flat.specs.Sheets.{AreSorted, ContainsAll};
 ghost use Rattle.lvl_flat.specs.inside.Walking.{AllHaveSheets};
@@ -9,7 +9,7 @@ use lvl_grid::Rings;
 use lvl_names::Layer;
 use std::alloc::{AllocError, Global};
 
-/// Adds a Layer, if it is not the last already.
+/// Appends a Layer, unless it is the last one already.
 fn push_layer(layers: &mut Vec<Layer>, layer: Layer) -> Result<(), AllocError>
     ensures kept { OnOk result (ContainsAll layers.new.items layers.old.items) }
     ensures added { OnOk result (Contains layers.new.items layer) }
@@ -21,7 +21,7 @@ fn push_layer(layers: &mut Vec<Layer>, layer: Layer) -> Result<(), AllocError>
     Ok(())
 }
 
-/// Adds the Layers of the shapes; one that several shapes in a row are on is added once.
+/// Appends the Layers of the shapes. A Layer of several consecutive shapes is appended once.
 fn push_layers(layers: &mut Vec<Layer>, shapes: &Shapes) -> Result<(), AllocError>
     ensures kept { OnOk result (ContainsAll layers.new.items layers.old.items) }
     ensures added { OnOk result (All (λ h. Contains layers.new.items h.layer) shapes.now) }
@@ -32,7 +32,7 @@ fn push_layers(layers: &mut Vec<Layer>, shapes: &Shapes) -> Result<(), AllocErro
     Ok(())
 }
 
-/// The Layers of all shapes, cell by cell.
+/// The Layers of all shapes, in no order and with duplicates.
 fn layers_of(alloc: Global, cells: &[Cell]) -> Result<Vec<Layer>, AllocError>
     ensures { IfOk result (λ layers. All (λ c. All (λ h. Contains layers.items h.layer) c.shapes) cells.now) }
 {
@@ -43,7 +43,7 @@ fn layers_of(alloc: Global, cells: &[Cell]) -> Result<Vec<Layer>, AllocError>
     Ok(layers)
 }
 
-/// An empty sheet for each Layer that some shape is on, in the order of the Layers.
+/// An empty sheet for each Layer that a shape is on, in the order of the Layers.
 pub(crate) fn sheets_of(alloc: Global, cells: &[Cell]) -> Result<Vec<Sheet>, AllocError>
     ensures sorted { IfOk result (λ sheets. AreSorted sheets.items) }
     ensures layers { IfOk result (λ sheets. AllHaveSheets sheets.items cells.now) }
@@ -52,7 +52,7 @@ pub(crate) fn sheets_of(alloc: Global, cells: &[Cell]) -> Result<Vec<Sheet>, All
     sheets_for(alloc, layers_of(alloc, cells)?)
 }
 
-/// An empty sheet for each of the Layers, in their order; one for a Layer that is there twice.
+/// An empty sheet for each of the Layers, in their order, without duplicates.
 pub(crate) fn sheets_for(alloc: Global, mut layers: Vec<Layer>) -> Result<Vec<Sheet>, AllocError>
     ensures sorted { IfOk result (λ sheets. AreSorted sheets.items) }
     ensures layers { IfOk result (λ sheets. ContainsAll (map (λ s. s.layer) sheets.items) layers.items) }

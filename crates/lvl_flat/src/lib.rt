@@ -1,12 +1,13 @@
-//! Flattening: all rings that a library's top places, Layer by Layer.
+//! Flattening: all rings that the top of a library places, Layer by Layer.
 //!
-//! [`flatten`] walks the chains of references from the top and places each ring that it meets.
-//! What it gives, a [`Flat`], has for each Layer a list of rings that together cover exactly what
-//! the top covers there. [`Fitted::within`] gives the same of a window, and takes memory for what is
-//! drawn in it alone. [`flatten_shapes`] gives the same of one cell's own shapes, and
-//! [`Flat::mapped`] moves the rings of each Layer to the Layer that it counts as in a view.
+//! [`flatten`] walks the chains of references from the top and places each ring on the way. It
+//! returns a [`Flat`]: for each Layer, a list of rings that together cover exactly what the top
+//! covers there. [`Fitted::within`] does the same for a window, and takes memory only for what is
+//! drawn in it. [`flatten_shapes`] does the same for the own shapes of one cell. [`Flat::mapped`]
+//! moves the rings of each Layer to the Layer that it counts as in a view.
 //!
-//! `checked` is a checked library, whose top draws one rectangle of 4 by 2 on the layer `METAL`:
+//! Here `checked` is a checked library whose top draws one rectangle of 4 by 2 squares on the Layer
+//! `METAL`:
 //!
 //! ```
 //! let flat = flatten(alloc, &checked)?;

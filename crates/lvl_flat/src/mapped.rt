@@ -1,4 +1,4 @@
-//! Flat layouts seen through a map of layers.
+//! Flat layouts under a map of layers.
 ghost use Rattle.std.specs.Prelude.{◌≡◌, ◌++◌, [], map, Contains, OnOk, IfOk, if◌then◌else◌};
 ghost use Rattle.lvl_names.specs.declared.layer.Layer.{Layer as PlainLayer};
 ghost use Rattle.lvl_names.specs.Layers.{same_layer};
@@ -13,7 +13,7 @@ use lvl_names::Layer;
 use lvl_view::View;
 use std::alloc::{AllocError, Global};
 
-/// Appends the rings of another list. Where there are none before, that list is taken as it is.
+/// Appends the rings of another list. If there are none so far, that list is taken as it is.
 fn append(rings: &mut Rings, more: Rings) -> Result<(), AllocError>
     ensures { OnOk result (rings.new ≡ rings.old ++ more) }
 {
@@ -27,7 +27,7 @@ fn append(rings: &mut Rings, more: Rings) -> Result<(), AllocError>
     Ok(())
 }
 
-/// Appends rings to those of a Layer.
+/// Appends rings to the sheet of a Layer.
 fn append_on(sheets: &mut Vec<Sheet>, layer: Layer, rings: Rings) -> Result<(), AllocError>
     requires sorted { AreSorted sheets.old.items }
     requires there { Contains (map (λ s. s.layer) sheets.old.items) layer }
@@ -43,7 +43,7 @@ fn append_on(sheets: &mut Vec<Sheet>, layer: Layer, rings: Rings) -> Result<(), 
     Ok(())
 }
 
-/// The Layers that those of the sheets count as.
+/// The Layers that the Layers of the sheets count as.
 fn targets_of(alloc: Global, sheets: &[Sheet], view: &View) -> Result<Vec<Layer>, AllocError>
     ensures { IfOk result (λ targets. targets.items ≡ map (λ s. target_of view.now.pairs s.layer) sheets.now) }
 {
@@ -55,8 +55,8 @@ fn targets_of(alloc: Global, sheets: &[Sheet], view: &View) -> Result<Vec<Layer>
 }
 
 impl Flat {
-    /// The layout as it counts in the view: the rings of each Layer are on the Layer's target, and
-    /// on no other. The rings of several Layers with one target are all there.
+    /// The layout under a view: the rings of each Layer are moved to the Layer's target. If several
+    /// Layers have the same target, it gets the rings of all of them.
     pub fn mapped(self, alloc: Global, view: &View) -> Result<Flat, AllocError>
         ensures covers { IfOk result (IsMapped view.now.pairs self) }
         ensures rings { IfOk result (λ flat. (layer : PlainLayer)

@@ -1,4 +1,4 @@
-//! Passing by places: runs of shifts at which a box is shown to miss the window.
+//! Skipping places: runs of shifts at which a box has no square of the window.
 ghost use Rattle.std.specs.Prelude.{◌≤◌, ◌<◌, length, IsTrue};
 ghost use Rattle.lvl_flat.specs.Boxes.{AreBoxes};
 ghost use Rattle.lvl_flat.specs.inside.Passing.{AreMissed, IsRun, IsPassedBy};
@@ -11,11 +11,12 @@ use lvl_cells::Checked;
 use lvl_grid::{Map, Window};
 use lvl_names::Offsets;
 
-/// The fewest places that are tried as a run: it takes no longer to go through fewer one by one.
+/// The fewest places that are tried as a run. Fewer are as fast one by one.
 const LEAST_RUN: u64 = 8;
 
-/// Whether the box misses the window at each of the shifts from an index up to another, which lie on
-/// a line. `false` says nothing.
+/// Whether the box misses the window at each of the shifts with an index from `from` up to `end`,
+/// which is excluded. Each of these shifts is between any earlier and any later one, along both
+/// axes. `false` says nothing.
 fn misses_run(
     shifts: &Offsets,
     from: u64,
@@ -38,8 +39,9 @@ fn misses_run(
     inner.misses_moved(by, map, window)
 }
 
-/// Up to where the box misses the window at the shifts from an index up to another, which lie on a
-/// line: the whole run is tried, then a half, then one between, until the end of the longest is found.
+/// The index up to which the box is found to miss the window at all shifts from index `from` on.
+/// Each shift with an index from `from` up to `end` is between any earlier and any later one, along
+/// both axes. Tries all of them first, then searches the longest run that misses by halving.
 fn missed_along(
     shifts: &Offsets,
     from: u64,
@@ -70,8 +72,8 @@ fn missed_along(
     low
 }
 
-/// Up to where the box is shown to miss the window at the shifts from an index on: at all of them, or
-/// at a run in a row of this length.
+/// The index up to which the box is found to miss the window at all shifts from index `from` on:
+/// the length of the list, or an index from `from` to the end of its row.
 fn missed_from(
     shifts: &Offsets,
     from: u64,
@@ -96,8 +98,8 @@ fn missed_from(
     missed_along(shifts, from, end, inner, map, window)
 }
 
-/// The visit, past those of its next places that are shown to be within 64 bits and to cover no
-/// square of the window.
+/// The visit, after the next places at which its reference is found to place nothing outside 64
+/// bits and to cover no square of the window.
 pub(crate) fn pass_by(checked: &Checked, boxes: &Boxes, window: &Window, visit: Visit) -> Visit
     requires cell { visit.cell < length checked.now.cells }
     requires boxes { AreBoxes checked.now.cells boxes.now }

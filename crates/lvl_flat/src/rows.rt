@@ -1,11 +1,11 @@
-//! The rows of a lattice of shifts, as the shifts themselves show them.
+//! The rows of a lattice of shifts, found by looking at some of the shifts.
 ghost use Rattle.std.specs.Prelude.{◌≡◌, ◌<◌, ◌-◌, ◌%◌, IsTrue};
 ghost use Rattle.lvl_flat.specs.inside.Passing.{HasRows};
 
 use lvl_grid::Point;
 use lvl_names::Offsets;
 
-/// The product, or None where it is outside 64 bits.
+/// The product, or None if it is outside 64 bits.
 fn times(step: Point, count: u64) -> Option<Point> {
     let count = i64::try_from(count).ok()?;
     Some(Point {
@@ -14,8 +14,8 @@ fn times(step: Point, count: u64) -> Option<Point> {
     })
 }
 
-/// The index of the first shift that doesn't go on from zero by equal steps, where those that do
-/// all come before those that don't.
+/// The number of shifts at the beginning that are equal steps from zero: shift k is k times shift
+/// 1. A binary search, which is right if no later shift is such a step; else some other index.
 fn first_turn(shifts: &Offsets) -> u64 {
     let Some(step) = shifts.at(1) else {
         return 1;
@@ -33,7 +33,7 @@ fn first_turn(shifts: &Offsets) -> u64 {
     high
 }
 
-/// Whether the shifts are a lattice whose rows are of this length. `false` says nothing.
+/// Whether the shifts are stored as a lattice with rows of this length. `false` says nothing.
 pub(crate) fn has_rows(shifts: &Offsets, row: u64) -> bool
     ensures some { IsTrue result → 0 < row }
     ensures rows { IsTrue result → HasRows row shifts.now }
@@ -50,14 +50,14 @@ pub(crate) fn has_rows(shifts: &Offsets, row: u64) -> bool
     }
 }
 
-/// How many shifts there are from an index on to the end of its row.
+/// The number of shifts from index `from` to the end of its row.
 pub(crate) fn rest_of_row(from: u64, row: u64) -> u64
     ensures { result ≡ row - from % row }
 {
     if row == 0 { 0 } else { row - from % row }
 }
 
-/// How long the rows of the shifts are: 1 where they aren't shown to be a lattice.
+/// The length of the rows of the shifts, or 1 if they aren't found to be a lattice.
 pub(crate) fn row_length(shifts: &Offsets) -> u64
     ensures { HasRows result shifts.now }
 {

@@ -1,4 +1,4 @@
-//! A cell's own shapes, with nothing that it refers to.
+//! The own shapes of a cell, without its references.
 ghost use Rattle.std.specs.Prelude.{◌↔◌, Any, IfOk, IfErr};
 ghost use Rattle.lvl_grid.specs.declared.point.Square.{Square};
 ghost use Rattle.lvl_names.specs.declared.layer.Layer.{Layer};
@@ -20,7 +20,7 @@ use std::alloc::Global;
 use std::slice;
 
 /// The rings of a cell's own shapes at all their shifts, Layer by Layer; its references are left
-/// out. It is refused as out of range where one of these vertices is outside 64 signed bits.
+/// out. Refused as out of range if one of the vertices is outside 64 signed bits (own rule).
 pub fn flatten_shapes(alloc: Global, cell: &Cell) -> Result<Flat, Cause<FlatFault>>
     ensures covers { IfOk result (λ flat. (layer : Layer) (s : Square)
         → RingsCover (rings_on layer flat) s ↔ Any (ShapeCovers RingsCover layer s) cell.now.shapes) }

@@ -1,12 +1,12 @@
-//! Visits: placed cells on the way from the top.
+//! Visits: placed cells whose references are being followed.
 ghost use Rattle.std.specs.Prelude.{◌≡◌};
 ghost use Rattle.lvl_flat.specs.inside.Entering.{begun};
 
 use lvl_grid::Map;
 
-/// A placed cell, of whose references those before `reference`, and of that one's places those
-/// before `place`, are done with. Its places come in rows of `row`, so far as has been seen: 0 where
-/// nobody has looked.
+/// A placed cell whose references are followed one by one. Those with an index before `reference`
+/// are done, and of that one the places before `place`. Its places are in rows of `row`, or `row`
+/// is 0 if that isn't known yet.
 #[derive(Clone, Copy)]
 pub(crate) struct Visit {
     pub cell: usize,
@@ -17,7 +17,7 @@ pub(crate) struct Visit {
 }
 
 impl Visit {
-    /// A visit that has all still to do.
+    /// A visit that has followed no reference yet.
     pub(crate) fn begun(cell: usize, map: Map) -> Visit
         ensures { result ≡ begun cell map }
     {

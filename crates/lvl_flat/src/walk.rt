@@ -9,19 +9,20 @@ use crate::visit::Visit;
 use lvl_cells::{Checked, Reference};
 use lvl_grid::{Map, Point};
 
-/// What a visit goes on to.
+/// What a visit does next.
 pub(crate) enum Step {
-    /// It has nothing left to do.
+    /// It ends: no reference is left.
     Done,
-    /// It is past the places of a reference, and goes on with the next one.
+    /// It goes on with the next reference, since all places of this one are done.
     Past(Visit),
-    /// The cell at the place is placed by the map, and the visit has the rest still to do.
+    /// It places the cell at this index by the map, and goes on as the visit here.
     Into(usize, Map, Visit),
-    /// The cell at the place would be placed outside 64 bits.
+    /// It would place the cell at this index with a shift outside 64 bits.
     Out(usize),
 }
 
-/// The map of a reference at one of its places, by the index of its shift; None past the last.
+/// The map by which a reference places its cell at the shift with index `place`, or None if there
+/// is no such shift.
 pub fn placing_at(reference: &Reference, place: u64) -> Option<Map>
     ensures some { IfSome result (λ m. IsPlacing reference.now place m) }
     ensures none { IfNone result (slice_get reference.now.shifts place ≡ None) }
@@ -38,13 +39,14 @@ pub fn placing_at(reference: &Reference, place: u64) -> Option<Map>
     })
 }
 
-/// The law by which chains are counted: a weight added up over all chains is its sum over a list of their
-/// last cells, one for each chain, and these are the cells that some chain leads to. It computes nothing.
+/// A law, for proofs: a sum of weights over all chains is the sum over the list of their last
+/// cells, one for each chain, and this list has exactly the cells that some chain leads to. The
+/// call does nothing.
 pub fn chains_add_up()
     ensures { (cells : List (PlainCell Rings)) (n : ℕ) (c : PlainCell Rings) → AddsUp cells n c }
 {}
 
-/// The step of a visit.
+/// What the visit does next.
 pub(crate) fn next_step(checked: &Checked, visit: &Visit) -> Step
     requires { visit.now.cell < length checked.now.cells }
     ensures { IsStep checked.now.cells visit.now result }

@@ -1,4 +1,4 @@
-//! Flattening within a window: what does not reach into it is passed by.
+//! Flattening within a window: what doesn't reach into it is skipped.
 ghost use Rattle.std.specs.Prelude.{◌≡◌, ◌<◌, ◌++◌, ◌∷◌, [], length, IfOk, IfErr, OnOk};
 ghost use Rattle.lvl_flat.specs.Flattened.{IsFlattenedWithin, IsFlatFault, IsTopInRange};
 ghost use Rattle.lvl_flat.specs.Sheets.{AreSorted};
@@ -22,7 +22,7 @@ use lvl_grid::{Map, PlaceFault, Window};
 use lvl_refusal::Cause;
 use std::alloc::Global;
 
-/// Draws the shapes of the cell at an index, as far as they reach into the window.
+/// Draws the shapes of the cell at this index, placed by the map and clipped to the window.
 fn draw_cell_within(
     room: &mut Room,
     cells: &[Cell],
@@ -46,8 +46,8 @@ fn draw_cell_within(
     }
 }
 
-/// Goes one step on with the visit that was taken off the stack. A cell that is placed outside of
-/// the window is passed by, and with it a run of further places that are.
+/// Makes one step with the visit that was taken off the stack. A cell that is placed outside of the
+/// window is skipped, and with it a run of further places outside of the window.
 fn advance_within(
     room: &mut Room,
     checked: &Checked,
@@ -87,10 +87,10 @@ fn advance_within(
 /// The rings of each Layer that the top places, clipped to a window.
 ///
 /// On each Layer the rings together cover exactly the squares of the window that the top covers
-/// there through all references. What a cell places is passed by where its box shows that it
-/// doesn't reach into the window, so that only what is drawn in the window takes memory. A layout
-/// that [`flatten`](crate::flatten) refuses is refused, whatever the window. Where the rings would
-/// have more than `most` points, it is out of memory.
+/// there through all references. What a cell places is skipped if its box shows that it doesn't
+/// reach into the window, so only what is drawn in the window takes memory. A layout that
+/// [`flatten`](crate::flatten) refuses is refused, whatever the window. If the rings would have
+/// more than `most` points, that is reported as out of memory.
 pub(crate) fn flatten_within(
     alloc: Global,
     checked: &Checked,
@@ -132,8 +132,8 @@ pub(crate) fn flatten_within(
     Ok(Flat::filled(alloc, sheets)?)
 }
 
-/// Refuses a layout that [`flatten`](crate::flatten) refuses, and draws nothing. What a cell places
-/// is looked at only where its box leaves 64 signed bits.
+/// Refuses a layout that [`flatten`](crate::flatten) refuses. Draws nothing, and walks only through
+/// cells whose boxes leave 64 signed bits.
 pub(crate) fn check_range(
     alloc: Global,
     checked: &Checked,

@@ -1,4 +1,4 @@
-//! A cell's own shapes, placed by a map, as far as they reach into a window.
+//! The own shapes of a cell, placed by a map and clipped to a window.
 ghost use Rattle.std.specs.Prelude.{◌≡◌, ◌≢◌, ◌<◌, ◌↔◌, ◌⊎◌, [], length, get_or, map as list_map, All, OnOk, IfSome};
 ghost use Rattle.std.specs.Prelude.{IsTrue};
 ghost use Rattle.lvl_grid.specs.declared.point.Point.{Point as GridPoint};
@@ -22,16 +22,16 @@ use lvl_cells::{MovedRing, Shapes};
 use lvl_grid::{Map, Part, PlaceFault, Point, Rings, Window};
 use std::alloc::Global;
 
-/// Room for what is drawn.
+/// What drawing may still take: an allocator and a number of points.
 #[derive(Drop)]
 pub(crate) struct Room {
     pub alloc: Global,
-    /// How many points may still be drawn.
+    /// The number of points that may still be drawn.
     pub points: usize,
 }
 
 impl Room {
-    /// Takes room for points that are drawn. Where there is less, that is out of memory.
+    /// Takes room for points that were drawn. Reports out of memory if there is less.
     fn take(&mut self, points: usize) -> Result<(), PlaceFault>
         ensures { result ≢ Err PlaceFault.OutOfRange }
     {
@@ -43,7 +43,7 @@ impl Room {
     }
 }
 
-/// What holds the points of a ring.
+/// The box of the points of a ring.
 fn bounds_of_ring(ring: &MovedRing<'_>) -> Bounds
     requires { IsRing ring.now }
     ensures { All (IsWithin result) ring.now }
@@ -61,7 +61,8 @@ fn bounds_of_ring(ring: &MovedRing<'_>) -> Bounds
     bounds
 }
 
-/// What holds the points once they are moved and placed; None where it is outside 64 bits.
+/// A box that has all points of `bounds` after a move by `shift` and mapped, or None if it is
+/// outside 64 bits.
 fn placed_bounds(bounds: Bounds, shift: Point, map: &Map) -> Option<Bounds>
     ensures held { IfSome result
         (λ placed. (p : GridPoint) → IsWithin bounds p → IsWithin placed (placed_point map.now shift p)) }
@@ -70,7 +71,7 @@ fn placed_bounds(bounds: Bounds, shift: Point, map: &Map) -> Option<Bounds>
     bounds.moved(Bounds::around(shift))?.placed(map)
 }
 
-/// Adds what is left of a ring in the window, once it is moved by the shift and placed by the map.
+/// Appends a ring, moved by the shift, placed by the map and clipped to the window.
 fn draw_cut(
     alloc: Global,
     rings: &mut Rings,
@@ -93,8 +94,9 @@ fn draw_cut(
     Ok(())
 }
 
-/// Adds a ring whose points are within the bounds, moved by the shift and placed by the map, as far
-/// as it reaches into the window.
+/// Appends a ring whose points are within `bounds`, moved by the shift, placed by the map and
+/// clipped to the window. If the bounds show that it is outside of the window, or inside, it
+/// needn't be clipped.
 fn draw_ring_at(
     alloc: Global,
     rings: &mut Rings,
@@ -123,8 +125,8 @@ fn draw_ring_at(
     draw_cut(alloc, rings, ring, shift, map, window)
 }
 
-/// Whether the bounds miss the window at all shifts of the shape at an index, of which there are
-/// several. `false` says nothing.
+/// Whether the bounds miss the window at all shifts of the shape at index `i`. Not tried for a
+/// single shift. `false` says nothing.
 fn misses_at_all(shapes: &Shapes, i: usize, bounds: Bounds, map: &Map, window: &Window) -> bool
     requires { i < length shapes.now }
     ensures { IsTrue result → All (IsMissed bounds map.now window.now) (shape_at shapes.now i).shifts }
@@ -135,7 +137,8 @@ fn misses_at_all(shapes: &Shapes, i: usize, bounds: Bounds, map: &Map, window: &
     bounds.misses_moved(bounds_of_shape_shifts(shapes, i), map, window)
 }
 
-/// Adds a ring of the shape at an index, at each of the shape's shifts.
+/// Appends ring `j` of shape `i` at each of the shape's shifts, placed by the map and clipped to
+/// the window.
 fn draw_ring(
     room: &mut Room,
     rings: &mut Rings,
@@ -171,7 +174,8 @@ fn draw_ring(
     Ok(())
 }
 
-/// Adds the rings of the shape at an index, each at each of its shifts.
+/// Appends the rings of shape `i`, each at each of the shape's shifts, placed by the map and
+/// clipped to the window.
 fn draw_shape(
     room: &mut Room,
     rings: &mut Rings,
@@ -194,8 +198,8 @@ fn draw_shape(
     Ok(())
 }
 
-/// Adds the shapes of a cell, placed by the map, as far as they reach into the window, each to the
-/// sheet of its Layer.
+/// Appends the shapes of a cell, placed by the map and clipped to the window, each to the sheet of
+/// its Layer.
 pub(crate) fn draw_shapes_within(
     room: &mut Room,
     sheets: &mut Vec<Sheet>,

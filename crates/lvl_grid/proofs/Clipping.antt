@@ -16,11 +16,11 @@ use Rattle.lvl_grid.proofs.Turning.{count-cons}
 use Rattle.lvl_grid.proofs.Sides.{side, winding_by_side, winding_left, winding_below, level_off}
 use Rattle.lvl_grid.proofs.Placing.{map-map, straight_ring}
 
--- a point is right of one of the window's squares exactly where it was
+-- a clamped point is right of one of the window's squares exactly if the point is
 clamp_right : (x0 x1 a x : ℤ) → x0 ≤ℤ x → x <ℤ x1 → int_lt x (clamp x0 x1 a) ≡ int_lt x a
 clamp_right x0 x1 a x h g = grind (arith, ints)
 
--- and not above it exactly where it was
+-- and not above it exactly if the point isn't
 clamp_low : (y0 y1 a y : ℤ) → y0 ≤ℤ y → y <ℤ y1 → int_le (clamp y0 y1 a) y ≡ int_le a y
 clamp_low y0 y1 a y h g = grind (arith, ints)
 
@@ -42,7 +42,7 @@ put_winds_inside part ps s h =
     winding_by_side s (map (put part) ps)
     ∙ (rw (map-map (put part) (side s) (side s) ps (side_put part s h)) refl ∙ sym (winding_by_side s ps))
 
--- where each edge goes up as often as down, so does the path
+-- a path goes up as often as down if each of its edges does
 level_path : (s : Square) (P : Point → Type 0) → ((p q : Point) → P p → P q → goes_up s (p, q) ≡ goes_down s (p, q))
     → (p : Point) (ps : List Point) → P p → All P ps
     → count_by (goes_up s) (path_edges p ps) ≡ count_by (goes_down s) (path_edges p ps)
@@ -99,7 +99,7 @@ min_not_above x1 a x h = grind (arith, ints)
 max_above : (x0 a x : ℤ) → x <ℤ x0 → int_lt x (int_max a x0) ≡ true
 max_above x0 a x h = grind (arith, ints)
 
--- a square is within the window, or the clamped ring does not wind round it
+-- a square is within the window, or the clamped ring doesn't wind round it
 within_or_level : (w : Window) (ps : List Point) (s : Square) → IsWithin w s ⊎ (winding (map (clamped w) ps) s ≡ pos 0)
 within_or_level w ps s =
     by_lt_z s.x w.x0 (λ a. inr (winding_left s _
@@ -113,7 +113,7 @@ within_or_level w ps s =
     (λ b. inr (winding_right s _
     (all_map (λ q. int_lt s.x q.x ≡ false) (clamped w) (λ p. not_above w.x0 w.x1 p.x s.x a b) ps))))
 
--- the same of a part
+-- the same for a part
 in_or_level : (part : Part) (ps : List Point) (s : Square) → IsIn part s ⊎ (winding (map (put part) ps) s ≡ pos 0)
 in_or_level (Left at) ps s =
     by_lt_z s.x at (λ h. inl h) (λ h. inr (winding_right s _
@@ -128,7 +128,7 @@ pub put_winds_outside : (part : Part) (ps : List Point) (s : Square) → ¬ IsIn
     → winding (map (put part) ps) s ≡ pos 0
 put_winds_outside part ps s out = elim (in_or_level part ps s) [ inl h ↦ absurd (out h) | inr e ↦ e ]
 
--- a ring put into a part covers what the ring covers there
+-- a ring clamped to a part covers exactly the squares of the part that the ring covers
 pub covers_put : (part : Part) (ps : List Point) (s : Square)
     → Covers (map (put part) ps) s ↔ (IsIn part s × Covers ps s)
 covers_put part ps s = (
@@ -156,7 +156,7 @@ right_of_all x a z h g = grind (arith, ints)
 left_of_all : (x a z : ℤ) → a ≤ℤ x → z ≤ℤ a → int_lt x z ≡ false
 left_of_all x a z h g = grind (arith, ints)
 
--- a ring whose points are all beyond covers nothing of the part
+-- a ring whose points are all on the border of a part or beyond it covers no square of the part
 pub beyond_uncovered : (part : Part) (ps : List Point) (s : Square) → All (IsBeyond part) ps → IsIn part s
     → winding ps s ≡ pos 0
 beyond_uncovered (Left at) ps s h i =
@@ -168,7 +168,7 @@ beyond_uncovered (Right at) ps s h i =
 beyond_uncovered (Within w) [] s h i = refl
 beyond_uncovered (Within w) (p ∷ ps) s h i = absurd (All-head (IsBeyond (Within w)) p ps h)
 
--- a ring that stays as it is covers only squares of the part
+-- a ring whose points clamping doesn't change covers only squares of the part
 pub kept_covers : (part : Part) (ps : List Point) (s : Square) → map (put part) ps ≡ ps
     → Covers ps s ↔ (IsIn part s × Covers ps s)
 kept_covers part ps s e =

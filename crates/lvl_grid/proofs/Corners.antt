@@ -10,11 +10,11 @@ use Rattle.lvl_grid.specs.declared.map.Turn.TheVariants.{R0, R90, R180, R270}
 use Rattle.lvl_grid.specs.Turn.{image, image_square}
 use Rattle.lvl_grid.specs.Squares.{IsCornerOf}
 
--- p is where the step from s on begins or ends
+-- p is s or s + 1
 abbrev Ends : ℤ → ℤ → Type 0
 Ends s p = (p ≡ s) ⊎ (p ≡ s +ℤ pos 1)
 
--- the least of two images of the ends, and an end's image: f is what the map does along the axis
+-- along one axis, where the map acts as f: the images of the two ends are the two ends of the image
 abbrev EndsAlso : (ℤ → ℤ) → ℤ → ℤ → ℤ → Type 0
 EndsAlso f d s p = Ends (int_min (f s +ℤ d) (f (s +ℤ pos 1) +ℤ d)) (f p +ℤ d)
 

@@ -47,7 +47,7 @@ same_cut start (e ∷ es) (d ∷ ds) xs ys h g same =
           ∙ sym (parts start d ys g.0))),
     )
 
--- rings in one piece are determined by their list
+-- equal lists of rings have equal ends and equal points
 pub same_rings : (ends others : List ℕ) (points images : List Point) → AreRings ends points → AreRings others images
     → cut_from 0 ends points ≡ cut_from 0 others images → (ends ≡ others) × (points ≡ images)
 same_rings ends others points images a b e = same_cut 0 ends others points images a.rising b.rising e

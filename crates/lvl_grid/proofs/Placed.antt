@@ -1,4 +1,4 @@
--- A ring that was moved and placed is a ring, and covers the places of what it covered.
+-- A ring that was moved and mapped is a ring, and covers exactly the images of the squares that it covered.
 use Rattle.std.proofs.Common.{◌≡◌, Bool, true, false, List, map, ◌+ℤ◌, neg_ℤ, refl, subst, arith, sym, ap, ◌∙◌, inl}
 use Rattle.std.proofs.Common.{inr, All, ◌↔◌}
 use Rattle.std.proofs.lemmas.Int.{ints}
@@ -47,7 +47,7 @@ IsRing-placed m d ps h = record {
 put_back : (d : Point) (s : Square) → moved_square d (moved_square (record { x = neg_ℤ d.x; y = neg_ℤ d.y }) s) ≡ s
 put_back d s = same_square _ _ (omega (arith, ints)) (omega (arith, ints))
 
--- the ring covers the place of a square exactly where it covered the square
+-- the placed ring covers the image of a square exactly if the ring covers the square
 pub covers_place : (m : Map) (d : Point) (ps : List Point) → All IsStraight (edges ps) → (s : Square)
     → Covers (map (placed_point m d) ps) (image_square m (moved_square d s)) ↔ Covers ps s
 covers_place m d ps h s =

@@ -1,4 +1,4 @@
--- Images of squares: they compose as those of points do, and each square is the image of one.
+-- Images of squares: they compose as images of points do, and each square is the image of one square.
 use Rattle.std.proofs.Common.{◌≡◌, Bool, true, false, ℤ, pos, ◌+ℤ◌, neg_ℤ, refl, arith, ap, sym, ◌∙◌}
 use Rattle.std.proofs.lemmas.Int.{ints, clamps}
 use Rattle.lvl_grid.specs.declared.point.Point.{Point}
@@ -17,7 +17,7 @@ pub same_square : (s t : Square) → s.x ≡ t.x → s.y ≡ t.y → s ≡ t
 same_square s t e f =
     let at : (x y : ℤ) → Square = λ x y. record { x = x; y = y } in ap (λ x. at x s.y) e ∙ ap (at t.x) f
 
--- twice the middle of a square
+-- the middle of a square, in half steps
 abbrev middle : Square → Point
 middle s = record { x = s.x +ℤ s.x +ℤ pos 1; y = s.y +ℤ s.y +ℤ pos 1 }
 
@@ -28,7 +28,7 @@ middle_reports : (s t : Square) → middle s ≡ middle t → s ≡ t
 middle_reports s t e =
     same_square s t (half s.x t.x (ap (λ (p : Point). p.x) e)) (half s.y t.y (ap (λ (p : Point). p.y) e))
 
--- the map that does to middles what the map does to squares: its shift counts twice
+-- a map takes middles to middles if its shift is counted in half steps too
 middle_steps : (t : Turn) (f : Bool) (d : Point) (s : Square)
     → middle (image_square (record { flip = f; turn = t; at = d }) s)
     ≡ shifted d (image (record { flip = f; turn = t; at = d }) (middle s))
@@ -44,7 +44,7 @@ middle_steps R270 false d s = same_point _ _ (omega (arith, ints, clamps)) (omeg
 middle-image : (m : Map) (s : Square) → middle (image_square m s) ≡ shifted m.at (image m (middle s))
 middle-image m s = middle_steps m.turn m.flip m.at s
 
--- what a map does without its shift
+-- the map without its shift
 abbrev turned_only : Map → Point → Point
 turned_only m p = turned m.turn (reflected m.flip p)
 
@@ -70,7 +70,7 @@ pub image_of_origin : (m : Map) → image m origin ≡ m.at
 image_of_origin m =
     ap (shifted m.at) (origin_stays m.turn m.flip) ∙ same_point _ _ (zero_plus m.at.x) (zero_plus m.at.y)
 
--- where a map is one after another on points, it is so on squares
+-- a map that is a composition on points is the same composition on squares
 pub image_square-composed : (m n w : Map) → ((p : Point) → image w p ≡ image m (image n p)) → (s : Square)
     → image_square w s ≡ image_square m (image_square n s)
 image_square-composed m n w each s =

@@ -1,4 +1,4 @@
-//! Rings by index, however they are kept.
+//! Lists of rings that are read by index.
 ghost use Rattle.std.specs.Prelude.{◌≡◌, ◌<◌, List, [], length, get_or};
 ghost use Rattle.lvl_grid.specs.declared.point.Point.{Point as GridPoint};
 ghost use Rattle.lvl_grid.specs.Winding.{IsRing};
@@ -11,7 +11,7 @@ pub trait RingList {
     /// Its rings, in order.
     ghost rings: { Self → List (List GridPoint) };
 
-    /// How many rings there are.
+    /// The number of rings.
     fn len(&self) -> usize
         ensures { result ≡ length (rings self.now) };
 

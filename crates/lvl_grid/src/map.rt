@@ -19,7 +19,8 @@ pub enum Turn {
     R270,
 }
 
-/// Reflects about the X axis where `flip` is set, then turns, then shifts by `at`.
+/// Reflects about the X axis if `flip` is set, then turns, then shifts by `at`, as references of
+/// GDSII and placements of OASIS do.
 #[derive(Clone, Copy, Debug, PartialEq, Eq)]
 pub struct Map {
     pub flip: bool,
@@ -28,18 +29,18 @@ pub struct Map {
 }
 
 impl Map {
-    /// The image of a point, or None where a coordinate of it is outside 64 bits. Nothing on the
-    /// way is tested (own rule).
+    /// The image of a point, or None if a coordinate of the image is outside 64 bits. Intermediate
+    /// coordinates may be outside (own rule).
     pub fn place(&self, point: Point) -> Option<Point>
         ensures { SomeIff result (FitsPoint (image self.now point)) (image self.now point) }
     {
         Wide::from_point(point).place(self)
     }
 
-    /// The map that applies `inner`, then `self`, or None where its shift is outside 64 bits.
+    /// The map that applies `inner`, then `self`, or None if its shift is outside 64 bits.
     pub fn then(&self, inner: &Map) -> Option<Map>
         ensures fits { IsSome result ↔ FitsPoint (image self.now inner.now.at) }
-        // In whole numbers without limit, for every point of the grid.
+        // For every point of the unbounded grid.
         ensures composed { IfSome result (λ m. (p : GridPoint) → image m p ≡ image self.now (image inner.now p)) }
     {
         let at = self.place(inner.at)?;
@@ -50,8 +51,8 @@ impl Map {
         })
     }
 
-    /// The image of a point that was moved by `shift` before, or None where a coordinate of the
-    /// image is outside 64 bits. The moved point itself may be outside.
+    /// The image of a point that is first moved by `shift`, or None if a coordinate of the image is
+    /// outside 64 bits. The moved point itself may be outside.
     pub(crate) fn place_moved(&self, shift: Point, point: Point) -> Option<Point>
         ensures { SomeIff result (FitsPoint (placed_point self.now shift point)) (placed_point self.now shift point) }
     {
@@ -59,14 +60,14 @@ impl Map {
     }
 }
 
-/// The law by which a map takes squares to squares: the corners of a square's image are the images of
-/// its corners, and of no other points. It computes nothing.
+/// A law, for proofs: under every map, the corners of a square's image are exactly the images of
+/// its corners. The call does nothing.
 pub fn corners_keep()
     ensures { KeepsCorners }
 {}
 
 impl Turn {
-    /// The turn that makes `first`, then `self`.
+    /// The turn that applies `first`, then `self`.
     fn after(self, first: Turn) -> Turn
         ensures { result ≡ turn_after self first }
     {
@@ -78,7 +79,7 @@ impl Turn {
         }
     }
 
-    /// The turn by a right angle more.
+    /// The turn by a further 90 degrees.
     fn quarter_more(self) -> Turn
         ensures { result ≡ turn_after Turn.R90 self }
     {
@@ -90,7 +91,8 @@ impl Turn {
         }
     }
 
-    /// The turn as it is seen through a reflection, where the flag is set.
+    /// The opposite turn if `flip` is set: to turn and then reflect is to reflect and then turn by
+    /// this one.
     fn mirrored(self, flip: bool) -> Turn
         ensures { result ≡ mirrored flip self }
     {
@@ -102,7 +104,7 @@ impl Turn {
     }
 }
 
-/// A point in 128 bits, in which no map of a point of 65 bits overflows.
+/// A point in 128 bits: maps of points of up to 65 bits don't overflow in it.
 #[derive(Clone, Copy)]
 struct Wide {
     x: i128,
@@ -163,7 +165,7 @@ impl Wide {
         }
     }
 
-    /// The point moved by `shift`, or None where it is outside 64 bits.
+    /// The point moved by `shift`, or None if a coordinate of it is outside 64 bits.
     fn narrowed(self, shift: Point) -> Option<Point>
         requires { IsSmall 64 self }
         ensures { SomeIff result (FitsPoint (shifted shift (as_point self))) (shifted shift (as_point self)) }
@@ -174,7 +176,7 @@ impl Wide {
     }
 }
 
-/// The sum, or None where it is outside 64 bits.
+/// The sum, or None if it is outside 64 bits.
 fn add_narrow(a: i128, b: i64) -> Option<i64>
     requires { unsigned_abs a ≤ 2 ^ 64 }
     ensures { SomeIff result (FitsSigned w64 (a +ℤ b)) (a +ℤ b) }

@@ -4,19 +4,19 @@ ghost use Rattle.lvl_grid.specs.Clip.{put, IsBeyond};
 
 use crate::point::{Point, Window};
 
-/// Some of the grid's squares.
+/// Some of the grid's squares: a half of the grid, or a window.
 #[derive(Clone, Copy, Debug, PartialEq, Eq)]
 pub enum Part {
-    /// Those with `x` less than that.
+    /// The squares with `x` less than this abscissa.
     Left(i64),
-    /// Those with `x` at least that.
+    /// The squares with `x` at least this abscissa.
     Right(i64),
-    /// Those of a window.
+    /// The squares of a window.
     Within(Window),
 }
 
 impl Part {
-    /// The part's point that is nearest, along each axis.
+    /// The point with each coordinate clamped to the part, whose borders are included.
     pub fn put(&self, point: Point) -> Point
         ensures { result ≡ put self.now point }
     {
@@ -36,7 +36,8 @@ impl Part {
         }
     }
 
-    /// Whether the point is not within, nor beside a square that is.
+    /// Whether the point is on the part's border or beyond it. Windows aren't tested: the answer is
+    /// `false`.
     fn is_beyond(&self, point: Point) -> bool
         ensures { IsTrue result → IsBeyond self.now point }
     {
@@ -47,7 +48,8 @@ impl Part {
         }
     }
 
-    /// Whether all points of a ring are beyond: the quick test for nothing.
+    /// Whether all points of a ring are on the part's border or beyond it. Such a ring covers no
+    /// square of the part.
     pub(crate) fn misses(&self, ring: &[Point]) -> bool
         ensures { IsTrue result → All (IsBeyond self.now) ring.now }
     {
@@ -59,7 +61,7 @@ impl Part {
         true
     }
 
-    /// Whether a ring stays as it is.
+    /// Whether clamping to the part changes no point of the ring.
     pub(crate) fn keeps(&self, ring: &[Point]) -> bool
         ensures { IsTrue result → map (put self.now) ring.now ≡ ring.now }
     {

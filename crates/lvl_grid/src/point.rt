@@ -12,8 +12,8 @@ pub struct Point {
 }
 
 impl Point {
-    /// The point that lies this far to the right and this far up, or None where a coordinate of
-    /// it is outside 64 bits.
+    /// The point `right` steps to the right and `up` steps up from this one, or None if a
+    /// coordinate of it is outside 64 bits.
     pub fn offset(self, right: u64, up: u64) -> Option<Point>
         ensures { let far = shifted (record { x = pos right; y = pos up }) self in SomeIff result (FitsPoint far) far }
     {
@@ -23,14 +23,14 @@ impl Point {
     }
 }
 
-/// The sum, or None where it is outside 64 bits.
+/// The sum, or None if it is outside 64 bits.
 fn offset_by(a: i64, by: u64) -> Option<i64>
     ensures { SomeIff result (FitsSigned w64 (a +ℤ pos by)) (a +ℤ pos by) }
 {
     i64::try_from(i128::from(a) + i128::from(by)).ok()
 }
 
-/// The unit square `x..x + 1` by `y..y + 1`, named by its lower left corner.
+/// The unit square from `x` to `x + 1` and from `y` to `y + 1`, named by its lower left corner.
 #[derive(Clone, Copy, Debug, PartialEq, Eq)]
 pub struct Square {
     pub x: i64,
@@ -38,7 +38,7 @@ pub struct Square {
 }
 
 impl Square {
-    /// Whether it comes before the other, by `y` and then by `x`.
+    /// Whether it comes before the other: squares are ordered by `y`, then by `x` (own rule).
     pub fn is_before(self, other: Square) -> bool
         ensures { IsTrue result ↔ IsBefore self other }
     {
@@ -46,7 +46,7 @@ impl Square {
     }
 }
 
-/// The squares with `x0 <= x < x1` and `y0 <= y < y1`.
+/// A rectangle of squares: those with `x0 <= x < x1` and `y0 <= y < y1`.
 #[derive(Clone, Copy, Debug, PartialEq, Eq)]
 pub struct Window {
     pub x0: i64,

@@ -12,13 +12,14 @@ use std::alloc::{AllocError, Global};
 use std::marker::Model;
 use thiserror::Error;
 
-/// Why points are no ring (own rule).
+/// Why a list of points isn't a ring (own rule).
 #[derive(Clone, Copy, Debug, Drop, PartialEq, Eq, Error)]
 pub enum RingFault {
     /// There are fewer than three points.
     #[error("a ring has at least three points")]
     TooFew = 1,
-    /// Some edge, the closing one included, changes both coordinates.
+    /// An edge changes both coordinates. The closing edge is the one from the last point to the
+    /// first.
     #[error("an edge of a ring is parallel to an axis")]
     Oblique = 2,
 }
@@ -26,7 +27,7 @@ pub enum RingFault {
 /// Why a ring could not be placed.
 #[derive(Clone, Copy, Debug, Drop, PartialEq, Eq, Error)]
 pub enum PlaceFault {
-    /// A coordinate of some placed vertex is outside 64 signed bits.
+    /// A coordinate of a placed vertex is outside 64 signed bits.
     #[error("a placed vertex is outside 64 bits")]
     OutOfRange = 1,
     /// An allocation failed.
@@ -34,7 +35,8 @@ pub enum PlaceFault {
     OutOfMemory = 2,
 }
 
-/// A closed ring of points, each edge parallel to an axis.
+/// A closed outline of at least three points, each edge parallel to an axis. Points may repeat and
+/// edges may overlap.
 #[derive(Debug, Drop)]
 pub struct Ring {
     points: Vec<Point>,
@@ -70,7 +72,7 @@ fn falls_past(square: Square, from: Point, to: Point) -> bool
     square.x < from.x && to.y <= square.y && square.y < from.y
 }
 
-/// Whether each edge is parallel to an axis.
+/// Whether each edge, the closing one included, is parallel to an axis.
 fn all_straight(points: &[Point]) -> bool
     requires { 0 < length points.now }
     ensures { IsTrue result ↔ All IsStraight (edges points.now) }
@@ -85,7 +87,7 @@ fn all_straight(points: &[Point]) -> bool
     true
 }
 
-/// Whether the ring of these points covers the square.
+/// Whether the winding of these points at the square isn't 0.
 pub(crate) fn winds_round(points: &[Point], square: Square) -> bool
     requires { 0 < length points.now }
     ensures { IsTrue result ↔ Covers points.now square }
@@ -106,7 +108,7 @@ pub(crate) fn winds_round(points: &[Point], square: Square) -> bool
 }
 
 impl Ring {
-    /// The ring of these points.
+    /// The ring of these points, or why they aren't one.
     pub fn new(points: Vec<Point>) -> Result<Ring, RingFault>
         ensures ok { IfOk result (λ ring. (ring ≡ points.items) × IsRing points.items) }
         ensures err { IfErr result (λ fault. IsFaultOf points.items fault) }
@@ -144,15 +146,15 @@ impl Ring {
         self.points.as_slice()
     }
 
-    /// Whether it covers the square.
+    /// Whether it covers the square: its winding there isn't 0 (own rule).
     pub fn covers(&self, square: Square) -> bool
         ensures { IsTrue result ↔ Covers self.now square }
     {
         winds_round(&self.points, square)
     }
 
-    /// The ring of the images of its points, each moved by `shift` before. Only the images are
-    /// tested for 64 bits, so a moved point may be outside (own rule).
+    /// The ring of the images of its points, each first moved by `shift`. Only the images must be
+    /// within 64 bits, a moved point may be outside (own rule).
     pub fn placed(&self, alloc: Global, shift: Point, by: &Map) -> Result<Ring, PlaceFault>
         ensures points { IfOk result (λ ring. ring ≡ map (placed_point by.now shift) self.now) }
         ensures covers { IfOk result

@@ -1,4 +1,4 @@
-//! Many rings in one piece: all points in one list, and where each ring ends.
+//! Lists of rings: all their points in one list, and the index at which each ring ends.
 ghost use Rattle.std.specs.Prelude.{◌≡◌, ◌<◌, ◌≤◌, ◌-◌, ◌<ℤ◌, ◌≤ℤ◌, List, take, drop, map, Any, All, ◌⊎◌, ◌↔◌, ◌++◌};
 ghost use Rattle.std.specs.Prelude.{◌∷◌, [], length, flat_map, get_or, IsTrue, IsSome, IfSome, IfOk, OnOk, OnErr};
 ghost use Rattle.lvl_grid.specs.declared.point.Square.{Square as GridSquare};
@@ -17,8 +17,8 @@ use crate::tidy::extend_clipped;
 use std::alloc::{AllocError, Global};
 use std::marker::Model;
 
-/// A list of rings in one piece: no ring has a list of its own, so a pass over many rings reads
-/// memory in order, and a ring more takes no allocation of its own.
+/// A list of rings. The points of all rings are in one list, so a pass over many rings reads memory
+/// in order, and no ring has an allocation of its own.
 #[derive(Debug, Drop)]
 pub struct Rings {
     points: Vec<Point>,
@@ -37,7 +37,7 @@ impl Model for Rings {
     ghost invariant = { λ r. AreRings r.ends.items r.points.items };
 }
 
-/// Where the piece at this index begins.
+/// The index of the first point of ring `i`, given the index at which each ring ends.
 fn begin(ends: &[usize], i: usize) -> usize
     requires { i < length ends.now }
     ensures { result ≡ begin_of 0 ends.now i }
@@ -48,7 +48,7 @@ fn begin(ends: &[usize], i: usize) -> usize
     ends[i - 1]
 }
 
-/// The points from one index up to another.
+/// The points with an index from `start` up to `end`, which is excluded.
 fn stretch(points: &[Point], start: usize, end: usize) -> &[Point]
     requires rising { start ≤ end }
     requires inside { end ≤ length points.now }
@@ -57,7 +57,8 @@ fn stretch(points: &[Point], start: usize, end: usize) -> &[Point]
     &points[start..end]
 }
 
-/// Appends the images of a ring's points, each moved by `shift` before it is mapped.
+/// Appends the images of a ring's points, each moved by `shift` before it is mapped. If that fails,
+/// nothing is appended.
 fn extend_placed(
     points: &mut Vec<Point>,
     ring: &[Point],
@@ -84,8 +85,8 @@ fn extend_placed(
     Ok(())
 }
 
-/// Appends to `left` and `right` what is left of a ring on both sides of an abscissa. Most rings are
-/// on one side.
+/// Appends the part of a ring with `x < at` to `left`, and the rest to `right`. Most rings are on
+/// one side.
 fn push_split(
     ring: &[Point],
     at: i64,
@@ -110,7 +111,7 @@ fn push_split(
 }
 
 impl Rings {
-    /// No rings.
+    /// An empty list. Allocates nothing.
     pub fn new(alloc: Global) -> Rings
         ensures { result ≡ [] }
     {
@@ -120,7 +121,7 @@ impl Rings {
         }
     }
 
-    /// No rings, with room for `points` points and `rings` rings.
+    /// An empty list with room for `points` points in all and for `rings` rings.
     pub fn with_capacity(alloc: Global, points: usize, rings: usize) -> Result<Rings, AllocError>
         ensures { IfOk result (λ rings. rings ≡ []) }
     {
@@ -141,7 +142,7 @@ impl Rings {
         Ok(rings)
     }
 
-    /// How many rings there are.
+    /// The number of rings.
     pub fn len(&self) -> usize
         ensures { result ≡ length self.now }
     {
@@ -178,14 +179,14 @@ impl Rings {
         Some(self.ring(i))
     }
 
-    /// The points of all rings together, ring by ring.
+    /// The points of all rings, ring by ring.
     pub fn points(&self) -> &[Point]
         ensures { result.now ≡ flat_map (λ ring. ring) self.now }
     {
         &self.points
     }
 
-    /// Whether both are the same rings, point by point and in one order.
+    /// Whether both have the same rings in the same order, point by point.
     pub fn is_same(&self, other: &Rings) -> bool
         ensures { IsTrue result ↔ (self.now ≡ other.now) }
     {
@@ -205,7 +206,7 @@ impl Rings {
         false
     }
 
-    /// Appends a ring.
+    /// Appends a ring, given by its points. If there is no memory for it, nothing is appended.
     pub fn push(&mut self, ring: &[Point]) -> Result<(), AllocError>
         requires { IsRing ring.now }
         ensures ok { OnOk result (self.new ≡ self.old ++ ring.now ∷ []) }
@@ -217,7 +218,7 @@ impl Rings {
         Ok(())
     }
 
-    /// Appends a ring that was kept by itself.
+    /// Appends a ring. If there is no memory for it, nothing is appended.
     pub fn push_ring(&mut self, ring: &Ring) -> Result<(), AllocError>
         ensures ok { OnOk result (self.new ≡ self.old ++ ring.now ∷ []) }
         ensures err { OnErr result (self.new ≡ self.old) }
@@ -225,7 +226,8 @@ impl Rings {
         self.push(ring.points())
     }
 
-    /// Appends the rings of a slice, in the same order; if there is no memory for one of them, none.
+    /// Appends the rings of a slice, in the same order. If there is no memory for one of them,
+    /// nothing is appended.
     pub fn push_all(&mut self, slice: &[Ring]) -> Result<(), AllocError>
         ensures ok { OnOk result (self.new ≡ self.old ++ slice.now) }
         ensures err { OnErr result (self.new ≡ self.old) }
@@ -240,7 +242,7 @@ impl Rings {
         Ok(())
     }
 
-    /// Keeps the first `count` rings, or all if there are no more.
+    /// Keeps the first `count` rings, or all if there are fewer.
     pub fn truncate(&mut self, count: usize)
         ensures { self.new ≡ take count self.old }
     {
@@ -253,7 +255,8 @@ impl Rings {
     }
 
     /// Appends the image of a ring, each of its points moved by `shift` before it is mapped. Only
-    /// the images are tested for 64 bits, so a moved point may be outside (own rule).
+    /// the images must be within 64 bits, a moved point may be outside (own rule). If that fails,
+    /// nothing is appended.
     pub fn push_placed(&mut self, ring: &[Point], shift: Point, by: &Map) -> Result<(), PlaceFault>
         requires { IsRing ring.now }
         ensures ok { OnOk result (self.new ≡ self.old ++ map (placed_point by.now shift) ring.now ∷ []) }
@@ -272,7 +275,8 @@ impl Rings {
         Ok(())
     }
 
-    /// Appends what is left of a ring in the part, if anything is.
+    /// Appends a ring that covers what the given ring covers within the part, or nothing if that is
+    /// no square. If there is no memory for it, nothing is appended.
     pub fn push_clipped(&mut self, part: &Part, ring: &[Point]) -> Result<(), AllocError>
         requires { IsRing ring.now }
         ensures covers { OnOk result ((s : GridSquare)
@@ -295,7 +299,7 @@ impl Rings {
         Ok(())
     }
 
-    /// What is left of the rings of a list in the part.
+    /// The rings of a list, clipped to the part.
     pub fn clipped<R: RingList>(alloc: Global, rings: &R, part: &Part) -> Result<Rings, AllocError>
         ensures { IfOk result
             (λ clipped. (s : GridSquare)
@@ -308,8 +312,8 @@ impl Rings {
         Ok(clipped)
     }
 
-    /// No rings, with room for three quarters of the points and of the rings: half of a list seldom
-    /// has more.
+    /// An empty list with room for three quarters of the points and of the rings: a half of a list
+    /// seldom has more.
     fn half_room(&self, alloc: Global) -> Result<Rings, AllocError>
         ensures { IfOk result (λ half. half ≡ []) }
     {
@@ -318,8 +322,7 @@ impl Rings {
         Rings::with_capacity(alloc, points - points / 4, rings - rings / 4)
     }
 
-    /// What is left of the rings in the squares with `x < at`, and what is left of them in the
-    /// others, in one pass.
+    /// The rings clipped to the squares with `x < at`, and the rings clipped to the others.
     pub fn split_at(&self, alloc: Global, at: i64) -> Result<(Rings, Rings), AllocError>
         ensures left { IfOk result
             (λ parts. (s : GridSquare) → SomeCovers parts.0 s ↔ ((s.x <ℤ at) × SomeCovers self.now s)) }

@@ -1,4 +1,4 @@
-//! Rings clipped at the end of a list of points, without the points that they can do without.
+//! Clipped rings, appended to a list of points without the points that may be dropped.
 ghost use Rattle.std.specs.Prelude.{◌≡◌, ◌<◌, ◌≤◌, ◌+◌, ◌++◌, ◌∷◌, List, take, drop, vec_len, vec_capacity, length};
 ghost use Rattle.std.specs.Prelude.{◌↔◌, IsTrue, OnOk, OnErr};
 ghost use Rattle.lvl_grid.specs.declared.point.Point.{Point as GridPoint};
@@ -10,14 +10,15 @@ use crate::part::Part;
 use crate::point::Point;
 use std::alloc::AllocError;
 
-/// Whether three points have one abscissa or one ordinate.
+/// Whether three points have the same abscissa or the same ordinate.
 fn are_level(a: Point, b: Point, c: Point) -> bool
     ensures { IsTrue result ↔ AreLevel a b c }
 {
     a.x == b.x && b.x == c.x || a.y == b.y && b.y == c.y
 }
 
-/// Whether the last point from `start` on is needless before the next.
+/// Whether the last point may be dropped if `next` comes after it: it is level with `next` and with
+/// the point before it. Only points from index `start` on count.
 fn is_last_needless(points: &[Point], start: usize, next: Point) -> bool
     requires { start ≤ length points.now }
     ensures { IsTrue result → IsLastNeedless (drop start points.now) next }
@@ -29,7 +30,8 @@ fn is_last_needless(points: &[Point], start: usize, next: Point) -> bool
     are_level(points[len - 2], points[len - 1], next)
 }
 
-/// Appends a point to those from `start` on, once the last ones that are needless before it are dropped.
+/// Drops the last points from index `start` on as long as they are needless before `point`, then
+/// appends `point`.
 fn push_tidied(points: &mut Vec<Point>, start: usize, point: Point)
     requires from { start ≤ vec_len points.old }
     requires room { vec_len points.old < vec_capacity points.old }
@@ -46,7 +48,8 @@ fn push_tidied(points: &mut Vec<Point>, start: usize, point: Point)
     points.push_reserved(point);
 }
 
-/// Drops the last of the points from `start` on while they are needless before the first.
+/// Drops the last points from index `start` on as long as they are needless before the first of
+/// these points, which comes after them in the ring.
 fn close_tidied(points: &mut Vec<Point>, start: usize)
     requires { start ≤ vec_len points.old }
     ensures kept { take start points.new.items ≡ take start points.old.items }
@@ -61,7 +64,8 @@ fn close_tidied(points: &mut Vec<Point>, start: usize)
     }
 }
 
-/// Appends what is left of the ring in the part, if anything is.
+/// Appends the points of a ring that covers what `ring` covers within the part, or nothing if fewer
+/// than three points are left.
 pub(crate) fn extend_clipped(
     points: &mut Vec<Point>,
     part: &Part,

@@ -1,4 +1,4 @@
--- Elements of a list by their index, and two tests that pass of the same.
+-- Elements of a list by their index, and two tests that agree.
 use Rattle.std.proofs.Common.{◌≡◌, ℕ, Bool, true, false, List, Some, Contains, refl, sym, ap, ◌∙◌}
 use Rattle.std.specs.List.{slice_get}
 use Rattle.std.proofs.lemmas.Option.{slice_get_within, slice_get-get_or, get_or_from_slice_get}

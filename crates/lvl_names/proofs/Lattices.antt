@@ -1,4 +1,4 @@
--- Every place of a lattice fits where its far corner does.
+-- All shifts of a lattice fit if those at its corners do.
 use Rattle.std.proofs.Common.{◌≡◌, ℕ, suc, ◌+◌, ◌-◌, ◌*◌, ◌/◌, ◌%◌, ◌<◌, ◌≤◌, Bool, ◌&&◌, true, int_eq, List, [], ◌∷◌}
 use Rattle.std.proofs.Common.{length, get_or, ℤ, pos, negsuc, ◌+ℤ◌, ◌*ℤ◌, ◌≤ℤ◌, ◌⊎◌, inl, inr, Option, Some, None}
 use Rattle.std.proofs.Common.{is_some, IsTrue, SomeIff, ◌↔◌, All, refl, sym, ap, ◌∙◌, subst, ⊎_elim, arith, rules}
@@ -19,7 +19,7 @@ use Rattle.lvl_names.specs.inside.Keeping.{StaysWithin, HasFarCorner, IsKept, ke
 use Rattle.lvl_names.specs.declared.offsets.Kept.{Kept}
 use Rattle.lvl_names.specs.declared.offsets.Kept.TheVariants.{Lattice as ByLattice}
 
--- shifts of which there is one are the zero shift alone
+-- a list of one shift is the zero shift alone
 pub one_is : (shifts : List Point) → StartsAtZero shifts → length shifts ≡ 1 → shifts ≡ one_place
 one_is [] z h = absurd (omega (arith, h))
 one_is (p ∷ []) z h = cc
@@ -73,7 +73,7 @@ stays_where a i b j across up o fa fb ea eb h =
     let w = some_where o _ _ both in
     (λ t. record { across = fa; up = fb; both = w.0 t }, λ s. w.1 s.both)
 
--- a place of the lattice, by its column and row
+-- the index of a shift of the lattice, by its column and row
 pub place_in : (k m n : ℕ) → 0 < m → k < m * n → (k % m < m) × (k / m < n)
 place_in k m n hm hk = (omega arith, (div-lt_iff_lt-mul hm).1 (omega arith))
 
@@ -103,7 +103,7 @@ pub place_fits : (a : Point) (m : ℕ) (b : Point) (n k : ℕ) → HasFarCorner 
 place_fits a m b n k c h =
     (place_stays a.x m b.x n k c.counts.columns h c.xs, place_stays a.y m b.y n k c.counts.columns h c.ys)
 
--- what holds of all places holds of the one in a column and a row
+-- what holds of all shifts holds of the one in a column and a row
 in_lattice : (P : Point → Type 0) (a : Point) (m : ℕ) (b : Point) (n i j : ℕ) → All P (lattice a m b n) → i < m → j < n
     → P (steps a i b j)
 in_lattice P a m b n i j all hi hj =
@@ -117,7 +117,7 @@ in_lattice P a m b n i j all hi hj =
     ∙ rw (mod-mul-add j m i hi, div-mul-add j m i hi) refl in
     subst P e at
 
--- what holds in each column and row holds of all places
+-- what holds in each column and row holds of all shifts
 over_lattice : (P : Point → Type 0) (a : Point) (m : ℕ) (b : Point) (n : ℕ) → 0 < m
     → ((i j : ℕ) → i < m → j < n → P (steps a i b j)) → All P (lattice a m b n)
 over_lattice P a m b n hm each =
@@ -185,7 +185,7 @@ lattice_zero a m b n c =
     let row : 0 / m ≡ 0 = omega (arith, (place_in 0 m 1 columns (omega arith)).1) in
     lattice_at a m b n 0 lt ∙ rw (col, row, zero_times a.x, zero_times b.x, zero_times a.y, zero_times b.y) refl
 
--- the kept lattice, as it is seen
+-- if a lattice is stored, the list of shifts is that of the lattice
 pub seen_lattice : (k : Kept) (a : Point) (m : ℕ) (b : Point) (n : ℕ) (now : List Point) → k ≡ ByLattice a m b n
     → kept_shifts k ≡ now → lattice a m b n ≡ now
 seen_lattice k a m b n now is view = ap kept_shifts (sym is) ∙ view
@@ -211,7 +211,7 @@ moved_sum t v w y z hv hw ft fy fz f =
     (λ k. ⊎_elim (λ l. omega (arith, ints, k.0, k.1, l.0, l.1)) (λ l. omega (arith, ints, k.0, k.1, l.0, l.1)) hw.way)
     hv.way
 
--- along one axis: a place fits once it is moved, where the corners do
+-- along one axis: a shift fits after a move if those at the corners do
 moved_axis : (t a : ℤ) (i p : ℕ) (b : ℤ) (j q : ℕ) → i ≤ p → j ≤ q → SFits w64 t
     → SFits w64 (((pos p *ℤ a) +ℤ (pos 0 *ℤ b)) +ℤ t) → SFits w64 (((pos 0 *ℤ a) +ℤ (pos q *ℤ b)) +ℤ t)
     → SFits w64 (((pos p *ℤ a) +ℤ (pos q *ℤ b)) +ℤ t)
@@ -222,7 +222,7 @@ moved_axis t a i p b j q hi hj ft across up far =
     moved_sum t _ _ _ _ (fewer_steps i p a hi) (fewer_steps j q b hj) ft (omega (arith, ints, y))
     (omega (arith, ints, z)) far
 
--- all places fit once they are moved, exactly where the corners do
+-- all shifts fit after a move exactly if those at the corners do
 pub corners_moved : (by a : Point) (m : ℕ) (b : Point) (n : ℕ) → FitsPoint by → HasFarCorner a m b n
     → (FitsPoint (shifted by (steps a (m - 1) b 0)) × FitsPoint (shifted by (steps a 0 b (n - 1)))
     × FitsPoint (shifted by (steps a (m - 1) b (n - 1)))) ↔ All (λ e. FitsPoint (shifted by e)) (lattice a m b n)
@@ -249,7 +249,7 @@ corners_moved by a m b n fits c =
 points_same : (p q : Point) (same : Bool) → same ≡ (int_eq p.x q.x && int_eq p.y q.y) → same ≡ true → p ≡ q
 points_same p q same e t = same_point p q (grind (arith, ints, e, t)) (grind (arith, ints, e, t))
 
--- lattices of the same steps and counts are the same shifts
+-- lattices of the same steps and counts have the same shifts
 pub same_lattice : (k l : Kept) (a : Point) (m : ℕ) (b : Point) (n : ℕ) (c : Point) (p : ℕ) (d : Point) (q : ℕ)
     (steps rows : Bool) (xs ys : List Point)
     → k ≡ ByLattice a m b n → l ≡ ByLattice c p d q → kept_shifts k ≡ xs → kept_shifts l ≡ ys
@@ -283,7 +283,7 @@ sum_between v w y z l h hv hw a b c d e f g k =
     hw.way)
     hv.way
 
--- along one axis: the places of a lattice are between the least and the greatest of its corners
+-- along one axis: the shifts of a lattice are between the least and the greatest of those at its corners
 axis_between : (a : ℤ) (i p : ℕ) (b : ℤ) (j q : ℕ) → i ≤ p → j ≤ q → let across : ℤ = (pos p *ℤ a) +ℤ (pos 0 *ℤ b) in
     let up : ℤ = (pos 0 *ℤ a) +ℤ (pos q *ℤ b) in
     let far : ℤ = (pos p *ℤ a) +ℤ (pos q *ℤ b) in
@@ -308,7 +308,7 @@ low_of p q = record { x = int_min p.x q.x; y = int_min p.y q.y }
 abbrev pub high_of : Point → Point → Point
 high_of p q = record { x = int_max p.x q.x; y = int_max p.y q.y }
 
--- all places of a lattice are between the least and the greatest of its corners
+-- all shifts of a lattice are between the least and the greatest of those at its corners
 pub lattice_between : (a : Point) (m : ℕ) (b : Point) (n : ℕ) → HasFarCorner a m b n
     → let zero : Point = record { x = pos 0; y = pos 0 } in
     let across : Point = steps a (m - 1) b 0 in

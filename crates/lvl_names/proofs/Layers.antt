@@ -1,4 +1,4 @@
--- The order of the Layers, and when two are one.
+-- The order of Layers, and when two are equal.
 use Rattle.std.proofs.Common.{◌≡◌, ℕ, inl, inr, refl, ap, arith, ◌∙◌, ◌==◌, ◌&&◌, not, true, false}
 use Rattle.lvl_names.specs.declared.layer.Layer.{Layer}
 use Rattle.lvl_names.specs.Layers.{ComesBefore, same_layer}
@@ -18,7 +18,7 @@ layers_equal a b e f =
     let of : (x y : ℕ) → Layer = λ x y. record { layer = x; datatype = y } in
     ap (λ x. of x a.datatype) e ∙ ap (of b.layer) f
 
--- what the two tests of a Layer say
+-- the comparison of both numbers decides whether two Layers are equal
 pub tested_layer : (a b : Layer) → not (a.layer == b.layer && (a.datatype == b.datatype)) ≡ false → a ≡ b
 tested_layer a b e = layers_equal a b (grind arith) (grind arith)
 

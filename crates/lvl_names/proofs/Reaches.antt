@@ -1,4 +1,4 @@
--- The corners of a list of shifts.
+-- The bounds of a list of shifts.
 use Rattle.std.proofs.Common.{◌≡◌, ℕ, ◌+◌, ◌<◌, Bool, true, false, cond, int_lt, List, length, map, take, get_or, ℤ}
 use Rattle.std.proofs.Common.{◌+ℤ◌, ◌≤ℤ◌, ◌↔◌, All, Contains, Some, sym, ap, ◌∙◌, subst, arith}
 use Rattle.std.specs.List.{slice_get}
@@ -44,7 +44,7 @@ reaches_one shifts k e h = record {
   above = among ordinate shifts k e h;
 }
 
--- corners that are reached are so once they are widened by one of the shifts
+-- bounds that shifts reach are still reached after they are widened to hold one of the shifts
 pub reaches_further : (low high e : Point) (shifts : List Point) → IsReached low high shifts → IsReached e e shifts
     → IsReached (least low e) (greatest high e) shifts
 reaches_further low high e shifts r s =
@@ -57,7 +57,7 @@ reaches_further low high e shifts r s =
       above = either ys (int_lt e.y high.y) high.y e.y r.above s.above;
     }
 
--- what is between the corners is so once they are widened
+-- what is between bounds is between the widened ones
 between_wider : (low high e p : Point) → IsBetween low high p → IsBetween (least low e) (greatest high e) p
 between_wider low high e p h = record {
   left = omega (arith, ints, clamps, h.left);
@@ -91,7 +91,7 @@ at_reached : (f : Point → ℤ) (P : ℤ → Type 0) (shifts : List Point) (z :
     → Contains (map f shifts) z → P z
 at_reached f P shifts z all there = All-contains P (map f shifts) z (All-map P f shifts all) there
 
--- all shifts fit once they are moved, exactly where the corners do
+-- all shifts fit after a move exactly if the bounds do
 pub bounds_moved : (by : Point) (list : BoundedList) → IsBounded list
     → (FitsPoint (shifted by list.low) × FitsPoint (shifted by list.high))
     ↔ All (λ e. FitsPoint (shifted by e)) list.shifts.items

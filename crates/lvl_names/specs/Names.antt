@@ -1,6 +1,6 @@
--- What the name of a cell is.
+-- Names of cells (own rule for both formats).
 use Rattle.std.specs.Prelude.{ℕ, ◌<◌, ◌≤◌, List, length, All}
 
--- a name has 1 to 255 bytes, each of them printed and no space
+-- the bytes are a name: 1 to 255 bytes, each a printable character of ASCII other than space
 abbrev pub IsName : List ℕ → Type 0
 IsName bytes = (0 < length bytes) × (length bytes ≤ 255) × All (λ b. (0x21 ≤ b) × (b ≤ 0x7E)) bytes

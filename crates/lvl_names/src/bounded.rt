@@ -1,4 +1,4 @@
-//! Lists of shifts that keep how far they reach.
+//! Lists of shifts with their bounds.
 ghost use Rattle.std.specs.Prelude.{◌≡◌, All};
 ghost use Rattle.std.specs.Int.{int_min, int_max};
 ghost use Rattle.lvl_names.specs.inside.Keeping.{IsBounded, IsReached};
@@ -6,8 +6,8 @@ ghost use Rattle.lvl_names.specs.Shifts.{IsBetween, StartsAtZero};
 
 use lvl_grid::Point;
 
-/// A list of shifts with the least and the greatest of their coordinates. Where these fit once they
-/// are moved, all shifts do, so that a record which shares the list costs no walk along it.
+/// A list of shifts with the least and the greatest of their coordinates. If these fit in 64 bits
+/// after a move, all shifts do, so a record that shares the list needs no pass over it.
 #[derive(Debug, Drop)]
 pub(crate) struct BoundedList {
     pub shifts: Vec<Point>,
@@ -15,7 +15,7 @@ pub(crate) struct BoundedList {
     pub high: Point,
 }
 
-/// The lesser of both, along each axis.
+/// The lesser abscissa and the lesser ordinate of two points.
 pub(crate) fn lesser(a: Point, b: Point) -> Point
     ensures { result ≡ record { x = int_min a.x b.x; y = int_min a.y b.y } }
 {
@@ -25,7 +25,7 @@ pub(crate) fn lesser(a: Point, b: Point) -> Point
     }
 }
 
-/// The greater of both, along each axis.
+/// The greater abscissa and the greater ordinate of two points.
 pub(crate) fn greater(a: Point, b: Point) -> Point
     ensures { result ≡ record { x = int_max a.x b.x; y = int_max a.y b.y } }
 {
@@ -35,7 +35,7 @@ pub(crate) fn greater(a: Point, b: Point) -> Point
     }
 }
 
-/// The least and the greatest of the coordinates of shifts, of which the first is zero.
+/// The least and the greatest coordinates of a list of shifts that begins with zero.
 pub(crate) fn reach_of(shifts: &[Point]) -> (Point, Point)
     requires { StartsAtZero shifts.now }
     ensures between { All (IsBetween result.0 result.1) shifts.now }
@@ -51,7 +51,7 @@ pub(crate) fn reach_of(shifts: &[Point]) -> (Point, Point)
 }
 
 impl BoundedList {
-    /// These shifts, of which the first is zero.
+    /// The list of these shifts with their bounds. The first shift is zero.
     pub(crate) fn new(shifts: Vec<Point>) -> BoundedList
         requires { StartsAtZero shifts.items }
         ensures same { result.shifts ≡ shifts }

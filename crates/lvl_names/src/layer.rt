@@ -1,8 +1,9 @@
-//! Layers: what shapes are on.
+//! Layers: a layer and a datatype.
 ghost use Rattle.std.specs.Prelude.{◌↔◌, IsTrue};
 ghost use Rattle.lvl_names.specs.Layers.{ComesBefore};
 
-/// A layer and a datatype; layers are ordered by the layer, then by the datatype.
+/// What a shape is on: a layer and a datatype. They are ordered by `layer`, then by `datatype` (own
+/// rule).
 #[derive(Clone, Copy, Debug, PartialEq, Eq, PartialOrd, Ord)]
 pub struct Layer {
     pub layer: u32,

@@ -1,9 +1,9 @@
 //! Layers, names of cells, and shifts: the values that cells and the records of both formats share.
 //!
-//! A [`Layer`] is a layer and a datatype, which is what shapes are on. A [`Name`] is the name by
-//! which a cell is referred to, and [`is_name`] says which bytes are one. [`Offsets`] are the shifts
-//! at which a shape or a cell is repeated; a lattice of them is kept as such, and a list can be
-//! shared.
+//! Each shape is on a [`Layer`], a layer and a datatype. A [`Name`] is the name by which a cell is
+//! referred to, and [`is_name`] says which bytes are one. [`Offsets`] are the shifts at which a
+//! shape or a cell is repeated. A lattice of shifts is kept by its steps and counts, and clones can
+//! share a list of shifts.
 //!
 //! ```
 //! let across = Point { x: 10, y: 0 };

@@ -6,10 +6,11 @@ use std::alloc::AllocError;
 use std::marker::Model;
 use std::rc::RcSlice;
 
-/// The most bytes of a cell's name (own rule).
+/// The greatest number of bytes of a cell's name (own rule).
 pub const MOST_NAME_BYTES: usize = 255;
 
-/// The name of a cell that is referred to, as bytes. Its clones share them.
+/// The bytes by which a reference names a cell. Clones share them. [`Name::new`] takes any bytes;
+/// [`is_name`] says which are a name.
 #[derive(Debug, Drop)]
 pub struct Name {
     bytes: RcSlice<u8>,
@@ -35,7 +36,7 @@ impl Clone for Name {
 }
 
 impl Name {
-    /// These bytes.
+    /// A name of these bytes, which aren't checked.
     pub fn new(bytes: Vec<u8>) -> Result<Name, AllocError>
         ensures { IfOk result (λ name. name ≡ bytes.items) }
     {
@@ -52,8 +53,8 @@ impl Name {
     }
 }
 
-/// Whether these bytes are a cell's name: 1 to 255 bytes, each of 0x21 to 0x7E (own rule; both
-/// formats allow these bytes, as do the name strings of SEMI P39).
+/// Whether these bytes are a cell's name: 1 to 255 bytes, each from 0x21 to 0x7E (own rule for both
+/// formats; the bytes are those of a name string of SEMI P39 OASIS 1.0).
 pub fn is_name(bytes: &[u8]) -> bool
     ensures { IsTrue result ↔ IsName bytes.now }
 {

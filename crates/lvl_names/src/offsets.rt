@@ -1,4 +1,4 @@
-//! Shifts: the displacements at which a shape or a cell stands, kept as a list or as a lattice.
+//! Shifts: the displacements at which a shape or a cell is repeated, as a list or as a lattice.
 ghost use Rattle.std.specs.Prelude.{◌≡◌, ◌<◌, ◌↔◌, ◌^◌, length, slice_get, pos, ◌+ℤ◌, ◌*ℤ◌, FitsSigned, IsTrue, IsSome};
 ghost use Rattle.std.specs.Prelude.{IfSome, SomeIff, All};
 ghost use Rattle.std.specs.Int.{w64};
@@ -13,10 +13,10 @@ use std::marker::Model;
 use std::mem;
 use std::rc::Rc;
 
-/// The most places of a lattice.
+/// The greatest number of shifts of a lattice (own rule).
 const MOST_PLACES: u64 = 16_777_216;
 
-/// How shifts are kept.
+/// How shifts are stored. A lattice has a step and a count along each of its two directions.
 #[derive(Debug, Drop)]
 enum Kept {
     List(Vec<Point>),
@@ -24,11 +24,11 @@ enum Kept {
     Lattice(Point, u64, Point, u64),
 }
 
-/// A list of shifts in grid steps, of which the first is zero.
+/// A list of shifts in grid steps. It isn't empty, and its first shift is zero.
 ///
-/// A lattice is kept by its two steps and counts, and never written out; it is the same list of
-/// shifts to those who look at it. A clone of a lattice takes no memory, nor does one of a list that
-/// is shared ([`Offsets::share`]): all its clones have the one list.
+/// A lattice is stored as two steps and two counts, never as a list, but reads like the list of its
+/// shifts. A clone of a lattice allocates nothing, nor does one of a list that is shared
+/// ([`Offsets::share`]): all its clones use the same list.
 #[derive(Debug, Drop)]
 pub struct Offsets {
     kept: Kept,
@@ -60,7 +60,7 @@ impl Clone for Offsets {
     }
 }
 
-/// `i` steps by `a` and `j` steps by `b`, along one axis.
+/// The displacement of `i` steps by `a` and `j` steps by `b`, along one axis.
 fn step(a: i64, i: u64, b: i64, j: u64) -> i64
     requires stays { StaysWithin a i b j }
     requires i_small { i < 2 ^ 63 }
@@ -70,7 +70,7 @@ fn step(a: i64, i: u64, b: i64, j: u64) -> i64
     i as i64 * a + j as i64 * b
 }
 
-/// `i` steps by `a` and `j` steps by `b`.
+/// The displacement of `i` steps by `a` and `j` steps by `b`.
 fn point_at(a: Point, i: u64, b: Point, j: u64) -> Point
     requires xs { StaysWithin a.x i b.x j }
     requires ys { StaysWithin a.y i b.y j }
@@ -84,7 +84,7 @@ fn point_at(a: Point, i: u64, b: Point, j: u64) -> Point
     }
 }
 
-/// The product, or None where it is outside 64 bits.
+/// The product, or None if it is outside 64 bits.
 fn times(i: u64, a: i64) -> Option<i64>
     requires { i < 2 ^ 63 }
     ensures { SomeIff result (FitsSigned w64 (pos i *ℤ a)) (pos i *ℤ a) }
@@ -92,7 +92,7 @@ fn times(i: u64, a: i64) -> Option<i64>
     (i as i64).checked_mul(a)
 }
 
-/// Whether `i` steps by `a` and `j` steps by `b` fit 64 bits, apart and together.
+/// Whether `i` steps by `a`, `j` steps by `b`, and their sum each fit in 64 bits.
 fn stays(a: i64, i: u64, b: i64, j: u64) -> bool
     requires i_small { i < 2 ^ 63 }
     requires j_small { j < 2 ^ 63 }
@@ -107,7 +107,7 @@ fn stays(a: i64, i: u64, b: i64, j: u64) -> bool
     across.checked_add(up).is_some()
 }
 
-/// Whether both counts are at least one, and the product is within the limit.
+/// Whether both counts are at least 1 and their product is at most [`MOST_PLACES`].
 fn are_few(m: u64, n: u64) -> bool
     ensures few { IsTrue result ↔ AreFew m n }
     ensures small { IsTrue result → (m < 2 ^ 63) × (n < 2 ^ 63) }
@@ -118,7 +118,8 @@ fn are_few(m: u64, n: u64) -> bool
     n <= MOST_PLACES / m
 }
 
-/// Whether these give a lattice of few shifts that all fit.
+/// Whether the lattice has at least one and at most [`MOST_PLACES`] shifts, all of which fit in 64
+/// bits. The shifts at its corners decide.
 fn has_far_corner(a: Point, m: u64, b: Point, n: u64) -> bool
     ensures { IsTrue result ↔ HasFarCorner a m b n }
 {
@@ -128,21 +129,21 @@ fn has_far_corner(a: Point, m: u64, b: Point, n: u64) -> bool
     stays(a.x, m - 1, b.x, n - 1) && stays(a.y, m - 1, b.y, n - 1)
 }
 
-/// Whether the point fits 64 bits once it is moved.
+/// Whether the point, moved by `by`, fits in 64 bits.
 fn fits_moved(by: Point, point: Point) -> bool
     ensures { IsTrue result ↔ FitsPoint (shifted by point) }
 {
     point.x.checked_add(by.x).is_some() && point.y.checked_add(by.y).is_some()
 }
 
-/// Whether each of these shifts fits 64 bits once it is moved.
+/// Whether each of these shifts, moved by `by`, fits in 64 bits.
 fn list_fits_moved(by: Point, shifts: &[Point]) -> bool
     ensures { IsTrue result ↔ All (λ e. FitsPoint (shifted by e)) shifts.now }
 {
     shifts.iter().all(|shift| fits_moved(by, *shift))
 }
 
-/// Whether each of the list's shifts fits 64 bits once it is moved, by the corners.
+/// Whether each shift of the list, moved by `by`, fits in 64 bits. The list's bounds decide.
 fn bounded_fits_moved(by: Point, list: &BoundedList) -> bool
     requires { IsBounded list.now }
     ensures { IsTrue result ↔ All (λ e. FitsPoint (shifted by e)) list.now.shifts.items }
@@ -150,7 +151,8 @@ fn bounded_fits_moved(by: Point, list: &BoundedList) -> bool
     fits_moved(by, list.low) && fits_moved(by, list.high)
 }
 
-/// Whether each shift of the lattice fits 64 bits once it is moved, by the corners.
+/// Whether each shift of the lattice, moved by `by`, fits in 64 bits. The shifts at its corners
+/// decide.
 fn lattice_fits_moved(by: Point, a: Point, m: u64, b: Point, n: u64) -> bool
     requires { HasFarCorner a m b n }
     ensures { IsTrue result ↔ All (λ e. FitsPoint (shifted by e)) (lattice a m b n) }
@@ -167,7 +169,8 @@ fn lattice_fits_moved(by: Point, a: Point, m: u64, b: Point, n: u64) -> bool
     fits_moved(by, far)
 }
 
-/// The least and the greatest of the coordinates of a lattice's shifts, by the corners.
+/// The least and the greatest coordinates of the shifts of a lattice, which are those at its
+/// corners.
 fn lattice_reach(a: Point, m: u64, b: Point, n: u64) -> (Point, Point)
     requires { HasFarCorner a m b n }
     ensures { All (IsBetween result.0 result.1) (lattice a m b n) }
@@ -182,7 +185,7 @@ fn lattice_reach(a: Point, m: u64, b: Point, n: u64) -> (Point, Point)
 }
 
 impl Offsets {
-    /// These shifts; None where there is none, or the first is not zero.
+    /// A list of these shifts, or None if there are none or the first isn't zero.
     pub fn new(shifts: Vec<Point>) -> Option<Offsets>
         ensures some { IsSome result ↔ StartsAtZero shifts.items }
         ensures same { IfSome result (λ offsets. offsets ≡ shifts.items) }
@@ -195,9 +198,9 @@ impl Offsets {
         })
     }
 
-    /// The shifts `i * a + j * b`, `i` below `m` and running fastest, `j` below `n`; None where
-    /// `m` or `n` is zero, there are more than 16,777,216 of them (own rule), or one is outside 64
-    /// signed bits, which the far corners decide.
+    /// The shifts `i * a + j * b` with `i < m` and `j < n`, ordered by `j`, then by `i`. None if
+    /// `m` or `n` is 0, if there are more than 16,777,216 shifts, or if one is outside 64 signed
+    /// bits (own rules). Takes constant time.
     pub fn lattice(a: Point, m: u64, b: Point, n: u64) -> Option<Offsets>
         ensures some { IsSome result ↔ IsLattice a m b n }
         ensures same { IfSome result (λ offsets. offsets ≡ lattice a m b n) }
@@ -210,7 +213,7 @@ impl Offsets {
         })
     }
 
-    /// The zero shift alone. It takes no memory.
+    /// The list of the zero shift alone. Allocates nothing.
     pub fn single() -> Offsets
         ensures { result ≡ one_place }
     {
@@ -218,8 +221,8 @@ impl Offsets {
         Offsets::lattice(zero, 1, zero, 1).unwrap()
     }
 
-    /// Makes a list one that its clones share. It takes memory for the count of those, and nothing
-    /// for a lattice or a list that is shared already.
+    /// Lets later clones share the list. Allocates a reference count with the list's bounds, or
+    /// nothing for a lattice or a list that is shared already. If that fails, nothing changes.
     pub fn share(&mut self) -> Result<(), AllocError>
         ensures { self.new ≡ self.old }
     {
@@ -244,8 +247,8 @@ impl Offsets {
         self.len() == 1
     }
 
-    /// Whether both are kept as one lattice. Where it is false they may still be the same shifts:
-    /// no list is looked through.
+    /// Whether both are stored as lattices with the same steps and counts. If not, they may still
+    /// be the same shifts: lists aren't compared.
     pub fn is_same_lattice(&self, other: &Offsets) -> bool
         ensures { IsTrue result → self.now ≡ other.now }
     {
@@ -257,7 +260,7 @@ impl Offsets {
         }
     }
 
-    /// How many there are.
+    /// The number of shifts.
     pub fn len(&self) -> u64
         ensures count { result ≡ length self.now }
         ensures zero_first { StartsAtZero self.now }
@@ -269,7 +272,8 @@ impl Offsets {
         }
     }
 
-    /// Whether `at`, moved by each of the shifts, is within 64 signed bits.
+    /// Whether `at`, moved by any of the shifts, is within 64 signed bits. Takes constant time
+    /// unless it is a list that isn't shared.
     pub fn all_fit_at(&self, at: Point) -> bool
         ensures { IsTrue result ↔ All (λ e. FitsPoint (shifted at e)) self.now }
     {
@@ -280,8 +284,8 @@ impl Offsets {
         }
     }
 
-    /// The least and the greatest of the shifts' coordinates, along each axis. Only a list that is not
-    /// shared is walked along.
+    /// The least and the greatest coordinates of the shifts: the lower left and the upper right
+    /// corner of their bounding box. Takes constant time unless it is a list that isn't shared.
     pub fn reach(&self) -> (Point, Point)
         ensures { All (IsBetween result.0 result.1) self.now }
     {
@@ -292,7 +296,7 @@ impl Offsets {
         }
     }
 
-    /// The shift at the place `k`, counted from zero; None past the last.
+    /// The shift at index `k`, or None if there is none.
     pub fn at(&self, k: u64) -> Option<Point>
         ensures { result ≡ slice_get self.now k }
     {

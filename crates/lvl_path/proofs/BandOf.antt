@@ -1,4 +1,4 @@
--- Bands by the way of their run, and the squares that a band's ring covers.
+-- Bands by the direction of their run, and the squares that a band's ring covers.
 use Rattle.std.proofs.Common.{◌≡◌, ℕ, ℤ, ap, sym, ◌∙◌}
 use Rattle.lvl_grid.specs.declared.point.Point.{Point}
 use Rattle.lvl_path.specs.declared.band.Band.{Band}
@@ -13,7 +13,7 @@ same_band b c e f g h =
     ap (λ z. of z b.y0 b.x1 b.y1) e
     ∙ (ap (λ z. of c.x0 z b.x1 b.y1) f ∙ (ap (λ z. of c.x0 c.y0 z b.y1) g ∙ ap (of c.x0 c.y0 c.x1) h))
 
--- a band by the way of its run is the band
+-- the band by the direction of its run is the band of the run
 pub by_way : (w v : Way) (p q : Point) (half before after : ℕ) → w ≡ way_between p q → w ≡ v → (b : Band)
     → b ≡ band_towards v p q half before after → b ≡ band_between p q half before after
 by_way w v p q half before after e f b h = h ∙ ap (λ u. band_towards u p q half before after) (sym f ∙ e)

@@ -1,4 +1,4 @@
--- The runs of a path up to a place, one corner after another.
+-- The runs of a path up to an index, one corner after another.
 use Rattle.std.proofs.Common.{◌≡◌, ◌<◌, ◌+◌, ◌-◌, ℕ, true, false, cond, List, [], ◌∷◌, ◌++◌, length, filter, refl, ap}
 use Rattle.std.proofs.Common.{sym, subst, ◌∙◌, arith, zero, suc, add-one, Any, inl, inr}
 use Rattle.lvl_grid.proofs.Anyone.{Any-push}
@@ -16,14 +16,14 @@ use Rattle.lvl_refusal.specs.Refused.{Says}
 use Rattle.lvl_path.specs.Bands.{FitsBand}
 use Rattle.lvl_path.specs.Runs.{is_corner, run_band, HasFault}
 
--- the corners before the place k, and the runs that end there
+-- the corners before index k, and the runs that end at them
 abbrev pub corners_to : List Point → ℕ → List ℕ
 corners_to ps k = filter (is_corner ps) (range_with_len 1 (k - 1))
 
 abbrev pub runs_to : List Point → ℕ → List (ℕ × ℕ)
 runs_to ps k = path_edges 0 (corners_to ps k)
 
--- the run that is open at the place k began at from
+-- the run that hasn't ended at index k begins at index `from`
 pub record IsAtCorner (ps : List Point) (k from : ℕ) : Type 0 where
   pub last : from ≡ last_or 0 (corners_to ps k)
   pub before : from < k
@@ -76,7 +76,7 @@ runs_at_corner ps k from h c at =
     ap (path_edges 0) (corner_added ps k h c)
     ∙ (path_edges-push 0 k (corners_to ps k) ∙ ap (λ p. runs_to ps k ++ (p, k) ∷ []) (sym at.last))
 
--- any other point does not
+-- any other point doesn't
 pub at_no_corner : (ps : List Point) (k from : ℕ) → 0 < k → is_corner ps k ≡ false → IsAtCorner ps k from
     → IsAtCorner ps (k + 1) from
 at_no_corner ps k from h c at =
@@ -94,14 +94,14 @@ grown P ps k h a =
       | false ↦ λ c. subst (Any P) (sym (runs_at_no_corner ps k h c)) a
     ] refl
 
--- a run that ended stays a run of the path
+-- a run that ended before some index is a run of the path
 pub Any-grown : (P : ℕ × ℕ → Type 0) (ps : List Point) (k n : ℕ) → 0 < k → Any P (runs_to ps k)
     → Any P (runs_to ps (k + n))
 Any-grown P ps k zero h a = subst (λ (m : ℕ). Any P (runs_to ps m)) (omega arith) a
 Any-grown P ps k (suc n) h a =
     subst (λ (m : ℕ). Any P (runs_to ps m)) (omega arith) (grown P ps (k + n) (omega arith) (Any-grown P ps k n h a))
 
--- a run whose band is out of range is one of the path's
+-- if the band of such a run is out of range, that of some run of the path is
 pub far_run : (ps : List Point) (w : Reach) (k from : ℕ) → 0 < k → k < length ps
     → runs_to ps (k + 1) ≡ runs_to ps k ++ (from, k) ∷ []
     → ¬ FitsBand (run_band ps w (from, k)) → HasFault ps w OutOfRange
@@ -112,7 +112,7 @@ far_run ps w k from h there more out =
     subst (λ (n : ℕ). Any P (runs_to ps n)) (omega arith) (Any-grown P ps (k + 1) (length ps - (k + 1)) (omega arith)
     here)
 
--- a refusal of such a run's band is a refusal of the path
+-- a refusal of such a band is a refusal of the path
 pub far_refusal : (ps : List Point) (w : Reach) (k from : ℕ) → 0 < k → k < length ps
     → runs_to ps (k + 1) ≡ runs_to ps k ++ (from, k) ∷ []
     → (refusal : Cause PathFault) → Says refusal (λ fault. (fault ≡ OutOfRange)

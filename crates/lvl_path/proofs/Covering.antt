@@ -1,4 +1,4 @@
--- The ring of a band covers the squares that the band holds.
+-- The ring of a band covers exactly the squares of the band.
 use Rattle.std.proofs.Common.{◌≡◌, ◌≤ℤ◌, ◌<ℤ◌, not, ℕ, ℤ, Bool, true, false, cond, List, refl, arith, ◌↔◌, int_lt}
 use Rattle.std.proofs.Common.{int_le, Any, if◌then◌else◌, ◌==◌, ◌+◌, length}
 use Rattle.std.proofs.lemmas.Int.{ints}
@@ -29,7 +29,7 @@ said_not_lt a b h = grind (arith, ints)
 said_le : (a b : ℤ) → int_le a b ≡ true → a ≤ℤ b
 said_le a b h = grind (arith, ints)
 
--- what the tests say of a square and a band
+-- what the comparisons of a square with the sides of a band say
 record Tested (b : Band) (s : Square) (right left above below : Bool) : Type 0 where
   right_is : int_lt s.x b.x1 ≡ right
   left_is : int_lt s.x b.x0 ≡ left
@@ -94,12 +94,12 @@ by_tests b s wide high false false false true t =
     (λ h. absurd (h refl), λ k. absurd (cc (lt_says _ _ k.left_of, t.right_is)))
 by_tests b s wide high false false false false t = absurd (grind (arith, ints, t.above_is, t.below_is))
 
--- the ring covers the squares that the band holds
+-- the ring covers exactly the squares of the band
 pub ring_covers : (b : Band) → b.x0 ≤ℤ b.x1 → b.y0 ≤ℤ b.y1 → (s : Square) → Covers (band_ring b) s ↔ Holds b s
 ring_covers b wide high s =
     by_tests b s wide high (int_lt s.x b.x1) (int_lt s.x b.x0) (int_le b.y0 s.y) (int_lt s.y b.y1) (tested b s)
 
--- the left side of a band is not right of its right side, nor the lower above the upper
+-- the left side of a band isn't right of its right side, nor its lower side above its upper side
 abbrev IsUpright : Band → Type 0
 IsUpright b = (b.x0 ≤ℤ b.x1) × (b.y0 ≤ℤ b.y1)
 

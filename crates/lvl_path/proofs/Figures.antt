@@ -1,4 +1,4 @@
--- The rings that a figure is kept as cover what it covers.
+-- The rings of a figure cover exactly what the figure covers.
 use Rattle.std.proofs.Common.{◌↔◌, Any}
 use Rattle.lvl_grid.specs.declared.point.Square.{Square}
 use Rattle.lvl_grid.specs.Winding.{Covers}

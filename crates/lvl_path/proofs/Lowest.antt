@@ -17,7 +17,7 @@ same_fault ShortRun ShortRun e = refl
 same_fault OutOfRange OutOfRange e = refl
 same_fault f g e = absurd (omega (arith, e))
 
--- two faults of a path are not both the lowest
+-- two different faults aren't both the lowest of a path
 pub one_lowest : (ps : List Point) (w : Reach) (f g : PathFault) → IsLowestFault ps w f → IsLowestFault ps w g → f ≡ g
 one_lowest ps w f g x y =
     let below : number f < number g → ⊥ = λ l. y.lowest f l x.breached in

@@ -1,4 +1,4 @@
--- What is known of a result's value or error, carried on.
+-- What is known of the value or the error of a result, passed on to another result.
 use Rattle.std.proofs.Common.{Result, Ok, Err, IfOk, IfErr}
 
 pub IfOk-carried : {A E : Type 0} (P Q : A → Type 0) (r : Result A E) → ((x : A) → P x → Q x) → IfOk r P → IfOk r Q

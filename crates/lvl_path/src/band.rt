@@ -10,7 +10,7 @@ use lvl_grid::{Point, Ring};
 use lvl_refusal::Cause;
 use std::alloc::{AllocError, Global};
 
-/// Half the width of a path, and how far it reaches beyond its start and its end.
+/// Half the width of a path, and how far it reaches beyond its start and its end, in grid steps.
 #[derive(Clone, Copy)]
 pub(crate) struct Reach {
     pub half: u64,
@@ -18,7 +18,7 @@ pub(crate) struct Reach {
     pub end: u64,
 }
 
-/// The squares with `x0 <= x < x1` and `y0 <= y < y1`, in whole numbers that hold any band.
+/// The squares with `x0 <= x < x1` and `y0 <= y < y1`. Any band fits in 128 bits.
 #[derive(Clone, Copy)]
 pub(crate) struct Band {
     pub x0: i128,
@@ -28,7 +28,7 @@ pub(crate) struct Band {
 }
 
 impl Band {
-    /// The band of a run: `half` to both sides, `before` beyond its begin and `after` beyond its
+    /// The band of a run: `half` to both sides, `before` beyond its start and `after` beyond its
     /// end.
     pub(crate) fn between(from: Point, to: Point, half: u64, before: u64, after: u64) -> Band
         ensures { result ≡ band_between from to half before after }
@@ -64,8 +64,8 @@ impl Band {
         }
     }
 
-    /// The band as a ring, from its lower left corner over lower right and upper right to upper
-    /// left.
+    /// The band as a ring: lower left, lower right, upper right, upper left. Out of range if a
+    /// corner is outside 64 signed bits.
     pub(crate) fn ring(self, alloc: Global) -> Result<Ring, Cause<PathFault>>
         ensures ok { IfOk result (λ ring. ring ≡ band_ring self) }
         ensures fits { IfOk result (λ _. FitsBand self) }
@@ -83,8 +83,8 @@ impl Band {
 }
 
 impl Reach {
-    /// The band of the run from one place of the path to another: `half` beyond a corner, the
-    /// end's reach beyond an end of the path.
+    /// The band of the run between the points at two indexes. It reaches `half` beyond a corner,
+    /// and beyond an end of the path the reach of that end.
     pub(crate) fn band(&self, points: &[Point], from: usize, to: usize) -> Band
         requires from_there { from < length points.now }
         requires to_there { to < length points.now }
@@ -100,7 +100,7 @@ impl Reach {
     }
 }
 
-/// The ring from the lower left corner over lower right and upper right to upper left.
+/// The rectangle between two corners: lower left, lower right, upper right, upper left.
 fn ring_between(alloc: Global, low: Point, high: Point) -> Result<Ring, AllocError>
     ensures { IfOk result (λ ring. ring ≡ corner_ring low high) }
 {

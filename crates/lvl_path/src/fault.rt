@@ -1,7 +1,8 @@
-//! Why points are no path.
+//! Why a list of points isn't a path.
 use thiserror::Error;
 
-/// Why points and a width are no path (own rule). Of 1 to 7 the lowest that holds is answered.
+/// Why points and a width aren't a path (own rules). If several apply, the one of lowest number is
+/// reported.
 #[derive(Clone, Copy, Debug, Drop, PartialEq, Eq, Error)]
 pub enum PathFault {
     /// Half the width is 0.
@@ -10,13 +11,13 @@ pub enum PathFault {
     /// There are fewer than two points.
     #[error("a path has at least two points")]
     FewPoints = 2,
-    /// Two neighbours differ in both coordinates.
+    /// Two consecutive points differ in both coordinates.
     #[error("a step of a path is parallel to an axis")]
     Oblique = 3,
-    /// Two neighbours are equal.
+    /// Two consecutive points are equal.
     #[error("two neighbours of a path differ")]
     RepeatedPoint = 4,
-    /// A step goes against the step before it.
+    /// A step has the opposite direction of the step before it.
     #[error("a path does not turn back")]
     TurnsBack = 5,
     /// There are two or more runs, and one of them is shorter than half the width.

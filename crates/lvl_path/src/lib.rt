@@ -1,8 +1,8 @@
-//! Paths: the bands of squares that the straight runs of a path cover.
+//! Paths: the bands that the straight runs of a path cover.
 //!
-//! A path is a list of points, each step along an axis. Where it goes straight on, a point adds
-//! nothing and is left out; what is left has straight runs that meet at right angles. Each run
-//! covers a band, and [`bands`] gives these as rings.
+//! A path is a list of points with each step along an axis. Points at which it goes straight on are
+//! left out, and what is left are straight runs that meet at right angles. Each run covers a band,
+//! a rectangle of squares, and [`bands`] returns these as rings.
 //!
 //! ```
 //! let points = [Point { x: 0, y: 0 }, Point { x: 10, y: 0 }];

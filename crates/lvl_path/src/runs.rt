@@ -1,4 +1,4 @@
-//! A path's bands, and what is wrong with points that are no path.
+//! The bands of a path, or why its points aren't one.
 ghost use Rattle.std.specs.Prelude.{◌≡◌, ◌<◌, ◌+◌, ◌≤◌, ◌↔◌, ◌-ℤ◌, unsigned_abs, length, IsTrue, IfOk, IfErr, Any};
 ghost use Rattle.lvl_grid.specs.declared.point.Square.{Square as GridSquare};
 ghost use Rattle.lvl_grid.specs.Winding.{Covers};
@@ -12,10 +12,11 @@ use lvl_grid::{Point, Ring};
 use lvl_refusal::Cause;
 use std::alloc::Global;
 
-/// The bands of a path's runs, in the order of the runs, each a ring from its lower left corner
-/// over lower right and upper right to upper left. A band reaches `half` grid steps to both sides
-/// of its run and `half` beyond a corner of the path; beyond the path's ends it reaches `start`
-/// and `end` (own rule).
+/// The bands of a path's runs, in the order of the runs, each as a ring: lower left, lower right,
+/// upper right, upper left. A band reaches `half` grid steps to both sides of its run and beyond a
+/// corner of the path. Beyond the path's ends it reaches `start` and `end` grid steps (own rule).
+///
+/// A breach is the fault of lowest number that the path has.
 pub fn bands(
     alloc: Global,
     points: &[Point],
@@ -53,7 +54,7 @@ pub fn bands(
     run_bands(alloc, points, &Reach { half, start, end }, runs.count)
 }
 
-/// How many runs a path has, and whether one of them is shorter than a length.
+/// The number of runs of a path, and whether one of them is shorter than half its width.
 #[derive(Clone, Copy)]
 struct Measured {
     count: usize,
@@ -90,7 +91,7 @@ fn is_short(from: Point, to: Point, half: u64) -> bool
     u128::from(to.x.abs_diff(from.x)) + u128::from(to.y.abs_diff(from.y)) < u128::from(half)
 }
 
-/// The bands of the runs, of which there are `count`.
+/// The bands of the runs as rings. `count` is the number of runs, for which room is reserved.
 fn run_bands(
     alloc: Global,
     points: &[Point],

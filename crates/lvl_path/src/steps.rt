@@ -1,4 +1,4 @@
-//! What the steps of a path may not do.
+//! Faults of the steps of a path, and its corners.
 ghost use Rattle.std.specs.Prelude.{◌≡◌, ◌<◌, ◌+◌, ◌↔◌, length, IsTrue};
 ghost use Rattle.lvl_grid.specs.Winding.{IsStraight};
 ghost use Rattle.lvl_path.specs.Runs.{SomeStep, TurnsBackSomewhere, is_corner, way_into};
@@ -24,7 +24,7 @@ fn is_straight(from: Point, to: Point) -> bool
     from.x == to.x || from.y == to.y
 }
 
-/// Whether two neighbours are equal.
+/// Whether two consecutive points are equal.
 pub(crate) fn has_repeated_point(points: &[Point]) -> bool
     ensures { IsTrue result ↔ SomeStep (λ p q. p ≡ q) points.now }
 {
@@ -42,7 +42,7 @@ fn is_same(from: Point, to: Point) -> bool
     from.x == to.x && from.y == to.y
 }
 
-/// The way of the step that ends at the place.
+/// The direction of the step that ends at index `k`.
 fn way_into(points: &[Point], k: usize) -> Way
     requires after_first { 0 < k }
     requires there { k < length points.now }
@@ -51,7 +51,7 @@ fn way_into(points: &[Point], k: usize) -> Way
     Way::between(points[k - 1], points[k])
 }
 
-/// Whether some step goes against the step before it.
+/// Whether some step has the opposite direction of the step before it.
 pub(crate) fn turns_back(points: &[Point]) -> bool
     ensures { IsTrue result ↔ TurnsBackSomewhere points.now }
 {
@@ -63,7 +63,7 @@ pub(crate) fn turns_back(points: &[Point]) -> bool
     false
 }
 
-/// Whether the path ends at the place, or does not go straight on there.
+/// Whether the path ends at index `k` or changes its direction there.
 pub(crate) fn is_corner(points: &[Point], k: usize) -> bool
     requires after_first { 0 < k }
     requires there { k < length points.now }

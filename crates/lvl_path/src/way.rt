@@ -1,11 +1,11 @@
-//! The way in which a step goes.
+//! The direction of a step.
 ghost use Rattle.std.specs.Prelude.{◌≡◌, ◌≢◌, ◌↔◌, IsTrue};
 ghost use Rattle.lvl_path.specs.Ways.{way_between, opposite, same_way};
 
 use lvl_grid::Point;
 
-/// The way in which a step goes. One that is not straight has no way of its own, and counts as
-/// one along y.
+/// The direction of a step. An oblique step counts as east or west, and a step between equal points
+/// as south; paths with such steps are refused.
 #[derive(Clone, Copy)]
 pub(crate) enum Way {
     East,

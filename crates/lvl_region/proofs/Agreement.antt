@@ -1,4 +1,4 @@
--- Two grids that agree at the lower left squares of the joined grid agree everywhere.
+-- Two grids that agree at each crossing of the lines of both agree everywhere.
 use Rattle.std.proofs.Common.{◌≡◌, ℕ, Bool, true, false, List, [], ◌∷◌, ◌++◌, map, get_or, ℤ, refl, arith, ◌∙◌, ap, ◌⊎◌}
 use Rattle.std.proofs.Common.{inl, inr, ◌↔◌, int_le, Contains, IsTrue, Option, None, Some, IfNone}
 use Rattle.std.specs.List.{AllByRecursion}
@@ -146,7 +146,7 @@ agree_everywhere a b h k s =
       ]
     ]
 
--- what the look-up of a cell computes is the cell's mark
+-- the look-up of a cell returns the cell's mark
 pub marked_is : (xs ys : List ℤ) (rows : List (Vec Bool)) (s : Square) (r : Bool) (row : List Bool) (i j : ℕ)
     → i ≡ passed ys s.y → row ≡ get_or ([] ∷ map (λ q. q.items) rows) i [] → j ≡ passed xs s.x
     → r ≡ get_or (false ∷ row) j false → IsTrue r ↔ IsMarked xs ys rows s
@@ -157,7 +157,7 @@ pub none_both : {A : Type 0} (r : Option A) (P Q R : Type 0) → (P → Q → R)
 none_both None P Q R f h k = f h k
 none_both (Some x) P Q R f h k = tt
 
--- two sets that two others stand for
+-- a square that only one of two sets has, in terms of two equal sets
 pub through : {A : Type 0} (r : Option A) (P Q M N : Square → Type 0) → ((s : Square) → M s ↔ P s)
     → ((s : Square) → N s ↔ Q s) → IfNone r ((s : Square) → M s ↔ N s) → IfNone r ((s : Square) → P s ↔ Q s)
 through None P Q M N f g h = λ s. (λ p. (g s).0 ((h s).0 ((f s).1 p)), λ q. (f s).0 ((h s).1 ((g s).1 q)))

@@ -1,4 +1,4 @@
--- Rising lines, and the value of the cell between two of them.
+-- Lines in increasing order, and the value of the cell between two of them.
 use Rattle.std.proofs.Common.{◌≡◌, ℕ, ◌+◌, ◌<◌, Bool, true, false, cond, List, [], ◌∷◌, ◌++◌, map, length, get_or, take}
 use Rattle.std.proofs.Common.{ℤ, ◌<ℤ◌, refl, suc, subst, arith, sym, ◌∙◌, ap, ◌⊎◌, inl, inr, int_le}
 use Rattle.std.specs.List.{AllZip, AllByRecursion}
@@ -18,7 +18,7 @@ all_zip_push R [] (y ∷ ys) a b h k = absurd h
 all_zip_push R (x ∷ xs) [] a b h k = absurd h
 all_zip_push R (x ∷ xs) (y ∷ ys) a b h k = (h.0, all_zip_push R xs ys a b h.1 k)
 
--- one value more, for one line more
+-- one more value, for one more line
 pub zip_more : {A B : Type 0} (R : A → B → Type 0) (as' : List A) (bs : List B) (i : ℕ) (d : A) (b : B) → i < length as'
     → AllZip R (take i as') bs → R (get_or as' i d) b → AllZip R (take (i + 1) as') (bs ++ b ∷ [])
 zip_more R as' bs i d b lt h k =
@@ -38,7 +38,7 @@ bit t = cond t 1 0
 pub passed-cons : (a : ℤ) (as' : List ℤ) (v : ℤ) → passed (a ∷ as') v ≡ bit (int_le a v) + passed as' v
 passed-cons a as' v = sum_by-cons (λ b. cond (int_le b v) 1 0) a as'
 
--- a line is at most v exactly where it is at most w
+-- a line is at most v exactly if it is at most w
 abbrev pub NoLineBetween : List ℤ → ℤ → ℤ → Type 0
 NoLineBetween lines v w = AllByRecursion (λ a. int_le a v ≡ int_le a w) lines
 
@@ -67,7 +67,8 @@ far p v (a ∷ as') h k =
     let high : int_le a v ≡ false = h.0 in
     (grind (arith, ints), far p v as' h.1 k.1)
 
--- v is at or after p, whose cell is c: the value at v is that of a line w, at or after p, and no line parts w from v
+-- v is at or after the line p, whose cell is c: the value at v is that at a line w, at or after p, and no line is
+-- between w and v
 abbrev WalkEnds : {B : Type 0} → (ℤ → B → Type 0) → ℤ → B → List ℤ → List B → ℤ → B → Type 0
 WalkEnds R p c as' cs v d =
     (w : ℤ) × (int_le p w ≡ true) × NoLineBetween as' v w × R w (get_or (c ∷ cs) (passed as' v) d)
@@ -103,7 +104,7 @@ walk R p c (a ∷ as') (x ∷ xs) v d r e above rising zip =
           )
     ] refl
 
--- At v is the value of some line w that no line parts from v, or v is before all lines and d is there.
+-- The value at v is that of a line w, with no line between w and v, or v is before all lines and the value is d.
 pub value_is : {B : Type 0} (R : ℤ → B → Type 0) (lines : List ℤ) (cs : List B) (v : ℤ) (d : B)
     → IsStrictlySortedBy int_cmp lines → AllZip R lines cs
     → ((w : ℤ) × NoLineBetween lines v w × R w (value_at d lines cs v))

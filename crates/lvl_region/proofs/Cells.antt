@@ -14,7 +14,7 @@ use Rattle.lvl_region.specs.Grid.{value_at, AreLinesOf, IsRowOf, HasPlaces, IsMa
 use Rattle.lvl_region.proofs.Between.{NoLineBetween, value_is, all_zip-map}
 use Rattle.std.specs.Global.{Vec}
 
--- what some ring covers is covered at a square on the same side of each vertex
+-- some ring covers a square exactly if some ring covers another on the same side of each vertex
 some_moves : (rings : List (List Point)) (s t : Square) → All (λ ring. All (SameSide s t) ring) rings
     → SomeCovers rings s → SomeCovers rings t
 some_moves rings s t h c =

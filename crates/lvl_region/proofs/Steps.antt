@@ -44,7 +44,7 @@ pub row_done : (rings : List (List Point)) (xs : List ℤ) (y y' : ℤ) (cells :
     → IsRowOf rings (take i xs) y' cells → IsRowOf rings xs y cells
 row_done rings xs y y' cells i far same h = rw (take_all i xs far, same) at h
 
--- one line more, or none, of lines walked together with others
+-- one more line, or none, of one of two lists that are walked together
 all_past : (P : ℤ → Type 0) (lines : List ℤ) (i j : ℕ) (line : ℤ) → All P (take i lines) → i ≤ j → j ≤ i + 1
     → (i < j → IsNext lines i line) → P line → All P (take j lines)
 all_past P lines i j line before stays one next here =
@@ -98,7 +98,7 @@ places_step axis old new rings i ring lt before e is =
     (λ p c. Contains-append_left old (map (along axis) ring) (along axis p) c) r h) (take i rings) before in
     rw e (All-more Q rings i ring lt kept (subst Q is here))
 
--- each line of one ring more is a vertex's
+-- each line of one more ring goes through a vertex
 pub vertices_step : (axis : Axis) (old new : List ℤ) (rings : List (List Point)) (i : ℕ) (ring : List Point)
     → i < length rings → All (HasVertexAt axis (take i rings)) old → new ≡ old ++ map (along axis) ring
     → ring ≡ get_or rings i ring → All (HasVertexAt axis (take (i + 1) rings)) new
@@ -118,7 +118,7 @@ vertices_step axis old new rings i ring lt before e is =
     rw (e, longer)
     (All-append (HasVertexAt axis (take i rings ++ ring ∷ [])) old (map (along axis) ring) kept added)
 
--- sorted and freed of repetition, the places of all vertices are the lines
+-- the coordinates of all vertices, sorted and without duplicates, are the lines
 pub lines_done : (axis : Axis) (places sorted lines : List ℤ) (rings : List (List Point)) (i : ℕ) → length rings ≤ i
     → HasPlaces axis places (take i rings) → All (HasVertexAt axis (take i rings)) places
     → IsPermutation places sorted → IsSorted int_cmp sorted → lines ≡ dedup int_eq sorted

@@ -8,7 +8,7 @@ use Rattle.lvl_region.specs.Grid.{IsMarked}
 abbrev pub holds_grid : GridRegion → Square → Type 0
 holds_grid g s = IsMarked g.xs.items g.ys.items g.rows.items s
 
--- both grids cover the square or neither does
+-- both grids cover the square, or neither does
 unfoldable pub AgreeAt : GridRegion → GridRegion → Square → Type 0
 AgreeAt a b s = holds_grid a s ↔ holds_grid b s
 

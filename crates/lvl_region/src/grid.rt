@@ -1,4 +1,4 @@
-//! The plain region: a truth value for each cell of the grid that all vertices span.
+//! The plain region: a truth value for each cell of the grid of lines through all vertices.
 ghost use Rattle.std.specs.Prelude.{◌≡◌, ◌↔◌, [], ◌∷◌, map, slice_index_or, false, IsTrue, IfOk, IfNone, IfSome};
 ghost use Rattle.lvl_region.specs.Region.{SomeCovers, IsAlone};
 ghost use Rattle.lvl_region.specs.Grid.{IsRowOf, IsMarked};
@@ -9,9 +9,9 @@ use crate::region::{Region, Side};
 use lvl_grid::{Ring, Square};
 use std::alloc::{AllocError, Global};
 
-/// The distinct lines of all vertices, and a truth value for each cell of their grid.
+/// The distinct lines through all vertices, and a truth value for each cell of their grid.
 ///
-/// Short and slow: a region to compare others against.
+/// This is the reference implementation, short and slow, that tests compare others with.
 #[derive(Debug, Drop)]
 pub struct GridRegion {
     xs: Vec<i64>,
@@ -26,7 +26,7 @@ fn some_covers(rings: &[Ring], square: Square) -> bool
     rings.iter().any(|ring| ring.covers(square))
 }
 
-/// What some ring covers at the lines' squares of row `y`.
+/// For each line `x`, whether some ring covers the square `(x, y)`.
 fn row_of(alloc: Global, rings: &[Ring], xs: &[i64], y: i64) -> Result<Vec<bool>, AllocError>
     ensures { IfOk result (λ row. IsRowOf rings.now xs.now y row.items) }
 {
@@ -37,7 +37,7 @@ fn row_of(alloc: Global, rings: &[Ring], xs: &[i64], y: i64) -> Result<Vec<bool>
     Ok(cells)
 }
 
-/// The cell after `passed` lines.
+/// The cell after `passed` lines, or `false` before the first line.
 fn cell_after(cells: &[bool], passed: usize) -> bool
     ensures { result ≡ slice_index_or (false ∷ cells.now) passed false }
 {
@@ -47,7 +47,7 @@ fn cell_after(cells: &[bool], passed: usize) -> bool
     cells[passed - 1]
 }
 
-/// The row after `passed` lines.
+/// The row after `passed` lines, or an empty one before the first line.
 fn row_after(rows: &[Vec<bool>], passed: usize) -> &[bool]
     ensures { result.now ≡ slice_index_or ([] ∷ map (λ row. row.items) rows.now) passed [] }
 {
@@ -75,13 +75,15 @@ impl Region for GridRegion {
         cell_after(row, count_passed(&self.xs, square.x))
     }
 
-    /// The one on the least line of either, and there the least, which no contract promises.
+    /// Returns the least such square in the order of squares, though the contract doesn't promise
+    /// it.
     fn first_difference(&self, other: &Self) -> Option<(Square, Side)> {
         difference_on_rows(self, other, &self.ys, &other.ys)
     }
 }
 
-/// A square of one of the two alone, on the least row of either list that has one.
+/// A square that only one of the two covers, on the least line of both lists of rows that has one,
+/// or None if there is none on these lines.
 fn difference_on_rows(
     a: &GridRegion,
     b: &GridRegion,
@@ -104,7 +106,8 @@ fn difference_on_rows(
     None
 }
 
-/// A square of one of the two alone on row `y`, on the least line of either list that has one.
+/// A square of row `y` that only one of the two covers, on the least line of both lists that has
+/// one, or None if there is none on these lines.
 fn difference_on_row(
     a: &GridRegion,
     b: &GridRegion,
@@ -129,7 +132,7 @@ fn difference_on_row(
     None
 }
 
-/// The side that alone covers the square.
+/// The only side that covers the square, or None if both or neither does.
 #[tactic(auto, unfolding(crate::specs::Agree::AgreeAt))]
 fn side_at(a: &GridRegion, b: &GridRegion, square: Square) -> Option<Side>
     ensures same { IfNone result (AgreeAt a.now b.now square) }

@@ -1,7 +1,8 @@
-//! Regions of the unit grid: sets of squares that rings cover, and where two of them differ.
+//! Regions: the sets of squares that rings cover, and where two of them differ.
 //!
-//! A [`Region`] is made from rings and holds exactly the squares that some ring covers.
-//! [`difference`] compares two lists of rings by any region. [`GridRegion`] is the plain one.
+//! A [`Region`] is made from rings and has exactly the squares that at least one ring covers.
+//! [`difference`] compares two lists of rings by any type of region. [`GridRegion`] is the plain
+//! one, for tests.
 //!
 //! ```
 //! let wide = Ring::rectangle(alloc, Point { x: 0, y: 0 }, Point { x: 4, y: 2 })?;

@@ -1,4 +1,5 @@
-//! The lines of a grid: the places of all vertices along an axis, rising, each once.
+//! The lines of a grid: the coordinates of all vertices along an axis, sorted and without
+//! duplicates.
 ghost use Rattle.std.specs.Prelude.{◌≡◌, ◌+◌, ◌<◌, ◌≤◌, ◌⊎◌, ◌++◌, map, length, slice_index, IfOk, IfNone, IfSome};
 ghost use Rattle.lvl_region.specs.Grid.{passed, along, AreLinesOf};
 ghost use Rattle.lvl_region.specs.Joined.{IsNext};
@@ -13,7 +14,7 @@ pub(crate) enum Axis {
     Y,
 }
 
-/// Where the point lies along the axis.
+/// The coordinate of the point along the axis.
 fn place_along(axis: Axis, point: Point) -> i64
     ensures { result ≡ along axis point }
 {
@@ -33,7 +34,7 @@ fn push_places(lines: &mut Vec<i64>, axis: Axis, points: &[Point]) -> Result<(),
     Ok(())
 }
 
-/// The places of all vertices along the axis, each once, rising.
+/// The coordinates of all vertices along the axis, sorted and without duplicates.
 pub(crate) fn lines_of(alloc: Global, rings: &[Ring], axis: Axis) -> Result<Vec<i64>, AllocError>
     ensures { IfOk result (λ lines. AreLinesOf rings.now axis lines.items) }
 {
@@ -46,15 +47,15 @@ pub(crate) fn lines_of(alloc: Global, rings: &[Ring], axis: Axis) -> Result<Vec<
     Ok(lines)
 }
 
-/// How many of the lines are at most `v`.
+/// The number of lines that are at most `v`.
 pub(crate) fn count_passed(lines: &[i64], v: i64) -> usize
     ensures { result ≡ passed lines.now v }
 {
     lines.iter().filter(|line| **line <= v).count()
 }
 
-/// The lesser of the two lines that come next, line `i` of the first list and `j` of the second,
-/// or None past both lists.
+/// The lesser of line `i` of the first list and line `j` of the second, or the only one that there
+/// is, or None if there is neither.
 pub(crate) fn next_line(first: &[i64], i: usize, second: &[i64], j: usize) -> Option<i64>
     ensures some { IfSome result (λ line. IsNext first.now i line ⊎ IsNext second.now j line) }
     ensures past_first { IfNone result (length first.now ≤ i) }
@@ -69,7 +70,7 @@ pub(crate) fn next_line(first: &[i64], i: usize, second: &[i64], j: usize) -> Op
     Some(first[i])
 }
 
-/// The index after `line` if line `i` of the list is that one, else `i`.
+/// `i + 1` if line `i` of the list is `line`, else `i`.
 pub(crate) fn step_past(lines: &[i64], i: usize, line: i64) -> usize
     ensures one { result ≤ i + 1 }
     ensures stays { i ≤ result }

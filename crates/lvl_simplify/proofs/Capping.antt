@@ -1,4 +1,4 @@
--- Windings that are capped: which turns are kept, and why that is enough.
+-- Windings that are clamped to bounds: which turns are kept, and why that is enough.
 use Rattle.std.proofs.Common.{◌≡◌, ◌+◌, ℕ, ℤ, pos, ◌-ℤ◌, ◌+ℤ◌, ◌≤ℤ◌, Bool, true, false, cond}
 use Rattle.std.proofs.Common.{List, [], ◌∷◌, ◌++◌, length, ◌↔◌, sym, ◌∙◌, refl, arith}
 use Rattle.std.proofs.Common.{int_lt, int_le, negsuc, suc, ◌≢◌}
@@ -11,7 +11,7 @@ use Rattle.lvl_simplify.specs.declared.rows.Turn.{Turn}
 use Rattle.lvl_simplify.specs.Rows.{change}
 use Rattle.lvl_simplify.specs.Redraw.{count_to, if_right, winds, winding_by, within}
 
--- an end more
+-- one more end
 pub begin_pushed : (y : ℤ) (begins more : List ℤ) (ends : ℕ) (t : Turn) → t.more ≡ true → more ≡ begins ++ t.y ∷ []
     → pos (count_to y more) -ℤ pos ends
     ≡ (pos (count_to y begins) -ℤ pos ends) +ℤ cond (int_le t.y y) (change t) (pos 0)
@@ -47,7 +47,7 @@ change_bounds t = one t.more
 pub zero_within : (least most : ℤ) → least ≤ℤ pos 0 → pos 0 ≤ℤ most → pos 0 ≡ within least most (pos 0)
 zero_within least most a b = omega (arith, ints, clamps, a, b)
 
--- both numbers lie within the bounds
+-- both numbers are within the bounds
 abbrev pub BothWithin : ℤ → ℤ → ℤ → ℤ → Type 0
 BothWithin least most a b = ((least ≤ℤ a) × (a ≤ℤ most)) × (least ≤ℤ b) × (b ≤ℤ most)
 
@@ -73,7 +73,7 @@ same_within : (least most old new before after : ℤ) → new ≡ old → after 
     → new ≡ within least most after
 same_within least most old new before after e f so = rw (e, f) so
 
--- a turn is kept where it changes the windings within the bounds
+-- a turn is kept if the windings before and after it are within the bounds
 pub kept_step : (y high least most old new before after windings step counted : ℤ) (kept : Bool)
     → (kept ≡ true ↔ BothWithin least most windings counted) → negsuc 0 ≤ℤ step → step ≤ℤ pos 1 → least ≤ℤ most
     → after ≡ before +ℤ cond (int_le high y) step (pos 0)
@@ -110,7 +110,7 @@ unit_bounds true false true = (omega (arith, ints), omega (arith, ints))
 unit_bounds true false false = (omega (arith, ints), omega (arith, ints))
 unit_bounds false b c = (omega (arith, ints), omega (arith, ints))
 
--- n edges wind at most n times, one way or the other
+-- the winding by n edges is from -n to n
 pub winding_bounds : (s : Square) (us : List Upright)
     → ((pos 0 -ℤ pos (length us)) ≤ℤ winding_by s us) × (winding_by s us ≤ℤ pos (length us))
 winding_bounds s [] = (omega (arith, ints), omega (arith, ints))
@@ -123,7 +123,7 @@ winding_bounds s (u ∷ us) =
         → ((pos 0 -ℤ pos (suc n)) ≤ℤ (w +ℤ all)) × ((w +ℤ all) ≤ℤ pos (suc n))
     numbers w all n a b c d = (omega (arith, ints, a, b, c, d), omega (arith, ints, a, b, c, d))
 
--- bounds beyond what the other edges may wind leave the squares covered that are
+-- clamping to bounds greater than the winding that the other edges can have changes no covered square
 pub within_enough : (a : Bool) (inner others least most : ℤ) (n : ℕ) → (pos 0 -ℤ pos n) ≤ℤ inner → inner ≤ℤ pos n
     → most ≡ pos n +ℤ pos 1 → least ≡ negsuc 0 -ℤ pos n
     → ((inner +ℤ cond a (within least most others) (pos 0)) ≢ pos 0) ↔ ((inner +ℤ cond a others (pos 0)) ≢ pos 0)
@@ -137,7 +137,7 @@ pub winds_alike : {drawn uprights edges ring : ℤ} → drawn ≡ uprights → (
     → edges ≡ ring → (drawn ≢ pos 0) ↔ (ring ≢ pos 0)
 winds_alike e h f = (λ n z. h.0 (λ u. n (e ∙ u)) (f ∙ z), λ n z. h.1 (λ u. n (sym f ∙ u)) (sym e ∙ z))
 
--- so edges that wind within bounds at the border cover what those do that wind as they like
+-- so edges at the border with clamped windings cover the same squares
 pub enough_edges : (s : Square) (right least most : ℤ) (us inner : List Upright) (ends turns : ℤ)
     → winding_by s us ≡ winding_by s inner +ℤ if_right s right ends → ends ≡ within least most turns
     → most ≡ pos (length inner) +ℤ pos 1 → least ≡ negsuc 0 -ℤ pos (length inner)

@@ -1,4 +1,4 @@
--- Windows joined and pushed, and the squares that they have.
+-- Windows that are joined and appended, and the squares that they have.
 use Rattle.std.proofs.Common.{◌≡◌, ◌<◌, ◌+◌, ℕ, ◌≤ℤ◌, List, [], ◌∷◌, ◌++◌, take, length, get_or, Any, ◌⊎◌, inl, inr}
 use Rattle.std.proofs.Common.{◌↔◌, subst, sym, arith, IsPermutation}
 use Rattle.std.specs.Int.{int_max}
@@ -12,12 +12,12 @@ use Rattle.lvl_grid.specs.Clip.{IsWithin}
 use Rattle.lvl_grid.specs.Winding.{Covers, SomeCovers}
 use Rattle.lvl_grid.proofs.Anyone.{Any-push, Any-nil, Any-left, Any-right, Any-sides, some_contained}
 
--- one element more
+-- one more element
 pub any_pushed : {X : Type 0} (P : X → Type 0) (old new : List X) (x : X) → new ≡ old ++ x ∷ []
     → Any P new ↔ (Any P old ⊎ P x)
 any_pushed P old new x e = subst (λ (xs : List _). Any P xs ↔ (Any P old ⊎ P x)) (sym e) (Any-push P old x)
 
--- a ring more, which covers what a window has
+-- one more ring, which covers what a window has
 pub window_pushed : (into after : List (List Point)) (ring : List Point) (window : Window) (s : Square)
     → after ≡ into ++ ring ∷ [] → (Covers ring s ↔ IsWithin window s)
     → SomeCovers after s ↔ (SomeCovers into s ⊎ IsWithin window s)
@@ -27,7 +27,7 @@ window_pushed into after ring window s e same =
       λ a. elim a [ inl o ↦ pushed.1 (inl o) | inr w ↦ pushed.1 (inr (same.1 w)) ],
     )
 
--- some elements more
+-- some more elements
 pub any_appended : {X : Type 0} (P : X → Type 0) (old more new : List X) → new ≡ old ++ more
     → Any P new ↔ (Any P old ⊎ Any P more)
 any_appended P old more new e = rw e (
@@ -35,7 +35,7 @@ any_appended P old more new e = rw e (
   λ k. elim k [ inl o ↦ Any-left P old more o | inr n ↦ Any-right P old more n ],
 )
 
--- one element more of those that a loop goes over
+-- one more element of those that a loop goes over
 pub any_next : {X : Type 0} (P : X → Type 0) (xs : List X) (i : ℕ) (d : X) → i < length xs
     → Any P (take (i + 1) xs) ↔ (Any P (take i xs) ⊎ P (get_or xs i d))
 any_next P xs i d below = any_pushed P (take i xs) (take (i + 1) xs) (get_or xs i d) (take_more xs i d below)
@@ -43,7 +43,7 @@ any_next P xs i d below = any_pushed P (take i xs) (take (i + 1) xs) (get_or xs 
 pub any_permuted : {X : Type 0} (P : X → Type 0) (xs ys : List X) → IsPermutation xs ys → Any P xs → Any P ys
 any_permuted P xs ys moved a = some_contained P ys a.1 (Contains-permutation xs ys a.1 moved (a.0, a.2, a.3)) a.4
 
--- an element that has what the last one and another have, in the place of the last one
+-- the last element is replaced by one that has what it and another have
 pub any_replaced : {X : Type 0} (P : X → Type 0) (rest old new : List X) (last next both : X) → old ≡ rest ++ last ∷ []
     → new ≡ rest ++ both ∷ [] → (P both ↔ (P last ⊎ P next)) → Any P new ↔ (Any P old ⊎ P next)
 any_replaced P rest old new last next both before after same =
@@ -59,7 +59,7 @@ any_replaced P rest old new last next both before after same =
       ],
     )
 
--- nothing is parted into nothing
+-- at first both parts are empty
 pub none_parted : (s : Square) (rest : List (List Point)) (windows : List Window) → rest ≡ [] → windows ≡ []
     → (SomeCovers rest s ⊎ Any (λ window. IsWithin window s) windows) ↔ SomeCovers [] s
 none_parted s rest windows e f = rw (e, f) (
@@ -80,14 +80,14 @@ added_next so_far step next = (
   ],
 )
 
--- the same where there was nothing before
+-- the same if there was nothing before
 pub same_next : {A C D E F : Type 0} → (A ↔ C) → (D ↔ (A ⊎ E)) → (F ↔ (C ⊎ E)) → D ↔ F
 same_next so_far step next = (
   λ d. elim (step.0 d) [ inl a ↦ next.1 (inl (so_far.0 a)) | inr e ↦ next.1 (inr e) ],
   λ f. elim (next.0 f) [ inl c ↦ step.1 (inl (so_far.1 c)) | inr e ↦ step.1 (inr e) ],
 )
 
--- the same beside what else there is
+-- the same together with what the windows have
 pub kept_next : {A C D E F W : Type 0} → ((A ⊎ W) ↔ (C ⊎ W)) → (D ↔ (A ⊎ E)) → (F ↔ (C ⊎ E))
     → (D ⊎ W) ↔ (F ⊎ W)
 kept_next so_far step next = (
@@ -107,7 +107,7 @@ kept_next so_far step next = (
   ],
 )
 
--- and where what comes next is part of that
+-- the same if the windows have what comes next
 pub left_out_next : {A C E F W : Type 0} → ((A ⊎ W) ↔ (C ⊎ W)) → (E → W) → (F ↔ (C ⊎ E)) → (A ⊎ W) ↔ (F ⊎ W)
 left_out_next so_far within next = (
   λ k. elim (so_far.0 k) [ inl c ↦ inl (next.1 (inl c)) | inr w ↦ inr w ],
@@ -117,7 +117,7 @@ left_out_next so_far within next = (
   ],
 )
 
--- a list in two parts, one without what the windows have, and then with it
+-- a list in two parts: without what the windows have, and then with the windows
 pub all_again : {A W V R P N : Type 0} → ((P ⊎ V) ↔ A) → (W ↔ V) → ((R ⊎ W) ↔ (P ⊎ W)) → (N ↔ (R ⊎ W)) → N ↔ A
 all_again parts same rest all = (
   λ n. elim (rest.0 (all.0 n)) [ inl p ↦ parts.0 (inl p) | inr w ↦ parts.0 (inr (same.0 w)) ],
@@ -137,7 +137,7 @@ rows_more more same = (
   ],
 )
 
--- or to the rings
+-- or added to the rings
 pub rest_more : {R W C M : Type 0} → (M ↔ (R ⊎ C)) → (M ⊎ W) ↔ ((R ⊎ W) ⊎ C)
 rest_more more = (
   λ k. elim k [
@@ -150,7 +150,7 @@ rest_more more = (
   ],
 )
 
--- a window that goes on above another, on the same abscissas
+-- a window that begins within another or where it ends, with the same abscissas
 pub both_have : (first second window : Window) → second.x0 ≡ first.x0 → second.x1 ≡ first.x1 → window.x0 ≡ first.x0
     → window.x1 ≡ first.x1 → window.y0 ≡ first.y0 → window.y1 ≡ int_max first.y1 second.y1 → first.y0 ≤ℤ second.y0
     → second.y0 ≤ℤ first.y1 → (s : Square) → IsWithin window s ↔ (IsWithin first s ⊎ IsWithin second s)

@@ -18,7 +18,7 @@ abbrev differ : Bool → Bool → Bool
 differ true b = not b
 differ false b = b
 
--- the sides on which the corners are, the first edge vertical
+-- on which sides of a square the corners are, if the first edge is vertical
 abbrev corners : Bool → Bool → Bool → Bool → List (Bool × Bool)
 corners x z u v = (x, u) ∷ (x, v) ∷ (z, v) ∷ (z, u) ∷ []
 
@@ -49,7 +49,7 @@ winds_by_sides false false true false = (λ n. absurd (n refl), λ h. absurd (un
 winds_by_sides false false false true = (λ n. absurd (n refl), λ h. absurd (untrue h))
 winds_by_sides false false false false = (λ n. absurd (n refl), λ h. absurd (untrue h))
 
--- a square is between the sides of a rectangle where two of its corners are on different sides of it
+-- a square is between the sides of a rectangle exactly if two opposite corners are on different sides of it
 between : (a c z : ℤ) → IsTrue (differ (int_lt z a) (int_lt z c)) ↔ ((int_min a c ≤ℤ z) × (z <ℤ int_max a c))
 between a c z = (λ h. (grind (arith, ints), grind (arith, ints)), λ h. grind (arith, ints))
 
@@ -111,7 +111,7 @@ count_round f a b c d =
       count-cons f a [],
     )
 
--- four points cover the same from whichever of them the ring begins
+-- four points cover the same squares with any of them as the first
 pub covers_round : (a b c d : Point) (s : Square)
     → winding (a ∷ b ∷ c ∷ d ∷ []) s ≡ winding (b ∷ c ∷ d ∷ a ∷ []) s
 covers_round a b c d s =

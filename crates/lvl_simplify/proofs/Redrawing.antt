@@ -1,4 +1,4 @@
--- Rings redrawn by their vertical edges.
+-- Rings that are redrawn from their vertical edges.
 use Rattle.std.proofs.Common.{◌≡◌, ◌<◌, ◌+◌, ◌-◌, ℕ, ℤ, pos, ◌-ℤ◌, ◌+ℤ◌, ◌<ℤ◌, ◌≤ℤ◌, Bool, true, false, ◌&&◌, not, cond}
 use Rattle.std.proofs.Common.{List, [], ◌∷◌, ◌++◌, drop, length, get_or, ◌↔◌, sym, ap, ◌∙◌, refl, arith}
 use Rattle.std.proofs.Common.{Result, Ok, Err, Option, ◌⊎◌, inl, inr}
@@ -27,7 +27,7 @@ right_of : (a b c : Bool)
 right_of true b c = sides_turn b c
 right_of false b c = refl
 
--- how an edge winds round a square
+-- what an edge adds to the winding at a square
 pub edge_winds : (s : Square) (p q : Point)
     → pos (cond (goes_up s (p, q)) 1 0) -ℤ pos (cond (goes_down s (p, q)) 1 0) ≡ winds s p.x p.y q.y
 edge_winds s p q =
@@ -54,7 +54,7 @@ none_added old more e = omega (arith, ints, e)
 pub added_outside : (s : Square) (x from to old : ℤ) → x ≤ℤ s.x → old ≡ old +ℤ winds s x from to
 added_outside s x from to old le = none_added old (winds s x from to) (not_right s x from to le)
 
--- an edge without height adds nothing
+-- an edge whose ordinates are equal adds nothing
 pub added_none : (s : Square) (x from to old : ℤ) → from ≡ to → old ≡ old +ℤ winds s x from to
 added_none s x from to old e = rw e (none_added old (winds s x to to) (no_height s x to))
 
@@ -64,7 +64,7 @@ more_first w all us u e = omega (arith, ints, e)
 none_after : (z : ℤ) → z +ℤ pos 0 ≡ pos 0 +ℤ z
 none_after z = omega (arith, ints)
 
--- one edge more
+-- one more edge
 pub winding_pushed : (s : Square) (us : List Upright) (u : Upright)
     → winding_by s (us ++ u ∷ []) ≡ winding_by s us +ℤ winds s u.x u.from u.to
 winding_pushed s [] u = none_after (winds s u.x u.from u.to)
@@ -98,7 +98,7 @@ border_pushed s right p q old new at more =
     numbers true old new edge e = e
     numbers false old new edge e = refl
 
--- both ends of an edge more
+-- both ends of one more edge
 pub ends_pushed : (s : Square) (x : ℤ) (begins ends more others : List ℤ) (from to : ℤ) → more ≡ begins ++ from ∷ []
     → others ≡ ends ++ to ∷ []
     → if_right s x (pos (count_to s.y more) -ℤ pos (count_to s.y others))
@@ -121,7 +121,7 @@ none_right false = refl
 none_before : (none total : ℤ) → none ≡ pos 0 → (pos 0 +ℤ none) +ℤ total ≡ total
 none_before none total e = omega (arith, ints, e)
 
--- at first no edge is kept and all are left
+-- at first no edge is taken and all are still to come
 pub edges_start : (s : Square) (right : ℤ) (us : List Upright) (ts : List Turn) (ring : List Point) (d : Point)
     → us ≡ [] → ts ≡ [] → 0 < length ring
     → (winding_by s us +ℤ if_right s right (turning s.y ts))
@@ -135,7 +135,7 @@ step_numbers : (old new edge total : ℤ) (u d u' d' b c : ℕ) → new ≡ old 
     → pos b -ℤ pos c ≡ edge → old +ℤ (pos u -ℤ pos d) ≡ total → new +ℤ (pos u' -ℤ pos d') ≡ total
 step_numbers old new edge total u d u' d' b c e f g h i = omega (arith, ints, e, f, g, h, i)
 
--- the edges that are kept and those that are left wind as the ring does
+-- the edges taken so far and those still to come have the winding of the ring
 pub edges_step : (s : Square) (old new total : ℤ) (previous d : Point) (ring : List Point) (i : ℕ) → i < length ring
     → new ≡ old +ℤ winds s previous.x previous.y (get_or ring i d).y
     → old +ℤ net s (path_edges previous (drop i ring)) ≡ total
@@ -149,7 +149,7 @@ edges_step s old new total previous d ring i lt more so_far =
     (count-cons (goes_up s) e rest) (count-cons (goes_down s) e rest) (edge_winds s previous (get_or ring i d))
     (rw (path_at previous ring i d lt) at so_far)
 
--- rings that cover the same squares from an abscissa on, and have no point left of it, cover the same
+-- two rings without points left of an abscissa cover the same squares if they do so from the abscissa on
 pub same_covers : (left : ℤ) (ring other : List Point) (s : Square) → All (NotLeftOf left) ring
     → All (NotLeftOf left) other → (left ≤ℤ s.x → (winding other s ≢ pos 0) ↔ (winding ring s ≢ pos 0))
     → Covers ring s ↔ Covers other s
@@ -163,13 +163,13 @@ same_covers left ring other s a b h =
         winding_left s points
         (All-weaker (NotLeftOf left) (λ q. int_lt s.x q.x ≡ true) (λ q le. grind (arith, ints)) points all)
 
--- what an answer says, where it is made an option
+-- what holds of the value of a result holds of the option made from it
 pub some_of_ok : {A E : Type 0} (P : A → Type 0) (r : Result A E) (o : Option A) → o ≡ result_ok r → IfOk r P
     → IfSome o P
 some_of_ok P (Ok x) o e h = subst (λ p. IfSome p P) (sym e) h
 some_of_ok P (Err x) o e h = subst (λ p. IfSome p P) (sym e) tt
 
--- a ring more, or another that covers the same squares
+-- one more ring, or another that covers the same squares
 pub same_pushed : {N O A B : Type 0} → (N ↔ (O ⊎ B)) → (A ↔ B) → N ↔ (O ⊎ A)
 same_pushed pushed same = (
   λ n. elim (pushed.0 n) [ inl o ↦ inl o | inr b ↦ inr (same.1 b) ],

@@ -15,7 +15,7 @@ use Rattle.lvl_simplify.proofs.Redrawing.{edge_winds, no_height, not_right, more
 abbrev pub no_upright : Upright
 no_upright = record { x = pos 0; from = pos 0; to = pos 0 }
 
--- how a path winds round a square, edge by edge
+-- the winding of a path at a square, edge by edge
 abbrev pub path_winding : Square → Point → List Point → ℤ
 path_winding s p [] = pos 0
 path_winding s p (q ∷ qs) = winds s p.x p.y q.y +ℤ path_winding s q qs
@@ -48,7 +48,7 @@ last_more : (p : Point) (qs rs : List Point) → last_or p (qs ++ rs) ≡ last_o
 last_more p [] rs = refl
 last_more p (q ∷ qs) rs = last_more q qs rs
 
--- a tooth winds as its edge does
+-- a tooth has the winding of its edge
 tooth_winds : (s : Square) (left : ℤ) (p : Point) (u : Upright) → p.x ≡ left → left ≤ℤ s.x
     → path_winding s p (tooth left u) ≡ winds s u.x u.from u.to
 tooth_winds s left p u e le =
@@ -69,7 +69,7 @@ four_pushed old one two three four a b c d e f g h =
     ∙ (append_assoc one (b ∷ []) (c ∷ d ∷ [])
     ∙ (ap (λ ys. ys ++ b ∷ c ∷ d ∷ []) e ∙ append_assoc old (a ∷ []) (b ∷ c ∷ d ∷ []))))))
 
--- the points of teeth from an abscissa wind as the edges do, and end there
+-- the points of teeth from an abscissa have the winding of the edges, and end at that abscissa
 pub record Teeth (left : ℤ) (us : List Upright) (points : List Point) : Type 0 where
   pub wind : (s : Square) → left ≤ℤ s.x → (p : Point) → p.x ≡ left → path_winding s p points ≡ winding_by s us
   pub last : (p : Point) → p.x ≡ left → (last_or p points).x ≡ left
@@ -91,7 +91,7 @@ teeth_more left us more u old new e f h =
     both : {a b c d : ℤ} → a ≡ b → c ≡ d → a +ℤ c ≡ b +ℤ d
     both {a} {b} {c} {d} e f = ap (λ z. z +ℤ c) e ∙ ap (λ z. b +ℤ z) f
 
--- closed to a ring, they still do
+-- as a closed ring they have the same winding
 pub teeth_wind : (s : Square) (left : ℤ) (us : List Upright) (points : List Point) → left ≤ℤ s.x
     → Teeth left us points → winding points s ≡ winding_by s us
 teeth_wind s left us [] le h = h.wind s le (record { x = left; y = pos 0 }) refl

@@ -32,7 +32,7 @@ turn_added true false a c a' c' e f = omega (arith, ints, e, f)
 turn_added false true a c a' c' e f = omega (arith, ints, e, f)
 turn_added false false a c a' c' e f = omega (arith, ints, e, f)
 
--- a turn more
+-- one more turn
 pub turning_pushed : (y : ℤ) (old new : List Turn) (t : Turn) → new ≡ old ++ t ∷ []
     → turning y new ≡ turning y old +ℤ cond (int_le t.y y) (change t) (pos 0)
 turning_pushed y old new t e =
@@ -74,7 +74,7 @@ sides_turn true false = refl
 sides_turn false true = refl
 sides_turn false false = refl
 
--- an edge from a border winds round a square between them as its turns say
+-- an edge that starts at a border adds to the winding at a square between the borders what its turns say
 edge_winds : (left right : ℤ) (s : Square) (p q : Point) → IsAtBorder left right p → IsBetween left right s
     → pos (cond (goes_up s (p, q)) 1 0) -ℤ pos (cond (goes_down s (p, q)) 1 0) ≡ edge_turning right s.y (p, q)
 edge_winds left right s p q (inl at_left) between =
@@ -89,7 +89,7 @@ edge_winds left right s p q (inr at_right) between =
     let b : int_eq p.x right ≡ true = grind (arith, ints) in
     rw (a, b, lt_is_not_le s.y q.y, lt_is_not_le s.y p.y) (sides_turn (int_le p.y s.y) (int_le q.y s.y))
 
--- how often edges wind round a square
+-- what edges add to the winding at a square
 abbrev pub net : Square → List Edge → ℤ
 net s es = pos (count_by (goes_up s) es) -ℤ pos (count_by (goes_down s) es)
 
@@ -97,7 +97,7 @@ step_numbers : (old new edge total : ℤ) (u d u' d' b c : ℕ) → new ≡ old 
     → pos b -ℤ pos c ≡ edge → old +ℤ (pos u -ℤ pos d) ≡ total → new +ℤ (pos u' -ℤ pos d') ≡ total
 step_numbers old new edge total u d u' d' b c e f g h i = omega (arith, ints, e, f, g, h, i)
 
--- the turns of the edges so far and the edges that are left wind as the ring does
+-- the turns of the edges so far and the edges still to come have the winding of the ring
 pub turns_step : (left right : ℤ) (s : Square) (old new : List Turn) (previous d : Point) (ring : List Point) (i : ℕ)
     (total : ℤ) → i < length ring → IsAtBorder left right previous → IsBetween left right s
     → turning s.y new ≡ turning s.y old +ℤ edge_turning right s.y (previous, get_or ring i d)
@@ -115,12 +115,12 @@ turns_step left right s old new previous d ring i total lt at between more so_fa
 zero_more : (z : ℤ) → (pos 0 -ℤ pos 0) +ℤ z ≡ z
 zero_more z = omega (arith, ints)
 
--- at first all edges are left
+-- at first all edges are still to come
 pub turns_start : (s : Square) (turns : List Turn) (ring : List Point) (d : Point) → turns ≡ [] → 0 < length ring
     → turning s.y turns +ℤ net s (path_edges (get_or ring (length ring - 1) d) ring) ≡ winding ring s
 turns_start s turns ring d none some = rw (none, edges_from_last ring d some) (zero_more (winding ring s))
 
--- a row more, or none where the ring doesn't wind round it
+-- one more window of rows, or none if the winding there is 0
 pub row_pushed : (left right low high : ℤ) (old new : List Window) (s : Square)
     → new ≡ old ++ record { x0 = left; y0 = low; x1 = right; y1 = high } ∷ []
     → IsWithinSome new s ↔ (IsWithinSome old s ⊎ (IsBetween left right s × (low ≤ℤ s.y) × (s.y <ℤ high)))
@@ -160,7 +160,7 @@ rows_step y low high before after windings change more rise above pushed below =
           (λ ge. pushed.1 (inr (λ z. h.2 (same h.1 ∙ above ge ∙ z), (h.0, ge, h.1)))),
     )
 
--- above the turn the ring winds so often
+-- the winding above the turn
 pub above_step : (y high before after windings change counted : ℤ)
     → after ≡ before +ℤ cond (int_le high y) change (pos 0) → high ≤ℤ y → before ≡ windings
     → counted ≡ windings +ℤ change → after ≡ counted
@@ -168,7 +168,7 @@ above_step y high before after windings change counted more le so_far next =
     let all : int_le high y ≡ true = grind (arith, ints) in
     omega (arith, ints, rw all at more, so_far, next)
 
--- a ring whose points lie at two abscissas covers squares between them alone
+-- a ring whose points are at two abscissas covers only squares between them
 only_between : (left right : ℤ) (ring : List Point) (s : Square) → left ≤ℤ right → All (IsAtBorder left right) ring
     → Covers ring s → IsBetween left right s
 only_between left right ring s wide at covered =
@@ -185,7 +185,7 @@ only_between left right ring s wide at covered =
       | inr e ↦ grind (arith, ints)
     ]) ring at)))))
 
--- it covers what its rows have
+-- it covers exactly the squares of its rows
 pub covers_rows : (left right : ℤ) (ring : List Point) (s : Square) (turns sorted : List Turn) (rows : List Window)
     → left ≤ℤ right → All (IsAtBorder left right) ring
     → (IsBetween left right s → winding ring s ≡ turning s.y turns) → IsPermutation turns sorted

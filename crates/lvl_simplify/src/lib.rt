@@ -1,9 +1,9 @@
 //! Fewer and shorter rings that cover the same squares.
 //!
-//! Clipped to a column, shapes that are wider than it span it from side to side, and only their rows
-//! count: a few joined ones cover what thousands of nested ones do. Of a ring that goes round and
-//! round, what lies at the column's borders counts only by how often it winds round each row, so it
-//! is drawn again with shorter edges there.
+//! Shapes that are wider than a column, clipped to it, span it from side to side, so only their
+//! rows count: rectangles whose rows overlap or touch are joined to one. A ring that goes in and
+//! out many times runs up and down the borders of the column again and again. Of these edges only
+//! the winding in each row counts, so the ring is redrawn with shorter ones.
 //!
 //! ```
 //! let mut rings = Rings::new(alloc);

@@ -1,8 +1,9 @@
-//! How far a ring reaches, and how long its edges are in all. No contract speaks of it.
+//! The bounds of a ring, and the length of its edges. These guide choices of cost only, so they
+//! have no contracts.
 
 use lvl_grid::Point;
 
-/// How far a ring reaches along x, and how long its edges are in all, in grid steps.
+/// The bounds of a ring, and the number and the length of its edges, in grid steps.
 #[derive(Clone, Copy, Debug)]
 pub struct Outline {
     /// The least abscissa.
@@ -13,11 +14,11 @@ pub struct Outline {
     pub low: i64,
     /// The greatest ordinate.
     pub high: i64,
-    /// How many vertical edges there are.
+    /// The number of vertical edges.
     pub edges: u128,
-    /// The lengths of the vertical edges together.
+    /// The sum of the lengths of the vertical edges.
     pub heights: u128,
-    /// The lengths of the horizontal edges together.
+    /// The sum of the lengths of the horizontal edges.
     pub widths: u128,
 }
 
@@ -41,8 +42,8 @@ impl Outline {
         outline
     }
 
-    /// Adds the edge from one point to another. A length is below 2^64 and a list has fewer than 2^60
-    /// points, so no sum of lengths reaches 2^124.
+    /// Adds the edge from one point to another. A length is below 2^64 and a list has fewer than
+    /// 2^60 points, so sums of lengths are below 2^124.
     fn add(&mut self, from: Point, to: Point) {
         self.left = self.left.min(to.x);
         self.right = self.right.max(to.x);
@@ -56,15 +57,14 @@ impl Outline {
             .saturating_add(u128::from(to.x.abs_diff(from.x)));
     }
 
-    /// How many rectangles a column without a point of the ring is left with: half as many as a line
-    /// along y crosses edges, on average; at least 1.
+    /// How many rectangles the ring leaves in a narrow column without points of the ring, on
+    /// average: half the number of edges that a vertical line crosses, and at least 1.
     pub fn folds(&self) -> u128 {
         let across = u128::from(self.right.abs_diff(self.left)).saturating_mul(2);
         self.widths.checked_div(across).unwrap_or(1).max(1)
     }
 
-    /// Whether the ring goes in and out many times: a column without a point of it is left with 16
-    /// rectangles or more.
+    /// Whether the ring goes in and out many times: [`Outline::folds`] is at least 16.
     pub fn is_folded(&self) -> bool {
         self.folds() >= 16
     }

@@ -1,8 +1,8 @@
-//! Long rings redrawn with less height in all.
+//! Long rings are redrawn with shorter vertical edges.
 //!
-//! Clipped to a column, a ring that goes round and round runs up and down the right border again and
-//! again. How often it winds round a square depends on its vertical edges alone, and of those at the
-//! border only on how many of them begin below it and how many end there.
+//! A ring that goes in and out many times, clipped to a column, runs up and down the right border
+//! again and again. Its winding at a square depends only on the vertical edges, and of those at the
+//! border only on how many begin and how many end at or below the row of the square.
 ghost use Rattle.std.specs.Prelude.{◌≡◌, ◌≢◌, ◌↔◌, ◌++◌, ◌+ℤ◌, ◌≤ℤ◌, ◌<◌, ℤ, pos, All, length, cond, int_le};
 ghost use Rattle.std.specs.Prelude.{IsTrue, IfOk, IfSome, OnOk};
 ghost use Rattle.lvl_grid.specs.declared.point.Square.{Square as GridSquare};
@@ -15,7 +15,7 @@ use crate::rows::{Turn, push_turns};
 use lvl_grid::{Point, Ring};
 use std::alloc::{AllocError, Global};
 
-/// A vertical edge.
+/// A vertical edge at the abscissa `x`, from one ordinate to another.
 #[derive(Clone, Copy)]
 pub struct Upright {
     pub x: i64,
@@ -23,21 +23,22 @@ pub struct Upright {
     pub to: i64,
 }
 
-/// The vertical edges of a ring; of those at the right border, the turns.
+/// The vertical edges of a ring in a column, without those at the left border: the inner ones, and
+/// the turns of those at the right border.
 #[derive(Drop)]
 pub struct Edges {
     pub inner: Vec<Upright>,
     pub turns: Vec<Turn>,
 }
 
-/// The ordinates where edges at the right border begin and where they end.
+/// The ordinates at which edges at the right border begin, and those at which they end.
 #[derive(Drop)]
 pub struct Ends {
     pub begins: Vec<i64>,
     pub ends: Vec<i64>,
 }
 
-/// Appends an edge, unless it has no height.
+/// Appends an edge, unless both ordinates are equal.
 fn push_upright(uprights: &mut Vec<Upright>, x: i64, from: i64, to: i64) -> Result<(), AllocError>
     ensures { OnOk result ((s : GridSquare)
         → winding_by s uprights.new.items ≡ winding_by s uprights.old.items +ℤ winds s x from to) }
@@ -64,7 +65,7 @@ impl Edges {
         push_upright(&mut self.inner, from.x, from.y, to.y)
     }
 
-    /// The edges of a ring.
+    /// The vertical edges of a ring.
     fn of(alloc: Global, ring: &[Point], left: i64, right: i64) -> Result<Edges, AllocError>
         requires { 0 < length ring.now }
         ensures { IfOk result (λ edges. (s : GridSquare) → left ≤ℤ s.x
@@ -84,7 +85,7 @@ impl Edges {
 }
 
 impl Ends {
-    /// Appends a turn.
+    /// Appends the ordinate of a turn.
     fn push(&mut self, turn: Turn) -> Result<(), AllocError>
         ensures { OnOk result ((y : ℤ)
             → ends_turning y self.new ≡ ends_turning y self.old +ℤ cond (int_le turn.y y) (change turn) (pos 0)) }
@@ -98,15 +99,16 @@ impl Ends {
     }
 }
 
-/// Whether a turn from one number of windings to another changes them where they are capped.
+/// Whether a turn that changes the winding from `windings` to `counted` is kept when windings are
+/// capped: both are within the bounds.
 fn is_kept(windings: i64, counted: i64, least: i64, most: i64) -> bool
     ensures { IsTrue result ↔ (((least ≤ℤ windings) × (windings ≤ℤ most)) × (least ≤ℤ counted) × (counted ≤ℤ most)) }
 {
     least <= windings && windings <= most && least <= counted && counted <= most
 }
 
-/// The ends of edges that wind as these turns do, which rise, but no more often one way or the other
-/// than given; or None for turns that don't rise.
+/// The ends of edges whose winding in each row is that of these turns, clamped to the bounds. None
+/// if the turns aren't sorted from below.
 fn capped(alloc: Global, turns: &[Turn], least: i64, most: i64) -> Result<Option<Ends>, AllocError>
     requires { (least ≤ℤ pos 0) × (pos 0 ≤ℤ most) }
     ensures { IfOk result (λ capped. IfSome capped (λ ends. (y : ℤ)
@@ -134,7 +136,7 @@ fn capped(alloc: Global, turns: &[Turn], least: i64, most: i64) -> Result<Option
     Ok(Some(ends))
 }
 
-/// Whether no point of a ring lies left of an abscissa.
+/// Whether no point of a ring is left of the abscissa.
 fn is_from(ring: &[Point], left: i64) -> bool
     ensures { IsTrue result → All (NotLeftOf left) ring.now }
 {
@@ -146,8 +148,8 @@ fn is_from(ring: &[Point], left: i64) -> bool
     true
 }
 
-/// The edges, and those at the right border from each beginning to the end of the same index, or None
-/// where there are not as many of both.
+/// The edges, with those at the right border appended: each goes from a beginning to the end with
+/// the same index. None if there aren't as many ends as beginnings.
 fn paired(
     mut uprights: Vec<Upright>,
     ends: &Ends,
@@ -165,8 +167,10 @@ fn paired(
     Ok(Some(uprights))
 }
 
-/// Vertical edges that cover the same squares. More edges at the right border than there are others
-/// cover a row whatever the others do, so one more than these is enough.
+/// Vertical edges with which the same squares are covered, or None if the winding at the border
+/// isn't found to be 0 in the end. If the winding in a row by edges at the border is greater than
+/// the number of the other edges, the row is covered whatever these do. So that winding is capped
+/// at one more than the number of the other edges.
 fn least_edges(alloc: Global, edges: Edges, right: i64) -> Result<Option<Vec<Upright>>, AllocError>
     ensures { IfOk result (λ least. IfSome least (λ uprights. (s : GridSquare)
         → (winding_by s uprights.items ≢ pos 0) ↔ (edges_winding s right edges ≢ pos 0))) }
@@ -189,8 +193,8 @@ fn least_edges(alloc: Global, edges: Edges, right: i64) -> Result<Option<Vec<Upr
     paired(inner, &ends, right)
 }
 
-/// The points of a ring with these vertical edges, and others at the left border only: a tooth from
-/// there for each edge.
+/// The points of a ring that has these vertical edges, and others at the left border only: for each
+/// edge, a tooth from there.
 fn drawn(alloc: Global, uprights: &[Upright], left: i64) -> Result<Vec<Point>, AllocError>
     ensures { IfOk result (λ points. (s : GridSquare) → left ≤ℤ s.x
         → winding_round points.items s ≡ winding_by s uprights.now) }
@@ -214,8 +218,8 @@ fn push_tooth(points: &mut Vec<Point>, upright: Upright, left: i64) -> Result<()
     Ok(())
 }
 
-/// A ring that covers the same squares, drawn by its vertical edges, those at the right border as
-/// short as may be.
+/// A ring that covers the same squares, with shorter edges at the right border. None if the ring
+/// isn't right of `left`, or can't be redrawn.
 pub(crate) fn redrawn(
     alloc: Global,
     ring: &[Point],

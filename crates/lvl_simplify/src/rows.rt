@@ -1,4 +1,4 @@
-//! The rows that a ring covers in a column at whose borders all of its points lie.
+//! The rows that a ring covers in a column, if all of its points are at the borders of the column.
 ghost use Rattle.std.specs.Prelude.{◌≡◌, ◌≢◌, ◌↔◌, ◌+ℤ◌, ◌<◌, ℤ, pos, All, length, IsTrue, IfOk, IfSome, OnOk};
 ghost use Rattle.lvl_grid.specs.declared.point.Square.{Square as GridSquare};
 ghost use Rattle.lvl_grid.specs.Winding.{winding as winding_round, Covers};
@@ -8,15 +8,15 @@ ghost use Rattle.lvl_simplify.specs.Rows.{IsBetween, IsAtBorder, change, turning
 use lvl_grid::{Point, Window};
 use std::alloc::{AllocError, Global};
 
-/// An ordinate from which on upwards a ring winds once more, or once less, round the squares of a
-/// column.
+/// An ordinate from which on upward the winding of a ring at the squares of a column is greater by
+/// 1 if `more` is set, or else less by 1.
 #[derive(Clone, Copy)]
 pub struct Turn {
     pub y: i64,
     pub more: bool,
 }
 
-/// Whether each point of a ring has one of two abscissas.
+/// Whether each point of a ring is at one of two abscissas.
 fn is_at_borders(ring: &[Point], left: i64, right: i64) -> bool
     ensures { IsTrue result → All (IsAtBorder left right) ring.now }
 {
@@ -28,7 +28,8 @@ fn is_at_borders(ring: &[Point], left: i64, right: i64) -> bool
     true
 }
 
-/// Appends the turns of the edge from one point to another, if it lies at the right border.
+/// Appends the turns of the edge from one point to another, if it is vertical and at the right
+/// border.
 pub(crate) fn push_turns(
     turns: &mut Vec<Turn>,
     from: Point,
@@ -52,7 +53,7 @@ pub(crate) fn push_turns(
     Ok(())
 }
 
-/// The turns of a ring whose points lie at two abscissas.
+/// The turns of a ring whose points are at two abscissas.
 fn turns_of(alloc: Global, ring: &[Point], left: i64, right: i64) -> Result<Vec<Turn>, AllocError>
     requires some { 0 < length ring.now }
     requires borders { All (IsAtBorder left right) ring.now }
@@ -69,7 +70,7 @@ fn turns_of(alloc: Global, ring: &[Point], left: i64, right: i64) -> Result<Vec<
 }
 
 impl Turn {
-    /// So many windings, once more or once less.
+    /// The winding after the turn, given that before it, or None if it is outside 64 bits.
     pub(crate) fn counted(self, windings: i64) -> Option<i64>
         ensures { IfSome result (λ counted. counted ≡ windings +ℤ change self) }
     {
@@ -81,8 +82,8 @@ impl Turn {
     }
 }
 
-/// The rows that a ring with these turns, from below, covers between two abscissas, or None for
-/// turns that don't rise or don't come to 0.
+/// The rows that a ring with these turns covers between two abscissas, as windows. None if the
+/// turns aren't sorted from below, or if their sum isn't 0.
 fn rows_between(
     alloc: Global,
     turns: &[Turn],
@@ -119,8 +120,8 @@ fn rows_between(
     Ok(Some(windows))
 }
 
-/// The rows that a ring covers, if all of its points lie at two abscissas; none of them has squares where
-/// both are the same.
+/// The rows that a ring covers, as windows, if all of its points are at two abscissas, else None.
+/// If both abscissas are equal, the windows have no squares.
 pub(crate) fn rows(
     alloc: Global,
     ring: &[Point],

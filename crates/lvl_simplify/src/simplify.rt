@@ -1,4 +1,4 @@
-//! Rings made simpler: long ones redrawn, and those that span all abscissas joined.
+//! Rings are made simpler: long ones are redrawn, and those that span all abscissas are joined.
 ghost use Rattle.std.specs.Prelude.{◌↔◌, ◌⊎◌, IfOk, IfSome, OnOk};
 ghost use Rattle.lvl_grid.specs.declared.point.Square.{Square as GridSquare};
 ghost use Rattle.lvl_grid.specs.Winding.{Covers, SomeCovers, IsRing};
@@ -9,15 +9,15 @@ use crate::spanning::{extent, joined};
 use lvl_grid::{Point, Ring, Rings};
 use std::alloc::{AllocError, Global};
 
-/// How many points a ring has, at least, that is redrawn.
+/// The fewest points of a ring that is redrawn.
 const LONG: usize = 64;
 
-/// Whether a ring is long and goes in and out many times.
+/// Whether a ring has at least [`LONG`] points and goes in and out many times.
 fn is_long(ring: &[Point]) -> bool {
     ring.len() >= LONG && Outline::of(ring).is_folded()
 }
 
-/// A long ring redrawn, if that has less than half of its height.
+/// A long ring, redrawn, if the vertical edges are less than half as long in all, else None.
 fn shorter(alloc: Global, ring: &[Point], left: i64, right: i64) -> Result<Option<Ring>, AllocError>
     ensures { IfOk result (λ shorter. IfSome shorter (λ other. (s : GridSquare)
         → Covers ring.now s ↔ Covers other s)) }
@@ -34,7 +34,7 @@ fn shorter(alloc: Global, ring: &[Point], left: i64, right: i64) -> Result<Optio
     Ok(None)
 }
 
-/// Appends a ring, redrawn where that is shorter.
+/// Appends a ring, redrawn if that is shorter.
 fn push_shorter(
     alloc: Global,
     rings: &mut Rings,
@@ -61,7 +61,7 @@ fn has_long(rings: &Rings) -> bool {
     false
 }
 
-/// The rings, redrawn where that is shorter.
+/// The rings, each redrawn if that is shorter.
 fn all_shorter(alloc: Global, rings: Rings) -> Result<Rings, AllocError>
     ensures { IfOk result (λ shorter. (s : GridSquare) → SomeCovers shorter s ↔ SomeCovers rings s) }
 {
@@ -76,9 +76,9 @@ fn all_shorter(alloc: Global, rings: Rings) -> Result<Rings, AllocError>
     Ok(shorter)
 }
 
-/// Rings that cover the same squares as the given ones: those that span all abscissas are joined
-/// where their rows overlap or touch, and a long one that goes in and out many times is drawn again
-/// with less height, where that is less than half. Own rule. Fails only when out of memory.
+/// Rings that cover the same squares as the given ones. Those that span all abscissas are joined if
+/// their rows overlap or touch. A long one that goes in and out many times is redrawn if its
+/// vertical edges are then less than half as long in all (own rule). Fails only if out of memory.
 pub fn simplified(alloc: Global, rings: Rings) -> Result<Rings, AllocError>
     ensures { IfOk result (λ simplified. (s : GridSquare) → SomeCovers simplified s ↔ SomeCovers rings s) }
 {

@@ -1,7 +1,7 @@
-//! Rings that span a column, joined where their rows overlap or touch.
+//! Rings that span a column are joined if their rows overlap or touch.
 //!
-//! Such a ring is the same as its rows, so a few joined ones cover what thousands of nested ones do,
-//! and what lies within them needs no sweep.
+//! Such a ring is determined by its rows, so a few joined ones can cover what thousands of nested
+//! ones do. Rings within the joined ones are left out.
 ghost use Rattle.std.specs.Prelude.{◌↔◌, ◌⊎◌, ◌∷◌, [], IsTrue, IfSome, IfOk, OnOk};
 ghost use Rattle.lvl_grid.specs.declared.point.Square.{Square as GridSquare};
 ghost use Rattle.lvl_grid.specs.Clip.{IsWithin};
@@ -12,8 +12,8 @@ use crate::rows::rows;
 use lvl_grid::{Part, Point, Rings, Window};
 use std::alloc::{AllocError, Global};
 
-/// The window whose squares the ring of four points covers, if that is a rectangle whose first edge
-/// is vertical.
+/// The window of the squares that a ring of four points covers, if it is a rectangle whose first
+/// edge is vertical, else None.
 fn window_of_four(a: Point, b: Point, c: Point, d: Point) -> Option<Window>
     ensures { IfSome result (λ window. (s : GridSquare) → Covers (a ∷ b ∷ c ∷ d ∷ []) s ↔ IsWithin window s) }
 {
@@ -28,7 +28,7 @@ fn window_of_four(a: Point, b: Point, c: Point, d: Point) -> Option<Window>
     })
 }
 
-/// The window whose squares a ring covers, if it is a rectangle.
+/// The window of the squares that a ring covers, if it is a rectangle of four points, else None.
 fn window_of(ring: &[Point]) -> Option<Window>
     ensures { IfSome result (λ window. (s : GridSquare) → Covers ring.now s ↔ IsWithin window s) }
 {
@@ -41,8 +41,8 @@ fn window_of(ring: &[Point]) -> Option<Window>
     window_of_four(*b, *c, *d, *a)
 }
 
-/// The least and the greatest abscissa of the rings; the greatest and the least number where they have
-/// no points.
+/// The least and the greatest abscissa of the rings, or `(i64::MAX, i64::MIN)` if they have no
+/// points.
 pub fn extent(rings: &Rings) -> (i64, i64) {
     let mut left = i64::MAX;
     let mut right = i64::MIN;
@@ -53,7 +53,7 @@ pub fn extent(rings: &Rings) -> (i64, i64) {
     (left, right)
 }
 
-/// The window of a ring that is a rectangle from one abscissa to another.
+/// The window of a ring, if it is a rectangle from the abscissa `left` to `right`, else None.
 fn spanned(ring: &[Point], left: i64, right: i64) -> Option<Window>
     ensures { IfSome result (λ window. (s : GridSquare) → Covers ring.now s ↔ IsWithin window s) }
 {
@@ -66,8 +66,8 @@ fn spanned(ring: &[Point], left: i64, right: i64) -> Option<Window>
     window_of(ring)
 }
 
-/// Appends the rows of a ring that spans from one abscissa to another to the windows, or the ring to
-/// the rest.
+/// Appends the rows of a ring to `windows` if all its points are at the two borders, else the ring
+/// to `rest`.
 fn part(
     alloc: Global,
     windows: &mut Vec<Window>,
@@ -92,8 +92,8 @@ fn part(
     rest.push(ring)
 }
 
-/// The rows of the rings whose points all lie at the borders of all rings together, and the rest of
-/// the rings.
+/// The rows of those rings whose points are all at the least or the greatest abscissa of all rings,
+/// and the other rings.
 fn parted(alloc: Global, rings: &Rings) -> Result<(Vec<Window>, Rings), AllocError>
     ensures { IfOk result (λ parts. (s : GridSquare)
         → (SomeCovers parts.1 s ⊎ IsWithinSome parts.0.items s) ↔ SomeCovers rings.now s) }
@@ -107,8 +107,8 @@ fn parted(alloc: Global, rings: &Rings) -> Result<(Vec<Window>, Rings), AllocErr
     Ok((windows, rest))
 }
 
-/// The window that has the squares of both, if they have the same abscissas and the second begins
-/// within the first or where it ends.
+/// The window that has exactly the squares of both, if they have the same abscissas and the second
+/// begins within the rows of the first or where these end, else None.
 fn both(first: Window, second: Window) -> Option<Window>
     ensures { IfSome result
         (λ window. (s : GridSquare) → IsWithin window s ↔ (IsWithin first s ⊎ IsWithin second s)) }
@@ -125,7 +125,7 @@ fn both(first: Window, second: Window) -> Option<Window>
     })
 }
 
-/// Joins a window with the last one, or appends it.
+/// Joins a window with the last one if they overlap or touch, else appends it.
 fn push_joined(windows: &mut Vec<Window>, next: Window) -> Result<(), AllocError>
     ensures { OnOk result ((s : GridSquare)
         → IsWithinSome windows.new.items s ↔ (IsWithinSome windows.old.items s ⊎ IsWithin next s)) }
@@ -143,7 +143,7 @@ fn push_joined(windows: &mut Vec<Window>, next: Window) -> Result<(), AllocError
     Ok(())
 }
 
-/// The windows from below, joined where they overlap or touch.
+/// The windows in order from below, joined if their rows overlap or touch.
 fn joined_windows(alloc: Global, mut windows: Vec<Window>) -> Result<Vec<Window>, AllocError>
     ensures { IfOk result (λ joined. (s : GridSquare) → IsWithinSome joined.items s ↔ IsWithinSome windows.items s) }
 {
@@ -183,7 +183,7 @@ fn push_windows(rings: &mut Rings, windows: &[Window]) -> Result<(), AllocError>
     Ok(())
 }
 
-/// Whether a ring lies within a window.
+/// Whether all points of a ring are in a window, borders included.
 fn is_inside(ring: &[Point], window: Window) -> bool
     ensures { IsTrue result → (s : GridSquare) → Covers ring.now s → IsWithin window s }
 {
@@ -196,7 +196,8 @@ fn is_inside(ring: &[Point], window: Window) -> bool
     true
 }
 
-/// Whether a ring lies within one of the windows, which are apart and in order from below.
+/// Whether a ring is in one of the windows. These are apart and in order from below, else `false`
+/// says nothing.
 fn is_covered(ring: &[Point], windows: &[Window]) -> bool
     ensures { IsTrue result → (s : GridSquare) → Covers ring.now s → IsWithinSome windows.now s }
 {
@@ -213,7 +214,7 @@ fn is_covered(ring: &[Point], windows: &[Window]) -> bool
     }
 }
 
-/// The rings that lie within none of the windows, with room for a rectangle of each window.
+/// The rings that aren't in one of the windows, with room for a rectangle for each window.
 fn uncovered(alloc: Global, rings: &Rings, windows: &[Window]) -> Result<Rings, AllocError>
     ensures { IfOk result (λ rest. (s : GridSquare)
         → (SomeCovers rest s ⊎ IsWithinSome windows.now s)
@@ -232,10 +233,10 @@ fn uncovered(alloc: Global, rings: &Rings, windows: &[Window]) -> Result<Rings, 
     Ok(rest)
 }
 
-/// How many rings of a list are looked at before it is gone through.
+/// How many rings of a list are tried before all are.
 const LOOKED_AT: usize = 64;
 
-/// Some rings of a list, from all over it.
+/// At most [`LOOKED_AT`] rings of a list, evenly spaced.
 fn some_of(alloc: Global, rings: &Rings) -> Result<Rings, AllocError> {
     let step = rings.len() / LOOKED_AT + 1;
     let mut some = Rings::new(alloc);
@@ -247,7 +248,8 @@ fn some_of(alloc: Global, rings: &Rings) -> Result<Rings, AllocError> {
     Ok(some)
 }
 
-/// Rings that cover the same squares, with few among them that span all abscissas.
+/// Rings that cover the same squares. Those that span all abscissas are joined, and others within
+/// them are left out.
 pub(crate) fn joined(alloc: Global, rings: Rings) -> Result<Rings, AllocError>
     ensures { IfOk result (λ joined. (s : GridSquare) → SomeCovers joined s ↔ SomeCovers rings s) }
 {

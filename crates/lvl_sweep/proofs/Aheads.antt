@@ -1,4 +1,4 @@
--- What the first bands of two lists say of the rows from one on.
+-- What the first bands of two lists say about the rows from some row on.
 use Rattle.std.proofs.Common.{◌≡◌, ◌≢◌, true, false, ◌&&◌, ◌||◌, cond, List, [], ◌∷◌, ℤ, ◌<ℤ◌, ◌≤ℤ◌, int_lt, int_le}
 use Rattle.std.proofs.Common.{Option, None, Some, refl, sym, ◌∙◌, ap, arith, subst, ◌⊎◌, inl, inr}
 use Rattle.std.specs.List.{list_any}
@@ -73,7 +73,7 @@ left_least : (is : List (ℤ × ℤ)) (z : ℤ) → AreIntervals is → z <ℤ l
 left_least [] z row lt = refl
 left_least (i ∷ is) z row lt = let s : Stands [] i is = stands [] i is row in early z [] i is s lt
 
--- the left end of a band's first row is the least square where the other list covers nothing up to it
+-- the leftmost square of a band's first row is the least one if the other list covers nothing up to it
 pub first_alone : (from : Option ℤ) (b : Slab) (vs : List Slab) (s : Square) → IsMet from b → IsHigh from b s.y
     → s.x ≡ left_end b.value → ((t : Square) → is_from from t.y ≡ true → t.y ≤ℤ s.y → slabs_cover vs t ≡ false)
     → IsLeastAlone from (b ∷ []) vs s First
@@ -107,7 +107,7 @@ below_high : (from : Option ℤ) (d : Slab) (h : ℤ) (t : Square) → IsHigh fr
     → slabs_cover (d ∷ []) t ≡ false
 below_high from d h t high past lt = cover_below d t (high.under t.y past lt)
 
--- our band has the lower first row
+-- the first row of the first side's band is lower
 pub reported_lower : (from : Option ℤ) (b d : Slab) (s : Square) (o : ℤ) → IsMet from b → IsHigh from b s.y
     → IsHigh from d o → s.x ≡ left_end b.value → s.y <ℤ o → IsReportedByTwo from b d (Differ s First)
 reported_lower from b d s o met high other at lt = (
@@ -117,7 +117,7 @@ reported_lower from b d s o met high other at lt = (
       high at (λ t past le. below_high from d o t other past (omega (arith, ints, le, lt))),
 )
 
--- theirs has
+-- the first row of the second side's band is lower
 pub reported_upper : (from : Option ℤ) (b d : Slab) (s : Square) (o : ℤ) → IsMet from d → IsHigh from d s.y
     → IsHigh from b o → s.x ≡ left_end d.value → s.y <ℤ o → IsReportedByTwo from b d (Differ s Second)
 reported_upper from b d s o met high other at lt = (
@@ -128,7 +128,7 @@ reported_upper from b d s o met high other at lt = (
       (omega (arith, ints, le, lt)))),
 )
 
--- both have one first row, and differ in it
+-- both have the same first row, and differ in it
 pub reported_row : (from : Option ℤ) (b d : Slab) (x h : ℤ) (side : Side) → IsHigh from b h → IsHigh from d h
     → IsLeastIn b.value d.value x side → IsReportedByTwo from b d (Differ (record { x = x; y = h }) side)
 reported_row from b d x h side ours theirs row =
@@ -151,7 +151,7 @@ later_on : (from : Option ℤ) (h y : ℤ) → is_from from h ≡ true → h <�
 later_on None h y k lt = refl
 later_on (Some a) h y k lt = grind (arith, ints)
 
--- both have one first row and the same intervals
+-- both have the same first row and the same intervals
 pub reported_alike : (from : Option ℤ) (b d : Slab) (h y : ℤ) → IsHigh from b h → IsHigh from d h
     → ((z : ℤ) → list_any (spans z) b.value ≡ list_any (spans z) d.value) → y ≤ℤ b.to → y ≤ℤ d.to
     → (b.to ≡ y) ⊎ (d.to ≡ y) → IsReportedByTwo from b d (Alike y)
@@ -174,7 +174,7 @@ up_to : (t s : Square) → IsBefore t s → t.y ≤ℤ s.y
 up_to t s (inl lt) = omega (arith, ints, lt)
 up_to t s (inr h) = omega (arith, ints, h.0)
 
--- what two bands say their lists say
+-- what holds for the first bands alone holds for their lists
 reported_lists : (from : Option ℤ) (b d : Slab) (bs ds : List Slab) (r : Ahead) → AreSteps (b ∷ bs) → AreSteps (d ∷ ds)
     → IsReportedByTwo from b d r → IsReported from (b ∷ bs) (d ∷ ds) r
 reported_lists from b d bs ds (Differ s side) us vs h = record {

@@ -1,4 +1,4 @@
--- What is said of the same edges, in whatever order.
+-- Facts about edges that don't depend on their order.
 use Rattle.std.proofs.Common.{◌≡◌, ℕ, ◌<◌, ◌≤◌, Bool, true, false, ◌&&◌, not, cond, eqb, List, [], ◌∷◌, length, get_or}
 use Rattle.std.proofs.Common.{ℤ, pos, ◌<ℤ◌, int_lt, int_le, nat_lt, Option, None, Some, All, count_by, refl, sym, ◌∙◌}
 use Rattle.std.proofs.Common.{ap, arith, inl, inr}
@@ -24,7 +24,7 @@ use Rattle.lvl_sweep.proofs.BandLists.{bands_same}
 nothing : Edge
 nothing = record { low = pos 0; x = pos 0; ring = 0; high = pos 0; up = false }
 
--- a test that all pass
+-- a test that is true of all edges
 pub all_alike : (p : Edge → Bool) (es fs : List Edge) → HasSame es fs → All (λ e. p e ≡ true) es
     → All (λ e. p e ≡ true) fs
 all_alike p es fs h pass k d lt =
@@ -57,13 +57,13 @@ row_alike es fs h balanced = row_same fs es (balanced_alike es fs h balanced) ba
   λ f. (f.0, λ e. f.1 (sym (net_left_alike f.0 z es fs h) ∙ e)),
 ))
 
--- the edges alive in a row give its intervals
+-- the intervals of a row are those of the edges alive in it
 pub row_of_alive : (es active : List Edge) (y : ℤ) → HasSame (alive_at es y) active → Balanced (alive_at es y)
     → row active ≡ row_at es y
 unfolding row_at
 row_of_alive es active y h balanced = row_alike (alive_at es y) active h balanced
 
--- those alive in a row are alike
+-- lists with the same edges have the same edges alive in a row
 pub alive_alike : (es fs : List Edge) (y : ℤ) → HasSame es fs → HasSame (alive_at es y) (alive_at fs y)
 alive_alike es fs y h f =
     sum_filter (alive y) f fs ∙ (h (λ e. cond (alive y e) (f e) 0) ∙ sym (sum_filter (alive y) f es))
@@ -89,7 +89,7 @@ each (e ∷ es) = omega (arith, sum_by-cons {X = Edge} (λ e. 1) e es, each es)
 pub as_long : (es fs : List Edge) → HasSame es fs → length fs ≡ length es
 as_long es fs h = sym (each fs) ∙ (h (λ e. 1) ∙ each es)
 
--- the next edge to come begins at one ordinate
+-- the next edge begins at the same ordinate
 pub one_begin : (es fs : List Edge) (i : ℕ) (a b : Option ℤ) → length fs ≡ length es → IsSameFrom es fs i
     → IsBeginOf es i a → IsBeginOf fs i b → b ≡ a
 one_begin es fs i None None long same h k = refl
@@ -111,7 +111,7 @@ full_test a b h = grind (arith, ints)
 full_is : (a b : ℤ) → int_lt a b ≡ true → a <ℤ b
 full_is a b h = grind (arith, ints)
 
--- the vertical edges of rings, in whatever order
+-- the vertical edges of rings, in any order
 pub edges_of_alike : (rings : List (List Point)) (es fs : List Edge) → HasSame es fs → AreEdgesOf rings es
     → AreEdgesOf rings fs
 edges_of_alike rings es fs h of = record {

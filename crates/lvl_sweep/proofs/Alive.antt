@@ -1,4 +1,4 @@
--- The active edges give what some ring covers.
+-- The edges alive in a row say what some ring covers.
 use Rattle.std.proofs.Common.{◌≡◌, ◌≢◌, ℕ, ◌+◌, ◌<◌, Bool, true, false, ◌&&◌, not, cond, eqb, List, [], ◌∷◌, length}
 use Rattle.std.proofs.Common.{get_or, ℤ, pos, ◌-ℤ◌, int_lt, int_le, All, count_by, ◌↔◌, refl, sym, ◌∙◌, arith, inl, inr}
 use Rattle.std.specs.List.{sum_by, filter}
@@ -53,7 +53,7 @@ both false b = refl
 every : {A : Type 0} (P : A → Type 0) (xs : List A) → ((x : A) → P x) → All P xs
 every P xs h k d lt = h (get_or xs k d)
 
--- a count over the active edges is one over those of all edges that cross the row
+-- a count over the edges alive is one over all edges, of those that cross the row
 pub alive_count : (p : Edge → Bool) (y : ℤ) (es active : List Edge) → HasSame (filter (alive y) es) active
     → count_by p active ≡ count_by (λ e. alive y e && p e) es
 alive_count p y es active h =
@@ -78,7 +78,7 @@ sides t z es =
 flat : (a b : ℕ) → pos a -ℤ pos b ≡ pos 0 → a ≡ b
 flat a b h = omega (arith, ints)
 
--- in a balanced row the edges left of z balance where those right of it do
+-- in a balanced row the edges left of z balance exactly if those right of it do
 pub left_or_right : (r : ℕ) (z : ℤ) (es : List Edge) → net r es ≡ pos 0
     → net_left r z es ≡ pos 0 ↔ (pos (count_by (λ e. int_lt z e.x && (eqb e.ring r && e.up)) es) -ℤ pos
     (count_by (λ e. int_lt z e.x && (eqb e.ring r && not e.up)) es) ≡ pos 0)
@@ -101,7 +101,7 @@ left_or_right r z es balanced =
           level_off _ _ m,
     )
 
--- so the walk from the left sees what the winding counts from the right
+-- so the counts from the left are 0 exactly if the winding, counted from the right, is
 pub turns_where_winds : (rings : List (List Point)) (es active : List Edge) (y z : ℤ) (r : ℕ) → AreEdgesOf rings es
     → HasSame (filter (alive y) es) active → net r active ≡ pos 0 → r < length rings
     → net_left r z active ≡ pos 0 ↔ (winding (get_or rings r []) (record { x = z; y = y }) ≡ pos 0)
@@ -131,7 +131,7 @@ no_edge r n z es h k =
           (λ e j. off (int_le e.x z) (eqb e.ring r) (not e.up) (other e.ring r (omega arith))) es h)))))
     ]
 
--- walking the active edges from the left gives exactly what some ring covers in their row
+-- the counts of the edges alive, from the left, say exactly what some ring covers in the row
 pub inside_is_covered : (rings : List (List Point)) (es active : List Edge) (y z : ℤ) → AreEdgesOf rings es
     → HasSame (filter (alive y) es) active → All (λ e. e.ring < length rings) active → ((r : ℕ) → net r active ≡ pos 0)
     → IsInside active z ↔ SomeCovers rings (record { x = z; y = y })

@@ -105,7 +105,7 @@ unfolding bands_from
 bands_none es y none = none_from same_row one_row (far_of es) (Some y) (λ v. as_value (row_at es v)) (within es) (λ v h.
     let far : y ≤ℤ v = grind (arith, ints) in ap as_value (none v far))
 
--- no row from y up to t has
+-- no row from y up to t has intervals
 pub bands_skip : (es : List Edge) (y t : ℤ) → y ≤ℤ t → ((v : ℤ) → y ≤ℤ v → v <ℤ t → row_at es v ≡ [])
     → bands_from es (Some y) ≡ bands_from es (Some t)
 unfolding bands_from
@@ -154,7 +154,7 @@ all_later s (t ∷ ts) f a =
     All-cons (λ u. s.to ≤ℤ u.from) t ts f.0 (All-weaker (λ u. t.to ≤ℤ u.from) (λ u. s.to ≤ℤ u.from)
     (λ u k. omega (arith, ints, f.0, a.0, k)) ts rest)
 
--- where each step starts, its value holds
+-- at the start of each step its value holds
 pub each_there : {V : Type 0} (ss : List (Step V)) → AreSteps ss → All (λ t. value_of ss t.from ≡ Some t.value) ss
 each_there [] a = All-nil (λ t. value_of [] t.from ≡ Some t.value)
 each_there (s ∷ ss) a =
@@ -163,7 +163,7 @@ each_there (s ∷ ss) a =
     past_head s ss (get_or ss k d).from (all_later s ss a.1 a.2 k d lt) ∙ each_there ss a.2 k d lt in
     All-cons (λ t. value_of (s ∷ ss) t.from ≡ Some t.value) s ss (at_head s ss s.from (omega (arith, ints)) a.0) later
 
--- what a row's value has at x
+-- whether the value of a row has the abscissa x
 abbrev pub in_value : ℤ → Option (List (ℤ × ℤ)) → Bool
 in_value x None = false
 in_value x (Some r) = list_any (spans x) r
@@ -172,7 +172,7 @@ or_none : (a b : Bool) → b ≡ false → (a || b) ≡ a
 or_none true b h = refl
 or_none false b h = h
 
--- in a list of steps no two bands have one row
+-- in a list of steps no two bands have the same row
 pub cover_is : (s : Square) (ss : List Slab) → AreSteps ss → slabs_cover ss s ≡ in_value s.x (value_of ss s.y)
 cover_is s [] a = refl
 cover_is s (b ∷ bs) a =
@@ -190,7 +190,7 @@ in_as_value : (x : ℤ) (r : List (ℤ × ℤ)) → in_value x (as_value r) ≡ 
 in_as_value x [] = refl
 in_as_value x (i ∷ is) = refl
 
--- the slab list that the edges give
+-- the bands of the edges are a slab list
 pub record AreSlabsOf (es : List Edge) (slabs : List Slab) : Type 0 where
   pub list : IsSlabList slabs
   pub covers : (s : Square) → slabs_cover slabs s ≡ inside (alive_at es s.y) s.x
@@ -212,7 +212,7 @@ full : (r q : List (ℤ × ℤ)) → as_value r ≡ Some q → q ≢ []
 full [] q h e = cc
 full (i ∷ is) q h e = cc
 
--- where no row below y has intervals, the bands from y on are all bands
+-- if no row below y has intervals, the bands from y on are all bands
 pub bands_are : (es : List Edge) (y : ℤ) → ((v : ℤ) → Balanced (alive_at es v)) → ((v : ℤ) → v <ℤ y → row_at es v ≡ [])
     → AreSlabsOf es (bands_from es (Some y))
 unfolding bands_from

@@ -15,7 +15,7 @@ use Rattle.std.proofs.lemmas.Bool.{and_parts, not-false}
 use Rattle.std.proofs.lemmas.Bool.Decides.{Decides-int_eq}
 use Rattle.lvl_sweep.proofs.BandLists.{pair_is}
 
--- the intervals taken and those from the place on are the row's
+-- the intervals taken so far and those from the place on are those of the row
 pub record Collected (es : List Edge) (w w' : Windings) (old new : Vec (ℤ × ℤ)) (p : Place) : Type 0 where
   pub passed : HasPassed es p.at w'
   pub parted : IsParted es p.at p.x
@@ -25,7 +25,7 @@ pub record Collected (es : List Edge) (w w' : Windings) (old new : Vec (ℤ × �
   pub few : 2 * vec_len new ≤ p.at
   pub capacity : vec_capacity new ≡ vec_capacity old
 
--- the first intervals of the list and those from the place on are the row's
+-- the first intervals of the list and those from the place on are those of the row
 pub record Matched (es : List Edge) (w w' : Windings) (is : List (ℤ × ℤ)) (seen : ℕ) (p : Place) : Type 0 where
   pub passed : HasPassed es p.at w'
   pub parted : IsParted es p.at p.x
@@ -37,18 +37,18 @@ pub record Matched (es : List Edge) (w w' : Windings) (is : List (ℤ × ℤ)) (
 pub at_rest_outside : (w : Windings) → AreAtRest w → is_inside w ≡ false
 at_rest_outside w rest = rw rest.turning refl
 
--- one interval more
+-- one more interval
 pub one_taken : (whole new is rest left : List (ℤ × ℤ)) (i : ℤ × ℤ) → whole ≡ is ++ rest → rest ≡ i ∷ left
     → new ≡ is ++ i ∷ [] → whole ≡ new ++ left
 one_taken whole new is rest left i e f g = rw (e, f, g, append_assoc) refl
 
--- the next interval of the list is the row's next
+-- the next interval of the list is the next of the row
 pub one_seen : (whole is rest left : List (ℤ × ℤ)) (k : ℕ) (i d : ℤ × ℤ) → k < length is → whole ≡ take k is ++ rest
     → rest ≡ i ∷ left → get_or is k d ≡ i → whole ≡ take (k + 1) is ++ left
 one_seen whole is rest left k i d lt e f g =
     rw (take_more is k d lt, g) (one_taken whole (take k is ++ i ∷ []) (take k is) rest left i e f refl)
 
--- two intervals that the test finds no different
+-- two intervals that the comparison finds equal
 pub same_pair : (a b : ℤ × ℤ) (r : Bool) → r ≡ not (int_eq a.0 b.0 && int_eq a.1 b.1) → r ≡ false → a ≡ b
 same_pair a b r is off =
     let both = and_parts (int_eq a.0 b.0) (int_eq a.1 b.1) (not-false (int_eq a.0 b.0 && int_eq a.1 b.1) (sym is ∙ off))

@@ -27,7 +27,7 @@ use Rattle.lvl_sweep.proofs.OneList.{same_value, value_has}
 use Rattle.lvl_sweep.proofs.Firsts.{Stands, stands, early, here, at_end, right_of}
 use Rattle.lvl_sweep.proofs.Slabs.{none_left_of, at_head, past_head}
 
--- rings that wind alike cover alike
+-- rings with the same windings cover the same squares
 some_same : (rings : List (List Point)) (s t : Square) → All (λ ring. winding ring s ≡ winding ring t) rings
     → SomeCovers rings s → SomeCovers rings t
 some_same rings s t h c =
@@ -81,7 +81,7 @@ row_above rings slabs lines y x of has none =
           ((Decides-int_eq p.y y).1 e)),
     )) ring h)) rings has)
 
--- so where the value changes, a vertex has the ordinate
+-- so if the value changes at an ordinate, some vertex has it
 value_changes : (rings : List (List Point)) (slabs : List Slab) (lines : List ℤ) (y : ℤ) → AreBandsOf rings slabs
     → HaveOrdinates lines rings → value_of slabs (y -ℤ pos 1) ≢ value_of slabs y → Contains lines y
 value_changes rings slabs lines y of has changes = elim (contained lines y) [
@@ -204,7 +204,7 @@ same_side x z h = by_lt_z z x
     let b : int_lt z x ≡ false = grind (arith, ints) in
     a ∙ sym b)
 
--- an edge that doesn't stand at z counts alike on both sides of it
+-- an edge that isn't at z counts the same on both sides of it
 tests_alike : (x z a b y : ℤ) → (not (int_eq a b) && int_eq x z) ≡ false
     → (int_lt (z -ℤ pos 1) x && (int_le a y && int_lt y b)) ≡ (int_lt z x && (int_le a y && int_lt y b))
 tests_alike x z a b y h = elim (cases_Bool (int_eq a b)) [
@@ -244,7 +244,7 @@ winding_beside ring z y h =
     (λ e k. tests_alike e.0.x z e.1.y e.0.y y (flat_too e.0.y e.1.y e.0.x z k)) (edges ring) h) in
     rw (ups, downs) refl
 
--- where a row changes, there is an edge
+-- if a row changes at an abscissa, some edge has it
 changes_at : (rings : List (List Point)) (slabs : List Slab) (z y : ℤ) → AreBandsOf rings slabs
     → slabs_cover slabs (record { x = z -ℤ pos 1; y = y }) ≢ slabs_cover slabs (record { x = z; y = y })
     → Any (λ e. is_on z e ≡ true) (all_edges rings)

@@ -28,7 +28,7 @@ right_of z i h = grind (arith, ints)
 pub inside_of : (z : ℤ) (i : ℤ × ℤ) → i.0 ≤ℤ z → z <ℤ i.1 → spans z i ≡ true
 inside_of z i h k = grind (arith, ints)
 
--- what is around one interval of a row
+-- a row, split into the intervals before one, that one, and those after it
 pub record Stands (fr : List (ℤ × ℤ)) (a : ℤ × ℤ) (rest : List (ℤ × ℤ)) : Type 0 where
   pub full : a.0 <ℤ a.1
   pub before : All (λ i. i.1 <ℤ a.0) fr
@@ -69,7 +69,7 @@ pub or_false : (p : Bool) → (p || false) ≡ p
 or_false true = refl
 or_false false = refl
 
--- before the interval only the front counts
+-- left of the interval only the intervals before it count
 pub early : (z : ℤ) (fr : List (ℤ × ℤ)) (a : ℤ × ℤ) (rest : List (ℤ × ℤ)) → Stands fr a rest → z <ℤ a.0
     → list_any (spans z) (fr ++ a ∷ rest) ≡ list_any (spans z) fr
 early z fr a rest s lt =
@@ -114,7 +114,7 @@ starts_first fr a b is js s t lt = record {
   least = λ z k. early z fr a is s k ∙ sym (early z fr b js t (omega (arith, ints, k, lt)));
 }
 
--- both begin at one abscissa, and one ends before the other
+-- both begin at the same abscissa, and one ends before the other
 ends_first : (fr : List (ℤ × ℤ)) (a b : ℤ × ℤ) (is js : List (ℤ × ℤ)) → Stands fr a is → Stands fr b js → a.0 ≡ b.0
     → a.1 <ℤ b.1 → IsLeastIn (fr ++ a ∷ is) (fr ++ b ∷ js) a.1 Second
 ends_first fr a b is js s t e lt = record {
@@ -124,7 +124,7 @@ ends_first fr a b is js s t e lt = record {
       (λ g. here z fr a is s g k ∙ sym (here z fr b js t (omega (arith, ints, g, e)) (omega (arith, ints, k, lt))));
 }
 
--- one row has an interval more
+-- one row has one more interval
 pub one_more : (fr : List (ℤ × ℤ)) (a : ℤ × ℤ) (is : List (ℤ × ℤ)) → Stands fr a is
     → IsLeastIn (fr ++ a ∷ is) fr a.0 First
 one_more fr a is s = record {
@@ -135,7 +135,7 @@ one_more fr a is s = record {
 not_both : (a b : ℤ × ℤ) → a ≢ b → a.0 ≡ b.0 → a.1 ≡ b.1 → ⊥
 not_both a b h e f = h (pair_is a b e f)
 
--- where two rows differ first in one interval, the first end that one has alone
+-- if two rows first differ in one interval, the least abscissa that only one has is an end of that interval
 pub differ_at : (fr : List (ℤ × ℤ)) (a b : ℤ × ℤ) (is js : List (ℤ × ℤ)) → Stands fr a is → Stands fr b js → a ≢ b
     → IsLeastIn (fr ++ a ∷ is) (fr ++ b ∷ js) (end_difference a b).0 (end_difference a b).1
 differ_at fr a b is js s t h = by_lt_z a.0 b.0
@@ -183,7 +183,7 @@ row_differs is js k d e h g lt lt' same differ =
     (subst (λ (l : List (ℤ × ℤ)). IsLeastIn (take k is ++ a ∷ drop (k + 1) is) l (end_difference a b).0
     (end_difference a b).1) (sym right) reported)
 
--- the second row ends where the first has an interval more
+-- the second row ends, and the first has one more interval
 pub row_longer : (is js : List (ℤ × ℤ)) (k : ℕ) (d : ℤ × ℤ) → AreIntervals is → k < length is → length js ≤ k
     → take k is ≡ take k js → IsLeastIn is js (get_or is k d).0 First
 row_longer is js k d h lt far same =

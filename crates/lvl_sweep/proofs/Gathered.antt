@@ -1,4 +1,4 @@
--- The edges of one ring more.
+-- The edges of one more ring.
 use Rattle.std.proofs.Common.{◌≡◌, ℕ, ◌+◌, ◌<◌, ◌≤◌, Bool, true, false, ◌&&◌, not, eqb, cond, List, [], length, get_or}
 use Rattle.std.proofs.Common.{◌∷◌, ◌++◌, take, ◌<ℤ◌, int_lt, All, count_by, refl, sym, ◌∙◌, ap, arith, inl, inr}
 use Rattle.std.proofs.lemmas.Grind.{common_steps}
@@ -116,7 +116,7 @@ length_same es fs same =
     let counted : count_by any_edge fs ≡ count_by any_edge es = same (λ e. cond (any_edge e) 1 0) in
     omega (arith, counted, count_each es, count_each fs)
 
--- the vertical edges of one ring more
+-- the vertical edges of one more ring
 pub one_counted : (rings : List (List Point)) (ring : List Point) (i : ℕ) (es new : List Edge) → i < length rings
     → ring ≡ get_or rings i [] → count_by any_edge es ≡ count_by is_vertical (all_edges (take i rings))
     → count_by any_edge new ≡ count_by any_edge es + count_by is_vertical (edges ring)

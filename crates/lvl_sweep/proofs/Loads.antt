@@ -1,4 +1,4 @@
--- A sweep goes on to a row.
+-- How a sweep goes on to a row.
 use Rattle.std.proofs.Common.{◌≡◌, ℕ, ◌+◌, ◌-◌, ◌<◌, ◌≤◌, true, false, ◌&&◌, cond, List, length, get_or, take, drop, ℤ}
 use Rattle.std.proofs.Common.{pos, ◌<ℤ◌, ◌≤ℤ◌, int_lt, int_le, Option, All, refl, sym, ◌∙◌, arith, inl, inr}
 use Rattle.std.specs.List.{sum_by, AllWithin}
@@ -62,7 +62,7 @@ alive_there y e h k =
     let b : int_lt y e.high ≡ true = grind (arith, ints) in
     rw (a, b) refl
 
--- the edges alive in a row, where those before have ended and those after are to come
+-- the edges alive in a row, if those before have ended and those after are still to come
 run_alive : (es : List Edge) (i j : ℕ) (y : ℤ) → i ≤ j → AllWithin (λ e. e.high ≤ℤ y) es 0 i
     → AllWithin (λ e. e.low ≤ℤ y) es 0 j → AllWithin (λ e. y <ℤ e.high) es i j
     → AllWithin (λ e. y <ℤ e.low) es j (length es)
@@ -93,7 +93,7 @@ run_alive es i j y le ended begun high coming f =
       sum_by-take-drop g (drop i es) (j - i),
     )
 
--- the active edges of a sweep
+-- the edges alive in the row of a sweep
 abbrev pub active : Strips → List Edge
 active s = run s.edges.items s.from s.next
 
@@ -119,11 +119,11 @@ row_walked s h = record {
   balanced = balanced_alike (alive_at s.edges.items s.y) (active s) (active_same s h) (h.strips.balanced s.y);
 }
 
--- and its intervals those of the sweep's row
+-- and its intervals are those of the row of the sweep
 pub row_here : (s : Strips) → IsAt s → row (active s) ≡ row_at s.edges.items s.y
 row_here s h = row_of_alive s.edges.items (active s) s.y (active_same s h) (h.strips.balanced s.y)
 
--- those that begin from y on and by y begin at y
+-- edges that begin neither below y nor above it begin at y
 fresh_low : (s : Strips) (end k : ℕ) (y : ℤ) (d : Edge) → CanLoad s y
     → AllWithin (λ e. e.low ≤ℤ y) s.edges.items s.next end → s.next ≤ k → k < end → k < length s.edges.items
     → (get_or s.edges.items k d).low ≡ y
@@ -175,7 +175,7 @@ still_coming s end y h le first k d low lt =
 pub same_edges : (es fs : List Edge) → IsPermutation es fs → HasSame es fs
 same_edges es fs moved f = sum_by-IsPermutation f es fs moved
 
--- what the sweep keeps, where it goes on to row y
+-- the invariant of the sweep after it goes on to row y
 pub loaded : (s : Strips) (new : Vec Edge) (first end : ℕ) (begins top : Option ℤ) (y : ℤ) → CanLoad s y → s.next ≤ end
     → end ≤ length s.edges.items
     → (end < length s.edges.items → (d : Edge) → y <ℤ (get_or s.edges.items end d).low)

@@ -16,7 +16,7 @@ use Rattle.lvl_sweep.specs.Ahead.{IsOn, IsBefore, IsLeastAlone, IsUpTo}
 use Rattle.lvl_sweep.specs.inside.InStep.{IsMet, FirstIs, IsAlike, ended_by}
 use Rattle.lvl_sweep.proofs.Aheads.{cover_past}
 
--- below the row the lists that were are the same, and from it on those that are left count
+-- below the row both lists cover the same, and from it on the bands that are left cover what the whole lists do
 pub record InStep (from : Option ℤ) (us vs us' vs' : List Slab) : Type 0 where
   pub ours : IsSlabList us'
   pub theirs : IsSlabList vs'
@@ -111,7 +111,7 @@ sooner : (from : Option ℤ) (y z : ℤ) → is_from from y ≡ true → y ≤�
 sooner None y z h le = refl
 sooner (Some a) y z h le = grind (arith, ints)
 
--- what both cover below the row up to which they are alike
+-- both cover the same below the row
 pub same_below : (from : Option ℤ) (us vs us' vs' : List Slab) (y : ℤ) → InStep from us vs us' vs'
     → IsAlike from us' vs' y → (t : Square) → t.y <ℤ y → slabs_cover us t ≡ slabs_cover vs t
 same_below from us vs us' vs' y h alike t lt = elim (cases_Bool (is_from from t.y)) [
@@ -119,7 +119,7 @@ same_below from us vs us' vs' y h alike t lt = elim (cases_Bool (is_from from t.
   | inr below ↦ h.seen t below
 ]
 
--- both go on after the rows in which they are alike
+-- both go on after the rows in which they cover the same
 pub in_step_more : (from : Option ℤ) (us vs us' vs' us2 vs2 : List Slab) (y : ℤ) → us2 ≡ ended_by y us'
     → vs2 ≡ ended_by y vs' → InStep from us vs us' vs' → IsAlike from us' vs' y → InStep (Some y) us vs us2 vs2
 in_step_more from us vs us' vs' us2 vs2 y e f h alike = rw (e, f) (record {
@@ -186,7 +186,7 @@ pub least_rings : (r : Option (Square × Side)) (as' bs : List (List Point)) (us
 least_rings None as' bs us vs a b h = tt
 least_rings (Some f) as' bs us vs a b h = λ t before. covers_alike as' bs us vs a b t (h.least t refl before)
 
--- where no row is the last, all rows are meant
+-- if there is no last row, all rows are meant
 pub in_all_rows : {A : Type 0} (r : Option A) (P : Square → Type 0) → IfNone r ((t : Square) → IsUpTo None t.y → P t)
     → IfNone r ((t : Square) → P t)
 in_all_rows None P h = λ t. h t tt

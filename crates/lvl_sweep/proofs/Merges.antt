@@ -1,4 +1,4 @@
--- Two runs of edges, merged by abscissa from their ends on, within the list that has both.
+-- Two ranges of edges, merged by abscissa from their ends, within the list that has both.
 use Rattle.std.proofs.Common.{◌≡◌, ◌≢◌, ℕ, ◌+◌, ◌-◌, ◌<◌, ◌≤◌, false, List, length, get_or, ℤ, pos, ◌<ℤ◌, ◌≤ℤ◌, Option}
 use Rattle.std.proofs.Common.{None, Some, IfSome, IfNone, sym, ◌∙◌, ap, arith, inl, inr}
 use Rattle.std.specs.List.{AllWithin, SwappedAt}
@@ -32,7 +32,7 @@ swapped_same : (es fs : List Edge) (p q i j : ℕ) → SwappedAt es fs p q → (
     → IsSameWithin es fs i j
 swapped_same es fs p q i j s off k d le lt = s.2 k d (off k le lt).0 (off k le lt).1
 
--- all edges of a run that has both still pass
+-- a test is still true of all edges of a range after two of them are exchanged
 all_swapped : (P : Edge → Type 0) (es fs : List Edge) (p q i j : ℕ) → SwappedAt es fs p q → i ≤ p → p < j → i ≤ q
     → q < j → AllWithin P es i j → AllWithin P fs i j
 all_swapped P es fs p q i j s pl ph ql qh h k d le lt =
@@ -44,7 +44,7 @@ all_swapped P es fs p q i j s pl ph ql qh h k d le lt =
       ]
     ]
 
--- the edge from index p, put at q before a run
+-- the edge at index p is put at q, in front of a range
 all_front : (P : Edge → Type 0) (es fs : List Edge) (p q first end : ℕ) → SwappedAt es fs p q → q + 1 ≡ first
     → p < first → ((d : Edge) → P (get_or es p d)) → AllWithin P es first end → AllWithin P fs q end
 all_front P es fs p q first end s e near one h k d le lt =
@@ -78,7 +78,7 @@ rise_front es fs p q first end s e near one h a b d le on lt =
           ]
     ]
 
--- where the run ends that has one edge more
+-- where the strip ends after one more edge is put
 pub end_front : (es fs : List Edge) (p q first end : ℕ) (b old new : Option ℤ) → SwappedAt es fs p q → q + 1 ≡ first
     → p < first → first ≤ end → p < length es → IfNone new ⊥
     → IfSome new (λ t. (d : Edge) → IsLower (get_or es p d).high old t) → IsEndOf es first end b old

@@ -1,4 +1,4 @@
--- A set of squares has one slab list.
+-- A set of squares has only one slab list.
 use Rattle.std.proofs.Common.{◌≡◌, ◌≢◌, Bool, true, false, cond, List, [], ◌∷◌, map, suc, ℤ, ◌<ℤ◌, Option, None, Some}
 use Rattle.std.proofs.Common.{All, IfNone, refl, sym, ◌∙◌, ap, arith, subst}
 use Rattle.std.specs.List.{list_any}
@@ -42,7 +42,7 @@ steps_of (i ∷ is) h = (All-head (λ i. i.0 <ℤ i.1) i is h.each, follows_of i
 value_at : (is : List (ℤ × ℤ)) (z : ℤ) → value_of (map step_of is) z ≡ token (list_any (spans z) is)
 value_at is z = spans_value z (map step_of is) ∙ ap (λ l. token (list_any (spans z) l)) (and_back is)
 
--- two rows of intervals that have the same abscissae are equal
+-- two rows of intervals that have the same abscissas are equal
 pub same_intervals : (is js : List (ℤ × ℤ)) → AreIntervals is → AreIntervals js
     → ((z : ℤ) → list_any (spans z) is ≡ list_any (spans z) js) → is ≡ js
 same_intervals is js h k same =

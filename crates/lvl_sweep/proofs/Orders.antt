@@ -24,7 +24,7 @@ first_by a b c d Greater e h =
     let lt : b <ℤ a = int_ranked a b Greater e in
     (omega (arith, ints, lt), λ k. absurd (omega (arith, ints, lt, k)))
 
--- an edge that doesn't come before another by the keys comes no sooner
+-- an edge whose key isn't less than that of another isn't before it
 pub no_later : (d e : Edge) → is_lt (ordering_then (int_cmp e.low d.low) (int_cmp e.x d.x)) ≡ false → IsNoLater d e
 no_later d e h = first_by e.low d.low e.x d.x (int_cmp e.low d.low) refl h
 
@@ -37,7 +37,7 @@ trans a b c h k = (
       omega (arith, ints, h.1 left, k.1 right),
 )
 
--- an order that holds between neighbours holds between all
+-- an order that holds between consecutive items holds between all
 pairs_by : (es : List Edge) (n i j : ℕ) (d : Edge)
     → ((k : ℕ) → k + 1 < length es → IsNoLater (get_or es k d) (get_or es (k + 1) d)) → j ≡ i + n + 1 → j < length es
     → IsNoLater (get_or es i d) (get_or es j d)

@@ -12,7 +12,7 @@ use Rattle.lvl_sweep.specs.inside.Rows.{steps_from, inside, far_of, Balanced, en
 use Rattle.lvl_sweep.proofs.Steps.{IsWithin, steps_give, none_from, first_from, same_from}
 use Rattle.lvl_sweep.proofs.Insides.{inside_far}
 
--- what a row says of an abscissa, as a value of steps
+-- whether a row is inside at an abscissa, as a value of steps
 abbrev mark : List Edge → ℤ → Option (Unit {0})
 mark es z = cond (inside es z) (Some tt) None
 
@@ -42,7 +42,7 @@ row_first es o s e balanced at lt before here stops =
     (λ z h k. rw (before z h k) refl) (λ z h k. rw (here z h k) refl) (λ h. let none : mark es e ≡ None =
     rw stops refl in let clash : None ≡ Some tt = sym none ∙ h in cc))
 
--- edges that wind alike have one row
+-- edges with the same windings have the same intervals
 pub row_same : (es fs : List Edge) → Balanced es → Balanced fs → ((z : ℤ) → inside es z ≡ inside fs z) → row es ≡ row fs
 unfolding row_from
 row_same es fs b c agree =
@@ -71,7 +71,7 @@ same_mark true false h = cc
 same_mark false true h = cc
 same_mark false false h = refl
 
--- the row's intervals have exactly what is inside
+-- the intervals of a row have exactly the abscissas that are inside
 pub row_covers : (es : List Edge) (z : ℤ) → Balanced es → list_any (spans z) (row es) ≡ inside es z
 unfolding row_from
 row_covers es z balanced =
@@ -105,7 +105,7 @@ intervals (s ∷ ss) a =
       apart = all_pairs_cons (λ i j. i.1 <ℤ j.0) (ends s) (map ends ss) (later s ss a.1 a.2) rest.apart;
     }
 
--- in order, none empty, none that touch
+-- they are in order, none is empty, and none touch
 pub row_intervals : (es : List Edge) → Balanced es → AreIntervals (row es)
 unfolding row_from
 row_intervals es balanced =

@@ -1,4 +1,4 @@
--- A merge of two runs begins and ends.
+-- How a merge of two ranges begins and ends.
 use Rattle.std.proofs.Common.{◌≡◌, ℕ, ◌+◌, ◌-◌, ◌<◌, ◌≤◌, zero, suc, false, List, ◌++◌, length, get_or, take, drop, ℤ}
 use Rattle.std.proofs.Common.{◌<ℤ◌, ◌≤ℤ◌, All, Option, None, Some, refl, sym, ◌∙◌, ap, arith, inl, inr, subst}
 use Rattle.std.specs.List.{AllWithin, SwappedAt}
@@ -15,7 +15,7 @@ use Rattle.lvl_sweep.specs.inside.Runs.{IsSameWithin, IsSameFrom, IsRenewed, IsM
 use Rattle.lvl_sweep.proofs.Orders.{second_by}
 use Rattle.lvl_sweep.proofs.Merges.{all_kept, rise_kept, part_of}
 
--- some edges are in the places of others
+-- some edges are exchanged with others
 pub record Exchanged (es fs : List Edge) (to from i : ℕ) : Type 0 where
   pub long : length fs ≡ length es
   pub permutation : IsPermutation es fs
@@ -25,7 +25,7 @@ pub record Exchanged (es fs : List Edge) (to from i : ℕ) : Type 0 where
   pub between : IsSameWithin es fs (to + i) from
   pub later : IsSameFrom es fs (from + i)
 
--- one edge more
+-- one more edge
 pub exchanged_more : (es fs gs : List Edge) (to from count i : ℕ) → to + count ≤ from → i < count
     → Exchanged es fs to from i → SwappedAt fs gs (to + i) (from + i) → length gs ≡ length fs → IsPermutation fs gs
     → Exchanged es gs to from (i + 1)
@@ -49,7 +49,7 @@ exchanged_more es fs gs to from count i apart lt h s long moved = record {
 pub none_within : (P : Edge → Type 0) (es : List Edge) (i j : ℕ) → j ≤ i → AllWithin P es i j
 none_within P es i j h k d le lt = absurd (omega (arith, h, le, lt))
 
--- those that begin are in the room of those that ended
+-- the edges that begin have changed places with edges that ended
 pub start_exchanged : (es fs : List Edge) (y : ℤ) (from next end low : ℕ) (m : Merge) → IsRenewed es y from next end
     → end ≤ from + next → low + (end - next) ≡ from → Exchanged es fs low next (end - next)
     → m.low ≡ low → m.fresh ≡ from → m.from ≡ from → m.alive ≡ next → m.first ≡ end → m.end ≡ end → IsMerging fs y m
@@ -112,7 +112,7 @@ start_exchanged es fs y from next end low m h many is x mlow mfresh mfrom malive
       before = rw (mfirst, mend) (λ a b d le lt to far. absurd (omega (arith, to, far)));
     }
 
--- a list with a part of it written anew
+-- a list with a part of it replaced
 abbrev pub part_put : ℕ → ℕ → List Edge → List Edge → List Edge
 part_put a n es fs = take a es ++ (fs ++ drop n (drop a es))
 
@@ -133,7 +133,7 @@ put_within a e es fs within long k d le lt =
     ∙ ap (λ (m : List Edge). get_or m (k - a) d) same) in
     subst (λ (m : ℕ). get_or l m d ≡ get_or fs (k - a) d) on there
 
--- an order that holds between neighbours holds between all
+-- an order that holds between consecutive items holds between all
 rise_by : (es : List Edge) (n i j : ℕ) (d : Edge)
     → ((k : ℕ) → k + 1 < length es → (get_or es k d).x ≤ℤ (get_or es (k + 1) d).x) → j ≡ i + n → j < length es
     → (get_or es i d).x ≤ℤ (get_or es j d).x
@@ -226,7 +226,7 @@ start_sorted es fs y from next end m h long moved order mlow mfresh mfrom malive
 same_value : (a b : ℤ) → Some a ≡ Some b → b ≤ℤ a
 same_value a b e = let same : a ≡ b = cc in omega (arith, ints, same)
 
--- where no edge is put, the strip ends where the next begins
+-- if no edge is put, the strip ends where the next edge begins
 pub no_end : (es : List Edge) (first end : ℕ) (begins top : Option ℤ) → first ≡ end → top ≡ begins
     → IsEndOf es first end begins top
 no_end es first end begins None e t = (omega (arith, e), sym t)

@@ -41,7 +41,7 @@ held_start s fs c t z at row some top same low high end = record {
       row_at_alike s.edges.items fs v same (at.strips.balanced v) ∙ (top.same v from to ∙ sym row);
 }
 
--- and one that has the same lengthens it
+-- and a strip that has the same intervals lengthens it
 pub held_on : (s : Strips) (fs : List Edge) (b c : Band) (t z : ℤ) → IsAt s → IsHeld s.edges.items b s.y
     → row_at s.edges.items s.y ≡ b.intervals.items → IsTop s t → HasSame s.edges.items fs → c.y0 ≡ b.y0 → c.y1 ≡ t
     → c.intervals.items ≡ b.intervals.items → z ≡ t → IsHeld fs c z
@@ -70,7 +70,7 @@ held_first es b y z h low stops =
     subst (λ (v : ℤ). bands_from es (Some v) ≡ slab_of b ∷ bands_from es (Some z)) low
     (subst (λ (v : ℤ). bands_from es (Some b.y0) ≡ slab_of b ∷ bands_from es (Some v)) h.top first)
 
--- the bands of the edges of rings are those of what some ring covers
+-- the bands of the edges of rings are the slab list of the rings
 bands_of_rings : (rings : List (List Point)) (es : List Edge) (slabs : List Slab) → AreEdgesOf rings es
     → ((y : ℤ) → Balanced (alive_at es y)) → AreSlabsOf es slabs → AreBandsOf rings slabs
 bands_of_rings rings es slabs of balanced h = record {
@@ -87,7 +87,7 @@ settled_is : (all rest : List Slab) (b : Slab) (r : Bool) → (r ≡ true → al
 settled_is all rest b true f g = f refl
 settled_is all rest b false f g = g refl
 
--- what a sweep begins with is the slab list
+-- the bands of a new sweep are the slab list
 pub settled : (rings : List (List Point)) (s t : Strips) (b : Band) (r : Bool) → IsAt s → AreEdgesOf rings s.edges.items
     → ((v : ℤ) → v <ℤ s.y → row_at s.edges.items v ≡ [])
     → (IsTrue r → bands_from s.edges.items (Some s.y) ≡ slab_of b ∷ bands_from t.edges.items (Some t.y))

@@ -1,4 +1,4 @@
--- A step function has one list of steps.
+-- A step function has only one list of steps.
 use Rattle.std.proofs.Common.{◌≡◌, true, false, List, [], ◌∷◌, ℤ, ◌<ℤ◌, ◌≤ℤ◌, None, Some, refl, arith, sym, ◌∙◌}
 use Rattle.std.proofs.lemmas.Int.{ints, by_lt_z}
 use Rattle.lvl_sweep.specs.Slab.{Step, holds, value_of, Follows, AreSteps}
@@ -19,7 +19,7 @@ at_head s ss z h k = rw (inside s z h k) refl
 pub past_head : {V : Type 0} (s : Step V) (ss : List (Step V)) (z : ℤ) → s.to ≤ℤ z → value_of (s ∷ ss) z ≡ value_of ss z
 past_head s ss z h = rw (right_of s z h) refl
 
--- nothing is held before the steps that follow s
+-- no step that follows s has a number before the end of s
 pub early_rest : {V : Type 0} (s : Step V) (ss : List (Step V)) (z : ℤ) → Follows s ss → AreSteps ss → z <ℤ s.to
     → value_of ss z ≡ None
 early_rest s [] z f a h = refl
@@ -34,7 +34,7 @@ none_left_of s ss z a h =
     let low : z <ℤ s.to = omega (arith, ints, a.0) in
     rw (left_of s z h) (early_rest s ss z a.1 a.2 low)
 
--- where s ends, its value ends
+-- at the end of s its value no longer holds
 ends : {V : Type 0} (s : Step V) (ss : List (Step V)) → Follows s ss → AreSteps ss → value_of ss s.to ≡ Some s.value → ⊥
 ends s [] f a e = cc
 ends s (t ∷ ts) f a e = by_lt_z s.to t.from
@@ -45,7 +45,7 @@ ends s (t ∷ ts) f a e = by_lt_z s.to t.from
     let there : value_of (t ∷ ts) s.to ≡ Some t.value = at_head t ts s.to low high in
     f.1 touch cc)
 
--- the least number held is no later in the one than in the other
+-- the least number that has a value isn't later in one list than in the other
 starts : {V : Type 0} (s : Step V) (ss : List (Step V)) (t : Step V) (ts : List (Step V)) → AreSteps (s ∷ ss)
     → AreSteps (t ∷ ts) → ((z : ℤ) → value_of (s ∷ ss) z ≡ value_of (t ∷ ts) z) → t.from ≤ℤ s.from
 starts s ss t ts a b same = by_lt_z s.from t.from
@@ -57,7 +57,7 @@ starts s ss t ts a b same = by_lt_z s.from t.from
     cc)
     (λ ge. ge)
 
--- and the end of the first value no earlier
+-- and the end of the first step isn't earlier
 stops : {V : Type 0} (s : Step V) (ss : List (Step V)) (t : Step V) (ts : List (Step V)) → AreSteps (s ∷ ss)
     → AreSteps (t ∷ ts) → ((z : ℤ) → value_of (s ∷ ss) z ≡ value_of (t ∷ ts) z) → s.from ≡ t.from → s.value ≡ t.value
     → t.to ≤ℤ s.to
@@ -81,7 +81,7 @@ step_is {V} s t e f g =
     let whole : build s.from s.to s.value ≡ build t.from t.to t.value = rw (e, f, g) refl in
     whole
 
--- steps that give the same values are the same steps
+-- lists of steps with the same values are equal
 pub same_steps : {V : Type 0} (ss ts : List (Step V)) → AreSteps ss → AreSteps ts
     → ((z : ℤ) → value_of ss z ≡ value_of ts z) → ss ≡ ts
 same_steps [] [] a b same = refl

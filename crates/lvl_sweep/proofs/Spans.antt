@@ -1,4 +1,4 @@
--- An edge between two points passes the tests that the step between them passes.
+-- A test of the vertical edge between two points agrees with that of the step between them.
 use Rattle.std.proofs.Common.{◌≡◌, ℕ, ◌+◌, ◌<◌, List, length, get_or, drop, cond, count_by, Bool, true, false, ◌&&◌}
 use Rattle.std.proofs.Common.{eqb, ℤ, ◌<ℤ◌, int_lt, int_le, refl, arith}
 use Rattle.std.proofs.lemmas.Int.{ints}
@@ -53,7 +53,7 @@ pub edge_step : (old new rest total : ℕ) (t g : Bool) → new ≡ old + cond (
 edge_step old new rest total true g h k = let same : cond (true && g) 1 0 ≡ bit g = refl in omega (arith, h, k, same)
 edge_step old new rest total false g h k = omega (arith, h, k)
 
--- one more edge of the ring's
+-- one more edge of the ring
 pub edges_step : (p : Edge → Bool) (q : Point × Point → Bool) (as' bs : List Edge) (first : Point) (points : List Point)
     (i : ℕ) (d : Point) (t : Bool) (total : ℕ)
     → i < length points → count_by p bs ≡ count_by p as' + cond (t && q (first, get_or points i d)) 1 0

@@ -1,4 +1,4 @@
--- A sweep begins: the edges of closed rings balance in each row, and none has begun.
+-- How a sweep begins: the edges of closed rings balance in each row, and none has begun.
 use Rattle.std.proofs.Common.{◌≡◌, ℕ, ◌<◌, ◌≤◌, ◌^◌, Bool, true, false, ◌&&◌, not, eqb, List, [], ◌∷◌, length, get_or}
 use Rattle.std.proofs.Common.{ℤ, pos, ◌-ℤ◌, ◌<ℤ◌, ◌≤ℤ◌, int_lt, int_le, Option, None, Some, All, count_by, IfSome}
 use Rattle.std.proofs.Common.{IfNone, refl, sym, ◌∙◌, arith, inl, inr}
@@ -21,7 +21,7 @@ use Rattle.lvl_sweep.proofs.Alive.{alive_count}
 use Rattle.lvl_sweep.proofs.BandLists.{row_at_none}
 use Rattle.lvl_sweep.proofs.Tops.{topped, over}
 
--- some number is below all
+-- there is a number below all numbers of a list
 lowest : {A : Type 0} (f : A → ℤ) (xs : List A) → (x : ℤ) × All (λ a. x <ℤ f a) xs
 lowest f [] = (pos 0, All-nil (λ a. pos 0 <ℤ f a))
 lowest f (a ∷ xs) =

@@ -1,4 +1,4 @@
--- The steps of a function are steps in order, and give its values.
+-- The steps of a function are in order and have its values.
 use Rattle.std.proofs.Common.{◌≡◌, ◌≢◌, Bool, true, false, ◌&&◌, List, [], ◌∷◌, ℤ, ◌<ℤ◌, ◌≤ℤ◌, int_le, Option, None}
 use Rattle.std.proofs.Common.{Some, cond, ℕ, ◌+◌, ◌<◌, zero, suc, pos, neg_ℤ, ◌+ℤ◌, unsigned_abs, refl, arith, sym, ◌∙◌}
 use Rattle.std.proofs.Common.{ap}
@@ -149,7 +149,7 @@ steps_give {V} same laws far o f within =
           (λ ge. given.values z ge);
     }
 
--- the same function from two places on has the same steps
+-- two functions that agree, each from its bound on, have the same steps
 pub same_from : {V : Type 0} (same : V → V → Bool) → ((x y : V) → Decides (same x y) (x ≡ y))
     → (far far' : ℕ) (o o' : Option ℤ) (f f' : ℤ → Option V) → IsWithin far f → IsWithin far' f'
     → ((z : ℤ) → from_on o f z ≡ from_on o' f' z) → steps_from same far o f ≡ steps_from same far' o' f'
@@ -164,7 +164,7 @@ missing {V} o f z none =
     elim (is_from o z) as (λ t. is_from o z ≡ t → cond t (f z) None ≡ None) [ true ↦ λ e. none z e | false ↦ λ e. refl ]
     refl
 
--- a function without values from the place on has no steps
+-- a function without values from the bound on has no steps
 pub none_from : {V : Type 0} (same : V → V → Bool) → ((x y : V) → Decides (same x y) (x ≡ y))
     → (far : ℕ) (o : Option ℤ) (f : ℤ → Option V) → IsWithin far f → ((z : ℤ) → is_from o z ≡ true → f z ≡ None)
     → steps_from same far o f ≡ []
@@ -204,8 +204,7 @@ before_step {V} o f z none =
     elim (is_from o z) as (λ t. is_from o z ≡ t → cond t (f z) None ≡ None) [ true ↦ λ e. none e | false ↦ λ e. refl ]
     refl
 
--- a function whose first value from the place on is v, from s up to e, has that step first, and then the steps from e
--- on
+-- a function whose first value from the bound on is v, from s up to e, has that step first, then the steps from e on
 pub first_from : {V : Type 0} (same : V → V → Bool) → ((x y : V) → Decides (same x y) (x ≡ y))
     → (far : ℕ) (o : Option ℤ) (f : ℤ → Option V) (s e : ℤ) (v : V) → IsWithin far f
     → is_from o s ≡ true → s <ℤ e

@@ -42,7 +42,7 @@ bit_le : (a b : Bool) → (a ≡ true → b ≡ true) → bit a ≤ bit b
 bit_le true b h = rw (h refl) (omega arith)
 bit_le false b h = omega arith
 
--- a test that fewer pass
+-- a test that is true of fewer edges
 pub fewer_by : {A : Type 0} (p q : A → Bool) (es : List A) → ((e : A) → q e ≡ true → p e ≡ true)
     → count_by q es ≤ count_by p es
 fewer_by p q [] h = omega arith
@@ -50,7 +50,7 @@ fewer_by p q (e ∷ es) h =
     let step : bit (q e) ≤ bit (p e) = bit_le (q e) (p e) (h e) in
     omega (arith, count_cons q e es, count_cons p e es, step, fewer_by p q es h)
 
--- and one edge no longer does
+-- and of one edge no longer
 pub fewer_at : {A : Type 0} (p q : A → Bool) (es : List A) (k : ℕ) (d : A) → ((e : A) → q e ≡ true → p e ≡ true)
     → k < length es → p (get_or es k d) ≡ true → q (get_or es k d) ≡ false → count_by q es < count_by p es
 fewer_at p q [] k d h lt a b = absurd (omega (arith, lt))
@@ -88,7 +88,7 @@ high_left es y t k d lt within is =
     fewer_by (λ e. int_lt y e.low) (λ e. int_lt t e.low) es (λ e. not_past y t e.low lt) in
     omega (arith, lows, highs)
 
--- where the edge at the index is the next to come, all that are to come begin at or above t
+-- if the next edge begins at t, all edges still to come begin at t or above
 from_begin : (s : Strips) (t : ℤ) → AreStrips s
     → ((d : Edge) → s.next < length s.edges.items → t ≤ℤ (get_or s.edges.items s.next d).low)
     → AllWithin (λ e. t ≤ℤ e.low) s.edges.items s.next (length s.edges.items)
@@ -115,7 +115,7 @@ begin_of es i = elim (cases_lt i (length es)) [
   | inr ge ↦ (None, ge, (λ b e. absurd (let clash : None ≡ Some b = e in cc)), λ d k. absurd (omega (arith, ge, k)))
 ]
 
--- the least ordinate at which an edge ends or the next begins ends the strip
+-- the strip ends at the least ordinate at which an edge ends or the next begins
 pub topped : (s : Strips) (t : ℤ) → IsAt s → s.top ≡ Some t → IsTop s t
 topped s t h top =
     let es : List Edge = s.edges.items in
@@ -150,7 +150,7 @@ topped s t h top =
       fewer = found.1;
     }
 
--- where no edge is alive or to come, no row above has intervals
+-- if no edge is alive or still to come, no row from here on has intervals
 pub over : (s : Strips) → IsAt s → s.top ≡ None → IsOver s
 over s h top v le =
     let es : List Edge = s.edges.items in

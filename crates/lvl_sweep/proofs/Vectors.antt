@@ -64,7 +64,7 @@ cornered_is = record {
       (All-cons IsRow upper [] ((λ e. cc), one_interval (pos 0) (pos 10) (omega (arith, ints))) (All-nil IsRow));
 }
 
--- bands that touch with equal intervals are none
+-- bands that touch with equal intervals aren't a slab list
 abbrev apart : List Slab
 apart =
     record { from = pos 0; to = pos 10; value = (pos 0, pos 10) ∷ [] } ∷ record {

@@ -1,4 +1,4 @@
--- What a walk over the edges of a row sees.
+-- What a walk over the edges of a row finds.
 use Rattle.std.proofs.Common.{◌≡◌, ◌≢◌, ℕ, ◌+◌, ◌-◌, ◌<◌, ◌≤◌, Bool, true, false, ◌&&◌, not, eqb, List, [], ◌∷◌, ◌++◌}
 use Rattle.std.proofs.Common.{length, get_or, set, take, drop, ℤ, pos, ◌+ℤ◌, ◌<ℤ◌, ◌≤ℤ◌, int_lt, int_le, Option, None}
 use Rattle.std.proofs.Common.{Some, All, count_by, IsTrue, ◌↔◌, refl, sym, ◌∙◌, arith, inl, inr, cond, unsigned_abs}
@@ -36,7 +36,7 @@ started es w rest = record {
       rest.counts));
 }
 
--- one edge more
+-- one more edge
 pub passed_more : (es : List Edge) (i : ℕ) (d : Edge) (w v : Windings) → i < length es
     → All (λ e. e.ring < length w.counts.items) es → HasPassed es i w
     → v.counts.items ≡ set w.counts.items (get_or es i d).ring
@@ -53,7 +53,7 @@ passed_more es i d w v lt numbers old counts many =
       turning = many;
     }
 
--- as many counts as before
+-- the number of counts stays the same
 pub as_many : (cs new : List ℤ) (i : ℕ) (c : ℤ) → new ≡ set cs i c → length new ≡ length cs
 as_many cs new i c e = rw (e, length-set) refl
 
@@ -78,7 +78,7 @@ left_front r z es i far =
     (λ e k. off e (eqb e.ring r && not e.up) k) (drop i es) far) in
     rw (ups, downs) refl
 
--- between the edges passed and the others the counts say what is inside
+-- between the edges passed and the others, the counts say whether it is inside
 pub turning_reports : (es : List Edge) (i : ℕ) (w : Windings) (z : ℤ) → All (λ e. e.ring < length w.counts.items) es
     → HasPassed es i w → All (λ e. e.x ≤ℤ z) (take i es) → All (λ e. z <ℤ e.x) (drop i es) → inside es z ≡ is_inside w
 turning_reports es i w z numbers passed left right =
@@ -115,7 +115,7 @@ rising_at es i j d h le lt = elim (cases_lt i j) [
   | inr far ↦ let e : i ≡ j = omega arith in rw e (omega (arith, ints))
 ]
 
--- the edges from i on stand no further left than the ith
+-- the edges from index i on aren't left of the one at index i
 pub from_on_right : (es : List Edge) (i : ℕ) (z : ℤ) (d : Edge) → AllPairs (λ d e. d.x ≤ℤ e.x) es
     → (i < length es → z <ℤ (get_or es i d).x) → All (λ e. z <ℤ e.x) (drop i es)
 from_on_right es i z d h here = All-from_get_or (λ e. z <ℤ e.x) (drop i es) d (λ k lt.
@@ -164,7 +164,7 @@ abbrev is_before : Option ℤ → ℤ → Bool
 is_before None z = false
 is_before (Some c) z = int_lt z c
 
--- what is before the next edge but not before the place is between
+-- an abscissa before the next edge and not before the place is between both
 between : (es : List Edge) (i : ℕ) (o : Option ℤ) (z : ℤ) (d : Edge) → AllPairs (λ d e. d.x ≤ℤ e.x) es → IsParted es i o
     → is_before o z ≡ false → (i < length es → z <ℤ (get_or es i d).x) → All (λ e. e.x ≤ℤ z) (take i es)
     × All (λ e. z <ℤ e.x) (drop i es)
@@ -176,7 +176,7 @@ between es i (Some c) z d rising place later before =
       from_on_right es i z d rising before,
     )
 
--- up to the place nothing of the wanted side was seen
+-- up to the place the wanted side wasn't found
 pub record Looked (es : List Edge) (wanted : Bool) (first now : Place) (w w' : Windings) : Type 0 where
   pub passed : HasPassed es now.at w'
   pub parted : IsParted es now.at now.x
@@ -188,7 +188,7 @@ pub record Looked (es : List Edge) (wanted : Bool) (first now : Place) (w w' : W
 pub numbers_of : (es : List Edge) (n m : ℕ) → m ≡ n → All (λ e. e.ring < n) es → All (λ e. e.ring < m) es
 numbers_of es n m e h = rw e h
 
--- before the next edge there is nothing of the wanted side either
+-- nor is it found before the next edge
 pub looked_on : (es : List Edge) (wanted : Bool) (first now : Place) (w w' : Windings) (d : Edge)
     → IsRowOf es (length w.counts.items) → Looked es wanted first now w w' → (z : ℤ) → is_from first.x z ≡ true
     → (now.at < length es → z <ℤ (get_or es now.at d).x) → inside es z ≡ not wanted
@@ -210,7 +210,7 @@ right_of es i j (Some c) d h le lt =
     let far : c <ℤ (get_or (drop i es) (j - i) d).x = h.right (j - i) d (omega (arith, length-drop i es)) in
     rw (at, same) at far
 
--- the edges of one abscissa more, after which the side is the same
+-- the edges of one more abscissa, after which the side is the same
 pub look_more : (es : List Edge) (wanted : Bool) (first now : Place) (w w' v : Windings) (at : ℕ) (x : ℤ) (d : Edge)
     → IsRowOf es (length w.counts.items) → Looked es wanted first now w w' → now.at < length es
     → x ≡ (get_or es now.at d).x
@@ -227,7 +227,7 @@ look_more es wanted first now w w' v at x d row h lt is passed place on rings si
       grind (arith, ints) in rw is at k);
 }
 
--- and after which it is the wanted one
+-- the edges of one more abscissa, after which the side is the wanted one
 pub turned : (es : List Edge) (wanted : Bool) (first now : Place) (w w' v : Windings) (at : ℕ) (x : ℤ) (d : Edge)
     → IsRowOf es (length w.counts.items) → IsParted es first.at first.x → Looked es wanted first now w w'
     → now.at < length es → x ≡ (get_or es now.at d).x
@@ -261,7 +261,7 @@ past_place (Some a) x h = grind (arith, ints)
 right_at : (o : Option ℤ) (a x : ℤ) → o ≡ Some a → IsRightOf o x → a <ℤ x
 right_at o a x e h = rw e at h
 
--- the side turns in at s and out at e: that is the first interval
+-- if the walk gets inside at s and outside at e, the first interval is from s to e
 pub first_interval : (es : List Edge) (n : ℕ) (p q r : Place) (v w : Windings) (s e : ℤ) → IsRowOf es n
     → All (λ e. e.ring < length w.counts.items) es → HasTurned es true p q v s → HasTurned es false q r w e
     → HasPassed es r.at w → IsParted es r.at r.x → row_from es p.x ≡ (s, e) ∷ row_from es r.x
@@ -276,7 +276,7 @@ first_interval es n p q r v w s e row numbers t u passed place =
 pub no_interval : (es : List Edge) (n : ℕ) (p q : Place) → IsRowOf es n → NeverTurns es true p q → row_from es p.x ≡ []
 no_interval es n p q row h = row_none es p.x row.balanced h.after
 
--- what turns in turns out again
+-- a walk that gets inside gets outside again
 pub turns_out : (es : List Edge) (n : ℕ) (p q r : Place) (v : Windings) (s : ℤ) → IsRowOf es n
     → HasTurned es true p q v s → NeverTurns es false q r → ⊥
 turns_out es n p q r v s row t h =

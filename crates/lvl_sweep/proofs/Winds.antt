@@ -1,4 +1,4 @@
--- Counts of edges, ring by ring, as a walk from the left makes them.
+-- Counts of edges, ring by ring, during a walk from the left.
 use Rattle.std.proofs.Common.{◌≡◌, ◌≢◌, ℕ, ◌+◌, ◌<◌, ◌≤◌, ◌^◌, Bool, true, false, ◌&&◌, not, cond, eqb, List, [], ◌∷◌}
 use Rattle.std.proofs.Common.{◌++◌, length, get_or, set, take, ℤ, pos, ◌+ℤ◌, ◌-ℤ◌, ◌≤ℤ◌, int_le, All, count_by, IsTrue}
 use Rattle.std.proofs.Common.{◌↔◌, refl, sym, ◌∙◌, ap, arith, suc, inl, inr, unsigned_abs}
@@ -63,7 +63,7 @@ net_elsewhere r es e h =
     (count_push (λ e. eqb e.ring r && not e.up) es e ∙ ap (λ t. count_by (λ e. eqb e.ring r && not e.up) es + cond t
     1 0) down)
 
--- where no edge is right of z, all count
+-- if no edge is right of z, all count
 pub left_of_all : (r : ℕ) (z : ℤ) (es : List Edge) → All (λ e. e.x ≤ℤ z) es → net_left r z es ≡ net r es
 left_of_all r z es h =
     let tests : All (λ e. int_le e.x z ≡ true) es = All-weaker (λ e. e.x ≤ℤ z) (λ e. int_le e.x z ≡ true)
@@ -95,7 +95,7 @@ silent r es tests =
     in
     rw (ups, downs) refl
 
--- a number of no ring
+-- a number that isn't the index of a ring
 pub no_ring : (r n : ℕ) (es : List Edge) → All (λ e. e.ring < n) es → n ≤ r → net r es ≡ pos 0
 no_ring r n es h far =
     silent r es (All-weaker (λ e. e.ring < n) (λ e. eqb e.ring r ≡ false) (λ e k. other e.ring r (omega arith)) es h)
@@ -103,7 +103,7 @@ no_ring r n es h far =
 pub within_rings : (r n : ℕ) (es : List Edge) → All (λ e. e.ring < n) es → net r es ≢ pos 0 → r < n
 within_rings r n es h k = elim (cases_lt r n) [ inl lt ↦ lt | inr ge ↦ absurd (k (no_ring r n es h ge)) ]
 
--- some count isn't 0 exactly where the number of such counts isn't
+-- some count isn't 0 exactly if the number of such counts isn't 0
 pub turns_at : (counts : List ℤ) (r : ℕ) → r < length counts → get_or counts r (pos 0) ≢ pos 0
     → how_many_turn counts ≢ 0
 turns_at counts r lt h e =

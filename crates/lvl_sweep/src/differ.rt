@@ -1,4 +1,4 @@
-//! Two lists of bands walked in step, up to the least square that one of them alone covers.
+//! Two lists of bands, walked in step up to the least square that only one of them covers.
 ghost use Rattle.std.specs.Prelude.{◌≡◌, ◌↔◌, ◌∷◌, [], List, true, false, drop, Option, None, ℤ, ◌<ℤ◌, IsTrue, IfOk};
 ghost use Rattle.std.specs.Prelude.{IfSome, IfNone};
 ghost use Rattle.lvl_grid.specs.declared.point.Square.{Square as GridSquare};
@@ -17,17 +17,17 @@ use lvl_grid::{Ring, RingList, Square};
 use lvl_region::Side;
 use std::alloc::{AllocError, Global};
 
-/// Bands that come one at a time, from the lowest on.
+/// Bands that are read one at a time, from the lowest on.
 pub trait Bands {
     /// The bands still to come.
     ghost left: { Self → List Slab };
 
-    /// The first of the bands still to come.
+    /// The first of the bands still to come, or None if there is none.
     fn band(&self) -> Option<&Band>
         ensures first { IfSome result (λ band. left self.now ≡ slab_of band.now ∷ drop 1 (left self.now)) }
         ensures none { IfNone result (left self.now ≡ []) };
 
-    /// Drops the first of the bands still to come.
+    /// Drops the first of the bands still to come, if there is one.
     fn advance(&mut self)
         ensures { left self.new ≡ drop 1 (left self.old) };
 }
@@ -44,7 +44,7 @@ impl Bands for Sweep {
     }
 }
 
-/// What the first bands on both sides say of the rows from `from` on.
+/// What the first bands on both sides say about the rows from `from` on.
 fn look_ahead<B: Bands>(first: &B, second: &B, from: Option<i64>) -> Ahead
     requires ours { IsSlabList (B.left first.now) }
     requires theirs { IsSlabList (B.left second.now) }
@@ -80,7 +80,7 @@ fn drop_below<B: Bands>(bands: &mut B, y: i64)
     }
 }
 
-/// Whether the rows up to the last one, if there is one, are all below row `y`.
+/// Whether there is a last row, and it is below row `y`.
 fn is_past(last: Option<i64>, y: i64) -> bool
     ensures { IsTrue result → (z : ℤ) → IsUpTo last z → z <ℤ y }
 {
@@ -90,8 +90,9 @@ fn is_past(last: Option<i64>, y: i64) -> bool
     }
 }
 
-/// The least square that one of two sides alone covers, or None where they cover the same in the
-/// rows up to `last`.
+/// The least square that only one of two sides covers, with that side. None says that both cover
+/// the same in the rows up to `last`, which is included (in all rows if `last` is None). A square
+/// above `last` may be returned instead.
 pub(crate) fn walk_in_step<B: Bands>(
     first: &mut B,
     second: &mut B,
@@ -121,8 +122,8 @@ pub(crate) fn walk_in_step<B: Bands>(
     }
 }
 
-/// The least square, by y and then x, that the rings of one list alone cover, with its side, or
-/// None where both lists cover the same squares. Fails only when out of memory.
+/// The least square, by `y` and then `x`, that the rings of only one list cover, with its side, or
+/// None if both lists cover the same squares. Fails only if out of memory.
 pub fn first_difference_of(
     alloc: Global,
     first: &[Ring],
@@ -139,9 +140,10 @@ pub fn first_difference_of(
     first_difference_up_to(alloc, &first, &second, None)
 }
 
-/// The least square, by y and then x, that the rings of one list alone cover, with its side, or
-/// None where both lists cover the same squares in the rows up to `last`, in all rows where there
-/// is no last one. Fails only when out of memory.
+/// The least square, by `y` and then `x`, that the rings of only one list cover, with its side.
+/// None says that both lists cover the same squares in the rows up to `last`, which is included (in
+/// all rows if `last` is None). A square above `last` may be returned instead. Fails only if out of
+/// memory.
 pub fn first_difference_up_to<R: RingList>(
     alloc: Global,
     first: &R,

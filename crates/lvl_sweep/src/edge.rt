@@ -9,7 +9,8 @@ ghost use Rattle.lvl_sweep.specs.Bands.{is_vertical, all_edges};
 use lvl_grid::{Point, RingList};
 use std::alloc::{AllocError, Global};
 
-/// A vertical edge of a ring: the rows that it crosses, its abscissa, and whether it goes up.
+/// A vertical edge of the ring with the index `ring`, at the abscissa `x`: it crosses the rows from
+/// `low` up to `high`, which is excluded, upward or downward.
 #[derive(Clone, Copy, Debug)]
 pub struct Edge {
     pub low: i64,
@@ -19,7 +20,7 @@ pub struct Edge {
     pub up: bool,
 }
 
-/// The vertical edge from one point to the next, or None where it is flat.
+/// The vertical edge from one point to the next, or None if both have the same ordinate.
 fn edge_between(ring: usize, from: Point, to: Point) -> Option<Edge>
     ensures rising { (r : ℕ) (s : GridSquare) → edge_is (rises r s) result ≡ ((ring == r) && goes_up s (from, to)) }
     ensures falling { (r : ℕ) (s : GridSquare) → edge_is (falls r s) result ≡ ((ring == r) && goes_down s (from, to)) }
@@ -47,7 +48,7 @@ fn edge_between(ring: usize, from: Point, to: Point) -> Option<Edge>
     None
 }
 
-/// Appends the vertical edge from one point to the next, unless it is flat.
+/// Appends the vertical edge from one point to the next, unless both have the same ordinate.
 fn push_edge(edges: &mut Vec<Edge>, ring: usize, from: Point, to: Point) -> Result<(), AllocError>
     ensures rising { IfOk result (λ _. (r : ℕ) (s : GridSquare) → count_by (rises r s) edges.new.items
         ≡ count_by (rises r s) edges.old.items + (if (ring == r) && goes_up s (from, to) then 1 else 0)) }
@@ -90,7 +91,7 @@ fn push_edges(edges: &mut Vec<Edge>, ring: usize, points: &[Point]) -> Result<()
     Ok(())
 }
 
-/// How many vertical edges a ring has.
+/// The number of vertical edges of a ring.
 fn how_many_of(points: &[Point]) -> usize {
     let mut many: usize = 0;
     let mut y = points.last().map_or(0, |last| last.y);
@@ -103,7 +104,7 @@ fn how_many_of(points: &[Point]) -> usize {
     many
 }
 
-/// How many vertical edges all rings have.
+/// The number of vertical edges of all rings.
 fn how_many<R: RingList>(rings: &R) -> usize {
     let mut many: usize = 0;
     for number in 0..rings.len() {
@@ -112,7 +113,7 @@ fn how_many<R: RingList>(rings: &R) -> usize {
     many
 }
 
-/// The vertical edges of all rings, by the ordinate at which they begin, then by abscissa.
+/// The vertical edges of all rings, in order of the ordinate at which they begin, then of abscissa.
 pub(crate) fn edges_of<R: RingList>(alloc: Global, rings: &R) -> Result<Vec<Edge>, AllocError>
     ensures edges { IfOk result (λ edges. AreEdgesOf (R.rings rings.now) edges.items) }
     ensures many { IfOk result (λ edges. length edges.items ≡ count_by is_vertical (all_edges (R.rings rings.now))) }

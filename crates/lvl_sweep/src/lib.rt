@@ -1,8 +1,9 @@
-//! The sweep: the bands of what some ring covers, one at a time, from the lowest on.
+//! The sweep line: the bands of what rings cover, one at a time, from the lowest on.
 //!
-//! A [`Sweep`] gives the slab list of its rings band by band, with all its memory taken at the
-//! start. [`first_difference_of`] walks two sweeps in step. [`SlabRegion`] is the bands
-//! collected.
+//! A band is some consecutive rows in which the same intervals are covered; the slab list of rings
+//! is the list of their bands. A [`Sweep`] computes it band by band, and allocates only when it is
+//! made. [`first_difference_of`] compares two lists of rings by two sweeps in step. [`SlabRegion`]
+//! is a region that stores the whole list.
 //!
 //! ```
 //! let mut rings = Rings::new(alloc);

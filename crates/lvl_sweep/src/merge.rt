@@ -10,9 +10,9 @@ ghost use Rattle.lvl_sweep.specs.inside.Runs.{AreActive, IsRenewed};
 
 use crate::edge::Edge;
 
-/// How far a merge has come. The edges still to be put are those that begin, from index `low` up to
-/// `fresh`, and those that were alive, from `from` up to `alive`. Those that are put lie from
-/// `first` up to `end`. All others below `end` have ended.
+/// The state of a merge, as indexes of the list of edges. The edges still to be put are those that
+/// begin, from index `low` up to `fresh`, and those that were alive, from `from` up to `alive`.
+/// Those that are put are from `first` up to `end`. All others below `end` have ended.
 #[derive(Clone, Copy)]
 pub struct Merge {
     pub low: usize,
@@ -21,11 +21,11 @@ pub struct Merge {
     pub alive: usize,
     pub first: usize,
     pub end: usize,
-    /// The least ordinate at which one of those that are put ends, or the next edge begins.
+    /// The least of the ordinates at which edges that are put end and the next edge begins.
     pub top: Option<i64>,
 }
 
-/// The lower of an ordinate and one that may be missing.
+/// The lower of two ordinates, the second of which may be missing.
 fn lower(a: i64, b: Option<i64>) -> i64
     ensures { IsLower a b result }
 {
@@ -35,7 +35,7 @@ fn lower(a: i64, b: Option<i64>) -> i64
     }
 }
 
-/// Whether the edge at the index reaches above `y`.
+/// Whether the edge at index `i` ends above `y`.
 fn reaches_above(edges: &[Edge], i: usize, y: i64) -> bool
     requires within { i < length edges.now }
     ensures above { IsTrue result → (d : EdgeValue) → y <ℤ (slice_index_or edges.now i d).high }
@@ -44,7 +44,8 @@ fn reaches_above(edges: &[Edge], i: usize, y: i64) -> bool
     y < edges[i].high
 }
 
-/// Exchanges `count` edges from `to` on with those from `from` on, which lie after them.
+/// Exchanges `count` edges from index `to` on with as many from index `from` on, which come after
+/// them.
 fn exchange(edges: &mut [Edge], to: usize, from: usize, count: usize)
     requires apart { to + count ≤ from }
     requires within { from + count ≤ length edges.old }
@@ -62,7 +63,7 @@ fn exchange(edges: &mut [Edge], to: usize, from: usize, count: usize)
     }
 }
 
-/// Exchanges two edges; does nothing where both are one, as they mostly are.
+/// Exchanges the edges at two indexes. These are often equal: then nothing is done.
 fn exchange_two(edges: &mut [Edge], i: usize, j: usize)
     requires first { i < length edges.old }
     requires second { j < length edges.old }
@@ -95,7 +96,7 @@ impl Merge {
             && (self.from >= self.alive || edges[self.alive - 1].x <= edges[self.fresh - 1].x)
     }
 
-    /// Puts the edge at the index before those that are put.
+    /// Puts the edge at index `at` in front of those that are put.
     fn put(&mut self, edges: &mut [Edge], at: usize)
         requires at { at < self.old.first }
         requires within { self.old.first ≤ length edges.old }
@@ -116,7 +117,7 @@ impl Merge {
         exchange_two(edges, at, self.first);
     }
 
-    /// Puts the last of the edges still to be put, or drops it where it ends by `y`.
+    /// Puts the last by abscissa of the edges still to be put, or leaves it out if it ends by `y`.
     fn step(&mut self, edges: &mut [Edge], y: i64)
         requires merging { IsMerging edges.old y self.old }
         requires left { self.old.low < self.old.fresh ⊎ self.old.from < self.old.alive }
@@ -156,7 +157,8 @@ impl Merge {
     }
 }
 
-/// The start of a merge where as many edges have ended as begin: those that begin take their room.
+/// The start of a merge if at least as many edges have ended as begin: those that begin change
+/// places with as many that have ended.
 fn start_by_exchange(
     edges: &mut [Edge],
     from: usize,
@@ -187,8 +189,8 @@ fn start_by_exchange(
     }
 }
 
-/// The start of a merge where fewer edges have ended than begin: those alive and those that begin
-/// are sorted together.
+/// The start of a merge if fewer edges have ended than begin: those alive and those that begin are
+/// sorted together.
 fn start_by_sort(edges: &mut [Edge], from: usize, end: usize, top: Option<i64>) -> Merge
     requires order { (from ≤ end) × (end ≤ length edges.old) }
     ensures merging { (y : ℤ) (next : ℕ) → IsRenewed edges.old y from next end → IsMerging edges.new y result }
@@ -227,9 +229,10 @@ fn start(edges: &mut [Edge], from: usize, next: usize, end: usize, top: Option<i
     }
 }
 
-/// Drops the edges from `from` up to `next` that end by `y`, and takes in those from `next` up to
-/// `end`, which begin there. Those alive then lie from the answer's `first` up to `end`, and the
-/// strip of rows ends at its `top`.
+/// Goes on to row `y`: drops those of the edges from index `from` up to `next` that end by `y`, and
+/// takes in those from `next` up to `end`, which begin at `y`. The edges alive are then those from
+/// the result's `first` up to `end`, and the strip of rows ends at its `top`. `begins` is the
+/// ordinate at which the next edge begins, if there is one.
 pub(crate) fn renew(
     edges: &mut [Edge],
     from: usize,

@@ -1,4 +1,4 @@
-//! Where two rows of intervals, or two bands, differ first.
+//! The first difference of two rows of intervals, and of two bands.
 ghost use Rattle.std.specs.Prelude.{◌≡◌, ◌≢◌, ℤ, ◌<ℤ◌, IfNone, IfSome};
 ghost use Rattle.std.specs.List.{list_any};
 ghost use Rattle.lvl_sweep.specs.Slab.{spans, AreIntervals};
@@ -9,7 +9,7 @@ use crate::band::Band;
 use lvl_grid::Square;
 use lvl_region::Side;
 
-/// The least abscissa that one of two intervals alone covers, where they differ.
+/// The least abscissa that only one of two different intervals has, with its side.
 fn interval_difference(first: (i64, i64), second: (i64, i64)) -> (i64, Side)
     ensures { result ≡ end_difference first second }
 {
@@ -24,7 +24,8 @@ fn interval_difference(first: (i64, i64), second: (i64, i64)) -> (i64, Side)
     }
 }
 
-/// The least abscissa that one of two rows alone covers.
+/// The least abscissa that only one of two rows of intervals has, with its side, or None if both
+/// have the same.
 pub(crate) fn row_difference(first: &[(i64, i64)], second: &[(i64, i64)]) -> Option<(i64, Side)>
     requires first { AreIntervals first.now }
     requires second { AreIntervals second.now }
@@ -46,18 +47,18 @@ pub(crate) fn row_difference(first: &[(i64, i64)], second: &[(i64, i64)]) -> Opt
     None
 }
 
-/// What the first bands on two sides, from a row on, say of the rows there.
+/// What the first bands on two sides say about the rows from some row on.
 #[derive(Clone, Copy)]
 pub enum Ahead {
-    /// The least square that one side alone covers.
+    /// The least square that only one side covers.
     Differ(Square, Side),
-    /// Both sides cover the same in the rows up to this one.
+    /// Both sides cover the same in the rows up to this one, which is excluded.
     Alike(i64),
     /// No band is left on either side.
     Nothing,
 }
 
-/// The higher of an ordinate and one that may be missing.
+/// The higher of two ordinates, the second of which may be missing.
 fn higher(a: i64, from: Option<i64>) -> i64
     ensures { result ≡ higher_of a from }
 {
@@ -79,7 +80,7 @@ pub(crate) fn least_square(band: &Band, from: Option<i64>) -> Square
     }
 }
 
-/// What a band on each side says.
+/// What the first bands say if there is one on each side.
 pub(crate) fn both(first: &Band, second: &Band, from: Option<i64>) -> Ahead
     requires first { IsMet from (slab_of first.now) }
     requires second { IsMet from (slab_of second.now) }

@@ -1,4 +1,4 @@
-//! A region kept as its slab list.
+//! A region that stores its slab list.
 ghost use Rattle.std.specs.Prelude.{◌≡◌, ◌&&◌, ◌↔◌, ◌++◌, map, IsTrue, IfOk, IfNone, IfSome, None};
 ghost use Rattle.std.specs.List.{list_any};
 ghost use Rattle.lvl_grid.specs.declared.point.Square.{Square as GridSquare};
@@ -15,7 +15,8 @@ use lvl_region::{Region, Side};
 use std::alloc::{AllocError, Global};
 use std::marker::Model;
 
-/// The squares that rings cover, as bands of merged intervals: the slab list of them.
+/// The squares that rings cover, as a slab list: bands from the lowest on, each with its intervals
+/// from left to right.
 #[derive(Debug, Drop)]
 pub struct SlabRegion {
     bands: Vec<Band>,
@@ -33,7 +34,7 @@ impl Model for SlabRegion {
     ghost invariant = { λ r. IsSlabList (map slab_of r.bands.items) };
 }
 
-/// Bands of a list, one at a time.
+/// The bands of a list, read one at a time.
 #[derive(Drop)]
 struct Listed<'a> {
     bands: &'a [Band],
@@ -53,7 +54,7 @@ impl Bands for Listed<'_> {
     }
 }
 
-/// A band like the one given.
+/// A copy of the band.
 fn copied(alloc: Global, band: &Band) -> Result<Band, AllocError>
     ensures { IfOk result (λ copy. slab_of copy ≡ slab_of band.now) }
 {
@@ -65,7 +66,7 @@ fn copied(alloc: Global, band: &Band) -> Result<Band, AllocError>
     })
 }
 
-/// The bands of a sweep, all at once.
+/// All bands of a sweep.
 fn collected(alloc: Global, mut sweep: Sweep) -> Result<Vec<Band>, AllocError>
     ensures { IfOk result (λ bands. map slab_of bands.items ≡ sweep) }
 {
@@ -140,8 +141,8 @@ impl Region for SlabRegion {
         cover(&self.bands, square)
     }
 
-    /// The least square, by y and then x, that one of the two alone holds, with its side, or None
-    /// where both have the same bands, which is where they hold the same squares.
+    /// The least square, by `y` and then `x`, that only one of the two has, with its side, or None
+    /// if both have the same squares, and then also the same bands.
     fn first_difference(&self, other: &Self) -> Option<(Square, Side)>
         ensures same { IfNone result
             ((s : GridSquare) → IsTrue (slabs_cover self.now s) ↔ IsTrue (slabs_cover other.now s)) }

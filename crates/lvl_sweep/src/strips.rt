@@ -1,4 +1,4 @@
-//! The strips of rows between the ordinates at which edges begin or end, from the lowest on.
+//! Strips: the rows between consecutive ordinates at which edges begin or end, from the lowest on.
 ghost use Rattle.std.specs.Prelude.{◌≡◌, ◌<◌, ◌≤◌, ◌+◌, ◌*◌, length, [], ℤ, ◌<ℤ◌, ◌≤ℤ◌, slice_index_or, IsTrue, ◌↔◌};
 ghost use Rattle.std.specs.Prelude.{IfOk, IfSome, IfNone, count_by};
 ghost use Rattle.std.specs.List.{AllWithin};
@@ -16,7 +16,7 @@ use crate::windings::Windings;
 use lvl_grid::RingList;
 use std::alloc::{AllocError, Global};
 
-/// The index after the edges that begin by `y`.
+/// The index of the first edge, from index `from` on, that begins above `y`.
 fn end_of_start(edges: &[Edge], from: usize, y: i64) -> usize
     requires within { from ≤ length edges.now }
     ensures within { result ≤ length edges.now }
@@ -32,7 +32,7 @@ fn end_of_start(edges: &[Edge], from: usize, y: i64) -> usize
     edges.len()
 }
 
-/// The lower end of the edge at the index.
+/// The ordinate at which the edge at index `i` begins, or None if there is no such edge.
 fn begins_at(edges: &[Edge], i: usize) -> Option<i64>
     ensures { IsBeginOf edges.now i result }
 {
@@ -43,14 +43,15 @@ fn begins_at(edges: &[Edge], i: usize) -> Option<i64>
     }
 }
 
-/// All vertical edges, in one list: before `from` those that have ended, up to `next` those alive in
-/// row `y`, by abscissa, and then those to come, by the ordinate at which they begin.
+/// All vertical edges in one list: before index `from` those that have ended, then up to `next`
+/// those alive in row `y`, in order of abscissa, and then those still to come, in order of the
+/// ordinate at which they begin.
 #[derive(Debug, Drop)]
 pub struct Strips {
     pub edges: Vec<Edge>,
     pub from: usize,
     pub next: usize,
-    /// Where the strip ends, or None where no edge is alive or to come.
+    /// Where the strip ends, or None if no edge is alive or still to come.
     pub top: Option<i64>,
     pub windings: Windings,
     pub y: i64,
@@ -59,7 +60,7 @@ pub struct Strips {
 impl Strips {
     ghost use Rattle.lvl_sweep.specs.inside.Strips.{IsAt, CanLoad, IsTop, IsOver};
 
-    /// The lowest strip.
+    /// The strips of these rings, at the lowest one.
     pub(crate) fn new<R: RingList>(alloc: Global, rings: &R) -> Result<Strips, AllocError>
         ensures at { IfOk result (λ s. IsAt s) }
         ensures edges { IfOk result (λ s. AreEdgesOf (R.rings rings.now) s.edges.items) }
@@ -82,7 +83,7 @@ impl Strips {
         Ok(strips)
     }
 
-    /// Where the strip ends, or None where no edge is alive or to come.
+    /// Where the strip ends, or None if no edge is alive or still to come.
     pub(crate) fn top(&self) -> Option<i64>
         requires { IsAt self.now }
         ensures top { IfSome result (λ t. IsTop self.now t) }
@@ -108,7 +109,7 @@ impl Strips {
         self.y = y;
     }
 
-    /// Takes the strip's intervals.
+    /// Replaces `intervals` by the intervals of the strip.
     pub(crate) fn collect(&mut self, intervals: &mut Vec<(i64, i64)>)
         requires at { IsAt self.old }
         requires room { length self.old.edges.items ≤ 2 * vec_capacity intervals.old + 1 }
@@ -126,7 +127,7 @@ impl Strips {
         );
     }
 
-    /// Whether the strip's intervals are these.
+    /// Whether the intervals of the strip are these.
     pub(crate) fn matches(&mut self, intervals: &[(i64, i64)]) -> bool
         requires { IsAt self.old }
         ensures at { IsAt self.new }

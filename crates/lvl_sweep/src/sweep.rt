@@ -1,4 +1,4 @@
-//! The sweep itself: strips joined to bands.
+//! The sweep: strips joined to bands.
 ghost use Rattle.std.specs.Prelude.{◌≡◌, ◌≢◌, ◌≤◌, ◌+◌, ◌*◌, ◌∷◌, [], length, drop, IsTrue, false, Some, IfOk, IfSome};
 ghost use Rattle.std.specs.Prelude.{IfNone};
 ghost use Rattle.std.specs.Vec.{vec_len, vec_capacity};
@@ -14,10 +14,10 @@ use lvl_grid::RingList;
 use std::alloc::{AllocError, Global};
 use std::marker::Model;
 
-/// The bands of what some ring covers, one at a time, from the lowest on.
+/// The bands of what rings cover, one at a time, from the lowest on.
 ///
-/// It holds the vertical edges of the rings, among which those alive in the present row lie side by
-/// side, one count for each ring, and one band. It takes no memory once it is made.
+/// A sweep has the vertical edges of the rings, one count for each ring, and one band. It allocates
+/// only when it is made.
 #[derive(Debug, Drop)]
 pub struct Sweep {
     strips: Strips,
@@ -37,7 +37,8 @@ impl Model for Sweep {
     ghost invariant = { λ s. IsSweep s.strips s.band };
 }
 
-/// Goes on to the first strip that covers something, and gives where it ends.
+/// Goes on to the first strip that has intervals, and returns where it ends. None if there is no
+/// such strip.
 fn find_row(strips: &mut Strips, intervals: &mut Vec<(i64, i64)>) -> Option<i64>
     requires at { IsAt strips.old }
     requires room { length strips.old.edges.items ≤ 2 * vec_capacity intervals.old + 1 }
@@ -62,7 +63,7 @@ fn find_row(strips: &mut Strips, intervals: &mut Vec<(i64, i64)>) -> Option<i64>
     }
 }
 
-/// Lengthens the band by the strips above it that cover the same intervals.
+/// Lengthens the band by the strips above it that have the same intervals.
 fn lengthen(strips: &mut Strips, band: &mut Band)
     requires at { IsAt strips.old }
     requires held { IsHeld strips.old.edges.items band.old strips.old.y }
@@ -82,7 +83,8 @@ fn lengthen(strips: &mut Strips, band: &mut Band)
     }
 }
 
-/// Makes `band` the next band, and stops at its upper end. False where none is to come.
+/// Makes `band` the next band, and goes on to the strip above it. Returns false if there is no
+/// band.
 fn settle(strips: &mut Strips, band: &mut Band) -> bool
     requires at { IsAt strips.old }
     requires room { length strips.old.edges.items ≤ 2 * vec_capacity band.old.intervals + 1 }
@@ -107,8 +109,8 @@ fn settle(strips: &mut Strips, band: &mut Band) -> bool
 }
 
 impl Sweep {
-    /// The bands of what some ring covers: the one slab list of it. Fails only when out of memory,
-    /// all of which it takes here.
+    /// A sweep over the squares that at least one of the rings covers. Fails only if out of memory;
+    /// all memory is allocated here.
     pub fn new<R: RingList>(alloc: Global, rings: &R) -> Result<Sweep, AllocError>
         ensures bands { IfOk result (λ sweep. AreBandsOf (R.rings rings.now) sweep) }
         ensures few_bands { IfOk result (λ sweep. AreFewerThanLines (R.rings rings.now) sweep) }
@@ -129,7 +131,7 @@ impl Sweep {
         })
     }
 
-    /// The first of the bands still to come.
+    /// The first of the bands still to come, or None if there is none.
     pub fn band(&self) -> Option<&Band>
         ensures first { IfSome result (λ band. self.now ≡ slab_of band.now ∷ drop 1 self.now) }
         ensures none { IfNone result (self.now ≡ []) }
@@ -137,7 +139,7 @@ impl Sweep {
         if self.is_held { Some(&self.band) } else { None }
     }
 
-    /// Drops the first of the bands still to come; does nothing where there is none.
+    /// Drops the first of the bands still to come, if there is one.
     pub fn advance(&mut self)
         ensures { self.new ≡ drop 1 self.old }
     {

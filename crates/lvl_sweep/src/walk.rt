@@ -1,4 +1,4 @@
-//! The walk over the edges of one row, from left to right, which gives the intervals covered there.
+//! The walk over the edges of one row, from left to right, that finds the intervals covered there.
 ghost use Rattle.std.specs.Prelude.{◌≡◌, ◌≢◌, ◌<◌, ◌≤◌, ◌+◌, ◌*◌, ◌++◌, ◌∷◌, [], ℕ, length, not, false, IsTrue, ◌↔◌};
 ghost use Rattle.std.specs.Prelude.{IfSome, IfNone, slice_index_or};
 ghost use Rattle.std.specs.Vec.{vec_len, vec_capacity};
@@ -11,14 +11,14 @@ ghost use Rattle.lvl_sweep.specs.inside.Walks.{NeverTurns};
 use crate::edge::Edge;
 use crate::windings::Windings;
 
-/// How far a walk has come: past `at` edges, the last of them at abscissa `x`.
+/// How far a walk has come: it has passed `at` edges, the last of them at the abscissa `x`.
 #[derive(Clone, Copy)]
 pub struct Place {
     pub at: usize,
     pub x: Option<i64>,
 }
 
-/// Whether there is an edge at the index, at this abscissa.
+/// Whether there is an edge at index `i`, and its abscissa is `x`.
 fn stands_at(active: &[Edge], i: usize, x: i64) -> bool
     ensures within { IsTrue result → i < length active.now }
     ensures here { IsTrue result → (d : EdgeValue) → (slice_index_or active.now i d).x ≡ x }
@@ -28,7 +28,8 @@ fn stands_at(active: &[Edge], i: usize, x: i64) -> bool
     i < active.len() && active[i].x == x
 }
 
-/// Passes the edge at `at` and all after it at the same abscissa.
+/// Passes the edge at index `at` and all after it at the same abscissa. Returns the index of the
+/// next one.
 fn pass_abscissa(active: &[Edge], at: usize, windings: &mut Windings) -> usize
     requires left { at < length active.now }
     requires row { IsRowOf active.now (length windings.old.counts.items) }
@@ -47,7 +48,8 @@ fn pass_abscissa(active: &[Edge], at: usize, windings: &mut Windings) -> usize
     next
 }
 
-/// Passes edges until the squares after them are inside, or outside, and gives their abscissa.
+/// Passes edges until the squares after them are inside, or outside if `wanted` is false, and
+/// returns the abscissa of the last one. None if that doesn't happen before the end of the row.
 fn pass_until(
     active: &[Edge],
     place: &mut Place,
@@ -75,7 +77,7 @@ fn pass_until(
     None
 }
 
-/// The next interval that is covered, or None where the row has no more.
+/// The next interval that is covered, or None if the row has no more.
 fn next_interval(active: &[Edge], place: &mut Place, windings: &mut Windings) -> Option<(i64, i64)>
     requires row { IsRowOf active.now (length windings.old.counts.items) }
     requires passed { HasPassed active.now place.old.at windings.old }
@@ -95,7 +97,7 @@ fn next_interval(active: &[Edge], place: &mut Place, windings: &mut Windings) ->
     Some((start, end))
 }
 
-/// Sets the counts of the rings whose edges were passed back to 0.
+/// Sets the counts back to 0 after `at` edges were passed.
 fn forget(active: &[Edge], at: usize, windings: &mut Windings)
     requires row { IsRowOf active.now (length windings.old.counts.items) }
     requires passed { HasPassed active.now at windings.old }
@@ -108,7 +110,7 @@ fn forget(active: &[Edge], at: usize, windings: &mut Windings)
     windings.turning = 0;
 }
 
-/// The intervals that the edges of a row cover.
+/// Replaces `intervals` by the intervals that the edges of a row cover.
 pub(crate) fn collect_row(active: &[Edge], windings: &mut Windings, intervals: &mut Vec<(i64, i64)>)
     requires row { IsRowOf active.now (length windings.old.counts.items) }
     requires rest { AreAtRest windings.old }

@@ -1,18 +1,18 @@
-//! How often each ring winds round the squares that a walk has come to.
+//! The windings of the rings at the squares that a walk has come to.
 ghost use Rattle.std.specs.Prelude.{◌≡◌, ◌≢◌, ◌<◌, ◌+◌, ◌^◌, ℤ, pos, ◌+ℤ◌, length, unsigned_abs, slice_index_or};
 ghost use Rattle.std.specs.Prelude.{slice_set, IfOk};
 ghost use Rattle.lvl_sweep.specs.inside.Edges.{turn, weight, how_many_turn, AreAtRest};
 
 use std::alloc::{AllocError, Global};
 
-/// One winding count for each ring, and how many of them aren't 0.
+/// The winding of each ring, and how many of these counts aren't 0.
 #[derive(Debug, Drop)]
 pub struct Windings {
     pub counts: Vec<i64>,
     pub turning: usize,
 }
 
-/// The count after one more edge.
+/// The count after one more edge: increased by 1 if the edge goes up, else decreased by 1.
 fn turned(count: i64, up: bool) -> i64
     requires { unsigned_abs count + 1 < 2 ^ 63 }
     ensures { result ≡ count +ℤ turn up }
@@ -21,7 +21,7 @@ fn turned(count: i64, up: bool) -> i64
     count + turn
 }
 
-/// How many counts aren't 0, where one of them changes.
+/// How many counts aren't 0 after one of them has changed from `old` to `new`.
 fn still_turning(turning: usize, old: i64, new: i64) -> usize
     requires changes { old ≢ new }
     requires small { turning < 2 ^ 63 }
@@ -49,7 +49,7 @@ impl Windings {
         })
     }
 
-    /// Passes an edge of the ring.
+    /// Passes an edge of the ring with index `ring`.
     pub(crate) fn pass(&mut self, ring: usize, up: bool)
         requires ring { ring < length self.old.counts.items }
         requires small { unsigned_abs (slice_index_or self.old.counts.items ring (pos 0)) + 1 < 2 ^ 63 }

@@ -1,4 +1,4 @@
--- A text with a character between two parts is read in one way, where the first part lacks the character.
+-- A text of two parts with a character between them is read in one way only, if the first part lacks the character.
 use Rattle.std.proofs.Common.{◌≡◌, ◌≢◌, ℕ, zero, suc, ◌<◌, ◌≤◌, List, [], ◌∷◌, ◌++◌, length, get_or, All, Option, Some}
 use Rattle.std.proofs.Common.{None, Bor, sym, ap, subst, ◌∙◌, refl, drop, arith, ◌↔◌, ⊎_elim, ℤ, w64, to_z, of_z}
 use Rattle.std.proofs.Common.{FitsSigned}
@@ -13,7 +13,7 @@ abbrev pub Lacks : ℕ → List ℕ → Type 0
 Lacks c [] = Unit {0}
 Lacks c (b ∷ bs) = (b ≢ c) × Lacks c bs
 
--- the character is no digit
+-- the character isn't a digit
 abbrev pub IsNoDigit : ℕ → Type 0
 IsNoDigit c = 48 ≤ c → c ≤ 57 → ⊥
 
@@ -49,13 +49,13 @@ module _ {A B : Type 0} (c : ℕ) (P : List ℕ → A → Type 0) (Q : List ℕ 
       subst (Lacks d) (sym j.joined)
       (lacks_append d c j.before j.after (p j.before a j.before_is) n (q j.after b j.after_is))
 
-  -- a text that lacks the character is not joined by it
+  -- a text that lacks the character isn't two parts joined by it
   pub uncut : ((t : List ℕ) (a : A) → P t a → Lacks c t) → c < 128 → (text : List ℕ) → IsSplitOnceResult c text None
       → (a : A) (b : B) → ¬ IsJoined c P Q text a b
   uncut lacks small text h a b j =
       split_after c text j.before j.after None h small j.joined (lacks_index c j.before (lacks j.before a j.before_is))
 
-  -- a text is joined by the character as it is cut at the first one
+  -- a text is two parts joined by the character exactly if it is so when cut at the first such character
   pub cut : ((t : List ℕ) (a : A) → P t a → Lacks c t) → c < 128 → (text : List ℕ) (l r : Bor (List ℕ))
       → IsSplitOnceResult c text (Some (l, r)) → (a : A) (b : B) → IsJoined c P Q text a b ↔ (P l.now a × Q r.now b)
   cut lacks small text l r h a b = (
@@ -76,19 +76,19 @@ pub headed_lacks : {A : Type 0} (c : ℕ) (P : List ℕ → A → Type 0) (d : �
     → c ≢ d → (text : List ℕ) (a : A) → IsHeaded c P text a → Lacks d text
 headed_lacks c P d p n text a j = subst (Lacks d) (sym j.headed) (n, p j.rest a j.rest_is)
 
--- where no value has the property, none is the answer
+-- if P holds of no value, the answer is None
 pub only_none : {A : Type 0} (P : A → Type 0) (o : Option A) → o ≡ None → ((v : A) → ¬ P v) → IsOnly P o
 only_none P o e n = λ v. (λ p. absurd (n v p), λ s. absurd (let t : None ≡ Some v = sym e ∙ s in cc))
 
--- the answer none says that no value has the property
+-- if the answer is None, P holds of no value
 pub none_only : {A : Type 0} (P : A → Type 0) → IsOnly P None → (v : A) → ¬ P v
 none_only P h v p = let t : None ≡ Some v = (h v).0 p in cc
 
--- the answer is some value, and no other
+-- if the answer is a value, P holds of no other
 pub some_only : {A : Type 0} (P : A → Type 0) (a b : A) → IsOnly P (Some a) → P b → a ≡ b
 some_only P a b h p = same_Some a b ((h b).0 p)
 
--- a value that is made of two parts, as a text is of two texts with a character between them
+-- a value made of two parts, read from a text of two parts with a character between them
 module _ {A B V : Type 0} (c : ℕ) (P : List ℕ → A → Type 0) (Q : List ℕ → B → Type 0)
     (first : V → A) (second : V → B) (make : A → B → V) (whole : (v : V) → make (first v) (second v) ≡ v)
     (one : (a : A) (b : B) → first (make a b) ≡ a) (two : (a : A) (b : B) → second (make a b) ≡ b)
@@ -125,7 +125,7 @@ module _ {A B V : Type 0} (c : ℕ) (P : List ℕ → A → Type 0) (Q : List �
           ),
     )
 
--- what a text with a character in front of it says
+-- a text with a character in front of it
 module _ {A : Type 0} (c : ℕ) (P : List ℕ → A → Type 0) (text : List ℕ) where
   pub unheaded : (o : Option A) → o ≡ None → ((rest : List ℕ) → text ≢ c ∷ rest) → IsOnly (IsHeaded c P text) o
   unheaded o e n = only_none (IsHeaded c P text) o e (λ v j. n j.rest j.headed)
@@ -136,7 +136,7 @@ module _ {A : Type 0} (c : ℕ) (P : List ℕ → A → Type 0) (text : List ℕ
     λ s. record { rest = rest; headed = e; rest_is = (h v).1 s },
   )
 
--- the same of a pair of coordinates, each written to 64 bits and read back
+-- the same for a pair of coordinates, each stored in 64 bits and read back
 pub carried : (P : Span → Type 0) (a b : ℤ) → FitsSigned w64 a → FitsSigned w64 b → IsOnly P (Some (a, b))
     → IsOnly P (Some (to_z w64 (of_z w64 a), to_z w64 (of_z w64 b)))
 carried P a b f g h =

@@ -1,4 +1,4 @@
--- What parsing a text of digits gives.
+-- What parsing a text of digits returns.
 use Rattle.std.proofs.Common.{◌≡◌, ◌≢◌, ℕ, ◌<◌, ◌≤◌, ◌^◌, List, [], ◌∷◌, length, All, Option, Some, None, Result, Ok}
 use Rattle.std.proofs.Common.{Err, sym, ap, subst, ◌∙◌, arith, refl, rules, drop, get_or, suc, ℤ, pos, neg_ℤ, ◌⊎◌, inl}
 use Rattle.std.proofs.Common.{inr, ⊎_elim, Bor, Bool, false, cond, ◌==◌, unwrap_or, FitsSigned, w64}
@@ -73,7 +73,7 @@ plain (b ∷ bs) h =
 numeral : (most : ℕ) (ds : List ℕ) → IsDigits most ds → IsNumeral 10 ds
 numeral most ds d = (d.some, own.to ds d.digits)
 
--- what a coordinate's text says is what `parse` takes it for
+-- the value of a coordinate's text is what `parse` returns
 said : (text : List ℕ) (z : ℤ) → IsCoordinate text z
     → (z ≡ signed_digits_value 10 text) × IsNumeral 10 (without_leading_sign text)
 said text z h =

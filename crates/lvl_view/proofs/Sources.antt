@@ -1,4 +1,4 @@
--- A map of sources with one pair more.
+-- A map of sources with one more pair.
 use Rattle.std.proofs.Common.{◌≡◌, ℕ, zero, suc, ◌+◌, ◌<◌, Bool, true, false, ◌&&◌, ◌||◌, ◌==◌, cond, List, [], ◌∷◌}
 use Rattle.std.proofs.Common.{◌++◌, take, drop, length, get_or, Option, Some, None, is_some, Contains, refl, sym, ap}
 use Rattle.std.proofs.Common.{◌∙◌, subst, arith, append_assoc}
@@ -35,7 +35,7 @@ then_is_eq Greater p = refl
 number_is_eq : (x y : ℕ) → is_eq (nat_cmp x y) ≡ (x == y)
 number_is_eq x y = grind arith
 
--- equal in the order are just the Layers that are one
+-- the order has two Layers as equal exactly if they are the same
 pub cmp_same : (a b : Layer) → is_eq ((layer_ord.ghosts).cmp a b) ≡ same_layer a b
 cmp_same a b =
     then_is_eq (nat_cmp a.layer b.layer) (nat_cmp a.datatype b.datatype)
@@ -67,7 +67,7 @@ swap true false x y z n = refl
 swap false true x y z n = refl
 swap false false x y z n = refl
 
--- one pair more, whose source no earlier pair has
+-- one more pair, whose source no earlier pair has
 find_push : (pairs : List LayerPair) (p : LayerPair) (q : Layer) → target_in pairs p.source ≡ None
     → target_in (pairs ++ p ∷ []) q ≡ cond (same_layer p.source q) (Some p.target) (target_in pairs q)
 find_push [] p q h = refl
@@ -154,7 +154,7 @@ distinct_none = tt
 pub targets_none : (m : BTreeMap Layer Layer) → IsEmpty m → AreTargets [] m × IsDistinct same_layer (sources [])
 targets_none m h = (λ q. ap (lookup (is_at ((layer_ord.ghosts).cmp q))) h, distinct_none)
 
--- no two sources may be one
+-- a repeated source is the fault of a view
 pub twice_fault : (map_text window_text : Option (List ℕ)) (pairs : List LayerPair) (w : Option Window) (f : ViewFault)
     → IsAlone (IsMapOf map_text) pairs → IsAlone (IsWindowOf window_text) w → IsTwiceFault pairs f
     → IsFaultOf map_text window_text f

@@ -1,4 +1,4 @@
--- Lists whose items go in pairs, one pair more.
+-- Two lists whose items are related in pairs, with one more pair.
 use Rattle.std.proofs.Common.{◌≡◌, ℕ, zero, suc, ◌<◌, ◌≤◌, ◌+◌, map, take, get_or, option_map, List, [], ◌∷◌, ◌++◌}
 use Rattle.std.proofs.Common.{length, Option, Some, sym, ap, subst, ◌∙◌, arith, refl}
 use Rattle.std.specs.List.{AllZip, slice_get}
@@ -11,7 +11,7 @@ map_push : {V A : Type 0} (f : V → A) (xs : List V) (x : V) → map f (xs ++ x
 map_push f [] x = refl
 map_push {V} {A} f (w ∷ xs) x = ap (λ (l : List A). f w ∷ l) (map_push f xs x)
 
--- the item at an index, with itself in place of a default
+-- the item at an index, with itself as the default
 pub read_at : {V : Type 0} (xs : List V) (i : ℕ) (d : V) → i < length xs → get_or xs i d ≡ get_or xs i (get_or xs i d)
 read_at xs i d h = sym (get_or_from_slice_get xs i (get_or xs i d) (get_or xs i d) (slice_get-get_or xs i d h))
 
@@ -45,7 +45,7 @@ module _ {A B : Type 0} (R : A → B → Type 0) where
   pub alone_nil : IsAlone (AllZip R []) []
   alone_nil = λ ys. (zip_nil ys, λ e. subst (AllZip R []) (sym e) tt)
 
-  -- one item more, which goes with one value alone
+  -- one more item, related to one value only
   pub alone_push : (xs : List A) (ys : List B) (x : A) (y : B) → IsAlone (AllZip R xs) ys → IsOnly (R x) (Some y)
       → IsAlone (AllZip R (xs ++ x ∷ [])) (ys ++ y ∷ [])
   alone_push xs ys x y all one = λ bs. (
@@ -56,7 +56,7 @@ module _ {A B : Type 0} (R : A → B → Type 0) where
     λ e. subst (AllZip R (xs ++ x ∷ [])) (sym e) (zip_push xs ys x y ((all ys).1 refl) ((one y).1 refl)),
   )
 
-  -- an item that goes with no value
+  -- an item that is related to no value
   pub zip_none : (xs : List A) (ys : List B) (i : ℕ) (x : A) → slice_get xs i ≡ Some x → ((y : B) → ¬ R x y)
       → ¬ AllZip R xs ys
   zip_none [] ys i x e n h = none-some x e
@@ -65,7 +65,7 @@ module _ {A B : Type 0} (R : A → B → Type 0) where
   zip_none (w ∷ xs) (y ∷ ys) (suc i) x e n h = zip_none xs ys i x e n h.1
 
   module _ (V : Type 0) (view : V → A) (parts : List V) where
-    -- one part more, which goes with one value alone
+    -- one more part, related to one value only
     pub parts_more : (ys : List B) (i : ℕ) (part : V) (y : B) → i < length parts → part ≡ get_or parts i part
         → IsAlone (AllZip R (map view (take i parts))) ys → IsOnly (R (view part)) (Some y)
         → IsAlone (AllZip R (map view (take (i + 1) parts))) (ys ++ y ∷ [])

@@ -2,20 +2,20 @@
 use lvl_names::Layer;
 use thiserror::Error;
 
-/// Why the texts of a view are refused (own rule). Of several faults the first in this order is
+/// Why the texts of a view are refused (own rules). If several apply, the first in this order is
 /// reported.
 #[derive(Clone, Copy, Debug, Drop, PartialEq, Eq, Error)]
 pub enum ViewFault {
-    /// The text of the map is not one or more pairs `L/D=L/D` joined by commas.
+    /// The text of the map isn't one or more pairs `L/D=L/D` joined by commas.
     #[error("MapText")]
     MapText,
-    /// The text of the window is not `x=A..B,y=C..D`.
+    /// The text of the window isn't `x=A..B,y=C..D`.
     #[error("WindowText")]
     WindowText,
-    /// The first source in the map that is also the source of an earlier pair.
+    /// Two pairs of the map have the same source: the first source that an earlier pair has.
     #[error("MapTwice")]
     MapTwice(Layer),
-    /// The window has no square: `x0 >= x1` or `y0 >= y1`.
+    /// The window has no squares: `x0 >= x1` or `y0 >= y1`.
     #[error("EmptyWindow")]
     EmptyWindow,
 }

@@ -12,14 +12,14 @@ use lvl_names::Layer;
 use lvl_refusal::Cause;
 use std::alloc::{AllocError, Global};
 
-/// What is on the source counts as being on the target.
+/// A pair of a map: what is on the source counts as being on the target.
 #[derive(Clone, Copy, Debug, PartialEq, Eq)]
 pub struct LayerPair {
     pub source: Layer,
     pub target: Layer,
 }
 
-/// The layer that a text `L/D` names.
+/// The Layer of a text `L/D`, or None if the text isn't of this form.
 fn layer_of(text: &str) -> Option<Layer>
     ensures { IsOnly (IsLayerText text.now) result }
 {
@@ -30,7 +30,7 @@ fn layer_of(text: &str) -> Option<Layer>
     })
 }
 
-/// The pair of a text `L/D=L/D`.
+/// The pair of a text `L/D=L/D`, or None if the text isn't of this form.
 fn pair_of(text: &str) -> Option<LayerPair>
     ensures { IsOnly (IsPairText text.now) result }
 {
@@ -41,14 +41,14 @@ fn pair_of(text: &str) -> Option<LayerPair>
     })
 }
 
-/// The parts of a text between commas.
+/// The parts of a text that are separated by commas.
 fn parts_of<'a>(alloc: Global, text: &'a str) -> Result<Vec<&'a str>, AllocError>
     ensures { IfOk result (λ parts. list_map (λ p. p.now) parts.items ≡ slice_split (λ b. b == comma) text.now) }
 {
     text.split(',').collect(alloc)
 }
 
-/// The pairs of a text, in its order.
+/// The pairs of a text `L/D=L/D,...`, in order.
 fn read_pairs(alloc: Global, text: &str) -> Result<Vec<LayerPair>, Cause<ViewFault>>
     ensures ok { IfOk result (λ pairs. IsAlone (IsMapText text.now) pairs.items) }
     ensures err { IfErr result (λ refusal. Says refusal (IsMapFault (Some text.now))) }
@@ -64,7 +64,7 @@ fn read_pairs(alloc: Global, text: &str) -> Result<Vec<LayerPair>, Cause<ViewFau
     Ok(pairs)
 }
 
-/// The pairs of a map, in the order of its text; none where no text is given.
+/// The pairs of a map in the order of its text, or none if no text is given.
 pub(crate) fn pairs_of(
     alloc: Global,
     text: Option<&str>,

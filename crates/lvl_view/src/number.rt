@@ -2,10 +2,10 @@
 ghost use Rattle.std.specs.Prelude.{◌↔◌, IsTrue};
 ghost use Rattle.lvl_view.specs.Texts.{IsDigits, IsNumber, IsCoordinate, IsOnly};
 
-/// The most digits of a layer's or a datatype's number (own rule).
+/// The greatest number of digits of a layer or a datatype (own rule).
 const MOST_NUMBER_DIGITS: usize = 10;
 
-/// The most digits of a coordinate (own rule).
+/// The greatest number of digits of a coordinate (own rule).
 const MOST_COORDINATE_DIGITS: usize = 19;
 
 /// Whether a text is 1 to `most` decimal digits.
@@ -17,7 +17,7 @@ fn is_digits(text: &str, most: usize) -> bool
         && text.as_bytes().iter().all(|b| b'0' <= *b && *b <= b'9')
 }
 
-/// The number of a layer or a datatype.
+/// The number of a layer or a datatype: 1 to 10 decimal digits, below 2^32.
 pub(crate) fn number_of(text: &str) -> Option<u32>
     ensures { IsOnly (IsNumber text.now) result }
 {
@@ -27,7 +27,7 @@ pub(crate) fn number_of(text: &str) -> Option<u32>
     text.parse::<u32>().ok()
 }
 
-/// A coordinate of the window.
+/// A coordinate of a window: an optional minus and 1 to 19 decimal digits, within 64 signed bits.
 pub(crate) fn coordinate_of(text: &str) -> Option<i64>
     ensures { IsOnly (IsCoordinate text.now) result }
 {

@@ -1,4 +1,4 @@
-//! A map of layers and a window.
+//! Views.
 ghost use Rattle.std.specs.Prelude.{◌≡◌, ◌↔◌, IsTrue, IfOk, IfErr, Some, SomeIff, option_map, MatchOption, None};
 ghost use Rattle.std.specs.Prelude.{[], false};
 ghost use Rattle.std.specs.List.{IsDistinct};
@@ -18,8 +18,8 @@ use std::alloc::Global;
 use std::collections::BTreeMap;
 use std::marker::Model;
 
-/// A map of layers and a window or none. All pairs of the map apply at once: what is on a source
-/// counts as being on its target alone, and a Layer that is no source is its own target.
+/// A map of layers and an optional window. All pairs of the map apply at once: what is on a source
+/// counts as being on its target only. A Layer that isn't a source is its own target.
 #[derive(Debug, Drop)]
 pub struct View {
     pairs: Vec<LayerPair>,
@@ -39,7 +39,8 @@ impl Model for View {
     ghost invariant = { λ v. AreTargets v.pairs.items v.targets };
 }
 
-/// The target of each source, or the first source that is also the source of an earlier pair.
+/// A map from each source to its target. Refuses with [`ViewFault::MapTwice`] and the first source
+/// that an earlier pair has, if there is one.
 fn targets_of(
     alloc: Global,
     pairs: &[LayerPair],
@@ -58,7 +59,7 @@ fn targets_of(
     Ok(targets)
 }
 
-/// Whether there is a window, and it has no square.
+/// Whether there is a window without squares.
 fn is_empty(window: Option<Window>) -> bool
     ensures { IsTrue result ↔ IsEmptyWindow window }
 {
@@ -69,11 +70,13 @@ fn is_empty(window: Option<Window>) -> bool
 }
 
 impl View {
-    /// The view that two texts say; of a text that is not given there is no map, or no window.
+    /// Reads a view from the text of a map and that of a window. If a text isn't given, the view
+    /// has no map, or no window.
     ///
-    /// A map is one or more pairs `L/D=L/D` joined by commas, each number 1 to 10 decimal digits
-    /// and below 2^32. A window is `x=A..B,y=C..D`, each number an optional minus and 1 to 19
-    /// decimal digits, within 64 signed bits (own rules). Sources are compared as numbers.
+    /// A map is one or more pairs `L/D=L/D` joined by commas; each number has 1 to 10 decimal
+    /// digits and is below 2^32. A window is `x=A..B,y=C..D`; each number has an optional minus and
+    /// 1 to 19 decimal digits and fits in 64 signed bits (own rules). Sources are compared as
+    /// numbers, so `1/0` and `01/0` are the same.
     pub fn read(
         alloc: Global,
         map: Option<&str>,
@@ -101,7 +104,7 @@ impl View {
         })
     }
 
-    /// No map and no window. It takes no memory.
+    /// A view without a map and without a window. Allocates nothing.
     pub fn whole(alloc: Global) -> View
         ensures { IsWhole result }
     {
@@ -112,7 +115,7 @@ impl View {
         }
     }
 
-    /// Whether there is a map: some Layer may count as another.
+    /// Whether the view has a map.
     pub fn has_map(&self) -> bool
         ensures { result ≡ false → self.now.pairs ≡ [] }
     {

@@ -8,7 +8,7 @@ use crate::fault::ViewFault;
 use crate::number::coordinate_of;
 use lvl_grid::Window;
 
-/// The two coordinates of a text `A..B`.
+/// The two coordinates of a text `A..B`, or None if the text isn't of this form.
 fn span_of(text: &str) -> Option<(i64, i64)>
     ensures { IsOnly (IsSpanText text.now) result }
 {
@@ -17,7 +17,7 @@ fn span_of(text: &str) -> Option<(i64, i64)>
     Some((coordinate_of(low)?, coordinate_of(high)?))
 }
 
-/// The two coordinates of a text `x=A..B`, where `x` is the axis.
+/// The two coordinates of a text like `x=A..B`, where `axis` is the first character.
 fn axis_of(text: &str, axis: char) -> Option<(i64, i64)>
     requires { axis < 128 }
     ensures { IsOnly (IsAxisText axis text.now) result }
@@ -27,7 +27,7 @@ fn axis_of(text: &str, axis: char) -> Option<(i64, i64)>
     span_of(span)
 }
 
-/// The window of a text `x=A..B,y=C..D`.
+/// The window of a text `x=A..B,y=C..D`, or None if the text isn't of this form.
 fn read_window(text: &str) -> Option<Window>
     ensures { IsOnly (IsWindowText text.now) result }
 {
@@ -37,7 +37,7 @@ fn read_window(text: &str) -> Option<Window>
     Some(Window { x0, y0, x1, y1 })
 }
 
-/// The window of a text; none where no text is given.
+/// The window of a text, or none if no text is given.
 pub(crate) fn window_of(text: Option<&str>) -> Result<Option<Window>, ViewFault>
     ensures ok { IfOk result (IsAlone (IsWindowOf (text_of text.entry))) }
     ensures err { IfErr result (IsWindowFault (text_of text.entry)) }

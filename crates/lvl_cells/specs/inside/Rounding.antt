@@ -1,4 +1,4 @@
--- A round of references, on the path of a walk.
+-- Rounds: if the last cell of a path refers to a cell on the path, the round is the path from that cell on.
 use Rattle.std.specs.Prelude.{◌≡◌, ℕ, suc, ◌-◌, ◌<◌, ◌≤◌, List, [], map, drop, length, All, Contains, slice_get}
 use Rattle.std.specs.Prelude.{slice_index_or, Some}
 use Rattle.std.specs.List.{IsDistinct}
@@ -11,7 +11,7 @@ use Rattle.lvl_cells.specs.declared.walk.Visit.{Visit}
 abbrev pub visited_name : List (PlainCell Rings) → Visit → List ℕ
 visited_name cells v = slice_index_or (names cells) v.cell []
 
--- the path from the cell start on
+-- the round is the path from its visit of the cell `start` on
 pub record IsFrom (path : List Visit) (start : ℕ) (round : List Visit) : Type 0 where
   pub place : ℕ
   pub visit : Visit
@@ -19,7 +19,7 @@ pub record IsFrom (path : List Visit) (start : ℕ) (round : List Visit) : Type 
   pub cell_is : visit.cell ≡ start
   pub rest : round ≡ drop place path
 
--- distinct cells, each referring to the next and the last to the first
+-- the visits are to distinct cells, each referring to the next and the last to the first
 pub record IsRoundOf (cells : List (PlainCell Rings)) (round : List Visit) : Type 0 where
   pub some : 0 < length round
   pub within : All (λ v. v.cell < length cells) round
@@ -29,7 +29,7 @@ pub record IsRoundOf (cells : List (PlainCell Rings)) (round : List Visit) : Typ
   pub closed : (v w : Visit) → slice_get round 0 ≡ Some v → slice_get round (length round - 1) ≡ Some w
       → Contains (links cells) (visited_name cells w, visited_name cells v)
 
--- the visit at the place first is to the cell that comes first in the file
+-- of all visits, the one at index `first` is to the cell that comes first in the file
 pub record IsFirstIn (round : List Visit) (first : ℕ) : Type 0 where
   pub visit : Visit
   pub there : slice_get round first ≡ Some visit

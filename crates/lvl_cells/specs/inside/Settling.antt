@@ -1,13 +1,14 @@
--- What a checked library keeps, and how it is seen.
+-- What a checked library stores, and its value.
 use Rattle.std.specs.Prelude.{ℕ, List, Option}
 use Rattle.lvl_cells.specs.Checks.{Settled, IsSettled}
 use Rattle.lvl_cells.specs.inside.Steps.{AreAllTargets}
 use Rattle.lvl_cells.specs.declared.checked.Checked.TheInside.{Inside}
 
+-- the value of a checked library
 abbrev pub settled : Inside → Settled
 settled a = record { cells = a.cells.items; top = a.top; order = a.order.items }
 
--- it is sound for the top that was given or for none, and the targets are those of its references
+-- the library was checked for some given name of a top or for none, and the targets are those of its references
 pub record IsKeptSettled (a : Inside) : Type 0 where
   pub given : Option (List ℕ)
   pub sound : IsSettled given (settled a)

@@ -1,4 +1,4 @@
--- Cells to which none refers.
+-- Cells to which no cell refers.
 use Rattle.std.specs.Prelude.{◌≢◌, ℕ, ◌<◌, List, length}
 use Rattle.std.specs.declared.alloc.Global.{Global}
 use Rattle.std.specs.declared.vec.Vec.{Vec}
@@ -8,7 +8,7 @@ use Rattle.lvl_cells.specs.inside.Walking.{IsArc}
 abbrev pub IsTarget : List (Vec ℕ Global) → ℕ → Type 0
 IsTarget targets k = (a : ℕ) × (j : ℕ) × IsArc targets a j k
 
--- another cell than the root, to which none refers
+-- there is another cell than the root to which no cell refers
 pub record HasOtherRoot (targets : List (Vec ℕ Global)) (root : ℕ) : Type 0 where
   pub other : ℕ
   pub low : other < length targets

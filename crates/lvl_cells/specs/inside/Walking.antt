@@ -1,4 +1,4 @@
--- A walk over cells along their references: what is marked, on the way, and finished.
+-- A walk over cells along their references: marks, the path, and the finished cells. Cells are named by their index.
 use Rattle.std.specs.Prelude.{◌≡◌, ℕ, suc, ◌+◌, ◌*◌, ◌-◌, ◌<◌, ◌≤◌, List, [], ◌∷◌, map, length, ◌↔◌, sum_by, All}
 use Rattle.std.specs.Prelude.{Contains, slice_get, Option, Some, None}
 use Rattle.std.specs.Option.{option_map_or}
@@ -12,12 +12,12 @@ use Rattle.lvl_cells.specs.declared.walk.Move.TheVariants.{Into, Past, Out, Roun
 use Rattle.lvl_cells.specs.declared.walk.Mark.{Mark}
 use Rattle.lvl_cells.specs.declared.walk.Mark.TheVariants.{New, Open, Done}
 
--- the reference at place j of cell a is to cell b
+-- reference j of cell a is to cell b
 abbrev pub IsArc : List (Vec ℕ Global) → ℕ → ℕ → ℕ → Type 0
 IsArc targets a j b = (ts : Vec ℕ Global) × (slice_get targets a ≡ Some ts) × (slice_get ts.items j ≡ Some b)
 
--- open cells are those on the path, done cells those that are finished, and each finished one comes after those that
--- it refers to
+-- the state of a walk: open cells are those on the path, done cells those that are finished, and each finished one
+-- comes after those that it refers to
 pub record IsWalk (targets : List (Vec ℕ Global)) (marks : List Mark) (path : List Visit)
     (finished : List ℕ) : Type 0 where
   pub long : length marks ≡ length targets
@@ -32,38 +32,40 @@ pub record IsWalk (targets : List (Vec ℕ Global)) (marks : List Mark) (path : 
   pub falls : (i k j b : ℕ) → slice_get finished i ≡ Some k → IsArc targets k j b
       → (l : ℕ) × (l < i) × (slice_get finished l ≡ Some b)
 
--- how many cells are new
+-- the number of new cells
 abbrev pub new_count : List Mark → ℕ
 new_count [] = 0
 new_count (New ∷ ms) = suc (new_count ms)
 new_count (Open ∷ ms) = new_count ms
 new_count (Done ∷ ms) = new_count ms
 
--- the references that a visit has left
+-- the number of references that a visit has still to follow
 abbrev pub left_at : List (Vec ℕ Global) → Option Visit → ℕ
 left_at targets None = 0
 left_at targets (Some v) = option_map_or (λ ts. length ts.items - v.done) (slice_get targets v.cell) 0
 
--- the work that is left: first what is to be opened and closed, then the references of the last cell on the path
+-- the measure of a walk: how often cells are still to be opened or closed, then the references that the last visit on
+-- the path has still to follow
 abbrev pub work_left : List (Vec ℕ Global) → List Mark → List Visit → ℕ
 work_left targets marks path =
     (2 * new_count marks + length path) * (1 + sum_by (λ ts. length ts.items) targets)
     + left_at targets (slice_get path (length path - 1))
 
--- no cell is new again
+-- no cell becomes new again
 abbrev pub GoesOn : List Mark → List Mark → Type 0
 GoesOn old new = (k : ℕ) → slice_get new k ≡ Some New → slice_get old k ≡ Some New
 
--- the next reference of the last cell on the path is to the cell start, which is on the path too
+-- the next reference of the last cell on the path is to the cell `start`, and `start` is on the path
 abbrev pub LeadsBack : List (Vec ℕ Global) → List Visit → ℕ → Type 0
 LeadsBack targets path start =
     (v : Visit) × (slice_get path (length path - 1) ≡ Some v) × IsArc targets v.cell v.done start
     × Contains (map (λ w. w.cell) path) start
 
+-- every target is below n
 abbrev pub EachTargetWithin : List (Vec ℕ Global) → ℕ → Type 0
 EachTargetWithin targets n = All (λ ts. All (λ b. b < n) ts.items) targets
 
--- the next reference of the visit is to a cell of that mark, or there is none left
+-- the move follows the next reference of the visit, to a cell with the mark of this move, or no reference is left
 abbrev pub IsStepFrom : List (Vec ℕ Global) → List Mark → Visit → Move → Type 0
 IsStepFrom targets marks v (Into b) = IsArc targets v.cell v.done b × (slice_get marks b ≡ Some New)
 IsStepFrom targets marks v (Round b) = IsArc targets v.cell v.done b × (slice_get marks b ≡ Some Open)

@@ -1,4 +1,4 @@
--- Placements: the cells that references place, each place by itself.
+-- Placements: the cells that references place, one for each place.
 use Rattle.std.specs.Prelude.{◌≡◌, ◌↔◌, ℕ, List, [], map, slice_get, Option, Some, None, Any, Contains}
 use Rattle.lvl_grid.specs.declared.point.Square.{Square}
 use Rattle.lvl_grid.specs.Turn.{image_square}
@@ -12,28 +12,29 @@ use Rattle.lvl_changed.specs.declared.placements.Placement.{Placement}
 use Rattle.lvl_changed.specs.declared.windows.Windows.{Windows}
 use Rattle.lvl_changed.specs.inside.Windows.{AlikeOutside}
 
--- the cell of that index at each place of the reference
+-- the cell with the index k, placed at each place of the reference
 abbrev pub placed : ℕ → PlainReference → List Placement
 placed k r = map (λ e. record { cell = k; map = placing r e }) r.shifts
 
--- the partner of a cell at each place of the reference; nothing where there is none
+-- the partner of a cell, placed at each place of the reference, or nothing if there is no partner
 abbrev pub partner_placed : Option ℕ → PlainReference → List Placement
 partner_placed None r = []
 partner_placed (Some n) r = placed n r
 
--- the placed cell covers the square whose image the square is
+-- the placed cell covers the square s: it is the image of a square that the cell covers
 abbrev pub PlacementCovers : List (PlainCell Rings) → Layer → Square → Placement → Type 0
 PlacementCovers cells layer s p = (t : Square) × (image_square p.map t ≡ s) × CoversAt cells p.cell layer t
 
--- some of the placements does
+-- at least one of the placements covers the square
 abbrev pub PlacedCover : List (PlainCell Rings) → List Placement → Layer → Square → Type 0
 PlacedCover cells placements layer s = Any (PlacementCovers cells layer s) placements
 
--- what the references place covers the square
+-- a cell that one of the references places covers the square
 abbrev pub ReferencesCover : List (PlainCell Rings) → List PlainReference → Layer → Square → Type 0
 ReferencesCover cells references layer s = Any (PickCovers cells layer s) (picks references)
 
--- outside of the windows the references of our cell cover what those of theirs do, seen through the map of Layers
+-- outside of the windows, the references of cell i of the first library cover the same squares as those of cell j of
+-- the second under the map of Layers
 abbrev pub ReferAlike : Windows → List LayerPair → List (PlainCell Rings) → ℕ → List (PlainCell Rings) → ℕ → Type 0
 ReferAlike w pairs ours i theirs j =
     (c d : PlainCell Rings) → slice_get ours i ≡ Some c → slice_get theirs j ≡ Some d

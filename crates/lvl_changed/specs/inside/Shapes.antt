@@ -1,4 +1,4 @@
--- What a cell's own shapes cover.
+-- What the own shapes of a cell cover.
 use Rattle.std.specs.Prelude.{◌↔◌, List, Any}
 use Rattle.lvl_grid.specs.declared.point.Square.{Square}
 use Rattle.lvl_grid.specs.declared.point.Window.{Window}
@@ -11,18 +11,18 @@ use Rattle.lvl_flat.specs.Sheets.{rings_on}
 use Rattle.lvl_changed.specs.declared.windows.Windows.{Windows}
 use Rattle.lvl_changed.specs.inside.Windows.{Has}
 
--- some shape covers the square on the Layer
+-- at least one of the shapes covers the square on the Layer
 abbrev pub ShapesCover : List (PlainShape Rings) → Layer → Square → Type 0
 ShapesCover shapes layer s = Any (ShapeCovers RingsCover layer s) shapes
 
--- some ring of the flat layout does
+-- the flat layout covers the square on the Layer
 abbrev pub FlatCovers : List PlainSheet → Layer → Square → Type 0
 FlatCovers flat layer s = RingsCover (rings_on layer flat) s
 
--- outside of the windows both flat layouts cover the same on the Layer
+-- both flat layouts cover the same squares outside of the windows, on the Layer
 abbrev pub LayerAlike : Windows → List PlainSheet → List PlainSheet → Layer → Type 0
 LayerAlike w a b layer = (s : Square) → (¬ Has w s) → FlatCovers a layer s ↔ FlatCovers b layer s
 
--- the corners of a window
+-- the box between the corners of a window
 abbrev pub corners : Window → Bounds
 corners w = record { low = record { x = w.x0; y = w.y0 }; high = record { x = w.x1; y = w.y1 } }

@@ -1,4 +1,4 @@
--- Where two layouts differ within a part of the grid.
+-- The first difference of two layouts within a part of the grid.
 use Rattle.std.specs.Prelude.{◌≡◌, ◌↔◌, ◌⊎◌, ◌<ℤ◌, ℤ, List, Option, Some, None}
 use Rattle.std.specs.Int.{int_min, int_max}
 use Rattle.lvl_grid.specs.declared.point.Square.{Square}
@@ -14,48 +14,49 @@ use Rattle.lvl_region.specs.Region.{IsAlone}
 use Rattle.lvl_region.specs.declared.region.Side.{Side}
 use Rattle.lvl_compare.specs.Tops.{Draws}
 
+-- a Layer, a square, and the only side that draws it there
 abbrev pub Found : Type 0
 Found = Layer × Square × Side
 
--- by Layer, then by square
+-- the first square on its Layer comes before the second on its Layer: by Layer, then by square
 abbrev pub Precedes : Layer → Square → Layer → Square → Type 0
 Precedes l s layer square = ComesBefore l layer ⊎ ((l ≡ layer) × IsBefore s square)
 
--- of the part's squares it is the first that one side alone draws
+-- the first difference of two layouts, among the squares of the part
 pub record IsFirstIn (a b : Draws) (part : Square → Type 0) (at : Found) : Type 0 where
   pub shown : part at.1
   pub alone : IsAlone (a at.0) (b at.0) at.1 at.2
   pub least : (l : Layer) (s : Square) → part s → Precedes l s at.0 at.1 → a l s ↔ b l s
 
--- what is found in a part: its first difference, or none where both draw the same of it
+-- what is found in a part: the first difference, or None if both draw the same squares of it
 abbrev pub IsFoundIn : Draws → Draws → (Square → Type 0) → Option Found → Type 0
 IsFoundIn a b part None = (l : Layer) (s : Square) → part s → a l s ↔ b l s
 IsFoundIn a b part (Some at) = IsFirstIn a b part at
 
--- the one of two that does not come after the other, or the one that is there
+-- the lesser of two differences, or the only one that there is
 abbrev pub IsLeast : Option Found → Option Found → Option Found → Type 0
 IsLeast None other result = result ≡ other
 IsLeast (Some x) None result = result ≡ Some x
 IsLeast (Some x) (Some y) result = ((result ≡ Some x) × (¬ Precedes y.0 y.1 x.0 x.1))
     ⊎ ((result ≡ Some y) × Precedes y.0 y.1 x.0 x.1)
 
--- the flat layout has what is drawn of the window's squares
+-- the flat layout covers exactly the squares of the window that the layout draws
 abbrev pub ShowsOf : Draws → Window → List PlainSheet → Type 0
 ShowsOf a w f = (l : Layer) (q : Square) → RingsCover (rings_on l f) q ↔ (IsWithin w q × a l q)
 
--- the square is one of the window's, and left of the abscissa
+-- the window has the square, and it is left of the abscissa
 abbrev pub IsLeftIn : Window → ℤ → Square → Type 0
 IsLeftIn w x q = IsWithin w q × (q.x <ℤ x)
 
--- the window from an abscissa on
+-- the part of a window from an abscissa on
 abbrev pub from_on : ℤ → Window → Window
 from_on x w = record { x0 = x; y0 = w.y0; x1 = w.x1; y1 = w.y1 }
 
--- and up to one
+-- the part of a window up to an abscissa, which is excluded
 abbrev pub up_to : ℤ → Window → Window
 up_to x w = record { x0 = w.x0; y0 = w.y0; x1 = x; y1 = w.y1 }
 
--- what a window and the one that is seen, if one is given, share
+-- the intersection of a window with an optional one
 abbrev pub seen_of : Option Window → Window → Window
 seen_of None w = w
 seen_of (Some v) w = record {

@@ -1,4 +1,4 @@
--- Sums of marks at one point after the other. These serve the proof alone.
+-- Sums of marks, one point after another. These definitions serve only the proofs.
 use Rattle.std.specs.Prelude.{◌≡◌, ◌≢◌, ◌≤◌, ◌<◌, ◌⊎◌, ℕ, ◌&&◌, List, [], ◌∷◌, ℤ, pos, ◌+ℤ◌, ◌-ℤ◌}
 use Rattle.std.specs.Prelude.{◌<ℤ◌, ◌≤ℤ◌, cond, All, take, length, slice_index_or}
 use Rattle.std.specs.List.{AllPairs}
@@ -9,34 +9,37 @@ use Rattle.lvl_corners.specs.declared.sum.Sum.{Sum}
 use Rattle.lvl_corners.specs.Corners.{ComesBefore}
 use Rattle.lvl_corners.specs.inside.Marks.{net, change_of}
 
+-- the sum of one mark
 abbrev pub started : Mark → Sum
 started m = record { x = m.x; y = m.y; change = change_of m }
 
+-- the sum with one more mark
 abbrev pub added : Sum → Mark → Sum
 added s m = record { x = s.x; y = s.y; change = s.change +ℤ change_of m }
 
+-- the mark is at the point of the sum
 abbrev pub IsAt : Sum → Mark → Type 0
 IsAt s m = (s.x ≡ m.x) × (s.y ≡ m.y)
 
--- the corner at the point, if something changes there
+-- the corner of a sum, if the sum isn't 0
 abbrev pub corners_of_sum : Sum → List Corner
 corners_of_sum s = cond (int_eq s.change (pos 0)) [] (record { x = s.x; y = s.y; change = s.change } ∷ [])
 
--- a mark more at the point, or the next point after the corner is sent
+-- the next mark is added to the sum at its point, or, at another point, the corner is sent and a new sum begins
 abbrev pub Steps : Sum → Mark → Sum → List Corner → Type 0
 Steps s m t sent = (IsAt s m × ((sent ≡ []) × (t ≡ added s m)))
     ⊎ ((¬ IsAt s m) × ((sent ≡ corners_of_sum s) × (t ≡ started m)))
 
--- the changes at a point, summed up
+-- the sum of the changes of the corners at a point
 abbrev pub total_at : ℤ → ℤ → List Corner → ℤ
 total_at x y [] = pos 0
 total_at x y (k ∷ ks) = cond (int_eq k.y y && int_eq k.x x) k.change (pos 0) +ℤ total_at x y ks
 
--- the point lies left of the other, or below it
+-- the first point is left of the second, or at the same abscissa and below it
 abbrev pub IsLess : ℤ → ℤ → ℤ → ℤ → Type 0
 IsLess x y x' y' = (x <ℤ x') ⊎ ((x ≡ x') × (y <ℤ y'))
 
--- the corners sent, and the sum at the point that is next, say what the marks up to an index sum up to
+-- the state of the summing: the corners that were sent and the present sum add up to the first i marks
 pub record AreSummed (marks : List Mark) (i : ℕ) (sent : List Corner) (s : Sum) : Type 0 where
   pub rising : AllPairs ComesBefore sent
   pub nonzero : All (λ k. k.change ≢ pos 0) sent
@@ -49,7 +52,7 @@ pub record AreSummed (marks : List Mark) (i : ℕ) (sent : List Corner) (s : Sum
   pub low : (pos 0 -ℤ pos i) ≤ℤ s.change
   pub high : s.change ≤ℤ pos i
 
--- the corners of all marks
+-- the corners that were sent are those of all marks
 pub record AreTotals (marks : List Mark) (sent : List Corner) : Type 0 where
   pub rising : AllPairs ComesBefore sent
   pub nonzero : All (λ k. k.change ≢ pos 0) sent

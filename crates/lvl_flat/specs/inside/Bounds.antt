@@ -1,4 +1,4 @@
--- Boxes of points as they grow, and as they are placed.
+-- Boxes of points: widened, placed, and against a window.
 use Rattle.std.specs.Prelude.{◌≡◌, ℕ, List, slice_get, Option, Some, All, Contains, ◌+ℤ◌, pos}
 use Rattle.lvl_grid.specs.declared.point.Point.{Point}
 use Rattle.lvl_grid.specs.declared.point.Square.{Square}
@@ -11,41 +11,42 @@ use Rattle.lvl_cells.specs.Chains.{Chain, IsComposed}
 use Rattle.lvl_flat.specs.declared.bounds.Bounds.{Bounds}
 use Rattle.lvl_flat.specs.Boxes.{IsWithin, HoldsCell, Fits}
 
--- what is in the first is in the second
+-- every point in the box a is in the box b
 pub record Widens (a b : Bounds) : Type 0 where
   pub holds : (p : Point) → IsWithin a p → IsWithin b p
 
--- the points of the ring are in it, moved by whatever is in the shifts' box
+-- the box has each point of the ring, moved by any displacement in the box of the shifts
 abbrev pub HoldsRing : Bounds → Bounds → List Point → Type 0
 HoldsRing b shifts ring = All (λ v. (e : Point) → IsWithin shifts e → IsWithin b (shifted e v)) ring
 
--- the shape is in it where it is drawn
+-- the box has all vertices of the shape at all of its shifts
 abbrev pub HoldsOwn : Bounds → PlainShape Rings → Type 0
 HoldsOwn b h = All (λ e. All (λ ring. All (λ v. IsWithin b (shifted e v)) ring) h.figure) h.shifts
 
--- and so is all that a reference leads to at one of its places
+-- the box has all that the chains through the reference at its shift e place
 abbrev pub HoldsPick : List (PlainCell Rings) → Bounds → PlainReference → Point → Type 0
 HoldsPick cells b r e =
     (d f : PlainCell Rings) (n : ℕ) (w m : Map) → cell_named cells r.cell ≡ Some d → Chain cells d n w f
     → IsComposed (placing r e) w m → HoldsCell b m f
 
+-- that holds for each of the references at each of its shifts
 abbrev pub HoldsPicks : List (PlainCell Rings) → Bounds → List PlainReference → Type 0
 HoldsPicks cells b references = All (λ r. (e : Point) → Contains r.shifts e → HoldsPick cells b r e) references
 
--- both corners of the square are in it
+-- the box has the square: its lower left and its upper right corner
 pub record HasSquare (b : Bounds) (s : Square) : Type 0 where
   pub low : IsWithin b (record { x = s.x; y = s.y })
   pub high : IsWithin b (record { x = s.x +ℤ pos 1; y = s.y +ℤ pos 1 })
 
--- no square in it is one of the window's
+-- no square in the box is in the window
 pub record IsOutside (b : Bounds) (w : Window) : Type 0 where
   pub none : (s : Square) → HasSquare b s → ¬ IsInWindow w s
 
--- each square in it is one of the window's
+-- each square in the box is in the window
 pub record IsInside (b : Bounds) (w : Window) : Type 0 where
   pub all : (s : Square) → HasSquare b s → IsInWindow w s
 
--- the box of cell k is known; placed by the map, it is within 64 bits and outside of the window
+-- the box of cell k is known, and placed by the map it fits in 64 signed bits and has no square of the window
 pub record IsPlacedOutside (known : List (Option Bounds)) (k : ℕ) (m : Map) (w : Window) : Type 0 where
   pub box : Bounds
   pub there : slice_get known k ≡ Some (Some box)

@@ -1,4 +1,4 @@
--- A cell that is entered: its shapes are drawn, and a visit is put on the stack.
+-- Entering a cell: its shapes are drawn, and a visit of it is put on the stack.
 use Rattle.std.specs.Prelude.{◌≡◌, ◌↔◌, ◌⊎◌, ◌++◌, ℕ, List, map, slice_get, Some}
 use Rattle.lvl_grid.specs.declared.map.Map.{Map}
 use Rattle.lvl_grid.specs.declared.point.Square.{Square}
@@ -15,11 +15,12 @@ use Rattle.lvl_flat.specs.Flattened.{FitShapes}
 use Rattle.lvl_flat.specs.Sheet.{PlainSheet}
 use Rattle.lvl_flat.specs.Sheets.{rings_on}
 
--- a visit that has all still to do
+-- a visit of cell i, placed by the map m, that has followed no reference yet
 abbrev pub begun : ℕ → Map → Visit
 begun i m = record { cell = i; map = m; reference = 0; place = 0; row = 0 }
 
--- the shapes of cell i are drawn under the map, for the same Layers
+-- the rings of cell i's own shapes, placed by the map, are appended to the sheets, and these are for the same Layers as
+-- before
 pub record IsDrawn (cells : List (PlainCell Rings)) (i : ℕ) (m : Map) (old new : List PlainSheet) : Type 0 where
   pub cell : PlainCell Rings
   pub there : slice_get cells i ≡ Some cell
@@ -27,8 +28,8 @@ pub record IsDrawn (cells : List (PlainCell Rings)) (i : ℕ) (m : Map) (old new
   pub placed : AreFiguresPlaced m cell.shapes
   pub layers : map (λ s. s.layer) new ≡ map (λ s. s.layer) old
 
--- of the window's squares the sheets also cover those that the shapes of cell i cover under the map, for the same
--- Layers
+-- the sheets cover what they covered before and those squares of the window that the shapes of cell i, placed by the
+-- map, cover; they are for the same Layers as before
 pub record IsDrawnWithin (cells : List (PlainCell Rings)) (i : ℕ) (m : Map) (window : Window)
     (old new : List PlainSheet) : Type 0 where
   pub cell : PlainCell Rings
@@ -38,12 +39,13 @@ pub record IsDrawnWithin (cells : List (PlainCell Rings)) (i : ℕ) (m : Map) (w
   pub fits : FitShapes m cell.shapes
   pub layers : map (λ s. s.layer) new ≡ map (λ s. s.layer) old
 
--- the shapes of cell i, whose name it gives, are out of range under the map
+-- a vertex of cell i's own shapes, placed by the map, is out of range, and `name` is the name of the cell
 pub record IsCellOut (cells : List (PlainCell Rings)) (i : ℕ) (m : Map) (name : List ℕ) : Type 0 where
   pub cell : PlainCell Rings
   pub there : slice_get cells i ≡ Some cell
   pub named : cell.name ≡ name
   pub out : ¬ FitShapes m cell.shapes
 
+-- the fault reports the name of such a cell
 abbrev pub IsEnterFault : List (PlainCell Rings) → ℕ → Map → FlatFault → Type 0
 IsEnterFault cells i m (OutOfRange name) = IsCellOut cells i m name.items

@@ -10,14 +10,14 @@ use Rattle.lvl_flat.specs.declared.walk.Step.TheVariants.{Done, Past, Into, Out}
 use Rattle.lvl_flat.specs.inside.Visits.{Pick, pending}
 use Rattle.lvl_flat.specs.inside.Walking.{references_left}
 
--- the visit goes on with the next reference, and has the same still to do
+-- the visit goes on with the next reference, and has the same picks still to follow
 pub record IsPast (cells : List (PlainCell Rings)) (v rest : Visit) : Type 0 where
   pub pending_is : pending cells v ≡ pending cells rest
   pub map_is : rest.map ≡ v.map
   pub cell_is : rest.cell ≡ v.cell
   pub fewer : references_left cells rest < references_left cells v
 
--- the visit's next pick is of the cell at the place i, and the rest is what comes after it
+-- the next pick of the visit places the cell at index i by the map m, and `rest` is the visit after it
 pub record IsInto (cells : List (PlainCell Rings)) (v : Visit) (i : ℕ) (m : Map) (rest : Visit) : Type 0 where
   pub pick : Pick
   pub next : PlainCell Rings
@@ -30,7 +30,7 @@ pub record IsInto (cells : List (PlainCell Rings)) (v : Visit) (i : ℕ) (m : Ma
   pub cell_is : rest.cell ≡ v.cell
   pub reference_is : rest.reference ≡ v.reference
 
--- the visit's next pick would be placed out of range
+-- some pick that the visit has still to follow would place the cell at index i with a shift outside 64 signed bits
 pub record IsOut (cells : List (PlainCell Rings)) (v : Visit) (i : ℕ) : Type 0 where
   pub pick : Pick
   pub next : PlainCell Rings
@@ -39,6 +39,7 @@ pub record IsOut (cells : List (PlainCell Rings)) (v : Visit) (i : ℕ) : Type 0
   pub there : slice_get cells i ≡ Some next
   pub out : ¬ FitsPoint (image v.map (placing pick.0 pick.1).at)
 
+-- the step is what the visit does next
 abbrev pub IsStep : List (PlainCell Rings) → Visit → Step → Type 0
 IsStep cells v Done = pending cells v ≡ []
 IsStep cells v (Past rest) = IsPast cells v rest

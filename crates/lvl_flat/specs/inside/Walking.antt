@@ -1,4 +1,4 @@
--- The state of the walk: what is drawn, and the visits that are still to be gone on with.
+-- The state of the walk: the rings that are drawn, and the visits that aren't finished.
 use Rattle.std.specs.Prelude.{◌≡◌, ◌+◌, ◌-◌, ◌↔◌, ◌⊎◌, ℕ, List, length, sum_by, slice_get, Some, Any, Contains}
 use Rattle.std.specs.Option.{option_map_or}
 use Rattle.lvl_grid.specs.declared.point.Square.{Square}
@@ -15,11 +15,12 @@ use Rattle.lvl_flat.specs.Sheet.{PlainSheet}
 use Rattle.lvl_flat.specs.Sheets.{AreSorted, HaveSheets, rings_on}
 use Rattle.lvl_flat.specs.inside.Visits.{pending, visit_weight, VisitCovers, PicksFit, IsVisit}
 
--- every cell's Layers have sheets
+-- there is a sheet for the Layer of every shape of every cell
 abbrev pub AllHaveSheets : List PlainSheet → List (PlainCell Rings) → Type 0
 AllHaveSheets sheets cells = (k : ℕ) (c : PlainCell Rings) → slice_get cells k ≡ Some c → HaveSheets sheets c.shapes
 
--- of the squares that count, those that the top covers are drawn or covered by a visit; once all visits fit, all does
+-- of the squares that count, the top covers exactly those that are drawn or that a visit has still to cover; if what
+-- the visits have still to follow is in range, all is
 pub record IsUnderWay (s : Settled) (top : PlainCell Rings) (counts : Square → Type 0)
     (drawn : Layer → Square → Type 0) (stack : List Visit) : Type 0 where
   pub is_top : slice_get s.cells s.top ≡ Some top
@@ -36,7 +37,7 @@ SheetsCover sheets layer q = RingsCover (rings_on layer sheets) q
 abbrev pub Everywhere : Square → Type 0
 Everywhere q = Unit {0}
 
--- the walk over all that the top places, each placed ring of which is drawn or still to come
+-- the walk over all that the top places: each placed ring is drawn or still to come
 pub record IsWalking (s : Settled) (sheets : List PlainSheet) (stack : List Visit) : Type 0 where
   pub top : PlainCell Rings
   pub way : IsUnderWay s top Everywhere (SheetsCover sheets) stack
@@ -46,7 +47,7 @@ pub record IsWalking (s : Settled) (sheets : List PlainSheet) (stack : List Visi
       → length (rings_on layer sheets) + sum_by (visit_weight (own_rings_on each_ring layer) s.cells) stack
       ≡ placed_rings_on each_ring layer s.cells top
 
--- the walk over what reaches into a window; nothing is drawn outside of it
+-- the walk over what covers squares of a window; no other squares are drawn
 pub record IsWalkingWithin (s : Settled) (window : Window) (sheets : List PlainSheet) (stack : List Visit)
     : Type 0 where
   pub top : PlainCell Rings
@@ -55,14 +56,14 @@ pub record IsWalkingWithin (s : Settled) (window : Window) (sheets : List PlainS
   pub layers : AllHaveSheets sheets s.cells
   pub within : (layer : Layer) (q : Square) → SheetsCover sheets layer q → IsWithin window q
 
--- the references of its cell that the visit has not begun
+-- the number of references of its cell that the visit hasn't finished
 abbrev pub references_left : List (PlainCell Rings) → Visit → ℕ
 references_left cells v = option_map_or (λ c. length c.references - v.reference) (slice_get cells v.cell) 0
 
--- two for each chain that is to come, and one for each reference
+-- the steps that a placed cell takes: two, and one for each reference
 abbrev pub toil : PlainCell Rings → ℕ
 toil c = 2 + length c.references
 
--- how many steps the walk has at most
+-- the measure of the walk: at most this many steps are left
 abbrev pub work : List (PlainCell Rings) → List Visit → ℕ
 work cells stack = sum_by (visit_weight toil cells) stack + sum_by (λ v. 1 + references_left cells v) stack

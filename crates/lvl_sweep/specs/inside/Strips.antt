@@ -1,4 +1,4 @@
--- Where a sweep has come to: which edges have ended, which are alive, and which are to come.
+-- The state of a sweep: which edges have ended, which are alive, and which are still to come.
 use Rattle.std.specs.Prelude.{◌≡◌, ℕ, ◌+◌, ◌<◌, ◌≤◌, ◌^◌, List, length, ℤ, ◌<ℤ◌, ◌≤ℤ◌, int_lt, count_by, slice_index_or}
 use Rattle.std.specs.Prelude.{All, [], Option}
 use Rattle.std.specs.List.{AllWithin}
@@ -9,7 +9,7 @@ use Rattle.lvl_sweep.specs.inside.Alive.{IsNoLater}
 use Rattle.lvl_sweep.specs.inside.Rows.{Balanced, alive_at, row_at}
 use Rattle.lvl_sweep.specs.inside.Runs.{RiseWithin, IsEndOf}
 
--- edges of closed rings, those to come in their order, and a count for each ring
+-- the edges are those of closed rings, those still to come are in order, and there is a count for each ring
 pub record AreStrips (s : Strips) : Type 0 where
   pub order : (i j : ℕ) (d : Edge) → s.next ≤ i → i < j → j < length s.edges.items
       → IsNoLater (slice_index_or s.edges.items i d) (slice_index_or s.edges.items j d)
@@ -21,7 +21,7 @@ pub record AreStrips (s : Strips) : Type 0 where
   pub rising : RiseWithin s.edges.items s.from s.next
   pub rest : AreAtRest s.windings
 
--- in row y the edges from `from` up to `next` are alive, those before have ended, those after are to come
+-- in row y the edges from index `from` up to `next` are alive, those before have ended, those after are still to come
 pub record IsAt (s : Strips) : Type 0 where
   pub strips : AreStrips s
   pub ended : AllWithin (λ e. e.high ≤ℤ s.y) s.edges.items 0 s.from
@@ -31,18 +31,18 @@ pub record IsAt (s : Strips) : Type 0 where
   pub top : (begins : Option ℤ) → IsBeginOf s.edges.items s.next begins
       → IsEndOf s.edges.items s.from s.next begins s.top
 
--- no edge that hasn't begun begins below y, and those taken as ended have ended by then
+-- the strips can go on to row y: no edge that hasn't begun begins below y, and those before index `from` end by y
 pub record CanLoad (s : Strips) (y : ℤ) : Type 0 where
   pub strips : AreStrips s
   pub ended : AllWithin (λ e. e.high ≤ℤ y) s.edges.items 0 s.from
   pub begun : AllWithin (λ e. e.low ≤ℤ y) s.edges.items 0 s.next
   pub coming : AllWithin (λ e. y ≤ℤ e.low) s.edges.items s.next (length s.edges.items)
 
--- how many edges are to begin above y, and to end above it
+-- the measure of a sweep: the number of edges that begin above y, and of those that end above y
 abbrev pub left : List Edge → ℤ → ℕ
 left es y = count_by (λ e. int_lt y e.low) es + count_by (λ e. int_lt y e.high) es
 
--- the rows from the present one up to t are the same
+-- the strip ends at t: the rows from the present one up to t have the same intervals
 pub record IsTop (s : Strips) (t : ℤ) : Type 0 where
   pub above : s.y <ℤ t
   pub same : (v : ℤ) → s.y ≤ℤ v → v <ℤ t → row_at s.edges.items v ≡ row_at s.edges.items s.y

@@ -1,4 +1,4 @@
--- A sweep's bands: the one held, and those still to come.
+-- The bands of a sweep: the one that it holds, and those still to come.
 use Rattle.std.specs.Prelude.{◌≡◌, ◌≢◌, ◌+◌, ◌*◌, ◌≤◌, Bool, List, [], ◌∷◌, length, ℤ, ◌<ℤ◌, ◌≤ℤ◌, Some, cond}
 use Rattle.std.specs.Vec.{vec_len, vec_capacity}
 use Rattle.lvl_sweep.specs.declared.edge.Edge.{Edge}
@@ -9,18 +9,18 @@ use Rattle.lvl_sweep.specs.Bands.{slab_of}
 use Rattle.lvl_sweep.specs.inside.Rows.{row_at, bands_from}
 use Rattle.lvl_sweep.specs.inside.Strips.{IsAt}
 
--- the rows of the band, up to y, have its intervals
+-- the band ends at row y and has rows and intervals, and in each of its rows the edges cover exactly these intervals
 pub record IsHeld (es : List Edge) (b : Band) (y : ℤ) : Type 0 where
   pub full : b.y0 <ℤ b.y1
   pub top : b.y1 ≡ y
   pub some : b.intervals.items ≢ []
   pub rows : (v : ℤ) → b.y0 ≤ℤ v → v <ℤ b.y1 → row_at es v ≡ b.intervals.items
 
--- the band held, if one is, and the bands above the strips walked
+-- the bands that are still to be read: if a band is held, that one and those from the present strip on, else none
 abbrev pub bands_of : Strips → Band → Bool → List Slab
 bands_of strips band held = cond held (slab_of band ∷ bands_from strips.edges.items (Some strips.y)) []
 
--- one band at most, with half as many intervals as edges, and room for no more
+-- the band has at most half as many intervals as there are edges, and room for that many
 pub record IsSweep (strips : Strips) (band : Band) : Type 0 where
   pub at : IsAt strips
   pub few : 2 * vec_len band.intervals ≤ length strips.edges.items

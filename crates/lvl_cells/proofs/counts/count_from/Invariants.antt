@@ -3,7 +3,7 @@ use Rattle.lvl_cells.specs.inside.Steps.{weigh}
 use Rattle.lvl_cells.proofs.Summing.{AreSummed}
 use Rattle.lvl_cells.proofs.counts.count_from.Given as goal
 
--- the sums from the place i of the order on stand
+-- the sums of the cells from index i of the order on are known
 abbrev pub invariant-loop-i : goal.invariant-loop-i
 invariant-loop-i l = record {
   long : vec_len l.sums ≡ length l.cells;

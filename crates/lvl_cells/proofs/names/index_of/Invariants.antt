@@ -5,6 +5,6 @@ use Rattle.lvl_cells.specs.Cells.{names}
 use Rattle.lvl_cells.specs.Resolving.{IsIndexOf}
 use Rattle.lvl_cells.proofs.names.index_of.Given as goal
 
--- the names so far are distinct, and the index has their places
+-- the names so far are distinct, and the index has them
 abbrev pub invariant-loop-i : goal.invariant-loop-i
 invariant-loop-i l = IsDistinct bytes_eq (take l.i (names l.cells)) × IsIndexOf (take l.i (names l.cells)) l.index

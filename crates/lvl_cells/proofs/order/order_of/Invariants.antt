@@ -4,7 +4,7 @@ use Rattle.lvl_cells.specs.declared.walk.Mark.TheVariants.{New}
 use Rattle.lvl_cells.specs.inside.Walking.{IsWalk}
 use Rattle.lvl_cells.proofs.order.order_of.Given as goal
 
--- the walk is at rest between roots, and the cells so far are seen
+-- between roots the path of the walk is empty, and no cell so far is new
 abbrev pub invariant-loop-root : goal.invariant-loop-root
 invariant-loop-root l = record {
   walk : IsWalk l.targets l.marks.items l.path.items l.finished.items;

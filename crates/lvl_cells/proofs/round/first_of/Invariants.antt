@@ -3,7 +3,7 @@ use Rattle.std.specs.List.{slice_get}
 use Rattle.lvl_cells.specs.declared.walk.Visit.{Visit}
 use Rattle.lvl_cells.proofs.round.first_of.Given as goal
 
--- the visit at the place first has the least cell so far
+-- the visit at index `first` has the least cell so far
 abbrev pub invariant-loop-k : goal.invariant-loop-k
 invariant-loop-k l = record {
   within : l.first < length l.round;

@@ -2,7 +2,7 @@ use Rattle.std.proofs.Common.{◌≡◌, ◌++◌, map, take}
 use Rattle.lvl_cells.specs.Cells.{placing}
 use Rattle.lvl_changed.proofs.placements.push_places.Given as goal
 
--- the places so far are added
+-- the placements at the places so far are appended
 abbrev pub invariant-loop-k : goal.invariant-loop-k
 invariant-loop-k l =
     l.placements.items

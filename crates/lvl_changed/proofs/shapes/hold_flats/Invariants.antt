@@ -4,7 +4,7 @@ use Rattle.lvl_changed.specs.inside.Shapes.{LayerAlike}
 use Rattle.lvl_changed.specs.inside.Windows.{Widens}
 use Rattle.lvl_changed.proofs.shapes.hold_flats.Given as goal
 
--- outside of the windows the Layers that were passed are alike
+-- outside of the windows both cover the same on the Layers so far
 abbrev pub invariant-loop-layer : goal.invariant-loop-layer
 invariant-loop-layer l = record {
   walked : IsWalked (LayerAlike l.windows l.ours l.theirs) (drop l.our_place l.ours) (drop l.their_place l.theirs);

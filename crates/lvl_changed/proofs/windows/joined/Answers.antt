@@ -4,7 +4,7 @@ use mir.Val.{to_z, of_z}
 use Rattle.lvl_grid.specs.declared.point.Window.{Window}
 use Rattle.lvl_changed.proofs.windows.joined.Goals as goal
 
--- as they are kept in 64 bits
+-- the coordinates, as stored in 64 bits
 abbrev kept : ℤ → ℤ
 kept z = to_z w64 (of_z w64 z)
 

@@ -7,18 +7,18 @@ use Rattle.lvl_columns.specs.Windows.{IsShown, window_of}
 use Rattle.lvl_columns.proofs.Windows.{CoverIn, cover_all, same_there, differ_there, is_there, least_there}
 use Rattle.lvl_columns.proofs.window.difference_in.Goals as goal
 
--- the squares that count
+-- the squares that are compared
 abbrev Shown : Option (Bor Window) → Square → Type 0
 Shown given = IsShown (window_of given)
 
--- where no window is given, all do
+-- without a window, all are
 all_shown : (given : Option (Bor Window)) → given ≡ None → (rings : List (List Point))
     → CoverIn (Shown given) rings rings
 all_shown given none =
     subst (λ (w : Option (Bor Window)). (rings : List (List Point)) → CoverIn (Shown w) rings rings) (sym none)
     (cover_all (Shown None) (λ s. tt))
 
--- where one is, those of the window
+-- with a window, those of the window
 some_shown : (given : Option (Bor Window)) (window : Bor Window) (shown whole : List (List Point)) → given ≡ Some window
     → CoverIn (Shown (Some window)) shown whole → CoverIn (Shown given) shown whole
 some_shown given window shown whole some h =

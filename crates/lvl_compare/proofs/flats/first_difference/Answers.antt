@@ -8,7 +8,7 @@ use Rattle.lvl_flat.specs.Sheet.{PlainSheet}
 use Rattle.lvl_compare.specs.Flats.{AlikeIn, AlikeOn, IsFirstApart, IsFirstApartIn}
 use Rattle.lvl_compare.proofs.flats.first_difference.Goals as goal
 
--- where there is no window, all squares are shown
+-- without a window, all squares are compared
 alike_anywhere : (a b : List PlainSheet) (found : Option (Layer × Square × Side))
     → IfNone found ((l : Layer) → AlikeIn None a b l) → IfNone found ((l : Layer) → AlikeOn a b l)
 alike_anywhere a b None h = λ l s. h l s tt

@@ -4,7 +4,7 @@ use Rattle.lvl_compare.specs.Flats.{AlikeIn}
 use Rattle.lvl_compare.proofs.After.{IsWalked}
 use Rattle.lvl_compare.proofs.flats.first_difference_in.Given as goal
 
--- the Layers that were passed are alike in the window
+-- both cover the same in the window on the Layers so far
 abbrev pub invariant-loop-layer : goal.invariant-loop-layer
 invariant-loop-layer l =
     IsWalked (AlikeIn (window_of l.fn.window) l.fn.first l.fn.second) (drop l.ours l.fn.first)

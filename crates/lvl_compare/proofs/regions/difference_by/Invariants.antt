@@ -3,7 +3,7 @@ use Rattle.lvl_compare.specs.Flats.{AlikeOn}
 use Rattle.lvl_compare.proofs.After.{IsWalked}
 use Rattle.lvl_compare.proofs.regions.difference_by.Given as goal
 
--- the Layers that were passed are alike
+-- both cover the same on the Layers so far
 abbrev pub invariant-loop-layer : goal.invariant-loop-layer
 invariant-loop-layer g l =
     IsWalked (AlikeOn l.fn.first l.fn.second) (drop l.ours l.fn.first) (drop l.theirs l.fn.second)

@@ -10,7 +10,7 @@ use Rattle.lvl_compare.specs.inside.Strips.{IsFoundIn, IsLeftIn, up_to}
 use Rattle.lvl_compare.proofs.InStrips.{found_alike, front_left, left_front}
 use Rattle.lvl_compare.proofs.strips.+first_strip.Goals as goal
 
--- as it is kept in 64 bits
+-- the coordinate, as stored in 64 bits
 abbrev kept : ℤ → ℤ
 kept z = to_z w64 (of_z w64 z)
 

@@ -10,7 +10,7 @@ use Rattle.lvl_compare.specs.inside.Strips.{IsFoundIn, IsLeftIn, from_on}
 use Rattle.lvl_compare.proofs.InStrips.{all_left, fewer_columns, not_below, strip_found}
 use Rattle.lvl_compare.proofs.strips.difference_within.Goals as goal
 
--- as it is kept in 64 bits
+-- the coordinate, as stored in 64 bits
 abbrev kept : ℤ → ℤ
 kept z = to_z w64 (of_z w64 z)
 

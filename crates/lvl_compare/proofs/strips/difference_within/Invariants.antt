@@ -5,7 +5,7 @@ use Rattle.lvl_compare.specs.inside.Strips.{IsFoundIn, IsLeftIn, from_on}
 use Rattle.lvl_compare.proofs.InStrips.{columns}
 use Rattle.lvl_compare.proofs.strips.difference_within.Given as goal
 
--- what is found is the first difference left of what is still to be looked at
+-- what is found is the first difference left of what is still to be searched
 abbrev pub invariant-loop-rest : goal.invariant-loop-rest
 invariant-loop-rest l = record {
   rest : l.rest ≡ from_on l.rest.x0 l.initial.rest;

@@ -2,7 +2,7 @@ use Rattle.std.proofs.Common.{◌≡◌, ◌+ℤ◌, ℤ, length}
 use Rattle.lvl_corners.specs.inside.Marks.{net, bands_net}
 use Rattle.lvl_corners.proofs.bands.marks_of.Given as goal
 
--- the marks of the bands that are done, and those of the bands to come, are all
+-- the marks of the bands so far and those of the bands still to come are all marks
 abbrev pub invariant-loop-band : goal.invariant-loop-band
 invariant-loop-band g l =
     (x y : ℤ) → net x y l.marks.items +ℤ bands_net x y l.sweep ≡ bands_net x y l.initial.sweep

@@ -9,7 +9,7 @@ use Rattle.lvl_corners.specs.Masks.{drawn_bytes}
 use Rattle.lvl_corners.specs.inside.Hashing.{HoldsWith, HashesOn}
 use Rattle.lvl_corners.proofs.digest.hash_layer.Goals as goal
 
--- where nothing is pending the hasher holds the message
+-- if no byte is pending, the message is what the hasher has taken
 holds_all : (h : Sha256) (pending m : List ℕ) → pending ≡ [] → HoldsWith h pending m → Holds256 h m
 holds_all h pending m none (n, held, all) =
     subst (Holds256 h) (sym (all ∙ (ap (λ (bs : List ℕ). n ++ bs) none ∙ append-nil n))) held

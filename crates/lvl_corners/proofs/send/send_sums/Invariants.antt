@@ -4,7 +4,7 @@ use Rattle.lvl_corners.specs.Corners.{FitsCorner}
 use Rattle.lvl_corners.specs.inside.Sums.{AreSummed}
 use Rattle.lvl_corners.proofs.send.send_sums.Given as goal
 
--- the sink has the corners at the points that are done
+-- the sink has taken the corners at the points so far
 abbrev pub invariant-loop-mark : goal.invariant-loop-mark
 invariant-loop-mark g l =
     (sent : List Corner) × g.S.CornerSink.takes l.fn.sink l.sink sent × All FitsCorner sent × AreSummed l.marks

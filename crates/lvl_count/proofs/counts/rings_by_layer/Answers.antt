@@ -15,7 +15,7 @@ use Rattle.lvl_count.proofs.Listing.{still_listed}
 use Rattle.lvl_count.proofs.Totals.{is_filled, all_counted}
 use Rattle.lvl_count.proofs.counts.rings_by_layer.Goals as goal
 
--- the Layers of the cells that are placed have counts
+-- each Layer of a cell that is placed has a count
 listed : (s : Settled) (first second : List ℕ) (layers : List Layer) (counts now : List LayerRings) → second ≡ first
     → now ≡ counts → All (Contains (map (λ c. c.layer) counts)) layers
     → All (AreListed s.cells first layers) s.order

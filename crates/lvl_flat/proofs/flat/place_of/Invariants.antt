@@ -3,7 +3,7 @@ use Rattle.lvl_flat.specs.Sheet.{PlainSheet}
 use Rattle.lvl_names.specs.Layers.{ComesBefore}
 use Rattle.lvl_flat.proofs.flat.place_of.Given as goal
 
--- the Layers below low come before the Layer, those from high on do not
+-- the Layers before index `low` come before the Layer, those from index `high` on don't
 abbrev pub invariant-loop-low : goal.invariant-loop-low
 invariant-loop-low l = record {
   order : l.low ≤ l.high;

@@ -11,6 +11,6 @@ invariant-loop-high l = record {
   missed : AreMissed l.shifts l.from l.low l.inner l.map l.window;
 }
 
--- the indexes come nearer
+-- the indexes get closer
 abbrev pub decreases-loop-high : goal.decreases-loop-high
 decreases-loop-high l = l.high - l.low

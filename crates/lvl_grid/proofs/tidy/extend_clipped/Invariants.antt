@@ -3,7 +3,7 @@ use Rattle.lvl_grid.specs.Clip.{put}
 use Rattle.lvl_grid.specs.Tidy.{WindsAs}
 use Rattle.lvl_grid.proofs.tidy.extend_clipped.Given as goal
 
--- what was put, and the clamped points that are left, wind as all clamped points
+-- the points appended so far and the clamped points still to come wind as all clamped points do
 abbrev pub invariant-loop-point : goal.invariant-loop-point
 invariant-loop-point l = record {
   start : l.start ≡ length l.fn.points.items;

@@ -3,7 +3,7 @@ use Rattle.lvl_grid.specs.declared.point.Point.{Point}
 use Rattle.lvl_grid.specs.Tidy.{WindsAs}
 use Rattle.lvl_grid.proofs.tidy.push_tidied.Given as goal
 
--- what was dropped was needless, whatever comes after
+-- dropping the points so far keeps the winding, whatever comes after
 abbrev pub invariant-loop-points : goal.invariant-loop-points
 invariant-loop-points l = record {
   kept : take l.start l.points.items ≡ take l.start l.fn.points.items;

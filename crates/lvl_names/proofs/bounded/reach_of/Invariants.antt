@@ -3,7 +3,7 @@ use Rattle.lvl_names.specs.Shifts.{IsBetween}
 use Rattle.lvl_names.specs.inside.Keeping.{IsReached}
 use Rattle.lvl_names.proofs.bounded.reach_of.Given as goal
 
--- the corners are those of the shifts so far, and of zero
+-- the bounds are those of zero and the shifts so far
 abbrev pub invariant-loop-shift : goal.invariant-loop-shift
 invariant-loop-shift l = record {
   between : All (IsBetween l.low l.high) (take l.shift-index l.shifts);

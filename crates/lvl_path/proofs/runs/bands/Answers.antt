@@ -27,7 +27,7 @@ returns-clause-covers c =
 untrue : IsTrue false → ⊥
 untrue h = cc
 
--- the faults of the steps and of the runs were looked for, and are not there
+-- the tests of steps and runs found no fault
 none_found : (c : goal.After-run_bands) (fault : PathFault) → number fault < 7
     → ¬ HasFault c.args.points.now (reach c) fault
 none_found c NoWidth l = λ e. omega (arith, e)
@@ -44,7 +44,7 @@ none_found c ShortRun l =
     ]
 none_found c OutOfRange l = absurd (omega (arith, l))
 
--- where none of lower number is breached, nor the last, none is
+-- if the path has neither the last fault nor any of lower number, it has none
 none_left : (ps : List Point) (w : Reach) → ((fault : PathFault) → number fault < 7 → ¬ HasFault ps w fault)
     → ¬ HasFault ps w OutOfRange → IsPath ps w
 none_left ps w none fits NoWidth = none NoWidth (lit< tt)

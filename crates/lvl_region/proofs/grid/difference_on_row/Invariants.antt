@@ -2,7 +2,7 @@ use Rattle.std.proofs.Common.{length, take, ◌+◌, ◌-◌}
 use Rattle.lvl_region.specs.Agree.{AgreeOn}
 use Rattle.lvl_region.proofs.grid.difference_on_row.Given as goal
 
--- the two agree at the lines walked of either list
+-- the two agree at the lines of both lists so far
 abbrev pub invariant-loop-x : goal.invariant-loop-x
 invariant-loop-x l = record {
   ours : AgreeOn l.a l.b (take l.i l.ours) l.y;

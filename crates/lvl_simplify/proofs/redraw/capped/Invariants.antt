@@ -3,7 +3,7 @@ use Rattle.lvl_simplify.specs.Rows.{turning}
 use Rattle.lvl_simplify.specs.Redraw.{ends_turning, within}
 use Rattle.lvl_simplify.proofs.redraw.capped.Given as goal
 
--- how often the turns so far wind from the last one on, and the ends that are kept everywhere
+-- the winding from the last turn so far on, and in each row the clamped winding by the ends that are kept
 abbrev pub invariant-loop-turn : goal.invariant-loop-turn
 invariant-loop-turn l = record {
   above : (y : ℤ) → l.low ≤ℤ y → turning y (take l.turn-index l.turns) ≡ l.windings;

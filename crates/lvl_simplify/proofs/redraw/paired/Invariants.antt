@@ -3,7 +3,7 @@ use Rattle.lvl_grid.specs.declared.point.Square.{Square}
 use Rattle.lvl_simplify.specs.Redraw.{if_right, count_to, winding_by}
 use Rattle.lvl_simplify.proofs.redraw.paired.Given as goal
 
--- the edges so far are those that were there, and those from the beginnings so far to as many ends
+-- the edges so far are the given ones and those from the beginnings so far to the ends with the same indexes
 abbrev pub invariant-loop-i : goal.invariant-loop-i
 invariant-loop-i l =
     (s : Square)

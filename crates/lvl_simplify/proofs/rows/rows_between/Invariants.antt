@@ -4,7 +4,7 @@ use Rattle.lvl_simplify.specs.Rows.{IsBetween, turning}
 use Rattle.lvl_simplify.specs.Spanning.{IsWithinSome}
 use Rattle.lvl_simplify.proofs.rows.rows_between.Given as goal
 
--- how often the ring winds from the last turn so far on, and the rows below it
+-- the winding from the last turn so far on, and the rows below that turn
 abbrev pub invariant-loop-turn : goal.invariant-loop-turn
 invariant-loop-turn l = record {
   above : (y : ℤ) → l.low ≤ℤ y → turning y (take l.turn-index l.turns) ≡ l.windings;

@@ -5,7 +5,7 @@ use Rattle.lvl_simplify.specs.Rows.{IsBetween, IsAtBorder, turning}
 use Rattle.lvl_simplify.proofs.Turns.{net}
 use Rattle.lvl_simplify.proofs.rows.turns_of.Given as goal
 
--- the turns of the edges so far and the edges that are left wind as the ring does
+-- the turns of the edges so far and the edges still to come have the winding of the ring
 abbrev pub invariant-loop-point : goal.invariant-loop-point
 invariant-loop-point l = record {
   previous : IsAtBorder l.left l.right l.previous;

@@ -4,7 +4,7 @@ use Rattle.lvl_grid.specs.Winding.{SomeCovers}
 use Rattle.lvl_simplify.specs.Spanning.{IsWithinSome}
 use Rattle.lvl_simplify.proofs.spanning.uncovered.Given as goal
 
--- the rings so far are kept, or they lie within a window
+-- the rings so far are kept, or they are in a window
 abbrev pub invariant-loop-i : goal.invariant-loop-i
 invariant-loop-i l =
     (s : Square)

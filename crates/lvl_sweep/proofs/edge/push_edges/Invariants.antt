@@ -5,7 +5,7 @@ use Rattle.lvl_sweep.specs.Bands.{is_vertical}
 use Rattle.lvl_sweep.specs.inside.Alive.{any_edge, rises, falls}
 use Rattle.lvl_sweep.proofs.edge.push_edges.Given as goal
 
--- the edges put and those that are left are all
+-- the edges appended so far and those still to come are all edges
 abbrev pub invariant-loop-point : goal.invariant-loop-point
 invariant-loop-point l = record {
   rising : (r : ℕ) (s : Square) → count_by (rises r s) l.edges.items + cond (l.ring == r)

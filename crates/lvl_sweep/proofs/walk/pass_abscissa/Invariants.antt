@@ -3,7 +3,7 @@ use Rattle.lvl_sweep.specs.declared.edge.Edge.{Edge}
 use Rattle.lvl_sweep.specs.inside.Walks.{HasPassed}
 use Rattle.lvl_sweep.proofs.walk.pass_abscissa.Given as goal
 
--- the edges passed stand at x
+-- the edges passed are at x
 abbrev pub invariant-loop-windings : goal.invariant-loop-windings
 invariant-loop-windings l = record {
   passed : HasPassed l.active l.next l.windings;

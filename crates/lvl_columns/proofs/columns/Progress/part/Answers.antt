@@ -4,7 +4,7 @@ use Rattle.lvl_columns.specs.declared.columns.Column.{Column}
 use Rattle.lvl_columns.specs.Columns.{lists_of, IsOpen}
 use Rattle.lvl_columns.proofs.columns.Progress.part.Goals as goal
 
--- src/columns.rt:112:5
+-- the only pending column is that part of the lists, and all pending columns are compared
 pub returns-clause-reported : goal.returns-clause-reported
 returns-clause-reported c =
     let column : Column = record { first = c.in_ok-clipped.field-0; second = c.in_ok-clipped-2.field-0; depth = 1 } in

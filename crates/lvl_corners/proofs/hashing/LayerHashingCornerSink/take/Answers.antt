@@ -5,7 +5,7 @@ use Rattle.lvl_corners.specs.Bytes.{corner_bytes}
 use Rattle.lvl_corners.specs.inside.Hashing.{HoldsWith}
 use Rattle.lvl_corners.proofs.hashing.LayerHashingCornerSink.take.Goals as goal
 
--- what is appended to the bytes that are pending is appended to the message
+-- what is appended to the pending bytes is appended to the message
 pushed : (h : Sha256) (old new bytes m : List ℕ) → new ≡ old ++ bytes → HoldsWith h old m → HoldsWith h new (m ++ bytes)
 pushed h old new bytes m is (n, held, all) = (
   n,

@@ -5,7 +5,7 @@ use mir.Val.{to_z, of_z}
 use Rattle.lvl_flat.proofs.Outside.{inside_by}
 use Rattle.lvl_flat.proofs.bounds.Bounds.is_inside.Goals as goal
 
--- as they are kept in 64 bits
+-- the coordinates, as stored in 64 bits
 abbrev kept : ℤ → ℤ
 kept z = to_z w64 (of_z w64 z)
 

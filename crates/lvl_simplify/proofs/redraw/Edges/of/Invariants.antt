@@ -5,7 +5,7 @@ use Rattle.lvl_simplify.specs.Redraw.{edges_winding}
 use Rattle.lvl_simplify.proofs.Turns.{net}
 use Rattle.lvl_simplify.proofs.redraw.Edges.of.Given as goal
 
--- the edges that are kept and those that are left wind as the ring does
+-- the edges taken so far and those still to come have the winding of the ring
 abbrev pub invariant-loop-point : goal.invariant-loop-point
 invariant-loop-point l =
     (s : Square)
