@@ -1,4 +1,4 @@
--- Points and rings that are moved: which are found to be the same, and what they are.
+-- Points and rings that are moved, and comparisons of points.
 use Rattle.std.proofs.Common.{◌≡◌, ◌≢◌, ◌<◌, ◌+◌, ℕ, get_or, slice_get, List, [], ◌∷◌, ◌++◌, take, map, length, All}
 use Rattle.std.proofs.Common.{inl, inr, Any, ◌↔◌, refl, sym, ap, subst, ◌∙◌, ◌+ℤ◌, pos, Bool, true, false, not, ◌&&◌, Option}
 use Rattle.std.proofs.Common.{Some, None, SomeIff, arith}
@@ -61,7 +61,7 @@ both_true true true e = (refl, refl)
 both_true true false e = cc
 both_true false b e = cc
 
--- points that the program finds to be one
+-- if the comparison says that two points are equal, they are
 pub points_same : (p q : Point) → true ≡ (int_eq p.x q.x && int_eq p.y q.y) → p ≡ q
 points_same p q e =
     let both = both_true (int_eq p.x q.x) (int_eq p.y q.y) e in
@@ -77,7 +77,7 @@ not_false false e = cc
 pub not_apart : (p q : Point) → false ≡ not (int_eq p.x q.x && int_eq p.y q.y) → p ≡ q
 not_apart p q e = points_same p q (not_false (int_eq p.x q.x && int_eq p.y q.y) e)
 
--- and points that it finds to be two
+-- and if it says that they differ, they do
 pub points_apart : (p q : Point) → false ≡ (int_eq p.x q.x && int_eq p.y q.y) → p ≢ q
 points_apart p q e same =
     let x : int_eq p.x q.x ≡ true = (Decides-int_eq p.x q.x).1 (ap (λ (r : Point). r.x) same) in
@@ -88,7 +88,7 @@ pub some_where_it_holds : {T : Type 0} (o : Option T) (P : Type 0) (v : T) → S
 some_where_it_holds None P v h p = absurd (h p)
 some_where_it_holds (Some x) P v h p = ap Some h.1
 
--- one point more of a ring that is another, moved
+-- one more point of a ring that is another, moved
 pub again_more : (kept : List Point) (by : Point) (ring : List Point) (k : ℕ) (p : Point) → k < length kept
     → k < length ring → IsAgain (take k kept) by (take k ring) → FitsPoint p → p ≡ shifted by (get_or kept k p)
     → p ≡ get_or ring k p → IsAgain (take (k + 1) kept) by (take (k + 1) ring)
@@ -106,14 +106,14 @@ kept_point points k by p low is =
     slice_get-map (shifted by) points k
     ∙ ap (option_map (shifted by)) (slice_get-get_or points k p low ∙ ap Some (sym is))
 
--- where all of its points fit, each does
+-- if all of its points fit, each does
 pub point_fits : (points : List Point) (k : ℕ) (by p : Point) → k < length points → p ≡ get_or points k p
     → All FitsPoint (map (shifted by) points) → FitsPoint (shifted by p)
 point_fits points k by p low is all =
     subst FitsPoint (get_or-map (shifted by) points k p p low ∙ ap (shifted by) (sym is))
     (All-get_or FitsPoint (map (shifted by) points) k p (rw length-map low) all)
 
--- a point more of a list
+-- one more point of a list
 pub next_item : {X : Type 0} (xs : List X) (k : ℕ) (x : X) → slice_get xs k ≡ Some x
     → take (k + 1) xs ≡ take k xs ++ x ∷ []
 next_item xs k x e =

@@ -1,4 +1,4 @@
--- The shapes of a cell in one piece: the one at an index, and one more.
+-- The shapes of a cell as they are stored: the one at an index, and one more.
 use Rattle.std.proofs.Common.{◌≡◌, ◌≢◌, ◌≤◌, ◌<◌, ◌-◌, ◌+◌, ◌^◌, ℕ, zero, suc, get_or, List, [], ◌∷◌, ◌++◌, take, drop, map}
 use Rattle.std.proofs.Common.{length, All, inl, inr, Result, Ok, Err, OnErr, refl, sym, ap, arith, subst, ◌∙◌}
 use Rattle.std.proofs.lemmas.List.{drop-append-le, drop_at, get_or_default, get_or-map, get_or-take, get_or-drop}
@@ -28,7 +28,7 @@ pub in_spans : (rings : Rings) (moves : List Point) (kept : List (List Point)) (
 in_spans rings moves kept spans shapes i e h =
     omega (arith, h, ap length e, length-map spans (shape_in rings moves kept))
 
--- what a span says of the shape at its index
+-- the span at an index means the shape at that index
 pub record SpanOf (shapes : List (PlainShape Rings)) (rings : Rings) (moves : List Point) (kept : List (List Point))
     (i : ℕ) (s : Span) : Type 0 where
   pub is : IsSpan rings moves kept s
@@ -54,7 +54,7 @@ shifts_read rings moves kept spans shapes i s h e l is =
     let span = span_read rings moves kept spans shapes i s h e l is in
     (span.is.shifts, ap (λ (g : PlainShape Rings). g.shifts) span.shape)
 
--- an item of a number that is not zero
+-- the item with a number that isn't 0
 pub item_is : {X : Type 0} (first : X) (kept : List X) (n : ℕ) (d e : X) → n ≢ 0 → n < length kept + 1
     → get_or (first ∷ kept) n d ≡ get_or kept (n - 1) e
 item_is first kept zero d e some h = absurd (some refl)
@@ -67,7 +67,7 @@ pub numbered_is : (kept : List (List Point)) (n : ℕ) (d : List Point) → n �
     → numbered kept n ≡ get_or kept (n - 1) d
 numbered_is kept n d some h = item_is one_place kept n [] d some h
 
--- as many rings as lie between
+-- the number of rings of a figure
 pub figure_length : (rings : Rings) (begin end : ℕ) (by : Point) → begin ≤ end → end ≤ length rings
     → length (figure_in rings begin end by) ≡ end - begin
 figure_length rings begin end by h k =
@@ -78,7 +78,7 @@ ring_between : (rings : Rings) (begin end j : ℕ) → j < end - begin
     → get_or (take (end - begin) (drop begin rings)) j [] ≡ get_or rings (begin + j) []
 ring_between rings begin end j h = get_or-take (end - begin) (drop begin rings) j [] h ∙ get_or-drop begin rings j []
 
--- a ring of a figure is one that is kept, moved
+-- a ring of a figure is a kept one, moved
 pub ring_of_figure : (rings : Rings) (begin end j : ℕ) (by : Point) → begin ≤ end → end ≤ length rings
     → j < end - begin
     → get_or (figure_in rings begin end by) j [] ≡ map (shifted by) (get_or rings (begin + j) [])
@@ -88,7 +88,7 @@ ring_of_figure rings begin end j by h k low =
     get_or-map (map (shifted by)) (take (end - begin) (drop begin rings)) j [] [] (omega (arith, low, count))
     ∙ ap (map (shifted by)) (ring_between rings begin end j low)
 
--- where a ring of a shape is among all rings
+-- the index of a ring of a shape among all rings
 pub record RingOf (shapes : List (PlainShape Rings)) (rings : Rings) (i j : ℕ) (s : Span) (by : Point)
     : Type 0 where
   pub before : (s.begin + j < s.end) × (s.end < 2 ^ 32)
@@ -129,7 +129,7 @@ pub ring_from : (rings : Rings) (moves : List Point) (kept : List (List Point)) 
 ring_from rings moves kept spans shapes i j s h e l is m =
     ring_read shapes rings moves kept i j s (span_read rings moves kept spans shapes i s h e l is) m
 
--- where a list goes on, the new one is the old one and more
+-- a list that begins with the old one is the old one and more
 grown : {X : Type 0} (old new : List X) → GoesOn old new → new ≡ old ++ drop (length old) new
 grown old new g = sym (take-append-drop (length old) new) ∙ ap (λ xs. xs ++ drop (length old) new) g
 
@@ -142,7 +142,7 @@ stretch_same old new begin end g h k =
     ∙ (ap (take (end - begin)) (drop-append-le begin old more (omega (arith, h, k)))
     ∙ take-append-le (end - begin) (drop begin old) more fits)
 
--- a number that is kept has the same item when more are kept
+-- a number has the same item after more items are kept
 number_same : {X : Type 0} (first : X) (old new : List X) (n : ℕ) (d : X) → GoesOn old new → n < length old + 1
     → get_or (first ∷ new) n d ≡ get_or (first ∷ old) n d
 number_same first old new zero d g h = refl
@@ -153,13 +153,13 @@ number_same first old new (suc n) d g h =
 no_fewer : {X : Type 0} (old new : List X) → GoesOn old new → length old ≤ length new
 no_fewer old new g = omega (arith, ap length (grown old new g), length-append old (drop (length old) new))
 
--- the three lists of what is kept go on
+-- the three lists of kept items begin with the old ones
 pub record AllGoOn (rings rings' : Rings) (moves moves' : List Point) (kept kept' : List (List Point)) : Type 0 where
   pub rings_on : GoesOn rings rings'
   pub moves_on : GoesOn moves moves'
   pub kept_on : GoesOn kept kept'
 
--- a span is still one, and says the same
+-- a span stays valid and means the same shape after more items are kept
 record IsStill (rings rings' : Rings) (moves moves' : List Point) (kept kept' : List (List Point)) (s : Span)
     : Type 0 where
   pub is : IsSpan rings' moves' kept' s
@@ -201,7 +201,7 @@ shapes_same rings rings' moves moves' kept kept' (s ∷ spans) on h =
       shapes_same rings rings' moves moves' kept kept' spans on (All-tail (IsSpan rings moves kept) s spans h),
     ) refl
 
--- the same shapes, with more kept
+-- the shapes stay the same after more items are kept
 pub still : (rings rings' : Rings) (moves moves' : List Point) (kept kept' : List (List Point)) (spans : List Span)
     → AllGoOn rings rings' moves moves' kept kept' → AreSpans rings moves kept spans
     → AreSpans rings' moves' kept' spans
@@ -217,7 +217,7 @@ pub refused : (rings rings' : Rings) (moves moves' : List Point) (kept kept' : L
 refused rings rings' moves moves' kept kept' spans shapes on h e =
     shapes_same rings rings' moves moves' kept kept' spans on h ∙ e
 
--- one shape more, after the others
+-- one more shape, appended
 pub record AreMore (rings' : Rings) (moves' : List Point) (kept' : List (List Point)) (spans : List Span) (s : Span)
     (figure : Rings) (shifts : List Point) (shapes : List (PlainShape Rings)) : Type 0 where
   pub are : AreSpans rings' moves' kept' (spans ++ s ∷ [])
@@ -250,7 +250,7 @@ one_more rings rings' moves moves' kept kept' spans s f figure shifts shapes on 
           ∙ ap (λ h. shapes ++ h ∷ []) last);
     }
 
--- rings that are those from one index up to another, moved, are a figure
+-- the rings with an index from one up to another, moved, are a figure
 pub again : (rings figure : Rings) (f : KeptFigure) → f.begin ≤ f.end → f.end ≤ length rings → f.end < 2 ^ 32
     → f.end - f.begin ≡ length figure
     → ((i : ℕ) → i < length figure → IsAgain (get_or rings (f.begin + i) []) f.by (get_or figure i []))
@@ -272,7 +272,7 @@ again rings figure f order inside few count each =
           inr (All-from_get_or (All FitsPoint) figure [] (λ i low. (each i low).fits));
     }
 
--- rings that are added are a figure that isn't moved
+-- rings that are appended are a figure that isn't moved
 pub added : (rings more : Rings) (f : KeptFigure) → f.begin ≡ length rings → f.end ≡ length rings + length more
     → f.end < 2 ^ 32 → f.by ≡ origin → IsFigure (rings ++ more) f more
 added rings more f b e few by =
