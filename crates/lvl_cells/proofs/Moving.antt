@@ -1,6 +1,7 @@
 -- Points and rings that are moved, and comparisons of points.
 use Rattle.std.proofs.Common.{◌≡◌, ◌≢◌, ◌<◌, ◌+◌, ℕ, get_or, slice_get, List, [], ◌∷◌, ◌++◌, take, map, length, All}
-use Rattle.std.proofs.Common.{inl, inr, Any, ◌↔◌, refl, sym, ap, subst, ◌∙◌, ◌+ℤ◌, pos, Bool, true, false, not, ◌&&◌, Option}
+use Rattle.std.proofs.Common.{inl, inr, Any, ◌↔◌, refl, sym, ap, subst, ◌∙◌, ◌+ℤ◌, pos, Bool, true, false, not, ◌&&◌}
+use Rattle.std.proofs.Common.{Option}
 use Rattle.std.proofs.Common.{Some, None, SomeIff, arith}
 use Rattle.std.specs.Option.{option_map}
 use Rattle.std.specs.Ordering.{int_eq}

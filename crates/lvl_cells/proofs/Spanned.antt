@@ -1,5 +1,6 @@
 -- The shapes of a cell as they are stored: the one at an index, and one more.
-use Rattle.std.proofs.Common.{◌≡◌, ◌≢◌, ◌≤◌, ◌<◌, ◌-◌, ◌+◌, ◌^◌, ℕ, zero, suc, get_or, List, [], ◌∷◌, ◌++◌, take, drop, map}
+use Rattle.std.proofs.Common.{◌≡◌, ◌≢◌, ◌≤◌, ◌<◌, ◌-◌, ◌+◌, ◌^◌, ℕ, zero, suc, get_or, List, [], ◌∷◌, ◌++◌, take, drop}
+use Rattle.std.proofs.Common.{map}
 use Rattle.std.proofs.Common.{length, All, inl, inr, Result, Ok, Err, OnErr, refl, sym, ap, arith, subst, ◌∙◌}
 use Rattle.std.proofs.lemmas.List.{drop-append-le, drop_at, get_or_default, get_or-map, get_or-take, get_or-drop}
 use Rattle.std.proofs.lemmas.List.{length-drop, length-append, length-map, length-take-le, map-append, same_lists}

@@ -2,7 +2,8 @@ use Rattle.std.proofs.Common.{◌≡◌, ◌<◌, List, Some, length, slice_get,
 use Rattle.lvl_grid.specs.declared.point.Point.{Point}
 use Rattle.lvl_grid.specs.Turn.{FitsPoint, shifted}
 use Rattle.lvl_cells.specs.inside.Spans.{origin}
-use Rattle.lvl_cells.proofs.Moving.{kept_point, point_fits, points_same, points_apart, some_where_it_holds, unmoved_point}
+use Rattle.lvl_cells.proofs.Moving.{kept_point, point_fits, points_same, points_apart, some_where_it_holds}
+use Rattle.lvl_cells.proofs.Moving.{unmoved_point}
 use Rattle.lvl_cells.proofs.moved.MovedRing.get.Goals as goal
 
 pub returns-then-eq : goal.returns-then-eq
