@@ -11,6 +11,9 @@
 //! meaning to `shapes_of` or `references_of`.
 //!
 //! ```
+//! use gds_elements::{Element, Step};
+//! use gds_records::record_type;
+//!
 //! let element = Element::open(alloc, record_type::BOUNDARY).ok_or("no element")?;
 //! let step = element.take(alloc, record_type::LAYER, b"\x00\x01")?;
 //! assert!(rt; matches!(step, Step::Open(_)));

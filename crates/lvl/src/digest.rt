@@ -44,6 +44,18 @@ fn digest_library(
 ///
 /// Two files draw the same mask exactly if the bytes that are hashed are the same, as
 /// [`digests_decide`] says.
+///
+/// `bytes` is a file that draws one square:
+///
+/// ```
+/// use lvl::digest_file;
+/// use lvl_ignore::Ignore;
+/// use lvl_io::fake::Pieces;
+///
+/// let mut reader = Pieces::new(&bytes, usize::MAX);
+/// let digested = digest_file(alloc, &mut reader, None, Ignore::NOTHING)?;
+/// assert_eq!(rt; digested.mask.layers.len(), 1);
+/// ```
 pub fn digest_file<R: Read>(
     alloc: Global,
     reader: &mut R,

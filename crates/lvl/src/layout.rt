@@ -179,6 +179,17 @@ fn empty() -> FileFault
 
 /// Reads a file. If its first byte is 0x25 it is read as OASIS, otherwise as GDSII (own rule; no
 /// file is of both formats).
+///
+/// `bytes` is a file with one cell:
+///
+/// ```
+/// use lvl::read_layout;
+/// use lvl_io::fake::Pieces;
+///
+/// let layout = read_layout(alloc, &mut Pieces::new(&bytes, usize::MAX))?;
+/// let (library, _) = layout.into_parts();
+/// assert_eq!(rt; library.cells.len(), 1);
+/// ```
 pub fn read_layout<R: Read>(alloc: Global, reader: &mut R) -> Result<Layout, Cause<FileFault>>
     ensures spelled { (xs : List ℕ) → R.remaining reader.old ≡ Some xs
         → IfOk result (λ layout. IsLayoutOf nothing xs (layout_parts layout).0 (layout_parts layout).1) }

@@ -8,6 +8,9 @@
 //! `one` and `other` are two files in memory that draw the same:
 //!
 //! ```
+//! use lvl::{Tops, Verdict, compare_layouts};
+//! use lvl_io::fake::Pieces;
+//!
 //! let tops = Tops {
 //!     first: None,
 //!     second: None,

@@ -49,6 +49,18 @@ fn show_library(
 /// What a file has: its head, the name of its top, the number of its cells, and the number of rings that
 /// the top places on each Layer. A refusal is of [`Side::First`]; unless it is out of memory or a failed
 /// read, the file isn't accepted.
+///
+/// `bytes` is a file that draws one square:
+///
+/// ```
+/// use lvl::show_file;
+/// use lvl_ignore::Ignore;
+/// use lvl_io::fake::Pieces;
+///
+/// let mut reader = Pieces::new(&bytes, usize::MAX);
+/// let shown = show_file(alloc, &mut reader, None, Ignore::NOTHING)?;
+/// assert_eq!(rt; shown.layers.first().map(|layer| layer.rings), Some(1));
+/// ```
 pub fn show_file<R: Read>(
     alloc: Global,
     reader: &mut R,

@@ -10,6 +10,10 @@
 //! Here `METAL` is layer 1, datatype 0:
 //!
 //! ```
+//! use lvl_cells::{Builder, check};
+//! use lvl_grid::{Point, Ring};
+//! use lvl_names::Offsets;
+//!
 //! let ring = Ring::rectangle(alloc, Point { x: 0, y: 0 }, Point { x: 4, y: 2 })?;
 //! let mut builder = Builder::new(alloc);
 //! builder.open(alloc, Vec::from_slice(alloc, b"TOP")?);

@@ -10,6 +10,11 @@
 //! `edited` the top also draws a square at (3, 0) on the Layer `METAL`:
 //!
 //! ```
+//! use lvl_changed::{changed, difference_by_changes};
+//! use lvl_grid::Square;
+//! use lvl_region::Side;
+//! use lvl_view::View;
+//!
 //! let view = View::whole(alloc);
 //! let windows = changed(alloc, &kept, &edited, &view)?.ok_or("windows")?;
 //! assert_eq!(rt; windows.len(), 1);

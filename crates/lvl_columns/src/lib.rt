@@ -8,6 +8,10 @@
 //! rings are simplified first.
 //!
 //! ```
+//! use lvl_columns::difference_by_columns;
+//! use lvl_grid::{Point, Ring, Rings, Square};
+//! use lvl_region::Side;
+//!
 //! let mut first = Rings::new(alloc);
 //! first.push_ring(&Ring::rectangle(alloc, Point { x: 0, y: 0 }, Point { x: 4, y: 2 })?)?;
 //! let second = Rings::new(alloc);

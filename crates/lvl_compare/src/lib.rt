@@ -9,6 +9,11 @@
 //! 2 squares:
 //!
 //! ```
+//! use lvl_compare::first_difference;
+//! use lvl_flat::flatten;
+//! use lvl_grid::Square;
+//! use lvl_region::Side;
+//!
 //! let first = flatten(alloc, &wide)?;
 //! let second = flatten(alloc, &narrow)?;
 //! let found = first_difference(alloc, &first, &second)?;

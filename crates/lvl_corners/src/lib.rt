@@ -7,6 +7,9 @@
 //! are the same.
 //!
 //! ```
+//! use lvl_corners::corners_of;
+//! use lvl_grid::{Point, Ring, Rings};
+//!
 //! let mut rings = Rings::new(alloc);
 //! rings.push_ring(&Ring::rectangle(alloc, Point { x: 0, y: 0 }, Point { x: 4, y: 2 })?)?;
 //! let corners = corners_of(alloc, &rings)?;

@@ -10,6 +10,8 @@
 //! square on `METAL`:
 //!
 //! ```
+//! use lvl_count::{LayerRings, rings_by_layer};
+//!
 //! let counts = rings_by_layer(alloc, &checked)?;
 //! let metal = LayerRings {
 //!     layer: METAL,

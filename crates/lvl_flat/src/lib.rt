@@ -10,6 +10,9 @@
 //! `METAL`:
 //!
 //! ```
+//! use lvl_flat::flatten;
+//! use lvl_grid::Square;
+//!
 //! let flat = flatten(alloc, &checked)?;
 //! assert_eq!(rt; flat.len(), 1);
 //! assert_eq!(rt; flat.layer(0), Some(METAL));

@@ -5,6 +5,9 @@
 //! are read and ignored. It is read from words such as `properties,texts`, or `all`.
 //!
 //! ```
+//! use lvl_ignore::{Ignore, IgnoreFault};
+//! use lvl_refusal::Cause;
+//!
 //! let ignore = Ignore::read(alloc, "properties,names")?;
 //! assert!(rt; ignore.properties && ignore.names && !ignore.texts);
 //! let refused = Ignore::read(alloc, "property");

@@ -8,6 +8,8 @@
 //! `Held` has one file, `square`, which draws one square:
 //!
 //! ```
+//! use lvl_job::do_line;
+//!
 //! let words = ["lvl", "show", "square"];
 //! let code = do_line(alloc, &words, &mut Held { asked: 0 }, &mut out, &mut err);
 //! assert_eq!(rt; code, 0);

@@ -4,6 +4,8 @@
 //! options that `clap` finds in them. If `clap` refuses the words, it returns `clap`'s error.
 //!
 //! ```
+//! use lvl_line::{Job, parse_line};
+//!
 //! let Ok(Job::Show { file, top, .. }) = parse_line(alloc, &["lvl", "show", "chip.gds"]) else {
 //!     return Err(Fail::from("the line is refused"));
 //! };

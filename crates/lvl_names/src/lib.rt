@@ -6,6 +6,9 @@
 //! share a list of shifts.
 //!
 //! ```
+//! use lvl_grid::Point;
+//! use lvl_names::Offsets;
+//!
 //! let across = Point { x: 10, y: 0 };
 //! let up = Point { x: 0, y: 20 };
 //! let shifts = Offsets::lattice(across, 4, up, 3).ok_or("out of range")?;

@@ -5,6 +5,9 @@
 //! a rectangle of squares, and [`bands`] returns these as rings.
 //!
 //! ```
+//! use lvl_grid::{Point, Square};
+//! use lvl_path::bands;
+//!
 //! let points = [Point { x: 0, y: 0 }, Point { x: 10, y: 0 }];
 //! let rings = bands(alloc, &points, 2, 0, 3)?;
 //! assert_eq!(rt; rings.len(), 1);

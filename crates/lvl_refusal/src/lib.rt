@@ -7,6 +7,9 @@
 //! A caller that wants the fault of a text, if it has one:
 //!
 //! ```
+//! use lvl_refusal::Cause;
+//! use lvl_view::View;
+//!
 //! match View::read(alloc, map, window) {
 //!     Ok(_) => Ok(None),
 //!     Err(Cause::Breach(fault)) => Ok(Some(fault)),

@@ -5,6 +5,9 @@
 //! one, for tests.
 //!
 //! ```
+//! use lvl_grid::{Point, Ring, Square};
+//! use lvl_region::{GridRegion, Side, difference};
+//!
 //! let wide = Ring::rectangle(alloc, Point { x: 0, y: 0 }, Point { x: 4, y: 2 })?;
 //! let narrow = Ring::rectangle(alloc, Point { x: 0, y: 0 }, Point { x: 3, y: 2 })?;
 //! let first = vec![in alloc; wide]?;

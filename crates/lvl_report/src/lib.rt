@@ -11,6 +11,9 @@
 //! `bytes` is a file that draws one square:
 //!
 //! ```
+//! use lvl_io::fake::{Pieces, Sink};
+//! use lvl_report::{Status, run_show};
+//!
 //! let mut out = Sink::new(alloc, usize::MAX);
 //! let status = run_show(alloc, &mut Pieces::new(&bytes, usize::MAX), None, &mut out)?;
 //! assert_eq!(rt; status, Status::Shown);

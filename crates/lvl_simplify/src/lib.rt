@@ -6,6 +6,9 @@
 //! the winding in each row counts, so the ring is redrawn with shorter ones.
 //!
 //! ```
+//! use lvl_grid::{Point, Ring, Rings};
+//! use lvl_simplify::simplified;
+//!
 //! let mut rings = Rings::new(alloc);
 //! rings.push_ring(&Ring::rectangle(alloc, Point { x: 0, y: 0 }, Point { x: 9, y: 2 })?)?;
 //! rings.push_ring(&Ring::rectangle(alloc, Point { x: 0, y: 1 }, Point { x: 9, y: 5 })?)?;

@@ -6,6 +6,9 @@
 //! is a region that stores the whole list.
 //!
 //! ```
+//! use lvl_grid::{Point, Ring, Rings};
+//! use lvl_sweep::Sweep;
+//!
 //! let mut rings = Rings::new(alloc);
 //! rings.push_ring(&Ring::rectangle(alloc, Point { x: 0, y: 0 }, Point { x: 4, y: 2 })?)?;
 //! let mut sweep = Sweep::new(alloc, &rings)?;

@@ -7,6 +7,8 @@
 //! Here `METAL` is layer 1, datatype 0:
 //!
 //! ```
+//! use lvl_view::View;
+//!
 //! let view = View::read(alloc, Some("1/0=2/0"), Some("x=-5..20,y=0..9"))?;
 //! assert_eq!(rt; view.target(METAL).layer, 2);
 //! assert_eq!(rt; view.window().map(|window| window.x1), Some(20));

@@ -7,6 +7,8 @@
 //! `record` is a RECTANGLE with all its fields:
 //!
 //! ```
+//! use oasis_figures::{Drawn, Modal};
+//!
 //! let mut modal = Modal::new();
 //! let drawn = modal.take(alloc, record)?;
 //! assert!(rt; matches!(drawn, Some(Drawn::Ring(_, _))));

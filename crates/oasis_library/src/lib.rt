@@ -7,6 +7,10 @@
 //! `bytes` is a file with one cell:
 //!
 //! ```
+//! use lvl_io::fake::Pieces;
+//! use oasis_library::read_oasis;
+//! use oasis_values::Real;
+//!
 //! let (library, head) = read_oasis(alloc, &mut Pieces::new(&bytes, usize::MAX))?;
 //! assert_eq!(rt; library.cells.len(), 1);
 //! assert_eq!(rt; head.unit, Real::Whole(1000));

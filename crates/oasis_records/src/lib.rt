@@ -8,6 +8,11 @@
 //! Here the bytes of a RECTANGLE are read:
 //!
 //! ```
+//! use lvl_ignore::Ignore;
+//! use lvl_io::fake::Pieces;
+//! use oasis_records::{Record, RecordType, read_fields, read_id};
+//! use oasis_values::Input;
+//!
 //! let mut input = Input::new(Pieces::new(RECTANGLE, usize::MAX), Ignore::NOTHING);
 //! let id = read_id(&mut input)?;
 //! let kind = RecordType::of(id.value, input.ignore())?;

@@ -9,6 +9,12 @@
 //! `bytes` is a file:
 //!
 //! ```
+//! use lvl_ignore::Ignore;
+//! use lvl_io::fake::Pieces;
+//! use oasis_records::Record;
+//! use oasis_stream::{Order, read_first, read_next};
+//! use oasis_values::Input;
+//!
 //! let mut input = Input::new(Pieces::new(&bytes, usize::MAX), Ignore::NOTHING);
 //! let mut order = Order::new();
 //! read_first(&mut input)?;
