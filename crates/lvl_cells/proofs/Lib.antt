@@ -15,3 +15,4 @@ pub mod Refusing
 pub mod Looking
 pub mod Moving
 pub mod Spanned
+pub mod Placed

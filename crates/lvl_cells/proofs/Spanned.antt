@@ -151,7 +151,7 @@ number_same first old new (suc n) d g h =
     let low : n < length old = omega (arith, h) in
     sym (get_or-take (length old) new n d low) ∙ ap (λ ks. get_or ks n d) g
 
-no_fewer : {X : Type 0} (old new : List X) → GoesOn old new → length old ≤ length new
+pub no_fewer : {X : Type 0} (old new : List X) → GoesOn old new → length old ≤ length new
 no_fewer old new g = omega (arith, ap length (grown old new g), length-append old (drop (length old) new))
 
 -- the three lists of kept items begin with the old ones

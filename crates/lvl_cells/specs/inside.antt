@@ -5,3 +5,4 @@ pub mod Settling
 pub mod Walking
 pub mod Rounding
 pub mod Topping
+pub mod Placings

@@ -3,7 +3,8 @@ ghost use Rattle.std.specs.Prelude.{◌≡◌, [], ◌∷◌, ◌++◌, length, 
 ghost use Rattle.lvl_grid.specs.Winding.{IsRing};
 ghost use Rattle.lvl_cells.specs.Building.{no_cell, with_shape, with_reference};
 
-use crate::library::{Cell, Library, Reference};
+use crate::library::{Cell, Library};
+use crate::references::{Reference, References};
 use crate::shapes::Shapes;
 use lvl_grid::{Point, Ring};
 use lvl_names::{Layer, Offsets};
@@ -38,7 +39,7 @@ fn empty_cell(alloc: Global) -> Cell
     Cell {
         name: Vec::new(alloc),
         shapes: Shapes::new(alloc),
-        references: Vec::new(alloc),
+        references: References::new(alloc),
     }
 }
 
@@ -70,7 +71,7 @@ impl Builder {
         self.current = Cell {
             name,
             shapes: Shapes::new(alloc),
-            references: Vec::new(alloc),
+            references: References::new(alloc),
         };
     }
 
@@ -111,16 +112,12 @@ impl Builder {
 
     /// Adds a reference to the open cell. If the reference before is to the same cell, both share
     /// the name.
-    pub fn add_reference(&mut self, mut reference: Reference) -> Result<(), AllocError>
+    pub fn add_reference(&mut self, reference: Reference) -> Result<(), AllocError>
         ensures added { OnOk result
             (self.new ≡ record { cells = self.old.cells; current = with_reference self.old.current reference }) }
         ensures kept { OnErr result (self.new ≡ self.old) }
     {
-        if let Some(last) = self.current.references.last() {
-            reference.share_name(last)?;
-        }
-        self.current.references.push(reference)?;
-        Ok(())
+        self.current.references.push(reference)
     }
 
     /// Finishes the open cell. If there is no memory for it, it stays open.

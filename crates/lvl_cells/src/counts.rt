@@ -66,7 +66,8 @@ fn sum_of(weight: Weight, cell: &Cell, targets: &[usize], sums: &[u64]) -> u64
         ≡ min (most_placed + 1) (weigh weight cell.now + placed_sum cell.now.references targets.now sums.now) }
 {
     let mut sum = weight_of(weight, cell);
-    for (j, reference) in cell.references.iter().enumerate() {
+    for j in 0..cell.references.len() {
+        let reference = cell.references.reference(j);
         let placed = capped_product(reference.shifts().len(), sums[targets[j]]);
         sum = capped_sum(sum, placed);
     }

@@ -2,7 +2,7 @@
 //! is sound.
 //!
 //! A [`Library`] is what a file draws: named cells in file order. A [`Cell`] has [`Shapes`], each
-//! a list of rings on a layer at a list of shifts, and [`Reference`]s, each to another cell by its
+//! a list of rings on a layer at a list of shifts, and [`References`], each to another cell by its
 //! name, reflected, turned, and placed at a list of shifts. A [`Builder`] makes a library cell by
 //! cell. [`check`] finds the top, resolves the names, and refuses a library that isn't sound or
 //! places too much. What it returns is a [`Checked`].
@@ -27,9 +27,10 @@
 pub use builder::{Builder, MOST_CELLS};
 pub use checked::{Checked, check};
 pub use fault::CellFault;
-pub use library::{Cell, Library, Reference};
+pub use library::{Cell, Library};
 pub use moved::MovedRing;
 pub use names::index_of;
+pub use references::{KeptReference, Reference, References};
 pub use shapes::Shapes;
 
 mod builder;
@@ -40,6 +41,7 @@ mod library;
 mod moved;
 mod names;
 mod order;
+mod references;
 mod round;
 mod shapes;
 mod shared;

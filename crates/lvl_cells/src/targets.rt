@@ -25,7 +25,8 @@ pub(crate) fn targets_of(
     ensures err { IfErr result (λ refusal. Says refusal (IsMissingFault (names cells.now) cell.now)) }
 {
     let mut targets = Vec::with_capacity(alloc, cell.references.len())?;
-    for reference in &cell.references {
+    for j in 0..cell.references.len() {
+        let reference = cell.references.reference(j);
         let name = reference.cell();
         let Some(target) = index.get(name) else {
             let from = Vec::from_slice(alloc, &cell.name)?;

@@ -83,7 +83,8 @@ fn add_places(checked: &Checked, cell: usize, times: &mut [u64])
 {
     let here = times[cell];
     let place = &checked.cells()[cell];
-    for (j, reference) in place.references.iter().enumerate() {
+    for j in 0..place.references.len() {
+        let reference = place.references.reference(j);
         if let Some(target) = checked.target(cell, j) {
             if target < times.len() {
                 let more = here.saturating_mul(reference.shifts().len());
@@ -111,8 +112,8 @@ fn shifts_of(cell: &Cell) -> u64 {
     for i in 0..cell.shapes.len() {
         sum = sum.saturating_add(cell.shapes.shift_count(i));
     }
-    for reference in &cell.references {
-        sum = sum.saturating_add(reference.shifts().len());
+    for j in 0..cell.references.len() {
+        sum = sum.saturating_add(cell.references.reference(j).shifts().len());
     }
     sum
 }

@@ -6,7 +6,7 @@ ghost use Rattle.lvl_changed.specs.inside.Windows.{Has, Widens};
 ghost use Rattle.lvl_changed.specs.inside.Placements.{placed, HaveSame, PlacedCover, ReferencesCover};
 
 use crate::windows::Windows;
-use lvl_cells::{Checked, Reference};
+use lvl_cells::{Checked, KeptReference};
 use lvl_flat::{Fitted, placing_at};
 use lvl_grid::{Map, Turn};
 use std::alloc::{AllocError, Global};
@@ -41,7 +41,7 @@ fn quarters(turn: Turn) -> u8 {
 /// Appends the cell at the index `cell`, placed at each place of the reference.
 pub(crate) fn push_places(
     placements: &mut Vec<Placement>,
-    reference: &Reference,
+    reference: &KeptReference<'_>,
     cell: usize,
 ) -> Result<(), AllocError>
     ensures { OnOk result (placements.new.items ≡ placements.old.items ++ placed cell reference.now) }
@@ -69,11 +69,12 @@ pub(crate) fn placements_of(
 {
     let mut placements = Vec::new(alloc);
     let place = &checked.cells()[cell];
-    for (j, reference) in place.references.iter().enumerate() {
+    for j in 0..place.references.len() {
+        let reference = place.references.reference(j);
         let Some(target) = checked.target(cell, j) else {
             unreachable!()
         };
-        push_places(&mut placements, reference, target)?;
+        push_places(&mut placements, &reference, target)?;
     }
     Ok(placements)
 }

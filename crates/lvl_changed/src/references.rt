@@ -11,7 +11,7 @@ ghost use Rattle.lvl_changed.specs.inside.Placements.{partner_placed, PlacedCove
 use crate::found::Found;
 use crate::placements::{Placement, hold_alone, placements_of, push_places, sort_places};
 use crate::windows::Windows;
-use lvl_cells::{Checked, Reference};
+use lvl_cells::{Checked, KeptReference};
 use lvl_flat::Fitted;
 use std::alloc::{AllocError, Global};
 
@@ -20,7 +20,7 @@ use std::alloc::{AllocError, Global};
 fn place_partner(
     windows: &mut Windows,
     placements: &mut Vec<Placement>,
-    reference: &Reference,
+    reference: &KeptReference<'_>,
     found: &Found,
 ) -> Result<(), AllocError>
     ensures placed { OnOk result
@@ -56,7 +56,8 @@ fn partners_placed(
 {
     let mut placements = Vec::new(alloc);
     let place = &checked.cells()[cell];
-    for (j, reference) in place.references.iter().enumerate() {
+    for j in 0..place.references.len() {
+        let reference = place.references.reference(j);
         let Some(target) = checked.target(cell, j) else {
             unreachable!()
         };
@@ -64,7 +65,7 @@ fn partners_placed(
             windows.hold_anywhere();
             return Ok(placements);
         };
-        place_partner(windows, &mut placements, reference, found)?;
+        place_partner(windows, &mut placements, &reference, found)?;
     }
     Ok(placements)
 }

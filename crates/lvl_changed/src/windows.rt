@@ -11,7 +11,7 @@ ghost use Rattle.lvl_flat.specs.Flattened.{CoversAt};
 ghost use Rattle.lvl_compare.specs.Parts.{SomeHas};
 ghost use Rattle.lvl_changed.specs.inside.Windows.{Has, HasPlaced, Widens};
 
-use lvl_cells::Reference;
+use lvl_cells::KeptReference;
 use lvl_flat::{Fitted, placing_at};
 use lvl_grid::{Map, Point, Window};
 use std::alloc::{AllocError, Global};
@@ -223,7 +223,7 @@ impl Windows {
     pub(crate) fn hold_places(
         &mut self,
         held: &Windows,
-        reference: &Reference,
+        reference: &KeptReference<'_>,
     ) -> Result<(), AllocError>
         ensures held { OnOk result ((e : GridPoint) → Contains reference.now.shifts e
             → HasPlaced (placing reference.now e) held.now self.new) }

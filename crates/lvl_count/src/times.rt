@@ -14,7 +14,8 @@ fn pass_on(checked: &Checked, i: usize, times: &mut [u64])
     let place = checked.order()[i];
     let here = times[place];
     let cell = &checked.cells()[place];
-    for (j, reference) in cell.references.iter().enumerate() {
+    for j in 0..cell.references.len() {
+        let reference = cell.references.reference(j);
         if let Some(target) = checked.target(place, j) {
             times[target] += here * reference.shifts().len();
         }

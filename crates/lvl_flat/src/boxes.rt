@@ -14,7 +14,7 @@ ghost use Rattle.lvl_flat.specs.inside.Bounds.{IsPlacedOutside};
 ghost use Rattle.lvl_flat.specs.inside.Passing.{before_shifts};
 
 use crate::bounds::Bounds;
-use lvl_cells::{Checked, MovedRing, Reference, Shapes};
+use lvl_cells::{Checked, KeptReference, MovedRing, Shapes};
 use lvl_grid::{Map, Point, Window};
 use lvl_names::Offsets;
 use std::alloc::{AllocError, Global};
@@ -84,7 +84,7 @@ fn hold_shapes(bounds: Bounds, shapes: &Shapes) -> Option<Bounds>
 }
 
 /// A box that has all points of `target` as the reference places them, before a move by its shifts.
-pub(crate) fn placed_by(target: Bounds, reference: &Reference) -> Option<Bounds>
+pub(crate) fn placed_by(target: Bounds, reference: &KeptReference<'_>) -> Option<Bounds>
     ensures { IfSome result (λ placed. (p : GridPoint) → IsWithin target p
         → IsWithin placed (image (before_shifts reference.now) p)) }
 {
@@ -97,7 +97,7 @@ pub(crate) fn placed_by(target: Bounds, reference: &Reference) -> Option<Bounds>
 
 /// The bounds, widened to have all points of `target` as the reference places them at its shifts,
 /// or None if a corner would be outside 64 bits.
-fn hold_reference(bounds: Bounds, reference: &Reference, target: Bounds) -> Option<Bounds>
+fn hold_reference(bounds: Bounds, reference: &KeptReference<'_>, target: Bounds) -> Option<Bounds>
     ensures wider { IfSome result (Widens bounds) }
     ensures held { IfSome result (λ held. (p : GridPoint) → IsWithin target p
         → All (λ e. IsWithin held (image (placing reference.now e) p)) reference.now.shifts) }
@@ -123,14 +123,15 @@ fn hold_references(
 {
     let mut held = bounds;
     let place = &checked.cells()[cell];
-    for (j, reference) in place.references.iter().enumerate() {
+    for j in 0..place.references.len() {
+        let reference = place.references.reference(j);
         let Some(target) = checked.target(cell, j) else {
             unreachable!()
         };
         let Some(Some(inner)) = known.get(target) else {
             return None;
         };
-        held = hold_reference(held, reference, *inner)?;
+        held = hold_reference(held, &reference, *inner)?;
     }
     Some(held)
 }

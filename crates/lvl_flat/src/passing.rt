@@ -106,9 +106,10 @@ pub(crate) fn pass_by(checked: &Checked, boxes: &Boxes, window: &Window, visit: 
     ensures { IsPassedBy checked.now.cells boxes.now window.now visit result }
 {
     let cell = &checked.cells()[visit.cell];
-    let Some(reference) = cell.references.get(visit.reference) else {
+    if visit.reference >= cell.references.len() {
         return visit;
-    };
+    }
+    let reference = cell.references.reference(visit.reference);
     let shifts = reference.shifts();
     if shifts.len() < visit.place || shifts.len() - visit.place < LEAST_RUN {
         return visit;
@@ -127,7 +128,7 @@ pub(crate) fn pass_by(checked: &Checked, boxes: &Boxes, window: &Window, visit: 
     let Some(bounds) = boxes.get(target) else {
         return visit;
     };
-    let Some(inner) = placed_by(bounds, reference) else {
+    let Some(inner) = placed_by(bounds, &reference) else {
         return visit;
     };
     let place = missed_from(shifts, visit.place, row, inner, &visit.map, window);

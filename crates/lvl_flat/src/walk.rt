@@ -6,7 +6,7 @@ ghost use Rattle.lvl_flat.specs.Placing.{IsPlacing};
 ghost use Rattle.lvl_flat.specs.inside.Steps.{IsStep};
 
 use crate::visit::Visit;
-use lvl_cells::{Checked, Reference};
+use lvl_cells::{Checked, KeptReference};
 use lvl_grid::{Map, Point};
 
 /// What a visit does next.
@@ -23,7 +23,7 @@ pub(crate) enum Step {
 
 /// The map by which a reference places its cell at the shift with index `place`, or None if there
 /// is no such shift.
-pub fn placing_at(reference: &Reference, place: u64) -> Option<Map>
+pub fn placing_at(reference: &KeptReference<'_>, place: u64) -> Option<Map>
     ensures some { IfSome result (λ m. IsPlacing reference.now place m) }
     ensures none { IfNone result (slice_get reference.now.shifts place ≡ None) }
 {
@@ -52,9 +52,10 @@ pub(crate) fn next_step(checked: &Checked, visit: &Visit) -> Step
     ensures { IsStep checked.now.cells visit.now result }
 {
     let cell = &checked.cells()[visit.cell];
-    let Some(reference) = cell.references.get(visit.reference) else {
+    if visit.reference >= cell.references.len() {
         return Step::Done;
-    };
+    }
+    let reference = cell.references.reference(visit.reference);
     if visit.place >= reference.shifts().len() {
         return Step::Past(Visit {
             reference: visit.reference + 1,
@@ -63,7 +64,7 @@ pub(crate) fn next_step(checked: &Checked, visit: &Visit) -> Step
             ..*visit
         });
     }
-    let Some(inner) = placing_at(reference, visit.place) else {
+    let Some(inner) = placing_at(&reference, visit.place) else {
         unreachable!()
     };
     let Some(target) = checked.target(visit.cell, visit.reference) else {

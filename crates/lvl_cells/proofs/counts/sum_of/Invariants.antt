@@ -8,4 +8,4 @@ abbrev pub invariant-loop-j : goal.invariant-loop-j
 invariant-loop-j l =
     l.sum
     ≡ min (most_placed + 1)
-    (weigh l.fn.weight l.cell + placed_sum (take l.j l.reference-items) (take l.j l.targets) l.sums)
+    (weigh l.fn.weight l.cell + placed_sum (take l.j l.cell.references) (take l.j l.targets) l.sums)

@@ -1,51 +1,57 @@
-use Rattle.std.proofs.Common.{◌≡◌, ◌+◌, ℕ, List, [], None, Some, map, take, refl, sym, ap, ◌∙◌, subst}
+use Rattle.std.proofs.Common.{◌≡◌, ◌≤◌, ◌+◌, ℕ, List, [], None, Some, map, take, get_or, length, refl, sym, ap, ◌∙◌, subst}
+use Rattle.std.proofs.Common.{arith}
 use Rattle.std.specs.List.{slice_get}
+use Rattle.std.proofs.lemmas.Option.{get_or_from_slice_get, slice_get_within}
 use Rattle.lvl_cells.specs.Cells.{PlainCell, PlainReference, names, Rings}
 use Rattle.lvl_cells.specs.Resolving.{place_in_index}
 use Rattle.lvl_cells.specs.inside.Targets.{AreTargets, IsFirstUnknown}
 use Rattle.lvl_cells.proofs.NamedTargets.{targets_more, first_unknown, take_past}
 use Rattle.lvl_cells.proofs.targets.targets_of.Goals as goal
 
-pub loop-reference-init : goal.loop-reference-init
-loop-reference-init c = subst (AreTargets (names c.args.cells.now) []) (sym c.in_ok-targets.ensures.items) refl
+pub loop-j-init : goal.loop-j-init
+loop-j-init c = subst (AreTargets (names c.args.cells.now) []) (sym c.in_ok-targets.ensures.items) refl
 
 pub returns-in_default-clause-err : goal.returns-in_default-clause-err
 returns-in_default-clause-err c =
-    let r = c.reference-item.result in
+    let r : PlainReference = c.reference-reference.result in
+    let j = c.loop-j.j in
+    let refs : List PlainReference = c.args.cell.now.references in
     let all : List (List ℕ) = names c.args.cells.now in
     let asked : PlainReference → List ℕ = λ q. q.cell in
     let named : c.cell-name.result.now ≡ r.cell = c.cell-name.ensures in
     let none : None ≡ place_in_index c.args.index.now r.cell =
     c.in_default.ensures.value ∙ ap (place_in_index c.args.index.now) named in
-    let refs : c.deref-reference-items.result.now ≡ c.args.cell.now.references =
-    c.deref-reference-items.ensures.value ∙ ap (λ (x : PlainCell Rings). x.references) c.cell.view_is in
+    let same : c.cell.inside.references ≡ refs = ap (λ (x : PlainCell Rings). x.references) c.cell.view_is in
+    let at : slice_get refs j ≡ Some r =
+    sym (ap (λ (rs : List PlainReference). slice_get rs j) same) ∙ c.reference-reference.ensures in
     let it =
-    first_unknown (place_in_index c.args.index.now) all c.deref-reference-items.result.now
-    c.loop-reference.reference-index r c.loop-reference.targets.items c.requires c.loop-reference-test.true
-    c.reference-item.is none c.loop-reference.invariant in (
+    first_unknown (place_in_index c.args.index.now) all refs j r c.loop-j.targets.items c.requires
+    (slice_get_within refs j r at) (sym (get_or_from_slice_get refs j r r at)) none c.loop-j.invariant in (
       c.in_ok-from.ensures.items ∙ (c.deref.ensures.value ∙ ap (λ (x : PlainCell Rings). x.name) c.cell.view_is),
-      subst (IsFirstUnknown all (map asked c.args.cell.now.references)) (sym (c.in_ok-missing.ensures.items ∙ named))
-          (subst (λ (l : List PlainReference). IsFirstUnknown all (map asked l) r.cell) refs it),
+      subst (IsFirstUnknown all (map asked refs)) (sym (c.in_ok-missing.ensures.items ∙ named)) it,
     )
 
-pub loop-reference-preserved : goal.loop-reference-preserved
-loop-reference-preserved c =
-    let r = c.reference-item.result in
+pub loop-j-preserved : goal.loop-j-preserved
+loop-j-preserved c =
+    let r : PlainReference = c.reference-reference.result in
+    let j = c.loop-j.j in
+    let refs : List PlainReference = c.args.cell.now.references in
     let all : List (List ℕ) = names c.args.cells.now in
-    let items : List PlainReference = c.deref-reference-items.result.now in
-    let i = c.loop-reference.reference-index in
     let named : c.cell-name.result.now ≡ r.cell = c.cell-name.ensures in
-    let at : slice_get all c.in-Some.target.now ≡ Some r.cell =
+    let found : slice_get all c.in-Some.target.now ≡ Some r.cell =
     (c.requires r.cell c.in-Some.target.now).0 (sym (c.in-Some.ensures.value
     ∙ ap (place_in_index c.args.index.now) named)) in
-    subst (AreTargets all (take (i + 1) items)) (sym c.in_ok-push.ensures.items)
-    (targets_more all items i r c.loop-reference.targets.items c.in-Some.target.now c.loop-reference-test.true
-    c.reference-item.is at c.loop-reference.invariant)
+    let same : c.cell.inside.references ≡ refs = ap (λ (x : PlainCell Rings). x.references) c.cell.view_is in
+    let at : slice_get refs j ≡ Some r =
+    sym (ap (λ (rs : List PlainReference). slice_get rs j) same) ∙ c.reference-reference.ensures in
+    subst (AreTargets all (take (j + 1) refs)) (sym c.in_ok-push.ensures.items)
+    (targets_more all refs j r c.loop-j.targets.items c.in-Some.target.now (slice_get_within refs j r at)
+    (sym (get_or_from_slice_get refs j r r at)) found c.loop-j.invariant)
 
 pub returns-clause-ok : goal.returns-clause-ok
 returns-clause-ok c =
-    let items : List PlainReference = c.deref-reference-items.result.now in
-    let refs : items ≡ c.args.cell.now.references =
-    c.deref-reference-items.ensures.value ∙ ap (λ (x : PlainCell Rings). x.references) c.cell.view_is in
-    subst (λ (l : List PlainReference). AreTargets (names c.args.cells.now) l c.loop-reference.targets.items)
-    (take_past items c.loop-reference.reference-index c.loop-reference-test.false ∙ refs) c.loop-reference.invariant
+    let refs : List PlainReference = c.args.cell.now.references in
+    let same : c.cell.inside.references ≡ refs = ap (λ (x : PlainCell Rings). x.references) c.cell.view_is in
+    let all : length refs ≤ c.loop-j.j = omega (arith, c.loop-j-test.false, c.len-j-end.ensures, ap length same) in
+    subst (λ (l : List PlainReference). AreTargets (names c.args.cells.now) l c.loop-j.targets.items)
+    (take_past refs c.loop-j.j all) c.loop-j.invariant

@@ -1,8 +1,8 @@
-use Rattle.std.proofs.Common.{◌≡◌, ◌+◌, ℕ, List, Some, take, length, slice_get, refl, sym, ap, ◌∙◌, subst, arith}
+use Rattle.std.proofs.Common.{◌≡◌, ◌<◌, ◌+◌, ℕ, List, Some, take, length, slice_get, get_or, refl, sym, ap, ◌∙◌, subst, arith}
 use Rattle.std.specs.Prelude.{IfSome}
 use Rattle.std.proofs.lemmas.Grind.{common_steps}
 use Rattle.std.proofs.lemmas.List.{take_all}
-use Rattle.std.proofs.lemmas.Option.{slice_get_read, gets}
+use Rattle.std.proofs.lemmas.Option.{get_or_from_slice_get, slice_get_read, slice_get_within, gets}
 use Rattle.lvl_cells.specs.Cells.{PlainCell, PlainReference, Rings, cell_named}
 use Rattle.lvl_view.specs.Moved.{IsMoved}
 use Rattle.lvl_changed.specs.declared.found.Found.{Found}
@@ -31,10 +31,14 @@ returns-in_default-get-clause-kept c = record { has = λ s h. c.hold_anywhere.en
 pub loop-j-preserved : goal.loop-j-preserved
 loop-j-preserved c =
     let cells : List (PlainCell Rings) = c.args.checked.now.cells in
-    let items : List PlainReference = c.deref-reference-items.result.now in
+    let items : List PlainReference = c.place.inside.references in
     let cell : PlainCell Rings = c.index-cells-cell.result in
+    let kept : items ≡ cell.references = ap (λ (b : PlainCell Rings). b.references) c.place.view_is in
     let j : ℕ = c.loop-j.j in
-    let r : PlainReference = c.reference-item.result in
+    let r : PlainReference = c.reference-reference.result in
+    let here : slice_get items j ≡ Some r = c.reference-reference.ensures in
+    let low : j < length items = slice_get_within items j r here in
+    let is : r ≡ get_or items j r = sym (get_or_from_slice_get items j r r here) in
     let k : ℕ = c.in-Some.target in
     let f : Found = c.in-Some-Some.found in
     let old : Windows = c.loop-j.windows in
@@ -50,12 +54,7 @@ loop-j-preserved c =
     subst (λ (cs : List (PlainCell Rings)). slice_get cs c.args.cell ≡ Some cell) c.cells.ensures.value read in
     let both : Some t.cell ≡ Some cell = sym t.cell_is ∙ there in
     let one : t.cell ≡ cell = cc in
-    let refs : t.cell.references ≡ items =
-    ap (λ (b : PlainCell Rings). b.references) one
-    ∙ sym (c.deref-reference-items.ensures.value
-    ∙ ap (λ (b : PlainCell Rings). b.references) c.place.view_is) in
-    let here : slice_get items j ≡ Some r =
-    slice_get_read items (length items) j r refl c.loop-j-test.true c.reference-item.is in
+    let refs : t.cell.references ≡ items = ap (λ (b : PlainCell Rings). b.references) one ∙ sym kept in
     let named_there : Some t.reference ≡ Some r = sym t.reference_is ∙ (ap (λ rs. slice_get rs j) refs ∙ here) in
     let same : t.reference ≡ r = cc in
     let named : cell_named cells r.cell ≡ Some t.target =
@@ -67,7 +66,7 @@ loop-j-preserved c =
           (λ ps. AlikeOutside new (ReferencesCover cells (take (j + 1) items)) (IsMoved pairs (PlacedCover theirs ps)))
           (sym c.in_ok-place_partner.ensures.placed)
           (partners_more pairs cells theirs items c.loop-j.placements.items j k r t.target f new t.target_is named
-          c.loop-j-test.true c.reference-item.is found c.in_ok-place_partner.ensures.held
+          low is found c.in_ok-place_partner.ensures.held
           (alike_wider old new (ReferencesCover cells (take j items))
           (IsMoved pairs (PlacedCover theirs c.loop-j.placements.items)) wide
           (c.loop-j.invariant.covers pairs theirs known)));
@@ -77,17 +76,17 @@ loop-j-preserved c =
 pub returns-clause-covers : goal.returns-clause-covers
 returns-clause-covers c = λ pairs theirs known.
     let cells : List (PlainCell Rings) = c.args.checked.now.cells in
-    let items : List PlainReference = c.deref-reference-items.result.now in
+    let items : List PlainReference = c.place.inside.references in
     let cell : PlainCell Rings = c.index-cells-cell.result in
+    let kept : items ≡ cell.references = ap (λ (b : PlainCell Rings). b.references) c.place.view_is in
     let ps : List Placement = c.loop-j.placements.items in
     let read : slice_get c.cells.result.now c.args.cell ≡ Some cell =
     slice_get_read c.cells.result.now (length c.cells.result.now) c.args.cell cell refl
     (omega (arith, c.requires, ap length c.cells.ensures.value)) c.index-cells-cell.is in
     let there : slice_get cells c.args.cell ≡ Some cell =
     subst (λ (cs : List (PlainCell Rings)). slice_get cs c.args.cell ≡ Some cell) c.cells.ensures.value read in
-    let refs : items ≡ cell.references =
-    c.deref-reference-items.ensures.value ∙ ap (λ (b : PlainCell Rings). b.references) c.place.view_is in
-    let all : take c.loop-j.j items ≡ cell.references = take_all c.loop-j.j items c.loop-j-test.false ∙ refs in
+    let all : take c.loop-j.j items ≡ cell.references =
+    take_all c.loop-j.j items (omega (arith, c.loop-j-test.false, c.len-j-end.ensures)) ∙ kept in
     let covered : AlikeOutside c.loop-j.windows (ReferencesCover cells cell.references)
     (IsMoved pairs (PlacedCover theirs ps)) =
     subst

@@ -1,5 +1,5 @@
 use Rattle.std.proofs.Common.{◌≡◌, ◌<◌, length, get_or, drop, ◌+◌, refl, sym, ap, ◌∙◌, subst, arith}
-use Rattle.std.proofs.lemmas.Option.{slice_get_within}
+use Rattle.std.proofs.lemmas.Option.{get_or_from_slice_get, slice_get_within}
 use Rattle.lvl_cells.specs.Cells.{PlainCell, Rings}
 use Rattle.lvl_count.proofs.Passing.{IsPassing, cell_read, step_along, passing_begins}
 use Rattle.lvl_count.proofs.times.pass_on.Goals.{in-Some, in_default}
@@ -10,11 +10,13 @@ overflow_mul-times c =
     let step =
     step_along c.args.checked.now c.cells.ensures.checked.0 c.args.i
     (get_or c.args.times.now (get_or c.order.result.now c.args.i 0) 0) c.loop-j.j c.in-Some.target c.len.result
-    c.order.result.now c.cells.result.now c.deref-reference-items.result.now c.index-cells-place.result
-    c.reference-item.result c.loop-j.times c.cells.ensures.checked.1 c.order.ensures.value c.cells.ensures.value
+    c.order.result.now c.cells.result.now c.cell.inside.references c.index-cells-place.result
+    c.reference-reference.result c.loop-j.times c.cells.ensures.checked.1 c.order.ensures.value c.cells.ensures.value
     c.requires.within c.index-cells-place.is
-    (c.deref-reference-items.ensures.value ∙ ap (λ (d : PlainCell Rings). d.references) c.cell.view_is)
-    c.loop-j-test.true c.reference-item.is (c.len.ensures.count ∙ ap length c.shifts.ensures.all)
+    (ap (λ (d : PlainCell Rings). d.references) c.cell.view_is)
+    (slice_get_within c.cell.inside.references c.loop-j.j c.reference-reference.result c.reference-reference.ensures)
+    (sym (get_or_from_slice_get c.cell.inside.references c.loop-j.j c.reference-reference.result
+    c.reference-reference.result c.reference-reference.ensures)) (c.len.ensures.count ∙ ap length c.shifts.ensures.all)
     c.in-Some.ensures.target c.loop-j.invariant in
     omega (arith, step.few)
 
@@ -35,11 +37,13 @@ overflow_add-times c =
     let step =
     step_along c.args.checked.now c.cells.ensures.checked.0 c.args.i
     (get_or c.args.times.now (get_or c.order.result.now c.args.i 0) 0) c.loop-j.j c.in-Some.target c.len.result
-    c.order.result.now c.cells.result.now c.deref-reference-items.result.now c.index-cells-place.result
-    c.reference-item.result c.loop-j.times c.cells.ensures.checked.1 c.order.ensures.value c.cells.ensures.value
+    c.order.result.now c.cells.result.now c.cell.inside.references c.index-cells-place.result
+    c.reference-reference.result c.loop-j.times c.cells.ensures.checked.1 c.order.ensures.value c.cells.ensures.value
     c.requires.within c.index-cells-place.is
-    (c.deref-reference-items.ensures.value ∙ ap (λ (d : PlainCell Rings). d.references) c.cell.view_is)
-    c.loop-j-test.true c.reference-item.is (c.len.ensures.count ∙ ap length c.shifts.ensures.all)
+    (ap (λ (d : PlainCell Rings). d.references) c.cell.view_is)
+    (slice_get_within c.cell.inside.references c.loop-j.j c.reference-reference.result c.reference-reference.ensures)
+    (sym (get_or_from_slice_get c.cell.inside.references c.loop-j.j c.reference-reference.result
+    c.reference-reference.result c.reference-reference.ensures)) (c.len.ensures.count ∙ ap length c.shifts.ensures.all)
     c.in-Some.ensures.target c.loop-j.invariant in
     omega (arith, step.few)
 
@@ -55,8 +59,8 @@ loop-j-init c =
     cell_read c.args.checked.now c.cells.ensures.checked.0 c.order.result.now c.cells.result.now c.args.i
     c.index-cells-place.result c.cells.ensures.checked.1 c.order.ensures.value c.cells.ensures.value c.requires.within
     c.index-cells-place.is in
-    let listed : c.deref-reference-items.result.now ≡ c.index-cells-place.result.references =
-    c.deref-reference-items.ensures.value ∙ ap (λ (d : PlainCell Rings). d.references) c.cell.view_is in
+    let listed : c.cell.inside.references ≡ c.index-cells-place.result.references =
+    ap (λ (d : PlainCell Rings). d.references) c.cell.view_is in
     subst
     (λ l. IsPassing c.args.checked.now c.args.i (get_or c.args.times.now (get_or c.order.result.now c.args.i 0) 0) l
     c.args.times.now) (sym listed)
@@ -71,24 +75,26 @@ loop-j-preserved c =
           let step =
           step_along c.args.checked.now c.cells.ensures.checked.0 c.args.i
           (get_or c.args.times.now (get_or c.order.result.now c.args.i 0) 0) c.loop-j.j w.in-Some.target w.len.result
-          c.order.result.now c.cells.result.now c.deref-reference-items.result.now c.index-cells-place.result
-          c.reference-item.result c.loop-j.times c.cells.ensures.checked.1 c.order.ensures.value c.cells.ensures.value
+          c.order.result.now c.cells.result.now c.cell.inside.references c.index-cells-place.result
+          c.reference-reference.result c.loop-j.times c.cells.ensures.checked.1 c.order.ensures.value c.cells.ensures.value
           c.requires.within c.index-cells-place.is
-          (c.deref-reference-items.ensures.value ∙ ap (λ (d : PlainCell Rings). d.references) c.cell.view_is)
-          c.loop-j-test.true c.reference-item.is (w.len.ensures.count ∙ ap length w.shifts.ensures.all)
+          (ap (λ (d : PlainCell Rings). d.references) c.cell.view_is)
+          (slice_get_within c.cell.inside.references c.loop-j.j c.reference-reference.result c.reference-reference.ensures)
+    (sym (get_or_from_slice_get c.cell.inside.references c.loop-j.j c.reference-reference.result
+    c.reference-reference.result c.reference-reference.ensures)) (w.len.ensures.count ∙ ap length w.shifts.ensures.all)
           w.in-Some.ensures.target c.loop-j.invariant in
           subst
           (λ ts. IsPassing c.args.checked.now c.args.i
           (get_or c.args.times.now (get_or c.order.result.now c.args.i 0) 0)
-          (drop (c.loop-j.j + 1) c.deref-reference-items.result.now) ts) (sym w.times-is) step.next
+          (drop (c.loop-j.j + 1) c.cell.inside.references) ts) (sym w.times-is) step.next
       | in_default w ↦
           let at =
           cell_read c.args.checked.now c.cells.ensures.checked.0 c.order.result.now c.cells.result.now c.args.i
           c.index-cells-place.result c.cells.ensures.checked.1 c.order.ensures.value c.cells.ensures.value
           c.requires.within c.index-cells-place.is in
-          let listed : c.deref-reference-items.result.now ≡ c.index-cells-place.result.references =
-          c.deref-reference-items.ensures.value ∙ ap (λ (d : PlainCell Rings). d.references) c.cell.view_is in
+          let listed : c.cell.inside.references ≡ c.index-cells-place.result.references =
+          ap (λ (d : PlainCell Rings). d.references) c.cell.view_is in
           let low : c.loop-j.j < length c.index-cells-place.result.references =
-          omega (arith, c.loop-j-test.true, ap length listed) in
+          omega (arith, c.loop-j-test.true, c.len-j-end.ensures, ap length listed) in
           absurd (w.in_default.ensures.past (c.index-cells-place.result, at.1, low))
     ]

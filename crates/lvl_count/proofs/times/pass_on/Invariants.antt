@@ -4,4 +4,4 @@ use Rattle.lvl_count.proofs.times.pass_on.Given as goal
 
 -- the references so far passed on the placements of their cell
 abbrev pub invariant-loop-j : goal.invariant-loop-j
-invariant-loop-j l = IsPassing l.checked l.i l.here (drop l.j l.reference-items) l.times
+invariant-loop-j l = IsPassing l.checked l.i l.here (drop l.j l.cell-inside.references) l.times

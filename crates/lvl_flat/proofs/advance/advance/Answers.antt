@@ -42,7 +42,7 @@ pub offset_bounds-cells-place : goal.offset_bounds-cells-place
 offset_bounds-cells-place c =
     let out : IsOut c.args.checked.now.cells c.args.visit c.in-Out.place = c.in-Out.ensures in
     let inside = slice_get_within c.args.checked.now.cells c.in-Out.place out.next out.there in
-    let long : (length c.cells-cells.result.now < 2 ^ 64) × (length c.cells-cells.result.now * 168 < 2 ^ 63) =
+    let long : (length c.cells-cells.result.now < 2 ^ 64) × (length c.cells-cells.result.now * 216 < 2 ^ 63) =
     c.cells-cells.type_inv in
     let within : c.in-Out.place < length c.cells-cells.result.now =
     omega (arith, inside, ap length c.cells-cells.ensures.value) in

@@ -7,5 +7,5 @@ use Rattle.lvl_flat.proofs.boxes.hold_references.Given as goal
 abbrev pub invariant-loop-j : goal.invariant-loop-j
 invariant-loop-j l = record {
   wider : Widens l.fn.bounds l.held;
-  held : AreBoxes l.checked.cells l.known → HoldsPicks l.checked.cells l.held (take l.j l.reference-items);
+  held : AreBoxes l.checked.cells l.known → HoldsPicks l.checked.cells l.held (take l.j l.place-inside.references);
 }

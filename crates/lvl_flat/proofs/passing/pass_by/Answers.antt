@@ -20,12 +20,10 @@ returns c = record {
       (omega (arith, c.requires.cell, ap length c.cells.ensures.value)) c.index-cells-visit.is in
       let at : slice_get cells c.args.visit.cell ≡ Some cell =
       subst (λ cs. slice_get cs c.args.visit.cell ≡ Some cell) c.cells.ensures.value listed in
-      let references : c.deref.result.now ≡ cell.references =
-      c.deref.ensures.value ∙ ap (λ (b : PlainCell Rings). b.references) c.cell.view_is in
-      let r : PlainReference = c.in-Some.reference.now in
-      let found : slice_get c.deref.result.now c.args.visit.reference ≡ Some r =
-      slice_get_read c.deref.result.now (length c.deref.result.now) c.args.visit.reference r refl
-      c.in-Some.ensures.lookup.3.0 c.in-Some.ensures.lookup.1 in
+      let references : c.cell.inside.references ≡ cell.references =
+    ap (λ (b : PlainCell Rings). b.references) c.cell.view_is in
+      let r : PlainReference = c.reference-reference.result in
+      let found : slice_get c.cell.inside.references c.args.visit.reference ≡ Some r = c.reference-reference.ensures in
       let there : slice_get cell.references c.args.visit.reference ≡ Some r =
       subst (λ rs. slice_get rs c.args.visit.reference ≡ Some r) references found in
       let shifts : c.shifts-shifts.result.now ≡ r.shifts = c.shifts-shifts.ensures.all in
@@ -35,7 +33,7 @@ returns c = record {
       let shift : slice_get r.shifts k ≡ Some e = slice_get-get_or r.shifts k origin inside in
       let seen : slice_get c.shifts-shifts.result.now k ≡ Some e =
       subst (λ xs. slice_get xs k ≡ Some e) (sym shifts) shift in
-      missed_at cells c.args.boxes.now c.args.window.now _ cell r c.in-Some-target.target k c.in-Some-get.bounds
-      c.in-Some-placed_by.inner e c.requires.boxes at there c.in-Some-target.ensures.target c.in-Some-get.ensures
+      missed_at cells c.args.boxes.now c.args.window.now _ cell r c.in-Some.target k c.in-Some-get.bounds
+      c.in-Some-placed_by.inner e c.requires.boxes at there c.in-Some.ensures.target c.in-Some-get.ensures
       c.in-Some-placed_by.ensures shift (c.missed_from-place.ensures.missed k e from below seen);
 }

@@ -44,7 +44,7 @@ pub offset_bounds-cells-index : goal.offset_bounds-cells-index
 offset_bounds-cells-index c =
     let out : IsOut c.args.checked.now.cells c.args.visit c.in-Out.index = c.in-Out.ensures in
     let inside = slice_get_within c.args.checked.now.cells c.in-Out.index out.next out.there in
-    let long : (length c.cells-cells.result.now < 2 ^ 64) × (length c.cells-cells.result.now * 168 < 2 ^ 63) =
+    let long : (length c.cells-cells.result.now < 2 ^ 64) × (length c.cells-cells.result.now * 216 < 2 ^ 63) =
     c.cells-cells.type_inv in
     let within : c.in-Out.index < length c.cells-cells.result.now =
     omega (arith, inside, ap length c.cells-cells.ensures.value) in
