@@ -1,99 +1,116 @@
--- The references of a cell as they are stored: they stay the same after more names and shifts are kept, and one more.
+-- Placements as they are stored, and references to names: they stay the same after more is kept, and one more.
 use Rattle.std.proofs.Common.{◌≡◌, ◌<◌, ℕ, get_or, List, [], ◌∷◌, ◌++◌, map, length, All, refl, sym, ap, arith, ◌∙◌}
 use Rattle.std.proofs.lemmas.List.{get_or-take, map-append}
 use Rattle.std.proofs.lemmas.List.Elements.{All-head, All-push, All-tail, All-weaker}
 use Rattle.lvl_grid.specs.declared.point.Point.{Point}
 use Rattle.lvl_grid.specs.Turn.{FitsPoint, shifted}
-use Rattle.lvl_cells.specs.declared.references.Placing.{Placing}
-use Rattle.lvl_cells.specs.Cells.{PlainReference}
-use Rattle.lvl_cells.specs.inside.Placings.{reference_in, IsAt, IsPlacing}
+use Rattle.lvl_cells.specs.declared.placements.Placing.{Placing}
+use Rattle.lvl_cells.specs.Cells.{PlainPlacement, PlainReference, reference_to}
+use Rattle.lvl_cells.specs.inside.Placings.{placement_by, placement_in, IsAt, IsPlacing}
 use Rattle.lvl_cells.specs.inside.Spans.{GoesOn}
 use Rattle.lvl_cells.proofs.Spanned.{no_fewer}
 
--- the references of the placings
-abbrev pub references_in : List (List ℕ) → List (List Point) → List Placing → List PlainReference
-references_in names kept placings = map (reference_in names kept) placings
+-- the placements that are stored so
+abbrev pub placements_in : List (List Point) → List Placing → List PlainPlacement
+placements_in kept placings = map (placement_in kept) placings
 
-abbrev pub ArePlacings : List (List ℕ) → List (List Point) → List Placing → Type 0
-ArePlacings names kept placings = All (IsPlacing names kept) placings
-
--- both lists of kept items begin with the old ones
-pub record BothGoOn (names names' : List (List ℕ)) (kept kept' : List (List Point)) : Type 0 where
-  pub names_on : GoesOn names names'
-  pub kept_on : GoesOn kept kept'
+abbrev pub ArePlacings : List (List Point) → List Placing → Type 0
+ArePlacings kept placings = All (IsPlacing kept) placings
 
 item_same : {X : Type 0} (old new : List (List X)) (n : ℕ) → GoesOn old new → n < length old
     → get_or new n [] ≡ get_or old n []
 item_same old new n g h = sym (get_or-take (length old) new n [] h) ∙ ap (λ ks. get_or ks n []) g
 
--- a placing stays valid and means the same reference after more items are kept
-record IsStill (names names' : List (List ℕ)) (kept kept' : List (List Point)) (p : Placing) : Type 0 where
-  pub is : IsPlacing names' kept' p
-  pub same : reference_in names' kept' p ≡ reference_in names kept p
+-- a placing stays valid and means the same placement after more lists are kept
+record IsStill (kept kept' : List (List Point)) (p : Placing) : Type 0 where
+  pub is : IsPlacing kept' p
+  pub same : placement_in kept' p ≡ placement_in kept p
 
-placing_same : (names names' : List (List ℕ)) (kept kept' : List (List Point)) (p : Placing)
-    → BothGoOn names names' kept kept' → IsPlacing names kept p → IsStill names names' kept kept' p
-placing_same names names' kept kept' p on h =
-    let name : get_or names' p.name [] ≡ get_or names p.name [] = item_same names names' p.name on.names_on h.name in
-    let shifts : get_or kept' p.shifts [] ≡ get_or kept p.shifts [] =
-    item_same kept kept' p.shifts on.kept_on h.shifts in
+placing_same : (kept kept' : List (List Point)) (p : Placing) → GoesOn kept kept' → IsPlacing kept p
+    → IsStill kept kept' p
+placing_same kept kept' p on h =
+    let shifts : get_or kept' p.shifts [] ≡ get_or kept p.shifts [] = item_same kept kept' p.shifts on h.shifts in
     record {
-      is = record {
-        name = omega (arith, h.name, no_fewer names names' on.names_on);
-        shifts = omega (arith, h.shifts, no_fewer kept kept' on.kept_on);
-        fits = rw shifts h.fits;
-      };
-      same = rw (name, shifts) refl;
+      is = record { shifts = omega (arith, h.shifts, no_fewer kept kept' on); fits = rw shifts h.fits };
+      same = rw shifts refl;
     }
 
-references_same : (names names' : List (List ℕ)) (kept kept' : List (List Point)) (placings : List Placing)
-    → BothGoOn names names' kept kept' → ArePlacings names kept placings
-    → references_in names' kept' placings ≡ references_in names kept placings
-references_same names names' kept kept' [] on h = refl
-references_same names names' kept kept' (p ∷ placings) on h =
+placements_same : (kept kept' : List (List Point)) (placings : List Placing)
+    → GoesOn kept kept' → ArePlacings kept placings → placements_in kept' placings ≡ placements_in kept placings
+placements_same kept kept' [] on h = refl
+placements_same kept kept' (p ∷ placings) on h =
     rw (
-      (placing_same names names' kept kept' p on (All-head (IsPlacing names kept) p placings h)).same,
-      references_same names names' kept kept' placings on (All-tail (IsPlacing names kept) p placings h),
+      (placing_same kept kept' p on (All-head (IsPlacing kept) p placings h)).same,
+      placements_same kept kept' placings on (All-tail (IsPlacing kept) p placings h),
     ) refl
 
--- the placings stay valid after more items are kept
-pub still : (names names' : List (List ℕ)) (kept kept' : List (List Point)) (placings : List Placing)
-    → BothGoOn names names' kept kept' → ArePlacings names kept placings → ArePlacings names' kept' placings
-still names names' kept kept' placings on h =
-    All-weaker {X = Placing} (IsPlacing names kept) (IsPlacing names' kept')
-    (λ p is. (placing_same names names' kept kept' p on is).is) placings h
+-- the placings stay valid after more lists are kept
+pub still : (kept kept' : List (List Point)) (placings : List Placing)
+    → GoesOn kept kept' → ArePlacings kept placings → ArePlacings kept' placings
+still kept kept' placings on h =
+    All-weaker {X = Placing} (IsPlacing kept) (IsPlacing kept') (λ p is. (placing_same kept kept' p on is).is)
+    placings h
 
--- after a refusal the references are as before
-pub refused : (names names' : List (List ℕ)) (kept kept' : List (List Point)) (placings : List Placing)
-    (references : List PlainReference)
-    → BothGoOn names names' kept kept' → ArePlacings names kept placings
-    → references_in names kept placings ≡ references → references_in names' kept' placings ≡ references
-refused names names' kept kept' placings references on h e =
-    references_same names names' kept kept' placings on h ∙ e
+-- after a refusal the placements are as before
+pub refused : (kept kept' : List (List Point)) (placings : List Placing) (placements : List PlainPlacement)
+    → GoesOn kept kept' → ArePlacings kept placings → placements_in kept placings ≡ placements
+    → placements_in kept' placings ≡ placements
+refused kept kept' placings placements on h e = placements_same kept kept' placings on h ∙ e
 
--- one more reference, appended
-pub record AreMore (names' : List (List ℕ)) (kept' : List (List Point)) (placings : List Placing) (p : Placing)
-    (cell : List ℕ) (shifts : List Point) (references : List PlainReference) : Type 0 where
-  pub are : ArePlacings names' kept' (placings ++ p ∷ [])
-  pub is : references_in names' kept' (placings ++ p ∷ [])
-      ≡ references ++ record { cell = cell; flip = p.flip; turn = p.turn; at = p.at; shifts = shifts } ∷ []
+-- one more placement, appended
+pub record AreMore (kept' : List (List Point)) (placings : List Placing) (p : Placing) (shifts : List Point)
+    (placements : List PlainPlacement) : Type 0 where
+  pub are : ArePlacings kept' (placings ++ p ∷ [])
+  pub is : placements_in kept' (placings ++ p ∷ []) ≡ placements ++ placement_by p shifts ∷ []
 
-pub one_more : (names names' : List (List ℕ)) (kept kept' : List (List Point)) (placings : List Placing) (p : Placing)
-    (cell : List ℕ) (shifts : List Point) (references : List PlainReference)
-    → BothGoOn names names' kept kept' → ArePlacings names kept placings
-    → references_in names kept placings ≡ references → IsAt names' p.name cell → IsAt kept' p.shifts shifts
-    → All (λ e. FitsPoint (shifted p.at e)) shifts → AreMore names' kept' placings p cell shifts references
-one_more names names' kept kept' placings p cell shifts references on h e name number fits =
-    let last : reference_in names' kept' p
-    ≡ record { cell = cell; flip = p.flip; turn = p.turn; at = p.at; shifts = shifts } =
-    rw (name.is, number.is) refl in
+pub one_more : (kept kept' : List (List Point)) (placings : List Placing) (p : Placing) (shifts : List Point)
+    (placements : List PlainPlacement)
+    → GoesOn kept kept' → ArePlacings kept placings → placements_in kept placings ≡ placements
+    → IsAt kept' p.shifts shifts → All (λ e. FitsPoint (shifted p.at e)) shifts
+    → AreMore kept' placings p shifts placements
+one_more kept kept' placings p shifts placements on h e number fits =
+    let last : placement_in kept' p ≡ placement_by p shifts = rw number.is refl in
     record {
       are =
-          All-push (IsPlacing names' kept') placings p (still names names' kept kept' placings on h)
-          (record { name = name.within; shifts = number.within; fits = rw number.is fits });
+          All-push (IsPlacing kept') placings p (still kept kept' placings on h)
+          (record { shifts = number.within; fits = rw number.is fits });
       is =
-          map-append (reference_in names' kept') placings (p ∷ [])
-          ∙ (ap (λ rs. rs ++ reference_in names' kept' p ∷ [])
-          (refused names names' kept kept' placings references on h e)
-          ∙ ap (λ r. references ++ r ∷ []) last);
+          map-append (placement_in kept') placings (p ∷ [])
+          ∙ (ap (λ rs. rs ++ placement_in kept' p ∷ []) (refused kept kept' placings placements on h e)
+          ∙ ap (λ r. placements ++ r ∷ []) last);
     }
+
+-- the keys of the placements are indexes of names
+abbrev pub HaveNames : List (List ℕ) → List PlainPlacement → Type 0
+HaveNames names placements = All (λ p. p.key < length names) placements
+
+-- keys stay indexes of names after more names are kept
+pub names_still : (names names' : List (List ℕ)) (placements : List PlainPlacement)
+    → GoesOn names names' → HaveNames names placements → HaveNames names' placements
+names_still names names' placements on h =
+    All-weaker {X = PlainPlacement} (λ p. p.key < length names) (λ p. p.key < length names')
+    (λ p low. omega (arith, low, no_fewer names names' on)) placements h
+
+-- references stay the same after more names are kept
+pub references_same : (names names' : List (List ℕ)) (placements : List PlainPlacement)
+    → GoesOn names names' → HaveNames names placements
+    → map (reference_to names') placements ≡ map (reference_to names) placements
+references_same names names' [] on h = refl
+references_same names names' (p ∷ ps) on h =
+    let low : p.key < length names = All-head (λ (q : PlainPlacement). q.key < length names) p ps h in
+    let same : get_or names' p.key [] ≡ get_or names p.key [] = item_same names names' p.key on low in
+    let rest : map (reference_to names') ps ≡ map (reference_to names) ps =
+    references_same names names' ps on (All-tail (λ (q : PlainPlacement). q.key < length names) p ps h) in
+    rw (same, rest) refl
+
+-- one more reference, appended
+pub one_more_reference : (names names' : List (List ℕ)) (placements : List PlainPlacement) (p : PlainPlacement)
+    (cell : List ℕ) (references : List PlainReference)
+    → GoesOn names names' → HaveNames names placements → map (reference_to names) placements ≡ references
+    → IsAt names' p.key cell
+    → map (reference_to names') (placements ++ p ∷ [])
+    ≡ references ++ record { cell = cell; flip = p.flip; turn = p.turn; at = p.at; shifts = p.shifts } ∷ []
+one_more_reference names names' placements p cell references on h e name =
+    map-append (reference_to names') placements (p ∷ [])
+    ∙ (ap (λ rs. rs ++ reference_to names' p ∷ []) (references_same names names' placements on h ∙ e)
+    ∙ rw name.is refl)

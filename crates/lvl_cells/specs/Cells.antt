@@ -22,6 +22,19 @@ pub record PlainReference : Type 0 where
   pub at : Point
   pub shifts : List Point
 
+-- a placement of the item at index `key` of a list of names: as a reference places its cell
+pub record PlainPlacement : Type 0 where
+  pub key : ℕ
+  pub flip : Bool
+  pub turn : Turn
+  pub at : Point
+  pub shifts : List Point
+
+-- the reference that places the cell of the name at the placement's index
+abbrev pub reference_to : List (List ℕ) → PlainPlacement → PlainReference
+reference_to names p =
+    record { cell = get_or names p.key []; flip = p.flip; turn = p.turn; at = p.at; shifts = p.shifts }
+
 -- a cell; a library is a list of cells in file order
 pub record PlainCell (F : Type 0) : Type 0 where
   pub name : List ℕ

@@ -30,6 +30,7 @@ pub use fault::CellFault;
 pub use library::{Cell, Library};
 pub use moved::MovedRing;
 pub use names::index_of;
+pub use placements::Placements;
 pub use references::{KeptReference, Reference, References};
 pub use shapes::Shapes;
 
@@ -41,6 +42,7 @@ mod library;
 mod moved;
 mod names;
 mod order;
+mod placements;
 mod references;
 mod round;
 mod shapes;

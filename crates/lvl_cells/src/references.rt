@@ -1,12 +1,13 @@
 //! References to other cells, and how a cell keeps a list of them.
 ghost use Rattle.std.specs.Prelude.{◌≡◌, ◌<◌, ◌↔◌, ◌++◌, ◌∷◌, [], length, slice_get, All, IsSome, IfSome, IsTrue};
-ghost use Rattle.std.specs.Prelude.{IfOk, OnOk, OnErr};
+ghost use Rattle.std.specs.Prelude.{map, Some, IfOk, OnOk, OnErr};
 ghost use Rattle.lvl_grid.specs.Turn.{shifted, FitsPoint};
+ghost use Rattle.lvl_cells.specs.Cells.{reference_to};
 ghost use Rattle.lvl_cells.specs.inside.Spans.{GoesOn};
 ghost use Rattle.lvl_cells.specs.inside.Placings.{IsAt};
 
-use crate::shapes::kept_count;
-use lvl_grid::{Point, Turn};
+use crate::placements::{Placements, Placing, reserve_first};
+use lvl_grid::{Map, Point, Turn};
 use lvl_names::{Name, Offsets};
 use std::alloc::{AllocError, Global};
 use std::marker::Model;
@@ -92,17 +93,6 @@ impl Reference {
     }
 }
 
-/// A reference as it is stored: how it places its cell, and the indexes of the cell's name and of
-/// its shifts in the lists of [`References`].
-#[derive(Clone, Copy, Debug)]
-pub(crate) struct Placing {
-    pub at: Point,
-    pub name: u32,
-    pub shifts: u32,
-    pub flip: bool,
-    pub turn: Turn,
-}
-
 /// A reference of a cell, borrowed from its [`References`].
 #[derive(Debug, Drop)]
 pub struct KeptReference<'a> {
@@ -176,68 +166,33 @@ impl<'a> KeptReference<'a> {
 #[derive(Debug, Drop)]
 pub struct References {
     names: Vec<Name>,
-    shifts: Vec<Offsets>,
-    placings: Vec<Placing>,
+    placements: Placements,
 }
 
 impl Model for References {
-    ghost use Rattle.std.specs.Prelude.{List, map, All};
-    ghost use Rattle.lvl_cells.specs.Cells.{PlainReference};
-    ghost use Rattle.lvl_cells.specs.inside.Placings.{reference_in, IsPlacing};
+    ghost use Rattle.std.specs.Prelude.{List, map, All, length, ◌<◌};
+    ghost use Rattle.lvl_cells.specs.Cells.{PlainReference, reference_to};
 
     ghost Value = { List PlainReference };
 
-    ghost view = { λ r. map (reference_in r.names.items r.shifts.items) r.placings.items };
+    ghost view = { λ r. map (reference_to r.names.items) r.placements };
 
-    ghost invariant = { λ r. All (IsPlacing r.names.items r.shifts.items) r.placings.items };
-}
-
-/// Takes room for the first item of a list alone, since most cells have few references or many.
-fn reserve_first<T>(list: &mut Vec<T>) -> Result<(), AllocError>
-    ensures { list.new.items ≡ list.old.items }
-{
-    if list.is_empty() {
-        list.reserve_exact(1)?;
-    }
-    Ok(())
+    ghost invariant = { λ r. All (λ p. p.key < length r.names.items) r.placements };
 }
 
 /// The index of a name. Keeps the name, unless it is the last that was kept.
-fn index_of_name(names: &mut Vec<Name>, name: Name) -> Result<u32, AllocError>
+fn index_of_name(names: &mut Vec<Name>, name: Name) -> Result<usize, AllocError>
     ensures index { IfOk result (λ i. IsAt names.new.items i name) }
     ensures before { GoesOn names.old.items names.new.items }
 {
     if let Some(last) = names.last() {
         if last.as_bytes() == name.as_bytes() {
-            return kept_count(names.len() - 1);
+            return Ok(names.len() - 1);
         }
     }
-    let index = kept_count(names.len())?;
+    let index = names.len();
     reserve_first(names)?;
     names.push(name)?;
-    Ok(index)
-}
-
-/// The index of a list of shifts. Keeps the list, unless it is the same lattice as the last that
-/// was kept, or the zero shift alone, which is kept first.
-fn index_of_shifts(kept: &mut Vec<Offsets>, shifts: Offsets) -> Result<u32, AllocError>
-    ensures index { IfOk result (λ i. IsAt kept.new.items i shifts) }
-    ensures before { GoesOn kept.old.items kept.new.items }
-{
-    reserve_first(kept)?;
-    if kept.is_empty() {
-        kept.push(Offsets::single())?;
-    }
-    if shifts.is_single() && kept[0].is_single() {
-        return Ok(0);
-    }
-    if let Some(last) = kept.last() {
-        if last.is_same_lattice(&shifts) {
-            return kept_count(kept.len() - 1);
-        }
-    }
-    let index = kept_count(kept.len())?;
-    kept.push(shifts)?;
     Ok(index)
 }
 
@@ -248,16 +203,24 @@ impl References {
     {
         References {
             names: Vec::new(alloc),
-            shifts: Vec::new(alloc),
-            placings: Vec::new(alloc),
+            placements: Placements::new(alloc),
         }
+    }
+
+    /// The references that place the cells of these names: each placement has the index of its
+    /// name.
+    pub fn of(names: Vec<Name>, placements: Placements) -> References
+        requires { All (λ p. p.key < length names.items) placements }
+        ensures { result ≡ map (reference_to names.items) placements }
+    {
+        References { names, placements }
     }
 
     /// The number of references.
     pub fn len(&self) -> usize
         ensures { result ≡ length self.now }
     {
-        self.placings.len()
+        self.placements.len()
     }
 
     /// Whether there is no reference.
@@ -272,11 +235,11 @@ impl References {
         requires { j < length self.now }
         ensures { slice_get self.now j ≡ Some result }
     {
-        let placing = &self.placings[j];
+        let (placing, shifts) = self.placements.placing(j);
         KeptReference {
-            cell: &self.names[placing.name as usize],
-            placing: *placing,
-            shifts: &self.shifts[placing.shifts as usize],
+            cell: &self.names[placing.key as usize],
+            placing,
+            shifts,
         }
     }
 
@@ -302,15 +265,8 @@ impl References {
             at,
             shifts,
         } = reference;
-        let name = index_of_name(&mut self.names, cell)?;
-        let shifts = index_of_shifts(&mut self.shifts, shifts)?;
-        self.placings.push(Placing {
-            at,
-            name,
-            shifts,
-            flip,
-            turn,
-        })?;
+        let key = index_of_name(&mut self.names, cell)?;
+        self.placements.push(key, Map { flip, turn, at }, shifts)?;
         Ok(())
     }
 }
