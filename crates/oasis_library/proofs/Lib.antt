@@ -7,3 +7,5 @@ pub mod Readable
 pub mod Ends
 pub mod Loop
 pub mod Ignoring
+pub mod Placing
+pub mod Referring

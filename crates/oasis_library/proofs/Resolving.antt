@@ -115,7 +115,7 @@ a_reference c d e f g h i =
     ∙ ap (λ x. make_reference d.cell d.flip d.turn x c.shifts) h
     ∙ ap (λ x. make_reference d.cell d.flip d.turn d.at x) i
 
-same_name : (o : Option (List ℕ)) (s t : List ℕ) → o ≡ Some s → o ≡ Some t → t ≡ s
+pub same_name : (o : Option (List ℕ)) (s t : List ℕ) → o ≡ Some s → o ≡ Some t → t ≡ s
 same_name o s t p q = (let e : Some t ≡ Some s = sym q ∙ p in cc)
 
 same_references : (names : List CellName) (ps : List Placed) (rs ss : List PlainReference)

@@ -19,6 +19,7 @@ use Rattle.oasis_figures.specs.declared.modal.Modal.{Modal}
 use Rattle.oasis_figures.specs.declared.rule.FigureRule.TheVariants.{Undefined}
 use Rattle.oasis_figures.specs.declared.variable.Variable.TheVariants.{PlacementCell}
 use Rattle.oasis_library.specs.Cells.{PlainDrawing}
+use Rattle.oasis_library.specs.inside.Kept.{placed}
 use Rattle.oasis_library.specs.inside.Taken.{IsTaken, grown}
 
 -- a PLACEMENT whose cell is undefined breaches a rule
@@ -47,9 +48,6 @@ taken_grown earlier r drawn m d t =
     ap (λ s. a_kept d.name (d.shapes ++ s) (d.placements ++ placements_in (cell_of (r ∷ earlier)) (shifts_of earlier r)
     drawn)) t.draws.shapes
     ∙ ap (λ p. a_kept d.name (d.shapes ++ map in_rings (shapes_of earlier r)) (d.placements ++ p)) t.draws.placements
-
-abbrev pub placed : CellRef → Map → List Point → Placed
-placed cell by shifts = record { cell = cell; flip = by.flip; turn = by.turn; at = by.at; shifts = shifts }
 
 -- a placement is added
 pub placed_grown : (earlier : List Record) (r : Record) (by : Map) (m : Modal) (d : PlainDrawing Rings) (p : Placed)

@@ -4,3 +4,4 @@ pub mod Answers
 pub mod Ended
 pub mod Holds
 pub mod Refuses
+pub mod Resolved

@@ -1,15 +1,14 @@
 //! A cell whose records are being read.
-ghost use Rattle.std.specs.Prelude.{◌≡◌, OnOk, IfOk, List, Some};
+ghost use Rattle.std.specs.Prelude.{◌≡◌, OnOk, List, Some};
 ghost use Rattle.oasis_records.specs.declared.record.Record.{Record};
 ghost use Rattle.oasis_figures.specs.declared.drawn.Drawn.TheVariants.{Placement as APlacement};
 ghost use Rattle.oasis_library.specs.inside.Kept.{begun, target_ref};
 ghost use Rattle.oasis_library.specs.inside.Taken.{IsTaken, grown};
 
-use crate::placement::{Placement, Target};
+use crate::placement::{PlacedCells, Target};
 use lvl_cells::Shapes;
 use lvl_grid::Map;
 use oasis_figures::{Drawn, Modal};
-use oasis_records::CellRef;
 use std::alloc::{AllocError, Global};
 use std::marker::Model;
 
@@ -18,7 +17,7 @@ use std::marker::Model;
 pub(crate) struct Drawing {
     pub(crate) name: Target,
     pub(crate) shapes: Shapes,
-    pub(crate) placements: Vec<Placement>,
+    pub(crate) placements: PlacedCells,
 }
 
 impl Model for Drawing {
@@ -29,7 +28,7 @@ impl Model for Drawing {
 
     ghost use Rattle.oasis_library.specs.inside.Kept.{target_ref};
 
-    ghost view = { λ d. record { name = target_ref d.name; shapes = d.shapes; placements = d.placements.items } };
+    ghost view = { λ d. record { name = target_ref d.name; shapes = d.shapes; placements = d.placements } };
 }
 
 impl Drawing {
@@ -40,7 +39,7 @@ impl Drawing {
         Drawing {
             name,
             shapes: Shapes::new(alloc),
-            placements: Vec::new(alloc),
+            placements: PlacedCells::new(alloc),
         }
     }
 
@@ -78,20 +77,8 @@ impl Drawing {
         let Some(cell) = modal.cell() else {
             unreachable!()
         };
-        let target = self.target_for(alloc, cell)?;
         let shifts = modal.shifts().clone()?;
-        self.placements.push(Placement::new(target, by, shifts))?;
+        self.placements.push(alloc, cell, by, shifts)?;
         Ok(())
-    }
-
-    // The target of a placement of that cell. It shares the name of the last placement if that is of the
-    // same cell.
-    fn target_for(&self, alloc: Global, cell: &CellRef) -> Result<Target, AllocError>
-        ensures { IfOk result (λ target. target_ref target ≡ cell.now) }
-    {
-        match self.placements.last() {
-            Some(last) => last.target_for(alloc, cell),
-            None => Target::of(alloc, cell),
-        }
     }
 }

@@ -1,8 +1,9 @@
 //! Placements of cells that are given by the numbers of their names or by their names.
-ghost use Rattle.std.specs.Prelude.{◌≡◌, IfOk, IsTrue, All};
+ghost use Rattle.std.specs.Prelude.{◌≡◌, ◌<◌, ◌++◌, ◌∷◌, [], length, map, IfOk, OnOk, IsTrue, All};
 ghost use Rattle.lvl_grid.specs.Turn.{FitsPoint, shifted};
-ghost use Rattle.oasis_library.specs.inside.Kept.{target_ref};
+ghost use Rattle.oasis_library.specs.inside.Kept.{target_ref, placed, placed_from, GoesOn, IsKeyOf};
 
+use lvl_cells::Placements;
 use lvl_grid::Map;
 use lvl_names::{Name, Offsets};
 use oasis_records::CellRef;
@@ -42,70 +43,81 @@ impl Target {
             _ => false,
         }
     }
-
-    /// The same target. It shares the name.
-    pub(crate) fn share(&self) -> Result<Target, AllocError>
-        ensures { IfOk result (λ target. target ≡ self.now) }
-    {
-        match self {
-            Target::Number(number) => Ok(Target::Number(*number)),
-            Target::Name(name) => {
-                let name = name.clone()?;
-                Ok(Target::Name(name))
-            }
-        }
-    }
 }
 
-/// A cell that is placed by a map, at each of the shifts. Every place fits in 64 signed bits.
+/// The placements of a cell, in the order of the file. What consecutive placements of the same cell
+/// share is kept once.
 #[derive(Drop)]
-pub(crate) struct Placement {
-    pub(crate) target: Target,
-    pub(crate) by: Map,
-    pub(crate) shifts: Offsets,
+pub(crate) struct PlacedCells {
+    targets: Vec<Target>,
+    placements: Placements,
 }
 
-impl Model for Placement {
-    ghost use Rattle.std.specs.Prelude.{All};
-    ghost use Rattle.lvl_grid.specs.Turn.{FitsPoint, shifted};
+impl Model for PlacedCells {
+    ghost use Rattle.std.specs.Prelude.{◌<◌, List, length, map, All};
     ghost use Rattle.oasis_figures.specs.Figures.{Placed};
 
-    ghost Value = { Placed };
+    ghost Value = { List Placed };
 
-    ghost use Rattle.oasis_library.specs.inside.Kept.{target_ref};
+    ghost use Rattle.oasis_library.specs.inside.Kept.{placed_from};
 
-    ghost view = { λ p. record {
-      cell = target_ref p.target;
-      flip = p.by.flip;
-      turn = p.by.turn;
-      at = p.by.at;
-      shifts = p.shifts;
-    } };
+    ghost view = { λ p. map (placed_from p.targets.items) p.placements };
 
-    ghost invariant = { λ p. All (λ e. FitsPoint (shifted p.by.at e)) p.shifts };
+    ghost invariant = { λ p. All (λ q. q.key < length p.targets.items) p.placements };
 }
 
-impl Placement {
-    pub(crate) fn new(target: Target, by: Map, shifts: Offsets) -> Placement
-        requires { All (λ e. FitsPoint (shifted by.at e)) shifts }
-        ensures { result ≡ record {
-          cell = target_ref target;
-          flip = by.flip;
-          turn = by.turn;
-          at = by.at;
-          shifts = shifts;
-        } }
+/// The index of a cell among the targets. Keeps the cell, unless it is the last that was kept.
+fn key_of(targets: &mut Vec<Target>, alloc: Global, cell: &CellRef) -> Result<usize, AllocError>
+    ensures key { IfOk result (λ k. IsKeyOf targets.new.items k cell.now) }
+    ensures before { GoesOn targets.old.items targets.new.items }
+{
+    if let Some(last) = targets.last() {
+        if last.is(cell) {
+            return Ok(targets.len() - 1);
+        }
+    }
+    let key = targets.len();
+    let target = Target::of(alloc, cell)?;
+    targets.push(target)?;
+    Ok(key)
+}
+
+impl PlacedCells {
+    /// No placements.
+    pub(crate) fn new(alloc: Global) -> PlacedCells
+        ensures { result ≡ [] }
     {
-        Placement { target, by, shifts }
+        PlacedCells {
+            targets: Vec::new(alloc),
+            placements: Placements::new(alloc),
+        }
     }
 
-    /// The target of a placement of that cell. It shares the name of this one if that is the same.
-    pub(crate) fn target_for(&self, alloc: Global, cell: &CellRef) -> Result<Target, AllocError>
-        ensures { IfOk result (λ target. target_ref target ≡ cell.now) }
+    /// Adds a placement of the cell by the map, at each of the shifts.
+    pub(crate) fn push(
+        &mut self,
+        alloc: Global,
+        cell: &CellRef,
+        by: Map,
+        shifts: Offsets,
+    ) -> Result<(), AllocError>
+        requires { All (λ e. FitsPoint (shifted by.at e)) shifts }
+        ensures { OnOk result (self.new ≡ self.old ++ placed cell.now by shifts ∷ []) }
     {
-        if self.target.is(cell) {
-            return self.target.share();
-        }
-        Target::of(alloc, cell)
+        let key = key_of(&mut self.targets, alloc, cell)?;
+        self.placements.push(key, by, shifts)?;
+        Ok(())
+    }
+
+    /// The cells that are placed, and for each placement the index of its cell among them.
+    pub(crate) fn into_parts(self) -> (Vec<Target>, Placements)
+        ensures placed { map (placed_from result.0.items) result.1 ≡ self }
+        ensures keys { All (λ p. p.key < length result.0.items) result.1 }
+    {
+        let PlacedCells {
+            targets,
+            placements,
+        } = self;
+        (targets, placements)
     }
 }

@@ -1,73 +1,113 @@
 //! Replaces the numbers of cells by their names.
-ghost use Rattle.std.specs.Prelude.{◌≡◌, List, [], ◌∷◌, Some, IfOk, IfErr, flat_map};
+ghost use Rattle.std.specs.Prelude.{◌≡◌, ◌<◌, List, [], ◌∷◌, Some, IfOk, IfErr, IfSome, IfNone, flat_map, length, All};
 ghost use Rattle.std.specs.List.{AllZip};
 ghost use Rattle.lvl_refusal.specs.Refused.{Says};
 ghost use Rattle.oasis_records.specs.declared.cell.CellName.{CellName as Given};
 ghost use Rattle.oasis_stream.specs.Names.{meant};
 ghost use Rattle.oasis_library.specs.Names.{IsReference, IsCell, AreCells, number_in, numbers_in, numbers_used};
-ghost use Rattle.oasis_library.specs.Names.{IsUnnamed};
+ghost use Rattle.oasis_library.specs.Names.{IsNamed, IsUnnamed};
 ghost use Rattle.oasis_library.specs.inside.Holds.{HoldsNames};
-ghost use Rattle.oasis_library.specs.inside.Kept.{target_ref};
+ghost use Rattle.oasis_library.specs.inside.Kept.{target_ref, placed_from};
+ghost use Rattle.oasis_library.specs.inside.Resolved.{IsNameOf};
 
 use crate::drawing::Drawing;
 use crate::names::Names;
-use crate::placement::{Placement, Target};
-use lvl_cells::{Cell, Reference};
+use crate::placement::{PlacedCells, Target};
+use lvl_cells::{Cell, Placements, References};
 use lvl_names::Name;
 use lvl_refusal::Cause;
-use std::alloc::Global;
+use std::alloc::{AllocError, Global};
 
 // The name of the target, or its number if no name has it.
-fn name_of_target(names: &Names, target: Target) -> Result<Name, Cause<u64>>
+fn name_of_target(names: &Names, target: &Target) -> Result<Name, Cause<u64>>
     ensures ok { IfOk result (λ name. (given : List Given) → HoldsNames names.now given
-        → meant given (target_ref target) ≡ Some name) }
+        → meant given (target_ref target.now) ≡ Some name) }
     ensures err { IfErr result (λ e. Says e (λ number. (given : List Given) → HoldsNames names.now given
-        → IsUnnamed given (number_in (target_ref target)) number)) }
+        → IsUnnamed given (number_in (target_ref target.now)) number)) }
 {
     match target {
-        Target::Number(number) => match names.get(number) {
+        Target::Number(number) => match names.get(*number) {
             Some(name) => {
                 let name = name.clone()?;
                 Ok(name)
             }
-            None => Err(Cause::Breach(number)),
+            None => Err(Cause::Breach(*number)),
         },
-        Target::Name(name) => Ok(name),
+        Target::Name(name) => {
+            let name = name.clone()?;
+            Ok(name)
+        }
     }
 }
 
-// The reference that the placement is.
-fn reference_of(names: &Names, placement: Placement) -> Result<Reference, Cause<u64>>
-    ensures ok { IfOk result (λ reference. (given : List Given) → HoldsNames names.now given
-        → IsReference given placement reference) }
-    ensures err { IfErr result (λ e. Says e (λ number. (given : List Given) → HoldsNames names.now given
-        → IsUnnamed given (number_in placement.cell) number)) }
+// The number of the target, if no name has it.
+fn unnamed_number(names: &Names, target: &Target) -> Option<u64>
+    ensures some { IfSome result (λ number. (given : List Given) → HoldsNames names.now given
+        → IsUnnamed given (number_in (target_ref target.now)) number) }
+    ensures none { IfNone result ((given : List Given) → HoldsNames names.now given
+        → All (IsNamed given) (number_in (target_ref target.now))) }
 {
-    let Placement { target, by, shifts } = placement;
-    let name = name_of_target(names, target)?;
-    match Reference::new(name, by.flip, by.turn, by.at, shifts) {
-        Some(reference) => Ok(reference),
-        None => unreachable!(),
+    match target {
+        Target::Number(number) => match names.get(*number) {
+            Some(_) => None,
+            None => Some(*number),
+        },
+        Target::Name(_) => None,
     }
 }
 
-// The references of a cell, in the order of its placements.
+// The first number among the placed cells that no name has.
+fn first_unnamed(names: &Names, targets: &[Target], placements: &Placements) -> Option<u64>
+    requires { All (λ p. p.key < length targets.now) placements.now }
+    ensures some { IfSome result (λ number. (given : List Given) → HoldsNames names.now given
+        → IsUnnamed given (flat_map (λ p. number_in (placed_from targets.now p).cell) placements.now) number) }
+    ensures none { IfNone result ((given : List Given) → HoldsNames names.now given
+        → All (IsNamed given) (flat_map (λ p. number_in (placed_from targets.now p).cell) placements.now)) }
+{
+    for j in 0..placements.len() {
+        let target = &targets[placements.key(j)];
+        if let Some(number) = unnamed_number(names, target) {
+            return Some(number);
+        }
+    }
+    None
+}
+
+// The names of the targets. A target has an empty one if no name has its number.
+fn names_of(alloc: Global, names: &Names, targets: &[Target]) -> Result<Vec<Name>, AllocError>
+    ensures many { IfOk result (λ named. length named.items ≡ length targets.now) }
+    ensures named { IfOk result (λ named. (given : List Given) → HoldsNames names.now given
+        → AllZip (IsNameOf given) targets.now named.items) }
+{
+    let mut named = Vec::with_capacity(alloc, targets.len())?;
+    for target in targets {
+        let name = match name_of_target(names, target) {
+            Ok(name) => name,
+            Err(Cause::Breach(_)) => Name::new(Vec::new(alloc))?,
+            Err(Cause::OutOfMemory) => return Err(AllocError),
+        };
+        named.push(name)?;
+    }
+    Ok(named)
+}
+
+// The references that the placements of a cell are.
 fn references_of(
     alloc: Global,
     names: &Names,
-    placements: Vec<Placement>,
-) -> Result<Vec<Reference>, Cause<u64>>
+    placed: PlacedCells,
+) -> Result<References, Cause<u64>>
     ensures ok { IfOk result (λ references. (given : List Given) → HoldsNames names.now given
-        → AllZip (IsReference given) placements.items references.items) }
+        → AllZip (IsReference given) placed references) }
     ensures err { IfErr result (λ e. Says e (λ number. (given : List Given) → HoldsNames names.now given
-        → IsUnnamed given (flat_map (λ p. number_in p.cell) placements.items) number)) }
+        → IsUnnamed given (flat_map (λ p. number_in p.cell) placed) number)) }
 {
-    let mut references = Vec::new(alloc);
-    for placement in placements {
-        let reference = reference_of(names, placement)?;
-        references.push(reference)?;
+    let (targets, placements) = placed.into_parts();
+    if let Some(number) = first_unnamed(names, &targets, &placements) {
+        return Err(Cause::Breach(number));
     }
-    Ok(references)
+    let named = names_of(alloc, names, &targets)?;
+    Ok(References::of(named, placements))
 }
 
 // The cell that the drawing is. Its own number is looked up before those of the cells that it
@@ -82,7 +122,7 @@ fn cell_of(alloc: Global, names: &Names, drawing: Drawing) -> Result<Cell, Cause
         shapes,
         placements,
     } = drawing;
-    let name = name_of_target(names, name)?;
+    let name = name_of_target(names, &name)?;
     let references = references_of(alloc, names, placements)?;
     Ok(Cell {
         name: Vec::from_slice(alloc, name.as_bytes())?,

@@ -1,39 +1,36 @@
-use Rattle.std.proofs.Common.{sym, ◌∙◌, subst}
-use Rattle.std.proofs.lemmas.List.{nil_from_length}
+use Rattle.std.proofs.Common.{◌≡◌, ℕ, List, All, ap, sym, subst, ◌∙◌, map}
+use Rattle.std.specs.Prelude.{flat_map}
 use Rattle.std.specs.List.{AllZip}
+use Rattle.std.proofs.lemmas.List.Folds.{flat_map-map}
+use Rattle.lvl_cells.specs.Cells.{PlainPlacement, reference_to}
 use Rattle.oasis_figures.specs.Figures.{Placed}
-use Rattle.oasis_library.specs.Names.{IsReference, number_in}
-use Rattle.oasis_library.proofs.Resolving.{zip-snoc, references_named, rest_goes, rest_ends, unnamed_there}
-use Rattle.oasis_library.proofs.Resolving.{says_carried}
+use Rattle.oasis_library.specs.Names.{IsNamed, IsReference, IsUnnamed, number_in}
+use Rattle.oasis_library.specs.declared.placement.Target.{Target}
+use Rattle.oasis_library.specs.inside.Kept.{placed_from}
+use Rattle.oasis_library.specs.inside.Resolved.{IsNameOf}
+use Rattle.oasis_library.proofs.Referring.{number_from, references_are}
 use Rattle.oasis_library.proofs.resolve.references_of.Goals as goal
 
-pub loop-placement-init : goal.loop-placement-init
-loop-placement-init c =
-    (c.into_iter-placement-iterator.ensures.into_iter_gives.0, λ given h. rw c.new-references.ensures.items tt)
-
-pub returns-in_err-reference-clause-err : goal.returns-in_err-reference-clause-err
-returns-in_err-reference-clause-err c =
-    says_carried _ _ c.from_residual.result c.in_err-reference.field-0.0
-    (λ n u given h. unnamed_there (λ (p : Placed). number_in p.cell) given c.args.placements.items
-    c.loop-placement.yielded c.loop-placement.placement-iterator.rest.items c.next.new.self.rest.items
-    c.in-Some.placement n
-    c.loop-placement.invariant.0 c.in-Some.ensures.steps.0 (references_named given c.loop-placement.yielded
-    c.loop-placement.references.items (c.loop-placement.invariant.1 given h)) (u given h))
-    c.in_err-reference.ensures.err c.from_residual.ensures
-
-pub loop-placement-preserved : goal.loop-placement-preserved
-loop-placement-preserved c = (
-  rest_goes c.args.placements.items c.loop-placement.yielded c.loop-placement.placement-iterator.rest.items
-      c.next.new.self.rest.items c.in-Some.placement c.loop-placement.invariant.0 c.in-Some.ensures.steps.0,
-  λ given h. rw c.in_ok-push.ensures.items (zip-snoc (IsReference given) c.loop-placement.yielded
-      c.loop-placement.references.items c.in-Some.placement c.in_ok-reference.reference
-      (c.loop-placement.invariant.1 given h) (c.in_ok-reference.ensures.ok given h)),
-)
+pub returns-in-Some-clause-err : goal.returns-in-Some-clause-err
+returns-in-Some-clause-err c = λ given h.
+    let targets : List Target = c.into_parts-targets.result.0.items in
+    let ps : List PlainPlacement = c.into_parts-targets.result.1 in
+    let number : Placed → List ℕ = λ p. number_in p.cell in
+    let same : flat_map (number_from targets) ps ≡ flat_map number c.args.placed =
+    sym (flat_map-map number (placed_from targets) ps) ∙ ap (flat_map number) c.into_parts-targets.ensures.placed in
+    subst (λ ns. IsUnnamed given ns c.in-Some.number) same
+    (subst (λ ts. IsUnnamed given (flat_map (number_from ts) ps) c.in-Some.number) c.deref.ensures.value
+    (c.in-Some.ensures.some given h))
 
 pub returns-clause-ok : goal.returns-clause-ok
 returns-clause-ok c = λ given h.
-    let none = nil_from_length c.loop-placement.placement-iterator.rest.items
-    (sym c.loop-placement.placement-iterator.rest.ok.0 ∙ c.in-None.ensures.steps.0) in
-    subst (λ l. AllZip (IsReference given) l c.loop-placement.references.items)
-    (rest_ends c.args.placements.items c.loop-placement.yielded c.loop-placement.placement-iterator.rest.items
-    c.loop-placement.invariant.0 none) (c.loop-placement.invariant.1 given h)
+    let targets : List Target = c.into_parts-targets.result.0.items in
+    let ps : List PlainPlacement = c.into_parts-targets.result.1 in
+    let named : List (List ℕ) = c.in_ok-named.named.items in
+    subst (λ rs. AllZip (IsReference given) c.args.placed rs) (sym c.of.ensures)
+    (subst (λ qs. AllZip (IsReference given) qs (map (reference_to named) ps)) c.into_parts-targets.ensures.placed
+    (references_are given targets named ps
+    (subst (λ ts. AllZip (IsNameOf given) ts named) c.deref-2.ensures.value (c.in_ok-named.ensures.named given h))
+    c.into_parts-targets.ensures.keys
+    (subst (λ ts. All (IsNamed given) (flat_map (number_from ts) ps)) c.deref.ensures.value
+    (c.in_default.ensures.none given h))))

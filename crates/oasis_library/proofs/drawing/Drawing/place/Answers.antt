@@ -1,6 +1,6 @@
-use Rattle.std.proofs.Common.{◌∷◌, sym, ◌∙◌, ap}
-use Rattle.oasis_records.specs.declared.cell.CellRef.{CellRef}
-use Rattle.oasis_library.proofs.Taking.{known_cell, placed, placed_grown}
+use Rattle.std.proofs.Common.{◌∷◌, refl, sym, ◌∙◌}
+use Rattle.oasis_library.specs.inside.Kept.{placed}
+use Rattle.oasis_library.proofs.Taking.{known_cell, placed_grown}
 use Rattle.oasis_library.proofs.drawing.Drawing.place.Goals as goal
 
 pub unreachable-requires : goal.unreachable-requires
@@ -10,7 +10,8 @@ unreachable-requires c =
 
 pub returns : goal.returns
 returns c = λ earlier r t.
-    rw (c.in_ok-push.ensures.items, ← c.self.view_is)
-    (placed_grown earlier r c.args.by c.args.modal.now _ c.new.result c.in-Some.cell.now c.in_ok-shifts.shifts t
+    rw (c.in_ok-push.ensures, ← c.self.view_is)
+    (placed_grown earlier r c.args.by c.args.modal.now _ (placed c.in-Some.cell.now c.args.by c.in_ok-shifts.shifts)
+    c.in-Some.cell.now c.in_ok-shifts.shifts t
     (c.in-Some.ensures (r ∷ earlier) t.stands) (c.in_ok-shifts.ensures.cases ∙ c.shifts.ensures r earlier t.stands)
-    (c.new.ensures ∙ ap (λ (k : CellRef). placed k c.args.by c.in_ok-shifts.shifts) c.in_ok-target.ensures))
+    refl)
