@@ -1,5 +1,5 @@
 //! Libraries in a few words, and what the check says of them.
-use lvl_cells::{Cell, CellFault, Checked, Library, Reference, Shapes, check};
+use lvl_cells::{Cell, CellFault, Checked, Library, Reference, References, Shapes, check};
 use lvl_grid::{Point, Ring, Turn};
 use lvl_names::{Layer, Name, Offsets};
 use lvl_refusal::Cause;
@@ -46,7 +46,7 @@ pub(crate) fn empty(alloc: Global, name: &[u8]) -> Result<Cell, AllocError> {
     Ok(Cell {
         name: Vec::from_slice(alloc, name)?,
         shapes: Shapes::new(alloc),
-        references: Vec::new(alloc),
+        references: References::new(alloc),
     })
 }
 

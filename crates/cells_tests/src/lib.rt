@@ -12,6 +12,8 @@ mod counts;
 #[cfg(test)]
 mod offsets;
 #[cfg(test)]
+mod references;
+#[cfg(test)]
 mod shared;
 #[cfg(test)]
 mod shifts;

@@ -1,5 +1,5 @@
 //! What small libraries flatten to.
-use lvl_cells::{Cell, Checked, Library, Reference, Shapes, check};
+use lvl_cells::{Cell, Checked, Library, Reference, References, Shapes, check};
 use lvl_flat::{Flat, FlatFault, flatten};
 use lvl_grid::{Map, Point, Ring, Rings, Square, Turn};
 use lvl_names::{Layer, Name, Offsets};
@@ -38,7 +38,7 @@ fn with_ring(alloc: Global, name: &str, layer: Layer, ring: &Ring) -> Result<Cel
     Ok(Cell {
         name: Vec::from_slice(alloc, name.as_bytes())?,
         shapes,
-        references: Vec::new(alloc),
+        references: References::new(alloc),
     })
 }
 
@@ -56,7 +56,7 @@ fn reference(alloc: Global, placed: &str, map: Map) -> Result<Reference, Fail> {
 
 /// A cell that places another by the map.
 fn placing(alloc: Global, name: &str, placed: &str, map: Map) -> Result<Cell, Fail> {
-    let mut references = Vec::new(alloc);
+    let mut references = References::new(alloc);
     references.push(reference(alloc, placed, map)?)?;
     Ok(Cell {
         name: Vec::from_slice(alloc, name.as_bytes())?,

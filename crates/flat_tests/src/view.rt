@@ -1,5 +1,5 @@
 //! Layers mapped and windows shown: flat layouts compared as a view says.
-use lvl_cells::{Cell, Shapes};
+use lvl_cells::{Cell, References, Shapes};
 use lvl_compare::{difference_by, first_difference_in};
 use lvl_flat::{Flat, flatten_shapes};
 use lvl_grid::{Point, Ring, Square, Window};
@@ -45,7 +45,7 @@ pub fn flat_of(alloc: Global, boxes: &[LayerBox]) -> Result<Flat, Fail> {
     let cell = Cell {
         name: Vec::from_slice(alloc, b"TOP")?,
         shapes,
-        references: Vec::new(alloc),
+        references: References::new(alloc),
     };
     Ok(flatten_shapes(alloc, &cell)?)
 }

@@ -3,7 +3,7 @@
 use gds_library::{ElementRule, GdsFault, GdsKind, Misplaced, read_gds};
 use gds_records::fake::{SQUARE, Stream};
 use gds_records::record_type;
-use lvl_cells::{CellFault, Library, MovedRing, Reference, Shapes, check};
+use lvl_cells::{CellFault, KeptReference, Library, MovedRing, Shapes, check};
 use lvl_grid::{Point, Turn};
 use lvl_io::fake::Pieces;
 use lvl_path::PathFault;
@@ -94,7 +94,7 @@ fn goes_along(ring: &MovedRing<'_>, want: &[(i64, i64)]) -> bool {
 }
 
 /// Whether these are the shifts of the reference.
-fn shifts_by(reference: &Reference, want: &[(i64, i64)]) -> bool {
+fn shifts_by(reference: &KeptReference<'_>, want: &[(i64, i64)]) -> bool {
     if reference.shifts().len() != want.len() as u64 {
         return false;
     }
@@ -107,7 +107,7 @@ fn shifts_by(reference: &Reference, want: &[(i64, i64)]) -> bool {
 }
 
 /// The reference is to A, at the origin and as it is, three columns by two rows.
-fn check_tiles(rt: &impl Abort, reference: &Reference) {
+fn check_tiles(rt: &impl Abort, reference: &KeptReference<'_>) {
     assert_eq!(rt; reference.cell(), b"A".as_slice());
     assert_eq!(rt; reference.at(), Point { x: 0, y: 0 });
     assert_eq!(rt; reference.flip(), false);
@@ -123,7 +123,7 @@ fn array_tiles(rt: HostRuntime) -> Result<(), Fail> {
     let cell = library.cells.get(1).ok_or("a cell")?;
     assert_eq!(rt; cell.shapes.len(), 0);
     assert_eq!(rt; cell.references.len(), 1);
-    check_tiles(&rt, cell.references.first().ok_or("a reference")?);
+    check_tiles(&rt, &cell.references.get(0).ok_or("a reference")?);
     Ok(())
 }
 
@@ -178,7 +178,7 @@ fn with_turned(alloc: Global) -> Result<Vec<u8>, AllocError> {
 }
 
 /// The reference is to AB, reflected and turned, at one place.
-fn check_turned(rt: &impl Abort, reference: &Reference) {
+fn check_turned(rt: &impl Abort, reference: &KeptReference<'_>) {
     assert_eq!(rt; reference.cell(), b"AB".as_slice());
     assert_eq!(rt; reference.flip(), true);
     assert_eq!(rt; reference.turn(), Turn::R90);
@@ -191,7 +191,7 @@ fn flip_then_turn(rt: HostRuntime) -> Result<(), Fail> {
     let stream = with_turned(rt.alloc())?;
     let library = read(rt.alloc(), &stream)?;
     let cell = library.cells.first().ok_or("a cell")?;
-    check_turned(&rt, cell.references.first().ok_or("a reference")?);
+    check_turned(&rt, &cell.references.get(0).ok_or("a reference")?);
     Ok(())
 }
 

@@ -2,7 +2,7 @@
 
 use anyhow::{Context, Result};
 use gds_records::fake::Stream;
-use lvl_cells::{Cell, Library, Reference, Shapes};
+use lvl_cells::{Cell, Library, Reference, References, Shapes};
 use lvl_grid::{Point, Ring, Turn};
 use lvl_names::{Layer, Name, Offsets};
 use std::alloc::Global;
@@ -48,10 +48,16 @@ fn placed(alloc: Global, cell: u64, a: (Point, u64), b: (Point, u64)) -> Result<
     Reference::new(name, false, Turn::R0, at, shifts).context("no reference")
 }
 
+fn one_reference(alloc: Global, reference: Reference) -> Result<References> {
+    let mut references = References::new(alloc);
+    references.push(reference)?;
+    Ok(references)
+}
+
 /// So many cells, the first of which places each of the others once.
 pub fn flat_library(alloc: Global, count: u64) -> Result<Library> {
     let mut cells = Vec::new(alloc);
-    let mut references = Vec::new(alloc);
+    let mut references = References::new(alloc);
     let one = (Point { x: 0, y: 0 }, 1);
     for number in 1..count {
         references.push(placed(alloc, number, one, one)?)?;
@@ -65,7 +71,7 @@ pub fn flat_library(alloc: Global, count: u64) -> Result<Library> {
         cells.push(Cell {
             name: name(alloc, number)?,
             shapes: Shapes::new(alloc),
-            references: Vec::new(alloc),
+            references: References::new(alloc),
         })?;
     }
     Ok(Library { cells })
@@ -76,7 +82,7 @@ pub fn chain_library(alloc: Global, count: u64) -> Result<Library> {
     let mut cells = Vec::new(alloc);
     let one = (Point { x: 0, y: 0 }, 1);
     for number in 0..count {
-        let mut references = Vec::new(alloc);
+        let mut references = References::new(alloc);
         if number + 1 < count {
             references.push(placed(alloc, number + 1, one, one)?)?;
         }
@@ -97,17 +103,17 @@ pub fn array_library(alloc: Global, outer: u64, inner: u64) -> Result<Library> {
     cells.push(Cell {
         name: name(alloc, 0)?,
         shapes: Shapes::new(alloc),
-        references: vec![in alloc; placed(alloc, 1, (right(2), 1), (up, outer))?]?,
+        references: one_reference(alloc, placed(alloc, 1, (right(2), 1), (up, outer))?)?,
     })?;
     cells.push(Cell {
         name: name(alloc, 1)?,
         shapes: Shapes::new(alloc),
-        references: vec![in alloc; placed(alloc, 2, (right(2), inner), (up, 1))?]?,
+        references: one_reference(alloc, placed(alloc, 2, (right(2), inner), (up, 1))?)?,
     })?;
     cells.push(Cell {
         name: name(alloc, 2)?,
         shapes: unit_square(alloc)?,
-        references: Vec::new(alloc),
+        references: References::new(alloc),
     })?;
     Ok(Library { cells })
 }

@@ -2,7 +2,7 @@
 
 use crate::library::{TOP, boxes, first_of, library_of};
 use crate::library_faults::bytes_of;
-use lvl_cells::{Cell, Library, Reference, Shapes};
+use lvl_cells::{Cell, Library, References, Shapes};
 use lvl_grid::{Point, Turn};
 use std::alloc::Global;
 use std::process::Abort;
@@ -98,8 +98,9 @@ fn repeats_shapes_at_many_places(rt: HostRuntime) -> Result<(), Fail> {
 }
 
 /// Each reference places a cell of that name once, at that place on the x-axis.
-fn check_references(rt: &impl Abort, references: &[Reference], name: &[u8], x: i64) {
-    for reference in references {
+fn check_references(rt: &impl Abort, references: &References, name: &[u8], x: i64) {
+    for j in 0..references.len() {
+        let reference = references.reference(j);
         assert_eq!(rt; reference.cell(), name);
         assert_eq!(rt; reference.at(), Point { x, y: 0 });
         assert_eq!(rt; reference.shifts().len(), 1);
@@ -110,7 +111,7 @@ fn check_references(rt: &impl Abort, references: &[Reference], name: &[u8], x: i
 fn check_placing(rt: &impl Abort, cell: &Cell, turn: Turn, flip: bool) -> Result<(), Fail> {
     assert_eq!(rt; cell.name.as_slice(), b"TOP".as_slice());
     assert_eq!(rt; cell.references.len(), 2);
-    let first = cell.references.first().ok_or("a reference")?;
+    let first = cell.references.get(0).ok_or("a reference")?;
     assert_eq!(rt; first.turn(), turn);
     assert_eq!(rt; first.flip(), flip);
     Ok(())

@@ -50,6 +50,19 @@ fn memory_of_point_lists(rt: HostRuntime) -> Result<(), Fail> {
     Ok(())
 }
 
+/// 1,000 records of two bytes place the cell of the placement before them.
+#[test]
+fn memory_of_placements(rt: HostRuntime) -> Result<(), Fail> {
+    let mut records = Vec::from_slice(rt.alloc(), b"\x11\x80\x01A")?;
+    for _ in 0..1000u32 {
+        records.extend_from_slice(b"\x11\x00")?;
+    }
+    let library = library_of(rt.alloc(), &[TOP, &records], 65_536)?;
+    let cell = library.cells.first().ok_or("a cell")?;
+    assert_eq!(rt; cell.references.len(), 1001);
+    Ok(())
+}
+
 /// A thousand cells with names of 127 bytes.
 fn long_names(alloc: Global) -> Result<Vec<u8>, Fail> {
     let mut records = Vec::new(alloc);

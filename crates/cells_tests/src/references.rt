@@ -1,0 +1,118 @@
+//! References of a cell: those that have the name or the shifts of the one before share them.
+use lvl_cells::{KeptReference, Reference, References};
+use lvl_grid::{Point, Turn};
+use lvl_names::{Name, Offsets};
+use std::alloc::Global;
+use std::test::Fail;
+
+/// How a row places its cell: once, by an array of that many columns, or at two places of a list.
+#[derive(Clone, Copy, Debug)]
+enum Places {
+    Once,
+    Columns(u64),
+    Listed,
+}
+
+/// The cell by its name, whether it is reflected, how it is turned, where it is placed first, and its places.
+type Row = (&'static str, bool, Turn, i64, Places);
+
+const ROWS: [Row; 10] = [
+    ("A", false, Turn::R0, 0, Places::Columns(3)),
+    ("A", true, Turn::R90, 1, Places::Columns(3)),
+    ("A", false, Turn::R180, 2, Places::Once),
+    ("B", false, Turn::R0, i64::MIN, Places::Once),
+    ("B", true, Turn::R270, 4, Places::Columns(2)),
+    ("A", false, Turn::R0, 5, Places::Columns(3)),
+    ("", false, Turn::R0, 6, Places::Listed),
+    ("AB", false, Turn::R0, 7, Places::Listed),
+    ("B", false, Turn::R0, i64::MAX, Places::Once),
+    ("B", true, Turn::R90, 9, Places::Columns(1)),
+];
+
+fn shifts_of(alloc: Global, places: Places) -> Result<Offsets, Fail> {
+    let right = Point { x: 5, y: 0 };
+    let up = Point { x: 0, y: 5 };
+    match places {
+        Places::Once => Ok(Offsets::single()),
+        Places::Columns(count) => Ok(Offsets::lattice(right, count, up, 1).ok_or("a lattice")?),
+        Places::Listed => {
+            let list = vec![in alloc; Point { x: 0, y: 0 }, right]?;
+            Ok(Offsets::new(list).ok_or("a list")?)
+        }
+    }
+}
+
+fn count_of(places: Places) -> u64 {
+    match places {
+        Places::Once => 1,
+        Places::Columns(count) => count,
+        Places::Listed => 2,
+    }
+}
+
+fn reference_of(alloc: Global, row: &Row) -> Result<Reference, Fail> {
+    let (cell, flip, turn, x, places) = *row;
+    let name = Name::new(Vec::from_slice(alloc, cell.as_bytes())?)?;
+    let shifts = shifts_of(alloc, places)?;
+    let made = Reference::new(name, flip, turn, Point { x, y: 0 }, shifts);
+    Ok(made.ok_or("places")?)
+}
+
+fn references(alloc: Global) -> Result<References, Fail> {
+    let mut references = References::new(alloc);
+    for row in &ROWS {
+        references.push(reference_of(alloc, row)?)?;
+    }
+    Ok(references)
+}
+
+/// Whether the reference is the one of the row.
+fn is_row(reference: &KeptReference<'_>, row: &Row) -> bool {
+    let (cell, flip, turn, x, places) = *row;
+    reference.cell() == cell.as_bytes()
+        && reference.flip() == flip
+        && reference.turn() == turn
+        && reference.at() == Point { x, y: 0 }
+        && reference.shifts().len() == count_of(places)
+}
+
+#[test]
+fn kept_references(rt: HostRuntime) -> Result<(), Fail> {
+    let references = references(rt.alloc())?;
+    assert_eq!(rt; references.len(), ROWS.len());
+    for (j, row) in ROWS.iter().enumerate() {
+        let is_there = match references.get(j) {
+            Some(reference) => is_row(&reference, row),
+            None => false,
+        };
+        assert!(rt; is_there, "{j}");
+    }
+    assert!(rt; references.get(ROWS.len()).is_none());
+    Ok(())
+}
+
+#[test]
+fn growths_of_references(rt: HostRuntime) -> Result<(), Fail> {
+    let references = references(rt.alloc())?;
+    assert_eq!(rt; references.len(), ROWS.len());
+    Ok(())
+}
+
+/// A thousand references to one cell, at a place each.
+fn many(alloc: Global) -> Result<References, Fail> {
+    let name = Name::new(Vec::from_slice(alloc, b"A")?)?;
+    let mut references = References::new(alloc);
+    for y in 0..1000 {
+        let at = Point { x: 0, y };
+        let made = Reference::new(name.clone()?, false, Turn::R0, at, Offsets::single());
+        references.push(made.ok_or("places")?)?;
+    }
+    Ok(references)
+}
+
+#[test]
+fn memory_of_references(rt: HostRuntime) -> Result<(), Fail> {
+    let references = many(rt.alloc())?;
+    assert_eq!(rt; references.len(), 1000);
+    Ok(())
+}
