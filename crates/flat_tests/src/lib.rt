@@ -10,6 +10,8 @@ mod flat;
 #[cfg(test)]
 mod made;
 #[cfg(test)]
+mod places;
+#[cfg(test)]
 mod strips;
 #[cfg(test)]
 mod view;

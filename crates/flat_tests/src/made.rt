@@ -12,7 +12,7 @@ use std::str;
 use std::test::Fail;
 
 /// A made number below `most`.
-fn made(seed: u64, shift: u32, most: u64) -> i64
+pub(crate) fn made(seed: u64, shift: u32, most: u64) -> i64
     requires shift { shift < 64 }
     requires most { 0 < most }
     requires small { most < 2 ^ 16 }
@@ -22,7 +22,7 @@ fn made(seed: u64, shift: u32, most: u64) -> i64
     ((seed >> shift) % most) as i64
 }
 
-fn next_made(seed: u64) -> u64 {
+pub(crate) fn next_made(seed: u64) -> u64 {
     seed.wrapping_mul(6_364_136_223_846_793_005)
         .wrapping_add(1_442_695_040_888_963_407)
 }

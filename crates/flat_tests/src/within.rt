@@ -7,7 +7,7 @@ use lvl_refusal::Cause;
 use std::alloc::Global;
 use std::test::Fail;
 
-const METAL: Layer = Layer {
+pub(crate) const METAL: Layer = Layer {
     layer: 1,
     datatype: 0,
 };
@@ -203,7 +203,7 @@ fn points_at_most(rt: HostRuntime) -> Result<(), Fail> {
 }
 
 /// A top that places A, which draws a rectangle of 4 by 2, at these shifts.
-fn spread(alloc: Global, shifts: Offsets) -> Result<Checked, Fail> {
+pub(crate) fn spread(alloc: Global, shifts: Offsets) -> Result<Checked, Fail> {
     let placed = to_a(alloc, false, Turn::R0, ORIGIN, shifts)?;
     let mut builder = Builder::new(alloc);
     add_drawing(alloc, &mut builder, b"A", &Offsets::single())?;
@@ -212,7 +212,7 @@ fn spread(alloc: Global, shifts: Offsets) -> Result<Checked, Fail> {
 }
 
 /// The same, but the top draws the rectangle itself at the shifts.
-fn drawn(alloc: Global, shifts: &Offsets) -> Result<Checked, Fail> {
+pub(crate) fn drawn(alloc: Global, shifts: &Offsets) -> Result<Checked, Fail> {
     let mut builder = Builder::new(alloc);
     add_drawing(alloc, &mut builder, b"TOP", shifts)?;
     Ok(check(alloc, builder.finish(), None)?)

@@ -1,9 +1,9 @@
 //! The shapes of a cell: the rings of all shapes are in one list, and each shape has a range of its
 //! indexes.
 ghost use Rattle.std.specs.Prelude.{◌≡◌, ◌<◌, ◌+◌, ◌^◌, ◌++◌, ◌∷◌, [], length, get_or, slice_get, IsTrue, ◌↔◌, IfOk};
-ghost use Rattle.std.specs.Prelude.{All, OnOk, OnErr};
+ghost use Rattle.std.specs.Prelude.{All, OnOk, OnErr, IfSome, IfNone};
 ghost use Rattle.lvl_grid.specs.Winding.{IsRing};
-ghost use Rattle.lvl_names.specs.Shifts.{IsBetween};
+ghost use Rattle.lvl_names.specs.Shifts.{IsBetween, one_place};
 ghost use Rattle.lvl_cells.specs.Cells.{shape_at};
 ghost use Rattle.lvl_cells.specs.inside.Spans.{GoesOn, HasNumber};
 
@@ -145,14 +145,26 @@ impl Shapes {
         MovedRing::new(points, move_of(&self.moves, span.moved))
     }
 
+    /// The shifts of the shape at this index, or None for the zero shift alone.
+    pub fn shifts(&self, i: usize) -> Option<&Offsets>
+        requires { i < length self.now }
+        ensures some { IfSome result (λ shifts. shifts.now ≡ (shape_at self.now i).shifts) }
+        ensures none { IfNone result ((shape_at self.now i).shifts ≡ one_place) }
+    {
+        match self.spans[i].shifts {
+            0 => None,
+            number => Some(&self.shifts[number as usize - 1]),
+        }
+    }
+
     /// The number of shifts of the shape at this index.
     pub fn shift_count(&self, i: usize) -> u64
         requires { i < length self.now }
         ensures { result ≡ length (shape_at self.now i).shifts }
     {
-        match self.spans[i].shifts {
-            0 => 1,
-            number => self.shifts[number as usize - 1].len(),
+        match self.shifts(i) {
+            Some(shifts) => shifts.len(),
+            None => 1,
         }
     }
 
@@ -161,9 +173,9 @@ impl Shapes {
         requires { i < length self.now }
         ensures { result ≡ slice_get (shape_at self.now i).shifts k }
     {
-        match self.spans[i].shifts {
-            0 => Offsets::single().at(k),
-            number => self.shifts[number as usize - 1].at(k),
+        match self.shifts(i) {
+            Some(shifts) => shifts.at(k),
+            None => Offsets::single().at(k),
         }
     }
 
@@ -172,9 +184,9 @@ impl Shapes {
         requires { i < length self.now }
         ensures { All (IsBetween result.0 result.1) (shape_at self.now i).shifts }
     {
-        match self.spans[i].shifts {
-            0 => Offsets::single().reach(),
-            number => self.shifts[number as usize - 1].reach(),
+        match self.shifts(i) {
+            Some(shifts) => shifts.reach(),
+            None => Offsets::single().reach(),
         }
     }
 

@@ -3,7 +3,6 @@ use Rattle.std.proofs.Common.{◌≡◌, ◌<◌, ◌≤◌, ◌++◌, ◌+◌, 
 use Rattle.std.proofs.Common.{List, [], length}
 use Rattle.std.proofs.Common.{◌∷◌, All, Any, take, map, set, slice_get, get_or, Some, refl, sym, ap, subst, ◌∙◌, arith}
 use Rattle.std.proofs.lemmas.List.{take_more, take_all}
-use Rattle.std.proofs.lemmas.List.Elements.{All-contains}
 use Rattle.std.proofs.lemmas.Option.{slice_get_within, get_or_from_slice_get}
 use Rattle.lvl_grid.specs.declared.point.Point.{Point}
 use Rattle.lvl_grid.specs.declared.point.Square.{Square}
@@ -25,7 +24,6 @@ use Rattle.lvl_flat.specs.Sheets.{AreSorted, rings_on}
 use Rattle.lvl_flat.specs.Boxes.{IsWithin, Fits}
 use Rattle.lvl_flat.specs.inside.Bounds.{IsOutside, IsInside}
 use Rattle.lvl_flat.specs.inside.Drawn.{FitsAtEach}
-use Rattle.lvl_flat.specs.inside.Passing.{IsMissed}
 use Rattle.lvl_flat.proofs.Holding.{fits_within}
 use Rattle.lvl_flat.proofs.Orders.{sorted_at, sorted_tail, rings_where}
 use Rattle.lvl_flat.proofs.Outside.{placed_square}
@@ -83,31 +81,6 @@ pub placed_ring_fits : (m : Map) (e : Point) (b placed : Bounds) (ring : List Po
     → ((p : Point) → IsWithin b p → IsWithin placed (placed_point m e p)) → All (IsWithin b) ring → FitsRing m e ring
 placed_ring_fits m e b placed ring fits holds all =
     λ k v lt. fits_within placed (placed_point m e (get_or ring k v)) fits (holds _ (all k v lt))
-
--- a ring whose box misses the window at all shifts adds nothing
-pub all_outside : (m : Map) (window : Window) (b : Bounds) (ring shifts : List Point) (old : Rings)
-    → All (IsWithin b) ring → All (IsMissed b m window) shifts → (q : Square)
-    → RingsCover old q
-    ↔ (RingsCover old q ⊎ (IsInWindow window q × Any (λ e. IsPlaceOfCovered m e ring q) shifts))
-all_outside m window b ring shifts old all missed q = (
-  λ a. inl a,
-  λ d. elim d [
-    | inl a ↦ a
-    | inr a ↦
-        let at = a.1 in
-        let out : IsMissed b m window at.1 =
-        All-contains (IsMissed b m window) shifts at.1 missed (at.0, at.2, at.3) in
-        absurd (out.outside.none q (placed_square m at.1 b out.placed ring q out.holds all at.4) a.0)
-  ],
-)
-
--- and its points fit
-pub all_outside_fits : (m : Map) (window : Window) (b : Bounds) (ring shifts : List Point) → All (IsWithin b) ring
-    → All (IsMissed b m window) shifts → FitsAtEach m shifts ring
-all_outside_fits m window b ring shifts all missed =
-    λ j e lj.
-    let out : IsMissed b m window (get_or shifts j e) = missed j e lj in
-    placed_ring_fits m (get_or shifts j e) b out.placed ring out.fits out.holds all
 
 -- a ring whose placed box is inside of the window adds all that it covers
 pub inside_adds : (m : Map) (e : Point) (window : Window) (b placed : Bounds) (ring : List Point) (old new : Rings)

@@ -16,4 +16,5 @@ pub mod Outside
 pub mod WindowWalk
 pub mod Cutting
 pub mod Runs
+pub mod Skipping
 pub mod Summing

@@ -1,5 +1,5 @@
 -- A flat layout under a map of Layers.
-use Rattle.std.specs.Prelude.{◌≡◌, ◌↔◌, List, [], if◌then◌else◌}
+use Rattle.std.specs.Prelude.{◌↔◌, List, [], if◌then◌else◌}
 use Rattle.std.specs.List.{flat_map}
 use Rattle.lvl_grid.specs.declared.point.Square.{Square}
 use Rattle.lvl_names.specs.declared.layer.Layer.{Layer}

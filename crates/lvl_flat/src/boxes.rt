@@ -21,7 +21,7 @@ use std::alloc::{AllocError, Global};
 use std::marker::Model;
 
 /// The origin of a cell, where chains from it begin: every box has it.
-const ORIGIN: Point = Point { x: 0, y: 0 };
+pub(crate) const ORIGIN: Point = Point { x: 0, y: 0 };
 
 /// The box of the shifts.
 pub(crate) fn bounds_of_shifts(shifts: &Offsets) -> Bounds

@@ -38,6 +38,7 @@ mod fitted;
 mod flat;
 mod layers;
 mod mapped;
+mod missed;
 mod passing;
 mod rows;
 mod shapes;

@@ -1,6 +1,6 @@
 //! The rows of a lattice of shifts, found by looking at some of the shifts.
-ghost use Rattle.std.specs.Prelude.{◌≡◌, ◌<◌, ◌-◌, ◌%◌, IsTrue};
-ghost use Rattle.lvl_flat.specs.inside.Passing.{HasRows};
+ghost use Rattle.std.specs.Prelude.{◌≤◌, ◌<◌, ◌+◌, ◌%◌, IsTrue};
+ghost use Rattle.lvl_flat.specs.inside.Passing.{HasRows, HasColumns};
 
 use lvl_grid::Point;
 use lvl_names::Offsets;
@@ -37,6 +37,7 @@ fn first_turn(shifts: &Offsets) -> u64 {
 pub(crate) fn has_rows(shifts: &Offsets, row: u64) -> bool
     ensures some { IsTrue result → 0 < row }
     ensures rows { IsTrue result → HasRows row shifts.now }
+    ensures columns { IsTrue result → HasColumns row shifts.now }
 {
     let zero = Point { x: 0, y: 0 };
     if row == 0 {
@@ -50,17 +51,28 @@ pub(crate) fn has_rows(shifts: &Offsets, row: u64) -> bool
     }
 }
 
-/// The number of shifts from index `from` to the end of its row.
+/// The number of shifts from index `from` to the end of its row, or 0 at the beginning of one.
 pub(crate) fn rest_of_row(from: u64, row: u64) -> u64
-    ensures { result ≡ row - from % row }
+    ensures { 0 < row → from % row + result ≤ row }
 {
-    if row == 0 { 0 } else { row - from % row }
+    if row == 0 || from % row == 0 {
+        return 0;
+    }
+    row - from % row
 }
 
 /// The length of the rows of the shifts, or 1 if they aren't found to be a lattice.
-pub(crate) fn row_length(shifts: &Offsets) -> u64
+fn row_length(shifts: &Offsets) -> u64
     ensures { HasRows result shifts.now }
 {
     let row = first_turn(shifts);
     if has_rows(shifts, row) { row } else { 1 }
+}
+
+/// The length of the rows if it is known, and not 0, or as [`row_length`] finds it.
+pub(crate) fn known_row(known: u64, shifts: &Offsets) -> u64 {
+    match known {
+        0 => row_length(shifts),
+        row => row,
+    }
 }

@@ -1,6 +1,5 @@
 //! The own shapes of a cell, placed by a map and clipped to a window.
 ghost use Rattle.std.specs.Prelude.{◌≡◌, ◌≢◌, ◌<◌, ◌↔◌, ◌⊎◌, [], length, get_or, map as list_map, All, OnOk, IfSome};
-ghost use Rattle.std.specs.Prelude.{IsTrue};
 ghost use Rattle.lvl_grid.specs.declared.point.Point.{Point as GridPoint};
 ghost use Rattle.lvl_grid.specs.declared.point.Square.{Square as GridSquare};
 ghost use Rattle.lvl_grid.specs.Clip.{IsWithin as IsInWindow};
@@ -12,14 +11,16 @@ ghost use Rattle.lvl_cells.specs.Coverage.{RingsCover};
 ghost use Rattle.lvl_flat.specs.Flattened.{FitsRing, FitShapes};
 ghost use Rattle.lvl_flat.specs.Sheets.{rings_on, AreSorted, HaveSheets};
 ghost use Rattle.lvl_flat.specs.Boxes.{IsWithin, Fits};
-ghost use Rattle.lvl_flat.specs.inside.Passing.{IsMissed};
 ghost use Rattle.lvl_flat.specs.inside.Drawn.{FitsAtEach, RingPlacesCover, ShapePlacesCover, ShapesPlaceCover};
 
 use crate::bounds::Bounds;
-use crate::boxes::bounds_of_shape_shifts;
+use crate::boxes::{ORIGIN, bounds_of_shifts};
 use crate::flat::{Sheet, place_of};
+use crate::missed::{LEAST_RUN, missed_from};
+use crate::rows::known_row;
 use lvl_cells::{MovedRing, Shapes};
 use lvl_grid::{Map, Part, PlaceFault, Point, Rings, Window};
+use lvl_names::Offsets;
 use std::alloc::Global;
 
 /// What drawing may still take: an allocator and a number of points.
@@ -125,16 +126,64 @@ fn draw_ring_at(
     draw_cut(alloc, rings, ring, shift, map, window)
 }
 
-/// Whether the bounds miss the window at all shifts of the shape at index `i`. Not tried for a
-/// single shift. `false` says nothing.
-fn misses_at_all(shapes: &Shapes, i: usize, bounds: Bounds, map: &Map, window: &Window) -> bool
-    requires { i < length shapes.now }
-    ensures { IsTrue result → All (IsMissed bounds map.now window.now) (shape_at shapes.now i).shifts }
+/// Appends a ring as [`draw_ring_at`] does, and takes room for its points. Returns how many points
+/// that are.
+fn draw_place(
+    room: &mut Room,
+    rings: &mut Rings,
+    ring: &MovedRing<'_>,
+    bounds: Bounds,
+    shift: Point,
+    map: &Map,
+    window: &Window,
+) -> Result<usize, PlaceFault>
+    requires ring { IsRing ring.now }
+    requires bounds { All (IsWithin bounds) ring.now }
+    ensures covers { OnOk result ((q : GridSquare) → RingsCover rings.new q
+        ↔ (RingsCover rings.old q ⊎ (IsInWindow window.now q × IsPlaceOfCovered map.now shift ring.now q))) }
+    ensures fits { OnOk result (FitsRing map.now shift ring.now) }
+    ensures out { result ≡ Err PlaceFault.OutOfRange → ¬ FitsRing map.now shift ring.now }
 {
-    if shapes.shift_count(i) == 1 {
-        return false;
+    let held = rings.points().len();
+    draw_ring_at(room.alloc, rings, ring, bounds, shift, map, window)?;
+    let drawn = rings.points().len().saturating_sub(held);
+    room.take(drawn)?;
+    Ok(drawn)
+}
+
+/// Appends a ring whose points are within `bounds` at each of the shifts, placed by the map and
+/// clipped to the window. Skips runs of places at which the bounds miss the window.
+fn draw_places(
+    room: &mut Room,
+    rings: &mut Rings,
+    ring: &MovedRing<'_>,
+    bounds: Bounds,
+    shifts: &Offsets,
+    map: &Map,
+    window: &Window,
+) -> Result<(), PlaceFault>
+    requires ring { IsRing ring.now }
+    requires bounds { All (IsWithin bounds) ring.now }
+    ensures covers { OnOk result ((q : GridSquare) → RingsCover rings.new q
+        ↔ (RingsCover rings.old q ⊎ (IsInWindow window.now q × RingPlacesCover map.now shifts.now q ring.now))) }
+    ensures fits { OnOk result (FitsAtEach map.now shifts.now ring.now) }
+    ensures out { result ≡ Err PlaceFault.OutOfRange → ¬ FitsAtEach map.now shifts.now ring.now }
+{
+    if bounds.misses_moved(bounds_of_shifts(shifts), map, window) {
+        return Ok(());
     }
-    bounds.misses_moved(bounds_of_shape_shifts(shapes, i), map, window)
+    let count = shifts.len();
+    let mut row = 0;
+    let mut k = 0;
+    while let Some(shift) = shifts.at(k) {
+        let drawn = draw_place(room, rings, ring, bounds, shift, map, window)?;
+        k += 1;
+        if drawn == 0 && count - k >= LEAST_RUN {
+            row = known_row(row, shifts);
+            k = missed_from(shifts, k, row, bounds, map, window);
+        }
+    }
+    Ok(())
 }
 
 /// Appends ring `j` of shape `i` at each of the shape's shifts, placed by the map and clipped to
@@ -160,18 +209,11 @@ fn draw_ring(
 {
     let ring = shapes.ring(i, j);
     let bounds = bounds_of_ring(&ring);
-    if misses_at_all(shapes, i, bounds, map, window) {
+    let Some(shifts) = shapes.shifts(i) else {
+        draw_place(room, rings, &ring, bounds, ORIGIN, map, window)?;
         return Ok(());
-    }
-    for k in 0..shapes.shift_count(i) {
-        let Some(shift) = shapes.shift(i, k) else {
-            unreachable!()
-        };
-        let held = rings.points().len();
-        draw_ring_at(room.alloc, rings, &ring, bounds, shift, map, window)?;
-        room.take(rings.points().len().saturating_sub(held))?;
-    }
-    Ok(())
+    };
+    draw_places(room, rings, &ring, bounds, shifts, map, window)
 }
 
 /// Appends the rings of shape `i`, each at each of the shape's shifts, placed by the map and

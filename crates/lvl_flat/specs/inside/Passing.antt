@@ -1,5 +1,5 @@
 -- Runs of places that a walk within a window skips.
-use Rattle.std.specs.Prelude.{◌≡◌, ◌≤◌, ◌<◌, ◌+◌, ◌/◌, ℕ, List, slice_get, Option, Some}
+use Rattle.std.specs.Prelude.{◌≡◌, ◌≤◌, ◌<◌, ◌+◌, ◌-◌, ◌*◌, ◌/◌, ◌%◌, ◌^◌, ℕ, List, slice_get, Option, Some}
 use Rattle.lvl_grid.specs.declared.point.Point.{Point}
 use Rattle.lvl_grid.specs.declared.point.Window.{Window}
 use Rattle.lvl_grid.specs.declared.map.Map.{Map}
@@ -40,13 +40,29 @@ pub record IsBetween (shifts : List Point) (i j k : ℕ) : Type 0 where
   pub between : (b : Bounds) (p e q : Point) → slice_get shifts i ≡ Some p → slice_get shifts j ≡ Some e
       → slice_get shifts k ≡ Some q → IsWithin b p → IsWithin b q → IsWithin b e
 
--- of the shifts with an index from `from` up to `to`, which is excluded, each is between any earlier and any later one
-pub record IsRun (shifts : List Point) (from to : ℕ) : Type 0 where
-  pub line : (i j k : ℕ) → from ≤ i → i ≤ j → j ≤ k → k < to → IsBetween shifts i j k
-
--- the same for the shifts of each row, which are `row` consecutive ones
+-- of the shifts of each row, which are `row` consecutive ones, each is between any earlier and any later one
 pub record HasRows (row : ℕ) (shifts : List Point) : Type 0 where
   pub line : (i j k : ℕ) → i ≤ j → j ≤ k → i / row ≡ k / row → IsBetween shifts i j k
+
+-- the same for the shifts at one place in each row
+pub record HasColumns (row : ℕ) (shifts : List Point) : Type 0 where
+  pub line : (i j k : ℕ) → i ≤ j → j ≤ k → i % row ≡ j % row → j % row ≡ k % row → IsBetween shifts i j k
+
+-- the box has the shift with this index, if there is one
+abbrev pub HoldsShift : List Point → Bounds → ℕ → Type 0
+HoldsShift shifts b k = (e : Point) → slice_get shifts k ≡ Some e → IsWithin b e
+
+-- the box has the first and the last of `row` shifts from index `from` on
+pub record HoldsEnds (shifts : List Point) (b : Bounds) (from row : ℕ) : Type 0 where
+  pub first : HoldsShift shifts b from
+  pub last : HoldsShift shifts b (from + (row - 1))
+
+-- of `count` rows of `row` shifts each from index `from` on: a box that has the ends of the first row and of another
+-- has all shifts from the first to that one. The indexes fit in 64 bits
+pub record IsRun (shifts : List Point) (from row count : ℕ) : Type 0 where
+  pub small : from + count * row < 2 ^ 64
+  pub held : (n j : ℕ) (b : Bounds) → n < count → HoldsEnds shifts b from row
+      → HoldsEnds shifts b (from + n * row) row → from ≤ j → j < from + (n + 1) * row → HoldsShift shifts b j
 
 -- the visit, at the place k of its reference
 abbrev pub at_place : Visit → ℕ → Visit

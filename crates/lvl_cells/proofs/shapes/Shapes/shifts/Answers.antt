@@ -2,7 +2,7 @@ use Rattle.std.proofs.Common.{◌≡◌, ◌≢◌, ◌<◌, length, arith, sym,
 use Rattle.lvl_cells.specs.Cells.{shape_at}
 use Rattle.lvl_cells.specs.inside.Spans.{numbered}
 use Rattle.lvl_cells.proofs.Spanned.{in_spans, shifts_read, numbered_is}
-use Rattle.lvl_cells.proofs.shapes.Shapes.shift_count.Goals as goal
+use Rattle.lvl_cells.proofs.shapes.Shapes.shifts.Goals as goal
 
 pub index-requires : goal.index-requires
 index-requires c =
@@ -16,20 +16,18 @@ index-requires-in_default c =
     c.index.ensures).0 in
     omega (arith, number, c.in_default, c.self.inside.shifts.ok.0)
 
-pub returns-in-0 : goal.returns-in-0
-returns-in-0 c =
+pub returns-in-0-clause-none : goal.returns-in-0-clause-none
+returns-in-0-clause-none c =
     let shifts : numbered c.self.inside.shifts.items c.index.result.now.shifts
     ≡ (shape_at c.args.self.now c.args.i).shifts =
     (shifts_read _ _ _ _ _ c.args.i c.index.result.now c.self.invariant c.self.view_is c.requires c.index.ensures).1 in
-    ap length (ap (λ n. numbered c.self.inside.shifts.items n) (sym c.in-0.is) ∙ shifts)
+    sym (ap (λ n. numbered c.self.inside.shifts.items n) (sym c.in-0.is) ∙ shifts)
 
-pub returns-in_default : goal.returns-in_default
-returns-in_default c =
+pub returns-in_default-clause-some : goal.returns-in_default-clause-some
+returns-in_default-clause-some c =
     let some : c.index.result.now.shifts ≢ 0 = omega (arith, c.in_default) in
     let read =
     shifts_read _ _ _ _ _ c.args.i c.index.result.now c.self.invariant c.self.view_is c.requires c.index.ensures in
-    let shifts : c.index-in_default.result.now ≡ (shape_at c.args.self.now c.args.i).shifts =
     c.index-in_default.ensures
     ∙ (sym (numbered_is c.self.inside.shifts.items c.index.result.now.shifts c.index-in_default.result.now some
-    read.0) ∙ read.1) in
-    c.len.ensures.count ∙ ap length shifts
+    read.0) ∙ read.1)
