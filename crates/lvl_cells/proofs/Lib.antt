@@ -16,3 +16,4 @@ pub mod Looking
 pub mod Moving
 pub mod Spanned
 pub mod Placed
+pub mod Listing

@@ -38,6 +38,7 @@ mod builder;
 mod checked;
 mod counts;
 mod fault;
+mod layers;
 mod library;
 mod moved;
 mod names;

@@ -11,7 +11,7 @@ ghost use Rattle.lvl_names.specs.Layers.{same_layer};
 use crate::layers::layers_of;
 use crate::times::times_of;
 use lvl_cells::{Checked, Shapes};
-use lvl_names::{Layer, comes_before};
+use lvl_names::{Layer, comes_before, in_order};
 use std::alloc::{AllocError, Global};
 
 /// A Layer and the number of rings that are placed on it.
@@ -35,14 +35,12 @@ fn no_counts(alloc: Global, layers: &[Layer]) -> Result<Vec<LayerRings>, AllocEr
 }
 
 /// A count of 0 for each of the Layers, in their order, without duplicates.
-fn counts_for(alloc: Global, mut layers: Vec<Layer>) -> Result<Vec<LayerRings>, AllocError>
+fn counts_for(alloc: Global, layers: Vec<Layer>) -> Result<Vec<LayerRings>, AllocError>
     ensures sorted { IfOk result (λ counts. AreSorted counts.items) }
     ensures layers { IfOk result (λ counts. All (Contains (map (λ c. c.layer) counts.items)) layers.items) }
     ensures zero { IfOk result (λ counts. All (λ c. c.rings ≡ 0) counts.items) }
 {
-    layers.sort()?;
-    layers.dedup();
-    no_counts(alloc, &layers)
+    no_counts(alloc, &in_order(layers)?)
 }
 
 /// The index of the count of a Layer.

@@ -2,3 +2,4 @@ pub mod Elements
 pub mod Layers
 pub mod Lattices
 pub mod Reaches
+pub mod Ordered

@@ -18,7 +18,7 @@
 //! ```
 #![tactic(auto)]
 
-pub use layer::{Layer, comes_before};
+pub use layer::{Layer, comes_before, in_order};
 pub use name::{MOST_NAME_BYTES, Name, is_name};
 pub use offsets::Offsets;
 

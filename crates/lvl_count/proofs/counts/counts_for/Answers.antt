@@ -1,25 +1,21 @@
 use Rattle.std.proofs.Common.{◌≡◌, ◌∙◌, refl, ap, map}
-use Rattle.std.proofs.lemmas.List.Filters.{dedup_is}
 use Rattle.std.proofs.lemmas.List.Elements.{All-map, All-same}
 use Rattle.std.proofs.lemmas.Result.{IfOk-weaker}
-use Rattle.lvl_names.specs.Layers.{same_layer}
 use Rattle.lvl_count.specs.declared.counts.LayerRings.{LayerRings}
 use Rattle.lvl_count.proofs.Listing.{no_rings, counts_rise, counts_there}
 use Rattle.lvl_count.proofs.counts.counts_for.Goals as goal
 
 pub returns-clause-sorted : goal.returns-clause-sorted
 returns-clause-sorted c =
-    let once = c.deref.ensures.value ∙ dedup_is same_layer _ _ c.dedup.ensures.filtered in
     IfOk-weaker c.no_counts.result _ _
-    (λ counts e. counts_rise c.sort.new.self.items counts.items c.in_ok-sort.ensures.sorted
-    (e ∙ ap (map no_rings) once)) c.no_counts.ensures
+    (λ counts e. counts_rise _ counts.items c.in_ok-in_order.ensures.rising
+    (e ∙ ap (map no_rings) c.deref.ensures.value)) c.no_counts.ensures
 
 pub returns-clause-layers : goal.returns-clause-layers
 returns-clause-layers c =
-    let once = c.deref.ensures.value ∙ dedup_is same_layer _ _ c.dedup.ensures.filtered in
     IfOk-weaker c.no_counts.result _ _
-    (λ counts e. counts_there c.args.layers.items c.sort.new.self.items counts.items
-    c.in_ok-sort.ensures.permutation (e ∙ ap (map no_rings) once)) c.no_counts.ensures
+    (λ counts e. counts_there c.args.layers.items _ counts.items c.in_ok-in_order.ensures.all
+    (e ∙ ap (map no_rings) c.deref.ensures.value)) c.no_counts.ensures
 
 pub returns-clause-zero : goal.returns-clause-zero
 returns-clause-zero c =

@@ -80,8 +80,8 @@ loop-j-preserved c =
           c.requires.within c.index-cells-place.is
           (ap (λ (d : PlainCell Rings). d.references) c.cell.view_is)
           (slice_get_within c.cell.inside.references c.loop-j.j c.reference-reference.result c.reference-reference.ensures)
-    (sym (get_or_from_slice_get c.cell.inside.references c.loop-j.j c.reference-reference.result
-    c.reference-reference.result c.reference-reference.ensures)) (w.len.ensures.count ∙ ap length w.shifts.ensures.all)
+          (sym (get_or_from_slice_get c.cell.inside.references c.loop-j.j c.reference-reference.result
+          c.reference-reference.result c.reference-reference.ensures)) (w.len.ensures.count ∙ ap length w.shifts.ensures.all)
           w.in-Some.ensures.target c.loop-j.invariant in
           subst
           (λ ts. IsPassing c.args.checked.now c.args.i

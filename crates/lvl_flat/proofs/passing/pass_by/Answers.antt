@@ -21,7 +21,7 @@ returns c = record {
       let at : slice_get cells c.args.visit.cell ≡ Some cell =
       subst (λ cs. slice_get cs c.args.visit.cell ≡ Some cell) c.cells.ensures.value listed in
       let references : c.cell.inside.references ≡ cell.references =
-    ap (λ (b : PlainCell Rings). b.references) c.cell.view_is in
+      ap (λ (b : PlainCell Rings). b.references) c.cell.view_is in
       let r : PlainReference = c.reference-reference.result in
       let found : slice_get c.cell.inside.references c.args.visit.reference ≡ Some r = c.reference-reference.ensures in
       let there : slice_get cell.references c.args.visit.reference ≡ Some r =

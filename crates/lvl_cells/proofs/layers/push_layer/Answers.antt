@@ -1,6 +1,6 @@
 use Rattle.std.proofs.Common.{[], ◌∷◌, All, Contains, subst, sym}
-use Rattle.lvl_count.proofs.Listing.{still_among}
-use Rattle.lvl_count.proofs.layers.push_layer.Goals as goal
+use Rattle.lvl_cells.proofs.Listing.{still_among}
+use Rattle.lvl_cells.proofs.layers.push_layer.Goals as goal
 
 pub returns-clause-kept : goal.returns-clause-kept
 returns-clause-kept c =

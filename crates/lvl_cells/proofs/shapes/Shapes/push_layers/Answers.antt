@@ -3,8 +3,8 @@ use Rattle.std.proofs.lemmas.List.{take_all}
 use Rattle.std.proofs.lemmas.List.Elements.{All-contains_itself, All-more}
 use Rattle.lvl_names.specs.declared.layer.Layer.{Layer}
 use Rattle.lvl_cells.specs.Cells.{PlainShape, Rings, shape_at}
-use Rattle.lvl_count.proofs.Listing.{among, among_those}
-use Rattle.lvl_count.proofs.layers.push_layers.Goals as goal
+use Rattle.lvl_cells.proofs.Listing.{among, among_those}
+use Rattle.lvl_cells.proofs.shapes.Shapes.push_layers.Goals as goal
 
 pub loop-i-init : goal.loop-i-init
 loop-i-init c = record {
@@ -14,7 +14,7 @@ loop-i-init c = record {
 
 pub loop-i-preserved : goal.loop-i-preserved
 loop-i-preserved c =
-    let shapes : List (PlainShape Rings) = c.args.shapes.now in
+    let shapes : List (PlainShape Rings) = c.args.self.now in
     let i = c.loop-i.i in
     let before : List Layer = c.loop-i.layers.items in
     let now : List Layer = c.push_layer.new.layers.items in
@@ -32,5 +32,5 @@ loop-i-preserved c =
 pub returns-clause-added : goal.returns-clause-added
 returns-clause-added c =
     subst (All (λ (h : PlainShape Rings). Contains c.loop-i.layers.items h.layer))
-    (take_all c.loop-i.i c.args.shapes.now (omega (arith, c.loop-i-test.false, c.len-i-end.ensures)))
+    (take_all c.loop-i.i c.args.self.now (omega (arith, c.loop-i-test.false, c.len-i-end.ensures)))
     c.loop-i.invariant.added
