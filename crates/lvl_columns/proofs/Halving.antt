@@ -123,15 +123,11 @@ open_by_one whole xs c best found result up one bound reported =
       faithful = all_but_last (IsTrueTo whole) xs c reported.faithful;
     }
 
--- a column whose lists are equal is done
-pub open_by_none : (whole : Lists) (xs : List Lists) (f g : List (List Point)) (best : Found) → f ≡ g
-    → IsOpen whole (xs ++ (f, g) ∷ []) best → IsOpen whole xs best
-open_by_none whole xs f g best e reported =
-    open_by_one whole xs (f, g) best None best
-    (record {
-      alone = tt;
-      least = λ s. inl (subst (λ (h : List (List Point)). SomeCovers f s ↔ SomeCovers h s) e (λ a. a, λ a. a));
-    }) (inl refl)
+-- a column whose lists cover the same squares is done
+pub open_by_none : (whole : Lists) (xs : List Lists) (f g : List (List Point)) (best : Found)
+    → ((s : Square) → SomeCovers f s ↔ SomeCovers g s) → IsOpen whole (xs ++ (f, g) ∷ []) best → IsOpen whole xs best
+open_by_none whole xs f g best same reported =
+    open_by_one whole xs (f, g) best None best (record { alone = tt; least = λ s. inl (same s) }) (inl refl)
     (λ s either. elim either [ inl n ↦ n | inr n ↦ absurd n ]) reported
 
 -- at the start the whole is one column

@@ -12,6 +12,7 @@ ghost use Rattle.lvl_columns.specs.Corners.{corners_of};
 
 use crate::cut::{cut_at, is_narrow};
 use crate::halves::halves_at;
+use crate::reordered::are_reordered;
 use lvl_grid::{Part, Rings, Square};
 use lvl_region::Side;
 use lvl_simplify::simplified;
@@ -79,6 +80,30 @@ fn clipped(alloc: Global, rings: &Rings, part: &Part) -> Result<Rings, AllocErro
     simplified(alloc, Rings::clipped(alloc, rings, part)?)
 }
 
+/// Rings in another order are looked for after each third cut: to look after each would cost more
+/// than it saves.
+const LOOKED_AFTER: u32 = 3;
+
+/// Whether two lists that come from `depth` cuts, one within the other, are found to have the same
+/// rings. `false` says nothing.
+fn have_same_rings(
+    alloc: Global,
+    first: &Rings,
+    second: &Rings,
+    depth: u32,
+) -> Result<bool, AllocError>
+    ensures { IfOk result
+        (λ same. IsTrue same → (s : GridSquare) → SomeCovers first.now s ↔ SomeCovers second.now s) }
+{
+    if first.is_same(second) {
+        return Ok(true);
+    }
+    if depth % LOOKED_AFTER != 0 {
+        return Ok(false);
+    }
+    are_reordered(alloc, first, second)
+}
+
 impl Progress {
     /// Compares two lists by a sweep of each.
     fn sweep(&mut self, alloc: Global, first: &Rings, second: &Rings) -> Result<(), AllocError>
@@ -118,7 +143,7 @@ impl Progress {
         ensures limit { OnOk result (self.old.columns ≤ self.old.most → KeepsLimit self.old self.new) }
         ensures work { OnOk result (work_left self.new ≤ work_left self.old) }
     {
-        if column.first.is_same(&column.second) {
+        if have_same_rings(alloc, &column.first, &column.second, column.depth)? {
             return Ok(());
         }
         if self.may_cut() {
@@ -271,7 +296,7 @@ pub fn compare_by_columns(
         (λ at. (s : GridSquare) → IsBefore s at.0 → SomeCovers first.now s ↔ SomeCovers second.now s)) }
     ensures columns { IfOk result (λ it. it.columns ≤ 2 * length (corners_of first.now second.now)) }
 {
-    if first.is_same(second) {
+    if have_same_rings(alloc, first, second, 0)? {
         return Ok(Comparison {
             found: None,
             columns: 0,

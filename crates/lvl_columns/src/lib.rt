@@ -30,6 +30,7 @@ mod estimate;
 mod folded;
 mod halves;
 mod passes;
+mod reordered;
 mod sample;
 mod slices;
 mod window;

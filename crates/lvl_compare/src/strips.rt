@@ -1,6 +1,6 @@
 //! Comparison of two libraries strip by strip, so that only what is drawn in one strip is in
 //! memory.
-ghost use Rattle.std.specs.Prelude.{◌≡◌, ◌<◌, ◌<ℤ◌, ◌≤ℤ◌, ◌↔◌, IsTrue, IfOk, IfSome, IfNone};
+ghost use Rattle.std.specs.Prelude.{◌≡◌, ◌<◌, ◌<ℤ◌, ◌≤ℤ◌, ◌↔◌, length, IsTrue, IfOk, IfSome, IfNone};
 ghost use Rattle.std.specs.Int.{int_min, int_max};
 ghost use Rattle.lvl_grid.specs.declared.point.Square.{Square as GridSquare};
 ghost use Rattle.lvl_grid.specs.Clip.{IsWithin};
@@ -11,6 +11,7 @@ ghost use Rattle.lvl_compare.specs.Tops.{DrawSame, IsFirstDifference};
 ghost use Rattle.lvl_compare.specs.inside.Strips.{Precedes, IsFoundIn, IsLeast, IsLeftIn, seen_of, up_to};
 
 use crate::flats::first_difference;
+use lvl_cells::Shapes;
 use lvl_flat::{Fitted, Flat};
 use lvl_grid::{Square, Window};
 use lvl_names::{Layer, comes_before};
@@ -28,13 +29,25 @@ pub(crate) type Found = (Layer, Square, Side);
 /// How wide the next strip may be, how many points the rings of a side may have in it, and how many
 /// more strips may be tried with this number of points.
 #[derive(Clone, Copy)]
-struct Pace {
+pub(crate) struct Pace {
     width: u64,
     points: usize,
     tries: u32,
 }
 
 impl Pace {
+    /// The pace of a search in strips of at most this width with at most this number of points on a
+    /// side.
+    pub(crate) fn new(width: u64, points: usize) -> Pace
+        ensures { result.width ≡ width }
+    {
+        Pace {
+            width,
+            points,
+            tries: MOST_TRIES,
+        }
+    }
+
     /// The pace after a strip of this width with at most this number of points on a side. The next
     /// strip may be as wide, or twice as wide if this one had at most half the points that it might
     /// have.
@@ -170,7 +183,7 @@ fn end_of(window: &Window, width: u64) -> i64
 }
 
 /// The distance between the left and the right border of a window, or 1 if that is 0.
-fn width_of(window: &Window) -> u64
+pub(crate) fn width_of(window: &Window) -> u64
     ensures { 0 < result }
 {
     let width = window.x0.abs_diff(window.x1);
@@ -235,24 +248,59 @@ fn first_strip(
     )
 }
 
-/// The first difference of two layouts within a window, which is searched strip by strip.
+/// The number of points of the top's own shapes at all their shifts.
+fn own_points(fitted: &Fitted) -> u64 {
+    let checked = fitted.checked();
+    let Some(top) = checked.cells().get(checked.top()) else {
+        return 0;
+    };
+    let mut points: u64 = 0;
+    for i in 0..top.shapes.len() {
+        points = points.saturating_add(points_of_shape(&top.shapes, i));
+    }
+    points
+}
+
+/// The number of points of a shape at all its shifts.
+fn points_of_shape(shapes: &Shapes, i: usize) -> u64
+    requires { i < length shapes.now }
+{
+    let mut points: u64 = 0;
+    for j in 0..shapes.ring_count(i) {
+        points = points.saturating_add(shapes.ring(i, j).len() as u64);
+    }
+    points.saturating_mul(shapes.shift_count(i))
+}
+
+/// How wide the first strip of a window should be, so that none need be tried again. If the shapes
+/// of the tops are spread evenly, there are `most` points or a little less in each strip.
+fn first_width(window: &Window, first: &Fitted, second: &Fitted, most: usize) -> u64
+    ensures { 0 < result }
+{
+    let points = own_points(first).max(own_points(second));
+    let strips = points
+        .saturating_add(points / 64)
+        .checked_div(most as u64)
+        .unwrap_or(0)
+        .saturating_add(1);
+    let width = width_of(window).checked_div(strips).unwrap_or(0);
+    width.saturating_add(1)
+}
+
+/// The first difference of two layouts within a window, which is searched strip by strip at a pace.
 pub(crate) fn difference_within(
     alloc: Global,
     first: &Fitted,
     second: &Fitted,
     view: &View,
     window: Window,
-    most: usize,
+    mut pace: Pace,
 ) -> Result<Option<Found>, AllocError>
+    requires { 0 < pace.width }
     ensures { IfOk result (IsFoundIn (TopCovers first.now)
         (IsMoved view.now.pairs (TopCovers second.now)) (IsWithin window)) }
 {
     let mut rest = window;
-    let mut pace = Pace {
-        width: width_of(&rest),
-        points: most,
-        tries: MOST_TRIES,
-    };
     let mut found = None;
     while rest.x0 < rest.x1 {
         let strip = first_strip(alloc, first, second, view, &rest, pace)?;
@@ -285,5 +333,6 @@ pub fn difference_by_strips(
         (IsMoved view.now.pairs (TopCovers second.now)) at.0 at.1 at.2)) }
 {
     let window = shared(joined(first.extent(), second.extent()), view.window());
-    difference_within(alloc, first, second, view, window, most)
+    let pace = Pace::new(first_width(&window, first, second, most), most);
+    difference_within(alloc, first, second, view, window, pace)
 }

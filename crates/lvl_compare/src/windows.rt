@@ -5,7 +5,7 @@ ghost use Rattle.lvl_view.specs.Moved.{IsMoved};
 ghost use Rattle.lvl_compare.specs.Parts.{IsSeenIn};
 ghost use Rattle.lvl_compare.specs.Tops.{DrawSame, IsFirstDifference};
 
-use crate::strips::{difference_within, least, shared};
+use crate::strips::{Pace, difference_within, least, shared, width_of};
 use lvl_flat::Fitted;
 use lvl_grid::{Square, Window};
 use lvl_names::Layer;
@@ -37,7 +37,8 @@ pub fn difference_in_windows(
     let mut found = None;
     for window in windows {
         let part = shared(*window, view.window());
-        let next = difference_within(alloc, first, second, view, part, most)?;
+        let pace = Pace::new(width_of(&part), most);
+        let next = difference_within(alloc, first, second, view, part, pace)?;
         found = least(found, next);
     }
     Ok(found)

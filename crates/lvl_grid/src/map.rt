@@ -28,12 +28,35 @@ pub struct Map {
     pub at: Point,
 }
 
+/// The point moved by a displacement, or None if a coordinate of it is outside 64 bits.
+fn sum(point: Point, by: Point) -> Option<Point>
+    ensures { SomeIff result (FitsPoint (shifted by point)) (shifted by point) }
+{
+    let x = point.x.checked_add(by.x)?;
+    let y = point.y.checked_add(by.y)?;
+    Some(Point { x, y })
+}
+
 impl Map {
+    /// The displacement by which the map moves every point, if it neither reflects nor turns.
+    fn displacement(&self) -> Option<Point>
+        ensures { IfSome result (λ by. (p : GridPoint) → image self.now p ≡ shifted by p) }
+    {
+        match (self.flip, self.turn) {
+            (false, Turn::R0) => Some(self.at),
+            _ => None,
+        }
+    }
+
     /// The image of a point, or None if a coordinate of the image is outside 64 bits. Intermediate
     /// coordinates may be outside (own rule).
     pub fn place(&self, point: Point) -> Option<Point>
         ensures { SomeIff result (FitsPoint (image self.now point)) (image self.now point) }
     {
+        // Most maps only move, and need no arithmetic in 128 bits.
+        if let Some(by) = self.displacement() {
+            return sum(point, by);
+        }
         Wide::from_point(point).place(self)
     }
 
@@ -56,6 +79,11 @@ impl Map {
     pub(crate) fn place_moved(&self, shift: Point, point: Point) -> Option<Point>
         ensures { SomeIff result (FitsPoint (placed_point self.now shift point)) (placed_point self.now shift point) }
     {
+        if let Some(by) = self.displacement() {
+            if let Some(moved) = sum(point, shift) {
+                return sum(moved, by);
+            }
+        }
         Wide::from_point(point).moved(shift).place(self)
     }
 }

@@ -18,7 +18,7 @@
 
 pub use outline::Outline;
 pub use simplify::simplified;
-pub use spanning::extent;
+pub use spanning::{extent, window_of};
 
 mod outline;
 mod redraw;

@@ -29,7 +29,7 @@ fn window_of_four(a: Point, b: Point, c: Point, d: Point) -> Option<Window>
 }
 
 /// The window of the squares that a ring covers, if it is a rectangle of four points, else None.
-fn window_of(ring: &[Point]) -> Option<Window>
+pub fn window_of(ring: &[Point]) -> Option<Window>
     ensures { IfSome result (λ window. (s : GridSquare) → Covers ring.now s ↔ IsWithin window s) }
 {
     let [a, b, c, d] = ring else {

@@ -15,13 +15,20 @@ use std::alloc::{AllocError, Global};
 pub struct Edge {
     pub low: i64,
     pub x: i64,
-    pub ring: usize,
     pub high: i64,
+    pub ring: u32,
     pub up: bool,
 }
 
+/// The index of a ring as an edge stores it. 2^32 or more is reported as out of memory (own rule).
+fn kept_number(number: usize) -> Result<u32, AllocError>
+    ensures { IfOk result (λ kept. kept ≡ number) }
+{
+    u32::try_from(number).map_err(|_| AllocError)
+}
+
 /// The vertical edge from one point to the next, or None if both have the same ordinate.
-fn edge_between(ring: usize, from: Point, to: Point) -> Option<Edge>
+fn edge_between(ring: u32, from: Point, to: Point) -> Option<Edge>
     ensures rising { (r : ℕ) (s : GridSquare) → edge_is (rises r s) result ≡ ((ring == r) && goes_up s (from, to)) }
     ensures falling { (r : ℕ) (s : GridSquare) → edge_is (falls r s) result ≡ ((ring == r) && goes_down s (from, to)) }
     ensures vertical { edge_is any_edge result ≡ is_vertical (from, to) }
@@ -31,8 +38,8 @@ fn edge_between(ring: usize, from: Point, to: Point) -> Option<Edge>
         return Some(Edge {
             low: from.y,
             x: from.x,
-            ring,
             high: to.y,
+            ring,
             up: true,
         });
     }
@@ -40,8 +47,8 @@ fn edge_between(ring: usize, from: Point, to: Point) -> Option<Edge>
         return Some(Edge {
             low: to.y,
             x: from.x,
-            ring,
             high: from.y,
+            ring,
             up: false,
         });
     }
@@ -49,7 +56,7 @@ fn edge_between(ring: usize, from: Point, to: Point) -> Option<Edge>
 }
 
 /// Appends the vertical edge from one point to the next, unless both have the same ordinate.
-fn push_edge(edges: &mut Vec<Edge>, ring: usize, from: Point, to: Point) -> Result<(), AllocError>
+fn push_edge(edges: &mut Vec<Edge>, ring: u32, from: Point, to: Point) -> Result<(), AllocError>
     ensures rising { IfOk result (λ _. (r : ℕ) (s : GridSquare) → count_by (rises r s) edges.new.items
         ≡ count_by (rises r s) edges.old.items + (if (ring == r) && goes_up s (from, to) then 1 else 0)) }
     ensures falling { IfOk result (λ _. (r : ℕ) (s : GridSquare) → count_by (falls r s) edges.new.items
@@ -68,7 +75,7 @@ fn push_edge(edges: &mut Vec<Edge>, ring: usize, from: Point, to: Point) -> Resu
 }
 
 /// Appends the vertical edges of a ring.
-fn push_edges(edges: &mut Vec<Edge>, ring: usize, points: &[Point]) -> Result<(), AllocError>
+fn push_edges(edges: &mut Vec<Edge>, ring: u32, points: &[Point]) -> Result<(), AllocError>
     requires { 0 < length points.now }
     ensures rising { IfOk result (λ _. (r : ℕ) (s : GridSquare) → count_by (rises r s) edges.new.items
         ≡ count_by (rises r s) edges.old.items
@@ -121,7 +128,8 @@ pub(crate) fn edges_of<R: RingList>(alloc: Global, rings: &R) -> Result<Vec<Edge
 {
     let mut edges = Vec::with_capacity(alloc, how_many(rings))?;
     for number in 0..rings.len() {
-        push_edges(&mut edges, number, rings.ring(number))?;
+        let kept = kept_number(number)?;
+        push_edges(&mut edges, kept, rings.ring(number))?;
     }
     edges.sort_unstable_by_key(|edge| (edge.low, edge.x));
     Ok(edges)

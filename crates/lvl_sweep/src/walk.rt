@@ -42,7 +42,7 @@ fn pass_abscissa(active: &[Edge], at: usize, windings: &mut Windings) -> usize
     let x = active[at].x;
     let mut next = at;
     while stands_at(active, next, x) {
-        windings.pass(active[next].ring, active[next].up);
+        windings.pass(active[next].ring as usize, active[next].up);
         next += 1;
     }
     next
@@ -105,7 +105,7 @@ fn forget(active: &[Edge], at: usize, windings: &mut Windings)
     ensures rings { length windings.new.counts.items ≡ length windings.old.counts.items }
 {
     for i in 0..at {
-        windings.counts[active[i].ring] = 0;
+        windings.counts[active[i].ring as usize] = 0;
     }
     windings.turning = 0;
 }

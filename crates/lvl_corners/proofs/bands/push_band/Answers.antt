@@ -1,15 +1,15 @@
-use Rattle.std.proofs.Common.{rules, FitsSigned}
+use Rattle.std.proofs.Common.{◌≡◌, refl, ◌∙◌, int_eq, rules, FitsSigned}
 use Rattle.std.specs.Int.{w64}
 use Rattle.std.proofs.lemmas.Int.{to_z-of_z}
-use Rattle.lvl_corners.proofs.Nets.{both_rows}
+use Rattle.lvl_corners.specs.inside.Marks.{row_step}
+use Rattle.lvl_corners.proofs.Rows.{held_back}
 use Rattle.lvl_corners.proofs.bands.push_band.Goals as goal
 
 pub returns : goal.returns
 returns c =
-    let from_fits : FitsSigned w64 c.args.band.now.y0 = search rules in
-    let to_fits : FitsSigned w64 c.args.band.now.y1 = search rules in
+    let fits : FitsSigned w64 c.args.band.now.y1 = search rules in
+    let items : c.extend_from_slice.new.self.items ≡ c.args.band.now.intervals.items =
+    c.in_ok-extend_from_slice.ensures.items ∙ rw (c.clear.ensures.items, c.deref.ensures.value) refl in
     λ x y.
-    let first = rw c.deref.ensures.value at (simp to_z-of_z at (c.in_ok-push_row.ensures x y)) in
-    let last = rw c.deref-2.ensures.value at (simp to_z-of_z at (c.in_ok-push_row-2.ensures x y)) in
-    both_rows x y c.args.band.now.y0 c.args.band.now.y1 c.args.marks.now.items c.push_row.new.marks.items
-    c.push_row-2.new.marks.items c.args.band.now.intervals.items first last
+    rw (to_z-of_z w64 _ fits, items) (held_back (int_eq c.args.band.now.y1 y)
+    (row_step x c.args.band.now.intervals.items) _ _ _ (c.in_ok-push_rows.ensures x y))

@@ -11,9 +11,9 @@ loop-number-preserved g c = record {
       (omega (arith, c.loop-number-test.true, c.len-number-end.ensures))
       c.ring.ensures.value
       c.loop-number.invariant.edges
-      c.in_ok-push_edges.ensures.rising
-      c.in_ok-push_edges.ensures.falling
-      c.in_ok-push_edges.ensures.numbers
+      (rw c.in_ok-kept.ensures at c.in_ok-push_edges.ensures.rising)
+      (rw c.in_ok-kept.ensures at c.in_ok-push_edges.ensures.falling)
+      (rw c.in_ok-kept.ensures at c.in_ok-push_edges.ensures.numbers)
       c.in_ok-push_edges.ensures.full;
   many =
       one_counted (g.R.RingList.rings c.args.rings.now) c.ring.result.now c.loop-number.number

@@ -4,11 +4,10 @@ use Rattle.lvl_columns.specs.Columns.{Lists, lists_of}
 use Rattle.lvl_columns.proofs.Halving.{one_more, open_by_none, open_by_halves}
 use Rattle.lvl_columns.proofs.columns.Progress.step.Goals as goal
 
-pub returns-then-is_same-clause-reported : goal.returns-then-is_same-clause-reported
-returns-then-is_same-clause-reported c = λ whole others reported.
+pub returns-then-branch-clause-reported : goal.returns-then-branch-clause-reported
+returns-then-branch-clause-reported c = λ whole others reported.
     open_by_none whole (others ++ map lists_of c.args.self.now.pending.items) c.args.column.first c.args.column.second
-    c.args.self.now.best
-    (c.if-is_same.ensures.0 cc) reported
+    c.args.self.now.best (c.in_ok-have_same_rings.ensures cc) reported
 
 pub returns-in-Some-clause-reported : goal.returns-in-Some-clause-reported
 returns-in-Some-clause-reported c = λ whole others reported.

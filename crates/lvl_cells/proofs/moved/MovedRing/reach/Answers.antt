@@ -1,0 +1,28 @@
+use Rattle.std.proofs.Common.{◌≡◌, List, All, map, sym, subst, arith, rules}
+use Rattle.std.proofs.lemmas.Int.{ints}
+use Rattle.std.proofs.lemmas.List.Elements.{All-map, All-weaker}
+use Rattle.lvl_grid.specs.declared.point.Point.{Point}
+use Rattle.lvl_grid.specs.Turn.{shifted}
+use Rattle.lvl_names.specs.Shifts.{IsBetween}
+use Rattle.lvl_cells.proofs.moved.MovedRing.reach.Goals as goal
+
+between_moved : (by low high p : Point) → IsBetween low high p
+    → IsBetween (shifted by low) (shifted by high) (shifted by p)
+between_moved by low high p w = record {
+  left = let l = w.left in omega (arith, ints, l);
+  right = let l = w.right in omega (arith, ints, l);
+  below = let l = w.below in omega (arith, ints, l);
+  above = let l = w.above in omega (arith, ints, l);
+}
+
+pub returns : goal.returns
+returns c =
+    let by : Point = c.self.inside.by in
+    let low : Point = c.in_ok-low.low in
+    let high : Point = c.in_ok-low.high in
+    let points : List Point = c.self.inside.points.now in
+    let low_is : c.in_ok-moved.field-0 ≡ shifted by low = c.in_ok-moved.ensures.1 in
+    let high_is : c.in_ok-moved-2.field-0 ≡ shifted by high = c.in_ok-moved-2.ensures.1 in
+    let P : Point → Type 0 = IsBetween (shifted by low) (shifted by high) in
+    rw (low_is, high_is) (subst (All P) c.self.view_is
+    (All-map P (shifted by) points (λ k d lt. between_moved by low high _ (c.in_ok-low.ensures k d lt))))
