@@ -10,11 +10,11 @@ use Rattle.std.proofs.lemmas.Option.{get_or_from_slice_get, slice_get-get_or, sl
 use Rattle.std.proofs.lemmas.Option.{slice_get_within}
 use Rattle.lvl_grid.proofs.Anyone.{Any-map, Any-nil, Any-right}
 use Rattle.lvl_grid.specs.declared.point.Square.{Square}
+use Rattle.lvl_grid.specs.Winding.{SomeCovers}
 use Rattle.lvl_names.specs.Layers.{ComesBefore, same_layer}
 use Rattle.lvl_names.specs.declared.layer.Layer.{Layer}
 use Rattle.lvl_names.proofs.Layers.{is_same}
 use Rattle.lvl_cells.specs.Cells.{PlainCell, Rings}
-use Rattle.lvl_cells.specs.Coverage.{RingsCover}
 use Rattle.lvl_corners.specs.Digests.{HasHashed, IsDigestOf}
 use Rattle.lvl_corners.specs.Masks.{AreMaskBytes, CoversOn, Drawn}
 use Rattle.sha2.specs.Sha256.{sha256}
@@ -171,21 +171,21 @@ all_digested flat n hash d end h finish =
 
 -- the rings of this Layer cover the square
 abbrev CoversThere : Layer → Square → PlainSheet → Type 0
-CoversThere layer s sheet = (sheet.layer ≡ layer) × RingsCover sheet.rings s
+CoversThere layer s sheet = (sheet.layer ≡ layer) × SomeCovers sheet.rings s
 
 covers_there : (flat : List PlainSheet) → AreSorted flat → (layer : Layer) (s : Square)
-    → Any (CoversThere layer s) flat → RingsCover (rings_on layer flat) s
+    → Any (CoversThere layer s) flat → SomeCovers (rings_on layer flat) s
 covers_there flat sorted layer s a =
     let at : slice_get flat a.0 ≡ Some a.1 = slice_get-get_or flat a.0 a.1 a.2 ∙ ap Some a.3 in
-    subst (λ (r : Rings). RingsCover r s) (sym (rings_where flat layer a.0 a.1 sorted at a.4.0)) a.4.1
+    subst (λ (r : Rings). SomeCovers r s) (sym (rings_where flat layer a.0 a.1 sorted at a.4.0)) a.4.1
 
 covers_first : (t : PlainSheet) (flat : List PlainSheet) (layer : Layer) (s : Square) (b : Bool)
-    → same_layer t.layer layer ≡ b → RingsCover (cond b t.rings (rings_on layer flat)) s
-    → (RingsCover (rings_on layer flat) s → Any (CoversThere layer s) flat) → Any (CoversThere layer s) (t ∷ flat)
+    → same_layer t.layer layer ≡ b → SomeCovers (cond b t.rings (rings_on layer flat)) s
+    → (SomeCovers (rings_on layer flat) s → Any (CoversThere layer s) flat) → Any (CoversThere layer s) (t ∷ flat)
 covers_first t flat layer s true e a later = (0, t, omega arith, refl, (is_same t.layer layer e, a))
 covers_first t flat layer s false e a later = Any-right (CoversThere layer s) (t ∷ []) flat (later a)
 
-covers_back : (flat : List PlainSheet) (layer : Layer) (s : Square) → RingsCover (rings_on layer flat) s
+covers_back : (flat : List PlainSheet) (layer : Layer) (s : Square) → SomeCovers (rings_on layer flat) s
     → Any (CoversThere layer s) flat
 covers_back [] layer s a = absurd (Any-nil _ a)
 covers_back (t ∷ flat) layer s a =
@@ -193,9 +193,9 @@ covers_back (t ∷ flat) layer s a =
 
 -- on each Layer the mask covers what the rings cover
 mask_covers : (flat : List PlainSheet) → AreSorted flat → (layer : Layer) (s : Square)
-    → CoversOn (map drawn_on flat) layer s ↔ RingsCover (rings_on layer flat) s
+    → CoversOn (map drawn_on flat) layer s ↔ SomeCovers (rings_on layer flat) s
 mask_covers flat sorted layer s =
-    let m = Any-map (λ (d : Drawn). (d.layer ≡ layer) × RingsCover d.rings s) drawn_on flat in
+    let m = Any-map (λ (d : Drawn). (d.layer ≡ layer) × SomeCovers d.rings s) drawn_on flat in
     (λ a. covers_there flat sorted layer s (m.0 a), λ a. m.1 (covers_back flat layer s a))
 
 both_ways : {A B C : Type 0} → A ↔ B → B ↔ C → A ↔ C

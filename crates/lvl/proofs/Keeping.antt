@@ -14,10 +14,11 @@ use Rattle.lvl_grid.specs.declared.point.Square.{Square}
 use Rattle.lvl_grid.specs.declared.map.Map.{Map}
 use Rattle.lvl_grid.specs.Turn.{image, shifted, FitsPoint}
 use Rattle.lvl_grid.proofs.Anyone.{Any-same, Any-map}
+use Rattle.lvl_grid.specs.Winding.{SomeCovers}
 use Rattle.lvl_names.specs.declared.layer.Layer.{Layer}
 use Rattle.lvl_cells.specs.Cells.{PlainCell, PlainShape, PlainReference, Rings, each_ring, names, placing, cell_named}
 use Rattle.lvl_cells.specs.Cells.{drawn, kept}
-use Rattle.lvl_cells.specs.Coverage.{RingsCover, ShapeCovers, PullsBack, CoversWithin, CellCovers, moved_back}
+use Rattle.lvl_cells.specs.Coverage.{ShapeCovers, PullsBack, CoversWithin, CellCovers, moved_back}
 use Rattle.lvl_cells.specs.Soundness.{links, AreLinked, IsRanked, IsTop, IsSound}
 use Rattle.lvl_cells.specs.Chains.{Chain, IsComposed, IsInRange, over_chains, chains, own_rings, placed_rings}
 use Rattle.lvl_cells.specs.Chains.{most_placed, Fits}
@@ -119,23 +120,23 @@ some_drawn rings None P Q h = (λ x. x, λ x. x)
 some_drawn rings (Some d) P Q h = h d
 
 shapes_kept : {F : Type 0} (rings : F → Rings) (holds : F → Square → Type 0)
-    → ((f : F) (s : Square) → RingsCover (rings f) s ↔ holds f s) → (layer : Layer) (s : Square) (c : PlainCell F)
-    → Any (ShapeCovers holds layer s) c.shapes ↔ Any (ShapeCovers RingsCover layer s) (drawn rings c).shapes
+    → ((f : F) (s : Square) → SomeCovers (rings f) s ↔ holds f s) → (layer : Layer) (s : Square) (c : PlainCell F)
+    → Any (ShapeCovers holds layer s) c.shapes ↔ Any (ShapeCovers SomeCovers layer s) (drawn rings c).shapes
 shapes_kept {F = F} rings holds law layer s c =
     let f : PlainShape F → PlainShape Rings =
     λ h. record { layer = h.layer; figure = rings h.figure; shifts = h.shifts } in
     both_ways _ _ _
-    (Any-same (ShapeCovers holds layer s) (λ h. ShapeCovers RingsCover layer s (f h)) c.shapes (λ h.
+    (Any-same (ShapeCovers holds layer s) (λ h. ShapeCovers SomeCovers layer s (f h)) c.shapes (λ h.
     let same =
-    Any-same (λ e. holds h.figure (moved_back e s)) (λ e. RingsCover (rings h.figure) (moved_back e s)) h.shifts
+    Any-same (λ e. holds h.figure (moved_back e s)) (λ e. SomeCovers (rings h.figure) (moved_back e s)) h.shifts
     (λ e. let l = law h.figure (moved_back e s) in (l.1, l.0)) in
     (λ x. (x.0, same.0 x.1), λ x. (x.0, same.1 x.1))))
-    (let m = Any-map (ShapeCovers RingsCover layer s) f c.shapes in (m.1, m.0))
+    (let m = Any-map (ShapeCovers SomeCovers layer s) f c.shapes in (m.1, m.0))
 
 pub covers_kept : {F : Type 0} (rings : F → Rings) (holds : F → Square → Type 0)
-    → ((f : F) (s : Square) → RingsCover (rings f) s ↔ holds f s)
+    → ((f : F) (s : Square) → SomeCovers (rings f) s ↔ holds f s)
     → (cells : List (PlainCell F)) (layer : Layer) (n : ℕ) (c : PlainCell F) (s : Square)
-    → CoversWithin holds cells layer n c s ↔ CoversWithin RingsCover (kept rings cells) layer n (drawn rings c) s
+    → CoversWithin holds cells layer n c s ↔ CoversWithin SomeCovers (kept rings cells) layer n (drawn rings c) s
 covers_kept rings holds law cells layer zero c s = shapes_kept rings holds law layer s c
 covers_kept rings holds law cells layer (suc n) c s =
     either_same _ _ _ _ (shapes_kept rings holds law layer s c)
@@ -143,18 +144,18 @@ covers_kept rings holds law cells layer (suc n) c s =
     (λ r. IsSomeAnd (cell_named cells r.cell)
     (λ d. Any (PullsBack (CoversWithin holds cells layer n d) r s) r.shifts))
     (λ r. IsSomeAnd (cell_named (kept rings cells) r.cell)
-    (λ d. Any (PullsBack (CoversWithin RingsCover (kept rings cells) layer n d) r s) r.shifts)) c.references
+    (λ d. Any (PullsBack (CoversWithin SomeCovers (kept rings cells) layer n d) r s) r.shifts)) c.references
     (λ r. rw (named_kept rings cells r.cell) (some_drawn rings (cell_named cells r.cell) _ _ (λ d.
     Any-same (PullsBack (CoversWithin holds cells layer n d) r s)
-    (PullsBack (CoversWithin RingsCover (kept rings cells) layer n (drawn rings d)) r s) r.shifts (λ e. (
+    (PullsBack (CoversWithin SomeCovers (kept rings cells) layer n (drawn rings d)) r s) r.shifts (λ e. (
       λ x. (x.0, x.1, (covers_kept rings holds law cells layer n d x.0).0 x.2),
       λ x. (x.0, x.1, (covers_kept rings holds law cells layer n d x.0).1 x.2),
     ))))))
 
 pub cell_covers_kept : {F : Type 0} (rings : F → Rings) (holds : F → Square → Type 0)
-    → ((f : F) (s : Square) → RingsCover (rings f) s ↔ holds f s)
+    → ((f : F) (s : Square) → SomeCovers (rings f) s ↔ holds f s)
     → (cells : List (PlainCell F)) (layer : Layer) (c : PlainCell F) (s : Square)
-    → CellCovers holds cells layer c s ↔ CellCovers RingsCover (kept rings cells) layer (drawn rings c) s
+    → CellCovers holds cells layer c s ↔ CellCovers SomeCovers (kept rings cells) layer (drawn rings c) s
 cell_covers_kept rings holds law cells layer c s = (
   λ h. (h.0, (covers_kept rings holds law cells layer h.0 c s).0 h.1),
   λ h. (h.0, (covers_kept rings holds law cells layer h.0 c s).1 h.1),

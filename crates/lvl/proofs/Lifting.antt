@@ -2,11 +2,12 @@
 use Rattle.std.proofs.Common.{◌≡◌, ◌↔◌, ◌<◌, ◌≤◌, ℕ, List, [], get_or, Option, Some, None, length, slice_get, refl, sym}
 use Rattle.std.proofs.Common.{ap, ◌∙◌, subst}
 use Rattle.lvl_grid.specs.declared.point.Square.{Square}
+use Rattle.lvl_grid.specs.Winding.{SomeCovers}
 use Rattle.lvl_path.specs.Figure.{figure_rings, FigureCovers}
 use Rattle.lvl_path.proofs.Figures.{figure_drawn}
 use Rattle.lvl_names.specs.declared.layer.Layer.{Layer}
 use Rattle.lvl_cells.specs.Cells.{PlainCell, Rings, each_ring, names, drawn, kept}
-use Rattle.lvl_cells.specs.Coverage.{RingsCover, CellCovers}
+use Rattle.lvl_cells.specs.Coverage.{CellCovers}
 use Rattle.lvl_cells.specs.Soundness.{IsSound}
 use Rattle.lvl_cells.specs.Chains.{Chain, Fits, chains, placed_rings, most_placed}
 use Rattle.lvl_cells.proofs.Arcs.{once_named}
@@ -30,7 +31,7 @@ use Rattle.lvl.proofs.Keeping.{sound_kept, cell_covers_kept, fits_kept, cell_bac
 
 -- a cell of figures draws what its rings cover
 pub draws_kept : (cells : List Drawing) (layer : Layer) (top : Drawing) (s : Square)
-    → Draws cells top layer s ↔ CellCovers RingsCover (kept figure_rings cells) layer (drawn figure_rings top) s
+    → Draws cells top layer s ↔ CellCovers SomeCovers (kept figure_rings cells) layer (drawn figure_rings top) s
 draws_kept cells layer top s = cell_covers_kept figure_rings FigureCovers figure_drawn cells layer top s
 
 -- the library that was found is any that the bytes spell, with rings for its figures
@@ -101,7 +102,7 @@ pub record IsTopLifted (file : File) (others : List Drawing) (cells : List (Plai
   pub top : Drawing
   pub accepted : IsAccepted file others top
   pub kept_as : drawn figure_rings top ≡ c
-  pub draws : (layer : Layer) (s : Square) → CellCovers RingsCover cells layer c s ↔ Draws others top layer s
+  pub draws : (layer : Layer) (s : Square) → CellCovers SomeCovers cells layer c s ↔ Draws others top layer s
 
 pub top_lifted : (file : File) (cells : List (PlainCell Rings)) (head : Head)
     (read : IsLayoutOf file.ignore file.bytes cells head)
@@ -134,9 +135,9 @@ top_lifted file cells head read s r =
           let p =
           subst
           (λ (c : PlainCell Rings).
-          Draws others b.0 layer t ↔ CellCovers RingsCover (kept figure_rings others) layer c t) b.2 q in
+          Draws others b.0 layer t ↔ CellCovers SomeCovers (kept figure_rings others) layer c t) b.2 q in
           let u =
-          subst (λ (c : List (PlainCell Rings)). Draws others b.0 layer t ↔ CellCovers RingsCover c layer r.top t)
+          subst (λ (c : List (PlainCell Rings)). Draws others b.0 layer t ↔ CellCovers SomeCovers c layer r.top t)
           (sym e) p in
           (u.1, u.0);
     }

@@ -2,10 +2,11 @@
 use Rattle.std.proofs.Common.{◌≡◌, ◌↔◌, List, [], Some, slice_get, refl, subst, sym}
 use Rattle.std.specs.Prelude.{IfErr, IfSome, IsErr, IsErrAnd, Result, Ok, Err}
 use Rattle.lvl_grid.specs.declared.point.Square.{Square}
+use Rattle.lvl_grid.specs.Winding.{SomeCovers}
 use Rattle.lvl_names.specs.declared.layer.Layer.{Layer}
 use Rattle.lvl_cells.specs.Cells.{PlainCell, Rings}
 use Rattle.lvl_cells.specs.Checks.{Settled}
-use Rattle.lvl_cells.specs.Coverage.{RingsCover, CellCovers}
+use Rattle.lvl_cells.specs.Coverage.{CellCovers}
 use Rattle.lvl_columns.specs.Windows.{IsShown}
 use Rattle.lvl_flat.specs.Flattened.{AllInRange, IsTopInRange, TopCovers}
 use Rattle.lvl_region.specs.declared.region.Side.TheVariants.{First, Second}
@@ -73,7 +74,7 @@ whole_verdict view whole a b v h = go v (verdict_of_same (IsShown view.window) (
 
 -- what the top covers, by its cell
 pub top_places : (s : Settled) (top : PlainCell Rings) → slice_get s.cells s.top ≡ Some top → (l : Layer)
-    (q : Square) → TopCovers s l q ↔ CellCovers RingsCover s.cells l top q
+    (q : Square) → TopCovers s l q ↔ CellCovers SomeCovers s.cells l top q
 top_places s top is l q = rw is itself
 
 -- a verdict on what both tops cover is one on what the files draw

@@ -1,9 +1,10 @@
 -- The steps after the reading, on libraries of rings.
 use Rattle.std.specs.Prelude.{◌≡◌, ⊤, ℕ, List, Option, Some, slice_get}
+use Rattle.lvl_grid.specs.Winding.{SomeCovers}
 use Rattle.lvl_cells.specs.Cells.{PlainCell, Rings}
 use Rattle.lvl_grid.specs.declared.point.Square.{Square}
 use Rattle.lvl_names.specs.declared.layer.Layer.{Layer}
-use Rattle.lvl_cells.specs.Coverage.{RingsCover, CellCovers}
+use Rattle.lvl_cells.specs.Coverage.{CellCovers}
 use Rattle.lvl_columns.specs.Windows.{IsShown}
 use Rattle.lvl_cells.specs.Checks.{Settled, IsSettled, PlacesFew}
 use Rattle.lvl_cells.specs.Faults.{IsFaultOf, IsSoundWith}
@@ -65,7 +66,7 @@ IsFitted k = (s : Settled) × IsInRangeAs k s
 
 -- the cell covers the square on the Layer, through all references
 abbrev pub Places : Settled → PlainCell Rings → Layer → Square → Type 0
-Places s top layer q = CellCovers RingsCover s.cells layer top q
+Places s top layer q = CellCovers SomeCovers s.cells layer top q
 
 -- both libraries pass the check, what they place is in range, and the verdict is true of what their tops cover under
 -- the view

@@ -3,17 +3,12 @@ use Rattle.std.specs.Prelude.{◌≡◌, ℕ, zero, suc, List, ◌⊎◌, Any, �
 use Rattle.lvl_grid.specs.declared.point.Point.{Point}
 use Rattle.lvl_grid.specs.declared.point.Square.{Square}
 use Rattle.lvl_grid.specs.Turn.{image_square}
-use Rattle.lvl_grid.specs.Winding.{Covers}
 use Rattle.lvl_names.specs.declared.layer.Layer.{Layer}
 use Rattle.lvl_cells.specs.Cells.{PlainShape, PlainReference, PlainCell, Rings, placing, cell_named}
 
 -- the square that the shift moves to s
 abbrev pub moved_back : Point → Square → Square
 moved_back e s = record { x = s.x -ℤ e.x; y = s.y -ℤ e.y }
-
--- at least one of the rings covers the square
-abbrev pub RingsCover : Rings → Square → Type 0
-RingsCover rings s = Any (λ ring. Covers ring s) rings
 
 -- the shape is on the Layer, and its figure, moved by one of its shifts, covers the square s; `holds` says which
 -- squares a figure covers

@@ -1,9 +1,10 @@
 -- Layouts that cover the same outside of windows, under a map of Layers.
 use Rattle.std.proofs.Common.{◌≡◌, ◌↔◌, ◌⊎◌, ℕ, List, Some, inl, inr, sym, subst, slice_get, IsSomeAnd}
 use Rattle.lvl_grid.specs.declared.point.Square.{Square}
+use Rattle.lvl_grid.specs.Winding.{SomeCovers}
 use Rattle.lvl_names.specs.declared.layer.Layer.{Layer}
 use Rattle.lvl_cells.specs.Cells.{PlainCell, Rings}
-use Rattle.lvl_cells.specs.Coverage.{RingsCover, CellCovers}
+use Rattle.lvl_cells.specs.Coverage.{CellCovers}
 use Rattle.lvl_flat.specs.Flattened.{CoversAt}
 use Rattle.lvl_flat.proofs.Covering.{cell_covers}
 use Rattle.lvl_view.specs.declared.map.LayerPair.{LayerPair}
@@ -47,7 +48,7 @@ pub covers_both : (cells : List (PlainCell Rings)) (i : ℕ) (c : PlainCell Ring
     → (l : Layer) (s : Square)
     → CoversAt cells i l s ↔ (ShapesCover c.shapes l s ⊎ ReferencesCover cells c.references l s)
 covers_both cells i c at l s =
-    let P : PlainCell Rings → Type 0 = λ d. CellCovers RingsCover cells l d s in (
+    let P : PlainCell Rings → Type 0 = λ d. CellCovers SomeCovers cells l d s in (
       λ h. (cell_covers cells l c s).0 (subst (λ o. IsSomeAnd o P) at h),
       λ e. subst (λ o. IsSomeAnd o P) (sym at) ((cell_covers cells l c s).1 e),
     )

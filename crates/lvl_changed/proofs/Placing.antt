@@ -8,9 +8,10 @@ use Rattle.lvl_grid.specs.declared.point.Square.{Square}
 use Rattle.lvl_grid.specs.declared.map.Map.{Map}
 use Rattle.lvl_grid.specs.Turn.{image_square}
 use Rattle.lvl_grid.proofs.Anyone.{some_contained, Any-left, Any-right, Any-sides, Any-same, Any-map, Any-nil}
+use Rattle.lvl_grid.specs.Winding.{SomeCovers}
 use Rattle.lvl_names.specs.declared.layer.Layer.{Layer}
 use Rattle.lvl_cells.specs.Cells.{PlainCell, PlainReference, Rings, placing, cell_named}
-use Rattle.lvl_cells.specs.Coverage.{RingsCover, CellCovers, PullsBack}
+use Rattle.lvl_cells.specs.Coverage.{CellCovers, PullsBack}
 use Rattle.lvl_flat.specs.Flattened.{CoversAt}
 use Rattle.lvl_flat.specs.inside.Visits.{Pick, picks, PickCovers}
 use Rattle.lvl_view.specs.declared.map.LayerPair.{LayerPair}
@@ -39,10 +40,10 @@ pick_at : (cells : List (PlainCell Rings)) (k : ℕ) (c : PlainCell Rings) (r : 
     → slice_get cells k ≡ Some c → cell_named cells r.cell ≡ Some c → (e : Point) (l : Layer) (s : Square)
     → PickCovers cells l s (r, e) ↔ PlacementCovers cells l s (record { cell = k; map = placing r e })
 pick_at cells k c r at named e l s =
-    let P : PlainCell Rings → Type 0 = λ d. PullsBack (CellCovers RingsCover cells l d) r s e in
+    let P : PlainCell Rings → Type 0 = λ d. PullsBack (CellCovers SomeCovers cells l d) r s e in
     let here = at_some P (cell_named cells r.cell) c named in
-    let there : (t : Square) → CoversAt cells k l t ↔ CellCovers RingsCover cells l c t =
-    λ t. at_some (λ d. CellCovers RingsCover cells l d t) (slice_get cells k) c at in (
+    let there : (t : Square) → CoversAt cells k l t ↔ CellCovers SomeCovers cells l c t =
+    λ t. at_some (λ d. CellCovers SomeCovers cells l d t) (slice_get cells k) c at in (
       λ h. let u = here.0 h in (u.0, u.1, (there u.0).1 u.2),
       λ u. here.1 (u.0, u.1, (there u.0).0 u.2),
     )

@@ -2,11 +2,10 @@
 ghost use Rattle.std.specs.Prelude.{◌≡◌, ◌↔◌, Contains, IsTrue, OnOk};
 ghost use Rattle.lvl_grid.specs.declared.point.Square.{Square};
 ghost use Rattle.lvl_grid.specs.Clip.{IsWithin};
-ghost use Rattle.lvl_grid.specs.Winding.{Covers};
-ghost use Rattle.lvl_cells.specs.Coverage.{RingsCover};
+ghost use Rattle.lvl_grid.specs.Winding.{Covers, SomeCovers};
 ghost use Rattle.lvl_changed.specs.inside.Windows.{Has, Widens};
 
-use crate::windows::{Windows, joined, spot};
+use crate::windows::{Windows, spot};
 use lvl_columns::difference_in;
 use lvl_grid::{Point, Rings, Window};
 use std::alloc::{AllocError, Global};
@@ -23,7 +22,7 @@ fn box_of(ring: &[Point]) -> Window
         y1: i64::MIN,
     };
     for point in ring {
-        held = joined(held, spot(*point));
+        held = held.joined(spot(*point));
     }
     held
 }
@@ -83,7 +82,7 @@ fn hold_missing(
     others: &Rings,
 ) -> Result<(), AllocError>
     ensures held { OnOk result ((s : Square)
-        → ¬ Has windows.new s → RingsCover rings.now s → RingsCover others.now s) }
+        → ¬ Has windows.new s → SomeCovers rings.now s → SomeCovers others.now s) }
     ensures kept { OnOk result (Widens windows.old windows.new) }
 {
     let order = order_of(alloc, others)?;
@@ -105,7 +104,7 @@ pub(crate) fn hold_rings(
     theirs: &Rings,
 ) -> Result<(), AllocError>
     ensures held { OnOk result ((s : Square)
-        → ¬ Has windows.new s → RingsCover ours.now s ↔ RingsCover theirs.now s) }
+        → ¬ Has windows.new s → SomeCovers ours.now s ↔ SomeCovers theirs.now s) }
     ensures kept { OnOk result (Widens windows.old windows.new) }
 {
     if difference_in(alloc, ours, theirs, None)?.is_none() {

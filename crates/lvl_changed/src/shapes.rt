@@ -1,8 +1,8 @@
 //! Where the own shapes of two cells may cover different squares.
 ghost use Rattle.std.specs.Prelude.{◌≡◌, ◌↔◌, Any, IfOk, IfSome, OnOk};
 ghost use Rattle.lvl_grid.specs.declared.point.Square.{Square};
+ghost use Rattle.lvl_grid.specs.Winding.{SomeCovers};
 ghost use Rattle.lvl_names.specs.declared.layer.Layer.{Layer};
-ghost use Rattle.lvl_cells.specs.Coverage.{RingsCover};
 ghost use Rattle.lvl_flat.specs.Sheets.{rings_on};
 ghost use Rattle.lvl_view.specs.Moved.{IsMoved};
 ghost use Rattle.lvl_changed.specs.inside.Windows.{Widens, AlikeOutside};

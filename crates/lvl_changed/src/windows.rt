@@ -1,6 +1,5 @@
 //! A few windows that together have all squares of some set, and possibly more.
 ghost use Rattle.std.specs.Prelude.{◌≡◌, ◌<◌, IsTrue, IfSome, OnOk, Contains, vec_len};
-ghost use Rattle.std.specs.Int.{int_min, int_max};
 ghost use Rattle.lvl_grid.specs.declared.point.Point.{Point as GridPoint};
 ghost use Rattle.lvl_grid.specs.declared.point.Square.{Square};
 ghost use Rattle.lvl_grid.specs.Clip.{IsWithin};
@@ -56,23 +55,6 @@ pub(crate) fn spot(point: Point) -> Window
     }
 }
 
-/// The least window between the corners of both, which has the squares of both.
-pub(crate) fn joined(first: Window, second: Window) -> Window
-    ensures { result ≡ record {
-      x0 = int_min first.x0 second.x0;
-      y0 = int_min first.y0 second.y0;
-      x1 = int_max first.x1 second.x1;
-      y1 = int_max first.y1 second.y1;
-    } }
-{
-    Window {
-        x0: first.x0.min(second.x0),
-        y0: first.y0.min(second.y0),
-        x1: first.x1.max(second.x1),
-        y1: first.y1.max(second.y1),
-    }
-}
-
 /// The lower left corner of a window.
 fn low_corner(window: &Window) -> Point
     ensures { result ≡ record { x = window.now.x0; y = window.now.y0 } }
@@ -100,7 +82,7 @@ fn placed(window: &Window, map: &Map) -> Option<Window>
 {
     let low = map.place(low_corner(window))?;
     let high = map.place(high_corner(window))?;
-    Some(joined(spot(low), spot(high)))
+    Some(spot(low).joined(spot(high)))
 }
 
 impl Windows {
@@ -146,7 +128,7 @@ impl Windows {
         let mut least = u64::MAX;
         for i in 0..self.list.len() {
             let other = self.list[i];
-            let growth = girth(joined(other, window)).saturating_sub(girth(other));
+            let growth = girth(other.joined(window)).saturating_sub(girth(other));
             if nearest.is_none() || growth < least {
                 nearest = Some(i);
                 least = growth;
@@ -183,7 +165,7 @@ impl Windows {
         let mut whole = window;
         while let Some(i) = self.to_join(whole) {
             let other = self.list.swap_remove(i);
-            whole = joined(whole, other);
+            whole = whole.joined(other);
         }
         self.list.push(whole)?;
         Ok(())

@@ -10,12 +10,13 @@ use Rattle.lvl_grid.specs.declared.point.Window.{Window}
 use Rattle.lvl_grid.specs.Squares.{IsBefore}
 use Rattle.lvl_grid.specs.Clip.{IsWithin}
 use Rattle.lvl_grid.proofs.Squares.{same_square}
+use Rattle.lvl_grid.specs.Winding.{SomeCovers}
 use Rattle.lvl_names.specs.declared.layer.Layer.{Layer}
 use Rattle.lvl_names.specs.Layers.{ComesBefore}
 use Rattle.lvl_names.proofs.Layers.{before_trans, layers_equal}
 use Rattle.lvl_cells.specs.Cells.{PlainCell, Rings}
 use Rattle.lvl_cells.specs.Checks.{Settled}
-use Rattle.lvl_cells.specs.Coverage.{RingsCover, CellCovers}
+use Rattle.lvl_cells.specs.Coverage.{CellCovers}
 use Rattle.lvl_region.specs.Region.{IsAlone}
 use Rattle.lvl_region.specs.declared.region.Side.{Side}
 use Rattle.lvl_region.specs.declared.region.Side.TheVariants.{First, Second}
@@ -34,7 +35,7 @@ use Rattle.lvl_compare.specs.inside.Strips.{seen_of}
 -- a layout that is flattened within a window covers the squares of the window that the top covers
 pub shows_top : (s : Settled) (w : Window) (f : List PlainSheet) → IsFlattenedWithin s w f → ShowsOf (TopCovers s) w f
 shows_top s w f flat l q =
-    let P : PlainCell Rings → Type 0 = λ top. CellCovers RingsCover s.cells l top q in
+    let P : PlainCell Rings → Type 0 = λ top. CellCovers SomeCovers s.cells l top q in
     let both = flat.covers l q in (
       λ a. let c = both.0 a in (c.0, subst (λ o. IsSomeAnd o P) (sym flat.is_top) c.1),
       λ b. both.1 (b.0, subst (λ o. IsSomeAnd o P) flat.is_top b.1),
@@ -56,7 +57,7 @@ shows_moved pairs a w f m shows is l q = (
 )
 
 alike_there : (a b : Draws) (w : Window) (f g : List PlainSheet) → ShowsOf a w f → ShowsOf b w g → (l : Layer)
-    (q : Square) → IsWithin w q → RingsCover (rings_on l f) q ↔ RingsCover (rings_on l g) q → a l q ↔ b l q
+    (q : Square) → IsWithin w q → SomeCovers (rings_on l f) q ↔ SomeCovers (rings_on l g) q → a l q ↔ b l q
 alike_there a b w f g ours theirs l q shown same = (
   λ x. ((theirs l q).0 (same.0 ((ours l q).1 (shown, x)))).1,
   λ y. ((ours l q).0 (same.1 ((theirs l q).1 (shown, y)))).1,
@@ -64,7 +65,7 @@ alike_there a b w f g ours theirs l q shown same = (
 
 -- only one side draws a square of a window, in the flat layouts of the window and in all
 alone_there : (a b : Draws) (w : Window) (f g : List PlainSheet) → ShowsOf a w f → ShowsOf b w g → (l : Layer)
-    (q : Square) (side : Side) → IsAlone (RingsCover (rings_on l f)) (RingsCover (rings_on l g)) q side
+    (q : Square) (side : Side) → IsAlone (SomeCovers (rings_on l f)) (SomeCovers (rings_on l g)) q side
     → IsWithin w q × IsAlone (a l) (b l) q side
 alone_there a b w f g ours theirs l q First h =
     let c = (ours l q).0 h.0 in
@@ -90,7 +91,7 @@ flats_found a b w f g (Some at) ours theirs same differ =
           (elim before [
             | inl b ↦ differ.least_layer l b q
             | inr b ↦
-                subst (λ (x : Layer). RingsCover (rings_on x f) q ↔ RingsCover (rings_on x g) q) (sym b.0)
+                subst (λ (x : Layer). SomeCovers (rings_on x f) q ↔ SomeCovers (rings_on x g) q) (sym b.0)
                 (differ.least_square q b.1)
           ]);
     }

@@ -1,7 +1,6 @@
 //! Comparison of two libraries strip by strip, so that only what is drawn in one strip is in
 //! memory.
 ghost use Rattle.std.specs.Prelude.{◌≡◌, ◌<◌, ◌<ℤ◌, ◌≤ℤ◌, ◌↔◌, length, IsTrue, IfOk, IfSome, IfNone};
-ghost use Rattle.std.specs.Int.{int_min, int_max};
 ghost use Rattle.lvl_grid.specs.declared.point.Square.{Square as GridSquare};
 ghost use Rattle.lvl_grid.specs.Clip.{IsWithin};
 ghost use Rattle.lvl_columns.specs.Windows.{IsShown, window_of};
@@ -105,23 +104,6 @@ pub(crate) fn least(first: Option<Found>, second: Option<Found>) -> Option<Found
         (Some(a), Some(b)) => Some(if precedes(&b, &a) { b } else { a }),
         (Some(a), None) => Some(a),
         (None, other) => other,
-    }
-}
-
-/// The least window that has the squares of both.
-fn joined(first: Window, second: Window) -> Window
-    ensures { result ≡ record {
-      x0 = int_min first.x0 second.x0;
-      y0 = int_min first.y0 second.y0;
-      x1 = int_max first.x1 second.x1;
-      y1 = int_max first.y1 second.y1;
-    } }
-{
-    Window {
-        x0: first.x0.min(second.x0),
-        y0: first.y0.min(second.y0),
-        x1: first.x1.max(second.x1),
-        y1: first.y1.max(second.y1),
     }
 }
 
@@ -332,7 +314,7 @@ pub fn difference_by_strips(
         (λ at. IsFirstDifference (IsShown view.now.window) (TopCovers first.now)
         (IsMoved view.now.pairs (TopCovers second.now)) at.0 at.1 at.2)) }
 {
-    let window = shared(joined(first.extent(), second.extent()), view.window());
+    let window = shared(first.extent().joined(second.extent()), view.window());
     let pace = Pace::new(first_width(&window, first, second, most), most);
     difference_within(alloc, first, second, view, window, pace)
 }

@@ -9,12 +9,12 @@ use Rattle.lvl_grid.specs.declared.point.Square.{Square}
 use Rattle.lvl_grid.specs.declared.map.Map.{Map}
 use Rattle.lvl_grid.specs.Turn.{image_square}
 use Rattle.lvl_grid.specs.Placed.{moved_square}
-use Rattle.lvl_grid.specs.Winding.{Covers}
+use Rattle.lvl_grid.specs.Winding.{Covers, SomeCovers}
 use Rattle.lvl_grid.proofs.Squares.{same_square, image_square-composed}
 use Rattle.lvl_names.specs.declared.layer.Layer.{Layer}
 use Rattle.lvl_cells.specs.Cells.{PlainCell, PlainShape, Rings, placing, cell_named}
 use Rattle.lvl_cells.specs.Chains.{IsComposed}
-use Rattle.lvl_cells.specs.Coverage.{moved_back, RingsCover, ShapeCovers, PullsBack, CoversWithin, CellCovers}
+use Rattle.lvl_cells.specs.Coverage.{moved_back, ShapeCovers, PullsBack, CoversWithin, CellCovers}
 use Rattle.lvl_flat.specs.inside.Drawn.{placed_ring, placed_figure, placed_shape, drawn_on, IsPlaced, AreFiguresPlaced}
 use Rattle.lvl_names.specs.Layers.{same_layer}
 use Rattle.lvl_flat.specs.inside.Visits.{Pick, picks, PickCovers}
@@ -44,7 +44,7 @@ back_and_there e s = same_square _ _ (omega (arith, ints)) (omega (arith, ints))
 
 -- the rings of a figure at a shift
 figure_covers : (m : Map) (e : Point) (s : Square) (rings : Rings) → All (IsPlaced m e) rings
-    → RingsCover (placed_figure m rings e) s ↔ Under m s (λ t. RingsCover rings (moved_back e t))
+    → SomeCovers (placed_figure m rings e) s ↔ Under m s (λ t. SomeCovers rings (moved_back e t))
 figure_covers m e s [] all = (
   λ a. absurd (Any-nil (λ ring. Covers ring s) a),
   λ u. absurd (Any-nil (λ ring. Covers ring (moved_back e u.0)) u.2),
@@ -79,11 +79,11 @@ figure_covers m e s (ring ∷ rings) all =
 
 -- the rings of a shape at all of its shifts
 shape_covers : (m : Map) (s : Square) (rings : Rings) (shifts : List Point) → All (λ e. All (IsPlaced m e) rings) shifts
-    → RingsCover (flat_map (placed_figure m rings) shifts) s
-    ↔ Under m s (λ t. Any (λ e. RingsCover rings (moved_back e t)) shifts)
+    → SomeCovers (flat_map (placed_figure m rings) shifts) s
+    ↔ Under m s (λ t. Any (λ e. SomeCovers rings (moved_back e t)) shifts)
 shape_covers m s rings [] all = (
   λ a. absurd (Any-nil (λ ring. Covers ring s) a),
-  λ u. absurd (Any-nil (λ e. RingsCover rings (moved_back e u.0)) u.2),
+  λ u. absurd (Any-nil (λ e. SomeCovers rings (moved_back e u.0)) u.2),
 )
 shape_covers m s rings (e ∷ shifts) all =
     let P : Point → Type 0 = λ d. All (IsPlaced m d) rings in
@@ -91,11 +91,11 @@ shape_covers m s rings (e ∷ shifts) all =
     let rest = shape_covers m s rings shifts (All-tail P e shifts all) in (
       λ a.
           elim (Any-sides (λ r. Covers r s) (placed_figure m rings e) (flat_map (placed_figure m rings) shifts) a) [
-            | inl b ↦ let u = here.0 b in (u.0, u.1, Any-head (λ d. RingsCover rings (moved_back d u.0)) e shifts u.2)
-            | inr b ↦ let u = rest.0 b in (u.0, u.1, Any-tail (λ d. RingsCover rings (moved_back d u.0)) e shifts u.2)
+            | inl b ↦ let u = here.0 b in (u.0, u.1, Any-head (λ d. SomeCovers rings (moved_back d u.0)) e shifts u.2)
+            | inr b ↦ let u = rest.0 b in (u.0, u.1, Any-tail (λ d. SomeCovers rings (moved_back d u.0)) e shifts u.2)
           ],
       λ u.
-          elim (Any-uncons (λ d. RingsCover rings (moved_back d u.0)) e shifts u.2) [
+          elim (Any-uncons (λ d. SomeCovers rings (moved_back d u.0)) e shifts u.2) [
             | inl c ↦
                 Any-left (λ r. Covers r s) (placed_figure m rings e) (flat_map (placed_figure m rings) shifts)
                 (here.1 (u.0, u.1, c))
@@ -107,18 +107,18 @@ shape_covers m s rings (e ∷ shifts) all =
 
 -- the shapes on a Layer
 pub drawn_covers : (layer : Layer) (m : Map) (s : Square) (shapes : List (PlainShape Rings)) → AreFiguresPlaced m shapes
-    → RingsCover (drawn_on layer m shapes) s ↔ Under m s (λ t. Any (ShapeCovers RingsCover layer t) shapes)
+    → SomeCovers (drawn_on layer m shapes) s ↔ Under m s (λ t. Any (ShapeCovers SomeCovers layer t) shapes)
 drawn_covers layer m s [] all =
-    (λ a. absurd (Any-nil (λ ring. Covers ring s) a), λ u. absurd (Any-nil (ShapeCovers RingsCover layer u.0) u.2))
+    (λ a. absurd (Any-nil (λ ring. Covers ring s) a), λ u. absurd (Any-nil (ShapeCovers SomeCovers layer u.0) u.2))
 drawn_covers layer m s (h ∷ shapes) all =
     let P : PlainShape Rings → Type 0 = λ g. All (λ e. All (IsPlaced m e) g.figure) g.shifts in
     let shape = shape_covers m s h.figure h.shifts (All-head P h shapes all) in
     let rest = drawn_covers layer m s shapes (All-tail P h shapes all) in
-    let mine : RingsCover (cond (same_layer h.layer layer) (placed_shape m h) []) s
-    ↔ Under m s (λ t. ShapeCovers RingsCover layer t h) =
+    let mine : SomeCovers (cond (same_layer h.layer layer) (placed_shape m h) []) s
+    ↔ Under m s (λ t. ShapeCovers SomeCovers layer t h) =
     elim (same_layer h.layer layer)
     as (λ b. same_layer h.layer layer ≡ b
-    → RingsCover (cond b (placed_shape m h) []) s ↔ Under m s (λ t. ShapeCovers RingsCover layer t h)) [
+    → SomeCovers (cond b (placed_shape m h) []) s ↔ Under m s (λ t. ShapeCovers SomeCovers layer t h)) [
       | true ↦
           λ e. (
             λ a. let u = shape.0 a in (u.0, u.1, (tested_layer h.layer layer (ap not e), u.2)),
@@ -134,11 +134,11 @@ drawn_covers layer m s (h ∷ shapes) all =
           elim
           (Any-sides (λ r. Covers r s) (cond (same_layer h.layer layer) (placed_shape m h) [])
           (drawn_on layer m shapes) a) [
-            | inl b ↦ let u = mine.0 b in (u.0, u.1, Any-head (ShapeCovers RingsCover layer u.0) h shapes u.2)
-            | inr b ↦ let u = rest.0 b in (u.0, u.1, Any-tail (ShapeCovers RingsCover layer u.0) h shapes u.2)
+            | inl b ↦ let u = mine.0 b in (u.0, u.1, Any-head (ShapeCovers SomeCovers layer u.0) h shapes u.2)
+            | inr b ↦ let u = rest.0 b in (u.0, u.1, Any-tail (ShapeCovers SomeCovers layer u.0) h shapes u.2)
           ],
       λ u.
-          elim (Any-uncons (ShapeCovers RingsCover layer u.0) h shapes u.2) [
+          elim (Any-uncons (ShapeCovers SomeCovers layer u.0) h shapes u.2) [
             | inl c ↦
                 Any-left (λ r. Covers r s) (cond (same_layer h.layer layer) (placed_shape m h) [])
                 (drawn_on layer m shapes) (mine.1 (u.0, u.1, c))
@@ -157,18 +157,18 @@ is_some P o x e p = subst (λ q. IsSomeAnd q P) (sym e) p
 
 -- a cell covers what its shapes and its picks do
 within_step : (cells : List (PlainCell Rings)) (layer : Layer) (c : PlainCell Rings) (s : Square) (n : ℕ)
-    → CoversWithin RingsCover cells layer n c s
-    → Any (ShapeCovers RingsCover layer s) c.shapes ⊎ Any (PickCovers cells layer s) (picks c.references)
+    → CoversWithin SomeCovers cells layer n c s
+    → Any (ShapeCovers SomeCovers layer s) c.shapes ⊎ Any (PickCovers cells layer s) (picks c.references)
 within_step cells layer c s zero h = inl h
 within_step cells layer c s (suc n) (inl a) = inl a
 within_step cells layer c s (suc n) (inr a) =
     let found =
-    some_is (λ d. Any (PullsBack (CoversWithin RingsCover cells layer n d) a.1 s) a.1.shifts)
+    some_is (λ d. Any (PullsBack (CoversWithin SomeCovers cells layer n d) a.1 s) a.1.shifts)
     (cell_named cells a.1.cell) a.4 in
     let some = found.2 in
     let back = some.4 in
     let pick : PickCovers cells layer s (a.1, some.1) =
-    is_some (λ d. PullsBack (CellCovers RingsCover cells layer d) a.1 s some.1) (cell_named cells a.1.cell) found.0
+    is_some (λ d. PullsBack (CellCovers SomeCovers cells layer d) a.1 s some.1) (cell_named cells a.1.cell) found.0
     found.1 (back.0, back.1, (n, back.2)) in
     inr ((picks_any (λ r e. PickCovers cells layer s (r, e)) c.references).0 (
       a.0,
@@ -179,8 +179,8 @@ within_step cells layer c s (suc n) (inr a) =
     ))
 
 pub cell_covers : (cells : List (PlainCell Rings)) (layer : Layer) (c : PlainCell Rings) (s : Square)
-    → CellCovers RingsCover cells layer c s
-    ↔ (Any (ShapeCovers RingsCover layer s) c.shapes ⊎ Any (PickCovers cells layer s) (picks c.references))
+    → CellCovers SomeCovers cells layer c s
+    ↔ (Any (ShapeCovers SomeCovers layer s) c.shapes ⊎ Any (PickCovers cells layer s) (picks c.references))
 cell_covers cells layer c s = (
   λ h. within_step cells layer c s h.0 h.1,
   λ e.
@@ -190,7 +190,7 @@ cell_covers cells layer c s = (
             let q = (picks_any (λ r d. PickCovers cells layer s (r, d)) c.references).1 a in
             let some = q.4 in
             let found =
-            some_is (λ d. PullsBack (CellCovers RingsCover cells layer d) q.1 s some.1) (cell_named cells q.1.cell)
+            some_is (λ d. PullsBack (CellCovers SomeCovers cells layer d) q.1 s some.1) (cell_named cells q.1.cell)
             some.4 in
             let back = found.2 in (
               suc back.2.0,
@@ -199,7 +199,7 @@ cell_covers cells layer c s = (
                 q.1,
                 q.2,
                 q.3,
-                is_some (λ d. Any (PullsBack (CoversWithin RingsCover cells layer back.2.0 d) q.1 s) q.1.shifts)
+                is_some (λ d. Any (PullsBack (CoversWithin SomeCovers cells layer back.2.0 d) q.1 s) q.1.shifts)
                     (cell_named cells q.1.cell) found.0 found.1
                     (some.0, some.1, some.2, some.3, (back.0, back.1, back.2.1)),
               ),
@@ -210,21 +210,21 @@ cell_covers cells layer c s = (
 -- a pick covers what its cell does, placed by the composed map
 pub pick_covers : (cells : List (PlainCell Rings)) (layer : Layer) (m w : Map) (s : Square) (p : Pick)
     (d : PlainCell Rings) → cell_named cells p.0.cell ≡ Some d → IsComposed m (placing p.0 p.1) w
-    → Under m s (λ t. PickCovers cells layer t p) ↔ Under w s (CellCovers RingsCover cells layer d)
+    → Under m s (λ t. PickCovers cells layer t p) ↔ Under w s (CellCovers SomeCovers cells layer d)
 pick_covers cells layer m w s p d named whole = (
   λ u.
       let a =
-      some_is (λ b. PullsBack (CellCovers RingsCover cells layer b) p.0 u.0 p.1) (cell_named cells p.0.cell) u.2 in
+      some_is (λ b. PullsBack (CellCovers SomeCovers cells layer b) p.0 u.0 p.1) (cell_named cells p.0.cell) u.2 in
       let one : Some a.0 ≡ Some d = sym a.1 ∙ named in
       let same : a.0 ≡ d = cc in (
         a.2.0,
         image_square-composed m (placing p.0 p.1) w whole a.2.0 ∙ (ap (image_square m) a.2.1 ∙ u.1),
-        subst (λ b. CellCovers RingsCover cells layer b a.2.0) same a.2.2,
+        subst (λ b. CellCovers SomeCovers cells layer b a.2.0) same a.2.2,
       ),
   λ u. (
     image_square (placing p.0 p.1) u.0,
     sym (image_square-composed m (placing p.0 p.1) w whole u.0) ∙ u.1,
-    is_some (λ b. PullsBack (CellCovers RingsCover cells layer b) p.0 (image_square (placing p.0 p.1) u.0) p.1)
+    is_some (λ b. PullsBack (CellCovers SomeCovers cells layer b) p.0 (image_square (placing p.0 p.1) u.0) p.1)
         (cell_named cells p.0.cell) d named (u.0, refl, u.2),
   ),
 )

@@ -10,13 +10,12 @@ use Rattle.lvl_grid.specs.declared.point.Window.{Window}
 use Rattle.lvl_grid.specs.declared.map.Map.{Map}
 use Rattle.lvl_grid.specs.Clip.{IsWithin as IsInWindow}
 use Rattle.lvl_grid.specs.Placed.{placed_point, IsPlaceOfCovered}
-use Rattle.lvl_grid.specs.Winding.{Covers}
+use Rattle.lvl_grid.specs.Winding.{Covers, SomeCovers}
 use Rattle.lvl_grid.proofs.Anyone.{Any-push}
 use Rattle.lvl_names.specs.declared.layer.Layer.{Layer}
 use Rattle.lvl_names.specs.Layers.{ComesBefore, same_layer}
 use Rattle.lvl_names.proofs.Layers.{before_itself, differs_is, same_is, tested_layer}
 use Rattle.lvl_cells.specs.Cells.{PlainShape, Rings}
-use Rattle.lvl_cells.specs.Coverage.{RingsCover}
 use Rattle.lvl_flat.specs.declared.bounds.Bounds.{Bounds}
 use Rattle.lvl_flat.specs.Flattened.{FitsRing}
 use Rattle.lvl_flat.specs.Sheet.{PlainSheet}
@@ -67,7 +66,7 @@ covers_all P W old new xs k past h = subst (λ ys. new ↔ (old ⊎ (W × Any P 
 pub outside_adds : (m : Map) (e : Point) (window : Window) (b placed : Bounds) (ring : List Point) (old : Rings)
     → ((p : Point) → IsWithin b p → IsWithin placed (placed_point m e p)) → All (IsWithin b) ring
     → IsOutside placed window → (q : Square)
-    → RingsCover old q ↔ (RingsCover old q ⊎ (IsInWindow window q × IsPlaceOfCovered m e ring q))
+    → SomeCovers old q ↔ (SomeCovers old q ⊎ (IsInWindow window q × IsPlaceOfCovered m e ring q))
 outside_adds m e window b placed ring old holds all out q = (
   λ a. inl a,
   λ d. elim d [
@@ -87,7 +86,7 @@ pub inside_adds : (m : Map) (e : Point) (window : Window) (b placed : Bounds) (r
     → ((p : Point) → IsWithin b p → IsWithin placed (placed_point m e p)) → All (IsWithin b) ring
     → IsInside placed window → new ≡ old ++ map (placed_point m e) ring ∷ []
     → ((t : Square) → Covers (map (placed_point m e) ring) t ↔ IsPlaceOfCovered m e ring t) → (q : Square)
-    → RingsCover new q ↔ (RingsCover old q ⊎ (IsInWindow window q × IsPlaceOfCovered m e ring q))
+    → SomeCovers new q ↔ (SomeCovers old q ⊎ (IsInWindow window q × IsPlaceOfCovered m e ring q))
 inside_adds m e window b placed ring old new holds all within is covers q =
     let C : List Point → Type 0 = λ r. Covers r q in
     let push = Any-push C old (map (placed_point m e) ring) in (
@@ -107,8 +106,8 @@ inside_adds m e window b placed ring old new holds all within is covers q =
 pub cut_adds : (m : Map) (e : Point) (window : Window) (ring placed : List Point) (old new : Rings)
     → placed ≡ map (placed_point m e) ring
     → ((t : Square) → Covers (map (placed_point m e) ring) t ↔ IsPlaceOfCovered m e ring t)
-    → ((s : Square) → RingsCover new s ↔ (RingsCover old s ⊎ (IsInWindow window s × Covers placed s))) → (q : Square)
-    → RingsCover new q ↔ (RingsCover old q ⊎ (IsInWindow window q × IsPlaceOfCovered m e ring q))
+    → ((s : Square) → SomeCovers new s ↔ (SomeCovers old s ⊎ (IsInWindow window s × Covers placed s))) → (q : Square)
+    → SomeCovers new q ↔ (SomeCovers old q ⊎ (IsInWindow window q × IsPlaceOfCovered m e ring q))
 cut_adds m e window ring placed old new is covers clipped q = (
   λ a. elim ((clipped q).0 a) [
     | inl b ↦ inl b
@@ -162,18 +161,18 @@ rings_on-put (t ∷ sheets) (suc i) s rings sorted at layer =
 -- what is added to the rings of one sheet is added on its Layer
 pub sheet_adds : (sheets : List PlainSheet) (i : ℕ) (s new : PlainSheet) (rings : Rings) (W : Type 0) (P : Type 0)
     (q : Square) → AreSorted sheets → slice_get sheets i ≡ Some s → new ≡ record { layer = s.layer; rings = rings }
-    → RingsCover rings q ↔ (RingsCover s.rings q ⊎ (W × P)) → (layer : Layer)
-    → RingsCover (rings_on layer (set sheets i new)) q
-    ↔ (RingsCover (rings_on layer sheets) q ⊎ (W × ((s.layer ≡ layer) × P)))
+    → SomeCovers rings q ↔ (SomeCovers s.rings q ⊎ (W × P)) → (layer : Layer)
+    → SomeCovers (rings_on layer (set sheets i new)) q
+    ↔ (SomeCovers (rings_on layer sheets) q ⊎ (W × ((s.layer ≡ layer) × P)))
 sheet_adds sheets i s new rings W P q sorted at is adds layer =
     let all : rings_on layer (set sheets i new) ≡ cond (same_layer s.layer layer) rings (rings_on layer sheets) =
     ap (λ n. rings_on layer (set sheets i n)) is ∙ rings_on-put sheets i s rings sorted at layer in
-    let C : Rings → Type 0 = λ rs. RingsCover rs q in
+    let C : Rings → Type 0 = λ rs. SomeCovers rs q in
     elim (same_layer s.layer layer)
     as (λ b. same_layer s.layer layer ≡ b
     → rings_on layer (set sheets i new) ≡ cond b rings (rings_on layer sheets)
-    → RingsCover (rings_on layer (set sheets i new)) q
-    ↔ (RingsCover (rings_on layer sheets) q ⊎ (W × ((s.layer ≡ layer) × P)))) [
+    → SomeCovers (rings_on layer (set sheets i new)) q
+    ↔ (SomeCovers (rings_on layer sheets) q ⊎ (W × ((s.layer ≡ layer) × P)))) [
       | true ↦ λ e f.
           let here : s.layer ≡ layer = tested_layer s.layer layer (ap not e) in
           let old : rings_on layer sheets ≡ s.rings = rings_where sheets layer i s sorted at here in (

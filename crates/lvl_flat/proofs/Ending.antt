@@ -5,11 +5,12 @@ use Rattle.std.proofs.Common.{sym, ap, subst, ◌∙◌, arith}
 use Rattle.std.proofs.lemmas.List.Elements.{All-head, All-tail, All-filter, filter-append, All-weaker, filter_passes}
 use Rattle.std.proofs.lemmas.Bool.{eqb-true}
 use Rattle.lvl_grid.specs.declared.point.Square.{Square}
+use Rattle.lvl_grid.specs.Winding.{SomeCovers}
 use Rattle.lvl_names.specs.declared.layer.Layer.{Layer}
 use Rattle.lvl_cells.specs.Cells.{PlainCell, Rings, each_ring}
 use Rattle.lvl_cells.specs.Chains.{unmoved, own_rings_on}
 use Rattle.lvl_cells.specs.Checks.{Settled}
-use Rattle.lvl_cells.specs.Coverage.{RingsCover, ShapeCovers, CellCovers}
+use Rattle.lvl_cells.specs.Coverage.{ShapeCovers, CellCovers}
 use Rattle.lvl_cells.specs.Soundness.{AreLinked, IsOrder}
 use Rattle.lvl_flat.specs.declared.visit.Visit.{Visit}
 use Rattle.lvl_flat.specs.inside.Drawn.{drawn_on, AreFiguresPlaced}
@@ -58,8 +59,8 @@ walk_begins s c empty new linked ordered at sorted have none d =
           way_begins s c Everywhere (SheetsCover new) at (placed_fit unmoved c.shapes placed)
           (λ layer q counts.
           let mine = drawn_covers layer unmoved q c.shapes placed in (
-            λ a. mine.0 (subst (λ rs. RingsCover rs q) (drawn layer) a),
-            λ own. subst (λ rs. RingsCover rs q) (sym (drawn layer)) (mine.1 own),
+            λ a. mine.0 (subst (λ rs. SomeCovers rs q) (drawn layer) a),
+            λ own. subst (λ rs. SomeCovers rs q) (sym (drawn layer)) (mine.1 own),
           ));
       sorted = sorted_alike new empty d.layers sorted;
       layers = layers_kept cells empty new d.layers have;
@@ -149,7 +150,7 @@ rings_on-filled (t ∷ ss) sorted layer =
 pub own_covers : (c : PlainCell Rings) (empty new : List PlainSheet) → AreSorted empty
     → ((layer : Layer) → rings_on layer empty ≡ []) → IsDrawn (c ∷ []) 0 unmoved empty new
     → (layer : Layer) (s : Square)
-    → RingsCover (rings_on layer (filter is_filled new)) s ↔ Any (ShapeCovers RingsCover layer s) c.shapes
+    → SomeCovers (rings_on layer (filter is_filled new)) s ↔ Any (ShapeCovers SomeCovers layer s) c.shapes
 own_covers c empty new sorted none d layer s =
     let both : Some c ≡ Some d.cell = d.there in
     let one : d.cell ≡ c = cc in
@@ -161,10 +162,10 @@ own_covers c empty new sorted none d layer s =
     ∙ ap (λ (b : PlainCell Rings). drawn_on layer unmoved b.shapes) one) in
     let same : rings_on layer (filter is_filled new) ≡ drawn_on layer unmoved c.shapes =
     rings_on-filled new (sorted_alike new empty d.layers sorted) layer ∙ drawn in
-    let stays = under_unmoved s (λ t. Any (ShapeCovers RingsCover layer t) c.shapes) in
+    let stays = under_unmoved s (λ t. Any (ShapeCovers SomeCovers layer t) c.shapes) in
     let mine = drawn_covers layer unmoved s c.shapes placed in (
-      λ a. stays.0 (mine.0 (subst (λ rs. RingsCover rs s) same a)),
-      λ h. subst (λ rs. RingsCover rs s) (sym same) (mine.1 (stays.1 h)),
+      λ a. stays.0 (mine.0 (subst (λ rs. SomeCovers rs s) same a)),
+      λ h. subst (λ rs. SomeCovers rs s) (sym same) (mine.1 (stays.1 h)),
     )
 
 -- one whose vertices are out of range
@@ -207,13 +208,13 @@ filled_step ss filled all rest rest' s b e so next = (
 -- with no visit left, what the top covers is drawn, and all is in range
 ended : (s : Settled) (top : PlainCell Rings) (W : Square → Type 0) (sheets : List PlainSheet) → AreSorted sheets
     → (way : IsUnderWay s top W (SheetsCover sheets) []) → (layer : Layer) (q : Square) → W q
-    → RingsCover (rings_on layer (filter is_filled sheets)) q ↔ CellCovers RingsCover s.cells layer top q
+    → SomeCovers (rings_on layer (filter is_filled sheets)) q ↔ CellCovers SomeCovers s.cells layer top q
 ended s top W sheets sorted way layer q counts =
     let same = rings_on-filled sheets sorted layer in
     let both = way.covers layer q counts in (
-      λ a. both.1 (inl (subst (λ rs. RingsCover rs q) same a)),
+      λ a. both.1 (inl (subst (λ rs. SomeCovers rs q) same a)),
       λ h. elim (both.0 h) [
-        | inl a ↦ subst (λ rs. RingsCover rs q) (sym same) a
+        | inl a ↦ subst (λ rs. SomeCovers rs q) (sym same) a
         | inr b ↦ absurd (Any-nil (VisitCovers s.cells layer q) b)
       ],
     )
@@ -240,7 +241,7 @@ window_ends s window sheets w = record {
       let same = rings_on-filled sheets w.sorted layer in
       let both = ended s w.top (IsWithin window) sheets w.sorted w.way layer q in (
         λ a.
-            let shown : IsWithin window q = w.within layer q (subst (λ rs. RingsCover rs q) same a) in
+            let shown : IsWithin window q = w.within layer q (subst (λ rs. SomeCovers rs q) same a) in
             (shown, (both shown).0 a),
         λ h. (both h.0).1 h.1,
       );

@@ -5,12 +5,12 @@ use Rattle.std.proofs.Common.{Option, Some, Contains, inl, inr, sym, ap, subst, 
 use Rattle.std.specs.Option.{option_map_or}
 use Rattle.lvl_grid.specs.declared.point.Point.{Point}
 use Rattle.lvl_grid.specs.declared.map.Map.{Map}
-use Rattle.lvl_grid.specs.Winding.{Covers}
+use Rattle.lvl_grid.specs.Winding.{Covers, SomeCovers}
 use Rattle.lvl_names.specs.declared.layer.Layer.{Layer}
 use Rattle.lvl_cells.specs.Cells.{PlainCell, Rings, each_ring, PlainShape}
 use Rattle.lvl_cells.specs.Chains.{own_rings_on}
 use Rattle.lvl_cells.specs.Checks.{Settled}
-use Rattle.lvl_cells.specs.Coverage.{RingsCover, ShapeCovers}
+use Rattle.lvl_cells.specs.Coverage.{ShapeCovers}
 use Rattle.lvl_cells.specs.Soundness.{AreLinked, IsOrder}
 use Rattle.lvl_flat.specs.declared.visit.Visit.{Visit}
 use Rattle.lvl_flat.specs.inside.Drawn.{drawn_on, AreFiguresPlaced}
@@ -46,7 +46,7 @@ layers_kept cells old new same have =
 -- the shapes of a cell are drawn in addition to what is drawn already
 pub drawn_beside : (layer : Layer) (m : Map) (q : Square) (shapes : List (PlainShape Rings)) (old new : Rings)
     → AreFiguresPlaced m shapes → new ≡ old ++ drawn_on layer m shapes
-    → RingsCover new q ↔ (RingsCover old q ⊎ Under m q (λ t. Any (ShapeCovers RingsCover layer t) shapes))
+    → SomeCovers new q ↔ (SomeCovers old q ⊎ Under m q (λ t. Any (ShapeCovers SomeCovers layer t) shapes))
 drawn_beside layer m q shapes old new placed same =
     let C : List Point → Type 0 = λ ring. Covers ring q in
     let mine = drawn_covers layer m q shapes placed in (

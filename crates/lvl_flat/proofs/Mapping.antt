@@ -6,11 +6,10 @@ use Rattle.std.proofs.lemmas.List.Concat.{flat_map-append}
 use Rattle.std.proofs.lemmas.List.Elements.{All-contains, All-weaker, Contains-append_right}
 use Rattle.lvl_grid.specs.declared.point.Point.{Point}
 use Rattle.lvl_grid.specs.declared.point.Square.{Square}
-use Rattle.lvl_grid.specs.Winding.{Covers}
+use Rattle.lvl_grid.specs.Winding.{Covers, SomeCovers}
 use Rattle.lvl_grid.proofs.Anyone.{Any-nil, Any-left, Any-right, Any-sides}
 use Rattle.lvl_names.specs.declared.layer.Layer.{Layer}
 use Rattle.lvl_cells.specs.Cells.{Rings}
-use Rattle.lvl_cells.specs.Coverage.{RingsCover}
 use Rattle.lvl_names.specs.Layers.{ComesBefore, same_layer}
 use Rattle.lvl_names.proofs.Layers.{before_itself, same_is, tested_layer}
 use Rattle.lvl_view.specs.declared.map.LayerPair.{LayerPair}
@@ -33,36 +32,36 @@ mapped_more pairs layer sheets t =
     flat_map-append (moved_on pairs layer) sheets (t ∷ [])
     ∙ ap (λ rings. mapped_on pairs layer sheets ++ rings) (append-nil (moved_on pairs layer t))
 
-none_cover : (s : Square) → RingsCover [] s → ⊥
+none_cover : (s : Square) → SomeCovers [] s → ⊥
 none_cover s a = Any-nil (λ (ring : List Point). Covers ring s) a
 
 -- rings on a Layer in the sheets after the first are also there with the first
 covered_after : (t : PlainSheet) (ts : List PlainSheet) (layer : Layer) (s : Square) → AreSorted (t ∷ ts)
-    → RingsCover (rings_on layer ts) s → RingsCover (rings_on layer (t ∷ ts)) s
+    → SomeCovers (rings_on layer ts) s → SomeCovers (rings_on layer (t ∷ ts)) s
 covered_after t ts layer s sorted a =
     elim (same_layer t.layer layer)
-    as (λ b. same_layer t.layer layer ≡ b → RingsCover (cond b t.rings (rings_on layer ts)) s) [
+    as (λ b. same_layer t.layer layer ≡ b → SomeCovers (cond b t.rings (rings_on layer ts)) s) [
       | true ↦ λ e.
           let here : t.layer ≡ layer = tested_layer t.layer layer (ap not e) in
           let others : All (λ u. u.layer ≢ layer) ts =
           All-weaker (λ u. ComesBefore t.layer u.layer) (λ u. u.layer ≢ layer)
           (λ u before same. before_itself layer (subst (λ (x : Layer). ComesBefore x layer) here
           (subst (λ (x : Layer). ComesBefore t.layer x) same before))) ts (comes_before_rest t ts sorted) in
-          absurd (none_cover s (subst (λ (rings : Rings). RingsCover rings s) (rings_nowhere ts layer others) a))
+          absurd (none_cover s (subst (λ (rings : Rings). SomeCovers rings s) (rings_nowhere ts layer others) a))
       | false ↦ λ e. a
     ] refl
 
 first_covered : (pairs : List LayerPair) (t : PlainSheet) (ts : List PlainSheet) (layer : Layer) (s : Square)
-    → RingsCover (moved_on pairs layer t) s → IsMoved pairs (λ l. RingsCover (rings_on l (t ∷ ts))) layer s
+    → SomeCovers (moved_on pairs layer t) s → IsMoved pairs (λ l. SomeCovers (rings_on l (t ∷ ts))) layer s
 first_covered pairs t ts layer s a =
     elim (same_layer (target_of pairs t.layer) layer)
-    as (λ b. same_layer (target_of pairs t.layer) layer ≡ b → RingsCover (cond b t.rings []) s
-    → IsMoved pairs (λ l. RingsCover (rings_on l (t ∷ ts))) layer s) [
+    as (λ b. same_layer (target_of pairs t.layer) layer ≡ b → SomeCovers (cond b t.rings []) s
+    → IsMoved pairs (λ l. SomeCovers (rings_on l (t ∷ ts))) layer s) [
       | true ↦ λ e h. record {
         source = t.layer;
         is_target = tested_layer (target_of pairs t.layer) layer (ap not e);
         covers =
-            subst (λ (b : Bool). RingsCover (cond b t.rings (rings_on t.layer ts)) s)
+            subst (λ (b : Bool). SomeCovers (cond b t.rings (rings_on t.layer ts)) s)
             (sym (same_is t.layer t.layer refl))
             h;
       }
@@ -71,7 +70,7 @@ first_covered pairs t ts layer s a =
 
 -- the rings that came to a Layer cover what was covered on the Layers whose target it is
 pub mapped_covers : (pairs : List LayerPair) (sheets : List PlainSheet) (layer : Layer) (s : Square) → AreSorted sheets
-    → RingsCover (mapped_on pairs layer sheets) s ↔ IsMoved pairs (λ l. RingsCover (rings_on l sheets)) layer s
+    → SomeCovers (mapped_on pairs layer sheets) s ↔ IsMoved pairs (λ l. SomeCovers (rings_on l sheets)) layer s
 mapped_covers pairs [] layer s sorted = (λ a. absurd (none_cover s a), λ h. absurd (none_cover s h.covers))
 mapped_covers pairs (t ∷ ts) layer s sorted =
     let rest = mapped_covers pairs ts layer s (sorted_tail t ts sorted) in
@@ -89,12 +88,12 @@ mapped_covers pairs (t ∷ ts) layer s sorted =
             }
       ],
       λ h. elim (same_layer t.layer h.source)
-          as (λ b. same_layer t.layer h.source ≡ b → RingsCover (cond b t.rings (rings_on h.source ts)) s
-          → RingsCover (mine ++ theirs) s) [
+          as (λ b. same_layer t.layer h.source ≡ b → SomeCovers (cond b t.rings (rings_on h.source ts)) s
+          → SomeCovers (mine ++ theirs) s) [
             | true ↦ λ e k.
                 let here : target_of pairs t.layer ≡ layer =
                 ap (target_of pairs) (tested_layer t.layer h.source (ap not e)) ∙ h.is_target in
-                Any-left P mine theirs (subst (λ (b : Bool). RingsCover (cond b t.rings []) s)
+                Any-left P mine theirs (subst (λ (b : Bool). SomeCovers (cond b t.rings []) s)
                 (sym (same_is (target_of pairs t.layer) layer here)) k)
             | false ↦
                 λ e k. Any-right P mine theirs

@@ -15,14 +15,14 @@ use Rattle.lvl_grid.specs.declared.part.Part.TheVariants.{Within}
 use Rattle.lvl_grid.specs.Clip.{put, clamp, IsWithin as IsInWindow}
 use Rattle.lvl_grid.specs.Placed.{placed_point, moved_square, IsPlaceOfCovered}
 use Rattle.lvl_grid.specs.Turn.{image, image_square, shifted, FitsPoint}
-use Rattle.lvl_grid.specs.Winding.{Covers}
+use Rattle.lvl_grid.specs.Winding.{Covers, SomeCovers}
 use Rattle.lvl_grid.proofs.Clipping.{kept_covers}
 use Rattle.lvl_grid.proofs.Composing.{composed, image-composed, same_point}
 use Rattle.lvl_grid.proofs.Squares.{same_square}
 use Rattle.lvl_names.specs.declared.layer.Layer.{Layer}
 use Rattle.lvl_cells.specs.Cells.{PlainCell, PlainShape, PlainReference, Rings, placing, cell_named}
 use Rattle.lvl_cells.specs.Chains.{Chain, unmoved}
-use Rattle.lvl_cells.specs.Coverage.{moved_back, RingsCover, ShapeCovers, PullsBack, CoversWithin, CellCovers}
+use Rattle.lvl_cells.specs.Coverage.{moved_back, ShapeCovers, PullsBack, CoversWithin, CellCovers}
 use Rattle.lvl_flat.specs.declared.bounds.Bounds.{Bounds}
 use Rattle.lvl_flat.specs.Boxes.{IsWithin, HoldsShape, HoldsCell, HoldsChains, AreBoxes}
 use Rattle.lvl_flat.specs.inside.Bounds.{HasSquare}
@@ -361,7 +361,7 @@ moved_there e s = same_square _ _ (omega (arith, ints, clamps)) (omega (arith, i
 
 -- a square that a cell's own shapes cover
 own_square : (cells : List (PlainCell Rings)) (layer : Layer) (b : Bounds) (c : PlainCell Rings) (s : Square)
-    → HoldsChains cells b c → Any (ShapeCovers RingsCover layer s) c.shapes → HasSquare b s
+    → HoldsChains cells b c → Any (ShapeCovers SomeCovers layer s) c.shapes → HasSquare b s
 own_square cells layer b c s held a =
     let here : HoldsCell b unmoved c = held.chains 0 unmoved c (refl, refl) in
     let h : PlainShape Rings = a.1 in
@@ -386,13 +386,13 @@ own_square cells layer b c s held a =
 
 -- a square that a cell covers is in a box that has all that the cell places
 pub cell_square : (cells : List (PlainCell Rings)) (layer : Layer) (n : ℕ) (b : Bounds) (c : PlainCell Rings)
-    (s : Square) → HoldsChains cells b c → CoversWithin RingsCover cells layer n c s → HasSquare b s
+    (s : Square) → HoldsChains cells b c → CoversWithin SomeCovers cells layer n c s → HasSquare b s
 cell_square cells layer zero b c s held a = own_square cells layer b c s held a
 cell_square cells layer (suc n) b c s held (inl a) = own_square cells layer b c s held a
 cell_square cells layer (suc n) b c s held (inr a) =
     let r : PlainReference = a.1 in
     let found =
-    some_is (λ d. Any (PullsBack (CoversWithin RingsCover cells layer n d) r s) r.shifts) (cell_named cells r.cell)
+    some_is (λ d. Any (PullsBack (CoversWithin SomeCovers cells layer n d) r s) r.shifts) (cell_named cells r.cell)
     a.4 in
     let d : PlainCell Rings = found.0 in
     let at = found.2 in
@@ -409,7 +409,7 @@ cell_square cells layer (suc n) b c s held (inr a) =
 pub outside_covers : (cells : List (PlainCell Rings)) (known : List (Option Bounds)) (i : ℕ) (m : Map)
     (window : Window) (c : PlainCell Rings) → AreBoxes cells known → slice_get cells i ≡ Some c
     → IsPlacedOutside known i m window → (layer : Layer) (q : Square) → IsInWindow window q
-    → Under m q (CellCovers RingsCover cells layer c) → ⊥
+    → Under m q (CellCovers SomeCovers cells layer c) → ⊥
 outside_covers cells known i m window c boxes at out layer q shown u =
     let held : HoldsChains cells out.box c = (boxes i out.box c out.there at).1 in
     let has : HasSquare out.box u.0 = cell_square cells layer u.2.0 out.box c u.0 held u.2.1 in

@@ -12,8 +12,8 @@ use Rattle.lvl_grid.specs.declared.map.Map.{Map}
 use Rattle.lvl_grid.specs.Clip.{IsWithin as IsInWindow}
 use Rattle.lvl_grid.specs.Placed.{IsPlaceOfCovered}
 use Rattle.lvl_grid.proofs.Anyone.{Any-nil, Any-head, Any-uncons}
+use Rattle.lvl_grid.specs.Winding.{SomeCovers}
 use Rattle.lvl_cells.specs.Cells.{Rings}
-use Rattle.lvl_cells.specs.Coverage.{RingsCover}
 use Rattle.lvl_flat.specs.declared.bounds.Bounds.{Bounds}
 use Rattle.lvl_flat.specs.Flattened.{FitsRing}
 use Rattle.lvl_flat.specs.Boxes.{IsWithin}
@@ -25,8 +25,8 @@ use Rattle.lvl_flat.proofs.Outside.{placed_square}
 -- the ring is drawn at the shifts with an index below k: the rings `now` are `old` and it
 pub record IsDrawnUpTo (m : Map) (window : Window) (ring shifts : List Point) (old now : Rings) (k : ℕ) : Type 0 where
   pub inside : k ≤ length shifts
-  pub covers : (q : Square) → RingsCover now q
-      ↔ (RingsCover old q ⊎ (IsInWindow window q × Any (λ e. IsPlaceOfCovered m e ring q) (take k shifts)))
+  pub covers : (q : Square) → SomeCovers now q
+      ↔ (SomeCovers old q ⊎ (IsInWindow window q × Any (λ e. IsPlaceOfCovered m e ring q) (take k shifts)))
   pub fits : All (λ e. FitsRing m e ring) (take k shifts)
 
 -- at none
@@ -44,8 +44,8 @@ drawn_none m window ring shifts old = record {
 -- at one more
 pub drawn_more : (m : Map) (window : Window) (ring shifts : List Point) (old now new : Rings) (k : ℕ) (e : Point)
     → IsDrawnUpTo m window ring shifts old now k → slice_get shifts k ≡ Some e
-    → ((q : Square) → RingsCover new q
-    ↔ (RingsCover now q ⊎ (IsInWindow window q × IsPlaceOfCovered m e ring q)))
+    → ((q : Square) → SomeCovers new q
+    ↔ (SomeCovers now q ⊎ (IsInWindow window q × IsPlaceOfCovered m e ring q)))
     → FitsRing m e ring → IsDrawnUpTo m window ring shifts old new (k + 1)
 drawn_more m window ring shifts old now new k e before at step fits =
     let there : k < length shifts = slice_get_within shifts k e at in
@@ -53,8 +53,8 @@ drawn_more m window ring shifts old now new k e before at step fits =
     record {
       inside = omega (arith, there);
       covers = λ q.
-          covers_more (λ d. IsPlaceOfCovered m d ring q) (IsInWindow window q) (RingsCover old q) (RingsCover now q)
-          (RingsCover new q) shifts k e at (before.covers q) (step q);
+          covers_more (λ d. IsPlaceOfCovered m d ring q) (IsInWindow window q) (SomeCovers old q) (SomeCovers now q)
+          (SomeCovers new q) shifts k e at (before.covers q) (step q);
       fits =
           All-more (λ d. FitsRing m d ring) shifts k e there before.fits
           (subst (λ (p : Point). FitsRing m p ring) (sym is) fits);
@@ -139,9 +139,9 @@ drawn_past m window b ring shifts old now from to before held on inside missed =
 -- at all
 pub drawn_covers : (m : Map) (window : Window) (ring shifts : List Point) (old now : Rings) (k : ℕ)
     → IsDrawnUpTo m window ring shifts old now k → length shifts ≤ k → (q : Square)
-    → RingsCover now q ↔ (RingsCover old q ⊎ (IsInWindow window q × RingPlacesCover m shifts q ring))
+    → SomeCovers now q ↔ (SomeCovers old q ⊎ (IsInWindow window q × RingPlacesCover m shifts q ring))
 drawn_covers m window ring shifts old now k drawn past q =
-    covers_all (λ d. IsPlaceOfCovered m d ring q) (IsInWindow window q) (RingsCover old q) (RingsCover now q) shifts k
+    covers_all (λ d. IsPlaceOfCovered m d ring q) (IsInWindow window q) (SomeCovers old q) (SomeCovers now q) shifts k
     past (drawn.covers q)
 
 pub drawn_fits : (m : Map) (window : Window) (ring shifts : List Point) (old now : Rings) (k : ℕ)
@@ -166,8 +166,8 @@ fits_at m ring shifts k e fits at =
 
 -- a ring that is drawn at one shift alone
 pub drawn_once : (m : Map) (window : Window) (ring : List Point) (old new : Rings) (e : Point) (q : Square)
-    → RingsCover new q ↔ (RingsCover old q ⊎ (IsInWindow window q × IsPlaceOfCovered m e ring q))
-    → RingsCover new q ↔ (RingsCover old q ⊎ (IsInWindow window q × RingPlacesCover m (e ∷ []) q ring))
+    → SomeCovers new q ↔ (SomeCovers old q ⊎ (IsInWindow window q × IsPlaceOfCovered m e ring q))
+    → SomeCovers new q ↔ (SomeCovers old q ⊎ (IsInWindow window q × RingPlacesCover m (e ∷ []) q ring))
 drawn_once m window ring old new e q step =
     let P : Point → Type 0 = λ d. IsPlaceOfCovered m d ring q in (
       λ h. elim (step.0 h) [ inl a ↦ inl a | inr b ↦ inr (b.0, Any-head P e [] b.1) ],

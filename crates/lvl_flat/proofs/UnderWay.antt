@@ -9,11 +9,12 @@ use Rattle.lvl_grid.specs.Turn.{image, image_square, FitsPoint}
 use Rattle.lvl_grid.proofs.Anyone.{Any-nil, Any-head, Any-uncons, Any-push}
 use Rattle.lvl_grid.proofs.Composing.{composed, image-composed}
 use Rattle.lvl_grid.proofs.Squares.{same_square}
+use Rattle.lvl_grid.specs.Winding.{SomeCovers}
 use Rattle.lvl_names.specs.declared.layer.Layer.{Layer}
 use Rattle.lvl_cells.specs.Cells.{PlainCell, Rings, placing, cell_named}
 use Rattle.lvl_cells.specs.Chains.{Chain, IsComposed, unmoved}
 use Rattle.lvl_cells.specs.Checks.{Settled}
-use Rattle.lvl_cells.specs.Coverage.{RingsCover, ShapeCovers, CellCovers}
+use Rattle.lvl_cells.specs.Coverage.{ShapeCovers, CellCovers}
 use Rattle.lvl_flat.specs.declared.visit.Visit.{Visit}
 use Rattle.lvl_flat.specs.declared.fault.FlatFault.{FlatFault}
 use Rattle.lvl_flat.specs.declared.fault.FlatFault.TheVariants.{OutOfRange}
@@ -170,7 +171,7 @@ pub way_missed : (s : Settled) (top : PlainCell Rings) (W : Square → Type 0) (
     (front : List Visit) (v : Visit)
     (i : ℕ) (m : Map) (rest : Visit) → IsUnderWay s top W C (front ++ v ∷ []) → (into : IsInto s.cells v i m rest)
     → FitsUnder s.cells m into.next
-    → ((layer : Layer) (q : Square) → W q → Under m q (CellCovers RingsCover s.cells layer into.next) → ⊥)
+    → ((layer : Layer) (q : Square) → W q → Under m q (CellCovers SomeCovers s.cells layer into.next) → ⊥)
     → IsUnderWay s top W C (front ++ rest ∷ [])
 way_missed s top W C front v i m rest way into under none =
     replaced s top W C front v rest way into.map_is into.cell_is
@@ -205,7 +206,7 @@ pub way_into : (s : Settled) (top : PlainCell Rings) (W : Square → Type 0) (C 
     (i : ℕ) (m : Map) (rest : Visit) → IsUnderWay s top W C (front ++ v ∷ []) → (into : IsInto s.cells v i m rest)
     → FitShapes m into.next.shapes
     → ((layer : Layer) (q : Square) → W q
-    → D layer q ↔ (C layer q ⊎ Under m q (λ t. Any (ShapeCovers RingsCover layer t) into.next.shapes)))
+    → D layer q ↔ (C layer q ⊎ Under m q (λ t. Any (ShapeCovers SomeCovers layer t) into.next.shapes)))
     → IsUnderWay s top W D ((front ++ rest ∷ []) ++ begun i m ∷ [])
 way_into s top W C D front v i m rest way into vertices drawn =
     let cells : List (PlainCell Rings) = s.cells in
@@ -314,7 +315,7 @@ only v u (suc k, below, same) P p = absurd (omega arith)
 pub way_begins : (s : Settled) (c : PlainCell Rings) (W : Square → Type 0) (D : Layer → Square → Type 0)
     → slice_get s.cells s.top ≡ Some c → FitShapes unmoved c.shapes
     → ((layer : Layer) (q : Square) → W q
-    → D layer q ↔ Under unmoved q (λ t. Any (ShapeCovers RingsCover layer t) c.shapes))
+    → D layer q ↔ Under unmoved q (λ t. Any (ShapeCovers SomeCovers layer t) c.shapes))
     → IsUnderWay s c W D (begun s.top unmoved ∷ [])
 way_begins s c W D at vertices drawn =
     let cells : List (PlainCell Rings) = s.cells in
@@ -324,7 +325,7 @@ way_begins s c W D at vertices drawn =
       covers = λ layer q counts.
           let begin = visit_begun cells layer s.top unmoved q c at in
           let mine = drawn layer q counts in
-          let stays = under_unmoved q (CellCovers RingsCover cells layer c) in
+          let stays = under_unmoved q (CellCovers SomeCovers cells layer c) in
           let V : Visit → Type 0 = VisitCovers cells layer q in (
             λ h.
                 elim (begin.0 (stays.1 h))

@@ -12,10 +12,11 @@ use Rattle.lvl_grid.specs.declared.point.Point.{Point}
 use Rattle.lvl_grid.specs.declared.point.Square.{Square}
 use Rattle.lvl_grid.specs.declared.map.Map.{Map}
 use Rattle.lvl_grid.specs.Turn.{image_square}
+use Rattle.lvl_grid.specs.Winding.{SomeCovers}
 use Rattle.lvl_names.specs.declared.layer.Layer.{Layer}
 use Rattle.lvl_cells.specs.Cells.{PlainCell, PlainReference, PlainShape, Rings, cell_named}
 use Rattle.lvl_cells.specs.Chains.{over_chains}
-use Rattle.lvl_cells.specs.Coverage.{RingsCover, ShapeCovers, CellCovers}
+use Rattle.lvl_cells.specs.Coverage.{ShapeCovers, CellCovers}
 use Rattle.lvl_cells.specs.Soundness.{AreLinked, IsOrder}
 use Rattle.lvl_cells.proofs.Summing.{count_step}
 use Rattle.lvl_flat.specs.declared.visit.Visit.{Visit}
@@ -80,17 +81,17 @@ sum_last f xs x = sum_by-append f xs (x ∷ []) ∙ ap (λ n. sum_by f xs + n) (
 -- a visit that has followed no reference yet covers what its cell does through references
 pub visit_begun : (cells : List (PlainCell Rings)) (layer : Layer) (i : ℕ) (m : Map) (q : Square) (c : PlainCell Rings)
     → slice_get cells i ≡ Some c
-    → Under m q (CellCovers RingsCover cells layer c)
-    ↔ (Under m q (λ t. Any (ShapeCovers RingsCover layer t) c.shapes) ⊎ VisitCovers cells layer q (begun i m))
+    → Under m q (CellCovers SomeCovers cells layer c)
+    ↔ (Under m q (λ t. Any (ShapeCovers SomeCovers layer t) c.shapes) ⊎ VisitCovers cells layer q (begun i m))
 visit_begun cells layer i m q c at =
     let all : pending cells (begun i m) ≡ picks c.references =
     pending_at cells (begun i m) c at ∙ picks_from_start c.references in
     let step =
-    under_same m q (CellCovers RingsCover cells layer c)
-    (λ t. Any (ShapeCovers RingsCover layer t) c.shapes ⊎ Any (PickCovers cells layer t) (picks c.references))
+    under_same m q (CellCovers SomeCovers cells layer c)
+    (λ t. Any (ShapeCovers SomeCovers layer t) c.shapes ⊎ Any (PickCovers cells layer t) (picks c.references))
     (cell_covers cells layer c) in
     let split =
-    under_either m q (λ t. Any (ShapeCovers RingsCover layer t) c.shapes)
+    under_either m q (λ t. Any (ShapeCovers SomeCovers layer t) c.shapes)
     (λ t. Any (PickCovers cells layer t) (picks c.references)) in (
       λ u. elim (split.0 (step.0 u))
           [ inl a ↦ inl a | inr b ↦ inr (b.0, b.1, subst (Any (PickCovers cells layer b.0)) (sym all) b.2) ],
@@ -103,7 +104,7 @@ visit_begun cells layer i m q c at =
 pub visit_into : (cells : List (PlainCell Rings)) (layer : Layer) (v : Visit) (i : ℕ) (m : Map) (rest : Visit)
     (q : Square) → (into : IsInto cells v i m rest)
     → VisitCovers cells layer q v
-    ↔ (Under m q (CellCovers RingsCover cells layer into.next) ⊎ VisitCovers cells layer q rest)
+    ↔ (Under m q (CellCovers SomeCovers cells layer into.next) ⊎ VisitCovers cells layer q rest)
 visit_into cells layer v i m rest q into =
     let P : Square → Pick → Type 0 = λ t p. PickCovers cells layer t p in
     let pick = pick_covers cells layer v.map m q into.pick into.next into.named into.placed in (

@@ -8,7 +8,7 @@ use Rattle.lvl_flat.specs.Boxes.{AreBoxes}
 use Rattle.lvl_flat.specs.inside.Bounds.{IsPlacedOutside}
 use Rattle.lvl_flat.specs.Sheets.{AreSorted, rings_on}
 use Rattle.lvl_flat.specs.declared.bounds.Bounds.{Bounds}
-use Rattle.lvl_grid.specs.Winding.{Covers}
+use Rattle.lvl_grid.specs.Winding.{Covers, SomeCovers}
 use Rattle.lvl_flat.specs.Flattened.{FitShapes}
 use Rattle.lvl_flat.specs.inside.Entering.{IsDrawnWithin, begun}
 use Rattle.lvl_flat.specs.inside.Steps.{IsInto, IsPast}
@@ -18,7 +18,7 @@ use Rattle.lvl_grid.specs.declared.map.Map.{Map}
 use Rattle.lvl_cells.specs.Cells.{PlainCell, PlainShape, Rings}
 use Rattle.lvl_flat.specs.Sheet.{PlainSheet}
 use Rattle.lvl_grid.specs.declared.point.Point.{Point}
-use Rattle.lvl_cells.specs.Coverage.{RingsCover, ShapeCovers, moved_back}
+use Rattle.lvl_cells.specs.Coverage.{ShapeCovers, moved_back}
 use Rattle.lvl_cells.specs.Checks.{Settled}
 use Rattle.lvl_grid.specs.declared.point.Square.{Square}
 use Rattle.lvl_flat.proofs.Covering.{Under, back_and_there, there_and_back}
@@ -62,7 +62,7 @@ ring_place m q shifts ring = (
 
 -- a shape: each ring at each shift, or at each shift each ring
 shape_place : (m : Map) (q : Square) (h : PlainShape Rings)
-    → ShapePlacesCover m q h ↔ Under m q (λ t. Any (λ e. RingsCover h.figure (moved_back e t)) h.shifts)
+    → ShapePlacesCover m q h ↔ Under m q (λ t. Any (λ e. SomeCovers h.figure (moved_back e t)) h.shifts)
 shape_place m q h = (
   λ a.
       let u = (ring_place m q h.shifts a.1).0 a.4 in
@@ -76,7 +76,7 @@ shape_place m q h = (
 
 -- the placed shapes of a Layer cover the images of the squares that the shapes cover
 pub shapes_place : (layer : Layer) (m : Map) (q : Square) (shapes : List (PlainShape Rings))
-    → ShapesPlaceCover layer m q shapes ↔ Under m q (λ t. Any (ShapeCovers RingsCover layer t) shapes)
+    → ShapesPlaceCover layer m q shapes ↔ Under m q (λ t. Any (ShapeCovers SomeCovers layer t) shapes)
 shapes_place layer m q shapes = (
   λ a.
       let u = (shape_place m q a.1).0 a.4.1 in
@@ -166,8 +166,8 @@ window_passed s known window sheets front v u boxes w passed =
 -- if squares of the window are added to others of them, all are squares of the window
 still_within : (window : Window) (layer : Layer) (m : Map) (shapes : List (PlainShape Rings))
     (old new : List PlainSheet)
-    → ((q : Square) → RingsCover (rings_on layer new) q
-    ↔ (RingsCover (rings_on layer old) q ⊎ (IsWithin window q × ShapesPlaceCover layer m q shapes)))
+    → ((q : Square) → SomeCovers (rings_on layer new) q
+    ↔ (SomeCovers (rings_on layer old) q ⊎ (IsWithin window q × ShapesPlaceCover layer m q shapes)))
     → ((q : Square) → SheetsCover old layer q → IsWithin window q) → (q : Square) → SheetsCover new layer q
     → IsWithin window q
 still_within window layer m shapes old new covers before q a =
@@ -190,7 +190,7 @@ window_into s window sheets new front v i m rest w into d =
           let drawn = d.covers layer q in
           let place = shapes_place layer m q d.cell.shapes in
           let P : List (PlainShape Rings) → Type 0 =
-          λ hs. Under m q (λ t. Any (ShapeCovers RingsCover layer t) hs) in (
+          λ hs. Under m q (λ t. Any (ShapeCovers SomeCovers layer t) hs) in (
             λ a. elim (drawn.0 a) [ inl b ↦ inl b | inr b ↦ inr (subst P shapes (place.0 b.1)) ],
             λ e. drawn.1 (elim e [
               | inl b ↦ inl b
@@ -211,7 +211,7 @@ window_begins s window c empty new at sorted have none d =
     let one : d.cell ≡ c = cc in
     let shapes : d.cell.shapes ≡ c.shapes = ap (λ (b : PlainCell Rings). b.shapes) one in
     let nothing : (layer : Layer) (q : Square) → SheetsCover empty layer q → ⊥ =
-    λ layer q a. Any-nil (λ ring. Covers ring q) (subst (λ rs. RingsCover rs q) (none layer) a) in
+    λ layer q a. Any-nil (λ ring. Covers ring q) (subst (λ rs. SomeCovers rs q) (none layer) a) in
     record {
       top = c;
       way =
@@ -220,7 +220,7 @@ window_begins s window c empty new at sorted have none d =
           let drawn = d.covers layer q in
           let place = shapes_place layer unmoved q d.cell.shapes in
           let P : List (PlainShape Rings) → Type 0 =
-          λ hs. Under unmoved q (λ t. Any (ShapeCovers RingsCover layer t) hs) in (
+          λ hs. Under unmoved q (λ t. Any (ShapeCovers SomeCovers layer t) hs) in (
             λ a. elim (drawn.0 a) [ inl b ↦ absurd (nothing layer q b) | inr b ↦ subst P shapes (place.0 b.1) ],
             λ b. drawn.1 (inr (counts, place.1 (subst P (sym shapes) b))),
           ));

@@ -7,9 +7,10 @@ use Rattle.lvl_grid.specs.declared.point.Window.{Window}
 use Rattle.lvl_grid.specs.Clip.{IsWithin}
 use Rattle.lvl_grid.specs.Turn.{FitsPoint}
 use Rattle.lvl_grid.specs.Placed.{placed_point}
+use Rattle.lvl_grid.specs.Winding.{SomeCovers}
 use Rattle.lvl_names.specs.declared.layer.Layer.{Layer}
 use Rattle.lvl_cells.specs.Cells.{PlainCell, PlainShape, Rings, each_ring}
-use Rattle.lvl_cells.specs.Coverage.{RingsCover, CellCovers}
+use Rattle.lvl_cells.specs.Coverage.{CellCovers}
 use Rattle.lvl_cells.specs.Chains.{Chain, IsInRange, placed_rings_on}
 use Rattle.lvl_cells.specs.Checks.{Settled}
 use Rattle.lvl_flat.specs.declared.fault.FlatFault.{FlatFault}
@@ -20,7 +21,7 @@ use Rattle.lvl_flat.specs.Sheets.{rings_on}
 -- on each Layer the rings together cover exactly the squares that the cell covers
 abbrev pub CoverAlike : List (PlainCell Rings) → PlainCell Rings → List PlainSheet → Type 0
 CoverAlike cells c sheets =
-    (layer : Layer) (s : Square) → RingsCover (rings_on layer sheets) s ↔ CellCovers RingsCover cells layer c s
+    (layer : Layer) (s : Square) → SomeCovers (rings_on layer sheets) s ↔ CellCovers SomeCovers cells layer c s
 
 -- on each Layer there are as many rings as chains from the cell place
 abbrev pub AreAsMany : List (PlainCell Rings) → PlainCell Rings → List PlainSheet → Type 0
@@ -36,11 +37,11 @@ IsTopInRange s = IfSome (slice_get s.cells s.top) (AllInRange s.cells)
 
 -- the cell at an index covers the square on the Layer
 abbrev pub CoversAt : List (PlainCell Rings) → ℕ → Layer → Square → Type 0
-CoversAt cells i layer q = IsSomeAnd (slice_get cells i) (λ c. CellCovers RingsCover cells layer c q)
+CoversAt cells i layer q = IsSomeAnd (slice_get cells i) (λ c. CellCovers SomeCovers cells layer c q)
 
 -- the top covers the square on the Layer
 abbrev pub TopCovers : Settled → Layer → Square → Type 0
-TopCovers s layer q = IsSomeAnd (slice_get s.cells s.top) (λ top. CellCovers RingsCover s.cells layer top q)
+TopCovers s layer q = IsSomeAnd (slice_get s.cells s.top) (λ top. CellCovers SomeCovers s.cells layer top q)
 
 -- on each Layer the rings cover exactly what the top covers and are as many as it places, and all that it places is in
 -- range
@@ -56,8 +57,8 @@ pub record IsFlattened (s : Settled) (sheets : List PlainSheet) : Type 0 where
 pub record IsFlattenedWithin (s : Settled) (window : Window) (sheets : List PlainSheet) : Type 0 where
   pub top : PlainCell Rings
   pub is_top : slice_get s.cells s.top ≡ Some top
-  pub covers : (layer : Layer) (q : Square) → RingsCover (rings_on layer sheets) q
-      ↔ (IsWithin window q × CellCovers RingsCover s.cells layer top q)
+  pub covers : (layer : Layer) (q : Square) → SomeCovers (rings_on layer sheets) q
+      ↔ (IsWithin window q × CellCovers SomeCovers s.cells layer top q)
   pub in_range : AllInRange s.cells top
 
 -- some chain from the top leads to a cell of that name, and the cell is out of range where the chain places it

@@ -2,9 +2,9 @@
 use Rattle.std.specs.Prelude.{◌↔◌, List, [], if◌then◌else◌}
 use Rattle.std.specs.List.{flat_map}
 use Rattle.lvl_grid.specs.declared.point.Square.{Square}
+use Rattle.lvl_grid.specs.Winding.{SomeCovers}
 use Rattle.lvl_names.specs.declared.layer.Layer.{Layer}
 use Rattle.lvl_cells.specs.Cells.{Rings}
-use Rattle.lvl_cells.specs.Coverage.{RingsCover}
 use Rattle.lvl_names.specs.Layers.{same_layer}
 use Rattle.lvl_view.specs.declared.map.LayerPair.{LayerPair}
 use Rattle.lvl_view.specs.Views.{target_of}
@@ -15,8 +15,8 @@ use Rattle.lvl_flat.specs.Sheets.{rings_on}
 -- on each Layer, `to` covers exactly what `from` covers on the Layers whose target it is
 abbrev pub IsMapped : List LayerPair → List PlainSheet → List PlainSheet → Type 0
 IsMapped pairs from to =
-    (layer : Layer) (s : Square) → RingsCover (rings_on layer to) s
-    ↔ IsMoved pairs (λ l. RingsCover (rings_on l from)) layer s
+    (layer : Layer) (s : Square) → SomeCovers (rings_on layer to) s
+    ↔ IsMoved pairs (λ l. SomeCovers (rings_on l from)) layer s
 
 -- the rings of the Layers whose target is this one, in the order of those Layers
 abbrev pub mapped_on : List LayerPair → Layer → List PlainSheet → Rings

@@ -1,9 +1,10 @@
 //! The own shapes of a cell, without its references.
 ghost use Rattle.std.specs.Prelude.{◌↔◌, Any, IfOk, IfErr};
 ghost use Rattle.lvl_grid.specs.declared.point.Square.{Square};
+ghost use Rattle.lvl_grid.specs.Winding.{SomeCovers};
 ghost use Rattle.lvl_names.specs.declared.layer.Layer.{Layer};
 ghost use Rattle.lvl_cells.specs.Chains.{unmoved};
-ghost use Rattle.lvl_cells.specs.Coverage.{RingsCover, ShapeCovers};
+ghost use Rattle.lvl_cells.specs.Coverage.{ShapeCovers};
 ghost use Rattle.lvl_flat.specs.Sheets.{rings_on};
 ghost use Rattle.lvl_flat.specs.Flattened.{FitShapes};
 ghost use Rattle.lvl_flat.specs.Flattened.{ReportsName};
@@ -23,7 +24,7 @@ use std::slice;
 /// out. Refused as out of range if one of the vertices is outside 64 signed bits (own rule).
 pub fn flatten_shapes(alloc: Global, cell: &Cell) -> Result<Flat, Cause<FlatFault>>
     ensures covers { IfOk result (λ flat. (layer : Layer) (s : Square)
-        → RingsCover (rings_on layer flat) s ↔ Any (ShapeCovers RingsCover layer s) cell.now.shapes) }
+        → SomeCovers (rings_on layer flat) s ↔ Any (ShapeCovers SomeCovers layer s) cell.now.shapes) }
     ensures err { IfErr result (λ refusal. Says refusal
         (λ fault. ReportsName cell.now.name fault × ¬ FitShapes unmoved cell.now.shapes)) }
 {

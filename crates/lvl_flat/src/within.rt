@@ -4,10 +4,9 @@ ghost use Rattle.lvl_grid.specs.declared.point.Point.{Point as GridPoint};
 ghost use Rattle.lvl_grid.specs.declared.point.Square.{Square as GridSquare};
 ghost use Rattle.lvl_grid.specs.Clip.{IsWithin as IsInWindow};
 ghost use Rattle.lvl_grid.specs.Placed.{placed_point, IsPlaceOfCovered};
-ghost use Rattle.lvl_grid.specs.Winding.{IsRing};
+ghost use Rattle.lvl_grid.specs.Winding.{IsRing, SomeCovers};
 ghost use Rattle.lvl_names.specs.declared.layer.Layer.{Layer as PlainLayer};
 ghost use Rattle.lvl_cells.specs.Cells.{shape_at};
-ghost use Rattle.lvl_cells.specs.Coverage.{RingsCover};
 ghost use Rattle.lvl_flat.specs.Flattened.{FitsRing, FitShapes};
 ghost use Rattle.lvl_flat.specs.Sheets.{rings_on, AreSorted, HaveSheets};
 ghost use Rattle.lvl_flat.specs.Boxes.{IsWithin, Fits};
@@ -93,8 +92,8 @@ fn draw_cut(
     window: &Window,
 ) -> Result<(), PlaceFault>
     requires { IsRing ring.now }
-    ensures covers { OnOk result ((q : GridSquare) → RingsCover rings.new q
-        ↔ (RingsCover rings.old q ⊎ (IsInWindow window.now q × IsPlaceOfCovered map.now shift ring.now q))) }
+    ensures covers { OnOk result ((q : GridSquare) → SomeCovers rings.new q
+        ↔ (SomeCovers rings.old q ⊎ (IsInWindow window.now q × IsPlaceOfCovered map.now shift ring.now q))) }
     ensures fits { OnOk result (FitsRing map.now shift ring.now) }
     ensures out { result ≡ Err PlaceFault.OutOfRange → ¬ FitsRing map.now shift ring.now }
 {
@@ -120,8 +119,8 @@ fn draw_ring_at(
 ) -> Result<(), PlaceFault>
     requires ring { IsRing ring.now }
     requires bounds { All (IsWithin bounds) ring.now }
-    ensures covers { OnOk result ((q : GridSquare) → RingsCover rings.new q
-        ↔ (RingsCover rings.old q ⊎ (IsInWindow window.now q × IsPlaceOfCovered map.now shift ring.now q))) }
+    ensures covers { OnOk result ((q : GridSquare) → SomeCovers rings.new q
+        ↔ (SomeCovers rings.old q ⊎ (IsInWindow window.now q × IsPlaceOfCovered map.now shift ring.now q))) }
     ensures fits { OnOk result (FitsRing map.now shift ring.now) }
     ensures out { result ≡ Err PlaceFault.OutOfRange → ¬ FitsRing map.now shift ring.now }
 {
@@ -150,8 +149,8 @@ fn draw_place(
 ) -> Result<usize, PlaceFault>
     requires ring { IsRing ring.now }
     requires bounds { All (IsWithin bounds) ring.now }
-    ensures covers { OnOk result ((q : GridSquare) → RingsCover rings.new q
-        ↔ (RingsCover rings.old q ⊎ (IsInWindow window.now q × IsPlaceOfCovered map.now shift ring.now q))) }
+    ensures covers { OnOk result ((q : GridSquare) → SomeCovers rings.new q
+        ↔ (SomeCovers rings.old q ⊎ (IsInWindow window.now q × IsPlaceOfCovered map.now shift ring.now q))) }
     ensures fits { OnOk result (FitsRing map.now shift ring.now) }
     ensures out { result ≡ Err PlaceFault.OutOfRange → ¬ FitsRing map.now shift ring.now }
 {
@@ -175,8 +174,8 @@ fn draw_places(
 ) -> Result<(), PlaceFault>
     requires ring { IsRing ring.now }
     requires bounds { All (IsWithin bounds) ring.now }
-    ensures covers { OnOk result ((q : GridSquare) → RingsCover rings.new q
-        ↔ (RingsCover rings.old q ⊎ (IsInWindow window.now q × RingPlacesCover map.now shifts.now q ring.now))) }
+    ensures covers { OnOk result ((q : GridSquare) → SomeCovers rings.new q
+        ↔ (SomeCovers rings.old q ⊎ (IsInWindow window.now q × RingPlacesCover map.now shifts.now q ring.now))) }
     ensures fits { OnOk result (FitsAtEach map.now shifts.now ring.now) }
     ensures out { result ≡ Err PlaceFault.OutOfRange → ¬ FitsAtEach map.now shifts.now ring.now }
 {
@@ -210,8 +209,8 @@ fn draw_ring(
 ) -> Result<(), PlaceFault>
     requires shape { i < length shapes.now }
     requires ring { j < length (shape_at shapes.now i).figure }
-    ensures covers { OnOk result ((q : GridSquare) → RingsCover rings.new q
-        ↔ (RingsCover rings.old q ⊎ (IsInWindow window.now q × RingPlacesCover map.now (shape_at shapes.now i).shifts q
+    ensures covers { OnOk result ((q : GridSquare) → SomeCovers rings.new q
+        ↔ (SomeCovers rings.old q ⊎ (IsInWindow window.now q × RingPlacesCover map.now (shape_at shapes.now i).shifts q
         (get_or (shape_at shapes.now i).figure j [])))) }
     ensures fits { OnOk result
         (FitsAtEach map.now (shape_at shapes.now i).shifts (get_or (shape_at shapes.now i).figure j [])) }
@@ -238,8 +237,8 @@ fn draw_shape(
     window: &Window,
 ) -> Result<(), PlaceFault>
     requires { i < length shapes.now }
-    ensures covers { OnOk result ((q : GridSquare) → RingsCover rings.new q
-        ↔ (RingsCover rings.old q ⊎ (IsInWindow window.now q × ShapePlacesCover map.now q (shape_at shapes.now i)))) }
+    ensures covers { OnOk result ((q : GridSquare) → SomeCovers rings.new q
+        ↔ (SomeCovers rings.old q ⊎ (IsInWindow window.now q × ShapePlacesCover map.now q (shape_at shapes.now i)))) }
     ensures fits { OnOk result
         (All (FitsAtEach map.now (shape_at shapes.now i).shifts) (shape_at shapes.now i).figure) }
     ensures out { result ≡ Err PlaceFault.OutOfRange
@@ -262,8 +261,8 @@ pub(crate) fn draw_shapes_within(
 ) -> Result<(), PlaceFault>
     requires sorted { AreSorted sheets.old.items }
     requires layers { HaveSheets sheets.old.items shapes.now }
-    ensures covers { OnOk result ((layer : PlainLayer) (q : GridSquare) → RingsCover (rings_on layer sheets.new.items) q
-        ↔ (RingsCover (rings_on layer sheets.old.items) q
+    ensures covers { OnOk result ((layer : PlainLayer) (q : GridSquare) → SomeCovers (rings_on layer sheets.new.items) q
+        ↔ (SomeCovers (rings_on layer sheets.old.items) q
         ⊎ (IsInWindow window.now q × ShapesPlaceCover layer map.now q shapes.now))) }
     ensures fits { OnOk result (FitShapes map.now shapes.now) }
     ensures out { result ≡ Err PlaceFault.OutOfRange → ¬ FitShapes map.now shapes.now }

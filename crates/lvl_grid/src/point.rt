@@ -1,6 +1,6 @@
 //! Points, unit squares and windows.
-ghost use Rattle.std.specs.Prelude.{◌↔◌, IsTrue, SomeIff, FitsSigned, ◌+ℤ◌, pos};
-ghost use Rattle.std.specs.Int.{w64};
+ghost use Rattle.std.specs.Prelude.{◌≡◌, ◌↔◌, IsTrue, SomeIff, FitsSigned, ◌+ℤ◌, pos};
+ghost use Rattle.std.specs.Int.{w64, int_min, int_max};
 ghost use Rattle.lvl_grid.specs.Squares.{IsBefore};
 ghost use Rattle.lvl_grid.specs.Turn.{FitsPoint, shifted};
 
@@ -53,4 +53,23 @@ pub struct Window {
     pub y0: i64,
     pub x1: i64,
     pub y1: i64,
+}
+
+impl Window {
+    /// The least window between the corners of both, which has the squares of both.
+    pub fn joined(self, other: Window) -> Window
+        ensures { result ≡ record {
+          x0 = int_min self.x0 other.x0;
+          y0 = int_min self.y0 other.y0;
+          x1 = int_max self.x1 other.x1;
+          y1 = int_max self.y1 other.y1;
+        } }
+    {
+        Window {
+            x0: self.x0.min(other.x0),
+            y0: self.y0.min(other.y0),
+            x1: self.x1.max(other.x1),
+            y1: self.y1.max(other.y1),
+        }
+    }
 }

@@ -2,9 +2,10 @@
 use Rattle.std.specs.Prelude.{◌↔◌, List, Any}
 use Rattle.lvl_grid.specs.declared.point.Square.{Square}
 use Rattle.lvl_grid.specs.declared.point.Window.{Window}
+use Rattle.lvl_grid.specs.Winding.{SomeCovers}
 use Rattle.lvl_names.specs.declared.layer.Layer.{Layer}
 use Rattle.lvl_cells.specs.Cells.{PlainShape, Rings}
-use Rattle.lvl_cells.specs.Coverage.{RingsCover, ShapeCovers}
+use Rattle.lvl_cells.specs.Coverage.{ShapeCovers}
 use Rattle.lvl_flat.specs.declared.bounds.Bounds.{Bounds}
 use Rattle.lvl_flat.specs.Sheet.{PlainSheet}
 use Rattle.lvl_flat.specs.Sheets.{rings_on}
@@ -13,11 +14,11 @@ use Rattle.lvl_changed.specs.inside.Windows.{Has}
 
 -- at least one of the shapes covers the square on the Layer
 abbrev pub ShapesCover : List (PlainShape Rings) → Layer → Square → Type 0
-ShapesCover shapes layer s = Any (ShapeCovers RingsCover layer s) shapes
+ShapesCover shapes layer s = Any (ShapeCovers SomeCovers layer s) shapes
 
 -- the flat layout covers the square on the Layer
 abbrev pub FlatCovers : List PlainSheet → Layer → Square → Type 0
-FlatCovers flat layer s = RingsCover (rings_on layer flat) s
+FlatCovers flat layer s = SomeCovers (rings_on layer flat) s
 
 -- both flat layouts cover the same squares outside of the windows, on the Layer
 abbrev pub LayerAlike : Windows → List PlainSheet → List PlainSheet → Layer → Type 0

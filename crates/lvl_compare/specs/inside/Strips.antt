@@ -5,9 +5,9 @@ use Rattle.lvl_grid.specs.declared.point.Square.{Square}
 use Rattle.lvl_grid.specs.declared.point.Window.{Window}
 use Rattle.lvl_grid.specs.Squares.{IsBefore}
 use Rattle.lvl_grid.specs.Clip.{IsWithin}
+use Rattle.lvl_grid.specs.Winding.{SomeCovers}
 use Rattle.lvl_names.specs.declared.layer.Layer.{Layer}
 use Rattle.lvl_names.specs.Layers.{ComesBefore}
-use Rattle.lvl_cells.specs.Coverage.{RingsCover}
 use Rattle.lvl_flat.specs.Sheet.{PlainSheet}
 use Rattle.lvl_flat.specs.Sheets.{rings_on}
 use Rattle.lvl_region.specs.Region.{IsAlone}
@@ -42,7 +42,7 @@ IsLeast (Some x) (Some y) result = ((result ≡ Some x) × (¬ Precedes y.0 y.1 
 
 -- the flat layout covers exactly the squares of the window that the layout draws
 abbrev pub ShowsOf : Draws → Window → List PlainSheet → Type 0
-ShowsOf a w f = (l : Layer) (q : Square) → RingsCover (rings_on l f) q ↔ (IsWithin w q × a l q)
+ShowsOf a w f = (l : Layer) (q : Square) → SomeCovers (rings_on l f) q ↔ (IsWithin w q × a l q)
 
 -- the window has the square, and it is left of the abscissa
 abbrev pub IsLeftIn : Window → ℤ → Square → Type 0

@@ -4,9 +4,9 @@ use Rattle.lvl_grid.specs.declared.map.Map.{Map}
 use Rattle.lvl_grid.specs.declared.point.Square.{Square}
 use Rattle.lvl_grid.specs.declared.point.Window.{Window}
 use Rattle.lvl_grid.specs.Clip.{IsWithin}
+use Rattle.lvl_grid.specs.Winding.{SomeCovers}
 use Rattle.lvl_names.specs.declared.layer.Layer.{Layer}
 use Rattle.lvl_cells.specs.Cells.{PlainCell, Rings}
-use Rattle.lvl_cells.specs.Coverage.{RingsCover}
 use Rattle.lvl_flat.specs.declared.fault.FlatFault.{FlatFault}
 use Rattle.lvl_flat.specs.declared.fault.FlatFault.TheVariants.{OutOfRange}
 use Rattle.lvl_flat.specs.declared.visit.Visit.{Visit}
@@ -34,8 +34,8 @@ pub record IsDrawnWithin (cells : List (PlainCell Rings)) (i : ℕ) (m : Map) (w
     (old new : List PlainSheet) : Type 0 where
   pub cell : PlainCell Rings
   pub there : slice_get cells i ≡ Some cell
-  pub covers : (layer : Layer) (q : Square) → RingsCover (rings_on layer new) q
-      ↔ (RingsCover (rings_on layer old) q ⊎ (IsWithin window q × ShapesPlaceCover layer m q cell.shapes))
+  pub covers : (layer : Layer) (q : Square) → SomeCovers (rings_on layer new) q
+      ↔ (SomeCovers (rings_on layer old) q ⊎ (IsWithin window q × ShapesPlaceCover layer m q cell.shapes))
   pub fits : FitShapes m cell.shapes
   pub layers : map (λ s. s.layer) new ≡ map (λ s. s.layer) old
 

@@ -6,10 +6,11 @@ use Rattle.lvl_grid.specs.declared.point.Point.{Point}
 use Rattle.lvl_grid.specs.declared.point.Square.{Square}
 use Rattle.lvl_grid.specs.declared.map.Map.{Map}
 use Rattle.lvl_grid.specs.Turn.{image_square}
+use Rattle.lvl_grid.specs.Winding.{SomeCovers}
 use Rattle.lvl_names.specs.declared.layer.Layer.{Layer}
 use Rattle.lvl_cells.specs.Cells.{PlainCell, PlainReference, Rings, each_ring, placing, cell_named}
 use Rattle.lvl_cells.specs.Chains.{Chain, IsComposed, IsInRange, over_chains}
-use Rattle.lvl_cells.specs.Coverage.{RingsCover, CellCovers, PullsBack}
+use Rattle.lvl_cells.specs.Coverage.{CellCovers, PullsBack}
 use Rattle.lvl_flat.specs.declared.visit.Visit.{Visit}
 
 -- a reference and one of its shifts
@@ -40,7 +41,7 @@ visit_weight weight cells v = sum_by (pick_weight weight cells) (pending cells v
 -- the cell of the pick, placed by it, covers the square
 abbrev pub PickCovers : List (PlainCell Rings) → Layer → Square → Pick → Type 0
 PickCovers cells layer t p =
-    IsSomeAnd (cell_named cells p.0.cell) (λ d. PullsBack (CellCovers RingsCover cells layer d) p.0 t p.1)
+    IsSomeAnd (cell_named cells p.0.cell) (λ d. PullsBack (CellCovers SomeCovers cells layer d) p.0 t p.1)
 
 -- what the visit has still to follow, placed by its map, covers the square
 abbrev pub VisitCovers : List (PlainCell Rings) → Layer → Square → Visit → Type 0

@@ -4,10 +4,11 @@ use Rattle.std.specs.Option.{option_map_or}
 use Rattle.lvl_grid.specs.declared.point.Square.{Square}
 use Rattle.lvl_grid.specs.declared.point.Window.{Window}
 use Rattle.lvl_grid.specs.Clip.{IsWithin}
+use Rattle.lvl_grid.specs.Winding.{SomeCovers}
 use Rattle.lvl_names.specs.declared.layer.Layer.{Layer}
 use Rattle.lvl_cells.specs.Cells.{PlainCell, Rings, each_ring}
 use Rattle.lvl_cells.specs.Chains.{own_rings_on, placed_rings_on}
-use Rattle.lvl_cells.specs.Coverage.{RingsCover, CellCovers}
+use Rattle.lvl_cells.specs.Coverage.{CellCovers}
 use Rattle.lvl_cells.specs.Checks.{Settled}
 use Rattle.lvl_flat.specs.declared.visit.Visit.{Visit}
 use Rattle.lvl_flat.specs.Flattened.{AllInRange}
@@ -25,13 +26,13 @@ pub record IsUnderWay (s : Settled) (top : PlainCell Rings) (counts : Square →
     (drawn : Layer → Square → Type 0) (stack : List Visit) : Type 0 where
   pub is_top : slice_get s.cells s.top ≡ Some top
   pub covers : (layer : Layer) (q : Square) → counts q
-      → CellCovers RingsCover s.cells layer top q ↔ (drawn layer q ⊎ Any (VisitCovers s.cells layer q) stack)
+      → CellCovers SomeCovers s.cells layer top q ↔ (drawn layer q ⊎ Any (VisitCovers s.cells layer q) stack)
   pub fits : ((v : Visit) → Contains stack v → PicksFit s.cells v.map (pending s.cells v)) → AllInRange s.cells top
   pub visits : (v : Visit) → Contains stack v → IsVisit s.cells top v
 
 -- the sheets cover the square on the Layer
 abbrev pub SheetsCover : List PlainSheet → Layer → Square → Type 0
-SheetsCover sheets layer q = RingsCover (rings_on layer sheets) q
+SheetsCover sheets layer q = SomeCovers (rings_on layer sheets) q
 
 -- every square counts
 abbrev pub Everywhere : Square → Type 0

@@ -1,7 +1,7 @@
 use Rattle.std.proofs.Common.{◌↔◌, drop, Some, List, subst}
 use Rattle.lvl_grid.specs.declared.point.Square.{Square}
+use Rattle.lvl_grid.specs.Winding.{SomeCovers}
 use Rattle.lvl_cells.specs.Cells.{Rings}
-use Rattle.lvl_cells.specs.Coverage.{RingsCover}
 use Rattle.lvl_flat.specs.Sheet.{PlainSheet}
 use Rattle.lvl_flat.specs.Sheets.{rings_on}
 use Rattle.lvl_compare.specs.Flats.{IsLesser, head_layer}
@@ -37,10 +37,10 @@ loop-layer-preserved c =
     let w : Windows = c.hold_rings.new.windows in
     let wide = c.in_ok-hold_rings.ensures.kept in
     let same : (s : Square) → (¬ Has w s)
-    → RingsCover c.rings-a.result.now s ↔ RingsCover c.rings-b.result.now s = c.in_ok-hold_rings.ensures.held in
+    → SomeCovers c.rings-a.result.now s ↔ SomeCovers c.rings-b.result.now s = c.in_ok-hold_rings.ensures.held in
     let alike : LayerAlike w a b c.in-Some.layer =
-    λ s out. subst (λ (x : Rings). RingsCover x s ↔ RingsCover (rings_on c.in-Some.layer b) s) c.rings-a.ensures
-    (subst (λ (y : Rings). RingsCover c.rings-a.result.now s ↔ RingsCover y s) c.rings-b.ensures (same s out)) in
+    λ s out. subst (λ (x : Rings). SomeCovers x s ↔ SomeCovers (rings_on c.in-Some.layer b) s) c.rings-a.ensures
+    (subst (λ (y : Rings). SomeCovers c.rings-a.result.now s ↔ SomeCovers y s) c.rings-b.ensures (same s out)) in
     record {
       walked =
           rw (c.past-our_place.ensures, c.past-their_place.ensures)

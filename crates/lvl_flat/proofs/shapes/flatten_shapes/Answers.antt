@@ -1,9 +1,10 @@
 use Rattle.std.proofs.Common.{◌↔◌, ◌∷◌, [], List, Any, subst, sym}
 use Rattle.std.proofs.lemmas.Result.{err_from_is_err_and}
+use Rattle.lvl_grid.specs.Winding.{SomeCovers}
 use Rattle.lvl_cells.specs.Cells.{PlainCell, Rings}
 use Rattle.lvl_cells.specs.Chains.{unmoved}
 use Rattle.lvl_flat.specs.inside.Entering.{IsDrawn, IsEnterFault}
-use Rattle.lvl_cells.specs.Coverage.{RingsCover, ShapeCovers}
+use Rattle.lvl_cells.specs.Coverage.{ShapeCovers}
 use Rattle.lvl_flat.specs.Sheet.{PlainSheet}
 use Rattle.lvl_flat.specs.Sheets.{rings_on}
 use Rattle.lvl_flat.proofs.Drawing.{sorted_alike}
@@ -25,7 +26,7 @@ returns-clause-covers c =
     subst (λ cs. IsDrawn cs 0 unmoved c.in_ok-sheets.sheets.items new) c.from_ref-alone.ensures.value
     c.in_ok-draw_cell.ensures.drawn in
     λ layer s. subst
-    (λ (f : List PlainSheet). RingsCover (rings_on layer f) s ↔ Any (ShapeCovers RingsCover layer s) cell.shapes)
+    (λ (f : List PlainSheet). SomeCovers (rings_on layer f) s ↔ Any (ShapeCovers SomeCovers layer s) cell.shapes)
     (sym c.in_ok-filled.ensures)
     (own_covers cell c.in_ok-sheets.sheets.items new c.in_ok-sheets.ensures.sorted
     (rings_on_empty c.in_ok-sheets.sheets.items c.in_ok-sheets.ensures.empty) drawn layer s)

@@ -1,11 +1,11 @@
 use Rattle.std.proofs.Common.{◌≡◌, length, slice_get, Some, Err, sym, ap, subst, ◌∙◌, refl}
 use Rattle.std.proofs.lemmas.Option.{slice_get_read}
+use Rattle.lvl_grid.specs.Winding.{SomeCovers}
 use Rattle.lvl_names.specs.declared.layer.Layer.{Layer}
 use Rattle.lvl_cells.specs.Cells.{PlainCell, Rings}
 use Rattle.lvl_flat.specs.inside.Drawn.{ShapesPlaceCover}
 use Rattle.lvl_grid.specs.declared.point.Square.{Square}
 use Rattle.lvl_grid.specs.Clip.{IsWithin}
-use Rattle.lvl_cells.specs.Coverage.{RingsCover}
 use Rattle.lvl_flat.specs.Flattened.{FitShapes}
 use Rattle.lvl_flat.specs.Sheets.{HaveSheets, rings_on}
 use Rattle.lvl_flat.specs.Flattened.{ReportsName}
@@ -37,8 +37,8 @@ returns-in-Ok-clause-drawn c =
       covers =
           subst
           (λ hs. (layer : Layer) (q : Square)
-          → RingsCover (rings_on layer c.draw_shapes_within.new.sheets.items) q
-          ↔ (RingsCover (rings_on layer c.args.sheets.now.items) q
+          → SomeCovers (rings_on layer c.draw_shapes_within.new.sheets.items) q
+          ↔ (SomeCovers (rings_on layer c.args.sheets.now.items) q
           ⊎ (IsWithin c.args.window.now q × ShapesPlaceCover layer c.args.map.now q hs))) shapes
           c.in-Ok.ensures.covers;
       fits = subst (FitShapes c.args.map.now) shapes c.in-Ok.ensures.fits;

@@ -6,9 +6,9 @@ use Rattle.lvl_grid.specs.declared.point.Square.{Square}
 use Rattle.lvl_grid.specs.declared.ring.PlaceFault.{PlaceFault}
 use Rattle.lvl_grid.specs.Clip.{IsWithin as IsInWindow}
 use Rattle.lvl_grid.proofs.Paths.{origin}
+use Rattle.lvl_grid.specs.Winding.{SomeCovers}
 use Rattle.lvl_names.specs.Shifts.{one_place}
 use Rattle.lvl_cells.specs.Cells.{shape_at}
-use Rattle.lvl_cells.specs.Coverage.{RingsCover}
 use Rattle.lvl_flat.specs.inside.Drawn.{RingPlacesCover}
 use Rattle.lvl_flat.specs.Flattened.{FitsRing}
 use Rattle.lvl_flat.proofs.Skipping.{drawn_once, fits_at}
@@ -31,8 +31,8 @@ returns-in_default-clause-covers c = λ q.
     let m : Map = c.args.map.now in
     let ring : List Point = get_or (shape_at c.args.shapes.now c.args.i).figure c.args.j [] in
     let W : Type 0 = IsInWindow c.args.window.now q in
-    let old : Type 0 = RingsCover c.args.rings.now q in
-    let new : Type 0 = RingsCover c.draw_place.new.rings q in
+    let old : Type 0 = SomeCovers c.args.rings.now q in
+    let new : Type 0 = SomeCovers c.draw_place.new.rings q in
     let adds : List Point → List Point → Type 0 = λ es r. new ↔ (old ⊎ (W × RingPlacesCover m es q r)) in
     subst (λ es. adds es ring) (sym c.in_default.ensures.none)
     (subst (adds one_place) c.ring-ring.ensures.value
@@ -44,7 +44,7 @@ returns-clause-covers c =
     let m : Map = c.args.map.now in
     let ring : List Point = get_or (shape_at c.args.shapes.now c.args.i).figure c.args.j [] in
     let adds : List Point → List Point → Type 0 =
-    λ es r. OnOk c.draw_places.result ((q : Square) → RingsCover c.draw_places.new.rings q
-    ↔ (RingsCover c.args.rings.now q ⊎ (IsInWindow c.args.window.now q × RingPlacesCover m es q r))) in
+    λ es r. OnOk c.draw_places.result ((q : Square) → SomeCovers c.draw_places.new.rings q
+    ↔ (SomeCovers c.args.rings.now q ⊎ (IsInWindow c.args.window.now q × RingPlacesCover m es q r))) in
     subst (λ es. adds es ring) c.in-Some.ensures.some
     (subst (adds c.in-Some.shifts.now) c.ring-ring.ensures.value c.draw_places.ensures.covers)

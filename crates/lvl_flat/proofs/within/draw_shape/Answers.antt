@@ -5,8 +5,8 @@ use Rattle.std.proofs.lemmas.Option.{slice_get-get_or}
 use Rattle.lvl_grid.specs.declared.map.Map.{Map}
 use Rattle.lvl_grid.specs.declared.point.Point.{Point}
 use Rattle.lvl_grid.specs.Clip.{IsWithin as IsInWindow}
+use Rattle.lvl_grid.specs.Winding.{SomeCovers}
 use Rattle.lvl_cells.specs.Cells.{Rings, shape_at}
-use Rattle.lvl_cells.specs.Coverage.{RingsCover}
 use Rattle.lvl_flat.specs.inside.Drawn.{FitsAtEach, RingPlacesCover}
 use Rattle.lvl_flat.proofs.Cutting.{covers_more, covers_all}
 use Rattle.lvl_flat.proofs.within.draw_shape.Goals as goal
@@ -21,8 +21,8 @@ loop-j-preserved c =
     let at : slice_get figure j ≡ Some (get_or figure j []) = slice_get-get_or figure j [] there in
     record {
       covers = λ q.
-          covers_more (RingPlacesCover m shifts q) (IsInWindow c.args.window.now q) (RingsCover c.args.rings.now q)
-          (RingsCover c.loop-j.rings q) (RingsCover c.draw_ring.new.rings q) figure j (get_or figure j []) at
+          covers_more (RingPlacesCover m shifts q) (IsInWindow c.args.window.now q) (SomeCovers c.args.rings.now q)
+          (SomeCovers c.loop-j.rings q) (SomeCovers c.draw_ring.new.rings q) figure j (get_or figure j []) at
           (c.loop-j.invariant.covers q) (c.in_ok-draw_ring.ensures.covers q);
       fits = All-more (FitsAtEach m shifts) figure j [] there c.loop-j.invariant.fits c.in_ok-draw_ring.ensures.fits;
     }
@@ -32,7 +32,7 @@ returns-clause-covers c = λ q.
     let figure : Rings = (shape_at c.args.shapes.now c.args.i).figure in
     let shifts : List Point = (shape_at c.args.shapes.now c.args.i).shifts in
     covers_all (RingPlacesCover c.args.map.now shifts q) (IsInWindow c.args.window.now q)
-    (RingsCover c.args.rings.now q) (RingsCover c.loop-j.rings q) figure c.loop-j.j
+    (SomeCovers c.args.rings.now q) (SomeCovers c.loop-j.rings q) figure c.loop-j.j
     (omega (arith, c.loop-j-test.false, c.ring_count-j-end.ensures)) (c.loop-j.invariant.covers q)
 
 pub returns-clause-fits : goal.returns-clause-fits

@@ -7,9 +7,9 @@ use Rattle.std.proofs.lemmas.Option.{slice_get_within, slice_get-get_or, get_or_
 use Rattle.lvl_grid.specs.declared.map.Map.{Map}
 use Rattle.lvl_grid.specs.declared.point.Square.{Square}
 use Rattle.lvl_grid.specs.Clip.{IsWithin as IsInWindow}
+use Rattle.lvl_grid.specs.Winding.{SomeCovers}
 use Rattle.lvl_names.specs.declared.layer.Layer.{Layer}
 use Rattle.lvl_cells.specs.Cells.{PlainShape, Rings, shape_at}
-use Rattle.lvl_cells.specs.Coverage.{RingsCover}
 use Rattle.lvl_flat.specs.Flattened.{FitsRing, FitShapes}
 use Rattle.lvl_flat.specs.Sheet.{PlainSheet}
 use Rattle.lvl_flat.specs.Sheets.{AreSorted, rings_on}
@@ -70,17 +70,17 @@ loop-i-preserved c =
     let sorted : AreSorted items = sorted_alike items c.args.sheets.now.items kept.layers c.requires.sorted in
     record {
       covers = λ l q.
-          let now : Type 0 = RingsCover (rings_on l items) q in
+          let now : Type 0 = SomeCovers (rings_on l items) q in
           let next : List PlainSheet = set items c.in-Some.place (of c.sheet.inside.layer drawn) in
-          let after : Type 0 = RingsCover (rings_on l next) q in
-          let adds : RingsCover drawn q ↔ (RingsCover s.rings q ⊎ (W q × ShapePlacesCover m q h)) =
-          subst (λ rs. RingsCover drawn q ↔ (RingsCover rs q ⊎ (W q × ShapePlacesCover m q h))) rings
+          let after : Type 0 = SomeCovers (rings_on l next) q in
+          let adds : SomeCovers drawn q ↔ (SomeCovers s.rings q ⊎ (W q × ShapePlacesCover m q h)) =
+          subst (λ rs. SomeCovers drawn q ↔ (SomeCovers rs q ⊎ (W q × ShapePlacesCover m q h))) rings
           (c.in_ok-draw_shape.ensures.covers q) in
           let step =
           sheet_adds items c.in-Some.place s (of c.sheet.inside.layer drawn) drawn (W q) (ShapePlacesCover m q h) q
           sorted there new adds l in
           covers_more (λ (g : PlainShape Rings). (g.layer ≡ l) × ShapePlacesCover m q g) (W q)
-          (RingsCover (rings_on l c.args.sheets.now.items) q) now after shapes i h listed (kept.covers l q)
+          (SomeCovers (rings_on l c.args.sheets.now.items) q) now after shapes i h listed (kept.covers l q)
           (subst (λ (x : Layer). after ↔ (now ⊎ (W q × ((x ≡ l) × ShapePlacesCover m q h)))) same step);
       fits =
           All-more (λ (g : PlainShape Rings). All (λ e. All (FitsRing m e) g.figure) g.shifts) shapes i h inside
@@ -94,8 +94,8 @@ loop-i-preserved c =
 pub returns-clause-covers : goal.returns-clause-covers
 returns-clause-covers c = λ l q.
     covers_all (λ (g : PlainShape Rings). (g.layer ≡ l) × ShapePlacesCover c.args.map.now q g)
-    (IsInWindow c.args.window.now q) (RingsCover (rings_on l c.args.sheets.now.items) q)
-    (RingsCover (rings_on l c.loop-i.sheets.items) q) c.args.shapes.now c.loop-i.i
+    (IsInWindow c.args.window.now q) (SomeCovers (rings_on l c.args.sheets.now.items) q)
+    (SomeCovers (rings_on l c.loop-i.sheets.items) q) c.args.shapes.now c.loop-i.i
     (omega (arith, c.loop-i-test.false, c.len-i-end.ensures)) (c.loop-i.invariant.covers l q)
 
 pub returns-clause-fits : goal.returns-clause-fits

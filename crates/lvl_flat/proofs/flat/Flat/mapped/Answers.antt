@@ -1,9 +1,9 @@
 use Rattle.std.proofs.Common.{◌≡◌, ◌↔◌, ◌++◌, ◌∷◌, [], List, map, cond, Contains, sym, ap, subst, ◌∙◌, append_assoc}
 use Rattle.std.proofs.lemmas.List.{append-nil, nil_from_length}
 use Rattle.std.proofs.lemmas.Result.{IfOk-weaker}
+use Rattle.lvl_grid.specs.Winding.{SomeCovers}
 use Rattle.lvl_names.specs.declared.layer.Layer.{Layer}
 use Rattle.lvl_cells.specs.Cells.{Rings}
-use Rattle.lvl_cells.specs.Coverage.{RingsCover}
 use Rattle.lvl_names.specs.Layers.{same_layer}
 use Rattle.lvl_view.specs.declared.map.LayerPair.{LayerPair}
 use Rattle.lvl_view.specs.Views.{target_of}
@@ -81,7 +81,7 @@ returns-clause-covers c =
     ap (rings_on layer) e
     ∙ (rings_on-filled c.loop-sheet.mapped.items c.loop-sheet.invariant.sorted layer
     ∙ (c.loop-sheet.invariant.rings layer ∙ ap (mapped_on pairs layer) all)) in
-    subst (λ (rs : Rings). RingsCover rs s ↔ IsMoved pairs (λ l. RingsCover (rings_on l c.args.self)) layer s)
+    subst (λ (rs : Rings). SomeCovers rs s ↔ IsMoved pairs (λ l. SomeCovers (rings_on l c.args.self)) layer s)
     (sym same)
     (mapped_covers pairs c.args.self layer s c.into_sheets-sheets.ensures.in_order.sorted)) c.filled.ensures
 

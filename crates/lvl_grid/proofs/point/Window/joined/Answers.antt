@@ -2,7 +2,7 @@ use Rattle.std.proofs.Common.{◌≡◌, ℤ, ap, ◌∙◌, rules}
 use Rattle.std.specs.Int.{w64, int_min, int_max}
 use mir.Val.{to_z, of_z}
 use Rattle.lvl_grid.specs.declared.point.Window.{Window}
-use Rattle.lvl_compare.proofs.strips.joined.Goals as goal
+use Rattle.lvl_grid.proofs.point.Window.joined.Goals as goal
 
 -- the coordinates, as stored in 64 bits
 abbrev kept : ℤ → ℤ
@@ -10,8 +10,8 @@ kept z = to_z w64 (of_z w64 z)
 
 pub returns : goal.returns
 returns c =
-    let a = c.args.first in
-    let b = c.args.second in
+    let a = c.args.self in
+    let b = c.args.other in
     let of : ℤ → ℤ → ℤ → ℤ → Window = λ l d r u. record { x0 = l; y0 = d; x1 = r; y1 = u } in
     let left : kept c.min.result ≡ int_min a.x0 b.x0 = search rules in
     let low : kept c.min-2.result ≡ int_min a.y0 b.y0 = search rules in
