@@ -11,8 +11,9 @@ use lvl_flat::Fitted;
 use lvl_view::View;
 use std::alloc::{AllocError, Global};
 
-/// The greatest number of points that the rings of one side have in a strip: 16 megabytes of them.
-const MOST_POINTS: usize = 1 << 20;
+/// The greatest number of points that the rings of one side have in a strip. With the columns that
+/// compare them, the points of both sides then take less than 50 megabytes.
+const MOST_POINTS: usize = 600_000;
 
 /// The first Layer, and the first square of the window on it, that only one of the two draws, with the Layers of
 /// the second mapped. If cells are placed often enough, only those parts are flattened in which the two may
