@@ -1,5 +1,5 @@
 -- From a verdict on what the tops cover under a view to what the bytes of the files spell.
-use Rattle.std.proofs.Common.{◌≡◌, ◌↔◌, List, [], Some, slice_get, refl, subst, sym}
+use Rattle.std.proofs.Common.{◌≡◌, ◌↔◌, List, Some, slice_get, subst, sym}
 use Rattle.std.specs.Prelude.{IfErr, IfSome, IsErr, IsErrAnd, Result, Ok, Err}
 use Rattle.lvl_grid.specs.declared.point.Square.{Square}
 use Rattle.lvl_grid.specs.Winding.{SomeCovers}

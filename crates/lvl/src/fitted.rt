@@ -11,9 +11,28 @@ use lvl_flat::Fitted;
 use lvl_view::View;
 use std::alloc::{AllocError, Global};
 
-/// The greatest number of points that the rings of one side have in a strip. With the columns that
-/// compare them, the points of both sides then take less than 50 megabytes.
-const MOST_POINTS: usize = 600_000;
+/// The number of points that the rings of one side may have in a strip of small files. With the
+/// columns that compare them, the points of both sides then take about 50 megabytes.
+const LEAST_BUDGET: usize = 600_000;
+
+/// The number of points that the rings of one side may have in a strip of any files.
+const GREATEST_BUDGET: usize = 1 << 20;
+
+/// The number of shapes in the cells of a library.
+fn shapes_of(fitted: &Fitted) -> usize {
+    let mut shapes: usize = 0;
+    for cell in fitted.checked().cells() {
+        shapes = shapes.saturating_add(cell.shapes.len());
+    }
+    shapes
+}
+
+/// The greatest number of points that the rings of one side have in a strip. Each strip looks at
+/// all shapes, so if there are many, strips are wider.
+fn most_points(first: &Fitted, second: &Fitted) -> usize {
+    let shapes = shapes_of(first).saturating_add(shapes_of(second));
+    LEAST_BUDGET.saturating_add(shapes / 4).min(GREATEST_BUDGET)
+}
 
 /// The first Layer, and the first square of the window on it, that only one of the two draws, with the Layers of
 /// the second mapped. If cells are placed often enough, only those parts are flattened in which the two may
@@ -27,7 +46,8 @@ pub(crate) fn compare_fitted(
     ensures { IfOk result (IsVerdictOf (IsShown view.now.window) (TopCovers first.now)
         (IsMoved view.now.pairs (TopCovers second.now))) }
 {
-    match difference_by_changes(alloc, first, second, view, MOST_POINTS)? {
+    let most = most_points(first, second);
+    match difference_by_changes(alloc, first, second, view, most)? {
         Some((layer, square, side)) => Ok(Verdict::Differ {
             layer,
             square,
