@@ -1,10 +1,12 @@
 //! Rings of shapes: points that shapes can share, with a displacement.
 ghost use Rattle.std.specs.Prelude.{◌≡◌, ◌↔◌, length, map, slice_get, All, Any, OnOk, OnErr, IfOk, Err};
-ghost use Rattle.std.specs.Prelude.{SomeIff, ◌++◌, ◌∷◌, []};
+ghost use Rattle.std.specs.Prelude.{SomeIff, IfSome, ◌++◌, ◌∷◌, []};
+ghost use Rattle.lvl_grid.specs.declared.point.Point.{Point as GridPoint};
 ghost use Rattle.lvl_grid.specs.declared.point.Square.{Square as GridSquare};
 ghost use Rattle.lvl_grid.specs.Placed.{placed_point, IsPlaceOfCovered};
 ghost use Rattle.lvl_grid.specs.Turn.{FitsPoint, shifted};
 ghost use Rattle.lvl_grid.specs.Winding.{Covers};
+ghost use Rattle.lvl_names.specs.Shifts.{IsBetween};
 ghost use Rattle.lvl_cells.specs.inside.Spans.{IsMovable};
 
 use lvl_grid::{Map, PlaceFault, Point, Rings};
@@ -44,6 +46,38 @@ pub(crate) fn moved(point: Point, by: Point) -> Option<Point>
     Some(Point { x, y })
 }
 
+/// A point with the lesser abscissa and the lesser ordinate of two points, and one with the greater
+/// ones.
+fn corners(low: Point, high: Point, point: Point) -> (Point, Point)
+    ensures wider { (p : GridPoint) → IsBetween low high p → IsBetween result.0 result.1 p }
+    ensures there { IsBetween result.0 result.1 point }
+{
+    let low = Point {
+        x: low.x.min(point.x),
+        y: low.y.min(point.y),
+    };
+    let high = Point {
+        x: high.x.max(point.x),
+        y: high.y.max(point.y),
+    };
+    (low, high)
+}
+
+/// The least and the greatest coordinates of some points, or None if there are none.
+fn reach_of(points: &[Point]) -> Option<(Point, Point)>
+    ensures { IfSome result (λ reach. All (IsBetween reach.0 reach.1) points.now) }
+{
+    let first = *points.first()?;
+    let mut low = first;
+    let mut high = first;
+    for point in points {
+        let wider = corners(low, high, *point);
+        low = wider.0;
+        high = wider.1;
+    }
+    Some((low, high))
+}
+
 impl<'a> MovedRing<'a> {
     /// The ring of these points, moved.
     pub(crate) fn new(points: &'a [Point], by: Point) -> MovedRing<'a>
@@ -69,6 +103,15 @@ impl<'a> MovedRing<'a> {
             return Some(*point);
         }
         moved(*point, self.by)
+    }
+
+    /// The least and the greatest coordinates of its points. They are found before they are moved, so
+    /// this takes less than to look at each point. None isn't returned for a ring, and says nothing.
+    pub fn reach(&self) -> Option<(Point, Point)>
+        ensures { IfSome result (λ reach. All (IsBetween reach.0 reach.1) self.now) }
+    {
+        let (low, high) = reach_of(self.points)?;
+        Some((moved(low, self.by)?, moved(high, self.by)?))
     }
 
     /// A copy of its points, moved.

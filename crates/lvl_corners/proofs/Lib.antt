@@ -1,6 +1,7 @@
 pub mod IntTests
 pub mod Changes
 pub mod Nets
+pub mod Rows
 pub mod Sums
 pub mod Orders
 pub mod Totals

@@ -1,4 +1,5 @@
 pub mod Marks
+pub mod Rows
 pub mod Sums
 pub mod Spans
 pub mod Hashing

@@ -1,10 +1,11 @@
 //! The corners of the rectangles that the bands of a sweep consist of.
-ghost use Rattle.std.specs.Prelude.{◌≡◌, ◌+ℤ◌, ℤ, pos, cond, IfOk, OnOk};
+ghost use Rattle.std.specs.Prelude.{◌≡◌, ◌≤◌, ◌-◌, ◌+ℤ◌, ◌-ℤ◌, ℤ, pos, cond, take, drop, length, IfOk, OnOk};
 ghost use Rattle.std.specs.Ordering.{int_eq};
 ghost use Rattle.lvl_grid.specs.Winding.{SomeCovers};
 ghost use Rattle.lvl_sweep.specs.Bands.{slab_of};
 ghost use Rattle.lvl_corners.specs.inside.Marks.{net, signed, interval_step, row_step, band_net};
 ghost use Rattle.lvl_corners.specs.inside.Marks.{AreInOrder, AreMarksOf};
+ghost use Rattle.lvl_corners.specs.inside.Rows.{ended_net};
 
 use crate::mark::Mark;
 use crate::span::Span;
@@ -53,13 +54,88 @@ fn push_row(
     Ok(())
 }
 
-/// Appends the corners of the rectangles of a band.
-fn push_band(marks: &mut Vec<Mark>, band: &Band) -> Result<(), AllocError>
-    ensures { OnOk result ((x y : ℤ) → net x y marks.new.items
-        ≡ net x y marks.old.items +ℤ band_net x y (slab_of band.now)) }
+/// How many of the first intervals of two rows are the same.
+fn common_front(first: &[(i64, i64)], second: &[(i64, i64)]) -> usize
+    ensures within_first { result ≤ length first.now }
+    ensures within_second { result ≤ length second.now }
+    ensures same { take result first.now ≡ take result second.now }
 {
+    let most = first.len().min(second.len());
+    for i in 0..most {
+        if first[i] != second[i] {
+            return i;
+        }
+    }
+    most
+}
+
+/// How many of the last intervals of two rows are the same.
+fn common_back(first: &[(i64, i64)], second: &[(i64, i64)]) -> usize
+    ensures within_first { result ≤ length first.now }
+    ensures within_second { result ≤ length second.now }
+    ensures same { drop (length first.now - result) first.now ≡ drop (length second.now - result) second.now }
+{
+    let most = first.len().min(second.len());
+    for i in 0..most {
+        if first[first.len() - 1 - i] != second[second.len() - 1 - i] {
+            return i;
+        }
+    }
+    most
+}
+
+/// Appends the ends of the intervals of the row at which one band ends and the next begins. What is
+/// in both rows at their fronts and at their backs cancels, and is left out.
+fn push_between(
+    marks: &mut Vec<Mark>,
+    y: i64,
+    before: &[(i64, i64)],
+    after: &[(i64, i64)],
+) -> Result<(), AllocError>
+    ensures { OnOk result ((x z : ℤ) → net x z marks.new.items ≡ net x z marks.old.items
+        +ℤ cond (int_eq y z) (row_step x after.now -ℤ row_step x before.now) (pos 0)) }
+{
+    let front = common_front(before, after);
+    let ours = &before[front..];
+    let theirs = &after[front..];
+    let back = common_back(ours, theirs);
+    push_row(marks, y, &ours[..ours.len() - back], false)?;
+    push_row(marks, y, &theirs[..theirs.len() - back], true)?;
+    Ok(())
+}
+
+/// The row at which a band ends. Its marks are still to be appended.
+#[derive(Drop)]
+pub(crate) struct Row {
+    pub y: i64,
+    pub intervals: Vec<(i64, i64)>,
+}
+
+/// Appends the corners of the rectangles of the last band, in the row at which it ends, and of the
+/// next one, in the row at which it begins.
+fn push_rows(marks: &mut Vec<Mark>, row: &Row, band: &Band) -> Result<(), AllocError>
+    ensures { OnOk result ((x y : ℤ) → net x y marks.new.items ≡ (net x y marks.old.items +ℤ ended_net x y row.now)
+        +ℤ cond (int_eq band.now.y0 y) (row_step x band.now.intervals.items) (pos 0)) }
+{
+    if row.y == band.y0 {
+        push_between(marks, band.y0, &row.intervals, &band.intervals)?;
+        return Ok(());
+    }
+    push_row(marks, row.y, &row.intervals, false)?;
     push_row(marks, band.y0, &band.intervals, true)?;
-    push_row(marks, band.y1, &band.intervals, false)?;
+    Ok(())
+}
+
+/// Appends the corners of the rectangles of the last band, in the row at which it ends, and of the
+/// next one, in the row at which it begins. The row is then the one at which the next one ends.
+fn push_band(marks: &mut Vec<Mark>, row: &mut Row, band: &Band) -> Result<(), AllocError>
+    ensures { OnOk result ((x y : ℤ) → net x y marks.new.items +ℤ ended_net x y row.new
+        ≡ (net x y marks.old.items +ℤ ended_net x y row.old) +ℤ band_net x y (slab_of band.now)) }
+{
+    push_rows(marks, row, band)?;
+    row.y = band.y1;
+    row.intervals.clear();
+    row.intervals.extend_from_slice(&band.intervals)?;
     Ok(())
 }
 
@@ -74,11 +150,16 @@ pub(crate) fn marks_of<R: RingList>(
     ensures order { IfOk result (λ marks. AreInOrder marks.items) }
 {
     let mut marks = Vec::new(alloc);
+    let mut row = Row {
+        y: 0,
+        intervals: Vec::new(alloc),
+    };
     let mut sweep = Sweep::new(alloc, rings)?;
     while let Some(band) = sweep.band() {
-        push_band(&mut marks, band)?;
+        push_band(&mut marks, &mut row, band)?;
         sweep.advance();
     }
+    push_row(&mut marks, row.y, &row.intervals, false)?;
     marks.retain(|mark| span.has(mark.x));
     marks.sort_unstable_by_key(|mark| (mark.x, mark.y));
     Ok(marks)

@@ -46,14 +46,9 @@ fn hold_ring(bounds: Bounds, ring: &MovedRing<'_>, shifts: Bounds) -> Option<Bou
     ensures wider { IfSome result (Widens bounds) }
     ensures held { IfSome result (λ held. HoldsRing held shifts ring.now) }
 {
-    let mut held = bounds;
-    for k in 0..ring.len() {
-        let Some(point) = ring.get(k) else {
-            unreachable!()
-        };
-        held = held.joined(Bounds::around(point).moved(shifts)?);
-    }
-    Some(held)
+    let (low, high) = ring.reach()?;
+    let held = Bounds { low, high }.moved(shifts)?;
+    Some(bounds.joined(held))
 }
 
 /// The bounds, widened to have the shape at index `i` at all of its shifts, or None if a corner

@@ -48,6 +48,17 @@ fn bounds_of_ring(ring: &MovedRing<'_>) -> Bounds
     requires { IsRing ring.now }
     ensures { All (IsWithin result) ring.now }
 {
+    match ring.reach() {
+        Some((low, high)) => Bounds { low, high },
+        None => bounds_of_points(ring),
+    }
+}
+
+/// The same, point by point.
+fn bounds_of_points(ring: &MovedRing<'_>) -> Bounds
+    requires { IsRing ring.now }
+    ensures { All (IsWithin result) ring.now }
+{
     let Some(first) = ring.get(0) else {
         unreachable!()
     };

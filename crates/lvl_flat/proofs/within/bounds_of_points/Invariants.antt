@@ -1,6 +1,6 @@
 use Rattle.std.proofs.Common.{All, take}
 use Rattle.lvl_flat.specs.Boxes.{IsWithin}
-use Rattle.lvl_flat.proofs.within.bounds_of_ring.Given as goal
+use Rattle.lvl_flat.proofs.within.bounds_of_points.Given as goal
 
 -- the points so far are in the box
 abbrev pub invariant-loop-k : goal.invariant-loop-k

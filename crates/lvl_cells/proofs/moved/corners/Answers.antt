@@ -1,0 +1,31 @@
+use Rattle.std.proofs.Common.{◌≡◌, ℤ, ◌≤ℤ◌, arith, rules}
+use Rattle.std.specs.Int.{w64}
+use Rattle.std.proofs.lemmas.Int.{ints}
+use mir.Val.{to_z, of_z}
+use Rattle.lvl_cells.proofs.moved.corners.Goals as goal
+
+-- the coordinate, as stored in 64 bits
+abbrev kept : ℤ → ℤ
+kept z = to_z w64 (of_z w64 z)
+
+at_most : (a b m p : ℤ) → kept m ≡ m → kept a ≡ a → m ≤ℤ kept a → a ≤ℤ p → kept m ≤ℤ p
+at_most a b m p h k l w = omega (arith, ints)
+
+at_least : (a b m p : ℤ) → kept m ≡ m → kept a ≡ a → kept a ≤ℤ m → p ≤ℤ a → p ≤ℤ kept m
+at_least a b m p h k l w = omega (arith, ints)
+
+pub returns-clause-wider : goal.returns-clause-wider
+returns-clause-wider c = λ p w. record {
+  left =
+      at_most c.args.low.x c.args.point.x c.min.result p.x (search rules) (search rules)
+      c.min.ensures.self_bound w.left;
+  right =
+      at_least c.args.high.x c.args.point.x c.max.result p.x (search rules) (search rules)
+      c.max.ensures.self_bound w.right;
+  below =
+      at_most c.args.low.y c.args.point.y c.min-2.result p.y (search rules) (search rules)
+      c.min-2.ensures.self_bound w.below;
+  above =
+      at_least c.args.high.y c.args.point.y c.max-2.result p.y (search rules) (search rules)
+      c.max-2.ensures.self_bound w.above;
+}
