@@ -29,3 +29,19 @@ returns-clause-wider c = λ p w. record {
       at_least c.args.high.y c.args.point.y c.max-2.result p.y (search rules) (search rules)
       c.max-2.ensures.self_bound w.above;
 }
+
+pub returns-clause-there : goal.returns-clause-there
+returns-clause-there c = record {
+  left =
+      at_most c.args.point.x c.args.low.x c.min.result c.args.point.x (search rules) (search rules)
+      c.min.ensures.other_bound (omega (arith, ints));
+  right =
+      at_least c.args.point.x c.args.high.x c.max.result c.args.point.x (search rules) (search rules)
+      c.max.ensures.other_bound (omega (arith, ints));
+  below =
+      at_most c.args.point.y c.args.low.y c.min-2.result c.args.point.y (search rules) (search rules)
+      c.min-2.ensures.other_bound (omega (arith, ints));
+  above =
+      at_least c.args.point.y c.args.high.y c.max-2.result c.args.point.y (search rules) (search rules)
+      c.max-2.ensures.other_bound (omega (arith, ints));
+}

@@ -1,11 +1,8 @@
-use Rattle.std.proofs.Common.{◌≡◌, ◌<◌, ℕ, List, All, get_or}
-use Rattle.std.proofs.lemmas.List.Elements.{All-weaker}
-use Rattle.lvl_grid.specs.declared.point.Point.{Point}
-use Rattle.lvl_grid.specs.Turn.{shifted}
-use Rattle.lvl_names.specs.Shifts.{IsBetween}
-use Rattle.lvl_flat.specs.declared.bounds.Bounds.{Bounds}
-use Rattle.lvl_flat.specs.Boxes.{IsWithin}
+use Rattle.std.proofs.Common.{get_or}
 use Rattle.lvl_flat.proofs.boxes.hold_ring.Goals as goal
 
 pub returns-clause-held : goal.returns-clause-held
-returns-clause-held c = ?
+returns-clause-held c = λ k v lt e w.
+    let at = c.in_ok-low.ensures k v lt in
+    c.joined.ensures.second.holds _ (c.in_ok-held.ensures (get_or c.args.ring.now k v) e
+    (record { left = at.left; right = at.right; below = at.below; above = at.above }) w)

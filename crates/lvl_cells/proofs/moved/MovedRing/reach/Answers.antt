@@ -16,4 +16,13 @@ between_moved by low high p w = record {
 }
 
 pub returns : goal.returns
-returns c = ?
+returns c =
+    let by : Point = c.self.inside.by in
+    let low : Point = c.in_ok-low.low in
+    let high : Point = c.in_ok-low.high in
+    let points : List Point = c.self.inside.points.now in
+    let low_is : c.in_ok-moved.field-0 ≡ shifted by low = c.in_ok-moved.ensures.1 in
+    let high_is : c.in_ok-moved-2.field-0 ≡ shifted by high = c.in_ok-moved-2.ensures.1 in
+    let P : Point → Type 0 = IsBetween (shifted by low) (shifted by high) in
+    rw (low_is, high_is) (subst (All P) c.self.view_is
+    (All-map P (shifted by) points (λ k d lt. between_moved by low high _ (c.in_ok-low.ensures k d lt))))
