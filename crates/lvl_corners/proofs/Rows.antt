@@ -67,3 +67,8 @@ back_more is js i d lt lt' one rest =
     last_more is i d lt
     ∙ (ap (λ (e : ℤ × ℤ). e ∷ drop (length is - i) is) one
     ∙ (ap (λ (es : List (ℤ × ℤ)). get_or js (length js - 1 - i) d ∷ es) rest ∙ sym (last_more js i d lt')))
+
+-- at the start there are no marks, and no row has ended
+pub started : (n b : ℤ) (t : Bool) → n ≡ pos 0 → (n +ℤ cond t (pos 0 -ℤ pos 0) (pos 0)) +ℤ b ≡ b
+started n b true e = omega (arith, ints, e)
+started n b false e = omega (arith, ints, e)

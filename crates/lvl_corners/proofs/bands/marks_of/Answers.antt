@@ -1,19 +1,25 @@
-use Rattle.std.proofs.Common.{◌≡◌, ◌∙◌, ap, arith, rules, length, cond, ℤ, pos}
-use Rattle.std.proofs.lemmas.Int.{ints}
+use Rattle.std.proofs.Common.{◌≡◌, ◌∙◌, ◌+ℤ◌, ap, arith, refl, rules, length, cond, int_eq, ℤ, pos}
+use Rattle.std.proofs.Common.{FitsSigned}
+use Rattle.std.specs.Int.{w64}
+use Rattle.std.proofs.lemmas.Int.{ints, to_z-of_z}
 use Rattle.std.proofs.lemmas.Fn.{filter_same}
 use Rattle.std.proofs.lemmas.List.Sorted.{answers_always}
 use Rattle.lvl_sweep.specs.Slab.{slabs_cover}
 use Rattle.lvl_corners.specs.declared.mark.Mark.{Mark}
 use Rattle.lvl_corners.specs.Corners.{change_at}
 use Rattle.lvl_corners.specs.inside.Marks.{bands_net, net}
+use Rattle.lvl_corners.specs.inside.Rows.{ended_net}
 use Rattle.lvl_corners.specs.inside.Spans.{spanned}
 use Rattle.lvl_corners.proofs.Changes.{bands_change, bands_bounded}
 use Rattle.lvl_corners.proofs.Nets.{net_permutation, net_filter}
 use Rattle.lvl_corners.proofs.Orders.{in_order}
+use Rattle.lvl_corners.proofs.Rows.{started}
 use Rattle.lvl_corners.proofs.bands.marks_of.Goals as goal
 
 pub loop-band-init : goal.loop-band-init
-loop-band-init g c = λ x y. rw c.new-marks.ensures.items (omega (arith, ints))
+loop-band-init g c = λ x y.
+    rw (c.new-marks.ensures.items, c.new.ensures.items)
+    (started _ (bands_net x y c.in_ok-sweep.sweep) (int_eq (pos 0) y) refl)
 
 pub loop-band-smaller : goal.loop-band-smaller
 loop-band-smaller g c =
@@ -38,12 +44,16 @@ returns-clause-marks g c = record {
       c.retain.ensures.filtered in
       let sorted = net_permutation x y c.retain.new.self.items c.sort_unstable_by_key.new.self.items
       c.sort_unstable_by_key.ensures.permutation in
-      let few = ap (net x y) kept ∙ net_filter x y (spanned c.args.span) c.loop-band.marks.items in
+      let few = ap (net x y) kept ∙ net_filter x y (spanned c.args.span) c.push_row.new.marks.items in
+      let fits : FitsSigned w64 c.loop-band.row.y = search rules in
+      let last : net x y c.push_row.new.marks.items
+      ≡ net x y c.loop-band.marks.items +ℤ ended_net x y c.loop-band.row =
+      rw c.deref.ensures.value at (simp to_z-of_z at (c.in_ok-push_row.ensures x y)) in
       let none = ap (bands_net x y) c.in_default.ensures.none in
       let all = c.loop-band.invariant x y in
       let is = bands_change x y c.in_ok-sweep.sweep c.in_ok-sweep.ensures.bands.list in
-      let net_is : net x y c.loop-band.marks.items ≡ change_at (slabs_cover c.in_ok-sweep.sweep) x y =
-      omega (arith, ints, none, all, is) in
+      let net_is : net x y c.push_row.new.marks.items ≡ change_at (slabs_cover c.in_ok-sweep.sweep) x y =
+      omega (arith, ints, none, all, is, last) in
       sorted ∙ (few ∙ ap (λ (z : ℤ). cond (spanned c.args.span x) z (pos 0)) net_is);
 }
 
