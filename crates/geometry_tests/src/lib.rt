@@ -17,6 +17,8 @@ mod outlines;
 #[cfg(test)]
 mod pairs;
 #[cfg(test)]
+mod reordered;
+#[cfg(test)]
 mod rings;
 #[cfg(test)]
 mod simpler;

@@ -1,0 +1,82 @@
+//! Lists that have the same rings in another order.
+use crate::outlines::{at, rectangle, ring};
+use lvl_columns::{Comparison, compare_by_columns};
+use lvl_grid::{Ring, Rings};
+use lvl_region::Side;
+use std::alloc::Global;
+use std::test::Fail;
+
+/// How many rings a list has.
+const MANY: i64 = 900;
+
+/// The ring with a number: a square, counterclockwise or clockwise, or each third time a corner.
+fn numbered(alloc: Global, number: i64, is_clockwise: bool) -> Result<Ring, Fail> {
+    let x = number.saturating_mul(37) % 1000;
+    let y = number.saturating_mul(3);
+    let (right, top) = (x.saturating_add(9), y.saturating_add(9));
+    if number % 3 == 0 {
+        let (middle, half) = (x.saturating_add(4), y.saturating_add(4));
+        let corner = [
+            (x, y),
+            (right, y),
+            (right, half),
+            (middle, half),
+            (middle, top),
+            (x, top),
+        ];
+        return ring(alloc, &corner);
+    }
+    if is_clockwise {
+        return ring(alloc, &[(x, y), (x, top), (right, top), (right, y)]);
+    }
+    Ok(rectangle(alloc, (x, right), (y, top))?)
+}
+
+/// The rings in order, or in reverse and the squares clockwise.
+fn listed(alloc: Global, is_reversed: bool) -> Result<Rings, Fail> {
+    let mut rings = Rings::new(alloc);
+    for i in 0..MANY {
+        let number = if is_reversed {
+            MANY.saturating_sub(1).saturating_sub(i)
+        } else {
+            i
+        };
+        rings.push_ring(&numbered(alloc, number, is_reversed)?)?;
+    }
+    Ok(rings)
+}
+
+/// What comparing the rings in order with those in reverse gives, where both lists have one more
+/// square: the first has it at (-9, 5), and the second at this abscissa.
+fn compared(alloc: Global, x: i64) -> Result<Comparison, Fail> {
+    let mut first = listed(alloc, false)?;
+    let mut second = listed(alloc, true)?;
+    first.push_ring(&rectangle(alloc, (-9, -8), (5, 6))?)?;
+    second.push_ring(&rectangle(alloc, (x, x.saturating_add(1)), (5, 6))?)?;
+    Ok(compare_by_columns(alloc, &first, &second)?)
+}
+
+/// Rings in another order are the same without a cut, and so are rectangles the other way round.
+#[test]
+fn rings_in_another_order(rt: HostRuntime) -> Result<(), Fail> {
+    let same = compared(rt.alloc(), -9)?;
+    assert!(rt; same.found.is_none() && same.columns == 0);
+    let other = compared(rt.alloc(), -7)?;
+    assert!(rt; other.found == at(-9, 5, Side::First));
+    Ok(())
+}
+
+/// As many rings that cover the same squares, but one more often on one side.
+#[test]
+fn a_ring_more_often(rt: HostRuntime) -> Result<(), Fail> {
+    let mut first = listed(rt.alloc(), false)?;
+    let mut second = listed(rt.alloc(), true)?;
+    first.push_ring(&numbered(rt.alloc(), 1, false)?)?;
+    second.push_ring(&numbered(rt.alloc(), 2, false)?)?;
+    assert!(rt;
+        compare_by_columns(rt.alloc(), &first, &second)?
+            .found
+            .is_none()
+    );
+    Ok(())
+}
