@@ -254,8 +254,9 @@ fn points_of_shape(shapes: &Shapes, i: usize) -> u64
     points.saturating_mul(shapes.shift_count(i))
 }
 
-/// How wide the first strip of a window should be, so that none need be tried again. If the shapes
-/// of the tops are spread evenly, there are `most` points or a little less in each strip.
+/// How wide the first strip of a window should be, so that none need be tried again: as wide as it
+/// would be after it was halved until it has at most `most` points, if the shapes of the tops are
+/// spread evenly.
 fn first_width(window: &Window, first: &Fitted, second: &Fitted, most: usize) -> u64
     ensures { 0 < result }
 {
@@ -265,7 +266,8 @@ fn first_width(window: &Window, first: &Fitted, second: &Fitted, most: usize) ->
         .checked_div(most as u64)
         .unwrap_or(0)
         .saturating_add(1);
-    let width = width_of(window).checked_div(strips).unwrap_or(0);
+    let halved = strips.checked_next_power_of_two().unwrap_or(strips);
+    let width = width_of(window).checked_div(halved).unwrap_or(0);
     width.saturating_add(1)
 }
 
