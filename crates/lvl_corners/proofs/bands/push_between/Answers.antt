@@ -1,4 +1,5 @@
-use Rattle.std.proofs.Common.{◌≡◌, ◌∙◌, sym, ap, arith, length-drop, ℕ, ◌-◌, List, take, drop, length, ℤ, ◌-ℤ◌, int_eq, FitsSigned}
+use Rattle.std.proofs.Common.{◌≡◌, ◌∙◌, sym, ap, arith, length-drop, ℕ, ◌-◌, List, take, drop, length, ℤ, ◌-ℤ◌}
+use Rattle.std.proofs.Common.{int_eq, FitsSigned}
 use Rattle.std.specs.Int.{w64}
 use Rattle.std.proofs.lemmas.Int.{to_z-of_z}
 use Rattle.std.proofs.lemmas.List.{take_all}
