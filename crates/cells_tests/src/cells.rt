@@ -24,7 +24,7 @@ fn many() -> Result<Offsets, Fail> {
 
 /// The cell of that name, placed once for each shift.
 pub(crate) fn placing(alloc: Global, name: &[u8], shifts: Offsets) -> Result<Reference, Fail> {
-    let name = Name::new(Vec::from_slice(alloc, name)?)?;
+    let name = Name::of(alloc, name)?;
     Ok(Reference::new(name, false, Turn::R0, ORIGIN, shifts).ok_or("places")?)
 }
 
@@ -44,7 +44,7 @@ fn add_square(alloc: Global, cell: &mut Cell, shifts: &Offsets) -> Result<(), Fa
 /// A cell without shapes and references.
 pub(crate) fn empty(alloc: Global, name: &[u8]) -> Result<Cell, AllocError> {
     Ok(Cell {
-        name: Vec::from_slice(alloc, name)?,
+        name: Name::of(alloc, name)?,
         shapes: Shapes::new(alloc),
         references: References::new(alloc),
     })
@@ -121,7 +121,7 @@ fn top_text(alloc: Global, checked: &Checked) -> Result<String, Fail> {
     let top = checked.cells().get(checked.top()).ok_or("a top")?;
     let mut text = String::new(alloc);
     text.push_str("top")?;
-    add_name(&mut text, &top.name)?;
+    add_name(&mut text, top.name.as_bytes())?;
     Ok(text)
 }
 

@@ -65,7 +65,7 @@ fn add_places(alloc: Global, cells: &mut Builder, word: &str) -> Result<(), Fail
 fn add_cell(alloc: Global, cells: &mut Builder, text: &str) -> Result<(), Fail> {
     let mut words = text.split_whitespace();
     let name = words.next().ok_or("a name")?;
-    cells.open(alloc, Vec::from_slice(alloc, name.as_bytes())?);
+    cells.open(alloc, name.as_bytes())?;
     for word in words {
         match word.split_once("..") {
             Some((left, right)) => add_box(alloc, cells, left, right)?,

@@ -19,7 +19,7 @@ const METAL: Layer = Layer {
 fn checked(alloc: Global, name: &[u8], high: Point) -> Result<Checked, Fail> {
     let ring = Ring::rectangle(alloc, Point { x: 0, y: 0 }, high)?;
     let mut builder = Builder::new(alloc);
-    builder.open(alloc, Vec::from_slice(alloc, name)?);
+    builder.open(alloc, name)?;
     builder.add_ring(METAL, ring.points(), &Offsets::single())?;
     builder.close(alloc)?;
     Ok(check(alloc, builder.finish(), None)?)
@@ -41,7 +41,7 @@ fn libraries(rt: HostRuntime) -> Result<(), Fail> {
     let alloc = rt.alloc();
     let ring = Ring::rectangle(alloc, Point { x: 0, y: 0 }, Point { x: 4, y: 2 })?;
     let mut builder = Builder::new(alloc);
-    builder.open(alloc, Vec::from_slice(alloc, b"TOP")?);
+    builder.open(alloc, b"TOP")?;
     builder.add_ring(METAL, ring.points(), &Offsets::single())?;
     builder.close(alloc)?;
     let checked = check(alloc, builder.finish(), None)?;

@@ -36,7 +36,7 @@ fn with_ring(alloc: Global, name: &str, layer: Layer, ring: &Ring) -> Result<Cel
     let mut shapes = Shapes::new(alloc);
     shapes.push_ring(layer, ring.points(), &Offsets::single())?;
     Ok(Cell {
-        name: Vec::from_slice(alloc, name.as_bytes())?,
+        name: Name::of(alloc, name.as_bytes())?,
         shapes,
         references: References::new(alloc),
     })
@@ -49,7 +49,7 @@ fn drawing(alloc: Global, name: &str, layer: Layer, low: Point, high: Point) -> 
 
 /// What places a cell by the map.
 fn reference(alloc: Global, placed: &str, map: Map) -> Result<Reference, Fail> {
-    let placed = Name::new(Vec::from_slice(alloc, placed.as_bytes())?)?;
+    let placed = Name::of(alloc, placed.as_bytes())?;
     let reference = Reference::new(placed, map.flip, map.turn, map.at, Offsets::single());
     Ok(reference.ok_or("places")?)
 }
@@ -59,7 +59,7 @@ fn placing(alloc: Global, name: &str, placed: &str, map: Map) -> Result<Cell, Fa
     let mut references = References::new(alloc);
     references.push(reference(alloc, placed, map)?)?;
     Ok(Cell {
-        name: Vec::from_slice(alloc, name.as_bytes())?,
+        name: Name::of(alloc, name.as_bytes())?,
         shapes: Shapes::new(alloc),
         references,
     })

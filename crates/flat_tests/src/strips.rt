@@ -25,7 +25,7 @@ type Extra = Option<(Layer, i64, i64)>;
 /// Adds a cell A that draws a rectangle of 4 by 2.
 fn add_cell(alloc: Global, builder: &mut Builder) -> Result<(), Fail> {
     let ring = Ring::rectangle(alloc, Point { x: 0, y: 0 }, Point { x: 4, y: 2 })?;
-    builder.open(alloc, Vec::from_slice(alloc, b"A")?);
+    builder.open(alloc, b"A")?;
     builder.add_ring(METAL, ring.points(), &Offsets::single())?;
     builder.close(alloc)?;
     Ok(())
@@ -52,7 +52,7 @@ fn add_square(alloc: Global, builder: &mut Builder, layer: Layer, low: Point) ->
 fn arrayed(alloc: Global, extras: [Extra; 2]) -> Result<Fitted, Fail> {
     let mut builder = Builder::new(alloc);
     add_cell(alloc, &mut builder)?;
-    builder.open(alloc, Vec::from_slice(alloc, b"TOP")?);
+    builder.open(alloc, b"TOP")?;
     builder.add_reference(array(alloc)?)?;
     for (layer, x, y) in extras.into_iter().flatten() {
         add_square(alloc, &mut builder, layer, Point { x, y })?;

@@ -3,7 +3,7 @@ use lvl_cells::{Cell, References, Shapes};
 use lvl_compare::{difference_by, first_difference_in};
 use lvl_flat::{Flat, flatten_shapes};
 use lvl_grid::{Point, Ring, Square, Window};
-use lvl_names::{Layer, Offsets};
+use lvl_names::{Layer, Name, Offsets};
 use lvl_region::{GridRegion, Side};
 use lvl_sweep::SlabRegion;
 use lvl_view::View;
@@ -43,7 +43,7 @@ fn shapes_of(alloc: Global, boxes: &[LayerBox]) -> Result<Shapes, Fail> {
 pub fn flat_of(alloc: Global, boxes: &[LayerBox]) -> Result<Flat, Fail> {
     let shapes = shapes_of(alloc, boxes)?;
     let cell = Cell {
-        name: Vec::from_slice(alloc, b"TOP")?,
+        name: Name::of(alloc, b"TOP")?,
         shapes,
         references: References::new(alloc),
     };

@@ -38,7 +38,7 @@ fn add_drawing(
     shifts: &Offsets,
 ) -> Result<(), Fail> {
     let ring = Ring::rectangle(alloc, ORIGIN, Point { x: 4, y: 2 })?;
-    builder.open(alloc, Vec::from_slice(alloc, name)?);
+    builder.open(alloc, name)?;
     builder.add_ring(METAL, ring.points(), shifts)?;
     builder.close(alloc)?;
     Ok(())
@@ -51,7 +51,7 @@ fn add_placing(
     name: &[u8],
     reference: Reference,
 ) -> Result<(), Fail> {
-    builder.open(alloc, Vec::from_slice(alloc, name)?);
+    builder.open(alloc, name)?;
     builder.add_reference(reference)?;
     builder.close(alloc)?;
     Ok(())
@@ -70,7 +70,7 @@ fn six_of_a(alloc: Global) -> Result<Reference, Fail> {
 fn arrayed(alloc: Global) -> Result<Checked, Fail> {
     let mut builder = Builder::new(alloc);
     add_drawing(alloc, &mut builder, b"A", &Offsets::single())?;
-    builder.open(alloc, Vec::from_slice(alloc, b"TOP")?);
+    builder.open(alloc, b"TOP")?;
     builder.add_reference(six_of_a(alloc)?)?;
     let at = Point { x: 50, y: 0 };
     builder.add_reference(to_a(alloc, false, Turn::R90, at, Offsets::single())?)?;

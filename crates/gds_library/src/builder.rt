@@ -106,7 +106,7 @@ impl Builder {
                 if !is_name(name) {
                     return Err(Cause::Breach(GdsKind::Name));
                 }
-                self.cells.open(alloc, Vec::from_slice(alloc, name)?);
+                self.cells.open(alloc, name)?;
             }
             record_type::ENDSTR => self.cells.close(alloc)?,
             _ => {}

@@ -79,7 +79,7 @@ fn changed(alloc: Global, places: &[usize], value: u8) -> Result<Vec<u8>, AllocE
 
 /// The shape is one square of the cell TOP.
 fn check_square(rt: &impl Abort, cell: &Cell) {
-    assert_eq!(rt; cell.name.as_slice(), b"TOP".as_slice());
+    assert_eq!(rt; cell.name.as_bytes(), b"TOP".as_slice());
     assert_eq!(rt; cell.references.len(), 0);
     let shapes = &cell.shapes;
     assert_eq!(rt; shapes.len(), 1);

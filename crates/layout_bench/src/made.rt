@@ -24,9 +24,9 @@ pub fn stream(alloc: Global, count: i32) -> Result<Vec<u8>> {
     Ok(stream.end()?)
 }
 
-fn name(alloc: Global, number: u64) -> Result<Vec<u8>> {
+fn name(alloc: Global, number: u64) -> Result<Name> {
     let text = format!(in alloc; "C{number:08}")?;
-    Ok(Vec::from_slice(alloc, text.as_bytes())?)
+    Ok(Name::of(alloc, text.as_bytes())?)
 }
 
 fn unit_square(alloc: Global) -> Result<Shapes> {
@@ -44,7 +44,7 @@ fn unit_square(alloc: Global) -> Result<Shapes> {
 fn placed(alloc: Global, cell: u64, a: (Point, u64), b: (Point, u64)) -> Result<Reference> {
     let shifts = Offsets::lattice(a.0, a.1, b.0, b.1).context("no lattice")?;
     let at = Point { x: 0, y: 0 };
-    let name = Name::new(name(alloc, cell)?)?;
+    let name = name(alloc, cell)?;
     Reference::new(name, false, Turn::R0, at, shifts).context("no reference")
 }
 

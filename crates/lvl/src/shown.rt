@@ -26,5 +26,5 @@ pub(crate) fn top_name(alloc: Global, checked: &Checked) -> Result<Vec<u8>, Allo
         → name.items ≡ top.name) }
 {
     let top = &checked.cells()[checked.top()];
-    Vec::from_slice(alloc, &top.name)
+    Vec::from_slice(alloc, top.name.as_bytes())
 }

@@ -9,7 +9,7 @@ use Rattle.std.proofs.lemmas.List.Elements.{All-from_get_or, All-get_or, All-hea
 use Rattle.lvl_grid.specs.declared.point.Point.{Point}
 use Rattle.lvl_grid.specs.Turn.{FitsPoint, shifted}
 use Rattle.lvl_names.specs.Shifts.{one_place}
-use Rattle.lvl_cells.specs.declared.shapes.Span.{Span}
+use Rattle.lvl_cells.specs.declared.shape_lists.Span.{Span}
 use Rattle.lvl_cells.specs.declared.shared.KeptFigure.{KeptFigure}
 use Rattle.lvl_cells.specs.Cells.{PlainShape, Rings, shape_at}
 use Rattle.lvl_cells.specs.inside.Spans.{numbered, displaced, origin, figure_in, shape_in, FitsMoved, IsAgain}

@@ -6,3 +6,4 @@ pub mod Walking
 pub mod Rounding
 pub mod Topping
 pub mod Placings
+pub mod Boxed

@@ -4,10 +4,11 @@ ghost use Rattle.lvl_grid.specs.Winding.{IsRing};
 ghost use Rattle.lvl_cells.specs.Building.{no_cell, with_shape, with_reference};
 
 use crate::library::{Cell, Library};
-use crate::references::{Reference, References};
+use crate::reference::Reference;
+use crate::references::References;
 use crate::shapes::Shapes;
 use lvl_grid::{Point, Ring};
-use lvl_names::{Layer, Offsets};
+use lvl_names::{Layer, Name, Offsets};
 use std::alloc::{AllocError, Global};
 use std::marker::Model;
 use std::mem;
@@ -37,7 +38,7 @@ fn empty_cell(alloc: Global) -> Cell
     ensures { result ≡ no_cell }
 {
     Cell {
-        name: Vec::new(alloc),
+        name: Name::empty(),
         shapes: Shapes::new(alloc),
         references: References::new(alloc),
     }
@@ -62,17 +63,19 @@ impl Builder {
     }
 
     /// Opens an empty cell of this name. If another cell was open, it is dropped.
-    pub fn open(&mut self, alloc: Global, name: Vec<u8>)
-        ensures { self.new ≡ record {
+    pub fn open(&mut self, alloc: Global, name: &[u8]) -> Result<(), AllocError>
+        ensures opened { OnOk result (self.new ≡ record {
           cells = self.old.cells;
-          current = record { name = name.items; shapes = []; references = [] };
-        } }
+          current = record { name = name.now; shapes = []; references = [] };
+        }) }
+        ensures kept { OnErr result (self.new ≡ self.old) }
     {
         self.current = Cell {
-            name,
+            name: Name::of(alloc, name)?,
             shapes: Shapes::new(alloc),
             references: References::new(alloc),
         };
+        Ok(())
     }
 
     /// Adds a shape of one ring to the open cell. The ring is given by its points.

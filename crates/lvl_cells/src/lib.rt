@@ -16,7 +16,7 @@
 //!
 //! let ring = Ring::rectangle(alloc, Point { x: 0, y: 0 }, Point { x: 4, y: 2 })?;
 //! let mut builder = Builder::new(alloc);
-//! builder.open(alloc, Vec::from_slice(alloc, b"TOP")?);
+//! builder.open(alloc, b"TOP")?;
 //! builder.add_ring(METAL, ring.points(), &Offsets::single())?;
 //! builder.close(alloc)?;
 //! let checked = check(alloc, builder.finish(), None)?;
@@ -31,7 +31,8 @@ pub use library::{Cell, Library};
 pub use moved::MovedRing;
 pub use names::index_of;
 pub use placements::Placements;
-pub use references::{KeptReference, Reference, References};
+pub use reference::{KeptReference, Reference};
+pub use references::References;
 pub use shapes::Shapes;
 
 mod builder;
@@ -44,8 +45,11 @@ mod moved;
 mod names;
 mod order;
 mod placements;
+mod reference;
+mod reference_lists;
 mod references;
 mod round;
+mod shape_lists;
 mod shapes;
 mod shared;
 mod targets;

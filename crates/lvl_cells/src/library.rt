@@ -1,12 +1,13 @@
 //! Libraries: cells with their shapes and their references to other cells.
 use crate::references::References;
 use crate::shapes::Shapes;
+use lvl_names::Name;
 use std::marker::Model;
 
 /// A named cell, with its shapes and references in file order.
 #[derive(Debug, Drop)]
 pub struct Cell {
-    pub name: Vec<u8>,
+    pub name: Name,
     pub shapes: Shapes,
     pub references: References,
 }
@@ -16,7 +17,7 @@ impl Model for Cell {
 
     ghost Value = { PlainCell Rings };
 
-    ghost view = { λ c. record { name = c.name.items; shapes = c.shapes; references = c.references } };
+    ghost view = { λ c. record { name = c.name; shapes = c.shapes; references = c.references } };
 }
 
 /// The cells of a file, in file order. [`crate::check`] says whether they are sound.

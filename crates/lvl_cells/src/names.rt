@@ -24,7 +24,7 @@ pub fn index_of<'a>(
 {
     let mut index = BTreeMap::new(alloc);
     for (i, cell) in cells.iter().enumerate() {
-        let name = cell.name.as_slice();
+        let name = cell.name.as_bytes();
         let earlier = index.insert(name, i)?;
         if earlier.is_some() {
             return Err(Cause::Breach(CellFault::DuplicateCell(Vec::from_slice(alloc, name)?)));

@@ -4,7 +4,7 @@ ghost use Rattle.lvl_grid.specs.Turn.{shifted, FitsPoint};
 ghost use Rattle.lvl_cells.specs.inside.Spans.{GoesOn};
 ghost use Rattle.lvl_cells.specs.inside.Placings.{IsAt, IsPlacing, placement_by};
 
-use crate::shapes::kept_count;
+use crate::shape_lists::kept_count;
 use lvl_grid::{Map, Point, Turn};
 use lvl_names::Offsets;
 use std::alloc::{AllocError, Global};

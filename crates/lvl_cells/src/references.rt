@@ -1,199 +1,71 @@
-//! References to other cells, and how a cell keeps a list of them.
-ghost use Rattle.std.specs.Prelude.{◌≡◌, ◌<◌, ◌↔◌, ◌++◌, ◌∷◌, [], length, slice_get, All, IsSome, IfSome, IsTrue};
-ghost use Rattle.std.specs.Prelude.{map, Some, IfOk, OnOk, OnErr};
-ghost use Rattle.lvl_grid.specs.Turn.{shifted, FitsPoint};
+//! The references of a cell.
+ghost use Rattle.std.specs.Prelude.{◌≡◌, ◌<◌, ◌↔◌, ◌++◌, ◌∷◌, [], length, slice_get, All, IsTrue, map, Some, IfOk};
+ghost use Rattle.std.specs.Prelude.{OnOk, OnErr};
 ghost use Rattle.lvl_cells.specs.Cells.{reference_to};
-ghost use Rattle.lvl_cells.specs.inside.Spans.{GoesOn};
-ghost use Rattle.lvl_cells.specs.inside.Placings.{IsAt};
+ghost use Rattle.lvl_cells.specs.inside.Boxed.{stored_list};
 
-use crate::placements::{Placements, Placing, reserve_first};
-use lvl_grid::{Map, Point, Turn};
-use lvl_names::{Name, Offsets};
+use crate::placements::Placements;
+use crate::reference::{KeptReference, Reference};
+use crate::reference_lists::ReferenceLists;
+use lvl_names::Name;
 use std::alloc::{AllocError, Global};
 use std::marker::Model;
 
-/// A reference to a cell by its name. The cell is reflected, then turned, then placed at each place
-/// of the reference: `at` moved by each of the shifts.
-#[derive(Debug, Drop)]
-pub struct Reference {
-    cell: Name,
-    flip: bool,
-    turn: Turn,
-    at: Point,
-    shifts: Offsets,
-}
-
-impl Model for Reference {
-    ghost use Rattle.std.specs.Prelude.{All};
-    ghost use Rattle.lvl_grid.specs.Turn.{FitsPoint, shifted};
-    ghost use Rattle.lvl_cells.specs.Cells.{PlainReference};
-
-    ghost Value = { PlainReference };
-
-    ghost view = { λ r. record { cell = r.cell; flip = r.flip; turn = r.turn; at = r.at; shifts = r.shifts } };
-
-    ghost invariant = { λ r. All (λ e. FitsPoint (shifted r.at e)) r.shifts };
-}
-
-impl Reference {
-    /// A reference to the cell of that name, or None if one of its places, each `at` moved by one
-    /// of the shifts, is outside 64 signed bits.
-    pub fn new(cell: Name, flip: bool, turn: Turn, at: Point, shifts: Offsets) -> Option<Reference>
-        ensures some { IsSome result ↔ All (λ e. FitsPoint (shifted at e)) shifts }
-        ensures same { IfSome result
-            (λ r. r ≡ record { cell = cell; flip = flip; turn = turn; at = at; shifts = shifts }) }
-    {
-        if !shifts.all_fit_at(at) {
-            return None;
-        }
-        Some(Reference {
-            cell,
-            flip,
-            turn,
-            at,
-            shifts,
-        })
-    }
-
-    /// The name of the cell that it places.
-    pub fn cell(&self) -> &[u8]
-        ensures { result.now ≡ self.now.cell }
-    {
-        self.cell.as_bytes()
-    }
-
-    /// Whether the cell is reflected about the X axis before it is turned.
-    pub fn flip(&self) -> bool
-        ensures { result ≡ self.now.flip }
-    {
-        self.flip
-    }
-
-    /// How the cell is turned before it is moved to a place.
-    pub fn turn(&self) -> Turn
-        ensures { result ≡ self.now.turn }
-    {
-        self.turn
-    }
-
-    /// The first of its places, in grid steps.
-    pub fn at(&self) -> Point
-        ensures { result ≡ self.now.at }
-    {
-        self.at
-    }
-
-    /// The displacement of each of its places from the first one. `at` moved by any of them is
-    /// within 64 signed bits.
-    pub fn shifts(&self) -> &Offsets
-        ensures all { result.now ≡ self.now.shifts }
-        ensures in_range { All (λ e. FitsPoint (shifted self.now.at e)) self.now.shifts }
-    {
-        &self.shifts
-    }
-}
-
-/// A reference of a cell, borrowed from its [`References`].
-#[derive(Debug, Drop)]
-pub struct KeptReference<'a> {
-    cell: &'a Name,
-    placing: Placing,
-    shifts: &'a Offsets,
-}
-
-impl<'a> Model for KeptReference<'a> {
-    ghost use Rattle.std.specs.Prelude.{All};
-    ghost use Rattle.lvl_grid.specs.Turn.{FitsPoint, shifted};
-    ghost use Rattle.lvl_cells.specs.Cells.{PlainReference};
-
-    ghost Value = { PlainReference };
-
-    ghost view = { λ r. record {
-      cell = r.cell.now;
-      flip = r.placing.flip;
-      turn = r.placing.turn;
-      at = r.placing.at;
-      shifts = r.shifts.now;
-    } };
-
-    ghost invariant = { λ r. All (λ e. FitsPoint (shifted r.placing.at e)) r.shifts.now };
-}
-
-impl<'a> KeptReference<'a> {
-    /// The name of the cell that it places.
-    pub fn cell(&self) -> &[u8]
-        ensures { result.now ≡ self.now.cell }
-    {
-        self.cell.as_bytes()
-    }
-
-    /// Whether the cell is reflected about the X axis before it is turned.
-    pub fn flip(&self) -> bool
-        ensures { result ≡ self.now.flip }
-    {
-        self.placing.flip
-    }
-
-    /// How the cell is turned before it is moved to a place.
-    pub fn turn(&self) -> Turn
-        ensures { result ≡ self.now.turn }
-    {
-        self.placing.turn
-    }
-
-    /// The first of its places, in grid steps.
-    pub fn at(&self) -> Point
-        ensures { result ≡ self.now.at }
-    {
-        self.placing.at
-    }
-
-    /// The displacement of each of its places from the first one. `at` moved by any of them is
-    /// within 64 signed bits.
-    pub fn shifts(&self) -> &Offsets
-        ensures all { result.now ≡ self.now.shifts }
-        ensures in_range { All (λ e. FitsPoint (shifted self.now.at e)) self.now.shifts }
-    {
-        self.shifts
-    }
-}
-
 /// The references of a cell in file order.
 ///
-/// A reference has no allocation of its own. It takes 32 bytes if its name and its shifts are those
-/// of the reference before, or if it has a single place; a name and a list of shifts that aren't
-/// are kept beside it.
+/// An empty list allocates nothing. A single reference is kept as it is. Of several, a reference
+/// takes 32 bytes if its name and its shifts are those of the reference before, or if it has a
+/// single place; a name and a list of shifts that aren't are kept beside it.
 #[derive(Debug, Drop)]
 pub struct References {
-    names: Vec<Name>,
-    placements: Placements,
+    alloc: Global,
+    stored: Stored,
+}
+
+/// How the references of a cell are stored.
+#[derive(Debug, Drop)]
+enum Stored {
+    None,
+    One(Box<Reference>),
+    Several(Box<ReferenceLists>),
 }
 
 impl Model for References {
-    ghost use Rattle.std.specs.Prelude.{List, map, All, length, ◌<◌};
-    ghost use Rattle.lvl_cells.specs.Cells.{PlainReference, reference_to};
+    ghost use Rattle.std.specs.Prelude.{List};
+    ghost use Rattle.lvl_cells.specs.Cells.{PlainReference};
+    ghost use Rattle.lvl_cells.specs.inside.Boxed.{stored_list};
 
     ghost Value = { List PlainReference };
 
-    ghost view = { λ r. map (reference_to r.names.items) r.placements };
-
-    ghost invariant = { λ r. All (λ p. p.key < length r.names.items) r.placements };
+    ghost view = { λ r. stored_list r.stored };
 }
 
-/// The index of a name. Keeps the name, unless it is the last that was kept.
-fn index_of_name(names: &mut Vec<Name>, name: Name) -> Result<usize, AllocError>
-    ensures index { IfOk result (λ i. IsAt names.new.items i name) }
-    ensures before { GoesOn names.old.items names.new.items }
+/// Stores some references in the smallest form.
+fn smallest(alloc: Global, lists: ReferenceLists) -> Result<Stored, AllocError>
+    ensures { IfOk result (λ stored. stored_list stored ≡ lists) }
 {
-    if let Some(last) = names.last() {
-        if last.as_bytes() == name.as_bytes() {
-            return Ok(names.len() - 1);
+    match lists.len() {
+        0 => Ok(Stored::None),
+        1 => {
+            let single = lists.reference(0).copied()?;
+            Ok(Stored::One(Box::new(alloc, single)?))
         }
+        _ => Ok(Stored::Several(Box::new(alloc, lists)?)),
     }
-    let index = names.len();
-    reserve_first(names)?;
-    names.push(name)?;
-    Ok(index)
+}
+
+/// The lists of two references.
+fn lists_of(
+    alloc: Global,
+    first: &Reference,
+    second: Reference,
+) -> Result<ReferenceLists, AllocError>
+    ensures { IfOk result (λ lists. lists ≡ first.now ∷ second ∷ []) }
+{
+    let mut lists = ReferenceLists::new(alloc);
+    lists.push(first.kept().copied()?)?;
+    lists.push(second)?;
+    Ok(lists)
 }
 
 impl References {
@@ -202,25 +74,35 @@ impl References {
         ensures { result ≡ [] }
     {
         References {
-            names: Vec::new(alloc),
-            placements: Placements::new(alloc),
+            alloc,
+            stored: Stored::None,
         }
     }
 
     /// The references that place the cells of these names: each placement has the index of its
     /// name.
-    pub fn of(names: Vec<Name>, placements: Placements) -> References
+    pub fn of(
+        alloc: Global,
+        names: Vec<Name>,
+        placements: Placements,
+    ) -> Result<References, AllocError>
         requires { All (λ p. p.key < length names.items) placements }
-        ensures { result ≡ map (reference_to names.items) placements }
+        ensures { IfOk result (λ references. references ≡ map (reference_to names.items) placements) }
     {
-        References { names, placements }
+        let lists = ReferenceLists::of(names, placements);
+        let stored = smallest(alloc, lists)?;
+        Ok(References { alloc, stored })
     }
 
     /// The number of references.
     pub fn len(&self) -> usize
         ensures { result ≡ length self.now }
     {
-        self.placements.len()
+        match &self.stored {
+            Stored::None => 0,
+            Stored::One(_) => 1,
+            Stored::Several(lists) => lists.len(),
+        }
     }
 
     /// Whether there is no reference.
@@ -235,11 +117,10 @@ impl References {
         requires { j < length self.now }
         ensures { slice_get self.now j ≡ Some result }
     {
-        let (placing, shifts) = self.placements.placing(j);
-        KeptReference {
-            cell: &self.names[placing.key as usize],
-            placing,
-            shifts,
+        match &self.stored {
+            Stored::None => unreachable!(),
+            Stored::One(reference) => reference.kept(),
+            Stored::Several(lists) => lists.reference(j),
         }
     }
 
@@ -258,15 +139,14 @@ impl References {
         ensures added { OnOk result (self.new ≡ self.old ++ reference ∷ []) }
         ensures kept { OnErr result (self.new ≡ self.old) }
     {
-        let Reference {
-            cell,
-            flip,
-            turn,
-            at,
-            shifts,
-        } = reference;
-        let key = index_of_name(&mut self.names, cell)?;
-        self.placements.push(key, Map { flip, turn, at }, shifts)?;
+        match &mut self.stored {
+            Stored::None => self.stored = Stored::One(Box::new(self.alloc, reference)?),
+            Stored::One(first) => {
+                let lists = lists_of(self.alloc, first, reference)?;
+                self.stored = Stored::Several(Box::new(self.alloc, lists)?);
+            }
+            Stored::Several(lists) => lists.push(reference)?,
+        }
         Ok(())
     }
 }

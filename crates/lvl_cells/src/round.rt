@@ -48,7 +48,7 @@ fn add_names(
 {
     for visit in visits {
         let cell = &cells[visit.cell];
-        names.push(Vec::from_slice(alloc, &cell.name)?)?;
+        names.push(Vec::from_slice(alloc, cell.name.as_bytes())?)?;
     }
     Ok(())
 }

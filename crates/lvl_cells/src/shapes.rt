@@ -1,92 +1,39 @@
-//! The shapes of a cell: the rings of all shapes are in one list, and each shape has a range of its
-//! indexes.
-ghost use Rattle.std.specs.Prelude.{◌≡◌, ◌<◌, ◌+◌, ◌^◌, ◌++◌, ◌∷◌, [], length, get_or, slice_get, IsTrue, ◌↔◌, IfOk};
+//! The shapes of a cell.
+ghost use Rattle.std.specs.Prelude.{◌≡◌, ◌<◌, ◌++◌, ◌∷◌, [], length, get_or, slice_get, IsTrue, ◌↔◌};
 ghost use Rattle.std.specs.Prelude.{All, OnOk, OnErr, IfSome, IfNone};
 ghost use Rattle.lvl_grid.specs.Winding.{IsRing};
 ghost use Rattle.lvl_names.specs.Shifts.{IsBetween, one_place};
 ghost use Rattle.lvl_cells.specs.Cells.{shape_at};
-ghost use Rattle.lvl_cells.specs.inside.Spans.{GoesOn, HasNumber};
 
 use crate::moved::MovedRing;
-use crate::shared::{figure_of_ring, figure_of_rings, move_of, number_of_move};
-use lvl_grid::{Point, Ring, Rings};
+use crate::shape_lists::ShapeLists;
+use lvl_grid::{Point, Ring};
 use lvl_names::{Layer, Offsets};
 use std::alloc::{AllocError, Global};
 use std::marker::Model;
-
-/// A shape: its Layer, the indexes of its rings (from `begin` up to `end`, which is excluded), and
-/// the numbers of its displacement and of its list of shifts. The number 0 means no displacement,
-/// or the zero shift alone; any other is one more than an index of [`Shapes`]' lists.
-#[derive(Clone, Copy, Debug)]
-pub(crate) struct Span {
-    pub layer: Layer,
-    pub begin: u32,
-    pub end: u32,
-    pub moved: u32,
-    pub shifts: u32,
-}
 
 /// The shapes of a cell in file order. Each is a list of rings on a Layer, drawn at each of a list
 /// of shifts.
 ///
 /// A boundary, a polygon or a rectangle is a shape of one ring, a path a shape of the rings of its
-/// bands. A shape has no allocation of its own. A boundary at one place takes 32 bytes and its
-/// points, or 40 bytes if its points are those of the shape before, moved: then both shapes share
-/// them. Consecutive shapes with the same lattice share one list of shifts, and a shared list is
-/// never copied.
+/// bands. An empty list takes 8 bytes. A boundary at one place takes 32 bytes and its points, or 40
+/// bytes if its points are those of the shape before, moved: then both shapes share them.
+/// Consecutive shapes with the same lattice share one list of shifts, and a shared list is never
+/// copied.
 #[derive(Debug, Drop)]
 pub struct Shapes {
-    rings: Rings,
-    spans: Vec<Span>,
-    moves: Vec<Point>,
-    shifts: Vec<Offsets>,
+    alloc: Global,
+    lists: Option<Box<ShapeLists>>,
 }
 
 impl Model for Shapes {
-    ghost use Rattle.std.specs.Prelude.{List, map, All};
+    ghost use Rattle.std.specs.Prelude.{List};
     ghost use Rattle.lvl_cells.specs.Cells.{PlainShape, Rings as Figure};
-    ghost use Rattle.lvl_cells.specs.inside.Spans.{shape_in, IsSpan};
+    ghost use Rattle.lvl_cells.specs.inside.Boxed.{boxed_list};
 
     ghost Value = { List (PlainShape Figure) };
 
-    ghost view = { λ s. map (shape_in s.rings s.moves.items s.shifts.items) s.spans.items };
-
-    ghost invariant = { λ s. All (IsSpan s.rings s.moves.items s.shifts.items) s.spans.items };
-}
-
-/// A count as a span stores it. 2^32 or more is reported as out of memory (own rule).
-pub(crate) fn kept_count(count: usize) -> Result<u32, AllocError>
-    ensures { IfOk result (λ kept. (kept ≡ count) × (kept < 2 ^ 32)) }
-{
-    u32::try_from(count).map_err(|_| AllocError)
-}
-
-/// The sum of two counts, as a span stores it.
-pub(crate) fn kept_sum(count: usize, more: usize) -> Result<u32, AllocError>
-    ensures { IfOk result (λ kept. (kept ≡ count + more) × (kept < 2 ^ 32)) }
-{
-    match count.checked_add(more) {
-        Some(sum) => kept_count(sum),
-        None => Err(AllocError),
-    }
-}
-
-/// The number of a list of shifts. Keeps the list, unless it is the zero shift alone or the same
-/// lattice as the last that was kept.
-fn number_of(kept: &mut Vec<Offsets>, shifts: &Offsets) -> Result<u32, AllocError>
-    ensures number { IfOk result (λ number. HasNumber kept.new.items number shifts.now) }
-    ensures before { GoesOn kept.old.items kept.new.items }
-{
-    if shifts.is_single() {
-        return Ok(0);
-    }
-    if let Some(last) = kept.last() {
-        if last.is_same_lattice(shifts) {
-            return kept_count(kept.len());
-        }
-    }
-    kept.push(shifts.clone()?)?;
-    kept_count(kept.len())
+    ghost view = { λ s. boxed_list s.lists };
 }
 
 impl Shapes {
@@ -94,19 +41,17 @@ impl Shapes {
     pub fn new(alloc: Global) -> Shapes
         ensures { result ≡ [] }
     {
-        Shapes {
-            rings: Rings::new(alloc),
-            spans: Vec::new(alloc),
-            moves: Vec::new(alloc),
-            shifts: Vec::new(alloc),
-        }
+        Shapes { alloc, lists: None }
     }
 
     /// The number of shapes.
     pub fn len(&self) -> usize
         ensures { result ≡ length self.now }
     {
-        self.spans.len()
+        match &self.lists {
+            Some(lists) => lists.len(),
+            None => 0,
+        }
     }
 
     /// Whether there is no shape.
@@ -121,7 +66,10 @@ impl Shapes {
         requires { i < length self.now }
         ensures { result ≡ (shape_at self.now i).layer }
     {
-        self.spans[i].layer
+        let Some(lists) = &self.lists else {
+            unreachable!()
+        };
+        lists.layer(i)
     }
 
     /// The number of rings of the shape at this index.
@@ -129,8 +77,10 @@ impl Shapes {
         requires { i < length self.now }
         ensures { result ≡ length (shape_at self.now i).figure }
     {
-        let span = &self.spans[i];
-        (span.end - span.begin) as usize
+        let Some(lists) = &self.lists else {
+            unreachable!()
+        };
+        lists.ring_count(i)
     }
 
     /// Ring `j` of shape `i`.
@@ -140,9 +90,10 @@ impl Shapes {
         ensures value { result ≡ get_or (shape_at self.now i).figure j [] }
         ensures ring { IsRing result }
     {
-        let span = &self.spans[i];
-        let points = self.rings.ring(span.begin as usize + j);
-        MovedRing::new(points, move_of(&self.moves, span.moved))
+        let Some(lists) = &self.lists else {
+            unreachable!()
+        };
+        lists.ring(i, j)
     }
 
     /// The shifts of the shape at this index, or None for the zero shift alone.
@@ -151,10 +102,10 @@ impl Shapes {
         ensures some { IfSome result (λ shifts. shifts.now ≡ (shape_at self.now i).shifts) }
         ensures none { IfNone result ((shape_at self.now i).shifts ≡ one_place) }
     {
-        match self.spans[i].shifts {
-            0 => None,
-            number => Some(&self.shifts[number as usize - 1]),
-        }
+        let Some(lists) = &self.lists else {
+            unreachable!()
+        };
+        lists.shifts(i)
     }
 
     /// The number of shifts of the shape at this index.
@@ -202,16 +153,12 @@ impl Shapes {
             ++ record { layer = layer; figure = ring.now ∷ []; shifts = shifts.now } ∷ []) }
         ensures kept { OnErr result (self.new ≡ self.old) }
     {
-        let figure = figure_of_ring(&mut self.rings, self.spans.last(), ring)?;
-        let moved = number_of_move(&mut self.moves, figure.by)?;
-        let number = number_of(&mut self.shifts, shifts)?;
-        self.spans.push(Span {
-            layer,
-            begin: figure.begin,
-            end: figure.end,
-            moved,
-            shifts: number,
-        })?;
+        if let Some(lists) = &mut self.lists {
+            return lists.push_ring(layer, ring, shifts);
+        }
+        let mut lists = ShapeLists::new(self.alloc);
+        lists.push_ring(layer, ring, shifts)?;
+        self.lists = Some(Box::new(self.alloc, lists)?);
         Ok(())
     }
 
@@ -226,16 +173,12 @@ impl Shapes {
             ++ record { layer = layer; figure = rings.now; shifts = shifts.now } ∷ []) }
         ensures kept { OnErr result (self.new ≡ self.old) }
     {
-        let figure = figure_of_rings(&mut self.rings, self.spans.last(), rings)?;
-        let moved = number_of_move(&mut self.moves, figure.by)?;
-        let number = number_of(&mut self.shifts, shifts)?;
-        self.spans.push(Span {
-            layer,
-            begin: figure.begin,
-            end: figure.end,
-            moved,
-            shifts: number,
-        })?;
+        if let Some(lists) = &mut self.lists {
+            return lists.push_rings(layer, rings, shifts);
+        }
+        let mut lists = ShapeLists::new(self.alloc);
+        lists.push_rings(layer, rings, shifts)?;
+        self.lists = Some(Box::new(self.alloc, lists)?);
         Ok(())
     }
 }

@@ -4,7 +4,7 @@ ghost use Rattle.lvl_grid.specs.Winding.{IsRing};
 ghost use Rattle.lvl_cells.specs.inside.Spans.{displaced, GoesOn, HasMove, IsAgain, IsFigure, IsStretch};
 
 use crate::moved::{ORIGIN, moved};
-use crate::shapes::{Span, kept_count, kept_sum};
+use crate::shape_lists::{Span, kept_count, kept_sum};
 use lvl_grid::{Point, Ring, Rings};
 use std::alloc::AllocError;
 

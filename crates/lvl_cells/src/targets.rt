@@ -29,7 +29,7 @@ pub(crate) fn targets_of(
         let reference = cell.references.reference(j);
         let name = reference.cell();
         let Some(target) = index.get(name) else {
-            let from = Vec::from_slice(alloc, &cell.name)?;
+            let from = Vec::from_slice(alloc, cell.name.as_bytes())?;
             let missing = Vec::from_slice(alloc, name)?;
             return Err(Cause::Breach(CellFault::MissingCell(from, missing)));
         };

@@ -40,7 +40,7 @@ fn partner_of(
         return Some(second.top());
     }
     let partnered = &first.cells()[cell];
-    index.get(partnered.name.as_slice()).copied()
+    index.get(partnered.name.as_bytes()).copied()
 }
 
 /// The partner of a cell, as [`partner_of`] says, but only if it is placed: `times` says how often

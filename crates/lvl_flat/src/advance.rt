@@ -47,7 +47,7 @@ pub(crate) fn advance(
         }
         Step::Out(place) => {
             let cell = &cells[place];
-            Err(out_of_range(alloc, &cell.name))
+            Err(out_of_range(alloc, cell.name.as_bytes()))
         }
     }
 }

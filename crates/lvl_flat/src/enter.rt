@@ -51,7 +51,7 @@ pub(crate) fn draw_cell(
     let cell = &cells[place];
     match draw_shapes(alloc, sheets, &cell.shapes, map) {
         Ok(()) => Ok(()),
-        Err(PlaceFault::OutOfRange) => Err(out_of_range(alloc, &cell.name)),
+        Err(PlaceFault::OutOfRange) => Err(out_of_range(alloc, cell.name.as_bytes())),
         Err(PlaceFault::OutOfMemory) => Err(Cause::OutOfMemory),
     }
 }

@@ -41,7 +41,7 @@ fn draw_cell_within(
     let cell = &cells[index];
     match draw_shapes_within(room, sheets, &cell.shapes, map, window) {
         Ok(()) => Ok(()),
-        Err(PlaceFault::OutOfRange) => Err(out_of_range(room.alloc, &cell.name)),
+        Err(PlaceFault::OutOfRange) => Err(out_of_range(room.alloc, cell.name.as_bytes())),
         Err(PlaceFault::OutOfMemory) => Err(Cause::OutOfMemory),
     }
 }
@@ -79,7 +79,7 @@ fn advance_within(
         }
         Step::Out(index) => {
             let cell = &cells[index];
-            Err(out_of_range(room.alloc, &cell.name))
+            Err(out_of_range(room.alloc, cell.name.as_bytes()))
         }
     }
 }

@@ -64,10 +64,10 @@ fn no_growths_of_references(rt: HostRuntime) -> Result<(), Fail> {
 fn library(alloc: Global) -> Result<Library, Fail> {
     let ring = Ring::rectangle(alloc, ORIGIN, Point { x: 4, y: 2 })?;
     let mut builder = Builder::new(alloc);
-    builder.open(alloc, Vec::from_slice(alloc, b"A")?);
+    builder.open(alloc, b"A")?;
     builder.add_ring(METAL, ring.points(), &Offsets::single())?;
     builder.close(alloc)?;
-    builder.open(alloc, Vec::from_slice(alloc, b"TOP")?);
+    builder.open(alloc, b"TOP")?;
     builder.add_reference(placing_of_a(alloc)?)?;
     builder.close(alloc)?;
     Ok(builder.finish())

@@ -9,3 +9,4 @@ pub mod Loop
 pub mod Ignoring
 pub mod Placing
 pub mod Referring
+pub mod Pieces

@@ -5,6 +5,7 @@ ghost use Rattle.oasis_library.specs.inside.Kept.{begun, on_last};
 ghost use Rattle.oasis_library.specs.inside.Taken.{IsTaken, grown};
 
 use crate::drawing::Drawing;
+use crate::drawings::Drawings;
 use crate::placement::Target;
 use oasis_figures::{Drawn, Modal};
 use oasis_records::CellRef;
@@ -14,7 +15,7 @@ use std::marker::Model;
 /// The cells that are complete, and the last one.
 #[derive(Drop)]
 pub(crate) struct Cells {
-    whole: Vec<Drawing>,
+    whole: Drawings,
     last: Option<Drawing>,
 }
 
@@ -25,9 +26,9 @@ impl Model for Cells {
 
     ghost Value = { List (PlainDrawing Rings) };
 
-    ghost view = { λ c. c.whole.items ++ option_to_list c.last };
+    ghost view = { λ c. c.whole ++ option_to_list c.last };
 
-    ghost invariant = { λ c. c.last ≡ None → c.whole.items ≡ [] };
+    ghost invariant = { λ c. c.last ≡ None → c.whole ≡ [] };
 }
 
 impl Cells {
@@ -36,7 +37,7 @@ impl Cells {
         ensures { result ≡ [] }
     {
         Cells {
-            whole: Vec::new(alloc),
+            whole: Drawings::new(alloc),
             last: None,
         }
     }
@@ -48,7 +49,7 @@ impl Cells {
         let name = Target::of(alloc, name)?;
         let before = self.last.replace(Drawing::new(alloc, name));
         if let Some(before) = before {
-            self.whole.push(before)?;
+            self.whole.push(alloc, before)?;
         }
         Ok(())
     }
@@ -74,12 +75,12 @@ impl Cells {
     }
 
     /// All cells, in the order of the file.
-    pub(crate) fn into_drawings(self) -> Result<Vec<Drawing>, AllocError>
-        ensures { IfOk result (λ drawings. drawings.items ≡ self) }
+    pub(crate) fn into_drawings(self, alloc: Global) -> Result<Drawings, AllocError>
+        ensures { IfOk result (λ drawings. drawings ≡ self) }
     {
         let Cells { mut whole, last } = self;
         if let Some(last) = last {
-            whole.push(last)?;
+            whole.push(alloc, last)?;
         }
         Ok(whole)
     }

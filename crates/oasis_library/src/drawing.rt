@@ -1,14 +1,18 @@
 //! A cell whose records are being read.
-ghost use Rattle.std.specs.Prelude.{◌≡◌, OnOk, List, Some};
+ghost use Rattle.std.specs.Prelude.{◌≡◌, ◌++◌, ◌∷◌, [], All, OnOk, List, Some};
+ghost use Rattle.lvl_grid.specs.Turn.{FitsPoint, shifted};
+ghost use Rattle.lvl_cells.specs.inside.Boxed.{boxed_list};
 ghost use Rattle.oasis_records.specs.declared.record.Record.{Record};
 ghost use Rattle.oasis_figures.specs.declared.drawn.Drawn.TheVariants.{Placement as APlacement};
-ghost use Rattle.oasis_library.specs.inside.Kept.{begun, target_ref};
+ghost use Rattle.oasis_library.specs.inside.Kept.{begun, placed, target_ref};
 ghost use Rattle.oasis_library.specs.inside.Taken.{IsTaken, grown};
 
 use crate::placement::{PlacedCells, Target};
 use lvl_cells::Shapes;
 use lvl_grid::Map;
+use lvl_names::Offsets;
 use oasis_figures::{Drawn, Modal};
+use oasis_records::CellRef;
 use std::alloc::{AllocError, Global};
 use std::marker::Model;
 
@@ -17,7 +21,7 @@ use std::marker::Model;
 pub(crate) struct Drawing {
     pub(crate) name: Target,
     pub(crate) shapes: Shapes,
-    pub(crate) placements: PlacedCells,
+    pub(crate) placements: Option<Box<PlacedCells>>,
 }
 
 impl Model for Drawing {
@@ -27,8 +31,34 @@ impl Model for Drawing {
     ghost Value = { PlainDrawing Rings };
 
     ghost use Rattle.oasis_library.specs.inside.Kept.{target_ref};
+    ghost use Rattle.lvl_cells.specs.inside.Boxed.{boxed_list};
 
-    ghost view = { λ d. record { name = target_ref d.name; shapes = d.shapes; placements = d.placements } };
+    ghost view = { λ d. record {
+      name = target_ref d.name;
+      shapes = d.shapes;
+      placements = boxed_list d.placements;
+    } };
+}
+
+/// Adds a placement of the cell by the map, at each of the shifts.
+fn push_placement(
+    alloc: Global,
+    placements: &mut Option<Box<PlacedCells>>,
+    cell: &CellRef,
+    by: Map,
+    shifts: Offsets,
+) -> Result<(), AllocError>
+    requires { All (λ e. FitsPoint (shifted by.at e)) shifts }
+    ensures { OnOk result
+        (boxed_list placements.new ≡ boxed_list placements.old ++ placed cell.now by shifts ∷ []) }
+{
+    if let Some(placements) = placements {
+        return placements.push(alloc, cell, by, shifts);
+    }
+    let mut first = PlacedCells::new(alloc);
+    first.push(alloc, cell, by, shifts)?;
+    *placements = Some(Box::new(alloc, first)?);
+    Ok(())
 }
 
 impl Drawing {
@@ -39,7 +69,7 @@ impl Drawing {
         Drawing {
             name,
             shapes: Shapes::new(alloc),
-            placements: PlacedCells::new(alloc),
+            placements: None,
         }
     }
 
@@ -78,7 +108,7 @@ impl Drawing {
             unreachable!()
         };
         let shifts = modal.shifts().clone()?;
-        self.placements.push(alloc, cell, by, shifts)?;
+        push_placement(alloc, &mut self.placements, cell, by, shifts)?;
         Ok(())
     }
 }

@@ -27,6 +27,7 @@ pub use read::{read_oasis, read_oasis_by};
 
 mod cells;
 mod drawing;
+mod drawings;
 mod fault;
 mod head;
 mod names;

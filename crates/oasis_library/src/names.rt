@@ -73,7 +73,7 @@ impl Names {
         if !is_new {
             return Err(Cause::Breach(NameRule::NameTwice));
         }
-        let name = Name::new(Vec::from_slice(alloc, bytes)?)?;
+        let name = Name::of(alloc, bytes)?;
         self.by_number.insert(number, name)?;
         Ok(())
     }

@@ -1,7 +1,8 @@
 //! Placements of cells that are given by the numbers of their names or by their names.
 ghost use Rattle.std.specs.Prelude.{◌≡◌, ◌<◌, ◌++◌, ◌∷◌, [], length, map, IfOk, OnOk, IsTrue, All};
 ghost use Rattle.lvl_grid.specs.Turn.{FitsPoint, shifted};
-ghost use Rattle.oasis_library.specs.inside.Kept.{target_ref, placed, placed_from, GoesOn, IsKeyOf};
+ghost use Rattle.oasis_library.specs.inside.Kept.{target_ref, placed, placed_from, IsKeyOf};
+ghost use Rattle.lvl_cells.specs.inside.Spans.{GoesOn};
 
 use lvl_cells::Placements;
 use lvl_grid::Map;
@@ -26,8 +27,7 @@ impl Target {
         match cell {
             CellRef::Number(number) => Ok(Target::Number(*number)),
             CellRef::Name(name) => {
-                let bytes = Vec::from_slice(alloc, name.as_bytes())?;
-                let name = Name::new(bytes)?;
+                let name = Name::of(alloc, name.as_bytes())?;
                 Ok(Target::Name(name))
             }
         }

@@ -116,7 +116,7 @@ impl Reading {
             cells,
             head,
         } = self;
-        let cells = resolve_cells(alloc, &names, cells.into_drawings()?)?;
+        let cells = resolve_cells(alloc, &names, cells.into_drawings(alloc)?)?;
         Ok((Library { cells }, head.head()))
     }
 }

@@ -1,5 +1,6 @@
 //! Replaces the numbers of cells by their names.
-ghost use Rattle.std.specs.Prelude.{◌≡◌, ◌<◌, List, [], ◌∷◌, Some, IfOk, IfErr, IfSome, IfNone, flat_map, length, All};
+ghost use Rattle.std.specs.Prelude.{◌≡◌, ◌<◌, List, Some, IfOk, IfErr, IfSome, IfNone, flat_map, length};
+ghost use Rattle.std.specs.Prelude.{All};
 ghost use Rattle.std.specs.List.{AllZip};
 ghost use Rattle.lvl_refusal.specs.Refused.{Says};
 ghost use Rattle.oasis_records.specs.declared.cell.CellName.{CellName as Given};
@@ -8,9 +9,11 @@ ghost use Rattle.oasis_library.specs.Names.{IsReference, IsCell, AreCells, numbe
 ghost use Rattle.oasis_library.specs.Names.{IsNamed, IsUnnamed};
 ghost use Rattle.oasis_library.specs.inside.Holds.{HoldsNames};
 ghost use Rattle.oasis_library.specs.inside.Kept.{target_ref, placed_from};
+ghost use Rattle.lvl_cells.specs.inside.Boxed.{boxed_list};
 ghost use Rattle.oasis_library.specs.inside.Resolved.{IsNameOf};
 
 use crate::drawing::Drawing;
+use crate::drawings::Drawings;
 use crate::names::Names;
 use crate::placement::{PlacedCells, Target};
 use lvl_cells::{Cell, Placements, References};
@@ -83,7 +86,7 @@ fn names_of(alloc: Global, names: &Names, targets: &[Target]) -> Result<Vec<Name
     for target in targets {
         let name = match name_of_target(names, target) {
             Ok(name) => name,
-            Err(Cause::Breach(_)) => Name::new(Vec::new(alloc))?,
+            Err(Cause::Breach(_)) => Name::empty(),
             Err(Cause::OutOfMemory) => return Err(AllocError),
         };
         named.push(name)?;
@@ -107,7 +110,25 @@ fn references_of(
         return Err(Cause::Breach(number));
     }
     let named = names_of(alloc, names, &targets)?;
-    Ok(References::of(named, placements))
+    let references = References::of(alloc, named, placements)?;
+    Ok(references)
+}
+
+// The same, if there are any placements.
+fn some_references_of(
+    alloc: Global,
+    names: &Names,
+    placed: Option<Box<PlacedCells>>,
+) -> Result<References, Cause<u64>>
+    ensures ok { IfOk result (λ references. (given : List Given) → HoldsNames names.now given
+        → AllZip (IsReference given) (boxed_list placed) references) }
+    ensures err { IfErr result (λ e. Says e (λ number. (given : List Given) → HoldsNames names.now given
+        → IsUnnamed given (flat_map (λ p. number_in p.cell) (boxed_list placed)) number)) }
+{
+    match placed {
+        Some(placed) => references_of(alloc, names, Box::into_inner(placed)),
+        None => Ok(References::new(alloc)),
+    }
 }
 
 // The cell that the drawing is. Its own number is looked up before those of the cells that it
@@ -123,16 +144,16 @@ fn cell_of(alloc: Global, names: &Names, drawing: Drawing) -> Result<Cell, Cause
         placements,
     } = drawing;
     let name = name_of_target(names, &name)?;
-    let references = references_of(alloc, names, placements)?;
+    let references = some_references_of(alloc, names, placements)?;
     Ok(Cell {
-        name: Vec::from_slice(alloc, name.as_bytes())?,
+        name,
         shapes,
         references,
     })
 }
 
-/// The cells with numbers replaced by names, or the first number used that no name has.
-pub(crate) fn resolve_cells(
+// The cells that the drawings of a piece are.
+fn resolve_piece(
     alloc: Global,
     names: &Names,
     drawings: Vec<Drawing>,
@@ -142,10 +163,30 @@ pub(crate) fn resolve_cells(
     ensures err { IfErr result (λ e. Says e (λ number. (given : List Given) → HoldsNames names.now given
         → IsUnnamed given (numbers_used drawings.items) number)) }
 {
-    let mut cells = Vec::new(alloc);
+    let mut cells = Vec::with_capacity(alloc, drawings.len())?;
     for drawing in drawings {
         let cell = cell_of(alloc, names, drawing)?;
         cells.push(cell)?;
+    }
+    Ok(cells)
+}
+
+/// The cells with numbers replaced by names, or the first number used that no name has. Frees the
+/// drawings piece by piece.
+pub(crate) fn resolve_cells(
+    alloc: Global,
+    names: &Names,
+    drawings: Drawings,
+) -> Result<Vec<Cell>, Cause<u64>>
+    ensures ok { IfOk result (λ cells. (given : List Given) → HoldsNames names.now given
+        → AreCells given drawings cells.items) }
+    ensures err { IfErr result (λ e. Says e (λ number. (given : List Given) → HoldsNames names.now given
+        → IsUnnamed given (numbers_used drawings) number)) }
+{
+    let mut cells = Vec::new(alloc);
+    for piece in drawings.into_pieces() {
+        let mut more = resolve_piece(alloc, names, piece)?;
+        cells.append(&mut more)?;
     }
     Ok(cells)
 }

@@ -118,7 +118,7 @@ fn check_square(rt: &impl Abort, shapes: &Shapes) {
 fn check_top(rt: &impl Abort, library: &Library) -> Result<(), Fail> {
     assert_eq!(rt; library.cells.len(), 1);
     let cell = first_of(library)?;
-    assert_eq!(rt; cell.name.as_slice(), b"TOP".as_slice());
+    assert_eq!(rt; cell.name.as_bytes(), b"TOP".as_slice());
     assert_eq!(rt; cell.references.len(), 0);
     check_square(rt, &cell.shapes);
     Ok(())

@@ -47,7 +47,7 @@ fn boxes_text(alloc: Global, library: &Library) -> Result<String, Fail> {
 fn drawn_boxes(alloc: Global, words: &str) -> Result<String, Fail> {
     let records = bytes_of(alloc, words)?;
     let library = library_of(alloc, &[&records], 5)?;
-    if first_of(&library)?.name.as_slice() != b"TOP".as_slice() {
+    if first_of(&library)?.name.as_bytes() != b"TOP".as_slice() {
         return Ok(String::from_str(alloc, "another cell")?);
     }
     boxes_text(alloc, &library)
@@ -109,7 +109,7 @@ fn check_references(rt: &impl Abort, references: &References, name: &[u8], x: i6
 
 /// The cell TOP with two references: how the first is turned, and whether it is reflected.
 fn check_placing(rt: &impl Abort, cell: &Cell, turn: Turn, flip: bool) -> Result<(), Fail> {
-    assert_eq!(rt; cell.name.as_slice(), b"TOP".as_slice());
+    assert_eq!(rt; cell.name.as_bytes(), b"TOP".as_slice());
     assert_eq!(rt; cell.references.len(), 2);
     let first = cell.references.get(0).ok_or("a reference")?;
     assert_eq!(rt; first.turn(), turn);

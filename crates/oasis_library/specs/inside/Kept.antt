@@ -1,5 +1,5 @@
 -- The cells of a file as they are kept while it is read.
-use Rattle.std.specs.Prelude.{◌≡◌, ◌<◌, ℕ, List, [], ◌∷◌, get_or, length, take}
+use Rattle.std.specs.Prelude.{◌≡◌, ◌<◌, ℕ, List, [], ◌∷◌, get_or, length}
 use Rattle.lvl_grid.specs.declared.map.Map.{Map}
 use Rattle.lvl_grid.specs.declared.point.Point.{Point}
 use Rattle.lvl_cells.specs.Cells.{PlainPlacement, Rings}
@@ -19,10 +19,6 @@ target_ref (ByName s) = Name s
 pub record IsKeyOf (targets : List Target) (k : ℕ) (cell : CellRef) : Type 0 where
   pub within : k < length targets
   pub is : target_ref (get_or targets k (ByNumber 0)) ≡ cell
-
--- the new list begins with the old one
-abbrev pub GoesOn : {X : Type 0} → List X → List X → Type 0
-GoesOn old new = take (length old) new ≡ old
 
 -- a placement of the cell by the map, at each of the shifts
 abbrev pub placed : CellRef → Map → List Point → Placed

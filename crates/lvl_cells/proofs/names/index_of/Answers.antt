@@ -12,8 +12,8 @@ loop-i-init c = index_none c.new-index.result c.new-index.ensures.empty
 pub returns-then-is_some-clause-err : goal.returns-then-is_some-clause-err
 returns-then-is_some-clause-err c =
     let cell = c.index-cells-i.result in
-    let named : c.as_slice-name.result.now ≡ cell.name =
-    c.as_slice-name.ensures.value ∙ ap (λ (x : PlainCell Rings). x.name) c.cell.view_is in
+    let named : c.as_bytes-name.result.now ≡ cell.name =
+    c.as_bytes-name.ensures ∙ ap (λ (x : PlainCell Rings). x.name) c.cell.view_is in
     subst (IsFirstRepeat (names c.args.cells.now)) (sym (c.in_ok-from_slice.ensures.items ∙ named))
     (repeat_by c.args.cells.now c.loop-i.i cell (place_in_index c.loop-i.index) c.in_ok-earlier.earlier
     c.loop-i-test.true c.index-cells-i.is c.loop-i.invariant.0 c.loop-i.invariant.1
@@ -23,10 +23,10 @@ returns-then-is_some-clause-err c =
 pub loop-i-preserved : goal.loop-i-preserved
 loop-i-preserved c =
     let cell = c.index-cells-i.result in
-    let named : c.as_slice-name.result.now ≡ cell.name =
-    c.as_slice-name.ensures.value ∙ ap (λ (x : PlainCell Rings). x.name) c.cell.view_is in
+    let named : c.as_bytes-name.result.now ≡ cell.name =
+    c.as_bytes-name.ensures ∙ ap (λ (x : PlainCell Rings). x.name) c.cell.view_is in
     let updates =
-    btree_map_updates_str c.as_slice-name.result.now c.loop-i.index c.insert.new.self _
+    btree_map_updates_str c.as_bytes-name.result.now c.loop-i.index c.insert.new.self _
     c.in_ok-earlier.ensures.updates in
     index_step c.args.cells.now c.loop-i.i cell c.loop-i.index c.insert.new.self c.in_ok-earlier.earlier
     c.loop-i-test.true c.index-cells-i.is c.loop-i.invariant (sym c.is_some.ensures ∙ c.if-is_some.false)

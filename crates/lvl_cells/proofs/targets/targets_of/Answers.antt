@@ -28,7 +28,7 @@ returns-in_default-clause-err c =
     let it =
     first_unknown (place_in_index c.args.index.now) all refs j r c.loop-j.targets.items c.requires
     (slice_get_within refs j r at) (sym (get_or_from_slice_get refs j r r at)) none c.loop-j.invariant in (
-      c.in_ok-from.ensures.items ∙ (c.deref.ensures.value ∙ ap (λ (x : PlainCell Rings). x.name) c.cell.view_is),
+      c.in_ok-from.ensures.items ∙ (c.as_bytes.ensures ∙ ap (λ (x : PlainCell Rings). x.name) c.cell.view_is),
       subst (IsFirstUnknown all (map asked refs)) (sym (c.in_ok-missing.ensures.items ∙ named)) it,
     )
 

@@ -42,7 +42,7 @@ pub offset_bounds-cells-place : goal.offset_bounds-cells-place
 offset_bounds-cells-place c =
     let out : IsOut c.args.checked.now.cells c.args.visit c.in-Out.place = c.in-Out.ensures in
     let inside = slice_get_within c.args.checked.now.cells c.in-Out.place out.next out.there in
-    let long : (length c.cells-cells.result.now < 2 ^ 64) × (length c.cells-cells.result.now * 216 < 2 ^ 63) =
+    let long : (length c.cells-cells.result.now < 2 ^ 64) × (length c.cells-cells.result.now * 56 < 2 ^ 63) =
     c.cells-cells.type_inv in
     let within : c.in-Out.place < length c.cells-cells.result.now =
     omega (arith, inside, ap length c.cells-cells.ensures.value) in
@@ -128,8 +128,8 @@ returns-in-Out-clause-err c =
     let both : Some cell ≡ Some out.next =
     sym (subst (λ cs. slice_get cs c.in-Out.place ≡ Some cell) c.cells-cells.ensures.value listed) ∙ out.there in
     let one : cell ≡ out.next = cc in
-    let name : c.deref.result.now ≡ out.next.name =
-    c.deref.ensures.value ∙ ap (λ (b : PlainCell Rings). b.name) (c.cell.view_is ∙ one) in
+    let name : c.as_bytes.result.now ≡ out.next.name =
+    c.as_bytes.ensures ∙ ap (λ (b : PlainCell Rings). b.name) (c.cell.view_is ∙ one) in
     Says-map (ReportsName out.next.name) _ c.out_of_range.result
     (λ f reports. names_out s out.next.name f reports
     (out_by_shift s c.requires.top Everywhere (SheetsCover c.args.sheets.now.items) c.args.stack.now.items

@@ -48,8 +48,8 @@ returns-in-Err-OutOfRange-clause-err c =
     slice_get_read c.args.cells.now (length c.args.cells.now) c.args.place cell refl c.requires.there
     c.index-cells-place.is in
     let shapes : c.cell.inside.shapes ≡ cell.shapes = ap (λ (b : PlainCell Rings). b.shapes) c.cell.view_is in
-    let name : c.deref.result.now ≡ cell.name =
-    c.deref.ensures.value ∙ ap (λ (b : PlainCell Rings). b.name) c.cell.view_is in
+    let name : c.as_bytes.result.now ≡ cell.name =
+    c.as_bytes.ensures ∙ ap (λ (b : PlainCell Rings). b.name) c.cell.view_is in
     let reports : Says c.out_of_range.result (ReportsName cell.name) =
     subst (λ n. Says c.out_of_range.result (ReportsName n)) name c.out_of_range.ensures in
     let out : FitShapes c.args.map.now cell.shapes → ⊥ =

@@ -10,14 +10,14 @@ use Rattle.oasis_library.specs.inside.Resolved.{IsNameOf}
 use Rattle.oasis_library.proofs.Resolving.{meant_named, same_name, unnamed_none, zip-snoc}
 use Rattle.oasis_library.proofs.resolve.names_of.Goals.{In_ok-push}
 use Rattle.oasis_library.proofs.resolve.names_of.Goals as goal
-use Rattle.oasis_library.proofs.resolve.names_of.Goals.{in-Ok, in-Err-Breach+in_ok-name-in-Err-Breach}
+use Rattle.oasis_library.proofs.resolve.names_of.Goals.{in-Ok, in-Err-Breach}
 
 one : (c : In_ok-push) (given : List CellName) → HoldsNames c.args.names.now given
     → IsNameOf given c.target-item.result c.match-name_of_target.name
 one c given h =
     elim c.match-name_of_target.branch [
       | in-Ok w ↦ λ s e. w.name-is ∙ same_name _ s w.in-Ok.name e (w.in-Ok.ensures.ok given h)
-      | in-Err-Breach+in_ok-name-in-Err-Breach w ↦
+      | in-Err-Breach w ↦
           λ s e.
           let unnamed : IsUnnamed given (number_in (target_ref c.target-item.result)) w.in-Err-Breach.field-0-0 =
           (rw w.in-Err-Breach.field-0-is at w.in-Err-Breach.ensures.err) given h in

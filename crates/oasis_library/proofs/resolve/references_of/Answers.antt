@@ -27,7 +27,7 @@ returns-clause-ok c = λ given h.
     let targets : List Target = c.into_parts-targets.result.0.items in
     let ps : List PlainPlacement = c.into_parts-targets.result.1 in
     let named : List (List ℕ) = c.in_ok-named.named.items in
-    subst (λ rs. AllZip (IsReference given) c.args.placed rs) (sym c.of.ensures)
+    subst (λ rs. AllZip (IsReference given) c.args.placed rs) (sym c.in_ok-references.ensures)
     (subst (λ qs. AllZip (IsReference given) qs (map (reference_to named) ps)) c.into_parts-targets.ensures.placed
     (references_are given targets named ps
     (subst (λ ts. AllZip (IsNameOf given) ts named) c.deref-2.ensures.value (c.in_ok-named.ensures.named given h))

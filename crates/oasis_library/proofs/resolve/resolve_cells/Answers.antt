@@ -1,38 +1,45 @@
-use Rattle.std.proofs.Common.{sym, ◌∙◌, subst}
+use Rattle.std.proofs.Common.{◌≡◌, ◌++◌, ◌∷◌, List, [], sym, ap, subst, ◌∙◌}
+use Rattle.std.specs.Global.{Vec}
+use Rattle.std.specs.Prelude.{flat_map}
 use Rattle.std.proofs.lemmas.List.{nil_from_length}
-use Rattle.std.specs.List.{AllZip}
-use Rattle.lvl_cells.specs.Cells.{Rings}
+use Rattle.lvl_cells.specs.Cells.{PlainCell, Rings}
 use Rattle.oasis_library.specs.Cells.{PlainDrawing}
-use Rattle.oasis_library.specs.Names.{IsCell, numbers_in}
-use Rattle.oasis_library.proofs.Resolving.{zip-snoc, cells_named, rest_goes, rest_ends, unnamed_there, says_carried}
+use Rattle.oasis_library.specs.Names.{AreCells}
+use Rattle.oasis_library.proofs.Pieces.{piece_added, piece_goes, pieces_end, unnamed_in_piece}
+use Rattle.oasis_library.proofs.Resolving.{says_carried}
 use Rattle.oasis_library.proofs.resolve.resolve_cells.Goals as goal
 
-pub loop-drawing-init : goal.loop-drawing-init
-loop-drawing-init c =
-    (c.into_iter-drawing-iterator.ensures.into_iter_gives.0, λ given h. rw c.new-cells.ensures.items tt)
+abbrev items : Vec (PlainDrawing Rings) → List (PlainDrawing Rings)
+items p = p.items
 
-pub returns-in_err-cell-clause-err : goal.returns-in_err-cell-clause-err
-returns-in_err-cell-clause-err c =
-    says_carried _ _ c.from_residual.result c.in_err-cell.field-0.0
-    (λ n u given h. unnamed_there (λ (d : PlainDrawing Rings). numbers_in d) given c.args.drawings.items
-    c.loop-drawing.yielded c.loop-drawing.drawing-iterator.rest.items c.next.new.self.rest.items c.in-Some.drawing n
-    c.loop-drawing.invariant.0 c.in-Some.ensures.steps.0
-    (cells_named given c.loop-drawing.yielded c.loop-drawing.cells.items (c.loop-drawing.invariant.1 given h))
-    (u given h))
-    c.in_err-cell.ensures.err c.from_residual.ensures
+pub loop-piece-init : goal.loop-piece-init
+loop-piece-init c = (
+  ap (flat_map items) c.into_iter-piece-iterator.ensures.into_iter_gives.0 ∙ c.into_pieces-piece-items.ensures,
+  λ given h. rw c.new-cells.ensures.items tt,
+)
 
-pub loop-drawing-preserved : goal.loop-drawing-preserved
-loop-drawing-preserved c = (
-  rest_goes c.args.drawings.items c.loop-drawing.yielded c.loop-drawing.drawing-iterator.rest.items
-      c.next.new.self.rest.items c.in-Some.drawing c.loop-drawing.invariant.0 c.in-Some.ensures.steps.0,
-  λ given h. rw c.in_ok-push.ensures.items (zip-snoc (IsCell given) c.loop-drawing.yielded c.loop-drawing.cells.items
-      c.in-Some.drawing c.in_ok-cell.cell (c.loop-drawing.invariant.1 given h) (c.in_ok-cell.ensures.ok given h)),
+pub returns-in_err-more-clause-err : goal.returns-in_err-more-clause-err
+returns-in_err-more-clause-err c =
+    says_carried _ _ c.from_residual.result c.in_err-more.field-0.0
+    (λ n u given h. unnamed_in_piece items given c.args.drawings c.loop-piece.yielded
+    c.loop-piece.piece-iterator.rest.items c.next.new.self.rest.items c.in-Some.piece c.loop-piece.cells.items n
+    c.loop-piece.invariant.0 c.in-Some.ensures.steps.0 (c.loop-piece.invariant.1 given h) (u given h))
+    c.in_err-more.ensures.err c.from_residual.ensures
+
+pub loop-piece-preserved : goal.loop-piece-preserved
+loop-piece-preserved c = (
+  piece_goes items c.args.drawings c.loop-piece.yielded c.loop-piece.piece-iterator.rest.items
+      c.next.new.self.rest.items c.in-Some.piece c.loop-piece.invariant.0 c.in-Some.ensures.steps.0,
+  λ given h. subst (AreCells given (flat_map items (c.loop-piece.yielded ++ c.in-Some.piece ∷ [])))
+      (sym c.in_ok-append.ensures.items)
+      (piece_added items given c.loop-piece.yielded c.in-Some.piece c.loop-piece.cells.items c.in_ok-more.more.items
+      (c.loop-piece.invariant.1 given h) (c.in_ok-more.ensures.ok given h)),
 )
 
 pub returns-clause-ok : goal.returns-clause-ok
 returns-clause-ok c = λ given h.
-    let none = nil_from_length c.loop-drawing.drawing-iterator.rest.items (sym c.loop-drawing.drawing-iterator.rest.ok.0
+    let none = nil_from_length c.loop-piece.piece-iterator.rest.items (sym c.loop-piece.piece-iterator.rest.ok.0
     ∙ c.in-None.ensures.steps.0) in
-    subst (λ l. AllZip (IsCell given) l c.loop-drawing.cells.items)
-    (rest_ends c.args.drawings.items c.loop-drawing.yielded c.loop-drawing.drawing-iterator.rest.items
-    c.loop-drawing.invariant.0 none) (c.loop-drawing.invariant.1 given h)
+    subst (λ l. AreCells given l c.loop-piece.cells.items)
+    (pieces_end items c.args.drawings c.loop-piece.yielded c.loop-piece.piece-iterator.rest.items
+    c.loop-piece.invariant.0 none) (c.loop-piece.invariant.1 given h)

@@ -2,7 +2,7 @@ use Rattle.std.proofs.Common.{◌≡◌, ℕ, List, [], refl, sym, ap, ◌∙◌
 use Rattle.std.proofs.lemmas.Bool.Decides.{nat_tests}
 use Rattle.gds_library.proofs.builder.Builder.take.Goals as goal
 use Rattle.gds_library.proofs.builder.Builder.take.Goals.{in-0, in-3, in-5+else-len-ge-MOST_CELLS}
-use Rattle.gds_library.proofs.builder.Builder.take.Goals.{in-6+else-not-is_name+in_ok-from_slice-in-6}
+use Rattle.gds_library.proofs.builder.Builder.take.Goals.{in-6+else-not-is_name+in_ok-open-in-6}
 use Rattle.gds_library.proofs.builder.Builder.take.Goals.{in-7+in_ok-close-in-7, in_default-kind}
 use Rattle.gds_library.proofs.Grown.{IsOther, shown_other, shown_bgnstr, shown_strname, shown_endstr, by_kind}
 use Rattle.lvl_cells.specs.Building.{Built}
@@ -34,11 +34,11 @@ returns-clause-shown c =
           (shown_other units p q b b' payload other_units (ap (λ (x : Builder). x.cells.cells) w.self-is)) a
       | in-5+else-len-ge-MOST_CELLS w ↦ by_kind _ bgnstr p q b b' payload w.in-5.is
           (λ e. shown_bgnstr p q b b' payload e (ap (λ (x : Builder). x.cells) w.self-is)) a
-      | in-6+else-not-is_name+in_ok-from_slice-in-6 w ↦ by_kind _ strname p q b b' payload w.in-6.is
-          (λ e. shown_strname p q b b' payload e (ap (λ (x : Builder). x.cells) w.self-is ∙ w.open.ensures
+      | in-6+else-not-is_name+in_ok-open-in-6 w ↦ by_kind _ strname p q b b' payload w.in-6.is
+          (λ e. shown_strname p q b b' payload e (ap (λ (x : Builder). x.cells) w.self-is ∙ w.in_ok-open-in-6.ensures.opened
           ∙ ap (λ (n : List ℕ). let x : Built =
           record { cells = b.cells.cells; current = record { name = n; shapes = []; references = [] } } in x)
-          (w.in_ok-from_slice-in-6.ensures.items ∙ w.name-name.ensures))) a
+          w.name-name.ensures)) a
       | in-7+in_ok-close-in-7 w ↦ by_kind _ endstr p q b b' payload w.in-7.is
           (λ e. shown_endstr p q b b' payload e (ap (λ (x : Builder). x.cells.cells) w.self-is
           ∙ ap (λ (x : Built). x.cells) w.in_ok-close-in-7.ensures.closed)) a

@@ -7,7 +7,7 @@ use Rattle.oasis_library.proofs.cells.Cells.add.Goals as goal
 
 pub returns : goal.returns
 returns c = λ earlier r t.
-    let whole = c.self.inside.whole.items in
+    let whole = c.self.inside.whole in
     let f = grown earlier r in
     last_changed f whole c.in-Some.last c.add.new.self (c.in_ok-add.ensures earlier r t)
     ∙ ap (on_last f) (ap (λ o. whole ++ option_to_list o) (sym c.in-Some.is) ∙ c.self.view_is)

@@ -29,7 +29,7 @@ returns-clause-kept c = λ names h.
     name_added c.args.self.now (record { by_number = c.insert-2.new.self; seen = c.insert.new.self }) names
     c.args.given.now c.unwrap_or-number.result c.in_ok-from_slice.field-0 c.in_ok-name.name c.in_ok-insert.field-0 h
     f
-    (c.in_ok-name.ensures ∙ c.in_ok-from_slice-2.ensures.items ∙ c.as_bytes-bytes.ensures) c.in_ok-insert.ensures.old
+    (c.in_ok-name.ensures ∙ c.as_bytes-bytes.ensures) c.in_ok-insert.ensures.old
     c.in_ok-insert.ensures.updates c.in_ok-insert.ensures.len c.in_ok-is_new.ensures.updates
 
 pub returns-clause-none : goal.returns-clause-none

@@ -2,11 +2,11 @@ use Rattle.std.proofs.Common.{◌≡◌, ◌<◌, ◌+◌, List, map, get_or, []
 use Rattle.lvl_grid.specs.declared.point.Point.{Point}
 use Rattle.lvl_grid.specs.Turn.{shifted}
 use Rattle.lvl_grid.specs.Winding.{IsRing}
-use Rattle.lvl_cells.specs.declared.shapes.Span.{Span}
+use Rattle.lvl_cells.specs.declared.shape_lists.Span.{Span}
 use Rattle.lvl_cells.specs.inside.Spans.{displaced, IsMovable}
 use Rattle.lvl_cells.proofs.Spanned.{in_spans, span_read, ring_from}
 use Rattle.lvl_cells.proofs.Moving.{movable, IsRing-moved}
-use Rattle.lvl_cells.proofs.shapes.Shapes.ring.Goals as goal
+use Rattle.lvl_cells.proofs.shape_lists.ShapeLists.ring.Goals as goal
 
 pub index-span-requires : goal.index-span-requires
 index-span-requires c =

@@ -3,8 +3,8 @@ use Rattle.std.proofs.lemmas.List.Elements.{All-push}
 use Rattle.lvl_cells.specs.Cells.{PlainPlacement, reference_to}
 use Rattle.lvl_cells.proofs.Placed.{HaveNames, names_still, one_more_reference, references_same}
 use Rattle.lvl_cells.proofs.Spanned.{always_err}
-use Rattle.lvl_cells.proofs.references.References.push.Goals.{In_ok-push}
-use Rattle.lvl_cells.proofs.references.References.push.Goals as goal
+use Rattle.lvl_cells.proofs.reference_lists.ReferenceLists.push.Goals.{In_ok-push}
+use Rattle.lvl_cells.proofs.reference_lists.ReferenceLists.push.Goals as goal
 
 pub returns-in_err-key-clause-kept : goal.returns-in_err-key-clause-kept
 returns-in_err-key-clause-kept c =

@@ -1,9 +1,9 @@
 use Rattle.std.proofs.Common.{◌∷◌, [], refl, sym, subst, ap, ◌∙◌}
-use Rattle.lvl_cells.specs.declared.shapes.Span.{Span}
+use Rattle.lvl_cells.specs.declared.shape_lists.Span.{Span}
 use Rattle.lvl_cells.proofs.Spanned.{AllGoOn, AreMore, AreSpans, shapes_in, one_more, refused, still, goes_on_same}
 use Rattle.lvl_cells.proofs.Spanned.{always_err}
-use Rattle.lvl_cells.proofs.shapes.Shapes.push_ring.Goals as goal
-use Rattle.lvl_cells.proofs.shapes.Shapes.push_ring.Goals.{In_ok-push}
+use Rattle.lvl_cells.proofs.shape_lists.ShapeLists.push_ring.Goals as goal
+use Rattle.lvl_cells.proofs.shape_lists.ShapeLists.push_ring.Goals.{In_ok-push}
 
 pub invariant_of-self : goal.invariant_of-self
 invariant_of-self c =

@@ -1,7 +1,7 @@
 use Rattle.std.proofs.Common.{◌<◌, length, arith, ap}
 use Rattle.lvl_cells.specs.Cells.{PlainShape, Rings}
 use Rattle.lvl_cells.proofs.Spanned.{in_spans, span_read}
-use Rattle.lvl_cells.proofs.shapes.Shapes.layer.Goals as goal
+use Rattle.lvl_cells.proofs.shape_lists.ShapeLists.layer.Goals as goal
 
 pub index-requires : goal.index-requires
 index-requires c =

@@ -1,7 +1,7 @@
 use Rattle.std.proofs.Common.{length, sym, ap, ◌∙◌}
 use Rattle.std.proofs.lemmas.List.{length-map}
 use Rattle.lvl_cells.specs.inside.Spans.{shape_in}
-use Rattle.lvl_cells.proofs.shapes.Shapes.len.Goals as goal
+use Rattle.lvl_cells.proofs.shape_lists.ShapeLists.len.Goals as goal
 
 pub returns : goal.returns
 returns c =

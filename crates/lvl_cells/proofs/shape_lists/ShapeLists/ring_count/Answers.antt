@@ -1,9 +1,9 @@
 use Rattle.std.proofs.Common.{◌<◌, length, arith, sym, ◌∙◌, ap}
 use Rattle.lvl_cells.specs.Cells.{PlainShape, Rings}
-use Rattle.lvl_cells.specs.declared.shapes.Span.{Span}
+use Rattle.lvl_cells.specs.declared.shape_lists.Span.{Span}
 use Rattle.lvl_cells.specs.inside.Spans.{displaced}
 use Rattle.lvl_cells.proofs.Spanned.{SpanOf, in_spans, span_read, figure_length}
-use Rattle.lvl_cells.proofs.shapes.Shapes.ring_count.Goals as goal
+use Rattle.lvl_cells.proofs.shape_lists.ShapeLists.ring_count.Goals as goal
 
 pub index-span-requires : goal.index-span-requires
 index-span-requires c =

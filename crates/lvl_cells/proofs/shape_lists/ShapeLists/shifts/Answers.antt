@@ -2,7 +2,7 @@ use Rattle.std.proofs.Common.{◌≡◌, ◌≢◌, ◌<◌, length, arith, sym,
 use Rattle.lvl_cells.specs.Cells.{shape_at}
 use Rattle.lvl_cells.specs.inside.Spans.{numbered}
 use Rattle.lvl_cells.proofs.Spanned.{in_spans, shifts_read, numbered_is}
-use Rattle.lvl_cells.proofs.shapes.Shapes.shifts.Goals as goal
+use Rattle.lvl_cells.proofs.shape_lists.ShapeLists.shifts.Goals as goal
 
 pub index-requires : goal.index-requires
 index-requires c =
