@@ -22,8 +22,8 @@ returns c =
     subst (λ (cs : List (PlainCell Rings)). slice_get cs i ≡ Some x) c.cells.ensures.value read in
     let named : slice_get (names ours) i ≡ Some x.name =
     slice_get-map (λ (d : PlainCell Rings). d.name) ours i ∙ ap (option_map (λ (d : PlainCell Rings). d.name)) at in
-    let name : c.as_slice.result.now ≡ x.name =
-    c.as_slice.ensures.value ∙ ap (λ (d : PlainCell Rings). d.name) c.partnered.view_is in
+    let name : c.as_bytes.result.now ≡ x.name =
+    c.as_bytes.ensures ∙ ap (λ (d : PlainCell Rings). d.name) c.partnered.view_is in
     let found : c.copied.result ≡ place_in_index c.args.index.now x.name =
     c.copied.ensures ∙ (c.get.ensures.value ∙ ap (place_in_index c.args.index.now) name) in
     let other : i ≢ c.args.first.now.top = grind (arith, nat_tests, c.top.ensures.value) in
