@@ -10,6 +10,8 @@ mod cells;
 #[cfg(test)]
 mod counts;
 #[cfg(test)]
+mod names;
+#[cfg(test)]
 mod offsets;
 #[cfg(test)]
 mod references;

@@ -58,9 +58,10 @@ fn reference_of(alloc: Global, row: &Row) -> Result<Reference, Fail> {
     Ok(made.ok_or("places")?)
 }
 
-fn references(alloc: Global) -> Result<References, Fail> {
+/// The references of these rows.
+fn references(alloc: Global, rows: &[Row]) -> Result<References, Fail> {
     let mut references = References::new(alloc);
-    for row in &ROWS {
+    for row in rows {
         references.push(reference_of(alloc, row)?)?;
     }
     Ok(references)
@@ -76,24 +77,33 @@ fn is_row(reference: &KeptReference<'_>, row: &Row) -> bool {
         && reference.shifts().len() == count_of(places)
 }
 
-#[test]
-fn kept_references(rt: HostRuntime) -> Result<(), Fail> {
-    let references = references(rt.alloc())?;
-    assert_eq!(rt; references.len(), ROWS.len());
-    for (j, row) in ROWS.iter().enumerate() {
+/// Whether the references are those of the rows.
+fn are_rows(references: &References, rows: &[Row]) -> bool {
+    for (j, row) in rows.iter().enumerate() {
         let is_there = match references.get(j) {
             Some(reference) => is_row(&reference, row),
             None => false,
         };
-        assert!(rt; is_there, "{j}");
+        if !is_there {
+            return false;
+        }
     }
-    assert!(rt; references.get(ROWS.len()).is_none());
+    references.len() == rows.len() && references.get(rows.len()).is_none()
+}
+
+#[test]
+fn kept_references(rt: HostRuntime) -> Result<(), Fail> {
+    for count in 0..=ROWS.len() {
+        let rows = &ROWS[..count];
+        let references = references(rt.alloc(), rows)?;
+        assert!(rt; are_rows(&references, rows), "{count}");
+    }
     Ok(())
 }
 
 #[test]
 fn growths_of_references(rt: HostRuntime) -> Result<(), Fail> {
-    let references = references(rt.alloc())?;
+    let references = references(rt.alloc(), &ROWS)?;
     assert_eq!(rt; references.len(), ROWS.len());
     Ok(())
 }

@@ -1,7 +1,7 @@
 //! Lists of shifts, references, checked libraries, flat layouts and views.
 
 use crate::fence::fence;
-use lvl_cells::{Builder, Checked, Library, Reference, check};
+use lvl_cells::{Builder, Cell, Checked, Library, Reference, References, Shapes, check};
 use lvl_flat::{Flat, flatten};
 use lvl_grid::{Point, Ring, Turn};
 use lvl_names::{Layer, Name, Offsets};
@@ -71,6 +71,26 @@ fn library(alloc: Global) -> Result<Library, Fail> {
     builder.add_reference(placing_of_a(alloc)?)?;
     builder.close(alloc)?;
     Ok(builder.finish())
+}
+
+/// Whether a cell without shapes and references takes no memory, with a name of 15 bytes.
+fn is_empty(alloc: Global, name: &[u8]) -> Result<bool, Fail> {
+    let cell = Cell {
+        name: Name::of(alloc, name)?,
+        shapes: Shapes::new(alloc),
+        references: References::new(alloc),
+    };
+    Ok(cell.name.as_bytes() == name && cell.shapes.is_empty() && cell.references.is_empty())
+}
+
+#[test]
+fn no_growths_of_empty_cells(rt: HostRuntime) -> Result<(), Fail> {
+    let alloc = rt.alloc();
+    fence(alloc)?;
+    let is_empty = is_empty(alloc, b"FIFTEEN_LETTERS")?;
+    fence(alloc)?;
+    assert!(rt; is_empty);
+    Ok(())
 }
 
 fn placing_of_a(alloc: Global) -> Result<Reference, Fail> {

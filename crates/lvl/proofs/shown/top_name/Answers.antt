@@ -10,13 +10,13 @@ pub returns : goal.returns
 returns c =
     let s = c.args.checked.now in
     let cell = c.index-cells-top.result in
-    let named : (name : Vec ℕ Global) → name.items ≡ c.deref.result.now → (top : PlainCell Rings)
+    let named : (name : Vec ℕ Global) → name.items ≡ c.as_bytes.result.now → (top : PlainCell Rings)
     → slice_get s.cells s.top ≡ Some top → name.items ≡ top.name =
     λ name items top is.
     let picked : get_or c.cells.result.now c.top.result cell ≡ top =
     ap (λ (xs : List (PlainCell Rings)). get_or xs c.top.result cell) c.cells.ensures.value
     ∙ (ap (λ n. get_or s.cells n cell) c.top.ensures.value ∙ get_or_from_slice_get s.cells s.top top cell is) in
     items
-    ∙ (c.deref.ensures.value
+    ∙ (c.as_bytes.ensures
     ∙ ap (λ (cell : PlainCell Rings). cell.name) (c.top-2.view_is ∙ (c.index-cells-top.is ∙ picked))) in
     IfOk-weaker _ _ _ named c.from_slice.ensures.items
