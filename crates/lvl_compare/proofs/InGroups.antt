@@ -1,6 +1,6 @@
 -- Layers in groups, and what two layouts draw on the Layers of one.
 use Rattle.std.proofs.Common.{◌≡◌, ◌↔◌, ◌⊎◌, inl, inr, List, [], Option, Some, None, Bool, true, false, not, filter}
-use Rattle.std.proofs.Common.{All, Contains, refl, sym, subst, ap, ◌∙◌, arith, zero, suc, ◌∷◌, cond, ◌&&◌, ◌||◌, ◌==◌}
+use Rattle.std.proofs.Common.{Contains, refl, sym, subst, ap, ◌∙◌, arith, zero, suc, ◌∷◌, cond, ◌&&◌, ◌||◌, ◌==◌}
 use Rattle.std.proofs.Common.{IsSomeAnd, is_some, ℤ, ◌<ℤ◌, ◌<◌, ltb}
 use Rattle.std.specs.Prelude.{IsTrue}
 use Rattle.std.proofs.lemmas.Bool.{and_from, and_parts, both_ways, cases_Bool, eq-eqb, eqb-true, lt-ltb, ltb-true}
@@ -25,7 +25,6 @@ use Rattle.lvl_view.specs.declared.map.LayerPair.{LayerPair}
 use Rattle.lvl_flat.specs.Flattened.{IsFlattenedWithin, IsOfPart, TopCovers}
 use Rattle.lvl_flat.specs.Mapped.{IsMapped}
 use Rattle.lvl_flat.specs.Sheet.{PlainSheet}
-use Rattle.lvl_flat.specs.Sheets.{rings_on}
 use Rattle.lvl_compare.specs.Flats.{IsLesser}
 use Rattle.lvl_compare.specs.Tops.{Draws}
 use Rattle.lvl_compare.specs.declared.groups.Span.{Span}
@@ -92,14 +91,14 @@ until_lesser (Some a) k r l (inl is) =
       λ h. (
         h,
         not_after k l (λ before.
-        elim (layers_order a l) [
-          | inl less ↦ until_not a l h less
-          | inr other ↦
-              is.1 (elim other [
-                | inl same ↦ subst (λ (x : Layer). ComesBefore k x) (sym same) before
-                | inr more ↦ before_trans k l a before more
-              ])
-        ]),
+            elim (layers_order a l) [
+              | inl less ↦ until_not a l h less
+              | inr other ↦
+                  is.1 (elim other [
+                    | inl same ↦ subst (λ (x : Layer). ComesBefore k x) (sym same) before
+                    | inr more ↦ before_trans k l a before more
+                  ])
+            ]),
       ),
       λ h. h.0,
     )
@@ -232,12 +231,12 @@ lesser_rows a t pairs big small w x k after last listed none l q h =
                   | inl before ↦
                       inr (inr (
                         λ drawn. absurd (All-contains (λ (m : Layer). ¬ ComesBefore m k.0) small.ours.items l none.ours
-                        (listed.ours.all l q drawn part.0) before),
+                            (listed.ours.all l q drawn part.0) before),
                         λ drawn. absurd (All-contains (λ (m : Layer). ¬ ComesBefore (target_of pairs m) k.0)
-                        small.theirs.items drawn.source none.theirs
-                        (listed.theirs.all drawn.source q drawn.covers
-                        (subst (λ (m : Layer). is_of_span small.span m ≡ true) (sym drawn.is_target) part.0))
-                        (subst (λ (m : Layer). ComesBefore m k.0) (sym drawn.is_target) before)),
+                            small.theirs.items drawn.source none.theirs
+                            (listed.theirs.all drawn.source q drawn.covers
+                            (subst (λ (m : Layer). is_of_span small.span m ≡ true) (sym drawn.is_target) part.0))
+                            (subst (λ (m : Layer). ComesBefore m k.0) (sym drawn.is_target) before)),
                       ))
                   | inr other ↦
                       elim other [

@@ -1,6 +1,6 @@
 -- The squares of a window, strip by strip.
-use Rattle.std.proofs.Common.{◌≡◌, ◌↔◌, ◌⊎◌, inl, inr, List, Option, Some, None, ℤ, ◌<ℤ◌, ◌≤ℤ◌}
-use Rattle.std.proofs.Common.{true, false, int_lt, refl, sym, subst, ◌∙◌, arith, ℕ, zero, pos, negsuc, ◌-ℤ◌, ◌<◌}
+use Rattle.std.proofs.Common.{◌↔◌, ◌⊎◌, inl, inr, Option, Some, None, ℤ, ◌<ℤ◌, ◌≤ℤ◌}
+use Rattle.std.proofs.Common.{int_lt, refl, arith, ℕ, zero, pos, negsuc, ◌-ℤ◌, ◌<◌}
 use Rattle.std.specs.Prelude.{IfNone, IfSome}
 use Rattle.std.specs.Int.{int_min, int_max}
 use Rattle.std.proofs.lemmas.Int.{ints, clamps}
@@ -9,8 +9,6 @@ use Rattle.lvl_grid.specs.declared.point.Square.{Square}
 use Rattle.lvl_grid.specs.declared.point.Window.{Window}
 use Rattle.lvl_grid.specs.Clip.{IsWithin}
 use Rattle.lvl_names.specs.declared.layer.Layer.{Layer}
-use Rattle.lvl_view.specs.Moved.{IsMoved}
-use Rattle.lvl_view.specs.declared.map.LayerPair.{LayerPair}
 use Rattle.lvl_columns.specs.Windows.{IsShown}
 use Rattle.lvl_compare.specs.Tops.{Draws, DrawSame, IsFirstDifference}
 use Rattle.lvl_compare.specs.declared.groups.Span.{Span}

@@ -1,5 +1,5 @@
 -- The Layers of a library, and their sheets: sorted, and without duplicates.
-use Rattle.std.proofs.Common.{◌≡◌, ◌<◌, ℕ, zero, suc, List, [], Any, inl, inr}
+use Rattle.std.proofs.Common.{◌≡◌, ◌<◌, ℕ, zero, suc, List, Any, inl, inr}
 use Rattle.std.proofs.Common.{length, get_or, map, slice_get, Some, All, AllPairs, Contains, sym, subst, arith}
 use Rattle.std.proofs.lemmas.List.{get_or-map}
 use Rattle.std.proofs.Math.ListN.{length-map}

@@ -1,6 +1,6 @@
 -- The walk within a window.
 use Rattle.std.proofs.Common.{◌≡◌, ◌≤◌, ◌<◌, ◌+◌, ◌-◌, Any, List, Option, Some, [], ap, arith, inl, inr, refl}
-use Rattle.std.proofs.Common.{subst, suc, sym, zero, ℕ, ◌++◌, ◌↔◌, ◌∙◌, ◌∷◌, ◌⊎◌, All, Contains, map}
+use Rattle.std.proofs.Common.{subst, suc, sym, zero, ℕ, ◌++◌, ◌↔◌, ◌∙◌, ◌∷◌, All, Contains, map}
 use Rattle.lvl_flat.specs.inside.Drawn.{RingPlacesCover, ShapePlacesCover, ShapesPlaceCover}
 use Rattle.lvl_flat.specs.inside.Walking.{AllListed, IsWalkingWithin, SheetsCover}
 use Rattle.lvl_grid.proofs.Anyone.{Any-nil}
