@@ -92,8 +92,8 @@ fn case_of(row: &[i64]) -> Option<Case> {
 /// Whether what is drawn within the window is what is drawn in the plane, clipped to the window.
 fn agrees(alloc: Global, checked: Checked, window: &Window) -> Result<bool, Fail> {
     let fitted = Fitted::new(alloc, checked)?;
-    let within = fitted.within(alloc, window, usize::MAX)?;
-    let plane = fitted.within(alloc, &PLANE, usize::MAX)?;
+    let within = fitted.within(alloc, &[METAL], window, usize::MAX)?;
+    let plane = fitted.within(alloc, &[METAL], &PLANE, usize::MAX)?;
     let clipped = Rings::clipped(alloc, plane.rings(METAL), &Part::Within(*window))?;
     Ok(clipped.is_same(within.rings(METAL)))
 }

@@ -79,6 +79,9 @@ fn differences(rt: HostRuntime) -> Result<(), Fail> {
     let low = Some((METAL, 5, 5));
     let right = Some((METAL, 66, 4));
     let via = Some((VIA, -3, -9));
+    let high = Some((METAL, 66, 66));
+    let lower = Some((VIA, 66, -10));
+    let beside = Some((VIA, 66, -9));
     let inside = Some((METAL, 21, 11));
     let far = Some((VIA, i64::MIN, 0));
     let none = None;
@@ -114,6 +117,34 @@ fn differences(rt: HostRuntime) -> Result<(), Fail> {
             Side::Second,
         ),
         ("far away", [none, none], [none, far], far, Side::Second),
+        (
+            "a lesser layer further right",
+            [via, right],
+            [none, none],
+            right,
+            Side::First,
+        ),
+        (
+            "a lesser layer, a higher row",
+            [via, none],
+            [high, none],
+            high,
+            Side::Second,
+        ),
+        (
+            "a lower row on the greater layer",
+            [via, none],
+            [none, lower],
+            lower,
+            Side::Second,
+        ),
+        (
+            "the same row further right",
+            [via, beside],
+            [none, none],
+            via,
+            Side::First,
+        ),
     ];
     let whole = View::whole(rt.alloc());
     for (name, ours, theirs, want, side) in rows {
@@ -133,6 +164,7 @@ fn differences_under_views(rt: HostRuntime) -> Result<(), Fail> {
     let low = Some((METAL, 5, 5));
     let right = Some((METAL, 66, 4));
     let via = Some((VIA, 5, 5));
+    let exchanged = Some("1/0=2/0,2/0=1/0");
     // The map and the window of a view, what each side draws beside its array, and what is found.
     let rows = [
         (None, Some("x=0..20,y=0..5"), low, None, None),
@@ -141,6 +173,10 @@ fn differences_under_views(rt: HostRuntime) -> Result<(), Fail> {
         (Some("2/0=1/0"), None, low, via, None),
         (Some("1/0=2/0"), None, low, low, Some((METAL, 0, 0))),
         (Some("2/0=1/0"), Some("x=60..70,y=0..9"), right, via, right),
+        (exchanged, Some("x=5..6,y=5..6"), low, via, None),
+        (exchanged, Some("x=5..6,y=5..6"), low, low, low),
+        (exchanged, Some("x=5..6,y=5..6"), via, via, low),
+        (exchanged, Some("x=5..6,y=5..6"), via, low, None),
     ];
     for (map, window, ours, theirs, want) in rows {
         let view = View::read(alloc, map, window)?;
@@ -150,6 +186,44 @@ fn differences_under_views(rt: HostRuntime) -> Result<(), Fail> {
             let want = want.map(|(layer, x, y)| (layer, Square { x, y }));
             assert_eq!(rt; found, want, "{map:?} {window:?} {most}");
         }
+    }
+    Ok(())
+}
+
+/// A top that draws a square on each of 140,000 Layers, and two squares on one of them.
+fn layered(alloc: Global, double: u32) -> Result<Fitted, Fail> {
+    let mut builder = Builder::new(alloc);
+    builder.open(alloc, Vec::from_slice(alloc, b"TOP")?);
+    for layer in 0..140_000 {
+        let layer = Layer { layer, datatype: 0 };
+        add_square(alloc, &mut builder, layer, Point { x: 3, y: 0 })?;
+    }
+    let layer = Layer {
+        layer: double,
+        datatype: 0,
+    };
+    add_square(alloc, &mut builder, layer, Point { x: 0, y: 0 })?;
+    builder.close(alloc)?;
+    Ok(Fitted::new(alloc, check(alloc, builder.finish(), None)?)?)
+}
+
+#[test]
+fn many_layers(rt: HostRuntime) -> Result<(), Fail> {
+    let whole = View::whole(rt.alloc());
+    // The Layers on which the sides draw two squares, and the lesser one.
+    let rows = [
+        (5, 139_999, Some(5)),
+        (65_535, 65_536, Some(65_535)),
+        (131_072, 131_071, Some(131_071)),
+        (139_999, 139_998, Some(139_998)),
+        (70_000, 70_000, None),
+    ];
+    for (ours, theirs, want) in rows {
+        let first = layered(rt.alloc(), ours)?;
+        let second = layered(rt.alloc(), theirs)?;
+        let found = difference_by_strips(rt.alloc(), &first, &second, &whole, 600_000)?;
+        let found = found.map(|(layer, _, _)| layer.layer);
+        assert_eq!(rt; found, want, "{ours} {theirs}");
     }
     Ok(())
 }

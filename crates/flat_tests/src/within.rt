@@ -12,6 +12,11 @@ pub(crate) const METAL: Layer = Layer {
     datatype: 0,
 };
 
+const VIA: Layer = Layer {
+    layer: 2,
+    datatype: 0,
+};
+
 const ORIGIN: Point = Point { x: 0, y: 0 };
 
 fn window(x0: i64, y0: i64, x1: i64, y1: i64) -> Window {
@@ -94,7 +99,7 @@ fn count(flat: &Flat) -> u64 {
 
 /// How many squares are covered in the window, and how many rings are held.
 fn counts(alloc: Global, fitted: &Fitted, window: &Window) -> Result<(u64, usize), Fail> {
-    let flat = fitted.within(alloc, window, usize::MAX)?;
+    let flat = fitted.within(alloc, &[METAL], window, usize::MAX)?;
     Ok((count(&flat), flat.rings(METAL).len()))
 }
 
@@ -177,14 +182,45 @@ fn back_in_range(rt: HostRuntime) -> Result<(), Fail> {
 fn growths_of_a_window(rt: HostRuntime) -> Result<(), Fail> {
     let alloc = rt.alloc();
     let fitted = Fitted::new(alloc, arrayed(alloc)?)?;
-    let flat = fitted.within(alloc, &window(2, 1, 12, 11), usize::MAX)?;
+    let flat = fitted.within(alloc, &[METAL], &window(2, 1, 12, 11), usize::MAX)?;
     assert_eq!(rt; count(&flat), 8);
+    Ok(())
+}
+
+/// A top that draws a rectangle of 4 by 2 on two Layers.
+fn two_layers(alloc: Global) -> Result<Checked, Fail> {
+    let mut builder = Builder::new(alloc);
+    let ring = Ring::rectangle(alloc, ORIGIN, Point { x: 4, y: 2 })?;
+    builder.open(alloc, Vec::from_slice(alloc, b"TOP")?);
+    builder.add_ring(VIA, ring.points(), &Offsets::single())?;
+    builder.add_ring(METAL, ring.points(), &Offsets::single())?;
+    builder.close(alloc)?;
+    Ok(check(alloc, builder.finish(), None)?)
+}
+
+#[test]
+fn some_layers(rt: HostRuntime) -> Result<(), Fail> {
+    let alloc = rt.alloc();
+    let fitted = Fitted::new(alloc, two_layers(alloc)?)?;
+    assert_eq!(rt; &*fitted.layers(alloc)?, &[METAL, VIA]);
+    // The Layers that are drawn, and the rings on METAL and on VIA.
+    let rows: [(&[Layer], usize, usize); 4] = [
+        (&[], 0, 0),
+        (&[METAL], 1, 0),
+        (&[VIA], 0, 1),
+        (&[METAL, VIA], 1, 1),
+    ];
+    for (layers, metal, via) in rows {
+        let flat = fitted.within(alloc, layers, &window(0, 0, 9, 9), usize::MAX)?;
+        assert_eq!(rt; flat.rings(METAL).len(), metal);
+        assert_eq!(rt; flat.rings(VIA).len(), via);
+    }
     Ok(())
 }
 
 /// Whether four rectangles are held in the window, with at most `most` points.
 fn holds_four(alloc: Global, fitted: &Fitted, window: &Window, most: usize) -> bool {
-    match fitted.within(alloc, window, most) {
+    match fitted.within(alloc, &[METAL], window, most) {
         Ok(flat) => flat.rings(METAL).len() == 4,
         Err(_) => false,
     }
@@ -221,14 +257,14 @@ pub(crate) fn drawn(alloc: Global, shifts: &Offsets) -> Result<Checked, Fail> {
 /// How many rings there are in the window, where the shifts are those of a reference.
 fn placed_in(alloc: Global, shifts: Offsets, window: &Window) -> Result<usize, Fail> {
     let fitted = Fitted::new(alloc, spread(alloc, shifts)?)?;
-    let flat = fitted.within(alloc, window, usize::MAX)?;
+    let flat = fitted.within(alloc, &[METAL], window, usize::MAX)?;
     Ok(flat.rings(METAL).len())
 }
 
 /// How many rings there are in the window, where the shifts are those of a shape.
 fn drawn_in(alloc: Global, shifts: &Offsets, window: &Window) -> Result<usize, Fail> {
     let fitted = Fitted::new(alloc, drawn(alloc, shifts)?)?;
-    let flat = fitted.within(alloc, window, usize::MAX)?;
+    let flat = fitted.within(alloc, &[METAL], window, usize::MAX)?;
     Ok(flat.rings(METAL).len())
 }
 

@@ -1,3 +1,5 @@
 pub mod After
+pub mod Finding
 pub mod InStrips
+pub mod InGroups
 pub mod InWindows

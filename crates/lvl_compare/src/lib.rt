@@ -23,10 +23,11 @@
 
 pub use flats::{first_difference, first_difference_in, lesser, past};
 pub use regions::difference_by;
-pub use strips::difference_by_strips;
-pub use windows::difference_in_windows;
+pub use windows::{difference_by_strips, difference_in_windows};
 
 mod flats;
+mod groups;
+mod pace;
 mod regions;
 mod strips;
 mod windows;

@@ -1,16 +1,17 @@
-//! Comparison of two libraries strip by strip, so that only what is drawn in one strip is in
-//! memory.
-ghost use Rattle.std.specs.Prelude.{◌≡◌, ◌<◌, ◌<ℤ◌, ◌≤ℤ◌, ◌↔◌, length, IsTrue, IfOk, IfSome, IfNone};
-ghost use Rattle.lvl_grid.specs.declared.point.Square.{Square as GridSquare};
+//! Comparison of two libraries in a window, strip by strip, so that only what is drawn in one strip
+//! is in memory.
+ghost use Rattle.std.specs.Prelude.{◌≡◌, ◌<◌, ◌<ℤ◌, ◌≤ℤ◌, ◌↔◌, IsTrue, IfOk};
 ghost use Rattle.lvl_grid.specs.Clip.{IsWithin};
-ghost use Rattle.lvl_columns.specs.Windows.{IsShown, window_of};
+ghost use Rattle.lvl_columns.specs.Windows.{window_of};
 ghost use Rattle.lvl_flat.specs.Flattened.{TopCovers};
 ghost use Rattle.lvl_view.specs.Moved.{IsMoved};
-ghost use Rattle.lvl_compare.specs.Tops.{DrawSame, IsFirstDifference};
-ghost use Rattle.lvl_compare.specs.inside.Strips.{Precedes, IsFoundIn, IsLeast, IsLeftIn, seen_of, up_to};
+ghost use Rattle.lvl_compare.specs.inside.Strips.{Precedes, IsFoundIn, IsImproved, IsLeast, IsLeftIn, rows_to, seen_of};
+ghost use Rattle.lvl_compare.specs.inside.Strips.{up_to};
+ghost use Rattle.lvl_compare.specs.inside.Groups.{AreListed, AreRowsBefore, on};
 
 use crate::flats::first_difference;
-use lvl_cells::Shapes;
+use crate::groups::Group;
+use crate::pace::Pace;
 use lvl_flat::{Fitted, Flat};
 use lvl_grid::{Square, Window};
 use lvl_names::{Layer, comes_before};
@@ -18,75 +19,16 @@ use lvl_region::Side;
 use lvl_view::View;
 use std::alloc::{AllocError, Global};
 
-/// How many strips are tried with one budget of points. The budget is then doubled, so no layout
-/// takes many more strips than it has points.
-const MOST_TRIES: u32 = 256;
-
 /// A Layer, a square that only one side draws there, and the side.
 pub(crate) type Found = (Layer, Square, Side);
 
-/// How wide the next strip may be, how many points the rings of a side may have in it, and how many
-/// more strips may be tried with this number of points.
+/// How far a window is searched: the first difference that is known, the abscissa up to which the
+/// squares are searched, and the pace of the next strip.
 #[derive(Clone, Copy)]
-pub(crate) struct Pace {
-    width: u64,
-    points: usize,
-    tries: u32,
-}
-
-impl Pace {
-    /// The pace of a search in strips of at most this width with at most this number of points on a
-    /// side.
-    pub(crate) fn new(width: u64, points: usize) -> Pace
-        ensures { result.width ≡ width }
-    {
-        Pace {
-            width,
-            points,
-            tries: MOST_TRIES,
-        }
-    }
-
-    /// The pace after a strip of this width with at most this number of points on a side. The next
-    /// strip may be as wide, or twice as wide if this one had at most half the points that it might
-    /// have.
-    fn after(self, width: u64, points: usize) -> Pace
-        ensures { 0 < width → 0 < result.width }
-    {
-        let width = if points <= self.points / 2 {
-            width.saturating_mul(2)
-        } else {
-            width
-        };
-        self.next(width)
-    }
-
-    /// The pace of the next strip, of at most this width.
-    fn next(self, width: u64) -> Pace
-        ensures { result.width ≡ width }
-    {
-        if self.tries > 0 {
-            return Pace {
-                width,
-                points: self.points,
-                tries: self.tries - 1,
-            };
-        }
-        Pace {
-            width,
-            points: self.points.saturating_mul(2).saturating_add(1),
-            tries: MOST_TRIES,
-        }
-    }
-}
-
-/// The first difference of two layouts within a strip, the abscissa at which the strip ends, and
-/// the pace of the next one.
-#[derive(Clone, Copy)]
-struct Strip {
-    found: Option<Found>,
-    end: i64,
-    pace: Pace,
+pub(crate) struct Progress {
+    pub found: Option<Found>,
+    pub end: i64,
+    pub pace: Pace,
 }
 
 /// Whether the first comes before the second: by Layer, then by square.
@@ -133,21 +75,24 @@ fn points_of(flat: &Flat) -> usize {
     points
 }
 
-/// The first difference of two layouts within a strip, and the greater of the numbers of points of
-/// both sides there. If one is more than `most`, that is reported as out of memory.
+/// The first difference of two layouts on the Layers of a group within a strip, and the greater of
+/// the numbers of points of both sides there. If one is more than `most`, that is reported as out of
+/// memory.
 fn difference_of(
     alloc: Global,
     first: &Fitted,
     second: &Fitted,
     view: &View,
+    group: &Group,
     strip: &Window,
     most: usize,
 ) -> Result<(Option<Found>, usize), AllocError>
+    requires { AreListed (TopCovers first.now) (TopCovers second.now) view.now.pairs group.now }
     ensures { IfOk result (λ parts. IsFoundIn (TopCovers first.now)
-        (IsMoved view.now.pairs (TopCovers second.now)) (IsWithin strip.now) parts.0) }
+        (IsMoved view.now.pairs (TopCovers second.now)) (on group.now.span (IsWithin strip.now)) parts.0) }
 {
-    let ours = first.within(alloc, strip, most)?;
-    let theirs = second.within(alloc, strip, most)?;
+    let ours = first.within(alloc, &group.ours, strip, most)?;
+    let theirs = second.within(alloc, &group.theirs, strip, most)?;
     let points = points_of(&ours).max(points_of(&theirs));
     let mapped = theirs.mapped(alloc, view)?;
     let found = first_difference(alloc, &ours, &mapped)?;
@@ -164,14 +109,6 @@ fn end_of(window: &Window, width: u64) -> i64
     window.x0.saturating_add_unsigned(width).min(window.x1)
 }
 
-/// The distance between the left and the right border of a window, or 1 if that is 0.
-pub(crate) fn width_of(window: &Window) -> u64
-    ensures { 0 < result }
-{
-    let width = window.x0.abs_diff(window.x1);
-    if width > 0 { width } else { 1 }
-}
-
 /// The part of a window up to an abscissa, which is excluded.
 fn front(window: &Window, end: i64) -> Window
     ensures { result ≡ up_to end window.now }
@@ -184,21 +121,36 @@ fn front(window: &Window, end: i64) -> Window
     }
 }
 
-/// The first difference of two layouts within the first strip of a window. The strip is at most as
-/// wide as the pace allows, and is halved until it doesn't have too many points and fits in memory.
-/// A strip of width 1 may have any number of points.
+/// The rows of a window up to this one.
+fn rows_up_to(window: Window, y: i64) -> Window
+    ensures { result ≡ rows_to y window }
+{
+    Window {
+        x0: window.x0,
+        y0: window.y0,
+        x1: window.x1,
+        y1: window.y1.min(y.saturating_add(1)),
+    }
+}
+
+/// The first difference of two layouts on the Layers of a group within the first strip of a window.
+/// The strip is at most as wide as the pace allows, and is halved until it doesn't have too many
+/// points and fits in memory. A strip of width 1 may have any number of points.
 fn first_strip(
     alloc: Global,
     first: &Fitted,
     second: &Fitted,
     view: &View,
+    group: &Group,
     window: &Window,
     pace: Pace,
-) -> Result<Strip, AllocError>
+) -> Result<Progress, AllocError>
     requires wide { 0 < pace.width }
     requires squares { window.now.x0 <ℤ window.now.x1 }
+    requires listed { AreListed (TopCovers first.now) (TopCovers second.now) view.now.pairs group.now }
     ensures found { IfOk result (λ strip. IsFoundIn (TopCovers first.now)
-        (IsMoved view.now.pairs (TopCovers second.now)) (IsLeftIn window.now strip.end) strip.found) }
+        (IsMoved view.now.pairs (TopCovers second.now)) (on group.now.span (IsLeftIn window.now strip.end))
+        strip.found) }
     ensures further { IfOk result (λ strip. window.now.x0 <ℤ strip.end) }
     ensures inside { IfOk result (λ strip. strip.end ≤ℤ window.now.x1) }
     ensures wide { IfOk result (λ strip. 0 < strip.pace.width) }
@@ -206,15 +158,23 @@ fn first_strip(
     let end = end_of(window, pace.width);
     let strip = front(window, end);
     if pace.width == 1 {
-        let (found, points) = difference_of(alloc, first, second, view, &strip, usize::MAX)?;
-        return Ok(Strip {
+        let (found, points) = difference_of(alloc, first, second, view, group, &strip, usize::MAX)?;
+        return Ok(Progress {
             found,
             end,
             pace: pace.after(1, points),
         });
     }
-    if let Ok((found, points)) = difference_of(alloc, first, second, view, &strip, pace.points) {
-        return Ok(Strip {
+    if let Ok((found, points)) = difference_of(
+        alloc,
+        first,
+        second,
+        view,
+        group,
+        &strip,
+        pace.points,
+    ) {
+        return Ok(Progress {
             found,
             end,
             pace: pace.after(pace.width, points),
@@ -225,98 +185,78 @@ fn first_strip(
         first,
         second,
         view,
+        group,
         window,
         pace.next(pace.width / 2),
     )
 }
 
-/// The number of points of the top's own shapes at all their shifts.
-fn own_points(fitted: &Fitted) -> u64 {
-    let checked = fitted.checked();
-    let Some(top) = checked.cells().get(checked.top()) else {
-        return 0;
+/// The rows of a window that may have a square before a known one, on the Layers of a group up to its
+/// Layer: all rows, or those up to the square if no Layer of the group comes before its Layer.
+fn rows_before(alloc: Global, view: &View, group: &Group, window: &Window, known: &Found) -> Window
+    ensures { AreRowsBefore view.now.pairs group.now known.now window.now result }
+{
+    if group.has_before(alloc, view, known.0) {
+        *window
+    } else {
+        rows_up_to(*window, known.1.y)
+    }
+}
+
+/// The search of a window after one more strip. Only what may precede the known difference is drawn:
+/// Layers up to its Layer, and if there is none before that one, rows up to its square.
+fn next_strip(
+    alloc: Global,
+    first: &Fitted,
+    second: &Fitted,
+    view: &View,
+    group: &Group,
+    rest: &Window,
+    before: Progress,
+) -> Result<Progress, AllocError>
+    requires wide { 0 < before.pace.width }
+    requires squares { rest.now.x0 <ℤ rest.now.x1 }
+    requires listed { AreListed (TopCovers first.now) (TopCovers second.now) view.now.pairs group.now }
+    ensures found { IfOk result (λ strip. IsImproved (TopCovers first.now)
+        (IsMoved view.now.pairs (TopCovers second.now)) (on group.now.span (IsLeftIn rest.now strip.end))
+        before.found strip.found) }
+    ensures further { IfOk result (λ strip. rest.now.x0 <ℤ strip.end) }
+    ensures inside { IfOk result (λ strip. strip.end ≤ℤ rest.now.x1) }
+    ensures wide { IfOk result (λ strip. 0 < strip.pace.width) }
+{
+    let Some(known) = before.found else {
+        return first_strip(alloc, first, second, view, group, rest, before.pace);
     };
-    let mut points: u64 = 0;
-    for i in 0..top.shapes.len() {
-        points = points.saturating_add(points_of_shape(&top.shapes, i));
-    }
-    points
+    let lesser = group.part(alloc, view, group.span.up_to(known.0))?;
+    let rows = rows_before(alloc, view, &lesser, rest, &known);
+    let strip = first_strip(alloc, first, second, view, &lesser, &rows, before.pace)?;
+    Ok(Progress {
+        found: least(before.found, strip.found),
+        end: strip.end,
+        pace: strip.pace,
+    })
 }
 
-/// The number of points of a shape at all its shifts.
-fn points_of_shape(shapes: &Shapes, i: usize) -> u64
-    requires { i < length shapes.now }
-{
-    let mut points: u64 = 0;
-    for j in 0..shapes.ring_count(i) {
-        points = points.saturating_add(shapes.ring(i, j).len() as u64);
-    }
-    points.saturating_mul(shapes.shift_count(i))
-}
-
-/// How wide the first strip of a window should be, so that none need be tried again: as wide as it
-/// would be after it was halved until it has at most `most` points, if the shapes of the tops are
-/// spread evenly.
-fn first_width(window: &Window, first: &Fitted, second: &Fitted, most: usize) -> u64
-    ensures { 0 < result }
-{
-    let points = own_points(first).max(own_points(second));
-    let strips = points
-        .saturating_add(points / 64)
-        .checked_div(most as u64)
-        .unwrap_or(0)
-        .saturating_add(1);
-    let halved = strips.checked_next_power_of_two().unwrap_or(strips);
-    let width = width_of(window).checked_div(halved).unwrap_or(0);
-    width.saturating_add(1)
-}
-
-/// The first difference of two layouts within a window, which is searched strip by strip at a pace.
+/// The first difference of two layouts on the Layers of a group within a window, if it precedes
+/// what is known, else what is known. The window is searched strip by strip.
 pub(crate) fn difference_within(
     alloc: Global,
     first: &Fitted,
     second: &Fitted,
     view: &View,
+    group: &Group,
     window: Window,
-    mut pace: Pace,
+    mut progress: Progress,
 ) -> Result<Option<Found>, AllocError>
-    requires { 0 < pace.width }
-    ensures { IfOk result (IsFoundIn (TopCovers first.now)
-        (IsMoved view.now.pairs (TopCovers second.now)) (IsWithin window)) }
+    requires wide { 0 < progress.pace.width }
+    requires listed { AreListed (TopCovers first.now) (TopCovers second.now) view.now.pairs group.now }
+    ensures { IfOk result (IsImproved (TopCovers first.now) (IsMoved view.now.pairs (TopCovers second.now))
+        (on group.now.span (IsWithin window)) progress.found) }
 {
     let mut rest = window;
-    let mut found = None;
     while rest.x0 < rest.x1 {
-        let strip = first_strip(alloc, first, second, view, &rest, pace)?;
-        found = least(found, strip.found);
-        rest.x0 = strip.end;
-        pace = strip.pace;
+        progress = next_strip(alloc, first, second, view, group, &rest, progress)?;
+        rest.x0 = progress.end;
     }
-    Ok(found)
-}
-
-/// The first Layer, and on it the first square, by `y` and then `x`, that only one of two layouts
-/// draws, with its side; None if both draw the same squares on every Layer. The Layers of the
-/// second are mapped by the view, and if the view has a window, only its squares are compared.
-///
-/// The layouts are searched in strips, from left to right, so wide that neither side has more than
-/// `most` points in one. Only one strip is in memory at a time. After 256 strips `most` is doubled,
-/// so there are never many more strips than points. A strip of width 1 may have any number of
-/// points. Fails only if out of memory.
-pub fn difference_by_strips(
-    alloc: Global,
-    first: &Fitted,
-    second: &Fitted,
-    view: &View,
-    most: usize,
-) -> Result<Option<(Layer, Square, Side)>, AllocError>
-    ensures same { IfOk result (λ found. IfNone found
-        (DrawSame (IsShown view.now.window) (TopCovers first.now) (IsMoved view.now.pairs (TopCovers second.now)))) }
-    ensures differ { IfOk result (λ found. IfSome found
-        (λ at. IsFirstDifference (IsShown view.now.window) (TopCovers first.now)
-        (IsMoved view.now.pairs (TopCovers second.now)) at.0 at.1 at.2)) }
-{
-    let window = shared(first.extent().joined(second.extent()), view.window());
-    let pace = Pace::new(first_width(&window, first, second, most), most);
-    difference_within(alloc, first, second, view, window, pace)
+    Ok(progress.found)
 }

@@ -1,24 +1,115 @@
-//! Comparison of two libraries in some windows only.
+//! Comparison of two libraries, as a whole or in some windows.
 ghost use Rattle.std.specs.Prelude.{IfOk, IfSome, IfNone};
+ghost use Rattle.lvl_columns.specs.Windows.{IsShown};
 ghost use Rattle.lvl_flat.specs.Flattened.{TopCovers};
 ghost use Rattle.lvl_view.specs.Moved.{IsMoved};
 ghost use Rattle.lvl_compare.specs.Parts.{IsSeenIn};
 ghost use Rattle.lvl_compare.specs.Tops.{DrawSame, IsFirstDifference};
+ghost use Rattle.lvl_compare.specs.inside.Groups.{AreListed, on};
+ghost use Rattle.lvl_compare.specs.inside.Strips.{IsFoundIn, everywhere};
 
-use crate::strips::{Pace, difference_within, least, shared, width_of};
+use crate::groups::{Group, Span};
+use crate::pace::{Budget, Pace, own_points};
+use crate::strips::{Found, Progress, difference_within, shared};
 use lvl_flat::Fitted;
 use lvl_grid::{Square, Window};
 use lvl_names::Layer;
 use lvl_region::Side;
 use lvl_view::View;
 use std::alloc::{AllocError, Global};
+use std::slice;
+
+/// The first difference of two layouts on the Layers of a group, in some windows.
+fn difference_in_group(
+    alloc: Global,
+    first: &Fitted,
+    second: &Fitted,
+    view: &View,
+    group: &Group,
+    windows: &[Window],
+    budget: Budget,
+) -> Result<Option<Found>, AllocError>
+    requires { AreListed (TopCovers first.now) (TopCovers second.now) view.now.pairs group.now }
+    ensures { IfOk result (IsFoundIn (TopCovers first.now) (IsMoved view.now.pairs (TopCovers second.now))
+        (on group.now.span (IsSeenIn view.now.window windows.now))) }
+{
+    let mut found = None;
+    for window in windows {
+        let part = shared(*window, view.window());
+        let start = Progress {
+            found,
+            end: part.x0,
+            pace: Pace::new(&part, budget),
+        };
+        found = difference_within(alloc, first, second, view, group, part, start)?;
+    }
+    Ok(found)
+}
+
+/// The first difference of two layouts in some windows, which have this number of points. The
+/// Layers are searched in groups, in their order, up to the first group that has a difference.
+pub(crate) fn difference_by_groups(
+    alloc: Global,
+    first: &Fitted,
+    second: &Fitted,
+    view: &View,
+    windows: &[Window],
+    points: u64,
+    most: usize,
+) -> Result<Option<Found>, AllocError>
+    ensures { IfOk result (IsFoundIn (TopCovers first.now) (IsMoved view.now.pairs (TopCovers second.now))
+        (everywhere (IsSeenIn view.now.window windows.now))) }
+{
+    let layers = Group::whole(alloc, first, second)?;
+    let ends = layers.ends(alloc, view)?;
+    let budget = Budget::new(points / (ends.len() as u64 + 1), most);
+    let mut after = None;
+    for end in &ends {
+        let last = Some(*end);
+        let group = layers.part(alloc, view, Span { after, last })?;
+        let found = difference_in_group(alloc, first, second, view, &group, windows, budget)?;
+        if found.is_some() {
+            return Ok(found);
+        }
+        after = last;
+    }
+    let group = layers.part(alloc, view, Span { after, last: None })?;
+    difference_in_group(alloc, first, second, view, &group, windows, budget)
+}
+
+/// The first Layer, and on it the first square, by `y` and then `x`, that only one of two layouts
+/// draws, with its side; None if both draw the same squares on every Layer. The Layers of the
+/// second are mapped by the view, and if the view has a window, only its squares are compared.
+///
+/// The layouts are searched in strips, from left to right, so wide that neither side has more than
+/// `most` points in one. Only one strip is in memory at a time. After 256 strips `most` is doubled,
+/// so there are never many more strips than points. A strip of width 1 may have any number of
+/// points. Many Layers are searched in groups, one after another. Fails only if out of memory.
+pub fn difference_by_strips(
+    alloc: Global,
+    first: &Fitted,
+    second: &Fitted,
+    view: &View,
+    most: usize,
+) -> Result<Option<(Layer, Square, Side)>, AllocError>
+    ensures same { IfOk result (λ found. IfNone found
+        (DrawSame (IsShown view.now.window) (TopCovers first.now) (IsMoved view.now.pairs (TopCovers second.now)))) }
+    ensures differ { IfOk result (λ found. IfSome found
+        (λ at. IsFirstDifference (IsShown view.now.window) (TopCovers first.now)
+        (IsMoved view.now.pairs (TopCovers second.now)) at.0 at.1 at.2)) }
+{
+    let window = first.extent().joined(second.extent());
+    let points = own_points(first).max(own_points(second));
+    let windows = slice::from_ref(&window);
+    difference_by_groups(alloc, first, second, view, windows, points, most)
+}
 
 /// The first Layer, and on it the first square of the windows, by `y` and then `x`, that only one
 /// of two layouts draws, with its side; None if both draw the same squares of the windows on every
 /// Layer. The Layers of the second are mapped by the view, and if the view has a window, only its
 /// squares are compared.
 ///
-/// Each window is searched by itself, as [`crate::difference_by_strips`] does, which also explains
+/// Each window is searched by itself, as [`difference_by_strips`] does, which also explains
 /// `most`. Fails only if out of memory.
 pub fn difference_in_windows(
     alloc: Global,
@@ -34,12 +125,5 @@ pub fn difference_in_windows(
         (λ at. IsFirstDifference (IsSeenIn view.now.window windows.now) (TopCovers first.now)
         (IsMoved view.now.pairs (TopCovers second.now)) at.0 at.1 at.2)) }
 {
-    let mut found = None;
-    for window in windows {
-        let part = shared(*window, view.window());
-        let pace = Pace::new(width_of(&part), most);
-        let next = difference_within(alloc, first, second, view, part, pace)?;
-        found = least(found, next);
-    }
-    Ok(found)
+    difference_by_groups(alloc, first, second, view, windows, 0, most)
 }

@@ -1,6 +1,6 @@
 -- Rings that are drawn in a window, one after another.
 use Rattle.std.proofs.Common.{◌≡◌, ◌<◌, ◌≤◌, ◌++◌, ◌+◌, ◌↔◌, ◌⊎◌, inl, inr, ℕ, zero, suc, true, false, cond, not}
-use Rattle.std.proofs.Common.{List, [], length}
+use Rattle.std.proofs.Common.{List, [], length, Contains}
 use Rattle.std.proofs.Common.{◌∷◌, All, Any, take, map, set, slice_get, get_or, Some, refl, sym, ap, subst, ◌∙◌, arith}
 use Rattle.std.proofs.lemmas.List.{take_more, take_all}
 use Rattle.std.proofs.lemmas.Option.{slice_get_within, get_or_from_slice_get}
@@ -17,7 +17,7 @@ use Rattle.lvl_names.specs.Layers.{ComesBefore, same_layer}
 use Rattle.lvl_names.proofs.Layers.{before_itself, differs_is, same_is, tested_layer}
 use Rattle.lvl_cells.specs.Cells.{PlainShape, Rings}
 use Rattle.lvl_flat.specs.declared.bounds.Bounds.{Bounds}
-use Rattle.lvl_flat.specs.Flattened.{FitsRing}
+use Rattle.lvl_flat.specs.Flattened.{FitsRing, IsOfPart}
 use Rattle.lvl_flat.specs.Sheet.{PlainSheet}
 use Rattle.lvl_flat.specs.Sheets.{AreSorted, rings_on}
 use Rattle.lvl_flat.specs.Boxes.{IsWithin, Fits}
@@ -193,3 +193,21 @@ sheet_adds sheets i s new rings W P q sorted at is adds layer =
         ]),
       )
     ] refl all
+
+-- of what is drawn on the Layers of a list, a shape on one of them adds its squares of the window
+pub part_adds : (layers : List Layer) (window : Window) (shape layer : Layer) (q : Square) (now new P : Type 0)
+    → Contains layers shape → new ↔ (now ⊎ (IsInWindow window q × ((shape ≡ layer) × P)))
+    → new ↔ (now ⊎ (IsOfPart layers window layer q × ((shape ≡ layer) × P)))
+part_adds layers window shape layer q now new P has adds = (
+  λ a. elim (adds.0 a) [ inl b ↦ inl b | inr b ↦ inr ((subst (Contains layers) b.1.0 has, b.0), b.1) ],
+  λ e. adds.1 (elim e [ inl b ↦ inl b | inr b ↦ inr (b.0.1, b.1) ]),
+)
+
+-- and a shape on another Layer adds nothing
+pub part_skips : (layers : List Layer) (window : Window) (shape layer : Layer) (q : Square) (now P : Type 0)
+    → (Contains layers shape → ⊥)
+    → now ↔ (now ⊎ (IsOfPart layers window layer q × ((shape ≡ layer) × P)))
+part_skips layers window shape layer q now P none = (
+  λ a. inl a,
+  λ e. elim e [ inl a ↦ a | inr b ↦ absurd (none (subst (Contains layers) (sym b.1.0) b.0.0)) ],
+)

@@ -81,6 +81,14 @@ not_theirs sheets layer none has =
     All-contains (λ (x : Layer). x ≢ layer) (map layer_of sheets) layer
     (All-map (λ (x : Layer). x ≢ layer) layer_of sheets none) has refl
 
+-- the Layer of a sheet is among the Layers of the sheets
+pub theirs : (sheets : List PlainSheet) (i : ℕ) (s : PlainSheet) → slice_get sheets i ≡ Some s
+    → Contains (map layer_of sheets) s.layer
+theirs [] i s at = cc
+theirs (t ∷ sheets) zero s at = let one : s ≡ t = cc in (0, omega arith, ap layer_of (sym one))
+theirs (t ∷ sheets) (suc i) s at =
+    let later = theirs sheets i s at in (suc later.0, omega (arith, later.1), later.2)
+
 -- one more shape
 pub drawn_more : (layer : Layer) (m : Map) (shapes : List (PlainShape Rings)) (i : ℕ) (h : PlainShape Rings)
     → i < length shapes → h ≡ get_or shapes i h

@@ -1,7 +1,8 @@
 -- The walk begins at the top, and ends with all rings drawn.
 use Rattle.std.proofs.Common.{◌≡◌, ◌≢◌, ◌↔◌, ◌<◌, ◌==◌, ◌++◌, ℕ, zero, suc, Bool, true, false, cond, append_assoc, List}
 use Rattle.std.proofs.Common.{[], ◌∷◌, length, filter, not, sum_by, slice_get, Some, Any, All, Contains, inl, inr, refl}
-use Rattle.std.proofs.Common.{sym, ap, subst, ◌∙◌, arith}
+use Rattle.std.proofs.Common.{sym, ap, subst, ◌∙◌, arith, ◌⊎◌}
+use Rattle.std.specs.Prelude.{IfSome}
 use Rattle.std.proofs.lemmas.List.Elements.{All-head, All-tail, All-filter, filter-append, All-weaker, filter_passes}
 use Rattle.std.proofs.lemmas.Bool.{eqb-true}
 use Rattle.lvl_grid.specs.declared.point.Square.{Square}
@@ -14,13 +15,13 @@ use Rattle.lvl_cells.specs.Coverage.{ShapeCovers, CellCovers}
 use Rattle.lvl_cells.specs.Soundness.{AreLinked, IsOrder}
 use Rattle.lvl_flat.specs.declared.visit.Visit.{Visit}
 use Rattle.lvl_flat.specs.inside.Drawn.{drawn_on, AreFiguresPlaced}
-use Rattle.lvl_flat.specs.Flattened.{FitShapes, IsFlattenedWithin}
+use Rattle.lvl_flat.specs.Flattened.{AllInRange, FitShapes, IsFlattenedWithin, IsOfPart, IsTopInRange}
 use Rattle.lvl_flat.specs.Flattened.{IsFlattened, IsOutOfRange}
 use Rattle.lvl_flat.specs.Sheet.{PlainSheet}
 use Rattle.lvl_flat.specs.Sheets.{AreSorted, IsInOrder, rings_on, has_rings, is_filled}
 use Rattle.lvl_names.specs.Layers.{ComesBefore, same_layer}
 use Rattle.lvl_flat.specs.inside.Visits.{visit_weight, VisitCovers, PicksFit, pending}
-use Rattle.lvl_flat.specs.inside.Walking.{AllHaveSheets, IsWalking, Everywhere, IsUnderWay, IsWalkingWithin}
+use Rattle.lvl_flat.specs.inside.Walking.{AllHaveSheets, AllListed, IsWalking, Everywhere, IsUnderWay, IsWalkingWithin}
 use Rattle.lvl_flat.specs.inside.Walking.{SheetsCover}
 use Rattle.lvl_flat.specs.inside.Entering.{begun, IsDrawn, IsCellOut, IsEnterFault}
 use Rattle.lvl_flat.specs.Flattened.{ReportsName}
@@ -34,7 +35,6 @@ use Rattle.lvl_flat.proofs.Drawing.{sorted_alike}
 use Rattle.lvl_flat.proofs.Walking.{drawn_length, weight_begun}
 use Rattle.lvl_flat.proofs.Going.{layers_kept, placed_fit}
 use Rattle.lvl_grid.specs.declared.point.Window.{Window}
-use Rattle.lvl_grid.specs.Clip.{IsWithin}
 use Rattle.lvl_flat.proofs.UnderWay.{under_unmoved, way_begins}
 
 -- empty sheets, and the top drawn on them
@@ -56,7 +56,7 @@ walk_begins s c empty new linked ordered at sorted have none d =
     record {
       top = c;
       way =
-          way_begins s c Everywhere (SheetsCover new) at (placed_fit unmoved c.shapes placed)
+          way_begins s c (Unit {0}) Everywhere (SheetsCover new) at (λ every. placed_fit unmoved c.shapes placed)
           (λ layer q counts.
           let mine = drawn_covers layer unmoved q c.shapes placed in (
             λ a. mine.0 (subst (λ rs. SomeCovers rs q) (drawn layer) a),
@@ -206,10 +206,11 @@ filled_step ss filled all rest rest' s b e so next = (
 )
 
 -- with no visit left, what the top covers is drawn, and all is in range
-ended : (s : Settled) (top : PlainCell Rings) (W : Square → Type 0) (sheets : List PlainSheet) → AreSorted sheets
-    → (way : IsUnderWay s top W (SheetsCover sheets) []) → (layer : Layer) (q : Square) → W q
+ended : (s : Settled) (top : PlainCell Rings) (A : Type 0) (W : Layer → Square → Type 0) (sheets : List PlainSheet)
+    → AreSorted sheets → (way : IsUnderWay s top A W (SheetsCover sheets) []) → (layer : Layer) (q : Square)
+    → W layer q
     → SomeCovers (rings_on layer (filter is_filled sheets)) q ↔ CellCovers SomeCovers s.cells layer top q
-ended s top W sheets sorted way layer q counts =
+ended s top A W sheets sorted way layer q counts =
     let same = rings_on-filled sheets sorted layer in
     let both = way.covers layer q counts in (
       λ a. both.1 (inl (subst (λ rs. SomeCovers rs q) same a)),
@@ -227,25 +228,30 @@ pub walk_ends : (s : Settled) (sheets : List PlainSheet) → IsWalking s sheets 
 walk_ends s sheets w = record {
   top = w.top;
   is_top = w.way.is_top;
-  covers = λ layer q. ended s w.top Everywhere sheets w.sorted w.way layer q tt;
+  covers = λ layer q. ended s w.top (Unit {0}) Everywhere sheets w.sorted w.way layer q tt;
   count = λ layer. ap length (rings_on-filled sheets w.sorted layer) ∙ omega (arith, w.counts layer);
-  in_range = w.way.fits (none_left s);
+  in_range = w.way.fits tt (none_left s);
 }
 
-pub window_ends : (s : Settled) (window : Window) (sheets : List PlainSheet) → IsWalkingWithin s window sheets []
-    → IsFlattenedWithin s window (filter is_filled sheets)
-window_ends s window sheets w = record {
+pub window_ends : (s : Settled) (layers : List Layer) (window : Window) (sheets : List PlainSheet)
+    → IsTopInRange s ⊎ AllListed layers s.cells → IsWalkingWithin s layers window sheets []
+    → IsFlattenedWithin s layers window (filter is_filled sheets)
+window_ends s layers window sheets fits w = record {
   top = w.top;
   is_top = w.way.is_top;
   covers = λ layer q.
       let same = rings_on-filled sheets w.sorted layer in
-      let both = ended s w.top (IsWithin window) sheets w.sorted w.way layer q in (
+      let both = ended s w.top (AllListed layers s.cells) (IsOfPart layers window) sheets w.sorted w.way layer q in (
         λ a.
-            let shown : IsWithin window q = w.within layer q (subst (λ rs. SomeCovers rs q) same a) in
-            (shown, (both shown).0 a),
+            let part : IsOfPart layers window layer q = w.within layer q (subst (λ rs. SomeCovers rs q) same a) in
+            (part, (both part).0 a),
         λ h. (both h.0).1 h.1,
       );
-  in_range = w.way.fits (none_left s);
+  in_range =
+      elim fits [
+        | inl known ↦ subst (λ o. IfSome o (AllInRange s.cells)) w.way.is_top known
+        | inr listed ↦ w.way.fits listed (none_left s)
+      ];
 }
 
 -- sheets that have no rings have none on any Layer

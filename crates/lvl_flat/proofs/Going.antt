@@ -65,7 +65,7 @@ pub walk_done : (s : Settled) (sheets : List PlainSheet) (front : List Visit) (v
     → IsWalking s sheets (front ++ v ∷ []) → pending s.cells v ≡ [] → IsWalking s sheets front
 walk_done s sheets front v w none = record {
   top = w.top;
-  way = way_done s w.top Everywhere (SheetsCover sheets) front v w.way none;
+  way = way_done s w.top (Unit {0}) Everywhere (SheetsCover sheets) front v w.way none;
   sorted = w.sorted;
   layers = w.layers;
   counts = λ layer.
@@ -79,7 +79,7 @@ pub walk_past : (s : Settled) (sheets : List PlainSheet) (front : List Visit) (v
     → IsWalking s sheets (front ++ v ∷ []) → IsPast s.cells v rest → IsWalking s sheets (front ++ rest ∷ [])
 walk_past s sheets front v rest w past = record {
   top = w.top;
-  way = way_past s w.top Everywhere (SheetsCover sheets) front v rest w.way past;
+  way = way_past s w.top (Unit {0}) Everywhere (SheetsCover sheets) front v rest w.way past;
   sorted = w.sorted;
   layers = w.layers;
   counts = λ layer.
@@ -110,8 +110,8 @@ walk_into s sheets new front v i m rest linked ordered w into d =
     record {
       top = w.top;
       way =
-          way_into s w.top Everywhere (SheetsCover sheets) (SheetsCover new) front v i m rest w.way into
-          (placed_fit m c.shapes placed)
+          way_into s w.top (Unit {0}) Everywhere (SheetsCover sheets) (SheetsCover new) front v i m rest w.way into
+          (λ every. placed_fit m c.shapes placed)
           (λ layer q counts. drawn_beside layer m q c.shapes (rings_on layer sheets) (rings_on layer new) placed
           (drawn layer));
       sorted = sorted_alike new sheets d.layers w.sorted;

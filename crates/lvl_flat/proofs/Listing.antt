@@ -1,17 +1,24 @@
--- The sheets of all Layers: sorted, and without duplicates.
-use Rattle.std.proofs.Common.{◌≡◌, ◌<◌, ℕ, List, []}
-use Rattle.std.proofs.Common.{length, get_or, map, All, AllPairs, Contains, sym, subst, arith}
+-- The Layers of a library, and their sheets: sorted, and without duplicates.
+use Rattle.std.proofs.Common.{◌≡◌, ◌<◌, ℕ, zero, suc, List, Any, inl, inr}
+use Rattle.std.proofs.Common.{length, get_or, map, slice_get, Some, All, AllPairs, Contains, sym, subst, arith}
 use Rattle.std.proofs.lemmas.List.{get_or-map}
 use Rattle.std.proofs.Math.ListN.{length-map}
-use Rattle.std.proofs.lemmas.List.Elements.{All-weaker}
+use Rattle.std.proofs.lemmas.List.Elements.{All-contains, All-weaker}
 use Rattle.std.proofs.lemmas.Option.{slice_get_within, get_or_from_slice_get}
 use Rattle.lvl_names.specs.declared.layer.Layer.{Layer}
 use Rattle.lvl_names.specs.Layers.{ComesBefore}
-use Rattle.lvl_cells.specs.Cells.{PlainCell, Rings}
+use Rattle.lvl_grid.specs.declared.point.Square.{Square}
+use Rattle.lvl_grid.specs.Winding.{SomeCovers}
+use Rattle.lvl_cells.specs.Cells.{PlainCell, PlainReference, PlainShape, Rings, cell_named}
+use Rattle.lvl_cells.specs.Checks.{Settled}
+use Rattle.lvl_cells.specs.Coverage.{CellCovers, CoversWithin, PullsBack, ShapeCovers}
+use Rattle.lvl_cells.proofs.Counting.{found}
 use Rattle.lvl_cells.proofs.Listing.{among}
+use Rattle.lvl_flat.proofs.Covering.{some_is}
+use Rattle.lvl_flat.specs.Flattened.{TopCovers}
 use Rattle.lvl_flat.specs.Sheet.{PlainSheet}
 use Rattle.lvl_flat.specs.Sheets.{AreSorted, ContainsAll}
-use Rattle.lvl_flat.specs.inside.Walking.{AllHaveSheets}
+use Rattle.lvl_flat.specs.inside.Walking.{AllHaveSheets, AllListed}
 
 sheets_sorted : (ss : List PlainSheet) → AllPairs ComesBefore (map (λ s. s.layer) ss) → AreSorted ss
 sheets_sorted ss pairs i j d lt in' =
@@ -40,10 +47,43 @@ pub still_listed : (fewer more : List Layer) (cells : List (PlainCell Rings)) �
 still_listed fewer more cells wider h =
     All-weaker {X = PlainCell Rings} (AreListed fewer) (AreListed more) (λ c. among fewer more c.shapes wider) cells h
 
+-- the shapes of a listed cell
+pub cell_listed : (layers : List Layer) (cells : List (PlainCell Rings)) (k : ℕ) (c : PlainCell Rings)
+    → AllListed layers cells → slice_get cells k ≡ Some c → AreListed layers c
+cell_listed layers cells k c all at =
+    subst (AreListed layers) (get_or_from_slice_get cells k c c at) (all k c (slice_get_within cells k c at))
+
 -- each shape's Layer has its sheet
 pub cells_there : (cells : List (PlainCell Rings)) (layers : List Layer) (ss : List PlainSheet)
-    → All (AreListed layers) cells → ContainsAll (map (λ s. s.layer) ss) layers → AllHaveSheets ss cells
-cells_there cells layers ss all there k c at =
-    let here : get_or cells k c ≡ c = get_or_from_slice_get cells k c c at in
-    let own : AreListed layers c = subst (AreListed layers) here (all k c (slice_get_within cells k c at)) in
-    among layers (map (λ s. s.layer) ss) c.shapes there own
+    → AllListed layers cells → map (λ s. s.layer) ss ≡ layers → AllHaveSheets ss cells
+cells_there cells layers ss all are k c at =
+    subst (λ ls. AreListed ls c) (sym are) (cell_listed layers cells k c all at)
+
+-- the Layer of a shape that covers a square
+own_listed : (layers : List Layer) (layer : Layer) (c : PlainCell Rings) (q : Square) → AreListed layers c
+    → Any (ShapeCovers SomeCovers layer q) c.shapes → Contains layers layer
+own_listed layers layer c q listed a =
+    subst (Contains layers) a.4.0
+    (All-contains (λ (h : PlainShape Rings). Contains layers h.layer) c.shapes a.1 listed (a.0, a.2, a.3))
+
+-- a cell covers squares on listed Layers only
+listed_within : (cells : List (PlainCell Rings)) (layers : List Layer) → AllListed layers cells → (layer : Layer)
+    (n : ℕ) (c : PlainCell Rings) (q : Square) → AreListed layers c
+    → CoversWithin SomeCovers cells layer n c q → Contains layers layer
+listed_within cells layers all layer zero c q own a = own_listed layers layer c q own a
+listed_within cells layers all layer (suc n) c q own (inl a) = own_listed layers layer c q own a
+listed_within cells layers all layer (suc n) c q own (inr a) =
+    let r : PlainReference = a.1 in
+    let next =
+    some_is (λ d. Any (PullsBack (CoversWithin SomeCovers cells layer n d) r q) r.shifts) (cell_named cells r.cell)
+    a.4 in
+    let back = next.2.4 in
+    listed_within cells layers all layer n next.0 back.0
+    (found (AreListed layers) cells r.cell next.0 all next.1).1 back.2
+
+-- and so does the top
+pub top_listed : (s : Settled) (layers : List Layer) → AllListed layers s.cells → (layer : Layer) (q : Square)
+    → TopCovers s layer q → Contains layers layer
+top_listed s layers all layer q covered =
+    let top = some_is (λ c. CellCovers SomeCovers s.cells layer c q) (slice_get s.cells s.top) covered in
+    listed_within s.cells layers all layer top.2.0 top.0 q (cell_listed layers s.cells s.top top.0 all top.1) top.2.1

@@ -30,10 +30,10 @@ use Rattle.lvl_flat.proofs.Stepping.{pending_at}
 use Rattle.lvl_flat.proofs.Walking.{visit_begun, visit_into, in_front, in_last}
 
 -- a visit without picks to follow is taken off
-pub way_done : (s : Settled) (top : PlainCell Rings) (W : Square → Type 0) (C : Layer → Square → Type 0)
+pub way_done : (s : Settled) (top : PlainCell Rings) (A : Type 0) (W C : Layer → Square → Type 0)
     (front : List Visit) (v : Visit)
-    → IsUnderWay s top W C (front ++ v ∷ []) → pending s.cells v ≡ [] → IsUnderWay s top W C front
-way_done s top W C front v way none = record {
+    → IsUnderWay s top A W C (front ++ v ∷ []) → pending s.cells v ≡ [] → IsUnderWay s top A W C front
+way_done s top A W C front v way none = record {
   is_top = way.is_top;
   covers = λ layer q counts.
       let both = way.covers layer q counts in
@@ -51,8 +51,8 @@ way_done s top W C front v way none = record {
             ],
         λ e. both.1 (elim e [ inl a ↦ inl a | inr b ↦ inr (last.1 (inl b)) ]),
       );
-  fits = λ each.
-      way.fits
+  fits = λ whole each.
+      way.fits whole
       (λ u has.
       elim (Contains-push_cases front v u has) [
         | inl there ↦ each u there
@@ -66,13 +66,13 @@ way_done s top W C front v way none = record {
 }
 
 -- a visit is replaced by one with the same picks to follow, except for some that need nothing more
-replaced : (s : Settled) (top : PlainCell Rings) (W : Square → Type 0) (C : Layer → Square → Type 0)
+replaced : (s : Settled) (top : PlainCell Rings) (A : Type 0) (W C : Layer → Square → Type 0)
     (front : List Visit) (v rest : Visit)
-    → (way : IsUnderWay s top W C (front ++ v ∷ [])) → rest.map ≡ v.map → rest.cell ≡ v.cell
-    → ((layer : Layer) (q : Square) → W q → VisitCovers s.cells layer q v ↔ VisitCovers s.cells layer q rest)
+    → (way : IsUnderWay s top A W C (front ++ v ∷ [])) → rest.map ≡ v.map → rest.cell ≡ v.cell
+    → ((layer : Layer) (q : Square) → W layer q → VisitCovers s.cells layer q v ↔ VisitCovers s.cells layer q rest)
     → (PicksFit s.cells v.map (pending s.cells rest) → PicksFit s.cells v.map (pending s.cells v))
-    → IsUnderWay s top W C (front ++ rest ∷ [])
-replaced s top W C front v rest way map_is cell_is alike fitting = record {
+    → IsUnderWay s top A W C (front ++ rest ∷ [])
+replaced s top A W C front v rest way map_is cell_is alike fitting = record {
   is_top = way.is_top;
   covers = λ layer q counts.
       let both = way.covers layer q counts in
@@ -89,8 +89,8 @@ replaced s top W C front v rest way map_is cell_is alike fitting = record {
           | inr b ↦ inr (old.1 (elim (new.0 b) [ inl c ↦ inl c | inr u ↦ inr (same.1 u) ]))
         ]),
       );
-  fits = λ each.
-      way.fits
+  fits = λ whole each.
+      way.fits whole
       (λ u has.
       elim (Contains-push_cases front v u has) [
         | inl there ↦ each u (in_front front rest u there)
@@ -115,11 +115,11 @@ replaced s top W C front v rest way map_is cell_is alike fitting = record {
 }
 
 -- a visit is replaced by one with the same picks to follow
-pub way_alike : (s : Settled) (top : PlainCell Rings) (W : Square → Type 0) (C : Layer → Square → Type 0)
-    (front : List Visit) (v rest : Visit) → IsUnderWay s top W C (front ++ v ∷ []) → rest.map ≡ v.map
-    → rest.cell ≡ v.cell → pending s.cells v ≡ pending s.cells rest → IsUnderWay s top W C (front ++ rest ∷ [])
-way_alike s top W C front v rest way map_is cell_is pending_is =
-    replaced s top W C front v rest way map_is cell_is
+pub way_alike : (s : Settled) (top : PlainCell Rings) (A : Type 0) (W C : Layer → Square → Type 0)
+    (front : List Visit) (v rest : Visit) → IsUnderWay s top A W C (front ++ v ∷ []) → rest.map ≡ v.map
+    → rest.cell ≡ v.cell → pending s.cells v ≡ pending s.cells rest → IsUnderWay s top A W C (front ++ rest ∷ [])
+way_alike s top A W C front v rest way map_is cell_is pending_is =
+    replaced s top A W C front v rest way map_is cell_is
     (λ layer q counts. (
       λ u. (
         u.0,
@@ -135,11 +135,11 @@ way_alike s top W C front v rest way map_is cell_is pending_is =
     (λ fit. subst (λ ps. PicksFit s.cells v.map ps) (sym pending_is) fit)
 
 -- a visit goes on with the next reference
-pub way_past : (s : Settled) (top : PlainCell Rings) (W : Square → Type 0) (C : Layer → Square → Type 0)
+pub way_past : (s : Settled) (top : PlainCell Rings) (A : Type 0) (W C : Layer → Square → Type 0)
     (front : List Visit) (v rest : Visit)
-    → IsUnderWay s top W C (front ++ v ∷ []) → IsPast s.cells v rest → IsUnderWay s top W C (front ++ rest ∷ [])
-way_past s top W C front v rest way past =
-    way_alike s top W C front v rest way past.map_is past.cell_is past.pending_is
+    → IsUnderWay s top A W C (front ++ v ∷ []) → IsPast s.cells v rest → IsUnderWay s top A W C (front ++ rest ∷ [])
+way_past s top A W C front v rest way past =
+    way_alike s top A W C front v rest way past.map_is past.cell_is past.pending_is
 
 -- picks fit if the first and the rest do
 picks_fit_cons : (cells : List (PlainCell Rings)) (m : Map) (p : Pick) (ps : List Pick)
@@ -167,14 +167,14 @@ into_fits cells v i m rest into under rest_fits =
     (picks_fit_cons cells v.map into.pick (pending cells rest) first rest_fits)
 
 -- a visit skips a pick that covers no square that counts and fits
-pub way_missed : (s : Settled) (top : PlainCell Rings) (W : Square → Type 0) (C : Layer → Square → Type 0)
+pub way_missed : (s : Settled) (top : PlainCell Rings) (A : Type 0) (W C : Layer → Square → Type 0)
     (front : List Visit) (v : Visit)
-    (i : ℕ) (m : Map) (rest : Visit) → IsUnderWay s top W C (front ++ v ∷ []) → (into : IsInto s.cells v i m rest)
+    (i : ℕ) (m : Map) (rest : Visit) → IsUnderWay s top A W C (front ++ v ∷ []) → (into : IsInto s.cells v i m rest)
     → FitsUnder s.cells m into.next
-    → ((layer : Layer) (q : Square) → W q → Under m q (CellCovers SomeCovers s.cells layer into.next) → ⊥)
-    → IsUnderWay s top W C (front ++ rest ∷ [])
-way_missed s top W C front v i m rest way into under none =
-    replaced s top W C front v rest way into.map_is into.cell_is
+    → ((layer : Layer) (q : Square) → W layer q → Under m q (CellCovers SomeCovers s.cells layer into.next) → ⊥)
+    → IsUnderWay s top A W C (front ++ rest ∷ [])
+way_missed s top A W C front v i m rest way into under none =
+    replaced s top A W C front v rest way into.map_is into.cell_is
     (λ layer q counts.
     let go = visit_into s.cells layer v i m rest q into in (
       λ u. elim (go.0 u) [ inl below ↦ absurd (none layer q counts below) | inr r ↦ r ],
@@ -201,14 +201,14 @@ begun_fits cells i m c at shift vertices each =
     (subst (PicksFit cells m) (pending_at cells (begun i m) c at ∙ picks_from_start c.references) each)
 
 -- the visit goes into a cell: the shapes of the cell are drawn, and a visit of it is put on the stack
-pub way_into : (s : Settled) (top : PlainCell Rings) (W : Square → Type 0) (C D : Layer → Square → Type 0)
+pub way_into : (s : Settled) (top : PlainCell Rings) (A : Type 0) (W C D : Layer → Square → Type 0)
     (front : List Visit) (v : Visit)
-    (i : ℕ) (m : Map) (rest : Visit) → IsUnderWay s top W C (front ++ v ∷ []) → (into : IsInto s.cells v i m rest)
-    → FitShapes m into.next.shapes
-    → ((layer : Layer) (q : Square) → W q
+    (i : ℕ) (m : Map) (rest : Visit) → IsUnderWay s top A W C (front ++ v ∷ []) → (into : IsInto s.cells v i m rest)
+    → (A → FitShapes m into.next.shapes)
+    → ((layer : Layer) (q : Square) → W layer q
     → D layer q ↔ (C layer q ⊎ Under m q (λ t. Any (ShapeCovers SomeCovers layer t) into.next.shapes)))
-    → IsUnderWay s top W D ((front ++ rest ∷ []) ++ begun i m ∷ [])
-way_into s top W C D front v i m rest way into vertices drawn =
+    → IsUnderWay s top A W D ((front ++ rest ∷ []) ++ begun i m ∷ [])
+way_into s top A W C D front v i m rest way into vertices drawn =
     let cells : List (PlainCell Rings) = s.cells in
     let c : PlainCell Rings = into.next in
     let child : Visit = begun i m in
@@ -257,13 +257,13 @@ way_into s top W C D front v i m rest way into vertices drawn =
                       ]
                 ]),
           );
-      fits = λ each.
+      fits = λ whole each.
           let under : FitsUnder cells m c =
-          begun_fits cells i m c into.there into.in_range vertices (each child (in_last lower child)) in
+          begun_fits cells i m c into.there into.in_range (vertices whole) (each child (in_last lower child)) in
           let rest_fits : PicksFit cells v.map (pending cells rest) =
           subst (λ (n : Map). PicksFit cells n (pending cells rest)) into.map_is
           (each rest (in_front lower child rest (in_last front rest))) in
-          way.fits
+          way.fits whole
           (λ u has.
           elim (Contains-push_cases front v u has) [
             | inl there ↦ each u (in_front lower child u (in_front front rest u there))
@@ -312,12 +312,12 @@ only v u (zero, below, same) P p = subst P same p
 only v u (suc k, below, same) P p = absurd (omega arith)
 
 -- the top is drawn, and a visit of it is put on the stack
-pub way_begins : (s : Settled) (c : PlainCell Rings) (W : Square → Type 0) (D : Layer → Square → Type 0)
-    → slice_get s.cells s.top ≡ Some c → FitShapes unmoved c.shapes
-    → ((layer : Layer) (q : Square) → W q
+pub way_begins : (s : Settled) (c : PlainCell Rings) (A : Type 0) (W D : Layer → Square → Type 0)
+    → slice_get s.cells s.top ≡ Some c → (A → FitShapes unmoved c.shapes)
+    → ((layer : Layer) (q : Square) → W layer q
     → D layer q ↔ Under unmoved q (λ t. Any (ShapeCovers SomeCovers layer t) c.shapes))
-    → IsUnderWay s c W D (begun s.top unmoved ∷ [])
-way_begins s c W D at vertices drawn =
+    → IsUnderWay s c A W D (begun s.top unmoved ∷ [])
+way_begins s c A W D at vertices drawn =
     let cells : List (PlainCell Rings) = s.cells in
     let child : Visit = begun s.top unmoved in
     record {
@@ -338,9 +338,9 @@ way_begins s c W D at vertices drawn =
                       [ inl far ↦ begin.1 (inr far) | inr nothing ↦ absurd (Any-nil V nothing) ]
                 ]),
           );
-      fits = λ each.
+      fits = λ whole each.
           let under : FitsUnder cells unmoved c =
-          begun_fits cells s.top unmoved c at fits_unmoved vertices (each child (0, omega arith, refl)) in
+          begun_fits cells s.top unmoved c at fits_unmoved (vertices whole) (each child (0, omega arith, refl)) in
           λ n m e chain. under n m e chain m (λ p. sym (image-unmoved (image m p)));
       visits =
           λ u has. only child u has (λ v. IsVisit cells c v)
@@ -348,10 +348,10 @@ way_begins s c W D at vertices drawn =
     }
 
 -- a visit whose next pick is out of range
-pub out_by_shift : (s : Settled) (top : PlainCell Rings) (W : Square → Type 0) (C : Layer → Square → Type 0)
+pub out_by_shift : (s : Settled) (top : PlainCell Rings) (A : Type 0) (W C : Layer → Square → Type 0)
     (front : List Visit) (v : Visit)
-    (i : ℕ) → IsUnderWay s top W C (front ++ v ∷ []) → (o : IsOut s.cells v i) → IsOutOfRange s o.next.name
-out_by_shift s top W C front v i way o =
+    (i : ℕ) → IsUnderWay s top A W C (front ++ v ∷ []) → (o : IsOut s.cells v i) → IsOutOfRange s o.next.name
+out_by_shift s top A W C front v i way o =
     let m : Map = composed v.map (placing o.pick.0 o.pick.1) in
     let old = way.visits v (in_last front v) in
     record {
@@ -368,11 +368,11 @@ out_by_shift s top W C front v i way o =
     }
 
 -- a cell whose placed vertices are out of range
-pub out_by_vertex : (s : Settled) (top : PlainCell Rings) (W : Square → Type 0) (C : Layer → Square → Type 0)
+pub out_by_vertex : (s : Settled) (top : PlainCell Rings) (A : Type 0) (W C : Layer → Square → Type 0)
     (front : List Visit) (v : Visit)
-    (i : ℕ) (m : Map) (rest : Visit) (name : List ℕ) → IsUnderWay s top W C (front ++ v ∷ [])
+    (i : ℕ) (m : Map) (rest : Visit) (name : List ℕ) → IsUnderWay s top A W C (front ++ v ∷ [])
     → IsInto s.cells v i m rest → IsCellOut s.cells i m name → IsOutOfRange s name
-out_by_vertex s top W C front v i m rest name way into o =
+out_by_vertex s top A W C front v i m rest name way into o =
     let old = way.visits v (in_last front v) in
     let both : Some o.cell ≡ Some into.next = sym o.there ∙ into.there in
     let one : o.cell ≡ into.next = cc in

@@ -1,15 +1,15 @@
 -- The walk within a window.
 use Rattle.std.proofs.Common.{◌≡◌, ◌≤◌, ◌<◌, ◌+◌, ◌-◌, Any, List, Option, Some, [], ap, arith, inl, inr, refl}
-use Rattle.std.proofs.Common.{subst, suc, sym, zero, ℕ, ◌++◌, ◌↔◌, ◌∙◌, ◌∷◌, ◌⊎◌}
+use Rattle.std.proofs.Common.{subst, suc, sym, zero, ℕ, ◌++◌, ◌↔◌, ◌∙◌, ◌∷◌, All, Contains, map}
 use Rattle.lvl_flat.specs.inside.Drawn.{RingPlacesCover, ShapePlacesCover, ShapesPlaceCover}
-use Rattle.lvl_flat.specs.inside.Walking.{AllHaveSheets, IsWalkingWithin, SheetsCover}
+use Rattle.lvl_flat.specs.inside.Walking.{AllListed, IsWalkingWithin, SheetsCover}
 use Rattle.lvl_grid.proofs.Anyone.{Any-nil}
 use Rattle.lvl_flat.specs.Boxes.{AreBoxes}
 use Rattle.lvl_flat.specs.inside.Bounds.{IsPlacedOutside}
-use Rattle.lvl_flat.specs.Sheets.{AreSorted, rings_on}
+use Rattle.lvl_flat.specs.Sheets.{AreSorted, HaveSheets, rings_on}
 use Rattle.lvl_flat.specs.declared.bounds.Bounds.{Bounds}
 use Rattle.lvl_grid.specs.Winding.{Covers, SomeCovers}
-use Rattle.lvl_flat.specs.Flattened.{FitShapes}
+use Rattle.lvl_flat.specs.Flattened.{FitShapes, IsOfPart}
 use Rattle.lvl_flat.specs.inside.Entering.{IsDrawnWithin, begun}
 use Rattle.lvl_flat.specs.inside.Steps.{IsInto, IsPast}
 use Rattle.lvl_grid.specs.Placed.{IsPlaceOfCovered, moved_square}
@@ -24,13 +24,12 @@ use Rattle.lvl_grid.specs.declared.point.Square.{Square}
 use Rattle.lvl_flat.proofs.Covering.{Under, back_and_there, there_and_back}
 use Rattle.lvl_flat.specs.declared.visit.Visit.{Visit}
 use Rattle.lvl_grid.specs.declared.point.Window.{Window}
-use Rattle.lvl_grid.specs.Clip.{IsWithin}
 use Rattle.lvl_grid.specs.Turn.{image_square}
-use Rattle.lvl_flat.proofs.Going.{layers_kept}
+use Rattle.lvl_flat.proofs.Listing.{cell_listed}
 use Rattle.lvl_flat.proofs.Outside.{outside_covers, outside_fits}
 use Rattle.lvl_flat.specs.inside.Visits.{pending}
 use Rattle.std.specs.List.{slice_get}
-use Rattle.lvl_flat.proofs.Drawing.{sorted_alike}
+use Rattle.lvl_flat.proofs.Drawing.{layer_of, sorted_alike}
 use Rattle.lvl_cells.specs.Chains.{unmoved}
 use Rattle.lvl_flat.proofs.UnderWay.{way_alike, way_begins, way_done, way_into, way_missed, way_past}
 use Rattle.lvl_flat.proofs.Stepping.{pending_alike}
@@ -86,127 +85,140 @@ shapes_place layer m q shapes = (
       (a.0, a.1, a.2, a.3, (a.4.0, (shape_place m q a.1).1 (u.0, u.1, a.4.1))),
 )
 
-pub window_done : (s : Settled) (window : Window) (sheets : List PlainSheet) (front : List Visit) (v : Visit)
-    → IsWalkingWithin s window sheets (front ++ v ∷ []) → pending s.cells v ≡ []
-    → IsWalkingWithin s window sheets front
-window_done s window sheets front v w none = record {
+pub window_done : (s : Settled) (layers : List Layer) (window : Window) (sheets : List PlainSheet) (front : List Visit) (v : Visit)
+    → IsWalkingWithin s layers window sheets (front ++ v ∷ []) → pending s.cells v ≡ []
+    → IsWalkingWithin s layers window sheets front
+window_done s layers window sheets front v w none = record {
   top = w.top;
-  way = way_done s w.top (IsWithin window) (SheetsCover sheets) front v w.way none;
+  way = way_done s w.top (AllListed layers s.cells) (IsOfPart layers window) (SheetsCover sheets) front v w.way none;
   sorted = w.sorted;
-  layers = w.layers;
+  layers_are = w.layers_are;
   within = w.within;
 }
 
-pub window_past : (s : Settled) (window : Window) (sheets : List PlainSheet) (front : List Visit) (v rest : Visit)
-    → IsWalkingWithin s window sheets (front ++ v ∷ []) → IsPast s.cells v rest
-    → IsWalkingWithin s window sheets (front ++ rest ∷ [])
-window_past s window sheets front v rest w past = record {
+pub window_past : (s : Settled) (layers : List Layer) (window : Window) (sheets : List PlainSheet) (front : List Visit) (v rest : Visit)
+    → IsWalkingWithin s layers window sheets (front ++ v ∷ []) → IsPast s.cells v rest
+    → IsWalkingWithin s layers window sheets (front ++ rest ∷ [])
+window_past s layers window sheets front v rest w past = record {
   top = w.top;
-  way = way_past s w.top (IsWithin window) (SheetsCover sheets) front v rest w.way past;
+  way = way_past s w.top (AllListed layers s.cells) (IsOfPart layers window) (SheetsCover sheets) front v rest w.way past;
   sorted = w.sorted;
-  layers = w.layers;
+  layers_are = w.layers_are;
   within = w.within;
 }
 
 -- a cell whose placed box is outside of the window is skipped
-pub window_missed : (s : Settled) (known : List (Option Bounds)) (window : Window) (sheets : List PlainSheet)
+pub window_missed : (s : Settled) (known : List (Option Bounds)) (layers : List Layer) (window : Window) (sheets : List PlainSheet)
     (front : List Visit) (v : Visit) (i : ℕ) (m : Map) (rest : Visit) → AreBoxes s.cells known
-    → IsWalkingWithin s window sheets (front ++ v ∷ []) → IsInto s.cells v i m rest
-    → IsPlacedOutside known i m window → IsWalkingWithin s window sheets (front ++ rest ∷ [])
-window_missed s known window sheets front v i m rest boxes w into out = record {
+    → IsWalkingWithin s layers window sheets (front ++ v ∷ []) → IsInto s.cells v i m rest
+    → IsPlacedOutside known i m window → IsWalkingWithin s layers window sheets (front ++ rest ∷ [])
+window_missed s known layers window sheets front v i m rest boxes w into out = record {
   top = w.top;
   way =
-      way_missed s w.top (IsWithin window) (SheetsCover sheets) front v i m rest w.way into
+      way_missed s w.top (AllListed layers s.cells) (IsOfPart layers window) (SheetsCover sheets) front v i m rest w.way into
       (outside_fits s.cells known i m window into.next boxes into.there out)
-      (outside_covers s.cells known i m window into.next boxes into.there out);
+      (λ layer q part. outside_covers s.cells known i m window into.next boxes into.there out layer q part.1);
   sorted = w.sorted;
-  layers = w.layers;
+  layers_are = w.layers_are;
   within = w.within;
 }
 
 -- and so is a run of such places
-runs_on : (s : Settled) (known : List (Option Bounds)) (window : Window) (sheets : List PlainSheet)
+runs_on : (s : Settled) (known : List (Option Bounds)) (layers : List Layer) (window : Window) (sheets : List PlainSheet)
     (front : List Visit) (u : Visit) (place n : ℕ) → AreBoxes s.cells known
-    → IsWalkingWithin s window sheets (front ++ at_place u place ∷ [])
+    → IsWalkingWithin s layers window sheets (front ++ at_place u place ∷ [])
     → ((k : ℕ) → place ≤ k → k < place + n → IsMissedAt s.cells known window u k)
-    → IsWalkingWithin s window sheets (front ++ at_place u (place + n) ∷ [])
-runs_on s known window sheets front u place zero boxes w missed =
+    → IsWalkingWithin s layers window sheets (front ++ at_place u (place + n) ∷ [])
+runs_on s known layers window sheets front u place zero boxes w missed =
     let none : place ≡ place + 0 = omega arith in
-    subst (λ k. IsWalkingWithin s window sheets (front ++ at_place u k ∷ [])) none w
-runs_on s known window sheets front u place (suc n) boxes w missed =
-    let before = runs_on s known window sheets front u place n boxes w (λ k l b. missed k l (omega (arith, b))) in
+    subst (λ k. IsWalkingWithin s layers window sheets (front ++ at_place u k ∷ [])) none w
+runs_on s known layers window sheets front u place (suc n) boxes w missed =
+    let before = runs_on s known layers window sheets front u place n boxes w (λ k l b. missed k l (omega (arith, b))) in
     let at = missed (place + n) (omega arith) (omega arith) in
     let one : place + n + 1 ≡ place + suc n = omega arith in
-    subst (λ k. IsWalkingWithin s window sheets (front ++ at_place u k ∷ [])) one
-    (window_missed s known window sheets front (at_place u (place + n)) at.index at.map
+    subst (λ k. IsWalkingWithin s layers window sheets (front ++ at_place u k ∷ [])) one
+    (window_missed s known layers window sheets front (at_place u (place + n)) at.index at.map
     (at_place u (place + n + 1)) boxes before at.into at.out)
 
-pub window_passed : (s : Settled) (known : List (Option Bounds)) (window : Window) (sheets : List PlainSheet)
+pub window_passed : (s : Settled) (known : List (Option Bounds)) (layers : List Layer) (window : Window) (sheets : List PlainSheet)
     (front : List Visit) (v u : Visit) → AreBoxes s.cells known
-    → IsWalkingWithin s window sheets (front ++ v ∷ []) → IsPassedBy s.cells known window v u
-    → IsWalkingWithin s window sheets (front ++ u ∷ [])
-window_passed s known window sheets front v u boxes w passed =
+    → IsWalkingWithin s layers window sheets (front ++ v ∷ []) → IsPassedBy s.cells known window v u
+    → IsWalkingWithin s layers window sheets (front ++ u ∷ [])
+window_passed s known layers window sheets front v u boxes w passed =
     let start : Visit = at_place u v.place in
     let same : pending s.cells v ≡ pending s.cells start =
     pending_alike s.cells start v passed.cell_is passed.reference_is refl in
-    let begins : IsWalkingWithin s window sheets (front ++ start ∷ []) = record {
+    let begins : IsWalkingWithin s layers window sheets (front ++ start ∷ []) = record {
       top = w.top;
       way =
-          way_alike s w.top (IsWithin window) (SheetsCover sheets) front v start w.way passed.map_is passed.cell_is
+          way_alike s w.top (AllListed layers s.cells) (IsOfPart layers window) (SheetsCover sheets) front v start w.way passed.map_is passed.cell_is
           same;
       sorted = w.sorted;
-      layers = w.layers;
+      layers_are = w.layers_are;
       within = w.within;
     } in
     let ends : v.place + (u.place - v.place) ≡ u.place = omega (arith, passed.on) in
-    subst (λ k. IsWalkingWithin s window sheets (front ++ at_place u k ∷ [])) ends
-    (runs_on s known window sheets front u v.place (u.place - v.place) boxes begins
+    subst (λ k. IsWalkingWithin s layers window sheets (front ++ at_place u k ∷ [])) ends
+    (runs_on s known layers window sheets front u v.place (u.place - v.place) boxes begins
     (λ k l b. passed.missed k l (omega (arith, b, ends))))
 
--- if squares of the window are added to others of them, all are squares of the window
-still_within : (window : Window) (layer : Layer) (m : Map) (shapes : List (PlainShape Rings))
-    (old new : List PlainSheet)
-    → ((q : Square) → SomeCovers (rings_on layer new) q
-    ↔ (SomeCovers (rings_on layer old) q ⊎ (IsWithin window q × ShapesPlaceCover layer m q shapes)))
-    → ((q : Square) → SheetsCover old layer q → IsWithin window q) → (q : Square) → SheetsCover new layer q
-    → IsWithin window q
-still_within window layer m shapes old new covers before q a =
-    elim ((covers q).0 a) [ inl b ↦ before q b | inr b ↦ b.0 ]
+-- if squares of the part are added to others of it, all are squares of the part
+still_within : (s : Settled) (i : ℕ) (m : Map) (layers : List Layer) (window : Window) (old new : List PlainSheet)
+    → map layer_of old ≡ layers → IsDrawnWithin s.cells i m window old new
+    → ((layer : Layer) (q : Square) → SheetsCover old layer q → IsOfPart layers window layer q) → (layer : Layer)
+    (q : Square) → SheetsCover new layer q → IsOfPart layers window layer q
+still_within s i m layers window old new are d before layer q a =
+    elim ((d.covers layer q).0 a) [
+      | inl b ↦ before layer q b
+      | inr b ↦ subst (λ ls. IsOfPart ls window layer q) are b.0
+    ]
 
-pub window_into : (s : Settled) (window : Window) (sheets new : List PlainSheet) (front : List Visit) (v : Visit)
-    (i : ℕ) (m : Map) (rest : Visit) → IsWalkingWithin s window sheets (front ++ v ∷ [])
-    → IsInto s.cells v i m rest → IsDrawnWithin s.cells i m window sheets new
-    → IsWalkingWithin s window new ((front ++ rest ∷ []) ++ begun i m ∷ [])
-window_into s window sheets new front v i m rest w into d =
+-- if every shape is on a Layer of the list, the shapes of a cell have sheets
+all_there : (cells : List (PlainCell Rings)) (layers : List Layer) (sheets : List PlainSheet) (i : ℕ)
+    (c : PlainCell Rings) → slice_get cells i ≡ Some c → map layer_of sheets ≡ layers → AllListed layers cells
+    → HaveSheets sheets c.shapes
+all_there cells layers sheets i c at are listed =
+    subst (λ ls. All (λ h. Contains ls h.layer) c.shapes) (sym are) (cell_listed layers cells i c listed at)
+
+pub window_into : (s : Settled) (layers : List Layer) (window : Window) (sheets new : List PlainSheet)
+    (front : List Visit) (v : Visit) (i : ℕ) (m : Map) (rest : Visit)
+    → IsWalkingWithin s layers window sheets (front ++ v ∷ []) → IsInto s.cells v i m rest
+    → IsDrawnWithin s.cells i m window sheets new
+    → IsWalkingWithin s layers window new ((front ++ rest ∷ []) ++ begun i m ∷ [])
+window_into s layers window sheets new front v i m rest w into d =
     let both : Some d.cell ≡ Some into.next = sym d.there ∙ into.there in
     let one : d.cell ≡ into.next = cc in
     let shapes : d.cell.shapes ≡ into.next.shapes = ap (λ (b : PlainCell Rings). b.shapes) one in
     record {
       top = w.top;
       way =
-          way_into s w.top (IsWithin window) (SheetsCover sheets) (SheetsCover new) front v i m rest w.way into
-          (subst (FitShapes m) shapes d.fits)
+          way_into s w.top (AllListed layers s.cells) (IsOfPart layers window) (SheetsCover sheets) (SheetsCover new)
+          front v i m rest w.way into
+          (λ listed. subst (FitShapes m) shapes
+          (d.fits (all_there s.cells layers sheets i d.cell d.there w.layers_are listed)))
           (λ layer q counts.
           let drawn = d.covers layer q in
           let place = shapes_place layer m q d.cell.shapes in
+          let part = subst (λ ls. IsOfPart ls window layer q) (sym w.layers_are) counts in
           let P : List (PlainShape Rings) → Type 0 =
           λ hs. Under m q (λ t. Any (ShapeCovers SomeCovers layer t) hs) in (
             λ a. elim (drawn.0 a) [ inl b ↦ inl b | inr b ↦ inr (subst P shapes (place.0 b.1)) ],
             λ e. drawn.1 (elim e [
               | inl b ↦ inl b
-              | inr b ↦ inr (counts, place.1 (subst P (sym shapes) b))
+              | inr b ↦ inr (part, place.1 (subst P (sym shapes) b))
             ]),
           ));
       sorted = sorted_alike new sheets d.layers w.sorted;
-      layers = layers_kept s.cells sheets new d.layers w.layers;
-      within = λ layer. still_within window layer m d.cell.shapes sheets new (d.covers layer) (w.within layer);
+      layers_are = d.layers ∙ w.layers_are;
+      within = still_within s i m layers window sheets new w.layers_are d w.within;
     }
 
-pub window_begins : (s : Settled) (window : Window) (c : PlainCell Rings) (empty new : List PlainSheet)
-    → slice_get s.cells s.top ≡ Some c → AreSorted empty → AllHaveSheets empty s.cells
-    → ((layer : Layer) → rings_on layer empty ≡ []) → IsDrawnWithin s.cells s.top unmoved window empty new
-    → IsWalkingWithin s window new (begun s.top unmoved ∷ [])
-window_begins s window c empty new at sorted have none d =
+pub window_begins : (s : Settled) (layers : List Layer) (window : Window) (c : PlainCell Rings)
+    (empty new : List PlainSheet) → slice_get s.cells s.top ≡ Some c → AreSorted empty
+    → map layer_of empty ≡ layers → ((layer : Layer) → rings_on layer empty ≡ [])
+    → IsDrawnWithin s.cells s.top unmoved window empty new
+    → IsWalkingWithin s layers window new (begun s.top unmoved ∷ [])
+window_begins s layers window c empty new at sorted are none d =
     let both : Some d.cell ≡ Some c = sym d.there ∙ at in
     let one : d.cell ≡ c = cc in
     let shapes : d.cell.shapes ≡ c.shapes = ap (λ (b : PlainCell Rings). b.shapes) one in
@@ -215,18 +227,20 @@ window_begins s window c empty new at sorted have none d =
     record {
       top = c;
       way =
-          way_begins s c (IsWithin window) (SheetsCover new) at (subst (FitShapes unmoved) shapes d.fits)
+          way_begins s c (AllListed layers s.cells) (IsOfPart layers window) (SheetsCover new) at
+          (λ listed. subst (FitShapes unmoved) shapes
+          (d.fits (all_there s.cells layers empty s.top d.cell d.there are listed)))
           (λ layer q counts.
           let drawn = d.covers layer q in
           let place = shapes_place layer unmoved q d.cell.shapes in
+          let part = subst (λ ls. IsOfPart ls window layer q) (sym are) counts in
           let P : List (PlainShape Rings) → Type 0 =
           λ hs. Under unmoved q (λ t. Any (ShapeCovers SomeCovers layer t) hs) in (
             λ a. elim (drawn.0 a) [ inl b ↦ absurd (nothing layer q b) | inr b ↦ subst P shapes (place.0 b.1) ],
-            λ b. drawn.1 (inr (counts, place.1 (subst P (sym shapes) b))),
+            λ b. drawn.1 (inr (part, place.1 (subst P (sym shapes) b))),
           ));
       sorted = sorted_alike new empty d.layers sorted;
-      layers = layers_kept s.cells empty new d.layers have;
-      within = λ layer.
-          still_within window layer unmoved d.cell.shapes empty new (d.covers layer)
-          (λ q a. absurd (nothing layer q a));
+      layers_are = d.layers ∙ are;
+      within =
+          still_within s s.top unmoved layers window empty new are d (λ layer q a. absurd (nothing layer q a));
     }

@@ -1,5 +1,5 @@
 -- What flattening returns, and when it is refused (own rules).
-use Rattle.std.specs.Prelude.{◌≡◌, ◌↔◌, ℕ, List, length, slice_get, Some, All, IfSome, IsSomeAnd}
+use Rattle.std.specs.Prelude.{◌≡◌, ◌↔◌, ℕ, List, length, slice_get, Some, All, Contains, IfSome, IsSomeAnd}
 use Rattle.lvl_grid.specs.declared.map.Map.{Map}
 use Rattle.lvl_grid.specs.declared.point.Point.{Point}
 use Rattle.lvl_grid.specs.declared.point.Square.{Square}
@@ -52,13 +52,18 @@ pub record IsFlattened (s : Settled) (sheets : List PlainSheet) : Type 0 where
   pub count : AreAsMany s.cells top sheets
   pub in_range : AllInRange s.cells top
 
--- on each Layer the rings cover exactly the squares of the window that the top covers, and all that the top places, in
--- the window or not, is in range
-pub record IsFlattenedWithin (s : Settled) (window : Window) (sheets : List PlainSheet) : Type 0 where
+-- the Layer is in the list, and the square in the window
+abbrev pub IsOfPart : List Layer → Window → Layer → Square → Type 0
+IsOfPart layers window layer q = Contains layers layer × IsWithin window q
+
+-- on each Layer of the list the rings cover exactly the squares of the window that the top covers, and on other Layers
+-- none; all that the top places, in the window or not, is in range
+pub record IsFlattenedWithin (s : Settled) (layers : List Layer) (window : Window) (sheets : List PlainSheet)
+    : Type 0 where
   pub top : PlainCell Rings
   pub is_top : slice_get s.cells s.top ≡ Some top
   pub covers : (layer : Layer) (q : Square) → SomeCovers (rings_on layer sheets) q
-      ↔ (IsWithin window q × CellCovers SomeCovers s.cells layer top q)
+      ↔ (IsOfPart layers window layer q × CellCovers SomeCovers s.cells layer top q)
   pub in_range : AllInRange s.cells top
 
 -- some chain from the top leads to a cell of that name, and the cell is out of range where the chain places it

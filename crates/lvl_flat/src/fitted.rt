@@ -1,23 +1,26 @@
 //! Libraries whose top places nothing outside 64 bits.
-ghost use Rattle.std.specs.Prelude.{◌≡◌, IfOk, IfErr, IfSome};
+ghost use Rattle.std.specs.Prelude.{◌≡◌, AllPairs, Contains, IfOk, IfErr, IfSome};
 ghost use Rattle.lvl_grid.specs.declared.point.Square.{Square as GridSquare};
 ghost use Rattle.lvl_grid.specs.Clip.{IsWithin};
 ghost use Rattle.lvl_names.specs.declared.layer.Layer.{Layer as PlainLayer};
+ghost use Rattle.lvl_names.specs.Layers.{ComesBefore};
 ghost use Rattle.lvl_flat.specs.Flattened.{CoversAt, IsFlattenedWithin, IsFlatFault, IsTopInRange, TopCovers};
 ghost use Rattle.lvl_refusal.specs.Refused.{Says};
 
 use crate::boxes::Boxes;
 use crate::fault::FlatFault;
 use crate::flat::Flat;
+use crate::layers::layers_of;
 use crate::windowed::{check_range, flatten_within};
 use lvl_cells::Checked;
 use lvl_grid::Window;
+use lvl_names::Layer;
 use lvl_refusal::Cause;
 use std::alloc::{AllocError, Global};
 use std::marker::Model;
 
 /// A checked library whose top places nothing outside 64 signed bits, with the box of each of its
-/// cells. It can be flattened window by window.
+/// cells. Some of its Layers can be flattened in a window.
 #[derive(Debug, Drop)]
 pub struct Fitted {
     checked: Checked,
@@ -75,15 +78,33 @@ impl Fitted {
         self.boxes.extent_of(&self.checked, cell)
     }
 
-    /// The rings of each Layer that the top places, clipped to a window.
-    ///
-    /// On each Layer the rings together cover exactly the squares of the window that the top covers
-    /// there through all references. Only what is drawn in the window takes memory. If the rings
-    /// would have more than `most` points, that is reported as out of memory.
-    pub fn within(&self, alloc: Global, window: &Window, most: usize) -> Result<Flat, AllocError>
-        ensures { IfOk result (IsFlattenedWithin self.now window.now) }
+    /// The Layers of all shapes of all cells, in their order, without duplicates. The top draws on
+    /// no others.
+    pub fn layers(&self, alloc: Global) -> Result<Vec<Layer>, AllocError>
+        ensures rising { IfOk result (λ layers. AllPairs ComesBefore layers.items) }
+        ensures all { IfOk result (λ layers. (layer : PlainLayer) (s : GridSquare)
+            → TopCovers self.now layer s → Contains layers.items layer) }
     {
-        match flatten_within(alloc, &self.checked, &self.boxes, window, most) {
+        layers_of(alloc, self.checked.cells())
+    }
+
+    /// The rings that the top places on each Layer of a list, clipped to a window.
+    ///
+    /// On each of these Layers the rings together cover exactly the squares of the window that the
+    /// top covers there through all references. The Layers must be in their order, without
+    /// duplicates. Only what is drawn on them in the window takes memory. If the rings would have
+    /// more than `most` points, that is reported as out of memory.
+    pub fn within(
+        &self,
+        alloc: Global,
+        layers: &[Layer],
+        window: &Window,
+        most: usize,
+    ) -> Result<Flat, AllocError>
+        requires { AllPairs ComesBefore layers.now }
+        ensures { IfOk result (IsFlattenedWithin self.now layers.now window.now) }
+    {
+        match flatten_within(alloc, &self.checked, &self.boxes, layers, window, most) {
             Ok(flat) => Ok(flat),
             Err(Cause::OutOfMemory) => Err(AllocError),
             Err(Cause::Breach(_)) => unreachable!(),

@@ -1,10 +1,11 @@
-//! Flattening within a window: what doesn't reach into it is skipped.
-ghost use Rattle.std.specs.Prelude.{◌≡◌, ◌<◌, ◌++◌, ◌∷◌, [], length, IfOk, IfErr, OnOk};
+//! Flattening of some Layers within a window: what doesn't reach into it is skipped.
+ghost use Rattle.std.specs.Prelude.{◌≡◌, ◌<◌, ◌++◌, ◌∷◌, ◌⊎◌, [], length, map, AllPairs, IfOk, IfErr, OnOk};
+ghost use Rattle.lvl_names.specs.Layers.{ComesBefore};
 ghost use Rattle.lvl_flat.specs.Flattened.{IsFlattenedWithin, IsFlatFault, IsTopInRange};
 ghost use Rattle.lvl_flat.specs.Sheets.{AreSorted};
 ghost use Rattle.lvl_flat.specs.Boxes.{AreBoxes};
 ghost use Rattle.lvl_flat.specs.inside.Entering.{IsDrawnWithin, IsEnterFault};
-ghost use Rattle.lvl_flat.specs.inside.Walking.{AllHaveSheets, IsWalkingWithin, work};
+ghost use Rattle.lvl_flat.specs.inside.Walking.{AllListed, IsWalkingWithin, work};
 ghost use Rattle.lvl_refusal.specs.Refused.{Says};
 
 use crate::advance::UNMOVED;
@@ -12,13 +13,14 @@ use crate::boxes::Boxes;
 use crate::enter::{out_of_range, push_visit};
 use crate::fault::FlatFault;
 use crate::flat::{Flat, Sheet};
-use crate::layers::sheets_of;
+use crate::layers::{empty_sheets, layers_of};
 use crate::passing::pass_by;
 use crate::visit::Visit;
 use crate::walk::{Step, next_step};
 use crate::within::{Room, draw_shapes_within};
 use lvl_cells::{Cell, Checked};
 use lvl_grid::{Map, PlaceFault, Window};
+use lvl_names::Layer;
 use lvl_refusal::Cause;
 use std::alloc::Global;
 
@@ -33,7 +35,6 @@ fn draw_cell_within(
 ) -> Result<(), Cause<FlatFault>>
     requires there { index < length cells.now }
     requires sorted { AreSorted sheets.old.items }
-    requires layers { AllHaveSheets sheets.old.items cells.now }
     ensures drawn { OnOk result
         (IsDrawnWithin cells.now index map.now window.now sheets.old.items sheets.new.items) }
     ensures err { IfErr result (λ refusal. Says refusal (IsEnterFault cells.now index map.now)) }
@@ -58,8 +59,10 @@ fn advance_within(
     visit: Visit,
 ) -> Result<(), Cause<FlatFault>>
     requires boxes { AreBoxes checked.now.cells boxes.now }
-    requires walking { IsWalkingWithin checked.now window.now sheets.old.items (stack.old.items ++ visit ∷ []) }
-    ensures walking { OnOk result (IsWalkingWithin checked.now window.now sheets.new.items stack.new.items) }
+    requires walking { IsWalkingWithin checked.now (map (λ s. s.layer) sheets.old.items) window.now sheets.old.items
+        (stack.old.items ++ visit ∷ []) }
+    ensures walking { OnOk result (IsWalkingWithin checked.now (map (λ s. s.layer) sheets.old.items) window.now
+        sheets.new.items stack.new.items) }
     ensures nearer { OnOk result
         (work checked.now.cells stack.new.items < work checked.now.cells (stack.old.items ++ visit ∷ [])) }
     ensures err { IfErr result (λ refusal. Says refusal (IsFlatFault checked.now)) }
@@ -84,29 +87,33 @@ fn advance_within(
     }
 }
 
-/// The rings of each Layer that the top places, clipped to a window.
+/// The rings that the top places on each of the Layers, clipped to a window.
 ///
-/// On each Layer the rings together cover exactly the squares of the window that the top covers
-/// there through all references. What a cell places is skipped if its box shows that it doesn't
-/// reach into the window, so only what is drawn in the window takes memory. A layout that
+/// On each of these Layers the rings together cover exactly the squares of the window that the top
+/// covers there through all references. What a cell places is skipped if its box shows that it
+/// doesn't reach into the window, so only what is drawn in the window takes memory. The layout must
+/// be in range, or the Layers must be those of all its shapes: then a layout that
 /// [`flatten`](crate::flatten) refuses is refused, whatever the window. If the rings would have
 /// more than `most` points, that is reported as out of memory.
 pub(crate) fn flatten_within(
     alloc: Global,
     checked: &Checked,
     boxes: &Boxes,
+    layers: &[Layer],
     window: &Window,
     most: usize,
 ) -> Result<Flat, Cause<FlatFault>>
-    requires { AreBoxes checked.now.cells boxes.now }
-    ensures ok { IfOk result (IsFlattenedWithin checked.now window.now) }
+    requires boxes { AreBoxes checked.now.cells boxes.now }
+    requires rising { AllPairs ComesBefore layers.now }
+    requires fits { IsTopInRange checked.now ⊎ AllListed layers.now checked.now.cells }
+    ensures ok { IfOk result (IsFlattenedWithin checked.now layers.now window.now) }
     ensures err { IfErr result (λ refusal. Says refusal (IsFlatFault checked.now)) }
 {
     let mut room = Room {
         alloc,
         points: most,
     };
-    let mut sheets = sheets_of(alloc, checked.cells())?;
+    let mut sheets = empty_sheets(alloc, layers)?;
     let top = checked.top();
     draw_cell_within(
         &mut room,
@@ -152,6 +159,7 @@ pub(crate) fn check_range(
         x1: 0,
         y1: 0,
     };
-    let _nothing = flatten_within(alloc, checked, boxes, &nowhere, 0)?;
+    let layers = layers_of(alloc, checked.cells())?;
+    let _nothing = flatten_within(alloc, checked, boxes, &layers, &nowhere, 0)?;
     Ok(())
 }

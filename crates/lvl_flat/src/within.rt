@@ -7,7 +7,7 @@ ghost use Rattle.lvl_grid.specs.Placed.{placed_point, IsPlaceOfCovered};
 ghost use Rattle.lvl_grid.specs.Winding.{IsRing, SomeCovers};
 ghost use Rattle.lvl_names.specs.declared.layer.Layer.{Layer as PlainLayer};
 ghost use Rattle.lvl_cells.specs.Cells.{shape_at};
-ghost use Rattle.lvl_flat.specs.Flattened.{FitsRing, FitShapes};
+ghost use Rattle.lvl_flat.specs.Flattened.{FitsRing, FitShapes, IsOfPart};
 ghost use Rattle.lvl_flat.specs.Sheets.{rings_on, AreSorted, HaveSheets};
 ghost use Rattle.lvl_flat.specs.Boxes.{IsWithin, Fits};
 ghost use Rattle.lvl_flat.specs.inside.Drawn.{FitsAtEach, RingPlacesCover, ShapePlacesCover, ShapesPlaceCover};
@@ -251,7 +251,7 @@ fn draw_shape(
 }
 
 /// Appends the shapes of a cell, placed by the map and clipped to the window, each to the sheet of
-/// its Layer.
+/// its Layer. A shape whose Layer has no sheet is skipped.
 pub(crate) fn draw_shapes_within(
     room: &mut Room,
     sheets: &mut Vec<Sheet>,
@@ -259,22 +259,21 @@ pub(crate) fn draw_shapes_within(
     map: &Map,
     window: &Window,
 ) -> Result<(), PlaceFault>
-    requires sorted { AreSorted sheets.old.items }
-    requires layers { HaveSheets sheets.old.items shapes.now }
+    requires { AreSorted sheets.old.items }
     ensures covers { OnOk result ((layer : PlainLayer) (q : GridSquare) → SomeCovers (rings_on layer sheets.new.items) q
         ↔ (SomeCovers (rings_on layer sheets.old.items) q
-        ⊎ (IsInWindow window.now q × ShapesPlaceCover layer map.now q shapes.now))) }
-    ensures fits { OnOk result (FitShapes map.now shapes.now) }
+        ⊎ (IsOfPart (list_map (λ s. s.layer) sheets.old.items) window.now layer q
+        × ShapesPlaceCover layer map.now q shapes.now))) }
+    ensures fits { OnOk result (HaveSheets sheets.old.items shapes.now → FitShapes map.now shapes.now) }
     ensures out { result ≡ Err PlaceFault.OutOfRange → ¬ FitShapes map.now shapes.now }
     ensures layers_stay { OnOk result
         (list_map (λ s. s.layer) sheets.new.items ≡ list_map (λ s. s.layer) sheets.old.items) }
 {
     for i in 0..shapes.len() {
-        let Some(place) = place_of(sheets, shapes.layer(i)) else {
-            unreachable!()
-        };
-        let sheet = &mut sheets[place];
-        draw_shape(room, &mut sheet.rings, shapes, i, map, window)?;
+        if let Some(place) = place_of(sheets, shapes.layer(i)) {
+            let sheet = &mut sheets[place];
+            draw_shape(room, &mut sheet.rings, shapes, i, map, window)?;
+        }
     }
     Ok(())
 }

@@ -1,5 +1,5 @@
 -- The first difference of two layouts within a part of the grid.
-use Rattle.std.specs.Prelude.{◌≡◌, ◌↔◌, ◌⊎◌, ◌<ℤ◌, ℤ, List, Option, Some, None}
+use Rattle.std.specs.Prelude.{◌≡◌, ◌↔◌, ◌⊎◌, ◌<ℤ◌, ◌+ℤ◌, ℤ, pos, List, Option, Some, None, IfSome}
 use Rattle.std.specs.Int.{int_min, int_max}
 use Rattle.lvl_grid.specs.declared.point.Square.{Square}
 use Rattle.lvl_grid.specs.declared.point.Window.{Window}
@@ -22,16 +22,37 @@ Found = Layer × Square × Side
 abbrev pub Precedes : Layer → Square → Layer → Square → Type 0
 Precedes l s layer square = ComesBefore l layer ⊎ ((l ≡ layer) × IsBefore s square)
 
+-- which squares of which Layers are compared
+abbrev pub Part : Type 1
+Part = Layer → Square → Type 0
+
 -- the first difference of two layouts, among the squares of the part
-pub record IsFirstIn (a b : Draws) (part : Square → Type 0) (at : Found) : Type 0 where
-  pub shown : part at.1
+pub record IsFirstIn (a b : Draws) (part : Part) (at : Found) : Type 0 where
+  pub shown : part at.0 at.1
   pub alone : IsAlone (a at.0) (b at.0) at.1 at.2
-  pub least : (l : Layer) (s : Square) → part s → Precedes l s at.0 at.1 → a l s ↔ b l s
+  pub least : (l : Layer) (s : Square) → part l s → Precedes l s at.0 at.1 → a l s ↔ b l s
 
 -- what is found in a part: the first difference, or None if both draw the same squares of it
-abbrev pub IsFoundIn : Draws → Draws → (Square → Type 0) → Option Found → Type 0
-IsFoundIn a b part None = (l : Layer) (s : Square) → part s → a l s ↔ b l s
+abbrev pub IsFoundIn : Draws → Draws → Part → Option Found → Type 0
+IsFoundIn a b part None = (l : Layer) (s : Square) → part l s → a l s ↔ b l s
 IsFoundIn a b part (Some at) = IsFirstIn a b part at
+
+-- the square comes before what is known, or nothing is known
+abbrev pub IsOpen : Option Found → Layer → Square → Type 0
+IsOpen None l s = Unit {0}
+IsOpen (Some at) l s = Precedes l s at.0 at.1
+
+-- a difference of the part that comes before what is known
+pub record IsNew (a b : Draws) (part : Part) (known : Option Found) (at : Found) : Type 0 where
+  pub shown : part at.0 at.1
+  pub alone : IsAlone (a at.0) (b at.0) at.1 at.2
+  pub early : IsOpen known at.0 at.1
+
+-- what is found is what is known, or a new difference of the part; both draw the same squares of the part before it
+pub record IsImproved (a b : Draws) (part : Part) (known found : Option Found) : Type 0 where
+  pub alike : (l : Layer) (s : Square) → part l s → IsOpen found l s → a l s ↔ b l s
+  pub new : IfSome found (λ at. (known ≡ Some at) ⊎ IsNew a b part known at)
+  pub kept : found ≡ None → known ≡ None
 
 -- the lesser of two differences, or the only one that there is
 abbrev pub IsLeast : Option Found → Option Found → Option Found → Type 0
@@ -40,9 +61,13 @@ IsLeast (Some x) None result = result ≡ Some x
 IsLeast (Some x) (Some y) result = ((result ≡ Some x) × (¬ Precedes y.0 y.1 x.0 x.1))
     ⊎ ((result ≡ Some y) × Precedes y.0 y.1 x.0 x.1)
 
--- the flat layout covers exactly the squares of the window that the layout draws
-abbrev pub ShowsOf : Draws → Window → List PlainSheet → Type 0
-ShowsOf a w f = (l : Layer) (q : Square) → SomeCovers (rings_on l f) q ↔ (IsWithin w q × a l q)
+-- the flat layout covers exactly the squares of the part that the layout draws
+abbrev pub ShowsOf : Draws → Part → List PlainSheet → Type 0
+ShowsOf a part f = (l : Layer) (q : Square) → SomeCovers (rings_on l f) q ↔ (part l q × a l q)
+
+-- squares for which W holds, on every Layer
+abbrev pub everywhere : (Square → Type 0) → Part
+everywhere W l q = W q
 
 -- the window has the square, and it is left of the abscissa
 abbrev pub IsLeftIn : Window → ℤ → Square → Type 0
@@ -55,6 +80,10 @@ from_on x w = record { x0 = x; y0 = w.y0; x1 = w.x1; y1 = w.y1 }
 -- the part of a window up to an abscissa, which is excluded
 abbrev pub up_to : ℤ → Window → Window
 up_to x w = record { x0 = w.x0; y0 = w.y0; x1 = x; y1 = w.y1 }
+
+-- the rows of a window up to this one
+abbrev pub rows_to : ℤ → Window → Window
+rows_to y w = record { x0 = w.x0; y0 = w.y0; x1 = w.x1; y1 = int_min w.y1 (y +ℤ pos 1) }
 
 -- the intersection of a window with an optional one
 abbrev pub seen_of : Option Window → Window → Window

@@ -3,7 +3,6 @@ use Rattle.std.specs.Prelude.{◌≡◌, ◌↔◌, ◌⊎◌, ◌++◌, ℕ, Li
 use Rattle.lvl_grid.specs.declared.map.Map.{Map}
 use Rattle.lvl_grid.specs.declared.point.Square.{Square}
 use Rattle.lvl_grid.specs.declared.point.Window.{Window}
-use Rattle.lvl_grid.specs.Clip.{IsWithin}
 use Rattle.lvl_grid.specs.Winding.{SomeCovers}
 use Rattle.lvl_names.specs.declared.layer.Layer.{Layer}
 use Rattle.lvl_cells.specs.Cells.{PlainCell, Rings}
@@ -11,9 +10,9 @@ use Rattle.lvl_flat.specs.declared.fault.FlatFault.{FlatFault}
 use Rattle.lvl_flat.specs.declared.fault.FlatFault.TheVariants.{OutOfRange}
 use Rattle.lvl_flat.specs.declared.visit.Visit.{Visit}
 use Rattle.lvl_flat.specs.inside.Drawn.{drawn_on, AreFiguresPlaced, ShapesPlaceCover}
-use Rattle.lvl_flat.specs.Flattened.{FitShapes}
+use Rattle.lvl_flat.specs.Flattened.{FitShapes, IsOfPart}
 use Rattle.lvl_flat.specs.Sheet.{PlainSheet}
-use Rattle.lvl_flat.specs.Sheets.{rings_on}
+use Rattle.lvl_flat.specs.Sheets.{rings_on, HaveSheets}
 
 -- a visit of cell i, placed by the map m, that has followed no reference yet
 abbrev pub begun : ℕ → Map → Visit
@@ -28,15 +27,16 @@ pub record IsDrawn (cells : List (PlainCell Rings)) (i : ℕ) (m : Map) (old new
   pub placed : AreFiguresPlaced m cell.shapes
   pub layers : map (λ s. s.layer) new ≡ map (λ s. s.layer) old
 
--- the sheets cover what they covered before and those squares of the window that the shapes of cell i, placed by the
--- map, cover; they are for the same Layers as before
+-- on the Layers that have a sheet, the sheets cover what they covered before and those squares of the window that the
+-- shapes of cell i, placed by the map, cover; they are for the same Layers as before
 pub record IsDrawnWithin (cells : List (PlainCell Rings)) (i : ℕ) (m : Map) (window : Window)
     (old new : List PlainSheet) : Type 0 where
   pub cell : PlainCell Rings
   pub there : slice_get cells i ≡ Some cell
   pub covers : (layer : Layer) (q : Square) → SomeCovers (rings_on layer new) q
-      ↔ (SomeCovers (rings_on layer old) q ⊎ (IsWithin window q × ShapesPlaceCover layer m q cell.shapes))
-  pub fits : FitShapes m cell.shapes
+      ↔ (SomeCovers (rings_on layer old) q
+      ⊎ (IsOfPart (map (λ s. s.layer) old) window layer q × ShapesPlaceCover layer m q cell.shapes))
+  pub fits : HaveSheets old cell.shapes → FitShapes m cell.shapes
   pub layers : map (λ s. s.layer) new ≡ map (λ s. s.layer) old
 
 -- a vertex of cell i's own shapes, placed by the map, is out of range, and `name` is the name of the cell

@@ -1,9 +1,9 @@
 -- The state of the walk: the rings that are drawn, and the visits that aren't finished.
-use Rattle.std.specs.Prelude.{◌≡◌, ◌+◌, ◌-◌, ◌↔◌, ◌⊎◌, ℕ, List, length, sum_by, slice_get, Some, Any, Contains}
+use Rattle.std.specs.Prelude.{◌≡◌, ◌+◌, ◌-◌, ◌↔◌, ◌⊎◌, ℕ, List, length, map, sum_by, slice_get, Some, All, Any}
+use Rattle.std.specs.Prelude.{Contains}
 use Rattle.std.specs.Option.{option_map_or}
 use Rattle.lvl_grid.specs.declared.point.Square.{Square}
 use Rattle.lvl_grid.specs.declared.point.Window.{Window}
-use Rattle.lvl_grid.specs.Clip.{IsWithin}
 use Rattle.lvl_grid.specs.Winding.{SomeCovers}
 use Rattle.lvl_names.specs.declared.layer.Layer.{Layer}
 use Rattle.lvl_cells.specs.Cells.{PlainCell, Rings, each_ring}
@@ -11,7 +11,7 @@ use Rattle.lvl_cells.specs.Chains.{own_rings_on, placed_rings_on}
 use Rattle.lvl_cells.specs.Coverage.{CellCovers}
 use Rattle.lvl_cells.specs.Checks.{Settled}
 use Rattle.lvl_flat.specs.declared.visit.Visit.{Visit}
-use Rattle.lvl_flat.specs.Flattened.{AllInRange}
+use Rattle.lvl_flat.specs.Flattened.{AllInRange, IsOfPart}
 use Rattle.lvl_flat.specs.Sheet.{PlainSheet}
 use Rattle.lvl_flat.specs.Sheets.{AreSorted, HaveSheets, rings_on}
 use Rattle.lvl_flat.specs.inside.Visits.{pending, visit_weight, VisitCovers, PicksFit, IsVisit}
@@ -20,42 +20,48 @@ use Rattle.lvl_flat.specs.inside.Visits.{pending, visit_weight, VisitCovers, Pic
 abbrev pub AllHaveSheets : List PlainSheet → List (PlainCell Rings) → Type 0
 AllHaveSheets sheets cells = (k : ℕ) (c : PlainCell Rings) → slice_get cells k ≡ Some c → HaveSheets sheets c.shapes
 
--- of the squares that count, the top covers exactly those that are drawn or that a visit has still to cover; if what
--- the visits have still to follow is in range, all is
-pub record IsUnderWay (s : Settled) (top : PlainCell Rings) (counts : Square → Type 0)
-    (drawn : Layer → Square → Type 0) (stack : List Visit) : Type 0 where
+-- the Layer of every shape of every cell is in the list
+abbrev pub AllListed : List Layer → List (PlainCell Rings) → Type 0
+AllListed layers cells = All (λ c. All (λ h. Contains layers h.layer) c.shapes) cells
+
+-- of the squares that count on a Layer, the top covers exactly those that are drawn or that a visit has still to cover;
+-- if every shape that is placed is drawn, and what the visits have still to follow is in range, all is
+pub record IsUnderWay (s : Settled) (top : PlainCell Rings) (every : Type 0)
+    (counts drawn : Layer → Square → Type 0) (stack : List Visit) : Type 0 where
   pub is_top : slice_get s.cells s.top ≡ Some top
-  pub covers : (layer : Layer) (q : Square) → counts q
+  pub covers : (layer : Layer) (q : Square) → counts layer q
       → CellCovers SomeCovers s.cells layer top q ↔ (drawn layer q ⊎ Any (VisitCovers s.cells layer q) stack)
-  pub fits : ((v : Visit) → Contains stack v → PicksFit s.cells v.map (pending s.cells v)) → AllInRange s.cells top
+  pub fits : every → ((v : Visit) → Contains stack v → PicksFit s.cells v.map (pending s.cells v))
+      → AllInRange s.cells top
   pub visits : (v : Visit) → Contains stack v → IsVisit s.cells top v
 
 -- the sheets cover the square on the Layer
 abbrev pub SheetsCover : List PlainSheet → Layer → Square → Type 0
 SheetsCover sheets layer q = SomeCovers (rings_on layer sheets) q
 
--- every square counts
-abbrev pub Everywhere : Square → Type 0
-Everywhere q = Unit {0}
+-- every square counts on every Layer
+abbrev pub Everywhere : Layer → Square → Type 0
+Everywhere layer q = Unit {0}
 
 -- the walk over all that the top places: each placed ring is drawn or still to come
 pub record IsWalking (s : Settled) (sheets : List PlainSheet) (stack : List Visit) : Type 0 where
   pub top : PlainCell Rings
-  pub way : IsUnderWay s top Everywhere (SheetsCover sheets) stack
+  pub way : IsUnderWay s top (Unit {0}) Everywhere (SheetsCover sheets) stack
   pub sorted : AreSorted sheets
   pub layers : AllHaveSheets sheets s.cells
   pub counts : (layer : Layer)
       → length (rings_on layer sheets) + sum_by (visit_weight (own_rings_on each_ring layer) s.cells) stack
       ≡ placed_rings_on each_ring layer s.cells top
 
--- the walk over what covers squares of a window; no other squares are drawn
-pub record IsWalkingWithin (s : Settled) (window : Window) (sheets : List PlainSheet) (stack : List Visit)
-    : Type 0 where
+-- the walk over what covers squares of a window on the Layers of a list, each of which has a sheet; no other squares
+-- are drawn
+pub record IsWalkingWithin (s : Settled) (layers : List Layer) (window : Window) (sheets : List PlainSheet)
+    (stack : List Visit) : Type 0 where
   pub top : PlainCell Rings
-  pub way : IsUnderWay s top (IsWithin window) (SheetsCover sheets) stack
+  pub way : IsUnderWay s top (AllListed layers s.cells) (IsOfPart layers window) (SheetsCover sheets) stack
   pub sorted : AreSorted sheets
-  pub layers : AllHaveSheets sheets s.cells
-  pub within : (layer : Layer) (q : Square) → SheetsCover sheets layer q → IsWithin window q
+  pub layers_are : map (λ sheet. sheet.layer) sheets ≡ layers
+  pub within : (layer : Layer) (q : Square) → SheetsCover sheets layer q → IsOfPart layers window layer q
 
 -- the number of references of its cell that the visit hasn't finished
 abbrev pub references_left : List (PlainCell Rings) → Visit → ℕ

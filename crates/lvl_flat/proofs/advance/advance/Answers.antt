@@ -71,7 +71,7 @@ returns-in_err-draw_cell-in-Into-clause-err c =
     err_from_is_err_and c.from_residual-in_err-draw_cell-in-Into.result
     c.from_residual-in_err-draw_cell-in-Into.ensures.1 in
     rw (p.1, p.2) (Says-map (IsEnterFault s.cells c.in-Into.place c.in-Into.map) _ c.in_err-draw_cell-in-Into.field-0.0
-    (entered_out s c.in-Into.place c.in-Into.map (λ name out. out_by_vertex s c.requires.top Everywhere
+    (entered_out s c.in-Into.place c.in-Into.map (λ name out. out_by_vertex s c.requires.top (Unit {0}) Everywhere
     (SheetsCover c.args.sheets.now.items) c.args.stack.now.items c.args.visit c.in-Into.place c.in-Into.map
     c.in-Into.rest name c.requires.way into out))
     reported)
@@ -132,7 +132,7 @@ returns-in-Out-clause-err c =
     c.as_bytes.ensures ∙ ap (λ (b : PlainCell Rings). b.name) (c.cell.view_is ∙ one) in
     Says-map (ReportsName out.next.name) _ c.out_of_range.result
     (λ f reports. names_out s out.next.name f reports
-    (out_by_shift s c.requires.top Everywhere (SheetsCover c.args.sheets.now.items) c.args.stack.now.items
+    (out_by_shift s c.requires.top (Unit {0}) Everywhere (SheetsCover c.args.sheets.now.items) c.args.stack.now.items
     c.args.visit c.in-Out.place
     c.requires.way out))
     (subst (λ n. Says c.out_of_range.result (ReportsName n)) name c.out_of_range.ensures)

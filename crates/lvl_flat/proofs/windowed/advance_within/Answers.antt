@@ -1,15 +1,15 @@
-use Rattle.std.proofs.Common.{◌≡◌, ◌<◌, ◌*◌, ◌^◌, ◌++◌, ◌∷◌, [], List, length, slice_get, Some, sym, ap, subst, ◌∙◌}
+use Rattle.std.proofs.Common.{◌≡◌, ◌<◌, ◌*◌, ◌^◌, ◌++◌, ◌∷◌, [], List, length, map, slice_get, Some, sym, ap, subst, ◌∙◌}
 use Rattle.std.proofs.Common.{arith, refl}
 use Rattle.std.proofs.lemmas.Option.{slice_get_within, slice_get_read}
 use Rattle.std.proofs.lemmas.Result.{err_from_is_err_and}
-use Rattle.lvl_grid.specs.Clip.{IsWithin}
 use Rattle.lvl_cells.specs.Cells.{PlainCell, Rings}
 use Rattle.lvl_cells.specs.Checks.{Settled}
 use Rattle.lvl_flat.specs.declared.visit.Visit.{Visit}
 use Rattle.lvl_flat.specs.inside.Entering.{IsDrawnWithin, IsEnterFault}
-use Rattle.lvl_flat.specs.Flattened.{ReportsName}
+use Rattle.lvl_flat.specs.Flattened.{IsOfPart, ReportsName}
 use Rattle.lvl_flat.specs.inside.Steps.{IsInto, IsOut}
-use Rattle.lvl_flat.specs.inside.Walking.{AllHaveSheets, SheetsCover, IsWalkingWithin, work}
+use Rattle.lvl_flat.specs.inside.Walking.{AllListed, SheetsCover, IsWalkingWithin, work}
+use Rattle.lvl_flat.proofs.Drawing.{layer_of}
 use Rattle.lvl_flat.proofs.Walking.{in_last}
 use Rattle.lvl_flat.proofs.Going.{less_into, less_missed, less_passed}
 use Rattle.lvl_flat.proofs.WindowWalk.{window_done, window_past, window_missed, window_passed, window_into}
@@ -30,10 +30,6 @@ draw_cell_within-requires-clause-there c =
     let inside = slice_get_within c.args.checked.now.cells c.in-Into.index into.next into.there in
     omega (arith, inside, ap length c.cells-cells.ensures.value)
 
-pub draw_cell_within-requires-clause-layers : goal.draw_cell_within-requires-clause-layers
-draw_cell_within-requires-clause-layers c =
-    subst (AllHaveSheets c.args.sheets.now.items) (sym c.cells-cells.ensures.value) c.requires.walking.layers
-
 pub bounds-cells-index : goal.bounds-cells-index
 bounds-cells-index c =
     let out : IsOut c.args.checked.now.cells c.args.visit c.in-Out.index = c.in-Out.ensures in
@@ -52,15 +48,16 @@ offset_bounds-cells-index c =
 
 pub returns-in-Done-clause-walking : goal.returns-in-Done-clause-walking
 returns-in-Done-clause-walking c =
-    window_done c.args.checked.now c.args.window.now c.args.sheets.now.items c.args.stack.now.items c.args.visit
+    window_done c.args.checked.now (map layer_of c.args.sheets.now.items) c.args.window.now c.args.sheets.now.items c.args.stack.now.items c.args.visit
     c.requires.walking c.in-Done.ensures
 
 pub returns-in_ok-push_visit-in-Past-clause-walking : goal.returns-in_ok-push_visit-in-Past-clause-walking
 returns-in_ok-push_visit-in-Past-clause-walking c =
     let next =
-    window_past c.args.checked.now c.args.window.now c.args.sheets.now.items c.args.stack.now.items c.args.visit
+    window_past c.args.checked.now (map layer_of c.args.sheets.now.items) c.args.window.now c.args.sheets.now.items c.args.stack.now.items c.args.visit
     c.in-Past.rest c.requires.walking c.in-Past.ensures in
-    subst (IsWalkingWithin c.args.checked.now c.args.window.now c.args.sheets.now.items)
+    subst (IsWalkingWithin c.args.checked.now (map layer_of c.args.sheets.now.items) c.args.window.now
+    c.args.sheets.now.items)
     (sym c.in_ok-push_visit-in-Past.ensures) next
 
 pub pass_by-further-requires-clause-cell : goal.pass_by-further-requires-clause-cell
@@ -75,12 +72,12 @@ returns-then-miss-clause-walking c =
     let s : Settled = c.args.checked.now in
     let front : List Visit = c.args.stack.now.items in
     let next =
-    window_missed s c.args.boxes.now c.args.window.now c.args.sheets.now.items front c.args.visit c.in-Into.index
+    window_missed s c.args.boxes.now (map layer_of c.args.sheets.now.items) c.args.window.now c.args.sheets.now.items front c.args.visit c.in-Into.index
     c.in-Into.map c.in-Into.rest c.requires.boxes c.requires.walking c.in-Into.ensures (c.if-miss.ensures refl) in
     let passed =
-    window_passed s c.args.boxes.now c.args.window.now c.args.sheets.now.items front c.in-Into.rest
+    window_passed s c.args.boxes.now (map layer_of c.args.sheets.now.items) c.args.window.now c.args.sheets.now.items front c.in-Into.rest
     c.pass_by-further.result c.requires.boxes next c.pass_by-further.ensures in
-    subst (IsWalkingWithin s c.args.window.now c.args.sheets.now.items) (sym c.in_ok-push_visit-in-Into.ensures) passed
+    subst (IsWalkingWithin s (map layer_of c.args.sheets.now.items) c.args.window.now c.args.sheets.now.items) (sym c.in_ok-push_visit-in-Into.ensures) passed
 
 pub returns-then-miss-clause-nearer : goal.returns-then-miss-clause-nearer
 returns-then-miss-clause-nearer c =
@@ -109,9 +106,9 @@ returns-in_err-draw_cell_within-in-Into-clause-err c =
     c.from_residual-in_err-draw_cell_within-in-Into.ensures.1 in
     rw (p.1, p.2) (Says-map (IsEnterFault s.cells c.in-Into.index c.in-Into.map) _
     c.in_err-draw_cell_within-in-Into.field-0.0
-    (entered_out s c.in-Into.index c.in-Into.map (λ name out. out_by_vertex s c.requires.walking.top (IsWithin
-    c.args.window.now)
-    (SheetsCover c.args.sheets.now.items) c.args.stack.now.items c.args.visit c.in-Into.index c.in-Into.map
+    (entered_out s c.in-Into.index c.in-Into.map (λ name out. out_by_vertex s c.requires.walking.top
+    (AllListed (map layer_of c.args.sheets.now.items) s.cells)
+    (IsOfPart (map layer_of c.args.sheets.now.items) c.args.window.now) (SheetsCover c.args.sheets.now.items) c.args.stack.now.items c.args.visit c.in-Into.index c.in-Into.map
     c.in-Into.rest name c.requires.walking.way into out))
     reported)
 
@@ -126,11 +123,11 @@ returns-in_ok-push_visit-in-Into-3-clause-walking c =
     (λ cs. IsDrawnWithin cs c.in-Into.index c.in-Into.map c.args.window.now c.args.sheets.now.items
     c.draw_cell_within.new.sheets.items) c.cells-cells.ensures.value c.in_ok-draw_cell_within-in-Into.ensures.drawn in
     let next =
-    window_into s c.args.window.now c.args.sheets.now.items c.draw_cell_within.new.sheets.items front c.args.visit
+    window_into s (map layer_of c.args.sheets.now.items) c.args.window.now c.args.sheets.now.items c.draw_cell_within.new.sheets.items front c.args.visit
     c.in-Into.index c.in-Into.map c.in-Into.rest c.requires.walking into drawn in
     let first : c.push_visit-in-Into.new.stack.items ≡ front ++ c.in-Into.rest ∷ [] =
     c.in_ok-push_visit-in-Into-2.ensures in
-    subst (IsWalkingWithin s c.args.window.now c.draw_cell_within.new.sheets.items)
+    subst (IsWalkingWithin s (map layer_of c.args.sheets.now.items) c.args.window.now c.draw_cell_within.new.sheets.items)
     (sym (c.in_ok-push_visit-in-Into-3.ensures
     ∙ (ap (λ xs. xs ++ c.begun.result ∷ []) first
     ∙ ap (λ v. (front ++ c.in-Into.rest ∷ []) ++ v ∷ []) c.begun.ensures))) next
@@ -172,7 +169,8 @@ returns-in-Out-clause-err c =
     c.as_bytes.ensures ∙ ap (λ (b : PlainCell Rings). b.name) (c.cell.view_is ∙ one) in
     Says-map (ReportsName out.next.name) _ c.out_of_range.result
     (λ f reports. names_out s out.next.name f reports
-    (out_by_shift s c.requires.walking.top (IsWithin c.args.window.now) (SheetsCover c.args.sheets.now.items)
+    (out_by_shift s c.requires.walking.top (AllListed (map layer_of c.args.sheets.now.items) s.cells)
+    (IsOfPart (map layer_of c.args.sheets.now.items) c.args.window.now) (SheetsCover c.args.sheets.now.items)
     c.args.stack.now.items c.args.visit c.in-Out.index
     c.requires.walking.way out))
     (subst (λ n. Says c.out_of_range.result (ReportsName n)) name c.out_of_range.ensures)

@@ -1,12 +1,11 @@
-use Rattle.std.proofs.Common.{◌≡◌, length, slice_get, Some, Err, sym, ap, subst, ◌∙◌, refl}
+use Rattle.std.proofs.Common.{◌≡◌, length, map, slice_get, Some, Err, ap, subst, ◌∙◌, refl}
 use Rattle.std.proofs.lemmas.Option.{slice_get_read}
 use Rattle.lvl_grid.specs.Winding.{SomeCovers}
 use Rattle.lvl_names.specs.declared.layer.Layer.{Layer}
 use Rattle.lvl_cells.specs.Cells.{PlainCell, Rings}
 use Rattle.lvl_flat.specs.inside.Drawn.{ShapesPlaceCover}
 use Rattle.lvl_grid.specs.declared.point.Square.{Square}
-use Rattle.lvl_grid.specs.Clip.{IsWithin}
-use Rattle.lvl_flat.specs.Flattened.{FitShapes}
+use Rattle.lvl_flat.specs.Flattened.{FitShapes, IsOfPart}
 use Rattle.lvl_flat.specs.Sheets.{HaveSheets, rings_on}
 use Rattle.lvl_flat.specs.Flattened.{ReportsName}
 use Rattle.std.specs.Prelude.{◌↔◌, ◌⊎◌}
@@ -14,15 +13,6 @@ use Rattle.lvl_refusal.specs.Refused.{Says}
 use Rattle.lvl_refusal.proofs.Saying.{Says-map}
 use Rattle.lvl_flat.proofs.UnderWay.{reports_entered}
 use Rattle.lvl_flat.proofs.windowed.draw_cell_within.Goals as goal
-
-pub draw_shapes_within-requires-clause-layers : goal.draw_shapes_within-requires-clause-layers
-draw_shapes_within-requires-clause-layers c =
-    let cell : PlainCell Rings = c.index-cells-index.result in
-    let at : slice_get c.args.cells.now c.args.index ≡ Some cell =
-    slice_get_read c.args.cells.now (length c.args.cells.now) c.args.index cell refl c.requires.there
-    c.index-cells-index.is in
-    let shapes : c.cell.inside.shapes ≡ cell.shapes = ap (λ (b : PlainCell Rings). b.shapes) c.cell.view_is in
-    subst (HaveSheets c.args.sheets.now.items) (sym shapes) (c.requires.layers c.args.index cell at)
 
 pub returns-in-Ok-clause-drawn : goal.returns-in-Ok-clause-drawn
 returns-in-Ok-clause-drawn c =
@@ -39,9 +29,11 @@ returns-in-Ok-clause-drawn c =
           (λ hs. (layer : Layer) (q : Square)
           → SomeCovers (rings_on layer c.draw_shapes_within.new.sheets.items) q
           ↔ (SomeCovers (rings_on layer c.args.sheets.now.items) q
-          ⊎ (IsWithin c.args.window.now q × ShapesPlaceCover layer c.args.map.now q hs))) shapes
-          c.in-Ok.ensures.covers;
-      fits = subst (FitShapes c.args.map.now) shapes c.in-Ok.ensures.fits;
+          ⊎ (IsOfPart (map (λ s. s.layer) c.args.sheets.now.items) c.args.window.now layer q
+          × ShapesPlaceCover layer c.args.map.now q hs))) shapes c.in-Ok.ensures.covers;
+      fits =
+          subst (λ hs. HaveSheets c.args.sheets.now.items hs → FitShapes c.args.map.now hs) shapes
+          c.in-Ok.ensures.fits;
       layers = c.in-Ok.ensures.layers_stay;
     }
 

@@ -1,5 +1,5 @@
 use Rattle.std.proofs.Common.{All, Contains, take}
-use Rattle.lvl_flat.proofs.layers.layers_of.Given as goal
+use Rattle.lvl_flat.proofs.layers.unordered_layers.Given as goal
 
 -- the Layers of the cells so far are listed
 abbrev pub invariant-loop-cell : goal.invariant-loop-cell
