@@ -79,7 +79,8 @@ impl Fitted {
     ///
     /// On each Layer the rings together cover exactly the squares of the window that the top covers
     /// there through all references. Only what is drawn in the window takes memory. If the rings
-    /// would have more than `most` points, that is reported as out of memory.
+    /// would have more than `most` points, those that lie over one another are joined. If that
+    /// doesn't halve them, that is reported as out of memory.
     pub fn within(&self, alloc: Global, window: &Window, most: usize) -> Result<Flat, AllocError>
         ensures { IfOk result (IsFlattenedWithin self.now window.now) }
     {
