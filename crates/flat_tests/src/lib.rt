@@ -8,6 +8,8 @@
 #[cfg(test)]
 mod flat;
 #[cfg(test)]
+mod joined;
+#[cfg(test)]
 mod made;
 #[cfg(test)]
 mod places;

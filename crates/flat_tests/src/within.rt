@@ -84,7 +84,7 @@ fn arrayed(alloc: Global) -> Result<Checked, Fail> {
 }
 
 /// How many squares from (-5, -5) to (60, 20) the rings cover.
-fn count(flat: &Flat) -> u64 {
+pub(crate) fn count(flat: &Flat) -> u64 {
     let rings = flat.rings(METAL);
     let mut count: u64 = 0;
     for y in -5..20 {

@@ -93,7 +93,8 @@ impl Fitted {
     /// On each of these Layers the rings together cover exactly the squares of the window that the
     /// top covers there through all references. The Layers must be in their order, without
     /// duplicates. Only what is drawn on them in the window takes memory. If the rings would have
-    /// more than `most` points, that is reported as out of memory.
+    /// more than `most` points, those that lie over one another are joined. If that doesn't halve
+    /// them, that is reported as out of memory.
     pub fn within(
         &self,
         alloc: Global,

@@ -40,6 +40,7 @@ mod layers;
 mod mapped;
 mod missed;
 mod passing;
+mod room;
 mod rows;
 mod shapes;
 mod visit;

@@ -15,9 +15,10 @@ use crate::fault::FlatFault;
 use crate::flat::{Flat, Sheet};
 use crate::layers::{empty_sheets, layers_of};
 use crate::passing::pass_by;
+use crate::room::Room;
 use crate::visit::Visit;
 use crate::walk::{Step, next_step};
-use crate::within::{Room, draw_shapes_within};
+use crate::within::draw_shapes_within;
 use lvl_cells::{Cell, Checked};
 use lvl_grid::{Map, PlaceFault, Window};
 use lvl_names::Layer;
@@ -94,7 +95,8 @@ fn advance_within(
 /// doesn't reach into the window, so only what is drawn in the window takes memory. The layout must
 /// be in range, or the Layers must be those of all its shapes: then a layout that
 /// [`flatten`](crate::flatten) refuses is refused, whatever the window. If the rings would have
-/// more than `most` points, that is reported as out of memory.
+/// more than `most` points, those that lie over one another are joined ([`Room::take`]). If that
+/// doesn't halve them, that is reported as out of memory.
 pub(crate) fn flatten_within(
     alloc: Global,
     checked: &Checked,

@@ -16,32 +16,12 @@ use crate::bounds::Bounds;
 use crate::boxes::{ORIGIN, bounds_of_shifts};
 use crate::flat::{Sheet, place_of};
 use crate::missed::{LEAST_RUN, missed_from};
+use crate::room::Room;
 use crate::rows::known_row;
 use lvl_cells::{MovedRing, Shapes};
 use lvl_grid::{Map, Part, PlaceFault, Point, Rings, Window};
 use lvl_names::Offsets;
 use std::alloc::Global;
-
-/// What drawing may still take: an allocator and a number of points.
-#[derive(Drop)]
-pub(crate) struct Room {
-    pub alloc: Global,
-    /// The number of points that may still be drawn.
-    pub points: usize,
-}
-
-impl Room {
-    /// Takes room for points that were drawn. Reports out of memory if there is less.
-    fn take(&mut self, points: usize) -> Result<(), PlaceFault>
-        ensures { result ≢ Err PlaceFault.OutOfRange }
-    {
-        if points > self.points {
-            return Err(PlaceFault::OutOfMemory);
-        }
-        self.points -= points;
-        Ok(())
-    }
-}
 
 /// The box of the points of a ring.
 fn bounds_of_ring(ring: &MovedRing<'_>) -> Bounds
@@ -136,8 +116,8 @@ fn draw_ring_at(
     draw_cut(alloc, rings, ring, shift, map, window)
 }
 
-/// Appends a ring as [`draw_ring_at`] does, and takes room for its points. Returns how many points
-/// that are.
+/// Appends a ring as [`draw_ring_at`] does, and takes room for its points, for which the rings may
+/// be made simpler. Returns how many points were drawn.
 fn draw_place(
     room: &mut Room,
     rings: &mut Rings,
@@ -157,7 +137,7 @@ fn draw_place(
     let held = rings.points().len();
     draw_ring_at(room.alloc, rings, ring, bounds, shift, map, window)?;
     let drawn = rings.points().len().saturating_sub(held);
-    room.take(drawn)?;
+    room.take(rings, drawn)?;
     Ok(drawn)
 }
 
