@@ -11,6 +11,7 @@ use crate::fault::CellFault;
 use crate::library::{Cell, Library};
 use crate::names::index_of;
 use crate::order::order_of;
+use crate::rows::Targets;
 use crate::targets::all_targets;
 use crate::top::top_of;
 use lvl_refusal::Cause;
@@ -27,7 +28,7 @@ pub struct Checked {
     cells: Vec<Cell>,
     top: usize,
     order: Vec<usize>,
-    targets: Vec<Vec<usize>>,
+    targets: Targets,
 }
 
 impl Model for Checked {
@@ -47,12 +48,12 @@ fn examine(
     alloc: Global,
     cells: &[Cell],
     given: Option<&[u8]>,
-) -> Result<(usize, Vec<usize>, Vec<Vec<usize>>), Cause<CellFault>>
+) -> Result<(usize, Vec<usize>, Targets), Cause<CellFault>>
     requires { 0 < length cells.now }
     ensures ok { IfOk result
         (λ found. IsSettled (option_copied given.entry)
         (record { cells = cells.now; top = found.0; order = found.1.items })) }
-    ensures targets { IfOk result (λ found. AreAllTargets cells.now found.2.items) }
+    ensures targets { IfOk result (λ found. AreAllTargets cells.now found.2) }
     ensures err { IfErr result (λ refusal. Says refusal (IsFaultOf cells.now (option_copied given.entry))) }
 {
     let index = index_of(alloc, cells)?;
@@ -132,7 +133,9 @@ impl Checked {
         ensures target { IfSome result (IsTargetOf self.now.cells cell reference) }
         ensures past { IfNone result (¬ HasReference self.now.cells cell reference) }
     {
-        let row = self.targets.get(cell)?;
-        row.get(reference).copied()
+        if cell >= self.targets.len() {
+            return None;
+        }
+        self.targets.row(cell).get(reference)
     }
 }

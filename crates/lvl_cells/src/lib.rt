@@ -46,6 +46,7 @@ mod order;
 mod placements;
 mod references;
 mod round;
+mod rows;
 mod shapes;
 mod shared;
 mod targets;

@@ -11,36 +11,40 @@ ghost use Rattle.lvl_refusal.specs.Refused.{Says};
 
 use crate::fault::CellFault;
 use crate::library::Cell;
+use crate::rows::{Row, Targets};
 use lvl_refusal::Cause;
 use std::alloc::{AllocError, Global};
 use std::collections::BTreeMap;
 
-/// Sets the marks at these indexes.
-fn mark_all(marks: &mut [bool], places: &[usize])
-    requires { All (λ k. k < length marks.old) places.now }
+/// Sets the marks at the indexes of these targets.
+fn mark_all(marks: &mut [bool], targets: &Row<'_>)
+    requires { All (λ k. k < length marks.old) targets.now }
     ensures { (k : ℕ)
-        → (slice_get marks.new k ≡ Some true) ↔ ((slice_get marks.old k ≡ Some true) ⊎ Contains places.now k) }
+        → (slice_get marks.new k ≡ Some true) ↔ ((slice_get marks.old k ≡ Some true) ⊎ Contains targets.now k) }
 {
-    for place in places {
-        marks[*place] = true;
+    for j in 0..targets.len() {
+        let Some(target) = targets.get(j) else {
+            unreachable!()
+        };
+        marks[target] = true;
     }
 }
 
 /// For each cell, whether some cell refers to it.
-fn referred_cells(alloc: Global, targets: &[Vec<usize>]) -> Result<Vec<bool>, AllocError>
+fn referred_cells(alloc: Global, targets: &Targets) -> Result<Vec<bool>, AllocError>
     requires { EachTargetWithin targets.now (length targets.now) }
     ensures long { IfOk result (λ marks. vec_len marks ≡ length targets.now) }
     ensures marked { IfOk result (λ marks. (k : ℕ) → (slice_get marks.items k ≡ Some true) ↔ IsTarget targets.now k) }
 {
     let mut referred = vec![in alloc; false; targets.len()]?;
-    for here in targets {
-        mark_all(&mut referred, here);
+    for cell in 0..targets.len() {
+        mark_all(&mut referred, &targets.row(cell));
     }
     Ok(referred)
 }
 
 /// Whether there is another cell than `root` to which no cell refers.
-fn has_other_root(alloc: Global, targets: &[Vec<usize>], root: usize) -> Result<bool, AllocError>
+fn has_other_root(alloc: Global, targets: &Targets, root: usize) -> Result<bool, AllocError>
     requires { EachTargetWithin targets.now (length targets.now) }
     ensures { IfOk result (λ other. IsTrue other ↔ HasOtherRoot targets.now root) }
 {
@@ -60,7 +64,7 @@ pub(crate) fn top_of(
     alloc: Global,
     cells: &[Cell],
     index: &BTreeMap<&[u8], usize>,
-    targets: &[Vec<usize>],
+    targets: &Targets,
     order: &[usize],
     given: Option<&[u8]>,
 ) -> Result<usize, Cause<CellFault>>
