@@ -18,7 +18,8 @@ abbrev pub end_of : ℕ → List Run → ℕ
 end_of start [] = start
 end_of start (run ∷ runs) = end_of run.end runs
 
-pub spread_long : (start : ℕ) (runs : List Run) → Rises start runs → length (spread start runs) + start ≡ end_of start runs
+pub spread_long : (start : ℕ) (runs : List Run) → Rises start runs
+    → length (spread start runs) + start ≡ end_of start runs
 spread_long start [] h = omega arith
 spread_long start (run ∷ runs) h =
     let n : ℕ = run.end - start in

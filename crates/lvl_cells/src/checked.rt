@@ -2,7 +2,9 @@
 ghost use Rattle.std.specs.Prelude.{◌≡◌, ◌≢◌, ◌<◌, length, IfOk, IfErr, IfSome, IfNone, option_copied};
 ghost use Rattle.lvl_cells.specs.Checks.{IsSettled, IsChecked, PlacesFew, IsTargetOf, HasReference};
 ghost use Rattle.lvl_cells.specs.Faults.{IsFaultOf, IsSoundWith};
-ghost use Rattle.lvl_cells.specs.Soundness.{IsOrder};
+ghost use Rattle.lvl_cells.specs.Cells.{names};
+ghost use Rattle.lvl_cells.specs.Resolving.{IsPlaceOf};
+ghost use Rattle.lvl_cells.specs.Soundness.{AreLinked, IsOrder};
 ghost use Rattle.lvl_cells.specs.inside.Steps.{AreAllTargets};
 ghost use Rattle.lvl_refusal.specs.Refused.{Says};
 
@@ -43,6 +45,29 @@ impl Model for Checked {
     ghost invariant = { IsKeptSettled };
 }
 
+/// The targets of all references, and the index of the cell of the given name, if there is one. The
+/// index of all names isn't kept.
+fn resolve(
+    alloc: Global,
+    cells: &[Cell],
+    given: Option<&[u8]>,
+) -> Result<(Targets, Option<usize>), Cause<CellFault>>
+    ensures linked { IfOk result (λ found. AreLinked cells.now) }
+    ensures targets { IfOk result (λ found. AreAllTargets cells.now found.0) }
+    ensures place { IfOk result (λ found. IsPlaceOf (names cells.now) (option_copied given.entry) found.1) }
+    ensures err { IfErr result (λ refusal. Says refusal (IsFaultOf cells.now (option_copied given.entry))) }
+{
+    let index = index_of(alloc, cells)?;
+    let targets = all_targets(alloc, cells, &index)?;
+    let Some(name) = given else {
+        return Ok((targets, None));
+    };
+    match index.get(name) {
+        Some(place) => Ok((targets, Some(*place))),
+        None => Ok((targets, None)),
+    }
+}
+
 /// The top, the order and the targets of the cells, if [`check`] accepts them.
 fn examine(
     alloc: Global,
@@ -56,10 +81,9 @@ fn examine(
     ensures targets { IfOk result (λ found. AreAllTargets cells.now found.2) }
     ensures err { IfErr result (λ refusal. Says refusal (IsFaultOf cells.now (option_copied given.entry))) }
 {
-    let index = index_of(alloc, cells)?;
-    let targets = all_targets(alloc, cells, &index)?;
+    let (targets, place) = resolve(alloc, cells, given)?;
     let order = order_of(alloc, cells, &targets)?;
-    let top = top_of(alloc, cells, &index, &targets, &order, given)?;
+    let top = top_of(alloc, cells, &targets, &order, given, place)?;
     let chains = count_from(alloc, Weight::One, cells, &targets, &order, top)?;
     if chains > MOST_PLACED {
         return Err(Cause::Breach(CellFault::TooManyPlacements));

@@ -2,7 +2,7 @@
 ghost use Rattle.std.specs.Prelude.{◌≡◌, ◌≢◌, ℕ, ◌<◌, ◌↔◌, ◌⊎◌, true, length, slice_get, vec_len, All, Contains, Some};
 ghost use Rattle.std.specs.Prelude.{IsTrue, IfOk, IfErr, option_copied};
 ghost use Rattle.lvl_cells.specs.Cells.{names};
-ghost use Rattle.lvl_cells.specs.Resolving.{IsIndexOf};
+ghost use Rattle.lvl_cells.specs.Resolving.{IsPlaceOf};
 ghost use Rattle.lvl_cells.specs.Soundness.{AreLinked, IsOrder, IsTop};
 ghost use Rattle.lvl_cells.specs.inside.Steps.{AreAllTargets, IsTopFault};
 ghost use Rattle.lvl_cells.specs.inside.Walking.{EachTargetWithin};
@@ -14,7 +14,6 @@ use crate::library::Cell;
 use crate::rows::{Row, Targets};
 use lvl_refusal::Cause;
 use std::alloc::{AllocError, Global};
-use std::collections::BTreeMap;
 
 /// Sets the marks at the indexes of these targets.
 fn mark_all(marks: &mut [bool], targets: &Row<'_>)
@@ -57,34 +56,34 @@ fn has_other_root(alloc: Global, targets: &Targets, root: usize) -> Result<bool,
     Ok(false)
 }
 
-/// The index of the cell of the given name or, if none is given, of the only cell to which no cell
-/// refers. Refuses with [`CellFault::TopMissing`] or [`CellFault::ManyTops`] if there is no such
-/// cell.
+/// The index of the cell of the given name, which is at `place`, or, if none is given, of the only
+/// cell to which no cell refers. Refuses with [`CellFault::TopMissing`] or [`CellFault::ManyTops`]
+/// if there is no such cell.
 pub(crate) fn top_of(
     alloc: Global,
     cells: &[Cell],
-    index: &BTreeMap<&[u8], usize>,
     targets: &Targets,
     order: &[usize],
     given: Option<&[u8]>,
+    place: Option<usize>,
 ) -> Result<usize, Cause<CellFault>>
     requires linked { AreLinked cells.now }
-    requires index { IsIndexOf (names cells.now) index.now }
+    requires place { IsPlaceOf (names cells.now) (option_copied given) place }
     requires targets { AreAllTargets cells.now targets.now }
     requires order { IsOrder cells.now order.now }
     requires some { 0 < length cells.now }
     ensures ok { IfOk result (λ top. IsTop cells.now (option_copied given.entry) top × (top < length cells.now)) }
     ensures err { IfErr result (λ refusal. Says refusal (IsTopFault cells.now (option_copied given.entry))) }
 {
-    let Some(name) = given else {
+    let Some(_name) = given else {
         let root = order[0];
         if has_other_root(alloc, targets, root)? {
             return Err(Cause::Breach(CellFault::ManyTops));
         }
         return Ok(root);
     };
-    match index.get(name) {
-        Some(place) => Ok(*place),
+    match place {
+        Some(place) => Ok(place),
         None => Err(Cause::Breach(CellFault::TopMissing)),
     }
 }

@@ -29,6 +29,15 @@ pub returns-clause-marked : goal.returns-clause-marked
 returns-clause-marked c =
     λ k. (
       λ h. let w = (c.loop-cell.invariant.marked k).0 h in (w.0, w.1, w.3),
-      λ w. (c.loop-cell.invariant.marked k).1
-          (w.0, w.1, omega (arith, slice_get_within c.args.targets.now w.0 w.2.0 w.2.1, c.loop-cell-test.false, c.len-cell-end.ensures), w.2),
+      λ w. (c.loop-cell.invariant.marked k).1 (
+        w.0,
+        w.1,
+        omega (
+          arith,
+          slice_get_within c.args.targets.now w.0 w.2.0 w.2.1,
+          c.loop-cell-test.false,
+          c.len-cell-end.ensures,
+        ),
+        w.2,
+      ),
     )
