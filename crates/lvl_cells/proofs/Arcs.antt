@@ -6,8 +6,6 @@ use Rattle.std.specs.Str.{bytes_eq}
 use Rattle.std.specs.Bool.{nat_eq}
 use Rattle.std.proofs.lemmas.Bool.Decides.{Decides-eqb}
 use Rattle.std.specs.Option.{option_map}
-use Rattle.std.specs.declared.alloc.Global.{Global}
-use Rattle.std.specs.declared.vec.Vec.{Vec}
 use Rattle.std.proofs.lemmas.Map.Keys.{apart_from_distinct, IsDistinct-from_apart}
 use Rattle.std.proofs.lemmas.Slice.Eq.{bytes_eq-Decides}
 use Rattle.std.proofs.lemmas.Bool.{false≢true, false_from_ne_true}
@@ -151,12 +149,12 @@ is_link (d ∷ ds) (suc k) c j r h g =
     (c.name, r.cell) (is_link ds k c j r h g)
 
 -- the row of targets of a cell
-pub row_of : (cells : List (PlainCell Rings)) (targets : List (Vec ℕ Global)) (k : ℕ) (c : PlainCell Rings)
+pub row_of : (cells : List (PlainCell Rings)) (targets : List (List ℕ)) (k : ℕ) (c : PlainCell Rings)
     → AreAllTargets cells targets → slice_get cells k ≡ Some c
-    → (ts : Vec ℕ Global) × (slice_get targets k ≡ Some ts)
-    × (map (slice_get (names cells)) ts.items ≡ map (λ r. Some r.cell) c.references)
+    → (ts : List ℕ) × (slice_get targets k ≡ Some ts)
+    × (map (slice_get (names cells)) ts ≡ map (λ r. Some r.cell) c.references)
 row_of cells targets k c t h =
-    let reach : Vec ℕ Global → List (Option (List ℕ)) = λ u. map (slice_get (names cells)) u.items in
+    let reach : List ℕ → List (Option (List ℕ)) = λ u. map (slice_get (names cells)) u in
     let asked : PlainCell Rings → List (Option (List ℕ)) = λ q. map (λ r. Some r.cell) q.references in
     let read : option_map reach (slice_get targets k) ≡ Some (asked c) =
     sym (slice_get-map reach targets k)
@@ -164,8 +162,8 @@ row_of cells targets k c t h =
     ∙ (slice_get-map asked cells k ∙ ap (option_map asked) h)) in
     elim (slice_get targets k)
     as (λ o. slice_get targets k ≡ o → option_map reach o ≡ Some (asked c)
-    → (ts : Vec ℕ Global) × (slice_get targets k ≡ Some ts)
-    × (map (slice_get (names cells)) ts.items ≡ map (λ r. Some r.cell) c.references)) [
+    → (ts : List ℕ) × (slice_get targets k ≡ Some ts)
+    × (map (slice_get (names cells)) ts ≡ map (λ r. Some r.cell) c.references)) [
       | None ↦ λ e g. cc
       | Some ts ↦ λ e g. let same : reach ts ≡ asked c = cc in (ts, e, same)
     ] refl read
@@ -199,7 +197,7 @@ reference_in_row all (u ∷ ts) (q ∷ refs) (suc j) t e h =
     reference_in_row all ts refs j t rest h
 
 -- a link between two cells is an arc between their indexes
-pub arc_from_link : (cells : List (PlainCell Rings)) (targets : List (Vec ℕ Global)) (k l : ℕ) (a b : List ℕ)
+pub arc_from_link : (cells : List (PlainCell Rings)) (targets : List (List ℕ)) (k l : ℕ) (a b : List ℕ)
     → IsDistinct bytes_eq (names cells) → AreAllTargets cells targets → slice_get (names cells) k ≡ Some a
     → slice_get (names cells) l ≡ Some b → Contains (links cells) (a, b) → (j : ℕ) × IsArc targets k j l
 arc_from_link cells targets k l a b d t hk hl h =
@@ -209,21 +207,21 @@ arc_from_link cells targets k l a b d t hk hl h =
     slice_get-map name_of cells w.place ∙ (ap (option_map name_of) w.cell_is ∙ ap Some w.name_is) in
     let here : w.place ≡ k = once_named (names cells) w.place k a d named hk in
     let row = row_of cells targets w.place w.cell t w.cell_is in
-    let to = target_in_row (names cells) row.0.items w.cell.references w.which w.reference row.2 w.reference_is in
+    let to = target_in_row (names cells) row.0 w.cell.references w.which w.reference row.2 w.reference_is in
     let there : to.0 ≡ l = once_named (names cells) to.0 l b d (to.2 ∙ ap Some w.to_is) hl in
     (w.which, (row.0, subst (λ q. slice_get targets q ≡ Some row.0) here row.1, to.1 ∙ ap Some there))
 
 -- an arc between the indexes of two cells is a link
-pub link_from_arc : (cells : List (PlainCell Rings)) (targets : List (Vec ℕ Global)) (k j l : ℕ) (a b : List ℕ)
+pub link_from_arc : (cells : List (PlainCell Rings)) (targets : List (List ℕ)) (k j l : ℕ) (a b : List ℕ)
     → AreAllTargets cells targets → slice_get (names cells) k ≡ Some a → slice_get (names cells) l ≡ Some b
     → IsArc targets k j l → Contains (links cells) (a, b)
 link_from_arc cells targets k j l a b t hk hl arc =
     let c = cell_at cells k a hk in
     let row = row_of cells targets k c.0 t c.1 in
     let same : row.0 ≡ arc.0 = one_answer row.1 arc.1 in
-    let at : slice_get row.0.items j ≡ Some l =
-    subst (λ (u : Vec ℕ Global). slice_get u.items j ≡ Some l) (sym same) arc.2 in
-    let from = reference_in_row (names cells) row.0.items c.0.references j l row.2 at in
+    let at : slice_get row.0 j ≡ Some l =
+    subst (λ (u : List ℕ). slice_get u j ≡ Some l) (sym same) arc.2 in
+    let from = reference_in_row (names cells) row.0 c.0.references j l row.2 at in
     let to : from.0.cell ≡ b = one_answer from.2 hl in
     subst (λ (n : List ℕ). Contains (links cells) (n, b)) c.2
     (subst (λ (n : List ℕ). Contains (links cells) (c.0.name, n)) to (is_link cells k c.0 j from.0 c.1 from.1))

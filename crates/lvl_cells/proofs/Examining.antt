@@ -4,8 +4,6 @@ use Rattle.std.proofs.Common.{⊎_elim, List, [], ◌∷◌, map, length, Option
 use Rattle.std.proofs.Common.{subst, arith}
 use Rattle.std.specs.List.{slice_get, IsDistinct}
 use Rattle.std.specs.Str.{bytes_eq}
-use Rattle.std.specs.declared.alloc.Global.{Global}
-use Rattle.std.specs.declared.vec.Vec.{Vec}
 use Rattle.std.proofs.lemmas.Option.{slice_get-get_or, slice_get_within, get_or_from_slice_get, slice_get-map}
 use Rattle.std.specs.Option.{option_map}
 use Rattle.std.proofs.lemmas.List.Elements.{All-nil, All-cons, All-head, All-tail, All-append, All-contains}
@@ -24,7 +22,7 @@ use Rattle.lvl_cells.specs.declared.fault.CellFault.TheVariants.{ManyTops, TooMa
 use Rattle.lvl_cells.proofs.Missing.{named_links}
 use Rattle.lvl_cells.proofs.Sequences.{item_there}
 
-pub linked_by : (cells : List (PlainCell Rings)) (tss : List (Vec ℕ Global)) → IsDistinct bytes_eq (names cells)
+pub linked_by : (cells : List (PlainCell Rings)) (tss : List (List ℕ)) → IsDistinct bytes_eq (names cells)
     → AreAllTargets cells tss → AreLinked cells
 linked_by cells tss d t = record { distinct = d; named = named_links (names cells) cells tss t }
 

@@ -1,16 +1,14 @@
 -- The targets of all cells, and the first reference that names no cell.
-use Rattle.std.proofs.Common.{◌≡◌, ℕ, ◌+◌, ◌<◌, List, [], ◌∷◌, ◌++◌, map, take, drop, length, get_or, Some}
+use Rattle.std.proofs.Common.{◌≡◌, ℕ, ◌+◌, ◌<◌, List, [], ◌∷◌, ◌++◌, map, take, drop, length, get_or, Option, Some}
 use Rattle.std.proofs.Common.{append_assoc, All, Contains, refl, sym, ap, ◌∙◌}
 use Rattle.std.specs.List.{slice_get}
-use Rattle.std.specs.declared.alloc.Global.{Global}
-use Rattle.std.specs.declared.vec.Vec.{Vec}
-use Rattle.std.proofs.lemmas.List.{map-append}
+use Rattle.std.proofs.lemmas.List.{map-append, take_more}
 use Rattle.std.proofs.lemmas.List.Concat.{flat_map-append}
 use Rattle.std.proofs.lemmas.List.Elements.{All-nil, All-cons, All-head, All-tail, All-append}
 use Rattle.lvl_cells.specs.Cells.{PlainCell, PlainReference, names, Rings}
 use Rattle.lvl_cells.specs.Soundness.{links}
 use Rattle.lvl_cells.specs.Faults.{IsFirstMissing}
-use Rattle.lvl_cells.specs.inside.Targets.{IsFirstUnknown, IsMissingFault}
+use Rattle.lvl_cells.specs.inside.Targets.{AreTargets, IsFirstUnknown, IsMissingFault}
 use Rattle.lvl_cells.specs.inside.Steps.{IsFirstMissingFault}
 use Rattle.lvl_cells.specs.declared.fault.CellFault.{CellFault}
 use Rattle.lvl_cells.specs.declared.fault.CellFault.TheVariants.{MissingCell}
@@ -18,9 +16,23 @@ use Rattle.lvl_names.proofs.Elements.{contains_at}
 use Rattle.lvl_cells.proofs.NamedTargets.{split_here}
 
 -- the targets of the first i cells among all cells
-abbrev pub AreTargetsOf : List (List ℕ) → List (PlainCell Rings) → List (Vec ℕ Global) → Type 0
+abbrev pub AreTargetsOf : List (List ℕ) → List (PlainCell Rings) → List (List ℕ) → Type 0
 AreTargetsOf all cells targets =
-    map (λ ts. map (slice_get all) ts.items) targets ≡ map (λ c. map (λ r. Some r.cell) c.references) cells
+    map (λ ts. map (slice_get all) ts) targets ≡ map (λ c. map (λ r. Some r.cell) c.references) cells
+
+-- the targets of one more cell
+pub cells_more : (all : List (List ℕ)) (cells : List (PlainCell Rings)) (i : ℕ) (c : PlainCell Rings)
+    (tss : List (List ℕ)) (ts : List ℕ) → i < length cells → c ≡ get_or cells i c → AreTargets all c.references ts
+    → AreTargetsOf all (take i cells) tss → AreTargetsOf all (take (i + 1) cells) (tss ++ ts ∷ [])
+cells_more all cells i c tss ts h e at inv =
+    let reach : List ℕ → List (Option (List ℕ)) = λ us. map (slice_get all) us in
+    let asked : PlainCell Rings → List (Option (List ℕ)) = λ q. map (λ r. Some r.cell) q.references in
+    let more : take (i + 1) cells ≡ take i cells ++ c ∷ [] =
+    take_more cells i c h ∙ ap (λ (q : PlainCell Rings). take i cells ++ q ∷ []) (sym e) in
+    map-append reach tss (ts ∷ [])
+    ∙ (ap (λ l. l ++ reach ts ∷ []) inv
+    ∙ (ap (λ o. map asked (take i cells) ++ o ∷ []) at
+    ∙ sym (ap (map asked) more ∙ map-append asked (take i cells) (c ∷ []))))
 
 abbrev IsNamed : List (List ℕ) → (List ℕ × List ℕ) → Type 0
 IsNamed all link = Contains all link.1
@@ -38,14 +50,14 @@ named_from all from (r ∷ rs) (t ∷ ts) e =
     All-cons (IsNamed all) (from, r.cell) (map (λ (q : PlainReference). (from, q.cell)) rs)
     (contains_at all t r.cell at) (named_from all from rs ts rest)
 
-pub named_links : (all : List (List ℕ)) (cells : List (PlainCell Rings)) (tss : List (Vec ℕ Global))
+pub named_links : (all : List (List ℕ)) (cells : List (PlainCell Rings)) (tss : List (List ℕ))
     → AreTargetsOf all cells tss → All (λ link. Contains all link.1) (links cells)
 named_links all [] tss e = All-nil (IsNamed all)
 named_links all (c ∷ cs) [] e = cc
 named_links all (c ∷ cs) (ts ∷ tss) e =
-    let first : map (slice_get all) ts.items ≡ map (λ (q : PlainReference). Some q.cell) c.references = cc in
+    let first : map (slice_get all) ts ≡ map (λ (q : PlainReference). Some q.cell) c.references = cc in
     let rest : AreTargetsOf all cs tss = cc in
-    All-append (IsNamed all) (links_from c) (links cs) (named_from all c.name c.references ts.items first)
+    All-append (IsNamed all) (links_from c) (links cs) (named_from all c.name c.references ts first)
     (named_links all cs tss rest)
 
 paired : (from : List ℕ) (refs : List PlainReference)
@@ -62,7 +74,7 @@ named_pairs all from (n ∷ ns) h =
     All-cons (IsNamed all) (from, n) (map (λ (m : List ℕ). (from, m)) ns) (All-head (Contains all) n ns h)
     (named_pairs all from ns (All-tail (Contains all) n ns h))
 
-pub first_missing : (cells : List (PlainCell Rings)) (i : ℕ) (c : PlainCell Rings) (tss : List (Vec ℕ Global))
+pub first_missing : (cells : List (PlainCell Rings)) (i : ℕ) (c : PlainCell Rings) (tss : List (List ℕ))
     (from name : List ℕ) → i < length cells → c ≡ get_or cells i c → AreTargetsOf (names cells) (take i cells) tss
     → (from ≡ c.name) × IsFirstUnknown (names cells) (map (λ r. r.cell) c.references) name
     → IsFirstMissing cells from name
@@ -90,7 +102,7 @@ first_missing cells i c tss from name h e inv f =
       missing = u.unknown;
     }
 
-pub missing_fault : (cells : List (PlainCell Rings)) (i : ℕ) (c : PlainCell Rings) (tss : List (Vec ℕ Global))
+pub missing_fault : (cells : List (PlainCell Rings)) (i : ℕ) (c : PlainCell Rings) (tss : List (List ℕ))
     (f : CellFault) → i < length cells → c ≡ get_or cells i c → AreTargetsOf (names cells) (take i cells) tss
     → IsMissingFault (names cells) c f → IsFirstMissingFault cells f
 missing_fault cells i c tss (MissingCell from name) h e inv m =

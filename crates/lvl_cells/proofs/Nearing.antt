@@ -3,8 +3,6 @@ use Rattle.std.proofs.Common.{◌≡◌, ◌≢◌, ℕ, zero, suc, ◌+◌, ◌
 use Rattle.std.proofs.Common.{sum_by, ⊎_elim, Option, Some, None, refl, sym, ap, ◌∙◌, subst, arith}
 use Rattle.std.specs.List.{slice_get}
 use Rattle.std.specs.Option.{option_map_or}
-use Rattle.std.specs.declared.alloc.Global.{Global}
-use Rattle.std.specs.declared.vec.Vec.{Vec}
 use Rattle.std.proofs.Math.Nat.{mul-le-mul_left}
 use Rattle.std.proofs.lemmas.List.{length-append}
 use Rattle.std.proofs.lemmas.List.Sums.{get_or-le-sum_by}
@@ -16,8 +14,8 @@ use Rattle.lvl_cells.specs.inside.Walking.{IsArc, GoesOn, new_count, left_at, wo
 use Rattle.lvl_cells.proofs.Indexes.{push_last}
 use Rattle.lvl_cells.proofs.Walks.{set_there, set_elsewhere, same_or_not}
 
-abbrev references : List (Vec ℕ Global) → ℕ
-references targets = sum_by (λ ts. length ts.items) targets
+abbrev references : List (List ℕ) → ℕ
+references targets = sum_by (λ ts. length ts) targets
 
 abbrev is_new : Mark → ℕ
 is_new New = 1
@@ -37,14 +35,14 @@ new_count-set (x ∷ xs) zero o m h =
 new_count-set (x ∷ xs) (suc b) o m h =
     omega (arith, new_count-cons x (set xs b m), new_count-cons x xs, new_count-set xs b o m h)
 
-left_most : (targets : List (Vec ℕ Global)) (o : Option Visit) → left_at targets o ≤ references targets
+left_most : (targets : List (List ℕ)) (o : Option Visit) → left_at targets o ≤ references targets
 left_most targets None = omega arith
 left_most targets (Some v) =
     elim (slice_get targets v.cell)
-    as (λ t. slice_get targets v.cell ≡ t → option_map_or (λ ts. length ts.items - v.done) t 0 ≤ references targets) [
+    as (λ t. slice_get targets v.cell ≡ t → option_map_or (λ ts. length ts - v.done) t 0 ≤ references targets) [
       | None ↦ λ e. omega arith
       | Some ts ↦ λ e.
-          let long : Vec ℕ Global → ℕ = λ u. length u.items in
+          let long : List ℕ → ℕ = λ u. length u in
           let at : get_or targets v.cell ts ≡ ts = get_or_from_slice_get targets v.cell ts ts e in
           omega (arith, get_or-le-sum_by long targets v.cell ts (slice_get_within targets v.cell ts e), ap long at)
     ] refl
@@ -57,7 +55,7 @@ last_at front v =
     let e : length (front ++ v ∷ []) - 1 ≡ length front = omega (arith, length-append front (v ∷ [])) in
     rw e (push_last front v)
 
-pub nearer_into : (targets : List (Vec ℕ Global)) (marks : List Mark) (path : List Visit) (w : Visit) (b : ℕ)
+pub nearer_into : (targets : List (List ℕ)) (marks : List Mark) (path : List Visit) (w : Visit) (b : ℕ)
     → slice_get marks b ≡ Some New
     → work_left targets (set marks b Open) (path ++ w ∷ []) < work_left targets marks path
 nearer_into targets marks path w b new =
@@ -69,7 +67,7 @@ nearer_into targets marks path w b new =
     (omega (arith, count, longer))
     (omega (arith, left_most targets (slice_get (path ++ w ∷ []) (length (path ++ w ∷ []) - 1))))
 
-pub nearer_out : (targets : List (Vec ℕ Global)) (marks : List Mark) (front : List Visit) (v : Visit)
+pub nearer_out : (targets : List (List ℕ)) (marks : List Mark) (front : List Visit) (v : Visit)
     → slice_get marks v.cell ≡ Some Open
     → work_left targets (set marks v.cell Done) front < work_left targets marks (front ++ v ∷ [])
 nearer_out targets marks front v is =
@@ -81,7 +79,7 @@ nearer_out targets marks front v is =
     (omega (arith, count, length-append front (v ∷ [])))
     (omega (arith, left_most targets (slice_get front (length front - 1))))
 
-pub nearer_past : (targets : List (Vec ℕ Global)) (marks : List Mark) (front : List Visit) (v : Visit) (b : ℕ)
+pub nearer_past : (targets : List (List ℕ)) (marks : List Mark) (front : List Visit) (v : Visit) (b : ℕ)
     → IsArc targets v.cell v.done b
     → work_left targets marks (front ++ (record { cell = v.cell; done = v.done + 1 }) ∷ [])
     < work_left targets marks (front ++ v ∷ [])
@@ -89,16 +87,16 @@ nearer_past targets marks front v b arc =
     let next : Visit = record { cell = v.cell; done = v.done + 1 } in
     let long : length (front ++ next ∷ []) ≡ length (front ++ v ∷ []) =
     length-append front (next ∷ []) ∙ sym (length-append front (v ∷ [])) in
-    let here : left_at targets (Some v) ≡ length arc.0.items - v.done =
-    ap (λ (o : Option (Vec ℕ Global)). option_map_or (λ ts. length ts.items - v.done) o 0) arc.1 in
-    let there : left_at targets (Some next) ≡ length arc.0.items - (v.done + 1) =
-    ap (λ (o : Option (Vec ℕ Global)). option_map_or (λ ts. length ts.items - (v.done + 1)) o 0) arc.1 in
-    let some : v.done < length arc.0.items = slice_get_within arc.0.items v.done b arc.2 in
+    let here : left_at targets (Some v) ≡ length arc.0 - v.done =
+    ap (λ (o : Option (List ℕ)). option_map_or (λ ts. length ts - v.done) o 0) arc.1 in
+    let there : left_at targets (Some next) ≡ length arc.0 - (v.done + 1) =
+    ap (λ (o : Option (List ℕ)). option_map_or (λ ts. length ts - (v.done + 1)) o 0) arc.1 in
+    let some : v.done < length arc.0 = slice_get_within arc.0 v.done b arc.2 in
     let old : left_at targets (slice_get (front ++ v ∷ []) (length (front ++ v ∷ []) - 1))
-    ≡ length arc.0.items - v.done =
+    ≡ length arc.0 - v.done =
     ap (left_at targets) (last_at front v) ∙ here in
     let new : left_at targets (slice_get (front ++ next ∷ []) (length (front ++ next ∷ []) - 1))
-    ≡ length arc.0.items - (v.done + 1) =
+    ≡ length arc.0 - (v.done + 1) =
     ap (left_at targets) (last_at front next) ∙ there in
     let all : ℕ = 1 + references targets in
     let same : (2 * new_count marks + length (front ++ next ∷ [])) * all

@@ -4,8 +4,6 @@ use Rattle.std.proofs.Common.{get_or, Option, Some, Contains, length-drop, sym, 
 use Rattle.std.specs.List.{slice_get, IsDistinct}
 use Rattle.std.specs.Bool.{nat_eq}
 use Rattle.std.specs.Option.{option_map}
-use Rattle.std.specs.declared.alloc.Global.{Global}
-use Rattle.std.specs.declared.vec.Vec.{Vec}
 use Rattle.std.proofs.lemmas.Map.Keys.{IsDistinct-tail}
 use Rattle.std.proofs.lemmas.List.{drop-map, get_or-reverse, length-replicate, get_or-replicate}
 use Rattle.std.proofs.lemmas.Option.{slice_get-map, slice_get_within, slice_get-get_or, get_or_from_slice_get}
@@ -25,10 +23,10 @@ use Rattle.lvl_cells.proofs.Walks.{none_open}
 use Rattle.lvl_cells.proofs.Sequences.{one_answer, item_there, slice_get-drop}
 
 -- there are as many rows of targets as cells
-pub rows_long : (cells : List (PlainCell Rings)) (targets : List (Vec ℕ Global)) → AreAllTargets cells targets
+pub rows_long : (cells : List (PlainCell Rings)) (targets : List (List ℕ)) → AreAllTargets cells targets
     → length targets ≡ length cells
 rows_long cells targets t =
-    let reach : Vec ℕ Global → List (Option (List ℕ)) = λ u. map (slice_get (names cells)) u.items in
+    let reach : List ℕ → List (Option (List ℕ)) = λ u. map (slice_get (names cells)) u in
     let asked : PlainCell Rings → List (Option (List ℕ)) = λ q. map (λ r. Some r.cell) q.references in
     sym (length-map targets reach) ∙ (ap length t ∙ length-map cells asked)
 
@@ -36,7 +34,7 @@ pub names_long : (cells : List (PlainCell Rings)) → length (names cells) ≡ l
 names_long cells = let name_of : PlainCell Rings → List ℕ = λ c. c.name in length-map cells name_of
 
 -- each target is the index of a cell
-pub targets_within : (cells : List (PlainCell Rings)) (targets : List (Vec ℕ Global)) → AreAllTargets cells targets
+pub targets_within : (cells : List (PlainCell Rings)) (targets : List (List ℕ)) → AreAllTargets cells targets
     → EachTargetWithin targets (length targets)
 targets_within cells targets t =
     λ k ts hk j b hj.
@@ -44,11 +42,11 @@ targets_within cells targets t =
     let c = item_there cells k (omega (arith, hk, rows_long cells targets t)) in
     let here = row_of cells targets k c.0 t c.1 in
     let same : get_or targets k ts ≡ here.0 = one_answer row here.1 in
-    let items : List ℕ = (get_or targets k ts).items in
+    let items : List ℕ = get_or targets k ts in
     let at : slice_get items j ≡ Some (get_or items j b) = slice_get-get_or items j b hj in
     let from =
-    reference_in_row (names cells) here.0.items c.0.references j (get_or items j b) here.2
-    (subst (λ (u : Vec ℕ Global). slice_get u.items j ≡ Some (get_or items j b)) same at) in
+    reference_in_row (names cells) here.0 c.0.references j (get_or items j b) here.2
+    (subst (λ (u : List ℕ). slice_get u j ≡ Some (get_or items j b)) same at) in
     omega (
       arith,
       slice_get_within (names cells) (get_or items j b) from.0.cell from.2,
@@ -57,7 +55,7 @@ targets_within cells targets t =
     )
 
 -- the visits on the path are to cells
-path_within : (cells : List (PlainCell Rings)) (targets : List (Vec ℕ Global)) (marks : List Mark) (path : List Visit)
+path_within : (cells : List (PlainCell Rings)) (targets : List (List ℕ)) (marks : List Mark) (path : List Visit)
     (finished : List ℕ) (k : ℕ) (v : Visit) → AreAllTargets cells targets → IsWalk targets marks path finished
     → slice_get path k ≡ Some v → v.cell < length cells
 path_within cells targets marks path finished k v t w h =
@@ -71,7 +69,7 @@ distinct_rest xs zero d = d
 distinct_rest [] (suc p) d = d
 distinct_rest (x ∷ xs) (suc p) d = distinct_rest xs p (IsDistinct-tail nat_eq x xs d)
 
-visit_link : (cells : List (PlainCell Rings)) (targets : List (Vec ℕ Global)) (v w : Visit)
+visit_link : (cells : List (PlainCell Rings)) (targets : List (List ℕ)) (v w : Visit)
     → AreAllTargets cells targets → v.cell < length cells → w.cell < length cells → IsArc targets v.cell v.done w.cell
     → Contains (links cells) (visited_name cells v, visited_name cells w)
 visit_link cells targets v w t hv hw arc =
@@ -79,7 +77,7 @@ visit_link cells targets v w t hv hw arc =
     (name_there cells v hv) (name_there cells w hw) arc
 
 -- if the walk leads back to a cell on its path, the path from there on is a round
-pub round_by : (cells : List (PlainCell Rings)) (targets : List (Vec ℕ Global)) (marks : List Mark) (path : List Visit)
+pub round_by : (cells : List (PlainCell Rings)) (targets : List (List ℕ)) (marks : List Mark) (path : List Visit)
     (finished : List ℕ) (start : ℕ) (round : List Visit) → AreAllTargets cells targets
     → IsWalk targets marks path finished → LeadsBack targets path start → IsFrom path start round
     → IsRoundOf cells round
@@ -123,7 +121,7 @@ unfolding IsDistinct
 none_apart = tt
 
 -- before the first step
-pub walk_none : (targets : List (Vec ℕ Global)) (marks : List Mark) → length marks ≡ length targets
+pub walk_none : (targets : List (List ℕ)) (marks : List Mark) → length marks ≡ length targets
     → ((k : ℕ) (m : Mark) → slice_get marks k ≡ Some m → m ≡ New) → IsWalk targets marks [] []
 walk_none targets marks long new = record {
   long = long;
@@ -168,7 +166,7 @@ seen_is_done marks k h new open_ =
     ] at.1
 
 -- if no cell is new and the path is empty, the finished cells in reverse are an order
-pub order_by : (cells : List (PlainCell Rings)) (targets : List (Vec ℕ Global)) (marks : List Mark) (finished : List ℕ)
+pub order_by : (cells : List (PlainCell Rings)) (targets : List (List ℕ)) (marks : List Mark) (finished : List ℕ)
     → AreLinked cells → AreAllTargets cells targets → IsWalk targets marks [] finished
     → ((k : ℕ) → k < length targets → slice_get marks k ≡ Some New → ⊥) → IsOrder cells (reverse finished)
 order_by cells targets marks finished l t w seen =

@@ -1,11 +1,9 @@
 -- The cells to which no cell refers.
-use Rattle.std.proofs.Common.{◌≡◌, ℕ, zero, suc, ◌+◌, ◌<◌, ◌≤◌, Bool, true, false, List, [], ◌∷◌, ◌++◌, map, take, drop}
+use Rattle.std.proofs.Common.{◌≡◌, ◌≢◌, ℕ, zero, suc, ◌+◌, ◌<◌, ◌≤◌, set, Bool, true, false, List, [], ◌∷◌, ◌++◌, map, take}
 use Rattle.std.proofs.Common.{length, ◌⊎◌, inl, inr, ⊎_elim, ◌↔◌, Some, None, Contains, refl, sym, ap, ◌∙◌, subst}
-use Rattle.std.proofs.Common.{arith}
+use Rattle.std.proofs.Common.{drop, arith}
 use Rattle.std.specs.List.{slice_get}
 use Rattle.std.specs.Option.{option_map}
-use Rattle.std.specs.declared.alloc.Global.{Global}
-use Rattle.std.specs.declared.vec.Vec.{Vec}
 use Rattle.std.proofs.lemmas.List.{append-nil}
 use Rattle.lvl_cells.proofs.NamedTargets.{take_past}
 use Rattle.std.proofs.lemmas.List.Elements.{All-contains}
@@ -20,7 +18,7 @@ use Rattle.lvl_names.proofs.Elements.{contains_at, at_contains}
 use Rattle.lvl_cells.proofs.Arcs.{order_of_two, link_of, arc_from_link, link_from_arc}
 use Rattle.lvl_cells.proofs.Orders.{rows_long, names_long}
 use Rattle.lvl_cells.proofs.Sequences.{one_answer, item_there}
-use Rattle.lvl_cells.proofs.Walks.{same_or_not}
+use Rattle.lvl_cells.proofs.Walks.{same_or_not, set_there, set_elsewhere}
 
 -- the targets before index i are marked, and those that were marked before
 abbrev pub AreMarked : List Bool → List Bool → List ℕ → ℕ → Type 0
@@ -28,6 +26,38 @@ AreMarked old new places i =
     (k : ℕ)
     → (slice_get new k ≡ Some true)
     ↔ ((slice_get old k ≡ Some true) ⊎ ((q : ℕ) × (q < i) × (slice_get places q ≡ Some k)))
+
+-- one more target is marked
+pub marked_next : (old new : List Bool) (places : List ℕ) (i p : ℕ) → slice_get places i ≡ Some p → p < length new
+    → AreMarked old new places i → AreMarked old (set new p true) places (i + 1)
+marked_next old new places i p at low inv k =
+    let was = item_there new p low in
+    ⊎_elim (λ e. (
+      λ h. inr (i, omega arith, at ∙ ap Some (sym e)),
+      λ h. subst (λ n. slice_get (set new p true) n ≡ Some true) (sym e) (set_there new p was.0 true was.1),
+    ))
+    (λ n. (
+      λ h. ⊎_elim (λ a. inl a) (λ w. inr (w.0, omega (arith, w.1), w.2))
+          ((inv k).0 (sym (set_elsewhere new p k true n) ∙ h)),
+      λ h.
+          set_elsewhere new p k true n
+          ∙ (inv k).1 (⊎_elim (λ a. inl a)
+          (λ w.
+          let apart : w.0 ≢ i =
+          λ s. n (one_answer (subst (λ q. slice_get places q ≡ Some k) s w.2) at) in
+          inr (w.0, omega (arith, w.1, apart), w.2)) h),
+    )) (same_or_not k p)
+
+-- all targets are marked
+pub marked_all : (old new : List Bool) (places : List ℕ) (i : ℕ) → length places ≤ i → AreMarked old new places i
+    → (k : ℕ) → (slice_get new k ≡ Some true) ↔ ((slice_get old k ≡ Some true) ⊎ Contains places k)
+marked_all old new places i past inv k = (
+  λ h. ⊎_elim (λ a. inl a) (λ w. inr (contains_at places w.0 k w.2)) ((inv k).0 h),
+  λ h.
+      (inv k).1 (⊎_elim (λ a. inl a)
+      (λ c. let at = at_contains places k c in
+      inr (at.0, omega (arith, past, slice_get_within places at.0 k at.1), at.1)) h),
+)
 
 drop_past : (xs : List Bool) (n : ℕ) → length xs ≤ n → drop n xs ≡ []
 drop_past [] zero h = refl
@@ -44,28 +74,28 @@ written_whole old new n h e =
     ∙ (ap (take n) (append-nil new) ∙ take_past new n (omega (arith, h, e)))
 
 -- the targets of the first i cells are marked
-abbrev pub AreMarkedBefore : List Bool → List (Vec ℕ Global) → ℕ → Type 0
+abbrev pub AreMarkedBefore : List Bool → List (List ℕ) → ℕ → Type 0
 AreMarkedBefore marks targets i =
     (k : ℕ) → (slice_get marks k ≡ Some true) ↔ ((a : ℕ) × (j : ℕ) × (a < i) × IsArc targets a j k)
 
-pub referred_more : (old new : List Bool) (targets : List (Vec ℕ Global)) (i : ℕ) (ts : Vec ℕ Global)
+pub referred_more : (old new : List Bool) (targets : List (List ℕ)) (i : ℕ) (ts : List ℕ)
     → slice_get targets i ≡ Some ts → AreMarkedBefore old targets i
-    → ((k : ℕ) → (slice_get new k ≡ Some true) ↔ ((slice_get old k ≡ Some true) ⊎ Contains ts.items k))
+    → ((k : ℕ) → (slice_get new k ≡ Some true) ↔ ((slice_get old k ≡ Some true) ⊎ Contains ts k))
     → AreMarkedBefore new targets (i + 1)
 referred_more old new targets i ts at inv more k = (
   λ h. ⊎_elim (λ w. let a = (inv k).0 w in (a.0, a.1, omega (arith, a.2), a.3))
-      (λ w. let b = at_contains ts.items k w in (i, b.0, omega arith, (ts, at, b.1))) ((more k).0 h),
+      (λ w. let b = at_contains ts k w in (i, b.0, omega arith, (ts, at, b.1))) ((more k).0 h),
   λ w.
       (more k).1 (⊎_elim
       (λ e.
       let arc : IsArc targets i w.1 k = subst (λ q. IsArc targets q w.1 k) e w.3 in
       let same : arc.0 ≡ ts = one_answer arc.1 at in
-      inr (contains_at ts.items w.1 k (subst (λ (u : Vec ℕ Global). slice_get u.items w.1 ≡ Some k) same arc.2)))
+      inr (contains_at ts w.1 k (subst (λ (u : List ℕ). slice_get u w.1 ≡ Some k) same arc.2)))
       (λ n. inl ((inv k).1 (w.0, w.1, omega (arith, w.2, n), w.3))) (same_or_not w.0 i)),
 )
 
 -- a cell is a target exactly if some cell refers to its name
-pub referred_from_target : (cells : List (PlainCell Rings)) (targets : List (Vec ℕ Global)) (k : ℕ) (name : List ℕ)
+pub referred_from_target : (cells : List (PlainCell Rings)) (targets : List (List ℕ)) (k : ℕ) (name : List ℕ)
     → AreAllTargets cells targets → slice_get (names cells) k ≡ Some name → IsTarget targets k → IsReferred cells name
 referred_from_target cells targets k name t at w =
     let low : w.0 < length (names cells) =
@@ -90,7 +120,7 @@ link_to all name h =
           (p.0, subst (λ (n : List ℕ). Contains all (p.0, n)) same (contains_at all at.0 p e))
     ] refl read
 
-pub target_from_referred : (cells : List (PlainCell Rings)) (targets : List (Vec ℕ Global)) (k : ℕ) (name : List ℕ)
+pub target_from_referred : (cells : List (PlainCell Rings)) (targets : List (List ℕ)) (k : ℕ) (name : List ℕ)
     → AreLinked cells → AreAllTargets cells targets → slice_get (names cells) k ≡ Some name → IsReferred cells name
     → IsTarget targets k
 target_from_referred cells targets k name l t at h =
@@ -108,7 +138,7 @@ root_within cells order root o first =
     All-contains (λ k. k < length cells) order root o.within (contains_at order 0 root first)
 
 -- no cell refers to the first cell of an order
-pub first_is_free : (cells : List (PlainCell Rings)) (targets : List (Vec ℕ Global)) (order : List ℕ) (root : ℕ)
+pub first_is_free : (cells : List (PlainCell Rings)) (targets : List (List ℕ)) (order : List ℕ) (root : ℕ)
     → AreAllTargets cells targets → IsOrder cells order → slice_get order 0 ≡ Some root → IsTarget targets root → ⊥
 first_is_free cells targets order root t o first w =
     let a_low : w.0 < length cells =
@@ -121,7 +151,7 @@ first_is_free cells targets order root t o first w =
     absurd (omega (arith, o.falls place.0 0 w.0 root a.0 b.0 place.1 first a.1 b.1 link))
 
 -- if some cell refers to each cell but the root, the root is the top
-pub top_by : (cells : List (PlainCell Rings)) (targets : List (Vec ℕ Global)) (order : List ℕ) (root : ℕ)
+pub top_by : (cells : List (PlainCell Rings)) (targets : List (List ℕ)) (order : List ℕ) (root : ℕ)
     → AreLinked cells → AreAllTargets cells targets → IsOrder cells order → slice_get order 0 ≡ Some root
     → (HasOtherRoot targets root → ⊥) → IsTop cells None root
 top_by cells targets order root l t o first alone = (
@@ -142,7 +172,7 @@ top_by cells targets order root l t o first alone = (
 )
 
 -- two cells to which no cell refers
-pub two_tops_by : (cells : List (PlainCell Rings)) (targets : List (Vec ℕ Global)) (order : List ℕ) (root : ℕ)
+pub two_tops_by : (cells : List (PlainCell Rings)) (targets : List (List ℕ)) (order : List ℕ) (root : ℕ)
     → AreLinked cells → AreAllTargets cells targets → IsOrder cells order → slice_get order 0 ≡ Some root
     → HasOtherRoot targets root → HasTwoTops cells
 two_tops_by cells targets order root l t o first h =
@@ -178,7 +208,7 @@ two_tops_by cells targets order root l t o first h =
     }) o2) (order_of_two root h.other)
 
 -- if only the root is unmarked, some cell refers to each other cell
-pub no_other : (marks : List Bool) (targets : List (Vec ℕ Global)) (root n : ℕ)
+pub no_other : (marks : List Bool) (targets : List (List ℕ)) (root n : ℕ)
     → ((k : ℕ) → (slice_get marks k ≡ Some true) ↔ IsTarget targets k)
     → ((j : ℕ) → j < n → slice_get marks j ≡ Some false → j ≡ root) → length marks ≤ n → length marks ≡ length targets
     → HasOtherRoot targets root → ⊥

@@ -6,8 +6,6 @@ use Rattle.std.specs.List.{slice_get, IsDistinct}
 use Rattle.std.specs.Str.{bytes_eq}
 use Rattle.std.specs.Bool.{nat_eq}
 use Rattle.std.specs.Option.{option_map, option_map_or}
-use Rattle.std.specs.declared.alloc.Global.{Global}
-use Rattle.std.specs.declared.vec.Vec.{Vec}
 use Rattle.std.proofs.lemmas.Bool.Decides.{Decides-eqb}
 use Rattle.std.proofs.lemmas.Map.Keys.{IsDistinct-tail, IsDistinct-from_apart}
 use Rattle.std.proofs.lemmas.Map.Steps.{length-le_from_distinct_below}
@@ -164,25 +162,25 @@ AreSummed w cells order sums i =
     → slice_get sums k ≡ Some (min (most_placed + 1) (over_chains w cells (length cells) c))
 
 -- the sum of one more cell, from the end of the order
-pub summed_more : (w : PlainCell Rings → ℕ) (cells : List (PlainCell Rings)) (targets : List (Vec ℕ Global))
-    (order sums : List ℕ) (i k : ℕ) (c : PlainCell Rings) (ts : Vec ℕ Global) (new : ℕ) → AreLinked cells
+pub summed_more : (w : PlainCell Rings → ℕ) (cells : List (PlainCell Rings)) (targets : List (List ℕ))
+    (order sums : List ℕ) (i k : ℕ) (c : PlainCell Rings) (ts : List ℕ) (new : ℕ) → AreLinked cells
     → AreAllTargets cells targets → IsOrder cells order → slice_get order i ≡ Some k → slice_get cells k ≡ Some c
     → slice_get targets k ≡ Some ts → k < length sums
-    → AreSummed w cells order sums (i + 1) → new ≡ min (most_placed + 1) (w c + placed_sum c.references ts.items sums)
+    → AreSummed w cells order sums (i + 1) → new ≡ min (most_placed + 1) (w c + placed_sum c.references ts sums)
     → AreSummed w cells order (set sums k new) i
 summed_more w cells targets order sums i k c ts new l t o hi hk ht low inv e =
     let most : ℕ = most_placed + 1 in
     let row = row_of cells targets k c t hk in
     let same : row.0 ≡ ts = one_answer row.1 ht in
-    let names_row : map (slice_get (names cells)) ts.items ≡ map (λ (r : PlainReference). Some r.cell) c.references =
+    let names_row : map (slice_get (names cells)) ts ≡ map (λ (r : PlainReference). Some r.cell) c.references =
     subst
-    (λ (u : Vec ℕ Global).
-    map (slice_get (names cells)) u.items ≡ map (λ (r : PlainReference). Some r.cell) c.references) same
+    (λ (u : List ℕ).
+    map (slice_get (names cells)) u ≡ map (λ (r : PlainReference). Some r.cell) c.references) same
     row.2 in
-    let later : (j q : ℕ) (d : PlainCell Rings) → slice_get ts.items j ≡ Some q → slice_get cells q ≡ Some d
+    let later : (j q : ℕ) (d : PlainCell Rings) → slice_get ts j ≡ Some q → slice_get cells q ≡ Some d
     → slice_get sums q ≡ Some (min most (over_chains w cells (length cells) d)) =
     λ j q d hj hq.
-    let from = reference_in_row (names cells) ts.items c.references j q names_row hj in
+    let from = reference_in_row (names cells) ts c.references j q names_row hj in
     let name_of : PlainCell Rings → List ℕ = λ p. p.name in
     let here : slice_get (names cells) k ≡ Some c.name = slice_get-map name_of cells k ∙ ap (option_map name_of) hk in
     let place = o.there q (slice_get_within cells q d hq) in
@@ -192,7 +190,7 @@ summed_more w cells targets order sums i k c ts new l t o hi hk ht low inv e =
     inv place.0 q d (omega (arith, later)) at hq in
     let is : new ≡ min most (over_chains w cells (length cells) c) =
     e
-    ∙ (placed_is w cells (length cells) sums c.references ts.items (w c) l.distinct names_row later
+    ∙ (placed_is w cells (length cells) sums c.references ts (w c) l.distinct names_row later
     ∙ ap (min most) (sym (count_step w cells order k c l o hk))) in
     λ q p d hq hp hd.
     ⊎_elim
@@ -213,21 +211,21 @@ pub place_within : (cells : List (PlainCell Rings)) (order : List ℕ) (i k : �
 place_within cells order i k o h = All-contains (λ n. n < length cells) order k o.within (contains_at order i k h)
 
 -- a row has as many targets as the cell has references, all of them cells
-pub row_fits : (cells : List (PlainCell Rings)) (targets : List (Vec ℕ Global)) (k : ℕ) (c : PlainCell Rings)
-    (ts : Vec ℕ Global) → AreAllTargets cells targets → slice_get cells k ≡ Some c → slice_get targets k ≡ Some ts
-    → (length ts.items ≡ length c.references) × All (λ b. b < length cells) ts.items
+pub row_fits : (cells : List (PlainCell Rings)) (targets : List (List ℕ)) (k : ℕ) (c : PlainCell Rings)
+    (ts : List ℕ) → AreAllTargets cells targets → slice_get cells k ≡ Some c → slice_get targets k ≡ Some ts
+    → (length ts ≡ length c.references) × All (λ b. b < length cells) ts
 row_fits cells targets k c ts t hk ht =
     let row = row_of cells targets k c t hk in
     let same : row.0 ≡ ts = one_answer row.1 ht in
     let reach : List ℕ → List (Option (List ℕ)) = λ u. map (slice_get (names cells)) u in
     let asked : PlainReference → Option (List ℕ) = λ r. Some r.cell in
-    let here : reach ts.items ≡ map asked c.references =
-    subst (λ (u : Vec ℕ Global). reach u.items ≡ map asked c.references) same row.2 in (
-      sym (length-map ts.items (slice_get (names cells))) ∙ (ap length here ∙ length-map c.references asked),
+    let here : reach ts ≡ map asked c.references =
+    subst (λ (u : List ℕ). reach u ≡ map asked c.references) same row.2 in (
+      sym (length-map ts (slice_get (names cells))) ∙ (ap length here ∙ length-map c.references asked),
       λ j d hj.
-          let at : slice_get ts.items j ≡ Some (get_or ts.items j d) = slice_get-get_or ts.items j d hj in
-          let from = reference_in_row (names cells) ts.items c.references j (get_or ts.items j d) here at in
-          omega (arith, slice_get_within (names cells) (get_or ts.items j d) from.0.cell from.2, names_long cells),
+          let at : slice_get ts j ≡ Some (get_or ts j d) = slice_get-get_or ts j d hj in
+          let from = reference_in_row (names cells) ts c.references j (get_or ts j d) here at in
+          omega (arith, slice_get_within (names cells) (get_or ts j d) from.0.cell from.2, names_long cells),
     )
 
 -- if all sums are known, that of the top is

@@ -5,8 +5,6 @@ use Rattle.std.proofs.Common.{subst, arith}
 use Rattle.std.specs.List.{slice_get, IsDistinct, list_any}
 use Rattle.std.specs.Bool.{nat_eq}
 use Rattle.std.specs.Cmp.{nat_eq_equiv}
-use Rattle.std.specs.declared.alloc.Global.{Global}
-use Rattle.std.specs.declared.vec.Vec.{Vec}
 use Rattle.std.proofs.lemmas.Map.Keys.{IsDistinct-push, IsDistinct-from_apart, apart_from_distinct}
 use Rattle.std.proofs.lemmas.List.{map-append, length-append}
 use Rattle.std.proofs.lemmas.List.Elements.{All-contains}
@@ -86,7 +84,7 @@ absent_number (x ∷ xs) y h =
     ] refl
 
 -- the walk goes into a new cell
-pub walk_into : (targets : List (Vec ℕ Global)) (marks : List Mark) (front : List Visit) (v : Visit) (b : ℕ)
+pub walk_into : (targets : List (List ℕ)) (marks : List Mark) (front : List Visit) (v : Visit) (b : ℕ)
     (finished : List ℕ) → IsWalk targets marks (front ++ v ∷ []) finished → IsArc targets v.cell v.done b
     → slice_get marks b ≡ Some New
     → IsWalk targets (set marks b Open) ((front ++ v ∷ []) ++ (record { cell = b; done = 0 }) ∷ []) finished
@@ -128,13 +126,13 @@ walk_into targets marks front v b finished w arc new =
     }
 
 -- a reference leads to one cell
-arc_once : (targets : List (Vec ℕ Global)) (a j b c : ℕ) → IsArc targets a j b → IsArc targets a j c → b ≡ c
+arc_once : (targets : List (List ℕ)) (a j b c : ℕ) → IsArc targets a j b → IsArc targets a j c → b ≡ c
 arc_once targets a j b c h k =
     let same : h.0 ≡ k.0 = (let e : Some h.0 ≡ Some k.0 = sym h.1 ∙ k.1 in cc) in
-    let both : Some b ≡ Some c = sym h.2 ∙ (ap (λ (ts : Vec ℕ Global). slice_get ts.items j) same ∙ k.2) in cc
+    let both : Some b ≡ Some c = sym h.2 ∙ (ap (λ (ts : List ℕ). slice_get ts j) same ∙ k.2) in cc
 
 -- the walk passes a reference to a finished cell
-pub walk_past : (targets : List (Vec ℕ Global)) (marks : List Mark) (front : List Visit) (v : Visit) (b : ℕ)
+pub walk_past : (targets : List (List ℕ)) (marks : List Mark) (front : List Visit) (v : Visit) (b : ℕ)
     (finished : List ℕ) → IsWalk targets marks (front ++ v ∷ []) finished → IsArc targets v.cell v.done b
     → slice_get marks b ≡ Some Done
     → IsWalk targets marks (front ++ (record { cell = v.cell; done = v.done + 1 }) ∷ []) finished
@@ -207,9 +205,9 @@ distinct_front xs y d =
     (apart_from_distinct nat_eq (xs ++ y ∷ []) i j e d lt (omega (arith, le, length-append xs (y ∷ [])))))
 
 -- the walk leaves a cell whose references were all followed
-pub walk_out : (targets : List (Vec ℕ Global)) (marks : List Mark) (front : List Visit) (v : Visit) (finished : List ℕ)
-    (ts : Vec ℕ Global) → IsWalk targets marks (front ++ v ∷ []) finished → slice_get targets v.cell ≡ Some ts
-    → length ts.items ≤ v.done
+pub walk_out : (targets : List (List ℕ)) (marks : List Mark) (front : List Visit) (v : Visit) (finished : List ℕ)
+    (ts : List ℕ) → IsWalk targets marks (front ++ v ∷ []) finished → slice_get targets v.cell ≡ Some ts
+    → length ts ≤ v.done
     → IsWalk targets (set marks v.cell Done) front (finished ++ v.cell ∷ [])
 walk_out targets marks front v finished ts w at all =
     let path : List Visit = front ++ v ∷ [] in
@@ -250,33 +248,28 @@ walk_out targets marks front v finished ts w at all =
           (λ x.
           let here : IsArc targets v.cell j b = subst (λ a. IsArc targets a j b) (sym x.1) arc in
           let row : ts ≡ here.0 = one_answer at here.1 in
-          let in_row : j < length here.0.items = slice_get_within here.0.items j b here.2 in
-          let in_ts : j < length ts.items = subst (λ (u : Vec ℕ Global). j < length u.items) (sym row) in_row in
+          let in_row : j < length here.0 = slice_get_within here.0 j b here.2 in
+          let in_ts : j < length ts = subst (λ (u : List ℕ). j < length u) (sym row) in_row in
           let c = w.later (length front) v j b (push_last front v) (omega (arith, in_ts, all)) here in
           let p = at_contains finished b c in
           (p.0, omega (arith, x.0, slice_get_within finished p.0 b p.1), push_front finished v.cell p.0 b p.1))
           (push_cases finished v.cell i k h);
     }
 
-pub arc_to : (targets : List (Vec ℕ Global)) (a j : ℕ) (row : Vec ℕ Global) (b : ℕ) → a < length targets
-    → row ≡ get_or targets a row → j < length row.items → b ≡ get_or row.items j b → IsArc targets a j b
-arc_to targets a j row b h e hj eb =
-    (row, slice_get-get_or targets a row h ∙ ap Some (sym e), slice_get-get_or row.items j b hj ∙ ap Some (sym eb))
-
-pub arc_within : (targets : List (Vec ℕ Global)) (n a j b : ℕ) → EachTargetWithin targets n → IsArc targets a j b
+pub arc_within : (targets : List (List ℕ)) (n a j b : ℕ) → EachTargetWithin targets n → IsArc targets a j b
     → b < n
 arc_within targets n a j b all arc =
-    let row : All (λ c. c < n) arc.0.items =
-    All-contains (λ (ts : Vec ℕ Global). All (λ c. c < n) ts.items) targets arc.0 all
+    let row : All (λ c. c < n) arc.0 =
+    All-contains (λ (ts : List ℕ). All (λ c. c < n) ts) targets arc.0 all
     (contains_at targets a arc.0 arc.1) in
-    All-contains (λ (c : ℕ). c < n) arc.0.items b row (contains_at arc.0.items j b arc.2)
+    All-contains (λ (c : ℕ). c < n) arc.0 b row (contains_at arc.0 j b arc.2)
 
 pub marked : (marks : List Mark) (b : ℕ) (d m : Mark) → b < length marks → get_or marks b d ≡ m
     → slice_get marks b ≡ Some m
 marked marks b d m h e = slice_get-get_or marks b d h ∙ ap Some e
 
 -- the last cell on the path is open
-pub last_open : (targets : List (Vec ℕ Global)) (marks : List Mark) (front : List Visit) (v : Visit) (finished : List ℕ)
+pub last_open : (targets : List (List ℕ)) (marks : List Mark) (front : List Visit) (v : Visit) (finished : List ℕ)
     → IsWalk targets marks (front ++ v ∷ []) finished → slice_get marks v.cell ≡ Some Open
 last_open targets marks front v finished w =
     let cell_of : Visit → ℕ = λ q. q.cell in
@@ -288,7 +281,7 @@ one_apart : (b : ℕ) → IsDistinct nat_eq (b ∷ [])
 one_apart b = IsDistinct-from_apart nat_eq (b ∷ []) (λ i j d lt le. absurd (omega arith))
 
 -- the walk begins at a new root
-pub walk_begin : (targets : List (Vec ℕ Global)) (marks : List Mark) (root : ℕ) (finished : List ℕ)
+pub walk_begin : (targets : List (List ℕ)) (marks : List Mark) (root : ℕ) (finished : List ℕ)
     → IsWalk targets marks [] finished → slice_get marks root ≡ Some New
     → IsWalk targets (set marks root Open) ((record { cell = root; done = 0 }) ∷ []) finished
 walk_begin targets marks root finished w new =
@@ -310,6 +303,6 @@ walk_begin targets marks root finished w new =
     }
 
 -- if the path is empty, no cell is open
-pub none_open : (targets : List (Vec ℕ Global)) (marks : List Mark) (finished : List ℕ) (k : ℕ)
+pub none_open : (targets : List (List ℕ)) (marks : List Mark) (finished : List ℕ) (k : ℕ)
     → IsWalk targets marks [] finished → slice_get marks k ≡ Some Open → ⊥
 none_open targets marks finished k w h = let c = (w.open_ones k).0 h in absurd (omega (arith, c.1))

@@ -2,7 +2,9 @@
 ghost use Rattle.std.specs.Prelude.{◌≡◌, ◌≢◌, ◌<◌, length, IfOk, IfErr, IfSome, IfNone, option_copied};
 ghost use Rattle.lvl_cells.specs.Checks.{IsSettled, IsChecked, PlacesFew, IsTargetOf, HasReference};
 ghost use Rattle.lvl_cells.specs.Faults.{IsFaultOf, IsSoundWith};
-ghost use Rattle.lvl_cells.specs.Soundness.{IsOrder};
+ghost use Rattle.lvl_cells.specs.Cells.{names};
+ghost use Rattle.lvl_cells.specs.Resolving.{IsPlaceOf};
+ghost use Rattle.lvl_cells.specs.Soundness.{AreLinked, IsOrder};
 ghost use Rattle.lvl_cells.specs.inside.Steps.{AreAllTargets};
 ghost use Rattle.lvl_refusal.specs.Refused.{Says};
 
@@ -11,6 +13,7 @@ use crate::fault::CellFault;
 use crate::library::{Cell, Library};
 use crate::names::index_of;
 use crate::order::order_of;
+use crate::rows::Targets;
 use crate::targets::all_targets;
 use crate::top::top_of;
 use lvl_refusal::Cause;
@@ -27,7 +30,7 @@ pub struct Checked {
     cells: Vec<Cell>,
     top: usize,
     order: Vec<usize>,
-    targets: Vec<Vec<usize>>,
+    targets: Targets,
 }
 
 impl Model for Checked {
@@ -42,23 +45,45 @@ impl Model for Checked {
     ghost invariant = { IsKeptSettled };
 }
 
+/// The targets of all references, and the index of the cell of the given name, if there is one. The
+/// index of all names isn't kept.
+fn resolve(
+    alloc: Global,
+    cells: &[Cell],
+    given: Option<&[u8]>,
+) -> Result<(Targets, Option<usize>), Cause<CellFault>>
+    ensures linked { IfOk result (λ found. AreLinked cells.now) }
+    ensures targets { IfOk result (λ found. AreAllTargets cells.now found.0) }
+    ensures place { IfOk result (λ found. IsPlaceOf (names cells.now) (option_copied given.entry) found.1) }
+    ensures err { IfErr result (λ refusal. Says refusal (IsFaultOf cells.now (option_copied given.entry))) }
+{
+    let index = index_of(alloc, cells)?;
+    let targets = all_targets(alloc, cells, &index)?;
+    let Some(name) = given else {
+        return Ok((targets, None));
+    };
+    match index.get(name) {
+        Some(place) => Ok((targets, Some(*place))),
+        None => Ok((targets, None)),
+    }
+}
+
 /// The top, the order and the targets of the cells, if [`check`] accepts them.
 fn examine(
     alloc: Global,
     cells: &[Cell],
     given: Option<&[u8]>,
-) -> Result<(usize, Vec<usize>, Vec<Vec<usize>>), Cause<CellFault>>
+) -> Result<(usize, Vec<usize>, Targets), Cause<CellFault>>
     requires { 0 < length cells.now }
     ensures ok { IfOk result
         (λ found. IsSettled (option_copied given.entry)
         (record { cells = cells.now; top = found.0; order = found.1.items })) }
-    ensures targets { IfOk result (λ found. AreAllTargets cells.now found.2.items) }
+    ensures targets { IfOk result (λ found. AreAllTargets cells.now found.2) }
     ensures err { IfErr result (λ refusal. Says refusal (IsFaultOf cells.now (option_copied given.entry))) }
 {
-    let index = index_of(alloc, cells)?;
-    let targets = all_targets(alloc, cells, &index)?;
+    let (targets, place) = resolve(alloc, cells, given)?;
     let order = order_of(alloc, cells, &targets)?;
-    let top = top_of(alloc, cells, &index, &targets, &order, given)?;
+    let top = top_of(alloc, cells, &targets, &order, given, place)?;
     let chains = count_from(alloc, Weight::One, cells, &targets, &order, top)?;
     if chains > MOST_PLACED {
         return Err(Cause::Breach(CellFault::TooManyPlacements));
@@ -132,7 +157,9 @@ impl Checked {
         ensures target { IfSome result (IsTargetOf self.now.cells cell reference) }
         ensures past { IfNone result (¬ HasReference self.now.cells cell reference) }
     {
-        let row = self.targets.get(cell)?;
-        row.get(reference).copied()
+        if cell >= self.targets.len() {
+            return None;
+        }
+        self.targets.row(cell).get(reference)
     }
 }

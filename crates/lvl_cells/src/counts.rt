@@ -6,6 +6,7 @@ ghost use Rattle.lvl_cells.specs.Soundness.{AreLinked, IsOrder};
 ghost use Rattle.lvl_cells.specs.inside.Steps.{AreAllTargets, weigh, placed_sum};
 
 use crate::library::Cell;
+use crate::rows::{Row, Targets};
 use std::alloc::{AllocError, Global};
 
 /// One more than the greatest number of chains, and of placed rings.
@@ -59,7 +60,7 @@ fn weight_of(weight: Weight, cell: &Cell) -> u64
 
 /// The sum of the weights over the chains from the cell, given the sums of the cells that it refers
 /// to.
-fn sum_of(weight: Weight, cell: &Cell, targets: &[usize], sums: &[u64]) -> u64
+fn sum_of(weight: Weight, cell: &Cell, targets: &Row<'_>, sums: &[u64]) -> u64
     requires row { length targets.now ≡ length cell.now.references }
     requires within { All (λ t. t < length sums.now) targets.now }
     ensures { result
@@ -68,7 +69,10 @@ fn sum_of(weight: Weight, cell: &Cell, targets: &[usize], sums: &[u64]) -> u64
     let mut sum = weight_of(weight, cell);
     for j in 0..cell.references.len() {
         let reference = cell.references.reference(j);
-        let placed = capped_product(reference.shifts().len(), sums[targets[j]]);
+        let Some(target) = targets.get(j) else {
+            unreachable!()
+        };
+        let placed = capped_product(reference.shifts().len(), sums[target]);
         sum = capped_sum(sum, placed);
     }
     sum
@@ -80,7 +84,7 @@ pub(crate) fn count_from(
     alloc: Global,
     weight: Weight,
     cells: &[Cell],
-    targets: &[Vec<usize>],
+    targets: &Targets,
     order: &[usize],
     top: usize,
 ) -> Result<u64, AllocError>
@@ -94,7 +98,7 @@ pub(crate) fn count_from(
     let mut sums = vec![in alloc; 0; cells.len()]?;
     for i in (0..order.len()).rev() {
         let place = order[i];
-        sums[place] = sum_of(weight, &cells[place], &targets[place], &sums);
+        sums[place] = sum_of(weight, &cells[place], &targets.row(place), &sums);
     }
     Ok(sums[top])
 }

@@ -49,6 +49,7 @@ mod reference;
 mod reference_lists;
 mod references;
 mod round;
+mod rows;
 mod shape_lists;
 mod shapes;
 mod shared;

@@ -7,6 +7,7 @@ ghost use Rattle.lvl_refusal.specs.Refused.{Says};
 use crate::fault::CellFault;
 use crate::library::Cell;
 use crate::round::{cycle_of, round_from};
+use crate::rows::Targets;
 use crate::walk::{Mark, walk_from};
 use lvl_refusal::Cause;
 use std::alloc::Global;
@@ -15,7 +16,7 @@ use std::alloc::Global;
 pub(crate) fn order_of(
     alloc: Global,
     cells: &[Cell],
-    targets: &[Vec<usize>],
+    targets: &Targets,
 ) -> Result<Vec<usize>, Cause<CellFault>>
     requires linked { AreLinked cells.now }
     requires targets { AreAllTargets cells.now targets.now }

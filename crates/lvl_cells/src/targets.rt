@@ -1,30 +1,32 @@
 //! The targets of references: the indexes of the cells that they name.
-ghost use Rattle.std.specs.Prelude.{IfOk, IfErr};
+ghost use Rattle.std.specs.Prelude.{IfOk, IfErr, OnOk};
 ghost use Rattle.lvl_cells.specs.Cells.{names};
 ghost use Rattle.lvl_cells.specs.Resolving.{IsIndexOf};
-ghost use Rattle.lvl_cells.specs.inside.Targets.{AreTargets, IsMissingFault};
+ghost use Rattle.lvl_cells.specs.inside.Targets.{AreTargets, HasTargets, IsMissingFault};
 ghost use Rattle.lvl_cells.specs.inside.Steps.{AreAllTargets, IsFirstMissingFault};
 ghost use Rattle.lvl_refusal.specs.Refused.{Says};
 
 use crate::fault::CellFault;
 use crate::library::Cell;
+use crate::rows::{Run, Targets, push_target};
 use lvl_refusal::Cause;
 use std::alloc::Global;
 use std::collections::BTreeMap;
 
-/// The index of the target of each reference of a cell. Refuses with [`CellFault::MissingCell`] and
-/// the first reference that names no cell, if there is one.
-pub(crate) fn targets_of(
+/// Adds a row for the targets of the references of a cell. Refuses with [`CellFault::MissingCell`]
+/// and the first reference that names no cell, if there is one.
+fn push_row(
     alloc: Global,
+    runs: &mut Vec<Run>,
     cells: &[Cell],
     index: &BTreeMap<&[u8], usize>,
     cell: &Cell,
-) -> Result<Vec<usize>, Cause<CellFault>>
+) -> Result<(), Cause<CellFault>>
     requires { IsIndexOf (names cells.now) index.now }
-    ensures ok { IfOk result (λ targets. AreTargets (names cells.now) cell.now.references targets.items) }
+    ensures ok { OnOk result (HasTargets (names cells.now) cell.now.references runs.old.items runs.new.items) }
     ensures err { IfErr result (λ refusal. Says refusal (IsMissingFault (names cells.now) cell.now)) }
 {
-    let mut targets = Vec::with_capacity(alloc, cell.references.len())?;
+    let begin = runs.len();
     for j in 0..cell.references.len() {
         let reference = cell.references.reference(j);
         let name = reference.cell();
@@ -33,9 +35,9 @@ pub(crate) fn targets_of(
             let missing = Vec::from_slice(alloc, name)?;
             return Err(Cause::Breach(CellFault::MissingCell(from, missing)));
         };
-        targets.push(*target)?;
+        push_target(runs, begin, j, *target)?;
     }
-    Ok(targets)
+    Ok(())
 }
 
 /// The targets of the references of each cell. Refuses with [`CellFault::MissingCell`] and the
@@ -44,15 +46,16 @@ pub(crate) fn all_targets(
     alloc: Global,
     cells: &[Cell],
     index: &BTreeMap<&[u8], usize>,
-) -> Result<Vec<Vec<usize>>, Cause<CellFault>>
+) -> Result<Targets, Cause<CellFault>>
     requires { IsIndexOf (names cells.now) index.now }
-    ensures ok { IfOk result (λ targets. AreAllTargets cells.now targets.items) }
+    ensures ok { IfOk result (λ targets. AreAllTargets cells.now targets) }
     ensures err { IfErr result (λ refusal. Says refusal (IsFirstMissingFault cells.now)) }
 {
-    let mut targets = Vec::with_capacity(alloc, cells.len())?;
+    let mut ends = Vec::with_capacity(alloc, cells.len())?;
+    let mut runs = Vec::new(alloc);
     for cell in cells {
-        let here = targets_of(alloc, cells, index, cell)?;
-        targets.push(here)?;
+        push_row(alloc, &mut runs, cells, index, cell)?;
+        ends.push(runs.len())?;
     }
-    Ok(targets)
+    Ok(Targets::of(ends, runs))
 }

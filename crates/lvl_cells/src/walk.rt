@@ -5,6 +5,7 @@
 ghost use Rattle.std.specs.Prelude.{◌≡◌, ◌<◌, [], length, vec_len, slice_get, All, Some, IfOk, IfNone, IfSome};
 ghost use Rattle.lvl_cells.specs.inside.Walking.{EachTargetWithin, IsStepFrom, IsWalk, GoesOn, LeadsBack, work_left};
 
+use crate::rows::Targets;
 use std::alloc::AllocError;
 
 /// A cell on the path from a root, and how many of its references were followed.
@@ -34,16 +35,18 @@ enum Move {
 }
 
 /// The next step of the walk, from the last visit on its path.
-fn next_step(targets: &[Vec<usize>], marks: &[Mark], visit: Visit) -> Move
+fn next_step(targets: &Targets, marks: &[Mark], visit: Visit) -> Move
     requires cell { visit.cell < length targets.now }
     requires targets { EachTargetWithin targets.now (length marks.now) }
     ensures { IsStepFrom targets.now marks.now visit result }
 {
-    let here = &targets[visit.cell];
-    if visit.done >= here.len() {
+    let row = targets.row(visit.cell);
+    if visit.done >= row.len() {
         return Move::Out;
     }
-    let next = here[visit.done];
+    let Some(next) = row.get(visit.done) else {
+        unreachable!()
+    };
     match marks[next] {
         Mark::New => Move::Into(next),
         Mark::Open => Move::Round(next),
@@ -53,7 +56,7 @@ fn next_step(targets: &[Vec<usize>], marks: &[Mark], visit: Visit) -> Move
 
 /// Makes one step of the walk. Returns a cell on the path if the step leads back to it.
 fn advance(
-    targets: &[Vec<usize>],
+    targets: &Targets,
     marks: &mut [Mark],
     path: &mut Vec<Visit>,
     finished: &mut Vec<usize>,
@@ -98,7 +101,7 @@ fn advance(
 /// Walks from a new root until all cells that it leads to are done. Returns a cell on the path if a
 /// reference leads back to it.
 pub(crate) fn walk_from(
-    targets: &[Vec<usize>],
+    targets: &Targets,
     root: usize,
     marks: &mut [Mark],
     path: &mut Vec<Visit>,

@@ -12,4 +12,4 @@ settled a = record { cells = a.cells.items; top = a.top; order = a.order.items }
 pub record IsKeptSettled (a : Inside) : Type 0 where
   pub given : Option (List ℕ)
   pub sound : IsSettled given (settled a)
-  pub targets : AreAllTargets a.cells.items a.targets.items
+  pub targets : AreAllTargets a.cells.items a.targets

@@ -1,8 +1,6 @@
 -- What the steps of the check return.
 use Rattle.std.specs.Prelude.{◌≡◌, ℕ, ◌+◌, ◌*◌, List, [], ◌∷◌, length, slice_index, map, Option, Some, None, Contains}
 use Rattle.std.specs.Prelude.{slice_get}
-use Rattle.std.specs.declared.alloc.Global.{Global}
-use Rattle.std.specs.declared.vec.Vec.{Vec}
 use Rattle.lvl_cells.specs.Cells.{PlainCell, PlainReference, Rings, each_ring, names}
 use Rattle.lvl_cells.specs.Chains.{own_rings}
 use Rattle.lvl_cells.specs.Faults.{IsFirstMissing, IsCycle, HasTwoTops}
@@ -12,9 +10,9 @@ use Rattle.lvl_cells.specs.declared.fault.CellFault.{CellFault}
 use Rattle.lvl_cells.specs.declared.fault.CellFault.TheVariants.{MissingCell, Cycle, TopMissing, ManyTops}
 
 -- the targets of each cell are the indexes of the cells that its references name
-abbrev pub AreAllTargets : List (PlainCell Rings) → List (Vec ℕ Global) → Type 0
+abbrev pub AreAllTargets : List (PlainCell Rings) → List (List ℕ) → Type 0
 AreAllTargets cells targets =
-    map (λ ts. map (slice_get (names cells)) ts.items) targets ≡ map (λ c. map (λ r. Some r.cell) c.references) cells
+    map (λ ts. map (slice_get (names cells)) ts) targets ≡ map (λ c. map (λ r. Some r.cell) c.references) cells
 
 -- the fault reports the first reference to a name that no cell has
 abbrev pub IsFirstMissingFault : List (PlainCell Rings) → CellFault → Type 0

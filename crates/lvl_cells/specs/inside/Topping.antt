@@ -1,15 +1,13 @@
 -- Cells to which no cell refers.
 use Rattle.std.specs.Prelude.{◌≢◌, ℕ, ◌<◌, List, length}
-use Rattle.std.specs.declared.alloc.Global.{Global}
-use Rattle.std.specs.declared.vec.Vec.{Vec}
 use Rattle.lvl_cells.specs.inside.Walking.{IsArc}
 
 -- some reference is to cell k
-abbrev pub IsTarget : List (Vec ℕ Global) → ℕ → Type 0
+abbrev pub IsTarget : List (List ℕ) → ℕ → Type 0
 IsTarget targets k = (a : ℕ) × (j : ℕ) × IsArc targets a j k
 
 -- there is another cell than the root to which no cell refers
-pub record HasOtherRoot (targets : List (Vec ℕ Global)) (root : ℕ) : Type 0 where
+pub record HasOtherRoot (targets : List (List ℕ)) (root : ℕ) : Type 0 where
   pub other : ℕ
   pub low : other < length targets
   pub apart : other ≢ root

@@ -4,8 +4,6 @@ use Rattle.std.specs.Prelude.{Contains, slice_get, Option, Some, None}
 use Rattle.std.specs.Option.{option_map_or}
 use Rattle.std.specs.List.{IsDistinct}
 use Rattle.std.specs.Bool.{nat_eq}
-use Rattle.std.specs.declared.alloc.Global.{Global}
-use Rattle.std.specs.declared.vec.Vec.{Vec}
 use Rattle.lvl_cells.specs.declared.walk.Visit.{Visit}
 use Rattle.lvl_cells.specs.declared.walk.Move.{Move}
 use Rattle.lvl_cells.specs.declared.walk.Move.TheVariants.{Into, Past, Out, Round}
@@ -13,12 +11,12 @@ use Rattle.lvl_cells.specs.declared.walk.Mark.{Mark}
 use Rattle.lvl_cells.specs.declared.walk.Mark.TheVariants.{New, Open, Done}
 
 -- reference j of cell a is to cell b
-abbrev pub IsArc : List (Vec ℕ Global) → ℕ → ℕ → ℕ → Type 0
-IsArc targets a j b = (ts : Vec ℕ Global) × (slice_get targets a ≡ Some ts) × (slice_get ts.items j ≡ Some b)
+abbrev pub IsArc : List (List ℕ) → ℕ → ℕ → ℕ → Type 0
+IsArc targets a j b = (ts : List ℕ) × (slice_get targets a ≡ Some ts) × (slice_get ts j ≡ Some b)
 
 -- the state of a walk: open cells are those on the path, done cells those that are finished, and each finished one
 -- comes after those that it refers to
-pub record IsWalk (targets : List (Vec ℕ Global)) (marks : List Mark) (path : List Visit)
+pub record IsWalk (targets : List (List ℕ)) (marks : List Mark) (path : List Visit)
     (finished : List ℕ) : Type 0 where
   pub long : length marks ≡ length targets
   pub open_ones : (k : ℕ) → (slice_get marks k ≡ Some Open) ↔ Contains (map (λ v. v.cell) path) k
@@ -40,15 +38,15 @@ new_count (Open ∷ ms) = new_count ms
 new_count (Done ∷ ms) = new_count ms
 
 -- the number of references that a visit has still to follow
-abbrev pub left_at : List (Vec ℕ Global) → Option Visit → ℕ
+abbrev pub left_at : List (List ℕ) → Option Visit → ℕ
 left_at targets None = 0
-left_at targets (Some v) = option_map_or (λ ts. length ts.items - v.done) (slice_get targets v.cell) 0
+left_at targets (Some v) = option_map_or (λ ts. length ts - v.done) (slice_get targets v.cell) 0
 
 -- the measure of a walk: how often cells are still to be opened or closed, then the references that the last visit on
 -- the path has still to follow
-abbrev pub work_left : List (Vec ℕ Global) → List Mark → List Visit → ℕ
+abbrev pub work_left : List (List ℕ) → List Mark → List Visit → ℕ
 work_left targets marks path =
-    (2 * new_count marks + length path) * (1 + sum_by (λ ts. length ts.items) targets)
+    (2 * new_count marks + length path) * (1 + sum_by (λ ts. length ts) targets)
     + left_at targets (slice_get path (length path - 1))
 
 -- no cell becomes new again
@@ -56,19 +54,19 @@ abbrev pub GoesOn : List Mark → List Mark → Type 0
 GoesOn old new = (k : ℕ) → slice_get new k ≡ Some New → slice_get old k ≡ Some New
 
 -- the next reference of the last cell on the path is to the cell `start`, and `start` is on the path
-abbrev pub LeadsBack : List (Vec ℕ Global) → List Visit → ℕ → Type 0
+abbrev pub LeadsBack : List (List ℕ) → List Visit → ℕ → Type 0
 LeadsBack targets path start =
     (v : Visit) × (slice_get path (length path - 1) ≡ Some v) × IsArc targets v.cell v.done start
     × Contains (map (λ w. w.cell) path) start
 
 -- every target is below n
-abbrev pub EachTargetWithin : List (Vec ℕ Global) → ℕ → Type 0
-EachTargetWithin targets n = All (λ ts. All (λ b. b < n) ts.items) targets
+abbrev pub EachTargetWithin : List (List ℕ) → ℕ → Type 0
+EachTargetWithin targets n = All (λ ts. All (λ b. b < n) ts) targets
 
 -- the move follows the next reference of the visit, to a cell with the mark of this move, or no reference is left
-abbrev pub IsStepFrom : List (Vec ℕ Global) → List Mark → Visit → Move → Type 0
+abbrev pub IsStepFrom : List (List ℕ) → List Mark → Visit → Move → Type 0
 IsStepFrom targets marks v (Into b) = IsArc targets v.cell v.done b × (slice_get marks b ≡ Some New)
 IsStepFrom targets marks v (Round b) = IsArc targets v.cell v.done b × (slice_get marks b ≡ Some Open)
 IsStepFrom targets marks v (Past done) =
     (b : ℕ) × (done ≡ v.done + 1) × IsArc targets v.cell v.done b × (slice_get marks b ≡ Some Done)
-IsStepFrom targets marks v Out = (ts : Vec ℕ Global) × (slice_get targets v.cell ≡ Some ts) × (length ts.items ≤ v.done)
+IsStepFrom targets marks v Out = (ts : List ℕ) × (slice_get targets v.cell ≡ Some ts) × (length ts ≤ v.done)

@@ -2,40 +2,32 @@ use Rattle.std.specs.Option.{option_copied}
 use Rattle.std.proofs.lemmas.Result.{err_from_is_err_and}
 use Rattle.lvl_refusal.proofs.Saying.{Says-map}
 use Rattle.lvl_cells.specs.inside.Steps.{IsCycleFault, IsTopFault}
-use Rattle.lvl_cells.proofs.Examining.{linked_by, ranked_by, cycle_fault, top_fault, too_many_chains, too_many_rings}
+use Rattle.lvl_cells.proofs.Examining.{ranked_by, cycle_fault, top_fault, too_many_chains, too_many_rings}
 use Rattle.lvl_cells.proofs.Examining.{settled_by}
 use Rattle.lvl_cells.proofs.checked.examine.Goals as goal
 
 pub order_of-requires-clause-linked : goal.order_of-requires-clause-linked
-order_of-requires-clause-linked c =
-    linked_by c.args.cells.now c.in_ok-targets.targets.items c.in_ok-index.ensures.distinct c.in_ok-targets.ensures.ok
+order_of-requires-clause-linked c = c.in_ok-targets.ensures.linked
 
 pub top_of-requires-clause-linked : goal.top_of-requires-clause-linked
-top_of-requires-clause-linked c =
-    linked_by c.args.cells.now c.in_ok-targets.targets.items c.in_ok-index.ensures.distinct c.in_ok-targets.ensures.ok
+top_of-requires-clause-linked c = c.in_ok-targets.ensures.linked
 
 pub count_from-requires-clause-linked : goal.count_from-requires-clause-linked
-count_from-requires-clause-linked c =
-    linked_by c.args.cells.now c.in_ok-targets.targets.items c.in_ok-index.ensures.distinct c.in_ok-targets.ensures.ok
+count_from-requires-clause-linked c = c.in_ok-targets.ensures.linked
 
 pub count_from-requires-2-clause-linked : goal.count_from-requires-2-clause-linked
-count_from-requires-2-clause-linked c =
-    linked_by c.args.cells.now c.in_ok-targets.targets.items c.in_ok-index.ensures.distinct c.in_ok-targets.ensures.ok
+count_from-requires-2-clause-linked c = c.in_ok-targets.ensures.linked
 
 pub returns-in_err-order-clause-err : goal.returns-in_err-order-clause-err
 returns-in_err-order-clause-err c =
-    let linked =
-    linked_by c.args.cells.now c.in_ok-targets.targets.items c.in_ok-index.ensures.distinct
-    c.in_ok-targets.ensures.ok in
+    let linked = c.in_ok-targets.ensures.linked in
     let p = err_from_is_err_and c.from_residual-in_err-order.result c.from_residual-in_err-order.ensures.1 in
     rw (p.1, p.2) (Says-map (IsCycleFault c.args.cells.now) _ _
     (λ f h. cycle_fault c.args.cells.now (option_copied c.args.given) f linked h) c.in_err-order.ensures.err)
 
 pub returns-in_err-top-clause-err : goal.returns-in_err-top-clause-err
 returns-in_err-top-clause-err c =
-    let linked =
-    linked_by c.args.cells.now c.in_ok-targets.targets.items c.in_ok-index.ensures.distinct
-    c.in_ok-targets.ensures.ok in
+    let linked = c.in_ok-targets.ensures.linked in
     let ranked = ranked_by c.args.cells.now c.in_ok-order.order.items linked c.in_ok-order.ensures.ok in
     let p = err_from_is_err_and c.from_residual-in_err-top.result c.from_residual-in_err-top.ensures.1 in
     rw (p.1, p.2) (Says-map (IsTopFault c.args.cells.now (option_copied c.args.given)) _ _
@@ -44,18 +36,14 @@ returns-in_err-top-clause-err c =
 
 pub returns-then-chains-gt-MOST_PLACED-clause-err : goal.returns-then-chains-gt-MOST_PLACED-clause-err
 returns-then-chains-gt-MOST_PLACED-clause-err c =
-    let linked =
-    linked_by c.args.cells.now c.in_ok-targets.targets.items c.in_ok-index.ensures.distinct
-    c.in_ok-targets.ensures.ok in
+    let linked = c.in_ok-targets.ensures.linked in
     let ranked = ranked_by c.args.cells.now c.in_ok-order.order.items linked c.in_ok-order.ensures.ok in
     too_many_chains c.args.cells.now (option_copied c.args.given) c.in_ok-top.top c.in_ok-chains.chains linked ranked
     c.in_ok-top.ensures.ok.0 c.in_ok-top.ensures.ok.1 c.in_ok-chains.ensures c.if-chains-gt-MOST_PLACED.true
 
 pub returns-then-rings-gt-MOST_PLACED-clause-err : goal.returns-then-rings-gt-MOST_PLACED-clause-err
 returns-then-rings-gt-MOST_PLACED-clause-err c =
-    let linked =
-    linked_by c.args.cells.now c.in_ok-targets.targets.items c.in_ok-index.ensures.distinct
-    c.in_ok-targets.ensures.ok in
+    let linked = c.in_ok-targets.ensures.linked in
     let ranked = ranked_by c.args.cells.now c.in_ok-order.order.items linked c.in_ok-order.ensures.ok in
     too_many_rings c.args.cells.now (option_copied c.args.given) c.in_ok-top.top c.in_ok-chains.chains
     c.in_ok-rings.rings linked ranked c.in_ok-top.ensures.ok.0 c.in_ok-top.ensures.ok.1 c.in_ok-chains.ensures
@@ -63,9 +51,7 @@ returns-then-rings-gt-MOST_PLACED-clause-err c =
 
 pub returns-clause-ok : goal.returns-clause-ok
 returns-clause-ok c =
-    let linked =
-    linked_by c.args.cells.now c.in_ok-targets.targets.items c.in_ok-index.ensures.distinct
-    c.in_ok-targets.ensures.ok in
+    let linked = c.in_ok-targets.ensures.linked in
     settled_by c.args.cells.now (option_copied c.args.given) c.in_ok-order.order.items c.in_ok-top.top
     c.in_ok-chains.chains c.in_ok-rings.rings linked c.in_ok-order.ensures.ok c.in_ok-top.ensures.ok.0
     c.in_ok-top.ensures.ok.1 c.in_ok-chains.ensures c.if-chains-gt-MOST_PLACED.false c.in_ok-rings.ensures

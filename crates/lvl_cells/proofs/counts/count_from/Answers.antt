@@ -1,19 +1,16 @@
 use Rattle.std.proofs.Common.{◌≡◌, ◌<◌, ◌+◌, ◌-◌, ℕ, min, List, Some, length, get_or, refl, sym, ap, ◌∙◌, subst, arith}
 use Rattle.std.specs.List.{slice_get}
-use Rattle.std.specs.declared.alloc.Global.{Global}
-use Rattle.std.specs.declared.vec.Vec.{Vec}
 use Rattle.std.proofs.lemmas.Option.{slice_get_read, slice_get-get_or}
 use Rattle.lvl_cells.specs.Cells.{PlainCell, Rings}
 use Rattle.lvl_cells.specs.Chains.{most_placed}
 use Rattle.lvl_cells.specs.inside.Steps.{weigh, placed_sum}
-use Rattle.lvl_cells.proofs.Orders.{rows_long}
 use Rattle.lvl_cells.proofs.Summing.{AreSummed, summed_more, summed_at, place_within, row_fits}
 use Rattle.lvl_cells.proofs.counts.count_from.Goals as goal
 
 pub sum_of-requires-clause-row : goal.sum_of-requires-clause-row
 sum_of-requires-clause-row c =
     let cells : List (PlainCell Rings) = c.args.cells.now in
-    let targets : List (Vec ℕ Global) = c.args.targets.now in
+    let targets : List (List ℕ) = c.args.targets.now in
     let order : List ℕ = c.args.order.now in
     let i : ℕ = c.loop-i.i - 1 in
     let k : ℕ = get_or order i 0 in
@@ -21,16 +18,12 @@ sum_of-requires-clause-row c =
     slice_get-get_or order i 0 (omega (arith, c.loop-i-test.true, c.loop-i.auto.i)) in
     let low : k < length cells = place_within cells order i k c.requires.order hi in
     let hk = slice_get_read cells (length cells) k c.index-cells-place.result refl low c.index-cells-place.is in
-    let ht =
-    slice_get_read targets (length targets) k c.index-targets-place.result refl
-    (omega (arith, low, rows_long cells targets c.requires.targets)) c.index-targets-place.is in
-    ap length c.deref.ensures.value
-    ∙ (row_fits cells targets k c.index-cells-place.result c.index-targets-place.result c.requires.targets hk ht).0
+    (row_fits cells targets k c.index-cells-place.result c.row.result c.requires.targets hk c.row.ensures).0
 
 pub sum_of-requires-clause-within : goal.sum_of-requires-clause-within
 sum_of-requires-clause-within c =
     let cells : List (PlainCell Rings) = c.args.cells.now in
-    let targets : List (Vec ℕ Global) = c.args.targets.now in
+    let targets : List (List ℕ) = c.args.targets.now in
     let order : List ℕ = c.args.order.now in
     let i : ℕ = c.loop-i.i - 1 in
     let k : ℕ = get_or order i 0 in
@@ -38,44 +31,38 @@ sum_of-requires-clause-within c =
     slice_get-get_or order i 0 (omega (arith, c.loop-i-test.true, c.loop-i.auto.i)) in
     let low : k < length cells = place_within cells order i k c.requires.order hi in
     let hk = slice_get_read cells (length cells) k c.index-cells-place.result refl low c.index-cells-place.is in
-    let ht =
-    slice_get_read targets (length targets) k c.index-targets-place.result refl
-    (omega (arith, low, rows_long cells targets c.requires.targets)) c.index-targets-place.is in
-    let long : length cells ≡ length c.deref-in-loop-i.result.now =
-    sym c.loop-i.invariant.long ∙ sym c.deref-in-loop-i.ensures.len in
-    rw (c.deref.ensures.value, ← long)
-    (row_fits cells targets k c.index-cells-place.result c.index-targets-place.result c.requires.targets hk ht).1
+    let long : length cells ≡ length c.deref.result.now =
+    sym c.loop-i.invariant.long ∙ sym c.deref.ensures.len in
+    rw (← long)
+    (row_fits cells targets k c.index-cells-place.result c.row.result c.requires.targets hk c.row.ensures).1
 
 pub loop-i-preserved : goal.loop-i-preserved
 loop-i-preserved c =
     let cells : List (PlainCell Rings) = c.args.cells.now in
-    let targets : List (Vec ℕ Global) = c.args.targets.now in
+    let targets : List (List ℕ) = c.args.targets.now in
     let order : List ℕ = c.args.order.now in
     let sums : List ℕ = c.loop-i.sums.items in
     let i : ℕ = c.loop-i.i - 1 in
     let k : ℕ = get_or order i 0 in
     let cell = c.index-cells-place.result in
-    let ts = c.index-targets-place.result in
+    let ts = c.row.result in
     let hi : slice_get order i ≡ Some k =
     slice_get-get_or order i 0 (omega (arith, c.loop-i-test.true, c.loop-i.auto.i)) in
     let low : k < length cells = place_within cells order i k c.requires.order hi in
     let hk = slice_get_read cells (length cells) k cell refl low c.index-cells-place.is in
-    let ht =
-    slice_get_read targets (length targets) k ts refl
-    (omega (arith, low, rows_long cells targets c.requires.targets)) c.index-targets-place.is in
     let whole : length sums ≡ length cells =
-    ap length (sym c.deref-in-loop-i.ensures.value) ∙ (c.deref-in-loop-i.ensures.len ∙ c.loop-i.invariant.long) in
+    ap length (sym c.deref.ensures.value) ∙ (c.deref.ensures.len ∙ c.loop-i.invariant.long) in
     let next : i + 1 ≡ c.loop-i.i = omega (arith, c.loop-i-test.true) in
     let inv : AreSummed (weigh c.args.weight) cells order sums (i + 1) =
     subst (AreSummed (weigh c.args.weight) cells order sums) (sym next) c.loop-i.invariant.summed in
     let new : c.sum_of.result
-    ≡ min (most_placed + 1) (weigh c.args.weight cell + placed_sum cell.references ts.items sums) =
-    c.sum_of.ensures ∙ rw (c.deref.ensures.value, c.deref-in-loop-i.ensures.value) refl in
+    ≡ min (most_placed + 1) (weigh c.args.weight cell + placed_sum cell.references ts sums) =
+    c.sum_of.ensures ∙ rw c.deref.ensures.value refl in
     record {
       long = c.loop-i.invariant.long;
       summed =
           summed_more (weigh c.args.weight) cells targets order sums i k cell ts c.sum_of.result c.requires.linked
-          c.requires.targets c.requires.order hi hk ht (omega (arith, low, whole)) inv new;
+          c.requires.targets c.requires.order hi hk c.row.ensures (omega (arith, low, whole)) inv new;
     }
 
 pub returns : goal.returns

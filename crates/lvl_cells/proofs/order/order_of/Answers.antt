@@ -12,10 +12,11 @@ use Rattle.lvl_cells.proofs.order.order_of.Goals as goal
 pub loop-root-init : goal.loop-root-init
 loop-root-init c =
     let targets = c.args.targets.now in
-    let new : c.in_ok-marks.marks.items ≡ replicate (length targets) New =
+    let new : c.in_ok-marks.marks.items ≡ replicate c.len-count.result New =
     c.in_ok-marks.ensures.items_if_clones_equal (λ y h. h) in
-    let start : IsWalk targets (replicate (length targets) New) [] [] =
-    walk_none targets (replicate (length targets) New) (all_new (length targets)).0 (all_new (length targets)).1 in
+    let start : IsWalk targets (replicate c.len-count.result New) [] [] =
+    walk_none targets (replicate c.len-count.result New) ((all_new c.len-count.result).0 ∙ c.len-count.ensures)
+    (all_new c.len-count.result).1 in
     record {
       walk = rw (new, c.new-path.ensures.items, c.in_ok-finished.ensures.items) start;
       resting = c.new-path.ensures.items;

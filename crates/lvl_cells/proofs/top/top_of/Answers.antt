@@ -5,7 +5,7 @@ use Rattle.std.proofs.lemmas.Bool.{false≢true}
 use Rattle.std.proofs.lemmas.Option.{slice_get_within, slice_get-get_or}
 use Rattle.lvl_cells.specs.Cells.{names}
 use Rattle.lvl_cells.specs.Soundness.{IsTop}
-use Rattle.lvl_cells.specs.Resolving.{place_in_index}
+use Rattle.lvl_cells.specs.Resolving.{IsPlaceOf}
 use Rattle.lvl_cells.specs.inside.Topping.{HasOtherRoot}
 use Rattle.lvl_names.proofs.Elements.{at_contains}
 use Rattle.lvl_cells.proofs.Orders.{targets_within, names_long}
@@ -40,13 +40,15 @@ returns-in_default-clause-ok c =
       root_within c.args.cells.now order root c.requires.order first,
     )
 
-pub returns-in-Some-get-clause-ok : goal.returns-in-Some-get-clause-ok
-returns-in-Some-get-clause-ok c =
+pub returns-in-Some-place-clause-ok : goal.returns-in-Some-place-clause-ok
+returns-in-Some-place-clause-ok c =
     let all : List (List ℕ) = names c.args.cells.now in
-    let place = c.in-Some-get.place.now in
-    let name : List ℕ = c.in-Some.name.now in
-    let at : slice_get all place ≡ Some name = (c.requires.index name place).0 (sym c.in-Some-get.ensures.value) in
-    let given : option_copied c.args.given ≡ Some name = ap option_copied c.in-Some.is in (
+    let place = c.in-Some-place.place in
+    let name : List ℕ = c.in-Some._name.now in
+    let given : option_copied c.args.given ≡ Some name = ap option_copied c.in-Some.is in
+    let places : IsPlaceOf all (Some name) c.args.place =
+    subst (λ (o : Option (List ℕ)). IsPlaceOf all o c.args.place) given c.requires.place in
+    let at : slice_get all place ≡ Some name = (places place).0 c.in-Some-place.is in (
       subst (λ (o : Option (List ℕ)). IsTop c.args.cells.now o place) (sym given) at,
       omega (arith, slice_get_within all place name at, names_long c.args.cells.now),
     )
@@ -54,11 +56,13 @@ returns-in-Some-get-clause-ok c =
 pub returns-in-None-clause-err : goal.returns-in-None-clause-err
 returns-in-None-clause-err c =
     let all : List (List ℕ) = names c.args.cells.now in
-    let name : List ℕ = c.in-Some.name.now in
-    let given : option_copied c.args.given ≡ Some name = ap option_copied c.in-Some.is in (
+    let name : List ℕ = c.in-Some._name.now in
+    let given : option_copied c.args.given ≡ Some name = ap option_copied c.in-Some.is in
+    let places : IsPlaceOf all (Some name) c.args.place =
+    subst (λ (o : Option (List ℕ)). IsPlaceOf all o c.args.place) given c.requires.place in (
       name,
       given,
       λ h. let at = at_contains all name h in
-          let there : place_in_index c.args.index.now name ≡ Some at.0 = (c.requires.index name at.0).1 at.1 in
-          let none : None ≡ place_in_index c.args.index.now name = c.in-None.ensures.value in cc,
+          let there : c.args.place ≡ Some at.0 = (places at.0).1 at.1 in
+          let none : c.args.place ≡ None = c.in-None.is in cc,
     )

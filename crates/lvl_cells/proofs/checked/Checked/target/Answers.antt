@@ -1,42 +1,36 @@
-use Rattle.std.proofs.Common.{◌≡◌, ℕ, List, Some, IfSome, IfNone, refl, ap, subst, arith}
+use Rattle.std.proofs.Common.{◌≡◌, ◌<◌, List, Some, IfSome, IfNone, length, ap, sym, subst, arith}
 use Rattle.std.specs.List.{slice_get}
-use Rattle.std.specs.declared.alloc.Global.{Global}
-use Rattle.std.specs.declared.vec.Vec.{Vec}
-use Rattle.std.proofs.lemmas.Grind.{common_steps}
-use Rattle.std.proofs.lemmas.Option.{gets, slice_get_read}
+use Rattle.std.proofs.lemmas.Option.{slice_get_within}
 use Rattle.lvl_cells.specs.Cells.{PlainCell, Rings}
 use Rattle.lvl_cells.specs.Checks.{Settled, IsTargetOf, HasReference}
 use Rattle.lvl_cells.proofs.Looking.{target_found, target_past}
+use Rattle.lvl_cells.proofs.Orders.{rows_long}
 use Rattle.lvl_cells.proofs.checked.Checked.target.Goals as goal
+
+pub returns-then-cell-len-clause-past : goal.returns-then-cell-len-clause-past
+returns-then-cell-len-clause-past c = λ w.
+    let same : c.self.inside.cells.items ≡ c.args.self.now.cells = ap (λ (s : Settled). s.cells) c.self.view_is in
+    let low : c.args.cell < length c.self.inside.cells.items =
+    slice_get_within c.self.inside.cells.items c.args.cell w.0
+    (subst (λ (l : List (PlainCell Rings)). slice_get l c.args.cell ≡ Some w.0) (sym same) w.1) in
+    absurd (omega (
+      arith,
+      low,
+      rows_long c.self.inside.cells.items c.self.inside.targets c.self.invariant.targets,
+      c.if-cell-len.true,
+      c.len.ensures,
+    ))
 
 pub returns-clause-target : goal.returns-clause-target
 returns-clause-target c =
-    let targets : List (Vec ℕ Global) = c.self.inside.targets.items in
-    let look = c.in_ok-row.ensures.lookup in
-    let row : slice_get c.deref.result.now c.args.cell ≡ Some c.in_ok-row.row.now =
-    slice_get_read c.deref.result.now _ c.args.cell c.in_ok-row.row.now refl look.3.0 look.1 in
-    let at : slice_get targets c.args.cell ≡ Some c.in_ok-row.row.now =
-    subst (λ (l : List (Vec ℕ Global)). slice_get l c.args.cell ≡ Some c.in_ok-row.row.now) c.deref.ensures.value
-    row in
-    let found : c.copied.result ≡ slice_get c.in_ok-row.row.now.items c.args.reference =
-    grind (arith, common_steps, gets, c.copied.ensures, c.get-2.ensures.lookup, c.deref-2.ensures.value) in
     let same : c.self.inside.cells.items ≡ c.args.self.now.cells = ap (λ (s : Settled). s.cells) c.self.view_is in
-    subst (λ (l : List (PlainCell Rings)). IfSome c.copied.result (IsTargetOf l c.args.cell c.args.reference)) same
-    (target_found c.self.inside.cells.items targets c.args.cell c.args.reference c.in_ok-row.row.now c.copied.result
-    c.self.invariant.sound.sound.linked.distinct c.self.invariant.targets at found)
+    subst (λ (l : List (PlainCell Rings)). IfSome c.get.result (IsTargetOf l c.args.cell c.args.reference)) same
+    (target_found c.self.inside.cells.items c.self.inside.targets c.args.cell c.args.reference c.row.result c.get.result
+    c.self.invariant.sound.sound.linked.distinct c.self.invariant.targets c.row.ensures c.get.ensures)
 
 pub returns-clause-past : goal.returns-clause-past
 returns-clause-past c =
-    let targets : List (Vec ℕ Global) = c.self.inside.targets.items in
-    let look = c.in_ok-row.ensures.lookup in
-    let row : slice_get c.deref.result.now c.args.cell ≡ Some c.in_ok-row.row.now =
-    slice_get_read c.deref.result.now _ c.args.cell c.in_ok-row.row.now refl look.3.0 look.1 in
-    let at : slice_get targets c.args.cell ≡ Some c.in_ok-row.row.now =
-    subst (λ (l : List (Vec ℕ Global)). slice_get l c.args.cell ≡ Some c.in_ok-row.row.now) c.deref.ensures.value
-    row in
-    let found : c.copied.result ≡ slice_get c.in_ok-row.row.now.items c.args.reference =
-    grind (arith, common_steps, gets, c.copied.ensures, c.get-2.ensures.lookup, c.deref-2.ensures.value) in
     let same : c.self.inside.cells.items ≡ c.args.self.now.cells = ap (λ (s : Settled). s.cells) c.self.view_is in
-    subst (λ (l : List (PlainCell Rings)). IfNone c.copied.result (¬ HasReference l c.args.cell c.args.reference)) same
-    (target_past c.self.inside.cells.items targets c.args.cell c.args.reference c.in_ok-row.row.now c.copied.result
-    c.self.invariant.targets at found)
+    subst (λ (l : List (PlainCell Rings)). IfNone c.get.result (¬ HasReference l c.args.cell c.args.reference)) same
+    (target_past c.self.inside.cells.items c.self.inside.targets c.args.cell c.args.reference c.row.result c.get.result
+    c.self.invariant.targets c.row.ensures c.get.ensures)
