@@ -26,7 +26,8 @@ pub(crate) fn push_target(
     target: usize,
 ) -> Result<(), AllocError>
     ensures { OnOk result ((front : List PlainRun) (targets : List ℕ)
-        → length front ≡ begin → length targets ≡ reference → HasRow front runs.old.items targets → HasRow front runs.new.items (targets ++ target ∷ [])) }
+        → length front ≡ begin → length targets ≡ reference
+        → HasRow front runs.old.items targets → HasRow front runs.new.items (targets ++ target ∷ [])) }
 {
     let run = Run {
         end: kept_sum(reference, 1)?,
