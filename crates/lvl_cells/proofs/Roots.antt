@@ -1,7 +1,7 @@
 -- The cells to which no cell refers.
-use Rattle.std.proofs.Common.{◌≡◌, ◌≢◌, ℕ, zero, suc, ◌+◌, ◌<◌, ◌≤◌, set, Bool, true, false, List, [], ◌∷◌, ◌++◌, map, take}
+use Rattle.std.proofs.Common.{◌≡◌, ◌≢◌, ℕ, zero, suc, ◌+◌, ◌<◌, ◌≤◌, set, Bool, true, false, List, [], ◌∷◌, ◌++◌, map}
 use Rattle.std.proofs.Common.{length, ◌⊎◌, inl, inr, ⊎_elim, ◌↔◌, Some, None, Contains, refl, sym, ap, ◌∙◌, subst}
-use Rattle.std.proofs.Common.{drop, arith}
+use Rattle.std.proofs.Common.{take, drop, arith}
 use Rattle.std.specs.List.{slice_get}
 use Rattle.std.specs.Option.{option_map}
 use Rattle.std.proofs.lemmas.List.{append-nil}

@@ -48,7 +48,8 @@ loop-j-preserved c =
     has_more all refs j r c.in-Some.target.now c.args.runs.now.items c.loop-j.runs.items c.push_target.new.runs.items
     (slice_get_within refs j r at) (sym (get_or_from_slice_get refs j r r at)) found
     (λ front targets long count row.
-    c.in_ok-push_target.ensures front targets (omega (arith, long, c.len-begin.ensures, c.args.runs.now.ok.0)) count row)
+    c.in_ok-push_target.ensures front targets
+    (omega (arith, long, c.len-begin.ensures, c.args.runs.now.ok.0)) count row)
     c.loop-j.invariant
 
 pub returns-clause-ok : goal.returns-clause-ok
