@@ -87,8 +87,11 @@ impl<'a> Row<'a> {
     pub(crate) fn get(&self, reference: usize) -> Option<usize>
         ensures { result ≡ slice_get self.now reference }
     {
-        let run = self.runs.get(run_of(self.runs, reference))?;
-        Some(run.target as usize)
+        let run = run_of(self.runs, reference);
+        if run >= self.runs.len() {
+            return None;
+        }
+        Some(self.runs[run].target as usize)
     }
 }
 
