@@ -18,7 +18,8 @@ use Rattle.lvl_flat.specs.Sheet.{PlainSheet}
 use Rattle.lvl_flat.specs.Sheets.{rings_on}
 use Rattle.lvl_compare.specs.Flats.{AlikeOn, IsFirstApart}
 use Rattle.lvl_compare.specs.Tops.{Draws}
-use Rattle.lvl_compare.specs.inside.Strips.{Found, Part, Precedes, IsFoundIn, IsImproved, IsLeast, IsNew, IsOpen, ShowsOf}
+use Rattle.lvl_compare.specs.inside.Strips.{Found, Part, Precedes, IsFoundIn, IsImproved, IsLeast, IsNew, IsOpen}
+use Rattle.lvl_compare.specs.inside.Strips.{ShowsOf}
 
 alike_there : (a b : Draws) (part : Part) (f g : List PlainSheet) → ShowsOf a part f → ShowsOf b part g → (l : Layer)
     (q : Square) → part l q → SomeCovers (rings_on l f) q ↔ SomeCovers (rings_on l g) q → a l q ↔ b l q

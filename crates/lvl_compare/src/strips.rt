@@ -157,14 +157,6 @@ fn first_strip(
 {
     let end = end_of(window, pace.width);
     let strip = front(window, end);
-    if pace.width == 1 {
-        let (found, points) = difference_of(alloc, first, second, view, group, &strip, usize::MAX)?;
-        return Ok(Progress {
-            found,
-            end,
-            pace: pace.after(1, points),
-        });
-    }
     if let Ok((found, points)) = difference_of(
         alloc,
         first,
@@ -178,6 +170,14 @@ fn first_strip(
             found,
             end,
             pace: pace.after(pace.width, points),
+        });
+    }
+    if pace.width == 1 {
+        let (found, points) = difference_of(alloc, first, second, view, group, &strip, usize::MAX)?;
+        return Ok(Progress {
+            found,
+            end,
+            pace: pace.after(1, points),
         });
     }
     first_strip(

@@ -35,7 +35,8 @@ returns-clause-shown c =
       | in-5+else-len-ge-MOST_CELLS w ↦ by_kind _ bgnstr p q b b' payload w.in-5.is
           (λ e. shown_bgnstr p q b b' payload e (ap (λ (x : Builder). x.cells) w.self-is)) a
       | in-6+else-not-is_name+in_ok-open-in-6 w ↦ by_kind _ strname p q b b' payload w.in-6.is
-          (λ e. shown_strname p q b b' payload e (ap (λ (x : Builder). x.cells) w.self-is ∙ w.in_ok-open-in-6.ensures.opened
+          (λ e. shown_strname p q b b' payload e (ap (λ (x : Builder). x.cells) w.self-is
+          ∙ w.in_ok-open-in-6.ensures.opened
           ∙ ap (λ (n : List ℕ). let x : Built =
           record { cells = b.cells.cells; current = record { name = n; shapes = []; references = [] } } in x)
           w.name-name.ensures)) a
