@@ -1,4 +1,5 @@
-use Rattle.std.proofs.Common.{◌≡◌, ◌<◌, ◌*◌, ◌^◌, ◌++◌, ◌∷◌, [], List, length, map, slice_get, Some, sym, ap, subst, ◌∙◌}
+use Rattle.std.proofs.Common.{◌≡◌, ◌<◌, ◌*◌, ◌^◌, ◌++◌, ◌∷◌, [], List}
+use Rattle.std.proofs.Common.{length, map, slice_get, Some, sym, ap, subst, ◌∙◌}
 use Rattle.std.proofs.Common.{arith, refl}
 use Rattle.std.proofs.lemmas.Option.{slice_get_within, slice_get_read}
 use Rattle.std.proofs.lemmas.Result.{err_from_is_err_and}
@@ -48,13 +49,15 @@ offset_bounds-cells-index c =
 
 pub returns-in-Done-clause-walking : goal.returns-in-Done-clause-walking
 returns-in-Done-clause-walking c =
-    window_done c.args.checked.now (map layer_of c.args.sheets.now.items) c.args.window.now c.args.sheets.now.items c.args.stack.now.items c.args.visit
+    window_done c.args.checked.now (map layer_of c.args.sheets.now.items) c.args.window.now c.args.sheets.now.items
+    c.args.stack.now.items c.args.visit
     c.requires.walking c.in-Done.ensures
 
 pub returns-in_ok-push_visit-in-Past-clause-walking : goal.returns-in_ok-push_visit-in-Past-clause-walking
 returns-in_ok-push_visit-in-Past-clause-walking c =
     let next =
-    window_past c.args.checked.now (map layer_of c.args.sheets.now.items) c.args.window.now c.args.sheets.now.items c.args.stack.now.items c.args.visit
+    window_past c.args.checked.now (map layer_of c.args.sheets.now.items) c.args.window.now c.args.sheets.now.items
+    c.args.stack.now.items c.args.visit
     c.in-Past.rest c.requires.walking c.in-Past.ensures in
     subst (IsWalkingWithin c.args.checked.now (map layer_of c.args.sheets.now.items) c.args.window.now
     c.args.sheets.now.items)
@@ -72,12 +75,15 @@ returns-then-miss-clause-walking c =
     let s : Settled = c.args.checked.now in
     let front : List Visit = c.args.stack.now.items in
     let next =
-    window_missed s c.args.boxes.now (map layer_of c.args.sheets.now.items) c.args.window.now c.args.sheets.now.items front c.args.visit c.in-Into.index
+    window_missed s c.args.boxes.now (map layer_of c.args.sheets.now.items) c.args.window.now c.args.sheets.now.items
+    front c.args.visit c.in-Into.index
     c.in-Into.map c.in-Into.rest c.requires.boxes c.requires.walking c.in-Into.ensures (c.if-miss.ensures refl) in
     let passed =
-    window_passed s c.args.boxes.now (map layer_of c.args.sheets.now.items) c.args.window.now c.args.sheets.now.items front c.in-Into.rest
+    window_passed s c.args.boxes.now (map layer_of c.args.sheets.now.items) c.args.window.now c.args.sheets.now.items
+    front c.in-Into.rest
     c.pass_by-further.result c.requires.boxes next c.pass_by-further.ensures in
-    subst (IsWalkingWithin s (map layer_of c.args.sheets.now.items) c.args.window.now c.args.sheets.now.items) (sym c.in_ok-push_visit-in-Into.ensures) passed
+    subst (IsWalkingWithin s (map layer_of c.args.sheets.now.items) c.args.window.now c.args.sheets.now.items) (sym
+    c.in_ok-push_visit-in-Into.ensures) passed
 
 pub returns-then-miss-clause-nearer : goal.returns-then-miss-clause-nearer
 returns-then-miss-clause-nearer c =
@@ -108,7 +114,8 @@ returns-in_err-draw_cell_within-in-Into-clause-err c =
     c.in_err-draw_cell_within-in-Into.field-0.0
     (entered_out s c.in-Into.index c.in-Into.map (λ name out. out_by_vertex s c.requires.walking.top
     (AllListed (map layer_of c.args.sheets.now.items) s.cells)
-    (IsOfPart (map layer_of c.args.sheets.now.items) c.args.window.now) (SheetsCover c.args.sheets.now.items) c.args.stack.now.items c.args.visit c.in-Into.index c.in-Into.map
+    (IsOfPart (map layer_of c.args.sheets.now.items) c.args.window.now) (SheetsCover c.args.sheets.now.items)
+    c.args.stack.now.items c.args.visit c.in-Into.index c.in-Into.map
     c.in-Into.rest name c.requires.walking.way into out))
     reported)
 
@@ -123,11 +130,13 @@ returns-in_ok-push_visit-in-Into-3-clause-walking c =
     (λ cs. IsDrawnWithin cs c.in-Into.index c.in-Into.map c.args.window.now c.args.sheets.now.items
     c.draw_cell_within.new.sheets.items) c.cells-cells.ensures.value c.in_ok-draw_cell_within-in-Into.ensures.drawn in
     let next =
-    window_into s (map layer_of c.args.sheets.now.items) c.args.window.now c.args.sheets.now.items c.draw_cell_within.new.sheets.items front c.args.visit
+    window_into s (map layer_of c.args.sheets.now.items) c.args.window.now c.args.sheets.now.items
+    c.draw_cell_within.new.sheets.items front c.args.visit
     c.in-Into.index c.in-Into.map c.in-Into.rest c.requires.walking into drawn in
     let first : c.push_visit-in-Into.new.stack.items ≡ front ++ c.in-Into.rest ∷ [] =
     c.in_ok-push_visit-in-Into-2.ensures in
-    subst (IsWalkingWithin s (map layer_of c.args.sheets.now.items) c.args.window.now c.draw_cell_within.new.sheets.items)
+    subst (IsWalkingWithin s (map layer_of c.args.sheets.now.items) c.args.window.now
+    c.draw_cell_within.new.sheets.items)
     (sym (c.in_ok-push_visit-in-Into-3.ensures
     ∙ (ap (λ xs. xs ++ c.begun.result ∷ []) first
     ∙ ap (λ v. (front ++ c.in-Into.rest ∷ []) ++ v ∷ []) c.begun.ensures))) next
