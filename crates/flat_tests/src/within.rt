@@ -202,7 +202,7 @@ fn two_layers(alloc: Global) -> Result<Checked, Fail> {
 fn some_layers(rt: HostRuntime) -> Result<(), Fail> {
     let alloc = rt.alloc();
     let fitted = Fitted::new(alloc, two_layers(alloc)?)?;
-    assert_eq!(rt; &*fitted.layers(alloc)?, &[METAL, VIA]);
+    assert_eq!(rt; fitted.layers(alloc)?.as_slice(), [METAL, VIA].as_slice());
     // The Layers that are drawn, and the rings on METAL and on VIA.
     let rows: [(&[Layer], usize, usize); 4] = [
         (&[], 0, 0),

@@ -11,7 +11,7 @@ use Rattle.lvl_columns.specs.Windows.{IsShown}
 use Rattle.lvl_compare.specs.Parts.{IsSeenIn, SomeHas}
 use Rattle.lvl_compare.specs.Tops.{Draws, DrawSame, IsFirstDifference}
 use Rattle.lvl_compare.specs.inside.Strips.{Found}
-use Rattle.lvl_compare.proofs.InStrips.{not_below}
+use Rattle.lvl_compare.proofs.Finding.{not_below}
 use Rattle.lvl_changed.specs.Changed.{IsOutside}
 
 below : (a b : ℤ) → int_lt a b ≡ true → a <ℤ b

@@ -254,8 +254,8 @@ lesser_rows a t pairs big small w x k after last listed none l q h =
 
 -- one more strip, of which what can't precede the known difference is left out
 pub next_improves : (a t : Draws) (pairs : List LayerPair) (big : Span) (small : Group) (w rows : Window) (x : ℤ)
-    (k : Found) (next found : Option Found) → small.span.after ≡ big.after
-    → IsLesser big.last (Some k.0) small.span.last
+    (k : Found) (next found : Option Found) → small.span.after ≡ big.after → IsLesser big.last (Some k.0)
+    small.span.last
     → AreListed a t pairs small → AreRowsBefore pairs small k w rows
     → IsFoundIn a (IsMoved pairs t) (on small.span (IsLeftIn rows x)) next → IsLeast (Some k) next found
     → IsImproved a (IsMoved pairs t) (on big (IsLeftIn w x)) (Some k) found
@@ -297,8 +297,8 @@ group_passed a b W after last span None is none before h = λ l q seen never.
       | inl here ↦
           let until : is_until (Some last) l ≡ true =
           elim (cases_Bool (is_before last l)) [ inl past ↦ absurd (never past) | inr not_past ↦ ap not not_past ] in
-          h l q (ap (λ (s : Span). is_of_span s l) is
-          ∙ and_from (is_after after l) (is_until (Some last) l) here until, seen)
+          h l q (ap (λ (s : Span). is_of_span s l) is ∙ and_from (is_after after l) (is_until (Some last) l) here
+          until, seen)
       | inr earlier ↦ before l q seen (λ t. both_ways (is_after after l) earlier t)
     ]
 group_passed a b W after last span (Some at) is none before h = absurd cc

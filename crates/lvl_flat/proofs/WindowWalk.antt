@@ -85,8 +85,8 @@ shapes_place layer m q shapes = (
       (a.0, a.1, a.2, a.3, (a.4.0, (shape_place m q a.1).1 (u.0, u.1, a.4.1))),
 )
 
-pub window_done : (s : Settled) (layers : List Layer) (window : Window) (sheets : List PlainSheet)
-    (front : List Visit) (v : Visit)
+pub window_done : (s : Settled) (layers : List Layer) (window : Window) (sheets : List PlainSheet) (front : List
+    Visit) (v : Visit)
     → IsWalkingWithin s layers window sheets (front ++ v ∷ []) → pending s.cells v ≡ []
     → IsWalkingWithin s layers window sheets front
 window_done s layers window sheets front v w none = record {
@@ -97,30 +97,30 @@ window_done s layers window sheets front v w none = record {
   within = w.within;
 }
 
-pub window_past : (s : Settled) (layers : List Layer) (window : Window) (sheets : List PlainSheet)
-    (front : List Visit) (v rest : Visit)
+pub window_past : (s : Settled) (layers : List Layer) (window : Window) (sheets : List PlainSheet) (front : List
+    Visit) (v rest : Visit)
     → IsWalkingWithin s layers window sheets (front ++ v ∷ []) → IsPast s.cells v rest
     → IsWalkingWithin s layers window sheets (front ++ rest ∷ [])
 window_past s layers window sheets front v rest w past = record {
   top = w.top;
-  way =
-      way_past s w.top (AllListed layers s.cells) (IsOfPart layers window) (SheetsCover sheets) front v rest w.way past;
+  way = way_past s w.top (AllListed layers s.cells) (IsOfPart layers window) (SheetsCover sheets) front v rest w.way
+  past;
   sorted = w.sorted;
   layers_are = w.layers_are;
   within = w.within;
 }
 
 -- a cell whose placed box is outside of the window is skipped
-pub window_missed : (s : Settled) (known : List (Option Bounds)) (layers : List Layer) (window : Window)
-    (sheets : List PlainSheet)
+pub window_missed : (s : Settled) (known : List (Option Bounds)) (layers : List Layer) (window : Window) (sheets :
+    List PlainSheet)
     (front : List Visit) (v : Visit) (i : ℕ) (m : Map) (rest : Visit) → AreBoxes s.cells known
     → IsWalkingWithin s layers window sheets (front ++ v ∷ []) → IsInto s.cells v i m rest
     → IsPlacedOutside known i m window → IsWalkingWithin s layers window sheets (front ++ rest ∷ [])
 window_missed s known layers window sheets front v i m rest boxes w into out = record {
   top = w.top;
   way =
-      way_missed s w.top (AllListed layers s.cells) (IsOfPart layers window)
-      (SheetsCover sheets) front v i m rest w.way into
+      way_missed s w.top (AllListed layers s.cells) (IsOfPart layers window) (SheetsCover sheets) front v i m rest
+      w.way into
       (outside_fits s.cells known i m window into.next boxes into.there out)
       (λ layer q part. outside_covers s.cells known i m window into.next boxes into.there out layer q part.1);
   sorted = w.sorted;
@@ -129,8 +129,8 @@ window_missed s known layers window sheets front v i m rest boxes w into out = r
 }
 
 -- and so is a run of such places
-runs_on : (s : Settled) (known : List (Option Bounds)) (layers : List Layer) (window : Window)
-    (sheets : List PlainSheet)
+runs_on : (s : Settled) (known : List (Option Bounds)) (layers : List Layer) (window : Window) (sheets : List
+    PlainSheet)
     (front : List Visit) (u : Visit) (place n : ℕ) → AreBoxes s.cells known
     → IsWalkingWithin s layers window sheets (front ++ at_place u place ∷ [])
     → ((k : ℕ) → place ≤ k → k < place + n → IsMissedAt s.cells known window u k)
@@ -139,16 +139,16 @@ runs_on s known layers window sheets front u place zero boxes w missed =
     let none : place ≡ place + 0 = omega arith in
     subst (λ k. IsWalkingWithin s layers window sheets (front ++ at_place u k ∷ [])) none w
 runs_on s known layers window sheets front u place (suc n) boxes w missed =
-    let before = runs_on s known layers window sheets front u place n boxes w
-    (λ k l b. missed k l (omega (arith, b))) in
+    let before = runs_on s known layers window sheets front u place n boxes w (λ k l b. missed k l (omega (arith,
+    b))) in
     let at = missed (place + n) (omega arith) (omega arith) in
     let one : place + n + 1 ≡ place + suc n = omega arith in
     subst (λ k. IsWalkingWithin s layers window sheets (front ++ at_place u k ∷ [])) one
     (window_missed s known layers window sheets front (at_place u (place + n)) at.index at.map
     (at_place u (place + n + 1)) boxes before at.into at.out)
 
-pub window_passed : (s : Settled) (known : List (Option Bounds)) (layers : List Layer) (window : Window)
-    (sheets : List PlainSheet)
+pub window_passed : (s : Settled) (known : List (Option Bounds)) (layers : List Layer) (window : Window) (sheets :
+    List PlainSheet)
     (front : List Visit) (v u : Visit) → AreBoxes s.cells known
     → IsWalkingWithin s layers window sheets (front ++ v ∷ []) → IsPassedBy s.cells known window v u
     → IsWalkingWithin s layers window sheets (front ++ u ∷ [])
@@ -159,8 +159,8 @@ window_passed s known layers window sheets front v u boxes w passed =
     let begins : IsWalkingWithin s layers window sheets (front ++ start ∷ []) = record {
       top = w.top;
       way =
-          way_alike s w.top (AllListed layers s.cells) (IsOfPart layers window)
-          (SheetsCover sheets) front v start w.way passed.map_is passed.cell_is
+          way_alike s w.top (AllListed layers s.cells) (IsOfPart layers window) (SheetsCover sheets) front v start
+          w.way passed.map_is passed.cell_is
           same;
       sorted = w.sorted;
       layers_are = w.layers_are;

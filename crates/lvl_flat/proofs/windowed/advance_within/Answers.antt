@@ -1,5 +1,5 @@
-use Rattle.std.proofs.Common.{◌≡◌, ◌<◌, ◌*◌, ◌^◌, ◌++◌, ◌∷◌, [], List, length, map, slice_get, Some, sym, ap, subst}
-use Rattle.std.proofs.Common.{◌∙◌}
+use Rattle.std.proofs.Common.{◌≡◌, ◌<◌, ◌*◌, ◌^◌, ◌++◌, ◌∷◌, [], List}
+use Rattle.std.proofs.Common.{length, map, slice_get, Some, sym, ap, subst, ◌∙◌}
 use Rattle.std.proofs.Common.{arith, refl}
 use Rattle.std.proofs.lemmas.Option.{slice_get_within, slice_get_read}
 use Rattle.std.proofs.lemmas.Result.{err_from_is_err_and}
@@ -82,8 +82,8 @@ returns-then-miss-clause-walking c =
     window_passed s c.args.boxes.now (map layer_of c.args.sheets.now.items) c.args.window.now c.args.sheets.now.items
     front c.in-Into.rest
     c.pass_by-further.result c.requires.boxes next c.pass_by-further.ensures in
-    subst (IsWalkingWithin s (map layer_of c.args.sheets.now.items) c.args.window.now c.args.sheets.now.items)
-    (sym c.in_ok-push_visit-in-Into.ensures) passed
+    subst (IsWalkingWithin s (map layer_of c.args.sheets.now.items) c.args.window.now c.args.sheets.now.items) (sym
+    c.in_ok-push_visit-in-Into.ensures) passed
 
 pub returns-then-miss-clause-nearer : goal.returns-then-miss-clause-nearer
 returns-then-miss-clause-nearer c =
@@ -114,8 +114,8 @@ returns-in_err-draw_cell_within-in-Into-clause-err c =
     c.in_err-draw_cell_within-in-Into.field-0.0
     (entered_out s c.in-Into.index c.in-Into.map (λ name out. out_by_vertex s c.requires.walking.top
     (AllListed (map layer_of c.args.sheets.now.items) s.cells)
-    (IsOfPart (map layer_of c.args.sheets.now.items) c.args.window.now)
-    (SheetsCover c.args.sheets.now.items) c.args.stack.now.items c.args.visit c.in-Into.index c.in-Into.map
+    (IsOfPart (map layer_of c.args.sheets.now.items) c.args.window.now) (SheetsCover c.args.sheets.now.items)
+    c.args.stack.now.items c.args.visit c.in-Into.index c.in-Into.map
     c.in-Into.rest name c.requires.walking.way into out))
     reported)
 

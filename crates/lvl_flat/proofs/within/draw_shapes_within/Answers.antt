@@ -65,8 +65,8 @@ loop-i-preserved c =
           let same : s.layer ≡ h.layer = found.layer_is ∙ c.layer.ensures in
           let sorted : AreSorted items = sorted_alike items c.args.sheets.now.items kept.layers c.requires in
           let has : Contains ls h.layer =
-          subst (Contains ls) same (subst (λ xs. Contains xs s.layer) kept.layers
-          (theirs items w.in-Some.place s there)) in
+          subst (Contains ls) same (subst (λ xs. Contains xs s.layer) kept.layers (theirs items w.in-Some.place s
+          there)) in
           subst so_far (sym w.sheets-is)
           (record {
             covers = λ l q.
@@ -85,8 +85,8 @@ loop-i-preserved c =
                 (part_adds ls window h.layer l q now after P has
                 (subst (λ (x : Layer). after ↔ (now ⊎ (IsInWindow window q × ((x ≡ l) × P)))) same step));
             fits =
-                All-more (λ (g : PlainShape Rings). Contains ls g.layer
-                → All (λ e. All (FitsRing m e) g.figure) g.shifts)
+                All-more (λ (g : PlainShape Rings). Contains ls g.layer → All (λ e. All (FitsRing m e) g.figure)
+                g.shifts)
                 shapes i h inside kept.fits
                 (subst
                 (λ (g : PlainShape Rings). Contains ls g.layer → All (λ e. All (FitsRing m e) g.figure) g.shifts) item
@@ -109,8 +109,8 @@ loop-i-preserved c =
                 (SomeCovers (rings_on l c.args.sheets.now.items) q) now now shapes i h listed (kept.covers l q)
                 (part_skips ls window h.layer l q now P none);
             fits =
-                All-more (λ (g : PlainShape Rings). Contains ls g.layer
-                → All (λ e. All (FitsRing m e) g.figure) g.shifts)
+                All-more (λ (g : PlainShape Rings). Contains ls g.layer → All (λ e. All (FitsRing m e) g.figure)
+                g.shifts)
                 shapes i h inside kept.fits
                 (subst
                 (λ (g : PlainShape Rings). Contains ls g.layer → All (λ e. All (FitsRing m e) g.figure) g.shifts) item

@@ -8,6 +8,6 @@ use Rattle.lvl_flat.proofs.fitted.Fitted.layers.Goals as goal
 pub returns-clause-all : goal.returns-clause-all
 returns-clause-all c =
     IfOk-weaker c.layers_of.result _ _
-    (λ layers all. top_listed c.args.self.now layers.items (subst (AllListed layers.items)
-    (c.cells.ensures.value ∙ ap (λ (s : Settled). s.cells) c.self.view_is) all))
+    (λ layers all. top_listed c.args.self.now layers.items (subst (AllListed layers.items) (c.cells.ensures.value ∙
+    ap (λ (s : Settled). s.cells) c.self.view_is) all))
     c.layers_of.ensures.all
