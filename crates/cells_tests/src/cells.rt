@@ -4,6 +4,7 @@ use lvl_grid::{Point, Ring, Turn};
 use lvl_names::{Layer, Name, Offsets};
 use lvl_refusal::Cause;
 use std::alloc::{AllocError, Global};
+use std::slice;
 use std::test::Fail;
 
 const ORIGIN: Point = Point { x: 0, y: 0 };
@@ -35,9 +36,9 @@ pub(crate) fn square(alloc: Global) -> Result<Ring, Fail> {
 }
 
 /// Adds a unit square at each of the shifts.
-fn add_square(alloc: Global, cell: &mut Cell, shifts: &Offsets) -> Result<(), Fail> {
+fn add_square(alloc: Global, shapes: &mut Shapes, shifts: &Offsets) -> Result<(), Fail> {
     let ring = square(alloc)?;
-    cell.shapes.push_ring(METAL, ring.points(), shifts)?;
+    shapes.push_ring(METAL, ring.points(), shifts)?;
     Ok(())
 }
 
@@ -50,41 +51,60 @@ pub(crate) fn empty(alloc: Global, name: &[u8]) -> Result<Cell, AllocError> {
     })
 }
 
-/// The library of these cells, each with the names of those that it places.
-fn library_of(alloc: Global, cells: &[(&str, &[&str])]) -> Result<Library, Fail> {
-    let mut library = Library {
-        cells: Vec::new(alloc),
-    };
-    for (name, placed) in cells {
-        let mut cell = empty(alloc, name.as_bytes())?;
-        for other in *placed {
-            let reference = placing(alloc, other.as_bytes(), Offsets::single())?;
-            cell.references.push(reference)?;
-        }
-        library.cells.push(cell)?;
-    }
-    Ok(library)
-}
-
 /// The name of the cell of that number: in the order of names the first is the last.
 fn name_of(number: u32) -> [u8; 4] {
     (u32::MAX - number).to_be_bytes()
+}
+
+/// The cell of that name, placed so often at each of these shifts.
+fn references_to(
+    alloc: Global,
+    name: &[u8],
+    shifts: &Offsets,
+    times: u32,
+) -> Result<References, Fail> {
+    let mut references = References::new(alloc);
+    for _ in 0..times {
+        references.push(placing(alloc, name, shifts.clone()?)?)?;
+    }
+    Ok(references)
+}
+
+/// A cell with references alone.
+fn placer(alloc: Global, name: &[u8], references: References) -> Result<Cell, AllocError> {
+    Ok(Cell {
+        name: Vec::from_slice(alloc, name)?,
+        shapes: Shapes::new(alloc),
+        references,
+    })
+}
+
+/// A cell with unit squares alone, one at each of these shifts.
+fn tile(alloc: Global, name: &[u8], shifts: &Offsets) -> Result<Cell, Fail> {
+    let mut shapes = Shapes::new(alloc);
+    add_square(alloc, &mut shapes, shifts)?;
+    Ok(Cell {
+        name: Vec::from_slice(alloc, name)?,
+        shapes,
+        references: References::new(alloc),
+    })
+}
+
+/// The cell of that number in a chain of `length` cells.
+fn link(alloc: Global, number: u32, length: u32, times: u32) -> Result<Cell, Fail> {
+    let next = number.saturating_add(1);
+    if next == length {
+        return tile(alloc, &name_of(number), &Offsets::single());
+    }
+    let references = references_to(alloc, &name_of(next), &Offsets::single(), times)?;
+    Ok(placer(alloc, &name_of(number), references)?)
 }
 
 /// A chain of `length` cells, each placing the next `times` times, and the last with one square.
 fn chain_of(alloc: Global, length: u32, times: u32) -> Result<Library, Fail> {
     let mut cells = Vec::new(alloc);
     for number in 0..length {
-        let mut cell = empty(alloc, &name_of(number))?;
-        if number + 1 < length {
-            for _ in 0..times {
-                let reference = placing(alloc, &name_of(number + 1), Offsets::single())?;
-                cell.references.push(reference)?;
-            }
-        } else {
-            add_square(alloc, &mut cell, &Offsets::single())?;
-        }
-        cells.push(cell)?;
+        cells.push(link(alloc, number, length, times)?)?;
     }
     Ok(Library { cells })
 }
@@ -108,10 +128,18 @@ fn named(alloc: Global, what: &str, names: &[Vec<u8>]) -> Result<String, Fail> {
     Ok(text)
 }
 
+fn missing(alloc: Global, from: &[u8], name: &[u8]) -> Result<String, Fail> {
+    let mut text = String::new(alloc);
+    text.push_str("MissingCell")?;
+    add_name(&mut text, from)?;
+    add_name(&mut text, name)?;
+    Ok(text)
+}
+
 fn fault_text(alloc: Global, fault: CellFault) -> Result<String, Fail> {
     match fault {
-        CellFault::DuplicateCell(name) => named(alloc, "DuplicateCell", &[name]),
-        CellFault::MissingCell(from, name) => named(alloc, "MissingCell", &[from, name]),
+        CellFault::DuplicateCell(name) => named(alloc, "DuplicateCell", slice::from_ref(&name)),
+        CellFault::MissingCell(from, name) => missing(alloc, &from, &name),
         CellFault::Cycle(names) => named(alloc, "Cycle", &names),
         other => Ok(format!(in alloc; "{other:?}")?),
     }
@@ -162,15 +190,16 @@ pub(crate) fn cut<'a>(text: &'a str, mark: &str) -> (&'a str, &'a str) {
 /// A cell and the names of those that it places.
 fn cell_of(alloc: Global, words: &str) -> Result<Cell, Fail> {
     let mut words = words.split_whitespace();
-    let mut cell = empty(alloc, words.next().ok_or("a name")?.as_bytes())?;
+    let name = words.next().ok_or("a name")?;
+    let mut references = References::new(alloc);
     for other in words {
-        let reference = placing(alloc, other.as_bytes(), Offsets::single())?;
-        cell.references.push(reference)?;
+        references.push(placing(alloc, other.as_bytes(), Offsets::single())?)?;
     }
-    Ok(cell)
+    Ok(placer(alloc, name.as_bytes(), references)?)
 }
 
-fn library_of_text(alloc: Global, text: &str) -> Result<Library, Fail> {
+/// The library of the cells of a text, each with those that it places.
+fn library_of(alloc: Global, text: &str) -> Result<Library, Fail> {
     let mut cells = Vec::new(alloc);
     for words in text.split(';') {
         if !words.trim().is_empty() {
@@ -182,7 +211,7 @@ fn library_of_text(alloc: Global, text: &str) -> Result<Library, Fail> {
 
 /// What the check says of the library, with that top if it isn't empty.
 fn checked_text(alloc: Global, cells: &str, top: &str) -> Result<String, Fail> {
-    let library = library_of_text(alloc, cells)?;
+    let library = library_of(alloc, cells)?;
     let top = (!top.is_empty()).then_some(top.as_bytes());
     text_of(alloc, check(alloc, library, top))
 }
@@ -199,13 +228,23 @@ fn soundness(rt: HostRuntime) -> Result<(), Fail> {
     Ok(())
 }
 
+/// A diamond without its side: D is placed by A and B, and B by A.
+fn three_cells(alloc: Global) -> Result<Checked, Fail> {
+    Ok(check(alloc, library_of(alloc, "D; A B D; B D")?, None)?)
+}
+
 #[test]
-fn order_and_targets(rt: HostRuntime) -> Result<(), Fail> {
-    let library = library_of(rt.alloc(), &[("D", &[]), ("A", &["B", "D"]), ("B", &["D"])])?;
-    let checked = check(rt.alloc(), library, None)?;
+fn order_of_cells(rt: HostRuntime) -> Result<(), Fail> {
+    let checked = three_cells(rt.alloc())?;
     assert_eq!(rt; checked.top(), 1);
     assert_eq!(rt; checked.cells().len(), 3);
     assert_eq!(rt; checked.order(), [1, 2, 0].as_slice());
+    Ok(())
+}
+
+#[test]
+fn targets_of_references(rt: HostRuntime) -> Result<(), Fail> {
+    let checked = three_cells(rt.alloc())?;
     for (cell, reference, want) in [
         (1, 0, Some(2)),
         (1, 1, Some(0)),
@@ -243,17 +282,25 @@ fn placements(rt: HostRuntime) -> Result<(), Fail> {
     Ok(())
 }
 
-/// A top that places a cell 15 times at 1,048,576 places, and once more at columns and rows of them.
-fn placed_often(alloc: Global, columns: u64, rows: u64) -> Result<Library, Fail> {
-    let mut top = empty(alloc, b"TOP")?;
-    for _ in 0..15 {
-        top.references.push(placing(alloc, b"A", many()?)?)?;
-    }
+/// References to a cell, 15 at 1,048,576 places and one at columns and rows of them.
+fn many_references(alloc: Global, columns: u64, rows: u64) -> Result<References, Fail> {
     let shifts = Offsets::lattice(RIGHT, columns, UP, rows).ok_or("shifts")?;
-    top.references.push(placing(alloc, b"A", shifts)?)?;
+    let mut references = references_to(alloc, b"A", &many()?, 15)?;
+    references.push(placing(alloc, b"A", shifts)?)?;
+    Ok(references)
+}
+
+/// A top with those references, and the cell.
+fn placed_often(alloc: Global, columns: u64, rows: u64) -> Result<Library, Fail> {
+    let top = placer(alloc, b"TOP", many_references(alloc, columns, rows)?)?;
+    with_tile(alloc, top, empty(alloc, b"A")?)
+}
+
+/// The library of a top and of a cell that it places.
+fn with_tile(alloc: Global, top: Cell, tile: Cell) -> Result<Library, Fail> {
     let mut cells = Vec::new(alloc);
     cells.push(top)?;
-    cells.push(empty(alloc, b"A")?)?;
+    cells.push(tile)?;
     Ok(Library { cells })
 }
 
@@ -271,20 +318,28 @@ fn placements_limit(rt: HostRuntime) -> Result<(), Fail> {
     Ok(())
 }
 
+/// A top that places a cell 16 times, with a square of its own or none.
+fn sixteen_placed(alloc: Global, has_more: bool) -> Result<Cell, Fail> {
+    let sixteen = Offsets::lattice(RIGHT, 16, UP, 1).ok_or("shifts")?;
+    let mut shapes = Shapes::new(alloc);
+    if has_more {
+        add_square(alloc, &mut shapes, &Offsets::single())?;
+    }
+    Ok(Cell {
+        name: Vec::from_slice(alloc, b"TOP")?,
+        shapes,
+        references: references_to(alloc, b"A", &sixteen, 1)?,
+    })
+}
+
+fn tile_of_many(alloc: Global) -> Result<Cell, Fail> {
+    tile(alloc, b"A", &many()?)
+}
+
 /// A cell of 1,048,576 squares that a top places 16 times, and one square more or none.
 fn squares_placed(alloc: Global, has_more: bool) -> Result<Library, Fail> {
-    let sixteen = Offsets::lattice(RIGHT, 16, UP, 1).ok_or("shifts")?;
-    let mut top = empty(alloc, b"TOP")?;
-    top.references.push(placing(alloc, b"A", sixteen)?)?;
-    if has_more {
-        add_square(alloc, &mut top, &Offsets::single())?;
-    }
-    let mut tile = empty(alloc, b"A")?;
-    add_square(alloc, &mut tile, &many()?)?;
-    let mut cells = Vec::new(alloc);
-    cells.push(top)?;
-    cells.push(tile)?;
-    Ok(Library { cells })
+    let top = sixteen_placed(alloc, has_more)?;
+    with_tile(alloc, top, tile_of_many(alloc)?)
 }
 
 #[test]
@@ -307,23 +362,32 @@ fn many_cells(rt: HostRuntime) -> Result<(), Fail> {
     Ok(())
 }
 
+/// A list of the origin and of a step to the right.
+fn listed(alloc: Global) -> Result<Offsets, Fail> {
+    Ok(Offsets::new([ORIGIN, RIGHT].to_vec(alloc)?).ok_or("shifts")?)
+}
+
 /// Shapes of one ring and of two, at one place, at a lattice that two of them have, and at a list.
 fn four_shapes(alloc: Global) -> Result<Shapes, Fail> {
+    let mut shapes = Shapes::new(alloc);
+    add_square(alloc, &mut shapes, &Offsets::single())?;
+    add_three_shapes(alloc, &mut shapes)?;
+    Ok(shapes)
+}
+
+fn add_three_shapes(alloc: Global, shapes: &mut Shapes) -> Result<(), Fail> {
     let lattice = Offsets::lattice(RIGHT, 2, UP, 3).ok_or("shifts")?;
-    let listed = Offsets::new([ORIGIN, RIGHT].to_vec(alloc)?).ok_or("shifts")?;
-    let mut cell = empty(alloc, b"A")?;
-    add_square(alloc, &mut cell, &Offsets::single())?;
-    cell.shapes
-        .push_rings(METAL, &two_squares(alloc)?, &lattice)?;
-    add_square(alloc, &mut cell, &lattice)?;
-    add_square(alloc, &mut cell, &listed)?;
-    Ok(cell.shapes)
+    shapes.push_rings(METAL, &two_squares(alloc)?, &lattice)?;
+    add_square(alloc, shapes, &lattice)?;
+    add_square(alloc, shapes, &listed(alloc)?)
 }
 
 /// A square, and a rectangle far up.
 fn two_squares(alloc: Global) -> Result<Vec<Ring>, Fail> {
-    let far = Ring::rectangle(alloc, UP, Point { x: 5, y: 7 })?;
-    Ok(vec![in alloc; square(alloc)?, far]?)
+    let mut rings = Vec::new(alloc);
+    rings.push(square(alloc)?)?;
+    rings.push(Ring::rectangle(alloc, UP, Point { x: 5, y: 7 })?)?;
+    Ok(rings)
 }
 
 /// How many rings and how many shifts a shape has, if there is one and it is on METAL.
@@ -345,10 +409,17 @@ fn shapes(rt: HostRuntime) -> Result<(), Fail> {
 }
 
 #[test]
-fn points_and_shifts_of_shapes(rt: HostRuntime) -> Result<(), Fail> {
+fn points_of_shapes(rt: HostRuntime) -> Result<(), Fail> {
     let shapes = four_shapes(rt.alloc())?;
     assert!(rt; shapes.len() == 4 && shapes.ring_count(1) == 2);
     assert_eq!(rt; shapes.ring(1, 1).get(2), Some(Point { x: 5, y: 7 }));
+    Ok(())
+}
+
+#[test]
+fn shifts_of_shapes(rt: HostRuntime) -> Result<(), Fail> {
+    let shapes = four_shapes(rt.alloc())?;
+    assert!(rt; shapes.len() == 4);
     assert_eq!(rt; shapes.shift(2, 5), Some(Point { x: 1, y: 2 }));
     assert_eq!(rt; shapes.shift(0, 1), None);
     Ok(())
@@ -358,15 +429,13 @@ fn points_and_shifts_of_shapes(rt: HostRuntime) -> Result<(), Fail> {
 /// library's own.
 #[test]
 fn growths(rt: HostRuntime) -> Result<(), Fail> {
-    let rows: [(&[(&str, &[&str])], &str); 4] = [
-        (&[("A", &["B", "B"]), ("B", &[])], "top A"),
-        (&[("A", &["B"]), ("B", &["C"]), ("C", &["B"])], "Cycle B C"),
-        (&[("A", &["B"]), ("B", &[]), ("A", &[])], "DuplicateCell A"),
-        (&[("A", &["B"])], "MissingCell A B"),
-    ];
-    for (cells, want) in rows {
-        let library = library_of(rt.alloc(), cells)?;
-        let text = text_of(rt.alloc(), check(rt.alloc(), library, None))?;
+    for (cells, want) in [
+        ("A B B; B", "top A"),
+        ("A B; B C; C B", "Cycle B C"),
+        ("A B; B; A", "DuplicateCell A"),
+        ("A B", "MissingCell A B"),
+    ] {
+        let text = checked_text(rt.alloc(), cells, "")?;
         if text.as_str() == "OutOfMemory" {
             return Err("out of memory".into());
         }

@@ -40,20 +40,25 @@ fn add_squares(alloc: Global, cell: &mut Cell, layer: Layer, text: &str) -> Resu
     Ok(())
 }
 
-/// A cell, with a shape for each word such as `1/0:2*3x2`, two squares at 3 by 2 places on the Layer 1/0,
-/// and with a reference for each such as `A*3x2`.
+/// Adds a shape for a word such as `1/0:2*3x2`, two squares at 3 by 2 places on the Layer 1/0, and a reference
+/// for one such as `A*3x2`.
+fn add_word(alloc: Global, cell: &mut Cell, word: &str) -> Result<(), Fail> {
+    let (layer, squares) = cut(word, ":");
+    if !squares.is_empty() {
+        return add_squares(alloc, cell, layer_of(layer)?, squares);
+    }
+    let (name, places) = cut(word, "*");
+    let reference = placing(alloc, name.as_bytes(), lattice(places)?)?;
+    cell.references.push(reference)?;
+    Ok(())
+}
+
+/// A cell with what the words after its name add.
 fn cell_of(alloc: Global, words: &str) -> Result<Cell, Fail> {
     let mut words = words.split_whitespace();
     let mut cell = empty(alloc, words.next().ok_or("a name")?.as_bytes())?;
     for word in words {
-        let (layer, squares) = cut(word, ":");
-        if squares.is_empty() {
-            let (name, places) = cut(word, "*");
-            let reference = placing(alloc, name.as_bytes(), lattice(places)?)?;
-            cell.references.push(reference)?;
-        } else {
-            add_squares(alloc, &mut cell, layer_of(layer)?, squares)?;
-        }
+        add_word(alloc, &mut cell, word)?;
     }
     Ok(cell)
 }

@@ -1,4 +1,5 @@
 //! Lattices and lists of shifts, and references that place a cell at them.
+use crate::shifts::{cut, point as point_of};
 use lvl_cells::Reference;
 use lvl_grid::{Point, Turn};
 use lvl_names::{Name, Offsets};
@@ -14,31 +15,55 @@ const UP: Point = Point { x: 0, y: 1 };
 const FAR: i64 = 1 << 62;
 
 #[test]
-fn lattices(rt: HostRuntime) -> Result<(), Fail> {
+fn places_of_a_lattice(rt: HostRuntime) -> Result<(), Fail> {
     let far = Point { x: FAR, y: 0 };
     let shifts = Offsets::lattice(far, 2, UP, 3).ok_or("shifts")?;
-    let want = [(0, 0), (FAR, 0), (0, 1), (FAR, 1), (0, 2), (FAR, 2)];
     assert_eq!(rt; shifts.len(), 6);
-    let mut place = 0;
-    for (x, y) in want {
+    for (place, x, y) in [
+        (0, 0, 0),
+        (1, FAR, 0),
+        (2, 0, 1),
+        (3, FAR, 1),
+        (4, 0, 2),
+        (5, FAR, 2),
+    ] {
         assert_eq!(rt; shifts.at(place), Some(Point { x, y }));
-        place = shifts.len().min(place.saturating_add(1));
     }
     assert_eq!(rt; shifts.at(6), None);
-    let left = Point { x: i64::MIN, y: 0 };
-    for (a, m, b, n, want) in [
-        (far, 3, UP, 1, false),
-        (far, 2, far, 2, false),
-        (left, 2, far, 3, false),
-        (left, 2, far, 2, true),
-        (RIGHT, 0, UP, 1, false),
-        (RIGHT, 1, UP, 0, false),
-        (RIGHT, 16_777_216, UP, 1, true),
-        (RIGHT, 16_777_217, UP, 1, false),
-        (ORIGIN, u64::MAX, ORIGIN, u64::MAX, false),
-    ] {
-        let made = Offsets::lattice(a, m, b, n);
-        assert_eq!(rt; made.is_some(), want, "{a:?} {m} {b:?} {n}");
+    Ok(())
+}
+
+/// The x of a step along x and how many columns there are, the step from row to row and how many rows there
+/// are, and whether that is a lattice.
+const LATTICES: &str = "4611686018427387904 3 0 1 1 false
+4611686018427387904 2 4611686018427387904 0 2 false
+-9223372036854775808 2 4611686018427387904 0 3 false
+-9223372036854775808 2 4611686018427387904 0 2 true
+1 0 0 1 1 false
+1 1 0 1 0 false
+1 16777216 0 1 1 true
+1 16777217 0 1 1 false
+0 18446744073709551615 0 0 18446744073709551615 false
+";
+
+/// Whether a row of the table says a lattice, and whether it is to say one.
+fn is_lattice(row: &str) -> Result<(bool, bool), Fail> {
+    let (x, row) = cut(row);
+    let (columns, row) = cut(row);
+    let (up_x, row) = cut(row);
+    let (up_y, row) = cut(row);
+    let (rows, want) = cut(row);
+    let across = point_of(x, "0")?;
+    let up = point_of(up_x, up_y)?;
+    let made = Offsets::lattice(across, columns.parse::<u64>()?, up, rows.parse::<u64>()?);
+    Ok((made.is_some(), want == "true"))
+}
+
+#[test]
+fn lattices(rt: HostRuntime) -> Result<(), Fail> {
+    for row in LATTICES.lines() {
+        let (is_made, want) = is_lattice(row)?;
+        assert_eq!(rt; is_made, want, "{row}");
     }
     Ok(())
 }

@@ -108,14 +108,19 @@ fn growths_of_references(rt: HostRuntime) -> Result<(), Fail> {
     Ok(())
 }
 
+/// What places a cell at (0, y).
+fn reference_at(name: &Name, y: i64) -> Result<Reference, Fail> {
+    let at = Point { x: 0, y };
+    let made = Reference::new(name.clone()?, false, Turn::R0, at, Offsets::single());
+    Ok(made.ok_or("places")?)
+}
+
 /// A thousand references to one cell, at a place each.
 fn many(alloc: Global) -> Result<References, Fail> {
     let name = Name::new(Vec::from_slice(alloc, b"A")?)?;
     let mut references = References::new(alloc);
     for y in 0..1000 {
-        let at = Point { x: 0, y };
-        let made = Reference::new(name.clone()?, false, Turn::R0, at, Offsets::single());
-        references.push(made.ok_or("places")?)?;
+        references.push(reference_at(&name, y)?)?;
     }
     Ok(references)
 }

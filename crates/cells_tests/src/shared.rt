@@ -2,7 +2,7 @@
 use lvl_cells::Shapes;
 use lvl_grid::{Point, Ring};
 use lvl_names::{Layer, Offsets};
-use std::alloc::Global;
+use std::alloc::{AllocError, Global};
 use std::test::Fail;
 
 const METAL: Layer = Layer {
@@ -69,22 +69,36 @@ fn moved_rings(rt: HostRuntime) -> Result<(), Fail> {
     Ok(())
 }
 
+/// The points of the ring that the second of the boxes is.
+fn moved_points(alloc: Global) -> Result<Vec<Point>, Fail> {
+    let shapes = boxes(alloc)?;
+    if shapes.len() < 2 || shapes.ring_count(1) == 0 {
+        return Err("no second ring".into());
+    }
+    Ok(shapes.ring(1, 0).to_points(alloc)?)
+}
+
 #[test]
 fn points_of_a_moved_ring(rt: HostRuntime) -> Result<(), Fail> {
-    let shapes = boxes(rt.alloc())?;
-    assert!(rt; 1 < shapes.len() && 0 < shapes.ring_count(1));
-    let points = shapes.ring(1, 0).to_points(rt.alloc())?;
+    let points = moved_points(rt.alloc())?;
     assert_eq!(rt; points.len(), 4);
     assert_eq!(rt; points.first(), Some(&Point { x: 3, y: 4 }));
     Ok(())
 }
 
+/// The rectangles of two boxes.
+fn rectangles(alloc: Global, [first, second]: [[i64; 4]; 2]) -> Result<Vec<Ring>, Fail> {
+    let mut rings = Vec::new(alloc);
+    rings.push(rectangle(alloc, first)?)?;
+    rings.push(rectangle(alloc, second)?)?;
+    Ok(rings)
+}
+
 /// A shape of two rings for each pair of boxes that follow each other, and then one of no ring.
 fn pairs(alloc: Global) -> Result<Shapes, Fail> {
     let mut shapes = Shapes::new(alloc);
-    for [first, second] in PAIRS {
-        let pair = vec![in alloc; rectangle(alloc, first)?, rectangle(alloc, second)?]?;
-        shapes.push_rings(METAL, &pair, &Offsets::single())?;
+    for pair in PAIRS {
+        shapes.push_rings(METAL, &rectangles(alloc, pair)?, &Offsets::single())?;
     }
     shapes.push_rings(METAL, &[], &Offsets::single())?;
     shapes.push_rings(METAL, &[], &Offsets::single())?;
@@ -130,14 +144,19 @@ fn stair(alloc: Global, right: i64) -> Result<Ring, Fail> {
     Ok(Ring::new(points)?)
 }
 
+/// Adds a shape of each of two rings.
+fn push_both(shapes: &mut Shapes, first: &Ring, second: &Ring) -> Result<(), AllocError> {
+    shapes.push_ring(METAL, first.points(), &Offsets::single())?;
+    shapes.push_ring(METAL, second.points(), &Offsets::single())
+}
+
 /// A thousand shapes, one stair after the other in turn.
 fn stairs(alloc: Global) -> Result<Shapes, Fail> {
     let first = stair(alloc, 0)?;
     let second = stair(alloc, 7)?;
     let mut shapes = Shapes::new(alloc);
     for _ in 0..500 {
-        shapes.push_ring(METAL, first.points(), &Offsets::single())?;
-        shapes.push_ring(METAL, second.points(), &Offsets::single())?;
+        push_both(&mut shapes, &first, &second)?;
     }
     Ok(shapes)
 }

@@ -24,20 +24,25 @@ const PLACES: &str = "\
 ";
 
 /// What is before the space, and what is after it.
-fn cut(text: &str) -> (&str, &str) {
+pub(crate) fn cut(text: &str) -> (&str, &str) {
     text.split_once(" ").unwrap_or((text, ""))
+}
+
+/// Whether the shifts of the list all fit at a place, and whether those of the list that is shared do.
+fn fit_at(alloc: Global, at: Point) -> Result<(bool, bool), Fail> {
+    let list = shifts(alloc)?;
+    let shared = shared_twice(alloc)?;
+    Ok((list.all_fit_at(at), shared.all_fit_at(at)))
 }
 
 /// A list that is shared answers as the list itself.
 #[test]
 fn shared_lists(rt: HostRuntime) -> Result<(), Fail> {
-    let lists = (shifts(rt.alloc())?, shared_twice(rt.alloc())?);
     for row in PLACES.lines() {
         let (x, rest) = cut(row);
         let (y, want) = cut(rest);
-        let at = point(x, y)?;
-        assert_eq!(rt; lists.0.all_fit_at(at), want == "true", "{row}");
-        assert_eq!(rt; lists.1.all_fit_at(at), want == "true", "{row}, shared");
+        let fits = want == "true";
+        assert_eq!(rt; fit_at(rt.alloc(), point(x, y)?)?, (fits, fits), "{row}");
     }
     Ok(())
 }
@@ -49,7 +54,7 @@ fn shared_twice(alloc: Global) -> Result<Offsets, Fail> {
     Ok(shared.clone()?)
 }
 
-fn point(x: &str, y: &str) -> Result<Point, Fail> {
+pub(crate) fn point(x: &str, y: &str) -> Result<Point, Fail> {
     Ok(Point {
         x: x.parse::<i64>()?,
         y: y.parse::<i64>()?,

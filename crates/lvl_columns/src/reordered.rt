@@ -109,7 +109,8 @@ pub(crate) fn are_reordered(
     first: &Rings,
     second: &Rings,
 ) -> Result<bool, AllocError>
-    ensures { IfOk result (λ found. IsTrue found → (s : GridSquare) → SomeCovers first.now s ↔ SomeCovers second.now s) }
+    ensures { IfOk result (λ found. IsTrue found
+        → (s : GridSquare) → SomeCovers first.now s ↔ SomeCovers second.now s) }
 {
     if first.len() < FEWEST || first.len() != second.len() {
         return Ok(false);

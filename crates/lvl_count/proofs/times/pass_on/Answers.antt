@@ -76,13 +76,14 @@ loop-j-preserved c =
           step_along c.args.checked.now c.cells.ensures.checked.0 c.args.i
           (get_or c.args.times.now (get_or c.order.result.now c.args.i 0) 0) c.loop-j.j w.in-Some.target w.len.result
           c.order.result.now c.cells.result.now c.cell.inside.references c.index-cells-place.result
-          c.reference-reference.result c.loop-j.times c.cells.ensures.checked.1 c.order.ensures.value c.cells.ensures.value
-          c.requires.within c.index-cells-place.is
+          c.reference-reference.result c.loop-j.times c.cells.ensures.checked.1 c.order.ensures.value
+          c.cells.ensures.value c.requires.within c.index-cells-place.is
           (ap (λ (d : PlainCell Rings). d.references) c.cell.view_is)
-          (slice_get_within c.cell.inside.references c.loop-j.j c.reference-reference.result c.reference-reference.ensures)
+          (slice_get_within c.cell.inside.references c.loop-j.j c.reference-reference.result
+          c.reference-reference.ensures)
           (sym (get_or_from_slice_get c.cell.inside.references c.loop-j.j c.reference-reference.result
-          c.reference-reference.result c.reference-reference.ensures)) (w.len.ensures.count ∙ ap length w.shifts.ensures.all)
-          w.in-Some.ensures.target c.loop-j.invariant in
+          c.reference-reference.result c.reference-reference.ensures))
+          (w.len.ensures.count ∙ ap length w.shifts.ensures.all) w.in-Some.ensures.target c.loop-j.invariant in
           subst
           (λ ts. IsPassing c.args.checked.now c.args.i
           (get_or c.args.times.now (get_or c.order.result.now c.args.i 0) 0)

@@ -34,7 +34,8 @@ returns-then-visit-len-2 c =
     let references : c.cell.inside.references ≡ cell.references =
     ap (λ (b : PlainCell Rings). b.references) c.cell.view_is in
     let r : PlainReference = c.reference-reference.result in
-    let found : slice_get c.cell.inside.references c.args.visit.now.reference ≡ Some r = c.reference-reference.ensures in
+    let found : slice_get c.cell.inside.references c.args.visit.now.reference ≡ Some r =
+    c.reference-reference.ensures in
     let there : slice_get cell.references c.args.visit.now.reference ≡ Some r =
     subst (λ rs. slice_get rs c.args.visit.now.reference ≡ Some r) references found in
     step_past cells c.args.visit.now cell r at there
@@ -52,7 +53,8 @@ returns-in-None c =
     let references : c.cell.inside.references ≡ cell.references =
     ap (λ (b : PlainCell Rings). b.references) c.cell.view_is in
     let r : PlainReference = c.reference-reference.result in
-    let found : slice_get c.cell.inside.references c.args.visit.now.reference ≡ Some r = c.reference-reference.ensures in
+    let found : slice_get c.cell.inside.references c.args.visit.now.reference ≡ Some r =
+    c.reference-reference.ensures in
     let there : slice_get cell.references c.args.visit.now.reference ≡ Some r =
     subst (λ rs. slice_get rs c.args.visit.now.reference ≡ Some r) references found in
     step_out cells c.args.visit.now cell r c.in-Some-target.target c.in-Some.inner at there
@@ -71,7 +73,8 @@ returns-in-Some-then c =
     let references : c.cell.inside.references ≡ cell.references =
     ap (λ (b : PlainCell Rings). b.references) c.cell.view_is in
     let r : PlainReference = c.reference-reference.result in
-    let found : slice_get c.cell.inside.references c.args.visit.now.reference ≡ Some r = c.reference-reference.ensures in
+    let found : slice_get c.cell.inside.references c.args.visit.now.reference ≡ Some r =
+    c.reference-reference.ensures in
     let there : slice_get cell.references c.args.visit.now.reference ≡ Some r =
     subst (λ rs. slice_get rs c.args.visit.now.reference ≡ Some r) references found in
     let inner : Map = c.in-Some.inner in
