@@ -297,8 +297,11 @@ group_passed a b W after last span None is none before h = λ l q seen never.
       | inl here ↦
           let until : is_until (Some last) l ≡ true =
           elim (cases_Bool (is_before last l)) [ inl past ↦ absurd (never past) | inr not_past ↦ ap not not_past ] in
-          h l q (ap (λ (s : Span). is_of_span s l) is ∙ and_from (is_after after l) (is_until (Some last) l) here
-          until, seen)
+          h l q (
+            ap (λ (s : Span). is_of_span s l) is ∙ and_from (is_after after l) (is_until (Some last) l) here
+                until,
+            seen,
+          )
       | inr earlier ↦ before l q seen (λ t. both_ways (is_after after l) earlier t)
     ]
 group_passed a b W after last span (Some at) is none before h = absurd cc

@@ -104,7 +104,7 @@ pub window_past : (s : Settled) (layers : List Layer) (window : Window) (sheets 
 window_past s layers window sheets front v rest w past = record {
   top = w.top;
   way = way_past s w.top (AllListed layers s.cells) (IsOfPart layers window) (SheetsCover sheets) front v rest w.way
-  past;
+      past;
   sorted = w.sorted;
   layers_are = w.layers_are;
   within = w.within;
@@ -139,8 +139,10 @@ runs_on s known layers window sheets front u place zero boxes w missed =
     let none : place ≡ place + 0 = omega arith in
     subst (λ k. IsWalkingWithin s layers window sheets (front ++ at_place u k ∷ [])) none w
 runs_on s known layers window sheets front u place (suc n) boxes w missed =
-    let before = runs_on s known layers window sheets front u place n boxes w (λ k l b. missed k l (omega (arith,
-    b))) in
+    let before = runs_on s known layers window sheets front u place n boxes w (λ k l b. missed k l (omega (
+      arith,
+      b,
+    ))) in
     let at = missed (place + n) (omega arith) (omega arith) in
     let one : place + n + 1 ≡ place + suc n = omega arith in
     subst (λ k. IsWalkingWithin s layers window sheets (front ++ at_place u k ∷ [])) one
