@@ -16,7 +16,7 @@ use std::marker::Model;
 /// of shifts.
 ///
 /// A boundary, a polygon or a rectangle is a shape of one ring, a path a shape of the rings of its
-/// bands. An empty list takes 8 bytes. A boundary at one place takes 32 bytes and its points, or 40
+/// bands. An empty list takes 16 bytes. A boundary at one place takes 32 bytes and its points, or 40
 /// bytes if its points are those of the shape before, moved: then both shapes share them.
 /// Consecutive shapes with the same lattice share one list of shifts, and a shared list is never
 /// copied.
