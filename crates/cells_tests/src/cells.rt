@@ -73,7 +73,7 @@ fn references_to(
 /// A cell with references alone.
 fn placer(alloc: Global, name: &[u8], references: References) -> Result<Cell, AllocError> {
     Ok(Cell {
-        name: Vec::from_slice(alloc, name)?,
+        name: Name::of(alloc, name)?,
         shapes: Shapes::new(alloc),
         references,
     })
@@ -84,7 +84,7 @@ fn tile(alloc: Global, name: &[u8], shifts: &Offsets) -> Result<Cell, Fail> {
     let mut shapes = Shapes::new(alloc);
     add_square(alloc, &mut shapes, shifts)?;
     Ok(Cell {
-        name: Vec::from_slice(alloc, name)?,
+        name: Name::of(alloc, name)?,
         shapes,
         references: References::new(alloc),
     })
@@ -326,7 +326,7 @@ fn sixteen_placed(alloc: Global, has_more: bool) -> Result<Cell, Fail> {
         add_square(alloc, &mut shapes, &Offsets::single())?;
     }
     Ok(Cell {
-        name: Vec::from_slice(alloc, b"TOP")?,
+        name: Name::of(alloc, b"TOP")?,
         shapes,
         references: references_to(alloc, b"A", &sixteen, 1)?,
     })

@@ -193,7 +193,7 @@ fn differences_under_views(rt: HostRuntime) -> Result<(), Fail> {
 /// A top that draws a square on each of 140,000 Layers, and two squares on one of them.
 fn layered(alloc: Global, double: u32) -> Result<Fitted, Fail> {
     let mut builder = Builder::new(alloc);
-    builder.open(alloc, Vec::from_slice(alloc, b"TOP")?);
+    builder.open(alloc, b"TOP")?;
     for layer in 0..140_000 {
         let layer = Layer { layer, datatype: 0 };
         add_square(alloc, &mut builder, layer, Point { x: 3, y: 0 })?;

@@ -191,7 +191,7 @@ fn growths_of_a_window(rt: HostRuntime) -> Result<(), Fail> {
 fn two_layers(alloc: Global) -> Result<Checked, Fail> {
     let mut builder = Builder::new(alloc);
     let ring = Ring::rectangle(alloc, ORIGIN, Point { x: 4, y: 2 })?;
-    builder.open(alloc, Vec::from_slice(alloc, b"TOP")?);
+    builder.open(alloc, b"TOP")?;
     builder.add_ring(VIA, ring.points(), &Offsets::single())?;
     builder.add_ring(METAL, ring.points(), &Offsets::single())?;
     builder.close(alloc)?;

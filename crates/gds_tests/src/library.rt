@@ -163,7 +163,7 @@ fn check_order(rt: &impl Abort, library: &Library) -> Result<(), Fail> {
         assert_eq!(rt; cell.shapes.len(), n);
     }
     let second = library.cells.get(1).ok_or("a cell")?;
-    assert_eq!(rt; second.name.as_slice(), b"AB".as_slice());
+    assert_eq!(rt; second.name.as_bytes(), b"AB".as_slice());
     Ok(())
 }
 
