@@ -1,17 +1,15 @@
 -- Layers in groups, and what two layouts draw on the Layers of one.
 use Rattle.std.proofs.Common.{◌≡◌, ◌↔◌, ◌⊎◌, inl, inr, List, [], Option, Some, None, Bool, true, false, not, filter}
 use Rattle.std.proofs.Common.{Contains, refl, sym, subst, ap, ◌∙◌, arith, zero, suc, ◌∷◌, cond, ◌&&◌, ◌||◌, ◌==◌}
-use Rattle.std.proofs.Common.{IsSomeAnd, is_some, ℤ, ◌<ℤ◌, ◌<◌, ltb}
+use Rattle.std.proofs.Common.{IsSomeAnd, is_some, ℤ, ◌<◌, ltb}
 use Rattle.std.specs.Prelude.{IsTrue}
 use Rattle.std.proofs.lemmas.Bool.{and_from, and_parts, both_ways, cases_Bool, eq-eqb, eqb-true, lt-ltb, ltb-true}
 use Rattle.std.proofs.lemmas.Bool.{not-false, not-true, or_cases}
-use Rattle.std.proofs.lemmas.Int.{ints}
 use Rattle.std.proofs.lemmas.List.Elements.{All-contains, filter_passes}
 use Rattle.std.proofs.lemmas.List.Kept.{AllPairs-filter}
 use Rattle.lvl_grid.specs.declared.point.Square.{Square}
 use Rattle.lvl_grid.specs.declared.point.Window.{Window}
 use Rattle.lvl_grid.specs.Clip.{IsWithin}
-use Rattle.lvl_grid.specs.Squares.{IsBefore}
 use Rattle.lvl_grid.specs.Winding.{SomeCovers}
 use Rattle.lvl_names.specs.declared.layer.Layer.{Layer}
 use Rattle.lvl_names.specs.Layers.{ComesBefore}
@@ -29,8 +27,8 @@ use Rattle.lvl_compare.specs.Flats.{IsLesser}
 use Rattle.lvl_compare.specs.Tops.{Draws}
 use Rattle.lvl_compare.specs.declared.groups.Span.{Span}
 use Rattle.lvl_compare.specs.declared.groups.Group.{Group}
-use Rattle.lvl_compare.specs.inside.Groups.{AreListed, AreRowsBefore, IsListed, NoneBefore, is_after, is_before}
-use Rattle.lvl_compare.specs.inside.Groups.{is_of_span, is_until, on}
+use Rattle.lvl_compare.specs.inside.Groups.{AreAbove, AreListed, AreRowsBefore, IsListed, NoneBefore, is_after}
+use Rattle.lvl_compare.specs.inside.Groups.{is_before, is_of_span, is_until, on}
 use Rattle.lvl_compare.specs.inside.Strips.{Found, IsFoundIn, IsImproved, IsLeast, IsLeftIn, Part, Precedes, ShowsOf}
 use Rattle.lvl_compare.specs.inside.Strips.{everywhere, rows_to}
 use Rattle.lvl_compare.proofs.Finding.{IsSpared, layers_order, least_improves}
@@ -201,10 +199,6 @@ later_spared a b k l q later =
       | inr here ↦ before_itself k.0 (subst (λ (x : Layer). ComesBefore k.0 x) here.0 later)
     ])
 
-above_not_before : (q s : Square) → s.y <ℤ q.y → IsBefore q s → ⊥
-above_not_before q s above (inl lower) = omega (arith, ints, above, lower)
-above_not_before q s above (inr beside) = omega (arith, ints, above, beside.0)
-
 lesser_layers : (a b : Draws) (big small : Span) (w : Window) (x : ℤ) (k : Found) → small.after ≡ big.after
     → IsLesser big.last (Some k.0) small.last → (l : Layer) (q : Square) → on big (IsLeftIn w x) l q
     → on small (IsLeftIn w x) l q ⊎ IsSpared a b (Some k) l q
@@ -217,14 +211,14 @@ lesser_layers a b big small w x k after last l q h =
 -- and where no side draws on a Layer before that one, rows above the square
 lesser_rows : (a t : Draws) (pairs : List LayerPair) (big : Span) (small : Group) (w : Window) (x : ℤ) (k : Found)
     → small.span.after ≡ big.after → IsLesser big.last (Some k.0) small.span.last → AreListed a t pairs small
-    → NoneBefore pairs small k.0 → (l : Layer) (q : Square) → on big (IsLeftIn w x) l q
-    → on small.span (IsLeftIn (rows_to k.1.y w) x) l q ⊎ IsSpared a (IsMoved pairs t) (Some k) l q
-lesser_rows a t pairs big small w x k after last listed none l q h =
+    → NoneBefore pairs small k.0 → (y : ℤ) → AreAbove w y k.1 → (l : Layer) (q : Square) → on big (IsLeftIn w x) l q
+    → on small.span (IsLeftIn (rows_to y w) x) l q ⊎ IsSpared a (IsMoved pairs t) (Some k) l q
+lesser_rows a t pairs big small w x k after last listed none y later l q h =
     let b : Draws = IsMoved pairs t in
     elim (lesser_layers a b big small.span w x k after last l q h) [
       | inr spared ↦ inr spared
       | inl part ↦
-          elim (rows_or_above w k.1.y x q part.1) [
+          elim (rows_or_above w y x q part.1) [
             | inl row ↦ inl (part.0, row)
             | inr above ↦
                 elim (layers_order l k.0) [
@@ -244,7 +238,7 @@ lesser_rows a t pairs big small w x k after last listed none l q h =
                             inr (inl (λ early. elim early [
                               | inl before ↦
                                   before_itself k.0 (subst (λ (m : Layer). ComesBefore m k.0) same before)
-                              | inr here ↦ above_not_before q k.1 above here.1
+                              | inr here ↦ later q part.1.0 above here.1
                             ]))
                         | inr gt ↦ inr (later_spared a b k l q gt)
                       ]
@@ -267,16 +261,16 @@ next_improves a t pairs big small w rows x k next found after last listed (inl i
     (subst (λ (v : Window). IsFoundIn a b (on small.span (IsLeftIn v x)) next) is h)
 next_improves a t pairs big small w rows x k next found after last listed (inr is) h =
     let b : Draws = IsMoved pairs t in
-    least_improves a b (on small.span (IsLeftIn (rows_to k.1.y w) x)) (on big (IsLeftIn w x)) (Some k) next found
-    (λ l q s. (((span_up_to big small.span k.0 l after last).0 s.0).0, in_rows w k.1.y x q s.1))
-    (lesser_rows a t pairs big small w x k after last listed is.1)
-    (subst (λ (v : Window). IsFoundIn a b (on small.span (IsLeftIn v x)) next) is.0 h)
+    least_improves a b (on small.span (IsLeftIn (rows_to is.0.y w) x)) (on big (IsLeftIn w x)) (Some k) next found
+    (λ l q s. (((span_up_to big small.span k.0 l after last).0 s.0).0, in_rows w is.0.y x q s.1))
+    (lesser_rows a t pairs big small w x k after last listed is.1 is.0.y is.0.above)
+    (subst (λ (v : Window). IsFoundIn a b (on small.span (IsLeftIn v x)) next) is.0.is h)
 
 -- these rows are as wide as the window
 pub rows_wide : (pairs : List LayerPair) (group : Group) (k : Found) (w rows : Window)
     → AreRowsBefore pairs group k w rows → (rows.x0 ≡ w.x0) × (rows.x1 ≡ w.x1)
 rows_wide pairs group k w rows (inl is) = (ap (λ (v : Window). v.x0) is, ap (λ (v : Window). v.x1) is)
-rows_wide pairs group k w rows (inr is) = (ap (λ (v : Window). v.x0) is.0, ap (λ (v : Window). v.x1) is.0)
+rows_wide pairs group k w rows (inr is) = (ap (λ (v : Window). v.x0) is.0.is, ap (λ (v : Window). v.x1) is.0.is)
 
 -- with nothing known, the first difference of a strip is an improvement
 pub first_improves : (a b : Draws) (part : Part) (next : Option Found) → IsFoundIn a b part next

@@ -7,7 +7,7 @@ ghost use Rattle.lvl_flat.specs.Flattened.{TopCovers};
 ghost use Rattle.lvl_view.specs.Moved.{IsMoved};
 ghost use Rattle.lvl_compare.specs.inside.Strips.{Precedes, IsFoundIn, IsImproved, IsLeast, IsLeftIn, rows_to, seen_of};
 ghost use Rattle.lvl_compare.specs.inside.Strips.{up_to};
-ghost use Rattle.lvl_compare.specs.inside.Groups.{AreListed, AreRowsBefore, on};
+ghost use Rattle.lvl_compare.specs.inside.Groups.{AreAbove, AreListed, AreRowsBefore, on};
 
 use crate::flats::first_difference;
 use crate::groups::Group;
@@ -133,6 +133,18 @@ fn rows_up_to(window: Window, y: i64) -> Window
     }
 }
 
+/// The last row of a window that may have a square before this one: the row of the square or, if the
+/// whole window is to the right of the square, the row below.
+fn last_row(window: &Window, square: Square) -> i64
+    ensures { AreAbove window.now result square }
+{
+    if square.x < window.x0 {
+        square.y.saturating_sub(1)
+    } else {
+        square.y
+    }
+}
+
 /// The first difference of two layouts on the Layers of a group within the first strip of a window.
 /// The strip is at most as wide as the pace allows, and is halved until it doesn't have too many
 /// points and fits in memory. A strip of width 1 may have any number of points.
@@ -192,19 +204,20 @@ fn first_strip(
 }
 
 /// The rows of a window that may have a square before a known one, on the Layers of a group up to its
-/// Layer: all rows, or those up to the square if no Layer of the group comes before its Layer.
+/// Layer: all rows, unless no Layer of the group comes before its Layer.
 fn rows_before(alloc: Global, view: &View, group: &Group, window: &Window, known: &Found) -> Window
     ensures { AreRowsBefore view.now.pairs group.now known.now window.now result }
 {
     if group.has_before(alloc, view, known.0) {
         *window
     } else {
-        rows_up_to(*window, known.1.y)
+        rows_up_to(*window, last_row(window, known.1))
     }
 }
 
 /// The search of a window after one more strip. Only what may precede the known difference is drawn:
-/// Layers up to its Layer, and if there is none before that one, rows up to its square.
+/// Layers up to its Layer, and if there is none before that one, rows that may have a square before
+/// its own.
 fn next_strip(
     alloc: Global,
     first: &Fitted,

@@ -1,6 +1,8 @@
 -- Groups of consecutive Layers, and what two layouts draw on them.
 use Rattle.std.specs.Prelude.{◌≡◌, ◌⊎◌, ◌==◌, ◌&&◌, ◌||◌, nat_lt, Bool, true, not, List, [], Option, Some, None}
-use Rattle.std.specs.Prelude.{All, AllPairs, Contains}
+use Rattle.std.specs.Prelude.{All, AllPairs, Contains, ℤ, ◌<ℤ◌}
+use Rattle.lvl_grid.specs.Clip.{IsWithin}
+use Rattle.lvl_grid.specs.Squares.{IsBefore}
 use Rattle.lvl_grid.specs.declared.point.Square.{Square}
 use Rattle.lvl_grid.specs.declared.point.Window.{Window}
 use Rattle.lvl_names.specs.declared.layer.Layer.{Layer}
@@ -54,7 +56,18 @@ pub record NoneBefore (pairs : List LayerPair) (group : Group) (layer : Layer) :
   pub ours : AreNotBefore [] layer group.ours.items
   pub theirs : AreNotBefore pairs layer group.theirs.items
 
--- all rows of the window, or those up to the known square if no Layer of the group comes before its Layer
+-- no square of the window above the row comes before the square
+abbrev pub AreAbove : Window → ℤ → Square → Type 0
+AreAbove window y s = (q : Square) → IsWithin window q → y <ℤ q.y → ¬ IsBefore q s
+
+-- the rows of the window up to one above which no square comes before the square
+pub record IsCutFor (s : Square) (window rows : Window) : Type 0 where
+  pub y : ℤ
+  pub is : rows ≡ rows_to y window
+  pub above : AreAbove window y s
+
+-- all rows of the window, or if no Layer of the group comes before that of the known square, those that have all
+-- squares before it
 abbrev pub AreRowsBefore : List LayerPair → Group → Found → Window → Window → Type 0
 AreRowsBefore pairs group known window rows =
-    (rows ≡ window) ⊎ ((rows ≡ rows_to known.1.y window) × NoneBefore pairs group known.0)
+    (rows ≡ window) ⊎ (IsCutFor known.1 window rows × NoneBefore pairs group known.0)
