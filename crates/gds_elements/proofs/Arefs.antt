@@ -22,7 +22,7 @@ use Rattle.gds_elements.proofs.Shapes.{kind_test}
 use Rattle.gds_elements.proofs.Placings.{placed_more, reference_is}
 
 pub aref_goes : (s s' : Aref) (piece : List Rec) (r : Rec) → IsArefRead s piece
-    → after_first (left s.place) r.kind ≡ left s'.place ∷ []
+    → after_first (left s.stage) r.kind ≡ left s'.stage ∷ []
     → s'.placing.name.items ≡ (if r.kind == sname then name r.payload else s.placing.name.items)
     → s'.placing.flip ≡ (if r.kind == strans then flips r.payload else s.placing.flip)
     → s'.placing.turn ≡ (if r.kind == angle then turn r.payload else s.placing.turn)
@@ -31,7 +31,7 @@ pub aref_goes : (s s' : Aref) (piece : List Rec) (r : Rec) → IsArefRead s piec
     → IsArefRead s' (piece ++ r ∷ [])
 aref_goes s s' piece r h a n f t m w = record {
   opened = opener-snoc piece r aref h.opened;
-  leads = leads_more piece r (left s.place) (left s'.place) h.leads a;
+  leads = leads_more piece r (left s.stage) (left s'.stage) h.leads a;
   placed = placed_more s.placing s'.placing piece r h.placed n f t;
   columns = last_read columns_in colrow piece r s.counts.columns s'.counts.columns h.columns m;
   rows = last_read rows_in colrow piece r s.counts.rows s'.counts.rows h.rows w;
@@ -50,7 +50,7 @@ shifts_is s piece r h x =
     (h.rows ∙ sym (ap rows_in there))
 
 pub aref_ends : (s : Aref) (piece : List Rec) (r : Rec) (p : PlainReference) → IsArefRead s piece
-    → after_first (left s.place) r.kind ≡ one endel ∷ [] → r.kind ≡ xy
+    → after_first (left s.stage) r.kind ≡ one endel ∷ [] → r.kind ≡ xy
     → p ≡ record {
       cell = s.placing.name.items;
       flip = s.placing.flip;
@@ -64,7 +64,7 @@ aref_ends s piece r p h a x e =
     let o : opener new ≡ Some aref = opener-snoc piece r aref h.opened in
     record {
       opened = (aref, o);
-      leads = leads_more piece r (left s.place) (one endel) h.leads a;
+      leads = leads_more piece r (left s.stage) (one endel) h.leads a;
       drawn = record {
         shapes = sym (ap (λ q. map in_rings (shapes_by q new)) o);
         references =

@@ -16,25 +16,25 @@ use Rattle.gds_elements.proofs.Leads.{leads_more}
 use Rattle.gds_elements.proofs.Shapes.{layer_more, layer_kept, shape_same, kind_test}
 
 pub boundary_goes : (b b' : Boundary) (piece : List Rec) (r : Rec) → IsBoundary b piece
-    → after_first (left b.place) r.kind ≡ left b'.place ∷ []
+    → after_first (left b.stage) r.kind ≡ left b'.stage ∷ []
     → b'.layer.layer ≡ (if r.kind == layer then magnitude (short r.payload) else b.layer.layer)
     → b'.layer.datatype ≡ (if r.kind == datatype then magnitude (short r.payload) else b.layer.datatype)
     → IsBoundary b' (piece ++ r ∷ [])
 boundary_goes b b' piece r h a l d = record {
   opened = opener-snoc piece r boundary h.opened;
-  leads = leads_more piece r (left b.place) (left b'.place) h.leads a;
+  leads = leads_more piece r (left b.stage) (left b'.stage) h.leads a;
   layer = layer_more piece r b.layer b'.layer h.layer l d;
 }
 
 pub boundary_ends : (b : Boundary) (piece : List Rec) (r : Rec) (ring : List Point)
-    → IsBoundary b piece → after_first (left b.place) r.kind ≡ one endel ∷ [] → r.kind ≡ xy
+    → IsBoundary b piece → after_first (left b.stage) r.kind ≡ one endel ∷ [] → r.kind ≡ xy
     → ring ≡ but_last (points r.payload) → IsAtEnd (Ring b.layer ring) (piece ++ r ∷ [])
 boundary_ends b piece r ring h a x e =
     let new = piece ++ r ∷ [] in
     let o : opener new ≡ Some boundary = opener-snoc piece r boundary h.opened in
     record {
       opened = (boundary, o);
-      leads = leads_more piece r (left b.place) (one endel) h.leads a;
+      leads = leads_more piece r (left b.stage) (one endel) h.leads a;
       drawn = record {
         shapes =
             shape_same b.layer (layer_of new) (ring ∷ []) (but_last (points (field xy new)) ∷ []) one_place one_place

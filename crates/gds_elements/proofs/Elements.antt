@@ -10,16 +10,16 @@ use Rattle.gds_elements.specs.inside.Reading.{HasRead, IsReading}
 use Rattle.gds_elements.specs.declared.element.Element.{Element}
 use Rattle.gds_elements.specs.declared.element.State.{State}
 use Rattle.gds_elements.specs.declared.element.State.TheVariants.{Boundary, Path, Sref, Aref, Text, Drawn as AtEnd}
-use Rattle.gds_elements.specs.declared.boundary.Place.{Place as BoundaryPlace}
-use Rattle.gds_elements.specs.declared.boundary.Place.TheVariants.{Layer}
-use Rattle.gds_elements.specs.declared.path.Place.{Place as PathPlace}
-use Rattle.gds_elements.specs.declared.path.Place.TheVariants.{Layer as PathLayer}
-use Rattle.gds_elements.specs.declared.sref.Place.{Place as SrefPlace}
-use Rattle.gds_elements.specs.declared.sref.Place.TheVariants.{Name as SrefName}
-use Rattle.gds_elements.specs.declared.aref.Place.{Place as ArefPlace}
-use Rattle.gds_elements.specs.declared.aref.Place.TheVariants.{Name as ArefName}
-use Rattle.gds_elements.specs.declared.text.Place.{Place as TextPlace}
-use Rattle.gds_elements.specs.declared.text.Place.TheVariants.{Layer as TextLayer}
+use Rattle.gds_elements.specs.declared.boundary.BoundaryStage.{BoundaryStage}
+use Rattle.gds_elements.specs.declared.boundary.BoundaryStage.TheVariants.{Layer}
+use Rattle.gds_elements.specs.declared.path.PathStage.{PathStage}
+use Rattle.gds_elements.specs.declared.path.PathStage.TheVariants.{Layer as PathLayer}
+use Rattle.gds_elements.specs.declared.sref.SrefStage.{SrefStage}
+use Rattle.gds_elements.specs.declared.sref.SrefStage.TheVariants.{Name as SrefName}
+use Rattle.gds_elements.specs.declared.aref.ArefStage.{ArefStage}
+use Rattle.gds_elements.specs.declared.aref.ArefStage.TheVariants.{Name as ArefName}
+use Rattle.gds_elements.specs.declared.text.TextStage.{TextStage}
+use Rattle.gds_elements.specs.declared.text.TextStage.TheVariants.{Layer as TextLayer}
 use Rattle.gds_elements.specs.inside.Boundary.{left as boundary_left}
 use Rattle.gds_elements.specs.inside.Path.{left as path_left}
 use Rattle.gds_elements.specs.inside.Sref.{left as sref_left}
@@ -88,45 +88,45 @@ nothing_follows w u h g =
     one_end endel p.before q.before u q.nowhere (ap (λ l. l ++ u) (sym p.is) ∙ q.is)
 
 -- before each record that may come next, something is missing
-boundary_more : (p : BoundaryPlace) → can_be_empty (boundary_left p) ≡ false
+boundary_more : (p : BoundaryStage) → can_be_empty (boundary_left p) ≡ false
 boundary_more Layer = refl
 boundary_more _ = refl
 
-path_more : (p : PathPlace) → can_be_empty (path_left p) ≡ false
+path_more : (p : PathStage) → can_be_empty (path_left p) ≡ false
 path_more PathLayer = refl
 path_more _ = refl
 
-sref_more : (p : SrefPlace) → can_be_empty (sref_left p) ≡ false
+sref_more : (p : SrefStage) → can_be_empty (sref_left p) ≡ false
 sref_more SrefName = refl
 sref_more _ = refl
 
-aref_more : (p : ArefPlace) → can_be_empty (aref_left p) ≡ false
+aref_more : (p : ArefStage) → can_be_empty (aref_left p) ≡ false
 aref_more ArefName = refl
 aref_more _ = refl
 
-text_more : (p : TextPlace) → can_be_empty (text_left p) ≡ false
+text_more : (p : TextStage) → can_be_empty (text_left p) ≡ false
 text_more TextLayer = refl
 text_more _ = refl
 
 state_begins : (s : State) (piece : List Rec) → HasRead s piece → Begins an_element (kinds piece)
-state_begins (Boundary b) piece h = leads_begins (kinds piece) (boundary_left b.place) h.leads
-state_begins (Path p) piece h = leads_begins (kinds piece) (path_left p.place) h.leads
-state_begins (Sref s) piece h = leads_begins (kinds piece) (sref_left s.place) h.leads
-state_begins (Aref a) piece h = leads_begins (kinds piece) (aref_left a.place) h.leads
-state_begins (Text t) piece h = leads_begins (kinds piece) (text_left t.place) h.leads
+state_begins (Boundary b) piece h = leads_begins (kinds piece) (boundary_left b.stage) h.leads
+state_begins (Path p) piece h = leads_begins (kinds piece) (path_left p.stage) h.leads
+state_begins (Sref s) piece h = leads_begins (kinds piece) (sref_left s.stage) h.leads
+state_begins (Aref a) piece h = leads_begins (kinds piece) (aref_left a.stage) h.leads
+state_begins (Text t) piece h = leads_begins (kinds piece) (text_left t.stage) h.leads
 state_begins (AtEnd d) piece h = leads_begins (kinds piece) (one endel) h.leads
 
 state_unfinished : (s : State) (piece : List Rec) → HasRead s piece → IsWord an_element (kinds piece) → ⊥
 state_unfinished (Boundary b) piece h =
-    leads_unwhole an_element (kinds piece) (boundary_left b.place) (boundary_more b.place) h.leads
+    leads_unwhole an_element (kinds piece) (boundary_left b.stage) (boundary_more b.stage) h.leads
 state_unfinished (Path p) piece h =
-    leads_unwhole an_element (kinds piece) (path_left p.place) (path_more p.place) h.leads
+    leads_unwhole an_element (kinds piece) (path_left p.stage) (path_more p.stage) h.leads
 state_unfinished (Sref s) piece h =
-    leads_unwhole an_element (kinds piece) (sref_left s.place) (sref_more s.place) h.leads
+    leads_unwhole an_element (kinds piece) (sref_left s.stage) (sref_more s.stage) h.leads
 state_unfinished (Aref a) piece h =
-    leads_unwhole an_element (kinds piece) (aref_left a.place) (aref_more a.place) h.leads
+    leads_unwhole an_element (kinds piece) (aref_left a.stage) (aref_more a.stage) h.leads
 state_unfinished (Text t) piece h =
-    leads_unwhole an_element (kinds piece) (text_left t.place) (text_more t.place) h.leads
+    leads_unwhole an_element (kinds piece) (text_left t.stage) (text_more t.stage) h.leads
 state_unfinished (AtEnd d) piece h = leads_unwhole an_element (kinds piece) (one endel) refl h.leads
 
 -- the records that an element has read begin an element

@@ -9,16 +9,16 @@ use Rattle.gds_elements.specs.inside.Reading.{HasRead, IsAtEnd}
 use Rattle.gds_elements.specs.declared.element.Drawn.{Drawn}
 use Rattle.gds_elements.specs.declared.element.State.{State}
 use Rattle.gds_elements.specs.declared.element.State.TheVariants.{Boundary, Path, Sref, Aref, Text, Drawn as AtEnd}
-use Rattle.gds_elements.specs.declared.boundary.Place.{Place as BoundaryPlace}
-use Rattle.gds_elements.specs.declared.boundary.Place.TheVariants.{Layer}
-use Rattle.gds_elements.specs.declared.path.Place.{Place as PathPlace}
-use Rattle.gds_elements.specs.declared.path.Place.TheVariants.{Layer as PathLayer}
-use Rattle.gds_elements.specs.declared.sref.Place.{Place as SrefPlace}
-use Rattle.gds_elements.specs.declared.sref.Place.TheVariants.{Name as SrefName}
-use Rattle.gds_elements.specs.declared.aref.Place.{Place as ArefPlace}
-use Rattle.gds_elements.specs.declared.aref.Place.TheVariants.{Name as ArefName}
-use Rattle.gds_elements.specs.declared.text.Place.{Place as TextPlace}
-use Rattle.gds_elements.specs.declared.text.Place.TheVariants.{Layer as TextLayer}
+use Rattle.gds_elements.specs.declared.boundary.BoundaryStage.{BoundaryStage}
+use Rattle.gds_elements.specs.declared.boundary.BoundaryStage.TheVariants.{Layer}
+use Rattle.gds_elements.specs.declared.path.PathStage.{PathStage}
+use Rattle.gds_elements.specs.declared.path.PathStage.TheVariants.{Layer as PathLayer}
+use Rattle.gds_elements.specs.declared.sref.SrefStage.{SrefStage}
+use Rattle.gds_elements.specs.declared.sref.SrefStage.TheVariants.{Name as SrefName}
+use Rattle.gds_elements.specs.declared.aref.ArefStage.{ArefStage}
+use Rattle.gds_elements.specs.declared.aref.ArefStage.TheVariants.{Name as ArefName}
+use Rattle.gds_elements.specs.declared.text.TextStage.{TextStage}
+use Rattle.gds_elements.specs.declared.text.TextStage.TheVariants.{Layer as TextLayer}
 use Rattle.gds_elements.specs.inside.Boundary.{left as boundary_left}
 use Rattle.gds_elements.specs.inside.Path.{left as path_left}
 use Rattle.gds_elements.specs.inside.Sref.{left as sref_left}
@@ -34,23 +34,23 @@ pub ends_there : (d : Drawn) (piece : List Rec) → IsAtEnd d piece → InOrder 
 ends_there d piece h = in_order piece an_end (one endel) nothing h.leads refl
 
 -- before no other record may it come
-boundary_none : (p : BoundaryPlace) → after_first (boundary_left p) endel ≡ []
+boundary_none : (p : BoundaryStage) → after_first (boundary_left p) endel ≡ []
 boundary_none Layer = refl
 boundary_none _ = refl
 
-path_none : (p : PathPlace) → after_first (path_left p) endel ≡ []
+path_none : (p : PathStage) → after_first (path_left p) endel ≡ []
 path_none PathLayer = refl
 path_none _ = refl
 
-sref_none : (p : SrefPlace) → after_first (sref_left p) endel ≡ []
+sref_none : (p : SrefStage) → after_first (sref_left p) endel ≡ []
 sref_none SrefName = refl
 sref_none _ = refl
 
-aref_none : (p : ArefPlace) → after_first (aref_left p) endel ≡ []
+aref_none : (p : ArefStage) → after_first (aref_left p) endel ≡ []
 aref_none ArefName = refl
 aref_none _ = refl
 
-text_none : (p : TextPlace) → after_first (text_left p) endel ≡ []
+text_none : (p : TextStage) → after_first (text_left p) endel ≡ []
 text_none TextLayer = refl
 text_none _ = refl
 
@@ -62,9 +62,9 @@ nowhere piece a h t g =
 -- if more is missing, it may not come
 pub ends_nowhere : (s : State) (piece : List Rec) → HasRead s piece → ((d : Drawn) → s ≡ AtEnd d → ⊥)
     → InOrder piece an_end → ⊥
-ends_nowhere (Boundary b) piece h n = nowhere piece (boundary_left b.place) h.leads (boundary_none b.place)
-ends_nowhere (Path p) piece h n = nowhere piece (path_left p.place) h.leads (path_none p.place)
-ends_nowhere (Sref s) piece h n = nowhere piece (sref_left s.place) h.leads (sref_none s.place)
-ends_nowhere (Aref a) piece h n = nowhere piece (aref_left a.place) h.leads (aref_none a.place)
-ends_nowhere (Text t) piece h n = nowhere piece (text_left t.place) h.leads (text_none t.place)
+ends_nowhere (Boundary b) piece h n = nowhere piece (boundary_left b.stage) h.leads (boundary_none b.stage)
+ends_nowhere (Path p) piece h n = nowhere piece (path_left p.stage) h.leads (path_none p.stage)
+ends_nowhere (Sref s) piece h n = nowhere piece (sref_left s.stage) h.leads (sref_none s.stage)
+ends_nowhere (Aref a) piece h n = nowhere piece (aref_left a.stage) h.leads (aref_none a.stage)
+ends_nowhere (Text t) piece h n = nowhere piece (text_left t.stage) h.leads (text_none t.stage)
 ends_nowhere (AtEnd d) piece h n = absurd (n d refl)

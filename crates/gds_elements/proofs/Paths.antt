@@ -28,7 +28,7 @@ use Rattle.gds_elements.proofs.Leads.{leads_more}
 use Rattle.gds_elements.proofs.Shapes.{layer_more, layer_kept, shape_same, kind_test}
 
 pub path_goes : (p p' : Path) (piece : List Rec) (r : Rec) → IsPathRead p piece
-    → after_first (left p.place) r.kind ≡ left p'.place ∷ []
+    → after_first (left p.stage) r.kind ≡ left p'.stage ∷ []
     → p'.layer.layer ≡ (if r.kind == layer then magnitude (short r.payload) else p.layer.layer)
     → p'.layer.datatype ≡ (if r.kind == datatype then magnitude (short r.payload) else p.layer.datatype)
     → p'.square ≡ (if r.kind == pathtype then int_eq (short r.payload) (pos 2) else p.square)
@@ -36,7 +36,7 @@ pub path_goes : (p p' : Path) (piece : List Rec) (r : Rec) → IsPathRead p piec
     → IsPathRead p' (piece ++ r ∷ [])
 path_goes p p' piece r h a l d s w = record {
   opened = opener-snoc piece r path h.opened;
-  leads = leads_more piece r (left p.place) (left p'.place) h.leads a;
+  leads = leads_more piece r (left p.stage) (left p'.stage) h.leads a;
   layer = layer_more piece r p.layer p'.layer h.layer l d;
   square = field_read (λ q. int_eq (short q) (pos 2)) pathtype piece r p.square p'.square h.square s;
   half = last_read half_in width piece r p.half p'.half h.half w;
@@ -86,7 +86,7 @@ abbrev rings_at : List Point → ℕ → ℕ → Rings
 rings_at ps h e = path_rings ps (record { half = h; start = e; end = e })
 
 pub path_ends : (p : Path) (piece : List Rec) (r : Rec) (h : ℕ) (rings : Vec (List Point) Global)
-    → IsPathRead p piece → after_first (left p.place) r.kind ≡ one endel ∷ [] → r.kind ≡ xy → p.half ≡ Some h
+    → IsPathRead p piece → after_first (left p.stage) r.kind ≡ one endel ∷ [] → r.kind ≡ xy → p.half ≡ Some h
     → rings.items ≡ rings_at (points r.payload) h (reach_at p.square h)
     → IsAtEnd (PathRings p.layer rings) (piece ++ r ∷ [])
 path_ends p piece r h rings i a x w e =
@@ -94,7 +94,7 @@ path_ends p piece r h rings i a x w e =
     let o : opener new ≡ Some path = opener-snoc piece r path i.opened in
     record {
       opened = (path, o);
-      leads = leads_more piece r (left p.place) (one endel) i.leads a;
+      leads = leads_more piece r (left p.stage) (one endel) i.leads a;
       drawn = record {
         shapes =
             shape_same p.layer (layer_of new) rings.items (rings_at (points (field xy new)) (half_of new) (end_of new))

@@ -16,19 +16,19 @@ use Rattle.gds_elements.proofs.Leads.{leads_more}
 use Rattle.gds_elements.proofs.Placings.{placed_more, reference_is}
 
 pub sref_goes : (s s' : Sref) (piece : List Rec) (r : Rec) → IsSrefRead s piece
-    → after_first (left s.place) r.kind ≡ left s'.place ∷ []
+    → after_first (left s.stage) r.kind ≡ left s'.stage ∷ []
     → s'.placing.name.items ≡ (if r.kind == sname then name r.payload else s.placing.name.items)
     → s'.placing.flip ≡ (if r.kind == strans then flips r.payload else s.placing.flip)
     → s'.placing.turn ≡ (if r.kind == angle then turn r.payload else s.placing.turn)
     → IsSrefRead s' (piece ++ r ∷ [])
 sref_goes s s' piece r h a n f t = record {
   opened = opener-snoc piece r sref h.opened;
-  leads = leads_more piece r (left s.place) (left s'.place) h.leads a;
+  leads = leads_more piece r (left s.stage) (left s'.stage) h.leads a;
   placed = placed_more s.placing s'.placing piece r h.placed n f t;
 }
 
 pub sref_ends : (s : Sref) (piece : List Rec) (r : Rec) (p : PlainReference) → IsSrefRead s piece
-    → after_first (left s.place) r.kind ≡ one endel ∷ [] → r.kind ≡ xy
+    → after_first (left s.stage) r.kind ≡ one endel ∷ [] → r.kind ≡ xy
     → p ≡ record {
       cell = s.placing.name.items;
       flip = s.placing.flip;
@@ -42,7 +42,7 @@ sref_ends s piece r p h a x e =
     let o : opener new ≡ Some sref = opener-snoc piece r sref h.opened in
     record {
       opened = (sref, o);
-      leads = leads_more piece r (left s.place) (one endel) h.leads a;
+      leads = leads_more piece r (left s.stage) (one endel) h.leads a;
       drawn = record {
         shapes = sym (ap (λ q. map in_rings (shapes_by q new)) o);
         references = ap (λ (i : PlainReference). i ∷ []) (e ∙ reference_is s.placing piece r one_place one_place

@@ -9,8 +9,8 @@ use Rattle.gds_elements.specs.Meaning.{shapes_by, references_by, in_rings}
 use Rattle.gds_elements.specs.inside.Text.{left, IsTextRead}
 use Rattle.lvl_grammar.specs.inside.After.{LeadsTo}
 use Rattle.gds_elements.specs.inside.Reading.{IsAtEnd}
-use Rattle.gds_elements.specs.declared.text.Place.{Place}
-use Rattle.gds_elements.specs.declared.text.Place.TheVariants.{Layer}
+use Rattle.gds_elements.specs.declared.text.TextStage.{TextStage}
+use Rattle.gds_elements.specs.declared.text.TextStage.TheVariants.{Layer}
 use Rattle.gds_elements.specs.declared.text.Text.{Text}
 use Rattle.gds_elements.specs.declared.element.Drawn.TheVariants.{Nothing}
 use Rattle.lvl_grammar.specs.inside.After.{after_first}
@@ -18,22 +18,22 @@ use Rattle.gds_elements.proofs.Fields.{opener-snoc}
 use Rattle.gds_elements.proofs.Leads.{leads_more, leads_first}
 
 pub text_goes : (t t' : Text) (piece : List Rec) (r : Rec) → IsTextRead t piece
-    → after_first (left t.place) r.kind ≡ left t'.place ∷ []
+    → after_first (left t.stage) r.kind ≡ left t'.stage ∷ []
     → IsTextRead t' (piece ++ r ∷ [])
 text_goes t t' piece r h a = record {
   opened = opener-snoc piece r text h.opened;
-  leads = leads_more piece r (left t.place) (left t'.place) h.leads a;
+  leads = leads_more piece r (left t.stage) (left t'.stage) h.leads a;
 }
 
 pub text_ends : (t : Text) (piece : List Rec) (r : Rec) → IsTextRead t piece
-    → after_first (left t.place) r.kind ≡ one endel ∷ []
+    → after_first (left t.stage) r.kind ≡ one endel ∷ []
     → IsAtEnd Nothing (piece ++ r ∷ [])
 text_ends t piece r h a =
     let new = piece ++ r ∷ [] in
     let o : opener new ≡ Some text = opener-snoc piece r text h.opened in
     record {
       opened = (text, o);
-      leads = leads_more piece r (left t.place) (one endel) h.leads a;
+      leads = leads_more piece r (left t.stage) (one endel) h.leads a;
       drawn = record {
         shapes = sym (ap (λ q. map in_rings (shapes_by q new)) o);
         references = sym (ap (λ q. references_by q new) o);
@@ -41,9 +41,9 @@ text_ends t piece r h a =
     }
 
 -- the state after the TEXT record
-pub text_opens : (t : Text) (r : Rec) → t.place ≡ Layer → r.kind ≡ text → IsTextRead t (r ∷ [])
+pub text_opens : (t : Text) (r : Rec) → t.stage ≡ Layer → r.kind ≡ text → IsTextRead t (r ∷ [])
 text_opens t r p e = record {
   opened = ap Some e;
-  leads = subst (λ (k : ℕ). LeadsTo an_element (k ∷ []) (left t.place)) (sym e)
-      (subst (λ (i : Place). LeadsTo an_element (text ∷ []) (left i)) (sym p) (leads_first text (left Layer) refl));
+  leads = subst (λ (k : ℕ). LeadsTo an_element (k ∷ []) (left t.stage)) (sym e)
+      (subst (λ (i : TextStage). LeadsTo an_element (text ∷ []) (left i)) (sym p) (leads_first text (left Layer) refl));
 }

@@ -32,7 +32,7 @@ use std::alloc::Global;
 
 /// Which record comes next. If several may, the first of them gives the name.
 #[derive(Clone, Copy)]
-pub(crate) enum Place {
+pub(crate) enum ArefStage {
     Name,
     Strans,
     Magnification,
@@ -41,29 +41,29 @@ pub(crate) enum Place {
     Points,
 }
 
-impl Place {
+impl ArefStage {
     /// What a record of this type leads to, if it comes next.
-    fn after(self, kind: u8) -> Next<Place>
+    fn after(self, kind: u8) -> Next<ArefStage>
         ensures order { after_first (left self) kind ≡ left_after left result }
         ensures last { EndsBy xy kind result }
     {
         match self {
-            Place::Name => only(kind, record_type::SNAME, Next::Goes(Place::Strans)),
-            Place::Strans => match kind {
-                record_type::STRANS => Next::Goes(Place::Magnification),
-                _ => only(kind, record_type::COLROW, Next::Goes(Place::Points)),
+            ArefStage::Name => only(kind, record_type::SNAME, Next::Goes(ArefStage::Strans)),
+            ArefStage::Strans => match kind {
+                record_type::STRANS => Next::Goes(ArefStage::Magnification),
+                _ => only(kind, record_type::COLROW, Next::Goes(ArefStage::Points)),
             },
-            Place::Magnification => match kind {
-                record_type::MAG => Next::Goes(Place::Angle),
-                record_type::ANGLE => Next::Goes(Place::Columns),
-                _ => only(kind, record_type::COLROW, Next::Goes(Place::Points)),
+            ArefStage::Magnification => match kind {
+                record_type::MAG => Next::Goes(ArefStage::Angle),
+                record_type::ANGLE => Next::Goes(ArefStage::Columns),
+                _ => only(kind, record_type::COLROW, Next::Goes(ArefStage::Points)),
             },
-            Place::Angle => match kind {
-                record_type::ANGLE => Next::Goes(Place::Columns),
-                _ => only(kind, record_type::COLROW, Next::Goes(Place::Points)),
+            ArefStage::Angle => match kind {
+                record_type::ANGLE => Next::Goes(ArefStage::Columns),
+                _ => only(kind, record_type::COLROW, Next::Goes(ArefStage::Points)),
             },
-            Place::Columns => only(kind, record_type::COLROW, Next::Goes(Place::Points)),
-            Place::Points => only(kind, record_type::XY, Next::Ends),
+            ArefStage::Columns => only(kind, record_type::COLROW, Next::Goes(ArefStage::Points)),
+            ArefStage::Points => only(kind, record_type::XY, Next::Ends),
         }
     }
 }
@@ -71,7 +71,7 @@ impl Place {
 /// The state of an array that is being read.
 #[derive(Drop)]
 pub(crate) struct Aref {
-    place: Place,
+    stage: ArefStage,
     placing: Placing,
     counts: Counts,
 }
@@ -82,7 +82,7 @@ impl Aref {
         ensures { (r : Rec) → r.kind ≡ aref → IsArefRead result (r ∷ []) }
     {
         Aref {
-            place: Place::Name,
+            stage: ArefStage::Name,
             placing: Placing::new(alloc),
             counts: Counts {
                 columns: 1,
@@ -103,16 +103,16 @@ impl Aref {
             → Takes piece (record_of kind d payload.now) result }
     {
         let Aref {
-            place,
+            stage,
             placing,
             counts,
         } = self;
-        match place.after(kind) {
-            Next::Goes(place) => {
+        match stage.after(kind) {
+            Next::Goes(stage) => {
                 let placing = placing.read(alloc, kind, payload)?;
                 let counts = read_counts(counts, kind, payload)?;
                 Ok(State::Aref(Aref {
-                    place,
+                    stage,
                     placing,
                     counts,
                 }))

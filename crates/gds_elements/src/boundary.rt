@@ -29,22 +29,30 @@ const FEWEST_POINTS: usize = 4;
 
 /// Which record comes next.
 #[derive(Clone, Copy)]
-pub(crate) enum Place {
+pub(crate) enum BoundaryStage {
     Layer,
     Datatype,
     Points,
 }
 
-impl Place {
+impl BoundaryStage {
     /// What a record of this type leads to, if it comes next.
-    fn after(self, kind: u8) -> Next<Place>
+    fn after(self, kind: u8) -> Next<BoundaryStage>
         ensures order { after_first (left self) kind ≡ left_after left result }
         ensures last { EndsBy xy kind result }
     {
         match self {
-            Place::Layer => only(kind, record_type::LAYER, Next::Goes(Place::Datatype)),
-            Place::Datatype => only(kind, record_type::DATATYPE, Next::Goes(Place::Points)),
-            Place::Points => only(kind, record_type::XY, Next::Ends),
+            BoundaryStage::Layer => only(
+                kind,
+                record_type::LAYER,
+                Next::Goes(BoundaryStage::Datatype),
+            ),
+            BoundaryStage::Datatype => only(
+                kind,
+                record_type::DATATYPE,
+                Next::Goes(BoundaryStage::Points),
+            ),
+            BoundaryStage::Points => only(kind, record_type::XY, Next::Ends),
         }
     }
 }
@@ -52,7 +60,7 @@ impl Place {
 /// The state of a boundary that is being read.
 #[derive(Drop)]
 pub(crate) struct Boundary {
-    place: Place,
+    stage: BoundaryStage,
     layer: Layer,
 }
 
@@ -62,7 +70,7 @@ impl Boundary {
         ensures { (r : Rec) → r.kind ≡ boundary → IsBoundary result (r ∷ []) }
     {
         Boundary {
-            place: Place::Layer,
+            stage: BoundaryStage::Layer,
             layer: Layer {
                 layer: 0,
                 datatype: 0,
@@ -81,10 +89,10 @@ impl Boundary {
         ensures { (piece : List Rec) (d : ℕ) → IsBoundary self piece
             → Takes piece (record_of kind d payload.now) result }
     {
-        match self.place.after(kind) {
-            Next::Goes(place) => {
+        match self.stage.after(kind) {
+            Next::Goes(stage) => {
                 let layer = read_layer(self.layer, kind, payload)?;
-                Ok(State::Boundary(Boundary { place, layer }))
+                Ok(State::Boundary(Boundary { stage, layer }))
             }
             Next::Ends => {
                 let ring = ring_of(alloc, payload)?;

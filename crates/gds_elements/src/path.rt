@@ -33,7 +33,7 @@ const FEWEST_POINTS: usize = 2;
 
 /// Which record comes next. If several may, the first of them gives the name.
 #[derive(Clone, Copy)]
-pub(crate) enum Place {
+pub(crate) enum PathStage {
     Layer,
     Datatype,
     PathType,
@@ -41,25 +41,29 @@ pub(crate) enum Place {
     Points,
 }
 
-impl Place {
+impl PathStage {
     /// What a record of this type leads to, if it comes next.
-    fn after(self, kind: u8) -> Next<Place>
+    fn after(self, kind: u8) -> Next<PathStage>
         ensures order { after_first (left self) kind ≡ left_after left result }
         ensures last { EndsBy xy kind result }
     {
         match self {
-            Place::Layer => only(kind, record_type::LAYER, Next::Goes(Place::Datatype)),
-            Place::Datatype => only(kind, record_type::DATATYPE, Next::Goes(Place::PathType)),
-            Place::PathType => match kind {
-                record_type::PATHTYPE => Next::Goes(Place::Width),
-                record_type::WIDTH => Next::Goes(Place::Points),
+            PathStage::Layer => only(kind, record_type::LAYER, Next::Goes(PathStage::Datatype)),
+            PathStage::Datatype => only(
+                kind,
+                record_type::DATATYPE,
+                Next::Goes(PathStage::PathType),
+            ),
+            PathStage::PathType => match kind {
+                record_type::PATHTYPE => Next::Goes(PathStage::Width),
+                record_type::WIDTH => Next::Goes(PathStage::Points),
                 _ => only(kind, record_type::XY, Next::Ends),
             },
-            Place::Width => match kind {
-                record_type::WIDTH => Next::Goes(Place::Points),
+            PathStage::Width => match kind {
+                record_type::WIDTH => Next::Goes(PathStage::Points),
                 _ => only(kind, record_type::XY, Next::Ends),
             },
-            Place::Points => only(kind, record_type::XY, Next::Ends),
+            PathStage::Points => only(kind, record_type::XY, Next::Ends),
         }
     }
 }
@@ -67,7 +71,7 @@ impl Place {
 /// The state of a path that is being read.
 #[derive(Drop)]
 pub(crate) struct Path {
-    place: Place,
+    stage: PathStage,
     layer: Layer,
     /// Whether the path reaches half its width beyond its ends.
     square: bool,
@@ -81,7 +85,7 @@ impl Path {
         ensures { (r : Rec) → r.kind ≡ path → IsPathRead result (r ∷ []) }
     {
         Path {
-            place: Place::Layer,
+            stage: PathStage::Layer,
             layer: Layer {
                 layer: 0,
                 datatype: 0,
@@ -102,13 +106,13 @@ impl Path {
         ensures { (piece : List Rec) (d : ℕ) → IsPathRead self piece
             → Takes piece (record_of kind d payload.now) result }
     {
-        match self.place.after(kind) {
-            Next::Goes(place) => {
+        match self.stage.after(kind) {
+            Next::Goes(stage) => {
                 let layer = read_layer(self.layer, kind, payload)?;
                 let square = read_ends(self.square, kind, payload)?;
                 let half = read_half(self.half, kind, payload)?;
                 Ok(State::Path(Path {
-                    place,
+                    stage,
                     layer,
                     square,
                     half,

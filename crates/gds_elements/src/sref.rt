@@ -26,7 +26,7 @@ use std::alloc::Global;
 
 /// Which record comes next. If several may, the first of them gives the name.
 #[derive(Clone, Copy)]
-pub(crate) enum Place {
+pub(crate) enum SrefStage {
     Name,
     Strans,
     Magnification,
@@ -34,28 +34,28 @@ pub(crate) enum Place {
     Points,
 }
 
-impl Place {
+impl SrefStage {
     /// What a record of this type leads to, if it comes next.
-    fn after(self, kind: u8) -> Next<Place>
+    fn after(self, kind: u8) -> Next<SrefStage>
         ensures order { after_first (left self) kind ≡ left_after left result }
         ensures last { EndsBy xy kind result }
     {
         match self {
-            Place::Name => only(kind, record_type::SNAME, Next::Goes(Place::Strans)),
-            Place::Strans => match kind {
-                record_type::STRANS => Next::Goes(Place::Magnification),
+            SrefStage::Name => only(kind, record_type::SNAME, Next::Goes(SrefStage::Strans)),
+            SrefStage::Strans => match kind {
+                record_type::STRANS => Next::Goes(SrefStage::Magnification),
                 _ => only(kind, record_type::XY, Next::Ends),
             },
-            Place::Magnification => match kind {
-                record_type::MAG => Next::Goes(Place::Angle),
-                record_type::ANGLE => Next::Goes(Place::Points),
+            SrefStage::Magnification => match kind {
+                record_type::MAG => Next::Goes(SrefStage::Angle),
+                record_type::ANGLE => Next::Goes(SrefStage::Points),
                 _ => only(kind, record_type::XY, Next::Ends),
             },
-            Place::Angle => match kind {
-                record_type::ANGLE => Next::Goes(Place::Points),
+            SrefStage::Angle => match kind {
+                record_type::ANGLE => Next::Goes(SrefStage::Points),
                 _ => only(kind, record_type::XY, Next::Ends),
             },
-            Place::Points => only(kind, record_type::XY, Next::Ends),
+            SrefStage::Points => only(kind, record_type::XY, Next::Ends),
         }
     }
 }
@@ -63,7 +63,7 @@ impl Place {
 /// The state of a reference that is being read.
 #[derive(Drop)]
 pub(crate) struct Sref {
-    place: Place,
+    stage: SrefStage,
     placing: Placing,
 }
 
@@ -73,7 +73,7 @@ impl Sref {
         ensures { (r : Rec) → r.kind ≡ sref → IsSrefRead result (r ∷ []) }
     {
         Sref {
-            place: Place::Name,
+            stage: SrefStage::Name,
             placing: Placing::new(alloc),
         }
     }
@@ -89,11 +89,11 @@ impl Sref {
         ensures { (piece : List Rec) (d : ℕ) → IsSrefRead self piece
             → Takes piece (record_of kind d payload.now) result }
     {
-        let Sref { place, placing } = self;
-        match place.after(kind) {
-            Next::Goes(place) => {
+        let Sref { stage, placing } = self;
+        match stage.after(kind) {
+            Next::Goes(stage) => {
                 let placing = placing.read(alloc, kind, payload)?;
-                Ok(State::Sref(Sref { place, placing }))
+                Ok(State::Sref(Sref { stage, placing }))
             }
             Next::Ends => {
                 let reference = place_once(placing, payload)?;

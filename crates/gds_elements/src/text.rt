@@ -20,7 +20,7 @@ use lvl_refusal::Cause;
 
 /// Which record comes next. If several may, the first of them gives the name.
 #[derive(Clone, Copy)]
-pub(crate) enum Place {
+pub(crate) enum TextStage {
     Layer,
     TextType,
     Presentation,
@@ -33,77 +33,81 @@ pub(crate) enum Place {
     Letters,
 }
 
-impl Place {
+impl TextStage {
     /// What a record of this type leads to, if it comes next.
-    fn after(self, kind: u8) -> Next<Place>
+    fn after(self, kind: u8) -> Next<TextStage>
         ensures order { after_first (left self) kind ≡ left_after left result }
         ensures last { EndsBy string kind result }
     {
         match self {
-            Place::Layer => only(kind, record_type::LAYER, Next::Goes(Place::TextType)),
-            Place::TextType => only(kind, record_type::TEXTTYPE, Next::Goes(Place::Presentation)),
-            Place::Presentation => match kind {
-                record_type::PRESENTATION => Next::Goes(Place::PathType),
+            TextStage::Layer => only(kind, record_type::LAYER, Next::Goes(TextStage::TextType)),
+            TextStage::TextType => only(
+                kind,
+                record_type::TEXTTYPE,
+                Next::Goes(TextStage::Presentation),
+            ),
+            TextStage::Presentation => match kind {
+                record_type::PRESENTATION => Next::Goes(TextStage::PathType),
                 _ => after_presentation(kind),
             },
-            Place::PathType => after_presentation(kind),
-            Place::Width => after_path_type(kind),
-            Place::Strans => after_width(kind),
-            Place::Magnification => match kind {
-                record_type::MAG => Next::Goes(Place::Angle),
+            TextStage::PathType => after_presentation(kind),
+            TextStage::Width => after_path_type(kind),
+            TextStage::Strans => after_width(kind),
+            TextStage::Magnification => match kind {
+                record_type::MAG => Next::Goes(TextStage::Angle),
                 _ => after_magnification(kind),
             },
-            Place::Angle => after_magnification(kind),
-            Place::Points => only(kind, record_type::XY, Next::Goes(Place::Letters)),
-            Place::Letters => only(kind, record_type::STRING, Next::Ends),
+            TextStage::Angle => after_magnification(kind),
+            TextStage::Points => only(kind, record_type::XY, Next::Goes(TextStage::Letters)),
+            TextStage::Letters => only(kind, record_type::STRING, Next::Ends),
         }
     }
 }
 
-fn after_presentation(kind: u8) -> Next<Place>
-    ensures order { after_first (left Place.PathType) kind ≡ left_after left result }
+fn after_presentation(kind: u8) -> Next<TextStage>
+    ensures order { after_first (left TextStage.PathType) kind ≡ left_after left result }
     ensures last { EndsBy string kind result }
 {
     match kind {
-        record_type::PATHTYPE => Next::Goes(Place::Width),
+        record_type::PATHTYPE => Next::Goes(TextStage::Width),
         _ => after_path_type(kind),
     }
 }
 
-fn after_path_type(kind: u8) -> Next<Place>
-    ensures order { after_first (left Place.Width) kind ≡ left_after left result }
+fn after_path_type(kind: u8) -> Next<TextStage>
+    ensures order { after_first (left TextStage.Width) kind ≡ left_after left result }
     ensures last { EndsBy string kind result }
 {
     match kind {
-        record_type::WIDTH => Next::Goes(Place::Strans),
+        record_type::WIDTH => Next::Goes(TextStage::Strans),
         _ => after_width(kind),
     }
 }
 
-fn after_width(kind: u8) -> Next<Place>
-    ensures order { after_first (left Place.Strans) kind ≡ left_after left result }
+fn after_width(kind: u8) -> Next<TextStage>
+    ensures order { after_first (left TextStage.Strans) kind ≡ left_after left result }
     ensures last { EndsBy string kind result }
 {
     match kind {
-        record_type::STRANS => Next::Goes(Place::Magnification),
-        _ => only(kind, record_type::XY, Next::Goes(Place::Letters)),
+        record_type::STRANS => Next::Goes(TextStage::Magnification),
+        _ => only(kind, record_type::XY, Next::Goes(TextStage::Letters)),
     }
 }
 
-fn after_magnification(kind: u8) -> Next<Place>
-    ensures order { after_first (left Place.Angle) kind ≡ left_after left result }
+fn after_magnification(kind: u8) -> Next<TextStage>
+    ensures order { after_first (left TextStage.Angle) kind ≡ left_after left result }
     ensures last { EndsBy string kind result }
 {
     match kind {
-        record_type::ANGLE => Next::Goes(Place::Points),
-        _ => only(kind, record_type::XY, Next::Goes(Place::Letters)),
+        record_type::ANGLE => Next::Goes(TextStage::Points),
+        _ => only(kind, record_type::XY, Next::Goes(TextStage::Letters)),
     }
 }
 
 /// The state of a text that is being read.
 #[derive(Drop)]
 pub(crate) struct Text {
-    place: Place,
+    stage: TextStage,
 }
 
 impl Text {
@@ -112,7 +116,7 @@ impl Text {
         ensures { (r : Rec) → r.kind ≡ text → IsTextRead result (r ∷ []) }
     {
         Text {
-            place: Place::Layer,
+            stage: TextStage::Layer,
         }
     }
 
@@ -122,10 +126,10 @@ impl Text {
         ensures { (piece : List Rec) (d : ℕ) → IsTextRead self piece
             → Takes piece (record_of kind d payload.now) result }
     {
-        match self.place.after(kind) {
-            Next::Goes(place) => {
+        match self.stage.after(kind) {
+            Next::Goes(stage) => {
                 check_points(kind, payload)?;
-                Ok(State::Text(Text { place }))
+                Ok(State::Text(Text { stage }))
             }
             Next::Ends => Ok(State::Drawn(Drawn::Nothing)),
             Next::Nowhere => Err(out_of_order(kind)),

@@ -16,8 +16,8 @@ use Rattle.lvl_grammar.specs.inside.After.{after_first, IsWordOfOne, LeadsTo}
 use Rattle.lvl_grammar.proofs.Orders.{first_taken, some_word, some_word-is, empty_word}
 use Rattle.gds_elements.proofs.Elements.{reading_begins, reading_unfinished, nothing_follows}
 use Rattle.gds_library.specs.Order.{a_library}
-use Rattle.gds_library.specs.inside.Place.{left, to_end_of_structure}
-use Rattle.gds_library.specs.declared.place.Place.TheVariants.{Elements}
+use Rattle.gds_library.specs.inside.Stage.{left, to_end_of_structure}
+use Rattle.gds_library.specs.declared.stage.LibraryStage.TheVariants.{Elements}
 
 -- no element begins with the type
 pub record OpensNone (k : ℕ) : Type 0 where

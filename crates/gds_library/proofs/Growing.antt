@@ -4,7 +4,7 @@ use Rattle.std.proofs.Common.{None, refl, sym, ap, ◌∙◌, subst, arith, leng
 use Rattle.std.proofs.lemmas.List.{append-nil}
 use Rattle.std.specs.Prelude.{Option, is_some, not, ◌&&◌, ◌||◌}
 use Rattle.std.specs.Str.{bytes_eq}
-use Rattle.lvl_ignore.specs.Ignored.{IsWithin}
+use Rattle.lvl_ignore.specs.Ignored.{IsSubsetOf}
 use Rattle.lvl_ignore.specs.declared.ignore.Ignore.{Ignore}
 use Rattle.lvl_grammar.specs.Front.{SpellsAll, FollowAll, SpellsWhole}
 use Rattle.lvl_grammar.proofs.Orders.{by_test}
@@ -79,7 +79,7 @@ grown_rows false true false n' k f g h e = (let z : None ≡ Some f = e in cc)
 grown_rows false false true true k f g h e = e
 grown_rows false false false n' k f g h e = (let z : None ≡ Some f = e in cc)
 
-grown_form : (less more : Ignore) → IsWithin less more → (k : ℕ) (f : Form)
+grown_form : (less more : Ignore) → IsSubsetOf less more → (k : ℕ) (f : Form)
     → form_among (ignored_rows less) k ≡ Some f → form_among (ignored_rows more) k ≡ Some f
 grown_form less more w k f =
     grown_rows less.properties more.properties less.names more.names k f w.properties w.names
@@ -124,7 +124,8 @@ and_left true b e = (refl, e)
 and_left false b e = (let z : false ≡ true = e in cc)
 
 -- what is ignored is ignored when more is
-passed_grows : (less more : Ignore) → IsWithin less more → (r : Rec) → is_passed less r ≡ true → is_passed more r ≡ true
+passed_grows : (less more : Ignore) → IsSubsetOf less more → (r : Rec) → is_passed less r ≡ true
+    → is_passed more r ≡ true
 passed_grows less more w r e =
     let p = and_left (is_ignored less r.kind) _ e in
     let f = some_form (form_among (ignored_rows less) r.kind) p.0 in
@@ -156,7 +157,7 @@ sorted less before r bytes s f = elim s [
     go false e false g none = absurd (none e g)
 
 -- and stays so when more is ignored
-same_passed : (less more : Ignore) → IsWithin less more → (r : Rec) → IsSorted less r
+same_passed : (less more : Ignore) → IsSubsetOf less more → (r : Rec) → IsSorted less r
     → is_passed more r ≡ is_passed less r
 same_passed less more w r s = elim s [
   | inl e ↦ passed_grows less more w r e ∙ sym e
@@ -169,7 +170,7 @@ same_passed less more w r s = elim s [
 table_form : (i : Ignore) (k : ℕ) (f : Form) → form_among table k ≡ Some f → form_of i k ≡ Some f
 table_form i k f e = form_left table (ignored_rows i) k f e
 
-same_form : (less more : Ignore) → IsWithin less more → (r : Rec) (bytes : List ℕ) → Spells less bytes r
+same_form : (less more : Ignore) → IsSubsetOf less more → (r : Rec) (bytes : List ℕ) → Spells less bytes r
     → IsSorted less r → Spells more bytes r
 same_form less more w r bytes s t = elim s [
   | inr j ↦ inr j
@@ -206,7 +207,7 @@ same_form less more w r bytes s t = elim s [
             ∙ sym (form_right table (ignored_rows more) k h)
 
 -- if the same records aren't ignored, the same may follow
-follows_grows : (less more : Ignore) → IsWithin less more → (before : List Rec) (r : Rec)
+follows_grows : (less more : Ignore) → IsSubsetOf less more → (before : List Rec) (r : Rec)
     → essential more before ≡ essential less before → IsSorted less r → MayFollowBy less before r
     → MayFollowBy more before r
 follows_grows less more w before r same s f = elim f.0 [
@@ -223,7 +224,7 @@ follows_grows less more w before r same s f = elim f.0 [
 ]
 
 -- one more record is ignored in both cases, or in neither
-same_more : (less more : Ignore) → IsWithin less more → (before : List Rec) (r : Rec)
+same_more : (less more : Ignore) → IsSubsetOf less more → (before : List Rec) (r : Rec)
     → essential more before ≡ essential less before → IsSorted less r
     → essential more (before ++ r ∷ []) ≡ essential less (before ++ r ∷ [])
 same_more less more w before r same s = go (is_passed less r) refl (same_passed less more w r s)
@@ -240,7 +241,7 @@ pub record Grows (less more : Ignore) (before : List Rec) (bytes : List ℕ) (rs
   pub followed : FollowAll (gds more) before rs
   pub same : essential more (before ++ rs) ≡ essential less (before ++ rs)
 
-all_grow : (less more : Ignore) → IsWithin less more → (before rs : List Rec) (bytes : List ℕ)
+all_grow : (less more : Ignore) → IsSubsetOf less more → (before rs : List Rec) (bytes : List ℕ)
     → essential more before ≡ essential less before → SpellsAll (gds less) before bytes rs
     → FollowAll (gds less) before rs → Grows less more before bytes rs
 all_grow less more w before [] bytes same s f = record {
@@ -258,7 +259,7 @@ all_grow less more w before (r ∷ rs) bytes same s f =
     }
 
 -- a library that is spelled when less is ignored is spelled when more is
-pub library_grows : (less more : Ignore) → IsWithin less more → (bytes : List ℕ) (cells : List Drawing) (h : GdsHead)
+pub library_grows : (less more : Ignore) → IsSubsetOf less more → (bytes : List ℕ) (cells : List Drawing) (h : GdsHead)
     → SpellsLibrary less bytes cells h → SpellsLibrary more bytes cells h
 library_grows less more w bytes cells h p =
     let g = all_grow less more w [] p.records bytes refl p.whole.front.spelled p.whole.front.followed in

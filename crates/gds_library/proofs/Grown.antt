@@ -9,11 +9,12 @@ use Rattle.gds_library.specs.Drawn.{KeptShape, KeptCell}
 use Rattle.lvl_cells.specs.Cells.{PlainReference}
 use Rattle.lvl_cells.specs.Building.{no_cell, with_shape, with_reference}
 use Rattle.std.proofs.lemmas.List.{append-nil}
-use Rattle.gds_library.specs.inside.Place.{after}
+use Rattle.gds_library.specs.inside.Stage.{after}
 use Rattle.gds_library.specs.inside.Shown.{on_last, grown, grown_cell, with_drawn, shown_at, done, open_cell}
-use Rattle.gds_library.specs.declared.place.Place.{Place}
-use Rattle.gds_library.specs.declared.place.Place.TheVariants.{Header, BgnLib, LibName, Units, Structures, StrName}
-use Rattle.gds_library.specs.declared.place.Place.TheVariants.{Elements, Fill}
+use Rattle.gds_library.specs.declared.stage.LibraryStage.{LibraryStage}
+use Rattle.gds_library.specs.declared.stage.LibraryStage.TheVariants.{Header, BgnLib, LibName, Units, Structures}
+use Rattle.gds_library.specs.declared.stage.LibraryStage.TheVariants.{StrName}
+use Rattle.gds_library.specs.declared.stage.LibraryStage.TheVariants.{Elements, Fill}
 use Rattle.gds_library.specs.declared.builder.Builder.{Builder}
 use Rattle.gds_library.proofs.Pieces.{on_last-append, on_last-id}
 
@@ -24,12 +25,13 @@ plain_cell k p c s = rw s refl
 pub plain : (k : ℕ) (p : List ℕ) (cs : List KeptCell) → k == bgnstr ≡ false → k == strname ≡ false → grown k p cs ≡ cs
 plain k p cs n s = rw n (on_last-id (grown_cell k p) cs (λ c. plain_cell k p c s))
 
-pub shown_bgnstr : (p q : Place) (b b' : Builder) (payload : List ℕ) → after p bgnstr ≡ Some q → b'.cells ≡ b.cells
+pub shown_bgnstr : (p q : LibraryStage) (b b' : Builder) (payload : List ℕ) → after p bgnstr ≡ Some q
+    → b'.cells ≡ b.cells
     → shown_at q b' ≡ grown bgnstr payload (shown_at p b)
 shown_bgnstr Structures q b b' payload e c = (let z : q ≡ StrName = cc in rw (z, c) refl)
 shown_bgnstr _ q b b' payload e c = cc
 
-pub shown_strname : (p q : Place) (b b' : Builder) (payload : List ℕ) → after p strname ≡ Some q
+pub shown_strname : (p q : LibraryStage) (b b' : Builder) (payload : List ℕ) → after p strname ≡ Some q
     → b'.cells ≡ record {
       cells = b.cells.cells;
       current = record { name = name payload; shapes = []; references = [] };
@@ -39,13 +41,13 @@ shown_strname StrName q b b' payload e c =
     (let z : q ≡ Elements = cc in rw (z, c) (sym (on_last-append (grown_cell strname payload) (done b) no_cell)))
 shown_strname _ q b b' payload e c = cc
 
-pub shown_endstr : (p q : Place) (b b' : Builder) (payload : List ℕ) → after p endstr ≡ Some q
+pub shown_endstr : (p q : LibraryStage) (b b' : Builder) (payload : List ℕ) → after p endstr ≡ Some q
     → b'.cells.cells ≡ done b ++ open_cell b ∷ [] → shown_at q b' ≡ grown endstr payload (shown_at p b)
 shown_endstr Elements q b b' payload e c =
     (let z : q ≡ Structures = cc in rw (z, c) (sym (plain endstr payload (done b ++ open_cell b ∷ []) refl refl)))
 shown_endstr _ q b b' payload e c = cc
 
-pub by_kind : (k j : ℕ) (p q : Place) (b b' : Builder) (payload : List ℕ) → k ≡ j
+pub by_kind : (k j : ℕ) (p q : LibraryStage) (b b' : Builder) (payload : List ℕ) → k ≡ j
     → (after p j ≡ Some q → shown_at q b' ≡ grown j payload (shown_at p b)) → after p k ≡ Some q
     → shown_at q b' ≡ grown k payload (shown_at p b)
 by_kind k j p q b b' payload e h a =
@@ -57,20 +59,23 @@ pub record IsOther (k : ℕ) : Type 0 where
   pub strname : k == 0x06 ≡ false
   pub endstr : k == 0x07 ≡ false
 
-other_plain : (k : ℕ) (p q : Place) (b b' : Builder) (payload : List ℕ) → IsOther k → shown_at q b' ≡ shown_at p b
+other_plain : (k : ℕ) (p q : LibraryStage) (b b' : Builder) (payload : List ℕ) → IsOther k
+    → shown_at q b' ≡ shown_at p b
     → shown_at q b' ≡ grown k payload (shown_at p b)
 other_plain k p q b b' payload o e = e ∙ sym (plain k payload (shown_at p b) o.bgnstr o.strname)
 
-pub none_some : (b : Bool) (r q : Place) (x : Option Place) → b ≡ false → (if b then Some r else x) ≡ Some q
+pub none_some : (b : Bool) (r q : LibraryStage) (x : Option LibraryStage) → b ≡ false
+    → (if b then Some r else x) ≡ Some q
     → x ≡ Some q
 none_some true r q x n e = cc
 none_some false r q x n e = e
 
-pub same_place : (b : Bool) (r q : Place) → (if b then Some r else None) ≡ Some q → q ≡ r
+pub same_place : (b : Bool) (r q : LibraryStage) → (if b then Some r else None) ≡ Some q → q ≡ r
 same_place true r q e = cc
 same_place false r q e = cc
 
-structures_rest : (k : ℕ) (q : Place) (b b' : Builder) (payload : List ℕ) → IsOther k → done b' ≡ done b → (t : Bool)
+structures_rest : (k : ℕ) (q : LibraryStage) (b b' : Builder) (payload : List ℕ) → IsOther k → done b' ≡ done b
+    → (t : Bool)
     → (if t then Some Fill else (if k == bgnstr then Some StrName else None)) ≡ Some q
     → shown_at q b' ≡ grown k payload (shown_at Structures b)
 structures_rest k q b b' payload o c true e =
@@ -79,7 +84,7 @@ structures_rest k q b b' payload o c false e =
     (let z : None ≡ Some q = none_some (k == bgnstr) StrName q None o.bgnstr e in cc)
 
 -- such a record doesn't change the library so far
-pub shown_other : (k : ℕ) (p q : Place) (b b' : Builder) (payload : List ℕ) → IsOther k → done b' ≡ done b
+pub shown_other : (k : ℕ) (p q : LibraryStage) (b b' : Builder) (payload : List ℕ) → IsOther k → done b' ≡ done b
     → after p k ≡ Some q → shown_at q b' ≡ grown k payload (shown_at p b)
 shown_other k Header q b b' payload o c e =
     (let z = same_place (k == header) BgnLib q e in rw z (other_plain k Header BgnLib b b' payload o c))
@@ -98,7 +103,7 @@ shown_other k Fill q b b' payload o c e =
     (let z = same_place (k == fill) Fill q e in rw z (other_plain k Fill Fill b b' payload o c))
 
 -- what an element draws is added at the end of the open cell
-pub shown_drawn : (p : Place) (b b' : Builder) (shapes : List KeptShape) (references : List PlainReference)
+pub shown_drawn : (p : LibraryStage) (b b' : Builder) (shapes : List KeptShape) (references : List PlainReference)
     → p ≡ Elements → b'.cells ≡ record { cells = b.cells.cells; current = with_drawn shapes references b.cells.current }
     → shown_at p b' ≡ on_last (with_drawn shapes references) (shown_at p b)
 shown_drawn p b b' shapes references e c =

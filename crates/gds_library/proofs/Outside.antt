@@ -9,10 +9,11 @@ use Rattle.gds_elements.specs.Rules.{IsKnown}
 use Rattle.gds_elements.proofs.OneRule.{is_value}
 use Rattle.lvl_grammar.proofs.Orders.{at_type, by_test}
 use Rattle.gds_library.specs.Types.{fill}
-use Rattle.gds_library.specs.inside.Place.{after}
-use Rattle.gds_library.specs.declared.place.Place.{Place}
-use Rattle.gds_library.specs.declared.place.Place.TheVariants.{Header, BgnLib, LibName, Units, Structures, StrName}
-use Rattle.gds_library.specs.declared.place.Place.TheVariants.{Elements, Fill}
+use Rattle.gds_library.specs.inside.Stage.{after}
+use Rattle.gds_library.specs.declared.stage.LibraryStage.{LibraryStage}
+use Rattle.gds_library.specs.declared.stage.LibraryStage.TheVariants.{Header, BgnLib, LibName, Units, Structures}
+use Rattle.gds_library.specs.declared.stage.LibraryStage.TheVariants.{StrName}
+use Rattle.gds_library.specs.declared.stage.LibraryStage.TheVariants.{Elements, Fill}
 
 pub record IsNoValue (k : ℕ) : Type 0 where
   pub layer : k == layer ≡ false
@@ -68,11 +69,11 @@ outside_by : (k : ℕ) → opens k ≡ false → is_value k ≡ false → IsOuts
 outside_by k o v = record { opens = o; value = v; no_value = no_value k v }
 
 -- a property of the types that may come next
-outside_one : (p q : Place) (k j : ℕ) → IsOutside j → (k == j ≡ false → after p k ≡ Some q → IsOutside k)
+outside_one : (p q : LibraryStage) (k j : ℕ) → IsOutside j → (k == j ≡ false → after p k ≡ Some q → IsOutside k)
     → after p k ≡ Some q → IsOutside k
 outside_one p q k j here there = by_test (λ i. after p i ≡ Some q → IsOutside i) k j (k == j) refl (λ e. here) there
 
-pub outside_after : (p q : Place) (k : ℕ) → after p k ≡ Some q → IsOutside k
+pub outside_after : (p q : LibraryStage) (k : ℕ) → after p k ≡ Some q → IsOutside k
 outside_after Header q k =
     outside_one Header q k header (outside_by header refl refl) (λ a e. (let z : None ≡ Some q = rw a at e in cc))
 outside_after BgnLib q k =
@@ -93,12 +94,13 @@ outside_after Fill q k =
     outside_one Fill q k fill (outside_by fill refl refl) (λ a e. (let z : None ≡ Some q = rw a at e in cc))
 
 -- a type that may come next is known
-known_one : (p q : Place) (k j : ℕ) → (j < 60 → IsKnown j) → (k == j ≡ false → k < 60 → after p k ≡ Some q → IsKnown k)
+known_one : (p q : LibraryStage) (k j : ℕ) → (j < 60 → IsKnown j)
+    → (k == j ≡ false → k < 60 → after p k ≡ Some q → IsKnown k)
     → k < 60 → after p k ≡ Some q → IsKnown k
 known_one p q k j here there =
     by_test (λ i. i < 60 → after p i ≡ Some q → IsKnown i) k j (k == j) refl (λ l e. here l) there
 
-pub known_after : (p q : Place) (k : ℕ) → k < 60 → after p k ≡ Some q → IsKnown k
+pub known_after : (p q : LibraryStage) (k : ℕ) → k < 60 → after p k ≡ Some q → IsKnown k
 known_after Header q k = known_one Header q k header (λ _. refl) (λ a l e. (let z : None ≡ Some q = rw a at e in cc))
 known_after BgnLib q k = known_one BgnLib q k bgnlib (λ _. refl) (λ a l e. (let z : None ≡ Some q = rw a at e in cc))
 known_after LibName q k = known_one LibName q k libname (λ _. refl) (λ a l e. (let z : None ≡ Some q = rw a at e in cc))

@@ -21,15 +21,15 @@ use Rattle.gds_elements.proofs.Fields.{kinds-snoc}
 use Rattle.lvl_grammar.proofs.Orders.{same_type}
 use Rattle.gds_library.specs.Order.{a_library}
 use Rattle.gds_library.specs.Drawn.{KeptCell}
-use Rattle.gds_library.specs.inside.Place.{after}
+use Rattle.gds_library.specs.inside.Stage.{after}
 use Rattle.gds_library.specs.Rec.{pieces}
 use Rattle.gds_library.specs.Values.{drawing, drawings}
 use Rattle.gds_library.specs.Rules.{InOrder, Breaches, BreachesOnly}
 use Rattle.gds_library.specs.inside.Faults.{IsFault}
 use Rattle.gds_library.specs.inside.Shown.{shown_at}
 use Rattle.gds_library.specs.inside.Holds.{Holds}
-use Rattle.gds_library.specs.declared.place.Place.{Place}
-use Rattle.gds_library.specs.declared.place.Place.TheVariants.{Structures, StrName, Elements}
+use Rattle.gds_library.specs.declared.stage.LibraryStage.{LibraryStage}
+use Rattle.gds_library.specs.declared.stage.LibraryStage.TheVariants.{Structures, StrName, Elements}
 use Rattle.gds_library.specs.declared.builder.Builder.{Builder}
 use Rattle.gds_library.proofs.Places.{OpensNothing, leads_on, leads_nowhere, leads_begins}
 use Rattle.gds_library.proofs.Outside.{outside_after, known_after}
@@ -42,57 +42,58 @@ pub kept_many : (rs : List Rec) → length (kept figure_rings (drawings rs)) ≡
 kept_many rs = length-map (drawn figure_rings) (drawings rs) ∙ length-map drawing (pieces (is_type bgnstr) rs)
 
 -- the library so far has the complete cells, and at most one more
-shown_many : (p : Place) (b : Builder) → length b.cells.cells ≤ length (shown_at p b)
+shown_many : (p : LibraryStage) (b : Builder) → length b.cells.cells ≤ length (shown_at p b)
 shown_many StrName b = omega (arith, length-append {A = KeptCell})
 shown_many Elements b = omega (arith, length-append {A = KeptCell})
 shown_many _ b = omega arith
 
 -- if a cell may begin, the library so far has the complete cells only
-pub cells_shown : (p q : Place) (b : Builder) → after p bgnstr ≡ Some q → length (shown_at p b) ≡ length b.cells.cells
+pub cells_shown : (p q : LibraryStage) (b : Builder) → after p bgnstr ≡ Some q
+    → length (shown_at p b) ≡ length b.cells.cells
 cells_shown Structures q b e = refl
 cells_shown _ q b e = cc
 
-stands_at : (b : Builder) (rs : List Rec) (r : Rec) (o : Option Place) → Holds b rs → after b.place r.kind ≡ o
+stands_at : (b : Builder) (rs : List Rec) (r : Rec) (o : Option LibraryStage) → Holds b rs → after b.stage r.kind ≡ o
     → o ≢ None → InOrder rs r
 stands_at b rs r None h e n = absurd (n refl)
 stands_at b rs r (Some q) h e n =
     subst (Begins a_library) (sym (kinds-snoc rs r))
-    (leads_begins (kinds rs ++ r.kind ∷ []) q (leads_on (kinds rs) b.place q r.kind h.leads
-    (λ _. (outside_after b.place q r.kind e).opens) e))
+    (leads_begins (kinds rs ++ r.kind ∷ []) q (leads_on (kinds rs) b.stage q r.kind h.leads
+    (λ _. (outside_after b.stage q r.kind e).opens) e))
 
 -- if the table has a place after the record, the record may come next
-stands : (b : Builder) (rs : List Rec) (r : Rec) → Holds b rs → after b.place r.kind ≢ None → InOrder rs r
-stands b rs r h n = stands_at b rs r (after b.place r.kind) h refl n
+stands : (b : Builder) (rs : List Rec) (r : Rec) → Holds b rs → after b.stage r.kind ≢ None → InOrder rs r
+stands b rs r h n = stands_at b rs r (after b.stage r.kind) h refl n
 
 -- if it has none, the record may not
-nowhere : (b : Builder) (rs : List Rec) (r : Rec) → Holds b rs → OpensNothing b.place r.kind
-    → after b.place r.kind ≡ None → InOrder rs r → ⊥
+nowhere : (b : Builder) (rs : List Rec) (r : Rec) → Holds b rs → OpensNothing b.stage r.kind
+    → after b.stage r.kind ≡ None → InOrder rs r → ⊥
 nowhere b rs r h o e g =
-    leads_nowhere (kinds rs) b.place r.kind h.leads o e (subst (Begins a_library) (kinds-snoc rs r) g)
+    leads_nowhere (kinds rs) b.stage r.kind h.leads o e (subst (Begins a_library) (kinds-snoc rs r) g)
 
 -- a fault by the table is a breach after the records that lead there
-pub law_fault : (b : Builder) (rs : List Rec) (r : Rec) (f : GdsKind) → Holds b rs → OpensNothing b.place r.kind
-    → r.kind < 60 → IsFault b.place (length b.cells.cells) r.kind r.payload f → Breaches rs r f
+pub law_fault : (b : Builder) (rs : List Rec) (r : Rec) (f : GdsKind) → Holds b rs → OpensNothing b.stage r.kind
+    → r.kind < 60 → IsFault b.stage (length b.cells.cells) r.kind r.payload f → Breaches rs r f
 law_fault b rs r (Record f) h o l x = absurd x
 law_fault b rs r (Misplaced m) h o l x = misplaced_as (InOrder rs r) r m (nowhere b rs r h o x.1) l x.0
 law_fault b rs r (Element k) h o l x = absurd x
 law_fault b rs r Name h o l x = (stands b rs r h x.1, x.0, x.2)
 law_fault b rs r AfterEnd h o l x = absurd x
 law_fault b rs r TooManyCells h o l x =
-    (stands b rs r h x.1, x.0, omega (arith, x.2, shown_many b.place b, ap (λ ds. length ds) h.shown, kept_many rs))
+    (stands b rs r h x.1, x.0, omega (arith, x.2, shown_many b.stage b, ap (λ ds. length ds) h.shown, kept_many rs))
 
 pub is_not : (k j : ℕ) → k == j ≡ false → k ≡ j → ⊥
 is_not k j n e = (let z : true ≡ false = sym (same_type k j e) ∙ n in cc)
 
-known_at : (b : Builder) (rs : List Rec) (r : Rec) (t : Option Place) → Holds b rs → OpensNothing b.place r.kind
-    → r.kind < 60 → InOrder rs r → after b.place r.kind ≡ t → IsKnown r.kind
+known_at : (b : Builder) (rs : List Rec) (r : Rec) (t : Option LibraryStage) → Holds b rs → OpensNothing b.stage r.kind
+    → r.kind < 60 → InOrder rs r → after b.stage r.kind ≡ t → IsKnown r.kind
 known_at b rs r None h o l g e = absurd (nowhere b rs r h o e g)
-known_at b rs r (Some q) h o l g e = known_after b.place q r.kind l e
+known_at b rs r (Some q) h o l g e = known_after b.stage q r.kind l e
 
 -- a record that may come next is of a known type
-order_known : (b : Builder) (rs : List Rec) (r : Rec) → Holds b rs → OpensNothing b.place r.kind → r.kind < 60
+order_known : (b : Builder) (rs : List Rec) (r : Rec) → Holds b rs → OpensNothing b.stage r.kind → r.kind < 60
     → InOrder rs r → IsKnown r.kind
-order_known b rs r h o l g = known_at b rs r (after b.place r.kind) h o l g refl
+order_known b rs r h o l g = known_at b rs r (after b.stage r.kind) h o l g refl
 
 -- a record breaches no rule of an element if none tests its type
 pub no_rule : (piece : List Rec) (r : Rec) (k : ElementRule) → is_value r.kind ≡ false → ValueBreaches piece r k → ⊥
@@ -119,22 +120,22 @@ one_value rs r v g i Name x = inl (refl, x.1)
 one_value rs r v g i AfterEnd x = absurd x
 one_value rs r v g i TooManyCells x = inr (refl, x.1)
 
-value_at : (b : Builder) (rs : List Rec) (r : Rec) (t : Option Place) → Holds b rs → OpensNothing b.place r.kind
-    → r.kind < 60 → after b.place r.kind ≡ t → t ≢ None
+value_at : (b : Builder) (rs : List Rec) (r : Rec) (t : Option LibraryStage) → Holds b rs → OpensNothing b.stage r.kind
+    → r.kind < 60 → after b.stage r.kind ≡ t → t ≢ None
     → (k : GdsKind) → Breaches rs r k → ((k ≡ Name) × (r.kind ≡ strname)) ⊎ ((k ≡ TooManyCells) × (r.kind ≡ bgnstr))
 value_at b rs r None h o l e n = absurd (n refl)
 value_at b rs r (Some q) h o l e n =
     let g = stands_at b rs r (Some q) h e n in
-    one_value rs r (outside_after b.place q r.kind e).value g (order_known b rs r h o l g)
+    one_value rs r (outside_after b.stage q r.kind e).value g (order_known b rs r h o l g)
 
-value_only : (b : Builder) (rs : List Rec) (r : Rec) → Holds b rs → OpensNothing b.place r.kind → r.kind < 60
-    → after b.place r.kind ≢ None
+value_only : (b : Builder) (rs : List Rec) (r : Rec) → Holds b rs → OpensNothing b.stage r.kind → r.kind < 60
+    → after b.stage r.kind ≢ None
     → (k : GdsKind) → Breaches rs r k → ((k ≡ Name) × (r.kind ≡ strname)) ⊎ ((k ≡ TooManyCells) × (r.kind ≡ bgnstr))
-value_only b rs r h o l n = value_at b rs r (after b.place r.kind) h o l refl n
+value_only b rs r h o l n = value_at b rs r (after b.stage r.kind) h o l refl n
 
 -- a fault by the table is the only breach
-law_only : (b : Builder) (rs : List Rec) (r : Rec) (f : GdsKind) → Holds b rs → OpensNothing b.place r.kind
-    → r.kind < 60 → IsFault b.place (length b.cells.cells) r.kind r.payload f → BreachesOnly rs r f
+law_only : (b : Builder) (rs : List Rec) (r : Rec) (f : GdsKind) → Holds b rs → OpensNothing b.stage r.kind
+    → r.kind < 60 → IsFault b.stage (length b.cells.cells) r.kind r.payload f → BreachesOnly rs r f
 law_only b rs r (Record f) h o l x = absurd x
 law_only b rs r (Misplaced m) h o l x =
     (let n = nowhere b rs r h o x.1 in misplaced_only rs r m n (misplaced_as (InOrder rs r) r m n l x.0))
@@ -146,8 +147,8 @@ law_only b rs r TooManyCells h o l x =
     λ i y. elim (value_only b rs r h o l x.1 i y) [ inl z ↦ absurd (omega (arith, x.0, z.1)) | inr z ↦ z.0 ]
 
 pub says_fault : (b : Builder) (rs : List Rec) (r : Rec) (e : Cause GdsKind) → Holds b rs
-    → OpensNothing b.place r.kind → r.kind < 60 → Says e (IsFault b.place (length b.cells.cells) r.kind r.payload)
+    → OpensNothing b.stage r.kind → r.kind < 60 → Says e (IsFault b.stage (length b.cells.cells) r.kind r.payload)
     → Says e (λ k. Breaches rs r k × BreachesOnly rs r k)
 says_fault b rs r e h o l x =
-    says_carried e (IsFault b.place (length b.cells.cells) r.kind r.payload) (λ k. Breaches rs r k
+    says_carried e (IsFault b.stage (length b.cells.cells) r.kind r.payload) (λ k. Breaches rs r k
     × BreachesOnly rs r k) (λ f y. (law_fault b rs r f h o l y, law_only b rs r f h o l y)) x

@@ -12,7 +12,7 @@ use Rattle.gds_library.specs.Ignoring.{is_passed, essential, last_type, comes_af
 use Rattle.gds_library.specs.Ignoring.{BreachesBy, BreachesOnlyBy, MayFollowBy}
 use Rattle.gds_library.specs.inside.Holds.{HasRead, HasReadBy, TakesBy}
 use Rattle.gds_library.specs.declared.fault.GdsKind.{GdsKind}
-use Rattle.gds_library.specs.declared.place.Place.TheVariants.{Fill}
+use Rattle.gds_library.specs.declared.stage.LibraryStage.TheVariants.{Fill}
 use Rattle.gds_library.specs.declared.reading.Reading.{Reading}
 use Rattle.gds_library.specs.declared.ignoring.WithIgnored.{WithIgnored}
 use Rattle.gds_library.proofs.Passing.{essential_passed, essential_kept, last_type-snoc, follows_passed, never_waits}
@@ -21,7 +21,7 @@ use Rattle.gds_library.proofs.Streams.{has_unwhole}
 
 -- an ignored PROPATTR may come exactly where ENDEL may, if no PROPVALUE is missing
 pub passes_end : (ignore : Ignore) (x : WithIgnored) (rs : List Rec) (r : Rec) (t : Bool) → HasReadBy ignore x rs
-    → x.reading.builder.place ≢ Fill → r.kind ≡ propattr → (AwaitsValue rs → ⊥)
+    → x.reading.builder.stage ≢ Fill → r.kind ≡ propattr → (AwaitsValue rs → ⊥)
     → (IsTrue t ↔ InOrder (essential ignore rs) an_end) → IsTrue t ↔ MayPass ignore rs r
 passes_end ignore x rs r t h p e w o = (
   λ y. record { unended = has_unwhole ignore x rs h p; there = inl (e, w, o.0 y) },
@@ -33,7 +33,7 @@ passes_end ignore x rs r t h p e w o = (
 
 -- an ignored record of another type may come exactly after those that the syntax allows before it
 pub passes_after : (ignore : Ignore) (x : WithIgnored) (rs : List Rec) (r : Rec) (t : Bool) (j : ℕ)
-    → HasReadBy ignore x rs → x.reading.builder.place ≢ Fill → (r.kind ≡ propattr → ⊥) → x.last ≡ Some j
+    → HasReadBy ignore x rs → x.reading.builder.stage ≢ Fill → (r.kind ≡ propattr → ⊥) → x.last ≡ Some j
     → t ≡ comes_after r.kind j → IsTrue t ↔ MayPass ignore rs r
 passes_after ignore x rs r t j h p n l e = (
   λ y. record { unended = has_unwhole ignore x rs h p; there = inr (j, sym h.last ∙ l, sym e ∙ y) },
@@ -48,14 +48,14 @@ passes_after ignore x rs r t j h p n l e = (
 
 -- an ignored record was read
 pub takes_passed : (ignore : Ignore) (x y : WithIgnored) (rs : List Rec) (r : Rec) → HasReadBy ignore x rs
-    → is_passed ignore r ≡ true → x.reading.builder.place ≢ Fill → MayPass ignore rs r → y.reading ≡ x.reading
+    → is_passed ignore r ≡ true → x.reading.builder.stage ≢ Fill → MayPass ignore rs r → y.reading ≡ x.reading
     → y.last ≡ Some r.kind → HasReadBy ignore y (rs ++ r ∷ []) × MayFollowBy ignore rs r
 takes_passed ignore x y rs r h e p m same l = (
   record {
     essential = subst (HasRead y.reading) (sym (essential_passed ignore rs r e))
         (subst (λ (q : Reading). HasRead q (essential ignore rs)) (sym same) h.essential);
     last = l ∙ sym (last_type-snoc rs r);
-    waits = λ w. subst (λ (q : Reading). q.builder.place ≢ Fill) (sym same) p;
+    waits = λ w. subst (λ (q : Reading). q.builder.stage ≢ Fill) (sym same) p;
   },
   follows_passed ignore rs r e m,
 )

@@ -23,7 +23,7 @@ use Rattle.gds_elements.proofs.Fields.{field-snoc, kinds-snoc}
 use Rattle.gds_elements.proofs.Elements.{reading_begins, after_opener}
 use Rattle.gds_library.specs.Types.{fill}
 use Rattle.gds_library.specs.Order.{a_library}
-use Rattle.gds_library.specs.inside.Place.{after, left, has_units}
+use Rattle.gds_library.specs.inside.Stage.{after, left, has_units}
 use Rattle.lvl_grammar.specs.inside.After.{LeadsTo}
 use Rattle.gds_library.specs.Rec.{pieces, last_piece}
 use Rattle.gds_library.specs.Values.{drawings, two_reals}
@@ -43,9 +43,9 @@ use Rattle.gds_library.specs.declared.fault.GdsKind.TheVariants.{Record, Misplac
 use Rattle.gds_library.specs.declared.fault.GdsKind.TheVariants.{TooManyCells}
 use Rattle.gds_library.specs.inside.Shown.{grown, shown, on_last, with_drawn}
 use Rattle.gds_library.specs.inside.Holds.{Holds, IsInside, HoldsWith, Takes}
-use Rattle.gds_library.specs.declared.place.Place.{Place}
-use Rattle.gds_library.specs.declared.place.Place.TheVariants.{Header, BgnLib, LibName, Units, Structures}
-use Rattle.gds_library.specs.declared.place.Place.TheVariants.{Elements, Fill}
+use Rattle.gds_library.specs.declared.stage.LibraryStage.{LibraryStage}
+use Rattle.gds_library.specs.declared.stage.LibraryStage.TheVariants.{Header, BgnLib, LibName, Units, Structures}
+use Rattle.gds_library.specs.declared.stage.LibraryStage.TheVariants.{Elements, Fill}
 use Rattle.gds_library.specs.declared.builder.Builder.{Builder}
 use Rattle.gds_library.specs.declared.reading.Reading.{Reading}
 use Rattle.gds_library.proofs.Places.{leads_on, leads_begins, leads_nowhere}
@@ -194,7 +194,8 @@ takes_refused rs r x (Err f) e h b =
     subst (λ (i : Cause GdsKind). Says i (λ k. Breaches rs r k × BreachesOnly rs r k)) (sym h.1) b
 
 -- if UNITS comes before the place after another record, it comes before that record
-units_before : (p q : Place) (k : ℕ) → after p k ≡ Some q → k == units ≡ false → has_units q ≡ true → has_units p ≡ true
+units_before : (p q : LibraryStage) (k : ℕ) → after p k ≡ Some q → k == units ≡ false → has_units q ≡ true
+    → has_units p ≡ true
 units_before Header q k e n h =
     (let z : has_units BgnLib ≡ true = subst (λ i. has_units i ≡ true) (same_place (k == header) BgnLib q e) h in cc)
 units_before BgnLib q k e n h =
@@ -215,27 +216,27 @@ pub record KeepsHead (b b' : Builder) (k : ℕ) (payload : List ℕ) : Type 0 wh
   pub units : b'.units ≡ (if k == units then two_reals payload else b.units)
 
 -- a record outside of elements that may come next leads to the next place
-pub law_holds : (b b' : Builder) (rs : List Rec) (r : Rec) → Holds b rs → after b.place r.kind ≡ Some b'.place
+pub law_holds : (b b' : Builder) (rs : List Rec) (r : Rec) → Holds b rs → after b.stage r.kind ≡ Some b'.stage
     → shown b' ≡ grown r.kind r.payload (shown b) → KeepsHead b b' r.kind r.payload → Holds b' (rs ++ r ∷ [])
 law_holds b b' rs r h e s k =
-    let o = outside_after b.place b'.place r.kind e in
+    let o = outside_after b.stage b'.stage r.kind e in
     record {
-      leads = subst (λ l. LeadsTo a_library l (left b'.place)) (sym (kinds-snoc rs r))
-          (leads_on (kinds rs) b.place b'.place r.kind h.leads (λ _. o.opens) e);
+      leads = subst (λ l. LeadsTo a_library l (left b'.stage)) (sym (kinds-snoc rs r))
+          (leads_on (kinds rs) b.stage b'.stage r.kind h.leads (λ _. o.opens) e);
       shown = s ∙ ap (grown r.kind r.payload) h.shown ∙ sym (drawings-snoc rs r o);
       version = k.version ∙ ap (λ (i : ℤ). if r.kind == header then short r.payload else i) h.version
           ∙ sym (ap short (field-snoc header rs r) ∙ if_ap short (r.kind == header) r.payload (field header rs));
       units = λ z. units_kept (r.kind == units) r.payload (field units rs) (field units (rs ++ r ∷ [])) b.units b'.units
-          k.units (λ n. h.units (units_before b.place b'.place r.kind e n z)) (field-snoc units rs r);
+          k.units (λ n. h.units (units_before b.stage b'.stage r.kind e n z)) (field-snoc units rs r);
     }
 
 -- and breaches no rule
 pub law_allowed : (b b' : Builder) (rs : List Rec) (r : Rec) → Holds b rs → Holds b' (rs ++ r ∷ []) → r.kind < 60
-    → after b.place r.kind ≡ Some b'.place → IsAllowed (length b.cells.cells) r.kind r.payload → MayFollow rs r
+    → after b.stage r.kind ≡ Some b'.stage → IsAllowed (length b.cells.cells) r.kind r.payload → MayFollow rs r
 law_allowed b b' rs r h h' l e a =
-    may_follow rs r (outside_after b.place b'.place r.kind e).value (leads_begins (kinds (rs ++ r ∷ [])) b'.place
-    h'.leads) (λ l. known_after b.place b'.place r.kind l e) a.name
-    (λ k. (let n = cells_shown b.place b'.place b (subst (λ i. after b.place i ≡ Some b'.place) k e) in
+    may_follow rs r (outside_after b.stage b'.stage r.kind e).value (leads_begins (kinds (rs ++ r ∷ [])) b'.stage
+    h'.leads) (λ l. known_after b.stage b'.stage r.kind l e) a.name
+    (λ k. (let n = cells_shown b.stage b'.stage b (subst (λ i. after b.stage i ≡ Some b'.stage) k e) in
     omega (arith, a.cells k, n, ap (λ ds. length ds) h.shown, kept_many rs)))
 
 -- a zero byte after ENDLIB breaches no rule
@@ -245,8 +246,8 @@ law_fill rs g =
     (λ e. absurd (omega (arith, e))) (λ e. absurd (omega (arith, e)))
 
 -- a builder after the records of one more complete element
-law_element : (b b' : Builder) (before piece : List Rec) (d : Drawn) → Holds b before → b.place ≡ Elements
-    → IsWord an_element (kinds piece) → IsDrawn d piece → b'.place ≡ b.place → b'.version ≡ b.version
+law_element : (b b' : Builder) (before piece : List Rec) (d : Drawn) → Holds b before → b.stage ≡ Elements
+    → IsWord an_element (kinds piece) → IsDrawn d piece → b'.stage ≡ b.stage → b'.version ≡ b.version
     → b'.units ≡ b.units
     → shown b' ≡ on_last (with_drawn (shapes_in d) (references_in d)) (shown b) → Holds b' (before ++ piece)
 law_element b b' before piece d h at w dr p v u s =
@@ -255,7 +256,7 @@ law_element b b' before piece d h at w dr p v u s =
     leads_element (kinds before) (kinds piece) (subst (λ p. LeadsTo a_library (kinds before) (left p)) at h.leads)
     w in
     record {
-      leads = subst (λ l. LeadsTo a_library l (left b'.place)) (sym (map-append before piece))
+      leads = subst (λ l. LeadsTo a_library l (left b'.stage)) (sym (map-append before piece))
           (subst (λ q. LeadsTo a_library (kinds before ++ kinds piece) (left q)) (sym (p ∙ at)) to);
       shown = s ∙ ap (on_last (with_drawn (shapes_in d) (references_in d))) h.shown
           ∙ ap (λ l. on_last (with_drawn l (references_in d)) (kept figure_rings (drawings before))) dr.shapes
@@ -298,7 +299,7 @@ law_inside b e e' rs r i re n =
 -- the ENDEL of an open element
 pub law_whole : (b b' : Builder) (e : OpenElement) (rs : List Rec) (r : Rec) (d : Drawn) (i : IsInside b e rs)
     → IsWord an_element (kinds (i.piece ++ r ∷ [])) × IsDrawn d (i.piece ++ r ∷ []) → KeepsElement i.piece r
-    → b'.place ≡ b.place → b'.version ≡ b.version → b'.units ≡ b.units
+    → b'.stage ≡ b.stage → b'.version ≡ b.version → b'.units ≡ b.units
     → shown b' ≡ on_last (with_drawn (shapes_in d) (references_in d)) (shown b)
     → Holds b' (rs ++ r ∷ []) × MayFollow rs r
 law_whole b b' e rs r d i w n p v u s =
@@ -312,12 +313,12 @@ law_whole b b' e rs r d i w n p v u s =
       next,
       may_follow_inside rs i.piece r last n
           ([], subst (IsWord an_element) (sym (append-nil (kinds (i.piece ++ r ∷ [])))) w.0)
-          (leads_begins (kinds (rs ++ r ∷ [])) b'.place next.leads) (last_lacks i.piece r strname pc refl refl)
+          (leads_begins (kinds (rs ++ r ∷ [])) b'.stage next.leads) (last_lacks i.piece r strname pc refl refl)
           (last_lacks i.piece r bgnstr pc refl refl),
     )
 
 -- the record that opens an element
-pub law_opens : (b : Builder) (e : OpenElement) (rs : List Rec) (r : Rec) → Holds b rs → b.place ≡ Elements
+pub law_opens : (b : Builder) (e : OpenElement) (rs : List Rec) (r : Rec) → Holds b rs → b.stage ≡ Elements
     → IsReading e (r ∷ []) → IsInside b e (rs ++ r ∷ []) × MayFollow rs r
 law_opens b e rs r h at re =
     let next : IsInside b e (rs ++ r ∷ []) = record {
@@ -347,12 +348,12 @@ end_inside b e rs t h i =
           (subst (λ l. InOrder l an_end) i.parts y)),
     )
 
-nowhere_ends : (p : Place) → after p an_end.kind ≡ None
+nowhere_ends : (p : LibraryStage) → after p an_end.kind ≡ None
 nowhere_ends Header = refl
 nowhere_ends _ = refl
 
 -- if none is open, ENDEL may not come
 pub end_outside : (b : Builder) (rs : List Rec) → Holds b rs → InOrder rs an_end → ⊥
 end_outside b rs h g =
-    leads_nowhere (kinds rs) b.place an_end.kind h.leads (λ _. refl) (nowhere_ends b.place)
+    leads_nowhere (kinds rs) b.stage an_end.kind h.leads (λ _. refl) (nowhere_ends b.stage)
     (subst (Begins a_library) (kinds-snoc rs an_end) g)

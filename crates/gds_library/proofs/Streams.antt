@@ -34,7 +34,7 @@ use Rattle.gds_library.specs.Order.{a_library}
 use Rattle.gds_library.specs.Ignoring.{essential, IsWholeBy, BreachesBy, BreachesOnlyBy, MayFollowBy}
 use Rattle.gds_library.specs.Front.{gds, StartsWith, IsWrong, SpellsLibrary, IsRead}
 use Rattle.gds_library.specs.Values.{drawings}
-use Rattle.gds_library.specs.inside.Place.{after, left, has_units}
+use Rattle.gds_library.specs.inside.Stage.{after, left, has_units}
 use Rattle.gds_library.specs.inside.Shown.{shown, shown_at, done}
 use Rattle.gds_library.specs.Rules.{IsWhole}
 use Rattle.gds_library.specs.inside.Holds.{Holds, HoldsWith, HasReadBy, HoldsBy}
@@ -49,8 +49,8 @@ use Rattle.gds_library.specs.declared.fault.GdsKind.{GdsKind}
 use Rattle.gds_library.specs.declared.fault.GdsKind.TheVariants.{Record, Misplaced, Element, Name, AfterEnd}
 use Rattle.gds_library.specs.declared.fault.GdsKind.TheVariants.{TooManyCells}
 use Rattle.gds_library.specs.declared.head.GdsHead.{GdsHead}
-use Rattle.gds_library.specs.declared.place.Place.{Place}
-use Rattle.gds_library.specs.declared.place.Place.TheVariants.{Header, Elements, Fill}
+use Rattle.gds_library.specs.declared.stage.LibraryStage.{LibraryStage}
+use Rattle.gds_library.specs.declared.stage.LibraryStage.TheVariants.{Header, Elements, Fill}
 use Rattle.gds_library.specs.declared.builder.Builder.{Builder}
 use Rattle.gds_library.specs.declared.ignoring.WithIgnored.{WithIgnored}
 use Rattle.gds_library.proofs.Places.{leads_begins}
@@ -62,13 +62,13 @@ use Rattle.gds_library.proofs.Instance.{starts_same}
 use Rattle.gds_library.proofs.Readable.{law_only}
 
 -- at each place but the last, something has to come
-not_ended : (p : Place) → p ≢ Fill → can_be_empty (left p) ≡ false
+not_ended : (p : LibraryStage) → p ≢ Fill → can_be_empty (left p) ≡ false
 not_ended Fill h = absurd (h refl)
 not_ended _ h = refl
 
-with_unwhole : (o : Option OpenElement) (b : Builder) (rs : List Rec) → HoldsWith o b rs → b.place ≢ Fill → IsWhole rs
+with_unwhole : (o : Option OpenElement) (b : Builder) (rs : List Rec) → HoldsWith o b rs → b.stage ≢ Fill → IsWhole rs
     → ⊥
-with_unwhole None b rs h go w = leads_unwhole a_library (kinds rs) (left b.place) (not_ended b.place go) h.leads w
+with_unwhole None b rs h go w = leads_unwhole a_library (kinds rs) (left b.stage) (not_ended b.stage go) h.leads w
 with_unwhole (Some e) b rs h go w =
     open_unwhole (kinds h.before) (kinds h.piece) (subst (λ p. LeadsTo a_library (kinds h.before) (left p)) h.at
     h.holds.leads) (reading_open e h.piece h.reading)
@@ -76,25 +76,25 @@ with_unwhole (Some e) b rs h go w =
 
 -- before ENDLIB was read, the library isn't whole
 pub has_unwhole : (ignore : Ignore) (x : WithIgnored) (rs : List Rec) → HasReadBy ignore x rs
-    → x.reading.builder.place ≢ Fill → IsWholeBy ignore rs → ⊥
+    → x.reading.builder.stage ≢ Fill → IsWholeBy ignore rs → ⊥
 has_unwhole ignore x rs h go w =
     with_unwhole x.reading.element x.reading.builder (essential ignore rs) h.essential go w
 
-holds_whole : (ignore : Ignore) (b : Builder) (rs : List Rec) → HoldsBy ignore b rs → b.place ≡ Fill
+holds_whole : (ignore : Ignore) (b : Builder) (rs : List Rec) → HoldsBy ignore b rs → b.stage ≡ Fill
     → IsWholeBy ignore rs
 holds_whole ignore b rs h e =
     let es = kinds (essential ignore rs) in
     leads_whole a_library es (left Fill) (subst (λ p. LeadsTo a_library es (left p)) e h.essential.leads)
     ([], tt, refl)
 
-with_ended : (o : Option OpenElement) (b : Builder) (rs : List Rec) → HoldsWith o b rs → b.place ≡ Fill → Holds b rs
+with_ended : (o : Option OpenElement) (b : Builder) (rs : List Rec) → HoldsWith o b rs → b.stage ≡ Fill → Holds b rs
 with_ended None b rs h e = h
 with_ended (Some i) b rs h e = (let z : Elements ≡ Fill = sym h.at ∙ e in cc)
 
 -- after ENDLIB no element is open
 pub reads_end : (ignore : Ignore) (xs : List ℕ) (at : ℕ) (x : WithIgnored) (was : Option (List ℕ))
     → ReadTo (gds ignore) xs at (HasReadBy ignore x) was
-    → x.reading.builder.place ≡ Fill → ReadTo (gds ignore) xs at (HoldsBy ignore x.reading.builder) was
+    → x.reading.builder.stage ≡ Fill → ReadTo (gds ignore) xs at (HoldsBy ignore x.reading.builder) was
 reads_end ignore xs at x was to e =
     record {
       records = to.records;
@@ -111,7 +111,7 @@ same_left : (a b : List ℕ) (was : Option (List ℕ)) → was ≡ Some a → wa
 same_left a b was e f = (let g : Some a ≡ Some b = sym e ∙ f in cc)
 
 -- nothing has been read
-pub holds_begin : (b : Builder) → b.place ≡ Header → shown b ≡ [] → b.version ≡ pos 0 → Holds b []
+pub holds_begin : (b : Builder) → b.stage ≡ Header → shown b ≡ [] → b.version ≡ pos 0 → Holds b []
 holds_begin b p s v =
     record {
       leads = subst (λ q. LeadsTo a_library [] (left q)) (sym p) (leads_begin a_library);
@@ -210,7 +210,7 @@ seen_refuses ignore xs at rest _ o s = s
 -- a record is refused
 pub reads_refused : (ignore : Ignore) (xs : List ℕ) (at : ℕ) (x : WithIgnored) (was remaining : Option (List ℕ)) (k : ℕ)
     (payload hand : List ℕ) (f : GdsKind) (to : ReadTo (gds ignore) xs at (HasReadBy ignore x) was)
-    → x.reading.builder.place ≢ Fill
+    → x.reading.builder.stage ≢ Fill
     → IsSpelledAt ignore (file_limit - at) (drop at xs) k payload
     → ((d : ℕ) → BreachesBy ignore to.records (record_of k d payload) f
     × BreachesOnlyBy ignore to.records (record_of k d payload) f)
@@ -285,7 +285,7 @@ seen_fault ignore xs at Has was remaining hand f to t r z said e =
 -- the input ends before ENDLIB
 pub reads_cut : (ignore : Ignore) (xs : List ℕ) (at : ℕ) (x : WithIgnored) (was : Option (List ℕ))
     → ReadTo (gds ignore) xs at (HasReadBy ignore x) was
-    → x.reading.builder.place ≢ Fill → (length (drop at xs) < 4) ⊎ IsBegun ignore (drop at xs)
+    → x.reading.builder.stage ≢ Fill → (length (drop at xs) < 4) ⊎ IsBegun ignore (drop at xs)
     → IsTruncated (gds ignore) xs at
 reads_cut ignore xs at x was to go cut = record {
   within = to.within;
@@ -299,7 +299,7 @@ reads_cut ignore xs at x was to go cut = record {
 pub reads_fault : (ignore : Ignore) (xs : List ℕ) (at : ℕ) (x : WithIgnored) (was remaining : Option (List ℕ))
     (hand : List ℕ)
     (f : RecordFault)
-    → ReadTo (gds ignore) xs at (HasReadBy ignore x) was → x.reading.builder.place ≢ Fill
+    → ReadTo (gds ignore) xs at (HasReadBy ignore x) was → x.reading.builder.stage ≢ Fill
     → (f ≢ Truncated → f ≢ Read → (more : List ℕ) → step ignore (file_limit - at) (hand ++ more) ≡ Err f)
     → (f ≡ Truncated → (length (drop at xs) < 4) ⊎ IsBegun ignore (drop at xs))
     → (f ≡ Read → IsUnfinished ignore (file_limit - at) hand)
@@ -328,17 +328,18 @@ reads_fault ignore xs at x was remaining hand f to go said cut unread e = by f r
 
 -- one more zero byte after ENDLIB
 reads_zero : (ignore : Ignore) (xs : List ℕ) (at : ℕ) (b : Builder) (was : Option (List ℕ)) (rest : List ℕ)
-    → ReadTo (gds ignore) xs at (HoldsBy ignore b) was → b.place ≡ Fill → drop at xs ≡ 0 ∷ rest → at + 1 ≤ file_limit
+    → ReadTo (gds ignore) xs at (HoldsBy ignore b) was → b.stage ≡ Fill → drop at xs ≡ 0 ∷ rest → at + 1 ≤ file_limit
     → ReadTo (gds ignore) xs (at + 1) (HoldsBy ignore b) (Some rest)
 reads_zero ignore xs at b was rest to e here limit =
-    let stays : after b.place fill ≡ Some b.place = ap (λ p. after p fill) e ∙ ap (λ (p : Place). Some p) (sym e) in
+    let stays : after b.stage fill ≡ Some b.stage =
+    ap (λ p. after p fill) e ∙ ap (λ (p : LibraryStage). Some p) (sym e) in
     let es = essential ignore to.records in
     let more : Holds b (es ++ a_fill ∷ []) = law_holds b b es a_fill to.holds.essential stays
     (sym (plain fill [] (shown b) refl refl)) (record { version = refl; units = refl }) in
     reads_on (gds ignore) xs at (HoldsBy ignore b) (HoldsBy ignore b) was to a_fill (0 ∷ []) rest here
     (inr (refl, refl))
     (follows_essential ignore to.records a_fill (fill_unpassed ignore) to.holds.complete
-    (law_fill es (leads_begins (kinds (es ++ a_fill ∷ [])) b.place more.leads)))
+    (law_fill es (leads_begins (kinds (es ++ a_fill ∷ [])) b.stage more.leads)))
     (omega (arith, limit)) (record {
       essential = subst (Holds b) (sym (essential_kept ignore to.records a_fill (fill_unpassed ignore))) more;
       complete = λ w. fill_waits to.records w;
@@ -346,7 +347,7 @@ reads_zero ignore xs at b was rest to e here limit =
 
 -- zero bytes after ENDLIB
 reads_zeros : (ignore : Ignore) (n : ℕ) (xs : List ℕ) (at : ℕ) (b : Builder) (was : Option (List ℕ)) (rest : List ℕ)
-    → ReadTo (gds ignore) xs at (HoldsBy ignore b) was → b.place ≡ Fill → drop at xs ≡ replicate n 0 ++ rest
+    → ReadTo (gds ignore) xs at (HoldsBy ignore b) was → b.stage ≡ Fill → drop at xs ≡ replicate n 0 ++ rest
     → at + n ≤ file_limit
     → (left' : Option (List ℕ)) × ReadTo (gds ignore) xs (at + n) (HoldsBy ignore b) left' × (drop (at + n) xs ≡ rest)
 reads_zeros ignore zero xs at b was rest to e here limit =
@@ -366,7 +367,7 @@ reads_zeros ignore (suc n) xs at b was rest to e here limit =
 -- the end of the input
 pub reads_all : (ignore : Ignore) (xs : List ℕ) (at : ℕ) (b : Builder) (was : Option (List ℕ))
     → ReadTo (gds ignore) xs at (HoldsBy ignore b) was
-    → b.place ≡ Fill → drop at xs ≡ replicate (length (drop at xs)) 0 → at + length (drop at xs) ≤ file_limit
+    → b.stage ≡ Fill → drop at xs ≡ replicate (length (drop at xs)) 0 → at + length (drop at xs) ≤ file_limit
     → IsRead ignore xs (done b) (record { version = b.version; units = b.units })
 reads_all ignore xs at b was to e zeros limit =
     let more = reads_zeros ignore (length (drop at xs)) xs at b was [] to e
@@ -417,7 +418,7 @@ only_other ignore before room ys w l _ x = absurd (x.0 w)
 -- another byte after ENDLIB
 pub reads_other : (ignore : Ignore) (xs : List ℕ) (at n : ℕ) (b : Builder) (was remaining : Option (List ℕ)) (c : ℕ)
     (rest hand : List ℕ)
-    → ReadTo (gds ignore) xs at (HoldsBy ignore b) was → b.place ≡ Fill → drop at xs ≡ replicate n 0 ++ (c ∷ rest)
+    → ReadTo (gds ignore) xs at (HoldsBy ignore b) was → b.stage ≡ Fill → drop at xs ≡ replicate n 0 ++ (c ∷ rest)
     → c ≢ 0
     → n < file_limit - at
     → 0 < length hand → prepend_known hand remaining ≡ Some (drop n (drop at xs))
@@ -444,7 +445,7 @@ reads_other ignore xs at n b was remaining c rest hand to e here other room some
 -- the input passes the limit after ENDLIB
 pub reads_too_long : (ignore : Ignore) (xs : List ℕ) (at : ℕ) (b : Builder) (was remaining : Option (List ℕ))
     (rest hand : List ℕ)
-    → ReadTo (gds ignore) xs at (HoldsBy ignore b) was → b.place ≡ Fill → at ≤ file_limit
+    → ReadTo (gds ignore) xs at (HoldsBy ignore b) was → b.stage ≡ Fill → at ≤ file_limit
     → drop at xs ≡ replicate (file_limit - at) 0 ++ rest
     → ((more : List ℕ) → step ignore (file_limit - (at + (file_limit - at))) (hand ++ more) ≡ Err TooLong)
     → prepend_known hand remaining ≡ Some (drop (file_limit - at) (drop at xs))
@@ -459,7 +460,7 @@ reads_too_long ignore xs at b was remaining rest hand to e limit here said known
 -- the reader failed after ENDLIB, and all that it gave was taken
 pub reads_failed : (ignore : Ignore) (xs : List ℕ) (at n : ℕ) (b : Builder) (was remaining : Option (List ℕ))
     (rest : List ℕ)
-    → ReadTo (gds ignore) xs at (HoldsBy ignore b) was → b.place ≡ Fill → drop at xs ≡ replicate n 0 ++ rest
+    → ReadTo (gds ignore) xs at (HoldsBy ignore b) was → b.stage ≡ Fill → drop at xs ≡ replicate n 0 ++ rest
     → n ≤ file_limit - at
     → at ≤ file_limit → remaining ≡ Some (drop n (drop at xs)) → IsUnread (gds ignore) xs remaining (at + n)
 reads_failed ignore xs at n b was remaining rest to e here room limit left =
@@ -486,7 +487,7 @@ refuses_by ignore xs rest e offset at k h o x =
 -- what another byte after ENDLIB says, once `tail` has returned its offset
 pub reads_after : (ignore : Ignore) (xs : List ℕ) (at n : ℕ) (b : Builder) (was remaining : Option (List ℕ)) (c : ℕ)
     (rest hand : List ℕ)
-    → ReadTo (gds ignore) xs at (HoldsBy ignore b) was → b.place ≡ Fill → drop at xs ≡ replicate n 0 ++ (c ∷ rest)
+    → ReadTo (gds ignore) xs at (HoldsBy ignore b) was → b.stage ≡ Fill → drop at xs ≡ replicate n 0 ++ (c ∷ rest)
     → c ≢ 0
     → n < file_limit - at
     → 0 < length hand → ((ys : List ℕ) → was ≡ Some ys → prepend_known hand remaining ≡ Some (drop n ys))
@@ -498,7 +499,7 @@ reads_after ignore xs at n b was remaining c rest hand to e here other room some
 pub reads_tail : (ignore : Ignore) (xs : List ℕ) (at new : ℕ) (b : Builder) (was remaining : Option (List ℕ))
     (hand : List ℕ)
     (f : RecordFault)
-    → ReadTo (gds ignore) xs at (HoldsBy ignore b) was → b.place ≡ Fill → at ≤ file_limit
+    → ReadTo (gds ignore) xs at (HoldsBy ignore b) was → b.stage ≡ Fill → at ≤ file_limit
     → AnswersTail (Err (Fault f)) at new (file_limit - at) (drop at xs) → Decides ignore f (file_limit - new) hand
     → (f ≡ Read → prepend_known hand remaining ≡ remaining)
     → ((ys : List ℕ) → was ≡ Some ys → prepend_known hand remaining ≡ Some (drop (new - at) ys))

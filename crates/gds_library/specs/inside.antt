@@ -1,4 +1,4 @@
-pub mod Place
+pub mod Stage
 pub mod Shown
 pub mod Faults
 pub mod Holds

@@ -6,12 +6,12 @@ ghost use Rattle.gds_elements.specs.Values.{short};
 ghost use Rattle.lvl_refusal.specs.Refused.{Says};
 ghost use Rattle.gds_elements.specs.inside.Reading.{shapes_in, references_in};
 ghost use Rattle.gds_library.specs.Values.{two_reals};
-ghost use Rattle.gds_library.specs.inside.Place.{after};
+ghost use Rattle.gds_library.specs.inside.Stage.{after};
 ghost use Rattle.gds_library.specs.inside.Faults.{IsFormed, IsFault, IsAllowed};
 
 use crate::fault::GdsKind;
 use crate::head::{GdsHead, two_reals};
-use crate::place::Place;
+use crate::stage::LibraryStage;
 use gds_elements::{Drawn, misplaced, name};
 use gds_records::record_type;
 use lvl_cells::{Builder as Cells, Library, MOST_CELLS};
@@ -22,7 +22,7 @@ use std::alloc::Global;
 /// The library so far: the place in the order of records, the head, and the cells.
 #[derive(Drop)]
 pub(crate) struct Builder {
-    place: Place,
+    stage: LibraryStage,
     version: i16,
     units: [[u8; 8]; 2],
     cells: Cells,
@@ -32,12 +32,12 @@ impl Builder {
     ghost use Rattle.gds_library.specs.inside.Shown.{shown, grown, with_drawn, on_last, done};
 
     pub(crate) fn new(alloc: Global) -> Builder
-        ensures place { result.place ≡ Place.Header }
+        ensures stage { result.stage ≡ LibraryStage.Header }
         ensures shown { shown result ≡ [] }
         ensures version { result.version ≡ pos 0 }
     {
         Builder {
-            place: Place::Header,
+            stage: LibraryStage::Header,
             version: 0,
             units: [[0; 8]; 2],
             cells: Cells::new(alloc),
@@ -46,16 +46,16 @@ impl Builder {
 
     /// Whether an element may begin.
     pub(crate) fn may_open(&self) -> bool
-        ensures { IsTrue result ↔ (self.now.place ≡ Place.Elements) }
+        ensures { IsTrue result ↔ (self.now.stage ≡ LibraryStage.Elements) }
     {
-        self.place == Place::Elements
+        self.stage == LibraryStage::Elements
     }
 
     /// Whether ENDLIB was read.
     pub(crate) fn is_whole(&self) -> bool
-        ensures { IsTrue result ↔ (self.now.place ≡ Place.Fill) }
+        ensures { IsTrue result ↔ (self.now.stage ≡ LibraryStage.Fill) }
     {
-        self.place == Place::Fill
+        self.stage == LibraryStage::Fill
     }
 
     /// The complete cells, and the head.
@@ -64,7 +64,7 @@ impl Builder {
         ensures head { result.1 ≡ record { version = self.version; units = self.units } }
     {
         let Builder {
-            place: _,
+            stage: _,
             version,
             units,
             cells,
@@ -81,8 +81,8 @@ impl Builder {
     ) -> Result<(), Cause<GdsKind>>
         requires { IsFormed kind payload.now }
         ensures refused { IfErr result
-            (λ e. Says e (IsFault self.old.place (length self.old.cells.cells) kind payload.now)) }
-        ensures place { OnOk result (after self.old.place kind ≡ Some self.new.place) }
+            (λ e. Says e (IsFault self.old.stage (length self.old.cells.cells) kind payload.now)) }
+        ensures stage { OnOk result (after self.old.stage kind ≡ Some self.new.stage) }
         ensures allowed { OnOk result (IsAllowed (length self.old.cells.cells) kind payload.now) }
         ensures version { OnOk result
             (self.new.version ≡ (if kind == header then short payload.now else self.old.version)) }
@@ -90,7 +90,7 @@ impl Builder {
             (self.new.units ≡ (if kind == units then two_reals payload.now else self.old.units)) }
         ensures shown { OnOk result (shown self.new ≡ grown kind payload.now (shown self.old)) }
     {
-        let Some(next) = self.place.after(kind) else {
+        let Some(next) = self.stage.after(kind) else {
             return Err(Cause::Breach(GdsKind::Misplaced(misplaced(kind))));
         };
         match kind {
@@ -111,17 +111,17 @@ impl Builder {
             record_type::ENDSTR => self.cells.close(alloc)?,
             _ => {}
         }
-        self.place = next;
+        self.stage = next;
         Ok(())
     }
 
     /// Adds what an element draws to the cell that is open. It fails only if it is out of memory.
     pub(crate) fn add(&mut self, drawn: Drawn) -> Result<(), Cause<GdsKind>>
         ensures refused { IfErr result (λ e. e ≡ Cause.OutOfMemory) }
-        ensures place { OnOk result (self.new.place ≡ self.old.place) }
+        ensures stage { OnOk result (self.new.stage ≡ self.old.stage) }
         ensures version { OnOk result (self.new.version ≡ self.old.version) }
         ensures units { OnOk result (self.new.units ≡ self.old.units) }
-        ensures shown { OnOk result (self.old.place ≡ Place.Elements
+        ensures shown { OnOk result (self.old.stage ≡ LibraryStage.Elements
             → shown self.new ≡ on_last (with_drawn (shapes_in drawn) (references_in drawn)) (shown self.old)) }
     {
         match drawn {

@@ -32,11 +32,11 @@ pub(crate) struct WithIgnored {
 
 impl WithIgnored {
     ghost use Rattle.gds_library.specs.inside.Shown.{done};
-    ghost use Rattle.gds_library.specs.declared.place.Place.TheVariants.{Header, Fill};
+    ghost use Rattle.gds_library.specs.declared.stage.LibraryStage.TheVariants.{Header, Fill};
 
     pub(crate) fn new(alloc: Global, ignore: Ignore) -> WithIgnored
         ensures none { HasReadBy ignore result [] }
-        ensures place { result.reading.builder.place ≡ Header }
+        ensures stage { result.reading.builder.stage ≡ Header }
         ensures ignore { result.ignore ≡ ignore }
     {
         WithIgnored {
@@ -48,7 +48,7 @@ impl WithIgnored {
 
     /// Whether ENDLIB was read.
     pub(crate) fn is_whole(&self) -> bool
-        ensures { IsTrue result ↔ (self.now.reading.builder.place ≡ Fill) }
+        ensures { IsTrue result ↔ (self.now.reading.builder.stage ≡ Fill) }
     {
         self.reading.is_whole()
     }
@@ -73,7 +73,7 @@ impl WithIgnored {
     ) -> Result<(), Cause<GdsKind>>
         requires formed { IsFormed kind payload.now }
         requires in_element { IsFormedInElement kind payload.now }
-        requires unended { self.old.reading.builder.place ≢ Fill }
+        requires unended { self.old.reading.builder.stage ≢ Fill }
         ensures takes { (rs : List Rec) (d : ℕ) → HasReadBy self.old.ignore self.old rs
             → TakesBy self.old.ignore rs (record_of kind d payload.now) self.new result }
         ensures ignore { self.new.ignore ≡ self.old.ignore }
@@ -87,7 +87,7 @@ impl WithIgnored {
 
     // Takes a record that is ignored.
     fn pass(&mut self, kind: u8) -> Result<(), Cause<GdsKind>>
-        requires unended { self.old.reading.builder.place ≢ Fill }
+        requires unended { self.old.reading.builder.stage ≢ Fill }
         ensures takes { (rs : List Rec) (r : Rec) → r.kind ≡ kind → is_passed self.old.ignore r ≡ true
             → HasReadBy self.old.ignore self.old rs → TakesBy self.old.ignore rs r self.new result }
         ensures ignore { self.new.ignore ≡ self.old.ignore }
@@ -134,7 +134,7 @@ impl WithIgnored {
 
     // Whether an ignored record of this type may come next.
     fn may_pass(&self, kind: u8) -> bool
-        requires unended { self.now.reading.builder.place ≢ Fill }
+        requires unended { self.now.reading.builder.stage ≢ Fill }
         ensures { (rs : List Rec) (r : Rec) → r.kind ≡ kind → HasReadBy self.now.ignore self.now rs
             → IsTrue result ↔ MayPass self.now.ignore rs r }
     {

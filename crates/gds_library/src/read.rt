@@ -11,7 +11,7 @@ ghost use Rattle.gds_library.specs.Ends.{Reports, ReportsUnread, IsExcused, IsEa
 ghost use Rattle.gds_library.specs.inside.Holds.{HasReadBy};
 ghost use Rattle.lvl_ignore.specs.Ignored.{nothing};
 ghost use Rattle.gds_library.specs.inside.Refuses.{Refuses};
-ghost use Rattle.gds_library.specs.declared.place.Place.TheVariants.{Fill};
+ghost use Rattle.gds_library.specs.declared.stage.LibraryStage.TheVariants.{Fill};
 
 use crate::fault::{GdsFault, GdsKind};
 use crate::head::GdsHead;
@@ -149,7 +149,7 @@ fn read_all<R: Read>(
     requires start { records_offset records.old ≡ 0 }
     ensures refused { (xs : List ℕ) → bytes_left R.remaining records.old ≡ Some xs
         → IfErr result (λ refusal. Says refusal (Refuses ignore xs (R.remaining (records_reader records.new)))) }
-    ensures whole { IfOk result (λ x. (x.reading.builder.place ≡ Fill) × (x.ignore ≡ ignore)
+    ensures whole { IfOk result (λ x. (x.reading.builder.stage ≡ Fill) × (x.ignore ≡ ignore)
         × ((xs : List ℕ) → bytes_left R.remaining records.old ≡ Some xs
         → ReadTo (gds ignore) xs (records_offset records.new) (HasReadBy ignore x)
         (bytes_left R.remaining records.new))) }

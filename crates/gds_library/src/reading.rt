@@ -24,11 +24,11 @@ pub(crate) struct Reading {
 
 impl Reading {
     ghost use Rattle.gds_library.specs.inside.Shown.{done};
-    ghost use Rattle.gds_library.specs.declared.place.Place.TheVariants.{Header, Fill};
+    ghost use Rattle.gds_library.specs.declared.stage.LibraryStage.TheVariants.{Header, Fill};
 
     pub(crate) fn new(alloc: Global) -> Reading
         ensures none { HasRead result [] }
-        ensures place { result.builder.place ≡ Header }
+        ensures stage { result.builder.stage ≡ Header }
     {
         Reading {
             builder: Builder::new(alloc),
@@ -38,7 +38,7 @@ impl Reading {
 
     /// Whether ENDLIB was read.
     pub(crate) fn is_whole(&self) -> bool
-        ensures { IsTrue result ↔ (self.now.builder.place ≡ Fill) }
+        ensures { IsTrue result ↔ (self.now.builder.stage ≡ Fill) }
     {
         self.builder.is_whole()
     }

@@ -2,7 +2,7 @@
 ghost use Rattle.std.specs.Prelude.{◌≡◌, ◌<◌, ◌≤◌, IfOk, length, false};
 ghost use Rattle.gds_records.specs.Table.{table, form_among, form_of, allows, form_fault, property_rows, name_rows};
 ghost use Rattle.gds_records.specs.Table.{ignored_rows, is_ignored};
-ghost use Rattle.gds_records.specs.Step.{header_fault, header, Gives, is_read, OfHeader, HasByteLength};
+ghost use Rattle.gds_records.specs.Step.{header_fault, header, Returns, is_read, OfHeader, HasByteLength};
 
 use crate::fault::RecordFault;
 use crate::form::{Form, Lengths};
@@ -151,7 +151,7 @@ fn header_fault(ignore: Ignore, len: u16, kind: u8, data_type: u8) -> Option<Rec
 // The length of the record whose header is at the front, or the header's fault.
 pub(crate) fn record_len(ignore: Ignore, bytes: &[u8]) -> Result<usize, RecordFault>
     requires { 4 ≤ length bytes.now }
-    ensures exact { Gives result (header ignore bytes.now) }
+    ensures exact { Returns result (header ignore bytes.now) }
     ensures bound { IfOk result (λ n. (4 ≤ n) × (n < 65536)) }
     ensures read { is_read result ≡ false }
     ensures low { HasByteLength bytes.now }

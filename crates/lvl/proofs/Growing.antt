@@ -1,7 +1,7 @@
 -- What is ignored changes no layout that is read without it, in any format.
 use Rattle.std.proofs.Common.{ℕ, List}
 use Rattle.lvl_cells.specs.Cells.{PlainCell, Rings}
-use Rattle.lvl_ignore.specs.Ignored.{IsWithin}
+use Rattle.lvl_ignore.specs.Ignored.{IsSubsetOf}
 use Rattle.lvl_ignore.specs.declared.ignore.Ignore.{Ignore}
 use Rattle.gds_library.proofs.Growing.{library_grows as gds_grows}
 use Rattle.gds_library.proofs.Readable.{law_only as gds_only}
@@ -13,7 +13,7 @@ use Rattle.lvl.specs.declared.layout.Head.TheVariants.{Gds, Oasis}
 use Rattle.lvl.proofs.Spelling.{gds_read, oasis_read}
 
 -- a layout that bytes spell when less is ignored they spell when more is
-pub layout_grows : (less more : Ignore) → IsWithin less more → (bytes : List ℕ) (found : List (PlainCell Rings))
+pub layout_grows : (less more : Ignore) → IsSubsetOf less more → (bytes : List ℕ) (found : List (PlainCell Rings))
     (head : Head) → IsLayoutOf less bytes found head → IsLayoutOf more bytes found head
 layout_grows less more within bytes found (Gds h) p =
     let spelled = gds_grows less more within bytes p.cells h p.spelled in

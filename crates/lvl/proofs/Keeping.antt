@@ -16,12 +16,12 @@ use Rattle.lvl_grid.specs.Turn.{image, shifted, FitsPoint}
 use Rattle.lvl_grid.proofs.Anyone.{Any-same, Any-map}
 use Rattle.lvl_grid.specs.Winding.{SomeCovers}
 use Rattle.lvl_names.specs.declared.layer.Layer.{Layer}
-use Rattle.lvl_cells.specs.Cells.{PlainCell, PlainShape, PlainReference, Rings, each_ring, names, placing, cell_named}
+use Rattle.lvl_cells.specs.Cells.{PlainCell, PlainShape, PlainReference, Rings, each_ring, names, map_at, cell_named}
 use Rattle.lvl_cells.specs.Cells.{drawn, kept}
 use Rattle.lvl_cells.specs.Coverage.{ShapeCovers, PullsBack, CoversWithin, CellCovers, moved_back}
 use Rattle.lvl_cells.specs.Soundness.{links, AreLinked, IsRanked, IsTop, IsSound}
 use Rattle.lvl_cells.specs.Chains.{Chain, IsComposed, IsInRange, over_chains, chains, own_rings, placed_rings}
-use Rattle.lvl_cells.specs.Chains.{most_placed, Fits}
+use Rattle.lvl_cells.specs.Chains.{most_placed, FitsLimits}
 use Rattle.oasis_figures.proofs.Moved.{All-unmap}
 
 -- names and references
@@ -246,7 +246,7 @@ chain_back rings cells top (suc n) m d h =
     let found = named_back rings (cell_named cells r.cell) d (sym (named_kept rings cells r.cell) ∙ h.3.4.0) in
     let there : h.1.references ≡ before.0.references = ap (λ (c : PlainCell Rings). c.references) (sym before.2) in
     let reference =
-    subst (Any (λ q. (cell_named cells q.cell ≡ Some found.0) × Any (λ e. IsComposed h.0 (placing q e) m) q.shifts))
+    subst (Any (λ q. (cell_named cells q.cell ≡ Some found.0) × Any (λ e. IsComposed h.0 (map_at q e) m) q.shifts))
     there (h.3.0, r, h.3.2, h.3.3, (found.1, h.3.4.1)) in
     (found.0, (h.0, before.0, before.1, reference), found.2)
 
@@ -272,7 +272,7 @@ range_kept rings m d = (
 )
 
 pub fits_kept : {F : Type 0} (rings : F → Rings) (cells : List (PlainCell F)) (top : PlainCell F)
-    → Fits rings cells top ↔ Fits each_ring (kept rings cells) (drawn rings top)
+    → FitsLimits rings cells top ↔ FitsLimits each_ring (kept rings cells) (drawn rings top)
 fits_kept rings cells top = (
   λ h. record {
     few_chains = subst (λ n. n ≤ most_placed) (chains_kept rings cells top) h.few_chains;

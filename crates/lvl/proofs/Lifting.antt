@@ -9,7 +9,7 @@ use Rattle.lvl_names.specs.declared.layer.Layer.{Layer}
 use Rattle.lvl_cells.specs.Cells.{PlainCell, Rings, each_ring, names, drawn, kept}
 use Rattle.lvl_cells.specs.Coverage.{CellCovers}
 use Rattle.lvl_cells.specs.Soundness.{IsSound}
-use Rattle.lvl_cells.specs.Chains.{Chain, Fits, chains, placed_rings, most_placed}
+use Rattle.lvl_cells.specs.Chains.{Chain, FitsLimits, chains, placed_rings, most_placed}
 use Rattle.lvl_cells.proofs.Arcs.{once_named}
 use Rattle.std.proofs.lemmas.List.{length-map}
 use Rattle.std.proofs.lemmas.Option.{slice_get-get_or}
@@ -86,7 +86,7 @@ pub one_cell : (cells : List (PlainCell Rings)) (i j : ℕ) (c d : PlainCell Rin
 one_cell cells i j c d p q e = let f : Some c ≡ Some d = sym p ∙ (ap (slice_get cells) e ∙ q) in cc
 
 fits_settled : (file : File) (k : Kept) (s : Settled) → IsSettled file.top s → (r : IsInRangeAs k s)
-    → Fits each_ring s.cells r.top
+    → FitsLimits each_ring s.cells r.top
 fits_settled file k s settled r =
     let same : settled.cell ≡ r.top = one_cell s.cells s.top s.top settled.cell r.top settled.is r.is_top refl in
     record {
@@ -114,8 +114,8 @@ top_lifted file cells head read s r =
     let b =
     cell_back figure_rings others s.top r.top
     (subst (λ (c : List (PlainCell Rings)). slice_get c s.top ≡ Some r.top) e r.is_top) in
-    let fits = subst (λ (c : PlainCell Rings). Fits each_ring (kept figure_rings others) c) (sym b.2)
-    (subst (λ (c : List (PlainCell Rings)). Fits each_ring c r.top) e
+    let fits = subst (λ (c : PlainCell Rings). FitsLimits each_ring (kept figure_rings others) c) (sym b.2)
+    (subst (λ (c : List (PlainCell Rings)). FitsLimits each_ring c r.top) e
     (fits_settled file (record { cells = cells; top = file.top }) s r.checked.sound r)) in
     record {
       top = b.0;

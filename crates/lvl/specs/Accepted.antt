@@ -5,7 +5,7 @@ use Rattle.lvl_path.specs.Figure.{figure_rings, FigureCovers}
 use Rattle.lvl_names.specs.declared.layer.Layer.{Layer}
 use Rattle.lvl_cells.specs.Coverage.{CellCovers}
 use Rattle.lvl_cells.specs.Soundness.{IsSound}
-use Rattle.lvl_cells.specs.Chains.{Fits}
+use Rattle.lvl_cells.specs.Chains.{FitsLimits}
 use Rattle.lvl_names.specs.Layers.{ComesBefore}
 use Rattle.lvl_region.specs.Region.{IsAlone}
 use Rattle.lvl_region.specs.declared.region.Side.{Side}
@@ -24,7 +24,7 @@ pub record IsAccepted (file : File) (cells : List Drawing) (top : Drawing) : Typ
   pub index : ℕ
   pub sound : IsSound cells file.top index
   pub top_is : slice_get cells index ≡ Some top
-  pub fits : Fits figure_rings cells top
+  pub fits : FitsLimits figure_rings cells top
 
 -- the file isn't accepted
 abbrev pub IsUnaccepted : File → Type 0

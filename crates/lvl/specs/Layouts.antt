@@ -1,6 +1,6 @@
 -- What files spell, in either format.
 use Rattle.std.specs.Prelude.{◌≡◌, ℕ, List, [], ◌∷◌, Option, Some, None}
-use Rattle.lvl_ignore.specs.Ignored.{IsWithin}
+use Rattle.lvl_ignore.specs.Ignored.{IsSubsetOf}
 use Rattle.lvl_ignore.specs.declared.ignore.Ignore.{Ignore}
 use Rattle.lvl_path.specs.Figure.{figure_rings}
 use Rattle.lvl_cells.specs.Cells.{PlainCell, Rings, kept}
@@ -55,5 +55,5 @@ pub record IsLayoutOf (ignore : Ignore) (bytes : List ℕ) (found : List (PlainC
 -- bytes that spell a library when less is ignored spell the same one, with the same head, when more is
 abbrev pub IgnoringKeeps : Type 0
 IgnoringKeeps =
-    (less more : Ignore) → IsWithin less more → (bytes : List ℕ) (found : List (PlainCell Rings)) (head : Head)
+    (less more : Ignore) → IsSubsetOf less more → (bytes : List ℕ) (found : List (PlainCell Rings)) (head : Head)
     → IsLayoutOf less bytes found head → IsLayoutOf more bytes found head

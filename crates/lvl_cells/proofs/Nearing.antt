@@ -10,7 +10,7 @@ use Rattle.std.proofs.lemmas.Option.{slice_get_within, get_or_from_slice_get}
 use Rattle.lvl_cells.specs.declared.walk.Visit.{Visit}
 use Rattle.lvl_cells.specs.declared.walk.Mark.{Mark}
 use Rattle.lvl_cells.specs.declared.walk.Mark.TheVariants.{New, Open, Done}
-use Rattle.lvl_cells.specs.inside.Walking.{IsArc, GoesOn, new_count, left_at, work_left}
+use Rattle.lvl_cells.specs.inside.Walking.{IsArc, NoneBecomesNew, new_count, left_at, work_left}
 use Rattle.lvl_cells.proofs.Indexes.{push_last}
 use Rattle.lvl_cells.proofs.Walks.{set_there, set_elsewhere, same_or_not}
 
@@ -106,7 +106,7 @@ nearer_past targets marks front v b arc =
 
 -- a cell whose mark is set isn't new
 pub goes_on : (marks : List Mark) (b : ℕ) (o m : Mark) → slice_get marks b ≡ Some o → m ≢ New
-    → GoesOn marks (set marks b m)
+    → NoneBecomesNew marks (set marks b m)
 goes_on marks b o m at other k h =
     ⊎_elim (λ e. let now : slice_get (set marks b m) b ≡ Some m = set_there marks b o m at in
     let new : slice_get (set marks b m) b ≡ Some New = subst (λ q. slice_get (set marks b m) q ≡ Some New) e h in

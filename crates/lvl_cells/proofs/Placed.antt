@@ -7,7 +7,7 @@ use Rattle.lvl_grid.specs.Turn.{FitsPoint, shifted}
 use Rattle.lvl_cells.specs.declared.placements.Placing.{Placing}
 use Rattle.lvl_cells.specs.Cells.{PlainPlacement, PlainReference, reference_to}
 use Rattle.lvl_cells.specs.inside.Placings.{placement_by, placement_in, IsAt, IsPlacing}
-use Rattle.lvl_cells.specs.inside.Spans.{GoesOn}
+use Rattle.lvl_cells.specs.inside.Spans.{IsPrefixOf}
 use Rattle.lvl_cells.proofs.Spanned.{no_fewer}
 
 -- the placements that are stored so
@@ -17,7 +17,7 @@ placements_in kept placings = map (placement_in kept) placings
 abbrev pub ArePlacings : List (List Point) → List Placing → Type 0
 ArePlacings kept placings = All (IsPlacing kept) placings
 
-item_same : {X : Type 0} (old new : List (List X)) (n : ℕ) → GoesOn old new → n < length old
+item_same : {X : Type 0} (old new : List (List X)) (n : ℕ) → IsPrefixOf old new → n < length old
     → get_or new n [] ≡ get_or old n []
 item_same old new n g h = sym (get_or-take (length old) new n [] h) ∙ ap (λ ks. get_or ks n []) g
 
@@ -26,7 +26,7 @@ record IsStill (kept kept' : List (List Point)) (p : Placing) : Type 0 where
   pub is : IsPlacing kept' p
   pub same : placement_in kept' p ≡ placement_in kept p
 
-placing_same : (kept kept' : List (List Point)) (p : Placing) → GoesOn kept kept' → IsPlacing kept p
+placing_same : (kept kept' : List (List Point)) (p : Placing) → IsPrefixOf kept kept' → IsPlacing kept p
     → IsStill kept kept' p
 placing_same kept kept' p on h =
     let shifts : get_or kept' p.shifts [] ≡ get_or kept p.shifts [] = item_same kept kept' p.shifts on h.shifts in
@@ -36,7 +36,7 @@ placing_same kept kept' p on h =
     }
 
 placements_same : (kept kept' : List (List Point)) (placings : List Placing)
-    → GoesOn kept kept' → ArePlacings kept placings → placements_in kept' placings ≡ placements_in kept placings
+    → IsPrefixOf kept kept' → ArePlacings kept placings → placements_in kept' placings ≡ placements_in kept placings
 placements_same kept kept' [] on h = refl
 placements_same kept kept' (p ∷ placings) on h =
     rw (
@@ -46,14 +46,14 @@ placements_same kept kept' (p ∷ placings) on h =
 
 -- the placings stay valid after more lists are kept
 pub still : (kept kept' : List (List Point)) (placings : List Placing)
-    → GoesOn kept kept' → ArePlacings kept placings → ArePlacings kept' placings
+    → IsPrefixOf kept kept' → ArePlacings kept placings → ArePlacings kept' placings
 still kept kept' placings on h =
     All-weaker {X = Placing} (IsPlacing kept) (IsPlacing kept') (λ p is. (placing_same kept kept' p on is).is)
     placings h
 
 -- after a refusal the placements are as before
 pub refused : (kept kept' : List (List Point)) (placings : List Placing) (placements : List PlainPlacement)
-    → GoesOn kept kept' → ArePlacings kept placings → placements_in kept placings ≡ placements
+    → IsPrefixOf kept kept' → ArePlacings kept placings → placements_in kept placings ≡ placements
     → placements_in kept' placings ≡ placements
 refused kept kept' placings placements on h e = placements_same kept kept' placings on h ∙ e
 
@@ -65,7 +65,7 @@ pub record AreMore (kept' : List (List Point)) (placings : List Placing) (p : Pl
 
 pub one_more : (kept kept' : List (List Point)) (placings : List Placing) (p : Placing) (shifts : List Point)
     (placements : List PlainPlacement)
-    → GoesOn kept kept' → ArePlacings kept placings → placements_in kept placings ≡ placements
+    → IsPrefixOf kept kept' → ArePlacings kept placings → placements_in kept placings ≡ placements
     → IsAt kept' p.shifts shifts → All (λ e. FitsPoint (shifted p.at e)) shifts
     → AreMore kept' placings p shifts placements
 one_more kept kept' placings p shifts placements on h e number fits =
@@ -86,14 +86,14 @@ HaveNames names placements = All (λ p. p.key < length names) placements
 
 -- keys stay indexes of names after more names are kept
 pub names_still : (names names' : List (List ℕ)) (placements : List PlainPlacement)
-    → GoesOn names names' → HaveNames names placements → HaveNames names' placements
+    → IsPrefixOf names names' → HaveNames names placements → HaveNames names' placements
 names_still names names' placements on h =
     All-weaker {X = PlainPlacement} (λ p. p.key < length names) (λ p. p.key < length names')
     (λ p low. omega (arith, low, no_fewer names names' on)) placements h
 
 -- references stay the same after more names are kept
 pub references_same : (names names' : List (List ℕ)) (placements : List PlainPlacement)
-    → GoesOn names names' → HaveNames names placements
+    → IsPrefixOf names names' → HaveNames names placements
     → map (reference_to names') placements ≡ map (reference_to names) placements
 references_same names names' [] on h = refl
 references_same names names' (p ∷ ps) on h =
@@ -106,7 +106,7 @@ references_same names names' (p ∷ ps) on h =
 -- one more reference, appended
 pub one_more_reference : (names names' : List (List ℕ)) (placements : List PlainPlacement) (p : PlainPlacement)
     (cell : List ℕ) (references : List PlainReference)
-    → GoesOn names names' → HaveNames names placements → map (reference_to names) placements ≡ references
+    → IsPrefixOf names names' → HaveNames names placements → map (reference_to names) placements ≡ references
     → IsAt names' p.key cell
     → map (reference_to names') (placements ++ p ∷ [])
     ≡ references ++ record { cell = cell; flip = p.flip; turn = p.turn; at = p.at; shifts = p.shifts } ∷ []

@@ -14,7 +14,7 @@ use Rattle.lvl_cells.specs.declared.shared.KeptFigure.{KeptFigure}
 use Rattle.lvl_cells.specs.Cells.{PlainShape, Rings, shape_at}
 use Rattle.lvl_cells.specs.inside.Spans.{numbered, displaced, origin, figure_in, shape_in, FitsMoved, IsAgain}
 use Rattle.lvl_cells.proofs.Moving.{unmoved_rings}
-use Rattle.lvl_cells.specs.inside.Spans.{IsFigure, IsSpan, GoesOn, HasNumber, HasMove}
+use Rattle.lvl_cells.specs.inside.Spans.{IsFigure, IsSpan, IsPrefixOf, HasNumber, HasMove}
 
 -- the shapes of the spans
 abbrev pub shapes_in : Rings → List Point → List (List Point) → List Span → List (PlainShape Rings)
@@ -131,10 +131,10 @@ ring_from rings moves kept spans shapes i j s h e l is m =
     ring_read shapes rings moves kept i j s (span_read rings moves kept spans shapes i s h e l is) m
 
 -- a list that begins with the old one is the old one and more
-grown : {X : Type 0} (old new : List X) → GoesOn old new → new ≡ old ++ drop (length old) new
+grown : {X : Type 0} (old new : List X) → IsPrefixOf old new → new ≡ old ++ drop (length old) new
 grown old new g = sym (take-append-drop (length old) new) ∙ ap (λ xs. xs ++ drop (length old) new) g
 
-stretch_same : (old new : Rings) (begin end : ℕ) → GoesOn old new → begin ≤ end → end ≤ length old
+stretch_same : (old new : Rings) (begin end : ℕ) → IsPrefixOf old new → begin ≤ end → end ≤ length old
     → take (end - begin) (drop begin new) ≡ take (end - begin) (drop begin old)
 stretch_same old new begin end g h k =
     let more = drop (length old) new in
@@ -144,21 +144,21 @@ stretch_same old new begin end g h k =
     ∙ take-append-le (end - begin) (drop begin old) more fits)
 
 -- a number has the same item after more items are kept
-number_same : {X : Type 0} (first : X) (old new : List X) (n : ℕ) (d : X) → GoesOn old new → n < length old + 1
+number_same : {X : Type 0} (first : X) (old new : List X) (n : ℕ) (d : X) → IsPrefixOf old new → n < length old + 1
     → get_or (first ∷ new) n d ≡ get_or (first ∷ old) n d
 number_same first old new zero d g h = refl
 number_same first old new (suc n) d g h =
     let low : n < length old = omega (arith, h) in
     sym (get_or-take (length old) new n d low) ∙ ap (λ ks. get_or ks n d) g
 
-pub no_fewer : {X : Type 0} (old new : List X) → GoesOn old new → length old ≤ length new
+pub no_fewer : {X : Type 0} (old new : List X) → IsPrefixOf old new → length old ≤ length new
 no_fewer old new g = omega (arith, ap length (grown old new g), length-append old (drop (length old) new))
 
 -- the three lists of kept items begin with the old ones
 pub record AllGoOn (rings rings' : Rings) (moves moves' : List Point) (kept kept' : List (List Point)) : Type 0 where
-  pub rings_on : GoesOn rings rings'
-  pub moves_on : GoesOn moves moves'
-  pub kept_on : GoesOn kept kept'
+  pub rings_on : IsPrefixOf rings rings'
+  pub moves_on : IsPrefixOf moves moves'
+  pub kept_on : IsPrefixOf kept kept'
 
 -- a span stays valid and means the same shape after more items are kept
 record IsStill (rings rings' : Rings) (moves moves' : List Point) (kept kept' : List (List Point)) (s : Span)
@@ -288,10 +288,10 @@ added rings more f b e few by =
       fits = inl by;
     }
 
-pub goes_on_same : {X : Type 0} (xs : List X) → GoesOn xs xs
+pub goes_on_same : {X : Type 0} (xs : List X) → IsPrefixOf xs xs
 goes_on_same xs = take_all (length xs) xs (omega arith)
 
-pub goes_on_more : {X : Type 0} (xs more : List X) → GoesOn xs (xs ++ more)
+pub goes_on_more : {X : Type 0} (xs more : List X) → IsPrefixOf xs (xs ++ more)
 goes_on_more xs more = take-append-le (length xs) xs more (omega arith) ∙ take_all (length xs) xs (omega arith)
 
 pub always_err : {T E P : Type 0} (r : Result T E) → P → OnErr r P

@@ -54,8 +54,8 @@ abbrev pub names : {F : Type 0} → List (PlainCell F) → List (List ℕ)
 names cells = map (λ c. c.name) cells
 
 -- the map by which a reference places its cell at one of its shifts
-abbrev pub placing : PlainReference → Point → Map
-placing r e = record { flip = r.flip; turn = r.turn; at = shifted r.at e }
+abbrev pub map_at : PlainReference → Point → Map
+map_at r e = record { flip = r.flip; turn = r.turn; at = shifted r.at e }
 
 -- the first cell of that name, if there is one
 abbrev pub cell_named : {F : Type 0} → List (PlainCell F) → List ℕ → Option (PlainCell F)

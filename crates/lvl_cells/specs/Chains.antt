@@ -7,7 +7,7 @@ use Rattle.lvl_grid.specs.declared.map.Map.{Map}
 use Rattle.lvl_grid.specs.declared.map.Turn.TheVariants.{R0}
 use Rattle.lvl_grid.specs.Turn.{image, shifted, FitsPoint}
 use Rattle.lvl_names.specs.declared.layer.Layer.{Layer}
-use Rattle.lvl_cells.specs.Cells.{PlainCell, Rings, placing, cell_named}
+use Rattle.lvl_cells.specs.Cells.{PlainCell, Rings, map_at, cell_named}
 use Rattle.lvl_names.specs.Layers.{same_layer}
 
 -- the map m is `inner` followed by `outer`, at every point
@@ -22,7 +22,7 @@ unmoved = record { flip = false; turn = R0; at = record { x = pos 0; y = pos 0 }
 abbrev pub Chain : {F : Type 0} → List (PlainCell F) → PlainCell F → ℕ → Map → PlainCell F → Type 0
 Chain cells top zero m d = (m ≡ unmoved) × (d ≡ top)
 Chain {F} cells top (suc n) m d = (w : Map) × (c : PlainCell F) × Chain cells top n w c
-    × Any (λ r. (cell_named cells r.cell ≡ Some d) × Any (λ e. IsComposed w (placing r e) m) r.shifts) c.references
+    × Any (λ r. (cell_named cells r.cell ≡ Some d) × Any (λ e. IsComposed w (map_at r e) m) r.shifts) c.references
 
 -- the cell d, placed by the map m, is in range: the shift of m, and the image of each vertex of d's rings at each shift
 -- of its shape, fit in 64 signed bits; `rings` gives the rings of a figure
@@ -67,7 +67,7 @@ abbrev pub most_placed : ℕ
 most_placed = 16777216
 
 -- the top has at most `most_placed` chains and placed rings, and every cell that a chain places is in range
-pub record Fits {F : Type 0} (rings : F → Rings) (cells : List (PlainCell F)) (top : PlainCell F) : Type 0 where
+pub record FitsLimits {F : Type 0} (rings : F → Rings) (cells : List (PlainCell F)) (top : PlainCell F) : Type 0 where
   pub few_chains : chains cells top ≤ most_placed
   pub few_rings : placed_rings rings cells top ≤ most_placed
   pub in_range : (n : ℕ) (m : Map) (d : PlainCell F) → Chain cells top n m d → IsInRange rings m d

@@ -4,7 +4,7 @@ use Rattle.lvl_grid.specs.declared.point.Point.{Point}
 use Rattle.lvl_grid.specs.declared.point.Square.{Square}
 use Rattle.lvl_grid.specs.Turn.{image_square}
 use Rattle.lvl_names.specs.declared.layer.Layer.{Layer}
-use Rattle.lvl_cells.specs.Cells.{PlainShape, PlainReference, PlainCell, Rings, placing, cell_named}
+use Rattle.lvl_cells.specs.Cells.{PlainShape, PlainReference, PlainCell, Rings, map_at, cell_named}
 
 -- the square that the shift moves to s
 abbrev pub moved_back : Point → Square → Square
@@ -17,7 +17,7 @@ ShapeCovers holds layer s h = (h.layer ≡ layer) × Any (λ e. holds h.figure (
 
 -- under the reference at the shift e, s is the image of a square for which P holds
 abbrev pub PullsBack : (Square → Type 0) → PlainReference → Square → Point → Type 0
-PullsBack P r s e = (t : Square) × (image_square (placing r e) t ≡ s) × P t
+PullsBack P r s e = (t : Square) × (image_square (map_at r e) t ≡ s) × P t
 
 -- the cell covers the square on the Layer, by its own shapes or through a chain of at most n references
 abbrev pub CoversWithin : {F : Type 0} → (F → Square → Type 0) → List (PlainCell F) → Layer → ℕ → PlainCell F → Square

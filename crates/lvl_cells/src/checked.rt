@@ -54,7 +54,7 @@ fn resolve(
 ) -> Result<(Targets, Option<usize>), Cause<CellFault>>
     ensures linked { IfOk result (λ found. AreLinked cells.now) }
     ensures targets { IfOk result (λ found. AreAllTargets cells.now found.0) }
-    ensures place { IfOk result (λ found. IsPlaceOf (names cells.now) (option_copied given.entry) found.1) }
+    ensures index { IfOk result (λ found. IsPlaceOf (names cells.now) (option_copied given.entry) found.1) }
     ensures err { IfErr result (λ refusal. Says refusal (IsFaultOf cells.now (option_copied given.entry))) }
 {
     let index = index_of(alloc, cells)?;
@@ -63,7 +63,7 @@ fn resolve(
         return Ok((targets, None));
     };
     match index.get(name) {
-        Some(place) => Ok((targets, Some(*place))),
+        Some(index) => Ok((targets, Some(*index))),
         None => Ok((targets, None)),
     }
 }
@@ -81,9 +81,9 @@ fn examine(
     ensures targets { IfOk result (λ found. AreAllTargets cells.now found.2) }
     ensures err { IfErr result (λ refusal. Says refusal (IsFaultOf cells.now (option_copied given.entry))) }
 {
-    let (targets, place) = resolve(alloc, cells, given)?;
+    let (targets, index) = resolve(alloc, cells, given)?;
     let order = order_of(alloc, cells, &targets)?;
-    let top = top_of(alloc, cells, &targets, &order, given, place)?;
+    let top = top_of(alloc, cells, &targets, &order, given, index)?;
     let chains = count_from(alloc, Weight::One, cells, &targets, &order, top)?;
     if chains > MOST_PLACED {
         return Err(Cause::Breach(CellFault::TooManyPlacements));
@@ -117,10 +117,10 @@ pub fn check(
     if cells.is_empty() {
         return Err(Cause::Breach(CellFault::NoCell));
     }
-    let (place, order, targets) = examine(alloc, &cells, top)?;
+    let (index, order, targets) = examine(alloc, &cells, top)?;
     Ok(Checked {
         cells,
-        top: place,
+        top: index,
         order,
         targets,
     })

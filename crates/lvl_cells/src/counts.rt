@@ -97,8 +97,8 @@ pub(crate) fn count_from(
 {
     let mut sums = vec![in alloc; 0; cells.len()]?;
     for i in (0..order.len()).rev() {
-        let place = order[i];
-        sums[place] = sum_of(weight, &cells[place], &targets.row(place), &sums);
+        let index = order[i];
+        sums[index] = sum_of(weight, &cells[index], &targets.row(index), &sums);
     }
     Ok(sums[top])
 }

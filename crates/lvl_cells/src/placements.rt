@@ -1,7 +1,7 @@
 //! Placements: how and where things are placed that have an index in a list.
 ghost use Rattle.std.specs.Prelude.{◌≡◌, ◌<◌, ◌++◌, ◌∷◌, [], length, slice_get, All, IfOk, OnOk, OnErr, Some, IfSome};
 ghost use Rattle.lvl_grid.specs.Turn.{shifted, FitsPoint};
-ghost use Rattle.lvl_cells.specs.inside.Spans.{GoesOn};
+ghost use Rattle.lvl_cells.specs.inside.Spans.{IsPrefixOf};
 ghost use Rattle.lvl_cells.specs.inside.Placings.{IsAt, IsPlacing, placement_by};
 
 use crate::shape_lists::kept_count;
@@ -58,7 +58,7 @@ pub(crate) fn reserve_first<T>(list: &mut Vec<T>) -> Result<(), AllocError>
 /// was kept, or the zero shift alone, which is kept first.
 fn index_of_shifts(kept: &mut Vec<Offsets>, shifts: Offsets) -> Result<u32, AllocError>
     ensures index { IfOk result (λ i. IsAt kept.new.items i shifts) }
-    ensures before { GoesOn kept.old.items kept.new.items }
+    ensures before { IsPrefixOf kept.old.items kept.new.items }
 {
     reserve_first(kept)?;
     if kept.is_empty() {

@@ -1,7 +1,7 @@
 //! How the references of a cell are stored, if there are several.
 ghost use Rattle.std.specs.Prelude.{◌≡◌, ◌<◌, ◌++◌, ◌∷◌, [], length, slice_get, All, map, Some, IfOk, OnOk, OnErr};
 ghost use Rattle.lvl_cells.specs.Cells.{reference_to};
-ghost use Rattle.lvl_cells.specs.inside.Spans.{GoesOn};
+ghost use Rattle.lvl_cells.specs.inside.Spans.{IsPrefixOf};
 ghost use Rattle.lvl_cells.specs.inside.Placings.{IsAt};
 
 use crate::placements::{Placements, reserve_first};
@@ -33,7 +33,7 @@ impl Model for ReferenceLists {
 /// The index of a name. Keeps the name, unless it is the last that was kept.
 fn index_of_name(names: &mut Vec<Name>, name: Name) -> Result<usize, AllocError>
     ensures index { IfOk result (λ i. IsAt names.new.items i name) }
-    ensures before { GoesOn names.old.items names.new.items }
+    ensures before { IsPrefixOf names.old.items names.new.items }
 {
     if let Some(last) = names.last() {
         if last.as_bytes() == name.as_bytes() {

@@ -5,7 +5,7 @@ ghost use Rattle.std.specs.Prelude.{OnOk, OnErr, IfSome, IfNone};
 ghost use Rattle.lvl_grid.specs.Winding.{IsRing};
 ghost use Rattle.lvl_names.specs.Shifts.{one_place};
 ghost use Rattle.lvl_cells.specs.Cells.{shape_at};
-ghost use Rattle.lvl_cells.specs.inside.Spans.{GoesOn, HasNumber};
+ghost use Rattle.lvl_cells.specs.inside.Spans.{IsPrefixOf, HasNumber};
 
 use crate::moved::MovedRing;
 use crate::shared::{figure_of_ring, figure_of_rings, move_of, number_of_move};
@@ -70,7 +70,7 @@ pub(crate) fn kept_sum(count: usize, more: usize) -> Result<u32, AllocError>
 /// lattice as the last that was kept.
 fn number_of(kept: &mut Vec<Offsets>, shifts: &Offsets) -> Result<u32, AllocError>
     ensures number { IfOk result (λ number. HasNumber kept.new.items number shifts.now) }
-    ensures before { GoesOn kept.old.items kept.new.items }
+    ensures before { IsPrefixOf kept.old.items kept.new.items }
 {
     if shifts.is_single() {
         return Ok(0);

@@ -1,7 +1,7 @@
 //! Shared figures: rings that are those of the shape before, moved, are kept once.
 ghost use Rattle.std.specs.Prelude.{◌≡◌, ◌<◌, ◌+◌, ◌∷◌, [], length, IsTrue, IfOk, IfSome};
 ghost use Rattle.lvl_grid.specs.Winding.{IsRing};
-ghost use Rattle.lvl_cells.specs.inside.Spans.{displaced, GoesOn, HasMove, IsAgain, IsFigure, IsStretch};
+ghost use Rattle.lvl_cells.specs.inside.Spans.{displaced, IsPrefixOf, HasMove, IsAgain, IsFigure, IsStretch};
 
 use crate::moved::{ORIGIN, moved};
 use crate::shape_lists::{Span, kept_count, kept_sum};
@@ -102,7 +102,7 @@ pub(crate) fn figure_of_ring(
     requires last { IfSome last (λ s. IsStretch rings.old s.now) }
     requires ring { IsRing ring.now }
     ensures figure { IfOk result (λ f. IsFigure rings.new f (ring.now ∷ [])) }
-    ensures before { GoesOn rings.old rings.new }
+    ensures before { IsPrefixOf rings.old rings.new }
 {
     if let Some(last) = last {
         if let Some(figure) = ring_again(rings, last, ring) {
@@ -120,7 +120,7 @@ pub(crate) fn figure_of_rings(
 ) -> Result<KeptFigure, AllocError>
     requires { IfSome last (λ s. IsStretch rings.old s.now) }
     ensures figure { IfOk result (λ f. IsFigure rings.new f figure.now) }
-    ensures before { GoesOn rings.old rings.new }
+    ensures before { IsPrefixOf rings.old rings.new }
 {
     if let Some(last) = last {
         if let Some(again) = rings_again(rings, last, figure) {
@@ -134,7 +134,7 @@ pub(crate) fn figure_of_rings(
 fn keep_ring(rings: &mut Rings, ring: &[Point]) -> Result<KeptFigure, AllocError>
     requires { IsRing ring.now }
     ensures figure { IfOk result (λ f. IsFigure rings.new f (ring.now ∷ [])) }
-    ensures before { GoesOn rings.old rings.new }
+    ensures before { IsPrefixOf rings.old rings.new }
 {
     let begin = kept_count(rings.len())?;
     let end = kept_sum(rings.len(), 1)?;
@@ -149,7 +149,7 @@ fn keep_ring(rings: &mut Rings, ring: &[Point]) -> Result<KeptFigure, AllocError
 /// Keeps several rings, and returns their figure.
 fn keep_rings(rings: &mut Rings, figure: &[Ring]) -> Result<KeptFigure, AllocError>
     ensures figure { IfOk result (λ f. IsFigure rings.new f figure.now) }
-    ensures before { GoesOn rings.old rings.new }
+    ensures before { IsPrefixOf rings.old rings.new }
 {
     let begin = kept_count(rings.len())?;
     let end = kept_sum(rings.len(), figure.len())?;
@@ -176,7 +176,7 @@ pub(crate) fn move_of(moves: &[Point], number: u32) -> Point
 /// kept.
 pub(crate) fn number_of_move(moves: &mut Vec<Point>, by: Point) -> Result<u32, AllocError>
     ensures number { IfOk result (λ number. HasMove moves.new.items number by) }
-    ensures before { GoesOn moves.old.items moves.new.items }
+    ensures before { IsPrefixOf moves.old.items moves.new.items }
 {
     if by == ORIGIN {
         return Ok(0);

@@ -56,7 +56,7 @@ fn has_other_root(alloc: Global, targets: &Targets, root: usize) -> Result<bool,
     Ok(false)
 }
 
-/// The index of the cell of the given name, which is at `place`, or, if none is given, of the only
+/// The index of the cell of the given name, which is `index`, or, if none is given, of the only
 /// cell to which no cell refers. Refuses with [`CellFault::TopMissing`] or [`CellFault::ManyTops`]
 /// if there is no such cell.
 pub(crate) fn top_of(
@@ -65,10 +65,10 @@ pub(crate) fn top_of(
     targets: &Targets,
     order: &[usize],
     given: Option<&[u8]>,
-    place: Option<usize>,
+    index: Option<usize>,
 ) -> Result<usize, Cause<CellFault>>
     requires linked { AreLinked cells.now }
-    requires place { IsPlaceOf (names cells.now) (option_copied given) place }
+    requires index { IsPlaceOf (names cells.now) (option_copied given) index }
     requires targets { AreAllTargets cells.now targets.now }
     requires order { IsOrder cells.now order.now }
     requires some { 0 < length cells.now }
@@ -82,8 +82,8 @@ pub(crate) fn top_of(
         }
         return Ok(root);
     };
-    match place {
-        Some(place) => Ok(place),
+    match index {
+        Some(index) => Ok(index),
         None => Err(Cause::Breach(CellFault::TopMissing)),
     }
 }

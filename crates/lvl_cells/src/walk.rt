@@ -3,7 +3,8 @@
 //! Every cell is new at first, open while it is on the path from a root, and done once all cells
 //! that it refers to are done. A reference to an open cell closes a round: there is a cycle.
 ghost use Rattle.std.specs.Prelude.{◌≡◌, ◌<◌, [], length, vec_len, slice_get, All, Some, IfOk, IfNone, IfSome};
-ghost use Rattle.lvl_cells.specs.inside.Walking.{EachTargetWithin, IsStepFrom, IsWalk, GoesOn, LeadsBack, work_left};
+ghost use Rattle.lvl_cells.specs.inside.Walking.{EachTargetWithin, IsStepFrom, IsWalk, NoneBecomesNew, LeadsBack};
+ghost use Rattle.lvl_cells.specs.inside.Walking.{work_left};
 
 use crate::rows::Targets;
 use std::alloc::AllocError;
@@ -65,7 +66,7 @@ fn advance(
     requires within { EachTargetWithin targets.now (length targets.now) }
     requires going { 0 < vec_len path.old }
     ensures walk { IfOk result (λ _. IsWalk targets.now marks.new path.new.items finished.new.items) }
-    ensures on { IfOk result (λ _. GoesOn marks.old marks.new) }
+    ensures on { IfOk result (λ _. NoneBecomesNew marks.old marks.new) }
     ensures back { IfOk result (λ round. IfSome round (LeadsBack targets.now path.new.items)) }
     ensures nearer { IfOk result (λ round. IfNone round
         (work_left targets.now marks.new path.new.items < work_left targets.now marks.old path.old.items)) }
@@ -112,7 +113,7 @@ pub(crate) fn walk_from(
     requires resting { path.old.items ≡ [] }
     requires new { slice_get marks.old root ≡ Some Mark.New }
     ensures walk { IfOk result (λ _. IsWalk targets.now marks.new path.new.items finished.new.items) }
-    ensures on { IfOk result (λ _. GoesOn marks.old marks.new) }
+    ensures on { IfOk result (λ _. NoneBecomesNew marks.old marks.new) }
     ensures back { IfOk result (λ round. IfSome round (LeadsBack targets.now path.new.items)) }
     ensures resting { IfOk result (λ round. IfNone round (path.new.items ≡ [])) }
     ensures seen { IfOk result (λ _. ¬ (slice_get marks.new root ≡ Some Mark.New)) }

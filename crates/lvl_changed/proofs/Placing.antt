@@ -10,7 +10,7 @@ use Rattle.lvl_grid.specs.Turn.{image_square}
 use Rattle.lvl_grid.proofs.Anyone.{some_contained, Any-left, Any-right, Any-sides, Any-same, Any-map, Any-nil}
 use Rattle.lvl_grid.specs.Winding.{SomeCovers}
 use Rattle.lvl_names.specs.declared.layer.Layer.{Layer}
-use Rattle.lvl_cells.specs.Cells.{PlainCell, PlainReference, Rings, placing, cell_named}
+use Rattle.lvl_cells.specs.Cells.{PlainCell, PlainReference, Rings, map_at, cell_named}
 use Rattle.lvl_cells.specs.Coverage.{CellCovers, PullsBack}
 use Rattle.lvl_flat.specs.Flattened.{CoversAt}
 use Rattle.lvl_flat.specs.inside.Visits.{Pick, picks, PickCovers}
@@ -38,7 +38,7 @@ turned_round p = (p.1, p.0)
 -- a reference at one of its places covers what its cell does there
 pick_at : (cells : List (PlainCell Rings)) (k : ℕ) (c : PlainCell Rings) (r : PlainReference)
     → slice_get cells k ≡ Some c → cell_named cells r.cell ≡ Some c → (e : Point) (l : Layer) (s : Square)
-    → PickCovers cells l s (r, e) ↔ PlacementCovers cells l s (record { cell = k; map = placing r e })
+    → PickCovers cells l s (r, e) ↔ PlacementCovers cells l s (record { cell = k; map = map_at r e })
 pick_at cells k c r at named e l s =
     let P : PlainCell Rings → Type 0 = λ d. PullsBack (CellCovers SomeCovers cells l d) r s e in
     let here = at_some P (cell_named cells r.cell) c named in
@@ -53,7 +53,7 @@ pub reference_at : (cells : List (PlainCell Rings)) (k : ℕ) (c : PlainCell Rin
     → slice_get cells k ≡ Some c → cell_named cells r.cell ≡ Some c → (l : Layer) (s : Square)
     → Any (PickCovers cells l s) (map (λ e. (r, e)) r.shifts) ↔ PlacedCover cells (placed k r) l s
 reference_at cells k c r at named l s =
-    let to : Point → Placement = λ e. record { cell = k; map = placing r e } in
+    let to : Point → Placement = λ e. record { cell = k; map = map_at r e } in
     let pick : Point → Pick = λ e. (r, e) in
     both_ways (Any-map (PickCovers cells l s) pick r.shifts)
     (both_ways (Any-same (λ e. PickCovers cells l s (pick e)) (λ e. PlacementCovers cells l s (to e)) r.shifts
@@ -97,14 +97,14 @@ placement_none pairs ours theirs k f m all none found has l s out u =
 -- the same at all places of a reference
 places_alike : (pairs : List LayerPair) (ours theirs : List (PlainCell Rings)) (k n : ℕ) (f : Found)
     (r : PlainReference) (all : Windows) → f.partner ≡ Some n → IsFound pairs ours theirs k f
-    → ((e : Point) → Contains r.shifts e → HasPlaced (placing r e) f.windows all)
+    → ((e : Point) → Contains r.shifts e → HasPlaced (map_at r e) f.windows all)
     → AlikeOutside all (PlacedCover ours (placed k r)) (IsMoved pairs (PlacedCover theirs (placed n r)))
 places_alike pairs ours theirs k n f r all partner found has l s out =
-    let mine : Point → Placement = λ e. record { cell = k; map = placing r e } in
-    let other : Point → Placement = λ e. record { cell = n; map = placing r e } in
+    let mine : Point → Placement = λ e. record { cell = k; map = map_at r e } in
+    let other : Point → Placement = λ e. record { cell = n; map = map_at r e } in
     let each : (e : Point) → Contains r.shifts e
     → PlacementCovers ours l s (mine e) ↔ IsMoved pairs (λ j q. PlacementCovers theirs j q (other e)) l s =
-    λ e there. placement_alike pairs ours theirs k n f (placing r e) all partner found (has e there) l s out in (
+    λ e there. placement_alike pairs ours theirs k n f (map_at r e) all partner found (has e there) l s out in (
       λ a.
           let at = (Any-map (PlacementCovers ours l s) mine r.shifts).0 a in
           let there : Contains r.shifts at.1 = (at.0, at.2, at.3) in
@@ -123,13 +123,13 @@ places_alike pairs ours theirs k n f r all partner found has l s out =
 
 places_none : (pairs : List LayerPair) (ours theirs : List (PlainCell Rings)) (k : ℕ) (f : Found)
     (r : PlainReference) (all : Windows) → f.partner ≡ None → IsFound pairs ours theirs k f
-    → ((e : Point) → Contains r.shifts e → HasPlaced (placing r e) f.windows all)
+    → ((e : Point) → Contains r.shifts e → HasPlaced (map_at r e) f.windows all)
     → AlikeOutside all (PlacedCover ours (placed k r)) (IsMoved pairs (PlacedCover theirs []))
 places_none pairs ours theirs k f r all none found has l s out =
-    let mine : Point → Placement = λ e. record { cell = k; map = placing r e } in (
+    let mine : Point → Placement = λ e. record { cell = k; map = map_at r e } in (
       λ a.
           let at = (Any-map (PlacementCovers ours l s) mine r.shifts).0 a in
-          absurd (placement_none pairs ours theirs k f (placing r at.1) all none found
+          absurd (placement_none pairs ours theirs k f (map_at r at.1) all none found
           (has at.1 (at.0, at.2, at.3)) l s out at.4),
       λ moved. absurd (Any-nil (PlacementCovers theirs moved.source s) moved.covers),
     )
@@ -137,7 +137,7 @@ places_none pairs ours theirs k f r all none found has l s out =
 -- whether there is a partner or not
 partner_alike : (pairs : List LayerPair) (ours theirs : List (PlainCell Rings)) (k : ℕ) (f : Found)
     (r : PlainReference) (all : Windows) (o : Option ℕ) → f.partner ≡ o → IsFound pairs ours theirs k f
-    → ((e : Point) → Contains r.shifts e → HasPlaced (placing r e) f.windows all)
+    → ((e : Point) → Contains r.shifts e → HasPlaced (map_at r e) f.windows all)
     → AlikeOutside all (PlacedCover ours (placed k r)) (IsMoved pairs (PlacedCover theirs (partner_placed o r)))
 partner_alike pairs ours theirs k f r all None is found has =
     places_none pairs ours theirs k f r all is found has
@@ -185,7 +185,7 @@ placed_more cells ps qs l s =
 pub partners_more : (pairs : List LayerPair) (ours theirs : List (PlainCell Rings)) (rs : List PlainReference)
     (ps : List Placement) (j k : ℕ) (r : PlainReference) (c : PlainCell Rings) (f : Found) (all : Windows)
     → slice_get ours k ≡ Some c → cell_named ours r.cell ≡ Some c → j < length rs → r ≡ get_or rs j r
-    → IsFound pairs ours theirs k f → ((e : Point) → Contains r.shifts e → HasPlaced (placing r e) f.windows all)
+    → IsFound pairs ours theirs k f → ((e : Point) → Contains r.shifts e → HasPlaced (map_at r e) f.windows all)
     → AlikeOutside all (ReferencesCover ours (take j rs)) (IsMoved pairs (PlacedCover theirs ps))
     → AlikeOutside all (ReferencesCover ours (take (j + 1) rs))
     (IsMoved pairs (PlacedCover theirs (ps ++ partner_placed f.partner r)))

@@ -5,12 +5,12 @@ use Rattle.std.proofs.lemmas.Bool.{cases_Bool}
 use Rattle.std.proofs.lemmas.Int.{ints}
 use Rattle.lvl_grid.specs.declared.point.Square.{Square}
 use Rattle.lvl_grid.specs.declared.point.Window.{Window}
-use Rattle.lvl_grid.specs.Clip.{IsWithin}
+use Rattle.lvl_grid.specs.Clip.{IsInWindow}
 use Rattle.lvl_grid.proofs.Anyone.{Any-head, Any-nil, Any-tail, Any-uncons}
 use Rattle.lvl_columns.specs.Windows.{IsShown}
 use Rattle.lvl_compare.specs.Parts.{IsSeenIn, SomeHas}
 use Rattle.lvl_compare.specs.Tops.{Draws, DrawSame, IsFirstDifference}
-use Rattle.lvl_compare.specs.inside.Strips.{Found}
+use Rattle.lvl_compare.specs.inside.Strips.{Difference}
 use Rattle.lvl_compare.proofs.Finding.{not_below}
 use Rattle.lvl_changed.specs.Changed.{IsOutside}
 
@@ -18,7 +18,7 @@ below : (a b : ℤ) → int_lt a b ≡ true → a <ℤ b
 below a b h = grind (arith, ints, h)
 
 -- a window has a square, or it doesn't
-within_or_not : (w : Window) (s : Square) → IsWithin w s ⊎ (IsWithin w s → ⊥)
+within_or_not : (w : Window) (s : Square) → IsInWindow w s ⊎ (IsInWindow w s → ⊥)
 within_or_not w s =
     elim (cases_Bool (int_lt s.x w.x0)) [
       | inl left ↦ inr (λ h. omega (arith, ints, h.x_from, below s.x w.x0 left))
@@ -45,9 +45,9 @@ within_or_not w s =
     ]
 
 has_or_not : (ws : List Window) (s : Square) → SomeHas ws s ⊎ (SomeHas ws s → ⊥)
-has_or_not [] s = inr (λ a. Any-nil (λ w. IsWithin w s) a)
+has_or_not [] s = inr (λ a. Any-nil (λ w. IsInWindow w s) a)
 has_or_not (w ∷ ws) s =
-    let P : Window → Type 0 = λ v. IsWithin v s in
+    let P : Window → Type 0 = λ v. IsInWindow v s in
     elim (within_or_not w s) [
       | inl h ↦ inl (Any-head P w ws h)
       | inr here ↦
@@ -63,14 +63,14 @@ both_parts : (ws : List Window) (s : Square) (A B : Type 0) → ((IsOutside ws s
 both_parts ws s A B out within = elim (has_or_not ws s) [ inl a ↦ within a | inr none ↦ out none ]
 
 -- what is found in the windows is what is found among all squares that are compared
-pub seen_same : (a b : Draws) (v : Option Window) (ws : List Window) (found : Option Found)
+pub seen_same : (a b : Draws) (v : Option Window) (ws : List Window) (found : Option Difference)
     → DrawSame (IsOutside ws) a b → IfNone found (DrawSame (IsSeenIn v ws) a b)
     → IfNone found (DrawSame (IsShown v) a b)
 seen_same a b v ws None out same =
     λ l s seen. both_parts ws s (a l s) (b l s) (out l s) (λ has. same l s (seen, has))
 seen_same a b v ws (Some at) out same = tt
 
-pub seen_apart : (a b : Draws) (v : Option Window) (ws : List Window) (found : Option Found)
+pub seen_apart : (a b : Draws) (v : Option Window) (ws : List Window) (found : Option Difference)
     → DrawSame (IsOutside ws) a b → IfSome found (λ at. IsFirstDifference (IsSeenIn v ws) a b at.0 at.1 at.2)
     → IfSome found (λ at. IsFirstDifference (IsShown v) a b at.0 at.1 at.2)
 seen_apart a b v ws None out differ = tt

@@ -2,7 +2,7 @@
 use Rattle.std.proofs.Common.{◌≡◌, ◌↔◌, List, [], refl, subst}
 use Rattle.lvl_grid.specs.declared.point.Square.{Square}
 use Rattle.lvl_grid.specs.declared.point.Window.{Window}
-use Rattle.lvl_grid.specs.Clip.{IsWithin}
+use Rattle.lvl_grid.specs.Clip.{IsInWindow}
 use Rattle.lvl_grid.proofs.Anyone.{Any-nil}
 use Rattle.lvl_names.specs.declared.layer.Layer.{Layer}
 use Rattle.lvl_view.specs.Moved.{IsMoved}
@@ -22,7 +22,7 @@ moved_none pairs none Q l s = (
 pub same_everywhere : (pairs : List LayerPair) (windows : List Window) (a b : Draws) → pairs ≡ [] → windows ≡ []
     → DrawSame (IsOutside windows) a (IsMoved pairs b) → (l : Layer) (s : Square) → a l s ↔ b l s
 same_everywhere pairs windows a b none empty h l s =
-    let outside : IsOutside windows s = rw empty (λ any. Any-nil (λ w. IsWithin w s) any) in
+    let outside : IsOutside windows s = rw empty (λ any. Any-nil (λ w. IsInWindow w s) any) in
     let same = h l s outside in
     let moved = moved_none pairs none b l s in
     (λ x. moved.0 (same.0 x), λ x. same.1 (moved.1 x))

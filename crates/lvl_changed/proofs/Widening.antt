@@ -13,10 +13,10 @@ use Rattle.lvl_grid.specs.declared.point.Window.{Window}
 use Rattle.lvl_grid.specs.declared.map.Map.{Map}
 use Rattle.lvl_grid.specs.declared.map.Turn.{Turn}
 use Rattle.lvl_grid.specs.declared.map.Turn.TheVariants.{R0, R90, R180, R270}
-use Rattle.lvl_grid.specs.Clip.{IsWithin}
+use Rattle.lvl_grid.specs.Clip.{IsInWindow}
 use Rattle.lvl_grid.specs.Turn.{image, image_square}
 use Rattle.lvl_grid.proofs.Anyone.{some_contained, Any-left, Any-push, Any-uncons}
-use Rattle.lvl_cells.specs.Cells.{PlainReference, placing}
+use Rattle.lvl_cells.specs.Cells.{PlainReference, map_at}
 use Rattle.lvl_flat.specs.Placing.{IsPlacing}
 use Rattle.lvl_compare.specs.Parts.{SomeHas}
 use Rattle.lvl_compare.proofs.InStrips.{hull, hull_first, hull_second}
@@ -34,9 +34,9 @@ placed_window m w =
 
 abbrev Placed : Bool → Turn → Point → Window → Square → Type 0
 Placed f t at w s =
-    let m : Map = record { flip = f; turn = t; at = at } in IsWithin (placed_window m w) (image_square m s)
+    let m : Map = record { flip = f; turn = t; at = at } in IsInWindow (placed_window m w) (image_square m s)
 
-placed_turned : (f : Bool) (t : Turn) (at : Point) (w : Window) (s : Square) → IsWithin w s → Placed f t at w s
+placed_turned : (f : Bool) (t : Turn) (at : Point) (w : Window) (s : Square) → IsInWindow w s → Placed f t at w s
 placed_turned false R0 at w s h = record {
   x_from = omega (arith, ints, clamps, h.x_from, h.x_below);
   x_below = omega (arith, ints, clamps, h.x_from, h.x_below);
@@ -87,7 +87,8 @@ placed_turned true R270 at w s h = record {
 }
 
 -- it has the images of the window's squares
-pub placed_has : (m : Map) (w : Window) (s : Square) → IsWithin w s → IsWithin (placed_window m w) (image_square m s)
+pub placed_has : (m : Map) (w : Window) (s : Square) → IsInWindow w s
+    → IsInWindow (placed_window m w) (image_square m s)
 placed_has m w s h = placed_turned m.flip m.turn m.at w s h
 
 flag_is : (from to : Windows) → to.anywhere ≡ from.anywhere → IsTrue from.anywhere → IsTrue to.anywhere
@@ -96,7 +97,7 @@ flag_is from to flag any = subst IsTrue (sym flag) any
 -- and so has the window joined from the two images
 pub joined_placed : (m : Map) (w a b j : Window) (p q low high : Point) → p ≡ record { x = w.x0; y = w.y0 }
     → q ≡ record { x = w.x1; y = w.y1 } → low ≡ image m p → high ≡ image m q → a ≡ at_point low → b ≡ at_point high
-    → j ≡ hull a b → (s : Square) → IsWithin w s → IsWithin j (image_square m s)
+    → j ≡ hull a b → (s : Square) → IsInWindow w s → IsInWindow j (image_square m s)
 joined_placed m w a b j p q low high from to placed_from placed_to first second is s h =
     let one : Point = record { x = w.x0; y = w.y0 } in
     let other : Point = record { x = w.x1; y = w.y1 } in
@@ -104,20 +105,20 @@ joined_placed m w a b j p q low high from to placed_from placed_to first second 
     let right : b ≡ at_point (image m other) = second ∙ ap at_point (placed_to ∙ ap (image m) to) in
     let whole : j ≡ placed_window m w =
     is ∙ (ap (λ u. hull u b) left ∙ ap (hull (at_point (image m one))) right) in
-    subst (λ (u : Window). IsWithin u (image_square m s)) (sym whole) (placed_has m w s h)
+    subst (λ (u : Window). IsInWindow u (image_square m s)) (sym whole) (placed_has m w s h)
 
 -- with the image of one more window
 pub placed_more : (m : Map) (ws xs : List Window) (i : ℕ) (none : Window) (old new : Windows) → xs ≡ ws → i < length xs
     → ((s : Square) → SomeHas (take i ws) s → Has old (image_square m s))
-    → ((s : Square) → IsWithin (get_or xs i none) s → Has new (image_square m s)) → Widens old new → (s : Square)
+    → ((s : Square) → IsInWindow (get_or xs i none) s → Has new (image_square m s)) → Widens old new → (s : Square)
     → SomeHas (take (i + 1) ws) s → Has new (image_square m s)
 placed_more m ws xs i none old new is low before here wide s any =
-    let P : Window → Type 0 = λ w. IsWithin w s in
+    let P : Window → Type 0 = λ w. IsInWindow w s in
     let more : take (i + 1) ws ≡ take i ws ++ get_or ws i none ∷ [] =
     take_more ws i none (subst (λ (us : List Window). i < length us) is low) in
     elim ((Any-push P (take i ws) (get_or ws i none)).0 (subst (λ us. Any P us) more any)) [
       | inl a ↦ wide.has (image_square m s) (before s a)
-      | inr h ↦ here s (subst (λ (us : List Window). IsWithin (get_or us i none) s) (sym is) h)
+      | inr h ↦ here s (subst (λ (us : List Window). IsInWindow (get_or us i none) s) (sym is) h)
     ]
 
 -- and with all of them
@@ -131,12 +132,12 @@ all_placed m held all xs i flag is long has = record { has = each }
     each s (inr a) =
         let whole : take i held.list.items ≡ held.list.items =
         take_all i held.list.items (subst (λ (us : List Window). length us ≤ i) is long) in
-        has s (subst (λ us. Any (λ w. IsWithin w s) us) (sym whole) a)
+        has s (subst (λ us. Any (λ w. IsInWindow w s) us) (sym whole) a)
 
 -- with one more place of a reference
 pub places_more : (r : PlainReference) (k : ℕ) (m : Map) (held old new : Windows) → IsPlacing r k m
-    → ((e : Point) → Contains (take k r.shifts) e → HasPlaced (placing r e) held old) → HasPlaced m held new
-    → Widens old new → (e : Point) → Contains (take (k + 1) r.shifts) e → HasPlaced (placing r e) held new
+    → ((e : Point) → Contains (take k r.shifts) e → HasPlaced (map_at r e) held old) → HasPlaced m held new
+    → Widens old new → (e : Point) → Contains (take (k + 1) r.shifts) e → HasPlaced (map_at r e) held new
 places_more r k m held old new at before here wide e there =
     let low : k < length r.shifts = slice_get_within r.shifts k at.shift at.there in
     let is : get_or r.shifts k at.shift ≡ at.shift = get_or_from_slice_get r.shifts k at.shift at.shift at.there in
@@ -145,9 +146,9 @@ places_more r k m held old new at before here wide e there =
     elim (Contains-push_cases (take k r.shifts) at.shift e (subst (λ es. Contains es e) more there)) [
       | inl earlier ↦
           let had = before e earlier in
-          record { has = λ s h. wide.has (image_square (placing r e) s) (had.has s h) }
+          record { has = λ s h. wide.has (image_square (map_at r e) s) (had.has s h) }
       | inr this ↦
-          subst (λ (q : Point). HasPlaced (placing r q) held new) this
+          subst (λ (q : Point). HasPlaced (map_at r q) held new) this
           (subst (λ (n : Map). HasPlaced n held new) at.map_is here)
     ]
 
@@ -155,30 +156,30 @@ places_more r k m held old new at before here wide e there =
 pub joined_has : (from to : Windows) (whole other next : Window) (i : ℕ) → i < length from.list.items
     → other ≡ get_or from.list.items i other → to.anywhere ≡ from.anywhere
     → to.list.items ≡ swap_remove from.list.items i other → next ≡ hull whole other → (s : Square)
-    → Has from s ⊎ IsWithin whole s → Has to s ⊎ IsWithin next s
+    → Has from s ⊎ IsInWindow whole s → Has to s ⊎ IsInWindow next s
 joined_has from to whole other next i low at flag left is s (inl (inl any)) = inl (inl (flag_is from to flag any))
 joined_has from to whole other next i low at flag left is s (inl (inr a)) =
-    let P : Window → Type 0 = λ w. IsWithin w s in
+    let P : Window → Type 0 = λ w. IsInWindow w s in
     let all = IsPermutation-swap_remove from.list.items i other low at in
     let there : Any P (other ∷ swap_remove from.list.items i other) =
     some_contained P (other ∷ swap_remove from.list.items i other) a.1
     (Contains-permutation from.list.items (other ∷ swap_remove from.list.items i other) a.1 all (a.0, a.2, a.3)) a.4 in
     elim (Any-uncons P other (swap_remove from.list.items i other) there) [
-      | inl h ↦ inr (subst (λ (w : Window). IsWithin w s) (sym is) (hull_second whole other s h))
+      | inl h ↦ inr (subst (λ (w : Window). IsInWindow w s) (sym is) (hull_second whole other s h))
       | inr h ↦ inl (inr (subst (λ ws. Any P ws) (sym left) h))
     ]
 joined_has from to whole other next i low at flag left is s (inr h) =
-    inr (subst (λ (w : Window). IsWithin w s) (sym is) (hull_first whole other s h))
+    inr (subst (λ (w : Window). IsInWindow w s) (sym is) (hull_first whole other s h))
 
 -- the window is added
 pub added_has : (from to : Windows) (whole : Window) → to.anywhere ≡ from.anywhere
-    → to.list.items ≡ from.list.items ++ whole ∷ [] → (s : Square) → Has from s ⊎ IsWithin whole s → Has to s
+    → to.list.items ≡ from.list.items ++ whole ∷ [] → (s : Square) → Has from s ⊎ IsInWindow whole s → Has to s
 added_has from to whole flag more s (inl (inl any)) = inl (flag_is from to flag any)
 added_has from to whole flag more s (inl (inr a)) =
-    let P : Window → Type 0 = λ w. IsWithin w s in
+    let P : Window → Type 0 = λ w. IsInWindow w s in
     inr (subst (λ ws. Any P ws) (sym more) (Any-left P from.list.items (whole ∷ []) a))
 added_has from to whole flag more s (inr h) =
-    let P : Window → Type 0 = λ w. IsWithin w s in
+    let P : Window → Type 0 = λ w. IsInWindow w s in
     inr (subst (λ ws. Any P ws) (sym more) ((Any-push P from.list.items whole).1 (inr h)))
 
 pub widens_itself : (a : Windows) → Widens a a

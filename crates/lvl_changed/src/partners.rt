@@ -82,9 +82,9 @@ fn add_places(checked: &Checked, cell: usize, times: &mut [u64])
     requires long { length times.old ≡ length checked.now.cells }
 {
     let here = times[cell];
-    let place = &checked.cells()[cell];
-    for j in 0..place.references.len() {
-        let reference = place.references.reference(j);
+    let parent = &checked.cells()[cell];
+    for j in 0..parent.references.len() {
+        let reference = parent.references.reference(j);
         if let Some(target) = checked.target(cell, j) {
             if target < times.len() {
                 let more = here.saturating_mul(reference.shifts().len());

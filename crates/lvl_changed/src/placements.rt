@@ -68,9 +68,9 @@ pub(crate) fn placements_of(
         ↔ ReferencesCover checked.now.cells c.references layer s)) }
 {
     let mut placements = Vec::new(alloc);
-    let place = &checked.cells()[cell];
-    for j in 0..place.references.len() {
-        let reference = place.references.reference(j);
+    let parent = &checked.cells()[cell];
+    for j in 0..parent.references.len() {
+        let reference = parent.references.reference(j);
         let Some(target) = checked.target(cell, j) else {
             unreachable!()
         };

@@ -1,7 +1,7 @@
 //! Where the references of two cells may cover different squares.
 ghost use Rattle.std.specs.Prelude.{◌≡◌, ◌++◌, ◌<◌, length, Contains, List, Some, IfOk, IfSome, OnOk, slice_get};
 ghost use Rattle.lvl_grid.specs.declared.point.Point.{Point};
-ghost use Rattle.lvl_cells.specs.Cells.{PlainCell, Rings, placing};
+ghost use Rattle.lvl_cells.specs.Cells.{PlainCell, Rings, map_at};
 ghost use Rattle.lvl_view.specs.declared.map.LayerPair.{LayerPair};
 ghost use Rattle.lvl_view.specs.Moved.{IsMoved};
 ghost use Rattle.lvl_changed.specs.inside.Windows.{AlikeOutside, HasPlaced, Widens};
@@ -26,7 +26,7 @@ fn place_partner(
     ensures placed { OnOk result
         (placements.new.items ≡ placements.old.items ++ partner_placed found.now.partner reference.now) }
     ensures held { OnOk result ((e : Point) → Contains reference.now.shifts e
-        → HasPlaced (placing reference.now e) found.now.windows windows.new) }
+        → HasPlaced (map_at reference.now e) found.now.windows windows.new) }
     ensures kept { OnOk result (Widens windows.old windows.new) }
 {
     windows.hold_places(&found.windows, reference)?;
@@ -55,9 +55,9 @@ fn partners_placed(
     ensures kept { OnOk result (Widens windows.old windows.new) }
 {
     let mut placements = Vec::new(alloc);
-    let place = &checked.cells()[cell];
-    for j in 0..place.references.len() {
-        let reference = place.references.reference(j);
+    let parent = &checked.cells()[cell];
+    for j in 0..parent.references.len() {
+        let reference = parent.references.reference(j);
         let Some(target) = checked.target(cell, j) else {
             unreachable!()
         };

@@ -1,7 +1,7 @@
 //! Where two lists of rings may cover different squares.
 ghost use Rattle.std.specs.Prelude.{◌≡◌, ◌↔◌, Contains, IsTrue, OnOk};
 ghost use Rattle.lvl_grid.specs.declared.point.Square.{Square};
-ghost use Rattle.lvl_grid.specs.Clip.{IsWithin};
+ghost use Rattle.lvl_grid.specs.Clip.{IsInWindow};
 ghost use Rattle.lvl_grid.specs.Winding.{Covers, SomeCovers};
 ghost use Rattle.lvl_changed.specs.inside.Windows.{Has, Widens};
 
@@ -13,7 +13,7 @@ use std::cmp::Ordering;
 
 /// A window that has all squares that the ring covers.
 fn box_of(ring: &[Point]) -> Window
-    ensures { (s : Square) → Covers ring.now s → IsWithin result s }
+    ensures { (s : Square) → Covers ring.now s → IsInWindow result s }
 {
     let mut held = Window {
         x0: i64::MAX,

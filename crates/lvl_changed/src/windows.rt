@@ -2,10 +2,10 @@
 ghost use Rattle.std.specs.Prelude.{◌≡◌, ◌<◌, IsTrue, IfSome, OnOk, Contains, vec_len};
 ghost use Rattle.lvl_grid.specs.declared.point.Point.{Point as GridPoint};
 ghost use Rattle.lvl_grid.specs.declared.point.Square.{Square};
-ghost use Rattle.lvl_grid.specs.Clip.{IsWithin};
+ghost use Rattle.lvl_grid.specs.Clip.{IsInWindow};
 ghost use Rattle.lvl_grid.specs.Turn.{image_square};
 ghost use Rattle.lvl_names.specs.declared.layer.Layer.{Layer};
-ghost use Rattle.lvl_cells.specs.Cells.{placing};
+ghost use Rattle.lvl_cells.specs.Cells.{map_at};
 ghost use Rattle.lvl_flat.specs.Flattened.{CoversAt};
 ghost use Rattle.lvl_compare.specs.Parts.{SomeHas};
 ghost use Rattle.lvl_changed.specs.inside.Windows.{Has, HasPlaced, Widens};
@@ -32,7 +32,7 @@ fn meet(first: Window, second: Window) -> bool {
 
 /// Whether the window has no squares.
 fn has_no_square(window: Window) -> bool
-    ensures { IsTrue result → (s : Square) → ¬ IsWithin window s }
+    ensures { IsTrue result → (s : Square) → ¬ IsInWindow window s }
 {
     window.x0 >= window.x1 || window.y0 >= window.y1
 }
@@ -78,7 +78,7 @@ fn high_corner(window: &Window) -> Point
 /// The image of a window, or None if a corner of it is outside 64 signed bits.
 fn placed(window: &Window, map: &Map) -> Option<Window>
     ensures { IfSome result
-        (λ placed. (s : Square) → IsWithin window.now s → IsWithin placed (image_square map.now s)) }
+        (λ placed. (s : Square) → IsInWindow window.now s → IsInWindow placed (image_square map.now s)) }
 {
     let low = map.place(low_corner(window))?;
     let high = map.place(high_corner(window))?;
@@ -156,7 +156,7 @@ impl Windows {
     /// Adds a window, unless it has no squares. It is joined with windows that share a square with
     /// it.
     pub(crate) fn hold(&mut self, window: Window) -> Result<(), AllocError>
-        ensures held { OnOk result ((s : Square) → IsWithin window s → Has self.new s) }
+        ensures held { OnOk result ((s : Square) → IsInWindow window s → Has self.new s) }
         ensures kept { OnOk result (Widens self.old self.new) }
     {
         if has_no_square(window) {
@@ -174,7 +174,7 @@ impl Windows {
     /// Adds the image of a window.
     fn hold_placed(&mut self, window: &Window, map: &Map) -> Result<(), AllocError>
         ensures held { OnOk result
-            ((s : Square) → IsWithin window.now s → Has self.new (image_square map.now s)) }
+            ((s : Square) → IsInWindow window.now s → Has self.new (image_square map.now s)) }
         ensures kept { OnOk result (Widens self.old self.new) }
     {
         match placed(window, map) {
@@ -208,7 +208,7 @@ impl Windows {
         reference: &KeptReference<'_>,
     ) -> Result<(), AllocError>
         ensures held { OnOk result ((e : GridPoint) → Contains reference.now.shifts e
-            → HasPlaced (placing reference.now e) held.now self.new) }
+            → HasPlaced (map_at reference.now e) held.now self.new) }
         ensures kept { OnOk result (Widens self.old self.new) }
     {
         if held.is_empty() {

@@ -13,7 +13,7 @@ use Rattle.lvl_region.specs.declared.region.Side.{Side}
 use Rattle.lvl_region.specs.declared.region.Side.TheVariants.{First, Second}
 use Rattle.lvl_sweep.specs.Ahead.{IsUpTo}
 use Rattle.lvl_columns.specs.declared.columns.Column.{Column}
-use Rattle.lvl_columns.specs.Columns.{Lists, Found, lists_of, Agree, Differ, NotBefore, IsFoundIn, IsFirst, CoversAs}
+use Rattle.lvl_columns.specs.Columns.{Lists, Outcome, lists_of, Agree, Differ, NotBefore, IsFoundIn, IsFirst, CoversAs}
 use Rattle.lvl_columns.specs.Columns.{IsTrueTo, IsOpen, IsPartOf, AreHalvesAt, last_row}
 
 all_but_last : {X : Type 0} (P : X → Type 0) (xs : List X) (x : X) → All P (xs ++ x ∷ []) → All P xs
@@ -36,7 +36,7 @@ true_part P whole l part h t s First a = let p = (h s).0.0 a.0 in t s First (p.1
 true_part P whole l part h t s Second a = let p = (h s).1.0 a.0 in t s Second (p.1, λ q. a.1 ((h s).0.1 (p.0, q)))
 
 -- a column is replaced by its parts left and right of an abscissa
-pub open_by_parts : (whole : Lists) (xs : List Lists) (c l r : Lists) (at : ℤ) (found : Found)
+pub open_by_parts : (whole : Lists) (xs : List Lists) (c l r : Lists) (at : ℤ) (found : Outcome)
     → IsPartOf (λ s. s.x <ℤ at) c l → IsPartOf (λ s. at ≤ℤ s.x) c r
     → IsOpen whole (xs ++ c ∷ []) found → IsOpen whole ((xs ++ r ∷ []) ++ l ∷ []) found
 open_by_parts whole xs c l r at found hl hr reported =
@@ -67,7 +67,7 @@ open_by_parts whole xs c l r at found hl hr reported =
 
 -- a column is replaced by its halves
 pub open_by_halves : (whole : Lists) (xs : List Lists) (f g : List (List Point)) (left right : Column) (at : ℤ)
-    (found : Found) → AreHalvesAt at f g left right
+    (found : Outcome) → AreHalvesAt at f g left right
     → IsOpen whole (xs ++ (f, g) ∷ []) found → IsOpen whole ((xs ++ lists_of right ∷ []) ++ lists_of left ∷ []) found
 open_by_halves whole xs f g left right at found halves =
     open_by_parts whole xs (f, g) (lists_of left) (lists_of right) at found
@@ -81,11 +81,11 @@ one_more others xs c =
     ∙ sym (append_assoc others (map lists_of xs) (lists_of c ∷ []))
 
 -- what a sweep up to the row of an earlier difference says of a column
-pub record IsFoundUpTo (l : Lists) (best found : Found) : Type 0 where
+pub record IsFoundUpTo (l : Lists) (best found : Outcome) : Type 0 where
   pub alone : IsFoundIn l found
   pub least : (s : Square) → Agree l s ⊎ (NotBefore s best ⊎ NotBefore s found)
 
-found_alone : (whole l : Lists) (found : Found) → IsTrueTo whole l → IsFoundIn l found → IsFoundIn whole found
+found_alone : (whole l : Lists) (found : Outcome) → IsTrueTo whole l → IsFoundIn l found → IsFoundIn whole found
 found_alone whole l None t h = tt
 found_alone whole l (Some at) t h = t at.0 at.1 h
 
@@ -98,7 +98,7 @@ true_as whole l same s First a = ((same s).0.0 a.0, λ b. a.1 ((same s).1.1 b))
 true_as whole l same s Second a = ((same s).1.0 a.0, λ b. a.1 ((same s).0.1 b))
 
 -- a column that was compared is done
-pub open_by_one : (whole : Lists) (xs : List Lists) (c : Lists) (best found result : Found) → IsFoundUpTo c best found
+pub open_by_one : (whole : Lists) (xs : List Lists) (c : Lists) (best found result : Outcome) → IsFoundUpTo c best found
     → ((result ≡ best) ⊎ (result ≡ found))
     → ((s : Square) → (NotBefore s best ⊎ NotBefore s found) → NotBefore s result) → IsOpen whole (xs ++ c ∷ []) best
     → IsOpen whole xs result
@@ -124,7 +124,7 @@ open_by_one whole xs c best found result up one bound reported =
     }
 
 -- a column whose lists cover the same squares is done
-pub open_by_none : (whole : Lists) (xs : List Lists) (f g : List (List Point)) (best : Found)
+pub open_by_none : (whole : Lists) (xs : List Lists) (f g : List (List Point)) (best : Outcome)
     → ((s : Square) → SomeCovers f s ↔ SomeCovers g s) → IsOpen whole (xs ++ (f, g) ∷ []) best → IsOpen whole xs best
 open_by_none whole xs f g best same reported =
     open_by_one whole xs (f, g) best None best (record { alone = tt; least = λ s. inl (same s) }) (inl refl)
@@ -141,7 +141,7 @@ open_at_first f g =
     }
 
 -- at the end no column is left
-pub first_at_last : (whole : Lists) (found : Found) → IsOpen whole [] found → IsFirst whole found
+pub first_at_last : (whole : Lists) (found : Outcome) → IsOpen whole [] found → IsFirst whole found
 first_at_last whole found reported = record {
   alone = reported.alone;
   least =
@@ -166,7 +166,7 @@ before_or_not s t =
       | inr m ↦ absurd (let n = m.1 in omega (arith, ints, n, d))
     ]))))
 
-above_or_up_to : (s : Square) (best : Found) → NotBefore s best ⊎ IsUpTo (last_row best) s.y
+above_or_up_to : (s : Square) (best : Outcome) → NotBefore s best ⊎ IsUpTo (last_row best) s.y
 above_or_up_to s None = inr tt
 above_or_up_to s (Some at) =
     by_lt_z at.0.y s.y
@@ -177,7 +177,7 @@ above_or_up_to s (Some at) =
     ])) (λ h. inr h)
 
 -- the clauses of a sweep up to the row of what was found before
-pub found_up_to : (f g : List (List Point)) (best found : Found)
+pub found_up_to : (f g : List (List Point)) (best found : Outcome)
     → IfNone found ((s : Square) → IsUpTo (last_row best) s.y → SomeCovers f s ↔ SomeCovers g s)
     → IfSome found (λ at. Differ (f, g) at.0 at.1)
     → IfSome found (λ at. (s : Square) → IsBefore s at.0 → SomeCovers f s ↔ SomeCovers g s)
@@ -192,30 +192,30 @@ found_up_to f g best (Some at) same differ least = record {
 }
 
 -- the least square, as the contract of a comparison says it
-pub first_same : (f g : List (List Point)) (found : Found) → IsFirst (f, g) found
+pub first_same : (f g : List (List Point)) (found : Outcome) → IsFirst (f, g) found
     → IfNone found ((s : Square) → SomeCovers f s ↔ SomeCovers g s)
 first_same f g None h = λ s. elim (h.least s) [ inl a ↦ a | inr n ↦ absurd n ]
 first_same f g (Some at) h = tt
 
-pub first_differ : (f g : List (List Point)) (found : Found) → IsFirst (f, g) found
+pub first_differ : (f g : List (List Point)) (found : Outcome) → IsFirst (f, g) found
     → IfSome found (λ at. Differ (f, g) at.0 at.1)
 first_differ f g None h = tt
 first_differ f g (Some at) h = h.alone
 
-pub first_least : (f g : List (List Point)) (found : Found) → IsFirst (f, g) found
+pub first_least : (f g : List (List Point)) (found : Outcome) → IsFirst (f, g) found
     → IfSome found (λ at. (s : Square) → IsBefore s at.0 → SomeCovers f s ↔ SomeCovers g s)
 first_least f g None h = tt
 first_least f g (Some at) h = λ s b. elim (h.least s) [ inl a ↦ a | inr n ↦ absurd (n b) ]
 
 -- a sweep of all rows finds the least square
-pub first_of_sweep : (f g : List (List Point)) (found : Found) → IsFoundUpTo (f, g) None found → IsFirst (f, g) found
+pub first_of_sweep : (f g : List (List Point)) (found : Outcome) → IsFoundUpTo (f, g) None found → IsFirst (f, g) found
 first_of_sweep f g found h = record {
   alone = h.alone;
   least = λ s. elim (h.least s) [ inl a ↦ inl a | inr n ↦ elim n [ inl none ↦ absurd none | inr m ↦ inr m ] ];
 }
 
 -- lists that cover the same squares have the same least difference
-pub first_as : (whole l : Lists) (found : Found) → ((s : Square) → CoversAs whole s l) → IsFirst l found
+pub first_as : (whole l : Lists) (found : Outcome) → ((s : Square) → CoversAs whole s l) → IsFirst l found
     → IsFirst whole found
 first_as whole l found same h = record {
   alone = found_alone whole l found (true_as whole l same) h.alone;

@@ -15,8 +15,8 @@ abbrev pub Lists : Type 0
 Lists = List (List Point) × List (List Point)
 
 -- what a comparison found: a square that only one list covers, with its side, or nothing
-abbrev pub Found : Type 0
-Found = Option (Square × Side)
+abbrev pub Outcome : Type 0
+Outcome = Option (Square × Side)
 
 -- the lists of a column
 abbrev pub lists_of : Column → Lists
@@ -31,17 +31,17 @@ abbrev pub Differ : Lists → Square → Side → Type 0
 Differ l s side = IsAlone (SomeCovers l.0) (SomeCovers l.1) s side
 
 -- a square was found, and s isn't before it
-abbrev pub NotBefore : Square → Found → Type 0
+abbrev pub NotBefore : Square → Outcome → Type 0
 NotBefore s None = ⊥
 NotBefore s (Some at) = ¬ IsBefore s at.0
 
 -- what was found, if anything, is a square at which the lists differ
-abbrev pub IsFoundIn : Lists → Found → Type 0
+abbrev pub IsFoundIn : Lists → Outcome → Type 0
 IsFoundIn l None = Unit {0}
 IsFoundIn l (Some at) = Differ l at.0 at.1
 
 -- what was found is the least square at which the lists differ, or nothing if there is no such square
-pub record IsFirst (l : Lists) (found : Found) : Type 0 where
+pub record IsFirst (l : Lists) (found : Outcome) : Type 0 where
   pub alone : IsFoundIn l found
   pub least : (s : Square) → Agree l s ⊎ NotBefore s found
 
@@ -56,14 +56,14 @@ IsTrueTo whole l = (s : Square) (side : Side) → Differ l s side → Differ who
 -- the state of a comparison: what was found is a square at which the whole lists differ; at each square the whole lists
 -- agree, or the square isn't before the one found, or some column still to come covers it as the whole lists do; and at
 -- squares at which a column differs, the whole lists do
-pub record IsOpen (whole : Lists) (columns : List Lists) (found : Found) : Type 0 where
+pub record IsOpen (whole : Lists) (columns : List Lists) (found : Outcome) : Type 0 where
   pub alone : IsFoundIn whole found
   pub each : (s : Square) → Agree whole s ⊎ (NotBefore s found ⊎ Any (CoversAs whole s) columns)
   pub faithful : All (IsTrueTo whole) columns
 
 -- that state holds with the column of these lists still to come, and then without it, whatever others are still to come
-abbrev pub GoesOn : List (List Point) → List (List Point) → Progress → Progress → Type 0
-GoesOn first second old new =
+abbrev pub StaysOpen : List (List Point) → List (List Point) → Progress → Progress → Type 0
+StaysOpen first second old new =
     (whole : Lists) (others : List Lists)
     → IsOpen whole ((others ++ map lists_of old.pending.items) ++ (first, second) ∷ []) old.best
     → IsOpen whole (others ++ map lists_of new.pending.items) new.best
@@ -102,6 +102,6 @@ abbrev pub KeepsLimit : Progress → Progress → Type 0
 KeepsLimit old new = (new.most ≡ old.most) × (new.columns ≤ new.most)
 
 -- the row of the square that was found, if one was: no lesser square is above it
-abbrev pub last_row : Found → Option ℤ
+abbrev pub last_row : Outcome → Option ℤ
 last_row None = None
 last_row (Some at) = Some at.0.y

@@ -6,7 +6,8 @@ ghost use Rattle.lvl_grid.specs.declared.point.Square.{Square as GridSquare};
 ghost use Rattle.lvl_grid.specs.Winding.{SomeCovers};
 ghost use Rattle.lvl_grid.specs.Squares.{IsBefore};
 ghost use Rattle.lvl_region.specs.Region.{IsAlone};
-ghost use Rattle.lvl_columns.specs.Columns.{NotBefore, last_row, EndsWith, GoesOn, IsComparedPart, IsFirst, work_left};
+ghost use Rattle.lvl_columns.specs.Columns.{NotBefore, last_row, EndsWith, StaysOpen, IsComparedPart, IsFirst};
+ghost use Rattle.lvl_columns.specs.Columns.{work_left};
 ghost use Rattle.lvl_columns.specs.Columns.{KeepsLimit};
 ghost use Rattle.lvl_columns.specs.Corners.{corners_of};
 
@@ -107,7 +108,7 @@ fn have_same_rings(
 impl Progress {
     /// Compares two lists by a sweep of each.
     fn sweep(&mut self, alloc: Global, first: &Rings, second: &Rings) -> Result<(), AllocError>
-        ensures reported { OnOk result (GoesOn first.now second.now self.old self.new) }
+        ensures reported { OnOk result (StaysOpen first.now second.now self.old self.new) }
         ensures limit { OnOk result ((self.new.columns ≡ self.old.columns) × (self.new.most ≡ self.old.most)) }
         ensures pending { OnOk result (self.new.pending.items ≡ self.old.pending.items) }
     {
@@ -139,7 +140,7 @@ impl Progress {
 
     /// Compares a column, or cuts it in two.
     fn step(&mut self, alloc: Global, column: Column) -> Result<(), AllocError>
-        ensures reported { OnOk result (GoesOn column.first column.second self.old self.new) }
+        ensures reported { OnOk result (StaysOpen column.first column.second self.old self.new) }
         ensures limit { OnOk result (self.old.columns ≤ self.old.most → KeepsLimit self.old self.new) }
         ensures work { OnOk result (work_left self.new ≤ work_left self.old) }
     {

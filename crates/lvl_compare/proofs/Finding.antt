@@ -18,7 +18,7 @@ use Rattle.lvl_flat.specs.Sheet.{PlainSheet}
 use Rattle.lvl_flat.specs.Sheets.{rings_on}
 use Rattle.lvl_compare.specs.Flats.{AlikeOn, IsFirstApart}
 use Rattle.lvl_compare.specs.Tops.{Draws}
-use Rattle.lvl_compare.specs.inside.Strips.{Found, Part, Precedes, IsFoundIn, IsImproved, IsLeast, IsNew, IsOpen}
+use Rattle.lvl_compare.specs.inside.Strips.{Difference, Part, Precedes, IsFoundIn, IsImproved, IsLeast, IsNew, IsOpen}
 use Rattle.lvl_compare.specs.inside.Strips.{ShowsOf}
 
 alike_there : (a b : Draws) (part : Part) (f g : List PlainSheet) → ShowsOf a part f → ShowsOf b part g → (l : Layer)
@@ -40,7 +40,7 @@ alone_there a b part f g ours theirs l q Second h =
     (c.0, (c.1, λ x. h.1 ((ours l q).1 (c.0, x))))
 
 -- the first difference of two flat layouts of a part
-pub flats_found : (a b : Draws) (part : Part) (f g : List PlainSheet) (found : Option Found) → ShowsOf a part f
+pub flats_found : (a b : Draws) (part : Part) (f g : List PlainSheet) (found : Option Difference) → ShowsOf a part f
     → ShowsOf b part g → IfNone found ((l : Layer) → AlikeOn f g l)
     → IfSome found (λ at. IsFirstApart f g at.0 at.1 at.2)
     → IsFoundIn a b part found
@@ -118,7 +118,7 @@ before_before r s t (inr h) (inl k) = inl (omega (arith, ints, h.0, k))
 before_before r s t (inr h) (inr k) = inr (h.0 ∙ k.0, omega (arith, ints, h.1, k.1))
 
 -- what comes before the first of two comes before the second, if the second doesn't come before the first
-precedes_second : (l : Layer) (s : Square) (x y : Found) → Precedes l s x.0 x.1 → (Precedes y.0 y.1 x.0 x.1 → ⊥)
+precedes_second : (l : Layer) (s : Square) (x y : Difference) → Precedes l s x.0 x.1 → (Precedes y.0 y.1 x.0 x.1 → ⊥)
     → Precedes l s y.0 y.1
 precedes_second l s x y before late =
     elim (layers_order l y.0) [
@@ -149,7 +149,7 @@ precedes_second l s x y before late =
     ]
 
 -- the order is transitive
-precedes_further : (l : Layer) (s : Square) (x y : Found) → Precedes l s x.0 x.1 → Precedes x.0 x.1 y.0 y.1
+precedes_further : (l : Layer) (s : Square) (x y : Difference) → Precedes l s x.0 x.1 → Precedes x.0 x.1 y.0 y.1
     → Precedes l s y.0 y.1
 precedes_further l s x y (inl b) (inl c) = inl (before_trans l x.0 y.0 b c)
 precedes_further l s x y (inl b) (inr c) = inl (subst (λ (m : Layer). ComesBefore l m) c.0 b)
@@ -157,7 +157,7 @@ precedes_further l s x y (inr b) (inl c) = inl (subst (λ (m : Layer). ComesBefo
 precedes_further l s x y (inr b) (inr c) = inr (b.0 ∙ c.0, before_before s x.1 y.1 b.1 c.1)
 
 -- what is found in a part is found in any part with the same squares
-pub found_alike : (a b : Draws) (V W : Part) (found : Option Found) → ((l : Layer) (q : Square) → V l q → W l q)
+pub found_alike : (a b : Draws) (V W : Part) (found : Option Difference) → ((l : Layer) (q : Square) → V l q → W l q)
     → ((l : Layer) (q : Square) → W l q → V l q) → IsFoundIn a b V found → IsFoundIn a b W found
 found_alike a b V W None to back h = λ l q shown. h l q (back l q shown)
 found_alike a b V W (Some at) to back h = record {
@@ -167,11 +167,11 @@ found_alike a b V W (Some at) to back h = record {
 }
 
 -- a square of the part W that is left out: it doesn't come before what is known, or both draw it or neither
-abbrev pub IsSpared : Draws → Draws → Option Found → Layer → Square → Type 0
+abbrev pub IsSpared : Draws → Draws → Option Difference → Layer → Square → Type 0
 IsSpared a b known l q = (IsOpen known l q → ⊥) ⊎ (a l q ↔ b l q)
 
 -- the lesser of what is known and the first difference of a part, where the rest of a greater part may be left out
-pub least_improves : (a b : Draws) (V W : Part) (known next found : Option Found)
+pub least_improves : (a b : Draws) (V W : Part) (known next found : Option Difference)
     → ((l : Layer) (q : Square) → V l q → W l q)
     → ((l : Layer) (q : Square) → W l q → V l q ⊎ IsSpared a b known l q) → IsFoundIn a b V next
     → IsLeast known next found → IsImproved a b W known found
@@ -233,17 +233,17 @@ least_improves a b V W (Some x) (Some y) found to split h (inr is) =
     })
 
 -- what comes before what is found comes before what was known
-still_open : (a b : Draws) (V : Part) (known found : Option Found) → IsImproved a b V known found → (l : Layer)
+still_open : (a b : Draws) (V : Part) (known found : Option Difference) → IsImproved a b V known found → (l : Layer)
     (q : Square) → IsOpen found l q → IsOpen known l q
 still_open a b V None found h l q early = tt
 still_open a b V (Some x) None h l q early = absurd (let none : Some x ≡ None = h.kept refl in cc)
 still_open a b V (Some x) (Some y) h l q early =
     elim h.new [
-      | inl same ↦ (let one : x ≡ y = cc in subst (λ (z : Found). Precedes l q z.0 z.1) (sym one) early)
+      | inl same ↦ (let one : x ≡ y = cc in subst (λ (z : Difference). Precedes l q z.0 z.1) (sym one) early)
       | inr new ↦ precedes_further l q y x early new.early
     ]
 
-new_later : (a b : Draws) (V W P : Part) (known found : Option Found) (at : Found)
+new_later : (a b : Draws) (V W P : Part) (known found : Option Difference) (at : Difference)
     → ((l : Layer) (q : Square) → V l q → P l q) → ((l : Layer) (q : Square) → W l q → P l q)
     → IsImproved a b V known found → (found ≡ Some at) ⊎ IsNew a b W found at
     → (known ≡ Some at) ⊎ IsNew a b P known at
@@ -259,7 +259,7 @@ new_later a b V W P known found at from to h (inr new) =
       early = still_open a b V known found h at.0 at.1 new.early;
     })
 
-newest : (a b : Draws) (V W P : Part) (known found last : Option Found)
+newest : (a b : Draws) (V W P : Part) (known found last : Option Difference)
     → ((l : Layer) (q : Square) → V l q → P l q) → ((l : Layer) (q : Square) → W l q → P l q)
     → IsImproved a b V known found → IsImproved a b W found last
     → IfSome last (λ at. (known ≡ Some at) ⊎ IsNew a b P known at)
@@ -267,7 +267,7 @@ newest a b V W P known found None from to h g = tt
 newest a b V W P known found (Some at) from to h g = new_later a b V W P known found at from to h g.new
 
 -- one part after another
-pub improved_more : (a b : Draws) (V W P : Part) (known found last : Option Found)
+pub improved_more : (a b : Draws) (V W P : Part) (known found last : Option Difference)
     → ((l : Layer) (q : Square) → V l q → P l q) → ((l : Layer) (q : Square) → W l q → P l q)
     → ((l : Layer) (q : Square) → P l q → V l q ⊎ W l q) → IsImproved a b V known found
     → IsImproved a b W found last → IsImproved a b P known last
@@ -282,7 +282,7 @@ improved_more a b V W P known found last from to split h g = record {
 }
 
 -- no square of no part
-pub improved_none : (a b : Draws) (P : Part) (known : Option Found) → ((l : Layer) (q : Square) → P l q → ⊥)
+pub improved_none : (a b : Draws) (P : Part) (known : Option Difference) → ((l : Layer) (q : Square) → P l q → ⊥)
     → IsImproved a b P known known
 improved_none a b P None none = record {
   alike = λ l q shown early. absurd (none l q shown);
@@ -296,7 +296,7 @@ improved_none a b P (Some x) none = record {
 }
 
 -- in a part with the same squares
-pub improved_alike : (a b : Draws) (V W : Part) (known found : Option Found)
+pub improved_alike : (a b : Draws) (V W : Part) (known found : Option Difference)
     → ((l : Layer) (q : Square) → V l q → W l q) → ((l : Layer) (q : Square) → W l q → V l q)
     → IsImproved a b V known found → IsImproved a b W known found
 improved_alike a b V W known found to back h =
@@ -305,7 +305,7 @@ improved_alike a b V W known found to back h =
     (improved_none a b Nowhere found (λ l q none. none))
 
 -- what is found where nothing was known
-pub improved_found : (a b : Draws) (P : Part) (found : Option Found) → IsImproved a b P None found
+pub improved_found : (a b : Draws) (P : Part) (found : Option Difference) → IsImproved a b P None found
     → IsFoundIn a b P found
 improved_found a b P None h = λ l q shown. h.alike l q shown tt
 improved_found a b P (Some at) h =

@@ -9,7 +9,7 @@ use Rattle.std.proofs.lemmas.List.Elements.{All-contains, filter_passes}
 use Rattle.std.proofs.lemmas.List.Kept.{AllPairs-filter}
 use Rattle.lvl_grid.specs.declared.point.Square.{Square}
 use Rattle.lvl_grid.specs.declared.point.Window.{Window}
-use Rattle.lvl_grid.specs.Clip.{IsWithin}
+use Rattle.lvl_grid.specs.Clip.{IsInWindow}
 use Rattle.lvl_grid.specs.Winding.{SomeCovers}
 use Rattle.lvl_names.specs.declared.layer.Layer.{Layer}
 use Rattle.lvl_names.specs.Layers.{ComesBefore}
@@ -29,7 +29,8 @@ use Rattle.lvl_compare.specs.declared.groups.Span.{Span}
 use Rattle.lvl_compare.specs.declared.groups.Group.{Group}
 use Rattle.lvl_compare.specs.inside.Groups.{AreAbove, AreListed, AreRowsBefore, IsListed, NoneBefore, is_after}
 use Rattle.lvl_compare.specs.inside.Groups.{is_before, is_of_span, is_until, on}
-use Rattle.lvl_compare.specs.inside.Strips.{Found, IsFoundIn, IsImproved, IsLeast, IsLeftIn, Part, Precedes, ShowsOf}
+use Rattle.lvl_compare.specs.inside.Strips.{Difference, IsFoundIn, IsImproved, IsLeast, IsLeftIn, Part, Precedes}
+use Rattle.lvl_compare.specs.inside.Strips.{ShowsOf}
 use Rattle.lvl_compare.specs.inside.Strips.{everywhere, rows_to}
 use Rattle.lvl_compare.proofs.Finding.{IsSpared, layers_order, least_improves}
 use Rattle.lvl_compare.proofs.InStrips.{in_rows, rows_or_above}
@@ -161,7 +162,7 @@ shows_top s layers w f flat l q =
 -- what the first layout draws, flattened on the listed Layers
 pub shows_ours : (s : Settled) (span : Span) (layers : List Layer) (w : Window) (f : List PlainSheet)
     → IsListed (TopCovers s) [] span layers → IsFlattenedWithin s layers w f
-    → ShowsOf (TopCovers s) (on span (IsWithin w)) f
+    → ShowsOf (TopCovers s) (on span (IsInWindow w)) f
 shows_ours s span layers w f listed flat l q =
     let both = shows_top s layers w f flat l q in (
       λ a. let c = both.0 a in ((listed.only l c.0.0, c.0.1), c.1),
@@ -171,7 +172,7 @@ shows_ours s span layers w f listed flat l q =
 -- and what the second draws under the map
 pub shows_theirs : (s : Settled) (pairs : List LayerPair) (span : Span) (layers : List Layer) (w : Window)
     (f m : List PlainSheet) → IsListed (TopCovers s) pairs span layers → IsFlattenedWithin s layers w f
-    → IsMapped pairs f m → ShowsOf (IsMoved pairs (TopCovers s)) (on span (IsWithin w)) m
+    → IsMapped pairs f m → ShowsOf (IsMoved pairs (TopCovers s)) (on span (IsInWindow w)) m
 shows_theirs s pairs span layers w f m listed flat is l q = (
   λ a.
       let from = (is l q).0 a in
@@ -192,14 +193,14 @@ shows_theirs s pairs span layers w f m listed flat is l q = (
 )
 
 -- what doesn't precede the known difference is left out: later Layers
-later_spared : (a b : Draws) (k : Found) (l : Layer) (q : Square) → ComesBefore k.0 l → IsSpared a b (Some k) l q
+later_spared : (a b : Draws) (k : Difference) (l : Layer) (q : Square) → ComesBefore k.0 l → IsSpared a b (Some k) l q
 later_spared a b k l q later =
     inl (λ early. elim early [
       | inl before ↦ before_itself l (before_trans l k.0 l before later)
       | inr here ↦ before_itself k.0 (subst (λ (x : Layer). ComesBefore k.0 x) here.0 later)
     ])
 
-lesser_layers : (a b : Draws) (big small : Span) (w : Window) (x : ℤ) (k : Found) → small.after ≡ big.after
+lesser_layers : (a b : Draws) (big small : Span) (w : Window) (x : ℤ) (k : Difference) → small.after ≡ big.after
     → IsLesser big.last (Some k.0) small.last → (l : Layer) (q : Square) → on big (IsLeftIn w x) l q
     → on small (IsLeftIn w x) l q ⊎ IsSpared a b (Some k) l q
 lesser_layers a b big small w x k after last l q h =
@@ -209,7 +210,7 @@ lesser_layers a b big small w x k after last l q h =
     ]
 
 -- and where no side draws on a Layer before that one, rows above the square
-lesser_rows : (a t : Draws) (pairs : List LayerPair) (big : Span) (small : Group) (w : Window) (x : ℤ) (k : Found)
+lesser_rows : (a t : Draws) (pairs : List LayerPair) (big : Span) (small : Group) (w : Window) (x : ℤ) (k : Difference)
     → small.span.after ≡ big.after → IsLesser big.last (Some k.0) small.span.last → AreListed a t pairs small
     → NoneBefore pairs small k.0 → (y : ℤ) → AreAbove w y k.1 → (l : Layer) (q : Square) → on big (IsLeftIn w x) l q
     → on small.span (IsLeftIn (rows_to y w) x) l q ⊎ IsSpared a (IsMoved pairs t) (Some k) l q
@@ -248,7 +249,7 @@ lesser_rows a t pairs big small w x k after last listed none y later l q h =
 
 -- one more strip, of which what can't precede the known difference is left out
 pub next_improves : (a t : Draws) (pairs : List LayerPair) (big : Span) (small : Group) (w rows : Window) (x : ℤ)
-    (k : Found) (next found : Option Found) → small.span.after ≡ big.after → IsLesser big.last (Some k.0)
+    (k : Difference) (next found : Option Difference) → small.span.after ≡ big.after → IsLesser big.last (Some k.0)
     small.span.last
     → AreListed a t pairs small → AreRowsBefore pairs small k w rows
     → IsFoundIn a (IsMoved pairs t) (on small.span (IsLeftIn rows x)) next → IsLeast (Some k) next found
@@ -267,13 +268,13 @@ next_improves a t pairs big small w rows x k next found after last listed (inr i
     (subst (λ (v : Window). IsFoundIn a b (on small.span (IsLeftIn v x)) next) is.0.is h)
 
 -- these rows are as wide as the window
-pub rows_wide : (pairs : List LayerPair) (group : Group) (k : Found) (w rows : Window)
+pub rows_wide : (pairs : List LayerPair) (group : Group) (k : Difference) (w rows : Window)
     → AreRowsBefore pairs group k w rows → (rows.x0 ≡ w.x0) × (rows.x1 ≡ w.x1)
 rows_wide pairs group k w rows (inl is) = (ap (λ (v : Window). v.x0) is, ap (λ (v : Window). v.x1) is)
 rows_wide pairs group k w rows (inr is) = (ap (λ (v : Window). v.x0) is.0.is, ap (λ (v : Window). v.x1) is.0.is)
 
 -- with nothing known, the first difference of a strip is an improvement
-pub first_improves : (a b : Draws) (part : Part) (next : Option Found) → IsFoundIn a b part next
+pub first_improves : (a b : Draws) (part : Part) (next : Option Difference) → IsFoundIn a b part next
     → IsImproved a b part None next
 first_improves a b part next h =
     least_improves a b part part None next next (λ l q s. s) (λ l q s. inl s) h refl
@@ -284,7 +285,7 @@ AlikeUpTo a b W after = (l : Layer) (q : Square) → W q → (is_after after l �
 
 -- a group without a difference
 pub group_passed : (a b : Draws) (W : Square → Type 0) (after : Option Layer) (last : Layer) (span : Span)
-    (found : Option Found) → span ≡ record { after = after; last = Some last } → is_some found ≡ false
+    (found : Option Difference) → span ≡ record { after = after; last = Some last } → is_some found ≡ false
     → AlikeUpTo a b W after → IsFoundIn a b (on span W) found → AlikeUpTo a b W (Some last)
 group_passed a b W after last span None is none before h = λ l q seen never.
     elim (cases_Bool (is_after after l)) [
@@ -300,7 +301,7 @@ group_passed a b W after last span None is none before h = λ l q seen never.
     ]
 group_passed a b W after last span (Some at) is none before h = absurd cc
 
-past_group : (last : Option Layer) (l : Layer) (q : Square) (at : Found) → is_until last l ≡ false
+past_group : (last : Option Layer) (l : Layer) (q : Square) (at : Difference) → is_until last l ≡ false
     → is_until last at.0 ≡ true → Precedes l q at.0 at.1 → ⊥
 past_group None l q at past until precedes = cc
 past_group (Some e) l q at past until precedes =
@@ -310,7 +311,7 @@ past_group (Some e) l q at past until precedes =
     ])
 
 -- the first group with a difference
-group_first : (a b : Draws) (W : Square → Type 0) (span : Span) (at : Found) → AlikeUpTo a b W span.after
+group_first : (a b : Draws) (W : Square → Type 0) (span : Span) (at : Difference) → AlikeUpTo a b W span.after
     → IsFoundIn a b (on span W) (Some at) → (l : Layer) (q : Square) → W q → Precedes l q at.0 at.1 → a l q ↔ b l q
 group_first a b W span at before h l q seen precedes =
     elim (cases_Bool (is_after span.after l)) [
@@ -325,14 +326,14 @@ group_first a b W span at before h l q seen precedes =
           ]
     ]
 
-pub group_found : (a b : Draws) (W : Square → Type 0) (span : Span) (found : Option Found) → is_some found ≡ true
+pub group_found : (a b : Draws) (W : Square → Type 0) (span : Span) (found : Option Difference) → is_some found ≡ true
     → AlikeUpTo a b W span.after → IsFoundIn a b (on span W) found → IsFoundIn a b (everywhere W) found
 group_found a b W span None some before h = absurd cc
 group_found a b W span (Some at) some before h =
     record { shown = h.shown.1; alone = h.alone; least = group_first a b W span at before h }
 
 -- the last group
-pub group_last : (a b : Draws) (W : Square → Type 0) (after : Option Layer) (span : Span) (found : Option Found)
+pub group_last : (a b : Draws) (W : Square → Type 0) (after : Option Layer) (span : Span) (found : Option Difference)
     → span ≡ record { after = after; last = None } → AlikeUpTo a b W after → IsFoundIn a b (on span W) found
     → IsFoundIn a b (everywhere W) found
 group_last a b W after span None is before h = λ l q seen.

@@ -7,18 +7,19 @@ use Rattle.std.proofs.lemmas.Int.{ints, clamps}
 use Rattle.std.proofs.lemmas.Bool.{cases_Bool}
 use Rattle.lvl_grid.specs.declared.point.Square.{Square}
 use Rattle.lvl_grid.specs.declared.point.Window.{Window}
-use Rattle.lvl_grid.specs.Clip.{IsWithin}
+use Rattle.lvl_grid.specs.Clip.{IsInWindow}
 use Rattle.lvl_names.specs.declared.layer.Layer.{Layer}
 use Rattle.lvl_columns.specs.Windows.{IsShown}
 use Rattle.lvl_compare.specs.Tops.{Draws, DrawSame, IsFirstDifference}
 use Rattle.lvl_compare.specs.declared.groups.Span.{Span}
 use Rattle.lvl_compare.specs.inside.Groups.{on}
-use Rattle.lvl_compare.specs.inside.Strips.{Found, IsFoundIn, IsImproved, IsLeftIn, everywhere, from_on, rows_to, up_to}
+use Rattle.lvl_compare.specs.inside.Strips.{Difference, IsFoundIn, IsImproved, IsLeftIn, everywhere, from_on, rows_to}
+use Rattle.lvl_compare.specs.inside.Strips.{up_to}
 use Rattle.lvl_compare.specs.inside.Strips.{seen_of}
 use Rattle.lvl_compare.proofs.Finding.{below, improved_alike, improved_more, improved_none, not_below}
 
 -- the squares of the part of a window up to an abscissa
-pub front_left : (w : Window) (x : ℤ) → x ≤ℤ w.x1 → (q : Square) → IsWithin (up_to x w) q → IsLeftIn w x q
+pub front_left : (w : Window) (x : ℤ) → x ≤ℤ w.x1 → (q : Square) → IsInWindow (up_to x w) q → IsLeftIn w x q
 front_left w x inside q h = (
   record {
     x_from = h.x_from;
@@ -29,7 +30,7 @@ front_left w x inside q h = (
   h.x_below,
 )
 
-pub left_front : (w : Window) (x : ℤ) (q : Square) → IsLeftIn w x q → IsWithin (up_to x w) q
+pub left_front : (w : Window) (x : ℤ) (q : Square) → IsLeftIn w x q → IsInWindow (up_to x w) q
 left_front w x q h = record { x_from = h.0.x_from; x_below = h.1; y_from = h.0.y_from; y_below = h.0.y_below }
 
 -- a square left of a greater abscissa is left of the lesser one, or in the strip between both
@@ -65,7 +66,7 @@ further_left : (w : Window) (x end : ℤ) → x <ℤ end → (q : Square) → Is
 further_left w x end further q h = (h.0, omega (arith, ints, h.1, further))
 
 -- one more strip
-pub strip_improved : (a b : Draws) (span : Span) (w : Window) (x end : ℤ) (known found last : Option Found)
+pub strip_improved : (a b : Draws) (span : Span) (w : Window) (x end : ℤ) (known found last : Option Difference)
     → w.x0 ≤ℤ x → x <ℤ end → IsImproved a b (on span (IsLeftIn w x)) known found
     → IsImproved a b (on span (IsLeftIn (from_on x w) end)) found last
     → IsImproved a b (on span (IsLeftIn w end)) known last
@@ -76,16 +77,16 @@ strip_improved a b span w x end known found last from further =
     elim (left_or_strip w x end q h.1) [ inl left ↦ inl (h.0, left) | inr strip ↦ inr (h.0, strip) ])
 
 -- no square of the window is left of its left border, and all are left of its right border
-pub none_left : (a b : Draws) (span : Span) (w : Window) (known : Option Found)
+pub none_left : (a b : Draws) (span : Span) (w : Window) (known : Option Difference)
     → IsImproved a b (on span (IsLeftIn w w.x0)) known known
 none_left a b span w known =
     improved_none a b (on span (IsLeftIn w w.x0)) known
     (λ l q shown. omega (arith, ints, shown.1.0.x_from, shown.1.1))
 
-pub all_left : (a b : Draws) (span : Span) (w : Window) (x : ℤ) (known found : Option Found) → w.x1 ≤ℤ x
-    → IsImproved a b (on span (IsLeftIn w x)) known found → IsImproved a b (on span (IsWithin w)) known found
+pub all_left : (a b : Draws) (span : Span) (w : Window) (x : ℤ) (known found : Option Difference) → w.x1 ≤ℤ x
+    → IsImproved a b (on span (IsLeftIn w x)) known found → IsImproved a b (on span (IsInWindow w)) known found
 all_left a b span w x known found past =
-    improved_alike a b (on span (IsLeftIn w x)) (on span (IsWithin w)) known found (λ l q h. (h.0, h.1.0))
+    improved_alike a b (on span (IsLeftIn w x)) (on span (IsInWindow w)) known found (λ l q h. (h.0, h.1.0))
     (λ l q h. (h.0, (h.1, omega (arith, ints, h.1.x_below, past))))
 
 -- a square of the rows up to one is in the window, and one of the window is in these rows or above
@@ -125,7 +126,7 @@ hull v w = record {
   y1 = int_max v.y1 w.y1;
 }
 
-pub hull_first : (v w : Window) (q : Square) → IsWithin v q → IsWithin (hull v w) q
+pub hull_first : (v w : Window) (q : Square) → IsInWindow v q → IsInWindow (hull v w) q
 hull_first v w q h = record {
   x_from = omega (arith, ints, clamps, h.x_from);
   x_below = omega (arith, ints, clamps, h.x_below);
@@ -133,7 +134,7 @@ hull_first v w q h = record {
   y_below = omega (arith, ints, clamps, h.y_below);
 }
 
-pub hull_second : (v w : Window) (q : Square) → IsWithin w q → IsWithin (hull v w) q
+pub hull_second : (v w : Window) (q : Square) → IsInWindow w q → IsInWindow (hull v w) q
 hull_second v w q h = record {
   x_from = omega (arith, ints, clamps, h.x_from);
   x_below = omega (arith, ints, clamps, h.x_below);
@@ -148,13 +149,13 @@ nowhere_else : (a b : Draws) (Seen P : Square → Type 0) → ((l : Layer) (q : 
 nowhere_else a b Seen P ours theirs l q seen same =
     (λ x. (same (ours l q seen x)).0 x, λ y. (same (theirs l q seen y)).1 y)
 
-pub found_same : (a b : Draws) (Seen P : Square → Type 0) (found : Option Found)
+pub found_same : (a b : Draws) (Seen P : Square → Type 0) (found : Option Difference)
     → ((l : Layer) (q : Square) → Seen q → a l q → P q) → ((l : Layer) (q : Square) → Seen q → b l q → P q)
     → IsFoundIn a b (everywhere P) found → IfNone found (DrawSame Seen a b)
 found_same a b Seen P None ours theirs h = λ l q seen. nowhere_else a b Seen P ours theirs l q seen (h l q)
 found_same a b Seen P (Some at) ours theirs h = tt
 
-pub found_apart : (a b : Draws) (Seen P : Square → Type 0) (found : Option Found) → ((q : Square) → P q → Seen q)
+pub found_apart : (a b : Draws) (Seen P : Square → Type 0) (found : Option Difference) → ((q : Square) → P q → Seen q)
     → ((l : Layer) (q : Square) → Seen q → a l q → P q) → ((l : Layer) (q : Square) → Seen q → b l q → P q)
     → IsFoundIn a b (everywhere P) found → IfSome found (λ at. IsFirstDifference Seen a b at.0 at.1 at.2)
 found_apart a b Seen P None shown ours theirs h = tt
@@ -188,7 +189,7 @@ fewer_columns x end last further inside =
     up_rises (last -ℤ end) (last -ℤ x) (omega (arith, ints, inside)) (omega (arith, ints, further))
 
 -- the intersection with the optional window has exactly those squares of the window that are compared
-pub seen_shown : (v : Option Window) (w : Window) (q : Square) → IsWithin (seen_of v w) q → IsShown v q
+pub seen_shown : (v : Option Window) (w : Window) (q : Square) → IsInWindow (seen_of v w) q → IsShown v q
 seen_shown None w q h = tt
 seen_shown (Some v) w q h = record {
   x_from = omega (arith, ints, clamps, h.x_from);
@@ -197,7 +198,8 @@ seen_shown (Some v) w q h = record {
   y_below = omega (arith, ints, clamps, h.y_below);
 }
 
-pub shown_seen : (v : Option Window) (w : Window) (q : Square) → IsShown v q → IsWithin w q → IsWithin (seen_of v w) q
+pub shown_seen : (v : Option Window) (w : Window) (q : Square) → IsShown v q → IsInWindow w q
+    → IsInWindow (seen_of v w) q
 shown_seen None w q seen h = h
 shown_seen (Some v) w q seen h = record {
   x_from = omega (arith, ints, clamps, h.x_from, seen.x_from);

@@ -67,22 +67,22 @@ pub fn lesser(first: Option<Layer>, second: Option<Layer>) -> Option<Layer>
     }
 }
 
-/// `place + 1` if the Layer at the index `place` is this one, else `place`.
-pub fn past(flat: &Flat, place: usize, layer: Layer) -> usize
-    ensures { drop result flat.now ≡ later layer (drop place flat.now) }
+/// `index + 1` if the Layer at `index` is this one, else `index`.
+pub fn past(flat: &Flat, index: usize, layer: Layer) -> usize
+    ensures { drop result flat.now ≡ later layer (drop index flat.now) }
 {
-    if place < flat.len() && stands_at(flat, place, layer) {
-        place + 1
+    if index < flat.len() && is_at(flat, index, layer) {
+        index + 1
     } else {
-        place
+        index
     }
 }
 
-/// Whether the Layer at the index `place` is this one.
-fn stands_at(flat: &Flat, place: usize, layer: Layer) -> bool
-    ensures { IsTrue result ↔ (head_layer (drop place flat.now) ≡ Some layer) }
+/// Whether the Layer at `index` is this one.
+fn is_at(flat: &Flat, index: usize, layer: Layer) -> bool
+    ensures { IsTrue result ↔ (head_layer (drop index flat.now) ≡ Some layer) }
 {
-    match flat.layer(place) {
+    match flat.layer(index) {
         Some(here) => here == layer,
         None => false,
     }

@@ -152,9 +152,9 @@ impl Group {
         }
         let layers = self.targets(alloc, view, most)?;
         let size = GROUP.max(layers.len().div_ceil(MOST_GROUPS));
-        for place in 1..layers.len() {
-            if place.checked_rem(size) == Some(0) {
-                ends.push(layers[place - 1])?;
+        for index in 1..layers.len() {
+            if index.checked_rem(size) == Some(0) {
+                ends.push(layers[index - 1])?;
             }
         }
         Ok(ends)

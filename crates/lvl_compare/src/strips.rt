@@ -1,7 +1,7 @@
 //! Comparison of two libraries in a window, strip by strip, so that only what is drawn in one strip
 //! is in memory.
 ghost use Rattle.std.specs.Prelude.{◌≡◌, ◌<◌, ◌<ℤ◌, ◌≤ℤ◌, ◌↔◌, IsTrue, IfOk};
-ghost use Rattle.lvl_grid.specs.Clip.{IsWithin};
+ghost use Rattle.lvl_grid.specs.Clip.{IsInWindow};
 ghost use Rattle.lvl_columns.specs.Windows.{window_of};
 ghost use Rattle.lvl_flat.specs.Flattened.{TopCovers};
 ghost use Rattle.lvl_view.specs.Moved.{IsMoved};
@@ -20,26 +20,26 @@ use lvl_view::View;
 use std::alloc::{AllocError, Global};
 
 /// A Layer, a square that only one side draws there, and the side.
-pub(crate) type Found = (Layer, Square, Side);
+pub(crate) type Difference = (Layer, Square, Side);
 
 /// How far a window is searched: the first difference that is known, the abscissa up to which the
 /// squares are searched, and the pace of the next strip.
 #[derive(Clone, Copy)]
 pub(crate) struct Progress {
-    pub found: Option<Found>,
+    pub found: Option<Difference>,
     pub end: i64,
     pub pace: Pace,
 }
 
 /// Whether the first comes before the second: by Layer, then by square.
-fn precedes(first: &Found, second: &Found) -> bool
+fn precedes(first: &Difference, second: &Difference) -> bool
     ensures { IsTrue result ↔ Precedes first.now.0 first.now.1 second.now.0 second.now.1 }
 {
     comes_before(first.0, second.0) || first.0 == second.0 && first.1.is_before(second.1)
 }
 
 /// The lesser of two differences, or the only one that there is.
-pub(crate) fn least(first: Option<Found>, second: Option<Found>) -> Option<Found>
+pub(crate) fn least(first: Option<Difference>, second: Option<Difference>) -> Option<Difference>
     ensures { IsLeast first second result }
 {
     match (first, second) {
@@ -86,10 +86,10 @@ fn difference_of(
     group: &Group,
     strip: &Window,
     most: usize,
-) -> Result<(Option<Found>, usize), AllocError>
+) -> Result<(Option<Difference>, usize), AllocError>
     requires { AreListed (TopCovers first.now) (TopCovers second.now) view.now.pairs group.now }
     ensures { IfOk result (λ parts. IsFoundIn (TopCovers first.now)
-        (IsMoved view.now.pairs (TopCovers second.now)) (on group.now.span (IsWithin strip.now)) parts.0) }
+        (IsMoved view.now.pairs (TopCovers second.now)) (on group.now.span (IsInWindow strip.now)) parts.0) }
 {
     let ours = first.within(alloc, &group.ours, strip, most)?;
     let theirs = second.within(alloc, &group.theirs, strip, most)?;
@@ -205,7 +205,13 @@ fn first_strip(
 
 /// The rows of a window that may have a square before a known one, on the Layers of a group up to its
 /// Layer: all rows, unless no Layer of the group comes before its Layer.
-fn rows_before(alloc: Global, view: &View, group: &Group, window: &Window, known: &Found) -> Window
+fn rows_before(
+    alloc: Global,
+    view: &View,
+    group: &Group,
+    window: &Window,
+    known: &Difference,
+) -> Window
     ensures { AreRowsBefore view.now.pairs group.now known.now window.now result }
 {
     if group.has_before(alloc, view, known.0) {
@@ -260,11 +266,11 @@ pub(crate) fn difference_within(
     group: &Group,
     window: Window,
     mut progress: Progress,
-) -> Result<Option<Found>, AllocError>
+) -> Result<Option<Difference>, AllocError>
     requires wide { 0 < progress.pace.width }
     requires listed { AreListed (TopCovers first.now) (TopCovers second.now) view.now.pairs group.now }
     ensures { IfOk result (IsImproved (TopCovers first.now) (IsMoved view.now.pairs (TopCovers second.now))
-        (on group.now.span (IsWithin window)) progress.found) }
+        (on group.now.span (IsInWindow window)) progress.found) }
 {
     let mut rest = window;
     while rest.x0 < rest.x1 {

@@ -10,7 +10,7 @@ ghost use Rattle.lvl_compare.specs.inside.Strips.{IsFoundIn, everywhere};
 
 use crate::groups::{Group, Span};
 use crate::pace::{Budget, Pace, own_points};
-use crate::strips::{Found, Progress, difference_within, shared};
+use crate::strips::{Difference, Progress, difference_within, shared};
 use lvl_flat::Fitted;
 use lvl_grid::{Square, Window};
 use lvl_names::Layer;
@@ -28,7 +28,7 @@ fn difference_in_group(
     group: &Group,
     windows: &[Window],
     budget: Budget,
-) -> Result<Option<Found>, AllocError>
+) -> Result<Option<Difference>, AllocError>
     requires { AreListed (TopCovers first.now) (TopCovers second.now) view.now.pairs group.now }
     ensures { IfOk result (IsFoundIn (TopCovers first.now) (IsMoved view.now.pairs (TopCovers second.now))
         (on group.now.span (IsSeenIn view.now.window windows.now))) }
@@ -56,7 +56,7 @@ pub(crate) fn difference_by_groups(
     windows: &[Window],
     points: u64,
     most: usize,
-) -> Result<Option<Found>, AllocError>
+) -> Result<Option<Difference>, AllocError>
     ensures { IfOk result (IsFoundIn (TopCovers first.now) (IsMoved view.now.pairs (TopCovers second.now))
         (everywhere (IsSeenIn view.now.window windows.now))) }
 {

@@ -44,7 +44,7 @@ fn counts_for(alloc: Global, layers: Vec<Layer>) -> Result<Vec<LayerRings>, Allo
 }
 
 /// The index of the count of a Layer.
-fn place_of(counts: &[LayerRings], layer: Layer) -> usize
+fn index_of(counts: &[LayerRings], layer: Layer) -> usize
     requires sorted { AreSorted counts.now }
     requires there { Contains (map (λ c. c.layer) counts.now) layer }
     ensures { IsCountOf counts.now layer result }
@@ -59,8 +59,8 @@ fn add_rings(counts: &mut [LayerRings], layer: Layer, rings: usize)
     requires few { All (λ c. c.layer ≡ layer → c.rings + rings ≤ most_placed) counts.old }
     ensures { counts.new ≡ map (more (λ l. if same_layer layer l then rings else 0)) counts.old }
 {
-    let place = place_of(counts, layer);
-    counts[place].rings += rings;
+    let index = index_of(counts, layer);
+    counts[index].rings += rings;
 }
 
 /// Adds the rings of the shapes of a cell that is placed `times` times.
@@ -85,10 +85,10 @@ fn add_cells(counts: &mut [LayerRings], checked: &Checked, times: &[u64])
     requires zero { All (λ c. c.rings ≡ 0) counts.old }
     ensures { counts.new ≡ map (more (λ l. placed_on l checked.now.cells times.now checked.now.order)) counts.old }
 {
-    for place in checked.order() {
-        let here = times[*place];
+    for index in checked.order() {
+        let here = times[*index];
         if here > 0 {
-            let cell = &checked.cells()[*place];
+            let cell = &checked.cells()[*index];
             add_shapes(counts, &cell.shapes, here);
         }
     }

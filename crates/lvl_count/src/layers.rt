@@ -16,9 +16,9 @@ pub(crate) fn layers_of(
     ensures { IfOk result (λ layers. All (AreListed checked.now.cells times.now layers.items) checked.now.order) }
 {
     let mut layers = Vec::new(alloc);
-    for place in checked.order() {
-        if times[*place] > 0 {
-            let cell = &checked.cells()[*place];
+    for index in checked.order() {
+        if times[*index] > 0 {
+            let cell = &checked.cells()[*index];
             cell.shapes.push_layers(&mut layers)?;
         }
     }

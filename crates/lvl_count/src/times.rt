@@ -11,12 +11,12 @@ fn pass_on(checked: &Checked, i: usize, times: &mut [u64])
     requires way { IsUnderWay checked.now i times.old }
     ensures { IsUnderWay checked.now (i + 1) times.new }
 {
-    let place = checked.order()[i];
-    let here = times[place];
-    let cell = &checked.cells()[place];
+    let index = checked.order()[i];
+    let here = times[index];
+    let cell = &checked.cells()[index];
     for j in 0..cell.references.len() {
         let reference = cell.references.reference(j);
-        if let Some(target) = checked.target(place, j) {
+        if let Some(target) = checked.target(index, j) {
             times[target] += here * reference.shifts().len();
         }
     }

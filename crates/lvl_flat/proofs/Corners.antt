@@ -7,7 +7,7 @@ use Rattle.lvl_grid.specs.declared.map.Turn.{Turn}
 use Rattle.lvl_grid.specs.declared.map.Turn.TheVariants.{R0, R90, R180, R270}
 use Rattle.lvl_grid.specs.Turn.{image}
 use Rattle.lvl_flat.specs.declared.bounds.Bounds.{Bounds}
-use Rattle.lvl_flat.specs.Boxes.{IsWithin}
+use Rattle.lvl_flat.specs.Boxes.{HoldsPoint}
 
 -- z is between x and y, in either order
 record IsBetween (x z y : ℤ) : Type 0 where
@@ -28,7 +28,7 @@ Lies m b p =
     IsBetween (image m b.low).x (image m p).x (image m b.high).x
     × IsBetween (image m b.low).y (image m p).y (image m b.high).y
 
-lies : (f : Bool) (t : Turn) (at : Point) (b : Bounds) (p : Point) → IsWithin b p
+lies : (f : Bool) (t : Turn) (at : Point) (b : Bounds) (p : Point) → HoldsPoint b p
     → Lies (record { flip = f; turn = t; at = at }) b p
 lies false R0 at b p w = (up b.low.x at.x p.x b.high.x w.left w.right, up b.low.y at.y p.y b.high.y w.below w.above)
 lies false R90 at b p w = (down b.low.y at.x p.y b.high.y w.below w.above, up b.low.x at.y p.x b.high.x w.left w.right)
@@ -56,8 +56,8 @@ inside l x z y h b p q r s = elim b.way [
 ]
 
 -- a box that has the images of two corners has the image of each point between them
-pub placed_within : (m : Map) (b r : Bounds) (p : Point) → IsWithin r (image m b.low) → IsWithin r (image m b.high)
-    → IsWithin b p → IsWithin r (image m p)
+pub placed_within : (m : Map) (b r : Bounds) (p : Point) → HoldsPoint r (image m b.low) → HoldsPoint r (image m b.high)
+    → HoldsPoint b p → HoldsPoint r (image m p)
 placed_within m b r p low high w =
     let both = lies m.flip m.turn m.at b p w in
     let across =

@@ -12,7 +12,7 @@ use Rattle.lvl_grid.specs.Placed.{moved_square}
 use Rattle.lvl_grid.specs.Winding.{Covers, SomeCovers}
 use Rattle.lvl_grid.proofs.Squares.{same_square, image_square-composed}
 use Rattle.lvl_names.specs.declared.layer.Layer.{Layer}
-use Rattle.lvl_cells.specs.Cells.{PlainCell, PlainShape, Rings, placing, cell_named}
+use Rattle.lvl_cells.specs.Cells.{PlainCell, PlainShape, Rings, map_at, cell_named}
 use Rattle.lvl_cells.specs.Chains.{IsComposed}
 use Rattle.lvl_cells.specs.Coverage.{moved_back, ShapeCovers, PullsBack, CoversWithin, CellCovers}
 use Rattle.lvl_flat.specs.inside.Drawn.{placed_ring, placed_figure, placed_shape, drawn_on, IsPlaced, AreFiguresPlaced}
@@ -209,7 +209,7 @@ cell_covers cells layer c s = (
 
 -- a pick covers what its cell does, placed by the composed map
 pub pick_covers : (cells : List (PlainCell Rings)) (layer : Layer) (m w : Map) (s : Square) (p : Pick)
-    (d : PlainCell Rings) → cell_named cells p.0.cell ≡ Some d → IsComposed m (placing p.0 p.1) w
+    (d : PlainCell Rings) → cell_named cells p.0.cell ≡ Some d → IsComposed m (map_at p.0 p.1) w
     → Under m s (λ t. PickCovers cells layer t p) ↔ Under w s (CellCovers SomeCovers cells layer d)
 pick_covers cells layer m w s p d named whole = (
   λ u.
@@ -218,13 +218,13 @@ pick_covers cells layer m w s p d named whole = (
       let one : Some a.0 ≡ Some d = sym a.1 ∙ named in
       let same : a.0 ≡ d = cc in (
         a.2.0,
-        image_square-composed m (placing p.0 p.1) w whole a.2.0 ∙ (ap (image_square m) a.2.1 ∙ u.1),
+        image_square-composed m (map_at p.0 p.1) w whole a.2.0 ∙ (ap (image_square m) a.2.1 ∙ u.1),
         subst (λ b. CellCovers SomeCovers cells layer b a.2.0) same a.2.2,
       ),
   λ u. (
-    image_square (placing p.0 p.1) u.0,
-    sym (image_square-composed m (placing p.0 p.1) w whole u.0) ∙ u.1,
-    is_some (λ b. PullsBack (CellCovers SomeCovers cells layer b) p.0 (image_square (placing p.0 p.1) u.0) p.1)
+    image_square (map_at p.0 p.1) u.0,
+    sym (image_square-composed m (map_at p.0 p.1) w whole u.0) ∙ u.1,
+    is_some (λ b. PullsBack (CellCovers SomeCovers cells layer b) p.0 (image_square (map_at p.0 p.1) u.0) p.1)
         (cell_named cells p.0.cell) d named (u.0, refl, u.2),
   ),
 )

@@ -8,7 +8,7 @@ use Rattle.lvl_grid.specs.declared.point.Point.{Point}
 use Rattle.lvl_grid.specs.declared.point.Square.{Square}
 use Rattle.lvl_grid.specs.declared.point.Window.{Window}
 use Rattle.lvl_grid.specs.declared.map.Map.{Map}
-use Rattle.lvl_grid.specs.Clip.{IsWithin as IsInWindow}
+use Rattle.lvl_grid.specs.Clip.{IsInWindow}
 use Rattle.lvl_grid.specs.Placed.{placed_point, IsPlaceOfCovered}
 use Rattle.lvl_grid.specs.Winding.{Covers, SomeCovers}
 use Rattle.lvl_grid.proofs.Anyone.{Any-push}
@@ -20,7 +20,7 @@ use Rattle.lvl_flat.specs.declared.bounds.Bounds.{Bounds}
 use Rattle.lvl_flat.specs.Flattened.{FitsRing, IsOfPart}
 use Rattle.lvl_flat.specs.Sheet.{PlainSheet}
 use Rattle.lvl_flat.specs.Sheets.{AreSorted, rings_on}
-use Rattle.lvl_flat.specs.Boxes.{IsWithin, Fits}
+use Rattle.lvl_flat.specs.Boxes.{HoldsPoint, FitsBounds}
 use Rattle.lvl_flat.specs.inside.Bounds.{IsOutside, IsInside}
 use Rattle.lvl_flat.specs.inside.Drawn.{FitsAtEach}
 use Rattle.lvl_flat.proofs.Holding.{fits_within}
@@ -64,7 +64,7 @@ covers_all P W old new xs k past h = subst (λ ys. new ↔ (old ⊎ (W × Any P 
 
 -- a ring whose placed box is outside of the window adds nothing
 pub outside_adds : (m : Map) (e : Point) (window : Window) (b placed : Bounds) (ring : List Point) (old : Rings)
-    → ((p : Point) → IsWithin b p → IsWithin placed (placed_point m e p)) → All (IsWithin b) ring
+    → ((p : Point) → HoldsPoint b p → HoldsPoint placed (placed_point m e p)) → All (HoldsPoint b) ring
     → IsOutside placed window → (q : Square)
     → SomeCovers old q ↔ (SomeCovers old q ⊎ (IsInWindow window q × IsPlaceOfCovered m e ring q))
 outside_adds m e window b placed ring old holds all out q = (
@@ -76,14 +76,15 @@ outside_adds m e window b placed ring old holds all out q = (
 )
 
 -- and its points fit
-pub placed_ring_fits : (m : Map) (e : Point) (b placed : Bounds) (ring : List Point) → Fits placed
-    → ((p : Point) → IsWithin b p → IsWithin placed (placed_point m e p)) → All (IsWithin b) ring → FitsRing m e ring
+pub placed_ring_fits : (m : Map) (e : Point) (b placed : Bounds) (ring : List Point) → FitsBounds placed
+    → ((p : Point) → HoldsPoint b p → HoldsPoint placed (placed_point m e p)) → All (HoldsPoint b) ring
+    → FitsRing m e ring
 placed_ring_fits m e b placed ring fits holds all =
     λ k v lt. fits_within placed (placed_point m e (get_or ring k v)) fits (holds _ (all k v lt))
 
 -- a ring whose placed box is inside of the window adds all that it covers
 pub inside_adds : (m : Map) (e : Point) (window : Window) (b placed : Bounds) (ring : List Point) (old new : Rings)
-    → ((p : Point) → IsWithin b p → IsWithin placed (placed_point m e p)) → All (IsWithin b) ring
+    → ((p : Point) → HoldsPoint b p → HoldsPoint placed (placed_point m e p)) → All (HoldsPoint b) ring
     → IsInside placed window → new ≡ old ++ map (placed_point m e) ring ∷ []
     → ((t : Square) → Covers (map (placed_point m e) ring) t ↔ IsPlaceOfCovered m e ring t) → (q : Square)
     → SomeCovers new q ↔ (SomeCovers old q ⊎ (IsInWindow window q × IsPlaceOfCovered m e ring q))

@@ -12,7 +12,7 @@ use Rattle.lvl_grid.specs.declared.map.Map.{Map}
 use Rattle.lvl_grid.specs.declared.map.Turn.{Turn}
 use Rattle.lvl_grid.specs.declared.map.Turn.TheVariants.{R0, R90, R180, R270}
 use Rattle.lvl_grid.specs.declared.part.Part.TheVariants.{Within}
-use Rattle.lvl_grid.specs.Clip.{put, clamp, IsWithin as IsInWindow}
+use Rattle.lvl_grid.specs.Clip.{put, clamp, IsInWindow}
 use Rattle.lvl_grid.specs.Placed.{placed_point, moved_square, IsPlaceOfCovered}
 use Rattle.lvl_grid.specs.Turn.{image, image_square, shifted, FitsPoint}
 use Rattle.lvl_grid.specs.Winding.{Covers, SomeCovers}
@@ -20,11 +20,11 @@ use Rattle.lvl_grid.proofs.Clipping.{kept_covers}
 use Rattle.lvl_grid.proofs.Composing.{composed, image-composed, same_point}
 use Rattle.lvl_grid.proofs.Squares.{same_square}
 use Rattle.lvl_names.specs.declared.layer.Layer.{Layer}
-use Rattle.lvl_cells.specs.Cells.{PlainCell, PlainShape, PlainReference, Rings, placing, cell_named}
+use Rattle.lvl_cells.specs.Cells.{PlainCell, PlainShape, PlainReference, Rings, map_at, cell_named}
 use Rattle.lvl_cells.specs.Chains.{Chain, unmoved}
 use Rattle.lvl_cells.specs.Coverage.{moved_back, ShapeCovers, PullsBack, CoversWithin, CellCovers}
 use Rattle.lvl_flat.specs.declared.bounds.Bounds.{Bounds}
-use Rattle.lvl_flat.specs.Boxes.{IsWithin, HoldsShape, HoldsCell, HoldsChains, AreBoxes}
+use Rattle.lvl_flat.specs.Boxes.{HoldsPoint, HoldsShape, HoldsCell, HoldsChains, AreBoxes}
 use Rattle.lvl_flat.specs.inside.Bounds.{HasSquare}
 use Rattle.lvl_flat.specs.inside.Bounds.{IsInside, IsPlacedOutside}
 use Rattle.lvl_flat.specs.Flattened.{AllInRange}
@@ -40,16 +40,16 @@ as_window b = record { x0 = b.low.x; y0 = b.low.y; x1 = b.high.x; y1 = b.high.y 
 clamp_kept : (low high a : ℤ) → low ≤ℤ a → a ≤ℤ high → clamp low high a ≡ a
 clamp_kept low high a h g = grind (arith, ints, clamps, h, g)
 
-point_kept : (b : Bounds) (p : Point) → IsWithin b p → put (Within (as_window b)) p ≡ p
+point_kept : (b : Bounds) (p : Point) → HoldsPoint b p → put (Within (as_window b)) p ≡ p
 point_kept b p w =
     same_point _ _ (clamp_kept b.low.x b.high.x p.x w.left w.right) (clamp_kept b.low.y b.high.y p.y w.below w.above)
 
-ring_kept : (b : Bounds) (ring : List Point) → All (IsWithin b) ring → map (put (Within (as_window b))) ring ≡ ring
+ring_kept : (b : Bounds) (ring : List Point) → All (HoldsPoint b) ring → map (put (Within (as_window b))) ring ≡ ring
 ring_kept b [] all = refl
 ring_kept b (p ∷ ring) all =
     let f : Point → Point = put (Within (as_window b)) in
-    ap (λ q. q ∷ map f ring) (point_kept b p (All-head (IsWithin b) p ring all))
-    ∙ ap (λ qs. p ∷ qs) (ring_kept b ring (All-tail (IsWithin b) p ring all))
+    ap (λ q. q ∷ map f ring) (point_kept b p (All-head (HoldsPoint b) p ring all))
+    ∙ ap (λ qs. p ∷ qs) (ring_kept b ring (All-tail (HoldsPoint b) p ring all))
 
 -- a box is in a window if its corners are
 pub inside_by : (b : Bounds) (w : Window) → w.x0 ≤ℤ b.low.x → b.high.x ≤ℤ w.x1 → w.y0 ≤ℤ b.low.y → b.high.y ≤ℤ w.y1
@@ -64,7 +64,8 @@ inside_by b w l r d u = record {
 }
 
 -- a square that a ring covers is in a box that has the ring's points
-pub ring_square : (b : Bounds) (ring : List Point) (s : Square) → All (IsWithin b) ring → Covers ring s → HasSquare b s
+pub ring_square : (b : Bounds) (ring : List Point) (s : Square) → All (HoldsPoint b) ring → Covers ring s
+    → HasSquare b s
 ring_square b ring s all covers =
     let inside : IsInWindow (as_window b) s =
     ((kept_covers (Within (as_window b)) ring s (ring_kept b ring all)).0 covers).0 in
@@ -141,8 +142,8 @@ has_step l a b h next p q r s = elim next.way [
 ]
 
 -- a box that has the images of a square's corners has its image
-pub image_within : (m : Map) (b : Bounds) (s : Square) → IsWithin b (image m (low_corner s))
-    → IsWithin b (image m (high_corner s)) → HasSquare b (image_square m s)
+pub image_within : (m : Map) (b : Bounds) (s : Square) → HoldsPoint b (image m (low_corner s))
+    → HoldsPoint b (image m (high_corner s)) → HasSquare b (image_square m s)
 image_within m b s low high =
     let both = adjoin m.flip m.turn m.at s in
     let across =
@@ -162,7 +163,7 @@ image_within m b s low high =
     }
 
 -- a box that has the images of all points of another has the images of its squares
-pub square_placed : (m : Map) (b r : Bounds) (s : Square) → ((p : Point) → IsWithin b p → IsWithin r (image m p))
+pub square_placed : (m : Map) (b r : Bounds) (s : Square) → ((p : Point) → HoldsPoint b p → HoldsPoint r (image m p))
     → HasSquare b s → HasSquare r (image_square m s)
 square_placed m b r s holds has = image_within m r s (holds (low_corner s) has.low) (holds (high_corner s) has.high)
 
@@ -171,13 +172,13 @@ moved_high e s = same_point _ _ (omega (arith, ints)) (omega (arith, ints))
 
 -- a box that has the images of all points of a ring's box has the squares that the placed ring covers
 pub placed_square : (m : Map) (e : Point) (b r : Bounds) (ring : List Point) (q : Square)
-    → ((p : Point) → IsWithin b p → IsWithin r (placed_point m e p)) → All (IsWithin b) ring
+    → ((p : Point) → HoldsPoint b p → HoldsPoint r (placed_point m e p)) → All (HoldsPoint b) ring
     → IsPlaceOfCovered m e ring q → HasSquare r q
 placed_square m e b r ring q holds all at =
     let has : HasSquare b at.from = ring_square b ring at.from all at.covered in
     subst (HasSquare r) at.place
     (image_within m r (moved_square e at.from) (holds (low_corner at.from) has.low)
-    (subst (λ p. IsWithin r (image m p)) (moved_high e at.from) (holds (high_corner at.from) has.high)))
+    (subst (λ p. HoldsPoint r (image m p)) (moved_high e at.from) (holds (high_corner at.from) has.high)))
 
 -- the box of the points whose images are in a box
 abbrev pulled : Bool → Turn → Point → Bounds → Bounds
@@ -217,10 +218,11 @@ pulled true R270 at b = record {
 abbrev PulledIn : Bool → Turn → Point → Bounds → Point → Type 0
 PulledIn f t at b p =
     let m : Map = record { flip = f; turn = t; at = at } in
-    (IsWithin b (image m p) → IsWithin (pulled f t at b) p) × (IsWithin (pulled f t at b) p → IsWithin b (image m p))
+    (HoldsPoint b (image m p) → HoldsPoint (pulled f t at b) p)
+    × (HoldsPoint (pulled f t at b) p → HoldsPoint b (image m p))
 
 within_all : (b : Bounds) (p : Point) → b.low.x ≤ℤ p.x → p.x ≤ℤ b.high.x → b.low.y ≤ℤ p.y → p.y ≤ℤ b.high.y
-    → IsWithin b p
+    → HoldsPoint b p
 within_all b p l r d u = record { left = l; right = r; below = d; above = u }
 
 pulled_in : (f : Bool) (t : Turn) (at : Point) (b : Bounds) (p : Point) → PulledIn f t at b p
@@ -282,7 +284,7 @@ pub chain_after : (cells : List (PlainCell Rings)) (c d : PlainCell Rings) (k : 
     (e : Point)
     → k < length c.references → get_or c.references k r ≡ r → j < length r.shifts → get_or r.shifts j e ≡ e
     → cell_named cells r.cell ≡ Some d → (n : ℕ) (w : Map) (f : PlainCell Rings) → Chain cells d n w f
-    → Chain cells c (suc n) (composed (placing r e) w) f
+    → Chain cells c (suc n) (composed (map_at r e) w) f
 chain_after cells c d k r j e lk at lj shift named zero w f chain = (
   unmoved,
   c,
@@ -299,15 +301,15 @@ chain_after cells c d k r j e lk at lj shift named zero w f chain = (
         e,
         lj,
         shift,
-        λ p. image-composed (placing r e) w p
-            ∙ (ap (λ (u : Map). image (placing r e) (image u p)) chain.0
-            ∙ (ap (image (placing r e)) (image-unmoved p) ∙ sym (image-unmoved (image (placing r e) p)))),
+        λ p. image-composed (map_at r e) w p
+            ∙ (ap (λ (u : Map). image (map_at r e) (image u p)) chain.0
+            ∙ (ap (image (map_at r e)) (image-unmoved p) ∙ sym (image-unmoved (image (map_at r e) p)))),
       ),
     ),
   ),
 )
 chain_after cells c d k r j e lk at lj shift named (suc n) w f chain =
-    let first : Map = placing r e in
+    let first : Map = map_at r e in
     let last = chain.3 in
     let place = last.4.1 in (
       composed first chain.0,
@@ -327,7 +329,7 @@ chain_after cells c d k r j e lk at lj shift named (suc n) w f chain =
             place.3,
             λ p. image-composed first w p
                 ∙ (ap (image first) (place.4 p)
-                ∙ sym (image-composed first chain.0 (image (placing last.1 place.1) p))),
+                ∙ sym (image-composed first chain.0 (image (map_at last.1 place.1) p))),
           ),
         ),
       ),
@@ -344,11 +346,11 @@ seen_chains cells b c d m after held = record {
       record {
         shift =
             (pulled_in m.flip m.turn m.at b w.at).0
-            (subst (IsWithin b) (composed_at m w (composed m w) (λ p. image-composed m w p)) here.shift);
+            (subst (HoldsPoint b) (composed_at m w (composed m w) (λ p. image-composed m w p)) here.shift);
         vertices =
             λ i h li k e lk j ring lj l v ll.
             (pulled_in m.flip m.turn m.at b _).0
-            (subst (IsWithin b) (image-composed m w _) (here.vertices i h li k e lk j ring lj l v ll));
+            (subst (HoldsPoint b) (image-composed m w _) (here.vertices i h li k e lk j ring lj l v ll));
       };
 }
 
@@ -369,17 +371,17 @@ own_square cells layer b c s held a =
     let e : Point = at.1 in
     let by = at.4 in
     let ring : List Point = by.1 in
-    let V : List Point → Type 0 = λ r. All (λ v. IsWithin b (image unmoved (shifted e v))) r in
+    let V : List Point → Type 0 = λ r. All (λ v. HoldsPoint b (image unmoved (shifted e v))) r in
     let shape : HoldsShape b unmoved h =
     All-contains (HoldsShape b unmoved) c.shapes h here.vertices (a.0, a.2, a.3) in
     let figure : All V h.figure =
-    All-contains (λ d. All (λ r. All (λ v. IsWithin b (image unmoved (shifted d v))) r) h.figure) h.shifts e shape
+    All-contains (λ d. All (λ r. All (λ v. HoldsPoint b (image unmoved (shifted d v))) r) h.figure) h.shifts e shape
     (at.0, at.2, at.3) in
     let points : V ring = All-contains V h.figure ring figure (by.0, by.2, by.3) in
     let inner : Bounds = seen_from (moving e) b in
-    let seen : All (IsWithin inner) ring =
-    All-weaker (λ v. IsWithin b (image unmoved (shifted e v))) (IsWithin inner)
-    (λ v w. (pulled_in false R0 e b v).0 (subst (IsWithin b) (image-unmoved (shifted e v)) w)) ring points in
+    let seen : All (HoldsPoint inner) ring =
+    All-weaker (λ v. HoldsPoint b (image unmoved (shifted e v))) (HoldsPoint inner)
+    (λ v w. (pulled_in false R0 e b v).0 (subst (HoldsPoint b) (image-unmoved (shifted e v)) w)) ring points in
     let has : HasSquare inner (moved_back e s) = ring_square inner ring (moved_back e s) seen by.4 in
     subst (HasSquare b) (moved_there e s)
     (square_placed (moving e) inner b (moved_back e s) (λ p w. (pulled_in false R0 e b p).1 w) has)
@@ -397,7 +399,7 @@ cell_square cells layer (suc n) b c s held (inr a) =
     let d : PlainCell Rings = found.0 in
     let at = found.2 in
     let e : Point = at.1 in
-    let m : Map = placing r e in
+    let m : Map = map_at r e in
     let back = at.4 in
     let inner : HoldsChains cells (seen_from m b) d =
     seen_chains cells b c d m (chain_after cells c d a.0 r at.0 e a.2 a.3 at.2 at.3 found.1) held in
@@ -424,11 +426,11 @@ outside_fits cells known i m window c boxes at out n w d chain v whole =
     record {
       shift =
           fits_within out.placed v.at out.fits
-          (subst (IsWithin out.placed) (sym (composed_at m w v whole)) (out.holds w.at held.shift));
+          (subst (HoldsPoint out.placed) (sym (composed_at m w v whole)) (out.holds w.at held.shift));
       vertices =
           λ k h lk j e lj l ring ll p x lp.
           fits_within out.placed _ out.fits
-          (subst (IsWithin out.placed) (sym (whole _)) (out.holds _ (held.vertices k h lk j e lj l ring ll p x lp)));
+          (subst (HoldsPoint out.placed) (sym (whole _)) (out.holds _ (held.vertices k h lk j e lj l ring ll p x lp)));
     }
 
 -- a square in a box is in the window between the corners
@@ -442,7 +444,7 @@ square_window b s has = record {
 
 -- what is in range is in the box of all points of 64 bits
 pub grid_holds : (cells : List (PlainCell Rings)) (c : PlainCell Rings) (b : Bounds)
-    → ((p : Point) → FitsPoint p → IsWithin b p) → AllInRange cells c → HoldsChains cells b c
+    → ((p : Point) → FitsPoint p → HoldsPoint b p) → AllInRange cells c → HoldsChains cells b c
 grid_holds cells c b every all = record {
   chains = λ n m d chain.
       let here = all n m d chain in

@@ -15,12 +15,12 @@ use Rattle.lvl_grid.proofs.Composing.{composed, image-composed}
 use Rattle.lvl_grid.proofs.Paths.{origin}
 use Rattle.lvl_names.specs.Shifts.{steps, lattice}
 use Rattle.lvl_names.proofs.Lattices.{lattice_at, lattice_long}
-use Rattle.lvl_cells.specs.Cells.{PlainCell, PlainReference, Rings, placing}
+use Rattle.lvl_cells.specs.Cells.{PlainCell, PlainReference, Rings, map_at}
 use Rattle.lvl_cells.specs.Chains.{unmoved}
 use Rattle.lvl_cells.specs.Checks.{IsTargetOf}
 use Rattle.lvl_flat.specs.declared.bounds.Bounds.{Bounds}
 use Rattle.lvl_flat.specs.declared.visit.Visit.{Visit}
-use Rattle.lvl_flat.specs.Boxes.{IsWithin, AreBoxes}
+use Rattle.lvl_flat.specs.Boxes.{HoldsPoint, AreBoxes}
 use Rattle.lvl_flat.specs.inside.Bounds.{Widens}
 use Rattle.lvl_flat.specs.inside.Passing.{before_shifts, IsSpreadOutside, IsMissed, AreMissed, IsRun, HasRows}
 use Rattle.lvl_flat.specs.inside.Passing.{HasColumns, HoldsShift, HoldsEnds, at_place, IsMissedAt}
@@ -83,9 +83,9 @@ lattice_rows a m b n some = record {
         subst (λ r. steps a (j % m) b r ≡ e) row.row (lattice_read a m b n j e ate) in
         let last : steps a (k % m) b up ≡ q =
         subst (λ r. steps a (k % m) b r ≡ q) (sym same) (lattice_read a m b n k q atq) in
-        let low : IsWithin box (steps a (i % m) b up) = subst (IsWithin box) (sym first) w in
-        let high : IsWithin box (steps a (k % m) b up) = subst (IsWithin box) (sym last) v in
-        subst (IsWithin box) middle (record {
+        let low : HoldsPoint box (steps a (i % m) b up) = subst (HoldsPoint box) (sym first) w in
+        let high : HoldsPoint box (steps a (k % m) b up) = subst (HoldsPoint box) (sym last) v in
+        subst (HoldsPoint box) middle (record {
           left =
               at_least_between box.low.x (i % m) (j % m) (k % m) a.x (pos up *ℤ b.x) row.first row.last low.left
               high.left;
@@ -134,9 +134,9 @@ lattice_columns a m b n some = record {
         subst (λ x. steps a x b (j / m) ≡ e) (sym same) (lattice_read a m b n j e ate) in
         let last : steps a c b (k / m) ≡ q =
         subst (λ x. steps a x b (k / m) ≡ q) (sym (same ∙ more)) (lattice_read a m b n k q atq) in
-        let low : IsWithin box (steps a c b (i / m)) = subst (IsWithin box) (sym first) w in
-        let high : IsWithin box (steps a c b (k / m)) = subst (IsWithin box) (sym last) v in
-        subst (IsWithin box) middle (record {
+        let low : HoldsPoint box (steps a c b (i / m)) = subst (HoldsPoint box) (sym first) w in
+        let high : HoldsPoint box (steps a c b (k / m)) = subst (HoldsPoint box) (sym last) v in
+        subst (HoldsPoint box) middle (record {
           left =
               column_least box.low.x (pos c *ℤ a.x) (i / m) (j / m) (k / m) b.x up on low.left high.left;
           right =
@@ -158,7 +158,7 @@ single_rows shifts = record {
         let one : i ≡ j = omega (arith, ends) in
         let both : Some p ≡ Some e = sym atp ∙ (ap (slice_get shifts) one ∙ ate) in
         let is : p ≡ e = cc in
-        subst (IsWithin box) is w;
+        subst (HoldsPoint box) is w;
   };
 }
 
@@ -252,7 +252,7 @@ run_shorter shifts from row count less run h = record {
 
 -- a box that misses the window at all displacements of another box misses it at each of them
 pub spread_missed : (inner by : Bounds) (m : Map) (w : Window) (e : Point) → IsSpreadOutside inner by m w
-    → IsWithin by e → IsMissed inner m w e
+    → HoldsPoint by e → IsMissed inner m w e
 spread_missed inner by m w e out within = record {
   placed = out.placed;
   holds = λ p held. out.holds p e held within;
@@ -286,38 +286,38 @@ missed_on shifts from end' to inner m w before after j e l below at =
 
 -- all shifts miss if their box does
 pub all_missed : (shifts : List Point) (from to : ℕ) (inner by : Bounds) (m : Map) (w : Window)
-    → All (IsWithin by) shifts → IsSpreadOutside inner by m w → AreMissed shifts from to inner m w
+    → All (HoldsPoint by) shifts → IsSpreadOutside inner by m w → AreMissed shifts from to inner m w
 all_missed shifts from to inner by m w all out j e l below at =
     spread_missed inner by m w e out
-    (subst (IsWithin by) (get_or_from_slice_get shifts j e e at) (all j e (slice_get_within shifts j e at)))
+    (subst (HoldsPoint by) (get_or_from_slice_get shifts j e e at) (all j e (slice_get_within shifts j e at)))
 
 -- a visit places nothing in the window at a shift at which the box of the cell misses
 pub missed_at : (cells : List (PlainCell Rings)) (known : List (Option Bounds)) (w : Window) (v : Visit)
     (c : PlainCell Rings) (r : PlainReference) (t k : ℕ) (box inner : Bounds) (e : Point) → AreBoxes cells known
     → slice_get cells v.cell ≡ Some c → slice_get c.references v.reference ≡ Some r
     → IsTargetOf cells v.cell v.reference t → slice_get known t ≡ Some (Some box)
-    → ((p : Point) → IsWithin box p → IsWithin inner (image (before_shifts r) p)) → slice_get r.shifts k ≡ Some e
+    → ((p : Point) → HoldsPoint box p → HoldsPoint inner (image (before_shifts r) p)) → slice_get r.shifts k ≡ Some e
     → IsMissed inner v.map w e → IsMissedAt cells known w v k
 missed_at cells known w v c r t k box inner e boxes at there target box_is held shift missed =
-    let m : Map = composed v.map (placing r e) in
-    let holds : (p : Point) → IsWithin box p → IsWithin missed.placed (image m p) =
+    let m : Map = composed v.map (map_at r e) in
+    let holds : (p : Point) → HoldsPoint box p → HoldsPoint missed.placed (image m p) =
     λ p within.
-    subst (IsWithin missed.placed)
-    (ap (image v.map) (moved_place r (before_shifts r) e p refl refl refl) ∙ sym (image-composed v.map (placing r e) p))
+    subst (HoldsPoint missed.placed)
+    (ap (image v.map) (moved_place r (before_shifts r) e p refl refl refl) ∙ sym (image-composed v.map (map_at r e) p))
     (missed.holds (image (before_shifts r) p) (held p within)) in
-    let start : IsWithin box origin =
+    let start : HoldsPoint box origin =
     ((boxes t box target.target box_is target.target_is).1.chains 0 unmoved target.target (refl, refl)).shift in
     let fits : FitsPoint m.at =
     fits_within missed.placed m.at missed.fits
-    (subst (IsWithin missed.placed) (sym (composed_at m unmoved m (λ p. ap (image m) (sym (image-unmoved p)))))
+    (subst (HoldsPoint missed.placed) (sym (composed_at m unmoved m (λ p. ap (image m) (sym (image-unmoved p)))))
     (holds origin start)) in
     record {
       index = t;
       map = m;
       into =
-          step_into cells (at_place v k) c r t (placing r e) m at there
+          step_into cells (at_place v k) c r t (map_at r e) m at there
           (record { shift = e; there = shift; map_is = refl }) target
-          (λ p. image-composed v.map (placing r e) p) fits;
+          (λ p. image-composed v.map (map_at r e) p) fits;
       out = record {
         box = box;
         there = box_is;

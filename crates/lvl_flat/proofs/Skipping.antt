@@ -10,14 +10,14 @@ use Rattle.lvl_grid.specs.declared.point.Point.{Point}
 use Rattle.lvl_grid.specs.declared.point.Square.{Square}
 use Rattle.lvl_grid.specs.declared.point.Window.{Window}
 use Rattle.lvl_grid.specs.declared.map.Map.{Map}
-use Rattle.lvl_grid.specs.Clip.{IsWithin as IsInWindow}
+use Rattle.lvl_grid.specs.Clip.{IsInWindow}
 use Rattle.lvl_grid.specs.Placed.{IsPlaceOfCovered}
 use Rattle.lvl_grid.proofs.Anyone.{Any-nil, Any-head, Any-uncons}
 use Rattle.lvl_grid.specs.Winding.{SomeCovers}
 use Rattle.lvl_cells.specs.Cells.{Rings}
 use Rattle.lvl_flat.specs.declared.bounds.Bounds.{Bounds}
 use Rattle.lvl_flat.specs.Flattened.{FitsRing}
-use Rattle.lvl_flat.specs.Boxes.{IsWithin}
+use Rattle.lvl_flat.specs.Boxes.{HoldsPoint}
 use Rattle.lvl_flat.specs.inside.Drawn.{FitsAtEach, RingPlacesCover}
 use Rattle.lvl_flat.specs.inside.Passing.{IsMissed, AreMissed}
 use Rattle.lvl_flat.proofs.Cutting.{covers_more, covers_all, placed_ring_fits}
@@ -110,7 +110,7 @@ all_of_more P xs from to on inside before here j d lj =
 
 -- at more, at which the box of the ring misses the window
 pub drawn_past : (m : Map) (window : Window) (b : Bounds) (ring shifts : List Point) (old now : Rings) (from to : ℕ)
-    → IsDrawnUpTo m window ring shifts old now from → All (IsWithin b) ring → from ≤ to → to ≤ length shifts
+    → IsDrawnUpTo m window ring shifts old now from → All (HoldsPoint b) ring → from ≤ to → to ≤ length shifts
     → AreMissed shifts from to b m window → IsDrawnUpTo m window ring shifts old now to
 drawn_past m window b ring shifts old now from to before held on inside missed = record {
   inside = inside;

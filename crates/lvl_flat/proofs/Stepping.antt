@@ -5,7 +5,7 @@ use Rattle.std.specs.Option.{option_map_or}
 use Rattle.std.proofs.lemmas.Option.{slice_get_within}
 use Rattle.lvl_grid.specs.declared.map.Map.{Map}
 use Rattle.lvl_grid.specs.Turn.{image, FitsPoint}
-use Rattle.lvl_cells.specs.Cells.{PlainCell, PlainReference, Rings, placing, cell_named}
+use Rattle.lvl_cells.specs.Cells.{PlainCell, PlainReference, Rings, map_at, cell_named}
 use Rattle.lvl_cells.specs.Chains.{IsComposed}
 use Rattle.lvl_cells.specs.Checks.{IsTargetOf}
 use Rattle.lvl_flat.specs.declared.visit.Visit.{Visit}
@@ -76,7 +76,7 @@ record Picked (cells : List (PlainCell Rings)) (v : Visit) (t : ℕ) (inner : Ma
       ≡ pick ∷ pending cells (at_place v (v.place + 1))
   named : cell_named cells pick.0.cell ≡ Some next
   there : slice_get cells t ≡ Some next
-  map_is : inner ≡ placing pick.0 pick.1
+  map_is : inner ≡ map_at pick.0 pick.1
 
 picked : (cells : List (PlainCell Rings)) (v : Visit) (c : PlainCell Rings) (r : PlainReference) (t : ℕ) (inner : Map)
     → slice_get cells v.cell ≡ Some c → slice_get c.references v.reference ≡ Some r

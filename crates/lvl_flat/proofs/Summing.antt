@@ -8,7 +8,7 @@ use Rattle.lvl_grid.specs.declared.point.Point.{Point}
 use Rattle.lvl_grid.specs.declared.map.Map.{Map}
 use Rattle.lvl_grid.proofs.Composing.{composed}
 use Rattle.lvl_grid.proofs.Anyone.{some_contained, Any-nil, Any-head, Any-tail, Any-uncons}
-use Rattle.lvl_cells.specs.Cells.{PlainCell, PlainReference, Rings, placing, cell_named}
+use Rattle.lvl_cells.specs.Cells.{PlainCell, PlainReference, Rings, map_at, cell_named}
 use Rattle.lvl_cells.specs.Chains.{Chain, over_chains, unmoved}
 use Rattle.lvl_flat.specs.Ends.{ends, AddsUp}
 use Rattle.lvl_flat.specs.inside.Visits.{Pick, picks}
@@ -91,7 +91,7 @@ led_from cells (suc n) c d (suc i, below, at) =
     let named : cell_named cells chosen.1.cell ≡ Some parts.0 =
     ap (λ (p : Pick). cell_named cells p.0.cell) chosen.4.4 ∙ parts.1 in (
       suc rest.0,
-      composed (placing chosen.1 chosen.4.1) rest.1,
+      composed (map_at chosen.1 chosen.4.1) rest.1,
       omega (arith, rest.2),
       chain_after cells c parts.0 chosen.0 chosen.1 chosen.4.0 chosen.4.1 chosen.2 chosen.3 chosen.4.2 chosen.4.3 named
           rest.0 rest.1 d rest.3,

@@ -11,7 +11,7 @@ use Rattle.lvl_grid.proofs.Composing.{composed, image-composed}
 use Rattle.lvl_grid.proofs.Squares.{same_square}
 use Rattle.lvl_grid.specs.Winding.{SomeCovers}
 use Rattle.lvl_names.specs.declared.layer.Layer.{Layer}
-use Rattle.lvl_cells.specs.Cells.{PlainCell, Rings, placing, cell_named}
+use Rattle.lvl_cells.specs.Cells.{PlainCell, Rings, map_at, cell_named}
 use Rattle.lvl_cells.specs.Chains.{Chain, IsComposed, unmoved}
 use Rattle.lvl_cells.specs.Checks.{Settled}
 use Rattle.lvl_cells.specs.Coverage.{ShapeCovers, CellCovers}
@@ -143,12 +143,12 @@ way_past s top A W C front v rest way past =
 
 -- picks fit if the first and the rest do
 picks_fit_cons : (cells : List (PlainCell Rings)) (m : Map) (p : Pick) (ps : List Pick)
-    → ((d : PlainCell Rings) (x : Map) → cell_named cells p.0.cell ≡ Some d → IsComposed m (placing p.0 p.1) x
+    → ((d : PlainCell Rings) (x : Map) → cell_named cells p.0.cell ≡ Some d → IsComposed m (map_at p.0 p.1) x
     → FitsUnder cells x d)
     → PicksFit cells m ps → PicksFit cells m (p ∷ ps)
 picks_fit_cons cells m p ps first rest q d x (zero, below, same) named whole =
     first d x (subst (λ (y : Pick). cell_named cells y.0.cell ≡ Some d) (sym same) named)
-    (subst (λ (y : Pick). IsComposed m (placing y.0 y.1) x) (sym same) whole)
+    (subst (λ (y : Pick). IsComposed m (map_at y.0 y.1) x) (sym same) whole)
 picks_fit_cons cells m p ps first rest q d x (suc k, below, same) named whole =
     rest q d x (k, omega arith, same) named whole
 
@@ -158,7 +158,7 @@ into_fits : (cells : List (PlainCell Rings)) (v : Visit) (i : ℕ) (m : Map) (re
     → PicksFit cells v.map (pending cells rest) → PicksFit cells v.map (pending cells v)
 into_fits cells v i m rest into under rest_fits =
     let first : (b : PlainCell Rings) (x : Map) → cell_named cells into.pick.0.cell ≡ Some b
-    → IsComposed v.map (placing into.pick.0 into.pick.1) x → FitsUnder cells x b =
+    → IsComposed v.map (map_at into.pick.0 into.pick.1) x → FitsUnder cells x b =
     λ b x named whole.
     let two : Some into.next ≡ Some b = sym into.named ∙ named in
     let same : into.next ≡ b = cc in
@@ -186,7 +186,7 @@ way_missed s top A W C front v i m rest way into under none =
 next_chain : (cells : List (PlainCell Rings)) (top : PlainCell Rings) (v : Visit) (m : Map) (p : Pick)
     (d : PlainCell Rings) → (old : IsVisit cells top v) → Contains (pending cells v) p
     → cell_named cells p.0.cell ≡ Some d
-    → IsComposed v.map (placing p.0 p.1) m → Chain cells top (suc old.steps) m d
+    → IsComposed v.map (map_at p.0 p.1) m → Chain cells top (suc old.steps) m d
 next_chain cells top v m p d old has named whole =
     let among : Contains (picks old.cell.references) p =
     picks_within old.cell.references v.reference v.place p
@@ -352,7 +352,7 @@ pub out_by_shift : (s : Settled) (top : PlainCell Rings) (A : Type 0) (W C : Lay
     (front : List Visit) (v : Visit)
     (i : ℕ) → IsUnderWay s top A W C (front ++ v ∷ []) → (o : IsOut s.cells v i) → IsOutOfRange s o.next.name
 out_by_shift s top A W C front v i way o =
-    let m : Map = composed v.map (placing o.pick.0 o.pick.1) in
+    let m : Map = composed v.map (map_at o.pick.0 o.pick.1) in
     let old = way.visits v (in_last front v) in
     record {
       top = top;
@@ -362,7 +362,7 @@ out_by_shift s top A W C front v i way o =
       cell = o.next;
       chain =
           next_chain s.cells top v m o.pick o.next old o.has o.named
-          (λ p. image-composed v.map (placing o.pick.0 o.pick.1) p);
+          (λ p. image-composed v.map (map_at o.pick.0 o.pick.1) p);
       named = refl;
       out = λ fits. o.out fits.shift;
     }

@@ -8,7 +8,7 @@ use Rattle.lvl_cells.specs.Chains.{Chain}
 use Rattle.lvl_flat.specs.declared.bounds.Bounds.{Bounds}
 
 -- the point is in the rectangle between the corners, borders included
-pub record IsWithin (b : Bounds) (p : Point) : Type 0 where
+pub record HoldsPoint (b : Bounds) (p : Point) : Type 0 where
   pub left : b.low.x ≤ℤ p.x
   pub right : p.x ≤ℤ b.high.x
   pub below : b.low.y ≤ℤ p.y
@@ -16,11 +16,11 @@ pub record IsWithin (b : Bounds) (p : Point) : Type 0 where
 
 -- the box has all vertices of the shape, each moved by each of its shifts and mapped
 abbrev pub HoldsShape : Bounds → Map → PlainShape Rings → Type 0
-HoldsShape b m h = All (λ e. All (λ ring. All (λ v. IsWithin b (image m (shifted e v))) ring) h.figure) h.shifts
+HoldsShape b m h = All (λ e. All (λ ring. All (λ v. HoldsPoint b (image m (shifted e v))) ring) h.figure) h.shifts
 
 -- the box has the shift of the map, and all vertices of the cell's own shapes, placed by the map
 pub record HoldsCell (b : Bounds) (m : Map) (d : PlainCell Rings) : Type 0 where
-  pub shift : IsWithin b m.at
+  pub shift : HoldsPoint b m.at
   pub vertices : All (HoldsShape b m) d.shapes
 
 -- that holds for the last cell and the map of each chain from the cell c
@@ -28,7 +28,7 @@ pub record HoldsChains (cells : List (PlainCell Rings)) (b : Bounds) (c : PlainC
   pub chains : (n : ℕ) (m : Map) (d : PlainCell Rings) → Chain cells c n m d → HoldsCell b m d
 
 -- the corners of the box fit in 64 signed bits
-pub record Fits (b : Bounds) : Type 0 where
+pub record FitsBounds (b : Bounds) : Type 0 where
   pub low : FitsPoint b.low
   pub high : FitsPoint b.high
 
@@ -36,4 +36,4 @@ pub record Fits (b : Bounds) : Type 0 where
 abbrev pub AreBoxes : List (PlainCell Rings) → List (Option Bounds) → Type 0
 AreBoxes cells known =
     (k : ℕ) (b : Bounds) (c : PlainCell Rings) → slice_get known k ≡ Some (Some b) → slice_get cells k ≡ Some c
-    → Fits b × HoldsChains cells b c
+    → FitsBounds b × HoldsChains cells b c

@@ -4,7 +4,7 @@ use Rattle.lvl_grid.specs.declared.map.Map.{Map}
 use Rattle.lvl_grid.specs.declared.point.Point.{Point}
 use Rattle.lvl_grid.specs.declared.point.Square.{Square}
 use Rattle.lvl_grid.specs.declared.point.Window.{Window}
-use Rattle.lvl_grid.specs.Clip.{IsWithin}
+use Rattle.lvl_grid.specs.Clip.{IsInWindow}
 use Rattle.lvl_grid.specs.Turn.{FitsPoint}
 use Rattle.lvl_grid.specs.Placed.{placed_point}
 use Rattle.lvl_grid.specs.Winding.{SomeCovers}
@@ -54,7 +54,7 @@ pub record IsFlattened (s : Settled) (sheets : List PlainSheet) : Type 0 where
 
 -- the Layer is in the list, and the square in the window
 abbrev pub IsOfPart : List Layer → Window → Layer → Square → Type 0
-IsOfPart layers window layer q = Contains layers layer × IsWithin window q
+IsOfPart layers window layer q = Contains layers layer × IsInWindow window q
 
 -- on each Layer of the list the rings cover exactly the squares of the window that the top covers, and on other Layers
 -- none; all that the top places, in the window or not, is in range

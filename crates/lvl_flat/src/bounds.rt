@@ -2,7 +2,7 @@
 ghost use Rattle.std.specs.Prelude.{◌≡◌, IfSome, IsTrue};
 ghost use Rattle.lvl_grid.specs.declared.point.Point.{Point as GridPoint};
 ghost use Rattle.lvl_grid.specs.Turn.{image, shifted, FitsPoint};
-ghost use Rattle.lvl_flat.specs.Boxes.{IsWithin, Fits};
+ghost use Rattle.lvl_flat.specs.Boxes.{HoldsPoint, FitsBounds};
 ghost use Rattle.lvl_flat.specs.inside.Bounds.{Widens, IsOutside, IsInside};
 ghost use Rattle.lvl_flat.specs.inside.Passing.{IsSpreadOutside};
 
@@ -18,7 +18,7 @@ pub(crate) struct Bounds {
 impl Bounds {
     /// The box of one point.
     pub(crate) fn around(point: Point) -> Bounds
-        ensures { IsWithin result point }
+        ensures { HoldsPoint result point }
     {
         Bounds {
             low: point,
@@ -28,7 +28,7 @@ impl Bounds {
 
     /// The box of all points of 64 bits.
     pub(crate) fn grid() -> Bounds
-        ensures { (p : GridPoint) → FitsPoint p → IsWithin result p }
+        ensures { (p : GridPoint) → FitsPoint p → HoldsPoint result p }
     {
         Bounds {
             low: Point {
@@ -75,7 +75,7 @@ impl Bounds {
     /// it is outside 64 bits.
     pub(crate) fn moved(self, by: Bounds) -> Option<Bounds>
         ensures { IfSome result
-            (λ bounds. (p e : GridPoint) → IsWithin self p → IsWithin by e → IsWithin bounds (shifted e p)) }
+            (λ bounds. (p e : GridPoint) → HoldsPoint self p → HoldsPoint by e → HoldsPoint bounds (shifted e p)) }
     {
         Some(Bounds {
             low: Point {
@@ -92,8 +92,8 @@ impl Bounds {
     /// A box that has the images of all points of this one, or None if it is outside 64 bits.
     pub(crate) fn placed(self, map: &Map) -> Option<Bounds>
         ensures held { IfSome result
-            (λ bounds. (p : GridPoint) → IsWithin self p → IsWithin bounds (image map.now p)) }
-        ensures fits { IfSome result Fits }
+            (λ bounds. (p : GridPoint) → HoldsPoint self p → HoldsPoint bounds (image map.now p)) }
+        ensures fits { IfSome result FitsBounds }
     {
         let low = map.place(self.low)?;
         let high = map.place(self.high)?;

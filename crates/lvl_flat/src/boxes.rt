@@ -2,14 +2,14 @@
 ghost use Rattle.std.specs.Prelude.{◌≡◌, ◌<◌, length, slice_get, Some, All, IsTrue, IfOk, IfSome};
 ghost use Rattle.lvl_grid.specs.declared.point.Point.{Point as GridPoint};
 ghost use Rattle.lvl_grid.specs.Turn.{image};
-ghost use Rattle.lvl_cells.specs.Cells.{PlainCell, Rings, shape_at, placing};
+ghost use Rattle.lvl_cells.specs.Cells.{PlainCell, Rings, shape_at, map_at};
 ghost use Rattle.lvl_grid.specs.declared.point.Square.{Square as GridSquare};
-ghost use Rattle.lvl_grid.specs.Clip.{IsWithin as IsInWindow};
+ghost use Rattle.lvl_grid.specs.Clip.{IsInWindow};
 ghost use Rattle.lvl_names.specs.declared.layer.Layer.{Layer as PlainLayer};
 ghost use Rattle.lvl_flat.specs.Flattened.{CoversAt, IsTopInRange, TopCovers};
-ghost use Rattle.lvl_flat.specs.Boxes.{IsWithin, HoldsChains};
+ghost use Rattle.lvl_flat.specs.Boxes.{HoldsPoint, HoldsChains};
 ghost use Rattle.lvl_flat.specs.inside.Bounds.{Widens, HoldsRing, HoldsOwn, HoldsPicks};
-ghost use Rattle.lvl_flat.specs.Boxes.{AreBoxes, Fits};
+ghost use Rattle.lvl_flat.specs.Boxes.{AreBoxes, FitsBounds};
 ghost use Rattle.lvl_flat.specs.inside.Bounds.{IsPlacedOutside};
 ghost use Rattle.lvl_flat.specs.inside.Passing.{before_shifts};
 
@@ -25,7 +25,7 @@ pub(crate) const ORIGIN: Point = Point { x: 0, y: 0 };
 
 /// The box of the shifts.
 pub(crate) fn bounds_of_shifts(shifts: &Offsets) -> Bounds
-    ensures { All (IsWithin result) shifts.now }
+    ensures { All (HoldsPoint result) shifts.now }
 {
     let (low, high) = shifts.reach();
     Bounds { low, high }
@@ -34,7 +34,7 @@ pub(crate) fn bounds_of_shifts(shifts: &Offsets) -> Bounds
 /// The box of the shifts of the shape at index `i`.
 pub(crate) fn bounds_of_shape_shifts(shapes: &Shapes, i: usize) -> Bounds
     requires { i < length shapes.now }
-    ensures { All (IsWithin result) (shape_at shapes.now i).shifts }
+    ensures { All (HoldsPoint result) (shape_at shapes.now i).shifts }
 {
     let (low, high) = shapes.reach(i);
     Bounds { low, high }
@@ -80,8 +80,8 @@ fn hold_shapes(bounds: Bounds, shapes: &Shapes) -> Option<Bounds>
 
 /// A box that has all points of `target` as the reference places them, before a move by its shifts.
 pub(crate) fn placed_by(target: Bounds, reference: &KeptReference<'_>) -> Option<Bounds>
-    ensures { IfSome result (λ placed. (p : GridPoint) → IsWithin target p
-        → IsWithin placed (image (before_shifts reference.now) p)) }
+    ensures { IfSome result (λ placed. (p : GridPoint) → HoldsPoint target p
+        → HoldsPoint placed (image (before_shifts reference.now) p)) }
 {
     target.placed(&Map {
         flip: reference.flip(),
@@ -94,8 +94,8 @@ pub(crate) fn placed_by(target: Bounds, reference: &KeptReference<'_>) -> Option
 /// or None if a corner would be outside 64 bits.
 fn hold_reference(bounds: Bounds, reference: &KeptReference<'_>, target: Bounds) -> Option<Bounds>
     ensures wider { IfSome result (Widens bounds) }
-    ensures held { IfSome result (λ held. (p : GridPoint) → IsWithin target p
-        → All (λ e. IsWithin held (image (placing reference.now e) p)) reference.now.shifts) }
+    ensures held { IfSome result (λ held. (p : GridPoint) → HoldsPoint target p
+        → All (λ e. HoldsPoint held (image (map_at reference.now e) p)) reference.now.shifts) }
 {
     let placed = placed_by(target, reference)?;
     let everywhere = placed.moved(bounds_of_shifts(reference.shifts()))?;
@@ -135,7 +135,7 @@ fn hold_references(
 /// corner would be outside 64 bits or a box of a cell that it refers to isn't known.
 fn bounds_of_cell(checked: &Checked, cell: usize, known: &[Option<Bounds>]) -> Option<Bounds>
     requires { cell < length checked.now.cells }
-    ensures fits { IfSome result Fits }
+    ensures fits { IfSome result FitsBounds }
     ensures held { IfSome result (λ held. AreBoxes checked.now.cells known.now
         → IfSome (slice_get checked.now.cells cell) (HoldsChains checked.now.cells held)) }
 {

@@ -1,7 +1,7 @@
 //! Libraries whose top places nothing outside 64 bits.
 ghost use Rattle.std.specs.Prelude.{◌≡◌, AllPairs, Contains, IfOk, IfErr, IfSome};
 ghost use Rattle.lvl_grid.specs.declared.point.Square.{Square as GridSquare};
-ghost use Rattle.lvl_grid.specs.Clip.{IsWithin};
+ghost use Rattle.lvl_grid.specs.Clip.{IsInWindow};
 ghost use Rattle.lvl_names.specs.declared.layer.Layer.{Layer as PlainLayer};
 ghost use Rattle.lvl_names.specs.Layers.{ComesBefore};
 ghost use Rattle.lvl_flat.specs.Flattened.{CoversAt, IsFlattenedWithin, IsFlatFault, IsTopInRange, TopCovers};
@@ -63,7 +63,7 @@ impl Fitted {
 
     /// A window that has every square that the top covers.
     pub fn extent(&self) -> Window
-        ensures { (layer : PlainLayer) (s : GridSquare) → TopCovers self.now layer s → IsWithin result s }
+        ensures { (layer : PlainLayer) (s : GridSquare) → TopCovers self.now layer s → IsInWindow result s }
     {
         self.boxes.extent(&self.checked)
     }
@@ -73,7 +73,7 @@ impl Fitted {
     /// signed bits.
     pub fn extent_of(&self, cell: usize) -> Option<Window>
         ensures { IfSome result (λ window. (layer : PlainLayer) (s : GridSquare)
-            → CoversAt self.now.cells cell layer s → IsWithin window s) }
+            → CoversAt self.now.cells cell layer s → IsInWindow window s) }
     {
         self.boxes.extent_of(&self.checked, cell)
     }

@@ -2,14 +2,14 @@
 ghost use Rattle.std.specs.Prelude.{◌≡◌, ◌≢◌, ◌<◌, ◌↔◌, ◌⊎◌, [], length, get_or, map as list_map, All, OnOk, IfSome};
 ghost use Rattle.lvl_grid.specs.declared.point.Point.{Point as GridPoint};
 ghost use Rattle.lvl_grid.specs.declared.point.Square.{Square as GridSquare};
-ghost use Rattle.lvl_grid.specs.Clip.{IsWithin as IsInWindow};
+ghost use Rattle.lvl_grid.specs.Clip.{IsInWindow};
 ghost use Rattle.lvl_grid.specs.Placed.{placed_point, IsPlaceOfCovered};
 ghost use Rattle.lvl_grid.specs.Winding.{IsRing, SomeCovers};
 ghost use Rattle.lvl_names.specs.declared.layer.Layer.{Layer as PlainLayer};
 ghost use Rattle.lvl_cells.specs.Cells.{shape_at};
 ghost use Rattle.lvl_flat.specs.Flattened.{FitsRing, FitShapes, IsOfPart};
 ghost use Rattle.lvl_flat.specs.Sheets.{rings_on, AreSorted, HaveSheets};
-ghost use Rattle.lvl_flat.specs.Boxes.{IsWithin, Fits};
+ghost use Rattle.lvl_flat.specs.Boxes.{HoldsPoint, FitsBounds};
 ghost use Rattle.lvl_flat.specs.inside.Drawn.{FitsAtEach, RingPlacesCover, ShapePlacesCover, ShapesPlaceCover};
 
 use crate::bounds::Bounds;
@@ -26,7 +26,7 @@ use std::alloc::Global;
 /// The box of the points of a ring.
 fn bounds_of_ring(ring: &MovedRing<'_>) -> Bounds
     requires { IsRing ring.now }
-    ensures { All (IsWithin result) ring.now }
+    ensures { All (HoldsPoint result) ring.now }
 {
     match ring.reach() {
         Some((low, high)) => Bounds { low, high },
@@ -37,7 +37,7 @@ fn bounds_of_ring(ring: &MovedRing<'_>) -> Bounds
 /// The same, point by point.
 fn bounds_of_points(ring: &MovedRing<'_>) -> Bounds
     requires { IsRing ring.now }
-    ensures { All (IsWithin result) ring.now }
+    ensures { All (HoldsPoint result) ring.now }
 {
     let Some(first) = ring.get(0) else {
         unreachable!()
@@ -56,8 +56,8 @@ fn bounds_of_points(ring: &MovedRing<'_>) -> Bounds
 /// outside 64 bits.
 fn placed_bounds(bounds: Bounds, shift: Point, map: &Map) -> Option<Bounds>
     ensures held { IfSome result
-        (λ placed. (p : GridPoint) → IsWithin bounds p → IsWithin placed (placed_point map.now shift p)) }
-    ensures fits { IfSome result Fits }
+        (λ placed. (p : GridPoint) → HoldsPoint bounds p → HoldsPoint placed (placed_point map.now shift p)) }
+    ensures fits { IfSome result FitsBounds }
 {
     bounds.moved(Bounds::around(shift))?.placed(map)
 }
@@ -98,7 +98,7 @@ fn draw_ring_at(
     window: &Window,
 ) -> Result<(), PlaceFault>
     requires ring { IsRing ring.now }
-    requires bounds { All (IsWithin bounds) ring.now }
+    requires bounds { All (HoldsPoint bounds) ring.now }
     ensures covers { OnOk result ((q : GridSquare) → SomeCovers rings.new q
         ↔ (SomeCovers rings.old q ⊎ (IsInWindow window.now q × IsPlaceOfCovered map.now shift ring.now q))) }
     ensures fits { OnOk result (FitsRing map.now shift ring.now) }
@@ -128,7 +128,7 @@ fn draw_place(
     window: &Window,
 ) -> Result<usize, PlaceFault>
     requires ring { IsRing ring.now }
-    requires bounds { All (IsWithin bounds) ring.now }
+    requires bounds { All (HoldsPoint bounds) ring.now }
     ensures covers { OnOk result ((q : GridSquare) → SomeCovers rings.new q
         ↔ (SomeCovers rings.old q ⊎ (IsInWindow window.now q × IsPlaceOfCovered map.now shift ring.now q))) }
     ensures fits { OnOk result (FitsRing map.now shift ring.now) }
@@ -153,7 +153,7 @@ fn draw_places(
     window: &Window,
 ) -> Result<(), PlaceFault>
     requires ring { IsRing ring.now }
-    requires bounds { All (IsWithin bounds) ring.now }
+    requires bounds { All (HoldsPoint bounds) ring.now }
     ensures covers { OnOk result ((q : GridSquare) → SomeCovers rings.new q
         ↔ (SomeCovers rings.old q ⊎ (IsInWindow window.now q × RingPlacesCover map.now shifts.now q ring.now))) }
     ensures fits { OnOk result (FitsAtEach map.now shifts.now ring.now) }

@@ -24,16 +24,17 @@ pub record IsGrammar {R K : Type 0} (G : Grammar R K) : Type 0 where
       → G.spells before text r → G.follows before r → ys ≡ text ++ rest → ⊥
 
 -- the second front begins with the first
-pub record GoesOn {R K : Type 0} (G : Grammar R K) (before : List R) (a b : List ℕ) (rs ss : List R) : Type 0 where
-  pub more : List R
-  pub tail : List ℕ
-  pub records_are : ss ≡ rs ++ more
-  pub bytes_are : b ≡ a ++ tail
-  pub spelled : SpellsAll G (before ++ rs) tail more
-  pub followed : FollowAll G (before ++ rs) more
+pub record IsLongerFront {R K : Type 0} (G : Grammar R K) (before : List R) (a b : List ℕ) (rs ss : List R) : Type 0
+  where
+    pub more : List R
+    pub tail : List ℕ
+    pub records_are : ss ≡ rs ++ more
+    pub bytes_are : b ≡ a ++ tail
+    pub spelled : SpellsAll G (before ++ rs) tail more
+    pub followed : FollowAll G (before ++ rs) more
 
 from_nothing : {R K : Type 0} (G : Grammar R K) (before : List R) (a b : List ℕ) (ss : List R) → a ≡ []
-    → SpellsAll G before b ss → FollowAll G before ss → GoesOn G before a b [] ss
+    → SpellsAll G before b ss → FollowAll G before ss → IsLongerFront G before a b [] ss
 from_nothing G before a b ss e p f = record {
   more = ss;
   tail = b;
@@ -44,8 +45,8 @@ from_nothing G before a b ss e p f = record {
 }
 
 one_more : {R K : Type 0} (G : Grammar R K) (before : List R) (r : R) (first a b a' b' : List ℕ) (rs ss : List R)
-    → a' ≡ first ++ a → b' ≡ first ++ b → GoesOn G (before ++ r ∷ []) a b rs ss
-    → GoesOn G before a' b' (r ∷ rs) (r ∷ ss)
+    → a' ≡ first ++ a → b' ≡ first ++ b → IsLongerFront G (before ++ r ∷ []) a b rs ss
+    → IsLongerFront G before a' b' (r ∷ rs) (r ∷ ss)
 one_more G before r first a b a' b' rs ss e f h = record {
   more = h.more;
   tail = h.tail;
@@ -59,7 +60,7 @@ one_more G before r first a b a' b' rs ss e f h = record {
 pub one_reading : {R K : Type 0} (G : Grammar R K) → IsGrammar G → (before : List R) (rs ss : List R) (a b x y : List ℕ)
     → SpellsAll G before a rs → FollowAll G before rs → SpellsAll G before b ss → FollowAll G before ss
     → a ++ x ≡ b ++ y
-    → GoesOn G before a b rs ss ⊎ GoesOn G before b a ss rs
+    → IsLongerFront G before a b rs ss ⊎ IsLongerFront G before b a ss rs
 one_reading G is before [] ss a b x y p f q g e = inl (from_nothing G before a b ss p q g)
 one_reading G is before (r ∷ rs) [] a b x y p f q g e = inr (from_nothing G before b a (r ∷ rs) q p f)
 one_reading G is before (r ∷ rs) (s ∷ ss) a b x y p f q g e =
@@ -72,7 +73,7 @@ one_reading G is before (r ∷ rs) (s ∷ ss) a b x y p f q g e =
     q.3 in
     let g' : FollowAll G (before ++ r ∷ []) ss = subst (λ i. FollowAll G (before ++ i ∷ []) ss) (sym same.1) g.1 in
     let b' : b ≡ p.0 ++ q.1 = q.4 ∙ ap (λ l. l ++ q.1) (sym same.0) in
-    subst (λ i. GoesOn G before a b (r ∷ rs) (i ∷ ss) ⊎ GoesOn G before b a (i ∷ ss) (r ∷ rs)) same.1
+    subst (λ i. IsLongerFront G before a b (r ∷ rs) (i ∷ ss) ⊎ IsLongerFront G before b a (i ∷ ss) (r ∷ rs)) same.1
     (elim (one_reading G is (before ++ r ∷ []) rs ss p.1 q.1 x y p.3 f.1 q' g' rest) [
       | inl m ↦ inl (one_more G before r p.0 p.1 q.1 a b rs ss p.4 b' m)
       | inr m ↦ inr (one_more G before r p.0 q.1 p.1 b a ss rs b' p.4 m)
@@ -87,7 +88,7 @@ spells_empty G is before bytes (r ∷ rs) n p =
 
 -- a front that begins with another of at least its length has the same records
 pub goes_same : {R K : Type 0} (G : Grammar R K) → IsGrammar G → (a b : List ℕ) (rs ss : List R) → length b ≤ length a
-    → GoesOn G [] a b rs ss → ss ≡ rs
+    → IsLongerFront G [] a b rs ss → ss ≡ rs
 goes_same G is a b rs ss l h =
     let n : length h.tail ≡ 0 = omega (arith, ap length h.bytes_are, length-append a h.tail, l) in
     h.records_are ∙ ap (λ m. rs ++ m) (spells_empty G is ([] ++ rs) h.tail h.more n h.spelled) ∙ append-nil rs

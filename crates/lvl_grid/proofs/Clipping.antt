@@ -11,7 +11,7 @@ use Rattle.lvl_grid.specs.declared.point.Window.{Window}
 use Rattle.lvl_grid.specs.Winding.{last_or, path_edges, IsStraight, IsRing, goes_up, goes_down, winding, Covers}
 use Rattle.lvl_grid.specs.declared.part.Part.{Part}
 use Rattle.lvl_grid.specs.declared.part.Part.TheVariants.{Left, Right, Within}
-use Rattle.lvl_grid.specs.Clip.{clamp, clamped, IsWithin, put, IsIn, IsBeyond}
+use Rattle.lvl_grid.specs.Clip.{clamp, clamped, IsInWindow, put, IsIn, IsBeyond}
 use Rattle.lvl_grid.proofs.Turning.{count-cons}
 use Rattle.lvl_grid.proofs.Sides.{side, winding_by_side, winding_left, winding_below, level_off}
 use Rattle.lvl_grid.proofs.Placing.{map-map, straight_ring}
@@ -100,7 +100,8 @@ max_above : (x0 a x : ℤ) → x <ℤ x0 → int_lt x (int_max a x0) ≡ true
 max_above x0 a x h = grind (arith, ints)
 
 -- a square is within the window, or the clamped ring doesn't wind round it
-within_or_level : (w : Window) (ps : List Point) (s : Square) → IsWithin w s ⊎ (winding (map (clamped w) ps) s ≡ pos 0)
+within_or_level : (w : Window) (ps : List Point) (s : Square)
+    → IsInWindow w s ⊎ (winding (map (clamped w) ps) s ≡ pos 0)
 within_or_level w ps s =
     by_lt_z s.x w.x0 (λ a. inr (winding_left s _
     (all_map (λ q. int_lt s.x q.x ≡ true) (clamped w) (λ p. above_low w.x0 w.x1 p.x s.x a) ps)))

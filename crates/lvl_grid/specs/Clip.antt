@@ -17,7 +17,7 @@ abbrev pub clamped : Window → Point → Point
 clamped w p = record { x = clamp w.x0 w.x1 p.x; y = clamp w.y0 w.y1 p.y }
 
 -- the window has the square
-pub record IsWithin (w : Window) (s : Square) : Type 0 where
+pub record IsInWindow (w : Window) (s : Square) : Type 0 where
   pub x_from : w.x0 ≤ℤ s.x
   pub x_below : s.x <ℤ w.x1
   pub y_from : w.y0 ≤ℤ s.y
@@ -33,7 +33,7 @@ put (Within w) p = clamped w p
 abbrev pub IsIn : Part → Square → Type 0
 IsIn (Left at) s = s.x <ℤ at
 IsIn (Right at) s = at ≤ℤ s.x
-IsIn (Within w) s = IsWithin w s
+IsIn (Within w) s = IsInWindow w s
 
 -- the point is on the part's border or beyond it; no point is if the part is a window
 abbrev pub IsBeyond : Part → Point → Type 0

@@ -24,7 +24,7 @@ union a b = record {
 }
 
 -- each kind of records in the first set is in the second
-pub record IsWithin (less more : Ignore) : Type 0 where
+pub record IsSubsetOf (less more : Ignore) : Type 0 where
   pub properties : less.properties ≡ true → more.properties ≡ true
   pub texts : less.texts ≡ true → more.texts ≡ true
   pub names : less.names ≡ true → more.names ≡ true

@@ -3,7 +3,8 @@ use Rattle.std.proofs.Common.{◌≡◌, ℕ, zero, suc, inl, inr, List, [], ◌
 use Rattle.std.proofs.Common.{◌∙◌, subst, arith, append_assoc, append-nil, length-append}
 use Rattle.std.proofs.lemmas.List.{append_cancel_left}
 use Rattle.lvl_io.specs.Known.{Agree}
-use Rattle.lvl_io.specs.Spelling.{IsPrefixFree, IsFront, IsBegun, NoneAgrees, CanSay, Gives, After, UnlessBreached}
+use Rattle.lvl_io.specs.Spelling.{IsPrefixFree, FirstBytesSay, IsBegun, NoneAgrees, CanSay, Gives, After}
+use Rattle.lvl_io.specs.Spelling.{UnlessBreached}
 use Rattle.lvl_io.specs.Spelling.{Then, Chain}
 
 -- prefix-free
@@ -151,7 +152,7 @@ then_breached S T b f s =
 -- if the front says x, nothing that agrees with the bytes says anything else
 
 pub front_only : {A : Type 0} (S : List ℕ → A → Type 0) (xs : List ℕ) (n : ℕ) (x y : A) → IsPrefixFree S
-    → IsFront S xs n x → (b : List ℕ) → S b y → Agree b xs → x ≡ y
+    → FirstBytesSay S xs n x → (b : List ℕ) → S b y → Agree b xs → x ≡ y
 front_only S xs n x y s f b p agree = elim agree.1 [
   | inl longer ↦
       (s.only f.bytes b (f.rest ++ agree.0) [] x y f.says p
@@ -162,12 +163,12 @@ front_only S xs n x y s f b p agree = elim agree.1 [
 
 -- bytes that breach a rule begin with no value's spelling
 pub breached_none : {A F : Type 0} (S : List ℕ → Result A F → Type 0) (xs : List ℕ) (n : ℕ) (f : F) (x : A)
-    → IsPrefixFree S → IsFront S xs n (Err f) → NoneAgrees S xs (Ok x)
+    → IsPrefixFree S → FirstBytesSay S xs n (Err f) → NoneAgrees S xs (Ok x)
 breached_none S xs n f x s p = λ b q agree. let h : Err f ≡ Ok x = front_only S xs n (Err f) (Ok x) s p b q agree in cc
 
 -- an unfinished beginning has no complete spelling at its front
 pub begun_open : {A : Type 0} (S : List ℕ → A → Type 0) (xs : List ℕ) (n : ℕ) (x : A) → IsPrefixFree S → IsBegun S xs
-    → IsFront S xs n x → ⊥
+    → FirstBytesSay S xs n x → ⊥
 begun_open S xs n x s p f =
     let e = (s.only f.bytes (xs ++ p.more) (f.rest ++ p.more) [] x p.value f.says p.says
     (sym (append_assoc f.bytes f.rest p.more) ∙ ap (λ l. l ++ p.more) (sym f.whole)

@@ -12,7 +12,7 @@ pub record IsPrefixFree {A : Type 0} (S : List ℕ → A → Type 0) : Type 0 wh
   pub only : (b c m n : List ℕ) (x y : A) → S b x → S c y → b ++ m ≡ c ++ n → (b ≡ c) × (x ≡ y)
 
 -- the first n bytes of xs say x
-pub record IsFront {A : Type 0} (S : List ℕ → A → Type 0) (xs : List ℕ) (n : ℕ) (x : A) : Type 0 where
+pub record FirstBytesSay {A : Type 0} (S : List ℕ → A → Type 0) (xs : List ℕ) (n : ℕ) (x : A) : Type 0 where
   pub bytes : List ℕ
   pub rest : List ℕ
   pub says : S bytes x

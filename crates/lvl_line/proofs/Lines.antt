@@ -19,7 +19,7 @@ use Rattle.clap.specs.Faults.{entered_fault, fault_of, level_fault, other_fault,
 use Rattle.clap.specs.Faults.{word_fault}
 use Rattle.clap.specs.declared.error.kind.ErrorKind.TheVariants as kind
 use Rattle.lvl_line.specs.Line.{line}
-use Rattle.lvl_line.specs.inside.Given.{Gives, IsJobOf}
+use Rattle.lvl_line.specs.inside.Given.{HasValue, IsJobOf}
 use Rattle.lvl_line.proofs.Values.{HaveValues, WantValues, given_has_first, have_finished, neither}
 
 -- ---- a level that ends without a fault
@@ -157,13 +157,13 @@ abbrev digest : Shape
 digest = option_map_or (λ s. s) (slice_get (built line).subs 2) (built line).top
 
 compare_gives : (rows : List Row) → HaveValues rows → misses compare.rules rows ≡ false
-    → Gives (codes "A") rows × Gives (codes "B") rows
+    → HasValue (codes "A") rows × HasValue (codes "B") rows
 compare_gives rows have none =
     let first = given_one (is_given (codes "A") rows) _ none in
     let second = given_one (is_given (codes "B") rows) _ first.1 in
     (given_has_first (codes "A") rows have first.0, given_has_first (codes "B") rows have second.0)
 
-one_gives : (rows : List Row) → HaveValues rows → misses show.rules rows ≡ false → Gives (codes "A") rows
+one_gives : (rows : List Row) → HaveValues rows → misses show.rules rows ≡ false → HasValue (codes "A") rows
 one_gives rows have none = given_has_first (codes "A") rows have (given_one (is_given (codes "A") rows) _ none).0
 
 abbrev IsAJob : Option (Text × List Row) → Type 0

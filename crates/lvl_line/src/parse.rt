@@ -4,7 +4,7 @@ ghost use Rattle.std.specs.String.{string_bytes};
 ghost use Rattle.clap.specs.Words.{first_of, found_of, kind_of, rows_of, takes};
 ghost use Rattle.lvl_line.specs.Line.{line, IsJob, IsNamed, IsRefusal};
 ghost use Rattle.lvl_line.specs.declared.job.LineFault.TheVariants.{OutOfMemory, Words};
-ghost use Rattle.lvl_line.specs.inside.Given.{Gives, IsJobOf};
+ghost use Rattle.lvl_line.specs.inside.Given.{HasValue, IsJobOf};
 
 use crate::command::program;
 use crate::job::{Job, LineFault};
@@ -24,7 +24,7 @@ fn value_of(alloc: Global, matches: &ArgMatches<'_>, id: &str) -> Result<Option<
 
 /// A copy of the name of a file, which `clap` has found in the line.
 fn file_of(alloc: Global, matches: &ArgMatches<'_>, id: &str) -> Result<String, AllocError>
-    requires { Gives id.now (rows_of (found_of matches.now)) }
+    requires { HasValue id.now (rows_of (found_of matches.now)) }
     ensures { IfOk result (λ text. first_of id.now (rows_of (found_of matches.now)) ≡ Some (string_bytes text)) }
 {
     let Some(text) = matches.get_str(id) else {
@@ -35,8 +35,8 @@ fn file_of(alloc: Global, matches: &ArgMatches<'_>, id: &str) -> Result<String, 
 
 /// The job of `compare`.
 fn compare_of(alloc: Global, matches: &ArgMatches<'_>) -> Result<Job, AllocError>
-    requires first { Gives (codes "A") (rows_of (found_of matches.now)) }
-    requires second { Gives (codes "B") (rows_of (found_of matches.now)) }
+    requires first { HasValue (codes "A") (rows_of (found_of matches.now)) }
+    requires second { HasValue (codes "B") (rows_of (found_of matches.now)) }
     ensures { IfOk result (λ job. IsNamed job (Some (codes "compare", rows_of (found_of matches.now)))) }
 {
     Ok(Job::Compare {

@@ -8,7 +8,7 @@ use Rattle.std.proofs.lemmas.List.Sorted.{Contains-permutation}
 use Rattle.lvl_grid.specs.declared.point.Point.{Point}
 use Rattle.lvl_grid.specs.declared.point.Square.{Square}
 use Rattle.lvl_grid.specs.declared.point.Window.{Window}
-use Rattle.lvl_grid.specs.Clip.{IsWithin}
+use Rattle.lvl_grid.specs.Clip.{IsInWindow}
 use Rattle.lvl_grid.specs.Winding.{Covers, SomeCovers}
 use Rattle.lvl_grid.proofs.Anyone.{Any-push, Any-nil, Any-left, Any-right, Any-sides, some_contained}
 
@@ -19,8 +19,8 @@ any_pushed P old new x e = subst (λ (xs : List _). Any P xs ↔ (Any P old ⊎ 
 
 -- one more ring, which covers what a window has
 pub window_pushed : (into after : List (List Point)) (ring : List Point) (window : Window) (s : Square)
-    → after ≡ into ++ ring ∷ [] → (Covers ring s ↔ IsWithin window s)
-    → SomeCovers after s ↔ (SomeCovers into s ⊎ IsWithin window s)
+    → after ≡ into ++ ring ∷ [] → (Covers ring s ↔ IsInWindow window s)
+    → SomeCovers after s ↔ (SomeCovers into s ⊎ IsInWindow window s)
 window_pushed into after ring window s e same =
     let pushed = any_pushed (λ r. Covers r s) into after ring e in (
       λ a. elim (pushed.0 a) [ inl o ↦ inl o | inr r ↦ inr (same.0 r) ],
@@ -61,9 +61,9 @@ any_replaced P rest old new last next both before after same =
 
 -- at first both parts are empty
 pub none_parted : (s : Square) (rest : List (List Point)) (windows : List Window) → rest ≡ [] → windows ≡ []
-    → (SomeCovers rest s ⊎ Any (λ window. IsWithin window s) windows) ↔ SomeCovers [] s
+    → (SomeCovers rest s ⊎ Any (λ window. IsInWindow window s) windows) ↔ SomeCovers [] s
 none_parted s rest windows e f = rw (e, f) (
-  λ k. elim k [ inl r ↦ r | inr w ↦ absurd (Any-nil (λ window. IsWithin window s) w) ],
+  λ k. elim k [ inl r ↦ r | inr w ↦ absurd (Any-nil (λ window. IsInWindow window s) w) ],
   λ r. inl r,
 )
 
@@ -153,7 +153,7 @@ rest_more more = (
 -- a window that begins within another or where it ends, with the same abscissas
 pub both_have : (first second window : Window) → second.x0 ≡ first.x0 → second.x1 ≡ first.x1 → window.x0 ≡ first.x0
     → window.x1 ≡ first.x1 → window.y0 ≡ first.y0 → window.y1 ≡ int_max first.y1 second.y1 → first.y0 ≤ℤ second.y0
-    → second.y0 ≤ℤ first.y1 → (s : Square) → IsWithin window s ↔ (IsWithin first s ⊎ IsWithin second s)
+    → second.y0 ≤ℤ first.y1 → (s : Square) → IsInWindow window s ↔ (IsInWindow first s ⊎ IsInWindow second s)
 both_have first second window c d x0 x1 y0 y1 low touch s = (
   λ h.
       let a = h.x_from in

@@ -7,7 +7,7 @@ use Rattle.std.proofs.lemmas.Int.{ints}
 use Rattle.lvl_grid.specs.declared.point.Point.{Point}
 use Rattle.lvl_grid.specs.declared.point.Square.{Square}
 use Rattle.lvl_grid.specs.declared.point.Window.{Window}
-use Rattle.lvl_grid.specs.Clip.{IsWithin}
+use Rattle.lvl_grid.specs.Clip.{IsInWindow}
 use Rattle.lvl_grid.specs.Winding.{Edge, edges, winding, goes_up, goes_down, Covers}
 use Rattle.lvl_grid.proofs.Anyone.{untrue}
 use Rattle.lvl_grid.proofs.Sides.{side, winding_by_side}
@@ -68,7 +68,7 @@ sides_are a b c d s left top right bottom = rw (left, top, right, bottom) refl
 -- four points of a rectangle whose first edge is vertical cover the squares between them
 pub covers_four : (a b c d : Point) (w : Window) → b.x ≡ a.x → b.y ≡ c.y → d.x ≡ c.x → d.y ≡ a.y
     → w.x0 ≡ int_min a.x c.x → w.y0 ≡ int_min a.y c.y → w.x1 ≡ int_max a.x c.x → w.y1 ≡ int_max a.y c.y
-    → (s : Square) → Covers (a ∷ b ∷ c ∷ d ∷ []) s ↔ IsWithin w s
+    → (s : Square) → Covers (a ∷ b ∷ c ∷ d ∷ []) s ↔ IsInWindow w s
 covers_four a b c d w left top right bottom x0 y0 x1 y1 s =
     let x : Bool = int_lt s.x a.x in
     let z : Bool = int_lt s.x c.x in

@@ -11,7 +11,7 @@ use Rattle.std.proofs.lemmas.List.Sorted.{sum_by-IsPermutation}
 use Rattle.lvl_grid.specs.declared.point.Point.{Point}
 use Rattle.lvl_grid.specs.declared.point.Square.{Square}
 use Rattle.lvl_grid.specs.declared.point.Window.{Window}
-use Rattle.lvl_grid.specs.Clip.{IsWithin}
+use Rattle.lvl_grid.specs.Clip.{IsInWindow}
 use Rattle.lvl_grid.specs.Winding.{Edge, path_edges, goes_up, goes_down, winding, Covers}
 use Rattle.lvl_grid.proofs.Paths.{path_at, edges_from_last}
 use Rattle.lvl_grid.proofs.Sides.{winding_left}
@@ -126,7 +126,7 @@ pub row_pushed : (left right low high : ℤ) (old new : List Window) (s : Square
     → IsWithinSome new s ↔ (IsWithinSome old s ⊎ (IsBetween left right s × (low ≤ℤ s.y) × (s.y <ℤ high)))
 row_pushed left right low high old new s e =
     let row : Window = record { x0 = left; y0 = low; x1 = right; y1 = high } in
-    let pushed = any_pushed (λ window. IsWithin window s) old new row e in (
+    let pushed = any_pushed (λ window. IsInWindow window s) old new row e in (
       λ n. elim (pushed.0 n) [
         | inl o ↦ inl o
         | inr w ↦ inr ((w.x_from, w.x_below), w.y_from, w.y_below)

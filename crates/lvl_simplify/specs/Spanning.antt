@@ -2,8 +2,8 @@
 use Rattle.std.specs.Prelude.{List, Any}
 use Rattle.lvl_grid.specs.declared.point.Square.{Square}
 use Rattle.lvl_grid.specs.declared.point.Window.{Window}
-use Rattle.lvl_grid.specs.Clip.{IsWithin}
+use Rattle.lvl_grid.specs.Clip.{IsInWindow}
 
 -- at least one of the windows has the square
 abbrev pub IsWithinSome : List Window → Square → Type 0
-IsWithinSome windows s = Any (λ window. IsWithin window s) windows
+IsWithinSome windows s = Any (λ window. IsInWindow window s) windows

@@ -4,7 +4,7 @@
 //! ones do. Rings within the joined ones are left out.
 ghost use Rattle.std.specs.Prelude.{◌↔◌, ◌⊎◌, ◌∷◌, [], IsTrue, IfSome, IfOk, OnOk};
 ghost use Rattle.lvl_grid.specs.declared.point.Square.{Square as GridSquare};
-ghost use Rattle.lvl_grid.specs.Clip.{IsWithin};
+ghost use Rattle.lvl_grid.specs.Clip.{IsInWindow};
 ghost use Rattle.lvl_grid.specs.Winding.{Covers, SomeCovers, IsRing};
 ghost use Rattle.lvl_simplify.specs.Spanning.{IsWithinSome};
 
@@ -15,7 +15,7 @@ use std::alloc::{AllocError, Global};
 /// The window of the squares that a ring of four points covers, if it is a rectangle whose first
 /// edge is vertical, else None.
 fn window_of_four(a: Point, b: Point, c: Point, d: Point) -> Option<Window>
-    ensures { IfSome result (λ window. (s : GridSquare) → Covers (a ∷ b ∷ c ∷ d ∷ []) s ↔ IsWithin window s) }
+    ensures { IfSome result (λ window. (s : GridSquare) → Covers (a ∷ b ∷ c ∷ d ∷ []) s ↔ IsInWindow window s) }
 {
     if a.x != b.x || b.y != c.y || c.x != d.x || d.y != a.y {
         return None;
@@ -30,7 +30,7 @@ fn window_of_four(a: Point, b: Point, c: Point, d: Point) -> Option<Window>
 
 /// The window of the squares that a ring covers, if it is a rectangle of four points, else None.
 pub fn window_of(ring: &[Point]) -> Option<Window>
-    ensures { IfSome result (λ window. (s : GridSquare) → Covers ring.now s ↔ IsWithin window s) }
+    ensures { IfSome result (λ window. (s : GridSquare) → Covers ring.now s ↔ IsInWindow window s) }
 {
     let [a, b, c, d] = ring else {
         return None;
@@ -55,7 +55,7 @@ pub fn extent(rings: &Rings) -> (i64, i64) {
 
 /// The window of a ring, if it is a rectangle from the abscissa `left` to `right`, else None.
 fn spanned(ring: &[Point], left: i64, right: i64) -> Option<Window>
-    ensures { IfSome result (λ window. (s : GridSquare) → Covers ring.now s ↔ IsWithin window s) }
+    ensures { IfSome result (λ window. (s : GridSquare) → Covers ring.now s ↔ IsInWindow window s) }
 {
     let [a, _, c, _] = ring else {
         return None;
@@ -111,7 +111,7 @@ fn parted(alloc: Global, rings: &Rings) -> Result<(Vec<Window>, Rings), AllocErr
 /// begins within the rows of the first or where these end, else None.
 fn both(first: Window, second: Window) -> Option<Window>
     ensures { IfSome result
-        (λ window. (s : GridSquare) → IsWithin window s ↔ (IsWithin first s ⊎ IsWithin second s)) }
+        (λ window. (s : GridSquare) → IsInWindow window s ↔ (IsInWindow first s ⊎ IsInWindow second s)) }
 {
     if second.x0 != first.x0 || second.x1 != first.x1 {
         return None;
@@ -128,7 +128,7 @@ fn both(first: Window, second: Window) -> Option<Window>
 /// Joins a window with the last one if they overlap or touch, else appends it.
 fn push_joined(windows: &mut Vec<Window>, next: Window) -> Result<(), AllocError>
     ensures { OnOk result ((s : GridSquare)
-        → IsWithinSome windows.new.items s ↔ (IsWithinSome windows.old.items s ⊎ IsWithin next s)) }
+        → IsWithinSome windows.new.items s ↔ (IsWithinSome windows.old.items s ⊎ IsInWindow next s)) }
 {
     let Some(last) = windows.pop() else {
         windows.push(next)?;
@@ -158,7 +158,7 @@ fn joined_windows(alloc: Global, mut windows: Vec<Window>) -> Result<Vec<Window>
 /// Appends the rectangle of a window, if it has squares.
 fn push_window(rings: &mut Rings, window: Window) -> Result<(), AllocError>
     ensures { OnOk result ((s : GridSquare)
-        → SomeCovers rings.new s ↔ (SomeCovers rings.old s ⊎ IsWithin window s)) }
+        → SomeCovers rings.new s ↔ (SomeCovers rings.old s ⊎ IsInWindow window s)) }
 {
     let Window { x0, y0, x1, y1 } = window;
     if x1 <= x0 || y1 <= y0 {
@@ -185,7 +185,7 @@ fn push_windows(rings: &mut Rings, windows: &[Window]) -> Result<(), AllocError>
 
 /// Whether all points of a ring are in a window, borders included.
 fn is_inside(ring: &[Point], window: Window) -> bool
-    ensures { IsTrue result → (s : GridSquare) → Covers ring.now s → IsWithin window s }
+    ensures { IsTrue result → (s : GridSquare) → Covers ring.now s → IsInWindow window s }
 {
     let part = Part::Within(window);
     for point in ring {

@@ -17,7 +17,7 @@ use Rattle.lvl_sweep.specs.inside.Alive.{alive}
 use Rattle.lvl_sweep.specs.Ahead.{is_from}
 use Rattle.lvl_sweep.specs.inside.Rows.{from_on, steps_from, inside, far_of, Balanced, row, alive_at, row_at, as_value}
 use Rattle.lvl_sweep.specs.inside.Rows.{same_row, bands_from}
-use Rattle.lvl_sweep.proofs.Steps.{IsWithin, steps_give, none_from, first_from, same_from}
+use Rattle.lvl_sweep.proofs.Steps.{IsNoneBeyond, steps_give, none_from, first_from, same_from}
 use Rattle.lvl_sweep.proofs.Insides.{each_within}
 use Rattle.lvl_sweep.proofs.RowLists.{row_none, row_covers, row_intervals}
 use Rattle.lvl_sweep.proofs.Slabs.{early_rest, at_head, past_head}
@@ -85,7 +85,7 @@ dead_far far y low high h k = by_lt_z y (pos 0)
     (λ ge. let above : high ≤ℤ y = omega (arith, ints) in let t : int_lt y high ≡ false = grind (arith, ints) in
     elim (int_le low y) as (λ b. (b && int_lt y high) ≡ false) [ true ↦ t | false ↦ refl ])
 
-within : (es : List Edge) → IsWithin (far_of es) (λ y. as_value (row_at es y))
+within : (es : List Edge) → IsNoneBeyond (far_of es) (λ y. as_value (row_at es y))
 within es y far =
     ap as_value (row_at_none es y (All-weaker
     (λ e. (unsigned_abs e.low + unsigned_abs e.x + unsigned_abs e.high) ≤ far_of es) (λ e. alive y e ≡ false)

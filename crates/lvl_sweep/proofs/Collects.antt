@@ -6,7 +6,7 @@ use Rattle.std.specs.Vec.{vec_len, vec_capacity}
 use Rattle.std.proofs.lemmas.List.{take_more, append_assoc}
 use Rattle.lvl_sweep.specs.declared.edge.Edge.{Edge}
 use Rattle.lvl_sweep.specs.declared.windings.Windings.{Windings}
-use Rattle.lvl_sweep.specs.declared.walk.Place.{Place}
+use Rattle.lvl_sweep.specs.declared.walk.WalkPosition.{WalkPosition}
 use Rattle.lvl_sweep.specs.inside.Edges.{AreAtRest}
 use Rattle.lvl_sweep.specs.inside.Rows.{row, row_from}
 use Rattle.lvl_sweep.specs.inside.Walks.{HasPassed, IsParted, is_inside}
@@ -16,7 +16,7 @@ use Rattle.std.proofs.lemmas.Bool.Decides.{Decides-int_eq}
 use Rattle.lvl_sweep.proofs.BandLists.{pair_is}
 
 -- the intervals taken so far and those from the place on are those of the row
-pub record Collected (es : List Edge) (w w' : Windings) (old new : Vec (ℤ × ℤ)) (p : Place) : Type 0 where
+pub record Collected (es : List Edge) (w w' : Windings) (old new : Vec (ℤ × ℤ)) (p : WalkPosition) : Type 0 where
   pub passed : HasPassed es p.at w'
   pub parted : IsParted es p.at p.x
   pub rings : length w'.counts.items ≡ length w.counts.items
@@ -26,7 +26,7 @@ pub record Collected (es : List Edge) (w w' : Windings) (old new : Vec (ℤ × �
   pub capacity : vec_capacity new ≡ vec_capacity old
 
 -- the first intervals of the list and those from the place on are those of the row
-pub record Matched (es : List Edge) (w w' : Windings) (is : List (ℤ × ℤ)) (seen : ℕ) (p : Place) : Type 0 where
+pub record Matched (es : List Edge) (w w' : Windings) (is : List (ℤ × ℤ)) (seen : ℕ) (p : WalkPosition) : Type 0 where
   pub passed : HasPassed es p.at w'
   pub parted : IsParted es p.at p.x
   pub rings : length w'.counts.items ≡ length w.counts.items

@@ -9,7 +9,7 @@ use Rattle.lvl_sweep.specs.declared.edge.Edge.{Edge}
 use Rattle.lvl_sweep.specs.Slab.{Step, holds, value_of, Follows, AreSteps, spans, AreIntervals}
 use Rattle.lvl_sweep.specs.Ahead.{is_from}
 use Rattle.lvl_sweep.specs.inside.Rows.{steps_from, inside, far_of, Balanced, ends, row_from, row}
-use Rattle.lvl_sweep.proofs.Steps.{IsWithin, steps_give, none_from, first_from, same_from}
+use Rattle.lvl_sweep.proofs.Steps.{IsNoneBeyond, steps_give, none_from, first_from, same_from}
 use Rattle.lvl_sweep.proofs.Insides.{inside_far}
 
 -- whether a row is inside at an abscissa, as a value of steps
@@ -19,7 +19,7 @@ mark es z = cond (inside es z) (Some tt) None
 one_value : (x y : Unit {0}) → Decides true (x ≡ y)
 one_value x y = (λ h. refl, λ h. refl)
 
-within : (es : List Edge) → Balanced es → IsWithin (far_of es) (mark es)
+within : (es : List Edge) → Balanced es → IsNoneBeyond (far_of es) (mark es)
 within es balanced z far = rw (inside_far es z balanced far) refl
 
 -- nothing inside from the place on

@@ -96,7 +96,7 @@ join_is same laws a b (Some v) (t ∷ ts) lt steps starts =
     sym (and_from (int_eq b t.from) (same v t.value) ((Decides-int_eq b t.from).1 e) ((laws v t.value).1 f)) ∙ h in
     cc))
 
-pub record Gives {V : Type 0} (f : ℤ → Option V) (a : ℤ) (ss : List (Step V)) : Type 0 where
+pub record DescribesFrom {V : Type 0} (f : ℤ → Option V) (a : ℤ) (ss : List (Step V)) : Type 0 where
   pub steps : AreSteps ss
   pub starts : StartsAt a ss
   pub values : (z : ℤ) → a ≤ℤ z → value_of ss z ≡ f z
@@ -105,11 +105,12 @@ at_place : (z a : ℤ) → a ≤ℤ z → z <ℤ (a +ℤ pos 1) → a ≡ z
 at_place z a h k = omega (arith, ints)
 
 steps_at_give : {V : Type 0} (same : V → V → Bool) → ((x y : V) → Decides (same x y) (x ≡ y))
-    → (f : ℤ → Option V) (a : ℤ) (n : ℕ) → ((z : ℤ) → (a +ℤ pos n) ≤ℤ z → f z ≡ None) → Gives f a (steps_at same f a n)
+    → (f : ℤ → Option V) (a : ℤ) (n : ℕ) → ((z : ℤ) → (a +ℤ pos n) ≤ℤ z → f z ≡ None)
+    → DescribesFrom f a (steps_at same f a n)
 steps_at_give same laws f a zero none =
     record { steps = tt; starts = tt; values = λ z h. sym (none z (omega (arith, ints, h))) }
 steps_at_give {V} same laws f a (suc n) none =
-    let rest : Gives f (a +ℤ pos 1) (steps_at same f (a +ℤ pos 1) n) = steps_at_give same laws f (a +ℤ pos 1) n
+    let rest : DescribesFrom f (a +ℤ pos 1) (steps_at same f (a +ℤ pos 1) n) = steps_at_give same laws f (a +ℤ pos 1) n
     (λ z h. none z (omega (arith, ints, h))) in
     let more : Joins a (a +ℤ pos 1) (f a) (steps_at same f (a +ℤ pos 1) n)
     (join same a (a +ℤ pos 1) (f a) (steps_at same f (a +ℤ pos 1) n)) = join_is same laws a (a +ℤ pos 1) (f a)
@@ -123,8 +124,8 @@ steps_at_give {V} same laws f a (suc n) none =
     }
 
 -- the function has no value further than `far` from 0
-abbrev pub IsWithin : {V : Type 0} → ℕ → (ℤ → Option V) → Type 0
-IsWithin far f = (z : ℤ) → far < unsigned_abs z → f z ≡ None
+abbrev pub IsNoneBeyond : {V : Type 0} → ℕ → (ℤ → Option V) → Type 0
+IsNoneBeyond far f = (z : ℤ) → far < unsigned_abs z → f z ≡ None
 
 off_place : {V : Type 0} (o : Option ℤ) (f : ℤ → Option V) (z : ℤ) → f z ≡ None → from_on o f z ≡ None
 off_place {V} o f z h = elim (is_from o z) as (λ t. cond t (f z) None ≡ None) [ true ↦ h | false ↦ refl ]
@@ -134,11 +135,11 @@ pub record GivesFrom {V : Type 0} (o : Option ℤ) (f : ℤ → Option V) (ss : 
   pub values : (z : ℤ) → value_of ss z ≡ from_on o f z
 
 pub steps_give : {V : Type 0} (same : V → V → Bool) → ((x y : V) → Decides (same x y) (x ≡ y))
-    → (far : ℕ) (o : Option ℤ) (f : ℤ → Option V) → IsWithin far f → GivesFrom o f (steps_from same far o f)
+    → (far : ℕ) (o : Option ℤ) (f : ℤ → Option V) → IsNoneBeyond far f → GivesFrom o f (steps_from same far o f)
 unfolding steps_from
 steps_give {V} same laws far o f within =
     let low : ℤ = neg_ℤ (pos far) in
-    let given : Gives (from_on o f) low (steps_at same (from_on o f) low (far + far + 1)) =
+    let given : DescribesFrom (from_on o f) low (steps_at same (from_on o f) low (far + far + 1)) =
     steps_at_give same laws (from_on o f) low (far + far + 1)
     (λ z h. off_place o f z (within z (omega (arith, ints, h)))) in
     record {
@@ -151,7 +152,7 @@ steps_give {V} same laws far o f within =
 
 -- two functions that agree, each from its bound on, have the same steps
 pub same_from : {V : Type 0} (same : V → V → Bool) → ((x y : V) → Decides (same x y) (x ≡ y))
-    → (far far' : ℕ) (o o' : Option ℤ) (f f' : ℤ → Option V) → IsWithin far f → IsWithin far' f'
+    → (far far' : ℕ) (o o' : Option ℤ) (f f' : ℤ → Option V) → IsNoneBeyond far f → IsNoneBeyond far' f'
     → ((z : ℤ) → from_on o f z ≡ from_on o' f' z) → steps_from same far o f ≡ steps_from same far' o' f'
 same_from same laws far far' o o' f f' within within' agree =
     let a = steps_give same laws far o f within in
@@ -166,7 +167,7 @@ missing {V} o f z none =
 
 -- a function without values from the bound on has no steps
 pub none_from : {V : Type 0} (same : V → V → Bool) → ((x y : V) → Decides (same x y) (x ≡ y))
-    → (far : ℕ) (o : Option ℤ) (f : ℤ → Option V) → IsWithin far f → ((z : ℤ) → is_from o z ≡ true → f z ≡ None)
+    → (far : ℕ) (o : Option ℤ) (f : ℤ → Option V) → IsNoneBeyond far f → ((z : ℤ) → is_from o z ≡ true → f z ≡ None)
     → steps_from same far o f ≡ []
 none_from same laws far o f within none =
     let a = steps_give same laws far o f within in
@@ -206,7 +207,7 @@ before_step {V} o f z none =
 
 -- a function whose first value from the bound on is v, from s up to e, has that step first, then the steps from e on
 pub first_from : {V : Type 0} (same : V → V → Bool) → ((x y : V) → Decides (same x y) (x ≡ y))
-    → (far : ℕ) (o : Option ℤ) (f : ℤ → Option V) (s e : ℤ) (v : V) → IsWithin far f
+    → (far : ℕ) (o : Option ℤ) (f : ℤ → Option V) (s e : ℤ) (v : V) → IsNoneBeyond far f
     → is_from o s ≡ true → s <ℤ e
     → ((z : ℤ) → is_from o z ≡ true → z <ℤ s → f z ≡ None)
     → ((z : ℤ) → s ≤ℤ z → z <ℤ e → f z ≡ Some v)

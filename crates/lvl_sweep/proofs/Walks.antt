@@ -15,7 +15,7 @@ use Rattle.std.proofs.lemmas.List.Sums.{sum_by-take-drop}
 use mathlib.Core.Bool.{beq}
 use Rattle.lvl_sweep.specs.declared.edge.Edge.{Edge}
 use Rattle.lvl_sweep.specs.declared.windings.Windings.{Windings}
-use Rattle.lvl_sweep.specs.declared.walk.Place.{Place}
+use Rattle.lvl_sweep.specs.declared.walk.WalkPosition.{WalkPosition}
 use Rattle.lvl_sweep.specs.inside.Edges.{turn, how_many_turn, net, net_left, IsInside, AreAtRest}
 use Rattle.lvl_sweep.specs.inside.Rows.{inside, Balanced, row_from, far_of}
 use Rattle.lvl_sweep.specs.Ahead.{is_from}
@@ -177,7 +177,7 @@ between es i (Some c) z d rising place later before =
     )
 
 -- up to the place the wanted side wasn't found
-pub record Looked (es : List Edge) (wanted : Bool) (first now : Place) (w w' : Windings) : Type 0 where
+pub record Looked (es : List Edge) (wanted : Bool) (first now : WalkPosition) (w w' : Windings) : Type 0 where
   pub passed : HasPassed es now.at w'
   pub parted : IsParted es now.at now.x
   pub rings : length w'.counts.items ≡ length w.counts.items
@@ -189,7 +189,7 @@ pub numbers_of : (es : List Edge) (n m : ℕ) → m ≡ n → All (λ e. e.ring 
 numbers_of es n m e h = rw e h
 
 -- nor is it found before the next edge
-pub looked_on : (es : List Edge) (wanted : Bool) (first now : Place) (w w' : Windings) (d : Edge)
+pub looked_on : (es : List Edge) (wanted : Bool) (first now : WalkPosition) (w w' : Windings) (d : Edge)
     → IsRowOf es (length w.counts.items) → Looked es wanted first now w w' → (z : ℤ) → is_from first.x z ≡ true
     → (now.at < length es → z <ℤ (get_or es now.at d).x) → inside es z ≡ not wanted
 looked_on es wanted first now w w' d row h z past before =
@@ -211,7 +211,8 @@ right_of es i j (Some c) d h le lt =
     rw (at, same) at far
 
 -- the edges of one more abscissa, after which the side is the same
-pub look_more : (es : List Edge) (wanted : Bool) (first now : Place) (w w' v : Windings) (at : ℕ) (x : ℤ) (d : Edge)
+pub look_more : (es : List Edge) (wanted : Bool) (first now : WalkPosition) (w w' v : Windings) (at : ℕ) (x : ℤ)
+    (d : Edge)
     → IsRowOf es (length w.counts.items) → Looked es wanted first now w w' → now.at < length es
     → x ≡ (get_or es now.at d).x
     → HasPassed es at v → IsPartedAt es at x → now.at < at → length v.counts.items ≡ length w'.counts.items
@@ -228,7 +229,7 @@ look_more es wanted first now w w' v at x d row h lt is passed place on rings si
 }
 
 -- the edges of one more abscissa, after which the side is the wanted one
-pub turned : (es : List Edge) (wanted : Bool) (first now : Place) (w w' v : Windings) (at : ℕ) (x : ℤ) (d : Edge)
+pub turned : (es : List Edge) (wanted : Bool) (first now : WalkPosition) (w w' v : Windings) (at : ℕ) (x : ℤ) (d : Edge)
     → IsRowOf es (length w.counts.items) → IsParted es first.at first.x → Looked es wanted first now w w'
     → now.at < length es → x ≡ (get_or es now.at d).x
     → now.at < at → is_inside v ≡ wanted
@@ -241,7 +242,8 @@ turned es wanted first now w w' v at x d row place h lt is on side = record {
   before = λ z past before. looked_on es wanted first now w w' d row h z past (λ short. rw is at before);
 }
 
-pub never : (es : List Edge) (wanted : Bool) (first now : Place) (w w' : Windings) → IsRowOf es (length w.counts.items)
+pub never : (es : List Edge) (wanted : Bool) (first now : WalkPosition) (w w' : Windings)
+    → IsRowOf es (length w.counts.items)
     → Looked es wanted first now w w' → length es ≤ now.at → NeverTurns es wanted first now
 never es wanted first now w w' row h far = record {
   all = omega (arith, far, h.passed.within);
@@ -262,7 +264,7 @@ right_at : (o : Option ℤ) (a x : ℤ) → o ≡ Some a → IsRightOf o x → a
 right_at o a x e h = rw e at h
 
 -- if the walk gets inside at s and outside at e, the first interval is from s to e
-pub first_interval : (es : List Edge) (n : ℕ) (p q r : Place) (v w : Windings) (s e : ℤ) → IsRowOf es n
+pub first_interval : (es : List Edge) (n : ℕ) (p q r : WalkPosition) (v w : Windings) (s e : ℤ) → IsRowOf es n
     → All (λ e. e.ring < length w.counts.items) es → HasTurned es true p q v s → HasTurned es false q r w e
     → HasPassed es r.at w → IsParted es r.at r.x → row_from es p.x ≡ (s, e) ∷ row_from es r.x
 first_interval es n p q r v w s e row numbers t u passed place =
@@ -273,11 +275,12 @@ first_interval es n p q r v w s e row numbers t u passed place =
     (turning_reports es r.at w e numbers passed parted.left parted.right ∙ u.side) in
     rw u.here first
 
-pub no_interval : (es : List Edge) (n : ℕ) (p q : Place) → IsRowOf es n → NeverTurns es true p q → row_from es p.x ≡ []
+pub no_interval : (es : List Edge) (n : ℕ) (p q : WalkPosition) → IsRowOf es n → NeverTurns es true p q
+    → row_from es p.x ≡ []
 no_interval es n p q row h = row_none es p.x row.balanced h.after
 
 -- a walk that gets inside gets outside again
-pub turns_out : (es : List Edge) (n : ℕ) (p q r : Place) (v : Windings) (s : ℤ) → IsRowOf es n
+pub turns_out : (es : List Edge) (n : ℕ) (p q r : WalkPosition) (v : Windings) (s : ℤ) → IsRowOf es n
     → HasTurned es true p q v s → NeverTurns es false q r → ⊥
 turns_out es n p q r v s row t h =
     let z : ℤ = pos (far_of es + unsigned_abs s + 1) in

@@ -13,7 +13,7 @@ use crate::windings::Windings;
 
 /// How far a walk has come: it has passed `at` edges, the last of them at the abscissa `x`.
 #[derive(Clone, Copy)]
-pub struct Place {
+pub struct WalkPosition {
     pub at: usize,
     pub x: Option<i64>,
 }
@@ -52,24 +52,24 @@ fn pass_abscissa(active: &[Edge], at: usize, windings: &mut Windings) -> usize
 /// returns the abscissa of the last one. None if that doesn't happen before the end of the row.
 fn pass_until(
     active: &[Edge],
-    place: &mut Place,
+    position: &mut WalkPosition,
     windings: &mut Windings,
     wanted: bool,
 ) -> Option<i64>
     requires row { IsRowOf active.now (length windings.old.counts.items) }
-    requires passed { HasPassed active.now place.old.at windings.old }
-    requires parted { IsParted active.now place.old.at place.old.x }
+    requires passed { HasPassed active.now position.old.at windings.old }
+    requires parted { IsParted active.now position.old.at position.old.x }
     requires side { is_inside windings.old ≡ not wanted }
-    ensures passed { HasPassed active.now place.new.at windings.new }
-    ensures parted { IsParted active.now place.new.at place.new.x }
+    ensures passed { HasPassed active.now position.new.at windings.new }
+    ensures parted { IsParted active.now position.new.at position.new.x }
     ensures rings { length windings.new.counts.items ≡ length windings.old.counts.items }
-    ensures turned { IfSome result (λ x. HasTurned active.now wanted place.old place.new windings.new x) }
-    ensures never { IfNone result (NeverTurns active.now wanted place.old place.new) }
+    ensures turned { IfSome result (λ x. HasTurned active.now wanted position.old position.new windings.new x) }
+    ensures never { IfNone result (NeverTurns active.now wanted position.old position.new) }
 {
-    while place.at < active.len() {
-        let x = active[place.at].x;
-        let at = pass_abscissa(active, place.at, windings);
-        *place = Place { at, x: Some(x) };
+    while position.at < active.len() {
+        let x = active[position.at].x;
+        let at = pass_abscissa(active, position.at, windings);
+        *position = WalkPosition { at, x: Some(x) };
         if (windings.turning != 0) == wanted {
             return Some(x);
         }
@@ -78,22 +78,26 @@ fn pass_until(
 }
 
 /// The next interval that is covered, or None if the row has no more.
-fn next_interval(active: &[Edge], place: &mut Place, windings: &mut Windings) -> Option<(i64, i64)>
+fn next_interval(
+    active: &[Edge],
+    position: &mut WalkPosition,
+    windings: &mut Windings,
+) -> Option<(i64, i64)>
     requires row { IsRowOf active.now (length windings.old.counts.items) }
-    requires passed { HasPassed active.now place.old.at windings.old }
-    requires parted { IsParted active.now place.old.at place.old.x }
+    requires passed { HasPassed active.now position.old.at windings.old }
+    requires parted { IsParted active.now position.old.at position.old.x }
     requires outside { is_inside windings.old ≡ false }
-    ensures passed { HasPassed active.now place.new.at windings.new }
-    ensures parted { IsParted active.now place.new.at place.new.x }
+    ensures passed { HasPassed active.now position.new.at windings.new }
+    ensures parted { IsParted active.now position.new.at position.new.x }
     ensures rings { length windings.new.counts.items ≡ length windings.old.counts.items }
-    ensures first { IfSome result (λ i. row_from active.now place.old.x ≡ i ∷ row_from active.now place.new.x) }
+    ensures first { IfSome result (λ i. row_from active.now position.old.x ≡ i ∷ row_from active.now position.new.x) }
     ensures outside { IfSome result (λ _. is_inside windings.new ≡ false) }
-    ensures on { IfSome result (λ _. place.old.at + 2 ≤ place.new.at) }
-    ensures none { IfNone result (row_from active.now place.old.x ≡ []) }
-    ensures all { IfNone result (place.new.at ≡ length active.now) }
+    ensures on { IfSome result (λ _. position.old.at + 2 ≤ position.new.at) }
+    ensures none { IfNone result (row_from active.now position.old.x ≡ []) }
+    ensures all { IfNone result (position.new.at ≡ length active.now) }
 {
-    let start = pass_until(active, place, windings, true)?;
-    let end = pass_until(active, place, windings, false)?;
+    let start = pass_until(active, position, windings, true)?;
+    let end = pass_until(active, position, windings, false)?;
     Some((start, end))
 }
 
@@ -122,8 +126,8 @@ pub(crate) fn collect_row(active: &[Edge], windings: &mut Windings, intervals: &
     ensures capacity { vec_capacity intervals.new ≡ vec_capacity intervals.old }
 {
     intervals.clear();
-    let mut place = Place { at: 0, x: None };
-    while let Some(interval) = next_interval(active, &mut place, windings) {
+    let mut position = WalkPosition { at: 0, x: None };
+    while let Some(interval) = next_interval(active, &mut position, windings) {
         intervals.push_reserved(interval);
     }
 }
@@ -136,11 +140,11 @@ pub(crate) fn is_row(active: &[Edge], windings: &mut Windings, intervals: &[(i64
     ensures rest { AreAtRest windings.new }
     ensures rings { length windings.new.counts.items ≡ length windings.old.counts.items }
 {
-    let mut place = Place { at: 0, x: None };
+    let mut position = WalkPosition { at: 0, x: None };
     let mut seen = 0;
-    while let Some(interval) = next_interval(active, &mut place, windings) {
+    while let Some(interval) = next_interval(active, &mut position, windings) {
         if seen == intervals.len() || intervals[seen] != interval {
-            forget(active, place.at, windings);
+            forget(active, position.at, windings);
             return false;
         }
         seen += 1;

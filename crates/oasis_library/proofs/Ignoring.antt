@@ -2,7 +2,7 @@
 use Rattle.std.proofs.Common.{ℕ, List}
 use Rattle.lvl_path.specs.Figure.{Figure}
 use Rattle.lvl_cells.specs.Cells.{PlainCell, Rings}
-use Rattle.lvl_ignore.specs.Ignored.{IsWithin}
+use Rattle.lvl_ignore.specs.Ignored.{IsSubsetOf}
 use Rattle.lvl_ignore.specs.declared.ignore.Ignore.{Ignore}
 use Rattle.oasis_stream.proofs.Growing.{whole_grows}
 use Rattle.oasis_library.specs.Library.{SpellsLibrary, IsRead}
@@ -10,7 +10,7 @@ use Rattle.oasis_library.specs.declared.head.OasisHead.{OasisHead}
 use Rattle.oasis_library.proofs.Readable.{law_only}
 
 -- a file that spells a library when less is ignored spells the same library, with the same head, when more is
-pub library_grows : (less more : Ignore) → IsWithin less more → (bytes : List ℕ) (cells : List (PlainCell Figure))
+pub library_grows : (less more : Ignore) → IsSubsetOf less more → (bytes : List ℕ) (cells : List (PlainCell Figure))
     (h : OasisHead) → SpellsLibrary less bytes cells h → SpellsLibrary more bytes cells h
 library_grows less more within bytes cells h p =
     record {
@@ -21,7 +21,7 @@ library_grows less more within bytes cells h p =
     }
 
 -- what is read when less is ignored is read when more is
-pub read_grows : (less more : Ignore) → IsWithin less more → (bytes : List ℕ) (found : List (PlainCell Rings))
+pub read_grows : (less more : Ignore) → IsSubsetOf less more → (bytes : List ℕ) (found : List (PlainCell Rings))
     (h : OasisHead) → IsRead less bytes found h → IsRead more bytes found h
 read_grows less more within bytes found h p =
     let spelled = library_grows less more within bytes p.cells h p.spelled in

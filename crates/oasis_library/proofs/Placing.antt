@@ -6,7 +6,7 @@ use Rattle.std.proofs.lemmas.List.Elements.{All-head, All-tail, All-weaker}
 use Rattle.lvl_grid.specs.declared.map.Map.{Map}
 use Rattle.lvl_grid.specs.declared.point.Point.{Point}
 use Rattle.lvl_cells.specs.Cells.{PlainPlacement}
-use Rattle.lvl_cells.specs.inside.Spans.{GoesOn}
+use Rattle.lvl_cells.specs.inside.Spans.{IsPrefixOf}
 use Rattle.lvl_cells.proofs.Spanned.{no_fewer}
 use Rattle.oasis_records.specs.declared.cell.CellRef.{CellRef}
 use Rattle.oasis_figures.specs.Figures.{Placed}
@@ -19,14 +19,14 @@ HaveTargets targets placements = All (λ p. p.key < length targets) placements
 
 -- keys stay indexes of targets after more targets are kept
 pub targets_still : (old new : List Target) (placements : List PlainPlacement)
-    → GoesOn old new → HaveTargets old placements → HaveTargets new placements
+    → IsPrefixOf old new → HaveTargets old placements → HaveTargets new placements
 targets_still old new placements on h =
     All-weaker {X = PlainPlacement} (λ p. p.key < length old) (λ p. p.key < length new)
     (λ p low. omega (arith, low, no_fewer old new on)) placements h
 
 -- placements stay the same after more targets are kept
 pub placed_same : (old new : List Target) (placements : List PlainPlacement)
-    → GoesOn old new → HaveTargets old placements
+    → IsPrefixOf old new → HaveTargets old placements
     → map (placed_from new) placements ≡ map (placed_from old) placements
 placed_same old new [] on h = refl
 placed_same old new (p ∷ ps) on h =
@@ -40,7 +40,7 @@ placed_same old new (p ∷ ps) on h =
 -- one more placement, appended
 pub one_more : (old new : List Target) (placements : List PlainPlacement) (p : PlainPlacement) (cell : CellRef)
     (by : Map) (shifts : List Point) (before : List Placed)
-    → GoesOn old new → HaveTargets old placements → map (placed_from old) placements ≡ before
+    → IsPrefixOf old new → HaveTargets old placements → map (placed_from old) placements ≡ before
     → IsKeyOf new p.key cell
     → p ≡ record { key = p.key; flip = by.flip; turn = by.turn; at = by.at; shifts = shifts }
     → map (placed_from new) (placements ++ p ∷ []) ≡ before ++ placed cell by shifts ∷ []

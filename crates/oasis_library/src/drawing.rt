@@ -1,7 +1,6 @@
 //! A cell whose records are being read.
 ghost use Rattle.std.specs.Prelude.{◌≡◌, ◌++◌, ◌∷◌, [], All, OnOk, List, Some};
 ghost use Rattle.lvl_grid.specs.Turn.{FitsPoint, shifted};
-ghost use Rattle.lvl_cells.specs.inside.Boxed.{boxed_list};
 ghost use Rattle.oasis_records.specs.declared.record.Record.{Record};
 ghost use Rattle.oasis_figures.specs.declared.drawn.Drawn.TheVariants.{Placement as APlacement};
 ghost use Rattle.oasis_library.specs.inside.Kept.{begun, placed, target_ref};
@@ -21,7 +20,7 @@ use std::marker::Model;
 pub(crate) struct Drawing {
     pub(crate) name: Target,
     pub(crate) shapes: Shapes,
-    pub(crate) placements: Option<Box<PlacedCells>>,
+    pub(crate) placements: PlacedCells,
 }
 
 impl Model for Drawing {
@@ -31,34 +30,12 @@ impl Model for Drawing {
     ghost Value = { PlainDrawing Rings };
 
     ghost use Rattle.oasis_library.specs.inside.Kept.{target_ref};
-    ghost use Rattle.lvl_cells.specs.inside.Boxed.{boxed_list};
 
     ghost view = { λ d. record {
       name = target_ref d.name;
       shapes = d.shapes;
-      placements = boxed_list d.placements;
+      placements = d.placements;
     } };
-}
-
-/// Adds a placement of the cell by the map, at each of the shifts.
-fn push_placement(
-    alloc: Global,
-    placements: &mut Option<Box<PlacedCells>>,
-    cell: &CellRef,
-    by: Map,
-    shifts: Offsets,
-) -> Result<(), AllocError>
-    requires { All (λ e. FitsPoint (shifted by.at e)) shifts }
-    ensures { OnOk result
-        (boxed_list placements.new ≡ boxed_list placements.old ++ placed cell.now by shifts ∷ []) }
-{
-    if let Some(placements) = placements {
-        return placements.push(alloc, cell, by, shifts);
-    }
-    let mut first = PlacedCells::new(alloc);
-    first.push(alloc, cell, by, shifts)?;
-    *placements = Some(Box::new(alloc, first)?);
-    Ok(())
 }
 
 impl Drawing {
@@ -69,7 +46,7 @@ impl Drawing {
         Drawing {
             name,
             shapes: Shapes::new(alloc),
-            placements: None,
+            placements: PlacedCells::new(),
         }
     }
 
@@ -108,7 +85,7 @@ impl Drawing {
             unreachable!()
         };
         let shifts = modal.shifts().clone()?;
-        push_placement(alloc, &mut self.placements, cell, by, shifts)?;
+        self.placements.push(alloc, cell, by, shifts)?;
         Ok(())
     }
 }

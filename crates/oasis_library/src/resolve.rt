@@ -9,7 +9,6 @@ ghost use Rattle.oasis_library.specs.Names.{IsReference, IsCell, AreCells, numbe
 ghost use Rattle.oasis_library.specs.Names.{IsNamed, IsUnnamed};
 ghost use Rattle.oasis_library.specs.inside.Holds.{HoldsNames};
 ghost use Rattle.oasis_library.specs.inside.Kept.{target_ref, placed_from};
-ghost use Rattle.lvl_cells.specs.inside.Boxed.{boxed_list};
 ghost use Rattle.oasis_library.specs.inside.Resolved.{IsNameOf};
 
 use crate::drawing::Drawing;
@@ -105,30 +104,13 @@ fn references_of(
     ensures err { IfErr result (λ e. Says e (λ number. (given : List Given) → HoldsNames names.now given
         → IsUnnamed given (flat_map (λ p. number_in p.cell) placed) number)) }
 {
-    let (targets, placements) = placed.into_parts();
+    let (targets, placements) = placed.into_parts(alloc)?;
     if let Some(number) = first_unnamed(names, &targets, &placements) {
         return Err(Cause::Breach(number));
     }
     let named = names_of(alloc, names, &targets)?;
     let references = References::of(alloc, named, placements)?;
     Ok(references)
-}
-
-// The same, if there are any placements.
-fn some_references_of(
-    alloc: Global,
-    names: &Names,
-    placed: Option<Box<PlacedCells>>,
-) -> Result<References, Cause<u64>>
-    ensures ok { IfOk result (λ references. (given : List Given) → HoldsNames names.now given
-        → AllZip (IsReference given) (boxed_list placed) references) }
-    ensures err { IfErr result (λ e. Says e (λ number. (given : List Given) → HoldsNames names.now given
-        → IsUnnamed given (flat_map (λ p. number_in p.cell) (boxed_list placed)) number)) }
-{
-    match placed {
-        Some(placed) => references_of(alloc, names, Box::into_inner(placed)),
-        None => Ok(References::new(alloc)),
-    }
 }
 
 // The cell that the drawing is. Its own number is looked up before those of the cells that it
@@ -144,7 +126,7 @@ fn cell_of(alloc: Global, names: &Names, drawing: Drawing) -> Result<Cell, Cause
         placements,
     } = drawing;
     let name = name_of_target(names, &name)?;
-    let references = some_references_of(alloc, names, placements)?;
+    let references = references_of(alloc, names, placements)?;
     Ok(Cell {
         name,
         shapes,

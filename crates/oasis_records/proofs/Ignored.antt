@@ -2,7 +2,7 @@
 use Rattle.std.proofs.Common.{◌≡◌, ℕ, ◌/◌, ◌==◌, Bool, true, false, if◌then◌else◌, List, [], ◌∷◌, Result, Ok, Err, refl}
 use Rattle.std.proofs.Common.{sym, subst}
 use Rattle.lvl_ignore.specs.declared.ignore.Ignore.{Ignore}
-use Rattle.lvl_ignore.specs.Ignored.{IsWithin}
+use Rattle.lvl_ignore.specs.Ignored.{IsSubsetOf}
 use Rattle.oasis_records.specs.Records.{Row, look_up, record_type, types, type_if}
 use Rattle.oasis_values.specs.Known.{Unkept, Seen}
 use Rattle.oasis_values.specs.Numbers.{IsUnsigned}
@@ -111,7 +111,7 @@ look_up_grows less more (r ∷ rs) n t all e =
     (look_up more rs n) t (type_if_grows (r.is_read less) (r.is_read more) n r.kind t all.0)
     (look_up_grows less more rs n t all.1) e
 
-pub type_grows : (less more : Ignore) → IsWithin less more → (n : ℕ) (t : RecordType) → record_type less n ≡ Ok t
+pub type_grows : (less more : Ignore) → IsSubsetOf less more → (n : ℕ) (t : RecordType) → record_type less n ≡ Ok t
     → record_type more n ≡ Ok t
 type_grows less more within n t e =
     let a : true ≡ true → true ≡ true = λ h. h in

@@ -3,7 +3,7 @@ use Rattle.std.proofs.Common.{◌≡◌, ℕ, Bool, true, false, if◌then◌els
 use Rattle.std.proofs.Common.{subst}
 use Rattle.lvl_io.specs.Spelling.{UnlessBreached}
 use Rattle.lvl_grammar.specs.Front.{SpellsAll, FollowAll, SpellsWhole}
-use Rattle.lvl_ignore.specs.Ignored.{IsWithin}
+use Rattle.lvl_ignore.specs.Ignored.{IsSubsetOf}
 use Rattle.lvl_ignore.specs.declared.ignore.Ignore.{Ignore}
 use Rattle.oasis_values.specs.Numbers.{IsUnsigned}
 use Rattle.oasis_values.proofs.Codes.{seen_code}
@@ -35,7 +35,7 @@ by_grows : (rs : List Record) (id : ℕ) (r s : Result RecordType RecordRule) (t
 by_grows rs id (Ok k) s t h e = subst (λ u. type_by rs id u ≡ Ok t) (sym (h k refl)) e
 by_grows rs id (Err f) s t h e = absurd (none_typed (is_expected rs (Err f)) (OfRecord f) (Unexpected id) t e)
 
-typed_grows : (less more : Ignore) → IsWithin less more → (b : Bool) (n : ℕ) (r s : Result RecordType OasisKind)
+typed_grows : (less more : Ignore) → IsSubsetOf less more → (b : Bool) (n : ℕ) (r s : Result RecordType OasisKind)
     → ((k : RecordType) → r ≡ Ok k → s ≡ Ok k) → (bytes : List ℕ) (i : Item)
     → IsTyped b n r less bytes (Ok (Ok i)) → IsTyped b n s more bytes (Ok (Ok i))
 typed_grows less more within b n (Ok k) s h bytes i p =
@@ -43,7 +43,7 @@ typed_grows less more within b n (Ok k) s h bytes i p =
     ((typed_code b n (Ok k)).grows less more within bytes (Ok i) p)
 typed_grows less more within b n (Err k) s h bytes i p = absurd (let e : Ok (Ok i) ≡ Ok (Err k) = p.1 in cc)
 
-next_grows : (less more : Ignore) → IsWithin less more → (rs : List Record) (bytes first second : List ℕ) (i : Item)
+next_grows : (less more : Ignore) → IsSubsetOf less more → (rs : List Record) (bytes first second : List ℕ) (i : Item)
     (m : Result Measured ValueFault) → Sized IsUnsigned less first m
     → UnlessBreached (λ id. IsTypedAfter rs id less) m second (Ok (Ok i)) → bytes ≡ first ++ second
     → IsNext rs more bytes (Ok (Ok i))
@@ -60,14 +60,14 @@ next_grows less more within rs bytes first second i (Ok id) p q e =
     }
 next_grows less more within rs bytes first second i (Err f) p q e = absurd (let h : Ok (Ok i) ≡ Err f = q.1 in cc)
 
-item_grows : (less more : Ignore) → IsWithin less more → (before : List Item) (bytes : List ℕ) (i : Item)
+item_grows : (less more : Ignore) → IsSubsetOf less more → (before : List Item) (bytes : List ℕ) (i : Item)
     → IsItem before less bytes (Ok (Ok i)) → IsItem before more bytes (Ok (Ok i))
 item_grows less more within [] bytes i p =
     (seen_code of_magic (magic_code magic_bytes)).grows less more within bytes (Ok i) p
 item_grows less more within (j ∷ js) bytes i p =
     next_grows less more within (records (j ∷ js)) bytes p.first p.second i p.value p.first_says p.second_says p.joined
 
-all_grow : (less more : Ignore) → IsWithin less more → (before is : List Item) (bytes : List ℕ)
+all_grow : (less more : Ignore) → IsSubsetOf less more → (before is : List Item) (bytes : List ℕ)
     → SpellsAll (oasis less) before bytes is → SpellsAll (oasis more) before bytes is
 all_grow less more within before [] bytes p = p
 all_grow less more within before (i ∷ is) bytes p = (
@@ -85,7 +85,7 @@ follow_all less more before [] p = p
 follow_all less more before (i ∷ is) p = (p.0, follow_all less more (before ++ i ∷ []) is p.1)
 
 -- it is then a whole file of the same items
-pub whole_grows : (less more : Ignore) → IsWithin less more → (bytes : List ℕ) (is : List Item)
+pub whole_grows : (less more : Ignore) → IsSubsetOf less more → (bytes : List ℕ) (is : List Item)
     → SpellsWhole (oasis less) bytes is → SpellsWhole (oasis more) bytes is
 whole_grows less more within bytes is p =
     record {

@@ -1,7 +1,7 @@
 -- What bytes say about the next item of a file: the spelling is prefix-free, and the empty list spells no item.
 use Rattle.std.proofs.Common.{◌≡◌, ◌≢◌, ℕ, ◌<◌, Bool, true, false, not, ◌&&◌, nat_lt, if◌then◌else◌, List, [], ◌∷◌}
 use Rattle.std.proofs.Common.{◌==◌, drop, length, Result, Ok, Err, sym, ap, arith, length-append}
-use Rattle.lvl_io.specs.Spelling.{UnlessBreached, IsFront, IsPrefixFree, CanSay}
+use Rattle.lvl_io.specs.Spelling.{UnlessBreached, FirstBytesSay, IsPrefixFree, CanSay}
 use Rattle.lvl_ignore.specs.declared.ignore.Ignore.{Ignore}
 use Rattle.lvl_io.proofs.Spelling.{then_free, then_said}
 use Rattle.oasis_records.specs.Rules.{UnlessRuled, Must}
@@ -79,7 +79,7 @@ item_needs ignore (i ∷ is) =
 
 -- if the front says something, there are bytes
 pub front_needs : (ignore : Ignore) (before : List Item) (ys : List ℕ) (n : ℕ)
-    (x : Result (Result Item OasisKind) ValueFault) → IsFront (IsItem before ignore) ys n x → 0 < length ys
+    (x : Result (Result Item OasisKind) ValueFault) → FirstBytesSay (IsItem before ignore) ys n x → 0 < length ys
 front_needs ignore before ys n x p =
     omega (arith, item_needs ignore before p.bytes x p.says, ap length p.whole, length-append p.bytes p.rest)
 

@@ -3,7 +3,7 @@ use Rattle.std.proofs.Common.{◌≡◌, ℕ, ◌<◌, ◌≤◌, ◌⊎◌, Lis
 use Rattle.std.proofs.Common.{◌∙◌, subst}
 use Rattle.std.proofs.Common.{inl, inr, arith, length-take}
 use Rattle.std.proofs.lemmas.List.{take-append-drop}
-use Rattle.lvl_io.specs.Spelling.{IsFront}
+use Rattle.lvl_io.specs.Spelling.{FirstBytesSay}
 use Rattle.lvl_io.proofs.Spelling.{front_only, begun_open}
 use Rattle.lvl_ignore.specs.declared.ignore.Ignore.{Ignore}
 use Rattle.oasis_values.specs.declared.fault.ValueFault.{ValueFault}
@@ -36,7 +36,7 @@ record IsExplained (ignore : Ignore) (before : List Item) (room : ℕ) (ys : Lis
   count : ℕ
   within : count ≤ room
   said : Result (Result Item OasisKind) ValueFault
-  front : IsFront (IsItem before ignore) ys count said
+  front : FirstBytesSay (IsItem before ignore) ys count said
   why : Explains before said k
 
 record IsLong (ignore : Ignore) (before : List Item) (room : ℕ) (ys : List ℕ) (k : OasisKind) : Type 0 where
@@ -86,7 +86,7 @@ cause ignore before room ys TooManyCells w = by_rule ignore before room ys TooMa
 long_open : (ignore : Ignore) (before : List Item) (room : ℕ) (ys : List ℕ) (n : ℕ)
     (x : Result (Result Item OasisKind) ValueFault)
     → IsTooLong ignore before room ys
-    → IsFront (IsItem before ignore) ys n x → n ≤ room → ⊥
+    → FirstBytesSay (IsItem before ignore) ys n x → n ≤ room → ⊥
 long_open ignore before room ys n x (more, (ended, begun)) f fits =
     let l : length f.bytes ≤ length (take room ys) = omega (arith, fits, more, f.count, length-take room ys) in
     let e : f.bytes ++ f.rest ≡ take room ys ++ drop room ys = sym f.whole ∙ sym (take-append-drop room ys) in
@@ -107,7 +107,7 @@ long_after ignore before room ys (more, (ended, begun)) e some =
 
 front_same : (ignore : Ignore) (before : List Item) (ys : List ℕ) (n m : ℕ)
     (x y : Result (Result Item OasisKind) ValueFault)
-    → IsFront (IsItem before ignore) ys n x → IsFront (IsItem before ignore) ys m y → x ≡ y
+    → FirstBytesSay (IsItem before ignore) ys n x → FirstBytesSay (IsItem before ignore) ys m y → x ≡ y
 front_same ignore before ys n m x y p q =
     front_only (IsItem before ignore) ys n x y (item_free before ignore) p q.bytes q.says (q.rest, inr q.whole)
 

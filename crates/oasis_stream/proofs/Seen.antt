@@ -8,7 +8,7 @@ use Rattle.std.proofs.lemmas.List.{take-append-drop, take-append-le, take-take}
 use Rattle.std.specs.Prelude.{Option}
 use Rattle.std.specs.Prelude.{Result}
 use Rattle.std.specs.Borrow.{GName}
-use Rattle.lvl_io.specs.Spelling.{IsFront}
+use Rattle.lvl_io.specs.Spelling.{FirstBytesSay}
 use Rattle.lvl_io.proofs.Known.{known_parts}
 use Rattle.lvl_refusal.specs.declared.Cause.{Cause}
 use Rattle.lvl_ignore.specs.declared.ignore.Ignore.{Ignore}
@@ -42,8 +42,9 @@ law_seen {remaining = remaining} {old = old} {new = new} ys p known =
     }
 
 -- what the first of the bytes read say
-pub front_seen : {A : Type 0} (S : List ℕ → A → Type 0) (ys : List ℕ) (had n : ℕ) (x : A) → IsFront S ys n x → n ≤ had
-    → (more : List ℕ) → IsFront S (take had ys ++ more) n x
+pub front_seen : {A : Type 0} (S : List ℕ → A → Type 0) (ys : List ℕ) (had n : ℕ) (x : A) → FirstBytesSay S ys n x
+    → n ≤ had
+    → (more : List ℕ) → FirstBytesSay S (take had ys ++ more) n x
 front_seen S ys had n x f fits more =
     let long : length f.bytes + (had - n) ≡ had = omega (arith, f.count) in
     let first : take had ys ≡ f.bytes ++ take (had - n) f.rest =

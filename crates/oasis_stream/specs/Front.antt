@@ -1,6 +1,6 @@
 -- OASIS as a format of streams of records (SEMI P39 OASIS 1.0).
 use Rattle.std.specs.Prelude.{◌≡◌, ℕ, ◌<◌, ◌≤◌, ◌⊎◌, Bool, true, List, [], ◌∷◌, length, take, Result, Ok, Err}
-use Rattle.lvl_io.specs.Spelling.{IsFront, IsBegun}
+use Rattle.lvl_io.specs.Spelling.{FirstBytesSay, IsBegun}
 use Rattle.lvl_grammar.specs.Grammar.{Grammar}
 use Rattle.lvl_ignore.specs.declared.ignore.Ignore.{Ignore}
 use Rattle.oasis_values.specs.Faults.{is_rule}
@@ -64,7 +64,7 @@ pub record Breaks {A : Type 0} (S : List ℕ → Result A ValueFault → Type 0)
     (f : ValueFault) : Type 0 where
   pub count : ℕ
   pub within : count ≤ room
-  pub front : IsFront S xs count (Err f)
+  pub front : FirstBytesSay S xs count (Err f)
 
 -- a rule of values is breached in the next item
 abbrev pub BreaksValue : Ignore → List Item → ℕ → List ℕ → ValueFault → Type 0
@@ -74,8 +74,8 @@ BreaksValue ignore before room ys f = (¬ IsEnded before) × (is_rule f ≡ true
 abbrev pub BreaksRule : Ignore → List Item → ℕ → List ℕ → OasisKind → Type 0
 BreaksRule ignore before room ys k =
     (¬ IsEnded before) × (n : ℕ) × (n ≤ room)
-    × (IsFront (IsItem before ignore) ys n (Ok (Err k))
-    ⊎ ((i : Item) × IsFront (IsItem before ignore) ys n (Ok (Ok i)) × Breaches before i k))
+    × (FirstBytesSay (IsItem before ignore) ys n (Ok (Err k))
+    ⊎ ((i : Item) × FirstBytesSay (IsItem before ignore) ys n (Ok (Ok i)) × Breaches before i k))
 
 -- what is wrong at the front of the bytes, with room for some before the limit
 abbrev pub IsWrong : Ignore → List Item → ℕ → List ℕ → OasisKind → Type 0

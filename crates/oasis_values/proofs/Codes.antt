@@ -3,7 +3,7 @@ use Rattle.std.proofs.Common.{◌≡◌, ℕ, zero, suc, List, [], ◌∷◌, �
 use Rattle.std.specs.Prelude.{Option, Some, None}
 use Rattle.lvl_io.specs.Spelling.{IsPrefixFree, CanSay, UnlessBreached, Then as ThenAlways}
 use Rattle.lvl_io.proofs.Spelling.{gives_free, gives_said, then_free, then_said}
-use Rattle.lvl_ignore.specs.Ignored.{IsWithin}
+use Rattle.lvl_ignore.specs.Ignored.{IsSubsetOf}
 use Rattle.lvl_ignore.specs.declared.ignore.Ignore.{Ignore}
 use Rattle.oasis_values.specs.Known.{Known, Seen}
 use Rattle.oasis_values.specs.Spelling.{Spelling, Gives, Then, Chain}
@@ -14,7 +14,7 @@ use Rattle.oasis_values.specs.declared.fault.ValueFault.{ValueFault}
 pub record IsCode {A : Type 0} (S : Spelling A) : Type 0 where
   pub free : (i : Ignore) → IsPrefixFree (S i)
   pub said : (i : Ignore) → CanSay (S i)
-  pub grows : (less more : Ignore) → IsWithin less more → (b : List ℕ) (x : A) → S less b (Ok x) → S more b (Ok x)
+  pub grows : (less more : Ignore) → IsSubsetOf less more → (b : List ℕ) (x : A) → S less b (Ok x) → S more b (Ok x)
 
 pub gives_code : {A : Type 0} {r : Result A ValueFault} → IsCode (Gives r)
 gives_code {r = r} =

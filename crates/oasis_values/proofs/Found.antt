@@ -11,7 +11,7 @@ use Rattle.oasis_values.specs.Input.{in_hand, input_offset, has_failed, input_ig
 use Rattle.oasis_values.specs.declared.input.Input.{Input}
 use Rattle.std.specs.Io.KnownBytes.{prepend_known}
 use Rattle.lvl_io.specs.Known.{Stays}
-use Rattle.lvl_io.specs.Spelling.{IsFront, IsBegun}
+use Rattle.lvl_io.specs.Spelling.{FirstBytesSay, IsBegun}
 use Rattle.lvl_io.proofs.Known.{known_parts}
 use Rattle.oasis_values.specs.Faults.{is_rule, is_read_fault}
 use Rattle.oasis_values.specs.Numbers.{IsOneByte, groups, Continues, most_bytes, IsUnsigned}
@@ -24,8 +24,9 @@ use Rattle.oasis_values.specs.declared.fault.ValueFault.{ValueFault}
 use Rattle.oasis_values.specs.declared.fault.ValueFault.TheVariants.{Truncated, TooLong, Read, Failed}
 
 -- what is at the front of the first bytes is at the front of all
-pub front_more : {A : Type 0} (S : List ℕ → A → Type 0) (xs : List ℕ) (k n : ℕ) (x : A) → IsFront S (take k xs) n x
-    → IsFront S xs n x
+pub front_more : {A : Type 0} (S : List ℕ → A → Type 0) (xs : List ℕ) (k n : ℕ) (x : A)
+    → FirstBytesSay S (take k xs) n x
+    → FirstBytesSay S xs n x
 front_more S xs k n x f =
     record {
       bytes = f.bytes;
@@ -73,7 +74,7 @@ stop_live f i = absurd i
 
 -- what is at the front of the bytes in hand is at the front of all
 pub front_known : {A : Type 0} (S : List ℕ → A → Type 0) (new : List ℕ) (b : Option (List ℕ)) (xs : List ℕ) (n : ℕ)
-    (x : A) → prepend_known new b ≡ Some xs → IsFront S new n x → IsFront S xs n x
+    (x : A) → prepend_known new b ≡ Some xs → FirstBytesSay S new n x → FirstBytesSay S xs n x
 front_known S new b xs n x k f =
     let p = known_parts new b xs k in
     record {
@@ -84,14 +85,14 @@ front_known S new b xs n x k f =
       count = f.count;
     }
 
-first_byte : (xs : List ℕ) → 0 < length xs → IsFront IsOneByte xs 1 (Ok (get_or xs 0 0))
+first_byte : (xs : List ℕ) → 0 < length xs → FirstBytesSay IsOneByte xs 1 (Ok (get_or xs 0 0))
 first_byte [] h = absurd (omega arith)
 first_byte (x ∷ xs) h = record { bytes = x ∷ []; rest = xs; says = refl; whole = refl; count = omega arith }
 
 pub byte_front : (new : List ℕ) (b : Option (List ℕ)) (xs : List ℕ) (x : ℕ) → prepend_known new b ≡ Some xs
-    → 0 < length new → x ≡ get_or new 0 0 → IsFront IsOneByte xs 1 (Ok x)
+    → 0 < length new → x ≡ get_or new 0 0 → FirstBytesSay IsOneByte xs 1 (Ok x)
 byte_front new b xs x k h e =
-    subst (λ i. IsFront IsOneByte xs 1 (Ok i)) (sym e)
+    subst (λ i. FirstBytesSay IsOneByte xs 1 (Ok i)) (sym e)
     (front_known IsOneByte new b xs 1 (Ok (get_or new 0 0)) k (first_byte new h))
 
 pub byte_begun : IsBegun IsOneByte []
@@ -106,11 +107,13 @@ hand_begun i new b xs k e h c few fits =
     let same : take k xs ≡ take k new = ap (take k) (sym p.2) ∙ take-append-le k new p.0 h in
     subst (IsBegun (IsUnsigned i)) (sym same) (continues_begun i (take k new) c few fits)
 
-front_length : {A : Type 0} (S : List ℕ → A → Type 0) (xs : List ℕ) (n : ℕ) (x : A) → IsFront S xs n x → n ≤ length xs
+front_length : {A : Type 0} (S : List ℕ → A → Type 0) (xs : List ℕ) (n : ℕ) (x : A) → FirstBytesSay S xs n x
+    → n ≤ length xs
 front_length S xs n x f = omega (arith, f.count, ap length f.whole, length-append f.bytes f.rest)
 
 -- the front is within the limit if it is found among the bytes within it
-pub front_within : {A : Type 0} (S : List ℕ → A → Type 0) (xs : List ℕ) (k n : ℕ) (x : A) → IsFront S (take k xs) n x
+pub front_within : {A : Type 0} (S : List ℕ → A → Type 0) (xs : List ℕ) (k n : ℕ) (x : A)
+    → FirstBytesSay S (take k xs) n x
     → (n ≤ k) × (n ≤ length xs)
 front_within S xs k n x f =
     let l = front_length S (take k xs) n x f in
@@ -118,7 +121,7 @@ front_within S xs k n x f =
 
 -- a rule is breached
 pub breach_fails : {A : Type 0} (S : List ℕ → Result A ValueFault → Type 0) (room had n : ℕ) (xs : List ℕ)
-    (f : ValueFault) → is_rule f ≡ true → n ≤ room → n ≤ had → IsFront S xs n (Err f) → Fails S room had xs f
+    (f : ValueFault) → is_rule f ≡ true → n ≤ room → n ≤ had → FirstBytesSay S xs n (Err f) → Fails S room had xs f
 breach_fails S room had n xs f rule h seen front =
     record {
       truncated = λ e. absurd (let r = ap is_rule e in let k : true ≡ false = sym rule ∙ r in cc);
@@ -142,7 +145,7 @@ pub reads_found : {R A : Type 0} (remaining : R → Option (List ℕ)) (errors :
     → Stays (prepend_known old.ahead (remaining old.reader)) (prepend_known hand (remaining new.reader))
     → n ≤ length hand → n ≤ room_left old
     → ((xs : List ℕ) → prepend_known old.ahead (remaining old.reader) ≡ Some xs
-    → IsFront (S (input_ignore old)) xs n (Ok x)) → errors new.reader ≡ errors old.reader
+    → FirstBytesSay (S (input_ignore old)) xs n (Ok x)) → errors new.reader ≡ errors old.reader
     → lent new.reader ≡ lent old.reader
     → Reads remaining errors lent S old new (Ok x)
 reads_found remaining errors lent S old new hand x n live lives ahead offset ignore stays had within front counted
@@ -151,7 +154,7 @@ reads_found remaining errors lent S old new hand x n live lives ahead offset ign
     record {
       again = λ h. absurd (let k : true ≡ false = sym h ∙ live in cc);
       fresh = λ h k. cc;
-      answers = λ h xs k. subst (λ i. IsFront (S (input_ignore old)) xs i (Ok x) × (i ≤ room_left old)) moved
+      answers = λ h xs k. subst (λ i. FirstBytesSay (S (input_ignore old)) xs i (Ok x) × (i ≤ room_left old)) moved
           (front xs k, within);
       left = λ xs k.
           ap (λ l. prepend_known l (remaining new.reader)) ahead
@@ -189,6 +192,7 @@ reads_stopped remaining errors lent S old new f live failed offset ignore stays 
     }
 
 pub hand_front : {A : Type 0} (S : List ℕ → A → Type 0) (new hand : List ℕ) (b : Option (List ℕ)) (xs : List ℕ)
-    (k n : ℕ) (x : A) → hand ≡ new → prepend_known new b ≡ Some xs → IsFront S (take k hand) n x → IsFront S xs n x
+    (k n : ℕ) (x : A) → hand ≡ new → prepend_known new b ≡ Some xs → FirstBytesSay S (take k hand) n x
+    → FirstBytesSay S xs n x
 hand_front S new hand b xs k n x e known f =
-    front_known S new b xs n x known (subst (λ l. IsFront S l n x) e (front_more S hand k n x f))
+    front_known S new b xs n x known (subst (λ l. FirstBytesSay S l n x) e (front_more S hand k n x f))

@@ -2,14 +2,14 @@
 use Rattle.std.proofs.Common.{◌≡◌, ℕ, suc, ◌+◌, ◌*◌, ◌%◌, ◌^◌, ◌<◌, ◌≤◌, ◌⊎◌, inl, inr, List, [], ◌∷◌, ◌++◌, length}
 use Rattle.std.proofs.Common.{Result, Ok, Err, refl, sym, ap, ◌∙◌, subst, arith, append_assoc, take, drop, get_or}
 use Rattle.std.proofs.Common.{mul_assoc, mul-le-mul_left, nat_le, length-append, Bool, true, false, not, if◌then◌else◌}
-use Rattle.lvl_ignore.specs.Ignored.{IsWithin}
+use Rattle.lvl_ignore.specs.Ignored.{IsSubsetOf}
 use Rattle.lvl_ignore.specs.declared.ignore.Ignore.{Ignore}
 use Rattle.std.proofs.lemmas.Bool.Decides.{nat_tests}
 use Rattle.std.proofs.lemmas.List.Elements.{All-append, All-cons, All-nil}
 use Rattle.std.proofs.lemmas.List.{take_more, length-take, take-append-drop}
 use Rattle.std.proofs.Math.Nat.{pow-le-pow_right, pow-suc}
 use Rattle.std.proofs.lemmas.Bool.{cases_Bool}
-use Rattle.lvl_io.specs.Spelling.{IsPrefixFree, IsFront, IsBegun, CanSay}
+use Rattle.lvl_io.specs.Spelling.{IsPrefixFree, FirstBytesSay, IsBegun, CanSay}
 use Rattle.oasis_values.specs.Numbers.{IsOneByte, IsByte, groups, Continues, most_bytes, IsInteger, IsTooLarge}
 use Rattle.oasis_values.specs.Numbers.{IsUnsigned}
 use Rattle.oasis_values.proofs.Codes.{IsCode}
@@ -192,7 +192,7 @@ bytes_grow true false h = absurd (let e : false ≡ true = h refl in cc)
 bytes_grow false true h = omega arith
 bytes_grow false false h = omega arith
 
-unsigned_grows : (less more : Ignore) → IsWithin less more → (b : List ℕ) (n : ℕ) → IsInteger less b n
+unsigned_grows : (less more : Ignore) → IsSubsetOf less more → (b : List ℕ) (n : ℕ) → IsInteger less b n
     → IsInteger more b n
 unsigned_grows less more within b n p =
     let wide : most_bytes less ≤ most_bytes more = bytes_grow less.padding more.padding within.padding in
@@ -317,7 +317,7 @@ more_continues xs i h c b =
 
 -- an integer ends with the byte at index n
 pub whole_front : (i : Ignore) (xs : List ℕ) (n v : ℕ) → n < length xs → n < most_bytes i → Continues (take n xs)
-    → v ≡ groups (take (n + 1) xs) → v < 2 ^ 64 → get_or xs n 0 < 128 → IsFront (IsUnsigned i) xs (n + 1) (Ok v)
+    → v ≡ groups (take (n + 1) xs) → v < 2 ^ 64 → get_or xs n 0 < 128 → FirstBytesSay (IsUnsigned i) xs (n + 1) (Ok v)
 whole_front i xs n v h few c e fits ends =
     let l : length (take n xs) ≡ n = omega (arith, length-take {A = ℕ}) in
     record {
@@ -341,7 +341,7 @@ whole_front i xs n v h few c e fits ends =
 pub too_large_front : (i : Ignore) (xs : List ℕ) (n : ℕ) → n < length xs → n < most_bytes i → Continues (take n xs)
     → groups (take n xs) < 2 ^ 64
     → ((2 ^ 64 ≤ groups (take (n + 1) xs)) ⊎ ((128 ≤ get_or xs n 0) × (n + 1 ≡ most_bytes i)))
-    → IsFront (IsUnsigned i) xs (n + 1) (Err IntegerTooLarge)
+    → FirstBytesSay (IsUnsigned i) xs (n + 1) (Err IntegerTooLarge)
 too_large_front i xs n h few c fits decided =
     let l : length (take n xs) ≡ n = omega (arith, length-take {A = ℕ}) in
     let all : length (take (n + 1) xs) ≡ n + 1 = omega (arith, length-take {A = ℕ}) in

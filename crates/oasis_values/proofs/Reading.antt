@@ -6,7 +6,7 @@ use Rattle.std.proofs.Math.Seq.{drop-append_seam, take-append-add}
 use Rattle.std.specs.Prelude.{Option}
 use Rattle.std.specs.Borrow.{GName}
 use Rattle.lvl_io.specs.Bytes.{CountsFailure}
-use Rattle.lvl_io.specs.Spelling.{IsFront, IsBegun, CanSay, Then as ThenAlways}
+use Rattle.lvl_io.specs.Spelling.{FirstBytesSay, IsBegun, CanSay, Then as ThenAlways}
 use Rattle.lvl_io.proofs.Spelling.{then_begun, then_goes_on, then_both, then_breached, breached_none}
 use Rattle.lvl_refusal.specs.declared.Cause.{Cause}
 use Rattle.lvl_refusal.specs.declared.Cause.TheVariants.{Breach, OutOfMemory}
@@ -24,7 +24,7 @@ use Rattle.oasis_values.specs.declared.fault.ValueFault.TheVariants.{Truncated, 
 use Rattle.oasis_values.specs.declared.input.Input.{Input}
 
 -- the bytes after those at the front
-pub front_rest : {A : Type 0} (S : List ℕ → A → Type 0) (xs : List ℕ) (n : ℕ) (x : A) (f : IsFront S xs n x)
+pub front_rest : {A : Type 0} (S : List ℕ → A → Type 0) (xs : List ℕ) (n : ℕ) (x : A) (f : FirstBytesSay S xs n x)
     → drop n xs ≡ f.rest
 front_rest S xs n x f =
     ap (λ k. drop k xs) (sym f.count) ∙ ap (drop (length f.bytes)) f.whole ∙ drop-append_seam f.bytes f.rest
@@ -58,7 +58,7 @@ fails_first S T room had xs f can p =
 -- a value of the first, and then what the second says after it
 pub front_second : {A B : Type 0} (S : List ℕ → Result A ValueFault → Type 0)
     (T : A → List ℕ → Result B ValueFault → Type 0) (xs : List ℕ) (n m : ℕ) (x : A) (r : Result B ValueFault)
-    → IsFront S xs n (Ok x) → IsFront (T x) (drop n xs) m r → IsFront (ThenAlways S T) xs (n + m) r
+    → FirstBytesSay S xs n (Ok x) → FirstBytesSay (T x) (drop n xs) m r → FirstBytesSay (ThenAlways S T) xs (n + m) r
 front_second S T xs n m x r p q =
     let rest : p.rest ≡ q.bytes ++ q.rest = sym (front_rest S xs n (Ok x) p) ∙ q.whole in
     record {
@@ -69,7 +69,7 @@ front_second S T xs n m x r p q =
       count = omega (arith, length-append p.bytes q.bytes, p.count, q.count);
     }
 
-take_past : {A : Type 0} (S : List ℕ → A → Type 0) (xs : List ℕ) (n room : ℕ) (x : A) (p : IsFront S xs n x)
+take_past : {A : Type 0} (S : List ℕ → A → Type 0) (xs : List ℕ) (n room : ℕ) (x : A) (p : FirstBytesSay S xs n x)
     → n ≤ room → p.bytes ++ take (room - n) (drop n xs) ≡ take room xs
 take_past S xs n room x p h =
     let whole : length p.bytes + (room - n) ≡ room = omega (arith, p.count) in
@@ -81,7 +81,7 @@ take_past S xs n room x p h =
 -- a fault of the second is a fault of the whole
 pub fails_second : {A B : Type 0} (S : List ℕ → Result A ValueFault → Type 0)
     (T : A → List ℕ → Result B ValueFault → Type 0) (room n had : ℕ) (xs : List ℕ) (x : A) (f : ValueFault)
-    → IsFront S xs n (Ok x) → n ≤ room → Fails (T x) (room - n) had (drop n xs) f
+    → FirstBytesSay S xs n (Ok x) → n ≤ room → Fails (T x) (room - n) had (drop n xs) f
     → Fails (ThenAlways S T) room (n + had) xs f
 fails_second S T room n had xs x f p h q =
     let whole : p.bytes ++ drop n xs ≡ xs = ap (λ l. p.bytes ++ l) (front_rest S xs n (Ok x) p) ∙ sym p.whole in
@@ -161,7 +161,7 @@ reads_err T can p = reads_fault T (λ x. (can x).said) p
 
 answers_second : {A B : Type 0} (S : List ℕ → Result A ValueFault → Type 0)
     (T : A → List ℕ → Result B ValueFault → Type 0) (room n had m : ℕ) (xs : List ℕ) (x : A)
-    (r : Result B (Cause ValueFault)) → IsFront S xs n (Ok x) → n ≤ room
+    (r : Result B (Cause ValueFault)) → FirstBytesSay S xs n (Ok x) → n ≤ room
     → Answers (T x) (room - n) had m (drop n xs) r → Answers (ThenAlways S T) room (n + had) (n + m) xs r
 answers_second S T room n had m xs x (Ok y) p h q = (front_second S T xs n m x (Ok y) p q.0, omega (arith, q.1))
 answers_second S T room n had m xs x (Err OutOfMemory) p h q = tt

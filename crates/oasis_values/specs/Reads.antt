@@ -6,7 +6,7 @@ use Rattle.std.specs.Prelude.{Option, Some, Result, Ok, Err}
 use Rattle.std.specs.Result.{is_err}
 use Rattle.std.specs.Borrow.{GName}
 use Rattle.lvl_io.specs.Bytes.{CountsFailure}
-use Rattle.lvl_io.specs.Spelling.{IsFront, IsBegun, NoneAgrees}
+use Rattle.lvl_io.specs.Spelling.{FirstBytesSay, IsBegun, NoneAgrees}
 use Rattle.lvl_refusal.specs.declared.Cause.{Cause}
 use Rattle.lvl_refusal.specs.declared.Cause.TheVariants.{Breach, OutOfMemory}
 use Rattle.oasis_values.specs.Faults.{is_rule, reader_failed}
@@ -23,7 +23,7 @@ pub record Breaks {A : Type 0} (S : List ℕ → Result A ValueFault → Type 0)
   pub count : ℕ
   pub within : count ≤ room
   pub seen : count ≤ had
-  pub front : IsFront S xs count (Err f)
+  pub front : FirstBytesSay S xs count (Err f)
 
 -- what a fault says about the bytes xs that are left, if `room` of them are within the limit and `had` were read from
 -- the reader
@@ -42,7 +42,7 @@ pub record Fails {A : Type 0} (S : List ℕ → Result A ValueFault → Type 0)
 -- the limit
 abbrev pub Answers : {A : Type 0} → (List ℕ → Result A ValueFault → Type 0) → ℕ → ℕ → ℕ → List ℕ
     → Result A (Cause ValueFault) → Type 0
-Answers S room had n xs (Ok x) = IsFront S xs n (Ok x) × (n ≤ room)
+Answers S room had n xs (Ok x) = FirstBytesSay S xs n (Ok x) × (n ≤ room)
 Answers S room had n xs (Err OutOfMemory) = Unit {0}
 Answers S room had n xs (Err (Breach f)) = Fails S room had xs f
 

@@ -12,12 +12,12 @@ use Rattle.gds_elements.specs.inside.Placing.{IsPlaced}
 use Rattle.gds_elements.specs.declared.fault.ElementRule.{ElementRule}
 use Rattle.gds_elements.specs.declared.fault.ElementRule.TheVariants.{Points as PointsFault, ArrayStep}
 use Rattle.gds_elements.specs.inside.Left.{rest}
-use Rattle.gds_elements.specs.declared.aref.Place.{Place}
-use Rattle.gds_elements.specs.declared.aref.Place.TheVariants.{Name, Strans, Magnification, Angle, Columns, Points}
+use Rattle.gds_elements.specs.declared.aref.ArefStage.{ArefStage}
+use Rattle.gds_elements.specs.declared.aref.ArefStage.TheVariants.{Name, Strans, Magnification, Angle, Columns, Points}
 use Rattle.gds_elements.specs.declared.aref.Aref.{Aref}
 
 -- what may still come, by the next record
-abbrev pub left : Place → Order
+abbrev pub left : ArefStage → Order
 left Name = rest 1 an_array
 left Strans = rest 2 an_array
 left Magnification = seq (rest 1 a_transform) (rest 3 an_array)
@@ -28,7 +28,7 @@ left Points = rest 4 an_array
 -- the state is that after the records `piece`, in their order and with their values
 pub record IsArefRead (a : Aref) (piece : List Rec) : Type 0 where
   pub opened : opener piece ≡ Some aref
-  pub leads : LeadsTo an_element (kinds piece) (left a.place)
+  pub leads : LeadsTo an_element (kinds piece) (left a.stage)
   pub placed : IsPlaced a.placing piece
   pub columns : a.counts.columns ≡ columns_in (last_of colrow piece)
   pub rows : a.counts.rows ≡ rows_in (last_of colrow piece)

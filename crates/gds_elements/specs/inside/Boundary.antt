@@ -12,12 +12,12 @@ use Rattle.gds_elements.specs.declared.fault.ElementRule.{ElementRule}
 use Rattle.gds_elements.specs.declared.fault.ElementRule.TheVariants.{Points as PointsFault, NotClosed, Oblique}
 use Rattle.lvl_grammar.specs.inside.After.{LeadsTo}
 use Rattle.gds_elements.specs.inside.Left.{rest}
-use Rattle.gds_elements.specs.declared.boundary.Place.{Place}
-use Rattle.gds_elements.specs.declared.boundary.Place.TheVariants.{Layer, Datatype, Points}
+use Rattle.gds_elements.specs.declared.boundary.BoundaryStage.{BoundaryStage}
+use Rattle.gds_elements.specs.declared.boundary.BoundaryStage.TheVariants.{Layer, Datatype, Points}
 use Rattle.gds_elements.specs.declared.boundary.Boundary.{Boundary}
 
 -- what may still come, by the next record
-abbrev pub left : Place → Order
+abbrev pub left : BoundaryStage → Order
 left Layer = rest 1 a_boundary
 left Datatype = rest 2 a_boundary
 left Points = rest 3 a_boundary
@@ -25,7 +25,7 @@ left Points = rest 3 a_boundary
 -- the state is that after the records `piece`, in their order and with their values
 pub record IsBoundary (b : Boundary) (piece : List Rec) : Type 0 where
   pub opened : opener piece ≡ Some boundary
-  pub leads : LeadsTo an_element (kinds piece) (left b.place)
+  pub leads : LeadsTo an_element (kinds piece) (left b.stage)
   pub layer : b.layer ≡ layer_of piece
 
 -- the rule that these points breach in a boundary

@@ -14,12 +14,12 @@ use Rattle.gds_elements.specs.declared.fault.ElementRule.{ElementRule}
 use Rattle.gds_elements.specs.declared.fault.ElementRule.TheVariants.{Points as PointsFault, Width as WidthFault}
 use Rattle.gds_elements.specs.declared.fault.ElementRule.TheVariants.{Path as PathFault}
 use Rattle.gds_elements.specs.inside.Left.{rest}
-use Rattle.gds_elements.specs.declared.path.Place.{Place}
-use Rattle.gds_elements.specs.declared.path.Place.TheVariants.{Layer, Datatype, PathType, Width, Points}
+use Rattle.gds_elements.specs.declared.path.PathStage.{PathStage}
+use Rattle.gds_elements.specs.declared.path.PathStage.TheVariants.{Layer, Datatype, PathType, Width, Points}
 use Rattle.gds_elements.specs.declared.path.Path.{Path}
 
 -- what may still come, by the next record
-abbrev pub left : Place → Order
+abbrev pub left : PathStage → Order
 left Layer = rest 1 a_path
 left Datatype = rest 2 a_path
 left PathType = rest 3 a_path
@@ -34,7 +34,7 @@ half_in (Some r) = Some (half r.payload)
 -- the state is that after the records `piece`, in their order and with their values
 pub record IsPathRead (p : Path) (piece : List Rec) : Type 0 where
   pub opened : opener piece ≡ Some path
-  pub leads : LeadsTo an_element (kinds piece) (left p.place)
+  pub leads : LeadsTo an_element (kinds piece) (left p.stage)
   pub layer : p.layer ≡ layer_of piece
   pub square : p.square ≡ int_eq (short (field pathtype piece)) (pos 2)
   pub half : p.half ≡ half_in (last_of width piece)

@@ -5,9 +5,10 @@ use Rattle.lvl_cells.specs.Building.{no_cell}
 use Rattle.gds_elements.specs.Types.{bgnstr, strname}
 use Rattle.gds_elements.specs.Values.{name}
 use Rattle.gds_library.specs.Drawn.{KeptShape, KeptCell}
-use Rattle.gds_library.specs.declared.place.Place.{Place}
-use Rattle.gds_library.specs.declared.place.Place.TheVariants.{Header, BgnLib, LibName, Units, Structures, StrName}
-use Rattle.gds_library.specs.declared.place.Place.TheVariants.{Elements, Fill}
+use Rattle.gds_library.specs.declared.stage.LibraryStage.{LibraryStage}
+use Rattle.gds_library.specs.declared.stage.LibraryStage.TheVariants.{Header, BgnLib, LibName, Units, Structures}
+use Rattle.gds_library.specs.declared.stage.LibraryStage.TheVariants.{StrName}
+use Rattle.gds_library.specs.declared.stage.LibraryStage.TheVariants.{Elements, Fill}
 use Rattle.gds_library.specs.declared.builder.Builder.{Builder}
 
 -- the list with its last element changed
@@ -38,7 +39,7 @@ abbrev pub open_cell : Builder → KeptCell
 open_cell b = b.cells.current
 
 -- the library so far, with the incomplete cell if there is one
-abbrev pub shown_at : Place → Builder → List KeptCell
+abbrev pub shown_at : LibraryStage → Builder → List KeptCell
 shown_at Header b = done b
 shown_at BgnLib b = done b
 shown_at LibName b = done b
@@ -49,4 +50,4 @@ shown_at Elements b = done b ++ open_cell b ∷ []
 shown_at Fill b = done b
 
 abbrev pub shown : Builder → List KeptCell
-shown b = shown_at b.place b
+shown b = shown_at b.stage b

@@ -70,8 +70,8 @@ pub record IsSpan (rings : Rings) (moves : List Point) (kept : List (List Point)
   pub fits : FitsMoved (displaced moves s.moved) (figure_in rings s.begin s.end (displaced moves s.moved))
 
 -- the new list begins with the old one
-abbrev pub GoesOn : {X : Type 0} → List X → List X → Type 0
-GoesOn old new = take (length old) new ≡ old
+abbrev pub IsPrefixOf : {X : Type 0} → List X → List X → Type 0
+IsPrefixOf old new = take (length old) new ≡ old
 
 -- the list of shifts has that number
 pub record HasNumber (kept : List (List Point)) (number : ℕ) (shifts : List Point) : Type 0 where

@@ -50,8 +50,8 @@ work_left targets marks path =
     + left_at targets (slice_get path (length path - 1))
 
 -- no cell becomes new again
-abbrev pub GoesOn : List Mark → List Mark → Type 0
-GoesOn old new = (k : ℕ) → slice_get new k ≡ Some New → slice_get old k ≡ Some New
+abbrev pub NoneBecomesNew : List Mark → List Mark → Type 0
+NoneBecomesNew old new = (k : ℕ) → slice_get new k ≡ Some New → slice_get old k ≡ Some New
 
 -- the next reference of the last cell on the path is to the cell `start`, and `start` is on the path
 abbrev pub LeadsBack : List (List ℕ) → List Visit → ℕ → Type 0

@@ -3,7 +3,7 @@ use Rattle.std.specs.Prelude.{◌≡◌, ◌↔◌, ℕ, List, [], map, slice_ge
 use Rattle.lvl_grid.specs.declared.point.Square.{Square}
 use Rattle.lvl_grid.specs.Turn.{image_square}
 use Rattle.lvl_names.specs.declared.layer.Layer.{Layer}
-use Rattle.lvl_cells.specs.Cells.{PlainCell, PlainReference, Rings, placing}
+use Rattle.lvl_cells.specs.Cells.{PlainCell, PlainReference, Rings, map_at}
 use Rattle.lvl_flat.specs.Flattened.{CoversAt}
 use Rattle.lvl_flat.specs.inside.Visits.{picks, PickCovers}
 use Rattle.lvl_view.specs.declared.map.LayerPair.{LayerPair}
@@ -14,7 +14,7 @@ use Rattle.lvl_changed.specs.inside.Windows.{AlikeOutside}
 
 -- the cell with the index k, placed at each place of the reference
 abbrev pub placed : ℕ → PlainReference → List Placement
-placed k r = map (λ e. record { cell = k; map = placing r e }) r.shifts
+placed k r = map (λ e. record { cell = k; map = map_at r e }) r.shifts
 
 -- the partner of a cell, placed at each place of the reference, or nothing if there is no partner
 abbrev pub partner_placed : Option ℕ → PlainReference → List Placement

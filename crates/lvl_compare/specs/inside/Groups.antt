@@ -1,7 +1,7 @@
 -- Groups of consecutive Layers, and what two layouts draw on them.
 use Rattle.std.specs.Prelude.{◌≡◌, ◌⊎◌, ◌==◌, ◌&&◌, ◌||◌, nat_lt, Bool, true, not, List, [], Option, Some, None}
 use Rattle.std.specs.Prelude.{All, AllPairs, Contains, ℤ, ◌<ℤ◌}
-use Rattle.lvl_grid.specs.Clip.{IsWithin}
+use Rattle.lvl_grid.specs.Clip.{IsInWindow}
 use Rattle.lvl_grid.specs.Squares.{IsBefore}
 use Rattle.lvl_grid.specs.declared.point.Square.{Square}
 use Rattle.lvl_grid.specs.declared.point.Window.{Window}
@@ -12,7 +12,7 @@ use Rattle.lvl_view.specs.declared.map.LayerPair.{LayerPair}
 use Rattle.lvl_compare.specs.Tops.{Draws}
 use Rattle.lvl_compare.specs.declared.groups.Span.{Span}
 use Rattle.lvl_compare.specs.declared.groups.Group.{Group}
-use Rattle.lvl_compare.specs.inside.Strips.{Found, Part, rows_to}
+use Rattle.lvl_compare.specs.inside.Strips.{Difference, Part, rows_to}
 
 -- the first Layer comes before the second
 abbrev pub is_before : Layer → Layer → Bool
@@ -58,7 +58,7 @@ pub record NoneBefore (pairs : List LayerPair) (group : Group) (layer : Layer) :
 
 -- no square of the window above the row comes before the square
 abbrev pub AreAbove : Window → ℤ → Square → Type 0
-AreAbove window y s = (q : Square) → IsWithin window q → y <ℤ q.y → ¬ IsBefore q s
+AreAbove window y s = (q : Square) → IsInWindow window q → y <ℤ q.y → ¬ IsBefore q s
 
 -- the rows of the window up to one above which no square comes before the square
 pub record IsCutFor (s : Square) (window rows : Window) : Type 0 where
@@ -68,6 +68,6 @@ pub record IsCutFor (s : Square) (window rows : Window) : Type 0 where
 
 -- all rows of the window, or if no Layer of the group comes before that of the known square, those that have all
 -- squares before it
-abbrev pub AreRowsBefore : List LayerPair → Group → Found → Window → Window → Type 0
+abbrev pub AreRowsBefore : List LayerPair → Group → Difference → Window → Window → Type 0
 AreRowsBefore pairs group known window rows =
     (rows ≡ window) ⊎ (IsCutFor known.1 window rows × NoneBefore pairs group known.0)

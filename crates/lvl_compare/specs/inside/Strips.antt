@@ -4,7 +4,7 @@ use Rattle.std.specs.Int.{int_min, int_max}
 use Rattle.lvl_grid.specs.declared.point.Square.{Square}
 use Rattle.lvl_grid.specs.declared.point.Window.{Window}
 use Rattle.lvl_grid.specs.Squares.{IsBefore}
-use Rattle.lvl_grid.specs.Clip.{IsWithin}
+use Rattle.lvl_grid.specs.Clip.{IsInWindow}
 use Rattle.lvl_grid.specs.Winding.{SomeCovers}
 use Rattle.lvl_names.specs.declared.layer.Layer.{Layer}
 use Rattle.lvl_names.specs.Layers.{ComesBefore}
@@ -15,8 +15,8 @@ use Rattle.lvl_region.specs.declared.region.Side.{Side}
 use Rattle.lvl_compare.specs.Tops.{Draws}
 
 -- a Layer, a square, and the only side that draws it there
-abbrev pub Found : Type 0
-Found = Layer × Square × Side
+abbrev pub Difference : Type 0
+Difference = Layer × Square × Side
 
 -- the first square on its Layer comes before the second on its Layer: by Layer, then by square
 abbrev pub Precedes : Layer → Square → Layer → Square → Type 0
@@ -27,35 +27,35 @@ abbrev pub Part : Type 1
 Part = Layer → Square → Type 0
 
 -- the first difference of two layouts, among the squares of the part
-pub record IsFirstIn (a b : Draws) (part : Part) (at : Found) : Type 0 where
+pub record IsFirstIn (a b : Draws) (part : Part) (at : Difference) : Type 0 where
   pub shown : part at.0 at.1
   pub alone : IsAlone (a at.0) (b at.0) at.1 at.2
   pub least : (l : Layer) (s : Square) → part l s → Precedes l s at.0 at.1 → a l s ↔ b l s
 
 -- what is found in a part: the first difference, or None if both draw the same squares of it
-abbrev pub IsFoundIn : Draws → Draws → Part → Option Found → Type 0
+abbrev pub IsFoundIn : Draws → Draws → Part → Option Difference → Type 0
 IsFoundIn a b part None = (l : Layer) (s : Square) → part l s → a l s ↔ b l s
 IsFoundIn a b part (Some at) = IsFirstIn a b part at
 
 -- the square comes before what is known, or nothing is known
-abbrev pub IsOpen : Option Found → Layer → Square → Type 0
+abbrev pub IsOpen : Option Difference → Layer → Square → Type 0
 IsOpen None l s = Unit {0}
 IsOpen (Some at) l s = Precedes l s at.0 at.1
 
 -- a difference of the part that comes before what is known
-pub record IsNew (a b : Draws) (part : Part) (known : Option Found) (at : Found) : Type 0 where
+pub record IsNew (a b : Draws) (part : Part) (known : Option Difference) (at : Difference) : Type 0 where
   pub shown : part at.0 at.1
   pub alone : IsAlone (a at.0) (b at.0) at.1 at.2
   pub early : IsOpen known at.0 at.1
 
 -- what is found is what is known, or a new difference of the part; both draw the same squares of the part before it
-pub record IsImproved (a b : Draws) (part : Part) (known found : Option Found) : Type 0 where
+pub record IsImproved (a b : Draws) (part : Part) (known found : Option Difference) : Type 0 where
   pub alike : (l : Layer) (s : Square) → part l s → IsOpen found l s → a l s ↔ b l s
   pub new : IfSome found (λ at. (known ≡ Some at) ⊎ IsNew a b part known at)
   pub kept : found ≡ None → known ≡ None
 
 -- the lesser of two differences, or the only one that there is
-abbrev pub IsLeast : Option Found → Option Found → Option Found → Type 0
+abbrev pub IsLeast : Option Difference → Option Difference → Option Difference → Type 0
 IsLeast None other result = result ≡ other
 IsLeast (Some x) None result = result ≡ Some x
 IsLeast (Some x) (Some y) result = ((result ≡ Some x) × (¬ Precedes y.0 y.1 x.0 x.1))
@@ -71,7 +71,7 @@ everywhere W l q = W q
 
 -- the window has the square, and it is left of the abscissa
 abbrev pub IsLeftIn : Window → ℤ → Square → Type 0
-IsLeftIn w x q = IsWithin w q × (q.x <ℤ x)
+IsLeftIn w x q = IsInWindow w q × (q.x <ℤ x)
 
 -- the part of a window from an abscissa on
 abbrev pub from_on : ℤ → Window → Window

@@ -7,7 +7,7 @@ use Rattle.lvl_grid.specs.Turn.{image, shifted}
 use Rattle.lvl_cells.specs.Cells.{PlainCell, PlainReference, Rings}
 use Rattle.lvl_flat.specs.declared.bounds.Bounds.{Bounds}
 use Rattle.lvl_flat.specs.declared.visit.Visit.{Visit}
-use Rattle.lvl_flat.specs.Boxes.{IsWithin, Fits}
+use Rattle.lvl_flat.specs.Boxes.{HoldsPoint, FitsBounds}
 use Rattle.lvl_flat.specs.inside.Bounds.{IsOutside, IsPlacedOutside}
 use Rattle.lvl_flat.specs.inside.Steps.{IsInto}
 
@@ -19,15 +19,15 @@ before_shifts r = record { flip = r.flip; turn = r.turn; at = r.at }
 -- the window
 pub record IsSpreadOutside (inner by : Bounds) (m : Map) (w : Window) : Type 0 where
   pub placed : Bounds
-  pub holds : (p e : Point) → IsWithin inner p → IsWithin by e → IsWithin placed (image m (shifted e p))
-  pub fits : Fits placed
+  pub holds : (p e : Point) → HoldsPoint inner p → HoldsPoint by e → HoldsPoint placed (image m (shifted e p))
+  pub fits : FitsBounds placed
   pub outside : IsOutside placed w
 
 -- that holds for the one displacement e
 pub record IsMissed (inner : Bounds) (m : Map) (w : Window) (e : Point) : Type 0 where
   pub placed : Bounds
-  pub holds : (p : Point) → IsWithin inner p → IsWithin placed (image m (shifted e p))
-  pub fits : Fits placed
+  pub holds : (p : Point) → HoldsPoint inner p → HoldsPoint placed (image m (shifted e p))
+  pub fits : FitsBounds placed
   pub outside : IsOutside placed w
 
 -- that holds for each of the shifts with an index from `from` up to `to`, which is excluded
@@ -38,7 +38,7 @@ AreMissed shifts from to inner m w =
 -- the shift with index j is in every box that has the shifts with indexes i and k
 pub record IsBetween (shifts : List Point) (i j k : ℕ) : Type 0 where
   pub between : (b : Bounds) (p e q : Point) → slice_get shifts i ≡ Some p → slice_get shifts j ≡ Some e
-      → slice_get shifts k ≡ Some q → IsWithin b p → IsWithin b q → IsWithin b e
+      → slice_get shifts k ≡ Some q → HoldsPoint b p → HoldsPoint b q → HoldsPoint b e
 
 -- of the shifts of each row, which are `row` consecutive ones, each is between any earlier and any later one
 pub record HasRows (row : ℕ) (shifts : List Point) : Type 0 where
@@ -50,7 +50,7 @@ pub record HasColumns (row : ℕ) (shifts : List Point) : Type 0 where
 
 -- the box has the shift with this index, if there is one
 abbrev pub HoldsShift : List Point → Bounds → ℕ → Type 0
-HoldsShift shifts b k = (e : Point) → slice_get shifts k ≡ Some e → IsWithin b e
+HoldsShift shifts b k = (e : Point) → slice_get shifts k ≡ Some e → HoldsPoint b e
 
 -- the box has the first and the last of `row` shifts from index `from` on
 pub record HoldsEnds (shifts : List Point) (b : Bounds) (from row : ℕ) : Type 0 where

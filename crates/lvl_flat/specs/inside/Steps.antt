@@ -2,7 +2,7 @@
 use Rattle.std.specs.Prelude.{◌≡◌, ◌<◌, ℕ, List, ◌∷◌, [], Contains, slice_get, Some}
 use Rattle.lvl_grid.specs.declared.map.Map.{Map}
 use Rattle.lvl_grid.specs.Turn.{image, FitsPoint}
-use Rattle.lvl_cells.specs.Cells.{PlainCell, Rings, placing, cell_named}
+use Rattle.lvl_cells.specs.Cells.{PlainCell, Rings, map_at, cell_named}
 use Rattle.lvl_cells.specs.Chains.{IsComposed}
 use Rattle.lvl_flat.specs.declared.visit.Visit.{Visit}
 use Rattle.lvl_flat.specs.declared.walk.Step.{Step}
@@ -24,7 +24,7 @@ pub record IsInto (cells : List (PlainCell Rings)) (v : Visit) (i : ℕ) (m : Ma
   pub pending_is : pending cells v ≡ pick ∷ pending cells rest
   pub named : cell_named cells pick.0.cell ≡ Some next
   pub there : slice_get cells i ≡ Some next
-  pub placed : IsComposed v.map (placing pick.0 pick.1) m
+  pub placed : IsComposed v.map (map_at pick.0 pick.1) m
   pub in_range : FitsPoint m.at
   pub map_is : rest.map ≡ v.map
   pub cell_is : rest.cell ≡ v.cell
@@ -37,7 +37,7 @@ pub record IsOut (cells : List (PlainCell Rings)) (v : Visit) (i : ℕ) : Type 0
   pub has : Contains (pending cells v) pick
   pub named : cell_named cells pick.0.cell ≡ Some next
   pub there : slice_get cells i ≡ Some next
-  pub out : ¬ FitsPoint (image v.map (placing pick.0 pick.1).at)
+  pub out : ¬ FitsPoint (image v.map (map_at pick.0 pick.1).at)
 
 -- the step is what the visit does next
 abbrev pub IsStep : List (PlainCell Rings) → Visit → Step → Type 0

@@ -8,7 +8,7 @@ use Rattle.lvl_grid.specs.declared.map.Map.{Map}
 use Rattle.lvl_grid.specs.Turn.{image_square}
 use Rattle.lvl_grid.specs.Winding.{SomeCovers}
 use Rattle.lvl_names.specs.declared.layer.Layer.{Layer}
-use Rattle.lvl_cells.specs.Cells.{PlainCell, PlainReference, Rings, each_ring, placing, cell_named}
+use Rattle.lvl_cells.specs.Cells.{PlainCell, PlainReference, Rings, each_ring, map_at, cell_named}
 use Rattle.lvl_cells.specs.Chains.{Chain, IsComposed, IsInRange, over_chains}
 use Rattle.lvl_cells.specs.Coverage.{CellCovers, PullsBack}
 use Rattle.lvl_flat.specs.declared.visit.Visit.{Visit}
@@ -58,7 +58,7 @@ FitsUnder cells m c =
 abbrev pub PicksFit : List (PlainCell Rings) → Map → List Pick → Type 0
 PicksFit cells m ps =
     (p : Pick) (d : PlainCell Rings) (v : Map) → Contains ps p → cell_named cells p.0.cell ≡ Some d
-    → IsComposed m (placing p.0 p.1) v → FitsUnder cells v d
+    → IsComposed m (map_at p.0 p.1) v → FitsUnder cells v d
 
 -- the visit is of the cell to which some chain from the top leads, placed by its map
 pub record IsVisit (cells : List (PlainCell Rings)) (top : PlainCell Rings) (v : Visit) : Type 0 where

@@ -3,11 +3,11 @@ use Rattle.std.specs.Prelude.{◌≡◌, ◌⊎◌, List, codes, true, is_some}
 use Rattle.clap.specs.Walk.{Row, Text, first_of}
 
 -- there is a value for this argument
-abbrev pub Gives : Text → List Row → Type 0
-Gives id rows = is_some (first_of id rows) ≡ true
+abbrev pub HasValue : Text → List Row → Type 0
+HasValue id rows = is_some (first_of id rows) ≡ true
 
 -- the subcommand is one of the three, and its files are given
 abbrev pub IsJobOf : Text → List Row → Type 0
-IsJobOf name rows = ((name ≡ codes "compare") × Gives (codes "A") rows × Gives (codes "B") rows)
-    ⊎ ((name ≡ codes "show") × Gives (codes "A") rows)
-    ⊎ ((name ≡ codes "digest") × Gives (codes "A") rows)
+IsJobOf name rows = ((name ≡ codes "compare") × HasValue (codes "A") rows × HasValue (codes "B") rows)
+    ⊎ ((name ≡ codes "show") × HasValue (codes "A") rows)
+    ⊎ ((name ≡ codes "digest") × HasValue (codes "A") rows)

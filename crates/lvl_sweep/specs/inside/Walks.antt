@@ -4,7 +4,7 @@ use Rattle.std.specs.Prelude.{◌≤ℤ◌, slice_index_or, All, Option, None, S
 use Rattle.std.specs.List.{AllPairs}
 use Rattle.lvl_sweep.specs.declared.edge.Edge.{Edge}
 use Rattle.lvl_sweep.specs.declared.windings.Windings.{Windings}
-use Rattle.lvl_sweep.specs.declared.walk.Place.{Place}
+use Rattle.lvl_sweep.specs.declared.walk.WalkPosition.{WalkPosition}
 use Rattle.lvl_sweep.specs.inside.Edges.{net, how_many_turn}
 use Rattle.lvl_sweep.specs.inside.Rows.{inside, Balanced}
 use Rattle.lvl_sweep.specs.Ahead.{is_from}
@@ -41,7 +41,7 @@ IsRightOf None x = Unit {0}
 IsRightOf (Some a) x = a <ℤ x
 
 -- the walk went from the old place to the new one, at x, where the wanted side begins: inside or outside
-pub record HasTurned (es : List Edge) (wanted : Bool) (old new : Place) (w : Windings) (x : ℤ) : Type 0 where
+pub record HasTurned (es : List Edge) (wanted : Bool) (old new : WalkPosition) (w : Windings) (x : ℤ) : Type 0 where
   pub here : new.x ≡ Some x
   pub side : is_inside w ≡ wanted
   pub on : old.at < new.at
@@ -49,6 +49,6 @@ pub record HasTurned (es : List Edge) (wanted : Bool) (old new : Place) (w : Win
   pub before : (z : ℤ) → is_from old.x z ≡ true → z <ℤ x → inside es z ≡ not wanted
 
 -- the walk went to the end of the row, and the wanted side doesn't begin there
-pub record NeverTurns (es : List Edge) (wanted : Bool) (old new : Place) : Type 0 where
+pub record NeverTurns (es : List Edge) (wanted : Bool) (old new : WalkPosition) : Type 0 where
   pub all : new.at ≡ length es
   pub after : (z : ℤ) → is_from old.x z ≡ true → inside es z ≡ not wanted

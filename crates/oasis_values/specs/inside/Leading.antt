@@ -1,7 +1,7 @@
 -- How integers and bytes are found among the bytes in hand.
 use Rattle.std.specs.Prelude.{◌≡◌, ◌≢◌, ℕ, ◌^◌, ◌<◌, List, length, Option, Some, Result, Ok, Err}
 use Rattle.lvl_ignore.specs.declared.ignore.Ignore.{Ignore}
-use Rattle.lvl_io.specs.Spelling.{IsFront}
+use Rattle.lvl_io.specs.Spelling.{FirstBytesSay}
 use Rattle.oasis_values.specs.Numbers.{groups, Continues, most_bytes, IsUnsigned}
 use Rattle.oasis_values.specs.Reads.{Fails}
 use Rattle.oasis_values.specs.declared.fault.ValueFault.{ValueFault}
@@ -12,8 +12,8 @@ use Rattle.oasis_values.specs.declared.integer.Leading.TheVariants.{Whole, TooLa
 
 -- what the bytes begin with
 abbrev pub Leads : Ignore → Leading → List ℕ → Type 0
-Leads ignore (Whole value len) xs = IsFront (IsUnsigned ignore) xs len (Ok value)
-Leads ignore (TooLarge len) xs = IsFront (IsUnsigned ignore) xs len (Err IntegerTooLarge)
+Leads ignore (Whole value len) xs = FirstBytesSay (IsUnsigned ignore) xs len (Ok value)
+Leads ignore (TooLarge len) xs = FirstBytesSay (IsUnsigned ignore) xs len (Err IntegerTooLarge)
 Leads ignore Unfinished xs = Continues xs × (length xs < most_bytes ignore) × (groups xs < 2 ^ 64)
 
 -- the faults that are possible when another byte is needed
@@ -35,5 +35,5 @@ Stops f n room had xs = Unit {0}
 -- hand
 abbrev pub Finds : {A : Type 0} → (List ℕ → Result A ValueFault → Type 0) → ℕ → ℕ → Option (List ℕ)
     → Result (Found A) ValueFault → Type 0
-Finds S room had known (Ok found) = (xs : List ℕ) → known ≡ Some xs → IsFront S xs found.len (Ok found.value)
+Finds S room had known (Ok found) = (xs : List ℕ) → known ≡ Some xs → FirstBytesSay S xs found.len (Ok found.value)
 Finds S room had known (Err f) = (f ≢ Failed) × ((xs : List ℕ) → known ≡ Some xs → Fails S room had xs f)

@@ -18,7 +18,7 @@ use Rattle.gds_elements.specs.inside.Reading.{record_of}
 use Rattle.gds_library.specs.Front.{gds}
 use Rattle.gds_library.specs.inside.Holds.{HasReadBy}
 use Rattle.gds_library.specs.declared.fault.GdsKind.TheVariants.{Record}
-use Rattle.gds_library.specs.declared.place.Place.TheVariants.{Header, Fill}
+use Rattle.gds_library.specs.declared.stage.LibraryStage.TheVariants.{Header, Fill}
 use Rattle.gds_library.proofs.Answered.{next_took, next_stopped, next_said, next_ended, next_seen}
 use Rattle.gds_library.proofs.Streams.{reads_record, reads_refused, reads_cut, reads_fault, breach_no_read, refuses_by}
 use Rattle.gds_library.proofs.read.read_all.Goals as goal
@@ -26,7 +26,7 @@ use Rattle.gds_library.proofs.read.read_all.Goals as goal
 pub loop-init : goal.loop-init
 loop-init g c = (
   c.requires.fresh,
-  λ z. (let y : Header ≡ Fill = sym c.new-reading.ensures.place ∙ z in cc),
+  λ z. (let y : Header ≡ Fill = sym c.new-reading.ensures.stage ∙ z in cc),
   λ xs k. subst (λ i. ReadTo (gds c.args.ignore) xs i (HasReadBy c.args.ignore c.new-reading.result)
       (bytes_left g.R.Read.remaining c.args.records.now))
       (sym c.requires.start) (reads_begin (gds c.args.ignore) xs

@@ -17,20 +17,20 @@ pub returns-clause-linked : goal.returns-clause-linked
 returns-clause-linked c =
     linked_by c.args.cells.now c.in_ok-targets.targets c.in_ok-index.ensures.distinct c.in_ok-targets.ensures.ok
 
-pub returns-in-Some-get-clause-place : goal.returns-in-Some-get-clause-place
-returns-in-Some-get-clause-place c =
+pub returns-in-Some-get-clause-index : goal.returns-in-Some-get-clause-index
+returns-in-Some-get-clause-index c =
     let all : List (List ℕ) = names c.args.cells.now in
     let name : List ℕ = c.in-Some.name.now in
     let given : option_copied c.args.given ≡ Some name = ap option_copied c.in-Some.is in
-    let there : Some c.in-Some-get.place.now ≡ place_in_index c.in_ok-index.index name = c.in-Some-get.ensures.value in
-    subst (λ (o : Option (List ℕ)). IsPlaceOf all o (Some c.in-Some-get.place.now)) (sym given)
+    let there : Some c.in-Some-get.index.now ≡ place_in_index c.in_ok-index.index name = c.in-Some-get.ensures.value in
+    subst (λ (o : Option (List ℕ)). IsPlaceOf all o (Some c.in-Some-get.index.now)) (sym given)
     (λ k. (
       λ e. (c.in_ok-index.ensures.index name k).0 (sym there ∙ e),
       λ e. there ∙ (c.in_ok-index.ensures.index name k).1 e,
     ))
 
-pub returns-clause-place : goal.returns-clause-place
-returns-clause-place c =
+pub returns-clause-index : goal.returns-clause-index
+returns-clause-index c =
     let all : List (List ℕ) = names c.args.cells.now in
     let name : List ℕ = c.in-Some.name.now in
     let given : option_copied c.args.given ≡ Some name = ap option_copied c.in-Some.is in

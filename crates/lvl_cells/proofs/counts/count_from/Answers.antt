@@ -17,8 +17,8 @@ sum_of-requires-clause-row c =
     let hi : slice_get order i ≡ Some k =
     slice_get-get_or order i 0 (omega (arith, c.loop-i-test.true, c.loop-i.auto.i)) in
     let low : k < length cells = place_within cells order i k c.requires.order hi in
-    let hk = slice_get_read cells (length cells) k c.index-cells-place.result refl low c.index-cells-place.is in
-    (row_fits cells targets k c.index-cells-place.result c.row.result c.requires.targets hk c.row.ensures).0
+    let hk = slice_get_read cells (length cells) k c.index-cells-index.result refl low c.index-cells-index.is in
+    (row_fits cells targets k c.index-cells-index.result c.row.result c.requires.targets hk c.row.ensures).0
 
 pub sum_of-requires-clause-within : goal.sum_of-requires-clause-within
 sum_of-requires-clause-within c =
@@ -30,11 +30,11 @@ sum_of-requires-clause-within c =
     let hi : slice_get order i ≡ Some k =
     slice_get-get_or order i 0 (omega (arith, c.loop-i-test.true, c.loop-i.auto.i)) in
     let low : k < length cells = place_within cells order i k c.requires.order hi in
-    let hk = slice_get_read cells (length cells) k c.index-cells-place.result refl low c.index-cells-place.is in
+    let hk = slice_get_read cells (length cells) k c.index-cells-index.result refl low c.index-cells-index.is in
     let long : length cells ≡ length c.deref.result.now =
     sym c.loop-i.invariant.long ∙ sym c.deref.ensures.len in
     rw (← long)
-    (row_fits cells targets k c.index-cells-place.result c.row.result c.requires.targets hk c.row.ensures).1
+    (row_fits cells targets k c.index-cells-index.result c.row.result c.requires.targets hk c.row.ensures).1
 
 pub loop-i-preserved : goal.loop-i-preserved
 loop-i-preserved c =
@@ -44,12 +44,12 @@ loop-i-preserved c =
     let sums : List ℕ = c.loop-i.sums.items in
     let i : ℕ = c.loop-i.i - 1 in
     let k : ℕ = get_or order i 0 in
-    let cell = c.index-cells-place.result in
+    let cell = c.index-cells-index.result in
     let ts = c.row.result in
     let hi : slice_get order i ≡ Some k =
     slice_get-get_or order i 0 (omega (arith, c.loop-i-test.true, c.loop-i.auto.i)) in
     let low : k < length cells = place_within cells order i k c.requires.order hi in
-    let hk = slice_get_read cells (length cells) k cell refl low c.index-cells-place.is in
+    let hk = slice_get_read cells (length cells) k cell refl low c.index-cells-index.is in
     let whole : length sums ≡ length cells =
     ap length (sym c.deref.ensures.value) ∙ (c.deref.ensures.len ∙ c.loop-i.invariant.long) in
     let next : i + 1 ≡ c.loop-i.i = omega (arith, c.loop-i-test.true) in

@@ -40,17 +40,17 @@ returns-in_default-clause-ok c =
       root_within c.args.cells.now order root c.requires.order first,
     )
 
-pub returns-in-Some-place-clause-ok : goal.returns-in-Some-place-clause-ok
-returns-in-Some-place-clause-ok c =
+pub returns-in-Some-index-clause-ok : goal.returns-in-Some-index-clause-ok
+returns-in-Some-index-clause-ok c =
     let all : List (List ℕ) = names c.args.cells.now in
-    let place = c.in-Some-place.place in
+    let index = c.in-Some-index.index in
     let name : List ℕ = c.in-Some._name.now in
     let given : option_copied c.args.given ≡ Some name = ap option_copied c.in-Some.is in
-    let places : IsPlaceOf all (Some name) c.args.place =
-    subst (λ (o : Option (List ℕ)). IsPlaceOf all o c.args.place) given c.requires.place in
-    let at : slice_get all place ≡ Some name = (places place).0 c.in-Some-place.is in (
-      subst (λ (o : Option (List ℕ)). IsTop c.args.cells.now o place) (sym given) at,
-      omega (arith, slice_get_within all place name at, names_long c.args.cells.now),
+    let places : IsPlaceOf all (Some name) c.args.index =
+    subst (λ (o : Option (List ℕ)). IsPlaceOf all o c.args.index) given c.requires.index in
+    let at : slice_get all index ≡ Some name = (places index).0 c.in-Some-index.is in (
+      subst (λ (o : Option (List ℕ)). IsTop c.args.cells.now o index) (sym given) at,
+      omega (arith, slice_get_within all index name at, names_long c.args.cells.now),
     )
 
 pub returns-in-None-clause-err : goal.returns-in-None-clause-err
@@ -58,11 +58,11 @@ returns-in-None-clause-err c =
     let all : List (List ℕ) = names c.args.cells.now in
     let name : List ℕ = c.in-Some._name.now in
     let given : option_copied c.args.given ≡ Some name = ap option_copied c.in-Some.is in
-    let places : IsPlaceOf all (Some name) c.args.place =
-    subst (λ (o : Option (List ℕ)). IsPlaceOf all o c.args.place) given c.requires.place in (
+    let places : IsPlaceOf all (Some name) c.args.index =
+    subst (λ (o : Option (List ℕ)). IsPlaceOf all o c.args.index) given c.requires.index in (
       name,
       given,
       λ h. let at = at_contains all name h in
-          let there : c.args.place ≡ Some at.0 = (places at.0).1 at.1 in
-          let none : c.args.place ≡ None = c.in-None.is in cc,
+          let there : c.args.index ≡ Some at.0 = (places at.0).1 at.1 in
+          let none : c.args.index ≡ None = c.in-None.is in cc,
     )

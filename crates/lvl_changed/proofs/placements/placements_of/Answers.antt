@@ -18,9 +18,9 @@ Alike cells ps rs = (l : Layer) (s : Square) → PlacedCover cells ps l s ↔ Re
 pub loop-j-preserved : goal.loop-j-preserved
 loop-j-preserved c =
     let cells : List (PlainCell Rings) = c.args.checked.now.cells in
-    let items : List PlainReference = c.place.inside.references in
+    let items : List PlainReference = c.parent.inside.references in
     let cell : PlainCell Rings = c.index-cells-cell.result in
-    let kept : items ≡ cell.references = ap (λ (b : PlainCell Rings). b.references) c.place.view_is in
+    let kept : items ≡ cell.references = ap (λ (b : PlainCell Rings). b.references) c.parent.view_is in
     let j : ℕ = c.loop-j.j in
     let r : PlainReference = c.reference-reference.result in
     let here : slice_get items j ≡ Some r = c.reference-reference.ensures in
@@ -46,9 +46,9 @@ loop-j-preserved c =
 pub returns : goal.returns
 returns c =
     let cells : List (PlainCell Rings) = c.args.checked.now.cells in
-    let items : List PlainReference = c.place.inside.references in
+    let items : List PlainReference = c.parent.inside.references in
     let cell : PlainCell Rings = c.index-cells-cell.result in
-    let kept : items ≡ cell.references = ap (λ (b : PlainCell Rings). b.references) c.place.view_is in
+    let kept : items ≡ cell.references = ap (λ (b : PlainCell Rings). b.references) c.parent.view_is in
     let read : slice_get c.cells.result.now c.args.cell ≡ Some cell =
     slice_get_read c.cells.result.now (length c.cells.result.now) c.args.cell cell refl
     (omega (arith, c.requires, ap length c.cells.ensures.value)) c.index-cells-cell.is in

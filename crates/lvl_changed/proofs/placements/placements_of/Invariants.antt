@@ -9,4 +9,4 @@ abbrev pub invariant-loop-j : goal.invariant-loop-j
 invariant-loop-j l =
     (layer : Layer) (s : Square)
     → PlacedCover l.checked.cells l.placements.items layer s
-    ↔ ReferencesCover l.checked.cells (take l.j l.place-inside.references) layer s
+    ↔ ReferencesCover l.checked.cells (take l.j l.parent-inside.references) layer s

@@ -4,7 +4,7 @@ use Rattle.std.proofs.lemmas.List.{take_more, map-append, take_all}
 use Rattle.std.proofs.lemmas.Option.{slice_get_within, get_or_from_slice_get}
 use Rattle.lvl_grid.specs.declared.point.Point.{Point}
 use Rattle.lvl_grid.specs.declared.map.Map.{Map}
-use Rattle.lvl_cells.specs.Cells.{placing}
+use Rattle.lvl_cells.specs.Cells.{map_at}
 use Rattle.lvl_changed.specs.declared.placements.Placement.{Placement}
 use Rattle.lvl_changed.proofs.placements.push_places.Goals as goal
 
@@ -12,7 +12,7 @@ pub loop-k-preserved : goal.loop-k-preserved
 loop-k-preserved c =
     let shifts : List Point = c.args.reference.now.shifts in
     let k : ℕ = c.loop-k.k in
-    let f : Point → Placement = λ e. record { cell = c.args.cell; map = placing c.args.reference.now e } in
+    let f : Point → Placement = λ e. record { cell = c.args.cell; map = map_at c.args.reference.now e } in
     let p = c.in-Some.ensures.some in
     let e : Point = p.shift in
     let there : k < length shifts = slice_get_within shifts k e p.there in
@@ -32,7 +32,7 @@ loop-k-preserved c =
 pub returns : goal.returns
 returns c =
     let shifts : List Point = c.args.reference.now.shifts in
-    let f : Point → Placement = λ e. record { cell = c.args.cell; map = placing c.args.reference.now e } in
+    let f : Point → Placement = λ e. record { cell = c.args.cell; map = map_at c.args.reference.now e } in
     let long : length shifts ≤ c.loop-k.k =
     omega (arith, c.loop-k-test.false, c.len-k-end.ensures.count, ap length c.shifts.ensures.all) in
     c.loop-k.invariant ∙ ap (λ es. c.args.placements.now.items ++ map f es) (take_all c.loop-k.k shifts long)

@@ -32,9 +32,9 @@ returns-in_default-get-clause-kept c = record { has = λ s h. c.hold_anywhere.en
 pub loop-j-preserved : goal.loop-j-preserved
 loop-j-preserved c =
     let cells : List (PlainCell Rings) = c.args.checked.now.cells in
-    let items : List PlainReference = c.place.inside.references in
+    let items : List PlainReference = c.parent.inside.references in
     let cell : PlainCell Rings = c.index-cells-cell.result in
-    let kept : items ≡ cell.references = ap (λ (b : PlainCell Rings). b.references) c.place.view_is in
+    let kept : items ≡ cell.references = ap (λ (b : PlainCell Rings). b.references) c.parent.view_is in
     let j : ℕ = c.loop-j.j in
     let r : PlainReference = c.reference-reference.result in
     let here : slice_get items j ≡ Some r = c.reference-reference.ensures in
@@ -77,9 +77,9 @@ loop-j-preserved c =
 pub returns-clause-covers : goal.returns-clause-covers
 returns-clause-covers c = λ pairs theirs known.
     let cells : List (PlainCell Rings) = c.args.checked.now.cells in
-    let items : List PlainReference = c.place.inside.references in
+    let items : List PlainReference = c.parent.inside.references in
     let cell : PlainCell Rings = c.index-cells-cell.result in
-    let kept : items ≡ cell.references = ap (λ (b : PlainCell Rings). b.references) c.place.view_is in
+    let kept : items ≡ cell.references = ap (λ (b : PlainCell Rings). b.references) c.parent.view_is in
     let ps : List Placement = c.loop-j.placements.items in
     let read : slice_get c.cells.result.now c.args.cell ≡ Some cell =
     slice_get_read c.cells.result.now (length c.cells.result.now) c.args.cell cell refl

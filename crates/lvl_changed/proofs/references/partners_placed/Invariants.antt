@@ -12,7 +12,7 @@ abbrev pub invariant-loop-j : goal.invariant-loop-j
 invariant-loop-j l = record {
   covers : (pairs : List LayerPair) (theirs : List (PlainCell Rings))
       → AreFound pairs l.checked.cells theirs l.known
-      → AlikeOutside l.windows (ReferencesCover l.checked.cells (take l.j l.place-inside.references))
+      → AlikeOutside l.windows (ReferencesCover l.checked.cells (take l.j l.parent-inside.references))
       (IsMoved pairs (PlacedCover theirs l.placements.items));
   kept : Widens l.initial.windows l.windows;
 }

@@ -4,7 +4,7 @@ use Rattle.std.proofs.lemmas.Int.{ints}
 use Rattle.std.proofs.lemmas.Slice.Eq.{slice_eq-Decides}
 use Rattle.lvl_grid.specs.declared.point.Point.{Point}
 use Rattle.lvl_grid.specs.declared.point.Window.{Window}
-use Rattle.lvl_grid.specs.Clip.{IsWithin}
+use Rattle.lvl_grid.specs.Clip.{IsInWindow}
 use Rattle.lvl_grid.specs.Winding.{Covers}
 use Rattle.lvl_grid.proofs.Composing.{same_point}
 use Rattle.lvl_columns.proofs.reordered.are_alike.Goals as goal
@@ -39,6 +39,6 @@ returns-in-Some-Some c = λ t s.
     same_window v w (grind (arith, ints)) (grind (arith, ints)) (grind (arith, ints)) (grind (arith, ints)) in
     let a = c.in-Some-Some.ensures s in
     let b = c.in-Some-Some.ensures' s in (
-      λ x. b.1 (subst (λ (u : Window). IsWithin u s) same (a.0 x)),
-      λ x. a.1 (subst (λ (u : Window). IsWithin u s) (sym same) (b.0 x)),
+      λ x. b.1 (subst (λ (u : Window). IsInWindow u s) same (a.0 x)),
+      λ x. a.1 (subst (λ (u : Window). IsInWindow u s) (sym same) (b.0 x)),
     )

@@ -1,18 +1,18 @@
 use Rattle.std.proofs.Common.{drop, sym, arith}
 use Rattle.lvl_compare.proofs.After.{drop_after, after_other, past_all}
 use Rattle.lvl_compare.proofs.flats.past.Goals as goal
-use Rattle.lvl_compare.proofs.flats.past.Goals.{else-place-len-via-then-place-len+else-stands_at}
-use Rattle.lvl_compare.proofs.flats.past.Goals.{else-place-len-via-else-place-len}
+use Rattle.lvl_compare.proofs.flats.past.Goals.{else-index-len-via-then-index-len+else-is_at}
+use Rattle.lvl_compare.proofs.flats.past.Goals.{else-index-len-via-else-index-len}
 
-pub returns-then-stands_at : goal.returns-then-stands_at
-returns-then-stands_at c =
-    drop_after c.args.flat.now c.args.place c.args.layer (c.stands_at.ensures.0 c.if-stands_at.true)
+pub returns-then-is_at : goal.returns-then-is_at
+returns-then-is_at c =
+    drop_after c.args.flat.now c.args.index c.args.layer (c.is_at.ensures.0 c.if-is_at.true)
 
-pub returns-else-place-len : goal.returns-else-place-len
-returns-else-place-len c = elim c.else-place-len.branch [
-  | else-place-len-via-then-place-len+else-stands_at w ↦
-      sym (after_other (drop c.args.place c.args.flat.now) c.args.layer
-      (λ e. let no = w.stands_at.ensures.1 e in cc (w.if-stands_at.false)))
-  | else-place-len-via-else-place-len w ↦
-      past_all c.args.flat.now c.args.place c.args.layer (omega (arith, c.len.ensures, w.if-place-len.false))
+pub returns-else-index-len : goal.returns-else-index-len
+returns-else-index-len c = elim c.else-index-len.branch [
+  | else-index-len-via-then-index-len+else-is_at w ↦
+      sym (after_other (drop c.args.index c.args.flat.now) c.args.layer
+      (λ e. let no = w.is_at.ensures.1 e in cc (w.if-is_at.false)))
+  | else-index-len-via-else-index-len w ↦
+      past_all c.args.flat.now c.args.index c.args.layer (omega (arith, c.len.ensures, w.if-index-len.false))
 ]

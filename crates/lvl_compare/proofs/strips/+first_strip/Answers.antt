@@ -2,7 +2,7 @@ use Rattle.std.proofs.Common.{◌≡◌, ℤ, ◌≤ℤ◌, sym, subst, rules}
 use Rattle.std.specs.Int.{w64}
 use mir.Val.{to_z, of_z}
 use Rattle.lvl_grid.specs.declared.point.Window.{Window}
-use Rattle.lvl_grid.specs.Clip.{IsWithin}
+use Rattle.lvl_grid.specs.Clip.{IsInWindow}
 use Rattle.lvl_flat.specs.Flattened.{TopCovers}
 use Rattle.lvl_view.specs.Moved.{IsMoved}
 use Rattle.lvl_compare.specs.Tops.{Draws}
@@ -26,9 +26,9 @@ returns-then-pace-eq1-clause-found t c =
     let end : ℤ = kept c.end_of-end.result in
     let is : end ≡ c.end_of-end.result = search rules in
     let inside : end ≤ℤ w.x1 = subst (λ z. z ≤ℤ w.x1) (sym is) c.end_of-end.ensures.inside in
-    found_alike a b (on span (IsWithin (up_to end w))) (on span (IsLeftIn w end)) c.in_ok-found.found
+    found_alike a b (on span (IsInWindow (up_to end w))) (on span (IsLeftIn w end)) c.in_ok-found.found
     (λ l q h. (h.0, front_left w end inside q h.1)) (λ l q h. (h.0, left_front w end q h.1))
-    (subst (λ (v : Window). IsFoundIn a b (on span (IsWithin v)) c.in_ok-found.found) c.front-strip.ensures
+    (subst (λ (v : Window). IsFoundIn a b (on span (IsInWindow v)) c.in_ok-found.found) c.front-strip.ensures
     c.in_ok-found.ensures)
 
 pub returns-in-Ok-clause-found : goal.returns-in-Ok-clause-found
@@ -40,6 +40,6 @@ returns-in-Ok-clause-found t c =
     let end : ℤ = kept c.end_of-end.result in
     let is : end ≡ c.end_of-end.result = search rules in
     let inside : end ≤ℤ w.x1 = subst (λ z. z ≤ℤ w.x1) (sym is) c.end_of-end.ensures.inside in
-    found_alike a b (on span (IsWithin (up_to end w))) (on span (IsLeftIn w end)) c.in-Ok.found
+    found_alike a b (on span (IsInWindow (up_to end w))) (on span (IsLeftIn w end)) c.in-Ok.found
     (λ l q h. (h.0, front_left w end inside q h.1)) (λ l q h. (h.0, left_front w end q h.1))
-    (subst (λ (v : Window). IsFoundIn a b (on span (IsWithin v)) c.in-Ok.found) c.front-strip.ensures c.in-Ok.ensures)
+    (subst (λ (v : Window). IsFoundIn a b (on span (IsInWindow v)) c.in-Ok.found) c.front-strip.ensures c.in-Ok.ensures)

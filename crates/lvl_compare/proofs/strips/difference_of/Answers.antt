@@ -2,7 +2,7 @@ use Rattle.std.proofs.Common.{AllPairs, subst, sym}
 use Rattle.lvl_names.specs.Layers.{ComesBefore}
 use Rattle.lvl_flat.specs.Flattened.{IsFlattenedWithin, TopCovers}
 use Rattle.lvl_view.specs.Moved.{IsMoved}
-use Rattle.lvl_grid.specs.Clip.{IsWithin}
+use Rattle.lvl_grid.specs.Clip.{IsInWindow}
 use Rattle.lvl_compare.specs.inside.Groups.{on}
 use Rattle.lvl_compare.proofs.Finding.{flats_found}
 use Rattle.lvl_compare.proofs.InGroups.{shows_ours, shows_theirs}
@@ -19,7 +19,7 @@ returns c =
     let group = c.args.group.now in
     let w = c.args.strip.now in
     flats_found (TopCovers c.args.first.now) (IsMoved c.args.view.now.pairs (TopCovers c.args.second.now))
-    (on group.span (IsWithin w)) c.in_ok-ours.ours c.in_ok-mapped.mapped c.in_ok-found.found
+    (on group.span (IsInWindow w)) c.in_ok-ours.ours c.in_ok-mapped.mapped c.in_ok-found.found
     (shows_ours c.args.first.now group.span group.ours.items w c.in_ok-ours.ours c.requires.ours
     (subst (λ ls. IsFlattenedWithin c.args.first.now ls w c.in_ok-ours.ours) c.deref.ensures.value
     c.in_ok-ours.ensures))

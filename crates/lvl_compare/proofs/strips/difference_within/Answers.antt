@@ -6,7 +6,7 @@ use Rattle.lvl_grid.specs.declared.point.Window.{Window}
 use Rattle.lvl_flat.specs.Flattened.{TopCovers}
 use Rattle.lvl_view.specs.Moved.{IsMoved}
 use Rattle.lvl_compare.specs.Tops.{Draws}
-use Rattle.lvl_compare.specs.inside.Strips.{Found, IsImproved, IsLeftIn, from_on}
+use Rattle.lvl_compare.specs.inside.Strips.{Difference, IsImproved, IsLeftIn, from_on}
 use Rattle.lvl_compare.specs.declared.groups.Span.{Span}
 use Rattle.lvl_compare.specs.inside.Groups.{on}
 use Rattle.lvl_compare.proofs.Finding.{not_below}
@@ -43,7 +43,7 @@ loop-rest-preserved c =
     let w : Window = c.args.window in
     let x : ℤ = c.loop-rest.rest.x0 in
     let next = c.in_ok-progress.progress in
-    let known : Option Found = c.loop-rest.progress.found in
+    let known : Option Difference = c.loop-rest.progress.found in
     let end : ℤ = kept next.end in
     let is : end ≡ next.end = search rules in
     let further : x <ℤ end = subst (λ z. x <ℤ z) (sym is) c.in_ok-progress.ensures.further in

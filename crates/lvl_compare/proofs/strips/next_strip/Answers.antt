@@ -11,7 +11,7 @@ use Rattle.lvl_compare.specs.Tops.{Draws}
 use Rattle.lvl_compare.specs.declared.groups.Group.{Group}
 use Rattle.lvl_compare.specs.declared.groups.Span.{Span}
 use Rattle.lvl_compare.specs.inside.Groups.{AreListed, on}
-use Rattle.lvl_compare.specs.inside.Strips.{Found, IsImproved, IsLeast, IsLeftIn, Part}
+use Rattle.lvl_compare.specs.inside.Strips.{Difference, IsImproved, IsLeast, IsLeftIn, Part}
 use Rattle.lvl_compare.proofs.InGroups.{first_improves, group_listed, next_improves, rows_wide, span_up_to}
 use Rattle.lvl_compare.proofs.strips.next_strip.Goals as goal
 
@@ -54,7 +54,7 @@ returns-clause-found c =
     let big : Span = c.args.group.now.span in
     let lesser : Group = c.in_ok-lesser.lesser in
     let w : Window = c.args.rest.now in
-    let k : Found = c.in-Some.known in
+    let k : Difference = c.in-Some.known in
     let strip = c.in_ok-strip.strip in
     let is : kept strip.end ≡ strip.end = search rules in
     let span : lesser.span ≡ c.up_to.result = c.in_ok-lesser.ensures.span in

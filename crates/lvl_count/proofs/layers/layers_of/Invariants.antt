@@ -3,5 +3,5 @@ use Rattle.lvl_count.specs.inside.Counts.{AreListed}
 use Rattle.lvl_count.proofs.layers.layers_of.Given as goal
 
 -- the Layers of the cells so far are listed
-abbrev pub invariant-loop-place : goal.invariant-loop-place
-invariant-loop-place l = All (AreListed l.checked.cells l.times l.layers.items) (take l.place-index l.place-items)
+abbrev pub invariant-loop-index : goal.invariant-loop-index
+invariant-loop-index l = All (AreListed l.checked.cells l.times l.layers.items) (take l.index-index l.index-items)

@@ -10,9 +10,9 @@ overflow_mul-times c =
     let step =
     step_along c.args.checked.now c.cells.ensures.checked.0 c.args.i
     (get_or c.args.times.now (get_or c.order.result.now c.args.i 0) 0) c.loop-j.j c.in-Some.target c.len.result
-    c.order.result.now c.cells.result.now c.cell.inside.references c.index-cells-place.result
+    c.order.result.now c.cells.result.now c.cell.inside.references c.index-cells-index.result
     c.reference-reference.result c.loop-j.times c.cells.ensures.checked.1 c.order.ensures.value c.cells.ensures.value
-    c.requires.within c.index-cells-place.is
+    c.requires.within c.index-cells-index.is
     (ap (λ (d : PlainCell Rings). d.references) c.cell.view_is)
     (slice_get_within c.cell.inside.references c.loop-j.j c.reference-reference.result c.reference-reference.ensures)
     (sym (get_or_from_slice_get c.cell.inside.references c.loop-j.j c.reference-reference.result
@@ -37,9 +37,9 @@ overflow_add-times c =
     let step =
     step_along c.args.checked.now c.cells.ensures.checked.0 c.args.i
     (get_or c.args.times.now (get_or c.order.result.now c.args.i 0) 0) c.loop-j.j c.in-Some.target c.len.result
-    c.order.result.now c.cells.result.now c.cell.inside.references c.index-cells-place.result
+    c.order.result.now c.cells.result.now c.cell.inside.references c.index-cells-index.result
     c.reference-reference.result c.loop-j.times c.cells.ensures.checked.1 c.order.ensures.value c.cells.ensures.value
-    c.requires.within c.index-cells-place.is
+    c.requires.within c.index-cells-index.is
     (ap (λ (d : PlainCell Rings). d.references) c.cell.view_is)
     (slice_get_within c.cell.inside.references c.loop-j.j c.reference-reference.result c.reference-reference.ensures)
     (sym (get_or_from_slice_get c.cell.inside.references c.loop-j.j c.reference-reference.result
@@ -57,15 +57,15 @@ pub loop-j-init : goal.loop-j-init
 loop-j-init c =
     let at =
     cell_read c.args.checked.now c.cells.ensures.checked.0 c.order.result.now c.cells.result.now c.args.i
-    c.index-cells-place.result c.cells.ensures.checked.1 c.order.ensures.value c.cells.ensures.value c.requires.within
-    c.index-cells-place.is in
-    let listed : c.cell.inside.references ≡ c.index-cells-place.result.references =
+    c.index-cells-index.result c.cells.ensures.checked.1 c.order.ensures.value c.cells.ensures.value c.requires.within
+    c.index-cells-index.is in
+    let listed : c.cell.inside.references ≡ c.index-cells-index.result.references =
     ap (λ (d : PlainCell Rings). d.references) c.cell.view_is in
     subst
     (λ l. IsPassing c.args.checked.now c.args.i (get_or c.args.times.now (get_or c.order.result.now c.args.i 0) 0) l
     c.args.times.now) (sym listed)
     (passing_begins c.args.checked.now c.args.i (get_or c.order.result.now c.args.i 0)
-    (get_or c.args.times.now (get_or c.order.result.now c.args.i 0) 0) c.index-cells-place.result c.args.times.now
+    (get_or c.args.times.now (get_or c.order.result.now c.args.i 0) 0) c.index-cells-index.result c.args.times.now
     c.cells.ensures.checked.1.sound.linked c.cells.ensures.checked.1.sorted at.0 at.1 refl c.requires.way)
 
 pub loop-j-preserved : goal.loop-j-preserved
@@ -75,9 +75,9 @@ loop-j-preserved c =
           let step =
           step_along c.args.checked.now c.cells.ensures.checked.0 c.args.i
           (get_or c.args.times.now (get_or c.order.result.now c.args.i 0) 0) c.loop-j.j w.in-Some.target w.len.result
-          c.order.result.now c.cells.result.now c.cell.inside.references c.index-cells-place.result
+          c.order.result.now c.cells.result.now c.cell.inside.references c.index-cells-index.result
           c.reference-reference.result c.loop-j.times c.cells.ensures.checked.1 c.order.ensures.value
-          c.cells.ensures.value c.requires.within c.index-cells-place.is
+          c.cells.ensures.value c.requires.within c.index-cells-index.is
           (ap (λ (d : PlainCell Rings). d.references) c.cell.view_is)
           (slice_get_within c.cell.inside.references c.loop-j.j c.reference-reference.result
           c.reference-reference.ensures)
@@ -91,11 +91,11 @@ loop-j-preserved c =
       | in_default w ↦
           let at =
           cell_read c.args.checked.now c.cells.ensures.checked.0 c.order.result.now c.cells.result.now c.args.i
-          c.index-cells-place.result c.cells.ensures.checked.1 c.order.ensures.value c.cells.ensures.value
-          c.requires.within c.index-cells-place.is in
-          let listed : c.cell.inside.references ≡ c.index-cells-place.result.references =
+          c.index-cells-index.result c.cells.ensures.checked.1 c.order.ensures.value c.cells.ensures.value
+          c.requires.within c.index-cells-index.is in
+          let listed : c.cell.inside.references ≡ c.index-cells-index.result.references =
           ap (λ (d : PlainCell Rings). d.references) c.cell.view_is in
-          let low : c.loop-j.j < length c.index-cells-place.result.references =
+          let low : c.loop-j.j < length c.index-cells-index.result.references =
           omega (arith, c.loop-j-test.true, c.len-j-end.ensures, ap length listed) in
-          absurd (w.in_default.ensures.past (c.index-cells-place.result, at.1, low))
+          absurd (w.in_default.ensures.past (c.index-cells-index.result, at.1, low))
     ]

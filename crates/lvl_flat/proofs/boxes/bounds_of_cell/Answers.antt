@@ -3,7 +3,7 @@ use Rattle.std.specs.Prelude.{IfSome}
 use Rattle.std.proofs.lemmas.Option.{slice_get_read}
 use Rattle.lvl_cells.specs.Cells.{PlainCell, Rings}
 use Rattle.lvl_flat.specs.declared.bounds.Bounds.{Bounds}
-use Rattle.lvl_flat.specs.Boxes.{IsWithin, HoldsChains, AreBoxes}
+use Rattle.lvl_flat.specs.Boxes.{HoldsPoint, HoldsChains, AreBoxes}
 use Rattle.lvl_flat.specs.inside.Bounds.{Widens, HoldsOwn, HoldsPicks}
 use Rattle.lvl_flat.proofs.Holding.{own_wider, chains_from}
 use Rattle.lvl_flat.proofs.boxes.bounds_of_cell.Goals as goal
@@ -22,7 +22,7 @@ returns-clause-held c =
     subst (λ (cs : List (PlainCell Rings)). slice_get cs k ≡ Some cell) c.cells.ensures.value read in
     let shapes : All (HoldsOwn own) cell.shapes =
     subst (All (HoldsOwn own)) (ap (λ (x : PlainCell Rings). x.shapes) c.place.view_is) c.in_ok-held.ensures.held in
-    let start : IsWithin own origin = c.in_ok-held.ensures.wider.holds origin c.around.ensures in
+    let start : HoldsPoint own origin = c.in_ok-held.ensures.wider.holds origin c.around.ensures in
     let from : (b : Bounds) → Widens own b
     → IfSome (slice_get cells k) (λ (x : PlainCell Rings). HoldsPicks cells b x.references)
     → IfSome (slice_get cells k) (HoldsChains cells b) =

@@ -3,7 +3,7 @@ use Rattle.lvl_grid.specs.declared.point.Point.{Point}
 use Rattle.lvl_grid.specs.declared.map.Map.{Map}
 use Rattle.lvl_grid.specs.Turn.{image, shifted}
 use Rattle.lvl_cells.specs.Cells.{PlainReference}
-use Rattle.lvl_flat.specs.Boxes.{IsWithin}
+use Rattle.lvl_flat.specs.Boxes.{HoldsPoint}
 use Rattle.lvl_flat.specs.inside.Passing.{before_shifts}
 use Rattle.lvl_flat.proofs.Holding.{moved_place}
 use Rattle.lvl_flat.proofs.boxes.hold_reference.Goals as goal
@@ -13,9 +13,9 @@ returns-clause-held c = λ p within k e lt.
     let r : PlainReference = c.args.reference.now in
     let m : Map = before_shifts r in
     let d : Point = get_or r.shifts k e in
-    let shifts : All (IsWithin c.bounds_of_shifts.result) r.shifts =
-    subst (All (IsWithin c.bounds_of_shifts.result)) c.shifts.ensures.all c.bounds_of_shifts.ensures in
-    let there : IsWithin c.joined.result (shifted d (image m p)) =
+    let shifts : All (HoldsPoint c.bounds_of_shifts.result) r.shifts =
+    subst (All (HoldsPoint c.bounds_of_shifts.result)) c.shifts.ensures.all c.bounds_of_shifts.ensures in
+    let there : HoldsPoint c.joined.result (shifted d (image m p)) =
     c.joined.ensures.second.holds _
     (c.in_ok-everywhere.ensures (image m p) d (c.in_ok-placed.ensures p within) (shifts k e lt)) in
-    subst (IsWithin c.joined.result) (moved_place r m d p refl refl refl) there
+    subst (HoldsPoint c.joined.result) (moved_place r m d p refl refl refl) there

@@ -4,7 +4,7 @@ use Rattle.lvl_grid.specs.declared.map.Map.{Map}
 use Rattle.lvl_grid.specs.declared.point.Point.{Point}
 use Rattle.lvl_grid.specs.declared.point.Square.{Square}
 use Rattle.lvl_grid.specs.declared.ring.PlaceFault.{PlaceFault}
-use Rattle.lvl_grid.specs.Clip.{IsWithin as IsInWindow}
+use Rattle.lvl_grid.specs.Clip.{IsInWindow}
 use Rattle.lvl_grid.proofs.Paths.{origin}
 use Rattle.lvl_grid.specs.Winding.{SomeCovers}
 use Rattle.lvl_names.specs.Shifts.{one_place}

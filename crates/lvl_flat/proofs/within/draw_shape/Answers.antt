@@ -4,7 +4,7 @@ use Rattle.std.proofs.lemmas.List.Elements.{All-more}
 use Rattle.std.proofs.lemmas.Option.{slice_get-get_or}
 use Rattle.lvl_grid.specs.declared.map.Map.{Map}
 use Rattle.lvl_grid.specs.declared.point.Point.{Point}
-use Rattle.lvl_grid.specs.Clip.{IsWithin as IsInWindow}
+use Rattle.lvl_grid.specs.Clip.{IsInWindow}
 use Rattle.lvl_grid.specs.Winding.{SomeCovers}
 use Rattle.lvl_cells.specs.Cells.{Rings, shape_at}
 use Rattle.lvl_flat.specs.inside.Drawn.{FitsAtEach, RingPlacesCover}

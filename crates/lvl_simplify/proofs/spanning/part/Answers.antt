@@ -3,7 +3,7 @@ use Rattle.std.specs.Option.{IfSome}
 use Rattle.std.proofs.lemmas.Result.{on_ok_weaker}
 use Rattle.lvl_grid.specs.declared.point.Square.{Square}
 use Rattle.lvl_grid.specs.declared.point.Window.{Window}
-use Rattle.lvl_grid.specs.Clip.{IsWithin}
+use Rattle.lvl_grid.specs.Clip.{IsInWindow}
 use Rattle.lvl_grid.specs.Winding.{Covers}
 use Rattle.lvl_simplify.specs.Spanning.{IsWithinSome}
 use Rattle.lvl_simplify.proofs.Joining.{any_pushed, any_appended, rows_more, rest_more}
@@ -12,7 +12,7 @@ use Rattle.lvl_simplify.proofs.spanning.part.Goals as goal
 pub returns-in-Some : goal.returns-in-Some
 returns-in-Some c = λ s.
     rows_more
-    (any_pushed (λ window. IsWithin window s) c.args.windows.now.items c.push.new.self.items c.in-Some.window
+    (any_pushed (λ window. IsInWindow window s) c.args.windows.now.items c.push.new.self.items c.in-Some.window
     c.in_ok-push.ensures.items) (c.in-Some.ensures s)
 
 pub returns-in-Some-2 : goal.returns-in-Some-2
@@ -21,7 +21,7 @@ returns-in-Some-2 c = λ s.
     subst (λ (o : Option (Vec Window Global)). IfSome o (λ windows. (s : Square) → Covers c.args.ring.now s
     ↔ IsWithinSome windows.items s)) c.in-Some-2.is c.in_ok-rows.ensures in
     rows_more
-    (any_appended (λ window. IsWithin window s) c.args.windows.now.items c.in-Some-2.rows.items
+    (any_appended (λ window. IsInWindow window s) c.args.windows.now.items c.in-Some-2.rows.items
     c.extend_from_slice.new.self.items (rw c.deref.ensures.value at c.in_ok-extend_from_slice.ensures.items))
     (reported s)
 

@@ -1,12 +1,12 @@
 use Rattle.std.proofs.Common.{◌≡◌, ◌++◌, ◌∷◌, [], List, ap, ◌∙◌, sym}
 use Rattle.lvl_grid.specs.declared.point.Window.{Window}
-use Rattle.lvl_grid.specs.Clip.{IsWithin}
+use Rattle.lvl_grid.specs.Clip.{IsInWindow}
 use Rattle.lvl_simplify.proofs.Joining.{any_pushed, any_replaced}
 use Rattle.lvl_simplify.proofs.spanning.push_joined.Goals as goal
 
 pub returns-in-Some-both : goal.returns-in-Some-both
 returns-in-Some-both c = λ s.
-    any_replaced (λ window. IsWithin window s) c.pop.new.self.items c.args.windows.now.items
+    any_replaced (λ window. IsInWindow window s) c.pop.new.self.items c.args.windows.now.items
     c.push-in-Some-both.new.self.items c.in-Some.last c.args.next c.in-Some-both.window c.in-Some.ensures.items
     c.in_ok-push-2.ensures.items (c.in-Some-both.ensures s)
 
@@ -14,5 +14,5 @@ pub returns : goal.returns
 returns c = λ s.
     let back : c.push-2.new.self.items ≡ c.args.windows.now.items =
     c.in_ok-push-3.ensures.items ∙ sym c.in-Some.ensures.items in
-    any_pushed (λ window. IsWithin window s) c.args.windows.now.items c.push-3.new.self.items c.args.next
+    any_pushed (λ window. IsInWindow window s) c.args.windows.now.items c.push-3.new.self.items c.args.next
     (c.in_ok-push-4.ensures.items ∙ ap (λ (ws : List Window). ws ++ c.args.next ∷ []) back)

@@ -5,12 +5,12 @@ use Rattle.lvl_sweep.proofs.walk.next_interval.Goals as goal
 
 pub returns-in_err-start-clause-none : goal.returns-in_err-start-clause-none
 returns-in_err-start-clause-none c =
-    at_none _ _ (no_interval c.args.active.now _ c.args.place.now c.pass_until.new.place c.requires.row
+    at_none _ _ (no_interval c.args.active.now _ c.args.position.now c.pass_until.new.position c.requires.row
     c.in_err-start.ensures.never)
 
 pub returns-in_err-end-clause-none : goal.returns-in_err-end-clause-none
 returns-in_err-end-clause-none c =
-    absurd (turns_out c.args.active.now _ c.args.place.now c.pass_until.new.place c.pass_until-2.new.place
+    absurd (turns_out c.args.active.now _ c.args.position.now c.pass_until.new.position c.pass_until-2.new.position
     c.pass_until.new.windings _ c.requires.row c.in_ok-start.ensures.turned c.in_err-end.ensures.never)
 
 pub returns-clause-first : goal.returns-clause-first
@@ -18,7 +18,7 @@ returns-clause-first c =
     let s : FitsSigned w64 c.in_ok-start.start = search rules in
     let e : FitsSigned w64 c.in_ok-end.end = search rules in
     rw (to_z-of_z w64 _ s, to_z-of_z w64 _ e)
-    (first_interval c.args.active.now _ c.args.place.now c.pass_until.new.place c.pass_until-2.new.place
+    (first_interval c.args.active.now _ c.args.position.now c.pass_until.new.position c.pass_until-2.new.position
     c.pass_until.new.windings c.pass_until-2.new.windings _ _ c.requires.row
     (numbers_of c.args.active.now _ _ (c.in_ok-end.ensures.rings ∙ c.in_ok-start.ensures.rings)
     c.requires.row.numbers) c.in_ok-start.ensures.turned c.in_ok-end.ensures.turned c.in_ok-end.ensures.passed

@@ -2,8 +2,8 @@ use Rattle.std.proofs.Common.{◌-◌, length}
 use Rattle.lvl_sweep.proofs.Walks.{Looked}
 use Rattle.lvl_sweep.proofs.walk.pass_until.Given as goal
 
-abbrev pub invariant-loop-place : goal.invariant-loop-place
-invariant-loop-place l = Looked l.active l.wanted l.fn.place l.place l.fn.windings l.windings
+abbrev pub invariant-loop-position : goal.invariant-loop-position
+invariant-loop-position l = Looked l.active l.wanted l.fn.position l.position l.fn.windings l.windings
 
-abbrev pub decreases-loop-place : goal.decreases-loop-place
-decreases-loop-place l = length l.active - l.place.at
+abbrev pub decreases-loop-position : goal.decreases-loop-position
+decreases-loop-position l = length l.active - l.position.at

@@ -17,10 +17,10 @@ returns-in_ok-layer-in-Goes c = λ piece d h.
     let r = record_of c.args.kind d c.args.payload.now in
     let t = c.after.ensures.order ∙ ap (left_after left) c.in-Goes.is in
     let e = c.in_ok-layer-in-Goes.ensures in
-    let b = boundary_goes c.args.self (record { place = c.in-Goes.place; layer = c.in_ok-layer-in-Goes.layer }) piece r
+    let b = boundary_goes c.args.self (record { stage = c.in-Goes.stage; layer = c.in_ok-layer-in-Goes.layer }) piece r
     h t e.layer e.datatype in (
       b,
-      allowed piece r (leads_begins _ (left c.in-Goes.place) b.leads)
+      allowed piece r (leads_begins _ (left c.in-Goes.stage) b.leads)
           (law_boundary piece r h.opened e.allowed
           (λ x. absurd (subst (EndsBy xy c.args.kind) c.in-Goes.is c.after.ensures.last x))),
     )
@@ -41,14 +41,14 @@ returns-in_ok-ring-in-Ends c = λ piece d h.
 pub returns-in-Nowhere : goal.returns-in-Nowhere
 returns-in-Nowhere c = λ piece d h.
     let r = record_of c.args.kind d c.args.payload.now in
-    law_misplaced piece r (left c.args.self.place) c.out_of_order.result h.leads
+    law_misplaced piece r (left c.args.self.stage) c.out_of_order.result h.leads
     (c.after.ensures.order ∙ ap (left_after left) c.in-Nowhere.is) c.requires.known c.out_of_order.ensures
 
 pub returns-in_err-layer-in-Goes : goal.returns-in_err-layer-in-Goes
 returns-in_err-layer-in-Goes c = λ piece d h.
     let r = record_of c.args.kind d c.args.payload.now in
     let t = c.after.ensures.order ∙ ap (left_after left) c.in-Goes.is in
-    let g = in_order piece r (left c.args.self.place) (left c.in-Goes.place) h.leads t in
+    let g = in_order piece r (left c.args.self.stage) (left c.in-Goes.stage) h.leads t in
     let e = c.in_err-layer-in-Goes.ensures.refused in
     takes_one piece r c.from_residual.result c.in_err-layer-in-Goes.field-0.0 LayerKind c.from_residual.ensures g e.0
     (e.1, inl h.opened, e.2)
@@ -58,7 +58,7 @@ returns-in_err-ring-in-Ends c = λ piece d h.
     let r = record_of c.args.kind d c.args.payload.now in
     let t = c.after.ensures.order ∙ ap (left_after left) c.in-Ends.is in
     let last = subst (EndsBy xy c.args.kind) c.in-Ends.is c.after.ensures.last in
-    let g = in_order piece r (left c.args.self.place) (one endel) h.leads t in
+    let g = in_order piece r (left c.args.self.stage) (one endel) h.leads t in
     takes_broken piece r c.from_residual-in_err-ring-in-Ends.result c.in_err-ring-in-Ends.field-0.0
     (IsRingFault (points c.args.payload.now)) c.from_residual-in_err-ring-in-Ends.ensures g
     (ring_fault piece r h.opened last) c.in_err-ring-in-Ends.ensures.refused

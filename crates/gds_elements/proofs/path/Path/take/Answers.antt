@@ -21,7 +21,7 @@ returns-in_ok-half-in-Goes c = λ piece d h.
     let r = record_of c.args.kind d c.args.payload.now in
     let t = c.after.ensures.order ∙ ap (left_after left) c.in-Goes.is in
     let p' : Path = record {
-      place = c.in-Goes.place;
+      stage = c.in-Goes.stage;
       layer = c.in_ok-layer-in-Goes.layer;
       square = c.in_ok-square-in-Goes.square;
       half = c.in_ok-half-in-Goes.half;
@@ -30,7 +30,7 @@ returns-in_ok-half-in-Goes c = λ piece d h.
     c.in_ok-layer-in-Goes.ensures.datatype c.in_ok-square-in-Goes.ensures.value c.in_ok-half-in-Goes.ensures.value
     in (
       b,
-      allowed piece r (leads_begins _ (left c.in-Goes.place) b.leads)
+      allowed piece r (leads_begins _ (left c.in-Goes.stage) b.leads)
           (law_path piece r h.opened c.in_ok-layer-in-Goes.ensures.allowed c.in_ok-square-in-Goes.ensures.allowed
           c.in_ok-half-in-Goes.ensures.allowed
           (λ x. absurd (subst (EndsBy xy c.args.kind) c.in-Goes.is c.after.ensures.last x))),
@@ -45,7 +45,7 @@ returns-in_err-rings-in-Ends c = λ piece d h.
     takes_broken piece r c.from_residual-in_err-rings-in-Ends.result e
     (IsBandsFault (points c.args.payload.now) c.args.self.half c.args.self.square)
     c.from_residual-in_err-rings-in-Ends.ensures
-    (in_order piece r (left c.args.self.place) (one endel) h.leads t)
+    (in_order piece r (left c.args.self.stage) (one endel) h.leads t)
     (bands_fault c.args.self piece r h last) c.in_err-rings-in-Ends.ensures.refused
 
 pub returns-in_ok-rings-in-Ends : goal.returns-in_ok-rings-in-Ends
@@ -73,14 +73,14 @@ returns-in_ok-rings-in-Ends c = λ piece d h.
 pub returns-in-Nowhere : goal.returns-in-Nowhere
 returns-in-Nowhere c = λ piece d h.
     let r = record_of c.args.kind d c.args.payload.now in
-    law_misplaced piece r (left c.args.self.place) c.out_of_order.result h.leads
+    law_misplaced piece r (left c.args.self.stage) c.out_of_order.result h.leads
     (c.after.ensures.order ∙ ap (left_after left) c.in-Nowhere.is) c.requires.known c.out_of_order.ensures
 
 pub returns-in_err-layer-in-Goes : goal.returns-in_err-layer-in-Goes
 returns-in_err-layer-in-Goes c = λ piece d h.
     let r = record_of c.args.kind d c.args.payload.now in
     let t = c.after.ensures.order ∙ ap (left_after left) c.in-Goes.is in
-    let g = in_order piece r (left c.args.self.place) (left c.in-Goes.place) h.leads t in
+    let g = in_order piece r (left c.args.self.stage) (left c.in-Goes.stage) h.leads t in
     let e = c.in_err-layer-in-Goes.ensures.refused in
     takes_one piece r c.from_residual.result c.in_err-layer-in-Goes.field-0.0 LayerKind c.from_residual.ensures g e.0
     (e.1, inr h.opened, e.2)
@@ -89,7 +89,7 @@ pub returns-in_err-square-in-Goes : goal.returns-in_err-square-in-Goes
 returns-in_err-square-in-Goes c = λ piece d h.
     let r = record_of c.args.kind d c.args.payload.now in
     let t = c.after.ensures.order ∙ ap (left_after left) c.in-Goes.is in
-    let g = in_order piece r (left c.args.self.place) (left c.in-Goes.place) h.leads t in
+    let g = in_order piece r (left c.args.self.stage) (left c.in-Goes.stage) h.leads t in
     let e = c.in_err-square-in-Goes.ensures.refused in
     takes_one piece r c.from_residual-in_err-square-in-Goes.result c.in_err-square-in-Goes.field-0.0 PathType
     c.from_residual-in_err-square-in-Goes.ensures g e.0 (e.1, h.opened, e.2, e.3)
@@ -98,7 +98,7 @@ pub returns-in_err-half-in-Goes : goal.returns-in_err-half-in-Goes
 returns-in_err-half-in-Goes c = λ piece d h.
     let r = record_of c.args.kind d c.args.payload.now in
     let t = c.after.ensures.order ∙ ap (left_after left) c.in-Goes.is in
-    let g = in_order piece r (left c.args.self.place) (left c.in-Goes.place) h.leads t in
+    let g = in_order piece r (left c.args.self.stage) (left c.in-Goes.stage) h.leads t in
     let e = c.in_err-half-in-Goes.ensures.refused in
     takes_one piece r c.from_residual-in_err-half-in-Goes.result c.in_err-half-in-Goes.field-0.0 Width
     c.from_residual-in_err-half-in-Goes.ensures g e.0 (h.opened, inl (e.1, e.2))

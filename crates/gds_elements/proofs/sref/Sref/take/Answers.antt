@@ -20,10 +20,10 @@ returns-in_ok-placing-in-Goes c = λ piece d h.
     let r = record_of c.args.kind d c.args.payload.now in
     let t = c.after.ensures.order ∙ ap (left_after left) c.in-Goes.is in
     let e = c.in_ok-placing-in-Goes.ensures in
-    let s' : Sref = record { place = c.in-Goes.place; placing = c.in_ok-placing-in-Goes.placing } in
+    let s' : Sref = record { stage = c.in-Goes.stage; placing = c.in_ok-placing-in-Goes.placing } in
     let b = sref_goes c.args.self s' piece r h t e.name e.flip e.turn in (
       b,
-      allowed piece r (leads_begins _ (left c.in-Goes.place) b.leads)
+      allowed piece r (leads_begins _ (left c.in-Goes.stage) b.leads)
           (law_sref piece r h.opened e.allowed
           (λ x. absurd (subst (EndsBy xy c.args.kind) c.in-Goes.is c.after.ensures.last x))),
     )
@@ -43,14 +43,14 @@ returns-in_ok-reference-in-Ends c = λ piece d h.
 pub returns-in-Nowhere : goal.returns-in-Nowhere
 returns-in-Nowhere c = λ piece d h.
     let r = record_of c.args.kind d c.args.payload.now in
-    law_misplaced piece r (left c.args.self.place) c.out_of_order.result h.leads
+    law_misplaced piece r (left c.args.self.stage) c.out_of_order.result h.leads
     (c.after.ensures.order ∙ ap (left_after left) c.in-Nowhere.is) c.requires.known c.out_of_order.ensures
 
 pub returns-in_err-placing-in-Goes : goal.returns-in_err-placing-in-Goes
 returns-in_err-placing-in-Goes c = λ piece d h.
     let r = record_of c.args.kind d c.args.payload.now in
     let t = c.after.ensures.order ∙ ap (left_after left) c.in-Goes.is in
-    let g = in_order piece r (left c.args.self.place) (left c.in-Goes.place) h.leads t in
+    let g = in_order piece r (left c.args.self.stage) (left c.in-Goes.stage) h.leads t in
     takes_broken piece r c.from_residual.result c.in_err-placing-in-Goes.field-0.0
     (IsPlacingFault c.args.kind c.args.payload.now) c.from_residual.ensures g
     (placing_fault piece r (inl h.opened)) c.in_err-placing-in-Goes.ensures.refused
@@ -60,7 +60,7 @@ returns-in_err-reference-in-Ends c = λ piece d h.
     let r = record_of c.args.kind d c.args.payload.now in
     let t = c.after.ensures.order ∙ ap (left_after left) c.in-Ends.is in
     let last = subst (EndsBy xy c.args.kind) c.in-Ends.is c.after.ensures.last in
-    let g = in_order piece r (left c.args.self.place) (one endel) h.leads t in
+    let g = in_order piece r (left c.args.self.stage) (one endel) h.leads t in
     takes_broken piece r c.from_residual-in_err-reference-in-Ends.result c.in_err-reference-in-Ends.field-0.0
     (λ k. (k ≡ Points) × (length (points c.args.payload.now) ≢ 1)) c.from_residual-in_err-reference-in-Ends.ensures
     g

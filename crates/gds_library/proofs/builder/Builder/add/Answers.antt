@@ -16,7 +16,7 @@ returns-in_ok-add_ring-in-Ring-clause-shown c = λ e.
     let same = ap (λ (ps : List Point). of (ps ∷ []) c.single.result) c.points.ensures.all
     ∙ ap (λ (es : List Point). of (c.in-Ring.ring ∷ []) es) c.single.ensures in
     rw c.in-Ring.is
-    (shown_drawn b.place b _ (s ∷ []) [] e (c.in_ok-add_ring-in-Ring.ensures.added
+    (shown_drawn b.stage b _ (s ∷ []) [] e (c.in_ok-add_ring-in-Ring.ensures.added
     ∙ (ap (λ (h : KeptShape). now (with_shape b.cells.current h)) same ∙ ap now (one_shape b.cells.current s))))
 
 pub returns-in_ok-add_rings-in-Rings-clause-shown : goal.returns-in_ok-add_rings-in-Rings-clause-shown
@@ -28,19 +28,19 @@ returns-in_ok-add_rings-in-Rings-clause-shown c = λ e.
     let same = ap (λ (f : Rings). of f c.single-in-Rings.result) c.deref.ensures.value
     ∙ ap (λ (es : List Point). of c.in-Rings.rings.items es) c.single-in-Rings.ensures in
     rw c.in-Rings.is
-    (shown_drawn b.place b _ (s ∷ []) [] e (c.in_ok-add_rings-in-Rings.ensures.added
+    (shown_drawn b.stage b _ (s ∷ []) [] e (c.in_ok-add_rings-in-Rings.ensures.added
     ∙ (ap (λ (h : KeptShape). now (with_shape b.cells.current h)) same ∙ ap now (one_shape b.cells.current s))))
 
 pub returns-in_ok-add_reference-in-Reference-clause-shown : goal.returns-in_ok-add_reference-in-Reference-clause-shown
 returns-in_ok-add_reference-in-Reference-clause-shown c = λ e.
     let b = c.args.self.now in
-    rw c.in-Reference.is (shown_drawn b.place b _ [] (c.in-Reference.reference ∷ []) e
+    rw c.in-Reference.is (shown_drawn b.stage b _ [] (c.in-Reference.reference ∷ []) e
     (c.in_ok-add_reference-in-Reference.ensures.added ∙ ap (λ (i : KeptCell). let x : Built =
     record { cells = b.cells.cells; current = i } in x) (one_reference b.cells.current c.in-Reference.reference)))
 
 pub returns-in-Nothing-clause-shown : goal.returns-in-Nothing-clause-shown
 returns-in-Nothing-clause-shown c = λ e.
     let b = c.args.self.now in
-    rw c.in-Nothing.is (shown_drawn b.place b _ [] [] e
+    rw c.in-Nothing.is (shown_drawn b.stage b _ [] [] e
     (ap (λ (i : KeptCell). let x : Built = record { cells = b.cells.cells; current = i } in x)
     (no_drawing b.cells.current)))

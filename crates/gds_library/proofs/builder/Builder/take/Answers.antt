@@ -20,11 +20,11 @@ other_units = record { bgnstr = refl; strname = refl; endstr = refl }
 
 pub returns-clause-shown : goal.returns-clause-shown
 returns-clause-shown c =
-    let p = c.args.self.now.place in
+    let p = c.args.self.now.stage in
     let q = c.in-Some.next in
     let b = c.args.self.now in
     let m = c.match-kind.self in
-    let b' : Builder = record m { place = q } in
+    let b' : Builder = record m { stage = q } in
     let a = sym c.after.ensures ∙ c.in-Some.is in
     let payload = c.args.payload.now in
     elim c.match-kind.branch [

@@ -25,5 +25,5 @@ returns-in_ok-add-in-Ok-Whole c = λ rs d i.
     let whole = law_whole c.args.self.now.builder c.add.new.self c.args.element rs r c.in-Ok-Whole.drawn i
     (subst (λ (s : Step). IsStep s (i.piece ++ r ∷ [])) c.in-Ok-Whole.field-0-is
     (c.in-Ok-Whole.ensures.going i.piece r i.reading refl refl))
-    (c.in-Ok-Whole.ensures.allowed i.piece r i.reading refl refl) e.place e.version e.units (e.shown i.at) in
+    (c.in-Ok-Whole.ensures.allowed i.piece r i.reading refl refl) e.stage e.version e.units (e.shown i.at) in
     (none_open c.add.new.self _ (rs ++ r ∷ []) c.requires.open whole.0, whole.1)

@@ -16,7 +16,7 @@ pub returns-in_err-take : goal.returns-in_err-take
 returns-in_err-take c = λ rs d h.
     let r = record_of c.args.kind d c.args.payload.now in
     let e = c.in_err-take.field-0.0 in
-    let o : OpensNothing c.args.self.now.builder.place c.args.kind = elim c.if-may_open.branch [
+    let o : OpensNothing c.args.self.now.builder.stage c.args.kind = elim c.if-may_open.branch [
       | then-may_open+in_default w ↦ λ p. w.in_default.ensures.none
       | else-may_open w ↦ λ p. (let t : true ≡ false = sym (c.may_open.ensures.1 p) ∙ w.if-may_open.false in cc)
     ] in
@@ -29,7 +29,7 @@ returns c = λ rs d h.
     let e = c.in_ok-take.ensures in
     let head : KeepsHead c.args.self.now.builder c.take.new.self c.args.kind c.args.payload.now =
     record { version = e.version; units = e.units } in
-    let next = law_holds c.args.self.now.builder c.take.new.self rs r h e.place e.shown head in (
+    let next = law_holds c.args.self.now.builder c.take.new.self rs r h e.stage e.shown head in (
       none_open c.take.new.self _ (rs ++ r ∷ []) c.requires.none next,
-      law_allowed c.args.self.now.builder c.take.new.self rs r h next c.requires.formed.known e.place e.allowed,
+      law_allowed c.args.self.now.builder c.take.new.self rs r h next c.requires.formed.known e.stage e.allowed,
     )

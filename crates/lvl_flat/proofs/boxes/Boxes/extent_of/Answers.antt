@@ -1,6 +1,6 @@
 use Rattle.std.proofs.Common.{List, slice_get, sym, subst}
 use Rattle.lvl_grid.specs.declared.point.Window.{Window}
-use Rattle.lvl_grid.specs.Clip.{IsWithin as IsInWindow}
+use Rattle.lvl_grid.specs.Clip.{IsInWindow}
 use Rattle.lvl_grid.specs.Winding.{SomeCovers}
 use Rattle.lvl_cells.specs.Cells.{PlainCell, Rings}
 use Rattle.lvl_cells.specs.Coverage.{CellCovers}

@@ -6,7 +6,7 @@ use Rattle.lvl_cells.specs.Cells.{PlainCell, Rings}
 use Rattle.lvl_cells.specs.Soundness.{IsOrder}
 use Rattle.lvl_cells.proofs.Summing.{place_within}
 use Rattle.lvl_flat.specs.declared.bounds.Bounds.{Bounds}
-use Rattle.lvl_flat.specs.Boxes.{AreBoxes, HoldsChains, Fits}
+use Rattle.lvl_flat.specs.Boxes.{AreBoxes, HoldsChains, FitsBounds}
 use Rattle.lvl_flat.proofs.Holding.{known_box}
 use Rattle.lvl_flat.proofs.boxes.Boxes.new.Goals as goal
 
@@ -37,7 +37,7 @@ loop-i-preserved c =
       known =
           known_box cells known k (get_or known k None) c.bounds_of_cell.result c.loop-i.invariant.known there
           (λ b d e at. (
-            subst (λ (o : Option Bounds). IfSome o Fits) e c.bounds_of_cell.ensures.fits,
+            subst (λ (o : Option Bounds). IfSome o FitsBounds) e c.bounds_of_cell.ensures.fits,
             subst (λ o. IfSome o (HoldsChains cells b)) at
                 (subst
                 (λ (o : Option Bounds). IfSome o

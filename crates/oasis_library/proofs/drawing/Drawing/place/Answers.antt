@@ -10,7 +10,7 @@ unreachable-requires c =
 
 pub returns : goal.returns
 returns c = λ earlier r t.
-    rw (c.in_ok-push_placement.ensures, ← c.self.view_is)
+    rw (c.in_ok-push.ensures, ← c.self.view_is)
     (placed_grown earlier r c.args.by c.args.modal.now _ (placed c.in-Some.cell.now c.args.by c.in_ok-shifts.shifts)
     c.in-Some.cell.now c.in_ok-shifts.shifts t
     (c.in-Some.ensures (r ∷ earlier) t.stands) (c.in_ok-shifts.ensures.cases ∙ c.shifts.ensures r earlier t.stands)

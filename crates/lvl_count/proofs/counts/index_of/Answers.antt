@@ -2,7 +2,7 @@ use Rattle.std.proofs.Common.{rules}
 use Rattle.std.proofs.lemmas.List.Sorted.{IsPartitionPoint-from_clause}
 use Rattle.lvl_count.specs.declared.counts.LayerRings.{LayerRings}
 use Rattle.lvl_count.proofs.Adding.{comes, comes_if, parted, found_at}
-use Rattle.lvl_count.proofs.counts.place_of.Goals as goal
+use Rattle.lvl_count.proofs.counts.index_of.Goals as goal
 
 pub returns : goal.returns
 returns c =

@@ -3,7 +3,7 @@ use Rattle.lvl_cells.specs.Cells.{PlainPlacement}
 use Rattle.oasis_library.specs.declared.placement.Target.{Target}
 use Rattle.oasis_library.specs.inside.Kept.{placed_from}
 use Rattle.oasis_library.proofs.Placing.{one_more}
-use Rattle.oasis_library.proofs.placement.PlacedCells.push.Goals as goal
+use Rattle.oasis_library.proofs.placement.PlacementLists.push.Goals as goal
 
 pub returns : goal.returns
 returns c =
