@@ -5,3 +5,4 @@ pub mod Ended
 pub mod Holds
 pub mod Refuses
 pub mod Resolved
+pub mod Stored

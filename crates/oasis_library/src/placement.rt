@@ -166,7 +166,7 @@ enum Stored {
 impl Model for PlacedCells {
     ghost use Rattle.std.specs.Prelude.{List};
     ghost use Rattle.oasis_figures.specs.Figures.{Placed};
-    ghost use Rattle.oasis_library.specs.inside.Kept.{stored_placements};
+    ghost use Rattle.oasis_library.specs.inside.Stored.{stored_placements};
 
     ghost Value = { List Placed };
 

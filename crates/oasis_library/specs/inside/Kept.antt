@@ -7,8 +7,6 @@ use Rattle.oasis_figures.specs.Figures.{Placed}
 use Rattle.oasis_records.specs.declared.cell.CellRef.{CellRef}
 use Rattle.oasis_records.specs.declared.cell.CellRef.TheVariants.{Number, Name}
 use Rattle.oasis_library.specs.Cells.{PlainDrawing}
-use Rattle.oasis_library.specs.declared.placement.Stored.{Stored}
-use Rattle.oasis_library.specs.declared.placement.Stored.TheVariants.{None as NoPlacement, One, Several}
 use Rattle.oasis_library.specs.declared.placement.Target.{Target}
 use Rattle.oasis_library.specs.declared.placement.Target.TheVariants.{Number as ByNumber, Name as ByName}
 
@@ -35,12 +33,6 @@ placed_from targets p = record {
   at = p.at;
   shifts = p.shifts;
 }
-
--- the placements that are stored so
-abbrev pub stored_placements : Stored → List Placed
-stored_placements NoPlacement = []
-stored_placements (One b) = b.value ∷ []
-stored_placements (Several b) = b.value
 
 -- a cell that has no shapes or placements yet
 abbrev pub begun : CellRef → PlainDrawing Rings

@@ -1,4 +1,4 @@
-use Rattle.std.proofs.Common.{◌<◌, length, subst, arith, sym}
+use Rattle.std.proofs.Common.{◌<◌, length, subst, arith}
 use Rattle.std.proofs.Common.{All}
 use Rattle.std.specs.Prelude.{flat_map}
 use Rattle.std.proofs.lemmas.List.{take_all}
