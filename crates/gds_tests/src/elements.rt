@@ -2,12 +2,11 @@
 ghost use Rattle.std.specs.Prelude.{IsTrue};
 ghost use Rattle.gds_elements.specs.inside.Formed.{IsFormed};
 
-use gds_elements::{Drawn, Element, ElementFault, ElementRule, Misplaced, Step};
+use gds_elements::{Drawn, Element, ElementFault, Step};
 use gds_records::record_type as ty;
 use lvl_cells::Reference;
 use lvl_grid::{Point, Ring, Turn};
 use lvl_names::Layer;
-use lvl_path::PathFault;
 use lvl_refusal::Cause;
 use std::alloc::{AllocError, Global};
 use std::process::Abort;
@@ -28,20 +27,25 @@ enum Says<'a> {
 
 impl Says<'_> {
     fn payload(&self, alloc: Global) -> Result<Vec<u8>, AllocError> {
-        let mut payload = Vec::new(alloc);
         match *self {
-            Says::Nothing => {}
-            Says::Short(n) => payload.extend_from_slice(&n.to_be_bytes())?,
-            Says::Long(n) => payload.extend_from_slice(&n.to_be_bytes())?,
+            Says::Nothing => Ok(Vec::new(alloc)),
+            Says::Short(n) => list_of(alloc, &n.to_be_bytes()),
+            Says::Long(n) => list_of(alloc, &n.to_be_bytes()),
             Says::Two(m, n) => {
-                payload.extend_from_slice(&m.to_be_bytes())?;
-                payload.extend_from_slice(&n.to_be_bytes())?;
+                let [a, b] = m.to_be_bytes();
+                let [c, d] = n.to_be_bytes();
+                list_of(alloc, &[a, b, c, d])
             }
-            Says::Bytes(bytes) => payload.extend_from_slice(bytes)?,
-            Says::Points(points) => payload.append(&mut spell(alloc, points)?)?,
+            Says::Bytes(bytes) => list_of(alloc, bytes),
+            Says::Points(points) => list_of(alloc, &spell(alloc, points)?),
         }
-        Ok(payload)
     }
+}
+
+fn list_of(alloc: Global, bytes: &[u8]) -> Result<Vec<u8>, AllocError> {
+    let mut list = Vec::new(alloc);
+    list.extend_from_slice(bytes)?;
+    Ok(list)
 }
 
 fn spell(alloc: Global, points: &[(i32, i32)]) -> Result<Vec<u8>, AllocError> {
@@ -57,7 +61,7 @@ fn spell(alloc: Global, points: &[(i32, i32)]) -> Result<Vec<u8>, AllocError> {
 type Line<'a> = (u8, Says<'a>);
 
 /// Why no element was read.
-#[derive(Clone, Copy, Debug, PartialEq, Eq)]
+#[derive(Clone, Copy, Debug)]
 enum Stop {
     /// The record at this place is refused.
     At(usize, ElementFault),
@@ -166,16 +170,17 @@ const ONCE: [u8; 8] = [0x41, 0x10, 0, 0, 0, 0, 0, 0];
 
 const TWICE: [u8; 8] = [0x41, 0x20, 0, 0, 0, 0, 0, 0];
 
+static BOUNDARY: [Line; 5] = [
+    (ty::BOUNDARY, Says::Nothing),
+    (ty::LAYER, Says::Short(32_767)),
+    (ty::DATATYPE, Says::Short(3)),
+    (ty::XY, Says::Points(&SQUARE)),
+    END,
+];
+
 #[test]
 fn a_boundary_is_its_ring(rt: HostRuntime) -> Result<(), Fail> {
-    let lines = [
-        (ty::BOUNDARY, Says::Nothing),
-        (ty::LAYER, Says::Short(32_767)),
-        (ty::DATATYPE, Says::Short(3)),
-        (ty::XY, Says::Points(&SQUARE)),
-        END,
-    ];
-    let (layer, ring) = ring(read(rt.alloc(), &lines))?;
+    let (layer, ring) = ring(read(rt.alloc(), &BOUNDARY))?;
     let want = Layer {
         layer: 32_767,
         datatype: 3,
@@ -201,10 +206,10 @@ fn path(alloc: Global, ends: i16) -> Result<Vec<Ring>, Fail> {
 
 /// The two rings of that path reach out this far to the left and to the top.
 fn check_ends(rt: &impl Abort, rings: &[Ring], left: i64, top: i64) -> Result<(), Fail> {
-    assert_eq!(rt; rings.len(), 2);
-    let first = rings.first().ok_or("a ring")?;
+    let [first, second] = rings else {
+        return Err("two rings".into());
+    };
     assert!(rt; goes_along(first, &[(left, -2), (12, -2), (12, 2), (left, 2)]));
-    let second = rings.get(1).ok_or("a ring")?;
     assert!(rt; goes_along(second, &[(8, -2), (12, -2), (12, top), (8, top)]));
     Ok(())
 }
@@ -227,18 +232,19 @@ fn check_turned(rt: &impl Abort, reference: &Reference) {
     assert_eq!(rt; reference.shifts().len(), 1);
 }
 
+static TURNED: [Line; 7] = [
+    (ty::SREF, Says::Nothing),
+    (ty::SNAME, Says::Bytes(b"A\0")),
+    (ty::STRANS, Says::Short(i16::MIN)),
+    (ty::MAG, Says::Bytes(&ONCE)),
+    (ty::ANGLE, Says::Bytes(&DEGREES_90)),
+    (ty::XY, Says::Points(&[(-7, 5)])),
+    END,
+];
+
 #[test]
 fn flip_then_turn(rt: HostRuntime) -> Result<(), Fail> {
-    let lines = [
-        (ty::SREF, Says::Nothing),
-        (ty::SNAME, Says::Bytes(b"A\0")),
-        (ty::STRANS, Says::Short(i16::MIN)),
-        (ty::MAG, Says::Bytes(&ONCE)),
-        (ty::ANGLE, Says::Bytes(&DEGREES_90)),
-        (ty::XY, Says::Points(&[(-7, 5)])),
-        END,
-    ];
-    let reference = reference(read(rt.alloc(), &lines))?;
+    let reference = reference(read(rt.alloc(), &TURNED))?;
     check_turned(&rt, &reference);
     Ok(())
 }
@@ -280,20 +286,21 @@ fn array_tiles_back(rt: HostRuntime) -> Result<(), Fail> {
     Ok(())
 }
 
+static TEXT: [Line; 9] = [
+    (ty::TEXT, Says::Nothing),
+    (ty::LAYER, Says::Short(-1)),
+    (ty::TEXTTYPE, Says::Short(0)),
+    (ty::WIDTH, Says::Long(-3)),
+    (ty::STRANS, Says::Short(7)),
+    (ty::ANGLE, Says::Bytes(&DEGREES_45)),
+    (ty::XY, Says::Points(&[(0, 0)])),
+    (ty::STRING, Says::Bytes(b"HI")),
+    END,
+];
+
 #[test]
 fn text_covers_nothing(rt: HostRuntime) -> Result<(), Fail> {
-    let lines = [
-        (ty::TEXT, Says::Nothing),
-        (ty::LAYER, Says::Short(-1)),
-        (ty::TEXTTYPE, Says::Short(0)),
-        (ty::WIDTH, Says::Long(-3)),
-        (ty::STRANS, Says::Short(7)),
-        (ty::ANGLE, Says::Bytes(&DEGREES_45)),
-        (ty::XY, Says::Points(&[(0, 0)])),
-        (ty::STRING, Says::Bytes(b"HI")),
-        END,
-    ];
-    assert!(rt; matches!(read(rt.alloc(), &lines), Ok(Drawn::Nothing)));
+    assert!(rt; matches!(read(rt.alloc(), &TEXT), Ok(Drawn::Nothing)));
     Ok(())
 }
 
@@ -307,17 +314,18 @@ fn is_array(drawn: Result<Drawn, Stop>) -> bool {
     matches!(drawn, Ok(Drawn::Reference(_)) | Err(Stop::OutOfMemory))
 }
 
+static PATH: [Line; 6] = [
+    (ty::PATH, Says::Nothing),
+    (ty::LAYER, Says::Short(1)),
+    (ty::DATATYPE, Says::Short(0)),
+    (ty::WIDTH, Says::Long(4)),
+    (ty::XY, Says::Points(&CORNER)),
+    END,
+];
+
 #[test]
 fn growths(rt: HostRuntime) -> Result<(), Fail> {
-    let lines = [
-        (ty::PATH, Says::Nothing),
-        (ty::LAYER, Says::Short(1)),
-        (ty::DATATYPE, Says::Short(0)),
-        (ty::WIDTH, Says::Long(4)),
-        (ty::XY, Says::Points(&CORNER)),
-        END,
-    ];
-    assert!(rt; is_path(read(rt.alloc(), &lines)));
+    assert!(rt; is_path(read(rt.alloc(), &PATH)));
     assert!(rt; is_array(array(rt.alloc(), 3, 2, &[(0, 0), (30, 0), (0, 20)])));
     Ok(())
 }

@@ -110,6 +110,17 @@ fn is_found(found: Found, plain: &str, answer: &Answer) -> bool {
     }
 }
 
+/// Whether what the row says is found where this is ignored.
+fn is_row_found(
+    alloc: Global,
+    (index, more, found): Row,
+    plain: &str,
+    ignore: Ignore,
+) -> Result<bool, AllocError> {
+    let answer = read_with(alloc, index, more, ignore)?;
+    Ok(is_found(found, plain, &answer))
+}
+
 /// The text of `RECORDS` as they are.
 fn plain(alloc: Global) -> Result<String, Fail> {
     Ok(read_with(alloc, 0, &[], Ignore::NOTHING)??)
@@ -118,9 +129,8 @@ fn plain(alloc: Global) -> Result<String, Fail> {
 /// Whether in each row is found what it says, where this is ignored.
 fn are_found(rt: &impl Abort, alloc: Global, rows: &[Row], ignore: Ignore) -> Result<(), Fail> {
     let plain = plain(alloc)?;
-    for (n, (index, more, found)) in rows.iter().enumerate() {
-        let answer = read_with(alloc, *index, more, ignore)?;
-        assert!(rt; is_found(*found, &plain, &answer), "row {n}: {answer:?}");
+    for (n, row) in rows.iter().enumerate() {
+        assert!(rt; is_row_found(alloc, *row, &plain, ignore)?, "row {n}");
     }
     Ok(())
 }
@@ -137,23 +147,27 @@ fn offsets_are_those_of_the_records(rt: HostRuntime) -> Result<(), Fail> {
     Ok(())
 }
 
-/// The text of `RECORDS` with this value in one byte.
-fn changed(alloc: Global, offset: usize, value: u8) -> Result<String, Fail> {
+/// The bytes of `RECORDS` with this value at one offset.
+fn changed(alloc: Global, offset: usize, value: u8) -> Result<Vec<u8>, AllocError> {
     let mut bytes = with(alloc, 0, &[])?;
     if let Some(byte) = bytes.get_mut(offset) {
         *byte = value;
     }
-    Ok(read(alloc, &bytes, Ignore::NOTHING)??)
+    Ok(bytes)
+}
+
+/// Whether their text is another than that of `RECORDS`.
+fn is_told(alloc: Global, offset: usize, value: u8) -> Result<bool, Fail> {
+    let bytes = changed(alloc, offset, value)?;
+    let text = read(alloc, &bytes, Ignore::NOTHING)??;
+    Ok(text.as_str() != plain(alloc)?.as_str())
 }
 
 /// Another version, name, layer or reference is another text, so equal texts are of equal libraries.
 #[test]
 fn texts_tell_libraries(rt: HostRuntime) -> Result<(), Fail> {
-    let plain = plain(rt.alloc())?;
-    let changes: [(usize, u8); 4] = [(5, 0x59), (92, b'A'), (105, 2), (216, b'A')];
-    for (offset, value) in changes {
-        let text = changed(rt.alloc(), offset, value)?;
-        assert!(rt; text.as_str() != plain.as_str(), "byte {offset}");
+    for (offset, value) in [(5, 0x59), (92, b'A'), (105, 2), (216, b'A')] {
+        assert!(rt; is_told(rt.alloc(), offset, value)?, "byte {offset}");
     }
     Ok(())
 }
@@ -180,10 +194,12 @@ fn forms_of_what_is_ignored(rt: HostRuntime) -> Result<(), Fail> {
 
 /// Whether the rows that are read where less is ignored are read alike where all is.
 fn are_same(rt: &impl Abort, alloc: Global, plain: &str, rows: &[Row]) -> Result<(), Fail> {
-    for (index, more, found) in rows {
-        if let Found::Same = found {
-            let answer = read_with(alloc, *index, more, Ignore::EVERYTHING)?;
-            assert!(rt; is_found(Found::Same, plain, &answer), "{answer:?}");
+    for (n, row) in rows.iter().enumerate() {
+        if let Found::Same = row.2 {
+            assert!(rt;
+                is_row_found(alloc, *row, plain, Ignore::EVERYTHING)?,
+                "row {n}"
+            );
         }
     }
     Ok(())
@@ -199,20 +215,23 @@ fn more_ignored(rt: HostRuntime) -> Result<(), Fail> {
     Ok(())
 }
 
-/// Whether the first record of a row is unsupported where nothing is ignored.
-fn is_unsupported(rt: &impl Abort, alloc: Global, row: &Row) -> Result<(), Fail> {
-    let (index, more, _) = row;
-    let kind = more
-        .first()
-        .and_then(|record| record.get(2))
-        .ok_or("a type")?;
-    let found = match RECORDS.get(*index) {
-        Some((offset, _)) => Found::Unsupported(*offset, *kind),
+/// The row with what is found where the first of its records isn't ignored.
+fn unsupported((index, more, _): Row) -> Option<Row> {
+    let kind = *more.first()?.get(2)?;
+    let found = match RECORDS.get(index) {
+        Some((offset, _)) => Found::Unsupported(*offset, kind),
         None => Found::AfterEnd(335),
     };
-    for ignore in [Ignore::NOTHING, OF_OASIS] {
-        let answer = read_with(alloc, *index, more, ignore)?;
-        assert!(rt; is_found(found, "", &answer), "{index} {kind}: {answer:?}");
+    Some((index, more, found))
+}
+
+/// Whether the first record of each row is unsupported where nothing is ignored.
+fn are_unsupported(rt: &impl Abort, alloc: Global, rows: &[Row]) -> Result<(), Fail> {
+    for (n, row) in rows.iter().enumerate() {
+        let row = unsupported(*row).ok_or("a type")?;
+        for ignore in [Ignore::NOTHING, OF_OASIS] {
+            assert!(rt; is_row_found(alloc, row, "", ignore)?, "row {n}");
+        }
     }
     Ok(())
 }
@@ -227,9 +246,7 @@ fn nothing_ignored(rt: HostRuntime) -> Result<(), Fail> {
         FORMS.as_slice(),
     ];
     for rows in tables {
-        for row in rows {
-            is_unsupported(&rt, rt.alloc(), row)?;
-        }
+        are_unsupported(&rt, rt.alloc(), rows)?;
     }
     Ok(())
 }
@@ -243,59 +260,57 @@ fn security(alloc: Global, len: u8) -> Result<Vec<u8>, AllocError> {
     Ok(record)
 }
 
-/// What is read with that record before LIBNAME.
-fn read_security(alloc: Global, len: u8) -> Result<Answer, AllocError> {
+/// Whether this is found with that record before LIBNAME.
+fn is_security_found(alloc: Global, len: u8, plain: &str, found: Found) -> Result<bool, Fail> {
     let record = security(alloc, len)?;
-    read_with(alloc, 2, &[&record], NAMES_ALONE)
+    let answer = read_with(alloc, 2, &[&record], NAMES_ALONE)?;
+    Ok(is_found(found, plain, &answer))
 }
 
 /// LIBSECUR has 1 to 32 entries of six bytes.
 #[test]
 fn entries_of_security(rt: HostRuntime) -> Result<(), Fail> {
     let plain = plain(rt.alloc())?;
-    let rows: [(u8, bool); 12] = [
-        (0, false),
-        (2, false),
-        (4, false),
-        (6, true),
-        (8, false),
-        (12, true),
-        (186, true),
-        (190, false),
-        (192, true),
-        (194, false),
-        (198, false),
-        (204, false),
-    ];
-    for (len, is_read) in rows {
-        let found = if is_read {
-            Found::Same
-        } else {
-            Found::BadLength(34)
-        };
-        let answer = read_security(rt.alloc(), len)?;
-        assert!(rt; is_found(found, &plain, &answer), "{len}: {answer:?}");
+    for len in [6, 12, 186, 192] {
+        let is_same = is_security_found(rt.alloc(), len, &plain, Found::Same)?;
+        assert!(rt; is_same, "{len}");
     }
     Ok(())
 }
 
-/// The first `k` of these bytes are truncated at the record that isn't whole.
-fn check_cut(rt: &impl Abort, alloc: Global, bytes: &[u8], k: usize) -> Result<(), Fail> {
-    // REFLIBS from 40 to 48, FORMAT 0 from 48 to 54, UNITS from 54 to 74
-    let starts: [usize; 8] = [0, 6, 34, 40, 48, 54, 74, 102];
-    let start = starts
-        .iter()
-        .filter(|start| **start <= k)
-        .last()
-        .ok_or("a start")?;
-    let mut reader = Pieces::new(bytes.get(..k).ok_or("bytes")?, 7);
+#[test]
+fn entries_of_no_security(rt: HostRuntime) -> Result<(), Fail> {
+    for len in [0, 2, 4, 8, 190, 194, 198, 204] {
+        let is_refused = is_security_found(rt.alloc(), len, "", Found::BadLength(34))?;
+        assert!(rt; is_refused, "{len}");
+    }
+    Ok(())
+}
+
+/// Where the records of that stream begin that is cut: REFLIBS from 40 to 48, FORMAT 0 from 48 to 54, UNITS from
+/// 54 to 74.
+const STARTS: [usize; 8] = [0, 6, 34, 40, 48, 54, 74, 102];
+
+/// The start of the record that isn't whole in its first `k` bytes.
+fn begun(k: usize) -> u64 {
+    let mut start = 0;
+    for at in STARTS {
+        if at <= k {
+            start = at;
+        }
+    }
+    start as u64
+}
+
+/// The first bytes of the stream are truncated at the record that isn't whole.
+fn check_cut(rt: &impl Abort, alloc: Global, bytes: &[u8]) {
+    let mut reader = Pieces::new(bytes, 7);
     let reported = read_gds_by(alloc, &mut reader, Ignore::EVERYTHING).err();
     let fault = GdsFault {
-        offset: *start as u64,
+        offset: begun(bytes.len()),
         kind: GdsKind::Record(RecordFault::Truncated),
     };
-    assert_eq!(rt; reported, Some(Cause::Breach(fault)), "cut to {k}");
-    Ok(())
+    assert_eq!(rt; reported, Some(Cause::Breach(fault)));
 }
 
 /// A stream is truncated at the record that isn't whole, whether it is ignored or not.
@@ -303,7 +318,7 @@ fn check_cut(rt: &impl Abort, alloc: Global, bytes: &[u8], k: usize) -> Result<(
 fn reports_each_cut(rt: HostRuntime) -> Result<(), Fail> {
     let bytes = with(rt.alloc(), 3, &[REFLIBS, FORMAT_0])?;
     for k in 0..=102usize {
-        check_cut(&rt, rt.alloc(), &bytes, k)?;
+        check_cut(&rt, rt.alloc(), bytes.get(..k).ok_or("bytes")?);
     }
     Ok(())
 }

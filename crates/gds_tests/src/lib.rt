@@ -14,3 +14,5 @@ mod library;
 mod library_elements;
 #[cfg(test)]
 mod records;
+#[cfg(test)]
+mod rows;

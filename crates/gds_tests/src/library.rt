@@ -2,7 +2,8 @@
 //! how a reader cuts the bytes nor where it fails.
 ghost use Rattle.std.specs.Prelude.{Some, None};
 
-use gds_library::{ElementRule, GdsFault, GdsHead, GdsKind, Misplaced, RecordFault, read_gds};
+use crate::rows::{cut, points_of};
+use gds_library::{GdsFault, GdsHead, GdsKind, RecordFault, read_gds};
 use gds_records::fake::{ONE, SQUARE, Stream};
 use lvl_cells::{Cell, Library, Shapes};
 use lvl_grid::Point;
@@ -56,6 +57,18 @@ fn fault_of(alloc: Global, bytes: &[u8], most: usize) -> Option<Cause<GdsFault>>
 
 fn at(offset: u64, kind: GdsKind) -> Option<Cause<GdsFault>> {
     Some(Cause::Breach(GdsFault { offset, kind }))
+}
+
+/// Where a fault is and what it is, or `-` for none.
+pub(crate) fn fault_text(
+    alloc: Global,
+    fault: Option<Cause<GdsFault>>,
+) -> Result<String, AllocError> {
+    match fault {
+        Some(Cause::Breach(GdsFault { offset, kind })) => format!(in alloc; "{offset} {kind:?}"),
+        Some(Cause::OutOfMemory) => Err(AllocError),
+        None => String::from_str(alloc, "-"),
+    }
 }
 
 /// Appends `count` bytes of this value.
@@ -174,72 +187,63 @@ fn reads_structures_in_file_order(rt: HostRuntime) -> Result<(), Fail> {
     check_order(&rt, &library)
 }
 
+/// A byte of `square`, another value of it, and the fault.
+const FAULTS: &str = "\
+1 05 | 0 Record(BadLength)
+2 3C | 0 Record(UnknownRecord)
+3 03 | 0 Record(BadDataType)
+2 3B | 0 Misplaced(Unsupported(59))
+92 20 | 88 Name
+92 7F | 88 Name
+94 00 | 88 Name
+98 09 | 112 Element(Width)
+98 2D | 96 Misplaced(Unsupported(45))
+98 04 | 96 Misplaced(Unexpected(4))
+98 07 | 100 Misplaced(Unexpected(13))
+104 80 | 100 Element(Layer)
+110 FF | 106 Element(Layer)
+155 01 | 112 Element(NotClosed)
+139 09 | 112 Element(Oblique)
+166 07 | 164 Misplaced(Unexpected(7))
+";
+
+/// The fault of `square` with the byte of a row.
+fn fault_with(alloc: Global, words: &str) -> Result<String, Fail> {
+    let (place, value) = cut(words, " ");
+    let place = place.parse::<usize>()?;
+    let bytes = changed(alloc, &[place], u8::from_str_radix(value, 16)?)?;
+    Ok(fault_text(alloc, fault_of(alloc, &bytes, 1000))?)
+}
+
 #[test]
 fn names_the_first_fault(rt: HostRuntime) -> Result<(), Fail> {
-    let rows: [(usize, u8, u64, GdsKind); 16] = [
-        (1, 0x05, 0, GdsKind::Record(RecordFault::BadLength)),
-        (2, 0x3C, 0, GdsKind::Record(RecordFault::UnknownRecord)),
-        (3, 0x03, 0, GdsKind::Record(RecordFault::BadDataType)),
-        (2, 0x3B, 0, GdsKind::Misplaced(Misplaced::Unsupported(0x3B))),
-        (92, 0x20, 88, GdsKind::Name),
-        (92, 0x7F, 88, GdsKind::Name),
-        (94, 0x00, 88, GdsKind::Name),
-        (98, 0x09, 112, GdsKind::Element(ElementRule::Width)),
-        (
-            98,
-            0x2D,
-            96,
-            GdsKind::Misplaced(Misplaced::Unsupported(0x2D)),
-        ),
-        (
-            98,
-            0x04,
-            96,
-            GdsKind::Misplaced(Misplaced::Unexpected(0x04)),
-        ),
-        (
-            98,
-            0x07,
-            100,
-            GdsKind::Misplaced(Misplaced::Unexpected(0x0D)),
-        ),
-        (104, 0x80, 100, GdsKind::Element(ElementRule::Layer)),
-        (110, 0xFF, 106, GdsKind::Element(ElementRule::Layer)),
-        (155, 0x01, 112, GdsKind::Element(ElementRule::NotClosed)),
-        (139, 0x09, 112, GdsKind::Element(ElementRule::Oblique)),
-        (
-            166,
-            0x07,
-            164,
-            GdsKind::Misplaced(Misplaced::Unexpected(0x07)),
-        ),
-    ];
-    for (k, value, offset, kind) in rows {
-        let bytes = changed(rt.alloc(), &[k], value)?;
-        let fault = fault_of(rt.alloc(), &bytes, 1000);
-        assert_eq!(rt; fault, at(offset, kind), "byte {k}");
+    for row in FAULTS.lines() {
+        let (words, want) = cut(row, " | ");
+        assert_eq!(rt; fault_with(rt.alloc(), words)?.as_str(), want, "{row}");
     }
     Ok(())
 }
 
+/// The points of a boundary, and the fault.
+const POINTS: &str = "\
+0,0 1,1 2,0 | 112 Element(Points)
+0,0 1,1 2,0 0,1 | 112 Element(NotClosed)
+0,0 1,1 1,0 0,0 | 112 Element(Oblique)
+0,0 1,0 0,0 0,0 | -
+-2147483648,0 0,0 -2147483648,0 -2147483648,0 | -
+";
+
+/// The fault of a boundary with these points.
+fn fault_along(alloc: Global, points: &str) -> Result<String, Fail> {
+    let bytes = with_boundary(alloc, b"TOP\0", &points_of(alloc, points)?)?;
+    Ok(fault_text(alloc, fault_of(alloc, &bytes, 1000))?)
+}
+
 #[test]
 fn tests_points_in_order(rt: HostRuntime) -> Result<(), Fail> {
-    let three: [(i32, i32); 3] = [(0, 0), (1, 1), (2, 0)];
-    let unclosed: [(i32, i32); 4] = [(0, 0), (1, 1), (2, 0), (0, 1)];
-    let oblique: [(i32, i32); 4] = [(0, 0), (1, 1), (1, 0), (0, 0)];
-    let least: [(i32, i32); 4] = [(0, 0), (1, 0), (0, 0), (0, 0)];
-    let lowest = i32::MIN;
-    let far: [(i32, i32); 4] = [(lowest, 0), (0, 0), (lowest, 0), (lowest, 0)];
-    let rows: [(&[(i32, i32)], Option<Cause<GdsFault>>); 5] = [
-        (&three, at(112, GdsKind::Element(ElementRule::Points))),
-        (&unclosed, at(112, GdsKind::Element(ElementRule::NotClosed))),
-        (&oblique, at(112, GdsKind::Element(ElementRule::Oblique))),
-        (&least, None),
-        (&far, None),
-    ];
-    for (points, fault) in rows {
-        let bytes = with_boundary(rt.alloc(), b"TOP\0", points)?;
-        assert_eq!(rt; fault_of(rt.alloc(), &bytes, 1000), fault);
+    for row in POINTS.lines() {
+        let (points, want) = cut(row, " | ");
+        assert_eq!(rt; fault_along(rt.alloc(), points)?.as_str(), want, "{row}");
     }
     Ok(())
 }
@@ -252,44 +256,41 @@ fn named(alloc: Global, letters: usize, zeros: usize) -> Result<Vec<u8>, AllocEr
     with_boundary(alloc, &name, &SQUARE)
 }
 
+/// The fault of that library.
+fn fault_named(alloc: Global, letters: usize, zeros: usize) -> Result<String, AllocError> {
+    let bytes = named(alloc, letters, zeros)?;
+    fault_text(alloc, fault_of(alloc, &bytes, 1000))
+}
+
 #[test]
 fn names_have_up_to_255_bytes(rt: HostRuntime) -> Result<(), Fail> {
-    let rows: [(usize, usize, bool); 6] = [
-        (255, 1, true),
-        (254, 0, true),
-        (256, 0, false),
-        (254, 2, false),
-        (1, 1, true),
-        (0, 0, false),
-    ];
-    for (letters, zeros, accepted) in rows {
-        let bytes = named(rt.alloc(), letters, zeros)?;
-        let fault = if accepted {
-            None
-        } else {
-            at(88, GdsKind::Name)
-        };
-        assert_eq!(rt;
-            fault_of(rt.alloc(), &bytes, 1000),
-            fault,
-            "{letters} {zeros}"
-        );
+    for (letters, zeros, want) in [
+        (255, 1, "-"),
+        (254, 0, "-"),
+        (256, 0, "88 Name"),
+        (254, 2, "88 Name"),
+        (1, 1, "-"),
+        (0, 0, "88 Name"),
+    ] {
+        let fault = fault_named(rt.alloc(), letters, zeros)?;
+        assert_eq!(rt; fault.as_str(), want, "{letters} {zeros}");
     }
     Ok(())
+}
+
+/// The first `k` of these bytes are truncated at the record that isn't whole.
+fn check_cut(rt: &impl Abort, alloc: Global, bytes: &[u8], k: usize) {
+    let fault = at(begun(k), GdsKind::Record(RecordFault::Truncated));
+    for most in [1, 1000] {
+        assert_eq!(rt; fault_of(alloc, bytes, most), fault, "cut to {k}");
+    }
 }
 
 #[test]
 fn reports_each_cut(rt: HostRuntime) -> Result<(), Fail> {
     let bytes = square(rt.alloc())?;
     for k in 0..bytes.len() {
-        let fault = at(begun(k), GdsKind::Record(RecordFault::Truncated));
-        for most in [1, 1000] {
-            assert_eq!(rt;
-                fault_of(rt.alloc(), &bytes[..k], most),
-                fault,
-                "cut to {k}"
-            );
-        }
+        check_cut(&rt, rt.alloc(), &bytes[..k], k);
     }
     Ok(())
 }
@@ -302,18 +303,29 @@ fn padded(alloc: Global, zeros: usize, rest: &[u8]) -> Result<Vec<u8>, AllocErro
     Ok(bytes)
 }
 
+/// The fault of those bytes, at most `most` at a read.
+fn fault_padded(
+    alloc: Global,
+    zeros: usize,
+    rest: &[u8],
+    most: usize,
+) -> Result<String, AllocError> {
+    let bytes = padded(alloc, zeros, rest)?;
+    fault_text(alloc, fault_of(alloc, &bytes, most))
+}
+
 #[test]
 fn takes_zero_bytes_alone_after_the_end(rt: HostRuntime) -> Result<(), Fail> {
-    let rows: [(usize, &[u8], Option<Cause<GdsFault>>); 4] = [
-        (1880, b"", None),
-        (0, b"\x01", at(168, GdsKind::AfterEnd)),
-        (70_000, b"\x01\0", at(70_168, GdsKind::AfterEnd)),
-        (0, b"\0\x04\x04\0", at(169, GdsKind::AfterEnd)),
+    let rows: [(usize, &[u8], &str); 4] = [
+        (1880, b"", "-"),
+        (0, b"\x01", "168 AfterEnd"),
+        (70_000, b"\x01\0", "70168 AfterEnd"),
+        (0, b"\0\x04\x04\0", "169 AfterEnd"),
     ];
-    for (zeros, rest, fault) in rows {
-        let bytes = padded(rt.alloc(), zeros, rest)?;
+    for (zeros, rest, want) in rows {
         for most in [1, 65_536] {
-            assert_eq!(rt; fault_of(rt.alloc(), &bytes, most), fault);
+            let fault = fault_padded(rt.alloc(), zeros, rest, most)?;
+            assert_eq!(rt; fault.as_str(), want);
         }
     }
     Ok(())
@@ -330,10 +342,8 @@ fn failing(alloc: Global, bytes: &[u8]) -> (Option<Cause<GdsFault>>, u64) {
 fn reports_a_failed_read(rt: HostRuntime) -> Result<(), Fail> {
     let bytes = square(rt.alloc())?;
     for k in 0..=bytes.len() {
-        let (reported, errors) = failing(rt.alloc(), &bytes[..k]);
         let fault = at(begun(k), GdsKind::Record(RecordFault::Read));
-        assert_eq!(rt; reported, fault, "after {k}");
-        assert_eq!(rt; errors, 1);
+        assert_eq!(rt; failing(rt.alloc(), &bytes[..k]), (fault, 1), "after {k}");
     }
     Ok(())
 }

@@ -1,12 +1,13 @@
 //! Elements in streams: what is read of each, and the offset of the record that is refused.
 
-use gds_library::{ElementRule, GdsFault, GdsKind, Misplaced, read_gds};
+use crate::library::fault_text;
+use crate::rows::{cut, points_of};
+use gds_library::{GdsFault, read_gds};
 use gds_records::fake::{SQUARE, Stream};
 use gds_records::record_type;
 use lvl_cells::{CellFault, KeptReference, Library, MovedRing, Shapes, check};
 use lvl_grid::{Point, Turn};
 use lvl_io::fake::Pieces;
-use lvl_path::PathFault;
 use lvl_refusal::Cause;
 use std::alloc::{AllocError, Global};
 use std::process::Abort;
@@ -24,10 +25,6 @@ fn read(alloc: Global, bytes: &[u8]) -> Answer {
     let mut reader = Pieces::new(bytes, 7);
     let (library, _) = read_gds(alloc, &mut reader)?;
     Ok(library)
-}
-
-fn at(offset: u64, kind: GdsKind) -> Option<Cause<GdsFault>> {
-    Some(Cause::Breach(GdsFault { offset, kind }))
 }
 
 /// A library whose structure TOP is open: its first element begins at 96.
@@ -79,11 +76,6 @@ fn array(alloc: Global, columns: i16, rows: i16, points: &[(i32, i32)]) -> Answe
     read(alloc, &stream)
 }
 
-/// Where COLROW begins in `with_array`, and where XY does.
-const COLROW_AT: u64 = 208;
-
-const XY_AT: u64 = 216;
-
 /// Whether the ring has these points.
 fn goes_along(ring: &MovedRing<'_>, want: &[(i64, i64)]) -> bool {
     ring.len() == want.len()
@@ -127,34 +119,36 @@ fn array_tiles(rt: HostRuntime) -> Result<(), Fail> {
     Ok(())
 }
 
-/// Rows array-tiles and array-limits: which arrays are refused, and where.
+/// Rows array-tiles and array-limits: the columns, rows and points of an array, and the fault. In `with_array`
+/// COLROW begins at 208, and XY at 216.
+const ARRAYS: &str = "\
+3 2 | 0,0 31,0 0,20 | 216 Element(ArrayStep)
+1024 1024 | 0,0 1024,0 0,1024 | -
+1025 1024 | 0,0 1025,0 0,1024 | 208 Element(Repetition)
+2 1 | 0,0 -7,0 0,2 | 216 Element(ArrayStep)
+2 1 | 0,0 -8,0 0,2 | -
+";
+
+/// The fault of an array of that many columns and rows with these points.
+fn array_fault(alloc: Global, counts: &str, points: &str) -> Result<String, Fail> {
+    let (columns, rows) = cut(counts, " ");
+    let points = points_of(alloc, points)?;
+    let answer = array(
+        alloc,
+        columns.parse::<i16>()?,
+        rows.parse::<i16>()?,
+        &points,
+    );
+    Ok(fault_text(alloc, answer.err())?)
+}
+
 #[test]
 fn array_limits(rt: HostRuntime) -> Result<(), Fail> {
-    let rows: [(i16, i16, [(i32, i32); 3], Option<Cause<GdsFault>>); 5] = [
-        (
-            3,
-            2,
-            [(0, 0), (31, 0), (0, 20)],
-            at(XY_AT, GdsKind::Element(ElementRule::ArrayStep)),
-        ),
-        (1024, 1024, [(0, 0), (1024, 0), (0, 1024)], None),
-        (
-            1025,
-            1024,
-            [(0, 0), (1025, 0), (0, 1024)],
-            at(COLROW_AT, GdsKind::Element(ElementRule::Repetition)),
-        ),
-        (
-            2,
-            1,
-            [(0, 0), (-7, 0), (0, 2)],
-            at(XY_AT, GdsKind::Element(ElementRule::ArrayStep)),
-        ),
-        (2, 1, [(0, 0), (-8, 0), (0, 2)], None),
-    ];
-    for (columns, rows, points, fault) in rows {
-        let read = array(rt.alloc(), columns, rows, &points);
-        assert_eq!(rt; read.err(), fault, "{columns} {rows}");
+    for row in ARRAYS.lines() {
+        let (counts, words) = cut(row, " | ");
+        let (points, want) = cut(words, " | ");
+        let fault = array_fault(rt.alloc(), counts, points)?;
+        assert_eq!(rt; fault.as_str(), want, "{row}");
     }
     Ok(())
 }
@@ -195,31 +189,25 @@ fn flip_then_turn(rt: HostRuntime) -> Result<(), Fail> {
     Ok(())
 }
 
-/// Row short-run: a run of a path that is shorter than half its width, and odd widths.
+/// The fault of a path with a short run.
+fn short_fault(alloc: Global, ends: Option<i16>, width: i32) -> Result<String, AllocError> {
+    let answer = path(alloc, ends, width, &[(0, 0), (10, 0), (10, 1)]);
+    fault_text(alloc, answer.err())
+}
+
+/// Row short-run: a run of a path that is shorter than half its width, odd widths, and rounded ends.
 #[test]
 fn short_run(rt: HostRuntime) -> Result<(), Fail> {
-    let short: [(i32, i32); 3] = [(0, 0), (10, 0), (10, 1)];
-    let rows: [(i32, Option<Cause<GdsFault>>); 4] = [
-        (
-            4,
-            at(
-                120,
-                GdsKind::Element(ElementRule::Path(PathFault::ShortRun)),
-            ),
-        ),
-        (3, at(112, GdsKind::Element(ElementRule::Width))),
-        (0, at(112, GdsKind::Element(ElementRule::Width))),
-        (2, None),
-    ];
-    for (width, fault) in rows {
-        let read = path(rt.alloc(), None, width, &short);
-        assert_eq!(rt; read.err(), fault, "width {width}");
+    for (ends, width, want) in [
+        (None, 4, "120 Element(Path(ShortRun))"),
+        (None, 3, "112 Element(Width)"),
+        (None, 0, "112 Element(Width)"),
+        (None, 2, "-"),
+        (Some(1), 4, "112 Element(PathType)"),
+    ] {
+        let fault = short_fault(rt.alloc(), ends, width)?;
+        assert_eq!(rt; fault.as_str(), want, "width {width}");
     }
-    let read = path(rt.alloc(), Some(1), 4, &short);
-    assert_eq!(rt;
-        read.err(),
-        at(112, GdsKind::Element(ElementRule::PathType))
-    );
     Ok(())
 }
 
@@ -316,71 +304,52 @@ fn cycle(rt: HostRuntime) -> Result<(), Fail> {
     check_names(&rt, &names)
 }
 
-/// Where a record begins that comes after SREF and SNAME, and how this stream is refused.
-fn refused(
+/// A stream of SREF, SNAME and a record, and where the record begins.
+fn with_record(
     alloc: Global,
     kind: u8,
     data_type: u8,
     payload: &[u8],
-) -> Result<(u64, Option<Cause<GdsFault>>), AllocError> {
+) -> Result<(u64, Vec<u8>), AllocError> {
     let mut stream = top(alloc)?;
     stream.record(record_type::SREF, 0, b"")?;
     stream.record(record_type::SNAME, 6, b"AB")?;
     let offset = stream.offset();
     stream.record(kind, data_type, payload)?;
-    Ok((offset, read(alloc, &stream.into_bytes()).err()))
+    Ok((offset, stream.into_bytes()))
+}
+
+/// The fault of this stream, if it is where the record begins.
+fn fault_there(
+    alloc: Global,
+    kind: u8,
+    data_type: u8,
+    payload: &[u8],
+) -> Result<String, AllocError> {
+    let (begin, stream) = with_record(alloc, kind, data_type, payload)?;
+    match read(alloc, &stream) {
+        Err(Cause::Breach(GdsFault { offset, kind })) if offset == begin => {
+            format!(in alloc; "{kind:?}")
+        }
+        _ => String::from_str(alloc, "no fault there"),
+    }
 }
 
 /// A rule is named at the record that breaches it, whichever element it is in.
 #[test]
 fn names_each_fault_where_it_stands(rt: HostRuntime) -> Result<(), Fail> {
-    let rows: [(u8, u8, &[u8], GdsKind); 7] = [
-        (
-            record_type::STRANS,
-            1,
-            &[0, 4],
-            GdsKind::Element(ElementRule::Strans),
-        ),
-        (
-            record_type::ENDSTR,
-            0,
-            b"",
-            GdsKind::Misplaced(Misplaced::Unexpected(record_type::ENDSTR)),
-        ),
-        (
-            record_type::SREF,
-            0,
-            b"",
-            GdsKind::Misplaced(Misplaced::Unexpected(record_type::SREF)),
-        ),
-        (
-            record_type::BGNSTR,
-            2,
-            &[0; 24],
-            GdsKind::Misplaced(Misplaced::Unexpected(record_type::BGNSTR)),
-        ),
-        (
-            record_type::ENDLIB,
-            0,
-            b"",
-            GdsKind::Misplaced(Misplaced::Unexpected(record_type::ENDLIB)),
-        ),
-        (
-            0x15,
-            0,
-            b"",
-            GdsKind::Misplaced(Misplaced::Unsupported(0x15)),
-        ),
-        (
-            record_type::XY,
-            3,
-            &[0; 16],
-            GdsKind::Element(ElementRule::Points),
-        ),
+    let rows: [(u8, u8, &[u8], &str); 7] = [
+        (record_type::STRANS, 1, &[0, 4], "Element(Strans)"),
+        (record_type::ENDSTR, 0, b"", "Misplaced(Unexpected(7))"),
+        (record_type::SREF, 0, b"", "Misplaced(Unexpected(10))"),
+        (record_type::BGNSTR, 2, &[0; 24], "Misplaced(Unexpected(5))"),
+        (record_type::ENDLIB, 0, b"", "Misplaced(Unexpected(4))"),
+        (0x15, 0, b"", "Misplaced(Unsupported(21))"),
+        (record_type::XY, 3, &[0; 16], "Element(Points)"),
     ];
-    for (kind, data_type, payload, fault) in rows {
-        let (offset, reported) = refused(rt.alloc(), kind, data_type, payload)?;
-        assert_eq!(rt; reported, at(offset, fault), "type {kind}");
+    for (kind, data_type, payload, want) in rows {
+        let fault = fault_there(rt.alloc(), kind, data_type, payload)?;
+        assert_eq!(rt; fault.as_str(), want, "type {kind}");
     }
     Ok(())
 }

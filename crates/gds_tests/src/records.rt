@@ -2,6 +2,7 @@
 //! reader cuts the bytes nor where it fails.
 ghost use Rattle.std.specs.Prelude.{Some, None};
 
+use crate::rows::{bytes_of, cut};
 use gds_records::{RecordFault, Records, Stopped, record_type};
 use lvl_io::Read;
 use lvl_io::fake::Pieces;
@@ -159,44 +160,46 @@ fn reads_a_square(rt: HostRuntime) -> Result<(), Fail> {
     read_square(&rt, &mut records)
 }
 
+/// A record, which fault it has, and where reading stops: an odd length comes before an unknown type, that
+/// before a data type, and this before a length; a type outside the table takes any data type up to 6 and any
+/// payload; points are eight bytes each, one or more.
+const HEADERS: &str = "\
+00 05 00 02 02 | BadLength at 0
+00 02 00 02 | BadLength at 0
+00 06 3C 02 02 58 | UnknownRecord at 0
+00 06 00 03 02 58 | BadDataType at 0
+00 08 00 02 02 58 00 00 | BadLength at 0
+00 05 3C 07 | BadLength at 0
+00 06 3C 07 | UnknownRecord at 0
+00 08 00 03 | BadDataType at 0
+00 08 3B 04 01 02 03 04 | no fault at 8
+00 04 2D 00 | no fault at 4
+00 04 2D 07 | BadDataType at 0
+00 04 10 03 | BadLength at 0
+00 08 10 03 00 00 00 00 | BadLength at 0
+00 0C 10 03 00 00 00 00 00 00 00 00 | no fault at 12
+";
+
+/// Which fault the walk met, and where it stopped.
+fn stop_text(alloc: Global, walk: Walk) -> Result<String, AllocError> {
+    let offset = walk.offset;
+    match walk.fault {
+        Some(fault) => format!(in alloc; "{fault:?} at {offset}"),
+        None => format!(in alloc; "no fault at {offset}"),
+    }
+}
+
+/// How it goes to read the bytes of a row.
+fn stop_of(rt: &impl Abort, alloc: Global, words: &str) -> Result<String, Fail> {
+    let bytes = bytes_of(alloc, words)?;
+    Ok(stop_text(alloc, walk_of(rt, alloc, &bytes, 100)?)?)
+}
+
 #[test]
 fn tests_a_header_in_order(rt: HostRuntime) -> Result<(), Fail> {
-    let rows: [(&[u8], Option<RecordFault>); 14] = [
-        (b"\x00\x05\x00\x02\x02", Some(RecordFault::BadLength)),
-        (b"\x00\x02\x00\x02", Some(RecordFault::BadLength)),
-        (
-            b"\x00\x06\x3C\x02\x02\x58",
-            Some(RecordFault::UnknownRecord),
-        ),
-        (b"\x00\x06\x00\x03\x02\x58", Some(RecordFault::BadDataType)),
-        (
-            b"\x00\x08\x00\x02\x02\x58\x00\x00",
-            Some(RecordFault::BadLength),
-        ),
-        // An odd length comes before an unknown type, that before a data type, and this before a length.
-        (b"\x00\x05\x3C\x07", Some(RecordFault::BadLength)),
-        (b"\x00\x06\x3C\x07", Some(RecordFault::UnknownRecord)),
-        (b"\x00\x08\x00\x03", Some(RecordFault::BadDataType)),
-        // A type outside the table takes any data type up to 6 and any payload.
-        (b"\x00\x08\x3B\x04\x01\x02\x03\x04", None),
-        (b"\x00\x04\x2D\x00", None),
-        (b"\x00\x04\x2D\x07", Some(RecordFault::BadDataType)),
-        // Points are eight bytes each, one or more.
-        (b"\x00\x04\x10\x03", Some(RecordFault::BadLength)),
-        (b"\x00\x08\x10\x03\0\0\0\0", Some(RecordFault::BadLength)),
-        (b"\x00\x0C\x10\x03\0\0\0\0\0\0\0\0", None),
-    ];
-    for (bytes, fault) in rows {
-        let walk = walk_of(&rt, rt.alloc(), bytes, 100)?;
-        assert_eq!(rt; walk.fault, fault);
-        assert_eq!(rt;
-            walk.offset,
-            if fault.is_some() {
-                0
-            } else {
-                bytes.len() as u64
-            }
-        );
+    for row in HEADERS.lines() {
+        let (words, want) = cut(row, " | ");
+        assert_eq!(rt; stop_of(&rt, rt.alloc(), words)?.as_str(), want, "{row}");
     }
     Ok(())
 }
@@ -210,8 +213,7 @@ fn check_cut(rt: &impl Abort, alloc: Global, bytes: &[u8], k: usize) -> Result<(
     } else {
         None
     };
-    assert_eq!(rt; walk.fault, fault, "cut to {k}");
-    assert_eq!(rt; walk.offset, start, "cut to {k}");
+    assert_eq!(rt; (walk.fault, walk.offset), (fault, start), "cut to {k}");
     Ok(())
 }
 
@@ -235,6 +237,18 @@ fn padded(alloc: Global, zeros: usize, rest: &[u8]) -> Result<Vec<u8>, AllocErro
 }
 
 /// After the records of `square` the tail is this, and the reader is at this offset.
+fn check_tail(
+    rt: &impl Abort,
+    alloc: Global,
+    bytes: &[u8],
+    most: usize,
+    (other, end): (Option<u64>, u64),
+) -> Result<(), Fail> {
+    let mut records = Records::new(alloc, Pieces::new(bytes, most))?;
+    read_tail(rt, &mut records, other, end);
+    Ok(())
+}
+
 fn read_tail<R: Read>(rt: &impl Abort, records: &mut Records<R>, other: Option<u64>, end: u64) {
     for _ in SQUARE {
         assert!(rt; matches!(records.next(), Ok(Some(_))));
@@ -255,8 +269,7 @@ fn takes_zero_bytes_alone_after_the_end(rt: HostRuntime) -> Result<(), Fail> {
     for (zeros, rest, other) in rows {
         let bytes = padded(rt.alloc(), zeros, rest)?;
         for most in [1, 3, 65_536] {
-            let mut records = Records::new(rt.alloc(), Pieces::new(&bytes, most))?;
-            read_tail(&rt, &mut records, other, 168 + zeros as u64);
+            check_tail(&rt, rt.alloc(), &bytes, most, (other, 168 + zeros as u64))?;
         }
     }
     Ok(())
@@ -318,21 +331,25 @@ fn reads_pieces_of_any_size_alike(rt: HostRuntime) -> Result<(), Fail> {
     Ok(())
 }
 
-/// How it goes to read these bytes from a reader that then fails, and how often it has failed.
-fn walk_failing(rt: &impl Abort, alloc: Global, bytes: &[u8]) -> Result<(Walk, u64), AllocError> {
+/// The fault and the offset at which it ends to read these bytes from a reader that then fails, and how often it
+/// has failed.
+fn walk_failing(
+    rt: &impl Abort,
+    alloc: Global,
+    bytes: &[u8],
+) -> Result<(Option<RecordFault>, u64, u64), AllocError> {
     let mut records = Records::new(alloc, Pieces::failing(bytes, 100))?;
     let walk = read_on(rt, &mut records);
-    Ok((walk, records.into_reader().errors))
+    Ok((walk.fault, walk.offset, records.into_reader().errors))
 }
 
 #[test]
 fn reports_a_failed_read_once(rt: HostRuntime) -> Result<(), Fail> {
     let bytes = square(rt.alloc())?;
     for k in 0..=bytes.len() {
-        let (walk, errors) = walk_failing(&rt, rt.alloc(), &bytes[..k])?;
-        assert_eq!(rt; walk.fault, Some(RecordFault::Read), "after {k}");
-        assert_eq!(rt; walk.offset, begun(k as u64), "after {k}");
-        assert_eq!(rt; errors, 1);
+        let found = walk_failing(&rt, rt.alloc(), &bytes[..k])?;
+        let want = (Some(RecordFault::Read), begun(k as u64), 1);
+        assert_eq!(rt; found, want, "after {k}");
     }
     Ok(())
 }
@@ -344,13 +361,19 @@ fn fail_tail<R: Read>(rt: &impl Abort, records: &mut Records<R>, zeros: usize) {
     assert_eq!(rt; records.tail(), Err(Stopped::Failed));
 }
 
+/// The tail of these zeros fails, and the reader has failed once.
+fn check_failing_tail(rt: &impl Abort, alloc: Global, zeros: &[u8]) -> Result<(), Fail> {
+    let mut records = Records::new(alloc, Pieces::failing(zeros, 7))?;
+    fail_tail(rt, &mut records, zeros.len());
+    assert_eq!(rt; records.into_reader().errors, 1);
+    Ok(())
+}
+
 #[test]
 fn reports_a_failed_read_of_the_tail_once(rt: HostRuntime) -> Result<(), Fail> {
+    let zeros = [0; 100];
     for k in 0..100usize {
-        let zeros = [0; 100];
-        let mut records = Records::new(rt.alloc(), Pieces::failing(&zeros[..k], 7))?;
-        fail_tail(&rt, &mut records, k);
-        assert_eq!(rt; records.into_reader().errors, 1);
+        check_failing_tail(&rt, rt.alloc(), &zeros[..k])?;
     }
     Ok(())
 }

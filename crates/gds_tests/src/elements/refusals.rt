@@ -1,137 +1,93 @@
 //! Which rule is reported, and of which record.
 use super::{DEGREES_45, DEGREES_90, END, Line, Says, Stop, TWICE, array, stop_of};
-use gds_elements::{ElementFault, ElementRule, Misplaced};
+use crate::rows::{cut, points_of};
 use gds_records::record_type as ty;
-use lvl_path::PathFault;
+use std::alloc::{AllocError, Global};
 use std::test::Fail;
+
+/// The widths and points of paths, and what is reported of each.
+const PATHS: &str = "\
+short-run | 4 | 0,0 10,0 10,1 | At(4, Rule(Path(ShortRun)))
+odd | 3 | 0,0 10,0 10,1 | At(3, Rule(Width))
+none | 0 | 0,0 10,0 10,1 | At(3, Rule(Width))
+negative | -4 | 0,0 10,0 10,1 | At(3, Rule(Width))
+one point | 4 | 0,0 | At(4, Rule(Points))
+oblique | 4 | 0,0 1,1 | At(4, Rule(Path(Oblique)))
+";
+
+/// What is reported of a path of this width along these points.
+fn path_stop(alloc: Global, width: i32, points: &[(i32, i32)]) -> Option<Stop> {
+    let lines = [
+        PATH,
+        LAYER,
+        DATATYPE,
+        (ty::WIDTH, Says::Long(width)),
+        (ty::XY, Says::Points(points)),
+        END,
+    ];
+    stop_of(alloc, &lines)
+}
+
+/// Why no element is read, or `-`.
+fn stop_text(alloc: Global, stop: Option<Stop>) -> Result<String, AllocError> {
+    match stop {
+        Some(stop) => format!(in alloc; "{stop:?}"),
+        None => String::from_str(alloc, "-"),
+    }
+}
+
+fn path_text(alloc: Global, width: &str, points: &str) -> Result<String, Fail> {
+    let points = points_of(alloc, points)?;
+    Ok(stop_text(alloc, path_stop(alloc, width.parse::<i32>()?, &points))?)
+}
 
 #[test]
 fn short_run(rt: HostRuntime) -> Result<(), Fail> {
-    let short: [(i32, i32); 3] = [(0, 0), (10, 0), (10, 1)];
-    let rows: [(&str, Says, Says, Stop); 6] = [
-        (
-            "short-run",
-            Says::Long(4),
-            Says::Points(&short),
-            Stop::At(
-                4,
-                ElementFault::Rule(ElementRule::Path(PathFault::ShortRun)),
-            ),
-        ),
-        (
-            "odd",
-            Says::Long(3),
-            Says::Points(&short),
-            Stop::At(3, ElementFault::Rule(ElementRule::Width)),
-        ),
-        (
-            "none",
-            Says::Long(0),
-            Says::Points(&short),
-            Stop::At(3, ElementFault::Rule(ElementRule::Width)),
-        ),
-        (
-            "negative",
-            Says::Long(-4),
-            Says::Points(&short),
-            Stop::At(3, ElementFault::Rule(ElementRule::Width)),
-        ),
-        (
-            "one point",
-            Says::Long(4),
-            Says::Points(&[(0, 0)]),
-            Stop::At(4, ElementFault::Rule(ElementRule::Points)),
-        ),
-        (
-            "oblique",
-            Says::Long(4),
-            Says::Points(&[(0, 0), (1, 1)]),
-            Stop::At(4, ElementFault::Rule(ElementRule::Path(PathFault::Oblique))),
-        ),
-    ];
-    for (name, width, points, stop) in rows {
-        let lines = [
-            (ty::PATH, Says::Nothing),
-            (ty::LAYER, Says::Short(1)),
-            (ty::DATATYPE, Says::Short(0)),
-            (ty::WIDTH, width),
-            (ty::XY, points),
-            END,
-        ];
-        assert_eq!(rt; stop_of(rt.alloc(), &lines), Some(stop), "{name}");
+    for row in PATHS.lines() {
+        let (_, words) = cut(row, " | ");
+        let (width, words) = cut(words, " | ");
+        let (points, want) = cut(words, " | ");
+        let text = path_text(rt.alloc(), width, points)?;
+        assert_eq!(rt; text.as_str(), want, "{row}");
     }
     Ok(())
 }
 
+/// The columns and rows of arrays, their points, and what is reported of each.
+const ARRAYS: &str = "\
+1024 1024 | 0,0 1024,0 0,1024 | -
+1025 1024 | 0,0 0,0 0,0 | At(2, Rule(Repetition))
+32767 33 | 0,0 0,0 0,0 | At(2, Rule(Repetition))
+32767 32 | 0,0 0,0 0,0 | -
+2 1 | 0,0 -7,0 0,2 | At(3, Rule(ArrayStep))
+3 2 | 0,0 31,0 0,20 | At(3, Rule(ArrayStep))
+3 2 | 0,0 30,0 0,21 | At(3, Rule(ArrayStep))
+0 1 | 0,0 0,0 0,0 | At(2, Rule(ColRow))
+1 0 | 0,0 0,0 0,0 | At(2, Rule(ColRow))
+-1 1 | 0,0 0,0 0,0 | At(2, Rule(ColRow))
+1 1 | 0,0 0,0 | At(3, Rule(Points))
+1 1 | -2147483648,-2147483648 2147483647,-2147483648 -2147483648,2147483647 | -
+";
+
+fn array_text(alloc: Global, counts: &str, points: &str) -> Result<String, Fail> {
+    let (columns, rows) = cut(counts, " ");
+    let points = points_of(alloc, points)?;
+    let drawn = array(
+        alloc,
+        columns.parse::<i16>()?,
+        rows.parse::<i16>()?,
+        &points,
+    );
+    Ok(stop_text(alloc, drawn.err())?)
+}
+
 #[test]
 fn array_limits(rt: HostRuntime) -> Result<(), Fail> {
-    let far: [(i32, i32); 3] = [
-        (i32::MIN, i32::MIN),
-        (i32::MAX, i32::MIN),
-        (i32::MIN, i32::MAX),
-    ];
-    let rows: [(i16, i16, &[(i32, i32)], Option<Stop>); 12] = [
-        (1024, 1024, &[(0, 0), (1024, 0), (0, 1024)], None),
-        (
-            1025,
-            1024,
-            &[(0, 0), (0, 0), (0, 0)],
-            Some(Stop::At(2, ElementFault::Rule(ElementRule::Repetition))),
-        ),
-        (
-            32_767,
-            33,
-            &[(0, 0), (0, 0), (0, 0)],
-            Some(Stop::At(2, ElementFault::Rule(ElementRule::Repetition))),
-        ),
-        (32_767, 32, &[(0, 0), (0, 0), (0, 0)], None),
-        (
-            2,
-            1,
-            &[(0, 0), (-7, 0), (0, 2)],
-            Some(Stop::At(3, ElementFault::Rule(ElementRule::ArrayStep))),
-        ),
-        (
-            3,
-            2,
-            &[(0, 0), (31, 0), (0, 20)],
-            Some(Stop::At(3, ElementFault::Rule(ElementRule::ArrayStep))),
-        ),
-        (
-            3,
-            2,
-            &[(0, 0), (30, 0), (0, 21)],
-            Some(Stop::At(3, ElementFault::Rule(ElementRule::ArrayStep))),
-        ),
-        (
-            0,
-            1,
-            &[(0, 0), (0, 0), (0, 0)],
-            Some(Stop::At(2, ElementFault::Rule(ElementRule::ColRow))),
-        ),
-        (
-            1,
-            0,
-            &[(0, 0), (0, 0), (0, 0)],
-            Some(Stop::At(2, ElementFault::Rule(ElementRule::ColRow))),
-        ),
-        (
-            -1,
-            1,
-            &[(0, 0), (0, 0), (0, 0)],
-            Some(Stop::At(2, ElementFault::Rule(ElementRule::ColRow))),
-        ),
-        (
-            1,
-            1,
-            &[(0, 0), (0, 0)],
-            Some(Stop::At(3, ElementFault::Rule(ElementRule::Points))),
-        ),
-        (1, 1, &far, None),
-    ];
-    for (columns, rows, points, stop) in rows {
-        let drawn = array(rt.alloc(), columns, rows, points);
-        assert_eq!(rt; drawn.err(), stop, "{columns} {rows}");
+    for row in ARRAYS.lines() {
+        let (counts, words) = cut(row, " | ");
+        let (points, want) = cut(words, " | ");
+        let text = array_text(rt.alloc(), counts, points)?;
+        assert_eq!(rt; text.as_str(), want, "{row}");
     }
     Ok(())
 }
@@ -156,46 +112,31 @@ const OPEN: Line<'static> = (ty::XY, Says::Points(&[(0, 0), (1, 1), (2, 0), (0, 
 
 const OBLIQUE: Line<'static> = (ty::XY, Says::Points(&[(0, 0), (1, 1), (1, 0), (0, 0)]));
 
-/// The records of elements, and which rule is reported of which record.
-static REFUSALS: [(&[Line<'static>], Stop); 18] = [
-    (
-        &[BOUNDARY, DATATYPE],
-        Stop::At(
-            1,
-            ElementFault::Misplaced(Misplaced::Unexpected(ty::DATATYPE)),
-        ),
-    ),
+/// The records of elements, and what is reported of each.
+static REFUSALS: [(&[Line<'static>], &str); 18] = [
+    (&[BOUNDARY, DATATYPE], "At(1, Misplaced(Unexpected(14)))"),
     (
         &[BOUNDARY, (0x2D, Says::Nothing)],
-        Stop::At(1, ElementFault::Misplaced(Misplaced::Unsupported(0x2D))),
+        "At(1, Misplaced(Unsupported(45)))",
     ),
-    (
-        &[BOUNDARY, LAYER, DATATYPE, TWO],
-        Stop::At(3, ElementFault::Rule(ElementRule::Points)),
-    ),
-    (
-        &[BOUNDARY, LAYER, DATATYPE, OPEN],
-        Stop::At(3, ElementFault::Rule(ElementRule::NotClosed)),
-    ),
+    (&[BOUNDARY, LAYER, DATATYPE, TWO], "At(3, Rule(Points))"),
+    (&[BOUNDARY, LAYER, DATATYPE, OPEN], "At(3, Rule(NotClosed))"),
     (
         &[BOUNDARY, LAYER, DATATYPE, OBLIQUE],
-        Stop::At(3, ElementFault::Rule(ElementRule::Oblique)),
+        "At(3, Rule(Oblique))",
     ),
     (
         &[BOUNDARY, (ty::LAYER, Says::Short(-1))],
-        Stop::At(1, ElementFault::Rule(ElementRule::Layer)),
+        "At(1, Rule(Layer))",
     ),
     (
         &[PATH, LAYER, (ty::DATATYPE, Says::Short(-1))],
-        Stop::At(2, ElementFault::Rule(ElementRule::Layer)),
+        "At(2, Rule(Layer))",
     ),
-    (
-        &[PATH, LAYER, DATATYPE, TWO],
-        Stop::At(3, ElementFault::Rule(ElementRule::Width)),
-    ),
+    (&[PATH, LAYER, DATATYPE, TWO], "At(3, Rule(Width))"),
     (
         &[PATH, LAYER, DATATYPE, (ty::PATHTYPE, Says::Short(1))],
-        Stop::At(3, ElementFault::Rule(ElementRule::PathType)),
+        "At(3, Rule(PathType))",
     ),
     (
         &[
@@ -205,18 +146,15 @@ static REFUSALS: [(&[Line<'static>], Stop); 18] = [
             (ty::WIDTH, Says::Long(2)),
             (ty::PATHTYPE, Says::Short(0)),
         ],
-        Stop::At(
-            4,
-            ElementFault::Misplaced(Misplaced::Unexpected(ty::PATHTYPE)),
-        ),
+        "At(4, Misplaced(Unexpected(33)))",
     ),
     (
         &[SREF, (ty::SNAME, Says::Bytes(b"\0"))],
-        Stop::At(1, ElementFault::Rule(ElementRule::Name)),
+        "At(1, Rule(Name))",
     ),
     (
         &[SREF, NAME, (ty::STRANS, Says::Short(0x0004))],
-        Stop::At(2, ElementFault::Rule(ElementRule::Strans)),
+        "At(2, Rule(Strans))",
     ),
     (
         &[
@@ -225,7 +163,7 @@ static REFUSALS: [(&[Line<'static>], Stop); 18] = [
             (ty::STRANS, Says::Short(0)),
             (ty::MAG, Says::Bytes(&TWICE)),
         ],
-        Stop::At(3, ElementFault::Rule(ElementRule::Magnification)),
+        "At(3, Rule(Magnification))",
     ),
     (
         &[
@@ -234,33 +172,25 @@ static REFUSALS: [(&[Line<'static>], Stop); 18] = [
             (ty::STRANS, Says::Short(0)),
             (ty::ANGLE, Says::Bytes(&DEGREES_45)),
         ],
-        Stop::At(3, ElementFault::Rule(ElementRule::Angle)),
+        "At(3, Rule(Angle))",
     ),
     (
         &[SREF, NAME, (ty::ANGLE, Says::Bytes(&DEGREES_90))],
-        Stop::At(2, ElementFault::Misplaced(Misplaced::Unexpected(ty::ANGLE))),
+        "At(2, Misplaced(Unexpected(28)))",
     ),
-    (
-        &[SREF, NAME, TWO],
-        Stop::At(2, ElementFault::Rule(ElementRule::Points)),
-    ),
+    (&[SREF, NAME, TWO], "At(2, Rule(Points))"),
     (
         &[TEXT, LAYER, (ty::TEXTTYPE, Says::Short(-1)), TWO],
-        Stop::At(3, ElementFault::Rule(ElementRule::Points)),
+        "At(3, Rule(Points))",
     ),
-    (
-        &[TEXT, LAYER, BOUNDARY],
-        Stop::At(
-            2,
-            ElementFault::Misplaced(Misplaced::Unexpected(ty::BOUNDARY)),
-        ),
-    ),
+    (&[TEXT, LAYER, BOUNDARY], "At(2, Misplaced(Unexpected(8)))"),
 ];
 
 #[test]
 fn the_first_rule_is_reported(rt: HostRuntime) -> Result<(), Fail> {
-    for (lines, stop) in REFUSALS.iter() {
-        assert_eq!(rt; stop_of(rt.alloc(), lines), Some(*stop));
+    for (lines, want) in REFUSALS.iter() {
+        let text = stop_text(rt.alloc(), stop_of(rt.alloc(), lines))?;
+        assert_eq!(rt; text.as_str(), *want);
     }
     Ok(())
 }

@@ -39,37 +39,48 @@ fn reads_pieces_of_any_size_alike(rt: HostRuntime) -> Result<(), Fail> {
     Ok(())
 }
 
+/// The fault of a name with this byte, the last of which may be the zero that fills it.
+fn name_fault(value: u8) -> Option<Cause<GdsFault>> {
+    let is_name = 0x21 <= value && value <= 0x7E;
+    if is_name { None } else { at(88, GdsKind::Name) }
+}
+
+/// The fault of a layer or a datatype whose first byte this is.
+fn sign_fault(value: u8, offset: u64) -> Option<Cause<GdsFault>> {
+    if value < 0x80 {
+        None
+    } else {
+        at(offset, GdsKind::Element(ElementRule::Layer))
+    }
+}
+
+/// Whether it is one that another point has.
+fn is_of_points(fault: Option<Cause<GdsFault>>) -> bool {
+    fault == at(112, GdsKind::Element(ElementRule::NotClosed))
+        || fault == at(112, GdsKind::Element(ElementRule::Oblique))
+}
+
+/// Whether it is a fault at the record of this place or after it.
+fn is_after(place: usize, fault: Option<Cause<GdsFault>>) -> bool {
+    match fault {
+        Some(Cause::Breach(GdsFault { offset, kind: _ })) => {
+            begun(place) <= offset && offset <= 168
+        }
+        _ => false,
+    }
+}
+
 /// Whether this is what is reported of `square` with the byte at a place set to another value: the fault
 /// that its payload's rule names, and of a header some fault no earlier than its record.
 fn is_reported(place: usize, value: u8, fault: Option<Cause<GdsFault>>) -> bool {
     match place {
         // a version, times, the library's name and units, a number's lowest byte: they are free
         4..=5 | 10..=33 | 38..=39 | 44..=59 | 64..=87 | 105 | 111 => fault.is_none(),
-        // a name: its last byte may be the zero that fills it
-        92..=95 => {
-            let is_name = 0x21 <= value && value <= 0x7E;
-            fault == if is_name { None } else { at(88, GdsKind::Name) }
-        }
-        // the sign of a layer and of a datatype
-        104 => fault
-            == if value < 0x80 {
-                None
-            } else {
-                at(100, GdsKind::Element(ElementRule::Layer))
-            },
-        110 => fault
-            == if value < 0x80 {
-                None
-            } else {
-                at(106, GdsKind::Element(ElementRule::Layer))
-            },
-        116..=155 => fault == at(112, GdsKind::Element(ElementRule::NotClosed))
-            || fault == at(112, GdsKind::Element(ElementRule::Oblique)),
-        _ => match fault {
-            Some(Cause::Breach(GdsFault { offset, kind: _ })) => begun(place) <= offset
-                && offset <= 168,
-            _ => false,
-        },
+        92..=95 => fault == name_fault(value),
+        104 => fault == sign_fault(value, 100),
+        110 => fault == sign_fault(value, 106),
+        116..=155 => is_of_points(fault),
+        _ => is_after(place, fault),
     }
 }
 
@@ -80,14 +91,12 @@ fn set_each(rt: &impl Abort, alloc: Global, bytes: &mut [u8], place: usize, kept
             *byte = value;
         }
         let fault = fault_of(alloc, bytes, 1000);
-        if value == kept {
-            assert_eq!(rt; fault, None);
+        let is_right = if value == kept {
+            fault.is_none()
         } else {
-            assert!(rt;
-                is_reported(place, value, fault),
-                "byte {place} is {value}: {fault:?}"
-            );
-        }
+            is_reported(place, value, fault)
+        };
+        assert!(rt; is_right, "byte {place} is {value}: {fault:?}");
     }
 }
 

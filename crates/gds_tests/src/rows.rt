@@ -1,0 +1,27 @@
+//! Rows of tables that are text.
+use std::alloc::Global;
+use std::test::Fail;
+
+/// What is before the mark, and what is after it.
+pub(crate) fn cut<'a>(text: &'a str, mark: &str) -> (&'a str, &'a str) {
+    text.split_once(mark).unwrap_or((text, ""))
+}
+
+/// The points of words such as `3,-4`.
+pub(crate) fn points_of(alloc: Global, words: &str) -> Result<Vec<(i32, i32)>, Fail> {
+    let mut points = Vec::new(alloc);
+    for word in words.split_whitespace() {
+        let (x, y) = cut(word, ",");
+        points.push((x.parse::<i32>()?, y.parse::<i32>()?))?;
+    }
+    Ok(points)
+}
+
+/// The bytes of hexadecimal words.
+pub(crate) fn bytes_of(alloc: Global, words: &str) -> Result<Vec<u8>, Fail> {
+    let mut bytes = Vec::new(alloc);
+    for word in words.split_whitespace() {
+        bytes.push(u8::from_str_radix(word, 16)?)?;
+    }
+    Ok(bytes)
+}
