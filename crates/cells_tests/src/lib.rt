@@ -10,11 +10,17 @@ mod cells;
 #[cfg(test)]
 mod counts;
 #[cfg(test)]
+mod libraries;
+#[cfg(test)]
+mod limits;
+#[cfg(test)]
 mod names;
 #[cfg(test)]
 mod offsets;
 #[cfg(test)]
 mod references;
+#[cfg(test)]
+mod shapes;
 #[cfg(test)]
 mod shared;
 #[cfg(test)]
@@ -23,3 +29,5 @@ mod shifts;
 mod texts;
 #[cfg(test)]
 mod views;
+#[cfg(test)]
+mod words;

@@ -13,12 +13,20 @@ fn letters(alloc: Global, count: usize) -> Result<Vec<u8>, AllocError> {
     Ok(bytes)
 }
 
-/// Whether names that are made of the bytes in each way have them.
-fn are_kept(alloc: Global, bytes: &[u8]) -> Result<bool, AllocError> {
-    let copied = Name::of(alloc, bytes)?;
+/// Whether a name that takes the bytes has them.
+fn is_moved(alloc: Global, bytes: &[u8]) -> Result<bool, AllocError> {
     let moved = Name::new(Vec::from_slice(alloc, bytes)?)?;
-    let cloned = copied.clone()?;
-    Ok(copied.as_bytes() == bytes && moved.as_bytes() == bytes && cloned.as_bytes() == bytes)
+    Ok(moved.as_bytes() == bytes)
+}
+
+/// Whether a name that copies the bytes has them, and a clone of it.
+fn is_copied(alloc: Global, bytes: &[u8]) -> Result<bool, AllocError> {
+    let copied = Name::of(alloc, bytes)?;
+    Ok(copied.as_bytes() == bytes && copied.clone()?.as_bytes() == bytes)
+}
+
+fn are_kept(alloc: Global, bytes: &[u8]) -> Result<bool, AllocError> {
+    Ok(is_moved(alloc, bytes)? && is_copied(alloc, bytes)?)
 }
 
 #[test]

@@ -1,112 +1,142 @@
 //! Lattices and lists of shifts, and references that place a cell at them.
-use crate::shifts::{cut, point as point_of};
+//!
+//! A lattice is written as its two steps, each with how many places there are along it, as `9,0*3 0,9*2`, and a
+//! list as its shifts, as `0,0 9,0`.
+use crate::words::{check_text, cut, point};
 use lvl_cells::Reference;
 use lvl_grid::{Point, Turn};
 use lvl_names::{Name, Offsets};
-use std::alloc::Global;
+use std::alloc::{AllocError, Global};
 use std::test::Fail;
 
-const ORIGIN: Point = Point { x: 0, y: 0 };
+/// A step, and how many places there are along it.
+fn step(word: &str) -> Result<(Point, u64), Fail> {
+    let (by, count) = cut(word, "*");
+    Ok((point(by)?, count.parse::<u64>()?))
+}
 
-const RIGHT: Point = Point { x: 1, y: 0 };
+/// The lattice of a text, if it is one.
+fn lattice(text: &str) -> Result<Option<Offsets>, Fail> {
+    let (across, up) = cut(text, " ");
+    let (a, m) = step(across)?;
+    let (b, n) = step(up)?;
+    Ok(Offsets::lattice(a, m, b, n))
+}
 
-const UP: Point = Point { x: 0, y: 1 };
+/// The list of a text, if it is one.
+pub(crate) fn list(alloc: Global, text: &str) -> Result<Option<Offsets>, Fail> {
+    let mut shifts = Vec::new(alloc);
+    for word in text.split_whitespace() {
+        shifts.push(point(word)?)?;
+    }
+    Ok(Offsets::new(shifts))
+}
 
-const FAR: i64 = 1 << 62;
+fn place_text(alloc: Global, place: Option<Point>) -> Result<String, AllocError> {
+    match place {
+        Some(Point { x, y }) => format!(in alloc; "{x},{y} "),
+        None => String::from_str(alloc, "none"),
+    }
+}
+
+/// Each of the shifts, and what is after the last.
+pub(crate) fn places(alloc: Global, shifts: &Offsets) -> Result<String, AllocError> {
+    let mut text = String::new(alloc);
+    for place in 0..=shifts.len() {
+        text.push_str(&place_text(alloc, shifts.at(place))?)?;
+    }
+    Ok(text)
+}
 
 #[test]
 fn places_of_a_lattice(rt: HostRuntime) -> Result<(), Fail> {
-    let far = Point { x: FAR, y: 0 };
-    let shifts = Offsets::lattice(far, 2, UP, 3).ok_or("shifts")?;
-    assert_eq!(rt; shifts.len(), 6);
-    for (place, x, y) in [
-        (0, 0, 0),
-        (1, FAR, 0),
-        (2, 0, 1),
-        (3, FAR, 1),
-        (4, 0, 2),
-        (5, FAR, 2),
-    ] {
-        assert_eq!(rt; shifts.at(place), Some(Point { x, y }));
-    }
-    assert_eq!(rt; shifts.at(6), None);
+    let shifts = lattice("4611686018427387904,0*2 0,1*3")?.ok_or("a lattice")?;
+    let found = places(rt.alloc(), &shifts)?;
+    let want = "0,0 4611686018427387904,0 0,1 4611686018427387904,1 0,2 4611686018427387904,2 none";
+    check_text(&rt, &found, want, "a lattice");
     Ok(())
 }
 
-/// The x of a step along x and how many columns there are, the step from row to row and how many rows there
-/// are, and whether that is a lattice.
-const LATTICES: &str = "4611686018427387904 3 0 1 1 false
-4611686018427387904 2 4611686018427387904 0 2 false
--9223372036854775808 2 4611686018427387904 0 3 false
--9223372036854775808 2 4611686018427387904 0 2 true
-1 0 0 1 1 false
-1 1 0 1 0 false
-1 16777216 0 1 1 true
-1 16777217 0 1 1 false
-0 18446744073709551615 0 0 18446744073709551615 false
+/// Two steps with how many places there are along each, and whether that is a lattice.
+const LATTICES: &str = "\
+4611686018427387904,0*3 0,1*1 | false
+4611686018427387904,0*2 4611686018427387904,0*2 | false
+-9223372036854775808,0*2 4611686018427387904,0*3 | false
+-9223372036854775808,0*2 4611686018427387904,0*2 | true
+1,0*0 0,1*1 | false
+1,0*1 0,1*0 | false
+1,0*16777216 0,1*1 | true
+1,0*16777217 0,1*1 | false
+0,0*18446744073709551615 0,0*18446744073709551615 | false
 ";
-
-/// Whether a row of the table says a lattice, and whether it is to say one.
-fn is_lattice(row: &str) -> Result<(bool, bool), Fail> {
-    let (x, row) = cut(row);
-    let (columns, row) = cut(row);
-    let (up_x, row) = cut(row);
-    let (up_y, row) = cut(row);
-    let (rows, want) = cut(row);
-    let across = point_of(x, "0")?;
-    let up = point_of(up_x, up_y)?;
-    let made = Offsets::lattice(across, columns.parse::<u64>()?, up, rows.parse::<u64>()?);
-    Ok((made.is_some(), want == "true"))
-}
 
 #[test]
 fn lattices(rt: HostRuntime) -> Result<(), Fail> {
     for row in LATTICES.lines() {
-        let (is_made, want) = is_lattice(row)?;
-        assert_eq!(rt; is_made, want, "{row}");
+        let (text, want) = cut(row, " | ");
+        let is_made = lattice(text)?.is_some();
+        assert!(rt; is_made == (want == "true"), "{row}");
     }
+    Ok(())
+}
+
+#[test]
+fn no_lists_of_shifts(rt: HostRuntime) -> Result<(), Fail> {
+    assert!(rt; list(rt.alloc(), "")?.is_none());
+    assert!(rt; list(rt.alloc(), "1,0 0,0")?.is_none());
     Ok(())
 }
 
 #[test]
 fn lists_of_shifts(rt: HostRuntime) -> Result<(), Fail> {
-    assert!(rt; Offsets::new(Vec::new(rt.alloc())).is_none());
-    let moved = [RIGHT, ORIGIN].to_vec(rt.alloc())?;
-    assert!(rt; Offsets::new(moved).is_none());
-    let shifts = Offsets::new([ORIGIN, RIGHT].to_vec(rt.alloc())?).ok_or("shifts")?;
-    assert_eq!(rt; shifts.len(), 2);
-    assert_eq!(rt; shifts.at(1), Some(RIGHT));
-    assert_eq!(rt; shifts.at(2), None);
+    let shifts = list(rt.alloc(), "0,0 1,0")?.ok_or("a list")?;
+    let found = places(rt.alloc(), &shifts)?;
+    check_text(&rt, &found, "0,0 1,0 none", "a list");
     Ok(())
 }
 
-fn point(x: i64, y: i64) -> Point {
-    Point { x, y }
+/// The least and the greatest coordinates of the shifts.
+fn reach(alloc: Global, shifts: &Offsets) -> Result<String, AllocError> {
+    let (low, high) = shifts.reach();
+    format!(in alloc; "{},{} {},{}", low.x, low.y, high.x, high.y)
 }
+
+fn reach_of_lattice(alloc: Global, text: &str) -> Result<String, Fail> {
+    let shifts = lattice(text)?.ok_or("a lattice")?;
+    Ok(reach(alloc, &shifts)?)
+}
+
+/// A lattice, and the least and the greatest coordinates of its shifts.
+const REACHES: &str = "\
+1,0*1 0,1*1 | 0,0 0,0
+3,1*4 2,5*3 | 0,0 13,13
+-3,1*4 2,-5*3 | -9,-10 4,3
+-3,-1*4 -2,-5*3 | -13,-13 0,0
+";
 
 #[test]
 fn reaches(rt: HostRuntime) -> Result<(), Fail> {
-    let rows = [
-        (RIGHT, 1, UP, 1, (0, 0), (0, 0)),
-        (point(3, 1), 4, point(2, 5), 3, (0, 0), (13, 13)),
-        (point(-3, 1), 4, point(2, -5), 3, (-9, -10), (4, 3)),
-        (point(-3, -1), 4, point(-2, -5), 3, (-13, -13), (0, 0)),
-    ];
-    for (a, m, b, n, low, high) in rows {
-        let shifts = Offsets::lattice(a, m, b, n).ok_or("shifts")?;
-        let want = (point(low.0, low.1), point(high.0, high.1));
-        assert_eq!(rt; shifts.reach(), want, "{a:?} {b:?}");
+    for row in REACHES.lines() {
+        let (text, want) = cut(row, " | ");
+        let found = reach_of_lattice(rt.alloc(), text)?;
+        check_text(&rt, &found, want, text);
     }
     Ok(())
 }
 
+/// The least and the greatest coordinates of a list, and of the same list once it is shared.
+fn reaches_of_list(alloc: Global, text: &str) -> Result<[(Point, Point); 2], Fail> {
+    let mut shifts = list(alloc, text)?.ok_or("a list")?;
+    let owned = shifts.reach();
+    shifts.share()?;
+    Ok([owned, shifts.reach()])
+}
+
 #[test]
 fn reaches_of_lists(rt: HostRuntime) -> Result<(), Fail> {
-    let listed = [ORIGIN, point(5, -2), point(-1, 7)].to_vec(rt.alloc())?;
-    let mut shifts = Offsets::new(listed).ok_or("shifts")?;
-    assert_eq!(rt; shifts.reach(), (point(-1, -2), point(5, 7)));
-    shifts.share()?;
-    assert_eq!(rt; shifts.reach(), (point(-1, -2), point(5, 7)));
+    let want = (point("-1,-2")?, point("5,7")?);
+    let found = reaches_of_list(rt.alloc(), "0,0 5,-2 -1,7")?;
+    assert_eq!(rt; found, [want, want]);
     Ok(())
 }
 
@@ -116,14 +146,6 @@ const LAST_CORNER: Point = Point {
     y: i64::MIN + 2,
 };
 
-/// Whether a reference kept what it was made of, if it was made.
-fn placed(alloc: Global, columns: u64, rows: u64) -> Result<Option<bool>, Fail> {
-    let name = Name::new(Vec::from_slice(alloc, b"A")?)?;
-    let shifts = Offsets::lattice(RIGHT, columns, Point { x: 0, y: -1 }, rows).ok_or("shifts")?;
-    let made = Reference::new(name, true, Turn::R90, LAST_CORNER, shifts);
-    Ok(made.map(|reference| is_kept(&reference)))
-}
-
 fn is_kept(reference: &Reference) -> bool {
     reference.cell() == b"A".as_slice()
         && reference.flip()
@@ -132,20 +154,47 @@ fn is_kept(reference: &Reference) -> bool {
         && reference.shifts().len() == 12
 }
 
+/// What places a cell at the lattice, if it fits.
+fn reference(alloc: Global, text: &str) -> Result<Option<Reference>, Fail> {
+    let shifts = lattice(text)?.ok_or("a lattice")?;
+    let name = Name::of(alloc, b"A")?;
+    Ok(Reference::new(name, true, Turn::R90, LAST_CORNER, shifts))
+}
+
+/// Whether a reference is made, and kept what it was made of.
+fn kept(reference: &Option<Reference>) -> &'static str {
+    match reference {
+        Some(reference) if is_kept(reference) => "kept",
+        Some(_) => "changed",
+        None => "refused",
+    }
+}
+
+fn placed(alloc: Global, text: &str) -> Result<&'static str, Fail> {
+    let reference = reference(alloc, text)?;
+    Ok(kept(&reference))
+}
+
+/// A lattice, and whether a reference to a cell is made of it.
+const PLACED: &str = "\
+1,0*4 0,-1*3 | kept
+1,0*5 0,-1*3 | refused
+1,0*4 0,-1*4 | refused
+1,0*5 0,-1*4 | refused
+";
+
 #[test]
 fn references(rt: HostRuntime) -> Result<(), Fail> {
-    let rows = [(4, 3, Some(true)), (5, 3, None), (4, 4, None), (5, 4, None)];
-    for (m, n, want) in rows {
-        assert_eq!(rt; placed(rt.alloc(), m, n)?, want, "{m} {n}");
+    for row in PLACED.lines() {
+        let (text, want) = cut(row, " | ");
+        check_text(&rt, placed(rt.alloc(), text)?, want, text);
     }
     Ok(())
 }
 
 #[test]
 fn references_of_a_list(rt: HostRuntime) -> Result<(), Fail> {
-    let listed = [ORIGIN, Point { x: 4, y: 0 }].to_vec(rt.alloc())?;
-    let shifts = Offsets::new(listed).ok_or("shifts")?;
-    let name = Name::new(Vec::new(rt.alloc()))?;
-    assert!(rt; Reference::new(name, false, Turn::R0, LAST_CORNER, shifts).is_none());
+    let shifts = list(rt.alloc(), "0,0 4,0")?.ok_or("a list")?;
+    assert!(rt; Reference::new(Name::empty(), false, Turn::R0, LAST_CORNER, shifts).is_none());
     Ok(())
 }

@@ -16,7 +16,7 @@ enum Places {
 /// The cell by its name, whether it is reflected, how it is turned, where it is placed first, and its places.
 type Row = (&'static str, bool, Turn, i64, Places);
 
-const ROWS: [Row; 10] = [
+static ROWS: [Row; 10] = [
     ("A", false, Turn::R0, 0, Places::Columns(3)),
     ("A", true, Turn::R90, 1, Places::Columns(3)),
     ("A", false, Turn::R180, 2, Places::Once),
@@ -58,11 +58,16 @@ fn reference_of(alloc: Global, row: &Row) -> Result<Reference, Fail> {
     Ok(made.ok_or("places")?)
 }
 
+fn add_row(alloc: Global, references: &mut References, row: &Row) -> Result<(), Fail> {
+    references.push(reference_of(alloc, row)?)?;
+    Ok(())
+}
+
 /// The references of these rows.
 fn references(alloc: Global, rows: &[Row]) -> Result<References, Fail> {
     let mut references = References::new(alloc);
     for row in rows {
-        references.push(reference_of(alloc, row)?)?;
+        add_row(alloc, &mut references, row)?;
     }
     Ok(references)
 }
@@ -115,14 +120,23 @@ fn reference_at(name: &Name, y: i64) -> Result<Reference, Fail> {
     Ok(made.ok_or("places")?)
 }
 
-/// A thousand references to one cell, at a place each.
-fn many(alloc: Global) -> Result<References, Fail> {
-    let name = Name::new(Vec::from_slice(alloc, b"A")?)?;
+fn add_reference_at(references: &mut References, name: &Name, y: i64) -> Result<(), Fail> {
+    references.push(reference_at(name, y)?)?;
+    Ok(())
+}
+
+/// A thousand references to the cell of that name, at a place each.
+fn many_to(alloc: Global, name: &Name) -> Result<References, Fail> {
     let mut references = References::new(alloc);
     for y in 0..1000 {
-        references.push(reference_at(&name, y)?)?;
+        add_reference_at(&mut references, name, y)?;
     }
     Ok(references)
+}
+
+fn many(alloc: Global) -> Result<References, Fail> {
+    let name = Name::new(Vec::from_slice(alloc, b"A")?)?;
+    many_to(alloc, &name)
 }
 
 #[test]

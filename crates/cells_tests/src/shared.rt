@@ -11,7 +11,7 @@ const METAL: Layer = Layer {
 };
 
 /// Boxes by their corners: squares that are the one before, moved as far as 64 bits go, and boxes that are not.
-const BOXES: [[i64; 4]; 10] = [
+static BOXES: [[i64; 4]; 10] = [
     [0, 0, 10, 10],
     [3, 4, 13, 14],
     [3, 4, 13, 14],
@@ -48,12 +48,22 @@ fn corners(shapes: &Shapes, i: usize, j: usize) -> Option<[i64; 4]> {
     Some([low.x, low.y, high.x, high.y])
 }
 
+fn add_box(alloc: Global, shapes: &mut Shapes, corners: [i64; 4]) -> Result<(), Fail> {
+    let ring = rectangle(alloc, corners)?;
+    shapes.push_ring(METAL, ring.points(), &Offsets::single())?;
+    Ok(())
+}
+
+/// The corners of the first two rectangles of a shape.
+fn both_corners(shapes: &Shapes, i: usize) -> [Option<[i64; 4]>; 2] {
+    [corners(shapes, i, 0), corners(shapes, i, 1)]
+}
+
 /// A shape of one ring for each box.
 fn boxes(alloc: Global) -> Result<Shapes, Fail> {
     let mut shapes = Shapes::new(alloc);
-    for corners in BOXES {
-        let ring = rectangle(alloc, corners)?;
-        shapes.push_ring(METAL, ring.points(), &Offsets::single())?;
+    for corners in &BOXES {
+        add_box(alloc, &mut shapes, *corners)?;
     }
     Ok(shapes)
 }
@@ -63,8 +73,7 @@ fn moved_rings(rt: HostRuntime) -> Result<(), Fail> {
     let shapes = boxes(rt.alloc())?;
     assert_eq!(rt; shapes.len(), BOXES.len());
     for (i, want) in BOXES.iter().enumerate() {
-        assert_eq!(rt; corners(&shapes, i, 0), Some(*want), "{i}");
-        assert_eq!(rt; corners(&shapes, i, 1), None, "{i}");
+        assert_eq!(rt; both_corners(&shapes, i), [Some(*want), None], "{i}");
     }
     Ok(())
 }
@@ -94,19 +103,29 @@ fn rectangles(alloc: Global, [first, second]: [[i64; 4]; 2]) -> Result<Vec<Ring>
     Ok(rings)
 }
 
+fn add_rings(shapes: &mut Shapes, rings: &[Ring]) -> Result<(), AllocError> {
+    shapes.push_rings(METAL, rings, &Offsets::single())
+}
+
+fn add_pair(alloc: Global, shapes: &mut Shapes, pair: [[i64; 4]; 2]) -> Result<(), Fail> {
+    let rings = rectangles(alloc, pair)?;
+    add_rings(shapes, &rings)?;
+    Ok(())
+}
+
 /// A shape of two rings for each pair of boxes that follow each other, and then one of no ring.
 fn pairs(alloc: Global) -> Result<Shapes, Fail> {
     let mut shapes = Shapes::new(alloc);
-    for pair in PAIRS {
-        shapes.push_rings(METAL, &rectangles(alloc, pair)?, &Offsets::single())?;
+    for pair in &PAIRS {
+        add_pair(alloc, &mut shapes, *pair)?;
     }
-    shapes.push_rings(METAL, &[], &Offsets::single())?;
-    shapes.push_rings(METAL, &[], &Offsets::single())?;
+    add_rings(&mut shapes, &[])?;
+    add_rings(&mut shapes, &[])?;
     Ok(shapes)
 }
 
 /// Two boxes each: both moved alike, the second alone, and the two exchanged.
-const PAIRS: [[[i64; 4]; 2]; 4] = [
+static PAIRS: [[[i64; 4]; 2]; 4] = [
     [[0, 0, 4, 4], [9, 0, 12, 4]],
     [[1, 2, 5, 6], [10, 2, 13, 6]],
     [[1, 2, 5, 6], [10, 3, 13, 7]],
@@ -118,8 +137,11 @@ fn moved_paths(rt: HostRuntime) -> Result<(), Fail> {
     let shapes = pairs(rt.alloc())?;
     assert_eq!(rt; shapes.len(), PAIRS.len() + 2);
     for (i, [first, second]) in PAIRS.iter().enumerate() {
-        assert_eq!(rt; corners(&shapes, i, 0), Some(*first), "{i}");
-        assert_eq!(rt; corners(&shapes, i, 1), Some(*second), "{i}");
+        assert_eq!(rt;
+            both_corners(&shapes, i),
+            [Some(*first), Some(*second)],
+            "{i}"
+        );
     }
     assert_eq!(rt; corners(&shapes, 5, 0), None);
     Ok(())
@@ -150,15 +172,19 @@ fn push_both(shapes: &mut Shapes, first: &Ring, second: &Ring) -> Result<(), All
     shapes.push_ring(METAL, second.points(), &Offsets::single())
 }
 
-/// A thousand shapes, one stair after the other in turn.
+/// A thousand shapes, one ring after the other in turn.
+fn in_turn(alloc: Global, first: &Ring, second: &Ring) -> Result<Shapes, AllocError> {
+    let mut shapes = Shapes::new(alloc);
+    for _ in 0..500 {
+        push_both(&mut shapes, first, second)?;
+    }
+    Ok(shapes)
+}
+
 fn stairs(alloc: Global) -> Result<Shapes, Fail> {
     let first = stair(alloc, 0)?;
     let second = stair(alloc, 7)?;
-    let mut shapes = Shapes::new(alloc);
-    for _ in 0..500 {
-        push_both(&mut shapes, &first, &second)?;
-    }
-    Ok(shapes)
+    Ok(in_turn(alloc, &first, &second)?)
 }
 
 #[test]

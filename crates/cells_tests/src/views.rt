@@ -1,69 +1,93 @@
 //! What a view says of Layers and of its window.
+use crate::words::{check_text, cut, layer};
 use lvl_grid::Window;
 use lvl_names::Layer;
 use lvl_view::View;
+use std::alloc::Global;
 use std::test::Fail;
 
-fn layer(layer: u32, datatype: u32) -> Layer {
-    Layer { layer, datatype }
+const FIRST: Layer = Layer {
+    layer: 1,
+    datatype: 0,
+};
+
+const THIRD: Layer = Layer {
+    layer: 3,
+    datatype: 0,
+};
+
+/// Two pairs of which each gives the other's source, a pair that changes a datatype, and one of the greatest
+/// numbers.
+const MAP: &str = "1/0=2/0,3/1=3/0,2/0=1/0,04/0=4294967295/4294967295";
+
+/// A Layer and its target under the map. A pair is not applied to what another gives, and a Layer that is no
+/// source is its own target.
+const TARGETS: &str = "\
+1/0 2/0
+2/0 1/0
+3/1 3/0
+4/0 4294967295/4294967295
+3/0 3/0
+1/1 1/1
+0/0 0/0
+4294967295/4294967295 4294967295/4294967295
+";
+
+fn target(alloc: Global, map: Option<&str>, source: Layer) -> Result<Layer, Fail> {
+    let view = View::read(alloc, map, None)?;
+    Ok(view.target(source))
+}
+
+fn window(alloc: Global, map: Option<&str>, window: Option<&str>) -> Result<Option<Window>, Fail> {
+    let view = View::read(alloc, map, window)?;
+    Ok(view.window().copied())
+}
+
+fn target_text(alloc: Global, source: &str) -> Result<String, Fail> {
+    let target = target(alloc, Some(MAP), layer(source)?)?;
+    Ok(format!(in alloc; "{}/{}", target.layer, target.datatype)?)
 }
 
 #[test]
 fn targets_of_layers(rt: HostRuntime) -> Result<(), Fail> {
-    let map = "1/0=2/0,3/1=3/0,2/0=1/0,04/0=4294967295/4294967295";
-    let view = View::read(rt.alloc(), Some(map), None)?;
-    let rows = [
-        // Two Layers exchanged: a pair is not applied to what another gives.
-        (layer(1, 0), layer(2, 0)),
-        (layer(2, 0), layer(1, 0)),
-        (layer(3, 1), layer(3, 0)),
-        (layer(4, 0), layer(4294967295, 4294967295)),
-        // A Layer that is no source is its own target.
-        (layer(3, 0), layer(3, 0)),
-        (layer(1, 1), layer(1, 1)),
-        (layer(0, 0), layer(0, 0)),
-        (layer(4294967295, 4294967295), layer(4294967295, 4294967295)),
-    ];
-    for (source, want) in rows {
-        assert_eq!(rt; view.target(source), want, "{source:?}");
+    for row in TARGETS.lines() {
+        let (source, want) = cut(row, " ");
+        let found = target_text(rt.alloc(), source)?;
+        check_text(&rt, &found, want, row);
     }
-    assert_eq!(rt; view.window().copied(), None);
     Ok(())
 }
 
 #[test]
 fn no_texts(rt: HostRuntime) -> Result<(), Fail> {
-    let view = View::read(rt.alloc(), None, None)?;
-    assert_eq!(rt; view.target(layer(1, 0)), layer(1, 0));
-    assert_eq!(rt; view.window().copied(), None);
+    assert!(rt; target(rt.alloc(), None, FIRST)? == FIRST);
+    assert!(rt; window(rt.alloc(), None, None)?.is_none());
+    assert!(rt; window(rt.alloc(), Some(MAP), None)?.is_none());
     Ok(())
+}
+
+/// The text of a window, and its bounds along x and along y.
+const WINDOWS: &str = "\
+x=0..1,y=2..3 | 0 1 2 3
+x=-5..20,y=0..9 | -5 20 0 9
+x=-0..01,y=-7..-6 | 0 1 -7 -6
+x=0000000000000000003..4,y=-0000000000000000002..0 | 3 4 -2 0
+x=-9223372036854775808..9223372036854775807,y=-9223372036854775808..-9223372036854775807 | \
+    -9223372036854775808 9223372036854775807 -9223372036854775808 -9223372036854775807
+";
+
+/// The bounds of the window of a text.
+fn bounds(alloc: Global, text: &str) -> Result<String, Fail> {
+    let Window { x0, y0, x1, y1 } = window(alloc, None, Some(text))?.ok_or("a window")?;
+    Ok(format!(in alloc; "{x0} {x1} {y0} {y1}")?)
 }
 
 #[test]
 fn windows_of_texts(rt: HostRuntime) -> Result<(), Fail> {
-    let rows = [
-        ("x=0..1,y=2..3", 0, 1, 2, 3),
-        ("x=-5..20,y=0..9", -5, 20, 0, 9),
-        ("x=-0..01,y=-7..-6", 0, 1, -7, -6),
-        (
-            "x=0000000000000000003..4,y=-0000000000000000002..0",
-            3,
-            4,
-            -2,
-            0,
-        ),
-        (
-            "x=-9223372036854775808..9223372036854775807,y=-9223372036854775808..-9223372036854775807",
-            i64::MIN,
-            i64::MAX,
-            i64::MIN,
-            -9223372036854775807,
-        ),
-    ];
-    for (text, x0, x1, y0, y1) in rows {
-        let view = View::read(rt.alloc(), None, Some(text))?;
-        let want = Window { x0, y0, x1, y1 };
-        assert_eq!(rt; view.window().copied(), Some(want), "{text}");
+    for row in WINDOWS.lines() {
+        let (text, want) = cut(row, " | ");
+        let found = bounds(rt.alloc(), text)?;
+        check_text(&rt, &found, want, text);
     }
     Ok(())
 }
@@ -72,7 +96,7 @@ fn windows_of_texts(rt: HostRuntime) -> Result<(), Fail> {
 fn growths(rt: HostRuntime) -> Result<(), Fail> {
     let map = "1/0=2/0,2/0=3/0,3/0=1/0,4/0=1/0,5/0=1/0,6/0=1/0,7/0=8/0,8/0=9/0";
     let view = View::read(rt.alloc(), Some(map), Some("x=0..1,y=0..1"))?;
-    assert_eq!(rt; view.target(layer(3, 0)), layer(1, 0));
+    assert_eq!(rt; view.target(THIRD), FIRST);
     assert!(rt; view.window().is_some());
     Ok(())
 }
