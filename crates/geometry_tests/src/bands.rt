@@ -1,16 +1,11 @@
 //! The bands of rings, worked by hand.
-use crate::outlines::{CORNERED, FLAT, Outline, REVERSED, SQUARE, rings};
-use lvl_grid::Rings;
+use crate::outlines::{CORNERED, Outline, rings};
+use crate::pairs::{cut, rings_of};
+use lvl_grid::{Ring, Rings};
 use lvl_region::Region;
 use lvl_sweep::{Band, SlabRegion, Sweep};
-use std::alloc::Global;
+use std::alloc::{AllocError, Global};
 use std::test::Fail;
-
-const ABOVE: [(i64, i64); 4] = [(0, 10), (10, 10), (10, 20), (0, 20)];
-
-const BESIDE: [(i64, i64); 4] = [(20, 0), (30, 0), (30, 10), (20, 10)];
-
-const WIDE_BELOW: [(i64, i64); 4] = [(-5, 0), (25, 0), (25, 5), (-5, 5)];
 
 /// A band as it is written down: its rows, and its intervals.
 type Written<'a> = ((i64, i64), &'a [(i64, i64)]);
@@ -58,46 +53,65 @@ fn keeps(alloc: Global, outlines: &[Outline], bands: &[Written]) -> Result<bool,
     )
 }
 
+/// What rings are, their points, and their bands, each by its rows and its intervals.
+const BANDS: &str = "\
+one square | 0,0 10,0 10,10 0,10 | 0..10: 0..10;
+a reversed ring does not cancel | 0,0 10,0 10,10 0,10; 0,0 0,10 10,10 10,0 | 0..10: 0..10;
+a corner makes two bands | 0,0 20,0 20,10 10,10 10,20 0,20 | 0..10: 0..20;10..20: 0..10;
+bands that touch are one | 0,0 10,0 10,10 0,10; 0,10 10,10 10,20 0,20 | 0..20: 0..10;
+a band has several intervals | 0,0 10,0 10,10 0,10; 20,0 30,0 30,10 20,10 | 0..10: 0..10 20..30;
+edges that begin and end together | \
+    0,0 10,0 10,10 0,10; 20,0 30,0 30,10 20,10; 0,10 10,10 10,20 0,20; -5,0 25,0 25,5 -5,5 | \
+    0..5: -5..30;5..10: 0..10 20..30;10..20: 0..10;
+no area | 0,0 0,5 0,0 |
+no rings | |
+";
+
+fn push_band(alloc: Global, text: &mut String, band: &Band) -> Result<(), AllocError> {
+    text.push_str(&format!(in alloc; "{}..{}:", band.y0, band.y1)?)?;
+    for (low, high) in &band.intervals {
+        text.push_str(&format!(in alloc; " {low}..{high}")?)?;
+    }
+    text.push_str(";")
+}
+
+/// What a sweep of the rings gives in nine steps: a band, or a space where it has none.
+fn swept_text(alloc: Global, rings: &[Ring]) -> Result<String, AllocError> {
+    let mut sweep = Sweep::new(alloc, &Rings::from_slice(alloc, rings)?)?;
+    let mut text = String::new(alloc);
+    for _ in 0..9 {
+        match sweep.band() {
+            Some(band) => push_band(alloc, &mut text, band)?,
+            None => text.push_str(" ")?,
+        }
+        sweep.advance();
+    }
+    Ok(text)
+}
+
+/// The bands of the region of the rings.
+fn kept_text(alloc: Global, rings: &[Ring]) -> Result<String, AllocError> {
+    let region = SlabRegion::build(alloc, rings)?;
+    let mut text = String::new(alloc);
+    for band in region.bands() {
+        push_band(alloc, &mut text, band)?;
+    }
+    Ok(text)
+}
+
+/// Whether the rings of a text have these bands, swept and kept.
+fn have_bands(alloc: Global, rings: &str, bands: &str) -> Result<bool, Fail> {
+    let rings = rings_of(alloc, rings)?;
+    let is_swept = swept_text(alloc, &rings)?.as_str().trim_end() == bands;
+    Ok(is_swept && kept_text(alloc, &rings)?.as_str() == bands)
+}
+
 #[test]
 fn bands_of_rings(rt: HostRuntime) -> Result<(), Fail> {
-    let alloc = rt.alloc();
-    let rows: [(&str, &[Outline], &[Written]); 8] = [
-        ("one square", &[&SQUARE], &[((0, 10), &[(0, 10)])]),
-        (
-            "a reversed ring does not cancel",
-            &[&SQUARE, &REVERSED],
-            &[((0, 10), &[(0, 10)])],
-        ),
-        (
-            "a corner makes two bands",
-            &[&CORNERED],
-            &[((0, 10), &[(0, 20)]), ((10, 20), &[(0, 10)])],
-        ),
-        (
-            "bands that touch are one",
-            &[&SQUARE, &ABOVE],
-            &[((0, 20), &[(0, 10)])],
-        ),
-        (
-            "a band has several intervals",
-            &[&SQUARE, &BESIDE],
-            &[((0, 10), &[(0, 10), (20, 30)])],
-        ),
-        (
-            "edges that begin and end together",
-            &[&SQUARE, &BESIDE, &ABOVE, &WIDE_BELOW],
-            &[
-                ((0, 5), &[(-5, 30)]),
-                ((5, 10), &[(0, 10), (20, 30)]),
-                ((10, 20), &[(0, 10)]),
-            ],
-        ),
-        ("no area", &[&FLAT], &[]),
-        ("no rings", &[], &[]),
-    ];
-    for (name, outlines, bands) in rows {
-        assert!(rt; sweeps(alloc, outlines, bands)?, "{name}");
-        assert!(rt; keeps(alloc, outlines, bands)?, "{name}");
+    for row in BANDS.lines() {
+        let (name, row) = cut(row, " |");
+        let (rings, bands) = cut(row, " |");
+        assert!(rt; have_bands(rt.alloc(), rings, bands.trim())?, "{name}");
     }
     Ok(())
 }

@@ -1,5 +1,6 @@
 //! Lists at the ends of the grid, and lists that an estimate of their work takes for what they are not.
-use crate::outlines::{Found, Outline, at, outlines_differ_at, rectangle, ring};
+use crate::outlines::{Found, Outline, at, both_differ_at, rectangle, ring};
+use crate::pairs::{cut, found_of};
 use lvl_columns::{Comparison, compare_by_columns};
 use lvl_grid::{Ring, Rings};
 use lvl_region::Side;
@@ -68,31 +69,47 @@ const NEARLY_ALL: [(i64, i64); 6] = [
     (MIN, MAX),
 ];
 
-/// Two lists, and the least square that one of them alone covers.
-type Row<'a> = (&'a [Outline<'a>], &'a [Outline<'a>], Found);
+/// Two lists of these outlines, and the least square that one of them alone covers.
+const ROWS: &str = "\
+left | left tower | second 2147483650,-4611686018427387904
+left tower | tower left | -
+wide | wide left | second -9223372036854775807,4294967281
+all | nearly-all | first 9223372036854775806,9223372036854775806
+all tower | all | -
+";
+
+fn outline_of(name: &str) -> Outline<'static> {
+    match name {
+        "left" => &LEFT,
+        "tower" => &TOWER,
+        "wide" => &WIDE,
+        "all" => &ALL,
+        _ => &NEARLY_ALL,
+    }
+}
+
+fn rings_of(alloc: Global, names: &str) -> Result<Vec<Ring>, Fail> {
+    let mut rings = Vec::new(alloc);
+    for name in names.split_whitespace() {
+        rings.push(ring(alloc, outline_of(name))?)?;
+    }
+    Ok(rings)
+}
+
+/// Whether the lists of a row differ where it says, as `differ_at` and as grids say.
+fn row_differs_at(alloc: Global, row: &str) -> Result<bool, Fail> {
+    let (first, row) = cut(row, " | ");
+    let (second, found) = cut(row, " | ");
+    let first = rings_of(alloc, first)?;
+    let second = rings_of(alloc, second)?;
+    let answers = both_differ_at(alloc, &first, &second, found_of(found)?)?;
+    Ok(answers == (true, true))
+}
 
 #[test]
 fn ends_of_the_grid(rt: HostRuntime) -> Result<(), Fail> {
-    let alloc = rt.alloc();
-    let rows: [Row; 5] = [
-        (
-            &[&LEFT],
-            &[&LEFT, &TOWER],
-            at(2147483650, -HALF, Side::Second),
-        ),
-        (&[&LEFT, &TOWER], &[&TOWER, &LEFT], None),
-        (
-            &[&WIDE],
-            &[&WIDE, &LEFT],
-            at(MIN + 1, 4294967281, Side::Second),
-        ),
-        (&[&ALL], &[&NEARLY_ALL], at(MAX - 1, MAX - 1, Side::First)),
-        (&[&ALL, &TOWER], &[&ALL], None),
-    ];
-    for (first, second, found) in rows {
-        let (differ, grids_differ) = outlines_differ_at(alloc, first, second, found)?;
-        assert!(rt; differ);
-        assert!(rt; grids_differ);
+    for row in ROWS.lines() {
+        assert!(rt; row_differs_at(rt.alloc(), row)?, "{row}");
     }
     Ok(())
 }

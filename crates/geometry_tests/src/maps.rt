@@ -1,5 +1,6 @@
 //! Rings and maps worked by hand.
-use lvl_grid::{Map, PlaceFault, Point, Ring, RingFault, Square, Turn};
+use crate::pairs::{cut, points_of};
+use lvl_grid::{Map, PlaceFault, Point, Ring, Square, Turn};
 use std::alloc::{AllocError, Global};
 use std::test::Fail;
 
@@ -34,70 +35,46 @@ fn covered(ring: &Ring) -> Covered {
     found
 }
 
-fn squares(n: u32, first: (i64, i64), last: (i64, i64)) -> Covered {
-    let first = Square {
-        x: first.0,
-        y: first.1,
-    };
-    Some((
-        n,
-        first,
-        Square {
-            x: last.0,
-            y: last.1,
-        },
-    ))
-}
+/// What rings are, their points, and what they cover, with the number of points; or why they are none.
+const RINGS: &str = "\
+once round | 0,0 4,0 4,4 0,4 | 4 points, 16 squares from 0,0 to 3,3
+twice round | 0,0 4,0 4,4 0,4 0,0 4,0 4,4 0,4 | 8 points, 16 squares from 0,0 to 3,3
+repeated points | 0,0 4,0 4,0 4,4 4,4 0,4 | 6 points, 16 squares from 0,0 to 3,3
+corner | 0,0 4,0 4,2 2,2 2,4 0,4 | 6 points, 12 squares from 0,0 to 1,3
+no area | 0,0 0,4 0,0 | 3 points, no squares
+two points | 0,0 1,1 | TooFew
+an oblique first edge | 0,0 1,1 1,0 | Oblique
+an oblique closing edge | 0,0 1,0 1,1 | Oblique
+";
 
-/// What the ring of these vertices covers, and how many points it has.
-fn drawn(alloc: Global, vertices: &[(i64, i64)]) -> Result<(Covered, usize), Fail> {
-    let ring = ring_of(alloc, vertices)?.ok_or("a ring")?;
-    Ok((covered(&ring), ring.points().len()))
-}
-
-#[test]
-fn covers_by_nonzero_winding(rt: HostRuntime) -> Result<(), Fail> {
-    let once: [(i64, i64); 4] = [(0, 0), (4, 0), (4, 4), (0, 4)];
-    let twice: [(i64, i64); 8] = [
-        (0, 0),
-        (4, 0),
-        (4, 4),
-        (0, 4),
-        (0, 0),
-        (4, 0),
-        (4, 4),
-        (0, 4),
-    ];
-    let repeated: [(i64, i64); 6] = [(0, 0), (4, 0), (4, 0), (4, 4), (4, 4), (0, 4)];
-    let corner: [(i64, i64); 6] = [(0, 0), (4, 0), (4, 2), (2, 2), (2, 4), (0, 4)];
-    let no_area: [(i64, i64); 3] = [(0, 0), (0, 4), (0, 0)];
-    let rows: [(&str, &[(i64, i64)], Covered); 5] = [
-        ("once-round", &once, squares(16, (0, 0), (3, 3))),
-        ("twice-round", &twice, squares(16, (0, 0), (3, 3))),
-        ("repeated-points", &repeated, squares(16, (0, 0), (3, 3))),
-        ("corner", &corner, squares(12, (0, 0), (1, 3))),
-        ("no-area", &no_area, None),
-    ];
-    for (name, vertices, want) in rows {
-        let (covered, points) = drawn(rt.alloc(), vertices)?;
-        assert_eq!(rt; covered, want, "{name}");
-        assert_eq!(rt; points, vertices.len(), "{name}");
+fn covered_text(alloc: Global, ring: &Ring) -> Result<String, AllocError> {
+    match covered(ring) {
+        Some((many, first, last)) => {
+            let (x0, y0, x1, y1) = (first.x, first.y, last.x, last.y);
+            format!(in alloc; "{many} squares from {x0},{y0} to {x1},{y1}")
+        }
+        None => String::from_str(alloc, "no squares"),
     }
-    Ok(())
+}
+
+/// How many points the ring of these points has, and what it covers; or why there is none.
+fn ring_text(alloc: Global, points: &str) -> Result<String, Fail> {
+    match Ring::new(points_of(alloc, points)?) {
+        Ok(ring) => {
+            let squares = covered_text(alloc, &ring)?;
+            let many = ring.points().len();
+            Ok(format!(in alloc; "{many} points, {squares}")?)
+        }
+        Err(fault) => Ok(format!(in alloc; "{fault:?}")?),
+    }
 }
 
 #[test]
-fn refuses_what_is_no_ring(rt: HostRuntime) -> Result<(), Fail> {
-    let two: [Point; 2] = [ORIGIN, Point { x: 1, y: 1 }];
-    let first_edge: [Point; 3] = [ORIGIN, Point { x: 1, y: 1 }, Point { x: 1, y: 0 }];
-    let closing_edge: [Point; 3] = [ORIGIN, Point { x: 1, y: 0 }, Point { x: 1, y: 1 }];
-    let rows: [(&[Point], RingFault); 3] = [
-        (&two, RingFault::TooFew),
-        (&first_edge, RingFault::Oblique),
-        (&closing_edge, RingFault::Oblique),
-    ];
-    for (points, want) in rows {
-        assert_eq!(rt; Ring::new(points.to_vec(rt.alloc())?).err(), Some(want));
+fn rings_by_their_points(rt: HostRuntime) -> Result<(), Fail> {
+    for row in RINGS.lines() {
+        let (name, row) = cut(row, " | ");
+        let (points, want) = cut(row, " | ");
+        assert!(rt; ring_text(rt.alloc(), points)?.as_str() == want, "{name}");
     }
     Ok(())
 }
@@ -121,31 +98,29 @@ fn covered_by_placed(alloc: Global, by: &Map) -> Result<Covered, Fail> {
     Ok(covered(&placed))
 }
 
+/// Both maps, one after the other.
+const BOTH: Map = Map {
+    flip: true,
+    turn: Turn::R270,
+    at: Point { x: 10, y: 5 },
+};
+
 #[test]
-fn map_composition(rt: HostRuntime) -> Result<(), Fail> {
-    let both = FLIP_AND_RISE.then(&TURN_AND_GO).ok_or("a map")?;
-    assert_eq!(rt;
-        both,
-        Map {
-            flip: true,
-            turn: Turn::R270,
-            at: Point { x: 10, y: 5 }
-        }
-    );
-    assert_eq!(rt;
-        both.place(Point { x: 3, y: 1 }),
-        Some(Point { x: 9, y: 2 })
-    );
-    assert_eq!(rt;
-        covered_by_placed(rt.alloc(), &both)?,
-        squares(3, (9, 2), (9, 4))
-    );
+fn map_composition(rt: HostRuntime) {
+    assert!(rt; FLIP_AND_RISE.then(&TURN_AND_GO) == Some(BOTH));
+    assert!(rt; BOTH.place(Point { x: 3, y: 1 }) == Some(Point { x: 9, y: 2 }));
     let far = Map {
         flip: false,
         turn: Turn::R0,
         at: Point { x: i64::MAX, y: 0 },
     };
-    assert_eq!(rt; far.then(&TURN_AND_GO), None);
+    assert!(rt; far.then(&TURN_AND_GO) == None);
+}
+
+#[test]
+fn a_map_that_is_composed(rt: HostRuntime) -> Result<(), Fail> {
+    let (first, last) = (Square { x: 9, y: 2 }, Square { x: 9, y: 4 });
+    assert!(rt; covered_by_placed(rt.alloc(), &BOTH)? == Some((3, first, last)));
     Ok(())
 }
 
@@ -186,35 +161,38 @@ fn refusal(alloc: Global, by: &Map) -> Result<Option<PlaceFault>, Fail> {
     Ok(edge(alloc)?.placed(alloc, ORIGIN, by).err())
 }
 
+const HALF_TURN: Map = Map {
+    flip: false,
+    turn: Turn::R180,
+    at: Point { x: -1, y: 0 },
+};
+
+const LAST: i64 = i64::MAX - 1;
+
 #[test]
 fn edge_of_range(rt: HostRuntime) -> Result<(), Fail> {
-    let half_turn = Map {
-        flip: false,
-        turn: Turn::R180,
-        at: Point { x: -1, y: 0 },
-    };
-    let (_, first) = first_points(rt.alloc(), ORIGIN, &half_turn)?;
-    assert_eq!(rt;
-        first,
-        Some(Point {
-            x: 9223372036854775806,
-            y: 0
-        })
-    );
-    let last = 9223372036854775806;
-    for (x, y, want) in [(last, -1, true), (last, 0, false), (last - 1, -1, false)] {
-        let covers = placed_covers(rt.alloc(), &half_turn, Square { x, y })?;
-        assert_eq!(rt; covers, want, "{x} {y}");
+    let (_, first) = first_points(rt.alloc(), ORIGIN, &HALF_TURN)?;
+    assert!(rt; first == Some(Point { x: LAST, y: 0 }));
+    for (x, y, want) in [(LAST, -1, true), (LAST, 0, false), (LAST - 1, -1, false)] {
+        let covers = placed_covers(rt.alloc(), &HALF_TURN, Square { x, y })?;
+        assert!(rt; covers == want, "{x} {y}");
     }
+    Ok(())
+}
+
+#[test]
+fn past_the_edge_of_range(rt: HostRuntime) -> Result<(), Fail> {
     let at_origin = Map {
         at: ORIGIN,
-        ..half_turn
+        ..HALF_TURN
     };
-    assert_eq!(rt;
-        refusal(rt.alloc(), &at_origin)?,
-        Some(PlaceFault::OutOfRange)
-    );
-    // The moved vertices are outside 64 bits, and their images are not.
+    assert!(rt; refusal(rt.alloc(), &at_origin)? == Some(PlaceFault::OutOfRange));
+    Ok(())
+}
+
+/// The moved vertices are outside 64 bits, and their images are not.
+#[test]
+fn there_and_back(rt: HostRuntime) -> Result<(), Fail> {
     let there = Point { x: -1, y: 0 };
     let back = Map {
         flip: false,
@@ -222,7 +200,7 @@ fn edge_of_range(rt: HostRuntime) -> Result<(), Fail> {
         at: Point { x: 1, y: 0 },
     };
     let (before, after) = first_points(rt.alloc(), there, &back)?;
-    assert_eq!(rt; after, before);
+    assert!(rt; after == before);
     Ok(())
 }
 

@@ -14,13 +14,9 @@ pub type Found = Option<(Square, Side)>;
 
 pub const SQUARE: [(i64, i64); 4] = [(0, 0), (10, 0), (10, 10), (0, 10)];
 
-pub const REVERSED: [(i64, i64); 4] = [(0, 0), (0, 10), (10, 10), (10, 0)];
-
 pub const CORNERED: [(i64, i64); 6] = [(0, 0), (20, 0), (20, 10), (10, 10), (10, 20), (0, 20)];
 
 pub const LARGE: [(i64, i64); 4] = [(0, 0), (20, 0), (20, 20), (0, 20)];
-
-pub const FLAT: [(i64, i64); 3] = [(0, 0), (0, 5), (0, 0)];
 
 pub fn ring(alloc: Global, outline: Outline) -> Result<Ring, Fail> {
     let mut points = Vec::new(alloc);

@@ -1,5 +1,6 @@
 //! Rings in one piece, pushed, placed and clipped.
 use crate::maps::{EDGE, FLIP_AND_RISE, ORIGIN, ring_of};
+use crate::pairs::{cut, point};
 use lvl_grid::{Map, Part, PlaceFault, Point, Ring, RingList, Rings, Square, Turn, Window};
 use std::alloc::{AllocError, Global};
 use std::test::Fail;
@@ -68,11 +69,54 @@ fn is_clipped(clipped: &Rings, rings: &Rings, part: &Part) -> bool {
     true
 }
 
-/// Whether what is left of the rings in the part covers what it is to cover.
-fn clips(alloc: Global, rings: &Rings, part: Part, left: &[usize]) -> Result<bool, AllocError> {
-    let clipped = Rings::clipped(alloc, rings, &part)?;
-    let has_lengths = lengths(alloc, &clipped)?.as_slice() == left;
-    Ok(has_lengths && is_clipped(&clipped, rings, &part))
+/// A part, and how many points each ring has that is left of the L and the comb in it.
+const PARTS: &str = "\
+left 8 | [6, 8]
+left 3 | [4, 6]
+left 0 | []
+right 3 | [4, 6]
+right 7 | [4, 4]
+within 3,2 6,6 | [4]
+within 6,6 3,2 | []
+";
+
+fn window_of(low: Point, high: Point) -> Window {
+    Window {
+        x0: low.x,
+        y0: low.y,
+        x1: high.x,
+        y1: high.y,
+    }
+}
+
+fn part_of(text: &str) -> Result<Part, Fail> {
+    let (kind, place) = cut(text, " ");
+    if kind == "within" {
+        let (low, high) = cut(place, " ");
+        return Ok(Part::Within(window_of(point(low)?, point(high)?)));
+    }
+    let x = place.parse::<i64>()?;
+    Ok(if kind == "left" {
+        Part::Left(x)
+    } else {
+        Part::Right(x)
+    })
+}
+
+/// How many points each ring has that is left of the rings in the part, if they cover what they are to cover.
+fn clipped_text(alloc: Global, rings: &Rings, part: &Part) -> Result<String, AllocError> {
+    let clipped = Rings::clipped(alloc, rings, part)?;
+    if !is_clipped(&clipped, rings, part) {
+        return String::from_str(alloc, "other squares");
+    }
+    let lengths = lengths(alloc, &clipped)?;
+    format!(in alloc; "{lengths:?}")
+}
+
+fn ell_and_comb_clipped(alloc: Global, part: &str) -> Result<String, Fail> {
+    let part = part_of(part)?;
+    let rings = ell_and_comb(alloc)?;
+    Ok(clipped_text(alloc, &rings, &part)?)
 }
 
 #[test]
@@ -89,31 +133,12 @@ fn rings_in_one_piece(rt: HostRuntime) -> Result<(), Fail> {
 
 #[test]
 fn rings_are_clipped_and_tidied(rt: HostRuntime) -> Result<(), Fail> {
-    let alloc = rt.alloc();
-    let rings = ell_and_comb(alloc)?;
-    let window = Window {
-        x0: 3,
-        y0: 2,
-        x1: 6,
-        y1: 6,
-    };
-    let none = Window {
-        x0: 6,
-        y0: 6,
-        x1: 3,
-        y1: 2,
-    };
-    let rows: [(Part, &[usize]); 7] = [
-        (Part::Left(8), &[6, 8]),
-        (Part::Left(3), &[4, 6]),
-        (Part::Left(0), &[]),
-        (Part::Right(3), &[4, 6]),
-        (Part::Right(7), &[4, 4]),
-        (Part::Within(window), &[4]),
-        (Part::Within(none), &[]),
-    ];
-    for (part, left) in rows {
-        assert!(rt; clips(alloc, &rings, part, left)?, "{part:?}");
+    for row in PARTS.lines() {
+        let (part, want) = cut(row, " | ");
+        assert!(rt;
+            ell_and_comb_clipped(rt.alloc(), part)?.as_str() == want,
+            "{row}"
+        );
     }
     Ok(())
 }

@@ -1,6 +1,7 @@
 //! Rings made simpler, and what their outlines are.
 
 use crate::outlines::{Found, push_rectangles, rectangle};
+use crate::pairs::{cut, points_of};
 use crate::spirals::winding;
 use lvl_columns::difference_by_columns;
 use lvl_grid::{Part, Point, Rings, Window};
@@ -8,48 +9,48 @@ use lvl_simplify::{Outline, simplified};
 use std::alloc::{AllocError, Global};
 use std::test::Fail;
 
-/// Rectangles from `x` 0 to 9 with these ordinates.
-fn rows(alloc: Global, ordinates: &[(i64, i64)]) -> Result<Rings, Fail> {
+/// The ordinates of rectangles from `x` 0 to 9, and those of the rectangles that they become.
+const ROWS: &str = "\
+|
+0,2 1,5 | 0,5
+0,2 2,5 | 0,5
+1,2 0,5 | 0,5
+3,5 0,2 | 0,2 3,5
+";
+
+fn rows(alloc: Global, ordinates: &str) -> Result<Rings, Fail> {
     let mut rings = Rings::new(alloc);
-    for (low, high) in ordinates {
-        rings.push_ring(&rectangle(alloc, (0, 9), (*low, *high))?)?;
+    for pair in &points_of(alloc, ordinates)? {
+        let (low, high) = (pair.x, pair.y);
+        rings.push_ring(&rectangle(alloc, (0, 9), (low, high))?)?;
     }
     Ok(rings)
 }
 
-/// How many rings the rows become, how many are wanted, and what differs first in the two.
-fn rows_compared(
-    alloc: Global,
-    given: &[(i64, i64)],
-    joined: &[(i64, i64)],
-) -> Result<(usize, usize, Found), Fail> {
+/// Whether the rings are as many as the rows, and cover the same.
+fn are_rows(alloc: Global, rings: &Rings, ordinates: &str) -> Result<bool, Fail> {
+    let wanted = rows(alloc, ordinates)?;
+    let found = difference_by_columns(alloc, rings, &wanted)?;
+    Ok(rings.len() == wanted.len() && found.is_none())
+}
+
+fn become_rows(alloc: Global, given: &str, joined: &str) -> Result<bool, Fail> {
     let simpler = simplified(alloc, rows(alloc, given)?)?;
-    let wanted = rows(alloc, joined)?;
-    let found = difference_by_columns(alloc, &simpler, &wanted)?;
-    Ok((simpler.len(), wanted.len(), found))
+    are_rows(alloc, &simpler, joined)
 }
 
 #[test]
 fn rows_that_overlap_or_touch(rt: HostRuntime) -> Result<(), Fail> {
-    let alloc = rt.alloc();
-    let table: [(&[(i64, i64)], &[(i64, i64)]); 5] = [
-        (&[], &[]),
-        (&[(0, 2), (1, 5)], &[(0, 5)]),
-        (&[(0, 2), (2, 5)], &[(0, 5)]),
-        (&[(1, 2), (0, 5)], &[(0, 5)]),
-        (&[(3, 5), (0, 2)], &[(0, 2), (3, 5)]),
-    ];
-    for (given, joined) in table {
-        let (many, wanted, found) = rows_compared(alloc, given, joined)?;
-        assert_eq!(rt; many, wanted);
-        assert!(rt; found.is_none());
+    for row in ROWS.lines() {
+        let (given, joined) = cut(row, "|");
+        assert!(rt; become_rows(rt.alloc(), given, joined)?, "{row}");
     }
     Ok(())
 }
 
 /// A row, a square within it, and a rectangle that reaches above it.
 fn row_and_two(alloc: Global) -> Result<Rings, Fail> {
-    let mut rings = rows(alloc, &[(0, 9)])?;
+    let mut rings = rows(alloc, "0,9")?;
     push_rectangles(alloc, &mut rings, &[((2, 4), (2, 4)), ((2, 4), (8, 12))])?;
     Ok(rings)
 }
