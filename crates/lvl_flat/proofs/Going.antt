@@ -20,7 +20,7 @@ use Rattle.lvl_flat.specs.inside.Visits.{pending, pick_weight, visit_weight}
 use Rattle.lvl_flat.specs.inside.Walking.{AllHaveSheets, IsWalking, references_left, toil, work, Everywhere}
 use Rattle.lvl_flat.specs.inside.Walking.{SheetsCover}
 use Rattle.lvl_flat.specs.inside.Steps.{IsPast, IsInto}
-use Rattle.lvl_flat.specs.inside.Entering.{begun, IsDrawn}
+use Rattle.lvl_flat.specs.inside.Entering.{begun, IsDrawn, IsPushed}
 use Rattle.lvl_grid.proofs.Anyone.{Any-left, Any-right, Any-sides}
 use Rattle.lvl_flat.proofs.Covering.{drawn_covers, Under}
 use Rattle.lvl_flat.proofs.Drawing.{layer_of, sorted_alike}
@@ -140,6 +140,29 @@ pub less_done : (cells : List (PlainCell Rings)) (front : List Visit) (v : Visit
     → work cells front < work cells (front ++ v ∷ [])
 less_done cells front v =
     omega (arith, sum_last (visit_weight toil cells) front v, sum_last (λ u. 1 + references_left cells u) front v)
+
+-- no more are left if a visit isn't put on the stack
+pub less_left_out : (cells : List (PlainCell Rings)) (front pushed : List Visit) (v u : Visit)
+    → IsPushed cells front v pushed → work cells (pushed ++ u ∷ []) ≤ work cells ((front ++ v ∷ []) ++ u ∷ [])
+less_left_out cells front pushed v u (inl is) =
+    let same : work cells (pushed ++ u ∷ []) ≡ work cells ((front ++ v ∷ []) ++ u ∷ []) =
+    ap (λ vs. work cells (vs ++ u ∷ [])) is in
+    omega (arith, same)
+less_left_out cells front pushed v u (inr none) =
+    let weight : Visit → ℕ = visit_weight toil cells in
+    let left : Visit → ℕ = λ w. 1 + references_left cells w in
+    let same : work cells (pushed ++ u ∷ []) ≡ work cells (front ++ u ∷ []) =
+    ap (λ vs. work cells (vs ++ u ∷ [])) none.0 in
+    omega (
+      arith,
+      same,
+      sum_last weight front u,
+      sum_last weight front v,
+      sum_last weight (front ++ v ∷ []) u,
+      sum_last left front u,
+      sum_last left front v,
+      sum_last left (front ++ v ∷ []) u,
+    )
 
 pub less_into : (s : Settled) (front : List Visit) (v : Visit) (i : ℕ) (m : Map) (rest : Visit) → AreLinked s.cells
     → IsOrder s.cells s.order → IsInto s.cells v i m rest

@@ -65,6 +65,60 @@ way_done s top A W C front v way none = record {
   visits = λ u there. way.visits u (in_front front v u there);
 }
 
+-- a visit without picks to follow, below another one, is left out
+pub way_left_out : (s : Settled) (top : PlainCell Rings) (A : Type 0) (W C : Layer → Square → Type 0)
+    (front : List Visit) (v u : Visit) → IsUnderWay s top A W C ((front ++ v ∷ []) ++ u ∷ [])
+    → pending s.cells v ≡ [] → IsUnderWay s top A W C (front ++ u ∷ [])
+way_left_out s top A W C front v u way none = record {
+  is_top = way.is_top;
+  covers = λ layer q counts.
+      let both = way.covers layer q counts in
+      let old = Any-push (VisitCovers s.cells layer q) (front ++ v ∷ []) u in
+      let below = Any-push (VisitCovers s.cells layer q) front v in
+      let new = Any-push (VisitCovers s.cells layer q) front u in (
+        λ h.
+            elim (both.0 h) [
+              | inl a ↦ inl a
+              | inr b ↦
+                  elim (old.0 b) [
+                    | inl c ↦
+                        elim (below.0 c) [
+                          | inl d ↦ inr (new.1 (inl d))
+                          | inr w ↦
+                              absurd (Any-nil (PickCovers s.cells layer w.0)
+                              (subst (Any (PickCovers s.cells layer w.0)) none w.2))
+                        ]
+                    | inr w ↦ inr (new.1 (inr w))
+                  ]
+            ],
+        λ e. both.1 (elim e [
+          | inl a ↦ inl a
+          | inr b ↦ inr (old.1 (elim (new.0 b) [ inl c ↦ inl (below.1 (inl c)) | inr w ↦ inr w ]))
+        ]),
+      );
+  fits = λ whole each.
+      way.fits whole
+      (λ x has.
+      elim (Contains-push_cases (front ++ v ∷ []) u x has) [
+        | inl there ↦
+            elim (Contains-push_cases front v x there) [
+              | inl before ↦ each x (in_front front u x before)
+              | inr same ↦
+                  λ p d m chosen named whole. absurd (let chosen' : Contains [] p =
+                  subst (λ ps. Contains ps p) none
+                  (subst (λ (y : Visit). Contains (pending s.cells y) p) (sym same) chosen) in
+                  let below : chosen'.0 < 0 = chosen'.1 in omega arith)
+            ]
+        | inr same ↦
+            subst (λ (y : Visit). PicksFit s.cells y.map (pending s.cells y)) same (each u (in_last front u))
+      ]);
+  visits = λ x has.
+      elim (Contains-push_cases front u x has) [
+        | inl there ↦ way.visits x (in_front (front ++ v ∷ []) u x (in_front front v x there))
+        | inr same ↦ subst (IsVisit s.cells top) same (way.visits u (in_last (front ++ v ∷ []) u))
+      ];
+}
+
 -- a visit is replaced by one with the same picks to follow, except for some that need nothing more
 replaced : (s : Settled) (top : PlainCell Rings) (A : Type 0) (W C : Layer → Square → Type 0)
     (front : List Visit) (v rest : Visit)

@@ -10,7 +10,7 @@ use Rattle.lvl_flat.specs.Sheets.{AreSorted, HaveSheets, rings_on}
 use Rattle.lvl_flat.specs.declared.bounds.Bounds.{Bounds}
 use Rattle.lvl_grid.specs.Winding.{Covers, SomeCovers}
 use Rattle.lvl_flat.specs.Flattened.{FitShapes, IsOfPart}
-use Rattle.lvl_flat.specs.inside.Entering.{IsDrawnWithin, begun}
+use Rattle.lvl_flat.specs.inside.Entering.{IsDrawnWithin, IsPushed, begun}
 use Rattle.lvl_flat.specs.inside.Steps.{IsInto, IsPast}
 use Rattle.lvl_grid.specs.Placed.{IsPlaceOfCovered, moved_square}
 use Rattle.lvl_names.specs.declared.layer.Layer.{Layer}
@@ -31,7 +31,7 @@ use Rattle.lvl_flat.specs.inside.Visits.{pending}
 use Rattle.std.specs.List.{slice_get}
 use Rattle.lvl_flat.proofs.Drawing.{layer_of, sorted_alike}
 use Rattle.lvl_cells.specs.Chains.{unmoved}
-use Rattle.lvl_flat.proofs.UnderWay.{way_alike, way_begins, way_done, way_into, way_missed, way_past}
+use Rattle.lvl_flat.proofs.UnderWay.{way_alike, way_begins, way_done, way_into, way_left_out, way_missed, way_past}
 use Rattle.lvl_flat.proofs.Stepping.{pending_alike}
 use Rattle.lvl_flat.specs.inside.Passing.{at_place, IsMissedAt, IsPassedBy}
 
@@ -96,6 +96,25 @@ window_done s layers window sheets front v w none = record {
   layers_are = w.layers_are;
   within = w.within;
 }
+
+-- a visit without picks to follow isn't put on the stack
+pub window_left_out : (s : Settled) (layers : List Layer) (window : Window) (sheets : List PlainSheet)
+    (front pushed : List Visit) (v u : Visit)
+    → IsWalkingWithin s layers window sheets ((front ++ v ∷ []) ++ u ∷ []) → IsPushed s.cells front v pushed
+    → IsWalkingWithin s layers window sheets (pushed ++ u ∷ [])
+window_left_out s layers window sheets front pushed v u w (inl is) =
+    subst (λ vs. IsWalkingWithin s layers window sheets (vs ++ u ∷ [])) (sym is) w
+window_left_out s layers window sheets front pushed v u w (inr none) =
+    subst (λ vs. IsWalkingWithin s layers window sheets (vs ++ u ∷ [])) (sym none.0)
+    (record {
+      top = w.top;
+      way =
+          way_left_out s w.top (AllListed layers s.cells) (IsOfPart layers window) (SheetsCover sheets) front v u w.way
+          none.1;
+      sorted = w.sorted;
+      layers_are = w.layers_are;
+      within = w.within;
+    })
 
 pub window_past : (s : Settled) (layers : List Layer) (window : Window) (sheets : List PlainSheet) (front : List
     Visit) (v rest : Visit)

@@ -1,6 +1,6 @@
 //! Entering a cell: its shapes are drawn, and a visit of it is put on the stack.
 ghost use Rattle.std.specs.Prelude.{◌≡◌, ◌++◌, ◌∷◌, ◌<◌, [], length, IfErr, OnOk};
-ghost use Rattle.lvl_flat.specs.inside.Entering.{begun, IsDrawn, IsEnterFault};
+ghost use Rattle.lvl_flat.specs.inside.Entering.{begun, IsDrawn, IsEnterFault, IsPushed};
 ghost use Rattle.lvl_flat.specs.Flattened.{ReportsName};
 ghost use Rattle.lvl_flat.specs.Sheets.{AreSorted};
 ghost use Rattle.lvl_flat.specs.inside.Walking.{AllHaveSheets};
@@ -10,7 +10,8 @@ use crate::draw::draw_shapes;
 use crate::fault::FlatFault;
 use crate::flat::Sheet;
 use crate::visit::Visit;
-use lvl_cells::Cell;
+use crate::walk::is_done;
+use lvl_cells::{Cell, Checked};
 use lvl_grid::{Map, PlaceFault};
 use lvl_refusal::Cause;
 use std::alloc::{AllocError, Global};
@@ -32,6 +33,22 @@ pub(crate) fn push_visit(stack: &mut Vec<Visit>, visit: Visit) -> Result<(), All
 {
     stack.push(visit)?;
     Ok(())
+}
+
+/// Puts a visit on the stack, unless it has nothing left to follow. So a chain of cells, however
+/// long, needs no more of the stack than a short one.
+pub(crate) fn push_rest(
+    checked: &Checked,
+    stack: &mut Vec<Visit>,
+    rest: Visit,
+) -> Result<(), AllocError>
+    requires { rest.cell < length checked.now.cells }
+    ensures { OnOk result (IsPushed checked.now.cells stack.old.items rest stack.new.items) }
+{
+    if is_done(checked, &rest) {
+        return Ok(());
+    }
+    push_visit(stack, rest)
 }
 
 /// Draws the shapes of the cell at index `place`, placed by the map.

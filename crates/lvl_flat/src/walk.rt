@@ -1,9 +1,10 @@
 //! The walk over the chains of references from the top, one step at a time.
-ghost use Rattle.std.specs.Prelude.{◌≡◌, ◌<◌, ℕ, List, length, None, IfSome, IfNone, slice_get};
+ghost use Rattle.std.specs.Prelude.{◌≡◌, ◌<◌, [], ℕ, List, length, None, IfSome, IfNone, IsTrue, slice_get};
 ghost use Rattle.lvl_cells.specs.Cells.{PlainCell, Rings};
 ghost use Rattle.lvl_flat.specs.Ends.{AddsUp};
 ghost use Rattle.lvl_flat.specs.Placing.{IsPlacing};
 ghost use Rattle.lvl_flat.specs.inside.Steps.{IsStep};
+ghost use Rattle.lvl_flat.specs.inside.Visits.{pending};
 
 use crate::visit::Visit;
 use lvl_cells::{Checked, KeptReference};
@@ -80,5 +81,37 @@ pub(crate) fn next_step(checked: &Checked, visit: &Visit) -> Step
                 ..*visit
             },
         ),
+    }
+}
+
+/// Whether the visit has no reference left.
+fn has_ended(checked: &Checked, visit: &Visit) -> bool
+    requires { visit.now.cell < length checked.now.cells }
+    ensures { IsTrue result → pending checked.now.cells visit.now ≡ [] }
+{
+    match next_step(checked, visit) {
+        Step::Done => true,
+        Step::Past(_rest) => false,
+        Step::Into(_index, _map, _rest) => false,
+        Step::Out(_index) => false,
+    }
+}
+
+/// Whether the visit has nothing left to follow: all places of its last reference are done.
+pub(crate) fn is_done(checked: &Checked, visit: &Visit) -> bool
+    requires { visit.now.cell < length checked.now.cells }
+    ensures { IsTrue result → pending checked.now.cells visit.now ≡ [] }
+{
+    let cell = &checked.cells()[visit.cell];
+    if let Some(reference) = cell.references.get(visit.reference) {
+        if visit.place < reference.shifts().len() {
+            return false;
+        }
+    }
+    match next_step(checked, visit) {
+        Step::Done => true,
+        Step::Past(rest) => has_ended(checked, &rest),
+        Step::Into(_index, _map, _rest) => false,
+        Step::Out(_index) => false,
     }
 }

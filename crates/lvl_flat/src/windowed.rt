@@ -10,7 +10,7 @@ ghost use Rattle.lvl_refusal.specs.Refused.{Says};
 
 use crate::advance::UNMOVED;
 use crate::boxes::Boxes;
-use crate::enter::{out_of_range, push_visit};
+use crate::enter::{out_of_range, push_rest, push_visit};
 use crate::fault::FlatFault;
 use crate::flat::{Flat, Sheet};
 use crate::layers::{empty_sheets, layers_of};
@@ -77,7 +77,7 @@ fn advance_within(
                 let further = pass_by(checked, boxes, window, rest);
                 return Ok(push_visit(stack, further)?);
             }
-            push_visit(stack, rest)?;
+            push_rest(checked, stack, rest)?;
             draw_cell_within(room, cells, sheets, index, &map, window)?;
             Ok(push_visit(stack, Visit::begun(index, map))?)
         }

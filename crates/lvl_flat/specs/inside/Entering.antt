@@ -1,5 +1,5 @@
 -- Entering a cell: its shapes are drawn, and a visit of it is put on the stack.
-use Rattle.std.specs.Prelude.{◌≡◌, ◌↔◌, ◌⊎◌, ◌++◌, ℕ, List, map, slice_get, Some}
+use Rattle.std.specs.Prelude.{◌≡◌, ◌↔◌, ◌⊎◌, ◌++◌, ◌∷◌, [], ℕ, List, map, slice_get, Some}
 use Rattle.lvl_grid.specs.declared.map.Map.{Map}
 use Rattle.lvl_grid.specs.declared.point.Square.{Square}
 use Rattle.lvl_grid.specs.declared.point.Window.{Window}
@@ -11,8 +11,13 @@ use Rattle.lvl_flat.specs.declared.fault.FlatFault.TheVariants.{OutOfRange}
 use Rattle.lvl_flat.specs.declared.visit.Visit.{Visit}
 use Rattle.lvl_flat.specs.inside.Drawn.{drawn_on, AreFiguresPlaced, ShapesPlaceCover}
 use Rattle.lvl_flat.specs.Flattened.{FitShapes, IsOfPart}
+use Rattle.lvl_flat.specs.inside.Visits.{pending}
 use Rattle.lvl_flat.specs.Sheet.{PlainSheet}
 use Rattle.lvl_flat.specs.Sheets.{rings_on, HaveSheets}
+
+-- the visit is put on the stack, or it has nothing left to follow
+abbrev pub IsPushed : List (PlainCell Rings) → List Visit → Visit → List Visit → Type 0
+IsPushed cells old v new = (new ≡ old ++ v ∷ []) ⊎ ((new ≡ old) × (pending cells v ≡ []))
 
 -- a visit of cell i, placed by the map m, that has followed no reference yet
 abbrev pub begun : ℕ → Map → Visit

@@ -6,14 +6,15 @@ use Rattle.std.proofs.lemmas.Result.{err_from_is_err_and}
 use Rattle.lvl_cells.specs.Cells.{PlainCell, Rings}
 use Rattle.lvl_cells.specs.Checks.{Settled}
 use Rattle.lvl_flat.specs.declared.visit.Visit.{Visit}
-use Rattle.lvl_flat.specs.inside.Entering.{IsDrawnWithin, IsEnterFault}
+use Rattle.lvl_flat.specs.inside.Entering.{begun, IsDrawnWithin, IsEnterFault}
 use Rattle.lvl_flat.specs.Flattened.{IsOfPart, ReportsName}
 use Rattle.lvl_flat.specs.inside.Steps.{IsInto, IsOut}
 use Rattle.lvl_flat.specs.inside.Walking.{AllListed, SheetsCover, IsWalkingWithin, work}
 use Rattle.lvl_flat.proofs.Drawing.{layer_of}
 use Rattle.lvl_flat.proofs.Walking.{in_last}
-use Rattle.lvl_flat.proofs.Going.{less_into, less_missed, less_passed}
+use Rattle.lvl_flat.proofs.Going.{less_into, less_left_out, less_missed, less_passed}
 use Rattle.lvl_flat.proofs.WindowWalk.{window_done, window_past, window_missed, window_passed, window_into}
+use Rattle.lvl_flat.proofs.WindowWalk.{window_left_out}
 use Rattle.lvl_flat.proofs.UnderWay.{out_by_shift, out_by_vertex, names_out, entered_out}
 use Rattle.lvl_refusal.specs.Refused.{Says}
 use Rattle.lvl_refusal.proofs.Saying.{Says-map}
@@ -23,6 +24,13 @@ pub next_step-requires : goal.next_step-requires
 next_step-requires c =
     let old = c.requires.walking.way.visits c.args.visit (in_last c.args.stack.now.items c.args.visit) in
     slice_get_within c.args.checked.now.cells c.args.visit.cell old.cell old.there
+
+pub push_rest-requires : goal.push_rest-requires
+push_rest-requires c =
+    let s : Settled = c.args.checked.now in
+    let old = c.requires.walking.way.visits c.args.visit (in_last c.args.stack.now.items c.args.visit) in
+    let into : IsInto s.cells c.args.visit c.in-Into.index c.in-Into.map c.in-Into.rest = c.in-Into.ensures in
+    omega (arith, slice_get_within s.cells c.args.visit.cell old.cell old.there, into.cell_is)
 
 pub draw_cell_within-requires-clause-there : goal.draw_cell_within-requires-clause-there
 draw_cell_within-requires-clause-there c =
@@ -119,8 +127,8 @@ returns-in_err-draw_cell_within-in-Into-clause-err c =
     c.in-Into.rest name c.requires.walking.way into out))
     reported)
 
-pub returns-in_ok-push_visit-in-Into-3-clause-walking : goal.returns-in_ok-push_visit-in-Into-3-clause-walking
-returns-in_ok-push_visit-in-Into-3-clause-walking c =
+pub returns-in_ok-push_visit-in-Into-2-clause-walking : goal.returns-in_ok-push_visit-in-Into-2-clause-walking
+returns-in_ok-push_visit-in-Into-2-clause-walking c =
     let s : Settled = c.args.checked.now in
     let front : List Visit = c.args.stack.now.items in
     let into : IsInto s.cells c.args.visit c.in-Into.index c.in-Into.map c.in-Into.rest = c.in-Into.ensures in
@@ -133,16 +141,16 @@ returns-in_ok-push_visit-in-Into-3-clause-walking c =
     window_into s (map layer_of c.args.sheets.now.items) c.args.window.now c.args.sheets.now.items
     c.draw_cell_within.new.sheets.items front c.args.visit
     c.in-Into.index c.in-Into.map c.in-Into.rest c.requires.walking into drawn in
-    let first : c.push_visit-in-Into.new.stack.items ≡ front ++ c.in-Into.rest ∷ [] =
-    c.in_ok-push_visit-in-Into-2.ensures in
+    let kept =
+    window_left_out s (map layer_of c.args.sheets.now.items) c.args.window.now c.draw_cell_within.new.sheets.items front
+    c.push_rest.new.stack.items c.in-Into.rest (begun c.in-Into.index c.in-Into.map) next
+    c.in_ok-push_rest-in-Into.ensures in
     subst (IsWalkingWithin s (map layer_of c.args.sheets.now.items) c.args.window.now
     c.draw_cell_within.new.sheets.items)
-    (sym (c.in_ok-push_visit-in-Into-3.ensures
-    ∙ (ap (λ xs. xs ++ c.begun.result ∷ []) first
-    ∙ ap (λ v. (front ++ c.in-Into.rest ∷ []) ++ v ∷ []) c.begun.ensures))) next
+    (sym (c.in_ok-push_visit-in-Into-2.ensures ∙ ap (λ v. c.push_rest.new.stack.items ++ v ∷ []) c.begun.ensures)) kept
 
-pub returns-in_ok-push_visit-in-Into-3-clause-nearer : goal.returns-in_ok-push_visit-in-Into-3-clause-nearer
-returns-in_ok-push_visit-in-Into-3-clause-nearer c =
+pub returns-in_ok-push_visit-in-Into-2-clause-nearer : goal.returns-in_ok-push_visit-in-Into-2-clause-nearer
+returns-in_ok-push_visit-in-Into-2-clause-nearer c =
     let s : Settled = c.args.checked.now in
     let front : List Visit = c.args.stack.now.items in
     let into : IsInto s.cells c.args.visit c.in-Into.index c.in-Into.map c.in-Into.rest = c.in-Into.ensures in
@@ -150,12 +158,12 @@ returns-in_ok-push_visit-in-Into-3-clause-nearer c =
     let less =
     less_into s front c.args.visit c.in-Into.index c.in-Into.map c.in-Into.rest sound.sound.linked sound.sorted
     into in
-    let first : c.push_visit-in-Into.new.stack.items ≡ front ++ c.in-Into.rest ∷ [] =
-    c.in_ok-push_visit-in-Into-2.ensures in
+    let no_more =
+    less_left_out s.cells front c.push_rest.new.stack.items c.in-Into.rest (begun c.in-Into.index c.in-Into.map)
+    c.in_ok-push_rest-in-Into.ensures in
     subst (λ xs. work s.cells xs < work s.cells (front ++ c.args.visit ∷ []))
-    (sym (c.in_ok-push_visit-in-Into-3.ensures
-    ∙ (ap (λ xs. xs ++ c.begun.result ∷ []) first
-    ∙ ap (λ v. (front ++ c.in-Into.rest ∷ []) ++ v ∷ []) c.begun.ensures))) less
+    (sym (c.in_ok-push_visit-in-Into-2.ensures ∙ ap (λ v. c.push_rest.new.stack.items ++ v ∷ []) c.begun.ensures))
+    (omega (arith, less, no_more))
 
 pub returns-in-Out-clause-err : goal.returns-in-Out-clause-err
 returns-in-Out-clause-err c =
