@@ -1,73 +1,84 @@
-//! Elements by their records: what each draws.
+//! Elements by their records: what each draws, and which rule is reported.
+//!
+//! The records of an element are written with their types, and with what they say: points, numbers, or bytes in
+//! hexadecimal.
 ghost use Rattle.std.specs.Prelude.{IsTrue};
 ghost use Rattle.gds_elements.specs.inside.Formed.{IsFormed};
 
+use crate::rows::{bytes_of, cut};
 use gds_elements::{Drawn, Element, ElementFault, Step};
 use gds_records::record_type as ty;
 use lvl_cells::Reference;
-use lvl_grid::{Point, Ring, Turn};
+use lvl_grid::{Point, Ring};
 use lvl_names::Layer;
 use lvl_refusal::Cause;
 use std::alloc::{AllocError, Global};
 use std::process::Abort;
+use std::slice;
 use std::test::Fail;
 
 mod refusals;
 
-/// What a record says.
-#[derive(Clone, Copy)]
-enum Says<'a> {
-    Nothing,
-    Short(i16),
-    Long(i32),
-    Two(i16, i16),
-    Bytes(&'a [u8]),
-    Points(&'a [(i32, i32)]),
-}
+/// The types of records.
+const TYPES: &str = "\
+BOUNDARY 08
+PATH 09
+SREF 0A
+AREF 0B
+TEXT 0C
+LAYER 0D
+DATATYPE 0E
+WIDTH 0F
+XY 10
+ENDEL 11
+SNAME 12
+COLROW 13
+TEXTTYPE 16
+STRING 19
+STRANS 1A
+MAG 1B
+ANGLE 1C
+PATHTYPE 21
+BOX 2D
+";
 
-impl Says<'_> {
-    fn payload(&self, alloc: Global) -> Result<Vec<u8>, AllocError> {
-        match *self {
-            Says::Nothing => Ok(Vec::new(alloc)),
-            Says::Short(n) => list_of(alloc, &n.to_be_bytes()),
-            Says::Long(n) => list_of(alloc, &n.to_be_bytes()),
-            Says::Two(m, n) => {
-                let [a, b] = m.to_be_bytes();
-                let [c, d] = n.to_be_bytes();
-                list_of(alloc, &[a, b, c, d])
-            }
-            Says::Bytes(bytes) => list_of(alloc, bytes),
-            Says::Points(points) => list_of(alloc, &spell(alloc, points)?),
+fn kind_of(name: &str) -> Result<u8, Fail> {
+    for row in TYPES.lines() {
+        let (known, kind) = cut(row, " ");
+        if known == name {
+            return Ok(u8::from_str_radix(kind, 16)?);
         }
     }
+    Err(Fail::from("a type"))
 }
 
-fn list_of(alloc: Global, bytes: &[u8]) -> Result<Vec<u8>, AllocError> {
-    let mut list = Vec::new(alloc);
-    list.extend_from_slice(bytes)?;
-    Ok(list)
-}
-
-fn spell(alloc: Global, points: &[(i32, i32)]) -> Result<Vec<u8>, AllocError> {
+/// The bytes of points as `3,-4`.
+fn points_of(alloc: Global, words: &str) -> Result<Vec<u8>, Fail> {
     let mut bytes = Vec::new(alloc);
-    for (x, y) in points {
-        bytes.extend_from_slice(&x.to_be_bytes())?;
-        bytes.extend_from_slice(&y.to_be_bytes())?;
+    for word in words.split_whitespace() {
+        let (x, y) = cut(word, ",");
+        bytes.extend_from_slice(&x.parse::<i32>()?.to_be_bytes())?;
+        bytes.extend_from_slice(&y.parse::<i32>()?.to_be_bytes())?;
     }
     Ok(bytes)
 }
 
-/// A record type, and what the record says.
-type Line<'a> = (u8, Says<'a>);
+/// The bytes of numbers of two bytes each.
+fn numbers_of(alloc: Global, words: &str) -> Result<Vec<u8>, Fail> {
+    let mut bytes = Vec::new(alloc);
+    for word in words.split_whitespace() {
+        bytes.extend_from_slice(&word.parse::<i16>()?.to_be_bytes())?;
+    }
+    Ok(bytes)
+}
 
-/// Why no element was read.
-#[derive(Clone, Copy, Debug)]
-enum Stop {
-    /// The record at this place is refused.
-    At(usize, ElementFault),
-    /// The records end before ENDEL, or the first opens no element.
-    Incomplete,
-    OutOfMemory,
+fn payload_of(alloc: Global, kind: u8, words: &str) -> Result<Vec<u8>, Fail> {
+    match kind {
+        ty::XY => points_of(alloc, words),
+        ty::WIDTH => Ok(Vec::from_slice(alloc, &words.parse::<i32>()?.to_be_bytes())?),
+        ty::SNAME | ty::STRING | ty::MAG | ty::ANGLE => bytes_of(alloc, words),
+        _ => numbers_of(alloc, words),
+    }
 }
 
 /// Whether a payload has the length that its type asks for.
@@ -82,250 +93,174 @@ fn is_formed(kind: u8, payload: &[u8]) -> bool
     }
 }
 
-/// What an open element does with the next record, which stands at this place.
+/// What an open element does with the next record.
 fn take(
+    rt: &impl Abort,
     alloc: Global,
     element: Element,
-    place: usize,
-    (kind, says): (u8, Says),
-) -> Result<Step, Stop> {
-    let Ok(payload) = says.payload(alloc) else {
-        return Err(Stop::OutOfMemory);
-    };
-    if !is_formed(kind, &payload) {
-        return Err(Stop::Incomplete);
-    }
-    match element.take(alloc, kind, &payload) {
-        Ok(step) => Ok(step),
-        Err(Cause::Breach(fault)) => Err(Stop::At(place, fault)),
-        Err(Cause::OutOfMemory) => Err(Stop::OutOfMemory),
-    }
+    record: &str,
+) -> Result<Result<Step, Cause<ElementFault>>, Fail> {
+    let (name, words) = cut(record, " ");
+    let kind = kind_of(name)?;
+    let payload = payload_of(alloc, kind, words)?;
+    assert!(rt; is_formed(kind, &payload));
+    Ok(element.take(alloc, kind, &payload))
 }
 
-/// What the element of these records draws.
-fn read(alloc: Global, lines: &[Line]) -> Result<Drawn, Stop> {
-    let Some((first, _)) = lines.first() else {
-        return Err(Stop::Incomplete);
-    };
-    let Some(mut element) = Element::open(alloc, *first) else {
-        return Err(Stop::Incomplete);
-    };
-    for (n, line) in lines.iter().enumerate().skip(1) {
-        match take(alloc, element, n, *line)? {
-            Step::Open(next) => element = next,
-            Step::Whole(drawn) => return Ok(drawn),
+/// What an element draws, or why the record at a place is refused.
+type Answer = Result<Drawn, (usize, Cause<ElementFault>)>;
+
+/// What is read of these records.
+fn read(rt: &impl Abort, alloc: Global, records: &str) -> Result<Answer, Fail> {
+    let first = kind_of(cut(records, ";").0)?;
+    let mut element = Element::open(alloc, first).ok_or("an element")?;
+    for (n, record) in records.split(';').enumerate().skip(1) {
+        match take(rt, alloc, element, record.trim())? {
+            Ok(Step::Open(next)) => element = next,
+            Ok(Step::Whole(drawn)) => return Ok(Ok(drawn)),
+            Err(cause) => return Ok(Err((n, cause))),
         }
     }
-    Err(Stop::Incomplete)
+    Err(Fail::from("its last record"))
 }
 
-fn ring(drawn: Result<Drawn, Stop>) -> Result<(Layer, Ring), Fail> {
-    match drawn? {
-        Drawn::Ring(layer, ring) => Ok((layer, ring)),
-        _ => Err(Fail::from("a ring")),
+fn add_point(alloc: Global, text: &mut String, point: Point) -> Result<(), AllocError> {
+    let Point { x, y } = point;
+    text.push_str(&format!(in alloc; " {x},{y}")?)
+}
+
+/// The Layer of rings, and their points.
+fn rings_text(alloc: Global, on: Layer, rings: &[Ring]) -> Result<String, AllocError> {
+    let mut text = format!(in alloc; "{}/{}", on.layer, on.datatype)?;
+    for ring in rings {
+        text.push_str(";")?;
+        for point in ring.points() {
+            add_point(alloc, &mut text, *point)?;
+        }
+    }
+    Ok(text)
+}
+
+/// The cell of a reference, whether and how it is turned, where it is, and its shifts.
+fn reference_text(alloc: Global, reference: &Reference) -> Result<String, AllocError> {
+    let cell = String::from_utf8_lossy(alloc, reference.cell())?;
+    let (flip, turn) = (reference.flip(), reference.turn());
+    let mut text = format!(in alloc; "{cell} {flip} {turn:?}")?;
+    add_point(alloc, &mut text, reference.at())?;
+    text.push_str(";")?;
+    for k in 0..reference.shifts().len() {
+        if let Some(shift) = reference.shifts().at(k) {
+            add_point(alloc, &mut text, shift)?;
+        }
+    }
+    Ok(text)
+}
+
+fn drawn_text(alloc: Global, drawn: &Drawn) -> Result<String, AllocError> {
+    match drawn {
+        Drawn::Ring(on, ring) => rings_text(alloc, *on, slice::from_ref(ring)),
+        Drawn::Rings(on, rings) => rings_text(alloc, *on, rings),
+        Drawn::Reference(reference) => reference_text(alloc, reference),
+        Drawn::Nothing => String::from_str(alloc, "nothing"),
     }
 }
 
-fn rings(drawn: Result<Drawn, Stop>) -> Result<Vec<Ring>, Fail> {
-    match drawn? {
-        Drawn::Rings(_, rings) => Ok(rings),
-        _ => Err(Fail::from("rings")),
+/// What these records draw.
+fn text_of(rt: &impl Abort, alloc: Global, records: &str) -> Result<String, Fail> {
+    match read(rt, alloc, records)? {
+        Ok(drawn) => Ok(drawn_text(alloc, &drawn)?),
+        Err(_) => Err(Fail::from("what is drawn")),
     }
 }
 
-fn reference(drawn: Result<Drawn, Stop>) -> Result<Reference, Fail> {
-    match drawn? {
-        Drawn::Reference(reference) => Ok(reference),
-        _ => Err(Fail::from("a reference")),
+/// Checks what is drawn, row by row.
+fn check_rows(rt: &impl Abort, alloc: Global, rows: &str) -> Result<(), Fail> {
+    for row in rows.lines() {
+        let (records, want) = cut(row, " | ");
+        assert_eq!(rt; text_of(rt, alloc, records)?.as_str(), want, "{row}");
     }
+    Ok(())
 }
 
-/// Why no element is read of these records.
-fn stop_of(alloc: Global, lines: &[Line]) -> Option<Stop> {
-    read(alloc, lines).err()
-}
-
-/// Whether the ring has these points.
-fn goes_along(ring: &Ring, want: &[(i64, i64)]) -> bool {
-    let points = ring.points();
-    points.len() == want.len()
-        && points
-            .iter()
-            .zip(want)
-            .all(|(p, (x, y))| p.x == *x && p.y == *y)
-}
-
-const SQUARE: [(i32, i32); 5] = [(0, 0), (10, 0), (10, 10), (0, 10), (0, 0)];
-
-const CORNER: [(i32, i32); 3] = [(0, 0), (10, 0), (10, 10)];
-
-const END: Line<'static> = (ty::ENDEL, Says::Nothing);
-
-/// The degrees 90 and 45, and the magnifications 1 and 2, as they are spelled.
-const DEGREES_90: [u8; 8] = [0x42, 0x5A, 0, 0, 0, 0, 0, 0];
-
-const DEGREES_45: [u8; 8] = [0x42, 0x2D, 0, 0, 0, 0, 0, 0];
-
-const ONCE: [u8; 8] = [0x41, 0x10, 0, 0, 0, 0, 0, 0];
-
-const TWICE: [u8; 8] = [0x41, 0x20, 0, 0, 0, 0, 0, 0];
-
-static BOUNDARY: [Line; 5] = [
-    (ty::BOUNDARY, Says::Nothing),
-    (ty::LAYER, Says::Short(32_767)),
-    (ty::DATATYPE, Says::Short(3)),
-    (ty::XY, Says::Points(&SQUARE)),
-    END,
-];
+const BOUNDARIES: &str = "\
+BOUNDARY; LAYER 32767; DATATYPE 3; XY 0,0 10,0 10,10 0,10 0,0; ENDEL | 32767/3; 0,0 10,0 10,10 0,10
+";
 
 #[test]
 fn a_boundary_is_its_ring(rt: HostRuntime) -> Result<(), Fail> {
-    let (layer, ring) = ring(read(rt.alloc(), &BOUNDARY))?;
-    let want = Layer {
-        layer: 32_767,
-        datatype: 3,
-    };
-    assert_eq!(rt; layer, want);
-    assert!(rt; goes_along(&ring, &[(0, 0), (10, 0), (10, 10), (0, 10)]));
-    Ok(())
+    check_rows(&rt, rt.alloc(), BOUNDARIES)
 }
 
-/// The rings of a path along a corner, four wide, with these ends.
-fn path(alloc: Global, ends: i16) -> Result<Vec<Ring>, Fail> {
-    let lines = [
-        (ty::PATH, Says::Nothing),
-        (ty::LAYER, Says::Short(1)),
-        (ty::DATATYPE, Says::Short(0)),
-        (ty::PATHTYPE, Says::Short(ends)),
-        (ty::WIDTH, Says::Long(4)),
-        (ty::XY, Says::Points(&CORNER)),
-        END,
-    ];
-    rings(read(alloc, &lines))
-}
-
-/// The two rings of that path reach out this far to the left and to the top.
-fn check_ends(rt: &impl Abort, rings: &[Ring], left: i64, top: i64) -> Result<(), Fail> {
-    let [first, second] = rings else {
-        return Err("two rings".into());
-    };
-    assert!(rt; goes_along(first, &[(left, -2), (12, -2), (12, 2), (left, 2)]));
-    assert!(rt; goes_along(second, &[(8, -2), (12, -2), (12, top), (8, top)]));
-    Ok(())
-}
+/// Paths along a corner, four wide.
+const PATHS: &str = "\
+PATH; LAYER 1; DATATYPE 0; PATHTYPE 0; WIDTH 4; XY 0,0 10,0 10,10; ENDEL | \
+    1/0; 0,-2 12,-2 12,2 0,2; 8,-2 12,-2 12,10 8,10
+PATH; LAYER 1; DATATYPE 0; PATHTYPE 2; WIDTH 4; XY 0,0 10,0 10,10; ENDEL | \
+    1/0; -2,-2 12,-2 12,2 -2,2; 8,-2 12,-2 12,12 8,12
+";
 
 #[test]
 fn square_ends(rt: HostRuntime) -> Result<(), Fail> {
-    for (ends, left, top) in [(0, 0, 10), (2, -2, 12)] {
-        let rings = path(rt.alloc(), ends)?;
-        check_ends(&rt, &rings, left, top)?;
-    }
-    Ok(())
+    check_rows(&rt, rt.alloc(), PATHS)
 }
 
-/// The reference is to A, reflected and turned, at one place.
-fn check_turned(rt: &impl Abort, reference: &Reference) {
-    assert_eq!(rt; reference.cell(), b"A".as_slice());
-    assert!(rt; reference.flip());
-    assert_eq!(rt; reference.turn(), Turn::R90);
-    assert_eq!(rt; reference.at(), Point { x: -7, y: 5 });
-    assert_eq!(rt; reference.shifts().len(), 1);
-}
-
-static TURNED: [Line; 7] = [
-    (ty::SREF, Says::Nothing),
-    (ty::SNAME, Says::Bytes(b"A\0")),
-    (ty::STRANS, Says::Short(i16::MIN)),
-    (ty::MAG, Says::Bytes(&ONCE)),
-    (ty::ANGLE, Says::Bytes(&DEGREES_90)),
-    (ty::XY, Says::Points(&[(-7, 5)])),
-    END,
-];
+/// A reference to A that is reflected and turned, at one place.
+const TURNED: &str = "\
+SREF; SNAME 41 00; STRANS -32768; MAG 41 10 00 00 00 00 00 00; ANGLE 42 5A 00 00 00 00 00 00; XY -7,5; ENDEL | \
+    A true R90 -7,5; 0,0
+";
 
 #[test]
 fn flip_then_turn(rt: HostRuntime) -> Result<(), Fail> {
-    let reference = reference(read(rt.alloc(), &TURNED))?;
-    check_turned(&rt, &reference);
-    Ok(())
-}
-
-/// An array of the given numbers of columns and rows, with these points.
-fn array(alloc: Global, columns: i16, rows: i16, points: &[(i32, i32)]) -> Result<Drawn, Stop> {
-    let lines = [
-        (ty::AREF, Says::Nothing),
-        (ty::SNAME, Says::Bytes(b"AB")),
-        (ty::COLROW, Says::Two(columns, rows)),
-        (ty::XY, Says::Points(points)),
-        END,
-    ];
-    read(alloc, &lines)
+    check_rows(&rt, rt.alloc(), TURNED)
 }
 
 /// Three columns by two rows, columns first.
-fn check_tiles(rt: &impl Abort, tiles: &Reference) {
-    let shifts = [(0, 0), (10, 0), (20, 0), (0, 10), (10, 10), (20, 10)];
-    assert_eq!(rt; tiles.shifts().len(), 6);
-    for (k, (x, y)) in shifts.iter().enumerate() {
-        assert_eq!(rt; tiles.shifts().at(k as u64), Some(Point { x: *x, y: *y }));
-    }
-}
+const TILES: &str = "\
+AREF; SNAME 41 42; COLROW 3 2; XY 0,0 30,0 0,20; ENDEL | AB false R0 0,0; 0,0 10,0 20,0 0,10 10,10 20,10
+";
 
 #[test]
 fn array_tiles(rt: HostRuntime) -> Result<(), Fail> {
-    let tiles = reference(array(rt.alloc(), 3, 2, &[(0, 0), (30, 0), (0, 20)]))?;
-    check_tiles(&rt, &tiles);
-    Ok(())
+    check_rows(&rt, rt.alloc(), TILES)
 }
 
 /// Columns to the left, and rows down.
+const TILES_BACK: &str = "\
+AREF; SNAME 41 42; COLROW 3 2; XY 5,5 -25,5 5,-15; ENDEL | \
+    AB false R0 5,5; 0,0 -10,0 -20,0 0,-10 -10,-10 -20,-10
+";
+
 #[test]
 fn array_tiles_back(rt: HostRuntime) -> Result<(), Fail> {
-    let back = reference(array(rt.alloc(), 3, 2, &[(5, 5), (-25, 5), (5, -15)]))?;
-    assert_eq!(rt; back.at(), Point { x: 5, y: 5 });
-    assert_eq!(rt; back.shifts().at(5), Some(Point { x: -20, y: -10 }));
-    Ok(())
+    check_rows(&rt, rt.alloc(), TILES_BACK)
 }
 
-static TEXT: [Line; 9] = [
-    (ty::TEXT, Says::Nothing),
-    (ty::LAYER, Says::Short(-1)),
-    (ty::TEXTTYPE, Says::Short(0)),
-    (ty::WIDTH, Says::Long(-3)),
-    (ty::STRANS, Says::Short(7)),
-    (ty::ANGLE, Says::Bytes(&DEGREES_45)),
-    (ty::XY, Says::Points(&[(0, 0)])),
-    (ty::STRING, Says::Bytes(b"HI")),
-    END,
-];
+const TEXTS: &str = "\
+TEXT; LAYER -1; TEXTTYPE 0; WIDTH -3; STRANS 7; ANGLE 42 2D 00 00 00 00 00 00; XY 0,0; STRING 48 49; ENDEL | nothing
+";
 
 #[test]
 fn text_covers_nothing(rt: HostRuntime) -> Result<(), Fail> {
-    assert!(rt; matches!(read(rt.alloc(), &TEXT), Ok(Drawn::Nothing)));
-    Ok(())
+    check_rows(&rt, rt.alloc(), TEXTS)
 }
 
-/// Whether these are the rings of a path, or there was no memory for them.
-fn is_path(drawn: Result<Drawn, Stop>) -> bool {
-    matches!(drawn, Ok(Drawn::Rings(..)) | Err(Stop::OutOfMemory))
+fn is_path(answer: &Answer) -> bool {
+    matches!(answer, Ok(Drawn::Rings(..)) | Err((_, Cause::OutOfMemory)))
 }
 
-/// Whether this is a reference, or there was no memory for it.
-fn is_array(drawn: Result<Drawn, Stop>) -> bool {
-    matches!(drawn, Ok(Drawn::Reference(_)) | Err(Stop::OutOfMemory))
+fn is_array(answer: &Answer) -> bool {
+    matches!(
+        answer,
+        Ok(Drawn::Reference(_)) | Err((_, Cause::OutOfMemory))
+    )
 }
-
-static PATH: [Line; 6] = [
-    (ty::PATH, Says::Nothing),
-    (ty::LAYER, Says::Short(1)),
-    (ty::DATATYPE, Says::Short(0)),
-    (ty::WIDTH, Says::Long(4)),
-    (ty::XY, Says::Points(&CORNER)),
-    END,
-];
 
 #[test]
 fn growths(rt: HostRuntime) -> Result<(), Fail> {
-    assert!(rt; is_path(read(rt.alloc(), &PATH)));
-    assert!(rt; is_array(array(rt.alloc(), 3, 2, &[(0, 0), (30, 0), (0, 20)])));
+    let path = "PATH; LAYER 1; DATATYPE 0; WIDTH 4; XY 0,0 10,0 10,10; ENDEL";
+    assert!(rt; is_path(&read(&rt, rt.alloc(), path)?));
+    let array = "AREF; SNAME 41 42; COLROW 3 2; XY 0,0 30,0 0,20; ENDEL";
+    assert!(rt; is_array(&read(&rt, rt.alloc(), array)?));
     Ok(())
 }

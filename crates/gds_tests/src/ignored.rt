@@ -1,6 +1,7 @@
 //! Libraries with records that are read and ignored: where each may come, its form, and what is refused.
 
-use gds_library::{GdsFault, GdsKind, Misplaced, RecordFault, read_gds_by};
+use crate::rows::{add_bytes, check_text, cut};
+use gds_library::{GdsFault, GdsKind, Misplaced, read_gds_by};
 use lvl_ignore::Ignore;
 use lvl_io::fake::Pieces;
 use lvl_refusal::Cause;
@@ -11,25 +12,8 @@ use std::test::Fail;
 mod records;
 mod rows;
 
-use records::{FORMAT_0, LIBSECUR, PROPATTR, PROPVALUE, RECORDS, REFLIBS};
+use records::{MORE, RECORDS};
 use rows::{FORMS, NAMES, PROPERTIES, TOGETHER};
-
-/// What is read of a stream: the library without the records that are ignored, or a refusal at an offset.
-#[derive(Clone, Copy)]
-pub enum Found {
-    Same,
-    Unexpected(u64, u8),
-    Unsupported(u64, u8),
-    BadDataType(u64),
-    BadLength(u64),
-    AfterEnd(u64),
-}
-
-/// Records before the one of `RECORDS` with this index, or after all of them, and what is found.
-pub type Row = (usize, &'static [&'static [u8]], Found);
-
-/// A library and its head as text, or why there is none.
-type Answer = Result<String, Cause<GdsFault>>;
 
 const PROPERTIES_ALONE: Ignore = Ignore {
     properties: true,
@@ -53,153 +37,173 @@ const OF_OASIS: Ignore = Ignore {
     padding: true,
 };
 
-/// The bytes of `RECORDS` with more records before the one with this index.
-fn with(alloc: Global, index: usize, more: &[&[u8]]) -> Result<Vec<u8>, AllocError> {
+/// Appends those of `RECORDS` from one index up to another.
+fn add_records(bytes: &mut Vec<u8>, from: usize, to: usize) -> Result<(), Fail> {
+    for (n, row) in RECORDS.lines().enumerate() {
+        if from <= n && n < to {
+            add_bytes(bytes, cut(row, " | ").1)?;
+        }
+    }
+    Ok(())
+}
+
+/// The bytes of `RECORDS` with more bytes before the one with this index.
+fn with(alloc: Global, index: usize, more: &[u8]) -> Result<Vec<u8>, Fail> {
+    let mut bytes = Vec::with_capacity(alloc, 400)?;
+    add_records(&mut bytes, 0, index)?;
+    bytes.extend_from_slice(more)?;
+    add_records(&mut bytes, index, usize::MAX)?;
+    Ok(bytes)
+}
+
+/// The bytes of the record of `MORE` with this name, or the word itself.
+fn record_of(word: &str) -> &str {
+    for row in MORE.lines() {
+        let (name, words) = cut(row, " ");
+        if name == word {
+            return words;
+        }
+    }
+    word
+}
+
+/// The bytes of records that are named, or written in hexadecimal.
+fn bytes_of(alloc: Global, words: &str) -> Result<Vec<u8>, Fail> {
     let mut bytes = Vec::new(alloc);
-    for (_, record) in RECORDS.iter().take(index) {
-        bytes.extend_from_slice(record)?;
-    }
-    for record in more {
-        bytes.extend_from_slice(record)?;
-    }
-    for (_, record) in RECORDS.iter().skip(index) {
-        bytes.extend_from_slice(record)?;
+    for word in words.split_whitespace() {
+        add_bytes(&mut bytes, record_of(word))?;
     }
     Ok(bytes)
 }
 
-/// What is read of these bytes.
-fn read(alloc: Global, bytes: &[u8], ignore: Ignore) -> Result<Answer, AllocError> {
-    match read_gds_by(alloc, &mut Pieces::new(bytes, 50), ignore) {
-        Ok((library, head)) => Ok(Ok(format!(in alloc; "{head:?} {library:?}")?)),
+/// What is refused, the offset, and the type of the record if that is what counts.
+fn fault_text(alloc: Global, fault: GdsFault) -> Result<String, AllocError> {
+    let at = fault.offset;
+    match fault.kind {
+        GdsKind::Misplaced(Misplaced::Unexpected(kind)) => {
+            format!(in alloc; "Unexpected {at} {kind:02X}")
+        }
+        GdsKind::Misplaced(Misplaced::Unsupported(kind)) => {
+            format!(in alloc; "Unsupported {at} {kind:02X}")
+        }
+        GdsKind::Record(fault) => format!(in alloc; "{fault:?} {at}"),
+        kind => format!(in alloc; "{kind:?} {at}"),
+    }
+}
+
+/// A library and its head as text, or what is refused.
+fn read(alloc: Global, bytes: &[u8], most: usize, ignore: Ignore) -> Result<String, AllocError> {
+    match read_gds_by(alloc, &mut Pieces::new(bytes, most), ignore) {
+        Ok((library, head)) => format!(in alloc; "{head:?} {library:?}"),
+        Err(Cause::Breach(fault)) => fault_text(alloc, fault),
         Err(Cause::OutOfMemory) => Err(AllocError),
-        Err(refusal) => Ok(Err(refusal)),
     }
 }
 
-/// What is read of `RECORDS` with more records before the one with this index.
-fn read_with(
-    alloc: Global,
-    index: usize,
-    more: &[&[u8]],
-    ignore: Ignore,
-) -> Result<Answer, AllocError> {
+/// What is read of `RECORDS` with more bytes before the one with this index.
+fn read_with(alloc: Global, index: usize, more: &[u8], ignore: Ignore) -> Result<String, Fail> {
     let bytes = with(alloc, index, more)?;
-    read(alloc, &bytes, ignore)
-}
-
-/// The refusal that is found, if there is one.
-fn refusal_of(found: Found) -> Option<Cause<GdsFault>> {
-    let (offset, kind) = match found {
-        Found::Same => return None,
-        Found::Unexpected(at, kind) => (at, GdsKind::Misplaced(Misplaced::Unexpected(kind))),
-        Found::Unsupported(at, kind) => (at, GdsKind::Misplaced(Misplaced::Unsupported(kind))),
-        Found::BadDataType(at) => (at, GdsKind::Record(RecordFault::BadDataType)),
-        Found::BadLength(at) => (at, GdsKind::Record(RecordFault::BadLength)),
-        Found::AfterEnd(at) => (at, GdsKind::AfterEnd),
-    };
-    Some(Cause::Breach(GdsFault { offset, kind }))
-}
-
-/// Whether this is found; `plain` is the text of the library without the records that are ignored.
-fn is_found(found: Found, plain: &str, answer: &Answer) -> bool {
-    match (refusal_of(found), answer) {
-        (None, Ok(text)) => text.as_str() == plain,
-        (Some(refusal), Err(reported)) => *reported == refusal,
-        _ => false,
-    }
-}
-
-/// Whether what the row says is found where this is ignored.
-fn is_row_found(
-    alloc: Global,
-    (index, more, found): Row,
-    plain: &str,
-    ignore: Ignore,
-) -> Result<bool, AllocError> {
-    let answer = read_with(alloc, index, more, ignore)?;
-    Ok(is_found(found, plain, &answer))
+    Ok(read(alloc, &bytes, 50, ignore)?)
 }
 
 /// The text of `RECORDS` as they are.
 fn plain(alloc: Global) -> Result<String, Fail> {
-    Ok(read_with(alloc, 0, &[], Ignore::NOTHING)??)
+    let text = read_with(alloc, 0, b"", Ignore::NOTHING)?;
+    if text.starts_with("GdsHead") {
+        Ok(text)
+    } else {
+        Err(Fail::from("a library"))
+    }
 }
 
-/// Whether in each row is found what it says, where this is ignored.
-fn are_found(rt: &impl Abort, alloc: Global, rows: &[Row], ignore: Ignore) -> Result<(), Fail> {
+/// What is read of the stream of a row.
+fn read_row(alloc: Global, row: &str, ignore: Ignore) -> Result<String, Fail> {
+    let (index, row) = cut(row, " | ");
+    let more = bytes_of(alloc, cut(row, " | ").0)?;
+    read_with(alloc, index.parse::<usize>()?, &more, ignore)
+}
+
+/// What the row says is found, as `plain` or a refusal.
+fn want_of<'a>(row: &'a str, plain: &'a str) -> &'a str {
+    let (_, row) = cut(row, " | ");
+    let (_, found) = cut(row, " | ");
+    if found == "Same" { plain } else { found }
+}
+
+/// Checks that in each row is found what it says, where this is ignored.
+fn check_rows(rt: &impl Abort, alloc: Global, rows: &str, ignore: Ignore) -> Result<(), Fail> {
     let plain = plain(alloc)?;
-    for (n, row) in rows.iter().enumerate() {
-        assert!(rt; is_row_found(alloc, *row, &plain, ignore)?, "row {n}");
+    for row in rows.lines() {
+        let found = read_row(alloc, row, ignore)?;
+        check_text(rt, &found, want_of(row, &plain), row);
     }
     Ok(())
 }
 
 #[test]
 fn offsets_are_those_of_the_records(rt: HostRuntime) -> Result<(), Fail> {
-    for (n, (offset, _)) in RECORDS.iter().enumerate() {
-        let mut before = 0u64;
-        for (_, record) in RECORDS.iter().take(n) {
-            before = before.saturating_add(record.len() as u64);
-        }
-        assert_eq!(rt; *offset, before);
+    let mut bytes = Vec::new(rt.alloc());
+    for row in RECORDS.lines() {
+        let (offset, _) = cut(row, " ");
+        assert_eq!(rt; offset.parse::<usize>()?, bytes.len());
+        add_bytes(&mut bytes, cut(row, " | ").1)?;
     }
     Ok(())
 }
 
-/// The bytes of `RECORDS` with this value at one offset.
-fn changed(alloc: Global, offset: usize, value: u8) -> Result<Vec<u8>, AllocError> {
-    let mut bytes = with(alloc, 0, &[])?;
+/// The text of `RECORDS` with this value at one offset.
+fn text_with(alloc: Global, offset: usize, value: u8) -> Result<String, Fail> {
+    let mut bytes = with(alloc, 0, b"")?;
     if let Some(byte) = bytes.get_mut(offset) {
         *byte = value;
     }
-    Ok(bytes)
+    Ok(read(alloc, &bytes, 50, Ignore::NOTHING)?)
 }
 
-/// Whether their text is another than that of `RECORDS`.
+/// Whether the text of the changed bytes is another than that of `RECORDS`, and that of a library.
 fn is_told(alloc: Global, offset: usize, value: u8) -> Result<bool, Fail> {
-    let bytes = changed(alloc, offset, value)?;
-    let text = read(alloc, &bytes, Ignore::NOTHING)??;
-    Ok(text.as_str() != plain(alloc)?.as_str())
+    let text = text_with(alloc, offset, value)?;
+    let plain = plain(alloc)?;
+    Ok(text.as_str() != plain.as_str() && text.starts_with("GdsHead"))
 }
 
 /// Another version, name, layer or reference is another text, so equal texts are of equal libraries.
 #[test]
 fn texts_tell_libraries(rt: HostRuntime) -> Result<(), Fail> {
     for (offset, value) in [(5, 0x59), (92, b'A'), (105, 2), (216, b'A')] {
-        assert!(rt; is_told(rt.alloc(), offset, value)?, "byte {offset}");
+        let is_told = is_told(rt.alloc(), offset, value)?;
+        assert!(rt; is_told, "byte {offset}");
     }
     Ok(())
 }
 
 #[test]
 fn names_ignored(rt: HostRuntime) -> Result<(), Fail> {
-    are_found(&rt, rt.alloc(), &NAMES, NAMES_ALONE)
+    check_rows(&rt, rt.alloc(), NAMES, NAMES_ALONE)
 }
 
 #[test]
 fn properties_ignored(rt: HostRuntime) -> Result<(), Fail> {
-    are_found(&rt, rt.alloc(), &PROPERTIES, PROPERTIES_ALONE)
+    check_rows(&rt, rt.alloc(), PROPERTIES, PROPERTIES_ALONE)
 }
 
 #[test]
 fn all_ignored(rt: HostRuntime) -> Result<(), Fail> {
-    are_found(&rt, rt.alloc(), &TOGETHER, Ignore::EVERYTHING)
+    check_rows(&rt, rt.alloc(), TOGETHER, Ignore::EVERYTHING)
 }
 
 #[test]
 fn forms_of_what_is_ignored(rt: HostRuntime) -> Result<(), Fail> {
-    are_found(&rt, rt.alloc(), &FORMS, Ignore::EVERYTHING)
+    check_rows(&rt, rt.alloc(), FORMS, Ignore::EVERYTHING)
 }
 
-/// Whether the rows that are read where less is ignored are read alike where all is.
-fn are_same(rt: &impl Abort, alloc: Global, plain: &str, rows: &[Row]) -> Result<(), Fail> {
-    for (n, row) in rows.iter().enumerate() {
-        if let Found::Same = row.2 {
-            assert!(rt;
-                is_row_found(alloc, *row, plain, Ignore::EVERYTHING)?,
-                "row {n}"
-            );
+/// Checks that the rows that are read where less is ignored are read alike where all is.
+fn check_same(rt: &impl Abort, alloc: Global, rows: &str) -> Result<(), Fail> {
+    let plain = plain(alloc)?;
+    for row in rows.lines() {
+        if row.ends_with(" | Same") {
+            let found = read_row(alloc, row, Ignore::EVERYTHING)?;
+            check_text(rt, &found, &plain, row);
         }
     }
     Ok(())
@@ -208,30 +212,32 @@ fn are_same(rt: &impl Abort, alloc: Global, plain: &str, rows: &[Row]) -> Result
 /// A stream that is read with less is read with more, as the same library.
 #[test]
 fn more_ignored(rt: HostRuntime) -> Result<(), Fail> {
-    let plain = plain(rt.alloc())?;
-    for rows in [NAMES.as_slice(), PROPERTIES.as_slice()] {
-        are_same(&rt, rt.alloc(), &plain, rows)?;
+    check_same(&rt, rt.alloc(), NAMES)?;
+    check_same(&rt, rt.alloc(), PROPERTIES)
+}
+
+/// What is found in the row where the first of its records isn't ignored.
+fn unsupported(alloc: Global, row: &str) -> Result<String, Fail> {
+    let (index, row) = cut(row, " | ");
+    let more = bytes_of(alloc, cut(row, " | ").0)?;
+    let kind = *more.get(2).ok_or("a type")?;
+    match RECORDS.lines().nth(index.parse::<usize>()?) {
+        Some(record) => Ok(format!(in alloc; "Unsupported {} {kind:02X}", cut(record, " ").0)?),
+        None => Ok(String::from_str(alloc, "AfterEnd 335")?),
     }
-    Ok(())
 }
 
-/// The row with what is found where the first of its records isn't ignored.
-fn unsupported((index, more, _): Row) -> Option<Row> {
-    let kind = *more.first()?.get(2)?;
-    let found = match RECORDS.get(index) {
-        Some((offset, _)) => Found::Unsupported(*offset, kind),
-        None => Found::AfterEnd(335),
-    };
-    Some((index, more, found))
-}
-
-/// Whether the first record of each row is unsupported where nothing is ignored.
-fn are_unsupported(rt: &impl Abort, alloc: Global, rows: &[Row]) -> Result<(), Fail> {
-    for (n, row) in rows.iter().enumerate() {
-        let row = unsupported(*row).ok_or("a type")?;
-        for ignore in [Ignore::NOTHING, OF_OASIS] {
-            assert!(rt; is_row_found(alloc, row, "", ignore)?, "row {n}");
-        }
+/// Checks that the first record of each row is unsupported where this is ignored.
+fn check_unsupported(
+    rt: &impl Abort,
+    alloc: Global,
+    rows: &str,
+    ignore: Ignore,
+) -> Result<(), Fail> {
+    for row in rows.lines() {
+        let found = read_row(alloc, row, ignore)?;
+        let want = unsupported(alloc, row)?;
+        check_text(rt, &found, &want, row);
     }
     Ok(())
 }
@@ -239,14 +245,9 @@ fn are_unsupported(rt: &impl Abort, alloc: Global, rows: &[Row]) -> Result<(), F
 /// Where nothing is ignored that a GDSII stream has, the first such record is unsupported, whatever its form.
 #[test]
 fn nothing_ignored(rt: HostRuntime) -> Result<(), Fail> {
-    let tables = [
-        NAMES.as_slice(),
-        PROPERTIES.as_slice(),
-        TOGETHER.as_slice(),
-        FORMS.as_slice(),
-    ];
-    for rows in tables {
-        are_unsupported(&rt, rt.alloc(), rows)?;
+    for rows in [NAMES, PROPERTIES, TOGETHER, FORMS] {
+        check_unsupported(&rt, rt.alloc(), rows, Ignore::NOTHING)?;
+        check_unsupported(&rt, rt.alloc(), rows, OF_OASIS)?;
     }
     Ok(())
 }
@@ -260,11 +261,10 @@ fn security(alloc: Global, len: u8) -> Result<Vec<u8>, AllocError> {
     Ok(record)
 }
 
-/// Whether this is found with that record before LIBNAME.
-fn is_security_found(alloc: Global, len: u8, plain: &str, found: Found) -> Result<bool, Fail> {
+/// What is read with that record before LIBNAME.
+fn read_secured(alloc: Global, len: u8) -> Result<String, Fail> {
     let record = security(alloc, len)?;
-    let answer = read_with(alloc, 2, &[&record], NAMES_ALONE)?;
-    Ok(is_found(found, plain, &answer))
+    read_with(alloc, 2, &record, NAMES_ALONE)
 }
 
 /// LIBSECUR has 1 to 32 entries of six bytes.
@@ -272,8 +272,8 @@ fn is_security_found(alloc: Global, len: u8, plain: &str, found: Found) -> Resul
 fn entries_of_security(rt: HostRuntime) -> Result<(), Fail> {
     let plain = plain(rt.alloc())?;
     for len in [6, 12, 186, 192] {
-        let is_same = is_security_found(rt.alloc(), len, &plain, Found::Same)?;
-        assert!(rt; is_same, "{len}");
+        let found = read_secured(rt.alloc(), len)?;
+        assert_eq!(rt; found.as_str(), plain.as_str(), "{len}");
     }
     Ok(())
 }
@@ -281,8 +281,8 @@ fn entries_of_security(rt: HostRuntime) -> Result<(), Fail> {
 #[test]
 fn entries_of_no_security(rt: HostRuntime) -> Result<(), Fail> {
     for len in [0, 2, 4, 8, 190, 194, 198, 204] {
-        let is_refused = is_security_found(rt.alloc(), len, "", Found::BadLength(34))?;
-        assert!(rt; is_refused, "{len}");
+        let found = read_secured(rt.alloc(), len)?;
+        assert_eq!(rt; found.as_str(), "BadLength 34", "{len}");
     }
     Ok(())
 }
@@ -303,34 +303,27 @@ fn begun(k: usize) -> u64 {
 }
 
 /// The first bytes of the stream are truncated at the record that isn't whole.
-fn check_cut(rt: &impl Abort, alloc: Global, bytes: &[u8]) {
-    let mut reader = Pieces::new(bytes, 7);
-    let reported = read_gds_by(alloc, &mut reader, Ignore::EVERYTHING).err();
-    let fault = GdsFault {
-        offset: begun(bytes.len()),
-        kind: GdsKind::Record(RecordFault::Truncated),
-    };
-    assert_eq!(rt; reported, Some(Cause::Breach(fault)));
+fn check_cut(rt: &impl Abort, alloc: Global, bytes: &[u8]) -> Result<(), Fail> {
+    let found = read(alloc, bytes, 7, Ignore::EVERYTHING)?;
+    let want = format!(in alloc; "Truncated {}", begun(bytes.len()))?;
+    check_text(rt, &found, &want, "a cut");
+    Ok(())
 }
 
 /// A stream is truncated at the record that isn't whole, whether it is ignored or not.
 #[test]
 fn reports_each_cut(rt: HostRuntime) -> Result<(), Fail> {
-    let bytes = with(rt.alloc(), 3, &[REFLIBS, FORMAT_0])?;
+    let more = bytes_of(rt.alloc(), "REFLIBS FORMAT_0")?;
+    let bytes = with(rt.alloc(), 3, &more)?;
     for k in 0..=102usize {
-        check_cut(&rt, rt.alloc(), bytes.get(..k).ok_or("bytes")?);
+        check_cut(&rt, rt.alloc(), bytes.get(..k).ok_or("bytes")?)?;
     }
     Ok(())
 }
 
 /// How many cells are read of `RECORDS` with more records before the one with this index.
-fn cells_with(
-    alloc: Global,
-    index: usize,
-    more: &[&[u8]],
-    ignore: Ignore,
-) -> Result<usize, Cause<GdsFault>> {
-    let bytes = with(alloc, index, more)?;
+fn cells_with(alloc: Global, index: usize, more: &str, ignore: Ignore) -> Result<usize, Fail> {
+    let bytes = with(alloc, index, &bytes_of(alloc, more)?)?;
     let mut reader = Pieces::new(&bytes, usize::MAX);
     let (library, _) = read_gds_by(alloc, &mut reader, ignore)?;
     Ok(library.cells.len())
@@ -338,9 +331,9 @@ fn cells_with(
 
 #[test]
 fn growths_with_ignored(rt: HostRuntime) -> Result<(), Fail> {
-    let count = cells_with(rt.alloc(), 10, &[PROPATTR, PROPVALUE], PROPERTIES_ALONE)?;
+    let count = cells_with(rt.alloc(), 10, "PROPATTR PROPVALUE", PROPERTIES_ALONE)?;
     assert_eq!(rt; count, 1);
-    let count = cells_with(rt.alloc(), 2, &[LIBSECUR], NAMES_ALONE)?;
+    let count = cells_with(rt.alloc(), 2, "LIBSECUR", NAMES_ALONE)?;
     assert_eq!(rt; count, 1);
     Ok(())
 }

@@ -2,13 +2,12 @@
 //! how a reader cuts the bytes nor where it fails.
 ghost use Rattle.std.specs.Prelude.{Some, None};
 
-use crate::rows::{cut, points_of};
+use crate::cells::library_text;
+use crate::rows::{add_bytes, check_text, cut, points_of};
 use gds_library::{GdsFault, GdsHead, GdsKind, RecordFault, read_gds};
 use gds_records::fake::{ONE, SQUARE, Stream};
-use lvl_cells::{Cell, Library, Shapes};
-use lvl_grid::Point;
+use lvl_cells::Library;
 use lvl_io::fake::Pieces;
-use lvl_names::Layer;
 use lvl_refusal::Cause;
 use std::alloc::{AllocError, Global};
 use std::process::Abort;
@@ -51,7 +50,7 @@ fn read(alloc: Global, bytes: &[u8], most: usize) -> Result<(Library, GdsHead), 
 }
 
 /// Why these bytes are refused, if they are.
-fn fault_of(alloc: Global, bytes: &[u8], most: usize) -> Option<Cause<GdsFault>> {
+pub(crate) fn fault_of(alloc: Global, bytes: &[u8], most: usize) -> Option<Cause<GdsFault>> {
     read(alloc, bytes, most).err()
 }
 
@@ -90,63 +89,48 @@ fn changed(alloc: Global, places: &[usize], value: u8) -> Result<Vec<u8>, AllocE
     Ok(bytes)
 }
 
-/// The shape is one square of the cell TOP.
-fn check_square(rt: &impl Abort, cell: &Cell) {
-    assert_eq!(rt; cell.name.as_bytes(), b"TOP".as_slice());
-    assert_eq!(rt; cell.references.len(), 0);
-    let shapes = &cell.shapes;
-    assert_eq!(rt; shapes.len(), 1);
-    assert_eq!(rt;
-        shapes.layer(0),
-        Layer {
-            layer: 1,
-            datatype: 0
-        }
-    );
-    assert_eq!(rt; shapes.shift_count(0), 1);
-    assert_eq!(rt; shapes.ring_count(0), 1);
-    assert_eq!(rt; shapes.ring(0, 0).len(), 4);
-    assert_eq!(rt; shapes.ring(0, 0).get(3), Some(Point { x: 0, y: 10 }));
+/// The cells of these bytes as text.
+pub(crate) fn cells_of(alloc: Global, bytes: &[u8], most: usize) -> Result<String, Fail> {
+    let (library, _) = read(alloc, bytes, most)?;
+    Ok(library_text(alloc, &library)?)
 }
 
-/// The library is one cell TOP with a square.
-fn check_library(rt: &impl Abort, library: &Library) -> Result<(), Fail> {
-    assert_eq!(rt; library.cells.len(), 1);
-    check_square(rt, library.cells.first().ok_or("a cell")?);
-    Ok(())
+/// How many cells these bytes have.
+pub(crate) fn count_of(alloc: Global, bytes: &[u8], most: usize) -> Result<usize, Fail> {
+    let (library, _) = read(alloc, bytes, most)?;
+    Ok(library.cells.len())
+}
+
+fn head_of(alloc: Global, bytes: &[u8]) -> Result<GdsHead, Fail> {
+    let (_, head) = read(alloc, bytes, 1000)?;
+    Ok(head)
 }
 
 #[test]
 fn reads_a_square(rt: HostRuntime) -> Result<(), Fail> {
     let bytes = square(rt.alloc())?;
     assert_eq!(rt; bytes.len(), 168);
-    let (library, head) = read(rt.alloc(), &bytes, 1000)?;
-    assert_eq!(rt;
-        head,
-        GdsHead {
-            version: 600,
-            units: [ONE, ONE]
-        }
+    let head = GdsHead {
+        version: 600,
+        units: [ONE, ONE],
+    };
+    assert_eq!(rt; head_of(rt.alloc(), &bytes)?, head);
+    let cells = cells_of(rt.alloc(), &bytes, 1000)?;
+    check_text(
+        &rt,
+        &cells,
+        "TOP / 1/0*1; 0,0 10,0 10,10 0,10\n",
+        "a square",
     );
-    check_library(&rt, &library)
-}
-
-/// The only shape is one ring with these points.
-fn check_ring(rt: &impl Abort, shapes: &Shapes, points: &[(i64, i64)]) {
-    assert_eq!(rt; shapes.len(), 1);
-    assert_eq!(rt; shapes.ring_count(0), 1);
-    for (k, (x, y)) in points.iter().enumerate() {
-        assert_eq!(rt; shapes.ring(0, 0).get(k), Some(Point { x: *x, y: *y }));
-    }
+    Ok(())
 }
 
 /// Row boundary-height: two bytes are heights.
 #[test]
 fn boundary_height(rt: HostRuntime) -> Result<(), Fail> {
     let bytes = changed(rt.alloc(), &[139, 147], 9)?;
-    let (library, _) = read(rt.alloc(), &bytes, 1000)?;
-    let cell = library.cells.first().ok_or("a cell")?;
-    check_ring(&rt, &cell.shapes, &[(0, 0), (10, 0), (10, 9), (0, 9)]);
+    let cells = cells_of(rt.alloc(), &bytes, 1000)?;
+    check_text(&rt, &cells, "TOP / 1/0*1; 0,0 10,0 10,9 0,9\n", "heights");
     Ok(())
 }
 
@@ -162,29 +146,27 @@ fn add_structure(stream: &mut Stream, name: &[u8], count: usize) -> Result<(), A
 /// Four structures with none, one, two and three boundaries.
 fn structures(alloc: Global) -> Result<Vec<u8>, AllocError> {
     let mut stream = Stream::new(alloc)?;
-    let names: [&[u8]; 4] = [b"B\0", b"AB", b"C\0", b"B\0"];
-    for (n, name) in names.iter().enumerate() {
-        add_structure(&mut stream, name, n)?;
-    }
+    add_structure(&mut stream, b"B\0", 0)?;
+    add_structure(&mut stream, b"AB", 1)?;
+    add_structure(&mut stream, b"C\0", 2)?;
+    add_structure(&mut stream, b"B\0", 3)?;
     stream.end()
 }
 
-/// The cells are those of `structures`, in their order.
-fn check_order(rt: &impl Abort, library: &Library) -> Result<(), Fail> {
-    assert_eq!(rt; library.cells.len(), 4);
-    for (n, cell) in library.cells.iter().enumerate() {
-        assert_eq!(rt; cell.shapes.len(), n);
-    }
-    let second = library.cells.get(1).ok_or("a cell")?;
-    assert_eq!(rt; second.name.as_bytes(), b"AB".as_slice());
-    Ok(())
-}
+/// The cells of `structures`, in their order.
+const STRUCTURES: &str = "\
+B
+AB / 2/32767*1; 0,0 10,0 10,10 0,10
+C / 2/32767*1; 0,0 10,0 10,10 0,10 / 2/32767*1; 0,0 10,0 10,10 0,10
+B / 2/32767*1; 0,0 10,0 10,10 0,10 / 2/32767*1; 0,0 10,0 10,10 0,10 / 2/32767*1; 0,0 10,0 10,10 0,10
+";
 
 #[test]
 fn reads_structures_in_file_order(rt: HostRuntime) -> Result<(), Fail> {
     let bytes = structures(rt.alloc())?;
-    let (library, _) = read(rt.alloc(), &bytes, 7)?;
-    check_order(&rt, &library)
+    let cells = cells_of(rt.alloc(), &bytes, 7)?;
+    check_text(&rt, &cells, STRUCTURES, "structures");
+    Ok(())
 }
 
 /// A byte of `square`, another value of it, and the fault.
@@ -219,7 +201,7 @@ fn fault_with(alloc: Global, words: &str) -> Result<String, Fail> {
 fn names_the_first_fault(rt: HostRuntime) -> Result<(), Fail> {
     for row in FAULTS.lines() {
         let (words, want) = cut(row, " | ");
-        assert_eq!(rt; fault_with(rt.alloc(), words)?.as_str(), want, "{row}");
+        check_text(&rt, &fault_with(rt.alloc(), words)?, want, row);
     }
     Ok(())
 }
@@ -243,7 +225,7 @@ fn fault_along(alloc: Global, points: &str) -> Result<String, Fail> {
 fn tests_points_in_order(rt: HostRuntime) -> Result<(), Fail> {
     for row in POINTS.lines() {
         let (points, want) = cut(row, " | ");
-        assert_eq!(rt; fault_along(rt.alloc(), points)?.as_str(), want, "{row}");
+        check_text(&rt, &fault_along(rt.alloc(), points)?, want, row);
     }
     Ok(())
 }
@@ -256,24 +238,28 @@ fn named(alloc: Global, letters: usize, zeros: usize) -> Result<Vec<u8>, AllocEr
     with_boundary(alloc, &name, &SQUARE)
 }
 
-/// The fault of that library.
-fn fault_named(alloc: Global, letters: usize, zeros: usize) -> Result<String, AllocError> {
-    let bytes = named(alloc, letters, zeros)?;
-    fault_text(alloc, fault_of(alloc, &bytes, 1000))
+/// The numbers of letters and of zeros, and the fault.
+const NAMES: &str = "\
+255 1 | -
+254 0 | -
+256 0 | 88 Name
+254 2 | 88 Name
+1 1 | -
+0 0 | 88 Name
+";
+
+/// The fault of a library whose name has these numbers of letters and of zeros.
+fn fault_named(alloc: Global, counts: &str) -> Result<String, Fail> {
+    let (letters, zeros) = cut(counts, " ");
+    let bytes = named(alloc, letters.parse::<usize>()?, zeros.parse::<usize>()?)?;
+    Ok(fault_text(alloc, fault_of(alloc, &bytes, 1000))?)
 }
 
 #[test]
 fn names_have_up_to_255_bytes(rt: HostRuntime) -> Result<(), Fail> {
-    for (letters, zeros, want) in [
-        (255, 1, "-"),
-        (254, 0, "-"),
-        (256, 0, "88 Name"),
-        (254, 2, "88 Name"),
-        (1, 1, "-"),
-        (0, 0, "88 Name"),
-    ] {
-        let fault = fault_named(rt.alloc(), letters, zeros)?;
-        assert_eq!(rt; fault.as_str(), want, "{letters} {zeros}");
+    for row in NAMES.lines() {
+        let (counts, want) = cut(row, " | ");
+        check_text(&rt, &fault_named(rt.alloc(), counts)?, want, row);
     }
     Ok(())
 }
@@ -295,38 +281,38 @@ fn reports_each_cut(rt: HostRuntime) -> Result<(), Fail> {
     Ok(())
 }
 
+/// A number of zeros after the bytes of `square`, the bytes after them, and the fault.
+const ENDS: &str = "\
+1880 | | -
+0 | 01 | 168 AfterEnd
+70000 | 01 00 | 70168 AfterEnd
+0 | 00 04 04 00 | 169 AfterEnd
+";
+
 /// The bytes of `square`, a number of zeros, and the rest.
-fn padded(alloc: Global, zeros: usize, rest: &[u8]) -> Result<Vec<u8>, AllocError> {
+fn padded(alloc: Global, zeros: &str, rest: &str) -> Result<Vec<u8>, Fail> {
     let mut bytes = square(alloc)?;
-    add_many(&mut bytes, zeros, 0)?;
-    bytes.extend_from_slice(rest)?;
+    add_many(&mut bytes, zeros.parse::<usize>()?, 0)?;
+    add_bytes(&mut bytes, rest)?;
     Ok(bytes)
 }
 
-/// The fault of those bytes, at most `most` at a read.
-fn fault_padded(
-    alloc: Global,
-    zeros: usize,
-    rest: &[u8],
-    most: usize,
-) -> Result<String, AllocError> {
+/// The fault of the bytes of a row is the one that it says, however they are cut.
+fn check_end(rt: &impl Abort, alloc: Global, row: &str) -> Result<(), Fail> {
+    let (zeros, words) = cut(row, " |");
+    let (rest, want) = cut(words, "| ");
     let bytes = padded(alloc, zeros, rest)?;
-    fault_text(alloc, fault_of(alloc, &bytes, most))
+    for most in [1, 65_536] {
+        let fault = fault_text(alloc, fault_of(alloc, &bytes, most))?;
+        check_text(rt, &fault, want, row);
+    }
+    Ok(())
 }
 
 #[test]
 fn takes_zero_bytes_alone_after_the_end(rt: HostRuntime) -> Result<(), Fail> {
-    let rows: [(usize, &[u8], &str); 4] = [
-        (1880, b"", "-"),
-        (0, b"\x01", "168 AfterEnd"),
-        (70_000, b"\x01\0", "70168 AfterEnd"),
-        (0, b"\0\x04\x04\0", "169 AfterEnd"),
-    ];
-    for (zeros, rest, want) in rows {
-        for most in [1, 65_536] {
-            let fault = fault_padded(rt.alloc(), zeros, rest, most)?;
-            assert_eq!(rt; fault.as_str(), want);
-        }
+    for row in ENDS.lines() {
+        check_end(&rt, rt.alloc(), row)?;
     }
     Ok(())
 }
@@ -351,7 +337,6 @@ fn reports_a_failed_read(rt: HostRuntime) -> Result<(), Fail> {
 #[test]
 fn growths(rt: HostRuntime) -> Result<(), Fail> {
     let bytes = square(rt.alloc())?;
-    let (library, _) = read(rt.alloc(), &bytes, 1000)?;
-    assert_eq!(rt; library.cells.len(), 1);
+    assert_eq!(rt; count_of(rt.alloc(), &bytes, 1000)?, 1);
     Ok(())
 }

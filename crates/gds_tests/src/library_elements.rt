@@ -1,30 +1,28 @@
 //! Elements in streams: what is read of each, and the offset of the record that is refused.
 
-use crate::library::fault_text;
-use crate::rows::{cut, points_of};
-use gds_library::{GdsFault, read_gds};
+use crate::library::{cells_of, count_of, fault_of, fault_text};
+use crate::rows::{bytes_of, check_text, cut, points_of};
+use gds_library::read_gds;
 use gds_records::fake::{SQUARE, Stream};
 use gds_records::record_type;
-use lvl_cells::{CellFault, KeptReference, Library, MovedRing, Shapes, check};
-use lvl_grid::{Point, Turn};
+use lvl_cells::{CellFault, check};
 use lvl_io::fake::Pieces;
 use lvl_refusal::Cause;
 use std::alloc::{AllocError, Global};
-use std::process::Abort;
 use std::test::Fail;
 
 const CORNER: [(i32, i32); 3] = [(0, 0), (10, 0), (10, 10)];
 
 const ANGLE_90: [u8; 8] = [0x42, 0x5A, 0, 0, 0, 0, 0, 0];
 
-/// The cells of a stream, or why they aren't read.
-type Answer = Result<Library, Cause<GdsFault>>;
-
 /// The cells of a stream, which is cut into pieces of seven bytes.
-fn read(alloc: Global, bytes: &[u8]) -> Answer {
-    let mut reader = Pieces::new(bytes, 7);
-    let (library, _) = read_gds(alloc, &mut reader)?;
-    Ok(library)
+fn cells(alloc: Global, bytes: &[u8]) -> Result<String, Fail> {
+    cells_of(alloc, bytes, 7)
+}
+
+/// The fault of a stream, which is cut into pieces of seven bytes.
+fn fault(alloc: Global, bytes: &[u8]) -> Result<String, AllocError> {
+    fault_text(alloc, fault_of(alloc, bytes, 7))
 }
 
 /// A library whose structure TOP is open: its first element begins at 96.
@@ -47,12 +45,6 @@ fn with_path(
     stream.end()
 }
 
-/// What is read of `with_path`.
-fn path(alloc: Global, ends: Option<i16>, width: i32, points: &[(i32, i32)]) -> Answer {
-    let stream = with_path(alloc, ends, width, points)?;
-    read(alloc, &stream)
-}
-
 /// A structure A with a square, and a structure TOP with an array of it.
 fn with_array(
     alloc: Global,
@@ -70,52 +62,13 @@ fn with_array(
     stream.end()
 }
 
-/// What is read of `with_array`.
-fn array(alloc: Global, columns: i16, rows: i16, points: &[(i32, i32)]) -> Answer {
-    let stream = with_array(alloc, columns, rows, points)?;
-    read(alloc, &stream)
-}
-
-/// Whether the ring has these points.
-fn goes_along(ring: &MovedRing<'_>, want: &[(i64, i64)]) -> bool {
-    ring.len() == want.len()
-        && want
-            .iter()
-            .enumerate()
-            .all(|(k, (x, y))| ring.get(k) == Some(Point { x: *x, y: *y }))
-}
-
-/// Whether these are the shifts of the reference.
-fn shifts_by(reference: &KeptReference<'_>, want: &[(i64, i64)]) -> bool {
-    if reference.shifts().len() != want.len() as u64 {
-        return false;
-    }
-    for (k, (x, y)) in want.iter().enumerate() {
-        if reference.shifts().at(k as u64) != Some(Point { x: *x, y: *y }) {
-            return false;
-        }
-    }
-    true
-}
-
-/// The reference is to A, at the origin and as it is, three columns by two rows.
-fn check_tiles(rt: &impl Abort, reference: &KeptReference<'_>) {
-    assert_eq!(rt; reference.cell(), b"A".as_slice());
-    assert_eq!(rt; reference.at(), Point { x: 0, y: 0 });
-    assert_eq!(rt; reference.flip(), false);
-    assert_eq!(rt; reference.turn(), Turn::R0);
-    let shifts: [(i64, i64); 6] = [(0, 0), (10, 0), (20, 0), (0, 10), (10, 10), (20, 10)];
-    assert!(rt; shifts_by(reference, &shifts));
-}
-
 /// Row array-tiles: three columns by two rows of a square that touch, columns first.
 #[test]
 fn array_tiles(rt: HostRuntime) -> Result<(), Fail> {
-    let library = array(rt.alloc(), 3, 2, &[(0, 0), (30, 0), (0, 20)])?;
-    let cell = library.cells.get(1).ok_or("a cell")?;
-    assert_eq!(rt; cell.shapes.len(), 0);
-    assert_eq!(rt; cell.references.len(), 1);
-    check_tiles(&rt, &cell.references.get(0).ok_or("a reference")?);
+    let stream = with_array(rt.alloc(), 3, 2, &[(0, 0), (30, 0), (0, 20)])?;
+    let want =
+        "A / 1/0*1; 0,0 10,0 10,10 0,10\nTOP / A false R0 0,0; 0,0 10,0 20,0 0,10 10,10 20,10\n";
+    check_text(&rt, &cells(rt.alloc(), &stream)?, want, "array-tiles");
     Ok(())
 }
 
@@ -133,13 +86,13 @@ const ARRAYS: &str = "\
 fn array_fault(alloc: Global, counts: &str, points: &str) -> Result<String, Fail> {
     let (columns, rows) = cut(counts, " ");
     let points = points_of(alloc, points)?;
-    let answer = array(
+    let stream = with_array(
         alloc,
         columns.parse::<i16>()?,
         rows.parse::<i16>()?,
         &points,
-    );
-    Ok(fault_text(alloc, answer.err())?)
+    )?;
+    Ok(fault(alloc, &stream)?)
 }
 
 #[test]
@@ -147,8 +100,7 @@ fn array_limits(rt: HostRuntime) -> Result<(), Fail> {
     for row in ARRAYS.lines() {
         let (counts, words) = cut(row, " | ");
         let (points, want) = cut(words, " | ");
-        let fault = array_fault(rt.alloc(), counts, points)?;
-        assert_eq!(rt; fault.as_str(), want, "{row}");
+        check_text(&rt, &array_fault(rt.alloc(), counts, points)?, want, row);
     }
     Ok(())
 }
@@ -171,62 +123,48 @@ fn with_turned(alloc: Global) -> Result<Vec<u8>, AllocError> {
     stream.end()
 }
 
-/// The reference is to AB, reflected and turned, at one place.
-fn check_turned(rt: &impl Abort, reference: &KeptReference<'_>) {
-    assert_eq!(rt; reference.cell(), b"AB".as_slice());
-    assert_eq!(rt; reference.flip(), true);
-    assert_eq!(rt; reference.turn(), Turn::R90);
-    assert!(rt; shifts_by(reference, &[(0, 0)]));
-}
-
 /// Row flip-then-turn: a reference that is reflected and turned.
 #[test]
 fn flip_then_turn(rt: HostRuntime) -> Result<(), Fail> {
     let stream = with_turned(rt.alloc())?;
-    let library = read(rt.alloc(), &stream)?;
-    let cell = library.cells.first().ok_or("a cell")?;
-    check_turned(&rt, &cell.references.get(0).ok_or("a reference")?);
+    let want = "TOP / AB true R90 0,0; 0,0\n";
+    check_text(&rt, &cells(rt.alloc(), &stream)?, want, "flip-then-turn");
     Ok(())
 }
 
 /// The fault of a path with a short run.
 fn short_fault(alloc: Global, ends: Option<i16>, width: i32) -> Result<String, AllocError> {
-    let answer = path(alloc, ends, width, &[(0, 0), (10, 0), (10, 1)]);
-    fault_text(alloc, answer.err())
+    let stream = with_path(alloc, ends, width, &[(0, 0), (10, 0), (10, 1)])?;
+    fault(alloc, &stream)
 }
+
+/// The widths of paths without PATHTYPE, and the faults.
+const WIDTHS: &str = "\
+4 | 120 Element(Path(ShortRun))
+3 | 112 Element(Width)
+0 | 112 Element(Width)
+2 | -
+";
 
 /// Row short-run: a run of a path that is shorter than half its width, odd widths, and rounded ends.
 #[test]
 fn short_run(rt: HostRuntime) -> Result<(), Fail> {
-    for (ends, width, want) in [
-        (None, 4, "120 Element(Path(ShortRun))"),
-        (None, 3, "112 Element(Width)"),
-        (None, 0, "112 Element(Width)"),
-        (None, 2, "-"),
-        (Some(1), 4, "112 Element(PathType)"),
-    ] {
-        let fault = short_fault(rt.alloc(), ends, width)?;
-        assert_eq!(rt; fault.as_str(), want, "width {width}");
+    for row in WIDTHS.lines() {
+        let (width, want) = cut(row, " | ");
+        let fault = short_fault(rt.alloc(), None, width.parse::<i32>()?)?;
+        check_text(&rt, &fault, want, row);
     }
+    let fault = short_fault(rt.alloc(), Some(1), 4)?;
+    check_text(&rt, &fault, "112 Element(PathType)", "rounded ends");
     Ok(())
-}
-
-/// The only shape is the two rings of a path that reaches out at both ends.
-fn check_ends(rt: &impl Abort, shapes: &Shapes) {
-    assert_eq!(rt; shapes.len(), 1);
-    assert_eq!(rt; shapes.ring_count(0), 2);
-    let first: [(i64, i64); 4] = [(-2, -2), (12, -2), (12, 2), (-2, 2)];
-    let second: [(i64, i64); 4] = [(8, -2), (12, -2), (12, 12), (8, 12)];
-    assert!(rt; goes_along(&shapes.ring(0, 0), &first));
-    assert!(rt; goes_along(&shapes.ring(0, 1), &second));
 }
 
 /// Row square-ends: a path that reaches out by half its width at both ends.
 #[test]
 fn square_ends(rt: HostRuntime) -> Result<(), Fail> {
-    let library = path(rt.alloc(), Some(2), 4, &CORNER)?;
-    let cell = library.cells.first().ok_or("a cell")?;
-    check_ends(&rt, &cell.shapes);
+    let stream = with_path(rt.alloc(), Some(2), 4, &CORNER)?;
+    let want = "TOP / 1/0*1; -2,-2 12,-2 12,2 -2,2; 8,-2 12,-2 12,12 8,12\n";
+    check_text(&rt, &cells(rt.alloc(), &stream)?, want, "square-ends");
     Ok(())
 }
 
@@ -254,10 +192,13 @@ fn with_text(alloc: Global) -> Result<Vec<u8>, AllocError> {
 #[test]
 fn text_covers_nothing(rt: HostRuntime) -> Result<(), Fail> {
     let stream = with_text(rt.alloc())?;
-    let library = read(rt.alloc(), &stream)?;
-    let cell = library.cells.first().ok_or("a cell")?;
-    assert_eq!(rt; cell.shapes.len(), 2);
-    assert_eq!(rt; cell.references.len(), 0);
+    let want = "TOP / 1/0*1; 0,0 10,0 10,10 0,10 / 2/0*1; 0,0 10,0 10,10 0,10\n";
+    check_text(
+        &rt,
+        &cells(rt.alloc(), &stream)?,
+        want,
+        "text-covers-nothing",
+    );
     Ok(())
 }
 
@@ -278,30 +219,32 @@ fn with_cycle(alloc: Global) -> Result<Vec<u8>, AllocError> {
     stream.end()
 }
 
-/// The names of the cycle for which the library is refused.
-fn cycle_of(alloc: Global, library: Library) -> Result<Vec<Vec<u8>>, Fail> {
+/// The names of the cycle for which the library of these bytes is refused.
+fn cycle_of(alloc: Global, bytes: &[u8]) -> Result<Vec<Vec<u8>>, Fail> {
+    let (library, _) = read_gds(alloc, &mut Pieces::new(bytes, 7))?;
     match check(alloc, library, None) {
         Err(Cause::Breach(CellFault::Cycle(names))) => Ok(names),
         _ => Err(Fail::from("a cycle")),
     }
 }
 
-/// There are two names, and A is the first.
-fn check_names(rt: &impl Abort, names: &[Vec<u8>]) -> Result<(), Fail> {
-    assert_eq!(rt; names.len(), 2);
-    let first = names.first().ok_or("a name")?;
-    assert_eq!(rt; first.as_slice(), b"A".as_slice());
-    Ok(())
+/// Whether these are the names A and B.
+fn are_a_and_b(names: &[Vec<u8>]) -> bool {
+    match names {
+        [first, second] => first.as_slice() == b"A".as_slice()
+            && second.as_slice() == b"B".as_slice(),
+        _ => false,
+    }
 }
 
 /// Row cycle: cells that place one another are read, and refused as a library.
 #[test]
 fn cycle(rt: HostRuntime) -> Result<(), Fail> {
     let stream = with_cycle(rt.alloc())?;
-    let library = read(rt.alloc(), &stream)?;
-    assert_eq!(rt; library.cells.len(), 3);
-    let names = cycle_of(rt.alloc(), library)?;
-    check_names(&rt, &names)
+    assert_eq!(rt; count_of(rt.alloc(), &stream, 7)?, 3);
+    let names = cycle_of(rt.alloc(), &stream)?;
+    assert!(rt; are_a_and_b(&names));
+    Ok(())
 }
 
 /// A stream of SREF, SNAME and a record, and where the record begins.
@@ -319,46 +262,54 @@ fn with_record(
     Ok((offset, stream.into_bytes()))
 }
 
-/// The fault of this stream, if it is where the record begins.
-fn fault_there(
-    alloc: Global,
-    kind: u8,
-    data_type: u8,
-    payload: &[u8],
-) -> Result<String, AllocError> {
-    let (begin, stream) = with_record(alloc, kind, data_type, payload)?;
-    match read(alloc, &stream) {
-        Err(Cause::Breach(GdsFault { offset, kind })) if offset == begin => {
-            format!(in alloc; "{kind:?}")
-        }
-        _ => String::from_str(alloc, "no fault there"),
+/// Types of records, types of their data, payloads, and the faults.
+const RECORDS: &str = "\
+1A 1 | 00 04 | Element(Strans)
+07 0 | | Misplaced(Unexpected(7))
+0A 0 | | Misplaced(Unexpected(10))
+05 2 | 00 00 00 00 00 00 00 00 00 00 00 00 00 00 00 00 00 00 00 00 00 00 00 00 | Misplaced(Unexpected(5))
+04 0 | | Misplaced(Unexpected(4))
+15 0 | | Misplaced(Unsupported(21))
+10 3 | 00 00 00 00 00 00 00 00 00 00 00 00 00 00 00 00 | Element(Points)
+";
+
+/// The fault of the stream with the record of a row, after the offset of that record.
+fn fault_after(alloc: Global, types: &str, payload: &str) -> Result<String, Fail> {
+    let (kind, data_type) = cut(types, " ");
+    let (kind, data_type) = (u8::from_str_radix(kind, 16)?, data_type.parse::<u8>()?);
+    let payload = bytes_of(alloc, payload)?;
+    let (begin, stream) = with_record(alloc, kind, data_type, &payload)?;
+    Ok(format!(in alloc; "{begin}: {}", fault(alloc, &stream)?)?)
+}
+
+/// The fault of that stream, if it is where the record begins.
+fn fault_there<'a>(begin_and_fault: &'a str) -> &'a str {
+    let (begin, fault) = cut(begin_and_fault, ": ");
+    let (offset, what) = cut(fault, " ");
+    if offset == begin {
+        what
+    } else {
+        "no fault there"
     }
 }
 
 /// A rule is named at the record that breaches it, whichever element it is in.
 #[test]
 fn names_each_fault_where_it_stands(rt: HostRuntime) -> Result<(), Fail> {
-    let rows: [(u8, u8, &[u8], &str); 7] = [
-        (record_type::STRANS, 1, &[0, 4], "Element(Strans)"),
-        (record_type::ENDSTR, 0, b"", "Misplaced(Unexpected(7))"),
-        (record_type::SREF, 0, b"", "Misplaced(Unexpected(10))"),
-        (record_type::BGNSTR, 2, &[0; 24], "Misplaced(Unexpected(5))"),
-        (record_type::ENDLIB, 0, b"", "Misplaced(Unexpected(4))"),
-        (0x15, 0, b"", "Misplaced(Unsupported(21))"),
-        (record_type::XY, 3, &[0; 16], "Element(Points)"),
-    ];
-    for (kind, data_type, payload, want) in rows {
-        let fault = fault_there(rt.alloc(), kind, data_type, payload)?;
-        assert_eq!(rt; fault.as_str(), want, "type {kind}");
+    for row in RECORDS.lines() {
+        let (types, words) = cut(row, " |");
+        let (payload, want) = cut(words, "| ");
+        let found = fault_after(rt.alloc(), types, payload)?;
+        check_text(&rt, fault_there(&found), want, row);
     }
     Ok(())
 }
 
 #[test]
 fn growths(rt: HostRuntime) -> Result<(), Fail> {
-    let library = path(rt.alloc(), Some(2), 4, &CORNER)?;
-    assert_eq!(rt; library.cells.len(), 1);
-    let library = array(rt.alloc(), 3, 2, &[(0, 0), (30, 0), (0, 20)])?;
-    assert_eq!(rt; library.cells.len(), 2);
+    let stream = with_path(rt.alloc(), Some(2), 4, &CORNER)?;
+    assert_eq!(rt; count_of(rt.alloc(), &stream, 7)?, 1);
+    let stream = with_array(rt.alloc(), 3, 2, &[(0, 0), (30, 0), (0, 20)])?;
+    assert_eq!(rt; count_of(rt.alloc(), &stream, 7)?, 2);
     Ok(())
 }

@@ -1,5 +1,6 @@
 //! Rows of tables that are text.
 use std::alloc::Global;
+use std::process::Abort;
 use std::test::Fail;
 
 /// What is before the mark, and what is after it.
@@ -17,11 +18,22 @@ pub(crate) fn points_of(alloc: Global, words: &str) -> Result<Vec<(i32, i32)>, F
     Ok(points)
 }
 
-/// The bytes of hexadecimal words.
-pub(crate) fn bytes_of(alloc: Global, words: &str) -> Result<Vec<u8>, Fail> {
-    let mut bytes = Vec::new(alloc);
+/// Appends the bytes of hexadecimal words.
+pub(crate) fn add_bytes(bytes: &mut Vec<u8>, words: &str) -> Result<(), Fail> {
     for word in words.split_whitespace() {
         bytes.push(u8::from_str_radix(word, 16)?)?;
     }
+    Ok(())
+}
+
+/// The bytes of hexadecimal words.
+pub(crate) fn bytes_of(alloc: Global, words: &str) -> Result<Vec<u8>, Fail> {
+    let mut bytes = Vec::new(alloc);
+    add_bytes(&mut bytes, words)?;
     Ok(bytes)
+}
+
+/// Ends the test if the text that is found isn't the one that the row wants.
+pub(crate) fn check_text(rt: &impl Abort, found: &str, want: &str, row: &str) {
+    assert_eq!(rt; found, want, "{row}");
 }

@@ -1,196 +1,94 @@
 //! Which rule is reported, and of which record.
-use super::{DEGREES_45, DEGREES_90, END, Line, Says, Stop, TWICE, array, stop_of};
-use crate::rows::{cut, points_of};
-use gds_records::record_type as ty;
+use super::{Answer, read};
+use crate::rows::cut;
+use lvl_refusal::Cause;
 use std::alloc::{AllocError, Global};
+use std::process::Abort;
 use std::test::Fail;
 
-/// The widths and points of paths, and what is reported of each.
-const PATHS: &str = "\
-short-run | 4 | 0,0 10,0 10,1 | At(4, Rule(Path(ShortRun)))
-odd | 3 | 0,0 10,0 10,1 | At(3, Rule(Width))
-none | 0 | 0,0 10,0 10,1 | At(3, Rule(Width))
-negative | -4 | 0,0 10,0 10,1 | At(3, Rule(Width))
-one point | 4 | 0,0 | At(4, Rule(Points))
-oblique | 4 | 0,0 1,1 | At(4, Rule(Path(Oblique)))
-";
-
-/// What is reported of a path of this width along these points.
-fn path_stop(alloc: Global, width: i32, points: &[(i32, i32)]) -> Option<Stop> {
-    let lines = [
-        PATH,
-        LAYER,
-        DATATYPE,
-        (ty::WIDTH, Says::Long(width)),
-        (ty::XY, Says::Points(points)),
-        END,
-    ];
-    stop_of(alloc, &lines)
-}
-
 /// Why no element is read, or `-`.
-fn stop_text(alloc: Global, stop: Option<Stop>) -> Result<String, AllocError> {
-    match stop {
-        Some(stop) => format!(in alloc; "{stop:?}"),
-        None => String::from_str(alloc, "-"),
+fn stop_text(alloc: Global, answer: &Answer) -> Result<String, AllocError> {
+    match answer {
+        Ok(_) => String::from_str(alloc, "-"),
+        Err((place, Cause::Breach(fault))) => format!(in alloc; "At({place}, {fault:?})"),
+        Err((_, Cause::OutOfMemory)) => Err(AllocError),
     }
 }
 
-fn path_text(alloc: Global, width: &str, points: &str) -> Result<String, Fail> {
-    let points = points_of(alloc, points)?;
-    Ok(stop_text(alloc, path_stop(alloc, width.parse::<i32>()?, &points))?)
+fn stop_of(rt: &impl Abort, alloc: Global, records: &str) -> Result<String, Fail> {
+    let answer = read(rt, alloc, records)?;
+    Ok(stop_text(alloc, &answer)?)
 }
+
+/// Checks what is reported, row by row.
+fn check_stops(rt: &impl Abort, alloc: Global, rows: &str) -> Result<(), Fail> {
+    for row in rows.lines() {
+        let (records, want) = cut(row, " | ");
+        assert_eq!(rt; stop_of(rt, alloc, records)?.as_str(), want, "{row}");
+    }
+    Ok(())
+}
+
+/// Paths: with a short run, of a width that is odd, none and negative, with one point, and with an oblique run.
+const PATHS: &str = "\
+PATH; LAYER 1; DATATYPE 0; WIDTH 4; XY 0,0 10,0 10,1; ENDEL | At(4, Rule(Path(ShortRun)))
+PATH; LAYER 1; DATATYPE 0; WIDTH 3; XY 0,0 10,0 10,1; ENDEL | At(3, Rule(Width))
+PATH; LAYER 1; DATATYPE 0; WIDTH 0; XY 0,0 10,0 10,1; ENDEL | At(3, Rule(Width))
+PATH; LAYER 1; DATATYPE 0; WIDTH -4; XY 0,0 10,0 10,1; ENDEL | At(3, Rule(Width))
+PATH; LAYER 1; DATATYPE 0; WIDTH 4; XY 0,0; ENDEL | At(4, Rule(Points))
+PATH; LAYER 1; DATATYPE 0; WIDTH 4; XY 0,0 1,1; ENDEL | At(4, Rule(Path(Oblique)))
+";
 
 #[test]
 fn short_run(rt: HostRuntime) -> Result<(), Fail> {
-    for row in PATHS.lines() {
-        let (_, words) = cut(row, " | ");
-        let (width, words) = cut(words, " | ");
-        let (points, want) = cut(words, " | ");
-        let text = path_text(rt.alloc(), width, points)?;
-        assert_eq!(rt; text.as_str(), want, "{row}");
-    }
-    Ok(())
+    check_stops(&rt, rt.alloc(), PATHS)
 }
 
-/// The columns and rows of arrays, their points, and what is reported of each.
+/// Arrays of many columns and rows, and of steps that aren't whole.
 const ARRAYS: &str = "\
-1024 1024 | 0,0 1024,0 0,1024 | -
-1025 1024 | 0,0 0,0 0,0 | At(2, Rule(Repetition))
-32767 33 | 0,0 0,0 0,0 | At(2, Rule(Repetition))
-32767 32 | 0,0 0,0 0,0 | -
-2 1 | 0,0 -7,0 0,2 | At(3, Rule(ArrayStep))
-3 2 | 0,0 31,0 0,20 | At(3, Rule(ArrayStep))
-3 2 | 0,0 30,0 0,21 | At(3, Rule(ArrayStep))
-0 1 | 0,0 0,0 0,0 | At(2, Rule(ColRow))
-1 0 | 0,0 0,0 0,0 | At(2, Rule(ColRow))
--1 1 | 0,0 0,0 0,0 | At(2, Rule(ColRow))
-1 1 | 0,0 0,0 | At(3, Rule(Points))
-1 1 | -2147483648,-2147483648 2147483647,-2147483648 -2147483648,2147483647 | -
+AREF; SNAME 41 42; COLROW 1024 1024; XY 0,0 1024,0 0,1024; ENDEL | -
+AREF; SNAME 41 42; COLROW 1025 1024; XY 0,0 0,0 0,0; ENDEL | At(2, Rule(Repetition))
+AREF; SNAME 41 42; COLROW 32767 33; XY 0,0 0,0 0,0; ENDEL | At(2, Rule(Repetition))
+AREF; SNAME 41 42; COLROW 32767 32; XY 0,0 0,0 0,0; ENDEL | -
+AREF; SNAME 41 42; COLROW 2 1; XY 0,0 -7,0 0,2; ENDEL | At(3, Rule(ArrayStep))
+AREF; SNAME 41 42; COLROW 3 2; XY 0,0 31,0 0,20; ENDEL | At(3, Rule(ArrayStep))
+AREF; SNAME 41 42; COLROW 3 2; XY 0,0 30,0 0,21; ENDEL | At(3, Rule(ArrayStep))
+AREF; SNAME 41 42; COLROW 0 1; XY 0,0 0,0 0,0; ENDEL | At(2, Rule(ColRow))
+AREF; SNAME 41 42; COLROW 1 0; XY 0,0 0,0 0,0; ENDEL | At(2, Rule(ColRow))
+AREF; SNAME 41 42; COLROW -1 1; XY 0,0 0,0 0,0; ENDEL | At(2, Rule(ColRow))
+AREF; SNAME 41 42; COLROW 1 1; XY 0,0 0,0; ENDEL | At(3, Rule(Points))
+AREF; SNAME 41 42; COLROW 1 1; \
+    XY -2147483648,-2147483648 2147483647,-2147483648 -2147483648,2147483647; ENDEL | -
 ";
-
-fn array_text(alloc: Global, counts: &str, points: &str) -> Result<String, Fail> {
-    let (columns, rows) = cut(counts, " ");
-    let points = points_of(alloc, points)?;
-    let drawn = array(
-        alloc,
-        columns.parse::<i16>()?,
-        rows.parse::<i16>()?,
-        &points,
-    );
-    Ok(stop_text(alloc, drawn.err())?)
-}
 
 #[test]
 fn array_limits(rt: HostRuntime) -> Result<(), Fail> {
-    for row in ARRAYS.lines() {
-        let (counts, words) = cut(row, " | ");
-        let (points, want) = cut(words, " | ");
-        let text = array_text(rt.alloc(), counts, points)?;
-        assert_eq!(rt; text.as_str(), want, "{row}");
-    }
-    Ok(())
+    check_stops(&rt, rt.alloc(), ARRAYS)
 }
 
-const BOUNDARY: Line<'static> = (ty::BOUNDARY, Says::Nothing);
-
-const PATH: Line<'static> = (ty::PATH, Says::Nothing);
-
-const SREF: Line<'static> = (ty::SREF, Says::Nothing);
-
-const TEXT: Line<'static> = (ty::TEXT, Says::Nothing);
-
-const LAYER: Line<'static> = (ty::LAYER, Says::Short(1));
-
-const DATATYPE: Line<'static> = (ty::DATATYPE, Says::Short(0));
-
-const NAME: Line<'static> = (ty::SNAME, Says::Bytes(b"A\0"));
-
-const TWO: Line<'static> = (ty::XY, Says::Points(&[(0, 0), (4, 0)]));
-
-const OPEN: Line<'static> = (ty::XY, Says::Points(&[(0, 0), (1, 1), (2, 0), (0, 1)]));
-
-const OBLIQUE: Line<'static> = (ty::XY, Says::Points(&[(0, 0), (1, 1), (1, 0), (0, 0)]));
-
-/// The records of elements, and what is reported of each.
-static REFUSALS: [(&[Line<'static>], &str); 18] = [
-    (&[BOUNDARY, DATATYPE], "At(1, Misplaced(Unexpected(14)))"),
-    (
-        &[BOUNDARY, (0x2D, Says::Nothing)],
-        "At(1, Misplaced(Unsupported(45)))",
-    ),
-    (&[BOUNDARY, LAYER, DATATYPE, TWO], "At(3, Rule(Points))"),
-    (&[BOUNDARY, LAYER, DATATYPE, OPEN], "At(3, Rule(NotClosed))"),
-    (
-        &[BOUNDARY, LAYER, DATATYPE, OBLIQUE],
-        "At(3, Rule(Oblique))",
-    ),
-    (
-        &[BOUNDARY, (ty::LAYER, Says::Short(-1))],
-        "At(1, Rule(Layer))",
-    ),
-    (
-        &[PATH, LAYER, (ty::DATATYPE, Says::Short(-1))],
-        "At(2, Rule(Layer))",
-    ),
-    (&[PATH, LAYER, DATATYPE, TWO], "At(3, Rule(Width))"),
-    (
-        &[PATH, LAYER, DATATYPE, (ty::PATHTYPE, Says::Short(1))],
-        "At(3, Rule(PathType))",
-    ),
-    (
-        &[
-            PATH,
-            LAYER,
-            DATATYPE,
-            (ty::WIDTH, Says::Long(2)),
-            (ty::PATHTYPE, Says::Short(0)),
-        ],
-        "At(4, Misplaced(Unexpected(33)))",
-    ),
-    (
-        &[SREF, (ty::SNAME, Says::Bytes(b"\0"))],
-        "At(1, Rule(Name))",
-    ),
-    (
-        &[SREF, NAME, (ty::STRANS, Says::Short(0x0004))],
-        "At(2, Rule(Strans))",
-    ),
-    (
-        &[
-            SREF,
-            NAME,
-            (ty::STRANS, Says::Short(0)),
-            (ty::MAG, Says::Bytes(&TWICE)),
-        ],
-        "At(3, Rule(Magnification))",
-    ),
-    (
-        &[
-            SREF,
-            NAME,
-            (ty::STRANS, Says::Short(0)),
-            (ty::ANGLE, Says::Bytes(&DEGREES_45)),
-        ],
-        "At(3, Rule(Angle))",
-    ),
-    (
-        &[SREF, NAME, (ty::ANGLE, Says::Bytes(&DEGREES_90))],
-        "At(2, Misplaced(Unexpected(28)))",
-    ),
-    (&[SREF, NAME, TWO], "At(2, Rule(Points))"),
-    (
-        &[TEXT, LAYER, (ty::TEXTTYPE, Says::Short(-1)), TWO],
-        "At(3, Rule(Points))",
-    ),
-    (&[TEXT, LAYER, BOUNDARY], "At(2, Misplaced(Unexpected(8)))"),
-];
+/// Elements of each type, up to the record that is refused.
+const REFUSALS: &str = "\
+BOUNDARY; DATATYPE 0 | At(1, Misplaced(Unexpected(14)))
+BOUNDARY; BOX | At(1, Misplaced(Unsupported(45)))
+BOUNDARY; LAYER 1; DATATYPE 0; XY 0,0 4,0 | At(3, Rule(Points))
+BOUNDARY; LAYER 1; DATATYPE 0; XY 0,0 1,1 2,0 0,1 | At(3, Rule(NotClosed))
+BOUNDARY; LAYER 1; DATATYPE 0; XY 0,0 1,1 1,0 0,0 | At(3, Rule(Oblique))
+BOUNDARY; LAYER -1 | At(1, Rule(Layer))
+PATH; LAYER 1; DATATYPE -1 | At(2, Rule(Layer))
+PATH; LAYER 1; DATATYPE 0; XY 0,0 4,0 | At(3, Rule(Width))
+PATH; LAYER 1; DATATYPE 0; PATHTYPE 1 | At(3, Rule(PathType))
+PATH; LAYER 1; DATATYPE 0; WIDTH 2; PATHTYPE 0 | At(4, Misplaced(Unexpected(33)))
+SREF; SNAME 00 | At(1, Rule(Name))
+SREF; SNAME 41 00; STRANS 4 | At(2, Rule(Strans))
+SREF; SNAME 41 00; STRANS 0; MAG 41 20 00 00 00 00 00 00 | At(3, Rule(Magnification))
+SREF; SNAME 41 00; STRANS 0; ANGLE 42 2D 00 00 00 00 00 00 | At(3, Rule(Angle))
+SREF; SNAME 41 00; ANGLE 42 5A 00 00 00 00 00 00 | At(2, Misplaced(Unexpected(28)))
+SREF; SNAME 41 00; XY 0,0 4,0 | At(2, Rule(Points))
+TEXT; LAYER 1; TEXTTYPE -1; XY 0,0 4,0 | At(3, Rule(Points))
+TEXT; LAYER 1; BOUNDARY | At(2, Misplaced(Unexpected(8)))
+";
 
 #[test]
 fn the_first_rule_is_reported(rt: HostRuntime) -> Result<(), Fail> {
-    for (lines, want) in REFUSALS.iter() {
-        let text = stop_text(rt.alloc(), stop_of(rt.alloc(), lines))?;
-        assert_eq!(rt; text.as_str(), *want);
-    }
-    Ok(())
+    check_stops(&rt, rt.alloc(), REFUSALS)
 }

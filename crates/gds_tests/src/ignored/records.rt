@@ -1,95 +1,62 @@
 //! A library with each of the five elements, and the records that may be ignored, byte by byte.
 
 /// The records of a library with one structure, each with the offset of its first byte.
-pub static RECORDS: [(u64, &[u8]); 34] = [
-    (0, b"\x00\x06\x00\x02\x02\x58"),
-    (
-        6,
-        b"\x00\x1C\x01\x02\0\0\0\0\0\0\0\0\0\0\0\0\0\0\0\0\0\0\0\0\0\0\0\0",
-    ),
-    (34, b"\x00\x06\x02\x06LB"),
-    (40, b"\x00\x14\x03\x05A\x10\0\0\0\0\0\0A\x10\0\0\0\0\0\0"),
-    (
-        60,
-        b"\x00\x1C\x05\x02\0\0\0\0\0\0\0\0\0\0\0\0\0\0\0\0\0\0\0\0\0\0\0\0",
-    ),
-    (88, b"\x00\x08\x06\x06TOP\0"),
-    // BOUNDARY LAYER DATATYPE XY ENDEL
-    (96, b"\x00\x04\x08\x00"),
-    (100, LAYER),
-    (106, b"\x00\x06\x0E\x02\0\0"),
-    (
-        112,
-        b"\x00\x2C\x10\x03\0\0\0\0\0\0\0\0\0\0\0\x0A\0\0\0\0\0\0\0\x0A\0\0\0\x0A\0\0\0\0\0\0\0\x0A\0\0\0\0\0\0\0\0",
-    ),
-    (156, ENDEL),
-    // PATH LAYER DATATYPE WIDTH XY ENDEL
-    (160, b"\x00\x04\x09\x00"),
-    (164, LAYER),
-    (170, b"\x00\x06\x0E\x02\0\0"),
-    (176, b"\x00\x08\x0F\x03\0\0\0\x04"),
-    (184, b"\x00\x14\x10\x03\0\0\0\0\0\0\0\0\0\0\0\x0A\0\0\0\0"),
-    (204, ENDEL),
-    // SREF SNAME XY ENDEL
-    (208, b"\x00\x04\x0A\x00"),
-    (212, b"\x00\x08\x12\x06SUB\0"),
-    (220, b"\x00\x0C\x10\x03\0\0\0\0\0\0\0\0"),
-    (232, ENDEL),
-    // AREF SNAME COLROW XY ENDEL
-    (236, b"\x00\x04\x0B\x00"),
-    (240, b"\x00\x08\x12\x06SUB\0"),
-    (248, b"\x00\x08\x13\x02\0\x02\0\x01"),
-    (
-        256,
-        b"\x00\x1C\x10\x03\0\0\0\0\0\0\0\0\0\0\0\x14\0\0\0\0\0\0\0\0\0\0\0\x0A",
-    ),
-    (284, ENDEL),
-    // TEXT LAYER TEXTTYPE XY STRING ENDEL
-    (288, b"\x00\x04\x0C\x00"),
-    (292, LAYER),
-    (298, b"\x00\x06\x16\x02\0\0"),
-    (304, b"\x00\x0C\x10\x03\0\0\0\0\0\0\0\0"),
-    (316, b"\x00\x06\x19\x06HI"),
-    (322, ENDEL),
-    (326, b"\x00\x04\x07\x00"),
-    (330, b"\x00\x04\x04\x00"),
-];
+pub const RECORDS: &str = "\
+0 HEADER | 00 06 00 02 02 58
+6 BGNLIB | 00 1C 01 02 00 00 00 00 00 00 00 00 00 00 00 00 00 00 00 00 00 00 00 00 00 00 00 00
+34 LIBNAME | 00 06 02 06 4C 42
+40 UNITS | 00 14 03 05 41 10 00 00 00 00 00 00 41 10 00 00 00 00 00 00
+60 BGNSTR | 00 1C 05 02 00 00 00 00 00 00 00 00 00 00 00 00 00 00 00 00 00 00 00 00 00 00 00 00
+88 STRNAME | 00 08 06 06 54 4F 50 00
+96 BOUNDARY | 00 04 08 00
+100 LAYER | 00 06 0D 02 00 01
+106 DATATYPE | 00 06 0E 02 00 00
+112 XY | 00 2C 10 03 00 00 00 00 00 00 00 00 00 00 00 0A 00 00 00 00 00 00 00 0A 00 00 00 0A \
+    00 00 00 00 00 00 00 0A 00 00 00 00 00 00 00 00
+156 ENDEL | 00 04 11 00
+160 PATH | 00 04 09 00
+164 LAYER | 00 06 0D 02 00 01
+170 DATATYPE | 00 06 0E 02 00 00
+176 WIDTH | 00 08 0F 03 00 00 00 04
+184 XY | 00 14 10 03 00 00 00 00 00 00 00 00 00 00 00 0A 00 00 00 00
+204 ENDEL | 00 04 11 00
+208 SREF | 00 04 0A 00
+212 SNAME | 00 08 12 06 53 55 42 00
+220 XY | 00 0C 10 03 00 00 00 00 00 00 00 00
+232 ENDEL | 00 04 11 00
+236 AREF | 00 04 0B 00
+240 SNAME | 00 08 12 06 53 55 42 00
+248 COLROW | 00 08 13 02 00 02 00 01
+256 XY | 00 1C 10 03 00 00 00 00 00 00 00 00 00 00 00 14 00 00 00 00 00 00 00 00 00 00 00 0A
+284 ENDEL | 00 04 11 00
+288 TEXT | 00 04 0C 00
+292 LAYER | 00 06 0D 02 00 01
+298 TEXTTYPE | 00 06 16 02 00 00
+304 XY | 00 0C 10 03 00 00 00 00 00 00 00 00
+316 STRING | 00 06 19 06 48 49
+322 ENDEL | 00 04 11 00
+326 ENDSTR | 00 04 07 00
+330 ENDLIB | 00 04 04 00
+";
 
-pub const LAYER: &[u8] = b"\x00\x06\x0D\x02\0\x01";
-
-const ENDEL: &[u8] = b"\x00\x04\x11\x00";
-
-pub const LIBDIRSIZE: &[u8] = b"\x00\x06\x39\x02\0\x0A";
-
-pub const SRFNAME: &[u8] = b"\x00\x06\x3A\x06SR";
-
-pub const LIBSECUR: &[u8] = b"\x00\x0A\x3B\x02\0\x01\0\x02\0\x07";
-
-pub const REFLIBS: &[u8] = b"\x00\x08\x1F\x06REF\0";
-
-pub const FONTS: &[u8] = b"\x00\x08\x20\x06FON\0";
-
-pub const ATTRTABLE: &[u8] = b"\x00\x08\x23\x06ATT\0";
-
-pub const GENERATIONS: &[u8] = b"\x00\x06\x22\x02\0\x03";
-
-pub const FORMAT_0: &[u8] = b"\x00\x06\x36\x02\0\0";
-
-pub const FORMAT_1: &[u8] = b"\x00\x06\x36\x02\0\x01";
-
-pub const STRCLASS: &[u8] = b"\x00\x06\x34\x01\0\x01";
-
-pub const ELFLAGS: &[u8] = b"\x00\x06\x26\x01\0\x02";
-
-pub const PLEX: &[u8] = b"\x00\x08\x2F\x03\0\0\0\x07";
-
-pub const PROPATTR: &[u8] = b"\x00\x06\x2B\x02\0\x01";
-
-pub const PROPVALUE: &[u8] = b"\x00\x08\x2C\x06NET\0";
-
-/// Records that are never ignored.
-pub const BOX: &[u8] = b"\x00\x04\x2D\x00";
-
-pub const NODE: &[u8] = b"\x00\x04\x15\x00";
-
-pub const MASK: &[u8] = b"\x00\x06\x37\x061A";
+/// Records that may be ignored, and LAYER, BOX, NODE and MASK, which never are.
+pub const MORE: &str = "\
+LAYER 00 06 0D 02 00 01
+LIBDIRSIZE 00 06 39 02 00 0A
+SRFNAME 00 06 3A 06 53 52
+LIBSECUR 00 0A 3B 02 00 01 00 02 00 07
+REFLIBS 00 08 1F 06 52 45 46 00
+FONTS 00 08 20 06 46 4F 4E 00
+ATTRTABLE 00 08 23 06 41 54 54 00
+GENERATIONS 00 06 22 02 00 03
+FORMAT_0 00 06 36 02 00 00
+FORMAT_1 00 06 36 02 00 01
+STRCLASS 00 06 34 01 00 01
+ELFLAGS 00 06 26 01 00 02
+PLEX 00 08 2F 03 00 00 00 07
+PROPATTR 00 06 2B 02 00 01
+PROPVALUE 00 08 2C 06 4E 45 54 00
+BOX 00 04 2D 00
+NODE 00 04 15 00
+MASK 00 06 37 06 31 41
+";

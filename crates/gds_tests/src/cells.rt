@@ -1,0 +1,70 @@
+//! Cells as text: each with its name, its shapes and its references.
+//!
+//! A shape is written with its Layer, at how many shifts it stands, and the points of its rings, and a reference
+//! with its cell, whether and how it is turned, where it is, and its shifts.
+use lvl_cells::{Cell, KeptReference, Library, MovedRing, Shapes};
+use lvl_grid::Point;
+use std::alloc::{AllocError, Global};
+
+fn add_point(alloc: Global, text: &mut String, point: Point) -> Result<(), AllocError> {
+    let Point { x, y } = point;
+    text.push_str(&format!(in alloc; " {x},{y}")?)
+}
+
+fn add_ring(alloc: Global, text: &mut String, ring: &MovedRing<'_>) -> Result<(), AllocError> {
+    text.push_str(";")?;
+    for k in 0..ring.len() {
+        if let Some(point) = ring.get(k) {
+            add_point(alloc, text, point)?;
+        }
+    }
+    Ok(())
+}
+
+fn add_shapes(alloc: Global, text: &mut String, shapes: &Shapes) -> Result<(), AllocError> {
+    for i in 0..shapes.len() {
+        let on = shapes.layer(i);
+        let count = shapes.shift_count(i);
+        text.push_str(&format!(in alloc; " / {}/{}*{count}", on.layer, on.datatype)?)?;
+        for j in 0..shapes.ring_count(i) {
+            add_ring(alloc, text, &shapes.ring(i, j))?;
+        }
+    }
+    Ok(())
+}
+
+fn add_reference(
+    alloc: Global,
+    text: &mut String,
+    reference: &KeptReference<'_>,
+) -> Result<(), AllocError> {
+    let cell = String::from_utf8_lossy(alloc, reference.cell())?;
+    let (flip, turn) = (reference.flip(), reference.turn());
+    text.push_str(&format!(in alloc; " / {cell} {flip} {turn:?}")?)?;
+    add_point(alloc, text, reference.at())?;
+    text.push_str(";")?;
+    for k in 0..reference.shifts().len() {
+        if let Some(shift) = reference.shifts().at(k) {
+            add_point(alloc, text, shift)?;
+        }
+    }
+    Ok(())
+}
+
+fn add_cell(alloc: Global, text: &mut String, cell: &Cell) -> Result<(), AllocError> {
+    text.push_str(&String::from_utf8_lossy(alloc, cell.name.as_bytes())?)?;
+    add_shapes(alloc, text, &cell.shapes)?;
+    for j in 0..cell.references.len() {
+        add_reference(alloc, text, &cell.references.reference(j))?;
+    }
+    text.push_str("\n")
+}
+
+/// The cells of a library, each in a line.
+pub(crate) fn library_text(alloc: Global, library: &Library) -> Result<String, AllocError> {
+    let mut text = String::new(alloc);
+    for cell in library.cells.iter() {
+        add_cell(alloc, &mut text, cell)?;
+    }
+    Ok(text)
+}
