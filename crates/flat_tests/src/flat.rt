@@ -1,10 +1,11 @@
 //! What small libraries flatten to.
+use crate::rows::{check_text, cut, point};
 use lvl_cells::{Cell, Checked, Library, Reference, References, Shapes, check};
 use lvl_flat::{Flat, FlatFault, flatten};
-use lvl_grid::{Map, Point, Ring, Rings, Square, Turn};
+use lvl_grid::{Map, Point, Ring, Rings, Square, Turn, Window};
 use lvl_names::{Layer, Name, Offsets};
 use lvl_refusal::Cause;
-use std::alloc::Global;
+use std::alloc::{AllocError, Global};
 use std::test::Fail;
 
 const METAL: Layer = Layer {
@@ -13,23 +14,6 @@ const METAL: Layer = Layer {
 };
 
 const ORIGIN: Point = Point { x: 0, y: 0 };
-
-/// The rectangle between two corners.
-fn rectangle(alloc: Global, low: Point, high: Point) -> Result<Ring, Fail> {
-    let corners = [
-        low,
-        Point {
-            x: high.x,
-            y: low.y,
-        },
-        high,
-        Point {
-            x: low.x,
-            y: high.y,
-        },
-    ];
-    Ok(Ring::new(corners.to_vec(alloc)?)?)
-}
 
 /// A cell that draws the ring once on the Layer.
 fn with_ring(alloc: Global, name: &str, layer: Layer, ring: &Ring) -> Result<Cell, Fail> {
@@ -44,7 +28,7 @@ fn with_ring(alloc: Global, name: &str, layer: Layer, ring: &Ring) -> Result<Cel
 
 /// A cell that draws the rectangle once on the Layer.
 fn drawing(alloc: Global, name: &str, layer: Layer, low: Point, high: Point) -> Result<Cell, Fail> {
-    with_ring(alloc, name, layer, &rectangle(alloc, low, high)?)
+    with_ring(alloc, name, layer, &Ring::rectangle(alloc, low, high)?)
 }
 
 /// What places a cell by the map.
@@ -87,25 +71,38 @@ fn rectangle_placed(
 }
 
 /// The least and the greatest corner of the points.
-fn corners(points: &[Point]) -> Option<(i64, i64, i64, i64)> {
+fn corners(points: &[Point]) -> Option<Window> {
     let first = points.first()?;
-    let mut found = (first.x, first.y, first.x, first.y);
+    let mut found = Window {
+        x0: first.x,
+        y0: first.y,
+        x1: first.x,
+        y1: first.y,
+    };
     for point in points {
-        found = (
-            found.0.min(point.x),
-            found.1.min(point.y),
-            found.2.max(point.x),
-            found.3.max(point.y),
-        );
+        found.x0 = found.x0.min(point.x);
+        found.y0 = found.y0.min(point.y);
+        found.x1 = found.x1.max(point.x);
+        found.y1 = found.y1.max(point.y);
     }
     Some(found)
 }
 
-/// The least and the greatest corner of the first ring to which the library flattens.
-fn flat_corners(alloc: Global, checked: &Checked) -> Result<Option<(i64, i64, i64, i64)>, Fail> {
-    let flat = flatten(alloc, checked).ok().ok_or("refused")?;
-    let ring = flat.rings(METAL).get(0).ok_or("no ring")?;
-    Ok(corners(ring))
+/// The corners of each of the rings, as `0,0 4,2;`.
+fn corners_text(alloc: Global, rings: &Rings) -> Result<String, AllocError> {
+    let mut text = String::new(alloc);
+    for i in 0..rings.len() {
+        if let Some(Window { x0, y0, x1, y1 }) = corners(rings.ring(i)) {
+            text.push_str(&format!(in alloc; "{x0},{y0} {x1},{y1};")?)?;
+        }
+    }
+    Ok(text)
+}
+
+/// The corners of the rings to which the library flattens.
+fn flat_corners(alloc: Global, checked: &Checked) -> Result<String, Fail> {
+    let flat = flatten(alloc, checked)?;
+    Ok(corners_text(alloc, flat.rings(METAL))?)
 }
 
 fn turned(flip: bool, turn: Turn, x: i64, y: i64) -> Map {
@@ -116,42 +113,50 @@ fn turned(flip: bool, turn: Turn, x: i64, y: i64) -> Map {
     }
 }
 
+fn turn_of(word: &str) -> Turn {
+    match word {
+        "R90" => Turn::R90,
+        "R180" => Turn::R180,
+        "R270" => Turn::R270,
+        _ => Turn::R0,
+    }
+}
+
+/// Maps that place the rectangle from 0,0 to 3,1 inside one that sends (x, y) to (10 - y, 20 + x): whether they
+/// flip, how they turn, and where they move to; and the corners to which the rectangle comes.
+const MAPS: &str = "\
+plain | false R0 0,0 | 9,20 10,23;
+quarter | false R90 0,0 | 7,19 10,20;
+half | false R180 0,0 | 10,17 11,20;
+three quarters | false R270 0,0 | 10,20 13,21;
+flipped | true R0 0,0 | 10,20 11,23;
+flip-then-turn | true R90 0,0 | 7,20 10,21;
+flipped half | true R180 0,0 | 9,17 10,20;
+flipped three quarters | true R270 0,0 | 10,19 13,20;
+shifted | false R0 5,-2 | 11,25 12,28;
+";
+
+/// The map of words as those of `MAPS`.
+fn map_of(words: &str) -> Result<Map, Fail> {
+    let (flip, words) = cut(words, " ");
+    let (turn, at) = cut(words, " ");
+    let Point { x, y } = point(at)?;
+    Ok(turned(flip == "true", turn_of(turn), x, y))
+}
+
+/// The corners to which the rectangle comes.
+fn corners_by(alloc: Global, inner: Map) -> Result<String, Fail> {
+    let outer = turned(false, Turn::R90, 10, 20);
+    let checked = rectangle_placed(alloc, ORIGIN, Point { x: 3, y: 1 }, outer, inner)?;
+    flat_corners(alloc, &checked)
+}
+
 #[test]
 fn maps_two_levels_deep(rt: HostRuntime) -> Result<(), Fail> {
-    let low = ORIGIN;
-    let high = Point { x: 3, y: 1 };
-    let outer = turned(false, Turn::R90, 10, 20);
-    // The inner map places the rectangle; the outer sends (x, y) to (10 - y, 20 + x).
-    let rows = [
-        ("plain", turned(false, Turn::R0, 0, 0), (9, 20, 10, 23)),
-        ("quarter", turned(false, Turn::R90, 0, 0), (7, 19, 10, 20)),
-        ("half", turned(false, Turn::R180, 0, 0), (10, 17, 11, 20)),
-        (
-            "three quarters",
-            turned(false, Turn::R270, 0, 0),
-            (10, 20, 13, 21),
-        ),
-        ("flipped", turned(true, Turn::R0, 0, 0), (10, 20, 11, 23)),
-        (
-            "flip-then-turn",
-            turned(true, Turn::R90, 0, 0),
-            (7, 20, 10, 21),
-        ),
-        (
-            "flipped half",
-            turned(true, Turn::R180, 0, 0),
-            (9, 17, 10, 20),
-        ),
-        (
-            "flipped three quarters",
-            turned(true, Turn::R270, 0, 0),
-            (10, 19, 13, 20),
-        ),
-        ("shifted", turned(false, Turn::R0, 5, -2), (11, 25, 12, 28)),
-    ];
-    for (name, inner, want) in rows {
-        let checked = rectangle_placed(rt.alloc(), low, high, outer, inner)?;
-        assert_eq!(rt; flat_corners(rt.alloc(), &checked)?, Some(want), "{name}");
+    for row in MAPS.lines() {
+        let (_, words) = cut(row, " | ");
+        let (map, want) = cut(words, " | ");
+        check_text(&rt, &corners_by(rt.alloc(), map_of(map)?)?, want, row);
     }
     Ok(())
 }
@@ -160,10 +165,7 @@ fn maps_two_levels_deep(rt: HostRuntime) -> Result<(), Fail> {
 /// so far beside it.
 fn turned_at_edge(alloc: Global, beside: i64) -> Result<Checked, Fail> {
     let low = Point { x: i64::MIN, y: 0 };
-    let high = Point {
-        x: i64::MIN + 1,
-        y: 1,
-    };
+    let high = low.offset(1, 1).ok_or("a corner")?;
     let plain = turned(false, Turn::R0, 0, 0);
     let half = turned(false, Turn::R180, beside, 0);
     rectangle_placed(alloc, low, high, half, plain)
@@ -172,23 +174,27 @@ fn turned_at_edge(alloc: Global, beside: i64) -> Result<Checked, Fail> {
 #[test]
 fn placed_at_range_edge(rt: HostRuntime) -> Result<(), Fail> {
     let checked = turned_at_edge(rt.alloc(), -1)?;
+    let found = flat_corners(rt.alloc(), &checked)?;
     assert_eq!(rt;
-        flat_corners(rt.alloc(), &checked)?,
-        Some((i64::MAX - 1, -1, i64::MAX, 0))
+        found.as_str(),
+        "9223372036854775806,-1 9223372036854775807,0;"
     );
     Ok(())
+}
+
+/// The cell for which the library is refused.
+fn refused_cell(alloc: Global, checked: &Checked) -> Result<Vec<u8>, Fail> {
+    match flatten(alloc, checked) {
+        Err(Cause::Breach(FlatFault::OutOfRange(name))) => Ok(name),
+        _ => Err(Fail::from("not out of range")),
+    }
 }
 
 #[test]
 fn refused_at_range_edge(rt: HostRuntime) -> Result<(), Fail> {
     let checked = turned_at_edge(rt.alloc(), 0)?;
-    match flatten(rt.alloc(), &checked) {
-        Err(Cause::Breach(FlatFault::OutOfRange(name))) => assert_eq!(rt;
-            name.as_slice(),
-            b"A".as_slice()
-        ),
-        _ => return Err("not out of range".into()),
-    }
+    let name = refused_cell(rt.alloc(), &checked)?;
+    assert_eq!(rt; name.as_slice(), b"A".as_slice());
     Ok(())
 }
 
@@ -199,14 +205,11 @@ const QUARTER: i64 = 1 << 62;
 /// shifts: the second and that displacement are outside 64 bits together, where no square comes to lie.
 fn moved_far(alloc: Global) -> Result<Checked, Fail> {
     let low = Point { x: i64::MIN, y: 0 };
-    let high = Point {
-        x: i64::MIN + 1,
-        y: 1,
-    };
+    let high = low.offset(1, 1).ok_or("a corner")?;
     let far = Point { x: i64::MAX, y: 0 };
     let shifts = Offsets::new([ORIGIN, far].to_vec(alloc)?).ok_or("shifts")?;
     let mut cell = drawing(alloc, "A", METAL, low, high)?;
-    let moved = rectangle(
+    let moved = Ring::rectangle(
         alloc,
         Point {
             x: low.x + QUARTER,
@@ -223,19 +226,16 @@ fn moved_far(alloc: Global) -> Result<Checked, Fail> {
     Ok(check(alloc, Library { cells }, None)?)
 }
 
+/// The corners of the square, and of those that the shifts and a quarter of the range move it to.
+const MOVED: &str = "\
+    -9223372036854775808,0 -9223372036854775807,1;\
+    -4611686018427387904,0 -4611686018427387903,1;\
+    4611686018427387903,0 4611686018427387904,1;";
+
 #[test]
 fn moved_outside_and_back(rt: HostRuntime) -> Result<(), Fail> {
     let checked = moved_far(rt.alloc())?;
-    let flat = flatten(rt.alloc(), &checked).ok().ok_or("refused")?;
-    let rings = flat.rings(METAL);
-    assert_eq!(rt; rings.len(), 3);
-    for (i, left) in [i64::MIN, i64::MIN + QUARTER, QUARTER - 1]
-        .iter()
-        .enumerate()
-    {
-        let want = (*left, 0, left + 1, 1);
-        assert_eq!(rt; rings.get(i).and_then(corners), Some(want), "{i}");
-    }
+    check_text(&rt, &flat_corners(rt.alloc(), &checked)?, MOVED, "moved");
     Ok(())
 }
 
@@ -249,7 +249,7 @@ const FAR: Layer = Layer {
 fn layered_top(alloc: Global) -> Result<Cell, Fail> {
     let mut top = drawing(alloc, "TOP", METAL, ORIGIN, Point { x: 1, y: 1 })?;
     for (layer, datatype) in [(7, 1), (0, 9), (7, 0), (1, 0)] {
-        let ring = rectangle(alloc, ORIGIN, Point { x: 1, y: 1 })?;
+        let ring = Ring::rectangle(alloc, ORIGIN, Point { x: 1, y: 1 })?;
         let layer = Layer { layer, datatype };
         top.shapes
             .push_ring(layer, ring.points(), &Offsets::single())?;
@@ -265,23 +265,29 @@ fn layered(alloc: Global) -> Result<Checked, Fail> {
     Ok(check(alloc, Library { cells }, Some(b"TOP"))?)
 }
 
+/// The Layers of a flat layout in their order, each with how many rings it has.
+fn layers_text(alloc: Global, flat: &Flat) -> Result<String, AllocError> {
+    let mut text = String::new(alloc);
+    for place in 0..flat.len() {
+        if let Some(on) = flat.layer(place) {
+            let rings = flat.rings(on).len();
+            text.push_str(&format!(in alloc; "{}/{} {rings};", on.layer, on.datatype)?)?;
+        }
+    }
+    Ok(text)
+}
+
+/// The Layers to which that library flattens, and how many rings there are on the one out of reach.
+fn layered_text(alloc: Global) -> Result<String, Fail> {
+    let flat = flatten(alloc, &layered(alloc)?)?;
+    let layers = layers_text(alloc, &flat)?;
+    Ok(format!(in alloc; "{layers} {}", flat.rings(FAR).len())?)
+}
+
 #[test]
 fn layers_in_order(rt: HostRuntime) -> Result<(), Fail> {
-    let checked = layered(rt.alloc())?;
-    let flat = flatten(rt.alloc(), &checked)?;
-    for (place, want) in [
-        (0, Some((0, 9))),
-        (1, Some((1, 0))),
-        (2, Some((7, 0))),
-        (3, Some((7, 1))),
-        (4, None),
-    ] {
-        let found = flat.layer(place).map(|layer| (layer.layer, layer.datatype));
-        assert_eq!(rt; found, want, "{place}");
-    }
-    assert_eq!(rt; flat.rings(METAL).len(), 2);
-    // It is absent.
-    assert_eq!(rt; flat.rings(FAR).len(), 0);
+    let found = layered_text(rt.alloc())?;
+    assert_eq!(rt; found.as_str(), "0/9 1;1/0 2;7/0 1;7/1 1; 0");
     Ok(())
 }
 
@@ -289,8 +295,6 @@ fn layers_in_order(rt: HostRuntime) -> Result<(), Fail> {
 const L: [(i64, i64); 6] = [(0, 0), (3, 0), (3, 1), (1, 1), (1, 2), (0, 2)];
 
 const L_SQUARES: [(i64, i64); 4] = [(0, 0), (1, 0), (2, 0), (0, 1)];
-
-const TURNS: [Turn; 4] = [Turn::R0, Turn::R90, Turn::R180, Turn::R270];
 
 /// Where a map sends a point, as it is defined: reflected, turned, then moved.
 fn sent(map: Map, x: i64, y: i64) -> (i64, i64) {
@@ -313,10 +317,13 @@ fn square_sent(map: Map, x: i64, y: i64) -> (i64, i64) {
 
 /// Whether some square of the L is sent to this one, by one map and then another.
 fn is_drawn(inner: Map, outer: Map, x: i64, y: i64) -> bool {
-    L_SQUARES.iter().any(|(a, b)| {
-        let (c, d) = square_sent(inner, *a, *b);
-        square_sent(outer, c, d) == (x, y)
-    })
+    for (a, b) in L_SQUARES {
+        let (c, d) = square_sent(inner, a, b);
+        if square_sent(outer, c, d) == (x, y) {
+            return true;
+        }
+    }
+    false
 }
 
 /// The L in a cell A, as two maps one above the other place it.
@@ -347,28 +354,40 @@ fn flat_astray(alloc: Global, outer: Map, inner: Map) -> Result<Option<(i64, i64
     Ok(astray(flat.rings(METAL), outer, inner))
 }
 
+/// The eight maps that flip, or not, and turn, and move this far.
+fn maps(x: i64, y: i64) -> [Map; 8] {
+    [
+        turned(false, Turn::R0, x, y),
+        turned(false, Turn::R90, x, y),
+        turned(false, Turn::R180, x, y),
+        turned(false, Turn::R270, x, y),
+        turned(true, Turn::R0, x, y),
+        turned(true, Turn::R90, x, y),
+        turned(true, Turn::R180, x, y),
+        turned(true, Turn::R270, x, y),
+    ]
+}
+
 #[test]
 fn all_maps_of_an_l(rt: HostRuntime) -> Result<(), Fail> {
-    for inner_flip in [false, true] {
-        for outer_flip in [false, true] {
-            for inner_turn in TURNS {
-                for outer_turn in TURNS {
-                    let inner = turned(inner_flip, inner_turn, 2, -1);
-                    let outer = turned(outer_flip, outer_turn, -3, 1);
-                    let found = flat_astray(rt.alloc(), outer, inner)?;
-                    assert_eq!(rt; found, None, "{inner:?} {outer:?}");
-                }
-            }
+    for inner in maps(2, -1) {
+        for outer in maps(-3, 1) {
+            let found = flat_astray(rt.alloc(), outer, inner)?;
+            assert_eq!(rt; found, None, "{inner:?} {outer:?}");
         }
     }
     Ok(())
 }
 
+/// How many Layers the L has, placed once and once more, and how many rings on the first.
+fn flat_counts(alloc: Global) -> Result<(usize, usize), Fail> {
+    let plain = turned(false, Turn::R0, 0, 0);
+    let flat = l_placed_twice(alloc, plain, plain)?;
+    Ok((flat.len(), flat.rings(METAL).len()))
+}
+
 #[test]
 fn growths(rt: HostRuntime) -> Result<(), Fail> {
-    let plain = turned(false, Turn::R0, 0, 0);
-    let flat = l_placed_twice(rt.alloc(), plain, plain)?;
-    assert_eq!(rt; flat.len(), 1);
-    assert_eq!(rt; flat.rings(METAL).len(), 1);
+    assert_eq!(rt; flat_counts(rt.alloc())?, (1, 1));
     Ok(())
 }

@@ -1,10 +1,12 @@
 //! Rings that lie over one another, drawn in a window with room for few points.
+use crate::rows::{check_text, cut, point};
 use crate::within::{METAL, count, drawn, spread};
 use lvl_cells::Checked;
 use lvl_flat::Fitted;
 use lvl_grid::{Point, Window};
 use lvl_names::Offsets;
 use std::alloc::Global;
+use std::process::Abort;
 use std::test::Fail;
 
 /// The whole of what is drawn.
@@ -15,44 +17,55 @@ const WHOLE: Window = Window {
     y1: 20,
 };
 
-/// How many squares are covered and how many points are held, or None if out of memory.
-fn held(alloc: Global, checked: Checked, most: usize) -> Result<Option<(u64, usize)>, Fail> {
+/// How many squares are covered and how many points are held, or `-` if that needs more points than `most`.
+fn held(alloc: Global, checked: Checked, most: usize) -> Result<String, Fail> {
     let fitted = Fitted::new(alloc, checked)?;
-    let Ok(flat) = fitted.within(alloc, &[METAL], &WHOLE, most) else {
-        return Ok(None);
-    };
-    Ok(Some((count(&flat), flat.rings(METAL).points().len())))
+    match fitted.within(alloc, &[METAL], &WHOLE, most) {
+        Ok(flat) => {
+            let points = flat.rings(METAL).points().len();
+            Ok(format!(in alloc; "{} {points}", count(&flat))?)
+        }
+        Err(_) => Ok(String::from_str(alloc, "-")?),
+    }
+}
+
+/// The step, how often, the most points, and what is covered and held: a rectangle lies on itself again, above
+/// itself, and beside itself.
+const STEPS: &str = "\
+0,0 1000 40 | 8 40
+0,0 10 40 | 8 40
+0,0 11 40 | 8 4
+0,0 1000 4 | 8 4
+0,0 1000 3 | -
+0,1 15 40 | 64 20
+10,0 5 20 | 40 20
+10,0 15 40 | -
+";
+
+fn lattice(step: &str, times: &str) -> Result<Offsets, Fail> {
+    let once = Point { x: 0, y: 0 };
+    let shifts = Offsets::lattice(point(step)?, times.parse::<u64>()?, once, 1);
+    Ok(shifts.ok_or("lattice")?)
+}
+
+/// Checks what is held of a shape and of a reference.
+fn check_held(rt: &impl Abort, alloc: Global, row: &str) -> Result<(), Fail> {
+    let (words, want) = cut(row, " | ");
+    let (step, words) = cut(words, " ");
+    let (times, most) = cut(words, " ");
+    let shifts = lattice(step, times)?;
+    let most = most.parse::<usize>()?;
+    check_text(rt, &held(alloc, drawn(alloc, &shifts)?, most)?, want, row);
+    check_text(rt, &held(alloc, spread(alloc, shifts)?, most)?, want, row);
+    Ok(())
 }
 
 /// A rectangle of 4 by 2, placed this number of times, each so far from the one before. It is drawn
 /// by a shape at these places and by a reference to these places.
 #[test]
 fn rings_over_one_another(rt: HostRuntime) -> Result<(), Fail> {
-    let alloc = rt.alloc();
-    let again = Point { x: 0, y: 0 };
-    let above = Point { x: 0, y: 1 };
-    let beside = Point { x: 10, y: 0 };
-    // The step, how often, the most points, and what is covered and held.
-    let rows = [
-        (again, 1000, 40, Some((8, 40))),
-        (again, 10, 40, Some((8, 40))),
-        (again, 11, 40, Some((8, 4))),
-        (again, 1000, 4, Some((8, 4))),
-        (again, 1000, 3, None),
-        (above, 15, 40, Some((64, 20))),
-        (beside, 5, 20, Some((40, 20))),
-        (beside, 15, 40, None),
-    ];
-    for (step, times, most, want) in rows {
-        let shifts = Offsets::lattice(step, times, again, 1).ok_or("lattice")?;
-        let shape = drawn(alloc, &shifts)?;
-        assert_eq!(rt; held(alloc, shape, most)?, want, "{step:?} {times} {most}");
-        let reference = spread(alloc, shifts)?;
-        assert_eq!(rt;
-            held(alloc, reference, most)?,
-            want,
-            "{step:?} {times} {most}"
-        );
+    for row in STEPS.lines() {
+        check_held(&rt, rt.alloc(), row)?;
     }
     Ok(())
 }

@@ -14,6 +14,8 @@ mod made;
 #[cfg(test)]
 mod places;
 #[cfg(test)]
+mod rows;
+#[cfg(test)]
 mod strips;
 #[cfg(test)]
 mod view;

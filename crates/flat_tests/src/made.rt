@@ -89,13 +89,13 @@ fn counts_on(targets: Targets, source: u32, layer: u8) -> bool {
 
 /// Whether some box covers the square on the Layer of this digit.
 fn is_covered(boxes: &[LayerBox], targets: Targets, layer: u8, x: i64, y: i64) -> bool {
-    boxes.iter().any(|it| {
-        counts_on(targets, it.layer, layer)
-            && it.low.x <= x
-            && x < it.high.x
-            && it.low.y <= y
-            && y < it.high.y
-    })
+    for it in boxes {
+        let is_inside = it.low.x <= x && x < it.high.x && it.low.y <= y && y < it.high.y;
+        if is_inside && counts_on(targets, it.layer, layer) {
+            return true;
+        }
+    }
+    false
 }
 
 /// Every Layer counts as itself.

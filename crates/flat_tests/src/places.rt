@@ -1,6 +1,7 @@
 //! Shapes and references at lattices: what is drawn within a window is what is drawn in the plane,
 //! clipped to it.
 use crate::made::{made, next_made};
+use crate::rows::numbers;
 use crate::within::{METAL, drawn, spread};
 use lvl_cells::Checked;
 use lvl_flat::Fitted;
@@ -17,17 +18,17 @@ const PLANE: Window = Window {
 };
 
 /// A lattice of rectangles of 4 by 2, and a window.
-#[derive(Clone, Copy, Debug)]
-struct Case {
-    across: Point,
-    columns: u64,
-    up: Point,
-    rows: u64,
-    window: Window,
+#[derive(Clone, Copy)]
+pub(crate) struct Case {
+    pub(crate) across: Point,
+    pub(crate) columns: u64,
+    pub(crate) up: Point,
+    pub(crate) rows: u64,
+    pub(crate) window: Window,
 }
 
 /// The step and the count along each of two directions, and two corners of the window.
-const CASES: &str = "
+const CASES: &str = "\
 10   0  30    0  10 20   150   -5  154  200
 10   0  30    0  10 20    -5  100  300  102
 10   0  30    0  10 20     4   -5   10  200
@@ -61,15 +62,6 @@ const CASES: &str = "
 10   0   1    0  10 90     0  300    4  400
 1    0  20    1   0 20    22    0   23    1";
 
-/// The numbers of a row of the table.
-fn numbers(alloc: Global, row: &str) -> Result<Vec<i64>, Fail> {
-    let mut numbers = Vec::new(alloc);
-    for word in row.split_whitespace() {
-        numbers.push(word.parse::<i64>()?)?;
-    }
-    Ok(numbers)
-}
-
 /// The case of a row of ten numbers.
 fn case_of(row: &[i64]) -> Option<Case> {
     let [ax, ay, m, bx, by, n, x0, y0, x1, y1] = row else {
@@ -89,6 +81,19 @@ fn case_of(row: &[i64]) -> Option<Case> {
     })
 }
 
+/// The case of a row.
+pub(crate) fn case_in(alloc: Global, row: &str) -> Result<Case, Fail> {
+    let numbers = numbers(alloc, row)?;
+    Ok(case_of(&numbers).ok_or("ten numbers")?)
+}
+
+impl Case {
+    pub(crate) fn shifts(&self) -> Result<Offsets, Fail> {
+        let shifts = Offsets::lattice(self.across, self.columns, self.up, self.rows);
+        Ok(shifts.ok_or("lattice")?)
+    }
+}
+
 /// Whether what is drawn within the window is what is drawn in the plane, clipped to the window.
 fn agrees(alloc: Global, checked: Checked, window: &Window) -> Result<bool, Fail> {
     let fitted = Fitted::new(alloc, checked)?;
@@ -99,22 +104,19 @@ fn agrees(alloc: Global, checked: Checked, window: &Window) -> Result<bool, Fail
 }
 
 /// Whether that holds for a shape and for a reference.
-fn both_agree(alloc: Global, case: &Case) -> Result<(bool, bool), Fail> {
-    let shifts = Offsets::lattice(case.across, case.columns, case.up, case.rows);
-    let shifts = shifts.ok_or("lattice")?;
+fn both_agree(alloc: Global, case: &Case) -> Result<bool, Fail> {
+    let shifts = case.shifts()?;
     let shape = agrees(alloc, drawn(alloc, &shifts)?, &case.window)?;
     let reference = agrees(alloc, spread(alloc, shifts)?, &case.window)?;
-    Ok((shape, reference))
+    Ok(shape && reference)
 }
 
 #[test]
 fn places_in_windows(rt: HostRuntime) -> Result<(), Fail> {
     for row in CASES.lines() {
-        if row.is_empty() {
-            continue;
-        }
-        let case = case_of(&numbers(rt.alloc(), row)?).ok_or("ten numbers")?;
-        assert_eq!(rt; both_agree(rt.alloc(), &case)?, (true, true), "{row}");
+        let case = case_in(rt.alloc(), row)?;
+        let agree = both_agree(rt.alloc(), &case)?;
+        assert!(rt; agree, "{row}");
     }
     Ok(())
 }
@@ -157,7 +159,8 @@ fn made_case(start: u64) -> Case {
 fn made_places_in_windows(rt: HostRuntime) -> Result<(), Fail> {
     for n in 0..300u64 {
         let case = made_case(n.wrapping_mul(7919));
-        assert_eq!(rt; both_agree(rt.alloc(), &case)?, (true, true), "{case:?}");
+        let agree = both_agree(rt.alloc(), &case)?;
+        assert!(rt; agree, "{n}");
     }
     Ok(())
 }

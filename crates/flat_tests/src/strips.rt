@@ -1,4 +1,5 @@
 //! Two libraries compared strip by strip.
+use crate::rows::{check_text, cut, layer, point};
 use lvl_cells::{Builder, Reference, check};
 use lvl_compare::difference_by_strips;
 use lvl_flat::Fitted;
@@ -6,21 +7,14 @@ use lvl_grid::{Point, Ring, Square, Turn};
 use lvl_names::{Layer, Name, Offsets};
 use lvl_region::Side;
 use lvl_view::View;
-use std::alloc::Global;
+use std::alloc::{AllocError, Global};
+use std::process::Abort;
 use std::test::Fail;
 
 const METAL: Layer = Layer {
     layer: 1,
     datatype: 0,
 };
-
-const VIA: Layer = Layer {
-    layer: 2,
-    datatype: 0,
-};
-
-/// A square of one step that a top draws beside its array, or none.
-type Extra = Option<(Layer, i64, i64)>;
 
 /// Adds a cell A that draws a rectangle of 4 by 2.
 fn add_cell(alloc: Global, builder: &mut Builder) -> Result<(), Fail> {
@@ -48,24 +42,43 @@ fn add_square(alloc: Global, builder: &mut Builder, layer: Layer, low: Point) ->
     Ok(())
 }
 
-/// A cell A, and a top that places it 7 by 5 times and draws these squares.
-fn arrayed(alloc: Global, extras: [Extra; 2]) -> Result<Fitted, Fail> {
-    let mut builder = Builder::new(alloc);
-    add_cell(alloc, &mut builder)?;
+/// Adds the squares of one step that a top draws beside its array, as `1/0 5,5; 2/0 -3,-9`.
+fn add_squares(alloc: Global, builder: &mut Builder, squares: &str) -> Result<(), Fail> {
+    for square in squares.split(';') {
+        let (on, low) = cut(square.trim(), " ");
+        if !low.is_empty() {
+            add_square(alloc, builder, layer(on)?, point(low)?)?;
+        }
+    }
+    Ok(())
+}
+
+/// Adds a cell A, and a top that places it 7 by 5 times and draws these squares.
+fn add_arrayed(alloc: Global, builder: &mut Builder, squares: &str) -> Result<(), Fail> {
+    add_cell(alloc, builder)?;
     builder.open(alloc, b"TOP")?;
     builder.add_reference(array(alloc)?)?;
-    for (layer, x, y) in extras.into_iter().flatten() {
-        add_square(alloc, &mut builder, layer, Point { x, y })?;
-    }
+    add_squares(alloc, builder, squares)?;
     builder.close(alloc)?;
-    Ok(Fitted::new(alloc, check(alloc, builder.finish(), None)?)?)
+    Ok(())
+}
+
+fn fitted(alloc: Global, builder: Builder) -> Result<Fitted, Fail> {
+    let checked = check(alloc, builder.finish(), None)?;
+    Ok(Fitted::new(alloc, checked)?)
+}
+
+fn arrayed(alloc: Global, squares: &str) -> Result<Fitted, Fail> {
+    let mut builder = Builder::new(alloc);
+    add_arrayed(alloc, &mut builder, squares)?;
+    fitted(alloc, builder)
 }
 
 /// What two such tops differ in, with at most `most` points a strip.
 fn difference(
     alloc: Global,
-    ours: [Extra; 2],
-    theirs: [Extra; 2],
+    ours: &str,
+    theirs: &str,
     view: &View,
     most: usize,
 ) -> Result<Option<(Layer, Square, Side)>, Fail> {
@@ -74,155 +87,139 @@ fn difference(
     Ok(difference_by_strips(alloc, &first, &second, view, most)?)
 }
 
+/// A difference as text, as `1/0 5,5 First`.
+fn found_text(alloc: Global, found: Option<(Layer, Square, Side)>) -> Result<String, AllocError> {
+    match found {
+        Some((on, Square { x, y }, side)) => {
+            format!(in alloc; "{}/{} {x},{y} {side:?}", on.layer, on.datatype)
+        }
+        None => String::from_str(alloc, "-"),
+    }
+}
+
+/// What each top draws beside its array, and what is found.
+const DIFFERENCES: &str = "\
+the same | 1/0 5,5 | 1/0 5,5 | -
+covered already | 1/0 21,11 | | -
+one more | | 1/0 5,5 | 1/0 5,5 Second
+the lower row | 1/0 5,5; 1/0 66,4 | | 1/0 66,4 First
+the lesser layer | 2/0 -3,-9; 1/0 5,5 | | 1/0 5,5 First
+each in one | 1/0 5,5 | 1/0 66,4 | 1/0 66,4 Second
+far away | | 2/0 -9223372036854775808,0 | 2/0 -9223372036854775808,0 Second
+a lesser layer further right | 2/0 -3,-9; 1/0 66,4 | | 1/0 66,4 First
+a lesser layer, a higher row | 2/0 -3,-9 | 1/0 66,66 | 1/0 66,66 Second
+a lower row on the greater layer | 2/0 -3,-9 | 2/0 66,-10 | 2/0 66,-10 Second
+the same row further right | 2/0 -3,-9; 2/0 66,-9 | | 2/0 -3,-9 First
+";
+
+/// Checks a row with this number of points a strip.
+fn check_row(rt: &impl Abort, alloc: Global, row: &str, most: usize) -> Result<(), Fail> {
+    let (_, words) = cut(row, " | ");
+    let (ours, words) = cut(words, "| ");
+    let (theirs, want) = cut(words, "| ");
+    let whole = View::whole(alloc);
+    let found = difference(alloc, ours, theirs, &whole, most)?;
+    check_text(rt, &found_text(alloc, found)?, want, row);
+    Ok(())
+}
+
 #[test]
 fn differences(rt: HostRuntime) -> Result<(), Fail> {
-    let low = Some((METAL, 5, 5));
-    let right = Some((METAL, 66, 4));
-    let via = Some((VIA, -3, -9));
-    let high = Some((METAL, 66, 66));
-    let lower = Some((VIA, 66, -10));
-    let beside = Some((VIA, 66, -9));
-    let inside = Some((METAL, 21, 11));
-    let far = Some((VIA, i64::MIN, 0));
-    let none = None;
-    let rows = [
-        ("the same", [low, none], [none, low], none, Side::First),
-        (
-            "covered already",
-            [inside, none],
-            [none, none],
-            none,
-            Side::First,
-        ),
-        ("one more", [none, none], [low, none], low, Side::Second),
-        (
-            "the lower row",
-            [low, right],
-            [none, none],
-            right,
-            Side::First,
-        ),
-        (
-            "the lesser layer",
-            [via, low],
-            [none, none],
-            low,
-            Side::First,
-        ),
-        (
-            "each in one",
-            [low, none],
-            [right, none],
-            right,
-            Side::Second,
-        ),
-        ("far away", [none, none], [none, far], far, Side::Second),
-        (
-            "a lesser layer further right",
-            [via, right],
-            [none, none],
-            right,
-            Side::First,
-        ),
-        (
-            "a lesser layer, a higher row",
-            [via, none],
-            [high, none],
-            high,
-            Side::Second,
-        ),
-        (
-            "a lower row on the greater layer",
-            [via, none],
-            [none, lower],
-            lower,
-            Side::Second,
-        ),
-        (
-            "the same row further right",
-            [via, beside],
-            [none, none],
-            via,
-            Side::First,
-        ),
-    ];
-    let whole = View::whole(rt.alloc());
-    for (name, ours, theirs, want, side) in rows {
+    for row in DIFFERENCES.lines() {
         // Strips of one column each, of some, and all at once.
         for most in [0, 3, 16, 40, usize::MAX] {
-            let found = difference(rt.alloc(), ours, theirs, &whole, most)?;
-            let want = want.map(|(layer, x, y)| (layer, Square { x, y }, side));
-            assert_eq!(rt; found, want, "{name} {most}");
+            check_row(&rt, rt.alloc(), row, most)?;
         }
     }
+    Ok(())
+}
+
+/// The map and the window of a view, what each top draws beside its array, and where what is found.
+const UNDER_VIEWS: &str = "\
+| x=0..20,y=0..5 | 1/0 5,5 | | -
+| x=5..6,y=5..6 | 1/0 5,5 | | 1/0 5,5
+| x=60..70,y=0..9 | 1/0 5,5 | 1/0 66,4 | 1/0 66,4
+2/0=1/0 | | 1/0 5,5 | 2/0 5,5 | -
+1/0=2/0 | | 1/0 5,5 | 1/0 5,5 | 1/0 0,0
+2/0=1/0 | x=60..70,y=0..9 | 1/0 66,4 | 2/0 5,5 | 1/0 66,4
+1/0=2/0,2/0=1/0 | x=5..6,y=5..6 | 1/0 5,5 | 2/0 5,5 | -
+1/0=2/0,2/0=1/0 | x=5..6,y=5..6 | 1/0 5,5 | 1/0 5,5 | 1/0 5,5
+1/0=2/0,2/0=1/0 | x=5..6,y=5..6 | 2/0 5,5 | 2/0 5,5 | 1/0 5,5
+1/0=2/0,2/0=1/0 | x=5..6,y=5..6 | 2/0 5,5 | 1/0 5,5 | -
+";
+
+/// The words, if there are any.
+fn given(words: &str) -> Option<&str> {
+    if words.is_empty() { None } else { Some(words) }
+}
+
+/// Checks a row that begins with a view, with this number of points a strip.
+fn check_view(rt: &impl Abort, alloc: Global, row: &str, most: usize) -> Result<(), Fail> {
+    let (map, words) = cut(row, "| ");
+    let (window, words) = cut(words, "| ");
+    let (ours, words) = cut(words, "| ");
+    let (theirs, want) = cut(words, "| ");
+    let view = View::read(alloc, given(map.trim()), given(window.trim()))?;
+    let found = difference(alloc, ours, theirs, &view, most)?;
+    let text = found_text(alloc, found)?;
+    let text = text.trim_end_matches(" First").trim_end_matches(" Second");
+    check_text(rt, text, want, row);
     Ok(())
 }
 
 #[test]
 fn differences_under_views(rt: HostRuntime) -> Result<(), Fail> {
-    let alloc = rt.alloc();
-    let low = Some((METAL, 5, 5));
-    let right = Some((METAL, 66, 4));
-    let via = Some((VIA, 5, 5));
-    let exchanged = Some("1/0=2/0,2/0=1/0");
-    // The map and the window of a view, what each side draws beside its array, and what is found.
-    let rows = [
-        (None, Some("x=0..20,y=0..5"), low, None, None),
-        (None, Some("x=5..6,y=5..6"), low, None, low),
-        (None, Some("x=60..70,y=0..9"), low, right, right),
-        (Some("2/0=1/0"), None, low, via, None),
-        (Some("1/0=2/0"), None, low, low, Some((METAL, 0, 0))),
-        (Some("2/0=1/0"), Some("x=60..70,y=0..9"), right, via, right),
-        (exchanged, Some("x=5..6,y=5..6"), low, via, None),
-        (exchanged, Some("x=5..6,y=5..6"), low, low, low),
-        (exchanged, Some("x=5..6,y=5..6"), via, via, low),
-        (exchanged, Some("x=5..6,y=5..6"), via, low, None),
-    ];
-    for (map, window, ours, theirs, want) in rows {
-        let view = View::read(alloc, map, window)?;
+    for row in UNDER_VIEWS.lines() {
         for most in [0, 16, 40, usize::MAX] {
-            let found = difference(alloc, [ours, None], [theirs, None], &view, most)?;
-            let found = found.map(|(layer, square, _)| (layer, square));
-            let want = want.map(|(layer, x, y)| (layer, Square { x, y }));
-            assert_eq!(rt; found, want, "{map:?} {window:?} {most}");
+            check_view(&rt, rt.alloc(), row, most)?;
         }
     }
     Ok(())
 }
 
-/// A top that draws a square on each of 140,000 Layers, and two squares on one of them.
-fn layered(alloc: Global, double: u32) -> Result<Fitted, Fail> {
-    let mut builder = Builder::new(alloc);
+fn numbered(layer: u32) -> Layer {
+    Layer { layer, datatype: 0 }
+}
+
+/// Adds a top that draws a square on each of 140,000 Layers, and two squares on one of them.
+fn add_layered(alloc: Global, builder: &mut Builder, double: u32) -> Result<(), Fail> {
     builder.open(alloc, b"TOP")?;
     for layer in 0..140_000 {
-        let layer = Layer { layer, datatype: 0 };
-        add_square(alloc, &mut builder, layer, Point { x: 3, y: 0 })?;
+        add_square(alloc, builder, numbered(layer), Point { x: 3, y: 0 })?;
     }
-    let layer = Layer {
-        layer: double,
-        datatype: 0,
-    };
-    add_square(alloc, &mut builder, layer, Point { x: 0, y: 0 })?;
+    add_square(alloc, builder, numbered(double), Point { x: 0, y: 0 })?;
     builder.close(alloc)?;
-    Ok(Fitted::new(alloc, check(alloc, builder.finish(), None)?)?)
+    Ok(())
+}
+
+fn layered(alloc: Global, double: u32) -> Result<Fitted, Fail> {
+    let mut builder = Builder::new(alloc);
+    add_layered(alloc, &mut builder, double)?;
+    fitted(alloc, builder)
+}
+
+/// The Layer on which two such tops differ first.
+fn layer_apart(alloc: Global, ours: u32, theirs: u32) -> Result<Option<u32>, Fail> {
+    let whole = View::whole(alloc);
+    let first = layered(alloc, ours)?;
+    let second = layered(alloc, theirs)?;
+    match difference_by_strips(alloc, &first, &second, &whole, 600_000)? {
+        Some((layer, _, _)) => Ok(Some(layer.layer)),
+        None => Ok(None),
+    }
 }
 
 #[test]
 fn many_layers(rt: HostRuntime) -> Result<(), Fail> {
-    let whole = View::whole(rt.alloc());
     // The Layers on which the sides draw two squares, and the lesser one.
-    let rows = [
+    for (ours, theirs, want) in [
         (5, 139_999, Some(5)),
         (65_535, 65_536, Some(65_535)),
         (131_072, 131_071, Some(131_071)),
         (139_999, 139_998, Some(139_998)),
         (70_000, 70_000, None),
-    ];
-    for (ours, theirs, want) in rows {
-        let first = layered(rt.alloc(), ours)?;
-        let second = layered(rt.alloc(), theirs)?;
-        let found = difference_by_strips(rt.alloc(), &first, &second, &whole, 600_000)?;
-        let found = found.map(|(layer, _, _)| layer.layer);
+    ] {
+        let found = layer_apart(rt.alloc(), ours, theirs)?;
         assert_eq!(rt; found, want, "{ours} {theirs}");
     }
     Ok(())
@@ -230,9 +227,8 @@ fn many_layers(rt: HostRuntime) -> Result<(), Fail> {
 
 #[test]
 fn growths_by_strips(rt: HostRuntime) -> Result<(), Fail> {
-    let low = Some((METAL, 5, 5));
     let whole = View::whole(rt.alloc());
-    let found = difference(rt.alloc(), [low, None], [None, None], &whole, 40)?;
+    let found = difference(rt.alloc(), "1/0 5,5", "", &whole, 40)?;
     assert_eq!(rt; found, Some((METAL, Square { x: 5, y: 5 }, Side::First)));
     Ok(())
 }

@@ -1,4 +1,5 @@
 //! Layers mapped and windows shown: flat layouts compared as a view says.
+use crate::rows::{check_text, cut};
 use lvl_cells::{Cell, References, Shapes};
 use lvl_compare::{difference_by, first_difference_in};
 use lvl_flat::{Flat, flatten_shapes};
@@ -7,7 +8,7 @@ use lvl_names::{Layer, Name, Offsets};
 use lvl_region::{GridRegion, Side};
 use lvl_sweep::SlabRegion;
 use lvl_view::View;
-use std::alloc::Global;
+use std::alloc::{AllocError, Global};
 use std::test::Fail;
 
 /// A box on a Layer of datatype 0.
@@ -62,9 +63,15 @@ fn covered_on(flat: &Flat, layer: u32) -> u8 {
     bits
 }
 
-/// What is on the first four Layers where Layer 1 covers (1, 1), Layer 2 (2, 2) and Layer 3 (3, 3),
-/// and how many Layers there are, once the map is applied.
-fn mapped_by(alloc: Global, map: &str) -> Result<(u8, u8, u8, u8, usize), Fail> {
+/// What is on the first four Layers, and how many Layers there are.
+fn covered_text(alloc: Global, flat: &Flat) -> Result<String, AllocError> {
+    let (one, two) = (covered_on(flat, 1), covered_on(flat, 2));
+    let (three, four) = (covered_on(flat, 3), covered_on(flat, 4));
+    format!(in alloc; "{one} {two} {three} {four} {}", flat.len())
+}
+
+/// The same where Layer 1 covers (1, 1), Layer 2 (2, 2) and Layer 3 (3, 3), once the map is applied.
+fn mapped_by(alloc: Global, map: &str) -> Result<String, Fail> {
     let boxes = [
         placed(3, 3, 3, 4, 4),
         placed(1, 1, 1, 2, 2),
@@ -72,37 +79,31 @@ fn mapped_by(alloc: Global, map: &str) -> Result<(u8, u8, u8, u8, usize), Fail> 
     ];
     let view = View::read(alloc, Some(map), None)?;
     let flat = flat_of(alloc, &boxes)?.mapped(alloc, &view)?;
-    Ok((
-        covered_on(&flat, 1),
-        covered_on(&flat, 2),
-        covered_on(&flat, 3),
-        covered_on(&flat, 4),
-        flat.len(),
-    ))
+    Ok(covered_text(alloc, &flat)?)
 }
+
+/// Maps, and what is on the Layers: Layers exchanged and in a round; several sources of one target; a target that
+/// is no source keeps what it has, and one that is a source gives it away; and absent Layers.
+const MAPS: &str = "\
+1/0=1/0 | 1 2 4 0 3
+1/0=2/0,2/0=1/0 | 2 1 4 0 3
+3/0=1/0,1/0=3/0 | 4 2 1 0 3
+1/0=2/0,2/0=3/0,3/0=1/0 | 4 1 2 0 3
+1/0=4/0,2/0=4/0 | 0 0 4 3 2
+1/0=4/0,2/0=4/0,3/0=4/0 | 0 0 0 7 1
+2/0=1/0,3/0=1/0 | 7 0 0 0 1
+1/0=2/0 | 0 3 4 0 2
+1/0=2/0,2/0=3/0 | 0 1 6 0 2
+1/0=2/0,2/0=4/0 | 0 1 4 2 3
+4/0=1/0,7/3=2/0,1/1=2/0 | 1 2 4 0 3
+4/0=1/0,1/0=4/0 | 0 2 4 1 3
+";
 
 #[test]
 fn layers_mapped(rt: HostRuntime) -> Result<(), Fail> {
-    let rows = [
-        ("1/0=1/0", (1, 2, 4, 0, 3)),
-        // Layers exchanged, and in a round.
-        ("1/0=2/0,2/0=1/0", (2, 1, 4, 0, 3)),
-        ("3/0=1/0,1/0=3/0", (4, 2, 1, 0, 3)),
-        ("1/0=2/0,2/0=3/0,3/0=1/0", (4, 1, 2, 0, 3)),
-        // Several sources of one target.
-        ("1/0=4/0,2/0=4/0", (0, 0, 4, 3, 2)),
-        ("1/0=4/0,2/0=4/0,3/0=4/0", (0, 0, 0, 7, 1)),
-        ("2/0=1/0,3/0=1/0", (7, 0, 0, 0, 1)),
-        // A target that is no source keeps what it has; one that is a source gives it away.
-        ("1/0=2/0", (0, 3, 4, 0, 2)),
-        ("1/0=2/0,2/0=3/0", (0, 1, 6, 0, 2)),
-        ("1/0=2/0,2/0=4/0", (0, 1, 4, 2, 3)),
-        // Absent Layers.
-        ("4/0=1/0,7/3=2/0,1/1=2/0", (1, 2, 4, 0, 3)),
-        ("4/0=1/0,1/0=4/0", (0, 2, 4, 1, 3)),
-    ];
-    for (map, want) in rows {
-        assert_eq!(rt; mapped_by(rt.alloc(), map)?, want, "{map}");
+    for row in MAPS.lines() {
+        let (map, want) = cut(row, " | ");
+        check_text(&rt, &mapped_by(rt.alloc(), map)?, want, row);
     }
     Ok(())
 }
@@ -111,7 +112,10 @@ fn layers_mapped(rt: HostRuntime) -> Result<(), Fail> {
 pub type Found = Option<(u32, i64, i64, Side)>;
 
 pub fn numbered(found: Option<(Layer, Square, Side)>) -> Found {
-    found.map(|(layer, square, side)| (layer.layer, square.x, square.y, side))
+    match found {
+        Some((layer, square, side)) => Some((layer.layer, square.x, square.y, side)),
+        None => None,
+    }
 }
 
 /// What differs first in the window.
@@ -137,62 +141,134 @@ fn found_by_regions(alloc: Global, first: &[LayerBox], second: &[LayerBox]) -> R
     Ok(numbered(found))
 }
 
+/// The number of a word: the least or the greatest, or one beside it, or as it is written.
+fn number(word: &str) -> Result<i64, Fail> {
+    match word {
+        "low" => Ok(i64::MIN),
+        "low+1" => Ok(i64::MIN + 1),
+        "low+2" => Ok(i64::MIN + 2),
+        "high-1" => Ok(i64::MAX - 1),
+        "high" => Ok(i64::MAX),
+        _ => Ok(word.parse::<i64>()?),
+    }
+}
+
+/// The point of a word, as `3,low+1`.
+fn corner(word: &str) -> Result<Point, Fail> {
+    let (x, y) = cut(word, ",");
+    Ok(Point {
+        x: number(x)?,
+        y: number(y)?,
+    })
+}
+
+/// The box of words: its Layer and two corners.
+fn box_of(words: &str) -> Result<LayerBox, Fail> {
+    let (layer, words) = cut(words, " ");
+    let (low, high) = cut(words, " ");
+    Ok(LayerBox {
+        layer: layer.parse::<u32>()?,
+        low: corner(low)?,
+        high: corner(high)?,
+    })
+}
+
+fn boxes_of(alloc: Global, text: &str) -> Result<Vec<LayerBox>, Fail> {
+    let mut boxes = Vec::new(alloc);
+    for words in text.split(';') {
+        boxes.push(box_of(words.trim())?)?;
+    }
+    Ok(boxes)
+}
+
+/// What is wanted: a Layer, a square and a side, or `-`.
+fn want_of(words: &str) -> Result<Found, Fail> {
+    if words == "-" {
+        return Ok(None);
+    }
+    let (layer, words) = cut(words, " ");
+    let (at, side) = cut(words, " ");
+    let Point { x, y } = corner(at)?;
+    let side = if side == "First" {
+        Side::First
+    } else {
+        Side::Second
+    };
+    Ok(Some((layer.parse::<u32>()?, x, y, side)))
+}
+
+/// The boxes of two sides, and what differs first.
+const BOXES: &str = "\
+1 0,0 4,2; 1 0,2 4,3 | 1 0,0 4,3; 1 0,0 4,3 | -
+1 0,0 4,2; 2 7,-5 8,-4 | 1 0,0 4,2; 2 7,-5 8,-4 | -
+1 0,0 4,2; 2 7,-5 8,-4 | 1 0,0 4,2; 1 0,0 4,2 | 2 7,-5 First
+1 0,0 4,2; 1 0,0 4,2 | 2 7,-5 8,-4; 1 0,0 4,2 | 2 7,-5 Second
+1 0,0 4,3; 2 7,-5 8,-4 | 1 0,0 4,2; 1 0,0 4,2 | 1 0,2 First
+";
+
+fn found_in_row(alloc: Global, words: &str) -> Result<Found, Fail> {
+    let (first, second) = cut(words, " | ");
+    let first = boxes_of(alloc, first)?;
+    let second = boxes_of(alloc, second)?;
+    found_by_regions(alloc, &first, &second)
+}
+
 #[test]
 fn differences_by_any_region(rt: HostRuntime) -> Result<(), Fail> {
-    let low = placed(1, 0, 0, 4, 2);
-    let up = placed(1, 0, 2, 4, 3);
-    let both = placed(1, 0, 0, 4, 3);
-    let square = placed(2, 7, -5, 8, -4);
-    let rows = [
-        ([low, up], [both, both], None),
-        ([low, square], [low, square], None),
-        ([low, square], [low, low], Some((2, 7, -5, Side::First))),
-        ([low, low], [square, low], Some((2, 7, -5, Side::Second))),
-        ([both, square], [low, low], Some((1, 0, 2, Side::First))),
-    ];
-    for (first, second, want) in rows {
-        assert_eq!(rt; found_by_regions(rt.alloc(), &first, &second)?, want);
+    for row in BOXES.lines() {
+        let (words, want) = row.rsplit_once(" | ").unwrap_or((row, ""));
+        let found = found_in_row(rt.alloc(), words)?;
+        let want = want_of(want)?;
+        assert!(rt; found == want, "{row}");
     }
     Ok(())
 }
 
+const FIRST: &str = "1 low,low high,high; 2 low,low low+1,low+1";
+
+const SECOND: &str = "1 low,low high,high; 1 high-1,high-1 high,high; 2 high-1,low high,high";
+
+/// Windows at both ends of the range, from one corner to another, and what differs first.
+const ENDS: &str = "\
+low,low high,high | 2 low,low First
+low+1,low high,high | 2 high-1,low Second
+low,low+1 high,high | 2 high-1,low+1 Second
+low+1,low high-1,high | -
+low,low+1 high-1,high | -
+low,low low+1,low+1 | 2 low,low First
+high-1,high-1 high,high | 2 high-1,high-1 Second
+low+1,low low+2,low+1 | -
+";
+
+fn window_of(words: &str) -> Result<Window, Fail> {
+    let (low, high) = cut(words, " ");
+    let (low, high) = (corner(low)?, corner(high)?);
+    Ok(Window {
+        x0: low.x,
+        y0: low.y,
+        x1: high.x,
+        y1: high.y,
+    })
+}
+
+/// What differs first in the window, or wherever it is.
+fn found_at_ends(alloc: Global, window: Option<&Window>) -> Result<Found, Fail> {
+    let first = boxes_of(alloc, FIRST)?;
+    let second = boxes_of(alloc, SECOND)?;
+    found_in(alloc, &first, &second, window)
+}
+
 #[test]
 fn windows_at_both_ends(rt: HostRuntime) -> Result<(), Fail> {
-    let (low, high) = (i64::MIN, i64::MAX);
-    let at_low = placed(2, low, low, low + 1, low + 1);
-    let at_high = placed(1, high - 1, high - 1, high, high);
-    let everywhere = placed(1, low, low, high, high);
-    let first = [everywhere, at_low];
-    let second = [everywhere, at_high, placed(2, high - 1, low, high, high)];
-    let rows = [
-        ((low, high, low, high), Some((2, low, low, Side::First))),
-        (
-            (low + 1, high, low, high),
-            Some((2, high - 1, low, Side::Second)),
-        ),
-        (
-            (low, high, low + 1, high),
-            Some((2, high - 1, low + 1, Side::Second)),
-        ),
-        ((low + 1, high - 1, low, high), None),
-        ((low, high - 1, low + 1, high), None),
-        (
-            (low, low + 1, low, low + 1),
-            Some((2, low, low, Side::First)),
-        ),
-        (
-            (high - 1, high, high - 1, high),
-            Some((2, high - 1, high - 1, Side::Second)),
-        ),
-        ((low + 1, low + 2, low, low + 1), None),
-    ];
-    for ((x0, x1, y0, y1), want) in rows {
-        let window = Window { x0, y0, x1, y1 };
-        let found = found_in(rt.alloc(), &first, &second, Some(&window))?;
-        assert!(rt; found == want, "{window:?}");
+    for row in ENDS.lines() {
+        let (words, want) = cut(row, " | ");
+        let window = window_of(words)?;
+        let found = found_at_ends(rt.alloc(), Some(&window))?;
+        let want = want_of(want)?;
+        assert!(rt; found == want, "{row}");
     }
-    let found = found_in(rt.alloc(), &first, &second, None)?;
-    assert!(rt; found == Some((2, low, low, Side::First)));
+    let found = found_at_ends(rt.alloc(), None)?;
+    assert!(rt; found == want_of("2 low,low First")?);
     Ok(())
 }
 

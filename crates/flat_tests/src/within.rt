@@ -1,10 +1,13 @@
 //! What small libraries flatten to within a window.
+use crate::places::case_in;
+use crate::rows::{self, check_text, cut};
 use lvl_cells::{Builder, Checked, Reference, check};
 use lvl_flat::{Fitted, Flat, FlatFault};
 use lvl_grid::{Point, Ring, Square, Turn, Window};
 use lvl_names::{Layer, Name, Offsets};
 use lvl_refusal::Cause;
 use std::alloc::Global;
+use std::process::Abort;
 use std::test::Fail;
 
 pub(crate) const METAL: Layer = Layer {
@@ -70,17 +73,22 @@ fn six_of_a(alloc: Global) -> Result<Reference, Fail> {
     to_a(alloc, false, Turn::R0, ORIGIN, shifts)
 }
 
-/// A cell A that draws a rectangle of 4 by 2, and a top that places it six times in a lattice, and
+/// Adds a cell A that draws a rectangle of 4 by 2, and a top that places it six times in a lattice, and
 /// once more turned, from (48, 0) to (50, 4).
-fn arrayed(alloc: Global) -> Result<Checked, Fail> {
-    let mut builder = Builder::new(alloc);
-    add_drawing(alloc, &mut builder, b"A", &Offsets::single())?;
+fn add_arrayed(alloc: Global, builder: &mut Builder) -> Result<(), Fail> {
+    add_drawing(alloc, builder, b"A", &Offsets::single())?;
     builder.open(alloc, b"TOP")?;
     builder.add_reference(six_of_a(alloc)?)?;
     let at = Point { x: 50, y: 0 };
     builder.add_reference(to_a(alloc, false, Turn::R90, at, Offsets::single())?)?;
     builder.close(alloc)?;
-    Ok(check(alloc, builder.finish(), None)?)
+    Ok(())
+}
+
+fn arrayed(alloc: Global) -> Result<Fitted, Fail> {
+    let mut builder = Builder::new(alloc);
+    add_arrayed(alloc, &mut builder)?;
+    Ok(Fitted::new(alloc, check(alloc, builder.finish(), None)?)?)
 }
 
 /// How many squares from (-5, -5) to (60, 20) the rings cover.
@@ -103,31 +111,31 @@ fn counts(alloc: Global, fitted: &Fitted, window: &Window) -> Result<(u64, usize
     Ok((count(&flat), flat.rings(METAL).len()))
 }
 
+/// Windows, the squares that are covered, and the rings that are held.
+const WINDOWS: &str = "\
+all | -5,-5 60,20 | 56 7
+the whole grid | -9223372036854775808,-9223372036854775808 9223372036854775807,9223372036854775807 | 56 7
+one rectangle | 0,0 4,2 | 8 1
+corners of four | 2,1 12,11 | 8 4
+the turned one | 49,1 60,3 | 2 1
+one square | 23,11 24,12 | 1 1
+beside four | 4,2 10,10 | 0 0
+no square | 1,1 1,2 | 0 0
+turned round | 4,2 0,0 | 0 0
+";
+
+fn counts_text(alloc: Global, fitted: &Fitted, words: &str) -> Result<String, Fail> {
+    let (covered, held) = counts(alloc, fitted, &rows::window(words)?)?;
+    Ok(format!(in alloc; "{covered} {held}")?)
+}
+
 #[test]
 fn windows(rt: HostRuntime) -> Result<(), Fail> {
-    let alloc = rt.alloc();
-    let fitted = Fitted::new(alloc, arrayed(alloc)?)?;
-    // The squares that are covered, and the rings that are held.
-    let rows = [
-        ("all", window(-5, -5, 60, 20), 56, 7),
-        (
-            "the whole grid",
-            window(i64::MIN, i64::MIN, i64::MAX, i64::MAX),
-            56,
-            7,
-        ),
-        ("one rectangle", window(0, 0, 4, 2), 8, 1),
-        ("corners of four", window(2, 1, 12, 11), 8, 4),
-        ("the turned one", window(49, 1, 60, 3), 2, 1),
-        ("one square", window(23, 11, 24, 12), 1, 1),
-        ("beside four", window(4, 2, 10, 10), 0, 0),
-        ("no square", window(1, 1, 1, 2), 0, 0),
-        ("turned round", window(4, 2, 0, 0), 0, 0),
-    ];
-    for (name, window, squares, rings) in rows {
-        let (covered, held) = counts(alloc, &fitted, &window)?;
-        assert_eq!(rt; covered, squares, "{name}");
-        assert_eq!(rt; held, rings, "{name}");
+    let fitted = arrayed(rt.alloc())?;
+    for row in WINDOWS.lines() {
+        let (_, words) = cut(row, " | ");
+        let (words, want) = cut(words, " | ");
+        check_text(&rt, &counts_text(rt.alloc(), &fitted, words)?, want, row);
     }
     Ok(())
 }
@@ -139,29 +147,37 @@ fn to_m(alloc: Global, at: Point) -> Result<Reference, Fail> {
     Ok(placed.ok_or("places")?)
 }
 
-/// A top that places A, which draws a rectangle of 4 by 2, at `outer` by way of a cell that places it
+/// Adds a top that places A, which draws a rectangle of 4 by 2, at `outer` by way of a cell that places it
 /// at `inner`.
+fn add_chain(alloc: Global, builder: &mut Builder, outer: Point, inner: Point) -> Result<(), Fail> {
+    add_drawing(alloc, builder, b"A", &Offsets::single())?;
+    let placed = to_a(alloc, false, Turn::R0, inner, Offsets::single())?;
+    add_placing(alloc, builder, b"M", placed)?;
+    add_placing(alloc, builder, b"TOP", to_m(alloc, outer)?)
+}
+
 fn chained(alloc: Global, outer: Point, inner: Point) -> Result<Checked, Fail> {
     let mut builder = Builder::new(alloc);
-    add_drawing(alloc, &mut builder, b"A", &Offsets::single())?;
-    let placed = to_a(alloc, false, Turn::R0, inner, Offsets::single())?;
-    add_placing(alloc, &mut builder, b"M", placed)?;
-    add_placing(alloc, &mut builder, b"TOP", to_m(alloc, outer)?)?;
+    add_chain(alloc, &mut builder, outer, inner)?;
     Ok(check(alloc, builder.finish(), None)?)
 }
 
 const FAR: Point = Point { x: i64::MAX, y: 0 };
 
+/// The cell for which the library is refused.
+fn refused_cell(alloc: Global, checked: Checked) -> Result<Vec<u8>, Fail> {
+    match Fitted::new(alloc, checked) {
+        Err(Cause::Breach(FlatFault::OutOfRange(name))) => Ok(name),
+        _ => Err(Fail::from("not out of range")),
+    }
+}
+
 /// What is out of range is refused.
 #[test]
 fn out_of_range(rt: HostRuntime) -> Result<(), Fail> {
     let checked = chained(rt.alloc(), ORIGIN, FAR)?;
-    match Fitted::new(rt.alloc(), checked) {
-        Err(Cause::Breach(FlatFault::OutOfRange(name))) => {
-            assert_eq!(rt; name.as_slice(), b"A".as_slice());
-        }
-        _ => return Err("not out of range".into()),
-    }
+    let name = refused_cell(rt.alloc(), checked)?;
+    assert_eq!(rt; name.as_slice(), b"A".as_slice());
     Ok(())
 }
 
@@ -178,43 +194,52 @@ fn back_in_range(rt: HostRuntime) -> Result<(), Fail> {
     Ok(())
 }
 
+fn covered_in(alloc: Global, window: &Window) -> Result<u64, Fail> {
+    let fitted = arrayed(alloc)?;
+    let flat = fitted.within(alloc, &[METAL], window, usize::MAX)?;
+    Ok(count(&flat))
+}
+
 #[test]
 fn growths_of_a_window(rt: HostRuntime) -> Result<(), Fail> {
-    let alloc = rt.alloc();
-    let fitted = Fitted::new(alloc, arrayed(alloc)?)?;
-    let flat = fitted.within(alloc, &[METAL], &window(2, 1, 12, 11), usize::MAX)?;
-    assert_eq!(rt; count(&flat), 8);
+    let covered = covered_in(rt.alloc(), &window(2, 1, 12, 11))?;
+    assert_eq!(rt; covered, 8);
     Ok(())
 }
 
-/// A top that draws a rectangle of 4 by 2 on two Layers.
-fn two_layers(alloc: Global) -> Result<Checked, Fail> {
-    let mut builder = Builder::new(alloc);
+/// Adds a top that draws a rectangle of 4 by 2 on two Layers.
+fn add_two_layers(alloc: Global, builder: &mut Builder) -> Result<(), Fail> {
     let ring = Ring::rectangle(alloc, ORIGIN, Point { x: 4, y: 2 })?;
     builder.open(alloc, b"TOP")?;
     builder.add_ring(VIA, ring.points(), &Offsets::single())?;
     builder.add_ring(METAL, ring.points(), &Offsets::single())?;
     builder.close(alloc)?;
-    Ok(check(alloc, builder.finish(), None)?)
+    Ok(())
+}
+
+fn two_layers(alloc: Global) -> Result<Fitted, Fail> {
+    let mut builder = Builder::new(alloc);
+    add_two_layers(alloc, &mut builder)?;
+    Ok(Fitted::new(alloc, check(alloc, builder.finish(), None)?)?)
+}
+
+/// The rings on METAL and on VIA, where these Layers are drawn.
+fn drawn_on(alloc: Global, fitted: &Fitted, layers: &[Layer]) -> Result<(usize, usize), Fail> {
+    let flat = fitted.within(alloc, layers, &window(0, 0, 9, 9), usize::MAX)?;
+    Ok((flat.rings(METAL).len(), flat.rings(VIA).len()))
 }
 
 #[test]
 fn some_layers(rt: HostRuntime) -> Result<(), Fail> {
-    let alloc = rt.alloc();
-    let fitted = Fitted::new(alloc, two_layers(alloc)?)?;
-    assert_eq!(rt; fitted.layers(alloc)?.as_slice(), [METAL, VIA].as_slice());
-    // The Layers that are drawn, and the rings on METAL and on VIA.
-    let rows: [(&[Layer], usize, usize); 4] = [
-        (&[], 0, 0),
-        (&[METAL], 1, 0),
-        (&[VIA], 0, 1),
-        (&[METAL, VIA], 1, 1),
-    ];
-    for (layers, metal, via) in rows {
-        let flat = fitted.within(alloc, layers, &window(0, 0, 9, 9), usize::MAX)?;
-        assert_eq!(rt; flat.rings(METAL).len(), metal);
-        assert_eq!(rt; flat.rings(VIA).len(), via);
-    }
+    let fitted = two_layers(rt.alloc())?;
+    assert_eq!(rt;
+        fitted.layers(rt.alloc())?.as_slice(),
+        [METAL, VIA].as_slice()
+    );
+    assert_eq!(rt; drawn_on(rt.alloc(), &fitted, &[])?, (0, 0));
+    assert_eq!(rt; drawn_on(rt.alloc(), &fitted, &[METAL])?, (1, 0));
+    assert_eq!(rt; drawn_on(rt.alloc(), &fitted, &[VIA])?, (0, 1));
+    assert_eq!(rt; drawn_on(rt.alloc(), &fitted, &[METAL, VIA])?, (1, 1));
     Ok(())
 }
 
@@ -228,12 +253,15 @@ fn holds_four(alloc: Global, fitted: &Fitted, window: &Window, most: usize) -> b
 
 #[test]
 fn points_at_most(rt: HostRuntime) -> Result<(), Fail> {
-    let alloc = rt.alloc();
-    let fitted = Fitted::new(alloc, arrayed(alloc)?)?;
+    let fitted = arrayed(rt.alloc())?;
     let four = window(2, 1, 12, 11);
     // Four rectangles, of four points each.
     for (most, want) in [(0, false), (15, false), (16, true), (17, true)] {
-        assert_eq!(rt; holds_four(alloc, &fitted, &four, most), want, "{most}");
+        assert_eq!(rt;
+            holds_four(rt.alloc(), &fitted, &four, most),
+            want,
+            "{most}"
+        );
     }
     Ok(())
 }
@@ -254,25 +282,18 @@ pub(crate) fn drawn(alloc: Global, shifts: &Offsets) -> Result<Checked, Fail> {
     Ok(check(alloc, builder.finish(), None)?)
 }
 
-/// How many rings there are in the window, where the shifts are those of a reference.
-fn placed_in(alloc: Global, shifts: Offsets, window: &Window) -> Result<usize, Fail> {
-    let fitted = Fitted::new(alloc, spread(alloc, shifts)?)?;
-    let flat = fitted.within(alloc, &[METAL], window, usize::MAX)?;
-    Ok(flat.rings(METAL).len())
-}
-
-/// How many rings there are in the window, where the shifts are those of a shape.
-fn drawn_in(alloc: Global, shifts: &Offsets, window: &Window) -> Result<usize, Fail> {
-    let fitted = Fitted::new(alloc, drawn(alloc, shifts)?)?;
+/// How many rings there are in the window.
+fn rings_in(alloc: Global, checked: Checked, window: &Window) -> Result<usize, Fail> {
+    let fitted = Fitted::new(alloc, checked)?;
     let flat = fitted.within(alloc, &[METAL], window, usize::MAX)?;
     Ok(flat.rings(METAL).len())
 }
 
 /// How many rings there are in the window, where the shifts are those of a shape and of a reference.
-fn both_in(alloc: Global, shifts: &Offsets, window: &Window) -> Result<(usize, usize), Fail> {
-    let drawn = drawn_in(alloc, shifts, window)?;
-    let placed = placed_in(alloc, shifts.clone()?, window)?;
-    Ok((drawn, placed))
+fn both_in(alloc: Global, shifts: &Offsets, window: &Window) -> Result<String, Fail> {
+    let drawn = rings_in(alloc, drawn(alloc, shifts)?, window)?;
+    let placed = rings_in(alloc, spread(alloc, shifts.clone()?)?, window)?;
+    Ok(format!(in alloc; "{drawn} {placed}")?)
 }
 
 fn point(x: i64, y: i64) -> Point {
@@ -282,65 +303,49 @@ fn point(x: i64, y: i64) -> Point {
 /// How many of 1,000 by 1,000 rectangles that are 10 apart reach into the window.
 fn million_in(alloc: Global, window: &Window) -> Result<usize, Fail> {
     let shifts = Offsets::lattice(point(10, 0), 1000, point(0, 10), 1000);
-    placed_in(alloc, shifts.ok_or("lattice")?, window)
+    rings_in(alloc, spread(alloc, shifts.ok_or("lattice")?)?, window)
 }
 
 #[test]
 fn million_places(rt: HostRuntime) -> Result<(), Fail> {
-    for (window, want) in [
-        (window(5000, 0, 5024, 2), 3),
-        (window(9990, 9990, 9994, 9992), 1),
-        (window(10_000, 0, 10_010, 10), 0),
-    ] {
-        assert_eq!(rt; million_in(rt.alloc(), &window)?, want, "{window:?}");
-    }
+    let alloc = rt.alloc();
+    assert_eq!(rt; million_in(alloc, &window(5000, 0, 5024, 2))?, 3);
+    assert_eq!(rt; million_in(alloc, &window(9990, 9990, 9994, 9992))?, 1);
+    assert_eq!(rt; million_in(alloc, &window(10_000, 0, 10_010, 10))?, 0);
     Ok(())
+}
+
+/// The steps and counts of a lattice, a window, and how many rectangles of 4 by 2 reach into it, of a shape and of
+/// a reference: also along a diagonal, and with negative steps; rows that begin before the ones above them end;
+/// steps of zero, and lines.
+const LATTICES: &str = "\
+10 0 30 0 10 20 150 -5 154 200 | 20 20
+10 0 30 0 10 20 -5 100 300 102 | 30 30
+10 0 30 0 10 20 4 -5 10 200 | 0 0
+10 0 30 0 10 20 0 0 1 1 | 1 1
+10 0 30 0 10 20 293 191 294 192 | 1 1
+10 10 100 0 0 1 500 500 524 524 | 3 3
+-10 -10 20 10 -10 20 0 -100 14 -38 | 7 7
+-10 0 20 0 -10 20 -40 -196 -20 -178 | 4 4
+1 0 20 1 0 20 22 0 23 1 | 74 74
+0 0 20 0 10 20 0 50 4 52 | 20 20
+10 0 300 0 0 1 2000 0 2010 2 | 1 1
+10 0 300 0 7 1 2000 0 2010 2 | 1 1
+7 0 1 0 10 300 0 2000 4 2020 | 2 2
+10 0 3 0 10 100 10 500 24 512 | 4 4
+";
+
+fn lattice_text(alloc: Global, words: &str) -> Result<String, Fail> {
+    let case = case_in(alloc, words)?;
+    let shifts = case.shifts()?;
+    both_in(alloc, &shifts, &case.window)
 }
 
 #[test]
 fn lattices(rt: HostRuntime) -> Result<(), Fail> {
-    let alloc = rt.alloc();
-    let right = point(10, 0);
-    let up = point(0, 10);
-    // The steps and counts of a lattice, a window, and how many rectangles of 4 by 2 reach into it.
-    let rows = [
-        (right, 30, up, 20, window(150, -5, 154, 200), 20),
-        (right, 30, up, 20, window(-5, 100, 300, 102), 30),
-        (right, 30, up, 20, window(4, -5, 10, 200), 0),
-        (right, 30, up, 20, window(0, 0, 1, 1), 1),
-        (right, 30, up, 20, window(293, 191, 294, 192), 1),
-        // Along a diagonal, and with negative steps.
-        (point(10, 10), 100, ORIGIN, 1, window(500, 500, 524, 524), 3),
-        (
-            point(-10, -10),
-            20,
-            point(10, -10),
-            20,
-            window(0, -100, 14, -38),
-            7,
-        ),
-        (
-            point(-10, 0),
-            20,
-            point(0, -10),
-            20,
-            window(-40, -196, -20, -178),
-            4,
-        ),
-        // Rows that begin before the ones above them end.
-        (point(1, 0), 20, point(1, 0), 20, window(22, 0, 23, 1), 74),
-        // Steps of zero, and lines.
-        (ORIGIN, 20, up, 20, window(0, 50, 4, 52), 20),
-        (right, 300, ORIGIN, 1, window(2000, 0, 2010, 2), 1),
-        (right, 300, point(0, 7), 1, window(2000, 0, 2010, 2), 1),
-        (point(7, 0), 1, up, 300, window(0, 2000, 4, 2020), 2),
-        (right, 3, up, 100, window(10, 500, 24, 512), 4),
-    ];
-    for (a, m, b, n, window, want) in rows {
-        let shifts = Offsets::lattice(a, m, b, n).ok_or("lattice")?;
-        let (drawn, placed) = both_in(alloc, &shifts, &window)?;
-        assert_eq!(rt; drawn, want, "{a:?} {m} {b:?} {n}");
-        assert_eq!(rt; placed, want, "{a:?} {m} {b:?} {n}");
+    for row in LATTICES.lines() {
+        let (words, want) = cut(row, " | ");
+        check_text(&rt, &lattice_text(rt.alloc(), words)?, want, row);
     }
     Ok(())
 }
@@ -361,22 +366,28 @@ fn shared(listed: &Offsets) -> Result<Offsets, Fail> {
     Ok(shared)
 }
 
+/// Windows, and how many rectangles at those shifts reach into each, of a shape and of a reference.
+const LISTED: &str = "\
+0,0 5,8 | 2 2
+100,0 130,8 | 3 3
+0,5 1000,8 | 1 1
+5,0 10,8 | 0 0
+-9,-9 0,0 | 0 0
+";
+
+fn check_list(rt: &impl Abort, alloc: Global, shifts: &Offsets) -> Result<(), Fail> {
+    for row in LISTED.lines() {
+        let (words, want) = cut(row, " | ");
+        let found = both_in(alloc, shifts, &rows::window(words)?)?;
+        check_text(rt, &found, want, row);
+    }
+    Ok(())
+}
+
 #[test]
 fn lists_of_shifts(rt: HostRuntime) -> Result<(), Fail> {
     let listed = listed(rt.alloc())?;
+    check_list(&rt, rt.alloc(), &listed)?;
     let shared = shared(&listed)?;
-    for shifts in [&listed, &shared] {
-        for (window, want) in [
-            (window(0, 0, 5, 8), 2),
-            (window(100, 0, 130, 8), 3),
-            (window(0, 5, 1000, 8), 1),
-            (window(5, 0, 10, 8), 0),
-            (window(-9, -9, 0, 0), 0),
-        ] {
-            let (drawn, placed) = both_in(rt.alloc(), shifts, &window)?;
-            assert_eq!(rt; drawn, want, "{window:?}");
-            assert_eq!(rt; placed, want, "{window:?}");
-        }
-    }
-    Ok(())
+    check_list(&rt, rt.alloc(), &shared)
 }
